@@ -1,0 +1,8 @@
+-- The starred samples hold, by computing.
+use mathlib.Core.Path.{_≡_, refl}
+use Rattle.definitions.specs.Open.{everything}
+use Rattle.definitions.specs.Statements.{SamplesHold}
+
+pub samplesHold : SamplesHold
+unfolding everything
+samplesHold = refl

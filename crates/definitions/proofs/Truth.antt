@@ -1,0 +1,26 @@
+-- Laws of Booleans and tests.
+use mathlib.Core.Path.{_≡_, refl, sym, subst}
+use mathlib.Core.Bool.{Bool, true, false, _&&_}
+use Prim.Native.Nat.{ℕ, _≤_}
+use lib.Dec.{T, leb, leb→le}
+
+pub left : (a b : Bool) → (a && b) ≡ true → a ≡ true
+left true b e = refl
+left false b e = e
+
+pub right : (a b : Bool) → (a && b) ≡ true → b ≡ true
+right true b e = e
+right false b e = let z : b ≡ true = cc in z
+
+pub holds : (b : Bool) → b ≡ true → T b
+holds b e = subst T (sym e) tt
+
+pub both : (a b : Bool) → (a && b) ≡ true → (a ≡ true) × (b ≡ true)
+both a b e = (left a b e, right a b e)
+
+pub at-most : (m n : ℕ) → leb m n ≡ true → m ≤ n
+at-most m n e = leb→le m n (holds (leb m n) e)
+
+pub is-true : (b : Bool) → T b → b ≡ true
+is-true true t = refl
+is-true false t = absurd t
