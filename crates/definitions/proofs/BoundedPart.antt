@@ -1,5 +1,5 @@
 -- What the lowering of a part adds to the tables is in bounds, where the tables and the place after it are small: parts put together.
-use mathlib.Core.List.{List, _++_}
+use mathlib.Core.List.{List, _++_, []}
 use Prim.Native.Nat.{ℕ, _+_, _≤_}
 use native.Mathlib.Omega.{arith}
 use lib.ListN.{length, length-append}
@@ -29,9 +29,16 @@ step-within S h = record { longer = S .longer; weight = omega arith; keeps = S .
 pub fits-within : {m n s : ℕ} {b : Tables} {e : Emit} → Fits m s b e → m ≤ n → Fits n s b e
 fits-within E h = record { at = λ p t u. step-within (E .at p t u) h }
 
+-- from later tables on
+pub fits-later : {n s : ℕ} {b c : Tables} {e : Emit} → Longer b c → Fits n s b e → Fits n s c e
+fits-later L E = record { at = λ p t u. E .at p t (longer-more L u) }
+
 pub fits-emits : {s : ℕ} {b : Tables} {is : List Instr} → Every (Sound b s) is → Fits 0 s b (emits is)
 unfolding emits
 fits-emits k = record { at = λ p t u. record { longer = longer-none; weight = omega arith; keeps = λ m r. record { trim = r; code = code-up (u .sizes) k } } }
+
+pub fits-nothing : {n s : ℕ} {b : Tables} → Fits n s b (emits [])
+fits-nothing = fits-within (fits-emits noEvery) (omega arith)
 
 pub fits-one : {s : ℕ} {b : Tables} {i : Instr} → Sound b s i → Fits 0 s b (one i)
 fits-one k = fits-emits (every k noEvery)

@@ -37,12 +37,15 @@ pub record Sound (t : Tables) (n : ℕ) (i : Instr) : Type 0 where
   pub first : Operand (numbersOf (i .op)) t n (firstWidth (i .op)) (i .a)
   pub second : i .b < 256 ^ secondWidth (i .op)
 
--- an instruction without operands, with one
+-- an instruction without operands, with one, and with a count of arguments for the second one
 pub bare : {t : Tables} {n op : ℕ} → leb op 47 ≡ true → numbersOf op ≡ nothing → Sound t n (instr op 0 0)
 bare {t} {n} {op} e h = record { op = e; first = subst (λ (c : Numbers). Operand c t n (firstWidth op) 0) (sym h) (one-le-pow _ 256 (omega arith)); second = one-le-pow _ 256 (omega arith) }
 
 pub single : {t : Tables} {n op a : ℕ} → leb op 47 ≡ true → Operand (numbersOf op) t n (firstWidth op) a → Sound t n (instr op a 0)
 single e h = record { op = e; first = h; second = one-le-pow _ 256 (omega arith) }
+
+pub counted : {t : Tables} {n op a m : ℕ} → leb op 47 ≡ true → secondWidth op ≡ 1 → Operand (numbersOf op) t n (firstWidth op) a → m ≤ 255 → Sound t n (instr op a m)
+counted e w h k = record { op = e; first = h; second = rw w (omega arith) }
 
 pub jump-sound : {t : Tables} {n k : ℕ} → k < 4294967296 → Sound t n (Jump k)
 unfolding allInstruction
