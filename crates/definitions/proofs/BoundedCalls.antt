@@ -17,7 +17,7 @@ use Rattle.definitions.proofs.Every.{Every, noEvery, every}
 use Rattle.definitions.proofs.Resolve.{CalleeIn, resolve-in}
 use Rattle.definitions.proofs.Names.{name-short, lambda-short}
 use Rattle.definitions.proofs.Bounds.{Small, single, counted}
-use Rattle.definitions.proofs.Growth.{Longer, longer-none, small-down}
+use Rattle.definitions.proofs.LongerTables.{Longer, longer-none, small-down}
 use Rattle.definitions.proofs.BoundedPart.{Fits, Step, fits-by, fits-later, fits-one, fits-seq, fits-within, step-seq, step-within}
 use Rattle.definitions.proofs.BoundedNames.{fits-symbol}
 use Rattle.definitions.proofs.BoundedFunction.{function-in}

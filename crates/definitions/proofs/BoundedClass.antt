@@ -17,7 +17,7 @@ use Rattle.definitions.proofs.Every.{Every, noEvery, every, every-appen
 use Rattle.definitions.proofs.Names.{name-short}
 use Rattle.definitions.proofs.Resolve.{position-lt}
 use Rattle.definitions.proofs.Bounds.{Lean, Named, Small, Trim, burden, members, names, single}
-use Rattle.definitions.proofs.Growth.{Longer, Sizes, longer-more, longer-same, tight-up, named-up, ordered-up, constants-up}
+use Rattle.definitions.proofs.LongerTables.{Longer, Sizes, longer-more, longer-same, tight-up, named-up, ordered-up, constants-up}
 use Rattle.definitions.proofs.BoundedPart.{Fits, Kept}
 use Rattle.definitions.proofs.BoundedNames.{symbol-longer, symbol-trim}
 use Rattle.definitions.proofs.BoundedMethods.{FitsMethods}

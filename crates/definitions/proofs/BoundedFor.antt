@@ -10,7 +10,7 @@ use Rattle.definitions.specs.Lower.{makeIter, namedIter, askIter, takeIt
 use Rattle.definitions.specs.Open.{allInstruction}
 use Rattle.definitions.proofs.Names.{Short, iter-short}
 use Rattle.definitions.proofs.Bounds.{single, counted}
-use Rattle.definitions.proofs.Growth.{Longer, longer-none, longer-more}
+use Rattle.definitions.proofs.LongerTables.{Longer, longer-none, longer-more}
 use Rattle.definitions.proofs.BoundedPart.{Fits, fits-one, fits-seq}
 use Rattle.definitions.proofs.BoundedNames.{fits-symbol, step-symbol}
 use Rattle.definitions.proofs.BoundedVariables.{fits-store}

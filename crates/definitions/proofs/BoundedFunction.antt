@@ -15,7 +15,7 @@ use Rattle.definitions.proofs.Every.{Every, noEvery, every, every-appen
 use Rattle.definitions.proofs.Resolve.{position-lt}
 use Rattle.definitions.proofs.Names.{Short}
 use Rattle.definitions.proofs.Bounds.{Lean, Small, Tight, Trim, bare}
-use Rattle.definitions.proofs.Growth.{Longer, Sizes, longer-more, small-down, code-up, tight-up, ordered-up, constants-up}
+use Rattle.definitions.proofs.LongerTables.{Longer, Sizes, longer-more, small-down, code-up, tight-up, ordered-up, constants-up}
 use Rattle.definitions.proofs.BoundedPart.{Fits, Kept, Step}
 use Rattle.definitions.proofs.BoundedNames.{symbol-longer, symbol-trim}
 

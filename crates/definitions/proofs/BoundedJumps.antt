@@ -13,7 +13,7 @@ use Rattle.definitions.specs.Lower.{jumpOn, shortcut, patch, patched}
 use Rattle.definitions.proofs.Shape.{length-patch}
 use Rattle.definitions.proofs.Every.{Every, noEvery, every, every-append}
 use Rattle.definitions.proofs.Bounds.{Sound, jump-sound, jumpOn-sound, bool-sound}
-use Rattle.definitions.proofs.Growth.{longer-none, longer-more, code-up, small-down}
+use Rattle.definitions.proofs.LongerTables.{longer-none, longer-more, code-up, small-down}
 use Rattle.definitions.proofs.BoundedPart.{Step, Fits, step-two}
 
 patched-sound : {t : Tables} {s : ℕ} (h m i : ℕ) (x : Instr) → m < 4294967296 → Sound t s x → Sound t s (patched h m i x)

@@ -18,7 +18,7 @@ use Rattle.definitions.proofs.Every.{Every, noEvery, every}
 use Rattle.definitions.proofs.Names.{name-short, rising-insert}
 use Rattle.definitions.proofs.InitSlot.{init-slot}
 use Rattle.definitions.proofs.Bounds.{Named, Small, Trim, bare, burden, names, single}
-use Rattle.definitions.proofs.Growth.{Longer, longer-more, longer-none, small-down, named-up}
+use Rattle.definitions.proofs.LongerTables.{Longer, longer-more, longer-none, small-down, named-up}
 use Rattle.definitions.proofs.BoundedPart.{Fits, fits-emits, fits-one, fits-seq}
 use Rattle.definitions.proofs.BoundedFunction.{function-in}
 

@@ -11,7 +11,7 @@ use Rattle.definitions.proofs.Every.{noEvery, every, every-append, leng
 use Rattle.definitions.proofs.Resolve.{position-lt}
 use Rattle.definitions.proofs.Names.{Short}
 use Rattle.definitions.proofs.Bounds.{Trim, texts}
-use Rattle.definitions.proofs.Growth.{Longer, longer-same, longer-none, longer-more, small-down, tight-up, ordered-up, constants-up}
+use Rattle.definitions.proofs.LongerTables.{Longer, longer-same, longer-none, longer-more, small-down, tight-up, ordered-up, constants-up}
 use Rattle.definitions.proofs.BoundedPart.{Fits, Step, step-within}
 
 pub symbol-longer : (x : Name) (t : Tables) → Longer t (addSymbol x t)

@@ -7,7 +7,7 @@ use Rattle.definitions.specs.Instruction.{Instr}
 use Rattle.definitions.specs.Tables.{Tables, Out, Emit, emits, one, _⨟_}
 use Rattle.definitions.proofs.Every.{Every, noEvery, every, every-append}
 use Rattle.definitions.proofs.Bounds.{Sound, Small, Trim, burden}
-use Rattle.definitions.proofs.Growth.{Longer, longer-none, longer-more, code-up, small-down}
+use Rattle.definitions.proofs.LongerTables.{Longer, longer-none, longer-more, code-up, small-down}
 
 pub record Kept (s : ℕ) (o : Out) : Type 0 where
   pub trim : Trim (o .tables)

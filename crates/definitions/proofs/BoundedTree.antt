@@ -16,7 +16,7 @@ use Rattle.definitions.proofs.Names.{name-short}
 use Rattle.definitions.proofs.Fit.{FitS, FitB, FitR, FitM}
 use Rattle.definitions.proofs.Fit.{breakF, continueF, passF, exprF, returnF, assignF, ifF, whileF, forF, defF, classF, nilB, consB, doneF, elseF, whenF, nilM, methodF}
 use Rattle.definitions.proofs.Bounds.{Small, Trim, bare, burden, single}
-use Rattle.definitions.proofs.Growth.{Longer, longer-none, longer-more, small-down}
+use Rattle.definitions.proofs.LongerTables.{Longer, longer-none, longer-more, small-down}
 use Rattle.definitions.proofs.BoundedPart.{Fits, Step, fits-nothing, fits-one, fits-seq, fits-within, step-within}
 use Rattle.definitions.proofs.BoundedJumps.{fits-loop, length-three, step-branch}
 use Rattle.definitions.proofs.BoundedFunction.{fits-function, function-in}
