@@ -1,0 +1,87 @@
+-- The instructions of a block that is accepted fit the module's layout: each operand its bytes, and no break or continue is pending.
+use mathlib.Core.Path.{_≡_, refl, subst}
+use mathlib.Core.Bool.{Bool, true, false, _||_}
+use mathlib.Core.List.{List}
+use Prim.Native.Nat.{ℕ, _^_, _≤_, _<_}
+use native.Mathlib.Nat.{pow-le-pow-right}
+use native.Mathlib.Omega.{arith}
+use lib.Arith.{le-of-le-suc-ne}
+use lib.ListN.{length}
+use lib.Dec.{T, eqb, eqb→eq, eqb-refl, leb, le→leb}
+use Rattle.definitions.specs.Bytes.{Name, all}
+use Rattle.definitions.specs.Builtins.{Builtin, registry}
+use Rattle.definitions.specs.Instruction.{Instr, Numbers, nothing, aString, aConstant, aSlot, aSymbol, aFunction, aBuiltin}
+use Rattle.definitions.specs.Instruction.{Row, row, instructionTable, firstWidth, numbersOf, encode}
+use Rattle.definitions.specs.Tables.{Tables}
+use Rattle.definitions.specs.Module.{office}
+use Rattle.definitions.specs.Reader.{isBuiltin, instruction}
+use Rattle.definitions.specs.Open.{allInstruction}
+use Rattle.definitions.proofs.Truth.{is-true, at-most}
+use Rattle.definitions.proofs.Shape.{Quiet, Settled, more}
+use Rattle.definitions.proofs.Every.{Every, noEvery, every, all-getD}
+use Rattle.definitions.proofs.Accepted.{Within}
+use Rattle.definitions.proofs.Readback.{Back, noBack, back, InstrFits, reads-instr}
+use Rattle.definitions.proofs.Bounds.{Operand, Sound}
+
+-- bytes that a number of a table wants
+need : Numbers → ℕ
+need nothing = 0
+need aString = 2
+need aConstant = 2
+need aSlot = 2
+need aSymbol = 2
+need aFunction = 2
+need aBuiltin = 1
+
+-- every operand that numbers something is wide enough
+wide-enough : (op : ℕ) → need (numbersOf op) ≤ firstWidth op
+unfolding allInstruction all need
+wide-enough op = at-most _ _ (all-getD (λ (r : Row). leb (need (r .numbers)) (r .first)) instructionTable refl op (row "" 0 0 nothing) refl)
+
+record SmallId (b : Builtin) : Type 0 where
+  small : leb (b .id) 14 ≡ true
+
+builtin-small : {bs : List Builtin} (n : ℕ) → Every SmallId bs → T (isBuiltin bs n) → n ≤ 14
+unfolding isBuiltin
+builtin-small n noEvery h = absurd h
+builtin-small n (every {a = b} {xs = bs} s r) h = go (eqb (b .id) n) (eqb→eq (b .id) n) (λ g. builtin-small n r g) h
+  where
+    go : (c : Bool) → (T c → b .id ≡ n) → (T (isBuiltin bs n) → n ≤ 14) → T (c || isBuiltin bs n) → n ≤ 14
+    go true e f h = let q = e tt in omega (arith, at-most (b .id) 14 (s .small))
+    go false e f h = f h
+
+small-id : {x : Name} {n : ℕ} → leb n 14 ≡ true → SmallId (record { name = x; id = n })
+small-id e = record { small = e }
+
+registry-small : Every SmallId registry
+unfolding registry
+registry-small =
+    every (small-id refl) (every (small-id refl) (every (small-id refl) (every (small-id refl) (every (small-id refl) (every (small-id refl) (every (small-id refl) (every (small-id refl) (every (small-id refl) (every (small-id refl) (every (small-id refl) (every (small-id refl) (every (small-id refl) noEvery))))))))))))
+
+module _ (t : Tables) (L : Within office t) (cs : length (t .constants) ≤ length (t .classes)) where
+  in-field : (c : Numbers) (n a w : ℕ) → n ≤ 255 → need c ≤ w → Operand c t n w a → a < 256 ^ w
+  unfolding need office
+  in-field nothing n a w s h b = b
+  in-field aString n a w s h b = omega (arith, pow-le-pow-right {n = 256} (omega arith) h)
+  in-field aConstant n a w s h b = omega (arith, pow-le-pow-right {n = 256} (omega arith) h)
+  in-field aSlot n a w s h b = omega (arith, pow-le-pow-right {n = 256} (omega arith) h)
+  in-field aSymbol n a w s h b = omega (arith, pow-le-pow-right {n = 256} (omega arith) h)
+  in-field aFunction n a w s h b = omega (arith, pow-le-pow-right {n = 256} (omega arith) h)
+  in-field aBuiltin n a w s h b = omega (arith, builtin-small a registry-small b, pow-le-pow-right {n = 256} (omega arith) h)
+
+  real-op : (op : ℕ) → leb op 47 ≡ true → eqb op 46 ≡ false → eqb op 47 ≡ false → leb op 45 ≡ true
+  real-op op e b c = is-true (leb op 45) (le→leb op 45 (le-of-le-suc-ne (le-of-le-suc-ne (at-most op 47 e) (not-eq op 47 c)) (not-eq op 46 b)))
+    where
+      not-eq : (m n : ℕ) → eqb m n ≡ false → m ≡ n → ⊥
+      not-eq m n e q = subst T e (subst (λ (z : ℕ). T (eqb m z)) q (eqb-refl m))
+
+  instr-fits : {n : ℕ} (i : Instr) → n ≤ 255 → Sound t n i → Quiet i → InstrFits i
+  instr-fits {n} i s k q = record {
+    op = real-op (i .op) (k .op) (q .noBreak) (q .noContinue);
+    a = in-field (numbersOf (i .op)) n (i .a) (firstWidth (i .op)) s (wide-enough (i .op)) (k .first);
+    b = k .second;
+  }
+
+  pub back-code : {n : ℕ} {is : List Instr} → n ≤ 255 → Every (Sound t n) is → Settled is → Back instruction encode is
+  back-code s noEvery q = noBack
+  back-code s (every {a = i} k ks) (more q qs) = back (reads-instr i (instr-fits i s k q)) (back-code s ks qs)
