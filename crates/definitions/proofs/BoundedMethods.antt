@@ -15,7 +15,8 @@ use Rattle.definitions.specs.Lower.{methodEnd, insertMethod, Members, em
 use Rattle.definitions.specs.Reader.{rising}
 use Rattle.definitions.specs.Open.{allInstruction}
 use Rattle.definitions.proofs.Every.{Every, noEvery, every}
-use Rattle.definitions.proofs.Names.{name-short, rising-insert}
+use Rattle.definitions.proofs.Names.{name-short}
+use Rattle.definitions.proofs.MethodOrder.{rising-insert}
 use Rattle.definitions.proofs.InitSlot.{init-slot}
 use Rattle.definitions.proofs.Bounds.{Named, Small, Trim, bare, burden, names, single}
 use Rattle.definitions.proofs.LongerTables.{Longer, longer-more, longer-none, small-down, named-up}

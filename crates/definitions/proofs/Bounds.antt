@@ -7,7 +7,7 @@ use native.Mathlib.Nat.{one-le-pow}
 use native.Mathlib.Omega.{arith}
 use lib.ListN.{length}
 use lib.Dec.{T, leb}
-use Rattle.definitions.specs.Bytes.{Name, Text}
+use Rattle.definitions.specs.Bytes.{Text}
 use Rattle.definitions.specs.Wellformed.{isName}
 use Rattle.definitions.specs.Builtins.{registry}
 use Rattle.definitions.specs.Instruction.{Instr, instr, Jump, ConstBool, firstWidth, secondWidth}

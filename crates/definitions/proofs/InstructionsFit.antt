@@ -1,14 +1,14 @@
 -- The instructions of a block that is accepted fit the module's layout: each operand its bytes, and no break or continue is pending.
-use mathlib.Core.Path.{_≡_, refl, subst}
+use mathlib.Core.Path.{_≡_, refl}
 use mathlib.Core.Bool.{Bool, true, false, _||_}
-use mathlib.Core.List.{List}
+use mathlib.Core.List.{List, _∷_, []}
 use Prim.Native.Nat.{ℕ, _^_, _≤_, _<_}
 use native.Mathlib.Nat.{pow-le-pow-right}
 use native.Mathlib.Omega.{arith}
 use lib.Arith.{le-of-le-suc-ne}
 use lib.ListN.{length}
-use lib.Dec.{T, eqb, eqb→eq, eqb-refl, leb, le→leb}
-use Rattle.definitions.specs.Bytes.{Name, all}
+use lib.Dec.{T, eqb, eqb→eq, leb, le→leb}
+use Rattle.definitions.specs.Bytes.{all}
 use Rattle.definitions.specs.Builtins.{Builtin, registry}
 use Rattle.definitions.specs.Instruction.{Instr, Numbers, nothing, aString, aConstant, aSlot, aSymbol, aFunction, aBuiltin}
 use Rattle.definitions.specs.Instruction.{Row, row, instructionTable, firstWidth, numbersOf, encode}
@@ -16,7 +16,7 @@ use Rattle.definitions.specs.Tables.{Tables}
 use Rattle.definitions.specs.Module.{office}
 use Rattle.definitions.specs.Reader.{isBuiltin, instruction}
 use Rattle.definitions.specs.Open.{allInstruction}
-use Rattle.definitions.proofs.Truth.{is-true, at-most}
+use Rattle.definitions.proofs.Truth.{left, right, is-true, not-equal, at-most}
 use Rattle.definitions.proofs.Shape.{Quiet, Settled, more}
 use Rattle.definitions.proofs.Every.{Every, noEvery, every, all-getD}
 use Rattle.definitions.proofs.Accepted.{Within}
@@ -38,25 +38,19 @@ wide-enough : (op : ℕ) → need (numbersOf op) ≤ firstWidth op
 unfolding allInstruction all need
 wide-enough op = at-most _ _ (all-getD (λ (r : Row). leb (need (r .numbers)) (r .first)) instructionTable refl op (row "" 0 0 nothing) refl)
 
-record SmallId (b : Builtin) : Type 0 where
-  small : leb (b .id) 14 ≡ true
-
-builtin-small : {bs : List Builtin} (n : ℕ) → Every SmallId bs → T (isBuiltin bs n) → n ≤ 14
-unfolding isBuiltin
-builtin-small n noEvery h = absurd h
-builtin-small n (every {a = b} {xs = bs} s r) h = go (eqb (b .id) n) (eqb→eq (b .id) n) (λ g. builtin-small n r g) h
+-- every built-in's id is below 256
+builtin-below : (bs : List Builtin) (n : ℕ) → all (λ (b : Builtin). leb (b .id) 255) bs ≡ true → T (isBuiltin bs n) → n ≤ 255
+unfolding isBuiltin all
+builtin-below [] n e h = absurd h
+builtin-below (b ∷ bs) n e h = go (eqb (b .id) n) (eqb→eq (b .id) n) (builtin-below bs n (right (leb (b .id) 255) _ e)) h
   where
-    go : (c : Bool) → (T c → b .id ≡ n) → (T (isBuiltin bs n) → n ≤ 14) → T (c || isBuiltin bs n) → n ≤ 14
-    go true e f h = let q = e tt in omega (arith, at-most (b .id) 14 (s .small))
-    go false e f h = f h
+    go : (c : Bool) → (T c → b .id ≡ n) → (T (isBuiltin bs n) → n ≤ 255) → T (c || isBuiltin bs n) → n ≤ 255
+    go true q r h = let z = q tt in omega (arith, at-most (b .id) 255 (left (leb (b .id) 255) _ e))
+    go false q r h = r h
 
-small-id : {x : Name} {n : ℕ} → leb n 14 ≡ true → SmallId (record { name = x; id = n })
-small-id e = record { small = e }
-
-registry-small : Every SmallId registry
-unfolding registry
-registry-small =
-    every (small-id refl) (every (small-id refl) (every (small-id refl) (every (small-id refl) (every (small-id refl) (every (small-id refl) (every (small-id refl) (every (small-id refl) (every (small-id refl) (every (small-id refl) (every (small-id refl) (every (small-id refl) (every (small-id refl) noEvery))))))))))))
+builtin-fits : (n : ℕ) → T (isBuiltin registry n) → n ≤ 255
+unfolding registry all
+builtin-fits n = builtin-below registry n refl
 
 module _ (t : Tables) (L : Within office t) (cs : length (t .constants) ≤ length (t .classes)) where
   in-field : (c : Numbers) (n a w : ℕ) → n ≤ 255 → need c ≤ w → Operand c t n w a → a < 256 ^ w
@@ -67,13 +61,10 @@ module _ (t : Tables) (L : Within office t) (cs : length (t .constants) ≤ leng
   in-field aSlot n a w s h b = omega (arith, pow-le-pow-right {n = 256} (omega arith) h)
   in-field aSymbol n a w s h b = omega (arith, pow-le-pow-right {n = 256} (omega arith) h)
   in-field aFunction n a w s h b = omega (arith, pow-le-pow-right {n = 256} (omega arith) h)
-  in-field aBuiltin n a w s h b = omega (arith, builtin-small a registry-small b, pow-le-pow-right {n = 256} (omega arith) h)
+  in-field aBuiltin n a w s h b = omega (arith, builtin-fits a b, pow-le-pow-right {n = 256} (omega arith) h)
 
   real-op : (op : ℕ) → leb op 47 ≡ true → eqb op 46 ≡ false → eqb op 47 ≡ false → leb op 45 ≡ true
-  real-op op e b c = is-true (leb op 45) (le→leb op 45 (le-of-le-suc-ne (le-of-le-suc-ne (at-most op 47 e) (not-eq op 47 c)) (not-eq op 46 b)))
-    where
-      not-eq : (m n : ℕ) → eqb m n ≡ false → m ≡ n → ⊥
-      not-eq m n e q = subst T e (subst (λ (z : ℕ). T (eqb m z)) q (eqb-refl m))
+  real-op op e b c = is-true (leb op 45) (le→leb op 45 (le-of-le-suc-ne (le-of-le-suc-ne (at-most op 47 e) (not-equal op 47 c)) (not-equal op 46 b)))
 
   instr-fits : {n : ℕ} (i : Instr) → n ≤ 255 → Sound t n i → Quiet i → InstrFits i
   instr-fits {n} i s k q = record {

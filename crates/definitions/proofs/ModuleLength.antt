@@ -1,30 +1,22 @@
 -- How long a module is: at most 187,471 bytes where its tables are in bounds.
-use mathlib.Core.Path.{_≡_, refl, ap}
-use mathlib.Core.Bool.{true, _&&_}
-use mathlib.Core.List.{List, _∷_, _++_, []}
-use Prim.Native.Nat.{ℕ, zero, suc, _+_, _*_, _≤_}
+use mathlib.Core.Path.{_≡_, refl}
+use mathlib.Core.Bool.{_&&_}
+use mathlib.Core.List.{List, _∷_, []}
+use Prim.Native.Nat.{ℕ, _+_, _*_, _≤_}
 use native.Mathlib.Omega.{arith}
 use lib.ListN.{length, length-append}
 use lib.Dec.{leb}
-use Rattle.definitions.specs.Bytes.{Name, Text, all, be, concat, listBytes, housed}
+use Rattle.definitions.specs.Bytes.{Name, Text, all, be, concat, housed}
 use Rattle.definitions.specs.Instruction.{Instr, nothing, Row, row, instructionTable, firstWidth, secondWidth, encode}
 use Rattle.definitions.specs.Tables.{Function, Method, Class, Tables}
 use Rattle.definitions.specs.Module.{nameBytes, textBytes, functionBytes, methodBytes, classBytes, tableBytes, moduleBytes, office, instructions}
 use Rattle.definitions.specs.Open.{allInstruction}
 use Rattle.definitions.proofs.Truth.{left, right, at-most}
+use Rattle.definitions.proofs.BytesWritten.{length-be, length-list}
 use Rattle.definitions.proofs.Every.{Every, noEvery, every, all-getD}
 use Rattle.definitions.proofs.Names.{Short, name-short}
 use Rattle.definitions.proofs.Bounds.{Ordered, texts, names, members}
 use Rattle.definitions.proofs.Known.{Known}
-
-length-be : (w v : ℕ) → length (be w v) ≡ w
-unfolding be
-length-be zero v = refl
-length-be (suc w) v = ap suc (length-be w v)
-
-length-list : {A : Type 0} (w : ℕ) (f : A → List ℕ) (xs : List A) → length (listBytes w f xs) ≡ w + length (concat f xs)
-unfolding listBytes
-length-list w f xs = simp (length-append, length-be)
 
 symbols-room : {xs : List Name} → Every Short xs → length (concat nameBytes xs) ≤ 65 * length xs
 unfolding concat nameBytes
