@@ -9,17 +9,19 @@ use Rattle.definitions.proofs.Every.{Every, noEvery, every, every-appen
 use Rattle.definitions.proofs.Bounds.{Sound, Small, Trim, burden}
 use Rattle.definitions.proofs.LongerTables.{Longer, longer-none, longer-more, code-up, small-down}
 
+-- the tables after a part, and its code, are in bounds
 pub record Kept (s : ℕ) (o : Out) : Type 0 where
   pub trim : Trim (o .tables)
   pub code : Every (Sound (o .tables) s) (o .code)
 
--- a part of a function of s slots, of measure n
+-- A part of measure n at place p of a function of s slots: the tables only grow, their strings and methods by at most n bytes; and where they are
+-- small after it, they stay in bounds
 pub record Step (n s p : ℕ) (t : Tables) (o : Out) : Type 0 where
   pub longer : Longer t (o .tables)
   pub weight : burden (o .tables) ≤ burden t + n
   pub keeps : Small (o .tables) (p + length (o .code)) → Trim t → Kept s o
 
--- from any tables on that begin with b
+-- a part is such a step from any tables on that b grew into
 pub record Fits (n s : ℕ) (b : Tables) (e : Emit) : Type 0 where
   pub at : (p : ℕ) (t : Tables) → Longer b t → Step n s p t (e p t)
 

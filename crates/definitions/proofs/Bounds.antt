@@ -31,7 +31,7 @@ Operand aSymbol t n w a = a < length (t .symbols)
 Operand aFunction t n w a = a < length (t .functions)
 Operand aBuiltin t n w a = T (isBuiltin registry a)
 
--- pending breaks and continues included
+-- an instruction of a function of n slots, or a pending break or continue: its operands are so, and its second one fits its bytes
 pub record Sound (t : Tables) (n : ℕ) (i : Instr) : Type 0 where
   pub op : leb (i .op) 47 ≡ true
   pub first : Operand (numbersOf (i .op)) t n (firstWidth (i .op)) (i .a)
@@ -63,6 +63,7 @@ bool-sound true = bare refl refl
 
 -- ---- tables
 
+-- bytes of strings, of methods, of the methods of classes
 abbrev pub texts : List Text → ℕ
 texts [] = 0
 texts (s ∷ ss) = 2 + length s + texts ss
@@ -75,11 +76,11 @@ abbrev pub members : List Class → ℕ
 members [] = 0
 members (c ∷ cs) = names (c .methods) + members cs
 
--- bytes of the strings and the methods
+-- bytes of the tables' strings and methods
 abbrev pub burden : Tables → ℕ
 burden t = texts (t .strings) + members (t .classes)
 
--- bounds that question 14 and 15 set
+-- What questions 14 and 15 say of a function, and of the tables with a place p in a code
 pub record Lean (f : Function) : Type 0 where
   pub slots : f .locals ≤ 255
   pub code : length (f .code) ≤ 8192
@@ -89,24 +90,28 @@ pub record Small (t : Tables) (p : ℕ) : Type 0 where
   pub count : length (t .functions) ≤ 256
   pub lean : Every Lean (t .functions)
 
--- bounds that are shown
+-- What is shown of a function: its name's symbol exists, its parameters are few, its instructions are sound
 pub record Tight (t : Tables) (f : Function) : Type 0 where
   pub symbol : f .symbol < length (t .symbols)
   pub arity : f .arity ≤ 255
   pub code : Every (Sound t (f .locals)) (f .code)
 
+-- of a method: it has a name, and its function exists
 pub record Named (t : Tables) (m : Method) : Type 0 where
   pub named : isName (m .name) ≡ true
   pub function : m .function < length (t .functions)
 
+-- of a class: it has a name, and so have its methods, which rise
 pub record Ordered (t : Tables) (c : Class) : Type 0 where
   pub named : isName (c .name) ≡ true
   pub methods : Every (Named t) (c .methods)
   pub rises : rising (c .methods) ≡ true
 
+-- of a constant: its class exists
 pub record OfClass (t : Tables) (k : ℕ) : Type 0 where
   pub class : k < length (t .classes)
 
+-- of the tables
 pub record Trim (t : Tables) : Type 0 where
   pub symbols : Every Short (t .symbols)
   pub functions : Every (Tight t) (t .functions)

@@ -23,7 +23,7 @@ use Rattle.definitions.proofs.Accepted.{Within}
 use Rattle.definitions.proofs.Readback.{Back, noBack, back, InstrFits, reads-instr}
 use Rattle.definitions.proofs.Bounds.{Operand, Sound}
 
--- bytes that a number of a table wants
+-- bytes that suffice for a number of what is numbered
 need : Numbers → ℕ
 need nothing = 0
 need aString = 2
@@ -52,6 +52,10 @@ builtin-fits : (n : ℕ) → T (isBuiltin registry n) → n ≤ 255
 unfolding registry all
 builtin-fits n = builtin-below registry n refl
 
+-- an instruction that is no pending break or continue is one of the table
+real-op : (op : ℕ) → leb op 47 ≡ true → eqb op 46 ≡ false → eqb op 47 ≡ false → leb op 45 ≡ true
+real-op op e b c = is-true (leb op 45) (le→leb op 45 (le-of-le-suc-ne (le-of-le-suc-ne (at-most op 47 e) (not-equal op 47 c)) (not-equal op 46 b)))
+
 module _ (t : Tables) (L : Within office t) (cs : length (t .constants) ≤ length (t .classes)) where
   in-field : (c : Numbers) (n a w : ℕ) → n ≤ 255 → need c ≤ w → Operand c t n w a → a < 256 ^ w
   unfolding need office
@@ -62,9 +66,6 @@ module _ (t : Tables) (L : Within office t) (cs : length (t .constants) ≤ leng
   in-field aSymbol n a w s h b = omega (arith, pow-le-pow-right {n = 256} (omega arith) h)
   in-field aFunction n a w s h b = omega (arith, pow-le-pow-right {n = 256} (omega arith) h)
   in-field aBuiltin n a w s h b = omega (arith, builtin-fits a b, pow-le-pow-right {n = 256} (omega arith) h)
-
-  real-op : (op : ℕ) → leb op 47 ≡ true → eqb op 46 ≡ false → eqb op 47 ≡ false → leb op 45 ≡ true
-  real-op op e b c = is-true (leb op 45) (le→leb op 45 (le-of-le-suc-ne (le-of-le-suc-ne (at-most op 47 e) (not-equal op 47 c)) (not-equal op 46 b)))
 
   instr-fits : {n : ℕ} (i : Instr) → n ≤ 255 → Sound t n i → Quiet i → InstrFits i
   instr-fits {n} i s k q = record {

@@ -37,6 +37,7 @@ lean-functions (f ∷ fs) e h =
     let test : Function → Bool = λ f. leb (f .locals) 255 in
     every {a = f} (record { slots = at-most (f .locals) 255 (left (leb (f .locals) 255) (all test fs) e); code = omega arith }) (lean-functions fs (right (leb (f .locals) 255) (all test fs) e) (omega arith))
 
+-- its tree has the measure n
 pub record Known (n : ℕ) (t : Tables) : Type 0 where
   pub limits : Within office t
   pub lean : Every Lean (t .functions)

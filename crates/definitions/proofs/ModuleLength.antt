@@ -43,7 +43,7 @@ unfolding concat
 constants-room [] = refl
 constants-room (k ∷ ks) = simp (length-append, length-be) (omega (arith, constants-room ks))
 
--- an instruction has at most ten bytes
+-- an instruction has at most ten bytes, one of them its number
 operands-room : (op : ℕ) → (firstWidth op ≤ 8) × (secondWidth op ≤ 1)
 unfolding allInstruction all
 operands-room op =
