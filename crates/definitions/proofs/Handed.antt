@@ -5,14 +5,14 @@ use mathlib.Core.Option.{Option, none, some}
 use mathlib.Core.List.{List, [], _∷_, _++_, append-assoc, append-nil}
 use Prim.Native.Nat.{ℕ, zero, suc, _+_, _≤_}
 use native.Mathlib.Omega.{arith}
-use lib.ListN.{length, length-append, take, drop, getElem?}
+use lib.ListN.{length, length-append, take, getElem?}
 use lib.Dec.{leb}
 use lib.Seq.{take-append-seam, drop-at}
 use lib.Pow.{areBytes}
-use Rattle.definitions.specs.Bytes.{Answer, refused, accepted, whenAccepted, Parsed, got, failed, be, concat, all, listBytes, housed, unhouse, byte, field}
+use Rattle.definitions.specs.Bytes.{Answer, refused, accepted, whenAccepted, Parsed, got, failed, be, concat, all, listBytes, housed, unhouse}
 use Rattle.definitions.specs.Wellformed.{isName}
-use Rattle.definitions.specs.Instruction.{Instr, encode, encodes, firstWidth, secondWidth}
-use Rattle.definitions.specs.Tables.{Function, Method, Class, Tables}
+use Rattle.definitions.specs.Instruction.{encode, encodes, firstWidth, secondWidth}
+use Rattle.definitions.specs.Tables.{Function, Tables}
 use Rattle.definitions.specs.Module.{nameBytes, textBytes, functionBytes, methodBytes, classBytes, tableBytes, moduleBytes, codeStart}
 use Rattle.definitions.specs.Reader.{instruction, functionRecord, methodRecord, rising, classRecord, moduleRecord, numbersExist, codeStands, wholeModule, readModule}
 use Rattle.definitions.specs.Calls.{Part, partOf, functionOf, codePart, codeCall}

@@ -2,14 +2,14 @@
 use mathlib.Core.Path.{_≡_, refl, sym, ap, _∙_, subst}
 use mathlib.Core.Bool.{Bool, true, false}
 use mathlib.Core.List.{List, [], _∷_, _++_, append-assoc, append-nil}
-use Prim.Native.Nat.{ℕ, zero, suc, _+_, _*_, _/_, _%_, _^_, _<_}
+use Prim.Native.Nat.{ℕ, zero, suc, _+_, _*_, _/_, _^_, _<_}
 use native.Mathlib.Nat.{pow-succ', one-le-pow, mod-eq-of-lt, mul-assoc, add-comm, add-mul-div-right, mul-add-mod-self-right}
 use native.Mathlib.Omega.{arith}
 use lib.ListN.{length}
 use lib.Dec.{eqb, ltb, eqb→eq, ltb→lt}
 use lib.Arith.{digits-lt, digits-div}
 use lib.Pow.{areBytes}
-use Rattle.definitions.specs.Bytes.{Name, Text, Answer, refused, accepted, Parsed, got, failed, Parser, _>>=_, give, unread, byte, field, counted, listOf, name, text, keep, checked, be, concat, listBytes, housed, unhouse, countsRest, versionOne}
+use Rattle.definitions.specs.Bytes.{Answer, refused, accepted, Parsed, got, failed, Parser, _>>=_, give, unread, byte, field, counted, listOf, name, text, keep, checked, be, concat, listBytes, housed, unhouse, countsRest, versionOne}
 use Rattle.definitions.specs.Module.{nameBytes, textBytes}
 use Rattle.definitions.proofs.Truth.{left, right, holds}
 
