@@ -70,7 +70,8 @@ whole-got (got u (x ∷ xs)) t e = let z : _≡_ {A = ℕ} 0 1 = cc in absurd (o
 whole-got (failed q) t e = let z : _≡_ {A = ℕ} 0 1 = cc in absurd (omega arith)
 whole-got (got u []) t e = go (numbersExist u) (all codeStands (u .functions)) e
   where
-    go : (c d : Bool) → (elim c as (λ z. Answer Tables) [ false ↦ refused 20 | true ↦ elim d as (λ z. Answer Tables) [ false ↦ refused 21 | true ↦ accepted u ] ]) ≡ accepted t → got u [] ≡ got t []
+    go : (c d : Bool) → (elim c as (λ z. Answer Tables) [ false ↦ refused 20 | true ↦ elim d as (λ z. Answer Tables) [ false ↦ refused 21 | true ↦ accepted u ] ]) ≡ accepted t
+        → got u [] ≡ got t []
     go true true h = let z : u ≡ t = cc in rw z
     go true false h = let z : _≡_ {A = ℕ} 0 1 = cc in absurd (omega arith)
     go false d h = let z : _≡_ {A = ℕ} 0 1 = cc in absurd (omega arith)
@@ -135,7 +136,8 @@ be-length zero v = refl
 be-length (suc w) v = ap suc (be-length w v)
 
 -- what the k-th of the elements writes
-stands-element : {A : Type 0} (f : A → List ℕ) (zs : List A) (k : ℕ) (a : A) {xs : List ℕ} {n : ℕ} → getElem? zs k ≡ some a → Stands xs n (f a) → Stands xs (length (concat f (take k zs)) + n) (concat f zs)
+stands-element : {A : Type 0} (f : A → List ℕ) (zs : List A) (k : ℕ) (a : A) {xs : List ℕ} {n : ℕ}
+    → getElem? zs k ≡ some a → Stands xs n (f a) → Stands xs (length (concat f (take k zs)) + n) (concat f zs)
 unfolding concat
 stands-element f [] k a e S = let z : _≡_ {A = ℕ} 0 1 = cc in absurd (omega arith)
 stands-element f (b ∷ zs) zero a {xs} {n} e S = let z : b ≡ a = cc in rw z (stands-at n (0 + n) (omega arith) (stands-before (concat f zs) S))
@@ -149,12 +151,15 @@ stands-code f =
     (omega (arith, be-length 2 (f .symbol), be-length 1 (f .arity), be-length 2 (f .locals), be-length 2 (length (f .code))))
     (stands-after (be 2 (f .symbol)) (stands-after (be 1 (f .arity)) (stands-after (be 2 (f .locals)) (stands-after (be 2 (length (f .code))) (stands-all (concat encode (f .code)))))))
 
-stands-list : {A : Type 0} (f : A → List ℕ) (zs : List A) (k : ℕ) (a : A) {xs : List ℕ} {n : ℕ} → getElem? zs k ≡ some a → Stands xs n (f a) → Stands xs (2 + length (concat f (take k zs)) + n) (listBytes 2 f zs)
+stands-list : {A : Type 0} (f : A → List ℕ) (zs : List A) (k : ℕ) (a : A) {xs : List ℕ} {n : ℕ}
+    → getElem? zs k ≡ some a → Stands xs n (f a) → Stands xs (2 + length (concat f (take k zs)) + n) (listBytes 2 f zs)
 unfolding listBytes
 stands-list f zs k a e S = stands-at _ _ (omega (arith, be-length 2 (length zs))) (stands-after (be 2 (length zs)) (stands-element f zs k a e S))
 
 stands-tables : (t : Tables) (k : ℕ) (f : Function) → getElem? (t .functions) k ≡ some f
-    → Stands (encodes (f .code)) (length (listBytes 2 nameBytes (t .symbols)) + (length (listBytes 2 textBytes (t .strings)) + (2 + length (concat functionBytes (take k (t .functions))) + 7))) (tableBytes t)
+    → Stands (encodes (f .code))
+    (length (listBytes 2 nameBytes (t .symbols)) + (length (listBytes 2 textBytes (t .strings)) + (2 + length (concat functionBytes (take k (t .functions))) + 7)))
+    (tableBytes t)
 unfolding tableBytes
 stands-tables t k f e =
     stands-after (listBytes 2 nameBytes (t .symbols))
@@ -177,7 +182,8 @@ unfolding codePart functionOf whenAccepted
 handed-at m k p t o h e = go (getElem? (t .functions) k) refl e
   where
     go : (s : Option Function) → getElem? (t .functions) k ≡ s
-        → whenAccepted (elim s as (λ z. Answer Function) [ some f ↦ accepted f | none ↦ refused 22 ]) (λ (f : Function). accepted (record { start = codeStart t k; size = length (encodes (f .code)) })) ≡ accepted p
+        → whenAccepted (elim s as (λ z. Answer Function) [ some f ↦ accepted f | none ↦ refused 22 ])
+        (λ (f : Function). accepted (record { start = codeStart t k; size = length (encodes (f .code)) })) ≡ accepted p
         → Handed m k p
     go none s g = let z : _≡_ {A = ℕ} 0 1 = cc in absurd (omega arith)
     go (some f) s g =
