@@ -2,14 +2,14 @@
 use mathlib.Core.Path.{_≡_, refl, sym, ap, _∙_, subst}
 use mathlib.Core.Bool.{Bool, true, false}
 use mathlib.Core.List.{List, [], _∷_, _++_, append-assoc, append-nil}
-use Prim.Native.Nat.{ℕ, zero, suc, _+_, _*_, _/_, _%_, _^_, _<_}
+use Prim.Native.Nat.{ℕ, zero, suc, _+_, _*_, _/_, _^_, _<_}
 use native.Mathlib.Nat.{pow-succ', one-le-pow, mod-eq-of-lt, mul-assoc, add-comm, add-mul-div-right, mul-add-mod-self-right}
 use native.Mathlib.Omega.{arith}
 use lib.ListN.{length}
 use lib.Dec.{eqb, ltb, eqb→eq, ltb→lt}
 use lib.Arith.{digits-lt, digits-div}
 use lib.Pow.{areBytes}
-use Rattle.definitions.specs.Bytes.{Name, Text, Answer, refused, accepted, Parsed, got, failed, Parser, _>>=_, give, unread, byte, field, counted, listOf, name, text, keep, checked, be, concat, listBytes, housed, unhouse, countsRest, versionOne}
+use Rattle.definitions.specs.Bytes.{Answer, refused, accepted, Parsed, got, failed, Parser, _>>=_, give, unread, byte, field, counted, listOf, name, text, keep, checked, be, concat, listBytes, housed, unhouse, countsRest, versionOne}
 use Rattle.definitions.specs.Module.{nameBytes, textBytes}
 use Rattle.definitions.proofs.Truth.{left, right, holds}
 
@@ -81,15 +81,19 @@ writes-weak f W = record {
 
 -- ---- numbers
 
+div-low : (w c v : ℕ) → (c * 256 ^ w + v) / 256 ^ w ≡ c + v / 256 ^ w
+div-low w c v =
+    ap (λ (z : ℕ). z / 256 ^ w) (add-comm (c * 256 ^ w) v)
+    ∙ add-mul-div-right v c (one-le-pow w 256 (omega arith))
+    ∙ add-comm (v / 256 ^ w) c
+
 -- what stands above w bytes is not in them
 be-low : (w c v : ℕ) → be w (c * 256 ^ w + v) ≡ be w v
 unfolding be
 be-low zero c v = refl
 be-low (suc w) c v =
-    let e : c * 256 ^ suc w + v ≡ c * 256 * 256 ^ w + v = ap (λ (z : ℕ). c * z + v) (pow-succ' 256 w) ∙ ap (λ (z : ℕ). z + v) (sym (mul-assoc c 256 (256 ^ w))) in
-    let q : (c * 256 * 256 ^ w + v) / 256 ^ w ≡ c * 256 + v / 256 ^ w =
-        ap (λ (z : ℕ). z / 256 ^ w) (add-comm (c * 256 * 256 ^ w) v) ∙ add-mul-div-right v (c * 256) (one-le-pow w 256 (omega arith)) ∙ add-comm (v / 256 ^ w) (c * 256) in
-    rw (e, be) (rw (q, mul-add-mod-self-right c 256 (v / 256 ^ w), be-low w (c * 256) v))
+    rw (pow-succ' 256 w, ← mul-assoc c 256 (256 ^ w), be)
+    (rw (div-low w (c * 256) v, mul-add-mod-self-right c 256 (v / 256 ^ w), be-low w (c * 256) v))
 
 be-digit : (w c v : ℕ) → c < 256 → v < 256 ^ w → be (suc w) (c * 256 ^ w + v) ≡ c ∷ be w v
 unfolding be
