@@ -7,7 +7,6 @@ use native.Mathlib.Omega.{arith}
 use lib.Seq.{append-snoc}
 use lib.ListN.{length, length-append}
 use Rattle.definitions.specs.Bytes.{Name, position, same}
-use Rattle.definitions.specs.Instruction.{Return}
 use Rattle.definitions.specs.Tables.{Function, Tables, Body, Out, Emit, addSymbol, begin, setCode, intern, function, enclose}
 use Rattle.definitions.specs.Open.{allInstruction}
 use Rattle.definitions.proofs.Functions.{setCode-seam}
@@ -28,7 +27,7 @@ pub record Enclosed (n s p : ℕ) (t : Tables) (slots : List Name) (o : Out) : T
 
 module _ {n : ℕ} {b : Tables} (k arity : ℕ) (few : arity ≤ 255) (slots : List Name) (body : Body) (e : Emit) (E : Fits n (length slots) b e) (p : ℕ) (t : Tables) (bt : Longer b t) (has : k < length (t .symbols)) where
   fresh : Function
-  fresh = record { symbol = k; arity = arity; locals = length slots; code = Return ∷ [] }
+  fresh = record { symbol = k; arity = arity; locals = length slots; code = [] }
 
   begun : Tables
   begun = begin k arity slots t
@@ -36,7 +35,7 @@ module _ {n : ℕ} {b : Tables} (k arity : ℕ) (few : arity ≤ 255) (slots : L
   begun-longer : Longer t begun
   unfolding begun begin
   begun-longer =
-      let f : Function = record { symbol = k; arity = arity; locals = length slots; code = Return ∷ [] } in
+      let f : Function = record { symbol = k; arity = arity; locals = length slots; code = [] } in
       record { sizes = omega (arith, length-snoc (t .functions) f); new = f ∷ []; functions = refl; balance = omega arith }
 
   out : Out
@@ -67,7 +66,7 @@ module _ {n : ℕ} {b : Tables} (k arity : ℕ) (few : arity ≤ 255) (slots : L
       let L = begun-longer .sizes in
       record {
         symbols = T .symbols;
-        functions = every-append (tight-up L (T .functions)) (every (record { symbol = has; arity = few; code = every (bare refl refl) noEvery }) noEvery);
+        functions = every-append (tight-up L (T .functions)) (every (record { symbol = has; arity = few; code = noEvery }) noEvery);
         classes = ordered-up L (T .classes);
         constants = constants-up L (T .constants);
       }
@@ -75,7 +74,7 @@ module _ {n : ℕ} {b : Tables} (k arity : ℕ) (few : arity ≤ 255) (slots : L
   lengths : length (out .tables .functions) ≡ length (enclose k arity slots body e p t .tables .functions)
   lengths = ap length before ∙ length-put (t .functions) added fresh made ∙ sym (ap length after)
 
-  -- the Return is replaced by the code: all is as long as before
+  -- the code is set: all is as long as before
   ready : Sizes (out .tables) (enclose k arity slots body e p t .tables)
   unfolding enclose begun out
   ready = omega (arith, lengths)
