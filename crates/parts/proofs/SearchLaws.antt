@@ -100,16 +100,16 @@ member-either y x xs h = go (member y xs) refl (sym (member-end y x xs) ∙ h)
 
 -- ---- steps down
 
-pub below-is : (T : List ℕ) (x : Name) (k p : ℕ) → 0 < p → below T x k p ≡ getD T (2 * p + turnOf x k) 0
+pub below-is : (T : List ℕ) (x : Name) (k p : ℕ) → 0 < p → below T x k p ≡ getD T (p + turnOf x k) 0
 unfolding below
-below-is T x k p h = ap (λ (b : Bool). elim b as (λ _. ℕ) [ true ↦ 0 | false ↦ getD T (2 * p + turnOf x k) 0 ]) (ne-eqb p 0 (λ e. omega arith))
+below-is T x k p h = ap (λ (b : Bool). elim b as (λ _. ℕ) [ true ↦ 0 | false ↦ getD T (p + turnOf x k) 0 ]) (ne-eqb p 0 (λ e. omega arith))
 
 below-zero : (T : List ℕ) (x : Name) (k p : ℕ) → p ≡ 0 → below T x k p ≡ 0
 unfolding below
-below-zero T x k p h = ap (λ (b : Bool). elim b as (λ _. ℕ) [ true ↦ 0 | false ↦ getD T (2 * p + turnOf x k) 0 ]) (eq-eqb p 0 h)
+below-zero T x k p h = ap (λ (b : Bool). elim b as (λ _. ℕ) [ true ↦ 0 | false ↦ getD T (p + turnOf x k) 0 ]) (eq-eqb p 0 h)
 
 module _ (T : List ℕ) (root : ℕ) (x : Name) where
-  reach-next : (k : ℕ) → 0 < reach T root x k → reach T root x (suc k) ≡ getD T (2 * reach T root x k + turnOf x k) 0
+  reach-next : (k : ℕ) → 0 < reach T root x k → reach T root x (suc k) ≡ getD T (reach T root x k + turnOf x k) 0
   unfolding reach
   reach-next k h = below-is T x k (reach T root x k) h
 
@@ -131,7 +131,7 @@ module _ (T : List ℕ) (root : ℕ) (x : Name) where
   reach-set slot v e zero s = refl
   reach-set slot v e (suc k) s =
       let r = reach-some k s in
-      let q = 2 * reach T root x k + turnOf x k in
+      let q = reach T root x k + turnOf x k in
       ap (below (set T slot v) x k) (reach-set slot v e k r) ∙ below-is (set T slot v) x k (reach T root x k) r
       ∙ getD-set-other T slot q v 0 (λ z. let a = below-is T x k (reach T root x k) r in let b : getD T q 0 ≡ 0 = ap (λ (i : ℕ). getD T i 0) z ∙ e in omega arith)
       ∙ sym (below-is T x k (reach T root x k) r)
@@ -152,8 +152,8 @@ pub put-twice : (t : List ℕ) (seen : List Name) (x : Name) (p : ℕ) → Entry
 put-twice t seen x p h e = ap (λ (y : Name). member y seen) (sym (same-eq (nameBytes t p) x e)) ∙ h .known
 
 module _ (t T : List ℕ) (root : ℕ) (seen : List Name) (x : Name) (k p : ℕ) (h : Searches t T root seen) (g : Seeking t T root seen x k p) (other : same (nameBytes t p) x ≡ false) where
-  next-is : reach T root x (suc k) ≡ getD T (2 * p + turnOf x k) 0
-  next-is = let n = g .entry .some in let a = g .at in reach-next T root x k (omega arith) ∙ ap (λ (q : ℕ). getD T (2 * q + turnOf x k) 0) a
+  next-is : reach T root x (suc k) ≡ getD T (p + turnOf x k) 0
+  next-is = let n = g .entry .some in let a = g .at in reach-next T root x k (omega arith) ∙ ap (λ (q : ℕ). getD T (q + turnOf x k) 0) a
 
   not-before : (j : ℕ) → j < k + 1 → same (nameBytes t (reach T root x j)) x ≡ false
   not-before j l = ⊎-elim
@@ -161,14 +161,14 @@ module _ (t T : List ℕ) (root : ℕ) (seen : List Name) (x : Name) (k p : ℕ)
       (λ (a : j < k). g .before j a)
       (le-or-gt k j)
 
-  pub seek-next : (q : ℕ) → q ≡ getD T (2 * p + turnOf x k) 0 → 0 < q → Seeking t T root seen x (k + 1) q
+  pub seek-next : (q : ℕ) → q ≡ getD T (p + turnOf x k) 0 → 0 < q → Seeking t T root seen x (k + 1) q
   seek-next q e s = record {
     at = ap (reach T root x) (add-one k) ∙ next-is ∙ sym e;
-    entry = subst (Entry t seen) (sym e) (h .entries (2 * p + turnOf x k) (let z = e in omega arith));
+    entry = subst (Entry t seen) (sym e) (h .entries (p + turnOf x k) (let z = e in omega arith));
     before = not-before;
   }
 
-  module _ (empty : getD T (2 * p + turnOf x k) 0 ≡ 0) where
+  module _ (empty : getD T (p + turnOf x k) 0 ≡ 0) where
     none-met : Met t T root x → ⊥
     none-met m = ⊎-elim
         (λ (a : suc k ≤ m .depth). let u = reach-before T root x (m .depth) (suc k) a (m .some) in let v = next-is in omega arith)
@@ -182,9 +182,9 @@ module _ (t T : List ℕ) (root : ℕ) (seen : List Name) (x : Name) (k p : ℕ)
         go true e = absurd (none-met (h .met x e))
         go false e = e
 
-    module _ (at : ℕ) (there : There t at) (low : at < 32768) (some : 0 < at) (is : nameBytes t at ≡ x) (inside : 2 * p + turnOf x k < length T) where
+    module _ (at : ℕ) (there : There t at) (low : at < 32768) (some : 0 < at) (is : nameBytes t at ≡ x) (inside : p + turnOf x k < length T) where
       abbrev slot : ℕ
-      slot = 2 * p + turnOf x k
+      slot = p + turnOf x k
 
       entry-kept : (q : ℕ) → Entry t seen q → Entry t (seen ++ x ∷ []) q
       entry-kept q e = record { some = e .some; low = e .low; there = e .there; known = member-kept (nameBytes t q) x seen (e .known) }
@@ -205,7 +205,7 @@ module _ (t T : List ℕ) (root : ℕ) (seen : List Name) (x : Name) (k p : ℕ)
       new-met : reach (set T slot at) root x (suc k) ≡ at
       new-met = let n = g .entry .some in let a = g .at in
           let e : reach (set T slot at) root x k ≡ p = reach-set T root x slot at empty k (omega arith) ∙ a in
-          reach-next (set T slot at) root x k (omega arith) ∙ ap (λ (q : ℕ). getD (set T slot at) (2 * q + turnOf x k) 0) e ∙ getD-set-same T slot at 0 inside
+          reach-next (set T slot at) root x k (omega arith) ∙ ap (λ (q : ℕ). getD (set T slot at) (q + turnOf x k) 0) e ∙ getD-set-same T slot at 0 inside
 
       met-new : (y : Name) → member y (seen ++ x ∷ []) ≡ true → Met t (set T slot at) root y
       met-new y e = ⊎-elim
@@ -222,19 +222,19 @@ entry-low t T root seen s h = ⊎-elim (λ (z : getD T s 0 ≤ 0). omega arith) 
 
 -- the two ways on from p, v being the turn there
 module _ (t T : List ℕ) (root : ℕ) (seen : List Name) (x : Name) (k p v : ℕ) (h : Searches t T root seen) (g : Seeking t T root seen x k p) (other : same (nameBytes t p) x ≡ false) (turns : v ≡ turnOf x k) where
-  pub put-next : 0 < getD T (2 * p + v) 0 → Searches t T root seen × Seeking t T root seen x (k + 1) (getD T (2 * p + v) 0)
-  put-next s = (h, seek-next t T root seen x k p h g other (getD T (2 * p + v) 0) (ap (λ (i : ℕ). getD T (2 * p + i) 0) turns) s)
+  pub put-next : 0 < getD T (p + v) 0 → Searches t T root seen × Seeking t T root seen x (k + 1) (getD T (p + v) 0)
+  put-next s = (h, seek-next t T root seen x k p h g other (getD T (p + v) 0) (ap (λ (i : ℕ). getD T (p + i) 0) turns) s)
 
-  pub put-here : (at : ℕ) → getD T (2 * p + v) 0 ≡ 0 → There t at → at < 32768 → 0 < at → nameBytes t at ≡ x → 2 * p + v < 65536 → (member x seen ≡ false) × Searches t (set T (2 * p + v) at) root (seen ++ x ∷ [])
+  pub put-here : (at : ℕ) → getD T (p + v) 0 ≡ 0 → There t at → at < 32768 → 0 < at → nameBytes t at ≡ x → p + v < 32769 → (member x seen ≡ false) × Searches t (set T (p + v) at) root (seen ++ x ∷ [])
   put-here at e a b c d i =
-      let f : getD T (2 * p + turnOf x k) 0 ≡ 0 = ap (λ (i : ℕ). getD T (2 * p + i) 0) (sym turns) ∙ e in (
+      let f : getD T (p + turnOf x k) 0 ≡ 0 = ap (λ (i : ℕ). getD T (p + i) 0) (sym turns) ∙ e in (
         put-absent t T root seen x k p h g other f,
-        subst (λ (w : ℕ). Searches t (set T (2 * p + w) at) root (seen ++ x ∷ [])) (sym turns) (put-new t T root seen x k p h g other f at a b c d (let z = h .size in omega arith)),
+        subst (λ (w : ℕ). Searches t (set T (p + w) at) root (seen ++ x ∷ [])) (sym turns) (put-new t T root seen x k p h g other f at a b c d (let z = h .size in omega arith)),
       )
 
 -- ---- the table of one name
 
-pub one-name : (t T : List ℕ) (p : ℕ) → length T ≡ 65536 → ((s : ℕ) → getD T s 0 ≡ 0) → There t p → p < 32768 → 0 < p → Searches t T p (nameBytes t p ∷ [])
+pub one-name : (t T : List ℕ) (p : ℕ) → length T ≡ 32769 → ((s : ℕ) → getD T s 0 ≡ 0) → There t p → p < 32768 → 0 < p → Searches t T p (nameBytes t p ∷ [])
 unfolding reach
 one-name t T p n z h l s = record {
   size = n;
@@ -318,10 +318,10 @@ module _ (t : List ℕ) (n at : ℕ) (every : AllThere t n at) (more : 0 < n) (s
   first-there : There t at
   first-there = there-first t n at more every
 
-  pub sift-start : (p : ℕ) → p ≡ nameEnd t at → Sifting t n at 1 p (replicate 65536 0)
+  pub sift-start : (p : ℕ) → p ≡ nameEnd t at → Sifting t n at 1 p (replicate 32769 0)
   unfolding namesFrom namesEnd nameEnd
   sift-start p e = record {
-    table = one-name t (replicate 65536 0) at (length-replicate {A = ℕ} 65536 0) (no-entry 65536) first-there (let h = first-there .byte in omega arith) some;
+    table = one-name t (replicate 32769 0) at (length-replicate {A = ℕ} 32769 0) (no-entry 32769) first-there (let h = first-there .byte in omega arith) some;
     end = e;
     some = omega arith;
     left = subst (AllThere t (n - 1)) (sym e) (there-rest t n at more every);

@@ -17,7 +17,7 @@ turnOf x k = getD x (k / 8) 0 / 2 ^ (k % 8) % 2
 
 -- the position met by the name x at depth k, from the root on; 0 below an empty slot
 unfoldable pub below : List ℕ → Name → ℕ → ℕ → ℕ
-below T x k p = elim (eqb p 0) [ true ↦ 0 | false ↦ getD T (2 * p + turnOf x k) 0 ]
+below T x k p = elim (eqb p 0) [ true ↦ 0 | false ↦ getD T (p + turnOf x k) 0 ]
 
 unfoldable pub reach : List ℕ → ℕ → Name → ℕ → ℕ
 reach T root x zero = root
@@ -38,7 +38,7 @@ pub record Met (t T : List ℕ) (root : ℕ) (x : Name) : Type 0 where
 
 -- the table has the names seen, and no others
 pub record Searches (t T : List ℕ) (root : ℕ) (seen : List Name) : Type 0 where
-  pub size : length T ≡ 65536
+  pub size : length T ≡ 32769
   pub first : Entry t seen root
   pub entries : (s : ℕ) → 0 < getD T s 0 → Entry t seen (getD T s 0)
   pub met : (x : Name) → member x seen ≡ true → Met t T root x

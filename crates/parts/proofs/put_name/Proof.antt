@@ -28,12 +28,11 @@ put-name-spec = tie.close (tie.spec Inv-loop μ-loop
     (λ c κs. c .before .before .before .before .pre .1)  -- name-part-requires-2
     (λ c κs. search needs)  -- same-bytes-requires
     (λ c. let s = c .before in let l = s .before .before .before .before in put-twice _ _ _ _ (l .loop .inv .1 .entry) (same-as _ _ _ _ _ _ (s .same-bytes .ensures) (s .before .before .name-part .ensures) (s .before .name-part2 .ensures) (c .if1 .taken)))  -- returns
-    (λ c. let h = c .before .before .before .before .before .loop .inv .1 .entry .low in omega arith)  -- mul-slot
     (λ c κs. c .before .before .before .before .before .before .before .pre .1)  -- turn-requires
     (λ c. let h = c .before .before .before .before .before .before .loop .inv .1 .entry .low in let z = c .turn .ensures .1 in omega arith)  -- add-slot
     (λ c. let h = c .before .before .before .before .before .before .loop .inv .1 .entry .low in let z = c .turn .ensures .1 in omega arith)  -- mul-next
     (λ c. let h = c .before .before .before .before .before .before .loop .inv .1 .entry .low in let z = c .turn .ensures .1 in omega arith)  -- element-copy-out-next
-    (λ c. let h = entry-low _ _ _ _ (2 * c .before .before .before .before .before .before .before .loop .p + c .before .turn .result) (c .before .before .before .before .before .before .before .loop .inv .0) in omega arith)  -- cast-next
+    (λ c. let h = entry-low _ _ _ _ (c .before .before .before .before .before .before .before .loop .p + c .before .turn .result) (c .before .before .before .before .before .before .before .loop .inv .0) in omega arith)  -- cast-next
     (λ c. let h = c .before .before .before .before .before .before .before .before .before .before .pre .2 in omega arith)  -- cast-table
     (λ c. let h = c .before .before .before .before .before .before .before .before .loop .inv .1 .entry .low in let z = c .before .before .turn .ensures .1 in omega arith)  -- mul-table
     (λ c. let h = c .before .before .before .before .before .before .before .before .loop .inv .1 .entry .low in let z = c .before .before .turn .ensures .1 in omega arith)  -- element-write-table
