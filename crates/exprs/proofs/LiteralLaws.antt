@@ -17,8 +17,8 @@ use Rattle.parts.proofs.Laws.{at-byte, kind-of}
 use Rattle.parts.proofs.Nodes.{Seen, got-node}
 use Rattle.exprs.specs.ExprAt.{exprAt, ExprReads, intAt, floatAt, stringAt}
 use Rattle.exprs.specs.Literals.{literalOf, Plain, LiteralAt, Stands}
-use Rattle.exprs.specs.declared.Literal.{Literal}
-use Rattle.exprs.specs.declared.Literal.the-variants.{None, Bool as Truth, Int, Float, Nan, Text}
+use Rattle.exprs.specs.declared.literals.Literal.{Literal}
+use Rattle.exprs.specs.declared.literals.Literal.the-variants.{None, Bool as Truth, Int, Float, Nan, Text}
 use Rattle.exprs.proofs.ExprLaws.{deep-E}
 use Rattle.exprs.proofs.ExprViews.{expr-deep, expr-inside, view-none, view-false, view-true, view-int, view-float, view-string}
 

@@ -11,8 +11,8 @@ use mir.Val.{ofZ}
 use Rattle.definitions.specs.Tree
 use Rattle.definitions.specs.Tree.{noneL, boolL, intL, floatL, stringL}
 use Rattle.exprs.specs.ExprAt.{ExprReads}
-use Rattle.exprs.specs.declared.Literal.{Literal}
-use Rattle.exprs.specs.declared.Literal.the-variants.{None, Bool as Truth, Int, Float, Nan, Text}
+use Rattle.exprs.specs.declared.literals.Literal.{Literal}
+use Rattle.exprs.specs.declared.literals.Literal.the-variants.{None, Bool as Truth, Int, Float, Nan, Text}
 
 -- the paper's literal for each case: an integer's and a float's 64 bits, and of a string the bytes at its place in the tree t
 unfoldable pub literalOf : List ℕ → Literal → Tree.Literal

@@ -15,8 +15,8 @@ use Rattle.definitions.specs.Bytes.{Name, same, position, member, all}
 use Rattle.definitions.specs.Wellformed.{distinct}
 use Rattle.parts.specs.Places.{nameBytes, nameEnd, There, namesFrom, namesEnd, AllThere}
 use Rattle.parts.specs.Search.{turnOf, below, reach, Entry, Met, Searches, Puts}
-use Rattle.parts.specs.declared.Put.{Put}
-use Rattle.parts.specs.declared.Put.the-variants.{Twice, New, Lost}
+use Rattle.parts.specs.declared.distinct.Put.{Put}
+use Rattle.parts.specs.declared.distinct.Put.the-variants.{Twice, New, Lost}
 use Rattle.parts.proofs.Laws.{le-or-gt}
 use Rattle.parts.proofs.NameLaws.{member-cons, there-first, there-rest, from-more, from-none}
 

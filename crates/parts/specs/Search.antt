@@ -8,8 +8,8 @@ use lib.Dec.{eqb}
 use lib.ListN.{length, getD}
 use Rattle.definitions.specs.Bytes.{Name, member}
 use Rattle.parts.specs.Places.{nameBytes, There}
-use Rattle.parts.specs.declared.Put.{Put}
-use Rattle.parts.specs.declared.Put.the-variants.{Twice, New, Lost}
+use Rattle.parts.specs.declared.distinct.Put.{Put}
+use Rattle.parts.specs.declared.distinct.Put.the-variants.{Twice, New, Lost}
 
 -- the turn of a name at depth k: its bit k, 0 past its end
 unfoldable pub turnOf : Name → ℕ → ℕ
