@@ -8,7 +8,6 @@ use Rattle.parts.proofs.questions.noted.Lts as lts
 pub noted-spec : {M : Type 1} → statement M
 noted-spec = tie.close (tie.spec
     (λ c. noted-yes _ _ _ (c .if1 .taken))  -- returns
-    (λ c. search needs)  -- sub-if2
-    (λ c. noted-low _ _ _ (c .before .before .pre .0) (c .before .before .pre .1) (c .before .if1 .left) (c .if2 .taken))  -- returns-2
-    (λ c. search needs)  -- sub-result
-    (λ c. noted-no _ _ _ (c .before .before .pre .0) (c .before .before .pre .1) (c .before .if1 .left) (c .if2 .left)))  -- returns-3
+    (λ c κs. search needs)  -- place-of-requires
+    (λ c. let p = c .before in noted-low _ _ _ _ (p .place-of .ensures) (p .before .if1 .left) (c .if2 .taken))  -- returns-2
+    (λ c. let p = c .before in noted-no _ _ _ _ (p .place-of .ensures) (p .before .if1 .left) (c .if2 .left)))  -- returns-3
