@@ -1,6 +1,6 @@
--- A search tree over names, in a table of numbers: the names below the one at p hang in the slots 2 p and 2 p + 1, by the turn that the name takes at
--- its depth. An entry is a name's position, 0 for none.
-use Prim.Native.Nat.{ℕ, zero, suc, _+_, _*_, _/_, _%_, _^_, _<_}
+-- A search tree over names, in a table of numbers: the names below the one at p hang in the slots p and p + 1, by the turn that they take at its
+-- depth. An entry is a name's position, 0 for none. Names of one byte or more share no slot; where two share one, a search is longer, no less right.
+use Prim.Native.Nat.{ℕ, zero, suc, _+_, _/_, _%_, _^_, _<_}
 use mathlib.Core.Path.{_≡_}
 use mathlib.Core.Bool.{Bool, true, false}
 use mathlib.Core.List.{List, [], _∷_, _++_}

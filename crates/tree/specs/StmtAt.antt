@@ -148,6 +148,28 @@ unfoldable pub classAt : ℕ → List ℕ → ℕ → Node Stmt
 classAt d t p =
     node (class (nameBytes t p) (classMethodsAt d t p .value) (attributesAt d t (classMethodsAt d t p .end) .value)) (attributesAt d t (classMethodsAt d t p .end) .end)
 
+-- a count, and so many attributes
+abbrev pub valuesAt : ℕ → ℕ → List ℕ → ℕ → Node (List Attribute)
+valuesAt d n t p = nodeAt [] (counted [] _∷_ (attribute (parseExpr d)) n) t p
+
+abbrev pub ValuesRead : ℕ → ℕ → List ℕ → ℕ → Type 0
+ValuesRead d n t p = Reads (counted [] _∷_ (attribute (parseExpr d)) n) t p
+
+pub record AttributesAt (d : ℕ) (t : List ℕ) (p : ℕ) : Type 0 where
+  pub count : Counted t p
+  pub values : ValuesRead d (countAt t p) t (p + 2)
+
+-- n attributes, of which there is a first: its name and value, and the n - 1 after it
+pub record ValuesMore (d n : ℕ) (t : List ℕ) (p : ℕ) : Type 0 where
+  pub name : There t p
+  pub value : ExprReads d t (nameEnd t p)
+  pub rest : ValuesRead d (n - 1) t (exprAt d t (nameEnd t p) .end)
+
+unfoldable pub valueAt : ℕ → ℕ → List ℕ → ℕ → Node (List Attribute)
+valueAt d n t p =
+    let v = exprAt d t (nameEnd t p) in
+    node (record { name = nameBytes t p; value = v .value } ∷ valuesAt d (n - 1) t (v .end) .value) (valuesAt d (n - 1) t (v .end) .end)
+
 -- ---- blocks
 
 -- a count, and so many statements
