@@ -16,10 +16,9 @@ use Rattle.reader.specs.declared.Found.the-variants.{Instruction, Nothin
 use Rattle.reader.specs.declared.Cursor.{Cursor}
 use Rattle.reader.specs.declared.Met.{Met}
 use Rattle.reader.specs.declared.Met.the-variants.{At, End}
-use Rattle.reader.proofs.Taken.{Takes, Rest, takes-counted}
-use Rattle.reader.proofs.Instructions.{takes-instruction}
 use Rattle.reader.proofs.Finding.{counted-view, give-view}
 use Rattle.reader.proofs.Encoding.{Small, encode-read, encodes-read}
+use Rattle.definitions.proofs.Begins.{Rest, Takes, takes-counted, takes-instruction}
 
 -- ---- the call
 

@@ -16,8 +16,6 @@ use Rattle.definitions.specs.Reader.{instruction, moduleRecord, wholeModule, re
 use Rattle.definitions.specs.Run.{Ran, ended, after, run}
 use Rattle.definitions.specs.Calls.{functionOf, areAnswers, eventsFit, runFunction, runAnswer, ranCounts, runCall, outputAfter, written}
 use Rattle.reader.specs.View.{Got, functionIn, CodeAt, instructionsOf}
-use Rattle.reader.proofs.Taken.{Takes, Rest, takes-counted}
-use Rattle.reader.proofs.Instructions.{takes-instruction}
 use Rattle.reader.proofs.Encoding.{Small}
 use Rattle.reader.proofs.Iterated.{code-is, reads-code, bytes-are}
 use Rattle.run.specs.declared.Outcome.{Outcome}
@@ -27,6 +25,7 @@ use Rattle.run.specs.declared.Passed.{Passed}
 use Rattle.run.specs.declared.Passed.the-variants.{Ended, TooMany}
 use Rattle.run.specs.Pass.{outcome, ranCall, Called, Coded, Leads, Ending, Passes, start}
 use Rattle.run.proofs.Storing.{copied-written}
+use Rattle.definitions.proofs.Begins.{Rest, Takes, takes-counted, takes-instruction}
 
 -- ---- question 23
 

@@ -87,14 +87,14 @@ pub fn run_tables(
     Outcome::Finished(ending, last.steps, last.used, last.written)
 }
 
-// The run of a function of n instructions, at most 1,024.
+// The run of a function of n instructions, at most 8,192, as many as a lowered module may have.
 pub fn run_small(code: &[u8], n: usize, answers: &[u8], budget: u64, events: &mut [u8]) -> Outcome
-    requires { ⌜ Coded (now code) × (n ≡ length (instructionsOf (now code))) × (n ≤ 1024) ⌝ }
+    requires { ⌜ Coded (now code) × (n ≡ length (instructionsOf (now code))) × (n ≤ 8192) ⌝ }
     ensures { λ r. ⌜ Called r (ranCall (eventsFit (length (now (events .entry))) (Run.run budget (instructionsOf (now (code .entry))) 0 (now (answers .entry)))) (now (events .entry))) (now (events .exit)) ⌝ }
 {
-    let mut places = [0u32; 1024];
+    let mut places = [0u32; 8192];
     fill_places(code, &mut places);
-    let mut stops = [0u32; 1024];
+    let mut stops = [0u32; 8192];
     fill_stops(code, &places, n, &mut stops);
     run_tables(code, &places, &stops, answers, budget, events)
 }
@@ -116,7 +116,7 @@ pub fn run_code(code: &[u8], n: usize, answers: &[u8], budget: u64, events: &mut
     requires { ⌜ Coded (now code) × (n ≡ length (instructionsOf (now code))) ⌝ }
     ensures { λ r. ⌜ Called r (ranCall (eventsFit (length (now (events .entry))) (Run.run budget (instructionsOf (now (code .entry))) 0 (now (answers .entry)))) (now (events .entry))) (now (events .exit)) ⌝ }
 {
-    if n <= 1024 {
+    if n <= 8192 {
         return run_small(code, n, answers, budget, events);
     }
     run_large(code, n, answers, budget, events)
