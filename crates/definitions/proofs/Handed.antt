@@ -17,6 +17,7 @@ use Rattle.definitions.specs.Module.{nameBytes, textBytes, functionBytes
 use Rattle.definitions.specs.Reader.{instruction, functionRecord, methodRecord, rising, classRecord, moduleRecord, numbersExist, codeStands, wholeModule, readModule}
 use Rattle.definitions.specs.Calls.{Part, partOf, functionOf, codePart, codeCall}
 use Rattle.definitions.specs.Statements.{ReadIsWritten, Handed, HandedCode}
+use Rattle.definitions.proofs.BytesWritten.{length-be}
 use Rattle.definitions.proofs.Writes.{Writes, writes-give, writes-bind, writes-byte, writes-number, writes-list, writes-name, writes-text, writes-checked, in-house}
 
 -- ---- the module's records
@@ -130,11 +131,6 @@ stands-before cs {xs} S = record {
 stands-at : {xs bs : List ℕ} (n k : ℕ) → n ≡ k → Stands xs n bs → Stands xs k bs
 stands-at n k e S = rw e at S
 
-be-length : (w v : ℕ) → length (be w v) ≡ w
-unfolding be
-be-length zero v = refl
-be-length (suc w) v = ap suc (be-length w v)
-
 -- what the k-th of the elements writes
 stands-element : {A : Type 0} (f : A → List ℕ) (zs : List A) (k : ℕ) (a : A) {xs : List ℕ} {n : ℕ}
     → getElem? zs k ≡ some a → Stands xs n (f a) → Stands xs (length (concat f (take k zs)) + n) (concat f zs)
@@ -148,13 +144,13 @@ stands-code : (f : Function) → Stands (encodes (f .code)) 7 (functionBytes f)
 unfolding functionBytes listBytes encodes
 stands-code f =
     stands-at _ 7
-    (omega (arith, be-length 2 (f .symbol), be-length 1 (f .arity), be-length 2 (f .locals), be-length 2 (length (f .code))))
+    (omega (arith, length-be 2 (f .symbol), length-be 1 (f .arity), length-be 2 (f .locals), length-be 2 (length (f .code))))
     (stands-after (be 2 (f .symbol)) (stands-after (be 1 (f .arity)) (stands-after (be 2 (f .locals)) (stands-after (be 2 (length (f .code))) (stands-all (concat encode (f .code)))))))
 
 stands-list : {A : Type 0} (f : A → List ℕ) (zs : List A) (k : ℕ) (a : A) {xs : List ℕ} {n : ℕ}
     → getElem? zs k ≡ some a → Stands xs n (f a) → Stands xs (2 + length (concat f (take k zs)) + n) (listBytes 2 f zs)
 unfolding listBytes
-stands-list f zs k a e S = stands-at _ _ (omega (arith, be-length 2 (length zs))) (stands-after (be 2 (length zs)) (stands-element f zs k a e S))
+stands-list f zs k a e S = stands-at _ _ (omega (arith, length-be 2 (length zs))) (stands-after (be 2 (length zs)) (stands-element f zs k a e S))
 
 stands-tables : (t : Tables) (k : ℕ) (f : Function) → getElem? (t .functions) k ≡ some f
     → Stands (encodes (f .code))
@@ -169,7 +165,7 @@ stands-tables t k f e =
 
 stands-housed : {xs bs : List ℕ} {n : ℕ} → Stands xs n bs → Stands xs (5 + n) (housed bs)
 unfolding housed
-stands-housed {bs} S = stands-at _ _ (omega (arith, be-length 4 (suc (length bs)))) (stands-after (be 4 (suc (length bs))) (stands-after (1 ∷ []) S))
+stands-housed {bs} S = stands-at _ _ (omega (arith, length-be 4 (suc (length bs)))) (stands-after (be 4 (suc (length bs))) (stands-after (1 ∷ []) S))
 
 stands-module : (t : Tables) (k : ℕ) (f : Function) → getElem? (t .functions) k ≡ some f → Stands (encodes (f .code)) (codeStart t k) (moduleBytes t)
 unfolding moduleBytes codeStart
