@@ -1,5 +1,5 @@
 -- Functions that a part of the tree adds: each with the source that it comes from.
-use mathlib.Core.Path.{_≡_, refl, sym, ap, _∙_}
+use mathlib.Core.Path.{_≡_, sym, ap, _∙_}
 use mathlib.Core.Bool.{false}
 use mathlib.Core.List.{List, [], _∷_, _++_, append-assoc, append-nil}
 use Prim.Native.Nat.{ℕ, _<_}
@@ -11,6 +11,7 @@ use Rattle.definitions.specs.Tables.{Function, Source, Tables, Emit, set
 use Rattle.definitions.specs.Walk.{walkSource}
 use Rattle.definitions.specs.Reader.{codeStands}
 use Rattle.definitions.specs.Statements.{ComesFrom}
+use Rattle.definitions.proofs.Functions.{setCode-seam}
 use Rattle.definitions.proofs.Demand.{Over}
 use Rattle.definitions.proofs.Meaning.{Meaning}
 
@@ -44,11 +45,6 @@ grow-more {fs} A B = record {
   functions = B .functions ∙ ap (λ (z : List Function). z ++ B .new) (A .functions) ∙ append-assoc fs (A .new) (B .new);
   good = pairs-append (A .good) (B .good);
 }
-
-pub setCode-seam : (fs gs : List Function) (f : Function) (is : List Instr) → setCode (fs ++ (f ∷ gs)) (length fs) is ≡ fs ++ (record { symbol = f .symbol; arity = f .arity; locals = f .locals; code = is } ∷ gs)
-unfolding setCode
-setCode-seam [] gs f is = refl
-setCode-seam (g ∷ fs) gs f is = rw (setCode-seam fs gs f is)
 
 pub grow-function : (fs fs′ : List Function) (gs : List Source) (f : Function) (g : Source) (is : List Instr) → Grows (fs ++ (f ∷ [])) fs′ gs
     → Good (record { symbol = f .symbol; arity = f .arity; locals = f .locals; code = is }) g → Grows fs (setCode fs′ (length fs) is) (g ∷ gs)

@@ -2,7 +2,7 @@
 use mathlib.Core.Path.{_≡_, refl, sym, subst}
 use mathlib.Core.Bool.{Bool, true, false, _&&_}
 use Prim.Native.Nat.{ℕ, _≤_}
-use lib.Dec.{T, leb, leb→le}
+use lib.Dec.{T, eqb, eqb-refl, leb, leb→le}
 
 pub left : (a b : Bool) → (a && b) ≡ true → a ≡ true
 left true b e = refl
@@ -20,6 +20,9 @@ both a b e = (left a b e, right a b e)
 
 pub at-most : (m n : ℕ) → leb m n ≡ true → m ≤ n
 at-most m n e = leb→le m n (holds (leb m n) e)
+
+pub not-equal : (m n : ℕ) → eqb m n ≡ false → m ≡ n → ⊥
+not-equal m n e q = subst T e (subst (λ (z : ℕ). T (eqb m z)) q (eqb-refl m))
 
 pub is-true : (b : Bool) → T b → b ≡ true
 is-true true t = refl

@@ -158,8 +158,14 @@ Demand3Bytes =
 abbrev pub ReadIsWritten : Type 0
 ReadIsWritten = (m : List ℕ) (t : Tables) → areBytes m ≡ true → readModule m ≡ accepted t → m ≡ moduleBytes t
 
--- the part that is handed back is the function's code
+-- the part that is handed back lies in the module, and is the function's code
+pub record Handed (m : List ℕ) (k : ℕ) (p : Part) : Type 0 where
+  pub tables : Tables
+  pub function : Function
+  pub reads : readModule m ≡ accepted tables
+  pub found : getElem? (tables .functions) k ≡ some function
+  pub within : p .start + p .size ≤ length m
+  pub code : partOf p m ≡ encodes (function .code)
+
 abbrev pub HandedCode : Type 0
-HandedCode =
-    (m : List ℕ) (k : ℕ) (p : Part) → areBytes m ≡ true → codeCall m k ≡ accepted p
-    → (t : Tables) × (f : Function) × (readModule m ≡ accepted t) × (getElem? (t .functions) k ≡ some f) × (partOf p m ≡ encodes (f .code))
+HandedCode = (m : List ℕ) (k : ℕ) (p : Part) → areBytes m ≡ true → codeCall m k ≡ accepted p → Handed m k p
