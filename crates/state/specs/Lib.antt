@@ -1,4 +1,3 @@
-pub mod Place
 pub mod Words
 pub mod Fits
 pub mod State
