@@ -1,0 +1,10 @@
+// Code and tables of the lowering: words put, jumps set, functions and classes begun and ended.
+mod words;
+
+pub use words::packed;
+pub use words::put;
+pub use words::put_back;
+pub use words::put_jump;
+pub use words::put_op;
+pub use words::put_place;
+pub use words::put_small;
