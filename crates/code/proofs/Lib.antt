@@ -1,3 +1,4 @@
-pub mod Views
 pub mod Packing
 pub mod Putting
+pub mod Setting
+pub mod Patching

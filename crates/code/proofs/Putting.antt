@@ -16,7 +16,7 @@ use Rattle.state.specs.declared.Limits.{Limits}
 use Rattle.definitions.specs.Instruction.{Instr}
 use Rattle.state.specs.declared.Emitted.{Emitted}
 use Rattle.state.specs.declared.Emitted.the-variants.{Done, Full}
-use Rattle.code.proofs.Views.{length-stack, finished-words}
+use Rattle.state.proofs.Views.{stack-length, instruction-count}
 
 -- the counts with another number of open words
 abbrev pub withOpen : ℕ → Counts → Counts
@@ -91,8 +91,8 @@ module _ (t made code tables : List ℕ) (w : ℕ) (c : Counts) (l : Limits) (s 
       Emits Full t made code′ tables c l next (emitAt (c .base) (one (instrOf t w)) (stateOf t made code tables c))
   unfolding Emits emitAt emits
   put-full code′ next h = λ inside.
-      let a = length-stack t made code tables c l s in
-      let b = finished-words t made code tables c l s in
+      let a = stack-length t made code tables c l s in
+      let b = instruction-count t made code tables c l s in
       let d = length-append (stateOf t made code tables c .stack) (instrOf t w ∷ []) in
       omega (arith, inside .instructions)
 

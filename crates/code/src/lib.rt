@@ -1,6 +1,9 @@
 // Code and tables of the lowering: words put, jumps set, functions and classes begun and ended.
+mod jumps;
 mod words;
 
+pub use jumps::patch_loop;
+pub use jumps::set_jump;
 pub use words::packed;
 pub use words::put;
 pub use words::put_back;
