@@ -1,2 +1,4 @@
 pub mod Regions
 pub mod Views
+pub mod Emission
+pub mod Jumps
