@@ -5,10 +5,10 @@ use mathlib.Core.Bool.{Bool, true, false}
 use mathlib.Core.List.{List, [], _∷_, _++_, map, map-append, append-assoc}
 use native.Mathlib.Omega.{arith}
 use native.Mathlib.Nat.{le-refl, zero-add, add-zero}
-use borrow.Rule.Slice.PartMut.{putMid, midOf, postOf, mid-len, same-len-mid, drop-put}
+use borrow.Rule.Slice.PartMut.{putMid, midOf, postOf, mid-len, same-len-mid, drop-put, post-is}
 use lib.Dec.{eqb}
 use lib.ListN.{length, take, drop, set, getD, length-set, length-map, length-append}
-use lib.Seq.{take-set-lt, drop-set-lt, take-at, take-take, length-take-le}
+use lib.Seq.{take-set-lt, drop-set-lt, take-at, take-take, take-append-add, length-take-le}
 use borrow.Author.Tests.{eqb-true, eqb-false, eq-eqb, ne-eqb}
 use Rattle.definitions.specs.Instruction.{Instr, instr, Jump, minus}
 use Rattle.definitions.specs.Lower.{patched, patch}
@@ -16,15 +16,17 @@ use Rattle.state.specs.Words.{word, opOf, instrOf, instrsOf, smallInt}
 use Rattle.state.specs.State.{State, stateOf, doneFrom, Sound, Left}
 use Rattle.state.specs.declared.Counts.{Counts}
 use Rattle.state.specs.declared.Limits.{Limits}
-use Rattle.code.specs.Steps.{withStack, patchFrom, patchWord, patchWords}
+use Rattle.state.specs.Steps.{setAt, patchAt}
+use Rattle.code.specs.Patch.{patchWord, patchWords}
 use Rattle.code.proofs.Packing.{instr-jump, instr-back}
-use Rattle.code.proofs.Putting.{state-eq, tables-finished, sound-open}
+use Rattle.state.proofs.Emission.{state-eq}
+use Rattle.code.proofs.Putting.{tables-finished, sound-open}
 use Rattle.code.proofs.Setting.{mixed, mixed-read, mixed-set, mixed-all, map-set, map-take, map-drop, drop-later, drop-take}
 
 -- the open words are others, as many; the finished ones stay
 pub left-stack : (t made code code′ tables : List ℕ) (c : Counts) (l : Limits) (is : List Instr) → Sound made code tables c l →
     length code′ ≡ length code → drop doneFrom code′ ≡ drop doneFrom code → instrsOf t (take (c .open) code′) ≡ is →
-    Left c t made code′ tables c l (withStack is (stateOf t made code tables c))
+    Left c t made code′ tables c l (record { stack = is; tables = stateOf t made code tables c .tables })
 unfolding stateOf
 left-stack t made code code′ tables c l is s e d f = record {
   state = state-eq _ _ f (tables-finished t made code code′ tables c (c .open) d);
@@ -34,8 +36,8 @@ left-stack t made code code′ tables c l is s e d f = record {
 }
 
 pub jump-set : (t made code tables : List ℕ) (j op d w : ℕ) (c : Counts) (l : Limits) → Sound made code tables c l → j < c .open → 28 ≤ op → op ≤ 30 → d < 32768 → w ≡ word op d 0 →
-    Left c t made (set code j w) tables c l (withStack (set (stateOf t made code tables c .stack) j (instr op d 0)) (stateOf t made code tables c))
-unfolding stateOf instrsOf
+    Left c t made (set code j w) tables c l (setAt j (instr op d 0) (stateOf t made code tables c))
+unfolding stateOf instrsOf setAt
 jump-set t made code tables j op d w c l s h a b k e =
     left-stack t made code (set code j w) tables c l _ s (length-set code j w) (drop-set-lt doneFrom code j w (omega (arith, s .words, s .limited .instructions)))
     (ap (map (instrOf t)) (take-set-lt (c .open) code j w h) ∙ map-set (instrOf t) (take (c .open) code) j w
@@ -116,22 +118,34 @@ patch-done h i xs ys l e = e ∙ mixed-all (patchWords h (length xs) 0 xs) xs i 
 
 -- ---- the inside as a part of the code
 
-pub loop-patched : (t made code tables ys : List ℕ) (from h : ℕ) (c : Counts) (l : Limits) → Sound made code tables c l → from ≤ c .open → h ≤ from →
-    ys ≡ patchWords h (length (midOf from (c .open - from) code)) 0 (midOf from (c .open - from) code) →
-    Left c t made (putMid from (c .open - from) code ys) tables c l (withStack (patchFrom from h (stateOf t made code tables c .stack)) (stateOf t made code tables c))
-unfolding stateOf instrsOf patchFrom
-loop-patched t made code tables ys from h c l s a b e =
-    let f = instrOf t in
-    let w = midOf from (c .open - from) code in
-    let room : c .open ≤ length code = omega (arith, s .words, s .limited .instructions, s .code-room) in
-    let n : length w ≡ c .open - from = mid-len from (c .open) code room in
-    let m : length ys ≡ length w = ap length e ∙ length-patched h (length w) 0 w in
-    let d : drop from (map f (take (c .open) code)) ≡ map f w = sym (map-drop f from (take (c .open) code)) ∙ ap (map f) (drop-take from (c .open) code a (omega arith)) in
-    let u : length (take from code ++ ys) ≡ c .open = length-append (take from code) ys ∙ omega (arith, length-take-le from code (omega arith)) in
-    left-stack t made code (putMid from (c .open - from) code ys) tables c l _ s (same-len-mid from (c .open - from) code ys m)
-    (drop-later (c .open) doneFrom _ code (omega (arith, s .words, s .limited .instructions)) (drop-put from (c .open) code ys a room (m ∙ n)))
-    (ap (map f) (ap (take (c .open)) (sym (append-assoc (take from code) ys (postOf from (c .open - from) code))) ∙ take-at (take from code ++ ys) (postOf from (c .open - from) code) (c .open) u)
-    ∙ map-append f (take from code) ys
-    ∙ (λ j. (ap (map f) (sym (take-take from (c .open) code a)) ∙ map-take f from (take (c .open) code)) j
-    ++ (ap (map f) e ∙ words-patched t h (length w) 0 w (omega arith) (omega (arith, s .words, s .limited .instructions))
-    ∙ ap (λ (k : ℕ). patch h k 0 (map f w)) (sym (length-map w f)) ∙ ap (λ (x : List Instr). patch h (length x) 0 x) (sym d)) j))
+module _ (t made code tables ys : List ℕ) (h from n to : ℕ) (c : Counts) (l : Limits) (s : Sound made code tables c l) (e : to ≡ from + n) (within : to ≤ c .open) (early : h ≤ from) where
+  rest-stack : drop to (map (instrOf t) (take (c .open) code)) ≡ map (instrOf t) (take (c .open - to) (drop to code))
+  rest-stack = sym (map-drop (instrOf t) to (take (c .open) code)) ∙ ap (map (instrOf t)) (drop-take to (c .open) code within (omega (arith, s .words, s .limited .instructions, s .code-room)))
+
+  inside-stack : take n (drop from (map (instrOf t) (take (c .open) code))) ≡ map (instrOf t) (midOf from (to - from) code)
+  inside-stack =
+      let k : to - from ≡ n = omega arith in
+      ap (take n) (sym (map-drop (instrOf t) from (take (c .open) code)) ∙ ap (map (instrOf t)) (drop-take from (c .open) code (omega arith) (omega (arith, s .words, s .limited .instructions, s .code-room))))
+      ∙ sym (map-take (instrOf t) n (take (c .open - from) (drop from code)))
+      ∙ ap (map (instrOf t)) (take-take n (c .open - from) (drop from code) (omega arith) ∙ ap (λ (m : ℕ). take m (drop from code)) (sym k))
+
+  pub loop-patched : ys ≡ patchWords h (length (midOf from (to - from) code)) 0 (midOf from (to - from) code) →
+      Left c t made (putMid from (to - from) code ys) tables c l (patchAt h from n (stateOf t made code tables c))
+  unfolding stateOf instrsOf patchAt
+  loop-patched f =
+      let i = instrOf t in
+      let w = midOf from (to - from) code in
+      let room : to ≤ length code = omega (arith, s .words, s .limited .instructions, s .code-room) in
+      let m : length w ≡ to - from = mid-len from to code room in
+      let k : length w ≡ n = omega arith in
+      let u : length ys ≡ length w = ap length f ∙ length-patched h (length w) 0 w in
+      let v : length (take from code ++ ys) + (c .open - to) ≡ c .open = omega (arith, length-append (take from code) ys, length-take-le from code (omega arith)) in
+      left-stack t made code (putMid from (to - from) code ys) tables c l _ s (same-len-mid from (to - from) code ys u)
+      (drop-later to doneFrom _ code (omega (arith, s .words, s .limited .instructions)) (drop-put from to code ys (omega arith) room (u ∙ m)))
+      (ap (map i) (ap (take (c .open)) (sym (append-assoc (take from code) ys (postOf from (to - from) code)) ∙ ap (λ (z : List ℕ). take from code ++ ys ++ z) (post-is from to code (omega arith)))
+      ∙ ap (λ (z : ℕ). take z (take from code ++ ys ++ drop to code)) (sym v) ∙ take-append-add (take from code ++ ys) (drop to code) (c .open - to))
+      ∙ map-append i (take from code ++ ys) (take (c .open - to) (drop to code)) ∙ ap (λ (z : List Instr). z ++ map i (take (c .open - to) (drop to code))) (map-append i (take from code) ys)
+      ∙ append-assoc (map i (take from code)) (map i ys) (map i (take (c .open - to) (drop to code)))
+      ∙ (λ j. (ap (map i) (sym (take-take from (c .open) code (omega arith))) ∙ map-take i from (take (c .open) code)) j
+      ++ ((ap (map i) f ∙ words-patched t h (length w) 0 w (omega arith) (omega (arith, s .words, s .limited .instructions))
+      ∙ (λ q. patch h (k q) 0 (sym inside-stack q))) j ++ (sym rest-stack ∙ ap (λ (z : ℕ). drop z (map i (take (c .open) code))) e) j)))

@@ -17,6 +17,7 @@ use Rattle.definitions.specs.Instruction.{Instr}
 use Rattle.state.specs.declared.Emitted.{Emitted}
 use Rattle.state.specs.declared.Emitted.the-variants.{Done, Full}
 use Rattle.state.proofs.Views.{stack-length, instruction-count}
+use Rattle.state.proofs.Emission.{state-eq}
 
 -- the counts with another number of open words
 abbrev pub withOpen : ℕ → Counts → Counts
@@ -32,9 +33,6 @@ withOpen n c = record {
   base = c .base;
   done = c .done;
 }
-
-pub state-eq : (s u : State) → s .stack ≡ u .stack → s .tables ≡ u .tables → s ≡ u
-state-eq s u p q = λ i. record { stack = p i; tables = q i }
 
 -- the tables see only the finished words
 pub tables-finished : (t made code code′ tables : List ℕ) (c : Counts) (n : ℕ) → drop doneFrom code′ ≡ drop doneFrom code →

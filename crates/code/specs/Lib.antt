@@ -1,2 +1,2 @@
 pub mod Ops
-pub mod Steps
+pub mod Patch

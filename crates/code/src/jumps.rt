@@ -4,10 +4,11 @@ use state::Counts;
 use state::Limits;
 ghost use mathlib.Core.Path.{_≡_};
 ghost use Prim.Native.Nat.{_+_, _≤_, _<_};
-ghost use lib.ListN.{length, set};
+ghost use lib.ListN.{length};
 ghost use Rattle.definitions.specs.Instruction.{instr};
 ghost use Rattle.state.specs.State.{stateOf, Sound, Left};
-ghost use Rattle.code.specs.Steps.{withStack, patchFrom, patchWord, patchWords};
+ghost use Rattle.state.specs.Steps.{setAt, patchAt};
+ghost use Rattle.code.specs.Patch.{patchWord, patchWords};
 
 // The word at j of the stack becomes a jump (28 to 30) over d instructions.
 pub fn set_jump(
@@ -23,8 +24,7 @@ pub fn set_jump(
 )
     requires { ⌜ Sound (now made) (now code) (now tables) c l × (j < c .open) × (28 ≤ op) × (op ≤ 30) × (d < 32768) ⌝ }
     ensures { λ _. ⌜ Left c (now (tree .entry)) (now (made .entry)) (now (code .exit)) (now (tables .entry)) c l
-        (withStack (set (stateOf (now (tree .entry)) (now (made .entry)) (now (code .entry)) (now (tables .entry)) c .stack) j (instr op d 0))
-        (stateOf (now (tree .entry)) (now (made .entry)) (now (code .entry)) (now (tables .entry)) c)) ⌝ }
+        (setAt j (instr op d 0) (stateOf (now (tree .entry)) (now (made .entry)) (now (code .entry)) (now (tables .entry)) c)) ⌝ }
 {
     let w = packed(op, d, 0);
     code[j] = w;
@@ -59,22 +59,22 @@ fn patch_words(inside: &mut [u32], h: usize)
     }
 }
 
-// The stack from `from` on is a loop's inside, after h words of the loop: its pending breaks and continues are made jumps.
+// The n words of the stack from `from` on are a loop's inside, after h words of the loop: its pending breaks and continues are made jumps.
 pub fn patch_loop(
     tree: &[u8],
     made: &[u8],
     code: &mut [u32],
     tables: &[u32],
-    from: usize,
     h: usize,
+    from: usize,
+    n: usize,
     c: Counts,
     l: Limits,
 )
-    requires { ⌜ Sound (now made) (now code) (now tables) c l × (from ≤ c .open) × (h ≤ from) ⌝ }
+    requires { ⌜ Sound (now made) (now code) (now tables) c l × (from + n ≤ c .open) × (h ≤ from) ⌝ }
     ensures { λ _. ⌜ Left c (now (tree .entry)) (now (made .entry)) (now (code .exit)) (now (tables .entry)) c l
-        (withStack (patchFrom from h (stateOf (now (tree .entry)) (now (made .entry)) (now (code .entry)) (now (tables .entry)) c .stack))
-        (stateOf (now (tree .entry)) (now (made .entry)) (now (code .entry)) (now (tables .entry)) c)) ⌝ }
+        (patchAt h from n (stateOf (now (tree .entry)) (now (made .entry)) (now (code .entry)) (now (tables .entry)) c)) ⌝ }
 {
-    let to = c.open as usize;
+    let to = from + n;
     patch_words(&mut code[from..to], h);
 }

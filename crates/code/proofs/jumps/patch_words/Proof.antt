@@ -2,7 +2,7 @@ use mathlib.Core.Path.{_≡_, refl, ap, _∙_}
 use Prim.Native.Nat.{ℕ, _-_, _≤_}
 use native.Mathlib.Omega.{arith}
 use lib.ListN.{length, getD, length-set}
-use Rattle.code.specs.Steps.{patchWord, patchWords}
+use Rattle.code.specs.Patch.{patchWord, patchWords}
 use Rattle.code.proofs.Setting.{mixed}
 use Rattle.code.proofs.Patching.{patch-step, patch-done}
 use Rattle.code.proofs.jumps.patch_words.Statement.{statement}
