@@ -2,3 +2,5 @@ pub mod Packing
 pub mod Putting
 pub mod Setting
 pub mod Patching
+pub mod Begun
+pub mod Ended

@@ -1,11 +1,11 @@
 -- A list that is replaced in place, element by element; words that are set.
 use Prim.Native.Nat.{ℕ, zero, suc, _+_, _-_, _≤_, _<_}
 use mathlib.Core.Path.{_≡_, refl, sym, ap, _∙_}
-use mathlib.Core.List.{List, [], _∷_, _++_, map, append-nil}
+use mathlib.Core.List.{List, [], _∷_, _++_, map, append-nil, append-assoc}
 use native.Mathlib.Omega.{arith}
 use native.Mathlib.Numerals.{add-one}
-use lib.ListN.{length, take, drop, set, getD, drop-of-length-le}
-use lib.Seq.{take-all, take-at, drop-at, take-add, drop-nil, drop-drop, length-take-le}
+use lib.ListN.{length, take, drop, set, getD, length-drop, drop-of-length-le, List·getD-append}
+use lib.Seq.{paste, paste-suc, getD-take, getD-drop, take-all, take-at, drop-at, take-add, drop-nil, drop-drop, length-take-le}
 
 -- the first i are those of P, the others those of xs
 abbrev pub mixed : ℕ → List ℕ → List ℕ → List ℕ
@@ -59,3 +59,21 @@ pub drop-take : (a b : ℕ) (xs : List ℕ) → a ≤ b → a ≤ length xs → 
 drop-take a b xs h k =
     let s : b ≡ a + (b - a) = omega arith in
     ap (λ (n : ℕ). drop a (take n xs)) s ∙ ap (drop a) (take-add a (b - a) xs) ∙ drop-at (take a xs) (take (b - a) (drop a xs)) a (length-take-le a xs k)
+
+-- one word more of a list is copied
+pub paste-step : (d s xs : List ℕ) (at i v : ℕ) → at + i < length d → i < length s → xs ≡ paste d at s i → v ≡ getD s i 0 → set xs (at + i) v ≡ paste d at s (i + 1)
+paste-step d s xs at i v h k e f = rw (e, f, add-one) (paste-suc d at s i 0 h k)
+
+-- what is before the copy is as it was
+pub paste-before : (d s : List ℕ) (at n i : ℕ) → at ≤ length d → i < at → getD (paste d at s n) i 0 ≡ getD d i 0
+paste-before d s at n i h k =
+    let m = length-take-le at d h in
+    ap (λ (z : List ℕ). getD z i 0) (append-assoc (take at d) (take n s) (drop (at + n) d))
+    ∙ List·getD-append (take at d) (take n s ++ drop (at + n) d) 0 i (omega arith) ∙ getD-take at d i 0 k
+
+-- one word more of the list itself, from an earlier place
+pub move-step : (d xs : List ℕ) (from to n i : ℕ) → from + n ≤ to → to + n ≤ length d → i < n → xs ≡ paste d to (drop from d) i →
+    set xs (to + i) (getD xs (from + i) 0) ≡ paste d to (drop from d) (i + 1)
+move-step d xs from to n i h k l e =
+    paste-step d (drop from d) xs to i _ (omega arith) (simp length-drop (omega arith)) e
+    (ap (λ (z : List ℕ). getD z (from + i) 0) e ∙ paste-before d (drop from d) to i (from + i) (omega arith) (omega arith) ∙ sym (getD-drop from d i 0))

@@ -1,7 +1,10 @@
 // Code and tables of the lowering: words put, jumps set, functions and classes begun and ended.
+mod functions;
 mod jumps;
 mod words;
 
+pub use functions::begin_function;
+pub use functions::end_function;
 pub use jumps::patch_loop;
 pub use jumps::set_jump;
 pub use words::packed;
