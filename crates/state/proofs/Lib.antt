@@ -4,3 +4,4 @@ pub mod Emission
 pub mod Jumps
 pub mod Enclosing
 pub mod ExprEmission
+pub mod StmtEmission
