@@ -5,3 +5,4 @@ pub mod Jumps
 pub mod Enclosing
 pub mod ExprEmission
 pub mod StmtEmission
+pub mod Growth
