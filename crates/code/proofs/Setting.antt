@@ -6,7 +6,6 @@ use native.Mathlib.Omega.{arith}
 use native.Mathlib.Numerals.{add-one}
 use lib.ListN.{length, take, drop, set, getD, length-drop, length-set, drop-of-length-le, List·getD-append}
 use lib.Seq.{paste, paste-suc, getD-take, getD-drop, take-take, take-all, take-at, drop-at, take-add, drop-nil, drop-drop, length-take-le}
-
 use Rattle.state.specs.Words.{region}
 use Rattle.state.proofs.Regions.{set-below, set-above, set-next}
 
