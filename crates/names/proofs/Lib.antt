@@ -1,3 +1,5 @@
 pub mod Spelling
 pub mod Finding
 pub mod Numbering
+pub mod Pasting
+pub mod MadeNames
