@@ -53,21 +53,10 @@ pub fn intern(
         return Numbered::Over;
     }
     tables[n as usize] = w;
-    Numbered::At(
-        n,
-        Counts {
-            symbols: n + 1,
-            strings: c.strings,
-            functions: c.functions,
-            classes: c.classes,
-            methods: c.methods,
-            constants: c.constants,
-            made: c.made + grow,
-            open: c.open,
-            base: c.base,
-            done: c.done,
-        },
-    )
+    let mut k = c;
+    k.symbols = n + 1;
+    k.made = c.made + grow;
+    Numbered::At(n, k)
 }
 
 // The number of the string at `at`, or n.
@@ -105,19 +94,7 @@ pub fn get_or_add_string(
         return Numbered::Over;
     }
     tables[1024 + n as usize] = at as u32;
-    Numbered::At(
-        n,
-        Counts {
-            symbols: c.symbols,
-            strings: n + 1,
-            functions: c.functions,
-            classes: c.classes,
-            methods: c.methods,
-            constants: c.constants,
-            made: c.made,
-            open: c.open,
-            base: c.base,
-            done: c.done,
-        },
-    )
+    let mut k = c;
+    k.strings = n + 1;
+    Numbered::At(n, k)
 }
