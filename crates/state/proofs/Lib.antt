@@ -6,3 +6,4 @@ pub mod Enclosing
 pub mod ExprEmission
 pub mod StmtEmission
 pub mod Growth
+pub mod Within
