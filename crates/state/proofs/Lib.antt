@@ -7,3 +7,4 @@ pub mod ExprEmission
 pub mod StmtEmission
 pub mod Growth
 pub mod Within
+pub mod WithinParts
