@@ -3,3 +3,5 @@ pub mod Finding
 pub mod Numbering
 pub mod Pasting
 pub mod MadeNames
+pub mod Answers
+pub mod Naming

@@ -59,6 +59,25 @@ module _ (x : Name) (t : Tables) where
   unfolding stringNumber
   string-le = found-le (same x) (t .strings)
 
+  -- the number is that of an entry
+  pub symbol-in : symbolNumber x t < length (withSymbol x t .symbols)
+  unfolding symbolNumber withSymbol foundOr
+  symbol-in = go (position (same x) (t .symbols)) (position-lt (same x) (t .symbols))
+    where
+      go : (o : Option ℕ) → ((k : ℕ) → o ≡ some k → k < length (t .symbols)) →
+          foundOr (length (t .symbols)) o < length ((elim o as (λ z. Tables) [ some k ↦ t | none ↦ addSymbol x t ]) .symbols)
+      go none f = omega (arith, length-append (t .symbols) (x ∷ []))
+      go (some k) f = f k refl
+
+  pub string-in : stringNumber x t < length (withString x t .strings)
+  unfolding stringNumber withString foundOr
+  string-in = go (position (same x) (t .strings)) (position-lt (same x) (t .strings))
+    where
+      go : (o : Option ℕ) → ((k : ℕ) → o ≡ some k → k < length (t .strings)) →
+          foundOr (length (t .strings)) o < length ((elim o as (λ z. Tables) [ some k ↦ t | none ↦ addString x t ]) .strings)
+      go none f = omega (arith, length-append (t .strings) (x ∷ []))
+      go (some k) f = f k refl
+
 -- ---- tables by their lists
 
 pub tables-eq : (t u : Tables) → t .symbols ≡ u .symbols → t .strings ≡ u .strings → t .functions ≡ u .functions → t .classes ≡ u .classes → t .constants ≡ u .constants → t ≡ u
