@@ -6,3 +6,5 @@ pub mod Enclosing
 pub mod ExprEmission
 pub mod StmtEmission
 pub mod Growth
+pub mod Within
+pub mod WithinParts
