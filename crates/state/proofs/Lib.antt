@@ -8,3 +8,4 @@ pub mod StmtEmission
 pub mod Growth
 pub mod Within
 pub mod WithinParts
+pub mod SlotsFit
