@@ -9,3 +9,4 @@ pub mod Growth
 pub mod Within
 pub mod WithinParts
 pub mod SlotsFit
+pub mod Answers
