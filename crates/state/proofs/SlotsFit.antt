@@ -8,7 +8,7 @@ use mathlib.Core.List.{List, [], _∷_, _++_}
 use native.Mathlib.Omega.{arith}
 use lib.ListN.{length}
 use lib.Dec.{leb}
-use Rattle.definitions.specs.Bytes.{Name, Text, Answer, accepted, same, position, all}
+use Rattle.definitions.specs.Bytes.{Name, Text, accepted, same, position, all}
 use Rattle.definitions.specs.Tree.{Literal, noneL, boolL, intL, floatL, stringL, Display, listD, tupleD, dictD, setD, treeSetD}
 use Rattle.definitions.specs.Tree.{Expr, lit, var, unary, binary, logical, call, attr, display, index, lambda, Exprs, []ᵉ, _∷ᵉ_, count, View, asVar, asAttr, asIndex, asTuple, asOther, view, viewDisplay}
 use Rattle.definitions.specs.Tree.{Stmt, break, continue, pass, expr, return, assign, if, while, for, def, class, Block, []ᵇ, _∷ᵇ_, Branches, done, else, when, Methods, []ᵐ, method}

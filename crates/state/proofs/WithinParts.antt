@@ -1,16 +1,16 @@
 -- The parts of each form of expression and statement are within the limits if the whole is.
-use Prim.Native.Nat.{ℕ, zero, suc, _+_, _-_, _≤_, _<_}
-use mathlib.Core.Path.{_≡_, refl, sym, ap, _∙_}
+use Prim.Native.Nat.{ℕ, suc, _-_, _≤_}
+use mathlib.Core.Path.{_≡_, refl}
 use mathlib.Core.Bool.{Bool, true}
-use mathlib.Core.List.{List, [], _∷_, _++_}
+use mathlib.Core.List.{List, _∷_}
 use lib.ListN.{length}
 use Rattle.definitions.specs.Bytes.{Name, Text}
 use Rattle.definitions.specs.Tree.{stringL, UnaryOp, BinaryOp, LogicalOp, Display, tupleD, Expr, var, unary, binary, logical, call, attr, display, index, Exprs, _∷ᵉ_, count, view, viewDisplay}
 use Rattle.definitions.specs.Tree.{Stmt, expr, return, assign, if, while, for, Block, _∷ᵇ_, Branches, when}
 use Rattle.definitions.specs.Instruction
-use Rattle.definitions.specs.Instruction.{Instr, Jump, ConstBool, minus}
-use Rattle.definitions.specs.Tables.{Emit, emits, one, _⨟_, here, intern}
-use Rattle.definitions.specs.Lower.{load, loads, store, literal, decides, shortcut, displaySize, builtinCallee, functionCallee, valueCallee, resolve, emitExpr, emitExprs, assignBy, copy, unpack, emitTarget, loop, iterName, makeIter, namedIter, askIter, takeIter, emitStmt, emitBlock}
+use Rattle.definitions.specs.Instruction.{Instr, Jump, ConstBool}
+use Rattle.definitions.specs.Tables.{Emit, one, _⨟_, intern}
+use Rattle.definitions.specs.Lower.{load, loads, literal, decides, shortcut, displaySize, builtinCallee, functionCallee, valueCallee, resolve, emitExpr, emitExprs, assignBy, copy, unpack, loop, iterName, makeIter, emitStmt, emitBlock}
 use Rattle.state.specs.State.{State, emitAt, Within, symbolNumber, withSymbol, withString, withTables}
 use Rattle.state.specs.Steps.{isComputed, branch}
 use Rattle.state.specs.declared.Limits.{Limits}
@@ -18,7 +18,7 @@ use Rattle.state.proofs.Emission.{base-kept}
 use Rattle.state.proofs.ExprEmission.{at-symbol, at-text, at-call-builtin, at-call-function, at-call-named, at-call-method, at-call-value, at-exprs-more}
 use Rattle.state.proofs.StmtEmission.{at-unpack-more, at-block-more, at-for}
 use Rattle.state.proofs.Enclosing.{at-loads-more}
-use Rattle.state.proofs.Growth.{Lengthens, lengthens-one, lengthens-symbol, lengthens-seq, lengthens-shortcut, lengthens-load, lengthens-loads, lengthens-store, lengthens-expr, lengthens-exprs, lengthens-target, lengthens-unpack, lengthens-copy, lengthens-loop, lengthens-askIter, lengthens-takeIter, lengthens-makeIter, lengthens-namedIter, lengthens-stmt, lengthens-block}
+use Rattle.state.proofs.Growth.{Lengthens, lengthens-one, lengthens-symbol, lengthens-seq, lengthens-shortcut, lengthens-loads, lengthens-store, lengthens-expr, lengthens-exprs, lengthens-target, lengthens-unpack, lengthens-copy, lengthens-loop, lengthens-askIter, lengthens-takeIter, lengthens-makeIter, lengthens-namedIter, lengthens-block}
 use Rattle.state.proofs.Within.{within-down, within-one, within-first, within-second, within-two, within-shortcut, within-loop, within-when}
 
 -- ---- names, strings
