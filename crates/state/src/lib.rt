@@ -1,0 +1,37 @@
+// What the lowering keeps in the slices lent to it: counts, limits, and what a step answers.
+
+// How much of each table is used, and of the two halves of the code area: `open` words of functions not done yet, of which the innermost begins at
+// `base`, and `done` words of finished ones.
+pub struct Counts {
+    pub symbols: u32,
+    pub strings: u32,
+    pub functions: u32,
+    pub classes: u32,
+    pub methods: u32,
+    pub constants: u32,
+    pub made: u32,
+    pub open: u32,
+    pub base: u32,
+    pub done: u32,
+}
+
+// Question 15: how many functions, symbols, strings, classes and instructions a module may have.
+pub struct Limits {
+    pub functions: u32,
+    pub symbols: u32,
+    pub strings: u32,
+    pub classes: u32,
+    pub instructions: u32,
+}
+
+// The next position in the tree and the counts; or that the module is over the limits.
+pub enum Emitted {
+    Done(usize, Counts),
+    Full,
+}
+
+// A number and the counts; or that the module is over the limits.
+pub enum Numbered {
+    At(u32, Counts),
+    Over,
+}
