@@ -3,19 +3,21 @@ use Prim.Native.Nat.{ℕ, _+_, _≤_, _<_}
 use mathlib.Core.Path.{_≡_, refl, sym, ap, subst, _∙_}
 use mathlib.Core.Bool.{Bool, true, false, _&&_, _||_}
 use mathlib.Core.Option.{Option, none, some}
-use mathlib.Core.List.{List}
+use mathlib.Core.List.{List, _∷_, map}
 use native.Mathlib.Omega.{arith}
 use lib.Dec.{leb}
-use lib.ListN.{length}
+use lib.ListN.{length, drop, getD, drop-of-length-le}
+use lib.Seq.{drop-cons}
+use native.Mathlib.Numerals.{add-one}
 use borrow.Author.Tests.{ne-eqb, lt-leb}
 use Rattle.definitions.specs.Bytes.{Name, Text, same, position}
 use Rattle.definitions.specs.Instruction.{Instr, instr}
 use Rattle.definitions.specs.Tables.{Tables, Emit, one, intern, getOrAddString}
-use Rattle.definitions.specs.Lower.{load, store}
+use Rattle.definitions.specs.Lower.{load, store, loads}
 use Rattle.definitions.specs.Reader.{isJump}
 use Rattle.definitions.proofs.Resolve.{position-lt}
-use Rattle.state.specs.Words.{smallInt}
-use Rattle.state.specs.State.{State, stateOf, emitAt, Within, Sound, Left, Emits, Numbers, foundOr, symbolNumber, withSymbol, stringNumber, withString, withTables}
+use Rattle.state.specs.Words.{nameAt, smallInt}
+use Rattle.state.specs.State.{namesAt, State, stateOf, emitAt, Within, Sound, Left, Emits, Numbers, foundOr, symbolNumber, withSymbol, stringNumber, withString, withTables}
 use Rattle.state.specs.declared.Counts.{Counts}
 use Rattle.state.specs.declared.Limits.{Limits}
 use Rattle.state.specs.declared.Emitted.{Emitted}
@@ -24,6 +26,7 @@ use Rattle.state.specs.declared.Numbered.{Numbered}
 use Rattle.state.specs.declared.Numbered.the-variants.{At, Over}
 use Rattle.state.proofs.Views.{symbols-length, strings-length}
 use Rattle.state.proofs.Emission.{at-intern, at-string}
+use Rattle.state.proofs.Enclosing.{at-loads-none, at-loads-more}
 use Rattle.state.proofs.Within.{within-one}
 use Rattle.names.proofs.Numbering.{symbol-in, string-in}
 use Rattle.code.specs.Ops.{special, Plain}
@@ -163,3 +166,18 @@ at-store base slots x s = go (position (same x) slots)
     go : (o : Option ℕ) → emitAt base (variableBy 10 x o) s ≡ emitAt base (elim o as (λ z. Emit) [ some i ↦ one (instr 10 i 0) | none ↦ intern x (λ k. one (instr 12 k 0)) ]) s
     go none = refl
     go (some i) = refl
+
+-- ---- variables at places, one after the other
+
+module _ (base : ℕ) (slots : List Name) (tree places : List ℕ) (s : State) where
+  pub loads-more : (i : ℕ) → i < length places → base ≤ length (s .stack)
+      → emitAt base (loads slots (namesAt tree (drop i places))) s
+      ≡ emitAt base (loads slots (namesAt tree (drop (i + 1) places))) (emitAt base (load slots (nameAt tree (getD places i 0))) s)
+  unfolding namesAt
+  loads-more i h b =
+      ap (λ (ps : List ℕ). emitAt base (loads slots (map (nameAt tree) ps)) s) (drop-cons places i 0 h ∙ ap (λ (k : ℕ). getD places i 0 ∷ drop k places) (sym (add-one i)))
+      ∙ at-loads-more base slots (nameAt tree (getD places i 0)) (map (nameAt tree) (drop (i + 1) places)) s b
+
+  pub loads-end : (i : ℕ) → length places ≤ i → emitAt base (loads slots (namesAt tree (drop i places))) s ≡ s
+  unfolding namesAt
+  loads-end i h = ap (λ (ps : List ℕ). emitAt base (loads slots (map (nameAt tree) ps)) s) (drop-of-length-le places h) ∙ at-loads-none base slots s

@@ -17,9 +17,9 @@ ghost use Rattle.definitions.specs.Bytes.{same, position};
 ghost use Rattle.definitions.specs.Instruction.{instr, ConstStr};
 ghost use Rattle.definitions.specs.Tables as Tables;
 ghost use Rattle.definitions.specs.Tables.{one, getOrAddString};
-ghost use Rattle.definitions.specs.Lower.{load, store};
+ghost use Rattle.definitions.specs.Lower.{load, store, loads};
 ghost use Rattle.state.specs.Words.{nameAt, textAt};
-ghost use Rattle.state.specs.State.{namesAt, stateOf, emitAt, Sound, Emits, foundOr};
+ghost use Rattle.state.specs.State.{namesAt, stateOf, emitAt, Sound, Every, Emits, foundOr};
 ghost use Rattle.code.specs.Ops.{Plain};
 ghost use Rattle.names.specs.Made.{madeName};
 ghost use Rattle.names.specs.Variable.{variable};
@@ -168,4 +168,35 @@ pub fn emit_store(
         (stateOf (now (tree .entry)) (now (made .entry)) (now (code .entry)) (now (tables .entry)) c)) ⌝ }
 {
     emit_variable(tree, slots, made, code, tables, at, 10, next, c, l)
+}
+
+// The values of the variables at `places`.
+pub fn emit_loads(
+    tree: &[u8],
+    slots: &[u32],
+    made: &[u8],
+    code: &mut [u32],
+    tables: &mut [u32],
+    places: &[u32],
+    next: usize,
+    c: Counts,
+    l: Limits,
+) -> Emitted
+    requires { ⌜ Sound (now made) (now code) (now tables) c l × (length (now slots) < 256) × Every (λ p. p < 32768) (now places) ⌝ }
+    ensures { λ r. ⌜ Emits r (now (tree .entry)) (now (made .entry)) (now (code .exit)) (now (tables .exit)) c l next
+        (emitAt (c .base) (loads (namesAt (now (tree .entry)) (now (slots .entry))) (namesAt (now (tree .entry)) (now (places .entry))))
+        (stateOf (now (tree .entry)) (now (made .entry)) (now (code .entry)) (now (tables .entry)) c)) ⌝ }
+{
+    let mut i = 0;
+    let mut k = c;
+    while i < places.len() {
+        let at = places[i] as usize;
+        let one = emit_load(tree, slots, made, code, tables, at, next, k, l);
+        let Emitted::Done(_, d) = one else {
+            return Emitted::Full;
+        };
+        k = d;
+        i += 1;
+    }
+    Emitted::Done(next, k)
 }
