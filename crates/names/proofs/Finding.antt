@@ -102,6 +102,14 @@ module _ (f : ℕ → Name) (ts : List ℕ) (a m n : ℕ) (x y : Name) (r : ℕ)
   unfolding region
   sought e k = k ∙ (λ j. foundOr (part-length j) (position (same (e j)) (map f (take (size j) (drop a ts)))))
 
+-- a word that is found by a test
+pub sought-word : (test : ℕ → Bool) (ts : List ℕ) (a m n r : ℕ) → a + n ≤ length ts → m ≡ n → r ≡ foundOr (length (take m (drop a ts))) (position test (take m (drop a ts)))
+    → r ≡ foundOr n (position test (region a n ts))
+unfolding region
+sought-word test ts a m n r inside size k =
+    let e : length (take m (drop a ts)) ≡ n = length-take-le m (drop a ts) (let d = length-drop a ts in omega arith) ∙ size in
+    k ∙ (λ j. foundOr (e j) (position test (take (size j) (drop a ts))))
+
 -- ---- names at places
 
 pub names-length : (tree ps : List ℕ) → length (namesAt tree ps) ≡ length ps

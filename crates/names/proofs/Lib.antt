@@ -5,3 +5,4 @@ pub mod Pasting
 pub mod MadeNames
 pub mod Answers
 pub mod Naming
+pub mod Calling
