@@ -1,11 +1,11 @@
 -- A function that ends: its words are copied after the finished ones, and its place is set.
 use Prim.Native.Nat.{ℕ, zero, suc, _+_, _*_, _-_, _/_, _%_, _^_, _≤_, _<_}
 use mathlib.Core.Path.{_≡_, refl, sym, ap, _∙_, subst}
-use mathlib.Core.List.{List, [], _∷_, _++_, map, append-assoc}
+use mathlib.Core.List.{List, [], _∷_, _++_, map}
 use native.Mathlib.Omega.{arith}
 use native.Mathlib.Nat.{le-refl}
 use lib.ListN.{length, take, drop, set, getD, length-set, length-drop, length-map}
-use lib.Seq.{paste, length-paste, take-at, drop-at, drop-drop, take-take, length-take-le}
+use lib.Seq.{paste, length-paste, take-take}
 use Rattle.definitions.specs.Instruction.{Instr}
 use Rattle.definitions.specs.Tables.{Function, Class, Tables, setCode}
 use Rattle.state.specs.Words.{region, textAt, instrOf, instrsOf}
@@ -16,7 +16,7 @@ use Rattle.state.specs.declared.Limits.{Limits}
 use Rattle.state.proofs.Regions.{region-same, region-length, region-drop, set-here, set-below, set-above, every-map, every-set, ends-within-more, functions-set, functions-same, total-set}
 use Rattle.state.proofs.Emission.{state-eq}
 use Rattle.code.specs.Nesting.{bodyOf, Moved}
-use Rattle.code.proofs.Setting.{map-take, map-drop, drop-take}
+use Rattle.code.proofs.Setting.{map-take, map-drop, drop-take, paste-take, paste-here}
 use Rattle.code.proofs.Begun.{tables-eq}
 
 -- the code of function f is as long as its count says
@@ -42,20 +42,6 @@ without b c = record {
   done = c .done + (c .open - c .base);
 }
 
--- the code after the copy
-module _ (d : List ℕ) (at from n : ℕ) (room : at + n ≤ length d) (below : from + n ≤ at) where
-  pub paste-take : (m : ℕ) → m ≤ at → take m (paste d at (drop from d) n) ≡ take m d
-  paste-take m h =
-      sym (take-take m at (paste d at (drop from d) n) h)
-      ∙ ap (take m) (ap (take at) (append-assoc (take at d) (take n (drop from d)) (drop (at + n) d)) ∙ take-at (take at d) (take n (drop from d) ++ drop (at + n) d) at (length-take-le at d (omega arith)))
-      ∙ take-take m at d h
-
-  pub paste-here : region at n (paste d at (drop from d) n) ≡ take n (drop from d)
-  unfolding region
-  paste-here =
-      ap (take n) (ap (drop at) (append-assoc (take at d) (take n (drop from d)) (drop (at + n) d)) ∙ drop-at (take at d) (take n (drop from d) ++ drop (at + n) d) at (length-take-le at d (omega arith)))
-      ∙ take-at (take n (drop from d)) (drop (at + n) d) n (length-take-le n (drop from d) (simp length-drop (omega arith)))
-
 module _ (t made code tables : List ℕ) (f b w : ℕ) (c : Counts) (l : Limits) (s : Sound made code tables c l) (number : f < c .functions)
     (place : w ≡ c .done * 65536 + (c .open - c .base)) where
   abbrev n : ℕ
@@ -79,8 +65,8 @@ module _ (t made code tables : List ℕ) (f b w : ℕ) (c : Counts) (l : Limits)
   room : doneFrom + c .done + n ≤ length code
   room = let z = small in omega arith
 
-  below : c .base + n ≤ doneFrom + c .done
-  below = let z = small in omega arith
+  enough : n ≤ length (drop (c .base) code)
+  enough = let z = small in simp length-drop (omega arith)
 
   place-of : placeOf w ≡ c .done
   place-of = let z = small in omega arith
@@ -91,10 +77,10 @@ module _ (t made code tables : List ℕ) (f b w : ℕ) (c : Counts) (l : Limits)
   -- the finished words so far stay, and the new ones are there
   finished-same : take (c .done) (drop doneFrom code) ≡ take (c .done) (drop doneFrom moved)
   unfolding region
-  finished-same = sym (region-same (doneFrom + c .done) doneFrom (c .done) moved code (le-refl _) (paste-take code (doneFrom + c .done) (c .base) n room below (doneFrom + c .done) (le-refl _)))
+  finished-same = sym (region-same (doneFrom + c .done) doneFrom (c .done) moved code (le-refl _) (paste-take code (drop (c .base) code) (doneFrom + c .done) n room enough (doneFrom + c .done) (le-refl _)))
 
   new-words : region (placeOf w) (countOf w) (drop doneFrom moved) ≡ take n (drop (c .base) code)
-  new-words = (λ i. region (place-of i) (count-of i) (drop doneFrom moved)) ∙ region-drop doneFrom (c .done) n moved ∙ paste-here code (doneFrom + c .done) (c .base) n room below
+  new-words = (λ i. region (place-of i) (count-of i) (drop doneFrom moved)) ∙ region-drop doneFrom (c .done) n moved ∙ paste-here code (drop (c .base) code) (doneFrom + c .done) n room enough
 
   new-code : instrsOf t (region (placeOf w) (countOf w) (drop doneFrom moved)) ≡ drop (c .base) (instrsOf t (take (c .open) code))
   unfolding instrsOf
@@ -120,7 +106,7 @@ module _ (t made code tables : List ℕ) (f b w : ℕ) (c : Counts) (l : Limits)
   stack-after : instrsOf t (take (c .base) moved) ≡ take (c .base) (instrsOf t (take (c .open) code))
   unfolding instrsOf
   stack-after = let z = small in
-      ap (map (instrOf t)) (paste-take code (doneFrom + c .done) (c .base) n room below (c .base) (omega arith) ∙ sym (take-take (c .base) (c .open) code (omega arith)))
+      ap (map (instrOf t)) (paste-take code (drop (c .base) code) (doneFrom + c .done) n room enough (c .base) (omega arith) ∙ sym (take-take (c .base) (c .open) code (omega arith)))
       ∙ map-take (instrOf t) (c .base) (take (c .open) code)
 
   end-state : stateOf t made moved after (without b c) ≡ ended (c .base) f (stateOf t made code tables c)
@@ -146,7 +132,7 @@ module _ (t made code tables : List ℕ) (f b w : ℕ) (c : Counts) (l : Limits)
     end-sound = let z = small in
         let v : length ks ≡ c .functions = region-length codesFrom (c .functions) tables (omega arith) in
         record {
-          code-room = let e = length-paste code (doneFrom + c .done) (drop (c .base) code) n room (simp length-drop (omega arith)) in omega arith;
+          code-room = let e = length-paste code (doneFrom + c .done) (drop (c .base) code) n room enough in omega arith;
           tables-room = let e = length-set tables (codesFrom + f) w in omega arith;
           made-room = s .made-room;
           limited = s .limited;

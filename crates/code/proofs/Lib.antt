@@ -4,3 +4,4 @@ pub mod Setting
 pub mod Patching
 pub mod Begun
 pub mod Ended
+pub mod ClassTables

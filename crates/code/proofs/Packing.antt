@@ -5,7 +5,7 @@ use mathlib.Core.Bool.{Bool, true, false, _||_, _&&_}
 use mathlib.Core.List.{List}
 use native.Mathlib.Omega.{arith}
 use lib.Dec.{eqb, ltb, leb}
-use borrow.Author.Tests.{lt-ltb, le-ltb, le-leb, ne-eqb}
+use borrow.Author.Tests.{lt-ltb, le-ltb, le-leb, lt-leb, ne-eqb}
 use Rattle.definitions.specs.Instruction.{Instr, instr, ConstI64, Jump, minus}
 use Rattle.definitions.specs.Reader.{isJump}
 use Rattle.state.specs.Words.{numberAt, word, opOf, firstOf, secondOf, widened, smallInt, operandOf, instrOf}
@@ -72,3 +72,22 @@ unfolding widened minus
 instr-back t n h i =
     instr-word 28 (65536 - n) 0 (omega arith) (omega arith) (omega arith) t refl
     ∙ ap (λ (n : ℕ). instr 28 n 0) (jump-operand t 28 (65536 - n) (omega arith) (omega arith) ∙ rw (le-ltb (65536 - n) 32768 (omega arith), widened) (omega arith))
+
+-- opcodes below and above the jumps
+pub plain-below : (op a b : ℕ) → 2 ≤ op → op < 28 → a < 65536 → b < 256 → Plain op a b
+unfolding special isJump
+plain-below op a b h k x y = record {
+  op-byte = omega arith;
+  op-plain = rw (ne-eqb op 0 (λ e. omega arith), ne-eqb op 1 (λ e. omega arith), lt-leb 28 op k, ne-eqb op 48 (λ e. omega arith));
+  first-short = x;
+  second-byte = y;
+}
+
+pub plain-above : (op a b : ℕ) → 30 < op → op < 48 → a < 65536 → b < 256 → Plain op a b
+unfolding special isJump
+plain-above op a b h k x y = record {
+  op-byte = omega arith;
+  op-plain = rw (ne-eqb op 0 (λ e. omega arith), ne-eqb op 1 (λ e. omega arith), le-leb 28 op (omega arith), lt-leb op 30 h, ne-eqb op 48 (λ e. omega arith));
+  first-short = x;
+  second-byte = y;
+}

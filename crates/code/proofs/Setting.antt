@@ -4,8 +4,10 @@ use mathlib.Core.Path.{_≡_, refl, sym, ap, _∙_}
 use mathlib.Core.List.{List, [], _∷_, _++_, map, append-nil, append-assoc}
 use native.Mathlib.Omega.{arith}
 use native.Mathlib.Numerals.{add-one}
-use lib.ListN.{length, take, drop, set, getD, length-drop, drop-of-length-le, List·getD-append}
-use lib.Seq.{paste, paste-suc, getD-take, getD-drop, take-all, take-at, drop-at, take-add, drop-nil, drop-drop, length-take-le}
+use lib.ListN.{length, take, drop, set, getD, length-drop, length-set, drop-of-length-le, List·getD-append}
+use lib.Seq.{paste, paste-suc, getD-take, getD-drop, take-take, take-all, take-at, drop-at, take-add, drop-nil, drop-drop, length-take-le}
+use Rattle.state.specs.Words.{region}
+use Rattle.state.proofs.Regions.{set-below, set-above, set-next}
 
 -- the first i are those of P, the others those of xs
 abbrev pub mixed : ℕ → List ℕ → List ℕ → List ℕ
@@ -77,3 +79,39 @@ pub move-step : (d xs : List ℕ) (from to n i : ℕ) → from + n ≤ to → to
 move-step d xs from to n i h k l e =
     paste-step d (drop from d) xs to i _ (omega arith) (simp length-drop (omega arith)) e
     (ap (λ (z : List ℕ). getD z (from + i) 0) e ∙ paste-before d (drop from d) to i (from + i) (omega arith) (omega arith) ∙ sym (getD-drop from d i 0))
+
+-- an area after a copy: before it, and at it
+module _ (d s : List ℕ) (at n : ℕ) (room : at + n ≤ length d) (enough : n ≤ length s) where
+  pub paste-take : (m : ℕ) → m ≤ at → take m (paste d at s n) ≡ take m d
+  paste-take m h =
+      sym (take-take m at (paste d at s n) h)
+      ∙ ap (take m) (ap (take at) (append-assoc (take at d) (take n s) (drop (at + n) d)) ∙ take-at (take at d) (take n s ++ drop (at + n) d) at (length-take-le at d (omega arith)))
+      ∙ take-take m at d h
+
+  pub paste-here : region at n (paste d at s n) ≡ take n s
+  unfolding region
+  paste-here =
+      ap (take n) (ap (drop at) (append-assoc (take at d) (take n s) (drop (at + n) d)) ∙ drop-at (take at d) (take n s ++ drop (at + n) d) at (length-take-le at d (omega arith)))
+      ∙ take-at (take n s) (drop (at + n) d) n (length-take-le n s enough)
+
+-- one word more in each of two tables, of which the second's is 0
+module _ (a b n h : ℕ) (xs : List ℕ) (apart : a + n < b) (room : b + n < length xs) where
+  abbrev grown : List ℕ
+  grown = set (set xs (a + n) h) (b + n) 0
+
+  pub grown-length : length grown ≡ length xs
+  grown-length = length-set (set xs (a + n) h) (b + n) 0 ∙ length-set xs (a + n) h
+
+  pub grown-below : (p k : ℕ) → p + k ≤ a → region p k grown ≡ region p k xs
+  grown-below p k g = set-below p k (b + n) 0 (set xs (a + n) h) (omega arith) ∙ set-below p k (a + n) h xs (omega arith)
+
+  pub grown-above : (p k : ℕ) → b + n < p → region p k grown ≡ region p k xs
+  grown-above p k g = set-above p k (b + n) 0 (set xs (a + n) h) g ∙ set-above p k (a + n) h xs (omega arith)
+
+  pub grown-first : region a (n + 1) grown ≡ region a n xs ++ h ∷ []
+  grown-first = set-below a (n + 1) (b + n) 0 (set xs (a + n) h) (omega arith) ∙ set-next a n h xs (omega arith)
+
+  pub grown-second : region b (n + 1) grown ≡ region b n xs ++ 0 ∷ []
+  grown-second =
+      set-next b n 0 (set xs (a + n) h) (omega (arith, length-set xs (a + n) h))
+      ∙ ap (λ (z : List ℕ). z ++ 0 ∷ []) (set-above b n (a + n) h xs apart)

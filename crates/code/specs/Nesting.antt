@@ -32,3 +32,38 @@ pub record Moved (b : ℕ) (k : Counts) (tree made code tables : List ℕ) (c : 
 unfoldable pub Begins : Numbered → List ℕ → List ℕ → List ℕ → List ℕ → Counts → Limits → ℕ → State → Type 0
 Begins (At i k) tree made code tables c l number want = (i ≡ number) × Moved (c .open) k tree made code tables c l want
 Begins Over tree made code tables c l number want = Within l want → ⊥
+
+-- the counts with other numbers of methods and of constants
+abbrev pub withMethods : ℕ → Counts → Counts
+withMethods n c = record {
+  symbols = c .symbols;
+  strings = c .strings;
+  functions = c .functions;
+  classes = c .classes;
+  methods = n;
+  constants = c .constants;
+  made = c .made;
+  «open» = c .open;
+  base = c .base;
+  done = c .done;
+}
+
+abbrev pub withConstants : ℕ → Counts → Counts
+withConstants n c = record {
+  symbols = c .symbols;
+  strings = c .strings;
+  functions = c .functions;
+  classes = c .classes;
+  methods = c .methods;
+  constants = n;
+  made = c .made;
+  «open» = c .open;
+  base = c .base;
+  done = c .done;
+}
+
+-- the counts k and the wanted state
+pub record Counted (r k : Counts) (tree made code tables : List ℕ) (l : Limits) (want : State) : Type 0 where
+  pub counts : r ≡ k
+  pub state : stateOf tree made code tables r ≡ want
+  pub sound : Sound made code tables r l

@@ -1,8 +1,12 @@
 // Code and tables of the lowering: words put, jumps set, functions and classes begun and ended.
+mod classes;
 mod functions;
 mod jumps;
 mod words;
 
+pub use classes::add_constant;
+pub use classes::begin_class;
+pub use classes::end_class;
 pub use functions::begin_function;
 pub use functions::end_function;
 pub use jumps::patch_loop;

@@ -1,10 +1,10 @@
 -- The state after functions, closures and classes.
-use Prim.Native.Nat.{ℕ, zero, suc, _+_, _-_, _≤_, _<_}
+use Prim.Native.Nat.{ℕ, _-_, _≤_}
 use mathlib.Core.Path.{_≡_, refl, sym, ap, _∙_}
 use mathlib.Core.Option.{Option, none, some}
 use mathlib.Core.List.{List, [], _∷_, _++_, append-nil, append-assoc}
 use native.Mathlib.Omega.{arith}
-use lib.ListN.{length, take, drop, set}
+use lib.ListN.{length, set}
 use lib.Seq.{take-append-seam, drop-append-seam}
 use Rattle.definitions.specs.Bytes.{Name, same, position}
 use Rattle.definitions.specs.Tree.{Block, Methods, []ᵐ, method}
@@ -14,7 +14,7 @@ use Rattle.definitions.specs.Lower.{load, loads, lambdaName, closure, insertMet
 use Rattle.definitions.specs.Slots.{localsBlock}
 use Rattle.state.specs.State.{State, emitAt, symbolNumber, withSymbol, withTables}
 use Rattle.state.specs.Steps.{begun, ended, methodFunction, methodsAt, methodsOf}
-use Rattle.state.proofs.Emission.{state-eq, at-seq, at-three, at-by, at-nothing, at-intern, intern-by, base-kept}
+use Rattle.state.proofs.Emission.{state-eq, at-seq, at-three, at-nothing, at-intern, intern-by}
 
 -- ---- functions
 

@@ -1,9 +1,9 @@
 -- The state after each form of an expression.
-use Prim.Native.Nat.{ℕ, zero, suc, _≤_}
-use mathlib.Core.Path.{_≡_, refl, sym, ap, _∙_}
-use mathlib.Core.Bool.{Bool, true, false}
+use Prim.Native.Nat.{ℕ, _≤_}
+use mathlib.Core.Path.{_≡_, refl, ap, _∙_}
+use mathlib.Core.Bool.{Bool, true}
 use mathlib.Core.Option.{Option, none, some}
-use mathlib.Core.List.{List, [], _∷_, _++_}
+use mathlib.Core.List.{List, _++_}
 use native.Mathlib.Omega.{arith}
 use lib.ListN.{length}
 use Rattle.definitions.specs.Bytes.{Name, Text, same, position}
@@ -11,7 +11,7 @@ use Rattle.definitions.specs.Tree.{Literal, noneL, boolL, intL, floatL, stringL
 use Rattle.definitions.specs.Tree.{Expr, lit, var, unary, binary, logical, call, attr, display, index, lambda, Exprs, []ᵉ, _∷ᵉ_, count, View, asVar, asAttr, asIndex, asTuple, asOther, view}
 use Rattle.definitions.specs.Instruction
 use Rattle.definitions.specs.Instruction.{Instr}
-use Rattle.definitions.specs.Tables.{Tables, Emit, emits, one, _⨟_, intern, exprBody}
+use Rattle.definitions.specs.Tables.{Emit, one, _⨟_, intern, exprBody}
 use Rattle.definitions.specs.Slots.{captures}
 use Rattle.definitions.specs.Lower.{load, store, Callee, builtinCallee, functionCallee, valueCallee, resolve, literal, decides, shortcut, displaySize, callNamed, callBy, closure, emitExpr, emitExprs, emitObject}
 use Rattle.state.specs.State.{State, emitAt, symbolNumber, withSymbol, stringNumber, withString, withTables}

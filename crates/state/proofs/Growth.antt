@@ -14,7 +14,7 @@ use Rattle.definitions.specs.Tree.{Stmt, break, continue, pass, expr, return, a
 use Rattle.definitions.specs.Wellformed.{isTuple}
 use Rattle.definitions.specs.Instruction
 use Rattle.definitions.specs.Instruction.{Instr, Return}
-use Rattle.definitions.specs.Tables.{Function, Method, Tables, Body, blockBody, exprBody, Out, Emit, emits, one, _⨟_, here, addSymbol, addString, withClasses, addConstant, intern, getOrAddString, begin, setCode, enclose, function}
+use Rattle.definitions.specs.Tables.{Function, Method, Tables, Body, blockBody, exprBody, Out, Emit, emits, one, _⨟_, here, addSymbol, addString, withClasses, intern, getOrAddString, begin, setCode, enclose, function}
 use Rattle.definitions.specs.Slots.{localsBlock, captures}
 use Rattle.definitions.specs.Module.{instructions}
 use Rattle.definitions.specs.Lower.{load, store, literal, shortcut, Callee, builtinCallee, functionCallee, valueCallee, resolve, callNamed, callBy, lambdaName, loads, closure, emitExpr, emitExprs, emitObject, decides, displaySize}

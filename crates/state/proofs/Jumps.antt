@@ -4,17 +4,16 @@ use mathlib.Core.Path.{_≡_, refl, sym, ap, _∙_}
 use mathlib.Core.Bool.{Bool}
 use mathlib.Core.List.{List, [], _∷_, _++_, append-assoc, append-nil}
 use native.Mathlib.Omega.{arith}
-use native.Mathlib.Numerals.{add-one}
-use lib.ListN.{length, take, drop, set, length-append, length-set, length-take, length-drop}
-use lib.Seq.{set-append-left, set-append-seam, take-at, drop-at, take-append-le, drop-append-le, length-take-le, append-snoc, take-append-seam, drop-append-seam, drop-append-add}
+use lib.ListN.{length, take, drop, set, getD, length-append, length-set, length-take, length-drop}
+use lib.Seq.{set-append-left, set-append-seam, take-at, drop-at, take-append-le, drop-append-le, length-take-le, append-snoc, take-append-seam, drop-append-seam, drop-append-add, drop-set-lt, take-set-lt}
 use Rattle.definitions.specs.Bytes.{Name}
 use Rattle.definitions.specs.Instruction.{Instr, Jump, JumpIfFalse, ConstBool, minus}
-use Rattle.definitions.specs.Tables.{Tables, Out, Emit, emits, one, _⨟_}
+use Rattle.definitions.specs.Tables.{Tables, Emit, emits, one}
 use Rattle.definitions.specs.Tree.{Expr, Block, Branches, done, else, when}
-use Rattle.definitions.specs.Lower.{jumpOn, shortcut, patch, patched, loop, emitExpr, emitBlock, emitBranches, emitStmt}
+use Rattle.definitions.specs.Lower.{jumpOn, shortcut, patch, patched, loop, emitExpr, emitBlock, emitBranches}
 use Rattle.state.specs.State.{State, emitAt}
 use Rattle.state.specs.Steps.{setAt, patchAt, branch, chainAt}
-use Rattle.state.proofs.Emission.{state-eq, stack-after, stack-grows, base-kept, at-seq, at-one}
+use Rattle.state.proofs.Emission.{state-eq}
 
 -- ---- a jump may be set before or after the next part
 
@@ -55,6 +54,35 @@ patch-emit base h k n e s l =
     ap (λ (m : ℕ). record { stack = take k xs ++ (patch h n 0 (take n (drop k xs)) ++ drop (k + n) xs) ++ e (m - base) (s .tables) .code; tables = e (m - base) (s .tables) .tables }) (patch-length h k n s l)
     ∙ state-eq _ _ (sym (patch-more h k n xs ys l)) refl
 
+-- the inside of a loop may be patched before or after an instruction in front of it is set
+pub set-patch : (h k n j : ℕ) (i : Instr) (s : State) → j < k → k ≤ length (s .stack) → setAt j i (patchAt h k n s) ≡ patchAt h k n (setAt j i s)
+unfolding setAt patchAt
+set-patch h k n j i s l m =
+    let xs = s .stack in
+    let d : drop k (set xs j i) ≡ drop k xs = drop-set-lt k xs j i l in
+    let r : drop (k + n) (set xs j i) ≡ drop (k + n) xs = drop-set-lt (k + n) xs j i (omega arith) in
+    let t : take k (set xs j i) ≡ set (take k xs) j i = take-set-lt k xs j i l in
+    state-eq _ _
+    (set-append-left (take k xs) (patch h n 0 (take n (drop k xs)) ++ drop (k + n) xs) j i (omega (arith, length-take-le k xs m))
+    ∙ sym (λ a. t a ++ (patch h n 0 (take n (d a)) ++ r a)))
+    refl
+
+-- the inside is patched word by word
+pub patch-snoc : (h n i : ℕ) (xs : List Instr) (x : Instr) → patch h n i (xs ++ x ∷ []) ≡ patch h n i xs ++ patched h n (i + length xs) x ∷ []
+unfolding patch
+patch-snoc h n i [] x = let e : i ≡ i + 0 = omega arith in ap (λ (j : ℕ). patched h n j x ∷ []) e
+patch-snoc h n i (y ∷ xs) x =
+    let e : suc i + length xs ≡ i + suc (length xs) = omega arith in
+    ap (λ (l : List Instr). patched h n i y ∷ l) (patch-snoc h n (suc i) xs x ∙ ap (λ (j : ℕ). patch h n (suc i) xs ++ patched h n j x ∷ []) e)
+
+pub patch-getD : (h n i j : ℕ) (xs : List Instr) (d : Instr) → j < length xs → getD (patch h n i xs) j d ≡ patched h n (i + j) (getD xs j d)
+unfolding patch
+patch-getD h n i j [] d l = absurd (omega arith)
+patch-getD h n i zero (x ∷ xs) d l = let e : i ≡ i + 0 = omega arith in ap (λ (m : ℕ). patched h n m x) e
+patch-getD h n i (suc j) (x ∷ xs) d l =
+    let e : suc i + j ≡ i + suc j = omega arith in
+    patch-getD h n (suc i) j xs d (omega arith) ∙ ap (λ (m : ℕ). patched h n m (getD xs j d)) e
+
 -- ---- `and`, `or`
 
 -- the place after a placeholder
@@ -72,8 +100,8 @@ set-seam xs ys i j a b =
 
 shortcut-by : (base : ℕ) (b : Bool) (r : Emit) (i : Instr) (s : State) → base ≤ length (s .stack)
     → emitAt base (shortcut b r) s
-    ≡ setAt (length (s .stack)) (jumpOn b (suc (length (emitAt base r (emitAt base (one i) s) .stack) - length (emitAt base (one i) s .stack))))
-    (emitAt base (one (ConstBool b)) (emitAt base (one (Jump 1)) (emitAt base r (emitAt base (one i) s))))
+      ≡ setAt (length (s .stack)) (jumpOn b (suc (length (emitAt base r (emitAt base (one i) s) .stack) - length (emitAt base (one i) s .stack))))
+        (emitAt base (one (ConstBool b)) (emitAt base (one (Jump 1)) (emitAt base r (emitAt base (one i) s))))
 unfolding emitAt setAt shortcut emits
 shortcut-by base b r i s h =
     let xs = s .stack in
@@ -90,7 +118,7 @@ shortcut-by base b r i s h =
 pub at-shortcut : (base : ℕ) (b : Bool) (r : Emit) (i : Instr) (s s₁ s₂ : State) → base ≤ length (s .stack)
     → s₁ ≡ emitAt base (one i) s → s₂ ≡ emitAt base r s₁
     → emitAt base (shortcut b r) s
-    ≡ setAt (length (s .stack)) (jumpOn b (suc (length (s₂ .stack) - length (s₁ .stack)))) (emitAt base (one (ConstBool b)) (emitAt base (one (Jump 1)) s₂))
+      ≡ setAt (length (s .stack)) (jumpOn b (suc (length (s₂ .stack) - length (s₁ .stack)))) (emitAt base (one (ConstBool b)) (emitAt base (one (Jump 1)) s₂))
 at-shortcut base b r i s s₁ s₂ h e₁ e₂ = rw (e₂, e₁) (shortcut-by base b r i s h)
 
 -- ---- loops
@@ -106,8 +134,8 @@ patch-seam h n us bs vs e =
 
 loop-seam : (h n : ℕ) (xs as′ bs : List Instr) (i j c : Instr) → length bs ≡ n
     → set (take (length (xs ++ as′ ++ i ∷ [])) (xs ++ as′ ++ i ∷ [] ++ bs ++ c ∷ []) ++ (patch h n 0 (take n (drop (length (xs ++ as′ ++ i ∷ [])) (xs ++ as′ ++ i ∷ [] ++ bs ++ c ∷ [])))
-    ++ drop (length (xs ++ as′ ++ i ∷ []) + n) (xs ++ as′ ++ i ∷ [] ++ bs ++ c ∷ []))) (length (xs ++ as′)) j
-    ≡ xs ++ (as′ ++ (j ∷ patch h n 0 bs ++ c ∷ []))
+      ++ drop (length (xs ++ as′ ++ i ∷ []) + n) (xs ++ as′ ++ i ∷ [] ++ bs ++ c ∷ []))) (length (xs ++ as′)) j
+      ≡ xs ++ (as′ ++ (j ∷ patch h n 0 bs ++ c ∷ []))
 loop-seam h n xs as′ bs i j c e =
     ap (λ (l : List Instr). set l (length (xs ++ as′)) j) (patch-seam h n (xs ++ as′ ++ i ∷ []) bs (c ∷ []) e ∙ append-snoc (xs ++ as′) i (patch h n 0 bs ++ c ∷ []))
     ∙ set-append-seam (xs ++ as′) i (patch h n 0 bs ++ c ∷ []) j ∙ append-assoc xs as′ (j ∷ patch h n 0 bs ++ c ∷ [])
@@ -116,10 +144,10 @@ loop-seam h n xs as′ bs i j c e =
 module _ (base : ℕ) (head inside : Emit) (i : Instr) (s : State) (h : base ≤ length (s .stack)) where
   loop-by : emitAt base (loop head inside) s
       ≡ setAt (length (emitAt base head s .stack)) (JumpIfFalse (suc (length (emitAt base inside (emitAt base (one i) (emitAt base head s)) .stack) - length (emitAt base (one i) (emitAt base head s) .stack))))
-      (patchAt (length (emitAt base (one i) (emitAt base head s) .stack) - length (s .stack)) (length (emitAt base (one i) (emitAt base head s) .stack))
-      (length (emitAt base inside (emitAt base (one i) (emitAt base head s)) .stack) - length (emitAt base (one i) (emitAt base head s) .stack))
-      (emitAt base (one (Jump (minus (suc (length (emitAt base inside (emitAt base (one i) (emitAt base head s)) .stack) - length (s .stack))))))
-      (emitAt base inside (emitAt base (one i) (emitAt base head s)))))
+        (patchAt (length (emitAt base (one i) (emitAt base head s) .stack) - length (s .stack)) (length (emitAt base (one i) (emitAt base head s) .stack))
+          (length (emitAt base inside (emitAt base (one i) (emitAt base head s)) .stack) - length (emitAt base (one i) (emitAt base head s) .stack))
+          (emitAt base (one (Jump (minus (suc (length (emitAt base inside (emitAt base (one i) (emitAt base head s)) .stack) - length (s .stack))))))
+            (emitAt base inside (emitAt base (one i) (emitAt base head s)))))
   unfolding emitAt setAt patchAt loop emits
   loop-by =
       let xs = s .stack in
@@ -131,20 +159,17 @@ module _ (base : ℕ) (head inside : Emit) (i : Instr) (s : State) (h : base ≤
       let w : suc (length as′) ≡ length (xs ++ as′ ++ i ∷ []) - length xs = omega (arith, length-append (xs ++ as′) (i ∷ []), length-append xs as′) in
       let m : length bs ≡ length (xs ++ as′ ++ i ∷ [] ++ bs) - length (xs ++ as′ ++ i ∷ []) = sym (added (xs ++ as′ ++ i ∷ []) bs) in
       let z : suc (suc (length as′) + length bs) ≡ suc (length (xs ++ as′ ++ i ∷ [] ++ bs) - length xs) =
-      omega (arith, length-append (xs ++ as′ ++ i ∷ []) bs, length-append (xs ++ as′) (i ∷ []), length-append xs as′) in
-      ap (λ (k : ℕ). record {
-        stack = xs ++ (as′ ++ (JumpIfFalse (suc (length (inside k (a .tables) .code))) ∷ patch (suc (length as′)) (length (inside k (a .tables) .code)) 0 (inside k (a .tables) .code)
-            ++ Jump (minus (suc (suc (length as′) + length (inside k (a .tables) .code)))) ∷ []));
-        tables = inside k (a .tables) .tables;
-      }) q
+          omega (arith, length-append (xs ++ as′ ++ i ∷ []) bs, length-append (xs ++ as′) (i ∷ []), length-append xs as′) in
+      ap (λ (k : ℕ). record { stack = xs ++ (as′ ++ (JumpIfFalse (suc (length (inside k (a .tables) .code))) ∷ patch (suc (length as′)) (length (inside k (a .tables) .code)) 0 (inside k (a .tables) .code)
+        ++ Jump (minus (suc (suc (length as′) + length (inside k (a .tables) .code)))) ∷ [])); tables = inside k (a .tables) .tables }) q
       ∙ state-eq _ _ ((λ j. xs ++ (as′ ++ (JumpIfFalse (suc (m j)) ∷ patch (w j) (m j) 0 bs ++ Jump (minus (z j)) ∷ [])))
-      ∙ sym (loop-seam (length (xs ++ as′ ++ i ∷ []) - length xs) (length (xs ++ as′ ++ i ∷ [] ++ bs) - length (xs ++ as′ ++ i ∷ [])) xs as′ bs i _ _ m)) refl
+        ∙ sym (loop-seam (length (xs ++ as′ ++ i ∷ []) - length xs) (length (xs ++ as′ ++ i ∷ [] ++ bs) - length (xs ++ as′ ++ i ∷ [])) xs as′ bs i _ _ m)) refl
 
   pub at-loop : (s₁ s₂ s₃ : State) → s₁ ≡ emitAt base head s → s₂ ≡ emitAt base (one i) s₁ → s₃ ≡ emitAt base inside s₂
       → emitAt base (loop head inside) s
-      ≡ setAt (length (s₁ .stack)) (JumpIfFalse (suc (length (s₃ .stack) - length (s₂ .stack))))
-      (patchAt (length (s₂ .stack) - length (s .stack)) (length (s₂ .stack)) (length (s₃ .stack) - length (s₂ .stack))
-      (emitAt base (one (Jump (minus (suc (length (s₃ .stack) - length (s .stack)))))) s₃))
+        ≡ setAt (length (s₁ .stack)) (JumpIfFalse (suc (length (s₃ .stack) - length (s₂ .stack))))
+          (patchAt (length (s₂ .stack) - length (s .stack)) (length (s₂ .stack)) (length (s₃ .stack) - length (s₂ .stack))
+            (emitAt base (one (Jump (minus (suc (length (s₃ .stack) - length (s .stack)))))) s₃))
   at-loop s₁ s₂ s₃ e₁ e₂ e₃ = rw (e₃, e₂, e₁) loop-by
 
 -- ---- branches
@@ -165,7 +190,7 @@ last-seam xs as′ bs rest j c d =
 -- a branch and those after it, on a stack ys
 rest-by : (base : ℕ) (slots : List Name) (c : Expr) (b : Block) (r : Branches) (p : ℕ) (t : Tables) (ys : List Instr) → base ≤ length ys → length ys - base ≡ p
     → _≡_ {A = State} (record { stack = ys ++ emitBranches slots (when c b r) p t .out .code; tables = emitBranches slots (when c b r) p t .out .tables })
-    (chainAt base slots r (length (ys ++ branch slots c b p t .code) - 1) (record { stack = ys ++ branch slots c b p t .code; tables = branch slots c b p t .tables }))
+      (chainAt base slots r (length (ys ++ branch slots c b p t .code) - 1) (record { stack = ys ++ branch slots c b p t .code; tables = branch slots c b p t .tables }))
 unfolding emitBranches branch chainAt
 rest-by base slots c b r p t ys h e =
     let a = emitExpr slots c p t in
@@ -173,7 +198,7 @@ rest-by base slots c b r p t ys h e =
     let jif = JumpIfFalse (suc (length (o .code))) in
     let is = a .code ++ (jif ∷ o .code ++ Jump 0 ∷ []) in
     let q : suc (p + length (a .code)) + suc (length (o .code)) ≡ length (ys ++ is) - base =
-    omega (arith, length-append ys is, length-append (a .code) (jif ∷ o .code ++ Jump 0 ∷ []), length-append (o .code) (Jump 0 ∷ [])) in
+        omega (arith, length-append ys is, length-append (a .code) (jif ∷ o .code ++ Jump 0 ∷ []), length-append (o .code) (Jump 0 ∷ [])) in
     ap (λ (n : ℕ). record { stack = ys ++ (a .code ++ (jif ∷ o .code ++ Jump (emitBranches slots r n (o .tables) .hop) ∷ emitBranches slots r n (o .tables) .out .code)); tables = emitBranches slots r n (o .tables) .out .tables }) q
     ∙ state-eq _ _ (sym (last-seam ys (a .code) (o .code) _ jif (Jump 0) _)) refl
 
@@ -190,8 +215,8 @@ branch-hop slots c b r p t xs =
 module _ (base : ℕ) (slots : List Name) (c : Expr) (b : Block) (s : State) (h : base ≤ length (s .stack)) where
   branch-by : (i : Instr) → emitAt base (branch slots c b) s
       ≡ setAt (length (emitAt base (emitExpr slots c) s .stack))
-      (JumpIfFalse (suc (length (emitAt base (emitBlock slots b) (emitAt base (one i) (emitAt base (emitExpr slots c) s)) .stack) - length (emitAt base (one i) (emitAt base (emitExpr slots c) s) .stack))))
-      (emitAt base (one (Jump 0)) (emitAt base (emitBlock slots b) (emitAt base (one i) (emitAt base (emitExpr slots c) s))))
+        (JumpIfFalse (suc (length (emitAt base (emitBlock slots b) (emitAt base (one i) (emitAt base (emitExpr slots c) s)) .stack) - length (emitAt base (one i) (emitAt base (emitExpr slots c) s) .stack))))
+        (emitAt base (one (Jump 0)) (emitAt base (emitBlock slots b) (emitAt base (one i) (emitAt base (emitExpr slots c) s))))
   unfolding emitAt setAt branch emits
   branch-by i =
       let xs = s .stack in
@@ -203,7 +228,7 @@ module _ (base : ℕ) (slots : List Name) (c : Expr) (b : Block) (s : State) (h 
       let m : length bs ≡ length (xs ++ as′ ++ i ∷ [] ++ bs) - length (xs ++ as′ ++ i ∷ []) = sym (added (xs ++ as′ ++ i ∷ []) bs) in
       ap (λ (k : ℕ). record { stack = xs ++ (as′ ++ (JumpIfFalse (suc (length (emitBlock slots b k (a .tables) .code))) ∷ emitBlock slots b k (a .tables) .code ++ Jump 0 ∷ [])); tables = emitBlock slots b k (a .tables) .tables }) q
       ∙ state-eq _ _ ((λ j. xs ++ (as′ ++ (JumpIfFalse (suc (m j)) ∷ bs ++ Jump 0 ∷ [])))
-      ∙ sym (branch-seam xs as′ bs i _ (Jump 0))) refl
+        ∙ sym (branch-seam xs as′ bs i _ (Jump 0))) refl
 
   pub at-branch : (i : Instr) (s₁ s₂ s₃ : State) → s₁ ≡ emitAt base (emitExpr slots c) s → s₂ ≡ emitAt base (one i) s₁ → s₃ ≡ emitAt base (emitBlock slots b) s₂
       → emitAt base (branch slots c b) s ≡ setAt (length (s₁ .stack)) (JumpIfFalse (suc (length (s₃ .stack) - length (s₂ .stack)))) (emitAt base (one (Jump 0)) s₃)

@@ -8,3 +8,5 @@ pub mod StmtEmission
 pub mod Growth
 pub mod Within
 pub mod WithinParts
+pub mod SlotsFit
+pub mod Answers

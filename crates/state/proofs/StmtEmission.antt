@@ -1,20 +1,19 @@
 -- The state after targets, statements and blocks.
-use Prim.Native.Nat.{ℕ, zero, suc, _-_, _≤_}
+use Prim.Native.Nat.{ℕ, suc, _-_, _≤_}
 use mathlib.Core.Path.{_≡_, refl, sym, ap, _∙_}
-use mathlib.Core.Bool.{Bool, true, false}
-use mathlib.Core.List.{List, [], _∷_, _++_}
+use mathlib.Core.Bool.{false}
+use mathlib.Core.List.{List, [], _∷_}
 use native.Mathlib.Omega.{arith}
 use lib.ListN.{length}
 use Rattle.definitions.specs.Bytes.{Name, ascii}
-use Rattle.definitions.specs.Tree.{Expr, lit, var, unary, binary, logical, call, attr, display, index, lambda, Exprs, []ᵉ, _∷ᵉ_, Display, listD, tupleD, dictD, setD, treeSetD}
-use Rattle.definitions.specs.Tree.{View, asVar, asAttr, asIndex, asTuple, asOther, view, viewDisplay}
+use Rattle.definitions.specs.Tree.{Expr, lit, var, unary, binary, logical, call, attr, display, index, lambda, Exprs, []ᵉ, _∷ᵉ_, listD, tupleD, dictD, setD, treeSetD}
+use Rattle.definitions.specs.Tree.{View, asOther, view, viewDisplay}
 use Rattle.definitions.specs.Tree.{Stmt, break, continue, pass, expr, return, assign, if, while, for, def, class, Block, []ᵇ, _∷ᵇ_, Branches, when, Methods, Attribute}
 use Rattle.definitions.specs.Wellformed.{isTuple}
 use Rattle.definitions.specs.Instruction
-use Rattle.definitions.specs.Instruction.{Instr}
-use Rattle.definitions.specs.Tables.{Tables, Emit, emits, one, _⨟_, here, intern, function, blockBody}
+use Rattle.definitions.specs.Tables.{Emit, emits, one, _⨟_, here, intern, function, blockBody}
 use Rattle.definitions.specs.Slots.{localsBlock}
-use Rattle.definitions.specs.Lower.{store, copy, emitTarget, unpack, assignBy, loop, iterName, makeIter, namedIter, askIter, takeIter, beginClass, endClass, emitExpr, emitStmt, emitBlock, emitBranches}
+use Rattle.definitions.specs.Lower.{store, copy, emitTarget, unpack, assignBy, loop, iterName, makeIter, namedIter, askIter, takeIter, beginClass, endClass, emitExpr, emitStmt, emitBlock}
 use Rattle.state.specs.State.{State, emitAt, symbolNumber, withSymbol, withTables}
 use Rattle.state.specs.Steps.{isStored, branch, chainAt, methodsAt, methodsOf}
 use Rattle.state.proofs.Emission.{base-kept, at-seq, at-three, at-four, at-nothing, at-more, at-here, at-intern}

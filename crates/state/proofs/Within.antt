@@ -1,26 +1,26 @@
 -- A state that is within the limits at the end of a step was so before it. So where a part is over the limits, the whole is.
-use Prim.Native.Nat.{ℕ, zero, suc, _+_, _-_, _≤_, _<_}
-use mathlib.Core.Path.{_≡_, refl, sym, ap, _∙_, subst}
+use Prim.Native.Nat.{ℕ, suc, _+_, _-_, _≤_, _<_}
+use mathlib.Core.Path.{_≡_, refl, sym, ap, subst}
 use mathlib.Core.Bool.{Bool}
 use mathlib.Core.Option.{Option, none, some}
-use mathlib.Core.List.{List, [], _∷_, _++_}
+use mathlib.Core.List.{List, [], _++_}
 use native.Mathlib.Omega.{arith}
-use lib.ListN.{length, take, drop, set, length-append, length-set, length-take, length-drop}
+use lib.ListN.{length, drop, set, length-append, length-set}
 use lib.Seq.{drop-append-seam, take-append-seam}
 use Rattle.definitions.specs.Bytes.{Name, Text, same, position}
-use Rattle.definitions.specs.Tree.{Expr, Block, Branches, done, else, when, Methods, method}
+use Rattle.definitions.specs.Tree.{Expr, Block, Branches, else, when, Methods, method}
 use Rattle.definitions.specs.Instruction.{Instr, Jump, JumpIfFalse, ConstBool, LoadConst, StoreGlobal, MakeClosure, Return, minus}
-use Rattle.definitions.specs.Tables.{Method, Tables, Body, Emit, emits, one, _⨟_, addSymbol, addString, withClasses, addConstant, begin, setCode, function}
+use Rattle.definitions.specs.Tables.{Method, Tables, Body, Emit, one, _⨟_, addSymbol, addString, withClasses, addConstant, begin, function}
 use Rattle.definitions.specs.Module.{instructions}
-use Rattle.definitions.specs.Lower.{shortcut, jumpOn, loop, loads, lambdaName, closure, emitExpr, emitBlock, emitBranches, emitMethods, insertMethod, beginClass, classObject, endClass, classOut}
-use Rattle.state.specs.State.{State, emitAt, Within, symbolNumber, withSymbol, stringNumber, withString, withTables}
+use Rattle.definitions.specs.Lower.{shortcut, jumpOn, loop, loads, lambdaName, closure, emitExpr, emitBlock, emitBranches, emitMethods, beginClass, classObject, endClass, classOut}
+use Rattle.state.specs.State.{State, emitAt, Within, symbolNumber, withSymbol, withString, withTables}
 use Rattle.state.specs.Steps.{setAt, patchAt, begun, ended, branch, chainAt, methodFunction, methodsAt, methodsOf}
 use Rattle.state.specs.declared.Limits.{Limits}
-use Rattle.state.proofs.Emission.{stack-after, stack-grows, base-kept, at-seq}
+use Rattle.state.proofs.Emission.{stack-grows, base-kept, at-seq}
 use Rattle.state.proofs.Jumps.{set-length, patch-length, at-shortcut, at-loop, at-branch, at-when, chain-when, chain-else}
 use Rattle.state.proofs.Enclosing.{symbol-functions, at-function, at-closure, at-endClass, at-classObject, at-class, methods-more}
 use Rattle.state.proofs.Growth.{Lengthened, Lengthens, lengthened-none, lengthened-same, functions-longer, instructions-longer, symbol-lengthened, string-lengthened, begin-lengthened, setCode-count, setCode-instructions}
-use Rattle.state.proofs.Growth.{lengthens-one, lengthens-seq, lengthens-expr, lengthens-block, lengthens-branch, branches-lengthened, methods-lengthened, beginClass-lengthened, lengthens-classObject, lengthens-endClass, lengthens-loads, lengthens-function, lengthens-methodFunction}
+use Rattle.state.proofs.Growth.{lengthens-one, branches-lengthened, methods-lengthened, beginClass-lengthened, lengthens-endClass, lengthens-loads}
 
 -- ---- parts
 

@@ -1,24 +1,25 @@
 -- The parts of each form of expression and statement are within the limits if the whole is.
-use Prim.Native.Nat.{ℕ, zero, suc, _+_, _-_, _≤_, _<_}
-use mathlib.Core.Path.{_≡_, refl, sym, ap, _∙_}
+use Prim.Native.Nat.{ℕ, suc, _-_, _≤_}
+use mathlib.Core.Path.{_≡_, refl}
 use mathlib.Core.Bool.{Bool, true}
 use mathlib.Core.List.{List, [], _∷_, _++_}
 use lib.ListN.{length}
 use Rattle.definitions.specs.Bytes.{Name, Text}
-use Rattle.definitions.specs.Tree.{stringL, UnaryOp, BinaryOp, LogicalOp, Display, tupleD, Expr, var, unary, binary, logical, call, attr, display, index, Exprs, _∷ᵉ_, count, view, viewDisplay}
-use Rattle.definitions.specs.Tree.{Stmt, expr, return, assign, if, while, for, Block, _∷ᵇ_, Branches, when}
+use Rattle.definitions.specs.Tree.{stringL, UnaryOp, BinaryOp, LogicalOp, Display, tupleD, Expr, var, unary, binary, logical, call, attr, display, index, lambda, Exprs, _∷ᵉ_, count, view, viewDisplay}
+use Rattle.definitions.specs.Tree.{Stmt, expr, return, assign, if, while, for, def, class, Methods, Attribute, Block, _∷ᵇ_, Branches, when}
 use Rattle.definitions.specs.Instruction
-use Rattle.definitions.specs.Instruction.{Instr, Jump, ConstBool, minus}
-use Rattle.definitions.specs.Tables.{Emit, emits, one, _⨟_, here, intern}
-use Rattle.definitions.specs.Lower.{load, loads, store, literal, decides, shortcut, displaySize, builtinCallee, functionCallee, valueCallee, resolve, emitExpr, emitExprs, assignBy, copy, unpack, emitTarget, loop, iterName, makeIter, namedIter, askIter, takeIter, emitStmt, emitBlock}
+use Rattle.definitions.specs.Instruction.{Instr, Jump, ConstBool}
+use Rattle.definitions.specs.Slots.{localsBlock, captures}
+use Rattle.definitions.specs.Tables.{function, blockBody, exprBody, Emit, one, _⨟_, intern}
+use Rattle.definitions.specs.Lower.{closure, beginClass, load, loads, literal, decides, shortcut, displaySize, builtinCallee, functionCallee, valueCallee, resolve, emitExpr, emitExprs, assignBy, copy, unpack, loop, iterName, makeIter, emitStmt, emitBlock}
 use Rattle.state.specs.State.{State, emitAt, Within, symbolNumber, withSymbol, withString, withTables}
-use Rattle.state.specs.Steps.{isComputed, branch}
+use Rattle.state.specs.Steps.{isComputed, branch, methodsAt, methodsOf}
 use Rattle.state.specs.declared.Limits.{Limits}
 use Rattle.state.proofs.Emission.{base-kept}
-use Rattle.state.proofs.ExprEmission.{at-symbol, at-text, at-call-builtin, at-call-function, at-call-named, at-call-method, at-call-value, at-exprs-more}
-use Rattle.state.proofs.StmtEmission.{at-unpack-more, at-block-more, at-for}
+use Rattle.state.proofs.ExprEmission.{at-lambda, at-symbol, at-text, at-call-builtin, at-call-function, at-call-named, at-call-method, at-call-value, at-exprs-more}
+use Rattle.state.proofs.StmtEmission.{at-def, at-class, at-unpack-more, at-block-more, at-for}
 use Rattle.state.proofs.Enclosing.{at-loads-more}
-use Rattle.state.proofs.Growth.{Lengthens, lengthens-one, lengthens-symbol, lengthens-seq, lengthens-shortcut, lengthens-load, lengthens-loads, lengthens-store, lengthens-expr, lengthens-exprs, lengthens-target, lengthens-unpack, lengthens-copy, lengthens-loop, lengthens-askIter, lengthens-takeIter, lengthens-makeIter, lengthens-namedIter, lengthens-stmt, lengthens-block}
+use Rattle.state.proofs.Growth.{Lengthens, lengthens-endClass, lengthens-one, lengthens-symbol, lengthens-seq, lengthens-shortcut, lengthens-loads, lengthens-store, lengthens-expr, lengthens-exprs, lengthens-target, lengthens-unpack, lengthens-copy, lengthens-loop, lengthens-askIter, lengthens-takeIter, lengthens-makeIter, lengthens-namedIter, lengthens-block}
 use Rattle.state.proofs.Within.{within-down, within-one, within-first, within-second, within-two, within-shortcut, within-loop, within-when}
 
 -- ---- names, strings
@@ -205,3 +206,20 @@ module _ {l : Limits} (base : ℕ) (slots : List Name) (s : State) (h : base ≤
 
   pub within-block-first : (t : Stmt) (b : Block) → Within l (emitAt base (emitBlock slots (t ∷ᵇ b)) s) → Within l (emitAt base (emitStmt slots t) s)
   within-block-first t b w = within-down base _ (lengthens-block slots b) (rw (at-block-more base slots t b s h) at w)
+
+  -- ---- functions and classes
+
+  pub within-lambda : (ps : List Name) (b : Expr) (cs : List Name) → cs ≡ captures slots ps b
+      → Within l (emitAt base (emitExpr slots (lambda ps b)) s) → Within l (emitAt base (closure slots (length ps) (ps ++ cs) cs (exprBody b) (emitExpr (ps ++ cs) b)) s)
+  within-lambda ps b cs e w = rw (at-lambda base slots ps b cs s e) at w
+
+  pub within-def : (x : Name) (ps : List Name) (b : Block) (inner : List Name) → inner ≡ localsBlock b ps
+      → Within l (emitAt base (emitStmt slots (def x ps b)) s)
+      → Within l (emitAt base (function x (length ps) inner (blockBody b (Instruction.Return ∷ [])) (emitBlock inner b ⨟ one Instruction.Return)) s)
+  within-def x ps b inner e w = rw (at-def base slots s h x ps b inner e) at w
+
+  -- s₁ is the state with the class's number taken, s₂ that after its methods
+  pub within-class-methods : (x : Name) (ms : Methods) (vs : List Attribute) (s₁ s₂ : State) → s₁ ≡ withTables (beginClass x (s .tables)) s → s₂ ≡ methodsAt ms [] s₁
+      → Within l (emitAt base (emitStmt slots (class x ms vs)) s) → Within l s₂
+  within-class-methods x ms vs s₁ s₂ e₁ e₂ w =
+      within-down base s₂ (lengthens-endClass x (length (s .tables .classes)) (methodsOf ms [] s₁)) (rw (at-class base slots s h x ms vs s₁ s₂ e₁ e₂) at w)
