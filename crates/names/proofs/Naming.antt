@@ -28,10 +28,10 @@ use Rattle.state.proofs.Views.{symbols-length, strings-length}
 use Rattle.state.proofs.Emission.{at-intern, at-string}
 use Rattle.state.proofs.Enclosing.{at-loads-none, at-loads-more}
 use Rattle.state.proofs.Within.{within-one}
+use Rattle.state.proofs.Answers.{emits-as, emits-after, full-emits, numbers-at, numbers-over}
 use Rattle.names.proofs.Numbering.{symbol-in, string-in}
 use Rattle.code.specs.Ops.{special, Plain}
 use Rattle.names.specs.Variable.{variableBy, variable}
-use Rattle.names.proofs.Answers.{emits-after, emits-as, full-emits, numbers-at, numbers-over}
 
 -- an instruction with a number, put after the step that gave the number: base is where the innermost function begins
 module _ (tree made code code′ tables : List ℕ) (c d : Counts) (l : Limits) (i number : ℕ) (mid : State) (f : ℕ → Instr) (is : i ≡ number)
@@ -39,8 +39,8 @@ module _ (tree made code code′ tables : List ℕ) (c d : Counts) (l : Limits) 
   pub put-numbered : (r : Emitted) (next : ℕ) (want : State) → want ≡ emitAt (c .base) (one (f number)) mid
       → Emits r tree made code′ tables d l next (emitAt (d .base) (one (f i)) (stateOf tree made code tables d)) → Emits r tree made code′ tables c l next want
   put-numbered r next want e h =
-      emits-after tree made code′ tables c d l want (left .base) (left .paced) r next
-      (emits-as tree made code′ tables d l next want r _ ((λ j. emitAt (left .base j) (one (f (is j))) (left .state j)) ∙ sym e) h)
+      emits-after r made code′ tables next want left
+      (emits-as r tree made code′ tables d l next next _ want refl ((λ j. emitAt (left .base j) (one (f (is j))) (left .state j)) ∙ sym e) h)
 
 module _ (tree made code tables : List ℕ) (c d : Counts) (l : Limits) (i : ℕ) (s : State) where
   pub symbol-below : (x : Name) → i ≡ symbolNumber x (s .tables) → Left d tree made code tables c l (withTables (withSymbol x (s .tables)) s) → i < 1024

@@ -8,7 +8,8 @@ use Rattle.state.specs.Words.{nameAt}
 use Rattle.state.specs.State.{namesAt, stateOf, emitAt}
 use Rattle.state.proofs.Regions.{every-at}
 use Rattle.state.proofs.Growth.{lengthens-loads}
-use Rattle.names.proofs.Answers.{emits-done, emits-full, full-emits, done-emits, Midway, midway-start, midway-base, midway-next, midway-end, midway-full}
+use Rattle.state.proofs.Answers.{emits-done, emits-full, full-emits, done-emits}
+use Rattle.names.proofs.Midway.{Midway, midway-start, midway-base, midway-next, midway-end, midway-full}
 use Rattle.names.proofs.Naming.{loads-more, loads-end}
 use Rattle.names.proofs.emit.emit_loads.Statement.{statement}
 use Rattle.names.proofs.emit.emit_loads.Tie as tie
@@ -38,4 +39,4 @@ emit-loads-spec = tie.close (tie.spec Inv-loop μ-loop
     (λ c. let e = c .before .before .before .before .before .before .before in let v = e .before .before .before .before .before in let s = v .before .before .before .before .before .before .before in let a = s .args in let j = v .loop in let m = j .inv .3 in (omega arith, e .emit-load .kept .1 .1 .1 .0 ∙ j .inv .1, e .emit-load .kept .1 .1 .1 .1 .0 ∙ j .inv .2, midway-next (j .k) (a .tree .now) (a .made .now) (j .code) (j .tables) (a .c) (a .l) _ _ m _ _ _ _ (load (namesAt (a .tree .now) (a .slots .now)) (nameAt (a .tree .now) (getD (a .places .now) (j .i) 0))) (loads (namesAt (a .tree .now) (a .slots .now)) (namesAt (a .tree .now) (drop (j .i + 1) (a .places .now)))) (emits-done _ _ _ _ _ _ _ _ _ _ _ (c .before .one .given .1) (e .emit-load .ensures) .1) (loads-more (a .c .base) (namesAt (a .tree .now) (a .slots .now)) (a .tree .now) (a .places .now) (stateOf (a .tree .now) (a .made .now) (j .code) (j .tables) (j .k)) (j .i) (e .before .before .before .before .loop-test .taken) (midway-base (j .k) (a .tree .now) (a .made .now) (j .code) (j .tables) (a .c) (a .l) _ _ m))))  -- loop-again
     (λ c. c .before .loop .inv .1)  -- same-length-3
     (λ c. c .before .loop .inv .2)  -- same-length-4
-    (λ c. let v = c .before in let s = v .before .before .before .before .before .before .before in let a = s .args in let j = v .loop in let m = j .inv .3 in done-emits _ _ _ _ _ _ _ _ _ (midway-end (j .k) (a .tree .now) (a .made .now) (j .code) (j .tables) (a .c) (a .l) _ _ m (loads-end _ _ _ _ _ (j .i) (c .loop-test .left)))))  -- returns-2
+    (λ c. let v = c .before in let s = v .before .before .before .before .before .before .before in let a = s .args in let j = v .loop in let m = j .inv .3 in done-emits _ _ _ _ _ _ _ _ _ _ refl (midway-end (j .k) (a .tree .now) (a .made .now) (j .code) (j .tables) (a .c) (a .l) _ _ m (loads-end _ _ _ _ _ (j .i) (c .loop-test .left)))))  -- returns-2
