@@ -11,8 +11,8 @@ use lib.ListN.{length, take, drop, getD, length-map, length-drop, drop-of-length
 use lib.Seq.{drop-cons, length-take-le}
 use Rattle.definitions.specs.Bytes.{Name, same, position}
 use Rattle.definitions.proofs.Resolve.{position-lt}
-use Rattle.state.specs.Words.{region}
-use Rattle.state.specs.State.{foundOr}
+use Rattle.state.specs.Words.{region, nameAt}
+use Rattle.state.specs.State.{namesAt, foundOr}
 
 -- a place among the words from i on, as a place among all
 unfoldable pub shifted : ℕ → Option ℕ → Option ℕ
@@ -101,3 +101,23 @@ module _ (f : ℕ → Name) (ts : List ℕ) (a m n : ℕ) (x y : Name) (r : ℕ)
   pub sought : x ≡ y → Sought → r ≡ foundOr n (position (same y) (map f (region a n ts)))
   unfolding region
   sought e k = k ∙ (λ j. foundOr (part-length j) (position (same (e j)) (map f (take (size j) (drop a ts)))))
+
+-- a word that is found by a test
+pub sought-word : (test : ℕ → Bool) (ts : List ℕ) (a m n r : ℕ) → a + n ≤ length ts → m ≡ n → r ≡ foundOr (length (take m (drop a ts))) (position test (take m (drop a ts)))
+    → r ≡ foundOr n (position test (region a n ts))
+unfolding region
+sought-word test ts a m n r inside size k =
+    let e : length (take m (drop a ts)) ≡ n = length-take-le m (drop a ts) (let d = length-drop a ts in omega arith) ∙ size in
+    k ∙ (λ j. foundOr (e j) (position test (take (size j) (drop a ts))))
+
+-- ---- names at places
+
+pub names-length : (tree ps : List ℕ) → length (namesAt tree ps) ≡ length ps
+unfolding namesAt
+names-length tree ps = length-map ps (nameAt tree)
+
+pub found-names-le : (tree ps : List ℕ) (x : Name) (r : ℕ) → r ≡ foundOr (length ps) (position (same x) (namesAt tree ps)) → r ≤ length ps
+found-names-le tree ps x r e =
+    let n = names-length tree ps in
+    let k = found-le (same x) (namesAt tree ps) in
+    omega (arith, rw n at k)

@@ -3,5 +3,6 @@ pub mod Finding
 pub mod Numbering
 pub mod Pasting
 pub mod MadeNames
-pub mod Answers
+pub mod Midway
 pub mod Naming
+pub mod Calling

@@ -16,6 +16,8 @@ use Rattle.state.specs.declared.Limits.{Limits}
 use Rattle.state.specs.declared.Numbered.the-variants.{At, Over}
 use Rattle.state.proofs.Regions.{set-first, set-next, set-above, set-below, every-snoc, every-map, made-within-more}
 use Rattle.state.proofs.Views.{symbols-length, strings-length}
+use Rattle.state.proofs.Answers.{left-none, left-as}
+use Rattle.code.proofs.Begun.{tables-eq}
 use Rattle.names.proofs.Finding.{found-le}
 
 -- ---- a place that is found, or not
@@ -78,21 +80,6 @@ module _ (x : Name) (t : Tables) where
       go none f = omega (arith, length-append (t .strings) (x ∷ []))
       go (some k) f = f k refl
 
--- ---- tables by their lists
-
-pub tables-eq : (t u : Tables) → t .symbols ≡ u .symbols → t .strings ≡ u .strings → t .functions ≡ u .functions → t .classes ≡ u .classes → t .constants ≡ u .constants → t ≡ u
-tables-eq t u a b c d e = λ i. record { symbols = a i; strings = b i; functions = c i; classes = d i; constants = e i }
-
--- ---- nothing is new
-
-pub left-same : (tree made code tables : List ℕ) (c : Counts) (l : Limits) (want : State) → Sound made code tables c l → want ≡ stateOf tree made code tables c → Left c tree made code tables c l want
-left-same tree made code tables c l want s e = record {
-  state = sym e;
-  base = refl;
-  paced = record { methods = omega arith; constants = omega arith };
-  sound = s;
-}
-
 -- ---- a symbol
 
 -- the counts after a new symbol, whose made name takes `grow` bytes
@@ -132,7 +119,7 @@ module _ (tree made code tables : List ℕ) (c : Counts) (l : Limits) (s : Sound
   intern-old e h =
       let f = found-number e in
       let n = symbols-length tree made code tables c l s in
-      (f, left-same tree made code tables c l want s (ap (λ (t : Tables). withTables t st) (symbol-old x (st .tables) (omega arith))))
+      (f, left-as (sym (ap (λ (t : Tables). withTables t st) (symbol-old x (st .tables) (omega arith)))) (left-none tree s))
 
   new : Found → c .symbols ≤ i → withSymbol x (st .tables) ≡ addSymbol x (st .tables)
   new e h =
@@ -246,7 +233,7 @@ module _ (tree made code tables : List ℕ) (c : Counts) (l : Limits) (s : Sound
   text-old e h =
       let f = found-string e in
       let n = strings-length tree made code tables c l s in
-      (f, left-same tree made code tables c l want₂ s (ap (λ (t : Tables). withTables t st₂) (string-old text (st₂ .tables) (omega arith))))
+      (f, left-as (sym (ap (λ (t : Tables). withTables t st₂) (string-old text (st₂ .tables) (omega arith)))) (left-none tree s))
 
   new-text : FoundText → c .strings ≤ i → withString text (st₂ .tables) ≡ addString text (st₂ .tables)
   new-text e h =

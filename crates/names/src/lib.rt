@@ -3,6 +3,8 @@ pub mod spell; // spell.rt: names and strings as parts of lent slices
 pub mod find; // find.rt: the first word that stands for a name, a string or a function
 pub mod number; // number.rt: numbers of symbols and strings, made where they are new
 pub mod making; // making.rt: names that the lowering makes
+pub mod emit; // emit.rt: instructions that name a symbol, a string or a slot
+pub mod calls; // calls.rt: what a call by name calls
 
 // A name that the lowering makes: `__main__`, `__iter__`, `__has_next__`, `__next__`, the name of an iterator's global by the place of its store, and a
 // lambda's by how many functions there are.
@@ -13,4 +15,11 @@ pub enum Made {
     Next,
     Iterator(u32),
     Lambda(u32),
+}
+
+// What a call by name calls: a built-in by its id, a function by its number, or a loaded value.
+pub enum Callee {
+    Builtin(u32),
+    Function(u32),
+    Value,
 }
