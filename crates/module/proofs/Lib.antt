@@ -1,2 +1,3 @@
 pub mod Begun
 pub mod Filled
+pub mod Encoding
