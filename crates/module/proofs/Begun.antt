@@ -9,6 +9,7 @@ use lib.Seq.{take-append-seam, drop-append-seam, drop-drop, drop-cons, set-appen
 use borrow.Rule.Slice.PartMut.{putMid, midOf}
 use Rattle.definitions.specs.Bytes.{be, concat, listBytes}
 use Rattle.definitions.specs.Calls.{written}
+use Rattle.definitions.proofs.BytesWritten.{length-be}
 use Rattle.module.specs.Sections.{Wrote}
 
 -- ---- what is written from a list's start on
@@ -52,6 +53,10 @@ written-again a b xs =
     ap (λ (z : List ℕ). (a ++ b) ++ z)
     (ap (λ (n : ℕ). drop n (a ++ drop (length a) xs)) (length-append a b) ∙ sym (drop-drop (length b) (length a) (a ++ drop (length a) xs))
     ∙ ap (drop (length b)) (drop-append-seam a (drop (length a) xs)) ∙ drop-drop (length b) (length a) xs ∙ ap (λ (n : ℕ). drop n xs) (sym (length-append a b)))
+
+-- a byte at the start
+pub wrote-byte : (v : ℕ) (xs : List ℕ) → 0 < length xs → Wrote 1 (v ∷ []) xs (set xs 0 v)
+wrote-byte v xs h = record { count = refl; out = ap (λ (l : List ℕ). set l 0 v) (sym (written-none xs)) ∙ written-set [] xs v h }
 
 -- ---- pieces
 
@@ -149,6 +154,10 @@ module _ {s before : List ℕ} {at : ℕ} {out p : List ℕ} {ps : List (List �
         wrote = written-next (b .so-far) p before out zs at (b .wrote) (b .count) (omega arith) (w .out);
         room = r;
       }
+
+-- there is room for a number
+pub begun-number : {s before : List ℕ} {at : ℕ} {out : List ℕ} {ps : List (List ℕ)} (w v : ℕ) → Begun s before at out (be w v ∷ ps) → w ≤ length (midOf at (length out - at) out)
+begun-number w v b = let h = begun-piece b in let k = length-be w v in omega arith
 
 -- everything is written
 pub begun-done : {s before : List ℕ} {at : ℕ} {out : List ℕ} → Begun s before at out [] → Wrote at s before out

@@ -6,7 +6,7 @@ use Prim.Native.Nat.{ℕ, zero, suc, _+_, _*_, _-_, _/_, _%_, _^_, _≤_, _<_}
 use native.Mathlib.Omega.{arith}
 use native.Mathlib.Nat.{pow-succ', pow-le-pow-right, add-mul, mul-assoc}
 use lib.Dec.{eqb, ltb, leb, lit<}
-use lib.ListN.{length, getD, length-append, List·getD-map, List·getD-eq-default}
+use lib.ListN.{length, getD, set, length-append, List·getD-map, List·getD-eq-default}
 use borrow.Author.Tests.{eq-eqb, ne-eqb, lt-ltb, le-ltb, le-leb, lt-leb}
 use Rattle.definitions.specs.Bytes.{be}
 use Rattle.definitions.specs.Instruction.{Instr, instr, ConstI64, Row, row, nothing, instructionTable, rowOf, firstWidth, secondWidth, encode}
@@ -14,7 +14,7 @@ use Rattle.definitions.specs.Reader.{isJump}
 use Rattle.definitions.proofs.Truth.{left, right, at-most}
 use Rattle.definitions.proofs.BytesWritten.{length-be}
 use Rattle.state.specs.Words.{opOf, firstOf, secondOf, widened, operandOf, numberAt, instrOf}
-use Rattle.module.proofs.Begun.{joined}
+use Rattle.module.proofs.Begun.{joined, Begun, begun-first, wrote-byte}
 
 -- ---- the tables
 
@@ -139,3 +139,13 @@ length-encode i = simp (length-append, length-be) (omega arith)
 pub encode-pieces : (i : Instr) → encode i ≡ (i .op ∷ []) ++ joined (be (firstWidth (i .op)) (i .a) ∷ be (secondWidth (i .op)) (i .b) ∷ [])
 unfolding encode joined
 encode-pieces i = ap (λ (z : List ℕ). i .op ∷ z) (ap (λ (z : List ℕ). be (firstWidth (i .op)) (i .a) ++ z) (sym (append-nil (be (secondWidth (i .op)) (i .b)))))
+
+-- the opcode is written, in the code's own numbers
+pub begun-word : (t xs : List ℕ) (w : ℕ) {op f s a b : ℕ} → op ≡ instrOf t w .op → f ≡ firstWidth op → s ≡ secondWidth op → a ≡ instrOf t w .a → b ≡ instrOf t w .b →
+    length (encode (instrOf t w)) ≤ length xs → Begun (encode (instrOf t w)) xs 1 (set xs 0 op) (be f a ∷ be s b ∷ [])
+begun-word t xs w {op} {f} {s} {a} {b} o e₁ e₂ e₃ e₄ h =
+    let i = instrOf t w in
+    let l = length-encode i in
+    let n : encode i ≡ (op ∷ []) ++ joined (be f a ∷ be s b ∷ []) =
+        encode-pieces i ∙ sym (λ j. (o j ∷ []) ++ joined (be ((e₁ ∙ ap firstWidth o) j) (e₃ j) ∷ be ((e₂ ∙ ap secondWidth o) j) (e₄ j) ∷ [])) in
+    begun-first n h (wrote-byte op xs (omega arith))
