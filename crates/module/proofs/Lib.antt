@@ -1,3 +1,6 @@
 pub mod Begun
 pub mod Filled
 pub mod Encoding
+pub mod Pieces
+pub mod Lengths
+pub mod CodeLengths
