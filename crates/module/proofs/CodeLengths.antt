@@ -99,6 +99,10 @@ module _ (tree : List ℕ) where
   unfolding methodBytes methodOf
   length-method w = simp (length-append, length-be, length-name) (omega arith)
 
+  -- in the code's own numbers
+  pub method-size : (w : ℕ) (x : List ℕ) → x ≡ nameAt tree (w / 256) → 3 + length x ≡ length (methodPiece tree w)
+  method-size w x e = ap (λ (y : List ℕ). 3 + length y) e ∙ sym (length-method w)
+
   module _ (ws : List ℕ) where
     pub methods-listed : methodsBytes tree ws ≡ be 2 (length ws) ++ joined (pieces (methodPiece tree) 0 ws)
     unfolding methodsBytes

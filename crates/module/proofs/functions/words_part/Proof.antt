@@ -1,24 +1,26 @@
 use borrow.Author.Needs.{needs}
+use native.Mathlib.Omega.{arith}
+use Rattle.names.proofs.Spelling.{past-end, cut-end, whole-part}
+use Rattle.state.specs.Words.{region}
 use Rattle.module.proofs.functions.words_part.Statement.{statement}
 use Rattle.module.proofs.functions.words_part.Tie as tie
-use Rattle.module.proofs.functions.words_part.Reads as reads
-use Rattle.module.proofs.functions.words_part.Lts as lts
 
 pub words-part-spec : {M : Type 1} → statement M
+unfolding region
 words-part-spec = tie.close (tie.spec
-    (λ c. search needs)  -- sub-result
-    (λ c. search needs)  -- part-result-start
-    (λ c. search needs)  -- part-result-end
-    (λ c. ?returns)  -- returns
-    (λ c. search needs)  -- sub-if2
-    (λ c. search needs)  -- mul-result
-    (λ c. search needs)  -- sub-result-2
-    (λ c. search needs)  -- part-result-start-2
-    (λ c. search needs)  -- part-result-end-2
-    (λ c. ?returns-2)  -- returns-2
-    (λ c. search needs)  -- add-end
-    (λ c. search needs)  -- mul-result-2
-    (λ c. search needs)  -- sub-result-3
-    (λ c. search needs)  -- part-result-start-3
-    (λ c. search needs)  -- part-result-end-3
-    (λ c. ?returns-3))  -- returns-3
+    (λ c. search needs)
+    (λ c. search needs)
+    (λ c. search needs)
+    (λ c. let a = c .before .before .args in past-end (a .n) (a .from) (a .words .now) (omega arith))
+    (λ c. search needs)
+    (λ c. search needs)
+    (λ c. search needs)
+    (λ c. search needs)
+    (λ c. search needs)
+    (λ c. let a = c .before .before .before .args in cut-end (a .n) (a .from) (a .words .now) (c .before .if2 .taken))
+    (λ c. search needs)
+    (λ c. search needs)
+    (λ c. search needs)
+    (λ c. search needs)
+    (λ c. search needs)
+    (λ c. let a = c .before .before .before .args in whole-part (a .n) (a .from) (a .words .now)))
