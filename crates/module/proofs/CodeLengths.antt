@@ -22,6 +22,10 @@ pub region-short : (a n : ℕ) (xs : List ℕ) → length (region a n xs) ≤ n
 unfolding region
 region-short a n xs = simp length-take (omega arith)
 
+-- a part of some words is short
+pub part-short : (k : ℕ) (xs ws : List ℕ) → ws ≡ region (k / 65536) (k % 65536) xs → length ws < 65536
+part-short k xs ws e = let l = ap length e in let s = region-short (k / 65536) (k % 65536) xs in omega arith
+
 -- ---- code
 
 abbrev pub codePiece : List ℕ → ℕ → List ℕ
@@ -51,17 +55,20 @@ functionPiece tree fin h k = functionBytes (functionOf tree fin h k)
 
 module _ (tree fin : List ℕ) where
   module _ (h k : ℕ) where
-    pub function-pieces : functionPiece tree fin h k ≡ be 2 (h / 65536) ++ joined (be 1 (h / 256 % 256) ∷ be 2 (h % 256) ∷ codeBytes tree (region (k / 65536) (k % 65536) fin) ∷ [])
-    unfolding functionBytes functionOf codeBytes joined
-    function-pieces =
-        ap (λ (z : List ℕ). be 2 (h / 65536) ++ (be 1 (h / 256 % 256) ++ (be 2 (h % 256) ++ z))) (sym (append-nil (codeBytes tree (region (k / 65536) (k % 65536) fin))))
+    -- with the words that the code has found
+    module _ (ws : List ℕ) (e : ws ≡ region (k / 65536) (k % 65536) fin) where
+      pub function-pieces : functionPiece tree fin h k ≡ be 2 (h / 65536) ++ joined (be 1 (h / 256 % 256) ∷ be 2 (h % 256) ∷ codeBytes tree ws ∷ [])
+      unfolding functionBytes functionOf codeBytes joined
+      function-pieces = ap (λ (z : List ℕ). be 2 (h / 65536) ++ (be 1 (h / 256 % 256) ++ (be 2 (h % 256) ++ z))) (ap (codeBytes tree) (sym e) ∙ sym (append-nil (codeBytes tree ws)))
 
-    pub length-function : length (functionPiece tree fin h k) ≡ 5 + length (codeBytes tree (region (k / 65536) (k % 65536) fin))
-    unfolding functionBytes functionOf codeBytes
-    length-function = simp (length-append, length-be) (omega arith)
+      pub length-function : length (functionPiece tree fin h k) ≡ 5 + length (codeBytes tree ws)
+      unfolding functionBytes functionOf codeBytes
+      length-function =
+          let n : length (functionPiece tree fin h k) ≡ 5 + length (codeBytes tree (region (k / 65536) (k % 65536) fin)) = simp (length-append, length-be) (omega arith) in
+          n ∙ ap (λ (z : List ℕ). 5 + length (codeBytes tree z)) (sym e)
 
     pub function-room : length (functionPiece tree fin h k) ≤ 655357
-    function-room = let e = length-function in let r = code-room tree (region (k / 65536) (k % 65536) fin) in let s = region-short (k / 65536) (k % 65536) fin in omega arith
+    function-room = let e = length-function (region (k / 65536) (k % 65536) fin) refl in let r = code-room tree (region (k / 65536) (k % 65536) fin) in let s = region-short (k / 65536) (k % 65536) fin in omega arith
 
   functions-joined : (hs ks : List ℕ) → concat functionBytes (functionsOf tree fin hs ks) ≡ joined (pairs (functionPiece tree fin) hs ks)
   unfolding functionsOf concat joined pairs
@@ -126,16 +133,20 @@ classPiece tree ms x k = classBytes (classOf tree ms x k)
 
 module _ (tree ms : List ℕ) where
   module _ (x k : ℕ) where
-    pub class-pieces : classPiece tree ms x k ≡ nameBytes (nameAt tree x) ++ joined (methodsBytes tree (region (k / 65536) (k % 65536) ms) ∷ [])
-    unfolding classBytes classOf methodsBytes joined
-    class-pieces = ap (λ (z : List ℕ). nameBytes (nameAt tree x) ++ z) (sym (append-nil (methodsBytes tree (region (k / 65536) (k % 65536) ms))))
+    -- with the words that the code has found
+    module _ (ws : List ℕ) (e : ws ≡ region (k / 65536) (k % 65536) ms) where
+      pub class-pieces : classPiece tree ms x k ≡ nameBytes (nameAt tree x) ++ joined (methodsBytes tree ws ∷ [])
+      unfolding classBytes classOf methodsBytes joined
+      class-pieces = ap (λ (z : List ℕ). nameBytes (nameAt tree x) ++ z) (ap (methodsBytes tree) (sym e) ∙ sym (append-nil (methodsBytes tree ws)))
 
-    pub length-class : length (classPiece tree ms x k) ≡ 1 + length (nameAt tree x) + length (methodsBytes tree (region (k / 65536) (k % 65536) ms))
-    unfolding classBytes classOf methodsBytes
-    length-class = simp (length-append, length-name)
+      pub length-class : length (classPiece tree ms x k) ≡ 1 + length (nameAt tree x) + length (methodsBytes tree ws)
+      unfolding classBytes classOf methodsBytes
+      length-class =
+          let n : length (classPiece tree ms x k) ≡ 1 + length (nameAt tree x) + length (methodsBytes tree (region (k / 65536) (k % 65536) ms)) = simp (length-append, length-name) in
+          n ∙ ap (λ (z : List ℕ). 1 + length (nameAt tree x) + length (methodsBytes tree z)) (sym e)
 
     pub class-room : Small tree → length (classPiece tree ms x k) ≤ 16908288
-    class-room b = let e = length-class in let n = name-short tree x b in let r = methods-room tree (region (k / 65536) (k % 65536) ms) b in let s = region-short (k / 65536) (k % 65536) ms in omega arith
+    class-room b = let e = length-class (region (k / 65536) (k % 65536) ms) refl in let n = name-short tree x b in let r = methods-room tree (region (k / 65536) (k % 65536) ms) b in let s = region-short (k / 65536) (k % 65536) ms in omega arith
 
   classes-joined : (xs ks : List ℕ) → concat classBytes (classesOf tree ms xs ks) ≡ joined (pairs (classPiece tree ms) xs ks)
   unfolding classesOf concat joined pairs
