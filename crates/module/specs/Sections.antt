@@ -1,14 +1,15 @@
 -- What a writer leaves, and the bytes of each section of the module, from the words that the lowering keeps.
 use Prim.Native.Nat.{ℕ, _≤_}
 use mathlib.Core.Path.{_≡_}
-use mathlib.Core.List.{List, map}
-use lib.ListN.{length}
+use mathlib.Core.List.{List, _++_, map}
+use lib.ListN.{length, drop}
 use Rattle.definitions.specs.Bytes.{be, listBytes}
 use Rattle.definitions.specs.Instruction.{encode}
 use Rattle.definitions.specs.Module.{nameBytes, textBytes, functionBytes, methodBytes, classBytes}
 use Rattle.definitions.specs.Calls.{written}
-use Rattle.state.specs.Words.{textAt, instrsOf}
+use Rattle.state.specs.Words.{region, textAt, instrsOf}
 use Rattle.state.specs.State.{spelled, functionsOf, methodOf, classesOf}
+use Rattle.state.specs.State.{stringsFrom, headsFrom, codesFrom, classNamesFrom, classMethodsFrom, methodsFrom, constantsFrom, doneFrom}
 use Rattle.state.specs.declared.Counts.{Counts}
 
 -- the bytes stand at the output's start, the rest of it is as it was, and the answer is their count
@@ -40,6 +41,16 @@ classesBytes tree methods xs ks = listBytes 2 classBytes (classesOf tree methods
 
 unfoldable pub constantBytes : List ℕ → List ℕ
 constantBytes ws = listBytes 2 (be 2) ws
+
+-- the sections of the areas: symbols and strings; functions, classes and constants
+unfoldable pub textsBytes : List ℕ → List ℕ → List ℕ → Counts → List ℕ
+textsBytes tree made tables c = symbolBytes tree made (region 0 (c .symbols) tables) ++ stringBytes tree (region stringsFrom (c .strings) tables)
+
+unfoldable pub bodiesBytes : List ℕ → List ℕ → List ℕ → Counts → List ℕ
+bodiesBytes tree code tables c =
+    functionsBytes tree (drop doneFrom code) (region headsFrom (c .functions) tables) (region codesFrom (c .functions) tables)
+    ++ (classesBytes tree (region methodsFrom 256 tables) (region classNamesFrom (c .classes) tables) (region classMethodsFrom (c .classes) tables)
+    ++ constantBytes (region constantsFrom (c .constants) tables))
 
 -- what the writer asks of the counts and of the areas' lengths; sound slices have it
 pub record Roomy (code tables : List ℕ) (c : Counts) : Type 0 where
