@@ -45,7 +45,7 @@ module _ (tree ws : List ℕ) where
       let e = ap length code-listed ∙ length-append (be 2 (length ws)) (joined (pieces (codePiece tree) 0 ws)) in
       let l = length-be 2 (length ws) in
       let r = pieces-room 10 (codePiece tree) ws (λ x. let o = instrOf tree x .op in let n = length-encode (instrOf tree x) in
-          omega (arith, first-is o, first-small o, second-is o, second-small o)) in
+      omega (arith, first-is o, first-small o, second-is o, second-small o)) in
       omega arith
 
 -- ---- functions

@@ -147,5 +147,5 @@ begun-word t xs w {op} {f} {s} {a} {b} o e₁ e₂ e₃ e₄ h =
     let i = instrOf t w in
     let l = length-encode i in
     let n : encode i ≡ (op ∷ []) ++ joined (be f a ∷ be s b ∷ []) =
-        encode-pieces i ∙ sym (λ j. (o j ∷ []) ++ joined (be ((e₁ ∙ ap firstWidth o) j) (e₃ j) ∷ be ((e₂ ∙ ap secondWidth o) j) (e₄ j) ∷ [])) in
+    encode-pieces i ∙ sym (λ j. (o j ∷ []) ++ joined (be ((e₁ ∙ ap firstWidth o) j) (e₃ j) ∷ be ((e₂ ∙ ap secondWidth o) j) (e₄ j) ∷ [])) in
     begun-first n h (wrote-byte op xs (omega arith))

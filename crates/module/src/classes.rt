@@ -1,8 +1,8 @@
 // Classes with their methods, and the constants.
-use names::spell::name_part;
 use crate::functions::words_part;
 use crate::numbers::write_counted;
 use crate::numbers::write_number;
+use names::spell::name_part;
 ghost use mathlib.Core.Path.{_≡_};
 ghost use Prim.Native.Nat.{_≤_, _<_};
 ghost use lib.ListN.{length};

@@ -6,12 +6,13 @@ pub mod symbols; // symbols.rt: symbols and strings
 pub mod functions; // functions.rt: functions with their instructions
 pub mod classes; // classes.rt: classes with their methods, constants
 pub mod sections; // sections.rt: the sections from the areas
-use state::Counts;
+
 use numbers::write_number;
 use sections::bodies_size;
 use sections::texts_size;
 use sections::write_bodies;
 use sections::write_texts;
+use state::Counts;
 ghost use mathlib.Core.Path.{_≡_};
 ghost use mathlib.Core.List.{_++_, _∷_, []};
 ghost use Prim.Native.Nat.{_-_, _≤_, _<_, _^_};

@@ -1,5 +1,4 @@
 // The sections from the areas: each writer is lent the rest of the output, from the byte where the one before it ended.
-use state::Counts;
 use crate::classes::classes_size;
 use crate::classes::write_classes;
 use crate::classes::write_constants;
@@ -10,6 +9,7 @@ use crate::symbols::strings_size;
 use crate::symbols::symbols_size;
 use crate::symbols::write_strings;
 use crate::symbols::write_symbols;
+use state::Counts;
 ghost use mathlib.Core.Path.{_≡_};
 ghost use Prim.Native.Nat.{_≤_, _<_, _^_};
 ghost use lib.ListN.{length};
@@ -55,13 +55,7 @@ pub fn bodies_size(tree: &[u8], code: &[u32], tables: &[u32], c: Counts) -> usiz
     functions + classes + 2 + 2 * c.constants as usize
 }
 
-pub fn write_bodies(
-    tree: &[u8],
-    code: &[u32],
-    tables: &[u32],
-    c: Counts,
-    out: &mut [u8],
-) -> usize
+pub fn write_bodies(tree: &[u8], code: &[u32], tables: &[u32], c: Counts, out: &mut [u8]) -> usize
     requires { ⌜ Roomy (now code) (now tables) c × (length (bodiesBytes (now tree) (now code) (now tables) c) ≤ length (now out)) ⌝ }
     ensures { λ r. ⌜ Wrote r (bodiesBytes (now (tree .entry)) (now (code .entry)) (now (tables .entry)) c) (now (out .entry)) (now (out .exit)) ⌝ }
 {

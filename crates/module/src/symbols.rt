@@ -1,8 +1,8 @@
 // Symbols and strings: a count, and each with its own count before it.
-use names::spell::spelling;
-use names::spell::text_part;
 use crate::numbers::write_counted;
 use crate::numbers::write_number;
+use names::spell::spelling;
+use names::spell::text_part;
 ghost use mathlib.Core.Path.{_≡_};
 ghost use Prim.Native.Nat.{_≤_, _<_};
 ghost use lib.ListN.{length};

@@ -12,6 +12,7 @@ module-size-spec = tie.close (tie.spec
     (λ c. search needs)
     (λ c κs. search needs)
     (λ c. search needs)
-    (λ c. let a = c .before .before .before .before .before .before .args in
-      (ap₂ (λ (x y : ℕ). 5 + x + y) (c .before .texts-size .ensures .0) (c .bodies-size .ensures .0) ∙ length-module (a .tree .now) (a .made .now) (a .code .now) (a .tables .now) (a .c),
-       omega (arith, c .before .texts-size .ensures .1, c .bodies-size .ensures .1))))
+    (λ c. let a = c .before .before .before .before .before .before .args in (
+      ap₂ (λ (x y : ℕ). 5 + x + y) (c .before .texts-size .ensures .0) (c .bodies-size .ensures .0) ∙ length-module (a .tree .now) (a .made .now) (a .code .now) (a .tables .now) (a .c),
+      omega (arith, c .before .texts-size .ensures .1, c .bodies-size .ensures .1),
+    )))

@@ -28,6 +28,6 @@ write-head-spec = tie.close (tie.spec
     (λ c. search needs)
     (λ c κs. begun-number 1 1 (counted (c .before)))
     (λ c. let k = c .before .before .before .before in let b = counted k in let s = k .before .before .before .before .before in
-      omega (arith, begun-fits b, begun-length b, c .before .before .write-number2 .ensures .count, s .good))
+    omega (arith, begun-fits b, begun-length b, c .before .before .write-number2 .ensures .count, s .good))
     (λ c. begun-length (begun-next (counted (c .before .before .before .before)) (c .before .before .write-number2 .ensures)))
     (λ c. begun-done (begun-next (counted (c .before .before .before .before)) (c .before .before .write-number2 .ensures))))

@@ -24,20 +24,20 @@ begun c =
 pub write-module-spec : {M : Type 1} → statement M
 write-module-spec = tie.close (tie.spec
     (λ c κs. let s = c .before .before .before .before .before .before in let a = s .args in
-      let n = length-module (a .tree .now) (a .made .now) (a .code .now) (a .tables .now) (a .c) in
-      (omega (arith, s .pre .1, s .pre .3), omega (arith, s .pre .1), s .pre .2))
+    let n = length-module (a .tree .now) (a .made .now) (a .code .now) (a .tables .now) (a .c) in
+    (omega (arith, s .pre .1, s .pre .3), omega (arith, s .pre .1), s .pre .2))
     (λ c. omega (arith, begun-fits (begun c)))
     (λ c. omega (arith, begun-fits (begun c)))
     (λ c. search needs)
     (λ c κs. let s = c .before .before .before .before .before .before .before .before .before .before in (s .pre .0 .symbols, s .pre .0 .strings, begun-piece (begun (c .before))))
     (λ c. let k = c .before .before .before .before in let b = begun k in let s = k .before .before .before .before .before .before .before .before .before in
-      omega (arith, begun-fits b, begun-length b, c .before .before .write-texts .ensures .count, s .good))
+    omega (arith, begun-fits b, begun-length b, c .before .before .write-texts .ensures .count, s .good))
     (λ c. omega (arith, begun-fits (begun-next (begun (c .before .before .before .before)) (c .before .before .write-texts .ensures))))
     (λ c. omega (arith, begun-fits (begun-next (begun (c .before .before .before .before)) (c .before .before .write-texts .ensures))))
     (λ c. search needs)
     (λ c κs. let k = c .before .before .before .before .before in let s = k .before .before .before .before .before .before .before .before .before in
-      (s .pre .0, begun-piece (begun-next (begun k) (c .before .before .before .write-texts .ensures))))
+    (s .pre .0, begun-piece (begun-next (begun k) (c .before .before .before .write-texts .ensures))))
     (λ c. let j = c .before .before .before .before in let k = j .before .before .before .before in let b = begun-next (begun k) (j .before .before .write-texts .ensures) in
-      let s = k .before .before .before .before .before .before .before .before .before in omega (arith, begun-fits b, begun-length b, c .before .before .write-bodies .ensures .count, s .good))
+    let s = k .before .before .before .before .before .before .before .before .before in omega (arith, begun-fits b, begun-length b, c .before .before .write-bodies .ensures .count, s .good))
     (λ c. let j = c .before .before .before .before in begun-length (begun-next (begun-next (begun (j .before .before .before .before)) (j .before .before .write-texts .ensures)) (c .before .before .write-bodies .ensures)))
     (λ c. let j = c .before .before .before .before in begun-done (begun-next (begun-next (begun (j .before .before .before .before)) (j .before .before .write-texts .ensures)) (c .before .before .write-bodies .ensures))))

@@ -26,6 +26,6 @@ class-size-spec = tie.close (tie.spec
     (λ c. search needs)
     (λ c κs. let a = c .before .before .before .before .args in part-short (a .place) (a .methods .now) _ (c .words-part .ensures))
     (λ c. let k = c .before .before .before .before in let s = k .before .args in
-      omega (arith, sized c, class-room (s .tree .now) (s .methods .now) (s .x) (s .place) (λ j. k .shared-slice-known .given j .fits)))
+    omega (arith, sized c, class-room (s .tree .now) (s .methods .now) (s .x) (s .place) (λ j. k .shared-slice-known .given j .fits)))
     (λ c. let k = c .before .before .before .before in let s = k .before .args in
-      (sized c, omega (arith, sized c, class-room (s .tree .now) (s .methods .now) (s .x) (s .place) (λ j. k .shared-slice-known .given j .fits)))))
+    (sized c, omega (arith, sized c, class-room (s .tree .now) (s .methods .now) (s .x) (s .place) (λ j. k .shared-slice-known .given j .fits)))))

@@ -30,7 +30,7 @@ classes-size-spec = tie.close (tie.spec Inv-loop μ-loop
     (λ c. let s = c .before .before .before .before .before .before .before .before in omega (arith, s .pre .1))
     (λ c κs. search needs)
     (λ c. let k = c .before .before .before in let b = k .before .before .before .before .before in let s = b .before in let a = s .args in
-      omega (arith, c .class-size .ensures .0, measured-fits (here k), classes-room (a .tree .now) (a .methods .now) (a .names .now) (a .places .now) (λ j. b .shared-slice-known .given j .fits) (s .pre .1), s .pre .0))
+    omega (arith, c .class-size .ensures .0, measured-fits (here k), classes-room (a .tree .now) (a .methods .now) (a .names .now) (a .places .now) (λ j. b .shared-slice-known .given j .fits) (s .pre .1), s .pre .0))
     (λ c. omega arith)
     (λ c. omega arith)
     (λ c. (omega arith, measured-next (here (c .before .before .before)) _ (c .class-size .ensures .0)))

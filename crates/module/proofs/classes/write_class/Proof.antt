@@ -29,15 +29,15 @@ write-class-spec = tie.close (tie.spec
     (λ c. search needs)
     (λ c κs. search needs)
     (λ c κs. let w = c .before in let k = w .before .before .before .before in let s = k .before in let a = s .args in let t = a .tree .now in
-      name-room (w .before .name-part .ensures) (name-short t (a .x) (λ j. k .shared-slice-known .given j .fits))
-      (let h : length (nameBytes (nameAt t (a .x))) ≤ length (a .out .now) =
-          omega (arith, s .pre, length-class t (a .methods .now) (a .x) (a .place) (w .words-part .result .now) (w .words-part .ensures), length-name (nameAt t (a .x))) in h))
+    name-room (w .before .name-part .ensures) (name-short t (a .x) (λ j. k .shared-slice-known .given j .fits))
+    (let h : length (nameBytes (nameAt t (a .x))) ≤ length (a .out .now) =
+    omega (arith, s .pre, length-class t (a .methods .now) (a .x) (a .place) (w .words-part .result .now) (w .words-part .ensures), length-name (nameAt t (a .x))) in h))
     (λ c. omega (arith, begun-fits (named c)))
     (λ c. omega (arith, begun-fits (named c)))
     (λ c. search needs)
     (λ c κs. let w = c .before .before .before .before .before in let a = w .before .before .before .before .before .args in
-      (part-short (a .place) (a .methods .now) _ (w .words-part .ensures), begun-piece (named (c .before))))
+    (part-short (a .place) (a .methods .now) _ (w .words-part .ensures), begun-piece (named (c .before))))
     (λ c. let k = c .before .before .before .before in let b = named k in let s = k .before .before .before .before .before .before .before .before .before in
-      omega (arith, begun-fits b, begun-length b, c .before .before .write-methods .ensures .count, s .good))
+    omega (arith, begun-fits b, begun-length b, c .before .before .write-methods .ensures .count, s .good))
     (λ c. begun-length (begun-next (named (c .before .before .before .before)) (c .before .before .write-methods .ensures)))
     (λ c. begun-done (begun-next (named (c .before .before .before .before)) (c .before .before .write-methods .ensures))))

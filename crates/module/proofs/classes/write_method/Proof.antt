@@ -26,14 +26,14 @@ write-method-spec = tie.close (tie.spec
     (λ c. search needs)
     (λ c κs. search needs)
     (λ c κs. let k = c .before .before .before in let s = k .before in let t = s .args .tree .now in let w = s .args .w in
-      name-room (c .before .name-part .ensures) (name-short t (w / 256) (λ j. k .shared-slice-known .given j .fits))
-      (let h : length (nameBytes (nameAt t (w / 256))) ≤ length (s .args .out .now) = omega (arith, s .pre, length-method t w, length-name (nameAt t (w / 256))) in h))
+    name-room (c .before .name-part .ensures) (name-short t (w / 256) (λ j. k .shared-slice-known .given j .fits))
+    (let h : length (nameBytes (nameAt t (w / 256))) ≤ length (s .args .out .now) = omega (arith, s .pre, length-method t w, length-name (nameAt t (w / 256))) in h))
     (λ c. search needs)
     (λ c. omega (arith, begun-fits (named c)))
     (λ c. omega (arith, begun-fits (named c)))
     (λ c. search needs)
     (λ c κs. begun-number _ _ (named (c .before)))
     (λ c. let b = named (c .before .before .before .before) in let s = c .before .before .before .before .before .before .before .before .before .before .before in
-      omega (arith, begun-fits b, begun-length b, c .before .before .write-number .ensures .count, s .good))
+    omega (arith, begun-fits b, begun-length b, c .before .before .write-number .ensures .count, s .good))
     (λ c. begun-length (begun-next (named (c .before .before .before .before)) (c .before .before .write-number .ensures)))
     (λ c. begun-done (begun-next (named (c .before .before .before .before)) (c .before .before .write-number .ensures))))

@@ -14,7 +14,8 @@ function-size-spec = tie.close (tie.spec
     (λ c κs. search needs)
     (λ c κs. let a = c .before .before .args in part-short (a .place) (a .finished .now) _ (c .words-part .ensures))
     (λ c. let w = c .before .words-part in let a = c .before .before .before .args in
-      omega (arith, c .code-size .ensures [], code-room [] (w .result .now), part-short (a .place) (a .finished .now) _ (w .ensures)))
-    (λ c. let w = c .before .words-part in let a = c .before .before .before .args in
-      (λ t h. ap (λ (n : ℕ). 5 + n) (c .code-size .ensures t) ∙ sym (length-function t (a .finished .now) h (a .place) (w .result .now) (w .ensures)),
-       omega (arith, c .code-size .ensures [], code-room [] (w .result .now), part-short (a .place) (a .finished .now) _ (w .ensures)))))
+    omega (arith, c .code-size .ensures [], code-room [] (w .result .now), part-short (a .place) (a .finished .now) _ (w .ensures)))
+    (λ c. let w = c .before .words-part in let a = c .before .before .before .args in (
+      λ t h. ap (λ (n : ℕ). 5 + n) (c .code-size .ensures t) ∙ sym (length-function t (a .finished .now) h (a .place) (w .result .now) (w .ensures)),
+      omega (arith, c .code-size .ensures [], code-room [] (w .result .now), part-short (a .place) (a .finished .now) _ (w .ensures)),
+    )))

@@ -30,7 +30,7 @@ functions-size-spec = tie.close (tie.spec Inv-loop μ-loop
     (λ c. omega arith)
     (λ c κs. search needs)
     (λ c. let s = c .before .before .before .before .before .before in let p = s .args .places .now in
-      omega (arith, c .function-size .ensures .1, measured-fits (here (c .before .before) [] p refl), functions-room [] (s .args .finished .now) p p refl, s .pre))
+    omega (arith, c .function-size .ensures .1, measured-fits (here (c .before .before) [] p refl), functions-room [] (s .args .finished .now) p p refl, s .pre))
     (λ c. omega arith)
     (λ c. omega arith)
     (λ c. (omega arith, λ t hs e. measured-next (here (c .before .before) t hs e) _ (c .function-size .ensures .0 t (getD hs (c .before .before .before .loop .i) 0))))

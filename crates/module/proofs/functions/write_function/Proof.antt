@@ -27,32 +27,32 @@ write-function-spec = tie.close (tie.spec
     (λ c κs. search needs)
     (λ c. search needs)
     (λ c κs. let w = c .before .words-part in let s = c .before .before .before .before .before in let a = s .args in
-      omega (arith, s .pre, length-function (a .tree .now) (a .finished .now) (a .head) (a .place) (w .result .now) (w .ensures)))
+    omega (arith, s .pre, length-function (a .tree .now) (a .finished .now) (a .head) (a .place) (w .result .now) (w .ensures)))
     (λ c. search needs)
     (λ c. omega (arith, begun-fits (begun c)))
     (λ c. omega (arith, begun-fits (begun c)))
     (λ c. search needs)
     (λ c κs. begun-number _ _ (begun (c .before)))
     (λ c. let k = c .before .before .before .before in let b = begun k in let s = k .before .before .before .before .before .before .before .before in
-      omega (arith, begun-fits b, begun-length b, begun-number _ _ b, c .before .before .write-number2 .ensures .count, s .good))
+    omega (arith, begun-fits b, begun-length b, begun-number _ _ b, c .before .before .write-number2 .ensures .count, s .good))
     (λ c. search needs)
     (λ c. omega (arith, begun-fits (begun-next (begun (c .before .before .before .before)) (c .before .before .write-number2 .ensures))))
     (λ c. omega (arith, begun-fits (begun-next (begun (c .before .before .before .before)) (c .before .before .write-number2 .ensures))))
     (λ c. search needs)
     (λ c κs. begun-number _ _ (begun-next (begun (c .before .before .before .before .before)) (c .before .before .before .write-number2 .ensures)))
     (λ c. let j = c .before .before .before .before in let k = j .before .before .before .before in let b = begun-next (begun k) (j .before .before .write-number2 .ensures) in
-      let s = k .before .before .before .before .before .before .before .before in omega (arith, begun-fits b, begun-length b, c .before .before .write-number3 .ensures .count, s .good))
+    let s = k .before .before .before .before .before .before .before .before in omega (arith, begun-fits b, begun-length b, c .before .before .write-number3 .ensures .count, s .good))
     (λ c. let j = c .before .before .before .before in let k = j .before .before .before .before in
-      omega (arith, begun-fits (begun-next (begun-next (begun k) (j .before .before .write-number2 .ensures)) (c .before .before .write-number3 .ensures))))
+    omega (arith, begun-fits (begun-next (begun-next (begun k) (j .before .before .write-number2 .ensures)) (c .before .before .write-number3 .ensures))))
     (λ c. let j = c .before .before .before .before in let k = j .before .before .before .before in
-      omega (arith, begun-fits (begun-next (begun-next (begun k) (j .before .before .write-number2 .ensures)) (c .before .before .write-number3 .ensures))))
+    omega (arith, begun-fits (begun-next (begun-next (begun k) (j .before .before .write-number2 .ensures)) (c .before .before .write-number3 .ensures))))
     (λ c. search needs)
     (λ c κs. let i = c .before in let j = i .before .before .before .before in let k = j .before .before .before .before in let w = k .before .before .before .before in let a = w .before .before .before .before .args in
-      (part-short (a .place) (a .finished .now) _ (w .words-part .ensures), begun-piece (begun-next (begun-next (begun k) (j .before .before .write-number2 .ensures)) (i .before .before .write-number3 .ensures))))
+    (part-short (a .place) (a .finished .now) _ (w .words-part .ensures), begun-piece (begun-next (begun-next (begun k) (j .before .before .write-number2 .ensures)) (i .before .before .write-number3 .ensures))))
     (λ c. let i = c .before .before .before .before in let j = i .before .before .before .before in let k = j .before .before .before .before in
-      let b = begun-next (begun-next (begun k) (j .before .before .write-number2 .ensures)) (i .before .before .write-number3 .ensures) in
-      let s = k .before .before .before .before .before .before .before .before in omega (arith, begun-fits b, begun-length b, c .before .before .write-code .ensures .count, s .good))
+    let b = begun-next (begun-next (begun k) (j .before .before .write-number2 .ensures)) (i .before .before .write-number3 .ensures) in
+    let s = k .before .before .before .before .before .before .before .before in omega (arith, begun-fits b, begun-length b, c .before .before .write-code .ensures .count, s .good))
     (λ c. let i = c .before .before .before .before in let j = i .before .before .before .before in let k = j .before .before .before .before in
-      begun-length (begun-next (begun-next (begun-next (begun k) (j .before .before .write-number2 .ensures)) (i .before .before .write-number3 .ensures)) (c .before .before .write-code .ensures)))
+    begun-length (begun-next (begun-next (begun-next (begun k) (j .before .before .write-number2 .ensures)) (i .before .before .write-number3 .ensures)) (c .before .before .write-code .ensures)))
     (λ c. let i = c .before .before .before .before in let j = i .before .before .before .before in let k = j .before .before .before .before in
-      begun-done (begun-next (begun-next (begun-next (begun k) (j .before .before .write-number2 .ensures)) (i .before .before .write-number3 .ensures)) (c .before .before .write-code .ensures))))
+    begun-done (begun-next (begun-next (begun-next (begun k) (j .before .before .write-number2 .ensures)) (i .before .before .write-number3 .ensures)) (c .before .before .write-code .ensures))))

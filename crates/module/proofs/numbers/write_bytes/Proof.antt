@@ -23,8 +23,8 @@ write-bytes-spec = tie.close (tie.spec Inv-loop μ-loop
     (λ c. omega arith)
     (λ c. omega arith)
     (λ c. let l = c .before .before .loop in let s = c .before .before .before in let b = s .args .bytes .now in
-      let e = ap (λ (x : List ℕ). set x (l .i) (getD b (l .i) 0)) (l .inv .1) ∙ written-more b (s .args .out .now) (l .i) (omega arith) (s .pre) in
-      (omega arith, e, ap length e ∙ length-written (take (l .i + 1) b) (s .args .out .now) (let k = length-take-le (l .i + 1) b (omega arith) in omega (arith, s .pre))))
+    let e = ap (λ (x : List ℕ). set x (l .i) (getD b (l .i) 0)) (l .inv .1) ∙ written-more b (s .args .out .now) (l .i) (omega arith) (s .pre) in
+    (omega arith, e, ap length e ∙ length-written (take (l .i + 1) b) (s .args .out .now) (let k = length-take-le (l .i + 1) b (omega arith) in omega (arith, s .pre))))
     (λ c. c .before .loop .inv .2)
     (λ c. let l = c .before .loop in let a = c .before .before .args in let b = a .bytes .now in
-      record { count = omega arith; out = l .inv .1 ∙ ap (λ (x : List ℕ). written x (a .out .now)) (take-all (l .i) b (c .loop-test .left)) }))
+    record { count = omega arith; out = l .inv .1 ∙ ap (λ (x : List ℕ). written x (a .out .now)) (take-all (l .i) b (c .loop-test .left)) }))

@@ -21,14 +21,15 @@ write-number-spec = tie.close (tie.spec Inv-loop μ-loop
     (λ c. omega arith)
     (λ c. omega arith)
     (λ c. let l = c .before .loop in let s = c .before .before in let a = s .args in
-      let n = ap length (l .inv .1) ∙ length-filled (a .w) (a .v) (a .out .now) (s .pre) (l .i) (l .inv .0) in omega (arith, s .pre))
+    let n = ap length (l .inv .1) ∙ length-filled (a .w) (a .v) (a .out .now) (s .pre) (l .i) (l .inv .0) in omega (arith, s .pre))
     (λ c. omega arith)
+    (λ c. let l = c .before .loop in let s = c .before .before in let a = s .args in (
+      omega arith,
+      ap (λ (x : List ℕ). set x (l .i - 1) (l .rest % 256)) (l .inv .1) ∙ filled-next (a .w) (a .v) (a .out .now) (s .pre) (l .i) (l .rest) (c .loop-test .taken) (l .inv .0) (l .inv .2),
+      rest-next (a .w) (a .v) (a .out .now) (s .pre) (l .i) (l .rest) (c .loop-test .taken) (l .inv .0) (l .inv .2),
+    ))
     (λ c. let l = c .before .loop in let s = c .before .before in let a = s .args in
-      (omega arith,
-       ap (λ (x : List ℕ). set x (l .i - 1) (l .rest % 256)) (l .inv .1) ∙ filled-next (a .w) (a .v) (a .out .now) (s .pre) (l .i) (l .rest) (c .loop-test .taken) (l .inv .0) (l .inv .2),
-       rest-next (a .w) (a .v) (a .out .now) (s .pre) (l .i) (l .rest) (c .loop-test .taken) (l .inv .0) (l .inv .2)))
+    ap length (l .inv .1) ∙ length-filled (a .w) (a .v) (a .out .now) (s .pre) (l .i) (l .inv .0))
     (λ c. let l = c .before .loop in let s = c .before .before in let a = s .args in
-      ap length (l .inv .1) ∙ length-filled (a .w) (a .v) (a .out .now) (s .pre) (l .i) (l .inv .0))
-    (λ c. let l = c .before .loop in let s = c .before .before in let a = s .args in
-      let f = filled-whole (a .w) (a .v) (a .out .now) (s .pre) (l .i) (c .loop-test .left) in
-      record { count = f .count; out = l .inv .1 ∙ f .out }))
+    let f = filled-whole (a .w) (a .v) (a .out .now) (s .pre) (l .i) (c .loop-test .left) in
+    record { count = f .count; out = l .inv .1 ∙ f .out }))

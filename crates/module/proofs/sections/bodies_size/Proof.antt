@@ -46,10 +46,11 @@ bodies-size-spec = tie.close (tie.spec
     (λ c. search needs)
     (λ c. search needs)
     (λ c κs. let s = c .before .before .before .before .before .before .before .before .before .before .before in
-      omega (arith, few codesFrom 256 (s .args .tables .now) (c .before .before .before .before .before .before .words-part .ensures) (s .pre .functions)))
-    (λ c κs. let w = c .before .before in let s = w .before .before .before .before .before .before .before .before .before .before in let a = s .args in
-      (omega (arith, few classNamesFrom 64 (a .tables .now) (w .before .before .before .words-part2 .ensures) (s .pre .classes)),
-       same-classes (a .tree .now) (a .code .now) (a .tables .now) (a .c) refl refl refl refl (w .before .before .before .words-part2 .ensures) (w .before .words-part3 .ensures) (s .pre)))
+    omega (arith, few codesFrom 256 (s .args .tables .now) (c .before .before .before .before .before .before .words-part .ensures) (s .pre .functions)))
+    (λ c κs. let w = c .before .before in let s = w .before .before .before .before .before .before .before .before .before .before in let a = s .args in (
+      omega (arith, few classNamesFrom 64 (a .tables .now) (w .before .before .before .words-part2 .ensures) (s .pre .classes)),
+      same-classes (a .tree .now) (a .code .now) (a .tables .now) (a .c) refl refl refl refl (w .before .before .before .words-part2 .ensures) (w .before .words-part3 .ensures) (s .pre),
+    ))
     (λ c. omega (arith, sized c, room c))
     (λ c. omega (arith, sized c, room c))
     (λ c. search needs)

@@ -27,7 +27,8 @@ texts-size-spec = tie.close (tie.spec
     (λ c κs. let s = c .before .before .before .before .before .before .before in omega (arith, few 0 1024 (s .args .tables .now) (c .before .before .words-part .ensures) (s .pre .0)))
     (λ c κs. let s = c .before .before .before .before .before .before .before .before in omega (arith, few stringsFrom 512 (s .args .tables .now) (c .before .words-part2 .ensures) (s .pre .1)))
     (λ c. omega (arith, room (c .before .before), c .strings-size .ensures, c .before .symbols-size .ensures))
-    (λ c. let w = c .before .before in let a = w .before .before .before .before .before .before .before .args in
-      (ap₂ (λ (x y : ℕ). x + y) (c .before .symbols-size .ensures) (c .strings-size .ensures)
-         ∙ length-texts (a .tree .now) (a .made .now) (a .tables .now) (a .c) (w .before .before .words-part .ensures) (w .words-part2 .ensures),
-       omega (arith, room w, c .strings-size .ensures, c .before .symbols-size .ensures))))
+    (λ c. let w = c .before .before in let a = w .before .before .before .before .before .before .before .args in (
+      ap₂ (λ (x y : ℕ). x + y) (c .before .symbols-size .ensures) (c .strings-size .ensures)
+          ∙ length-texts (a .tree .now) (a .made .now) (a .tables .now) (a .c) (w .before .before .words-part .ensures) (w .words-part2 .ensures),
+      omega (arith, room w, c .strings-size .ensures, c .before .symbols-size .ensures),
+    )))

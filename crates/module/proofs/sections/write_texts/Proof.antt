@@ -27,15 +27,16 @@ write-texts-spec = tie.close (tie.spec
     (λ c κs. search needs)
     (λ c. search needs)
     (λ c κs. search needs)
-    (λ c κs. let w = c .before in let s = w .before .before .before .before .before .before .before .before in let a = s .args in
-      (omega (arith, few 0 1024 (a .tables .now) (w .before .before .words-part .ensures) (s .pre .0)),
-       omega (arith, s .pre .2, length-texts (a .tree .now) (a .made .now) (a .tables .now) (a .c) (w .before .before .words-part .ensures) (w .words-part2 .ensures))))
+    (λ c κs. let w = c .before in let s = w .before .before .before .before .before .before .before .before in let a = s .args in (
+      omega (arith, few 0 1024 (a .tables .now) (w .before .before .words-part .ensures) (s .pre .0)),
+      omega (arith, s .pre .2, length-texts (a .tree .now) (a .made .now) (a .tables .now) (a .c) (w .before .before .words-part .ensures) (w .words-part2 .ensures)),
+    ))
     (λ c. omega (arith, begun-fits (begun c)))
     (λ c. omega (arith, begun-fits (begun c)))
     (λ c. search needs)
     (λ c κs. let w = c .before .before .before .before .before in let s = w .before .before .before .before .before .before .before .before in
-      (omega (arith, few stringsFrom 512 (s .args .tables .now) (w .words-part2 .ensures) (s .pre .1)), begun-piece (begun (c .before))))
+    (omega (arith, few stringsFrom 512 (s .args .tables .now) (w .words-part2 .ensures) (s .pre .1)), begun-piece (begun (c .before))))
     (λ c. let k = c .before .before .before .before in let b = begun k in let s = k .before .before .before .before .before .before .before .before .before .before .before .before in
-      omega (arith, begun-fits b, begun-length b, c .before .before .write-strings .ensures .count, s .good))
+    omega (arith, begun-fits b, begun-length b, c .before .before .write-strings .ensures .count, s .good))
     (λ c. begun-length (begun-next (begun (c .before .before .before .before)) (c .before .before .write-strings .ensures)))
     (λ c. begun-done (begun-next (begun (c .before .before .before .before)) (c .before .before .write-strings .ensures))))

@@ -28,9 +28,11 @@ eight-at-spec = tie.close (tie.spec Inv-loop μ-loop
     (λ c. omega (arith, room (c .before), c .byte .ok))
     (λ c. omega arith)
     (λ c. omega arith)
-    (λ c. let l = c .before .before .loop in let s = c .before .before .before in let t = s .before .args .bytes .now in let at = s .before .args .at in
-      (omega arith, grows (l .n) _ (l .i) (l .inv .1) (omega (arith, c .byte .ok)),
-       l .inv .2 ∙ horner t at 8 (l .i) (l .n) (c .before .loop-test .taken)
-         ∙ ap (λ (b : ℕ). (l .n * 256 + b) * 256 ^ (8 - (l .i + 1)) + numberAt (8 - (l .i + 1)) t (at + (l .i + 1))) (sym (c .byte .ensures))))
+    (λ c. let l = c .before .before .loop in let s = c .before .before .before in let t = s .before .args .bytes .now in let at = s .before .args .at in (
+      omega arith,
+      grows (l .n) _ (l .i) (l .inv .1) (omega (arith, c .byte .ok)),
+      l .inv .2 ∙ horner t at 8 (l .i) (l .n) (c .before .loop-test .taken)
+          ∙ ap (λ (b : ℕ). (l .n * 256 + b) * 256 ^ (8 - (l .i + 1)) + numberAt (8 - (l .i + 1)) t (at + (l .i + 1))) (sym (c .byte .ensures)),
+    ))
     (λ c. let l = c .before .loop in let a = c .before .before .before .args in
-      sym (l .inv .2 ∙ number-all (a .bytes .now) (a .at) (l .i) (l .n) (l .inv .0) (c .loop-test .left))))
+    sym (l .inv .2 ∙ number-all (a .bytes .now) (a .at) (l .i) (l .n) (l .inv .0) (c .loop-test .left))))

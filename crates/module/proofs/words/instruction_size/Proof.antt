@@ -18,6 +18,7 @@ instruction-size-spec = tie.close (tie.spec
     (λ c. search needs)
     (λ c. search needs)
     (λ c. search needs)
-    (λ c. let o = c .before .before .opcode .ensures in
-      (λ t. ap₂ (λ (x y : ℕ). 1 + x + y) (c .before .first-width .ensures .0 ∙ ap firstWidth (o .0 t)) (c .second-width .ensures .0 ∙ ap secondWidth (o .0 t)) ∙ sym (length-encode (instrOf t _)),
-       omega (arith, c .before .first-width .ensures .1, c .second-width .ensures .1))))
+    (λ c. let o = c .before .before .opcode .ensures in (
+      λ t. ap₂ (λ (x y : ℕ). 1 + x + y) (c .before .first-width .ensures .0 ∙ ap firstWidth (o .0 t)) (c .second-width .ensures .0 ∙ ap secondWidth (o .0 t)) ∙ sym (length-encode (instrOf t _)),
+      omega (arith, c .before .first-width .ensures .1, c .second-width .ensures .1),
+    )))

@@ -42,6 +42,6 @@ write-instruction-spec = tie.close (tie.spec
     (λ c. search needs)
     (λ c κs. let p = c .before .before .before in begun-number _ _ (begun-next (begun (p .before .before)) (p .write-number .ensures)))
     (λ c. let q = c .before .before in let p = q .before .before .before .before in
-      let b = begun-next (begun-next (begun (p .before .before)) (p .write-number .ensures)) (q .write-number2 .ensures) in let s = p .before .before .before .before .before .before .before .before .before in omega (arith, begun-done b .count, s .pre, s .good))
+    let b = begun-next (begun-next (begun (p .before .before)) (p .write-number .ensures)) (q .write-number2 .ensures) in let s = p .before .before .before .before .before .before .before .before .before in omega (arith, begun-done b .count, s .pre, s .good))
     (λ c. let q = c .before .before in let p = q .before .before .before .before in begun-length (begun-next (begun-next (begun (p .before .before)) (p .write-number .ensures)) (q .write-number2 .ensures)))
     (λ c. let q = c .before .before in let p = q .before .before .before .before in begun-done (begun-next (begun-next (begun (p .before .before)) (p .write-number .ensures)) (q .write-number2 .ensures))))
