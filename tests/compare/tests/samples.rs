@@ -169,3 +169,23 @@ fn slots_by_first_appearance() {
     // b is a slot because of the later assignment; a is none.
     assert_eq!(loaded_slots("slots-not-from-tuple", 1), [0]);
 }
+
+/// The folder of sample scripts with their trees and modules.
+fn sample_folder() -> std::path::PathBuf {
+    std::path::Path::new(env!("CARGO_MANIFEST_DIR")).join("../../samples")
+}
+
+#[test]
+fn sample_scripts() {
+    let mut seen = 0;
+    for entry in std::fs::read_dir(sample_folder()).expect("samples") {
+        let path = entry.expect("a file").path();
+        if path.extension().is_some_and(|end| end == "tree") {
+            let tree = std::fs::read(&path).expect("a tree");
+            let module = std::fs::read(path.with_extension("module")).expect("its module");
+            assert_eq!(lower(&tree), Ok(module), "{}", path.display());
+            seen += 1;
+        }
+    }
+    assert!(seen >= 4, "only {seen} sample scripts");
+}
