@@ -1,0 +1,83 @@
+-- Names and strings as parts of bytes, and how two are compared.
+use Prim.Native.Nat.{ℕ, zero, suc, _+_, _*_, _-_, _≤_, _<_, _^_}
+use mathlib.Core.Path.{_≡_, refl, sym, ap, _∙_}
+use mathlib.Core.Bool.{Bool, true, false, _&&_}
+use mathlib.Core.List.{List, [], _∷_}
+use native.Mathlib.Omega.{arith}
+use native.Mathlib.Nat.{add-sub-cancel-left}
+use native.Mathlib.Numerals.{add-one}
+use lib.Dec.{eqb}
+use lib.ListN.{length, take, drop, getD, length-drop, drop-of-length-le}
+use lib.Seq.{take-nil, take-all, drop-cons}
+use borrow.Author.Tests.{lt-ltb, le-ltb, eq-eqb, ne-eqb}
+use Rattle.definitions.specs.Bytes.{same}
+use Rattle.state.specs.Words.{numberAt, nameAt, textAt}
+use Rattle.state.specs.State.{spelled}
+
+-- ---- parts
+
+pub past-end : (n p : ℕ) (t : List ℕ) → length t ≤ p → [] ≡ take n (drop p t)
+past-end n p t h = sym (ap (take n) (drop-of-length-le t h) ∙ take-nil n)
+
+pub cut-end : (n p : ℕ) (t : List ℕ) → length t - p < n → take (length t - p) (drop p t) ≡ take n (drop p t)
+cut-end n p t h =
+    let e = length-drop p t in
+    take-all (length t - p) (drop p t) (omega arith) ∙ sym (take-all n (drop p t) (omega arith))
+
+pub whole-part : (n p : ℕ) (t : List ℕ) → take (p + n - p) (drop p t) ≡ take n (drop p t)
+whole-part n p t = ap (λ (k : ℕ). take k (drop p t)) (add-sub-cancel-left p n)
+
+pub name-past : (p : ℕ) (t : List ℕ) → length t ≤ p → [] ≡ nameAt t p
+unfolding nameAt
+name-past p t h = past-end (getD t p 0) (p + 1) t (omega arith)
+
+pub name-here : (p : ℕ) (t : List ℕ) → take (getD t p 0) (drop (p + 1) t) ≡ nameAt t p
+unfolding nameAt
+name-here p t = refl
+
+pub text-past : (p : ℕ) (t : List ℕ) → length t ≤ p → [] ≡ textAt t p
+unfolding textAt
+text-past p t h = past-end (numberAt 2 t p) (p + 2) t (omega arith)
+
+pub text-here : (p n : ℕ) (t : List ℕ) → n ≡ numberAt 2 t p → take n (drop (p + 2) t) ≡ textAt t p
+unfolding textAt
+text-here p n t e = ap (λ (k : ℕ). take k (drop (p + 2) t)) e
+
+pub count-is : (t : List ℕ) (p a b : ℕ) → a ≡ getD t p 0 → b ≡ getD t (p + 1) 0 → a * 256 + b ≡ numberAt 2 t p
+unfolding numberAt
+count-is t p a b e f = omega arith
+
+pub spelled-tree : (tree made : List ℕ) (w : ℕ) → w < 32768 → nameAt tree w ≡ spelled tree made w
+unfolding spelled
+spelled-tree tree made w h = rw (lt-ltb w 32768 h, spelled)
+
+pub spelled-made : (tree made : List ℕ) (w : ℕ) → 32768 ≤ w → nameAt made (w - 32768) ≡ spelled tree made w
+unfolding spelled
+spelled-made tree made w h = rw (le-ltb w 32768 h, spelled)
+
+-- ---- equal bytes
+
+pub same-more : (a b : List ℕ) (i : ℕ) → i < length a → i < length b → same (drop i a) (drop i b) ≡ (eqb (getD a i 0) (getD b i 0) && same (drop (i + 1) a) (drop (i + 1) b))
+unfolding same
+same-more a b i h g = rw (drop-cons a i 0 h, drop-cons b i 0 g, add-one)
+
+pub same-none : (a b : List ℕ) (i : ℕ) → length a ≤ i → length b ≤ i → same (drop i a) (drop i b) ≡ true
+unfolding same
+same-none a b i h g = rw (drop-of-length-le a h, drop-of-length-le b g)
+
+and-no : (x : Bool) → false ≡ (x && false)
+and-no true = refl
+and-no false = refl
+
+pub same-other : (a b : List ℕ) → (length a ≡ length b → ⊥) → false ≡ same a b
+unfolding same
+same-other [] [] h = absurd (h refl)
+same-other [] (y ∷ b) h = refl
+same-other (x ∷ a) [] h = refl
+same-other (x ∷ a) (y ∷ b) h = rw (sym (same-other a b (λ e. h (ap suc e)))) (and-no (eqb x y))
+
+pub same-go : (a b : List ℕ) (i : ℕ) → length a ≡ length b → i < length a → getD a i 0 ≡ getD b i 0 → same (drop i a) (drop i b) ≡ same (drop (i + 1) a) (drop (i + 1) b)
+same-go a b i l h e = same-more a b i h (omega arith) ∙ ap (λ (x : Bool). x && same (drop (i + 1) a) (drop (i + 1) b)) (eq-eqb _ _ e)
+
+pub same-stop : (a b : List ℕ) (i : ℕ) → length a ≡ length b → i < length a → (getD a i 0 ≡ getD b i 0 → ⊥) → same (drop i a) (drop i b) ≡ false
+same-stop a b i l h e = same-more a b i h (omega arith) ∙ ap (λ (x : Bool). x && same (drop (i + 1) a) (drop (i + 1) b)) (ne-eqb _ _ e)

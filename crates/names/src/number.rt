@@ -1,0 +1,1 @@
+// The numbers of symbols and strings, made where they are new.
