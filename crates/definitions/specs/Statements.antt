@@ -11,7 +11,7 @@ use Rattle.definitions.specs.Bytes.{Answer, refused, accepted, Parsed, g
 use Rattle.definitions.specs.Tree.{Block, []ᵇ}
 use Rattle.definitions.specs.Parse.{blockOf, parseStmt}
 use Rattle.definitions.specs.Wellformed.{askBlock, firstNo, refusedBy}
-use Rattle.definitions.specs.Instruction.{encodes}
+use Rattle.definitions.specs.Instruction.{Instr, encodes}
 use Rattle.definitions.specs.Tables.{Function, Tables, Source}
 use Rattle.definitions.specs.Lower.{compile, emitBody}
 use Rattle.definitions.specs.Module.{Limits, office, moduleBytes, slotsFit, tablesFit, lowerBlock, lowerTables, lowerBytes}
@@ -151,6 +151,17 @@ Demand3Bytes =
     → (k : ℕ) (answers : List ℕ) → areAnswers answers ≡ true
     → (budget room : ℕ) → (length answers + 1) * instructionsIn m k ≤ budget
     → Follows answers room (walkTree tree k answers) (runAnswer m k answers budget room)
+
+-- ---- the steps of a run: proofs/Steps
+
+-- A run has at most as many steps as its budget, and just as many where the budget is spent; where it ends otherwise, more budget changes nothing
+pub record Counts (n : ℕ) (r : Ran) (more : ℕ → Ran) : Type 0 where
+  pub most : r .steps ≤ n
+  pub spent : r .ending ≡ 3 → r .steps ≡ n
+  pub enough : (r .ending ≡ 3 → ⊥) → (m : ℕ) → more m ≡ r
+
+abbrev pub Steps : Type 0
+Steps = (n : ℕ) (code : List Instr) (p : ℕ) (answers : List ℕ) → Counts n (run n code p answers) (λ m. run (n + m) code p answers)
 
 -- ---- the hand-back of code: proofs/Handed
 

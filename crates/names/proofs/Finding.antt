@@ -7,9 +7,11 @@ use mathlib.Core.List.{List, [], _∷_, map}
 use native.Mathlib.Omega.{arith}
 use native.Mathlib.Nat.{zero-add}
 use native.Mathlib.Numerals.{add-one}
-use lib.ListN.{length, drop, getD, drop-of-length-le}
-use lib.Seq.{drop-cons}
-use Rattle.definitions.specs.Bytes.{position}
+use lib.ListN.{length, take, drop, getD, length-map, length-drop, drop-of-length-le}
+use lib.Seq.{drop-cons, length-take-le}
+use Rattle.definitions.specs.Bytes.{Name, same, position}
+use Rattle.definitions.proofs.Resolve.{position-lt}
+use Rattle.state.specs.Words.{region}
 use Rattle.state.specs.State.{foundOr}
 
 -- a place among the words from i on, as a place among all
@@ -69,13 +71,13 @@ module _ (test : ℕ → Bool) (ws : List ℕ) where
 
 -- ---- where it is found
 
-found-below : {A : Type 0} (test : A → Bool) (xs : List A) (n : ℕ) → length xs ≤ n → foundOr n (position test xs) < length xs → position test xs ≡ some (foundOr n (position test xs))
+pub found-le : {A : Type 0} (test : A → Bool) (xs : List A) → foundOr (length xs) (position test xs) ≤ length xs
 unfolding foundOr
-found-below test xs n h g = go (position test xs) g
+found-le test xs = go (position test xs) (position-lt test xs)
   where
-    go : (o : Option ℕ) → foundOr n o < length xs → o ≡ some (foundOr n o)
-    go none k = absurd (omega arith)
-    go (some i) k = refl
+    go : (o : Option ℕ) → ((k : ℕ) → o ≡ some k → k < length xs) → foundOr (length xs) o ≤ length xs
+    go none f = omega arith
+    go (some k) f = let z = f k refl in omega arith
 
 pub position-map : {A : Type 0} (test : A → Bool) (f : ℕ → A) (ws : List ℕ) → position test (map f ws) ≡ position (λ w. test (f w)) ws
 unfolding position
@@ -84,3 +86,18 @@ position-map test f (w ∷ ws) = position-cons test (f w) (map f ws) ∙ ap (ste
 
 pub found-map : {A : Type 0} (test : A → Bool) (f : ℕ → A) (n : ℕ) (ws : List ℕ) → foundOr n (position (λ w. test (f w)) ws) ≡ foundOr n (position test (map f ws))
 found-map test f n ws = ap (foundOr n) (sym (position-map test f ws))
+
+-- a name that is found among the m words of a part of an area, where m is n
+module _ (f : ℕ → Name) (ts : List ℕ) (a m n : ℕ) (x y : Name) (r : ℕ) (inside : a + n ≤ length ts) (size : m ≡ n) where
+  abbrev Sought : Type 0
+  Sought = r ≡ foundOr (length (take m (drop a ts))) (position (same x) (map f (take m (drop a ts))))
+
+  part-length : length (take m (drop a ts)) ≡ n
+  part-length = length-take-le m (drop a ts) (let e = length-drop a ts in omega arith) ∙ size
+
+  pub sought-le : Sought → r ≤ n
+  sought-le e = let k = found-le (same x) (map f (take m (drop a ts))) in let l = length-map (take m (drop a ts)) f in omega (arith, part-length, rw l at k)
+
+  pub sought : x ≡ y → Sought → r ≡ foundOr n (position (same y) (map f (region a n ts)))
+  unfolding region
+  sought e k = k ∙ (λ j. foundOr (part-length j) (position (same (e j)) (map f (take (size j) (drop a ts)))))

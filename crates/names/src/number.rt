@@ -1,1 +1,100 @@
 // The numbers of symbols and strings, made where they are new.
+use crate::find::find_spelling;
+use crate::find::find_text;
+use crate::spell::name_part;
+use crate::spell::text_part;
+use state::Counts;
+use state::Limits;
+use state::Numbered;
+ghost use mathlib.Core.Path.{_≡_};
+ghost use mathlib.Core.List.{map};
+ghost use Prim.Native.Nat.{_+_, _^_, _≤_, _<_};
+ghost use lib.ListN.{length};
+ghost use Rattle.definitions.specs.Bytes.{same, position};
+ghost use Rattle.state.specs.Words.{region, textAt};
+ghost use Rattle.state.specs.State.{spelled, stringsFrom, stateOf, Sound, MadeWithin, Numbers, foundOr, symbolNumber, withSymbol, stringNumber, withString, withTables};
+
+// The number of the symbol that is spelled as the word w, or n. An index of the symbols, if one is wanted, goes here.
+pub fn find_symbol(tree: &[u8], made: &[u8], tables: &[u32], n: u32, w: u32) -> u32
+    requires { ⌜ n ≤ length (now tables) ⌝ }
+    ensures { λ r. ⌜ r ≡ foundOr n (position (same (spelled (now (tree .entry)) (now (made .entry)) w)) (map (spelled (now (tree .entry)) (now (made .entry))) (region 0 n (now (tables .entry))))) ⌝ }
+{
+    let end = n as usize;
+    let words = &tables[0..end];
+    if w < 32768 {
+        return find_spelling(tree, made, words, name_part(tree, w as usize)) as u32;
+    }
+    find_spelling(tree, made, words, name_part(made, w as usize - 32768)) as u32
+}
+
+// The number of the symbol that is spelled as the word w, a name in the tree or a made one that takes `grow` bytes if it is new.
+pub fn intern(
+    tree: &[u8],
+    made: &[u8],
+    code: &[u32],
+    tables: &mut [u32],
+    w: u32,
+    grow: u32,
+    c: Counts,
+    l: Limits,
+) -> Numbered
+    requires { ⌜ Sound (now made) (now code) (now tables) c l × MadeWithin (now made) (c .made + grow) w × (grow ≤ 20) ⌝ }
+    ensures { λ r. ⌜ Numbers r (now (tree .entry)) (now (made .entry)) (now (code .entry)) (now (tables .exit)) c l
+        (symbolNumber (spelled (now (tree .entry)) (now (made .entry)) w) (stateOf (now (tree .entry)) (now (made .entry)) (now (code .entry)) (now (tables .entry)) c .tables))
+        (withTables (withSymbol (spelled (now (tree .entry)) (now (made .entry)) w) (stateOf (now (tree .entry)) (now (made .entry)) (now (code .entry)) (now (tables .entry)) c .tables))
+        (stateOf (now (tree .entry)) (now (made .entry)) (now (code .entry)) (now (tables .entry)) c)) ⌝ }
+{
+    let n = c.symbols;
+    let i = find_symbol(tree, made, tables, n, w);
+    if i < n {
+        return Numbered::At(i, c);
+    }
+    if l.symbols <= n {
+        return Numbered::Over;
+    }
+    tables[n as usize] = w;
+    let mut k = c;
+    k.symbols = n + 1;
+    k.made = c.made + grow;
+    Numbered::At(n, k)
+}
+
+// The number of the string at `at`, or n.
+pub fn find_string(tree: &[u8], tables: &[u32], n: u32, at: usize) -> u32
+    requires { ⌜ stringsFrom + n ≤ length (now tables) ⌝ }
+    ensures { λ r. ⌜ r ≡ foundOr n (position (same (textAt (now (tree .entry)) at)) (map (textAt (now (tree .entry))) (region stringsFrom n (now (tables .entry))))) ⌝ }
+{
+    let end = 1024 + n as usize;
+    let words = &tables[1024..end];
+    find_text(tree, words, text_part(tree, at)) as u32
+}
+
+// The number of the string at `at`.
+pub fn get_or_add_string(
+    tree: &[u8],
+    made: &[u8],
+    code: &[u32],
+    tables: &mut [u32],
+    at: usize,
+    c: Counts,
+    l: Limits,
+) -> Numbered
+    requires { ⌜ Sound (now made) (now code) (now tables) c l × (at < 2 ^ 32) ⌝ }
+    ensures { λ r. ⌜ Numbers r (now (tree .entry)) (now (made .entry)) (now (code .entry)) (now (tables .exit)) c l
+        (stringNumber (textAt (now (tree .entry)) at) (stateOf (now (tree .entry)) (now (made .entry)) (now (code .entry)) (now (tables .entry)) c .tables))
+        (withTables (withString (textAt (now (tree .entry)) at) (stateOf (now (tree .entry)) (now (made .entry)) (now (code .entry)) (now (tables .entry)) c .tables))
+        (stateOf (now (tree .entry)) (now (made .entry)) (now (code .entry)) (now (tables .entry)) c)) ⌝ }
+{
+    let n = c.strings;
+    let i = find_string(tree, tables, n, at);
+    if i < n {
+        return Numbered::At(i, c);
+    }
+    if l.strings <= n {
+        return Numbered::Over;
+    }
+    tables[1024 + n as usize] = at as u32;
+    let mut k = c;
+    k.strings = n + 1;
+    Numbered::At(n, k)
+}

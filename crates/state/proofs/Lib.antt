@@ -1,2 +1,12 @@
 pub mod Regions
 pub mod Views
+pub mod Emission
+pub mod Jumps
+pub mod Enclosing
+pub mod ExprEmission
+pub mod StmtEmission
+pub mod Growth
+pub mod Within
+pub mod WithinParts
+pub mod SlotsFit
+pub mod Answers

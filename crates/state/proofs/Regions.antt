@@ -1,19 +1,18 @@
 -- Regions of an area: what a word that is set, or a part that came back, changes; and what the views of regions make of it.
-use Prim.Native.Nat.{ℕ, zero, suc, _+_, _-_, _*_, _/_, _%_, _^_, _≤_, _<_}
-use mathlib.Core.Path.{_≡_, refl, sym, ap, _∙_, subst}
+use Prim.Native.Nat.{ℕ, zero, suc, _+_, _-_, _/_, _%_, _^_, _≤_, _<_}
+use mathlib.Core.Path.{_≡_, refl, sym, ap, _∙_}
 use mathlib.Core.Bool.{Bool, true, false}
-use mathlib.Core.List.{List, [], _∷_, _++_, map, append-assoc}
+use mathlib.Core.List.{List, [], _∷_, _++_, map}
 use native.Mathlib.Omega.{arith}
-use native.Mathlib.Nat.{zero-add, suc-add, add-suc, add-zero}
+use native.Mathlib.Nat.{zero-add, suc-add}
 use native.Mathlib.Numerals.{add-one}
-use lib.ListN.{length, take, drop, getD, set, length-take, length-drop, length-append, length-map, length-set}
+use lib.ListN.{length, take, drop, getD, set, length-drop, length-map}
 use lib.Seq.{drop-at, take-at, length-take-le, take-take, take-nil, drop-nil, take-set-lt, take-set-le, drop-set-lt, drop-set-add, take-suc-set, getD-take, getD-drop, take-add, drop-drop, take-suc, drop-cons}
 use lib.Dec.{ltb}
 use borrow.Author.Tests.{ltb-false}
-use borrow.Rule.Slice.PartMut.{putMid, midOf, postOf, take-put, drop-put}
+use borrow.Rule.Slice.PartMut.{putMid, postOf, take-put, drop-put}
 use Rattle.definitions.specs.Bytes.{Name}
-use Rattle.definitions.specs.Instruction.{Instr}
-use Rattle.definitions.specs.Tables.{Function, Method, Class, setCode}
+use Rattle.definitions.specs.Tables.{Function, Class, setCode}
 use Rattle.definitions.specs.Module.{instructions}
 use Rattle.state.specs.Words.{region, nameAt, instrOf, instrsOf}
 use Rattle.state.specs.State.{spelled, functionOf, functionsOf, methodOf, classOf, classesOf, placeOf, countOf, Every, noEvery, every, MadeWithin, EndsWithin, total}

@@ -1,14 +1,13 @@
 -- How long the views of sound slices are: as the counts say. So sound slices hold a state within the limits.
-use Prim.Native.Nat.{ℕ, _+_, _-_, _≤_, _<_}
-use mathlib.Core.Path.{_≡_, refl, sym, ap, _∙_}
-use mathlib.Core.List.{List, map}
+use Prim.Native.Nat.{ℕ}
+use mathlib.Core.Path.{_≡_, sym, _∙_}
+use mathlib.Core.List.{List}
 use native.Mathlib.Omega.{arith}
-use lib.ListN.{length, take, drop, length-take, length-drop, length-map}
+use lib.ListN.{length, take, drop, length-drop, length-map}
 use lib.Seq.{length-take-le}
-use Rattle.definitions.specs.Tables.{Tables}
 use Rattle.definitions.specs.Module.{instructions}
 use Rattle.state.specs.Words.{region, textAt, instrOf, instrsOf}
-use Rattle.state.specs.State.{stringsFrom, headsFrom, codesFrom, classNamesFrom, classMethodsFrom, methodsFrom, constantsFrom, doneFrom, spelled, functionsOf, classesOf, State, tablesOf, stateOf, Within, Limited, Sound, total}
+use Rattle.state.specs.State.{stringsFrom, headsFrom, codesFrom, classNamesFrom, classMethodsFrom, methodsFrom, constantsFrom, doneFrom, spelled, tablesOf, stateOf, Within, Sound}
 use Rattle.state.specs.declared.Counts.{Counts}
 use Rattle.state.specs.declared.Limits.{Limits}
 use Rattle.state.proofs.Regions.{region-length, functions-length, classes-length, instructions-total}

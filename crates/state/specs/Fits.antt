@@ -1,4 +1,5 @@
--- Question 14 by a walk over the tree: each function that is lowered has at most 255 slots.
+-- Question 14 by a walk over the tree: each function that is lowered has at most 255 slots. Targets are taken to be targets (question 10): the value
+-- of an assignment to anything else is tested here, though it is not lowered.
 use Prim.Native.Nat.{ℕ}
 use mathlib.Core.Bool.{Bool, true, false, _&&_}
 use mathlib.Core.List.{List, [], _∷_, _++_}

@@ -1,3 +1,4 @@
 pub mod Words
 pub mod Fits
 pub mod State
+pub mod Steps

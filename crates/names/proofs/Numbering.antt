@@ -1,0 +1,327 @@
+-- A symbol or a string gets its number: what is left where it is old, where it is new, and where there is no room for it.
+use Prim.Native.Nat.{ℕ, suc, _+_, _*_, _-_, _≤_, _<_}
+use mathlib.Core.Path.{_≡_, refl, sym, ap, subst, _∙_}
+use mathlib.Core.Bool.{Bool}
+use mathlib.Core.Option.{Option, none, some}
+use mathlib.Core.List.{List, [], _∷_, _++_, map, map-append}
+use native.Mathlib.Omega.{arith}
+use lib.ListN.{length, take, drop, set, length-append, length-set}
+use Rattle.definitions.specs.Bytes.{Name, Text, same, position}
+use Rattle.definitions.specs.Tables.{Function, Class, Tables, addSymbol, addString}
+use Rattle.definitions.proofs.Resolve.{position-lt}
+use Rattle.state.specs.Words.{region, textAt, instrsOf}
+use Rattle.state.specs.State.{stringsFrom, headsFrom, codesFrom, classNamesFrom, classMethodsFrom, methodsFrom, constantsFrom, doneFrom, spelled, functionsOf, classesOf, State, tablesOf, stateOf, Within, Sound, Every, MadeWithin, EndsWithin, total, Paced, Left, Numbers, foundOr, symbolNumber, withSymbol, stringNumber, withString, withTables}
+use Rattle.state.specs.declared.Counts.{Counts}
+use Rattle.state.specs.declared.Limits.{Limits}
+use Rattle.state.specs.declared.Numbered.the-variants.{At, Over}
+use Rattle.state.proofs.Regions.{set-first, set-next, set-above, set-below, every-snoc, every-map, made-within-more}
+use Rattle.state.proofs.Views.{symbols-length, strings-length}
+use Rattle.names.proofs.Finding.{found-le}
+
+-- ---- a place that is found, or not
+
+module _ {R : Type 0} (n : ℕ) (a b : R) where
+  choice : Option ℕ → R
+  choice o = elim o [ some k ↦ a | none ↦ b ]
+
+  choose-old : (o : Option ℕ) → foundOr n o < n → choice o ≡ a
+  unfolding foundOr choice
+  choose-old none h = absurd (omega arith)
+  choose-old (some k) h = refl
+
+  choose-new : (o : Option ℕ) → ((k : ℕ) → o ≡ some k → k < n) → n ≤ foundOr n o → choice o ≡ b
+  unfolding foundOr choice
+  choose-new none f h = refl
+  choose-new (some k) f h = let z = f k refl in absurd (omega arith)
+
+module _ (x : Name) (t : Tables) where
+  pub symbol-old : symbolNumber x t < length (t .symbols) → withSymbol x t ≡ t
+  unfolding symbolNumber withSymbol choice
+  symbol-old h = choose-old (length (t .symbols)) t (addSymbol x t) (position (same x) (t .symbols)) h
+
+  pub symbol-new : length (t .symbols) ≤ symbolNumber x t → withSymbol x t ≡ addSymbol x t
+  unfolding symbolNumber withSymbol choice
+  symbol-new h = choose-new (length (t .symbols)) t (addSymbol x t) (position (same x) (t .symbols)) (position-lt (same x) (t .symbols)) h
+
+  pub string-old : stringNumber x t < length (t .strings) → withString x t ≡ t
+  unfolding stringNumber withString choice
+  string-old h = choose-old (length (t .strings)) t (addString x t) (position (same x) (t .strings)) h
+
+  pub string-new : length (t .strings) ≤ stringNumber x t → withString x t ≡ addString x t
+  unfolding stringNumber withString choice
+  string-new h = choose-new (length (t .strings)) t (addString x t) (position (same x) (t .strings)) (position-lt (same x) (t .strings)) h
+
+  pub symbol-le : symbolNumber x t ≤ length (t .symbols)
+  unfolding symbolNumber
+  symbol-le = found-le (same x) (t .symbols)
+
+  pub string-le : stringNumber x t ≤ length (t .strings)
+  unfolding stringNumber
+  string-le = found-le (same x) (t .strings)
+
+  -- the number is that of an entry
+  pub symbol-in : symbolNumber x t < length (withSymbol x t .symbols)
+  unfolding symbolNumber withSymbol foundOr
+  symbol-in = go (position (same x) (t .symbols)) (position-lt (same x) (t .symbols))
+    where
+      go : (o : Option ℕ) → ((k : ℕ) → o ≡ some k → k < length (t .symbols)) →
+          foundOr (length (t .symbols)) o < length ((elim o as (λ z. Tables) [ some k ↦ t | none ↦ addSymbol x t ]) .symbols)
+      go none f = omega (arith, length-append (t .symbols) (x ∷ []))
+      go (some k) f = f k refl
+
+  pub string-in : stringNumber x t < length (withString x t .strings)
+  unfolding stringNumber withString foundOr
+  string-in = go (position (same x) (t .strings)) (position-lt (same x) (t .strings))
+    where
+      go : (o : Option ℕ) → ((k : ℕ) → o ≡ some k → k < length (t .strings)) →
+          foundOr (length (t .strings)) o < length ((elim o as (λ z. Tables) [ some k ↦ t | none ↦ addString x t ]) .strings)
+      go none f = omega (arith, length-append (t .strings) (x ∷ []))
+      go (some k) f = f k refl
+
+-- ---- tables by their lists
+
+pub tables-eq : (t u : Tables) → t .symbols ≡ u .symbols → t .strings ≡ u .strings → t .functions ≡ u .functions → t .classes ≡ u .classes → t .constants ≡ u .constants → t ≡ u
+tables-eq t u a b c d e = λ i. record { symbols = a i; strings = b i; functions = c i; classes = d i; constants = e i }
+
+-- ---- nothing is new
+
+pub left-same : (tree made code tables : List ℕ) (c : Counts) (l : Limits) (want : State) → Sound made code tables c l → want ≡ stateOf tree made code tables c → Left c tree made code tables c l want
+left-same tree made code tables c l want s e = record {
+  state = sym e;
+  base = refl;
+  paced = record { methods = omega arith; constants = omega arith };
+  sound = s;
+}
+
+-- ---- a symbol
+
+-- the counts after a new symbol, whose made name takes `grow` bytes
+abbrev pub oneSymbol : ℕ → Counts → Counts
+oneSymbol grow c = record {
+  symbols = c .symbols + 1;
+  strings = c .strings;
+  functions = c .functions;
+  classes = c .classes;
+  methods = c .methods;
+  constants = c .constants;
+  made = c .made + grow;
+  «open» = c .open;
+  base = c .base;
+  done = c .done;
+}
+
+module _ (tree made code tables : List ℕ) (c : Counts) (l : Limits) (s : Sound made code tables c l) (w i : ℕ) where
+  abbrev st : State
+  st = stateOf tree made code tables c
+
+  abbrev x : Name
+  x = spelled tree made w
+
+  abbrev want : State
+  want = withTables (withSymbol x (st .tables)) st
+
+  abbrev Found : Type 0
+  Found = i ≡ foundOr (c .symbols) (position (same x) (map (spelled tree made) (region 0 (c .symbols) tables)))
+
+  found-number : Found → i ≡ symbolNumber x (st .tables)
+  unfolding symbolNumber stateOf tablesOf
+  found-number e = e ∙ ap (λ (n : ℕ). foundOr n (position (same x) (map (spelled tree made) (region 0 (c .symbols) tables)))) (sym (symbols-length tree made code tables c l s))
+
+  pub intern-old : Found → i < c .symbols → Numbers (At i c) tree made code tables c l (symbolNumber x (st .tables)) want
+  unfolding Numbers
+  intern-old e h =
+      let f = found-number e in
+      let n = symbols-length tree made code tables c l s in
+      (f, left-same tree made code tables c l want s (ap (λ (t : Tables). withTables t st) (symbol-old x (st .tables) (omega arith))))
+
+  new : Found → c .symbols ≤ i → withSymbol x (st .tables) ≡ addSymbol x (st .tables)
+  new e h =
+      let f = found-number e in
+      let n = symbols-length tree made code tables c l s in
+      symbol-new x (st .tables) (omega arith)
+
+  pub intern-over : Found → c .symbols ≤ i → l .symbols ≤ c .symbols → Numbers Over tree made code tables c l (symbolNumber x (st .tables)) want
+  unfolding Numbers
+  intern-over e h full inside =
+      let n = symbols-length tree made code tables c l s in
+      let k = ap (λ (t : Tables). length (t .symbols)) (new e h) in
+      let m = length-append (st .tables .symbols) (x ∷ []) in
+      omega (arith, inside .symbols)
+
+  -- the tables with the word w after the symbols
+  next : List ℕ
+  next = set tables (c .symbols) w
+
+  above : (a n : ℕ) → 1024 ≤ a → c .symbols < l .symbols → region a n next ≡ region a n tables
+  unfolding next
+  above a n h room = set-above a n (c .symbols) w tables (omega (arith, s .limited))
+
+  here : c .symbols < l .symbols → region 0 (c .symbols + 1) next ≡ region 0 (c .symbols) tables ++ w ∷ []
+  unfolding next
+  here room = set-first (c .symbols) w tables (omega (arith, s .limited))
+
+  symbol-state : (grow : ℕ) → c .symbols < l .symbols → stateOf tree made code next (oneSymbol grow c) ≡ withTables (addSymbol x (st .tables)) st
+  unfolding stateOf tablesOf
+  symbol-state grow room =
+      ap (λ (t : Tables). record { stack = instrsOf tree (take (c .open) code); tables = t }) (tables-eq _ _
+      (ap (map (spelled tree made)) (here room) ∙ map-append (spelled tree made) (region 0 (c .symbols) tables) (w ∷ []))
+      (ap (map (textAt tree)) (above stringsFrom (c .strings) (omega arith) room))
+      (λ j. functionsOf tree (drop doneFrom code) (above headsFrom (c .functions) (omega arith) room j) (above codesFrom (c .functions) (omega arith) room j))
+      (λ j. classesOf tree (above methodsFrom 256 (omega arith) room j) (above classNamesFrom (c .classes) (omega arith) room j) (above classMethodsFrom (c .classes) (omega arith) room j))
+      (above constantsFrom (c .constants) (omega arith) room))
+
+  symbol-sound : (grow : ℕ) → grow ≤ 20 → MadeWithin made (c .made + grow) w → c .symbols < l .symbols → Sound made code next (oneSymbol grow c) l
+  unfolding next
+  symbol-sound grow small within room = record {
+    code-room = s .code-room;
+    tables-room = rw length-set (s .tables-room);
+    made-room = s .made-room;
+    limited = s .limited;
+    symbols = omega arith;
+    strings = s .strings;
+    functions = s .functions;
+    classes = s .classes;
+    constants = s .constants;
+    methods = s .methods;
+    words = s .words;
+    base = s .base;
+    made-count = omega (arith, s .made-count);
+    names = rw (here room) (every-snoc (every-map (λ a. made-within-more made (c .made) (c .made + grow) a (omega arith)) (s .names)) within);
+    codes = rw (above codesFrom (c .functions) (omega arith) room) (s .codes);
+    class-methods = rw (above classMethodsFrom (c .classes) (omega arith) room) (s .class-methods);
+    finished = s .finished ∙ ap total (sym (above codesFrom (c .functions) (omega arith) room));
+  }
+
+  pub intern-new : (grow : ℕ) → grow ≤ 20 → MadeWithin made (c .made + grow) w → Found → c .symbols ≤ i → c .symbols < l .symbols →
+      Numbers (At (c .symbols) (oneSymbol grow c)) tree made code (set tables (c .symbols) w) c l (symbolNumber x (st .tables)) want
+  unfolding Numbers next
+  intern-new grow small within e h room =
+      let f = found-number e in
+      let n = symbols-length tree made code tables c l s in
+      let k = symbol-le x (st .tables) in (
+        omega arith,
+        record {
+          state = symbol-state grow room ∙ ap (λ (t : Tables). withTables t st) (sym (new e h));
+          base = refl;
+          paced = record { methods = omega arith; constants = omega arith };
+          sound = symbol-sound grow small within room;
+        },
+      )
+
+-- ---- a string
+
+abbrev pub oneString : Counts → Counts
+oneString c = record {
+  symbols = c .symbols;
+  strings = c .strings + 1;
+  functions = c .functions;
+  classes = c .classes;
+  methods = c .methods;
+  constants = c .constants;
+  made = c .made;
+  «open» = c .open;
+  base = c .base;
+  done = c .done;
+}
+
+module _ (tree made code tables : List ℕ) (c : Counts) (l : Limits) (s : Sound made code tables c l) (p i : ℕ) where
+  abbrev st₂ : State
+  st₂ = stateOf tree made code tables c
+
+  abbrev text : Text
+  text = textAt tree p
+
+  abbrev want₂ : State
+  want₂ = withTables (withString text (st₂ .tables)) st₂
+
+  abbrev FoundText : Type 0
+  FoundText = i ≡ foundOr (c .strings) (position (same text) (map (textAt tree) (region stringsFrom (c .strings) tables)))
+
+  found-string : FoundText → i ≡ stringNumber text (st₂ .tables)
+  unfolding stringNumber stateOf tablesOf
+  found-string e = e ∙ ap (λ (n : ℕ). foundOr n (position (same text) (map (textAt tree) (region stringsFrom (c .strings) tables)))) (sym (strings-length tree made code tables c l s))
+
+  pub text-old : FoundText → i < c .strings → Numbers (At i c) tree made code tables c l (stringNumber text (st₂ .tables)) want₂
+  unfolding Numbers
+  text-old e h =
+      let f = found-string e in
+      let n = strings-length tree made code tables c l s in
+      (f, left-same tree made code tables c l want₂ s (ap (λ (t : Tables). withTables t st₂) (string-old text (st₂ .tables) (omega arith))))
+
+  new-text : FoundText → c .strings ≤ i → withString text (st₂ .tables) ≡ addString text (st₂ .tables)
+  new-text e h =
+      let f = found-string e in
+      let n = strings-length tree made code tables c l s in
+      string-new text (st₂ .tables) (omega arith)
+
+  pub text-over : FoundText → c .strings ≤ i → l .strings ≤ c .strings → Numbers Over tree made code tables c l (stringNumber text (st₂ .tables)) want₂
+  unfolding Numbers
+  text-over e h full inside =
+      let n = strings-length tree made code tables c l s in
+      let k = ap (λ (t : Tables). length (t .strings)) (new-text e h) in
+      let m = length-append (st₂ .tables .strings) (text ∷ []) in
+      omega (arith, inside .strings)
+
+  -- the tables with the place p after the strings
+  next-text : List ℕ
+  next-text = set tables (stringsFrom + c .strings) p
+
+  above-text : (a n : ℕ) → 1536 ≤ a → c .strings < l .strings → region a n next-text ≡ region a n tables
+  unfolding next-text
+  above-text a n h room = set-above a n (stringsFrom + c .strings) p tables (omega (arith, s .limited))
+
+  here-text : c .strings < l .strings → region stringsFrom (c .strings + 1) next-text ≡ region stringsFrom (c .strings) tables ++ p ∷ []
+  unfolding next-text
+  here-text room = set-next stringsFrom (c .strings) p tables (omega (arith, s .limited))
+
+  symbols-kept : region 0 (c .symbols) next-text ≡ region 0 (c .symbols) tables
+  unfolding next-text
+  symbols-kept = set-below 0 (c .symbols) (stringsFrom + c .strings) p tables (omega (arith, s .limited))
+
+  string-state : c .strings < l .strings → stateOf tree made code next-text (oneString c) ≡ withTables (addString text (st₂ .tables)) st₂
+  unfolding stateOf tablesOf
+  string-state room =
+      ap (λ (t : Tables). record { stack = instrsOf tree (take (c .open) code); tables = t }) (tables-eq _ _
+      (ap (map (spelled tree made)) symbols-kept)
+      (ap (map (textAt tree)) (here-text room) ∙ map-append (textAt tree) (region stringsFrom (c .strings) tables) (p ∷ []))
+      (λ j. functionsOf tree (drop doneFrom code) (above-text headsFrom (c .functions) (omega arith) room j) (above-text codesFrom (c .functions) (omega arith) room j))
+      (λ j. classesOf tree (above-text methodsFrom 256 (omega arith) room j) (above-text classNamesFrom (c .classes) (omega arith) room j) (above-text classMethodsFrom (c .classes) (omega arith) room j))
+      (above-text constantsFrom (c .constants) (omega arith) room))
+
+  string-sound : c .strings < l .strings → Sound made code next-text (oneString c) l
+  unfolding next-text
+  string-sound room = record {
+    code-room = s .code-room;
+    tables-room = rw length-set (s .tables-room);
+    made-room = s .made-room;
+    limited = s .limited;
+    symbols = s .symbols;
+    strings = omega arith;
+    functions = s .functions;
+    classes = s .classes;
+    constants = s .constants;
+    methods = s .methods;
+    words = s .words;
+    base = s .base;
+    made-count = s .made-count;
+    names = rw symbols-kept (s .names);
+    codes = rw (above-text codesFrom (c .functions) (omega arith) room) (s .codes);
+    class-methods = rw (above-text classMethodsFrom (c .classes) (omega arith) room) (s .class-methods);
+    finished = s .finished ∙ ap total (sym (above-text codesFrom (c .functions) (omega arith) room));
+  }
+
+  pub text-new : FoundText → c .strings ≤ i → c .strings < l .strings →
+      Numbers (At (c .strings) (oneString c)) tree made code (set tables (stringsFrom + c .strings) p) c l (stringNumber text (st₂ .tables)) want₂
+  unfolding Numbers next-text
+  text-new e h room =
+      let f = found-string e in
+      let n = strings-length tree made code tables c l s in
+      let k = string-le text (st₂ .tables) in (
+        omega arith,
+        record {
+          state = string-state room ∙ ap (λ (t : Tables). withTables t st₂) (sym (new-text e h));
+          base = refl;
+          paced = record { methods = omega arith; constants = omega arith };
+          sound = string-sound room;
+        },
+      )

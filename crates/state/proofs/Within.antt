@@ -1,0 +1,215 @@
+-- A state that is within the limits at the end of a step was so before it. So where a part is over the limits, the whole is.
+use Prim.Native.Nat.{ℕ, suc, _+_, _-_, _≤_, _<_}
+use mathlib.Core.Path.{_≡_, refl, sym, ap, subst}
+use mathlib.Core.Bool.{Bool}
+use mathlib.Core.Option.{Option, none, some}
+use mathlib.Core.List.{List, [], _++_}
+use native.Mathlib.Omega.{arith}
+use lib.ListN.{length, drop, set, length-append, length-set}
+use lib.Seq.{drop-append-seam, take-append-seam}
+use Rattle.definitions.specs.Bytes.{Name, Text, same, position}
+use Rattle.definitions.specs.Tree.{Expr, Block, Branches, else, when, Methods, method}
+use Rattle.definitions.specs.Instruction.{Instr, Jump, JumpIfFalse, ConstBool, LoadConst, StoreGlobal, MakeClosure, Return, minus}
+use Rattle.definitions.specs.Tables.{Method, Tables, Body, Emit, one, _⨟_, addSymbol, addString, withClasses, addConstant, begin, function}
+use Rattle.definitions.specs.Module.{instructions}
+use Rattle.definitions.specs.Lower.{shortcut, jumpOn, loop, loads, lambdaName, closure, emitExpr, emitBlock, emitBranches, emitMethods, beginClass, classObject, endClass, classOut}
+use Rattle.state.specs.State.{State, emitAt, Within, symbolNumber, withSymbol, withString, withTables}
+use Rattle.state.specs.Steps.{setAt, patchAt, begun, ended, branch, chainAt, methodFunction, methodsAt, methodsOf}
+use Rattle.state.specs.declared.Limits.{Limits}
+use Rattle.state.proofs.Emission.{stack-grows, base-kept, at-seq}
+use Rattle.state.proofs.Jumps.{set-length, patch-length, at-shortcut, at-loop, at-branch, at-when, chain-when, chain-else}
+use Rattle.state.proofs.Enclosing.{symbol-functions, at-function, at-closure, at-endClass, at-classObject, at-class, methods-more}
+use Rattle.state.proofs.Growth.{Lengthened, Lengthens, lengthened-none, lengthened-same, functions-longer, instructions-longer, symbol-lengthened, string-lengthened, begin-lengthened, setCode-count, setCode-instructions}
+use Rattle.state.proofs.Growth.{lengthens-one, branches-lengthened, methods-lengthened, beginClass-lengthened, lengthens-endClass, lengthens-loads}
+
+-- ---- parts
+
+-- a state with a stack and tables that are no longer
+pub within-less : {l : Limits} (s u : State) → Lengthened (s .tables) (u .tables) → length (s .stack) ≤ length (u .stack) → Within l u → Within l s
+within-less s u L h w = record {
+  functions = omega (arith, functions-longer L, w .functions);
+  symbols = omega (arith, L .symbols, w .symbols);
+  strings = omega (arith, L .strings, w .strings);
+  classes = omega (arith, L .classes, w .classes);
+  instructions = omega (arith, instructions-longer L, w .instructions);
+}
+
+pub within-down : {l : Limits} {e : Emit} (base : ℕ) (s : State) → Lengthens e → Within l (emitAt base e s) → Within l s
+unfolding emitAt
+within-down {e} base s E w = within-less s (emitAt base e s) (E .at (length (s .stack) - base) (s .tables)) (stack-grows base e s) w
+
+pub within-one : {l : Limits} (base : ℕ) (i : Instr) (s : State) → Within l (emitAt base (one i) s) → Within l s
+within-one base i s w = within-down base s (lengthens-one i) w
+
+-- the first of two parts
+pub within-first : {l : Limits} {f : Emit} (base : ℕ) (e : Emit) (s : State) → base ≤ length (s .stack) → Lengthens f → Within l (emitAt base (e ⨟ f) s) → Within l (emitAt base e s)
+within-first {f} base e s h F w = within-down base (emitAt base e s) F (rw (at-seq base e f s h) at w)
+
+-- both
+pub within-second : {l : Limits} (base : ℕ) (e f : Emit) (s : State) → base ≤ length (s .stack) → Within l (emitAt base (e ⨟ f) s) → Within l (emitAt base f (emitAt base e s))
+within-second base e f s h w = rw (at-seq base e f s h) at w
+
+-- the first two of three
+pub within-two : {l : Limits} {g : Emit} (base : ℕ) (e f : Emit) (s : State) → base ≤ length (s .stack) → Lengthens g → Within l (emitAt base (e ⨟ f ⨟ g) s) → Within l (emitAt base f (emitAt base e s))
+within-two {g} base e f s h G w = within-first base f (emitAt base e s) (base-kept base e s h) G (within-second base e (f ⨟ g) s h w)
+
+-- ---- tables
+
+pub within-tables : {l : Limits} (s : State) (u : Tables) → Lengthened (s .tables) u → Within l (withTables u s) → Within l s
+within-tables s u L w = within-less s (withTables u s) L (omega arith) w
+
+pub withSymbol-lengthened : (x : Name) (t : Tables) → Lengthened t (withSymbol x t)
+unfolding withSymbol
+withSymbol-lengthened x t = go (position (same x) (t .symbols))
+  where
+    go : (o : Option ℕ) → Lengthened t (elim o as (λ z. Tables) [ some k ↦ t | none ↦ addSymbol x t ])
+    go none = symbol-lengthened x t
+    go (some k) = lengthened-none t
+
+pub withString-lengthened : (x : Text) (t : Tables) → Lengthened t (withString x t)
+unfolding withString
+withString-lengthened x t = go (position (same x) (t .strings))
+  where
+    go : (o : Option ℕ) → Lengthened t (elim o as (λ z. Tables) [ some k ↦ t | none ↦ addString x t ])
+    go none = string-lengthened x t
+    go (some k) = lengthened-none t
+
+pub within-symbol : {l : Limits} (x : Name) (s : State) → Within l (withTables (withSymbol x (s .tables)) s) → Within l s
+within-symbol x s w = within-tables s (withSymbol x (s .tables)) (withSymbol-lengthened x (s .tables)) w
+
+pub within-string : {l : Limits} (x : Text) (s : State) → Within l (withTables (withString x (s .tables)) s) → Within l s
+within-string x s w = within-tables s (withString x (s .tables)) (withString-lengthened x (s .tables)) w
+
+-- ---- jumps
+
+pub within-set : {l : Limits} (k : ℕ) (i : Instr) (s : State) → Within l (setAt k i s) → Within l s
+unfolding setAt
+within-set k i s w = within-less s (setAt k i s) (lengthened-none (s .tables)) (omega (arith, set-length k i s)) w
+
+pub within-patch : {l : Limits} (h k n : ℕ) (s : State) → k + n ≤ length (s .stack) → Within l (patchAt h k n s) → Within l s
+unfolding patchAt
+within-patch h k n s m w = within-less s (patchAt h k n s) (lengthened-none (s .tables)) (omega (arith, patch-length h k n s m)) w
+
+-- i is the placeholder; s₁ and s₂ are the states after it and after the right side
+pub within-shortcut : {l : Limits} (base : ℕ) (b : Bool) (r : Emit) (i : Instr) (s s₁ s₂ : State) → base ≤ length (s .stack)
+    → s₁ ≡ emitAt base (one i) s → s₂ ≡ emitAt base r s₁ → Within l (emitAt base (shortcut b r) s) → Within l (emitAt base (one (ConstBool b)) (emitAt base (one (Jump 1)) s₂))
+within-shortcut base b r i s s₁ s₂ h e₁ e₂ w =
+    within-set (length (s .stack)) (jumpOn b (suc (length (s₂ .stack) - length (s₁ .stack)))) _ (rw (at-shortcut base b r i s s₁ s₂ h e₁ e₂) at w)
+
+-- i is the placeholder; s₁, s₂ and s₃ are the states after the head, the placeholder and the inside
+pub within-loop : {l : Limits} (base : ℕ) (head inside : Emit) (i : Instr) (s : State) → base ≤ length (s .stack) → (s₁ s₂ s₃ : State)
+    → s₁ ≡ emitAt base head s → s₂ ≡ emitAt base (one i) s₁ → s₃ ≡ emitAt base inside s₂
+    → Within l (emitAt base (loop head inside) s) → Within l (emitAt base (one (Jump (minus (suc (length (s₃ .stack) - length (s .stack)))))) s₃)
+within-loop base head inside i s h s₁ s₂ s₃ e₁ e₂ e₃ w =
+    let j = Jump (minus (suc (length (s₃ .stack) - length (s .stack)))) in
+    let g : length (s₂ .stack) ≤ length (s₃ .stack) = rw e₃ (stack-grows base inside s₂) in
+    let m = stack-grows base (one j) s₃ in
+    within-patch (length (s₂ .stack) - length (s .stack)) (length (s₂ .stack)) (length (s₃ .stack) - length (s₂ .stack)) (emitAt base (one j) s₃) (omega arith)
+    (within-set (length (s₁ .stack)) (JumpIfFalse (suc (length (s₃ .stack) - length (s₂ .stack)))) _ (rw (at-loop base head inside i s h s₁ s₂ s₃ e₁ e₂ e₃) at w))
+
+-- ---- branches
+
+pub within-branch : {l : Limits} (base : ℕ) (slots : List Name) (c : Expr) (b : Block) (s : State) → base ≤ length (s .stack) → (i : Instr) (s₁ s₂ s₃ : State)
+    → s₁ ≡ emitAt base (emitExpr slots c) s → s₂ ≡ emitAt base (one i) s₁ → s₃ ≡ emitAt base (emitBlock slots b) s₂
+    → Within l (emitAt base (branch slots c b) s) → Within l (emitAt base (one (Jump 0)) s₃)
+within-branch base slots c b s h i s₁ s₂ s₃ e₁ e₂ e₃ w =
+    within-set (length (s₁ .stack)) (JumpIfFalse (suc (length (s₃ .stack) - length (s₂ .stack)))) _ (rw (at-branch base slots c b s h i s₁ s₂ s₃ e₁ e₂ e₃) at w)
+
+pub within-chain : {l : Limits} (base : ℕ) (slots : List Name) (bs : Branches) (k : ℕ) (s : State) → Within l (chainAt base slots bs k s) → Within l s
+unfolding chainAt
+within-chain base slots bs k s w =
+    let c = emitBranches slots bs (length (s .stack) - base) (s .tables) in
+    within-less s (chainAt base slots bs k s) (branches-lengthened slots bs (length (s .stack) - base) (s .tables))
+    (omega (arith, length-append (set (s .stack) k (Jump (c .hop))) (c .out .code), length-set (s .stack) k (Jump (c .hop)))) w
+
+-- the first branch
+pub within-when : {l : Limits} (base : ℕ) (slots : List Name) (c : Expr) (b : Block) (r : Branches) (s : State) → base ≤ length (s .stack)
+    → Within l (emitAt base (λ p t. emitBranches slots (when c b r) p t .out) s) → Within l (emitAt base (branch slots c b) s)
+within-when base slots c b r s h w = within-chain base slots r _ (emitAt base (branch slots c b) s) (rw (at-when base slots c b s h r (emitAt base (branch slots c b) s) refl) at w)
+
+-- a later branch, or the else block
+pub within-chain-when : {l : Limits} (base : ℕ) (slots : List Name) (c : Expr) (b : Block) (r : Branches) (k : ℕ) (s : State) → base ≤ length (s .stack) → k < length (s .stack)
+    → Within l (chainAt base slots (when c b r) k s) → Within l (emitAt base (branch slots c b) s)
+within-chain-when base slots c b r k s h m w =
+    within-set k _ (emitAt base (branch slots c b) s) (within-chain base slots r _ _ (rw (chain-when base slots c b s h r k (emitAt base (branch slots c b) s) m refl) at w))
+
+pub within-chain-else : {l : Limits} (base : ℕ) (slots : List Name) (b : Block) (k : ℕ) (s : State) → k < length (s .stack)
+    → Within l (chainAt base slots (else b) k s) → Within l (emitAt base (emitBlock slots b) s)
+within-chain-else base slots b k s m w = within-set k _ (emitAt base (emitBlock slots b) s) (rw (chain-else base slots b k s (emitAt base (emitBlock slots b) s) m refl) at w)
+
+-- ---- functions
+
+pub within-begun : {l : Limits} (k arity : ℕ) (slots : List Name) (s : State) → Within l (begun k arity slots s) → Within l s
+unfolding begun
+within-begun k arity slots s w = within-tables s (begin k arity slots (s .tables)) (begin-lengthened k arity slots (s .tables)) w
+
+-- the end of a function: as many instructions as before it
+pub within-ended : {l : Limits} {e : Emit} (k arity : ℕ) (slots : List Name) (s : State) → Lengthens e
+    → Within l (ended (length (s .stack)) (length (s .tables .functions)) (emitAt (length (s .stack)) e (begun k arity slots s))) → Within l (emitAt (length (s .stack)) e (begun k arity slots s))
+unfolding ended begun emitAt
+within-ended {e} k arity slots s E w =
+    let xs = s .stack in
+    let u = begin k arity slots (s .tables) in
+    let o = e (length xs - length xs) u in
+    let L = E .at (length xs - length xs) u in
+    let is = drop (length xs) (xs ++ o .code) in
+    let a = setCode-count k arity slots (s .tables) (o .tables) L is in
+    let b = setCode-instructions k arity slots (s .tables) (o .tables) L is in
+    record {
+      functions = omega (arith, a, w .functions);
+      symbols = w .symbols;
+      strings = w .strings;
+      classes = w .classes;
+      instructions = omega (arith, b, w .instructions, length-append xs (o .code), ap length (drop-append-seam xs (o .code)), ap length (take-append-seam xs (o .code)));
+    }
+
+-- a function's body; s′ is the state with its symbol
+pub within-function : {l : Limits} {e : Emit} (base : ℕ) (x : Name) (arity : ℕ) (slots : List Name) (body : Body) (s s′ : State) → s′ ≡ withTables (withSymbol x (s .tables)) s → Lengthens e
+    → Within l (emitAt base (function x arity slots body e) s) → Within l (emitAt (length (s .stack)) e (begun (symbolNumber x (s .tables)) arity slots s′))
+within-function {l} {e} base x arity slots body s s′ h E w =
+    let u : State = withTables (withSymbol x (s .tables)) s in
+    let k = symbolNumber x (s .tables) in
+    rw h (within-ended k arity slots u E
+    (subst (λ (n : ℕ). Within l (ended (length (s .stack)) n (emitAt (length (s .stack)) e (begun k arity slots u)))) (ap length (sym (symbol-functions x (s .tables))))
+    (rw (at-function base x arity slots body e s u refl) at w)))
+
+-- a closure's function, and its loads; f is the number of functions
+pub within-closure : {l : Limits} (base : ℕ) (slots : List Name) (arity : ℕ) (inner cs : List Name) (body : Body) (e : Emit) (s : State) (f : ℕ) → base ≤ length (s .stack) → f ≡ length (s .tables .functions)
+    → Within l (emitAt base (closure slots arity inner cs body e) s) → Within l (emitAt base (loads slots cs) (emitAt base (function (lambdaName f) arity inner body (e ⨟ one Return)) s))
+within-closure base slots arity inner cs body e s f h q w =
+    within-one base (MakeClosure f (length cs)) _ (rw (at-closure base slots arity inner cs body e s f h q) at w)
+
+pub within-closure-function : {l : Limits} (base : ℕ) (slots : List Name) (arity : ℕ) (inner cs : List Name) (body : Body) (e : Emit) (s : State) (f : ℕ) → base ≤ length (s .stack) → f ≡ length (s .tables .functions)
+    → Within l (emitAt base (closure slots arity inner cs body e) s) → Within l (emitAt base (function (lambdaName f) arity inner body (e ⨟ one Return)) s)
+within-closure-function base slots arity inner cs body e s f h q w = within-down base _ (lengthens-loads slots cs) (within-closure base slots arity inner cs body e s f h q w)
+
+-- ---- classes
+
+pub within-beginClass : {l : Limits} (x : Name) (s : State) → Within l (withTables (beginClass x (s .tables)) s) → Within l s
+within-beginClass x s w = within-tables s (beginClass x (s .tables)) (beginClass-lengthened x (s .tables)) w
+
+pub within-methods : {l : Limits} (ms : Methods) (acc : List Method) (s : State) → Within l (methodsAt ms acc s) → Within l s
+unfolding methodsAt
+within-methods ms acc s w = within-tables s (emitMethods ms acc (s .tables) .tables) (methods-lengthened ms acc (s .tables)) w
+
+-- the first method
+pub within-method : {l : Limits} (base : ℕ) (x : Name) (ps : List Name) (b : Block) (rest : Methods) (acc : List Method) (s : State)
+    → Within l (methodsAt (method x ps b rest) acc s) → Within l (emitAt base (methodFunction x ps b) s)
+within-method base x ps b rest acc s w = within-methods rest _ (emitAt base (methodFunction x ps b) s) (rw (methods-more base x ps b rest acc s (emitAt base (methodFunction x ps b) s) refl) at w)
+
+-- the class's symbol, after its methods
+pub within-endClass : {l : Limits} (base : ℕ) (x : Name) (c : ℕ) (ms : List Method) (s s′ : State) → s′ ≡ withTables (withClasses (set (s .tables .classes) c (record { name = x; methods = ms })) (s .tables)) s
+    → Within l (emitAt base (endClass x c ms) s) → Within l (emitAt base (classObject c (symbolNumber x (s .tables))) (withTables (withSymbol x (s′ .tables)) s′))
+within-endClass base x c ms s s′ h w = rw (at-endClass base x c ms s s′ h) at w
+
+-- the first of the two instructions of its object
+pub within-classObject : {l : Limits} (base c k : ℕ) (s : State) → Within l (emitAt base (classObject c k) s) → Within l (emitAt base (one (LoadConst (length (s .tables .constants)))) (withTables (addConstant c (s .tables)) s))
+within-classObject base c k s w = within-one base (StoreGlobal k) _ (rw (at-classObject base c k s) at w)
+
+pub within-constant : {l : Limits} (c : ℕ) (s : State) → Within l (withTables (addConstant c (s .tables)) s) → Within l s
+within-constant c s w = within-tables s (addConstant c (s .tables)) (lengthened-same refl (omega arith) (omega arith) (omega arith)) w
+
+-- s₁ is the state with the class's number taken, s₂ that after its methods
+pub within-class : {l : Limits} (base : ℕ) (x : Name) (ms : Methods) (s s₁ s₂ : State) → s₁ ≡ withTables (beginClass x (s .tables)) s → s₂ ≡ methodsAt ms [] s₁
+    → Within l (emitAt base (λ p t. classOut x (length (t .classes)) (emitMethods ms [] (beginClass x t)) p) s) → Within l s₂
+within-class base x ms s s₁ s₂ e₁ e₂ w = within-down base s₂ (lengthens-endClass x (length (s .tables .classes)) (methodsOf ms [] s₁)) (rw (at-class base x ms s s₁ s₂ e₁ e₂) at w)

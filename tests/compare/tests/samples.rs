@@ -1,0 +1,191 @@
+//! The paper's own samples, with the answers spelled out here.
+
+use compare::{AREA, ROOM};
+use generator::{make, samples};
+use model::instruction as op;
+
+fn lower(tree: &[u8]) -> Result<Vec<u8>, u8> {
+    model::lower(tree, AREA, AREA, ROOM)
+}
+
+fn starred(name: &str) -> Vec<u8> {
+    let cases = samples::starred();
+    let found = cases.into_iter().find(|case| case.name == name);
+    found.expect("a sample").tree
+}
+
+/// The code of a function in the module of a tree.
+fn code(tree: &[u8], function: u64) -> Vec<u8> {
+    let module = lower(tree).expect("accepted");
+    let (start, length) = model::code(&module, function).expect("a function");
+    module[start..start + length].to_vec()
+}
+
+fn global(opcode: u8, symbol: u8) -> Vec<u8> {
+    vec![opcode, 0, symbol]
+}
+
+fn load(symbol: u8) -> Vec<u8> {
+    global(op::LOAD_GLOBAL, symbol)
+}
+
+fn store(symbol: u8) -> Vec<u8> {
+    global(op::STORE_GLOBAL, symbol)
+}
+
+fn jump(opcode: u8, distance: i32) -> Vec<u8> {
+    [&[opcode], distance.to_be_bytes().as_slice()].concat()
+}
+
+fn number(value: i64) -> Vec<u8> {
+    [&[op::CONST_I64], value.to_be_bytes().as_slice()].concat()
+}
+
+#[test]
+fn empty_tree() {
+    let module = lower(&starred("sample-empty"));
+    let expected = "0000001c010001085f5f6d61696e5f5f00000001000000000000012100000000";
+    assert_eq!(module.map(|m| compare::hex(&m)), Ok(expected.to_string()));
+}
+
+#[test]
+fn jumps_of_the_samples() {
+    let end = vec![op::RETURN];
+    let loop_code = [
+        vec![op::TRUE],
+        jump(op::JUMP_IF_FALSE, 2),
+        jump(op::JUMP, 1),
+        jump(op::JUMP, -4),
+        end.clone(),
+    ];
+    assert_eq!(code(&starred("sample-while"), 0), loop_code.concat());
+    let and_code = [
+        load(1),
+        jump(op::JUMP_IF_FALSE, 2),
+        load(2),
+        jump(op::JUMP, 1),
+        vec![op::FALSE, op::POP],
+        end.clone(),
+    ];
+    assert_eq!(code(&starred("sample-and"), 0), and_code.concat());
+    let elif_code = [
+        load(1),
+        jump(op::JUMP_IF_FALSE, 1),
+        jump(op::JUMP, 2),
+        load(2),
+        jump(op::JUMP_IF_FALSE, 1),
+        jump(op::JUMP, 0),
+        end,
+    ];
+    assert_eq!(code(&starred("sample-elif"), 0), elif_code.concat());
+}
+
+#[test]
+fn targets_of_the_samples() {
+    let pair = [
+        load(1),
+        vec![op::DUP],
+        number(1),
+        vec![op::LOAD_INDEX],
+        store(2),
+        number(0),
+        vec![op::LOAD_INDEX],
+        store(3),
+        vec![op::RETURN],
+    ];
+    assert_eq!(code(&starred("sample-pair"), 0), pair.concat());
+    let none = [load(1), vec![op::RETURN]];
+    assert_eq!(code(&starred("sample-no-target"), 0), none.concat());
+}
+
+#[test]
+fn loop_of_the_samples() {
+    let method = |symbol| vec![op::CALL_METHOD, 0, symbol, 0];
+    let expected = [
+        load(1),
+        method(2),
+        store(3),
+        load(3),
+        method(4),
+        jump(op::JUMP_IF_FALSE, 4),
+        load(3),
+        method(5),
+        store(6),
+        jump(op::JUMP, -7),
+        vec![op::RETURN],
+    ];
+    let tree = starred("sample-for");
+    assert_eq!(code(&tree, 0), expected.concat());
+    let module = lower(&tree).expect("accepted");
+    let module = model::module::read(&module).expect("accepted");
+    assert_eq!(module.symbols[3], b"__for_iter_2__");
+}
+
+#[test]
+fn refusals_of_the_samples() {
+    assert!(lower(&starred("sample-args-255")).is_ok());
+    assert_eq!(lower(&starred("sample-args-256")), Err(13));
+    assert!(lower(&starred("sample-depth-32")).is_ok());
+    assert_eq!(lower(&starred("sample-depth-33")), Err(6));
+    assert_eq!(lower(&starred("sample-break-in-def")), Err(9));
+}
+
+/// In a def with `x`, `lambda: [x, lambda x: x]` captures nothing, the
+/// reversed list captures `x`.
+#[test]
+fn captures_depend_on_the_order() {
+    use make::{def, lambda, list, ret, tree, var};
+    let captured = |items: &[Vec<u8>]| {
+        let stmts = [def("d", &["x"], &[ret(lambda(&[], list(items)))])];
+        let module = lower(&tree(&stmts)).expect("accepted");
+        let locals = model::module::read(&module).expect("accepted").functions[2].locals;
+        locals
+    };
+    let inner = lambda(&["x"], var("x"));
+    assert_eq!(captured(&[var("x"), inner.clone()]), 0);
+    assert_eq!(captured(&[inner, var("x")]), 1);
+}
+
+/// The slots that the function's code loads, in order.
+fn loaded_slots(name: &str, function: usize) -> Vec<u8> {
+    let cases = samples::small();
+    let case = cases.iter().find(|case| case.name == name);
+    let module = lower(&case.expect("a sample").tree).expect("accepted");
+    let read = model::module::read(&module).expect("accepted");
+    let places = read.functions[function].places.iter();
+    let loads = places.filter(|&&place| module[place] == op::LOAD_LOCAL);
+    loads.map(|&place| module[place + 2]).collect()
+}
+
+/// The Rust's own order of slots is random, so the paper's is spelled out:
+/// parameters, then all names in one pass by first appearance.
+#[test]
+fn slots_by_first_appearance() {
+    let slots = loaded_slots("slots-all-kinds", 1);
+    let listed = &slots[slots.len() - 9..];
+    assert_eq!(listed, [3, 2, 1, 9, 8, 7, 6, 5, 4]);
+    // r is 2, since the loop variable i and the body's a come first.
+    assert_eq!(loaded_slots("slots-loop-before-body", 1), [2, 0]);
+    // b is a slot because of the later assignment; a is none.
+    assert_eq!(loaded_slots("slots-not-from-tuple", 1), [0]);
+}
+
+/// The folder of sample scripts with their trees and modules.
+fn sample_folder() -> std::path::PathBuf {
+    std::path::Path::new(env!("CARGO_MANIFEST_DIR")).join("../../samples")
+}
+
+#[test]
+fn sample_scripts() {
+    let mut seen = 0;
+    for entry in std::fs::read_dir(sample_folder()).expect("samples") {
+        let path = entry.expect("a file").path();
+        if path.extension().is_some_and(|end| end == "tree") {
+            let tree = std::fs::read(&path).expect("a tree");
+            let module = std::fs::read(path.with_extension("module")).expect("its module");
+            assert_eq!(lower(&tree), Ok(module), "{}", path.display());
+            seen += 1;
+        }
+    }
+    assert!(seen >= 4, "only {seen} sample scripts");
+}

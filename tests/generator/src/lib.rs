@@ -1,0 +1,15 @@
+//! Trees, modules, answers and damaged copies for the tests.
+
+pub mod damage;
+pub mod limits;
+pub mod make;
+pub mod modules;
+pub mod random;
+pub mod rng;
+pub mod runs;
+pub mod samples;
+pub mod text;
+pub mod vectors;
+
+pub use make::Bytes;
+pub use rng::Rng;

@@ -1,0 +1,596 @@
+//! Trees on both sides of every limit of questions 2 to 16.
+
+use crate::make::*;
+use crate::samples::{case, nested_not, script, Case};
+use std::slice::from_ref;
+
+pub const MAX_TREE: usize = 32_768;
+
+/// All of them; the longest trees come last.
+pub fn all() -> Vec<Case> {
+    let mut cases = headers();
+    cases.extend(malformed());
+    cases.extend(depths());
+    cases.extend(bad_names());
+    cases.extend(bad_strings());
+    cases.extend(loops());
+    cases.extend(targets());
+    cases.extend(params());
+    cases.extend(argument_counts());
+    cases.extend(slot_counts());
+    cases.extend(table_counts());
+    cases.extend(pairs_of_faults());
+    cases.extend(instruction_counts());
+    cases.extend(long());
+    cases
+}
+
+/// Distinct names of two or three bytes.
+pub fn many_names(count: usize) -> Vec<String> {
+    let digit = |n: usize| char::from(b"abcdefghijklmnopqrstuvwxyzABCDEF"[n % 32]);
+    (0..count)
+        .map(|n| {
+            let tail = if n < 1024 {
+                String::new()
+            } else {
+                format!("{}", n / 1024)
+            };
+            format!("{}{}{tail}", digit(n / 32), digit(n))
+        })
+        .collect()
+}
+
+fn borrowed(names: &[String]) -> Vec<&str> {
+    names.iter().map(String::as_str).collect()
+}
+
+fn headers() -> Vec<Case> {
+    vec![
+        case("header-none", vec![]),
+        case("header-three", vec![0, 0, 0]),
+        case("header-only", vec![0, 0, 0, 0]),
+        case("header-one-more", vec![0, 0, 0, 4, 1, 0, 0]),
+        case("header-one-less", vec![0, 0, 0, 2, 1, 0, 0]),
+        case("header-high-byte", vec![1, 0, 0, 3, 1, 0, 0]),
+        case("version-zero", with_header(&[0, 0, 0])),
+        case("version-two", with_header(&[2, 0, 0])),
+        case("version-alone", with_header(&[1])),
+        case("count-cut", with_header(&[1, 0])),
+    ]
+}
+
+/// A tree whose only statement is these bytes.
+fn raw(name: &str, stmt: &[u8]) -> Case {
+    script(name, &[stmt.to_vec()])
+}
+
+fn malformed() -> Vec<Case> {
+    let mut over = tree(&[pass()]);
+    over.push(0);
+    let cut = |stmt: Bytes| tree(&[stmt[..stmt.len() - 1].to_vec()]);
+    let elif = if_(&[(none(), vec![]), (none(), vec![])], Some(&[]));
+    vec![
+        raw("kind-statement-11", &[11]),
+        raw("kind-statement-255", &[255]),
+        raw("kind-expression-18", &[3, 18]),
+        raw("kind-expression-99", &[3, 99]),
+        raw("unary-operator-3", &[3, 7, 3, 0]),
+        raw("binary-operator-14", &[3, 8, 14, 0, 0]),
+        raw("else-byte-2", &[6, 0, 0, 0, 0, 0, 2, 0, 0]),
+        case("byte-over", mended(&over)),
+        case("statement-missing", with_header(&[1, 0, 1])),
+        case("statement-over", with_header(&[1, 0, 0, 2])),
+        case("cut-int", cut(expr(int(1)))),
+        case("cut-float", cut(expr(float(1)))),
+        case("cut-string", cut(expr(string(b"ab")))),
+        case("cut-name", cut(expr(var("ab")))),
+        case("cut-name-length", tree(&[vec![3, 6]])),
+        case("cut-else", cut(elif)),
+        case("cut-call", cut(expr(call_name("f", &[none()])))),
+        case("cut-params", cut(def("f", &["a"], &[]))),
+        case("cut-class", cut(class("A", &[], &[]))),
+        case("cut-dict", cut(expr(dict(&[(none(), none())])))),
+        case("cut-lambda", cut(expr(lambda(&["a"], none())))),
+        raw("bad-name-then-bad-kind", &[3, 11, 0, 2, 6, 0, 99]),
+    ]
+}
+
+type Wrap = fn(Bytes) -> Bytes;
+
+/// Statements that hold a statement one deeper.
+const STMT_WRAPS: [(&str, Wrap); 8] = [
+    ("if", |s| if_(&[(none(), vec![s])], None)),
+    ("elif", |s| {
+        if_(&[(none(), vec![]), (none(), vec![s])], None)
+    }),
+    ("else", |s| if_(&[(none(), vec![])], Some(&[s]))),
+    ("while", |s| while_(none(), &[s])),
+    ("for", |s| for_("i", none(), &[s])),
+    ("def", |s| def("f", &[], &[s])),
+    ("method", |s| class("A", &[method("m", &["a"], &[s])], &[])),
+    ("two", |s| while_(none(), &[pass(), s])),
+];
+
+/// Expressions that hold an expression one deeper.
+const EXPR_WRAPS: [(&str, Wrap); 17] = [
+    ("unary", |e| unary(0, e)),
+    ("binary-left", |e| binary(0, e, none())),
+    ("binary-right", |e| binary(0, none(), e)),
+    ("and", |e| binary(AND, none(), e)),
+    ("callee", |e| call(e, &[])),
+    ("argument", |e| call(none(), &[e])),
+    ("attribute", |e| attr(e, "a")),
+    ("list", |e| list(&[e])),
+    ("tuple", |e| tuple(&[e])),
+    ("set", |e| set(&[e])),
+    ("tree-set", |e| tree_set(&[e])),
+    ("dict-key", |e| dict(&[(e, none())])),
+    ("dict-value", |e| dict(&[(none(), e)])),
+    ("index-object", |e| index(e, none())),
+    ("index-index", |e| index(none(), e)),
+    ("lambda", |e| lambda(&[], e)),
+    ("lambda-one", |e| lambda(&["a"], e)),
+];
+
+/// Places in statements that hold an expression.
+const HOLDERS: [(&str, Wrap); 9] = [
+    ("return", ret),
+    ("assign-value", |e| assign(var("v"), e)),
+    ("assign-object", |e| assign(attr(e, "a"), none())),
+    ("if-condition", |e| if_(&[(e, vec![])], None)),
+    ("elif-condition", |e| {
+        if_(&[(none(), vec![]), (e, vec![])], None)
+    }),
+    ("while-condition", |e| while_(e, &[])),
+    ("for-iterable", |e| for_("i", e, &[])),
+    ("class-attribute", |e| class("A", &[], &[("a", e)])),
+    ("in-method", |e| {
+        class("A", &[method("m", &["s"], &[expr(e)])], &[])
+    }),
+];
+
+fn nest(wrap: Wrap, times: usize, inner: Bytes) -> Bytes {
+    (0..times).fold(inner, |bytes, _| wrap(bytes))
+}
+
+fn depths() -> Vec<Case> {
+    let mut cases = Vec::new();
+    for deepest in [32, 33] {
+        for (word, wrap) in STMT_WRAPS {
+            let name = format!("depth-{deepest}-{word}");
+            cases.push(script(&name, &[nest(wrap, deepest - 1, pass())]));
+        }
+        for (word, wrap) in EXPR_WRAPS {
+            let name = format!("depth-{deepest}-{word}");
+            cases.push(script(&name, &[expr(nest(wrap, deepest - 2, none()))]));
+        }
+        for (word, hold) in HOLDERS {
+            let name = format!("depth-{deepest}-{word}");
+            let levels = match word {
+                "assign-object" | "in-method" => 3,
+                _ => 2,
+            };
+            cases.push(script(&name, &[hold(nested_not(deepest - levels))]));
+        }
+        let target = nest(|e| tuple(&[e]), deepest - 2, var("a"));
+        let name = format!("depth-{deepest}-target");
+        cases.push(script(&name, &[assign(target, none())]));
+    }
+    cases.extend(depth_edges());
+    cases
+}
+
+/// What decides between 5 and 6 around the kind byte at depth 33.
+fn depth_edges() -> Vec<Case> {
+    let deep = tree(&[expr(nested_not(31))]);
+    let with_last = |byte: u8| {
+        let mut bytes = deep.clone();
+        *bytes.last_mut().expect("not empty") = byte;
+        bytes
+    };
+    let mut over = deep.clone();
+    over.push(7);
+    let mut operator = deep.clone();
+    let place = operator.len() - 2;
+    operator[place] = 3;
+    let bad_name_first = tree(&[expr(var("1")), expr(nested_not(31))]);
+    let bad_kind_after = tree(&[expr(nested_not(31)), vec![99]]);
+    let bad_kind_before = tree(&[vec![99], expr(nested_not(31))]);
+    vec![
+        case("depth-33-no-kind", with_last(99)),
+        case("depth-33-kind-255", with_last(255)),
+        case("depth-33-cut", mended(&deep[..deep.len() - 1])),
+        case("depth-33-byte-over", mended(&over)),
+        case("depth-32-bad-operator", operator),
+        case("depth-33-bad-name-first", bad_name_first),
+        case("depth-33-bad-kind-after", bad_kind_after),
+        case("depth-33-bad-kind-before", bad_kind_before),
+    ]
+}
+
+fn bad_names() -> Vec<Case> {
+    let mut cases = Vec::new();
+    for length in [0, 1, 2, 63, 64, 65, 66, 128, 254, 255] {
+        let name = "n".repeat(length);
+        let word = format!("name-length-{length}");
+        cases.push(script(&word, &[expr(var(&name))]));
+    }
+    // The bytes around the ranges of letters and digits, first and later.
+    for byte in *b"/09:@AZ[`az{_\x7f\x80\xe1\xff -<#\0" {
+        let first = format!("name-first-{byte:02x}");
+        let later = format!("name-later-{byte:02x}");
+        cases.push(script(&first, &[expr(raw_var(&[byte]))]));
+        cases.push(script(&later, &[expr(raw_var(&[b'a', byte]))]));
+    }
+    let bad = "9";
+    let stmts = [
+        ("for", for_(bad, none(), &[])),
+        ("def", def(bad, &[], &[])),
+        ("param", def("f", &["a", bad], &[])),
+        ("class", class(bad, &[], &[])),
+        ("method", class("A", &[method(bad, &["a"], &[])], &[])),
+        ("method-param", class("A", &[method("m", &[bad], &[])], &[])),
+        ("class-attribute", class("A", &[], &[(bad, none())])),
+        ("in-class-attribute", class("A", &[], &[("a", var(bad))])),
+        ("attribute", expr(attr(none(), bad))),
+        ("lambda-param", expr(lambda(&[bad], none()))),
+        ("target", assign(var(bad), none())),
+        (
+            "lambda-in-class-attribute",
+            class("A", &[], &[("a", lambda(&[bad], none()))]),
+        ),
+    ];
+    for (word, stmt) in stmts {
+        cases.push(script(&format!("name-bad-{word}"), &[stmt]));
+    }
+    cases
+}
+
+fn bad_strings() -> Vec<Case> {
+    let high = || string(&[b'a', 128]);
+    vec![
+        script("string-127", &[expr(string(&[127, 0]))]),
+        script("string-128", &[expr(string(&[128]))]),
+        script("string-255-last", &[expr(string(&[0, 1, 255]))]),
+        script("string-utf8", &[expr(string("\u{e9}".as_bytes()))]),
+        script(
+            "string-in-class-attribute",
+            &[class("A", &[], &[("a", high())])],
+        ),
+        script("string-in-target", &[assign(index(high(), none()), none())]),
+        script("string-in-lambda", &[expr(lambda(&[], high()))]),
+        script("string-then-bad-name", &[expr(high()), expr(var("9"))]),
+    ]
+}
+
+fn loops() -> Vec<Case> {
+    let mut cases = Vec::new();
+    for (word, leave) in [("break", break_()), ("continue", continue_())] {
+        let one = || vec![leave.clone()];
+        let in_if = if_(&[(none(), one())], None);
+        let in_else = if_(&[(none(), vec![])], Some(&one()));
+        let in_elif = if_(&[(none(), vec![]), (none(), one())], None);
+        let in_def = def("f", &[], &one());
+        let in_method = class("A", &[method("m", &["a"], &one())], &[]);
+        let stmts = [
+            ("in-main", leave.clone()),
+            ("in-if", in_if.clone()),
+            ("in-while-if", while_(none(), &[in_if])),
+            ("in-while-elif", while_(none(), &[in_elif])),
+            ("in-for-else", for_("i", none(), &[in_else])),
+            ("in-def", in_def.clone()),
+            ("in-while-def", while_(none(), from_ref(&in_def))),
+            ("in-for-method", for_("i", none(), &[in_method])),
+            ("in-def-while", def("f", &[], &[while_(none(), &one())])),
+            (
+                "in-while-def-for",
+                while_(none(), &[def("f", &[], &[for_("i", none(), &one())])]),
+            ),
+        ];
+        for (place, stmt) in stmts {
+            cases.push(script(&format!("{word}-{place}"), &[stmt]));
+        }
+        let after = [while_(none(), &[pass()]), leave.clone()];
+        cases.push(script(&format!("{word}-after-loop"), &after));
+    }
+    cases
+}
+
+fn targets() -> Vec<Case> {
+    let a = || var("a");
+    let exprs = [
+        ("none", none()),
+        ("true", true_()),
+        ("int", int(1)),
+        ("float", float(1)),
+        ("string", string(b"a")),
+        ("unary", unary(0, a())),
+        ("binary", binary(0, a(), a())),
+        ("call", call_name("f", &[])),
+        ("list", list(&[a()])),
+        ("dict", dict(&[])),
+        ("set", set(&[a()])),
+        ("tree-set", tree_set(&[a()])),
+        ("lambda", lambda(&[], a())),
+        ("tuple-of-int", tuple(&[a(), int(1)])),
+        ("tuple-of-attribute", tuple(&[attr(a(), "b")])),
+        ("tuple-of-index", tuple(&[index(a(), a())])),
+        ("tuple-of-list", tuple(&[list(&[a()])])),
+        (
+            "tuple-of-tuple-of-call",
+            tuple(&[tuple(&[call_name("f", &[])])]),
+        ),
+        ("attribute-of-int", attr(int(1), "b")),
+        ("index-of-call", index(call_name("f", &[]), a())),
+    ];
+    let case_of = |(word, target)| script(&format!("target-is-{word}"), &[assign(target, none())]);
+    exprs.into_iter().map(case_of).collect()
+}
+
+fn params() -> Vec<Case> {
+    let twice = ["a", "b", "a"];
+    let twice_lambda = || lambda(&twice, none());
+    vec![
+        script("params-twice-def", &[def("f", &twice, &[])]),
+        script(
+            "params-twice-method",
+            &[class("A", &[method("m", &twice, &[])], &[])],
+        ),
+        script("params-twice-lambda", &[expr(twice_lambda())]),
+        script(
+            "params-twice-class-attribute",
+            &[class("A", &[], &[("a", twice_lambda())])],
+        ),
+        script("params-like-function", &[def("f", &["f", "F"], &[])]),
+        script(
+            "init-no-params",
+            &[class("A", &[method("__init__", &[], &[])], &[])],
+        ),
+        script(
+            "init-other-param",
+            &[class("A", &[method("__init__", &["x"], &[])], &[])],
+        ),
+        script(
+            "init-no-params-nested",
+            &[def(
+                "f",
+                &[],
+                &[class("A", &[method("__init__", &[], &[])], &[])],
+            )],
+        ),
+    ]
+}
+
+fn argument_counts() -> Vec<Case> {
+    let mut cases = Vec::new();
+    for count in [254, 255, 256] {
+        let args = times(count, &none());
+        let names = many_names(count);
+        let params = borrowed(&names);
+        let stmts = [
+            ("method-args", expr(call(attr(none(), "m"), &args))),
+            ("built-in-args", expr(call_name("print", &args))),
+            ("value-args", expr(call(none(), &args))),
+            ("def-params", def("f", &params, &[])),
+            (
+                "method-params",
+                class("A", &[method("m", &params, &[])], &[]),
+            ),
+            ("lambda-params", expr(lambda(&params, none()))),
+            (
+                "attribute-args",
+                class("A", &[], &[("a", call(none(), &args))]),
+            ),
+            (
+                "attribute-params",
+                class("A", &[], &[("a", lambda(&params, none()))]),
+            ),
+            ("list", expr(list(&args))),
+            ("dict", expr(dict(&vec![(none(), none()); count]))),
+        ];
+        for (word, stmt) in stmts {
+            cases.push(script(&format!("count-{count}-{word}"), &[stmt]));
+        }
+    }
+    cases
+}
+
+/// Functions of exactly so many slots, made in different ways.
+fn slot_counts() -> Vec<Case> {
+    let mut cases = Vec::new();
+    for count in [255, 256] {
+        let names = many_names(count);
+        let all = borrowed(&names);
+        let (params, rest) = all.split_at(200);
+        let store = |stmt: fn(&str) -> Bytes| rest.iter().map(|n| stmt(n)).collect::<Vec<_>>();
+        let assigned = store(|n| assign(var(n), none()));
+        let named = store(|n| def(n, &[], &[]));
+        let looped = store(|n| for_(n, none(), &[]));
+        let classes = store(|n| class(n, &[], &[]));
+        // A lambda with one parameter and one capture less than the count.
+        let captured = list(&all[1..].iter().map(|n| var(n)).collect::<Vec<_>>());
+        let capturing = ret(lambda(&["q"], captured));
+        let stmts = [
+            ("assigned", def("f", params, &assigned)),
+            ("defs", def("f", params, &named)),
+            ("loops", def("f", params, &looped)),
+            ("classes", def("f", params, &classes)),
+            ("method", class("A", &[method("m", params, &assigned)], &[])),
+            ("captures", def("f", &all[1..], &[capturing])),
+            ("main", if_(&[(none(), assigned.clone())], None)),
+            ("in-def", def("g", &[], &[def("f", params, &assigned)])),
+        ];
+        for (word, stmt) in stmts {
+            cases.push(script(&format!("slots-{count}-{word}"), &[stmt]));
+        }
+    }
+    cases.extend(slots_not_counted());
+    cases
+}
+
+fn slots_not_counted() -> Vec<Case> {
+    let names = many_names(300);
+    let all = borrowed(&names);
+    let wide = tuple(&all.iter().map(|n| var(n)).collect::<Vec<_>>());
+    let main: Vec<_> = all.iter().map(|n| assign(var(n), none())).collect();
+    // 255 parameters and a capture, but the lambda is never lowered.
+    let unlowered = lambda(&all[..255], var("zz"));
+    let in_attribute = class("A", &[], &[("a", unlowered.clone())]);
+    vec![
+        script(
+            "slots-tuple-none",
+            &[def("f", &[], &[assign(wide, none())])],
+        ),
+        script("slots-main-300", &main),
+        script(
+            "slots-attribute-lambda",
+            &[def("f", &["zz"], &[in_attribute])],
+        ),
+        script(
+            "slots-lambda-one-over",
+            &[def("f", &["zz"], &[ret(unlowered)])],
+        ),
+    ]
+}
+
+/// So many functions, strings, classes and symbols besides main's.
+fn table_counts() -> Vec<Case> {
+    let texts = |count: usize| {
+        let one = |n: String| expr(string(n.as_bytes()));
+        many_names(count).into_iter().map(one).collect::<Vec<_>>()
+    };
+    let variables = |count: usize| {
+        let one = |n: String| expr(var(&n));
+        many_names(count).into_iter().map(one).collect::<Vec<_>>()
+    };
+    let methods = |count: usize| {
+        let one = |n: String| method(&n, &["s"], &[]);
+        many_names(count).into_iter().map(one).collect::<Vec<_>>()
+    };
+    let closure = expr(lambda(&[], none()));
+    vec![
+        script("functions-256", &times(255, &def("f", &[], &[]))),
+        script("functions-257", &times(256, &def("f", &[], &[]))),
+        script("functions-256-lambdas", &times(255, &closure)),
+        script("functions-257-lambdas", &times(256, &closure)),
+        script("functions-256-methods", &[class("A", &methods(255), &[])]),
+        script("functions-257-methods", &[class("A", &methods(256), &[])]),
+        script("strings-512", &texts(512)),
+        script("strings-513", &texts(513)),
+        script("classes-64", &times(64, &class("A", &[], &[]))),
+        script("classes-65", &times(65, &class("A", &[], &[]))),
+        script("symbols-1024", &variables(1023)),
+        script("symbols-1025", &variables(1024)),
+    ]
+}
+
+/// One statement for each question that can be broken by a statement alone.
+fn faults() -> Vec<(u8, Bytes)> {
+    let names = many_names(256);
+    let all = borrowed(&names);
+    let wide = def("f", &all[..255], &[assign(var(all[255]), none())]);
+    let classes = times(65, &class("A", &[], &[]));
+    vec![
+        (7, expr(var("9"))),
+        (8, expr(string(&[128]))),
+        (9, break_()),
+        (10, assign(none(), none())),
+        (11, def("f", &["a", "a"], &[])),
+        (12, class("A", &[method("__init__", &[], &[])], &[])),
+        (13, expr(call_name("f", &times(256, &none())))),
+        (14, wide),
+        (15, if_(&[(none(), classes)], None)),
+    ]
+}
+
+/// Two faults in both orders: the smaller number answers.
+fn pairs_of_faults() -> Vec<Case> {
+    let faults = faults();
+    let mut cases = Vec::new();
+    for (place, (small, first)) in faults.iter().enumerate() {
+        for (large, second) in &faults[place + 1..] {
+            let name = format!("faults-{small}-{large}");
+            cases.push(script(&name, &[first.clone(), second.clone()]));
+            let name = format!("faults-{large}-{small}");
+            cases.push(script(&name, &[second.clone(), first.clone()]));
+        }
+        let name = format!("faults-{small}-and-bad-kind");
+        cases.push(script(&name, &[first.clone(), vec![99]]));
+        let name = format!("faults-{small}-and-depth-33");
+        cases.push(script(&name, &[first.clone(), expr(nested_not(31))]));
+    }
+    cases
+}
+
+/// `() = None` has one instruction, `None` as a statement two.
+fn instruction_counts() -> Vec<Case> {
+    let two = expr(none());
+    let one = assign(tuple(&[]), none());
+    let three = while_(none(), &[]);
+    let with = |many: Vec<Bytes>, more: &[Bytes]| [many.as_slice(), more].concat();
+    let in_def = |stmts: &[Bytes]| [def("f", &[], stmts)];
+    let many = times(4095, &two);
+    vec![
+        script("instructions-8192", &with(many.clone(), from_ref(&one))),
+        script("instructions-8193", &times(4096, &two)),
+        script(
+            "instructions-8192-loops",
+            &with(times(2730, &three), from_ref(&one)),
+        ),
+        script(
+            "instructions-8193-loops",
+            &with(times(2730, &three), &[two]),
+        ),
+        script("instructions-8192-in-def", &in_def(&many)),
+        script("instructions-8193-in-def", &in_def(&with(many, &[one]))),
+    ]
+}
+
+/// A module of so many bytes: loops, then a string that fills it.
+fn filled(module_length: usize) -> Case {
+    let empty = model_length(&filled_stmts(0));
+    let text = module_length - empty;
+    script(&format!("module-{module_length}"), &filled_stmts(text))
+}
+
+fn filled_stmts(text: usize) -> Vec<Bytes> {
+    let mut stmts = times(800, &for_("i", none(), &[]));
+    stmts.push(expr(string(&vec![b's'; text])));
+    stmts
+}
+
+fn model_length(stmts: &[Bytes]) -> usize {
+    let module = model::lower(&tree(stmts), 16_384, 16_384, usize::MAX);
+    module.expect("an accepted tree").len()
+}
+
+/// A tree of exactly so many bytes.
+fn of_length(length: usize) -> Case {
+    let empty = tree(&[expr(string(b""))]).len();
+    let stmts = [expr(string(&vec![b't'; length - empty]))];
+    script(&format!("tree-{length}"), &stmts)
+}
+
+/// Lambdas in lambdas that each capture 220 names: far too many instructions.
+fn capturing() -> Case {
+    let names = many_names(220);
+    let all = borrowed(&names);
+    let referenced = list(&all.iter().map(|n| var(n)).collect::<Vec<_>>());
+    let chain = expr(nest(|e| lambda(&[], e), 28, referenced));
+    script("hostile-captures", &[def("f", &all, &times(31, &chain))])
+}
+
+fn long() -> Vec<Case> {
+    let chain = expr(nest(|e| lambda(&[], e), 30, none()));
+    let mut wrong_header = of_length(MAX_TREE + 1).tree;
+    wrong_header[3] ^= 1;
+    vec![
+        script("hostile-functions", &times(350, &chain)),
+        capturing(),
+        filled(65_536),
+        filled(65_537),
+        of_length(MAX_TREE),
+        of_length(MAX_TREE + 1),
+        case("tree-32769-bad-header", wrong_header),
+    ]
+}

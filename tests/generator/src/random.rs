@@ -1,0 +1,308 @@
+//! Random programs over small pools of names, so that slots, captures, calls,
+//! classes, built-ins and made names meet each other often.
+
+use crate::make::{self, Bytes};
+use crate::rng::Rng;
+
+const POOL: [&str; 34] = [
+    "a",
+    "b",
+    "x",
+    "y",
+    "f",
+    "g",
+    "A",
+    "B",
+    "self",
+    "m",
+    "aa",
+    "_",
+    "a",
+    "x",
+    "f",
+    "x",
+    "a",
+    "__iter__",
+    "__has_next__",
+    "__next__",
+    "__for_iter_2__",
+    "__for_iter_4__",
+    "__for_iter_12__",
+    "__main__",
+    "__init__",
+    "print",
+    "len",
+    "range",
+    "list",
+    "dict",
+    "set",
+    "treeset",
+    "assert",
+    "map",
+];
+
+/// A rule that a random tree may break: questions 7 to 12.
+#[derive(Clone, Copy, PartialEq, Eq)]
+enum Fault {
+    Name,
+    Text,
+    Loop,
+    Target,
+    Params,
+    Init,
+}
+
+const FAULTS: [Fault; 6] = [
+    Fault::Name,
+    Fault::Text,
+    Fault::Loop,
+    Fault::Target,
+    Fault::Params,
+    Fault::Init,
+];
+
+/// One random tree. Most are accepted; some break a rule on purpose.
+pub fn tree(rng: &mut Rng) -> Bytes {
+    // How many parts, and how many top statements at the most.
+    let (size, most) = match rng.below(200) {
+        0..20 => (4, 4),
+        20..140 => (40, 12),
+        140..180 => (150, 12),
+        180..198 => (600, 20),
+        _ => (6_000, 400),
+    };
+    let pool = (0..2 + rng.below(9)).map(|_| *rng.pick(&POOL)).collect();
+    let mut maker = Maker {
+        pool,
+        size,
+        deepest: if rng.once_in(12) {
+            32
+        } else {
+            4 + rng.below(9)
+        },
+        fault: rng.once_in(8).then(|| *rng.pick(&FAULTS)),
+        lambdas: rng.once_in(3),
+        rng,
+    };
+    let stmts = maker.block(1, false, most);
+    make::tree(&stmts)
+}
+
+struct Maker<'r> {
+    rng: &'r mut Rng,
+    pool: Vec<&'static str>,
+    /// How many parts may still be made; then only small ones follow.
+    size: usize,
+    deepest: usize,
+    /// The rule that is broken now and then, if any.
+    fault: Option<Fault>,
+    /// Whether expressions are mostly lambdas.
+    lambdas: bool,
+}
+
+impl Maker<'_> {
+    fn spoil(&mut self, fault: Fault) -> bool {
+        self.fault == Some(fault) && self.rng.once_in(6)
+    }
+
+    fn name(&mut self) -> &'static str {
+        if self.spoil(Fault::Name) {
+            return self.rng.pick::<&str>(&["", "1a", "a-b", "a b"]);
+        }
+        let at = self.rng.below(self.pool.len());
+        self.pool[at]
+    }
+
+    /// Distinct names, unless a rule is broken.
+    fn params(&mut self) -> Vec<&'static str> {
+        let mut params: Vec<&'static str> = Vec::new();
+        for _ in 0..self.rng.below(4) {
+            let name = self.name();
+            if !params.contains(&name) || self.spoil(Fault::Params) {
+                params.push(name);
+            }
+        }
+        params
+    }
+
+    fn block(&mut self, depth: usize, in_loop: bool, most: usize) -> Vec<Bytes> {
+        if depth > self.deepest {
+            return Vec::new();
+        }
+        let count = self.rng.below(most + 1);
+        (0..count).map(|_| self.stmt(depth, in_loop)).collect()
+    }
+
+    fn stmt(&mut self, depth: usize, in_loop: bool) -> Bytes {
+        let small = self.size == 0 || depth + 1 >= self.deepest;
+        self.size = self.size.saturating_sub(1);
+        if depth >= 32 {
+            return make::pass();
+        }
+        let inner = depth + 1;
+        match self.rng.below(if small { 7 } else { 20 }) {
+            0 => make::pass(),
+            1 if in_loop || self.spoil(Fault::Loop) => make::break_(),
+            2 if in_loop || self.spoil(Fault::Loop) => make::continue_(),
+            1 | 2 => make::expr(self.expr(inner)),
+            3 => make::ret(self.expr(inner)),
+            4 | 5 => {
+                let target = self.target(inner);
+                make::assign(target, self.expr(inner))
+            }
+            6 | 7 => make::expr(self.expr(inner)),
+            8..=10 => self.if_stmt(inner, in_loop),
+            11 | 12 => {
+                let condition = self.expr(inner);
+                make::while_(condition, &self.block(inner, true, 4))
+            }
+            13..=15 => {
+                let (name, iterable) = (self.name(), self.expr(inner));
+                make::for_(name, iterable, &self.block(inner, true, 4))
+            }
+            16..=18 => {
+                let (name, params) = (self.name(), self.params());
+                make::def(name, &params, &self.block(inner, false, 6))
+            }
+            _ => self.class(inner),
+        }
+    }
+
+    fn if_stmt(&mut self, inner: usize, in_loop: bool) -> Bytes {
+        let arms: Vec<_> = (0..1 + self.rng.below(3))
+            .map(|_| (self.expr(inner), self.block(inner, in_loop, 3)))
+            .collect();
+        let otherwise = self.rng.once_in(2);
+        let otherwise = otherwise.then(|| self.block(inner, in_loop, 3));
+        make::if_(&arms, otherwise.as_deref())
+    }
+
+    fn class(&mut self, inner: usize) -> Bytes {
+        let mut methods = Vec::new();
+        for _ in 0..self.rng.below(4) {
+            let name = if self.rng.once_in(4) {
+                "__init__"
+            } else {
+                self.name()
+            };
+            let mut params = self.params();
+            if name == "__init__" && params.is_empty() && !self.spoil(Fault::Init) {
+                params.push("self");
+            }
+            methods.push(make::method(name, &params, &self.block(inner, false, 4)));
+        }
+        let attributes: Vec<_> = (0..self.rng.below(3))
+            .map(|_| (self.name(), self.expr(inner)))
+            .collect();
+        make::class(self.name(), &methods, &attributes)
+    }
+
+    fn target(&mut self, depth: usize) -> Bytes {
+        let deep = depth + 1 < self.deepest.min(32);
+        match self.rng.below(8) {
+            0 if deep => {
+                let object = self.expr(depth + 1);
+                make::attr(object, self.name())
+            }
+            1 if deep => {
+                let object = self.expr(depth + 1);
+                make::index(object, self.expr(depth + 1))
+            }
+            2 | 3 if deep => {
+                let count = self.rng.below(4);
+                let items: Vec<_> = (0..count).map(|_| self.plain_target(depth + 1)).collect();
+                make::tuple(&items)
+            }
+            4 if self.spoil(Fault::Target) => self.expr(depth),
+            _ => make::var(self.name()),
+        }
+    }
+
+    fn plain_target(&mut self, depth: usize) -> Bytes {
+        if self.spoil(Fault::Target) {
+            return self.target(depth);
+        }
+        if depth + 1 < self.deepest.min(32) && self.rng.once_in(4) {
+            let count = self.rng.below(3);
+            let items: Vec<_> = (0..count).map(|_| self.plain_target(depth + 1)).collect();
+            return make::tuple(&items);
+        }
+        make::var(self.name())
+    }
+
+    fn leaf(&mut self) -> Bytes {
+        match self.rng.below(12) {
+            0 => make::none(),
+            1 => make::true_(),
+            2 => make::false_(),
+            3 => make::int(self.rng.number() as i64 >> self.rng.below(64)),
+            4 => make::float(self.rng.number()),
+            5 => {
+                let text = *self.rng.pick(&["", "a", "x", "ab", "\u{7f}", "\0"]);
+                let spoiled = self.spoil(Fault::Text);
+                make::string(if spoiled { &[128] } else { text.as_bytes() })
+            }
+            _ => make::var(self.name()),
+        }
+    }
+
+    fn exprs(&mut self, depth: usize) -> Vec<Bytes> {
+        let count = self.rng.below(4);
+        (0..count).map(|_| self.expr(depth)).collect()
+    }
+
+    fn expr(&mut self, depth: usize) -> Bytes {
+        let small = self.size == 0 || depth + 2 > self.deepest.min(32);
+        self.size = self.size.saturating_sub(1);
+        if small || self.rng.once_in(3) {
+            return self.leaf();
+        }
+        let inner = depth + 1;
+        if self.lambdas && self.rng.once_in(3) {
+            let params = self.params();
+            return make::lambda(&params, self.expr(inner));
+        }
+        match self.rng.below(15) {
+            0 => make::unary(self.rng.below(3) as u8, self.expr(inner)),
+            1 => {
+                let operator = self.rng.below(14) as u8;
+                make::binary(operator, self.expr(inner), self.expr(inner))
+            }
+            2 => make::binary(make::AND, self.expr(inner), self.expr(inner)),
+            3 => make::binary(make::OR, self.expr(inner), self.expr(inner)),
+            4..=6 => make::call(make::var(self.name()), &self.exprs(inner)),
+            7 if inner < 32 => {
+                let object = self.expr(inner + 1);
+                let callee = make::attr(object, self.name());
+                make::call(callee, &self.exprs(inner))
+            }
+            7 | 8 => make::call(self.expr(inner), &self.exprs(inner)),
+            9 => {
+                let object = self.expr(inner);
+                make::attr(object, self.name())
+            }
+            10 => self.group(inner),
+            11 => {
+                let pair = |maker: &mut Self| (maker.expr(inner), maker.expr(inner));
+                let count = self.rng.below(3);
+                let pairs: Vec<_> = (0..count).map(|_| pair(self)).collect();
+                make::dict(&pairs)
+            }
+            12 => make::index(self.expr(inner), self.expr(inner)),
+            _ => {
+                let params = self.params();
+                make::lambda(&params, self.expr(inner))
+            }
+        }
+    }
+
+    fn group(&mut self, inner: usize) -> Bytes {
+        let items = self.exprs(inner);
+        match self.rng.below(4) {
+            0 => make::list(&items),
+            1 => make::tuple(&items),
+            2 => make::set(&items),
+            _ => make::tree_set(&items),
+        }
+    }
+}

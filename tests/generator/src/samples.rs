@@ -1,0 +1,479 @@
+//! The paper's sample scripts, and small scripts for each of its rules.
+
+use crate::make::*;
+use std::slice::from_ref;
+
+/// A named tree.
+pub struct Case {
+    pub name: String,
+    pub tree: Bytes,
+}
+
+pub fn case(name: &str, tree: Bytes) -> Case {
+    Case {
+        name: name.to_string(),
+        tree,
+    }
+}
+
+/// A named tree of these statements.
+pub fn script(name: &str, stmts: &[Bytes]) -> Case {
+    case(name, tree(stmts))
+}
+
+/// The starred samples of the paper.
+pub fn starred() -> Vec<Case> {
+    let break_in_def = while_(true_(), &[def("f", &[], &[break_()])]);
+    let elif = [(var("a"), vec![pass()]), (var("b"), vec![pass()])];
+    vec![
+        case("sample-empty", vec![0, 0, 0, 3, 1, 0, 0]),
+        script("sample-while", &[while_(true_(), &[break_()])]),
+        script("sample-and", &[expr(binary(AND, var("a"), var("b")))]),
+        script("sample-elif", &[if_(&elif, None)]),
+        script(
+            "sample-pair",
+            &[assign(tuple(&[var("a"), var("b")]), var("t"))],
+        ),
+        script("sample-no-target", &[assign(tuple(&[]), var("t"))]),
+        script("sample-for", &[for_("i", var("r"), &[pass()])]),
+        script(
+            "sample-args-255",
+            &[expr(call_name("f", &times(255, &none())))],
+        ),
+        script(
+            "sample-args-256",
+            &[expr(call_name("f", &times(256, &none())))],
+        ),
+        script("sample-depth-32", &[expr(nested_not(30))]),
+        script("sample-depth-33", &[expr(nested_not(31))]),
+        script("sample-break-in-def", &[break_in_def]),
+    ]
+}
+
+/// `not not ... None` with so many operators.
+pub fn nested_not(operators: usize) -> Bytes {
+    (0..operators).fold(none(), |operand, _| unary(0, operand))
+}
+
+/// Small scripts, grouped by the rule they try.
+pub fn small() -> Vec<Case> {
+    let groups = [
+        literals,
+        operators,
+        name_order,
+        iterators,
+        built_ins,
+        calls_by_name,
+        calls_of_values,
+        methods,
+        classes,
+        slots,
+        capture_orders,
+        captures,
+        ifs,
+        loops,
+        targets,
+    ];
+    groups.into_iter().flat_map(|group| group()).collect()
+}
+
+fn literals() -> Vec<Case> {
+    let ints = [0, 1, -1, 255, i64::MAX, i64::MIN].map(|i| expr(int(i)));
+    let bits = [
+        0,
+        1 << 63,
+        0x7FF0_0000_0000_0000,
+        0x7FF0_0000_0000_0001,
+        0xFFF8_0000_DEAD_BEEF,
+        1,
+    ];
+    let texts: [&[u8]; 6] = [b"", b"a", b"", b"b", b"a", b"\x00\x7f"];
+    vec![
+        script("literal-words", &[none(), false_(), true_()].map(expr)),
+        script("literal-ints", &ints),
+        script("literal-floats", &bits.map(|b| expr(float(b)))),
+        script("literal-strings", &texts.map(|t| expr(string(t)))),
+        script(
+            "string-like-name",
+            &[expr(string(b"__main__")), expr(var("a"))],
+        ),
+        script("pass-twice", &[pass(), pass()]),
+        script("return-in-main", &[ret(none()), expr(true_())]),
+    ]
+}
+
+fn operators() -> Vec<Case> {
+    let all_binary: Vec<_> = (0..14)
+        .map(|o| expr(binary(o, var("a"), var("b"))))
+        .collect();
+    let all_unary: Vec<_> = (0..3).map(|o| expr(unary(o, var("a")))).collect();
+    let or_and = binary(OR, binary(AND, var("a"), var("b")), var("c"));
+    let groups = [
+        list(&[]),
+        list(&[var("a"), none()]),
+        tuple(&[var("a")]),
+        set(&[int(1), int(2)]),
+        tree_set(&[int(1)]),
+        dict(&[(var("k"), var("v")), (none(), none())]),
+        index(var("a"), var("b")),
+        attr(var("a"), "b"),
+    ];
+    vec![
+        script("operators-binary", &all_binary),
+        script("operators-unary", &all_unary),
+        script("or", &[expr(binary(OR, var("a"), var("b")))]),
+        script("and-then-or", from_ref(&expr(or_and.clone()))),
+        script("or-in-condition", &[while_(or_and.clone(), &[pass()])]),
+        script("or-in-argument", &[expr(call_name("f", &[or_and]))]),
+        script("groups", &groups.map(expr)),
+    ]
+}
+
+fn name_order() -> Vec<Case> {
+    let stored = assign(attr(var("o"), "p"), var("v"));
+    let called = call(attr(var("o"), "m"), &[var("a"), var("b")]);
+    let indexed = assign(index(var("c"), var("b")), var("a"));
+    vec![
+        script("name-order", &[stored, expr(attr(var("q"), "w"))]),
+        script("name-order-call", &[expr(called)]),
+        script("name-order-index", &[indexed]),
+    ]
+}
+
+fn iterators() -> Vec<Case> {
+    let loop_in = |name: &str| def(name, &[], &[for_("i", var("r"), &[pass()])]);
+    let loop_ = || for_("i", var("r"), &[pass()]);
+    let spelled = |name: &str| assign(var(name), int(1));
+    let after = [loop_(), expr(var("__for_iter_2__")), expr(var("__next__"))];
+    let inner = for_("i", var("i"), &[loop_()]);
+    let over_call = for_("x", call_name("range", &[int(3)]), &[expr(var("x"))]);
+    let far = [times(50, &expr(none())), vec![loop_()]].concat();
+    let slot = for_("i", var("r"), &[expr(var("i"))]);
+    vec![
+        script("iter-spelled-first", &[spelled("__iter__"), loop_()]),
+        script(
+            "iterator-spelled-first",
+            &[spelled("__for_iter_4__"), loop_()],
+        ),
+        script("iterator-spelled-last", &after),
+        script("iterator-shared", &[loop_in("f"), loop_in("g"), loop_()]),
+        script("loop-in-loop", &[for_("i", var("r"), &[inner])]),
+        script(
+            "loop-variable-made",
+            &[for_("__iter__", var("__has_next__"), &[])],
+        ),
+        script("loop-over-call", &[over_call]),
+        script("loop-far", &far),
+        script("def-loop-variable", &[def("f", &["r"], &[slot])]),
+    ]
+}
+
+fn built_ins() -> Vec<Case> {
+    let known = [
+        "print", "input", "int", "bool", "str", "len", "range", "float", "list", "dict", "assert",
+        "map", "filter", "set", "treeset", "tuple",
+    ];
+    let call_of = |name: &str| expr(call_name(name, &[]));
+    let with_argument = known.map(|n| expr(call_name(n, &[int(1)])));
+    vec![
+        script("call-built-ins", &with_argument),
+        script("built-ins-as-values", &known.map(|n| expr(var(n)))),
+        script(
+            "built-in-parameter",
+            &[def("f", &["print"], &[call_of("print")])],
+        ),
+        script(
+            "built-in-redefined",
+            &[def("len", &[], &[]), call_of("len")],
+        ),
+        script(
+            "class-named-print",
+            &[class("print", &[], &[]), call_of("print")],
+        ),
+    ]
+}
+
+/// Which of several things with one name a call takes.
+fn calls_by_name() -> Vec<Case> {
+    let f = || expr(call_name("f", &[]));
+    let main = || expr(call_name("__main__", &[]));
+    let def_f = || def("f", &[], &[]);
+    let class_f = || class("f", &[], &[]);
+    let method_f = || class("C", &[method("f", &["self"], &[])], &[]);
+    let shadow = def("g", &["f"], &[f(), expr(var("f"))]);
+    vec![
+        script("call-before-def", &[f(), def_f(), f()]),
+        script("call-own", &[def("f", &[], &[f()])]),
+        script("def-twice", &[def_f(), def("f", &["x"], &[]), f()]),
+        script("def-class-call", &[def_f(), class_f(), f()]),
+        script("class-def-call", &[class_f(), def_f(), f()]),
+        script("method-called-by-name", &[method_f(), f()]),
+        script("method-before-def", &[method_f(), def_f(), f()]),
+        script("call-main", &[expr(call_name("__main__", &[none()]))]),
+        script("def-main", &[def("__main__", &[], &[]), main()]),
+        script("class-named-main", &[class("__main__", &[], &[]), main()]),
+        script("slot-no-shadow", &[def_f(), shadow]),
+        script("def-in-def-called", &[def("g", &[], &[def_f(), f()]), f()]),
+    ]
+}
+
+fn calls_of_values() -> Vec<Case> {
+    let f = || call_name("f", &[]);
+    let own = method("m", &["s"], &[ret(call_name("C", &[]))]);
+    let identity = lambda(&["x"], var("x"));
+    let of_call = call(attr(f(), "m"), &[none()]);
+    vec![
+        script("call-lambda", &[expr(call(identity, &[int(1)]))]),
+        script("call-call", &[expr(call(f(), &[none()]))]),
+        script("call-index", &[expr(call(index(var("a"), int(0)), &[]))]),
+        script("call-method-of-call", &[expr(of_call)]),
+        script(
+            "call-in-argument",
+            &[expr(call_name("f", &[lambda(&[], f())]))],
+        ),
+        script("class-in-own-method", &[class("C", &[own], &[])]),
+    ]
+}
+
+fn methods() -> Vec<Case> {
+    let m = |n: &str| method(n, &["self"], &[]);
+    let sorted = ["b", "aa", "_", "Z", "a", "a1", "a_", "aaa"].map(m);
+    let again = [m("m"), method("m", &["self", "x"], &[ret(var("x"))])];
+    let init = |body: &[Bytes]| class("A", &[method("__init__", &["self"], body)], &[]);
+    let defs = [def("__init__", &[], &[]), def("__init__", &["a"], &[])];
+    let no_self = method("m", &[], &[ret(none())]);
+    vec![
+        script("methods-sorted", &[class("A", &sorted, &[])]),
+        script(
+            "methods-one-name",
+            &[class("A", &again, &[]), expr(call_name("m", &[]))],
+        ),
+        script("init-empty", &[init(&[])]),
+        script("init-returns", &[init(&[ret(none())])]),
+        script("init-def", &defs),
+        script("method-no-self", &[class("A", &[no_self], &[])]),
+    ]
+}
+
+fn classes() -> Vec<Case> {
+    let m = || method("m", &["self"], &[]);
+    let empty = || class("A", &[], &[]);
+    let a = || call_name("A", &[]);
+    let inner = class("B", &[method("n", &["self"], &[])], &[]);
+    let outer = class("A", &[method("m", &["self"], &[inner])], &[]);
+    let attributes = [
+        ("x", string(b"kept out")),
+        ("y", lambda(&["q"], var("unseen"))),
+    ];
+    let in_def = |last: Bytes| [def("f", &[], &[empty(), ret(last)])];
+    let in_loop = while_(var("a"), &[class("A", &[m()], &[]), break_()]);
+    vec![
+        script("class-empty", &[empty()]),
+        script("class-in-method", &[outer]),
+        script(
+            "class-attributes",
+            &[class("A", &[], &attributes), expr(string(b"x"))],
+        ),
+        script("class-in-def", &in_def(var("A"))),
+        script("class-in-def-called", &in_def(a())),
+        script(
+            "class-twice",
+            &[class("A", &[m()], &[]), empty(), expr(a())],
+        ),
+        script("class-in-loop", &[in_loop]),
+    ]
+}
+
+/// A def with slots from every kind of statement. Their order is p, c, b, a,
+/// z, y, w, v, u, t; the list at the end names them in byte order.
+fn slots_of_all_kinds() -> Bytes {
+    let store = |name: &str| assign(var(name), int(1));
+    let arms = [(none(), vec![store("v")]), (none(), vec![store("u")])];
+    let listed = ["a", "b", "c", "t", "u", "v", "w", "y", "z", "hidden"].map(var);
+    let body = [
+        store("c"),
+        def("b", &[], &[store("hidden")]),
+        class("a", &[], &[]),
+        for_("z", var("p"), &[assign(var("y"), var("z"))]),
+        while_(none(), &[store("w")]),
+        if_(&arms, Some(&[store("t")])),
+        assign(var("p"), var("c")),
+        expr(list(&listed)),
+    ];
+    def("f", &["p"], &body)
+}
+
+fn slots() -> Vec<Case> {
+    let store = |name: &str| assign(var(name), int(1));
+    let f = |body: &[Bytes]| [def("f", &[], body)];
+    let pair = assign(tuple(&[var("a"), var("b")]), var("b"));
+    let attribute = assign(attr(var("o"), "x"), var("x"));
+    let looped = for_("i", var("r"), &[store("a")]);
+    let itself = [def("f", &[], &[]), ret(var("f"))];
+    vec![
+        script("slots-all-kinds", &[slots_of_all_kinds()]),
+        script("slots-not-from-tuple", &f(&[pair, store("b")])),
+        script("slots-not-from-attribute", &f(&[attribute, ret(var("o"))])),
+        script(
+            "slots-def-never-stored",
+            &f(&[def("g", &[], &[]), ret(var("g"))]),
+        ),
+        script(
+            "slots-loop-before-body",
+            &f(&[looped, assign(var("r"), var("i"))]),
+        ),
+        script(
+            "slots-main-none",
+            &[store("x"), expr(lambda(&[], var("x")))],
+        ),
+        script("slots-dead-code", &f(&[ret(var("x")), store("x")])),
+        script("slots-name-of-itself", &[def("f", &["f"], &itself)]),
+    ]
+}
+
+/// In a def with `x` and `y`: a lambda whose body refers to `x` and holds a
+/// lambda with a parameter `x`, in both orders of every kind.
+fn capture_orders() -> Vec<Case> {
+    let inside = |name: &str, body: Bytes| {
+        let outer = lambda(&[], body);
+        script(name, &[def("d", &["x", "y"], &[ret(outer)])])
+    };
+    let x = || var("x");
+    let hides = || lambda(&["x"], var("x"));
+    let inner_then_hide = list(&[lambda(&[], x()), lambda(&["x"], int(0))]);
+    vec![
+        inside("capture-then-hide", list(&[x(), hides()])),
+        inside("hide-then-capture", list(&[hides(), x()])),
+        inside("capture-inner-then-hide", inner_then_hide),
+        inside("capture-call-order", call(x(), &[hides()])),
+        inside("capture-argument-order", call(hides(), &[x()])),
+        inside("capture-dict-order", dict(&[(x(), hides())])),
+        inside("capture-dict-order-back", dict(&[(hides(), x())])),
+        inside("capture-index-order", index(x(), hides())),
+        inside("capture-index-order-back", index(hides(), x())),
+        inside("capture-binary-order", binary(AND, x(), hides())),
+        inside("capture-binary-order-back", binary(0, hides(), x())),
+        inside("capture-method-name", call(attr(x(), "y"), &[])),
+    ]
+}
+
+fn captures() -> Vec<Case> {
+    let x = || var("x");
+    let outer = |body: Bytes| lambda(&[], body);
+    let inside = |name: &str, body: Bytes| script(name, &[def("d", &["x", "y"], &[ret(body)])]);
+    let everywhere = [
+        unary(0, x()),
+        attr(var("y"), "x"),
+        tuple(&[]),
+        tree_set(&[x()]),
+    ];
+    let hidden = list(&[var("y"), lambda(&["y"], x())]);
+    let own = def("o", &["x"], &[def("i", &[], &[ret(outer(x()))])]);
+    let sorted = outer(list(&["b", "a", "ab", "B", "_", "c"].map(var)));
+    let params = ["c", "_", "B", "ab", "a", "b"];
+    let maker = assign(attr(outer(x()), "m"), outer(var("y")));
+    let two = lambda(&["b"], list(&["a", "b", "c"].map(var)));
+    let g = [def("g", &[], &[]), ret(outer(call_name("g", &[])))];
+    let in_method = method("m", &["self"], &[ret(outer(var("self")))]);
+    let named = ret(outer(call_name("len", &[])));
+    vec![
+        inside("capture-in-all", outer(set(&everywhere))),
+        inside(
+            "capture-own-parameter",
+            lambda(&["x"], list(&[x(), var("y")])),
+        ),
+        inside("capture-deep", outer(outer(outer(x())))),
+        inside("capture-deep-hidden", outer(outer(hidden))),
+        script("capture-def-name", &[def("o", &[], &g)]),
+        script("capture-parent-only", &[own]),
+        script("capture-sorted", &[def("f", &params, &[ret(sorted)])]),
+        script("capture-in-target", &[def("f", &["x", "y"], &[maker])]),
+        script("capture-in-method", &[class("A", &[in_method], &[])]),
+        script("capture-built-in-name", &[def("f", &["len"], &[named])]),
+        script(
+            "lambda-numbers",
+            &times(12, &expr(lambda(&["a"], var("a")))),
+        ),
+        script("lambda-in-lambda-main", &[expr(lambda(&["a"], two))]),
+    ]
+}
+
+fn ifs() -> Vec<Case> {
+    let a = || var("a");
+    let arm = |stmts: &[Bytes]| (a(), stmts.to_vec());
+    let chain = [
+        arm(&[expr(a())]),
+        arm(&[]),
+        arm(&[pass()]),
+        arm(&[expr(none())]),
+    ];
+    let inner = if_(&[arm(&[]), arm(&[])], None);
+    let last = if_(&[arm(&[])], None);
+    let both = (binary(AND, a(), var("b")), vec![]);
+    vec![
+        script("if-only", &[if_(&[arm(&[])], None)]),
+        script("if-empty-else", &[if_(&[arm(&[])], Some(&[]))]),
+        script(
+            "if-else",
+            &[if_(&[arm(&[expr(a())])], Some(&[expr(none())]))],
+        ),
+        script("if-chain", &[if_(&chain, Some(&[expr(true_())]))]),
+        script("if-in-if", &[if_(&[arm(&[inner])], Some(&[last]))]),
+        script("and-in-elif", &[if_(&[arm(&[]), both], None)]),
+    ]
+}
+
+fn loops() -> Vec<Case> {
+    let a = || var("a");
+    let arm = |stmts: &[Bytes]| (a(), stmts.to_vec());
+    let leave = if_(&[arm(&[break_()]), arm(&[continue_()])], Some(&[ret(a())]));
+    let inner = while_(a(), &[continue_(), break_()]);
+    let nested = while_(a(), &[inner, break_(), continue_()]);
+    let own_loop = def("f", &[], &[while_(a(), &[break_()])]);
+    let body = [while_(var("i"), &[continue_()]), break_()];
+    vec![
+        script("leave-in-while", &[while_(a(), from_ref(&leave))]),
+        script("leave-in-for", &[for_("i", a(), &[leave])]),
+        script("loops-nested", &[nested]),
+        script("loop-in-def-in-loop", &[while_(a(), &[own_loop, break_()])]),
+        script("while-while", &[while_(a(), &[]), while_(a(), &[])]),
+        script("for-and-while", &[for_("i", binary(OR, a(), a()), &body)]),
+    ]
+}
+
+fn targets() -> Vec<Case> {
+    let [a, b, c] = ["a", "b", "c"].map(var);
+    let nested = tuple(&[a.clone(), tuple(&[b.clone(), c.clone()]), tuple(&[])]);
+    let t = || var("t");
+    vec![
+        script("target-one", &[assign(tuple(from_ref(&a)), t())]),
+        script("target-nested", &[assign(nested.clone(), t())]),
+        script(
+            "target-nested-in-def",
+            &[def(
+                "f",
+                &["b"],
+                &[assign(var("c"), t()), assign(nested, t())],
+            )],
+        ),
+        script(
+            "target-then-empty",
+            &[assign(tuple(&[a.clone(), tuple(&[])]), t())],
+        ),
+        script(
+            "target-empty-first",
+            &[assign(tuple(&[tuple(&[]), a.clone()]), t())],
+        ),
+        script(
+            "target-same-twice",
+            &[assign(tuple(&[a.clone(), a.clone()]), t())],
+        ),
+        script("target-wide", &[assign(tuple(&times(300, &a)), t())]),
+        script(
+            "target-attribute",
+            &[assign(attr(call_name("f", &[]), "p"), b.clone())],
+        ),
+        script("target-index", &[assign(index(a.clone(), b), c)]),
+        script("target-value-empty", &[assign(a, tuple(&[]))]),
+    ]
+}

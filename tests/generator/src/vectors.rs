@@ -1,0 +1,138 @@
+//! The text of the committed vectors, made again byte for byte.
+
+use crate::modules::{self, ModuleCase};
+use crate::runs::{self, RunCase};
+use crate::samples::{self, Case};
+use crate::text::{hex, hex_or_dash};
+use crate::{damage, limits, random, Bytes, Rng};
+
+const SEED: u64 = 20_251_125;
+
+/// File names below tests/vectors and their whole text.
+pub fn files() -> [(&'static str, String); 3] {
+    [
+        ("trees.txt", lines(trees().iter().map(tree_line))),
+        ("modules.txt", lines(module_cases().iter().map(module_line))),
+        ("runs.txt", lines(run_cases().iter().map(run_line))),
+    ]
+}
+
+fn lines(each: impl Iterator<Item = String>) -> String {
+    each.map(|line| line + "\n").collect()
+}
+
+/// The answer of the program `lower` on this tree.
+pub fn tree_answer(tree: &[u8]) -> String {
+    match model::lower(tree, 16_384, 16_384, 65_536) {
+        Ok(module) => hex(&module),
+        Err(number) => format!("refused {number}"),
+    }
+}
+
+pub fn module_answer(module: &[u8]) -> String {
+    match model::read(module) {
+        Ok(()) => "accepted".to_string(),
+        Err(number) => format!("refused {number}"),
+    }
+}
+
+pub fn run_answer(case: &RunCase) -> String {
+    match case.run() {
+        Ok(ran) => {
+            let events = hex_or_dash(&ran.events);
+            format!("{} {} {} {events}", ran.ending, ran.steps, ran.used)
+        }
+        Err(number) => format!("refused {number}"),
+    }
+}
+
+/// A field of bytes; the empty record is a dash, too.
+fn tree_line(case: &Case) -> String {
+    let answer = tree_answer(&case.tree);
+    format!("{}\t{}\t{answer}", case.name, hex_or_dash(&case.tree))
+}
+
+fn module_line(case: &ModuleCase) -> String {
+    let answer = module_answer(&case.module);
+    format!("{}\t{}\t{answer}", case.name, hex_or_dash(&case.module))
+}
+
+fn run_line(case: &RunCase) -> String {
+    format!(
+        "{}\t{}\t{}\t{}\t{}\t{}\t{}",
+        case.name,
+        hex_or_dash(&case.module),
+        case.function,
+        hex_or_dash(&case.answers),
+        case.budget,
+        case.room,
+        run_answer(case)
+    )
+}
+
+/// A random tree of at most so many bytes.
+fn small_tree(rng: &mut Rng, longest: usize) -> Bytes {
+    loop {
+        let tree = random::tree(rng);
+        if (20..=longest).contains(&tree.len()) {
+            return tree;
+        }
+    }
+}
+
+/// Samples, random trees, damaged copies, then the limits.
+pub fn trees() -> Vec<Case> {
+    let mut rng = Rng::new(SEED);
+    let mut cases = samples::starred();
+    cases.extend(samples::small());
+    for number in 0..150 {
+        let tree = small_tree(&mut rng, 500);
+        cases.push(samples::case(&format!("random-{number}"), tree));
+    }
+    for number in 0..150 {
+        let tree = small_tree(&mut rng, 200);
+        let tree = damage::damaged(&mut rng, &tree);
+        cases.push(samples::case(&format!("damaged-{number}"), tree));
+    }
+    cases.extend(limits::all());
+    cases
+}
+
+/// Hand-made modules, random ones, lowered ones, and damaged copies.
+pub fn module_cases() -> Vec<ModuleCase> {
+    let mut rng = Rng::new(SEED + 1);
+    let mut cases = modules::all();
+    for number in 0..100 {
+        let module = modules::random(&mut rng).bytes();
+        cases.push(modules::module_case(&format!("made-{number}"), module));
+    }
+    for number in 0..40 {
+        let module = small_module(&mut rng, 1_000);
+        cases.push(modules::module_case(&format!("lowered-{number}"), module));
+    }
+    for number in 0..200 {
+        let module = small_module(&mut rng, 300);
+        let module = damage::damaged(&mut rng, &module);
+        cases.push(modules::module_case(&format!("damaged-{number}"), module));
+    }
+    cases
+}
+
+/// A lowered module of at most so many bytes.
+fn small_module(rng: &mut Rng, longest: usize) -> Bytes {
+    loop {
+        let tree = small_tree(rng, longest);
+        let module = model::lower(&tree, 16_384, 16_384, longest);
+        if let Ok(module) = module {
+            return module;
+        }
+    }
+}
+
+pub fn run_cases() -> Vec<RunCase> {
+    let mut rng = Rng::new(SEED + 2);
+    let mut cases = runs::all();
+    cases.extend(runs::random_runs(&mut rng, 150, 800));
+    cases.extend(runs::made_runs(&mut rng, 150));
+    cases
+}

@@ -1,0 +1,93 @@
+//! A plain model of the paper: lowering, reader, run and walk.
+//!
+//! Written from the paper alone, to be held against the reference compiler
+//! and against the project's own code. A refusal is the question's number.
+
+pub mod instruction;
+pub mod lowering;
+pub mod module;
+pub mod names;
+pub mod plan;
+pub mod questions;
+mod renumber;
+pub mod run;
+pub mod slots;
+pub mod tree;
+pub mod walk;
+
+pub use run::Ran;
+pub use walk::Walked;
+
+/// The least length of each work area.
+pub const AREA: usize = 16_384;
+
+/// Questions 1 to 16: the module record of a tree, or the first no.
+pub fn lower(tree: &[u8], area1: usize, area2: usize, room: usize) -> Result<Vec<u8>, u8> {
+    if area1 < AREA || area2 < AREA {
+        return Err(1);
+    }
+    lowering::write(&plan(tree)?, room)
+}
+
+/// Questions 2 to 15: the numbered tree, before it becomes bytes.
+pub fn plan(tree: &[u8]) -> Result<plan::Plan<'_>, u8> {
+    let program = tree::read(tree)?;
+    questions::ask(&program)?;
+    slots::ask(&program)?;
+    plan::make(&program)
+}
+
+/// Questions 17 to 21.
+pub fn read(module: &[u8]) -> Result<(), u8> {
+    module::read(module).map(|_| ())
+}
+
+/// The start and length of a function's code in the module's bytes.
+pub fn code(module: &[u8], function: u64) -> Result<(usize, usize), u8> {
+    let module = module::read(module)?;
+    let function = find(&module.functions, function)?;
+    Ok((function.start, function.end - function.start))
+}
+
+/// Question 22.
+fn find<T>(functions: &[T], number: u64) -> Result<&T, u8> {
+    let number = usize::try_from(number).map_err(|_| 22)?;
+    functions.get(number).ok_or(22)
+}
+
+/// Question 23, asked of every answer, also of those never used.
+fn ask_answers(answers: &[u8]) -> Result<(), u8> {
+    if answers.iter().all(|&answer| answer <= 1) {
+        Ok(())
+    } else {
+        Err(23)
+    }
+}
+
+/// Questions 17 to 24: the run of one function.
+pub fn run(
+    module: &[u8],
+    function: u64,
+    answers: &[u8],
+    budget: u64,
+    room: usize,
+) -> Result<Ran, u8> {
+    let module = module::read(module)?;
+    let function = find(&module.functions, function)?;
+    ask_answers(answers)?;
+    run::run(&module, function, answers, budget, room)
+}
+
+/// The walk through the body with that number. A tree refused by questions 2
+/// to 15, a function that does not exist, or a bad answer gives its number.
+pub fn walk(tree: &[u8], function: u64, answers: &[u8]) -> Result<Walked, u8> {
+    let plan = plan(tree)?;
+    let function = find(&plan.functions, function)?;
+    ask_answers(answers)?;
+    Ok(walk::walk(&function.parts, answers))
+}
+
+/// The module with slots numbered by first use, or the reader's refusal.
+pub fn renumber(module: &[u8]) -> Result<Vec<u8>, u8> {
+    Ok(renumber::renumber(&module::read(module)?))
+}
