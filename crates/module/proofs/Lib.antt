@@ -1,0 +1,7 @@
+pub mod Begun
+pub mod Filled
+pub mod Encoding
+pub mod Pieces
+pub mod Lengths
+pub mod CodeLengths
+pub mod Whole

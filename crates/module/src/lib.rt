@@ -1,0 +1,81 @@
+// From the slices of the lowering's state to the module's bytes. Each writer writes from the start of the output that it is lent and answers
+// how many bytes it wrote; the next one is lent the rest, from that byte on. What is to be written is measured first.
+pub mod numbers; // numbers.rt: numbers of several bytes, bytes with their count
+pub mod words; // words.rt: instructions from their words
+pub mod symbols; // symbols.rt: symbols and strings
+pub mod functions; // functions.rt: functions with their instructions
+pub mod classes; // classes.rt: classes with their methods, constants
+pub mod sections; // sections.rt: the sections from the areas
+
+use numbers::write_number;
+use sections::bodies_size;
+use sections::texts_size;
+use sections::write_bodies;
+use sections::write_texts;
+use state::Counts;
+ghost use mathlib.Core.Path.{_≡_};
+ghost use mathlib.Core.List.{_++_, _∷_, []};
+ghost use Prim.Native.Nat.{_-_, _≤_, _<_, _^_};
+ghost use lib.ListN.{length};
+ghost use Rattle.definitions.specs.Bytes.{be};
+ghost use Rattle.definitions.specs.Tables.{typeNumber};
+ghost use Rattle.definitions.specs.Module.{moduleBytes};
+ghost use Rattle.state.specs.State.{tablesOf};
+ghost use Rattle.module.specs.Sections.{Wrote, Roomy};
+
+// A class of the module. The type number of its object follows from its number, so a module does not store it.
+pub struct Class {
+    pub number: u32,
+}
+
+impl Class {
+    pub const FIRST: u32 = 100;
+
+    pub fn type_number(class: u32) -> u32
+        requires { ⌜ class < 65536 ⌝ }
+        ensures { λ r. ⌜ r ≡ typeNumber class ⌝ }
+    {
+        Self::FIRST + class
+    }
+}
+
+// The bytes of the module.
+pub fn module_size<'a>(
+    tree: &'a [u8],
+    made: &'a [u8],
+    code: &[u32],
+    tables: &[u32],
+    c: Counts,
+) -> usize
+    requires { ⌜ Roomy (now code) (now tables) c ⌝ }
+    ensures { λ r. ⌜ (r ≡ length (moduleBytes (tablesOf (now (tree .entry)) (now (made .entry)) (now (code .entry)) (now (tables .entry)) c))) × (r < 2 ^ 32) ⌝ }
+{
+    5 + texts_size(tree, made, tables, c) + bodies_size(tree, code, tables, c)
+}
+
+// The head of a record of `size` bytes: four bytes with the count of those after them, and version 1.
+fn write_head(size: usize, out: &mut [u8]) -> usize
+    requires { ⌜ (5 ≤ length (now out)) × (4 ≤ size) × (size < 2 ^ 32) ⌝ }
+    ensures { λ r. ⌜ Wrote r (be 4 (size - 4) ++ (1 ∷ [])) (now (out .entry)) (now (out .exit)) ⌝ }
+{
+    let at = write_number(4, (size - 4) as u64, out);
+    at + write_number(1, 1, &mut out[at..])
+}
+
+// The module, whose size was asked before.
+pub fn write_module<'a>(
+    tree: &'a [u8],
+    made: &'a [u8],
+    code: &[u32],
+    tables: &[u32],
+    c: Counts,
+    size: usize,
+    out: &mut [u8],
+) -> usize
+    requires { ⌜ Roomy (now code) (now tables) c × (size ≡ length (moduleBytes (tablesOf (now tree) (now made) (now code) (now tables) c))) × (size < 2 ^ 32) × (size ≤ length (now out)) ⌝ }
+    ensures { λ r. ⌜ Wrote r (moduleBytes (tablesOf (now (tree .entry)) (now (made .entry)) (now (code .entry)) (now (tables .entry)) c)) (now (out .entry)) (now (out .exit)) ⌝ }
+{
+    let mut at = write_head(size, out);
+    at += write_texts(tree, made, tables, c, &mut out[at..]);
+    at + write_bodies(tree, code, tables, c, &mut out[at..])
+}

@@ -1,0 +1,43 @@
+// Numbers of several bytes, the highest first, and bytes with their count before them.
+ghost use mathlib.Core.List.{_++_};
+ghost use Prim.Native.Nat.{_+_, _≤_, _<_, _^_};
+ghost use lib.ListN.{length};
+ghost use Rattle.definitions.specs.Bytes.{be};
+ghost use Rattle.module.specs.Sections.{Wrote};
+
+// The low w bytes of v, from the last to the first.
+pub fn write_number(w: usize, v: u64, out: &mut [u8]) -> usize
+    requires { ⌜ w ≤ length (now out) ⌝ }
+    ensures { λ r. ⌜ Wrote r (be w v) (now (out .entry)) (now (out .exit)) ⌝ }
+{
+    let mut i = w;
+    let mut rest = v;
+    while 0 < i {
+        i -= 1;
+        out[i] = (rest % 256) as u8;
+        rest = rest / 256;
+    }
+    w
+}
+
+// Some bytes.
+pub fn write_bytes(bytes: &[u8], out: &mut [u8]) -> usize
+    requires { ⌜ length (now bytes) ≤ length (now out) ⌝ }
+    ensures { λ r. ⌜ Wrote r (now (bytes .entry)) (now (out .entry)) (now (out .exit)) ⌝ }
+{
+    let mut i = 0usize;
+    while i < bytes.len() {
+        out[i] = bytes[i];
+        i += 1;
+    }
+    i
+}
+
+// Some bytes after their count, which fits in w bytes: a name or a string.
+pub fn write_counted(w: usize, bytes: &[u8], out: &mut [u8]) -> usize
+    requires { ⌜ (length (now bytes) < 256 ^ w) × (w + length (now bytes) ≤ length (now out)) ⌝ }
+    ensures { λ r. ⌜ Wrote r (be w (length (now (bytes .entry))) ++ now (bytes .entry)) (now (out .entry)) (now (out .exit)) ⌝ }
+{
+    let at = write_number(w, bytes.len() as u64, out);
+    at + write_bytes(bytes, &mut out[at..])
+}

@@ -1,0 +1,126 @@
+// An instruction's bytes from its word.
+use crate::numbers::write_number;
+use names::spell::byte;
+ghost use mathlib.Core.Path.{_≡_};
+ghost use mathlib.Core.List.{List};
+ghost use Prim.Native.Nat.{ℕ, _+_, _≤_, _<_, _^_};
+ghost use lib.ListN.{length};
+ghost use Rattle.definitions.specs.Instruction.{firstWidth, secondWidth, encode};
+ghost use Rattle.state.specs.Words.{numberAt, instrOf};
+ghost use Rattle.state.specs.Words as Words;
+ghost use Rattle.module.specs.Sections.{Wrote};
+
+const FIRST: [u8; 46] =
+    *b"\x08\x08\x04\x00\x00\x00\x04\x00\x00\x02\x02\x02\x02\x00\x00\x00\x00\x00\x00\x00\x00\x00\x00\x00\x00\x00\x00\x00\x04\x04\x04\x02\x01\x00\x01\x02\x02\x02\x02\x02\x02\x02\x02\x00\x00\x02";
+
+const SECOND: [u8; 46] =
+    *b"\x00\x00\x00\x00\x00\x00\x00\x00\x00\x00\x00\x00\x00\x00\x00\x00\x00\x00\x00\x00\x00\x00\x00\x00\x00\x00\x00\x00\x00\x00\x00\x01\x01\x00\x00\x01\x00\x00\x00\x00\x00\x00\x00\x00\x00\x01";
+
+// Bytes of an instruction's first operand.
+pub fn first_width(op: usize) -> u8
+    ensures { λ r. ⌜ (r ≡ firstWidth op) × (r ≤ 8) ⌝ }
+{
+    if 45 < op {
+        return 0;
+    }
+    FIRST[op]
+}
+
+// Bytes of its second operand.
+pub fn second_width(op: usize) -> u8
+    ensures { λ r. ⌜ (r ≡ secondWidth op) × (r ≤ 1) ⌝ }
+{
+    if 45 < op {
+        return 0;
+    }
+    SECOND[op]
+}
+
+// The opcode of a word: a small integer is a ConstI64.
+fn opcode(w: u32) -> usize
+    ensures { λ r. ⌜ ((t : List ℕ) → r ≡ instrOf t w .op) × (r < 256) ⌝ }
+{
+    let op = w / 16777216;
+    if op == 48 {
+        return 0;
+    }
+    op as usize
+}
+
+// The big-endian number of eight bytes at `at`, 0 for those past the end.
+fn eight_at(bytes: &[u8], at: usize) -> u64
+    requires { ⌜ at < 2 ^ 32 ⌝ }
+    ensures { λ r. ⌜ r ≡ numberAt 8 (now (bytes .entry)) at ⌝ }
+{
+    let mut n = 0u64;
+    let mut i = 0usize;
+    while i < 8 {
+        n = n * 256 + byte(bytes, at + i) as u64;
+        i += 1;
+    }
+    n
+}
+
+// A signed number of 16 bits in 32 bits.
+fn widened(a: u32) -> u32
+    requires { ⌜ a < 65536 ⌝ }
+    ensures { λ r. ⌜ r ≡ Words.widened a ⌝ }
+{
+    if a < 32768 { a } else { a + 4294901760 }
+}
+
+// A word's first operand: of ConstI64 and ConstF64 the eight bytes at that place in the tree, of a jump signed.
+fn first_operand(tree: &[u8], w: u32) -> u64
+    ensures { λ r. ⌜ r ≡ instrOf (now (tree .entry)) w .a ⌝ }
+{
+    let op = w / 16777216;
+    let a = w / 256 % 65536;
+    if op == 48 {
+        return a as u64;
+    }
+    if op < 2 {
+        return eight_at(tree, a as usize);
+    }
+    if op < 28 {
+        return a as u64;
+    }
+    if 30 < op {
+        return a as u64;
+    }
+    widened(a) as u64
+}
+
+fn second_operand(w: u32) -> u64
+    ensures { λ r. ⌜ ((t : List ℕ) → r ≡ instrOf t w .b) ⌝ }
+{
+    if w / 16777216 == 48 {
+        return 0;
+    }
+    (w % 256) as u64
+}
+
+// How many bytes the instruction of a word has, whatever the tree.
+pub fn instruction_size(w: u32) -> usize
+    ensures { λ r. ⌜ ((t : List ℕ) → r ≡ length (encode (instrOf t w))) × (r ≤ 10) ⌝ }
+{
+    let op = opcode(w);
+    let first = first_width(op);
+    let second = second_width(op);
+    1 + first as usize + second as usize
+}
+
+// The instruction's bytes: the opcode and the operands in their widths.
+pub fn write_instruction(tree: &[u8], w: u32, out: &mut [u8]) -> usize
+    requires { ⌜ length (encode (instrOf (now tree) w)) ≤ length (now out) ⌝ }
+    ensures { λ r. ⌜ Wrote r (encode (instrOf (now (tree .entry)) w)) (now (out .entry)) (now (out .exit)) ⌝ }
+{
+    let op = opcode(w);
+    let first = first_width(op) as usize;
+    let second = second_width(op) as usize;
+    let a = first_operand(tree, w);
+    let b = second_operand(w);
+    out[0] = op as u8;
+    let n = write_number(first, a, &mut out[1..]);
+    let at = 1 + n;
+    at + write_number(second, b, &mut out[at..])
+}
