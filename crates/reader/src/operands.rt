@@ -2,7 +2,6 @@
 use crate::Counts;
 ghost use mathlib.Core.Path.{_≡_};
 ghost use Prim.Native.Nat.{_<_};
-ghost use Rattle.definitions.specs.Bytes.{name};
 ghost use Rattle.definitions.specs.Instruction.{numbersOf};
 ghost use Rattle.definitions.specs.Builtins.{registry};
 ghost use Rattle.definitions.specs.Reader.{isBuiltin, landing};
