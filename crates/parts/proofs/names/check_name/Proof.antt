@@ -1,0 +1,29 @@
+use native.Mathlib.Omega.{arith}
+use mathlib.Core.Path.{_≡_, refl, sym, ap, _∙_}
+use Prim.Native.Nat.{ℕ, _+_, _-_, _*_, _≤_, _<_}
+use lib.ListN.{length, take, drop, getD}
+use Rattle.parts.specs.declared.Passed.the-variants.{Next, Refused}
+use Rattle.parts.proofs.LeafLaws.{name-at-none, name-at-short, name-whole}
+use borrow.Author.Needs.{needs}
+use Rattle.parts.proofs.names.check_name.Statement.{statement}
+use Rattle.parts.proofs.names.check_name.Tie as tie
+use Rattle.parts.proofs.names.check_name.Reads as reads
+use Rattle.parts.proofs.names.check_name.Lts as lts
+use Rattle.parts.proofs.names.is_name.Reads as is-name-reads
+use Rattle.parts.proofs.questions.noted.Reads as noted-reads
+
+pub check-name-spec : {M : Type 1} → statement M
+check-name-spec = tie.close (tie.spec
+    (λ c. sym (name-at-none _ _ _ (c .if1 .taken)))  -- returns
+    (λ c. search needs)  -- shared-slice-read-n
+    (λ c. omega (arith, c .shared-slice-known2 .given (c .before .before .before .args .at)))  -- cast-n
+    (λ c. search needs)  -- add-from
+    (λ c. search needs)  -- sub-if2
+    (λ c. sym (name-at-short _ _ _ (c .before .before .if1 .left) (c .if2 .taken)))  -- returns-2
+    (λ c. search needs)  -- add-end
+    (λ c. search needs)  -- sub-is-name
+    (λ c. search needs)  -- part-is-name-start
+    (λ c. search needs)  -- part-is-name-end
+    (λ c κs. search needs)  -- is-name-requires
+    (λ c κs. search needs)  -- noted-requires
+    (λ c. let i = c .before .before .before in name-whole _ _ _ _ _ _ (c .noted .ensures) (i .before .before .if1 .left) refl (i .if2 .left) (c .before .is-name .ensures)))  -- returns-3

@@ -1,0 +1,16 @@
+use mathlib.Core.Path.{_≡_, refl, sym, ap, _∙_}
+use Rattle.parts.specs.Places.{nameEnd}
+use borrow.Author.Needs.{needs}
+use Rattle.parts.proofs.names.name_end.Statement.{statement}
+use Rattle.parts.proofs.names.name_end.Tie as tie
+use Rattle.parts.proofs.names.name_end.Reads as reads
+use Rattle.parts.proofs.names.name_end.Lts as lts
+
+pub name-end-spec : {M : Type 1} → statement M
+unfolding nameEnd
+name-end-spec = tie.close (tie.spec
+    (λ c. search needs)  -- add-result
+    (λ c. search needs)  -- shared-slice-read-result
+    (λ c. search needs)  -- cast-result
+    (λ c. search needs)  -- add-result-2
+    (λ c. refl))  -- returns

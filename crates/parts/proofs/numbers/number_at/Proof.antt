@@ -1,0 +1,22 @@
+use Rattle.parts.proofs.LeafLaws.{number-short, number-whole}
+use mathlib.Core.Path.{_≡_, refl, sym, ap, _∙_}
+use Prim.Native.Nat.{ℕ, _+_, _-_, _*_, _≤_, _<_}
+use native.Mathlib.Omega.{arith}
+use lib.ListN.{length, take, drop, getD}
+use Rattle.parts.specs.declared.Number.the-variants.{Is, Unread}
+use Rattle.parts.specs.Places.{countAt}
+use borrow.Author.Needs.{needs}
+use Rattle.parts.proofs.numbers.number_at.Statement.{statement}
+use Rattle.parts.proofs.numbers.number_at.Tie as tie
+use Rattle.parts.proofs.numbers.number_at.Reads as reads
+use Rattle.parts.proofs.numbers.number_at.Lts as lts
+use Rattle.parts.proofs.numbers.u16_at.Reads as u16-at-reads
+
+pub number-at-spec : {M : Type 1} → statement M
+unfolding countAt
+number-at-spec = tie.close (tie.spec
+    (λ c. search needs)  -- sub-if1
+    (λ c. sym (number-short _ _ (c .if1 .taken)))  -- returns
+    (λ c κs. search needs)  -- u16-at-requires
+    (λ c. search needs)  -- add-t3
+    (λ c. number-whole _ _ _ (c .before .if1 .left) (c .u16-at .ensures .0)))  -- returns-2

@@ -1,0 +1,35 @@
+use mathlib.Core.Path.{_≡_, refl, sym, ap, _∙_}
+use Rattle.parts.specs.Judge.{judgeHead}
+use Rattle.parts.proofs.Laws.{with-unread, with-number, then-next, then-refused, number-within, judged-within}
+use Rattle.parts.proofs.NameLaws.{name-at-is, head-close}
+use borrow.Author.Needs.{needs}
+use Rattle.parts.proofs.params.check_head.Statement.{statement}
+use Rattle.parts.proofs.params.check_head.Tie as tie
+use Rattle.parts.proofs.params.check_head.Reads as reads
+use Rattle.parts.proofs.params.check_head.Lts as lts
+use Rattle.parts.proofs.names.check_name.Reads as check-name-reads
+use Rattle.parts.proofs.params.check_params.Reads as check-params-reads
+use Rattle.parts.proofs.params.may_have.Reads as may-have-reads
+use Rattle.parts.proofs.names.name_part.Reads as name-part-reads
+use Rattle.parts.proofs.questions.noted.Reads as noted-reads
+use Rattle.parts.proofs.numbers.number_at.Reads as number-at-reads
+
+pub check-head-spec : {M : Type 1} → statement M
+unfolding judgeHead
+check-head-spec = tie.close (tie.spec
+    (λ c κs. search needs)  -- check-name-requires
+    (λ c. search needs)  -- enum-known-first
+    (λ c. search needs)  -- enum-told
+    (λ c. let k = c .enum-told .given in let s = c .before .before in k .1 ∙ sym (then-refused _ _ _ (sym (s .check-name .ensures) ∙ k .1)))  -- returns
+    (λ c κs. let f = c .before in judged-within _ _ _ _ _ _ _ (sym (f .before .before .check-name .ensures) ∙ f .first .given .1))  -- check-params-requires
+    (λ c. search needs)  -- enum-known-second
+    (λ c. search needs)  -- enum-told-2
+    (λ c. let k = c .enum-told2 .given in let s = c .before .before in let f = s .before .before in k .1 ∙ sym (then-next _ _ _ _ (sym (f .before .before .check-name .ensures) ∙ f .first .given .1) ∙ then-refused _ _ _ (sym (s .check-params .ensures) ∙ k .1)))  -- returns-2
+    (λ c κs. let g = c .before in let f = g .before .before .before .before in let e₂ = sym (g .before .before .check-params .ensures) ∙ g .second .given .1 in let e₁ = sym (f .before .before .check-name .ensures) ∙ f .first .given .1 in judged-within _ _ _ _ _ _ _ e₁)  -- number-at-requires
+    (λ c. search needs)  -- enum-known-count
+    (λ c. search needs)  -- enum-known-count-2
+    (λ c κs. let g = c .before .before .before .before .before in let f = g .before .before .before .before in let e₂ = sym (g .before .before .check-params .ensures) ∙ g .second .given .1 in let e₁ = sym (f .before .before .check-name .ensures) ∙ f .first .given .1 in name-at-is _ _ _ _ _ e₁)  -- name-part-requires
+    (λ c κs. search needs)  -- may-have-requires
+    (λ c κs. search needs)  -- noted-requires
+    (λ c. let g = c .before .before .before .before .before in let f = g .before .before .before .before in let e₂ = sym (g .before .before .check-params .ensures) ∙ g .second .given .1 in let e₁ = sym (f .before .before .check-name .ensures) ∙ f .first .given .1 in sym (then-next _ _ _ _ e₁ ∙ then-next _ _ _ _ e₂ ∙ with-unread _ _ _ (sym (c .before .before .before .number-at .ensures) ∙ c .before .count .given .1)))  -- returns-3
+    (λ c. let g = c .before .before .before .before .before .before .before .before in let f = g .before .before .before .before in let e₂ = sym (g .before .before .check-params .ensures) ∙ g .second .given .1 in let e₁ = sym (f .before .before .check-name .ensures) ∙ f .first .given .1 in let n = c .before .before .before .before in head-close _ _ _ _ _ (n .count2 .given .0 .0) _ _ (c .noted .ensures) (c .before .may-have .ensures) (c .before .before .name-part .ensures) ∙ sym (then-next _ _ _ _ e₁ ∙ then-next _ _ _ _ e₂ ∙ with-number _ _ _ _ (sym (n .before .before .number-at .ensures) ∙ n .count2 .given .1))))  -- returns-4

@@ -1,0 +1,119 @@
+// Names: a length byte and its bytes (7).
+use crate::Passed;
+use crate::questions::noted;
+ghost use mathlib.Core.Path.{_≡_};
+ghost use mathlib.Core.Bool.{_||_};
+ghost use Prim.Native.Nat.{_≤_};
+ghost use lib.ListN.{length};
+ghost use Rattle.definitions.specs.Bytes.{same};
+ghost use Rattle.definitions.specs.Wellformed.{letter, digit, isName};
+ghost use Rattle.parts.specs.Judge.{judgeName};
+ghost use Rattle.parts.specs.Places.{nameBytes, nameEnd, There};
+
+// A letter or `_`.
+fn is_letter(c: u8) -> bool
+    ensures { λ r. ⌜ r ≡ letter c ⌝ }
+{
+    if c < 65 {
+        return false;
+    }
+    if c <= 90 {
+        return true;
+    }
+    if c == 95 {
+        return true;
+    }
+    if c < 97 {
+        return false;
+    }
+    c <= 122
+}
+
+// A letter, a digit or `_`.
+fn is_inner(c: u8) -> bool
+    ensures { λ r. ⌜ r ≡ (letter c || digit c) ⌝ }
+{
+    if is_letter(c) {
+        return true;
+    }
+    if c < 48 {
+        return false;
+    }
+    c <= 57
+}
+
+// 7: whether the bytes are a name.
+fn is_name(bytes: &[u8]) -> bool
+    ensures { λ r. ⌜ r ≡ isName (now (bytes .entry)) ⌝ }
+{
+    if bytes.len() == 0 {
+        return false;
+    }
+    if 64 < bytes.len() {
+        return false;
+    }
+    if !is_letter(bytes[0]) {
+        return false;
+    }
+    let mut i = 1;
+    while i < bytes.len() {
+        if !is_inner(bytes[i]) {
+            return false;
+        }
+        i += 1;
+    }
+    true
+}
+
+// Whether the two are the same bytes.
+pub fn same_bytes(a: &[u8], b: &[u8]) -> bool
+    ensures { λ r. ⌜ r ≡ same (now (a .entry)) (now (b .entry)) ⌝ }
+{
+    if a.len() != b.len() {
+        return false;
+    }
+    let mut i = 0;
+    while i < a.len() {
+        if a[i] != b[i] {
+            return false;
+        }
+        i += 1;
+    }
+    true
+}
+
+// A name.
+pub fn check_name(tree: &[u8], at: usize, stand: u32) -> Passed
+    requires { ⌜ at ≤ length (now tree) ⌝ }
+    ensures { λ r. ⌜ r ≡ judgeName (now (tree .entry)) at stand ⌝ }
+{
+    if tree.len() <= at {
+        return Passed::Refused(5);
+    }
+    let n = tree[at] as usize;
+    let from = at + 1;
+    if tree.len() - from < n {
+        return Passed::Refused(5);
+    }
+    let end = from + n;
+    let ok = is_name(&tree[from..end]);
+    Passed::Next(end, noted(stand, 7, ok))
+}
+
+// The bytes of the name at `at`.
+pub fn name_part<'a>(tree: &'a [u8], at: usize) -> &'a [u8]
+    requires { ⌜ There (now tree) at ⌝ }
+    ensures { λ r. ⌜ now r ≡ nameBytes (now (tree .entry)) at ⌝ }
+{
+    let from = at + 1;
+    let end = from + tree[at] as usize;
+    &tree[from..end]
+}
+
+// Where the name at `at` ends.
+pub fn name_end(tree: &[u8], at: usize) -> usize
+    requires { ⌜ There (now tree) at ⌝ }
+    ensures { λ r. ⌜ r ≡ nameEnd (now (tree .entry)) at ⌝ }
+{
+    at + 1 + tree[at] as usize
+}

@@ -1,0 +1,102 @@
+// Which questions still stand, and the roles that an expression can have (10).
+use crate::Role;
+ghost use mathlib.Core.Path.{_≡_};
+ghost use mathlib.Core.Option.{some};
+ghost use Prim.Native.Nat.{_≤_, _<_};
+ghost use lib.ListN.{getElem?};
+ghost use Rattle.definitions.specs.Wellformed.{ifAsked, blockQuestions};
+ghost use Rattle.parts.specs.Judge.{Placed, least, fits, suited, inner};
+
+// How many questions are asked of a block.
+pub const QUESTIONS: u32 = 7;
+
+// The place of a question in the order in which they are asked.
+fn place_of(question: u32) -> u32
+    requires { ⌜ (7 ≤ question) × (question ≤ 13) ⌝ }
+    ensures { λ r. ⌜ Placed question blockQuestions r ⌝ }
+{
+    match question {
+        7 => 0,
+        8 => 1,
+        9 => 2,
+        10 => 3,
+        11 => 4,
+        12 => 5,
+        _ => 6,
+    }
+}
+
+// The question of a place.
+pub fn question_at(place: u32) -> u32
+    requires { ⌜ place < 7 ⌝ }
+    ensures { λ r. ⌜ getElem? blockQuestions place ≡ some r ⌝ }
+{
+    match place {
+        0 => 7,
+        1 => 8,
+        2 => 9,
+        3 => 10,
+        4 => 11,
+        5 => 12,
+        _ => 13,
+    }
+}
+
+// How many questions stand after `question` was answered `ok`.
+pub fn noted(stand: u32, question: u32, ok: bool) -> u32
+    requires { ⌜ (7 ≤ question) × (question ≤ 13) ⌝ }
+    ensures { λ r. ⌜ r ≡ least stand (λ q. ifAsked question q ok) ⌝ }
+{
+    if ok {
+        return stand;
+    }
+    let place = place_of(question);
+    if stand < place {
+        return stand;
+    }
+    place
+}
+
+fn is_target(kind: u8) -> bool
+    ensures { λ r. ⌜ r ≡ fits Role.Target kind ⌝ }
+{
+    match kind {
+        6 => true,
+        10 => true,
+        13 => true,
+        16 => true,
+        _ => false,
+    }
+}
+
+fn is_element(kind: u8) -> bool
+    ensures { λ r. ⌜ r ≡ fits Role.Element kind ⌝ }
+{
+    match kind {
+        6 => true,
+        13 => true,
+        _ => false,
+    }
+}
+
+// 10: how many questions stand after an expression of this kind was met in this role.
+pub fn suits(role: Role, kind: u8, stand: u32) -> u32
+    ensures { λ r. ⌜ r ≡ suited role kind stand ⌝ }
+{
+    match role {
+        Role::Value => stand,
+        Role::Target => noted(stand, 10, is_target(kind)),
+        Role::Element => noted(stand, 10, is_element(kind)),
+    }
+}
+
+// The role of a tuple's elements.
+pub fn within(role: Role) -> Role
+    ensures { λ r. ⌜ r ≡ inner role ⌝ }
+{
+    match role {
+        Role::Value => Role::Value,
+        Role::Target => Role::Element,
+        Role::Element => Role::Element,
+    }
+}
