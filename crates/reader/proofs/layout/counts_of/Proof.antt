@@ -1,0 +1,20 @@
+use mathlib.Core.Path.{_≡_, refl, sym, ap, _∙_}
+use Prim.Native.Nat.{ℕ, _+_, _-_, _≤_, _<_}
+use native.Mathlib.Omega.{arith}
+use borrow.Author.Needs.{needs}
+use lib.ListN.{length}
+use Rattle.reader.proofs.Questions.{symbols-count, strings-count, functions-count, classes-count, constants-count, counts-are}
+use Rattle.reader.proofs.layout.counts_of.Statement.{statement}
+use Rattle.reader.proofs.layout.counts_of.Tie as tie
+use Rattle.reader.proofs.layout.counts_of.Reads as reads
+use Rattle.reader.proofs.layout.counts_of.Lts as lts
+use Rattle.reader.proofs.numbers.number_at.Reads as number-at-reads
+
+pub counts-of-spec : {M : Type 1} → statement M
+counts-of-spec = tie.close (tie.spec
+    (λ c κs. let k = symbols-count _ _ _ _ _ (c .before .pre) .0 in (k, omega arith))  -- number-at-requires
+    (λ c κs. let k = strings-count _ _ _ _ _ (c .before .before .pre) .0 in (k, omega arith))  -- number-at-requires-2
+    (λ c κs. let k = functions-count _ _ _ _ _ (c .before .before .before .pre) .0 in (k, omega arith))  -- number-at-requires-3
+    (λ c κs. let k = classes-count _ _ _ _ _ (c .before .before .before .before .pre) .0 in (k, omega arith))  -- number-at-requires-4
+    (λ c κs. let k = constants-count _ _ _ _ _ (c .before .before .before .before .before .pre) .0 in (k, omega arith))  -- number-at-requires-5
+    (λ c. counts-are _ _ _ _ _ (c .before .before .before .before .before .before .pre) _ _ _ _ _ (c .before .before .before .before .number-at .ensures .0) (c .before .before .before .number-at2 .ensures .0) (c .before .before .number-at3 .ensures .0) (c .before .number-at4 .ensures .0) (c .number-at5 .ensures .0)))  -- returns

@@ -1,0 +1,13 @@
+use mathlib.Core.Path.{_≡_, refl, sym, ap, _∙_}
+use Rattle.reader.proofs.Tested.{builtin-table, builtin-none}
+use borrow.Author.Needs.{needs}
+use Rattle.reader.proofs.operands.is_builtin.Statement.{statement}
+use Rattle.reader.proofs.operands.is_builtin.Tie as tie
+use Rattle.reader.proofs.operands.is_builtin.Reads as reads
+use Rattle.reader.proofs.operands.is_builtin.Lts as lts
+
+pub is-builtin-spec : {M : Type 1} → statement M
+is-builtin-spec = tie.close (tie.spec
+    (λ c. sym (builtin-none _ (c .if1 .taken)))  -- returns
+    (λ c. search needs)  -- array-read-result
+    (λ c. builtin-table _ (c .if1 .left)))  -- returns-2

@@ -1,0 +1,102 @@
+// Questions 20 and 21 of one instruction.
+use crate::Counts;
+ghost use mathlib.Core.Path.{_≡_};
+ghost use Prim.Native.Nat.{_<_};
+ghost use Rattle.definitions.specs.Bytes.{name};
+ghost use Rattle.definitions.specs.Instruction.{numbersOf};
+ghost use Rattle.definitions.specs.Builtins.{registry};
+ghost use Rattle.definitions.specs.Reader.{isBuiltin, landing};
+ghost use Rattle.reader.specs.Asks.{kindOf, existsIn, opStands, askOp, askHead};
+
+const BUILTINS: [u8; 15] = [1, 1, 1, 1, 1, 1, 1, 1, 0, 0, 1, 1, 1, 1, 1];
+
+// A built-in has the id.
+fn is_builtin(n: u64) -> bool
+    ensures { λ r. ⌜ r ≡ isBuiltin registry n ⌝ }
+{
+    if 15 <= n {
+        return false;
+    }
+    BUILTINS[n as usize] == 1
+}
+
+const KINDS: [u8; 46] =
+    *b"\x00\x00\x01\x00\x00\x00\x02\x00\x00\x03\x03\x04\x04\x00\x00\x00\x00\x00\x00\x00\x00\x00\x00\x00\x00\x00\x00\x00\x00\x00\x00\x05\x06\x00\x00\x04\x04\x04\x00\x00\x00\x00\x00\x00\x00\x05";
+
+// What an instruction's first operand numbers.
+fn kind_of(op: usize) -> u8
+    requires { ⌜ op < 46 ⌝ }
+    ensures { λ r. ⌜ r ≡ kindOf (numbersOf op) ⌝ }
+{
+    KINDS[op]
+}
+
+// A number of that kind exists.
+fn number_exists(c: Counts, slots: u64, kind: u8, n: u64) -> bool
+    ensures { λ r. ⌜ r ≡ existsIn c slots kind n ⌝ }
+{
+    match kind {
+        0 => true,
+        1 => n < c.strings,
+        2 => n < c.constants,
+        3 => n < slots,
+        4 => n < c.symbols,
+        5 => n < c.functions,
+        6 => is_builtin(n),
+        _ => true,
+    }
+}
+
+// Where a jump at a place goes.
+pub fn jump_target(place: u64, a: u64) -> u64
+    requires { ⌜ place < 4294967296 ⌝ }
+    ensures { λ r. ⌜ r ≡ landing place a ⌝ }
+{
+    (place + 1 + a % 4294967296) % 4294967296
+}
+
+// A jump lands, and the last instruction is Return.
+fn op_stands(n: u64, place: u64, op: u8, a: u64) -> bool
+    requires { ⌜ place < 4294967296 ⌝ }
+    ensures { λ r. ⌜ r ≡ opStands n place op a ⌝ }
+{
+    if place + 1 == n {
+        if op != 33 {
+            return false;
+        }
+        return true;
+    }
+    if 28 <= op {
+        if op <= 30 {
+            return jump_target(place, a) < n;
+        }
+    }
+    true
+}
+
+// A question of one instruction: its opcode and first operand, at a place of a function of n instructions.
+pub fn ask_op(question: u8, c: Counts, n: u64, slots: u64, place: u64, op: u8, a: u64) -> bool
+    requires { ⌜ (place < 4294967296) × (op < 46) ⌝ }
+    ensures { λ r. ⌜ r ≡ askOp question c n slots place op a ⌝ }
+{
+    if question == 20 {
+        return number_exists(c, slots, kind_of(op as usize), a);
+    }
+    if question == 21 {
+        return op_stands(n, place, op, a);
+    }
+    true
+}
+
+// A question of a function's name and count of instructions.
+pub fn ask_head(question: u8, c: Counts, name: u64, n: u64) -> bool
+    ensures { λ r. ⌜ r ≡ askHead question c name n ⌝ }
+{
+    if question == 20 {
+        return name < c.symbols;
+    }
+    if question == 21 {
+        return 0 < n;
+    }
+    true
+}

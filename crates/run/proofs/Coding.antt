@@ -1,0 +1,125 @@
+-- A function's code: where its instructions begin, what stands there, and what questions 21 says of them. Assumes nothing.
+use Prim.Native.Nat.{ℕ, zero, suc, _+_, _-_, _<_, _≤_}
+use mathlib.Core.Path.{_≡_, refl, sym, ap, ap₂, _∙_, subst}
+use mathlib.Core.Bool.{Bool, true, false, _&&_, _||_, not}
+use mathlib.Core.List.{List, [], _∷_, _++_, append-assoc}
+use native.Mathlib.Omega.{arith}
+use native.Mathlib.Numerals.{add-one}
+use lib.Dec.{eqb, ltb}
+use lib.ListN.{length, take, drop, getD, length-append, length-drop, take-append-drop}
+use lib.Seq.{take-add, drop-append-seam, take-append-seam, length-take-le, drop-drop}
+use borrow.Author.Tests.{ltb-true, eqb-true}
+use Rattle.definitions.specs.Bytes.{concat}
+use Rattle.definitions.specs.Instruction.{Instr, Return, encode, encodes, firstWidth}
+use Rattle.definitions.specs.Reader.{instruction, endsInReturn, jumpsLand, isJump, landing}
+use Rattle.definitions.specs.Run.{Flow, straight, flow}
+use Rattle.definitions.proofs.Truth.{left, right}
+use Rattle.reader.specs.View.{Got, numberAt, instructionsOf, startOf}
+use Rattle.reader.proofs.Encoding.{instruction-view}
+use Rattle.run.specs.Pass.{Coded, between}
+
+-- ---- the bytes of instructions
+
+pub encodes-append : (xs ys : List Instr) → encodes (xs ++ ys) ≡ encodes xs ++ encodes ys
+unfolding encodes concat
+encodes-append [] ys = refl
+encodes-append (x ∷ xs) ys = ap (λ (bs : List ℕ). encode x ++ bs) (encodes-append xs ys) ∙ sym (append-assoc (encode x) (concat encode xs) (concat encode ys))
+
+module _ (is : List Instr) where
+  pub start-add : (k m : ℕ) → startOf is (k + m) ≡ startOf is k + length (encodes (take m (drop k is)))
+  unfolding startOf
+  start-add k m = ap (λ (js : List Instr). length (encodes js)) (take-add k m is) ∙ ap length (encodes-append (take k is) (take m (drop k is))) ∙ length-append (encodes (take k is)) (encodes (take m (drop k is)))
+
+  parted : (k : ℕ) → encodes is ≡ encodes (take k is) ++ encodes (drop k is)
+  parted k = ap encodes (sym (take-append-drop k is)) ∙ encodes-append (take k is) (drop k is)
+
+  pub rest-is : (k : ℕ) → drop (startOf is k) (encodes is) ≡ encodes (drop k is)
+  unfolding startOf
+  rest-is k = ap (drop (length (encodes (take k is)))) (parted k) ∙ drop-append-seam (encodes (take k is)) (encodes (drop k is))
+
+  pub start-within : (k : ℕ) → startOf is k ≤ length (encodes is)
+  unfolding startOf
+  start-within k = let e = ap length (parted k) ∙ length-append (encodes (take k is)) (encodes (drop k is)) in omega arith
+
+-- ---- question 21
+
+ends-some : (is : List Instr) → endsInReturn is ≡ true → 0 < length is
+unfolding endsInReturn
+ends-some [] e = let z : _≡_ {A = ℕ} 0 1 = cc in absurd (omega arith)
+ends-some (i ∷ is) e = omega arith
+
+last-return : (is : List Instr) (k : ℕ) → endsInReturn is ≡ true → k + 1 ≡ length is → (getD is k Return) .op ≡ 33
+unfolding endsInReturn
+last-return [] k e l = absurd (omega arith)
+last-return (i ∷ []) zero e l = eqb-true (i .op) 33 e
+last-return (i ∷ []) (suc k) e l = absurd (omega arith)
+last-return (i ∷ j ∷ is) zero e l = absurd (omega arith)
+last-return (i ∷ j ∷ is) (suc k) e l = last-return (j ∷ is) k e (omega arith)
+
+one : (x y : Bool) → (not x || y) ≡ true → x ≡ true → y ≡ true
+one true true e f = refl
+one true false e f = e
+one false y e f = let z : _≡_ {A = ℕ} 0 1 = cc in absurd (omega arith)
+
+lands-at : (n : ℕ) (is : List Instr) (p k : ℕ) → jumpsLand n p is ≡ true → k < length is → isJump ((getD is k Return) .op) ≡ true → landing (p + k) ((getD is k Return) .a) < n
+unfolding jumpsLand
+lands-at n [] p k e l j = absurd (omega arith)
+lands-at n (i ∷ is) p zero e l j =
+    let z = one (isJump (i .op)) (ltb (landing p (i .a)) n) (left (not (isJump (i .op)) || ltb (landing p (i .a)) n) (jumpsLand n (suc p) is) e) j in
+    subst (λ (x : ℕ). landing x (i .a) < n) (let y : p ≡ p + 0 = omega arith in y) (ltb-true (landing p (i .a)) n z)
+lands-at n (i ∷ is) p (suc k) e l j =
+    subst (λ (x : ℕ). landing x ((getD is k Return) .a) < n) (let y : suc p + k ≡ p + suc k = omega arith in y)
+    (lands-at n is (suc p) k (right (not (isJump (i .op)) || ltb (landing p (i .a)) n) (jumpsLand n (suc p) is) e) (omega arith) j)
+
+strictly : (x y : ℕ) → x ≤ y → (x ≡ y → ⊥) → x < y
+strictly x y l f = omega arith
+
+-- ---- code that stands
+
+module _ (c : List ℕ) (h : Coded c) where
+  pub nonempty : 0 < length (instructionsOf c)
+  nonempty = ends-some (instructionsOf c) (h .ends)
+
+  pub start-in : (k : ℕ) → startOf (instructionsOf c) k ≤ length c
+  start-in k = subst (λ (bs : List ℕ). startOf (instructionsOf c) k ≤ length bs) (sym (h .bytes)) (start-within (instructionsOf c) k)
+
+  -- the code from one place to another
+  pub between-is : (k j : ℕ) → k ≤ j → between c k j ≡ encodes (take (j - k) (drop k (instructionsOf c)))
+  unfolding between
+  between-is k j l =
+      let is = instructionsOf c in
+      let e : startOf is j ≡ startOf is k + length (encodes (take (j - k) (drop k is))) = ap (startOf is) (let z : j ≡ k + (j - k) = omega arith in z) ∙ start-add is k (j - k) in
+      ap₂ (λ (n : ℕ) (bs : List ℕ). take n bs) (let z : startOf is j - startOf is k ≡ length (encodes (take (j - k) (drop k is))) = omega arith in z)
+      (ap (drop (startOf is k)) (h .bytes) ∙ rest-is is k ∙ ap encodes (sym (take-append-drop (j - k) (drop k is))) ∙ encodes-append (take (j - k) (drop k is)) (drop (j - k) (drop k is)))
+      ∙ take-append-seam (encodes (take (j - k) (drop k is))) (encodes (drop (j - k) (drop k is)))
+
+  pub start-up : (k j : ℕ) → k ≤ j → startOf (instructionsOf c) k ≤ startOf (instructionsOf c) j
+  start-up k j l =
+      let is = instructionsOf c in
+      let e : startOf is j ≡ startOf is k + length (encodes (take (j - k) (drop k is))) = ap (startOf is) (let z : j ≡ k + (j - k) = omega arith in z) ∙ start-add is k (j - k) in omega arith
+
+  pub between-length : (k j : ℕ) → k ≤ j → length (between c k j) ≡ startOf (instructionsOf c) j - startOf (instructionsOf c) k
+  unfolding between
+  between-length k j l = let a = start-in j in let b = start-up k j l in let d = length-drop (startOf (instructionsOf c) k) c in
+      length-take-le (startOf (instructionsOf c) j - startOf (instructionsOf c) k) (drop (startOf (instructionsOf c) k) c) (omega arith)
+
+  module _ (k : ℕ) (l : k < length (instructionsOf c)) where
+    reads-here : Got instruction c (startOf (instructionsOf c) k) (getD (instructionsOf c) k Return) (startOf (instructionsOf c) (k + 1))
+    reads-here = record { is = h .reads k l; from = start-up k (k + 1) (omega arith); to = start-in (k + 1) }
+
+    pub op-here : (startOf (instructionsOf c) k < length c) × (getD c (startOf (instructionsOf c) k) 0 ≡ getD (instructionsOf c) k Return .op)
+    op-here = let v = instruction-view c (startOf (instructionsOf c) k) (getD (instructionsOf c) k Return) (startOf (instructionsOf c) (k + 1)) (start-in k) reads-here in (v .0, sym (v .1))
+
+    pub operand-here : firstWidth (getD (instructionsOf c) k Return .op) ≡ 4 →
+        (startOf (instructionsOf c) k + 1 + 4 ≤ length c) × (numberAt 4 c (startOf (instructionsOf c) k + 1) ≡ getD (instructionsOf c) k Return .a)
+    operand-here e =
+        let v = instruction-view c (startOf (instructionsOf c) k) (getD (instructionsOf c) k Return) (startOf (instructionsOf c) (k + 1)) (start-in k) reads-here in
+        let m = v .4 in let t = start-in (k + 1) in
+        (omega arith, ap (λ (w : ℕ). numberAt w c (startOf (instructionsOf c) k + 1)) (sym e) ∙ sym (v .2))
+
+    pub not-last : (getD (instructionsOf c) k Return .op ≡ 33 → ⊥) → k + 1 < length (instructionsOf c)
+    not-last f = strictly (k + 1) (length (instructionsOf c)) (omega arith) (λ e. f (last-return (instructionsOf c) k (h .ends) e))
+
+    pub jump-inside : isJump (getD (instructionsOf c) k Return .op) ≡ true → landing k (getD (instructionsOf c) k Return .a) < length (instructionsOf c)
+    jump-inside j = subst (λ (x : ℕ). landing x (getD (instructionsOf c) k Return .a) < length (instructionsOf c)) (let y : 0 + k ≡ k = omega arith in y)
+        (lands-at (length (instructionsOf c)) (instructionsOf c) 0 k (h .land) l j)

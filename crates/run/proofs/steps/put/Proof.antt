@@ -1,0 +1,14 @@
+use mathlib.Core.Path.{_≡_, refl, sym, ap, _∙_}
+use lib.Seq.{set-out}
+use borrow.Author.Needs.{needs}
+use Rattle.run.proofs.steps.put.Statement.{statement}
+use Rattle.run.proofs.steps.put.Tie as tie
+use Rattle.run.proofs.steps.put.Reads as reads
+use Rattle.run.proofs.steps.put.Lts as lts
+
+pub put-spec : {M : Type 1} → statement M
+put-spec = tie.close (tie.spec
+    (λ c. search needs)  -- slice-write-events
+    (λ c. search needs)  -- same-length
+    (λ c. search needs)  -- returns
+    (λ c. sym (set-out (c .before .args .events .now) _ _ (c .if1 .left))))  -- returns-2
