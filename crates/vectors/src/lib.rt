@@ -1,4 +1,4 @@
-// Cases of tests/vectors from standard input: a case a line, its fields parted by tabs.
+// Cases of tests/vectors from standard input: a case a line, its fields parted by tabs, its name first.
 mod text;
 
 use libc::STDIN_FILENO;
@@ -18,24 +18,23 @@ const DASH: u32 = 45;
 // Stands in the place of a byte where the input has ended.
 const END: u32 = 256;
 
-// The part of the piece that is still to be taken, and the byte that was taken last.
+// The part of the piece that is still to be taken, the byte that was taken last, and whether the line's fields so far could be read.
 pub struct Reading {
     pub at: usize,
     pub end: usize,
     pub last: u32,
+    pub is_good: bool,
 }
 
-// How many bytes a field has, whether it could be read, and how to go on.
+// How many bytes a field has, and how to go on.
 pub struct Field {
     pub size: usize,
-    pub is_good: bool,
     pub next: Reading,
 }
 
-// A number, whether the field was one, and how to go on.
+// A field's number, and how to go on.
 pub struct Number {
     pub value: u64,
-    pub is_good: bool,
     pub next: Reading,
 }
 
@@ -45,9 +44,11 @@ pub fn start() -> Reading {
         at: 0,
         end: 0,
         last: LINE_FEED,
+        is_good: true,
     }
 }
 
+// Whether the input has ended.
 pub fn has_ended(r: Reading) -> bool {
     r.last == END
 }
@@ -55,6 +56,15 @@ pub fn has_ended(r: Reading) -> bool {
 // Whether another field follows in the line.
 pub fn has_field(r: Reading) -> bool {
     r.last == TAB
+}
+
+fn spoilt(r: Reading) -> Reading {
+    Reading {
+        at: r.at,
+        end: r.end,
+        last: r.last,
+        is_good: false,
+    }
 }
 
 // The next byte, of the next piece where this one is used up.
@@ -67,6 +77,7 @@ fn take(piece: &mut [u8; 4096], r: Reading) -> Reading {
                 at: at + 1,
                 end: end,
                 last: wide(piece[at]),
+                is_good: r.is_good,
             };
         }
     }
@@ -76,16 +87,18 @@ fn take(piece: &mut [u8; 4096], r: Reading) -> Reading {
             at: 0,
             end: 0,
             last: END,
+            is_good: r.is_good,
         };
     }
     Reading {
         at: 1,
         end: n,
         last: wide(piece[0]),
+        is_good: r.is_good,
     }
 }
 
-// Whether a field ends here, or only a line.
+// Whether a line ends here, or a field where `at_tab` is set.
 fn ends(c: u32, at_tab: bool) -> bool {
     if c == TAB {
         return at_tab;
@@ -107,29 +120,37 @@ fn skip(piece: &mut [u8; 4096], r: Reading, at_tab: bool) -> Reading {
     now
 }
 
+// To the end of the line.
 pub fn skip_line(piece: &mut [u8; 4096], r: Reading) -> Reading {
     skip(piece, r, false)
 }
 
-// The first field of the next line, or a field that is not wanted.
-pub fn skip_field(piece: &mut [u8; 4096], r: Reading) -> Reading {
-    let first = take(piece, r);
+// From the end of a line past the name of the next.
+pub fn skip_name(piece: &mut [u8; 4096], r: Reading) -> Reading {
+    let line = Reading {
+        at: r.at,
+        end: r.end,
+        last: r.last,
+        is_good: true,
+    };
+    let first = take(piece, line);
     skip(piece, first, true)
 }
 
-// The field after a tab, its characters as they stand. One that is longer than `out` is skipped and not good.
-fn text_field(piece: &mut [u8; 4096], r: Reading, out: &mut [u8]) -> Field
+// To the end of a field that should end here.
+fn finish(piece: &mut [u8; 4096], r: Reading) -> Reading {
+    if ends(r.last, true) {
+        return r;
+    }
+    skip(piece, spoilt(r), true)
+}
+
+// The characters of the rest of a field, of which the first is taken.
+fn text_bytes(piece: &mut [u8; 4096], r: Reading, out: &mut [u8]) -> Field
     ensures { λ f. ⌜ Counts (f .size) (now (out .exit)) ⌝ }
 {
-    if !has_field(r) {
-        return Field {
-            size: 0,
-            is_good: false,
-            next: r,
-        };
-    }
-    let mut now = take(piece, r);
-    let mut n = 0;
+    let mut now = r;
+    let mut n = 0usize;
     while n < out.len() && !ends(now.last, true) {
         out[n] = narrow(now.last);
         n += 1;
@@ -137,8 +158,7 @@ fn text_field(piece: &mut [u8; 4096], r: Reading, out: &mut [u8]) -> Field
     }
     Field {
         size: n,
-        is_good: ends(now.last, true),
-        next: skip(piece, now, true),
+        next: finish(piece, now),
     }
 }
 
@@ -147,14 +167,13 @@ fn hex_bytes(piece: &mut [u8; 4096], r: Reading, out: &mut [u8]) -> Field
     ensures { λ f. ⌜ Counts (f .size) (now (out .exit)) ⌝ }
 {
     let mut now = r;
-    let mut n = 0;
+    let mut n = 0usize;
     while n < out.len() && digit_of(now.last) < 16 {
         let low = take(piece, now);
         if 15 < digit_of(low.last) {
             return Field {
-                size: 0,
-                is_good: false,
-                next: skip(piece, low, true),
+                size: n,
+                next: finish(piece, spoilt(low)),
             };
         }
         out[n] = pair(digit_of(now.last), digit_of(low.last));
@@ -163,20 +182,18 @@ fn hex_bytes(piece: &mut [u8; 4096], r: Reading, out: &mut [u8]) -> Field
     }
     Field {
         size: n,
-        is_good: ends(now.last, true),
-        next: skip(piece, now, true),
+        next: finish(piece, now),
     }
 }
 
-// The bytes of the field after a tab in hexadecimal; `-` has none. One of more than `out` holds is skipped and not good.
+// The bytes of the field after a tab in hexadecimal; `-` has none. One of more bytes than `out` holds is skipped and not good.
 pub fn hex_field(piece: &mut [u8; 4096], r: Reading, out: &mut [u8]) -> Field
     ensures { λ f. ⌜ Counts (f .size) (now (out .exit)) ⌝ }
 {
     if !has_field(r) {
         return Field {
             size: 0,
-            is_good: false,
-            next: r,
+            next: spoilt(r),
         };
     }
     let first = take(piece, r);
@@ -184,8 +201,7 @@ pub fn hex_field(piece: &mut [u8; 4096], r: Reading, out: &mut [u8]) -> Field
         let end = take(piece, first);
         return Field {
             size: 0,
-            is_good: ends(end.last, true),
-            next: skip(piece, end, true),
+            next: finish(piece, end),
         };
     }
     hex_bytes(piece, first, out)
@@ -193,28 +209,26 @@ pub fn hex_field(piece: &mut [u8; 4096], r: Reading, out: &mut [u8]) -> Field
 
 // The number of the field after a tab, in decimal digits.
 pub fn decimal_field(piece: &mut [u8; 4096], r: Reading) -> Number {
+    if !has_field(r) {
+        return Number {
+            value: 0,
+            next: spoilt(r),
+        };
+    }
+    let first = take(piece, r);
     let mut digits = [0u8; 20];
-    let field = text_field(piece, r, &mut digits);
+    let field = text_bytes(piece, first, &mut digits);
     let size = field.size;
     let number = decimal_of(&digits[..size]);
     let next = field.next;
-    if !field.is_good {
-        return Number {
-            value: 0,
-            is_good: false,
-            next: next,
-        };
-    }
     match number {
         Decimal::Value(value) => Number {
             value: value,
-            is_good: true,
             next: next,
         },
         Decimal::NotDecimal => Number {
             value: 0,
-            is_good: false,
-            next: next,
+            next: spoilt(next),
         },
     }
 }
