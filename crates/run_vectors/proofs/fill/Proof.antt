@@ -1,22 +1,24 @@
+use native.Mathlib.Omega.{arith}
+use mathlib.Core.Path.{_≡_}
+use Prim.Native.Nat.{_-_}
+use lib.ListN.{length, length-set}
+use borrow.Author.Needs.{needs}
 use Rattle.run_vectors.proofs.fill.Statement.{statement}
 use Rattle.run_vectors.proofs.fill.Tie as tie
-use Rattle.run_vectors.proofs.fill.Reads as reads
-use Rattle.run_vectors.proofs.fill.Lts as lts
-use Rattle.run_vectors.proofs.pattern.Reads as pattern-reads
 
 abbrev Inv-loop : tie.InvT-loop
-Inv-loop events₀ i₀ events i = ?
+Inv-loop events₀ i₀ events i = length events ≡ length events₀
 
 abbrev μ-loop : tie.MeasureT-loop
-μ-loop events₀ i₀ events i = ?
+μ-loop events₀ i₀ events i = length events - i
 
 pub fill-spec : {M : Type 1} → statement M
 fill-spec = tie.close (tie.spec Inv-loop μ-loop
-    (λ c. ?loop-holds)  -- loop-holds
-    (λ c κs. ?pattern-requires)  -- pattern-requires
-    (λ c. ?slice-write-events)  -- slice-write-events
-    (λ c. ?add-i)  -- add-i
-    (λ c. ?loop-less)  -- loop-less
-    (λ c. ?loop-again)  -- loop-again
-    (λ c. ?same-length)  -- same-length
-    (λ c. ?returns))  -- returns
+    (λ c. search needs)
+    (λ c κs. tt)
+    (λ c. omega arith)
+    (λ c. omega arith)
+    (λ c. simp length-set (omega arith))
+    (λ c. simp length-set (omega arith))
+    (λ c. search needs)
+    (λ c. tt))
