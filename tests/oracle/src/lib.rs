@@ -14,7 +14,7 @@ mod module;
 #[cfg(have_rust)]
 pub mod standins;
 #[cfg(have_rust)]
-mod tree;
+pub mod tree;
 
 /// Why there is no module.
 #[derive(Debug, Clone, PartialEq, Eq)]

@@ -1,0 +1,170 @@
+//! Our check, reader, hand-back and run against the model, on records of every kind.
+
+use generator::{damage, limits, modules, random, rng::Rng, runs};
+
+/// What the model says of questions 2 to 13: refusals 14 to 16 come later.
+fn model_check(tree: &[u8]) -> Result<(), u8> {
+    match model::lower(tree, model::AREA, model::AREA, 65_536) {
+        Err(question) if question < 14 => Err(question),
+        _ => Ok(()),
+    }
+}
+
+fn same_check(tree: &[u8]) {
+    assert_eq!(ours::check(tree), model_check(tree), "{tree:02x?}");
+}
+
+fn same_read(module: &[u8]) {
+    assert_eq!(ours::read(module), model::read(module), "{module:02x?}");
+    for function in [0, 1, 2, 65_535, 65_536, u64::MAX] {
+        assert_eq!(ours::code(module, function), model::code(module, function));
+    }
+}
+
+/// The run, in a buffer whose bytes past the events are looked at too.
+fn same_run(module: &[u8], function: u64, answers: &[u8], budget: u64, room: usize) {
+    let mut events = vec![0xa5; room];
+    let ours = ours::run(module, function, answers, budget, &mut events);
+    match model::run(module, function, answers, budget, room) {
+        Err(question) => {
+            assert_eq!(ours, Err(question));
+            assert!(
+                events.iter().all(|&byte| byte == 0xa5),
+                "a refusal writes nothing"
+            );
+        }
+        Ok(ran) => {
+            let ours = ours.expect("accepted");
+            assert_eq!(ours.ending, u64::from(ran.ending));
+            assert_eq!(ours.steps, ran.steps);
+            assert_eq!(ours.used, ran.used as u64);
+            assert_eq!(ours.bytes, ran.events.len() as u64);
+            assert_eq!(events[..ran.events.len()], ran.events);
+            assert!(events[ran.events.len()..].iter().all(|&byte| byte == 0xa5));
+        }
+    }
+}
+
+#[test]
+fn limits_of_trees() {
+    for case in limits::all() {
+        same_check(&case.tree);
+    }
+}
+
+#[test]
+fn every_truncation_and_every_byte_of_small_trees() {
+    let mut rng = Rng::new(11);
+    let mut small = 0;
+    while small < 40 {
+        let tree = random::tree(&mut rng);
+        if tree.len() > 60 {
+            continue;
+        }
+        small += 1;
+        for end in 0..tree.len() {
+            same_check(&tree[..end]);
+        }
+        for at in 0..tree.len() {
+            let mut copy = tree.clone();
+            for byte in 0..=255 {
+                copy[at] = byte;
+                same_check(&copy);
+            }
+        }
+    }
+}
+
+#[test]
+fn random_and_damaged_trees() {
+    let mut rng = Rng::new(12);
+    for _ in 0..20_000 {
+        let tree = random::tree(&mut rng);
+        same_check(&tree);
+        same_check(&damage::damaged(&mut rng, &tree));
+    }
+}
+
+#[test]
+fn modules_of_every_kind() {
+    let mut rng = Rng::new(13);
+    for case in modules::all() {
+        same_read(&case.module);
+        for _ in 0..20 {
+            same_read(&damage::damaged(&mut rng, &case.module));
+        }
+    }
+    for length in [524_287, 524_288, 524_289] {
+        same_read(&modules::of_length(length).module);
+    }
+}
+
+#[test]
+fn random_and_damaged_modules() {
+    let mut rng = Rng::new(14);
+    for _ in 0..5_000 {
+        let module = modules::random(&mut rng).bytes();
+        same_read(&module);
+        same_read(&damage::damaged(&mut rng, &module));
+        if let Ok(lowered) = model::lower(&random::tree(&mut rng), model::AREA, model::AREA, 65_536)
+        {
+            same_read(&lowered);
+            same_read(&damage::damaged(&mut rng, &lowered));
+        }
+    }
+}
+
+#[test]
+fn every_byte_of_small_modules() {
+    let mut rng = Rng::new(15);
+    let mut small = 0;
+    while small < 20 {
+        let module = modules::random(&mut rng).bytes();
+        if module.len() > 90 {
+            continue;
+        }
+        small += 1;
+        for end in 0..module.len() {
+            same_read(&module[..end]);
+        }
+        for at in 0..module.len() {
+            let mut copy = module.clone();
+            for byte in 0..=255 {
+                copy[at] = byte;
+                same_read(&copy);
+            }
+        }
+    }
+}
+
+#[test]
+fn runs_of_every_kind() {
+    let mut rng = Rng::new(16);
+    let random = runs::random_runs(&mut rng, 4_000, 40);
+    for case in runs::all().into_iter().chain(random) {
+        let rooms = match case.run() {
+            Ok(ran) => vec![
+                case.room,
+                ran.events.len(),
+                ran.events.len().saturating_sub(1),
+            ],
+            Err(_) => vec![case.room, 0],
+        };
+        for room in rooms {
+            same_run(
+                &case.module,
+                case.function,
+                &case.answers,
+                case.budget,
+                room,
+            );
+            same_run(
+                &case.module,
+                case.function,
+                &case.answers,
+                case.budget.saturating_sub(1),
+                room,
+            );
+        }
+    }
+}
