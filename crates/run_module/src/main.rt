@@ -1,8 +1,8 @@
 // Runs a function of the module on standard input. Arguments: the function's number, the answers as a word of 0 and 1 or `-`, the budget.
+use digits::Decimal;
 use libc::STDERR_FILENO;
 use libc::STDIN_FILENO;
 use run::Outcome;
-use vectors::Decimal;
 ghost use lib.ListN.{length};
 ghost use mathlib.Core.Path.{_≡_};
 
@@ -32,7 +32,7 @@ fn is_dash(word: &[u8]) -> bool {
 fn number_argument(i: usize) -> Decimal {
     let mut text = [0u8; 20];
     let n = os::arg(i, &mut text);
-    vectors::decimal_of(&text[..n])
+    digits::decimal_of(&text[..n])
 }
 
 fn ending_name(ending: u8) {
