@@ -1,8 +1,10 @@
 // Runs a function of the module on standard input. Arguments: the function's number, the answers as a word of 0 and 1 or `-`, the budget.
+use digits::Decimal;
 use libc::STDERR_FILENO;
 use libc::STDIN_FILENO;
 use run::Outcome;
-use vectors::Decimal;
+ghost use lib.ListN.{length};
+ghost use mathlib.Core.Path.{_≡_};
 
 // The answers of a word in its place, and whether each character is one.
 fn to_answers(word: &mut [u8]) -> bool {
@@ -30,7 +32,7 @@ fn is_dash(word: &[u8]) -> bool {
 fn number_argument(i: usize) -> Decimal {
     let mut text = [0u8; 20];
     let n = os::arg(i, &mut text);
-    vectors::decimal_of(&text[..n])
+    digits::decimal_of(&text[..n])
 }
 
 fn ending_name(ending: u8) {
@@ -59,35 +61,49 @@ fn answer(outcome: Outcome, events: &[u8]) {
     report::text(b"\n");
 }
 
+fn event_buffer() -> [u8; 524288]
+    ensures { λ r. ⌜ 524288 ≡ length r ⌝ }
+{
+    [0; 524288]
+}
+
+fn run_bytes(module: &[u8], f: u64, answers: &[u8], budget: u64) {
+    let mut events = event_buffer();
+    let outcome = run::run(module, f, answers, budget, &mut events);
+    answer(outcome, &events);
+}
+
 // One byte more than the longest module, so that a longer one is refused.
 fn run_input(f: u64, answers: &[u8], budget: u64) {
     let mut module = [0u8; 524289];
     let n = io::read_full(STDIN_FILENO, &mut module);
-    let mut events = [0u8; 1048576];
-    let outcome = run::run(&module[..n], f, answers, budget, &mut events);
-    answer(outcome, &events);
+    run_bytes(&module[..n], f, answers, budget);
+}
+
+fn run_word(f: u64, word: &mut [u8], budget: u64) {
+    if is_dash(word) {
+        run_input(f, b"", budget);
+        return;
+    }
+    if to_answers(word) {
+        run_input(f, word, budget);
+        return;
+    }
+    io::write_all(STDERR_FILENO, b"run_module: each answer is 0 or 1\n");
 }
 
 // The answers of the second argument.
 fn run_with(f: u64, budget: u64) {
-    let mut word = [0u8; 65536];
+    let mut word = io::large_buffer();
     let n = os::arg(2, &mut word);
     if n == 0 {
         io::write_all(
             STDERR_FILENO,
-            b"run_module: the answers are a word of at most 65536 characters\n",
+            b"run_module: the answers are a word of at most 65,536 characters, or -\n",
         );
         return;
     }
-    if is_dash(&word[..n]) {
-        run_input(f, b"", budget);
-        return;
-    }
-    if to_answers(&mut word[..n]) {
-        run_input(f, &word[..n], budget);
-    } else {
-        io::write_all(STDERR_FILENO, b"run_module: each answer is 0 or 1\n");
-    }
+    run_word(f, &mut word[..n], budget);
 }
 
 fn main() {

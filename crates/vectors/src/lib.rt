@@ -1,13 +1,11 @@
 // Cases of tests/vectors from standard input: a case a line, its fields parted by tabs, its name first.
-mod text;
-
+use digits::Decimal;
+use digits::decimal_of;
+use digits::digit_of;
+use digits::narrow;
+use digits::pair;
+use digits::wide;
 use libc::STDIN_FILENO;
-pub use text::Decimal;
-pub use text::decimal_of;
-use text::digit_of;
-use text::narrow;
-use text::pair;
-use text::wide;
 ghost use Rattle.io.specs.Counts.{Counts};
 
 const TAB: u32 = 9;
@@ -216,10 +214,10 @@ pub fn decimal_field(piece: &mut [u8; 4096], r: Reading) -> Number {
         };
     }
     let first = take(piece, r);
-    let mut digits = [0u8; 20];
-    let field = text_bytes(piece, first, &mut digits);
+    let mut text = [0u8; 20];
+    let field = text_bytes(piece, first, &mut text);
     let size = field.size;
-    let number = decimal_of(&digits[..size]);
+    let number = decimal_of(&text[..size]);
     let next = field.next;
     match number {
         Decimal::Value(value) => Number {

@@ -2,8 +2,8 @@ use native.Mathlib.Omega.{arith}
 use Prim.Native.Nat.{_-_}
 use lib.ListN.{length}
 use borrow.Author.Needs.{needs}
-use Rattle.vectors.proofs.text.decimal_of.Statement.{statement}
-use Rattle.vectors.proofs.text.decimal_of.Tie as tie
+use Rattle.digits.proofs.decimal_of.Statement.{statement}
+use Rattle.digits.proofs.decimal_of.Tie as tie
 
 abbrev Inv-loop : tie.InvT-loop
 Inv-loop text value₀ i₀ value i = Unit {0}
