@@ -28,8 +28,8 @@ at-enclose base k arity slots body e s =
     let z : 0 ≡ length xs - length xs = omega arith in
     ap (λ (n : ℕ). record { stack = xs ++ []; tables = withFunctions (setCode (e n u .tables .functions) (length (s .tables .functions)) (e n u .code)) (e n u .tables) }) z
     ∙ state-eq _ _ (append-nil xs ∙ sym (take-append-seam xs (e (length xs - length xs) u .code)))
-      (ap (λ (is : List Instr). withFunctions (setCode (e (length xs - length xs) u .tables .functions) (length (s .tables .functions)) is) (e (length xs - length xs) u .tables))
-        (sym (drop-append-seam xs (e (length xs - length xs) u .code))))
+    (ap (λ (is : List Instr). withFunctions (setCode (e (length xs - length xs) u .tables .functions) (length (s .tables .functions)) is) (e (length xs - length xs) u .tables))
+    (sym (drop-append-seam xs (e (length xs - length xs) u .code))))
 
 -- a symbol is added: the other tables stay
 pub symbol-functions : (x : Name) (t : Tables) → withSymbol x t .functions ≡ t .functions
@@ -43,7 +43,7 @@ symbol-functions x t = go (position (same x) (t .symbols))
 -- s′ is the state with the symbol
 pub at-function : (base : ℕ) (x : Name) (arity : ℕ) (slots : List Name) (body : Body) (e : Emit) (s s′ : State) → s′ ≡ withTables (withSymbol x (s .tables)) s
     → emitAt base (function x arity slots body e) s
-      ≡ ended (length (s .stack)) (length (s .tables .functions)) (emitAt (length (s .stack)) e (begun (symbolNumber x (s .tables)) arity slots s′))
+    ≡ ended (length (s .stack)) (length (s .tables .functions)) (emitAt (length (s .stack)) e (begun (symbolNumber x (s .tables)) arity slots s′))
 unfolding function
 at-function base x arity slots body e s s′ h =
     at-intern base x (λ k. enclose k arity slots body e) s
@@ -65,7 +65,7 @@ at-loads-more base slots x xs s h = at-seq base (load slots x) (loads slots xs) 
 -- f is the number of functions
 pub at-closure : (base : ℕ) (slots : List Name) (arity : ℕ) (inner cs : List Name) (body : Body) (e : Emit) (s : State) (f : ℕ) → base ≤ length (s .stack) → f ≡ length (s .tables .functions)
     → emitAt base (closure slots arity inner cs body e) s
-      ≡ emitAt base (one (MakeClosure f (length cs))) (emitAt base (loads slots cs) (emitAt base (function (lambdaName f) arity inner body (e ⨟ one Return)) s))
+    ≡ emitAt base (one (MakeClosure f (length cs))) (emitAt base (loads slots cs) (emitAt base (function (lambdaName f) arity inner body (e ⨟ one Return)) s))
 unfolding closure emitAt
 at-closure base slots arity inner cs body e s f h q =
     rw q (at-three base (function (lambdaName (length (s .tables .functions))) arity inner body (e ⨟ one Return)) (loads slots cs) (one (MakeClosure (length (s .tables .functions)) (length cs))) s h)

@@ -151,7 +151,7 @@ module _ (base : ℕ) (slots : List Name) (s : State) (h : base ≤ length (s .s
   -- of a method
   pub at-call-method : (o : Expr) (x : Name) (es : Exprs)
       → emitAt base (emitExpr slots (call (attr o x) es)) s
-        ≡ emitAt base (intern x (λ k. one (Instruction.CallMethod k (count es)))) (emitAt base (emitExprs slots es) (emitAt base (emitExpr slots o) s))
+      ≡ emitAt base (intern x (λ k. one (Instruction.CallMethod k (count es)))) (emitAt base (emitExprs slots es) (emitAt base (emitExpr slots o) s))
   unfolding emitExpr view callBy
   at-call-method o x es = at-three base (emitExpr slots o) (emitExprs slots es) (intern x (λ k. one (Instruction.CallMethod k (count es)))) s h
 

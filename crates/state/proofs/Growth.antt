@@ -211,10 +211,11 @@ unfolding closure
 lengthens-closure {e} slots arity inner cs body E =
     lengthens-by (λ t. function (lambdaName (length (t .functions))) arity inner body (e ⨟ one Return) ⨟ loads slots cs ⨟ one (Instruction.MakeClosure (length (t .functions)) (length cs)))
     (λ t. lengthens-seq (lengthens-function (lambdaName (length (t .functions))) arity inner body (lengthens-seq E (lengthens-one Return)))
-      (lengthens-seq (lengthens-loads slots cs) (lengthens-one (Instruction.MakeClosure (length (t .functions)) (length cs)))))
+    (lengthens-seq (lengthens-loads slots cs) (lengthens-one (Instruction.MakeClosure (length (t .functions)) (length cs)))))
 
 mutual
   unfolding emitExpr
+
   pub lengthens-expr : (slots : List Name) (e : Expr) → Lengthens (emitExpr slots e)
   lengthens-expr slots (lit l) = lengthens-literal l
   lengthens-expr slots (var x) = lengthens-load slots x
@@ -256,6 +257,7 @@ tuple-by false E = lengthens-emits []
 
 mutual
   unfolding emitTarget
+
   pub lengthens-target : (slots : List Name) (e : Expr) → Lengthens (emitTarget slots e)
   lengthens-target slots (lit l) = lengthens-emits []
   lengthens-target slots (var x) = lengthens-store slots x
@@ -346,6 +348,7 @@ method-by x ps b rest acc t B M =
 
 mutual
   unfolding emitStmt
+
   pub lengthens-stmt : (slots : List Name) (s : Stmt) → Lengthens (emitStmt slots s)
   lengthens-stmt slots break = lengthens-one Instruction.Break
   lengthens-stmt slots continue = lengthens-one Instruction.Continue

@@ -100,8 +100,8 @@ set-seam xs ys i j a b =
 
 shortcut-by : (base : ℕ) (b : Bool) (r : Emit) (i : Instr) (s : State) → base ≤ length (s .stack)
     → emitAt base (shortcut b r) s
-      ≡ setAt (length (s .stack)) (jumpOn b (suc (length (emitAt base r (emitAt base (one i) s) .stack) - length (emitAt base (one i) s .stack))))
-        (emitAt base (one (ConstBool b)) (emitAt base (one (Jump 1)) (emitAt base r (emitAt base (one i) s))))
+    ≡ setAt (length (s .stack)) (jumpOn b (suc (length (emitAt base r (emitAt base (one i) s) .stack) - length (emitAt base (one i) s .stack))))
+    (emitAt base (one (ConstBool b)) (emitAt base (one (Jump 1)) (emitAt base r (emitAt base (one i) s))))
 unfolding emitAt setAt shortcut emits
 shortcut-by base b r i s h =
     let xs = s .stack in
@@ -118,7 +118,7 @@ shortcut-by base b r i s h =
 pub at-shortcut : (base : ℕ) (b : Bool) (r : Emit) (i : Instr) (s s₁ s₂ : State) → base ≤ length (s .stack)
     → s₁ ≡ emitAt base (one i) s → s₂ ≡ emitAt base r s₁
     → emitAt base (shortcut b r) s
-      ≡ setAt (length (s .stack)) (jumpOn b (suc (length (s₂ .stack) - length (s₁ .stack)))) (emitAt base (one (ConstBool b)) (emitAt base (one (Jump 1)) s₂))
+    ≡ setAt (length (s .stack)) (jumpOn b (suc (length (s₂ .stack) - length (s₁ .stack)))) (emitAt base (one (ConstBool b)) (emitAt base (one (Jump 1)) s₂))
 at-shortcut base b r i s s₁ s₂ h e₁ e₂ = rw (e₂, e₁) (shortcut-by base b r i s h)
 
 -- ---- loops
@@ -134,8 +134,8 @@ patch-seam h n us bs vs e =
 
 loop-seam : (h n : ℕ) (xs as′ bs : List Instr) (i j c : Instr) → length bs ≡ n
     → set (take (length (xs ++ as′ ++ i ∷ [])) (xs ++ as′ ++ i ∷ [] ++ bs ++ c ∷ []) ++ (patch h n 0 (take n (drop (length (xs ++ as′ ++ i ∷ [])) (xs ++ as′ ++ i ∷ [] ++ bs ++ c ∷ [])))
-      ++ drop (length (xs ++ as′ ++ i ∷ []) + n) (xs ++ as′ ++ i ∷ [] ++ bs ++ c ∷ []))) (length (xs ++ as′)) j
-      ≡ xs ++ (as′ ++ (j ∷ patch h n 0 bs ++ c ∷ []))
+    ++ drop (length (xs ++ as′ ++ i ∷ []) + n) (xs ++ as′ ++ i ∷ [] ++ bs ++ c ∷ []))) (length (xs ++ as′)) j
+    ≡ xs ++ (as′ ++ (j ∷ patch h n 0 bs ++ c ∷ []))
 loop-seam h n xs as′ bs i j c e =
     ap (λ (l : List Instr). set l (length (xs ++ as′)) j) (patch-seam h n (xs ++ as′ ++ i ∷ []) bs (c ∷ []) e ∙ append-snoc (xs ++ as′) i (patch h n 0 bs ++ c ∷ []))
     ∙ set-append-seam (xs ++ as′) i (patch h n 0 bs ++ c ∷ []) j ∙ append-assoc xs as′ (j ∷ patch h n 0 bs ++ c ∷ [])
@@ -144,10 +144,10 @@ loop-seam h n xs as′ bs i j c e =
 module _ (base : ℕ) (head inside : Emit) (i : Instr) (s : State) (h : base ≤ length (s .stack)) where
   loop-by : emitAt base (loop head inside) s
       ≡ setAt (length (emitAt base head s .stack)) (JumpIfFalse (suc (length (emitAt base inside (emitAt base (one i) (emitAt base head s)) .stack) - length (emitAt base (one i) (emitAt base head s) .stack))))
-        (patchAt (length (emitAt base (one i) (emitAt base head s) .stack) - length (s .stack)) (length (emitAt base (one i) (emitAt base head s) .stack))
-          (length (emitAt base inside (emitAt base (one i) (emitAt base head s)) .stack) - length (emitAt base (one i) (emitAt base head s) .stack))
-          (emitAt base (one (Jump (minus (suc (length (emitAt base inside (emitAt base (one i) (emitAt base head s)) .stack) - length (s .stack))))))
-            (emitAt base inside (emitAt base (one i) (emitAt base head s)))))
+      (patchAt (length (emitAt base (one i) (emitAt base head s) .stack) - length (s .stack)) (length (emitAt base (one i) (emitAt base head s) .stack))
+      (length (emitAt base inside (emitAt base (one i) (emitAt base head s)) .stack) - length (emitAt base (one i) (emitAt base head s) .stack))
+      (emitAt base (one (Jump (minus (suc (length (emitAt base inside (emitAt base (one i) (emitAt base head s)) .stack) - length (s .stack))))))
+      (emitAt base inside (emitAt base (one i) (emitAt base head s)))))
   unfolding emitAt setAt patchAt loop emits
   loop-by =
       let xs = s .stack in
@@ -159,17 +159,20 @@ module _ (base : ℕ) (head inside : Emit) (i : Instr) (s : State) (h : base ≤
       let w : suc (length as′) ≡ length (xs ++ as′ ++ i ∷ []) - length xs = omega (arith, length-append (xs ++ as′) (i ∷ []), length-append xs as′) in
       let m : length bs ≡ length (xs ++ as′ ++ i ∷ [] ++ bs) - length (xs ++ as′ ++ i ∷ []) = sym (added (xs ++ as′ ++ i ∷ []) bs) in
       let z : suc (suc (length as′) + length bs) ≡ suc (length (xs ++ as′ ++ i ∷ [] ++ bs) - length xs) =
-          omega (arith, length-append (xs ++ as′ ++ i ∷ []) bs, length-append (xs ++ as′) (i ∷ []), length-append xs as′) in
-      ap (λ (k : ℕ). record { stack = xs ++ (as′ ++ (JumpIfFalse (suc (length (inside k (a .tables) .code))) ∷ patch (suc (length as′)) (length (inside k (a .tables) .code)) 0 (inside k (a .tables) .code)
-        ++ Jump (minus (suc (suc (length as′) + length (inside k (a .tables) .code)))) ∷ [])); tables = inside k (a .tables) .tables }) q
+      omega (arith, length-append (xs ++ as′ ++ i ∷ []) bs, length-append (xs ++ as′) (i ∷ []), length-append xs as′) in
+      ap (λ (k : ℕ). record {
+        stack = xs ++ (as′ ++ (JumpIfFalse (suc (length (inside k (a .tables) .code))) ∷ patch (suc (length as′)) (length (inside k (a .tables) .code)) 0 (inside k (a .tables) .code)
+            ++ Jump (minus (suc (suc (length as′) + length (inside k (a .tables) .code)))) ∷ []));
+        tables = inside k (a .tables) .tables;
+      }) q
       ∙ state-eq _ _ ((λ j. xs ++ (as′ ++ (JumpIfFalse (suc (m j)) ∷ patch (w j) (m j) 0 bs ++ Jump (minus (z j)) ∷ [])))
-        ∙ sym (loop-seam (length (xs ++ as′ ++ i ∷ []) - length xs) (length (xs ++ as′ ++ i ∷ [] ++ bs) - length (xs ++ as′ ++ i ∷ [])) xs as′ bs i _ _ m)) refl
+      ∙ sym (loop-seam (length (xs ++ as′ ++ i ∷ []) - length xs) (length (xs ++ as′ ++ i ∷ [] ++ bs) - length (xs ++ as′ ++ i ∷ [])) xs as′ bs i _ _ m)) refl
 
   pub at-loop : (s₁ s₂ s₃ : State) → s₁ ≡ emitAt base head s → s₂ ≡ emitAt base (one i) s₁ → s₃ ≡ emitAt base inside s₂
       → emitAt base (loop head inside) s
-        ≡ setAt (length (s₁ .stack)) (JumpIfFalse (suc (length (s₃ .stack) - length (s₂ .stack))))
-          (patchAt (length (s₂ .stack) - length (s .stack)) (length (s₂ .stack)) (length (s₃ .stack) - length (s₂ .stack))
-            (emitAt base (one (Jump (minus (suc (length (s₃ .stack) - length (s .stack)))))) s₃))
+      ≡ setAt (length (s₁ .stack)) (JumpIfFalse (suc (length (s₃ .stack) - length (s₂ .stack))))
+      (patchAt (length (s₂ .stack) - length (s .stack)) (length (s₂ .stack)) (length (s₃ .stack) - length (s₂ .stack))
+      (emitAt base (one (Jump (minus (suc (length (s₃ .stack) - length (s .stack)))))) s₃))
   at-loop s₁ s₂ s₃ e₁ e₂ e₃ = rw (e₃, e₂, e₁) loop-by
 
 -- ---- branches
@@ -190,7 +193,7 @@ last-seam xs as′ bs rest j c d =
 -- a branch and those after it, on a stack ys
 rest-by : (base : ℕ) (slots : List Name) (c : Expr) (b : Block) (r : Branches) (p : ℕ) (t : Tables) (ys : List Instr) → base ≤ length ys → length ys - base ≡ p
     → _≡_ {A = State} (record { stack = ys ++ emitBranches slots (when c b r) p t .out .code; tables = emitBranches slots (when c b r) p t .out .tables })
-      (chainAt base slots r (length (ys ++ branch slots c b p t .code) - 1) (record { stack = ys ++ branch slots c b p t .code; tables = branch slots c b p t .tables }))
+    (chainAt base slots r (length (ys ++ branch slots c b p t .code) - 1) (record { stack = ys ++ branch slots c b p t .code; tables = branch slots c b p t .tables }))
 unfolding emitBranches branch chainAt
 rest-by base slots c b r p t ys h e =
     let a = emitExpr slots c p t in
@@ -198,7 +201,7 @@ rest-by base slots c b r p t ys h e =
     let jif = JumpIfFalse (suc (length (o .code))) in
     let is = a .code ++ (jif ∷ o .code ++ Jump 0 ∷ []) in
     let q : suc (p + length (a .code)) + suc (length (o .code)) ≡ length (ys ++ is) - base =
-        omega (arith, length-append ys is, length-append (a .code) (jif ∷ o .code ++ Jump 0 ∷ []), length-append (o .code) (Jump 0 ∷ [])) in
+    omega (arith, length-append ys is, length-append (a .code) (jif ∷ o .code ++ Jump 0 ∷ []), length-append (o .code) (Jump 0 ∷ [])) in
     ap (λ (n : ℕ). record { stack = ys ++ (a .code ++ (jif ∷ o .code ++ Jump (emitBranches slots r n (o .tables) .hop) ∷ emitBranches slots r n (o .tables) .out .code)); tables = emitBranches slots r n (o .tables) .out .tables }) q
     ∙ state-eq _ _ (sym (last-seam ys (a .code) (o .code) _ jif (Jump 0) _)) refl
 
@@ -215,8 +218,8 @@ branch-hop slots c b r p t xs =
 module _ (base : ℕ) (slots : List Name) (c : Expr) (b : Block) (s : State) (h : base ≤ length (s .stack)) where
   branch-by : (i : Instr) → emitAt base (branch slots c b) s
       ≡ setAt (length (emitAt base (emitExpr slots c) s .stack))
-        (JumpIfFalse (suc (length (emitAt base (emitBlock slots b) (emitAt base (one i) (emitAt base (emitExpr slots c) s)) .stack) - length (emitAt base (one i) (emitAt base (emitExpr slots c) s) .stack))))
-        (emitAt base (one (Jump 0)) (emitAt base (emitBlock slots b) (emitAt base (one i) (emitAt base (emitExpr slots c) s))))
+      (JumpIfFalse (suc (length (emitAt base (emitBlock slots b) (emitAt base (one i) (emitAt base (emitExpr slots c) s)) .stack) - length (emitAt base (one i) (emitAt base (emitExpr slots c) s) .stack))))
+      (emitAt base (one (Jump 0)) (emitAt base (emitBlock slots b) (emitAt base (one i) (emitAt base (emitExpr slots c) s))))
   unfolding emitAt setAt branch emits
   branch-by i =
       let xs = s .stack in
@@ -228,7 +231,7 @@ module _ (base : ℕ) (slots : List Name) (c : Expr) (b : Block) (s : State) (h 
       let m : length bs ≡ length (xs ++ as′ ++ i ∷ [] ++ bs) - length (xs ++ as′ ++ i ∷ []) = sym (added (xs ++ as′ ++ i ∷ []) bs) in
       ap (λ (k : ℕ). record { stack = xs ++ (as′ ++ (JumpIfFalse (suc (length (emitBlock slots b k (a .tables) .code))) ∷ emitBlock slots b k (a .tables) .code ++ Jump 0 ∷ [])); tables = emitBlock slots b k (a .tables) .tables }) q
       ∙ state-eq _ _ ((λ j. xs ++ (as′ ++ (JumpIfFalse (suc (m j)) ∷ bs ++ Jump 0 ∷ [])))
-        ∙ sym (branch-seam xs as′ bs i _ (Jump 0))) refl
+      ∙ sym (branch-seam xs as′ bs i _ (Jump 0))) refl
 
   pub at-branch : (i : Instr) (s₁ s₂ s₃ : State) → s₁ ≡ emitAt base (emitExpr slots c) s → s₂ ≡ emitAt base (one i) s₁ → s₃ ≡ emitAt base (emitBlock slots b) s₂
       → emitAt base (branch slots c b) s ≡ setAt (length (s₁ .stack)) (JumpIfFalse (suc (length (s₃ .stack) - length (s₂ .stack)))) (emitAt base (one (Jump 0)) s₃)

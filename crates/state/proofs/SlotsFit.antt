@@ -188,7 +188,7 @@ unfolding closure
 tests-closure {e} slots arity inner cs body E =
     tests-by (λ t. function (lambdaName (length (t .functions))) arity inner body (e ⨟ one Return) ⨟ loads slots cs ⨟ one (Instruction.MakeClosure (length (t .functions)) (length cs)))
     (λ t. tests-then (tests-function (lambdaName (length (t .functions))) arity inner body (tests-then E (tests-one Return)))
-      (tests-seq (tests-loads slots cs) (tests-one (Instruction.MakeClosure (length (t .functions)) (length cs)))))
+    (tests-seq (tests-loads slots cs) (tests-one (Instruction.MakeClosure (length (t .functions)) (length cs)))))
 
 object-display : (k : Display) (slots : List Name) (es : Exprs) → objectFits slots (display k es) ≡ true
 unfolding objectFits view viewDisplay
@@ -200,6 +200,7 @@ object-display treeSetD slots es = refl
 
 mutual
   unfolding emitExpr fitsExpr objectFits view
+
   tests-expr : (slots : List Name) (e : Expr) → Tests (emitExpr slots e) (fitsExpr slots e)
   tests-expr slots (lit l) = tests-literal l
   tests-expr slots (var x) = tests-load slots x
@@ -241,6 +242,7 @@ tuple-by false E = tests-emits []
 
 mutual
   unfolding emitTarget
+
   tests-target : (slots : List Name) (e : Expr) → Tests (emitTarget slots e) true
   tests-target slots (lit l) = tests-emits []
   tests-target slots (var x) = tests-store slots x
@@ -347,6 +349,7 @@ method-by x ps b rest acc t B M =
 
 mutual
   unfolding emitStmt fitsStmt askStmt askTarget ifAsked fitsTarget assignFits
+
   tests-stmt : (slots : List Name) (l : Bool) (s : Stmt) → askStmt 10 l s ≡ true → Tests (emitStmt slots s) (fitsStmt slots s)
   tests-stmt slots l break h = tests-one Instruction.Break
   tests-stmt slots l continue h = tests-one Instruction.Continue
@@ -404,6 +407,7 @@ targets-asked b c = go (firstNo (λ q. askBlock q false b) blockQuestions) refl
   where
     ask : ℕ → Bool
     ask q = askBlock q false b
+
     go : (o : Option ℕ) → firstNo ask blockQuestions ≡ o → refusedBy o b ≡ accepted c → askBlock 10 false b ≡ true
     go none e h =
         let a = answered ask blockQuestions e in

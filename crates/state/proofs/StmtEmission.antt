@@ -64,7 +64,7 @@ at-unpack-none base slots i s = at-nothing base s
 -- the later elements first
 pub at-unpack-more : (base : ℕ) (slots : List Name) (e : Expr) (es : Exprs) (i : ℕ) (s : State) → base ≤ length (s .stack)
     → emitAt base (unpack slots (e ∷ᵉ es) i) s
-      ≡ emitAt base (emitTarget slots e) (emitAt base (one Instruction.LoadIndex) (emitAt base (one (Instruction.ConstI64 i)) (emitAt base (copy i) (emitAt base (unpack slots es (suc i)) s))))
+    ≡ emitAt base (emitTarget slots e) (emitAt base (one Instruction.LoadIndex) (emitAt base (one (Instruction.ConstI64 i)) (emitAt base (copy i) (emitAt base (unpack slots es (suc i)) s))))
 unfolding emitTarget
 at-unpack-more base slots e es i s h =
     at-four base (unpack slots es (suc i)) (copy i) (emits (Instruction.ConstI64 i ∷ Instruction.LoadIndex ∷ [])) (emitTarget slots e) s h
@@ -129,8 +129,8 @@ module _ (base : ℕ) (slots : List Name) (s : State) (h : base ≤ length (s .s
   pub at-for : (x : Name) (e : Expr) (b : Block) (s₁ : State) (g : ℕ) → s₁ ≡ emitAt base makeIter (emitAt base (emitExpr slots e) s)
       → g ≡ symbolNumber (iterName (length (s₁ .stack) - base)) (s₁ .tables)
       → emitAt base (emitStmt slots (for x e b)) s
-        ≡ emitAt base (loop (askIter g) (takeIter slots x g ⨟ emitBlock slots b))
-          (emitAt base (one (Instruction.StoreGlobal g)) (withTables (withSymbol (iterName (length (s₁ .stack) - base)) (s₁ .tables)) s₁))
+      ≡ emitAt base (loop (askIter g) (takeIter slots x g ⨟ emitBlock slots b))
+      (emitAt base (one (Instruction.StoreGlobal g)) (withTables (withSymbol (iterName (length (s₁ .stack) - base)) (s₁ .tables)) s₁))
   unfolding emitStmt namedIter
   at-for x e b s₁ g e₁ e₂ =
       let F : ℕ → Emit = λ k. one (Instruction.StoreGlobal k) ⨟ loop (askIter k) (takeIter slots x k ⨟ emitBlock slots b) in
@@ -169,7 +169,7 @@ at-askIter base g s h = at-seq base (one (Instruction.LoadGlobal g)) (intern (as
 
 pub at-takeIter : (base : ℕ) (slots : List Name) (x : Name) (g : ℕ) (s : State) → base ≤ length (s .stack)
     → emitAt base (takeIter slots x g) s
-      ≡ emitAt base (store slots x) (emitAt base (intern (ascii "__next__") (λ k. one (Instruction.CallMethod k 0))) (emitAt base (one (Instruction.LoadGlobal g)) s))
+    ≡ emitAt base (store slots x) (emitAt base (intern (ascii "__next__") (λ k. one (Instruction.CallMethod k 0))) (emitAt base (one (Instruction.LoadGlobal g)) s))
 unfolding takeIter
 at-takeIter base slots x g s h = at-three base (one (Instruction.LoadGlobal g)) (intern (ascii "__next__") (λ k. one (Instruction.CallMethod k 0))) (store slots x) s h
 
