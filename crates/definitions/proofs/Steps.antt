@@ -8,10 +8,10 @@ use native.Mathlib.Omega.{arith}
 use lib.ListN.{getD}
 use Rattle.definitions.specs.Instruction.{Instr, Return, encode}
 use Rattle.definitions.specs.Run.{Ran, ended, after, Flow, straight, jump, returns, question, flow, obey, run}
-use Rattle.definitions.specs.Statements.{Counts, Steps}
+use Rattle.definitions.specs.Statements.{Budgeted, Steps}
 
 -- one step before a run
-counts-after : (n u : ℕ) (ev : List ℕ) (r : Ran) (more : ℕ → Ran) → Counts n r more → Counts (suc n) (after 1 u ev r) (λ m. after 1 u ev (more m))
+counts-after : (n u : ℕ) (ev : List ℕ) (r : Ran) (more : ℕ → Ran) → Budgeted n r more → Budgeted (suc n) (after 1 u ev r) (λ m. after 1 u ev (more m))
 counts-after n u ev r more C = record {
   most = omega (arith, C .most);
   spent = λ e. omega (arith, C .spent e);
@@ -19,12 +19,12 @@ counts-after n u ev r more C = record {
 }
 
 -- a run that ends at once, by a return or for want of an answer
-counts-ended : (n k : ℕ) (e : k ≡ 3 → ⊥) → Counts n (ended k) (λ m. ended k)
+counts-ended : (n k : ℕ) (e : k ≡ 3 → ⊥) → Budgeted n (ended k) (λ m. ended k)
 unfolding ended
 counts-ended n k e = record { most = omega arith; spent = λ h. absurd (e h); enough = λ h m. refl }
 
-counts-obey : (n : ℕ) (f : Flow) (i : Instr) (p : ℕ) (xs : List ℕ) (go : ℕ → List ℕ → Ran) (more : ℕ → ℕ → List ℕ → Ran) → ((q : ℕ) (ys : List ℕ) → Counts n (go q ys) (λ m. more m q ys))
-    → Counts (suc n) (obey f i p xs go) (λ m. obey f i p xs (more m))
+counts-obey : (n : ℕ) (f : Flow) (i : Instr) (p : ℕ) (xs : List ℕ) (go : ℕ → List ℕ → Ran) (more : ℕ → ℕ → List ℕ → Ran) → ((q : ℕ) (ys : List ℕ) → Budgeted n (go q ys) (λ m. more m q ys))
+    → Budgeted (suc n) (obey f i p xs go) (λ m. obey f i p xs (more m))
 unfolding obey
 counts-obey n straight i p xs go more C = counts-after n 0 (encode i) _ _ (C _ xs)
 counts-obey n jump i p xs go more C = counts-after n 0 [] _ _ (C _ xs)

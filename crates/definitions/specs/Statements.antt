@@ -152,16 +152,24 @@ Demand3Bytes =
     → (budget room : ℕ) → (length answers + 1) * instructionsIn m k ≤ budget
     → Follows answers room (walkTree tree k answers) (runAnswer m k answers budget room)
 
+-- so with such a budget no run of a lowered function ends with the budget spent
+abbrev pub NeverSpent : Type 0
+NeverSpent =
+    (tree m : List ℕ) → areBytes tree ≡ true → lowerBytes office tree ≡ accepted m
+    → (k : ℕ) (answers : List ℕ) → areAnswers answers ≡ true
+    → (budget room : ℕ) → (length answers + 1) * instructionsIn m k ≤ budget
+    → (r : Ran) → runAnswer m k answers budget room ≡ accepted r → (1 ≤ r .ending) × (r .ending ≤ 2)
+
 -- ---- the steps of a run: proofs/Steps
 
 -- A run has at most as many steps as its budget, and just as many where the budget is spent; where it ends otherwise, more budget changes nothing
-pub record Counts (n : ℕ) (r : Ran) (more : ℕ → Ran) : Type 0 where
+pub record Budgeted (n : ℕ) (r : Ran) (more : ℕ → Ran) : Type 0 where
   pub most : r .steps ≤ n
   pub spent : r .ending ≡ 3 → r .steps ≡ n
   pub enough : (r .ending ≡ 3 → ⊥) → (m : ℕ) → more m ≡ r
 
 abbrev pub Steps : Type 0
-Steps = (n : ℕ) (code : List Instr) (p : ℕ) (answers : List ℕ) → Counts n (run n code p answers) (λ m. run (n + m) code p answers)
+Steps = (n : ℕ) (code : List Instr) (p : ℕ) (answers : List ℕ) → Budgeted n (run n code p answers) (λ m. run (n + m) code p answers)
 
 -- ---- the hand-back of code: proofs/Handed
 
