@@ -136,6 +136,7 @@ module _ (t made code tables : List ℕ) (sy ar lo h : ℕ) (c : Counts) (l : Li
       paced = record { methods = omega arith; constants = le-refl _ };
       sound = begin-sound;
     },
+    omega arith,
   )
 
 pub begin-over : (t made code tables tables′ : List ℕ) (sy ar lo n : ℕ) (c : Counts) (l : Limits) → Sound made code tables c l → l .functions ≤ c .functions →

@@ -1,5 +1,5 @@
 -- What the beginning and the end of a function leave, and of a class.
-use Prim.Native.Nat.{ℕ, zero, suc, _+_, _≤_}
+use Prim.Native.Nat.{ℕ, zero, suc, _+_, _≤_, _<_}
 use mathlib.Core.Path.{_≡_}
 use mathlib.Core.List.{List, [], _∷_, _++_}
 use Rattle.definitions.specs.Instruction.{Instr}
@@ -28,9 +28,10 @@ pub record Moved (b : ℕ) (k : Counts) (tree made code tables : List ℕ) (c : 
   pub paced : Paced c k
   pub sound : Sound made code tables k l
 
--- the number of a function that has begun, and the wanted state, in which it is the innermost; or that state is over the limits
+-- the number of a function that has begun, and the wanted state, in which it is the innermost: a function more, and no method more; or that state is
+-- over the limits
 unfoldable pub Begins : Numbered → List ℕ → List ℕ → List ℕ → List ℕ → Counts → Limits → ℕ → State → Type 0
-Begins (At i k) tree made code tables c l number want = (i ≡ number) × Moved (c .open) k tree made code tables c l want
+Begins (At i k) tree made code tables c l number want = (i ≡ number) × Moved (c .open) k tree made code tables c l want × (k .methods + c .functions < c .methods + k .functions)
 Begins Over tree made code tables c l number want = Within l want → ⊥
 
 -- the counts with other numbers of methods and of constants

@@ -70,7 +70,7 @@ pub fn check_attributes(tree: &[u8], at: usize, depth: u32, stand: u32) -> Passe
 }
 
 // A statement with `depth` levels left; `looped` says whether a loop of the same function is around.
-fn check_stmt(tree: &[u8], at: usize, depth: u32, looped: bool, stand: u32) -> Passed
+pub fn check_stmt(tree: &[u8], at: usize, depth: u32, looped: bool, stand: u32) -> Passed
     requires { ⌜ at ≤ length (now tree) ⌝ }
     ensures { λ r. ⌜ r ≡ judgeStmt looped depth (now (tree .entry)) at stand ⌝ }
 {

@@ -1,0 +1,9 @@
+pub mod Sequence
+pub mod Opcodes
+pub mod Arms
+pub mod Literals
+pub mod Shortcuts
+pub mod Elements
+pub mod Calls
+pub mod Lambdas
+pub mod Collecting

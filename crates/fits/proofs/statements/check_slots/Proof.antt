@@ -1,0 +1,18 @@
+use Rattle.fits.proofs.StmtKinds.{tree-fits, tree-over}
+use borrow.Author.Needs.{needs}
+use Rattle.fits.proofs.statements.check_slots.Statement.{statement}
+use Rattle.fits.proofs.statements.check_slots.Tie as tie
+use Rattle.fits.proofs.statements.check_slots.Reads as reads
+use Rattle.fits.proofs.statements.check_slots.Lts as lts
+use Rattle.fits.proofs.statements.fits_block.Reads as fits-block-reads
+
+pub check-slots-spec : {M : Type 1} → statement M
+check-slots-spec = tie.close (tie.spec
+    (λ c. search needs)  -- sub-fits-block
+    (λ c. search needs)  -- part-fits-block-start
+    (λ c. search needs)  -- part-fits-block-end
+    (λ c κs. search needs)  -- fits-block-requires
+    (λ c. search needs)  -- enum-told
+    (λ c. search needs)  -- enum-told-2
+    (λ c. tree-fits _ _ _ _ (c .before .before .fits-block .ensures) _ (c .enum-told .given .1))  -- returns
+    (λ c. tree-over _ _ _ _ (c .before .before .fits-block .ensures) (c .enum-told2 .given .1)))  -- returns-2

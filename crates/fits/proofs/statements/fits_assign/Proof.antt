@@ -1,0 +1,18 @@
+use Rattle.fits.proofs.ExprKinds.{second-there, second-moved}
+use Rattle.fits.proofs.Walking.{walks-next, first-over, second-walks}
+use borrow.Author.Needs.{needs}
+use Rattle.fits.proofs.statements.fits_assign.Statement.{statement}
+use Rattle.fits.proofs.statements.fits_assign.Tie as tie
+use Rattle.fits.proofs.statements.fits_assign.Reads as reads
+use Rattle.fits.proofs.statements.fits_assign.Lts as lts
+use Rattle.fits.proofs.expressions.fits_expr.Reads as fits-expr-reads
+use Rattle.fits.proofs.expressions.fits_target.Reads as fits-target-reads
+
+pub fits-assign-spec : {M : Type 1} → statement M
+fits-assign-spec = tie.close (tie.spec
+    (λ c κs. (c .before .before .pre .0, c .before .before .pre .1 .first))  -- fits-target-requires
+    (λ c. search needs)  -- enum-known-target
+    (λ c. search needs)  -- enum-told
+    (λ c. first-over _ _ _ _ _ (c .before .before .fits-target .ensures) (c .enum-told .given .1))  -- returns
+    (λ c κs. (c .before .before .before .before .before .before .pre .0, second-there _ _ _ _ (walks-next _ _ _ _ (c .before .before .before .fits-target .ensures) (c .before .target .given .1) .0) (c .before .before .before .before .before .before .pre .1)))  -- fits-expr-requires
+    (λ c. second-walks _ _ _ _ _ _ _ (c .before .before .before .before .fits-target .ensures) (c .before .before .target .given .1) (second-moved _ _ _ _ (walks-next _ _ _ _ (c .before .before .before .before .fits-target .ensures) (c .before .before .target .given .1) .0) _ _ (c .fits-expr .ensures))))  -- returns-2

@@ -1,0 +1,137 @@
+-- The iterator's steps.
+use Prim.Native.Nat.{ℕ, zero, suc, _+_, _-_, _*_, _/_, _≤_, _<_}
+use mathlib.Core.Path.{_≡_, refl, sym, ap, _∙_}
+use mathlib.Core.List.{List, _++_}
+use mathlib.Core.Bool.{Bool, true, false}
+use native.Mathlib.Omega.{arith}
+use lib.Dec.{ltb}
+use lib.ListN.{length, length-append}
+use borrow.Author.Tests.{ltb-true, ltb-false}
+use Rattle.definitions.specs.Bytes.{Name, ascii, decimal}
+use Rattle.definitions.specs.Instruction.{Instr, StoreGlobal, LoadGlobal, CallMethod}
+use Rattle.definitions.specs.Tables.{Emit, one, _⨟_, intern}
+use Rattle.definitions.specs.Lower.{iterName, makeIter, askIter, takeIter, store}
+use Rattle.state.specs.State.{State, stateOf, emitAt, Sound, Within, Left, Emits, Numbers, symbolNumber, withSymbol, withTables}
+use Rattle.state.specs.declared.Counts.{Counts}
+use Rattle.state.specs.declared.Limits.{Limits}
+use Rattle.state.specs.declared.Emitted.{Emitted}
+use Rattle.state.specs.declared.Emitted.the-variants.{Done, Full}
+use Rattle.state.specs.declared.Numbered.{Numbered}
+use Rattle.state.specs.declared.Numbered.the-variants.{At, Over}
+use Rattle.state.proofs.Emission.{at-seq}
+use Rattle.state.proofs.StmtEmission.{at-takeIter}
+use Rattle.state.proofs.Growth.{lengthens-store}
+use Rattle.state.proofs.Answers.{emits-done, emits-full, emits-as, base-below, numbers-at, numbers-over, at-numbers, over-numbers, left-after, left-as}
+use Rattle.state.proofs.Within.{within-one, within-down}
+use Rattle.names.specs.declared.Made.the-variants.{Iter, HasNext, Next, Iterator}
+use Rattle.names.specs.Made.{madeName}
+use Rattle.definitions.specs.Reader.{isJump}
+use Rattle.code.specs.Ops.{special, Plain}
+use Rattle.frames.proofs.Answering.{next-emits}
+use Rattle.names.proofs.Pasting.{one-digit, more-digits}
+
+-- ---- made names are short
+
+pub short-iter : length (madeName Iter) < 20
+unfolding madeName
+short-iter = omega arith
+
+pub short-has-next : length (madeName HasNext) < 20
+unfolding madeName
+short-has-next = omega arith
+
+pub short-next : length (madeName Next) < 20
+unfolding madeName
+short-next = omega arith
+
+one-more : (b k n : ℕ) → ((m : ℕ) → m < b → length (decimal m) ≤ k) → 1 ≤ k → n < 10 * b → length (decimal n) ≤ k + 1
+one-more b k n f h g = go (ltb n 10) refl
+  where
+    go : (z : Bool) → ltb n 10 ≡ z → length (decimal n) ≤ k + 1
+    go true z = omega (arith, one-digit n (ltb-true n 10 z))
+    go false z = let w = ltb-false n 10 z in omega (arith, more-digits n w, f (n / 10) (omega arith))
+
+four-digits : (n : ℕ) → n < 10000 → length (decimal n) ≤ 4
+four-digits n h =
+    one-more 1000 3 n (λ m. one-more 100 2 m (λ m. one-more 10 1 m (λ m g. omega (arith, one-digit m g)) (omega arith)) (omega arith)) (omega arith) h
+
+-- the place of a store is one of at most 8,192 instructions
+pub short-iterator : (n : ℕ) → n ≤ 8192 → length (madeName (Iterator n)) < 20
+unfolding madeName iterName
+short-iterator n h = omega (arith, four-digits n (omega arith), length-append (ascii "__for_iter_") (decimal n ++ ascii "__"), length-append (decimal n) (ascii "__"))
+
+-- ---- the code of an iterator's calls
+
+module _ (r : Emitted) (t made code tables : List ℕ) (c : Counts) (l : Limits) (q base : ℕ) (s : State) where
+  pub make-emits : Emits r t made code tables c l q (emitAt base (intern (madeName Iter) (λ k. one (CallMethod k 0))) s) → Emits r t made code tables c l q (emitAt base makeIter s)
+  unfolding makeIter madeName
+  make-emits h = h
+
+  pub ask-emits : (g : ℕ) → Emits r t made code tables c l q (emitAt base (one (LoadGlobal g) ⨟ intern (madeName HasNext) (λ k. one (CallMethod k 0))) s)
+      → Emits r t made code tables c l q (emitAt base (askIter g) s)
+  unfolding askIter madeName
+  ask-emits g h = h
+
+pub take-is : (base : ℕ) (slots : List Name) (x : Name) (g : ℕ) (s : State) → base ≤ length (s .stack)
+    → emitAt base (store slots x) (emitAt base (one (LoadGlobal g) ⨟ intern (madeName Next) (λ k. one (CallMethod k 0))) s) ≡ emitAt base (takeIter slots x g) s
+unfolding madeName
+take-is base slots x g s h =
+    ap (emitAt base (store slots x)) (at-seq base (one (LoadGlobal g)) (intern (ascii "__next__") (λ k. one (CallMethod k 0))) s h) ∙ sym (at-takeIter base slots x g s h)
+
+pub take-within : {l : Limits} (base : ℕ) (slots : List Name) (x : Name) (g : ℕ) (s : State) → base ≤ length (s .stack)
+    → Within l (emitAt base (takeIter slots x g) s) → Within l (emitAt base (one (LoadGlobal g) ⨟ intern (madeName Next) (λ k. one (CallMethod k 0))) s)
+take-within base slots x g s h w = within-down base _ (lengthens-store slots x) (rw (take-is base slots x g s h) w)
+
+pub take-emits : (t made code tables made₁ code₁ tables₁ made₂ code₂ tables₂ : List ℕ) (c k : Counts) (l : Limits) (p q : ℕ) (slots : List Name) (x : Name) (g : ℕ) (r₁ r : Emitted) → Sound made code tables c l → r₁ ≡ Done p k
+    → Emits r₁ t made₁ code₁ tables₁ c l q (emitAt (c .base) (one (LoadGlobal g) ⨟ intern (madeName Next) (λ k. one (CallMethod k 0))) (stateOf t made code tables c))
+    → Emits r t made₂ code₂ tables₂ k l p (emitAt (k .base) (store slots x) (stateOf t made₁ code₁ tables₁ k))
+    → Emits r t made₂ code₂ tables₂ c l q (emitAt (c .base) (takeIter slots x g) (stateOf t made code tables c))
+take-emits t made code tables made₁ code₁ tables₁ made₂ code₂ tables₂ c k l p q slots x g r₁ r s z h b =
+    let d = emits-done t made₁ code₁ tables₁ c l q _ r₁ p k z h in
+    next-emits t made₁ code₁ tables₁ made₂ code₂ tables₂ c k l q _ _ _ r (d .1) (emits-as r t made₂ code₂ tables₂ k l p q _ _ (d .0) refl b)
+    ((λ j. emitAt (d .1 .base j) (store slots x) (d .1 .state j)) ∙ take-is (c .base) slots x g (stateOf t made code tables c) (base-below t made code tables c l s))
+
+-- ---- the opcodes
+
+pub plain-method : Plain 35 0 0
+unfolding special isJump
+plain-method = record { op-byte = omega arith; op-plain = refl; first-short = omega arith; second-byte = omega arith }
+
+pub plain-constant : (n : ℕ) → n < 65536 → Plain 6 n 0
+unfolding special isJump
+plain-constant n h = record { op-byte = omega arith; op-plain = refl; first-short = h; second-byte = omega arith }
+
+-- ---- the iterator is stored
+
+pub iterator-numbers : (r : Numbered) (t made code tables : List ℕ) (c : Counts) (l : Limits) (s : State) (n : ℕ)
+    → Numbers r t made code tables c l (symbolNumber (madeName (Iterator n)) (s .tables)) (withTables (withSymbol (madeName (Iterator n)) (s .tables)) s)
+    → Numbers r t made code tables c l (symbolNumber (iterName n) (s .tables)) (withTables (withSymbol (iterName n) (s .tables)) s)
+unfolding madeName
+iterator-numbers r t made code tables c l s n h = h
+
+module _ (t made code tables made₁ tables₁ : List ℕ) (c : Counts) (l : Limits) (x : Name) (n : Numbered)
+    (h : Numbers n t made₁ code tables₁ c l (symbolNumber x (stateOf t made code tables c .tables)) (withTables (withSymbol x (stateOf t made code tables c .tables)) (stateOf t made code tables c))) where
+  abbrev s : State
+  s = stateOf t made code tables c
+
+  abbrev named : State
+  named = withTables (withSymbol x (s .tables)) s
+
+  abbrev stored : State
+  stored = emitAt (c .base) (one (StoreGlobal (symbolNumber x (s .tables)))) named
+
+  pub store-over : (made′ code′ tables′ : List ℕ) → n ≡ Over → Numbers Over t made′ code′ tables′ c l (symbolNumber x (s .tables)) stored
+  store-over made′ code′ tables′ e = over-numbers t made′ code′ tables′ c l _ _ (λ w. numbers-over t made₁ code tables₁ c l _ _ n e h (within-one (c .base) _ _ w))
+
+  module _ (g : ℕ) (k : Counts) (e : n ≡ At g k) (q : ℕ) (code₁ : List ℕ) (r : Emitted) (a : Emits r t made₁ code₁ tables₁ k l q (emitAt (k .base) (one (StoreGlobal g)) (stateOf t made₁ code tables₁ k))) where
+    got : (g ≡ symbolNumber x (s .tables)) × Left k t made₁ code tables₁ c l named
+    got = numbers-at t made₁ code tables₁ c l _ _ n g k e h
+
+    stored-is : emitAt (k .base) (one (StoreGlobal g)) (stateOf t made₁ code tables₁ k) ≡ stored
+    stored-is = λ j. emitAt (got .1 .base j) (one (StoreGlobal (got .0 j))) (got .1 .state j)
+
+    pub store-full : (made′ code′ tables′ : List ℕ) → r ≡ Full → Numbers Over t made′ code′ tables′ c l (symbolNumber x (s .tables)) stored
+    store-full made′ code′ tables′ z = over-numbers t made′ code′ tables′ c l _ _ (λ w. emits-full t made₁ code₁ tables₁ k l q _ r z a (rw stored-is w))
+
+    pub store-at : (p : ℕ) (m : Counts) → r ≡ Done p m → Numbers (At g m) t made₁ code₁ tables₁ c l (symbolNumber x (s .tables)) stored
+    store-at p m z = at-numbers t made₁ code₁ tables₁ c l _ _ g m (got .0) (left-as stored-is (left-after (got .1) (emits-done t made₁ code₁ tables₁ k l q _ r p m z a .1)))

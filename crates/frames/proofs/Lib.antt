@@ -1,0 +1,4 @@
+pub mod Answering
+pub mod Setting
+pub mod Calling
+pub mod Ending

@@ -1,0 +1,181 @@
+-- What each way out of the lowering shows.
+use Prim.Native.Nat.{ℕ, _≤_, _<_}
+use mathlib.Core.Path.{_≡_, refl, sym, ap, _∙_, subst}
+use mathlib.Core.Bool.{Bool, true, false, _&&_}
+use mathlib.Core.List.{List, []}
+use native.Mathlib.Omega.{arith}
+use lib.ListN.{length, replicate}
+use lib.Dec.{leb}
+use borrow.Author.Tests.{le-leb, lt-leb}
+use Rattle.definitions.specs.Bytes.{Answer, refused, accepted, whenAccepted}
+use Rattle.definitions.specs.Tables.{Tables}
+use Rattle.definitions.specs.Lower.{compile}
+use Rattle.definitions.specs.Module.{office, instructions, moduleBytes, slotsFit, tablesFit}
+use Rattle.definitions.specs.Calls.{written, outputAfter, countAnswer, zeros, areasFit, lowerAnswer, areaAfter, lowerCall}
+use Rattle.definitions.proofs.Truth.{left, right, at-most}
+use Rattle.tree.specs.Settled.{said, settled}
+use Rattle.tree.specs.StmtAt.{TreeAt}
+use Rattle.tree.specs.declared.Checked.{Checked}
+use Rattle.tree.specs.declared.Checked.the-variants.{Refused as No}
+use Rattle.tree.proofs.TreeViews.{answer-refused}
+use Rattle.state.specs.Fits.{fitsBlock}
+use Rattle.state.specs.State.{State, tablesOf, stateOf, limitsOf, Within, Sound, Limited}
+use Rattle.state.specs.declared.Counts.{Counts}
+use Rattle.state.specs.declared.Limits.{Limits}
+use Rattle.state.specs.declared.Emitted.{Emitted}
+use Rattle.state.specs.declared.Emitted.the-variants.{Done, Full}
+use Rattle.state.proofs.Views.{within-sound}
+use Rattle.state.proofs.SlotsFit.{slots-fit, targets-asked}
+use Rattle.module.specs.Sections.{Wrote}
+use Rattle.lowering.specs.Compiled.{Fitting, treeBlock, Compiles}
+use Rattle.lowering.specs.Lowered.{told, Answers, Lowers}
+use Rattle.lowering.specs.declared.Lowered.{Lowered}
+use Rattle.lowering.specs.declared.Lowered.the-variants.{Wrote as Written, Refused}
+use Rattle.lowering.proofs.Outcome.{answer-areas, Checks, check-gives, answer-checked, answer-slots, answer-over, answer-room, answer-module}
+
+-- ---- the answer and the output
+
+pub refuses : (a : Answer (List ℕ)) (q : ℕ) (out : List ℕ) → a ≡ refused q → Answers (Refused q) a out out
+unfolding told countAnswer outputAfter whenAccepted
+refuses a q out e = rw e (record { answer = refl; output = refl })
+
+writes : (a : Answer (List ℕ)) (bs : List ℕ) (n : ℕ) (out out′ : List ℕ) → a ≡ accepted bs → n ≡ length bs → out′ ≡ written bs out → Answers (Written n) a out out′
+unfolding told countAnswer outputAfter whenAccepted
+writes a bs n out out′ e c w = rw e (record { answer = ap accepted c; output = w })
+
+-- ---- the limits
+
+-- a state within the limits has tables within them
+tables-within : (l : Limits) (s : State) → Within l s → tablesFit (limitsOf l) (s .tables) ≡ true
+unfolding tablesFit limitsOf
+tables-within l s w =
+    rw (le-leb (length (s .tables .functions)) (l .functions) (w .functions), le-leb (length (s .tables .symbols)) (l .symbols) (w .symbols), le-leb (length (s .tables .strings)) (l .strings) (w .strings))
+    (rw (le-leb (length (s .tables .classes)) (l .classes) (w .classes)) (le-leb (instructions (s .tables .functions)) (l .instructions) (omega (arith, w .instructions))))
+
+within-fit : (l : Limits) (t : Tables) → tablesFit (limitsOf l) t ≡ true → Within l (record { stack = []; tables = t })
+unfolding tablesFit limitsOf
+within-fit l t e =
+    let a = left (leb (length (t .functions)) (l .functions) && leb (length (t .symbols)) (l .symbols) && leb (length (t .strings)) (l .strings) && leb (length (t .classes)) (l .classes)) _ e in
+    let b = left (leb (length (t .functions)) (l .functions) && leb (length (t .symbols)) (l .symbols) && leb (length (t .strings)) (l .strings)) _ a in
+    let c = left (leb (length (t .functions)) (l .functions) && leb (length (t .symbols)) (l .symbols)) _ b in
+    let d : instructions (t .functions) ≤ l .instructions =
+    at-most _ _ (right (leb (length (t .functions)) (l .functions) && leb (length (t .symbols)) (l .symbols) && leb (length (t .strings)) (l .strings) && leb (length (t .classes)) (l .classes)) _ e) in
+    record {
+      functions = at-most _ _ (left (leb (length (t .functions)) (l .functions)) _ c);
+      symbols = at-most _ _ (right (leb (length (t .functions)) (l .functions)) _ c);
+      strings = at-most _ _ (right (leb (length (t .functions)) (l .functions) && leb (length (t .symbols)) (l .symbols)) _ b);
+      classes = at-most _ _ (right (leb (length (t .functions)) (l .functions) && leb (length (t .symbols)) (l .symbols) && leb (length (t .strings)) (l .strings)) _ a);
+      instructions = omega (arith, d);
+    }
+
+-- tables that are not within the limits
+tables-over : (l : Limits) (t : Tables) → (Within l (record { stack = []; tables = t }) → ⊥) → tablesFit (limitsOf l) t ≡ false
+tables-over l t h = go (tablesFit (limitsOf l) t) refl
+  where
+    go : (x : Bool) → tablesFit (limitsOf l) t ≡ x → x ≡ false
+    go true e = absurd (h (within-fit l t e))
+    go false e = refl
+
+-- ---- questions 2 to 16, question 1 being answered yes
+
+areas-fit : (m n : ℕ) → 16384 ≤ m → 16384 ≤ n → areasFit m n ≡ true
+unfolding areasFit
+areas-fit m n h g = rw (le-leb 16384 m h) (le-leb 16384 n g)
+
+module _ (l : Limits) (m n room : ℕ) (tree out : List ℕ) (first : 16384 ≤ m) (second : 16384 ≤ n) where
+  abbrev answer : Answer (List ℕ)
+  answer = lowerAnswer (limitsOf l) m n room tree
+
+  -- 2 to 13
+  pub answers-checked : (r : Checked) (q : ℕ) → said r ≡ settled tree → r ≡ No q → Answers (Refused q) answer out out
+  answers-checked r q h e = refuses answer q out (answer-checked (limitsOf l) m n room tree (areas-fit m n first second) q (answer-refused r tree q h e))
+
+  module _ (T : TreeAt tree) where
+    checks : Checks tree (treeBlock tree)
+    checks = check-gives tree (treeBlock tree) (T .answer)
+
+    slots-are : slotsFit (compile (treeBlock tree) .tables) ≡ fitsBlock [] (treeBlock tree)
+    slots-are = slots-fit (treeBlock tree) (targets-asked (treeBlock tree) (treeBlock tree) (checks .formed))
+
+    -- 14
+    pub answers-slots : fitsBlock [] (treeBlock tree) ≡ false → Answers (Refused 14) answer out out
+    answers-slots e = refuses answer 14 out (answer-slots (limitsOf l) m n room tree (areas-fit m n first second) (treeBlock tree) checks (slots-are ∙ e))
+
+  module _ (F : Fitting tree) (made code tables : List ℕ) (r : Emitted) (h : Compiles r tree made code tables l (compile (treeBlock tree) .tables)) where
+    slots-yes : slotsFit (compile (treeBlock tree) .tables) ≡ true
+    slots-yes = slots-are (F .tree-at) ∙ F .fits
+
+    -- 15
+    pub answers-over : r ≡ Full → Answers (Refused 15) answer out out
+    unfolding Compiles
+    answers-over e =
+        let g : Compiles Full tree made code tables l (compile (treeBlock tree) .tables) = subst (λ (x : Emitted). Compiles x tree made code tables l (compile (treeBlock tree) .tables)) e h in
+        refuses answer 15 out
+        (answer-over (limitsOf l) m n room tree (areas-fit m n first second) (treeBlock tree) (checks (F .tree-at)) slots-yes (tables-over l (compile (treeBlock tree) .tables) g))
+
+    module _ (p : ℕ) (k : Counts) (e : r ≡ Done p k) where
+      compiled : (tablesOf tree made code tables k ≡ compile (treeBlock tree) .tables) × Sound made code tables k l
+      unfolding Compiles
+      compiled = subst (λ (x : Emitted). Compiles x tree made code tables l (compile (treeBlock tree) .tables)) e h
+
+      pub compiled-sound : Sound made code tables k l
+      compiled-sound = compiled .1
+
+      tables-yes : tablesFit (limitsOf l) (compile (treeBlock tree) .tables) ≡ true
+      unfolding stateOf
+      tables-yes =
+          ap (tablesFit (limitsOf l)) (sym (compiled .0)) ∙ tables-within l (stateOf tree made code tables k) (within-sound tree made code tables k l (compiled .1))
+
+      module _ (size : ℕ) (sized : size ≡ length (moduleBytes (tablesOf tree made code tables k))) where
+        size-is : size ≡ length (moduleBytes (compile (treeBlock tree) .tables))
+        size-is = sized ∙ ap (λ (t : Tables). length (moduleBytes t)) (compiled .0)
+
+        -- 16
+        pub answers-room : room < size → Answers (Refused 16) answer out out
+        answers-room g =
+            refuses answer 16 out
+            (answer-room (limitsOf l) m n room tree (areas-fit m n first second) (treeBlock tree) (checks (F .tree-at)) slots-yes tables-yes (omega (arith, size-is)))
+
+        pub answers-module : size ≤ room → (out′ : List ℕ) (w : ℕ) → Wrote w (moduleBytes (tablesOf tree made code tables k)) out out′ → Answers (Written w) answer out out′
+        answers-module g out′ w W =
+            writes answer (moduleBytes (compile (treeBlock tree) .tables)) w out out′
+            (answer-module (limitsOf l) m n room tree (areas-fit m n first second) (treeBlock tree) (checks (F .tree-at)) slots-yes tables-yes (omega (arith, size-is)))
+            (W .count ∙ ap (λ (t : Tables). length (moduleBytes t)) (compiled .0))
+            (W .out ∙ ap (λ (t : Tables). written (moduleBytes t) out) (compiled .0))
+
+-- ---- the whole call
+
+abbrev pub officeLimits : Limits
+officeLimits = record { functions = 256; symbols = 1024; strings = 512; classes = 64; instructions = 8192 }
+
+pub office-limited : Limited officeLimits
+office-limited = record { functions = omega arith; symbols = omega arith; strings = omega arith; classes = omega arith; instructions = omega arith }
+
+module _ (tree area₁ area₂ out : List ℕ) where
+  areas-no : (areasFit (length area₁) (length area₂) ≡ false) → Lowers (Refused 1) area₁ area₂ out (lowerCall office tree area₁ area₂ out)
+  unfolding lowerCall areaAfter
+  areas-no e =
+      let a = refuses (lowerAnswer office (length area₁) (length area₂) (length out) tree) 1 out (answer-areas office (length area₁) (length area₂) (length out) tree e) in
+      record { answer = a .answer; first = rw (e, areaAfter) refl; second = rw (e, areaAfter) refl; output = a .output }
+
+  pub lowers-first : length area₁ < 16384 → Lowers (Refused 1) area₁ area₂ out (lowerCall office tree area₁ area₂ out)
+  unfolding areasFit
+  lowers-first h = areas-no (rw (lt-leb 16384 (length area₁) h) refl)
+
+  pub lowers-second : 16384 ≤ length area₁ → length area₂ < 16384 → Lowers (Refused 1) area₁ area₂ out (lowerCall office tree area₁ area₂ out)
+  unfolding areasFit
+  lowers-second g h = areas-no (rw (le-leb 16384 (length area₁) g) (lt-leb 16384 (length area₂) h))
+
+  pub lowers-all : 16384 ≤ length area₁ → 16384 ≤ length area₂ → (r : Lowered) (out′ mid₁ mid₂ end₁ end₂ : List ℕ)
+      → Answers r (lowerAnswer (limitsOf officeLimits) (length area₁) (length area₂) (length out) tree) out out′
+      → length mid₁ ≡ length area₁ → length mid₂ ≡ length area₂ → end₁ ≡ zeros mid₁ → end₂ ≡ zeros mid₂
+      → Lowers r end₁ end₂ out′ (lowerCall office tree area₁ area₂ out)
+  unfolding lowerCall areaAfter limitsOf office zeros
+  lowers-all g h r out′ mid₁ mid₂ end₁ end₂ A p q x y =
+      let e = areas-fit (length area₁) (length area₂) g h in
+      record {
+        answer = A .answer;
+        first = rw (e, areaAfter) (x ∙ ap (λ (n : ℕ). replicate {A = ℕ} n 0) p);
+        second = rw (e, areaAfter) (y ∙ ap (λ (n : ℕ). replicate {A = ℕ} n 0) q);
+        output = A .output;
+      }

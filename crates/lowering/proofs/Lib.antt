@@ -1,0 +1,5 @@
+pub mod Outcome
+mod Beginning
+mod Compiling
+mod Answering
+mod Clearing

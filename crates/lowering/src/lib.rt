@@ -1,0 +1,104 @@
+// The lowering of a tree: questions 1 to 16, and the module's bytes.
+mod compile; // compile.rt: the tables of an accepted tree
+
+use crate::compile::compile;
+use fits::statements::check_slots;
+use module::module_size;
+use module::write_module;
+use state::Emitted;
+use state::Limits;
+use tree::Checked;
+use tree::check_tree;
+ghost use mathlib.Core.Path.{_≡_};
+ghost use Prim.Native.Nat.{_≤_};
+ghost use lib.ListN.{length};
+ghost use Rattle.definitions.specs.Module.{office};
+ghost use Rattle.definitions.specs.Calls.{zeros, lowerAnswer, lowerCall};
+ghost use Rattle.state.specs.State.{limitsOf, Limited};
+ghost use Rattle.lowering.specs.Compiled.{Fitting};
+ghost use Rattle.lowering.specs.Lowered.{Answers, Lowers};
+
+// How many bytes of the output are the module; or the number of the first question answered no.
+pub enum Lowered {
+    Wrote(usize),
+    Refused(u32),
+}
+
+// Every word 0.
+fn clear(area: &mut [u32])
+    ensures { λ _. ⌜ now (area .exit) ≡ zeros (now (area .entry)) ⌝ }
+{
+    let mut i = 0usize;
+    while i < area.len() {
+        area[i] = 0;
+        i += 1;
+    }
+}
+
+// Questions 15 and 16, and the module; the slices keep what was worked out.
+fn lower_fitting(
+    tree: &[u8],
+    code: &mut [u32],
+    tables: &mut [u32],
+    out: &mut [u8],
+    l: Limits,
+) -> Lowered
+    requires { ⌜ (16384 ≤ length (now code)) × (16384 ≤ length (now tables)) × Limited l × Fitting (now tree) ⌝ }
+    ensures { λ r. ⌜ Answers r (lowerAnswer (limitsOf l) (length (now (code .entry))) (length (now (tables .entry))) (length (now (out .entry))) (now (tree .entry))) (now (out .entry)) (now (out .exit)) ⌝ }
+{
+    let mut made = [0u8; 20500];
+    let compiled = compile(tree, &mut made, code, tables, l);
+    let Emitted::Done(_, k) = compiled else {
+        return Lowered::Refused(15);
+    };
+    let size = module_size(tree, &made, code, tables, k);
+    if out.len() < size {
+        return Lowered::Refused(16);
+    }
+    let n = write_module(tree, &made, code, tables, k, size, out);
+    Lowered::Wrote(n)
+}
+
+// Questions 2 to 16, and the module.
+fn lower_into(
+    tree: &[u8],
+    code: &mut [u32],
+    tables: &mut [u32],
+    out: &mut [u8],
+    l: Limits,
+) -> Lowered
+    requires { ⌜ (16384 ≤ length (now code)) × (16384 ≤ length (now tables)) × Limited l ⌝ }
+    ensures { λ r. ⌜ Answers r (lowerAnswer (limitsOf l) (length (now (code .entry))) (length (now (tables .entry))) (length (now (out .entry))) (now (tree .entry))) (now (out .entry)) (now (out .exit)) ⌝ }
+{
+    let checked = check_tree(tree);
+    if let Checked::Refused(q) = checked {
+        return Lowered::Refused(q);
+    }
+    if check_slots(tree) {
+        return lower_fitting(tree, code, tables, out, l);
+    }
+    Lowered::Refused(14)
+}
+
+// The module of a tree, from the output's first byte on. Both work areas are zero afterwards, but after refusal 1, which leaves them.
+pub fn lower(tree: &[u8], area1: &mut [u32], area2: &mut [u32], out: &mut [u8]) -> Lowered
+    ensures { λ r. ⌜ Lowers r (now (area1 .exit)) (now (area2 .exit)) (now (out .exit)) (lowerCall office (now (tree .entry)) (now (area1 .entry)) (now (area2 .entry)) (now (out .entry))) ⌝ }
+{
+    if area1.len() < 16384 {
+        return Lowered::Refused(1);
+    }
+    if area2.len() < 16384 {
+        return Lowered::Refused(1);
+    }
+    let l = Limits {
+        functions: 256,
+        symbols: 1024,
+        strings: 512,
+        classes: 64,
+        instructions: 8192,
+    };
+    let r = lower_into(tree, area1, area2, out, l);
+    clear(area1);
+    clear(area2);
+    r
+}

@@ -1,0 +1,11 @@
+pub mod Adding
+pub mod Skipping
+pub mod Kinded
+pub mod Growing
+pub mod Gathering
+pub mod Params
+pub mod Holding
+pub mod Ordering
+pub mod Removing
+pub mod Referring
+pub mod Capturing

@@ -1,0 +1,15 @@
+use Rattle.slots.proofs.Gathering.{name-over, name-next}
+use borrow.Author.Needs.{needs}
+use Rattle.slots.proofs.collect.gather_name.Statement.{statement}
+use Rattle.slots.proofs.collect.gather_name.Tie as tie
+use Rattle.slots.proofs.collect.gather_name.Reads as reads
+use Rattle.slots.proofs.collect.gather_name.Lts as lts
+use Rattle.slots.proofs.add.add_name.Reads as add-name-reads
+
+pub gather-name-spec : {M : Type 1} → statement M
+gather-name-spec = tie.close (tie.spec
+    (λ c κs. search needs)  -- add-name-requires
+    (λ c. search needs)  -- same-length
+    (λ c. name-over _ _ _ _ _ _ (c .before .before .before .add-name .ensures) _ (c .before .before .before .before .before .before .before .pre .0) (c .before .before .before .add-name .kept .1 .0) (c .if1 .taken))  -- returns
+    (λ c. search needs)  -- same-length-2
+    (λ c. name-next _ _ _ _ _ _ (c .before .before .before .add-name .ensures) (c .if1 .left)))  -- returns-2

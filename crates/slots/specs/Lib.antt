@@ -1,0 +1,2 @@
+pub mod Slotted
+pub mod Held

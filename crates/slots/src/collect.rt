@@ -1,0 +1,203 @@
+// The locals of a def or method: its parameters, then the names that its block gives a slot.
+use crate::Locals;
+use crate::add::add_name;
+use crate::skip::skip_expr;
+use crate::skip::skip_stmt;
+use parts::names::name_end;
+use parts::numbers::u16_at;
+ghost use mathlib.Core.Path.{_≡_};
+ghost use Prim.Native.Nat.{_+_, _<_, _≤_};
+ghost use lib.ListN.{length, getD};
+ghost use Rattle.definitions.specs.Slots.{add, localsStmt, localsBlock, localsBranches};
+ghost use Rattle.parts.specs.Places.{nameBytes, nameEnd, ParamsAt, paramsAt};
+ghost use Rattle.tree.specs.StmtAt.{stmtAt, blockAt, branchesAt, StmtReads, BlockReads, BranchesRead, BranchAt, bodyAt, IfAt, ifAt, elifsAt, ForAt, forAt};
+ghost use Rattle.slots.specs.Slotted.{firstNames, Collected, Room, Gathers};
+
+// The next position in the tree and how many slots there are; or that there are more than 255.
+pub enum Gathered {
+    Next(usize, u32),
+    Over,
+}
+
+// The slots with the name at `at`.
+fn gather_name(tree: &[u8], at: usize, next: usize, slots: &mut [u32], n: u32) -> Gathered
+    requires { ⌜ Room (now tree) (now slots) n × (at < length (now tree)) ⌝ }
+    ensures { λ r. ⌜ Gathers r (now (tree .entry)) (now (slots .exit)) next (add (nameBytes (now (tree .entry)) at) (firstNames (now (tree .entry)) n (now (slots .entry)))) ⌝ }
+{
+    let k = add_name(tree, slots, n, at);
+    if 255 < k {
+        return Gathered::Over;
+    }
+    Gathered::Next(next, k)
+}
+
+// A statement that holds no block of this function.
+fn gather_plain(tree: &[u8], at: usize, depth: u32, slots: &mut [u32], n: u32) -> Gathered
+    requires { ⌜ Room (now tree) (now slots) n × StmtReads depth (now tree) at × (getD (now tree) at 0 ≡ 6 → ⊥) × (getD (now tree) at 0 ≡ 7 → ⊥) × (getD (now tree) at 0 ≡ 8 → ⊥) ⌝ }
+    ensures { λ r. ⌜ Gathers r (now (tree .entry)) (now (slots .exit)) (stmtAt depth (now (tree .entry)) at .end) (localsStmt (stmtAt depth (now (tree .entry)) at .value) (firstNames (now (tree .entry)) n (now (slots .entry)))) ⌝ }
+{
+    let end = skip_stmt(tree, at, depth);
+    let kind = tree[at];
+    let a = at + 1;
+    match kind {
+        5 => {
+            if tree[a] == 6 {
+                return gather_name(tree, a + 1, end, slots, n);
+            }
+            Gathered::Next(end, n)
+        }
+        9 => gather_name(tree, a, end, slots, n),
+        10 => gather_name(tree, a, end, slots, n),
+        _ => Gathered::Next(end, n),
+    }
+}
+
+// A statement.
+fn gather_stmt(tree: &[u8], at: usize, depth: u32, slots: &mut [u32], n: u32) -> Gathered
+    requires { ⌜ Room (now tree) (now slots) n × StmtReads depth (now tree) at ⌝ }
+    ensures { λ r. ⌜ Gathers r (now (tree .entry)) (now (slots .exit)) (stmtAt depth (now (tree .entry)) at .end) (localsStmt (stmtAt depth (now (tree .entry)) at .value) (firstNames (now (tree .entry)) n (now (slots .entry)))) ⌝ }
+{
+    let kind = tree[at];
+    match kind {
+        6 => gather_if(tree, at + 1, depth - 1, slots, n),
+        7 => gather_branch(tree, at + 1, depth - 1, slots, n),
+        8 => gather_for(tree, at + 1, depth - 1, slots, n),
+        _ => gather_plain(tree, at, depth, slots, n),
+    }
+}
+
+// A block.
+fn gather_block(tree: &[u8], at: usize, depth: u32, slots: &mut [u32], n: u32) -> Gathered
+    requires { ⌜ Room (now tree) (now slots) n × BlockReads depth (now tree) at ⌝ }
+    ensures { λ r. ⌜ Gathers r (now (tree .entry)) (now (slots .exit)) (blockAt depth (now (tree .entry)) at .end) (localsBlock (blockAt depth (now (tree .entry)) at .value) (firstNames (now (tree .entry)) n (now (slots .entry)))) ⌝ }
+{
+    let mut left = u16_at(tree, at);
+    let mut p = at + 2;
+    let mut k = n;
+    while 0 < left {
+        let one = gather_stmt(tree, p, depth, slots, k);
+        let Gathered::Next(next, m) = one else {
+            return Gathered::Over;
+        };
+        p = next;
+        k = m;
+        left -= 1;
+    }
+    Gathered::Next(p, k)
+}
+
+// A condition and a block.
+fn gather_branch(tree: &[u8], at: usize, depth: u32, slots: &mut [u32], n: u32) -> Gathered
+    requires { ⌜ Room (now tree) (now slots) n × BranchAt depth (now tree) at ⌝ }
+    ensures { λ r. ⌜ Gathers r (now (tree .entry)) (now (slots .exit)) (bodyAt depth (now (tree .entry)) at .end) (localsBlock (bodyAt depth (now (tree .entry)) at .value) (firstNames (now (tree .entry)) n (now (slots .entry)))) ⌝ }
+{
+    let p = skip_expr(tree, at, depth);
+    gather_block(tree, p, depth, slots, n)
+}
+
+// A first branch, a count of elifs, these, and an else block or none.
+fn gather_if(tree: &[u8], at: usize, depth: u32, slots: &mut [u32], n: u32) -> Gathered
+    requires { ⌜ Room (now tree) (now slots) n × IfAt depth (now tree) at ⌝ }
+    ensures { λ r. ⌜ Gathers r (now (tree .entry)) (now (slots .exit)) (elifsAt depth (now (tree .entry)) at .end)
+        (localsBranches (elifsAt depth (now (tree .entry)) at .value) (localsBlock (bodyAt depth (now (tree .entry)) at .value) (firstNames (now (tree .entry)) n (now (slots .entry))))) ⌝ }
+{
+    let first = gather_branch(tree, at, depth, slots, n);
+    let Gathered::Next(p, k) = first else {
+        return Gathered::Over;
+    };
+    let count = u16_at(tree, p);
+    gather_elifs(tree, p + 2, depth, count, slots, k)
+}
+
+// So many elifs, and an else block or none.
+fn gather_elifs(
+    tree: &[u8],
+    at: usize,
+    depth: u32,
+    count: u32,
+    slots: &mut [u32],
+    n: u32,
+) -> Gathered
+    requires { ⌜ Room (now tree) (now slots) n × BranchesRead depth count (now tree) at ⌝ }
+    ensures { λ r. ⌜ Gathers r (now (tree .entry)) (now (slots .exit)) (branchesAt depth count (now (tree .entry)) at .end) (localsBranches (branchesAt depth count (now (tree .entry)) at .value) (firstNames (now (tree .entry)) n (now (slots .entry)))) ⌝ }
+{
+    let mut p = at;
+    let mut left = count;
+    let mut k = n;
+    while 0 < left {
+        let one = gather_branch(tree, p, depth, slots, k);
+        let Gathered::Next(next, m) = one else {
+            return Gathered::Over;
+        };
+        p = next;
+        k = m;
+        left -= 1;
+    }
+    gather_else(tree, p, depth, slots, k)
+}
+
+// The byte 0; or 1, and an else block.
+fn gather_else(tree: &[u8], at: usize, depth: u32, slots: &mut [u32], n: u32) -> Gathered
+    requires { ⌜ Room (now tree) (now slots) n × BranchesRead depth 0 (now tree) at ⌝ }
+    ensures { λ r. ⌜ Gathers r (now (tree .entry)) (now (slots .exit)) (branchesAt depth 0 (now (tree .entry)) at .end) (localsBranches (branchesAt depth 0 (now (tree .entry)) at .value) (firstNames (now (tree .entry)) n (now (slots .entry)))) ⌝ }
+{
+    if tree[at] == 0 {
+        return Gathered::Next(at + 1, n);
+    }
+    gather_block(tree, at + 1, depth, slots, n)
+}
+
+// A loop variable, a condition and a block.
+fn gather_for(tree: &[u8], at: usize, depth: u32, slots: &mut [u32], n: u32) -> Gathered
+    requires { ⌜ Room (now tree) (now slots) n × ForAt depth (now tree) at ⌝ }
+    ensures { λ r. ⌜ Gathers r (now (tree .entry)) (now (slots .exit)) (bodyAt depth (now (tree .entry)) (nameEnd (now (tree .entry)) at) .end)
+        (localsBlock (bodyAt depth (now (tree .entry)) (nameEnd (now (tree .entry)) at) .value) (add (nameBytes (now (tree .entry)) at) (firstNames (now (tree .entry)) n (now (slots .entry))))) ⌝ }
+{
+    let p = name_end(tree, at);
+    let first = gather_name(tree, at, p, slots, n);
+    let Gathered::Next(q, k) = first else {
+        return Gathered::Over;
+    };
+    gather_branch(tree, q, depth, slots, k)
+}
+
+// The places of the parameters at `at`.
+pub fn put_params(tree: &[u8], at: usize, slots: &mut [u32]) -> Locals
+    requires { ⌜ (length (now tree) ≤ 32768) × (256 ≤ length (now slots)) × ParamsAt (now tree) at ⌝ }
+    ensures { λ r. ⌜ Collected r (now (tree .entry)) (now (slots .exit)) (paramsAt (now (tree .entry)) at .value) ⌝ }
+{
+    let count = u16_at(tree, at);
+    if 255 < count {
+        return Locals::TooMany;
+    }
+    let mut p = at + 2;
+    let mut i: u32 = 0;
+    while i < count {
+        slots[i as usize] = p as u32;
+        p = name_end(tree, p);
+        i += 1;
+    }
+    Locals::Count(count)
+}
+
+// The slots of a def or method, by its parameters and its block.
+pub fn collect_locals(
+    tree: &[u8],
+    params: usize,
+    block: usize,
+    depth: u32,
+    slots: &mut [u32],
+) -> Locals
+    requires { ⌜ (length (now tree) ≤ 32768) × (256 ≤ length (now slots)) × ParamsAt (now tree) params × BlockReads depth (now tree) block ⌝ }
+    ensures { λ r. ⌜ Collected r (now (tree .entry)) (now (slots .exit)) (localsBlock (blockAt depth (now (tree .entry)) block .value) (paramsAt (now (tree .entry)) params .value)) ⌝ }
+{
+    let begun = put_params(tree, params, slots);
+    let Locals::Count(k) = begun else {
+        return Locals::TooMany;
+    };
+    let all = gather_block(tree, block, depth, slots, k);
+    let Gathered::Next(_, n) = all else {
+        return Locals::TooMany;
+    };
+    Locals::Count(n)
+}

@@ -1,0 +1,6 @@
+pub mod Arms
+pub mod Sequences
+pub mod Blocks
+pub mod Jumping
+pub mod Functions
+pub mod Classes

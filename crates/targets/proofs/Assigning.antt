@@ -1,0 +1,161 @@
+-- Assignments by the kind of the target: what each holds, its code and its end.
+use Prim.Native.Nat.{ℕ, _+_, _-_, _≤_, _<_}
+use mathlib.Core.Path.{_≡_, refl, sym, ap, _∙_, subst}
+use mathlib.Core.Bool.{Bool, true, false, _&&_, true≢false}
+use mathlib.Core.List.{List, [], _∷_}
+use native.Mathlib.Omega.{arith}
+use lib.ListN.{length, getD}
+use Rattle.definitions.specs.Bytes.{Name}
+use Rattle.definitions.specs.Tree.{tupleD, Expr, var, attr, display, index, Exprs, View, asOther, view, viewDisplay}
+use Rattle.definitions.specs.Instruction.{Instr, StoreAttr, StoreIndex}
+use Rattle.definitions.specs.Tables.{Emit, emits, one, _⨟_, intern}
+use Rattle.definitions.specs.Wellformed.{askExpr}
+use Rattle.definitions.specs.Lower.{store, unpack, assignBy, emitExpr}
+use Rattle.parts.specs.Places.{Node, node, countAt, nameBytes, nameEnd, There}
+use Rattle.parts.proofs.Nodes.{Seen}
+use Rattle.exprs.specs.ExprAt.{exprAt, ExprReads, varAt, attributeAt, displayAt, indexAt, ListAt, listAt, secondAt}
+use Rattle.exprs.proofs.ExprViews.{expr-deep, expr-inside, view-var, view-attribute, view-tuple, view-index}
+use Rattle.state.specs.Words.{nameAt}
+use Rattle.state.specs.Fits.{fitsExpr, fitsTarget}
+use Rattle.state.specs.State.{State, emitAt, Emits}
+use Rattle.state.specs.declared.Counts.{Counts}
+use Rattle.state.specs.declared.Limits.{Limits}
+use Rattle.state.specs.declared.Emitted.{Emitted}
+use Rattle.state.proofs.Answers.{emits-as}
+use Rattle.state.proofs.Emission.{base-kept, at-seq, at-three, at-four}
+use Rattle.expressions.specs.Lowerable.{Lowerable, exprCode}
+use Rattle.targets.specs.Elements.{elementsAt}
+use Rattle.targets.specs.Assigned.{AssignLowerable, assignCode, VariableAssigned, AttributeAssigned, PairLowerable, IndexAssigned, TupleAssigned}
+use Rattle.targets.proofs.Forms.{other-form}
+use Rattle.targets.proofs.Unpacking.{list-is}
+
+and-both : (a b : Bool) → a && b ≡ true → (a ≡ true) × (b ≡ true)
+and-both true b e = (refl, e)
+and-both false b e = absurd (true≢false (sym e))
+
+-- the assignment at p holds what Parts says; its code is e, and it ends at q
+pub record AssignArm (Parts : Type 0) (d : ℕ) (t : List ℕ) (names : List Name) (p : ℕ) (e : Emit) (q : ℕ) : Type 0 where
+  pub parts : Parts
+  pub code : e ≡ assignCode d t names p
+  pub end : q ≡ secondAt d t p .end
+
+module _ (d : ℕ) (t : List ℕ) (names : List Name) (p : ℕ) (r : AssignLowerable d t names p) where
+  pub assign-inside : p < length t
+  assign-inside = expr-inside d t p (r .target)
+
+  pub assign-deep : 0 < d
+  assign-deep = let h = expr-deep d t p (r .target) in omega arith
+
+  -- the target and where it ends, by other words
+  module _ (x : Node Expr) (is : exprAt d t p ≡ x) where
+    asked : askExpr 13 (x .value) ≡ true
+    asked = ap (λ (n : Node Expr). askExpr 13 (n .value)) (sym is) ∙ r .args
+
+    fitted : fitsTarget names (x .value) ≡ true
+    fitted = ap (λ (n : Node Expr). fitsTarget names (n .value)) (sym is) ∙ r .fits
+
+    valued : Lowerable d t names (x .end)
+    valued = subst (λ (n : Node Expr). Lowerable d t names (n .end)) is (r .value)
+
+    coded : assignBy (view (x .value)) names (exprCode d t names (x .end)) ≡ assignCode d t names p
+    coded = ap (λ (n : Node Expr). assignBy (view (n .value)) names (exprCode d t names (n .end))) (sym is)
+
+    ends : exprAt d t (x .end) .end ≡ secondAt d t p .end
+    ends = ap (λ (n : Node Expr). exprAt d t (n .end) .end) (sym is)
+
+  pub arm-variable : getD t p 0 ≡ 6 → AssignArm (VariableAssigned d t names (p + 1)) d t names p
+      (exprCode d t names (nameEnd t (p + 1)) ⨟ store names (nameAt t (p + 1))) (exprAt d t (nameEnd t (p + 1)) .end)
+  unfolding varAt view assignBy nameBytes nameAt
+  arm-variable k =
+      let v = view-var d t p (r .target) k in
+      record { parts = record { name = v .parts; value = valued _ (v .is) }; code = coded _ (v .is); end = ends _ (v .is) }
+
+  pub arm-attribute : getD t p 0 ≡ 10 → AssignArm (AttributeAssigned d t names (p + 1)) d t names p
+      (exprCode (d - 1) t names (p + 1) ⨟ exprCode d t names (nameEnd t (exprAt (d - 1) t (p + 1) .end)) ⨟ intern (nameAt t (exprAt (d - 1) t (p + 1) .end)) (λ k. one (StoreAttr k)))
+      (exprAt d t (nameEnd t (exprAt (d - 1) t (p + 1) .end)) .end)
+  unfolding attributeAt view assignBy nameBytes nameAt askExpr fitsTarget
+  arm-attribute k =
+      let v = view-attribute d t p (r .target) k in
+      record {
+        parts = record {
+          deep = assign-deep;
+          object = record { reads = v .parts .object; args = and-both _ _ (asked _ (v .is)) .0; fits = fitted _ (v .is) };
+          name = v .parts .name;
+          value = valued _ (v .is);
+        };
+        code = coded _ (v .is);
+        end = ends _ (v .is);
+      }
+
+  pub arm-tuple : getD t p 0 ≡ 13 → AssignArm (TupleAssigned d t names p) d t names p
+      (exprCode d t names (exprAt d t p .end) ⨟ unpack names (elementsAt (d - 1) t (countAt t (p + 1)) (p + 3)) 0) (secondAt d t p .end)
+  unfolding displayAt view viewDisplay assignBy
+  arm-tuple k =
+      let v = view-tuple d t p (r .target) k in
+      let z : p + 1 + 2 ≡ p + 3 = omega arith in
+      record {
+        parts = record { deep = assign-deep; target = r .target; elements = v .parts; value = r .value };
+        code =
+            ap (λ (es : Exprs). exprCode d t names (exprAt d t p .end) ⨟ unpack names es 0)
+            (ap (elementsAt (d - 1) t (countAt t (p + 1))) (sym z) ∙ sym (list-is (d - 1) t (countAt t (p + 1)) (p + 1 + 2) (v .parts .elements)))
+            ∙ ap (λ (n : Node Expr). assignBy (view (n .value)) names (exprCode d t names (exprAt d t p .end))) (sym (v .is));
+        end = refl;
+      }
+
+  pub arm-index : getD t p 0 ≡ 16 → AssignArm (IndexAssigned d t names (p + 1)) d t names p
+      (exprCode (d - 1) t names (p + 1) ⨟ exprCode (d - 1) t names (exprAt (d - 1) t (p + 1) .end) ⨟ exprCode d t names (secondAt (d - 1) t (p + 1) .end) ⨟ one StoreIndex)
+      (exprAt d t (secondAt (d - 1) t (p + 1) .end) .end)
+  unfolding indexAt view assignBy askExpr fitsTarget
+  arm-index k =
+      let v = view-index d t p (r .target) k in
+      let a = and-both _ _ (asked _ (v .is)) in
+      let f = and-both _ _ (fitted _ (v .is)) in
+      record {
+        parts = record {
+          deep = assign-deep;
+          pair = record {
+            first = record { reads = v .parts .first; args = a .0; fits = f .0 };
+            second = record { reads = v .parts .second; args = a .1; fits = f .1 };
+          };
+          value = valued _ (v .is);
+        };
+        code = coded _ (v .is);
+        end = ends _ (v .is);
+      }
+
+  -- question 10 refuses the other targets
+  pub arm-other : (getD t p 0 ≡ 6 → ⊥) → (getD t p 0 ≡ 10 → ⊥) → (getD t p 0 ≡ 13 → ⊥) → (getD t p 0 ≡ 16 → ⊥) → assignCode d t names p ≡ emits []
+  unfolding assignBy
+  arm-other a b f g = ap (λ (w : View). assignBy w names (exprCode d t names (exprAt d t p .end))) (other-form d t p (r .target) a b f g)
+
+-- the pair of an index first
+pub pair-first : (a b e f : Emit) (base : ℕ) (s : State) → base ≤ length (s .stack) → emitAt base ((a ⨟ b) ⨟ e ⨟ f) s ≡ emitAt base (a ⨟ b ⨟ e ⨟ f) s
+pair-first a b e f base s h =
+    at-three base (a ⨟ b) e f s h ∙ ap (λ (u : State). emitAt base f (emitAt base e u)) (at-seq base a b s h) ∙ sym (at-four base a b e f s h)
+
+-- ---- by another word for the position
+
+pub lowerable-at : (d : ℕ) (t : List ℕ) (names : List Name) (p q : ℕ) → q ≡ p → Lowerable d t names p → Lowerable d t names q
+lowerable-at d t names p q e r = subst (Lowerable d t names) (sym e) r
+
+pub there-at : (t : List ℕ) (p q : ℕ) → q ≡ p → There t p → There t q
+there-at t p q e r = subst (There t) (sym e) r
+
+pub expr-emits-at : (r : Emitted) (t made code tables : List ℕ) (c : Counts) (l : Limits) (base : ℕ) (s : State) (d : ℕ) (names : List Name) (p q : ℕ) → q ≡ p
+    → Emits r t made code tables c l (exprAt d t q .end) (emitAt base (exprCode d t names q) s) → Emits r t made code tables c l (exprAt d t p .end) (emitAt base (exprCode d t names p) s)
+expr-emits-at r t made code tables c l base s d names p q e h = subst (λ (x : ℕ). Emits r t made code tables c l (exprAt d t x .end) (emitAt base (exprCode d t names x) s)) e h
+
+pub symbol-emits-at : (r : Emitted) (t made code tables : List ℕ) (c : Counts) (l : Limits) (base : ℕ) (s : State) (n : ℕ) (f : ℕ → Instr) (p q : ℕ) → q ≡ p
+    → Emits r t made code tables c l n (emitAt base (intern (nameAt t q) (λ k. one (f k))) s) → Emits r t made code tables c l n (emitAt base (intern (nameAt t p) (λ k. one (f k))) s)
+symbol-emits-at r t made code tables c l base s n f p q e h = subst (λ (x : ℕ). Emits r t made code tables c l n (emitAt base (intern (nameAt t x) (λ k. one (f k))) s)) e h
+
+pub reads-at : (d : ℕ) (t : List ℕ) (p q : ℕ) → q ≡ p → ExprReads d t p → ExprReads d t q
+reads-at d t p q e r = subst (ExprReads d t) (sym e) r
+
+pub second-at : (d : ℕ) (t : List ℕ) (p q r : ℕ) → q ≡ exprAt d t p .end → r ≡ exprAt d t q .end → r ≡ secondAt d t p .end
+second-at d t p q r e f = f ∙ ap (λ (x : ℕ). exprAt d t x .end) e
+
+pub pair-emits : (r : Emitted) (t made code tables : List ℕ) (c : Counts) (l : Limits) (q q′ base : ℕ) (s : State) (a b e f g : Emit) → base ≤ length (s .stack) → (a ⨟ b ⨟ e ⨟ f) ≡ g → q ≡ q′
+    → Emits r t made code tables c l q (emitAt base ((a ⨟ b) ⨟ e ⨟ f) s) → Emits r t made code tables c l q′ (emitAt base g s)
+pair-emits r t made code tables c l q q′ base s a b e f g h x y z =
+    emits-as r t made code tables c l q q′ _ _ y (pair-first a b e f base s h ∙ ap (λ (k : Emit). emitAt base k s) x) z

@@ -1,0 +1,3 @@
+// Assignments, with the targets that they store to, and the statements that hold no block.
+pub mod targets; // targets.rt: elements of tuple targets
+pub mod assign; // assign.rt: assignments by the form of the target
