@@ -7,6 +7,7 @@ use rulketoos::{Areas, Refusal};
 
 /// What lies in areas and outputs before a call.
 const DIRT: u8 = 0xa5;
+const DIRT_WORD: u32 = 0xa5a5_a5a5;
 
 /// The number of a refusal, as the model gives it.
 pub fn number(refusal: Refusal) -> u8 {
@@ -48,6 +49,19 @@ fn all(words: &[u32], word: u32) -> bool {
 }
 
 impl Lent {
+    /// Areas of these lengths and an output of that room, all dirt.
+    fn soil(&mut self, areas: [usize; 2], room: usize) {
+        for (area, length) in [
+            (&mut self.areas.first, areas[0]),
+            (&mut self.areas.second, areas[1]),
+        ] {
+            area.clear();
+            area.resize(length, DIRT_WORD);
+        }
+        self.out.clear();
+        self.out.resize(room, DIRT);
+    }
+
     /// One call on dirty buffers: the answer, and what every buffer holds after it.
     fn call(
         &mut self,
@@ -56,23 +70,12 @@ impl Lent {
         room: usize,
         whole: &Result<Vec<u8>, u8>,
     ) -> Result<(), String> {
-        let dirt = u32::from_ne_bytes([DIRT; 4]);
-        for (area, length) in [&mut self.areas.first, &mut self.areas.second]
-            .into_iter()
-            .zip(areas)
-        {
-            area.clear();
-            area.resize(length, dirt);
-        }
-        self.out.clear();
-        self.out.resize(room, DIRT);
+        self.soil(areas, room);
         let ours = rulketoos::lower(tree, &mut self.areas, &mut self.out).map_err(number);
         let expected = expected(whole, areas, room);
-        if ours != expected.map(<[u8]>::len) {
-            return Err(format!(
-                "ours {ours:?}, the model {:?}",
-                expected.map(<[u8]>::len)
-            ));
+        let count = expected.map(<[u8]>::len);
+        if ours != count {
+            return Err(format!("ours {ours:?}, the model {count:?}"));
         }
         let module = expected.unwrap_or(&[]);
         let (written, rest) = self.out.split_at(module.len());
@@ -82,7 +85,7 @@ impl Lent {
         if rest.iter().any(|&byte| byte != DIRT) {
             return Err("the rest of the output is changed".to_string());
         }
-        let left = if expected == Err(1) { dirt } else { 0 };
+        let left = if expected == Err(1) { DIRT_WORD } else { 0 };
         if !all(&self.areas.first, left) || !all(&self.areas.second, left) {
             return Err(format!("an area is not all {left}"));
         }
@@ -121,13 +124,19 @@ impl Lent {
     ) -> Result<(), String> {
         let plan = model::plan(tree).map_err(|n| format!("plan says {n}"))?;
         let read = model::module::read(module).map_err(|n| format!("reader says {n}"))?;
+        // Each run reads the whole module, so many functions have one list each.
+        let lengths: &[usize] = if plan.functions.len() > 24 {
+            &[12]
+        } else {
+            &[0, 1, 3, 12]
+        };
         for (place, function) in plan.functions.iter().enumerate() {
             let k = place as u64;
             let code = &module[read.functions[place].start..read.functions[place].end];
             if rulketoos::code(module, k) != Ok(code) {
                 return Err(format!("the code of function {k}"));
             }
-            for length in [0, 1, 3, 12] {
+            for &length in lengths {
                 let answers: Vec<u8> = (0..length).map(|_| rng.byte() & 1).collect();
                 let walked = model::walk::walk(&function.parts, &answers);
                 let budget = (answers.len() + 1) * read.functions[place].places.len();

@@ -25,13 +25,24 @@ fn directed_trees() {
     }
 }
 
-#[test]
-fn random_and_damaged_trees() {
+/// Random trees and a damaged copy of each.
+fn random(seed: u64) {
     oracle::ready("random trees, ours");
-    let tally = compare_ours_random(20_261_116, 20_000).unwrap_or_else(|e| panic!("{e}"));
+    let tally = compare_ours_random(seed, 10_000).unwrap_or_else(|e| panic!("{e}"));
     println!("{tally:?}");
-    assert!(tally.accepted > 15_000 && tally.refused[5] > 1_000);
+    assert!(tally.accepted > 9_000 && tally.refused[5] > 1_000);
     assert!(tally.endings.iter().all(|&count| count > 1_000));
+}
+
+// Two tests, since tests run beside each other.
+#[test]
+fn random_trees_first() {
+    random(20_261_116);
+}
+
+#[test]
+fn random_trees_second() {
+    random(20_261_117);
 }
 
 /// The answer of the program `lower`, whose module buffer has 65,536 bytes.
