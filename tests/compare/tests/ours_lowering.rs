@@ -2,7 +2,7 @@
 
 use compare::ours::{compare_ours, compare_ours_random, number, Lent};
 use compare::{Tally, AREA, ROOM};
-use generator::{limits, samples, slow, vectors, Rng};
+use generator::{limits, samples, slow, Rng};
 use rulketoos::Areas;
 
 #[test]
@@ -43,32 +43,6 @@ fn random_trees_first() {
 #[test]
 fn random_trees_second() {
     random(20_261_117);
-}
-
-/// The answer of the program `lower`, whose module buffer has 65,536 bytes.
-fn answer(tree: &[u8], areas: &mut Areas, out: &mut [u8]) -> String {
-    match rulketoos::lower(tree, areas, out) {
-        Ok(count) => generator::text::hex(&out[..count]),
-        Err(refusal) => format!("refused {}", refusal.number()),
-    }
-}
-
-#[test]
-fn tree_vectors() {
-    let path = std::path::Path::new(env!("CARGO_MANIFEST_DIR")).join("../vectors/trees.txt");
-    let text = std::fs::read_to_string(path).expect("trees.txt");
-    let (mut areas, mut out) = (Areas::new(), vec![0; ROOM]);
-    let mut count = 0;
-    for line in text.lines() {
-        let fields: Vec<&str> = line.split('\t').collect();
-        let [name, tree, expected] = fields[..] else {
-            panic!("three fields: {}", fields[0]);
-        };
-        let tree = generator::text::unhex(tree).expect(name);
-        assert_eq!(answer(&tree, &mut areas, &mut out), expected, "{name}");
-        count += 1;
-    }
-    assert_eq!(count, vectors::trees().len());
 }
 
 /// Every length of the output and lengths of the areas around the limit.

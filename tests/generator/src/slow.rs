@@ -11,6 +11,7 @@ pub fn all() -> Vec<Case> {
     cases.extend(texts());
     cases.extend(lambdas());
     cases.extend(nested());
+    cases.extend(stores());
     cases.extend(targets());
     cases.extend(methods());
     cases.extend(parameters());
@@ -32,7 +33,8 @@ fn room(stmt: &[u8], item: usize) -> usize {
     (MAX_TREE - 7 - stmt.len()) / item
 }
 
-/// A statement with a list that fills the tree: first these items, then the last again and again, at most so many in all.
+/// A statement with a list that fills the tree: first these items, then the
+/// last again and again, at most so many in all.
 fn filled(items: &[Bytes], most: usize, hold: impl Fn(&[Bytes]) -> Bytes) -> Bytes {
     let last = items.last().expect("an item");
     let again = room(&hold(items), last.len()).min(most - items.len());
@@ -50,25 +52,42 @@ fn unpacked(items: &[Bytes]) -> Bytes {
     assign(tuple(&[]), list(items))
 }
 
+/// The same names with their ends in front.
+fn turned(names: Vec<String>) -> Vec<String> {
+    let turn = |name: String| {
+        let (head, end) = name.split_at(name.len() - 2);
+        format!("b{end}{head}")
+    };
+    names.into_iter().map(turn).collect()
+}
+
+/// So many names of the same twelve letters, each in another order.
+fn anagrams(count: usize) -> Vec<String> {
+    let order = |n: usize| {
+        let bit = |k: usize| if n >> k & 1 == 1 { "ab" } else { "ba" };
+        (0..10).map(bit).collect()
+    };
+    (0..count).map(order).collect()
+}
+
 /// Most symbols there may be, and as many look-ups of the last as fit.
 fn names() -> Vec<Case> {
-    let mut cases = Vec::new();
-    for length in [2, 3, 5, 10, 29] {
-        let names = if length == 2 {
-            many_names(1_023)
-        } else {
-            alike(1_023, length)
-        };
-        let names = variables(&names);
-        let stmt = filled(
-            &names[..names.len().min(MAX_TREE / (length + 2) - 10)],
-            8_190,
-            unpacked,
-        );
-        cases.push(script(&format!("slow-names-{length}"), &[stmt]));
+    let mut lists = vec![
+        ("2", many_names(1_023)),
+        ("64", alike(480, 64)),
+        ("front", turned(alike(1_023, 10))),
+        ("anagrams", anagrams(1_023)),
+    ];
+    for (word, length) in [("3", 3), ("5", 5), ("10", 10), ("29", 29)] {
+        lists.push((word, alike(1_023, length)));
     }
-    let names = variables(&alike(480, 64));
-    cases.push(script("slow-names-64", &[unpacked(&names)]));
+    let mut cases = Vec::new();
+    for (word, names) in lists {
+        let fitting = (MAX_TREE - 20) / (names[0].len() + 2);
+        let names = &names[..names.len().min(fitting)];
+        let stmt = filled(&variables(names), 8_190, unpacked);
+        cases.push(script(&format!("slow-names-{word}"), &[stmt]));
+    }
     // Calls look their names up twice.
     let calls: Vec<Bytes> = alike(1_023, 3).iter().map(|n| call_name(n, &[])).collect();
     let stmt = filled(&calls, 4_095, unpacked);
@@ -80,6 +99,10 @@ fn names() -> Vec<Case> {
         def("f", &borrowed(&slots), &[unpacked(items)])
     });
     cases.push(script("slow-names-in-def", &[stmt]));
+    // Each loop looks four made names up.
+    let mut stmts = vec![unpacked(&variables(&many_names(300)))];
+    stmts.extend(times(650, &for_("i", none(), &[])));
+    cases.push(script("slow-names-loops", &stmts));
     cases
 }
 
@@ -119,19 +142,47 @@ fn lambdas() -> Vec<Case> {
             ));
         }
     }
-    cases.push(lambdas_with_parameters());
+    for (params, length) in [(55, 16), (120, 3)] {
+        cases.push(lambdas_with_parameters(params, length));
+    }
     cases.push(lambdas_in_wide_def());
+    cases.push(lambdas_in_lambdas());
+    cases.push(lambdas_that_sort());
     cases
 }
 
+/// Lambdas 27 deep around many names and then small lambdas, each of which
+/// takes its parameter from the names.
+fn lambdas_in_lambdas() -> Case {
+    let names = many_names(250);
+    let mut items = variables(&names);
+    items.push(lambda(&["q"], none()));
+    let stmt = filled(&items, 8_000, |items| {
+        let chain = nest(|e| lambda(&[], e), 27, list(items));
+        def("f", &borrowed(&names), &[ret(chain)])
+    });
+    script("slow-lambdas-inner", &[stmt])
+}
+
+/// Lambdas that capture 250 names, which stand in falling order.
+fn lambdas_that_sort() -> Case {
+    let mut names = alike(250, 3);
+    names.reverse();
+    let one = lambda(&[], list(&variables(&names)));
+    let stmt = filled(&[one], 200, |items| {
+        def("f", &borrowed(&names), &[unpacked(items)])
+    });
+    script("slow-lambdas-sorting", &[stmt])
+}
+
 /// Lambdas 28 deep, each with parameters of its own that no name is.
-fn lambdas_with_parameters() -> Case {
-    let names = many_names(200);
-    let params = alike(55, 16);
+fn lambdas_with_parameters(count: usize, length: usize) -> Case {
+    let names = many_names(255 - count);
+    let params = alike(count, length);
     let wrap = |e: Bytes| lambda(&borrowed(&params), e);
     let chain = (0..28).fold(list(&variables(&names)), |e, _| wrap(e));
     script(
-        "slow-lambdas-parameters",
+        &format!("slow-lambdas-parameters-{count}"),
         &[def("f", &borrowed(&names), &[ret(chain)])],
     )
 }
@@ -181,6 +232,20 @@ fn nested() -> Vec<Case> {
     ]
 }
 
+/// A def with the most slots, and as many assignments to the last as 15
+/// allows, or as fit.
+fn stores() -> Vec<Case> {
+    let stores = |most: usize| {
+        let one = |n: &String| assign(var(n), none());
+        let stmts: Vec<Bytes> = alike(255, 3).iter().map(one).collect();
+        filled(&stmts, most, |items| def("f", &[], items))
+    };
+    vec![
+        script("slow-assignments-4095", &[stores(4_095)]),
+        script("slow-assignments-most", &[stores(8_000)]),
+    ]
+}
+
 /// Tuple targets in each other, the inner one first.
 fn targets() -> Vec<Case> {
     let inner = |count: usize| tuple(&variables(&alike(count, 62)));
@@ -193,7 +258,8 @@ fn targets() -> Vec<Case> {
     };
     let nest = |many: usize, count: usize| (0..28).fold(inner(count), |e, _| with(many)(e));
     vec![
-        script("slow-targets-deep", &[assign(nest(31, 430), none())]),
+        script("slow-targets-31", &[assign(nest(31, 430), none())]),
+        script("slow-targets-63", &[assign(nest(63, 250), none())]),
         script(
             "slow-targets-wide",
             &[assign(tuple(&times(2_047, &var("v"))), none())],

@@ -59,7 +59,8 @@ pub fn lower(tree: &[u8]) -> Result<Vec<u8>, Failure> {
     answer.map_err(|panic| Failure::Panicked(panic_text(panic.as_ref())))
 }
 
-/// The Rust's own part alone: its module of a tree that was read before. No bytes are read or written.
+/// The Rust's own part alone: its module of a tree that was read before. No
+/// bytes are read or written.
 #[cfg(have_rust)]
 pub fn compile(program: &[parser::ast::StmtS]) -> vm::bytecode::Module {
     vm::compiler::Compiler::new().compile(program)
