@@ -1,7 +1,7 @@
 //! Trees of the greatest length that take long to lower: many names to look
 //! up, lambdas and tuples in each other, parts that are read again and again.
 
-use crate::limits::{borrowed, many_names, nest, MAX_TREE};
+use crate::limits::{borrowed, many_names, nest, Wrap, MAX_TREE};
 use crate::make::*;
 use crate::samples::{script, Case};
 
@@ -197,39 +197,43 @@ fn lambdas_in_wide_def() -> Case {
     script("slow-lambdas-many", &[stmt])
 }
 
-/// A list with lambdas of 255 parameters of 64 bytes, as many as fit.
-fn wide_lambdas() -> Bytes {
-    let names = alike(239, 64);
-    let one = lambda(&borrowed(&names), none());
-    list(&times(2, &one))
+/// Two lambdas of as many parameters of 64 bytes as fit.
+fn wide_lambdas() -> Vec<Bytes> {
+    times(2, &lambda(&borrowed(&alike(239, 64)), none()))
 }
 
-/// Defs and classes in each other around something long.
-fn nested() -> Vec<Case> {
-    let in_def = |s: Bytes| def("f", &[], &[s]);
-    let in_class = |s: Bytes| class("A", &[method("m", &["s"], &[s])], &[]);
-    let text = expr(string(&vec![b's'; 32_000]));
-    let many = filled(&[var("a")], 8_000, |items| {
-        nest(in_def, 29, expr(list(items)))
-    });
-    let attribute = class("A", &[], &[("a", wide_lambdas())]);
+/// Things that take a while to read again, as items of a list.
+fn long_items() -> Vec<(&'static str, Vec<Bytes>)> {
+    let names = alike(32, 64);
     vec![
-        script("slow-nested-defs-list", &[many]),
-        script("slow-nested-defs-string", &[nest(in_def, 29, text.clone())]),
-        script("slow-nested-classes-string", &[nest(in_class, 29, text)]),
-        script(
-            "slow-nested-defs-parameters",
-            &[nest(in_def, 28, expr(wide_lambdas()))],
-        ),
-        script(
-            "slow-nested-classes-parameters",
-            &[nest(in_class, 28, expr(wide_lambdas()))],
-        ),
-        script(
-            "slow-nested-classes-attribute",
-            &[nest(in_class, 28, attribute)],
-        ),
+        ("parameters", wide_lambdas()),
+        ("parameters-32", vec![lambda(&borrowed(&names), none())]),
+        ("lambdas", vec![lambda(&[], var("ab"))]),
+        ("names", variables(&alike(900, 3))),
+        ("string", vec![string(&vec![b's'; 32_000])]),
     ]
+}
+
+/// Defs and classes in each other around something long, in the innermost
+/// function or in an attribute of the innermost class.
+fn nested() -> Vec<Case> {
+    let wraps: [(&str, Wrap, fn(Bytes) -> Bytes); 3] = [
+        ("defs", |s| def("f", &[], &[s]), expr),
+        ("classes", in_class, expr),
+        ("attributes", in_class, |e| class("A", &[], &[("a", e)])),
+    ];
+    let mut cases = Vec::new();
+    for (around, wrap, hold) in wraps {
+        for (word, items) in long_items() {
+            let stmt = filled(&items, 7_900, |items| nest(wrap, 28, hold(list(items))));
+            cases.push(script(&format!("slow-{around}-{word}"), &[stmt]));
+        }
+    }
+    cases
+}
+
+fn in_class(stmt: Bytes) -> Bytes {
+    class("A", &[method("m", &["s"], &[stmt])], &[])
 }
 
 /// A def with the most slots, and as many assignments to the last as 15
