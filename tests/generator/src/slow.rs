@@ -217,7 +217,7 @@ fn long_items() -> Vec<(&'static str, Vec<Bytes>)> {
 /// Defs and classes in each other around something long, in the innermost
 /// function or in an attribute of the innermost class.
 fn nested() -> Vec<Case> {
-    let wraps: [(&str, Wrap, fn(Bytes) -> Bytes); 3] = [
+    let wraps: [(&str, Wrap, Wrap); 3] = [
         ("defs", |s| def("f", &[], &[s]), expr),
         ("classes", in_class, expr),
         ("attributes", in_class, |e| class("A", &[], &[("a", e)])),
