@@ -1,4 +1,4 @@
-// A tree is lowered, and the module that was written is read, or one of its functions run. The contracts say that the reader accepts it, and that the run does what the walk of the tree does.
+// A tree is lowered, and the module that was written is read, or one of its functions run: the reader accepts it, and the run does what the walk of the tree does.
 use lowering::Lowered;
 use lowering::lower;
 use reader::Verdict;

@@ -1,3 +1,4 @@
+use native.Mathlib.Omega.{arith}
 use Rattle.follows.proofs.Made.{small-bytes, part-fits}
 use Rattle.follows.proofs.Reading.{reread-wrote, reread-refused}
 use borrow.Author.Needs.{needs}
@@ -10,7 +11,7 @@ lower-and-read-spec = tie.close (tie.spec
     (λ c. search needs)  -- enum-known-lowered
     (λ c. search needs)  -- sub-read-module
     (λ c. search needs)  -- part-read-module-start
-    (λ c. let l = c .before .before .before .before .before .before .before .before .before .before .lower in part-fits _ _ _ _ _ _ _ _ (l .ensures) _ (c .before .before .lowered .given .1) (l .kept .1 .1 .1 .0))  -- part-read-module-end
+    (λ c. let l = c .before .before .before .before .before .before .before .before .before .before .lower in omega (arith, part-fits _ _ _ _ _ _ _ _ (l .ensures) _ (c .before .before .lowered .given .1) (l .kept .1 .1 .1 .0)))  -- part-read-module-end
     (λ c κs. search needs)  -- read-module-requires
     (λ c. search needs)  -- enum-known-lowered-2
     (λ c. search needs)  -- same-length
