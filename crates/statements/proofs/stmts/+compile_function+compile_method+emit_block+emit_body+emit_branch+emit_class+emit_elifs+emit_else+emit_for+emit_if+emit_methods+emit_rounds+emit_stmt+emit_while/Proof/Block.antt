@@ -27,19 +27,19 @@ abbrev μ-loop : emit-block-lts.MeasureT-loop
 pub emit-block-ok : {M : Type 1} (t : ℕ) → emit-block-lts.Closed (u16-at-reads.Asked, u16-at-reads.Learnt, emit-stmt-below t, emit-stmt.Post) (emit-block-at t) emit-block.Post M
 emit-block-ok t = emit-block-lts.spec (u16-at-reads.Asked, u16-at-reads.Learnt, emit-stmt-below t, emit-stmt.Post) (emit-block-at t) emit-block.Post Inv-loop μ-loop
     (λ c κs. block-parts _ _ _ _ ((c .before .before .before .before .before) .pre .1 .1) .0)  -- u16-at-requires
-    (λ c. let s = (c .before .before .before .before .before .before) in let b = block-parts _ _ _ _ (s .pre .1 .1) .0 in omega (arith, b .bytes, s .pre .1 .0 .tree-short))  -- add-p
-    (λ c. let s = (c .before .before .before .before .before .before) in let b = block-start _ _ _ _ _ _ _ _ _ _ (s .pre .1 .0 .sound) (s .pre .1 .1) (c .u16-at .ensures .0) in (refl, refl, refl, b .0, b .1, b .2))  -- loop-holds
+    (λ c. let s = c .before .before .before .before .before .before in let b = block-parts _ _ _ _ (s .pre .1 .1) .0 in omega (arith, b .bytes, s .pre .1 .0 .tree-short))  -- add-p
+    (λ c. let s = c .before .before .before .before .before .before in let b = block-start _ _ _ _ _ _ _ _ _ _ (s .pre .1 .0 .sound) (s .pre .1 .1) (c .u16-at .ensures .0) in (refl, refl, refl, b .0, b .1, b .2))  -- loop-holds
     (λ c κs. let s = (c .before .before .before .before .before .before .before .before .before .before .before) in let j = (c .before .before .before .before) .loop in (omega (arith, s .pre .0), (ready-with (s .pre .1 .0) (j .inv .5 .sound), stmts-more _ _ _ _ _ ((c .before .before .before) .loop-test .taken) (j .inv .3) .0)))  -- emit-stmt-requires
     (λ c. search needs)  -- enum-known-one
     (λ c. search needs)  -- enum-told
-    (λ c. let s = (c .before .before .before .before .before .before .before .before .before .before .before .before .before .before .before .before .before .before .before .before) in let j = (c .before .before .before .before .before .before .before .before .before .before .before .before .before) .loop in (c .before .before .before .before .before .before .before .before) .emit-stmt .kept .1 .1 .1 .1 .0 ∙ j .inv .0)  -- same-length
-    (λ c. let s = (c .before .before .before .before .before .before .before .before .before .before .before .before .before .before .before .before .before .before .before .before) in let j = (c .before .before .before .before .before .before .before .before .before .before .before .before .before) .loop in (c .before .before .before .before .before .before .before .before) .emit-stmt .kept .1 .1 .1 .1 .1 .0 ∙ j .inv .1)  -- same-length-2
-    (λ c. let s = (c .before .before .before .before .before .before .before .before .before .before .before .before .before .before .before .before .before .before .before .before) in let j = (c .before .before .before .before .before .before .before .before .before .before .before .before .before) .loop in (c .before .before .before .before .before .before .before .before) .emit-stmt .kept .1 .1 .1 .1 .1 .1 .0 ∙ j .inv .2)  -- same-length-3
-    (λ c. let s = (c .before .before .before .before .before .before .before .before .before .before .before .before .before .before .before .before .before .before .before .before) in let j = (c .before .before .before .before .before .before .before .before .before .before .before .before .before) .loop in block-full _ _ _ _ _ _ _ _ _ _ _ _ _ (j .inv .3) (j .inv .4) (j .inv .5) _ _ _ _ _ _ _ _ ((c .before .before .before .before .before .before .before .before .before .before .before .before) .loop-test .taken) (c .enum-told .given .1) ((c .before .before .before .before .before .before .before .before) .emit-stmt .ensures))  -- returns
+    (λ c. let at-emit-stmt = c .before .before .before .before .before .before .before .before in let at-loop = at-emit-stmt .before .before .before .before .before in let j = at-loop .loop in at-emit-stmt .emit-stmt .kept .1 .1 .1 .1 .0 ∙ j .inv .0)  -- same-length
+    (λ c. let at-emit-stmt = c .before .before .before .before .before .before .before .before in let at-loop = at-emit-stmt .before .before .before .before .before in let j = at-loop .loop in at-emit-stmt .emit-stmt .kept .1 .1 .1 .1 .1 .0 ∙ j .inv .1)  -- same-length-2
+    (λ c. let at-emit-stmt = c .before .before .before .before .before .before .before .before in let at-loop = at-emit-stmt .before .before .before .before .before in let j = at-loop .loop in at-emit-stmt .emit-stmt .kept .1 .1 .1 .1 .1 .1 .0 ∙ j .inv .2)  -- same-length-3
+    (λ c. let at-emit-stmt = c .before .before .before .before .before .before .before .before in let at-loop-test = at-emit-stmt .before .before .before .before in let at-loop = at-loop-test .before in let j = at-loop .loop in block-full _ _ _ _ _ _ _ _ _ _ _ _ _ (j .inv .3) (j .inv .4) (j .inv .5) _ _ _ _ _ _ _ _ (at-loop-test .loop-test .taken) (c .enum-told .given .1) (at-emit-stmt .emit-stmt .ensures))  -- returns
     (λ c. omega (arith, (c .before .before .before .before .before .before .before .before .before .before .before .before .before) .loop-test .taken))  -- sub-left
     (λ c. omega (arith, (c .before .before .before .before .before .before .before .before .before .before .before .before .before) .loop-test .taken))  -- loop-less
-    (λ c. let s = (c .before .before .before .before .before .before .before .before .before .before .before .before .before .before .before .before .before .before .before .before .before) in let j = (c .before .before .before .before .before .before .before .before .before .before .before .before .before .before) .loop in let b = block-next _ _ _ _ _ _ _ _ _ _ _ _ _ (j .inv .3) (j .inv .4) (j .inv .5) _ _ _ _ _ _ ((c .before .before .before .before .before .before .before .before .before .before .before .before .before) .loop-test .taken) ((c .before) .one .given .1) ((c .before .before .before .before .before .before .before .before .before) .emit-stmt .ensures) in ((c .before .before .before .before .before .before .before .before .before) .emit-stmt .kept .1 .1 .1 .1 .0 ∙ j .inv .0, (c .before .before .before .before .before .before .before .before .before) .emit-stmt .kept .1 .1 .1 .1 .1 .0 ∙ j .inv .1, (c .before .before .before .before .before .before .before .before .before) .emit-stmt .kept .1 .1 .1 .1 .1 .1 .0 ∙ j .inv .2, b .0, b .1, b .2))  -- loop-again
+    (λ c. let at-one = c .before in let at-emit-stmt = at-one .before .before .before .before .before .before .before .before in let at-loop-test = at-emit-stmt .before .before .before .before in let at-loop = at-loop-test .before in let j = at-loop .loop in let b = block-next _ _ _ _ _ _ _ _ _ _ _ _ _ (j .inv .3) (j .inv .4) (j .inv .5) _ _ _ _ _ _ (at-loop-test .loop-test .taken) (at-one .one .given .1) (at-emit-stmt .emit-stmt .ensures) in (at-emit-stmt .emit-stmt .kept .1 .1 .1 .1 .0 ∙ j .inv .0, at-emit-stmt .emit-stmt .kept .1 .1 .1 .1 .1 .0 ∙ j .inv .1, at-emit-stmt .emit-stmt .kept .1 .1 .1 .1 .1 .1 .0 ∙ j .inv .2, b .0, b .1, b .2))  -- loop-again
     (λ c. (c .before) .loop .inv .0)  -- same-length-4
     (λ c. (c .before) .loop .inv .1)  -- same-length-5
     (λ c. (c .before) .loop .inv .2)  -- same-length-6
-    (λ c. let s = (c .before .before .before .before .before .before .before .before) in let j = (c .before) .loop in block-end _ _ _ _ _ _ _ _ _ _ _ _ _ (j .inv .3) (j .inv .4) (j .inv .5) (c .loop-test .left))  -- returns-2
+    (λ c. let at-loop = c .before in let j = at-loop .loop in block-end _ _ _ _ _ _ _ _ _ _ _ _ _ (j .inv .3) (j .inv .4) (j .inv .5) (c .loop-test .left))  -- returns-2

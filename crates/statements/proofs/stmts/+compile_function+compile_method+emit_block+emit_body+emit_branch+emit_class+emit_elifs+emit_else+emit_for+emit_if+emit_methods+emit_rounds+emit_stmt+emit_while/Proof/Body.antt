@@ -11,15 +11,15 @@ use Rattle.statements.proofs.stmts.+compile_function+compile_method+emi
 
 pub emit-body-ok : {M : Type 1} (t : ℕ) → emit-body-lts.Closed (emit-block-below t, emit-block.Post, put-end-reads.Asked, put-end-reads.Learnt) (emit-body-at t) emit-body.Post M
 emit-body-ok t = emit-body-lts.spec (emit-block-below t, emit-block.Post, put-end-reads.Asked, put-end-reads.Learnt) (emit-body-at t) emit-body.Post
-    (λ c κs. let s = (c .before .before .before .before .before .before .before .before) in (omega (arith, s .pre .0), s .pre .1))  -- emit-block-requires
+    (λ c κs. let s = c .before .before .before .before .before .before .before .before in (omega (arith, s .pre .0), s .pre .1))  -- emit-block-requires
     (λ c. search needs)  -- enum-known-block
     (λ c. search needs)  -- enum-told
     (λ c. search needs)  -- same-length
     (λ c. search needs)  -- same-length-2
     (λ c. search needs)  -- same-length-3
-    (λ c. let s = (c .before .before .before .before .before .before .before .before .before .before .before .before .before .before .before .before .before) in first-full _ _ _ _ _ _ (s .pre .1 .0 .sound) _ _ _ _ _ _ _ _ _ _ _ (lengthens-emits _) (c .enum-told .given .1) ((c .before .before .before .before .before .before .before .before) .emit-block .ensures))  -- returns
+    (λ c. let at-emit-block = c .before .before .before .before .before .before .before .before in let s = at-emit-block .before .before .before .before .before .before .before .before .before in first-full _ _ _ _ _ _ (s .pre .1 .0 .sound) _ _ _ _ _ _ _ _ _ _ _ (lengthens-emits _) (c .enum-told .given .1) (at-emit-block .emit-block .ensures))  -- returns
     (λ c κs. (done-left _ _ _ _ _ _ _ _ _ _ _ ((c .before .before .before .before) .block .given .1) ((c .before .before .before .before .before .before .before .before .before .before .before .before) .emit-block .ensures)) .sound)  -- put-end-requires
     (λ c. search needs)  -- same-length-4
     (λ c. search needs)  -- same-length-5
     (λ c. search needs)  -- same-length-6
-    (λ c. let s = (c .before .before .before .before .before .before .before .before .before .before .before .before .before .before .before .before .before .before .before .before .before .before .before .before) in done-same _ _ _ _ _ _ (s .pre .1 .0 .sound) _ _ _ _ _ _ _ _ _ _ _ _ _ ((c .before .before .before .before .before .before .before) .block .given .1) ((c .before .before .before .before .before .before .before .before .before .before .before .before .before .before .before) .emit-block .ensures) ((c .before .before) .put-end .ensures))  -- returns-2
+    (λ c. let at-put-end = c .before .before in let at-block = at-put-end .before .before .before .before .before in let at-emit-block = at-block .before .before .before .before .before .before .before .before in let s = at-emit-block .before .before .before .before .before .before .before .before .before in done-same _ _ _ _ _ _ (s .pre .1 .0 .sound) _ _ _ _ _ _ _ _ _ _ _ _ _ (at-block .block .given .1) (at-emit-block .emit-block .ensures) (at-put-end .put-end .ensures))  -- returns-2

@@ -15,22 +15,22 @@ use Rattle.statements.proofs.stmts.+compile_function+compile_method+emi
 
 pub emit-branch-ok : {M : Type 1} (t : ℕ) → emit-branch-lts.Closed (emit-question-reads.Asked, emit-question-reads.Learnt, emit-block-below t, emit-block.Post, end-branch-reads.Asked, end-branch-reads.Learnt) (emit-branch-at t) emit-branch.Post M
 emit-branch-ok t = emit-branch-lts.spec (emit-question-reads.Asked, emit-question-reads.Learnt, emit-block-below t, emit-block.Post, end-branch-reads.Asked, end-branch-reads.Learnt) (emit-branch-at t) emit-branch.Post
-    (λ c κs. let s = (c .before .before .before .before .before .before .before .before) in (s .pre .1 .0, s .pre .1 .1 .condition))  -- emit-question-requires
+    (λ c κs. let s = c .before .before .before .before .before .before .before .before in (s .pre .1 .0, s .pre .1 .1 .condition))  -- emit-question-requires
     (λ c. search needs)  -- enum-known-asked
     (λ c. search needs)  -- enum-told
     (λ c. search needs)  -- same-length
     (λ c. search needs)  -- same-length-2
     (λ c. search needs)  -- same-length-3
-    (λ c. let s = (c .before .before .before .before .before .before .before .before .before .before .before .before .before .before .before .before .before) in full-by _ _ _ _ _ _ _ _ _ _ _ _ _ _ _ (c .enum-told .given .1) ((c .before .before .before .before .before .before .before .before) .emit-question .ensures) (question-within _ _ _ _ _ _ (base-below _ _ _ _ _ _ (s .pre .1 .0 .sound))))  -- returns
-    (λ c κs. let s = (c .before .before .before .before .before .before .before .before .before .before .before .before .before .before .before .before .before .before .before .before .before) in (omega (arith, s .pre .0), (ready-again (s .pre .1 .0) (done-left _ _ _ _ _ _ _ _ _ _ _ ((c .before .before .before .before) .asked .given .1) ((c .before .before .before .before .before .before .before .before .before .before .before .before) .emit-question .ensures)), block-at _ _ _ _ _ ((emits-done _ _ _ _ _ _ _ _ _ _ _ ((c .before .before .before .before) .asked .given .1) ((c .before .before .before .before .before .before .before .before .before .before .before .before) .emit-question .ensures)) .0) (s .pre .1 .1 .block))))  -- emit-block-requires
+    (λ c. let at-emit-question = c .before .before .before .before .before .before .before .before in let s = at-emit-question .before .before .before .before .before .before .before .before .before in full-by _ _ _ _ _ _ _ _ _ _ _ _ _ _ _ (c .enum-told .given .1) (at-emit-question .emit-question .ensures) (question-within _ _ _ _ _ _ (base-below _ _ _ _ _ _ (s .pre .1 .0 .sound))))  -- returns
+    (λ c κs. let at-asked = c .before .before .before .before in let at-emit-question = at-asked .before .before .before .before .before .before .before .before in let s = at-emit-question .before .before .before .before .before .before .before .before .before in (omega (arith, s .pre .0), (ready-again (s .pre .1 .0) (done-left _ _ _ _ _ _ _ _ _ _ _ (at-asked .asked .given .1) (at-emit-question .emit-question .ensures)), block-at _ _ _ _ _ ((emits-done _ _ _ _ _ _ _ _ _ _ _ (at-asked .asked .given .1) (at-emit-question .emit-question .ensures)) .0) (s .pre .1 .1 .block))))  -- emit-block-requires
     (λ c. search needs)  -- enum-known-body
     (λ c. search needs)  -- enum-told-2
     (λ c. search needs)  -- same-length-4
     (λ c. search needs)  -- same-length-5
     (λ c. search needs)  -- same-length-6
-    (λ c. let s = (c .before .before .before .before .before .before .before .before .before .before .before .before .before .before .before .before .before .before .before .before .before .before .before .before .before .before .before .before .before .before) in full-by _ _ _ _ _ _ _ _ _ _ _ _ _ _ _ (c .enum-told2 .given .1) (block-emits-at _ _ _ _ _ _ _ _ _ _ _ _ _ ((emits-done _ _ _ _ _ _ _ _ _ _ _ ((c .before .before .before .before .before .before .before .before .before .before .before .before .before) .asked .given .1) ((c .before .before .before .before .before .before .before .before .before .before .before .before .before .before .before .before .before .before .before .before .before) .emit-question .ensures)) .0) ((c .before .before .before .before .before .before .before .before) .emit-block .ensures)) (block-within _ _ _ _ _ _ _ _ _ _ (s .pre .1 .0 .sound) _ _ _ _ (done-left _ _ _ _ _ _ _ _ _ _ _ ((c .before .before .before .before .before .before .before .before .before .before .before .before .before) .asked .given .1) ((c .before .before .before .before .before .before .before .before .before .before .before .before .before .before .before .before .before .before .before .before .before) .emit-question .ensures))))  -- returns-2
-    (λ c κs. let s = (c .before .before .before .before .before .before .before .before .before .before .before .before .before .before .before .before .before .before .before .before .before .before .before .before .before .before .before .before .before .before .before .before .before .before) in ((done-left _ _ _ _ _ _ _ _ _ _ _ ((c .before .before .before .before) .body .given .1) ((block-emits-at _ _ _ _ _ _ _ _ _ _ _ _ _ ((emits-done _ _ _ _ _ _ _ _ _ _ _ ((c .before .before .before .before .before .before .before .before .before .before .before .before .before .before .before .before .before) .asked .given .1) ((c .before .before .before .before .before .before .before .before .before .before .before .before .before .before .before .before .before .before .before .before .before .before .before .before .before) .emit-question .ensures)) .0) ((c .before .before .before .before .before .before .before .before .before .before .before .before) .emit-block .ensures)))) .sound, omega (arith, (k-above _ _ _ _ _ _ _ _ _ _ (s .pre .1 .0 .sound) _ _ (done-left _ _ _ _ _ _ _ _ _ _ _ ((c .before .before .before .before .before .before .before .before .before .before .before .before .before .before .before .before .before) .asked .given .1) ((c .before .before .before .before .before .before .before .before .before .before .before .before .before .before .before .before .before .before .before .before .before .before .before .before .before) .emit-question .ensures)))), (m-above _ _ _ _ _ _ _ _ _ _ (s .pre .1 .0 .sound) _ _ (done-left _ _ _ _ _ _ _ _ _ _ _ ((c .before .before .before .before .before .before .before .before .before .before .before .before .before .before .before .before .before) .asked .given .1) ((c .before .before .before .before .before .before .before .before .before .before .before .before .before .before .before .before .before .before .before .before .before .before .before .before .before) .emit-question .ensures)) _ _ _ _ _ (done-left _ _ _ _ _ _ _ _ _ _ _ ((c .before .before .before .before) .body .given .1) ((block-emits-at _ _ _ _ _ _ _ _ _ _ _ _ _ ((emits-done _ _ _ _ _ _ _ _ _ _ _ ((c .before .before .before .before .before .before .before .before .before .before .before .before .before .before .before .before .before) .asked .given .1) ((c .before .before .before .before .before .before .before .before .before .before .before .before .before .before .before .before .before .before .before .before .before .before .before .before .before) .emit-question .ensures)) .0) ((c .before .before .before .before .before .before .before .before .before .before .before .before) .emit-block .ensures)))))))  -- end-branch-requires
-    (λ c. (c .before .before .before .before .before .before .before .before .before .before .before .before .before .before .before) .emit-block .kept .1 .1 .1 .1 .0 ∙ (c .before .before .before .before .before .before .before .before .before .before .before .before .before .before .before .before .before .before .before .before .before .before .before .before .before .before .before .before) .emit-question .kept .1 .1 .1 .1 .0)  -- same-length-7
-    (λ c. (c .before .before) .end-branch .kept .1 .1 .0 ∙ (c .before .before .before .before .before .before .before .before .before .before .before .before .before .before .before) .emit-block .kept .1 .1 .1 .1 .1 .0 ∙ (c .before .before .before .before .before .before .before .before .before .before .before .before .before .before .before .before .before .before .before .before .before .before .before .before .before .before .before .before) .emit-question .kept .1 .1 .1 .1 .1 .0)  -- same-length-8
-    (λ c. (c .before .before .before .before .before .before .before .before .before .before .before .before .before .before .before) .emit-block .kept .1 .1 .1 .1 .1 .1 .0 ∙ (c .before .before .before .before .before .before .before .before .before .before .before .before .before .before .before .before .before .before .before .before .before .before .before .before .before .before .before .before) .emit-question .kept .1 .1 .1 .1 .1 .1 .0)  -- same-length-9
-    (λ c. let s = (c .before .before .before .before .before .before .before .before .before .before .before .before .before .before .before .before .before .before .before .before .before .before .before .before .before .before .before .before .before .before .before .before .before .before .before .before .before) in position-emits _ _ _ _ _ _ _ _ _ _ ((emits-done _ _ _ _ _ _ _ _ _ _ _ ((c .before .before .before .before .before .before .before) .body .given .1) ((block-emits-at _ _ _ _ _ _ _ _ _ _ _ _ _ ((emits-done _ _ _ _ _ _ _ _ _ _ _ ((c .before .before .before .before .before .before .before .before .before .before .before .before .before .before .before .before .before .before .before .before) .asked .given .1) ((c .before .before .before .before .before .before .before .before .before .before .before .before .before .before .before .before .before .before .before .before .before .before .before .before .before .before .before .before) .emit-question .ensures)) .0) ((c .before .before .before .before .before .before .before .before .before .before .before .before .before .before .before) .emit-block .ensures)))) .0) (branch-emits _ _ _ _ _ _ _ _ _ _ (s .pre .1 .0 .sound) _ _ (done-left _ _ _ _ _ _ _ _ _ _ _ ((c .before .before .before .before .before .before .before .before .before .before .before .before .before .before .before .before .before .before .before .before) .asked .given .1) ((c .before .before .before .before .before .before .before .before .before .before .before .before .before .before .before .before .before .before .before .before .before .before .before .before .before .before .before .before) .emit-question .ensures)) _ _ _ _ _ (done-left _ _ _ _ _ _ _ _ _ _ _ ((c .before .before .before .before .before .before .before) .body .given .1) ((block-emits-at _ _ _ _ _ _ _ _ _ _ _ _ _ ((emits-done _ _ _ _ _ _ _ _ _ _ _ ((c .before .before .before .before .before .before .before .before .before .before .before .before .before .before .before .before .before .before .before .before) .asked .given .1) ((c .before .before .before .before .before .before .before .before .before .before .before .before .before .before .before .before .before .before .before .before .before .before .before .before .before .before .before .before) .emit-question .ensures)) .0) ((c .before .before .before .before .before .before .before .before .before .before .before .before .before .before .before) .emit-block .ensures)))) _ _ _ refl refl _ _ _ ((c .before .before) .end-branch .ensures)))  -- returns-3
+    (λ c. let at-emit-block = c .before .before .before .before .before .before .before .before in let at-asked = at-emit-block .before .before .before .before .before in let at-emit-question = at-asked .before .before .before .before .before .before .before .before in let s = at-emit-question .before .before .before .before .before .before .before .before .before in full-by _ _ _ _ _ _ _ _ _ _ _ _ _ _ _ (c .enum-told2 .given .1) (block-emits-at _ _ _ _ _ _ _ _ _ _ _ _ _ ((emits-done _ _ _ _ _ _ _ _ _ _ _ (at-asked .asked .given .1) (at-emit-question .emit-question .ensures)) .0) (at-emit-block .emit-block .ensures)) (block-within _ _ _ _ _ _ _ _ _ _ (s .pre .1 .0 .sound) _ _ _ _ (done-left _ _ _ _ _ _ _ _ _ _ _ (at-asked .asked .given .1) (at-emit-question .emit-question .ensures))))  -- returns-2
+    (λ c κs. let at-body = c .before .before .before .before in let at-emit-block = at-body .before .before .before .before .before .before .before .before in let at-asked = at-emit-block .before .before .before .before .before in let at-emit-question = at-asked .before .before .before .before .before .before .before .before in let s = at-emit-question .before .before .before .before .before .before .before .before .before in ((done-left _ _ _ _ _ _ _ _ _ _ _ (at-body .body .given .1) ((block-emits-at _ _ _ _ _ _ _ _ _ _ _ _ _ ((emits-done _ _ _ _ _ _ _ _ _ _ _ (at-asked .asked .given .1) (at-emit-question .emit-question .ensures)) .0) (at-emit-block .emit-block .ensures)))) .sound, omega (arith, (k-above _ _ _ _ _ _ _ _ _ _ (s .pre .1 .0 .sound) _ _ (done-left _ _ _ _ _ _ _ _ _ _ _ (at-asked .asked .given .1) (at-emit-question .emit-question .ensures)))), (m-above _ _ _ _ _ _ _ _ _ _ (s .pre .1 .0 .sound) _ _ (done-left _ _ _ _ _ _ _ _ _ _ _ (at-asked .asked .given .1) (at-emit-question .emit-question .ensures)) _ _ _ _ _ (done-left _ _ _ _ _ _ _ _ _ _ _ (at-body .body .given .1) ((block-emits-at _ _ _ _ _ _ _ _ _ _ _ _ _ ((emits-done _ _ _ _ _ _ _ _ _ _ _ (at-asked .asked .given .1) (at-emit-question .emit-question .ensures)) .0) (at-emit-block .emit-block .ensures)))))))  -- end-branch-requires
+    (λ c. let at-emit-block = c .before .before .before .before .before .before .before .before .before .before .before .before .before .before .before in let at-emit-question = at-emit-block .before .before .before .before .before .before .before .before .before .before .before .before .before in at-emit-block .emit-block .kept .1 .1 .1 .1 .0 ∙ at-emit-question .emit-question .kept .1 .1 .1 .1 .0)  -- same-length-7
+    (λ c. let at-end-branch = c .before .before in let at-emit-block = at-end-branch .before .before .before .before .before .before .before .before .before .before .before .before .before in let at-emit-question = at-emit-block .before .before .before .before .before .before .before .before .before .before .before .before .before in at-end-branch .end-branch .kept .1 .1 .0 ∙ at-emit-block .emit-block .kept .1 .1 .1 .1 .1 .0 ∙ at-emit-question .emit-question .kept .1 .1 .1 .1 .1 .0)  -- same-length-8
+    (λ c. let at-emit-block = c .before .before .before .before .before .before .before .before .before .before .before .before .before .before .before in let at-emit-question = at-emit-block .before .before .before .before .before .before .before .before .before .before .before .before .before in at-emit-block .emit-block .kept .1 .1 .1 .1 .1 .1 .0 ∙ at-emit-question .emit-question .kept .1 .1 .1 .1 .1 .1 .0)  -- same-length-9
+    (λ c. let at-end-branch = c .before .before in let at-body = at-end-branch .before .before .before .before .before in let at-emit-block = at-body .before .before .before .before .before .before .before .before in let at-asked = at-emit-block .before .before .before .before .before in let at-emit-question = at-asked .before .before .before .before .before .before .before .before in let s = at-emit-question .before .before .before .before .before .before .before .before .before in position-emits _ _ _ _ _ _ _ _ _ _ ((emits-done _ _ _ _ _ _ _ _ _ _ _ (at-body .body .given .1) ((block-emits-at _ _ _ _ _ _ _ _ _ _ _ _ _ ((emits-done _ _ _ _ _ _ _ _ _ _ _ (at-asked .asked .given .1) (at-emit-question .emit-question .ensures)) .0) (at-emit-block .emit-block .ensures)))) .0) (branch-emits _ _ _ _ _ _ _ _ _ _ (s .pre .1 .0 .sound) _ _ (done-left _ _ _ _ _ _ _ _ _ _ _ (at-asked .asked .given .1) (at-emit-question .emit-question .ensures)) _ _ _ _ _ (done-left _ _ _ _ _ _ _ _ _ _ _ (at-body .body .given .1) ((block-emits-at _ _ _ _ _ _ _ _ _ _ _ _ _ ((emits-done _ _ _ _ _ _ _ _ _ _ _ (at-asked .asked .given .1) (at-emit-question .emit-question .ensures)) .0) (at-emit-block .emit-block .ensures)))) _ _ _ refl refl _ _ _ (at-end-branch .end-branch .ensures)))  -- returns-3

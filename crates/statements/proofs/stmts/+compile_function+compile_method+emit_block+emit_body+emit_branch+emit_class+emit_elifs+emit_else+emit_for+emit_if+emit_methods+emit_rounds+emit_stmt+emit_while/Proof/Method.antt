@@ -11,8 +11,8 @@ use Rattle.statements.proofs.stmts.+compile_function+compile_method+emi
 pub compile-method-ok : {M : Type 1} (t : ℕ) → compile-method-lts.Closed (is-init-reads.Asked, is-init-reads.Learnt, compile-function-below t, compile-function.Post) (compile-method-at t) compile-method.Post M
 compile-method-ok t = compile-method-lts.spec (is-init-reads.Asked, is-init-reads.Learnt, compile-function-below t, compile-function.Post) (compile-method-at t) compile-method.Post
     (λ c κs. search needs)  -- is-init-requires
-    (λ c κs. let s = (c .before .before .before .before .before .before .before .before) in (omega (arith, s .pre .0), s .pre .1))  -- compile-function-requires
+    (λ c κs. let s = c .before .before .before .before .before .before .before .before in (omega (arith, s .pre .0), s .pre .1))  -- compile-function-requires
     (λ c. search needs)  -- same-length
     (λ c. search needs)  -- same-length-2
     (λ c. search needs)  -- same-length-3
-    (λ c. let s = (c .before .before .before .before .before .before .before .before .before .before .before .before .before .before .before) in compiles-as _ _ _ _ _ _ _ _ _ _ (method-is _ _ _ _ _ _ ((c .before .before .before .before .before .before .before .before .before .before) .is-init .ensures)) ((c .before .before .before .before .before .before) .compile-function .ensures))  -- returns
+    (λ c. let at-compile-function = c .before .before .before .before .before .before in let at-is-init = at-compile-function .before .before .before .before in compiles-as _ _ _ _ _ _ _ _ _ _ (method-is _ _ _ _ _ _ (at-is-init .is-init .ensures)) (at-compile-function .compile-function .ensures))  -- returns

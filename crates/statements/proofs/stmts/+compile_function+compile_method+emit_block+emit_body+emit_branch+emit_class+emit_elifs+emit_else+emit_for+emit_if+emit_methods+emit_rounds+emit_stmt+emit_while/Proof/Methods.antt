@@ -28,22 +28,22 @@ abbrev μ-loop : emit-methods-lts.MeasureT-loop
 
 pub emit-methods-ok : {M : Type 1} (t : ℕ) → emit-methods-lts.Closed (compile-method-below t, compile-method.Post, insert-method-reads.Asked, insert-method-reads.Learnt) (emit-methods-at t) emit-methods.Post M
 emit-methods-ok t = emit-methods-lts.spec (compile-method-below t, compile-method.Post, insert-method-reads.Asked, insert-method-reads.Learnt) (emit-methods-at t) emit-methods.Post Inv-loop μ-loop
-    (λ c. let s = (c .before .before .before .before .before) in (refl, refl, refl, refl, s .pre .1 .1, listing-start _ _ _ _ _ _ _ _ (s .pre .1 .0 .sound)))  -- loop-holds
+    (λ c. let s = c .before .before .before .before .before in (refl, refl, refl, refl, s .pre .1 .1, listing-start _ _ _ _ _ _ _ _ (s .pre .1 .0 .sound)))  -- loop-holds
     (λ c κs. let s = (c .before .before .before .before .before .before .before .before .before .before) in let j = (c .before .before .before .before) .loop in (omega (arith, s .pre .0), (ready-with (s .pre .1 .0) (j .inv .5 .sound), (methods-parts _ _ _ _ ((c .before .before .before) .loop-test .taken) (j .inv .4)) .0)))  -- compile-method-requires
     (λ c. search needs)  -- enum-known-one
     (λ c. search needs)  -- enum-told
-    (λ c. let s = (c .before .before .before .before .before .before .before .before .before .before .before .before .before .before .before .before .before .before .before) in let j = (c .before .before .before .before .before .before .before .before .before .before .before .before .before) .loop in (c .before .before .before .before .before .before .before .before) .compile-method .kept .1 .1 .1 .0 ∙ j .inv .0)  -- same-length
-    (λ c. let s = (c .before .before .before .before .before .before .before .before .before .before .before .before .before .before .before .before .before .before .before) in let j = (c .before .before .before .before .before .before .before .before .before .before .before .before .before) .loop in (c .before .before .before .before .before .before .before .before) .compile-method .kept .1 .1 .1 .1 .0 ∙ j .inv .1)  -- same-length-2
-    (λ c. let s = (c .before .before .before .before .before .before .before .before .before .before .before .before .before .before .before .before .before .before .before) in let j = (c .before .before .before .before .before .before .before .before .before .before .before .before .before) .loop in (c .before .before .before .before .before .before .before .before) .compile-method .kept .1 .1 .1 .1 .1 .0 ∙ j .inv .2)  -- same-length-3
+    (λ c. let at-compile-method = c .before .before .before .before .before .before .before .before in let at-loop = at-compile-method .before .before .before .before .before in let j = at-loop .loop in at-compile-method .compile-method .kept .1 .1 .1 .0 ∙ j .inv .0)  -- same-length
+    (λ c. let at-compile-method = c .before .before .before .before .before .before .before .before in let at-loop = at-compile-method .before .before .before .before .before in let j = at-loop .loop in at-compile-method .compile-method .kept .1 .1 .1 .1 .0 ∙ j .inv .1)  -- same-length-2
+    (λ c. let at-compile-method = c .before .before .before .before .before .before .before .before in let at-loop = at-compile-method .before .before .before .before .before in let j = at-loop .loop in at-compile-method .compile-method .kept .1 .1 .1 .1 .1 .0 ∙ j .inv .2)  -- same-length-3
     (λ c. (c .before .before .before .before .before .before .before .before .before .before .before .before .before) .loop .inv .3)  -- same-length-4
-    (λ c. let s = (c .before .before .before .before .before .before .before .before .before .before .before .before .before .before .before .before .before .before .before) in let j = (c .before .before .before .before .before .before .before .before .before .before .before .before .before) .loop in over-lists _ _ _ _ _ _ _ _ _ (λ w. compiles-full _ _ _ _ _ _ _ _ _ (c .enum-told .given .1) ((c .before .before .before .before .before .before .before .before) .compile-method .ensures) (listing-full _ _ _ _ _ _ _ _ _ _ _ _ (j .inv .5) (s .pre .1 .0 .sound .methods) _ _ _ _ (methods-is _ _ _ _ ((c .before .before .before .before .before .before .before .before .before .before .before .before) .loop-test .taken) (j .inv .4)) w)))  -- returns
-    (λ c. let s = (c .before .before .before .before .before .before .before .before .before .before .before .before .before .before .before .before .before .before .before .before .before) in let j = (c .before .before .before .before .before .before .before .before .before .before .before .before .before .before .before) .loop in omega (arith, (methods-parts _ _ _ _ ((c .before .before .before .before .before .before .before .before .before .before .before .before .before .before) .loop-test .taken) (j .inv .4)) .0 .name .byte, s .pre .1 .0 .tree-short))  -- cast-insert-method
-    (λ c. let s = (c .before .before .before .before .before .before .before .before .before .before .before .before .before .before .before .before .before .before .before .before .before) in let j = (c .before .before .before .before .before .before .before .before .before .before .before .before .before .before .before) .loop in omega (arith, (methods-parts _ _ _ _ ((c .before .before .before .before .before .before .before .before .before .before .before .before .before .before) .loop-test .taken) (j .inv .4)) .0 .name .byte, s .pre .1 .0 .tree-short))  -- mul-insert-method
-    (λ c. let s = (c .before .before .before .before .before .before .before .before .before .before .before .before .before .before .before .before .before .before .before .before .before .before) in let j = (c .before .before .before .before .before .before .before .before .before .before .before .before .before .before .before .before) .loop in omega (arith, (methods-parts _ _ _ _ ((c .before .before .before .before .before .before .before .before .before .before .before .before .before .before .before) .loop-test .taken) (j .inv .4)) .0 .name .byte, s .pre .1 .0 .tree-short, number-small _ _ _ _ _ _ _ _ _ _ _ _ (j .inv .5) (s .pre .1 .0 .sound .methods) _ _ _ _ (methods-is _ _ _ _ ((c .before .before .before .before .before .before .before .before .before .before .before .before .before .before .before) .loop-test .taken) (j .inv .4)) _ _ _ _ ((compiles-done _ _ _ _ _ _ _ _ _ _ _ ((c .before .before .before) .one .given .1) ((c .before .before .before .before .before .before .before .before .before .before .before) .compile-method .ensures)) .1) ((compiles-done _ _ _ _ _ _ _ _ _ _ _ ((c .before .before .before) .one .given .1) ((c .before .before .before .before .before .before .before .before .before .before .before) .compile-method .ensures)) .2) ((compiles-done _ _ _ _ _ _ _ _ _ _ _ ((c .before .before .before) .one .given .1) ((c .before .before .before .before .before .before .before .before .before .before .before) .compile-method .ensures)) .3)))  -- add-insert-method
-    (λ c κs. let s = (c .before .before .before .before .before .before .before .before .before .before .before .before .before .before .before .before .before .before .before .before .before .before) in let j = (c .before .before .before .before .before .before .before .before .before .before .before .before .before .before .before .before) .loop in omega (arith, listing-room _ _ _ _ _ _ _ _ _ _ _ _ (j .inv .5) (s .pre .1 .0 .sound .methods) _ _ _ _ (methods-is _ _ _ _ ((c .before .before .before .before .before .before .before .before .before .before .before .before .before .before .before) .loop-test .taken) (j .inv .4)) _ _ _ _ ((compiles-done _ _ _ _ _ _ _ _ _ _ _ ((c .before .before .before) .one .given .1) ((c .before .before .before .before .before .before .before .before .before .before .before) .compile-method .ensures)) .1) ((compiles-done _ _ _ _ _ _ _ _ _ _ _ ((c .before .before .before) .one .given .1) ((c .before .before .before .before .before .before .before .before .before .before .before) .compile-method .ensures)) .2) ((compiles-done _ _ _ _ _ _ _ _ _ _ _ ((c .before .before .before) .one .given .1) ((c .before .before .before .before .before .before .before .before .before .before .before) .compile-method .ensures)) .3), j .inv .3, s .pre .1 .2))  -- insert-method-requires
+    (λ c. let at-compile-method = c .before .before .before .before .before .before .before .before in let at-loop-test = at-compile-method .before .before .before .before in let at-loop = at-loop-test .before in let s = at-loop .before .before .before .before .before .before in let j = at-loop .loop in over-lists _ _ _ _ _ _ _ _ _ (λ w. compiles-full _ _ _ _ _ _ _ _ _ (c .enum-told .given .1) (at-compile-method .compile-method .ensures) (listing-full _ _ _ _ _ _ _ _ _ _ _ _ (j .inv .5) (s .pre .1 .0 .sound .methods) _ _ _ _ (methods-is _ _ _ _ (at-loop-test .loop-test .taken) (j .inv .4)) w)))  -- returns
+    (λ c. let at-loop-test = c .before .before .before .before .before .before .before .before .before .before .before .before .before .before in let at-loop = at-loop-test .before in let s = at-loop .before .before .before .before .before .before in let j = at-loop .loop in omega (arith, (methods-parts _ _ _ _ (at-loop-test .loop-test .taken) (j .inv .4)) .0 .name .byte, s .pre .1 .0 .tree-short))  -- cast-insert-method
+    (λ c. let at-loop-test = c .before .before .before .before .before .before .before .before .before .before .before .before .before .before in let at-loop = at-loop-test .before in let s = at-loop .before .before .before .before .before .before in let j = at-loop .loop in omega (arith, (methods-parts _ _ _ _ (at-loop-test .loop-test .taken) (j .inv .4)) .0 .name .byte, s .pre .1 .0 .tree-short))  -- mul-insert-method
+    (λ c. let at-one = c .before .before .before in let at-compile-method = at-one .before .before .before .before .before .before .before .before in let at-loop-test = at-compile-method .before .before .before .before in let at-loop = at-loop-test .before in let s = at-loop .before .before .before .before .before .before in let j = at-loop .loop in omega (arith, (methods-parts _ _ _ _ (at-loop-test .loop-test .taken) (j .inv .4)) .0 .name .byte, s .pre .1 .0 .tree-short, number-small _ _ _ _ _ _ _ _ _ _ _ _ (j .inv .5) (s .pre .1 .0 .sound .methods) _ _ _ _ (methods-is _ _ _ _ (at-loop-test .loop-test .taken) (j .inv .4)) _ _ _ _ ((compiles-done _ _ _ _ _ _ _ _ _ _ _ (at-one .one .given .1) (at-compile-method .compile-method .ensures)) .1) ((compiles-done _ _ _ _ _ _ _ _ _ _ _ (at-one .one .given .1) (at-compile-method .compile-method .ensures)) .2) ((compiles-done _ _ _ _ _ _ _ _ _ _ _ (at-one .one .given .1) (at-compile-method .compile-method .ensures)) .3)))  -- add-insert-method
+    (λ c κs. let at-one = c .before .before .before in let at-compile-method = at-one .before .before .before .before .before .before .before .before in let at-loop-test = at-compile-method .before .before .before .before in let at-loop = at-loop-test .before in let s = at-loop .before .before .before .before .before .before in let j = at-loop .loop in omega (arith, listing-room _ _ _ _ _ _ _ _ _ _ _ _ (j .inv .5) (s .pre .1 .0 .sound .methods) _ _ _ _ (methods-is _ _ _ _ (at-loop-test .loop-test .taken) (j .inv .4)) _ _ _ _ ((compiles-done _ _ _ _ _ _ _ _ _ _ _ (at-one .one .given .1) (at-compile-method .compile-method .ensures)) .1) ((compiles-done _ _ _ _ _ _ _ _ _ _ _ (at-one .one .given .1) (at-compile-method .compile-method .ensures)) .2) ((compiles-done _ _ _ _ _ _ _ _ _ _ _ (at-one .one .given .1) (at-compile-method .compile-method .ensures)) .3), j .inv .3, s .pre .1 .2))  -- insert-method-requires
     (λ c. omega (arith, (c .before .before .before .before .before .before .before .before .before .before .before .before .before .before .before .before .before .before) .loop-test .taken))  -- sub-left
     (λ c. omega (arith, (c .before .before .before .before .before .before .before .before .before .before .before .before .before .before .before .before .before .before) .loop-test .taken))  -- loop-less
-    (λ c. let s = (c .before .before .before .before .before .before .before .before .before .before .before .before .before .before .before .before .before .before .before .before .before .before .before .before .before) in let j = (c .before .before .before .before .before .before .before .before .before .before .before .before .before .before .before .before .before .before .before) .loop in ((c .before .before .before .before .before .before .before .before .before .before .before .before .before .before) .compile-method .kept .1 .1 .1 .0 ∙ j .inv .0, (c .before .before .before .before .before .before .before .before .before .before .before .before .before .before) .compile-method .kept .1 .1 .1 .1 .0 ∙ j .inv .1, (c .before .before .before .before .before .before .before .before .before .before .before .before .before .before) .compile-method .kept .1 .1 .1 .1 .1 .0 ∙ j .inv .2, (c .before .before) .insert-method .kept .1 .0 ∙ j .inv .3, methods-at _ _ _ _ _ _ refl ((compiles-done _ _ _ _ _ _ _ _ _ _ _ ((c .before .before .before .before .before .before) .one .given .1) ((c .before .before .before .before .before .before .before .before .before .before .before .before .before .before) .compile-method .ensures)) .0) ((methods-parts _ _ _ _ ((c .before .before .before .before .before .before .before .before .before .before .before .before .before .before .before .before .before .before) .loop-test .taken) (j .inv .4)) .1), listing-at _ _ _ _ _ _ _ _ _ _ _ _ _ _ _ ((compiles-done _ _ _ _ _ _ _ _ _ _ _ ((c .before .before .before .before .before .before) .one .given .1) ((c .before .before .before .before .before .before .before .before .before .before .before .before .before .before) .compile-method .ensures)) .0) (listing-next _ _ _ _ _ _ _ _ _ _ _ _ (j .inv .5) (s .pre .1 .0 .sound .methods) _ _ _ _ (methods-is _ _ _ _ ((c .before .before .before .before .before .before .before .before .before .before .before .before .before .before .before .before .before .before) .loop-test .taken) (j .inv .4)) _ _ _ _ ((compiles-done _ _ _ _ _ _ _ _ _ _ _ ((c .before .before .before .before .before .before) .one .given .1) ((c .before .before .before .before .before .before .before .before .before .before .before .before .before .before) .compile-method .ensures)) .1) ((compiles-done _ _ _ _ _ _ _ _ _ _ _ ((c .before .before .before .before .before .before) .one .given .1) ((c .before .before .before .before .before .before .before .before .before .before .before .before .before .before) .compile-method .ensures)) .2) ((compiles-done _ _ _ _ _ _ _ _ _ _ _ ((c .before .before .before .before .before .before) .one .given .1) ((c .before .before .before .before .before .before .before .before .before .before .before .before .before .before) .compile-method .ensures)) .3) _ _ _ refl ((c .before .before) .insert-method .ensures))))  -- loop-again
+    (λ c. let at-insert-method = c .before .before in let at-one = at-insert-method .before .before .before .before in let at-compile-method = at-one .before .before .before .before .before .before .before .before in let at-loop-test = at-compile-method .before .before .before .before in let at-loop = at-loop-test .before in let s = at-loop .before .before .before .before .before .before in let j = at-loop .loop in (at-compile-method .compile-method .kept .1 .1 .1 .0 ∙ j .inv .0, at-compile-method .compile-method .kept .1 .1 .1 .1 .0 ∙ j .inv .1, at-compile-method .compile-method .kept .1 .1 .1 .1 .1 .0 ∙ j .inv .2, at-insert-method .insert-method .kept .1 .0 ∙ j .inv .3, methods-at _ _ _ _ _ _ refl ((compiles-done _ _ _ _ _ _ _ _ _ _ _ (at-one .one .given .1) (at-compile-method .compile-method .ensures)) .0) ((methods-parts _ _ _ _ (at-loop-test .loop-test .taken) (j .inv .4)) .1), listing-at _ _ _ _ _ _ _ _ _ _ _ _ _ _ _ ((compiles-done _ _ _ _ _ _ _ _ _ _ _ (at-one .one .given .1) (at-compile-method .compile-method .ensures)) .0) (listing-next _ _ _ _ _ _ _ _ _ _ _ _ (j .inv .5) (s .pre .1 .0 .sound .methods) _ _ _ _ (methods-is _ _ _ _ (at-loop-test .loop-test .taken) (j .inv .4)) _ _ _ _ ((compiles-done _ _ _ _ _ _ _ _ _ _ _ (at-one .one .given .1) (at-compile-method .compile-method .ensures)) .1) ((compiles-done _ _ _ _ _ _ _ _ _ _ _ (at-one .one .given .1) (at-compile-method .compile-method .ensures)) .2) ((compiles-done _ _ _ _ _ _ _ _ _ _ _ (at-one .one .given .1) (at-compile-method .compile-method .ensures)) .3) _ _ _ refl (at-insert-method .insert-method .ensures))))  -- loop-again
     (λ c. (c .before) .loop .inv .0)  -- same-length-5
     (λ c. (c .before) .loop .inv .1)  -- same-length-6
     (λ c. (c .before) .loop .inv .2)  -- same-length-7
