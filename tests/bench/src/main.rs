@@ -1,9 +1,11 @@
 //! Our code beside the Rust's and beside plain Rust, in one run, as ratios.
 //!
-//!     cargo run --release --offline -p bench
+//!     cargo run --release --offline -p bench [-- lowering]
 //!
 //! Each line: what, our time, the other's time, ours by the other's. Times are
 //! the best of several rounds.
+
+mod lowering;
 
 use generator::{make, modules, random, Rng};
 use std::hint::black_box;
@@ -56,9 +58,14 @@ fn long_parameters() -> Vec<u8> {
     make::tree(&[make::expr(make::lambda(&list, make::none()))])
 }
 
-fn script() -> Vec<u8> {
+/// The tree of a sample script.
+fn sample(name: &str) -> Vec<u8> {
     let folder = std::path::Path::new(env!("CARGO_MANIFEST_DIR")).join("../../samples");
-    std::fs::read(folder.join("spine.tree")).expect("samples/spine.tree")
+    std::fs::read(folder.join(name).with_extension("tree")).expect(name)
+}
+
+fn script() -> Vec<u8> {
+    sample("spine")
 }
 
 /// Statements of random programs, up to the longest tree.
@@ -69,7 +76,7 @@ fn long_tree() -> Vec<u8> {
     while statements.len() < 28_000 {
         let tree = random::tree(&mut rng);
         let many = u16::from_be_bytes([tree[5], tree[6]]);
-        if tree.len() + statements.len() < 32_000 && ours::check(&tree).is_ok() {
+        if tree.len() + statements.len() < 32_000 && rulketoos::check(&tree).is_ok() {
             statements.extend_from_slice(&tree[7..]);
             count += many;
         }
@@ -93,7 +100,7 @@ fn trees() {
         ),
     ];
     for (what, tree) in cases {
-        let ours = best(|| ours::check(black_box(&tree)));
+        let ours = best(|| rulketoos::check(black_box(&tree)));
         let other = best(|| oracle::tree::read(black_box(&tree)));
         line(what, ours, other);
     }
@@ -110,7 +117,7 @@ fn readers() {
         ("524,288 bytes of code", modules::full_of_code()),
     ];
     for (what, module) in cases {
-        let ours = best(|| ours::read(black_box(&module)));
+        let ours = best(|| rulketoos::read(black_box(&module)));
         let other = best(|| model::read(black_box(&module)));
         line(what, ours, other);
     }
@@ -171,23 +178,28 @@ fn runs() {
         let answers = vec![1; count];
         let mut events = vec![0; 26 * (count + 1)];
         let budget = 10 * (count as u64 + 1);
-        let ours = best(|| ours::run(&module, 0, black_box(&answers), budget, &mut events));
-        let mut copy = vec![0; events.len()];
+        let mut run = || {
+            let run = rulketoos::run(&module, 0, black_box(&answers), budget, &mut events);
+            run.expect("accepted").steps
+        };
+        let ours = best(&mut run);
+        let mut copy = vec![0; 26 * (count + 1)];
         let other = best(|| plain_loop(black_box(&answers), budget, &mut copy));
         let (steps, _) = plain_loop(&answers, budget, &mut copy);
-        assert_eq!(
-            ours::run(&module, 0, &answers, budget, &mut events)
-                .expect("accepted")
-                .steps,
-            steps
-        );
+        assert_eq!(run(), steps);
         assert_eq!(events, copy);
         line(&format!("{count} answers, {steps} steps"), ours, other);
     }
 }
 
 fn main() {
+    assert!(oracle::ready("bench"), "the Rust stands beside ours here");
     println!("{:52} {:>12} {:>12} {:>8}", "", "ours", "other", "ratio");
+    lowering::beside_the_rust();
+    lowering::slow_trees();
+    if std::env::args().any(|word| word == "lowering") {
+        return;
+    }
     trees();
     readers();
     runs();

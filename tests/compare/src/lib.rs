@@ -1,5 +1,7 @@
 //! The comparisons that the tests and the program by hand make.
 
+pub mod ours;
+
 use generator::{random, Rng};
 
 pub const AREA: usize = 16_384;

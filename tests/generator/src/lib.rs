@@ -8,6 +8,7 @@ pub mod random;
 pub mod rng;
 pub mod runs;
 pub mod samples;
+pub mod slow;
 pub mod text;
 pub mod vectors;
 

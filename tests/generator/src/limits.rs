@@ -40,7 +40,7 @@ pub fn many_names(count: usize) -> Vec<String> {
         .collect()
 }
 
-fn borrowed(names: &[String]) -> Vec<&str> {
+pub(crate) fn borrowed(names: &[String]) -> Vec<&str> {
     names.iter().map(String::as_str).collect()
 }
 
@@ -95,7 +95,7 @@ fn malformed() -> Vec<Case> {
     ]
 }
 
-type Wrap = fn(Bytes) -> Bytes;
+pub(crate) type Wrap = fn(Bytes) -> Bytes;
 
 /// Statements that hold a statement one deeper.
 const STMT_WRAPS: [(&str, Wrap); 8] = [
@@ -149,7 +149,7 @@ const HOLDERS: [(&str, Wrap); 9] = [
     }),
 ];
 
-fn nest(wrap: Wrap, times: usize, inner: Bytes) -> Bytes {
+pub(crate) fn nest(wrap: Wrap, times: usize, inner: Bytes) -> Bytes {
     (0..times).fold(inner, |bytes, _| wrap(bytes))
 }
 

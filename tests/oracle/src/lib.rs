@@ -55,10 +55,27 @@ pub fn ready(what: &str) -> bool {
 #[cfg(have_rust)]
 pub fn lower(tree: &[u8]) -> Result<Vec<u8>, Failure> {
     let program = tree::read(tree).ok_or(Failure::Unreadable)?;
-    let answer = std::panic::catch_unwind(|| {
-        module::write(&vm::compiler::Compiler::new().compile(&program))
-    });
+    let answer = std::panic::catch_unwind(|| module::write(&compile(&program)));
     answer.map_err(|panic| Failure::Panicked(panic_text(panic.as_ref())))
+}
+
+/// The Rust's own part alone: its module of a tree that was read before. No
+/// bytes are read or written.
+#[cfg(have_rust)]
+pub fn compile(program: &[parser::ast::StmtS]) -> vm::bytecode::Module {
+    vm::compiler::Compiler::new().compile(program)
+}
+
+/// Without the Rust source there is no tree to compile.
+#[cfg(not(have_rust))]
+pub fn compile(_program: &[()]) {}
+
+/// Without the Rust source no tree is read.
+#[cfg(not(have_rust))]
+pub mod tree {
+    pub fn read(_tree: &[u8]) -> Option<Vec<()>> {
+        None
+    }
 }
 
 /// Without the Rust source there is no answer.

@@ -1,5 +1,6 @@
 //! Our check, reader, hand-back and run against the model, on records of every kind.
 
+use compare::ours::number;
 use generator::{damage, limits, modules, random, rng::Rng, runs};
 
 /// What the model says of questions 2 to 13: refusals 14 to 16 come later.
@@ -11,38 +12,37 @@ fn model_check(tree: &[u8]) -> Result<(), u8> {
 }
 
 fn same_check(tree: &[u8]) {
-    assert_eq!(ours::check(tree), model_check(tree), "{tree:02x?}");
+    let ours = rulketoos::check(tree).map_err(number);
+    assert_eq!(ours, model_check(tree), "{tree:02x?}");
 }
 
 fn same_read(module: &[u8]) {
-    assert_eq!(ours::read(module), model::read(module), "{module:02x?}");
+    let ours = rulketoos::read(module).map_err(number);
+    assert_eq!(ours, model::read(module), "{module:02x?}");
     for function in [0, 1, 2, 65_535, 65_536, u64::MAX] {
-        assert_eq!(ours::code(module, function), model::code(module, function));
+        let ours = rulketoos::code(module, function).map_err(number);
+        let model = model::code(module, function);
+        assert_eq!(
+            ours,
+            model.map(|(start, length)| &module[start..start + length])
+        );
     }
 }
 
 /// The run, in a buffer whose bytes past the events are looked at too.
 fn same_run(module: &[u8], function: u64, answers: &[u8], budget: u64, room: usize) {
     let mut events = vec![0xa5; room];
-    let ours = ours::run(module, function, answers, budget, &mut events);
-    match model::run(module, function, answers, budget, room) {
-        Err(question) => {
-            assert_eq!(ours, Err(question));
-            assert!(
-                events.iter().all(|&byte| byte == 0xa5),
-                "a refusal writes nothing"
-            );
-        }
-        Ok(ran) => {
-            let ours = ours.expect("accepted");
-            assert_eq!(ours.ending, u64::from(ran.ending));
-            assert_eq!(ours.steps, ran.steps);
-            assert_eq!(ours.used, ran.used as u64);
-            assert_eq!(ours.bytes, ran.events.len() as u64);
-            assert_eq!(events[..ran.events.len()], ran.events);
-            assert!(events[ran.events.len()..].iter().all(|&byte| byte == 0xa5));
-        }
-    }
+    let ours = rulketoos::run(module, function, answers, budget, &mut events);
+    let ours = ours.map_err(number).map(|ran| model::Ran {
+        ending: ran.ending.number() as u8,
+        steps: ran.steps,
+        used: ran.used,
+        events: ran.events.to_vec(),
+    });
+    let model = model::run(module, function, answers, budget, room);
+    assert_eq!(ours, model);
+    let written = model.map_or(0, |ran| ran.events.len());
+    assert!(events[written..].iter().all(|&byte| byte == 0xa5));
 }
 
 #[test]

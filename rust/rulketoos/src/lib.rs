@@ -1,0 +1,32 @@
+//! Rulketoos: trees of pyhyeon scripts lowered to stack code, modules read, functions run. The work is done by the static library of the
+//! repository, whose functions are proved to meet their contracts; this crate lends them safe Rust names and types.
+//!
+//! A tree record goes in, a module record comes out (docs/FORMAT.md has both byte by byte), or a [`Refusal`] that names the first question
+//! answered no:
+//!
+//! ```
+//! // `a = None`
+//! let tree = [0, 0, 0, 8, 1, 0, 1, 5, 6, 1, b'a', 0];
+//! let module = rulketoos::lower_to_vec(&tree)?;
+//! rulketoos::read(&module)?;
+//! // None, StoreGlobal 1, Return
+//! assert_eq!(rulketoos::code(&module, 0)?, [5, 12, 0, 1, 33]);
+//! # Ok::<(), rulketoos::Refusal>(())
+//! ```
+//!
+//! [`lower`] does the same without allocating, in buffers of the caller; [`check`] asks a tree's own questions only; [`run`] runs a function of a
+//! module on yes and no answers.
+//!
+//! No call keeps anything, and none shares anything with another, so calls may be made from several threads.
+
+#![deny(missing_docs)]
+#![deny(clippy::undocumented_unsafe_blocks)]
+
+mod library;
+mod modules;
+mod refusal;
+mod trees;
+
+pub use modules::{code, read, run, Ending, Run};
+pub use refusal::{NoSuchQuestion, Refusal};
+pub use trees::{check, lower, lower_to_vec, Areas, AREA, MODULE_ROOM};

@@ -1,0 +1,117 @@
+//! Trees: the check and the lowering.
+
+use crate::library;
+use crate::refusal::{accepted, refusal, Refusal};
+
+/// The length that each work area has at the least.
+pub const AREA: usize = 16_384;
+
+/// Room for the module of every tree that is accepted. It holds 1,024 symbols of 64 bytes, 8,192 instructions of 9, the strings of a whole tree and all functions and classes.
+pub const MODULE_ROOM: usize = 262_144;
+
+/// The two work areas of the lowering. Make them once and lend them to every call; what is in them doesn't matter.
+///
+/// Both are all zero after every call but one refused with [`Refusal::AreasTooShort`], which leaves them.
+#[derive(Debug, Clone, PartialEq, Eq)]
+pub struct Areas {
+    /// The first area; [`AREA`] long or longer.
+    pub first: Vec<u32>,
+    /// The second area; [`AREA`] long or longer.
+    pub second: Vec<u32>,
+}
+
+impl Areas {
+    /// Two areas of [`AREA`] zeros.
+    #[must_use]
+    pub fn new() -> Areas {
+        Areas {
+            first: vec![0; AREA],
+            second: vec![0; AREA],
+        }
+    }
+}
+
+impl Default for Areas {
+    fn default() -> Areas {
+        Areas::new()
+    }
+}
+
+/// Lowers a tree record: the module record goes to `out` from its start, and the answer is how many bytes it has. The rest of `out` is left as it was, and after a refusal all of it.
+///
+/// Asks questions 1 to 16. Nothing is allocated.
+///
+/// ```
+/// let mut areas = rulketoos::Areas::new();
+/// let mut out = [9; 40];
+/// let count = rulketoos::lower(&[0, 0, 0, 3, 1, 0, 0], &mut areas, &mut out)?;
+/// assert_eq!(count, 32);
+/// assert_eq!(&out[..count], b"\0\0\0\x1c\x01\0\x01\x08__main__\0\0\0\x01\0\0\0\0\0\0\x01\x21\0\0\0\0");
+/// assert_eq!(out[count..], [9; 8]);
+/// # Ok::<(), rulketoos::Refusal>(())
+/// ```
+///
+/// # Errors
+///
+/// The first question that is answered no.
+pub fn lower(tree: &[u8], areas: &mut Areas, out: &mut [u8]) -> Result<usize, Refusal> {
+    let (first, second) = (&mut areas.first, &mut areas.second);
+    // SAFETY: each pointer and length are a live slice's; the three that are written to are lent here alone, so none overlap.
+    let told = unsafe {
+        library::rulketoos_lower(
+            tree.as_ptr(),
+            tree.len(),
+            first.as_mut_ptr(),
+            first.len(),
+            second.as_mut_ptr(),
+            second.len(),
+            out.as_mut_ptr(),
+            out.len(),
+        )
+    };
+    let low = (told & 0xffff_ffff) as u32;
+    match told >> 32 {
+        0 => Err(refusal(low)),
+        _ => Ok(low as usize),
+    }
+}
+
+/// Lowers a tree record to a new vector: the module record.
+///
+/// Asks questions 2 to 15: there is always room. Where many trees are lowered, [`lower`] saves making the areas and the output each time.
+///
+/// ```
+/// let module = rulketoos::lower_to_vec(&[0, 0, 0, 3, 1, 0, 0])?;
+/// assert_eq!(module.len(), 32);
+/// assert_eq!(rulketoos::read(&module), Ok(()));
+/// # Ok::<(), rulketoos::Refusal>(())
+/// ```
+///
+/// # Errors
+///
+/// The first question that is answered no.
+pub fn lower_to_vec(tree: &[u8]) -> Result<Vec<u8>, Refusal> {
+    let mut module = vec![0; MODULE_ROOM];
+    let count = lower(tree, &mut Areas::new(), &mut module)?;
+    module.truncate(count);
+    module.shrink_to_fit();
+    Ok(module)
+}
+
+/// Checks a tree record by itself: questions 2 to 13.
+///
+/// ```
+/// use rulketoos::Refusal;
+///
+/// assert_eq!(rulketoos::check(&[0, 0, 0, 3, 1, 0, 0]), Ok(()));
+/// // `break` outside a loop
+/// assert_eq!(rulketoos::check(&[0, 0, 0, 4, 1, 0, 1, 0]), Err(Refusal::LooseBreak));
+/// ```
+///
+/// # Errors
+///
+/// The first question that is answered no.
+pub fn check(tree: &[u8]) -> Result<(), Refusal> {
+    // SAFETY: pointer and length are a live slice's, and it is only read.
+    accepted(unsafe { library::rulketoos_check(tree.as_ptr(), tree.len()) })
+}
