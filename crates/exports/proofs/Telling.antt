@@ -12,7 +12,7 @@ use Rattle.definitions.specs.Instruction.{encodes}
 use Rattle.definitions.specs.Tables.{Function, Tables}
 use Rattle.definitions.specs.Reader.{readModule}
 use Rattle.definitions.specs.Module.{Limits, office, codeStart, lowerBytes}
-use Rattle.definitions.specs.Calls.{Part, Counts, Running, Lowering, fitsRoom, areasFit, lowerAnswer, countAnswer, lowerCall, readCall, functionOf, codePart, codeCall, runCall}
+use Rattle.definitions.specs.Calls.{Part, Counts, Running, fitsRoom, areasFit, lowerAnswer, countAnswer, lowerCall, readCall, functionOf, codePart, codeCall, runCall}
 use Rattle.tree.specs.Settled.{said, settled}
 use Rattle.tree.specs.declared.Checked.{Checked}
 use Rattle.tree.specs.declared.Checked.the-variants.{Accepted, Refused}

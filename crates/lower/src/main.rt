@@ -8,7 +8,7 @@ use names::making::paste_decimal;
 ghost use Prim.Native.Nat.{_≤_};
 ghost use mathlib.Core.Path.{_≡_};
 ghost use mathlib.Core.List.{_∷_, [], _++_};
-ghost use lib.ListN.{length, take};
+ghost use lib.ListN.{length};
 ghost use Rattle.definitions.specs.Bytes.{ascii, decimal};
 ghost use Rattle.definitions.specs.Calls.{lowerProgram};
 ghost use Rattle.lower.specs.Answered.{Answered};
