@@ -63,7 +63,7 @@ oneMore c = record {
   done = c .done;
 }
 
-module _ (t made code tables : List ℕ) (sy ar lo h : ℕ) (c : Counts) (l : Limits) (s : Sound made code tables c l) (more : c .functions < l .functions) where
+module _ (t made code tables : List ℕ) (sy ar lo h : ℕ) (c : Counts) (l : Limits) (s : Sound tree made code tables c l) (more : c .functions < l .functions) where
   abbrev after : List ℕ
   after = set (set tables (headsFrom + c .functions) h) (codesFrom + c .functions) 0
 
@@ -104,7 +104,7 @@ module _ (t made code tables : List ℕ) (sy ar lo h : ℕ) (c : Counts) (l : Li
       ∙ ap (λ (f : Function). functionsOf t fin hs ks ++ f ∷ []) (head-function t fin sy ar lo h x y z e))
       (λ i. classesOf t (p i) (q i) (r i)) (kept-above constantsFrom (c .constants) (omega arith)))
 
-  begin-sound : Sound made code after (oneMore c) l
+  begin-sound : Sound tree made code after (oneMore c) l
   begin-sound = record {
     code-room = s .code-room;
     tables-room = omega (arith, s .tables-room, grown-length headsFrom codesFrom (c .functions) h tables apart room);
@@ -139,7 +139,7 @@ module _ (t made code tables : List ℕ) (sy ar lo h : ℕ) (c : Counts) (l : Li
     omega arith,
   )
 
-pub begin-over : (t made code tables tables′ : List ℕ) (sy ar lo n : ℕ) (c : Counts) (l : Limits) → Sound made code tables c l → l .functions ≤ c .functions →
+pub begin-over : (t made code tables tables′ : List ℕ) (sy ar lo n : ℕ) (c : Counts) (l : Limits) → Sound tree made code tables c l → l .functions ≤ c .functions →
     Begins Over t made code tables′ c l n (begunWith sy ar lo (stateOf t made code tables c))
 unfolding Begins begunWith
 begin-over t made code tables tables′ sy ar lo n c l s h = λ inside.

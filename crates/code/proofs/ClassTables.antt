@@ -21,7 +21,7 @@ use Rattle.code.proofs.Setting.{paste-take, paste-here, grown-length, g
 use Rattle.code.proofs.Begun.{tables-eq}
 
 -- the functions of two areas, by their regions
-functions-kept : (t made code tables tables′ : List ℕ) (c : Counts) (l : Limits) → Sound made code tables c l → ((a k : ℕ) → a + k ≤ classNamesFrom → region a k tables′ ≡ region a k tables) →
+functions-kept : (t made code tables tables′ : List ℕ) (c : Counts) (l : Limits) → Sound tree made code tables c l → ((a k : ℕ) → a + k ≤ classNamesFrom → region a k tables′ ≡ region a k tables) →
     functionsOf t (drop doneFrom code) (region headsFrom (c .functions) tables′) (region codesFrom (c .functions) tables′)
     ≡ functionsOf t (drop doneFrom code) (region headsFrom (c .functions) tables) (region codesFrom (c .functions) tables)
 functions-kept t made code tables tables′ c l s kept =
@@ -45,7 +45,7 @@ oneClass c = record {
   done = c .done;
 }
 
-module _ (t made code tables : List ℕ) (at : ℕ) (c : Counts) (l : Limits) (s : Sound made code tables c l) (more : c .classes < l .classes) where
+module _ (t made code tables : List ℕ) (at : ℕ) (c : Counts) (l : Limits) (s : Sound tree made code tables c l) (more : c .classes < l .classes) where
   abbrev after : List ℕ
   after = set (set tables (classNamesFrom + c .classes) at) (classMethodsFrom + c .classes) 0
 
@@ -84,7 +84,7 @@ module _ (t made code tables : List ℕ) (at : ℕ) (c : Counts) (l : Limits) (s
       classes-after
       (kept-above constantsFrom (c .constants) (omega arith)))
 
-  begin-sound : Sound made code after (oneClass c) l
+  begin-sound : Sound tree made code after (oneClass c) l
   begin-sound =
       let k = kept-below codesFrom (c .functions) (omega (arith, s .functions, s .limited .functions)) in record {
         code-room = s .code-room;
@@ -119,7 +119,7 @@ module _ (t made code tables : List ℕ) (at : ℕ) (c : Counts) (l : Limits) (s
     },
   )
 
-pub class-over : (t made code tables tables′ : List ℕ) (at n : ℕ) (c : Counts) (l : Limits) → Sound made code tables c l → l .classes ≤ c .classes →
+pub class-over : (t made code tables tables′ : List ℕ) (at n : ℕ) (c : Counts) (l : Limits) → Sound tree made code tables c l → l .classes ≤ c .classes →
     Numbers Over t made code tables′ c l n (withTables (beginClass (nameAt t at) (stateOf t made code tables c .tables)) (stateOf t made code tables c))
 unfolding Numbers beginClass
 class-over t made code tables tables′ at n c l s h = λ inside.
@@ -127,7 +127,7 @@ class-over t made code tables tables′ at n c l s h = λ inside.
 
 -- ---- its constant
 
-module _ (t made code tables : List ℕ) (i : ℕ) (c : Counts) (l : Limits) (s : Sound made code tables c l) (more : c .constants < c .classes) where
+module _ (t made code tables : List ℕ) (i : ℕ) (c : Counts) (l : Limits) (s : Sound tree made code tables c l) (more : c .constants < c .classes) where
   kept : (b k : ℕ) → b + k ≤ constantsFrom → region b k (set tables (constantsFrom + c .constants) i) ≡ region b k tables
   kept b k g = set-below b k (constantsFrom + c .constants) i tables (omega arith)
 
@@ -149,7 +149,7 @@ module _ (t made code tables : List ℕ) (i : ℕ) (c : Counts) (l : Limits) (s 
       classes-kept
       (set-next constantsFrom (c .constants) i tables (omega (arith, s .classes, s .limited .classes, s .tables-room))))
 
-  constant-sound : Sound made code (set tables (constantsFrom + c .constants) i) (withConstants (c .constants + 1) c) l
+  constant-sound : Sound tree made code (set tables (constantsFrom + c .constants) i) (withConstants (c .constants + 1) c) l
   constant-sound =
       let k = kept codesFrom (c .functions) (omega (arith, s .functions, s .limited .functions)) in record {
         code-room = s .code-room;
@@ -186,7 +186,7 @@ classes-put t ms (y ∷ xs) [] (suc i) x k = refl
 classes-put t ms (y ∷ xs) (j ∷ ks) zero x k = refl
 classes-put t ms (y ∷ xs) (j ∷ ks) (suc i) x k = ap (λ (cs : List Class). classOf t ms y j ∷ cs) (classes-put t ms xs ks i x k)
 
-module _ (t made code tables list : List ℕ) (i at n w : ℕ) (c : Counts) (l : Limits) (s : Sound made code tables c l)
+module _ (t made code tables list : List ℕ) (i at n w : ℕ) (c : Counts) (l : Limits) (s : Sound tree made code tables c l)
     (number : i < c .classes) (enough : n ≤ length list) (fits : c .methods + n ≤ c .functions) (place : w ≡ c .methods * 65536 + n) where
   abbrev copied : List ℕ
   copied = paste tables (methodsFrom + c .methods) list n
@@ -276,7 +276,7 @@ module _ (t made code tables list : List ℕ) (i at n w : ℕ) (c : Counts) (l :
       classes-all
       constants-kept)
 
-  end-sound : Sound made code all (withMethods (c .methods + n) c) l
+  end-sound : Sound tree made code all (withMethods (c .methods + n) c) l
   end-sound =
       let k = all-below codesFrom (c .functions) (omega (arith, s .functions, s .limited .functions)) in record {
         code-room = s .code-room;

@@ -42,7 +42,7 @@ without b c = record {
   done = c .done + (c .open - c .base);
 }
 
-module _ (t made code tables : List ℕ) (f b w : ℕ) (c : Counts) (l : Limits) (s : Sound made code tables c l) (number : f < c .functions)
+module _ (t made code tables : List ℕ) (f b w : ℕ) (c : Counts) (l : Limits) (s : Sound tree made code tables c l) (number : f < c .functions)
     (place : w ≡ c .done * 65536 + (c .open - c .base)) where
   abbrev n : ℕ
   n = c .open - c .base
@@ -128,7 +128,7 @@ module _ (t made code tables : List ℕ) (f b w : ℕ) (c : Counts) (l : Limits)
         let v : length ks ≡ c .functions = region-length codesFrom (c .functions) tables (omega arith) in
         sym (body-count t (drop doneFrom code) hs ks (c .done) f (u ∙ sym v) (s .codes) (simp length-drop (omega arith)) (omega arith)) ∙ ap length started
 
-    end-sound : Sound made moved after (without b c) l
+    end-sound : Sound tree made moved after (without b c) l
     end-sound = let z = small in
         let v : length ks ≡ c .functions = region-length codesFrom (c .functions) tables (omega arith) in
         record {

@@ -41,8 +41,8 @@ unfolding tablesOf
 tables-finished t made code code′ tables c n e = rw e
 
 -- the slices are sound with another stack
-pub sound-open : (made code code′ tables : List ℕ) (c : Counts) (l : Limits) (n : ℕ) → Sound made code tables c l →
-    length code′ ≡ length code → c .base ≤ n → n + c .done ≤ l .instructions → Sound made code′ tables (withOpen n c) l
+pub sound-open : (made code code′ tables : List ℕ) (c : Counts) (l : Limits) (n : ℕ) → Sound tree made code tables c l →
+    length code′ ≡ length code → c .base ≤ n → n + c .done ≤ l .instructions → Sound tree made code′ tables (withOpen n c) l
 sound-open made code code′ tables c l n s e b w = record {
   code-room = rw e (s .code-room);
   tables-room = s .tables-room;
@@ -63,7 +63,7 @@ sound-open made code code′ tables c l n s e b w = record {
   finished = s .finished;
 }
 
-module _ (t made code tables : List ℕ) (w : ℕ) (c : Counts) (l : Limits) (s : Sound made code tables c l) where
+module _ (t made code tables : List ℕ) (w : ℕ) (c : Counts) (l : Limits) (s : Sound tree made code tables c l) where
   put-state : c .open + c .done < l .instructions →
       stateOf t made (set code (c .open) w) tables (withOpen (c .open + 1) c) ≡ emitAt (c .base) (one (instrOf t w)) (stateOf t made code tables c)
   unfolding stateOf emitAt emits instrsOf

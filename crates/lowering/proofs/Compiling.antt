@@ -62,7 +62,7 @@ module _ (tree made₀ code₀ tables₀ made code tables : List ℕ) (c : Count
     left : (n ≡ next) × Left k tree made code tables c l (emitAt (c .base) (emitBlock [] b) before)
     left = emits-done tree made code tables c l next _ r n k e h
 
-    pub block-sound : Sound made code tables k l
+    pub block-sound : Sound tree made code tables k l
     block-sound = left .1 .sound
 
     pub main-done : (code′ : List ℕ) (q : Emitted) → Emits q tree made code′ tables k l n (emitAt (k .base) (one Return) (stateOf tree made code tables k))
@@ -128,7 +128,7 @@ module _ (tree made₁ code₁ tables₁ : List ℕ) (l : Limits) (r : Numbered)
         made-left : (n ≡ next) × Left m tree made code tables k l (emitAt (k .base) (mainCode b) (stateOf tree made₁ code₁ tables₁ k))
         made-left = emits-done tree made code tables k l next _ q n m x g
 
-        pub body-sound : Sound made code tables m l
+        pub body-sound : Sound tree made code tables m l
         body-sound = made-left .1 .sound
 
         after : stateOf tree made code tables m ≡ emitAt 0 (mainCode b) mainBegun

@@ -15,7 +15,7 @@ use Rattle.state.proofs.Regions.{spelled-same, made-within-same, every-map}
 use Rattle.names.specs.Made.{Stands}
 use Rattle.names.proofs.Spelling.{spelled-made}
 
-module _ (tree made made′ code tables : List ℕ) (c : Counts) (l : Limits) (s : Sound made code tables c l) (x : Name) (at : ℕ) (here : at ≡ c .made)
+module _ (tree made made′ code tables : List ℕ) (c : Counts) (l : Limits) (s : Sound tree made code tables c l) (x : Name) (at : ℕ) (here : at ≡ c .made)
     (size : length made′ ≡ length made) (w : Stands x at made made′) where
   kept : take (c .made) made ≡ take (c .made) made′
   kept = rw here at (sym (w .before))

@@ -97,7 +97,7 @@ oneSymbol grow c = record {
   done = c .done;
 }
 
-module _ (tree made code tables : List ℕ) (c : Counts) (l : Limits) (s : Sound made code tables c l) (w i : ℕ) where
+module _ (tree made code tables : List ℕ) (c : Counts) (l : Limits) (s : Sound tree made code tables c l) (w i : ℕ) where
   abbrev st : State
   st = stateOf tree made code tables c
 
@@ -157,7 +157,7 @@ module _ (tree made code tables : List ℕ) (c : Counts) (l : Limits) (s : Sound
       (λ j. classesOf tree (above methodsFrom 256 (omega arith) room j) (above classNamesFrom (c .classes) (omega arith) room j) (above classMethodsFrom (c .classes) (omega arith) room j))
       (above constantsFrom (c .constants) (omega arith) room))
 
-  symbol-sound : (grow : ℕ) → grow ≤ 20 → MadeWithin made (c .made + grow) w → c .symbols < l .symbols → Sound made code next (oneSymbol grow c) l
+  symbol-sound : (grow : ℕ) → grow ≤ 20 → MadeWithin made (c .made + grow) w → c .symbols < l .symbols → Sound tree made code next (oneSymbol grow c) l
   unfolding next
   symbol-sound grow small within room = record {
     code-room = s .code-room;
@@ -211,7 +211,7 @@ oneString c = record {
   done = c .done;
 }
 
-module _ (tree made code tables : List ℕ) (c : Counts) (l : Limits) (s : Sound made code tables c l) (p i : ℕ) where
+module _ (tree made code tables : List ℕ) (c : Counts) (l : Limits) (s : Sound tree made code tables c l) (p i : ℕ) where
   abbrev st₂ : State
   st₂ = stateOf tree made code tables c
 
@@ -275,7 +275,7 @@ module _ (tree made code tables : List ℕ) (c : Counts) (l : Limits) (s : Sound
       (λ j. classesOf tree (above-text methodsFrom 256 (omega arith) room j) (above-text classNamesFrom (c .classes) (omega arith) room j) (above-text classMethodsFrom (c .classes) (omega arith) room j))
       (above-text constantsFrom (c .constants) (omega arith) room))
 
-  string-sound : c .strings < l .strings → Sound made code next-text (oneString c) l
+  string-sound : c .strings < l .strings → Sound tree made code next-text (oneString c) l
   unfolding next-text
   string-sound room = record {
     code-room = s .code-room;

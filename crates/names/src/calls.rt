@@ -75,7 +75,7 @@ fn resolve_function(
     c: Counts,
     l: Limits,
 ) -> Callee
-    requires { ⌜ Sound (now made) (now code) (now tables) c l ⌝ }
+    requires { ⌜ Sound (now tree) (now made) (now code) (now tables) c l ⌝ }
     ensures { λ r. ⌜ calleeOf r ≡ Lower.resolveFunction (now (name .entry)) (stateOf (now (tree .entry)) (now (made .entry)) (now (code .entry)) (now (tables .entry)) c .tables) ⌝ }
 {
     let symbols = c.symbols as usize;
@@ -101,7 +101,7 @@ pub fn resolve(
     c: Counts,
     l: Limits,
 ) -> Callee
-    requires { ⌜ Sound (now made) (now code) (now tables) c l ⌝ }
+    requires { ⌜ Sound (now tree) (now made) (now code) (now tables) c l ⌝ }
     ensures { λ r. ⌜ calleeOf r ≡ Lower.resolve (nameAt (now (tree .entry)) at) (stateOf (now (tree .entry)) (now (made .entry)) (now (code .entry)) (now (tables .entry)) c .tables) ⌝ }
 {
     let name = name_part(tree, at);

@@ -38,7 +38,7 @@ pub fn intern(
     c: Counts,
     l: Limits,
 ) -> Numbered
-    requires { ⌜ Sound (now made) (now code) (now tables) c l × MadeWithin (now made) (c .made + grow) w × (grow ≤ 20) ⌝ }
+    requires { ⌜ Sound (now tree) (now made) (now code) (now tables) c l × MadeWithin (now made) (c .made + grow) w × (grow ≤ 20) ⌝ }
     ensures { λ r. ⌜ Numbers r (now (tree .entry)) (now (made .entry)) (now (code .entry)) (now (tables .exit)) c l
         (symbolNumber (spelled (now (tree .entry)) (now (made .entry)) w) (stateOf (now (tree .entry)) (now (made .entry)) (now (code .entry)) (now (tables .entry)) c .tables))
         (withTables (withSymbol (spelled (now (tree .entry)) (now (made .entry)) w) (stateOf (now (tree .entry)) (now (made .entry)) (now (code .entry)) (now (tables .entry)) c .tables))
@@ -79,7 +79,7 @@ pub fn get_or_add_string(
     c: Counts,
     l: Limits,
 ) -> Numbered
-    requires { ⌜ Sound (now made) (now code) (now tables) c l × (at < 2 ^ 32) ⌝ }
+    requires { ⌜ Sound (now tree) (now made) (now code) (now tables) c l × (at < 2 ^ 32) ⌝ }
     ensures { λ r. ⌜ Numbers r (now (tree .entry)) (now (made .entry)) (now (code .entry)) (now (tables .exit)) c l
         (stringNumber (textAt (now (tree .entry)) at) (stateOf (now (tree .entry)) (now (made .entry)) (now (code .entry)) (now (tables .entry)) c .tables))
         (withTables (withString (textAt (now (tree .entry)) at) (stateOf (now (tree .entry)) (now (made .entry)) (now (code .entry)) (now (tables .entry)) c .tables))
