@@ -7,7 +7,8 @@ use lib.ListN.{length, take, getD}
 use Rattle.definitions.specs.Bytes.{Name}
 use Rattle.definitions.specs.Tables.{Tables}
 use Rattle.state.specs.Words.{region, nameAt}
-use Rattle.state.specs.State.{spelled, State, tablesOf, stateOf, Sound, Every, MadeWithin, Numbers, symbolNumber, withSymbol, withTables}
+use Rattle.state.specs.Index.{Covered}
+use Rattle.state.specs.State.{symbolIndexFrom, symbolBuckets, spelled, State, tablesOf, stateOf, Sound, Every, MadeWithin, Numbers, symbolNumber, withSymbol, withTables}
 use Rattle.state.specs.declared.Counts.{Counts}
 use Rattle.state.specs.declared.Limits.{Limits}
 use Rattle.state.specs.declared.Numbered.{Numbered}
@@ -20,7 +21,7 @@ module _ (tree made made′ code tables : List ℕ) (c : Counts) (l : Limits) (s
   kept : take (c .made) made ≡ take (c .made) made′
   kept = rw here at (sym (w .before))
 
-  pub made-sound : Sound made′ code tables c l
+  pub made-sound : Sound tree made′ code tables c l
   made-sound = record {
     code-room = s .code-room;
     tables-room = s .tables-room;
@@ -39,6 +40,8 @@ module _ (tree made made′ code tables : List ℕ) (c : Counts) (l : Limits) (s
     codes = s .codes;
     class-methods = s .class-methods;
     finished = s .finished;
+    symbol-index = subst (Covered symbolBuckets (region symbolIndexFrom symbolBuckets tables) 0) (spelled-same tree made made′ (c .made) (region 0 (c .symbols) tables) (s .names) kept) (s .symbol-index);
+    string-index = s .string-index;
   }
 
   made-state : stateOf tree made′ code tables c ≡ stateOf tree made code tables c

@@ -5,7 +5,7 @@ use mathlib.Core.Bool.{Bool, true, false, _&&_}
 use mathlib.Core.Option.{Option, none, some}
 use mathlib.Core.List.{List, [], _∷_, _++_, map}
 use native.Mathlib.Omega.{arith}
-use native.Mathlib.Nat.{zero-add, add-zero, suc-add}
+use native.Mathlib.Nat.{zero-add, add-zero, suc-add, mod-lt}
 use native.Mathlib.Numerals.{add-one}
 use lib.ListN.{length, take, drop, getD, set, drop-of-length-le}
 use lib.Seq.{getD-set-same, getD-set-other, drop-cons}
@@ -15,7 +15,8 @@ use Rattle.state.specs.Index.{hashFrom, hashOf, bucketOf, Covered, noneC
 use lib.Dec.{T, eqb→eq}
 use borrow.Author.Tests.{ltb-true, ltb-false}
 use Rattle.definitions.proofs.Truth.{left, right, holds, not-equal}
-use Rattle.state.specs.State.{foundOr}
+use Rattle.state.specs.Words.{region}
+use Rattle.state.specs.State.{foundOr, stringsFrom, symbolIndexFrom, symbolBuckets, stringIndexFrom, stringBuckets, SymbolIndex, StringIndex}
 
 -- the same bytes
 pub same-equal : (x y : Name) → same x y ≡ true → x ≡ y
@@ -92,8 +93,21 @@ start-le (suc k) n = go (ltb k n) refl
     go true f = let h = ltb-true k n f in omega arith
     go false f = omega arith
 
+pub start-none : (n : ℕ) → startOf 0 n ≡ n
+unfolding startOf
+start-none n = refl
+
+pub start-over : (k n : ℕ) → n < k → startOf k n ≡ n
+unfolding startOf
+start-over zero n h = refl
+start-over (suc k) n h = go (ltb k n) refl
+  where
+    go : (b : Bool) → ltb k n ≡ b → (elim b as (λ z. ℕ) [ true ↦ k | false ↦ n ]) ≡ n
+    go true f = let m = ltb-true k n f in absurd (omega arith)
+    go false f = refl
+
 -- a number that is there is kept
-start-kept : (k n : ℕ) → 0 < k → k ≤ n → startOf k n + 1 ≡ k
+pub start-kept : (k n : ℕ) → 0 < k → k ≤ n → startOf k n + 1 ≡ k
 unfolding startOf
 start-kept zero n h l = absurd (omega arith)
 start-kept (suc k) n h l = go (ltb k n) refl
@@ -137,6 +151,10 @@ pub covered-snoc : (size : ℕ) (buckets : List ℕ) (x : Name) (n : ℕ) (xs : 
     Covered size (noted buckets (bucketOf size x) n) 0 (xs ++ x ∷ [])
 covered-snoc size buckets x n xs inside v e = covered-more size buckets x n inside 0 xs v (zero-add (length xs) ∙ e)
 
+pub bucket-below : (size : ℕ) (x : Name) → 0 < size → bucketOf size x < size
+unfolding bucketOf
+bucket-below size x h = mod-lt (hashOf x) h
+
 -- ---- the hash
 
 pub hash-next : (h : ℕ) (x : List ℕ) (i : ℕ) → i < length x → hashFrom h (drop i x) ≡ hashFrom ((h * 31 + getD x i 0) % 65536) (drop (i + 1) x)
@@ -146,3 +164,13 @@ hash-next h x i l = ap (hashFrom h) (drop-cons x i 0 l) ∙ ap (λ (k : ℕ). ha
 pub hash-end : (h : ℕ) (x : List ℕ) (i : ℕ) → length x ≤ i → hashFrom h (drop i x) ≡ h
 unfolding hashFrom
 hash-end h x i l = ap (hashFrom h) (drop-of-length-le x l)
+
+-- ---- the indexes of the tables stay where their words do
+
+pub symbols-indexed : (tree made tables tables′ : List ℕ) (n : ℕ) → region symbolIndexFrom symbolBuckets tables′ ≡ region symbolIndexFrom symbolBuckets tables → region 0 n tables′ ≡ region 0 n tables →
+    SymbolIndex tree made tables n → SymbolIndex tree made tables′ n
+symbols-indexed tree made tables tables′ n e f v = rw (e, f) v
+
+pub strings-indexed : (tree tables tables′ : List ℕ) (n : ℕ) → region stringIndexFrom stringBuckets tables′ ≡ region stringIndexFrom stringBuckets tables → region stringsFrom n tables′ ≡ region stringsFrom n tables →
+    StringIndex tree tables n → StringIndex tree tables′ n
+strings-indexed tree tables tables′ n e f v = rw (e, f) v
