@@ -1,14 +1,15 @@
 /*
  * Rulketoos for C and for languages that call C: spine scripts' trees and
- * modules, checked, read and run by proved code.
+ * modules, checked, lowered, read and run by proved code.
  *
  * Link target/staticlib/libexports.a, which `rt staticlib exports` writes.
  * A slice is a pointer and a length; the caller owns all memory, nothing is
  * kept after a call, and no call allocates. A length of 0 may come with any
  * pointer. Slices that a call writes to must not overlap others.
  *
- * An answer of 0 means that no question is answered no; a refusal is the number
- * of the first question that is (README.md has the questions in words).
+ * A refusal is the number of the first question that is answered no (README.md
+ * has the questions in words). Where a call has nothing to count, 0 means that
+ * none is.
  * docs/FORMAT.md has both records byte by byte.
  */
 #ifndef RULKETOOS_H
@@ -23,6 +24,28 @@ extern "C" {
 
 /* Questions 2 to 13 of a tree record: 0, or the refusal. Reads only. */
 uint32_t rulketoos_check(const uint8_t *tree, size_t tree_len);
+
+/* The least length of each work area, in numbers. */
+enum { RULKETOOS_AREA = 16384 };
+
+/* What is added to the count of bytes that rulketoos_lower answers. */
+#define RULKETOOS_WROTE (UINT64_C(1) << 32)
+
+/*
+ * Lowers a tree record to a module record, which it writes to out from the
+ * first byte on; what is past it is left as it was. Answers RULKETOOS_WROTE plus
+ * the count of bytes written; or, below RULKETOOS_WROTE, the refusal, 1 to 16,
+ * with out left as it was.
+ *
+ * area1 and area2 are room to work in, whatever is in them before. Both are all
+ * zero afterwards, over their whole length and after a refusal too; but refusal
+ * 1, which says that one of them is shorter than RULKETOOS_AREA, leaves both as
+ * they were. No module is longer than 524,288 bytes.
+ */
+uint64_t rulketoos_lower(const uint8_t *tree, size_t tree_len,
+                         uint32_t *area1, size_t area1_len,
+                         uint32_t *area2, size_t area2_len,
+                         uint8_t *out, size_t out_len);
 
 /* Questions 17 to 21 of a module record: 0, or the refusal. Reads only. */
 uint32_t rulketoos_read(const uint8_t *module, size_t module_len);

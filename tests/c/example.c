@@ -1,13 +1,25 @@
-/* Calls the library from C: reads a module, finds a function's code, runs it. */
+/* Calls the library from C: lowers a tree, reads a module, finds a function's code, runs it. */
 #include "rulketoos.h"
 
 #include <stdio.h>
 #include <string.h>
 
-/* the module of the empty script */
+/* the empty script, and its module */
+static const uint8_t tree[] = {0, 0, 0, 3, 1, 0, 0};
 static const uint8_t module[] = {
     0, 0, 0, 28, 1, 0, 1, 8, '_', '_', 'm', 'a', 'i', 'n', '_', '_',
     0, 0, 0, 1, 0, 0, 0, 0, 0, 0, 1, 33, 0, 0, 0, 0};
+
+/* `while True: break`, and its module: True, JumpIfFalse 2, Jump 1, Jump -4, Return */
+static const uint8_t loop_tree[] = {0, 0, 0, 8, 1, 0, 1, 7, 2, 0, 1, 0};
+static const uint8_t loop_module[] = {
+    0, 0, 0, 44, 1, 0, 1, 8, '_', '_', 'm', 'a', 'i', 'n', '_', '_',
+    0, 0, 0, 1, 0, 0, 0, 0, 0, 0, 5, 3, 29, 0, 0, 0, 2, 28, 0, 0, 0, 1,
+    28, 255, 255, 255, 252, 33, 0, 0, 0, 0};
+
+static uint32_t area1[RULKETOOS_AREA];
+static uint32_t area2[RULKETOOS_AREA];
+static uint8_t out[64];
 
 static int failures;
 
@@ -17,14 +29,69 @@ static void expect(int good, const char *what)
     failures += !good;
 }
 
+/* whether each of n bytes, or of n numbers, is this one */
+static int all_bytes(const uint8_t *bytes, size_t n, uint8_t x)
+{
+    while (n > 0 && bytes[n - 1] == x)
+        n--;
+    return n == 0;
+}
+
+static int all_numbers(const uint32_t *numbers, size_t n, uint32_t x)
+{
+    while (n > 0 && numbers[n - 1] == x)
+        n--;
+    return n == 0;
+}
+
+static int areas_are(uint32_t x)
+{
+    return all_numbers(area1, RULKETOOS_AREA, x) && all_numbers(area2, RULKETOOS_AREA, x);
+}
+
+/* lowers with sevens in the areas and nines in the output */
+static uint64_t lower(const uint8_t *bytes, size_t size, size_t area, size_t room)
+{
+    for (size_t i = 0; i < RULKETOOS_AREA; i++)
+        area1[i] = area2[i] = 7;
+    memset(out, 9, sizeof out);
+    return rulketoos_lower(bytes, size, area1, RULKETOOS_AREA, area2, area, out, room);
+}
+
+static void lowers(void)
+{
+    uint64_t answer = lower(tree, sizeof tree, RULKETOOS_AREA, sizeof out);
+    expect(answer == RULKETOOS_WROTE + sizeof module, "the empty tree is lowered");
+    expect(memcmp(out, module, sizeof module) == 0, "its module is there");
+    expect(all_bytes(out + sizeof module, sizeof out - sizeof module, 9), "the rest of the output is untouched");
+    expect(areas_are(0), "the areas are zero");
+
+    answer = lower(loop_tree, sizeof loop_tree, RULKETOOS_AREA, sizeof out);
+    expect(answer == RULKETOOS_WROTE + sizeof loop_module, "a loop is lowered");
+    expect(memcmp(out, loop_module, sizeof loop_module) == 0, "its module is there");
+    expect(rulketoos_read(out, answer - RULKETOOS_WROTE) == 0, "the reader accepts it");
+    answer = lower(loop_tree, sizeof loop_tree, RULKETOOS_AREA, sizeof loop_module);
+    expect(answer == RULKETOOS_WROTE + sizeof loop_module, "an output of just that length is enough");
+
+    answer = lower(loop_tree, sizeof loop_tree, RULKETOOS_AREA, sizeof loop_module - 1);
+    expect(answer == 16, "a shorter output is refused by 16");
+    expect(all_bytes(out, sizeof out, 9) && areas_are(0), "the output is as it was, the areas are zero");
+    answer = lower(loop_tree, sizeof loop_tree - 1, RULKETOOS_AREA, sizeof out);
+    expect(answer == 3, "a tree that is cut isn't lowered, by 3");
+    expect(all_bytes(out, sizeof out, 9) && areas_are(0), "the output is as it was, the areas are zero");
+    answer = lower(tree, sizeof tree, RULKETOOS_AREA - 1, sizeof out);
+    expect(answer == 1, "a short area is refused by 1");
+    expect(all_bytes(out, sizeof out, 9) && areas_are(7), "the output and the areas are as they were");
+}
+
 int main(void)
 {
-    static const uint8_t tree[] = {0, 0, 0, 3, 1, 0, 0};
     uint8_t events[4] = {9, 9, 9, 9};
     uint64_t numbers[RULKETOOS_NUMBERS] = {7, 7, 7, 7};
 
     expect(rulketoos_check(tree, sizeof tree) == 0, "the empty tree is accepted");
     expect(rulketoos_check(tree, 6) == 3, "a tree that is cut is refused by 3");
+    lowers();
     expect(rulketoos_read(module, sizeof module) == 0, "the module is accepted");
     expect(rulketoos_read(module, sizeof module - 1) == 17, "a module that is cut is refused by 17");
 

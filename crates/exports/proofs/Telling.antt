@@ -1,21 +1,24 @@
 -- What the exported numbers say, by the cases of the answers.
 use Prim.Native.Nat.{ℕ, _+_, _*_, _^_, _≤_, _<_}
 use mathlib.Core.Path.{_≡_, refl, sym, ap, _∙_}
-use mathlib.Core.Bool.{true, false}
+use mathlib.Core.Bool.{Bool, true, false}
 use mathlib.Core.List.{List}
 use native.Mathlib.Omega.{arith}
 use lib.ListN.{length, set}
 use lib.Dec.{leb}
-use borrow.Author.Tests.{le-leb, lt-leb}
+use borrow.Author.Tests.{le-leb, lt-leb, leb-true}
 use Rattle.definitions.specs.Bytes.{Answer, refused, accepted, whenAccepted}
 use Rattle.definitions.specs.Instruction.{encodes}
 use Rattle.definitions.specs.Tables.{Function, Tables}
-use Rattle.definitions.specs.Module.{codeStart}
 use Rattle.definitions.specs.Reader.{readModule}
-use Rattle.definitions.specs.Calls.{Part, Counts, Running, readCall, functionOf, codePart, codeCall, runCall}
+use Rattle.definitions.specs.Module.{Limits, office, codeStart, lowerBytes}
+use Rattle.definitions.specs.Calls.{Part, Counts, Running, fitsRoom, areasFit, lowerAnswer, countAnswer, lowerCall, readCall, functionOf, codePart, codeCall, runCall}
 use Rattle.tree.specs.Settled.{said, settled}
 use Rattle.tree.specs.declared.Checked.{Checked}
 use Rattle.tree.specs.declared.Checked.the-variants.{Accepted, Refused}
+use Rattle.lowering.specs.Lowered.{told as lowered, Lowers as Lowered′}
+use Rattle.lowering.specs.declared.Lowered.{Lowered}
+use Rattle.lowering.specs.declared.Lowered.the-variants.{Wrote, Refused as NotLowered}
 use Rattle.reader.specs.View.{verdict, functionIn, CodeAt, Known, Locates}
 use Rattle.reader.specs.declared.Verdict.{Verdict}
 use Rattle.reader.specs.declared.Verdict.the-variants.{Accepted as Taken, Refused as NotTaken}
@@ -25,7 +28,7 @@ use Rattle.run.specs.Pass.{outcome, Called}
 use Rattle.run.proofs.Calling.{module-short}
 use Rattle.run.specs.declared.Outcome.{Outcome}
 use Rattle.run.specs.declared.Outcome.the-variants.{Finished, Refused as NotRun}
-use Rattle.exports.specs.Told.{told, toldPart, fourIn, countsIn, Runs}
+use Rattle.exports.specs.Told.{told, toldCount, toldPart, fourIn, countsIn, Lowers, Runs}
 
 -- ---- a tree
 
@@ -36,6 +39,37 @@ check-yes r t e f = ap told (sym (ap said f) ∙ e)
 pub check-no : (r : Checked) (t : List ℕ) (q : ℕ) → said r ≡ settled t → r ≡ Refused q → q ≡ told (settled t)
 unfolding told said
 check-no r t q e f = ap told (sym (ap said f) ∙ e)
+
+-- ---- a tree's module
+
+-- what is written fits the output
+room-count : (room : ℕ) (bs : List ℕ) (n : ℕ) (b : Bool) → leb (length bs) room ≡ b → countAnswer (elim b as (λ z. Answer (List ℕ)) [ true ↦ accepted bs | false ↦ refused 16 ]) ≡ accepted n → n ≤ room
+unfolding countAnswer whenAccepted
+room-count room bs n true h e = let x : length bs ≡ n = cc in omega (arith, leb-true (length bs) room h)
+room-count room bs n false h e = let z : _≡_ {A = ℕ} 0 1 = cc in absurd (omega arith)
+
+bytes-count : (room n : ℕ) (a : Answer (List ℕ)) → countAnswer (whenAccepted a (fitsRoom room)) ≡ accepted n → n ≤ room
+unfolding fitsRoom countAnswer whenAccepted
+bytes-count room n (refused q) e = let z : _≡_ {A = ℕ} 0 1 = cc in absurd (omega arith)
+bytes-count room n (accepted bs) e = room-count room bs n (leb (length bs) room) refl e
+
+answer-count : (l : Limits) (room n : ℕ) (tree : List ℕ) (b : Bool) → countAnswer (elim b as (λ z. Answer (List ℕ)) [ false ↦ refused 1 | true ↦ whenAccepted (lowerBytes l tree) (fitsRoom room) ]) ≡ accepted n → n ≤ room
+unfolding countAnswer whenAccepted
+answer-count l room n tree true e = bytes-count room n (lowerBytes l tree) e
+answer-count l room n tree false e = let z : _≡_ {A = ℕ} 0 1 = cc in absurd (omega arith)
+
+module _ (r : Lowered) (tree area₁ area₂ out area₁′ area₂′ out′ : List ℕ) (L : Lowered′ r area₁′ area₂′ out′ (lowerCall office tree area₁ area₂ out)) where
+  pub lowered-fits : (n : ℕ) → r ≡ Wrote n → n ≤ length out
+  unfolding lowered lowerCall lowerAnswer
+  lowered-fits n e = answer-count office (length out) n tree (areasFit (length area₁) (length area₂)) (sym (L .answer) ∙ ap lowered e)
+
+  pub lowered-yes : (n : ℕ) → r ≡ Wrote n → Lowers (4294967296 + n) (lowerCall office tree area₁ area₂ out) area₁′ area₂′ out′
+  unfolding lowered toldCount
+  lowered-yes n e = record { answer = ap toldCount (sym (ap lowered e) ∙ L .answer); first = L .first; second = L .second; output = L .output }
+
+  pub lowered-no : (q : ℕ) → r ≡ NotLowered q → Lowers q (lowerCall office tree area₁ area₂ out) area₁′ area₂′ out′
+  unfolding lowered toldCount
+  lowered-no q e = record { answer = ap toldCount (sym (ap lowered e) ∙ L .answer); first = L .first; second = L .second; output = L .output }
 
 -- ---- a module
 

@@ -1,5 +1,5 @@
-//! The stored input and output of the programs `read_module` and `run_module`,
-//! held against the samples and the model.
+//! The stored input and output of the programs `lower`, `read_module` and
+//! `run_module`, held against the samples and the model.
 
 use generator::text::hex_or_dash;
 use std::path::PathBuf;
@@ -38,12 +38,22 @@ fn run_lines(ran: &model::Ran) -> String {
 
 #[test]
 fn inputs_are_samples() {
-    for (program, sample) in [("read_module", "spine"), ("run_module", "loops")] {
+    for (program, sample) in [
+        ("lower", "spine.tree"),
+        ("read_module", "spine.module"),
+        ("run_module", "loops.module"),
+    ] {
         assert!(
-            bytes(&format!("crates/{program}/stdin")) == bytes(&format!("samples/{sample}.module")),
+            bytes(&format!("crates/{program}/stdin")) == bytes(&format!("samples/{sample}")),
             "{program}"
         );
     }
+}
+
+#[test]
+fn lower_lowers_its_input() {
+    let module = model::lower(&bytes("crates/lower/stdin"), 16_384, 16_384, 65_536);
+    assert!(module == Ok(bytes("crates/lower/stdout")));
 }
 
 #[test]

@@ -84,30 +84,16 @@ fn stored_output(program: &str) -> String {
     std::fs::read_to_string(path).expect(program)
 }
 
-/// The answer of questions 2 to 13 alone.
-fn tree_pass_answer(answer: &str) -> &str {
-    match answer.strip_prefix("refused ").map(str::parse::<u8>) {
-        Some(Ok(2..=13)) => answer,
-        _ => "accepted",
-    }
-}
-
 #[test]
 fn stored_outputs_are_the_answers() {
     for (program, file) in [
-        ("tree_vectors", "trees.txt"),
+        ("lower_vectors", "trees.txt"),
         ("module_vectors", "modules.txt"),
         ("run_vectors", "runs.txt"),
     ] {
         let mut expected = String::new();
         for fields in lines(&committed(file)) {
-            let answer = fields[fields.len() - 1];
-            let answer = if program == "tree_vectors" {
-                tree_pass_answer(answer)
-            } else {
-                answer
-            };
-            expected += answer;
+            expected += fields[fields.len() - 1];
             expected += "\n";
         }
         assert!(stored_output(program) == expected, "{program}/stdout");

@@ -1,17 +1,18 @@
-// Questions 2 to 13 of each tree of tests/vectors/trees.txt.
-use tree::Checked;
+// The module, or the refusal, of each tree of tests/vectors/trees.txt.
+use lowering::Lowered;
 use vectors::Reading;
 
 // The answer to a tree, in a line.
 fn answer(tree: &[u8]) {
-    let checked = tree::check_tree(tree);
-    match checked {
-        Checked::Accepted => report::text(b"accepted\n"),
-        Checked::Refused(q) => {
-            report::refused(q as u64);
-            report::text(b"\n");
-        }
+    let mut area1 = [0u32; 16384];
+    let mut area2 = [0u32; 16384];
+    let mut module = [0u8; 65536];
+    let lowered = lowering::lower(tree, &mut area1, &mut area2, &mut module);
+    match lowered {
+        Lowered::Wrote(n) => report::hex(&module, n),
+        Lowered::Refused(q) => report::refused(q as u64),
     }
+    report::text(b"\n");
 }
 
 // One line of the input.

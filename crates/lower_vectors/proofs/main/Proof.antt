@@ -1,7 +1,7 @@
 -- The measure is the number of turns that are left.
 use native.Mathlib.Omega.{arith}
-use Rattle.tree_vectors.proofs.main.Statement.{statement}
-use Rattle.tree_vectors.proofs.main.Tie as tie
+use Rattle.lower_vectors.proofs.main.Statement.{statement}
+use Rattle.lower_vectors.proofs.main.Tie as tie
 
 abbrev Inv-loop : tie.InvT-loop
 Inv-loop piece₀ now₀ turns₀ piece now turns = Unit {0}

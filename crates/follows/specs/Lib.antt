@@ -1,0 +1,3 @@
+pub mod Thereafter
+pub mod Rereading
+pub mod Following
