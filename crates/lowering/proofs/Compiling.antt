@@ -10,7 +10,6 @@ use Rattle.definitions.specs.Instruction.{Return}
 use Rattle.definitions.specs.Tables.{Emit, one, blockBody, begin, function}
 use Rattle.definitions.specs.Lower.{emitBlock, compile, main, noTables}
 use Rattle.definitions.specs.Wellformed.{blockQuestions}
-use Rattle.definitions.specs.Reader.{isJump}
 use Rattle.state.specs.State.{State, stateOf, emitAt, symbolNumber, Within, Sound, Left, Emits}
 use Rattle.state.specs.Steps.{begun, ended}
 use Rattle.state.specs.declared.Counts.{Counts}
@@ -26,16 +25,11 @@ use Rattle.state.proofs.Enclosing.{symbol-functions, at-function, at-compile}
 use Rattle.state.proofs.Growth.{Lengthened, Lengthens, functions-longer, lengthens-one, lengthens-seq, lengthens-block}
 use Rattle.state.proofs.Within.{within-down, within-first, within-function}
 use Rattle.code.specs.Nesting.{bodyOf, Moved, Begins}
-use Rattle.code.specs.Ops.{special, Plain}
 use Rattle.code.proofs.Begun.{begun-body}
 use Rattle.statements.specs.Lowering.{BlockLowerable}
 use Rattle.lowering.specs.Compiled.{Fitting, noCounts, nothing, mainNamed, mainBegun, mainCode, Compiles}
 
 -- ---- the block and a return
-
-pub plain-return : Plain 33 0 0
-unfolding special isJump
-plain-return = record { op-byte = omega arith; op-plain = refl; first-short = omega arith; second-byte = omega arith }
 
 pub block-lowerable : (tree : List ℕ) → Fitting tree → BlockLowerable 32 tree [] 5
 unfolding blockQuestions

@@ -1,7 +1,7 @@
 -- What an accepted statement holds, for each kind byte, and its code by that of its parts.
-use Prim.Native.Nat.{ℕ, zero, suc, _+_, _-_, _<_, _≤_}
+use Prim.Native.Nat.{ℕ, _+_, _-_, _<_, _≤_}
 use mathlib.Core.Path.{_≡_, refl, sym, ap, _∙_, subst}
-use mathlib.Core.Bool.{Bool, true, false, not, _&&_, _||_, true≢false}
+use mathlib.Core.Bool.{true, false, not, _&&_, _||_}
 use mathlib.Core.List.{List, [], _∷_}
 use native.Mathlib.Omega.{arith}
 use native.Mathlib.Nat.{le-refl}
@@ -15,7 +15,7 @@ use Rattle.definitions.specs.Tables.{Emit, emits, one, _⨟_, function, blockBo
 use Rattle.definitions.specs.Wellformed.{init, ifAsked, isTarget, askName, distinct, askParams, askExpr, askTarget, askStmt, askBlock, askBranches, askMethod, askMethods, askAttribute}
 use Rattle.definitions.specs.Slots.{localsBlock}
 use Rattle.definitions.specs.Lower.{loop, emitExpr, emitStmt, emitBlock}
-use Rattle.parts.specs.Places.{Node, node, countAt, Counted, nameBytes, nameEnd, There, ParamsAt, paramsAt, namesFrom}
+use Rattle.parts.specs.Places.{Node, node, countAt, Counted, nameBytes, nameEnd, There, ParamsAt, paramsAt}
 use Rattle.parts.proofs.Nodes.{Seen}
 use Rattle.exprs.specs.ExprAt.{exprAt, secondAt}
 use Rattle.tree.specs.StmtAt.{stmtAt, blockAt, stmtsAt, branchesAt, methodsAt, attributesAt, StmtReads, BlockReads, StmtsRead, BranchesRead, MethodsRead}
@@ -26,24 +26,8 @@ use Rattle.state.specs.Words.{nameAt}
 use Rattle.state.specs.Fits.{fitsExpr, fitsTarget, fitsStmt, fitsBlock, fitsBranches, fitsMethods}
 use Rattle.expressions.specs.Lowerable.{Lowerable, exprCode}
 use Rattle.targets.specs.Assigned.{AssignLowerable, assignCode}
+use Rattle.expressions.proofs.Arms.{and-both, name-same, params-count}
 use Rattle.statements.specs.Lowering.{StmtLowerable, BlockLowerable, StmtsLowerable, stmtCode, blockCode, stmtsCode, BranchLowerable, BranchesLowerable, IfLowerable, ForLowerable, localsAt, FunctionLowerable, endOf, functionCode, MethodsLowerable, ClassLowerable, classCode}
-
-and-both : (a b : Bool) → a && b ≡ true → (a ≡ true) × (b ≡ true)
-and-both true b e = (refl, e)
-and-both false b e = absurd (true≢false (sym e))
-
-name-same : (t : List ℕ) (p : ℕ) → nameBytes t p ≡ nameAt t p
-unfolding nameBytes nameAt
-name-same t p = refl
-
-names-count : (t : List ℕ) (n p : ℕ) → length (namesFrom t n p) ≡ n
-unfolding namesFrom
-names-count t zero p = refl
-names-count t (suc n) p = ap suc (names-count t n (nameEnd t p))
-
-pub params-count : (t : List ℕ) (p : ℕ) → length (paramsAt t p .value) ≡ countAt t p
-unfolding paramsAt
-params-count t p = names-count t (countAt t p) (p + 2)
 
 few-params : (t : List ℕ) (p : ℕ) → askParams 13 (paramsAt t p .value) ≡ true → countAt t p ≤ 255
 unfolding askParams ifAsked

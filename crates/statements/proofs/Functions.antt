@@ -31,7 +31,7 @@ use Rattle.state.proofs.Within.{within-down, within-begun, within-function}
 use Rattle.state.proofs.Answers.{paced-more}
 use Rattle.code.specs.Nesting.{begunWith, bodyOf, Moved, Begins}
 use Rattle.slots.specs.declared.Locals.{Locals}
-use Rattle.slots.specs.declared.Locals.the-variants.{Count, TooMany}
+use Rattle.slots.specs.declared.Locals.the-variants.{Count}
 use Rattle.slots.specs.Slotted.{firstNames, Collected}
 use Rattle.statements.specs.Lowering.{BlockLowerable, blockCode, localsAt, endOf, functionCode}
 use Rattle.statements.specs.Compiled.{Ahead, Compiles}
@@ -42,10 +42,6 @@ use Rattle.statements.proofs.Sequences.{method-end}
 pub collected-count : (r : Locals) (t ps : List ℕ) (want : List Name) (n : ℕ) → r ≡ Count n → Collected r t ps want → (n ≤ 255) × (firstNames t n ps ≡ want)
 unfolding Collected
 collected-count r t ps want n e h = rw e at h
-
-pub collected-over : (r : Locals) (t ps : List ℕ) (want : List Name) → r ≡ TooMany → Collected r t ps want → 255 < length want
-unfolding Collected
-collected-over r t ps want e h = rw e at h
 
 module _ (t made code tables : List ℕ) (c : Counts) (l : Limits) (n : ℕ) (want : State) where
   pub begins-at : (r : Numbered) (i : ℕ) (k : Counts) → r ≡ At i k → Begins r t made code tables c l n want

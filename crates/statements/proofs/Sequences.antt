@@ -1,5 +1,5 @@
 -- The laws of answers that statements need beside those of the state.
-use Prim.Native.Nat.{ℕ, _+_, _-_, _<_, _≤_}
+use Prim.Native.Nat.{ℕ, _+_, _-_, _≤_}
 use mathlib.Core.Path.{_≡_, refl, sym, ap, _∙_, subst}
 use mathlib.Core.Bool.{Bool, true, false}
 use mathlib.Core.List.{List, [], _∷_}
@@ -11,7 +11,7 @@ use Rattle.definitions.specs.Tables.{Emit, emits, one, _⨟_}
 use Rattle.definitions.specs.Wellformed.{init}
 use Rattle.definitions.specs.Lower.{methodEnd, makeIter}
 use Rattle.definitions.specs.Reader.{isJump}
-use Rattle.parts.specs.Places.{Node, There, Counted, ParamsAt}
+use Rattle.parts.specs.Places.{Node, There, ParamsAt}
 use Rattle.exprs.specs.ExprAt.{exprAt}
 use Rattle.definitions.specs.Tree.{Branches, else}
 use Rattle.tree.specs.StmtAt.{stmtAt, blockAt, branchesAt, elseAt}
@@ -25,11 +25,9 @@ use Rattle.state.proofs.Within.{within-one}
 use Rattle.state.proofs.Answers.{emits-done, emits-as, done-emits, left-none, left-as}
 use Rattle.code.specs.Ops.{special, Plain}
 use Rattle.frames.proofs.Answering.{next-emits}
-use Rattle.expressions.specs.Lowerable.{Lowerable, exprCode}
+use Rattle.expressions.specs.Lowerable.{exprCode}
+use Rattle.targets.proofs.Unpacking.{plain-of}
 use Rattle.statements.specs.Lowering.{endOf, blockCode, StmtLowerable, StmtsLowerable, BlockLowerable, BranchesLowerable}
-
-pub plain-of : (op : ℕ) → op < 256 → special op ≡ false → Plain op 0 0
-plain-of op h e = record { op-byte = h; op-plain = e; first-short = omega arith; second-byte = omega arith }
 
 pub plain-break : Plain 46 0 0
 unfolding special isJump
@@ -50,10 +48,6 @@ plain-return = plain-of 33 (omega arith) refl
 pub plain-object : Plain 9 0 0
 unfolding special isJump
 plain-object = plain-of 9 (omega arith) refl
-
--- the code by other words
-pub code-emits : (r : Emitted) (t made code tables : List ℕ) (c : Counts) (l : Limits) (q q′ base : ℕ) (s : State) (e e′ : Emit) → e ≡ e′ → q ≡ q′ → Emits r t made code tables c l q (emitAt base e s) → Emits r t made code tables c l q′ (emitAt base e′ s)
-code-emits r t made code tables c l q q′ base s e e′ x y h = emits-as r t made code tables c l q q′ _ _ y (ap (λ (f : Emit). emitAt base f s) x) h
 
 -- no slots
 pub ready-none : {t slots made code tables : List ℕ} {c : Counts} {l : Limits} → Ready t slots made code tables c l → Ready t [] made code tables c l
@@ -88,12 +82,6 @@ stmts-at d n t names p q e r = subst (StmtsLowerable d n t names) (sym e) r
 
 pub elifs-at : (d n m : ℕ) (t : List ℕ) (names : List Name) (p q : ℕ) → m ≡ n → q ≡ p → BranchesLowerable d n t names p → BranchesLowerable d m t names q
 elifs-at d n m t names p q e f r = subst (λ (x : ℕ). BranchesLowerable d x t names q) (sym e) (subst (BranchesLowerable d n t names) (sym f) r)
-
-pub lowerable-at : (d : ℕ) (t : List ℕ) (names : List Name) (p q : ℕ) → q ≡ p → Lowerable d t names p → Lowerable d t names q
-lowerable-at d t names p q e r = subst (Lowerable d t names) (sym e) r
-
-pub counted-at : (t : List ℕ) (p q : ℕ) → q ≡ p → Counted t p → Counted t q
-counted-at t p q e r = subst (Counted t) (sym e) r
 
 module _ (r : Emitted) (t made code tables : List ℕ) (c : Counts) (l : Limits) (base : ℕ) (s : State) (d : ℕ) (names : List Name) (p q : ℕ) (e : q ≡ p) where
   pub block-emits-at : Emits r t made code tables c l (blockAt d t q .end) (emitAt base (blockCode d t names q) s) → Emits r t made code tables c l (blockAt d t p .end) (emitAt base (blockCode d t names p) s)

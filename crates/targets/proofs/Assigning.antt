@@ -1,7 +1,7 @@
 -- Assignments by the kind of the target: what each holds, its code and its end.
 use Prim.Native.Nat.{ℕ, _+_, _-_, _≤_, _<_}
 use mathlib.Core.Path.{_≡_, refl, sym, ap, _∙_, subst}
-use mathlib.Core.Bool.{Bool, true, false, _&&_, true≢false}
+use mathlib.Core.Bool.{true}
 use mathlib.Core.List.{List, [], _∷_}
 use native.Mathlib.Omega.{arith}
 use lib.ListN.{length, getD}
@@ -11,9 +11,9 @@ use Rattle.definitions.specs.Instruction.{Instr, StoreAttr, StoreIndex}
 use Rattle.definitions.specs.Tables.{Emit, emits, one, _⨟_, intern}
 use Rattle.definitions.specs.Wellformed.{askExpr}
 use Rattle.definitions.specs.Lower.{store, unpack, assignBy, emitExpr}
-use Rattle.parts.specs.Places.{Node, node, countAt, nameBytes, nameEnd, There}
+use Rattle.parts.specs.Places.{Node, node, countAt, nameBytes, nameEnd}
 use Rattle.parts.proofs.Nodes.{Seen}
-use Rattle.exprs.specs.ExprAt.{exprAt, ExprReads, varAt, attributeAt, displayAt, indexAt, ListAt, listAt, secondAt}
+use Rattle.exprs.specs.ExprAt.{exprAt, varAt, attributeAt, displayAt, indexAt, ListAt, listAt, secondAt}
 use Rattle.exprs.proofs.ExprViews.{expr-deep, expr-inside, view-var, view-attribute, view-tuple, view-index}
 use Rattle.state.specs.Words.{nameAt}
 use Rattle.state.specs.Fits.{fitsExpr, fitsTarget}
@@ -24,14 +24,11 @@ use Rattle.state.specs.declared.Emitted.{Emitted}
 use Rattle.state.proofs.Answers.{emits-as}
 use Rattle.state.proofs.Emission.{base-kept, at-seq, at-three, at-four}
 use Rattle.expressions.specs.Lowerable.{Lowerable, exprCode}
+use Rattle.expressions.proofs.Arms.{and-both}
 use Rattle.targets.specs.Elements.{elementsAt}
 use Rattle.targets.specs.Assigned.{AssignLowerable, assignCode, VariableAssigned, AttributeAssigned, PairLowerable, IndexAssigned, TupleAssigned}
 use Rattle.targets.proofs.Forms.{other-form}
 use Rattle.targets.proofs.Unpacking.{list-is}
-
-and-both : (a b : Bool) → a && b ≡ true → (a ≡ true) × (b ≡ true)
-and-both true b e = (refl, e)
-and-both false b e = absurd (true≢false (sym e))
 
 -- the assignment at p holds what Parts says; its code is e, and it ends at q
 pub record AssignArm (Parts : Type 0) (d : ℕ) (t : List ℕ) (names : List Name) (p : ℕ) (e : Emit) (q : ℕ) : Type 0 where
@@ -135,12 +132,6 @@ pair-first a b e f base s h =
 
 -- ---- by another word for the position
 
-pub lowerable-at : (d : ℕ) (t : List ℕ) (names : List Name) (p q : ℕ) → q ≡ p → Lowerable d t names p → Lowerable d t names q
-lowerable-at d t names p q e r = subst (Lowerable d t names) (sym e) r
-
-pub there-at : (t : List ℕ) (p q : ℕ) → q ≡ p → There t p → There t q
-there-at t p q e r = subst (There t) (sym e) r
-
 pub expr-emits-at : (r : Emitted) (t made code tables : List ℕ) (c : Counts) (l : Limits) (base : ℕ) (s : State) (d : ℕ) (names : List Name) (p q : ℕ) → q ≡ p
     → Emits r t made code tables c l (exprAt d t q .end) (emitAt base (exprCode d t names q) s) → Emits r t made code tables c l (exprAt d t p .end) (emitAt base (exprCode d t names p) s)
 expr-emits-at r t made code tables c l base s d names p q e h = subst (λ (x : ℕ). Emits r t made code tables c l (exprAt d t x .end) (emitAt base (exprCode d t names x) s)) e h
@@ -148,9 +139,6 @@ expr-emits-at r t made code tables c l base s d names p q e h = subst (λ (x : �
 pub symbol-emits-at : (r : Emitted) (t made code tables : List ℕ) (c : Counts) (l : Limits) (base : ℕ) (s : State) (n : ℕ) (f : ℕ → Instr) (p q : ℕ) → q ≡ p
     → Emits r t made code tables c l n (emitAt base (intern (nameAt t q) (λ k. one (f k))) s) → Emits r t made code tables c l n (emitAt base (intern (nameAt t p) (λ k. one (f k))) s)
 symbol-emits-at r t made code tables c l base s n f p q e h = subst (λ (x : ℕ). Emits r t made code tables c l n (emitAt base (intern (nameAt t x) (λ k. one (f k))) s)) e h
-
-pub reads-at : (d : ℕ) (t : List ℕ) (p q : ℕ) → q ≡ p → ExprReads d t p → ExprReads d t q
-reads-at d t p q e r = subst (ExprReads d t) (sym e) r
 
 pub second-at : (d : ℕ) (t : List ℕ) (p q r : ℕ) → q ≡ exprAt d t p .end → r ≡ exprAt d t q .end → r ≡ secondAt d t p .end
 second-at d t p q r e f = f ∙ ap (λ (x : ℕ). exprAt d t x .end) e

@@ -1,6 +1,7 @@
 use native.Mathlib.Omega.{arith}
 use Rattle.state.specs.State.{namesAt}
-use Rattle.lowering.proofs.Compiling.{plain-return, block-lowerable, main-full, block-sound, main-done}
+use Rattle.statements.proofs.Sequences.{plain-return}
+use Rattle.lowering.proofs.Compiling.{block-lowerable, main-full, block-sound, main-done}
 use borrow.Author.Needs.{needs}
 use Rattle.lowering.proofs.compile.emit_main.Statement.{statement}
 use Rattle.lowering.proofs.compile.emit_main.Tie as tie

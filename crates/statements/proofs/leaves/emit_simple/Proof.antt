@@ -1,7 +1,8 @@
 use native.Mathlib.Omega.{arith}
 use Rattle.frames.proofs.Answering.{nothing-emits}
+use Rattle.targets.proofs.Unpacking.{code-emits}
 use Rattle.statements.proofs.Arms.{arm-deep, arm-inside, arm-break, arm-continue, arm-pass, arm-expr, arm-return, arm-assign}
-use Rattle.statements.proofs.Sequences.{plain-break, plain-continue, plain-pop, plain-return, code-emits, pass-emits}
+use Rattle.statements.proofs.Sequences.{plain-break, plain-continue, plain-pop, plain-return, pass-emits}
 use borrow.Author.Needs.{needs}
 use Rattle.statements.proofs.leaves.emit_simple.Statement.{statement}
 use Rattle.statements.proofs.leaves.emit_simple.Tie as tie

@@ -4,7 +4,8 @@ use borrow.Author.Tests.{not-true, not-false}
 use Rattle.state.proofs.Within.{within-one}
 use Rattle.state.proofs.Answers.{emits-as, emits-done}
 use Rattle.frames.proofs.Answering.{done-left, full-by}
-use Rattle.statements.proofs.Sequences.{plain-return, plain-object, code-emits, end-plain, end-emits, end-within}
+use Rattle.targets.proofs.Unpacking.{code-emits}
+use Rattle.statements.proofs.Sequences.{plain-return, plain-object, end-plain, end-emits, end-within}
 use borrow.Author.Needs.{needs}
 use Rattle.statements.proofs.leaves.put_end.Statement.{statement}
 use Rattle.statements.proofs.leaves.put_end.Tie as tie

@@ -2,8 +2,9 @@ use native.Mathlib.Omega.{arith}
 use Rattle.state.proofs.Growth.{lengthens-unpack}
 use Rattle.state.proofs.Answers.{ready-again}
 use Rattle.frames.proofs.Answering.{done-left, done-same, first-full}
+use Rattle.expressions.proofs.Arms.{lowerable-at}
 use Rattle.targets.proofs.Unpacking.{tuple-read, count-emits}
-use Rattle.targets.proofs.Assigning.{lowerable-at, expr-emits-at}
+use Rattle.targets.proofs.Assigning.{expr-emits-at}
 use borrow.Author.Needs.{needs}
 use Rattle.targets.proofs.assign.assign_tuple.Statement.{statement}
 use Rattle.targets.proofs.assign.assign_tuple.Tie as tie

@@ -2,8 +2,9 @@ use native.Mathlib.Omega.{arith}
 use mathlib.Core.Path.{refl}
 use Rattle.state.proofs.Answers.{emits-as, base-below}
 use Rattle.frames.proofs.Answering.{nothing-emits}
+use Rattle.expressions.proofs.Lambdas.{reads-at}
 use Rattle.targets.proofs.Unpacking.{code-emits}
-use Rattle.targets.proofs.Assigning.{assign-inside, arm-variable, arm-attribute, arm-tuple, arm-index, arm-other, reads-at, second-at, pair-emits}
+use Rattle.targets.proofs.Assigning.{assign-inside, arm-variable, arm-attribute, arm-tuple, arm-index, arm-other, second-at, pair-emits}
 use borrow.Author.Needs.{needs}
 use Rattle.targets.proofs.assign.emit_assign.Statement.{statement}
 use Rattle.targets.proofs.assign.emit_assign.Tie as tie

@@ -4,7 +4,8 @@ use native.Mathlib.Omega.{arith}
 use borrow.Author.Needs.{needs}
 use Rattle.parts.specs.Places.{countAt}
 use Rattle.state.proofs.Answers.{full-emits, numbers-at, numbers-over}
-use Rattle.statements.proofs.Sequences.{ready-with, counted-at}
+use Rattle.expressions.proofs.Arms.{counted-at}
+use Rattle.statements.proofs.Sequences.{ready-with}
 use Rattle.statements.proofs.Classes.{lists-all, lists-over, lists-at, methods-at, class-methods-within, class-number, class-room, class-constants, class-emits, class-begin-within}
 use Rattle.statements.proofs.stmts.emit_class.Reads as emit-class
 use Rattle.statements.proofs.stmts.+compile_function+compile_method+emit_block+emit_body+emit_branch+emit_class+emit_elifs+emit_else+emit_for+emit_if+emit_methods+emit_rounds+emit_stmt+emit_while.Lts-emit_class as emit-class-lts

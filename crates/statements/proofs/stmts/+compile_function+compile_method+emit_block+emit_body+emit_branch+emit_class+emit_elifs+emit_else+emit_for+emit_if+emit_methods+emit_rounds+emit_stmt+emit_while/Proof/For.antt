@@ -8,7 +8,8 @@ use Rattle.state.specs.Words.{nameAt}
 use Rattle.state.specs.State.{namesAt}
 use Rattle.state.proofs.Answers.{emits-done, full-emits, numbers-at, numbers-over, base-below}
 use Rattle.frames.proofs.Answering.{done-left, full-by}
-use Rattle.statements.proofs.Sequences.{ready-with, block-at, lowerable-at, iterable-emits-at}
+use Rattle.expressions.proofs.Arms.{lowerable-at}
+use Rattle.statements.proofs.Sequences.{ready-with, block-at, iterable-emits-at}
 use Rattle.statements.proofs.Jumping.{for-within, for-small, for-emits, iterable-within}
 use Rattle.statements.proofs.stmts.emit_for.Reads as emit-for
 use Rattle.statements.proofs.stmts.+compile_function+compile_method+emit_block+emit_body+emit_branch+emit_class+emit_elifs+emit_else+emit_for+emit_if+emit_methods+emit_rounds+emit_stmt+emit_while.Lts-emit_for as emit-for-lts

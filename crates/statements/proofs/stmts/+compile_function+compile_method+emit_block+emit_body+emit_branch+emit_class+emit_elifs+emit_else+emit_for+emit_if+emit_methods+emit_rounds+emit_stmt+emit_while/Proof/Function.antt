@@ -6,10 +6,11 @@ use Rattle.parts.specs.Places.{countAt, nameEnd, paramsAt}
 use Rattle.tree.specs.StmtAt.{defBlockAt}
 use Rattle.state.proofs.Answers.{emits-done, emits-full}
 use Rattle.frames.proofs.Answering.{done-left}
+use Rattle.expressions.proofs.Arms.{params-count}
+use Rattle.expressions.proofs.Collecting.{collected-over}
 use Rattle.statements.specs.Lowering.{localsAt, endOf}
-use Rattle.statements.proofs.Arms.{params-count}
 use Rattle.statements.proofs.Sequences.{block-at, params-at}
-use Rattle.statements.proofs.Functions.{collected-count, collected-over, collected-at, begins-at, begins-over, full-compiles, names-length, part-names, part-ready, block-with, body-emits-at, begun-within, body-within, ended-number, ended-body, ended-base, compiled}
+use Rattle.statements.proofs.Functions.{collected-count, collected-at, begins-at, begins-over, full-compiles, names-length, part-names, part-ready, block-with, body-emits-at, begun-within, body-within, ended-number, ended-body, ended-base, compiled}
 use Rattle.statements.proofs.stmts.compile_function.Reads as compile-function
 use Rattle.statements.proofs.stmts.+compile_function+compile_method+emit_block+emit_body+emit_branch+emit_class+emit_elifs+emit_else+emit_for+emit_if+emit_methods+emit_rounds+emit_stmt+emit_while.Lts-compile_function as compile-function-lts
 use Rattle.statements.proofs.stmts.emit_body.Reads as emit-body

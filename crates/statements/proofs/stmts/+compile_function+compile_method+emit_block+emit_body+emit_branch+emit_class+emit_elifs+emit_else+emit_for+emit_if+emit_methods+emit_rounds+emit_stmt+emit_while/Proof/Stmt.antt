@@ -1,8 +1,9 @@
 use Prim.Native.Nat.{ℕ}
 use native.Mathlib.Omega.{arith}
 use borrow.Author.Needs.{needs}
+use Rattle.targets.proofs.Unpacking.{code-emits}
 use Rattle.statements.proofs.Arms.{arm-deep, arm-inside, arm-known, arm-if, arm-while, arm-for, arm-def, arm-class}
-use Rattle.statements.proofs.Sequences.{code-emits, ready-none}
+use Rattle.statements.proofs.Sequences.{ready-none}
 use Rattle.statements.proofs.Functions.{compiles-emits}
 use Rattle.statements.proofs.stmts.compile_function.Reads as compile-function
 use Rattle.statements.proofs.stmts.emit_class.Reads as emit-class
