@@ -167,7 +167,7 @@ module _ (t made code tables : List ℕ) (c : Counts) (l : Limits) (s : Sound t 
     stack-same : c .open ≡ length (before .stack)
     stack-same = sym (stack-length t made code tables c l s)
 
-    pub function-ready : Sound made₁ code tables₁ k l
+    pub function-ready : Sound t made₁ code tables₁ k l
     function-ready = b .1 .sound
 
     -- the body from the beginning

@@ -40,7 +40,7 @@ block-lowerable tree F = record {
   fits = F .fits;
 }
 
-module _ (tree made₀ code₀ tables₀ made code tables : List ℕ) (c : Counts) (l : Limits) (next : ℕ) (b : Block) (s : Sound made₀ code₀ tables₀ c l) (r : Emitted)
+module _ (tree made₀ code₀ tables₀ made code tables : List ℕ) (c : Counts) (l : Limits) (next : ℕ) (b : Block) (s : Sound tree made₀ code₀ tables₀ c l) (r : Emitted)
     (h : Emits r tree made code tables c l next (emitAt (c .base) (emitBlock [] b) (stateOf tree made₀ code₀ tables₀ c))) where
   abbrev before : State
   before = stateOf tree made₀ code₀ tables₀ c
@@ -106,7 +106,7 @@ module _ (tree made₁ code₁ tables₁ : List ℕ) (l : Limits) (r : Numbered)
     unfolding Begins
     begins = rw e at h
 
-    pub begun-sound : Sound made₁ code₁ tables₁ k l
+    pub begun-sound : Sound tree made₁ code₁ tables₁ k l
     begun-sound = begins .1 .sound
 
     module _ (made code tables : List ℕ) (next : ℕ) (q : Emitted)
