@@ -8,11 +8,12 @@ use lib.ListN.{length, drop, set, length-append}
 use Rattle.definitions.specs.Bytes.{Name}
 use Rattle.definitions.specs.Tables.{Function, Class, Tables, begin}
 use Rattle.state.specs.Words.{region, textAt, instrsOf}
-use Rattle.state.specs.State.{stringsFrom, headsFrom, codesFrom, classNamesFrom, classMethodsFrom, methodsFrom, constantsFrom, doneFrom, spelled, functionOf, functionsOf, classesOf, State, tablesOf, stateOf, Every, EndsWithin, MadeWithin, total, Within, Sound, Paced}
+use Rattle.state.specs.State.{stringsFrom, headsFrom, codesFrom, classNamesFrom, classMethodsFrom, methodsFrom, constantsFrom, doneFrom, spelled, functionOf, functionsOf, classesOf, State, tablesOf, stateOf, Every, EndsWithin, MadeWithin, total, Within, Sound, Paced, symbolIndexFrom, symbolBuckets, stringIndexFrom, stringBuckets}
 use Rattle.state.specs.Steps.{begun}
 use Rattle.state.specs.declared.Counts.{Counts}
 use Rattle.state.specs.declared.Limits.{Limits}
 use Rattle.state.specs.declared.Numbered.the-variants.{At, Over}
+use Rattle.state.proofs.Index.{symbols-indexed, strings-indexed}
 use Rattle.state.proofs.Regions.{region-length, every-snoc, functions-snoc, total-snoc}
 use Rattle.state.proofs.Views.{function-count}
 use Rattle.state.proofs.Emission.{state-eq}
@@ -63,7 +64,7 @@ oneMore c = record {
   done = c .done;
 }
 
-module _ (t made code tables : List ℕ) (sy ar lo h : ℕ) (c : Counts) (l : Limits) (s : Sound made code tables c l) (more : c .functions < l .functions) where
+module _ (t made code tables : List ℕ) (sy ar lo h : ℕ) (c : Counts) (l : Limits) (s : Sound t made code tables c l) (more : c .functions < l .functions) where
   abbrev after : List ℕ
   after = set (set tables (headsFrom + c .functions) h) (codesFrom + c .functions) 0
 
@@ -104,7 +105,7 @@ module _ (t made code tables : List ℕ) (sy ar lo h : ℕ) (c : Counts) (l : Li
       ∙ ap (λ (f : Function). functionsOf t fin hs ks ++ f ∷ []) (head-function t fin sy ar lo h x y z e))
       (λ i. classesOf t (p i) (q i) (r i)) (kept-above constantsFrom (c .constants) (omega arith)))
 
-  begin-sound : Sound made code after (oneMore c) l
+  begin-sound : Sound t made code after (oneMore c) l
   begin-sound = record {
     code-room = s .code-room;
     tables-room = omega (arith, s .tables-room, grown-length headsFrom codesFrom (c .functions) h tables apart room);
@@ -123,6 +124,8 @@ module _ (t made code tables : List ℕ) (sy ar lo h : ℕ) (c : Counts) (l : Li
     codes = subst (Every (EndsWithin (c .done))) (sym codes-after) (every-snoc (s .codes) (omega arith));
     class-methods = subst (Every (EndsWithin (c .methods))) (sym (kept-above classMethodsFrom (c .classes) (omega arith))) (s .class-methods);
     finished = s .finished ∙ sym (ap total codes-after ∙ total-snoc (region codesFrom (c .functions) tables) 0 ∙ omega arith);
+    symbol-index = symbols-indexed t made tables _ (c .symbols) (kept-above symbolIndexFrom symbolBuckets (omega arith)) (kept-below 0 (c .symbols) (omega (arith, s .symbols, s .limited .symbols))) (s .symbol-index);
+    string-index = strings-indexed t tables _ (c .strings) (kept-above stringIndexFrom stringBuckets (omega arith)) (kept-below stringsFrom (c .strings) (omega (arith, s .strings, s .limited .strings))) (s .string-index);
   }
 
   pub begin-at : sy < 65536 → ar < 256 → lo < 256 → h ≡ sy * 65536 + ar * 256 + lo →
@@ -139,7 +142,7 @@ module _ (t made code tables : List ℕ) (sy ar lo h : ℕ) (c : Counts) (l : Li
     omega arith,
   )
 
-pub begin-over : (t made code tables tables′ : List ℕ) (sy ar lo n : ℕ) (c : Counts) (l : Limits) → Sound made code tables c l → l .functions ≤ c .functions →
+pub begin-over : (t made code tables tables′ : List ℕ) (sy ar lo n : ℕ) (c : Counts) (l : Limits) → Sound t made code tables c l → l .functions ≤ c .functions →
     Begins Over t made code tables′ c l n (begunWith sy ar lo (stateOf t made code tables c))
 unfolding Begins begunWith
 begin-over t made code tables tables′ sy ar lo n c l s h = λ inside.

@@ -9,10 +9,11 @@ use lib.Seq.{paste, length-paste, drop-paste}
 use Rattle.definitions.specs.Tables.{Function, Method, Class, Tables, withClasses, addConstant}
 use Rattle.definitions.specs.Lower.{beginClass}
 use Rattle.state.specs.Words.{region, nameAt, textAt}
-use Rattle.state.specs.State.{stringsFrom, headsFrom, codesFrom, classNamesFrom, classMethodsFrom, methodsFrom, constantsFrom, doneFrom, placeOf, countOf, spelled, functionsOf, methodOf, classOf, classesOf, State, tablesOf, stateOf, withTables, Every, EndsWithin, MadeWithin, total, Within, Sound, Paced, Left, Numbers}
+use Rattle.state.specs.State.{stringsFrom, headsFrom, codesFrom, classNamesFrom, classMethodsFrom, methodsFrom, constantsFrom, doneFrom, placeOf, countOf, spelled, functionsOf, methodOf, classOf, classesOf, State, tablesOf, stateOf, withTables, Every, EndsWithin, MadeWithin, total, Within, Sound, Paced, Left, Numbers, symbolIndexFrom, symbolBuckets, stringIndexFrom, stringBuckets}
 use Rattle.state.specs.declared.Counts.{Counts}
 use Rattle.state.specs.declared.Limits.{Limits}
 use Rattle.state.specs.declared.Numbered.the-variants.{At, Over}
+use Rattle.state.proofs.Index.{symbols-indexed, strings-indexed}
 use Rattle.state.proofs.Regions.{region-same, region-same-end, region-length, region-take, region-region, set-here, set-below, set-above, set-next, every-map, every-set, every-snoc, ends-within-more, classes-snoc, classes-same}
 use Rattle.state.proofs.Views.{class-count}
 use Rattle.state.proofs.Emission.{state-eq}
@@ -21,7 +22,7 @@ use Rattle.code.proofs.Setting.{paste-take, paste-here, grown-length, g
 use Rattle.code.proofs.Begun.{tables-eq}
 
 -- the functions of two areas, by their regions
-functions-kept : (t made code tables tables′ : List ℕ) (c : Counts) (l : Limits) → Sound made code tables c l → ((a k : ℕ) → a + k ≤ classNamesFrom → region a k tables′ ≡ region a k tables) →
+functions-kept : (t made code tables tables′ : List ℕ) (c : Counts) (l : Limits) → Sound t made code tables c l → ((a k : ℕ) → a + k ≤ classNamesFrom → region a k tables′ ≡ region a k tables) →
     functionsOf t (drop doneFrom code) (region headsFrom (c .functions) tables′) (region codesFrom (c .functions) tables′)
     ≡ functionsOf t (drop doneFrom code) (region headsFrom (c .functions) tables) (region codesFrom (c .functions) tables)
 functions-kept t made code tables tables′ c l s kept =
@@ -45,7 +46,7 @@ oneClass c = record {
   done = c .done;
 }
 
-module _ (t made code tables : List ℕ) (at : ℕ) (c : Counts) (l : Limits) (s : Sound made code tables c l) (more : c .classes < l .classes) where
+module _ (t made code tables : List ℕ) (at : ℕ) (c : Counts) (l : Limits) (s : Sound t made code tables c l) (more : c .classes < l .classes) where
   abbrev after : List ℕ
   after = set (set tables (classNamesFrom + c .classes) at) (classMethodsFrom + c .classes) 0
 
@@ -84,7 +85,7 @@ module _ (t made code tables : List ℕ) (at : ℕ) (c : Counts) (l : Limits) (s
       classes-after
       (kept-above constantsFrom (c .constants) (omega arith)))
 
-  begin-sound : Sound made code after (oneClass c) l
+  begin-sound : Sound t made code after (oneClass c) l
   begin-sound =
       let k = kept-below codesFrom (c .functions) (omega (arith, s .functions, s .limited .functions)) in record {
         code-room = s .code-room;
@@ -104,6 +105,8 @@ module _ (t made code tables : List ℕ) (at : ℕ) (c : Counts) (l : Limits) (s
         codes = subst (Every (EndsWithin (c .done))) (sym k) (s .codes);
         class-methods = subst (Every (EndsWithin (c .methods))) (sym places-after) (every-snoc (s .class-methods) (omega arith));
         finished = s .finished ∙ sym (ap total k);
+        symbol-index = symbols-indexed t made tables _ (c .symbols) (kept-above symbolIndexFrom symbolBuckets (omega arith)) (kept-below 0 (c .symbols) (omega (arith, s .symbols, s .limited .symbols))) (s .symbol-index);
+        string-index = strings-indexed t tables _ (c .strings) (kept-above stringIndexFrom stringBuckets (omega arith)) (kept-below stringsFrom (c .strings) (omega (arith, s .strings, s .limited .strings))) (s .string-index);
       }
 
   pub class-begun : Numbers (At (c .classes) (oneClass c)) t made code after c l (length (stateOf t made code tables c .tables .classes))
@@ -119,7 +122,7 @@ module _ (t made code tables : List ℕ) (at : ℕ) (c : Counts) (l : Limits) (s
     },
   )
 
-pub class-over : (t made code tables tables′ : List ℕ) (at n : ℕ) (c : Counts) (l : Limits) → Sound made code tables c l → l .classes ≤ c .classes →
+pub class-over : (t made code tables tables′ : List ℕ) (at n : ℕ) (c : Counts) (l : Limits) → Sound t made code tables c l → l .classes ≤ c .classes →
     Numbers Over t made code tables′ c l n (withTables (beginClass (nameAt t at) (stateOf t made code tables c .tables)) (stateOf t made code tables c))
 unfolding Numbers beginClass
 class-over t made code tables tables′ at n c l s h = λ inside.
@@ -127,7 +130,7 @@ class-over t made code tables tables′ at n c l s h = λ inside.
 
 -- ---- its constant
 
-module _ (t made code tables : List ℕ) (i : ℕ) (c : Counts) (l : Limits) (s : Sound made code tables c l) (more : c .constants < c .classes) where
+module _ (t made code tables : List ℕ) (i : ℕ) (c : Counts) (l : Limits) (s : Sound t made code tables c l) (more : c .constants < c .classes) where
   kept : (b k : ℕ) → b + k ≤ constantsFrom → region b k (set tables (constantsFrom + c .constants) i) ≡ region b k tables
   kept b k g = set-below b k (constantsFrom + c .constants) i tables (omega arith)
 
@@ -149,7 +152,7 @@ module _ (t made code tables : List ℕ) (i : ℕ) (c : Counts) (l : Limits) (s 
       classes-kept
       (set-next constantsFrom (c .constants) i tables (omega (arith, s .classes, s .limited .classes, s .tables-room))))
 
-  constant-sound : Sound made code (set tables (constantsFrom + c .constants) i) (withConstants (c .constants + 1) c) l
+  constant-sound : Sound t made code (set tables (constantsFrom + c .constants) i) (withConstants (c .constants + 1) c) l
   constant-sound =
       let k = kept codesFrom (c .functions) (omega (arith, s .functions, s .limited .functions)) in record {
         code-room = s .code-room;
@@ -169,6 +172,8 @@ module _ (t made code tables : List ℕ) (i : ℕ) (c : Counts) (l : Limits) (s 
         codes = subst (Every (EndsWithin (c .done))) (sym k) (s .codes);
         class-methods = subst (Every (EndsWithin (c .methods))) (sym (kept classMethodsFrom (c .classes) (omega (arith, s .classes, s .limited .classes)))) (s .class-methods);
         finished = s .finished ∙ sym (ap total k);
+        symbol-index = symbols-indexed t made tables _ (c .symbols) (set-above symbolIndexFrom symbolBuckets (constantsFrom + c .constants) i tables (omega (arith, s .classes, s .limited .classes))) (kept 0 (c .symbols) (omega (arith, s .symbols, s .limited .symbols))) (s .symbol-index);
+        string-index = strings-indexed t tables _ (c .strings) (set-above stringIndexFrom stringBuckets (constantsFrom + c .constants) i tables (omega (arith, s .classes, s .limited .classes))) (kept stringsFrom (c .strings) (omega (arith, s .strings, s .limited .strings))) (s .string-index);
       }
 
   pub constant-added : Counted (withConstants (c .constants + 1) c) (withConstants (c .constants + 1) c) t made code (set tables (constantsFrom + c .constants) i) l
@@ -186,7 +191,7 @@ classes-put t ms (y ∷ xs) [] (suc i) x k = refl
 classes-put t ms (y ∷ xs) (j ∷ ks) zero x k = refl
 classes-put t ms (y ∷ xs) (j ∷ ks) (suc i) x k = ap (λ (cs : List Class). classOf t ms y j ∷ cs) (classes-put t ms xs ks i x k)
 
-module _ (t made code tables list : List ℕ) (i at n w : ℕ) (c : Counts) (l : Limits) (s : Sound made code tables c l)
+module _ (t made code tables list : List ℕ) (i at n w : ℕ) (c : Counts) (l : Limits) (s : Sound t made code tables c l)
     (number : i < c .classes) (enough : n ≤ length list) (fits : c .methods + n ≤ c .functions) (place : w ≡ c .methods * 65536 + n) where
   abbrev copied : List ℕ
   copied = paste tables (methodsFrom + c .methods) list n
@@ -218,10 +223,13 @@ module _ (t made code tables list : List ℕ) (i at n w : ℕ) (c : Counts) (l :
   all-above : (b k : ℕ) → methodsFrom ≤ b → region b k all ≡ region b k copied
   all-above b k g = let z = small in set-above b k (classMethodsFrom + i) w named (omega arith) ∙ set-above b k (classNamesFrom + i) at copied (omega arith)
 
+  index-kept : (b k : ℕ) → constantsFrom ≤ b → region b k all ≡ region b k tables
+  index-kept b k g = let z = small in
+      all-above b k (omega arith)
+      ∙ region-same-end (methodsFrom + c .methods + n) b k copied tables (omega arith) (drop-paste tables (methodsFrom + c .methods) list n (omega arith) enough)
+
   constants-kept : region constantsFrom (c .constants) all ≡ region constantsFrom (c .constants) tables
-  constants-kept = let z = small in
-      all-above constantsFrom (c .constants) (omega arith)
-      ∙ region-same-end (methodsFrom + c .methods + n) constantsFrom (c .constants) copied tables (omega arith) (drop-paste tables (methodsFrom + c .methods) list n (omega arith) enough)
+  constants-kept = index-kept constantsFrom (c .constants) (omega arith)
 
   names-after : region classNamesFrom (c .classes) all ≡ set xs i at
   names-after = let z = small in
@@ -276,7 +284,7 @@ module _ (t made code tables list : List ℕ) (i at n w : ℕ) (c : Counts) (l :
       classes-all
       constants-kept)
 
-  end-sound : Sound made code all (withMethods (c .methods + n) c) l
+  end-sound : Sound t made code all (withMethods (c .methods + n) c) l
   end-sound =
       let k = all-below codesFrom (c .functions) (omega (arith, s .functions, s .limited .functions)) in record {
         code-room = s .code-room;
@@ -297,6 +305,8 @@ module _ (t made code tables list : List ℕ) (i at n w : ℕ) (c : Counts) (l :
         class-methods = subst (Every (EndsWithin (c .methods + n))) (sym places-all)
             (every-set i w (omega (arith, place-of, count-of)) (every-map (λ k h. ends-within-more (c .methods) (c .methods + n) k (omega arith) h) (s .class-methods)));
         finished = s .finished ∙ sym (ap total k);
+        symbol-index = symbols-indexed t made tables _ (c .symbols) (index-kept symbolIndexFrom symbolBuckets (omega arith)) (all-below 0 (c .symbols) (omega (arith, s .symbols, s .limited .symbols))) (s .symbol-index);
+        string-index = strings-indexed t tables _ (c .strings) (index-kept stringIndexFrom stringBuckets (omega arith)) (all-below stringsFrom (c .strings) (omega (arith, s .strings, s .limited .strings))) (s .string-index);
       }
 
   pub class-ended : (tables′ : List ℕ) → tables′ ≡ copied → Counted (withMethods (c .methods + n) c) (withMethods (c .methods + n) c) t made code (set (set tables′ (classNamesFrom + i) at) (classMethodsFrom + i) w) l

@@ -9,10 +9,11 @@ use lib.Seq.{paste, length-paste, take-take}
 use Rattle.definitions.specs.Instruction.{Instr}
 use Rattle.definitions.specs.Tables.{Function, Class, Tables, setCode}
 use Rattle.state.specs.Words.{region, textAt, instrOf, instrsOf}
-use Rattle.state.specs.State.{stringsFrom, headsFrom, codesFrom, classNamesFrom, classMethodsFrom, methodsFrom, constantsFrom, doneFrom, placeOf, countOf, spelled, functionOf, functionsOf, classesOf, State, tablesOf, stateOf, Every, every, EndsWithin, MadeWithin, total, Within, Sound, Paced}
+use Rattle.state.specs.State.{stringsFrom, headsFrom, codesFrom, classNamesFrom, classMethodsFrom, methodsFrom, constantsFrom, doneFrom, placeOf, countOf, spelled, functionOf, functionsOf, classesOf, State, tablesOf, stateOf, Every, every, EndsWithin, MadeWithin, total, Within, Sound, Paced, symbolIndexFrom, symbolBuckets, stringIndexFrom, stringBuckets}
 use Rattle.state.specs.Steps.{ended}
 use Rattle.state.specs.declared.Counts.{Counts}
 use Rattle.state.specs.declared.Limits.{Limits}
+use Rattle.state.proofs.Index.{symbols-indexed, strings-indexed}
 use Rattle.state.proofs.Regions.{region-same, region-length, region-drop, set-here, set-below, set-above, every-map, every-set, ends-within-more, functions-set, functions-same, total-set}
 use Rattle.state.proofs.Emission.{state-eq}
 use Rattle.code.specs.Nesting.{bodyOf, Moved}
@@ -42,7 +43,7 @@ without b c = record {
   done = c .done + (c .open - c .base);
 }
 
-module _ (t made code tables : List ℕ) (f b w : ℕ) (c : Counts) (l : Limits) (s : Sound made code tables c l) (number : f < c .functions)
+module _ (t made code tables : List ℕ) (f b w : ℕ) (c : Counts) (l : Limits) (s : Sound t made code tables c l) (number : f < c .functions)
     (place : w ≡ c .done * 65536 + (c .open - c .base)) where
   abbrev n : ℕ
   n = c .open - c .base
@@ -128,7 +129,7 @@ module _ (t made code tables : List ℕ) (f b w : ℕ) (c : Counts) (l : Limits)
         let v : length ks ≡ c .functions = region-length codesFrom (c .functions) tables (omega arith) in
         sym (body-count t (drop doneFrom code) hs ks (c .done) f (u ∙ sym v) (s .codes) (simp length-drop (omega arith)) (omega arith)) ∙ ap length started
 
-    end-sound : Sound made moved after (without b c) l
+    end-sound : Sound t made moved after (without b c) l
     end-sound = let z = small in
         let v : length ks ≡ c .functions = region-length codesFrom (c .functions) tables (omega arith) in
         record {
@@ -150,6 +151,8 @@ module _ (t made code tables : List ℕ) (f b w : ℕ) (c : Counts) (l : Limits)
               (every-set f w (omega (arith, place-of, count-of)) (every-map (λ k h. ends-within-more (c .done) (c .done + n) k (omega arith) h) (s .codes)));
           class-methods = subst (Every (EndsWithin (c .methods))) (sym (kept-above classMethodsFrom (c .classes) (omega arith))) (s .class-methods);
           finished = omega (arith, s .finished, ap total codes-after, total-set ks f w (omega arith), count-of, no-words);
+          symbol-index = symbols-indexed t made tables _ (c .symbols) (kept-above symbolIndexFrom symbolBuckets (omega arith)) (kept-below 0 (c .symbols) (omega (arith, s .symbols, s .limited .symbols))) (s .symbol-index);
+          string-index = strings-indexed t tables _ (c .strings) (kept-above stringIndexFrom stringBuckets (omega arith)) (kept-below stringsFrom (c .strings) (omega (arith, s .strings, s .limited .strings))) (s .string-index);
         }
 
     pub end-moved : (code′ : List ℕ) → code′ ≡ moved → Moved b (without b c) t made code′ after c l (ended (c .base) f (stateOf t made code tables c))

@@ -24,7 +24,7 @@ use Rattle.code.proofs.Putting.{tables-finished, sound-open}
 use Rattle.code.proofs.Setting.{mixed, mixed-read, mixed-set, mixed-all, map-set, map-take, map-drop, drop-later, drop-take}
 
 -- the open words are others, as many; the finished ones stay
-pub left-stack : (t made code code′ tables : List ℕ) (c : Counts) (l : Limits) (is : List Instr) → Sound made code tables c l →
+pub left-stack : (t made code code′ tables : List ℕ) (c : Counts) (l : Limits) (is : List Instr) → Sound t made code tables c l →
     length code′ ≡ length code → drop doneFrom code′ ≡ drop doneFrom code → instrsOf t (take (c .open) code′) ≡ is →
     Left c t made code′ tables c l (record { stack = is; tables = stateOf t made code tables c .tables })
 unfolding stateOf
@@ -32,10 +32,10 @@ left-stack t made code code′ tables c l is s e d f = record {
   state = state-eq _ _ f (tables-finished t made code code′ tables c (c .open) d);
   base = refl;
   paced = record { methods = le-refl _; constants = le-refl _ };
-  sound = sound-open made code code′ tables c l (c .open) s e (s .base) (s .words);
+  sound = sound-open t made code code′ tables c l (c .open) s e (s .base) (s .words);
 }
 
-pub jump-set : (t made code tables : List ℕ) (j op d w : ℕ) (c : Counts) (l : Limits) → Sound made code tables c l → j < c .open → 28 ≤ op → op ≤ 30 → d < 32768 → w ≡ word op d 0 →
+pub jump-set : (t made code tables : List ℕ) (j op d w : ℕ) (c : Counts) (l : Limits) → Sound t made code tables c l → j < c .open → 28 ≤ op → op ≤ 30 → d < 32768 → w ≡ word op d 0 →
     Left c t made (set code j w) tables c l (setAt j (instr op d 0) (stateOf t made code tables c))
 unfolding stateOf instrsOf setAt
 jump-set t made code tables j op d w c l s h a b k e =
@@ -118,7 +118,7 @@ patch-done h i xs ys l e = e ∙ mixed-all (patchWords h (length xs) 0 xs) xs i 
 
 -- ---- the inside as a part of the code
 
-module _ (t made code tables ys : List ℕ) (h from n to : ℕ) (c : Counts) (l : Limits) (s : Sound made code tables c l) (e : to ≡ from + n) (within : to ≤ c .open) (early : h ≤ from) where
+module _ (t made code tables ys : List ℕ) (h from n to : ℕ) (c : Counts) (l : Limits) (s : Sound t made code tables c l) (e : to ≡ from + n) (within : to ≤ c .open) (early : h ≤ from) where
   rest-stack : drop to (map (instrOf t) (take (c .open) code)) ≡ map (instrOf t) (take (c .open - to) (drop to code))
   rest-stack = sym (map-drop (instrOf t) to (take (c .open) code)) ∙ ap (map (instrOf t)) (drop-take to (c .open) code within (omega (arith, s .words, s .limited .instructions, s .code-room)))
 

@@ -41,9 +41,9 @@ unfolding tablesOf
 tables-finished t made code code′ tables c n e = rw e
 
 -- the slices are sound with another stack
-pub sound-open : (made code code′ tables : List ℕ) (c : Counts) (l : Limits) (n : ℕ) → Sound made code tables c l →
-    length code′ ≡ length code → c .base ≤ n → n + c .done ≤ l .instructions → Sound made code′ tables (withOpen n c) l
-sound-open made code code′ tables c l n s e b w = record {
+pub sound-open : (t made code code′ tables : List ℕ) (c : Counts) (l : Limits) (n : ℕ) → Sound t made code tables c l →
+    length code′ ≡ length code → c .base ≤ n → n + c .done ≤ l .instructions → Sound t made code′ tables (withOpen n c) l
+sound-open t made code code′ tables c l n s e b w = record {
   code-room = rw e (s .code-room);
   tables-room = s .tables-room;
   made-room = s .made-room;
@@ -61,9 +61,11 @@ sound-open made code code′ tables c l n s e b w = record {
   codes = s .codes;
   class-methods = s .class-methods;
   finished = s .finished;
+  symbol-index = s .symbol-index;
+  string-index = s .string-index;
 }
 
-module _ (t made code tables : List ℕ) (w : ℕ) (c : Counts) (l : Limits) (s : Sound made code tables c l) where
+module _ (t made code tables : List ℕ) (w : ℕ) (c : Counts) (l : Limits) (s : Sound t made code tables c l) where
   put-state : c .open + c .done < l .instructions →
       stateOf t made (set code (c .open) w) tables (withOpen (c .open + 1) c) ≡ emitAt (c .base) (one (instrOf t w)) (stateOf t made code tables c)
   unfolding stateOf emitAt emits instrsOf
@@ -81,7 +83,7 @@ module _ (t made code tables : List ℕ) (w : ℕ) (c : Counts) (l : Limits) (s 
       state = put-state h;
       base = refl;
       paced = record { methods = le-refl _; constants = le-refl _ };
-      sound = sound-open made code _ tables c l (c .open + 1) s (length-set code (c .open) w) (omega (arith, s .base)) (omega arith);
+      sound = sound-open t made code _ tables c l (c .open + 1) s (length-set code (c .open) w) (omega (arith, s .base)) (omega arith);
     },
   )
 

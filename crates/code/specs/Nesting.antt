@@ -26,7 +26,7 @@ pub record Moved (b : ℕ) (k : Counts) (tree made code tables : List ℕ) (c : 
   pub state : stateOf tree made code tables k ≡ want
   pub base : k .base ≡ b
   pub paced : Paced c k
-  pub sound : Sound made code tables k l
+  pub sound : Sound tree made code tables k l
 
 -- the number of a function that has begun, and the wanted state, in which it is the innermost: a function more, and no method more; or that state is
 -- over the limits
@@ -67,4 +67,4 @@ withConstants n c = record {
 pub record Counted (r k : Counts) (tree made code tables : List ℕ) (l : Limits) (want : State) : Type 0 where
   pub counts : r ≡ k
   pub state : stateOf tree made code tables r ≡ want
-  pub sound : Sound made code tables r l
+  pub sound : Sound tree made code tables r l

@@ -23,7 +23,7 @@ pub fn begin_class(
     c: Counts,
     l: Limits,
 ) -> Numbered
-    requires { ⌜ Sound (now made) (now code) (now tables) c l × (at < 2 ^ 32) ⌝ }
+    requires { ⌜ Sound (now tree) (now made) (now code) (now tables) c l × (at < 2 ^ 32) ⌝ }
     ensures { λ r. ⌜ Numbers r (now (tree .entry)) (now (made .entry)) (now (code .entry)) (now (tables .exit)) c l
         (length (stateOf (now (tree .entry)) (now (made .entry)) (now (code .entry)) (now (tables .entry)) c .tables .classes))
         (withTables (beginClass (nameAt (now (tree .entry)) at) (stateOf (now (tree .entry)) (now (made .entry)) (now (code .entry)) (now (tables .entry)) c .tables))
@@ -65,7 +65,7 @@ pub fn end_class(
     c: Counts,
     l: Limits,
 ) -> Counts
-    requires { ⌜ Sound (now made) (now code) (now tables) c l × (i < c .classes) × (at < 2 ^ 32) × (n ≤ length (now list)) × (c .methods + n ≤ c .functions) ⌝ }
+    requires { ⌜ Sound (now tree) (now made) (now code) (now tables) c l × (i < c .classes) × (at < 2 ^ 32) × (n ≤ length (now list)) × (c .methods + n ≤ c .functions) ⌝ }
     ensures { λ r. ⌜ Counted r (withMethods (c .methods + n) c) (now (tree .entry)) (now (made .entry)) (now (code .entry)) (now (tables .exit)) l
         (withTables (withClasses (set (stateOf (now (tree .entry)) (now (made .entry)) (now (code .entry)) (now (tables .entry)) c .tables .classes) i
         (record { name = nameAt (now (tree .entry)) at; methods = map (methodOf (now (tree .entry))) (take n (now (list .entry))) }))
@@ -91,7 +91,7 @@ pub fn add_constant(
     c: Counts,
     l: Limits,
 ) -> Counts
-    requires { ⌜ Sound (now made) (now code) (now tables) c l × (c .constants < c .classes) ⌝ }
+    requires { ⌜ Sound (now tree) (now made) (now code) (now tables) c l × (c .constants < c .classes) ⌝ }
     ensures { λ r. ⌜ Counted r (withConstants (c .constants + 1) c) (now (tree .entry)) (now (made .entry)) (now (code .entry)) (now (tables .exit)) l
         (withTables (addConstant i (stateOf (now (tree .entry)) (now (made .entry)) (now (code .entry)) (now (tables .entry)) c .tables))
         (stateOf (now (tree .entry)) (now (made .entry)) (now (code .entry)) (now (tables .entry)) c)) ⌝ }

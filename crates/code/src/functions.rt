@@ -23,7 +23,7 @@ pub fn begin_function(
     c: Counts,
     l: Limits,
 ) -> Numbered
-    requires { ⌜ Sound (now made) (now code) (now tables) c l × (symbol < 65536) × (arity < 256) × (locals < 256) ⌝ }
+    requires { ⌜ Sound (now tree) (now made) (now code) (now tables) c l × (symbol < 65536) × (arity < 256) × (locals < 256) ⌝ }
     ensures { λ r. ⌜ Begins r (now (tree .entry)) (now (made .entry)) (now (code .entry)) (now (tables .exit)) c l
         (length (stateOf (now (tree .entry)) (now (made .entry)) (now (code .entry)) (now (tables .entry)) c .tables .functions))
         (begunWith symbol arity locals (stateOf (now (tree .entry)) (now (made .entry)) (now (code .entry)) (now (tables .entry)) c)) ⌝ }
@@ -65,7 +65,7 @@ pub fn end_function(
     c: Counts,
     l: Limits,
 ) -> Counts
-    requires { ⌜ Sound (now made) (now code) (now tables) c l × (f < c .functions)
+    requires { ⌜ Sound (now tree) (now made) (now code) (now tables) c l × (f < c .functions)
         × (bodyOf (stateOf (now tree) (now made) (now code) (now tables) c .tables .functions) f ≡ []) × (base ≤ c .base) ⌝ }
     ensures { λ r. ⌜ Moved base r (now (tree .entry)) (now (made .entry)) (now (code .exit)) (now (tables .exit)) c l
         (ended (c .base) f (stateOf (now (tree .entry)) (now (made .entry)) (now (code .entry)) (now (tables .entry)) c)) ⌝ }

@@ -22,7 +22,7 @@ pub fn set_jump(
     c: Counts,
     l: Limits,
 )
-    requires { ⌜ Sound (now made) (now code) (now tables) c l × (j < c .open) × (28 ≤ op) × (op ≤ 30) × (d < 32768) ⌝ }
+    requires { ⌜ Sound (now tree) (now made) (now code) (now tables) c l × (j < c .open) × (28 ≤ op) × (op ≤ 30) × (d < 32768) ⌝ }
     ensures { λ _. ⌜ Left c (now (tree .entry)) (now (made .entry)) (now (code .exit)) (now (tables .entry)) c l
         (setAt j (instr op d 0) (stateOf (now (tree .entry)) (now (made .entry)) (now (code .entry)) (now (tables .entry)) c)) ⌝ }
 {
@@ -71,7 +71,7 @@ pub fn patch_loop(
     c: Counts,
     l: Limits,
 )
-    requires { ⌜ Sound (now made) (now code) (now tables) c l × (from + n ≤ c .open) × (h ≤ from) ⌝ }
+    requires { ⌜ Sound (now tree) (now made) (now code) (now tables) c l × (from + n ≤ c .open) × (h ≤ from) ⌝ }
     ensures { λ _. ⌜ Left c (now (tree .entry)) (now (made .entry)) (now (code .exit)) (now (tables .entry)) c l
         (patchAt h from n (stateOf (now (tree .entry)) (now (made .entry)) (now (code .entry)) (now (tables .entry)) c)) ⌝ }
 {

@@ -21,7 +21,7 @@ pub fn put(
     c: Counts,
     l: Limits,
 ) -> Emitted
-    requires { ⌜ Sound (now made) (now code) (now tables) c l ⌝ }
+    requires { ⌜ Sound (now tree) (now made) (now code) (now tables) c l ⌝ }
     ensures { λ r. ⌜ Emits r (now (tree .entry)) (now (made .entry)) (now (code .exit)) (now (tables .entry)) c l next
         (emitAt (c .base) (one (instrOf (now (tree .entry)) w)) (stateOf (now (tree .entry)) (now (made .entry)) (now (code .entry)) (now (tables .entry)) c)) ⌝ }
 {
@@ -56,7 +56,7 @@ pub fn put_op(
     c: Counts,
     l: Limits,
 ) -> Emitted
-    requires { ⌜ Sound (now made) (now code) (now tables) c l × Plain op a b ⌝ }
+    requires { ⌜ Sound (now tree) (now made) (now code) (now tables) c l × Plain op a b ⌝ }
     ensures { λ r. ⌜ Emits r (now (tree .entry)) (now (made .entry)) (now (code .exit)) (now (tables .entry)) c l next
         (emitAt (c .base) (one (instr op a b)) (stateOf (now (tree .entry)) (now (made .entry)) (now (code .entry)) (now (tables .entry)) c)) ⌝ }
 {
@@ -76,7 +76,7 @@ pub fn put_place(
     c: Counts,
     l: Limits,
 ) -> Emitted
-    requires { ⌜ Sound (now made) (now code) (now tables) c l × (op < 2) × (at < 65536) ⌝ }
+    requires { ⌜ Sound (now tree) (now made) (now code) (now tables) c l × (op < 2) × (at < 65536) ⌝ }
     ensures { λ r. ⌜ Emits r (now (tree .entry)) (now (made .entry)) (now (code .exit)) (now (tables .entry)) c l next
         (emitAt (c .base) (one (instr op (numberAt 8 (now (tree .entry)) at) 0)) (stateOf (now (tree .entry)) (now (made .entry)) (now (code .entry)) (now (tables .entry)) c)) ⌝ }
 {
@@ -95,7 +95,7 @@ pub fn put_small(
     c: Counts,
     l: Limits,
 ) -> Emitted
-    requires { ⌜ Sound (now made) (now code) (now tables) c l × (i < 65536) ⌝ }
+    requires { ⌜ Sound (now tree) (now made) (now code) (now tables) c l × (i < 65536) ⌝ }
     ensures { λ r. ⌜ Emits r (now (tree .entry)) (now (made .entry)) (now (code .exit)) (now (tables .entry)) c l next
         (emitAt (c .base) (one (ConstI64 i)) (stateOf (now (tree .entry)) (now (made .entry)) (now (code .entry)) (now (tables .entry)) c)) ⌝ }
 {
@@ -115,7 +115,7 @@ pub fn put_jump(
     c: Counts,
     l: Limits,
 ) -> Emitted
-    requires { ⌜ Sound (now made) (now code) (now tables) c l × (28 ≤ op) × (op ≤ 30) × (d < 32768) ⌝ }
+    requires { ⌜ Sound (now tree) (now made) (now code) (now tables) c l × (28 ≤ op) × (op ≤ 30) × (d < 32768) ⌝ }
     ensures { λ r. ⌜ Emits r (now (tree .entry)) (now (made .entry)) (now (code .exit)) (now (tables .entry)) c l next
         (emitAt (c .base) (one (instr op d 0)) (stateOf (now (tree .entry)) (now (made .entry)) (now (code .entry)) (now (tables .entry)) c)) ⌝ }
 {
@@ -134,7 +134,7 @@ pub fn put_back(
     c: Counts,
     l: Limits,
 ) -> Emitted
-    requires { ⌜ Sound (now made) (now code) (now tables) c l × (1 ≤ n) × (n ≤ 32768) ⌝ }
+    requires { ⌜ Sound (now tree) (now made) (now code) (now tables) c l × (1 ≤ n) × (n ≤ 32768) ⌝ }
     ensures { λ r. ⌜ Emits r (now (tree .entry)) (now (made .entry)) (now (code .exit)) (now (tables .entry)) c l next
         (emitAt (c .base) (one (Jump (minus n))) (stateOf (now (tree .entry)) (now (made .entry)) (now (code .entry)) (now (tables .entry)) c)) ⌝ }
 {

@@ -200,7 +200,7 @@ pub value-short : Short (calleeOf Value)
 unfolding Short calleeOf
 value-short = tt
 
-pub functions-few : (t made code tables : List ℕ) (c : Counts) (l : Limits) → Sound made code tables c l → length (stateOf t made code tables c .tables .functions) ≤ 256
+pub functions-few : (t made code tables : List ℕ) (c : Counts) (l : Limits) → Sound t made code tables c l → length (stateOf t made code tables c .tables .functions) ≤ 256
 functions-few t made code tables c l s = omega (arith, function-count t made code tables c l s, s .functions, s .limited .functions)
 
 -- ---- the code of a callee, by what the code answers

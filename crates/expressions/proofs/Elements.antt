@@ -56,12 +56,12 @@ pub record Rest (d : ℕ) (t : List ℕ) (names : List Name) (l : Limits) (made�
   pub state : emitAt (k .base) (exprsCode d n t names p) (stateOf t made code tables k) ≡ emitAt (c .base) (exprsCode d n₀ t names p₀) (stateOf t made₀ code₀ tables₀ c)
   pub base : k .base ≡ c .base
   pub paced : Paced c k
-  pub sound : Sound made code tables k l
+  pub sound : Sound t made code tables k l
   pub made-kept : length made ≡ length made₀
   pub code-kept : length code ≡ length code₀
   pub tables-kept : length tables ≡ length tables₀
 
-pub rest-all : (d : ℕ) (t : List ℕ) (names : List Name) (l : Limits) (made code tables : List ℕ) (n p : ℕ) (c : Counts) → LowerableMany d n t names p → Sound made code tables c l →
+pub rest-all : (d : ℕ) (t : List ℕ) (names : List Name) (l : Limits) (made code tables : List ℕ) (n p : ℕ) (c : Counts) → LowerableMany d n t names p → Sound t made code tables c l →
     Rest d t names l made code tables n p c made code tables n p c
 rest-all d t names l made code tables n p c r s = record {
   elements = r;

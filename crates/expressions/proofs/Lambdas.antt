@@ -60,7 +60,7 @@ begins-over r t made code tables c l n want e h = rw e at h
 -- ---- the beginning
 
 -- the function's name has its symbol: k is what is left then
-module _ (t made code tables made₁ tables₁ : List ℕ) (c k : Counts) (l : Limits) (x : Name) (s : Sound made code tables c l) where
+module _ (t made code tables made₁ tables₁ : List ℕ) (c k : Counts) (l : Limits) (x : Name) (s : Sound t made code tables c l) where
   abbrev named : State
   named = withTables (withSymbol x (stateOf t made code tables c .tables)) (stateOf t made code tables c)
 
@@ -111,7 +111,7 @@ module _ (t made code tables code₁ : List ℕ) (c k : Counts) (l : Limits) (f 
     last-functions : stateOf t made code₁ tables k .tables .functions ≡ stateOf t made code tables c .tables .functions
     last-functions = ap (λ (u : State). u .tables .functions) (g .state ∙ at-one (c .base) Return (stateOf t made code tables c))
 
-    pub end-known : Sound made code tables c l → f < c .functions → f < k .functions
+    pub end-known : Sound t made code tables c l → f < c .functions → f < k .functions
     end-known s h =
         let a = function-count t made code tables c l s in
         let d = function-count t made code₁ tables k l (g .sound) in
@@ -140,7 +140,7 @@ pub names-length : (t ws : List ℕ) → length (namesAt t ws) ≡ length ws
 unfolding namesAt
 names-length t ws = length-map ws (nameAt t)
 
-module _ (t made code tables : List ℕ) (c : Counts) (l : Limits) (s : Sound made code tables c l) (arity : ℕ) (inner : List ℕ) (e : Emit) (E : Lengthens e) (body : Body) where
+module _ (t made code tables : List ℕ) (c : Counts) (l : Limits) (s : Sound t made code tables c l) (arity : ℕ) (inner : List ℕ) (e : Emit) (E : Lengthens e) (body : Body) where
   abbrev before : State
   before = stateOf t made code tables c
 
@@ -167,7 +167,7 @@ module _ (t made code tables : List ℕ) (c : Counts) (l : Limits) (s : Sound ma
     stack-same : c .open ≡ length (before .stack)
     stack-same = sym (stack-length t made code tables c l s)
 
-    pub function-ready : Sound made₁ code tables₁ k l
+    pub function-ready : Sound t made₁ code tables₁ k l
     function-ready = b .1 .sound
 
     -- the body from the beginning

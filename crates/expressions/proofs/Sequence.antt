@@ -19,7 +19,7 @@ pub lowers-as : (r : Emitted) (e e′ : Emit) (q q′ : ℕ) (t made code tables
     → Lowers r e q t made code tables made′ code′ tables′ c l → e′ ≡ e → q′ ≡ q → Lowers r e′ q′ t made code tables made′ code′ tables′ c l
 lowers-as r e e′ q q′ t made code tables made′ code′ tables′ c l h f g = rw (f, g) h
 
-module _ (t made code tables : List ℕ) (c : Counts) (l : Limits) (s : Sound made code tables c l) (e : Emit) where
+module _ (t made code tables : List ℕ) (c : Counts) (l : Limits) (s : Sound t made code tables c l) (e : Emit) where
   -- the part after a part that is done; n is where the first ends, which is m
   pub then-lowers : (f : ℕ → Emit) (g : ℕ → ℕ) (r : Emitted) (n m : ℕ) (made₁ code₁ tables₁ made₂ code₂ tables₂ : List ℕ) (k : Counts)
       → (n ≡ m) × Left k t made₁ code₁ tables₁ c l (emitAt (c .base) e (stateOf t made code tables c)) → Lowers r (f n) (g n) t made₁ code₁ tables₁ made₂ code₂ tables₂ k l
@@ -36,6 +36,6 @@ module _ (t made code tables : List ℕ) (c : Counts) (l : Limits) (s : Sound ma
       full-emits t made′ code′ tables′ c l q′ _ (λ w. emits-full t made′ code′ tables′ c l q _ r z h (within-first (c .base) e (stateOf t made code tables c) (base-below t made code tables c l s) g w))
 
 -- nothing is emitted
-pub nothing-lowers : (t made code tables : List ℕ) (c : Counts) (l : Limits) (q : ℕ) → Sound made code tables c l → Lowers (Done q c) (emits []) q t made code tables made code tables c l
+pub nothing-lowers : (t made code tables : List ℕ) (c : Counts) (l : Limits) (q : ℕ) → Sound t made code tables c l → Lowers (Done q c) (emits []) q t made code tables made code tables c l
 nothing-lowers t made code tables c l q s =
     done-emits t made code tables c l q _ q c refl (left-as (sym (at-nothing (c .base) (stateOf t made code tables c))) (left-none t s))

@@ -53,14 +53,14 @@ module _ (t made code tables : List ℕ) (c : Counts) (l : Limits) (from op next
         done-emits t made code₃ tables c l next _ q m e (left-as (ap (setAt from (instr op n 0)) (a .state)) (left-after a h))
 
 -- an instruction more, a word more
-pub open-one : (t made code tables made′ code′ tables′ : List ℕ) (c k : Counts) (l : Limits) (i : Instr) → Sound made code tables c l →
+pub open-one : (t made code tables made′ code′ tables′ : List ℕ) (c k : Counts) (l : Limits) (i : Instr) → Sound t made code tables c l →
     Left k t made′ code′ tables′ c l (emitAt (c .base) (one i) (stateOf t made code tables c)) → k .open ≡ c .open + 1
 open-one t made code tables made′ code′ tables′ c k l i s f =
     sym (stack-length t made′ code′ tables′ k l (f .sound)) ∙ ap (λ (u : State). length (u .stack)) (f .state ∙ at-one (c .base) i (stateOf t made code tables c))
     ∙ length-append (stateOf t made code tables c .stack) (i ∷ []) ∙ ap (λ (n : ℕ). n + 1) (stack-length t made code tables c l s)
 
 -- no word less
-pub open-grows : (t made code tables made′ code′ tables′ : List ℕ) (c k : Counts) (l : Limits) (e : Emit) → Sound made code tables c l →
+pub open-grows : (t made code tables made′ code′ tables′ : List ℕ) (c k : Counts) (l : Limits) (e : Emit) → Sound t made code tables c l →
     Left k t made′ code′ tables′ c l (emitAt (c .base) e (stateOf t made code tables c)) → c .open ≤ k .open
 open-grows t made code tables made′ code′ tables′ c k l e s f =
     let a = stack-length t made′ code′ tables′ k l (f .sound) in
@@ -87,7 +87,7 @@ constant-is op lo hi = go (eqb op 30) refl
     go true e = let z = eqb-true op 30 e in let f : 33 - op ≡ 3 = omega arith in rw e (ap (λ (k : ℕ). instr k 0 0) f)
     go false e = let z = eqb-false op 30 e in let f : 33 - op ≡ 4 = omega arith in rw e (ap (λ (k : ℕ). instr k 0 0) f)
 
-module _ (t made code tables : List ℕ) (c : Counts) (l : Limits) (s : Sound made code tables c l) (op : ℕ) (lo : 29 ≤ op) (hi : op ≤ 30) (e : Emit) (next : ℕ) where
+module _ (t made code tables : List ℕ) (c : Counts) (l : Limits) (s : Sound t made code tables c l) (op : ℕ) (lo : 29 ≤ op) (hi : op ≤ 30) (e : Emit) (next : ℕ) where
   pub shortcut-full : (r : Emitted) (q : ℕ) (code′ : List ℕ) → Lengthens e → r ≡ Full → Lowers r (one (instr op 0 0)) q t made code tables made code′ tables c l →
       Lowers Full (shortcut (eqb op 30) e) next t made code tables made code′ tables c l
   shortcut-full r q code′ g z h =

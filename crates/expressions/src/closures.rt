@@ -36,7 +36,7 @@ pub fn begin_lambda(
     c: Counts,
     l: Limits,
 ) -> Numbered
-    requires { ⌜ Sound (now made) (now code) (now tables) c l × (arity < 256) × (locals < 256) ⌝ }
+    requires { ⌜ Sound (now tree) (now made) (now code) (now tables) c l × (arity < 256) × (locals < 256) ⌝ }
     ensures { λ r. ⌜ Begins r (now (tree .entry)) (now (made .exit)) (now (code .entry)) (now (tables .exit)) c l (c .functions)
         (begunWith (symbolNumber (lambdaName (c .functions)) (stateOf (now (tree .entry)) (now (made .entry)) (now (code .entry)) (now (tables .entry)) c .tables)) arity locals
         (withTables (withSymbol (lambdaName (c .functions)) (stateOf (now (tree .entry)) (now (made .entry)) (now (code .entry)) (now (tables .entry)) c .tables)) (stateOf (now (tree .entry)) (now (made .entry)) (now (code .entry)) (now (tables .entry)) c))) ⌝ }
@@ -60,7 +60,7 @@ pub fn end_lambda(
     c: Counts,
     l: Limits,
 ) -> Emitted
-    requires { ⌜ Sound (now made) (now code) (now tables) c l × (f < c .functions) × (bodyOf (stateOf (now tree) (now made) (now code) (now tables) c .tables .functions) f ≡ []) × (base ≤ c .base) ⌝ }
+    requires { ⌜ Sound (now tree) (now made) (now code) (now tables) c l × (f < c .functions) × (bodyOf (stateOf (now tree) (now made) (now code) (now tables) c .tables .functions) f ≡ []) × (base ≤ c .base) ⌝ }
     ensures { λ r. ⌜ Ends r base (now (tree .entry)) (now (made .entry)) (now (code .exit)) (now (tables .exit)) c l next
         (emitAt (c .base) (one Return) (stateOf (now (tree .entry)) (now (made .entry)) (now (code .entry)) (now (tables .entry)) c))
         (ended (c .base) f (emitAt (c .base) (one Return) (stateOf (now (tree .entry)) (now (made .entry)) (now (code .entry)) (now (tables .entry)) c))) ⌝ }
@@ -84,7 +84,7 @@ fn load_slot(
     c: Counts,
     l: Limits,
 ) -> Emitted
-    requires { ⌜ Sound (now made) (now code) (now tables) c l × (length (now slots) ≤ 255) × (member (nameAt (now tree) at) (namesAt (now tree) (now slots)) ≡ true) ⌝ }
+    requires { ⌜ Sound (now tree) (now made) (now code) (now tables) c l × (length (now slots) ≤ 255) × (member (nameAt (now tree) at) (namesAt (now tree) (now slots)) ≡ true) ⌝ }
     ensures { λ r. ⌜ Lowers r (load (namesAt (now (tree .entry)) (now (slots .entry))) (nameAt (now (tree .entry)) at)) next
         (now (tree .entry)) (now (made .entry)) (now (code .entry)) (now (tables .entry)) (now (made .entry)) (now (code .exit)) (now (tables .entry)) c l ⌝ }
 {
@@ -104,7 +104,7 @@ fn load_captured(
     c: Counts,
     l: Limits,
 ) -> Emitted
-    requires { ⌜ Sound (now made) (now code) (now tables) c l × (length (now slots) ≤ 255) × Held (namesAt (now tree) (now slots)) (namesAt (now tree) (now captured)) ⌝ }
+    requires { ⌜ Sound (now tree) (now made) (now code) (now tables) c l × (length (now slots) ≤ 255) × Held (namesAt (now tree) (now slots)) (namesAt (now tree) (now captured)) ⌝ }
     ensures { λ r. ⌜ Lowers r (loads (namesAt (now (tree .entry)) (now (slots .entry))) (namesAt (now (tree .entry)) (now (captured .entry)))) next
         (now (tree .entry)) (now (made .entry)) (now (code .entry)) (now (tables .entry)) (now (made .entry)) (now (code .exit)) (now (tables .entry)) c l ⌝ }
 {
@@ -135,7 +135,7 @@ pub fn end_closure(
     c: Counts,
     l: Limits,
 ) -> Emitted
-    requires { ⌜ Sound (now made) (now code) (now tables) c l × (length (now slots) ≤ 255) × Held (namesAt (now tree) (now slots)) (namesAt (now tree) (now captured)) × (length (now captured) ≤ 255) × (f < 65536) ⌝ }
+    requires { ⌜ Sound (now tree) (now made) (now code) (now tables) c l × (length (now slots) ≤ 255) × Held (namesAt (now tree) (now slots)) (namesAt (now tree) (now captured)) × (length (now captured) ≤ 255) × (f < 65536) ⌝ }
     ensures { λ r. ⌜ Lowers r (loads (namesAt (now (tree .entry)) (now (slots .entry))) (namesAt (now (tree .entry)) (now (captured .entry))) ⨟ one (MakeClosure f (length (now (captured .entry))))) next
         (now (tree .entry)) (now (made .entry)) (now (code .entry)) (now (tables .entry)) (now (made .entry)) (now (code .exit)) (now (tables .entry)) c l ⌝ }
 {

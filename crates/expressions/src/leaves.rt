@@ -38,7 +38,7 @@ pub fn emit_literal(
     c: Counts,
     l: Limits,
 ) -> Emitted
-    requires { ⌜ Sound (now made) (now code) (now tables) c l × (length (now tree) ≤ 32768) × LiteralAt (now tree) at × (lit (literalOf (now tree) x) ≡ exprAt 1 (now tree) at .value) ⌝ }
+    requires { ⌜ Sound (now tree) (now made) (now code) (now tables) c l × (length (now tree) ≤ 32768) × LiteralAt (now tree) at × (lit (literalOf (now tree) x) ≡ exprAt 1 (now tree) at .value) ⌝ }
     ensures { λ r. ⌜ Lowers r (literal (literalOf (now (tree .entry)) x)) (exprAt 1 (now (tree .entry)) at .end)
         (now (tree .entry)) (now (made .entry)) (now (code .entry)) (now (tables .entry)) (now (made .entry)) (now (code .exit)) (now (tables .exit)) c l ⌝ }
 {
@@ -72,7 +72,7 @@ pub fn end_shortcut(
     c: Counts,
     l: Limits,
 ) -> Emitted
-    requires { ⌜ Sound (now made) (now code) (now tables) c l × (from < c .open) × (29 ≤ op) × (op ≤ 30) ⌝ }
+    requires { ⌜ Sound (now tree) (now made) (now code) (now tables) c l × (from < c .open) × (29 ≤ op) × (op ≤ 30) ⌝ }
     ensures { λ r. ⌜ Emits r (now (tree .entry)) (now (made .entry)) (now (code .exit)) (now (tables .entry)) c l next
         (setAt from (instr op (c .open - from) 0) (emitAt (c .base) (one (instr (33 - op) 0 0)) (emitAt (c .base) (one (instr 28 1 0)) (stateOf (now (tree .entry)) (now (made .entry)) (now (code .entry)) (now (tables .entry)) c)))) ⌝ }
 {
@@ -135,7 +135,7 @@ pub fn put_call(
     c: Counts,
     l: Limits,
 ) -> Emitted
-    requires { ⌜ Sound (now made) (now code) (now tables) c l × Short (calleeOf callee) × (n ≤ 255) ⌝ }
+    requires { ⌜ Sound (now tree) (now made) (now code) (now tables) c l × Short (calleeOf callee) × (n ≤ 255) ⌝ }
     ensures { λ r. ⌜ Lowers r (one (callInstr (calleeOf callee) n)) next
         (now (tree .entry)) (now (made .entry)) (now (code .entry)) (now (tables .entry)) (now (made .entry)) (now (code .exit)) (now (tables .entry)) c l ⌝ }
 {

@@ -38,7 +38,7 @@ pub next-emits : (t made₁ code₁ tables₁ made₂ code₂ tables₂ : List �
     → Left k t made₁ code₁ tables₁ c l w₁ → Emits r t made₂ code₂ tables₂ k l q w₂ → w₂ ≡ w → Emits r t made₂ code₂ tables₂ c l q w
 next-emits t made₁ code₁ tables₁ made₂ code₂ tables₂ c k l q w₁ w₂ w r A h e = emits-as r t made₂ code₂ tables₂ c l q q w₂ w refl e (emits-after r made₂ code₂ tables₂ q w₂ A h)
 
-module _ (t made code tables : List ℕ) (c : Counts) (l : Limits) (s : Sound made code tables c l) (e f : Emit) where
+module _ (t made code tables : List ℕ) (c : Counts) (l : Limits) (s : Sound t made code tables c l) (e f : Emit) where
   -- one part after another
   pub then-emits : (made₁ code₁ tables₁ made₂ code₂ tables₂ : List ℕ) (k : Counts) (q : ℕ) (r : Emitted)
       → Left k t made₁ code₁ tables₁ c l (emitAt (c .base) e (stateOf t made code tables c)) → Emits r t made₂ code₂ tables₂ k l q (emitAt (k .base) f (stateOf t made₁ code₁ tables₁ k))
@@ -69,6 +69,6 @@ module _ (t made code tables : List ℕ) (c : Counts) (l : Limits) (s : Sound ma
       full-by t made₁ code₁ tables₁ c l q _ r made′ code′ tables′ c q′ _ z h (within-first (c .base) e (stateOf t made code tables c) (base-below t made code tables c l s) F)
 
 -- nothing is emitted
-pub nothing-emits : (t made code tables : List ℕ) (c : Counts) (l : Limits) (q : ℕ) (e : Emit) → Sound made code tables c l → e ≡ emits [] → Emits (Done q c) t made code tables c l q (emitAt (c .base) e (stateOf t made code tables c))
+pub nothing-emits : (t made code tables : List ℕ) (c : Counts) (l : Limits) (q : ℕ) (e : Emit) → Sound t made code tables c l → e ≡ emits [] → Emits (Done q c) t made code tables c l q (emitAt (c .base) e (stateOf t made code tables c))
 nothing-emits t made code tables c l q e s z =
     done-emits t made code tables c l q _ q c refl (left-as (sym (ap (λ (f : Emit). emitAt (c .base) f (stateOf t made code tables c)) z ∙ at-nothing (c .base) (stateOf t made code tables c))) (left-none t s))

@@ -82,7 +82,7 @@ pub take-within : {l : Limits} (base : ℕ) (slots : List Name) (x : Name) (g : 
     → Within l (emitAt base (takeIter slots x g) s) → Within l (emitAt base (one (LoadGlobal g) ⨟ intern (madeName Next) (λ k. one (CallMethod k 0))) s)
 take-within base slots x g s h w = within-down base _ (lengthens-store slots x) (rw (take-is base slots x g s h) w)
 
-pub take-emits : (t made code tables made₁ code₁ tables₁ made₂ code₂ tables₂ : List ℕ) (c k : Counts) (l : Limits) (p q : ℕ) (slots : List Name) (x : Name) (g : ℕ) (r₁ r : Emitted) → Sound made code tables c l → r₁ ≡ Done p k
+pub take-emits : (t made code tables made₁ code₁ tables₁ made₂ code₂ tables₂ : List ℕ) (c k : Counts) (l : Limits) (p q : ℕ) (slots : List Name) (x : Name) (g : ℕ) (r₁ r : Emitted) → Sound t made code tables c l → r₁ ≡ Done p k
     → Emits r₁ t made₁ code₁ tables₁ c l q (emitAt (c .base) (one (LoadGlobal g) ⨟ intern (madeName Next) (λ k. one (CallMethod k 0))) (stateOf t made code tables c))
     → Emits r t made₂ code₂ tables₂ k l p (emitAt (k .base) (store slots x) (stateOf t made₁ code₁ tables₁ k))
     → Emits r t made₂ code₂ tables₂ c l q (emitAt (c .base) (takeIter slots x g) (stateOf t made code tables c))

@@ -32,7 +32,7 @@ unfolding begunWith
 within-begunWith k arity n s w =
     within-tables s _ (record { new = record { symbol = k; arity = arity; locals = n; code = [] } ∷ []; functions = refl; symbols = omega arith; strings = omega arith; classes = omega arith }) w
 
-module _ (t made code tables tables₁ : List ℕ) (c : Counts) (l : Limits) (x : Name) (arity locals : ℕ) (sound : Sound made code tables c l) (n : Numbered)
+module _ (t made code tables tables₁ : List ℕ) (c : Counts) (l : Limits) (x : Name) (arity locals : ℕ) (sound : Sound t made code tables c l) (n : Numbered)
     (h : Numbers n t made code tables₁ c l (symbolNumber x (stateOf t made code tables c .tables)) (withTables (withSymbol x (stateOf t made code tables c .tables)) (stateOf t made code tables c))) where
   abbrev s : State
   s = stateOf t made code tables c
@@ -51,7 +51,7 @@ module _ (t made code tables tables₁ : List ℕ) (c : Counts) (l : Limits) (x 
     got : (i ≡ symbolNumber x (s .tables)) × Left k t made code tables₁ c l named
     got = numbers-at t made code tables₁ c l _ _ n i k e h
 
-    pub name-sound : Sound made code tables₁ k l
+    pub name-sound : Sound t made code tables₁ k l
     name-sound = got .1 .sound
 
     begun-is : begunWith i arity locals (stateOf t made code tables₁ k) ≡ begunNow
@@ -91,7 +91,7 @@ finishes-by (Done p m) n t made code tables c k l q want want′ b x y e h =
 finishes-by Full n t made code tables c k l q want want′ b x y e h = λ w. h (rw e w)
 
 -- the class's object: a constant, the two instructions
-module _ (t made code tables tables₁ : List ℕ) (c k : Counts) (l : Limits) (i symbol : ℕ) (sound : Sound made code tables c l)
+module _ (t made code tables tables₁ : List ℕ) (c k : Counts) (l : Limits) (i symbol : ℕ) (sound : Sound t made code tables c l)
     (h : Counted k (withConstants (c .constants + 1) c) t made code tables₁ l (withTables (addConstant i (stateOf t made code tables c .tables)) (stateOf t made code tables c))) where
   abbrev s₀ : State
   s₀ = stateOf t made code tables c
@@ -117,7 +117,7 @@ module _ (t made code tables tables₁ : List ℕ) (c k : Counts) (l : Limits) (
       put : (p ≡ q) × Left m t made code₁ tables₁ k l (emitAt (k .base) (one (instr 6 (c .constants) 0)) (stateOf t made code tables₁ k))
       put = emits-done t made code₁ tables₁ k l q _ r p m e a
 
-      pub object-sound : Sound made code₁ tables₁ m l
+      pub object-sound : Sound t made code₁ tables₁ m l
       object-sound = put .1 .sound
 
       pub object-finishes : (r′ : Emitted) (code₂ : List ℕ) → Emits r′ t made code₂ tables₁ m l p (emitAt (m .base) (one (instr 12 symbol 0)) (stateOf t made code₁ tables₁ m)) → Finishes r′ 0 t made code₂ tables₁ c l q objected
@@ -154,7 +154,7 @@ module _ (t made code tables tables₁ : List ℕ) (c k : Counts) (l : Limits) (
       gotten : (g ≡ symbolNumber x (stateOf t made code tables₁ k .tables)) × Left m t made code tables₂ k l (withTables (withSymbol x (stateOf t made code tables₁ k .tables)) (stateOf t made code tables₁ k))
       gotten = numbers-at t made code tables₂ k l _ _ r g m e a
 
-      pub class-sound : Sound made code tables₂ m l
+      pub class-sound : Sound t made code tables₂ m l
       class-sound = gotten .1 .sound
 
       pub class-constants : c .constants < c .classes → m .constants < m .classes

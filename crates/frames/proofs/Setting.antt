@@ -17,7 +17,7 @@ use Rattle.state.proofs.Within.{within-set, within-patch}
 use Rattle.state.proofs.Answers.{emits-done, done-emits, left-after, left-as}
 use Rattle.frames.proofs.Answering.{open-after, one-longer}
 
-module _ (t made code code₁ tables : List ℕ) (c k : Counts) (l : Limits) (p q base : ℕ) (i : Instr) (s : Sound made code tables c l) (r : Emitted) (e : r ≡ Done p k)
+module _ (t made code code₁ tables : List ℕ) (c k : Counts) (l : Limits) (p q base : ℕ) (i : Instr) (s : Sound t made code tables c l) (r : Emitted) (e : r ≡ Done p k)
     (h : Emits r t made code₁ tables c l q (emitAt base (one i) (stateOf t made code tables c))) where
   abbrev mid : State
   mid = emitAt base (one i) (stateOf t made code tables c)
@@ -25,7 +25,7 @@ module _ (t made code code₁ tables : List ℕ) (c k : Counts) (l : Limits) (p 
   got : (p ≡ q) × Left k t made code₁ tables c l mid
   got = emits-done t made code₁ tables c l q mid r p k e h
 
-  pub put-sound : Sound made code₁ tables k l
+  pub put-sound : Sound t made code₁ tables k l
   put-sound = got .1 .sound
 
   pub put-open : k .open ≡ c .open + 1
@@ -42,7 +42,7 @@ module _ (t made code code₁ tables : List ℕ) (c k : Counts) (l : Limits) (p 
       done-emits t made code₃ tables c l q _ p k (got .0) (left-as (ap (setAt j x) (P .state ∙ ap (patchAt a b n) (got .1 .state))) (left-after (got .1) (left-after P B)))
 
 -- before the end of a loop
-pub loop-within : (t made code tables : List ℕ) (c : Counts) (l : Limits) (base : ℕ) (i : Instr) (h from j : ℕ) (x : Instr) → Sound made code tables c l → from ≤ c .open
+pub loop-within : (t made code tables : List ℕ) (c : Counts) (l : Limits) (base : ℕ) (i : Instr) (h from j : ℕ) (x : Instr) → Sound t made code tables c l → from ≤ c .open
     → Within l (setAt j x (patchAt h from (c .open - from) (emitAt base (one i) (stateOf t made code tables c)))) → Within l (emitAt base (one i) (stateOf t made code tables c))
 loop-within t made code tables c l base i h from j x s g w =
     let a = one-longer base i (stateOf t made code tables c) in

@@ -14,7 +14,7 @@ pub record Finished (k : Counts) (n : ℕ) (tree made code tables : List ℕ) (c
   pub base : k .base ≡ c .base
   pub methods : k .methods + c .functions ≤ c .methods + n + k .functions
   pub constants : k .constants + c .classes ≤ c .constants + 1 + k .classes
-  pub sound : Sound made code tables k l
+  pub sound : Sound tree made code tables k l
 
 -- the next position and the wanted state; or the wanted state is over the limits
 unfoldable pub Finishes : Emitted → ℕ → List ℕ → List ℕ → List ℕ → List ℕ → Counts → Limits → ℕ → State → Type 0

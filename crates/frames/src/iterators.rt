@@ -29,7 +29,7 @@ pub fn make_iterator(
     c: Counts,
     l: Limits,
 ) -> Emitted
-    requires { ⌜ Sound (now made) (now code) (now tables) c l ⌝ }
+    requires { ⌜ Sound (now tree) (now made) (now code) (now tables) c l ⌝ }
     ensures { λ r. ⌜ Emits r (now (tree .entry)) (now (made .exit)) (now (code .exit)) (now (tables .exit)) c l next
         (emitAt (c .base) makeIter (stateOf (now (tree .entry)) (now (made .entry)) (now (code .entry)) (now (tables .entry)) c)) ⌝ }
 {
@@ -45,7 +45,7 @@ pub fn store_iterator(
     c: Counts,
     l: Limits,
 ) -> Numbered
-    requires { ⌜ Sound (now made) (now code) (now tables) c l ⌝ }
+    requires { ⌜ Sound (now tree) (now made) (now code) (now tables) c l ⌝ }
     ensures { λ r. ⌜ Numbers r (now (tree .entry)) (now (made .exit)) (now (code .exit)) (now (tables .exit)) c l
         (symbolNumber (iterName (c .open - c .base)) (stateOf (now (tree .entry)) (now (made .entry)) (now (code .entry)) (now (tables .entry)) c .tables))
         (emitAt (c .base) (one (StoreGlobal (symbolNumber (iterName (c .open - c .base)) (stateOf (now (tree .entry)) (now (made .entry)) (now (code .entry)) (now (tables .entry)) c .tables))))
@@ -76,7 +76,7 @@ pub fn call_iterator(
     c: Counts,
     l: Limits,
 ) -> Emitted
-    requires { ⌜ Sound (now made) (now code) (now tables) c l × (g < 65536) × (length (madeName m) < 20) ⌝ }
+    requires { ⌜ Sound (now tree) (now made) (now code) (now tables) c l × (g < 65536) × (length (madeName m) < 20) ⌝ }
     ensures { λ r. ⌜ Emits r (now (tree .entry)) (now (made .exit)) (now (code .exit)) (now (tables .exit)) c l next
         (emitAt (c .base) (one (LoadGlobal g) ⨟ intern (madeName m) (λ k. one (CallMethod k 0))) (stateOf (now (tree .entry)) (now (made .entry)) (now (code .entry)) (now (tables .entry)) c)) ⌝ }
 {
@@ -98,7 +98,7 @@ pub fn ask_iterator(
     c: Counts,
     l: Limits,
 ) -> Emitted
-    requires { ⌜ Sound (now made) (now code) (now tables) c l × (g < 65536) ⌝ }
+    requires { ⌜ Sound (now tree) (now made) (now code) (now tables) c l × (g < 65536) ⌝ }
     ensures { λ r. ⌜ Emits r (now (tree .entry)) (now (made .exit)) (now (code .exit)) (now (tables .exit)) c l next
         (emitAt (c .base) (askIter g ⨟ one (JumpIfFalse 0)) (stateOf (now (tree .entry)) (now (made .entry)) (now (code .entry)) (now (tables .entry)) c)) ⌝ }
 {
@@ -122,7 +122,7 @@ pub fn take_iterator(
     c: Counts,
     l: Limits,
 ) -> Emitted
-    requires { ⌜ Sound (now made) (now code) (now tables) c l × (length (now slots) < 256) × (at < 32768) × (g < 65536) ⌝ }
+    requires { ⌜ Sound (now tree) (now made) (now code) (now tables) c l × (length (now slots) < 256) × (at < 32768) × (g < 65536) ⌝ }
     ensures { λ r. ⌜ Emits r (now (tree .entry)) (now (made .exit)) (now (code .exit)) (now (tables .exit)) c l next
         (emitAt (c .base) (takeIter (namesAt (now (tree .entry)) (now (slots .entry))) (nameAt (now (tree .entry)) at) g) (stateOf (now (tree .entry)) (now (made .entry)) (now (code .entry)) (now (tables .entry)) c)) ⌝ }
 {

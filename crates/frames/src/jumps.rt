@@ -24,7 +24,7 @@ pub fn end_branch(
     c: Counts,
     l: Limits,
 ) -> Emitted
-    requires { ⌜ Sound (now made) (now code) (now tables) c l × (0 < from) × (from ≤ c .open) ⌝ }
+    requires { ⌜ Sound (now tree) (now made) (now code) (now tables) c l × (0 < from) × (from ≤ c .open) ⌝ }
     ensures { λ r. ⌜ Emits r (now (tree .entry)) (now (made .entry)) (now (code .exit)) (now (tables .entry)) c l next
         (setAt (from - 1) (instr 29 (c .open - from + 1) 0) (emitAt (c .base) (one (Jump 0)) (stateOf (now (tree .entry)) (now (made .entry)) (now (code .entry)) (now (tables .entry)) c))) ⌝ }
 {
@@ -50,7 +50,7 @@ pub fn end_loop(
     c: Counts,
     l: Limits,
 ) -> Emitted
-    requires { ⌜ Sound (now made) (now code) (now tables) c l × (start < inside) × (inside ≤ c .open) ⌝ }
+    requires { ⌜ Sound (now tree) (now made) (now code) (now tables) c l × (start < inside) × (inside ≤ c .open) ⌝ }
     ensures { λ r. ⌜ Emits r (now (tree .entry)) (now (made .entry)) (now (code .exit)) (now (tables .entry)) c l next
         (setAt (inside - 1) (instr 29 (c .open - inside + 1) 0) (patchAt (inside - start) inside (c .open - inside)
         (emitAt (c .base) (one (Jump (minus (c .open - start + 1)))) (stateOf (now (tree .entry)) (now (made .entry)) (now (code .entry)) (now (tables .entry)) c)))) ⌝ }

@@ -30,7 +30,7 @@ pub fn begin_named(
     c: Counts,
     l: Limits,
 ) -> Numbered
-    requires { ⌜ Sound (now made) (now code) (now tables) c l × (at < 32768) × (arity < 256) × (locals < 256) ⌝ }
+    requires { ⌜ Sound (now tree) (now made) (now code) (now tables) c l × (at < 32768) × (arity < 256) × (locals < 256) ⌝ }
     ensures { λ r. ⌜ Begins r (now (tree .entry)) (now (made .entry)) (now (code .entry)) (now (tables .exit)) c l
         (length (stateOf (now (tree .entry)) (now (made .entry)) (now (code .entry)) (now (tables .entry)) c .tables .functions))
         (begunWith (symbolNumber (nameAt (now (tree .entry)) at) (stateOf (now (tree .entry)) (now (made .entry)) (now (code .entry)) (now (tables .entry)) c .tables)) arity locals
@@ -56,7 +56,7 @@ fn store_class(
     c: Counts,
     l: Limits,
 ) -> Emitted
-    requires { ⌜ Sound (now made) (now code) (now tables) c l × (symbol < 65536) × (c .constants < c .classes) ⌝ }
+    requires { ⌜ Sound (now tree) (now made) (now code) (now tables) c l × (symbol < 65536) × (c .constants < c .classes) ⌝ }
     ensures { λ r. ⌜ Finishes r 0 (now (tree .entry)) (now (made .entry)) (now (code .exit)) (now (tables .exit)) c l next
         (emitAt (c .base) (classObject i symbol) (stateOf (now (tree .entry)) (now (made .entry)) (now (code .entry)) (now (tables .entry)) c)) ⌝ }
 {
@@ -83,7 +83,7 @@ pub fn finish_class(
     c: Counts,
     l: Limits,
 ) -> Emitted
-    requires { ⌜ Sound (now made) (now code) (now tables) c l × (i < c .classes) × (at < 32768) × (n ≤ length (now list)) × (c .methods + n ≤ c .functions) × (c .constants < c .classes) ⌝ }
+    requires { ⌜ Sound (now tree) (now made) (now code) (now tables) c l × (i < c .classes) × (at < 32768) × (n ≤ length (now list)) × (c .methods + n ≤ c .functions) × (c .constants < c .classes) ⌝ }
     ensures { λ r. ⌜ Finishes r n (now (tree .entry)) (now (made .entry)) (now (code .exit)) (now (tables .exit)) c l next
         (emitAt (c .base) (endClass (nameAt (now (tree .entry)) at) i (map (methodOf (now (tree .entry))) (take n (now (list .entry)))))
         (stateOf (now (tree .entry)) (now (made .entry)) (now (code .entry)) (now (tables .entry)) c)) ⌝ }

@@ -114,11 +114,11 @@ module _ (l : Limits) (m n room : ℕ) (tree out : List ℕ) (first : 16384 ≤ 
         (answer-over (limitsOf l) m n room tree (areas-fit m n first second) (treeBlock tree) (checks (F .tree-at)) slots-yes (tables-over l (compile (treeBlock tree) .tables) g))
 
     module _ (p : ℕ) (k : Counts) (e : r ≡ Done p k) where
-      compiled : (tablesOf tree made code tables k ≡ compile (treeBlock tree) .tables) × Sound made code tables k l
+      compiled : (tablesOf tree made code tables k ≡ compile (treeBlock tree) .tables) × Sound tree made code tables k l
       unfolding Compiles
       compiled = subst (λ (x : Emitted). Compiles x tree made code tables l (compile (treeBlock tree) .tables)) e h
 
-      pub compiled-sound : Sound made code tables k l
+      pub compiled-sound : Sound tree made code tables k l
       compiled-sound = compiled .1
 
       tables-yes : tablesFit (limitsOf l) (compile (treeBlock tree) .tables) ≡ true

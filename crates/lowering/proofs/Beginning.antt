@@ -26,7 +26,7 @@ pub fresh-state : (tree made code tables : List ℕ) → stateOf tree made code 
 unfolding stateOf tablesOf instrsOf region functionsOf classesOf noTables
 fresh-state tree made code tables = refl
 
-pub fresh-sound : {made code tables : List ℕ} {l : Limits} → Roomed made code tables l → Sound made code tables noCounts l
+pub fresh-sound : {tree made code tables : List ℕ} {l : Limits} → Roomed made code tables l → Sound tree made code tables noCounts l
 unfolding region total
 fresh-sound r = record {
   code-room = r .code-room;
@@ -46,6 +46,8 @@ fresh-sound r = record {
   codes = noEvery;
   class-methods = noEvery;
   finished = refl;
+  symbol-index = noneCovered;
+  string-index = noneCovered;
 }
 
 -- the answer of the name's number, of the state with nothing
@@ -68,7 +70,7 @@ module _ (tree made₀ code tables₀ made tables : List ℕ) (l : Limits) (r : 
     got : (symbol ≡ symbolNumber main noTables) × Left k tree made code tables noCounts l mainNamed
     got = numbers-at tree made code tables noCounts l _ _ r symbol k e named
 
-    pub named-sound : Sound made code tables k l
+    pub named-sound : Sound tree made code tables k l
     named-sound = got .1 .sound
 
     pub symbol-few : symbol < 1024

@@ -40,7 +40,7 @@ block-lowerable tree F = record {
   fits = F .fits;
 }
 
-module _ (tree made₀ code₀ tables₀ made code tables : List ℕ) (c : Counts) (l : Limits) (next : ℕ) (b : Block) (s : Sound made₀ code₀ tables₀ c l) (r : Emitted)
+module _ (tree made₀ code₀ tables₀ made code tables : List ℕ) (c : Counts) (l : Limits) (next : ℕ) (b : Block) (s : Sound tree made₀ code₀ tables₀ c l) (r : Emitted)
     (h : Emits r tree made code tables c l next (emitAt (c .base) (emitBlock [] b) (stateOf tree made₀ code₀ tables₀ c))) where
   abbrev before : State
   before = stateOf tree made₀ code₀ tables₀ c
@@ -56,7 +56,7 @@ module _ (tree made₀ code₀ tables₀ made code tables : List ℕ) (c : Count
     left : (n ≡ next) × Left k tree made code tables c l (emitAt (c .base) (emitBlock [] b) before)
     left = emits-done tree made code tables c l next _ r n k e h
 
-    pub block-sound : Sound made code tables k l
+    pub block-sound : Sound tree made code tables k l
     block-sound = left .1 .sound
 
     pub main-done : (code′ : List ℕ) (q : Emitted) → Emits q tree made code′ tables k l n (emitAt (k .base) (one Return) (stateOf tree made code tables k))
@@ -106,7 +106,7 @@ module _ (tree made₁ code₁ tables₁ : List ℕ) (l : Limits) (r : Numbered)
     unfolding Begins
     begins = rw e at h
 
-    pub begun-sound : Sound made₁ code₁ tables₁ k l
+    pub begun-sound : Sound tree made₁ code₁ tables₁ k l
     begun-sound = begins .1 .sound
 
     module _ (made code tables : List ℕ) (next : ℕ) (q : Emitted)
@@ -122,7 +122,7 @@ module _ (tree made₁ code₁ tables₁ : List ℕ) (l : Limits) (r : Numbered)
         made-left : (n ≡ next) × Left m tree made code tables k l (emitAt (k .base) (mainCode b) (stateOf tree made₁ code₁ tables₁ k))
         made-left = emits-done tree made code tables k l next _ q n m x g
 
-        pub body-sound : Sound made code tables m l
+        pub body-sound : Sound tree made code tables m l
         body-sound = made-left .1 .sound
 
         after : stateOf tree made code tables m ≡ emitAt 0 (mainCode b) mainBegun

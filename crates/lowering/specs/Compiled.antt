@@ -64,5 +64,5 @@ mainCode b = emitBlock [] b ⨟ one Return
 
 -- the slices hold the tables; or the tables are over the limits
 unfoldable pub Compiles : Emitted → List ℕ → List ℕ → List ℕ → List ℕ → Limits → Tables → Type 0
-Compiles (Done n k) tree made code tables l want = (tablesOf tree made code tables k ≡ want) × Sound made code tables k l
+Compiles (Done n k) tree made code tables l want = (tablesOf tree made code tables k ≡ want) × Sound tree made code tables k l
 Compiles Full tree made code tables l want = Within l (record { stack = []; tables = want }) → ⊥

@@ -48,7 +48,7 @@ fn emit_main(
     c: Counts,
     l: Limits,
 ) -> Emitted
-    requires { ⌜ Sound (now made) (now code) (now tables) c l × Fitting (now tree) ⌝ }
+    requires { ⌜ Sound (now tree) (now made) (now code) (now tables) c l × Fitting (now tree) ⌝ }
     ensures { λ r. ⌜ Emits r (now (tree .entry)) (now (made .exit)) (now (code .exit)) (now (tables .exit)) c l (blockAt 32 (now (tree .entry)) 5 .end)
         (emitAt (c .base) (mainCode (treeBlock (now (tree .entry)))) (stateOf (now (tree .entry)) (now (made .entry)) (now (code .entry)) (now (tables .entry)) c)) ⌝ }
 {

@@ -19,7 +19,7 @@ use Rattle.module.proofs.Lengths.{Small, symbols-room, strings-room}
 use Rattle.module.proofs.CodeLengths.{region-short, functions-room, classes-room, length-constants}
 
 -- sound slices have what the writer asks
-pub sound-roomy : {made code tables : List ℕ} {c : Counts} {l : Limits} → Sound made code tables c l → Roomy code tables c
+pub sound-roomy : {tree made code tables : List ℕ} {c : Counts} {l : Limits} → Sound tree made code tables c l → Roomy code tables c
 sound-roomy s = record {
   code-room = s .code-room;
   tables-room = s .tables-room;

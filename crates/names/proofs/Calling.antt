@@ -130,7 +130,7 @@ module _ (x : Name) (t : Tables) where
   unfolding resolveFunction by-symbol by-function
   is-function o e = ap by-symbol e
 
-module _ (tree made code tables : List ℕ) (c : Counts) (l : Limits) (s : Sound made code tables c l) (x : Name) where
+module _ (tree made code tables : List ℕ) (c : Counts) (l : Limits) (s : Sound tree made code tables c l) (x : Name) where
   abbrev t : Tables
   t = stateOf tree made code tables c .tables
 

@@ -1,6 +1,7 @@
 pub mod Spelling
 pub mod Finding
 pub mod Numbering
+pub mod Indexing
 pub mod Pasting
 pub mod MadeNames
 pub mod Midway

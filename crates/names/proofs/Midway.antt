@@ -17,9 +17,9 @@ pub record Midway (k : Counts) (tree made code tables : List ℕ) (c : Counts) (
   pub state : emitAt (c .base) rest (stateOf tree made code tables k) ≡ want
   pub base : k .base ≡ c .base
   pub paced : Paced c k
-  pub sound : Sound made code tables k l
+  pub sound : Sound tree made code tables k l
 
-pub midway-start : (tree made code tables : List ℕ) (c : Counts) (l : Limits) (e : Emit) → Sound made code tables c l
+pub midway-start : (tree made code tables : List ℕ) (c : Counts) (l : Limits) (e : Emit) → Sound tree made code tables c l
     → Midway c tree made code tables c l e (emitAt (c .base) e (stateOf tree made code tables c))
 midway-start tree made code tables c l e s = record { state = refl; base = refl; paced = paced-none c; sound = s }
 

@@ -82,7 +82,7 @@ module _ (tree made code tables : List ℕ) (c : Counts) (l : Limits) (s : State
     got : (i ≡ symbolNumber x (s .tables)) × Left d tree made code tables c l (withTables (withSymbol x (s .tables)) s)
     got = numbers-at tree made code tables c l _ _ n i d e answer
 
-    pub symbol-sound : Sound made code tables d l
+    pub symbol-sound : Sound tree made code tables d l
     symbol-sound = got .1 .sound
 
     pub symbol-small : i < 1024
@@ -103,7 +103,7 @@ module _ (tree made code tables : List ℕ) (c : Counts) (l : Limits) (s : State
     got-string : (i ≡ stringNumber x (s .tables)) × Left d tree made code tables c l (withTables (withString x (s .tables)) s)
     got-string = numbers-at tree made code tables c l _ _ n i d e answer
 
-    pub string-sound : Sound made code tables d l
+    pub string-sound : Sound tree made code tables d l
     string-sound = got-string .1 .sound
 
     pub string-small : i < 512

@@ -5,20 +5,30 @@ use mathlib.Core.Bool.{Bool}
 use mathlib.Core.Option.{Option, none, some}
 use mathlib.Core.List.{List, [], _∷_, _++_, map, map-append}
 use native.Mathlib.Omega.{arith}
-use lib.ListN.{length, take, drop, set, length-append, length-set}
+use lib.ListN.{length, take, drop, set, length-append, length-set, length-map}
 use Rattle.definitions.specs.Bytes.{Name, Text, same, position}
 use Rattle.definitions.specs.Tables.{Function, Class, Tables, addSymbol, addString}
 use Rattle.definitions.proofs.Resolve.{position-lt}
 use Rattle.state.specs.Words.{region, textAt, instrsOf}
-use Rattle.state.specs.State.{stringsFrom, headsFrom, codesFrom, classNamesFrom, classMethodsFrom, methodsFrom, constantsFrom, doneFrom, spelled, functionsOf, classesOf, State, tablesOf, stateOf, Within, Sound, Every, MadeWithin, EndsWithin, total, Paced, Left, Numbers, foundOr, symbolNumber, withSymbol, stringNumber, withString, withTables}
+use Rattle.state.specs.Index.{bucketOf, Covered, noted}
+use Rattle.state.specs.State.{symbolIndexFrom, symbolBuckets, stringIndexFrom, stringBuckets, SymbolIndex, StringIndex, stringsFrom, headsFrom, codesFrom, classNamesFrom, classMethodsFrom, methodsFrom, constantsFrom, doneFrom, spelled, functionsOf, classesOf, State, tablesOf, stateOf, Within, Sound, Every, MadeWithin, EndsWithin, total, Paced, Left, Numbers, foundOr, symbolNumber, withSymbol, stringNumber, withString, withTables}
 use Rattle.state.specs.declared.Counts.{Counts}
 use Rattle.state.specs.declared.Limits.{Limits}
 use Rattle.state.specs.declared.Numbered.the-variants.{At, Over}
-use Rattle.state.proofs.Regions.{set-first, set-next, set-above, set-below, every-snoc, every-map, made-within-more}
+use Rattle.state.proofs.Index.{bucket-below, covered-snoc, symbols-indexed, strings-indexed}
+use Rattle.state.proofs.Regions.{region-length, set-first, set-next, set-above, set-below, every-snoc, every-map, made-within-more}
 use Rattle.state.proofs.Views.{symbols-length, strings-length}
 use Rattle.state.proofs.Answers.{left-none, left-as}
 use Rattle.code.proofs.Begun.{tables-eq}
 use Rattle.names.proofs.Finding.{found-le}
+
+-- ---- a part of n words from a on is now ys, all else is as it was
+
+pub record Renewed (a n : ℕ) (xs zs ys : List ℕ) : Type 0 where
+  pub size : length zs ≡ length xs
+  pub here : region a n zs ≡ ys
+  pub below : (b k : ℕ) → b + k ≤ a → region b k zs ≡ region b k xs
+  pub above : (b k : ℕ) → a + n ≤ b → region b k zs ≡ region b k xs
 
 -- ---- a place that is found, or not
 
@@ -97,7 +107,7 @@ oneSymbol grow c = record {
   done = c .done;
 }
 
-module _ (tree made code tables : List ℕ) (c : Counts) (l : Limits) (s : Sound made code tables c l) (w i : ℕ) where
+module _ (tree made code tables : List ℕ) (c : Counts) (l : Limits) (s : Sound tree made code tables c l) (w i : ℕ) where
   abbrev st : State
   st = stateOf tree made code tables c
 
@@ -135,65 +145,84 @@ module _ (tree made code tables : List ℕ) (c : Counts) (l : Limits) (s : Sound
       let m = length-append (st .tables .symbols) (x ∷ []) in
       omega (arith, inside .symbols)
 
-  -- the tables with the word w after the symbols
-  next : List ℕ
-  next = set tables (c .symbols) w
+  -- zs: the tables with the word w after the symbols, and its bucket noted
+  module _ (zs : List ℕ) (r : Renewed symbolIndexFrom symbolBuckets (set tables (c .symbols) w) zs (noted (region symbolIndexFrom symbolBuckets (set tables (c .symbols) w)) (bucketOf symbolBuckets x) (c .symbols)))
+      (room : c .symbols < l .symbols) where
+    above : (a n : ℕ) → 1024 ≤ a → a + n ≤ symbolIndexFrom → region a n zs ≡ region a n tables
+    above a n h k = r .below a n k ∙ set-above a n (c .symbols) w tables (omega (arith, s .limited))
 
-  above : (a n : ℕ) → 1024 ≤ a → c .symbols < l .symbols → region a n next ≡ region a n tables
-  unfolding next
-  above a n h room = set-above a n (c .symbols) w tables (omega (arith, s .limited))
+    here : region 0 (c .symbols + 1) zs ≡ region 0 (c .symbols) tables ++ w ∷ []
+    here = r .below 0 (c .symbols + 1) (omega (arith, s .limited)) ∙ set-first (c .symbols) w tables (omega (arith, s .limited))
 
-  here : c .symbols < l .symbols → region 0 (c .symbols + 1) next ≡ region 0 (c .symbols) tables ++ w ∷ []
-  unfolding next
-  here room = set-first (c .symbols) w tables (omega (arith, s .limited))
+    named : map (spelled tree made) (region 0 (c .symbols + 1) zs) ≡ map (spelled tree made) (region 0 (c .symbols) tables) ++ x ∷ []
+    named = ap (map (spelled tree made)) here ∙ map-append (spelled tree made) (region 0 (c .symbols) tables) (w ∷ [])
 
-  symbol-state : (grow : ℕ) → c .symbols < l .symbols → stateOf tree made code next (oneSymbol grow c) ≡ withTables (addSymbol x (st .tables)) st
-  unfolding stateOf tablesOf
-  symbol-state grow room =
-      ap (λ (t : Tables). record { stack = instrsOf tree (take (c .open) code); tables = t }) (tables-eq _ _
-      (ap (map (spelled tree made)) (here room) ∙ map-append (spelled tree made) (region 0 (c .symbols) tables) (w ∷ []))
-      (ap (map (textAt tree)) (above stringsFrom (c .strings) (omega arith) room))
-      (λ j. functionsOf tree (drop doneFrom code) (above headsFrom (c .functions) (omega arith) room j) (above codesFrom (c .functions) (omega arith) room j))
-      (λ j. classesOf tree (above methodsFrom 256 (omega arith) room j) (above classNamesFrom (c .classes) (omega arith) room j) (above classMethodsFrom (c .classes) (omega arith) room j))
-      (above constantsFrom (c .constants) (omega arith) room))
+    symbol-state : (grow : ℕ) → stateOf tree made code zs (oneSymbol grow c) ≡ withTables (addSymbol x (st .tables)) st
+    unfolding stateOf tablesOf
+    symbol-state grow =
+        let f = s .functions in
+        let g = s .classes in
+        let d = s .limited in
+        ap (λ (t : Tables). record { stack = instrsOf tree (take (c .open) code); tables = t }) (tables-eq _ _
+        named
+        (ap (map (textAt tree)) (above stringsFrom (c .strings) (omega arith) (omega (arith, s .strings, d .strings))))
+        (λ j. functionsOf tree (drop doneFrom code) (above headsFrom (c .functions) (omega arith) (omega (arith, f, d .functions)) j) (above codesFrom (c .functions) (omega arith) (omega (arith, f, d .functions)) j))
+        (λ j. classesOf tree (above methodsFrom 256 (omega arith) (omega arith) j) (above classNamesFrom (c .classes) (omega arith) (omega (arith, g, d .classes)) j) (above classMethodsFrom (c .classes) (omega arith) (omega (arith, g, d .classes)) j))
+        (above constantsFrom (c .constants) (omega arith) (omega (arith, g, s .constants, d .classes))))
 
-  symbol-sound : (grow : ℕ) → grow ≤ 20 → MadeWithin made (c .made + grow) w → c .symbols < l .symbols → Sound made code next (oneSymbol grow c) l
-  unfolding next
-  symbol-sound grow small within room = record {
-    code-room = s .code-room;
-    tables-room = rw length-set (s .tables-room);
-    made-room = s .made-room;
-    limited = s .limited;
-    symbols = omega arith;
-    strings = s .strings;
-    functions = s .functions;
-    classes = s .classes;
-    constants = s .constants;
-    methods = s .methods;
-    words = s .words;
-    base = s .base;
-    made-count = omega (arith, s .made-count);
-    names = rw (here room) (every-snoc (every-map (λ a. made-within-more made (c .made) (c .made + grow) a (omega arith)) (s .names)) within);
-    codes = rw (above codesFrom (c .functions) (omega arith) room) (s .codes);
-    class-methods = rw (above classMethodsFrom (c .classes) (omega arith) room) (s .class-methods);
-    finished = s .finished ∙ ap total (sym (above codesFrom (c .functions) (omega arith) room));
-  }
+    symbol-indexed : SymbolIndex tree made zs (c .symbols + 1)
+    symbol-indexed =
+        let b : region symbolIndexFrom symbolBuckets (set tables (c .symbols) w) ≡ region symbolIndexFrom symbolBuckets tables = set-above symbolIndexFrom symbolBuckets (c .symbols) w tables (omega (arith, s .limited)) in
+        let e : region symbolIndexFrom symbolBuckets zs ≡ noted (region symbolIndexFrom symbolBuckets tables) (bucketOf symbolBuckets x) (c .symbols) = r .here ∙ ap (λ (bs : List ℕ). noted bs (bucketOf symbolBuckets x) (c .symbols)) b in
+        let m = region-length symbolIndexFrom symbolBuckets tables (omega (arith, s .tables-room)) in
+        let q = bucket-below symbolBuckets x (omega arith) in
+        let v = covered-snoc symbolBuckets (region symbolIndexFrom symbolBuckets tables) x (c .symbols) (map (spelled tree made) (region 0 (c .symbols) tables)) (omega arith) (s .symbol-index)
+        (length-map (region 0 (c .symbols) tables) (spelled tree made) ∙ region-length 0 (c .symbols) tables (omega (arith, s .tables-room, s .limited))) in
+        subst (λ (bs : List ℕ). Covered symbolBuckets bs 0 (map (spelled tree made) (region 0 (c .symbols + 1) zs))) (sym e)
+        (subst (Covered symbolBuckets (noted (region symbolIndexFrom symbolBuckets tables) (bucketOf symbolBuckets x) (c .symbols)) 0) (sym named) v)
 
-  pub intern-new : (grow : ℕ) → grow ≤ 20 → MadeWithin made (c .made + grow) w → Found → c .symbols ≤ i → c .symbols < l .symbols →
-      Numbers (At (c .symbols) (oneSymbol grow c)) tree made code (set tables (c .symbols) w) c l (symbolNumber x (st .tables)) want
-  unfolding Numbers next
-  intern-new grow small within e h room =
-      let f = found-number e in
-      let n = symbols-length tree made code tables c l s in
-      let k = symbol-le x (st .tables) in (
-        omega arith,
-        record {
-          state = symbol-state grow room ∙ ap (λ (t : Tables). withTables t st) (sym (new e h));
-          base = refl;
-          paced = record { methods = omega arith; constants = omega arith };
-          sound = symbol-sound grow small within room;
-        },
-      )
+    symbol-sound : (grow : ℕ) → grow ≤ 20 → MadeWithin made (c .made + grow) w → Sound tree made code zs (oneSymbol grow c) l
+    symbol-sound grow small within =
+        let f = s .functions in
+        let g = s .classes in
+        let d = s .limited in record {
+          code-room = s .code-room;
+          tables-room = omega (arith, s .tables-room, r .size, length-set tables (c .symbols) w);
+          made-room = s .made-room;
+          limited = s .limited;
+          symbols = omega arith;
+          strings = s .strings;
+          functions = s .functions;
+          classes = s .classes;
+          constants = s .constants;
+          methods = s .methods;
+          words = s .words;
+          base = s .base;
+          made-count = omega (arith, s .made-count);
+          names = rw here (every-snoc (every-map (λ a. made-within-more made (c .made) (c .made + grow) a (omega arith)) (s .names)) within);
+          codes = rw (above codesFrom (c .functions) (omega arith) (omega (arith, f, d .functions))) (s .codes);
+          class-methods = rw (above classMethodsFrom (c .classes) (omega arith) (omega (arith, g, d .classes))) (s .class-methods);
+          finished = s .finished ∙ ap total (sym (above codesFrom (c .functions) (omega arith) (omega (arith, f, d .functions))));
+          symbol-index = symbol-indexed;
+          string-index = strings-indexed tree tables zs (c .strings) (r .above stringIndexFrom stringBuckets (omega arith) ∙ set-above stringIndexFrom stringBuckets (c .symbols) w tables (omega (arith, s .limited)))
+              (above stringsFrom (c .strings) (omega arith) (omega (arith, s .strings, d .strings))) (s .string-index);
+        }
+
+    pub intern-new : (grow : ℕ) → grow ≤ 20 → MadeWithin made (c .made + grow) w → Found → c .symbols ≤ i →
+        Numbers (At (c .symbols) (oneSymbol grow c)) tree made code zs c l (symbolNumber x (st .tables)) want
+    unfolding Numbers
+    intern-new grow small within e h =
+        let f = found-number e in
+        let n = symbols-length tree made code tables c l s in
+        let k = symbol-le x (st .tables) in (
+          omega arith,
+          record {
+            state = symbol-state grow ∙ ap (λ (t : Tables). withTables t st) (sym (new e h));
+            base = refl;
+            paced = record { methods = omega arith; constants = omega arith };
+            sound = symbol-sound grow small within;
+          },
+        )
 
 -- ---- a string
 
@@ -211,7 +240,7 @@ oneString c = record {
   done = c .done;
 }
 
-module _ (tree made code tables : List ℕ) (c : Counts) (l : Limits) (s : Sound made code tables c l) (p i : ℕ) where
+module _ (tree made code tables : List ℕ) (c : Counts) (l : Limits) (s : Sound tree made code tables c l) (p i : ℕ) where
   abbrev st₂ : State
   st₂ = stateOf tree made code tables c
 
@@ -249,66 +278,82 @@ module _ (tree made code tables : List ℕ) (c : Counts) (l : Limits) (s : Sound
       let m = length-append (st₂ .tables .strings) (text ∷ []) in
       omega (arith, inside .strings)
 
-  -- the tables with the place p after the strings
-  next-text : List ℕ
-  next-text = set tables (stringsFrom + c .strings) p
+  -- zs: the tables with the place p after the strings, and its bucket noted
+  module _ (zs : List ℕ) (r : Renewed stringIndexFrom stringBuckets (set tables (stringsFrom + c .strings) p) zs (noted (region stringIndexFrom stringBuckets (set tables (stringsFrom + c .strings) p)) (bucketOf stringBuckets text) (c .strings)))
+      (room : c .strings < l .strings) where
+    above-text : (a n : ℕ) → 1536 ≤ a → a + n ≤ stringIndexFrom → region a n zs ≡ region a n tables
+    above-text a n h k = r .below a n k ∙ set-above a n (stringsFrom + c .strings) p tables (omega (arith, s .limited))
 
-  above-text : (a n : ℕ) → 1536 ≤ a → c .strings < l .strings → region a n next-text ≡ region a n tables
-  unfolding next-text
-  above-text a n h room = set-above a n (stringsFrom + c .strings) p tables (omega (arith, s .limited))
+    here-text : region stringsFrom (c .strings + 1) zs ≡ region stringsFrom (c .strings) tables ++ p ∷ []
+    here-text = r .below stringsFrom (c .strings + 1) (omega (arith, s .limited)) ∙ set-next stringsFrom (c .strings) p tables (omega (arith, s .limited))
 
-  here-text : c .strings < l .strings → region stringsFrom (c .strings + 1) next-text ≡ region stringsFrom (c .strings) tables ++ p ∷ []
-  unfolding next-text
-  here-text room = set-next stringsFrom (c .strings) p tables (omega (arith, s .limited))
+    spelt : map (textAt tree) (region stringsFrom (c .strings + 1) zs) ≡ map (textAt tree) (region stringsFrom (c .strings) tables) ++ text ∷ []
+    spelt = ap (map (textAt tree)) here-text ∙ map-append (textAt tree) (region stringsFrom (c .strings) tables) (p ∷ [])
 
-  symbols-kept : region 0 (c .symbols) next-text ≡ region 0 (c .symbols) tables
-  unfolding next-text
-  symbols-kept = set-below 0 (c .symbols) (stringsFrom + c .strings) p tables (omega (arith, s .limited))
+    symbols-kept : region 0 (c .symbols) zs ≡ region 0 (c .symbols) tables
+    symbols-kept = r .below 0 (c .symbols) (omega (arith, s .symbols, s .limited)) ∙ set-below 0 (c .symbols) (stringsFrom + c .strings) p tables (omega (arith, s .symbols, s .limited))
 
-  string-state : c .strings < l .strings → stateOf tree made code next-text (oneString c) ≡ withTables (addString text (st₂ .tables)) st₂
-  unfolding stateOf tablesOf
-  string-state room =
-      ap (λ (t : Tables). record { stack = instrsOf tree (take (c .open) code); tables = t }) (tables-eq _ _
-      (ap (map (spelled tree made)) symbols-kept)
-      (ap (map (textAt tree)) (here-text room) ∙ map-append (textAt tree) (region stringsFrom (c .strings) tables) (p ∷ []))
-      (λ j. functionsOf tree (drop doneFrom code) (above-text headsFrom (c .functions) (omega arith) room j) (above-text codesFrom (c .functions) (omega arith) room j))
-      (λ j. classesOf tree (above-text methodsFrom 256 (omega arith) room j) (above-text classNamesFrom (c .classes) (omega arith) room j) (above-text classMethodsFrom (c .classes) (omega arith) room j))
-      (above-text constantsFrom (c .constants) (omega arith) room))
+    string-state : stateOf tree made code zs (oneString c) ≡ withTables (addString text (st₂ .tables)) st₂
+    unfolding stateOf tablesOf
+    string-state =
+        let f = s .functions in
+        let g = s .classes in
+        let d = s .limited in
+        ap (λ (t : Tables). record { stack = instrsOf tree (take (c .open) code); tables = t }) (tables-eq _ _
+        (ap (map (spelled tree made)) symbols-kept)
+        spelt
+        (λ j. functionsOf tree (drop doneFrom code) (above-text headsFrom (c .functions) (omega arith) (omega (arith, f, d .functions)) j) (above-text codesFrom (c .functions) (omega arith) (omega (arith, f, d .functions)) j))
+        (λ j. classesOf tree (above-text methodsFrom 256 (omega arith) (omega arith) j) (above-text classNamesFrom (c .classes) (omega arith) (omega (arith, g, d .classes)) j) (above-text classMethodsFrom (c .classes) (omega arith) (omega (arith, g, d .classes)) j))
+        (above-text constantsFrom (c .constants) (omega arith) (omega (arith, g, s .constants, d .classes))))
 
-  string-sound : c .strings < l .strings → Sound made code next-text (oneString c) l
-  unfolding next-text
-  string-sound room = record {
-    code-room = s .code-room;
-    tables-room = rw length-set (s .tables-room);
-    made-room = s .made-room;
-    limited = s .limited;
-    symbols = s .symbols;
-    strings = omega arith;
-    functions = s .functions;
-    classes = s .classes;
-    constants = s .constants;
-    methods = s .methods;
-    words = s .words;
-    base = s .base;
-    made-count = s .made-count;
-    names = rw symbols-kept (s .names);
-    codes = rw (above-text codesFrom (c .functions) (omega arith) room) (s .codes);
-    class-methods = rw (above-text classMethodsFrom (c .classes) (omega arith) room) (s .class-methods);
-    finished = s .finished ∙ ap total (sym (above-text codesFrom (c .functions) (omega arith) room));
-  }
+    string-indexed : StringIndex tree zs (c .strings + 1)
+    string-indexed =
+        let b : region stringIndexFrom stringBuckets (set tables (stringsFrom + c .strings) p) ≡ region stringIndexFrom stringBuckets tables = set-above stringIndexFrom stringBuckets (stringsFrom + c .strings) p tables (omega (arith, s .limited)) in
+        let e : region stringIndexFrom stringBuckets zs ≡ noted (region stringIndexFrom stringBuckets tables) (bucketOf stringBuckets text) (c .strings) = r .here ∙ ap (λ (bs : List ℕ). noted bs (bucketOf stringBuckets text) (c .strings)) b in
+        let m = region-length stringIndexFrom stringBuckets tables (omega (arith, s .tables-room)) in
+        let q = bucket-below stringBuckets text (omega arith) in
+        let v = covered-snoc stringBuckets (region stringIndexFrom stringBuckets tables) text (c .strings) (map (textAt tree) (region stringsFrom (c .strings) tables)) (omega arith) (s .string-index)
+        (length-map (region stringsFrom (c .strings) tables) (textAt tree) ∙ region-length stringsFrom (c .strings) tables (omega (arith, s .tables-room, s .limited))) in
+        subst (λ (bs : List ℕ). Covered stringBuckets bs 0 (map (textAt tree) (region stringsFrom (c .strings + 1) zs))) (sym e)
+        (subst (Covered stringBuckets (noted (region stringIndexFrom stringBuckets tables) (bucketOf stringBuckets text) (c .strings)) 0) (sym spelt) v)
 
-  pub text-new : FoundText → c .strings ≤ i → c .strings < l .strings →
-      Numbers (At (c .strings) (oneString c)) tree made code (set tables (stringsFrom + c .strings) p) c l (stringNumber text (st₂ .tables)) want₂
-  unfolding Numbers next-text
-  text-new e h room =
-      let f = found-string e in
-      let n = strings-length tree made code tables c l s in
-      let k = string-le text (st₂ .tables) in (
-        omega arith,
-        record {
-          state = string-state room ∙ ap (λ (t : Tables). withTables t st₂) (sym (new-text e h));
-          base = refl;
-          paced = record { methods = omega arith; constants = omega arith };
-          sound = string-sound room;
-        },
-      )
+    string-sound : Sound tree made code zs (oneString c) l
+    string-sound =
+        let f = s .functions in
+        let g = s .classes in
+        let d = s .limited in record {
+          code-room = s .code-room;
+          tables-room = omega (arith, s .tables-room, r .size, length-set tables (stringsFrom + c .strings) p);
+          made-room = s .made-room;
+          limited = s .limited;
+          symbols = s .symbols;
+          strings = omega arith;
+          functions = s .functions;
+          classes = s .classes;
+          constants = s .constants;
+          methods = s .methods;
+          words = s .words;
+          base = s .base;
+          made-count = s .made-count;
+          names = rw symbols-kept (s .names);
+          codes = rw (above-text codesFrom (c .functions) (omega arith) (omega (arith, f, d .functions))) (s .codes);
+          class-methods = rw (above-text classMethodsFrom (c .classes) (omega arith) (omega (arith, g, d .classes))) (s .class-methods);
+          finished = s .finished ∙ ap total (sym (above-text codesFrom (c .functions) (omega arith) (omega (arith, f, d .functions))));
+          symbol-index = symbols-indexed tree made tables zs (c .symbols) (above-text symbolIndexFrom symbolBuckets (omega arith) (omega arith)) symbols-kept (s .symbol-index);
+          string-index = string-indexed;
+        }
+
+    pub text-new : FoundText → c .strings ≤ i → Numbers (At (c .strings) (oneString c)) tree made code zs c l (stringNumber text (st₂ .tables)) want₂
+    unfolding Numbers
+    text-new e h =
+        let f = found-string e in
+        let n = strings-length tree made code tables c l s in
+        let k = string-le text (st₂ .tables) in (
+          omega arith,
+          record {
+            state = string-state ∙ ap (λ (t : Tables). withTables t st₂) (sym (new-text e h));
+            base = refl;
+            paced = record { methods = omega arith; constants = omega arith };
+            sound = string-sound;
+          },
+        )

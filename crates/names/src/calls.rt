@@ -2,7 +2,7 @@
 use crate::Callee;
 use crate::find::find_head;
 use crate::find::find_place;
-use crate::find::find_spelling;
+use crate::number::find_symbol;
 use crate::spell::name_part;
 use crate::spell::same_bytes;
 use state::Counts;
@@ -75,16 +75,15 @@ fn resolve_function(
     c: Counts,
     l: Limits,
 ) -> Callee
-    requires { ⌜ Sound (now made) (now code) (now tables) c l ⌝ }
+    requires { ⌜ Sound (now tree) (now made) (now code) (now tables) c l ⌝ }
     ensures { λ r. ⌜ calleeOf r ≡ Lower.resolveFunction (now (name .entry)) (stateOf (now (tree .entry)) (now (made .entry)) (now (code .entry)) (now (tables .entry)) c .tables) ⌝ }
 {
-    let symbols = c.symbols as usize;
-    let k = find_spelling(tree, made, &tables[0..symbols], name);
-    if symbols <= k {
+    let k = find_symbol(tree, made, tables, c.symbols, name);
+    if c.symbols <= k {
         return Callee::Value;
     }
     let end = 1536 + c.functions as usize;
-    let f = find_head(&tables[1536..end], k as u32);
+    let f = find_head(&tables[1536..end], k);
     if c.functions as usize <= f {
         return Callee::Value;
     }
@@ -101,7 +100,7 @@ pub fn resolve(
     c: Counts,
     l: Limits,
 ) -> Callee
-    requires { ⌜ Sound (now made) (now code) (now tables) c l ⌝ }
+    requires { ⌜ Sound (now tree) (now made) (now code) (now tables) c l ⌝ }
     ensures { λ r. ⌜ calleeOf r ≡ Lower.resolve (nameAt (now (tree .entry)) at) (stateOf (now (tree .entry)) (now (made .entry)) (now (code .entry)) (now (tables .entry)) c .tables) ⌝ }
 {
     let name = name_part(tree, at);

@@ -37,7 +37,7 @@ pub fn emit_symbol(
     c: Counts,
     l: Limits,
 ) -> Emitted
-    requires { ⌜ Sound (now made) (now code) (now tables) c l × (at < 32768) × Plain op 0 b ⌝ }
+    requires { ⌜ Sound (now tree) (now made) (now code) (now tables) c l × (at < 32768) × Plain op 0 b ⌝ }
     ensures { λ r. ⌜ Emits r (now (tree .entry)) (now (made .entry)) (now (code .exit)) (now (tables .exit)) c l next
         (emitAt (c .base) (Tables.intern (nameAt (now (tree .entry)) at) (λ k. one (instr op k b)))
         (stateOf (now (tree .entry)) (now (made .entry)) (now (code .entry)) (now (tables .entry)) c)) ⌝ }
@@ -62,7 +62,7 @@ pub fn emit_made(
     c: Counts,
     l: Limits,
 ) -> Emitted
-    requires { ⌜ Sound (now made) (now code) (now tables) c l × (length (madeName m) < 20) × Plain op 0 b ⌝ }
+    requires { ⌜ Sound (now tree) (now made) (now code) (now tables) c l × (length (madeName m) < 20) × Plain op 0 b ⌝ }
     ensures { λ r. ⌜ Emits r (now (tree .entry)) (now (made .exit)) (now (code .exit)) (now (tables .exit)) c l next
         (emitAt (c .base) (Tables.intern (madeName m) (λ k. one (instr op k b)))
         (stateOf (now (tree .entry)) (now (made .entry)) (now (code .entry)) (now (tables .entry)) c)) ⌝ }
@@ -85,7 +85,7 @@ pub fn emit_string(
     c: Counts,
     l: Limits,
 ) -> Emitted
-    requires { ⌜ Sound (now made) (now code) (now tables) c l × (at < 2 ^ 32) ⌝ }
+    requires { ⌜ Sound (now tree) (now made) (now code) (now tables) c l × (at < 2 ^ 32) ⌝ }
     ensures { λ r. ⌜ Emits r (now (tree .entry)) (now (made .entry)) (now (code .exit)) (now (tables .exit)) c l next
         (emitAt (c .base) (getOrAddString (textAt (now (tree .entry)) at) (λ k. one (ConstStr k)))
         (stateOf (now (tree .entry)) (now (made .entry)) (now (code .entry)) (now (tables .entry)) c)) ⌝ }
@@ -118,7 +118,7 @@ fn emit_variable(
     c: Counts,
     l: Limits,
 ) -> Emitted
-    requires { ⌜ Sound (now made) (now code) (now tables) c l × (length (now slots) < 256) × (at < 32768) × (9 ≤ op) × (op ≤ 10) ⌝ }
+    requires { ⌜ Sound (now tree) (now made) (now code) (now tables) c l × (length (now slots) < 256) × (at < 32768) × (9 ≤ op) × (op ≤ 10) ⌝ }
     ensures { λ r. ⌜ Emits r (now (tree .entry)) (now (made .entry)) (now (code .exit)) (now (tables .exit)) c l next
         (emitAt (c .base) (variable op (namesAt (now (tree .entry)) (now (slots .entry))) (nameAt (now (tree .entry)) at))
         (stateOf (now (tree .entry)) (now (made .entry)) (now (code .entry)) (now (tables .entry)) c)) ⌝ }
@@ -142,7 +142,7 @@ pub fn emit_load(
     c: Counts,
     l: Limits,
 ) -> Emitted
-    requires { ⌜ Sound (now made) (now code) (now tables) c l × (length (now slots) < 256) × (at < 32768) ⌝ }
+    requires { ⌜ Sound (now tree) (now made) (now code) (now tables) c l × (length (now slots) < 256) × (at < 32768) ⌝ }
     ensures { λ r. ⌜ Emits r (now (tree .entry)) (now (made .entry)) (now (code .exit)) (now (tables .exit)) c l next
         (emitAt (c .base) (load (namesAt (now (tree .entry)) (now (slots .entry))) (nameAt (now (tree .entry)) at))
         (stateOf (now (tree .entry)) (now (made .entry)) (now (code .entry)) (now (tables .entry)) c)) ⌝ }
@@ -162,7 +162,7 @@ pub fn emit_store(
     c: Counts,
     l: Limits,
 ) -> Emitted
-    requires { ⌜ Sound (now made) (now code) (now tables) c l × (length (now slots) < 256) × (at < 32768) ⌝ }
+    requires { ⌜ Sound (now tree) (now made) (now code) (now tables) c l × (length (now slots) < 256) × (at < 32768) ⌝ }
     ensures { λ r. ⌜ Emits r (now (tree .entry)) (now (made .entry)) (now (code .exit)) (now (tables .exit)) c l next
         (emitAt (c .base) (store (namesAt (now (tree .entry)) (now (slots .entry))) (nameAt (now (tree .entry)) at))
         (stateOf (now (tree .entry)) (now (made .entry)) (now (code .entry)) (now (tables .entry)) c)) ⌝ }
@@ -182,7 +182,7 @@ pub fn emit_loads(
     c: Counts,
     l: Limits,
 ) -> Emitted
-    requires { ⌜ Sound (now made) (now code) (now tables) c l × (length (now slots) < 256) × Every (λ p. p < 32768) (now places) ⌝ }
+    requires { ⌜ Sound (now tree) (now made) (now code) (now tables) c l × (length (now slots) < 256) × Every (λ p. p < 32768) (now places) ⌝ }
     ensures { λ r. ⌜ Emits r (now (tree .entry)) (now (made .entry)) (now (code .exit)) (now (tables .exit)) c l next
         (emitAt (c .base) (loads (namesAt (now (tree .entry)) (now (slots .entry))) (namesAt (now (tree .entry)) (now (places .entry))))
         (stateOf (now (tree .entry)) (now (made .entry)) (now (code .entry)) (now (tables .entry)) c)) ⌝ }

@@ -87,7 +87,7 @@ pub fn intern_made(
     c: Counts,
     l: Limits,
 ) -> Numbered
-    requires { ⌜ Sound (now made) (now code) (now tables) c l × (length (madeName m) < 20) ⌝ }
+    requires { ⌜ Sound (now tree) (now made) (now code) (now tables) c l × (length (madeName m) < 20) ⌝ }
     ensures { λ r. ⌜ Numbers r (now (tree .entry)) (now (made .exit)) (now (code .entry)) (now (tables .exit)) c l
         (symbolNumber (madeName m) (stateOf (now (tree .entry)) (now (made .entry)) (now (code .entry)) (now (tables .entry)) c .tables))
         (withTables (withSymbol (madeName m) (stateOf (now (tree .entry)) (now (made .entry)) (now (code .entry)) (now (tables .entry)) c .tables))

@@ -83,7 +83,7 @@ numbers-after (At j m) made code tables i want A h = (h .0, left-after A (h .1))
 numbers-after Over made code tables i want A h = h
 
 -- nothing done
-pub left-none : {c : Counts} {l : Limits} {made code tables : List ℕ} (tree : List ℕ) → Sound made code tables c l → Left c tree made code tables c l (stateOf tree made code tables c)
+pub left-none : {c : Counts} {l : Limits} {made code tables : List ℕ} (tree : List ℕ) → Sound tree made code tables c l → Left c tree made code tables c l (stateOf tree made code tables c)
 left-none {c} tree s = record { state = refl; base = refl; paced = paced-none c; sound = s }
 
 -- the wanted state by an equation
@@ -96,5 +96,5 @@ pub ready-again : {k c : Counts} {l : Limits} {tree slots made₀ code₀ tables
 ready-again R A = record { tree-short = R .tree-short; slots-few = R .slots-few; sound = A .sound }
 
 -- the innermost function begins within the stack
-pub base-below : (tree made code tables : List ℕ) (c : Counts) (l : Limits) → Sound made code tables c l → c .base ≤ length (stateOf tree made code tables c .stack)
+pub base-below : (tree made code tables : List ℕ) (c : Counts) (l : Limits) → Sound tree made code tables c l → c .base ≤ length (stateOf tree made code tables c .stack)
 base-below tree made code tables c l s = omega (arith, s .base, stack-length tree made code tables c l s)

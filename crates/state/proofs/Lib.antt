@@ -1,4 +1,5 @@
 pub mod Regions
+pub mod Index
 pub mod Views
 pub mod Emission
 pub mod Jumps

@@ -63,6 +63,13 @@ pub region-add : (a m n : ℕ) (xs : List ℕ) → region a (m + n) xs ≡ regio
 unfolding region
 region-add a m n xs = take-add m n (drop a xs) ∙ ap (λ (ys : List ℕ). take m (drop a xs) ++ take n ys) (drop-drop m a xs)
 
+-- what is left of a region
+pub region-rest : (a s n : ℕ) (xs : List ℕ) → s ≤ n → region (a + s) (n - s) xs ≡ drop s (region a n xs)
+unfolding region
+region-rest a s n xs h =
+    let e : s + (n - s) ≡ n = omega arith in
+    ap (take (n - s)) (sym (drop-drop s a xs)) ∙ swap s (n - s) (drop a xs) ∙ ap (λ (k : ℕ). drop s (take k (drop a xs))) e
+
 -- by its beginning and its last word, and by its first word and the rest
 pub region-last : (a n : ℕ) (xs : List ℕ) → a + n < length xs → region a (n + 1) xs ≡ region a n xs ++ getD xs (a + n) 0 ∷ []
 unfolding region

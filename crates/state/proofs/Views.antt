@@ -12,7 +12,7 @@ use Rattle.state.specs.declared.Counts.{Counts}
 use Rattle.state.specs.declared.Limits.{Limits}
 use Rattle.state.proofs.Regions.{region-length, functions-length, classes-length, instructions-total}
 
-module _ (tree made code tables : List ℕ) (c : Counts) (l : Limits) (s : Sound made code tables c l) where
+module _ (tree made code tables : List ℕ) (c : Counts) (l : Limits) (s : Sound tree made code tables c l) where
   pub stack-length : length (stateOf tree made code tables c .stack) ≡ c .open
   unfolding stateOf instrsOf
   stack-length = length-map (take (c .open) code) (instrOf tree) ∙ length-take-le (c .open) code (omega (arith, s .limited))

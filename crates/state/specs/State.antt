@@ -12,6 +12,7 @@ use Rattle.definitions.specs.Tables.{Function, Method, Class, Tables, Out, Emit
 use Rattle.definitions.specs.Module as Module
 use Rattle.definitions.specs.Module.{instructions}
 use Rattle.state.specs.Words.{region, nameAt, textAt, instrsOf}
+use Rattle.state.specs.Index.{Covered}
 use Rattle.state.specs.declared.Counts.{Counts}
 use Rattle.state.specs.declared.Limits.{Limits}
 use Rattle.state.specs.declared.Emitted.{Emitted}
@@ -20,7 +21,7 @@ use Rattle.state.specs.declared.Numbered.{Numbered}
 use Rattle.state.specs.declared.Numbered.the-variants.{At, Over}
 
 -- ---- the tables of the second area: where each begins
--- symbols 1024, strings 512, heads of functions 256, places of their code 256, names of classes 64, places of their methods 64, methods 256, constants 64
+-- symbols 1024, strings 512, heads of functions 256, places of their code 256, names of classes 64, places of their methods 64, methods 256, constants 64, the index of symbols 8192, that of strings 4096
 
 abbrev pub stringsFrom : ℕ
 stringsFrom = 1024
@@ -42,6 +43,18 @@ methodsFrom = 2176
 
 abbrev pub constantsFrom : ℕ
 constantsFrom = 2432
+
+abbrev pub symbolIndexFrom : ℕ
+symbolIndexFrom = 2496
+
+abbrev pub symbolBuckets : ℕ
+symbolBuckets = 8192
+
+abbrev pub stringIndexFrom : ℕ
+stringIndexFrom = 10688
+
+abbrev pub stringBuckets : ℕ
+stringBuckets = 4096
 
 -- the code area: open functions from 0, finished ones from here
 abbrev pub doneFrom : ℕ
@@ -139,6 +152,13 @@ pub record Limited (l : Limits) : Type 0 where
 
 -- ---- what holds of the slices
 
+-- the index of the names of so many symbols, and that of strings
+abbrev pub SymbolIndex : List ℕ → List ℕ → List ℕ → ℕ → Type 0
+SymbolIndex tree made tables n = Covered symbolBuckets (region symbolIndexFrom symbolBuckets tables) 0 (map (spelled tree made) (region 0 n tables))
+
+abbrev pub StringIndex : List ℕ → List ℕ → ℕ → Type 0
+StringIndex tree tables n = Covered stringBuckets (region stringIndexFrom stringBuckets tables) 0 (map (textAt tree) (region stringsFrom n tables))
+
 -- each element, by a test of it
 pub data Every (P : ℕ → Type 0) : List ℕ → Type 0 where
   noEvery : Every P []
@@ -157,7 +177,7 @@ unfoldable pub total : List ℕ → ℕ
 total [] = 0
 total (k ∷ ks) = countOf k + total ks
 
-pub record Sound (made code tables : List ℕ) (c : Counts) (l : Limits) : Type 0 where
+pub record Sound (tree made code tables : List ℕ) (c : Counts) (l : Limits) : Type 0 where
   pub code-room : 16384 ≤ length code
   pub tables-room : 16384 ≤ length tables
   pub made-room : 20500 ≤ length made
@@ -178,6 +198,8 @@ pub record Sound (made code tables : List ℕ) (c : Counts) (l : Limits) : Type 
   pub class-methods : Every (EndsWithin (c .methods)) (region classMethodsFrom (c .classes) tables)
   -- the finished words are those of the functions
   pub finished : c .done ≡ total (region codesFrom (c .functions) tables)
+  pub symbol-index : SymbolIndex tree made tables (c .symbols)
+  pub string-index : StringIndex tree tables (c .strings)
 
 -- ---- what a step leaves
 
@@ -190,14 +212,14 @@ pub record Paced (c k : Counts) : Type 0 where
 pub record Ready (tree slots made code tables : List ℕ) (c : Counts) (l : Limits) : Type 0 where
   pub tree-short : length tree ≤ 32768
   pub slots-few : length slots ≤ 255
-  pub sound : Sound made code tables c l
+  pub sound : Sound tree made code tables c l
 
 -- what it leaves: the wanted state, the innermost function as it was, and sound slices
 pub record Left (k : Counts) (tree made code tables : List ℕ) (c : Counts) (l : Limits) (want : State) : Type 0 where
   pub state : stateOf tree made code tables k ≡ want
   pub base : k .base ≡ c .base
   pub paced : Paced c k
-  pub sound : Sound made code tables k l
+  pub sound : Sound tree made code tables k l
 
 -- the next position and the wanted state; or the wanted state is over the limits
 unfoldable pub Emits : Emitted → List ℕ → List ℕ → List ℕ → List ℕ → Counts → Limits → ℕ → State → Type 0

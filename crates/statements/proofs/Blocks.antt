@@ -21,7 +21,7 @@ use Rattle.statements.specs.Lowering.{StmtLowerable, BlockLowerable, Stm
 use Rattle.statements.proofs.Arms.{block-parts, block-code, stmts-more, stmts-code, stmts-none}
 
 module _ (d : ℕ) (t : List ℕ) (names : List Name) where
-  pub block-start : (at n : ℕ) (made code tables : List ℕ) (c : Counts) (l : Limits) → Sound made code tables c l → BlockLowerable d t names at → n ≡ countAt t at
+  pub block-start : (at n : ℕ) (made code tables : List ℕ) (c : Counts) (l : Limits) → Sound t made code tables c l → BlockLowerable d t names at → n ≡ countAt t at
       → StmtsLowerable d n t names (at + 2) × (stmtsAt d n t (at + 2) .end ≡ blockAt d t at .end)
       × Midway c t made code tables c l (stmtsCode d n t names (at + 2)) (emitAt (c .base) (blockCode d t names at) (stateOf t made code tables c))
   block-start at n made code tables c l s r e =

@@ -67,10 +67,10 @@ pub record Listing (k : Counts) (t list made code tables : List ℕ) (c : Counts
   pub listed : methodsOf rest (map (methodOf t) (take n list)) (stateOf t made code tables k) ≡ methods
   pub base : k .base ≡ c .base
   pub paced : Paced c k
-  pub sound : Sound made code tables k l
+  pub sound : Sound t made code tables k l
   pub ahead : Ahead n c k
 
-pub listing-start : (t list made code tables : List ℕ) (c : Counts) (l : Limits) (rest : Methods) → Sound made code tables c l
+pub listing-start : (t list made code tables : List ℕ) (c : Counts) (l : Limits) (rest : Methods) → Sound t made code tables c l
     → Listing c t list made code tables c l 0 rest (methodsAt rest [] (stateOf t made code tables c)) (methodsOf rest [] (stateOf t made code tables c))
 listing-start t list made code tables c l rest s = record { state = refl; listed = refl; base = refl; paced = paced-none c; sound = s; ahead = omega arith }
 
@@ -144,7 +144,7 @@ module _ (d : ℕ) (t : List ℕ) where
 -- ---- a class
 
 -- its number is taken
-module _ (t made code tables tables₁ : List ℕ) (c k : Counts) (l : Limits) (sound : Sound made code tables c l) (x : Name) (ms : Methods) (i : ℕ)
+module _ (t made code tables tables₁ : List ℕ) (c k : Counts) (l : Limits) (sound : Sound t made code tables c l) (x : Name) (ms : Methods) (i : ℕ)
     (B : (i ≡ length (stateOf t made code tables c .tables .classes)) × Left k t made code tables₁ c l (withTables (beginClass x (stateOf t made code tables c .tables)) (stateOf t made code tables c))) where
   abbrev s : State
   s = stateOf t made code tables c

@@ -92,7 +92,7 @@ pub part-names : (t ps : List ℕ) (n : ℕ) (want : List Name) → firstNames t
 unfolding firstNames
 part-names t ps n want e = let z : n - 0 ≡ n = omega arith in ap (λ (m : ℕ). namesAt t (take m ps)) z ∙ e
 
-pub part-ready : (t slots ps made₀ code₀ tables₀ made code tables : List ℕ) (c k : Counts) (l : Limits) (n : ℕ) → Ready t slots made₀ code₀ tables₀ c l → n ≤ 255 → n ≤ length ps → Sound made code tables k l
+pub part-ready : (t slots ps made₀ code₀ tables₀ made code tables : List ℕ) (c k : Counts) (l : Limits) (n : ℕ) → Ready t slots made₀ code₀ tables₀ c l → n ≤ 255 → n ≤ length ps → Sound t made code tables k l
     → Ready t (take (n - 0) (drop 0 ps)) made code tables k l
 part-ready t slots ps made₀ code₀ tables₀ made code tables c k l n r h g s =
     let z : n - 0 ≡ n = omega arith in
@@ -120,7 +120,7 @@ no-body (h ∷ fs) gs f e = no-body fs gs f e
 
 -- ---- the whole function
 
-module _ (t made code tables : List ℕ) (c : Counts) (l : Limits) (sound : Sound made code tables c l) (x : Name) (arity n : ℕ) (ps inner : List Name) (ea : arity ≡ length ps) (en : n ≡ length inner)
+module _ (t made code tables : List ℕ) (c : Counts) (l : Limits) (sound : Sound t made code tables c l) (x : Name) (arity n : ℕ) (ps inner : List Name) (ea : arity ≡ length ps) (en : n ≡ length inner)
     (b : Block) (end : List Instr) where
   abbrev s : State
   s = stateOf t made code tables c

@@ -34,7 +34,7 @@ use Rattle.frames.proofs.Answering.{open-after, one-longer, full-by, next-emits
 -- ---- a head, the jump past what follows, and what follows
 
 -- k is left by the head and the jump
-module _ (t made code tables made₁ code₁ tables₁ : List ℕ) (c k : Counts) (l : Limits) (sound : Sound made code tables c l) (head : Emit) (i : Instr)
+module _ (t made code tables made₁ code₁ tables₁ : List ℕ) (c k : Counts) (l : Limits) (sound : Sound t made code tables c l) (head : Emit) (i : Instr)
     (A : Left k t made₁ code₁ tables₁ c l (emitAt (c .base) (head ⨟ one i) (stateOf t made code tables c))) where
   abbrev s : State
   s = stateOf t made code tables c
@@ -124,7 +124,7 @@ branch-inside names x b i base s h w = within-one base (Jump 0) _ (within-branch
 pub question-within : {l : Limits} (names : List Name) (x : Expr) (b : Block) (i : Instr) (base : ℕ) (s : State) → base ≤ length (s .stack) → Within l (emitAt base (branch names x b) s) → Within l (emitAt base (emitExpr names x ⨟ one i) s)
 question-within names x b i base s h w = rw (at-seq base (emitExpr names x) (one i) s h) (within-down base _ (lengthens-block names b) (branch-inside names x b i base s h w))
 
-pub block-within : (t made code tables made₁ code₁ tables₁ : List ℕ) (c k : Counts) (l : Limits) (sound : Sound made code tables c l) (names : List Name) (x : Expr) (b : Block) (i : Instr)
+pub block-within : (t made code tables made₁ code₁ tables₁ : List ℕ) (c k : Counts) (l : Limits) (sound : Sound t made code tables c l) (names : List Name) (x : Expr) (b : Block) (i : Instr)
     → Left k t made₁ code₁ tables₁ c l (emitAt (c .base) (emitExpr names x ⨟ one i) (stateOf t made code tables c))
     → Within l (emitAt (c .base) (branch names x b) (stateOf t made code tables c)) → Within l (emitAt (k .base) (emitBlock names b) (stateOf t made₁ code₁ tables₁ k))
 block-within t made code tables made₁ code₁ tables₁ c k l sound names x b i A w =
@@ -148,10 +148,10 @@ pub record Chained (k : Counts) (t made code tables : List ℕ) (c : Counts) (l 
   pub state : chainAt (c .base) names rest (k .open - 1) (stateOf t made code tables k) ≡ want
   pub base : k .base ≡ c .base
   pub paced : Paced c k
-  pub sound : Sound made code tables k l
+  pub sound : Sound t made code tables k l
   pub some : 0 < k .open
 
-pub chained-start : (t made code tables : List ℕ) (c : Counts) (l : Limits) (names : List Name) (rest : Branches) → Sound made code tables c l → 0 < c .open
+pub chained-start : (t made code tables : List ℕ) (c : Counts) (l : Limits) (names : List Name) (rest : Branches) → Sound t made code tables c l → 0 < c .open
     → Chained c t made code tables c l names rest (chainAt (c .base) names rest (c .open - 1) (stateOf t made code tables c))
 chained-start t made code tables c l names rest s h = record { state = refl; base = refl; paced = paced-none c; sound = s; some = h }
 
@@ -229,7 +229,7 @@ module _ (k : Counts) (t made code tables : List ℕ) (c : Counts) (l : Limits) 
 
 -- ---- the else block, or none
 
-module _ (t made code tables : List ℕ) (c : Counts) (l : Limits) (names : List Name) (sound : Sound made code tables c l) (some : 0 < c .open) where
+module _ (t made code tables : List ℕ) (c : Counts) (l : Limits) (names : List Name) (sound : Sound t made code tables c l) (some : 0 < c .open) where
   abbrev z : State
   z = stateOf t made code tables c
 
@@ -262,7 +262,7 @@ module _ (t made code tables : List ℕ) (c : Counts) (l : Limits) (names : List
 
 -- ---- an if
 
-module _ (t made code tables made₁ code₁ tables₁ : List ℕ) (c k : Counts) (l : Limits) (sound : Sound made code tables c l) (names : List Name) (x : Expr) (b : Block)
+module _ (t made code tables made₁ code₁ tables₁ : List ℕ) (c k : Counts) (l : Limits) (sound : Sound t made code tables c l) (names : List Name) (x : Expr) (b : Block)
     (A : Left k t made₁ code₁ tables₁ c l (emitAt (c .base) (branch names x b) (stateOf t made code tables c))) where
   pub if-some : 0 < k .open
   if-some = let e = open-after t made₁ code₁ tables₁ c k l _ A in let h = branch-some names x b (c .base) (stateOf t made code tables c) in omega arith
@@ -277,7 +277,7 @@ module _ (t made code tables made₁ code₁ tables₁ : List ℕ) (c k : Counts
 
 -- ---- a for
 
-module _ (t made code tables made₁ code₁ tables₁ : List ℕ) (c k : Counts) (l : Limits) (sound : Sound made code tables c l) (names : List Name) (x : Name) (e : Expr) (b : Block)
+module _ (t made code tables made₁ code₁ tables₁ : List ℕ) (c k : Counts) (l : Limits) (sound : Sound t made code tables c l) (names : List Name) (x : Name) (e : Expr) (b : Block)
     (A : Left k t made₁ code₁ tables₁ c l (emitAt (c .base) (emitExpr names e ⨟ makeIter) (stateOf t made code tables c))) where
   abbrev f₀ : State
   f₀ = stateOf t made code tables c

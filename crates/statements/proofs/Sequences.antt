@@ -91,7 +91,7 @@ module _ (r : Emitted) (t made code tables : List ℕ) (c : Counts) (l : Limits)
   iterable-emits-at h = subst (λ (x : ℕ). Emits r t made code tables c l (exprAt d t x .end) (emitAt base (exprCode d t names x ⨟ makeIter) s)) e h
 
 -- the slices have moved on
-pub ready-with : {t slots made₀ code₀ tables₀ made code tables : List ℕ} {c k : Counts} {l : Limits} → Ready t slots made₀ code₀ tables₀ c l → Sound made code tables k l → Ready t slots made code tables k l
+pub ready-with : {t slots made₀ code₀ tables₀ made code tables : List ℕ} {c k : Counts} {l : Limits} → Ready t slots made₀ code₀ tables₀ c l → Sound t made code tables k l → Ready t slots made code tables k l
 ready-with r s = record { tree-short = r .tree-short; slots-few = r .slots-few; sound = s }
 
 -- the next position by other words
@@ -113,7 +113,7 @@ unfolding elseAt
 else-ends d t x p e = ap (λ (n : Node Branches). n .end) e
 
 -- Pass
-pub pass-emits : (t made code tables : List ℕ) (c : Counts) (l : Limits) (q q′ : ℕ) (e : Emit) → Sound made code tables c l → emits [] ≡ e → q ≡ q′ → Emits (Done q c) t made code tables c l q′ (emitAt (c .base) e (stateOf t made code tables c))
+pub pass-emits : (t made code tables : List ℕ) (c : Counts) (l : Limits) (q q′ : ℕ) (e : Emit) → Sound t made code tables c l → emits [] ≡ e → q ≡ q′ → Emits (Done q c) t made code tables c l q′ (emitAt (c .base) e (stateOf t made code tables c))
 pass-emits t made code tables c l q q′ e s z y =
     done-emits t made code tables c l q′ _ q c y (left-as (sym (ap (λ (f : Emit). emitAt (c .base) f (stateOf t made code tables c)) (sym z) ∙ at-nothing (c .base) (stateOf t made code tables c))) (left-none t s))
 

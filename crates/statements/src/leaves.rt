@@ -131,7 +131,7 @@ pub fn put_end(
     c: Counts,
     l: Limits,
 ) -> Emitted
-    requires { ⌜ Sound (now made) (now code) (now tables) c l ⌝ }
+    requires { ⌜ Sound (now tree) (now made) (now code) (now tables) c l ⌝ }
     ensures { λ r. ⌜ Emits r (now (tree .entry)) (now (made .entry)) (now (code .exit)) (now (tables .entry)) c l next (emitAt (c .base) (emits (endOf init)) (stateOf (now (tree .entry)) (now (made .entry)) (now (code .entry)) (now (tables .entry)) c)) ⌝ }
 {
     if !init {

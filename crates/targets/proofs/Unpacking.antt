@@ -185,7 +185,7 @@ module _ (d : ℕ) (t : List ℕ) (names : List Name) (p : ℕ) (r : ExprReads d
 -- ---- answers
 
 -- nothing more is emitted
-pub same-emits : (t made code tables : List ℕ) (c : Counts) (l : Limits) (q : ℕ) (want : State) → Sound made code tables c l → want ≡ stateOf t made code tables c → Emits (Done q c) t made code tables c l q want
+pub same-emits : (t made code tables : List ℕ) (c : Counts) (l : Limits) (q : ℕ) (want : State) → Sound t made code tables c l → want ≡ stateOf t made code tables c → Emits (Done q c) t made code tables c l q want
 same-emits t made code tables c l q want s e = done-emits t made code tables c l q want q c refl (left-as (sym e) (left-none t s))
 
 -- the code by other words

@@ -44,7 +44,7 @@ fn put_copy(
     c: Counts,
     l: Limits,
 ) -> Emitted
-    requires { ⌜ Sound (now made) (now code) (now tables) c l ⌝ }
+    requires { ⌜ Sound (now tree) (now made) (now code) (now tables) c l ⌝ }
     ensures { λ r. ⌜ Emits r (now (tree .entry)) (now (made .entry)) (now (code .exit)) (now (tables .entry)) c l next
         (emitAt (c .base) (copy i) (stateOf (now (tree .entry)) (now (made .entry)) (now (code .entry)) (now (tables .entry)) c)) ⌝ }
 {
@@ -65,7 +65,7 @@ fn put_element(
     c: Counts,
     l: Limits,
 ) -> Emitted
-    requires { ⌜ Sound (now made) (now code) (now tables) c l × (i < 65536) ⌝ }
+    requires { ⌜ Sound (now tree) (now made) (now code) (now tables) c l × (i < 65536) ⌝ }
     ensures { λ r. ⌜ Emits r (now (tree .entry)) (now (made .entry)) (now (code .exit)) (now (tables .entry)) c l next
         (emitAt (c .base) (copy i ⨟ one (ConstI64 i) ⨟ one LoadIndex) (stateOf (now (tree .entry)) (now (made .entry)) (now (code .entry)) (now (tables .entry)) c)) ⌝ }
 {

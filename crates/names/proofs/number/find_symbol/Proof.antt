@@ -1,25 +1,27 @@
 use native.Mathlib.Omega.{arith}
-use mathlib.Core.Path.{_≡_, refl, sym, ap, _∙_}
-use Prim.Native.Nat.{ℕ, _+_, _-_}
-use mathlib.Core.List.{[]}
-use Rattle.state.specs.State.{spelled}
-use Rattle.names.proofs.Spelling.{spelled-tree, spelled-made}
-use Rattle.names.proofs.Finding.{sought-le, sought}
+use native.Mathlib.Nat.{zero-add}
+use mathlib.Core.Path.{refl, sym}
+use Rattle.state.specs.Words.{region}
+use Rattle.state.specs.State.{symbolBuckets, spelled}
+use Rattle.names.proofs.Indexing.{bucket-is, indexed-found, indexed-le}
 use borrow.Author.Needs.{needs}
 use Rattle.names.proofs.number.find_symbol.Statement.{statement}
 use Rattle.names.proofs.number.find_symbol.Tie as tie
 
 pub find-symbol-spec : {M : Type 1} → statement M
+unfolding region
 find-symbol-spec = tie.close (tie.spec
-    (λ c. search needs)  -- sub-words
-    (λ c. search needs)  -- part-words-start
-    (λ c. search needs)  -- part-words-end
-    (λ c κs. search needs)  -- name-part-requires
+    (λ c. search needs)  -- sub-first-number
+    (λ c. search needs)  -- part-first-number-start
+    (λ c. search needs)  -- part-first-number-end
+    (λ c κs. search needs)  -- hash-requires
+    (λ c κs. search needs)  -- first-number-requires
+    (λ c. search needs)  -- cast-from
+    (λ c. search needs)  -- mul-find-spelling
+    (λ c. search needs)  -- sub-find-spelling
+    (λ c. search needs)  -- part-find-spelling-start
+    (λ c. search needs)  -- part-find-spelling-end
     (λ c κs. search needs)  -- find-spelling-requires
-    (λ c. let b = c .before in let s = b .before .before .before .before .before .before in let a = s .args in let e : a .n - 0 ≡ a .n = omega arith in omega (arith, sought-le (spelled (a .tree .now) (a .made .now)) (a .tables .now) 0 (a .n - 0) (a .n) _ [] (c .find-spelling .result) (omega arith) e (c .find-spelling .ensures)))  -- cast-result
-    (λ c. let b = c .before in let s = b .before .before .before .before .before .before in let a = s .args in let e : a .n - 0 ≡ a .n = omega arith in sought (spelled (a .tree .now) (a .made .now)) (a .tables .now) 0 (a .n - 0) (a .n) _ _ _ (omega arith) e (b .name-part .ensures ∙ spelled-tree (a .tree .now) (a .made .now) (a .w) (b .before .if1 .taken)) (c .find-spelling .ensures))  -- returns
-    (λ c. search needs)  -- sub-name-part
-    (λ c κs. search needs)  -- name-part-requires-2
-    (λ c κs. search needs)  -- find-spelling-requires-2
-    (λ c. let b = c .before in let s = b .before .before .before .before .before .before in let a = s .args in let e : a .n - 0 ≡ a .n = omega arith in omega (arith, sought-le (spelled (a .tree .now) (a .made .now)) (a .tables .now) 0 (a .n - 0) (a .n) _ [] (c .find-spelling2 .result) (omega arith) e (c .find-spelling2 .ensures)))  -- cast-result-2
-    (λ c. let b = c .before in let s = b .before .before .before .before .before .before in let a = s .args in let e : a .n - 0 ≡ a .n = omega arith in sought (spelled (a .tree .now) (a .made .now)) (a .tables .now) 0 (a .n - 0) (a .n) _ _ _ (omega arith) e (b .name-part2 .ensures ∙ spelled-made (a .tree .now) (a .made .now) (a .w) (b .before .if1 .left)) (c .find-spelling2 .ensures)))  -- returns-2
+    (λ c. let n = c .before .before in let h = n .before in let s = h .before .before .before .before .before .before in let a = s .args in omega (arith, indexed-le (spelled (a .tree .now) (a .made .now)) (a .tables .now) _ symbolBuckets 0 (a .n) (a .name .now) _ _ (c .find-spelling .result) _ _ (omega (arith, s .pre)) (s .pre .2) (bucket-is symbolBuckets (a .name .now) _ _ (h .hash .ensures .0) refl) (n .first-number .ensures .0) (sym (zero-add _)) refl (c .find-spelling .ensures), s .pre))  -- cast-result
+    (λ c. let n = c .before .before in let h = n .before in let s = h .before .before .before .before .before .before in let a = s .args in omega (arith, indexed-le (spelled (a .tree .now) (a .made .now)) (a .tables .now) _ symbolBuckets 0 (a .n) (a .name .now) _ _ (c .find-spelling .result) _ _ (omega (arith, s .pre)) (s .pre .2) (bucket-is symbolBuckets (a .name .now) _ _ (h .hash .ensures .0) refl) (n .first-number .ensures .0) (sym (zero-add _)) refl (c .find-spelling .ensures), s .pre))  -- add-result
+    (λ c. let n = c .before .before in let h = n .before in let s = h .before .before .before .before .before .before in let a = s .args in indexed-found (spelled (a .tree .now) (a .made .now)) (a .tables .now) _ symbolBuckets 0 (a .n) (a .name .now) _ _ (c .find-spelling .result) _ _ (omega (arith, s .pre)) (s .pre .2) (bucket-is symbolBuckets (a .name .now) _ _ (h .hash .ensures .0) refl) (n .first-number .ensures .0) (sym (zero-add _)) refl (c .find-spelling .ensures)))  -- returns
