@@ -21,6 +21,7 @@ use Rattle.exprs.proofs.ExprViews.{expr-known, view-var, view-unary, view-binar
 use Rattle.slots.specs.Slotted.{Collected}
 use Rattle.slots.specs.declared.Locals.{Locals}
 use Rattle.slots.specs.declared.Locals.the-variants.{Count}
+use Rattle.slots.proofs.Skipping.{plain-done}
 use Rattle.slots.proofs.Kinded.{up, unary-each, binary-each, seen-literal, seen-display, form-var, form-attribute, form-tuple, form-index, form-other}
 use Rattle.fits.specs.Walk.{Walks, lambdaFits}
 use Rattle.fits.specs.declared.Fit.{Fit}
@@ -105,6 +106,10 @@ module _ (d : ℕ) (t : List ℕ) (p : ℕ) (r : ExprReads d t p) (slots : List 
 
   pub fits-simple : (q : ℕ) → getD t p 0 < 7 → q ≡ exprAt d t p .end → Walks (Next q) (exprAt d t p .end) (fitsExpr slots (exprAt d t p .value))
   fits-simple q h e = next-walks q _ _ e (⊎-elim (λ (k : 6 ≤ getD t p 0). var-fits (omega arith)) (λ (k : getD t p 0 < 6). lit-fits k) (le-or-gt 6 (getD t p 0)))
+
+  -- None, False and True
+  pub fits-plain : getD t p 0 < 3 → Walks (Next (p + 1)) (exprAt d t p .end) (fitsExpr slots (exprAt d t p .value))
+  fits-plain h = fits-simple (p + 1) (omega arith) (plain-done d t p r h)
 
   -- a target that is a variable, a tuple or another form holds nothing that is lowered
   target-simple : (getD t p 0 ≡ 10 → ⊥) → (getD t p 0 ≡ 16 → ⊥) → fitsTarget slots (exprAt d t p .value) ≡ true

@@ -97,7 +97,7 @@ fn fits_dict(tree: &[u8], at: usize, depth: u32, slots: &[u32]) -> Fit
     fits_many(tree, at + 2, depth, 2 * count, slots)
 }
 
-// So many expressions.
+// So many expressions; None, False and True are one byte each.
 fn fits_many(tree: &[u8], at: usize, depth: u32, count: u32, slots: &[u32]) -> Fit
     requires { ⌜ Short (now tree) (now slots) × ExprsRead depth count (now tree) at ⌝ }
     ensures { λ r. ⌜ Walks r (exprsAt depth count (now (tree .entry)) at .end) (fitsExprs (namesAt (now (tree .entry)) (now (slots .entry))) (exprsAt depth count (now (tree .entry)) at .value)) ⌝ }
@@ -105,12 +105,16 @@ fn fits_many(tree: &[u8], at: usize, depth: u32, count: u32, slots: &[u32]) -> F
     let mut p = at;
     let mut left = count;
     while 0 < left {
-        let one = fits_expr(tree, p, depth, slots);
-        let Fit::Next(next) = one else {
-            return Fit::Over;
-        };
-        p = next;
         left -= 1;
+        if tree[p] < 3 {
+            p += 1;
+        } else {
+            let one = fits_expr(tree, p, depth, slots);
+            let Fit::Next(next) = one else {
+                return Fit::Over;
+            };
+            p = next;
+        }
     }
     Fit::Next(p)
 }

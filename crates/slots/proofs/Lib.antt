@@ -1,5 +1,6 @@
 pub mod Adding
 pub mod Skipping
+pub mod SkippingStmts
 pub mod Kinded
 pub mod Growing
 pub mod Gathering

@@ -9,7 +9,7 @@ use Rattle.exprs.specs.ExprAt.{exprAt}
 use Rattle.state.specs.State.{namesAt}
 use Rattle.slots.proofs.Referring.{list-reads, list-is, dict-reads, dict-is, body-there}
 use Rattle.fits.proofs.Walking.{walks-as, walks-next, walks-over, next-walks, over-walks, first-over, second-walks, left-start, left-next, left-over, left-done, lambda-over, slots-few, inner-short, lambda-inside}
-use Rattle.fits.proofs.ExprKinds.{fits-unary, fits-binary, fits-call, fits-attribute, fits-dict, fits-display, fits-index, fits-lambda, fits-simple, simple-kinds, second-there, list-there, name-there, second-moved, list-moved, fits-list, ExprsLeft, exprs-step, exprs-end, exprs-ok, collected-at, lambda-body, long-enough}
+use Rattle.fits.proofs.ExprKinds.{fits-unary, fits-binary, fits-call, fits-attribute, fits-dict, fits-display, fits-index, fits-lambda, fits-simple, fits-plain, simple-kinds, second-there, list-there, name-there, second-moved, list-moved, fits-list, ExprsLeft, exprs-step, exprs-end, exprs-ok, collected-at, lambda-body, long-enough}
 use Prim.Native.Nat.{ℕ, _<_}
 use borrow.Fn.Kinds.{In}
 use borrow.Fn.PlainCycle.{Measures, is, falls, and}
@@ -234,13 +234,17 @@ fits-many-μ-loop tree at depth count slots p₀ left₀ p left = left
 fits-many-ok : {M : Type 1} (t : ℕ) → fits-many-lts.Closed (fits-expr-below t, fits-expr.Post) (fits-many-at t) fits-many.Post M
 fits-many-ok t = fits-many-lts.spec (fits-expr-below t, fits-expr.Post) (fits-many-at t) fits-many.Post fits-many-Inv-loop fits-many-μ-loop
     (λ c. left-start _ _ _ _ _ (c .before .before .pre .1 .1))  -- loop-holds
-    (λ c κs. (omega arith, (c .before .before .before .before .pre .1 .0, view-exprs-more _ _ _ _ (c .loop-test .taken) (c .before .loop .inv .reads) .parts .head)))  -- fits-expr-requires
+    (λ c. omega arith)  -- sub-left
+    (λ c. let h = expr-inside _ _ _ (view-exprs-more _ _ _ _ (c .before .loop-test .taken) (c .before .before .loop .inv .reads) .parts .head) in omega arith)  -- shared-slice-read-if1
+    (λ c. let h = expr-inside _ _ _ (view-exprs-more _ _ _ _ (c .before .before .loop-test .taken) (c .before .before .before .loop .inv .reads) .parts .head) in omega arith)  -- add-p
+    (λ c. omega arith)  -- loop-less
+    (λ c. left-next _ _ _ _ _ _ _ (c .before .before .before .loop .inv) _ _ _ _ (exprs-step _ _ _ _ _ (c .before .before .before .loop .inv .reads) (c .before .before .loop-test .taken)) (fits-plain _ _ _ (view-exprs-more _ _ _ _ (c .before .before .loop-test .taken) (c .before .before .before .loop .inv .reads) .parts .head) _ (c .if1 .taken)) refl)  -- loop-again
+    (λ c κs. (omega arith, (c .before .before .before .before .before .before .pre .1 .0, view-exprs-more _ _ _ _ (c .before .before .loop-test .taken) (c .before .before .before .loop .inv .reads) .parts .head)))  -- fits-expr-requires
     (λ c. search needs)  -- enum-known-one
     (λ c. search needs)  -- enum-told
-    (λ c. left-over _ _ _ _ _ _ _ (c .before .before .before .before .loop .inv) _ _ _ (exprs-step _ _ _ _ _ (c .before .before .before .before .loop .inv .reads) (c .before .before .before .loop-test .taken)) (c .before .before .fits-expr .ensures) (c .enum-told .given .1))  -- returns
-    (λ c. omega arith)  -- sub-left
-    (λ c. omega arith)  -- loop-less
-    (λ c. left-next _ _ _ _ _ _ _ (c .before .before .before .before .before .loop .inv) _ _ _ _ (exprs-step _ _ _ _ _ (c .before .before .before .before .before .loop .inv .reads) (c .before .before .before .before .loop-test .taken)) (c .before .before .before .fits-expr .ensures) (c .before .one .given .1))  -- loop-again
+    (λ c. left-over _ _ _ _ _ _ _ (c .before .before .before .before .before .before .loop .inv) _ _ _ (exprs-step _ _ _ _ _ (c .before .before .before .before .before .before .loop .inv .reads) (c .before .before .before .before .before .loop-test .taken)) (c .before .before .fits-expr .ensures) (c .enum-told .given .1))  -- returns
+    (λ c. omega arith)  -- loop-less-2
+    (λ c. left-next _ _ _ _ _ _ _ (c .before .before .before .before .before .before .before .loop .inv) _ _ _ _ (exprs-step _ _ _ _ _ (c .before .before .before .before .before .before .before .loop .inv .reads) (c .before .before .before .before .before .before .loop-test .taken)) (c .before .before .before .fits-expr .ensures) (c .before .one .given .1))  -- loop-again-2
     (λ c. left-done _ _ _ _ _ _ _ (c .before .loop .inv) (exprs-end _ _ (namesAt (c .before .before .before .before .args .tree .now) (c .before .before .before .before .args .slots .now)) _ _ (c .before .loop .inv .reads) (c .loop-test .left)) (exprs-ok _ _ _ _ _ (c .before .loop .inv .reads) (c .loop-test .left)))  -- returns-2
 
 fits-two-ok : {M : Type 1} (t : ℕ) → fits-two-lts.Closed (fits-expr-below t, fits-expr.Post) (fits-two-at t) fits-two.Post M

@@ -1,7 +1,4 @@
-use Prim.Native.Nat.{ℕ}
-use mathlib.Core.Path.{_≡_, sym}
 use native.Mathlib.Omega.{arith}
-use borrow.Author.Needs.{needs}
 use Rattle.parts.proofs.NameLaws.{there-first}
 use Rattle.slots.proofs.Skipping.{NamesLeft, names-left, names-next, names-done}
 use Rattle.slots.proofs.skip.skip_params.Statement.{statement}
