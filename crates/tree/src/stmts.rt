@@ -82,18 +82,18 @@ pub fn check_stmt(tree: &[u8], at: usize, depth: u32, looped: bool, stand: u32) 
     }
     let kind = tree[at];
     match kind {
-        0 => Passed::Next(at + 1, noted(stand, 9, looped)),
-        1 => Passed::Next(at + 1, noted(stand, 9, looped)),
-        2 => Passed::Next(at + 1, stand),
-        3 => check_expr(tree, at + 1, depth - 1, Role::Value, stand),
-        4 => check_expr(tree, at + 1, depth - 1, Role::Value, stand),
-        5 => check_assign(tree, at + 1, depth - 1, stand),
-        6 => check_if(tree, at + 1, depth - 1, looped, stand),
-        7 => check_branch(tree, at + 1, depth - 1, true, stand),
-        8 => check_for(tree, at + 1, depth - 1, stand),
-        9 => check_def(tree, at + 1, depth - 1, stand),
-        10 => check_class(tree, at + 1, depth - 1, stand),
-        _ => Passed::Refused(5),
+        0 => return Passed::Next(at + 1, noted(stand, 9, looped)),
+        1 => return Passed::Next(at + 1, noted(stand, 9, looped)),
+        2 => return Passed::Next(at + 1, stand),
+        3 => return check_expr(tree, at + 1, depth - 1, Role::Value, stand),
+        4 => return check_expr(tree, at + 1, depth - 1, Role::Value, stand),
+        5 => return check_assign(tree, at + 1, depth - 1, stand),
+        6 => return check_if(tree, at + 1, depth - 1, looped, stand),
+        7 => return check_branch(tree, at + 1, depth - 1, true, stand),
+        8 => return check_for(tree, at + 1, depth - 1, stand),
+        9 => return check_def(tree, at + 1, depth - 1, stand),
+        10 => return check_class(tree, at + 1, depth - 1, stand),
+        _ => return Passed::Refused(5),
     }
 }
 
