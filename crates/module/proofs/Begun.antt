@@ -1,8 +1,9 @@
 -- Bytes that are written piece by piece, each into the rest of the output.
 use mathlib.Core.Path.{_≡_, refl, sym, ap, ap₂, _∙_, subst}
 use mathlib.Core.List.{List, [], _∷_, _++_, append-nil, append-assoc, map}
-use Prim.Native.Nat.{ℕ, zero, suc, _+_, _-_, _≤_, _<_}
+use Prim.Native.Nat.{ℕ, zero, suc, _+_, _-_, _/_, _%_, _≤_, _<_}
 use native.Mathlib.Omega.{arith}
+use native.Mathlib.Nat.{div-one}
 use native.Mathlib.Numerals.{add-one}
 use lib.ListN.{length, getD, take, drop, set, length-append, length-drop, length-take, drop-of-length-le}
 use lib.Seq.{take-append-seam, drop-append-seam, drop-drop, drop-cons, set-append-seam, take-all, take-suc, length-take-le}
@@ -57,6 +58,30 @@ written-again a b xs =
 -- a byte at the start
 pub wrote-byte : (v : ℕ) (xs : List ℕ) → 0 < length xs → Wrote 1 (v ∷ []) xs (set xs 0 v)
 wrote-byte v xs h = record { count = refl; out = ap (λ (l : List ℕ). set l 0 v) (sym (written-none xs)) ∙ written-set [] xs v h }
+
+-- numbers of at most two bytes
+pub wrote-none : (w v : ℕ) (xs : List ℕ) → w ≡ 0 → Wrote 0 (be w v) xs xs
+unfolding be
+wrote-none w v xs e = subst (λ (n : ℕ). Wrote 0 (be n v) xs xs) (sym e) (record { count = refl; out = sym (written-none xs) })
+
+pub wrote-one : (w v : ℕ) (xs : List ℕ) → w ≡ 1 → w ≤ length xs → Wrote 1 (be w v) xs (set xs 0 (v % 256))
+unfolding be
+wrote-one w v xs e h =
+    subst (λ (n : ℕ). Wrote 1 (be n v) xs (set xs 0 (v % 256))) (sym e)
+    (subst (λ (n : ℕ). Wrote 1 (n % 256 ∷ []) xs (set xs 0 (v % 256))) (sym (div-one v)) (wrote-byte (v % 256) xs (omega arith)))
+
+two-bytes : (a b : ℕ) (xs : List ℕ) → 2 ≤ length xs → Wrote 2 (a ∷ b ∷ []) xs (set (set xs 0 a) 1 b)
+two-bytes a b xs h = record {
+  count = refl;
+  out = ap (λ (l : List ℕ). set l 1 b) (wrote-byte a xs (omega arith) .out) ∙ written-set (a ∷ []) xs b h;
+}
+
+pub wrote-two : (w v : ℕ) (xs : List ℕ) → w ≡ 2 → w ≤ length xs → Wrote 2 (be w v) xs (set (set xs 0 (v / 256 % 256)) 1 (v % 256))
+unfolding be
+wrote-two w v xs e h =
+    subst (λ (n : ℕ). Wrote 2 (be n v) xs (set (set xs 0 (v / 256 % 256)) 1 (v % 256))) (sym e)
+    (subst (λ (n : ℕ). Wrote 2 (v / 256 % 256 ∷ n % 256 ∷ []) xs (set (set xs 0 (v / 256 % 256)) 1 (v % 256))) (sym (div-one v))
+    (two-bytes (v / 256 % 256) (v % 256) xs (omega arith)))
 
 -- ---- pieces
 

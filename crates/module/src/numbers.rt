@@ -6,7 +6,7 @@ ghost use Rattle.definitions.specs.Bytes.{be};
 ghost use Rattle.module.specs.Sections.{Wrote};
 
 // The low w bytes of v, from the last to the first.
-pub fn write_number(w: usize, v: u64, out: &mut [u8]) -> usize
+fn write_long(w: usize, v: u64, out: &mut [u8]) -> usize
     requires { ⌜ w ≤ length (now out) ⌝ }
     ensures { λ r. ⌜ Wrote r (be w v) (now (out .entry)) (now (out .exit)) ⌝ }
 {
@@ -18,6 +18,26 @@ pub fn write_number(w: usize, v: u64, out: &mut [u8]) -> usize
         rest = rest / 256;
     }
     w
+}
+
+// The low w bytes of v; at most two at once.
+pub fn write_number(w: usize, v: u64, out: &mut [u8]) -> usize
+    requires { ⌜ w ≤ length (now out) ⌝ }
+    ensures { λ r. ⌜ Wrote r (be w v) (now (out .entry)) (now (out .exit)) ⌝ }
+{
+    if w == 0 {
+        return 0;
+    }
+    if w == 1 {
+        out[0] = (v % 256) as u8;
+        return 1;
+    }
+    if w == 2 {
+        out[0] = (v / 256 % 256) as u8;
+        out[1] = (v % 256) as u8;
+        return 2;
+    }
+    write_long(w, v, out)
 }
 
 // Some bytes.

@@ -1,35 +1,23 @@
+use borrow.Author.Needs.{needs}
 use native.Mathlib.Omega.{arith}
-use mathlib.Core.Path.{_≡_, refl, sym, ap, ap₂, _∙_}
-use mathlib.Core.List.{List}
-use Prim.Native.Nat.{ℕ, _-_, _/_, _%_, _^_, _≤_}
-use lib.ListN.{length, set}
-use Rattle.definitions.specs.Bytes.{be}
-use Rattle.module.specs.Sections.{Wrote}
-use Rattle.module.proofs.Filled.{filled, filled-start, length-filled, filled-next, rest-next, rest-start, filled-whole}
+use lib.ListN.{length-set}
+use Rattle.module.proofs.Begun.{wrote-none, wrote-one, wrote-two}
 use Rattle.module.proofs.numbers.write_number.Statement.{statement}
 use Rattle.module.proofs.numbers.write_number.Tie as tie
 
-abbrev Inv-loop : tie.InvT-loop
-Inv-loop w v out₀ i₀ rest₀ out i rest = (i ≤ w) × (out ≡ filled w v i out₀) × (rest ≡ v / 256 ^ (w - i))
-
-abbrev μ-loop : tie.MeasureT-loop
-μ-loop w v out₀ i₀ rest₀ out i rest = i
-
 pub write-number-spec : {M : Type 1} → statement M
-write-number-spec = tie.close (tie.spec Inv-loop μ-loop
-    (λ c. let a = c .args in (omega arith, filled-start (a .w) (a .v) (a .out .now) (c .pre), rest-start (a .w) (a .v)))
-    (λ c. omega arith)
-    (λ c. omega arith)
-    (λ c. let l = c .before .loop in let s = c .before .before in let a = s .args in
-    let n = ap length (l .inv .1) ∙ length-filled (a .w) (a .v) (a .out .now) (s .pre) (l .i) (l .inv .0) in omega (arith, s .pre))
-    (λ c. omega arith)
-    (λ c. let l = c .before .loop in let s = c .before .before in let a = s .args in (
-      omega arith,
-      ap (λ (x : List ℕ). set x (l .i - 1) (l .rest % 256)) (l .inv .1) ∙ filled-next (a .w) (a .v) (a .out .now) (s .pre) (l .i) (l .rest) (c .loop-test .taken) (l .inv .0) (l .inv .2),
-      rest-next (a .w) (a .v) (a .out .now) (s .pre) (l .i) (l .rest) (c .loop-test .taken) (l .inv .0) (l .inv .2),
-    ))
-    (λ c. let l = c .before .loop in let s = c .before .before in let a = s .args in
-    ap length (l .inv .1) ∙ length-filled (a .w) (a .v) (a .out .now) (s .pre) (l .i) (l .inv .0))
-    (λ c. let l = c .before .loop in let s = c .before .before in let a = s .args in
-    let f = filled-whole (a .w) (a .v) (a .out .now) (s .pre) (l .i) (c .loop-test .left) in
-    record { count = f .count; out = l .inv .1 ∙ f .out }))
+write-number-spec = tie.close (tie.spec
+    (λ c. let a = c .before .before .args in wrote-none (a .w) (a .v) (a .out .now) (c .if1 .taken))
+    (λ c. search needs)
+    (λ c. search needs)
+    (λ c. search needs)
+    (λ c. let s = c .before .before .before in let a = s .args in wrote-one (a .w) (a .v) (a .out .now) (c .if2 .taken) (s .pre))
+    (λ c. search needs)
+    (λ c. search needs)
+    (λ c. search needs)
+    (λ c. let s = c .before .before .before .before in simp length-set (omega (arith, s .pre, c .if3 .taken)))
+    (λ c. search needs)
+    (λ c. let s = c .before .before .before .before in let a = s .args in wrote-two (a .w) (a .v) (a .out .now) (c .if3 .taken) (s .pre))
+    (λ c κs. search needs)
+    (λ c. search needs)
+    (λ c. search needs))
