@@ -1,5 +1,6 @@
 pub mod Spelling
 pub mod Finding
+pub mod Indexing
 pub mod Numbering
 pub mod Pasting
 pub mod MadeNames

@@ -1,6 +1,7 @@
 // Names and strings of the lowering: how they are spelled, found, numbered and made, and the code that names them.
 pub mod spell; // spell.rt: names and strings as parts of lent slices
 pub mod find; // find.rt: the first word that stands for a name, a string or a function
+pub mod index; // index.rt: an index of names by their bytes
 pub mod number; // number.rt: numbers of symbols and strings, made where they are new
 pub mod making; // making.rt: names that the lowering makes
 pub mod emit; // emit.rt: instructions that name a symbol, a string or a slot

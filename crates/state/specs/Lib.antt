@@ -1,4 +1,5 @@
 pub mod Words
 pub mod Fits
+pub mod Index
 pub mod State
 pub mod Steps
