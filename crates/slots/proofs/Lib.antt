@@ -1,4 +1,5 @@
 pub mod Adding
+pub mod Reindexing
 pub mod Skipping
 pub mod Kinded
 pub mod Growing
