@@ -176,6 +176,10 @@ module _ (t ps : List ℕ) (n p b r : ℕ) (y : Name) (v : Indexed t n ps) (room
 pub mid-front : (a m n : ℕ) (ps part : List ℕ) → a ≤ length ps → n ≤ length part → take n (drop a (putMid a m ps part)) ≡ take n part
 mid-front a m n ps part h k = ap (take n) (drop-at (take a ps) (part ++ postOf a m ps) a (length-take-le a ps h)) ∙ take-append-le n part (postOf a m ps) k
 
+-- the places, lent
+pub lent-room : (n : ℕ) (ps : List ℕ) → slotsFrom + n ≤ length ps → n ≤ length (take (length ps - slotsFrom) (drop slotsFrom ps))
+lent-room n ps h = let y = length-take-le (length ps - slotsFrom) (drop slotsFrom ps) (let z = places-length ps in omega arith) in omega arith
+
 -- the slots up to the n-th, as places
 pub front-places : (n : ℕ) (ps : List ℕ) → slotsFrom ≤ length ps → drop slotsFrom (take (slotsFrom + n) ps) ≡ take n (drop slotsFrom ps)
 front-places n ps h = ap (drop slotsFrom) (take-add slotsFrom n ps) ∙ drop-at (take slotsFrom ps) (take n (drop slotsFrom ps)) slotsFrom (length-take-le slotsFrom ps h)

@@ -55,11 +55,11 @@ module _ (t parent ps₀ ps₁ ps₂ : List ℕ) (a : Refs) (n end p : ℕ) (b :
       omega (arith, held-few _ (slotNames t parent) h, ap length kept-names, first-length t n ps₂ fits-in, c .0)
 
   module _ (part : List ℕ) (h : length part ≡ length (take (slotsFrom + n - slotsFrom) (drop slotsFrom ps₂))) (o : namesAt t part ≡ sort (namesAt t (take (slotsFrom + n - slotsFrom) (drop slotsFrom ps₂)))) where
-    lent : take (slotsFrom + n - slotsFrom) (drop slotsFrom ps₂) ≡ take n (drop slotsFrom ps₂)
-    lent = ap (λ (m : ℕ). take m (drop slotsFrom ps₂)) (let z : slotsFrom + n - slotsFrom ≡ n = omega arith in z)
+    lent-part : take (slotsFrom + n - slotsFrom) (drop slotsFrom ps₂) ≡ take n (drop slotsFrom ps₂)
+    lent-part = ap (λ (m : ℕ). take m (drop slotsFrom ps₂)) (let z : slotsFrom + n - slotsFrom ≡ n = omega arith in z)
 
     part-long : length part ≡ n
-    part-long = h ∙ ap length lent ∙ length-take-le n (drop slotsFrom ps₂) (let x = fits-in in let z = length-drop slotsFrom ps₂ in omega arith)
+    part-long = h ∙ ap length lent-part ∙ length-take-le n (drop slotsFrom ps₂) (let x = fits-in in let z = length-drop slotsFrom ps₂ in omega arith)
 
     pub captured : Captured n t parent (putMid slotsFrom (slotsFrom + n - slotsFrom) ps₂ part) (captures (slotNames t parent) (paramsAt t p .value) b)
     unfolding firstNames
@@ -68,7 +68,7 @@ module _ (t parent ps₀ ps₁ ps₂ : List ℕ) (a : Refs) (n end p : ℕ) (b :
         record {
           few = few-kept;
           names = ap (namesAt t) (mid-front slotsFrom (slotsFrom + n - slotsFrom) n ps₂ part (omega arith) (omega (arith, part-long)) ∙ take-all n part (omega (arith, part-long)))
-              ∙ o ∙ ap (λ (l : List ℕ). sort (namesAt t l)) lent ∙ ap sort kept-names ∙ sym (captures-held (slotNames t parent) qs b);
+              ∙ o ∙ ap (λ (l : List ℕ). sort (namesAt t l)) lent-part ∙ ap sort kept-names ∙ sym (captures-held (slotNames t parent) qs b);
         }
 
 -- ---- parameters, then captures
