@@ -7,14 +7,14 @@ use mathlib.Core.List.{List, [], _∷_, _++_, map}
 use native.Mathlib.Omega.{arith}
 use native.Mathlib.Numerals.{add-one}
 use lib.Dec.{ltb}
-use lib.ListN.{length, take, drop, getD, set, length-take, length-drop, length-map, length-set}
+use lib.ListN.{length, take, drop, getD, set, length-take, length-drop, length-map, length-set, drop-of-length-le}
 use lib.Seq.{take-suc-set, length-take-le, drop-set-add, drop-set-lt, drop-at, take-add, take-append-le}
 use borrow.Rule.Slice.PartMut.{putMid, postOf}
 use borrow.Author.Tests.{lt-ltb, le-ltb}
 use Rattle.definitions.specs.Bytes.{Name, same, position, member}
 use Rattle.definitions.specs.Slots.{add}
 use Rattle.state.specs.Words.{nameAt}
-use Rattle.state.specs.Index.{bucketOf, Covered, startOf}
+use Rattle.state.specs.Index.{bucketOf, Covered, noneCovered, startOf}
 use Rattle.state.specs.State.{namesAt, slotsFrom, slotNames, Slots, foundOr}
 use Rattle.parts.specs.Places.{nameBytes}
 use Rattle.names.specs.Sought.{soughtFrom}
@@ -198,3 +198,11 @@ module _ (t ps : List ℕ) (n : ℕ) (room : slotsFrom + n ≤ length ps) where
         few = omega arith;
         indexed = subst (Covered slotsFrom (take (slotsFrom + n) ps) 0) (sym front-names) (covered-part slotsFrom ps (slotsFrom + n) (firstNames t n ps) (omega arith) (omega arith) (v .at));
       }
+
+-- slots that are none: an index alone
+pub none-names : (t ps : List ℕ) → length ps ≡ slotsFrom → slotNames t ps ≡ []
+unfolding namesAt
+none-names t ps e = let h : length ps ≤ slotsFrom = omega arith in ap (namesAt t) (drop-of-length-le ps h)
+
+pub none-slots : (t ps : List ℕ) → length ps ≡ slotsFrom → Slots t ps
+none-slots t ps e = record { room = omega arith; few = omega arith; indexed = subst (Covered slotsFrom ps 0) (sym (none-names t ps e)) noneCovered }

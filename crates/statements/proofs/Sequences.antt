@@ -26,7 +26,7 @@ use Rattle.state.proofs.Answers.{emits-done, emits-as, done-emits, left-none, l
 use Rattle.code.specs.Ops.{special, Plain}
 use Rattle.frames.proofs.Answering.{next-emits}
 use Rattle.expressions.specs.Lowerable.{Lowerable, exprCode}
-use Rattle.statements.specs.Lowering.{endOf, blockCode, StmtLowerable, StmtsLowerable, BlockLowerable, BranchesLowerable}
+use Rattle.statements.specs.Lowering.{Sole, endOf, blockCode, StmtLowerable, StmtsLowerable, BlockLowerable, BranchesLowerable}
 
 pub plain-of : (op : ℕ) → op < 256 → special op ≡ false → Plain op 0 0
 plain-of op h e = record { op-byte = h; op-plain = e; first-short = omega arith; second-byte = omega arith }
@@ -56,8 +56,8 @@ pub code-emits : (r : Emitted) (t made code tables : List ℕ) (c : Counts) (l :
 code-emits r t made code tables c l q q′ base s e e′ x y h = emits-as r t made code tables c l q q′ _ _ y (ap (λ (f : Emit). emitAt base f s) x) h
 
 -- no slots
-pub ready-none : {t slots made code tables : List ℕ} {c : Counts} {l : Limits} → Ready t slots made code tables c l → Ready t [] made code tables c l
-ready-none r = record { tree-short = r .tree-short; slots-few = omega arith; sound = r .sound }
+pub ready-none : {t slots made code tables : List ℕ} {c : Counts} {l : Limits} → Ready t slots made code tables c l → Sole t made code tables c l
+ready-none r = record { tree-short = r .tree-short; sound = r .sound }
 
 -- ---- a function's end
 
@@ -104,7 +104,10 @@ module _ (r : Emitted) (t made code tables : List ℕ) (c : Counts) (l : Limits)
 
 -- the slices have moved on
 pub ready-with : {t slots made₀ code₀ tables₀ made code tables : List ℕ} {c k : Counts} {l : Limits} → Ready t slots made₀ code₀ tables₀ c l → Sound made code tables k l → Ready t slots made code tables k l
-ready-with r s = record { tree-short = r .tree-short; slots-few = r .slots-few; sound = s }
+ready-with r s = record { tree-short = r .tree-short; slotted = r .slotted; sound = s }
+
+pub sole-with : {t made₀ code₀ tables₀ made code tables : List ℕ} {c k : Counts} {l : Limits} → Sole t made₀ code₀ tables₀ c l → Sound made code tables k l → Sole t made code tables k l
+sole-with r s = record { tree-short = r .tree-short; sound = s }
 
 -- the next position by other words
 pub position-emits : (r : Emitted) (t made code tables : List ℕ) (c : Counts) (l : Limits) (q q′ : ℕ) (want : State) → q ≡ q′ → Emits r t made code tables c l q want → Emits r t made code tables c l q′ want

@@ -8,7 +8,7 @@ use Rattle.parts.specs.Places.{countAt, nameEnd, paramsAt}
 use Rattle.tree.specs.StmtAt as StmtAt
 use Rattle.tree.specs.StmtAt.{blockAt, stmtsAt, branchesAt, bodyAt, defBlockAt}
 use Rattle.state.specs.Words.{nameAt}
-use Rattle.state.specs.State.{namesAt, stateOf, emitAt}
+use Rattle.state.specs.State.{stateOf, emitAt, slotNames}
 use Rattle.state.specs.Steps.{chainAt, methodsAt, methodsOf}
 use Rattle.state.proofs.Growth.{lengthens-seq, lengthens-emits, lengthens-block, lengthens-takeIter}
 use Rattle.state.proofs.Within.{within-first}
@@ -18,7 +18,7 @@ use Rattle.names.proofs.Midway.{Midway}
 use Rattle.frames.proofs.Answering.{done-left, done-then, done-same, first-full, full-by}
 use Rattle.statements.specs.Lowering.{localsAt, endOf, blockCode, stmtsCode, StmtsLowerable, BranchesLowerable, MethodsLowerable}
 use Rattle.statements.proofs.Arms.{params-count, arm-deep, arm-inside, arm-known, arm-if, arm-while, arm-for, arm-def, arm-class, block-parts, stmts-more, elifs-more, elifs-is, elifs-none, elifs-zero, else-parts, else-in, else-one, none-is, methods-parts}
-use Rattle.statements.proofs.Sequences.{code-emits, ready-none, ready-with, block-at, elifs-at, lowerable-at, counted-at, params-at, block-emits-at, iterable-emits-at, position-emits, elifs-end, else-value, else-ends}
+use Rattle.statements.proofs.Sequences.{code-emits, ready-none, ready-with, sole-with, block-at, elifs-at, lowerable-at, counted-at, params-at, block-emits-at, iterable-emits-at, position-emits, elifs-end, else-value, else-ends}
 use Rattle.statements.proofs.Blocks.{block-start, block-full, block-next, block-end}
 use Rattle.statements.proofs.Jumping.{k-above, m-above, loop-emits, branch-emits, inside-within, head-within, question-within, block-within, Chained, chained-start, chained-full, chained-longer, chained-next, chained-at, chained-last, none-emits, else-within, else-above, else-emits, if-some, if-emits, for-within, for-small, for-emits, iterable-within}
 use Rattle.statements.proofs.Functions.{collected-count, collected-over, collected-at, begins-at, begins-over, compiles-done, compiles-full, full-compiles, compiles-emits, compiles-as, method-is, names-length, part-names, part-ready, block-with, body-emits-at, begun-within, body-within, ended-number, ended-body, ended-base, compiled}
@@ -277,21 +277,22 @@ compile-function-ok t = compile-function-lts.spec (name-end-reads.Asked, name-en
     (λ c. search needs)  -- same-length-3
     (λ c. let s = (c .before .before .before .before .before .before .before .before .before .before .before .before .before .before .before .before .before .before .before .before .before) in full-compiles _ _ _ _ _ _ _ _ (λ w. begins-over _ _ _ _ _ _ _ _ _ (c .enum-told2 .given .1) ((c .before .before .before .before) .begin-named .ensures) (begun-within _ _ _ _ _ _ (s .pre .1 .0 .sound) _ _ _ (paramsAt (s .args .tree .now) (nameEnd (s .args .tree .now) (s .args .at)) .value) (localsAt (s .args .depth) (s .args .tree .now) (s .args .at)) ((c .before .before .before .before .before .before .before .before .before .before .before .before .before .before .before) .u16-at .ensures .0 ∙ ap (countAt (s .args .tree .now)) ((c .before .before .before .before .before .before .before .before .before .before .before .before .before .before .before .before) .name-end .ensures) ∙ sym (params-count (s .args .tree .now) (nameEnd (s .args .tree .now) (s .args .at)))) (names-length _ _ _ _ (omega (arith, (collected-count _ _ _ _ _ ((c .before .before .before .before .before .before .before .before .before) .collected .given .1) (collected-at _ _ _ _ _ _ _ ((c .before .before .before .before .before .before .before .before .before .before .before .before .before .before .before .before) .name-end .ensures) ((c .before .before .before .before .before .before .before .before .before .before .before .before .before .before) .skip-params .ensures ∙ ap (λ (x : ℕ). paramsAt (s .args .tree .now) x .end) ((c .before .before .before .before .before .before .before .before .before .before .before .before .before .before .before .before) .name-end .ensures)) ((c .before .before .before .before .before .before .before .before .before .before .before .before) .collect-locals .ensures))) .0, (c .before .before .before .before .before .before .before .before .before .before .before .before) .collect-locals .kept .1 .1 .1 .1 .0)) ((collected-count _ _ _ _ _ ((c .before .before .before .before .before .before .before .before .before) .collected .given .1) (collected-at _ _ _ _ _ _ _ ((c .before .before .before .before .before .before .before .before .before .before .before .before .before .before .before .before) .name-end .ensures) ((c .before .before .before .before .before .before .before .before .before .before .before .before .before .before) .skip-params .ensures ∙ ap (λ (x : ℕ). paramsAt (s .args .tree .now) x .end) ((c .before .before .before .before .before .before .before .before .before .before .before .before .before .before .before .before) .name-end .ensures)) ((c .before .before .before .before .before .before .before .before .before .before .before .before) .collect-locals .ensures))) .1)) (defBlockAt (s .args .depth) (s .args .tree .now) (s .args .at) .value) (endOf (s .args .init)) w)))  -- returns-2
     (λ c. let s = (c .before .before .before .before .before .before .before .before .before .before .before .before .before .before .before .before .before .before .before .before .before .before) in omega (arith, (collected-count _ _ _ _ _ ((c .before .before .before .before .before .before .before .before .before .before) .collected .given .1) (collected-at _ _ _ _ _ _ _ ((c .before .before .before .before .before .before .before .before .before .before .before .before .before .before .before .before .before) .name-end .ensures) ((c .before .before .before .before .before .before .before .before .before .before .before .before .before .before .before) .skip-params .ensures ∙ ap (λ (x : ℕ). paramsAt (s .args .tree .now) x .end) ((c .before .before .before .before .before .before .before .before .before .before .before .before .before .before .before .before .before) .name-end .ensures)) ((c .before .before .before .before .before .before .before .before .before .before .before .before .before) .collect-locals .ensures))) .0))  -- cast-end
+    (λ c. let s = (c .before .before .before .before .before .before .before .before .before .before .before .before .before .before .before .before .before .before .before .before .before .before) in omega (arith, (collected-count _ _ _ _ _ ((c .before .before .before .before .before .before .before .before .before .before) .collected .given .1) (collected-at _ _ _ _ _ _ _ ((c .before .before .before .before .before .before .before .before .before .before .before .before .before .before .before .before .before) .name-end .ensures) ((c .before .before .before .before .before .before .before .before .before .before .before .before .before .before .before) .skip-params .ensures ∙ ap (λ (x : ℕ). paramsAt (s .args .tree .now) x .end) ((c .before .before .before .before .before .before .before .before .before .before .before .before .before .before .before .before .before) .name-end .ensures)) ((c .before .before .before .before .before .before .before .before .before .before .before .before .before) .collect-locals .ensures))) .0))  -- add-end
     (λ c. omega arith)  -- sub-emit-body
     (λ c. omega arith)  -- part-emit-body-start
     (λ c. let s = (c .before .before .before .before .before .before .before .before .before .before .before .before .before .before .before .before .before .before .before .before .before .before .before) in (omega (arith, (collected-count _ _ _ _ _ ((c .before .before .before .before .before .before .before .before .before .before .before) .collected .given .1) (collected-at _ _ _ _ _ _ _ ((c .before .before .before .before .before .before .before .before .before .before .before .before .before .before .before .before .before .before) .name-end .ensures) ((c .before .before .before .before .before .before .before .before .before .before .before .before .before .before .before .before) .skip-params .ensures ∙ ap (λ (x : ℕ). paramsAt (s .args .tree .now) x .end) ((c .before .before .before .before .before .before .before .before .before .before .before .before .before .before .before .before .before .before) .name-end .ensures)) ((c .before .before .before .before .before .before .before .before .before .before .before .before .before .before) .collect-locals .ensures))) .0, (c .before .before .before .before .before .before .before .before .before .before .before .before .before .before) .collect-locals .kept .1 .1 .1 .1 .0)))  -- part-emit-body-end
-    (λ c κs. let s = (c .before .before .before .before .before .before .before .before .before .before .before .before .before .before .before .before .before .before .before .before .before .before .before .before .before .before .before) in (omega (arith, s .pre .0), (part-ready _ _ _ _ _ _ _ _ _ _ _ _ _ (s .pre .1 .0) ((collected-count _ _ _ _ _ ((c .before .before .before .before .before .before .before .before .before .before .before .before .before .before .before) .collected .given .1) (collected-at _ _ _ _ _ _ _ ((c .before .before .before .before .before .before .before .before .before .before .before .before .before .before .before .before .before .before .before .before .before .before) .name-end .ensures) ((c .before .before .before .before .before .before .before .before .before .before .before .before .before .before .before .before .before .before .before .before) .skip-params .ensures ∙ ap (λ (x : ℕ). paramsAt (s .args .tree .now) x .end) ((c .before .before .before .before .before .before .before .before .before .before .before .before .before .before .before .before .before .before .before .before .before .before) .name-end .ensures)) ((c .before .before .before .before .before .before .before .before .before .before .before .before .before .before .before .before .before .before) .collect-locals .ensures))) .0) (omega (arith, (collected-count _ _ _ _ _ ((c .before .before .before .before .before .before .before .before .before .before .before .before .before .before .before) .collected .given .1) (collected-at _ _ _ _ _ _ _ ((c .before .before .before .before .before .before .before .before .before .before .before .before .before .before .before .before .before .before .before .before .before .before) .name-end .ensures) ((c .before .before .before .before .before .before .before .before .before .before .before .before .before .before .before .before .before .before .before .before) .skip-params .ensures ∙ ap (λ (x : ℕ). paramsAt (s .args .tree .now) x .end) ((c .before .before .before .before .before .before .before .before .before .before .before .before .before .before .before .before .before .before .before .before .before .before) .name-end .ensures)) ((c .before .before .before .before .before .before .before .before .before .before .before .before .before .before .before .before .before .before) .collect-locals .ensures))) .0, (c .before .before .before .before .before .before .before .before .before .before .before .before .before .before .before .before .before .before) .collect-locals .kept .1 .1 .1 .1 .0)) ((begins-at _ _ _ _ _ _ _ _ _ _ _ ((c .before .before .before .before .before .before) .begun .given .1) ((c .before .before .before .before .before .before .before .before .before .before) .begin-named .ensures)) .1 .sound), block-with _ _ _ _ _ _ (part-names _ _ _ _ ((collected-count _ _ _ _ _ ((c .before .before .before .before .before .before .before .before .before .before .before .before .before .before .before) .collected .given .1) (collected-at _ _ _ _ _ _ _ ((c .before .before .before .before .before .before .before .before .before .before .before .before .before .before .before .before .before .before .before .before .before .before) .name-end .ensures) ((c .before .before .before .before .before .before .before .before .before .before .before .before .before .before .before .before .before .before .before .before) .skip-params .ensures ∙ ap (λ (x : ℕ). paramsAt (s .args .tree .now) x .end) ((c .before .before .before .before .before .before .before .before .before .before .before .before .before .before .before .before .before .before .before .before .before .before) .name-end .ensures)) ((c .before .before .before .before .before .before .before .before .before .before .before .before .before .before .before .before .before .before) .collect-locals .ensures))) .1)) ((c .before .before .before .before .before .before .before .before .before .before .before .before .before .before .before .before .before .before .before .before) .skip-params .ensures ∙ ap (λ (x : ℕ). paramsAt (s .args .tree .now) x .end) ((c .before .before .before .before .before .before .before .before .before .before .before .before .before .before .before .before .before .before .before .before .before .before) .name-end .ensures)) (s .pre .1 .1 .block))))  -- emit-body-requires
+    (λ c κs. let s = (c .before .before .before .before .before .before .before .before .before .before .before .before .before .before .before .before .before .before .before .before .before .before .before .before .before .before .before) in (omega (arith, s .pre .0), (part-ready _ _ _ _ _ _ _ _ _ _ _ _ (s .pre .1 .0) ((collected-count _ _ _ _ _ ((c .before .before .before .before .before .before .before .before .before .before .before .before .before .before .before) .collected .given .1) (collected-at _ _ _ _ _ _ _ ((c .before .before .before .before .before .before .before .before .before .before .before .before .before .before .before .before .before .before .before .before .before .before) .name-end .ensures) ((c .before .before .before .before .before .before .before .before .before .before .before .before .before .before .before .before .before .before .before .before) .skip-params .ensures ∙ ap (λ (x : ℕ). paramsAt (s .args .tree .now) x .end) ((c .before .before .before .before .before .before .before .before .before .before .before .before .before .before .before .before .before .before .before .before .before .before) .name-end .ensures)) ((c .before .before .before .before .before .before .before .before .before .before .before .before .before .before .before .before .before .before) .collect-locals .ensures))) .0) ((collected-count _ _ _ _ _ ((c .before .before .before .before .before .before .before .before .before .before .before .before .before .before .before) .collected .given .1) (collected-at _ _ _ _ _ _ _ ((c .before .before .before .before .before .before .before .before .before .before .before .before .before .before .before .before .before .before .before .before .before .before) .name-end .ensures) ((c .before .before .before .before .before .before .before .before .before .before .before .before .before .before .before .before .before .before .before .before) .skip-params .ensures ∙ ap (λ (x : ℕ). paramsAt (s .args .tree .now) x .end) ((c .before .before .before .before .before .before .before .before .before .before .before .before .before .before .before .before .before .before .before .before .before .before) .name-end .ensures)) ((c .before .before .before .before .before .before .before .before .before .before .before .before .before .before .before .before .before .before) .collect-locals .ensures))) .2) (omega (arith, (collected-count _ _ _ _ _ ((c .before .before .before .before .before .before .before .before .before .before .before .before .before .before .before) .collected .given .1) (collected-at _ _ _ _ _ _ _ ((c .before .before .before .before .before .before .before .before .before .before .before .before .before .before .before .before .before .before .before .before .before .before) .name-end .ensures) ((c .before .before .before .before .before .before .before .before .before .before .before .before .before .before .before .before .before .before .before .before) .skip-params .ensures ∙ ap (λ (x : ℕ). paramsAt (s .args .tree .now) x .end) ((c .before .before .before .before .before .before .before .before .before .before .before .before .before .before .before .before .before .before .before .before .before .before) .name-end .ensures)) ((c .before .before .before .before .before .before .before .before .before .before .before .before .before .before .before .before .before .before) .collect-locals .ensures))) .0, (c .before .before .before .before .before .before .before .before .before .before .before .before .before .before .before .before .before .before) .collect-locals .kept .1 .1 .1 .1 .0)) ((begins-at _ _ _ _ _ _ _ _ _ _ _ ((c .before .before .before .before .before .before) .begun .given .1) ((c .before .before .before .before .before .before .before .before .before .before) .begin-named .ensures)) .1 .sound), block-with _ _ _ _ _ _ (part-names _ _ _ _ ((collected-count _ _ _ _ _ ((c .before .before .before .before .before .before .before .before .before .before .before .before .before .before .before) .collected .given .1) (collected-at _ _ _ _ _ _ _ ((c .before .before .before .before .before .before .before .before .before .before .before .before .before .before .before .before .before .before .before .before .before .before) .name-end .ensures) ((c .before .before .before .before .before .before .before .before .before .before .before .before .before .before .before .before .before .before .before .before) .skip-params .ensures ∙ ap (λ (x : ℕ). paramsAt (s .args .tree .now) x .end) ((c .before .before .before .before .before .before .before .before .before .before .before .before .before .before .before .before .before .before .before .before .before .before) .name-end .ensures)) ((c .before .before .before .before .before .before .before .before .before .before .before .before .before .before .before .before .before .before) .collect-locals .ensures))) .1) (omega (arith, (collected-count _ _ _ _ _ ((c .before .before .before .before .before .before .before .before .before .before .before .before .before .before .before) .collected .given .1) (collected-at _ _ _ _ _ _ _ ((c .before .before .before .before .before .before .before .before .before .before .before .before .before .before .before .before .before .before .before .before .before .before) .name-end .ensures) ((c .before .before .before .before .before .before .before .before .before .before .before .before .before .before .before .before .before .before .before .before) .skip-params .ensures ∙ ap (λ (x : ℕ). paramsAt (s .args .tree .now) x .end) ((c .before .before .before .before .before .before .before .before .before .before .before .before .before .before .before .before .before .before .before .before .before .before) .name-end .ensures)) ((c .before .before .before .before .before .before .before .before .before .before .before .before .before .before .before .before .before .before) .collect-locals .ensures))) .0, (c .before .before .before .before .before .before .before .before .before .before .before .before .before .before .before .before .before .before) .collect-locals .kept .1 .1 .1 .1 .0))) ((c .before .before .before .before .before .before .before .before .before .before .before .before .before .before .before .before .before .before .before .before) .skip-params .ensures ∙ ap (λ (x : ℕ). paramsAt (s .args .tree .now) x .end) ((c .before .before .before .before .before .before .before .before .before .before .before .before .before .before .before .before .before .before .before .before .before .before) .name-end .ensures)) (s .pre .1 .1 .block))))  -- emit-body-requires
     (λ c. search needs)  -- enum-known-body
     (λ c. search needs)  -- enum-told-3
     (λ c. (c .before .before .before .before .before .before .before .before) .emit-body .kept .1 .1 .1 .1 .1 .0)  -- same-length-4
     (λ c. (c .before .before .before .before .before .before .before .before) .emit-body .kept .1 .1 .1 .1 .1 .1 .0)  -- same-length-5
     (λ c. (c .before .before .before .before .before .before .before .before) .emit-body .kept .1 .1 .1 .1 .1 .1 .1 .0 ∙ (c .before .before .before .before .before .before .before .before .before .before .before .before .before .before .before .before .before .before .before) .begin-named .kept .1 .1 .1 .1 .1 .1 .0)  -- same-length-6
-    (λ c. let s = (c .before .before .before .before .before .before .before .before .before .before .before .before .before .before .before .before .before .before .before .before .before .before .before .before .before .before .before .before .before .before .before .before .before .before .before .before) in full-compiles _ _ _ _ _ _ _ _ (λ w. emits-full _ _ _ _ _ _ _ _ _ (c .enum-told3 .given .1) (body-emits-at _ _ _ _ _ _ _ _ _ _ _ _ _ _ ((c .before .before .before .before .before .before .before .before .before .before .before .before .before .before .before .before .before .before .before .before .before .before .before .before .before .before .before .before .before) .skip-params .ensures ∙ ap (λ (x : ℕ). paramsAt (s .args .tree .now) x .end) ((c .before .before .before .before .before .before .before .before .before .before .before .before .before .before .before .before .before .before .before .before .before .before .before .before .before .before .before .before .before .before .before) .name-end .ensures)) ((c .before .before .before .before .before .before .before .before) .emit-body .ensures)) (body-within _ _ _ _ _ _ (s .pre .1 .0 .sound) _ _ _ (paramsAt (s .args .tree .now) (nameEnd (s .args .tree .now) (s .args .at)) .value) (localsAt (s .args .depth) (s .args .tree .now) (s .args .at)) ((c .before .before .before .before .before .before .before .before .before .before .before .before .before .before .before .before .before .before .before .before .before .before .before .before .before .before .before .before .before .before) .u16-at .ensures .0 ∙ ap (countAt (s .args .tree .now)) ((c .before .before .before .before .before .before .before .before .before .before .before .before .before .before .before .before .before .before .before .before .before .before .before .before .before .before .before .before .before .before .before) .name-end .ensures) ∙ sym (params-count (s .args .tree .now) (nameEnd (s .args .tree .now) (s .args .at)))) (names-length _ _ _ _ (omega (arith, (collected-count _ _ _ _ _ ((c .before .before .before .before .before .before .before .before .before .before .before .before .before .before .before .before .before .before .before .before .before .before .before .before) .collected .given .1) (collected-at _ _ _ _ _ _ _ ((c .before .before .before .before .before .before .before .before .before .before .before .before .before .before .before .before .before .before .before .before .before .before .before .before .before .before .before .before .before .before .before) .name-end .ensures) ((c .before .before .before .before .before .before .before .before .before .before .before .before .before .before .before .before .before .before .before .before .before .before .before .before .before .before .before .before .before) .skip-params .ensures ∙ ap (λ (x : ℕ). paramsAt (s .args .tree .now) x .end) ((c .before .before .before .before .before .before .before .before .before .before .before .before .before .before .before .before .before .before .before .before .before .before .before .before .before .before .before .before .before .before .before) .name-end .ensures)) ((c .before .before .before .before .before .before .before .before .before .before .before .before .before .before .before .before .before .before .before .before .before .before .before .before .before .before .before) .collect-locals .ensures))) .0, (c .before .before .before .before .before .before .before .before .before .before .before .before .before .before .before .before .before .before .before .before .before .before .before .before .before .before .before) .collect-locals .kept .1 .1 .1 .1 .0)) ((collected-count _ _ _ _ _ ((c .before .before .before .before .before .before .before .before .before .before .before .before .before .before .before .before .before .before .before .before .before .before .before .before) .collected .given .1) (collected-at _ _ _ _ _ _ _ ((c .before .before .before .before .before .before .before .before .before .before .before .before .before .before .before .before .before .before .before .before .before .before .before .before .before .before .before .before .before .before .before) .name-end .ensures) ((c .before .before .before .before .before .before .before .before .before .before .before .before .before .before .before .before .before .before .before .before .before .before .before .before .before .before .before .before .before) .skip-params .ensures ∙ ap (λ (x : ℕ). paramsAt (s .args .tree .now) x .end) ((c .before .before .before .before .before .before .before .before .before .before .before .before .before .before .before .before .before .before .before .before .before .before .before .before .before .before .before .before .before .before .before) .name-end .ensures)) ((c .before .before .before .before .before .before .before .before .before .before .before .before .before .before .before .before .before .before .before .before .before .before .before .before .before .before .before) .collect-locals .ensures))) .1)) (defBlockAt (s .args .depth) (s .args .tree .now) (s .args .at) .value) (endOf (s .args .init)) _ _ _ (begins-at _ _ _ _ _ _ _ _ _ _ _ ((c .before .before .before .before .before .before .before .before .before .before .before .before .before .before .before) .begun .given .1) ((c .before .before .before .before .before .before .before .before .before .before .before .before .before .before .before .before .before .before .before) .begin-named .ensures)) _ (part-names _ _ _ _ ((collected-count _ _ _ _ _ ((c .before .before .before .before .before .before .before .before .before .before .before .before .before .before .before .before .before .before .before .before .before .before .before .before) .collected .given .1) (collected-at _ _ _ _ _ _ _ ((c .before .before .before .before .before .before .before .before .before .before .before .before .before .before .before .before .before .before .before .before .before .before .before .before .before .before .before .before .before .before .before) .name-end .ensures) ((c .before .before .before .before .before .before .before .before .before .before .before .before .before .before .before .before .before .before .before .before .before .before .before .before .before .before .before .before .before) .skip-params .ensures ∙ ap (λ (x : ℕ). paramsAt (s .args .tree .now) x .end) ((c .before .before .before .before .before .before .before .before .before .before .before .before .before .before .before .before .before .before .before .before .before .before .before .before .before .before .before .before .before .before .before) .name-end .ensures)) ((c .before .before .before .before .before .before .before .before .before .before .before .before .before .before .before .before .before .before .before .before .before .before .before .before .before .before .before) .collect-locals .ensures))) .1)) w)))  -- returns-3
-    (λ c κs. let s = (c .before .before .before .before .before .before .before .before .before .before .before .before .before .before .before .before .before .before .before .before .before .before .before .before .before .before .before .before .before .before .before .before .before .before .before .before .before .before .before .before) in ((done-left _ _ _ _ _ _ _ _ _ _ _ ((c .before .before .before .before) .body .given .1) ((body-emits-at _ _ _ _ _ _ _ _ _ _ _ _ _ _ ((c .before .before .before .before .before .before .before .before .before .before .before .before .before .before .before .before .before .before .before .before .before .before .before .before .before .before .before .before .before .before .before .before .before) .skip-params .ensures ∙ ap (λ (x : ℕ). paramsAt (s .args .tree .now) x .end) ((c .before .before .before .before .before .before .before .before .before .before .before .before .before .before .before .before .before .before .before .before .before .before .before .before .before .before .before .before .before .before .before .before .before .before .before) .name-end .ensures)) ((c .before .before .before .before .before .before .before .before .before .before .before .before) .emit-body .ensures)))) .sound, ended-number _ _ _ _ _ _ (s .pre .1 .0 .sound) _ _ _ (paramsAt (s .args .tree .now) (nameEnd (s .args .tree .now) (s .args .at)) .value) (localsAt (s .args .depth) (s .args .tree .now) (s .args .at)) ((c .before .before .before .before .before .before .before .before .before .before .before .before .before .before .before .before .before .before .before .before .before .before .before .before .before .before .before .before .before .before .before .before .before .before) .u16-at .ensures .0 ∙ ap (countAt (s .args .tree .now)) ((c .before .before .before .before .before .before .before .before .before .before .before .before .before .before .before .before .before .before .before .before .before .before .before .before .before .before .before .before .before .before .before .before .before .before .before) .name-end .ensures) ∙ sym (params-count (s .args .tree .now) (nameEnd (s .args .tree .now) (s .args .at)))) (names-length _ _ _ _ (omega (arith, (collected-count _ _ _ _ _ ((c .before .before .before .before .before .before .before .before .before .before .before .before .before .before .before .before .before .before .before .before .before .before .before .before .before .before .before .before) .collected .given .1) (collected-at _ _ _ _ _ _ _ ((c .before .before .before .before .before .before .before .before .before .before .before .before .before .before .before .before .before .before .before .before .before .before .before .before .before .before .before .before .before .before .before .before .before .before .before) .name-end .ensures) ((c .before .before .before .before .before .before .before .before .before .before .before .before .before .before .before .before .before .before .before .before .before .before .before .before .before .before .before .before .before .before .before .before .before) .skip-params .ensures ∙ ap (λ (x : ℕ). paramsAt (s .args .tree .now) x .end) ((c .before .before .before .before .before .before .before .before .before .before .before .before .before .before .before .before .before .before .before .before .before .before .before .before .before .before .before .before .before .before .before .before .before .before .before) .name-end .ensures)) ((c .before .before .before .before .before .before .before .before .before .before .before .before .before .before .before .before .before .before .before .before .before .before .before .before .before .before .before .before .before .before .before) .collect-locals .ensures))) .0, (c .before .before .before .before .before .before .before .before .before .before .before .before .before .before .before .before .before .before .before .before .before .before .before .before .before .before .before .before .before .before .before) .collect-locals .kept .1 .1 .1 .1 .0)) ((collected-count _ _ _ _ _ ((c .before .before .before .before .before .before .before .before .before .before .before .before .before .before .before .before .before .before .before .before .before .before .before .before .before .before .before .before) .collected .given .1) (collected-at _ _ _ _ _ _ _ ((c .before .before .before .before .before .before .before .before .before .before .before .before .before .before .before .before .before .before .before .before .before .before .before .before .before .before .before .before .before .before .before .before .before .before .before) .name-end .ensures) ((c .before .before .before .before .before .before .before .before .before .before .before .before .before .before .before .before .before .before .before .before .before .before .before .before .before .before .before .before .before .before .before .before .before) .skip-params .ensures ∙ ap (λ (x : ℕ). paramsAt (s .args .tree .now) x .end) ((c .before .before .before .before .before .before .before .before .before .before .before .before .before .before .before .before .before .before .before .before .before .before .before .before .before .before .before .before .before .before .before .before .before .before .before) .name-end .ensures)) ((c .before .before .before .before .before .before .before .before .before .before .before .before .before .before .before .before .before .before .before .before .before .before .before .before .before .before .before .before .before .before .before) .collect-locals .ensures))) .1)) (defBlockAt (s .args .depth) (s .args .tree .now) (s .args .at) .value) (endOf (s .args .init)) _ _ _ (begins-at _ _ _ _ _ _ _ _ _ _ _ ((c .before .before .before .before .before .before .before .before .before .before .before .before .before .before .before .before .before .before .before) .begun .given .1) ((c .before .before .before .before .before .before .before .before .before .before .before .before .before .before .before .before .before .before .before .before .before .before .before) .begin-named .ensures)) _ (part-names _ _ _ _ ((collected-count _ _ _ _ _ ((c .before .before .before .before .before .before .before .before .before .before .before .before .before .before .before .before .before .before .before .before .before .before .before .before .before .before .before .before) .collected .given .1) (collected-at _ _ _ _ _ _ _ ((c .before .before .before .before .before .before .before .before .before .before .before .before .before .before .before .before .before .before .before .before .before .before .before .before .before .before .before .before .before .before .before .before .before .before .before) .name-end .ensures) ((c .before .before .before .before .before .before .before .before .before .before .before .before .before .before .before .before .before .before .before .before .before .before .before .before .before .before .before .before .before .before .before .before .before) .skip-params .ensures ∙ ap (λ (x : ℕ). paramsAt (s .args .tree .now) x .end) ((c .before .before .before .before .before .before .before .before .before .before .before .before .before .before .before .before .before .before .before .before .before .before .before .before .before .before .before .before .before .before .before .before .before .before .before) .name-end .ensures)) ((c .before .before .before .before .before .before .before .before .before .before .before .before .before .before .before .before .before .before .before .before .before .before .before .before .before .before .before .before .before .before .before) .collect-locals .ensures))) .1)) _ _ _ _ (done-left _ _ _ _ _ _ _ _ _ _ _ ((c .before .before .before .before) .body .given .1) ((body-emits-at _ _ _ _ _ _ _ _ _ _ _ _ _ _ ((c .before .before .before .before .before .before .before .before .before .before .before .before .before .before .before .before .before .before .before .before .before .before .before .before .before .before .before .before .before .before .before .before .before) .skip-params .ensures ∙ ap (λ (x : ℕ). paramsAt (s .args .tree .now) x .end) ((c .before .before .before .before .before .before .before .before .before .before .before .before .before .before .before .before .before .before .before .before .before .before .before .before .before .before .before .before .before .before .before .before .before .before .before) .name-end .ensures)) ((c .before .before .before .before .before .before .before .before .before .before .before .before) .emit-body .ensures)))), ended-body _ _ _ _ _ _ (s .pre .1 .0 .sound) _ _ _ (paramsAt (s .args .tree .now) (nameEnd (s .args .tree .now) (s .args .at)) .value) (localsAt (s .args .depth) (s .args .tree .now) (s .args .at)) ((c .before .before .before .before .before .before .before .before .before .before .before .before .before .before .before .before .before .before .before .before .before .before .before .before .before .before .before .before .before .before .before .before .before .before) .u16-at .ensures .0 ∙ ap (countAt (s .args .tree .now)) ((c .before .before .before .before .before .before .before .before .before .before .before .before .before .before .before .before .before .before .before .before .before .before .before .before .before .before .before .before .before .before .before .before .before .before .before) .name-end .ensures) ∙ sym (params-count (s .args .tree .now) (nameEnd (s .args .tree .now) (s .args .at)))) (names-length _ _ _ _ (omega (arith, (collected-count _ _ _ _ _ ((c .before .before .before .before .before .before .before .before .before .before .before .before .before .before .before .before .before .before .before .before .before .before .before .before .before .before .before .before) .collected .given .1) (collected-at _ _ _ _ _ _ _ ((c .before .before .before .before .before .before .before .before .before .before .before .before .before .before .before .before .before .before .before .before .before .before .before .before .before .before .before .before .before .before .before .before .before .before .before) .name-end .ensures) ((c .before .before .before .before .before .before .before .before .before .before .before .before .before .before .before .before .before .before .before .before .before .before .before .before .before .before .before .before .before .before .before .before .before) .skip-params .ensures ∙ ap (λ (x : ℕ). paramsAt (s .args .tree .now) x .end) ((c .before .before .before .before .before .before .before .before .before .before .before .before .before .before .before .before .before .before .before .before .before .before .before .before .before .before .before .before .before .before .before .before .before .before .before) .name-end .ensures)) ((c .before .before .before .before .before .before .before .before .before .before .before .before .before .before .before .before .before .before .before .before .before .before .before .before .before .before .before .before .before .before .before) .collect-locals .ensures))) .0, (c .before .before .before .before .before .before .before .before .before .before .before .before .before .before .before .before .before .before .before .before .before .before .before .before .before .before .before .before .before .before .before) .collect-locals .kept .1 .1 .1 .1 .0)) ((collected-count _ _ _ _ _ ((c .before .before .before .before .before .before .before .before .before .before .before .before .before .before .before .before .before .before .before .before .before .before .before .before .before .before .before .before) .collected .given .1) (collected-at _ _ _ _ _ _ _ ((c .before .before .before .before .before .before .before .before .before .before .before .before .before .before .before .before .before .before .before .before .before .before .before .before .before .before .before .before .before .before .before .before .before .before .before) .name-end .ensures) ((c .before .before .before .before .before .before .before .before .before .before .before .before .before .before .before .before .before .before .before .before .before .before .before .before .before .before .before .before .before .before .before .before .before) .skip-params .ensures ∙ ap (λ (x : ℕ). paramsAt (s .args .tree .now) x .end) ((c .before .before .before .before .before .before .before .before .before .before .before .before .before .before .before .before .before .before .before .before .before .before .before .before .before .before .before .before .before .before .before .before .before .before .before) .name-end .ensures)) ((c .before .before .before .before .before .before .before .before .before .before .before .before .before .before .before .before .before .before .before .before .before .before .before .before .before .before .before .before .before .before .before) .collect-locals .ensures))) .1)) (defBlockAt (s .args .depth) (s .args .tree .now) (s .args .at) .value) (endOf (s .args .init)) _ _ _ (begins-at _ _ _ _ _ _ _ _ _ _ _ ((c .before .before .before .before .before .before .before .before .before .before .before .before .before .before .before .before .before .before .before) .begun .given .1) ((c .before .before .before .before .before .before .before .before .before .before .before .before .before .before .before .before .before .before .before .before .before .before .before) .begin-named .ensures)) _ (part-names _ _ _ _ ((collected-count _ _ _ _ _ ((c .before .before .before .before .before .before .before .before .before .before .before .before .before .before .before .before .before .before .before .before .before .before .before .before .before .before .before .before) .collected .given .1) (collected-at _ _ _ _ _ _ _ ((c .before .before .before .before .before .before .before .before .before .before .before .before .before .before .before .before .before .before .before .before .before .before .before .before .before .before .before .before .before .before .before .before .before .before .before) .name-end .ensures) ((c .before .before .before .before .before .before .before .before .before .before .before .before .before .before .before .before .before .before .before .before .before .before .before .before .before .before .before .before .before .before .before .before .before) .skip-params .ensures ∙ ap (λ (x : ℕ). paramsAt (s .args .tree .now) x .end) ((c .before .before .before .before .before .before .before .before .before .before .before .before .before .before .before .before .before .before .before .before .before .before .before .before .before .before .before .before .before .before .before .before .before .before .before) .name-end .ensures)) ((c .before .before .before .before .before .before .before .before .before .before .before .before .before .before .before .before .before .before .before .before .before .before .before .before .before .before .before .before .before .before .before) .collect-locals .ensures))) .1)) _ _ _ _ (done-left _ _ _ _ _ _ _ _ _ _ _ ((c .before .before .before .before) .body .given .1) ((body-emits-at _ _ _ _ _ _ _ _ _ _ _ _ _ _ ((c .before .before .before .before .before .before .before .before .before .before .before .before .before .before .before .before .before .before .before .before .before .before .before .before .before .before .before .before .before .before .before .before .before) .skip-params .ensures ∙ ap (λ (x : ℕ). paramsAt (s .args .tree .now) x .end) ((c .before .before .before .before .before .before .before .before .before .before .before .before .before .before .before .before .before .before .before .before .before .before .before .before .before .before .before .before .before .before .before .before .before .before .before) .name-end .ensures)) ((c .before .before .before .before .before .before .before .before .before .before .before .before) .emit-body .ensures)))), ended-base _ _ _ _ _ _ (s .pre .1 .0 .sound) _ _ _ (paramsAt (s .args .tree .now) (nameEnd (s .args .tree .now) (s .args .at)) .value) (localsAt (s .args .depth) (s .args .tree .now) (s .args .at)) ((c .before .before .before .before .before .before .before .before .before .before .before .before .before .before .before .before .before .before .before .before .before .before .before .before .before .before .before .before .before .before .before .before .before .before) .u16-at .ensures .0 ∙ ap (countAt (s .args .tree .now)) ((c .before .before .before .before .before .before .before .before .before .before .before .before .before .before .before .before .before .before .before .before .before .before .before .before .before .before .before .before .before .before .before .before .before .before .before) .name-end .ensures) ∙ sym (params-count (s .args .tree .now) (nameEnd (s .args .tree .now) (s .args .at)))) (names-length _ _ _ _ (omega (arith, (collected-count _ _ _ _ _ ((c .before .before .before .before .before .before .before .before .before .before .before .before .before .before .before .before .before .before .before .before .before .before .before .before .before .before .before .before) .collected .given .1) (collected-at _ _ _ _ _ _ _ ((c .before .before .before .before .before .before .before .before .before .before .before .before .before .before .before .before .before .before .before .before .before .before .before .before .before .before .before .before .before .before .before .before .before .before .before) .name-end .ensures) ((c .before .before .before .before .before .before .before .before .before .before .before .before .before .before .before .before .before .before .before .before .before .before .before .before .before .before .before .before .before .before .before .before .before) .skip-params .ensures ∙ ap (λ (x : ℕ). paramsAt (s .args .tree .now) x .end) ((c .before .before .before .before .before .before .before .before .before .before .before .before .before .before .before .before .before .before .before .before .before .before .before .before .before .before .before .before .before .before .before .before .before .before .before) .name-end .ensures)) ((c .before .before .before .before .before .before .before .before .before .before .before .before .before .before .before .before .before .before .before .before .before .before .before .before .before .before .before .before .before .before .before) .collect-locals .ensures))) .0, (c .before .before .before .before .before .before .before .before .before .before .before .before .before .before .before .before .before .before .before .before .before .before .before .before .before .before .before .before .before .before .before) .collect-locals .kept .1 .1 .1 .1 .0)) ((collected-count _ _ _ _ _ ((c .before .before .before .before .before .before .before .before .before .before .before .before .before .before .before .before .before .before .before .before .before .before .before .before .before .before .before .before) .collected .given .1) (collected-at _ _ _ _ _ _ _ ((c .before .before .before .before .before .before .before .before .before .before .before .before .before .before .before .before .before .before .before .before .before .before .before .before .before .before .before .before .before .before .before .before .before .before .before) .name-end .ensures) ((c .before .before .before .before .before .before .before .before .before .before .before .before .before .before .before .before .before .before .before .before .before .before .before .before .before .before .before .before .before .before .before .before .before) .skip-params .ensures ∙ ap (λ (x : ℕ). paramsAt (s .args .tree .now) x .end) ((c .before .before .before .before .before .before .before .before .before .before .before .before .before .before .before .before .before .before .before .before .before .before .before .before .before .before .before .before .before .before .before .before .before .before .before) .name-end .ensures)) ((c .before .before .before .before .before .before .before .before .before .before .before .before .before .before .before .before .before .before .before .before .before .before .before .before .before .before .before .before .before .before .before) .collect-locals .ensures))) .1)) (defBlockAt (s .args .depth) (s .args .tree .now) (s .args .at) .value) (endOf (s .args .init)) _ _ _ (begins-at _ _ _ _ _ _ _ _ _ _ _ ((c .before .before .before .before .before .before .before .before .before .before .before .before .before .before .before .before .before .before .before) .begun .given .1) ((c .before .before .before .before .before .before .before .before .before .before .before .before .before .before .before .before .before .before .before .before .before .before .before) .begin-named .ensures)) _ (part-names _ _ _ _ ((collected-count _ _ _ _ _ ((c .before .before .before .before .before .before .before .before .before .before .before .before .before .before .before .before .before .before .before .before .before .before .before .before .before .before .before .before) .collected .given .1) (collected-at _ _ _ _ _ _ _ ((c .before .before .before .before .before .before .before .before .before .before .before .before .before .before .before .before .before .before .before .before .before .before .before .before .before .before .before .before .before .before .before .before .before .before .before) .name-end .ensures) ((c .before .before .before .before .before .before .before .before .before .before .before .before .before .before .before .before .before .before .before .before .before .before .before .before .before .before .before .before .before .before .before .before .before) .skip-params .ensures ∙ ap (λ (x : ℕ). paramsAt (s .args .tree .now) x .end) ((c .before .before .before .before .before .before .before .before .before .before .before .before .before .before .before .before .before .before .before .before .before .before .before .before .before .before .before .before .before .before .before .before .before .before .before) .name-end .ensures)) ((c .before .before .before .before .before .before .before .before .before .before .before .before .before .before .before .before .before .before .before .before .before .before .before .before .before .before .before .before .before .before .before) .collect-locals .ensures))) .1)) _ _ _ _ (done-left _ _ _ _ _ _ _ _ _ _ _ ((c .before .before .before .before) .body .given .1) ((body-emits-at _ _ _ _ _ _ _ _ _ _ _ _ _ _ ((c .before .before .before .before .before .before .before .before .before .before .before .before .before .before .before .before .before .before .before .before .before .before .before .before .before .before .before .before .before .before .before .before .before) .skip-params .ensures ∙ ap (λ (x : ℕ). paramsAt (s .args .tree .now) x .end) ((c .before .before .before .before .before .before .before .before .before .before .before .before .before .before .before .before .before .before .before .before .before .before .before .before .before .before .before .before .before .before .before .before .before .before .before) .name-end .ensures)) ((c .before .before .before .before .before .before .before .before .before .before .before .before) .emit-body .ensures))))))  -- end-function-requires
+    (λ c. let s = (c .before .before .before .before .before .before .before .before .before .before .before .before .before .before .before .before .before .before .before .before .before .before .before .before .before .before .before .before .before .before .before .before .before .before .before .before) in full-compiles _ _ _ _ _ _ _ _ (λ w. emits-full _ _ _ _ _ _ _ _ _ (c .enum-told3 .given .1) (body-emits-at _ _ _ _ _ _ _ _ _ _ _ _ _ _ ((c .before .before .before .before .before .before .before .before .before .before .before .before .before .before .before .before .before .before .before .before .before .before .before .before .before .before .before .before .before) .skip-params .ensures ∙ ap (λ (x : ℕ). paramsAt (s .args .tree .now) x .end) ((c .before .before .before .before .before .before .before .before .before .before .before .before .before .before .before .before .before .before .before .before .before .before .before .before .before .before .before .before .before .before .before) .name-end .ensures)) ((c .before .before .before .before .before .before .before .before) .emit-body .ensures)) (body-within _ _ _ _ _ _ (s .pre .1 .0 .sound) _ _ _ (paramsAt (s .args .tree .now) (nameEnd (s .args .tree .now) (s .args .at)) .value) (localsAt (s .args .depth) (s .args .tree .now) (s .args .at)) ((c .before .before .before .before .before .before .before .before .before .before .before .before .before .before .before .before .before .before .before .before .before .before .before .before .before .before .before .before .before .before) .u16-at .ensures .0 ∙ ap (countAt (s .args .tree .now)) ((c .before .before .before .before .before .before .before .before .before .before .before .before .before .before .before .before .before .before .before .before .before .before .before .before .before .before .before .before .before .before .before) .name-end .ensures) ∙ sym (params-count (s .args .tree .now) (nameEnd (s .args .tree .now) (s .args .at)))) (names-length _ _ _ _ (omega (arith, (collected-count _ _ _ _ _ ((c .before .before .before .before .before .before .before .before .before .before .before .before .before .before .before .before .before .before .before .before .before .before .before .before) .collected .given .1) (collected-at _ _ _ _ _ _ _ ((c .before .before .before .before .before .before .before .before .before .before .before .before .before .before .before .before .before .before .before .before .before .before .before .before .before .before .before .before .before .before .before) .name-end .ensures) ((c .before .before .before .before .before .before .before .before .before .before .before .before .before .before .before .before .before .before .before .before .before .before .before .before .before .before .before .before .before) .skip-params .ensures ∙ ap (λ (x : ℕ). paramsAt (s .args .tree .now) x .end) ((c .before .before .before .before .before .before .before .before .before .before .before .before .before .before .before .before .before .before .before .before .before .before .before .before .before .before .before .before .before .before .before) .name-end .ensures)) ((c .before .before .before .before .before .before .before .before .before .before .before .before .before .before .before .before .before .before .before .before .before .before .before .before .before .before .before) .collect-locals .ensures))) .0, (c .before .before .before .before .before .before .before .before .before .before .before .before .before .before .before .before .before .before .before .before .before .before .before .before .before .before .before) .collect-locals .kept .1 .1 .1 .1 .0)) ((collected-count _ _ _ _ _ ((c .before .before .before .before .before .before .before .before .before .before .before .before .before .before .before .before .before .before .before .before .before .before .before .before) .collected .given .1) (collected-at _ _ _ _ _ _ _ ((c .before .before .before .before .before .before .before .before .before .before .before .before .before .before .before .before .before .before .before .before .before .before .before .before .before .before .before .before .before .before .before) .name-end .ensures) ((c .before .before .before .before .before .before .before .before .before .before .before .before .before .before .before .before .before .before .before .before .before .before .before .before .before .before .before .before .before) .skip-params .ensures ∙ ap (λ (x : ℕ). paramsAt (s .args .tree .now) x .end) ((c .before .before .before .before .before .before .before .before .before .before .before .before .before .before .before .before .before .before .before .before .before .before .before .before .before .before .before .before .before .before .before) .name-end .ensures)) ((c .before .before .before .before .before .before .before .before .before .before .before .before .before .before .before .before .before .before .before .before .before .before .before .before .before .before .before) .collect-locals .ensures))) .1)) (defBlockAt (s .args .depth) (s .args .tree .now) (s .args .at) .value) (endOf (s .args .init)) _ _ _ (begins-at _ _ _ _ _ _ _ _ _ _ _ ((c .before .before .before .before .before .before .before .before .before .before .before .before .before .before .before) .begun .given .1) ((c .before .before .before .before .before .before .before .before .before .before .before .before .before .before .before .before .before .before .before) .begin-named .ensures)) _ (part-names _ _ _ _ ((collected-count _ _ _ _ _ ((c .before .before .before .before .before .before .before .before .before .before .before .before .before .before .before .before .before .before .before .before .before .before .before .before) .collected .given .1) (collected-at _ _ _ _ _ _ _ ((c .before .before .before .before .before .before .before .before .before .before .before .before .before .before .before .before .before .before .before .before .before .before .before .before .before .before .before .before .before .before .before) .name-end .ensures) ((c .before .before .before .before .before .before .before .before .before .before .before .before .before .before .before .before .before .before .before .before .before .before .before .before .before .before .before .before .before) .skip-params .ensures ∙ ap (λ (x : ℕ). paramsAt (s .args .tree .now) x .end) ((c .before .before .before .before .before .before .before .before .before .before .before .before .before .before .before .before .before .before .before .before .before .before .before .before .before .before .before .before .before .before .before) .name-end .ensures)) ((c .before .before .before .before .before .before .before .before .before .before .before .before .before .before .before .before .before .before .before .before .before .before .before .before .before .before .before) .collect-locals .ensures))) .1) (omega (arith, (collected-count _ _ _ _ _ ((c .before .before .before .before .before .before .before .before .before .before .before .before .before .before .before .before .before .before .before .before .before .before .before .before) .collected .given .1) (collected-at _ _ _ _ _ _ _ ((c .before .before .before .before .before .before .before .before .before .before .before .before .before .before .before .before .before .before .before .before .before .before .before .before .before .before .before .before .before .before .before) .name-end .ensures) ((c .before .before .before .before .before .before .before .before .before .before .before .before .before .before .before .before .before .before .before .before .before .before .before .before .before .before .before .before .before) .skip-params .ensures ∙ ap (λ (x : ℕ). paramsAt (s .args .tree .now) x .end) ((c .before .before .before .before .before .before .before .before .before .before .before .before .before .before .before .before .before .before .before .before .before .before .before .before .before .before .before .before .before .before .before) .name-end .ensures)) ((c .before .before .before .before .before .before .before .before .before .before .before .before .before .before .before .before .before .before .before .before .before .before .before .before .before .before .before) .collect-locals .ensures))) .0, (c .before .before .before .before .before .before .before .before .before .before .before .before .before .before .before .before .before .before .before .before .before .before .before .before .before .before .before) .collect-locals .kept .1 .1 .1 .1 .0))) w)))  -- returns-3
+    (λ c κs. let s = (c .before .before .before .before .before .before .before .before .before .before .before .before .before .before .before .before .before .before .before .before .before .before .before .before .before .before .before .before .before .before .before .before .before .before .before .before .before .before .before .before) in ((done-left _ _ _ _ _ _ _ _ _ _ _ ((c .before .before .before .before) .body .given .1) ((body-emits-at _ _ _ _ _ _ _ _ _ _ _ _ _ _ ((c .before .before .before .before .before .before .before .before .before .before .before .before .before .before .before .before .before .before .before .before .before .before .before .before .before .before .before .before .before .before .before .before .before) .skip-params .ensures ∙ ap (λ (x : ℕ). paramsAt (s .args .tree .now) x .end) ((c .before .before .before .before .before .before .before .before .before .before .before .before .before .before .before .before .before .before .before .before .before .before .before .before .before .before .before .before .before .before .before .before .before .before .before) .name-end .ensures)) ((c .before .before .before .before .before .before .before .before .before .before .before .before) .emit-body .ensures)))) .sound, ended-number _ _ _ _ _ _ (s .pre .1 .0 .sound) _ _ _ (paramsAt (s .args .tree .now) (nameEnd (s .args .tree .now) (s .args .at)) .value) (localsAt (s .args .depth) (s .args .tree .now) (s .args .at)) ((c .before .before .before .before .before .before .before .before .before .before .before .before .before .before .before .before .before .before .before .before .before .before .before .before .before .before .before .before .before .before .before .before .before .before) .u16-at .ensures .0 ∙ ap (countAt (s .args .tree .now)) ((c .before .before .before .before .before .before .before .before .before .before .before .before .before .before .before .before .before .before .before .before .before .before .before .before .before .before .before .before .before .before .before .before .before .before .before) .name-end .ensures) ∙ sym (params-count (s .args .tree .now) (nameEnd (s .args .tree .now) (s .args .at)))) (names-length _ _ _ _ (omega (arith, (collected-count _ _ _ _ _ ((c .before .before .before .before .before .before .before .before .before .before .before .before .before .before .before .before .before .before .before .before .before .before .before .before .before .before .before .before) .collected .given .1) (collected-at _ _ _ _ _ _ _ ((c .before .before .before .before .before .before .before .before .before .before .before .before .before .before .before .before .before .before .before .before .before .before .before .before .before .before .before .before .before .before .before .before .before .before .before) .name-end .ensures) ((c .before .before .before .before .before .before .before .before .before .before .before .before .before .before .before .before .before .before .before .before .before .before .before .before .before .before .before .before .before .before .before .before .before) .skip-params .ensures ∙ ap (λ (x : ℕ). paramsAt (s .args .tree .now) x .end) ((c .before .before .before .before .before .before .before .before .before .before .before .before .before .before .before .before .before .before .before .before .before .before .before .before .before .before .before .before .before .before .before .before .before .before .before) .name-end .ensures)) ((c .before .before .before .before .before .before .before .before .before .before .before .before .before .before .before .before .before .before .before .before .before .before .before .before .before .before .before .before .before .before .before) .collect-locals .ensures))) .0, (c .before .before .before .before .before .before .before .before .before .before .before .before .before .before .before .before .before .before .before .before .before .before .before .before .before .before .before .before .before .before .before) .collect-locals .kept .1 .1 .1 .1 .0)) ((collected-count _ _ _ _ _ ((c .before .before .before .before .before .before .before .before .before .before .before .before .before .before .before .before .before .before .before .before .before .before .before .before .before .before .before .before) .collected .given .1) (collected-at _ _ _ _ _ _ _ ((c .before .before .before .before .before .before .before .before .before .before .before .before .before .before .before .before .before .before .before .before .before .before .before .before .before .before .before .before .before .before .before .before .before .before .before) .name-end .ensures) ((c .before .before .before .before .before .before .before .before .before .before .before .before .before .before .before .before .before .before .before .before .before .before .before .before .before .before .before .before .before .before .before .before .before) .skip-params .ensures ∙ ap (λ (x : ℕ). paramsAt (s .args .tree .now) x .end) ((c .before .before .before .before .before .before .before .before .before .before .before .before .before .before .before .before .before .before .before .before .before .before .before .before .before .before .before .before .before .before .before .before .before .before .before) .name-end .ensures)) ((c .before .before .before .before .before .before .before .before .before .before .before .before .before .before .before .before .before .before .before .before .before .before .before .before .before .before .before .before .before .before .before) .collect-locals .ensures))) .1)) (defBlockAt (s .args .depth) (s .args .tree .now) (s .args .at) .value) (endOf (s .args .init)) _ _ _ (begins-at _ _ _ _ _ _ _ _ _ _ _ ((c .before .before .before .before .before .before .before .before .before .before .before .before .before .before .before .before .before .before .before) .begun .given .1) ((c .before .before .before .before .before .before .before .before .before .before .before .before .before .before .before .before .before .before .before .before .before .before .before) .begin-named .ensures)) _ (part-names _ _ _ _ ((collected-count _ _ _ _ _ ((c .before .before .before .before .before .before .before .before .before .before .before .before .before .before .before .before .before .before .before .before .before .before .before .before .before .before .before .before) .collected .given .1) (collected-at _ _ _ _ _ _ _ ((c .before .before .before .before .before .before .before .before .before .before .before .before .before .before .before .before .before .before .before .before .before .before .before .before .before .before .before .before .before .before .before .before .before .before .before) .name-end .ensures) ((c .before .before .before .before .before .before .before .before .before .before .before .before .before .before .before .before .before .before .before .before .before .before .before .before .before .before .before .before .before .before .before .before .before) .skip-params .ensures ∙ ap (λ (x : ℕ). paramsAt (s .args .tree .now) x .end) ((c .before .before .before .before .before .before .before .before .before .before .before .before .before .before .before .before .before .before .before .before .before .before .before .before .before .before .before .before .before .before .before .before .before .before .before) .name-end .ensures)) ((c .before .before .before .before .before .before .before .before .before .before .before .before .before .before .before .before .before .before .before .before .before .before .before .before .before .before .before .before .before .before .before) .collect-locals .ensures))) .1) (omega (arith, (collected-count _ _ _ _ _ ((c .before .before .before .before .before .before .before .before .before .before .before .before .before .before .before .before .before .before .before .before .before .before .before .before .before .before .before .before) .collected .given .1) (collected-at _ _ _ _ _ _ _ ((c .before .before .before .before .before .before .before .before .before .before .before .before .before .before .before .before .before .before .before .before .before .before .before .before .before .before .before .before .before .before .before .before .before .before .before) .name-end .ensures) ((c .before .before .before .before .before .before .before .before .before .before .before .before .before .before .before .before .before .before .before .before .before .before .before .before .before .before .before .before .before .before .before .before .before) .skip-params .ensures ∙ ap (λ (x : ℕ). paramsAt (s .args .tree .now) x .end) ((c .before .before .before .before .before .before .before .before .before .before .before .before .before .before .before .before .before .before .before .before .before .before .before .before .before .before .before .before .before .before .before .before .before .before .before) .name-end .ensures)) ((c .before .before .before .before .before .before .before .before .before .before .before .before .before .before .before .before .before .before .before .before .before .before .before .before .before .before .before .before .before .before .before) .collect-locals .ensures))) .0, (c .before .before .before .before .before .before .before .before .before .before .before .before .before .before .before .before .before .before .before .before .before .before .before .before .before .before .before .before .before .before .before) .collect-locals .kept .1 .1 .1 .1 .0))) _ _ _ _ (done-left _ _ _ _ _ _ _ _ _ _ _ ((c .before .before .before .before) .body .given .1) ((body-emits-at _ _ _ _ _ _ _ _ _ _ _ _ _ _ ((c .before .before .before .before .before .before .before .before .before .before .before .before .before .before .before .before .before .before .before .before .before .before .before .before .before .before .before .before .before .before .before .before .before) .skip-params .ensures ∙ ap (λ (x : ℕ). paramsAt (s .args .tree .now) x .end) ((c .before .before .before .before .before .before .before .before .before .before .before .before .before .before .before .before .before .before .before .before .before .before .before .before .before .before .before .before .before .before .before .before .before .before .before) .name-end .ensures)) ((c .before .before .before .before .before .before .before .before .before .before .before .before) .emit-body .ensures)))), ended-body _ _ _ _ _ _ (s .pre .1 .0 .sound) _ _ _ (paramsAt (s .args .tree .now) (nameEnd (s .args .tree .now) (s .args .at)) .value) (localsAt (s .args .depth) (s .args .tree .now) (s .args .at)) ((c .before .before .before .before .before .before .before .before .before .before .before .before .before .before .before .before .before .before .before .before .before .before .before .before .before .before .before .before .before .before .before .before .before .before) .u16-at .ensures .0 ∙ ap (countAt (s .args .tree .now)) ((c .before .before .before .before .before .before .before .before .before .before .before .before .before .before .before .before .before .before .before .before .before .before .before .before .before .before .before .before .before .before .before .before .before .before .before) .name-end .ensures) ∙ sym (params-count (s .args .tree .now) (nameEnd (s .args .tree .now) (s .args .at)))) (names-length _ _ _ _ (omega (arith, (collected-count _ _ _ _ _ ((c .before .before .before .before .before .before .before .before .before .before .before .before .before .before .before .before .before .before .before .before .before .before .before .before .before .before .before .before) .collected .given .1) (collected-at _ _ _ _ _ _ _ ((c .before .before .before .before .before .before .before .before .before .before .before .before .before .before .before .before .before .before .before .before .before .before .before .before .before .before .before .before .before .before .before .before .before .before .before) .name-end .ensures) ((c .before .before .before .before .before .before .before .before .before .before .before .before .before .before .before .before .before .before .before .before .before .before .before .before .before .before .before .before .before .before .before .before .before) .skip-params .ensures ∙ ap (λ (x : ℕ). paramsAt (s .args .tree .now) x .end) ((c .before .before .before .before .before .before .before .before .before .before .before .before .before .before .before .before .before .before .before .before .before .before .before .before .before .before .before .before .before .before .before .before .before .before .before) .name-end .ensures)) ((c .before .before .before .before .before .before .before .before .before .before .before .before .before .before .before .before .before .before .before .before .before .before .before .before .before .before .before .before .before .before .before) .collect-locals .ensures))) .0, (c .before .before .before .before .before .before .before .before .before .before .before .before .before .before .before .before .before .before .before .before .before .before .before .before .before .before .before .before .before .before .before) .collect-locals .kept .1 .1 .1 .1 .0)) ((collected-count _ _ _ _ _ ((c .before .before .before .before .before .before .before .before .before .before .before .before .before .before .before .before .before .before .before .before .before .before .before .before .before .before .before .before) .collected .given .1) (collected-at _ _ _ _ _ _ _ ((c .before .before .before .before .before .before .before .before .before .before .before .before .before .before .before .before .before .before .before .before .before .before .before .before .before .before .before .before .before .before .before .before .before .before .before) .name-end .ensures) ((c .before .before .before .before .before .before .before .before .before .before .before .before .before .before .before .before .before .before .before .before .before .before .before .before .before .before .before .before .before .before .before .before .before) .skip-params .ensures ∙ ap (λ (x : ℕ). paramsAt (s .args .tree .now) x .end) ((c .before .before .before .before .before .before .before .before .before .before .before .before .before .before .before .before .before .before .before .before .before .before .before .before .before .before .before .before .before .before .before .before .before .before .before) .name-end .ensures)) ((c .before .before .before .before .before .before .before .before .before .before .before .before .before .before .before .before .before .before .before .before .before .before .before .before .before .before .before .before .before .before .before) .collect-locals .ensures))) .1)) (defBlockAt (s .args .depth) (s .args .tree .now) (s .args .at) .value) (endOf (s .args .init)) _ _ _ (begins-at _ _ _ _ _ _ _ _ _ _ _ ((c .before .before .before .before .before .before .before .before .before .before .before .before .before .before .before .before .before .before .before) .begun .given .1) ((c .before .before .before .before .before .before .before .before .before .before .before .before .before .before .before .before .before .before .before .before .before .before .before) .begin-named .ensures)) _ (part-names _ _ _ _ ((collected-count _ _ _ _ _ ((c .before .before .before .before .before .before .before .before .before .before .before .before .before .before .before .before .before .before .before .before .before .before .before .before .before .before .before .before) .collected .given .1) (collected-at _ _ _ _ _ _ _ ((c .before .before .before .before .before .before .before .before .before .before .before .before .before .before .before .before .before .before .before .before .before .before .before .before .before .before .before .before .before .before .before .before .before .before .before) .name-end .ensures) ((c .before .before .before .before .before .before .before .before .before .before .before .before .before .before .before .before .before .before .before .before .before .before .before .before .before .before .before .before .before .before .before .before .before) .skip-params .ensures ∙ ap (λ (x : ℕ). paramsAt (s .args .tree .now) x .end) ((c .before .before .before .before .before .before .before .before .before .before .before .before .before .before .before .before .before .before .before .before .before .before .before .before .before .before .before .before .before .before .before .before .before .before .before) .name-end .ensures)) ((c .before .before .before .before .before .before .before .before .before .before .before .before .before .before .before .before .before .before .before .before .before .before .before .before .before .before .before .before .before .before .before) .collect-locals .ensures))) .1) (omega (arith, (collected-count _ _ _ _ _ ((c .before .before .before .before .before .before .before .before .before .before .before .before .before .before .before .before .before .before .before .before .before .before .before .before .before .before .before .before) .collected .given .1) (collected-at _ _ _ _ _ _ _ ((c .before .before .before .before .before .before .before .before .before .before .before .before .before .before .before .before .before .before .before .before .before .before .before .before .before .before .before .before .before .before .before .before .before .before .before) .name-end .ensures) ((c .before .before .before .before .before .before .before .before .before .before .before .before .before .before .before .before .before .before .before .before .before .before .before .before .before .before .before .before .before .before .before .before .before) .skip-params .ensures ∙ ap (λ (x : ℕ). paramsAt (s .args .tree .now) x .end) ((c .before .before .before .before .before .before .before .before .before .before .before .before .before .before .before .before .before .before .before .before .before .before .before .before .before .before .before .before .before .before .before .before .before .before .before) .name-end .ensures)) ((c .before .before .before .before .before .before .before .before .before .before .before .before .before .before .before .before .before .before .before .before .before .before .before .before .before .before .before .before .before .before .before) .collect-locals .ensures))) .0, (c .before .before .before .before .before .before .before .before .before .before .before .before .before .before .before .before .before .before .before .before .before .before .before .before .before .before .before .before .before .before .before) .collect-locals .kept .1 .1 .1 .1 .0))) _ _ _ _ (done-left _ _ _ _ _ _ _ _ _ _ _ ((c .before .before .before .before) .body .given .1) ((body-emits-at _ _ _ _ _ _ _ _ _ _ _ _ _ _ ((c .before .before .before .before .before .before .before .before .before .before .before .before .before .before .before .before .before .before .before .before .before .before .before .before .before .before .before .before .before .before .before .before .before) .skip-params .ensures ∙ ap (λ (x : ℕ). paramsAt (s .args .tree .now) x .end) ((c .before .before .before .before .before .before .before .before .before .before .before .before .before .before .before .before .before .before .before .before .before .before .before .before .before .before .before .before .before .before .before .before .before .before .before) .name-end .ensures)) ((c .before .before .before .before .before .before .before .before .before .before .before .before) .emit-body .ensures)))), ended-base _ _ _ _ _ _ (s .pre .1 .0 .sound) _ _ _ (paramsAt (s .args .tree .now) (nameEnd (s .args .tree .now) (s .args .at)) .value) (localsAt (s .args .depth) (s .args .tree .now) (s .args .at)) ((c .before .before .before .before .before .before .before .before .before .before .before .before .before .before .before .before .before .before .before .before .before .before .before .before .before .before .before .before .before .before .before .before .before .before) .u16-at .ensures .0 ∙ ap (countAt (s .args .tree .now)) ((c .before .before .before .before .before .before .before .before .before .before .before .before .before .before .before .before .before .before .before .before .before .before .before .before .before .before .before .before .before .before .before .before .before .before .before) .name-end .ensures) ∙ sym (params-count (s .args .tree .now) (nameEnd (s .args .tree .now) (s .args .at)))) (names-length _ _ _ _ (omega (arith, (collected-count _ _ _ _ _ ((c .before .before .before .before .before .before .before .before .before .before .before .before .before .before .before .before .before .before .before .before .before .before .before .before .before .before .before .before) .collected .given .1) (collected-at _ _ _ _ _ _ _ ((c .before .before .before .before .before .before .before .before .before .before .before .before .before .before .before .before .before .before .before .before .before .before .before .before .before .before .before .before .before .before .before .before .before .before .before) .name-end .ensures) ((c .before .before .before .before .before .before .before .before .before .before .before .before .before .before .before .before .before .before .before .before .before .before .before .before .before .before .before .before .before .before .before .before .before) .skip-params .ensures ∙ ap (λ (x : ℕ). paramsAt (s .args .tree .now) x .end) ((c .before .before .before .before .before .before .before .before .before .before .before .before .before .before .before .before .before .before .before .before .before .before .before .before .before .before .before .before .before .before .before .before .before .before .before) .name-end .ensures)) ((c .before .before .before .before .before .before .before .before .before .before .before .before .before .before .before .before .before .before .before .before .before .before .before .before .before .before .before .before .before .before .before) .collect-locals .ensures))) .0, (c .before .before .before .before .before .before .before .before .before .before .before .before .before .before .before .before .before .before .before .before .before .before .before .before .before .before .before .before .before .before .before) .collect-locals .kept .1 .1 .1 .1 .0)) ((collected-count _ _ _ _ _ ((c .before .before .before .before .before .before .before .before .before .before .before .before .before .before .before .before .before .before .before .before .before .before .before .before .before .before .before .before) .collected .given .1) (collected-at _ _ _ _ _ _ _ ((c .before .before .before .before .before .before .before .before .before .before .before .before .before .before .before .before .before .before .before .before .before .before .before .before .before .before .before .before .before .before .before .before .before .before .before) .name-end .ensures) ((c .before .before .before .before .before .before .before .before .before .before .before .before .before .before .before .before .before .before .before .before .before .before .before .before .before .before .before .before .before .before .before .before .before) .skip-params .ensures ∙ ap (λ (x : ℕ). paramsAt (s .args .tree .now) x .end) ((c .before .before .before .before .before .before .before .before .before .before .before .before .before .before .before .before .before .before .before .before .before .before .before .before .before .before .before .before .before .before .before .before .before .before .before) .name-end .ensures)) ((c .before .before .before .before .before .before .before .before .before .before .before .before .before .before .before .before .before .before .before .before .before .before .before .before .before .before .before .before .before .before .before) .collect-locals .ensures))) .1)) (defBlockAt (s .args .depth) (s .args .tree .now) (s .args .at) .value) (endOf (s .args .init)) _ _ _ (begins-at _ _ _ _ _ _ _ _ _ _ _ ((c .before .before .before .before .before .before .before .before .before .before .before .before .before .before .before .before .before .before .before) .begun .given .1) ((c .before .before .before .before .before .before .before .before .before .before .before .before .before .before .before .before .before .before .before .before .before .before .before) .begin-named .ensures)) _ (part-names _ _ _ _ ((collected-count _ _ _ _ _ ((c .before .before .before .before .before .before .before .before .before .before .before .before .before .before .before .before .before .before .before .before .before .before .before .before .before .before .before .before) .collected .given .1) (collected-at _ _ _ _ _ _ _ ((c .before .before .before .before .before .before .before .before .before .before .before .before .before .before .before .before .before .before .before .before .before .before .before .before .before .before .before .before .before .before .before .before .before .before .before) .name-end .ensures) ((c .before .before .before .before .before .before .before .before .before .before .before .before .before .before .before .before .before .before .before .before .before .before .before .before .before .before .before .before .before .before .before .before .before) .skip-params .ensures ∙ ap (λ (x : ℕ). paramsAt (s .args .tree .now) x .end) ((c .before .before .before .before .before .before .before .before .before .before .before .before .before .before .before .before .before .before .before .before .before .before .before .before .before .before .before .before .before .before .before .before .before .before .before) .name-end .ensures)) ((c .before .before .before .before .before .before .before .before .before .before .before .before .before .before .before .before .before .before .before .before .before .before .before .before .before .before .before .before .before .before .before) .collect-locals .ensures))) .1) (omega (arith, (collected-count _ _ _ _ _ ((c .before .before .before .before .before .before .before .before .before .before .before .before .before .before .before .before .before .before .before .before .before .before .before .before .before .before .before .before) .collected .given .1) (collected-at _ _ _ _ _ _ _ ((c .before .before .before .before .before .before .before .before .before .before .before .before .before .before .before .before .before .before .before .before .before .before .before .before .before .before .before .before .before .before .before .before .before .before .before) .name-end .ensures) ((c .before .before .before .before .before .before .before .before .before .before .before .before .before .before .before .before .before .before .before .before .before .before .before .before .before .before .before .before .before .before .before .before .before) .skip-params .ensures ∙ ap (λ (x : ℕ). paramsAt (s .args .tree .now) x .end) ((c .before .before .before .before .before .before .before .before .before .before .before .before .before .before .before .before .before .before .before .before .before .before .before .before .before .before .before .before .before .before .before .before .before .before .before) .name-end .ensures)) ((c .before .before .before .before .before .before .before .before .before .before .before .before .before .before .before .before .before .before .before .before .before .before .before .before .before .before .before .before .before .before .before) .collect-locals .ensures))) .0, (c .before .before .before .before .before .before .before .before .before .before .before .before .before .before .before .before .before .before .before .before .before .before .before .before .before .before .before .before .before .before .before) .collect-locals .kept .1 .1 .1 .1 .0))) _ _ _ _ (done-left _ _ _ _ _ _ _ _ _ _ _ ((c .before .before .before .before) .body .given .1) ((body-emits-at _ _ _ _ _ _ _ _ _ _ _ _ _ _ ((c .before .before .before .before .before .before .before .before .before .before .before .before .before .before .before .before .before .before .before .before .before .before .before .before .before .before .before .before .before .before .before .before .before) .skip-params .ensures ∙ ap (λ (x : ℕ). paramsAt (s .args .tree .now) x .end) ((c .before .before .before .before .before .before .before .before .before .before .before .before .before .before .before .before .before .before .before .before .before .before .before .before .before .before .before .before .before .before .before .before .before .before .before) .name-end .ensures)) ((c .before .before .before .before .before .before .before .before .before .before .before .before) .emit-body .ensures))))))  -- end-function-requires
     (λ c. (c .before .before .before .before .before .before .before .before .before .before .before .before .before .before .before .before .before) .emit-body .kept .1 .1 .1 .1 .1 .0)  -- same-length-7
     (λ c. (c .before .before .before .before) .end-function .kept .1 .1 .0 ∙ (c .before .before .before .before .before .before .before .before .before .before .before .before .before .before .before .before .before) .emit-body .kept .1 .1 .1 .1 .1 .1 .0)  -- same-length-8
     (λ c. (c .before .before .before .before) .end-function .kept .1 .1 .1 .0 ∙ (c .before .before .before .before .before .before .before .before .before .before .before .before .before .before .before .before .before) .emit-body .kept .1 .1 .1 .1 .1 .1 .1 .0 ∙ (c .before .before .before .before .before .before .before .before .before .before .before .before .before .before .before .before .before .before .before .before .before .before .before .before .before .before .before .before) .begin-named .kept .1 .1 .1 .1 .1 .1 .0)  -- same-length-9
-    (λ c. let s = (c .before .before .before .before .before .before .before .before .before .before .before .before .before .before .before .before .before .before .before .before .before .before .before .before .before .before .before .before .before .before .before .before .before .before .before .before .before .before .before .before .before .before .before .before .before) in compiled _ _ _ _ _ _ (s .pre .1 .0 .sound) _ _ _ (paramsAt (s .args .tree .now) (nameEnd (s .args .tree .now) (s .args .at)) .value) (localsAt (s .args .depth) (s .args .tree .now) (s .args .at)) ((c .before .before .before .before .before .before .before .before .before .before .before .before .before .before .before .before .before .before .before .before .before .before .before .before .before .before .before .before .before .before .before .before .before .before .before .before .before .before .before) .u16-at .ensures .0 ∙ ap (countAt (s .args .tree .now)) ((c .before .before .before .before .before .before .before .before .before .before .before .before .before .before .before .before .before .before .before .before .before .before .before .before .before .before .before .before .before .before .before .before .before .before .before .before .before .before .before .before) .name-end .ensures) ∙ sym (params-count (s .args .tree .now) (nameEnd (s .args .tree .now) (s .args .at)))) (names-length _ _ _ _ (omega (arith, (collected-count _ _ _ _ _ ((c .before .before .before .before .before .before .before .before .before .before .before .before .before .before .before .before .before .before .before .before .before .before .before .before .before .before .before .before .before .before .before .before .before) .collected .given .1) (collected-at _ _ _ _ _ _ _ ((c .before .before .before .before .before .before .before .before .before .before .before .before .before .before .before .before .before .before .before .before .before .before .before .before .before .before .before .before .before .before .before .before .before .before .before .before .before .before .before .before) .name-end .ensures) ((c .before .before .before .before .before .before .before .before .before .before .before .before .before .before .before .before .before .before .before .before .before .before .before .before .before .before .before .before .before .before .before .before .before .before .before .before .before .before) .skip-params .ensures ∙ ap (λ (x : ℕ). paramsAt (s .args .tree .now) x .end) ((c .before .before .before .before .before .before .before .before .before .before .before .before .before .before .before .before .before .before .before .before .before .before .before .before .before .before .before .before .before .before .before .before .before .before .before .before .before .before .before .before) .name-end .ensures)) ((c .before .before .before .before .before .before .before .before .before .before .before .before .before .before .before .before .before .before .before .before .before .before .before .before .before .before .before .before .before .before .before .before .before .before .before .before) .collect-locals .ensures))) .0, (c .before .before .before .before .before .before .before .before .before .before .before .before .before .before .before .before .before .before .before .before .before .before .before .before .before .before .before .before .before .before .before .before .before .before .before .before) .collect-locals .kept .1 .1 .1 .1 .0)) ((collected-count _ _ _ _ _ ((c .before .before .before .before .before .before .before .before .before .before .before .before .before .before .before .before .before .before .before .before .before .before .before .before .before .before .before .before .before .before .before .before .before) .collected .given .1) (collected-at _ _ _ _ _ _ _ ((c .before .before .before .before .before .before .before .before .before .before .before .before .before .before .before .before .before .before .before .before .before .before .before .before .before .before .before .before .before .before .before .before .before .before .before .before .before .before .before .before) .name-end .ensures) ((c .before .before .before .before .before .before .before .before .before .before .before .before .before .before .before .before .before .before .before .before .before .before .before .before .before .before .before .before .before .before .before .before .before .before .before .before .before .before) .skip-params .ensures ∙ ap (λ (x : ℕ). paramsAt (s .args .tree .now) x .end) ((c .before .before .before .before .before .before .before .before .before .before .before .before .before .before .before .before .before .before .before .before .before .before .before .before .before .before .before .before .before .before .before .before .before .before .before .before .before .before .before .before) .name-end .ensures)) ((c .before .before .before .before .before .before .before .before .before .before .before .before .before .before .before .before .before .before .before .before .before .before .before .before .before .before .before .before .before .before .before .before .before .before .before .before) .collect-locals .ensures))) .1)) (defBlockAt (s .args .depth) (s .args .tree .now) (s .args .at) .value) (endOf (s .args .init)) _ _ _ (begins-at _ _ _ _ _ _ _ _ _ _ _ ((c .before .before .before .before .before .before .before .before .before .before .before .before .before .before .before .before .before .before .before .before .before .before .before .before) .begun .given .1) ((c .before .before .before .before .before .before .before .before .before .before .before .before .before .before .before .before .before .before .before .before .before .before .before .before .before .before .before .before) .begin-named .ensures)) _ (part-names _ _ _ _ ((collected-count _ _ _ _ _ ((c .before .before .before .before .before .before .before .before .before .before .before .before .before .before .before .before .before .before .before .before .before .before .before .before .before .before .before .before .before .before .before .before .before) .collected .given .1) (collected-at _ _ _ _ _ _ _ ((c .before .before .before .before .before .before .before .before .before .before .before .before .before .before .before .before .before .before .before .before .before .before .before .before .before .before .before .before .before .before .before .before .before .before .before .before .before .before .before .before) .name-end .ensures) ((c .before .before .before .before .before .before .before .before .before .before .before .before .before .before .before .before .before .before .before .before .before .before .before .before .before .before .before .before .before .before .before .before .before .before .before .before .before .before) .skip-params .ensures ∙ ap (λ (x : ℕ). paramsAt (s .args .tree .now) x .end) ((c .before .before .before .before .before .before .before .before .before .before .before .before .before .before .before .before .before .before .before .before .before .before .before .before .before .before .before .before .before .before .before .before .before .before .before .before .before .before .before .before) .name-end .ensures)) ((c .before .before .before .before .before .before .before .before .before .before .before .before .before .before .before .before .before .before .before .before .before .before .before .before .before .before .before .before .before .before .before .before .before .before .before .before) .collect-locals .ensures))) .1)) _ _ _ _ (done-left _ _ _ _ _ _ _ _ _ _ _ ((c .before .before .before .before .before .before .before .before .before) .body .given .1) ((body-emits-at _ _ _ _ _ _ _ _ _ _ _ _ _ _ ((c .before .before .before .before .before .before .before .before .before .before .before .before .before .before .before .before .before .before .before .before .before .before .before .before .before .before .before .before .before .before .before .before .before .before .before .before .before .before) .skip-params .ensures ∙ ap (λ (x : ℕ). paramsAt (s .args .tree .now) x .end) ((c .before .before .before .before .before .before .before .before .before .before .before .before .before .before .before .before .before .before .before .before .before .before .before .before .before .before .before .before .before .before .before .before .before .before .before .before .before .before .before .before) .name-end .ensures)) ((c .before .before .before .before .before .before .before .before .before .before .before .before .before .before .before .before .before) .emit-body .ensures)))) _ _ _ ((c .before .before .before .before) .end-function .ensures) _ _ ((emits-done _ _ _ _ _ _ _ _ _ _ _ ((c .before .before .before .before .before .before .before .before .before) .body .given .1) ((body-emits-at _ _ _ _ _ _ _ _ _ _ _ _ _ _ ((c .before .before .before .before .before .before .before .before .before .before .before .before .before .before .before .before .before .before .before .before .before .before .before .before .before .before .before .before .before .before .before .before .before .before .before .before .before .before) .skip-params .ensures ∙ ap (λ (x : ℕ). paramsAt (s .args .tree .now) x .end) ((c .before .before .before .before .before .before .before .before .before .before .before .before .before .before .before .before .before .before .before .before .before .before .before .before .before .before .before .before .before .before .before .before .before .before .before .before .before .before .before .before) .name-end .ensures)) ((c .before .before .before .before .before .before .before .before .before .before .before .before .before .before .before .before .before) .emit-body .ensures)))) .0))  -- returns-4
+    (λ c. let s = (c .before .before .before .before .before .before .before .before .before .before .before .before .before .before .before .before .before .before .before .before .before .before .before .before .before .before .before .before .before .before .before .before .before .before .before .before .before .before .before .before .before .before .before .before .before) in compiled _ _ _ _ _ _ (s .pre .1 .0 .sound) _ _ _ (paramsAt (s .args .tree .now) (nameEnd (s .args .tree .now) (s .args .at)) .value) (localsAt (s .args .depth) (s .args .tree .now) (s .args .at)) ((c .before .before .before .before .before .before .before .before .before .before .before .before .before .before .before .before .before .before .before .before .before .before .before .before .before .before .before .before .before .before .before .before .before .before .before .before .before .before .before) .u16-at .ensures .0 ∙ ap (countAt (s .args .tree .now)) ((c .before .before .before .before .before .before .before .before .before .before .before .before .before .before .before .before .before .before .before .before .before .before .before .before .before .before .before .before .before .before .before .before .before .before .before .before .before .before .before .before) .name-end .ensures) ∙ sym (params-count (s .args .tree .now) (nameEnd (s .args .tree .now) (s .args .at)))) (names-length _ _ _ _ (omega (arith, (collected-count _ _ _ _ _ ((c .before .before .before .before .before .before .before .before .before .before .before .before .before .before .before .before .before .before .before .before .before .before .before .before .before .before .before .before .before .before .before .before .before) .collected .given .1) (collected-at _ _ _ _ _ _ _ ((c .before .before .before .before .before .before .before .before .before .before .before .before .before .before .before .before .before .before .before .before .before .before .before .before .before .before .before .before .before .before .before .before .before .before .before .before .before .before .before .before) .name-end .ensures) ((c .before .before .before .before .before .before .before .before .before .before .before .before .before .before .before .before .before .before .before .before .before .before .before .before .before .before .before .before .before .before .before .before .before .before .before .before .before .before) .skip-params .ensures ∙ ap (λ (x : ℕ). paramsAt (s .args .tree .now) x .end) ((c .before .before .before .before .before .before .before .before .before .before .before .before .before .before .before .before .before .before .before .before .before .before .before .before .before .before .before .before .before .before .before .before .before .before .before .before .before .before .before .before) .name-end .ensures)) ((c .before .before .before .before .before .before .before .before .before .before .before .before .before .before .before .before .before .before .before .before .before .before .before .before .before .before .before .before .before .before .before .before .before .before .before .before) .collect-locals .ensures))) .0, (c .before .before .before .before .before .before .before .before .before .before .before .before .before .before .before .before .before .before .before .before .before .before .before .before .before .before .before .before .before .before .before .before .before .before .before .before) .collect-locals .kept .1 .1 .1 .1 .0)) ((collected-count _ _ _ _ _ ((c .before .before .before .before .before .before .before .before .before .before .before .before .before .before .before .before .before .before .before .before .before .before .before .before .before .before .before .before .before .before .before .before .before) .collected .given .1) (collected-at _ _ _ _ _ _ _ ((c .before .before .before .before .before .before .before .before .before .before .before .before .before .before .before .before .before .before .before .before .before .before .before .before .before .before .before .before .before .before .before .before .before .before .before .before .before .before .before .before) .name-end .ensures) ((c .before .before .before .before .before .before .before .before .before .before .before .before .before .before .before .before .before .before .before .before .before .before .before .before .before .before .before .before .before .before .before .before .before .before .before .before .before .before) .skip-params .ensures ∙ ap (λ (x : ℕ). paramsAt (s .args .tree .now) x .end) ((c .before .before .before .before .before .before .before .before .before .before .before .before .before .before .before .before .before .before .before .before .before .before .before .before .before .before .before .before .before .before .before .before .before .before .before .before .before .before .before .before) .name-end .ensures)) ((c .before .before .before .before .before .before .before .before .before .before .before .before .before .before .before .before .before .before .before .before .before .before .before .before .before .before .before .before .before .before .before .before .before .before .before .before) .collect-locals .ensures))) .1)) (defBlockAt (s .args .depth) (s .args .tree .now) (s .args .at) .value) (endOf (s .args .init)) _ _ _ (begins-at _ _ _ _ _ _ _ _ _ _ _ ((c .before .before .before .before .before .before .before .before .before .before .before .before .before .before .before .before .before .before .before .before .before .before .before .before) .begun .given .1) ((c .before .before .before .before .before .before .before .before .before .before .before .before .before .before .before .before .before .before .before .before .before .before .before .before .before .before .before .before) .begin-named .ensures)) _ (part-names _ _ _ _ ((collected-count _ _ _ _ _ ((c .before .before .before .before .before .before .before .before .before .before .before .before .before .before .before .before .before .before .before .before .before .before .before .before .before .before .before .before .before .before .before .before .before) .collected .given .1) (collected-at _ _ _ _ _ _ _ ((c .before .before .before .before .before .before .before .before .before .before .before .before .before .before .before .before .before .before .before .before .before .before .before .before .before .before .before .before .before .before .before .before .before .before .before .before .before .before .before .before) .name-end .ensures) ((c .before .before .before .before .before .before .before .before .before .before .before .before .before .before .before .before .before .before .before .before .before .before .before .before .before .before .before .before .before .before .before .before .before .before .before .before .before .before) .skip-params .ensures ∙ ap (λ (x : ℕ). paramsAt (s .args .tree .now) x .end) ((c .before .before .before .before .before .before .before .before .before .before .before .before .before .before .before .before .before .before .before .before .before .before .before .before .before .before .before .before .before .before .before .before .before .before .before .before .before .before .before .before) .name-end .ensures)) ((c .before .before .before .before .before .before .before .before .before .before .before .before .before .before .before .before .before .before .before .before .before .before .before .before .before .before .before .before .before .before .before .before .before .before .before .before) .collect-locals .ensures))) .1) (omega (arith, (collected-count _ _ _ _ _ ((c .before .before .before .before .before .before .before .before .before .before .before .before .before .before .before .before .before .before .before .before .before .before .before .before .before .before .before .before .before .before .before .before .before) .collected .given .1) (collected-at _ _ _ _ _ _ _ ((c .before .before .before .before .before .before .before .before .before .before .before .before .before .before .before .before .before .before .before .before .before .before .before .before .before .before .before .before .before .before .before .before .before .before .before .before .before .before .before .before) .name-end .ensures) ((c .before .before .before .before .before .before .before .before .before .before .before .before .before .before .before .before .before .before .before .before .before .before .before .before .before .before .before .before .before .before .before .before .before .before .before .before .before .before) .skip-params .ensures ∙ ap (λ (x : ℕ). paramsAt (s .args .tree .now) x .end) ((c .before .before .before .before .before .before .before .before .before .before .before .before .before .before .before .before .before .before .before .before .before .before .before .before .before .before .before .before .before .before .before .before .before .before .before .before .before .before .before .before) .name-end .ensures)) ((c .before .before .before .before .before .before .before .before .before .before .before .before .before .before .before .before .before .before .before .before .before .before .before .before .before .before .before .before .before .before .before .before .before .before .before .before) .collect-locals .ensures))) .0, (c .before .before .before .before .before .before .before .before .before .before .before .before .before .before .before .before .before .before .before .before .before .before .before .before .before .before .before .before .before .before .before .before .before .before .before .before) .collect-locals .kept .1 .1 .1 .1 .0))) _ _ _ _ (done-left _ _ _ _ _ _ _ _ _ _ _ ((c .before .before .before .before .before .before .before .before .before) .body .given .1) ((body-emits-at _ _ _ _ _ _ _ _ _ _ _ _ _ _ ((c .before .before .before .before .before .before .before .before .before .before .before .before .before .before .before .before .before .before .before .before .before .before .before .before .before .before .before .before .before .before .before .before .before .before .before .before .before .before) .skip-params .ensures ∙ ap (λ (x : ℕ). paramsAt (s .args .tree .now) x .end) ((c .before .before .before .before .before .before .before .before .before .before .before .before .before .before .before .before .before .before .before .before .before .before .before .before .before .before .before .before .before .before .before .before .before .before .before .before .before .before .before .before) .name-end .ensures)) ((c .before .before .before .before .before .before .before .before .before .before .before .before .before .before .before .before .before) .emit-body .ensures)))) _ _ _ ((c .before .before .before .before) .end-function .ensures) _ _ ((emits-done _ _ _ _ _ _ _ _ _ _ _ ((c .before .before .before .before .before .before .before .before .before) .body .given .1) ((body-emits-at _ _ _ _ _ _ _ _ _ _ _ _ _ _ ((c .before .before .before .before .before .before .before .before .before .before .before .before .before .before .before .before .before .before .before .before .before .before .before .before .before .before .before .before .before .before .before .before .before .before .before .before .before .before) .skip-params .ensures ∙ ap (λ (x : ℕ). paramsAt (s .args .tree .now) x .end) ((c .before .before .before .before .before .before .before .before .before .before .before .before .before .before .before .before .before .before .before .before .before .before .before .before .before .before .before .before .before .before .before .before .before .before .before .before .before .before .before .before) .name-end .ensures)) ((c .before .before .before .before .before .before .before .before .before .before .before .before .before .before .before .before .before) .emit-body .ensures)))) .0))  -- returns-4
 
 compile-method-ok : {M : Type 1} (t : ℕ) → compile-method-lts.Closed (is-init-reads.Asked, is-init-reads.Learnt, compile-function-below t, compile-function.Post) (compile-method-at t) compile-method.Post M
 compile-method-ok t = compile-method-lts.spec (is-init-reads.Asked, is-init-reads.Learnt, compile-function-below t, compile-function.Post) (compile-method-at t) compile-method.Post
@@ -304,8 +305,8 @@ compile-method-ok t = compile-method-lts.spec (is-init-reads.Asked, is-init-read
 
 abbrev emit-block-Inv-loop : emit-block-lts.InvT-loop
 emit-block-Inv-loop tree at depth slots made₀ code₀ tables₀ l left₀ p₀ k₀ made code tables left p k =
-    (length made ≡ length made₀) × (length code ≡ length code₀) × (length tables ≡ length tables₀) × StmtsLowerable depth left tree (namesAt tree slots) p × (stmtsAt depth left tree p .end ≡ blockAt depth tree at .end)
-    × Midway k tree made code tables k₀ l (stmtsCode depth left tree (namesAt tree slots) p) (emitAt (k₀ .base) (blockCode depth tree (namesAt tree slots) at) (stateOf tree made₀ code₀ tables₀ k₀))
+    (length made ≡ length made₀) × (length code ≡ length code₀) × (length tables ≡ length tables₀) × StmtsLowerable depth left tree (slotNames tree slots) p × (stmtsAt depth left tree p .end ≡ blockAt depth tree at .end)
+    × Midway k tree made code tables k₀ l (stmtsCode depth left tree (slotNames tree slots) p) (emitAt (k₀ .base) (blockCode depth tree (slotNames tree slots) at) (stateOf tree made₀ code₀ tables₀ k₀))
 
 abbrev emit-block-μ-loop : emit-block-lts.MeasureT-loop
 emit-block-μ-loop tree at depth slots made₀ code₀ tables₀ l left₀ p₀ k₀ made code tables left p k = left
@@ -380,7 +381,7 @@ emit-class-ok t = emit-class-lts.spec (begin-class-reads.Asked, begin-class-read
     (λ c κs. let s = (c .before .before .before .before .before .before .before .before .before .before .before .before .before .before) in counted-at _ _ _ (c .name-end .ensures) (s .pre .1 .1 .count))  -- u16-at-requires
     (λ c. let s = (c .before .before .before .before .before .before .before .before .before .before .before .before .before .before .before) in omega (arith, (c .before) .name-end .ensures, s .pre .1 .1 .count .bytes, s .pre .1 .0 .tree-short))  -- add-emit-methods
     (λ c. refl)  -- slice-aggregate-emit-methods
-    (λ c κs. let s = (c .before .before .before .before .before .before .before .before .before .before .before .before .before .before .before .before .before .before .before) in (omega (arith, s .pre .0), (ready-with (s .pre .1 .0) ((numbers-at _ _ _ _ _ _ _ _ _ _ _ ((c .before .before .before .before .before .before .before) .begun .given .1) ((c .before .before .before .before .before .before .before .before .before .before .before) .begin-class .ensures)) .1 .sound), methods-at _ _ _ _ _ _ ((c .before .before .before .before) .u16-at .ensures .0 ∙ ap (countAt (s .args .tree .now)) ((c .before .before .before .before .before) .name-end .ensures)) (ap (λ (x : ℕ). x + 2) ((c .before .before .before .before .before) .name-end .ensures)) (s .pre .1 .1 .methods), omega arith)))  -- emit-methods-requires
+    (λ c κs. let s = (c .before .before .before .before .before .before .before .before .before .before .before .before .before .before .before .before .before .before .before) in (omega (arith, s .pre .0), (sole-with (s .pre .1 .0) ((numbers-at _ _ _ _ _ _ _ _ _ _ _ ((c .before .before .before .before .before .before .before) .begun .given .1) ((c .before .before .before .before .before .before .before .before .before .before .before) .begin-class .ensures)) .1 .sound), methods-at _ _ _ _ _ _ ((c .before .before .before .before) .u16-at .ensures .0 ∙ ap (countAt (s .args .tree .now)) ((c .before .before .before .before .before) .name-end .ensures)) (ap (λ (x : ℕ). x + 2) ((c .before .before .before .before .before) .name-end .ensures)) (s .pre .1 .1 .methods), omega arith)))  -- emit-methods-requires
     (λ c. search needs)  -- enum-known-listed
     (λ c. search needs)  -- enum-told-2
     (λ c. (c .before .before .before .before .before .before .before .before .before) .emit-methods .kept .1 .1 .1 .1 .0)  -- same-length-4
@@ -396,8 +397,8 @@ emit-class-ok t = emit-class-lts.spec (begin-class-reads.Asked, begin-class-read
 
 abbrev emit-elifs-Inv-loop : emit-elifs-lts.InvT-loop
 emit-elifs-Inv-loop tree at depth n slots made₀ code₀ tables₀ l left₀ p₀ k₀ made code tables left p k =
-    (length made ≡ length made₀) × (length code ≡ length code₀) × (length tables ≡ length tables₀) × BranchesLowerable depth left tree (namesAt tree slots) p × (branchesAt depth left tree p .end ≡ branchesAt depth n tree at .end)
-    × Chained k tree made code tables k₀ l (namesAt tree slots) (branchesAt depth left tree p .value) (chainAt (k₀ .base) (namesAt tree slots) (branchesAt depth n tree at .value) (k₀ .open - 1) (stateOf tree made₀ code₀ tables₀ k₀))
+    (length made ≡ length made₀) × (length code ≡ length code₀) × (length tables ≡ length tables₀) × BranchesLowerable depth left tree (slotNames tree slots) p × (branchesAt depth left tree p .end ≡ branchesAt depth n tree at .end)
+    × Chained k tree made code tables k₀ l (slotNames tree slots) (branchesAt depth left tree p .value) (chainAt (k₀ .base) (slotNames tree slots) (branchesAt depth n tree at .value) (k₀ .open - 1) (stateOf tree made₀ code₀ tables₀ k₀))
 
 abbrev emit-elifs-μ-loop : emit-elifs-lts.MeasureT-loop
 emit-elifs-μ-loop tree at depth n slots made₀ code₀ tables₀ l left₀ p₀ k₀ made code tables left p k = left
@@ -424,7 +425,7 @@ emit-elifs-ok t = emit-elifs-lts.spec (emit-branch-below t, emit-branch.Post, se
     (λ c. let s = (c .before .before .before .before .before .before .before .before .before .before .before .before .before .before .before .before .before) in let j = (c .before .before .before .before .before .before .before .before .before .before .before) .loop in (c .before .before .before .before .before .before) .emit-else .kept .1 .1 .1 .1 .0 ∙ j .inv .0)  -- same-length-4
     (λ c. let s = (c .before .before .before .before .before .before .before .before .before .before .before .before .before .before .before .before .before) in let j = (c .before .before .before .before .before .before .before .before .before .before .before) .loop in (c .before .before .before .before .before .before) .emit-else .kept .1 .1 .1 .1 .1 .0 ∙ j .inv .1)  -- same-length-5
     (λ c. let s = (c .before .before .before .before .before .before .before .before .before .before .before .before .before .before .before .before .before) in let j = (c .before .before .before .before .before .before .before .before .before .before .before) .loop in (c .before .before .before .before .before .before) .emit-else .kept .1 .1 .1 .1 .1 .1 .0 ∙ j .inv .2)  -- same-length-6
-    (λ c. let s = (c .before .before .before .before .before .before .before .before .before .before .before .before .before .before .before .before .before) in let j = (c .before .before .before .before .before .before .before .before .before .before .before) .loop in let z = elifs-zero (s .args .depth) (s .args .tree .now) (namesAt (s .args .tree .now) (s .args .slots .now)) _ _ ((c .before .before .before .before .before .before .before .before .before .before) .loop-test .left) in chained-last _ _ _ _ _ _ _ _ _ _ (j .inv .5) _ _ _ _ _ _ _ (λ i. z i .value) ((λ i. z i .end) ∙ j .inv .4) ((c .before .before .before .before .before .before) .emit-else .ensures))  -- returns-2
+    (λ c. let s = (c .before .before .before .before .before .before .before .before .before .before .before .before .before .before .before .before .before) in let j = (c .before .before .before .before .before .before .before .before .before .before .before) .loop in let z = elifs-zero (s .args .depth) (s .args .tree .now) (slotNames (s .args .tree .now) (s .args .slots .now)) _ _ ((c .before .before .before .before .before .before .before .before .before .before) .loop-test .left) in chained-last _ _ _ _ _ _ _ _ _ _ (j .inv .5) _ _ _ _ _ _ _ (λ i. z i .value) ((λ i. z i .end) ∙ j .inv .4) ((c .before .before .before .before .before .before) .emit-else .ensures))  -- returns-2
 
 emit-else-ok : {M : Type 1} (t : ℕ) → emit-else-lts.Closed (set-jump-reads.Asked, set-jump-reads.Learnt, emit-block-below t, emit-block.Post) (emit-else-at t) emit-else.Post M
 emit-else-ok t = emit-else-lts.spec (set-jump-reads.Asked, set-jump-reads.Learnt, emit-block-below t, emit-block.Post) (emit-else-at t) emit-else.Post
@@ -436,7 +437,7 @@ emit-else-ok t = emit-else-lts.spec (set-jump-reads.Asked, set-jump-reads.Learnt
     (λ c. search needs)  -- same-length
     (λ c. search needs)  -- same-length-2
     (λ c. search needs)  -- same-length-3
-    (λ c. let s = (c .before .before .before .before .before .before .before .before .before .before .before .before .before) in let n = none-is _ _ _ _ (s .pre .1 .1) ((c .before .before .before .before .before .before) .if1 .taken) in none-emits _ _ _ _ _ _ (namesAt (s .args .tree .now) (s .args .slots .now)) (s .pre .1 .0 .sound) (s .pre .1 .2) _ _ (λ i. n i .value) (sym (λ i. n i .end)) _ ((c .before .before) .set-jump .ensures))  -- returns
+    (λ c. let s = (c .before .before .before .before .before .before .before .before .before .before .before .before .before) in let n = none-is _ _ _ _ (s .pre .1 .1) ((c .before .before .before .before .before .before) .if1 .taken) in none-emits _ _ _ _ _ _ (slotNames (s .args .tree .now) (s .args .slots .now)) (s .pre .1 .0 .sound) (s .pre .1 .2) _ _ (λ i. n i .value) (sym (λ i. n i .end)) _ ((c .before .before) .set-jump .ensures))  -- returns
     (λ c. let s = (c .before .before .before .before .before .before .before) in let i = else-in _ _ _ _ (s .pre .1 .1) in omega (arith, i, s .pre .1 .0 .tree-short))  -- add-emit-block
     (λ c κs. let s = (c .before .before .before .before .before .before .before .before .before .before) in (omega (arith, s .pre .0), (s .pre .1 .0, (else-parts _ _ _ _ (s .pre .1 .1) (else-one _ _ _ _ (s .pre .1 .1) ((c .before .before .before) .if1 .left))) .0)))  -- emit-block-requires
     (λ c. search needs)  -- enum-known-block
@@ -444,15 +445,15 @@ emit-else-ok t = emit-else-lts.spec (set-jump-reads.Asked, set-jump-reads.Learnt
     (λ c. search needs)  -- same-length-4
     (λ c. search needs)  -- same-length-5
     (λ c. search needs)  -- same-length-6
-    (λ c. let s = (c .before .before .before .before .before .before .before .before .before .before .before .before .before .before .before .before .before .before .before) in let n = (else-parts _ _ _ _ (s .pre .1 .1) (else-one _ _ _ _ (s .pre .1 .1) ((c .before .before .before .before .before .before .before .before .before .before .before .before) .if1 .left))) .1 in full-by _ _ _ _ _ _ _ _ _ _ _ _ _ _ _ (c .enum-told .given .1) ((c .before .before .before .before .before .before .before .before) .emit-block .ensures) (else-within _ _ _ _ _ _ (namesAt (s .args .tree .now) (s .args .slots .now)) (s .pre .1 .0 .sound) (s .pre .1 .2) _ (branchesAt (s .args .depth) 0 (s .args .tree .now) (s .args .at)) (else-value (s .args .depth) (s .args .tree .now) (branchesAt (s .args .depth) 0 (s .args .tree .now) (s .args .at)) (s .args .at + 1) n)))  -- returns-2
-    (λ c. let s = (c .before .before .before .before .before .before .before .before .before .before .before .before .before .before .before .before .before .before .before .before .before) in let n = (else-parts _ _ _ _ (s .pre .1 .1) (else-one _ _ _ _ (s .pre .1 .1) ((c .before .before .before .before .before .before .before .before .before .before .before .before .before .before) .if1 .left))) .1 in else-above _ _ _ _ _ _ (namesAt (s .args .tree .now) (s .args .slots .now)) (s .pre .1 .0 .sound) (s .pre .1 .2) _ (branchesAt (s .args .depth) 0 (s .args .tree .now) (s .args .at)) (else-value (s .args .depth) (s .args .tree .now) (branchesAt (s .args .depth) 0 (s .args .tree .now) (s .args .at)) (s .args .at + 1) n) _ _ _ _ (done-left _ _ _ _ _ _ _ _ _ _ _ ((c .before .before) .block .given .1) ((c .before .before .before .before .before .before .before .before .before .before) .emit-block .ensures)))  -- sub-over
+    (λ c. let s = (c .before .before .before .before .before .before .before .before .before .before .before .before .before .before .before .before .before .before .before) in let n = (else-parts _ _ _ _ (s .pre .1 .1) (else-one _ _ _ _ (s .pre .1 .1) ((c .before .before .before .before .before .before .before .before .before .before .before .before) .if1 .left))) .1 in full-by _ _ _ _ _ _ _ _ _ _ _ _ _ _ _ (c .enum-told .given .1) ((c .before .before .before .before .before .before .before .before) .emit-block .ensures) (else-within _ _ _ _ _ _ (slotNames (s .args .tree .now) (s .args .slots .now)) (s .pre .1 .0 .sound) (s .pre .1 .2) _ (branchesAt (s .args .depth) 0 (s .args .tree .now) (s .args .at)) (else-value (s .args .depth) (s .args .tree .now) (branchesAt (s .args .depth) 0 (s .args .tree .now) (s .args .at)) (s .args .at + 1) n)))  -- returns-2
+    (λ c. let s = (c .before .before .before .before .before .before .before .before .before .before .before .before .before .before .before .before .before .before .before .before .before) in let n = (else-parts _ _ _ _ (s .pre .1 .1) (else-one _ _ _ _ (s .pre .1 .1) ((c .before .before .before .before .before .before .before .before .before .before .before .before .before .before) .if1 .left))) .1 in else-above _ _ _ _ _ _ (slotNames (s .args .tree .now) (s .args .slots .now)) (s .pre .1 .0 .sound) (s .pre .1 .2) _ (branchesAt (s .args .depth) 0 (s .args .tree .now) (s .args .at)) (else-value (s .args .depth) (s .args .tree .now) (branchesAt (s .args .depth) 0 (s .args .tree .now) (s .args .at)) (s .args .at + 1) n) _ _ _ _ (done-left _ _ _ _ _ _ _ _ _ _ _ ((c .before .before) .block .given .1) ((c .before .before .before .before .before .before .before .before .before .before) .emit-block .ensures)))  -- sub-over
     (λ c. let s = (c .before .before .before .before .before .before .before .before .before .before .before .before .before .before .before .before .before .before .before .before .before .before .before .before) in omega (arith, s .pre .1 .0 .sound .words, s .pre .1 .0 .sound .limited .instructions))  -- cast-set-jump-2
     (λ c. let s = (c .before .before .before .before .before .before .before .before .before .before .before .before .before .before .before .before .before .before .before .before .before .before .before .before) in omega (arith, s .pre .1 .2))  -- sub-set-jump-2
-    (λ c κs. let s = (c .before .before .before .before .before .before .before .before .before .before .before .before .before .before .before .before .before .before .before .before .before .before .before .before) in let n = (else-parts _ _ _ _ (s .pre .1 .1) (else-one _ _ _ _ (s .pre .1 .1) ((c .before .before .before .before .before .before .before .before .before .before .before .before .before .before .before .before .before) .if1 .left))) .1 in let g = else-above _ _ _ _ _ _ (namesAt (s .args .tree .now) (s .args .slots .now)) (s .pre .1 .0 .sound) (s .pre .1 .2) _ (branchesAt (s .args .depth) 0 (s .args .tree .now) (s .args .at)) (else-value (s .args .depth) (s .args .tree .now) (branchesAt (s .args .depth) 0 (s .args .tree .now) (s .args .at)) (s .args .at + 1) n) _ _ _ _ (done-left _ _ _ _ _ _ _ _ _ _ _ ((c .before .before .before .before .before) .block .given .1) ((c .before .before .before .before .before .before .before .before .before .before .before .before .before) .emit-block .ensures)) in ((done-left _ _ _ _ _ _ _ _ _ _ _ ((c .before .before .before .before .before) .block .given .1) ((c .before .before .before .before .before .before .before .before .before .before .before .before .before) .emit-block .ensures)) .sound, omega (arith, g, s .pre .1 .2), omega arith, omega arith, omega (arith, (done-left _ _ _ _ _ _ _ _ _ _ _ ((c .before .before .before .before .before) .block .given .1) ((c .before .before .before .before .before .before .before .before .before .before .before .before .before) .emit-block .ensures)) .sound .words, (done-left _ _ _ _ _ _ _ _ _ _ _ ((c .before .before .before .before .before) .block .given .1) ((c .before .before .before .before .before .before .before .before .before .before .before .before .before) .emit-block .ensures)) .sound .limited .instructions)))  -- set-jump-requires-2
+    (λ c κs. let s = (c .before .before .before .before .before .before .before .before .before .before .before .before .before .before .before .before .before .before .before .before .before .before .before .before) in let n = (else-parts _ _ _ _ (s .pre .1 .1) (else-one _ _ _ _ (s .pre .1 .1) ((c .before .before .before .before .before .before .before .before .before .before .before .before .before .before .before .before .before) .if1 .left))) .1 in let g = else-above _ _ _ _ _ _ (slotNames (s .args .tree .now) (s .args .slots .now)) (s .pre .1 .0 .sound) (s .pre .1 .2) _ (branchesAt (s .args .depth) 0 (s .args .tree .now) (s .args .at)) (else-value (s .args .depth) (s .args .tree .now) (branchesAt (s .args .depth) 0 (s .args .tree .now) (s .args .at)) (s .args .at + 1) n) _ _ _ _ (done-left _ _ _ _ _ _ _ _ _ _ _ ((c .before .before .before .before .before) .block .given .1) ((c .before .before .before .before .before .before .before .before .before .before .before .before .before) .emit-block .ensures)) in ((done-left _ _ _ _ _ _ _ _ _ _ _ ((c .before .before .before .before .before) .block .given .1) ((c .before .before .before .before .before .before .before .before .before .before .before .before .before) .emit-block .ensures)) .sound, omega (arith, g, s .pre .1 .2), omega arith, omega arith, omega (arith, (done-left _ _ _ _ _ _ _ _ _ _ _ ((c .before .before .before .before .before) .block .given .1) ((c .before .before .before .before .before .before .before .before .before .before .before .before .before) .emit-block .ensures)) .sound .words, (done-left _ _ _ _ _ _ _ _ _ _ _ ((c .before .before .before .before .before) .block .given .1) ((c .before .before .before .before .before .before .before .before .before .before .before .before .before) .emit-block .ensures)) .sound .limited .instructions)))  -- set-jump-requires-2
     (λ c. search needs)  -- same-length-7
     (λ c. search needs)  -- same-length-8
     (λ c. search needs)  -- same-length-9
-    (λ c. let s = (c .before .before .before .before .before .before .before .before .before .before .before .before .before .before .before .before .before .before .before .before .before .before .before .before .before .before .before) in let n = (else-parts _ _ _ _ (s .pre .1 .1) (else-one _ _ _ _ (s .pre .1 .1) ((c .before .before .before .before .before .before .before .before .before .before .before .before .before .before .before .before .before .before .before .before) .if1 .left))) .1 in else-emits _ _ _ _ _ _ (namesAt (s .args .tree .now) (s .args .slots .now)) (s .pre .1 .0 .sound) (s .pre .1 .2) _ (branchesAt (s .args .depth) 0 (s .args .tree .now) (s .args .at)) (else-value (s .args .depth) (s .args .tree .now) (branchesAt (s .args .depth) 0 (s .args .tree .now) (s .args .at)) (s .args .at + 1) n) _ _ _ _ (done-left _ _ _ _ _ _ _ _ _ _ _ ((c .before .before .before .before .before .before .before .before) .block .given .1) ((c .before .before .before .before .before .before .before .before .before .before .before .before .before .before .before .before) .emit-block .ensures)) _ _ ((emits-done _ _ _ _ _ _ _ _ _ _ _ ((c .before .before .before .before .before .before .before .before) .block .given .1) ((c .before .before .before .before .before .before .before .before .before .before .before .before .before .before .before .before) .emit-block .ensures)) .0 ∙ sym (else-ends (s .args .depth) (s .args .tree .now) (branchesAt (s .args .depth) 0 (s .args .tree .now) (s .args .at)) (s .args .at + 1) n)) ((c .before .before) .set-jump2 .ensures))  -- returns-3
+    (λ c. let s = (c .before .before .before .before .before .before .before .before .before .before .before .before .before .before .before .before .before .before .before .before .before .before .before .before .before .before .before) in let n = (else-parts _ _ _ _ (s .pre .1 .1) (else-one _ _ _ _ (s .pre .1 .1) ((c .before .before .before .before .before .before .before .before .before .before .before .before .before .before .before .before .before .before .before .before) .if1 .left))) .1 in else-emits _ _ _ _ _ _ (slotNames (s .args .tree .now) (s .args .slots .now)) (s .pre .1 .0 .sound) (s .pre .1 .2) _ (branchesAt (s .args .depth) 0 (s .args .tree .now) (s .args .at)) (else-value (s .args .depth) (s .args .tree .now) (branchesAt (s .args .depth) 0 (s .args .tree .now) (s .args .at)) (s .args .at + 1) n) _ _ _ _ (done-left _ _ _ _ _ _ _ _ _ _ _ ((c .before .before .before .before .before .before .before .before) .block .given .1) ((c .before .before .before .before .before .before .before .before .before .before .before .before .before .before .before .before) .emit-block .ensures)) _ _ ((emits-done _ _ _ _ _ _ _ _ _ _ _ ((c .before .before .before .before .before .before .before .before) .block .given .1) ((c .before .before .before .before .before .before .before .before .before .before .before .before .before .before .before .before) .emit-block .ensures)) .0 ∙ sym (else-ends (s .args .depth) (s .args .tree .now) (branchesAt (s .args .depth) 0 (s .args .tree .now) (s .args .at)) (s .args .at + 1) n)) ((c .before .before) .set-jump2 .ensures))  -- returns-3
 
 emit-for-ok : {M : Type 1} (t : ℕ) → emit-for-lts.Closed (name-end-reads.Asked, name-end-reads.Learnt, emit-iterable-reads.Asked, emit-iterable-reads.Learnt, store-iterator-reads.Asked, store-iterator-reads.Learnt, emit-rounds-below t, emit-rounds.Post) (emit-for-at t) emit-for.Post M
 emit-for-ok t = emit-for-lts.spec (name-end-reads.Asked, name-end-reads.Learnt, emit-iterable-reads.Asked, emit-iterable-reads.Learnt, store-iterator-reads.Asked, store-iterator-reads.Learnt, emit-rounds-below t, emit-rounds.Post) (emit-for-at t) emit-for.Post
@@ -470,12 +471,12 @@ emit-for-ok t = emit-for-lts.spec (name-end-reads.Asked, name-end-reads.Learnt, 
     (λ c. search needs)  -- same-length-4
     (λ c. search needs)  -- same-length-5
     (λ c. search needs)  -- same-length-6
-    (λ c. let s = (c .before .before .before .before .before .before .before .before .before .before .before .before .before .before .before .before .before .before .before .before .before .before .before .before .before .before .before .before .before .before .before) in full-emits _ _ _ _ _ _ _ _ (λ w. numbers-over _ _ _ _ _ _ _ _ _ (c .enum-told2 .given .1) ((c .before .before .before .before .before .before .before .before) .store-iterator .ensures) (for-within _ _ _ _ _ _ _ _ _ _ (s .pre .1 .0 .sound) (namesAt (s .args .tree .now) (s .args .slots .now)) (nameAt (s .args .tree .now) (s .args .at)) _ (bodyAt (s .args .depth) (s .args .tree .now) (nameEnd (s .args .tree .now) (s .args .at)) .value) (done-left _ _ _ _ _ _ _ _ _ _ _ ((c .before .before .before .before .before .before .before .before .before .before .before .before .before) .iterable .given .1) ((iterable-emits-at _ _ _ _ _ _ _ _ _ _ _ _ _ ((c .before .before .before .before .before .before .before .before .before .before .before .before .before .before .before .before .before .before .before .before .before .before .before .before .before) .name-end .ensures) ((c .before .before .before .before .before .before .before .before .before .before .before .before .before .before .before .before .before .before .before .before .before) .emit-iterable .ensures)))) w)))  -- returns-2
-    (λ c κs. let s = (c .before .before .before .before .before .before .before .before .before .before .before .before .before .before .before .before .before .before .before .before .before .before .before .before .before .before .before .before .before .before .before .before .before .before .before) in let n = (numbers-at _ _ _ _ _ _ _ _ _ _ _ ((c .before .before .before .before) .stored .given .1) ((c .before .before .before .before .before .before .before .before .before .before .before .before) .store-iterator .ensures)) in (omega (arith, s .pre .0), (ready-with (s .pre .1 .0) (n .1 .sound), s .pre .1 .1 .name, block-at _ _ _ _ _ ((emits-done _ _ _ _ _ _ _ _ _ _ _ ((c .before .before .before .before .before .before .before .before .before .before .before .before .before .before .before .before .before) .iterable .given .1) ((iterable-emits-at _ _ _ _ _ _ _ _ _ _ _ _ _ ((c .before .before .before .before .before .before .before .before .before .before .before .before .before .before .before .before .before .before .before .before .before .before .before .before .before .before .before .before .before) .name-end .ensures) ((c .before .before .before .before .before .before .before .before .before .before .before .before .before .before .before .before .before .before .before .before .before .before .before .before .before) .emit-iterable .ensures)))) .0) (s .pre .1 .1 .loop .block), for-small _ _ _ _ _ _ _ _ _ _ (s .pre .1 .0 .sound) (namesAt (s .args .tree .now) (s .args .slots .now)) (nameAt (s .args .tree .now) (s .args .at)) _ (bodyAt (s .args .depth) (s .args .tree .now) (nameEnd (s .args .tree .now) (s .args .at)) .value) (done-left _ _ _ _ _ _ _ _ _ _ _ ((c .before .before .before .before .before .before .before .before .before .before .before .before .before .before .before .before .before) .iterable .given .1) ((iterable-emits-at _ _ _ _ _ _ _ _ _ _ _ _ _ ((c .before .before .before .before .before .before .before .before .before .before .before .before .before .before .before .before .before .before .before .before .before .before .before .before .before .before .before .before .before) .name-end .ensures) ((c .before .before .before .before .before .before .before .before .before .before .before .before .before .before .before .before .before .before .before .before .before .before .before .before .before) .emit-iterable .ensures)))) _ _ _ _ _ (n .0) (n .1))))  -- emit-rounds-requires
+    (λ c. let s = (c .before .before .before .before .before .before .before .before .before .before .before .before .before .before .before .before .before .before .before .before .before .before .before .before .before .before .before .before .before .before .before) in full-emits _ _ _ _ _ _ _ _ (λ w. numbers-over _ _ _ _ _ _ _ _ _ (c .enum-told2 .given .1) ((c .before .before .before .before .before .before .before .before) .store-iterator .ensures) (for-within _ _ _ _ _ _ _ _ _ _ (s .pre .1 .0 .sound) (slotNames (s .args .tree .now) (s .args .slots .now)) (nameAt (s .args .tree .now) (s .args .at)) _ (bodyAt (s .args .depth) (s .args .tree .now) (nameEnd (s .args .tree .now) (s .args .at)) .value) (done-left _ _ _ _ _ _ _ _ _ _ _ ((c .before .before .before .before .before .before .before .before .before .before .before .before .before) .iterable .given .1) ((iterable-emits-at _ _ _ _ _ _ _ _ _ _ _ _ _ ((c .before .before .before .before .before .before .before .before .before .before .before .before .before .before .before .before .before .before .before .before .before .before .before .before .before) .name-end .ensures) ((c .before .before .before .before .before .before .before .before .before .before .before .before .before .before .before .before .before .before .before .before .before) .emit-iterable .ensures)))) w)))  -- returns-2
+    (λ c κs. let s = (c .before .before .before .before .before .before .before .before .before .before .before .before .before .before .before .before .before .before .before .before .before .before .before .before .before .before .before .before .before .before .before .before .before .before .before) in let n = (numbers-at _ _ _ _ _ _ _ _ _ _ _ ((c .before .before .before .before) .stored .given .1) ((c .before .before .before .before .before .before .before .before .before .before .before .before) .store-iterator .ensures)) in (omega (arith, s .pre .0), (ready-with (s .pre .1 .0) (n .1 .sound), s .pre .1 .1 .name, block-at _ _ _ _ _ ((emits-done _ _ _ _ _ _ _ _ _ _ _ ((c .before .before .before .before .before .before .before .before .before .before .before .before .before .before .before .before .before) .iterable .given .1) ((iterable-emits-at _ _ _ _ _ _ _ _ _ _ _ _ _ ((c .before .before .before .before .before .before .before .before .before .before .before .before .before .before .before .before .before .before .before .before .before .before .before .before .before .before .before .before .before) .name-end .ensures) ((c .before .before .before .before .before .before .before .before .before .before .before .before .before .before .before .before .before .before .before .before .before .before .before .before .before) .emit-iterable .ensures)))) .0) (s .pre .1 .1 .loop .block), for-small _ _ _ _ _ _ _ _ _ _ (s .pre .1 .0 .sound) (slotNames (s .args .tree .now) (s .args .slots .now)) (nameAt (s .args .tree .now) (s .args .at)) _ (bodyAt (s .args .depth) (s .args .tree .now) (nameEnd (s .args .tree .now) (s .args .at)) .value) (done-left _ _ _ _ _ _ _ _ _ _ _ ((c .before .before .before .before .before .before .before .before .before .before .before .before .before .before .before .before .before) .iterable .given .1) ((iterable-emits-at _ _ _ _ _ _ _ _ _ _ _ _ _ ((c .before .before .before .before .before .before .before .before .before .before .before .before .before .before .before .before .before .before .before .before .before .before .before .before .before .before .before .before .before) .name-end .ensures) ((c .before .before .before .before .before .before .before .before .before .before .before .before .before .before .before .before .before .before .before .before .before .before .before .before .before) .emit-iterable .ensures)))) _ _ _ _ _ (n .0) (n .1))))  -- emit-rounds-requires
     (λ c. (c .before .before .before .before .before .before) .emit-rounds .kept .1 .1 .1 .1 .1 .1 .0 ∙ (c .before .before .before .before .before .before .before .before .before .before .before .before .before .before .before .before .before .before .before) .store-iterator .kept .1 .0 ∙ (c .before .before .before .before .before .before .before .before .before .before .before .before .before .before .before .before .before .before .before .before .before .before .before .before .before .before .before .before .before .before .before .before) .emit-iterable .kept .1 .1 .1 .1 .0)  -- same-length-7
     (λ c. (c .before .before .before .before .before .before) .emit-rounds .kept .1 .1 .1 .1 .1 .1 .1 .0 ∙ (c .before .before .before .before .before .before .before .before .before .before .before .before .before .before .before .before .before .before .before) .store-iterator .kept .1 .1 .0 ∙ (c .before .before .before .before .before .before .before .before .before .before .before .before .before .before .before .before .before .before .before .before .before .before .before .before .before .before .before .before .before .before .before .before) .emit-iterable .kept .1 .1 .1 .1 .1 .0)  -- same-length-8
     (λ c. (c .before .before .before .before .before .before) .emit-rounds .kept .1 .1 .1 .1 .1 .1 .1 .1 .0 ∙ (c .before .before .before .before .before .before .before .before .before .before .before .before .before .before .before .before .before .before .before) .store-iterator .kept .1 .1 .1 .0 ∙ (c .before .before .before .before .before .before .before .before .before .before .before .before .before .before .before .before .before .before .before .before .before .before .before .before .before .before .before .before .before .before .before .before) .emit-iterable .kept .1 .1 .1 .1 .1 .1 .0)  -- same-length-9
-    (λ c. let s = (c .before .before .before .before .before .before .before .before .before .before .before .before .before .before .before .before .before .before .before .before .before .before .before .before .before .before .before .before .before .before .before .before .before .before .before .before .before .before .before .before .before .before) in let n = (numbers-at _ _ _ _ _ _ _ _ _ _ _ ((c .before .before .before .before .before .before .before .before .before .before .before) .stored .given .1) ((c .before .before .before .before .before .before .before .before .before .before .before .before .before .before .before .before .before .before .before) .store-iterator .ensures)) in let q = ((emits-done _ _ _ _ _ _ _ _ _ _ _ ((c .before .before .before .before .before .before .before .before .before .before .before .before .before .before .before .before .before .before .before .before .before .before .before .before) .iterable .given .1) ((iterable-emits-at _ _ _ _ _ _ _ _ _ _ _ _ _ ((c .before .before .before .before .before .before .before .before .before .before .before .before .before .before .before .before .before .before .before .before .before .before .before .before .before .before .before .before .before .before .before .before .before .before .before .before) .name-end .ensures) ((c .before .before .before .before .before .before .before .before .before .before .before .before .before .before .before .before .before .before .before .before .before .before .before .before .before .before .before .before .before .before .before .before) .emit-iterable .ensures)))) .0) in for-emits _ _ _ _ _ _ _ _ _ _ (s .pre .1 .0 .sound) (namesAt (s .args .tree .now) (s .args .slots .now)) (nameAt (s .args .tree .now) (s .args .at)) _ (bodyAt (s .args .depth) (s .args .tree .now) (nameEnd (s .args .tree .now) (s .args .at)) .value) (done-left _ _ _ _ _ _ _ _ _ _ _ ((c .before .before .before .before .before .before .before .before .before .before .before .before .before .before .before .before .before .before .before .before .before .before .before .before) .iterable .given .1) ((iterable-emits-at _ _ _ _ _ _ _ _ _ _ _ _ _ ((c .before .before .before .before .before .before .before .before .before .before .before .before .before .before .before .before .before .before .before .before .before .before .before .before .before .before .before .before .before .before .before .before .before .before .before .before) .name-end .ensures) ((c .before .before .before .before .before .before .before .before .before .before .before .before .before .before .before .before .before .before .before .before .before .before .before .before .before .before .before .before .before .before .before .before) .emit-iterable .ensures)))) _ _ _ _ _ (n .0) (n .1) _ _ _ _ _ _ _ (λ i. blockAt (s .args .depth) (s .args .tree .now) (q i) .value) (λ i. blockAt (s .args .depth) (s .args .tree .now) (q i) .end) ((c .before .before .before .before .before .before) .emit-rounds .ensures))  -- returns-3
+    (λ c. let s = (c .before .before .before .before .before .before .before .before .before .before .before .before .before .before .before .before .before .before .before .before .before .before .before .before .before .before .before .before .before .before .before .before .before .before .before .before .before .before .before .before .before .before) in let n = (numbers-at _ _ _ _ _ _ _ _ _ _ _ ((c .before .before .before .before .before .before .before .before .before .before .before) .stored .given .1) ((c .before .before .before .before .before .before .before .before .before .before .before .before .before .before .before .before .before .before .before) .store-iterator .ensures)) in let q = ((emits-done _ _ _ _ _ _ _ _ _ _ _ ((c .before .before .before .before .before .before .before .before .before .before .before .before .before .before .before .before .before .before .before .before .before .before .before .before) .iterable .given .1) ((iterable-emits-at _ _ _ _ _ _ _ _ _ _ _ _ _ ((c .before .before .before .before .before .before .before .before .before .before .before .before .before .before .before .before .before .before .before .before .before .before .before .before .before .before .before .before .before .before .before .before .before .before .before .before) .name-end .ensures) ((c .before .before .before .before .before .before .before .before .before .before .before .before .before .before .before .before .before .before .before .before .before .before .before .before .before .before .before .before .before .before .before .before) .emit-iterable .ensures)))) .0) in for-emits _ _ _ _ _ _ _ _ _ _ (s .pre .1 .0 .sound) (slotNames (s .args .tree .now) (s .args .slots .now)) (nameAt (s .args .tree .now) (s .args .at)) _ (bodyAt (s .args .depth) (s .args .tree .now) (nameEnd (s .args .tree .now) (s .args .at)) .value) (done-left _ _ _ _ _ _ _ _ _ _ _ ((c .before .before .before .before .before .before .before .before .before .before .before .before .before .before .before .before .before .before .before .before .before .before .before .before) .iterable .given .1) ((iterable-emits-at _ _ _ _ _ _ _ _ _ _ _ _ _ ((c .before .before .before .before .before .before .before .before .before .before .before .before .before .before .before .before .before .before .before .before .before .before .before .before .before .before .before .before .before .before .before .before .before .before .before .before) .name-end .ensures) ((c .before .before .before .before .before .before .before .before .before .before .before .before .before .before .before .before .before .before .before .before .before .before .before .before .before .before .before .before .before .before .before .before) .emit-iterable .ensures)))) _ _ _ _ _ (n .0) (n .1) _ _ _ _ _ _ _ (λ i. blockAt (s .args .depth) (s .args .tree .now) (q i) .value) (λ i. blockAt (s .args .depth) (s .args .tree .now) (q i) .end) ((c .before .before .before .before .before .before) .emit-rounds .ensures))  -- returns-3
 
 emit-if-ok : {M : Type 1} (t : ℕ) → emit-if-lts.Closed (emit-branch-below t, emit-branch.Post, u16-at-reads.Asked, u16-at-reads.Learnt, emit-elifs-below t, emit-elifs.Post) (emit-if-at t) emit-if.Post M
 emit-if-ok t = emit-if-lts.spec (emit-branch-below t, emit-branch.Post, u16-at-reads.Asked, u16-at-reads.Learnt, emit-elifs-below t, emit-elifs.Post) (emit-if-at t) emit-if.Post
@@ -505,7 +506,7 @@ emit-methods-μ-loop tree at depth n made₀ code₀ tables₀ list₀ l left₀
 emit-methods-ok : {M : Type 1} (t : ℕ) → emit-methods-lts.Closed (compile-method-below t, compile-method.Post, insert-method-reads.Asked, insert-method-reads.Learnt) (emit-methods-at t) emit-methods.Post M
 emit-methods-ok t = emit-methods-lts.spec (compile-method-below t, compile-method.Post, insert-method-reads.Asked, insert-method-reads.Learnt) (emit-methods-at t) emit-methods.Post emit-methods-Inv-loop emit-methods-μ-loop
     (λ c. let s = (c .before .before .before .before .before) in (refl, refl, refl, refl, s .pre .1 .1, listing-start _ _ _ _ _ _ _ _ (s .pre .1 .0 .sound)))  -- loop-holds
-    (λ c κs. let s = (c .before .before .before .before .before .before .before .before .before .before) in let j = (c .before .before .before .before) .loop in (omega (arith, s .pre .0), (ready-with (s .pre .1 .0) (j .inv .5 .sound), (methods-parts _ _ _ _ ((c .before .before .before) .loop-test .taken) (j .inv .4)) .0)))  -- compile-method-requires
+    (λ c κs. let s = (c .before .before .before .before .before .before .before .before .before .before) in let j = (c .before .before .before .before) .loop in (omega (arith, s .pre .0), (sole-with (s .pre .1 .0) (j .inv .5 .sound), (methods-parts _ _ _ _ ((c .before .before .before) .loop-test .taken) (j .inv .4)) .0)))  -- compile-method-requires
     (λ c. search needs)  -- enum-known-one
     (λ c. search needs)  -- enum-told
     (λ c. let s = (c .before .before .before .before .before .before .before .before .before .before .before .before .before .before .before .before .before .before .before) in let j = (c .before .before .before .before .before .before .before .before .before .before .before .before .before) .loop in (c .before .before .before .before .before .before .before .before) .compile-method .kept .1 .1 .1 .0 ∙ j .inv .0)  -- same-length
@@ -535,7 +536,7 @@ emit-rounds-ok t = emit-rounds-lts.spec (ask-iterator-reads.Asked, ask-iterator-
     (λ c. search needs)  -- same-length-2
     (λ c. search needs)  -- same-length-3
     (λ c. let s = (c .before .before .before .before .before .before .before .before .before .before .before .before .before .before .before .before .before) in full-by _ _ _ _ _ _ _ _ _ _ _ _ _ _ _ (c .enum-told .given .1) ((c .before .before .before .before .before .before .before .before) .ask-iterator .ensures) (head-within _ _ _ _ (base-below _ _ _ _ _ _ (s .pre .1 .0 .sound)) (lengthens-seq (lengthens-takeIter _ _ _) (lengthens-block _ _))))  -- returns
-    (λ c κs. let s = (c .before .before .before .before .before .before .before .before .before .before .before .before .before .before .before .before .before .before .before .before .before) in ((done-left _ _ _ _ _ _ _ _ _ _ _ ((c .before .before .before .before) .asked .given .1) ((c .before .before .before .before .before .before .before .before .before .before .before .before) .ask-iterator .ensures)) .sound, omega (arith, s .pre .1 .0 .slots-few), omega (arith, s .pre .1 .1 .byte, s .pre .1 .0 .tree-short), s .pre .1 .3))  -- take-iterator-requires
+    (λ c κs. let s = (c .before .before .before .before .before .before .before .before .before .before .before .before .before .before .before .before .before .before .before .before .before) in ((done-left _ _ _ _ _ _ _ _ _ _ _ ((c .before .before .before .before) .asked .given .1) ((c .before .before .before .before .before .before .before .before .before .before .before .before) .ask-iterator .ensures)) .sound, s .pre .1 .0 .slotted, omega (arith, s .pre .1 .1 .byte, s .pre .1 .0 .tree-short), s .pre .1 .3))  -- take-iterator-requires
     (λ c. search needs)  -- enum-known-taken
     (λ c. search needs)  -- enum-told-2
     (λ c. search needs)  -- same-length-4
