@@ -79,7 +79,7 @@ module _ (d : ℕ) (t : List ℕ) (names : List Name) (l : Limits) (made₀ code
     (inv : Rest d t names l made₀ code₀ tables₀ n₀ p₀ c made code tables n p k) where
   -- the slices are as ready as they were
   pub rest-ready : (slots : List ℕ) → Ready t slots made₀ code₀ tables₀ c l → Ready t slots made code tables k l
-  rest-ready slots r = record { tree-short = r .tree-short; slots-few = r .slots-few; sound = inv .sound }
+  rest-ready slots r = record { tree-short = r .tree-short; slotted = r .slotted; sound = inv .sound }
 
   more-state : 0 < n → emitAt (k .base) (exprsCode d n t names p) (stateOf t made code tables k) ≡ emitAt (k .base) (exprCode d t names p ⨟ exprsCode d (n - 1) t names (exprAt d t p .end)) (stateOf t made code tables k)
   more-state h = ap (λ (e : Emit). emitAt (k .base) e (stateOf t made code tables k)) (more-view d n t names p h (inv .elements) .code)

@@ -1,12 +1,12 @@
 -- Lambdas: a function begun, its body, its end; and the closure made of it.
-use Prim.Native.Nat.{ℕ, zero, suc, _-_, _≤_, _<_}
+use Prim.Native.Nat.{ℕ, zero, suc, _+_, _-_, _≤_, _<_}
 use mathlib.Core.Path.{_≡_, refl, sym, ap, _∙_, subst}
 use mathlib.Core.Bool.{Bool, true, false, true≢false}
 use mathlib.Core.Option.{Option, none, some}
 use mathlib.Core.List.{List, [], _∷_, _++_, map}
 use native.Mathlib.Omega.{arith}
 use lib.ListN.{length, take, drop, getD, length-map, length-append, length-drop}
-use lib.Seq.{drop-at, take-all}
+use lib.Seq.{drop-at, drop-drop, take-all}
 use Rattle.definitions.specs.Bytes.{Name, all, member, position, same, below}
 use Rattle.definitions.specs.Tree.{Expr, lambda}
 use Rattle.definitions.specs.Instruction.{Return, MakeClosure, LoadLocal}
@@ -17,7 +17,7 @@ use Rattle.definitions.specs.Lower.{lambdaName, load, loads, closure, emitExpr}
 use Rattle.parts.specs.Places.{paramsAt, countAt}
 use Rattle.exprs.specs.ExprAt.{exprAt, ExprReads}
 use Rattle.state.specs.Words.{nameAt}
-use Rattle.state.specs.State.{State, stateOf, namesAt, emitAt, withTables, symbolNumber, withSymbol, Sound, Within, Left, foundOr}
+use Rattle.state.specs.State.{State, stateOf, namesAt, slotsFrom, emitAt, withTables, symbolNumber, withSymbol, Sound, Within, Left, foundOr}
 use Rattle.state.specs.Steps.{begun, ended}
 use Rattle.state.specs.declared.Counts.{Counts}
 use Rattle.state.specs.declared.Limits.{Limits}
@@ -369,19 +369,24 @@ lambda-many d t names p body r b h =
 pub reads-at : (d : ℕ) (t : List ℕ) (p q : ℕ) → q ≡ p → ExprReads d t p → ExprReads d t q
 reads-at d t p q e r = subst (ExprReads d t) (sym e) r
 
--- the rest of a slice from n on
-pub rest-is : (n : ℕ) (xs : List ℕ) → take (length xs - n) (drop n xs) ≡ drop n xs
-rest-is n xs = take-all (length xs - n) (drop n xs) (omega (arith, length-drop n xs))
+-- the rest of the slots from the n-th on
+pub rest-is : (n : ℕ) (xs : List ℕ) → take (length xs - (slotsFrom + n)) (drop (slotsFrom + n) xs) ≡ drop n (drop slotsFrom xs)
+rest-is n xs = take-all (length xs - (slotsFrom + n)) (drop (slotsFrom + n) xs) (omega (arith, length-drop (slotsFrom + n) xs)) ∙ sym (drop-drop n slotsFrom xs)
 
 -- the closure's end, for the captures as a part of the slots
 pub captured-as : (n : ℕ) (inner : List ℕ) (r : Emitted) (names : List Name) (f q : ℕ) (t made code tables made′ code′ tables′ : List ℕ) (c : Counts) (l : Limits)
-    → Lowers r (loads names (namesAt t (take (length inner - n) (drop n inner))) ⨟ one (MakeClosure f (length (take (length inner - n) (drop n inner))))) q t made code tables made′ code′ tables′ c l
-    → Lowers r (loads names (namesAt t (drop n inner)) ⨟ one (MakeClosure f (length (drop n inner)))) q t made code tables made′ code′ tables′ c l
+    → Lowers r (loads names (namesAt t (take (length inner - (slotsFrom + n)) (drop (slotsFrom + n) inner))) ⨟ one (MakeClosure f (length (take (length inner - (slotsFrom + n)) (drop (slotsFrom + n) inner))))) q t made code tables made′ code′ tables′ c l
+    → Lowers r (loads names (namesAt t (drop n (drop slotsFrom inner))) ⨟ one (MakeClosure f (length (drop n (drop slotsFrom inner))))) q t made code tables made′ code′ tables′ c l
 captured-as n inner r names f q t made code tables made′ code′ tables′ c l h =
     lowers-as r _ _ q q t made code tables made′ code′ tables′ c l h (ap (λ (xs : List ℕ). loads names (namesAt t xs) ⨟ one (MakeClosure f (length xs))) (sym (rest-is n inner))) refl
 
-pub captured-held : (names : List Name) (t : List ℕ) (n : ℕ) (inner : List ℕ) → CapturesHeld t names n inner → Held names (namesAt t (take (length inner - n) (drop n inner)))
+pub captured-held : (names : List Name) (t : List ℕ) (n : ℕ) (inner : List ℕ) → CapturesHeld t names n (drop slotsFrom inner) → Held names (namesAt t (take (length inner - (slotsFrom + n)) (drop (slotsFrom + n) inner)))
 captured-held names t n inner h = subst (λ (xs : List ℕ). Held names (namesAt t xs)) (sym (rest-is n inner)) (h .held)
 
-pub captured-few : (n : ℕ) (inner : List ℕ) → length inner ≤ 255 → length (take (length inner - n) (drop n inner)) ≤ 255
-captured-few n inner h = omega (arith, ap length (rest-is n inner), length-drop n inner)
+pub captured-few : (n : ℕ) (inner : List ℕ) → length (drop slotsFrom inner) ≤ 255 → length (take (length inner - (slotsFrom + n)) (drop (slotsFrom + n) inner)) ≤ 255
+captured-few n inner h = omega (arith, ap length (rest-is n inner), length-drop n (drop slotsFrom inner))
+
+-- a function begun, by the slots after the index
+pub begun-count : (slots : List ℕ) (r : Numbered) (t made code tables : List ℕ) (c : Counts) (l : Limits) (n k a : ℕ) (s : State) → Begins r t made code tables c l n (begunWith k a (length slots - slotsFrom) s)
+    → Begins r t made code tables c l n (begunWith k a (length (drop slotsFrom slots)) s)
+begun-count slots r t made code tables c l n k a s h = subst (λ (m : ℕ). Begins r t made code tables c l n (begunWith k a m s)) (sym (length-drop slotsFrom slots)) h

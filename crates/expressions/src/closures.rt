@@ -19,7 +19,7 @@ ghost use Rattle.definitions.specs.Tables.{one, _⨟_};
 ghost use Rattle.definitions.specs.Bytes.{member};
 ghost use Rattle.definitions.specs.Lower.{lambdaName, load, loads};
 ghost use Rattle.state.specs.Words.{nameAt};
-ghost use Rattle.state.specs.State.{namesAt, stateOf, emitAt, withTables, symbolNumber, withSymbol, Sound};
+ghost use Rattle.state.specs.State.{namesAt, stateOf, emitAt, withTables, symbolNumber, withSymbol, Sound, slotNames, Slots};
 ghost use Rattle.state.specs.Steps.{ended};
 ghost use Rattle.code.specs.Nesting.{begunWith, bodyOf, Begins};
 ghost use Rattle.expressions.specs.Step.{Lowers, Ends};
@@ -84,8 +84,8 @@ fn load_slot(
     c: Counts,
     l: Limits,
 ) -> Emitted
-    requires { ⌜ Sound (now tree) (now made) (now code) (now tables) c l × (length (now slots) ≤ 255) × (member (nameAt (now tree) at) (namesAt (now tree) (now slots)) ≡ true) ⌝ }
-    ensures { λ r. ⌜ Lowers r (load (namesAt (now (tree .entry)) (now (slots .entry))) (nameAt (now (tree .entry)) at)) next
+    requires { ⌜ Sound (now tree) (now made) (now code) (now tables) c l × Slots (now tree) (now slots) × (member (nameAt (now tree) at) (slotNames (now tree) (now slots)) ≡ true) ⌝ }
+    ensures { λ r. ⌜ Lowers r (load (slotNames (now (tree .entry)) (now (slots .entry))) (nameAt (now (tree .entry)) at)) next
         (now (tree .entry)) (now (made .entry)) (now (code .entry)) (now (tables .entry)) (now (made .entry)) (now (code .exit)) (now (tables .entry)) c l ⌝ }
 {
     let i = find_slot(tree, slots, at);
@@ -104,8 +104,8 @@ fn load_captured(
     c: Counts,
     l: Limits,
 ) -> Emitted
-    requires { ⌜ Sound (now tree) (now made) (now code) (now tables) c l × (length (now slots) ≤ 255) × Held (namesAt (now tree) (now slots)) (namesAt (now tree) (now captured)) ⌝ }
-    ensures { λ r. ⌜ Lowers r (loads (namesAt (now (tree .entry)) (now (slots .entry))) (namesAt (now (tree .entry)) (now (captured .entry)))) next
+    requires { ⌜ Sound (now tree) (now made) (now code) (now tables) c l × Slots (now tree) (now slots) × Held (slotNames (now tree) (now slots)) (namesAt (now tree) (now captured)) ⌝ }
+    ensures { λ r. ⌜ Lowers r (loads (slotNames (now (tree .entry)) (now (slots .entry))) (namesAt (now (tree .entry)) (now (captured .entry)))) next
         (now (tree .entry)) (now (made .entry)) (now (code .entry)) (now (tables .entry)) (now (made .entry)) (now (code .exit)) (now (tables .entry)) c l ⌝ }
 {
     let mut i = 0;
@@ -135,8 +135,8 @@ pub fn end_closure(
     c: Counts,
     l: Limits,
 ) -> Emitted
-    requires { ⌜ Sound (now tree) (now made) (now code) (now tables) c l × (length (now slots) ≤ 255) × Held (namesAt (now tree) (now slots)) (namesAt (now tree) (now captured)) × (length (now captured) ≤ 255) × (f < 65536) ⌝ }
-    ensures { λ r. ⌜ Lowers r (loads (namesAt (now (tree .entry)) (now (slots .entry))) (namesAt (now (tree .entry)) (now (captured .entry))) ⨟ one (MakeClosure f (length (now (captured .entry))))) next
+    requires { ⌜ Sound (now tree) (now made) (now code) (now tables) c l × Slots (now tree) (now slots) × Held (slotNames (now tree) (now slots)) (namesAt (now tree) (now captured)) × (length (now captured) ≤ 255) × (f < 65536) ⌝ }
+    ensures { λ r. ⌜ Lowers r (loads (slotNames (now (tree .entry)) (now (slots .entry))) (namesAt (now (tree .entry)) (now (captured .entry))) ⨟ one (MakeClosure f (length (now (captured .entry))))) next
         (now (tree .entry)) (now (made .entry)) (now (code .entry)) (now (tables .entry)) (now (made .entry)) (now (code .exit)) (now (tables .entry)) c l ⌝ }
 {
     let n = captured.len() as u32;

@@ -21,7 +21,7 @@ ghost use Rattle.definitions.specs.Tree.{lit};
 ghost use Rattle.exprs.specs.ExprAt.{exprAt};
 ghost use Rattle.exprs.specs.Literals.{literalOf, LiteralAt};
 ghost use Rattle.state.specs.Words.{nameAt};
-ghost use Rattle.state.specs.State.{namesAt, stateOf, Ready, Sound, Emits, emitAt};
+ghost use Rattle.state.specs.State.{stateOf, Ready, Sound, Emits, emitAt, slotNames};
 ghost use Rattle.state.specs.Steps.{setAt};
 ghost use Rattle.expressions.specs.Step.{Lowers};
 ghost use Rattle.expressions.specs.Lowerable.{loadCallee, callInstr, Short};
@@ -113,7 +113,7 @@ pub fn load_callee(
 ) -> Emitted
     requires { ⌜ Ready (now tree) (now slots) (now made) (now code) (now tables) c l
         × (at < 32768) ⌝ }
-    ensures { λ r. ⌜ Lowers r (loadCallee (calleeOf callee) (namesAt (now (tree .entry)) (now (slots .entry))) (nameAt (now (tree .entry)) at)) next
+    ensures { λ r. ⌜ Lowers r (loadCallee (calleeOf callee) (slotNames (now (tree .entry)) (now (slots .entry))) (nameAt (now (tree .entry)) at)) next
         (now (tree .entry)) (now (made .entry)) (now (code .entry)) (now (tables .entry)) (now (made .entry)) (now (code .exit)) (now (tables .exit)) c l ⌝ }
 {
     match callee {

@@ -32,7 +32,7 @@ use state::Limits;
 use state::Numbered;
 ghost use Prim.Native.Nat.{_+_, _-_, _<_, _≤_};
 ghost use lib.Dec.{eqb};
-ghost use lib.ListN.{getD};
+ghost use lib.ListN.{getD, drop};
 ghost use Rattle.definitions.specs.Instruction.{instr, Build, LoadAttr};
 ghost use Rattle.definitions.specs.Tables.{one, _⨟_, intern};
 ghost use Rattle.definitions.specs.Lower.{emitExpr, shortcut};
@@ -40,7 +40,7 @@ ghost use Rattle.definitions.specs.Tree.{call, var};
 ghost use Rattle.parts.specs.Places.{countAt, nameEnd, paramsAt};
 ghost use Rattle.exprs.specs.ExprAt.{exprAt, exprsAt, secondAt, listAt, binaryOf};
 ghost use Rattle.state.specs.Words.{nameAt};
-ghost use Rattle.state.specs.State.{namesAt, Ready};
+ghost use Rattle.state.specs.State.{Ready, slotNames, slotsFrom, Slots};
 ghost use Rattle.code.specs.Ops.{Plain};
 ghost use Rattle.expressions.specs.Step.{Lowers};
 ghost use Rattle.expressions.specs.Lowerable.{Lowerable, LowerableMany, exprCode, exprsCode, UnaryLowerable, TwoLowerable, BinaryLowerable, unaryOpcode, ArgsLowerable, CallLowerable, NamedLowerable, AttributeLowerable, MethodLowerable, methodCode, callInstr, displayOf, heldOf, DisplayLowerable, Short, LambdaLowerable, lambdaCode, ClosureLowerable, CapturesHeld, closureCode, functionCode};
@@ -59,8 +59,8 @@ pub fn emit_expr(
     l: Limits,
 ) -> Emitted
     requires { ⌜ Ready (now tree) (now slots) (now made) (now code) (now tables) c l
-        × Lowerable depth (now tree) (namesAt (now tree) (now slots)) at ⌝ }
-    ensures { λ r. ⌜ Lowers r (exprCode depth (now (tree .entry)) (namesAt (now (tree .entry)) (now (slots .entry))) at) (exprAt depth (now (tree .entry)) at .end)
+        × Lowerable depth (now tree) (slotNames (now tree) (now slots)) at ⌝ }
+    ensures { λ r. ⌜ Lowers r (exprCode depth (now (tree .entry)) (slotNames (now (tree .entry)) (now (slots .entry))) at) (exprAt depth (now (tree .entry)) at .end)
         (now (tree .entry)) (now (made .entry)) (now (code .entry)) (now (tables .entry)) (now (made .exit)) (now (code .exit)) (now (tables .exit)) c l ⌝ }
 {
     let kind = tree[at];
@@ -95,8 +95,8 @@ fn emit_exprs(
     l: Limits,
 ) -> Emitted
     requires { ⌜ Ready (now tree) (now slots) (now made) (now code) (now tables) c l
-        × LowerableMany depth n (now tree) (namesAt (now tree) (now slots)) at ⌝ }
-    ensures { λ r. ⌜ Lowers r (exprsCode depth n (now (tree .entry)) (namesAt (now (tree .entry)) (now (slots .entry))) at) (exprsAt depth n (now (tree .entry)) at .end)
+        × LowerableMany depth n (now tree) (slotNames (now tree) (now slots)) at ⌝ }
+    ensures { λ r. ⌜ Lowers r (exprsCode depth n (now (tree .entry)) (slotNames (now (tree .entry)) (now (slots .entry))) at) (exprsAt depth n (now (tree .entry)) at .end)
         (now (tree .entry)) (now (made .entry)) (now (code .entry)) (now (tables .entry)) (now (made .exit)) (now (code .exit)) (now (tables .exit)) c l ⌝ }
 {
     let mut left = n;
@@ -127,8 +127,8 @@ fn emit_unary(
     l: Limits,
 ) -> Emitted
     requires { ⌜ Ready (now tree) (now slots) (now made) (now code) (now tables) c l
-        × UnaryLowerable depth (now tree) (namesAt (now tree) (now slots)) at ⌝ }
-    ensures { λ r. ⌜ Lowers r (exprCode depth (now (tree .entry)) (namesAt (now (tree .entry)) (now (slots .entry))) (at + 1) ⨟ one (instr (unaryOpcode (getD (now (tree .entry)) at 0)) 0 0)) (exprAt depth (now (tree .entry)) (at + 1) .end)
+        × UnaryLowerable depth (now tree) (slotNames (now tree) (now slots)) at ⌝ }
+    ensures { λ r. ⌜ Lowers r (exprCode depth (now (tree .entry)) (slotNames (now (tree .entry)) (now (slots .entry))) (at + 1) ⨟ one (instr (unaryOpcode (getD (now (tree .entry)) at 0)) 0 0)) (exprAt depth (now (tree .entry)) (at + 1) .end)
         (now (tree .entry)) (now (made .entry)) (now (code .entry)) (now (tables .entry)) (now (made .exit)) (now (code .exit)) (now (tables .exit)) c l ⌝ }
 {
     let op = unary_code(tree[at]);
@@ -153,8 +153,8 @@ fn emit_two(
     l: Limits,
 ) -> Emitted
     requires { ⌜ Ready (now tree) (now slots) (now made) (now code) (now tables) c l
-        × TwoLowerable depth (now tree) (namesAt (now tree) (now slots)) at × Plain op 0 0 ⌝ }
-    ensures { λ r. ⌜ Lowers r (exprCode depth (now (tree .entry)) (namesAt (now (tree .entry)) (now (slots .entry))) at ⨟ exprCode depth (now (tree .entry)) (namesAt (now (tree .entry)) (now (slots .entry))) (exprAt depth (now (tree .entry)) at .end) ⨟ one (instr op 0 0)) (secondAt depth (now (tree .entry)) at .end)
+        × TwoLowerable depth (now tree) (slotNames (now tree) (now slots)) at × Plain op 0 0 ⌝ }
+    ensures { λ r. ⌜ Lowers r (exprCode depth (now (tree .entry)) (slotNames (now (tree .entry)) (now (slots .entry))) at ⨟ exprCode depth (now (tree .entry)) (slotNames (now (tree .entry)) (now (slots .entry))) (exprAt depth (now (tree .entry)) at .end) ⨟ one (instr op 0 0)) (secondAt depth (now (tree .entry)) at .end)
         (now (tree .entry)) (now (made .entry)) (now (code .entry)) (now (tables .entry)) (now (made .exit)) (now (code .exit)) (now (tables .exit)) c l ⌝ }
 {
     let first = emit_expr(tree, at, depth, slots, made, code, tables, c, l);
@@ -181,8 +181,8 @@ fn emit_binary(
     l: Limits,
 ) -> Emitted
     requires { ⌜ Ready (now tree) (now slots) (now made) (now code) (now tables) c l
-        × BinaryLowerable depth (now tree) (namesAt (now tree) (now slots)) at ⌝ }
-    ensures { λ r. ⌜ Lowers r (emitExpr (namesAt (now (tree .entry)) (now (slots .entry))) (binaryOf (getD (now (tree .entry)) at 0) (exprAt depth (now (tree .entry)) (at + 1) .value) (secondAt depth (now (tree .entry)) (at + 1) .value))) (secondAt depth (now (tree .entry)) (at + 1) .end)
+        × BinaryLowerable depth (now tree) (slotNames (now tree) (now slots)) at ⌝ }
+    ensures { λ r. ⌜ Lowers r (emitExpr (slotNames (now (tree .entry)) (now (slots .entry))) (binaryOf (getD (now (tree .entry)) at 0) (exprAt depth (now (tree .entry)) (at + 1) .value) (secondAt depth (now (tree .entry)) (at + 1) .value))) (secondAt depth (now (tree .entry)) (at + 1) .end)
         (now (tree .entry)) (now (made .entry)) (now (code .entry)) (now (tables .entry)) (now (made .exit)) (now (code .exit)) (now (tables .exit)) c l ⌝ }
 {
     let operator = tree[at];
@@ -228,8 +228,8 @@ fn emit_logical(
     l: Limits,
 ) -> Emitted
     requires { ⌜ Ready (now tree) (now slots) (now made) (now code) (now tables) c l
-        × TwoLowerable depth (now tree) (namesAt (now tree) (now slots)) at × (29 ≤ op) × (op ≤ 30) ⌝ }
-    ensures { λ r. ⌜ Lowers r (exprCode depth (now (tree .entry)) (namesAt (now (tree .entry)) (now (slots .entry))) at ⨟ shortcut (eqb op 30) (exprCode depth (now (tree .entry)) (namesAt (now (tree .entry)) (now (slots .entry))) (exprAt depth (now (tree .entry)) at .end))) (secondAt depth (now (tree .entry)) at .end)
+        × TwoLowerable depth (now tree) (slotNames (now tree) (now slots)) at × (29 ≤ op) × (op ≤ 30) ⌝ }
+    ensures { λ r. ⌜ Lowers r (exprCode depth (now (tree .entry)) (slotNames (now (tree .entry)) (now (slots .entry))) at ⨟ shortcut (eqb op 30) (exprCode depth (now (tree .entry)) (slotNames (now (tree .entry)) (now (slots .entry))) (exprAt depth (now (tree .entry)) at .end))) (secondAt depth (now (tree .entry)) at .end)
         (now (tree .entry)) (now (made .entry)) (now (code .entry)) (now (tables .entry)) (now (made .exit)) (now (code .exit)) (now (tables .exit)) c l ⌝ }
 {
     let left = emit_expr(tree, at, depth, slots, made, code, tables, c, l);
@@ -253,8 +253,8 @@ fn emit_shortcut(
     l: Limits,
 ) -> Emitted
     requires { ⌜ Ready (now tree) (now slots) (now made) (now code) (now tables) c l
-        × Lowerable depth (now tree) (namesAt (now tree) (now slots)) at × (29 ≤ op) × (op ≤ 30) ⌝ }
-    ensures { λ r. ⌜ Lowers r (shortcut (eqb op 30) (exprCode depth (now (tree .entry)) (namesAt (now (tree .entry)) (now (slots .entry))) at)) (exprAt depth (now (tree .entry)) at .end)
+        × Lowerable depth (now tree) (slotNames (now tree) (now slots)) at × (29 ≤ op) × (op ≤ 30) ⌝ }
+    ensures { λ r. ⌜ Lowers r (shortcut (eqb op 30) (exprCode depth (now (tree .entry)) (slotNames (now (tree .entry)) (now (slots .entry))) at)) (exprAt depth (now (tree .entry)) at .end)
         (now (tree .entry)) (now (made .entry)) (now (code .entry)) (now (tables .entry)) (now (made .exit)) (now (code .exit)) (now (tables .exit)) c l ⌝ }
 {
     let first = put_jump(tree, made, code, tables, op, 0, at, c, l);
@@ -281,8 +281,8 @@ fn emit_call(
     l: Limits,
 ) -> Emitted
     requires { ⌜ Ready (now tree) (now slots) (now made) (now code) (now tables) c l
-        × CallLowerable depth (now tree) (namesAt (now tree) (now slots)) at ⌝ }
-    ensures { λ r. ⌜ Lowers r (emitExpr (namesAt (now (tree .entry)) (now (slots .entry))) (call (exprAt depth (now (tree .entry)) at .value) (listAt depth (now (tree .entry)) (exprAt depth (now (tree .entry)) at .end) .value))) (listAt depth (now (tree .entry)) (exprAt depth (now (tree .entry)) at .end) .end)
+        × CallLowerable depth (now tree) (slotNames (now tree) (now slots)) at ⌝ }
+    ensures { λ r. ⌜ Lowers r (emitExpr (slotNames (now (tree .entry)) (now (slots .entry))) (call (exprAt depth (now (tree .entry)) at .value) (listAt depth (now (tree .entry)) (exprAt depth (now (tree .entry)) at .end) .value))) (listAt depth (now (tree .entry)) (exprAt depth (now (tree .entry)) at .end) .end)
         (now (tree .entry)) (now (made .entry)) (now (code .entry)) (now (tables .entry)) (now (made .exit)) (now (code .exit)) (now (tables .exit)) c l ⌝ }
 {
     let kind = tree[at];
@@ -323,8 +323,8 @@ fn emit_named(
     l: Limits,
 ) -> Emitted
     requires { ⌜ Ready (now tree) (now slots) (now made) (now code) (now tables) c l
-        × NamedLowerable depth (now tree) (namesAt (now tree) (now slots)) at ⌝ }
-    ensures { λ r. ⌜ Lowers r (emitExpr (namesAt (now (tree .entry)) (now (slots .entry))) (call (var (nameAt (now (tree .entry)) at)) (listAt depth (now (tree .entry)) (nameEnd (now (tree .entry)) at) .value))) (listAt depth (now (tree .entry)) (nameEnd (now (tree .entry)) at) .end)
+        × NamedLowerable depth (now tree) (slotNames (now tree) (now slots)) at ⌝ }
+    ensures { λ r. ⌜ Lowers r (emitExpr (slotNames (now (tree .entry)) (now (slots .entry))) (call (var (nameAt (now (tree .entry)) at)) (listAt depth (now (tree .entry)) (nameEnd (now (tree .entry)) at) .value))) (listAt depth (now (tree .entry)) (nameEnd (now (tree .entry)) at) .end)
         (now (tree .entry)) (now (made .entry)) (now (code .entry)) (now (tables .entry)) (now (made .exit)) (now (code .exit)) (now (tables .exit)) c l ⌝ }
 {
     let start = name_end(tree, at);
@@ -349,8 +349,8 @@ fn emit_method(
     l: Limits,
 ) -> Emitted
     requires { ⌜ Ready (now tree) (now slots) (now made) (now code) (now tables) c l
-        × MethodLowerable depth (now tree) (namesAt (now tree) (now slots)) at ⌝ }
-    ensures { λ r. ⌜ Lowers r (methodCode depth (now (tree .entry)) (namesAt (now (tree .entry)) (now (slots .entry))) at) (listAt depth (now (tree .entry)) (nameEnd (now (tree .entry)) (exprAt (depth - 1) (now (tree .entry)) at .end)) .end)
+        × MethodLowerable depth (now tree) (slotNames (now tree) (now slots)) at ⌝ }
+    ensures { λ r. ⌜ Lowers r (methodCode depth (now (tree .entry)) (slotNames (now (tree .entry)) (now (slots .entry))) at) (listAt depth (now (tree .entry)) (nameEnd (now (tree .entry)) (exprAt (depth - 1) (now (tree .entry)) at .end)) .end)
         (now (tree .entry)) (now (made .entry)) (now (code .entry)) (now (tables .entry)) (now (made .exit)) (now (code .exit)) (now (tables .exit)) c l ⌝ }
 {
     let object = emit_expr(tree, at, depth - 1, slots, made, code, tables, c, l);
@@ -380,8 +380,8 @@ fn emit_args(
     l: Limits,
 ) -> Emitted
     requires { ⌜ Ready (now tree) (now slots) (now made) (now code) (now tables) c l
-        × ArgsLowerable depth (now tree) (namesAt (now tree) (now slots)) at × Short (calleeOf callee) ⌝ }
-    ensures { λ r. ⌜ Lowers r (exprsCode depth (countAt (now (tree .entry)) at) (now (tree .entry)) (namesAt (now (tree .entry)) (now (slots .entry))) (at + 2) ⨟ one (callInstr (calleeOf callee) (countAt (now (tree .entry)) at))) (listAt depth (now (tree .entry)) at .end)
+        × ArgsLowerable depth (now tree) (slotNames (now tree) (now slots)) at × Short (calleeOf callee) ⌝ }
+    ensures { λ r. ⌜ Lowers r (exprsCode depth (countAt (now (tree .entry)) at) (now (tree .entry)) (slotNames (now (tree .entry)) (now (slots .entry))) (at + 2) ⨟ one (callInstr (calleeOf callee) (countAt (now (tree .entry)) at))) (listAt depth (now (tree .entry)) at .end)
         (now (tree .entry)) (now (made .entry)) (now (code .entry)) (now (tables .entry)) (now (made .exit)) (now (code .exit)) (now (tables .exit)) c l ⌝ }
 {
     let n = u16_at(tree, at);
@@ -405,8 +405,8 @@ fn emit_attribute(
     l: Limits,
 ) -> Emitted
     requires { ⌜ Ready (now tree) (now slots) (now made) (now code) (now tables) c l
-        × AttributeLowerable depth (now tree) (namesAt (now tree) (now slots)) at ⌝ }
-    ensures { λ r. ⌜ Lowers r (exprCode depth (now (tree .entry)) (namesAt (now (tree .entry)) (now (slots .entry))) at ⨟ intern (nameAt (now (tree .entry)) (exprAt depth (now (tree .entry)) at .end)) (λ k. one (LoadAttr k))) (nameEnd (now (tree .entry)) (exprAt depth (now (tree .entry)) at .end))
+        × AttributeLowerable depth (now tree) (slotNames (now tree) (now slots)) at ⌝ }
+    ensures { λ r. ⌜ Lowers r (exprCode depth (now (tree .entry)) (slotNames (now (tree .entry)) (now (slots .entry))) at ⨟ intern (nameAt (now (tree .entry)) (exprAt depth (now (tree .entry)) at .end)) (λ k. one (LoadAttr k))) (nameEnd (now (tree .entry)) (exprAt depth (now (tree .entry)) at .end))
         (now (tree .entry)) (now (made .entry)) (now (code .entry)) (now (tables .entry)) (now (made .exit)) (now (code .exit)) (now (tables .exit)) c l ⌝ }
 {
     let object = emit_expr(tree, at, depth, slots, made, code, tables, c, l);
@@ -441,8 +441,8 @@ fn emit_display(
     l: Limits,
 ) -> Emitted
     requires { ⌜ Ready (now tree) (now slots) (now made) (now code) (now tables) c l
-        × DisplayLowerable kind depth (now tree) (namesAt (now tree) (now slots)) at ⌝ }
-    ensures { λ r. ⌜ Lowers r (exprsCode depth (heldOf kind (countAt (now (tree .entry)) at)) (now (tree .entry)) (namesAt (now (tree .entry)) (now (slots .entry))) (at + 2) ⨟ one (Build (displayOf kind) (countAt (now (tree .entry)) at))) (exprsAt depth (heldOf kind (countAt (now (tree .entry)) at)) (now (tree .entry)) (at + 2) .end)
+        × DisplayLowerable kind depth (now tree) (slotNames (now tree) (now slots)) at ⌝ }
+    ensures { λ r. ⌜ Lowers r (exprsCode depth (heldOf kind (countAt (now (tree .entry)) at)) (now (tree .entry)) (slotNames (now (tree .entry)) (now (slots .entry))) (at + 2) ⨟ one (Build (displayOf kind) (countAt (now (tree .entry)) at))) (exprsAt depth (heldOf kind (countAt (now (tree .entry)) at)) (now (tree .entry)) (at + 2) .end)
         (now (tree .entry)) (now (made .entry)) (now (code .entry)) (now (tables .entry)) (now (made .exit)) (now (code .exit)) (now (tables .exit)) c l ⌝ }
 {
     let n = u16_at(tree, at);
@@ -477,18 +477,18 @@ fn emit_lambda(
     l: Limits,
 ) -> Emitted
     requires { ⌜ Ready (now tree) (now slots) (now made) (now code) (now tables) c l
-        × LambdaLowerable depth (now tree) (namesAt (now tree) (now slots)) at ⌝ }
-    ensures { λ r. ⌜ Lowers r (lambdaCode depth (now (tree .entry)) (namesAt (now (tree .entry)) (now (slots .entry))) at) (exprAt depth (now (tree .entry)) (paramsAt (now (tree .entry)) at .end) .end)
+        × LambdaLowerable depth (now tree) (slotNames (now tree) (now slots)) at ⌝ }
+    ensures { λ r. ⌜ Lowers r (lambdaCode depth (now (tree .entry)) (slotNames (now (tree .entry)) (now (slots .entry))) at) (exprAt depth (now (tree .entry)) (paramsAt (now (tree .entry)) at .end) .end)
         (now (tree .entry)) (now (made .entry)) (now (code .entry)) (now (tables .entry)) (now (made .exit)) (now (code .exit)) (now (tables .exit)) c l ⌝ }
 {
-    let mut places = [0u32; 512];
+    let mut places = [0u32; 2304];
     let arity = u16_at(tree, at);
     let body = skip_params(tree, at);
     let all = lambda_slots(tree, at, body, depth, slots, &mut places);
     let Locals::Count(n) = all else {
         return Emitted::Full;
     };
-    let end = n as usize;
+    let end = 2048 + n as usize;
     emit_closure(
         tree,
         body,
@@ -519,15 +519,15 @@ fn emit_closure(
     l: Limits,
 ) -> Emitted
     requires { ⌜ Ready (now tree) (now slots) (now made) (now code) (now tables) c l
-        × ClosureLowerable depth (now tree) arity (now inner) at × CapturesHeld (now tree) (namesAt (now tree) (now slots)) arity (now inner) ⌝ }
-    ensures { λ r. ⌜ Lowers r (closureCode depth (now (tree .entry)) (namesAt (now (tree .entry)) (now (slots .entry))) arity (now (inner .entry)) at) (exprAt depth (now (tree .entry)) at .end)
+        × ClosureLowerable depth (now tree) arity (drop slotsFrom (now inner)) at × CapturesHeld (now tree) (slotNames (now tree) (now slots)) arity (drop slotsFrom (now inner)) × Slots (now tree) (now inner) ⌝ }
+    ensures { λ r. ⌜ Lowers r (closureCode depth (now (tree .entry)) (slotNames (now (tree .entry)) (now (slots .entry))) arity (drop slotsFrom (now (inner .entry))) at) (exprAt depth (now (tree .entry)) at .end)
         (now (tree .entry)) (now (made .entry)) (now (code .entry)) (now (tables .entry)) (now (made .exit)) (now (code .exit)) (now (tables .exit)) c l ⌝ }
 {
     let function = emit_function(tree, at, depth, arity, inner, made, code, tables, c, l);
     let Emitted::Done(next, k) = function else {
         return Emitted::Full;
     };
-    let a = arity as usize;
+    let a = 2048 + arity as usize;
     end_closure(
         tree,
         slots,
@@ -556,11 +556,20 @@ fn emit_function(
     l: Limits,
 ) -> Emitted
     requires { ⌜ Ready (now tree) (now slots) (now made) (now code) (now tables) c l
-        × ClosureLowerable depth (now tree) arity (now slots) at ⌝ }
-    ensures { λ r. ⌜ Lowers r (functionCode depth (now (tree .entry)) (c .functions) arity (now (slots .entry)) at) (exprAt depth (now (tree .entry)) at .end)
+        × ClosureLowerable depth (now tree) arity (drop slotsFrom (now slots)) at ⌝ }
+    ensures { λ r. ⌜ Lowers r (functionCode depth (now (tree .entry)) (c .functions) arity (drop slotsFrom (now (slots .entry))) at) (exprAt depth (now (tree .entry)) at .end)
         (now (tree .entry)) (now (made .entry)) (now (code .entry)) (now (tables .entry)) (now (made .exit)) (now (code .exit)) (now (tables .exit)) c l ⌝ }
 {
-    let begun = begin_lambda(tree, made, code, tables, arity, slots.len() as u32, c, l);
+    let begun = begin_lambda(
+        tree,
+        made,
+        code,
+        tables,
+        arity,
+        (slots.len() - 2048) as u32,
+        c,
+        l,
+    );
     let Numbered::At(f, k) = begun else {
         return Emitted::Full;
     };

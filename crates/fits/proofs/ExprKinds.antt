@@ -11,7 +11,7 @@ use borrow.Author.Tests.{eqb-true, eqb-false}
 use Rattle.definitions.specs.Bytes.{Name}
 use Rattle.definitions.specs.Tree.{Expr, lit, var, Literal, Exprs, []ᵉ, _∷ᵉ_, View, asVar, asAttr, asIndex, asTuple, asOther, view}
 use Rattle.definitions.specs.Slots.{captures}
-use Rattle.state.specs.State.{namesAt}
+use Rattle.state.specs.State.{slotsFrom, slotNames}
 use Rattle.state.specs.Fits.{fitsExpr, fitsExprs, fitsTarget}
 use Rattle.parts.specs.Places.{Node, node, nameBytes, nameEnd, There, paramsAt}
 use Rattle.exprs.specs.ExprAt.{exprAt, exprsAt, ExprReads, ExprsRead, varAt, unaryOf, binaryOf, UnaryAt, unaryAt, TwoAt, secondAt, BinaryAt, binaryAt, ListAt, listAt, CallAt, callAt, AttributeAt, attributeAt, displayAt, DictAt, pairsAt, dictAt, indexAt, LambdaAt, lambdaAt, consAt}
@@ -173,13 +173,13 @@ module _ (d : ℕ) (t : List ℕ) (slots : List Name) (n p : ℕ) (r : ExprsRead
 -- ---- a lambda, whose body stands where its parameters end
 
 pub collected-at : (r : Locals) (t ps : List ℕ) (a : ℕ) (parent : List ℕ) (d p q : ℕ) → p ≡ q →
-    Collected r t ps (paramsAt t a .value ++ captures (namesAt t parent) (paramsAt t a .value) (exprAt d t p .value)) →
-    Collected r t ps (paramsAt t a .value ++ captures (namesAt t parent) (paramsAt t a .value) (exprAt d t q .value))
-collected-at r t ps a parent d p q e c = subst (λ (m : ℕ). Collected r t ps (paramsAt t a .value ++ captures (namesAt t parent) (paramsAt t a .value) (exprAt d t m .value))) e c
+    Collected r t ps (paramsAt t a .value ++ captures (slotNames t parent) (paramsAt t a .value) (exprAt d t p .value)) →
+    Collected r t ps (paramsAt t a .value ++ captures (slotNames t parent) (paramsAt t a .value) (exprAt d t q .value))
+collected-at r t ps a parent d p q e c = subst (λ (m : ℕ). Collected r t ps (paramsAt t a .value ++ captures (slotNames t parent) (paramsAt t a .value) (exprAt d t m .value))) e c
 
-pub lambda-body : (r : Locals) (t ps : List ℕ) (inner : List Name) (d p q n : ℕ) (o : Fit) → p ≡ q → Collected r t ps inner → r ≡ Count n → 255 ≤ length ps →
-    Walks o (exprAt d t p .end) (fitsExpr (namesAt t (take (n - 0) (drop 0 ps))) (exprAt d t p .value)) → Walks o (exprAt d t q .end) (lambdaFits inner (exprAt d t q .value))
+pub lambda-body : (r : Locals) (t ps : List ℕ) (inner : List Name) (d p q n : ℕ) (o : Fit) → p ≡ q → Collected r t ps inner → r ≡ Count n → slotsFrom + 255 ≤ length ps →
+    Walks o (exprAt d t p .end) (fitsExpr (slotNames t (take (slotsFrom + n - 0) (drop 0 ps))) (exprAt d t p .value)) → Walks o (exprAt d t q .end) (lambdaFits inner (exprAt d t q .value))
 lambda-body r t ps inner d p q n o e c h g w = lambda-inside r t ps inner c n h g o _ _ _ _ (ap (λ (m : ℕ). exprAt d t m .end) e) (ap (λ (m : ℕ). exprAt d t m .value) e) w
 
-pub long-enough : (ps : List ℕ) → length ps ≡ 512 → 255 ≤ length ps
+pub long-enough : (ps : List ℕ) → length ps ≡ 2304 → slotsFrom + 255 ≤ length ps
 long-enough ps e = omega arith

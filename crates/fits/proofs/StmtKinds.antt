@@ -10,7 +10,7 @@ use lib.ListN.{length, take, drop, getD}
 use Rattle.definitions.specs.Bytes.{Name}
 use Rattle.definitions.specs.Tree.{Expr, Stmt, Block, []ᵇ, _∷ᵇ_, Branches, done, else, when, Methods, []ᵐ, method}
 use Rattle.definitions.specs.Slots.{localsBlock}
-use Rattle.state.specs.State.{namesAt}
+use Rattle.state.specs.State.{slotsFrom, slotNames}
 use Rattle.state.specs.Fits.{fitsExpr, fitsTarget, fitsStmt, fitsBlock, fitsBranches, fitsMethods}
 use Rattle.parts.specs.Places.{Node, node, countAt, nameBytes, nameEnd, There, ParamsAt, paramsAt}
 use Rattle.exprs.specs.ExprAt.{exprAt, ExprReads, TwoAt, secondAt}
@@ -21,6 +21,7 @@ use Rattle.tree.proofs.StmtViews.{stmt-known, view-break, view-continue, view-p
 use Rattle.slots.specs.Slotted.{Collected}
 use Rattle.slots.specs.declared.Locals.{Locals}
 use Rattle.slots.specs.declared.Locals.the-variants.{Count}
+use Rattle.slots.proofs.Adding.{none-names}
 use Rattle.slots.proofs.Kinded.{up}
 use Rattle.fits.specs.Walk.{Walks, defFits}
 use Rattle.fits.specs.declared.Fit.{Fit}
@@ -197,11 +198,11 @@ module _ (d : ℕ) (t : List ℕ) (p a q : ℕ) (e : a ≡ nameEnd t p) (f : q �
   pub def-collected : (r : Locals) (ps : List ℕ) → Collected r t ps (localsBlock (blockAt d t q .value) (paramsAt t a .value)) → Collected r t ps (localsBlock (defBlockAt d t p .value) (paramsAt t (nameEnd t p) .value))
   def-collected r ps c = subst (Collected r t ps) (ap₂ (λ (m k : ℕ). localsBlock (blockAt d t m .value) (paramsAt t k .value)) block-at e) c
 
-  pub def-body : (r : Locals) (ps : List ℕ) (n : ℕ) (o : Fit) → Collected r t ps (localsBlock (blockAt d t q .value) (paramsAt t a .value)) → r ≡ Count n → 255 ≤ length ps →
-      Walks o (blockAt d t q .end) (fitsBlock (namesAt t (take (n - 0) (drop 0 ps))) (blockAt d t q .value)) → Walks o (defBlockAt d t p .end) (methodFits d t p)
+  pub def-body : (r : Locals) (ps : List ℕ) (n : ℕ) (o : Fit) → Collected r t ps (localsBlock (blockAt d t q .value) (paramsAt t a .value)) → r ≡ Count n → slotsFrom + 255 ≤ length ps →
+      Walks o (blockAt d t q .end) (fitsBlock (slotNames t (take (slotsFrom + n - 0) (drop 0 ps))) (blockAt d t q .value)) → Walks o (defBlockAt d t p .end) (methodFits d t p)
   def-body r ps n o c k g w = def-inside r t ps _ (def-collected r ps c) n k g o _ _ _ _ (ap (λ (m : ℕ). blockAt d t m .end) block-at) (ap (λ (m : ℕ). blockAt d t m .value) block-at) w
 
-pub full-length : (ps : List ℕ) → length ps ≡ 256 → 255 ≤ length ps
+pub full-length : (ps : List ℕ) → length ps ≡ 2304 → slotsFrom + 255 ≤ length ps
 full-length ps e = omega arith
 
 -- ---- classes
@@ -228,10 +229,9 @@ module _ (d : ℕ) (t : List ℕ) (p a n : ℕ) (h : ClassAt d t p) (e : a ≡ n
 
 -- ---- a whole tree: main has no slots
 
-module _ (r : Fit) (t : List ℕ) (e : ℕ) (b : Block) (w : Walks r e (fitsBlock (namesAt t []) b)) where
-  no-slots : fitsBlock (namesAt t []) b ≡ fitsBlock [] b
-  unfolding namesAt
-  no-slots = refl
+module _ (r : Fit) (t ps : List ℕ) (e : ℕ) (b : Block) (f : length ps ≡ slotsFrom) (w : Walks r e (fitsBlock (slotNames t ps) b)) where
+  no-slots : fitsBlock (slotNames t ps) b ≡ fitsBlock [] b
+  no-slots = ap (λ (xs : List Name). fitsBlock xs b) (none-names t ps f)
 
   pub tree-fits : (p : ℕ) → r ≡ Next p → true ≡ fitsBlock [] b
   tree-fits p h = sym (sym no-slots ∙ walks-next r e _ p w h .1)

@@ -6,16 +6,15 @@ use mathlib.Core.List.{List, [], _∷_, _++_}
 use native.Mathlib.Omega.{arith}
 use lib.Dec.{leb}
 use lib.ListN.{length, take, drop}
-use lib.Seq.{length-take-le}
 use borrow.Author.Tests.{le-leb, lt-leb}
 use Rattle.definitions.specs.Bytes.{Name}
 use Rattle.definitions.specs.Tree.{Expr, Block}
-use Rattle.state.specs.State.{namesAt}
+use Rattle.state.specs.State.{slotsFrom, slotNames, Slots}
 use Rattle.state.specs.Fits.{fitsExpr, fitsBlock}
 use Rattle.slots.specs.Slotted.{firstNames, Collected}
 use Rattle.slots.specs.declared.Locals.{Locals}
 use Rattle.slots.specs.declared.Locals.the-variants.{Count, TooMany}
-use Rattle.slots.proofs.Adding.{first-length, part-before}
+use Rattle.slots.proofs.Adding.{first-length, part-before, front-names, front-slots}
 use Rattle.slots.proofs.Params.{collected-count, collected-over}
 use Rattle.fits.specs.Walk.{Short, Walks, lambdaFits, defFits}
 use Rattle.fits.specs.declared.Fit.{Fit}
@@ -102,21 +101,23 @@ module _ (r : Locals) (t ps : List ℕ) (inner : List Name) (c : Collected r t p
     pub slots-few : n ≤ 255
     slots-few = collected-count r t ps inner n c h .0
 
-    inner-names : namesAt t (take (n - 0) (drop 0 ps)) ≡ inner
-    unfolding firstNames
-    inner-names = ap (namesAt t) (part-before n ps) ∙ collected-count r t ps inner n c h .1
+    module _ (g : slotsFrom + 255 ≤ length ps) where
+      inner-room : slotsFrom + n ≤ length ps
+      inner-room = let a = slots-few in omega arith
 
-    module _ (g : 255 ≤ length ps) where
+      inner-names : slotNames t (take (slotsFrom + n - 0) (drop 0 ps)) ≡ inner
+      inner-names = ap (slotNames t) (part-before (slotsFrom + n) ps) ∙ front-names t ps n inner-room ∙ collected-count r t ps inner n c h .1
+
       few-names : leb (length inner) 255 ≡ true
-      few-names = let a = slots-few in le-leb (length inner) 255 (omega (arith, ap length (collected-count r t ps inner n c h .1), first-length t n ps (omega arith)))
+      few-names = let a = slots-few in le-leb (length inner) 255 (omega (arith, ap length (collected-count r t ps inner n c h .1), first-length t n ps inner-room))
 
-      pub inner-short : length t ≤ 32768 → Short t (take (n - 0) (drop 0 ps))
-      inner-short k = let a = slots-few in record { tree = k; slots-few = omega (arith, ap length (part-before n ps), length-take-le n ps (omega arith)) }
+      pub inner-short : length t ≤ 32768 → Short t (take (slotsFrom + n - 0) (drop 0 ps))
+      inner-short k = record { tree = k; slotted = subst (Slots t) (sym (part-before (slotsFrom + n) ps)) (front-slots t ps n inner-room slots-few (collected-count r t ps inner n c h .2)) }
 
-      pub lambda-inside : (o : Fit) (e e′ : ℕ) (b b′ : Expr) → e ≡ e′ → b ≡ b′ → Walks o e (fitsExpr (namesAt t (take (n - 0) (drop 0 ps))) b) → Walks o e′ (lambdaFits inner b′)
+      pub lambda-inside : (o : Fit) (e e′ : ℕ) (b b′ : Expr) → e ≡ e′ → b ≡ b′ → Walks o e (fitsExpr (slotNames t (take (slotsFrom + n - 0) (drop 0 ps))) b) → Walks o e′ (lambdaFits inner b′)
       unfolding lambdaFits
       lambda-inside o e e′ b b′ i j w = walks-as o e e′ _ _ w i (ap₂ fitsExpr inner-names j ∙ sym (ap (λ (x : Bool). x && fitsExpr inner b′) few-names))
 
-      pub def-inside : (o : Fit) (e e′ : ℕ) (b b′ : Block) → e ≡ e′ → b ≡ b′ → Walks o e (fitsBlock (namesAt t (take (n - 0) (drop 0 ps))) b) → Walks o e′ (defFits inner b′)
+      pub def-inside : (o : Fit) (e e′ : ℕ) (b b′ : Block) → e ≡ e′ → b ≡ b′ → Walks o e (fitsBlock (slotNames t (take (slotsFrom + n - 0) (drop 0 ps))) b) → Walks o e′ (defFits inner b′)
       unfolding defFits
       def-inside o e e′ b b′ i j w = walks-as o e e′ _ _ w i (ap₂ fitsBlock inner-names j ∙ sym (ap (λ (x : Bool). x && fitsBlock inner b′) few-names))

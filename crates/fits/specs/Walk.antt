@@ -7,14 +7,15 @@ use lib.ListN.{length, getD}
 use lib.Dec.{leb}
 use Rattle.definitions.specs.Bytes.{Name}
 use Rattle.definitions.specs.Tree.{Expr, Block}
+use Rattle.state.specs.State.{Slots}
 use Rattle.state.specs.Fits.{fitsExpr, fitsBlock}
 use Rattle.fits.specs.declared.Fit.{Fit}
 use Rattle.fits.specs.declared.Fit.the-variants.{Next, Over}
 
--- a short tree, and few slots
+-- a short tree, and slots
 pub record Short (t slots : List ℕ) : Type 0 where
   pub tree : length t ≤ 32768
-  pub slots-few : length slots ≤ 255
+  pub slotted : Slots t slots
 
 -- the next position where the question is answered yes; else that it is not
 unfoldable pub Walks : Fit → ℕ → Bool → Type 0

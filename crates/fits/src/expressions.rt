@@ -12,7 +12,7 @@ ghost use mathlib.Core.List.{_++_};
 ghost use Prim.Native.Nat.{_+_, _*_, _≤_, _<_};
 ghost use lib.ListN.{length};
 ghost use Rattle.definitions.specs.Slots.{captures};
-ghost use Rattle.state.specs.State.{namesAt};
+ghost use Rattle.state.specs.State.{slotNames};
 ghost use Rattle.state.specs.Fits.{fitsExpr, fitsExprs, fitsTarget};
 ghost use Rattle.parts.specs.Places.{nameEnd, paramsAt};
 ghost use Rattle.exprs.specs.ExprAt.{exprAt, exprsAt, ExprReads, ExprsRead, TwoAt, secondAt, CallAt, ListAt, listAt, DictAt, pairsAt, AttributeAt, LambdaAt};
@@ -21,7 +21,7 @@ ghost use Rattle.fits.specs.Walk.{Short, Walks, lambdaFits};
 // An expression of a function with these slots.
 pub fn fits_expr(tree: &[u8], at: usize, depth: u32, slots: &[u32]) -> Fit
     requires { ⌜ Short (now tree) (now slots) × ExprReads depth (now tree) at ⌝ }
-    ensures { λ r. ⌜ Walks r (exprAt depth (now (tree .entry)) at .end) (fitsExpr (namesAt (now (tree .entry)) (now (slots .entry))) (exprAt depth (now (tree .entry)) at .value)) ⌝ }
+    ensures { λ r. ⌜ Walks r (exprAt depth (now (tree .entry)) at .end) (fitsExpr (slotNames (now (tree .entry)) (now (slots .entry))) (exprAt depth (now (tree .entry)) at .value)) ⌝ }
 {
     let kind = tree[at];
     let a = at + 1;
@@ -45,7 +45,7 @@ pub fn fits_expr(tree: &[u8], at: usize, depth: u32, slots: &[u32]) -> Fit
 fn fits_two(tree: &[u8], at: usize, depth: u32, slots: &[u32]) -> Fit
     requires { ⌜ Short (now tree) (now slots) × TwoAt depth (now tree) at ⌝ }
     ensures { λ r. ⌜ Walks r (secondAt depth (now (tree .entry)) at .end)
-        (fitsExpr (namesAt (now (tree .entry)) (now (slots .entry))) (exprAt depth (now (tree .entry)) at .value) && fitsExpr (namesAt (now (tree .entry)) (now (slots .entry))) (secondAt depth (now (tree .entry)) at .value)) ⌝ }
+        (fitsExpr (slotNames (now (tree .entry)) (now (slots .entry))) (exprAt depth (now (tree .entry)) at .value) && fitsExpr (slotNames (now (tree .entry)) (now (slots .entry))) (secondAt depth (now (tree .entry)) at .value)) ⌝ }
 {
     let left = fits_expr(tree, at, depth, slots);
     let Fit::Next(p) = left else {
@@ -58,7 +58,7 @@ fn fits_two(tree: &[u8], at: usize, depth: u32, slots: &[u32]) -> Fit
 fn fits_call(tree: &[u8], at: usize, depth: u32, slots: &[u32]) -> Fit
     requires { ⌜ Short (now tree) (now slots) × CallAt depth (now tree) at ⌝ }
     ensures { λ r. ⌜ Walks r (listAt depth (now (tree .entry)) (exprAt depth (now (tree .entry)) at .end) .end)
-        (fitsExpr (namesAt (now (tree .entry)) (now (slots .entry))) (exprAt depth (now (tree .entry)) at .value) && fitsExprs (namesAt (now (tree .entry)) (now (slots .entry))) (listAt depth (now (tree .entry)) (exprAt depth (now (tree .entry)) at .end) .value)) ⌝ }
+        (fitsExpr (slotNames (now (tree .entry)) (now (slots .entry))) (exprAt depth (now (tree .entry)) at .value) && fitsExprs (slotNames (now (tree .entry)) (now (slots .entry))) (listAt depth (now (tree .entry)) (exprAt depth (now (tree .entry)) at .end) .value)) ⌝ }
 {
     let callee = fits_expr(tree, at, depth, slots);
     let Fit::Next(p) = callee else {
@@ -70,7 +70,7 @@ fn fits_call(tree: &[u8], at: usize, depth: u32, slots: &[u32]) -> Fit
 // An object and an attribute's name.
 fn fits_attribute(tree: &[u8], at: usize, depth: u32, slots: &[u32]) -> Fit
     requires { ⌜ Short (now tree) (now slots) × AttributeAt depth (now tree) at ⌝ }
-    ensures { λ r. ⌜ Walks r (nameEnd (now (tree .entry)) (exprAt depth (now (tree .entry)) at .end)) (fitsExpr (namesAt (now (tree .entry)) (now (slots .entry))) (exprAt depth (now (tree .entry)) at .value)) ⌝ }
+    ensures { λ r. ⌜ Walks r (nameEnd (now (tree .entry)) (exprAt depth (now (tree .entry)) at .end)) (fitsExpr (slotNames (now (tree .entry)) (now (slots .entry))) (exprAt depth (now (tree .entry)) at .value)) ⌝ }
 {
     let object = fits_expr(tree, at, depth, slots);
     let Fit::Next(p) = object else {
@@ -82,7 +82,7 @@ fn fits_attribute(tree: &[u8], at: usize, depth: u32, slots: &[u32]) -> Fit
 // A count of expressions.
 fn fits_list(tree: &[u8], at: usize, depth: u32, slots: &[u32]) -> Fit
     requires { ⌜ Short (now tree) (now slots) × ListAt depth (now tree) at ⌝ }
-    ensures { λ r. ⌜ Walks r (listAt depth (now (tree .entry)) at .end) (fitsExprs (namesAt (now (tree .entry)) (now (slots .entry))) (listAt depth (now (tree .entry)) at .value)) ⌝ }
+    ensures { λ r. ⌜ Walks r (listAt depth (now (tree .entry)) at .end) (fitsExprs (slotNames (now (tree .entry)) (now (slots .entry))) (listAt depth (now (tree .entry)) at .value)) ⌝ }
 {
     let count = u16_at(tree, at);
     fits_many(tree, at + 2, depth, count, slots)
@@ -91,7 +91,7 @@ fn fits_list(tree: &[u8], at: usize, depth: u32, slots: &[u32]) -> Fit
 // A count of keys and values.
 fn fits_dict(tree: &[u8], at: usize, depth: u32, slots: &[u32]) -> Fit
     requires { ⌜ Short (now tree) (now slots) × DictAt depth (now tree) at ⌝ }
-    ensures { λ r. ⌜ Walks r (pairsAt depth (now (tree .entry)) at .end) (fitsExprs (namesAt (now (tree .entry)) (now (slots .entry))) (pairsAt depth (now (tree .entry)) at .value)) ⌝ }
+    ensures { λ r. ⌜ Walks r (pairsAt depth (now (tree .entry)) at .end) (fitsExprs (slotNames (now (tree .entry)) (now (slots .entry))) (pairsAt depth (now (tree .entry)) at .value)) ⌝ }
 {
     let count = u16_at(tree, at);
     fits_many(tree, at + 2, depth, 2 * count, slots)
@@ -100,7 +100,7 @@ fn fits_dict(tree: &[u8], at: usize, depth: u32, slots: &[u32]) -> Fit
 // So many expressions; None, False and True are one byte each.
 fn fits_many(tree: &[u8], at: usize, depth: u32, count: u32, slots: &[u32]) -> Fit
     requires { ⌜ Short (now tree) (now slots) × ExprsRead depth count (now tree) at ⌝ }
-    ensures { λ r. ⌜ Walks r (exprsAt depth count (now (tree .entry)) at .end) (fitsExprs (namesAt (now (tree .entry)) (now (slots .entry))) (exprsAt depth count (now (tree .entry)) at .value)) ⌝ }
+    ensures { λ r. ⌜ Walks r (exprsAt depth count (now (tree .entry)) at .end) (fitsExprs (slotNames (now (tree .entry)) (now (slots .entry))) (exprsAt depth count (now (tree .entry)) at .value)) ⌝ }
 {
     let mut p = at;
     let mut left = count;
@@ -123,22 +123,22 @@ fn fits_many(tree: &[u8], at: usize, depth: u32, count: u32, slots: &[u32]) -> F
 fn fits_lambda(tree: &[u8], at: usize, depth: u32, slots: &[u32]) -> Fit
     requires { ⌜ Short (now tree) (now slots) × LambdaAt depth (now tree) at ⌝ }
     ensures { λ r. ⌜ Walks r (exprAt depth (now (tree .entry)) (paramsAt (now (tree .entry)) at .end) .end)
-        (lambdaFits (paramsAt (now (tree .entry)) at .value ++ captures (namesAt (now (tree .entry)) (now (slots .entry))) (paramsAt (now (tree .entry)) at .value) (exprAt depth (now (tree .entry)) (paramsAt (now (tree .entry)) at .end) .value)) (exprAt depth (now (tree .entry)) (paramsAt (now (tree .entry)) at .end) .value)) ⌝ }
+        (lambdaFits (paramsAt (now (tree .entry)) at .value ++ captures (slotNames (now (tree .entry)) (now (slots .entry))) (paramsAt (now (tree .entry)) at .value) (exprAt depth (now (tree .entry)) (paramsAt (now (tree .entry)) at .end) .value)) (exprAt depth (now (tree .entry)) (paramsAt (now (tree .entry)) at .end) .value)) ⌝ }
 {
-    let mut inner = [0u32; 512];
+    let mut inner = [0u32; 2304];
     let p = skip_params(tree, at);
     let found = lambda_slots(tree, at, p, depth, slots, &mut inner);
     let Locals::Count(n) = found else {
         return Fit::Over;
     };
-    let end = n as usize;
+    let end = 2048 + n as usize;
     fits_expr(tree, p, depth, &inner[0..end])
 }
 
 // An assignment's target: the expressions of an attribute or an index; a tuple's names are none.
 pub fn fits_target(tree: &[u8], at: usize, depth: u32, slots: &[u32]) -> Fit
     requires { ⌜ Short (now tree) (now slots) × ExprReads depth (now tree) at ⌝ }
-    ensures { λ r. ⌜ Walks r (exprAt depth (now (tree .entry)) at .end) (fitsTarget (namesAt (now (tree .entry)) (now (slots .entry))) (exprAt depth (now (tree .entry)) at .value)) ⌝ }
+    ensures { λ r. ⌜ Walks r (exprAt depth (now (tree .entry)) at .end) (fitsTarget (slotNames (now (tree .entry)) (now (slots .entry))) (exprAt depth (now (tree .entry)) at .value)) ⌝ }
 {
     let kind = tree[at];
     match kind {

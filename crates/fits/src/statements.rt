@@ -14,7 +14,7 @@ ghost use mathlib.Core.List.{List, []};
 ghost use Prim.Native.Nat.{_+_, _*_, _-_, _≤_, _<_};
 ghost use lib.ListN.{length, getD};
 ghost use Rattle.definitions.specs.Slots.{localsBlock};
-ghost use Rattle.state.specs.State.{namesAt};
+ghost use Rattle.state.specs.State.{slotNames};
 ghost use Rattle.state.specs.Fits.{fitsExpr, fitsTarget, fitsStmt, fitsBlock, fitsBranches, fitsMethods};
 ghost use Rattle.parts.specs.Places.{nameEnd, paramsAt};
 ghost use Rattle.exprs.specs.ExprAt.{exprAt, TwoAt, secondAt};
@@ -25,7 +25,7 @@ ghost use Rattle.fits.specs.Walk.{Short, Walks, defFits};
 fn fits_assign(tree: &[u8], at: usize, depth: u32, slots: &[u32]) -> Fit
     requires { ⌜ Short (now tree) (now slots) × TwoAt depth (now tree) at ⌝ }
     ensures { λ r. ⌜ Walks r (secondAt depth (now (tree .entry)) at .end)
-        (fitsTarget (namesAt (now (tree .entry)) (now (slots .entry))) (exprAt depth (now (tree .entry)) at .value) && fitsExpr (namesAt (now (tree .entry)) (now (slots .entry))) (secondAt depth (now (tree .entry)) at .value)) ⌝ }
+        (fitsTarget (slotNames (now (tree .entry)) (now (slots .entry))) (exprAt depth (now (tree .entry)) at .value) && fitsExpr (slotNames (now (tree .entry)) (now (slots .entry))) (secondAt depth (now (tree .entry)) at .value)) ⌝ }
 {
     let target = fits_target(tree, at, depth, slots);
     let Fit::Next(p) = target else {
@@ -37,7 +37,7 @@ fn fits_assign(tree: &[u8], at: usize, depth: u32, slots: &[u32]) -> Fit
 // A statement of a function with these slots.
 fn fits_stmt(tree: &[u8], at: usize, depth: u32, slots: &[u32]) -> Fit
     requires { ⌜ Short (now tree) (now slots) × StmtReads depth (now tree) at ⌝ }
-    ensures { λ r. ⌜ Walks r (stmtAt depth (now (tree .entry)) at .end) (fitsStmt (namesAt (now (tree .entry)) (now (slots .entry))) (stmtAt depth (now (tree .entry)) at .value)) ⌝ }
+    ensures { λ r. ⌜ Walks r (stmtAt depth (now (tree .entry)) at .end) (fitsStmt (slotNames (now (tree .entry)) (now (slots .entry))) (stmtAt depth (now (tree .entry)) at .value)) ⌝ }
 {
     let kind = tree[at];
     let a = at + 1;
@@ -57,7 +57,7 @@ fn fits_stmt(tree: &[u8], at: usize, depth: u32, slots: &[u32]) -> Fit
 // A block.
 fn fits_block(tree: &[u8], at: usize, depth: u32, slots: &[u32]) -> Fit
     requires { ⌜ Short (now tree) (now slots) × BlockReads depth (now tree) at ⌝ }
-    ensures { λ r. ⌜ Walks r (blockAt depth (now (tree .entry)) at .end) (fitsBlock (namesAt (now (tree .entry)) (now (slots .entry))) (blockAt depth (now (tree .entry)) at .value)) ⌝ }
+    ensures { λ r. ⌜ Walks r (blockAt depth (now (tree .entry)) at .end) (fitsBlock (slotNames (now (tree .entry)) (now (slots .entry))) (blockAt depth (now (tree .entry)) at .value)) ⌝ }
 {
     let mut left = u16_at(tree, at);
     let mut p = at + 2;
@@ -76,7 +76,7 @@ fn fits_block(tree: &[u8], at: usize, depth: u32, slots: &[u32]) -> Fit
 fn fits_branch(tree: &[u8], at: usize, depth: u32, slots: &[u32]) -> Fit
     requires { ⌜ Short (now tree) (now slots) × BranchAt depth (now tree) at ⌝ }
     ensures { λ r. ⌜ Walks r (bodyAt depth (now (tree .entry)) at .end)
-        (fitsExpr (namesAt (now (tree .entry)) (now (slots .entry))) (exprAt depth (now (tree .entry)) at .value) && fitsBlock (namesAt (now (tree .entry)) (now (slots .entry))) (bodyAt depth (now (tree .entry)) at .value)) ⌝ }
+        (fitsExpr (slotNames (now (tree .entry)) (now (slots .entry))) (exprAt depth (now (tree .entry)) at .value) && fitsBlock (slotNames (now (tree .entry)) (now (slots .entry))) (bodyAt depth (now (tree .entry)) at .value)) ⌝ }
 {
     let condition = fits_expr(tree, at, depth, slots);
     let Fit::Next(p) = condition else {
@@ -89,8 +89,8 @@ fn fits_branch(tree: &[u8], at: usize, depth: u32, slots: &[u32]) -> Fit
 fn fits_if(tree: &[u8], at: usize, depth: u32, slots: &[u32]) -> Fit
     requires { ⌜ Short (now tree) (now slots) × IfAt depth (now tree) at ⌝ }
     ensures { λ r. ⌜ Walks r (elifsAt depth (now (tree .entry)) at .end)
-        (fitsExpr (namesAt (now (tree .entry)) (now (slots .entry))) (exprAt depth (now (tree .entry)) at .value) && fitsBlock (namesAt (now (tree .entry)) (now (slots .entry))) (bodyAt depth (now (tree .entry)) at .value)
-        && fitsBranches (namesAt (now (tree .entry)) (now (slots .entry))) (elifsAt depth (now (tree .entry)) at .value)) ⌝ }
+        (fitsExpr (slotNames (now (tree .entry)) (now (slots .entry))) (exprAt depth (now (tree .entry)) at .value) && fitsBlock (slotNames (now (tree .entry)) (now (slots .entry))) (bodyAt depth (now (tree .entry)) at .value)
+        && fitsBranches (slotNames (now (tree .entry)) (now (slots .entry))) (elifsAt depth (now (tree .entry)) at .value)) ⌝ }
 {
     let first = fits_branch(tree, at, depth, slots);
     let Fit::Next(p) = first else {
@@ -103,7 +103,7 @@ fn fits_if(tree: &[u8], at: usize, depth: u32, slots: &[u32]) -> Fit
 // So many elifs, and an else block or none.
 fn fits_elifs(tree: &[u8], at: usize, depth: u32, count: u32, slots: &[u32]) -> Fit
     requires { ⌜ Short (now tree) (now slots) × BranchesRead depth count (now tree) at ⌝ }
-    ensures { λ r. ⌜ Walks r (branchesAt depth count (now (tree .entry)) at .end) (fitsBranches (namesAt (now (tree .entry)) (now (slots .entry))) (branchesAt depth count (now (tree .entry)) at .value)) ⌝ }
+    ensures { λ r. ⌜ Walks r (branchesAt depth count (now (tree .entry)) at .end) (fitsBranches (slotNames (now (tree .entry)) (now (slots .entry))) (branchesAt depth count (now (tree .entry)) at .value)) ⌝ }
 {
     let mut p = at;
     let mut left = count;
@@ -121,7 +121,7 @@ fn fits_elifs(tree: &[u8], at: usize, depth: u32, count: u32, slots: &[u32]) -> 
 // The byte 0; or 1, and an else block.
 fn fits_else(tree: &[u8], at: usize, depth: u32, slots: &[u32]) -> Fit
     requires { ⌜ Short (now tree) (now slots) × BranchesRead depth 0 (now tree) at ⌝ }
-    ensures { λ r. ⌜ Walks r (branchesAt depth 0 (now (tree .entry)) at .end) (fitsBranches (namesAt (now (tree .entry)) (now (slots .entry))) (branchesAt depth 0 (now (tree .entry)) at .value)) ⌝ }
+    ensures { λ r. ⌜ Walks r (branchesAt depth 0 (now (tree .entry)) at .end) (fitsBranches (slotNames (now (tree .entry)) (now (slots .entry))) (branchesAt depth 0 (now (tree .entry)) at .value)) ⌝ }
 {
     if tree[at] == 0 {
         return Fit::Next(at + 1);
@@ -133,7 +133,7 @@ fn fits_else(tree: &[u8], at: usize, depth: u32, slots: &[u32]) -> Fit
 fn fits_for(tree: &[u8], at: usize, depth: u32, slots: &[u32]) -> Fit
     requires { ⌜ Short (now tree) (now slots) × ForAt depth (now tree) at ⌝ }
     ensures { λ r. ⌜ Walks r (bodyAt depth (now (tree .entry)) (nameEnd (now (tree .entry)) at) .end)
-        (fitsExpr (namesAt (now (tree .entry)) (now (slots .entry))) (exprAt depth (now (tree .entry)) (nameEnd (now (tree .entry)) at) .value) && fitsBlock (namesAt (now (tree .entry)) (now (slots .entry))) (bodyAt depth (now (tree .entry)) (nameEnd (now (tree .entry)) at) .value)) ⌝ }
+        (fitsExpr (slotNames (now (tree .entry)) (now (slots .entry))) (exprAt depth (now (tree .entry)) (nameEnd (now (tree .entry)) at) .value) && fitsBlock (slotNames (now (tree .entry)) (now (slots .entry))) (bodyAt depth (now (tree .entry)) (nameEnd (now (tree .entry)) at) .value)) ⌝ }
 {
     let p = name_end(tree, at);
     fits_branch(tree, p, depth, slots)
@@ -144,14 +144,14 @@ fn fits_def(tree: &[u8], at: usize, depth: u32) -> Fit
     requires { ⌜ (length (now tree) ≤ 32768) × DefAt depth (now tree) at ⌝ }
     ensures { λ r. ⌜ Walks r (defBlockAt depth (now (tree .entry)) at .end) (defFits (localsBlock (defBlockAt depth (now (tree .entry)) at .value) (paramsAt (now (tree .entry)) (nameEnd (now (tree .entry)) at) .value)) (defBlockAt depth (now (tree .entry)) at .value)) ⌝ }
 {
-    let mut inner = [0u32; 256];
+    let mut inner = [0u32; 2304];
     let params = name_end(tree, at);
     let p = skip_params(tree, params);
     let found = collect_locals(tree, params, p, depth, &mut inner);
     let Locals::Count(n) = found else {
         return Fit::Over;
     };
-    let end = n as usize;
+    let end = 2048 + n as usize;
     fits_block(tree, p, depth, &inner[0..end])
 }
 
@@ -192,8 +192,8 @@ pub fn check_slots(tree: &[u8]) -> bool
     requires { ⌜ TreeAt (now tree) ⌝ }
     ensures { λ r. ⌜ r ≡ fitsBlock [] (blockAt 32 (now (tree .entry)) 5 .value) ⌝ }
 {
-    let none = [0u32; 1];
-    let whole = fits_block(tree, 5, 32, &none[0..0]);
+    let none = [0u32; 2048];
+    let whole = fits_block(tree, 5, 32, &none);
     match whole {
         Fit::Next(_) => true,
         Fit::Over => false,

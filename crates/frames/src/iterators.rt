@@ -16,7 +16,7 @@ ghost use Rattle.definitions.specs.Instruction.{instr, CallMethod, LoadGlobal, 
 ghost use Rattle.definitions.specs.Tables.{one, _⨟_, intern};
 ghost use Rattle.definitions.specs.Lower.{iterName, makeIter, askIter, takeIter};
 ghost use Rattle.state.specs.Words.{nameAt};
-ghost use Rattle.state.specs.State.{namesAt, stateOf, emitAt, Sound, Emits, Numbers, symbolNumber, withSymbol, withTables};
+ghost use Rattle.state.specs.State.{stateOf, emitAt, Sound, Emits, Numbers, symbolNumber, withSymbol, withTables, slotNames, Slots};
 ghost use Rattle.names.specs.Made.{madeName};
 
 // The iterator of the value on the stack.
@@ -122,9 +122,9 @@ pub fn take_iterator(
     c: Counts,
     l: Limits,
 ) -> Emitted
-    requires { ⌜ Sound (now tree) (now made) (now code) (now tables) c l × (length (now slots) < 256) × (at < 32768) × (g < 65536) ⌝ }
+    requires { ⌜ Sound (now tree) (now made) (now code) (now tables) c l × Slots (now tree) (now slots) × (at < 32768) × (g < 65536) ⌝ }
     ensures { λ r. ⌜ Emits r (now (tree .entry)) (now (made .exit)) (now (code .exit)) (now (tables .exit)) c l next
-        (emitAt (c .base) (takeIter (namesAt (now (tree .entry)) (now (slots .entry))) (nameAt (now (tree .entry)) at) g) (stateOf (now (tree .entry)) (now (made .entry)) (now (code .entry)) (now (tables .entry)) c)) ⌝ }
+        (emitAt (c .base) (takeIter (slotNames (now (tree .entry)) (now (slots .entry))) (nameAt (now (tree .entry)) at) g) (stateOf (now (tree .entry)) (now (made .entry)) (now (code .entry)) (now (tables .entry)) c)) ⌝ }
 {
     let taken = call_iterator(tree, made, code, tables, g, Made::Next, next, c, l);
     let Emitted::Done(p, k) = taken else {

@@ -52,8 +52,8 @@ fn emit_main(
     ensures { λ r. ⌜ Emits r (now (tree .entry)) (now (made .exit)) (now (code .exit)) (now (tables .exit)) c l (blockAt 32 (now (tree .entry)) 5 .end)
         (emitAt (c .base) (mainCode (treeBlock (now (tree .entry)))) (stateOf (now (tree .entry)) (now (made .entry)) (now (code .entry)) (now (tables .entry)) c)) ⌝ }
 {
-    let none = [0u32; 1];
-    let block = emit_block(tree, 5, 32, &none[0..0], made, code, tables, c, l);
+    let none = [0u32; 2048];
+    let block = emit_block(tree, 5, 32, &none, made, code, tables, c, l);
     let Emitted::Done(next, k) = block else {
         return Emitted::Full;
     };

@@ -1,7 +1,8 @@
 pub mod Spelling
 pub mod Finding
-pub mod Numbering
 pub mod Indexing
+pub mod Numbering
+pub mod TableIndex
 pub mod Pasting
 pub mod MadeNames
 pub mod Midway

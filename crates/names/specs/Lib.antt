@@ -1,3 +1,4 @@
 pub mod Made
 pub mod Variable
 pub mod Calls
+pub mod Sought

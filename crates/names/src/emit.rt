@@ -1,6 +1,7 @@
 // Instructions that name a symbol, a string or a slot.
 use crate::Made;
-use crate::find::find_place;
+use crate::index::find_from;
+use crate::index::slot_bucket;
 use crate::making::intern_made;
 use crate::number::get_or_add_string;
 use crate::number::intern;
@@ -12,14 +13,14 @@ use state::Limits;
 use state::Numbered;
 ghost use mathlib.Core.Path.{_≡_};
 ghost use Prim.Native.Nat.{_+_, _≤_, _<_, _^_};
-ghost use lib.ListN.{length};
+ghost use lib.ListN.{length, drop};
 ghost use Rattle.definitions.specs.Bytes.{same, position};
 ghost use Rattle.definitions.specs.Instruction.{instr, ConstStr};
 ghost use Rattle.definitions.specs.Tables as Tables;
 ghost use Rattle.definitions.specs.Tables.{one, getOrAddString};
-ghost use Rattle.definitions.specs.Lower.{load, store, loads};
+ghost use Rattle.definitions.specs.Lower.{load, store};
 ghost use Rattle.state.specs.Words.{nameAt, textAt};
-ghost use Rattle.state.specs.State.{namesAt, stateOf, emitAt, Sound, Every, Emits, foundOr};
+ghost use Rattle.state.specs.State.{slotsFrom, slotNames, Slots, stateOf, emitAt, Sound, Emits, foundOr};
 ghost use Rattle.code.specs.Ops.{Plain};
 ghost use Rattle.names.specs.Made.{madeName};
 ghost use Rattle.names.specs.Variable.{variable};
@@ -99,10 +100,12 @@ pub fn emit_string(
 
 // The slot of the name at `at`, or how many slots there are.
 pub fn find_slot(tree: &[u8], slots: &[u32], at: usize) -> u32
-    requires { ⌜ length (now slots) < 2 ^ 32 ⌝ }
-    ensures { λ r. ⌜ r ≡ foundOr (length (now (slots .entry))) (position (same (nameAt (now (tree .entry)) at)) (namesAt (now (tree .entry)) (now (slots .entry)))) ⌝ }
+    requires { ⌜ Slots (now tree) (now slots) ⌝ }
+    ensures { λ r. ⌜ r ≡ foundOr (length (drop slotsFrom (now (slots .entry)))) (position (same (nameAt (now (tree .entry)) at)) (slotNames (now (tree .entry)) (now (slots .entry)))) ⌝ }
 {
-    find_place(tree, slots, name_part(tree, at)) as u32
+    let name = name_part(tree, at);
+    let k = slots[slot_bucket(name)];
+    find_from(tree, &slots[2048..], k, name) as u32
 }
 
 // The variable at `at` by its slot with `op`, else by the global of its name, whose opcode is two more.
@@ -118,13 +121,13 @@ fn emit_variable(
     c: Counts,
     l: Limits,
 ) -> Emitted
-    requires { ⌜ Sound (now tree) (now made) (now code) (now tables) c l × (length (now slots) < 256) × (at < 32768) × (9 ≤ op) × (op ≤ 10) ⌝ }
+    requires { ⌜ Sound (now tree) (now made) (now code) (now tables) c l × Slots (now tree) (now slots) × (at < 32768) × (9 ≤ op) × (op ≤ 10) ⌝ }
     ensures { λ r. ⌜ Emits r (now (tree .entry)) (now (made .entry)) (now (code .exit)) (now (tables .exit)) c l next
-        (emitAt (c .base) (variable op (namesAt (now (tree .entry)) (now (slots .entry))) (nameAt (now (tree .entry)) at))
+        (emitAt (c .base) (variable op (slotNames (now (tree .entry)) (now (slots .entry))) (nameAt (now (tree .entry)) at))
         (stateOf (now (tree .entry)) (now (made .entry)) (now (code .entry)) (now (tables .entry)) c)) ⌝ }
 {
     let i = find_slot(tree, slots, at);
-    if (i as usize) < slots.len() {
+    if (i as usize) < slots.len() - 2048 {
         return put_op(tree, made, code, tables, op, i, 0, next, c, l);
     }
     emit_symbol(tree, made, code, tables, at, op + 2, 0, next, c, l)
@@ -142,9 +145,9 @@ pub fn emit_load(
     c: Counts,
     l: Limits,
 ) -> Emitted
-    requires { ⌜ Sound (now tree) (now made) (now code) (now tables) c l × (length (now slots) < 256) × (at < 32768) ⌝ }
+    requires { ⌜ Sound (now tree) (now made) (now code) (now tables) c l × Slots (now tree) (now slots) × (at < 32768) ⌝ }
     ensures { λ r. ⌜ Emits r (now (tree .entry)) (now (made .entry)) (now (code .exit)) (now (tables .exit)) c l next
-        (emitAt (c .base) (load (namesAt (now (tree .entry)) (now (slots .entry))) (nameAt (now (tree .entry)) at))
+        (emitAt (c .base) (load (slotNames (now (tree .entry)) (now (slots .entry))) (nameAt (now (tree .entry)) at))
         (stateOf (now (tree .entry)) (now (made .entry)) (now (code .entry)) (now (tables .entry)) c)) ⌝ }
 {
     emit_variable(tree, slots, made, code, tables, at, 9, next, c, l)
@@ -162,41 +165,10 @@ pub fn emit_store(
     c: Counts,
     l: Limits,
 ) -> Emitted
-    requires { ⌜ Sound (now tree) (now made) (now code) (now tables) c l × (length (now slots) < 256) × (at < 32768) ⌝ }
+    requires { ⌜ Sound (now tree) (now made) (now code) (now tables) c l × Slots (now tree) (now slots) × (at < 32768) ⌝ }
     ensures { λ r. ⌜ Emits r (now (tree .entry)) (now (made .entry)) (now (code .exit)) (now (tables .exit)) c l next
-        (emitAt (c .base) (store (namesAt (now (tree .entry)) (now (slots .entry))) (nameAt (now (tree .entry)) at))
+        (emitAt (c .base) (store (slotNames (now (tree .entry)) (now (slots .entry))) (nameAt (now (tree .entry)) at))
         (stateOf (now (tree .entry)) (now (made .entry)) (now (code .entry)) (now (tables .entry)) c)) ⌝ }
 {
     emit_variable(tree, slots, made, code, tables, at, 10, next, c, l)
-}
-
-// The values of the variables at `places`.
-pub fn emit_loads(
-    tree: &[u8],
-    slots: &[u32],
-    made: &[u8],
-    code: &mut [u32],
-    tables: &mut [u32],
-    places: &[u32],
-    next: usize,
-    c: Counts,
-    l: Limits,
-) -> Emitted
-    requires { ⌜ Sound (now tree) (now made) (now code) (now tables) c l × (length (now slots) < 256) × Every (λ p. p < 32768) (now places) ⌝ }
-    ensures { λ r. ⌜ Emits r (now (tree .entry)) (now (made .entry)) (now (code .exit)) (now (tables .exit)) c l next
-        (emitAt (c .base) (loads (namesAt (now (tree .entry)) (now (slots .entry))) (namesAt (now (tree .entry)) (now (places .entry))))
-        (stateOf (now (tree .entry)) (now (made .entry)) (now (code .entry)) (now (tables .entry)) c)) ⌝ }
-{
-    let mut i = 0;
-    let mut k = c;
-    while i < places.len() {
-        let at = places[i] as usize;
-        let one = emit_load(tree, slots, made, code, tables, at, next, k, l);
-        let Emitted::Done(_, d) = one else {
-            return Emitted::Full;
-        };
-        k = d;
-        i += 1;
-    }
-    Emitted::Done(next, k)
 }

@@ -1,10 +1,13 @@
-// An index of names: words in buckets, by a hash of the name's bytes.
+// An index of names: by a hash of its bytes, where a name is sought among others.
+use crate::find::find_place;
 ghost use mathlib.Core.Path.{_≡_};
 ghost use Prim.Native.Nat.{_+_, _≤_, _<_, _^_};
 ghost use lib.ListN.{length, getD};
-ghost use Rattle.state.specs.Index.{hashOf, startOf, noted};
+ghost use Rattle.state.specs.Index.{hashOf, bucketOf, startOf, noted};
+ghost use Rattle.state.specs.State.{slotsFrom, namesAt};
+ghost use Rattle.names.specs.Sought.{soughtFrom};
 
-// A hash of the bytes.
+// A hash of 16 bits.
 pub fn hash(name: &[u8]) -> u32
     ensures { λ r. ⌜ (r ≡ hashOf (now (name .entry))) × (r < 65536) ⌝ }
 {
@@ -15,6 +18,35 @@ pub fn hash(name: &[u8]) -> u32
         i += 1;
     }
     h
+}
+
+// A name's bucket in the index of slots.
+pub fn slot_bucket(name: &[u8]) -> usize
+    ensures { λ r. ⌜ (r ≡ bucketOf slotsFrom (now (name .entry))) × (r < slotsFrom) ⌝ }
+{
+    hash(name) as usize % 2048
+}
+
+// The number from which on a name is sought among n, by the word in its bucket.
+pub fn start(k: u32, n: usize) -> usize
+    ensures { λ r. ⌜ (r ≡ startOf k n) × (r ≤ n) ⌝ }
+{
+    if k == 0 {
+        return n;
+    }
+    let first = k as usize - 1;
+    if first < n {
+        return first;
+    }
+    n
+}
+
+// The number of a name among those at `places`, by the word k in its bucket; as many as there are where none is.
+pub fn find_from(tree: &[u8], places: &[u32], k: u32, name: &[u8]) -> usize
+    ensures { λ r. ⌜ (r ≡ soughtFrom k (now (name .entry)) (namesAt (now (tree .entry)) (now (places .entry)))) × (r ≤ length (now (places .entry))) ⌝ }
+{
+    let from = start(k, places.len());
+    from + find_place(tree, &places[from..], name)
 }
 
 // The number from which on a name with the bucket b is sought among n.

@@ -16,7 +16,7 @@ use Rattle.tree.specs.StmtAt.{stmtAt, blockAt, stmtsAt, branchesAt, StmtReads, 
 use Rattle.parts.proofs.Nodes.{Seen}
 use Rattle.exprs.proofs.ExprViews.{expr-known}
 use Rattle.tree.proofs.StmtViews.{view-block, view-stmts-none, view-stmts-more, view-branches-more, else-known, view-done, view-else, stmt-known, view-break, view-continue, view-pass, view-expr, view-return, view-assign, view-if, view-while, view-for, view-def, view-class}
-use Rattle.slots.specs.Slotted.{firstNames, Added, Room, Gathers}
+use Rattle.slots.specs.Slotted.{firstNames, Indexed, Added, Room, Gathers}
 use Rattle.slots.specs.declared.collect.Gathered.{Gathered}
 use Rattle.slots.specs.declared.collect.Gathered.the-variants.{Next, Over}
 use Rattle.slots.proofs.Adding.{first-length}
@@ -29,17 +29,18 @@ pub record Stands (e n : ℕ) (t ps : List ℕ) (stop : ℕ) (want : List Name) 
   pub end : e ≡ stop
   pub few : n ≤ 255
   pub names : firstNames t n ps ≡ want
+  pub indexed : Indexed t n ps
 
 pub gathers-as : (r : Gathered) (t ps : List ℕ) (e e′ : ℕ) (w w′ : List Name) → Gathers r t ps e w → e ≡ e′ → w ≡ w′ → Gathers r t ps e′ w′
 gathers-as r t ps e e′ w w′ g h k = subst (λ (x : ℕ). Gathers r t ps x w′) h (subst (λ (x : List Name). Gathers r t ps e x) k g)
 
 pub gathers-next : (r : Gathered) (t ps : List ℕ) (end : ℕ) (want : List Name) (e n : ℕ) → Gathers r t ps end want → r ≡ Next e n → Stands e n t ps end want
 unfolding Gathers
-gathers-next r t ps end want e n g h = let x = subst (λ (s : Gathered). Gathers s t ps end want) h g in record { end = x .0; few = x .1; names = x .2 }
+gathers-next r t ps end want e n g h = let x = subst (λ (s : Gathered). Gathers s t ps end want) h g in record { end = x .0; few = x .1; names = x .2; indexed = x .3 }
 
-pub next-gathers : (t ps : List ℕ) (end : ℕ) (want : List Name) (e n : ℕ) → e ≡ end → n ≤ 255 → firstNames t n ps ≡ want → Gathers (Next e n) t ps end want
+pub next-gathers : (t ps : List ℕ) (end : ℕ) (want : List Name) (e n : ℕ) → e ≡ end → n ≤ 255 → firstNames t n ps ≡ want → Indexed t n ps → Gathers (Next e n) t ps end want
 unfolding Gathers
-next-gathers t ps end want e n h k g = (h, k, g)
+next-gathers t ps end want e n h k g v = (h, k, g, v)
 
 pub gathers-over : (r : Gathered) (t ps : List ℕ) (end : ℕ) (want : List Name) → Gathers r t ps end want → r ≡ Over → 255 < length want
 unfolding Gathers
@@ -53,8 +54,8 @@ over-gathers t ps end want h = h
 pub over-more : (r : Gathered) (t ps qs : List ℕ) (e e′ : ℕ) (w w′ : List Name) → Gathers r t ps e w → r ≡ Over → length w ≤ length w′ → Gathers Over t qs e′ w′
 over-more r t ps qs e e′ w w′ g h k = over-gathers t qs e′ w′ (let x = gathers-over r t ps e w g h in omega arith)
 
-pub room-again : (t ps ps′ : List ℕ) (n k : ℕ) → Room t ps n → length ps′ ≡ length ps → k ≤ 255 → Room t ps′ k
-room-again t ps ps′ n k r h g = record { short = r .short; room = let x = r .room in omega arith; few = g }
+pub room-again : (t ps ps′ : List ℕ) (n k : ℕ) → Room t ps n → length ps′ ≡ length ps → k ≤ 255 → Indexed t k ps′ → Room t ps′ k
+room-again t ps ps′ n k r h g v = record { short = r .short; room = let x = r .room in omega arith; few = g; indexed = v }
 
 -- ---- a name
 
@@ -65,7 +66,7 @@ module _ (t qs : List ℕ) (n k next : ℕ) (want : List Name) (a : Added k t qs
       over-gathers t qs next want (omega (arith, first-length t k qs (omega arith), ap length (a .names)))
 
   pub name-next : k ≤ 255 → Gathers (Next next k) t qs next want
-  name-next h = next-gathers t qs next want next k refl h (a .names)
+  name-next h = next-gathers t qs next want next k refl h (a .names) (a .indexed)
 
 -- ---- statements that hold no block of the function
 
@@ -146,14 +147,16 @@ pub record StmtsLeft (d : ℕ) (t ps₀ : List ℕ) (n₀ p₀ k₀ : ℕ) (ps :
   pub end : stmtsAt d n₀ t p₀ .end ≡ stmtsAt d n t p .end
   pub names : localsBlock (stmtsAt d n₀ t p₀ .value) (firstNames t k₀ ps₀) ≡ localsBlock (stmtsAt d n t p .value) (firstNames t k ps)
   pub few : k ≤ 255
+  pub indexed : Indexed t k ps
   pub kept : length ps ≡ length ps₀
 
-pub stmts-start : (d : ℕ) (t ps : List ℕ) (a n k : ℕ) → BlockReads d t a → n ≡ countAt t a → k ≤ 255 → StmtsLeft d t ps n (a + 2) k ps n (a + 2) k
-stmts-start d t ps a n k r e h = record {
+pub stmts-start : (d : ℕ) (t ps : List ℕ) (a n k : ℕ) → BlockReads d t a → n ≡ countAt t a → k ≤ 255 → Indexed t k ps → StmtsLeft d t ps n (a + 2) k ps n (a + 2) k
+stmts-start d t ps a n k r e h v = record {
   reads = subst (λ (m : ℕ). StmtsRead d m t (a + 2)) (sym e) (view-block d t a r .parts .statements);
   end = refl;
   names = refl;
   few = h;
+  indexed = v;
   kept = refl;
 }
 
@@ -186,6 +189,7 @@ module _ (d : ℕ) (t ps₀ : List ℕ) (n₀ p₀ k₀ : ℕ) (ps : List ℕ) (
           names = all-names ∙ ap (λ (x : List Name). localsBlock (stmtsAt d (n - 1) t (stmtAt d t p .end) .value) x) (sym (z .names))
               ∙ ap (λ (x : ℕ). localsBlock (stmtsAt d (n - 1) t x .value) (firstNames t m ps′)) (sym (z .end));
           few = z .few;
+          indexed = z .indexed;
           kept = w ∙ l .kept;
         }
 
@@ -205,6 +209,7 @@ module _ (d : ℕ) (t ps₀ : List ℕ) (n₀ p₀ k₀ : ℕ) (ps : List ℕ) (
       (sym (ap (λ (x : Node Block). x .end) (whole a b c f) ∙ l .end ∙ ap (λ (x : Node Block). x .end) e))
       (l .few)
       (sym (ap (λ (x : Node Block). localsBlock (x .value) (firstNames t k₀ ps₀)) (whole a b c f) ∙ l .names ∙ ap (λ (x : Node Block). localsBlock (x .value) (firstNames t k ps)) e))
+      (l .indexed)
 
 -- ---- branches, one at a time
 
@@ -213,10 +218,11 @@ pub record BranchesLeft (d : ℕ) (t ps₀ : List ℕ) (n₀ p₀ k₀ : ℕ) (p
   pub end : branchesAt d n₀ t p₀ .end ≡ branchesAt d n t p .end
   pub names : localsBranches (branchesAt d n₀ t p₀ .value) (firstNames t k₀ ps₀) ≡ localsBranches (branchesAt d n t p .value) (firstNames t k ps)
   pub few : k ≤ 255
+  pub indexed : Indexed t k ps
   pub kept : length ps ≡ length ps₀
 
-pub branches-start : (d : ℕ) (t ps : List ℕ) (n p k : ℕ) → BranchesRead d n t p → k ≤ 255 → BranchesLeft d t ps n p k ps n p k
-branches-start d t ps n p k r h = record { reads = r; end = refl; names = refl; few = h; kept = refl }
+pub branches-start : (d : ℕ) (t ps : List ℕ) (n p k : ℕ) → BranchesRead d n t p → k ≤ 255 → Indexed t k ps → BranchesLeft d t ps n p k ps n p k
+branches-start d t ps n p k r h v = record { reads = r; end = refl; names = refl; few = h; indexed = v; kept = refl }
 
 module _ (d : ℕ) (t ps₀ : List ℕ) (n₀ p₀ k₀ : ℕ) (ps : List ℕ) (n p k : ℕ) (l : BranchesLeft d t ps₀ n₀ p₀ k₀ ps n p k) where
   module _ (h : 0 < n) where
@@ -244,6 +250,7 @@ module _ (d : ℕ) (t ps₀ : List ℕ) (n₀ p₀ k₀ : ℕ) (ps : List ℕ) (
           names = all-branches ∙ ap (λ (x : List Name). localsBranches (branchesAt d (n - 1) t (bodyAt d t p .end) .value) x) (sym (z .names))
               ∙ ap (λ (x : ℕ). localsBranches (branchesAt d (n - 1) t x .value) (firstNames t m ps′)) (sym (z .end));
           few = z .few;
+          indexed = z .indexed;
           kept = w ∙ l .kept;
         }
 
@@ -266,10 +273,10 @@ module _ (d : ℕ) (t ps₀ : List ℕ) (n₀ p₀ k₀ : ℕ) (ps : List ℕ) (
         (sym (l .names ∙ ap (λ (m : ℕ). localsBranches (branchesAt d m t p .value) (firstNames t k ps)) is-none))
 
 module _ (d : ℕ) (t : List ℕ) (p : ℕ) (r : BranchesRead d 0 t p) where
-  pub else-none : (ps : List ℕ) (n : ℕ) → n ≤ 255 → getD t p 0 ≡ 0 → Gathers (Next (p + 1) n) t ps (branchesAt d 0 t p .end) (localsBranches (branchesAt d 0 t p .value) (firstNames t n ps))
+  pub else-none : (ps : List ℕ) (n : ℕ) → n ≤ 255 → Indexed t n ps → getD t p 0 ≡ 0 → Gathers (Next (p + 1) n) t ps (branchesAt d 0 t p .end) (localsBranches (branchesAt d 0 t p .value) (firstNames t n ps))
   unfolding localsBranches
-  else-none ps n h e = let v = view-done d t p 0 (omega arith) r e in
-      next-gathers t ps _ _ (p + 1) n (sym (ap (λ (z : Node Branches). z .end) v)) h (sym (ap (λ (z : Node Branches). localsBranches (z .value) (firstNames t n ps)) v))
+  else-none ps n h i e = let v = view-done d t p 0 (omega arith) r e in
+      next-gathers t ps _ _ (p + 1) n (sym (ap (λ (z : Node Branches). z .end) v)) h (sym (ap (λ (z : Node Branches). localsBranches (z .value) (firstNames t n ps)) v)) i
 
   module _ (h : getD t p 0 ≡ 0 → ⊥) where
     is-one : getD t p 0 ≡ 1

@@ -58,7 +58,7 @@ member-cons x y ys = go (same x y) (position (same x) ys)
     go false none = refl
     go false (some i) = refl
 
-member-none : (x : Name) → member x [] ≡ false
+pub member-none : (x : Name) → member x [] ≡ false
 unfolding member position
 member-none x = refl
 
@@ -113,7 +113,7 @@ within-none : (ps : List Name) → within ps [] ≡ []
 unfolding within
 within-none ps = refl
 
-without-none : (ps : List Name) → without ps [] ≡ []
+pub without-none : (ps : List Name) → without ps [] ≡ []
 unfolding without
 without-none ps = refl
 

@@ -1,4 +1,5 @@
 pub mod Adding
+pub mod Reindexing
 pub mod Skipping
 pub mod SkippingStmts
 pub mod Kinded

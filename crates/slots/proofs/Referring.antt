@@ -9,53 +9,58 @@ use lib.ListN.{length, getD}
 use Rattle.definitions.specs.Bytes.{Name, member}
 use Rattle.definitions.specs.Tree.{Expr, Exprs, []ᵉ, _∷ᵉ_, lit, Literal}
 use Rattle.definitions.specs.Slots.{add, without}
-use Rattle.state.specs.State.{namesAt}
+use Rattle.state.specs.State.{namesAt, slotsFrom, slotNames, Slots}
 use Rattle.parts.specs.Places.{Node, node, countAt, nameBytes, nameEnd, There, paramsAt, ParamsAt}
 use Rattle.exprs.specs.ExprAt.{exprAt, exprsAt, ExprReads, ExprsRead, varAt, unaryOf, binaryOf, UnaryAt, unaryAt, TwoAt, secondAt, BinaryAt, binaryAt, ListAt, listAt, CallAt, callAt, AttributeAt, attributeAt, displayAt, DictAt, pairsAt, dictAt, indexAt, LambdaAt, lambdaAt, ExprsMore, consAt}
 use Rattle.parts.proofs.Laws.{le-or-gt}
 use Rattle.parts.proofs.Nodes.{Seen}
 use Rattle.exprs.proofs.ExprViews.{expr-known, view-var, view-unary, view-binary, view-call, view-attribute, view-dict, view-index, view-lambda, view-exprs-none, view-exprs-more}
-use Rattle.slots.specs.Slotted.{firstNames, Added}
+use Rattle.slots.specs.Slotted.{firstNames, Indexed, Added, Removed}
 use Rattle.slots.specs.Held.{addHeld, heldExpr, heldExprs, Held, Keeping, Referred}
 use Rattle.slots.specs.declared.captures.Refs.{Refs}
-use Rattle.slots.proofs.Adding.{first-length, names-length}
+use Rattle.names.proofs.Indexing.{slots-count}
+use Rattle.slots.proofs.Adding.{first-length}
 use Rattle.slots.proofs.Holding.{held-add, held-few, held-expr, held-exprs, held-without}
 use Rattle.slots.proofs.Kinded.{up, unary-each, binary-each, seen-literal, seen-display}
 
 -- ---- what is asked, and what is left
 
-pub keeping-few : (t parent ps : List ℕ) (n : ℕ) → Keeping t parent ps n → n ≤ length parent
-keeping-few t parent ps n k = let h = held-few (firstNames t n ps) (namesAt t parent) (k .held) in omega (arith, first-length t n ps (k .most), names-length t parent)
+pub keeping-few : (t parent ps : List ℕ) (n : ℕ) → Keeping t parent ps n → n ≤ 255
+keeping-few t parent ps n k =
+    let h = held-few (firstNames t n ps) (slotNames t parent) (k .held) in
+    let s = slots-count t parent (k .slots) in
+    omega (arith, first-length t n ps (k .most), s .0, s .1)
 
-pub keeping-name : (t parent ps : List ℕ) (n p : ℕ) → Keeping t parent ps n → There t p → (n < length ps) × (n ≤ 255) × (p < 2 ^ 32)
-keeping-name t parent ps n p k h = let a = keeping-few t parent ps n k in let b = k .few in let c = k .room in let d = k .short in let e = h .byte in (omega arith, omega arith, omega arith)
+pub keeping-name : (t parent ps : List ℕ) (n p : ℕ) → Keeping t parent ps n → There t p → (slotsFrom + n < length ps) × (n ≤ 255) × (p < 2 ^ 32)
+keeping-name t parent ps n p k h = let a = keeping-few t parent ps n k in let c = k .room in let d = k .short in let e = h .byte in (omega arith, omega arith, omega arith)
 
-pub keeping-again : (t parent ps ps′ : List ℕ) (n end : ℕ) (r : Refs) (want : List Name) → Keeping t parent ps n → Referred r t ps′ end want → length ps′ ≡ length ps → Held (namesAt t parent) want →
+pub keeping-again : (t parent ps ps′ : List ℕ) (n end : ℕ) (r : Refs) (want : List Name) → Keeping t parent ps n → Referred r t ps′ end want → length ps′ ≡ length ps → Held (slotNames t parent) want →
     Keeping t parent ps′ (r .n)
 keeping-again t parent ps ps′ n end r want k f e h = record {
   short = k .short;
-  few = k .few;
+  slots = k .slots;
   room = let a = k .room in omega arith;
   most = f .most;
-  held = subst (Held (namesAt t parent)) (sym (f .names)) h;
+  held = subst (Held (slotNames t parent)) (sym (f .names)) h;
+  indexed = f .indexed;
 }
 
 pub referred-as : (r : Refs) (t ps : List ℕ) (e e′ : ℕ) (w w′ : List Name) → Referred r t ps e w → e ≡ e′ → w ≡ w′ → Referred r t ps e′ w′
-referred-as r t ps e e′ w w′ f h k = record { next-is = f .next-is ∙ h; most = f .most; names = f .names ∙ k }
+referred-as r t ps e e′ w w′ f h k = record { next-is = f .next-is ∙ h; most = f .most; names = f .names ∙ k; indexed = f .indexed }
 
 -- ---- a name
 
-module _ (t parent : List ℕ) (p : ℕ) (b : Bool) (e : b ≡ member (nameBytes t p) (namesAt t parent)) (ps : List ℕ) (n : ℕ) (a : Keeping t parent ps n) where
+module _ (t parent : List ℕ) (p : ℕ) (b : Bool) (e : b ≡ member (nameBytes t p) (slotNames t parent)) (ps : List ℕ) (n : ℕ) (a : Keeping t parent ps n) where
   pub name-kept : (r : Refs) (ps′ : List ℕ) → b ≡ true → r .next ≡ nameEnd t p → Added (r .n) t ps′ n (add (nameBytes t p) (firstNames t n ps)) → length ps′ ≡ length ps →
-      Referred r t ps′ (nameEnd t p) (addHeld (namesAt t parent) (nameBytes t p) (firstNames t n ps))
+      Referred r t ps′ (nameEnd t p) (addHeld (slotNames t parent) (nameBytes t p) (firstNames t n ps))
   unfolding addHeld
   name-kept r ps′ h f g m =
       let i = keeping-few t parent ps n a in let j = a .room in let q = g .most in
-      record { next-is = f; most = omega arith; names = g .names ∙ sym (let z = sym e ∙ h in rw (z, addHeld)) }
+      record { next-is = f; most = omega arith; names = g .names ∙ sym (let z = sym e ∙ h in rw (z, addHeld)); indexed = g .indexed }
 
-  pub name-left : (r : Refs) → b ≡ false → r .next ≡ nameEnd t p → r .n ≡ n → Referred r t ps (nameEnd t p) (addHeld (namesAt t parent) (nameBytes t p) (firstNames t n ps))
+  pub name-left : (r : Refs) → b ≡ false → r .next ≡ nameEnd t p → r .n ≡ n → Referred r t ps (nameEnd t p) (addHeld (slotNames t parent) (nameBytes t p) (firstNames t n ps))
   unfolding addHeld
-  name-left r h f g = let i = a .most in record { next-is = f; most = omega arith; names = ap (λ (k : ℕ). firstNames t k ps) g ∙ sym (let z = sym e ∙ h in rw (z, addHeld)) }
+  name-left r h f g = let i = a .most in record { next-is = f; most = omega arith; names = ap (λ (k : ℕ). firstNames t k ps) g ∙ sym (let z = sym e ∙ h in rw (z, addHeld)); indexed = subst (λ (k : ℕ). Indexed t k ps) (sym g) (a .indexed) }
 
 -- ---- the kinds of expression
 
@@ -121,11 +126,11 @@ literal-kinds k h a b c d e f g i j l m n = ⊎-elim
     (λ (z : k < 6). z)
     (le-or-gt 6 k)
 
-pub refs-literal : (d : ℕ) (t : List ℕ) (p : ℕ) (r : ExprReads d t p) (slots : List Name) (o : Refs) (ps : List ℕ) (n : ℕ) → getD t p 0 < 6 → o .next ≡ exprAt d t p .end → o .n ≡ n → n ≤ length ps →
+pub refs-literal : (d : ℕ) (t : List ℕ) (p : ℕ) (r : ExprReads d t p) (slots : List Name) (o : Refs) (ps : List ℕ) (n : ℕ) → getD t p 0 < 6 → o .next ≡ exprAt d t p .end → o .n ≡ n → slotsFrom + n ≤ length ps → Indexed t n ps →
     Referred o t ps (exprAt d t p .end) (heldExpr slots (exprAt d t p .value) (firstNames t n ps))
 unfolding heldExpr
-refs-literal d t p r slots o ps n h e f g = let l = seen-literal d t p r h in
-    record { next-is = e; most = omega arith; names = ap (λ (k : ℕ). firstNames t k ps) f ∙ sym (ap (λ (x : Expr). heldExpr slots x (firstNames t n ps)) (l .1)) }
+refs-literal d t p r slots o ps n h e f g v = let l = seen-literal d t p r h in
+    record { next-is = e; most = omega arith; names = ap (λ (k : ℕ). firstNames t k ps) f ∙ sym (ap (λ (x : Expr). heldExpr slots x (firstNames t n ps)) (l .1)); indexed = subst (λ (k : ℕ). Indexed t k ps) (sym f) v }
 
 -- ---- one part after another
 
@@ -148,16 +153,17 @@ module _ (d : ℕ) (t : List ℕ) (p : ℕ) (slots : List Name) (a : Refs) (ps :
   name-there h = subst (λ (m : ℕ). There t m) (sym (f .next-is)) (h .name)
 
   pub refs-object : (o : Refs) → o .next ≡ nameEnd t (a .next) → o .n ≡ a .n → Referred o t ps (nameEnd t (exprAt d t p .end)) (heldExpr slots (exprAt d t p .value) xs)
-  refs-object o e g = let m = f .most in record { next-is = e ∙ ap (nameEnd t) (f .next-is); most = omega arith; names = ap (λ (k : ℕ). firstNames t k ps) g ∙ f .names }
+  refs-object o e g = let m = f .most in record { next-is = e ∙ ap (nameEnd t) (f .next-is); most = omega arith; names = ap (λ (k : ℕ). firstNames t k ps) g ∙ f .names; indexed = subst (λ (k : ℕ). Indexed t k ps) (sym g) (f .indexed) }
 
 -- a lambda's body at q, where its parameters end
 pub refs-body : (d : ℕ) (t : List ℕ) (p q : ℕ) (slots : List Name) (a o : Refs) (ps ps′ : List ℕ) (xs : List Name) → q ≡ paramsAt t p .end → Referred a t ps (exprAt d t q .end) (heldExpr slots (exprAt d t q .value) xs) →
-    o .next ≡ a .next → (firstNames t (o .n) ps′ ≡ without (paramsAt t p .value) (firstNames t (a .n) ps)) × (o .n ≤ a .n) → length ps′ ≡ length ps →
+    o .next ≡ a .next → Removed (o .n) t p (a .n) ps ps′ → length ps′ ≡ length ps →
     Referred o t ps′ (exprAt d t (paramsAt t p .end) .end) (without (paramsAt t p .value) (heldExpr slots (exprAt d t (paramsAt t p .end) .value) xs))
-refs-body d t p q slots a o ps ps′ xs e f g h k = let m = f .most in let n = h .1 in record {
+refs-body d t p q slots a o ps ps′ xs e f g h k = let m = f .most in let n = h .most in record {
   next-is = g ∙ f .next-is ∙ ap (λ (m : ℕ). exprAt d t m .end) e;
   most = omega arith;
-  names = h .0 ∙ ap (without (paramsAt t p .value)) (f .names ∙ ap (λ (m : ℕ). heldExpr slots (exprAt d t m .value) xs) e);
+  names = h .names ∙ ap (without (paramsAt t p .value)) (f .names ∙ ap (λ (m : ℕ). heldExpr slots (exprAt d t m .value) xs) e);
+  indexed = h .indexed;
 }
 
 pub body-there : (d : ℕ) (t : List ℕ) (p q : ℕ) → q ≡ paramsAt t p .end → LambdaAt d t p → ExprReads d t q
@@ -186,7 +192,7 @@ refs-list slots t x y o ps xs e g = referred-as o t ps _ _ _ _ g (ap (λ (z : No
 pub record ExprsLeft (d : ℕ) (t parent ps₀ : List ℕ) (n₀ p₀ k₀ : ℕ) (ps : List ℕ) (n p k : ℕ) : Type 0 where
   pub reads : ExprsRead d n t p
   pub end : exprsAt d n₀ t p₀ .end ≡ exprsAt d n t p .end
-  pub names : heldExprs (namesAt t parent) (exprsAt d n₀ t p₀ .value) (firstNames t k₀ ps₀) ≡ heldExprs (namesAt t parent) (exprsAt d n t p .value) (firstNames t k ps)
+  pub names : heldExprs (slotNames t parent) (exprsAt d n₀ t p₀ .value) (firstNames t k₀ ps₀) ≡ heldExprs (slotNames t parent) (exprsAt d n t p .value) (firstNames t k ps)
   pub keeping : Keeping t parent ps k
   pub kept : length ps ≡ length ps₀
 
@@ -201,29 +207,30 @@ module _ (d : ℕ) (t parent ps₀ : List ℕ) (n₀ p₀ k₀ : ℕ) (ps : List
     is-cons : exprsAt d n t p ≡ consAt d n t p
     is-cons = view-exprs-more d n t p h (l .reads) .is
 
-    all-names : heldExprs (namesAt t parent) (exprsAt d n₀ t p₀ .value) (firstNames t k₀ ps₀)
-        ≡ heldExprs (namesAt t parent) (exprsAt d (n - 1) t (exprAt d t p .end) .value) (heldExpr (namesAt t parent) (exprAt d t p .value) (firstNames t k ps))
+    all-names : heldExprs (slotNames t parent) (exprsAt d n₀ t p₀ .value) (firstNames t k₀ ps₀)
+        ≡ heldExprs (slotNames t parent) (exprsAt d (n - 1) t (exprAt d t p .end) .value) (heldExpr (slotNames t parent) (exprAt d t p .value) (firstNames t k ps))
     unfolding consAt heldExprs
-    all-names = l .names ∙ ap (λ (z : Node Exprs). heldExprs (namesAt t parent) (z .value) (firstNames t k ps)) is-cons
+    all-names = l .names ∙ ap (λ (z : Node Exprs). heldExprs (slotNames t parent) (z .value) (firstNames t k ps)) is-cons
 
     all-end : exprsAt d n₀ t p₀ .end ≡ exprsAt d (n - 1) t (exprAt d t p .end) .end
     unfolding consAt
     all-end = l .end ∙ ap (λ (z : Node Exprs). z .end) is-cons
 
-    pub exprs-next : (o : Refs) (ps′ : List ℕ) → Referred o t ps′ (exprAt d t p .end) (heldExpr (namesAt t parent) (exprAt d t p .value) (firstNames t k ps)) → length ps′ ≡ length ps →
+    pub exprs-next : (o : Refs) (ps′ : List ℕ) → Referred o t ps′ (exprAt d t p .end) (heldExpr (slotNames t parent) (exprAt d t p .value) (firstNames t k ps)) → length ps′ ≡ length ps →
         ExprsLeft d t parent ps₀ n₀ p₀ k₀ ps′ (n - 1) (o .next) (o .n)
     exprs-next o ps′ g w = record {
       reads = subst (λ (m : ℕ). ExprsRead d (n - 1) t m) (sym (g .next-is)) (view-exprs-more d n t p h (l .reads) .parts .rest);
       end = all-end ∙ ap (λ (m : ℕ). exprsAt d (n - 1) t m .end) (sym (g .next-is));
-      names = all-names ∙ ap₂ (λ (m : ℕ) (x : List Name). heldExprs (namesAt t parent) (exprsAt d (n - 1) t m .value) x) (sym (g .next-is)) (sym (g .names));
-      keeping = keeping-again t parent ps ps′ k _ o _ (l .keeping) g w (held-expr (namesAt t parent) (exprAt d t p .value) (firstNames t k ps) (l .keeping .held));
+      names = all-names ∙ ap₂ (λ (m : ℕ) (x : List Name). heldExprs (slotNames t parent) (exprsAt d (n - 1) t m .value) x) (sym (g .next-is)) (sym (g .names));
+      keeping = keeping-again t parent ps ps′ k _ o _ (l .keeping) g w (held-expr (slotNames t parent) (exprAt d t p .value) (firstNames t k ps) (l .keeping .held));
       kept = w ∙ l .kept;
     }
 
-  pub exprs-done : (o : Refs) → o .next ≡ p → o .n ≡ k → n ≤ 0 → Referred o t ps (exprsAt d n₀ t p₀ .end) (heldExprs (namesAt t parent) (exprsAt d n₀ t p₀ .value) (firstNames t k₀ ps₀))
+  pub exprs-done : (o : Refs) → o .next ≡ p → o .n ≡ k → n ≤ 0 → Referred o t ps (exprsAt d n₀ t p₀ .end) (heldExprs (slotNames t parent) (exprsAt d n₀ t p₀ .value) (firstNames t k₀ ps₀))
   unfolding heldExprs
   exprs-done o a b h = let m = l .keeping .most in let e = view-exprs-none d n t p h (l .reads .start) in record {
     next-is = a ∙ sym (l .end ∙ ap (λ (z : Node Exprs). z .end) e);
     most = omega arith;
-    names = ap (λ (j : ℕ). firstNames t j ps) b ∙ sym (l .names ∙ ap (λ (z : Node Exprs). heldExprs (namesAt t parent) (z .value) (firstNames t k ps)) e);
+    names = ap (λ (j : ℕ). firstNames t j ps) b ∙ sym (l .names ∙ ap (λ (z : Node Exprs). heldExprs (slotNames t parent) (z .value) (firstNames t k ps)) e);
+    indexed = subst (λ (j : ℕ). Indexed t j ps) (sym b) (l .keeping .indexed);
   }

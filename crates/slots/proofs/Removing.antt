@@ -6,18 +6,20 @@ use mathlib.Core.List.{List, [], _∷_, _++_, append-assoc, append-nil}
 use mathlib.Core.Logic.{⊎-elim}
 use native.Mathlib.Omega.{arith}
 use native.Mathlib.Numerals.{add-one}
-use lib.ListN.{length, take, drop, getD, set, length-set}
-use lib.Seq.{slice, slice-empty, slice-cons, take-set-le, take-set-lt, drop-set-lt}
+use lib.ListN.{length, take, drop, getD, set, length-set, length-drop}
+use borrow.Rule.Slice.PartMut.{putMid, postOf, same-len-mid}
+use lib.Seq.{slice, slice-empty, slice-cons, take-set-le, take-set-lt, drop-set-lt, take-all}
 use Rattle.definitions.specs.Bytes.{Name, same, member}
 use Rattle.definitions.specs.Slots.{without}
 use Rattle.state.specs.Words.{nameAt}
-use Rattle.state.specs.State.{namesAt}
+use Rattle.state.specs.State.{namesAt, slotsFrom}
 use Rattle.parts.specs.Places.{countAt, nameBytes, nameEnd, namesFrom, AllThere, ParamsAt, paramsAt}
 use Rattle.parts.proofs.NameLaws.{occurs-again, same-as, member-found}
-use Rattle.slots.specs.Slotted.{firstNames}
+use Rattle.slots.specs.Slotted.{leading, firstNames, Indexed, Reindexed, Removed}
 use Rattle.slots.specs.Held.{Keeps}
-use Rattle.slots.proofs.Adding.{name-bytes, first-set, names-append}
-use Rattle.slots.proofs.Holding.{bool-or, without-in, without-out}
+use Rattle.slots.proofs.Adding.{name-bytes, leading-set, names-append, mid-front}
+use Rattle.slots.proofs.Reindexing.{reindexed-names}
+use Rattle.slots.proofs.Holding.{bool-or, member-none, without-none, without-in, without-out}
 
 -- ---- whether a name is a parameter
 
@@ -42,22 +44,22 @@ keeps-few r false e = omega arith
 -- ---- those kept so far, and those that stay of the rest
 
 pub record Removing (t : List ℕ) (qs : List Name) (ps₀ : List ℕ) (n : ℕ) (ps : List ℕ) (k i : ℕ) : Type 0 where
-  pub names : firstNames t k ps ++ without qs (namesAt t (slice i n ps)) ≡ without qs (firstNames t n ps₀)
+  pub names : leading t k ps ++ without qs (namesAt t (slice i n ps)) ≡ without qs (leading t n ps₀)
   pub behind : k ≤ i
   pub most : i ≤ n
   pub kept : length ps ≡ length ps₀
 
 pub remove-start : (t : List ℕ) (qs : List Name) (ps : List ℕ) (n : ℕ) → Removing t qs ps n ps 0 0
-unfolding firstNames namesAt
+unfolding leading namesAt
 remove-start t qs ps n = record { names = refl; behind = omega arith; most = omega arith; kept = refl }
 
 module _ (t : List ℕ) (qs : List Name) (ps₀ : List ℕ) (n : ℕ) (ps : List ℕ) (k i : ℕ) (l : Removing t qs ps₀ n ps k i) where
-  pub remove-done : n ≤ i → firstNames t k ps ≡ without qs (firstNames t n ps₀)
+  pub remove-done : n ≤ i → leading t k ps ≡ without qs (leading t n ps₀)
   unfolding without namesAt
   remove-done h =
       let m = l .most in
       let z : i ≡ n = omega arith in
-      sym (append-nil (firstNames t k ps)) ∙ ap (λ (p : List ℕ). firstNames t k ps ++ without qs (namesAt t p)) (sym (ap (λ (j : ℕ). slice j n ps) z ∙ slice-empty n ps)) ∙ l .names
+      sym (append-nil (leading t k ps)) ∙ ap (λ (p : List ℕ). leading t k ps ++ without qs (namesAt t p)) (sym (ap (λ (j : ℕ). slice j n ps) z ∙ slice-empty n ps)) ∙ l .names
 
   module _ (h : i < n) (g : n ≤ length ps₀) where
     abbrev w : ℕ
@@ -74,19 +76,19 @@ module _ (t : List ℕ) (qs : List Name) (ps₀ : List ℕ) (n : ℕ) (ps : List
     rest-kept : namesAt t (slice (i + 1) n (set ps k w)) ≡ rest
     rest-kept = let b = l .behind in ap (λ (p : List ℕ). namesAt t (drop (i + 1) p)) (take-set-lt n ps k w (omega arith)) ∙ ap (namesAt t) (drop-set-lt (i + 1) (take n ps) k w (omega arith))
 
-    front-kept : firstNames t k (set ps k w) ≡ firstNames t k ps
-    unfolding firstNames
+    front-kept : leading t k (set ps k w) ≡ leading t k ps
+    unfolding leading
     front-kept = ap (namesAt t) (take-set-le k ps k w (omega arith))
 
-    front-more : firstNames t (k + 1) (set ps k w) ≡ firstNames t k ps ++ (nameAt t w ∷ [])
-    front-more = let b = l .behind in let e = l .kept in first-set t k w ps (omega arith) ∙ ap (λ (x : Name). firstNames t k ps ++ (x ∷ [])) (sym (name-bytes t w))
+    front-more : leading t (k + 1) (set ps k w) ≡ leading t k ps ++ (nameAt t w ∷ [])
+    front-more = let b = l .behind in let e = l .kept in leading-set t k w ps (omega arith) ∙ ap (λ (x : Name). leading t k ps ++ (x ∷ [])) (sym (name-bytes t w))
 
-    gone : member (nameAt t w) qs ≡ true → firstNames t k (set ps k w) ++ without qs (namesAt t (slice (i + 1) n (set ps k w))) ≡ without qs (firstNames t n ps₀)
-    gone e = ap₂ (λ (a b : List Name). a ++ without qs b) front-kept rest-kept ∙ ap (λ (z : List Name). firstNames t k ps ++ z) (sym (ap (without qs) head ∙ without-in qs (nameAt t w) rest e)) ∙ l .names
+    gone : member (nameAt t w) qs ≡ true → leading t k (set ps k w) ++ without qs (namesAt t (slice (i + 1) n (set ps k w))) ≡ without qs (leading t n ps₀)
+    gone e = ap₂ (λ (a b : List Name). a ++ without qs b) front-kept rest-kept ∙ ap (λ (z : List Name). leading t k ps ++ z) (sym (ap (without qs) head ∙ without-in qs (nameAt t w) rest e)) ∙ l .names
 
-    stayed : member (nameAt t w) qs ≡ false → firstNames t (k + 1) (set ps k w) ++ without qs (namesAt t (slice (i + 1) n (set ps k w))) ≡ without qs (firstNames t n ps₀)
-    stayed e = ap₂ (λ (a b : List Name). a ++ without qs b) front-more rest-kept ∙ append-assoc (firstNames t k ps) (nameAt t w ∷ []) (without qs rest)
-        ∙ ap (λ (z : List Name). firstNames t k ps ++ z) (sym (ap (without qs) head ∙ without-out qs (nameAt t w) rest e)) ∙ l .names
+    stayed : member (nameAt t w) qs ≡ false → leading t (k + 1) (set ps k w) ++ without qs (namesAt t (slice (i + 1) n (set ps k w))) ≡ without qs (leading t n ps₀)
+    stayed e = ap₂ (λ (a b : List Name). a ++ without qs b) front-more rest-kept ∙ append-assoc (leading t k ps) (nameAt t w ∷ []) (without qs rest)
+        ∙ ap (λ (z : List Name). leading t k ps ++ z) (sym (ap (without qs) head ∙ without-out qs (nameAt t w) rest e)) ∙ l .names
 
     pub remove-next : (r : ℕ) → Keeps r (member (nameAt t (getD ps i 0)) qs) → Removing t qs ps₀ n (set ps k (getD ps i 0)) (k + r) (i + 1)
     unfolding Keeps
@@ -94,9 +96,9 @@ module _ (t : List ℕ) (qs : List Name) (ps₀ : List ℕ) (n : ℕ) (ps : List
       where
         go : (m : Bool) → member (nameAt t w) qs ≡ m → Keeps r m → Removing t qs ps₀ n (set ps k w) (k + r) (i + 1)
         go true e f = let b = l .behind in let z : k ≡ k + r = omega arith in
-            record { names = ap (λ (j : ℕ). firstNames t j (set ps k w) ++ without qs (namesAt t (slice (i + 1) n (set ps k w)))) (sym z) ∙ gone e; behind = omega arith; most = omega arith; kept = length-set ps k w ∙ l .kept }
+            record { names = ap (λ (j : ℕ). leading t j (set ps k w) ++ without qs (namesAt t (slice (i + 1) n (set ps k w)))) (sym z) ∙ gone e; behind = omega arith; most = omega arith; kept = length-set ps k w ∙ l .kept }
         go false e f = let b = l .behind in let z : k + 1 ≡ k + r = omega arith in
-            record { names = ap (λ (j : ℕ). firstNames t j (set ps k w) ++ without qs (namesAt t (slice (i + 1) n (set ps k w)))) (sym z) ∙ stayed e; behind = omega arith; most = omega arith; kept = length-set ps k w ∙ l .kept }
+            record { names = ap (λ (j : ℕ). leading t j (set ps k w) ++ without qs (namesAt t (slice (i + 1) n (set ps k w)))) (sym z) ∙ stayed e; behind = omega arith; most = omega arith; kept = length-set ps k w ∙ l .kept }
 
 pub params-names : (t : List ℕ) (a n : ℕ) → n ≡ countAt t a → namesFrom t n (a + 2) ≡ paramsAt t a .value
 unfolding paramsAt
@@ -105,7 +107,40 @@ params-names t a n e = ap (λ (m : ℕ). namesFrom t m (a + 2)) e
 pub params-all : (t : List ℕ) (a n : ℕ) → ParamsAt t a → n ≡ countAt t a → AllThere t n (a + 2)
 params-all t a n h e = subst (λ (m : ℕ). AllThere t m (a + 2)) (sym e) (h .names)
 
-pub remove-all : (t : List ℕ) (a c : ℕ) (ps₀ : List ℕ) (n : ℕ) (ps : List ℕ) (k i : ℕ) → Removing t (namesFrom t c (a + 2)) ps₀ n ps k i → n ≤ i → c ≡ countAt t a →
-    (firstNames t k ps ≡ without (paramsAt t a .value) (firstNames t n ps₀)) × (k ≤ n)
-remove-all t a c ps₀ n ps k i l h e = let b = l .behind in let m = l .most in
-    (remove-done t (namesFrom t c (a + 2)) ps₀ n ps k i l h ∙ ap (λ (q : List Name). without q (firstNames t n ps₀)) (params-names t a c e), omega arith)
+pub remove-all : (t : List ℕ) (qs : List Name) (ps₀ : List ℕ) (n : ℕ) (ps : List ℕ) (k i : ℕ) → Removing t qs ps₀ n ps k i → n ≤ i → (leading t k ps ≡ without qs (leading t n ps₀)) × (k ≤ n)
+remove-all t qs ps₀ n ps k i l h = let b = l .behind in let m = l .most in (remove-done t qs ps₀ n ps k i l h, omega arith)
+
+-- ---- parameters removed from slots
+
+without-all : (xs : List Name) → without [] xs ≡ xs
+without-all [] = without-none []
+without-all (x ∷ xs) = without-out [] x xs (member-none x) ∙ ap (λ (l : List Name). x ∷ l) (without-all xs)
+
+-- no parameters
+pub removed-none : (t : List ℕ) (a c n : ℕ) (ps : List ℕ) → c ≡ countAt t a → c ≡ 0 → Indexed t n ps → Removed n t a n ps ps
+unfolding namesFrom
+removed-none t a c n ps e z v = record {
+  names = sym (ap (λ (q : List Name). without q (firstNames t n ps)) (sym (params-names t a c e) ∙ ap (λ (m : ℕ). namesFrom t m (a + 2)) z) ∙ without-all (firstNames t n ps));
+  most = omega arith;
+  indexed = v;
+}
+
+module _ (t : List ℕ) (a c n : ℕ) (ps part : List ℕ) (r : ℕ) (e : c ≡ countAt t a) (room : slotsFrom + n ≤ length ps) (w : length part ≡ length (take (length ps - slotsFrom) (drop slotsFrom ps)))
+    (g : (leading t r part ≡ without (namesFrom t c (a + 2)) (leading t n (take (length ps - slotsFrom) (drop slotsFrom ps)))) × (r ≤ n)) where
+  lent : take (length ps - slotsFrom) (drop slotsFrom ps) ≡ drop slotsFrom ps
+  lent = take-all (length ps - slotsFrom) (drop slotsFrom ps) (let z = length-drop slotsFrom ps in omega arith)
+
+  part-room : r ≤ length part
+  part-room = let h = g .1 in let y = ap length lent in let z = length-drop slotsFrom ps in omega arith
+
+  pub removed-index : slotsFrom + r ≤ length (putMid slotsFrom (length ps - slotsFrom) ps part)
+  removed-index = let h = g .1 in let z = same-len-mid slotsFrom (length ps - slotsFrom) ps part w in omega arith
+
+  pub removed : (ps′ : List ℕ) → Reindexed t r (putMid slotsFrom (length ps - slotsFrom) ps part) ps′ → Removed r t a n ps ps′
+  unfolding firstNames leading
+  removed ps′ q = record {
+    names = reindexed-names t r _ ps′ q ∙ ap (namesAt t) (mid-front slotsFrom (length ps - slotsFrom) r ps part (omega arith) part-room) ∙ g .0
+        ∙ ap₂ (λ (x : List Name) (l : List ℕ). without x (namesAt t (take n l))) (params-names t a c e) lent;
+    most = g .1;
+    indexed = q .indexed;
+  }

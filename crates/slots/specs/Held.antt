@@ -1,5 +1,5 @@
 -- The names that an expression references and that have a slot in the parent: what a lambda captures, before its parameters are removed.
-use Prim.Native.Nat.{ℕ, _≤_, _<_}
+use Prim.Native.Nat.{ℕ, _+_, _≤_, _<_}
 use mathlib.Core.Path.{_≡_}
 use mathlib.Core.Bool.{Bool, true, false}
 use mathlib.Core.List.{List, [], _∷_}
@@ -7,8 +7,8 @@ use lib.ListN.{length}
 use Rattle.definitions.specs.Bytes.{Name, member}
 use Rattle.definitions.specs.Tree.{Expr, lit, var, unary, binary, logical, call, attr, display, index, lambda, Exprs, []ᵉ, _∷ᵉ_}
 use Rattle.definitions.specs.Slots.{add, without}
-use Rattle.state.specs.State.{namesAt}
-use Rattle.slots.specs.Slotted.{firstNames}
+use Rattle.state.specs.State.{slotsFrom, slotNames, Slots}
+use Rattle.slots.specs.Slotted.{firstNames, Indexed}
 use Rattle.slots.specs.declared.captures.Refs.{Refs}
 
 -- the name is added if it has a slot
@@ -43,21 +43,23 @@ unfoldable pub Keeps : ℕ → Bool → Type 0
 Keeps r true = r ≡ 0
 Keeps r false = r ≡ 1
 
--- what a walk over expressions asks: a short tree, few slots in the parent, room for as many and one more, names that have slots
+-- what a walk over expressions asks: a short tree, the parent's slots, room for as many and one more, names that have slots
 pub record Keeping (t parent ps : List ℕ) (n : ℕ) : Type 0 where
   pub short : length t ≤ 32768
-  pub few : length parent ≤ 255
-  pub room : length parent < length ps
-  pub most : n ≤ length ps
-  pub held : Held (namesAt t parent) (firstNames t n ps)
+  pub slots : Slots t parent
+  pub room : slotsFrom + 256 ≤ length ps
+  pub most : slotsFrom + n ≤ length ps
+  pub held : Held (slotNames t parent) (firstNames t n ps)
+  pub indexed : Indexed t n ps
 
 -- and what it leaves: the next position, and places of the wanted names
 pub record Referred (r : Refs) (t ps : List ℕ) (end : ℕ) (want : List Name) : Type 0 where
   pub next-is : r .next ≡ end
-  pub most : r .n ≤ length ps
+  pub most : slotsFrom + r .n ≤ length ps
   pub names : firstNames t (r .n) ps ≡ want
+  pub indexed : Indexed t (r .n) ps
 
 -- the places of the captures, no more than the parent's slots
 pub record Captured (r : ℕ) (t parent ps : List ℕ) (want : List Name) : Type 0 where
-  pub few : r ≤ length parent
+  pub few : slotsFrom + r ≤ length parent
   pub names : firstNames t r ps ≡ want

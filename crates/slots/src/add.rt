@@ -1,31 +1,55 @@
 // Names added to slots.
-use names::find::find_place;
+use names::index::find_from;
+use names::index::slot_bucket;
+use names::index::start;
 use names::spell::name_part;
 ghost use mathlib.Core.Path.{_≡_};
-ghost use Prim.Native.Nat.{_≤_, _<_, _^_};
+ghost use Prim.Native.Nat.{_+_, _≤_, _<_, _^_};
 ghost use lib.ListN.{length};
 ghost use Rattle.definitions.specs.Bytes.{member};
 ghost use Rattle.definitions.specs.Slots.{add};
-ghost use Rattle.state.specs.State.{namesAt};
+ghost use Rattle.state.specs.State.{slotsFrom, slotNames, Slots};
 ghost use Rattle.parts.specs.Places.{nameBytes};
-ghost use Rattle.slots.specs.Slotted.{firstNames, Added};
+ghost use Rattle.slots.specs.Slotted.{firstNames, Indexed, IsBucket, Added};
 
-// Whether one of the slots has the name at `at`.
-pub fn is_slot(tree: &[u8], slots: &[u32], at: usize) -> bool
-    ensures { λ r. ⌜ r ≡ member (nameBytes (now (tree .entry)) at) (namesAt (now (tree .entry)) (now (slots .entry))) ⌝ }
+// The bucket of the name at `at`.
+pub fn bucket_at(tree: &[u8], at: usize) -> usize
+    ensures { λ r. ⌜ IsBucket r (now (tree .entry)) at ⌝ }
 {
-    find_place(tree, slots, name_part(tree, at)) < slots.len()
+    slot_bucket(name_part(tree, at))
+}
+
+// Whether one of the slots has the name at `at`, whose bucket is b.
+pub fn is_slot(tree: &[u8], slots: &[u32], at: usize, b: usize) -> bool
+    requires { ⌜ Slots (now tree) (now slots) × IsBucket b (now tree) at ⌝ }
+    ensures { λ r. ⌜ r ≡ member (nameBytes (now (tree .entry)) at) (slotNames (now (tree .entry)) (now (slots .entry))) ⌝ }
+{
+    let k = slots[b];
+    find_from(tree, &slots[2048..], k, name_part(tree, at)) < slots.len() - 2048
+}
+
+// The first n slots with the name at `at`, whose bucket is b, unless they have it: how many they are then.
+pub fn add_at(tree: &[u8], slots: &mut [u32], n: u32, at: usize, b: usize) -> u32
+    requires { ⌜ Indexed (now tree) n (now slots) × (slotsFrom + n < length (now slots)) × (n ≤ 255) × (at < 2 ^ 32) × IsBucket b (now tree) at ⌝ }
+    ensures { λ r. ⌜ Added r (now (tree .entry)) (now (slots .exit)) n (add (nameBytes (now (tree .entry)) at) (firstNames (now (tree .entry)) n (now (slots .entry)))) ⌝ }
+{
+    let k = slots[b];
+    let end = 2048 + n as usize;
+    let i = find_from(tree, &slots[2048..end], k, name_part(tree, at));
+    if i < n as usize {
+        return n;
+    }
+    let first = start(k, n as usize) as u32;
+    slots[b] = first + 1;
+    slots[end] = at as u32;
+    n + 1
 }
 
 // The first n slots with the name at `at`, unless they have it: how many they are then.
 pub fn add_name(tree: &[u8], slots: &mut [u32], n: u32, at: usize) -> u32
-    requires { ⌜ (n < length (now slots)) × (n ≤ 255) × (at < 2 ^ 32) ⌝ }
+    requires { ⌜ Indexed (now tree) n (now slots) × (slotsFrom + n < length (now slots)) × (n ≤ 255) × (at < 2 ^ 32) ⌝ }
     ensures { λ r. ⌜ Added r (now (tree .entry)) (now (slots .exit)) n (add (nameBytes (now (tree .entry)) at) (firstNames (now (tree .entry)) n (now (slots .entry)))) ⌝ }
 {
-    let end = n as usize;
-    if is_slot(tree, &slots[0..end], at) {
-        return n;
-    }
-    slots[end] = at as u32;
-    n + 1
+    let b = bucket_at(tree, at);
+    add_at(tree, slots, n, at, b)
 }

@@ -1,8 +1,11 @@
 // What a lambda captures, and its slots: its parameters, then its captures.
 use crate::Locals;
-use crate::add::add_name;
+use crate::add::add_at;
+use crate::add::bucket_at;
 use crate::add::is_slot;
 use crate::collect::put_params;
+use crate::index::append_slots;
+use crate::index::index_slots;
 use crate::order::sort_names;
 use crate::skip::skip_expr;
 use crate::skip::skip_params;
@@ -18,10 +21,10 @@ ghost use lib.ListN.{length, getD};
 ghost use Rattle.definitions.specs.Bytes.{member};
 ghost use Rattle.definitions.specs.Slots.{without, captures};
 ghost use Rattle.state.specs.Words.{nameAt};
-ghost use Rattle.state.specs.State.{namesAt};
+ghost use Rattle.state.specs.State.{slotsFrom, slotNames, Slots};
 ghost use Rattle.parts.specs.Places.{nameBytes, nameEnd, There, namesFrom, AllThere, ParamsAt, paramsAt};
 ghost use Rattle.exprs.specs.ExprAt.{exprAt, exprsAt, ExprReads, ExprsRead, TwoAt, secondAt, CallAt, ListAt, listAt, DictAt, pairsAt, AttributeAt, LambdaAt};
-ghost use Rattle.slots.specs.Slotted.{firstNames, Collected};
+ghost use Rattle.slots.specs.Slotted.{leading, firstNames, Indexed, Removed, Collected};
 ghost use Rattle.slots.specs.Held.{addHeld, heldExpr, heldExprs, Keeping, Keeps, Referred, Captured};
 
 // The next position in the tree, and how many names are kept.
@@ -58,31 +61,45 @@ fn stays(tree: &[u8], at: usize, from: usize, n: u32) -> u32
     1
 }
 
-// The first n names without the parameters at `params`: how many they are then.
-fn remove_params(tree: &[u8], params: usize, places: &mut [u32], n: u32) -> u32
-    requires { ⌜ ParamsAt (now tree) params × (n ≤ length (now places)) ⌝ }
-    ensures { λ r. ⌜ (firstNames (now (tree .entry)) r (now (places .exit)) ≡ without (paramsAt (now (tree .entry)) params .value) (firstNames (now (tree .entry)) n (now (places .entry)))) × (r ≤ n) ⌝ }
+// The first n of the places without those of the names of `count` parameters from `from` on: how many they are then.
+fn remove_names(tree: &[u8], from: usize, count: u32, places: &mut [u32], n: u32) -> u32
+    requires { ⌜ AllThere (now tree) count from × (n ≤ length (now places)) ⌝ }
+    ensures { λ r. ⌜ (leading (now (tree .entry)) r (now (places .exit)) ≡ without (namesFrom (now (tree .entry)) count from) (leading (now (tree .entry)) n (now (places .entry)))) × (r ≤ n) ⌝ }
 {
-    let count = u16_at(tree, params);
     let mut kept: u32 = 0;
     let mut i: u32 = 0;
     while i < n {
         let w = places[i as usize];
         places[kept as usize] = w;
-        kept += stays(tree, w as usize, params + 2, count);
+        kept += stays(tree, w as usize, from, count);
         i += 1;
     }
+    kept
+}
+
+// The first n names without the parameters at `params`: how many they are then.
+fn remove_params(tree: &[u8], params: usize, places: &mut [u32], n: u32) -> u32
+    requires { ⌜ ParamsAt (now tree) params × (slotsFrom + n ≤ length (now places)) × Indexed (now tree) n (now places) ⌝ }
+    ensures { λ r. ⌜ Removed r (now (tree .entry)) params n (now (places .entry)) (now (places .exit)) ⌝ }
+{
+    let count = u16_at(tree, params);
+    if count == 0 {
+        return n;
+    }
+    let kept = remove_names(tree, params + 2, count, &mut places[2048..], n);
+    index_slots(tree, places, kept);
     kept
 }
 
 // The name at `at`, kept if it has a slot.
 fn keep_name(tree: &[u8], at: usize, parent: &[u32], places: &mut [u32], n: u32) -> Refs
     requires { ⌜ Keeping (now tree) (now parent) (now places) n × There (now tree) at ⌝ }
-    ensures { λ r. ⌜ Referred r (now (tree .entry)) (now (places .exit)) (nameEnd (now (tree .entry)) at) (addHeld (namesAt (now (tree .entry)) (now (parent .entry))) (nameBytes (now (tree .entry)) at) (firstNames (now (tree .entry)) n (now (places .entry)))) ⌝ }
+    ensures { λ r. ⌜ Referred r (now (tree .entry)) (now (places .exit)) (nameEnd (now (tree .entry)) at) (addHeld (slotNames (now (tree .entry)) (now (parent .entry))) (nameBytes (now (tree .entry)) at) (firstNames (now (tree .entry)) n (now (places .entry)))) ⌝ }
 {
     let next = name_end(tree, at);
-    if is_slot(tree, parent, at) {
-        let k = add_name(tree, places, n, at);
+    let b = bucket_at(tree, at);
+    if is_slot(tree, parent, at, b) {
+        let k = add_at(tree, places, n, at, b);
         return Refs { next: next, n: k };
     }
     Refs { next: next, n: n }
@@ -91,7 +108,7 @@ fn keep_name(tree: &[u8], at: usize, parent: &[u32], places: &mut [u32], n: u32)
 // The names that an expression references.
 fn refs_expr(tree: &[u8], at: usize, depth: u32, parent: &[u32], places: &mut [u32], n: u32) -> Refs
     requires { ⌜ Keeping (now tree) (now parent) (now places) n × ExprReads depth (now tree) at ⌝ }
-    ensures { λ r. ⌜ Referred r (now (tree .entry)) (now (places .exit)) (exprAt depth (now (tree .entry)) at .end) (heldExpr (namesAt (now (tree .entry)) (now (parent .entry))) (exprAt depth (now (tree .entry)) at .value) (firstNames (now (tree .entry)) n (now (places .entry)))) ⌝ }
+    ensures { λ r. ⌜ Referred r (now (tree .entry)) (now (places .exit)) (exprAt depth (now (tree .entry)) at .end) (heldExpr (slotNames (now (tree .entry)) (now (parent .entry))) (exprAt depth (now (tree .entry)) at .value) (firstNames (now (tree .entry)) n (now (places .entry)))) ⌝ }
 {
     let kind = tree[at];
     let a = at + 1;
@@ -119,7 +136,7 @@ fn refs_expr(tree: &[u8], at: usize, depth: u32, parent: &[u32], places: &mut [u
 fn refs_two(tree: &[u8], at: usize, depth: u32, parent: &[u32], places: &mut [u32], n: u32) -> Refs
     requires { ⌜ Keeping (now tree) (now parent) (now places) n × TwoAt depth (now tree) at ⌝ }
     ensures { λ r. ⌜ Referred r (now (tree .entry)) (now (places .exit)) (secondAt depth (now (tree .entry)) at .end)
-        (heldExpr (namesAt (now (tree .entry)) (now (parent .entry))) (secondAt depth (now (tree .entry)) at .value) (heldExpr (namesAt (now (tree .entry)) (now (parent .entry))) (exprAt depth (now (tree .entry)) at .value) (firstNames (now (tree .entry)) n (now (places .entry))))) ⌝ }
+        (heldExpr (slotNames (now (tree .entry)) (now (parent .entry))) (secondAt depth (now (tree .entry)) at .value) (heldExpr (slotNames (now (tree .entry)) (now (parent .entry))) (exprAt depth (now (tree .entry)) at .value) (firstNames (now (tree .entry)) n (now (places .entry))))) ⌝ }
 {
     let left = refs_expr(tree, at, depth, parent, places, n);
     refs_expr(tree, left.next, depth, parent, places, left.n)
@@ -129,7 +146,7 @@ fn refs_two(tree: &[u8], at: usize, depth: u32, parent: &[u32], places: &mut [u3
 fn refs_call(tree: &[u8], at: usize, depth: u32, parent: &[u32], places: &mut [u32], n: u32) -> Refs
     requires { ⌜ Keeping (now tree) (now parent) (now places) n × CallAt depth (now tree) at ⌝ }
     ensures { λ r. ⌜ Referred r (now (tree .entry)) (now (places .exit)) (listAt depth (now (tree .entry)) (exprAt depth (now (tree .entry)) at .end) .end)
-        (heldExprs (namesAt (now (tree .entry)) (now (parent .entry))) (listAt depth (now (tree .entry)) (exprAt depth (now (tree .entry)) at .end) .value) (heldExpr (namesAt (now (tree .entry)) (now (parent .entry))) (exprAt depth (now (tree .entry)) at .value) (firstNames (now (tree .entry)) n (now (places .entry))))) ⌝ }
+        (heldExprs (slotNames (now (tree .entry)) (now (parent .entry))) (listAt depth (now (tree .entry)) (exprAt depth (now (tree .entry)) at .end) .value) (heldExpr (slotNames (now (tree .entry)) (now (parent .entry))) (exprAt depth (now (tree .entry)) at .value) (firstNames (now (tree .entry)) n (now (places .entry))))) ⌝ }
 {
     let callee = refs_expr(tree, at, depth, parent, places, n);
     refs_list(tree, callee.next, depth, parent, places, callee.n)
@@ -145,7 +162,7 @@ fn refs_attribute(
     n: u32,
 ) -> Refs
     requires { ⌜ Keeping (now tree) (now parent) (now places) n × AttributeAt depth (now tree) at ⌝ }
-    ensures { λ r. ⌜ Referred r (now (tree .entry)) (now (places .exit)) (nameEnd (now (tree .entry)) (exprAt depth (now (tree .entry)) at .end)) (heldExpr (namesAt (now (tree .entry)) (now (parent .entry))) (exprAt depth (now (tree .entry)) at .value) (firstNames (now (tree .entry)) n (now (places .entry)))) ⌝ }
+    ensures { λ r. ⌜ Referred r (now (tree .entry)) (now (places .exit)) (nameEnd (now (tree .entry)) (exprAt depth (now (tree .entry)) at .end)) (heldExpr (slotNames (now (tree .entry)) (now (parent .entry))) (exprAt depth (now (tree .entry)) at .value) (firstNames (now (tree .entry)) n (now (places .entry)))) ⌝ }
 {
     let object = refs_expr(tree, at, depth, parent, places, n);
     Refs {
@@ -157,7 +174,7 @@ fn refs_attribute(
 // Those of a count of expressions.
 fn refs_list(tree: &[u8], at: usize, depth: u32, parent: &[u32], places: &mut [u32], n: u32) -> Refs
     requires { ⌜ Keeping (now tree) (now parent) (now places) n × ListAt depth (now tree) at ⌝ }
-    ensures { λ r. ⌜ Referred r (now (tree .entry)) (now (places .exit)) (listAt depth (now (tree .entry)) at .end) (heldExprs (namesAt (now (tree .entry)) (now (parent .entry))) (listAt depth (now (tree .entry)) at .value) (firstNames (now (tree .entry)) n (now (places .entry)))) ⌝ }
+    ensures { λ r. ⌜ Referred r (now (tree .entry)) (now (places .exit)) (listAt depth (now (tree .entry)) at .end) (heldExprs (slotNames (now (tree .entry)) (now (parent .entry))) (listAt depth (now (tree .entry)) at .value) (firstNames (now (tree .entry)) n (now (places .entry)))) ⌝ }
 {
     let count = u16_at(tree, at);
     refs_many(tree, at + 2, depth, count, parent, places, n)
@@ -166,7 +183,7 @@ fn refs_list(tree: &[u8], at: usize, depth: u32, parent: &[u32], places: &mut [u
 // Those of a count of keys and values.
 fn refs_dict(tree: &[u8], at: usize, depth: u32, parent: &[u32], places: &mut [u32], n: u32) -> Refs
     requires { ⌜ Keeping (now tree) (now parent) (now places) n × DictAt depth (now tree) at ⌝ }
-    ensures { λ r. ⌜ Referred r (now (tree .entry)) (now (places .exit)) (pairsAt depth (now (tree .entry)) at .end) (heldExprs (namesAt (now (tree .entry)) (now (parent .entry))) (pairsAt depth (now (tree .entry)) at .value) (firstNames (now (tree .entry)) n (now (places .entry)))) ⌝ }
+    ensures { λ r. ⌜ Referred r (now (tree .entry)) (now (places .exit)) (pairsAt depth (now (tree .entry)) at .end) (heldExprs (slotNames (now (tree .entry)) (now (parent .entry))) (pairsAt depth (now (tree .entry)) at .value) (firstNames (now (tree .entry)) n (now (places .entry)))) ⌝ }
 {
     let count = u16_at(tree, at);
     refs_many(tree, at + 2, depth, 2 * count, parent, places, n)
@@ -183,7 +200,7 @@ fn refs_many(
     n: u32,
 ) -> Refs
     requires { ⌜ Keeping (now tree) (now parent) (now places) n × ExprsRead depth count (now tree) at ⌝ }
-    ensures { λ r. ⌜ Referred r (now (tree .entry)) (now (places .exit)) (exprsAt depth count (now (tree .entry)) at .end) (heldExprs (namesAt (now (tree .entry)) (now (parent .entry))) (exprsAt depth count (now (tree .entry)) at .value) (firstNames (now (tree .entry)) n (now (places .entry)))) ⌝ }
+    ensures { λ r. ⌜ Referred r (now (tree .entry)) (now (places .exit)) (exprsAt depth count (now (tree .entry)) at .end) (heldExprs (slotNames (now (tree .entry)) (now (parent .entry))) (exprsAt depth count (now (tree .entry)) at .value) (firstNames (now (tree .entry)) n (now (places .entry)))) ⌝ }
 {
     let mut p = at;
     let mut left = count;
@@ -208,7 +225,7 @@ fn refs_lambda(
 ) -> Refs
     requires { ⌜ Keeping (now tree) (now parent) (now places) n × LambdaAt depth (now tree) at ⌝ }
     ensures { λ r. ⌜ Referred r (now (tree .entry)) (now (places .exit)) (exprAt depth (now (tree .entry)) (paramsAt (now (tree .entry)) at .end) .end)
-        (without (paramsAt (now (tree .entry)) at .value) (heldExpr (namesAt (now (tree .entry)) (now (parent .entry))) (exprAt depth (now (tree .entry)) (paramsAt (now (tree .entry)) at .end) .value) (firstNames (now (tree .entry)) n (now (places .entry))))) ⌝ }
+        (without (paramsAt (now (tree .entry)) at .value) (heldExpr (slotNames (now (tree .entry)) (now (parent .entry))) (exprAt depth (now (tree .entry)) (paramsAt (now (tree .entry)) at .end) .value) (firstNames (now (tree .entry)) n (now (places .entry))))) ⌝ }
 {
     let p = skip_params(tree, at);
     let body = refs_expr(tree, p, depth, parent, places, n);
@@ -228,13 +245,13 @@ pub fn find_captures(
     parent: &[u32],
     places: &mut [u32],
 ) -> u32
-    requires { ⌜ (length (now tree) ≤ 32768) × (length (now parent) ≤ 255) × (length (now parent) < length (now places)) × ParamsAt (now tree) params × ExprReads depth (now tree) body ⌝ }
-    ensures { λ r. ⌜ Captured r (now (tree .entry)) (now (parent .entry)) (now (places .exit)) (captures (namesAt (now (tree .entry)) (now (parent .entry))) (paramsAt (now (tree .entry)) params .value) (exprAt depth (now (tree .entry)) body .value)) ⌝ }
+    requires { ⌜ (length (now tree) ≤ 32768) × Slots (now tree) (now parent) × (slotsFrom + 256 ≤ length (now places)) × ParamsAt (now tree) params × ExprReads depth (now tree) body ⌝ }
+    ensures { λ r. ⌜ Captured r (now (tree .entry)) (now (parent .entry)) (now (places .exit)) (captures (slotNames (now (tree .entry)) (now (parent .entry))) (paramsAt (now (tree .entry)) params .value) (exprAt depth (now (tree .entry)) body .value)) ⌝ }
 {
     let all = refs_expr(tree, body, depth, parent, places, 0);
     let n = remove_params(tree, params, places, all.n);
-    let end = n as usize;
-    sort_names(tree, &mut places[0..end]);
+    let end = 2048 + n as usize;
+    sort_names(tree, &mut places[2048..end]);
     n
 }
 
@@ -247,17 +264,19 @@ pub fn lambda_slots(
     parent: &[u32],
     slots: &mut [u32],
 ) -> Locals
-    requires { ⌜ (length (now tree) ≤ 32768) × (length (now parent) ≤ 255) × (512 ≤ length (now slots)) × ParamsAt (now tree) params × ExprReads depth (now tree) body ⌝ }
-    ensures { λ r. ⌜ Collected r (now (tree .entry)) (now (slots .exit)) (paramsAt (now (tree .entry)) params .value ++ captures (namesAt (now (tree .entry)) (now (parent .entry))) (paramsAt (now (tree .entry)) params .value) (exprAt depth (now (tree .entry)) body .value)) ⌝ }
+    requires { ⌜ (length (now tree) ≤ 32768) × Slots (now tree) (now parent) × (slotsFrom + 256 ≤ length (now slots)) × ParamsAt (now tree) params × ExprReads depth (now tree) body ⌝ }
+    ensures { λ r. ⌜ Collected r (now (tree .entry)) (now (slots .exit)) (paramsAt (now (tree .entry)) params .value ++ captures (slotNames (now (tree .entry)) (now (parent .entry))) (paramsAt (now (tree .entry)) params .value) (exprAt depth (now (tree .entry)) body .value)) ⌝ }
 {
     let begun = put_params(tree, params, slots);
     let Locals::Count(k) = begun else {
         return Locals::TooMany;
     };
-    let from = k as usize;
-    let n = find_captures(tree, params, body, depth, parent, &mut slots[from..]);
+    let mut kept = [0u32; 2304];
+    let n = find_captures(tree, params, body, depth, parent, &mut kept);
     if 255 < k + n {
         return Locals::TooMany;
     }
+    let end = 2048 + n as usize;
+    append_slots(tree, slots, k, &kept[2048..end]);
     Locals::Count(k + n)
 }

@@ -1,6 +1,7 @@
 // The locals of a def or method: its parameters, then the names that its block gives a slot.
 use crate::Locals;
 use crate::add::add_name;
+use crate::index::index_slots;
 use crate::skip::skip_expr;
 use crate::skip::skip_stmt;
 use parts::names::name_end;
@@ -9,9 +10,10 @@ ghost use mathlib.Core.Path.{_≡_};
 ghost use Prim.Native.Nat.{_+_, _<_, _≤_};
 ghost use lib.ListN.{length, getD};
 ghost use Rattle.definitions.specs.Slots.{add, localsStmt, localsBlock, localsBranches};
-ghost use Rattle.parts.specs.Places.{nameBytes, nameEnd, ParamsAt, paramsAt};
+ghost use Rattle.parts.specs.Places.{nameBytes, nameEnd, namesFrom, AllThere, ParamsAt, paramsAt};
+ghost use Rattle.state.specs.State.{slotsFrom};
 ghost use Rattle.tree.specs.StmtAt.{stmtAt, blockAt, branchesAt, StmtReads, BlockReads, BranchesRead, BranchAt, bodyAt, IfAt, ifAt, elifsAt, ForAt, forAt};
-ghost use Rattle.slots.specs.Slotted.{firstNames, Collected, Room, Gathers};
+ghost use Rattle.slots.specs.Slotted.{leading, firstNames, Collected, Room, Gathers};
 
 // The next position in the tree and how many slots there are; or that there are more than 255.
 pub enum Gathered {
@@ -161,22 +163,31 @@ fn gather_for(tree: &[u8], at: usize, depth: u32, slots: &mut [u32], n: u32) -> 
     gather_branch(tree, q, depth, slots, k)
 }
 
-// The places of the parameters at `at`.
+// The places of so many names from `at` on.
+fn place_names(tree: &[u8], at: usize, count: u32, places: &mut [u32])
+    requires { ⌜ (length (now tree) ≤ 32768) × (count ≤ length (now places)) × AllThere (now tree) count at ⌝ }
+    ensures { λ r. ⌜ leading (now (tree .entry)) count (now (places .exit)) ≡ namesFrom (now (tree .entry)) count at ⌝ }
+{
+    let mut p = at;
+    let mut i: u32 = 0;
+    while i < count {
+        places[i as usize] = p as u32;
+        p = name_end(tree, p);
+        i += 1;
+    }
+}
+
+// The slots of the parameters at `at`.
 pub fn put_params(tree: &[u8], at: usize, slots: &mut [u32]) -> Locals
-    requires { ⌜ (length (now tree) ≤ 32768) × (256 ≤ length (now slots)) × ParamsAt (now tree) at ⌝ }
+    requires { ⌜ (length (now tree) ≤ 32768) × (slotsFrom + 256 ≤ length (now slots)) × ParamsAt (now tree) at ⌝ }
     ensures { λ r. ⌜ Collected r (now (tree .entry)) (now (slots .exit)) (paramsAt (now (tree .entry)) at .value) ⌝ }
 {
     let count = u16_at(tree, at);
     if 255 < count {
         return Locals::TooMany;
     }
-    let mut p = at + 2;
-    let mut i: u32 = 0;
-    while i < count {
-        slots[i as usize] = p as u32;
-        p = name_end(tree, p);
-        i += 1;
-    }
+    place_names(tree, at + 2, count, &mut slots[2048..]);
+    index_slots(tree, slots, count);
     Locals::Count(count)
 }
 
@@ -188,7 +199,7 @@ pub fn collect_locals(
     depth: u32,
     slots: &mut [u32],
 ) -> Locals
-    requires { ⌜ (length (now tree) ≤ 32768) × (256 ≤ length (now slots)) × ParamsAt (now tree) params × BlockReads depth (now tree) block ⌝ }
+    requires { ⌜ (length (now tree) ≤ 32768) × (slotsFrom + 256 ≤ length (now slots)) × ParamsAt (now tree) params × BlockReads depth (now tree) block ⌝ }
     ensures { λ r. ⌜ Collected r (now (tree .entry)) (now (slots .exit)) (localsBlock (blockAt depth (now (tree .entry)) block .value) (paramsAt (now (tree .entry)) params .value)) ⌝ }
 {
     let begun = put_params(tree, params, slots);

@@ -93,7 +93,7 @@ left-as e A = record { state = A .state ∙ e; base = A .base; paced = A .paced;
 -- ready for the next step
 pub ready-again : {k c : Counts} {l : Limits} {tree slots made₀ code₀ tables₀ made code tables : List ℕ} {want : State}
     → Ready tree slots made₀ code₀ tables₀ c l → Left k tree made code tables c l want → Ready tree slots made code tables k l
-ready-again R A = record { tree-short = R .tree-short; slots-few = R .slots-few; sound = A .sound }
+ready-again R A = record { tree-short = R .tree-short; slotted = R .slotted; sound = A .sound }
 
 -- the innermost function begins within the stack
 pub base-below : (tree made code tables : List ℕ) (c : Counts) (l : Limits) → Sound tree made code tables c l → c .base ≤ length (stateOf tree made code tables c .stack)

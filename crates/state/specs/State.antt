@@ -66,9 +66,21 @@ doneFrom = 8192
 unfoldable pub spelled : List ℕ → List ℕ → ℕ → Name
 spelled tree made w = elim (ltb w 32768) [ true ↦ nameAt tree w | false ↦ nameAt made (w - 32768) ]
 
--- the names that stand at places of the tree: slots
+-- the names that stand at places of the tree
 unfoldable pub namesAt : List ℕ → List ℕ → List Name
 namesAt tree ps = map (nameAt tree) ps
+
+-- slots: an index of so many words, then the places of their names
+abbrev pub slotsFrom : ℕ
+slotsFrom = 2048
+
+abbrev pub slotNames : List ℕ → List ℕ → List Name
+slotNames tree slots = namesAt tree (drop slotsFrom slots)
+
+pub record Slots (tree slots : List ℕ) : Type 0 where
+  pub room : slotsFrom ≤ length slots
+  pub few : length slots ≤ slotsFrom + 255
+  pub indexed : Covered slotsFrom slots 0 (slotNames tree slots)
 
 -- a place and a count in one word
 abbrev pub placeOf : ℕ → ℕ
@@ -208,10 +220,10 @@ pub record Paced (c k : Counts) : Type 0 where
   pub methods : k .methods + c .functions ≤ c .methods + k .functions
   pub constants : k .constants + c .classes ≤ c .constants + k .classes
 
--- what a step asks: a short tree, slots that are few, sound slices
+-- what a step asks: a short tree, slots that are few and indexed, sound slices
 pub record Ready (tree slots made code tables : List ℕ) (c : Counts) (l : Limits) : Type 0 where
   pub tree-short : length tree ≤ 32768
-  pub slots-few : length slots ≤ 255
+  pub slotted : Slots tree slots
   pub sound : Sound tree made code tables c l
 
 -- what it leaves: the wanted state, the innermost function as it was, and sound slices

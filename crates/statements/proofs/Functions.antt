@@ -4,8 +4,7 @@ use mathlib.Core.Path.{_≡_, refl, sym, ap, _∙_, subst}
 use mathlib.Core.Bool.{Bool}
 use mathlib.Core.List.{List, [], _∷_, _++_, map, append-assoc}
 use native.Mathlib.Omega.{arith}
-use lib.ListN.{length, take, drop, length-append, length-map}
-use lib.Seq.{length-take-le}
+use lib.ListN.{length, take, drop, length-append}
 use Rattle.definitions.specs.Bytes.{Name, same}
 use Rattle.definitions.specs.Wellformed.{init}
 use Rattle.definitions.specs.Tree.{Block}
@@ -16,7 +15,7 @@ use Rattle.parts.specs.Places.{nameEnd, paramsAt}
 use Rattle.definitions.specs.Slots.{localsBlock}
 use Rattle.tree.specs.StmtAt.{blockAt, defBlockAt}
 use Rattle.state.specs.Words.{nameAt}
-use Rattle.state.specs.State.{State, namesAt, stateOf, emitAt, Sound, Within, Ready, Paced, Left, Emits, symbolNumber, withSymbol, withTables}
+use Rattle.state.specs.State.{State, slotsFrom, slotNames, Slots, stateOf, emitAt, Sound, Within, Ready, Paced, Left, Emits, symbolNumber, withSymbol, withTables}
 use Rattle.state.specs.Steps.{begun, ended, methodFunction}
 use Rattle.state.specs.declared.Counts.{Counts}
 use Rattle.state.specs.declared.Limits.{Limits}
@@ -32,14 +31,15 @@ use Rattle.state.proofs.Answers.{paced-more}
 use Rattle.code.specs.Nesting.{begunWith, bodyOf, Moved, Begins}
 use Rattle.slots.specs.declared.Locals.{Locals}
 use Rattle.slots.specs.declared.Locals.the-variants.{Count}
-use Rattle.slots.specs.Slotted.{firstNames, Collected}
-use Rattle.statements.specs.Lowering.{BlockLowerable, blockCode, localsAt, endOf, functionCode}
+use Rattle.slots.specs.Slotted.{firstNames, Indexed, Collected}
+use Rattle.slots.proofs.Adding.{first-length, part-before, front-names, front-slots}
+use Rattle.statements.specs.Lowering.{Sole, BlockLowerable, blockCode, localsAt, endOf, functionCode}
 use Rattle.statements.specs.Compiled.{Ahead, Compiles}
 use Rattle.statements.proofs.Sequences.{method-end}
 
 -- ---- answers, once they are matched on
 
-pub collected-count : (r : Locals) (t ps : List ℕ) (want : List Name) (n : ℕ) → r ≡ Count n → Collected r t ps want → (n ≤ 255) × (firstNames t n ps ≡ want)
+pub collected-count : (r : Locals) (t ps : List ℕ) (want : List Name) (n : ℕ) → r ≡ Count n → Collected r t ps want → (n ≤ 255) × (firstNames t n ps ≡ want) × Indexed t n ps
 unfolding Collected
 collected-count r t ps want n e h = rw e at h
 
@@ -79,24 +79,21 @@ compiles-as r t made code tables c l n want want′ e h = subst (Compiles r t ma
 
 -- ---- slots
 
-pub names-length : (t ps : List ℕ) (n : ℕ) (want : List Name) → n ≤ length ps → firstNames t n ps ≡ want → n ≡ length want
-unfolding firstNames namesAt
-names-length t ps n want h e = sym (ap length (sym e) ∙ length-map (take n ps) (nameAt t) ∙ length-take-le n ps h)
+pub names-length : (t ps : List ℕ) (n : ℕ) (want : List Name) → slotsFrom + n ≤ length ps → firstNames t n ps ≡ want → n ≡ length want
+names-length t ps n want h e = sym (ap length (sym e) ∙ first-length t n ps h)
 
 pub collected-at : (r : Locals) (t ps : List ℕ) (d at params block : ℕ) → params ≡ nameEnd t at → block ≡ paramsAt t (nameEnd t at) .end
     → Collected r t ps (localsBlock (blockAt d t block .value) (paramsAt t params .value)) → Collected r t ps (localsAt d t at)
 collected-at r t ps d at params block e f h = subst (Collected r t ps) (λ j. localsBlock (blockAt d t (f j) .value) (paramsAt t (e j) .value)) h
 
 -- the slots that are used
-pub part-names : (t ps : List ℕ) (n : ℕ) (want : List Name) → firstNames t n ps ≡ want → namesAt t (take (n - 0) (drop 0 ps)) ≡ want
-unfolding firstNames
-part-names t ps n want e = let z : n - 0 ≡ n = omega arith in ap (λ (m : ℕ). namesAt t (take m ps)) z ∙ e
+pub part-names : (t ps : List ℕ) (n : ℕ) (want : List Name) → firstNames t n ps ≡ want → slotsFrom + n ≤ length ps → slotNames t (take (slotsFrom + n - 0) (drop 0 ps)) ≡ want
+part-names t ps n want e h = ap (slotNames t) (part-before (slotsFrom + n) ps) ∙ front-names t ps n h ∙ e
 
-pub part-ready : (t slots ps made₀ code₀ tables₀ made code tables : List ℕ) (c k : Counts) (l : Limits) (n : ℕ) → Ready t slots made₀ code₀ tables₀ c l → n ≤ 255 → n ≤ length ps → Sound t made code tables k l
-    → Ready t (take (n - 0) (drop 0 ps)) made code tables k l
-part-ready t slots ps made₀ code₀ tables₀ made code tables c k l n r h g s =
-    let z : n - 0 ≡ n = omega arith in
-    record { tree-short = r .tree-short; slots-few = omega (arith, ap (λ (m : ℕ). length (take m ps)) z, length-take-le n ps g); sound = s }
+pub part-ready : (t ps made₀ code₀ tables₀ made code tables : List ℕ) (c k : Counts) (l : Limits) (n : ℕ) → Sole t made₀ code₀ tables₀ c l → n ≤ 255 → Indexed t n ps → slotsFrom + n ≤ length ps → Sound t made code tables k l
+    → Ready t (take (slotsFrom + n - 0) (drop 0 ps)) made code tables k l
+part-ready t ps made₀ code₀ tables₀ made code tables c k l n r h v g s =
+    record { tree-short = r .tree-short; slotted = subst (Slots t) (sym (part-before (slotsFrom + n) ps)) (front-slots t ps n g h v); sound = s }
 
 pub block-with : (d : ℕ) (t : List ℕ) (names names′ : List Name) (p q : ℕ) → names′ ≡ names → q ≡ p → BlockLowerable d t names p → BlockLowerable d t names′ q
 block-with d t names names′ p q e f r = subst (λ (x : List Name). BlockLowerable d t x q) (sym e) (subst (BlockLowerable d t names) (sym f) r)

@@ -27,7 +27,7 @@ use Rattle.code.specs.Ops.{special, Plain}
 use Rattle.frames.proofs.Answering.{next-emits}
 use Rattle.expressions.specs.Lowerable.{exprCode}
 use Rattle.targets.proofs.Unpacking.{plain-of}
-use Rattle.statements.specs.Lowering.{endOf, blockCode, StmtLowerable, StmtsLowerable, BlockLowerable, BranchesLowerable}
+use Rattle.statements.specs.Lowering.{Sole, endOf, blockCode, StmtLowerable, StmtsLowerable, BlockLowerable, BranchesLowerable}
 
 pub plain-break : Plain 46 0 0
 unfolding special isJump
@@ -50,8 +50,8 @@ unfolding special isJump
 plain-object = plain-of 9 (omega arith) refl
 
 -- no slots
-pub ready-none : {t slots made code tables : List ℕ} {c : Counts} {l : Limits} → Ready t slots made code tables c l → Ready t [] made code tables c l
-ready-none r = record { tree-short = r .tree-short; slots-few = omega arith; sound = r .sound }
+pub ready-none : {t slots made code tables : List ℕ} {c : Counts} {l : Limits} → Ready t slots made code tables c l → Sole t made code tables c l
+ready-none r = record { tree-short = r .tree-short; sound = r .sound }
 
 -- ---- a function's end
 
@@ -92,7 +92,10 @@ module _ (r : Emitted) (t made code tables : List ℕ) (c : Counts) (l : Limits)
 
 -- the slices have moved on
 pub ready-with : {t slots made₀ code₀ tables₀ made code tables : List ℕ} {c k : Counts} {l : Limits} → Ready t slots made₀ code₀ tables₀ c l → Sound t made code tables k l → Ready t slots made code tables k l
-ready-with r s = record { tree-short = r .tree-short; slots-few = r .slots-few; sound = s }
+ready-with r s = record { tree-short = r .tree-short; slotted = r .slotted; sound = s }
+
+pub sole-with : {t made₀ code₀ tables₀ made code tables : List ℕ} {c k : Counts} {l : Limits} → Sole t made₀ code₀ tables₀ c l → Sound t made code tables k l → Sole t made code tables k l
+sole-with r s = record { tree-short = r .tree-short; sound = s }
 
 -- the next position by other words
 pub position-emits : (r : Emitted) (t made code tables : List ℕ) (c : Counts) (l : Limits) (q q′ : ℕ) (want : State) → q ≡ q′ → Emits r t made code tables c l q want → Emits r t made code tables c l q′ want

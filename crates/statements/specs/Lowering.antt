@@ -16,8 +16,16 @@ use Rattle.parts.specs.Places.{countAt, Counted, nameEnd, There, ParamsAt, para
 use Rattle.exprs.specs.ExprAt.{exprAt}
 use Rattle.tree.specs.StmtAt.{stmtAt, blockAt, stmtsAt, branchesAt, methodsAt, StmtReads, BlockReads, StmtsRead, BranchesRead, MethodsRead, bodyAt, defBlockAt}
 use Rattle.state.specs.Words.{nameAt}
+use Rattle.state.specs.State.{Sound}
+use Rattle.state.specs.declared.Counts.{Counts}
+use Rattle.state.specs.declared.Limits.{Limits}
 use Rattle.state.specs.Fits.{fitsStmt, fitsBlock, fitsBranches, fitsMethods}
 use Rattle.expressions.specs.Lowerable.{Lowerable}
+
+-- what a step without slots asks: a short tree, sound slices
+pub record Sole (tree made code tables : List ℕ) (c : Counts) (l : Limits) : Type 0 where
+  pub tree-short : length tree ≤ 32768
+  pub sound : Sound tree made code tables c l
 
 -- ---- statements and blocks
 

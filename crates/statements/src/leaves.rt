@@ -20,7 +20,7 @@ ghost use Rattle.definitions.specs.Lower.{makeIter};
 ghost use Rattle.exprs.specs.ExprAt.{exprAt};
 ghost use Rattle.tree.specs.StmtAt.{stmtAt};
 ghost use Rattle.state.specs.Words.{nameAt};
-ghost use Rattle.state.specs.State.{namesAt, stateOf, emitAt, Sound, Ready, Emits};
+ghost use Rattle.state.specs.State.{stateOf, emitAt, Sound, Ready, Emits, slotNames};
 ghost use Rattle.code.specs.Ops.{Plain};
 ghost use Rattle.expressions.specs.Step.{Lowers};
 ghost use Rattle.expressions.specs.Lowerable.{Lowerable, exprCode};
@@ -39,8 +39,8 @@ fn emit_value(
     c: Counts,
     l: Limits,
 ) -> Emitted
-    requires { ⌜ Ready (now tree) (now slots) (now made) (now code) (now tables) c l × Lowerable depth (now tree) (namesAt (now tree) (now slots)) at × Plain op 0 0 ⌝ }
-    ensures { λ r. ⌜ Lowers r (exprCode depth (now (tree .entry)) (namesAt (now (tree .entry)) (now (slots .entry))) at ⨟ one (instr op 0 0)) (exprAt depth (now (tree .entry)) at .end) (now (tree .entry)) (now (made .entry)) (now (code .entry)) (now (tables .entry)) (now (made .exit)) (now (code .exit)) (now (tables .exit)) c l ⌝ }
+    requires { ⌜ Ready (now tree) (now slots) (now made) (now code) (now tables) c l × Lowerable depth (now tree) (slotNames (now tree) (now slots)) at × Plain op 0 0 ⌝ }
+    ensures { λ r. ⌜ Lowers r (exprCode depth (now (tree .entry)) (slotNames (now (tree .entry)) (now (slots .entry))) at ⨟ one (instr op 0 0)) (exprAt depth (now (tree .entry)) at .end) (now (tree .entry)) (now (made .entry)) (now (code .entry)) (now (tables .entry)) (now (made .exit)) (now (code .exit)) (now (tables .exit)) c l ⌝ }
 {
     let value = emit_expr(tree, at, depth, slots, made, code, tables, c, l);
     let Emitted::Done(next, k) = value else {
@@ -61,8 +61,8 @@ pub fn emit_question(
     c: Counts,
     l: Limits,
 ) -> Emitted
-    requires { ⌜ Ready (now tree) (now slots) (now made) (now code) (now tables) c l × Lowerable depth (now tree) (namesAt (now tree) (now slots)) at ⌝ }
-    ensures { λ r. ⌜ Lowers r (exprCode depth (now (tree .entry)) (namesAt (now (tree .entry)) (now (slots .entry))) at ⨟ one (JumpIfFalse 0)) (exprAt depth (now (tree .entry)) at .end) (now (tree .entry)) (now (made .entry)) (now (code .entry)) (now (tables .entry)) (now (made .exit)) (now (code .exit)) (now (tables .exit)) c l ⌝ }
+    requires { ⌜ Ready (now tree) (now slots) (now made) (now code) (now tables) c l × Lowerable depth (now tree) (slotNames (now tree) (now slots)) at ⌝ }
+    ensures { λ r. ⌜ Lowers r (exprCode depth (now (tree .entry)) (slotNames (now (tree .entry)) (now (slots .entry))) at ⨟ one (JumpIfFalse 0)) (exprAt depth (now (tree .entry)) at .end) (now (tree .entry)) (now (made .entry)) (now (code .entry)) (now (tables .entry)) (now (made .exit)) (now (code .exit)) (now (tables .exit)) c l ⌝ }
 {
     let value = emit_expr(tree, at, depth, slots, made, code, tables, c, l);
     let Emitted::Done(next, k) = value else {
@@ -83,8 +83,8 @@ pub fn emit_iterable(
     c: Counts,
     l: Limits,
 ) -> Emitted
-    requires { ⌜ Ready (now tree) (now slots) (now made) (now code) (now tables) c l × Lowerable depth (now tree) (namesAt (now tree) (now slots)) at ⌝ }
-    ensures { λ r. ⌜ Lowers r (exprCode depth (now (tree .entry)) (namesAt (now (tree .entry)) (now (slots .entry))) at ⨟ makeIter) (exprAt depth (now (tree .entry)) at .end) (now (tree .entry)) (now (made .entry)) (now (code .entry)) (now (tables .entry)) (now (made .exit)) (now (code .exit)) (now (tables .exit)) c l ⌝ }
+    requires { ⌜ Ready (now tree) (now slots) (now made) (now code) (now tables) c l × Lowerable depth (now tree) (slotNames (now tree) (now slots)) at ⌝ }
+    ensures { λ r. ⌜ Lowers r (exprCode depth (now (tree .entry)) (slotNames (now (tree .entry)) (now (slots .entry))) at ⨟ makeIter) (exprAt depth (now (tree .entry)) at .end) (now (tree .entry)) (now (made .entry)) (now (code .entry)) (now (tables .entry)) (now (made .exit)) (now (code .exit)) (now (tables .exit)) c l ⌝ }
 {
     let value = emit_expr(tree, at, depth, slots, made, code, tables, c, l);
     let Emitted::Done(next, k) = value else {
@@ -105,8 +105,8 @@ pub fn emit_simple(
     c: Counts,
     l: Limits,
 ) -> Emitted
-    requires { ⌜ Ready (now tree) (now slots) (now made) (now code) (now tables) c l × StmtLowerable depth (now tree) (namesAt (now tree) (now slots)) at × (getD (now tree) at 0 < 6) ⌝ }
-    ensures { λ r. ⌜ Lowers r (stmtCode depth (now (tree .entry)) (namesAt (now (tree .entry)) (now (slots .entry))) at) (stmtAt depth (now (tree .entry)) at .end) (now (tree .entry)) (now (made .entry)) (now (code .entry)) (now (tables .entry)) (now (made .exit)) (now (code .exit)) (now (tables .exit)) c l ⌝ }
+    requires { ⌜ Ready (now tree) (now slots) (now made) (now code) (now tables) c l × StmtLowerable depth (now tree) (slotNames (now tree) (now slots)) at × (getD (now tree) at 0 < 6) ⌝ }
+    ensures { λ r. ⌜ Lowers r (stmtCode depth (now (tree .entry)) (slotNames (now (tree .entry)) (now (slots .entry))) at) (stmtAt depth (now (tree .entry)) at .end) (now (tree .entry)) (now (made .entry)) (now (code .entry)) (now (tables .entry)) (now (made .exit)) (now (code .exit)) (now (tables .exit)) c l ⌝ }
 {
     let kind = tree[at];
     let a = at + 1;

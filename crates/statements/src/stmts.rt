@@ -38,11 +38,11 @@ ghost use Rattle.exprs.specs.ExprAt.{exprAt};
 ghost use Rattle.tree.specs.StmtAt.{stmtAt, blockAt, branchesAt, bodyAt, elifsAt, defBlockAt, classMethodsAt};
 ghost use Rattle.tree.specs.StmtAt as StmtAt;
 ghost use Rattle.state.specs.Words.{nameAt};
-ghost use Rattle.state.specs.State.{namesAt, stateOf, emitAt, Sound, Ready, Emits};
+ghost use Rattle.state.specs.State.{stateOf, emitAt, Sound, Ready, Emits, slotNames};
 ghost use Rattle.state.specs.Steps.{branch, chainAt, methodFunction, methodsAt, methodsOf};
 ghost use Rattle.expressions.specs.Step.{Lowers};
 ghost use Rattle.expressions.specs.Lowerable.{Lowerable, exprCode};
-ghost use Rattle.statements.specs.Lowering.{StmtLowerable, BlockLowerable, stmtCode, blockCode, BranchLowerable, BranchesLowerable, IfLowerable, ForLowerable, FunctionLowerable, functionCode, endOf, MethodsLowerable, ClassLowerable, classCode};
+ghost use Rattle.statements.specs.Lowering.{Sole, StmtLowerable, BlockLowerable, stmtCode, blockCode, BranchLowerable, BranchesLowerable, IfLowerable, ForLowerable, FunctionLowerable, functionCode, endOf, MethodsLowerable, ClassLowerable, classCode};
 ghost use Rattle.statements.specs.Compiled.{Compiles, Lists};
 
 // The statement at `at`, with `depth` levels left.
@@ -57,8 +57,8 @@ pub fn emit_stmt(
     c: Counts,
     l: Limits,
 ) -> Emitted
-    requires { ⌜ Ready (now tree) (now slots) (now made) (now code) (now tables) c l × StmtLowerable depth (now tree) (namesAt (now tree) (now slots)) at ⌝ }
-    ensures { λ r. ⌜ Lowers r (stmtCode depth (now (tree .entry)) (namesAt (now (tree .entry)) (now (slots .entry))) at) (stmtAt depth (now (tree .entry)) at .end) (now (tree .entry)) (now (made .entry)) (now (code .entry)) (now (tables .entry)) (now (made .exit)) (now (code .exit)) (now (tables .exit)) c l ⌝ }
+    requires { ⌜ Ready (now tree) (now slots) (now made) (now code) (now tables) c l × StmtLowerable depth (now tree) (slotNames (now tree) (now slots)) at ⌝ }
+    ensures { λ r. ⌜ Lowers r (stmtCode depth (now (tree .entry)) (slotNames (now (tree .entry)) (now (slots .entry))) at) (stmtAt depth (now (tree .entry)) at .end) (now (tree .entry)) (now (made .entry)) (now (code .entry)) (now (tables .entry)) (now (made .exit)) (now (code .exit)) (now (tables .exit)) c l ⌝ }
 {
     let kind = tree[at];
     match kind {
@@ -86,8 +86,8 @@ pub fn emit_block(
     c: Counts,
     l: Limits,
 ) -> Emitted
-    requires { ⌜ Ready (now tree) (now slots) (now made) (now code) (now tables) c l × BlockLowerable depth (now tree) (namesAt (now tree) (now slots)) at ⌝ }
-    ensures { λ r. ⌜ Lowers r (blockCode depth (now (tree .entry)) (namesAt (now (tree .entry)) (now (slots .entry))) at) (blockAt depth (now (tree .entry)) at .end) (now (tree .entry)) (now (made .entry)) (now (code .entry)) (now (tables .entry)) (now (made .exit)) (now (code .exit)) (now (tables .exit)) c l ⌝ }
+    requires { ⌜ Ready (now tree) (now slots) (now made) (now code) (now tables) c l × BlockLowerable depth (now tree) (slotNames (now tree) (now slots)) at ⌝ }
+    ensures { λ r. ⌜ Lowers r (blockCode depth (now (tree .entry)) (slotNames (now (tree .entry)) (now (slots .entry))) at) (blockAt depth (now (tree .entry)) at .end) (now (tree .entry)) (now (made .entry)) (now (code .entry)) (now (tables .entry)) (now (made .exit)) (now (code .exit)) (now (tables .exit)) c l ⌝ }
 {
     let mut left = u16_at(tree, at);
     let mut p = at + 2;
@@ -116,8 +116,8 @@ fn emit_branch(
     c: Counts,
     l: Limits,
 ) -> Emitted
-    requires { ⌜ Ready (now tree) (now slots) (now made) (now code) (now tables) c l × BranchLowerable depth (now tree) (namesAt (now tree) (now slots)) at ⌝ }
-    ensures { λ r. ⌜ Lowers r (branch (namesAt (now (tree .entry)) (now (slots .entry))) (exprAt depth (now (tree .entry)) at .value) (bodyAt depth (now (tree .entry)) at .value)) (bodyAt depth (now (tree .entry)) at .end) (now (tree .entry)) (now (made .entry)) (now (code .entry)) (now (tables .entry)) (now (made .exit)) (now (code .exit)) (now (tables .exit)) c l ⌝ }
+    requires { ⌜ Ready (now tree) (now slots) (now made) (now code) (now tables) c l × BranchLowerable depth (now tree) (slotNames (now tree) (now slots)) at ⌝ }
+    ensures { λ r. ⌜ Lowers r (branch (slotNames (now (tree .entry)) (now (slots .entry))) (exprAt depth (now (tree .entry)) at .value) (bodyAt depth (now (tree .entry)) at .value)) (bodyAt depth (now (tree .entry)) at .end) (now (tree .entry)) (now (made .entry)) (now (code .entry)) (now (tables .entry)) (now (made .exit)) (now (code .exit)) (now (tables .exit)) c l ⌝ }
 {
     let asked = emit_question(tree, at, depth, slots, made, code, tables, c, l);
     let Emitted::Done(block, k) = asked else {
@@ -142,8 +142,8 @@ fn emit_if(
     c: Counts,
     l: Limits,
 ) -> Emitted
-    requires { ⌜ Ready (now tree) (now slots) (now made) (now code) (now tables) c l × IfLowerable depth (now tree) (namesAt (now tree) (now slots)) at ⌝ }
-    ensures { λ r. ⌜ Lowers r (emitStmt (namesAt (now (tree .entry)) (now (slots .entry))) (if (when (exprAt depth (now (tree .entry)) at .value) (bodyAt depth (now (tree .entry)) at .value) (elifsAt depth (now (tree .entry)) at .value)))) (elifsAt depth (now (tree .entry)) at .end) (now (tree .entry)) (now (made .entry)) (now (code .entry)) (now (tables .entry)) (now (made .exit)) (now (code .exit)) (now (tables .exit)) c l ⌝ }
+    requires { ⌜ Ready (now tree) (now slots) (now made) (now code) (now tables) c l × IfLowerable depth (now tree) (slotNames (now tree) (now slots)) at ⌝ }
+    ensures { λ r. ⌜ Lowers r (emitStmt (slotNames (now (tree .entry)) (now (slots .entry))) (if (when (exprAt depth (now (tree .entry)) at .value) (bodyAt depth (now (tree .entry)) at .value) (elifsAt depth (now (tree .entry)) at .value)))) (elifsAt depth (now (tree .entry)) at .end) (now (tree .entry)) (now (made .entry)) (now (code .entry)) (now (tables .entry)) (now (made .exit)) (now (code .exit)) (now (tables .exit)) c l ⌝ }
 {
     let first = emit_branch(tree, at, depth, slots, made, code, tables, c, l);
     let Emitted::Done(p, k) = first else {
@@ -166,8 +166,8 @@ fn emit_elifs(
     c: Counts,
     l: Limits,
 ) -> Emitted
-    requires { ⌜ Ready (now tree) (now slots) (now made) (now code) (now tables) c l × BranchesLowerable depth n (now tree) (namesAt (now tree) (now slots)) at × (0 < c .open) ⌝ }
-    ensures { λ r. ⌜ Emits r (now (tree .entry)) (now (made .exit)) (now (code .exit)) (now (tables .exit)) c l (branchesAt depth n (now (tree .entry)) at .end) (chainAt (c .base) (namesAt (now (tree .entry)) (now (slots .entry))) (branchesAt depth n (now (tree .entry)) at .value) (c .open - 1) (stateOf (now (tree .entry)) (now (made .entry)) (now (code .entry)) (now (tables .entry)) c)) ⌝ }
+    requires { ⌜ Ready (now tree) (now slots) (now made) (now code) (now tables) c l × BranchesLowerable depth n (now tree) (slotNames (now tree) (now slots)) at × (0 < c .open) ⌝ }
+    ensures { λ r. ⌜ Emits r (now (tree .entry)) (now (made .exit)) (now (code .exit)) (now (tables .exit)) c l (branchesAt depth n (now (tree .entry)) at .end) (chainAt (c .base) (slotNames (now (tree .entry)) (now (slots .entry))) (branchesAt depth n (now (tree .entry)) at .value) (c .open - 1) (stateOf (now (tree .entry)) (now (made .entry)) (now (code .entry)) (now (tables .entry)) c)) ⌝ }
 {
     let mut left = n;
     let mut p = at;
@@ -199,8 +199,8 @@ fn emit_else(
     c: Counts,
     l: Limits,
 ) -> Emitted
-    requires { ⌜ Ready (now tree) (now slots) (now made) (now code) (now tables) c l × BranchesLowerable depth 0 (now tree) (namesAt (now tree) (now slots)) at × (0 < c .open) ⌝ }
-    ensures { λ r. ⌜ Emits r (now (tree .entry)) (now (made .exit)) (now (code .exit)) (now (tables .exit)) c l (branchesAt depth 0 (now (tree .entry)) at .end) (chainAt (c .base) (namesAt (now (tree .entry)) (now (slots .entry))) (branchesAt depth 0 (now (tree .entry)) at .value) (c .open - 1) (stateOf (now (tree .entry)) (now (made .entry)) (now (code .entry)) (now (tables .entry)) c)) ⌝ }
+    requires { ⌜ Ready (now tree) (now slots) (now made) (now code) (now tables) c l × BranchesLowerable depth 0 (now tree) (slotNames (now tree) (now slots)) at × (0 < c .open) ⌝ }
+    ensures { λ r. ⌜ Emits r (now (tree .entry)) (now (made .exit)) (now (code .exit)) (now (tables .exit)) c l (branchesAt depth 0 (now (tree .entry)) at .end) (chainAt (c .base) (slotNames (now (tree .entry)) (now (slots .entry))) (branchesAt depth 0 (now (tree .entry)) at .value) (c .open - 1) (stateOf (now (tree .entry)) (now (made .entry)) (now (code .entry)) (now (tables .entry)) c)) ⌝ }
 {
     let from = c.open;
     if tree[at] == 0 {
@@ -228,8 +228,8 @@ fn emit_while(
     c: Counts,
     l: Limits,
 ) -> Emitted
-    requires { ⌜ Ready (now tree) (now slots) (now made) (now code) (now tables) c l × BranchLowerable depth (now tree) (namesAt (now tree) (now slots)) at ⌝ }
-    ensures { λ r. ⌜ Lowers r (loop (exprCode depth (now (tree .entry)) (namesAt (now (tree .entry)) (now (slots .entry))) at) (blockCode depth (now (tree .entry)) (namesAt (now (tree .entry)) (now (slots .entry))) (exprAt depth (now (tree .entry)) at .end))) (bodyAt depth (now (tree .entry)) at .end) (now (tree .entry)) (now (made .entry)) (now (code .entry)) (now (tables .entry)) (now (made .exit)) (now (code .exit)) (now (tables .exit)) c l ⌝ }
+    requires { ⌜ Ready (now tree) (now slots) (now made) (now code) (now tables) c l × BranchLowerable depth (now tree) (slotNames (now tree) (now slots)) at ⌝ }
+    ensures { λ r. ⌜ Lowers r (loop (exprCode depth (now (tree .entry)) (slotNames (now (tree .entry)) (now (slots .entry))) at) (blockCode depth (now (tree .entry)) (slotNames (now (tree .entry)) (now (slots .entry))) (exprAt depth (now (tree .entry)) at .end))) (bodyAt depth (now (tree .entry)) at .end) (now (tree .entry)) (now (made .entry)) (now (code .entry)) (now (tables .entry)) (now (made .exit)) (now (code .exit)) (now (tables .exit)) c l ⌝ }
 {
     let asked = emit_question(tree, at, depth, slots, made, code, tables, c, l);
     let Emitted::Done(block, k) = asked else {
@@ -254,8 +254,8 @@ fn emit_for(
     c: Counts,
     l: Limits,
 ) -> Emitted
-    requires { ⌜ Ready (now tree) (now slots) (now made) (now code) (now tables) c l × ForLowerable depth (now tree) (namesAt (now tree) (now slots)) at ⌝ }
-    ensures { λ r. ⌜ Lowers r (emitStmt (namesAt (now (tree .entry)) (now (slots .entry))) (for (nameAt (now (tree .entry)) at) (exprAt depth (now (tree .entry)) (nameEnd (now (tree .entry)) at) .value) (bodyAt depth (now (tree .entry)) (nameEnd (now (tree .entry)) at) .value))) (bodyAt depth (now (tree .entry)) (nameEnd (now (tree .entry)) at) .end) (now (tree .entry)) (now (made .entry)) (now (code .entry)) (now (tables .entry)) (now (made .exit)) (now (code .exit)) (now (tables .exit)) c l ⌝ }
+    requires { ⌜ Ready (now tree) (now slots) (now made) (now code) (now tables) c l × ForLowerable depth (now tree) (slotNames (now tree) (now slots)) at ⌝ }
+    ensures { λ r. ⌜ Lowers r (emitStmt (slotNames (now (tree .entry)) (now (slots .entry))) (for (nameAt (now (tree .entry)) at) (exprAt depth (now (tree .entry)) (nameEnd (now (tree .entry)) at) .value) (bodyAt depth (now (tree .entry)) (nameEnd (now (tree .entry)) at) .value))) (bodyAt depth (now (tree .entry)) (nameEnd (now (tree .entry)) at) .end) (now (tree .entry)) (now (made .entry)) (now (code .entry)) (now (tables .entry)) (now (made .exit)) (now (code .exit)) (now (tables .exit)) c l ⌝ }
 {
     let start = name_end(tree, at);
     let iterable = emit_iterable(tree, start, depth, slots, made, code, tables, c, l);
@@ -283,8 +283,8 @@ fn emit_rounds(
     c: Counts,
     l: Limits,
 ) -> Emitted
-    requires { ⌜ Ready (now tree) (now slots) (now made) (now code) (now tables) c l × There (now tree) at × BlockLowerable depth (now tree) (namesAt (now tree) (now slots)) block × (g < 65536) ⌝ }
-    ensures { λ r. ⌜ Lowers r (loop (askIter g) (takeIter (namesAt (now (tree .entry)) (now (slots .entry))) (nameAt (now (tree .entry)) at) g ⨟ blockCode depth (now (tree .entry)) (namesAt (now (tree .entry)) (now (slots .entry))) block)) (blockAt depth (now (tree .entry)) block .end) (now (tree .entry)) (now (made .entry)) (now (code .entry)) (now (tables .entry)) (now (made .exit)) (now (code .exit)) (now (tables .exit)) c l ⌝ }
+    requires { ⌜ Ready (now tree) (now slots) (now made) (now code) (now tables) c l × There (now tree) at × BlockLowerable depth (now tree) (slotNames (now tree) (now slots)) block × (g < 65536) ⌝ }
+    ensures { λ r. ⌜ Lowers r (loop (askIter g) (takeIter (slotNames (now (tree .entry)) (now (slots .entry))) (nameAt (now (tree .entry)) at) g ⨟ blockCode depth (now (tree .entry)) (slotNames (now (tree .entry)) (now (slots .entry))) block)) (blockAt depth (now (tree .entry)) block .end) (now (tree .entry)) (now (made .entry)) (now (code .entry)) (now (tables .entry)) (now (made .exit)) (now (code .exit)) (now (tables .exit)) c l ⌝ }
 {
     let asked = ask_iterator(tree, made, code, tables, g, block, c, l);
     let Emitted::Done(p, k) = asked else {
@@ -314,8 +314,8 @@ fn emit_body(
     c: Counts,
     l: Limits,
 ) -> Emitted
-    requires { ⌜ Ready (now tree) (now slots) (now made) (now code) (now tables) c l × BlockLowerable depth (now tree) (namesAt (now tree) (now slots)) at ⌝ }
-    ensures { λ r. ⌜ Lowers r (blockCode depth (now (tree .entry)) (namesAt (now (tree .entry)) (now (slots .entry))) at ⨟ emits (endOf init)) (blockAt depth (now (tree .entry)) at .end) (now (tree .entry)) (now (made .entry)) (now (code .entry)) (now (tables .entry)) (now (made .exit)) (now (code .exit)) (now (tables .exit)) c l ⌝ }
+    requires { ⌜ Ready (now tree) (now slots) (now made) (now code) (now tables) c l × BlockLowerable depth (now tree) (slotNames (now tree) (now slots)) at ⌝ }
+    ensures { λ r. ⌜ Lowers r (blockCode depth (now (tree .entry)) (slotNames (now (tree .entry)) (now (slots .entry))) at ⨟ emits (endOf init)) (blockAt depth (now (tree .entry)) at .end) (now (tree .entry)) (now (made .entry)) (now (code .entry)) (now (tables .entry)) (now (made .exit)) (now (code .exit)) (now (tables .exit)) c l ⌝ }
 {
     let block = emit_block(tree, at, depth, slots, made, code, tables, c, l);
     let Emitted::Done(next, k) = block else {
@@ -336,10 +336,10 @@ fn compile_function(
     c: Counts,
     l: Limits,
 ) -> Emitted
-    requires { ⌜ Ready (now tree) [] (now made) (now code) (now tables) c l × FunctionLowerable depth (now tree) at ⌝ }
+    requires { ⌜ Sole (now tree) (now made) (now code) (now tables) c l × FunctionLowerable depth (now tree) at ⌝ }
     ensures { λ r. ⌜ Compiles r (now (tree .entry)) (now (made .exit)) (now (code .exit)) (now (tables .exit)) c l (defBlockAt depth (now (tree .entry)) at .end) (emitAt (c .base) (functionCode depth (now (tree .entry)) at init) (stateOf (now (tree .entry)) (now (made .entry)) (now (code .entry)) (now (tables .entry)) c)) ⌝ }
 {
-    let mut slots = [0u32; 256];
+    let mut slots = [0u32; 2304];
     let params = name_end(tree, at);
     let arity = u16_at(tree, params);
     let block = skip_params(tree, params);
@@ -351,7 +351,7 @@ fn compile_function(
     let Numbered::At(f, k) = begun else {
         return Emitted::Full;
     };
-    let end = n as usize;
+    let end = 2048 + n as usize;
     let body = emit_body(
         tree,
         block,
@@ -382,7 +382,7 @@ fn compile_method(
     c: Counts,
     l: Limits,
 ) -> Emitted
-    requires { ⌜ Ready (now tree) [] (now made) (now code) (now tables) c l × FunctionLowerable depth (now tree) at ⌝ }
+    requires { ⌜ Sole (now tree) (now made) (now code) (now tables) c l × FunctionLowerable depth (now tree) at ⌝ }
     ensures { λ r. ⌜ Compiles r (now (tree .entry)) (now (made .exit)) (now (code .exit)) (now (tables .exit)) c l (defBlockAt depth (now (tree .entry)) at .end) (emitAt (c .base) (methodFunction (nameAt (now (tree .entry)) at) (paramsAt (now (tree .entry)) (nameEnd (now (tree .entry)) at) .value) (defBlockAt depth (now (tree .entry)) at .value)) (stateOf (now (tree .entry)) (now (made .entry)) (now (code .entry)) (now (tables .entry)) c)) ⌝ }
 {
     let init = is_init(tree, at);
@@ -402,7 +402,7 @@ fn emit_methods(
     c: Counts,
     l: Limits,
 ) -> Listed
-    requires { ⌜ Ready (now tree) [] (now made) (now code) (now tables) c l × MethodsLowerable depth n (now tree) at × (256 ≤ length (now list)) ⌝ }
+    requires { ⌜ Sole (now tree) (now made) (now code) (now tables) c l × MethodsLowerable depth n (now tree) at × (256 ≤ length (now list)) ⌝ }
     ensures { λ r. ⌜ Lists r (now (tree .entry)) (now (list .exit)) (now (made .exit)) (now (code .exit)) (now (tables .exit)) c l (methodsAt (StmtAt.methodsAt depth n (now (tree .entry)) at .value) [] (stateOf (now (tree .entry)) (now (made .entry)) (now (code .entry)) (now (tables .entry)) c)) (methodsOf (StmtAt.methodsAt depth n (now (tree .entry)) at .value) [] (stateOf (now (tree .entry)) (now (made .entry)) (now (code .entry)) (now (tables .entry)) c)) ⌝ }
 {
     let mut left = n;
@@ -434,7 +434,7 @@ fn emit_class(
     c: Counts,
     l: Limits,
 ) -> Emitted
-    requires { ⌜ Ready (now tree) [] (now made) (now code) (now tables) c l × ClassLowerable depth (now tree) at ⌝ }
+    requires { ⌜ Sole (now tree) (now made) (now code) (now tables) c l × ClassLowerable depth (now tree) at ⌝ }
     ensures { λ r. ⌜ Emits r (now (tree .entry)) (now (made .exit)) (now (code .exit)) (now (tables .exit)) c l next (emitAt (c .base) (classCode (nameAt (now (tree .entry)) at) (classMethodsAt depth (now (tree .entry)) at .value)) (stateOf (now (tree .entry)) (now (made .entry)) (now (code .entry)) (now (tables .entry)) c)) ⌝ }
 {
     let mut list = [0u32; 256];

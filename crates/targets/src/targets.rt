@@ -15,7 +15,7 @@ ghost use Rattle.definitions.specs.Tables.{one, _⨟_};
 ghost use Rattle.definitions.specs.Lower.{copy, emitTarget, unpack};
 ghost use Rattle.definitions.specs.Tree.{[]ᵉ, _∷ᵉ_};
 ghost use Rattle.exprs.specs.ExprAt.{exprAt, ExprReads};
-ghost use Rattle.state.specs.State.{namesAt, stateOf, emitAt, Sound, Ready, Emits};
+ghost use Rattle.state.specs.State.{stateOf, emitAt, Sound, Ready, Emits, slotNames};
 ghost use Rattle.expressions.specs.Step.{Lowers};
 ghost use Rattle.targets.specs.Elements.{ElementsRead, elementsAt, elementsEnd};
 
@@ -94,7 +94,7 @@ fn emit_assign_target(
     l: Limits,
 ) -> Emitted
     requires { ⌜ Ready (now tree) (now slots) (now made) (now code) (now tables) c l × ExprReads depth (now tree) at ⌝ }
-    ensures { λ r. ⌜ Lowers r (emitTarget (namesAt (now (tree .entry)) (now (slots .entry))) (exprAt depth (now (tree .entry)) at .value)) (next) (now (tree .entry)) (now (made .entry)) (now (code .entry)) (now (tables .entry)) (now (made .entry)) (now (code .exit)) (now (tables .exit)) c l ⌝ }
+    ensures { λ r. ⌜ Lowers r (emitTarget (slotNames (now (tree .entry)) (now (slots .entry))) (exprAt depth (now (tree .entry)) at .value)) (next) (now (tree .entry)) (now (made .entry)) (now (code .entry)) (now (tables .entry)) (now (made .entry)) (now (code .exit)) (now (tables .exit)) c l ⌝ }
 {
     let kind = tree[at];
     match kind {
@@ -135,7 +135,7 @@ fn emit_element(
     l: Limits,
 ) -> Emitted
     requires { ⌜ Ready (now tree) (now slots) (now made) (now code) (now tables) c l × ExprReads depth (now tree) at × (i < 65536) ⌝ }
-    ensures { λ r. ⌜ Lowers r (unpack (namesAt (now (tree .entry)) (now (slots .entry))) (exprAt depth (now (tree .entry)) at .value ∷ᵉ []ᵉ) i) (next) (now (tree .entry)) (now (made .entry)) (now (code .entry)) (now (tables .entry)) (now (made .entry)) (now (code .exit)) (now (tables .exit)) c l ⌝ }
+    ensures { λ r. ⌜ Lowers r (unpack (slotNames (now (tree .entry)) (now (slots .entry))) (exprAt depth (now (tree .entry)) at .value ∷ᵉ []ᵉ) i) (next) (now (tree .entry)) (now (made .entry)) (now (code .entry)) (now (tables .entry)) (now (made .entry)) (now (code .exit)) (now (tables .exit)) c l ⌝ }
 {
     let element = put_element(tree, made, code, tables, i, next, c, l);
     let Emitted::Done(p, k) = element else {
@@ -160,7 +160,7 @@ pub fn emit_elements(
     l: Limits,
 ) -> Emitted
     requires { ⌜ Ready (now tree) (now slots) (now made) (now code) (now tables) c l × ElementsRead depth (now tree) n at × (i + n ≤ 65536) ⌝ }
-    ensures { λ r. ⌜ Lowers r (unpack (namesAt (now (tree .entry)) (now (slots .entry))) (elementsAt depth (now (tree .entry)) n at) i) (next) (now (tree .entry)) (now (made .entry)) (now (code .entry)) (now (tables .entry)) (now (made .entry)) (now (code .exit)) (now (tables .exit)) c l ⌝ }
+    ensures { λ r. ⌜ Lowers r (unpack (slotNames (now (tree .entry)) (now (slots .entry))) (elementsAt depth (now (tree .entry)) n at) i) (next) (now (tree .entry)) (now (made .entry)) (now (code .entry)) (now (tables .entry)) (now (made .entry)) (now (code .exit)) (now (tables .exit)) c l ⌝ }
 {
     if n == 0 {
         return Emitted::Done(next, c);

@@ -5,7 +5,7 @@ use borrow.Author.Needs.{needs}
 use Rattle.definitions.specs.Tables.{one, _⨟_}
 use Rattle.parts.specs.Places.{countAt}
 use Rattle.exprs.specs.ExprAt.{listAt}
-use Rattle.state.specs.State.{namesAt}
+use Rattle.state.specs.State.{slotNames}
 use Rattle.state.proofs.Answers.{emits-done, ready-again}
 use Rattle.state.proofs.Growth.{lengthens-one, lengthens-seq, lengthens-exprs}
 use Rattle.names.specs.Calls.{calleeOf}
@@ -48,4 +48,4 @@ emit-call-ok t = emit-call-lts.spec (emit-named-below t, emit-named.Post, emit-m
     (λ c. let at-emit-args = c .before .before .before .before .before .before in let at-emit-expr = at-emit-args .before .before .before .before .before .before .before .before .before .before .before .before .before in at-emit-args .emit-args .kept .1 .1 .1 .1 .1 .0 ∙ at-emit-expr .emit-expr .kept .1 .1 .1 .1 .0)
     (λ c. let at-emit-args = c .before .before .before .before .before .before in let at-emit-expr = at-emit-args .before .before .before .before .before .before .before .before .before .before .before .before .before in at-emit-args .emit-args .kept .1 .1 .1 .1 .1 .1 .0 ∙ at-emit-expr .emit-expr .kept .1 .1 .1 .1 .1 .0)
     (λ c. let at-emit-args = c .before .before .before .before .before .before in let at-emit-expr = at-emit-args .before .before .before .before .before .before .before .before .before .before .before .before .before in at-emit-args .emit-args .kept .1 .1 .1 .1 .1 .1 .1 .0 ∙ at-emit-expr .emit-expr .kept .1 .1 .1 .1 .1 .1 .0)
-    (λ c. let at-emit-args = c .before .before .before .before .before .before in let at-callee = at-emit-args .before .before .before .before .before in let at-emit-expr = at-callee .before .before .before .before .before .before .before .before in let at-if2 = at-emit-expr .before .before .before .before in let at-if1 = at-if2 .before in let start = at-if1 .before .before .before .before .before .before .before in let h = emits-done _ _ _ _ _ _ _ _ _ _ _ (at-callee .callee .given .1) (at-emit-expr .emit-expr .ensures) in lowers-as _ _ _ _ _ _ _ _ _ _ _ _ _ _ (then-lowers _ _ _ _ _ _ (start .pre .1 .0 .sound) _ (λ x. exprsCode (start .args .depth) (countAt (start .args .tree .now) x) (start .args .tree .now) (namesAt (start .args .tree .now) (start .args .slots .now)) (x + 2) ⨟ one (callInstr (calleeOf Value) (countAt (start .args .tree .now) x))) (λ x. listAt (start .args .depth) (start .args .tree .now) x .end) _ _ _ _ _ _ _ _ _ _ h (at-emit-args .emit-args .ensures)) (call-value _ _ _ _ (start .pre .1 .1) (at-if1 .if1 .left) (at-if2 .if2 .left)) refl)
+    (λ c. let at-emit-args = c .before .before .before .before .before .before in let at-callee = at-emit-args .before .before .before .before .before in let at-emit-expr = at-callee .before .before .before .before .before .before .before .before in let at-if2 = at-emit-expr .before .before .before .before in let at-if1 = at-if2 .before in let start = at-if1 .before .before .before .before .before .before .before in let h = emits-done _ _ _ _ _ _ _ _ _ _ _ (at-callee .callee .given .1) (at-emit-expr .emit-expr .ensures) in lowers-as _ _ _ _ _ _ _ _ _ _ _ _ _ _ (then-lowers _ _ _ _ _ _ (start .pre .1 .0 .sound) _ (λ x. exprsCode (start .args .depth) (countAt (start .args .tree .now) x) (start .args .tree .now) (slotNames (start .args .tree .now) (start .args .slots .now)) (x + 2) ⨟ one (callInstr (calleeOf Value) (countAt (start .args .tree .now) x))) (λ x. listAt (start .args .depth) (start .args .tree .now) x .end) _ _ _ _ _ _ _ _ _ _ h (at-emit-args .emit-args .ensures)) (call-value _ _ _ _ (start .pre .1 .1) (at-if1 .if1 .left) (at-if2 .if2 .left)) refl)

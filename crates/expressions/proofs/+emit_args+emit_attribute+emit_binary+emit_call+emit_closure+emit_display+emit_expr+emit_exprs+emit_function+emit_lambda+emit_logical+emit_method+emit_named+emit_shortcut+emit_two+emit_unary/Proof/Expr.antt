@@ -31,7 +31,7 @@ emit-expr-ok t = emit-expr-lts.spec (literal-at-reads.Asked, literal-at-reads.Le
     (λ c. let at-emit-literal = c .before .before .before .before in let at-literal-at = at-emit-literal .before .before .before .before in let at-if1 = at-literal-at .before in let start = at-if1 .before .before .before .before .before .before .before in let v = arm-literal _ _ _ _ (start .pre .1 .1) (at-if1 .if1 .taken) in lowers-as _ _ _ _ _ _ _ _ _ _ _ _ _ _ (at-emit-literal .emit-literal .ensures) (v .code ∙ lit-code _ _ _ (at-literal-at .literal-at .ensures .0)) (v .end))
     (λ c. let start = c .before .before .before .before .before .before .before in omega (arith, arm-inside _ _ _ _ (start .pre .1 .1), start .pre .1 .0 .tree-short))
     (λ c κs. let at-match = c .before .before .before in let start = at-match .before .before .before .before .before .before .before .before in arm-variable _ _ _ _ (start .pre .1 .1) (at-match .match .keys1) .parts)
-    (λ c κs. let at-match = c .before .before .before .before in let start = at-match .before .before .before .before .before .before .before .before in let v = arm-variable _ _ _ _ (start .pre .1 .1) (at-match .match .keys1) .parts in (start .pre .1 .0 .sound, omega (arith, start .pre .1 .0 .slots-few), omega (arith, v .byte, start .pre .1 .0 .tree-short)))
+    (λ c κs. let at-match = c .before .before .before .before in let start = at-match .before .before .before .before .before .before .before .before in let v = arm-variable _ _ _ _ (start .pre .1 .1) (at-match .match .keys1) .parts in (start .pre .1 .0 .sound, start .pre .1 .0 .slotted, omega (arith, v .byte, start .pre .1 .0 .tree-short)))
     (λ c. let start = c .before .before .before .before .before .before .before .before in omega (arith, arm-deep _ _ _ _ (start .pre .1 .1)))
     (λ c κs. let at-match = c .before .before .before in let start = at-match .before .before .before .before .before .before .before .before in (omega (arith, start .pre .0, arm-deep _ _ _ _ (start .pre .1 .1)), (start .pre .1 .0, arm-unary _ _ _ _ (start .pre .1 .1) (at-match .match .keys2) .parts)))
     (λ c. let start = c .before .before .before .before .before .before .before .before in omega (arith, arm-deep _ _ _ _ (start .pre .1 .1)))

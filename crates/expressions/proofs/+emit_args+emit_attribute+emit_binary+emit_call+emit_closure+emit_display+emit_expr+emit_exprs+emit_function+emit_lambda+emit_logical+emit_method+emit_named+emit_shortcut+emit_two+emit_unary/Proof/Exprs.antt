@@ -2,7 +2,7 @@ use Prim.Native.Nat.{ℕ}
 use mathlib.Core.Path.{_∙_}
 use native.Mathlib.Omega.{arith}
 use borrow.Author.Needs.{needs}
-use Rattle.state.specs.State.{namesAt}
+use Rattle.state.specs.State.{slotNames}
 use Rattle.state.proofs.Answers.{emits-done}
 use Rattle.expressions.proofs.Elements.{Rest, rest-all, rest-ready, rest-next, rest-over, rest-done, more-view}
 use Rattle.expressions.proofs.emit_expr.Reads as emit-expr
@@ -11,7 +11,7 @@ use Rattle.expressions.proofs.+emit_args+emit_attribute+emit_binary+emi
 use Rattle.expressions.proofs.+emit_args+emit_attribute+emit_binary+emit_call+emit_closure+emit_display+emit_expr+emit_exprs+emit_function+emit_lambda+emit_logical+emit_method+emit_named+emit_shortcut+emit_two+emit_unary.Proof.Common.{emit-exprs-at, emit-expr-below}
 
 abbrev Inv-loop : emit-exprs-lts.InvT-loop
-Inv-loop tree at depth n slots made₀ code₀ tables₀ l left₀ p₀ k₀ made code tables left p k = Rest depth tree (namesAt tree slots) l made₀ code₀ tables₀ left₀ p₀ k₀ made code tables left p k
+Inv-loop tree at depth n slots made₀ code₀ tables₀ l left₀ p₀ k₀ made code tables left p k = Rest depth tree (slotNames tree slots) l made₀ code₀ tables₀ left₀ p₀ k₀ made code tables left p k
 
 abbrev μ-loop : emit-exprs-lts.MeasureT-loop
 μ-loop tree at depth n slots made₀ code₀ tables₀ l left₀ p₀ k₀ made code tables left p k = left

@@ -5,7 +5,7 @@ use borrow.Author.Needs.{needs}
 use lib.Dec.{eqb}
 use Rattle.definitions.specs.Lower.{shortcut}
 use Rattle.exprs.specs.ExprAt.{exprAt}
-use Rattle.state.specs.State.{namesAt}
+use Rattle.state.specs.State.{slotNames}
 use Rattle.state.proofs.Answers.{emits-done, ready-again}
 use Rattle.state.proofs.Growth.{lengthens-expr, lengthens-shortcut}
 use Rattle.expressions.specs.Lowerable.{exprCode}
@@ -30,4 +30,4 @@ emit-logical-ok t = emit-logical-lts.spec (emit-expr-below t, emit-expr.Post, em
     (λ c. let at-emit-shortcut = c .before .before .before .before .before .before in let at-emit-expr = at-emit-shortcut .before .before .before .before .before .before .before .before .before .before .before .before .before in at-emit-shortcut .emit-shortcut .kept .1 .1 .1 .1 .1 .0 ∙ at-emit-expr .emit-expr .kept .1 .1 .1 .1 .0)
     (λ c. let at-emit-shortcut = c .before .before .before .before .before .before in let at-emit-expr = at-emit-shortcut .before .before .before .before .before .before .before .before .before .before .before .before .before in at-emit-shortcut .emit-shortcut .kept .1 .1 .1 .1 .1 .1 .0 ∙ at-emit-expr .emit-expr .kept .1 .1 .1 .1 .1 .0)
     (λ c. let at-emit-shortcut = c .before .before .before .before .before .before in let at-emit-expr = at-emit-shortcut .before .before .before .before .before .before .before .before .before .before .before .before .before in at-emit-shortcut .emit-shortcut .kept .1 .1 .1 .1 .1 .1 .1 .0 ∙ at-emit-expr .emit-expr .kept .1 .1 .1 .1 .1 .1 .0)
-    (λ c. let at-emit-shortcut = c .before .before .before .before .before .before in let at-left = at-emit-shortcut .before .before .before .before .before in let at-emit-expr = at-left .before .before .before .before .before .before .before .before in let start = at-emit-expr .before .before .before .before .before .before .before .before .before in let h = emits-done _ _ _ _ _ _ _ _ _ _ _ (at-left .left .given .1) (at-emit-expr .emit-expr .ensures) in then-lowers _ _ _ _ _ _ (start .pre .1 .0 .sound) _ (λ x. shortcut (eqb (start .args .op) 30) (exprCode (start .args .depth) (start .args .tree .now) (namesAt (start .args .tree .now) (start .args .slots .now)) x)) (λ x. exprAt (start .args .depth) (start .args .tree .now) x .end) _ _ _ _ _ _ _ _ _ _ h (at-emit-shortcut .emit-shortcut .ensures))
+    (λ c. let at-emit-shortcut = c .before .before .before .before .before .before in let at-left = at-emit-shortcut .before .before .before .before .before in let at-emit-expr = at-left .before .before .before .before .before .before .before .before in let start = at-emit-expr .before .before .before .before .before .before .before .before .before in let h = emits-done _ _ _ _ _ _ _ _ _ _ _ (at-left .left .given .1) (at-emit-expr .emit-expr .ensures) in then-lowers _ _ _ _ _ _ (start .pre .1 .0 .sound) _ (λ x. shortcut (eqb (start .args .op) 30) (exprCode (start .args .depth) (start .args .tree .now) (slotNames (start .args .tree .now) (start .args .slots .now)) x)) (λ x. exprAt (start .args .depth) (start .args .tree .now) x .end) _ _ _ _ _ _ _ _ _ _ h (at-emit-shortcut .emit-shortcut .ensures))

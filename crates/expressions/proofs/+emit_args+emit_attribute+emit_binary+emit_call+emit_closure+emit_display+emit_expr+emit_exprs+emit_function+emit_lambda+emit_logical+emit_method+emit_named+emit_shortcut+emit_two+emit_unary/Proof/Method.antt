@@ -7,7 +7,7 @@ use Rattle.definitions.specs.Tables.{one, _⨟_, intern}
 use Rattle.parts.specs.Places.{countAt, nameEnd}
 use Rattle.exprs.specs.ExprAt.{listAt}
 use Rattle.state.specs.Words.{nameAt}
-use Rattle.state.specs.State.{namesAt}
+use Rattle.state.specs.State.{slotNames}
 use Rattle.state.proofs.Answers.{emits-done, ready-again}
 use Rattle.state.proofs.Growth.{lengthens-one, lengthens-seq, lengthens-exprs, lengthens-intern}
 use Rattle.code.proofs.Packing.{plain-above}
@@ -43,9 +43,9 @@ emit-method-ok t = emit-method-lts.spec (emit-expr-below t, emit-expr.Post, name
     (λ c. let at-emit-exprs = c .before .before .before .before .before .before .before .before in let at-emit-expr = at-emit-exprs .before .before .before .before .before .before .before .before .before .before .before .before .before .before .before in at-emit-exprs .emit-exprs .kept .1 .1 .1 .1 .1 .0 ∙ at-emit-expr .emit-expr .kept .1 .1 .1 .1 .0)
     (λ c. let at-emit-exprs = c .before .before .before .before .before .before .before .before in let at-emit-expr = at-emit-exprs .before .before .before .before .before .before .before .before .before .before .before .before .before .before .before in at-emit-exprs .emit-exprs .kept .1 .1 .1 .1 .1 .1 .0 ∙ at-emit-expr .emit-expr .kept .1 .1 .1 .1 .1 .0)
     (λ c. let at-emit-exprs = c .before .before .before .before .before .before .before .before in let at-emit-expr = at-emit-exprs .before .before .before .before .before .before .before .before .before .before .before .before .before .before .before in at-emit-exprs .emit-exprs .kept .1 .1 .1 .1 .1 .1 .1 .0 ∙ at-emit-expr .emit-expr .kept .1 .1 .1 .1 .1 .1 .0)
-    (λ c. let at-enum-told2 = c in let at-emit-exprs = at-enum-told2 .before .before .before .before .before .before .before .before in let at-u16-at = at-emit-exprs .before .before .before .before in let at-name-end = at-u16-at .before in let at-object = at-name-end .before .before in let at-emit-expr = at-object .before .before .before .before .before .before .before .before in let start = at-emit-expr .before .before .before .before .before .before .before .before .before in let h = emits-done _ _ _ _ _ _ _ _ _ _ _ (at-object .object .given .1) (at-emit-expr .emit-expr .ensures) in let e = at-name-end .name-end .ensures in let u = at-u16-at .u16-at .ensures .0 ∙ ap (countAt (start .args .tree .now)) e in let y = many-as _ _ _ _ _ _ _ _ _ _ _ _ _ _ _ _ u (ap (λ (x : ℕ). x + 2) e) (at-emit-exprs .emit-exprs .ensures) in then-lowers _ _ _ _ _ _ (start .pre .1 .0 .sound) _ (λ x. exprsCode (start .args .depth) (countAt (start .args .tree .now) (nameEnd (start .args .tree .now) x)) (start .args .tree .now) (namesAt (start .args .tree .now) (start .args .slots .now)) (nameEnd (start .args .tree .now) x + 2) ⨟ intern (nameAt (start .args .tree .now) x) (λ k. one (CallMethod k (countAt (start .args .tree .now) (nameEnd (start .args .tree .now) x))))) (λ x. listAt (start .args .depth) (start .args .tree .now) (nameEnd (start .args .tree .now) x) .end) _ _ _ _ _ _ _ _ _ _ h (full-lowers _ _ _ _ _ _ (h .1 .sound) _ _ _ _ _ _ _ _ (lengthens-intern _ (λ k. lengthens-one _)) (at-enum-told2 .enum-told2 .given .1) y))
+    (λ c. let at-enum-told2 = c in let at-emit-exprs = at-enum-told2 .before .before .before .before .before .before .before .before in let at-u16-at = at-emit-exprs .before .before .before .before in let at-name-end = at-u16-at .before in let at-object = at-name-end .before .before in let at-emit-expr = at-object .before .before .before .before .before .before .before .before in let start = at-emit-expr .before .before .before .before .before .before .before .before .before in let h = emits-done _ _ _ _ _ _ _ _ _ _ _ (at-object .object .given .1) (at-emit-expr .emit-expr .ensures) in let e = at-name-end .name-end .ensures in let u = at-u16-at .u16-at .ensures .0 ∙ ap (countAt (start .args .tree .now)) e in let y = many-as _ _ _ _ _ _ _ _ _ _ _ _ _ _ _ _ u (ap (λ (x : ℕ). x + 2) e) (at-emit-exprs .emit-exprs .ensures) in then-lowers _ _ _ _ _ _ (start .pre .1 .0 .sound) _ (λ x. exprsCode (start .args .depth) (countAt (start .args .tree .now) (nameEnd (start .args .tree .now) x)) (start .args .tree .now) (slotNames (start .args .tree .now) (start .args .slots .now)) (nameEnd (start .args .tree .now) x + 2) ⨟ intern (nameAt (start .args .tree .now) x) (λ k. one (CallMethod k (countAt (start .args .tree .now) (nameEnd (start .args .tree .now) x))))) (λ x. listAt (start .args .depth) (start .args .tree .now) (nameEnd (start .args .tree .now) x) .end) _ _ _ _ _ _ _ _ _ _ h (full-lowers _ _ _ _ _ _ (h .1 .sound) _ _ _ _ _ _ _ _ (lengthens-intern _ (λ k. lengthens-one _)) (at-enum-told2 .enum-told2 .given .1) y))
     (λ c κs. let at-args2 = c .before .before .before .before in let at-emit-exprs = at-args2 .before .before .before .before .before .before .before .before in let at-u16-at = at-emit-exprs .before .before .before .before in let at-name-end = at-u16-at .before in let at-object = at-name-end .before .before in let at-emit-expr = at-object .before .before .before .before .before .before .before .before in let start = at-emit-expr .before .before .before .before .before .before .before .before .before in let h = emits-done _ _ _ _ _ _ _ _ _ _ _ (at-object .object .given .1) (at-emit-expr .emit-expr .ensures) in let e = at-name-end .name-end .ensures in let u = at-u16-at .u16-at .ensures .0 ∙ ap (countAt (start .args .tree .now)) e in let y = many-as _ _ _ _ _ _ _ _ _ _ _ _ _ _ _ _ u (ap (λ (x : ℕ). x + 2) e) (at-emit-exprs .emit-exprs .ensures) in let g = emits-done _ _ _ _ _ _ _ _ _ _ _ (at-args2 .args2 .given .1) (y) in (g .1 .sound, omega (arith, there-at _ _ _ (h .0) (start .pre .1 .1 .callee .name) .byte, start .pre .1 .0 .tree-short), plain-above 35 0 _ (omega arith) (omega arith) (omega arith) (omega (arith, u ∙ ap (λ (x : ℕ). countAt (start .args .tree .now) (nameEnd (start .args .tree .now) x)) (h .0), start .pre .1 .1 .args .few))))
     (λ c. let at-emit-exprs = c .before .before .before .before .before .before .before .before .before .before .before .before .before .before .before .before .before in let at-emit-expr = at-emit-exprs .before .before .before .before .before .before .before .before .before .before .before .before .before .before .before in at-emit-exprs .emit-exprs .kept .1 .1 .1 .1 .1 .0 ∙ at-emit-expr .emit-expr .kept .1 .1 .1 .1 .0)
     (λ c. let at-emit-symbol = c .before .before .before .before in let at-emit-exprs = at-emit-symbol .before .before .before .before .before .before .before .before .before .before .before .before .before in let at-emit-expr = at-emit-exprs .before .before .before .before .before .before .before .before .before .before .before .before .before .before .before in at-emit-symbol .emit-symbol .kept .1 .1 .0 ∙ at-emit-exprs .emit-exprs .kept .1 .1 .1 .1 .1 .1 .0 ∙ at-emit-expr .emit-expr .kept .1 .1 .1 .1 .1 .0)
     (λ c. let at-emit-symbol = c .before .before .before .before in let at-emit-exprs = at-emit-symbol .before .before .before .before .before .before .before .before .before .before .before .before .before in let at-emit-expr = at-emit-exprs .before .before .before .before .before .before .before .before .before .before .before .before .before .before .before in at-emit-symbol .emit-symbol .kept .1 .1 .1 .0 ∙ at-emit-exprs .emit-exprs .kept .1 .1 .1 .1 .1 .1 .1 .0 ∙ at-emit-expr .emit-expr .kept .1 .1 .1 .1 .1 .1 .0)
-    (λ c. let at-emit-symbol = c .before .before .before .before in let at-args2 = at-emit-symbol .before .before .before .before .before in let at-emit-exprs = at-args2 .before .before .before .before .before .before .before .before in let at-u16-at = at-emit-exprs .before .before .before .before in let at-name-end = at-u16-at .before in let at-object = at-name-end .before .before in let at-emit-expr = at-object .before .before .before .before .before .before .before .before in let start = at-emit-expr .before .before .before .before .before .before .before .before .before in let h = emits-done _ _ _ _ _ _ _ _ _ _ _ (at-object .object .given .1) (at-emit-expr .emit-expr .ensures) in let e = at-name-end .name-end .ensures in let u = at-u16-at .u16-at .ensures .0 ∙ ap (countAt (start .args .tree .now)) e in let y = many-as _ _ _ _ _ _ _ _ _ _ _ _ _ _ _ _ u (ap (λ (x : ℕ). x + 2) e) (at-emit-exprs .emit-exprs .ensures) in let g = emits-done _ _ _ _ _ _ _ _ _ _ _ (at-args2 .args2 .given .1) (y) in then-lowers _ _ _ _ _ _ (start .pre .1 .0 .sound) _ (λ x. exprsCode (start .args .depth) (countAt (start .args .tree .now) (nameEnd (start .args .tree .now) x)) (start .args .tree .now) (namesAt (start .args .tree .now) (start .args .slots .now)) (nameEnd (start .args .tree .now) x + 2) ⨟ intern (nameAt (start .args .tree .now) x) (λ k. one (CallMethod k (countAt (start .args .tree .now) (nameEnd (start .args .tree .now) x))))) (λ x. listAt (start .args .depth) (start .args .tree .now) (nameEnd (start .args .tree .now) x) .end) _ _ _ _ _ _ _ _ _ _ h (then-lowers _ _ _ _ _ _ (h .1 .sound) _ (λ x. intern (nameAt (start .args .tree .now) (at-object .object .given .0 .0)) (λ k. one (CallMethod k (countAt (start .args .tree .now) (nameEnd (start .args .tree .now) (at-object .object .given .0 .0)))))) (λ x. x) _ _ _ _ _ _ _ _ _ _ g (lowers-as _ _ _ _ _ _ _ _ _ _ _ _ _ _ (at-emit-symbol .emit-symbol .ensures) (ap (λ (m : ℕ). intern (nameAt (start .args .tree .now) (at-object .object .given .0 .0)) (λ k. one (CallMethod k m))) (sym u)) refl)))
+    (λ c. let at-emit-symbol = c .before .before .before .before in let at-args2 = at-emit-symbol .before .before .before .before .before in let at-emit-exprs = at-args2 .before .before .before .before .before .before .before .before in let at-u16-at = at-emit-exprs .before .before .before .before in let at-name-end = at-u16-at .before in let at-object = at-name-end .before .before in let at-emit-expr = at-object .before .before .before .before .before .before .before .before in let start = at-emit-expr .before .before .before .before .before .before .before .before .before in let h = emits-done _ _ _ _ _ _ _ _ _ _ _ (at-object .object .given .1) (at-emit-expr .emit-expr .ensures) in let e = at-name-end .name-end .ensures in let u = at-u16-at .u16-at .ensures .0 ∙ ap (countAt (start .args .tree .now)) e in let y = many-as _ _ _ _ _ _ _ _ _ _ _ _ _ _ _ _ u (ap (λ (x : ℕ). x + 2) e) (at-emit-exprs .emit-exprs .ensures) in let g = emits-done _ _ _ _ _ _ _ _ _ _ _ (at-args2 .args2 .given .1) (y) in then-lowers _ _ _ _ _ _ (start .pre .1 .0 .sound) _ (λ x. exprsCode (start .args .depth) (countAt (start .args .tree .now) (nameEnd (start .args .tree .now) x)) (start .args .tree .now) (slotNames (start .args .tree .now) (start .args .slots .now)) (nameEnd (start .args .tree .now) x + 2) ⨟ intern (nameAt (start .args .tree .now) x) (λ k. one (CallMethod k (countAt (start .args .tree .now) (nameEnd (start .args .tree .now) x))))) (λ x. listAt (start .args .depth) (start .args .tree .now) (nameEnd (start .args .tree .now) x) .end) _ _ _ _ _ _ _ _ _ _ h (then-lowers _ _ _ _ _ _ (h .1 .sound) _ (λ x. intern (nameAt (start .args .tree .now) (at-object .object .given .0 .0)) (λ k. one (CallMethod k (countAt (start .args .tree .now) (nameEnd (start .args .tree .now) (at-object .object .given .0 .0)))))) (λ x. x) _ _ _ _ _ _ _ _ _ _ g (lowers-as _ _ _ _ _ _ _ _ _ _ _ _ _ _ (at-emit-symbol .emit-symbol .ensures) (ap (λ (m : ℕ). intern (nameAt (start .args .tree .now) (at-object .object .given .0 .0)) (λ k. one (CallMethod k m))) (sym u)) refl)))

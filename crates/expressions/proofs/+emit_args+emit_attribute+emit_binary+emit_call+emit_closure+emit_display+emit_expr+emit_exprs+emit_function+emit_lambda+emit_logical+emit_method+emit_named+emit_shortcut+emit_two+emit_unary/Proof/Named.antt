@@ -5,7 +5,7 @@ use borrow.Author.Needs.{needs}
 use Rattle.definitions.specs.Tables.{one, _⨟_}
 use Rattle.parts.specs.Places.{countAt}
 use Rattle.exprs.specs.ExprAt.{listAt}
-use Rattle.state.specs.State.{namesAt}
+use Rattle.state.specs.State.{slotNames}
 use Rattle.state.proofs.Answers.{emits-done, emits-as, ready-again, base-below}
 use Rattle.state.proofs.Growth.{lengthens-one, lengthens-seq, lengthens-exprs}
 use Rattle.names.specs.Calls.{calleeOf}
@@ -36,4 +36,4 @@ emit-named-ok t = emit-named-lts.spec (name-end-reads.Asked, name-end-reads.Lear
     (λ c. let at-emit-args = c .before .before .before .before .before .before in at-emit-args .emit-args .kept .1 .1 .1 .1 .1 .0)
     (λ c. let at-emit-args = c .before .before .before .before .before .before in let at-load-callee = at-emit-args .before .before .before .before .before .before .before .before .before .before .before in at-emit-args .emit-args .kept .1 .1 .1 .1 .1 .1 .0 ∙ at-load-callee .load-callee .kept .1 .1 .1 .1 .1 .0)
     (λ c. let at-emit-args = c .before .before .before .before .before .before in let at-load-callee = at-emit-args .before .before .before .before .before .before .before .before .before .before .before in at-emit-args .emit-args .kept .1 .1 .1 .1 .1 .1 .1 .0 ∙ at-load-callee .load-callee .kept .1 .1 .1 .1 .1 .1 .0)
-    (λ c. let at-emit-args = c .before .before .before .before .before .before in let at-value = at-emit-args .before .before .before .before .before in let at-load-callee = at-value .before .before .before .before .before .before in let at-resolve = at-load-callee .before .before .before .before in let at-name-end = at-resolve .before .before .before .before in let start = at-name-end .before .before .before .before .before .before in let h = emits-done _ _ _ _ _ _ _ _ _ _ _ (at-value .value .given .1) (at-load-callee .load-callee .ensures) in let e = h .0 ∙ at-name-end .name-end .ensures in emits-as _ _ _ _ _ _ _ _ _ _ _ refl (sym (named-args _ _ _ _ _ _ _ (start .pre .1 .1) (base-below _ _ _ _ _ _ (start .pre .1 .0 .sound)) (at-resolve .resolve .ensures))) (then-lowers _ _ _ _ _ _ (start .pre .1 .0 .sound) _ (λ x. exprsCode (start .args .depth) (countAt (start .args .tree .now) x) (start .args .tree .now) (namesAt (start .args .tree .now) (start .args .slots .now)) (x + 2) ⨟ one (callInstr (calleeOf (at-resolve .resolve .result)) (countAt (start .args .tree .now) x))) (λ x. listAt (start .args .depth) (start .args .tree .now) x .end) _ _ _ _ _ _ _ _ _ _ (e, h .1) (at-emit-args .emit-args .ensures)))
+    (λ c. let at-emit-args = c .before .before .before .before .before .before in let at-value = at-emit-args .before .before .before .before .before in let at-load-callee = at-value .before .before .before .before .before .before in let at-resolve = at-load-callee .before .before .before .before in let at-name-end = at-resolve .before .before .before .before in let start = at-name-end .before .before .before .before .before .before in let h = emits-done _ _ _ _ _ _ _ _ _ _ _ (at-value .value .given .1) (at-load-callee .load-callee .ensures) in let e = h .0 ∙ at-name-end .name-end .ensures in emits-as _ _ _ _ _ _ _ _ _ _ _ refl (sym (named-args _ _ _ _ _ _ _ (start .pre .1 .1) (base-below _ _ _ _ _ _ (start .pre .1 .0 .sound)) (at-resolve .resolve .ensures))) (then-lowers _ _ _ _ _ _ (start .pre .1 .0 .sound) _ (λ x. exprsCode (start .args .depth) (countAt (start .args .tree .now) x) (start .args .tree .now) (slotNames (start .args .tree .now) (start .args .slots .now)) (x + 2) ⨟ one (callInstr (calleeOf (at-resolve .resolve .result)) (countAt (start .args .tree .now) x))) (λ x. listAt (start .args .depth) (start .args .tree .now) x .end) _ _ _ _ _ _ _ _ _ _ (e, h .1) (at-emit-args .emit-args .ensures)))

@@ -3,7 +3,7 @@ use mathlib.Core.Path.{refl, sym, ap, _∙_}
 use native.Mathlib.Omega.{arith}
 use borrow.Author.Needs.{needs}
 use Rattle.exprs.specs.ExprAt.{exprAt}
-use Rattle.state.specs.State.{namesAt}
+use Rattle.state.specs.State.{slotNames}
 use Rattle.state.proofs.Answers.{emits-done, ready-again}
 use Rattle.state.proofs.Growth.{lengthens-expr}
 use Rattle.expressions.specs.Lowerable.{exprCode}
@@ -32,9 +32,9 @@ emit-shortcut-ok t = emit-shortcut-lts.spec (put-jump-reads.Asked, put-jump-read
     (λ c. let at-emit-expr = c .before .before .before .before .before .before .before .before in at-emit-expr .emit-expr .kept .1 .1 .1 .1 .0)
     (λ c. let at-emit-expr = c .before .before .before .before .before .before .before .before in let at-put-jump = at-emit-expr .before .before .before .before .before .before .before .before .before in at-emit-expr .emit-expr .kept .1 .1 .1 .1 .1 .0 ∙ at-put-jump .put-jump .kept .1 .1 .0)
     (λ c. let at-emit-expr = c .before .before .before .before .before .before .before .before in at-emit-expr .emit-expr .kept .1 .1 .1 .1 .1 .1 .0)
-    (λ c. let at-enum-told2 = c in let at-emit-expr = at-enum-told2 .before .before .before .before .before .before .before .before in let at-first = at-emit-expr .before .before .before .before .before in let at-put-jump = at-first .before .before .before .before in let start = at-put-jump .before .before .before .before .before .before .before .before .before in let h = emits-done _ _ _ _ _ _ _ _ _ _ _ (at-first .first .given .1) (at-put-jump .put-jump .ensures) in let y = lowers-as _ _ _ _ _ _ _ _ _ _ _ _ _ _ (at-emit-expr .emit-expr .ensures) (ap (λ (x : ℕ). exprCode (start .args .depth) (start .args .tree .now) (namesAt (start .args .tree .now) (start .args .slots .now)) x) (sym (h .0))) (ap (λ (x : ℕ). exprAt (start .args .depth) (start .args .tree .now) x .end) (sym (h .0))) in shortcut-right _ _ _ _ _ _ (start .pre .1 .0 .sound) _ (start .pre .1 .2) (start .pre .1 .3) _ _ _ _ _ _ (h .1) _ _ _ _ _ (at-enum-told2 .enum-told2 .given .1) y)
-    (λ c κs. let at-right = c .before .before .before .before in let at-emit-expr = at-right .before .before .before .before .before .before .before .before in let at-first = at-emit-expr .before .before .before .before .before in let at-put-jump = at-first .before .before .before .before in let start = at-put-jump .before .before .before .before .before .before .before .before .before in let h = emits-done _ _ _ _ _ _ _ _ _ _ _ (at-first .first .given .1) (at-put-jump .put-jump .ensures) in let y = lowers-as _ _ _ _ _ _ _ _ _ _ _ _ _ _ (at-emit-expr .emit-expr .ensures) (ap (λ (x : ℕ). exprCode (start .args .depth) (start .args .tree .now) (namesAt (start .args .tree .now) (start .args .slots .now)) x) (sym (h .0))) (ap (λ (x : ℕ). exprAt (start .args .depth) (start .args .tree .now) x .end) (sym (h .0))) in let g = emits-done _ _ _ _ _ _ _ _ _ _ _ (at-right .right .given .1) (y) in (g .1 .sound, omega (arith, open-one _ _ _ _ _ _ _ _ _ _ _ (start .pre .1 .0 .sound) (h .1), open-grows _ _ _ _ _ _ _ _ _ _ _ (h .1 .sound) (g .1)), start .pre .1 .2, start .pre .1 .3))
+    (λ c. let at-enum-told2 = c in let at-emit-expr = at-enum-told2 .before .before .before .before .before .before .before .before in let at-first = at-emit-expr .before .before .before .before .before in let at-put-jump = at-first .before .before .before .before in let start = at-put-jump .before .before .before .before .before .before .before .before .before in let h = emits-done _ _ _ _ _ _ _ _ _ _ _ (at-first .first .given .1) (at-put-jump .put-jump .ensures) in let y = lowers-as _ _ _ _ _ _ _ _ _ _ _ _ _ _ (at-emit-expr .emit-expr .ensures) (ap (λ (x : ℕ). exprCode (start .args .depth) (start .args .tree .now) (slotNames (start .args .tree .now) (start .args .slots .now)) x) (sym (h .0))) (ap (λ (x : ℕ). exprAt (start .args .depth) (start .args .tree .now) x .end) (sym (h .0))) in shortcut-right _ _ _ _ _ _ (start .pre .1 .0 .sound) _ (start .pre .1 .2) (start .pre .1 .3) _ _ _ _ _ _ (h .1) _ _ _ _ _ (at-enum-told2 .enum-told2 .given .1) y)
+    (λ c κs. let at-right = c .before .before .before .before in let at-emit-expr = at-right .before .before .before .before .before .before .before .before in let at-first = at-emit-expr .before .before .before .before .before in let at-put-jump = at-first .before .before .before .before in let start = at-put-jump .before .before .before .before .before .before .before .before .before in let h = emits-done _ _ _ _ _ _ _ _ _ _ _ (at-first .first .given .1) (at-put-jump .put-jump .ensures) in let y = lowers-as _ _ _ _ _ _ _ _ _ _ _ _ _ _ (at-emit-expr .emit-expr .ensures) (ap (λ (x : ℕ). exprCode (start .args .depth) (start .args .tree .now) (slotNames (start .args .tree .now) (start .args .slots .now)) x) (sym (h .0))) (ap (λ (x : ℕ). exprAt (start .args .depth) (start .args .tree .now) x .end) (sym (h .0))) in let g = emits-done _ _ _ _ _ _ _ _ _ _ _ (at-right .right .given .1) (y) in (g .1 .sound, omega (arith, open-one _ _ _ _ _ _ _ _ _ _ _ (start .pre .1 .0 .sound) (h .1), open-grows _ _ _ _ _ _ _ _ _ _ _ (h .1 .sound) (g .1)), start .pre .1 .2, start .pre .1 .3))
     (λ c. let at-emit-expr = c .before .before .before .before .before .before .before .before .before .before .before .before .before .before .before in at-emit-expr .emit-expr .kept .1 .1 .1 .1 .0)
     (λ c. let at-end-shortcut = c .before .before in let at-emit-expr = at-end-shortcut .before .before .before .before .before .before .before .before .before .before .before .before .before in let at-put-jump = at-emit-expr .before .before .before .before .before .before .before .before .before in at-end-shortcut .end-shortcut .kept .1 .1 .0 ∙ at-emit-expr .emit-expr .kept .1 .1 .1 .1 .1 .0 ∙ at-put-jump .put-jump .kept .1 .1 .0)
     (λ c. let at-emit-expr = c .before .before .before .before .before .before .before .before .before .before .before .before .before .before .before in at-emit-expr .emit-expr .kept .1 .1 .1 .1 .1 .1 .0)
-    (λ c. let at-end-shortcut = c .before .before in let at-right = at-end-shortcut .before .before .before .before .before in let at-emit-expr = at-right .before .before .before .before .before .before .before .before in let at-first = at-emit-expr .before .before .before .before .before in let at-put-jump = at-first .before .before .before .before in let start = at-put-jump .before .before .before .before .before .before .before .before .before in let h = emits-done _ _ _ _ _ _ _ _ _ _ _ (at-first .first .given .1) (at-put-jump .put-jump .ensures) in let y = lowers-as _ _ _ _ _ _ _ _ _ _ _ _ _ _ (at-emit-expr .emit-expr .ensures) (ap (λ (x : ℕ). exprCode (start .args .depth) (start .args .tree .now) (namesAt (start .args .tree .now) (start .args .slots .now)) x) (sym (h .0))) (ap (λ (x : ℕ). exprAt (start .args .depth) (start .args .tree .now) x .end) (sym (h .0))) in let g = emits-done _ _ _ _ _ _ _ _ _ _ _ (at-right .right .given .1) (y) in shortcut-end _ _ _ _ _ _ (start .pre .1 .0 .sound) _ (start .pre .1 .2) (start .pre .1 .3) _ _ _ _ _ _ (h .1) _ _ _ _ _ _ _ (g .1) (g .0) (at-end-shortcut .end-shortcut .ensures))
+    (λ c. let at-end-shortcut = c .before .before in let at-right = at-end-shortcut .before .before .before .before .before in let at-emit-expr = at-right .before .before .before .before .before .before .before .before in let at-first = at-emit-expr .before .before .before .before .before in let at-put-jump = at-first .before .before .before .before in let start = at-put-jump .before .before .before .before .before .before .before .before .before in let h = emits-done _ _ _ _ _ _ _ _ _ _ _ (at-first .first .given .1) (at-put-jump .put-jump .ensures) in let y = lowers-as _ _ _ _ _ _ _ _ _ _ _ _ _ _ (at-emit-expr .emit-expr .ensures) (ap (λ (x : ℕ). exprCode (start .args .depth) (start .args .tree .now) (slotNames (start .args .tree .now) (start .args .slots .now)) x) (sym (h .0))) (ap (λ (x : ℕ). exprAt (start .args .depth) (start .args .tree .now) x .end) (sym (h .0))) in let g = emits-done _ _ _ _ _ _ _ _ _ _ _ (at-right .right .given .1) (y) in shortcut-end _ _ _ _ _ _ (start .pre .1 .0 .sound) _ (start .pre .1 .2) (start .pre .1 .3) _ _ _ _ _ _ (h .1) _ _ _ _ _ _ _ (g .1) (g .0) (at-end-shortcut .end-shortcut .ensures))

@@ -5,7 +5,7 @@ use borrow.Author.Needs.{needs}
 use Rattle.definitions.specs.Instruction.{instr}
 use Rattle.definitions.specs.Tables.{one, _⨟_}
 use Rattle.exprs.specs.ExprAt.{exprAt}
-use Rattle.state.specs.State.{namesAt}
+use Rattle.state.specs.State.{slotNames}
 use Rattle.state.proofs.Answers.{emits-done, ready-again}
 use Rattle.state.proofs.Growth.{lengthens-one, lengthens-seq, lengthens-expr}
 use Rattle.expressions.specs.Lowerable.{exprCode}
@@ -32,9 +32,9 @@ emit-two-ok t = emit-two-lts.spec (emit-expr-below t, emit-expr.Post, put-op-rea
     (λ c. let at-emit-expr2 = c .before .before .before .before .before .before .before .before in let at-emit-expr = at-emit-expr2 .before .before .before .before .before .before .before .before .before .before .before .before .before in at-emit-expr2 .emit-expr2 .kept .1 .1 .1 .1 .0 ∙ at-emit-expr .emit-expr .kept .1 .1 .1 .1 .0)
     (λ c. let at-emit-expr2 = c .before .before .before .before .before .before .before .before in let at-emit-expr = at-emit-expr2 .before .before .before .before .before .before .before .before .before .before .before .before .before in at-emit-expr2 .emit-expr2 .kept .1 .1 .1 .1 .1 .0 ∙ at-emit-expr .emit-expr .kept .1 .1 .1 .1 .1 .0)
     (λ c. let at-emit-expr2 = c .before .before .before .before .before .before .before .before in let at-emit-expr = at-emit-expr2 .before .before .before .before .before .before .before .before .before .before .before .before .before in at-emit-expr2 .emit-expr2 .kept .1 .1 .1 .1 .1 .1 .0 ∙ at-emit-expr .emit-expr .kept .1 .1 .1 .1 .1 .1 .0)
-    (λ c. let at-enum-told2 = c in let at-emit-expr2 = at-enum-told2 .before .before .before .before .before .before .before .before in let at-first = at-emit-expr2 .before .before .before .before .before in let at-emit-expr = at-first .before .before .before .before .before .before .before .before in let start = at-emit-expr .before .before .before .before .before .before .before .before .before in let h = emits-done _ _ _ _ _ _ _ _ _ _ _ (at-first .first .given .1) (at-emit-expr .emit-expr .ensures) in then-lowers _ _ _ _ _ _ (start .pre .1 .0 .sound) _ (λ x. exprCode (start .args .depth) (start .args .tree .now) (namesAt (start .args .tree .now) (start .args .slots .now)) x ⨟ one (instr (start .args .op) 0 0)) (λ x. exprAt (start .args .depth) (start .args .tree .now) x .end) _ _ _ _ _ _ _ _ _ _ h (full-lowers _ _ _ _ _ _ (h .1 .sound) _ _ _ _ _ _ _ _ (lengthens-one _) (at-enum-told2 .enum-told2 .given .1) (at-emit-expr2 .emit-expr2 .ensures)))
+    (λ c. let at-enum-told2 = c in let at-emit-expr2 = at-enum-told2 .before .before .before .before .before .before .before .before in let at-first = at-emit-expr2 .before .before .before .before .before in let at-emit-expr = at-first .before .before .before .before .before .before .before .before in let start = at-emit-expr .before .before .before .before .before .before .before .before .before in let h = emits-done _ _ _ _ _ _ _ _ _ _ _ (at-first .first .given .1) (at-emit-expr .emit-expr .ensures) in then-lowers _ _ _ _ _ _ (start .pre .1 .0 .sound) _ (λ x. exprCode (start .args .depth) (start .args .tree .now) (slotNames (start .args .tree .now) (start .args .slots .now)) x ⨟ one (instr (start .args .op) 0 0)) (λ x. exprAt (start .args .depth) (start .args .tree .now) x .end) _ _ _ _ _ _ _ _ _ _ h (full-lowers _ _ _ _ _ _ (h .1 .sound) _ _ _ _ _ _ _ _ (lengthens-one _) (at-enum-told2 .enum-told2 .given .1) (at-emit-expr2 .emit-expr2 .ensures)))
     (λ c κs. let at-second = c .before .before .before .before in let at-emit-expr2 = at-second .before .before .before .before .before .before .before .before in let at-first = at-emit-expr2 .before .before .before .before .before in let at-emit-expr = at-first .before .before .before .before .before .before .before .before in let start = at-emit-expr .before .before .before .before .before .before .before .before .before in let h = emits-done _ _ _ _ _ _ _ _ _ _ _ (at-first .first .given .1) (at-emit-expr .emit-expr .ensures) in let g = emits-done _ _ _ _ _ _ _ _ _ _ _ (at-second .second .given .1) (at-emit-expr2 .emit-expr2 .ensures) in (g .1 .sound, start .pre .1 .2))
     (λ c. let at-emit-expr2 = c .before .before .before .before .before .before .before .before .before .before .before .before .before .before .before in let at-emit-expr = at-emit-expr2 .before .before .before .before .before .before .before .before .before .before .before .before .before in at-emit-expr2 .emit-expr2 .kept .1 .1 .1 .1 .0 ∙ at-emit-expr .emit-expr .kept .1 .1 .1 .1 .0)
     (λ c. let at-put-op = c .before .before in let at-emit-expr2 = at-put-op .before .before .before .before .before .before .before .before .before .before .before .before .before in let at-emit-expr = at-emit-expr2 .before .before .before .before .before .before .before .before .before .before .before .before .before in at-put-op .put-op .kept .1 .1 .0 ∙ at-emit-expr2 .emit-expr2 .kept .1 .1 .1 .1 .1 .0 ∙ at-emit-expr .emit-expr .kept .1 .1 .1 .1 .1 .0)
     (λ c. let at-emit-expr2 = c .before .before .before .before .before .before .before .before .before .before .before .before .before .before .before in let at-emit-expr = at-emit-expr2 .before .before .before .before .before .before .before .before .before .before .before .before .before in at-emit-expr2 .emit-expr2 .kept .1 .1 .1 .1 .1 .1 .0 ∙ at-emit-expr .emit-expr .kept .1 .1 .1 .1 .1 .1 .0)
-    (λ c. let at-put-op = c .before .before in let at-second = at-put-op .before .before .before .before .before in let at-emit-expr2 = at-second .before .before .before .before .before .before .before .before in let at-first = at-emit-expr2 .before .before .before .before .before in let at-emit-expr = at-first .before .before .before .before .before .before .before .before in let start = at-emit-expr .before .before .before .before .before .before .before .before .before in let h = emits-done _ _ _ _ _ _ _ _ _ _ _ (at-first .first .given .1) (at-emit-expr .emit-expr .ensures) in let g = emits-done _ _ _ _ _ _ _ _ _ _ _ (at-second .second .given .1) (at-emit-expr2 .emit-expr2 .ensures) in then-lowers _ _ _ _ _ _ (start .pre .1 .0 .sound) _ (λ x. exprCode (start .args .depth) (start .args .tree .now) (namesAt (start .args .tree .now) (start .args .slots .now)) x ⨟ one (instr (start .args .op) 0 0)) (λ x. exprAt (start .args .depth) (start .args .tree .now) x .end) _ _ _ _ _ _ _ _ _ _ h (then-lowers _ _ _ _ _ _ (h .1 .sound) _ (λ x. one (instr (start .args .op) 0 0)) (λ x. x) _ _ _ _ _ _ _ _ _ _ g (at-put-op .put-op .ensures)))
+    (λ c. let at-put-op = c .before .before in let at-second = at-put-op .before .before .before .before .before in let at-emit-expr2 = at-second .before .before .before .before .before .before .before .before in let at-first = at-emit-expr2 .before .before .before .before .before in let at-emit-expr = at-first .before .before .before .before .before .before .before .before in let start = at-emit-expr .before .before .before .before .before .before .before .before .before in let h = emits-done _ _ _ _ _ _ _ _ _ _ _ (at-first .first .given .1) (at-emit-expr .emit-expr .ensures) in let g = emits-done _ _ _ _ _ _ _ _ _ _ _ (at-second .second .given .1) (at-emit-expr2 .emit-expr2 .ensures) in then-lowers _ _ _ _ _ _ (start .pre .1 .0 .sound) _ (λ x. exprCode (start .args .depth) (start .args .tree .now) (slotNames (start .args .tree .now) (start .args .slots .now)) x ⨟ one (instr (start .args .op) 0 0)) (λ x. exprAt (start .args .depth) (start .args .tree .now) x .end) _ _ _ _ _ _ _ _ _ _ h (then-lowers _ _ _ _ _ _ (h .1 .sound) _ (λ x. one (instr (start .args .op) 0 0)) (λ x. x) _ _ _ _ _ _ _ _ _ _ g (at-put-op .put-op .ensures)))

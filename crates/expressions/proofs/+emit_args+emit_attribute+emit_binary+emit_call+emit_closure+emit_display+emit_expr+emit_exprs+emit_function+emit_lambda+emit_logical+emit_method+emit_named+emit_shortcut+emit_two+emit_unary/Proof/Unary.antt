@@ -4,7 +4,7 @@ use native.Mathlib.Omega.{arith}
 use borrow.Author.Needs.{needs}
 use Rattle.definitions.specs.Instruction.{instr}
 use Rattle.definitions.specs.Tables.{one, _⨟_}
-use Rattle.state.specs.State.{namesAt}
+use Rattle.state.specs.State.{slotNames}
 use Rattle.state.proofs.Answers.{emits-done}
 use Rattle.state.proofs.Growth.{lengthens-one}
 use Rattle.expressions.specs.Lowerable.{exprCode}
@@ -32,4 +32,4 @@ emit-unary-ok t = emit-unary-lts.spec (unary-code-reads.Asked, unary-code-reads.
     (λ c. let at-emit-expr = c .before .before .before .before .before .before .before .before .before .before .before .before .before .before .before in at-emit-expr .emit-expr .kept .1 .1 .1 .1 .0)
     (λ c. let at-put-op = c .before .before in let at-emit-expr = at-put-op .before .before .before .before .before .before .before .before .before .before .before .before .before in at-put-op .put-op .kept .1 .1 .0 ∙ at-emit-expr .emit-expr .kept .1 .1 .1 .1 .1 .0)
     (λ c. let at-emit-expr = c .before .before .before .before .before .before .before .before .before .before .before .before .before .before .before in at-emit-expr .emit-expr .kept .1 .1 .1 .1 .1 .1 .0)
-    (λ c. let at-put-op = c .before .before in let at-operand = at-put-op .before .before .before .before .before in let at-emit-expr = at-operand .before .before .before .before .before .before .before .before in let at-unary-code = at-emit-expr .before .before .before .before in let start = at-unary-code .before .before .before .before .before .before .before in let h = emits-done _ _ _ _ _ _ _ _ _ _ _ (at-operand .operand .given .1) (at-emit-expr .emit-expr .ensures) in lowers-as _ _ _ _ _ _ _ _ _ _ _ _ _ _ (then-lowers _ _ _ _ _ _ (start .pre .1 .0 .sound) _ (λ x. one (instr (at-unary-code .unary-code .result) 0 0)) (λ x. x) _ _ _ _ _ _ _ _ _ _ h (at-put-op .put-op .ensures)) (ap (λ (o : ℕ). exprCode (start .args .depth) (start .args .tree .now) (namesAt (start .args .tree .now) (start .args .slots .now)) ((start .args .at) + 1) ⨟ one (instr o 0 0)) (sym (at-unary-code .unary-code .ensures .0))) refl)
+    (λ c. let at-put-op = c .before .before in let at-operand = at-put-op .before .before .before .before .before in let at-emit-expr = at-operand .before .before .before .before .before .before .before .before in let at-unary-code = at-emit-expr .before .before .before .before in let start = at-unary-code .before .before .before .before .before .before .before in let h = emits-done _ _ _ _ _ _ _ _ _ _ _ (at-operand .operand .given .1) (at-emit-expr .emit-expr .ensures) in lowers-as _ _ _ _ _ _ _ _ _ _ _ _ _ _ (then-lowers _ _ _ _ _ _ (start .pre .1 .0 .sound) _ (λ x. one (instr (at-unary-code .unary-code .result) 0 0)) (λ x. x) _ _ _ _ _ _ _ _ _ _ h (at-put-op .put-op .ensures)) (ap (λ (o : ℕ). exprCode (start .args .depth) (start .args .tree .now) (slotNames (start .args .tree .now) (start .args .slots .now)) ((start .args .at) + 1) ⨟ one (instr o 0 0)) (sym (at-unary-code .unary-code .ensures .0))) refl)

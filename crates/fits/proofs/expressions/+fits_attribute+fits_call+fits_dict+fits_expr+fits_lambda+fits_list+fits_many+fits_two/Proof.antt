@@ -6,7 +6,7 @@ use mathlib.Core.Path.{_≡_, refl, sym, ap, _∙_, subst}
 use Prim.Native.Nat.{ℕ, _+_, _*_, _≤_, _<_}
 use Rattle.exprs.proofs.ExprViews.{expr-inside, expr-deep, expr-known, view-unary, view-binary, view-call, view-attribute, view-list, view-dict, view-tuple, view-set, view-tree-set, view-index, view-lambda, view-exprs-more}
 use Rattle.exprs.specs.ExprAt.{exprAt}
-use Rattle.state.specs.State.{namesAt}
+use Rattle.state.specs.State.{slotNames}
 use Rattle.slots.proofs.Referring.{list-reads, list-is, dict-reads, dict-is, body-there}
 use Rattle.fits.proofs.Walking.{walks-as, walks-next, walks-over, next-walks, over-walks, first-over, second-walks, left-start, left-next, left-over, left-done, lambda-over, slots-few, inner-short, lambda-inside}
 use Rattle.fits.proofs.ExprKinds.{fits-unary, fits-binary, fits-call, fits-attribute, fits-dict, fits-display, fits-index, fits-lambda, fits-simple, fits-plain, simple-kinds, second-there, list-there, name-there, second-moved, list-moved, fits-list, ExprsLeft, exprs-step, exprs-end, exprs-ok, collected-at, lambda-body, long-enough}
@@ -207,11 +207,12 @@ fits-lambda-ok : {M : Type 1} (t : ℕ) → fits-lambda-lts.Closed (skip-params-
 fits-lambda-ok t = fits-lambda-lts.spec (skip-params-reads.Asked, skip-params-reads.Learnt, lambda-slots-reads.Asked, lambda-slots-reads.Learnt, fits-expr-below t, fits-expr.Post) (fits-lambda-at t) fits-lambda.Post
     (λ c κs. c .before .before .pre .1 .1 .params)  -- skip-params-requires
     (λ c. search needs)  -- slice-aggregate-lambda-slots
-    (λ c κs. (c .before .before .before .before .pre .1 .0 .tree, c .before .before .before .before .pre .1 .0 .slots-few, omega arith, c .before .before .before .before .pre .1 .1 .params, body-there _ _ _ _ (c .before .skip-params .ensures) (c .before .before .before .before .pre .1 .1)))  -- lambda-slots-requires
+    (λ c κs. (c .before .before .before .before .pre .1 .0 .tree, c .before .before .before .before .pre .1 .0 .slotted, omega arith, c .before .before .before .before .pre .1 .1 .params, body-there _ _ _ _ (c .before .skip-params .ensures) (c .before .before .before .before .pre .1 .1)))  -- lambda-slots-requires
     (λ c. search needs)  -- enum-known-found
     (λ c. search needs)  -- enum-told
     (λ c. lambda-over _ _ _ _ (collected-at _ _ _ (c .before .before .before .before .before .before .before .before .args .at) (c .before .before .before .before .before .before .before .before .args .slots .now) (c .before .before .before .before .before .before .before .before .args .depth) _ _ (c .before .before .before .before .before .skip-params .ensures) (c .before .before .before .lambda-slots .ensures)) _ _ (c .enum-told .given .1))  -- returns
     (λ c. search needs)  -- cast-end
+    (λ c. let h = slots-few _ _ _ _ (collected-at _ _ _ (c .before .before .before .before .before .before .before .before .before .args .at) (c .before .before .before .before .before .before .before .before .before .args .slots .now) (c .before .before .before .before .before .before .before .before .before .args .depth) _ _ (c .before .before .before .before .before .before .skip-params .ensures) (c .before .before .before .before .lambda-slots .ensures)) _ (c .before .found .given .1) in let k = c .before .before .before .before .lambda-slots .kept .1 .1 .1 .1 .1 .0 in omega arith)  -- add-end
     (λ c. search needs)  -- sub-fits-expr
     (λ c. search needs)  -- part-fits-expr-start
     (λ c. let h = slots-few _ _ _ _ (collected-at _ _ _ (c .before .before .before .before .before .before .before .before .before .before .args .at) (c .before .before .before .before .before .before .before .before .before .before .args .slots .now) (c .before .before .before .before .before .before .before .before .before .before .args .depth) _ _ (c .before .before .before .before .before .before .before .skip-params .ensures) (c .before .before .before .before .before .lambda-slots .ensures)) _ (c .before .before .found .given .1) in let k = c .before .before .before .before .before .lambda-slots .kept .1 .1 .1 .1 .1 .0 in omega arith)  -- part-fits-expr-end
@@ -226,7 +227,7 @@ fits-list-ok t = fits-list-lts.spec (u16-at-reads.Asked, u16-at-reads.Learnt, fi
     (λ c. fits-list _ _ _ _ (list-is _ _ _ _ (c .before .u16-at .ensures .0)) (c .fits-many .ensures))  -- returns
 
 abbrev fits-many-Inv-loop : fits-many-lts.InvT-loop
-fits-many-Inv-loop tree at depth count slots p₀ left₀ p left = ExprsLeft depth tree (namesAt tree slots) left₀ p₀ left p
+fits-many-Inv-loop tree at depth count slots p₀ left₀ p left = ExprsLeft depth tree (slotNames tree slots) left₀ p₀ left p
 
 abbrev fits-many-μ-loop : fits-many-lts.MeasureT-loop
 fits-many-μ-loop tree at depth count slots p₀ left₀ p left = left
@@ -245,7 +246,7 @@ fits-many-ok t = fits-many-lts.spec (fits-expr-below t, fits-expr.Post) (fits-ma
     (λ c. left-over _ _ _ _ _ _ _ (c .before .before .before .before .before .before .loop .inv) _ _ _ (exprs-step _ _ _ _ _ (c .before .before .before .before .before .before .loop .inv .reads) (c .before .before .before .before .before .loop-test .taken)) (c .before .before .fits-expr .ensures) (c .enum-told .given .1))  -- returns
     (λ c. omega arith)  -- loop-less-2
     (λ c. left-next _ _ _ _ _ _ _ (c .before .before .before .before .before .before .before .loop .inv) _ _ _ _ (exprs-step _ _ _ _ _ (c .before .before .before .before .before .before .before .loop .inv .reads) (c .before .before .before .before .before .before .loop-test .taken)) (c .before .before .before .fits-expr .ensures) (c .before .one .given .1))  -- loop-again-2
-    (λ c. left-done _ _ _ _ _ _ _ (c .before .loop .inv) (exprs-end _ _ (namesAt (c .before .before .before .before .args .tree .now) (c .before .before .before .before .args .slots .now)) _ _ (c .before .loop .inv .reads) (c .loop-test .left)) (exprs-ok _ _ _ _ _ (c .before .loop .inv .reads) (c .loop-test .left)))  -- returns-2
+    (λ c. left-done _ _ _ _ _ _ _ (c .before .loop .inv) (exprs-end _ _ (slotNames (c .before .before .before .before .args .tree .now) (c .before .before .before .before .args .slots .now)) _ _ (c .before .loop .inv .reads) (c .loop-test .left)) (exprs-ok _ _ _ _ _ (c .before .loop .inv .reads) (c .loop-test .left)))  -- returns-2
 
 fits-two-ok : {M : Type 1} (t : ℕ) → fits-two-lts.Closed (fits-expr-below t, fits-expr.Post) (fits-two-at t) fits-two.Post M
 fits-two-ok t = fits-two-lts.spec (fits-expr-below t, fits-expr.Post) (fits-two-at t) fits-two.Post

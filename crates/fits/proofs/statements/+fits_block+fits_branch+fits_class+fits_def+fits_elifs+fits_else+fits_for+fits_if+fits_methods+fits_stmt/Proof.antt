@@ -3,7 +3,7 @@ use native.Mathlib.Omega.{arith}
 use mathlib.Core.Path.{_≡_, refl, sym, ap, _∙_, subst}
 use Prim.Native.Nat.{ℕ, _+_, _-_, _*_, _≤_, _<_}
 use Rattle.tree.proofs.StmtViews.{stmt-inside, stmt-deep, stmt-known, view-expr, view-return, view-assign, view-if, view-while, view-for, view-def, view-class, view-block, view-stmts-more, view-branches-more, view-methods-more, else-inside}
-use Rattle.state.specs.State.{namesAt}
+use Rattle.state.specs.State.{slotNames}
 use Rattle.slots.proofs.Gathering.{elifs-counted, elifs-read, elifs-are, else-reads}
 use Rattle.fits.proofs.Walking.{walks-next, first-over, second-walks, left-start, left-next, left-over, left-done, left-as, def-over, slots-few, inner-short}
 use Rattle.fits.proofs.StmtKinds.{fits-value, fits-return, fits-assign, fits-if, fits-while, fits-for, fits-def, fits-class, three-kinds, fits-pass, block-there, block-moved, fits-node, branch-there, branch-moved, StmtsLeft, stmts-step, stmts-end, stmts-ok, stmts-start, fits-block, BranchesLeft, branches-step, branches-last, branches-none, else-none, else-some, MethodsLeft, methods-step, methods-end, methods-ok, def-params, def-block, def-collected, def-body, full-length, class-count, class-methods, class-over, class-done}
@@ -159,7 +159,7 @@ fits-stmt-below t =
     and 2 fits-stmt-kinds.ps (falls 2 fits-stmt-kinds.ps _<_ μ-fits-stmt t) fits-stmt.Pre
 
 abbrev fits-block-Inv-loop : fits-block-lts.InvT-loop
-fits-block-Inv-loop tree at depth slots left₀ p₀ left p = StmtsLeft depth tree (namesAt tree slots) left₀ p₀ left p
+fits-block-Inv-loop tree at depth slots left₀ p₀ left p = StmtsLeft depth tree (slotNames tree slots) left₀ p₀ left p
 
 abbrev fits-block-μ-loop : fits-block-lts.MeasureT-loop
 fits-block-μ-loop tree at depth slots left₀ p₀ left p = left
@@ -176,7 +176,7 @@ fits-block-ok t = fits-block-lts.spec (u16-at-reads.Asked, u16-at-reads.Learnt, 
     (λ c. omega arith)  -- sub-left
     (λ c. omega arith)  -- loop-less
     (λ c. left-next _ _ _ _ _ _ _ (c .before .before .before .before .before .loop .inv) _ _ _ _ (stmts-step _ _ _ _ _ (c .before .before .before .before .before .loop .inv .reads) (c .before .before .before .before .loop-test .taken)) (c .before .before .before .fits-stmt .ensures) (c .before .one .given .1))  -- loop-again
-    (λ c. fits-block _ _ _ _ (c .before .before .before .before .before .pre .1 .1) (c .before .before .u16-at .ensures .0) _ _ (left-done _ _ _ _ _ _ _ (c .before .loop .inv) (stmts-end _ _ (namesAt (c .before .before .before .before .before .args .tree .now) (c .before .before .before .before .before .args .slots .now)) _ _ (c .before .loop .inv .reads) (c .loop-test .left)) (stmts-ok _ _ _ _ _ (c .before .loop .inv .reads) (c .loop-test .left))))  -- returns-2
+    (λ c. fits-block _ _ _ _ (c .before .before .before .before .before .pre .1 .1) (c .before .before .u16-at .ensures .0) _ _ (left-done _ _ _ _ _ _ _ (c .before .loop .inv) (stmts-end _ _ (slotNames (c .before .before .before .before .before .args .tree .now) (c .before .before .before .before .before .args .slots .now)) _ _ (c .before .loop .inv .reads) (c .loop-test .left)) (stmts-ok _ _ _ _ _ (c .before .loop .inv .reads) (c .loop-test .left))))  -- returns-2
 
 fits-branch-ok : {M : Type 1} (t : ℕ) → fits-branch-lts.Closed (fits-expr-reads.Asked, fits-expr-reads.Learnt, fits-block-below t, fits-block.Post) (fits-branch-at t) fits-branch.Post M
 fits-branch-ok t = fits-branch-lts.spec (fits-expr-reads.Asked, fits-expr-reads.Learnt, fits-block-below t, fits-block.Post) (fits-branch-at t) fits-branch.Post
@@ -211,6 +211,7 @@ fits-def-ok t = fits-def-lts.spec (name-end-reads.Asked, name-end-reads.Learnt, 
     (λ c. search needs)  -- enum-told
     (λ c. def-over _ _ _ _ (def-collected _ _ _ _ _ (c .before .before .before .before .before .before .name-end .ensures) (c .before .before .before .before .before .skip-params .ensures) (c .before .before .before .before .before .before .before .before .pre .1 .1) _ _ (c .before .before .before .collect-locals .ensures)) _ _ (c .enum-told .given .1))  -- returns
     (λ c. search needs)  -- cast-end
+    (λ c. let h = slots-few _ _ _ _ (c .before .before .before .before .collect-locals .ensures) _ (c .before .found .given .1) in let k = c .before .before .before .before .collect-locals .kept .1 .1 .1 .1 .0 in omega arith)  -- add-end
     (λ c. search needs)  -- sub-fits-block
     (λ c. search needs)  -- part-fits-block-start
     (λ c. let h = slots-few _ _ _ _ (c .before .before .before .before .before .collect-locals .ensures) _ (c .before .before .found .given .1) in let k = c .before .before .before .before .before .collect-locals .kept .1 .1 .1 .1 .0 in omega arith)  -- part-fits-block-end
@@ -218,7 +219,7 @@ fits-def-ok t = fits-def-lts.spec (name-end-reads.Asked, name-end-reads.Learnt, 
     (λ c. def-body _ _ _ _ _ (c .before .before .before .before .before .before .before .before .before .before .name-end .ensures) (c .before .before .before .before .before .before .before .before .before .skip-params .ensures) (c .before .before .before .before .before .before .before .before .before .before .before .before .pre .1 .1) _ _ _ _ (c .before .before .before .before .before .before .before .collect-locals .ensures) (c .before .before .before .before .found .given .1) (full-length (c .before .before .before .before .before .before .before .collect-locals .last .1 .1 .1 .1 .0) (c .before .before .before .before .before .before .before .collect-locals .kept .1 .1 .1 .1 .0)) (c .fits-block .ensures))  -- returns-2
 
 abbrev fits-elifs-Inv-loop : fits-elifs-lts.InvT-loop
-fits-elifs-Inv-loop tree at depth count slots p₀ left₀ p left = BranchesLeft depth tree (namesAt tree slots) left₀ p₀ left p
+fits-elifs-Inv-loop tree at depth count slots p₀ left₀ p left = BranchesLeft depth tree (slotNames tree slots) left₀ p₀ left p
 
 abbrev fits-elifs-μ-loop : fits-elifs-lts.MeasureT-loop
 fits-elifs-μ-loop tree at depth count slots p₀ left₀ p left = left
@@ -233,7 +234,7 @@ fits-elifs-ok t = fits-elifs-lts.spec (fits-branch-below t, fits-branch.Post, fi
     (λ c. omega arith)  -- sub-left
     (λ c. omega arith)  -- loop-less
     (λ c. left-next _ _ _ _ _ _ _ (c .before .before .before .before .before .loop .inv) _ _ _ _ (branches-step _ _ _ _ _ (c .before .before .before .before .before .loop .inv .reads) (c .before .before .before .before .loop-test .taken)) (c .before .before .before .fits-branch .ensures) (c .before .one .given .1))  -- loop-again
-    (λ c κs. (omega arith, (c .before .before .before .before .pre .1 .0, branches-last _ _ (namesAt (c .before .before .before .before .args .tree .now) (c .before .before .before .before .args .slots .now)) _ _ (c .before .loop .inv .reads) (c .loop-test .left))))  -- fits-else-requires
+    (λ c κs. (omega arith, (c .before .before .before .before .pre .1 .0, branches-last _ _ (slotNames (c .before .before .before .before .args .tree .now) (c .before .before .before .before .args .slots .now)) _ _ (c .before .loop .inv .reads) (c .loop-test .left))))  -- fits-else-requires
     (λ c. left-as _ _ _ _ _ _ _ (c .before .before .loop .inv) _ (branches-none _ _ _ _ _ (c .before .before .loop .inv .reads) _ (c .before .loop-test .left) (c .fits-else .ensures)))  -- returns-2
 
 fits-else-ok : {M : Type 1} (t : ℕ) → fits-else-lts.Closed (fits-block-below t, fits-block.Post) (fits-else-at t) fits-else.Post M

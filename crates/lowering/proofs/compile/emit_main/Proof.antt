@@ -1,4 +1,5 @@
-use native.Mathlib.Omega.{arith}
+use mathlib.Core.Path.{refl}
+use Rattle.slots.proofs.Adding.{none-slots}
 use Rattle.state.specs.State.{namesAt}
 use Rattle.statements.proofs.Sequences.{plain-return}
 use Rattle.lowering.proofs.Compiling.{block-lowerable, main-full, block-sound, main-done}
@@ -9,10 +10,8 @@ use Rattle.lowering.proofs.compile.emit_main.Tie as tie
 pub emit-main-spec : {M : Type 1} → statement M
 unfolding namesAt
 emit-main-spec = tie.close (tie.spec
-    (λ c. search needs)  -- sub-emit-block
-    (λ c. search needs)  -- part-emit-block-start
-    (λ c. search needs)  -- part-emit-block-end
-    (λ c κs. let s = (c .before .before .before .before .before .before .before .before .before) in (record { tree-short = s .pre .1 .tree-at .small; slots-few = omega arith; sound = s .pre .0 }, block-lowerable _ (s .pre .1)))  -- emit-block-requires
+    (λ c. search needs)  -- slice-aggregate-emit-block
+    (λ c κs. let s = (c .before .before .before .before .before .before .before .before .before) in (record { tree-short = s .pre .1 .tree-at .small; slotted = none-slots _ _ refl; sound = s .pre .0 }, block-lowerable _ (s .pre .1)))  -- emit-block-requires
     (λ c. search needs)  -- enum-known-block
     (λ c. search needs)  -- enum-told
     (λ c. search needs)  -- same-length

@@ -3,7 +3,7 @@ use native.Mathlib.Omega.{arith}
 use mathlib.Core.Path.{_≡_, refl}
 use Rattle.state.specs.Words.{region, textAt}
 use Rattle.state.specs.State.{stringBuckets, stringsFrom}
-use Rattle.names.proofs.Indexing.{bucket-is, indexed-found, indexed-le}
+use Rattle.names.proofs.TableIndex.{bucket-is, indexed-found, indexed-le}
 use borrow.Author.Needs.{needs}
 use Rattle.names.proofs.number.find_string.Statement.{statement}
 use Rattle.names.proofs.number.find_string.Tie as tie

@@ -3,7 +3,7 @@ use native.Mathlib.Nat.{zero-add}
 use mathlib.Core.Path.{refl, sym}
 use Rattle.state.specs.Words.{region}
 use Rattle.state.specs.State.{symbolBuckets, spelled}
-use Rattle.names.proofs.Indexing.{bucket-is, indexed-found, indexed-le}
+use Rattle.names.proofs.TableIndex.{bucket-is, indexed-found, indexed-le}
 use borrow.Author.Needs.{needs}
 use Rattle.names.proofs.number.find_symbol.Statement.{statement}
 use Rattle.names.proofs.number.find_symbol.Tie as tie

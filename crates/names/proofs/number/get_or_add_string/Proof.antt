@@ -10,7 +10,7 @@ use Rattle.definitions.specs.Bytes.{Text, same, position}
 use Rattle.state.specs.State.{stringsFrom, stringIndexFrom, stringBuckets, foundOr}
 use Rattle.state.proofs.Regions.{region-length}
 use Rattle.names.proofs.Numbering.{text-old, text-over, text-new}
-use Rattle.names.proofs.Indexing.{bucket-is, renewed-put}
+use Rattle.names.proofs.TableIndex.{bucket-is, renewed-put}
 use borrow.Author.Needs.{needs}
 use Rattle.names.proofs.number.get_or_add_string.Statement.{statement}
 use Rattle.names.proofs.number.get_or_add_string.Tie as tie
@@ -36,5 +36,5 @@ get-or-add-string-spec = tie.close (tie.spec
     (λ c κs. search needs)  -- note-requires
     (λ c. search needs)  -- add-k
     (λ c. let a = c .before .before .before .before .before .before .before .before .before .before .before .before .before .before .before .args in same-len-mid {X = ℕ} stringIndexFrom stringBuckets (set (a .tables .now) (stringsFrom + a .c .strings) (a .at)) (c .before .before .note .last .0) (c .before .before .note .kept .0) ∙ length-set (a .tables .now) (stringsFrom + a .c .strings) (a .at))  -- same-length-3
-    (λ c. let k = c .before .before in let b = k .before in let j = b .before .before in let i = j .before .before in let f = i .before in let s = f .before .before .before .before .before .before .before in let a = s .args in 
+    (λ c. let k = c .before .before in let b = k .before in let j = b .before .before in let i = j .before .before in let f = i .before in let s = f .before .before .before .before .before .before .before in let a = s .args in
     text-new (a .tree .now) (a .made .now) (a .code .now) (a .tables .now) (a .c) (a .l) (s .pre .0) (a .at) (f .find-string .result) _ (renewed-put stringIndexFrom stringBuckets (set (a .tables .now) (stringsFrom + a .c .strings) (a .at)) _ _ (simp length-set (omega (arith, s .pre .0 .tables-room))) (k .note .kept .0 ∙ region-length stringIndexFrom stringBuckets (set (a .tables .now) (stringsFrom + a .c .strings) (a .at)) (simp length-set (omega (arith, s .pre .0 .tables-room)))) (k .note .ensures ∙ ap (λ (z : ℕ). noted (region stringIndexFrom stringBuckets (set (a .tables .now) (stringsFrom + a .c .strings) (a .at))) z (a .c .strings)) (bucket-is stringBuckets _ _ _ (b .hash .ensures .0) (f .before .before .text-part .ensures)))) (j .if2 .left) (f .find-string .ensures ∙ ap (λ (y : Text). foundOr (a .c .strings) (position (same y) (map (textAt (a .tree .now)) (region stringsFrom (a .c .strings) (a .tables .now))))) (f .before .before .text-part .ensures)) (i .if1 .left)))  -- returns-3

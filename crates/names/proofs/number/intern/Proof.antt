@@ -8,7 +8,7 @@ use Rattle.state.specs.Words.{region}
 use Rattle.state.specs.State.{symbolIndexFrom, symbolBuckets}
 use Rattle.state.proofs.Regions.{region-length}
 use Rattle.names.proofs.Numbering.{intern-old, intern-over, intern-new}
-use Rattle.names.proofs.Indexing.{renewed-put}
+use Rattle.names.proofs.TableIndex.{renewed-put}
 use borrow.Author.Needs.{needs}
 use Rattle.names.proofs.number.intern.Statement.{statement}
 use Rattle.names.proofs.number.intern.Tie as tie

@@ -2,7 +2,7 @@ use native.Mathlib.Omega.{arith}
 use mathlib.Core.Path.{_∙_}
 use Rattle.state.specs.State.{symbolBuckets}
 use Rattle.names.proofs.Spelling.{spelled-tree, spelled-made}
-use Rattle.names.proofs.Indexing.{bucket-is}
+use Rattle.names.proofs.TableIndex.{bucket-is}
 use borrow.Author.Needs.{needs}
 use Rattle.names.proofs.number.word_bucket.Statement.{statement}
 use Rattle.names.proofs.number.word_bucket.Tie as tie

@@ -209,13 +209,13 @@ refs-expr-ok t = refs-expr-lts.spec (keep-name-reads.Asked, keep-name-reads.Lear
     (λ c. refs-index _ _ _ (c .before .before .before .before .before .before .before .before .before .pre .1 .1) _ _ _ _ (c .before .before .before .before .match .keys11) (c .before .before .refs-two2 .ensures))  -- returns-11
     (λ c. search needs)  -- same-length-12
     (λ c. refs-lambda _ _ _ (c .before .before .before .before .before .before .before .before .before .pre .1 .1) _ _ _ _ (c .before .before .before .before .match .keys12) (c .before .before .refs-lambda .ensures))  -- returns-12
-    (λ c. let n = c .before .match .rest in refs-literal _ _ _ (c .before .before .before .before .before .before .pre .1 .1) _ _ _ _ (literal-kinds _ (expr-known _ _ _ (c .before .before .before .before .before .before .pre .1 .1)) (n .0 .0 .0 .0 .0 .0 .0 .0 .0 .0 .0 .1) (n .0 .0 .0 .0 .0 .0 .0 .0 .0 .0 .1) (n .0 .0 .0 .0 .0 .0 .0 .0 .0 .1) (n .0 .0 .0 .0 .0 .0 .0 .0 .1) (n .0 .0 .0 .0 .0 .0 .0 .1) (n .0 .0 .0 .0 .0 .0 .1) (n .0 .0 .0 .0 .0 .1) (n .0 .0 .0 .0 .1) (n .0 .0 .0 .1) (n .0 .0 .1) (n .0 .1) (n .1)) (c .skip-expr .ensures) refl (c .before .before .before .before .before .before .pre .1 .0 .most))  -- returns-13
+    (λ c. let n = c .before .match .rest in refs-literal _ _ _ (c .before .before .before .before .before .before .pre .1 .1) _ _ _ _ (literal-kinds _ (expr-known _ _ _ (c .before .before .before .before .before .before .pre .1 .1)) (n .0 .0 .0 .0 .0 .0 .0 .0 .0 .0 .0 .1) (n .0 .0 .0 .0 .0 .0 .0 .0 .0 .0 .1) (n .0 .0 .0 .0 .0 .0 .0 .0 .0 .1) (n .0 .0 .0 .0 .0 .0 .0 .0 .1) (n .0 .0 .0 .0 .0 .0 .0 .1) (n .0 .0 .0 .0 .0 .0 .1) (n .0 .0 .0 .0 .0 .1) (n .0 .0 .0 .0 .1) (n .0 .0 .0 .1) (n .0 .0 .1) (n .0 .1) (n .1)) (c .skip-expr .ensures) refl (c .before .before .before .before .before .before .pre .1 .0 .most) (c .before .before .before .before .before .before .pre .1 .0 .indexed))  -- returns-13
 
 refs-lambda-ok : {M : Type 1} (t : ℕ) → refs-lambda-lts.Closed (skip-params-reads.Asked, skip-params-reads.Learnt, refs-expr-below t, refs-expr.Post, remove-params-reads.Asked, remove-params-reads.Learnt) (refs-lambda-at t) refs-lambda.Post M
 refs-lambda-ok t = refs-lambda-lts.spec (skip-params-reads.Asked, skip-params-reads.Learnt, refs-expr-below t, refs-expr.Post, remove-params-reads.Asked, remove-params-reads.Learnt) (refs-lambda-at t) refs-lambda.Post
     (λ c κs. c .before .before .before .pre .1 .1 .params)  -- skip-params-requires
     (λ c κs. (omega arith, (c .before .before .before .before .before .pre .1 .0, body-there _ _ _ _ (c .before .skip-params .ensures) (c .before .before .before .before .before .pre .1 .1))))  -- refs-expr-requires
-    (λ c κs. (c .before .before .before .before .before .before .before .before .before .pre .1 .1 .params, c .before .before .before .refs-expr .ensures .most))  -- remove-params-requires
+    (λ c κs. (c .before .before .before .before .before .before .before .before .before .pre .1 .1 .params, c .before .before .before .refs-expr .ensures .most, c .before .before .before .refs-expr .ensures .indexed))  -- remove-params-requires
     (λ c. search needs)  -- same-length
     (λ c. refs-body _ _ _ _ _ _ _ _ _ _ (c .before .before .before .before .before .before .before .before .skip-params .ensures) (c .before .before .before .before .before .before .refs-expr .ensures) refl (c .before .before .remove-params .ensures) (c .before .before .remove-params .kept .1 .1 .0))  -- returns
 

@@ -1,38 +1,23 @@
-use Rattle.slots.proofs.Removing.{Removing, remove-start, remove-next, remove-done, remove-all, keeps-few, params-all}
-use Rattle.parts.specs.Places.{namesFrom}
+use Rattle.slots.proofs.Adding.{lent-room}
+use Rattle.slots.proofs.Removing.{params-all, removed-none, removed-index, removed}
 use borrow.Author.Needs.{needs}
-use native.Mathlib.Omega.{arith}
-use mathlib.Core.Path.{_≡_, refl, sym, ap, _∙_}
-use Prim.Native.Nat.{_+_, _-_}
 use Rattle.slots.proofs.captures.remove_params.Statement.{statement}
 use Rattle.slots.proofs.captures.remove_params.Tie as tie
 use Rattle.slots.proofs.captures.remove_params.Reads as reads
 use Rattle.slots.proofs.captures.remove_params.Lts as lts
 use Rattle.parts.proofs.numbers.u16_at.Reads as u16-at-reads
-use Rattle.slots.proofs.captures.stays.Reads as stays-reads
-
-abbrev Inv-loop : tie.InvT-loop
-Inv-loop tree params places₀ n count kept₀ i₀ places kept i = Removing tree (namesFrom tree count (params + 2)) places₀ n places kept i
-
-abbrev μ-loop : tie.MeasureT-loop
-μ-loop tree params places₀ n count kept₀ i₀ places kept i = n - i
+use Rattle.slots.proofs.captures.remove_names.Reads as remove-names-reads
+use Rattle.slots.proofs.index.index_slots.Reads as index-slots-reads
 
 pub remove-params-spec : {M : Type 1} → statement M
-remove-params-spec = tie.close (tie.spec Inv-loop μ-loop
-    (λ c κs. let h = c .before .before .pre .0 .count .bytes in omega arith)  -- u16-at-requires
-    (λ c. remove-start _ _ _ _)  -- loop-holds
-    (λ c. search needs)  -- cast-w
-    (λ c. let h = c .before .loop .inv .kept in let g = c .before .loop .inv .behind in omega arith)  -- mul-w
-    (λ c. let h = c .before .before .loop .inv .kept in let g = c .before .before .loop .inv .behind in omega arith)  -- slice-read-w
-    (λ c. let h = c .before .before .loop .inv .kept in let g = c .before .before .loop .inv .behind in omega arith)  -- cast-places
-    (λ c. let h = c .before .before .loop .inv .kept in let g = c .before .before .loop .inv .behind in omega arith)  -- mul-places
-    (λ c. let h = c .before .before .loop .inv .kept in let g = c .before .before .loop .inv .behind in omega arith)  -- slice-write-places
-    (λ c. omega (arith, c .slice-known2 .given (c .before .before .loop .i)))  -- cast-stays
-    (λ c. let h = c .before .before .before .before .before .before .pre .0 .count .bytes in omega arith)  -- add-stays
-    (λ c κs. params-all _ _ _ (c .before .before .before .before .before .before .pre .0) (c .before .before .before .u16-at .ensures .0))  -- stays-requires
-    (λ c. let h = keeps-few _ _ (c .stays .ensures) in let g = c .before .before .before .loop .inv .behind in omega arith)  -- add-kept
-    (λ c. omega arith)  -- add-i
-    (λ c. omega arith)  -- loop-less
-    (λ c. remove-next _ _ _ _ _ _ _ (c .before .before .before .loop .inv) (c .before .before .loop-test .taken) (c .before .before .before .before .before .before .before .pre .1) _ (c .stays .ensures))  -- loop-again
-    (λ c. c .before .loop .inv .kept)  -- same-length
-    (λ c. remove-all _ _ _ _ _ _ _ _ (c .before .loop .inv) (c .loop-test .left) (c .before .before .u16-at .ensures .0)))  -- returns
+remove-params-spec = tie.close (tie.spec
+    (λ c κs. search needs)  -- u16-at-requires
+    (λ c. removed-none _ _ _ _ _ (c .before .u16-at .ensures .0) (c .if1 .taken) (c .before .before .before .before .pre .2))  -- returns
+    (λ c. search needs)  -- add-remove-names
+    (λ c. search needs)  -- sub-remove-names
+    (λ c. search needs)  -- part-remove-names-start
+    (λ c. search needs)  -- part-remove-names-end
+    (λ c κs. let s = c .before .before .before .before .before in (params-all _ _ _ (s .pre .0) (c .before .before .u16-at .ensures .0), lent-room (s .args .n) (s .args .places .now) (s .pre .1)))  -- remove-names-requires
+    (λ c κs. let s = c .before .before .before .before .before .before .before .before .before in removed-index _ _ _ _ (s .args .places .now) _ _ (c .before .before .before .before .before .before .u16-at .ensures .0) (s .pre .1) (c .before .before .before .remove-names .kept .1 .1 .1 .0) (c .before .before .before .remove-names .ensures))  -- index-slots-requires
+    (λ c. search needs)  -- same-length
+    (λ c. let s = c .before .before .before .before .before .before .before .before .before .before .before .before in removed _ _ _ _ (s .args .places .now) _ _ (c .before .before .before .before .before .before .before .before .before .u16-at .ensures .0) (s .pre .1) (c .before .before .before .before .before .before .remove-names .kept .1 .1 .1 .0) (c .before .before .before .before .before .before .remove-names .ensures) _ (c .before .before .index-slots .ensures)))  -- returns-2

@@ -136,8 +136,8 @@ gather-block-ok : {M : Type 1} (t : ℕ) → gather-block-lts.Closed (u16-at-rea
 gather-block-ok t = gather-block-lts.spec (u16-at-reads.Asked, u16-at-reads.Learnt, gather-stmt-below t, gather-stmt.Post) (gather-block-at t) gather-block.Post gather-block-Inv-loop gather-block-μ-loop
     (λ c κs. let h = view-block _ _ _ (c .before .before .pre .1 .1) .parts .count .bytes in omega arith)  -- u16-at-requires
     (λ c. let h = view-block _ _ _ (c .before .before .before .pre .1 .1) .parts .count .bytes in omega arith)  -- add-p
-    (λ c. stmts-start _ _ _ _ _ _ (c .before .before .before .pre .1 .1) (c .u16-at .ensures .0) (c .before .before .before .pre .1 .0 .few))  -- loop-holds
-    (λ c κs. (omega arith, (room-again _ _ _ _ _ (c .before .before .before .before .before .before .pre .1 .0) (c .before .before .loop .inv .kept) (c .before .before .loop .inv .few), stmts-head _ _ _ _ _ _ _ _ _ _ (c .before .before .loop .inv) (c .before .loop-test .taken))))  -- gather-stmt-requires
+    (λ c. stmts-start _ _ _ _ _ _ (c .before .before .before .pre .1 .1) (c .u16-at .ensures .0) (c .before .before .before .pre .1 .0 .few) (c .before .before .before .pre .1 .0 .indexed))  -- loop-holds
+    (λ c κs. (omega arith, (room-again _ _ _ _ _ (c .before .before .before .before .before .before .pre .1 .0) (c .before .before .loop .inv .kept) (c .before .before .loop .inv .few) (c .before .before .loop .inv .indexed), stmts-head _ _ _ _ _ _ _ _ _ _ (c .before .before .loop .inv) (c .before .loop-test .taken))))  -- gather-stmt-requires
     (λ c. search needs)  -- enum-known-one
     (λ c. search needs)  -- enum-told
     (λ c. c .before .before .before .before .gather-stmt .kept .1 .1 .1 .0 ∙ c .before .before .before .before .before .before .before .loop .inv .kept)  -- same-length
@@ -163,8 +163,8 @@ gather-elifs-μ-loop tree at depth count slots₀ n p₀ left₀ k₀ slots p le
 
 gather-elifs-ok : {M : Type 1} (t : ℕ) → gather-elifs-lts.Closed (gather-branch-below t, gather-branch.Post, gather-else-below t, gather-else.Post) (gather-elifs-at t) gather-elifs.Post M
 gather-elifs-ok t = gather-elifs-lts.spec (gather-branch-below t, gather-branch.Post, gather-else-below t, gather-else.Post) (gather-elifs-at t) gather-elifs.Post gather-elifs-Inv-loop gather-elifs-μ-loop
-    (λ c. branches-start _ _ _ _ _ _ (c .before .before .pre .1 .1) (c .before .before .pre .1 .0 .few))  -- loop-holds
-    (λ c κs. (omega arith, (room-again _ _ _ _ _ (c .before .before .before .before .before .pre .1 .0) (c .before .before .loop .inv .kept) (c .before .before .loop .inv .few), branches-head _ _ _ _ _ _ _ _ _ _ (c .before .before .loop .inv) (c .before .loop-test .taken))))  -- gather-branch-requires
+    (λ c. branches-start _ _ _ _ _ _ (c .before .before .pre .1 .1) (c .before .before .pre .1 .0 .few) (c .before .before .pre .1 .0 .indexed))  -- loop-holds
+    (λ c κs. (omega arith, (room-again _ _ _ _ _ (c .before .before .before .before .before .pre .1 .0) (c .before .before .loop .inv .kept) (c .before .before .loop .inv .few) (c .before .before .loop .inv .indexed), branches-head _ _ _ _ _ _ _ _ _ _ (c .before .before .loop .inv) (c .before .loop-test .taken))))  -- gather-branch-requires
     (λ c. search needs)  -- enum-known-one
     (λ c. search needs)  -- enum-told
     (λ c. c .before .before .before .before .gather-branch .kept .1 .1 .1 .0 ∙ c .before .before .before .before .before .before .before .loop .inv .kept)  -- same-length
@@ -172,7 +172,7 @@ gather-elifs-ok t = gather-elifs-lts.spec (gather-branch-below t, gather-branch.
     (λ c. omega arith)  -- sub-left
     (λ c. omega arith)  -- loop-less
     (λ c. branches-next _ _ _ _ _ _ _ _ _ _ (c .before .before .before .before .before .before .before .before .loop .inv) (c .before .before .before .before .before .before .before .loop-test .taken) _ _ _ _ (c .before .before .before .before .before .gather-branch .ensures) (c .before .one .given .1) (c .before .before .before .before .before .gather-branch .kept .1 .1 .1 .0))  -- loop-again
-    (λ c κs. (omega arith, (room-again _ _ _ _ _ (c .before .before .before .before .before .pre .1 .0) (c .before .before .loop .inv .kept) (c .before .before .loop .inv .few), branches-last _ _ _ _ _ _ _ _ _ _ (c .before .before .loop .inv) (c .before .loop-test .left))))  -- gather-else-requires
+    (λ c κs. (omega arith, (room-again _ _ _ _ _ (c .before .before .before .before .before .pre .1 .0) (c .before .before .loop .inv .kept) (c .before .before .loop .inv .few) (c .before .before .loop .inv .indexed), branches-last _ _ _ _ _ _ _ _ _ _ (c .before .before .loop .inv) (c .before .loop-test .left))))  -- gather-else-requires
     (λ c. c .before .before .gather-else .kept .1 .1 .1 .0 ∙ c .before .before .before .before .before .loop .inv .kept)  -- same-length-2
     (λ c. branches-done _ _ _ _ _ _ _ _ _ _ (c .before .before .before .before .before .loop .inv) (c .before .before .before .before .loop-test .left) _ _ (c .before .before .gather-else .ensures))  -- returns-2
 
@@ -180,7 +180,7 @@ gather-else-ok : {M : Type 1} (t : ℕ) → gather-else-lts.Closed (gather-block
 gather-else-ok t = gather-else-lts.spec (gather-block-below t, gather-block.Post) (gather-else-at t) gather-else.Post
     (λ c. let h = else-inside _ _ _ 0 (omega arith) (c .before .before .before .pre .1 .1) in omega arith)  -- shared-slice-read-if1
     (λ c. let h = else-inside _ _ _ 0 (omega arith) (c .before .before .before .before .pre .1 .1) in omega arith)  -- add-t9
-    (λ c. else-none _ _ _ (c .before .before .before .before .pre .1 .1) _ _ (c .before .before .before .before .pre .1 .0 .few) (c .if1 .taken))  -- returns
+    (λ c. else-none _ _ _ (c .before .before .before .before .pre .1 .1) _ _ (c .before .before .before .before .pre .1 .0 .few) (c .before .before .before .before .pre .1 .0 .indexed) (c .if1 .taken))  -- returns
     (λ c. let h = else-inside _ _ _ 0 (omega arith) (c .before .before .before .before .pre .1 .1) in omega arith)  -- add-gather-block
     (λ c κs. (omega arith, (c .before .before .before .before .before .pre .1 .0, else-reads _ _ _ (c .before .before .before .before .before .pre .1 .1) (c .before .if1 .left))))  -- gather-block-requires
     (λ c. search needs)  -- same-length
@@ -194,7 +194,7 @@ gather-for-ok t = gather-for-lts.spec (name-end-reads.Asked, name-end-reads.Lear
     (λ c. search needs)  -- enum-told
     (λ c. search needs)  -- same-length
     (λ c. over-more _ _ _ _ _ _ _ _ (c .before .before .before .before .gather-name .ensures) (c .enum-told .given .1) (block-grows _ _))  -- returns
-    (λ c κs. let z = gathers-next _ _ _ _ _ _ _ (c .before .before .before .before .before .before .gather-name .ensures) (c .before .before .first .given .1) in (omega arith, (room-again _ _ _ _ _ (c .before .before .before .before .before .before .before .before .before .before .before .pre .1 .0) (c .before .before .before .before .before .before .gather-name .kept .1 .1 .1 .0) (z .few), branch-there _ _ _ _ (z .end ∙ c .before .before .before .before .before .before .before .before .name-end .ensures) (c .before .before .before .before .before .before .before .before .before .before .before .pre .1 .1 .loop))))  -- gather-branch-requires
+    (λ c κs. let z = gathers-next _ _ _ _ _ _ _ (c .before .before .before .before .before .before .gather-name .ensures) (c .before .before .first .given .1) in (omega arith, (room-again _ _ _ _ _ (c .before .before .before .before .before .before .before .before .before .before .before .pre .1 .0) (c .before .before .before .before .before .before .gather-name .kept .1 .1 .1 .0) (z .few) (z .indexed), branch-there _ _ _ _ (z .end ∙ c .before .before .before .before .before .before .before .before .name-end .ensures) (c .before .before .before .before .before .before .before .before .before .before .before .pre .1 .1 .loop))))  -- gather-branch-requires
     (λ c. search needs)  -- same-length-2
     (λ c. let z = gathers-next _ _ _ _ _ _ _ (c .before .before .before .before .before .before .before .before .before .gather-name .ensures) (c .before .before .before .before .before .first .given .1) in for-done _ _ _ _ _ _ _ _ (z .end ∙ c .before .before .before .before .before .before .before .before .before .before .before .name-end .ensures) (z .names) (c .before .before .gather-branch .ensures))  -- returns-2
 
@@ -207,7 +207,7 @@ gather-if-ok t = gather-if-lts.spec (gather-branch-below t, gather-branch.Post, 
     (λ c. over-more _ _ _ _ _ _ _ _ (c .before .before .before .before .gather-branch .ensures) (c .enum-told .given .1) (branches-grow _ _))  -- returns
     (λ c κs. let z = gathers-next _ _ _ _ _ _ _ (c .before .before .before .before .before .gather-branch .ensures) (c .before .first .given .1) in let h = elifs-counted _ _ _ _ 0 (z .end) (c .before .before .before .before .before .before .before .before .before .pre .1 .1) in omega arith)  -- u16-at-requires
     (λ c. let z = gathers-next _ _ _ _ _ _ _ (c .before .before .before .before .before .before .gather-branch .ensures) (c .before .before .first .given .1) in let h = elifs-counted _ _ _ _ 0 (z .end) (c .before .before .before .before .before .before .before .before .before .before .pre .1 .1) in omega arith)  -- add-gather-elifs
-    (λ c κs. let z = gathers-next _ _ _ _ _ _ _ (c .before .before .before .before .before .before .before .gather-branch .ensures) (c .before .before .before .first .given .1) in (omega arith, (room-again _ _ _ _ _ (c .before .before .before .before .before .before .before .before .before .before .before .pre .1 .0) (c .before .before .before .before .before .before .before .gather-branch .kept .1 .1 .1 .0) (z .few), elifs-read _ _ _ _ _ (z .end) (c .before .u16-at .ensures .0) (c .before .before .before .before .before .before .before .before .before .before .before .pre .1 .1))))  -- gather-elifs-requires
+    (λ c κs. let z = gathers-next _ _ _ _ _ _ _ (c .before .before .before .before .before .before .before .gather-branch .ensures) (c .before .before .before .first .given .1) in (omega arith, (room-again _ _ _ _ _ (c .before .before .before .before .before .before .before .before .before .before .before .pre .1 .0) (c .before .before .before .before .before .before .before .gather-branch .kept .1 .1 .1 .0) (z .few) (z .indexed), elifs-read _ _ _ _ _ (z .end) (c .before .u16-at .ensures .0) (c .before .before .before .before .before .before .before .before .before .before .before .pre .1 .1))))  -- gather-elifs-requires
     (λ c. search needs)  -- same-length-2
     (λ c. let z = gathers-next _ _ _ _ _ _ _ (c .before .before .before .before .before .before .before .before .before .before .gather-branch .ensures) (c .before .before .before .before .before .before .first .given .1) in if-done _ _ _ _ _ (z .end) (c .before .before .before .before .u16-at .ensures .0) _ _ _ _ (z .names) (c .before .before .gather-elifs .ensures))  -- returns-2
 

@@ -14,7 +14,7 @@ collect-locals-spec = tie.close (tie.spec
     (λ c. search needs)  -- enum-told
     (λ c. search needs)  -- same-length
     (λ c. locals-begun _ _ _ _ _ _ (c .before .before .before .before .put-params .ensures) (c .enum-told .given .1))  -- returns
-    (λ c κs. let z = collected-count _ _ _ _ _ (c .before .before .before .before .before .before .put-params .ensures) (c .before .before .begun .given .1) in (room-of _ (c .before .before .before .before .before .before .before .before .before .before .args .slots .now) _ _ (c .before .before .before .before .before .before .before .before .before .before .pre .0) (c .before .before .before .before .before .before .before .before .before .before .pre .1) (c .before .before .before .before .before .before .put-params .kept .1 .1 .0) (z .0), c .before .before .before .before .before .before .before .before .before .before .pre .3))  -- gather-block-requires
+    (λ c κs. let z = collected-count _ _ _ _ _ (c .before .before .before .before .before .before .put-params .ensures) (c .before .before .begun .given .1) in (room-of _ (c .before .before .before .before .before .before .before .before .before .before .args .slots .now) _ _ (c .before .before .before .before .before .before .before .before .before .before .pre .0) (c .before .before .before .before .before .before .before .before .before .before .pre .1) (c .before .before .before .before .before .before .put-params .kept .1 .1 .0) (z .0) (z .2), c .before .before .before .before .before .before .before .before .before .before .pre .3))  -- gather-block-requires
     (λ c. search needs)  -- enum-known-all
     (λ c. search needs)  -- enum-told-2
     (λ c. search needs)  -- same-length-2

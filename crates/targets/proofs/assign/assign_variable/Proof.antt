@@ -20,7 +20,7 @@ assign-variable-spec = tie.close (tie.spec
     (λ c. search needs)  -- same-length-2
     (λ c. search needs)  -- same-length-3
     (λ c. first-full _ _ _ _ _ _ ((c .before .before .before .before .before .before .before .before .before .before .before .before .before .before .before .before .before .before) .pre .0 .sound) _ _ _ _ _ _ _ _ _ _ _ (lengthens-store _ _) (c .enum-told .given .1) (expr-emits-at _ _ _ _ _ _ _ _ _ _ _ _ _ ((c .before .before .before .before .before .before .before .before .before .before .before .before) .name-end .ensures) ((c .before .before .before .before .before .before .before .before) .emit-expr .ensures)))  -- returns
-    (λ c κs. let s = (c .before .before .before .before .before .before .before .before .before .before .before .before .before .before .before .before .before .before .before .before .before .before) in ((done-left _ _ _ _ _ _ _ _ _ _ _ ((c .before .before .before .before) .value .given .1) (expr-emits-at _ _ _ _ _ _ _ _ _ _ _ _ _ ((c .before .before .before .before .before .before .before .before .before .before .before .before .before .before .before .before) .name-end .ensures) ((c .before .before .before .before .before .before .before .before .before .before .before .before) .emit-expr .ensures))) .sound, omega (arith, s .pre .0 .slots-few), omega (arith, s .pre .1 .name .byte, s .pre .0 .tree-short)))  -- emit-store-requires
+    (λ c κs. let s = (c .before .before .before .before .before .before .before .before .before .before .before .before .before .before .before .before .before .before .before .before .before .before) in ((done-left _ _ _ _ _ _ _ _ _ _ _ ((c .before .before .before .before) .value .given .1) (expr-emits-at _ _ _ _ _ _ _ _ _ _ _ _ _ ((c .before .before .before .before .before .before .before .before .before .before .before .before .before .before .before .before) .name-end .ensures) ((c .before .before .before .before .before .before .before .before .before .before .before .before) .emit-expr .ensures))) .sound, s .pre .0 .slotted, omega (arith, s .pre .1 .name .byte, s .pre .0 .tree-short)))  -- emit-store-requires
     (λ c. search needs)  -- same-length-4
     (λ c. search needs)  -- same-length-5
     (λ c. search needs)  -- same-length-6

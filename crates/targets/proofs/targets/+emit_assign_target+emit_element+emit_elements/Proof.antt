@@ -78,7 +78,7 @@ emit-assign-target-ok : {M : Type 1} (t : ℕ) → emit-assign-target-lts.Closed
 emit-assign-target-ok t = emit-assign-target-lts.spec (emit-store-reads.Asked, emit-store-reads.Learnt, u16-at-reads.Asked, u16-at-reads.Learnt, emit-elements-below t, emit-elements.Post) (emit-assign-target-at t) emit-assign-target.Post
     (λ c. expr-inside _ _ _ ((c .before .before .before .before .before .before) .pre .1 .1))  -- shared-slice-read-kind
     (λ c. let s = (c .before .before .before .before .before .before .before .before .before) in let i = expr-inside _ _ _ (s .pre .1 .1) in omega (arith, i, s .pre .1 .0 .tree-short))  -- add-emit-store
-    (λ c κs. let s = (c .before .before .before .before .before .before .before .before .before) in let v = target-variable _ _ [] _ (s .pre .1 .1) ((c .before .before) .match .keys1) in (s .pre .1 .0 .sound, omega (arith, s .pre .1 .0 .slots-few), omega (arith, v .0 .byte, s .pre .1 .0 .tree-short)))  -- emit-store-requires
+    (λ c κs. let s = (c .before .before .before .before .before .before .before .before .before) in let v = target-variable _ _ [] _ (s .pre .1 .1) ((c .before .before) .match .keys1) in (s .pre .1 .0 .sound, s .pre .1 .0 .slotted, omega (arith, v .0 .byte, s .pre .1 .0 .tree-short)))  -- emit-store-requires
     (λ c. let s = (c .before .before .before .before .before .before .before) in let i = expr-inside _ _ _ (s .pre .1 .1) in omega (arith, i, s .pre .1 .0 .tree-short))  -- add-u16-at
     (λ c κs. target-tuple _ _ [] _ ((c .before .before .before .before .before .before .before) .pre .1 .1) (c .match .keys2) .0 .count)  -- u16-at-requires
     (λ c. let s = (c .before .before .before .before .before .before .before .before) in let i = expr-inside _ _ _ (s .pre .1 .1) in omega (arith, i, s .pre .1 .0 .tree-short))  -- add-emit-elements

@@ -1,0 +1,33 @@
+use borrow.Author.Needs.{needs}
+use Rattle.slots.proofs.Adding.{added-there, added-new}
+use Rattle.slots.proofs.add.add_at.Statement.{statement}
+use Rattle.slots.proofs.add.add_at.Tie as tie
+use Rattle.slots.proofs.add.add_at.Reads as reads
+use Rattle.slots.proofs.add.add_at.Lts as lts
+use Rattle.names.proofs.index.find_from.Reads as find-from-reads
+use Rattle.names.proofs.index.start.Reads as start-reads
+use Rattle.names.proofs.spell.name_part.Reads as name-part-reads
+
+pub add-at-spec : {M : Type 1} → statement M
+add-at-spec = tie.close (tie.spec
+    (λ c. search needs)  -- mul-k
+    (λ c. search needs)  -- slice-read-k
+    (λ c. search needs)  -- add-end
+    (λ c. search needs)  -- sub-find-from
+    (λ c. search needs)  -- part-find-from-start
+    (λ c. search needs)  -- part-find-from-end
+    (λ c κs. search needs)  -- name-part-requires
+    (λ c κs. search needs)  -- find-from-requires
+    (λ c. search needs)  -- same-length
+    (λ c. let s = c .before .before .before .before .before .before .before .before in let a = s .args in added-there (a .tree .now) (a .slots .now) (a .n) (a .at) (a .b) _ _ (s .pre .0) (s .pre .1) (s .pre .4) (c .before .before .name-part .ensures) (c .before .find-from .ensures .0) (c .if1 .taken))  -- returns
+    (λ c κs. search needs)  -- start-requires
+    (λ c. search needs)  -- cast-first
+    (λ c. search needs)  -- add-slots
+    (λ c. search needs)  -- mul-slots
+    (λ c. search needs)  -- slice-write-slots
+    (λ c. search needs)  -- cast-slots
+    (λ c. search needs)  -- mul-slots-2
+    (λ c. search needs)  -- slice-write-slots-2
+    (λ c. search needs)  -- add-result
+    (λ c. search needs)  -- same-length-2
+    (λ c. let s = c .before .before .before .before .before .before .before .before .before in let a = s .args in added-new (a .tree .now) (a .slots .now) (a .n) (a .at) (a .b) _ _ (s .pre .0) (s .pre .1) (s .pre .4) (c .before .before .before .name-part .ensures) (c .before .before .find-from .ensures .0) (c .start .result) (c .start .ensures .0) (c .start .ensures .1) (c .before .if1 .left)))  -- returns-2
