@@ -15,11 +15,11 @@ fn is_builtin(n: u64) -> bool
     if 15 <= n {
         return false;
     }
-    table_entry(
+    let known = table_entry(
         b"\x01\x01\x01\x01\x01\x01\x01\x01\x00\x00\x01\x01\x01\x01\x01",
         n as usize,
-    )
-        == 1
+    );
+    known == 1
 }
 
 // What an instruction's first operand numbers.
