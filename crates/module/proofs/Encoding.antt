@@ -6,7 +6,7 @@ use Prim.Native.Nat.{ℕ, zero, suc, _+_, _*_, _-_, _/_, _%_, _^_, _≤_, _<_}
 use native.Mathlib.Omega.{arith}
 use native.Mathlib.Nat.{pow-succ', pow-le-pow-right, add-mul, mul-assoc}
 use lib.Dec.{eqb, ltb, leb, lit<}
-use lib.ListN.{length, getD, set, length-append, List·getD-map, List·getD-eq-default}
+use lib.ListN.{length, getD, set, length-append, List·getD-map}
 use borrow.Author.Tests.{eq-eqb, ne-eqb, lt-ltb, le-ltb, le-leb, lt-leb}
 use Rattle.definitions.specs.Bytes.{be}
 use Rattle.definitions.specs.Instruction.{Instr, instr, ConstI64, Row, row, nothing, instructionTable, rowOf, firstWidth, secondWidth, encode}
@@ -45,15 +45,6 @@ first-small op = small-at 8 (map (λ (r : Row). r .first) instructionTable) refl
 pub second-small : (op : ℕ) → getD (map (λ (r : Row). r .second) instructionTable) op 0 ≤ 1
 unfolding instructionTable small-all
 second-small op = small-at 1 (map (λ (r : Row). r .second) instructionTable) refl op
-
--- past the table there are no operands
-pub first-past : (op : ℕ) → 45 < op → 0 ≡ firstWidth op
-unfolding instructionTable
-first-past op h = sym (List·getD-eq-default (map (λ (r : Row). r .first) instructionTable) 0 h) ∙ first-is op
-
-pub second-past : (op : ℕ) → 45 < op → 0 ≡ secondWidth op
-unfolding instructionTable
-second-past op h = sym (List·getD-eq-default (map (λ (r : Row). r .second) instructionTable) 0 h) ∙ second-is op
 
 -- ---- a word's instruction
 

@@ -3,12 +3,22 @@ use crate::Skipped;
 ghost use mathlib.Core.Path.{_≡_};
 ghost use mathlib.Core.List.{[], _∷_};
 ghost use Prim.Native.Nat.{_+_, _^_, _≤_, _<_};
-ghost use lib.ListN.{length};
+ghost use lib.ListN.{length, getD};
 ghost use Rattle.definitions.specs.Bytes.{byte, counted};
 ghost use Rattle.reader.specs.View.{skipAt, numberAt};
 
-// The big-endian number of `width` bytes at `at`.
-pub fn number_at(bytes: &[u8], at: usize, width: usize) -> u64
+// An entry of a table, 0 past its end.
+pub fn table_entry(table: &[u8], i: usize) -> u8
+    ensures { λ r. ⌜ r ≡ getD (now (table .entry)) i 0 ⌝ }
+{
+    if i < table.len() {
+        return table[i];
+    }
+    0
+}
+
+// The big-endian number of `width` bytes at `at`, byte by byte.
+fn long_number(bytes: &[u8], at: usize, width: usize) -> u64
     requires { ⌜ (at + width ≤ length (now bytes)) × (width ≤ 8) ⌝ }
     ensures { λ r. ⌜ (r ≡ numberAt width (now (bytes .entry)) at) × (r < 256 ^ width) ⌝ }
 {
@@ -19,6 +29,23 @@ pub fn number_at(bytes: &[u8], at: usize, width: usize) -> u64
         i += 1;
     }
     n
+}
+
+// The big-endian number of `width` bytes at `at`.
+pub fn number_at(bytes: &[u8], at: usize, width: usize) -> u64
+    requires { ⌜ (at + width ≤ length (now bytes)) × (width ≤ 8) ⌝ }
+    ensures { λ r. ⌜ (r ≡ numberAt width (now (bytes .entry)) at) × (r < 256 ^ width) ⌝ }
+{
+    if width == 0 {
+        return 0;
+    }
+    if width == 1 {
+        return bytes[at] as u64;
+    }
+    if width == 2 {
+        return bytes[at] as u64 * 256 + bytes[at + 1] as u64;
+    }
+    long_number(bytes, at, width)
 }
 
 // n bytes at `at`.

@@ -1,13 +1,12 @@
 // Questions 20 and 21 of one instruction.
 use crate::Counts;
+use crate::numbers::table_entry;
 ghost use mathlib.Core.Path.{_≡_};
 ghost use Prim.Native.Nat.{_<_};
 ghost use Rattle.definitions.specs.Instruction.{numbersOf};
 ghost use Rattle.definitions.specs.Builtins.{registry};
 ghost use Rattle.definitions.specs.Reader.{isBuiltin, landing};
 ghost use Rattle.reader.specs.Asks.{kindOf, existsIn, opStands, askOp, askHead};
-
-const BUILTINS: [u8; 15] = [1, 1, 1, 1, 1, 1, 1, 1, 0, 0, 1, 1, 1, 1, 1];
 
 // A built-in has the id.
 fn is_builtin(n: u64) -> bool
@@ -16,18 +15,21 @@ fn is_builtin(n: u64) -> bool
     if 15 <= n {
         return false;
     }
-    BUILTINS[n as usize] == 1
+    let known = table_entry(
+        b"\x01\x01\x01\x01\x01\x01\x01\x01\x00\x00\x01\x01\x01\x01\x01",
+        n as usize,
+    );
+    known == 1
 }
-
-const KINDS: [u8; 46] =
-    *b"\x00\x00\x01\x00\x00\x00\x02\x00\x00\x03\x03\x04\x04\x00\x00\x00\x00\x00\x00\x00\x00\x00\x00\x00\x00\x00\x00\x00\x00\x00\x00\x05\x06\x00\x00\x04\x04\x04\x00\x00\x00\x00\x00\x00\x00\x05";
 
 // What an instruction's first operand numbers.
 fn kind_of(op: usize) -> u8
-    requires { ⌜ op < 46 ⌝ }
     ensures { λ r. ⌜ r ≡ kindOf (numbersOf op) ⌝ }
 {
-    KINDS[op]
+    table_entry(
+        b"\x00\x00\x01\x00\x00\x00\x02\x00\x00\x03\x03\x04\x04\x00\x00\x00\x00\x00\x00\x00\x00\x00\x00\x00\x00\x00\x00\x00\x00\x00\x00\x05\x06\x00\x00\x04\x04\x04\x00\x00\x00\x00\x00\x00\x00\x05",
+        op,
+    )
 }
 
 // A number of that kind exists.

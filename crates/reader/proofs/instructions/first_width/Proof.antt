@@ -1,4 +1,6 @@
 use borrow.Author.Needs.{needs}
+use mathlib.Core.Path.{sym, subst, _∙_}
+use Prim.Native.Nat.{ℕ, _≤_}
 use Rattle.definitions.specs.Instruction.{instructionTable}
 use Rattle.reader.proofs.NumberLaws.{first-is, first-small}
 use Rattle.reader.proofs.instructions.first_width.Statement.{statement}
@@ -6,4 +8,7 @@ use Rattle.reader.proofs.instructions.first_width.Tie as tie
 
 pub first-width-spec : {M : Type 1} → statement M
 unfolding instructionTable
-first-width-spec = tie.close (tie.spec (λ c. search needs) (λ c. (first-is (c .args .op), first-small (c .args .op))))
+first-width-spec = tie.close (tie.spec
+    (λ c. search needs)
+    (λ c κs. search needs)
+    (λ c. let op = c .before .before .args .op in (c .table-entry .ensures ∙ first-is op, subst (λ (n : ℕ). n ≤ 8) (sym (c .table-entry .ensures)) (first-small op))))
