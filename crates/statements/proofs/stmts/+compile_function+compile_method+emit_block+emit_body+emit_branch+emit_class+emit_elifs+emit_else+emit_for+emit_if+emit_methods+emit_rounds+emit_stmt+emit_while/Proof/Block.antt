@@ -4,7 +4,7 @@ use native.Mathlib.Omega.{arith}
 use borrow.Author.Needs.{needs}
 use lib.ListN.{length}
 use Rattle.tree.specs.StmtAt.{blockAt, stmtsAt}
-use Rattle.state.specs.State.{namesAt, stateOf, emitAt}
+use Rattle.state.specs.State.{slotNames, stateOf, emitAt}
 use Rattle.names.proofs.Midway.{Midway}
 use Rattle.statements.specs.Lowering.{blockCode, stmtsCode, StmtsLowerable}
 use Rattle.statements.proofs.Arms.{block-parts, stmts-more}
@@ -18,8 +18,8 @@ use Rattle.statements.proofs.stmts.+compile_function+compile_method+emi
 
 abbrev Inv-loop : emit-block-lts.InvT-loop
 Inv-loop tree at depth slots made₀ code₀ tables₀ l left₀ p₀ k₀ made code tables left p k =
-    (length made ≡ length made₀) × (length code ≡ length code₀) × (length tables ≡ length tables₀) × StmtsLowerable depth left tree (namesAt tree slots) p × (stmtsAt depth left tree p .end ≡ blockAt depth tree at .end)
-    × Midway k tree made code tables k₀ l (stmtsCode depth left tree (namesAt tree slots) p) (emitAt (k₀ .base) (blockCode depth tree (namesAt tree slots) at) (stateOf tree made₀ code₀ tables₀ k₀))
+    (length made ≡ length made₀) × (length code ≡ length code₀) × (length tables ≡ length tables₀) × StmtsLowerable depth left tree (slotNames tree slots) p × (stmtsAt depth left tree p .end ≡ blockAt depth tree at .end)
+    × Midway k tree made code tables k₀ l (stmtsCode depth left tree (slotNames tree slots) p) (emitAt (k₀ .base) (blockCode depth tree (slotNames tree slots) at) (stateOf tree made₀ code₀ tables₀ k₀))
 
 abbrev μ-loop : emit-block-lts.MeasureT-loop
 μ-loop tree at depth slots made₀ code₀ tables₀ l left₀ p₀ k₀ made code tables left p k = left

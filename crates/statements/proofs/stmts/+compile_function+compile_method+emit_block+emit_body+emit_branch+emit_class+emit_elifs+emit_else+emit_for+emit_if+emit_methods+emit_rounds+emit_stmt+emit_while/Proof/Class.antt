@@ -5,7 +5,7 @@ use borrow.Author.Needs.{needs}
 use Rattle.parts.specs.Places.{countAt}
 use Rattle.state.proofs.Answers.{full-emits, numbers-at, numbers-over}
 use Rattle.expressions.proofs.Arms.{counted-at}
-use Rattle.statements.proofs.Sequences.{ready-with}
+use Rattle.statements.proofs.Sequences.{sole-with}
 use Rattle.statements.proofs.Classes.{lists-all, lists-over, lists-at, methods-at, class-methods-within, class-number, class-room, class-constants, class-emits, class-begin-within}
 use Rattle.statements.proofs.stmts.emit_class.Reads as emit-class
 use Rattle.statements.proofs.stmts.+compile_function+compile_method+emit_block+emit_body+emit_branch+emit_class+emit_elifs+emit_else+emit_for+emit_if+emit_methods+emit_rounds+emit_stmt+emit_while.Lts-emit_class as emit-class-lts
@@ -29,7 +29,7 @@ emit-class-ok t = emit-class-lts.spec (begin-class-reads.Asked, begin-class-read
     (λ c κs. let s = c .before .before .before .before .before .before .before .before .before .before .before .before .before .before in counted-at _ _ _ (c .name-end .ensures) (s .pre .1 .1 .count))  -- u16-at-requires
     (λ c. let s = (c .before .before .before .before .before .before .before .before .before .before .before .before .before .before .before) in omega (arith, (c .before) .name-end .ensures, s .pre .1 .1 .count .bytes, s .pre .1 .0 .tree-short))  -- add-emit-methods
     (λ c. refl)  -- slice-aggregate-emit-methods
-    (λ c κs. let at-u16-at = c .before .before .before .before in let at-name-end = at-u16-at .before in let at-begun = at-name-end .before .before in let at-begin-class = at-begun .before .before .before .before in let s = at-begin-class .before .before .before .before .before .before .before .before in (omega (arith, s .pre .0), (ready-with (s .pre .1 .0) ((numbers-at _ _ _ _ _ _ _ _ _ _ _ (at-begun .begun .given .1) (at-begin-class .begin-class .ensures)) .1 .sound), methods-at _ _ _ _ _ _ (at-u16-at .u16-at .ensures .0 ∙ ap (countAt (s .args .tree .now)) (at-name-end .name-end .ensures)) (ap (λ (x : ℕ). x + 2) (at-name-end .name-end .ensures)) (s .pre .1 .1 .methods), omega arith)))  -- emit-methods-requires
+    (λ c κs. let at-u16-at = c .before .before .before .before in let at-name-end = at-u16-at .before in let at-begun = at-name-end .before .before in let at-begin-class = at-begun .before .before .before .before in let s = at-begin-class .before .before .before .before .before .before .before .before in (omega (arith, s .pre .0), (sole-with (s .pre .1 .0) ((numbers-at _ _ _ _ _ _ _ _ _ _ _ (at-begun .begun .given .1) (at-begin-class .begin-class .ensures)) .1 .sound), methods-at _ _ _ _ _ _ (at-u16-at .u16-at .ensures .0 ∙ ap (countAt (s .args .tree .now)) (at-name-end .name-end .ensures)) (ap (λ (x : ℕ). x + 2) (at-name-end .name-end .ensures)) (s .pre .1 .1 .methods), omega arith)))  -- emit-methods-requires
     (λ c. search needs)  -- enum-known-listed
     (λ c. search needs)  -- enum-told-2
     (λ c. (c .before .before .before .before .before .before .before .before .before) .emit-methods .kept .1 .1 .1 .1 .0)  -- same-length-4

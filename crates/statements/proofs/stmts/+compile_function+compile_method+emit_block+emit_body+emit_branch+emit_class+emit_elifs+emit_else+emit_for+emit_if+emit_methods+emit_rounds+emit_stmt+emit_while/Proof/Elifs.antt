@@ -4,7 +4,7 @@ use native.Mathlib.Omega.{arith}
 use borrow.Author.Needs.{needs}
 use lib.ListN.{length}
 use Rattle.tree.specs.StmtAt.{branchesAt}
-use Rattle.state.specs.State.{namesAt, stateOf}
+use Rattle.state.specs.State.{slotNames, stateOf}
 use Rattle.state.specs.Steps.{chainAt}
 use Rattle.state.proofs.Answers.{emits-done}
 use Rattle.frames.proofs.Answering.{done-left, full-by}
@@ -21,8 +21,8 @@ use Rattle.statements.proofs.stmts.+compile_function+compile_method+emi
 
 abbrev Inv-loop : emit-elifs-lts.InvT-loop
 Inv-loop tree at depth n slots made₀ code₀ tables₀ l left₀ p₀ k₀ made code tables left p k =
-    (length made ≡ length made₀) × (length code ≡ length code₀) × (length tables ≡ length tables₀) × BranchesLowerable depth left tree (namesAt tree slots) p × (branchesAt depth left tree p .end ≡ branchesAt depth n tree at .end)
-    × Chained k tree made code tables k₀ l (namesAt tree slots) (branchesAt depth left tree p .value) (chainAt (k₀ .base) (namesAt tree slots) (branchesAt depth n tree at .value) (k₀ .open - 1) (stateOf tree made₀ code₀ tables₀ k₀))
+    (length made ≡ length made₀) × (length code ≡ length code₀) × (length tables ≡ length tables₀) × BranchesLowerable depth left tree (slotNames tree slots) p × (branchesAt depth left tree p .end ≡ branchesAt depth n tree at .end)
+    × Chained k tree made code tables k₀ l (slotNames tree slots) (branchesAt depth left tree p .value) (chainAt (k₀ .base) (slotNames tree slots) (branchesAt depth n tree at .value) (k₀ .open - 1) (stateOf tree made₀ code₀ tables₀ k₀))
 
 abbrev μ-loop : emit-elifs-lts.MeasureT-loop
 μ-loop tree at depth n slots made₀ code₀ tables₀ l left₀ p₀ k₀ made code tables left p k = left
@@ -49,4 +49,4 @@ emit-elifs-ok t = emit-elifs-lts.spec (emit-branch-below t, emit-branch.Post, se
     (λ c. let at-emit-else = c .before .before .before .before .before .before in let at-loop = at-emit-else .before .before .before .before .before in let j = at-loop .loop in at-emit-else .emit-else .kept .1 .1 .1 .1 .0 ∙ j .inv .0)  -- same-length-4
     (λ c. let at-emit-else = c .before .before .before .before .before .before in let at-loop = at-emit-else .before .before .before .before .before in let j = at-loop .loop in at-emit-else .emit-else .kept .1 .1 .1 .1 .1 .0 ∙ j .inv .1)  -- same-length-5
     (λ c. let at-emit-else = c .before .before .before .before .before .before in let at-loop = at-emit-else .before .before .before .before .before in let j = at-loop .loop in at-emit-else .emit-else .kept .1 .1 .1 .1 .1 .1 .0 ∙ j .inv .2)  -- same-length-6
-    (λ c. let at-emit-else = c .before .before .before .before .before .before in let at-loop-test = at-emit-else .before .before .before .before in let at-loop = at-loop-test .before in let s = at-loop .before .before .before .before .before .before in let j = at-loop .loop in let z = elifs-zero (s .args .depth) (s .args .tree .now) (namesAt (s .args .tree .now) (s .args .slots .now)) _ _ (at-loop-test .loop-test .left) in chained-last _ _ _ _ _ _ _ _ _ _ (j .inv .5) _ _ _ _ _ _ _ (λ i. z i .value) ((λ i. z i .end) ∙ j .inv .4) (at-emit-else .emit-else .ensures))  -- returns-2
+    (λ c. let at-emit-else = c .before .before .before .before .before .before in let at-loop-test = at-emit-else .before .before .before .before in let at-loop = at-loop-test .before in let s = at-loop .before .before .before .before .before .before in let j = at-loop .loop in let z = elifs-zero (s .args .depth) (s .args .tree .now) (slotNames (s .args .tree .now) (s .args .slots .now)) _ _ (at-loop-test .loop-test .left) in chained-last _ _ _ _ _ _ _ _ _ _ (j .inv .5) _ _ _ _ _ _ _ (λ i. z i .value) ((λ i. z i .end) ∙ j .inv .4) (at-emit-else .emit-else .ensures))  -- returns-2

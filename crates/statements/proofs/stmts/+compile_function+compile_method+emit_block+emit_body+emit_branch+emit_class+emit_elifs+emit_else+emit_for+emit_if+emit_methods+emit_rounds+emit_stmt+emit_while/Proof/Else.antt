@@ -3,7 +3,7 @@ use mathlib.Core.Path.{sym, _∙_}
 use native.Mathlib.Omega.{arith}
 use borrow.Author.Needs.{needs}
 use Rattle.tree.specs.StmtAt.{branchesAt}
-use Rattle.state.specs.State.{namesAt}
+use Rattle.state.specs.State.{slotNames}
 use Rattle.state.proofs.Answers.{emits-done}
 use Rattle.frames.proofs.Answering.{done-left, full-by}
 use Rattle.statements.proofs.Arms.{else-parts, else-in, else-one, none-is}
@@ -25,7 +25,7 @@ emit-else-ok t = emit-else-lts.spec (set-jump-reads.Asked, set-jump-reads.Learnt
     (λ c. search needs)  -- same-length
     (λ c. search needs)  -- same-length-2
     (λ c. search needs)  -- same-length-3
-    (λ c. let s = (c .before .before .before .before .before .before .before .before .before .before .before .before .before) in let n = none-is _ _ _ _ (s .pre .1 .1) ((c .before .before .before .before .before .before) .if1 .taken) in none-emits _ _ _ _ _ _ (namesAt (s .args .tree .now) (s .args .slots .now)) (s .pre .1 .0 .sound) (s .pre .1 .2) _ _ (λ i. n i .value) (sym (λ i. n i .end)) _ ((c .before .before) .set-jump .ensures))  -- returns
+    (λ c. let s = (c .before .before .before .before .before .before .before .before .before .before .before .before .before) in let n = none-is _ _ _ _ (s .pre .1 .1) ((c .before .before .before .before .before .before) .if1 .taken) in none-emits _ _ _ _ _ _ (slotNames (s .args .tree .now) (s .args .slots .now)) (s .pre .1 .0 .sound) (s .pre .1 .2) _ _ (λ i. n i .value) (sym (λ i. n i .end)) _ ((c .before .before) .set-jump .ensures))  -- returns
     (λ c. let s = c .before .before .before .before .before .before .before in let i = else-in _ _ _ _ (s .pre .1 .1) in omega (arith, i, s .pre .1 .0 .tree-short))  -- add-emit-block
     (λ c κs. let s = (c .before .before .before .before .before .before .before .before .before .before) in (omega (arith, s .pre .0), (s .pre .1 .0, (else-parts _ _ _ _ (s .pre .1 .1) (else-one _ _ _ _ (s .pre .1 .1) ((c .before .before .before) .if1 .left))) .0)))  -- emit-block-requires
     (λ c. search needs)  -- enum-known-block
@@ -33,12 +33,12 @@ emit-else-ok t = emit-else-lts.spec (set-jump-reads.Asked, set-jump-reads.Learnt
     (λ c. search needs)  -- same-length-4
     (λ c. search needs)  -- same-length-5
     (λ c. search needs)  -- same-length-6
-    (λ c. let at-emit-block = c .before .before .before .before .before .before .before .before in let at-if1 = at-emit-block .before .before .before .before in let s = at-if1 .before .before .before .before .before .before .before in let n = (else-parts _ _ _ _ (s .pre .1 .1) (else-one _ _ _ _ (s .pre .1 .1) (at-if1 .if1 .left))) .1 in full-by _ _ _ _ _ _ _ _ _ _ _ _ _ _ _ (c .enum-told .given .1) (at-emit-block .emit-block .ensures) (else-within _ _ _ _ _ _ (namesAt (s .args .tree .now) (s .args .slots .now)) (s .pre .1 .0 .sound) (s .pre .1 .2) _ (branchesAt (s .args .depth) 0 (s .args .tree .now) (s .args .at)) (else-value (s .args .depth) (s .args .tree .now) (branchesAt (s .args .depth) 0 (s .args .tree .now) (s .args .at)) (s .args .at + 1) n)))  -- returns-2
-    (λ c. let at-block = c .before .before in let at-emit-block = at-block .before .before .before .before .before .before .before .before in let at-if1 = at-emit-block .before .before .before .before in let s = at-if1 .before .before .before .before .before .before .before in let n = (else-parts _ _ _ _ (s .pre .1 .1) (else-one _ _ _ _ (s .pre .1 .1) (at-if1 .if1 .left))) .1 in else-above _ _ _ _ _ _ (namesAt (s .args .tree .now) (s .args .slots .now)) (s .pre .1 .0 .sound) (s .pre .1 .2) _ (branchesAt (s .args .depth) 0 (s .args .tree .now) (s .args .at)) (else-value (s .args .depth) (s .args .tree .now) (branchesAt (s .args .depth) 0 (s .args .tree .now) (s .args .at)) (s .args .at + 1) n) _ _ _ _ (done-left _ _ _ _ _ _ _ _ _ _ _ (at-block .block .given .1) (at-emit-block .emit-block .ensures)))  -- sub-over
+    (λ c. let at-emit-block = c .before .before .before .before .before .before .before .before in let at-if1 = at-emit-block .before .before .before .before in let s = at-if1 .before .before .before .before .before .before .before in let n = (else-parts _ _ _ _ (s .pre .1 .1) (else-one _ _ _ _ (s .pre .1 .1) (at-if1 .if1 .left))) .1 in full-by _ _ _ _ _ _ _ _ _ _ _ _ _ _ _ (c .enum-told .given .1) (at-emit-block .emit-block .ensures) (else-within _ _ _ _ _ _ (slotNames (s .args .tree .now) (s .args .slots .now)) (s .pre .1 .0 .sound) (s .pre .1 .2) _ (branchesAt (s .args .depth) 0 (s .args .tree .now) (s .args .at)) (else-value (s .args .depth) (s .args .tree .now) (branchesAt (s .args .depth) 0 (s .args .tree .now) (s .args .at)) (s .args .at + 1) n)))  -- returns-2
+    (λ c. let at-block = c .before .before in let at-emit-block = at-block .before .before .before .before .before .before .before .before in let at-if1 = at-emit-block .before .before .before .before in let s = at-if1 .before .before .before .before .before .before .before in let n = (else-parts _ _ _ _ (s .pre .1 .1) (else-one _ _ _ _ (s .pre .1 .1) (at-if1 .if1 .left))) .1 in else-above _ _ _ _ _ _ (slotNames (s .args .tree .now) (s .args .slots .now)) (s .pre .1 .0 .sound) (s .pre .1 .2) _ (branchesAt (s .args .depth) 0 (s .args .tree .now) (s .args .at)) (else-value (s .args .depth) (s .args .tree .now) (branchesAt (s .args .depth) 0 (s .args .tree .now) (s .args .at)) (s .args .at + 1) n) _ _ _ _ (done-left _ _ _ _ _ _ _ _ _ _ _ (at-block .block .given .1) (at-emit-block .emit-block .ensures)))  -- sub-over
     (λ c. let s = c .before .before .before .before .before .before .before .before .before .before .before .before .before .before .before .before .before .before .before .before .before .before .before .before in omega (arith, s .pre .1 .0 .sound .words, s .pre .1 .0 .sound .limited .instructions))  -- cast-set-jump-2
     (λ c. let s = c .before .before .before .before .before .before .before .before .before .before .before .before .before .before .before .before .before .before .before .before .before .before .before .before in omega (arith, s .pre .1 .2))  -- sub-set-jump-2
-    (λ c κs. let at-block = c .before .before .before .before .before in let at-emit-block = at-block .before .before .before .before .before .before .before .before in let at-if1 = at-emit-block .before .before .before .before in let s = at-if1 .before .before .before .before .before .before .before in let n = (else-parts _ _ _ _ (s .pre .1 .1) (else-one _ _ _ _ (s .pre .1 .1) (at-if1 .if1 .left))) .1 in let g = else-above _ _ _ _ _ _ (namesAt (s .args .tree .now) (s .args .slots .now)) (s .pre .1 .0 .sound) (s .pre .1 .2) _ (branchesAt (s .args .depth) 0 (s .args .tree .now) (s .args .at)) (else-value (s .args .depth) (s .args .tree .now) (branchesAt (s .args .depth) 0 (s .args .tree .now) (s .args .at)) (s .args .at + 1) n) _ _ _ _ (done-left _ _ _ _ _ _ _ _ _ _ _ (at-block .block .given .1) (at-emit-block .emit-block .ensures)) in ((done-left _ _ _ _ _ _ _ _ _ _ _ (at-block .block .given .1) (at-emit-block .emit-block .ensures)) .sound, omega (arith, g, s .pre .1 .2), omega arith, omega arith, omega (arith, (done-left _ _ _ _ _ _ _ _ _ _ _ (at-block .block .given .1) (at-emit-block .emit-block .ensures)) .sound .words, (done-left _ _ _ _ _ _ _ _ _ _ _ (at-block .block .given .1) (at-emit-block .emit-block .ensures)) .sound .limited .instructions)))  -- set-jump-requires-2
+    (λ c κs. let at-block = c .before .before .before .before .before in let at-emit-block = at-block .before .before .before .before .before .before .before .before in let at-if1 = at-emit-block .before .before .before .before in let s = at-if1 .before .before .before .before .before .before .before in let n = (else-parts _ _ _ _ (s .pre .1 .1) (else-one _ _ _ _ (s .pre .1 .1) (at-if1 .if1 .left))) .1 in let g = else-above _ _ _ _ _ _ (slotNames (s .args .tree .now) (s .args .slots .now)) (s .pre .1 .0 .sound) (s .pre .1 .2) _ (branchesAt (s .args .depth) 0 (s .args .tree .now) (s .args .at)) (else-value (s .args .depth) (s .args .tree .now) (branchesAt (s .args .depth) 0 (s .args .tree .now) (s .args .at)) (s .args .at + 1) n) _ _ _ _ (done-left _ _ _ _ _ _ _ _ _ _ _ (at-block .block .given .1) (at-emit-block .emit-block .ensures)) in ((done-left _ _ _ _ _ _ _ _ _ _ _ (at-block .block .given .1) (at-emit-block .emit-block .ensures)) .sound, omega (arith, g, s .pre .1 .2), omega arith, omega arith, omega (arith, (done-left _ _ _ _ _ _ _ _ _ _ _ (at-block .block .given .1) (at-emit-block .emit-block .ensures)) .sound .words, (done-left _ _ _ _ _ _ _ _ _ _ _ (at-block .block .given .1) (at-emit-block .emit-block .ensures)) .sound .limited .instructions)))  -- set-jump-requires-2
     (λ c. search needs)  -- same-length-7
     (λ c. search needs)  -- same-length-8
     (λ c. search needs)  -- same-length-9
-    (λ c. let at-set-jump2 = c .before .before in let at-block = at-set-jump2 .before .before .before .before .before .before in let at-emit-block = at-block .before .before .before .before .before .before .before .before in let at-if1 = at-emit-block .before .before .before .before in let s = at-if1 .before .before .before .before .before .before .before in let n = (else-parts _ _ _ _ (s .pre .1 .1) (else-one _ _ _ _ (s .pre .1 .1) (at-if1 .if1 .left))) .1 in else-emits _ _ _ _ _ _ (namesAt (s .args .tree .now) (s .args .slots .now)) (s .pre .1 .0 .sound) (s .pre .1 .2) _ (branchesAt (s .args .depth) 0 (s .args .tree .now) (s .args .at)) (else-value (s .args .depth) (s .args .tree .now) (branchesAt (s .args .depth) 0 (s .args .tree .now) (s .args .at)) (s .args .at + 1) n) _ _ _ _ (done-left _ _ _ _ _ _ _ _ _ _ _ (at-block .block .given .1) (at-emit-block .emit-block .ensures)) _ _ ((emits-done _ _ _ _ _ _ _ _ _ _ _ (at-block .block .given .1) (at-emit-block .emit-block .ensures)) .0 ∙ sym (else-ends (s .args .depth) (s .args .tree .now) (branchesAt (s .args .depth) 0 (s .args .tree .now) (s .args .at)) (s .args .at + 1) n)) (at-set-jump2 .set-jump2 .ensures))  -- returns-3
+    (λ c. let at-set-jump2 = c .before .before in let at-block = at-set-jump2 .before .before .before .before .before .before in let at-emit-block = at-block .before .before .before .before .before .before .before .before in let at-if1 = at-emit-block .before .before .before .before in let s = at-if1 .before .before .before .before .before .before .before in let n = (else-parts _ _ _ _ (s .pre .1 .1) (else-one _ _ _ _ (s .pre .1 .1) (at-if1 .if1 .left))) .1 in else-emits _ _ _ _ _ _ (slotNames (s .args .tree .now) (s .args .slots .now)) (s .pre .1 .0 .sound) (s .pre .1 .2) _ (branchesAt (s .args .depth) 0 (s .args .tree .now) (s .args .at)) (else-value (s .args .depth) (s .args .tree .now) (branchesAt (s .args .depth) 0 (s .args .tree .now) (s .args .at)) (s .args .at + 1) n) _ _ _ _ (done-left _ _ _ _ _ _ _ _ _ _ _ (at-block .block .given .1) (at-emit-block .emit-block .ensures)) _ _ ((emits-done _ _ _ _ _ _ _ _ _ _ _ (at-block .block .given .1) (at-emit-block .emit-block .ensures)) .0 ∙ sym (else-ends (s .args .depth) (s .args .tree .now) (branchesAt (s .args .depth) 0 (s .args .tree .now) (s .args .at)) (s .args .at + 1) n)) (at-set-jump2 .set-jump2 .ensures))  -- returns-3

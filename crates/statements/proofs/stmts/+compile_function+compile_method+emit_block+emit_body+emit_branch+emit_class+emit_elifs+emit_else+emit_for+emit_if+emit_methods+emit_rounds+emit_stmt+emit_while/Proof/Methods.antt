@@ -9,7 +9,7 @@ use Rattle.state.specs.State.{stateOf}
 use Rattle.state.specs.Steps.{methodsAt, methodsOf}
 use Rattle.statements.specs.Lowering.{MethodsLowerable}
 use Rattle.statements.proofs.Arms.{methods-parts}
-use Rattle.statements.proofs.Sequences.{ready-with}
+use Rattle.statements.proofs.Sequences.{sole-with}
 use Rattle.statements.proofs.Functions.{compiles-done, compiles-full}
 use Rattle.statements.proofs.Classes.{over-lists, Listing, listing-start, listing-none, listing-full, number-small, listing-room, listing-next, listing-at, methods-is, methods-over, methods-at}
 use Rattle.statements.proofs.stmts.compile_method.Reads as compile-method
@@ -29,7 +29,7 @@ abbrev μ-loop : emit-methods-lts.MeasureT-loop
 pub emit-methods-ok : {M : Type 1} (t : ℕ) → emit-methods-lts.Closed (compile-method-below t, compile-method.Post, insert-method-reads.Asked, insert-method-reads.Learnt) (emit-methods-at t) emit-methods.Post M
 emit-methods-ok t = emit-methods-lts.spec (compile-method-below t, compile-method.Post, insert-method-reads.Asked, insert-method-reads.Learnt) (emit-methods-at t) emit-methods.Post Inv-loop μ-loop
     (λ c. let s = c .before .before .before .before .before in (refl, refl, refl, refl, s .pre .1 .1, listing-start _ _ _ _ _ _ _ _ (s .pre .1 .0 .sound)))  -- loop-holds
-    (λ c κs. let s = (c .before .before .before .before .before .before .before .before .before .before) in let j = (c .before .before .before .before) .loop in (omega (arith, s .pre .0), (ready-with (s .pre .1 .0) (j .inv .5 .sound), (methods-parts _ _ _ _ ((c .before .before .before) .loop-test .taken) (j .inv .4)) .0)))  -- compile-method-requires
+    (λ c κs. let s = (c .before .before .before .before .before .before .before .before .before .before) in let j = (c .before .before .before .before) .loop in (omega (arith, s .pre .0), (sole-with (s .pre .1 .0) (j .inv .5 .sound), (methods-parts _ _ _ _ ((c .before .before .before) .loop-test .taken) (j .inv .4)) .0)))  -- compile-method-requires
     (λ c. search needs)  -- enum-known-one
     (λ c. search needs)  -- enum-told
     (λ c. let at-compile-method = c .before .before .before .before .before .before .before .before in let at-loop = at-compile-method .before .before .before .before .before in let j = at-loop .loop in at-compile-method .compile-method .kept .1 .1 .1 .0 ∙ j .inv .0)  -- same-length

@@ -25,7 +25,7 @@ emit-rounds-ok t = emit-rounds-lts.spec (ask-iterator-reads.Asked, ask-iterator-
     (λ c. search needs)  -- same-length-2
     (λ c. search needs)  -- same-length-3
     (λ c. let at-ask-iterator = c .before .before .before .before .before .before .before .before in let s = at-ask-iterator .before .before .before .before .before .before .before .before .before in full-by _ _ _ _ _ _ _ _ _ _ _ _ _ _ _ (c .enum-told .given .1) (at-ask-iterator .ask-iterator .ensures) (head-within _ _ _ _ (base-below _ _ _ _ _ _ (s .pre .1 .0 .sound)) (lengthens-seq (lengthens-takeIter _ _ _) (lengthens-block _ _))))  -- returns
-    (λ c κs. let at-asked = c .before .before .before .before in let at-ask-iterator = at-asked .before .before .before .before .before .before .before .before in let s = at-ask-iterator .before .before .before .before .before .before .before .before .before in ((done-left _ _ _ _ _ _ _ _ _ _ _ (at-asked .asked .given .1) (at-ask-iterator .ask-iterator .ensures)) .sound, omega (arith, s .pre .1 .0 .slots-few), omega (arith, s .pre .1 .1 .byte, s .pre .1 .0 .tree-short), s .pre .1 .3))  -- take-iterator-requires
+    (λ c κs. let at-asked = c .before .before .before .before in let at-ask-iterator = at-asked .before .before .before .before .before .before .before .before in let s = at-ask-iterator .before .before .before .before .before .before .before .before .before in ((done-left _ _ _ _ _ _ _ _ _ _ _ (at-asked .asked .given .1) (at-ask-iterator .ask-iterator .ensures)) .sound, s .pre .1 .0 .slotted, omega (arith, s .pre .1 .1 .byte, s .pre .1 .0 .tree-short), s .pre .1 .3))  -- take-iterator-requires
     (λ c. search needs)  -- enum-known-taken
     (λ c. search needs)  -- enum-told-2
     (λ c. search needs)  -- same-length-4
