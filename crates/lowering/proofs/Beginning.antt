@@ -17,6 +17,7 @@ use Rattle.state.proofs.Enclosing.{symbol-functions}
 use Rattle.state.proofs.Within.{within-begun}
 use Rattle.code.specs.Nesting.{begunWith, Begins}
 use Rattle.code.proofs.Begun.{begun-names}
+use Rattle.state.specs.Index.{noneCovered}
 use Rattle.names.specs.Made.{madeName}
 use Rattle.names.specs.declared.Made.the-variants.{Main}
 use Rattle.names.proofs.Naming.{symbol-small}
