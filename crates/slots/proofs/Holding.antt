@@ -21,7 +21,7 @@ pub bool-or : (b : Bool) → (b ≡ true) ⊎ (b ≡ false)
 bool-or true = inl refl
 bool-or false = inr refl
 
-clash : {C : Type 0} (b : Bool) → b ≡ true → b ≡ false → C
+pub clash : {C : Type 0} (b : Bool) → b ≡ true → b ≡ false → C
 clash b e f = let z : _≡_ {A = Bool} true false = cc in let y : _≡_ {A = ℕ} 0 1 = cc in absurd (omega arith)
 
 same-eq : (x y : Name) → same x y ≡ true → x ≡ y

@@ -8,6 +8,7 @@ pub mod Gathering
 pub mod Params
 pub mod Holding
 pub mod Ordering
+pub mod Spotting
 pub mod Removing
 pub mod Referring
 pub mod Capturing

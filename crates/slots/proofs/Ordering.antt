@@ -18,7 +18,7 @@ use Rattle.slots.proofs.Adding.{names-append}
 
 -- ---- byte order
 
-below-none : (xs : Name) → below xs [] ≡ false
+pub below-none : (xs : Name) → below xs [] ≡ false
 unfolding below
 below-none [] = refl
 below-none (x ∷ xs) = refl
@@ -27,15 +27,15 @@ module _ (x y : ℕ) (xs ys : Name) where
   by-first : Bool → Bool
   by-first b = elim b [ true ↦ below xs ys | false ↦ ltb x y ]
 
-  below-less : x < y → below (x ∷ xs) (y ∷ ys) ≡ true
+  pub below-less : x < y → below (x ∷ xs) (y ∷ ys) ≡ true
   unfolding below by-first
   below-less h = ap by-first (ne-eqb x y (λ z. omega arith)) ∙ lt-ltb x y h
 
-  below-more : y < x → below (x ∷ xs) (y ∷ ys) ≡ false
+  pub below-more : y < x → below (x ∷ xs) (y ∷ ys) ≡ false
   unfolding below by-first
   below-more h = ap by-first (ne-eqb x y (λ z. omega arith)) ∙ le-ltb x y (omega arith)
 
-  below-same : x ≡ y → below (x ∷ xs) (y ∷ ys) ≡ below xs ys
+  pub below-same : x ≡ y → below (x ∷ xs) (y ∷ ys) ≡ below xs ys
   unfolding below by-first
   below-same e = ap by-first (eq-eqb x y e)
 
@@ -75,11 +75,11 @@ module _ (a b : Name) (i : ℕ) (l : Tied a b i) where
 
 -- ---- insertion
 
-insert-here : (x y : Name) (ys : List Name) → below x y ≡ true → insert x (y ∷ ys) ≡ x ∷ y ∷ ys
+pub insert-here : (x y : Name) (ys : List Name) → below x y ≡ true → insert x (y ∷ ys) ≡ x ∷ y ∷ ys
 unfolding insert
 insert-here x y ys e = rw (e, insert)
 
-insert-after : (x y : Name) (ys : List Name) → below x y ≡ false → insert x (y ∷ ys) ≡ y ∷ insert x ys
+pub insert-after : (x y : Name) (ys : List Name) → below x y ≡ false → insert x (y ∷ ys) ≡ y ∷ insert x ys
 unfolding insert
 insert-after x y ys e = rw (e, insert)
 

@@ -1,2 +1,3 @@
 pub mod Slotted
 pub mod Held
+pub mod Order

@@ -7,6 +7,7 @@ ghost use Rattle.definitions.specs.Bytes.{below};
 ghost use Rattle.definitions.specs.Slots.{insert, sort};
 ghost use Rattle.state.specs.Words.{nameAt};
 ghost use Rattle.state.specs.State.{namesAt};
+ghost use Rattle.slots.specs.Order.{InOrder, Spot};
 
 // Whether the first bytes come before the second.
 pub fn is_below(a: &[u8], b: &[u8]) -> bool
@@ -28,20 +29,35 @@ pub fn is_below(a: &[u8], b: &[u8]) -> bool
     false
 }
 
+// How many of the names after the first, which are in order, the first does not come before.
+fn find_spot(tree: &[u8], places: &[u32]) -> usize
+    requires { ⌜ (0 < length (now places)) × InOrder (namesAt (now tree) (drop 1 (now places))) ⌝ }
+    ensures { λ r. ⌜ Spot (now (tree .entry)) (getD (now (places .entry)) 0 0) (now (places .entry)) r ⌝ }
+{
+    let name = name_part(tree, places[0] as usize);
+    let mut low = 0;
+    let mut high = places.len() - 1;
+    while low < high {
+        let middle = (low + high) / 2;
+        if is_below(name, name_part(tree, places[middle + 1] as usize)) {
+            high = middle;
+        } else {
+            low = middle + 1;
+        }
+    }
+    low
+}
+
 // The first name is put where it belongs among the others, which are in order.
 fn insert_first(tree: &[u8], places: &mut [u32])
-    requires { ⌜ 0 < length (now places) ⌝ }
+    requires { ⌜ (0 < length (now places)) × InOrder (namesAt (now tree) (drop 1 (now places))) ⌝ }
     ensures { λ r. ⌜ namesAt (now (tree .entry)) (now (places .exit)) ≡ insert (nameAt (now (tree .entry)) (getD (now (places .entry)) 0 0)) (namesAt (now (tree .entry)) (drop 1 (now (places .entry)))) ⌝ }
 {
     let x = places[0];
+    let spot = find_spot(tree, places);
     let mut j = 0;
-    while j + 1 < places.len() {
-        let y = places[j + 1];
-        if is_below(name_part(tree, x as usize), name_part(tree, y as usize)) {
-            places[j] = x;
-            return;
-        }
-        places[j] = y;
+    while j < spot {
+        places[j] = places[j + 1];
         j += 1;
     }
     places[j] = x;

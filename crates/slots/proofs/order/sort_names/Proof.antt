@@ -1,4 +1,5 @@
 use Rattle.slots.proofs.Ordering.{Sorting, sort-start, sort-first, sort-put, sort-done}
+use Rattle.slots.proofs.Spotting.{sort-rest}
 use lib.ListN.{length, length-drop}
 use borrow.Author.Needs.{needs}
 use native.Mathlib.Omega.{arith}
@@ -23,7 +24,7 @@ sort-names-spec = tie.close (tie.spec Inv-loop μ-loop
     (λ c. let h = c .before .loop .inv .most in let k = c .before .loop .inv .kept in omega arith)  -- sub-insert-first
     (λ c. let h = c .before .loop .inv .most in let k = c .before .loop .inv .kept in omega arith)  -- part-insert-first-start
     (λ c. let h = c .before .loop .inv .most in let k = c .before .loop .inv .kept in omega arith)  -- part-insert-first-end
-    (λ c κs. sort-first _ _ _ _ _ (c .before .before .loop .inv) (c .before .loop-test .taken) refl)  -- insert-first-requires
+    (λ c κs. (sort-first _ _ _ _ _ (c .before .before .loop .inv) (c .before .loop-test .taken) refl, sort-rest _ _ _ _ _ (c .before .before .loop .inv) (c .before .loop-test .taken) refl))  -- insert-first-requires
     (λ c. omega arith)  -- loop-less
     (λ c. sort-put _ _ _ _ _ (c .before .before .before .before .before .loop .inv) (c .before .before .before .before .loop-test .taken) refl _ (c .before .before .insert-first .kept .1 .0) (c .before .before .insert-first .ensures))  -- loop-again
     (λ c. c .before .loop .inv .kept)  -- same-length
