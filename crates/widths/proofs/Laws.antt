@@ -13,7 +13,7 @@ use Rattle.definitions.proofs.Begins.{le-or-gt}
 use Rattle.widths.proofs.Table.{every, at}
 
 -- an entry that is no key is 0
-no-key : (x : ℕ) (b : Bool) → T (eqb x 0 || b) → b ≡ false → 0 ≡ x
+pub no-key : (x : ℕ) (b : Bool) → T (eqb x 0 || b) → b ≡ false → 0 ≡ x
 no-key zero b t e = refl
 no-key (suc x) b t e = absurd (subst T (ap (λ (a : Bool). a || b) (ne-eqb (suc x) 0 (λ z. omega arith)) ∙ e) t)
 
