@@ -1,34 +1,16 @@
 // An instruction's bytes from its word.
 use crate::numbers::write_number;
 use names::spell::byte;
+use widths::first_width;
+use widths::second_width;
 ghost use mathlib.Core.Path.{_≡_};
 ghost use mathlib.Core.List.{List};
 ghost use Prim.Native.Nat.{ℕ, _+_, _≤_, _<_, _^_};
 ghost use lib.ListN.{length};
-ghost use Rattle.definitions.specs.Instruction.{firstWidth, secondWidth, encode};
+ghost use Rattle.definitions.specs.Instruction.{encode};
 ghost use Rattle.state.specs.Words.{numberAt, instrOf};
 ghost use Rattle.state.specs.Words as Words;
 ghost use Rattle.module.specs.Sections.{Wrote};
-
-// Bytes of an instruction's first operand.
-pub fn first_width(op: usize) -> u8
-    ensures { λ r. ⌜ (r ≡ firstWidth op) × (r ≤ 8) ⌝ }
-{
-    byte(
-        b"\x08\x08\x04\x00\x00\x00\x04\x00\x00\x02\x02\x02\x02\x00\x00\x00\x00\x00\x00\x00\x00\x00\x00\x00\x00\x00\x00\x00\x04\x04\x04\x02\x01\x00\x01\x02\x02\x02\x02\x02\x02\x02\x02\x00\x00\x02",
-        op,
-    )
-}
-
-// Bytes of its second operand.
-pub fn second_width(op: usize) -> u8
-    ensures { λ r. ⌜ (r ≡ secondWidth op) × (r ≤ 1) ⌝ }
-{
-    byte(
-        b"\x00\x00\x00\x00\x00\x00\x00\x00\x00\x00\x00\x00\x00\x00\x00\x00\x00\x00\x00\x00\x00\x00\x00\x00\x00\x00\x00\x00\x00\x00\x00\x01\x01\x00\x00\x01\x00\x00\x00\x00\x00\x00\x00\x00\x00\x01",
-        op,
-    )
-}
 
 // The opcode of a word: a small integer is a ConstI64.
 fn opcode(w: u32) -> usize

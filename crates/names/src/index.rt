@@ -14,7 +14,7 @@ pub fn hash(name: &[u8]) -> u32
     let mut h: u32 = 0;
     let mut i = 0;
     while i < name.len() {
-        h = (h * 31 + name[i] as u32) % 65536;
+        h = (h * 30011 + name[i] as u32) % 65536;
         i += 1;
     }
     h

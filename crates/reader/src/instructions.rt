@@ -3,31 +3,11 @@ use crate::Cursor;
 use crate::Found;
 use crate::Met;
 use crate::numbers::number_at;
-use crate::numbers::table_entry;
+use widths::first_width;
+use widths::second_width;
 ghost use mathlib.Core.Path.{_≡_};
-ghost use Prim.Native.Nat.{_≤_, _<_};
-ghost use Rattle.definitions.specs.Instruction.{firstWidth, secondWidth};
+ghost use Prim.Native.Nat.{_≤_};
 ghost use Rattle.reader.specs.View.{foundAt, metAt};
-
-// Bytes of an instruction's first operand.
-fn first_width(op: usize) -> u8
-    ensures { λ r. ⌜ (r ≡ firstWidth op) × (r ≤ 8) ⌝ }
-{
-    table_entry(
-        b"\x08\x08\x04\x00\x00\x00\x04\x00\x00\x02\x02\x02\x02\x00\x00\x00\x00\x00\x00\x00\x00\x00\x00\x00\x00\x00\x00\x00\x04\x04\x04\x02\x01\x00\x01\x02\x02\x02\x02\x02\x02\x02\x02\x00\x00\x02",
-        op,
-    )
-}
-
-// Bytes of its second operand.
-fn second_width(op: usize) -> u8
-    ensures { λ r. ⌜ (r ≡ secondWidth op) × (r ≤ 1) ⌝ }
-{
-    table_entry(
-        b"\x00\x00\x00\x00\x00\x00\x00\x00\x00\x00\x00\x00\x00\x00\x00\x00\x00\x00\x00\x00\x00\x00\x00\x00\x00\x00\x00\x00\x00\x00\x00\x01\x01\x00\x00\x01\x00\x00\x00\x00\x00\x00\x00\x00\x00\x01",
-        op,
-    )
-}
 
 // The instruction at `at`: what listings, counts and the run read.
 pub fn instruction_at(bytes: &[u8], at: usize) -> Found

@@ -3,19 +3,9 @@ use crate::Skipped;
 ghost use mathlib.Core.Path.{_≡_};
 ghost use mathlib.Core.List.{[], _∷_};
 ghost use Prim.Native.Nat.{_+_, _^_, _≤_, _<_};
-ghost use lib.ListN.{length, getD};
+ghost use lib.ListN.{length};
 ghost use Rattle.definitions.specs.Bytes.{byte, counted};
 ghost use Rattle.reader.specs.View.{skipAt, numberAt};
-
-// An entry of a table, 0 past its end.
-pub fn table_entry(table: &[u8], i: usize) -> u8
-    ensures { λ r. ⌜ r ≡ getD (now (table .entry)) i 0 ⌝ }
-{
-    if i < table.len() {
-        return table[i];
-    }
-    0
-}
 
 // The big-endian number of `width` bytes at `at`, byte by byte.
 fn long_number(bytes: &[u8], at: usize, width: usize) -> u64

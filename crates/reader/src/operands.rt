@@ -1,6 +1,5 @@
 // Questions 20 and 21 of one instruction.
 use crate::Counts;
-use crate::numbers::table_entry;
 ghost use mathlib.Core.Path.{_≡_};
 ghost use Prim.Native.Nat.{_<_};
 ghost use Rattle.definitions.specs.Instruction.{numbersOf};
@@ -12,24 +11,43 @@ ghost use Rattle.reader.specs.Asks.{kindOf, existsIn, opStands, askOp, a
 fn is_builtin(n: u64) -> bool
     ensures { λ r. ⌜ r ≡ isBuiltin registry n ⌝ }
 {
-    if 15 <= n {
-        return false;
+    match n {
+        0 => true,
+        1 => true,
+        2 => true,
+        3 => true,
+        4 => true,
+        5 => true,
+        6 => true,
+        7 => true,
+        10 => true,
+        11 => true,
+        12 => true,
+        13 => true,
+        14 => true,
+        _ => false,
     }
-    let known = table_entry(
-        b"\x01\x01\x01\x01\x01\x01\x01\x01\x00\x00\x01\x01\x01\x01\x01",
-        n as usize,
-    );
-    known == 1
 }
 
 // What an instruction's first operand numbers.
 fn kind_of(op: usize) -> u8
     ensures { λ r. ⌜ r ≡ kindOf (numbersOf op) ⌝ }
 {
-    table_entry(
-        b"\x00\x00\x01\x00\x00\x00\x02\x00\x00\x03\x03\x04\x04\x00\x00\x00\x00\x00\x00\x00\x00\x00\x00\x00\x00\x00\x00\x00\x00\x00\x00\x05\x06\x00\x00\x04\x04\x04\x00\x00\x00\x00\x00\x00\x00\x05",
-        op,
-    )
+    match op {
+        2 => 1,
+        6 => 2,
+        9 => 3,
+        10 => 3,
+        11 => 4,
+        12 => 4,
+        31 => 5,
+        32 => 6,
+        35 => 4,
+        36 => 4,
+        37 => 4,
+        45 => 5,
+        _ => 0,
+    }
 }
 
 // A number of that kind exists.

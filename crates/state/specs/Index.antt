@@ -9,7 +9,7 @@ use Rattle.definitions.specs.Bytes.{Name}
 -- a hash of 16 bits
 unfoldable pub hashFrom : ℕ → List ℕ → ℕ
 hashFrom h [] = h
-hashFrom h (b ∷ bs) = hashFrom ((h * 31 + b) % 65536) bs
+hashFrom h (b ∷ bs) = hashFrom ((h * 30011 + b) % 65536) bs
 
 unfoldable pub hashOf : List ℕ → ℕ
 hashOf x = hashFrom 0 x

@@ -5,9 +5,7 @@ use Rattle.reader.proofs.instructions.instruction_at.Statement.{stateme
 use Rattle.reader.proofs.instructions.instruction_at.Tie as tie
 use Rattle.reader.proofs.instructions.instruction_at.Reads as reads
 use Rattle.reader.proofs.instructions.instruction_at.Lts as lts
-use Rattle.reader.proofs.instructions.first_width.Reads as first-width-reads
 use Rattle.reader.proofs.numbers.number_at.Reads as number-at-reads
-use Rattle.reader.proofs.instructions.second_width.Reads as second-width-reads
 
 pub instruction-at-spec : {M : Type 1} → statement M
 instruction-at-spec = tie.close (tie.spec
