@@ -122,11 +122,9 @@ slot-told t slots p b r y s q e f =
     ap (ltb r) (sym (places-length slots))
     ∙ found-slot t (drop slotsFrom slots) p (nameAt t p) r refl (slot-found t slots (nameAt t p) y b r s e (q .is ∙ ap (bucketOf slotsFrom) (sym e)) f)
 
-module _ (t ps : List ℕ) (n p b r : ℕ) (y : Name) (v : Indexed t n ps) (room : slotsFrom + n < length ps) (q : IsBucket b t p) (e : y ≡ nameAt t p)
+-- whether one of the first n slots has the name, by the search of the code
+module _ (t ps : List ℕ) (n p b r : ℕ) (y : Name) (v : Indexed t n ps) (room : slotsFrom + n ≤ length ps) (q : IsBucket b t p) (e : y ≡ nameAt t p)
     (f : r ≡ soughtFrom (getD ps b 0) y (namesAt t (take (slotsFrom + n - slotsFrom) (drop slotsFrom ps)))) where
-  abbrev x : Name
-  x = nameBytes t p
-
   abbrev places : List ℕ
   places = take n (drop slotsFrom ps)
 
@@ -140,9 +138,17 @@ module _ (t ps : List ℕ) (n p b r : ℕ) (y : Name) (v : Indexed t n ps) (room
   unfolding firstNames
   place = place-found t ps places (nameAt t p) y b r (v .at) e (q .is ∙ ap (bucketOf slotsFrom) (sym e)) (f ∙ ap (λ (l : List ℕ). soughtFrom (getD ps b 0) y (namesAt t l)) part)
 
-  told : ltb r n ≡ member (nameBytes t p) (firstNames t n ps)
+  pub kept-told : ltb r n ≡ member (nameBytes t p) (firstNames t n ps)
   unfolding firstNames
-  told = ap (ltb r) (sym part-length) ∙ found-slot t places p (nameAt t p) r refl place
+  kept-told = ap (ltb r) (sym part-length) ∙ found-slot t places p (nameAt t p) r refl place
+
+module _ (t ps : List ℕ) (n p b r : ℕ) (y : Name) (v : Indexed t n ps) (room : slotsFrom + n < length ps) (q : IsBucket b t p) (e : y ≡ nameAt t p)
+    (f : r ≡ soughtFrom (getD ps b 0) y (namesAt t (take (slotsFrom + n - slotsFrom) (drop slotsFrom ps)))) where
+  abbrev x : Name
+  x = nameBytes t p
+
+  told : ltb r n ≡ member (nameBytes t p) (firstNames t n ps)
+  told = kept-told t ps n p b r y v (omega arith) q e f
 
   pub added-there : r < n → Added n t ps n (add (nameBytes t p) (firstNames t n ps))
   added-there h = record { names = sym (add-there x (firstNames t n ps) (sym told ∙ lt-ltb r n h)); most = omega arith; indexed = v }

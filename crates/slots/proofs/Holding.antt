@@ -62,18 +62,25 @@ pub member-none : (x : Name) → member x [] ≡ false
 unfolding member position
 member-none x = refl
 
-member-next : (x y : Name) (ys : List Name) → same x y ≡ false → member x (y ∷ ys) ≡ member x ys
+pub member-next : (x y : Name) (ys : List Name) → same x y ≡ false → member x (y ∷ ys) ≡ member x ys
 member-next x y ys h = member-cons x y ys ∙ ap (λ (b : Bool). b || member x ys) h
 
 member-here : (x y : Name) (ys : List Name) → same x y ≡ true → member x (y ∷ ys) ≡ true
 member-here x y ys h = member-cons x y ys ∙ ap (λ (b : Bool). b || member x ys) h
 
 -- what is not in a list is not its first
-not-first : (x y : Name) (ys : List Name) → member x (y ∷ ys) ≡ false → same x y ≡ false
+pub not-first : (x y : Name) (ys : List Name) → member x (y ∷ ys) ≡ false → same x y ≡ false
 not-first x y ys h = ⊎-elim (λ (e : same x y ≡ true). clash (member x (y ∷ ys)) (member-here x y ys e) h) (λ (e : same x y ≡ false). e) (bool-or (same x y))
 
-not-rest : (x y : Name) (ys : List Name) → member x (y ∷ ys) ≡ false → member x ys ≡ false
+pub not-rest : (x y : Name) (ys : List Name) → member x (y ∷ ys) ≡ false → member x ys ≡ false
 not-rest x y ys h = sym (member-next x y ys (not-first x y ys h)) ∙ h
+
+pub not-other : (x y : Name) → same x y ≡ false → same y x ≡ false
+not-other x y h =
+    ⊎-elim
+    (λ (e : same y x ≡ true). clash (same y y) (subst (λ (z : Name). same y z ≡ true) (sym (same-eq y x e)) e) (subst (λ (z : Name). same z y ≡ false) (sym (same-eq y x e)) h))
+    (λ (e : same y x ≡ false). e)
+    (bool-or (same y x))
 
 -- equal names are in the same lists
 member-same : (x y : Name) (zs : List Name) → same x y ≡ true → member x zs ≡ member y zs

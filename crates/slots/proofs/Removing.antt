@@ -14,12 +14,12 @@ use Rattle.definitions.specs.Slots.{without}
 use Rattle.state.specs.Words.{nameAt}
 use Rattle.state.specs.State.{namesAt, slotsFrom}
 use Rattle.parts.specs.Places.{countAt, nameBytes, nameEnd, namesFrom, AllThere, ParamsAt, paramsAt}
-use Rattle.parts.proofs.NameLaws.{occurs-again, same-as, member-found}
+use Rattle.parts.proofs.NameLaws.{occurs-again, same-as, member-found, there-next, from-more, from-none}
 use Rattle.slots.specs.Slotted.{leading, firstNames, Indexed, Reindexed, Removed}
-use Rattle.slots.specs.Held.{Keeps}
+use Rattle.slots.specs.Held.{Keeps, Spares}
 use Rattle.slots.proofs.Adding.{name-bytes, leading-set, names-append, mid-front}
 use Rattle.slots.proofs.Reindexing.{reindexed-names}
-use Rattle.slots.proofs.Holding.{bool-or, member-none, without-none, without-in, without-out}
+use Rattle.slots.proofs.Holding.{bool-or, member-none, member-next, not-first, not-rest, not-other, without-none, without-in, without-out}
 
 -- ---- whether a name is a parameter
 
@@ -116,14 +116,33 @@ without-all : (xs : List Name) → without [] xs ≡ xs
 without-all [] = without-none []
 without-all (x ∷ xs) = without-out [] x xs (member-none x) ∙ ap (λ (l : List Name). x ∷ l) (without-all xs)
 
--- no parameters
-pub removed-none : (t : List ℕ) (a c n : ℕ) (ps : List ℕ) → c ≡ countAt t a → c ≡ 0 → Indexed t n ps → Removed n t a n ps ps
-unfolding namesFrom
-removed-none t a c n ps e z v = record {
-  names = sym (ap (λ (q : List Name). without q (firstNames t n ps)) (sym (params-names t a c e) ∙ ap (λ (m : ℕ). namesFrom t m (a + 2)) z) ∙ without-all (firstNames t n ps));
-  most = omega arith;
-  indexed = v;
-}
+-- a parameter that is none of the names
+without-spared : (x : Name) (qs xs : List Name) → member x xs ≡ false → without (x ∷ qs) xs ≡ without qs xs
+without-spared x qs [] h = without-none (x ∷ qs) ∙ sym (without-none qs)
+without-spared x qs (y ∷ ys) h =
+    let r = without-spared x qs ys (not-rest x y ys h) in
+    let e : member y (x ∷ qs) ≡ member y qs = member-next y x qs (not-other x y (not-first x y ys h)) in
+    ⊎-elim
+    (λ (m : member y qs ≡ true). without-in (x ∷ qs) y ys (e ∙ m) ∙ r ∙ sym (without-in qs y ys m))
+    (λ (m : member y qs ≡ false). without-out (x ∷ qs) y ys (e ∙ m) ∙ ap (λ (l : List Name). y ∷ l) r ∙ sym (without-out qs y ys m))
+    (bool-or (member y qs))
+
+-- the parameters that are left
+pub spared-next : (t : List ℕ) (n p e : ℕ) (xs : List Name) → e ≡ nameEnd t p → 0 < n → AllThere t n p → member (nameBytes t p) xs ≡ false →
+    (without (namesFrom t n p) xs ≡ without (namesFrom t (n - 1) e) xs) × AllThere t (n - 1) e
+spared-next t n p e xs h g a m = (
+  ap (λ (q : List Name). without q xs) (from-more t n p g) ∙ without-spared (nameBytes t p) (namesFrom t (n - 1) (nameEnd t p)) xs m ∙ ap (λ (k : ℕ). without (namesFrom t (n - 1) k) xs) (sym h),
+  there-next t n p e h g a,
+)
+
+pub spared-end : (t : List ℕ) (n p : ℕ) (xs : List Name) → n ≤ 0 → without (namesFrom t n p) xs ≡ xs
+spared-end t n p xs h = ap (λ (q : List Name). without q xs) (from-none t n p h) ∙ without-all xs
+
+-- no parameter is among the names
+pub removed-none : (b : Bool) (t : List ℕ) (a c n : ℕ) (ps : List ℕ) → c ≡ countAt t a → Spares b (namesFrom t c (a + 2)) (firstNames t n ps) → b ≡ true → Indexed t n ps → Removed n t a n ps ps
+unfolding Spares
+removed-none true t a c n ps e s h v = record { names = sym (ap (λ (q : List Name). without q (firstNames t n ps)) (sym (params-names t a c e)) ∙ s); most = omega arith; indexed = v }
+removed-none false t a c n ps e s h v = let z : _≡_ {A = ℕ} 0 1 = cc in absurd (omega arith)
 
 module _ (t : List ℕ) (a c n : ℕ) (ps part : List ℕ) (r : ℕ) (e : c ≡ countAt t a) (room : slotsFrom + n ≤ length ps) (w : length part ≡ length (take (length ps - slotsFrom) (drop slotsFrom ps)))
     (g : (leading t r part ≡ without (namesFrom t c (a + 2)) (leading t n (take (length ps - slotsFrom) (drop slotsFrom ps)))) × (r ≤ n)) where

@@ -43,6 +43,11 @@ unfoldable pub Keeps : ℕ → Bool → Type 0
 Keeps r true = r ≡ 0
 Keeps r false = r ≡ 1
 
+-- none of the names ps is among xs, so nothing goes
+unfoldable pub Spares : Bool → List Name → List Name → Type 0
+Spares true ps xs = without ps xs ≡ xs
+Spares false ps xs = Unit {0}
+
 -- what a walk over expressions asks: a short tree, the parent's slots, room for as many and one more, names that have slots
 pub record Keeping (t parent ps : List ℕ) (n : ℕ) : Type 0 where
   pub short : length t ≤ 32768

@@ -28,6 +28,17 @@ pub fn is_slot(tree: &[u8], slots: &[u32], at: usize, b: usize) -> bool
     find_from(tree, &slots[2048..], k, name_part(tree, at)) < slots.len() - 2048
 }
 
+// Whether one of the first n slots has the name at `at`.
+pub fn is_kept(tree: &[u8], slots: &[u32], n: u32, at: usize) -> bool
+    requires { ⌜ Indexed (now tree) n (now slots) × (slotsFrom + n ≤ length (now slots)) ⌝ }
+    ensures { λ r. ⌜ r ≡ member (nameBytes (now (tree .entry)) at) (firstNames (now (tree .entry)) n (now (slots .entry))) ⌝ }
+{
+    let b = bucket_at(tree, at);
+    let k = slots[b];
+    let end = 2048 + n as usize;
+    find_from(tree, &slots[2048..end], k, name_part(tree, at)) < n as usize
+}
+
 // The first n slots with the name at `at`, whose bucket is b, unless they have it: how many they are then.
 pub fn add_at(tree: &[u8], slots: &mut [u32], n: u32, at: usize, b: usize) -> u32
     requires { ⌜ Indexed (now tree) n (now slots) × (slotsFrom + n < length (now slots)) × (n ≤ 255) × (at < 2 ^ 32) × IsBucket b (now tree) at ⌝ }

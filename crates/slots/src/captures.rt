@@ -2,6 +2,7 @@
 use crate::Locals;
 use crate::add::add_at;
 use crate::add::bucket_at;
+use crate::add::is_kept;
 use crate::add::is_slot;
 use crate::collect::put_params;
 use crate::index::append_slots;
@@ -25,7 +26,7 @@ ghost use Rattle.state.specs.State.{slotsFrom, slotNames, Slots};
 ghost use Rattle.parts.specs.Places.{nameBytes, nameEnd, There, namesFrom, AllThere, ParamsAt, paramsAt};
 ghost use Rattle.exprs.specs.ExprAt.{exprAt, exprsAt, ExprReads, ExprsRead, TwoAt, secondAt, CallAt, ListAt, listAt, DictAt, pairsAt, AttributeAt, LambdaAt};
 ghost use Rattle.slots.specs.Slotted.{leading, firstNames, Indexed, Removed, Collected};
-ghost use Rattle.slots.specs.Held.{addHeld, heldExpr, heldExprs, Keeping, Keeps, Referred, Captured};
+ghost use Rattle.slots.specs.Held.{addHeld, heldExpr, heldExprs, Keeping, Keeps, Spares, Referred, Captured};
 
 // The next position in the tree, and how many names are kept.
 pub struct Refs {
@@ -77,13 +78,30 @@ fn remove_names(tree: &[u8], from: usize, count: u32, places: &mut [u32], n: u32
     kept
 }
 
+// Whether none of the `count` names from `from` on is among the first n.
+fn spares(tree: &[u8], from: usize, count: u32, places: &[u32], n: u32) -> bool
+    requires { ⌜ AllThere (now tree) count from × Indexed (now tree) n (now places) × (slotsFrom + n ≤ length (now places)) ⌝ }
+    ensures { λ r. ⌜ Spares r (namesFrom (now (tree .entry)) count from) (firstNames (now (tree .entry)) n (now (places .entry))) ⌝ }
+{
+    let mut p = from;
+    let mut left = count;
+    while 0 < left {
+        if is_kept(tree, places, n, p) {
+            return false;
+        }
+        p = name_end(tree, p);
+        left -= 1;
+    }
+    true
+}
+
 // The first n names without the parameters at `params`: how many they are then.
 fn remove_params(tree: &[u8], params: usize, places: &mut [u32], n: u32) -> u32
     requires { ⌜ ParamsAt (now tree) params × (slotsFrom + n ≤ length (now places)) × Indexed (now tree) n (now places) ⌝ }
     ensures { λ r. ⌜ Removed r (now (tree .entry)) params n (now (places .entry)) (now (places .exit)) ⌝ }
 {
     let count = u16_at(tree, params);
-    if count == 0 {
+    if spares(tree, params + 2, count, places, n) {
         return n;
     }
     let kept = remove_names(tree, params + 2, count, &mut places[2048..], n);
