@@ -1,5 +1,5 @@
 /*
- * Rulketoos for C and for languages that call C: spine scripts' trees and
+ * Rulketoos for C and for languages that call C: pyhyeon scripts' trees and
  * modules, checked, lowered, read and run by proved code.
  *
  * Link target/staticlib/libexports.a, which `rt staticlib exports` writes.
