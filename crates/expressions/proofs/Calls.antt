@@ -20,7 +20,6 @@ use Rattle.parts.specs.Places.{Node, countAt, nameBytes, nameEnd}
 use Rattle.exprs.specs.ExprAt.{exprAt, listAt, ExprReads, binaryOf, intAt, floatAt, stringAt, varAt, unaryAt, binaryAt, callAt, attributeAt, displayAt, dictAt, indexAt, lambdaAt}
 use Rattle.exprs.proofs.ExprViews.{expr-deep, expr-known, view-none, view-false, view-true, view-int, view-float, view-string, view-var, view-unary, view-binary, view-call, view-attribute, view-list, view-dict, view-tuple, view-set, view-tree-set, view-index, view-lambda, unary-of, binary-of, and-of, or-of}
 use Rattle.state.specs.Words.{nameAt}
-use Rattle.state.specs.Fits.{fitsExpr}
 use Rattle.state.specs.State.{State, stateOf, emitAt, Sound}
 use Rattle.state.specs.declared.Counts.{Counts}
 use Rattle.state.specs.declared.Limits.{Limits}
@@ -133,7 +132,7 @@ module _ (d : ℕ) (t : List ℕ) (names : List Name) (p : ℕ) (r : CallLowerab
       ⨟ exprsCode d (countAt t (nameEnd t (exprAt (d - 1) t (p + 1) .end))) t names (nameEnd t (exprAt (d - 1) t (p + 1) .end) + 2)
       ⨟ intern (nameAt t (exprAt (d - 1) t (p + 1) .end)) (λ k. one (Instruction.CallMethod k (countAt t (nameEnd t (exprAt (d - 1) t (p + 1) .end))))))
       (listAt d t (nameEnd t (exprAt (d - 1) t (p + 1) .end)) .end)
-  unfolding attributeAt emitExpr view callBy askExpr fitsExpr
+  unfolding attributeAt emitExpr view callBy askExpr
   call-method k =
       let v = view-attribute d t p (r .callee .reads) k in
       let o = exprAt (d - 1) t (p + 1) in
@@ -145,7 +144,7 @@ module _ (d : ℕ) (t : List ℕ) (names : List Name) (p : ℕ) (r : CallLowerab
         parts = record {
           deep = omega arith;
           callee = record {
-            object = record { reads = v .parts .object; args = and-both _ _ (ap (askExpr 13) (sym w) ∙ r .callee .args) .0; fits = ap (fitsExpr names) (sym w) ∙ r .callee .fits };
+            object = record { reads = v .parts .object; args = and-both _ _ (ap (askExpr 13) (sym w) ∙ r .callee .args) .0 };
             name = v .parts .name;
           };
           args = args;

@@ -11,7 +11,6 @@ use Rattle.definitions.specs.Lower.{emitExprs}
 use Rattle.parts.specs.Places.{Node}
 use Rattle.exprs.specs.ExprAt.{exprAt, exprsAt, consAt}
 use Rattle.exprs.proofs.ExprViews.{view-exprs-none, view-exprs-more}
-use Rattle.state.specs.Fits.{fitsExprs}
 use Rattle.state.specs.State.{stateOf, emitAt, Sound, Within, Ready, Left, Paced}
 use Rattle.state.specs.declared.Counts.{Counts}
 use Rattle.state.specs.declared.Limits.{Limits}
@@ -33,15 +32,14 @@ pub record More (d n : ℕ) (t : List ℕ) (names : List Name) (p : ℕ) : Type 
   pub end : exprsAt d n t p .end ≡ exprsAt d (n - 1) t (exprAt d t p .end) .end
 
 pub more-view : (d n : ℕ) (t : List ℕ) (names : List Name) (p : ℕ) → 0 < n → LowerableMany d n t names p → More d n t names p
-unfolding consAt emitExprs askExprs fitsExprs
+unfolding consAt emitExprs askExprs
 more-view d n t names p h r =
     let v = view-exprs-more d n t p h (r .reads) in
     let w = ap (λ (x : Node Exprs). x .value) (v .is) in
     let a = and-both _ _ (ap (askExprs 13) (sym w) ∙ r .args) in
-    let f = and-both _ _ (ap (fitsExprs names) (sym w) ∙ r .fits) in
     record {
-      head = record { reads = v .parts .head; args = a .0; fits = f .0 };
-      rest = record { reads = v .parts .rest; args = a .1; fits = f .1 };
+      head = record { reads = v .parts .head; args = a .0 };
+      rest = record { reads = v .parts .rest; args = a .1 };
       code = ap (emitExprs names) w;
       end = ap (λ (x : Node Exprs). x .end) (v .is);
     }

@@ -17,22 +17,19 @@ use Rattle.definitions.specs.Lower.{Callee, builtinCallee, functionCallee, valu
 use Rattle.parts.specs.Places.{countAt, Counted, nameEnd, There, ParamsAt, paramsAt}
 use Rattle.exprs.specs.ExprAt.{exprAt, exprsAt, ExprReads, ExprsRead, unaryOps, binaryOps}
 use Rattle.state.specs.Words.{nameAt}
-use Rattle.state.specs.Fits.{fitsExpr, fitsExprs}
 use Rattle.state.specs.State.{namesAt}
 
 -- ---- expressions
 
--- the expression at p reads, and questions 13 and 14 pass it
+-- the expression at p reads, and question 13 passes it
 pub record Lowerable (d : ℕ) (t : List ℕ) (names : List Name) (p : ℕ) : Type 0 where
   pub reads : ExprReads d t p
   pub args : askExpr 13 (exprAt d t p .value) ≡ true
-  pub fits : fitsExpr names (exprAt d t p .value) ≡ true
 
 -- n expressions from p on
 pub record LowerableMany (d n : ℕ) (t : List ℕ) (names : List Name) (p : ℕ) : Type 0 where
   pub reads : ExprsRead d n t p
   pub args : askExprs 13 (exprsAt d n t p .value) ≡ true
-  pub fits : fitsExprs names (exprsAt d n t p .value) ≡ true
 
 -- their code
 abbrev pub exprCode : ℕ → List ℕ → List Name → ℕ → Emit
@@ -142,7 +139,6 @@ lambdaNames d t names p = paramsAt t p .value ++ captures names (paramsAt t p .v
 pub record LambdaLowerable (d : ℕ) (t : List ℕ) (names : List Name) (p : ℕ) : Type 0 where
   pub params : ParamsAt t p
   pub few : countAt t p ≤ 255
-  pub slots : length (lambdaNames d t names p) ≤ 255
   pub body : Lowerable d t (lambdaNames d t names p) (paramsAt t p .end)
 
 -- its code
