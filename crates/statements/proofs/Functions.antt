@@ -26,7 +26,7 @@ use Rattle.state.specs.declared.Numbered.the-variants.{At, Over}
 use Rattle.state.proofs.Views.{stack-length, function-count}
 use Rattle.state.proofs.Enclosing.{at-function, symbol-functions}
 use Rattle.state.proofs.Growth.{Lengthens, Lengthened, lengthens-seq, lengthens-emits, lengthens-block}
-use Rattle.state.proofs.Within.{within-down, within-begun, within-function}
+use Rattle.state.proofs.Within.{within-down, within-begun, within-function, function-slots}
 use Rattle.state.proofs.Answers.{paced-more}
 use Rattle.code.specs.Nesting.{begunWith, bodyOf, Moved, Begins}
 use Rattle.slots.specs.declared.Locals.{Locals}
@@ -208,6 +208,12 @@ module _ (t made code tables : List ℕ) (c : Counts) (l : Limits) (sound : Soun
             (record { state = state-is; base = D .base; paced = paced-more (B .1 .paced) (paced-more (A .paced) (D .paced)); sound = D .sound })
             (omega (arith, B .2, A .paced .methods, D .paced .methods))
             (omega (arith, same-count, ended-number, B .0, function-count t made code tables c l sound))
+
+-- a function with more than 255 slots is over the limits
+pub slots-over : (d : ℕ) (t : List ℕ) (p : ℕ) (b : Bool) (base : ℕ) (l : Limits) (s : State) → 255 < length (localsAt d t p) → Within l (emitAt base (functionCode d t p b) s) → ⊥
+slots-over d t p b base l s h w =
+    let k = function-slots base _ _ (localsAt d t p) _ s (lengthens-seq (lengthens-block (localsAt d t p) (defBlockAt d t p .value)) (lengthens-emits (endOf b))) w in
+    omega arith
 
 -- a method is a function with a method's end
 pub method-is : (d : ℕ) (t : List ℕ) (p : ℕ) (b : Bool) (base : ℕ) (s : State) → b ≡ same (nameAt t p) init

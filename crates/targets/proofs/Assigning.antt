@@ -16,7 +16,6 @@ use Rattle.parts.proofs.Nodes.{Seen}
 use Rattle.exprs.specs.ExprAt.{exprAt, varAt, attributeAt, displayAt, indexAt, ListAt, listAt, secondAt}
 use Rattle.exprs.proofs.ExprViews.{expr-deep, expr-inside, view-var, view-attribute, view-tuple, view-index}
 use Rattle.state.specs.Words.{nameAt}
-use Rattle.state.specs.Fits.{fitsExpr, fitsTarget}
 use Rattle.state.specs.State.{State, emitAt, Emits}
 use Rattle.state.specs.declared.Counts.{Counts}
 use Rattle.state.specs.declared.Limits.{Limits}
@@ -48,9 +47,6 @@ module _ (d : ℕ) (t : List ℕ) (names : List Name) (p : ℕ) (r : AssignLower
     asked : askExpr 13 (x .value) ≡ true
     asked = ap (λ (n : Node Expr). askExpr 13 (n .value)) (sym is) ∙ r .args
 
-    fitted : fitsTarget names (x .value) ≡ true
-    fitted = ap (λ (n : Node Expr). fitsTarget names (n .value)) (sym is) ∙ r .fits
-
     valued : Lowerable d t names (x .end)
     valued = subst (λ (n : Node Expr). Lowerable d t names (n .end)) is (r .value)
 
@@ -70,13 +66,13 @@ module _ (d : ℕ) (t : List ℕ) (names : List Name) (p : ℕ) (r : AssignLower
   pub arm-attribute : getD t p 0 ≡ 10 → AssignArm (AttributeAssigned d t names (p + 1)) d t names p
       (exprCode (d - 1) t names (p + 1) ⨟ exprCode d t names (nameEnd t (exprAt (d - 1) t (p + 1) .end)) ⨟ intern (nameAt t (exprAt (d - 1) t (p + 1) .end)) (λ k. one (StoreAttr k)))
       (exprAt d t (nameEnd t (exprAt (d - 1) t (p + 1) .end)) .end)
-  unfolding attributeAt view assignBy nameBytes nameAt askExpr fitsTarget
+  unfolding attributeAt view assignBy nameBytes nameAt askExpr
   arm-attribute k =
       let v = view-attribute d t p (r .target) k in
       record {
         parts = record {
           deep = assign-deep;
-          object = record { reads = v .parts .object; args = and-both _ _ (asked _ (v .is)) .0; fits = fitted _ (v .is) };
+          object = record { reads = v .parts .object; args = and-both _ _ (asked _ (v .is)) .0 };
           name = v .parts .name;
           value = valued _ (v .is);
         };
@@ -102,17 +98,16 @@ module _ (d : ℕ) (t : List ℕ) (names : List Name) (p : ℕ) (r : AssignLower
   pub arm-index : getD t p 0 ≡ 16 → AssignArm (IndexAssigned d t names (p + 1)) d t names p
       (exprCode (d - 1) t names (p + 1) ⨟ exprCode (d - 1) t names (exprAt (d - 1) t (p + 1) .end) ⨟ exprCode d t names (secondAt (d - 1) t (p + 1) .end) ⨟ one StoreIndex)
       (exprAt d t (secondAt (d - 1) t (p + 1) .end) .end)
-  unfolding indexAt view assignBy askExpr fitsTarget
+  unfolding indexAt view assignBy askExpr
   arm-index k =
       let v = view-index d t p (r .target) k in
       let a = and-both _ _ (asked _ (v .is)) in
-      let f = and-both _ _ (fitted _ (v .is)) in
       record {
         parts = record {
           deep = assign-deep;
           pair = record {
-            first = record { reads = v .parts .first; args = a .0; fits = f .0 };
-            second = record { reads = v .parts .second; args = a .1; fits = f .1 };
+            first = record { reads = v .parts .first; args = a .0 };
+            second = record { reads = v .parts .second; args = a .1 };
           };
           value = valued _ (v .is);
         };

@@ -1,4 +1,4 @@
--- What the lowering of an assignment asks of the tree: that the target at p and the value after it read, and that questions 13 and 14 pass them.
+-- What the lowering of an assignment asks of the tree: that the target at p and the value after it read, and that question 13 passes them.
 use Prim.Native.Nat.{ℕ, _+_, _-_, _<_}
 use mathlib.Core.Path.{_≡_}
 use mathlib.Core.Bool.{true}
@@ -10,13 +10,11 @@ use Rattle.definitions.specs.Wellformed.{askExpr}
 use Rattle.definitions.specs.Lower.{assignBy}
 use Rattle.parts.specs.Places.{There, nameEnd}
 use Rattle.exprs.specs.ExprAt.{exprAt, ExprReads, ListAt, secondAt}
-use Rattle.state.specs.Fits.{fitsTarget}
 use Rattle.expressions.specs.Lowerable.{Lowerable, exprCode}
 
 pub record AssignLowerable (d : ℕ) (t : List ℕ) (names : List Name) (p : ℕ) : Type 0 where
   pub target : ExprReads d t p
   pub args : askExpr 13 (exprAt d t p .value) ≡ true
-  pub fits : fitsTarget names (exprAt d t p .value) ≡ true
   pub value : Lowerable d t names (exprAt d t p .end)
 
 -- the assignment's code, by its target's form
