@@ -70,14 +70,14 @@ pub fn emit_expr(
     }
     let a = at + 1;
     match kind {
-        6 => emit_load(tree, slots, made, code, tables, a, name_end(tree, a), c, l),
-        7 => emit_unary(tree, a, depth - 1, slots, made, code, tables, c, l),
-        8 => emit_binary(tree, a, depth - 1, slots, made, code, tables, c, l),
-        9 => emit_call(tree, a, depth - 1, slots, made, code, tables, c, l),
-        10 => emit_attribute(tree, a, depth - 1, slots, made, code, tables, c, l),
-        16 => emit_two(tree, a, depth - 1, 43, slots, made, code, tables, c, l),
-        17 => emit_lambda(tree, a, depth - 1, slots, made, code, tables, c, l),
-        _ => emit_display(tree, a, depth - 1, kind, slots, made, code, tables, c, l),
+        6 => return emit_load(tree, slots, made, code, tables, a, name_end(tree, a), c, l),
+        7 => return emit_unary(tree, a, depth - 1, slots, made, code, tables, c, l),
+        8 => return emit_binary(tree, a, depth - 1, slots, made, code, tables, c, l),
+        9 => return emit_call(tree, a, depth - 1, slots, made, code, tables, c, l),
+        10 => return emit_attribute(tree, a, depth - 1, slots, made, code, tables, c, l),
+        16 => return emit_two(tree, a, depth - 1, 43, slots, made, code, tables, c, l),
+        17 => return emit_lambda(tree, a, depth - 1, slots, made, code, tables, c, l),
+        _ => return emit_display(tree, a, depth - 1, kind, slots, made, code, tables, c, l),
     }
 }
 

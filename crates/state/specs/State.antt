@@ -234,12 +234,12 @@ pub record Left (k : Counts) (tree made code tables : List ℕ) (c : Counts) (l 
   pub paced : Paced c k
   pub sound : Sound tree made code tables k l
 
--- the next position and the wanted state; or the wanted state is over the limits
+-- the next position and the wanted state; or the wanted state is over the limits or has a function of more than 255 slots
 unfoldable pub Emits : Emitted → List ℕ → List ℕ → List ℕ → List ℕ → Counts → Limits → ℕ → State → Type 0
 Emits (Done n k) tree made code tables c l next want = (n ≡ next) × Left k tree made code tables c l want
 Emits Full tree made code tables c l next want = Within l want → ⊥
 
--- the number and the wanted state; or the wanted state is over the limits
+-- the number and the wanted state; or the wanted state is over the limits or has a function of more than 255 slots
 unfoldable pub Numbers : Numbered → List ℕ → List ℕ → List ℕ → List ℕ → Counts → Limits → ℕ → State → Type 0
 Numbers (At i k) tree made code tables c l number want = (i ≡ number) × Left k tree made code tables c l want
 Numbers Over tree made code tables c l number want = Within l want → ⊥

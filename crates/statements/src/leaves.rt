@@ -111,12 +111,12 @@ pub fn emit_simple(
     let kind = tree[at];
     let a = at + 1;
     match kind {
-        0 => put_op(tree, made, code, tables, 46, 0, 0, a, c, l),
-        1 => put_op(tree, made, code, tables, 47, 0, 0, a, c, l),
-        2 => Emitted::Done(a, c),
-        3 => emit_value(tree, a, depth - 1, 7, slots, made, code, tables, c, l),
-        4 => emit_value(tree, a, depth - 1, 33, slots, made, code, tables, c, l),
-        _ => emit_assign(tree, a, depth - 1, slots, made, code, tables, c, l),
+        0 => return put_op(tree, made, code, tables, 46, 0, 0, a, c, l),
+        1 => return put_op(tree, made, code, tables, 47, 0, 0, a, c, l),
+        2 => return Emitted::Done(a, c),
+        3 => return emit_value(tree, a, depth - 1, 7, slots, made, code, tables, c, l),
+        4 => return emit_value(tree, a, depth - 1, 33, slots, made, code, tables, c, l),
+        _ => return emit_assign(tree, a, depth - 1, slots, made, code, tables, c, l),
     }
 }
 

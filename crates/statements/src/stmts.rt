@@ -62,15 +62,15 @@ pub fn emit_stmt(
 {
     let kind = tree[at];
     match kind {
-        6 => emit_if(tree, at + 1, depth - 1, slots, made, code, tables, c, l),
-        7 => emit_while(tree, at + 1, depth - 1, slots, made, code, tables, c, l),
-        8 => emit_for(tree, at + 1, depth - 1, slots, made, code, tables, c, l),
-        9 => compile_function(tree, at + 1, depth - 1, false, made, code, tables, c, l),
+        6 => return emit_if(tree, at + 1, depth - 1, slots, made, code, tables, c, l),
+        7 => return emit_while(tree, at + 1, depth - 1, slots, made, code, tables, c, l),
+        8 => return emit_for(tree, at + 1, depth - 1, slots, made, code, tables, c, l),
+        9 => return compile_function(tree, at + 1, depth - 1, false, made, code, tables, c, l),
         10 => {
             let next = skip_stmt(tree, at, depth);
-            emit_class(tree, at + 1, depth - 1, next, made, code, tables, c, l)
+            return emit_class(tree, at + 1, depth - 1, next, made, code, tables, c, l);
         }
-        _ => emit_simple(tree, at, depth, slots, made, code, tables, c, l),
+        _ => return emit_simple(tree, at, depth, slots, made, code, tables, c, l),
     }
 }
 
