@@ -17,7 +17,7 @@ use Rattle.definitions.specs.Lower.{lambdaName, load, loads, closure, emitExpr}
 use Rattle.parts.specs.Places.{paramsAt, countAt}
 use Rattle.exprs.specs.ExprAt.{exprAt, ExprReads}
 use Rattle.state.specs.Words.{nameAt}
-use Rattle.state.specs.State.{State, stateOf, namesAt, slotsFrom, emitAt, withTables, symbolNumber, withSymbol, Sound, Within, Left, foundOr}
+use Rattle.state.specs.State.{State, stateOf, namesAt, slotsFrom, Slots, emitAt, withTables, symbolNumber, withSymbol, Sound, Within, Left, foundOr}
 use Rattle.state.specs.Steps.{begun, ended}
 use Rattle.state.specs.declared.Counts.{Counts}
 use Rattle.state.specs.declared.Limits.{Limits}
@@ -29,8 +29,8 @@ use Rattle.state.proofs.Answers.{emits-full, full-emits, done-emits, paced-more
 use Rattle.state.proofs.Views.{stack-length, function-count}
 use Rattle.state.proofs.Emission.{at-seq, at-one, at-by}
 use Rattle.state.proofs.Enclosing.{at-function, symbol-functions}
-use Rattle.state.proofs.Growth.{Lengthened, Lengthens, lengthens-one, lengthens-seq, functions-longer}
-use Rattle.state.proofs.Within.{within-one, within-down, within-begun, within-function}
+use Rattle.state.proofs.Growth.{Lengthened, Lengthens, lengthens-one, lengthens-seq, lengthens-expr, functions-longer}
+use Rattle.state.proofs.Within.{within-one, within-down, within-begun, within-function, closure-slots}
 use Rattle.code.specs.Nesting.{begunWith, bodyOf, Moved, Begins}
 use Rattle.code.proofs.Begun.{begun-names, begun-body}
 use Rattle.code.proofs.Setting.{map-drop}
@@ -313,7 +313,7 @@ slot-load base t slots x i s h e =
     ∙ at-load base (namesAt t slots) x s
 
 -- a lambda's slots, in places
-module _ (d : ℕ) (t : List ℕ) (names : List Name) (p : ℕ) (r : LambdaLowerable d t names p) (inner : List ℕ) (e : namesAt t inner ≡ lambdaNames d t names p) where
+module _ (d : ℕ) (t : List ℕ) (names : List Name) (p : ℕ) (r : LambdaLowerable d t p) (inner : List ℕ) (e : namesAt t inner ≡ lambdaNames d t names p) where
   abbrev params : List Name
   params = paramsAt t p .value
 
@@ -337,19 +337,17 @@ module _ (d : ℕ) (t : List ℕ) (names : List Name) (p : ℕ) (r : LambdaLower
   lambda-parts few = record {
     few = few;
     params = omega (arith, params-count t p, names-length t inner, ap length e, length-append params taken);
-    body = subst (λ (ns : List Name). Lowerable d t ns (paramsAt t p .end)) (sym e) (r .body);
+    body = r .body;
   }
 
 -- a lambda's function and closure, by the code's arity, body and slots
-module _ (d : ℕ) (t : List ℕ) (names : List Name) (p : ℕ) (r : LambdaLowerable d t names p) (arity body : ℕ) (inner : List ℕ) (a : arity ≡ countAt t p) (b : body ≡ paramsAt t p .end)
+module _ (d : ℕ) (t : List ℕ) (names : List Name) (p : ℕ) (r : LambdaLowerable d t p) (arity body : ℕ) (inner : List ℕ) (a : arity ≡ countAt t p) (b : body ≡ paramsAt t p .end)
     (e : namesAt t inner ≡ paramsAt t p .value ++ captures names (paramsAt t p .value) (exprAt d t body .value)) where
   slots-are : namesAt t inner ≡ lambdaNames d t names p
   slots-are = e ∙ ap (λ (q : ℕ). paramsAt t p .value ++ captures names (paramsAt t p .value) (exprAt d t q .value)) b
 
-  pub lambda-ready : ClosureLowerable d t arity inner body × CapturesHeld t names arity inner
-  lambda-ready =
-      let h : length inner ≤ 255 = omega (arith, names-length t inner, ap length slots-are, r .slots) in
-      (rw (a, b) (lambda-parts d t names p r inner slots-are h), rw a (lambda-held d t names p r inner slots-are))
+  pub lambda-ready : length inner ≤ 255 → ClosureLowerable d t arity inner body × CapturesHeld t names arity inner
+  lambda-ready h = (rw (a, b) (lambda-parts d t names p r inner slots-are h), rw a (lambda-held d t names p r inner slots-are))
 
   pub lambda-lowers : (x : Emitted) (made code tables made′ code′ tables′ : List ℕ) (c : Counts) (l : Limits)
       → Lowers x (closureCode d t names arity inner body) (exprAt d t body .end) t made code tables made′ code′ tables′ c l
@@ -358,13 +356,19 @@ module _ (d : ℕ) (t : List ℕ) (names : List Name) (p : ℕ) (r : LambdaLower
       lowers-as x _ _ _ _ t made code tables made′ code′ tables′ c l h
       (lambda-closure d t names p r inner slots-are ∙ (λ i. closureCode d t names (sym a i) inner (sym b i))) (ap (λ (q : ℕ). exprAt d t q .end) (sym b))
 
--- no lambda that is lowered has more than 255 slots
-pub lambda-many : (d : ℕ) (t : List ℕ) (names : List Name) (p body : ℕ) → LambdaLowerable d t names p → body ≡ paramsAt t p .end
-    → 255 < length (paramsAt t p .value ++ captures names (paramsAt t p .value) (exprAt d t body .value)) → ⊥
-lambda-many d t names p body r b h =
+-- slots after the index are few
+pub slots-few : (t slots : List ℕ) → Slots t slots → length (drop slotsFrom slots) ≤ 255
+slots-few t slots s = omega (arith, length-drop slotsFrom slots, s .few)
+
+-- a lambda with more than 255 slots is over the limits
+pub lambda-over : (d : ℕ) (t : List ℕ) (names : List Name) (p body : ℕ) (made code tables made′ code′ tables′ : List ℕ) (c : Counts) (l : Limits) (next : ℕ) → Sound t made code tables c l → body ≡ paramsAt t p .end
+    → 255 < length (paramsAt t p .value ++ captures names (paramsAt t p .value) (exprAt d t body .value)) → Lowers Full (lambdaCode d t names p) next t made code tables made′ code′ tables′ c l
+unfolding emitExpr
+lambda-over d t names p body made code tables made′ code′ tables′ c l next s b h =
+    full-emits t made′ code′ tables′ c l next _ (λ w.
     let e = ap (λ (q : ℕ). length (paramsAt t p .value ++ captures names (paramsAt t p .value) (exprAt d t q .value))) b in
-    let k = r .slots in
-    omega arith
+    let k = closure-slots (c .base) names (length (paramsAt t p .value)) (lambdaNames d t names p) _ _ (stateOf t made code tables c) (base-below t made code tables c l s) (lengthens-expr _ (exprAt d t (paramsAt t p .end) .value)) w in
+    omega arith)
 
 pub reads-at : (d : ℕ) (t : List ℕ) (p q : ℕ) → q ≡ p → ExprReads d t p → ExprReads d t q
 reads-at d t p q e r = subst (ExprReads d t) (sym e) r

@@ -43,19 +43,19 @@ pub fn emit_literal(
         (now (tree .entry)) (now (made .entry)) (now (code .entry)) (now (tables .entry)) (now (made .entry)) (now (code .exit)) (now (tables .exit)) c l ⌝ }
 {
     match x {
-        Literal::None => put_op(tree, made, code, tables, 5, 0, 0, at + 1, c, l),
+        Literal::None => return put_op(tree, made, code, tables, 5, 0, 0, at + 1, c, l),
         Literal::Bool(b) => {
             if b {
                 return put_op(tree, made, code, tables, 3, 0, 0, at + 1, c, l);
             }
-            put_op(tree, made, code, tables, 4, 0, 0, at + 1, c, l)
+            return put_op(tree, made, code, tables, 4, 0, 0, at + 1, c, l);
         }
-        Literal::Int(_) => put_place(tree, made, code, tables, 0, at + 1, at + 9, c, l),
-        Literal::Float(_) => put_place(tree, made, code, tables, 1, at + 1, at + 9, c, l),
-        Literal::Nan(_) => put_place(tree, made, code, tables, 1, at + 1, at + 9, c, l),
+        Literal::Int(_) => return put_place(tree, made, code, tables, 0, at + 1, at + 9, c, l),
+        Literal::Float(_) => return put_place(tree, made, code, tables, 1, at + 1, at + 9, c, l),
+        Literal::Nan(_) => return put_place(tree, made, code, tables, 1, at + 1, at + 9, c, l),
         Literal::Text { start: _, len: _ } => {
             let n = u16_at(tree, at + 1) as usize;
-            emit_string(tree, made, code, tables, at + 1, at + 3 + n, c, l)
+            return emit_string(tree, made, code, tables, at + 1, at + 3 + n, c, l);
         }
     }
 }
@@ -117,9 +117,9 @@ pub fn load_callee(
         (now (tree .entry)) (now (made .entry)) (now (code .entry)) (now (tables .entry)) (now (made .entry)) (now (code .exit)) (now (tables .exit)) c l ⌝ }
 {
     match callee {
-        Callee::Builtin(_) => Emitted::Done(next, c),
-        Callee::Function(_) => Emitted::Done(next, c),
-        Callee::Value => emit_load(tree, slots, made, code, tables, at, next, c, l),
+        Callee::Builtin(_) => return Emitted::Done(next, c),
+        Callee::Function(_) => return Emitted::Done(next, c),
+        Callee::Value => return emit_load(tree, slots, made, code, tables, at, next, c, l),
     }
 }
 
@@ -140,8 +140,8 @@ pub fn put_call(
         (now (tree .entry)) (now (made .entry)) (now (code .entry)) (now (tables .entry)) (now (made .entry)) (now (code .exit)) (now (tables .entry)) c l ⌝ }
 {
     match callee {
-        Callee::Builtin(i) => put_op(tree, made, code, tables, 32, i, n, next, c, l),
-        Callee::Function(i) => put_op(tree, made, code, tables, 31, i, n, next, c, l),
-        Callee::Value => put_op(tree, made, code, tables, 34, n, 0, next, c, l),
+        Callee::Builtin(i) => return put_op(tree, made, code, tables, 32, i, n, next, c, l),
+        Callee::Function(i) => return put_op(tree, made, code, tables, 31, i, n, next, c, l),
+        Callee::Value => return put_op(tree, made, code, tables, 34, n, 0, next, c, l),
     }
 }

@@ -24,10 +24,10 @@ use Rattle.state.specs.declared.Counts.{Counts}
 use Rattle.state.specs.declared.Limits.{Limits}
 use Rattle.state.specs.declared.Emitted.{Emitted}
 use Rattle.state.specs.declared.Emitted.the-variants.{Done, Full}
-use Rattle.state.proofs.Views.{within-sound}
+use Rattle.state.proofs.Views.{few-slots, within-sound}
 use Rattle.state.proofs.SlotsFit.{slots-fit, targets-asked}
 use Rattle.module.specs.Sections.{Wrote}
-use Rattle.lowering.specs.Compiled.{Fitting, treeBlock, Compiles}
+use Rattle.lowering.specs.Compiled.{treeBlock, Compiles}
 use Rattle.lowering.specs.Lowered.{told, Answers, Lowers}
 use Rattle.lowering.specs.declared.Lowered.{Lowered}
 use Rattle.lowering.specs.declared.Lowered.the-variants.{Wrote as Written, Refused}
@@ -52,9 +52,9 @@ tables-within l s w =
     rw (le-leb (length (s .tables .functions)) (l .functions) (w .functions), le-leb (length (s .tables .symbols)) (l .symbols) (w .symbols), le-leb (length (s .tables .strings)) (l .strings) (w .strings))
     (rw (le-leb (length (s .tables .classes)) (l .classes) (w .classes)) (le-leb (instructions (s .tables .functions)) (l .instructions) (omega (arith, w .instructions))))
 
-within-fit : (l : Limits) (t : Tables) → tablesFit (limitsOf l) t ≡ true → Within l (record { stack = []; tables = t })
+within-fit : (l : Limits) (t : Tables) → slotsFit t ≡ true → tablesFit (limitsOf l) t ≡ true → Within l (record { stack = []; tables = t })
 unfolding tablesFit limitsOf
-within-fit l t e =
+within-fit l t slots e =
     let a = left (leb (length (t .functions)) (l .functions) && leb (length (t .symbols)) (l .symbols) && leb (length (t .strings)) (l .strings) && leb (length (t .classes)) (l .classes)) _ e in
     let b = left (leb (length (t .functions)) (l .functions) && leb (length (t .symbols)) (l .symbols) && leb (length (t .strings)) (l .strings)) _ a in
     let c = left (leb (length (t .functions)) (l .functions) && leb (length (t .symbols)) (l .symbols)) _ b in
@@ -66,14 +66,15 @@ within-fit l t e =
       strings = at-most _ _ (right (leb (length (t .functions)) (l .functions) && leb (length (t .symbols)) (l .symbols)) _ b);
       classes = at-most _ _ (right (leb (length (t .functions)) (l .functions) && leb (length (t .symbols)) (l .symbols) && leb (length (t .strings)) (l .strings)) _ a);
       instructions = omega (arith, d);
+      slots = slots;
     }
 
--- tables that are not within the limits
-tables-over : (l : Limits) (t : Tables) → (Within l (record { stack = []; tables = t }) → ⊥) → tablesFit (limitsOf l) t ≡ false
-tables-over l t h = go (tablesFit (limitsOf l) t) refl
+-- tables that are not within the limits, though each function has at most 255 slots
+tables-over : (l : Limits) (t : Tables) → slotsFit t ≡ true → (Within l (record { stack = []; tables = t }) → ⊥) → tablesFit (limitsOf l) t ≡ false
+tables-over l t slots h = go (tablesFit (limitsOf l) t) refl
   where
     go : (x : Bool) → tablesFit (limitsOf l) t ≡ x → x ≡ false
-    go true e = absurd (h (within-fit l t e))
+    go true e = absurd (h (within-fit l t slots e))
     go false e = refl
 
 -- ---- questions 2 to 16, question 1 being answered yes
@@ -101,17 +102,14 @@ module _ (l : Limits) (m n room : ℕ) (tree out : List ℕ) (first : 16384 ≤ 
     pub answers-slots : fitsBlock [] (treeBlock tree) ≡ false → Answers (Refused 14) answer out out
     answers-slots e = refuses answer 14 out (answer-slots (limitsOf l) m n room tree (areas-fit m n first second) (treeBlock tree) checks (slots-are ∙ e))
 
-  module _ (F : Fitting tree) (made code tables : List ℕ) (r : Emitted) (h : Compiles r tree made code tables l (compile (treeBlock tree) .tables)) where
-    slots-yes : slotsFit (compile (treeBlock tree) .tables) ≡ true
-    slots-yes = slots-are (F .tree-at) ∙ F .fits
-
+  module _ (T : TreeAt tree) (made code tables : List ℕ) (r : Emitted) (h : Compiles r tree made code tables l (compile (treeBlock tree) .tables)) where
     -- 15
-    pub answers-over : r ≡ Full → Answers (Refused 15) answer out out
+    pub answers-over : r ≡ Full → fitsBlock [] (treeBlock tree) ≡ true → Answers (Refused 15) answer out out
     unfolding Compiles
-    answers-over e =
+    answers-over e f =
         let g : Compiles Full tree made code tables l (compile (treeBlock tree) .tables) = subst (λ (x : Emitted). Compiles x tree made code tables l (compile (treeBlock tree) .tables)) e h in
         refuses answer 15 out
-        (answer-over (limitsOf l) m n room tree (areas-fit m n first second) (treeBlock tree) (checks (F .tree-at)) slots-yes (tables-over l (compile (treeBlock tree) .tables) g))
+        (answer-over (limitsOf l) m n room tree (areas-fit m n first second) (treeBlock tree) (checks T) (slots-are T ∙ f) (tables-over l (compile (treeBlock tree) .tables) (slots-are T ∙ f) g))
 
     module _ (p : ℕ) (k : Counts) (e : r ≡ Done p k) where
       compiled : (tablesOf tree made code tables k ≡ compile (treeBlock tree) .tables) × Sound tree made code tables k l
@@ -120,6 +118,11 @@ module _ (l : Limits) (m n room : ℕ) (tree out : List ℕ) (first : 16384 ≤ 
 
       pub compiled-sound : Sound tree made code tables k l
       compiled-sound = compiled .1
+
+      -- 14 and 15
+      slots-yes : slotsFit (compile (treeBlock tree) .tables) ≡ true
+      unfolding stateOf
+      slots-yes = ap slotsFit (sym (compiled .0)) ∙ few-slots tree made code tables k l (compiled .1)
 
       tables-yes : tablesFit (limitsOf l) (compile (treeBlock tree) .tables) ≡ true
       unfolding stateOf
@@ -134,12 +137,12 @@ module _ (l : Limits) (m n room : ℕ) (tree out : List ℕ) (first : 16384 ≤ 
         pub answers-room : room < size → Answers (Refused 16) answer out out
         answers-room g =
             refuses answer 16 out
-            (answer-room (limitsOf l) m n room tree (areas-fit m n first second) (treeBlock tree) (checks (F .tree-at)) slots-yes tables-yes (omega (arith, size-is)))
+            (answer-room (limitsOf l) m n room tree (areas-fit m n first second) (treeBlock tree) (checks T) slots-yes tables-yes (omega (arith, size-is)))
 
         pub answers-module : size ≤ room → (out′ : List ℕ) (w : ℕ) → Wrote w (moduleBytes (tablesOf tree made code tables k)) out out′ → Answers (Written w) answer out out′
         answers-module g out′ w W =
             writes answer (moduleBytes (compile (treeBlock tree) .tables)) w out out′
-            (answer-module (limitsOf l) m n room tree (areas-fit m n first second) (treeBlock tree) (checks (F .tree-at)) slots-yes tables-yes (omega (arith, size-is)))
+            (answer-module (limitsOf l) m n room tree (areas-fit m n first second) (treeBlock tree) (checks T) slots-yes tables-yes (omega (arith, size-is)))
             (W .count ∙ ap (λ (t : Tables). length (moduleBytes t)) (compiled .0))
             (W .out ∙ ap (λ (t : Tables). written (moduleBytes t) out) (compiled .0))
 

@@ -10,6 +10,7 @@ use Rattle.definitions.specs.Instruction.{Return}
 use Rattle.definitions.specs.Tables.{Emit, one, blockBody, begin, function}
 use Rattle.definitions.specs.Lower.{emitBlock, compile, main, noTables}
 use Rattle.definitions.specs.Wellformed.{blockQuestions}
+use Rattle.tree.specs.StmtAt.{TreeAt}
 use Rattle.state.specs.State.{State, stateOf, emitAt, symbolNumber, Within, Sound, Left, Emits}
 use Rattle.state.specs.Steps.{begun, ended}
 use Rattle.state.specs.declared.Counts.{Counts}
@@ -27,18 +28,13 @@ use Rattle.state.proofs.Within.{within-down, within-first, within-function}
 use Rattle.code.specs.Nesting.{bodyOf, Moved, Begins}
 use Rattle.code.proofs.Begun.{begun-body}
 use Rattle.statements.specs.Lowering.{BlockLowerable}
-use Rattle.lowering.specs.Compiled.{Fitting, noCounts, nothing, mainNamed, mainBegun, mainCode, Compiles}
+use Rattle.lowering.specs.Compiled.{noCounts, nothing, mainNamed, mainBegun, mainCode, Compiles}
 
 -- ---- the block and a return
 
-pub block-lowerable : (tree : List ℕ) → Fitting tree → BlockLowerable 32 tree [] 5
+pub block-lowerable : (tree : List ℕ) → TreeAt tree → BlockLowerable 32 tree 5
 unfolding blockQuestions
-block-lowerable tree F = record {
-  reads = F .tree-at .block;
-  loop = false;
-  args = F .tree-at .yes 6 (omega arith);
-  fits = F .fits;
-}
+block-lowerable tree T = record { reads = T .block; loop = false; args = T .yes 6 (omega arith) }
 
 module _ (tree made₀ code₀ tables₀ made code tables : List ℕ) (c : Counts) (l : Limits) (next : ℕ) (b : Block) (s : Sound tree made₀ code₀ tables₀ c l) (r : Emitted)
     (h : Emits r tree made code tables c l next (emitAt (c .base) (emitBlock [] b) (stateOf tree made₀ code₀ tables₀ c))) where

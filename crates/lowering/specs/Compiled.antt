@@ -1,15 +1,13 @@
 -- What the lowering of an accepted tree asks and leaves.
 use Prim.Native.Nat.{ℕ, _≤_}
 use mathlib.Core.Path.{_≡_}
-use mathlib.Core.Bool.{true}
 use mathlib.Core.List.{List, []}
 use lib.ListN.{length}
 use Rattle.definitions.specs.Tree.{Block}
 use Rattle.definitions.specs.Instruction.{Return}
 use Rattle.definitions.specs.Tables.{Tables, Emit, one, _⨟_}
 use Rattle.definitions.specs.Lower.{emitBlock, main, noTables}
-use Rattle.tree.specs.StmtAt.{blockAt, TreeAt}
-use Rattle.state.specs.Fits.{fitsBlock}
+use Rattle.tree.specs.StmtAt.{blockAt}
 use Rattle.state.specs.State.{State, tablesOf, withTables, symbolNumber, withSymbol, Limited, Within, Sound}
 use Rattle.state.specs.Steps.{begun}
 use Rattle.state.specs.declared.Counts.{Counts}
@@ -23,11 +21,6 @@ pub record Roomed (made code tables : List ℕ) (l : Limits) : Type 0 where
   pub tables-room : 16384 ≤ length tables
   pub made-room : 20500 ≤ length made
   pub limited : Limited l
-
--- the tree is accepted by the questions up to 14
-pub record Fitting (tree : List ℕ) : Type 0 where
-  pub tree-at : TreeAt tree
-  pub fits : fitsBlock [] (blockAt 32 tree 5 .value) ≡ true
 
 -- the tree's block
 abbrev pub treeBlock : List ℕ → Block
@@ -62,7 +55,7 @@ mainBegun = begun (symbolNumber main noTables) 0 [] mainNamed
 abbrev pub mainCode : Block → Emit
 mainCode b = emitBlock [] b ⨟ one Return
 
--- the slices hold the tables; or the tables are over the limits
+-- the slices hold the tables; or the tables are over the limits, or have a function of more than 255 slots
 unfoldable pub Compiles : Emitted → List ℕ → List ℕ → List ℕ → List ℕ → Limits → Tables → Type 0
 Compiles (Done n k) tree made code tables l want = (tablesOf tree made code tables k ≡ want) × Sound tree made code tables k l
 Compiles Full tree made code tables l want = Within l (record { stack = []; tables = want }) → ⊥

@@ -10,10 +10,10 @@ use state::Limits;
 use state::Numbered;
 use statements::stmts::emit_block;
 ghost use Rattle.definitions.specs.Lower as Lower;
-ghost use Rattle.tree.specs.StmtAt.{blockAt};
+ghost use Rattle.tree.specs.StmtAt.{blockAt, TreeAt};
 ghost use Rattle.state.specs.State.{stateOf, emitAt, Sound, Emits};
 ghost use Rattle.code.specs.Nesting.{Begins};
-ghost use Rattle.lowering.specs.Compiled.{Roomed, Fitting, treeBlock, noCounts, mainBegun, mainCode, Compiles};
+ghost use Rattle.lowering.specs.Compiled.{Roomed, treeBlock, noCounts, mainBegun, mainCode, Compiles};
 
 // `__main__` begins: it has number 0.
 fn begin_main(tree: &[u8], made: &mut [u8], code: &[u32], tables: &mut [u32], l: Limits) -> Numbered
@@ -48,7 +48,7 @@ fn emit_main(
     c: Counts,
     l: Limits,
 ) -> Emitted
-    requires { ⌜ Sound (now tree) (now made) (now code) (now tables) c l × Fitting (now tree) ⌝ }
+    requires { ⌜ Sound (now tree) (now made) (now code) (now tables) c l × TreeAt (now tree) ⌝ }
     ensures { λ r. ⌜ Emits r (now (tree .entry)) (now (made .exit)) (now (code .exit)) (now (tables .exit)) c l (blockAt 32 (now (tree .entry)) 5 .end)
         (emitAt (c .base) (mainCode (treeBlock (now (tree .entry)))) (stateOf (now (tree .entry)) (now (made .entry)) (now (code .entry)) (now (tables .entry)) c)) ⌝ }
 {
@@ -68,7 +68,7 @@ pub fn compile(
     tables: &mut [u32],
     l: Limits,
 ) -> Emitted
-    requires { ⌜ Roomed (now made) (now code) (now tables) l × Fitting (now tree) ⌝ }
+    requires { ⌜ Roomed (now made) (now code) (now tables) l × TreeAt (now tree) ⌝ }
     ensures { λ r. ⌜ Compiles r (now (tree .entry)) (now (made .exit)) (now (code .exit)) (now (tables .exit)) l (Lower.compile (treeBlock (now (tree .entry))) .tables) ⌝ }
 {
     let begun = begin_main(tree, made, code, tables, l);

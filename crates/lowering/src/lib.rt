@@ -14,8 +14,8 @@ ghost use Prim.Native.Nat.{_≤_};
 ghost use lib.ListN.{length};
 ghost use Rattle.definitions.specs.Module.{office};
 ghost use Rattle.definitions.specs.Calls.{zeros, lowerAnswer, lowerCall};
+ghost use Rattle.tree.specs.StmtAt.{TreeAt};
 ghost use Rattle.state.specs.State.{limitsOf, Limited};
-ghost use Rattle.lowering.specs.Compiled.{Fitting};
 ghost use Rattle.lowering.specs.Lowered.{Answers, Lowers};
 
 // How many bytes of the output are the module; or the number of the first question answered no.
@@ -35,21 +35,25 @@ fn clear(area: &mut [u32])
     }
 }
 
-// Questions 15 and 16, and the module; the slices keep what was worked out.
-fn lower_fitting(
+// Questions 14 to 16, and the module; the slices keep what was worked out. A tree that is lowered has at most 255 slots a function, so question 14
+// is asked only where the lowering is full.
+fn lower_checked(
     tree: &[u8],
     code: &mut [u32],
     tables: &mut [u32],
     out: &mut [u8],
     l: Limits,
 ) -> Lowered
-    requires { ⌜ (16384 ≤ length (now code)) × (16384 ≤ length (now tables)) × Limited l × Fitting (now tree) ⌝ }
+    requires { ⌜ (16384 ≤ length (now code)) × (16384 ≤ length (now tables)) × Limited l × TreeAt (now tree) ⌝ }
     ensures { λ r. ⌜ Answers r (lowerAnswer (limitsOf l) (length (now (code .entry))) (length (now (tables .entry))) (length (now (out .entry))) (now (tree .entry))) (now (out .entry)) (now (out .exit)) ⌝ }
 {
     let mut made = [0u8; 20500];
     let compiled = compile(tree, &mut made, code, tables, l);
     let Emitted::Done(_, k) = compiled else {
-        return Lowered::Refused(15);
+        if check_slots(tree) {
+            return Lowered::Refused(15);
+        }
+        return Lowered::Refused(14);
     };
     let size = module_size(tree, &made, code, tables, k);
     if out.len() < size {
@@ -74,10 +78,7 @@ fn lower_into(
     if let Checked::Refused(q) = checked {
         return Lowered::Refused(q);
     }
-    if check_slots(tree) {
-        return lower_fitting(tree, code, tables, out, l);
-    }
-    Lowered::Refused(14)
+    lower_checked(tree, code, tables, out, l)
 }
 
 // The module of a tree, from the output's first byte on. Both work areas are zero afterwards, but after refusal 1, which leaves them.

@@ -7,7 +7,8 @@ use mathlib.Core.List.{List, [], _∷_, _++_, append-assoc, append-nil}
 use native.Mathlib.Omega.{arith}
 use lib.ListN.{length, set, length-append, length-set}
 use lib.Seq.{append-snoc}
-use Rattle.definitions.specs.Bytes.{Name, Text, same, position}
+use lib.Dec.{leb}
+use Rattle.definitions.specs.Bytes.{Name, Text, same, position, all}
 use Rattle.definitions.specs.Tree.{Literal, noneL, boolL, intL, floatL, stringL}
 use Rattle.definitions.specs.Tree.{Expr, lit, var, unary, binary, logical, call, attr, display, index, lambda, Exprs, []ᵉ, _∷ᵉ_, count, View, asVar, asAttr, asIndex, asTuple, asOther, view}
 use Rattle.definitions.specs.Tree.{Stmt, break, continue, pass, expr, return, assign, if, while, for, def, class, Block, []ᵇ, _∷ᵇ_, Branches, done, else, when, Methods, []ᵐ, method}
@@ -16,10 +17,11 @@ use Rattle.definitions.specs.Instruction
 use Rattle.definitions.specs.Instruction.{Instr, Return}
 use Rattle.definitions.specs.Tables.{Function, Method, Tables, Body, blockBody, exprBody, Out, Emit, emits, one, _⨟_, here, addSymbol, addString, withClasses, intern, getOrAddString, begin, setCode, enclose, function}
 use Rattle.definitions.specs.Slots.{localsBlock, captures}
-use Rattle.definitions.specs.Module.{instructions}
+use Rattle.definitions.specs.Module.{instructions, slotsFit}
 use Rattle.definitions.specs.Lower.{load, store, literal, shortcut, Callee, builtinCallee, functionCallee, valueCallee, resolve, callNamed, callBy, lambdaName, loads, closure, emitExpr, emitExprs, emitObject, decides, displaySize}
 use Rattle.definitions.specs.Lower.{copy, emitTarget, unpack, assignBy, loop, iterName, makeIter, namedIter, askIter, takeIter, methodEnd, insertMethod, beginClass, classObject, endClass, classOut, emitStmt, emitBlock, emitBranches, emitMethods}
 use Rattle.definitions.proofs.Functions.{setCode-seam}
+use Rattle.definitions.proofs.Truth.{left, right}
 use Rattle.state.specs.Steps.{branch, methodFunction}
 
 -- functions are added at the end, and no table is shorter
@@ -60,6 +62,16 @@ instructions-append (f ∷ fs) gs = omega (arith, instructions-append fs gs)
 
 pub instructions-longer : {t u : Tables} → Lengthened t u → instructions (t .functions) ≤ instructions (u .functions)
 instructions-longer {t} L = omega (arith, ap instructions (L .functions), instructions-append (t .functions) (L .new))
+
+-- each function of the first list has at most 255 slots if each of both lists has
+few-first : (fs gs : List Function) → all (λ (f : Function). leb (f .locals) 255) (fs ++ gs) ≡ true → all (λ (f : Function). leb (f .locals) 255) fs ≡ true
+unfolding all
+few-first [] gs h = refl
+few-first (f ∷ fs) gs h = rw (left (leb (f .locals) 255) _ h) (few-first fs gs (right (leb (f .locals) 255) _ h))
+
+pub slots-fewer : {t u : Tables} → Lengthened t u → slotsFit u ≡ true → slotsFit t ≡ true
+unfolding slotsFit
+slots-fewer {t} L h = few-first (t .functions) (L .new) (rw (L .functions) at h)
 
 -- ---- combinators
 

@@ -8,10 +8,10 @@ use native.Mathlib.Nat.{zero-add, suc-add}
 use native.Mathlib.Numerals.{add-one}
 use lib.ListN.{length, take, drop, getD, set, length-drop, length-map}
 use lib.Seq.{drop-at, take-at, length-take-le, take-take, take-nil, drop-nil, take-set-lt, take-set-le, drop-set-lt, drop-set-add, take-suc-set, getD-take, getD-drop, take-add, drop-drop, take-suc, drop-cons}
-use lib.Dec.{ltb}
-use borrow.Author.Tests.{ltb-false}
+use lib.Dec.{ltb, leb}
+use borrow.Author.Tests.{ltb-false, le-leb}
 use borrow.Rule.Slice.PartMut.{putMid, postOf, take-put, drop-put}
-use Rattle.definitions.specs.Bytes.{Name}
+use Rattle.definitions.specs.Bytes.{Name, all}
 use Rattle.definitions.specs.Tables.{Function, Class, setCode}
 use Rattle.definitions.specs.Module.{instructions}
 use Rattle.state.specs.Words.{region, nameAt, instrOf, instrsOf}
@@ -156,6 +156,13 @@ unfolding functionsOf
 functions-length tree fin [] ks e = refl
 functions-length tree fin (h ∷ hs) [] e = sym e
 functions-length tree fin (h ∷ hs) (k ∷ ks) e = ap suc (functions-length tree fin hs ks (omega arith))
+
+-- a head keeps the number of slots in 8 bits
+pub functions-slots : (tree fin hs ks : List ℕ) → all (λ (f : Function). leb (f .locals) 255) (functionsOf tree fin hs ks) ≡ true
+unfolding all functionsOf functionOf
+functions-slots tree fin [] ks = refl
+functions-slots tree fin (h ∷ hs) [] = refl
+functions-slots tree fin (h ∷ hs) (k ∷ ks) = rw (le-leb (h % 2 ^ 8) 255 (omega arith)) (functions-slots tree fin hs ks)
 
 -- one function more
 pub functions-snoc : (tree fin hs ks : List ℕ) (h k : ℕ) → length hs ≡ length ks

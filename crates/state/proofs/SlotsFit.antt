@@ -84,12 +84,12 @@ tests-symbol x f = tests-intern x (λ k. tests-one (f k))
 
 -- ---- functions
 
-all-snoc : (fs : List Function) (f : Function) → all (λ (g : Function). leb (g .locals) 255) (fs ++ f ∷ []) ≡ (all (λ (g : Function). leb (g .locals) 255) fs && leb (f .locals) 255)
+pub all-snoc : (fs : List Function) (f : Function) → all (λ (g : Function). leb (g .locals) 255) (fs ++ f ∷ []) ≡ (all (λ (g : Function). leb (g .locals) 255) fs && leb (f .locals) 255)
 unfolding all
 all-snoc [] f = and-true (leb (f .locals) 255)
 all-snoc (g ∷ fs) f = ap (λ (z : Bool). leb (g .locals) 255 && z) (all-snoc fs f) ∙ sym (and-assoc (leb (g .locals) 255) _ _)
 
-all-setCode : (fs : List Function) (n : ℕ) (is : List Instr) → all (λ (g : Function). leb (g .locals) 255) (setCode fs n is) ≡ all (λ (g : Function). leb (g .locals) 255) fs
+pub all-setCode : (fs : List Function) (n : ℕ) (is : List Instr) → all (λ (g : Function). leb (g .locals) 255) (setCode fs n is) ≡ all (λ (g : Function). leb (g .locals) 255) fs
 unfolding all setCode
 all-setCode [] n is = refl
 all-setCode (f ∷ fs) zero is = refl

@@ -1,16 +1,17 @@
 -- How long the views of sound slices are: as the counts say. So sound slices hold a state within the limits.
 use Prim.Native.Nat.{ℕ}
 use mathlib.Core.Path.{_≡_, sym, _∙_}
+use mathlib.Core.Bool.{true}
 use mathlib.Core.List.{List}
 use native.Mathlib.Omega.{arith}
 use lib.ListN.{length, take, drop, length-drop, length-map}
 use lib.Seq.{length-take-le}
-use Rattle.definitions.specs.Module.{instructions}
+use Rattle.definitions.specs.Module.{instructions, slotsFit}
 use Rattle.state.specs.Words.{region, textAt, instrOf, instrsOf}
 use Rattle.state.specs.State.{stringsFrom, headsFrom, codesFrom, classNamesFrom, classMethodsFrom, methodsFrom, constantsFrom, doneFrom, spelled, tablesOf, stateOf, Within, Sound}
 use Rattle.state.specs.declared.Counts.{Counts}
 use Rattle.state.specs.declared.Limits.{Limits}
-use Rattle.state.proofs.Regions.{region-length, functions-length, classes-length, instructions-total}
+use Rattle.state.proofs.Regions.{region-length, functions-length, functions-slots, classes-length, instructions-total}
 
 module _ (tree made code tables : List ℕ) (c : Counts) (l : Limits) (s : Sound tree made code tables c l) where
   pub stack-length : length (stateOf tree made code tables c .stack) ≡ c .open
@@ -55,6 +56,11 @@ module _ (tree made code tables : List ℕ) (c : Counts) (l : Limits) (s : Sound
       instructions-total tree (drop doneFrom code) (region headsFrom (c .functions) tables) (region codesFrom (c .functions) tables) (c .done) (heads ∙ sym codes) (s .codes)
       (omega (arith, s .limited, length-drop doneFrom code)) ∙ sym (s .finished)
 
+  -- a head keeps a function's slots in 8 bits
+  pub few-slots : slotsFit (stateOf tree made code tables c .tables) ≡ true
+  unfolding stateOf tablesOf slotsFit
+  few-slots = functions-slots tree (drop doneFrom code) (region headsFrom (c .functions) tables) (region codesFrom (c .functions) tables)
+
   pub within-sound : Within l (stateOf tree made code tables c)
   within-sound = record {
     functions = omega (arith, function-count);
@@ -62,4 +68,5 @@ module _ (tree made code tables : List ℕ) (c : Counts) (l : Limits) (s : Sound
     strings = omega (arith, strings-length);
     classes = omega (arith, class-count);
     instructions = omega (arith, stack-length, instruction-count);
+    slots = few-slots;
   }

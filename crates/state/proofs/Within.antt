@@ -1,26 +1,29 @@
 -- A state that is within the limits at the end of a step was so before it. So where a part is over the limits, the whole is.
 use Prim.Native.Nat.{ℕ, suc, _+_, _-_, _≤_, _<_}
-use mathlib.Core.Path.{_≡_, refl, sym, ap, subst}
+use mathlib.Core.Path.{_≡_, refl, sym, ap, subst, _∙_}
 use mathlib.Core.Bool.{Bool}
 use mathlib.Core.Option.{Option, none, some}
 use mathlib.Core.List.{List, [], _++_}
 use native.Mathlib.Omega.{arith}
 use lib.ListN.{length, drop, set, length-append, length-set}
+use lib.Dec.{leb}
 use lib.Seq.{drop-append-seam, take-append-seam}
 use Rattle.definitions.specs.Bytes.{Name, Text, same, position}
 use Rattle.definitions.specs.Tree.{Expr, Block, Branches, else, when, Methods, method}
 use Rattle.definitions.specs.Instruction.{Instr, Jump, JumpIfFalse, ConstBool, LoadConst, StoreGlobal, MakeClosure, Return, minus}
 use Rattle.definitions.specs.Tables.{Method, Tables, Body, Emit, one, _⨟_, addSymbol, addString, withClasses, addConstant, begin, function}
-use Rattle.definitions.specs.Module.{instructions}
+use Rattle.definitions.specs.Module.{instructions, slotsFit}
 use Rattle.definitions.specs.Lower.{shortcut, jumpOn, loop, loads, lambdaName, closure, emitExpr, emitBlock, emitBranches, emitMethods, beginClass, classObject, endClass, classOut}
+use Rattle.definitions.proofs.Truth.{right, at-most}
 use Rattle.state.specs.State.{State, emitAt, Within, symbolNumber, withSymbol, withString, withTables}
 use Rattle.state.specs.Steps.{setAt, patchAt, begun, ended, branch, chainAt, methodFunction, methodsAt, methodsOf}
 use Rattle.state.specs.declared.Limits.{Limits}
 use Rattle.state.proofs.Emission.{stack-grows, base-kept, at-seq}
 use Rattle.state.proofs.Jumps.{set-length, patch-length, at-shortcut, at-loop, at-branch, at-when, chain-when, chain-else}
 use Rattle.state.proofs.Enclosing.{symbol-functions, at-function, at-closure, at-endClass, at-classObject, at-class, methods-more}
-use Rattle.state.proofs.Growth.{Lengthened, Lengthens, lengthened-none, lengthened-same, functions-longer, instructions-longer, symbol-lengthened, string-lengthened, begin-lengthened, setCode-count, setCode-instructions}
-use Rattle.state.proofs.Growth.{lengthens-one, branches-lengthened, methods-lengthened, beginClass-lengthened, lengthens-endClass, lengthens-loads}
+use Rattle.state.proofs.Growth.{Lengthened, Lengthens, lengthened-none, lengthened-same, functions-longer, instructions-longer, slots-fewer, symbol-lengthened, string-lengthened, begin-lengthened, setCode-count, setCode-instructions}
+use Rattle.state.proofs.SlotsFit.{all-snoc, all-setCode}
+use Rattle.state.proofs.Growth.{lengthens-one, lengthens-seq, branches-lengthened, methods-lengthened, beginClass-lengthened, lengthens-endClass, lengthens-loads}
 
 -- ---- parts
 
@@ -32,6 +35,7 @@ within-less s u L h w = record {
   strings = omega (arith, L .strings, w .strings);
   classes = omega (arith, L .classes, w .classes);
   instructions = omega (arith, instructions-longer L, w .instructions);
+  slots = slots-fewer L (w .slots);
 }
 
 pub within-down : {l : Limits} {e : Emit} (base : ℕ) (s : State) → Lengthens e → Within l (emitAt base e s) → Within l s
@@ -143,10 +147,15 @@ pub within-begun : {l : Limits} (k arity : ℕ) (slots : List Name) (s : State) 
 unfolding begun
 within-begun k arity slots s w = within-tables s (begin k arity slots (s .tables)) (begin-lengthened k arity slots (s .tables)) w
 
+-- a function that has begun has at most 255 slots
+pub begun-slots : {l : Limits} (k arity : ℕ) (slots : List Name) (s : State) → Within l (begun k arity slots s) → length slots ≤ 255
+unfolding begun begin slotsFit
+begun-slots k arity slots s w = at-most (length slots) 255 (right (slotsFit (s .tables)) (leb (length slots) 255) (sym (all-snoc (s .tables .functions) _) ∙ w .slots))
+
 -- the end of a function: as many instructions as before it
 pub within-ended : {l : Limits} {e : Emit} (k arity : ℕ) (slots : List Name) (s : State) → Lengthens e
     → Within l (ended (length (s .stack)) (length (s .tables .functions)) (emitAt (length (s .stack)) e (begun k arity slots s))) → Within l (emitAt (length (s .stack)) e (begun k arity slots s))
-unfolding ended begun emitAt
+unfolding ended begun emitAt slotsFit
 within-ended {e} k arity slots s E w =
     let xs = s .stack in
     let u = begin k arity slots (s .tables) in
@@ -161,6 +170,7 @@ within-ended {e} k arity slots s E w =
       strings = w .strings;
       classes = w .classes;
       instructions = omega (arith, b, w .instructions, length-append xs (o .code), ap length (drop-append-seam xs (o .code)), ap length (take-append-seam xs (o .code)));
+      slots = sym (all-setCode (o .tables .functions) (length (s .tables .functions)) is) ∙ w .slots;
     }
 
 -- a function's body; s′ is the state with its symbol
@@ -173,6 +183,12 @@ within-function {l} {e} base x arity slots body s s′ h E w =
     (subst (λ (n : ℕ). Within l (ended (length (s .stack)) n (emitAt (length (s .stack)) e (begun k arity slots u)))) (ap length (sym (symbol-functions x (s .tables))))
     (rw (at-function base x arity slots body e s u refl) at w)))
 
+-- a function has at most 255 slots
+pub function-slots : {l : Limits} {e : Emit} (base : ℕ) (x : Name) (arity : ℕ) (slots : List Name) (body : Body) (s : State) → Lengthens e
+    → Within l (emitAt base (function x arity slots body e) s) → length slots ≤ 255
+function-slots base x arity slots body s E w =
+    begun-slots (symbolNumber x (s .tables)) arity slots _ (within-down (length (s .stack)) _ E (within-function base x arity slots body s _ refl E w))
+
 -- a closure's function, and its loads; f is the number of functions
 pub within-closure : {l : Limits} (base : ℕ) (slots : List Name) (arity : ℕ) (inner cs : List Name) (body : Body) (e : Emit) (s : State) (f : ℕ) → base ≤ length (s .stack) → f ≡ length (s .tables .functions)
     → Within l (emitAt base (closure slots arity inner cs body e) s) → Within l (emitAt base (loads slots cs) (emitAt base (function (lambdaName f) arity inner body (e ⨟ one Return)) s))
@@ -182,6 +198,11 @@ within-closure base slots arity inner cs body e s f h q w =
 pub within-closure-function : {l : Limits} (base : ℕ) (slots : List Name) (arity : ℕ) (inner cs : List Name) (body : Body) (e : Emit) (s : State) (f : ℕ) → base ≤ length (s .stack) → f ≡ length (s .tables .functions)
     → Within l (emitAt base (closure slots arity inner cs body e) s) → Within l (emitAt base (function (lambdaName f) arity inner body (e ⨟ one Return)) s)
 within-closure-function base slots arity inner cs body e s f h q w = within-down base _ (lengthens-loads slots cs) (within-closure base slots arity inner cs body e s f h q w)
+
+pub closure-slots : {l : Limits} {e : Emit} (base : ℕ) (slots : List Name) (arity : ℕ) (inner cs : List Name) (body : Body) (s : State) → base ≤ length (s .stack) → Lengthens e
+    → Within l (emitAt base (closure slots arity inner cs body e) s) → length inner ≤ 255
+closure-slots {e} base slots arity inner cs body s h E w =
+    function-slots base _ arity inner body s (lengthens-seq E (lengthens-one Return)) (within-closure-function base slots arity inner cs body e s _ h refl w)
 
 -- ---- classes
 

@@ -10,7 +10,7 @@ use Rattle.definitions.specs.Bytes.{Name, Text, same, position}
 use Rattle.definitions.specs.Instruction.{Instr}
 use Rattle.definitions.specs.Tables.{Function, Method, Class, Tables, Out, Emit, addSymbol, addString}
 use Rattle.definitions.specs.Module as Module
-use Rattle.definitions.specs.Module.{instructions}
+use Rattle.definitions.specs.Module.{instructions, slotsFit}
 use Rattle.state.specs.Words.{region, nameAt, textAt, instrsOf}
 use Rattle.state.specs.Index.{Covered}
 use Rattle.state.specs.declared.Counts.{Counts}
@@ -146,13 +146,14 @@ emitAt base e s =
 unfoldable pub limitsOf : Limits → Module.Limits
 limitsOf l = record { functions = l .functions; symbols = l .symbols; strings = l .strings; classes = l .classes; instructions = l .instructions }
 
--- the state is within the limits
+-- the state is within the limits, and each of its functions has at most 255 slots (questions 15 and 14)
 pub record Within (l : Limits) (s : State) : Type 0 where
   pub functions : length (s .tables .functions) ≤ l .functions
   pub symbols : length (s .tables .symbols) ≤ l .symbols
   pub strings : length (s .tables .strings) ≤ l .strings
   pub classes : length (s .tables .classes) ≤ l .classes
   pub instructions : length (s .stack) + instructions (s .tables .functions) ≤ l .instructions
+  pub slots : slotsFit (s .tables) ≡ true
 
 -- the limits are within the tables
 pub record Limited (l : Limits) : Type 0 where
@@ -233,12 +234,12 @@ pub record Left (k : Counts) (tree made code tables : List ℕ) (c : Counts) (l 
   pub paced : Paced c k
   pub sound : Sound tree made code tables k l
 
--- the next position and the wanted state; or the wanted state is over the limits
+-- the next position and the wanted state; or the wanted state is over the limits or has a function of more than 255 slots
 unfoldable pub Emits : Emitted → List ℕ → List ℕ → List ℕ → List ℕ → Counts → Limits → ℕ → State → Type 0
 Emits (Done n k) tree made code tables c l next want = (n ≡ next) × Left k tree made code tables c l want
 Emits Full tree made code tables c l next want = Within l want → ⊥
 
--- the number and the wanted state; or the wanted state is over the limits
+-- the number and the wanted state; or the wanted state is over the limits or has a function of more than 255 slots
 unfoldable pub Numbers : Numbered → List ℕ → List ℕ → List ℕ → List ℕ → Counts → Limits → ℕ → State → Type 0
 Numbers (At i k) tree made code tables c l number want = (i ≡ number) × Left k tree made code tables c l want
 Numbers Over tree made code tables c l number want = Within l want → ⊥

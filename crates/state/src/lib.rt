@@ -24,13 +24,13 @@ pub struct Limits {
     pub instructions: u32,
 }
 
-// The next position in the tree and the counts; or that the module is over the limits.
+// The next position in the tree and the counts; or that the module is over the limits or has a function of more than 255 slots.
 pub enum Emitted {
     Done(usize, Counts),
     Full,
 }
 
-// A number and the counts; or that the module is over the limits.
+// A number and the counts; or that the module is over the limits or has a function of more than 255 slots.
 pub enum Numbered {
     At(u32, Counts),
     Over,

@@ -26,7 +26,7 @@ use Rattle.state.specs.declared.Numbered.the-variants.{At, Over}
 use Rattle.state.proofs.Views.{stack-length, function-count}
 use Rattle.state.proofs.Enclosing.{at-function, symbol-functions}
 use Rattle.state.proofs.Growth.{Lengthens, Lengthened, lengthens-seq, lengthens-emits, lengthens-block}
-use Rattle.state.proofs.Within.{within-down, within-begun, within-function}
+use Rattle.state.proofs.Within.{within-down, within-begun, within-function, function-slots}
 use Rattle.state.proofs.Answers.{paced-more}
 use Rattle.code.specs.Nesting.{begunWith, bodyOf, Moved, Begins}
 use Rattle.slots.specs.declared.Locals.{Locals}
@@ -94,9 +94,6 @@ pub part-ready : (t ps made₀ code₀ tables₀ made code tables : List ℕ) (c
     → Ready t (take (slotsFrom + n - 0) (drop 0 ps)) made code tables k l
 part-ready t ps made₀ code₀ tables₀ made code tables c k l n r h v g s =
     record { tree-short = r .tree-short; slotted = subst (Slots t) (sym (part-before (slotsFrom + n) ps)) (front-slots t ps n g h v); sound = s }
-
-pub block-with : (d : ℕ) (t : List ℕ) (names names′ : List Name) (p q : ℕ) → names′ ≡ names → q ≡ p → BlockLowerable d t names p → BlockLowerable d t names′ q
-block-with d t names names′ p q e f r = subst (λ (x : List Name). BlockLowerable d t x q) (sym e) (subst (BlockLowerable d t names) (sym f) r)
 
 pub body-emits-at : (r : Emitted) (t made code tables : List ℕ) (c : Counts) (l : Limits) (base : ℕ) (s : State) (d : ℕ) (names : List Name) (end : List Instr) (p q : ℕ) → q ≡ p
     → Emits r t made code tables c l (blockAt d t q .end) (emitAt base (blockCode d t names q ⨟ emits end) s) → Emits r t made code tables c l (blockAt d t p .end) (emitAt base (blockCode d t names p ⨟ emits end) s)
@@ -208,6 +205,12 @@ module _ (t made code tables : List ℕ) (c : Counts) (l : Limits) (sound : Soun
             (record { state = state-is; base = D .base; paced = paced-more (B .1 .paced) (paced-more (A .paced) (D .paced)); sound = D .sound })
             (omega (arith, B .2, A .paced .methods, D .paced .methods))
             (omega (arith, same-count, ended-number, B .0, function-count t made code tables c l sound))
+
+-- a function with more than 255 slots is over the limits
+pub slots-over : (d : ℕ) (t : List ℕ) (p : ℕ) (b : Bool) (base : ℕ) (l : Limits) (s : State) → 255 < length (localsAt d t p) → Within l (emitAt base (functionCode d t p b) s) → ⊥
+slots-over d t p b base l s h w =
+    let k = function-slots base _ _ (localsAt d t p) _ s (lengthens-seq (lengthens-block (localsAt d t p) (defBlockAt d t p .value)) (lengthens-emits (endOf b))) w in
+    omega arith
 
 -- a method is a function with a method's end
 pub method-is : (d : ℕ) (t : List ℕ) (p : ℕ) (b : Bool) (base : ℕ) (s : State) → b ≡ same (nameAt t p) init

@@ -1,6 +1,5 @@
-use mathlib.Core.Path.{sym, _∙_}
 use Rattle.tree.proofs.TreeViews.{answer-accepted}
-use Rattle.lowering.proofs.Answering.{answers-checked, answers-slots}
+use Rattle.lowering.proofs.Answering.{answers-checked}
 use borrow.Author.Needs.{needs}
 use Rattle.lowering.proofs.lower_into.Statement.{statement}
 use Rattle.lowering.proofs.lower_into.Tie as tie
@@ -11,10 +10,8 @@ lower-into-spec = tie.close (tie.spec
     (λ c. search needs)  -- enum-known-checked
     (λ c. let s = (c .before .before .before .before .before .before .before .before) in answers-checked _ _ _ _ _ _ (s .pre .0) (s .pre .1) _ _ ((c .before .before .before) .check-tree .ensures) ((c .before) .checked .given .1))  -- returns
     (λ c. search needs)  -- enum-told
-    (λ c κs. answer-accepted _ _ ((c .before .before) .check-tree .ensures) (c .enum-told .given .1))  -- check-slots-requires
-    (λ c κs. let s = (c .before .before .before .before .before .before .before .before .before .before .before .before) in (s .pre .0, s .pre .1, s .pre .2, record { tree-at = answer-accepted _ _ ((c .before .before .before .before .before .before .before) .check-tree .ensures) ((c .before .before .before .before .before) .enum-told .given .1); fits = sym ((c .before .before .before .before) .check-slots .ensures) ∙ (c .before .before .before) .if1 .taken }))  -- lower-fitting-requires
+    (λ c κs. let s = (c .before .before .before .before .before .before .before .before .before .before) in (s .pre .0, s .pre .1, s .pre .2, answer-accepted _ _ ((c .before .before .before .before .before) .check-tree .ensures) ((c .before .before .before) .enum-told .given .1)))  -- lower-checked-requires
     (λ c. search needs)  -- same-length
     (λ c. search needs)  -- same-length-2
     (λ c. search needs)  -- same-length-3
-    (λ c. search needs)  -- returns-2
-    (λ c. let s = (c .before .before .before .before .before .before .before .before .before) in answers-slots _ _ _ _ _ _ (s .pre .0) (s .pre .1) (answer-accepted _ _ ((c .before .before .before .before) .check-tree .ensures) ((c .before .before) .enum-told .given .1)) (sym ((c .before) .check-slots .ensures) ∙ c .if1 .left)))  -- returns-3
+    (λ c. search needs))  -- returns-2

@@ -2,7 +2,7 @@ use Prim.Native.Nat.{ℕ}
 use mathlib.Core.Path.{sym}
 use native.Mathlib.Omega.{arith}
 use borrow.Author.Needs.{needs}
-use Rattle.expressions.proofs.Lambdas.{lambda-ready, lambda-lowers, lambda-many, reads-at}
+use Rattle.expressions.proofs.Lambdas.{lambda-ready, lambda-lowers, lambda-over, slots-few, reads-at}
 use Rattle.expressions.proofs.Collecting.{collected-count, collected-over}
 use lib.Seq.{length-take-le}
 use Rattle.expressions.proofs.emit_closure.Reads as emit-closure
@@ -21,12 +21,12 @@ emit-lambda-ok t = emit-lambda-lts.spec (u16-at-reads.Asked, u16-at-reads.Learnt
     (λ c κs. let at-skip-params = c .before in let start = at-skip-params .before .before .before .before .before .before .before in (start .pre .1 .0 .tree-short, start .pre .1 .0 .slotted, omega arith, start .pre .1 .1 .params, reads-at _ _ _ _ (at-skip-params .skip-params .ensures) (start .pre .1 .1 .body .reads)))
     (λ c. search needs)
     (λ c. search needs)
-    (λ c. let at-enum-told = c in let at-lambda-slots = at-enum-told .before .before .before in let at-skip-params = at-lambda-slots .before .before in let start = at-skip-params .before .before .before .before .before .before .before in absurd (lambda-many _ _ _ _ _ (start .pre .1 .1) (at-skip-params .skip-params .ensures) (collected-over _ _ _ _ (at-enum-told .enum-told .given .1) (at-lambda-slots .lambda-slots .ensures))))
+    (λ c. let at-enum-told = c in let at-lambda-slots = at-enum-told .before .before .before in let at-skip-params = at-lambda-slots .before .before in let start = at-skip-params .before .before .before .before .before .before .before in lambda-over _ _ _ _ _ _ _ _ _ _ _ _ _ _ (start .pre .1 .0 .sound) (at-skip-params .skip-params .ensures) (collected-over _ _ _ _ (at-enum-told .enum-told .given .1) (at-lambda-slots .lambda-slots .ensures)))
     (λ c. let at-all = c .before in let at-lambda-slots = at-all .before .before .before in let q = collected-count _ _ _ _ _ (at-all .all .given .1) (at-lambda-slots .lambda-slots .ensures) (at-lambda-slots .lambda-slots .kept .1 .1 .1 .1 .1 .0) in omega (arith, q .0))
     (λ c. let at-all = c .before in let at-lambda-slots = at-all .before .before .before in let q = collected-count _ _ _ _ _ (at-all .all .given .1) (at-lambda-slots .lambda-slots .ensures) (at-lambda-slots .lambda-slots .kept .1 .1 .1 .1 .1 .0) in omega (arith, q .0))
     (λ c. let at-all = c .before in let at-lambda-slots = at-all .before .before .before in let q = collected-count _ _ _ _ _ (at-all .all .given .1) (at-lambda-slots .lambda-slots .ensures) (at-lambda-slots .lambda-slots .kept .1 .1 .1 .1 .1 .0) in omega (arith, q .0, (at-lambda-slots .lambda-slots .kept .1 .1 .1 .1 .1 .0)))
     (λ c. let at-all = c .before .before in let at-lambda-slots = at-all .before .before .before in let q = collected-count _ _ _ _ _ (at-all .all .given .1) (at-lambda-slots .lambda-slots .ensures) (at-lambda-slots .lambda-slots .kept .1 .1 .1 .1 .1 .0) in sym (length-take-le _ _ (omega (arith, q .0, (at-lambda-slots .lambda-slots .kept .1 .1 .1 .1 .1 .0)))))
-    (λ c κs. let at-all = c .before .before .before .before .before in let at-lambda-slots = at-all .before .before .before in let at-skip-params = at-lambda-slots .before .before in let at-u16-at = at-skip-params .before in let start = at-u16-at .before .before .before .before .before .before in let q = collected-count _ _ _ _ _ (at-all .all .given .1) (at-lambda-slots .lambda-slots .ensures) (at-lambda-slots .lambda-slots .kept .1 .1 .1 .1 .1 .0) in let v = lambda-ready _ _ _ _ (start .pre .1 .1) _ _ _ (at-u16-at .u16-at .ensures .0) (at-skip-params .skip-params .ensures) (q .1) in (omega (arith, start .pre .0), (start .pre .1 .0, v .0, v .1, q .2)))
+    (λ c κs. let at-all = c .before .before .before .before .before in let at-lambda-slots = at-all .before .before .before in let at-skip-params = at-lambda-slots .before .before in let at-u16-at = at-skip-params .before in let start = at-u16-at .before .before .before .before .before .before in let q = collected-count _ _ _ _ _ (at-all .all .given .1) (at-lambda-slots .lambda-slots .ensures) (at-lambda-slots .lambda-slots .kept .1 .1 .1 .1 .1 .0) in let v = lambda-ready _ _ _ _ (start .pre .1 .1) _ _ _ (at-u16-at .u16-at .ensures .0) (at-skip-params .skip-params .ensures) (q .1) (slots-few _ _ (q .2)) in (omega (arith, start .pre .0), (start .pre .1 .0, v .0, v .1, q .2)))
     (λ c. let at-emit-closure = c .before .before .before .before .before .before in at-emit-closure .emit-closure .kept .1 .1 .1 .1 .1 .1 .0)
     (λ c. let at-emit-closure = c .before .before .before .before .before .before in at-emit-closure .emit-closure .kept .1 .1 .1 .1 .1 .1 .1 .0)
     (λ c. let at-emit-closure = c .before .before .before .before .before .before in at-emit-closure .emit-closure .kept .1 .1 .1 .1 .1 .1 .1 .1 .0)

@@ -11,7 +11,7 @@ pub emit-main-spec : {M : Type 1} → statement M
 unfolding namesAt
 emit-main-spec = tie.close (tie.spec
     (λ c. search needs)  -- slice-aggregate-emit-block
-    (λ c κs. let s = (c .before .before .before .before .before .before .before .before) in (record { tree-short = s .pre .1 .tree-at .small; slotted = none-slots _ _ refl; sound = s .pre .0 }, block-lowerable _ (s .pre .1)))  -- emit-block-requires
+    (λ c κs. let s = (c .before .before .before .before .before .before .before .before) in (record { tree-short = s .pre .1 .small; slotted = none-slots _ _ refl; sound = s .pre .0 }, block-lowerable _ (s .pre .1)))  -- emit-block-requires
     (λ c. search needs)  -- enum-known-block
     (λ c. search needs)  -- enum-told
     (λ c. search needs)  -- same-length
