@@ -1,2 +1,3 @@
 pub mod ExprAt
 pub mod Literals
+pub mod Constants

@@ -11,18 +11,48 @@ use parts::questions::noted;
 ghost use mathlib.Core.Path.{_≡_};
 ghost use Prim.Native.Nat.{_≤_};
 ghost use lib.ListN.{length};
-ghost use Rattle.parts.specs.Judge.{judgeAssign, judgeAttributeList, judgeAttributes, judgeAttributeValue, judgeStmt, judgeBlock, judgeBranch, judgeBranches, judgeIf, judgeFor, judgeDef, judgeMethod, judgeMethods, judgeClass};
+ghost use Rattle.parts.specs.Judge.{judgeExpr, judgeAssign, judgeAttributeList, judgeAttributes, judgeAttributeValue, judgeStmt, judgeBlock, judgeBranch, judgeBranches, judgeIf, judgeFor, judgeDef, judgeMethod, judgeMethods, judgeClass};
+
+// An assignment's target. A variable, of kind 6, needs no call of check_expr.
+fn check_target(tree: &[u8], at: usize, depth: u32, stand: u32) -> Passed
+    requires { ⌜ at ≤ length (now tree) ⌝ }
+    ensures { λ r. ⌜ r ≡ judgeExpr Role.Target depth (now (tree .entry)) at stand ⌝ }
+{
+    if depth != 0 {
+        if at < tree.len() {
+            if tree[at] == 6 {
+                return check_name(tree, at + 1, stand);
+            }
+        }
+    }
+    check_expr(tree, at, depth, Role::Target, stand)
+}
+
+// An assignment's value. None, False and True, of one byte each, need no call of check_expr.
+fn check_assigned(tree: &[u8], at: usize, depth: u32, stand: u32) -> Passed
+    requires { ⌜ at ≤ length (now tree) ⌝ }
+    ensures { λ r. ⌜ r ≡ judgeExpr Role.Value depth (now (tree .entry)) at stand ⌝ }
+{
+    if depth != 0 {
+        if at < tree.len() {
+            if tree[at] < 3 {
+                return Passed::Next(at + 1, stand);
+            }
+        }
+    }
+    check_expr(tree, at, depth, Role::Value, stand)
+}
 
 // A target and a value.
 fn check_assign(tree: &[u8], at: usize, depth: u32, stand: u32) -> Passed
     requires { ⌜ at ≤ length (now tree) ⌝ }
     ensures { λ r. ⌜ r ≡ judgeAssign depth (now (tree .entry)) at stand ⌝ }
 {
-    let target = check_expr(tree, at, depth, Role::Target, stand);
+    let target = check_target(tree, at, depth, stand);
     let Passed::Next(p, w) = target else {
         return target;
     };
-    check_expr(tree, p, depth, Role::Value, w)
+    check_assigned(tree, p, depth, w)
 }
 
 // A class attribute: a name and a value.
