@@ -128,6 +128,17 @@ fn skip_lambda(tree: &[u8], at: usize, depth: u32) -> usize
     skip_expr(tree, p, depth)
 }
 
+// Where the expression at `at` ends; None, False and True are one byte each.
+pub fn skip_value(tree: &[u8], at: usize, depth: u32) -> usize
+    requires { ⌜ ExprReads depth (now tree) at ⌝ }
+    ensures { λ r. ⌜ r ≡ exprAt depth (now (tree .entry)) at .end ⌝ }
+{
+    if tree[at] < 3 {
+        return at + 1;
+    }
+    skip_expr(tree, at, depth)
+}
+
 // Where the statement at `at` ends.
 pub fn skip_stmt(tree: &[u8], at: usize, depth: u32) -> usize
     requires { ⌜ StmtReads depth (now tree) at ⌝ }
