@@ -128,13 +128,20 @@ fn skip_lambda(tree: &[u8], at: usize, depth: u32) -> usize
     skip_expr(tree, p, depth)
 }
 
-// Where the expression at `at` ends; None, False and True are one byte each.
+// Where the expression at `at` ends: constants, numbers and variables, the most frequent ones, are passed over here.
 pub fn skip_value(tree: &[u8], at: usize, depth: u32) -> usize
     requires { ⌜ ExprReads depth (now tree) at ⌝ }
     ensures { λ r. ⌜ r ≡ exprAt depth (now (tree .entry)) at .end ⌝ }
 {
-    if tree[at] < 3 {
+    let kind = tree[at];
+    if kind < 3 {
         return at + 1;
+    }
+    if kind < 5 {
+        return at + 9;
+    }
+    if kind == 6 {
+        return name_end(tree, at + 1);
     }
     skip_expr(tree, at, depth)
 }
