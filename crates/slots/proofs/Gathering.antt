@@ -3,6 +3,7 @@ use Prim.Native.Nat.{ℕ, zero, suc, _+_, _*_, _-_, _<_, _≤_}
 use mathlib.Core.Path.{_≡_, refl, sym, ap, _∙_, subst}
 use mathlib.Core.Bool.{Bool, true, false}
 use mathlib.Core.List.{List, [], _∷_, _++_}
+use mathlib.Core.Logic.{_⊎_, ⊎-elim}
 use native.Mathlib.Omega.{arith}
 use lib.ListN.{length, getD}
 use Rattle.definitions.specs.Bytes.{Name}
@@ -11,7 +12,7 @@ use Rattle.definitions.specs.Tree.{Stmt, break, continue, pass, expr, return, a
 use Rattle.definitions.specs.Tree.{Block, []ᵇ, _∷ᵇ_, Branches, done, else, when}
 use Rattle.definitions.specs.Slots.{add, addTarget, localsStmt, localsBlock, localsBranches}
 use Rattle.parts.specs.Places.{Node, node, countAt, nameBytes, nameEnd, There}
-use Rattle.exprs.specs.ExprAt.{exprAt, ExprReads}
+use Rattle.exprs.specs.ExprAt.{exprAt, ExprReads, secondAt}
 use Rattle.tree.specs.StmtAt.{stmtAt, blockAt, stmtsAt, branchesAt, StmtReads, BlockReads, StmtsRead, BranchesRead, BranchAt, bodyAt, IfAt, ifAt, elifsAt, whileAt, ForAt, forAt, whenAt, elseAt, consAt, assignAt, exprStmtAt, returnAt, defAt, classAt}
 use Rattle.parts.proofs.Nodes.{Seen}
 use Rattle.exprs.proofs.ExprViews.{expr-known}
@@ -68,25 +69,19 @@ module _ (t qs : List ℕ) (n k next : ℕ) (want : List Name) (a : Added k t qs
   pub name-next : k ≤ 255 → Gathers (Next next k) t qs next want
   name-next h = next-gathers t qs next want next k refl h (a .names) (a .indexed)
 
--- ---- statements that hold no block of the function
+-- ---- the target of an assignment
 
-module _ (d : ℕ) (t : List ℕ) (p : ℕ) (r : StmtReads d t p) (xs : List Name) where
-  abbrev s : Node Stmt
-  s = stmtAt d t p
-
-  locals-as : (y : Node Stmt) (w : List Name) → s ≡ y → localsStmt (y .value) xs ≡ w → localsStmt (stmtAt d t p .value) xs ≡ w
-  locals-as y w e f = ap (λ (z : Node Stmt). localsStmt (z .value) xs) e ∙ f
-
-  pub locals-var : getD t p 0 ≡ 5 → getD t (p + 1) 0 ≡ 6 → add (nameBytes t (p + 1 + 1)) xs ≡ localsStmt (stmtAt d t p .value) xs
-  unfolding localsStmt addTarget assignAt
-  locals-var e f = let v = view-assign d t p r e in sym (locals-as _ _ (v .is) (go _ _ (form-var (d - 1) t (p + 1) (v .parts .first) f)))
+module _ (d : ℕ) (t : List ℕ) (p : ℕ) (r : ExprReads d t p) (xs : List Name) where
+  pub target-var : getD t p 0 ≡ 6 → add (nameBytes t (p + 1)) xs ≡ addTarget (exprAt d t p .value) xs
+  unfolding addTarget
+  target-var f = sym (go _ _ (form-var d t p r f))
     where
       go : (x : Name) (w : View) → w ≡ asVar x → elim w as (λ _. List Name) [ asVar x ↦ add x xs | asAttr o x ↦ xs | asIndex o i ↦ xs | asTuple es ↦ xs | asOther ↦ xs ] ≡ add x xs
       go x w h = ap (λ (w : View). elim w as (λ _. List Name) [ asVar x ↦ add x xs | asAttr o x ↦ xs | asIndex o i ↦ xs | asTuple es ↦ xs | asOther ↦ xs ]) h
 
-  pub locals-target : getD t p 0 ≡ 5 → (getD t (p + 1) 0 ≡ 6 → ⊥) → xs ≡ localsStmt (stmtAt d t p .value) xs
-  unfolding localsStmt addTarget assignAt
-  locals-target e f = let v = view-assign d t p r e in sym (locals-as _ _ (v .is) (go (exprAt (d - 1) t (p + 1) .value) (other-form (d - 1) t (p + 1) (v .parts .first) f)))
+  pub target-other : (getD t p 0 ≡ 6 → ⊥) → xs ≡ addTarget (exprAt d t p .value) xs
+  unfolding addTarget
+  target-other f = sym (go (exprAt d t p .value) (other-form d t p r f))
     where
       go : (x : Expr) → Formed (view x) → addTarget x xs ≡ xs
       go x f = by f
@@ -97,11 +92,20 @@ module _ (d : ℕ) (t : List ℕ) (p : ℕ) (r : StmtReads d t p) (xs : List Nam
           by tupleF = refl
           by otherF = refl
 
-  pub locals-def : getD t p 0 ≡ 9 → add (nameBytes t (p + 1)) xs ≡ localsStmt (stmtAt d t p .value) xs
+-- ---- statements that hold no block of the function
+
+module _ (d : ℕ) (t : List ℕ) (p : ℕ) (r : StmtReads d t p) (xs : List Name) where
+  abbrev s : Node Stmt
+  s = stmtAt d t p
+
+  locals-as : (y : Node Stmt) (w : List Name) → s ≡ y → localsStmt (y .value) xs ≡ w → localsStmt (stmtAt d t p .value) xs ≡ w
+  locals-as y w e f = ap (λ (z : Node Stmt). localsStmt (z .value) xs) e ∙ f
+
+  locals-def : getD t p 0 ≡ 9 → add (nameBytes t (p + 1)) xs ≡ localsStmt (stmtAt d t p .value) xs
   unfolding localsStmt defAt
   locals-def e = sym (locals-as _ _ (view-def d t p r e .is) refl)
 
-  pub locals-class : getD t p 0 ≡ 10 → add (nameBytes t (p + 1)) xs ≡ localsStmt (stmtAt d t p .value) xs
+  locals-class : getD t p 0 ≡ 10 → add (nameBytes t (p + 1)) xs ≡ localsStmt (stmtAt d t p .value) xs
   unfolding localsStmt classAt
   locals-class e = sym (locals-as _ _ (view-class d t p r e .is) refl)
 
@@ -114,15 +118,22 @@ module _ (d : ℕ) (t : List ℕ) (p : ℕ) (r : StmtReads d t p) (xs : List Nam
   simple-kind (suc (suc (suc (suc zero)))) e h = sym (locals-as _ _ (view-return d t p r e .is) refl)
   simple-kind (suc (suc (suc (suc (suc k))))) e h = absurd (omega arith)
 
-  pub locals-simple : (getD t p 0 ≡ 5 → ⊥) → (getD t p 0 ≡ 6 → ⊥) → (getD t p 0 ≡ 7 → ⊥) → (getD t p 0 ≡ 8 → ⊥) → (getD t p 0 ≡ 9 → ⊥) → (getD t p 0 ≡ 10 → ⊥) →
-      xs ≡ localsStmt (stmtAt d t p .value) xs
-  locals-simple a b c f g h = let k = stmt-known d t p r in simple-kind (getD t p 0) refl (omega arith)
+  pub locals-simple : getD t p 0 < 5 → xs ≡ localsStmt (stmtAt d t p .value) xs
+  locals-simple h = simple-kind (getD t p 0) refl h
 
-  -- ---- those that hold blocks
+  pub locals-named : (getD t p 0 ≡ 9) ⊎ (getD t p 0 ≡ 10) → add (nameBytes t (p + 1)) xs ≡ localsStmt (stmtAt d t p .value) xs
+  locals-named = ⊎-elim locals-def locals-class
+
+  -- ---- assignments, and those that hold blocks
 
   module _ (o : Gathered) (ps : List ℕ) where
     made-of : (y : Node Stmt) → s ≡ y → Gathers o t ps (y .end) (localsStmt (y .value) xs) → Gathers o t ps (stmtAt d t p .end) (localsStmt (stmtAt d t p .value) xs)
     made-of y e g = gathers-as o t ps _ _ _ _ g (sym (ap (λ (z : Node Stmt). z .end) e)) (sym (ap (λ (z : Node Stmt). localsStmt (z .value) xs) e))
+
+    pub stmt-assign : getD t p 0 ≡ 5 → Gathers o t ps (secondAt (d - 1) t (p + 1) .end) (addTarget (exprAt (d - 1) t (p + 1) .value) xs) →
+        Gathers o t ps (stmtAt d t p .end) (localsStmt (stmtAt d t p .value) xs)
+    unfolding localsStmt assignAt
+    stmt-assign e g = made-of _ (view-assign d t p r e .is) g
 
     pub stmt-if : getD t p 0 ≡ 6 → Gathers o t ps (elifsAt (d - 1) t (p + 1) .end) (localsBranches (elifsAt (d - 1) t (p + 1) .value) (localsBlock (bodyAt (d - 1) t (p + 1) .value) xs)) →
         Gathers o t ps (stmtAt d t p .end) (localsStmt (stmtAt d t p .value) xs)

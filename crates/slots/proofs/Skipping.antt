@@ -110,6 +110,10 @@ module _ (d : ℕ) (t : List ℕ) (p : ℕ) (r : ExprReads d t p) where
     unfolding lambdaAt
     lambda-done e g = made-of _ (view-lambda d t p r e .is) g
 
+  -- an integer or a float, by the bounds of its kind
+  pub number-done : 3 ≤ getD t p 0 → getD t p 0 < 5 → p + 9 ≡ exprAt d t p .end
+  number-done low high = ⊎-elim (λ (z : 4 ≤ getD t p 0). float-done (p + 9) (omega arith) (omega arith)) (λ (z : getD t p 0 < 4). int-done (p + 9) (omega arith) (omega arith)) (le-or-gt 4 (getD t p 0))
+
 -- a kind that is none of the others is one of the first three
 pub plain-kinds : (k : ℕ) → k < 18 → (k ≡ 3 → ⊥) → (k ≡ 4 → ⊥) → (k ≡ 5 → ⊥) → (k ≡ 6 → ⊥) → (k ≡ 7 → ⊥) → (k ≡ 8 → ⊥) → (k ≡ 9 → ⊥) → (k ≡ 10 → ⊥) → (k ≡ 11 → ⊥) → (k ≡ 12 → ⊥) → (k ≡ 13 → ⊥) →
     (k ≡ 14 → ⊥) → (k ≡ 15 → ⊥) → (k ≡ 16 → ⊥) → (k ≡ 17 → ⊥) → k < 3

@@ -2,7 +2,7 @@
 use Prim.Native.Nat.{ℕ, zero, suc, _+_, _-_, _<_, _≤_}
 use mathlib.Core.Path.{_≡_, refl, sym, ap, _∙_, subst}
 use mathlib.Core.List.{List}
-use mathlib.Core.Logic.{_⊎_, ⊎-elim}
+use mathlib.Core.Logic.{_⊎_, inl, inr, ⊎-elim}
 use native.Mathlib.Omega.{arith}
 use lib.ListN.{length, getD}
 use Rattle.definitions.specs.Tree.{Stmt, Block, Branches, Methods, Attribute}
@@ -34,6 +34,9 @@ module _ (d : ℕ) (t : List ℕ) (p : ℕ) (r : StmtReads d t p) where
           (λ (z : 3 ≤ k). absurd (let y : 11 ≤ k = up 10 k (up 9 k (up 8 k (up 7 k (up 6 k (up 5 k (up 4 k (up 3 k z a) b) c) f) g) h) i) j in omega arith))
           (λ (z : k < 3). z)
           (le-or-gt 3 k)
+
+  pub short-done : getD t p 0 < 3 → p + 1 ≡ stmtAt d t p .end
+  short-done h = simple-kind (getD t p 0) refl h
 
   module _ (o : ℕ) where
     made-of : (y : Node Stmt) → stmtAt d t p ≡ y → o ≡ y .end → o ≡ stmtAt d t p .end
@@ -70,6 +73,25 @@ module _ (d : ℕ) (t : List ℕ) (p : ℕ) (r : StmtReads d t p) where
     pub class-done : getD t p 0 ≡ 10 → o ≡ attributesAt (d - 1) t (classMethodsAt (d - 1) t (p + 1) .end) .end → o ≡ stmtAt d t p .end
     unfolding classAt
     class-done e g = made-of _ (view-class d t p r e .is) g
+
+  -- an expression or a return, by the bounds of its kind
+  module _ (low : 3 ≤ getD t p 0) (high : getD t p 0 < 5) where
+    expr-or-return : (getD t p 0 ≡ 3) ⊎ (getD t p 0 ≡ 4)
+    expr-or-return = ⊎-elim (λ (z : 4 ≤ getD t p 0). inr (omega arith)) (λ (z : getD t p 0 < 4). inl (omega arith)) (le-or-gt 4 (getD t p 0))
+
+    pub value-reads : ExprReads (d - 1) t (p + 1)
+    value-reads = ⊎-elim (λ (e : getD t p 0 ≡ 3). view-expr d t p r e .parts) (λ (e : getD t p 0 ≡ 4). view-return d t p r e .parts) expr-or-return
+
+    pub value-done : (o : ℕ) → o ≡ exprAt (d - 1) t (p + 1) .end → o ≡ stmtAt d t p .end
+    value-done o g = ⊎-elim (λ (e : getD t p 0 ≡ 3). expr-done o e g) (λ (e : getD t p 0 ≡ 4). return-done o e g) expr-or-return
+
+  -- a kind from 5 on that is no assignment and holds no block of the function
+  pub def-or-class : 5 ≤ getD t p 0 → (getD t p 0 ≡ 5 → ⊥) → (getD t p 0 ≡ 6 → ⊥) → (getD t p 0 ≡ 7 → ⊥) → (getD t p 0 ≡ 8 → ⊥) → (getD t p 0 ≡ 9) ⊎ (getD t p 0 ≡ 10)
+  def-or-class low a b c f = let k = stmt-known d t p r in
+      ⊎-elim (λ (z : 10 ≤ getD t p 0). inr (omega arith)) (λ (z : getD t p 0 < 10). inl (omega arith)) (le-or-gt 10 (getD t p 0))
+
+  pub named-inside : (getD t p 0 ≡ 9) ⊎ (getD t p 0 ≡ 10) → p + 1 < length t
+  named-inside = ⊎-elim (λ (e : getD t p 0 ≡ 9). view-def d t p r e .parts .name .byte) (λ (e : getD t p 0 ≡ 10). view-class d t p r e .parts .name .byte)
 
 -- a block or branch at the position where the part before it ended
 module _ (d : ℕ) (t : List ℕ) (p q : ℕ) (e : p ≡ q) where

@@ -4,14 +4,16 @@ use crate::add::add_name;
 use crate::index::index_slots;
 use crate::skip::skip_expr;
 use crate::skip::skip_stmt;
+use crate::skip::skip_value;
 use parts::names::name_end;
 use parts::numbers::u16_at;
 ghost use mathlib.Core.Path.{_≡_};
 ghost use Prim.Native.Nat.{_+_, _<_, _≤_};
 ghost use lib.ListN.{length, getD};
-ghost use Rattle.definitions.specs.Slots.{add, localsStmt, localsBlock, localsBranches};
+ghost use Rattle.definitions.specs.Slots.{add, addTarget, localsStmt, localsBlock, localsBranches};
 ghost use Rattle.parts.specs.Places.{nameBytes, nameEnd, namesFrom, AllThere, ParamsAt, paramsAt};
 ghost use Rattle.state.specs.State.{slotsFrom};
+ghost use Rattle.exprs.specs.ExprAt.{exprAt, TwoAt, secondAt};
 ghost use Rattle.tree.specs.StmtAt.{stmtAt, blockAt, branchesAt, StmtReads, BlockReads, BranchesRead, BranchAt, bodyAt, IfAt, ifAt, elifsAt, ForAt, forAt};
 ghost use Rattle.slots.specs.Slotted.{leading, firstNames, Collected, Room, Gathers};
 
@@ -33,25 +35,40 @@ fn gather_name(tree: &[u8], at: usize, next: usize, slots: &mut [u32], n: u32) -
     Gathered::Next(next, k)
 }
 
-// A statement that holds no block of this function.
+// A target and a value: a target that is a variable gives its name a slot.
+fn gather_assign(tree: &[u8], at: usize, depth: u32, slots: &mut [u32], n: u32) -> Gathered
+    requires { ⌜ Room (now tree) (now slots) n × TwoAt depth (now tree) at ⌝ }
+    ensures { λ r. ⌜ Gathers r (now (tree .entry)) (now (slots .exit)) (secondAt depth (now (tree .entry)) at .end) (addTarget (exprAt depth (now (tree .entry)) at .value) (firstNames (now (tree .entry)) n (now (slots .entry)))) ⌝ }
+{
+    if tree[at] == 6 {
+        let value = name_end(tree, at + 1);
+        let end = skip_value(tree, value, depth);
+        return gather_name(tree, at + 1, end, slots, n);
+    }
+    let value = skip_expr(tree, at, depth);
+    let end = skip_value(tree, value, depth);
+    Gathered::Next(end, n)
+}
+
+// A statement that holds no block of this function: below 3 one byte, 3 and 4 an expression, 5 an assignment, 9 and 10 a def or class.
 fn gather_plain(tree: &[u8], at: usize, depth: u32, slots: &mut [u32], n: u32) -> Gathered
     requires { ⌜ Room (now tree) (now slots) n × StmtReads depth (now tree) at × (getD (now tree) at 0 ≡ 6 → ⊥) × (getD (now tree) at 0 ≡ 7 → ⊥) × (getD (now tree) at 0 ≡ 8 → ⊥) ⌝ }
     ensures { λ r. ⌜ Gathers r (now (tree .entry)) (now (slots .exit)) (stmtAt depth (now (tree .entry)) at .end) (localsStmt (stmtAt depth (now (tree .entry)) at .value) (firstNames (now (tree .entry)) n (now (slots .entry)))) ⌝ }
 {
-    let end = skip_stmt(tree, at, depth);
     let kind = tree[at];
     let a = at + 1;
-    match kind {
-        5 => {
-            if tree[a] == 6 {
-                return gather_name(tree, a + 1, end, slots, n);
-            }
-            Gathered::Next(end, n)
-        }
-        9 => gather_name(tree, a, end, slots, n),
-        10 => gather_name(tree, a, end, slots, n),
-        _ => Gathered::Next(end, n),
+    if kind < 3 {
+        return Gathered::Next(a, n);
     }
+    if kind < 5 {
+        let end = skip_value(tree, a, depth - 1);
+        return Gathered::Next(end, n);
+    }
+    if kind == 5 {
+        return gather_assign(tree, a, depth - 1, slots, n);
+    }
+    let end = skip_stmt(tree, at, depth);
+    gather_name(tree, a, end, slots, n)
 }
 
 // A statement.

@@ -56,13 +56,31 @@ pub fn skip_expr(tree: &[u8], at: usize, depth: u32) -> usize
     }
 }
 
+// Where the expression at `at` ends; constants, numbers and variables need no call of skip_expr.
+pub fn skip_value(tree: &[u8], at: usize, depth: u32) -> usize
+    requires { ⌜ ExprReads depth (now tree) at ⌝ }
+    ensures { λ r. ⌜ r ≡ exprAt depth (now (tree .entry)) at .end ⌝ }
+{
+    let kind = tree[at];
+    if kind < 3 {
+        return at + 1;
+    }
+    if kind < 5 {
+        return at + 9;
+    }
+    if kind == 6 {
+        return name_end(tree, at + 1);
+    }
+    skip_expr(tree, at, depth)
+}
+
 // Where the second of two expressions ends.
 fn skip_two(tree: &[u8], at: usize, depth: u32) -> usize
     requires { ⌜ TwoAt depth (now tree) at ⌝ }
     ensures { λ r. ⌜ r ≡ secondAt depth (now (tree .entry)) at .end ⌝ }
 {
-    let p = skip_expr(tree, at, depth);
-    skip_expr(tree, p, depth)
+    let p = skip_value(tree, at, depth);
+    skip_value(tree, p, depth)
 }
 
 // Where the arguments after a callee end.
@@ -70,7 +88,7 @@ fn skip_call(tree: &[u8], at: usize, depth: u32) -> usize
     requires { ⌜ CallAt depth (now tree) at ⌝ }
     ensures { λ r. ⌜ r ≡ listAt depth (now (tree .entry)) (exprAt depth (now (tree .entry)) at .end) .end ⌝ }
 {
-    let p = skip_expr(tree, at, depth);
+    let p = skip_value(tree, at, depth);
     skip_list(tree, p, depth)
 }
 
@@ -79,7 +97,7 @@ fn skip_attribute(tree: &[u8], at: usize, depth: u32) -> usize
     requires { ⌜ AttributeAt depth (now tree) at ⌝ }
     ensures { λ r. ⌜ r ≡ nameEnd (now (tree .entry)) (exprAt depth (now (tree .entry)) at .end) ⌝ }
 {
-    let p = skip_expr(tree, at, depth);
+    let p = skip_value(tree, at, depth);
     name_end(tree, p)
 }
 
@@ -101,7 +119,7 @@ fn skip_dict(tree: &[u8], at: usize, depth: u32) -> usize
     skip_many(tree, at + 2, depth, 2 * count)
 }
 
-// Where so many expressions end; None, False and True are one byte each.
+// Where so many expressions end.
 fn skip_many(tree: &[u8], at: usize, depth: u32, count: u32) -> usize
     requires { ⌜ ExprsRead depth count (now tree) at ⌝ }
     ensures { λ r. ⌜ r ≡ exprsAt depth count (now (tree .entry)) at .end ⌝ }
@@ -109,12 +127,8 @@ fn skip_many(tree: &[u8], at: usize, depth: u32, count: u32) -> usize
     let mut p = at;
     let mut left = count;
     while 0 < left {
+        p = skip_value(tree, p, depth);
         left -= 1;
-        if tree[p] < 3 {
-            p += 1;
-        } else {
-            p = skip_expr(tree, p, depth);
-        }
     }
     p
 }

@@ -6,64 +6,70 @@ use Rattle.definitions.specs.Tree.{Exprs}
 use Rattle.parts.specs.Places.{Node}
 use Rattle.exprs.proofs.ExprViews.{expr-inside, expr-deep, expr-known, view-int, view-float, view-string, view-var, view-unary, view-binary, view-call, view-attribute, view-list, view-dict, view-tuple, view-set, view-tree-set, view-index, view-lambda}
 use Rattle.slots.proofs.Referring.{list-reads, list-is, dict-reads, dict-is}
-use Rattle.slots.proofs.Skipping.{plain-done, plain-kinds, int-done, float-done, string-done, var-done, unary-done, binary-done, call-done, attribute-done, display-done, dict-done, index-done, lambda-done, moved-expr, expr-after, moved-list, list-after, moved-name, name-after, ExprsLeft, exprs-head, exprs-next, exprs-done}
+use Rattle.slots.proofs.Skipping.{plain-done, number-done, plain-kinds, int-done, float-done, string-done, var-done, unary-done, binary-done, call-done, attribute-done, display-done, dict-done, index-done, lambda-done, moved-expr, expr-after, moved-list, list-after, moved-name, name-after, ExprsLeft, exprs-head, exprs-next, exprs-done}
 use Prim.Native.Nat.{ℕ, _<_}
 use borrow.Fn.Kinds.{In}
 use borrow.Fn.PlainCycle.{Measures, is, falls, and}
 use Rattle.slots.proofs.skip.skip_attribute.Reads as skip-attribute
 use Rattle.slots.proofs.skip.skip_attribute.Kinds as skip-attribute-kinds
-use Rattle.slots.proofs.skip.+skip_attribute+skip_call+skip_dict+skip_expr+skip_lambda+skip_list+skip_many+skip_two.Lts-skip_attribute as skip-attribute-lts
+use Rattle.slots.proofs.skip.+skip_attribute+skip_call+skip_dict+skip_expr+skip_lambda+skip_list+skip_many+skip_two+skip_value.Lts-skip_attribute as skip-attribute-lts
 use Rattle.slots.proofs.skip.skip_call.Reads as skip-call
 use Rattle.slots.proofs.skip.skip_call.Kinds as skip-call-kinds
-use Rattle.slots.proofs.skip.+skip_attribute+skip_call+skip_dict+skip_expr+skip_lambda+skip_list+skip_many+skip_two.Lts-skip_call as skip-call-lts
+use Rattle.slots.proofs.skip.+skip_attribute+skip_call+skip_dict+skip_expr+skip_lambda+skip_list+skip_many+skip_two+skip_value.Lts-skip_call as skip-call-lts
 use Rattle.slots.proofs.skip.skip_dict.Reads as skip-dict
 use Rattle.slots.proofs.skip.skip_dict.Kinds as skip-dict-kinds
-use Rattle.slots.proofs.skip.+skip_attribute+skip_call+skip_dict+skip_expr+skip_lambda+skip_list+skip_many+skip_two.Lts-skip_dict as skip-dict-lts
+use Rattle.slots.proofs.skip.+skip_attribute+skip_call+skip_dict+skip_expr+skip_lambda+skip_list+skip_many+skip_two+skip_value.Lts-skip_dict as skip-dict-lts
 use Rattle.slots.proofs.skip.skip_expr.Reads as skip-expr
 use Rattle.slots.proofs.skip.skip_expr.Kinds as skip-expr-kinds
-use Rattle.slots.proofs.skip.+skip_attribute+skip_call+skip_dict+skip_expr+skip_lambda+skip_list+skip_many+skip_two.Lts-skip_expr as skip-expr-lts
+use Rattle.slots.proofs.skip.+skip_attribute+skip_call+skip_dict+skip_expr+skip_lambda+skip_list+skip_many+skip_two+skip_value.Lts-skip_expr as skip-expr-lts
 use Rattle.slots.proofs.skip.skip_lambda.Reads as skip-lambda
 use Rattle.slots.proofs.skip.skip_lambda.Kinds as skip-lambda-kinds
-use Rattle.slots.proofs.skip.+skip_attribute+skip_call+skip_dict+skip_expr+skip_lambda+skip_list+skip_many+skip_two.Lts-skip_lambda as skip-lambda-lts
+use Rattle.slots.proofs.skip.+skip_attribute+skip_call+skip_dict+skip_expr+skip_lambda+skip_list+skip_many+skip_two+skip_value.Lts-skip_lambda as skip-lambda-lts
 use Rattle.slots.proofs.skip.skip_list.Reads as skip-list
 use Rattle.slots.proofs.skip.skip_list.Kinds as skip-list-kinds
-use Rattle.slots.proofs.skip.+skip_attribute+skip_call+skip_dict+skip_expr+skip_lambda+skip_list+skip_many+skip_two.Lts-skip_list as skip-list-lts
+use Rattle.slots.proofs.skip.+skip_attribute+skip_call+skip_dict+skip_expr+skip_lambda+skip_list+skip_many+skip_two+skip_value.Lts-skip_list as skip-list-lts
 use Rattle.slots.proofs.skip.skip_many.Reads as skip-many
 use Rattle.slots.proofs.skip.skip_many.Kinds as skip-many-kinds
-use Rattle.slots.proofs.skip.+skip_attribute+skip_call+skip_dict+skip_expr+skip_lambda+skip_list+skip_many+skip_two.Lts-skip_many as skip-many-lts
+use Rattle.slots.proofs.skip.+skip_attribute+skip_call+skip_dict+skip_expr+skip_lambda+skip_list+skip_many+skip_two+skip_value.Lts-skip_many as skip-many-lts
 use Rattle.slots.proofs.skip.skip_two.Reads as skip-two
 use Rattle.slots.proofs.skip.skip_two.Kinds as skip-two-kinds
-use Rattle.slots.proofs.skip.+skip_attribute+skip_call+skip_dict+skip_expr+skip_lambda+skip_list+skip_many+skip_two.Lts-skip_two as skip-two-lts
+use Rattle.slots.proofs.skip.+skip_attribute+skip_call+skip_dict+skip_expr+skip_lambda+skip_list+skip_many+skip_two+skip_value.Lts-skip_two as skip-two-lts
+use Rattle.slots.proofs.skip.skip_value.Reads as skip-value
+use Rattle.slots.proofs.skip.skip_value.Kinds as skip-value-kinds
+use Rattle.slots.proofs.skip.+skip_attribute+skip_call+skip_dict+skip_expr+skip_lambda+skip_list+skip_many+skip_two+skip_value.Lts-skip_value as skip-value-lts
 use Rattle.parts.proofs.names.name_end.Reads as name-end-reads
 use Rattle.parts.proofs.numbers.u16_at.Reads as u16-at-reads
 use Rattle.slots.proofs.skip.skip_params.Reads as skip-params-reads
 use Rattle.slots.proofs.skip.text_end.Reads as text-end-reads
-use Rattle.slots.proofs.skip.+skip_attribute+skip_call+skip_dict+skip_expr+skip_lambda+skip_list+skip_many+skip_two.{statement}
-use Rattle.slots.proofs.skip.+skip_attribute+skip_call+skip_dict+skip_expr+skip_lambda+skip_list+skip_many+skip_two.Tie.{close}
+use Rattle.slots.proofs.skip.+skip_attribute+skip_call+skip_dict+skip_expr+skip_lambda+skip_list+skip_many+skip_two+skip_value.{statement}
+use Rattle.slots.proofs.skip.+skip_attribute+skip_call+skip_dict+skip_expr+skip_lambda+skip_list+skip_many+skip_two+skip_value.Tie.{close}
 
 abbrev μ-skip-attribute : Measures 1 skip-attribute-kinds.ps ℕ
-μ-skip-attribute κs a = 4 * a .1 .1 .0 + 1
+μ-skip-attribute κs a = 5 * a .1 .1 .0 + 2
 
 abbrev μ-skip-call : Measures 1 skip-call-kinds.ps ℕ
-μ-skip-call κs a = 4 * a .1 .1 .0 + 3
+μ-skip-call κs a = 5 * a .1 .1 .0 + 4
 
 abbrev μ-skip-dict : Measures 1 skip-dict-kinds.ps ℕ
-μ-skip-dict κs a = 4 * a .1 .1 .0 + 2
+μ-skip-dict κs a = 5 * a .1 .1 .0 + 3
 
 abbrev μ-skip-expr : Measures 1 skip-expr-kinds.ps ℕ
-μ-skip-expr κs a = 4 * a .1 .1 .0
+μ-skip-expr κs a = 5 * a .1 .1 .0
 
 abbrev μ-skip-lambda : Measures 1 skip-lambda-kinds.ps ℕ
-μ-skip-lambda κs a = 4 * a .1 .1 .0 + 1
+μ-skip-lambda κs a = 5 * a .1 .1 .0 + 1
 
 abbrev μ-skip-list : Measures 1 skip-list-kinds.ps ℕ
-μ-skip-list κs a = 4 * a .1 .1 .0 + 2
+μ-skip-list κs a = 5 * a .1 .1 .0 + 3
 
 abbrev μ-skip-many : Measures 1 skip-many-kinds.ps ℕ
-μ-skip-many κs a = 4 * a .1 .1 .0 + 1
+μ-skip-many κs a = 5 * a .1 .1 .0 + 2
 
 abbrev μ-skip-two : Measures 1 skip-two-kinds.ps ℕ
-μ-skip-two κs a = 4 * a .1 .1 .0 + 1
+μ-skip-two κs a = 5 * a .1 .1 .0 + 2
+
+abbrev μ-skip-value : Measures 1 skip-value-kinds.ps ℕ
+μ-skip-value κs a = 5 * a .1 .1 .0 + 1
 
 abbrev skip-attribute-at : ℕ → In 1 skip-attribute-kinds.ps
 skip-attribute-at t =
@@ -131,17 +137,25 @@ abbrev skip-two-below : ℕ → In 1 skip-two-kinds.ps
 skip-two-below t =
     and 1 skip-two-kinds.ps (falls 1 skip-two-kinds.ps _<_ μ-skip-two t) skip-two.Pre
 
-skip-attribute-ok : {M : Type 1} (t : ℕ) → skip-attribute-lts.Closed (skip-expr-below t, skip-expr.Post, name-end-reads.Asked, name-end-reads.Learnt) (skip-attribute-at t) skip-attribute.Post M
-skip-attribute-ok t = skip-attribute-lts.spec (skip-expr-below t, skip-expr.Post, name-end-reads.Asked, name-end-reads.Learnt) (skip-attribute-at t) skip-attribute.Post
-    (λ c κs. (omega arith, c .before .pre .1 .object))  -- skip-expr-requires
-    (λ c κs. moved-name _ _ _ (c .skip-expr .ensures) (c .before .before .pre .1 .name))  -- name-end-requires
-    (λ c. name-after _ _ _ (c .before .skip-expr .ensures) _ (c .name-end .ensures))  -- returns
+abbrev skip-value-at : ℕ → In 1 skip-value-kinds.ps
+skip-value-at t =
+    and 1 skip-value-kinds.ps (is 1 skip-value-kinds.ps μ-skip-value t) skip-value.Pre
 
-skip-call-ok : {M : Type 1} (t : ℕ) → skip-call-lts.Closed (skip-expr-below t, skip-expr.Post, skip-list-below t, skip-list.Post) (skip-call-at t) skip-call.Post M
-skip-call-ok t = skip-call-lts.spec (skip-expr-below t, skip-expr.Post, skip-list-below t, skip-list.Post) (skip-call-at t) skip-call.Post
-    (λ c κs. (omega arith, c .before .pre .1 .callee))  -- skip-expr-requires
-    (λ c κs. (omega arith, moved-list _ _ _ _ (c .skip-expr .ensures) (c .before .before .pre .1 .args)))  -- skip-list-requires
-    (λ c. list-after _ _ _ _ (c .before .skip-expr .ensures) _ (c .skip-list .ensures))  -- returns
+abbrev skip-value-below : ℕ → In 1 skip-value-kinds.ps
+skip-value-below t =
+    and 1 skip-value-kinds.ps (falls 1 skip-value-kinds.ps _<_ μ-skip-value t) skip-value.Pre
+
+skip-attribute-ok : {M : Type 1} (t : ℕ) → skip-attribute-lts.Closed (skip-value-below t, skip-value.Post, name-end-reads.Asked, name-end-reads.Learnt) (skip-attribute-at t) skip-attribute.Post M
+skip-attribute-ok t = skip-attribute-lts.spec (skip-value-below t, skip-value.Post, name-end-reads.Asked, name-end-reads.Learnt) (skip-attribute-at t) skip-attribute.Post
+    (λ c κs. (omega arith, c .before .pre .1 .object))  -- skip-value-requires
+    (λ c κs. moved-name _ _ _ (c .skip-value .ensures) (c .before .before .pre .1 .name))  -- name-end-requires
+    (λ c. name-after _ _ _ (c .before .skip-value .ensures) _ (c .name-end .ensures))  -- returns
+
+skip-call-ok : {M : Type 1} (t : ℕ) → skip-call-lts.Closed (skip-value-below t, skip-value.Post, skip-list-below t, skip-list.Post) (skip-call-at t) skip-call.Post M
+skip-call-ok t = skip-call-lts.spec (skip-value-below t, skip-value.Post, skip-list-below t, skip-list.Post) (skip-call-at t) skip-call.Post
+    (λ c κs. (omega arith, c .before .pre .1 .callee))  -- skip-value-requires
+    (λ c κs. (omega arith, moved-list _ _ _ _ (c .skip-value .ensures) (c .before .before .pre .1 .args)))  -- skip-list-requires
+    (λ c. list-after _ _ _ _ (c .before .skip-value .ensures) _ (c .skip-list .ensures))  -- returns
 
 skip-dict-ok : {M : Type 1} (t : ℕ) → skip-dict-lts.Closed (u16-at-reads.Asked, u16-at-reads.Learnt, skip-many-below t, skip-many.Post) (skip-dict-at t) skip-dict.Post M
 skip-dict-ok t = skip-dict-lts.spec (u16-at-reads.Asked, u16-at-reads.Learnt, skip-many-below t, skip-many.Post) (skip-dict-at t) skip-dict.Post
@@ -219,24 +233,33 @@ skip-many-Inv-loop tree at depth count p₀ left₀ p left = ExprsLeft depth tre
 abbrev skip-many-μ-loop : skip-many-lts.MeasureT-loop
 skip-many-μ-loop tree at depth count p₀ left₀ p left = left
 
-skip-many-ok : {M : Type 1} (t : ℕ) → skip-many-lts.Closed (skip-expr-below t, skip-expr.Post) (skip-many-at t) skip-many.Post M
-skip-many-ok t = skip-many-lts.spec (skip-expr-below t, skip-expr.Post) (skip-many-at t) skip-many.Post skip-many-Inv-loop skip-many-μ-loop
+skip-many-ok : {M : Type 1} (t : ℕ) → skip-many-lts.Closed (skip-value-below t, skip-value.Post) (skip-many-at t) skip-many.Post M
+skip-many-ok t = skip-many-lts.spec (skip-value-below t, skip-value.Post) (skip-many-at t) skip-many.Post skip-many-Inv-loop skip-many-μ-loop
     (λ c. record { reads = c .before .pre .1; end = refl })  -- loop-holds
+    (λ c κs. (omega arith, exprs-head _ _ _ _ _ _ (c .before .loop .inv) (c .loop-test .taken)))  -- skip-value-requires
     (λ c. omega arith)  -- sub-left
-    (λ c. let h = expr-inside _ _ _ (exprs-head _ _ _ _ _ _ (c .before .before .loop .inv) (c .before .loop-test .taken)) in omega arith)  -- shared-slice-read-if1
-    (λ c. let h = expr-inside _ _ _ (exprs-head _ _ _ _ _ _ (c .before .before .before .loop .inv) (c .before .before .loop-test .taken)) in omega arith)  -- add-p
     (λ c. omega arith)  -- loop-less
-    (λ c. exprs-next _ _ _ _ _ _ (c .before .before .before .loop .inv) (c .before .before .loop-test .taken) _ (plain-done _ _ _ (exprs-head _ _ _ _ _ _ (c .before .before .before .loop .inv) (c .before .before .loop-test .taken)) (c .if1 .taken)))  -- loop-again
-    (λ c κs. (omega arith, exprs-head _ _ _ _ _ _ (c .before .before .before .loop .inv) (c .before .before .loop-test .taken)))  -- skip-expr-requires
-    (λ c. omega arith)  -- loop-less-2
-    (λ c. exprs-next _ _ _ _ _ _ (c .before .before .before .before .loop .inv) (c .before .before .before .loop-test .taken) _ (c .skip-expr .ensures))  -- loop-again-2
+    (λ c. exprs-next _ _ _ _ _ _ (c .before .before .loop .inv) (c .before .loop-test .taken) _ (c .skip-value .ensures))  -- loop-again
     (λ c. exprs-done _ _ _ _ _ _ (c .before .loop .inv) (c .loop-test .left))  -- returns
 
-skip-two-ok : {M : Type 1} (t : ℕ) → skip-two-lts.Closed (skip-expr-below t, skip-expr.Post) (skip-two-at t) skip-two.Post M
-skip-two-ok t = skip-two-lts.spec (skip-expr-below t, skip-expr.Post) (skip-two-at t) skip-two.Post
-    (λ c κs. (omega arith, c .before .pre .1 .first))  -- skip-expr-requires
-    (λ c κs. (omega arith, moved-expr _ _ _ _ (c .skip-expr .ensures) (c .before .before .pre .1 .second)))  -- skip-expr-requires-2
-    (λ c. expr-after _ _ _ _ (c .before .skip-expr .ensures) _ (c .skip-expr2 .ensures))  -- returns
+skip-two-ok : {M : Type 1} (t : ℕ) → skip-two-lts.Closed (skip-value-below t, skip-value.Post) (skip-two-at t) skip-two.Post M
+skip-two-ok t = skip-two-lts.spec (skip-value-below t, skip-value.Post) (skip-two-at t) skip-two.Post
+    (λ c κs. (omega arith, c .before .pre .1 .first))  -- skip-value-requires
+    (λ c κs. (omega arith, moved-expr _ _ _ _ (c .skip-value .ensures) (c .before .before .pre .1 .second)))  -- skip-value-requires-2
+    (λ c. expr-after _ _ _ _ (c .before .skip-value .ensures) _ (c .skip-value2 .ensures))  -- returns
 
-pub +skip-attribute+skip-call+skip-dict+skip-expr+skip-lambda+skip-list+skip-many+skip-two-spec : {M : Type 1} → statement M
-+skip-attribute+skip-call+skip-dict+skip-expr+skip-lambda+skip-list+skip-many+skip-two-spec = close μ-skip-attribute μ-skip-call μ-skip-dict μ-skip-expr μ-skip-lambda μ-skip-list μ-skip-many μ-skip-two skip-attribute-ok skip-call-ok skip-dict-ok skip-expr-ok skip-lambda-ok skip-list-ok skip-many-ok skip-two-ok
+skip-value-ok : {M : Type 1} (t : ℕ) → skip-value-lts.Closed (name-end-reads.Asked, name-end-reads.Learnt, skip-expr-below t, skip-expr.Post) (skip-value-at t) skip-value.Post M
+skip-value-ok t = skip-value-lts.spec (name-end-reads.Asked, name-end-reads.Learnt, skip-expr-below t, skip-expr.Post) (skip-value-at t) skip-value.Post
+    (λ c. let h = expr-inside _ _ _ (c .before .before .pre .1) in omega arith)  -- shared-slice-read-kind
+    (λ c. let h = expr-inside _ _ _ (c .before .before .before .pre .1) in omega arith)  -- add-result
+    (λ c. plain-done _ _ _ (c .before .before .before .pre .1) (c .if1 .taken))  -- returns
+    (λ c. let h = expr-inside _ _ _ (c .before .before .before .before .pre .1) in omega arith)  -- add-result-2
+    (λ c. number-done _ _ _ (c .before .before .before .before .pre .1) (c .before .if1 .left) (c .if2 .taken))  -- returns-2
+    (λ c. let h = expr-inside _ _ _ (c .before .before .before .before .before .pre .1) in omega arith)  -- add-name-end
+    (λ c κs. view-var _ _ _ (c .before .before .before .before .before .pre .1) (c .if3 .taken) .parts)  -- name-end-requires
+    (λ c. var-done _ _ _ (c .before .before .before .before .before .before .pre .1) _ (c .before .if3 .taken) (c .name-end .ensures))  -- returns-3
+    (λ c κs. (omega arith, c .before .before .before .before .before .pre .1))  -- skip-expr-requires
+    (λ c. c .skip-expr .ensures)  -- returns-4
+
+pub +skip-attribute+skip-call+skip-dict+skip-expr+skip-lambda+skip-list+skip-many+skip-two+skip-value-spec : {M : Type 1} → statement M
++skip-attribute+skip-call+skip-dict+skip-expr+skip-lambda+skip-list+skip-many+skip-two+skip-value-spec = close μ-skip-attribute μ-skip-call μ-skip-dict μ-skip-expr μ-skip-lambda μ-skip-list μ-skip-many μ-skip-two μ-skip-value skip-attribute-ok skip-call-ok skip-dict-ok skip-expr-ok skip-lambda-ok skip-list-ok skip-many-ok skip-two-ok skip-value-ok
