@@ -4,16 +4,21 @@ use mathlib.Core.Bool.{Bool, true, false, _&&_, _||_}
 use mathlib.Core.List.{List, [], _∷_, _++_, map, append-nil}
 use Prim.Native.Nat.{ℕ, zero, suc, _+_, _*_, _-_, _/_, _%_, _^_, _≤_, _<_}
 use native.Mathlib.Omega.{arith}
-use native.Mathlib.Nat.{pow-succ', pow-le-pow-right, add-mul, mul-assoc}
+use native.Mathlib.Nat.{pow-succ', pow-le-pow-right, add-mul, mul-assoc, mod-eq-of-lt, mul-add-div-right, mul-add-mod-self-right}
+use native.Mathlib.Numerals.{add-one}
+use lib.Arith.{digits-div, digits-lt}
 use lib.Dec.{eqb, ltb, leb, lit<}
-use lib.ListN.{length, getD, set, length-append, List·getD-map}
-use borrow.Author.Tests.{eq-eqb, ne-eqb, lt-ltb, le-ltb, le-leb, lt-leb}
+use lib.ListN.{length, getD, set, take, drop, length-append, length-take, length-drop, List·getD-map}
+use lib.Seq.{drop-cons, take-all}
+use borrow.Author.Tests.{eqb-true, eqb-false, eq-eqb, ne-eqb, lt-ltb, le-ltb, le-leb, lt-leb}
 use Rattle.definitions.specs.Bytes.{be}
 use Rattle.definitions.specs.Instruction.{Instr, instr, ConstI64, Row, row, nothing, instructionTable, rowOf, firstWidth, secondWidth, encode}
 use Rattle.definitions.specs.Reader.{isJump}
 use Rattle.definitions.proofs.Truth.{left, right, at-most}
 use Rattle.definitions.proofs.BytesWritten.{length-be}
 use Rattle.state.specs.Words.{opOf, firstOf, secondOf, widened, operandOf, numberAt, instrOf}
+use Rattle.widths.proofs.Laws.{no-operands}
+use Rattle.module.specs.Sections.{Wrote}
 use Rattle.module.proofs.Begun.{joined, Begun, begun-first, wrote-byte}
 
 -- ---- the tables
@@ -59,7 +64,7 @@ module _ (t : List ℕ) (w : ℕ) where
   of-other n = rw (ne-eqb (w / 2 ^ 24) 48 n, instrOf)
 
 module _ (t : List ℕ) (op a : ℕ) where
-  pub operand-eight : op < 2 → operandOf t op a ≡ numberAt 8 t a
+  operand-eight : op < 2 → operandOf t op a ≡ numberAt 8 t a
   unfolding operandOf
   operand-eight h = go op h
     where
@@ -72,17 +77,36 @@ module _ (t : List ℕ) (op a : ℕ) where
   unfolding operandOf
   plain h j = rw (ne-eqb op 0 (λ e. omega arith), operandOf) (rw (ne-eqb op 1 (λ e. omega arith)) (rw j))
 
-  pub operand-low : 2 ≤ op → op < 28 → operandOf t op a ≡ a
+  operand-low : 2 ≤ op → op < 28 → operandOf t op a ≡ a
   unfolding isJump
   operand-low h k = plain h (rw (lt-leb 28 op k))
 
-  pub operand-high : 30 < op → operandOf t op a ≡ a
+  operand-high : 30 < op → operandOf t op a ≡ a
   unfolding isJump
   operand-high k = plain (omega arith) (rw (le-leb 28 op (omega arith)) (lt-leb op 30 k))
 
-  pub operand-jump : 28 ≤ op → op ≤ 30 → operandOf t op a ≡ widened a
+  operand-jump : 28 ≤ op → op ≤ 30 → operandOf t op a ≡ widened a
   unfolding operandOf isJump
   operand-jump h k = rw (ne-eqb op 0 (λ e. omega arith), operandOf) (rw (ne-eqb op 1 (λ e. omega arith)) (rw (le-leb 28 op h, le-leb op 30 k)))
+
+-- the first operand of a word that is no small integer
+module _ (t : List ℕ) (w : ℕ) where
+  first-of : (n : ℕ) → (w / 2 ^ 24 ≡ 48 → ⊥) → operandOf t (opOf w) (firstOf w) ≡ n → instrOf t w .a ≡ n
+  first-of n h e = ap (λ (i : Instr). i .a) (of-other t w h) ∙ e
+
+  pub first-low : 33554432 ≤ w → w / 16777216 < 28 → instrOf t w .a ≡ w / 256 % 65536
+  first-low h k = first-of (firstOf w) (λ e. omega arith) (operand-low t (opOf w) (firstOf w) (omega arith) k)
+
+  -- of a small integer it is the same
+  pub first-high : 30 < w / 16777216 → instrOf t w .a ≡ w / 256 % 65536
+  first-high k = go (eqb (w / 2 ^ 24) 48) refl
+    where
+      go : (b : Bool) → eqb (w / 2 ^ 24) 48 ≡ b → instrOf t w .a ≡ w / 256 % 65536
+      go true e = ap (λ (i : Instr). i .a) (of-small t w (eqb-true (w / 2 ^ 24) 48 e))
+      go false e = first-of (firstOf w) (eqb-false (w / 2 ^ 24) 48 e) (operand-high t (opOf w) (firstOf w) k)
+
+  pub first-jump : 28 ≤ w / 16777216 → w / 16777216 ≤ 30 → instrOf t w .a ≡ widened (w / 256 % 65536)
+  first-jump h k = first-of (widened (firstOf w)) (λ e. omega arith) (operand-jump t (opOf w) (firstOf w) h k)
 
 pub widened-low : (a : ℕ) → a < 32768 → a ≡ widened a
 unfolding widened
@@ -121,6 +145,52 @@ pub number-all : (t : List ℕ) (at i n : ℕ) → i ≤ 8 → 8 ≤ i → n * 2
 unfolding numberAt
 number-all t at i n h l = ap (λ (k : ℕ). n * 256 ^ k + numberAt k t (at + i)) (let z : 8 - i ≡ 0 = omega arith in z) ∙ (let z : n * 256 ^ 0 + 0 ≡ n = omega arith in z)
 
+-- ---- the bytes of a number that stands in a list of bytes
+
+positive : (w : ℕ) → 0 < 256 ^ w
+positive zero = lit< tt
+positive (suc w) = subst (λ (x : ℕ). 0 < x) (sym (pow-succ' 256 w)) (omega (arith, positive w))
+
+number-small : (t : List ℕ) → ((i : ℕ) → getD t i 0 < 256) → (w p : ℕ) → numberAt w t p < 256 ^ w
+unfolding numberAt
+number-small t b zero p = lit< tt
+number-small t b (suc w) p = subst (λ (x : ℕ). getD t p 0 * 256 ^ w + numberAt w t (p + 1) < x) (sym (pow-succ' 256 w)) (digits-lt (b p) (number-small t b w (p + 1)))
+
+-- the low bytes do not see what is above them
+be-low : (w k r : ℕ) → be w (k * 256 ^ w + r) ≡ be w r
+unfolding be
+be-low zero k r = refl
+be-low (suc w) k r =
+    let s : k * 256 ^ suc w + r ≡ k * 256 * 256 ^ w + r = ap (λ (x : ℕ). x + r) (ap (λ (x : ℕ). k * x) (pow-succ' 256 w) ∙ sym (mul-assoc k 256 (256 ^ w))) in
+    ap₂ (λ (x : ℕ) (xs : List ℕ). x ∷ xs)
+    (ap (λ (x : ℕ). x / 256 ^ w % 256) s ∙ ap (λ (x : ℕ). x % 256) (mul-add-div-right (positive w) (k * 256) r) ∙ mul-add-mod-self-right k 256 (r / 256 ^ w))
+    (ap (be w) s ∙ be-low w (k * 256) r)
+
+-- the bytes of the number that w bytes make are those bytes
+be-number : (t : List ℕ) → ((i : ℕ) → getD t i 0 < 256) → (w p : ℕ) → p + w ≤ length t → be w (numberAt w t p) ≡ take w (drop p t)
+unfolding be numberAt
+be-number t b zero p h = refl
+be-number t b (suc w) p h =
+    ap₂ (λ (x : ℕ) (xs : List ℕ). x ∷ xs)
+    (ap (λ (x : ℕ). x % 256) (digits-div (getD t p 0) (number-small t b w (p + 1))) ∙ mod-eq-of-lt (b p))
+    (be-low w (getD t p 0) (numberAt w t (p + 1)) ∙ be-number t b w (p + 1) (omega arith))
+    ∙ sym (ap (take (suc w)) (drop-cons t p 0 (omega arith) ∙ ap (λ (k : ℕ). getD t p 0 ∷ drop k t) (sym (add-one p))))
+
+-- a number by another name
+pub wrote-eight : {r n m : ℕ} {xs ys : List ℕ} → n ≡ m → Wrote r (be 8 n) xs ys → Wrote r (be 8 m) xs ys
+wrote-eight {r} {n} {m} {xs} {ys} e w = subst (λ (k : ℕ). Wrote r (be 8 k) xs ys) e w
+
+-- eight bytes of a list, as a part of it
+module _ (t : List ℕ) (at : ℕ) (h : at + 8 ≤ length t) where
+  pub eight-long : length (take (at + 8 - at) (drop at t)) ≡ 8
+  eight-long = simp (length-take, length-drop) (omega arith)
+
+  pub eight-copied : ((i : ℕ) → getD t i 0 < 256) → (i : ℕ) → 8 ≤ i → take i (take (at + 8 - at) (drop at t)) ≡ be 8 (numberAt 8 t at)
+  eight-copied b i k =
+      take-all i (take (at + 8 - at) (drop at t)) (let l = eight-long in omega arith)
+      ∙ ap (λ (n : ℕ). take n (drop at t)) (let z : at + 8 - at ≡ 8 = omega arith in z)
+      ∙ sym (be-number t b 8 at h)
+
 -- ---- an instruction's bytes
 
 pub length-encode : (i : Instr) → length (encode i) ≡ 1 + firstWidth (i .op) + secondWidth (i .op)
@@ -140,3 +210,32 @@ begun-word t xs w {op} {f} {s} {a} {b} o e₁ e₂ e₃ e₄ h =
     let n : encode i ≡ (op ∷ []) ++ joined (be f a ∷ be s b ∷ []) =
     encode-pieces i ∙ sym (λ j. (o j ∷ []) ++ joined (be ((e₁ ∙ ap firstWidth o) j) (e₃ j) ∷ be ((e₂ ∙ ap secondWidth o) j) (e₄ j) ∷ [])) in
     begun-first n h (wrote-byte op xs (omega arith))
+
+-- an instruction without operands is its opcode
+pub wrote-alone : (t xs : List ℕ) (w : ℕ) {op f : ℕ} → op ≡ instrOf t w .op → f ≡ firstWidth op → f ≡ 0 → length (encode (instrOf t w)) ≤ length xs →
+    Wrote 1 (encode (instrOf t w)) xs (set xs 0 op)
+unfolding encode be
+wrote-alone t xs w {op} {f} o e z h =
+    let i = instrOf t w in
+    let l = length-encode i in
+    let k : firstWidth (i .op) ≡ 0 = ap firstWidth (sym o) ∙ sym e ∙ z in
+    let n : op ∷ [] ≡ encode i = λ j. o j ∷ (be (sym k j) (i .a) ++ be (sym (no-operands (i .op) k) j) (i .b)) in
+    subst (λ (bs : List ℕ). Wrote 1 bs xs (set xs 0 op)) n (wrote-byte op xs (omega arith))
+
+-- ConstI64 and ConstF64 have eight bytes of operand
+place-bytes : (op a b : ℕ) → op < 2 → encode (instr op a b) ≡ (op ∷ []) ++ joined (be 8 a ∷ [])
+unfolding encode firstWidth secondWidth rowOf instructionTable be joined
+place-bytes zero a b h = refl
+place-bytes (suc zero) a b h = refl
+place-bytes (suc (suc op)) a b h = absurd (omega arith)
+
+-- the opcode of a word whose operand is a place in the tree is written
+pub begun-place : (t xs : List ℕ) (w : ℕ) → w < 33554432 → length (encode (instrOf t w)) ≤ length xs →
+    Begun (encode (instrOf t w)) xs 1 (set xs 0 (w / 16777216)) (be 8 (numberAt 8 t (w / 256 % 65536)) ∷ [])
+begun-place t xs w s h =
+    let l = length-encode (instrOf t w) in
+    let o : w / 2 ^ 24 < 2 = omega arith in
+    begun-first
+    (ap encode (of-other t w (λ e. omega arith)) ∙ place-bytes (opOf w) (operandOf t (opOf w) (firstOf w)) (secondOf w) o
+    ∙ ap (λ (n : ℕ). (opOf w ∷ []) ++ joined (be 8 n ∷ [])) (operand-eight t (opOf w) (firstOf w) o))
+    h (wrote-byte (w / 16777216) xs (omega arith))

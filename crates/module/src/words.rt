@@ -3,10 +3,12 @@ use crate::numbers::write_number;
 use names::spell::byte;
 use widths::first_width;
 use widths::second_width;
+use widths::whole_width;
 ghost use mathlib.Core.Path.{_≡_};
 ghost use mathlib.Core.List.{List};
 ghost use Prim.Native.Nat.{ℕ, _+_, _≤_, _<_, _^_};
 ghost use lib.ListN.{length};
+ghost use Rattle.definitions.specs.Bytes.{be};
 ghost use Rattle.definitions.specs.Instruction.{encode};
 ghost use Rattle.state.specs.Words.{numberAt, instrOf};
 ghost use Rattle.state.specs.Words as Words;
@@ -37,6 +39,24 @@ fn eight_at(bytes: &[u8], at: usize) -> u64
     n
 }
 
+// The eight bytes at `at`, 0 for those past the end.
+fn copy_eight(bytes: &[u8], at: usize, out: &mut [u8]) -> usize
+    requires { ⌜ (at < 2 ^ 32) × (8 ≤ length (now out)) ⌝ }
+    ensures { λ r. ⌜ Wrote r (be 8 (numberAt 8 (now (bytes .entry)) at)) (now (out .entry)) (now (out .exit)) ⌝ }
+{
+    if bytes.len() < at + 8 {
+        return write_number(8, eight_at(bytes, at), out);
+    }
+    let end = at + 8;
+    let part = &bytes[at..end];
+    let mut i = 0usize;
+    while i < 8 {
+        out[i] = part[i];
+        i += 1;
+    }
+    8
+}
+
 // A signed number of 16 bits in 32 bits.
 fn widened(a: u32) -> u32
     requires { ⌜ a < 65536 ⌝ }
@@ -45,18 +65,13 @@ fn widened(a: u32) -> u32
     if a < 32768 { a } else { a + 4294901760 }
 }
 
-// A word's first operand: of ConstI64 and ConstF64 the eight bytes at that place in the tree, of a jump signed.
-fn first_operand(tree: &[u8], w: u32) -> u64
-    ensures { λ r. ⌜ r ≡ instrOf (now (tree .entry)) w .a ⌝ }
+// A word's first operand where it is no place in the tree: of a jump signed.
+fn first_operand(w: u32) -> u64
+    requires { ⌜ 33554432 ≤ w ⌝ }
+    ensures { λ r. ⌜ ((t : List ℕ) → r ≡ instrOf t w .a) ⌝ }
 {
     let op = w / 16777216;
     let a = w / 256 % 65536;
-    if op == 48 {
-        return a as u64;
-    }
-    if op < 2 {
-        return eight_at(tree, a as usize);
-    }
     if op < 28 {
         return a as u64;
     }
@@ -79,10 +94,16 @@ fn second_operand(w: u32) -> u64
 pub fn instruction_size(w: u32) -> usize
     ensures { λ r. ⌜ ((t : List ℕ) → r ≡ length (encode (instrOf t w))) × (r ≤ 10) ⌝ }
 {
-    let op = opcode(w);
-    let first = first_width(op);
-    let second = second_width(op);
-    1 + first as usize + second as usize
+    whole_width(opcode(w)) as usize
+}
+
+// The bytes of a ConstI64 or ConstF64 whose operand is a place in the tree: a word with the opcode 0 or 1.
+fn write_place(tree: &[u8], w: u32, out: &mut [u8]) -> usize
+    requires { ⌜ (w < 33554432) × (length (encode (instrOf (now tree) w)) ≤ length (now out)) ⌝ }
+    ensures { λ r. ⌜ Wrote r (encode (instrOf (now (tree .entry)) w)) (now (out .entry)) (now (out .exit)) ⌝ }
+{
+    out[0] = (w / 16777216) as u8;
+    1 + copy_eight(tree, (w / 256 % 65536) as usize, &mut out[1..])
 }
 
 // The instruction's bytes: the opcode and the operands in their widths.
@@ -92,8 +113,15 @@ pub fn write_instruction(tree: &[u8], w: u32, out: &mut [u8]) -> usize
 {
     let op = opcode(w);
     let first = first_width(op) as usize;
+    if first == 0 {
+        out[0] = op as u8;
+        return 1;
+    }
+    if w < 33554432 {
+        return write_place(tree, w, out);
+    }
     let second = second_width(op) as usize;
-    let a = first_operand(tree, w);
+    let a = first_operand(w);
     let b = second_operand(w);
     out[0] = op as u8;
     let n = write_number(first, a, &mut out[1..]);

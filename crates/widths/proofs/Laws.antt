@@ -6,7 +6,7 @@ use mathlib.Core.Logic.{⊎-elim}
 use Prim.Native.Nat.{ℕ, zero, suc, _≤_, _<_}
 use native.Mathlib.Omega.{arith}
 use lib.Dec.{eqb, T}
-use borrow.Author.Tests.{ne-eqb}
+use borrow.Author.Tests.{eq-eqb, ne-eqb}
 use lib.ListN.{getD, List·getD-map, List·getD-eq-default}
 use Rattle.definitions.specs.Instruction.{Row, row, nothing, instructionTable, rowOf, firstWidth, secondWidth}
 use Rattle.definitions.proofs.Begins.{le-or-gt}
@@ -72,3 +72,35 @@ second-none op e = ⊎-elim
     (λ (h : 46 ≤ op). second-past op h)
     (λ (h : op < 46). no-key (getD second-column op 0) (has-second op) (second-within op h) e)
     (le-or-gt 46 op) ∙ second-is op
+
+-- an instruction without a first operand has no second: the second operand's width where the first's is 0, else 0
+lone : Row → ℕ
+lone r = elim (eqb (r .first) 0) [ true ↦ r .second | false ↦ 0 ]
+
+lone-column : List ℕ
+lone-column = map lone instructionTable
+
+lone-is : (op : ℕ) → getD lone-column op 0 ≡ lone (rowOf op)
+unfolding lone-column lone rowOf
+lone-is op = List·getD-map lone instructionTable op (row "" 0 0 nothing)
+
+lone-rule : ℕ → ℕ → Bool
+lone-rule k x = eqb x 0 || false
+
+lone-within : (op : ℕ) → op < 46 → T (eqb (getD lone-column op 0) 0 || false)
+unfolding lone-column lone lone-rule instructionTable
+lone-within op h = at lone-rule lone-column tt op h
+
+lone-past : (op : ℕ) → 46 ≤ op → 0 ≡ getD lone-column op 0
+unfolding lone-column instructionTable
+lone-past op h = sym (List·getD-eq-default lone-column 0 h)
+
+lone-none : (op : ℕ) → 0 ≡ lone (rowOf op)
+lone-none op = ⊎-elim
+    (λ (h : 46 ≤ op). lone-past op h)
+    (λ (h : op < 46). no-key (getD lone-column op 0) false (lone-within op h) refl)
+    (le-or-gt 46 op) ∙ lone-is op
+
+pub no-operands : (op : ℕ) → firstWidth op ≡ 0 → secondWidth op ≡ 0
+unfolding lone firstWidth secondWidth
+no-operands op e = sym (lone-none op ∙ rw (eq-eqb (rowOf op .first) 0 e, lone))
