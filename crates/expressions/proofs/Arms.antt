@@ -27,10 +27,10 @@ pub and-both : (a b : Bool) → a && b ≡ true → (a ≡ true) × (b ≡ true)
 and-both true b e = (refl, e)
 and-both false b e = absurd (true≢false (sym e))
 
--- the expression at p holds what Parts says; its code is e, and it ends at q
-pub record Arm (Parts : Type 0) (d : ℕ) (t : List ℕ) (names : List Name) (p : ℕ) (e : Emit) (q : ℕ) : Type 0 where
+-- the expression at p holds what Parts says; its code is e, by the names of the slots, and it ends at q
+pub record Arm (Parts : Type 0) (d : ℕ) (t : List ℕ) (p : ℕ) (e : List Name → Emit) (q : ℕ) : Type 0 where
   pub parts : Parts
-  pub code : exprCode d t names p ≡ e
+  pub code : (names : List Name) → exprCode d t names p ≡ e names
   pub end : exprAt d t p .end ≡ q
 
 pub name-same : (t : List ℕ) (p : ℕ) → nameBytes t p ≡ nameAt t p
@@ -83,7 +83,7 @@ few-args : (d : ℕ) (t : List ℕ) (q : ℕ) → ExprsRead d (countAt t q) t (q
 unfolding askArgs ifAsked
 few-args d t q r a = let n = exprs-count d (countAt t q) t (q + 2) r in let h = leb-true (count (listAt d t q .value)) 255 a in omega arith
 
-module _ (d : ℕ) (t : List ℕ) (names : List Name) (p : ℕ) (r : Lowerable d t names p) where
+module _ (d : ℕ) (t : List ℕ) (p : ℕ) (r : Lowerable d t p) where
   pub arm-deep : 0 < d
   arm-deep = let h = expr-deep d t p (r .reads) in omega arith
 
@@ -94,23 +94,23 @@ module _ (d : ℕ) (t : List ℕ) (names : List Name) (p : ℕ) (r : Lowerable d
   asked : (e : Expr) → exprAt d t p .value ≡ e → askExpr 13 e ≡ true
   asked e w = ap (askExpr 13) (sym w) ∙ r .args
 
-  pub arm-literal : getD t p 0 < 6 → Arm (LiteralAt t p) d t names p (exprCode 1 t names p) (exprAt 1 t p .end)
+  pub arm-literal : getD t p 0 < 6 → Arm (LiteralAt t p) d t p (λ names. exprCode 1 t names p) (exprAt 1 t p .end)
   arm-literal h =
       let v = view-literal d t p (r .reads) h in
-      record { parts = v .parts; code = ap (λ (x : Node Expr). emitExpr names (x .value)) (v .is); end = ap (λ (x : Node Expr). x .end) (v .is) }
+      record { parts = v .parts; code = λ names. ap (λ (x : Node Expr). emitExpr names (x .value)) (v .is); end = ap (λ (x : Node Expr). x .end) (v .is) }
 
-  pub arm-variable : getD t p 0 ≡ 6 → Arm (There t (p + 1)) d t names p (load names (nameAt t (p + 1))) (nameEnd t (p + 1))
+  pub arm-variable : getD t p 0 ≡ 6 → Arm (There t (p + 1)) d t p (λ names. load names (nameAt t (p + 1))) (nameEnd t (p + 1))
   unfolding varAt emitExpr
   arm-variable k =
       let v = view-var d t p (r .reads) k in
       record {
         parts = v .parts;
-        code = ap (λ (x : Node Expr). emitExpr names (x .value)) (v .is) ∙ ap (load names) (name-same t (p + 1));
+        code = λ names. ap (λ (x : Node Expr). emitExpr names (x .value)) (v .is) ∙ ap (load names) (name-same t (p + 1));
         end = ap (λ (x : Node Expr). x .end) (v .is);
       }
 
-  pub arm-unary : getD t p 0 ≡ 7 → Arm (UnaryLowerable (d - 1) t names (p + 1)) d t names p
-      (exprCode (d - 1) t names (p + 1 + 1) ⨟ one (instr (unaryOpcode (getD t (p + 1) 0)) 0 0)) (exprAt (d - 1) t (p + 1 + 1) .end)
+  pub arm-unary : getD t p 0 ≡ 7 → Arm (UnaryLowerable (d - 1) t (p + 1)) d t p
+      (λ names. exprCode (d - 1) t names (p + 1 + 1) ⨟ one (instr (unaryOpcode (getD t (p + 1) 0)) 0 0)) (exprAt (d - 1) t (p + 1 + 1) .end)
   unfolding unaryAt emitExpr askExpr unaryOpcode
   arm-unary k =
       let v = view-unary d t p (r .reads) k in
@@ -124,12 +124,12 @@ module _ (d : ℕ) (t : List ℕ) (names : List Name) (p : ℕ) (r : Lowerable d
           operator = v .parts .operator;
           operand = record { reads = v .parts .operand; args = asked _ w };
         };
-        code = ap (emitExpr names) w;
+        code = λ names. ap (emitExpr names) w;
         end = ap (λ (n : Node Expr). n .end) (v .is);
       }
 
-  pub arm-binary : getD t p 0 ≡ 8 → Arm (BinaryLowerable (d - 1) t names (p + 1)) d t names p
-      (emitExpr names (binaryOf (getD t (p + 1) 0) (exprAt (d - 1) t (p + 1 + 1) .value) (secondAt (d - 1) t (p + 1 + 1) .value))) (secondAt (d - 1) t (p + 1 + 1) .end)
+  pub arm-binary : getD t p 0 ≡ 8 → Arm (BinaryLowerable (d - 1) t (p + 1)) d t p
+      (λ names. emitExpr names (binaryOf (getD t (p + 1) 0) (exprAt (d - 1) t (p + 1 + 1) .value) (secondAt (d - 1) t (p + 1 + 1) .value))) (secondAt (d - 1) t (p + 1 + 1) .end)
   unfolding binaryAt
   arm-binary k =
       let v = view-binary d t p (r .reads) k in
@@ -145,12 +145,12 @@ module _ (d : ℕ) (t : List ℕ) (names : List Name) (p : ℕ) (r : Lowerable d
             second = record { reads = v .parts .operands .second; args = a .1 };
           };
         };
-        code = ap (emitExpr names) w;
+        code = λ names. ap (emitExpr names) w;
         end = ap (λ (n : Node Expr). n .end) (v .is);
       }
 
-  pub arm-call : getD t p 0 ≡ 9 → Arm (CallLowerable (d - 1) t names (p + 1)) d t names p
-      (emitExpr names (call (exprAt (d - 1) t (p + 1) .value) (listAt (d - 1) t (exprAt (d - 1) t (p + 1) .end) .value))) (listAt (d - 1) t (exprAt (d - 1) t (p + 1) .end) .end)
+  pub arm-call : getD t p 0 ≡ 9 → Arm (CallLowerable (d - 1) t (p + 1)) d t p
+      (λ names. emitExpr names (call (exprAt (d - 1) t (p + 1) .value) (listAt (d - 1) t (exprAt (d - 1) t (p + 1) .end) .value))) (listAt (d - 1) t (exprAt (d - 1) t (p + 1) .end) .end)
   unfolding callAt askExpr
   arm-call k =
       let v = view-call d t p (r .reads) k in
@@ -167,12 +167,12 @@ module _ (d : ℕ) (t : List ℕ) (names : List Name) (p : ℕ) (r : Lowerable d
             elements = record { reads = v .parts .args .elements; args = a .1 };
           };
         };
-        code = ap (emitExpr names) w;
+        code = λ names. ap (emitExpr names) w;
         end = ap (λ (n : Node Expr). n .end) (v .is);
       }
 
-  pub arm-attribute : getD t p 0 ≡ 10 → Arm (AttributeLowerable (d - 1) t names (p + 1)) d t names p
-      (exprCode (d - 1) t names (p + 1) ⨟ intern (nameAt t (exprAt (d - 1) t (p + 1) .end)) (λ k. one (LoadAttr k))) (nameEnd t (exprAt (d - 1) t (p + 1) .end))
+  pub arm-attribute : getD t p 0 ≡ 10 → Arm (AttributeLowerable (d - 1) t (p + 1)) d t p
+      (λ names. exprCode (d - 1) t names (p + 1) ⨟ intern (nameAt t (exprAt (d - 1) t (p + 1) .end)) (λ k. one (LoadAttr k))) (nameEnd t (exprAt (d - 1) t (p + 1) .end))
   unfolding attributeAt emitExpr askExpr
   arm-attribute k =
       let v = view-attribute d t p (r .reads) k in
@@ -183,12 +183,12 @@ module _ (d : ℕ) (t : List ℕ) (names : List Name) (p : ℕ) (r : Lowerable d
           object = record { reads = v .parts .object; args = and-both _ _ (asked _ w) .0 };
           name = v .parts .name;
         };
-        code = ap (emitExpr names) w ∙ ap (λ (x : Name). exprCode (d - 1) t names (p + 1) ⨟ intern x (λ k. one (LoadAttr k))) (name-same t q);
+        code = λ names. ap (emitExpr names) w ∙ ap (λ (x : Name). exprCode (d - 1) t names (p + 1) ⨟ intern x (λ k. one (LoadAttr k))) (name-same t q);
         end = ap (λ (n : Node Expr). n .end) (v .is);
       }
 
-  pub arm-index : getD t p 0 ≡ 16 → Arm (TwoLowerable (d - 1) t names (p + 1)) d t names p
-      (exprCode (d - 1) t names (p + 1) ⨟ exprCode (d - 1) t names (exprAt (d - 1) t (p + 1) .end) ⨟ one LoadIndex) (secondAt (d - 1) t (p + 1) .end)
+  pub arm-index : getD t p 0 ≡ 16 → Arm (TwoLowerable (d - 1) t (p + 1)) d t p
+      (λ names. exprCode (d - 1) t names (p + 1) ⨟ exprCode (d - 1) t names (exprAt (d - 1) t (p + 1) .end) ⨟ one LoadIndex) (secondAt (d - 1) t (p + 1) .end)
   unfolding indexAt emitExpr askExpr
   arm-index k =
       let v = view-index d t p (r .reads) k in
@@ -199,15 +199,15 @@ module _ (d : ℕ) (t : List ℕ) (names : List Name) (p : ℕ) (r : Lowerable d
           first = record { reads = v .parts .first; args = a .0 };
           second = record { reads = v .parts .second; args = a .1 };
         };
-        code = ap (emitExpr names) w;
+        code = λ names. ap (emitExpr names) w;
         end = ap (λ (n : Node Expr). n .end) (v .is);
       }
 
   -- a display of the kind k
   abbrev DisplayArm : ℕ → Type 0
   DisplayArm k =
-      Arm (DisplayLowerable k (d - 1) t names (p + 1)) d t names p
-      (exprsCode (d - 1) (heldOf k (countAt t (p + 1))) t names (p + 1 + 2) ⨟ one (Build (displayOf k) (countAt t (p + 1)))) (exprsAt (d - 1) (heldOf k (countAt t (p + 1))) t (p + 1 + 2) .end)
+      Arm (DisplayLowerable k (d - 1) t (p + 1)) d t p
+      (λ names. exprsCode (d - 1) (heldOf k (countAt t (p + 1))) t names (p + 1 + 2) ⨟ one (Build (displayOf k) (countAt t (p + 1)))) (exprsAt (d - 1) (heldOf k (countAt t (p + 1))) t (p + 1 + 2) .end)
 
   display-of : (k : ℕ) → 11 ≤ k → k ≤ 15 → Counted t (p + 1) → ExprsRead (d - 1) (heldOf k (countAt t (p + 1))) t (p + 1 + 2) →
       displaySize (displayOf k) (exprsAt (d - 1) (heldOf k (countAt t (p + 1))) t (p + 1 + 2) .value) ≡ countAt t (p + 1) →
@@ -219,7 +219,7 @@ module _ (d : ℕ) (t : List ℕ) (names : List Name) (p : ℕ) (r : Lowerable d
       let w = ap (λ (n : Node Expr). n .value) is in
       record {
         parts = record { above = lo; below = hi; count = n; elements = record { reads = reads; args = asked (display (displayOf k) es) w } };
-        code = ap (emitExpr names) w ∙ ap (λ (i : ℕ). emitExprs names es ⨟ one (Build (displayOf k) i)) size;
+        code = λ names. ap (emitExpr names) w ∙ ap (λ (i : ℕ). emitExprs names es ⨟ one (Build (displayOf k) i)) size;
         end = ap (λ (n : Node Expr). n .end) is;
       }
 
@@ -241,7 +241,7 @@ module _ (d : ℕ) (t : List ℕ) (names : List Name) (p : ℕ) (r : Lowerable d
       go (suc (suc (suc (suc zero)))) e = let v = view-tree-set d t p (r .reads) e in subst DisplayArm (sym e) (display-of 15 (omega arith) (omega arith) (v .parts .count) (v .parts .elements) (many _ (v .parts .elements)) (v .is))
       go (suc (suc (suc (suc (suc j))))) e = absurd (omega arith)
 
-  pub arm-lambda : getD t p 0 ≡ 17 → Arm (LambdaLowerable (d - 1) t names (p + 1)) d t names p (lambdaCode (d - 1) t names (p + 1)) (exprAt (d - 1) t (paramsAt t (p + 1) .end) .end)
+  pub arm-lambda : getD t p 0 ≡ 17 → Arm (LambdaLowerable (d - 1) t (p + 1)) d t p (λ names. lambdaCode (d - 1) t names (p + 1)) (exprAt (d - 1) t (paramsAt t (p + 1) .end) .end)
   unfolding lambdaAt askExpr
   arm-lambda k =
       let v = view-lambda d t p (r .reads) k in
@@ -253,20 +253,20 @@ module _ (d : ℕ) (t : List ℕ) (names : List Name) (p : ℕ) (r : Lowerable d
           few = few-params t (p + 1) (a .0);
           body = record { reads = v .parts .body; args = a .1 };
         };
-        code = ap (emitExpr names) w;
+        code = λ names. ap (emitExpr names) w;
         end = ap (λ (n : Node Expr). n .end) (v .is);
       }
 
 -- ---- positions and counts by other words
 
-pub lowerable-at : (d : ℕ) (t : List ℕ) (names : List Name) (p q : ℕ) → q ≡ p → Lowerable d t names p → Lowerable d t names q
-lowerable-at d t names p q e r = subst (Lowerable d t names) (sym e) r
+pub lowerable-at : (d : ℕ) (t : List ℕ) (p q : ℕ) → q ≡ p → Lowerable d t p → Lowerable d t q
+lowerable-at d t p q e r = subst (Lowerable d t) (sym e) r
 
-pub many-at : (d n m : ℕ) (t : List ℕ) (names : List Name) (p q : ℕ) → m ≡ n → q ≡ p → LowerableMany d n t names p → LowerableMany d m t names q
-many-at d n m t names p q e f r = rw (e, f) r
+pub many-at : (d n m : ℕ) (t : List ℕ) (p q : ℕ) → m ≡ n → q ≡ p → LowerableMany d n t p → LowerableMany d m t q
+many-at d n m t p q e f r = rw (e, f) r
 
-pub args-at : (d : ℕ) (t : List ℕ) (names : List Name) (p q : ℕ) → q ≡ p → ArgsLowerable d t names p → ArgsLowerable d t names q
-args-at d t names p q e r = subst (ArgsLowerable d t names) (sym e) r
+pub args-at : (d : ℕ) (t : List ℕ) (p q : ℕ) → q ≡ p → ArgsLowerable d t p → ArgsLowerable d t q
+args-at d t p q e r = subst (ArgsLowerable d t) (sym e) r
 
 pub there-at : (t : List ℕ) (p q : ℕ) → q ≡ p → There t p → There t q
 there-at t p q e r = subst (There t) (sym e) r

@@ -108,27 +108,27 @@ module _ (d : ℕ) (t : List ℕ) (p : ℕ) (r : ExprReads d t p) where
 abbrev pub callExpr : ℕ → List ℕ → ℕ → Expr
 callExpr d t p = call (exprAt d t p .value) (listAt d t (exprAt d t p .end) .value)
 
-pub record CallArm (Parts : Type 0) (d : ℕ) (t : List ℕ) (names : List Name) (p : ℕ) (e : Emit) (q : ℕ) : Type 0 where
+pub record CallArm (Parts : Type 0) (d : ℕ) (t : List ℕ) (p : ℕ) (e : List Name → Emit) (q : ℕ) : Type 0 where
   pub parts : Parts
-  pub code : emitExpr names (callExpr d t p) ≡ e
+  pub code : (names : List Name) → emitExpr names (callExpr d t p) ≡ e names
   pub end : listAt d t (exprAt d t p .end) .end ≡ q
 
-module _ (d : ℕ) (t : List ℕ) (names : List Name) (p : ℕ) (r : CallLowerable d t names p) where
-  pub call-named : getD t p 0 ≡ 6 → CallArm (NamedLowerable d t names (p + 1)) d t names p
-      (emitExpr names (call (var (nameAt t (p + 1))) (listAt d t (nameEnd t (p + 1)) .value))) (listAt d t (nameEnd t (p + 1)) .end)
+module _ (d : ℕ) (t : List ℕ) (p : ℕ) (r : CallLowerable d t p) where
+  pub call-named : getD t p 0 ≡ 6 → CallArm (NamedLowerable d t (p + 1)) d t p
+      (λ names. emitExpr names (call (var (nameAt t (p + 1))) (listAt d t (nameEnd t (p + 1)) .value))) (listAt d t (nameEnd t (p + 1)) .end)
   unfolding varAt
   call-named k =
       let v = view-var d t p (r .callee .reads) k in
       let q : exprAt d t p .end ≡ nameEnd t (p + 1) = ap (λ (x : Node Expr). x .end) (v .is) in
       record {
-        parts = record { name = v .parts; args = subst (ArgsLowerable d t names) q (r .args) };
-        code = ap (λ (x : Node Expr). emitExpr names (call (x .value) (listAt d t (x .end) .value))) (v .is)
+        parts = record { name = v .parts; args = subst (ArgsLowerable d t) q (r .args) };
+        code = λ names. ap (λ (x : Node Expr). emitExpr names (call (x .value) (listAt d t (x .end) .value))) (v .is)
             ∙ ap (λ (x : Name). emitExpr names (call (var x) (listAt d t (nameEnd t (p + 1)) .value))) (name-same t (p + 1));
         end = ap (λ (n : ℕ). listAt d t n .end) q;
       }
 
-  pub call-method : getD t p 0 ≡ 10 → CallArm (MethodLowerable d t names (p + 1)) d t names p
-      (exprCode (d - 1) t names (p + 1)
+  pub call-method : getD t p 0 ≡ 10 → CallArm (MethodLowerable d t (p + 1)) d t p
+      (λ names. exprCode (d - 1) t names (p + 1)
       ⨟ exprsCode d (countAt t (nameEnd t (exprAt (d - 1) t (p + 1) .end))) t names (nameEnd t (exprAt (d - 1) t (p + 1) .end) + 2)
       ⨟ intern (nameAt t (exprAt (d - 1) t (p + 1) .end)) (λ k. one (Instruction.CallMethod k (countAt t (nameEnd t (exprAt (d - 1) t (p + 1) .end))))))
       (listAt d t (nameEnd t (exprAt (d - 1) t (p + 1) .end)) .end)
@@ -138,7 +138,7 @@ module _ (d : ℕ) (t : List ℕ) (names : List Name) (p : ℕ) (r : CallLowerab
       let o = exprAt (d - 1) t (p + 1) in
       let q : exprAt d t p .end ≡ nameEnd t (o .end) = ap (λ (x : Node Expr). x .end) (v .is) in
       let w : exprAt d t p .value ≡ attr (o .value) (nameBytes t (o .end)) = ap (λ (x : Node Expr). x .value) (v .is) in
-      let args = subst (ArgsLowerable d t names) q (r .args) in
+      let args = subst (ArgsLowerable d t) q (r .args) in
       let z = expr-deep d t p (r .callee .reads) in
       record {
         parts = record {
@@ -149,23 +149,23 @@ module _ (d : ℕ) (t : List ℕ) (names : List Name) (p : ℕ) (r : CallLowerab
           };
           args = args;
         };
-        code = ap (λ (x : Node Expr). emitExpr names (call (x .value) (listAt d t (x .end) .value))) (v .is)
+        code = λ names. ap (λ (x : Node Expr). emitExpr names (call (x .value) (listAt d t (x .end) .value))) (v .is)
             ∙ ap (λ (n : ℕ). emitExpr names (o .value) ⨟ emitExprs names (listAt d t (nameEnd t (o .end)) .value) ⨟ intern (nameBytes t (o .end)) (λ k. one (Instruction.CallMethod k n)))
             (exprs-count d (countAt t (nameEnd t (o .end))) t (nameEnd t (o .end) + 2) (args .elements .reads))
             ∙ ap (λ (x : Name). emitExpr names (o .value) ⨟ emitExprs names (listAt d t (nameEnd t (o .end)) .value) ⨟ intern x (λ k. one (Instruction.CallMethod k (countAt t (nameEnd t (o .end)))))) (name-same t (o .end));
         end = ap (λ (n : ℕ). listAt d t n .end) q;
       }
 
-  pub call-value : (getD t p 0 ≡ 6 → ⊥) → (getD t p 0 ≡ 10 → ⊥) → emitExpr names (callExpr d t p)
+  pub call-value : (names : List Name) → (getD t p 0 ≡ 6 → ⊥) → (getD t p 0 ≡ 10 → ⊥) → emitExpr names (callExpr d t p)
       ≡ exprCode d t names p ⨟ exprsCode d (countAt t (exprAt d t p .end)) t names (exprAt d t p .end + 2) ⨟ one (callInstr (calleeOf Value) (countAt t (exprAt d t p .end)))
   unfolding emitExpr calleeOf
-  call-value a b =
+  call-value names a b =
       let q = exprAt d t p .end in
       computed-code (view (exprAt d t p .value)) names _ _ _ _ (computed-view d t p (r .callee .reads) (getD t p 0) refl a b)
       ∙ ap (λ (n : ℕ). exprCode d t names p ⨟ exprsCode d (countAt t q) t names (q + 2) ⨟ one (callInstr valueCallee n)) (exprs-count d (countAt t q) t (q + 2) (r .args .elements .reads))
 
 -- a named call's code, with the count of the arguments
-pub named-args : (base d : ℕ) (t : List ℕ) (names : List Name) (p : ℕ) (ce : Callee) (s : State) → NamedLowerable d t names p → base ≤ length (s .stack) → ce ≡ resolve (nameAt t p) (s .tables) →
+pub named-args : (base d : ℕ) (t : List ℕ) (names : List Name) (p : ℕ) (ce : Callee) (s : State) → NamedLowerable d t p → base ≤ length (s .stack) → ce ≡ resolve (nameAt t p) (s .tables) →
     emitAt base (emitExpr names (call (var (nameAt t p)) (listAt d t (nameEnd t p) .value))) s
     ≡ emitAt base (loadCallee ce names (nameAt t p) ⨟ exprsCode d (countAt t (nameEnd t p)) t names (nameEnd t p + 2) ⨟ one (callInstr ce (countAt t (nameEnd t p)))) s
 named-args base d t names p ce s r h e =

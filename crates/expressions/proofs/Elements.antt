@@ -25,31 +25,31 @@ use Rattle.expressions.specs.Lowerable.{Lowerable, LowerableMany, exprCo
 use Rattle.expressions.proofs.Arms.{and-both}
 
 -- the first expression and the others
-pub record More (d n : ℕ) (t : List ℕ) (names : List Name) (p : ℕ) : Type 0 where
-  pub head : Lowerable d t names p
-  pub rest : LowerableMany d (n - 1) t names (exprAt d t p .end)
-  pub code : exprsCode d n t names p ≡ exprCode d t names p ⨟ exprsCode d (n - 1) t names (exprAt d t p .end)
+pub record More (d n : ℕ) (t : List ℕ) (p : ℕ) : Type 0 where
+  pub head : Lowerable d t p
+  pub rest : LowerableMany d (n - 1) t (exprAt d t p .end)
+  pub code : (names : List Name) → exprsCode d n t names p ≡ exprCode d t names p ⨟ exprsCode d (n - 1) t names (exprAt d t p .end)
   pub end : exprsAt d n t p .end ≡ exprsAt d (n - 1) t (exprAt d t p .end) .end
 
-pub more-view : (d n : ℕ) (t : List ℕ) (names : List Name) (p : ℕ) → 0 < n → LowerableMany d n t names p → More d n t names p
+pub more-view : (d n : ℕ) (t : List ℕ) (p : ℕ) → 0 < n → LowerableMany d n t p → More d n t p
 unfolding consAt emitExprs askExprs
-more-view d n t names p h r =
+more-view d n t p h r =
     let v = view-exprs-more d n t p h (r .reads) in
     let w = ap (λ (x : Node Exprs). x .value) (v .is) in
     let a = and-both _ _ (ap (askExprs 13) (sym w) ∙ r .args) in
     record {
       head = record { reads = v .parts .head; args = a .0 };
       rest = record { reads = v .parts .rest; args = a .1 };
-      code = ap (emitExprs names) w;
+      code = λ names. ap (emitExprs names) w;
       end = ap (λ (x : Node Exprs). x .end) (v .is);
     }
 
-none-code : (d n : ℕ) (t : List ℕ) (names : List Name) (p : ℕ) → n ≤ 0 → LowerableMany d n t names p → (exprsCode d n t names p ≡ emits []) × (exprsAt d n t p .end ≡ p)
+none-code : (d n : ℕ) (t : List ℕ) (names : List Name) (p : ℕ) → n ≤ 0 → LowerableMany d n t p → (exprsCode d n t names p ≡ emits []) × (exprsAt d n t p .end ≡ p)
 unfolding emitExprs
 none-code d n t names p h r = let v = view-exprs-none d n t p h (r .reads .start) in (ap (λ (x : Node Exprs). emitExprs names (x .value)) v, ap (λ (x : Node Exprs). x .end) v)
 
 pub record Rest (d : ℕ) (t : List ℕ) (names : List Name) (l : Limits) (made₀ code₀ tables₀ : List ℕ) (n₀ p₀ : ℕ) (c : Counts) (made code tables : List ℕ) (n p : ℕ) (k : Counts) : Type 0 where
-  pub elements : LowerableMany d n t names p
+  pub elements : LowerableMany d n t p
   pub next : exprsAt d n t p .end ≡ exprsAt d n₀ t p₀ .end
   pub state : emitAt (k .base) (exprsCode d n t names p) (stateOf t made code tables k) ≡ emitAt (c .base) (exprsCode d n₀ t names p₀) (stateOf t made₀ code₀ tables₀ c)
   pub base : k .base ≡ c .base
@@ -59,7 +59,7 @@ pub record Rest (d : ℕ) (t : List ℕ) (names : List Name) (l : Limits) (made�
   pub code-kept : length code ≡ length code₀
   pub tables-kept : length tables ≡ length tables₀
 
-pub rest-all : (d : ℕ) (t : List ℕ) (names : List Name) (l : Limits) (made code tables : List ℕ) (n p : ℕ) (c : Counts) → LowerableMany d n t names p → Sound t made code tables c l →
+pub rest-all : (d : ℕ) (t : List ℕ) (names : List Name) (l : Limits) (made code tables : List ℕ) (n p : ℕ) (c : Counts) → LowerableMany d n t p → Sound t made code tables c l →
     Rest d t names l made code tables n p c made code tables n p c
 rest-all d t names l made code tables n p c r s = record {
   elements = r;
@@ -80,13 +80,13 @@ module _ (d : ℕ) (t : List ℕ) (names : List Name) (l : Limits) (made₀ code
   rest-ready slots r = record { tree-short = r .tree-short; slotted = r .slotted; sound = inv .sound }
 
   more-state : 0 < n → emitAt (k .base) (exprsCode d n t names p) (stateOf t made code tables k) ≡ emitAt (k .base) (exprCode d t names p ⨟ exprsCode d (n - 1) t names (exprAt d t p .end)) (stateOf t made code tables k)
-  more-state h = ap (λ (e : Emit). emitAt (k .base) e (stateOf t made code tables k)) (more-view d n t names p h (inv .elements) .code)
+  more-state h = ap (λ (e : Emit). emitAt (k .base) e (stateOf t made code tables k)) (more-view d n t p h (inv .elements) .code names)
 
   -- one expression more
   pub rest-next : (made′ code′ tables′ : List ℕ) (q : ℕ) (m : Counts) → 0 < n → (q ≡ exprAt d t p .end) × Left m t made′ code′ tables′ k l (emitAt (k .base) (exprCode d t names p) (stateOf t made code tables k)) →
       length made′ ≡ length made → length code′ ≡ length code → length tables′ ≡ length tables → Rest d t names l made₀ code₀ tables₀ n₀ p₀ c made′ code′ tables′ (n - 1) q m
   rest-next made′ code′ tables′ q m h e lm lc lt =
-      let v = more-view d n t names p h (inv .elements) in
+      let v = more-view d n t p h (inv .elements) in
       let f = e .1 in
       subst (λ (x : ℕ). Rest d t names l made₀ code₀ tables₀ n₀ p₀ c made′ code′ tables′ (n - 1) x m) (sym (e .0)) (record {
         elements = v .rest;

@@ -313,7 +313,7 @@ slot-load base t slots x i s h e =
     ∙ at-load base (namesAt t slots) x s
 
 -- a lambda's slots, in places
-module _ (d : ℕ) (t : List ℕ) (names : List Name) (p : ℕ) (r : LambdaLowerable d t names p) (inner : List ℕ) (e : namesAt t inner ≡ lambdaNames d t names p) where
+module _ (d : ℕ) (t : List ℕ) (names : List Name) (p : ℕ) (r : LambdaLowerable d t p) (inner : List ℕ) (e : namesAt t inner ≡ lambdaNames d t names p) where
   abbrev params : List Name
   params = paramsAt t p .value
 
@@ -337,11 +337,11 @@ module _ (d : ℕ) (t : List ℕ) (names : List Name) (p : ℕ) (r : LambdaLower
   lambda-parts few = record {
     few = few;
     params = omega (arith, params-count t p, names-length t inner, ap length e, length-append params taken);
-    body = subst (λ (ns : List Name). Lowerable d t ns (paramsAt t p .end)) (sym e) (r .body);
+    body = r .body;
   }
 
 -- a lambda's function and closure, by the code's arity, body and slots
-module _ (d : ℕ) (t : List ℕ) (names : List Name) (p : ℕ) (r : LambdaLowerable d t names p) (arity body : ℕ) (inner : List ℕ) (a : arity ≡ countAt t p) (b : body ≡ paramsAt t p .end)
+module _ (d : ℕ) (t : List ℕ) (names : List Name) (p : ℕ) (r : LambdaLowerable d t p) (arity body : ℕ) (inner : List ℕ) (a : arity ≡ countAt t p) (b : body ≡ paramsAt t p .end)
     (e : namesAt t inner ≡ paramsAt t p .value ++ captures names (paramsAt t p .value) (exprAt d t body .value)) where
   slots-are : namesAt t inner ≡ lambdaNames d t names p
   slots-are = e ∙ ap (λ (q : ℕ). paramsAt t p .value ++ captures names (paramsAt t p .value) (exprAt d t q .value)) b

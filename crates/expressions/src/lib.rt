@@ -59,7 +59,7 @@ pub fn emit_expr(
     l: Limits,
 ) -> Emitted
     requires { ⌜ Ready (now tree) (now slots) (now made) (now code) (now tables) c l
-        × Lowerable depth (now tree) (slotNames (now tree) (now slots)) at ⌝ }
+        × Lowerable depth (now tree) at ⌝ }
     ensures { λ r. ⌜ Lowers r (exprCode depth (now (tree .entry)) (slotNames (now (tree .entry)) (now (slots .entry))) at) (exprAt depth (now (tree .entry)) at .end)
         (now (tree .entry)) (now (made .entry)) (now (code .entry)) (now (tables .entry)) (now (made .exit)) (now (code .exit)) (now (tables .exit)) c l ⌝ }
 {
@@ -95,7 +95,7 @@ fn emit_exprs(
     l: Limits,
 ) -> Emitted
     requires { ⌜ Ready (now tree) (now slots) (now made) (now code) (now tables) c l
-        × LowerableMany depth n (now tree) (slotNames (now tree) (now slots)) at ⌝ }
+        × LowerableMany depth n (now tree) at ⌝ }
     ensures { λ r. ⌜ Lowers r (exprsCode depth n (now (tree .entry)) (slotNames (now (tree .entry)) (now (slots .entry))) at) (exprsAt depth n (now (tree .entry)) at .end)
         (now (tree .entry)) (now (made .entry)) (now (code .entry)) (now (tables .entry)) (now (made .exit)) (now (code .exit)) (now (tables .exit)) c l ⌝ }
 {
@@ -127,7 +127,7 @@ fn emit_unary(
     l: Limits,
 ) -> Emitted
     requires { ⌜ Ready (now tree) (now slots) (now made) (now code) (now tables) c l
-        × UnaryLowerable depth (now tree) (slotNames (now tree) (now slots)) at ⌝ }
+        × UnaryLowerable depth (now tree) at ⌝ }
     ensures { λ r. ⌜ Lowers r (exprCode depth (now (tree .entry)) (slotNames (now (tree .entry)) (now (slots .entry))) (at + 1) ⨟ one (instr (unaryOpcode (getD (now (tree .entry)) at 0)) 0 0)) (exprAt depth (now (tree .entry)) (at + 1) .end)
         (now (tree .entry)) (now (made .entry)) (now (code .entry)) (now (tables .entry)) (now (made .exit)) (now (code .exit)) (now (tables .exit)) c l ⌝ }
 {
@@ -153,7 +153,7 @@ fn emit_two(
     l: Limits,
 ) -> Emitted
     requires { ⌜ Ready (now tree) (now slots) (now made) (now code) (now tables) c l
-        × TwoLowerable depth (now tree) (slotNames (now tree) (now slots)) at × Plain op 0 0 ⌝ }
+        × TwoLowerable depth (now tree) at × Plain op 0 0 ⌝ }
     ensures { λ r. ⌜ Lowers r (exprCode depth (now (tree .entry)) (slotNames (now (tree .entry)) (now (slots .entry))) at ⨟ exprCode depth (now (tree .entry)) (slotNames (now (tree .entry)) (now (slots .entry))) (exprAt depth (now (tree .entry)) at .end) ⨟ one (instr op 0 0)) (secondAt depth (now (tree .entry)) at .end)
         (now (tree .entry)) (now (made .entry)) (now (code .entry)) (now (tables .entry)) (now (made .exit)) (now (code .exit)) (now (tables .exit)) c l ⌝ }
 {
@@ -181,7 +181,7 @@ fn emit_binary(
     l: Limits,
 ) -> Emitted
     requires { ⌜ Ready (now tree) (now slots) (now made) (now code) (now tables) c l
-        × BinaryLowerable depth (now tree) (slotNames (now tree) (now slots)) at ⌝ }
+        × BinaryLowerable depth (now tree) at ⌝ }
     ensures { λ r. ⌜ Lowers r (emitExpr (slotNames (now (tree .entry)) (now (slots .entry))) (binaryOf (getD (now (tree .entry)) at 0) (exprAt depth (now (tree .entry)) (at + 1) .value) (secondAt depth (now (tree .entry)) (at + 1) .value))) (secondAt depth (now (tree .entry)) (at + 1) .end)
         (now (tree .entry)) (now (made .entry)) (now (code .entry)) (now (tables .entry)) (now (made .exit)) (now (code .exit)) (now (tables .exit)) c l ⌝ }
 {
@@ -228,7 +228,7 @@ fn emit_logical(
     l: Limits,
 ) -> Emitted
     requires { ⌜ Ready (now tree) (now slots) (now made) (now code) (now tables) c l
-        × TwoLowerable depth (now tree) (slotNames (now tree) (now slots)) at × (29 ≤ op) × (op ≤ 30) ⌝ }
+        × TwoLowerable depth (now tree) at × (29 ≤ op) × (op ≤ 30) ⌝ }
     ensures { λ r. ⌜ Lowers r (exprCode depth (now (tree .entry)) (slotNames (now (tree .entry)) (now (slots .entry))) at ⨟ shortcut (eqb op 30) (exprCode depth (now (tree .entry)) (slotNames (now (tree .entry)) (now (slots .entry))) (exprAt depth (now (tree .entry)) at .end))) (secondAt depth (now (tree .entry)) at .end)
         (now (tree .entry)) (now (made .entry)) (now (code .entry)) (now (tables .entry)) (now (made .exit)) (now (code .exit)) (now (tables .exit)) c l ⌝ }
 {
@@ -253,7 +253,7 @@ fn emit_shortcut(
     l: Limits,
 ) -> Emitted
     requires { ⌜ Ready (now tree) (now slots) (now made) (now code) (now tables) c l
-        × Lowerable depth (now tree) (slotNames (now tree) (now slots)) at × (29 ≤ op) × (op ≤ 30) ⌝ }
+        × Lowerable depth (now tree) at × (29 ≤ op) × (op ≤ 30) ⌝ }
     ensures { λ r. ⌜ Lowers r (shortcut (eqb op 30) (exprCode depth (now (tree .entry)) (slotNames (now (tree .entry)) (now (slots .entry))) at)) (exprAt depth (now (tree .entry)) at .end)
         (now (tree .entry)) (now (made .entry)) (now (code .entry)) (now (tables .entry)) (now (made .exit)) (now (code .exit)) (now (tables .exit)) c l ⌝ }
 {
@@ -281,7 +281,7 @@ fn emit_call(
     l: Limits,
 ) -> Emitted
     requires { ⌜ Ready (now tree) (now slots) (now made) (now code) (now tables) c l
-        × CallLowerable depth (now tree) (slotNames (now tree) (now slots)) at ⌝ }
+        × CallLowerable depth (now tree) at ⌝ }
     ensures { λ r. ⌜ Lowers r (emitExpr (slotNames (now (tree .entry)) (now (slots .entry))) (call (exprAt depth (now (tree .entry)) at .value) (listAt depth (now (tree .entry)) (exprAt depth (now (tree .entry)) at .end) .value))) (listAt depth (now (tree .entry)) (exprAt depth (now (tree .entry)) at .end) .end)
         (now (tree .entry)) (now (made .entry)) (now (code .entry)) (now (tables .entry)) (now (made .exit)) (now (code .exit)) (now (tables .exit)) c l ⌝ }
 {
@@ -323,7 +323,7 @@ fn emit_named(
     l: Limits,
 ) -> Emitted
     requires { ⌜ Ready (now tree) (now slots) (now made) (now code) (now tables) c l
-        × NamedLowerable depth (now tree) (slotNames (now tree) (now slots)) at ⌝ }
+        × NamedLowerable depth (now tree) at ⌝ }
     ensures { λ r. ⌜ Lowers r (emitExpr (slotNames (now (tree .entry)) (now (slots .entry))) (call (var (nameAt (now (tree .entry)) at)) (listAt depth (now (tree .entry)) (nameEnd (now (tree .entry)) at) .value))) (listAt depth (now (tree .entry)) (nameEnd (now (tree .entry)) at) .end)
         (now (tree .entry)) (now (made .entry)) (now (code .entry)) (now (tables .entry)) (now (made .exit)) (now (code .exit)) (now (tables .exit)) c l ⌝ }
 {
@@ -349,7 +349,7 @@ fn emit_method(
     l: Limits,
 ) -> Emitted
     requires { ⌜ Ready (now tree) (now slots) (now made) (now code) (now tables) c l
-        × MethodLowerable depth (now tree) (slotNames (now tree) (now slots)) at ⌝ }
+        × MethodLowerable depth (now tree) at ⌝ }
     ensures { λ r. ⌜ Lowers r (methodCode depth (now (tree .entry)) (slotNames (now (tree .entry)) (now (slots .entry))) at) (listAt depth (now (tree .entry)) (nameEnd (now (tree .entry)) (exprAt (depth - 1) (now (tree .entry)) at .end)) .end)
         (now (tree .entry)) (now (made .entry)) (now (code .entry)) (now (tables .entry)) (now (made .exit)) (now (code .exit)) (now (tables .exit)) c l ⌝ }
 {
@@ -380,7 +380,7 @@ fn emit_args(
     l: Limits,
 ) -> Emitted
     requires { ⌜ Ready (now tree) (now slots) (now made) (now code) (now tables) c l
-        × ArgsLowerable depth (now tree) (slotNames (now tree) (now slots)) at × Short (calleeOf callee) ⌝ }
+        × ArgsLowerable depth (now tree) at × Short (calleeOf callee) ⌝ }
     ensures { λ r. ⌜ Lowers r (exprsCode depth (countAt (now (tree .entry)) at) (now (tree .entry)) (slotNames (now (tree .entry)) (now (slots .entry))) (at + 2) ⨟ one (callInstr (calleeOf callee) (countAt (now (tree .entry)) at))) (listAt depth (now (tree .entry)) at .end)
         (now (tree .entry)) (now (made .entry)) (now (code .entry)) (now (tables .entry)) (now (made .exit)) (now (code .exit)) (now (tables .exit)) c l ⌝ }
 {
@@ -405,7 +405,7 @@ fn emit_attribute(
     l: Limits,
 ) -> Emitted
     requires { ⌜ Ready (now tree) (now slots) (now made) (now code) (now tables) c l
-        × AttributeLowerable depth (now tree) (slotNames (now tree) (now slots)) at ⌝ }
+        × AttributeLowerable depth (now tree) at ⌝ }
     ensures { λ r. ⌜ Lowers r (exprCode depth (now (tree .entry)) (slotNames (now (tree .entry)) (now (slots .entry))) at ⨟ intern (nameAt (now (tree .entry)) (exprAt depth (now (tree .entry)) at .end)) (λ k. one (LoadAttr k))) (nameEnd (now (tree .entry)) (exprAt depth (now (tree .entry)) at .end))
         (now (tree .entry)) (now (made .entry)) (now (code .entry)) (now (tables .entry)) (now (made .exit)) (now (code .exit)) (now (tables .exit)) c l ⌝ }
 {
@@ -441,7 +441,7 @@ fn emit_display(
     l: Limits,
 ) -> Emitted
     requires { ⌜ Ready (now tree) (now slots) (now made) (now code) (now tables) c l
-        × DisplayLowerable kind depth (now tree) (slotNames (now tree) (now slots)) at ⌝ }
+        × DisplayLowerable kind depth (now tree) at ⌝ }
     ensures { λ r. ⌜ Lowers r (exprsCode depth (heldOf kind (countAt (now (tree .entry)) at)) (now (tree .entry)) (slotNames (now (tree .entry)) (now (slots .entry))) (at + 2) ⨟ one (Build (displayOf kind) (countAt (now (tree .entry)) at))) (exprsAt depth (heldOf kind (countAt (now (tree .entry)) at)) (now (tree .entry)) (at + 2) .end)
         (now (tree .entry)) (now (made .entry)) (now (code .entry)) (now (tables .entry)) (now (made .exit)) (now (code .exit)) (now (tables .exit)) c l ⌝ }
 {
@@ -477,7 +477,7 @@ fn emit_lambda(
     l: Limits,
 ) -> Emitted
     requires { ⌜ Ready (now tree) (now slots) (now made) (now code) (now tables) c l
-        × LambdaLowerable depth (now tree) (slotNames (now tree) (now slots)) at ⌝ }
+        × LambdaLowerable depth (now tree) at ⌝ }
     ensures { λ r. ⌜ Lowers r (lambdaCode depth (now (tree .entry)) (slotNames (now (tree .entry)) (now (slots .entry))) at) (exprAt depth (now (tree .entry)) (paramsAt (now (tree .entry)) at .end) .end)
         (now (tree .entry)) (now (made .entry)) (now (code .entry)) (now (tables .entry)) (now (made .exit)) (now (code .exit)) (now (tables .exit)) c l ⌝ }
 {

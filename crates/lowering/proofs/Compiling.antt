@@ -32,7 +32,7 @@ use Rattle.lowering.specs.Compiled.{noCounts, nothing, mainNamed, mainBe
 
 -- ---- the block and a return
 
-pub block-lowerable : (tree : List ℕ) → TreeAt tree → BlockLowerable 32 tree [] 5
+pub block-lowerable : (tree : List ℕ) → TreeAt tree → BlockLowerable 32 tree 5
 unfolding blockQuestions
 block-lowerable tree T = record { reads = T .block; loop = false; args = T .yes 6 (omega arith) }
 

@@ -35,13 +35,13 @@ few-params t p a =
     let h = leb-true (length (paramsAt t p .value)) 255 (and-both (all (askName 13) (paramsAt t p .value) && ifAsked 11 13 (distinct (paramsAt t p .value))) (leb (length (paramsAt t p .value)) 255) a .1) in
     omega arith
 
--- the statement at p holds what Parts says; its code is e, and it ends at q
-pub record StmtArm (Parts : Type 0) (d : ℕ) (t : List ℕ) (names : List Name) (p : ℕ) (e : Emit) (q : ℕ) : Type 0 where
+-- the statement at p holds what Parts says; its code is e, by the names of the slots, and it ends at q
+pub record StmtArm (Parts : Type 0) (d : ℕ) (t : List ℕ) (p : ℕ) (e : List Name → Emit) (q : ℕ) : Type 0 where
   pub parts : Parts
-  pub code : e ≡ stmtCode d t names p
+  pub code : (names : List Name) → e names ≡ stmtCode d t names p
   pub end : q ≡ stmtAt d t p .end
 
-module _ (d : ℕ) (t : List ℕ) (names : List Name) (p : ℕ) (r : StmtLowerable d t names p) where
+module _ (d : ℕ) (t : List ℕ) (p : ℕ) (r : StmtLowerable d t p) where
   pub arm-deep : 0 < d
   arm-deep = let h = stmt-deep d t p (r .reads) in omega arith
 
@@ -55,37 +55,37 @@ module _ (d : ℕ) (t : List ℕ) (names : List Name) (p : ℕ) (r : StmtLowerab
     asked : askStmt 13 (r .loop) (x .value) ≡ true
     asked = ap (λ (n : Node Stmt). askStmt 13 (r .loop) (n .value)) (sym is) ∙ r .args
 
-    coded : emitStmt names (x .value) ≡ stmtCode d t names p
-    coded = ap (λ (n : Node Stmt). emitStmt names (n .value)) (sym is)
+    coded : (names : List Name) → emitStmt names (x .value) ≡ stmtCode d t names p
+    coded names = ap (λ (n : Node Stmt). emitStmt names (n .value)) (sym is)
 
     ends : x .end ≡ stmtAt d t p .end
     ends = ap (λ (n : Node Stmt). n .end) (sym is)
 
   -- ---- those that hold no block
 
-  pub arm-break : getD t p 0 ≡ 0 → StmtArm (Unit {0}) d t names p (one (instr 46 0 0)) (p + 1)
+  pub arm-break : getD t p 0 ≡ 0 → StmtArm (Unit {0}) d t p (λ names. one (instr 46 0 0)) (p + 1)
   unfolding emitStmt
   arm-break k = let v = view-break d t p (r .reads) k in record { parts = tt; code = coded _ v; end = ends _ v }
 
-  pub arm-continue : getD t p 0 ≡ 1 → StmtArm (Unit {0}) d t names p (one (instr 47 0 0)) (p + 1)
+  pub arm-continue : getD t p 0 ≡ 1 → StmtArm (Unit {0}) d t p (λ names. one (instr 47 0 0)) (p + 1)
   unfolding emitStmt
   arm-continue k = let v = view-continue d t p (r .reads) k in record { parts = tt; code = coded _ v; end = ends _ v }
 
-  pub arm-pass : getD t p 0 ≡ 2 → StmtArm (Unit {0}) d t names p (emits []) (p + 1)
+  pub arm-pass : getD t p 0 ≡ 2 → StmtArm (Unit {0}) d t p (λ names. emits []) (p + 1)
   unfolding emitStmt
   arm-pass k = let v = view-pass d t p (r .reads) k in record { parts = tt; code = coded _ v; end = ends _ v }
 
-  pub arm-expr : getD t p 0 ≡ 3 → StmtArm (Lowerable (d - 1) t names (p + 1)) d t names p (exprCode (d - 1) t names (p + 1) ⨟ one (instr 7 0 0)) (exprAt (d - 1) t (p + 1) .end)
+  pub arm-expr : getD t p 0 ≡ 3 → StmtArm (Lowerable (d - 1) t (p + 1)) d t p (λ names. exprCode (d - 1) t names (p + 1) ⨟ one (instr 7 0 0)) (exprAt (d - 1) t (p + 1) .end)
   unfolding emitStmt askStmt exprStmtAt
   arm-expr k = let v = view-expr d t p (r .reads) k in
       record { parts = record { reads = v .parts; args = asked _ (v .is) }; code = coded _ (v .is); end = ends _ (v .is) }
 
-  pub arm-return : getD t p 0 ≡ 4 → StmtArm (Lowerable (d - 1) t names (p + 1)) d t names p (exprCode (d - 1) t names (p + 1) ⨟ one (instr 33 0 0)) (exprAt (d - 1) t (p + 1) .end)
+  pub arm-return : getD t p 0 ≡ 4 → StmtArm (Lowerable (d - 1) t (p + 1)) d t p (λ names. exprCode (d - 1) t names (p + 1) ⨟ one (instr 33 0 0)) (exprAt (d - 1) t (p + 1) .end)
   unfolding emitStmt askStmt returnAt
   arm-return k = let v = view-return d t p (r .reads) k in
       record { parts = record { reads = v .parts; args = asked _ (v .is) }; code = coded _ (v .is); end = ends _ (v .is) }
 
-  pub arm-assign : getD t p 0 ≡ 5 → StmtArm (AssignLowerable (d - 1) t names (p + 1)) d t names p (assignCode (d - 1) t names (p + 1)) (secondAt (d - 1) t (p + 1) .end)
+  pub arm-assign : getD t p 0 ≡ 5 → StmtArm (AssignLowerable (d - 1) t (p + 1)) d t p (λ names. assignCode (d - 1) t names (p + 1)) (secondAt (d - 1) t (p + 1) .end)
   unfolding emitStmt askStmt askTarget assignAt
   arm-assign k =
       let v = view-assign d t p (r .reads) k in
@@ -103,8 +103,8 @@ module _ (d : ℕ) (t : List ℕ) (names : List Name) (p : ℕ) (r : StmtLowerab
 
   -- ---- branches and loops
 
-  pub arm-if : getD t p 0 ≡ 6 → StmtArm (IfLowerable (d - 1) t names (p + 1)) d t names p
-      (emitStmt names (if (when (exprAt (d - 1) t (p + 1) .value) (bodyAt (d - 1) t (p + 1) .value) (elifsAt (d - 1) t (p + 1) .value)))) (elifsAt (d - 1) t (p + 1) .end)
+  pub arm-if : getD t p 0 ≡ 6 → StmtArm (IfLowerable (d - 1) t (p + 1)) d t p
+      (λ names. emitStmt names (if (when (exprAt (d - 1) t (p + 1) .value) (bodyAt (d - 1) t (p + 1) .value) (elifsAt (d - 1) t (p + 1) .value)))) (elifsAt (d - 1) t (p + 1) .end)
   unfolding askStmt ifAt
   arm-if k =
       let v = view-if d t p (r .reads) k in
@@ -123,8 +123,8 @@ module _ (d : ℕ) (t : List ℕ) (names : List Name) (p : ℕ) (r : StmtLowerab
         end = ends _ (v .is);
       }
 
-  pub arm-while : getD t p 0 ≡ 7 → StmtArm (BranchLowerable (d - 1) t names (p + 1)) d t names p
-      (loop (exprCode (d - 1) t names (p + 1)) (blockCode (d - 1) t names (exprAt (d - 1) t (p + 1) .end))) (bodyAt (d - 1) t (p + 1) .end)
+  pub arm-while : getD t p 0 ≡ 7 → StmtArm (BranchLowerable (d - 1) t (p + 1)) d t p
+      (λ names. loop (exprCode (d - 1) t names (p + 1)) (blockCode (d - 1) t names (exprAt (d - 1) t (p + 1) .end))) (bodyAt (d - 1) t (p + 1) .end)
   unfolding emitStmt askStmt whileAt
   arm-while k =
       let v = view-while d t p (r .reads) k in
@@ -138,8 +138,8 @@ module _ (d : ℕ) (t : List ℕ) (names : List Name) (p : ℕ) (r : StmtLowerab
         end = ends _ (v .is);
       }
 
-  pub arm-for : getD t p 0 ≡ 8 → StmtArm (ForLowerable (d - 1) t names (p + 1)) d t names p
-      (emitStmt names (for (nameAt t (p + 1)) (exprAt (d - 1) t (nameEnd t (p + 1)) .value) (bodyAt (d - 1) t (nameEnd t (p + 1)) .value))) (bodyAt (d - 1) t (nameEnd t (p + 1)) .end)
+  pub arm-for : getD t p 0 ≡ 8 → StmtArm (ForLowerable (d - 1) t (p + 1)) d t p
+      (λ names. emitStmt names (for (nameAt t (p + 1)) (exprAt (d - 1) t (nameEnd t (p + 1)) .value) (bodyAt (d - 1) t (nameEnd t (p + 1)) .value))) (bodyAt (d - 1) t (nameEnd t (p + 1)) .end)
   unfolding askStmt forAt
   arm-for k =
       let v = view-for d t p (r .reads) k in
@@ -154,13 +154,13 @@ module _ (d : ℕ) (t : List ℕ) (names : List Name) (p : ℕ) (r : StmtLowerab
             block = record { reads = v .parts .loop .block; loop = true; args = a .1 };
           };
         };
-        code = ap (λ (x : Name). emitStmt names (for x (exprAt (d - 1) t (nameEnd t (p + 1)) .value) (bodyAt (d - 1) t (nameEnd t (p + 1)) .value))) (sym (name-same t (p + 1))) ∙ coded _ (v .is);
+        code = λ names. ap (λ (x : Name). emitStmt names (for x (exprAt (d - 1) t (nameEnd t (p + 1)) .value) (bodyAt (d - 1) t (nameEnd t (p + 1)) .value))) (sym (name-same t (p + 1))) ∙ coded _ (v .is) names;
         end = ends _ (v .is);
       }
 
   -- ---- defs and classes
 
-  pub arm-def : getD t p 0 ≡ 9 → StmtArm (FunctionLowerable (d - 1) t (p + 1)) d t names p (functionCode (d - 1) t (p + 1) false) (defBlockAt (d - 1) t (p + 1) .end)
+  pub arm-def : getD t p 0 ≡ 9 → StmtArm (FunctionLowerable (d - 1) t (p + 1)) d t p (λ names. functionCode (d - 1) t (p + 1) false) (defBlockAt (d - 1) t (p + 1) .end)
   unfolding emitStmt askStmt defAt endOf nameBytes nameAt
   arm-def k =
       let v = view-def d t p (r .reads) k in
@@ -178,7 +178,7 @@ module _ (d : ℕ) (t : List ℕ) (names : List Name) (p : ℕ) (r : StmtLowerab
         end = ends _ (v .is);
       }
 
-  pub arm-class : getD t p 0 ≡ 10 → StmtArm (ClassLowerable (d - 1) t (p + 1)) d t names p (classCode (nameAt t (p + 1)) (classMethodsAt (d - 1) t (p + 1) .value)) (stmtAt d t p .end)
+  pub arm-class : getD t p 0 ≡ 10 → StmtArm (ClassLowerable (d - 1) t (p + 1)) d t p (λ names. classCode (nameAt t (p + 1)) (classMethodsAt (d - 1) t (p + 1) .value)) (stmtAt d t p .end)
   unfolding emitStmt askStmt classAt classCode nameBytes nameAt
   arm-class k =
       let v = view-class d t p (r .reads) k in
@@ -197,9 +197,9 @@ module _ (d : ℕ) (t : List ℕ) (names : List Name) (p : ℕ) (r : StmtLowerab
 
 -- ---- blocks
 
-module _ (d : ℕ) (t : List ℕ) (names : List Name) where
+module _ (d : ℕ) (t : List ℕ) where
   -- a count, and so many statements
-  pub block-parts : (p : ℕ) → BlockLowerable d t names p → Counted t p × StmtsLowerable d (countAt t p) t names (p + 2)
+  pub block-parts : (p : ℕ) → BlockLowerable d t p → Counted t p × StmtsLowerable d (countAt t p) t (p + 2)
   block-parts p r =
       let v = view-block d t p (r .reads) in (
         v .parts .count,
@@ -210,14 +210,14 @@ module _ (d : ℕ) (t : List ℕ) (names : List Name) where
         },
       )
 
-  pub block-code : (p n : ℕ) → BlockLowerable d t names p → n ≡ countAt t p → (stmtsCode d n t names (p + 2) ≡ blockCode d t names p) × (stmtsAt d n t (p + 2) .end ≡ blockAt d t p .end)
-  block-code p n r e =
+  pub block-code : (names : List Name) (p n : ℕ) → BlockLowerable d t p → n ≡ countAt t p → (stmtsCode d n t names (p + 2) ≡ blockCode d t names p) × (stmtsAt d n t (p + 2) .end ≡ blockAt d t p .end)
+  block-code names p n r e =
       let v = view-block d t p (r .reads) in (
         ap (λ (m : ℕ). stmtsCode d m t names (p + 2)) e ∙ ap (λ (x : Node Block). emitBlock names (x .value)) (sym (v .is)),
         ap (λ (m : ℕ). stmtsAt d m t (p + 2) .end) e ∙ ap (λ (x : Node Block). x .end) (sym (v .is)),
       )
 
-  pub stmts-more : (n p : ℕ) → 0 < n → StmtsLowerable d n t names p → StmtLowerable d t names p × StmtsLowerable d (n - 1) t names (stmtAt d t p .end)
+  pub stmts-more : (n p : ℕ) → 0 < n → StmtsLowerable d n t p → StmtLowerable d t p × StmtsLowerable d (n - 1) t (stmtAt d t p .end)
   unfolding askStmt consAt
   stmts-more n p h r =
       let v = view-stmts-more d n t p h (r .reads) in
@@ -226,22 +226,22 @@ module _ (d : ℕ) (t : List ℕ) (names : List Name) where
         record { reads = v .parts .rest; loop = r .loop; args = a .1 },
       )
 
-  pub stmts-code : (n p : ℕ) → 0 < n → StmtsLowerable d n t names p
+  pub stmts-code : (names : List Name) (n p : ℕ) → 0 < n → StmtsLowerable d n t p
       → (stmtsCode d n t names p ≡ (stmtCode d t names p ⨟ stmtsCode d (n - 1) t names (stmtAt d t p .end))) × (stmtsAt d n t p .end ≡ stmtsAt d (n - 1) t (stmtAt d t p .end) .end)
   unfolding emitStmt consAt
-  stmts-code n p h r =
+  stmts-code names n p h r =
       let v = view-stmts-more d n t p h (r .reads) in
       (ap (λ (x : Node Block). emitBlock names (x .value)) (v .is), ap (λ (x : Node Block). x .end) (v .is))
 
-  pub stmts-none : (n p : ℕ) → n ≤ 0 → StmtsLowerable d n t names p → (stmtsCode d n t names p ≡ emits []) × (p ≡ stmtsAt d n t p .end)
+  pub stmts-none : (names : List Name) (n p : ℕ) → n ≤ 0 → StmtsLowerable d n t p → (stmtsCode d n t names p ≡ emits []) × (p ≡ stmtsAt d n t p .end)
   unfolding emitStmt
-  stmts-none n p h r =
+  stmts-none names n p h r =
       let v = view-stmts-none d n t p h (r .reads .start) in
       (ap (λ (x : Node Block). emitBlock names (x .value)) v, sym (ap (λ (x : Node Block). x .end) v))
 
   -- ---- elifs and else
 
-  pub elifs-more : (n p : ℕ) → 0 < n → BranchesLowerable d n t names p → BranchLowerable d t names p × BranchesLowerable d (n - 1) t names (bodyAt d t p .end)
+  pub elifs-more : (n p : ℕ) → 0 < n → BranchesLowerable d n t p → BranchLowerable d t p × BranchesLowerable d (n - 1) t (bodyAt d t p .end)
   unfolding askStmt whenAt
   elifs-more n p h r =
       let v = view-branches-more d t p n h (r .reads) in
@@ -254,7 +254,7 @@ module _ (d : ℕ) (t : List ℕ) (names : List Name) where
         record { reads = v .parts .rest; loop = r .loop; args = a .1 },
       )
 
-  pub elifs-is : (n p : ℕ) → 0 < n → BranchesLowerable d n t names p
+  pub elifs-is : (n p : ℕ) → 0 < n → BranchesLowerable d n t p
       → (branchesAt d n t p .value ≡ when (exprAt d t p .value) (bodyAt d t p .value) (branchesAt d (n - 1) t (bodyAt d t p .end) .value)) × (branchesAt d n t p .end ≡ branchesAt d (n - 1) t (bodyAt d t p .end) .end)
   unfolding whenAt
   elifs-is n p h r =
@@ -262,14 +262,14 @@ module _ (d : ℕ) (t : List ℕ) (names : List Name) where
       (ap (λ (x : Node Branches). x .value) (v .is), ap (λ (x : Node Branches). x .end) (v .is))
 
   -- none is left
-  pub elifs-none : (n p : ℕ) → n ≤ 0 → BranchesLowerable d n t names p → BranchesLowerable d 0 t names p
-  elifs-none n p h r = let z : n ≡ 0 = omega arith in subst (λ (m : ℕ). BranchesLowerable d m t names p) z r
+  pub elifs-none : (n p : ℕ) → n ≤ 0 → BranchesLowerable d n t p → BranchesLowerable d 0 t p
+  elifs-none n p h r = let z : n ≡ 0 = omega arith in subst (λ (m : ℕ). BranchesLowerable d m t p) z r
 
   pub elifs-zero : (n p : ℕ) → n ≤ 0 → branchesAt d 0 t p ≡ branchesAt d n t p
   elifs-zero n p h = let z : 0 ≡ n = omega arith in ap (λ (m : ℕ). branchesAt d m t p) z
 
   -- the block after the byte 1
-  pub else-parts : (p : ℕ) → BranchesLowerable d 0 t names p → getD t p 0 ≡ 1 → BlockLowerable d t names (p + 1) × (branchesAt d 0 t p ≡ elseAt d t (p + 1))
+  pub else-parts : (p : ℕ) → BranchesLowerable d 0 t p → getD t p 0 ≡ 1 → BlockLowerable d t (p + 1) × (branchesAt d 0 t p ≡ elseAt d t (p + 1))
   unfolding askStmt elseAt
   else-parts p r e =
       let v = view-else d t p 0 (le-refl 0) (r .reads) e in (
@@ -281,13 +281,13 @@ module _ (d : ℕ) (t : List ℕ) (names : List Name) where
         v .is,
       )
 
-  pub else-in : (p : ℕ) → BranchesLowerable d 0 t names p → p < length t
+  pub else-in : (p : ℕ) → BranchesLowerable d 0 t p → p < length t
   else-in p r = else-inside d t p 0 (le-refl 0) (r .reads)
 
-  pub else-one : (p : ℕ) → BranchesLowerable d 0 t names p → (getD t p 0 ≡ 0 → ⊥) → getD t p 0 ≡ 1
+  pub else-one : (p : ℕ) → BranchesLowerable d 0 t p → (getD t p 0 ≡ 0 → ⊥) → getD t p 0 ≡ 1
   else-one p r h = let k = else-known d t p 0 (le-refl 0) (r .reads) in omega arith
 
-  pub none-is : (p : ℕ) → BranchesLowerable d 0 t names p → getD t p 0 ≡ 0 → branchesAt d 0 t p ≡ node done (p + 1)
+  pub none-is : (p : ℕ) → BranchesLowerable d 0 t p → getD t p 0 ≡ 0 → branchesAt d 0 t p ≡ node done (p + 1)
   none-is p r e = view-done d t p 0 (le-refl 0) (r .reads) e
 
 -- the method at p, and those after it

@@ -21,18 +21,18 @@ use Rattle.statements.specs.Lowering.{StmtLowerable, BlockLowerable, Stm
 use Rattle.statements.proofs.Arms.{block-parts, block-code, stmts-more, stmts-code, stmts-none}
 
 module _ (d : ℕ) (t : List ℕ) (names : List Name) where
-  pub block-start : (at n : ℕ) (made code tables : List ℕ) (c : Counts) (l : Limits) → Sound t made code tables c l → BlockLowerable d t names at → n ≡ countAt t at
-      → StmtsLowerable d n t names (at + 2) × (stmtsAt d n t (at + 2) .end ≡ blockAt d t at .end)
+  pub block-start : (at n : ℕ) (made code tables : List ℕ) (c : Counts) (l : Limits) → Sound t made code tables c l → BlockLowerable d t at → n ≡ countAt t at
+      → StmtsLowerable d n t (at + 2) × (stmtsAt d n t (at + 2) .end ≡ blockAt d t at .end)
       × Midway c t made code tables c l (stmtsCode d n t names (at + 2)) (emitAt (c .base) (blockCode d t names at) (stateOf t made code tables c))
   block-start at n made code tables c l s r e =
       let b = block-code d t names at n r e in (
-        subst (λ (m : ℕ). StmtsLowerable d m t names (at + 2)) (sym e) (block-parts d t names at r .1),
+        subst (λ (m : ℕ). StmtsLowerable d m t (at + 2)) (sym e) (block-parts d t at r .1),
         b .1,
         subst (λ (f : Emit). Midway c t made code tables c l (stmtsCode d n t names (at + 2)) (emitAt (c .base) f (stateOf t made code tables c))) (b .0)
             (midway-start t made code tables c l (stmtsCode d n t names (at + 2)) s),
       )
 
-  module _ (n p : ℕ) (k : Counts) (made code tables : List ℕ) (c : Counts) (l : Limits) (end : ℕ) (want : State) (low : StmtsLowerable d n t names p) (ends : stmtsAt d n t p .end ≡ end)
+  module _ (n p : ℕ) (k : Counts) (made code tables : List ℕ) (c : Counts) (l : Limits) (end : ℕ) (want : State) (low : StmtsLowerable d n t p) (ends : stmtsAt d n t p .end ≡ end)
       (m : Midway k t made code tables c l (stmtsCode d n t names p) want) where
     step : 0 < n → emitAt (c .base) (stmtsCode d n t names p) (stateOf t made code tables k)
         ≡ emitAt (c .base) (stmtsCode d (n - 1) t names (stmtAt d t p .end)) (emitAt (c .base) (stmtCode d t names p) (stateOf t made code tables k))
@@ -48,10 +48,10 @@ module _ (d : ℕ) (t : List ℕ) (names : List Name) where
 
     pub block-next : (made₁ code₁ tables₁ : List ℕ) (next : ℕ) (j : Counts) (r : Emitted) → 0 < n → r ≡ Done next j
         → Emits r t made₁ code₁ tables₁ k l (stmtAt d t p .end) (emitAt (k .base) (stmtCode d t names p) (stateOf t made code tables k))
-        → StmtsLowerable d (n - 1) t names next × (stmtsAt d (n - 1) t next .end ≡ end) × Midway j t made₁ code₁ tables₁ c l (stmtsCode d (n - 1) t names next) want
+        → StmtsLowerable d (n - 1) t next × (stmtsAt d (n - 1) t next .end ≡ end) × Midway j t made₁ code₁ tables₁ c l (stmtsCode d (n - 1) t names next) want
     block-next made₁ code₁ tables₁ next j r h z a =
         let g = emits-done t made₁ code₁ tables₁ k l _ _ r next j z a in (
-          subst (StmtsLowerable d (n - 1) t names) (sym (g .0)) (stmts-more d t names n p h low .1),
+          subst (StmtsLowerable d (n - 1) t) (sym (g .0)) (stmts-more d t n p h low .1),
           ap (λ (x : ℕ). stmtsAt d (n - 1) t x .end) (g .0) ∙ sym (stmts-code d t names n p h low .1) ∙ ends,
           subst (λ (x : ℕ). Midway j t made₁ code₁ tables₁ c l (stmtsCode d (n - 1) t names x) want) (sym (g .0)) (midway-next k t made code tables c l _ want m j made₁ code₁ tables₁ _ _ (g .1) (step h)),
         )

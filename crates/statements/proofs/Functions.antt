@@ -95,9 +95,6 @@ pub part-ready : (t ps made₀ code₀ tables₀ made code tables : List ℕ) (c
 part-ready t ps made₀ code₀ tables₀ made code tables c k l n r h v g s =
     record { tree-short = r .tree-short; slotted = subst (Slots t) (sym (part-before (slotsFrom + n) ps)) (front-slots t ps n g h v); sound = s }
 
-pub block-with : (d : ℕ) (t : List ℕ) (names names′ : List Name) (p q : ℕ) → names′ ≡ names → q ≡ p → BlockLowerable d t names p → BlockLowerable d t names′ q
-block-with d t names names′ p q e f r = subst (λ (x : List Name). BlockLowerable d t x q) (sym e) (subst (BlockLowerable d t names) (sym f) r)
-
 pub body-emits-at : (r : Emitted) (t made code tables : List ℕ) (c : Counts) (l : Limits) (base : ℕ) (s : State) (d : ℕ) (names : List Name) (end : List Instr) (p q : ℕ) → q ≡ p
     → Emits r t made code tables c l (blockAt d t q .end) (emitAt base (blockCode d t names q ⨟ emits end) s) → Emits r t made code tables c l (blockAt d t p .end) (emitAt base (blockCode d t names p ⨟ emits end) s)
 body-emits-at r t made code tables c l base s d names end p q e h = subst (λ (x : ℕ). Emits r t made code tables c l (blockAt d t x .end) (emitAt base (blockCode d t names x ⨟ emits end) s)) e h

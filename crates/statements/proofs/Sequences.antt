@@ -74,14 +74,14 @@ method-end x = go (same x init)
 
 -- ---- by another word for the position
 
-pub block-at : (d : ℕ) (t : List ℕ) (names : List Name) (p q : ℕ) → q ≡ p → BlockLowerable d t names p → BlockLowerable d t names q
-block-at d t names p q e r = subst (BlockLowerable d t names) (sym e) r
+pub block-at : (d : ℕ) (t : List ℕ) (p q : ℕ) → q ≡ p → BlockLowerable d t p → BlockLowerable d t q
+block-at d t p q e r = subst (BlockLowerable d t) (sym e) r
 
-pub stmts-at : (d n : ℕ) (t : List ℕ) (names : List Name) (p q : ℕ) → q ≡ p → StmtsLowerable d n t names p → StmtsLowerable d n t names q
-stmts-at d n t names p q e r = subst (StmtsLowerable d n t names) (sym e) r
+pub stmts-at : (d n : ℕ) (t : List ℕ) (p q : ℕ) → q ≡ p → StmtsLowerable d n t p → StmtsLowerable d n t q
+stmts-at d n t p q e r = subst (StmtsLowerable d n t) (sym e) r
 
-pub elifs-at : (d n m : ℕ) (t : List ℕ) (names : List Name) (p q : ℕ) → m ≡ n → q ≡ p → BranchesLowerable d n t names p → BranchesLowerable d m t names q
-elifs-at d n m t names p q e f r = subst (λ (x : ℕ). BranchesLowerable d x t names q) (sym e) (subst (BranchesLowerable d n t names) (sym f) r)
+pub elifs-at : (d n m : ℕ) (t : List ℕ) (p q : ℕ) → m ≡ n → q ≡ p → BranchesLowerable d n t p → BranchesLowerable d m t q
+elifs-at d n m t p q e f r = subst (λ (x : ℕ). BranchesLowerable d x t q) (sym e) (subst (BranchesLowerable d n t) (sym f) r)
 
 module _ (r : Emitted) (t made code tables : List ℕ) (c : Counts) (l : Limits) (base : ℕ) (s : State) (d : ℕ) (names : List Name) (p q : ℕ) (e : q ≡ p) where
   pub block-emits-at : Emits r t made code tables c l (blockAt d t q .end) (emitAt base (blockCode d t names q) s) → Emits r t made code tables c l (blockAt d t p .end) (emitAt base (blockCode d t names p) s)

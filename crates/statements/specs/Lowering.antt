@@ -28,18 +28,18 @@ pub record Sole (tree made code tables : List ℕ) (c : Counts) (l : Limits) : T
 
 -- ---- statements and blocks
 
-pub record StmtLowerable (d : ℕ) (t : List ℕ) (names : List Name) (p : ℕ) : Type 0 where
+pub record StmtLowerable (d : ℕ) (t : List ℕ) (p : ℕ) : Type 0 where
   pub reads : StmtReads d t p
   pub loop : Bool
   pub args : askStmt 13 loop (stmtAt d t p .value) ≡ true
 
-pub record BlockLowerable (d : ℕ) (t : List ℕ) (names : List Name) (p : ℕ) : Type 0 where
+pub record BlockLowerable (d : ℕ) (t : List ℕ) (p : ℕ) : Type 0 where
   pub reads : BlockReads d t p
   pub loop : Bool
   pub args : askBlock 13 loop (blockAt d t p .value) ≡ true
 
 -- n statements from p on
-pub record StmtsLowerable (d n : ℕ) (t : List ℕ) (names : List Name) (p : ℕ) : Type 0 where
+pub record StmtsLowerable (d n : ℕ) (t : List ℕ) (p : ℕ) : Type 0 where
   pub reads : StmtsRead d n t p
   pub loop : Bool
   pub args : askBlock 13 loop (stmtsAt d n t p .value) ≡ true
@@ -56,24 +56,24 @@ stmtsCode d n t names p = emitBlock names (stmtsAt d n t p .value)
 -- ---- branches and loops
 
 -- a condition and a block
-pub record BranchLowerable (d : ℕ) (t : List ℕ) (names : List Name) (p : ℕ) : Type 0 where
-  pub condition : Lowerable d t names p
-  pub block : BlockLowerable d t names (exprAt d t p .end)
+pub record BranchLowerable (d : ℕ) (t : List ℕ) (p : ℕ) : Type 0 where
+  pub condition : Lowerable d t p
+  pub block : BlockLowerable d t (exprAt d t p .end)
 
 -- n elifs and an else block or none
-pub record BranchesLowerable (d n : ℕ) (t : List ℕ) (names : List Name) (p : ℕ) : Type 0 where
+pub record BranchesLowerable (d n : ℕ) (t : List ℕ) (p : ℕ) : Type 0 where
   pub reads : BranchesRead d n t p
   pub loop : Bool
   pub args : askBranches 13 loop (branchesAt d n t p .value) ≡ true
 
-pub record IfLowerable (d : ℕ) (t : List ℕ) (names : List Name) (p : ℕ) : Type 0 where
-  pub first : BranchLowerable d t names p
+pub record IfLowerable (d : ℕ) (t : List ℕ) (p : ℕ) : Type 0 where
+  pub first : BranchLowerable d t p
   pub count : Counted t (bodyAt d t p .end)
-  pub rest : BranchesLowerable d (countAt t (bodyAt d t p .end)) t names (bodyAt d t p .end + 2)
+  pub rest : BranchesLowerable d (countAt t (bodyAt d t p .end)) t (bodyAt d t p .end + 2)
 
-pub record ForLowerable (d : ℕ) (t : List ℕ) (names : List Name) (p : ℕ) : Type 0 where
+pub record ForLowerable (d : ℕ) (t : List ℕ) (p : ℕ) : Type 0 where
   pub name : There t p
-  pub loop : BranchLowerable d t names (nameEnd t p)
+  pub loop : BranchLowerable d t (nameEnd t p)
 
 -- ---- defs, methods and classes
 
@@ -85,7 +85,7 @@ pub record FunctionLowerable (d : ℕ) (t : List ℕ) (p : ℕ) : Type 0 where
   pub name : There t p
   pub params : ParamsAt t (nameEnd t p)
   pub few : countAt t (nameEnd t p) ≤ 255
-  pub block : BlockLowerable d t (localsAt d t p) (paramsAt t (nameEnd t p) .end)
+  pub block : BlockLowerable d t (paramsAt t (nameEnd t p) .end)
 
 -- what a function's code ends in: that of a method `__init__` in its object
 unfoldable pub endOf : Bool → List Instr

@@ -39,7 +39,7 @@ fn emit_value(
     c: Counts,
     l: Limits,
 ) -> Emitted
-    requires { ⌜ Ready (now tree) (now slots) (now made) (now code) (now tables) c l × Lowerable depth (now tree) (slotNames (now tree) (now slots)) at × Plain op 0 0 ⌝ }
+    requires { ⌜ Ready (now tree) (now slots) (now made) (now code) (now tables) c l × Lowerable depth (now tree) at × Plain op 0 0 ⌝ }
     ensures { λ r. ⌜ Lowers r (exprCode depth (now (tree .entry)) (slotNames (now (tree .entry)) (now (slots .entry))) at ⨟ one (instr op 0 0)) (exprAt depth (now (tree .entry)) at .end) (now (tree .entry)) (now (made .entry)) (now (code .entry)) (now (tables .entry)) (now (made .exit)) (now (code .exit)) (now (tables .exit)) c l ⌝ }
 {
     let value = emit_expr(tree, at, depth, slots, made, code, tables, c, l);
@@ -61,7 +61,7 @@ pub fn emit_question(
     c: Counts,
     l: Limits,
 ) -> Emitted
-    requires { ⌜ Ready (now tree) (now slots) (now made) (now code) (now tables) c l × Lowerable depth (now tree) (slotNames (now tree) (now slots)) at ⌝ }
+    requires { ⌜ Ready (now tree) (now slots) (now made) (now code) (now tables) c l × Lowerable depth (now tree) at ⌝ }
     ensures { λ r. ⌜ Lowers r (exprCode depth (now (tree .entry)) (slotNames (now (tree .entry)) (now (slots .entry))) at ⨟ one (JumpIfFalse 0)) (exprAt depth (now (tree .entry)) at .end) (now (tree .entry)) (now (made .entry)) (now (code .entry)) (now (tables .entry)) (now (made .exit)) (now (code .exit)) (now (tables .exit)) c l ⌝ }
 {
     let value = emit_expr(tree, at, depth, slots, made, code, tables, c, l);
@@ -83,7 +83,7 @@ pub fn emit_iterable(
     c: Counts,
     l: Limits,
 ) -> Emitted
-    requires { ⌜ Ready (now tree) (now slots) (now made) (now code) (now tables) c l × Lowerable depth (now tree) (slotNames (now tree) (now slots)) at ⌝ }
+    requires { ⌜ Ready (now tree) (now slots) (now made) (now code) (now tables) c l × Lowerable depth (now tree) at ⌝ }
     ensures { λ r. ⌜ Lowers r (exprCode depth (now (tree .entry)) (slotNames (now (tree .entry)) (now (slots .entry))) at ⨟ makeIter) (exprAt depth (now (tree .entry)) at .end) (now (tree .entry)) (now (made .entry)) (now (code .entry)) (now (tables .entry)) (now (made .exit)) (now (code .exit)) (now (tables .exit)) c l ⌝ }
 {
     let value = emit_expr(tree, at, depth, slots, made, code, tables, c, l);
@@ -105,7 +105,7 @@ pub fn emit_simple(
     c: Counts,
     l: Limits,
 ) -> Emitted
-    requires { ⌜ Ready (now tree) (now slots) (now made) (now code) (now tables) c l × StmtLowerable depth (now tree) (slotNames (now tree) (now slots)) at × (getD (now tree) at 0 < 6) ⌝ }
+    requires { ⌜ Ready (now tree) (now slots) (now made) (now code) (now tables) c l × StmtLowerable depth (now tree) at × (getD (now tree) at 0 < 6) ⌝ }
     ensures { λ r. ⌜ Lowers r (stmtCode depth (now (tree .entry)) (slotNames (now (tree .entry)) (now (slots .entry))) at) (stmtAt depth (now (tree .entry)) at .end) (now (tree .entry)) (now (made .entry)) (now (code .entry)) (now (tables .entry)) (now (made .exit)) (now (code .exit)) (now (tables .exit)) c l ⌝ }
 {
     let kind = tree[at];

@@ -57,7 +57,7 @@ pub fn emit_stmt(
     c: Counts,
     l: Limits,
 ) -> Emitted
-    requires { ⌜ Ready (now tree) (now slots) (now made) (now code) (now tables) c l × StmtLowerable depth (now tree) (slotNames (now tree) (now slots)) at ⌝ }
+    requires { ⌜ Ready (now tree) (now slots) (now made) (now code) (now tables) c l × StmtLowerable depth (now tree) at ⌝ }
     ensures { λ r. ⌜ Lowers r (stmtCode depth (now (tree .entry)) (slotNames (now (tree .entry)) (now (slots .entry))) at) (stmtAt depth (now (tree .entry)) at .end) (now (tree .entry)) (now (made .entry)) (now (code .entry)) (now (tables .entry)) (now (made .exit)) (now (code .exit)) (now (tables .exit)) c l ⌝ }
 {
     let kind = tree[at];
@@ -86,7 +86,7 @@ pub fn emit_block(
     c: Counts,
     l: Limits,
 ) -> Emitted
-    requires { ⌜ Ready (now tree) (now slots) (now made) (now code) (now tables) c l × BlockLowerable depth (now tree) (slotNames (now tree) (now slots)) at ⌝ }
+    requires { ⌜ Ready (now tree) (now slots) (now made) (now code) (now tables) c l × BlockLowerable depth (now tree) at ⌝ }
     ensures { λ r. ⌜ Lowers r (blockCode depth (now (tree .entry)) (slotNames (now (tree .entry)) (now (slots .entry))) at) (blockAt depth (now (tree .entry)) at .end) (now (tree .entry)) (now (made .entry)) (now (code .entry)) (now (tables .entry)) (now (made .exit)) (now (code .exit)) (now (tables .exit)) c l ⌝ }
 {
     let mut left = u16_at(tree, at);
@@ -116,7 +116,7 @@ fn emit_branch(
     c: Counts,
     l: Limits,
 ) -> Emitted
-    requires { ⌜ Ready (now tree) (now slots) (now made) (now code) (now tables) c l × BranchLowerable depth (now tree) (slotNames (now tree) (now slots)) at ⌝ }
+    requires { ⌜ Ready (now tree) (now slots) (now made) (now code) (now tables) c l × BranchLowerable depth (now tree) at ⌝ }
     ensures { λ r. ⌜ Lowers r (branch (slotNames (now (tree .entry)) (now (slots .entry))) (exprAt depth (now (tree .entry)) at .value) (bodyAt depth (now (tree .entry)) at .value)) (bodyAt depth (now (tree .entry)) at .end) (now (tree .entry)) (now (made .entry)) (now (code .entry)) (now (tables .entry)) (now (made .exit)) (now (code .exit)) (now (tables .exit)) c l ⌝ }
 {
     let asked = emit_question(tree, at, depth, slots, made, code, tables, c, l);
@@ -142,7 +142,7 @@ fn emit_if(
     c: Counts,
     l: Limits,
 ) -> Emitted
-    requires { ⌜ Ready (now tree) (now slots) (now made) (now code) (now tables) c l × IfLowerable depth (now tree) (slotNames (now tree) (now slots)) at ⌝ }
+    requires { ⌜ Ready (now tree) (now slots) (now made) (now code) (now tables) c l × IfLowerable depth (now tree) at ⌝ }
     ensures { λ r. ⌜ Lowers r (emitStmt (slotNames (now (tree .entry)) (now (slots .entry))) (if (when (exprAt depth (now (tree .entry)) at .value) (bodyAt depth (now (tree .entry)) at .value) (elifsAt depth (now (tree .entry)) at .value)))) (elifsAt depth (now (tree .entry)) at .end) (now (tree .entry)) (now (made .entry)) (now (code .entry)) (now (tables .entry)) (now (made .exit)) (now (code .exit)) (now (tables .exit)) c l ⌝ }
 {
     let first = emit_branch(tree, at, depth, slots, made, code, tables, c, l);
@@ -166,7 +166,7 @@ fn emit_elifs(
     c: Counts,
     l: Limits,
 ) -> Emitted
-    requires { ⌜ Ready (now tree) (now slots) (now made) (now code) (now tables) c l × BranchesLowerable depth n (now tree) (slotNames (now tree) (now slots)) at × (0 < c .open) ⌝ }
+    requires { ⌜ Ready (now tree) (now slots) (now made) (now code) (now tables) c l × BranchesLowerable depth n (now tree) at × (0 < c .open) ⌝ }
     ensures { λ r. ⌜ Emits r (now (tree .entry)) (now (made .exit)) (now (code .exit)) (now (tables .exit)) c l (branchesAt depth n (now (tree .entry)) at .end) (chainAt (c .base) (slotNames (now (tree .entry)) (now (slots .entry))) (branchesAt depth n (now (tree .entry)) at .value) (c .open - 1) (stateOf (now (tree .entry)) (now (made .entry)) (now (code .entry)) (now (tables .entry)) c)) ⌝ }
 {
     let mut left = n;
@@ -199,7 +199,7 @@ fn emit_else(
     c: Counts,
     l: Limits,
 ) -> Emitted
-    requires { ⌜ Ready (now tree) (now slots) (now made) (now code) (now tables) c l × BranchesLowerable depth 0 (now tree) (slotNames (now tree) (now slots)) at × (0 < c .open) ⌝ }
+    requires { ⌜ Ready (now tree) (now slots) (now made) (now code) (now tables) c l × BranchesLowerable depth 0 (now tree) at × (0 < c .open) ⌝ }
     ensures { λ r. ⌜ Emits r (now (tree .entry)) (now (made .exit)) (now (code .exit)) (now (tables .exit)) c l (branchesAt depth 0 (now (tree .entry)) at .end) (chainAt (c .base) (slotNames (now (tree .entry)) (now (slots .entry))) (branchesAt depth 0 (now (tree .entry)) at .value) (c .open - 1) (stateOf (now (tree .entry)) (now (made .entry)) (now (code .entry)) (now (tables .entry)) c)) ⌝ }
 {
     let from = c.open;
@@ -228,7 +228,7 @@ fn emit_while(
     c: Counts,
     l: Limits,
 ) -> Emitted
-    requires { ⌜ Ready (now tree) (now slots) (now made) (now code) (now tables) c l × BranchLowerable depth (now tree) (slotNames (now tree) (now slots)) at ⌝ }
+    requires { ⌜ Ready (now tree) (now slots) (now made) (now code) (now tables) c l × BranchLowerable depth (now tree) at ⌝ }
     ensures { λ r. ⌜ Lowers r (loop (exprCode depth (now (tree .entry)) (slotNames (now (tree .entry)) (now (slots .entry))) at) (blockCode depth (now (tree .entry)) (slotNames (now (tree .entry)) (now (slots .entry))) (exprAt depth (now (tree .entry)) at .end))) (bodyAt depth (now (tree .entry)) at .end) (now (tree .entry)) (now (made .entry)) (now (code .entry)) (now (tables .entry)) (now (made .exit)) (now (code .exit)) (now (tables .exit)) c l ⌝ }
 {
     let asked = emit_question(tree, at, depth, slots, made, code, tables, c, l);
@@ -254,7 +254,7 @@ fn emit_for(
     c: Counts,
     l: Limits,
 ) -> Emitted
-    requires { ⌜ Ready (now tree) (now slots) (now made) (now code) (now tables) c l × ForLowerable depth (now tree) (slotNames (now tree) (now slots)) at ⌝ }
+    requires { ⌜ Ready (now tree) (now slots) (now made) (now code) (now tables) c l × ForLowerable depth (now tree) at ⌝ }
     ensures { λ r. ⌜ Lowers r (emitStmt (slotNames (now (tree .entry)) (now (slots .entry))) (for (nameAt (now (tree .entry)) at) (exprAt depth (now (tree .entry)) (nameEnd (now (tree .entry)) at) .value) (bodyAt depth (now (tree .entry)) (nameEnd (now (tree .entry)) at) .value))) (bodyAt depth (now (tree .entry)) (nameEnd (now (tree .entry)) at) .end) (now (tree .entry)) (now (made .entry)) (now (code .entry)) (now (tables .entry)) (now (made .exit)) (now (code .exit)) (now (tables .exit)) c l ⌝ }
 {
     let start = name_end(tree, at);
@@ -283,7 +283,7 @@ fn emit_rounds(
     c: Counts,
     l: Limits,
 ) -> Emitted
-    requires { ⌜ Ready (now tree) (now slots) (now made) (now code) (now tables) c l × There (now tree) at × BlockLowerable depth (now tree) (slotNames (now tree) (now slots)) block × (g < 65536) ⌝ }
+    requires { ⌜ Ready (now tree) (now slots) (now made) (now code) (now tables) c l × There (now tree) at × BlockLowerable depth (now tree) block × (g < 65536) ⌝ }
     ensures { λ r. ⌜ Lowers r (loop (askIter g) (takeIter (slotNames (now (tree .entry)) (now (slots .entry))) (nameAt (now (tree .entry)) at) g ⨟ blockCode depth (now (tree .entry)) (slotNames (now (tree .entry)) (now (slots .entry))) block)) (blockAt depth (now (tree .entry)) block .end) (now (tree .entry)) (now (made .entry)) (now (code .entry)) (now (tables .entry)) (now (made .exit)) (now (code .exit)) (now (tables .exit)) c l ⌝ }
 {
     let asked = ask_iterator(tree, made, code, tables, g, block, c, l);
@@ -314,7 +314,7 @@ fn emit_body(
     c: Counts,
     l: Limits,
 ) -> Emitted
-    requires { ⌜ Ready (now tree) (now slots) (now made) (now code) (now tables) c l × BlockLowerable depth (now tree) (slotNames (now tree) (now slots)) at ⌝ }
+    requires { ⌜ Ready (now tree) (now slots) (now made) (now code) (now tables) c l × BlockLowerable depth (now tree) at ⌝ }
     ensures { λ r. ⌜ Lowers r (blockCode depth (now (tree .entry)) (slotNames (now (tree .entry)) (now (slots .entry))) at ⨟ emits (endOf init)) (blockAt depth (now (tree .entry)) at .end) (now (tree .entry)) (now (made .entry)) (now (code .entry)) (now (tables .entry)) (now (made .exit)) (now (code .exit)) (now (tables .exit)) c l ⌝ }
 {
     let block = emit_block(tree, at, depth, slots, made, code, tables, c, l);

@@ -29,13 +29,13 @@ use Rattle.targets.specs.Assigned.{AssignLowerable, assignCode, Variable
 use Rattle.targets.proofs.Forms.{other-form}
 use Rattle.targets.proofs.Unpacking.{list-is}
 
--- the assignment at p holds what Parts says; its code is e, and it ends at q
-pub record AssignArm (Parts : Type 0) (d : ℕ) (t : List ℕ) (names : List Name) (p : ℕ) (e : Emit) (q : ℕ) : Type 0 where
+-- the assignment at p holds what Parts says; its code is e, by the names of the slots, and it ends at q
+pub record AssignArm (Parts : Type 0) (d : ℕ) (t : List ℕ) (p : ℕ) (e : List Name → Emit) (q : ℕ) : Type 0 where
   pub parts : Parts
-  pub code : e ≡ assignCode d t names p
+  pub code : (names : List Name) → e names ≡ assignCode d t names p
   pub end : q ≡ secondAt d t p .end
 
-module _ (d : ℕ) (t : List ℕ) (names : List Name) (p : ℕ) (r : AssignLowerable d t names p) where
+module _ (d : ℕ) (t : List ℕ) (p : ℕ) (r : AssignLowerable d t p) where
   pub assign-inside : p < length t
   assign-inside = expr-inside d t p (r .target)
 
@@ -47,24 +47,24 @@ module _ (d : ℕ) (t : List ℕ) (names : List Name) (p : ℕ) (r : AssignLower
     asked : askExpr 13 (x .value) ≡ true
     asked = ap (λ (n : Node Expr). askExpr 13 (n .value)) (sym is) ∙ r .args
 
-    valued : Lowerable d t names (x .end)
-    valued = subst (λ (n : Node Expr). Lowerable d t names (n .end)) is (r .value)
+    valued : Lowerable d t (x .end)
+    valued = subst (λ (n : Node Expr). Lowerable d t (n .end)) is (r .value)
 
-    coded : assignBy (view (x .value)) names (exprCode d t names (x .end)) ≡ assignCode d t names p
-    coded = ap (λ (n : Node Expr). assignBy (view (n .value)) names (exprCode d t names (n .end))) (sym is)
+    coded : (names : List Name) → assignBy (view (x .value)) names (exprCode d t names (x .end)) ≡ assignCode d t names p
+    coded names = ap (λ (n : Node Expr). assignBy (view (n .value)) names (exprCode d t names (n .end))) (sym is)
 
     ends : exprAt d t (x .end) .end ≡ secondAt d t p .end
     ends = ap (λ (n : Node Expr). exprAt d t (n .end) .end) (sym is)
 
-  pub arm-variable : getD t p 0 ≡ 6 → AssignArm (VariableAssigned d t names (p + 1)) d t names p
-      (exprCode d t names (nameEnd t (p + 1)) ⨟ store names (nameAt t (p + 1))) (exprAt d t (nameEnd t (p + 1)) .end)
+  pub arm-variable : getD t p 0 ≡ 6 → AssignArm (VariableAssigned d t (p + 1)) d t p
+      (λ names. exprCode d t names (nameEnd t (p + 1)) ⨟ store names (nameAt t (p + 1))) (exprAt d t (nameEnd t (p + 1)) .end)
   unfolding varAt view assignBy nameBytes nameAt
   arm-variable k =
       let v = view-var d t p (r .target) k in
       record { parts = record { name = v .parts; value = valued _ (v .is) }; code = coded _ (v .is); end = ends _ (v .is) }
 
-  pub arm-attribute : getD t p 0 ≡ 10 → AssignArm (AttributeAssigned d t names (p + 1)) d t names p
-      (exprCode (d - 1) t names (p + 1) ⨟ exprCode d t names (nameEnd t (exprAt (d - 1) t (p + 1) .end)) ⨟ intern (nameAt t (exprAt (d - 1) t (p + 1) .end)) (λ k. one (StoreAttr k)))
+  pub arm-attribute : getD t p 0 ≡ 10 → AssignArm (AttributeAssigned d t (p + 1)) d t p
+      (λ names. exprCode (d - 1) t names (p + 1) ⨟ exprCode d t names (nameEnd t (exprAt (d - 1) t (p + 1) .end)) ⨟ intern (nameAt t (exprAt (d - 1) t (p + 1) .end)) (λ k. one (StoreAttr k)))
       (exprAt d t (nameEnd t (exprAt (d - 1) t (p + 1) .end)) .end)
   unfolding attributeAt view assignBy nameBytes nameAt askExpr
   arm-attribute k =
@@ -80,23 +80,23 @@ module _ (d : ℕ) (t : List ℕ) (names : List Name) (p : ℕ) (r : AssignLower
         end = ends _ (v .is);
       }
 
-  pub arm-tuple : getD t p 0 ≡ 13 → AssignArm (TupleAssigned d t names p) d t names p
-      (exprCode d t names (exprAt d t p .end) ⨟ unpack names (elementsAt (d - 1) t (countAt t (p + 1)) (p + 3)) 0) (secondAt d t p .end)
+  pub arm-tuple : getD t p 0 ≡ 13 → AssignArm (TupleAssigned d t p) d t p
+      (λ names. exprCode d t names (exprAt d t p .end) ⨟ unpack names (elementsAt (d - 1) t (countAt t (p + 1)) (p + 3)) 0) (secondAt d t p .end)
   unfolding displayAt view viewDisplay assignBy
   arm-tuple k =
       let v = view-tuple d t p (r .target) k in
       let z : p + 1 + 2 ≡ p + 3 = omega arith in
       record {
         parts = record { deep = assign-deep; target = r .target; elements = v .parts; value = r .value };
-        code =
+        code = λ names.
             ap (λ (es : Exprs). exprCode d t names (exprAt d t p .end) ⨟ unpack names es 0)
             (ap (elementsAt (d - 1) t (countAt t (p + 1))) (sym z) ∙ sym (list-is (d - 1) t (countAt t (p + 1)) (p + 1 + 2) (v .parts .elements)))
             ∙ ap (λ (n : Node Expr). assignBy (view (n .value)) names (exprCode d t names (exprAt d t p .end))) (sym (v .is));
         end = refl;
       }
 
-  pub arm-index : getD t p 0 ≡ 16 → AssignArm (IndexAssigned d t names (p + 1)) d t names p
-      (exprCode (d - 1) t names (p + 1) ⨟ exprCode (d - 1) t names (exprAt (d - 1) t (p + 1) .end) ⨟ exprCode d t names (secondAt (d - 1) t (p + 1) .end) ⨟ one StoreIndex)
+  pub arm-index : getD t p 0 ≡ 16 → AssignArm (IndexAssigned d t (p + 1)) d t p
+      (λ names. exprCode (d - 1) t names (p + 1) ⨟ exprCode (d - 1) t names (exprAt (d - 1) t (p + 1) .end) ⨟ exprCode d t names (secondAt (d - 1) t (p + 1) .end) ⨟ one StoreIndex)
       (exprAt d t (secondAt (d - 1) t (p + 1) .end) .end)
   unfolding indexAt view assignBy askExpr
   arm-index k =
@@ -116,9 +116,9 @@ module _ (d : ℕ) (t : List ℕ) (names : List Name) (p : ℕ) (r : AssignLower
       }
 
   -- question 10 refuses the other targets
-  pub arm-other : (getD t p 0 ≡ 6 → ⊥) → (getD t p 0 ≡ 10 → ⊥) → (getD t p 0 ≡ 13 → ⊥) → (getD t p 0 ≡ 16 → ⊥) → assignCode d t names p ≡ emits []
+  pub arm-other : (names : List Name) → (getD t p 0 ≡ 6 → ⊥) → (getD t p 0 ≡ 10 → ⊥) → (getD t p 0 ≡ 13 → ⊥) → (getD t p 0 ≡ 16 → ⊥) → assignCode d t names p ≡ emits []
   unfolding assignBy
-  arm-other a b f g = ap (λ (w : View). assignBy w names (exprCode d t names (exprAt d t p .end))) (other-form d t p (r .target) a b f g)
+  arm-other names a b f g = ap (λ (w : View). assignBy w names (exprCode d t names (exprAt d t p .end))) (other-form d t p (r .target) a b f g)
 
 -- the pair of an index first
 pub pair-first : (a b e f : Emit) (base : ℕ) (s : State) → base ≤ length (s .stack) → emitAt base ((a ⨟ b) ⨟ e ⨟ f) s ≡ emitAt base (a ⨟ b ⨟ e ⨟ f) s

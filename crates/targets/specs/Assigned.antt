@@ -12,41 +12,41 @@ use Rattle.parts.specs.Places.{There, nameEnd}
 use Rattle.exprs.specs.ExprAt.{exprAt, ExprReads, ListAt, secondAt}
 use Rattle.expressions.specs.Lowerable.{Lowerable, exprCode}
 
-pub record AssignLowerable (d : ℕ) (t : List ℕ) (names : List Name) (p : ℕ) : Type 0 where
+pub record AssignLowerable (d : ℕ) (t : List ℕ) (p : ℕ) : Type 0 where
   pub target : ExprReads d t p
   pub args : askExpr 13 (exprAt d t p .value) ≡ true
-  pub value : Lowerable d t names (exprAt d t p .end)
+  pub value : Lowerable d t (exprAt d t p .end)
 
 -- the assignment's code, by its target's form
 abbrev pub assignCode : ℕ → List ℕ → List Name → ℕ → Emit
 assignCode d t names p = assignBy (view (exprAt d t p .value)) names (exprCode d t names (exprAt d t p .end))
 
 -- to the variable whose name is at p
-pub record VariableAssigned (d : ℕ) (t : List ℕ) (names : List Name) (p : ℕ) : Type 0 where
+pub record VariableAssigned (d : ℕ) (t : List ℕ) (p : ℕ) : Type 0 where
   pub name : There t p
-  pub value : Lowerable d t names (nameEnd t p)
+  pub value : Lowerable d t (nameEnd t p)
 
 -- to the attribute whose object is at p, a level deeper
-pub record AttributeAssigned (d : ℕ) (t : List ℕ) (names : List Name) (p : ℕ) : Type 0 where
+pub record AttributeAssigned (d : ℕ) (t : List ℕ) (p : ℕ) : Type 0 where
   pub deep : 0 < d
-  pub object : Lowerable (d - 1) t names p
+  pub object : Lowerable (d - 1) t p
   pub name : There t (exprAt (d - 1) t p .end)
-  pub value : Lowerable d t names (nameEnd t (exprAt (d - 1) t p .end))
+  pub value : Lowerable d t (nameEnd t (exprAt (d - 1) t p .end))
 
 -- two expressions, the second where the first ends
-pub record PairLowerable (d : ℕ) (t : List ℕ) (names : List Name) (p : ℕ) : Type 0 where
-  pub first : Lowerable d t names p
-  pub second : Lowerable d t names (exprAt d t p .end)
+pub record PairLowerable (d : ℕ) (t : List ℕ) (p : ℕ) : Type 0 where
+  pub first : Lowerable d t p
+  pub second : Lowerable d t (exprAt d t p .end)
 
 -- to the index whose object is at p
-pub record IndexAssigned (d : ℕ) (t : List ℕ) (names : List Name) (p : ℕ) : Type 0 where
+pub record IndexAssigned (d : ℕ) (t : List ℕ) (p : ℕ) : Type 0 where
   pub deep : 0 < d
-  pub pair : PairLowerable (d - 1) t names p
-  pub value : Lowerable d t names (secondAt (d - 1) t p .end)
+  pub pair : PairLowerable (d - 1) t p
+  pub value : Lowerable d t (secondAt (d - 1) t p .end)
 
 -- to the tuple at p, whose elements are a level deeper
-pub record TupleAssigned (d : ℕ) (t : List ℕ) (names : List Name) (p : ℕ) : Type 0 where
+pub record TupleAssigned (d : ℕ) (t : List ℕ) (p : ℕ) : Type 0 where
   pub deep : 0 < d
   pub target : ExprReads d t p
   pub elements : ListAt (d - 1) t (p + 1)
-  pub value : Lowerable d t names (exprAt d t p .end)
+  pub value : Lowerable d t (exprAt d t p .end)

@@ -37,7 +37,7 @@ fn assign_variable(
     c: Counts,
     l: Limits,
 ) -> Emitted
-    requires { ⌜ Ready (now tree) (now slots) (now made) (now code) (now tables) c l × VariableAssigned depth (now tree) (slotNames (now tree) (now slots)) at ⌝ }
+    requires { ⌜ Ready (now tree) (now slots) (now made) (now code) (now tables) c l × VariableAssigned depth (now tree) at ⌝ }
     ensures { λ r. ⌜ Lowers r (exprCode depth (now (tree .entry)) (slotNames (now (tree .entry)) (now (slots .entry))) (nameEnd (now (tree .entry)) at) ⨟ store (slotNames (now (tree .entry)) (now (slots .entry))) (nameAt (now (tree .entry)) at)) (exprAt depth (now (tree .entry)) (nameEnd (now (tree .entry)) at) .end) (now (tree .entry)) (now (made .entry)) (now (code .entry)) (now (tables .entry)) (now (made .exit)) (now (code .exit)) (now (tables .exit)) c l ⌝ }
 {
     let value = emit_expr(
@@ -69,7 +69,7 @@ fn assign_attribute(
     c: Counts,
     l: Limits,
 ) -> Emitted
-    requires { ⌜ Ready (now tree) (now slots) (now made) (now code) (now tables) c l × AttributeAssigned depth (now tree) (slotNames (now tree) (now slots)) at ⌝ }
+    requires { ⌜ Ready (now tree) (now slots) (now made) (now code) (now tables) c l × AttributeAssigned depth (now tree) at ⌝ }
     ensures { λ r. ⌜ Lowers r (exprCode (depth - 1) (now (tree .entry)) (slotNames (now (tree .entry)) (now (slots .entry))) at ⨟ exprCode depth (now (tree .entry)) (slotNames (now (tree .entry)) (now (slots .entry))) (nameEnd (now (tree .entry)) (exprAt (depth - 1) (now (tree .entry)) at .end)) ⨟ intern (nameAt (now (tree .entry)) (exprAt (depth - 1) (now (tree .entry)) at .end)) (λ k. one (StoreAttr k))) (exprAt depth (now (tree .entry)) (nameEnd (now (tree .entry)) (exprAt (depth - 1) (now (tree .entry)) at .end)) .end) (now (tree .entry)) (now (made .entry)) (now (code .entry)) (now (tables .entry)) (now (made .exit)) (now (code .exit)) (now (tables .exit)) c l ⌝ }
 {
     let object = emit_expr(tree, at, depth - 1, slots, made, code, tables, c, l);
@@ -105,7 +105,7 @@ fn emit_pair(
     c: Counts,
     l: Limits,
 ) -> Emitted
-    requires { ⌜ Ready (now tree) (now slots) (now made) (now code) (now tables) c l × PairLowerable depth (now tree) (slotNames (now tree) (now slots)) at ⌝ }
+    requires { ⌜ Ready (now tree) (now slots) (now made) (now code) (now tables) c l × PairLowerable depth (now tree) at ⌝ }
     ensures { λ r. ⌜ Lowers r (exprCode depth (now (tree .entry)) (slotNames (now (tree .entry)) (now (slots .entry))) at ⨟ exprCode depth (now (tree .entry)) (slotNames (now (tree .entry)) (now (slots .entry))) (exprAt depth (now (tree .entry)) at .end)) (secondAt depth (now (tree .entry)) at .end) (now (tree .entry)) (now (made .entry)) (now (code .entry)) (now (tables .entry)) (now (made .exit)) (now (code .exit)) (now (tables .exit)) c l ⌝ }
 {
     let first = emit_expr(tree, at, depth, slots, made, code, tables, c, l);
@@ -127,7 +127,7 @@ fn assign_index(
     c: Counts,
     l: Limits,
 ) -> Emitted
-    requires { ⌜ Ready (now tree) (now slots) (now made) (now code) (now tables) c l × IndexAssigned depth (now tree) (slotNames (now tree) (now slots)) at ⌝ }
+    requires { ⌜ Ready (now tree) (now slots) (now made) (now code) (now tables) c l × IndexAssigned depth (now tree) at ⌝ }
     ensures { λ r. ⌜ Lowers r ((exprCode (depth - 1) (now (tree .entry)) (slotNames (now (tree .entry)) (now (slots .entry))) at ⨟ exprCode (depth - 1) (now (tree .entry)) (slotNames (now (tree .entry)) (now (slots .entry))) (exprAt (depth - 1) (now (tree .entry)) at .end)) ⨟ exprCode depth (now (tree .entry)) (slotNames (now (tree .entry)) (now (slots .entry))) (secondAt (depth - 1) (now (tree .entry)) at .end) ⨟ one StoreIndex) (exprAt depth (now (tree .entry)) (secondAt (depth - 1) (now (tree .entry)) at .end) .end) (now (tree .entry)) (now (made .entry)) (now (code .entry)) (now (tables .entry)) (now (made .exit)) (now (code .exit)) (now (tables .exit)) c l ⌝ }
 {
     let pair = emit_pair(tree, at, depth - 1, slots, made, code, tables, c, l);
@@ -153,7 +153,7 @@ fn assign_tuple(
     c: Counts,
     l: Limits,
 ) -> Emitted
-    requires { ⌜ Ready (now tree) (now slots) (now made) (now code) (now tables) c l × TupleAssigned depth (now tree) (slotNames (now tree) (now slots)) at ⌝ }
+    requires { ⌜ Ready (now tree) (now slots) (now made) (now code) (now tables) c l × TupleAssigned depth (now tree) at ⌝ }
     ensures { λ r. ⌜ Lowers r (exprCode depth (now (tree .entry)) (slotNames (now (tree .entry)) (now (slots .entry))) (exprAt depth (now (tree .entry)) at .end) ⨟ unpack (slotNames (now (tree .entry)) (now (slots .entry))) (elementsAt (depth - 1) (now (tree .entry)) (countAt (now (tree .entry)) (at + 1)) (at + 3)) 0) (secondAt depth (now (tree .entry)) at .end) (now (tree .entry)) (now (made .entry)) (now (code .entry)) (now (tables .entry)) (now (made .exit)) (now (code .exit)) (now (tables .exit)) c l ⌝ }
 {
     let n = u16_at(tree, at + 1);
@@ -199,7 +199,7 @@ pub fn emit_assign(
     c: Counts,
     l: Limits,
 ) -> Emitted
-    requires { ⌜ Ready (now tree) (now slots) (now made) (now code) (now tables) c l × AssignLowerable depth (now tree) (slotNames (now tree) (now slots)) at ⌝ }
+    requires { ⌜ Ready (now tree) (now slots) (now made) (now code) (now tables) c l × AssignLowerable depth (now tree) at ⌝ }
     ensures { λ r. ⌜ Lowers r (assignCode depth (now (tree .entry)) (slotNames (now (tree .entry)) (now (slots .entry))) at) (secondAt depth (now (tree .entry)) at .end) (now (tree .entry)) (now (made .entry)) (now (code .entry)) (now (tables .entry)) (now (made .exit)) (now (code .exit)) (now (tables .exit)) c l ⌝ }
 {
     let kind = tree[at];

@@ -22,7 +22,7 @@ pub emit-args-ok : {M : Type 1} (t : ℕ) → emit-args-lts.Closed (u16-at-reads
 emit-args-ok t = emit-args-lts.spec (u16-at-reads.Asked, u16-at-reads.Learnt, emit-exprs-below t, emit-exprs.Post, put-call-reads.Asked, put-call-reads.Learnt) (emit-args-at t) emit-args.Post
     (λ c κs. let start = c .before .before .before .before .before in start .pre .1 .1 .count)
     (λ c. let start = c .before .before .before .before .before .before in omega (arith, start .pre .1 .1 .count .bytes, start .pre .1 .0 .tree-short))
-    (λ c κs. let at-u16-at = c .before .before .before in let start = at-u16-at .before .before .before .before .before .before in (omega (arith, start .pre .0), (start .pre .1 .0, many-at _ _ _ _ _ _ _ (at-u16-at .u16-at .ensures .0) refl (start .pre .1 .1 .elements))))
+    (λ c κs. let at-u16-at = c .before .before .before in let start = at-u16-at .before .before .before .before .before .before in (omega (arith, start .pre .0), (start .pre .1 .0, many-at _ _ _ _ _ _ (at-u16-at .u16-at .ensures .0) refl (start .pre .1 .1 .elements))))
     (λ c. search needs)
     (λ c. search needs)
     (λ c. let at-emit-exprs = c .before .before .before .before .before .before .before .before in at-emit-exprs .emit-exprs .kept .1 .1 .1 .1 .1 .0)

@@ -27,7 +27,7 @@ emit-display-ok t = emit-display-lts.spec (u16-at-reads.Asked, u16-at-reads.Lear
     (λ c κs. let start = c .before .before .before .before .before in start .pre .1 .1 .count)
     (λ c. let start = c .before .before .before .before .before .before in omega (arith, start .pre .1 .1 .count .bytes, start .pre .1 .0 .tree-short))
     (λ c κs. let at-u16-at = c in at-u16-at .u16-at .ensures .1)
-    (λ c κs. let at-held = c .before .before .before in let at-u16-at = at-held .before in let start = at-u16-at .before .before .before .before .before .before in let u = at-held .held .ensures ∙ ap (heldOf (start .args .kind)) (at-u16-at .u16-at .ensures .0) in (omega (arith, start .pre .0), (start .pre .1 .0, many-at _ _ _ _ _ _ _ u refl (start .pre .1 .1 .elements))))
+    (λ c κs. let at-held = c .before .before .before in let at-u16-at = at-held .before in let start = at-u16-at .before .before .before .before .before .before in let u = at-held .held .ensures ∙ ap (heldOf (start .args .kind)) (at-u16-at .u16-at .ensures .0) in (omega (arith, start .pre .0), (start .pre .1 .0, many-at _ _ _ _ _ _ u refl (start .pre .1 .1 .elements))))
     (λ c. search needs)
     (λ c. search needs)
     (λ c. let at-emit-exprs = c .before .before .before .before .before .before .before .before in at-emit-exprs .emit-exprs .kept .1 .1 .1 .1 .1 .0)

@@ -19,7 +19,7 @@ abbrev μ-loop : emit-exprs-lts.MeasureT-loop
 pub emit-exprs-ok : {M : Type 1} (t : ℕ) → emit-exprs-lts.Closed (emit-expr-below t, emit-expr.Post) (emit-exprs-at t) emit-exprs.Post M
 emit-exprs-ok t = emit-exprs-lts.spec (emit-expr-below t, emit-expr.Post) (emit-exprs-at t) emit-exprs.Post Inv-loop μ-loop
     (λ c. let start = c .before .before .before .before .before in rest-all _ _ _ _ _ _ _ _ _ _ (start .pre .1 .1) (start .pre .1 .0 .sound))
-    (λ c κs. let at-loop-test = c .before .before .before in let at-loop = at-loop-test .before in let start = at-loop .before .before .before .before .before .before in (omega (arith, start .pre .0), (rest-ready _ _ _ _ _ _ _ _ _ _ _ _ _ _ _ _ (at-loop .loop .inv) _ (start .pre .1 .0), more-view _ _ _ _ _ (at-loop-test .loop-test .taken) (at-loop .loop .inv .elements) .head)))
+    (λ c κs. let at-loop-test = c .before .before .before in let at-loop = at-loop-test .before in let start = at-loop .before .before .before .before .before .before in (omega (arith, start .pre .0), (rest-ready _ _ _ _ _ _ _ _ _ _ _ _ _ _ _ _ (at-loop .loop .inv) _ (start .pre .1 .0), more-view _ _ _ _ (at-loop-test .loop-test .taken) (at-loop .loop .inv .elements) .head)))
     (λ c. search needs)
     (λ c. search needs)
     (λ c. let at-emit-expr = c .before .before .before .before .before .before .before .before in let at-loop = at-emit-expr .before .before .before .before .before in at-emit-expr .emit-expr .kept .1 .1 .1 .1 .0 ∙ at-loop .loop .inv .made-kept)

@@ -26,7 +26,7 @@ emit-logical-ok t = emit-logical-lts.spec (emit-expr-below t, emit-expr.Post, em
     (λ c. let at-emit-expr = c .before .before .before .before .before .before .before .before in at-emit-expr .emit-expr .kept .1 .1 .1 .1 .1 .0)
     (λ c. let at-emit-expr = c .before .before .before .before .before .before .before .before in at-emit-expr .emit-expr .kept .1 .1 .1 .1 .1 .1 .0)
     (λ c. let at-enum-told = c in let at-emit-expr = at-enum-told .before .before .before .before .before .before .before .before in let start = at-emit-expr .before .before .before .before .before .before .before .before .before in full-lowers _ _ _ _ _ _ (start .pre .1 .0 .sound) _ _ _ _ _ _ _ _ (lengthens-shortcut _ (lengthens-expr _ _)) (at-enum-told .enum-told .given .1) (at-emit-expr .emit-expr .ensures))
-    (λ c κs. let at-left = c .before .before .before .before in let at-emit-expr = at-left .before .before .before .before .before .before .before .before in let start = at-emit-expr .before .before .before .before .before .before .before .before .before in let h = emits-done _ _ _ _ _ _ _ _ _ _ _ (at-left .left .given .1) (at-emit-expr .emit-expr .ensures) in (omega (arith, start .pre .0), (ready-again (start .pre .1 .0) (h .1), lowerable-at _ _ _ _ _ (h .0) (start .pre .1 .1 .second), start .pre .1 .2, start .pre .1 .3)))
+    (λ c κs. let at-left = c .before .before .before .before in let at-emit-expr = at-left .before .before .before .before .before .before .before .before in let start = at-emit-expr .before .before .before .before .before .before .before .before .before in let h = emits-done _ _ _ _ _ _ _ _ _ _ _ (at-left .left .given .1) (at-emit-expr .emit-expr .ensures) in (omega (arith, start .pre .0), (ready-again (start .pre .1 .0) (h .1), lowerable-at _ _ _ _ (h .0) (start .pre .1 .1 .second), start .pre .1 .2, start .pre .1 .3)))
     (λ c. let at-emit-shortcut = c .before .before .before .before .before .before in let at-emit-expr = at-emit-shortcut .before .before .before .before .before .before .before .before .before .before .before .before .before in at-emit-shortcut .emit-shortcut .kept .1 .1 .1 .1 .1 .0 ∙ at-emit-expr .emit-expr .kept .1 .1 .1 .1 .0)
     (λ c. let at-emit-shortcut = c .before .before .before .before .before .before in let at-emit-expr = at-emit-shortcut .before .before .before .before .before .before .before .before .before .before .before .before .before in at-emit-shortcut .emit-shortcut .kept .1 .1 .1 .1 .1 .1 .0 ∙ at-emit-expr .emit-expr .kept .1 .1 .1 .1 .1 .0)
     (λ c. let at-emit-shortcut = c .before .before .before .before .before .before in let at-emit-expr = at-emit-shortcut .before .before .before .before .before .before .before .before .before .before .before .before .before in at-emit-shortcut .emit-shortcut .kept .1 .1 .1 .1 .1 .1 .1 .0 ∙ at-emit-expr .emit-expr .kept .1 .1 .1 .1 .1 .1 .0)

@@ -37,7 +37,7 @@ emit-method-ok t = emit-method-lts.spec (emit-expr-below t, emit-expr.Post, name
     (λ c κs. let at-object = c .before in let at-emit-expr = at-object .before .before .before .before .before .before .before .before in let start = at-emit-expr .before .before .before .before .before .before .before .before .before in let h = emits-done _ _ _ _ _ _ _ _ _ _ _ (at-object .object .given .1) (at-emit-expr .emit-expr .ensures) in there-at _ _ _ (h .0) (start .pre .1 .1 .callee .name))
     (λ c κs. let at-name-end = c in let at-object = at-name-end .before .before in let at-emit-expr = at-object .before .before .before .before .before .before .before .before in let start = at-emit-expr .before .before .before .before .before .before .before .before .before in let h = emits-done _ _ _ _ _ _ _ _ _ _ _ (at-object .object .given .1) (at-emit-expr .emit-expr .ensures) in let e = at-name-end .name-end .ensures ∙ ap (nameEnd (start .args .tree .now)) (h .0) in counted-at _ _ _ e (start .pre .1 .1 .args .count))
     (λ c. let at-name-end = c .before in let at-object = at-name-end .before .before in let at-emit-expr = at-object .before .before .before .before .before .before .before .before in let start = at-emit-expr .before .before .before .before .before .before .before .before .before in let h = emits-done _ _ _ _ _ _ _ _ _ _ _ (at-object .object .given .1) (at-emit-expr .emit-expr .ensures) in let e = at-name-end .name-end .ensures ∙ ap (nameEnd (start .args .tree .now)) (h .0) in let z = counted-at _ _ _ e (start .pre .1 .1 .args .count) in omega (arith, z .bytes, start .pre .1 .0 .tree-short))
-    (λ c κs. let at-u16-at = c .before .before .before in let at-name-end = at-u16-at .before in let at-object = at-name-end .before .before in let at-emit-expr = at-object .before .before .before .before .before .before .before .before in let start = at-emit-expr .before .before .before .before .before .before .before .before .before in let h = emits-done _ _ _ _ _ _ _ _ _ _ _ (at-object .object .given .1) (at-emit-expr .emit-expr .ensures) in let e = at-name-end .name-end .ensures ∙ ap (nameEnd (start .args .tree .now)) (h .0) in let u = at-u16-at .u16-at .ensures .0 ∙ ap (countAt (start .args .tree .now)) e in (omega (arith, start .pre .0), (ready-again (start .pre .1 .0) (h .1), many-at _ _ _ _ _ _ _ u (ap (λ (x : ℕ). x + 2) e) (start .pre .1 .1 .args .elements))))
+    (λ c κs. let at-u16-at = c .before .before .before in let at-name-end = at-u16-at .before in let at-object = at-name-end .before .before in let at-emit-expr = at-object .before .before .before .before .before .before .before .before in let start = at-emit-expr .before .before .before .before .before .before .before .before .before in let h = emits-done _ _ _ _ _ _ _ _ _ _ _ (at-object .object .given .1) (at-emit-expr .emit-expr .ensures) in let e = at-name-end .name-end .ensures ∙ ap (nameEnd (start .args .tree .now)) (h .0) in let u = at-u16-at .u16-at .ensures .0 ∙ ap (countAt (start .args .tree .now)) e in (omega (arith, start .pre .0), (ready-again (start .pre .1 .0) (h .1), many-at _ _ _ _ _ _ u (ap (λ (x : ℕ). x + 2) e) (start .pre .1 .1 .args .elements))))
     (λ c. search needs)
     (λ c. search needs)
     (λ c. let at-emit-exprs = c .before .before .before .before .before .before .before .before in let at-emit-expr = at-emit-exprs .before .before .before .before .before .before .before .before .before .before .before .before .before .before .before in at-emit-exprs .emit-exprs .kept .1 .1 .1 .1 .1 .0 ∙ at-emit-expr .emit-expr .kept .1 .1 .1 .1 .0)

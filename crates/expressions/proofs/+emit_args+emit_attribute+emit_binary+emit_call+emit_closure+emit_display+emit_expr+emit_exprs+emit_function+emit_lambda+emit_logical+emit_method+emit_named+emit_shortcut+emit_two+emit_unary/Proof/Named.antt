@@ -32,7 +32,7 @@ emit-named-ok t = emit-named-lts.spec (name-end-reads.Asked, name-end-reads.Lear
     (λ c. let at-load-callee = c .before .before .before .before .before .before in at-load-callee .load-callee .kept .1 .1 .1 .1 .1 .0)
     (λ c. let at-load-callee = c .before .before .before .before .before .before in at-load-callee .load-callee .kept .1 .1 .1 .1 .1 .1 .0)
     (λ c. let at-enum-told = c in let at-load-callee = at-enum-told .before .before .before .before .before .before in let at-resolve = at-load-callee .before .before .before .before in let start = at-resolve .before .before .before .before .before .before .before .before .before .before in emits-as _ _ _ _ _ _ _ _ _ _ _ refl (sym (named-args _ _ _ _ _ _ _ (start .pre .1 .1) (base-below _ _ _ _ _ _ (start .pre .1 .0 .sound)) (at-resolve .resolve .ensures))) (full-lowers _ _ _ _ _ _ (start .pre .1 .0 .sound) _ _ _ _ _ _ _ _ (lengthens-seq (lengthens-exprs _ _) (lengthens-one _)) (at-enum-told .enum-told .given .1) (at-load-callee .load-callee .ensures)))
-    (λ c κs. let at-value = c .before .before .before .before in let at-load-callee = at-value .before .before .before .before .before .before in let at-resolve = at-load-callee .before .before .before .before in let at-name-end = at-resolve .before .before .before .before in let start = at-name-end .before .before .before .before .before .before in let h = emits-done _ _ _ _ _ _ _ _ _ _ _ (at-value .value .given .1) (at-load-callee .load-callee .ensures) in let e = h .0 ∙ at-name-end .name-end .ensures in (omega (arith, start .pre .0), (ready-again (start .pre .1 .0) (h .1), args-at _ _ _ _ _ e (start .pre .1 .1 .args), callee-short _ _ _ (functions-few _ _ _ _ _ _ (start .pre .1 .0 .sound)) (at-resolve .resolve .ensures))))
+    (λ c κs. let at-value = c .before .before .before .before in let at-load-callee = at-value .before .before .before .before .before .before in let at-resolve = at-load-callee .before .before .before .before in let at-name-end = at-resolve .before .before .before .before in let start = at-name-end .before .before .before .before .before .before in let h = emits-done _ _ _ _ _ _ _ _ _ _ _ (at-value .value .given .1) (at-load-callee .load-callee .ensures) in let e = h .0 ∙ at-name-end .name-end .ensures in (omega (arith, start .pre .0), (ready-again (start .pre .1 .0) (h .1), args-at _ _ _ _ e (start .pre .1 .1 .args), callee-short _ _ _ (functions-few _ _ _ _ _ _ (start .pre .1 .0 .sound)) (at-resolve .resolve .ensures))))
     (λ c. let at-emit-args = c .before .before .before .before .before .before in at-emit-args .emit-args .kept .1 .1 .1 .1 .1 .0)
     (λ c. let at-emit-args = c .before .before .before .before .before .before in let at-load-callee = at-emit-args .before .before .before .before .before .before .before .before .before .before .before in at-emit-args .emit-args .kept .1 .1 .1 .1 .1 .1 .0 ∙ at-load-callee .load-callee .kept .1 .1 .1 .1 .1 .0)
     (λ c. let at-emit-args = c .before .before .before .before .before .before in let at-load-callee = at-emit-args .before .before .before .before .before .before .before .before .before .before .before in at-emit-args .emit-args .kept .1 .1 .1 .1 .1 .1 .1 .0 ∙ at-load-callee .load-callee .kept .1 .1 .1 .1 .1 .1 .0)

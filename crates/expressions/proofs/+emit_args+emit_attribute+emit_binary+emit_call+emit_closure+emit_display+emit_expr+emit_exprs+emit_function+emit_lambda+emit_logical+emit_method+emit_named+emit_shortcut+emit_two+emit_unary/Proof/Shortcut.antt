@@ -26,7 +26,7 @@ emit-shortcut-ok t = emit-shortcut-lts.spec (put-jump-reads.Asked, put-jump-read
     (λ c. let at-put-jump = c .before .before .before .before in at-put-jump .put-jump .kept .1 .1 .0)
     (λ c. refl)
     (λ c. let at-enum-told = c in let at-put-jump = at-enum-told .before .before .before .before in let start = at-put-jump .before .before .before .before .before .before .before .before .before in shortcut-full _ _ _ _ _ _ (start .pre .1 .0 .sound) _ (start .pre .1 .2) (start .pre .1 .3) _ _ _ _ _ (lengthens-expr _ _) (at-enum-told .enum-told .given .1) (at-put-jump .put-jump .ensures))
-    (λ c κs. let at-first = c .before .before .before .before in let at-put-jump = at-first .before .before .before .before in let start = at-put-jump .before .before .before .before .before .before .before .before .before in let h = emits-done _ _ _ _ _ _ _ _ _ _ _ (at-first .first .given .1) (at-put-jump .put-jump .ensures) in (omega (arith, start .pre .0), (ready-again (start .pre .1 .0) (h .1), lowerable-at _ _ _ _ _ (h .0) (start .pre .1 .1))))
+    (λ c κs. let at-first = c .before .before .before .before in let at-put-jump = at-first .before .before .before .before in let start = at-put-jump .before .before .before .before .before .before .before .before .before in let h = emits-done _ _ _ _ _ _ _ _ _ _ _ (at-first .first .given .1) (at-put-jump .put-jump .ensures) in (omega (arith, start .pre .0), (ready-again (start .pre .1 .0) (h .1), lowerable-at _ _ _ _ (h .0) (start .pre .1 .1))))
     (λ c. search needs)
     (λ c. search needs)
     (λ c. let at-emit-expr = c .before .before .before .before .before .before .before .before in at-emit-expr .emit-expr .kept .1 .1 .1 .1 .0)

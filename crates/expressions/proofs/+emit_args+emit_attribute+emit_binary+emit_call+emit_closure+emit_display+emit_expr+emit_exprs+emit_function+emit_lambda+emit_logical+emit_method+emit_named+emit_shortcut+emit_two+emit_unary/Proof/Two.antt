@@ -26,7 +26,7 @@ emit-two-ok t = emit-two-lts.spec (emit-expr-below t, emit-expr.Post, put-op-rea
     (λ c. let at-emit-expr = c .before .before .before .before .before .before .before .before in at-emit-expr .emit-expr .kept .1 .1 .1 .1 .1 .0)
     (λ c. let at-emit-expr = c .before .before .before .before .before .before .before .before in at-emit-expr .emit-expr .kept .1 .1 .1 .1 .1 .1 .0)
     (λ c. let at-enum-told = c in let at-emit-expr = at-enum-told .before .before .before .before .before .before .before .before in let start = at-emit-expr .before .before .before .before .before .before .before .before .before in full-lowers _ _ _ _ _ _ (start .pre .1 .0 .sound) _ _ _ _ _ _ _ _ (lengthens-seq (lengthens-expr _ _) (lengthens-one _)) (at-enum-told .enum-told .given .1) (at-emit-expr .emit-expr .ensures))
-    (λ c κs. let at-first = c .before .before .before .before in let at-emit-expr = at-first .before .before .before .before .before .before .before .before in let start = at-emit-expr .before .before .before .before .before .before .before .before .before in let h = emits-done _ _ _ _ _ _ _ _ _ _ _ (at-first .first .given .1) (at-emit-expr .emit-expr .ensures) in (omega (arith, start .pre .0), (ready-again (start .pre .1 .0) (h .1), lowerable-at _ _ _ _ _ (h .0) (start .pre .1 .1 .second))))
+    (λ c κs. let at-first = c .before .before .before .before in let at-emit-expr = at-first .before .before .before .before .before .before .before .before in let start = at-emit-expr .before .before .before .before .before .before .before .before .before in let h = emits-done _ _ _ _ _ _ _ _ _ _ _ (at-first .first .given .1) (at-emit-expr .emit-expr .ensures) in (omega (arith, start .pre .0), (ready-again (start .pre .1 .0) (h .1), lowerable-at _ _ _ _ (h .0) (start .pre .1 .1 .second))))
     (λ c. search needs)
     (λ c. search needs)
     (λ c. let at-emit-expr2 = c .before .before .before .before .before .before .before .before in let at-emit-expr = at-emit-expr2 .before .before .before .before .before .before .before .before .before .before .before .before .before in at-emit-expr2 .emit-expr2 .kept .1 .1 .1 .1 .0 ∙ at-emit-expr .emit-expr .kept .1 .1 .1 .1 .0)

@@ -22,7 +22,7 @@ assign-attribute-spec = tie.close (tie.spec
     (λ c. search needs)  -- same-length-3
     (λ c. first-full _ _ _ _ _ _ ((c .before .before .before .before .before .before .before .before .before .before .before .before .before .before .before .before .before) .pre .0 .sound) _ _ _ _ _ _ _ _ _ _ _ (lengthens-seq (lengthens-expr _ _) (lengthens-symbol _ _)) (c .enum-told .given .1) ((c .before .before .before .before .before .before .before .before) .emit-expr .ensures))  -- returns
     (λ c κs. there-at _ _ _ ((emits-done _ _ _ _ _ _ _ _ _ _ _ ((c .before) .object .given .1) ((c .before .before .before .before .before .before .before .before .before) .emit-expr .ensures)) .0) ((c .before .before .before .before .before .before .before .before .before .before .before .before .before .before .before .before .before .before) .pre .1 .name))  -- name-end-requires
-    (λ c κs. let s = (c .before .before .before .before .before .before .before .before .before .before .before .before .before .before .before .before .before .before .before .before .before .before) in (ready-again (s .pre .0) ((emits-done _ _ _ _ _ _ _ _ _ _ _ ((c .before .before .before .before .before) .object .given .1) ((c .before .before .before .before .before .before .before .before .before .before .before .before .before) .emit-expr .ensures)) .1), lowerable-at _ _ _ _ _ ((c .before .before .before) .name-end .ensures ∙ ap (nameEnd ((c .before .before .before .before .before .before .before .before .before .before .before .before .before .before .before .before .before .before .before .before .before .before) .args .tree .now)) ((emits-done _ _ _ _ _ _ _ _ _ _ _ ((c .before .before .before .before .before) .object .given .1) ((c .before .before .before .before .before .before .before .before .before .before .before .before .before) .emit-expr .ensures)) .0)) (s .pre .1 .value)))  -- emit-expr-requires-2
+    (λ c κs. let s = (c .before .before .before .before .before .before .before .before .before .before .before .before .before .before .before .before .before .before .before .before .before .before) in (ready-again (s .pre .0) ((emits-done _ _ _ _ _ _ _ _ _ _ _ ((c .before .before .before .before .before) .object .given .1) ((c .before .before .before .before .before .before .before .before .before .before .before .before .before) .emit-expr .ensures)) .1), lowerable-at _ _ _ _ ((c .before .before .before) .name-end .ensures ∙ ap (nameEnd ((c .before .before .before .before .before .before .before .before .before .before .before .before .before .before .before .before .before .before .before .before .before .before) .args .tree .now)) ((emits-done _ _ _ _ _ _ _ _ _ _ _ ((c .before .before .before .before .before) .object .given .1) ((c .before .before .before .before .before .before .before .before .before .before .before .before .before) .emit-expr .ensures)) .0)) (s .pre .1 .value)))  -- emit-expr-requires-2
     (λ c. search needs)  -- enum-known-value
     (λ c. search needs)  -- enum-told-2
     (λ c. search needs)  -- same-length-4

@@ -21,7 +21,7 @@ assign-index-spec = tie.close (tie.spec
     (λ c. search needs)  -- same-length-2
     (λ c. search needs)  -- same-length-3
     (λ c. first-full _ _ _ _ _ _ ((c .before .before .before .before .before .before .before .before .before .before .before .before .before .before .before .before .before) .pre .0 .sound) _ _ _ _ _ _ _ _ _ _ _ (lengthens-seq (lengthens-expr _ _) (lengthens-one _)) (c .enum-told .given .1) ((c .before .before .before .before .before .before .before .before) .emit-pair .ensures))  -- returns
-    (λ c κs. let s = (c .before .before .before .before .before .before .before .before .before .before .before .before .before .before .before .before .before .before .before .before .before) in let d = (emits-done _ _ _ _ _ _ _ _ _ _ _ ((c .before .before .before .before) .pair .given .1) ((c .before .before .before .before .before .before .before .before .before .before .before .before) .emit-pair .ensures)) in (ready-again (s .pre .0) (d .1), lowerable-at _ _ _ _ _ (d .0) (s .pre .1 .value)))  -- emit-expr-requires
+    (λ c κs. let s = (c .before .before .before .before .before .before .before .before .before .before .before .before .before .before .before .before .before .before .before .before .before) in let d = (emits-done _ _ _ _ _ _ _ _ _ _ _ ((c .before .before .before .before) .pair .given .1) ((c .before .before .before .before .before .before .before .before .before .before .before .before) .emit-pair .ensures)) in (ready-again (s .pre .0) (d .1), lowerable-at _ _ _ _ (d .0) (s .pre .1 .value)))  -- emit-expr-requires
     (λ c. search needs)  -- enum-known-value
     (λ c. search needs)  -- enum-told-2
     (λ c. search needs)  -- same-length-4

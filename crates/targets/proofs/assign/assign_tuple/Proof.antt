@@ -14,7 +14,7 @@ assign-tuple-spec = tie.close (tie.spec
     (λ c. search needs)  -- add-u16-at
     (λ c κs. search needs)  -- u16-at-requires
     (λ c κs. search needs)  -- skip-expr-requires
-    (λ c κs. let s = (c .before .before .before .before .before .before .before .before .before .before) in (s .pre .0, lowerable-at _ _ _ _ _ ((c .before .before .before) .skip-expr .ensures) (s .pre .1 .value)))  -- emit-expr-requires
+    (λ c κs. let s = (c .before .before .before .before .before .before .before .before .before .before) in (s .pre .0, lowerable-at _ _ _ _ ((c .before .before .before) .skip-expr .ensures) (s .pre .1 .value)))  -- emit-expr-requires
     (λ c. search needs)  -- enum-known-value
     (λ c. search needs)  -- enum-told
     (λ c. search needs)  -- same-length

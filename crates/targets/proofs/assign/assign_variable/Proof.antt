@@ -13,7 +13,7 @@ use Rattle.targets.proofs.assign.assign_variable.Tie as tie
 pub assign-variable-spec : {M : Type 1} → statement M
 assign-variable-spec = tie.close (tie.spec
     (λ c κs. search needs)  -- name-end-requires
-    (λ c κs. let s = (c .before .before .before .before .before .before .before .before .before) in (s .pre .0, lowerable-at _ _ _ _ _ ((c .before .before .before) .name-end .ensures) (s .pre .1 .value)))  -- emit-expr-requires
+    (λ c κs. let s = (c .before .before .before .before .before .before .before .before .before) in (s .pre .0, lowerable-at _ _ _ _ ((c .before .before .before) .name-end .ensures) (s .pre .1 .value)))  -- emit-expr-requires
     (λ c. search needs)  -- enum-known-value
     (λ c. search needs)  -- enum-told
     (λ c. search needs)  -- same-length

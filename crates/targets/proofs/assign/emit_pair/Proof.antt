@@ -19,7 +19,7 @@ emit-pair-spec = tie.close (tie.spec
     (λ c. search needs)  -- same-length-2
     (λ c. search needs)  -- same-length-3
     (λ c. first-full _ _ _ _ _ _ ((c .before .before .before .before .before .before .before .before .before .before .before .before .before .before .before .before .before) .pre .0 .sound) _ _ _ _ _ _ _ _ _ _ _ (lengthens-expr _ _) (c .enum-told .given .1) ((c .before .before .before .before .before .before .before .before) .emit-expr .ensures))  -- returns
-    (λ c κs. let s = (c .before .before .before .before .before .before .before .before .before .before .before .before .before .before .before .before .before .before .before .before .before) in let d = (emits-done _ _ _ _ _ _ _ _ _ _ _ ((c .before .before .before .before) .first .given .1) ((c .before .before .before .before .before .before .before .before .before .before .before .before) .emit-expr .ensures)) in (ready-again (s .pre .0) (d .1), lowerable-at _ _ _ _ _ (d .0) (s .pre .1 .second)))  -- emit-expr-requires-2
+    (λ c κs. let s = (c .before .before .before .before .before .before .before .before .before .before .before .before .before .before .before .before .before .before .before .before .before) in let d = (emits-done _ _ _ _ _ _ _ _ _ _ _ ((c .before .before .before .before) .first .given .1) ((c .before .before .before .before .before .before .before .before .before .before .before .before) .emit-expr .ensures)) in (ready-again (s .pre .0) (d .1), lowerable-at _ _ _ _ (d .0) (s .pre .1 .second)))  -- emit-expr-requires-2
     (λ c. search needs)  -- same-length-4
     (λ c. search needs)  -- same-length-5
     (λ c. search needs)  -- same-length-6

@@ -18,7 +18,7 @@ use Rattle.statements.proofs.stmts.+compile_function+compile_method+emi
 
 abbrev Inv-loop : emit-block-lts.InvT-loop
 Inv-loop tree at depth slots made₀ code₀ tables₀ l left₀ p₀ k₀ made code tables left p k =
-    (length made ≡ length made₀) × (length code ≡ length code₀) × (length tables ≡ length tables₀) × StmtsLowerable depth left tree (slotNames tree slots) p × (stmtsAt depth left tree p .end ≡ blockAt depth tree at .end)
+    (length made ≡ length made₀) × (length code ≡ length code₀) × (length tables ≡ length tables₀) × StmtsLowerable depth left tree p × (stmtsAt depth left tree p .end ≡ blockAt depth tree at .end)
     × Midway k tree made code tables k₀ l (stmtsCode depth left tree (slotNames tree slots) p) (emitAt (k₀ .base) (blockCode depth tree (slotNames tree slots) at) (stateOf tree made₀ code₀ tables₀ k₀))
 
 abbrev μ-loop : emit-block-lts.MeasureT-loop
@@ -26,10 +26,10 @@ abbrev μ-loop : emit-block-lts.MeasureT-loop
 
 pub emit-block-ok : {M : Type 1} (t : ℕ) → emit-block-lts.Closed (u16-at-reads.Asked, u16-at-reads.Learnt, emit-stmt-below t, emit-stmt.Post) (emit-block-at t) emit-block.Post M
 emit-block-ok t = emit-block-lts.spec (u16-at-reads.Asked, u16-at-reads.Learnt, emit-stmt-below t, emit-stmt.Post) (emit-block-at t) emit-block.Post Inv-loop μ-loop
-    (λ c κs. block-parts _ _ _ _ ((c .before .before .before .before .before) .pre .1 .1) .0)  -- u16-at-requires
-    (λ c. let s = c .before .before .before .before .before .before in let b = block-parts _ _ _ _ (s .pre .1 .1) .0 in omega (arith, b .bytes, s .pre .1 .0 .tree-short))  -- add-p
+    (λ c κs. block-parts _ _ _ ((c .before .before .before .before .before) .pre .1 .1) .0)  -- u16-at-requires
+    (λ c. let s = c .before .before .before .before .before .before in let b = block-parts _ _ _ (s .pre .1 .1) .0 in omega (arith, b .bytes, s .pre .1 .0 .tree-short))  -- add-p
     (λ c. let s = c .before .before .before .before .before .before in let b = block-start _ _ _ _ _ _ _ _ _ _ (s .pre .1 .0 .sound) (s .pre .1 .1) (c .u16-at .ensures .0) in (refl, refl, refl, b .0, b .1, b .2))  -- loop-holds
-    (λ c κs. let s = (c .before .before .before .before .before .before .before .before .before .before .before) in let j = (c .before .before .before .before) .loop in (omega (arith, s .pre .0), (ready-with (s .pre .1 .0) (j .inv .5 .sound), stmts-more _ _ _ _ _ ((c .before .before .before) .loop-test .taken) (j .inv .3) .0)))  -- emit-stmt-requires
+    (λ c κs. let s = (c .before .before .before .before .before .before .before .before .before .before .before) in let j = (c .before .before .before .before) .loop in (omega (arith, s .pre .0), (ready-with (s .pre .1 .0) (j .inv .5 .sound), stmts-more _ _ _ _ ((c .before .before .before) .loop-test .taken) (j .inv .3) .0)))  -- emit-stmt-requires
     (λ c. search needs)  -- enum-known-one
     (λ c. search needs)  -- enum-told
     (λ c. let at-emit-stmt = c .before .before .before .before .before .before .before .before in let at-loop = at-emit-stmt .before .before .before .before .before in let j = at-loop .loop in at-emit-stmt .emit-stmt .kept .1 .1 .1 .1 .0 ∙ j .inv .0)  -- same-length

@@ -22,7 +22,7 @@ use Rattle.statements.proofs.stmts.+compile_function+compile_method+emi
 pub emit-for-ok : {M : Type 1} (t : ℕ) → emit-for-lts.Closed (name-end-reads.Asked, name-end-reads.Learnt, emit-iterable-reads.Asked, emit-iterable-reads.Learnt, store-iterator-reads.Asked, store-iterator-reads.Learnt, emit-rounds-below t, emit-rounds.Post) (emit-for-at t) emit-for.Post M
 emit-for-ok t = emit-for-lts.spec (name-end-reads.Asked, name-end-reads.Learnt, emit-iterable-reads.Asked, emit-iterable-reads.Learnt, store-iterator-reads.Asked, store-iterator-reads.Learnt, emit-rounds-below t, emit-rounds.Post) (emit-for-at t) emit-for.Post
     (λ c κs. let s = c .before .before .before .before .before in s .pre .1 .1 .name)  -- name-end-requires
-    (λ c κs. let s = (c .before .before .before .before .before .before .before .before .before) in (s .pre .1 .0, lowerable-at _ _ _ _ _ ((c .before .before .before) .name-end .ensures) (s .pre .1 .1 .loop .condition)))  -- emit-iterable-requires
+    (λ c κs. let s = (c .before .before .before .before .before .before .before .before .before) in (s .pre .1 .0, lowerable-at _ _ _ _ ((c .before .before .before) .name-end .ensures) (s .pre .1 .1 .loop .condition)))  -- emit-iterable-requires
     (λ c. search needs)  -- enum-known-iterable
     (λ c. search needs)  -- enum-told
     (λ c. search needs)  -- same-length
@@ -36,7 +36,7 @@ emit-for-ok t = emit-for-lts.spec (name-end-reads.Asked, name-end-reads.Learnt, 
     (λ c. search needs)  -- same-length-5
     (λ c. search needs)  -- same-length-6
     (λ c. let at-store-iterator = c .before .before .before .before .before .before .before .before in let at-iterable = at-store-iterator .before .before .before .before .before in let at-emit-iterable = at-iterable .before .before .before .before .before .before .before .before in let at-name-end = at-emit-iterable .before .before .before .before in let s = at-name-end .before .before .before .before .before .before in full-emits _ _ _ _ _ _ _ _ (λ w. numbers-over _ _ _ _ _ _ _ _ _ (c .enum-told2 .given .1) (at-store-iterator .store-iterator .ensures) (for-within _ _ _ _ _ _ _ _ _ _ (s .pre .1 .0 .sound) (slotNames (s .args .tree .now) (s .args .slots .now)) (nameAt (s .args .tree .now) (s .args .at)) _ (bodyAt (s .args .depth) (s .args .tree .now) (nameEnd (s .args .tree .now) (s .args .at)) .value) (done-left _ _ _ _ _ _ _ _ _ _ _ (at-iterable .iterable .given .1) ((iterable-emits-at _ _ _ _ _ _ _ _ _ _ _ _ _ (at-name-end .name-end .ensures) (at-emit-iterable .emit-iterable .ensures)))) w)))  -- returns-2
-    (λ c κs. let at-stored = c .before .before .before .before in let at-store-iterator = at-stored .before .before .before .before .before .before .before .before in let at-iterable = at-store-iterator .before .before .before .before .before in let at-emit-iterable = at-iterable .before .before .before .before .before .before .before .before in let at-name-end = at-emit-iterable .before .before .before .before in let s = at-name-end .before .before .before .before .before .before in let n = (numbers-at _ _ _ _ _ _ _ _ _ _ _ (at-stored .stored .given .1) (at-store-iterator .store-iterator .ensures)) in (omega (arith, s .pre .0), (ready-with (s .pre .1 .0) (n .1 .sound), s .pre .1 .1 .name, block-at _ _ _ _ _ ((emits-done _ _ _ _ _ _ _ _ _ _ _ (at-iterable .iterable .given .1) ((iterable-emits-at _ _ _ _ _ _ _ _ _ _ _ _ _ (at-name-end .name-end .ensures) (at-emit-iterable .emit-iterable .ensures)))) .0) (s .pre .1 .1 .loop .block), for-small _ _ _ _ _ _ _ _ _ _ (s .pre .1 .0 .sound) (slotNames (s .args .tree .now) (s .args .slots .now)) (nameAt (s .args .tree .now) (s .args .at)) _ (bodyAt (s .args .depth) (s .args .tree .now) (nameEnd (s .args .tree .now) (s .args .at)) .value) (done-left _ _ _ _ _ _ _ _ _ _ _ (at-iterable .iterable .given .1) ((iterable-emits-at _ _ _ _ _ _ _ _ _ _ _ _ _ (at-name-end .name-end .ensures) (at-emit-iterable .emit-iterable .ensures)))) _ _ _ _ _ (n .0) (n .1))))  -- emit-rounds-requires
+    (λ c κs. let at-stored = c .before .before .before .before in let at-store-iterator = at-stored .before .before .before .before .before .before .before .before in let at-iterable = at-store-iterator .before .before .before .before .before in let at-emit-iterable = at-iterable .before .before .before .before .before .before .before .before in let at-name-end = at-emit-iterable .before .before .before .before in let s = at-name-end .before .before .before .before .before .before in let n = (numbers-at _ _ _ _ _ _ _ _ _ _ _ (at-stored .stored .given .1) (at-store-iterator .store-iterator .ensures)) in (omega (arith, s .pre .0), (ready-with (s .pre .1 .0) (n .1 .sound), s .pre .1 .1 .name, block-at _ _ _ _ ((emits-done _ _ _ _ _ _ _ _ _ _ _ (at-iterable .iterable .given .1) ((iterable-emits-at _ _ _ _ _ _ _ _ _ _ _ _ _ (at-name-end .name-end .ensures) (at-emit-iterable .emit-iterable .ensures)))) .0) (s .pre .1 .1 .loop .block), for-small _ _ _ _ _ _ _ _ _ _ (s .pre .1 .0 .sound) (slotNames (s .args .tree .now) (s .args .slots .now)) (nameAt (s .args .tree .now) (s .args .at)) _ (bodyAt (s .args .depth) (s .args .tree .now) (nameEnd (s .args .tree .now) (s .args .at)) .value) (done-left _ _ _ _ _ _ _ _ _ _ _ (at-iterable .iterable .given .1) ((iterable-emits-at _ _ _ _ _ _ _ _ _ _ _ _ _ (at-name-end .name-end .ensures) (at-emit-iterable .emit-iterable .ensures)))) _ _ _ _ _ (n .0) (n .1))))  -- emit-rounds-requires
     (λ c. let at-emit-rounds = c .before .before .before .before .before .before in let at-store-iterator = at-emit-rounds .before .before .before .before .before .before .before .before .before .before .before .before .before in let at-emit-iterable = at-store-iterator .before .before .before .before .before .before .before .before .before .before .before .before .before in at-emit-rounds .emit-rounds .kept .1 .1 .1 .1 .1 .1 .0 ∙ at-store-iterator .store-iterator .kept .1 .0 ∙ at-emit-iterable .emit-iterable .kept .1 .1 .1 .1 .0)  -- same-length-7
     (λ c. let at-emit-rounds = c .before .before .before .before .before .before in let at-store-iterator = at-emit-rounds .before .before .before .before .before .before .before .before .before .before .before .before .before in let at-emit-iterable = at-store-iterator .before .before .before .before .before .before .before .before .before .before .before .before .before in at-emit-rounds .emit-rounds .kept .1 .1 .1 .1 .1 .1 .1 .0 ∙ at-store-iterator .store-iterator .kept .1 .1 .0 ∙ at-emit-iterable .emit-iterable .kept .1 .1 .1 .1 .1 .0)  -- same-length-8
     (λ c. let at-emit-rounds = c .before .before .before .before .before .before in let at-store-iterator = at-emit-rounds .before .before .before .before .before .before .before .before .before .before .before .before .before in let at-emit-iterable = at-store-iterator .before .before .before .before .before .before .before .before .before .before .before .before .before in at-emit-rounds .emit-rounds .kept .1 .1 .1 .1 .1 .1 .1 .1 .0 ∙ at-store-iterator .store-iterator .kept .1 .1 .1 .0 ∙ at-emit-iterable .emit-iterable .kept .1 .1 .1 .1 .1 .1 .0)  -- same-length-9

@@ -10,7 +10,7 @@ use Rattle.expressions.proofs.Arms.{params-count}
 use Rattle.expressions.proofs.Collecting.{collected-over}
 use Rattle.statements.specs.Lowering.{localsAt, endOf}
 use Rattle.statements.proofs.Sequences.{block-at, params-at}
-use Rattle.statements.proofs.Functions.{collected-count, collected-at, begins-at, begins-over, full-compiles, names-length, slots-over, part-names, part-ready, block-with, body-emits-at, begun-within, body-within, ended-number, ended-body, ended-base, compiled}
+use Rattle.statements.proofs.Functions.{collected-count, collected-at, begins-at, begins-over, full-compiles, names-length, slots-over, part-names, part-ready, body-emits-at, begun-within, body-within, ended-number, ended-body, ended-base, compiled}
 use Rattle.statements.proofs.stmts.compile_function.Reads as compile-function
 use Rattle.statements.proofs.stmts.+compile_function+compile_method+emit_block+emit_body+emit_branch+emit_class+emit_elifs+emit_else+emit_for+emit_if+emit_methods+emit_rounds+emit_stmt+emit_while.Lts-compile_function as compile-function-lts
 use Rattle.statements.proofs.stmts.emit_body.Reads as emit-body
@@ -28,7 +28,7 @@ compile-function-ok t = compile-function-lts.spec (name-end-reads.Asked, name-en
     (λ c κs. let s = c .before .before .before .before .before in params-at _ _ _ (c .name-end .ensures) (s .pre .1 .1 .params) .count)  -- u16-at-requires
     (λ c κs. let s = (c .before .before .before .before .before .before) in params-at _ _ _ ((c .before) .name-end .ensures) (s .pre .1 .1 .params))  -- skip-params-requires
     (λ c. refl)  -- slice-aggregate-collect-locals
-    (λ c κs. let s = (c .before .before .before .before .before .before .before .before) in (s .pre .1 .0 .tree-short, omega arith, params-at _ _ _ ((c .before .before .before) .name-end .ensures) (s .pre .1 .1 .params), block-at _ _ _ _ _ ((c .before) .skip-params .ensures ∙ ap (λ (x : ℕ). paramsAt (s .args .tree .now) x .end) ((c .before .before .before) .name-end .ensures)) (s .pre .1 .1 .block) .reads))  -- collect-locals-requires
+    (λ c κs. let s = (c .before .before .before .before .before .before .before .before) in (s .pre .1 .0 .tree-short, omega arith, params-at _ _ _ ((c .before .before .before) .name-end .ensures) (s .pre .1 .1 .params), block-at _ _ _ _ ((c .before) .skip-params .ensures ∙ ap (λ (x : ℕ). paramsAt (s .args .tree .now) x .end) ((c .before .before .before) .name-end .ensures)) (s .pre .1 .1 .block) .reads))  -- collect-locals-requires
     (λ c. search needs)  -- enum-known-collected
     (λ c. search needs)  -- enum-told
     (λ c. let at-collect-locals = c .before .before .before in let at-skip-params = at-collect-locals .before .before in let at-name-end = at-skip-params .before .before in let s = at-name-end .before .before .before .before .before in full-compiles _ _ _ _ _ _ _ _ (λ w. slots-over _ _ _ _ _ _ _ (collected-over _ _ _ _ (c .enum-told .given .1) (collected-at _ _ _ _ _ _ _ (at-name-end .name-end .ensures) (at-skip-params .skip-params .ensures ∙ ap (λ (x : ℕ). paramsAt (s .args .tree .now) x .end) (at-name-end .name-end .ensures)) (at-collect-locals .collect-locals .ensures))) w))  -- returns
@@ -44,7 +44,7 @@ compile-function-ok t = compile-function-lts.spec (name-end-reads.Asked, name-en
     (λ c. omega arith)  -- sub-emit-body
     (λ c. omega arith)  -- part-emit-body-start
     (λ c. let at-collected = c .before .before .before .before .before .before .before .before .before .before .before in let at-collect-locals = at-collected .before .before .before in let at-skip-params = at-collect-locals .before .before in let at-name-end = at-skip-params .before .before in let s = at-name-end .before .before .before .before .before in (omega (arith, (collected-count _ _ _ _ _ (at-collected .collected .given .1) (collected-at _ _ _ _ _ _ _ (at-name-end .name-end .ensures) (at-skip-params .skip-params .ensures ∙ ap (λ (x : ℕ). paramsAt (s .args .tree .now) x .end) (at-name-end .name-end .ensures)) (at-collect-locals .collect-locals .ensures))) .0, at-collect-locals .collect-locals .kept .1 .1 .1 .1 .0)))  -- part-emit-body-end
-    (λ c κs. let at-begun = c .before .before .before .before .before .before in let at-begin-named = at-begun .before .before .before .before in let at-collected = at-begin-named .before .before .before .before .before in let at-collect-locals = at-collected .before .before .before in let at-skip-params = at-collect-locals .before .before in let at-name-end = at-skip-params .before .before in let s = at-name-end .before .before .before .before .before in (omega (arith, s .pre .0), (part-ready _ _ _ _ _ _ _ _ _ _ _ _ (s .pre .1 .0) ((collected-count _ _ _ _ _ (at-collected .collected .given .1) (collected-at _ _ _ _ _ _ _ (at-name-end .name-end .ensures) (at-skip-params .skip-params .ensures ∙ ap (λ (x : ℕ). paramsAt (s .args .tree .now) x .end) (at-name-end .name-end .ensures)) (at-collect-locals .collect-locals .ensures))) .0) ((collected-count _ _ _ _ _ (at-collected .collected .given .1) (collected-at _ _ _ _ _ _ _ (at-name-end .name-end .ensures) (at-skip-params .skip-params .ensures ∙ ap (λ (x : ℕ). paramsAt (s .args .tree .now) x .end) (at-name-end .name-end .ensures)) (at-collect-locals .collect-locals .ensures))) .2) (omega (arith, (collected-count _ _ _ _ _ (at-collected .collected .given .1) (collected-at _ _ _ _ _ _ _ (at-name-end .name-end .ensures) (at-skip-params .skip-params .ensures ∙ ap (λ (x : ℕ). paramsAt (s .args .tree .now) x .end) (at-name-end .name-end .ensures)) (at-collect-locals .collect-locals .ensures))) .0, at-collect-locals .collect-locals .kept .1 .1 .1 .1 .0)) ((begins-at _ _ _ _ _ _ _ _ _ _ _ (at-begun .begun .given .1) (at-begin-named .begin-named .ensures)) .1 .sound), block-with _ _ _ _ _ _ (part-names _ _ _ _ ((collected-count _ _ _ _ _ (at-collected .collected .given .1) (collected-at _ _ _ _ _ _ _ (at-name-end .name-end .ensures) (at-skip-params .skip-params .ensures ∙ ap (λ (x : ℕ). paramsAt (s .args .tree .now) x .end) (at-name-end .name-end .ensures)) (at-collect-locals .collect-locals .ensures))) .1) (omega (arith, (collected-count _ _ _ _ _ (at-collected .collected .given .1) (collected-at _ _ _ _ _ _ _ (at-name-end .name-end .ensures) (at-skip-params .skip-params .ensures ∙ ap (λ (x : ℕ). paramsAt (s .args .tree .now) x .end) (at-name-end .name-end .ensures)) (at-collect-locals .collect-locals .ensures))) .0, at-collect-locals .collect-locals .kept .1 .1 .1 .1 .0))) (at-skip-params .skip-params .ensures ∙ ap (λ (x : ℕ). paramsAt (s .args .tree .now) x .end) (at-name-end .name-end .ensures)) (s .pre .1 .1 .block))))  -- emit-body-requires
+    (λ c κs. let at-begun = c .before .before .before .before .before .before in let at-begin-named = at-begun .before .before .before .before in let at-collected = at-begin-named .before .before .before .before .before in let at-collect-locals = at-collected .before .before .before in let at-skip-params = at-collect-locals .before .before in let at-name-end = at-skip-params .before .before in let s = at-name-end .before .before .before .before .before in (omega (arith, s .pre .0), (part-ready _ _ _ _ _ _ _ _ _ _ _ _ (s .pre .1 .0) ((collected-count _ _ _ _ _ (at-collected .collected .given .1) (collected-at _ _ _ _ _ _ _ (at-name-end .name-end .ensures) (at-skip-params .skip-params .ensures ∙ ap (λ (x : ℕ). paramsAt (s .args .tree .now) x .end) (at-name-end .name-end .ensures)) (at-collect-locals .collect-locals .ensures))) .0) ((collected-count _ _ _ _ _ (at-collected .collected .given .1) (collected-at _ _ _ _ _ _ _ (at-name-end .name-end .ensures) (at-skip-params .skip-params .ensures ∙ ap (λ (x : ℕ). paramsAt (s .args .tree .now) x .end) (at-name-end .name-end .ensures)) (at-collect-locals .collect-locals .ensures))) .2) (omega (arith, (collected-count _ _ _ _ _ (at-collected .collected .given .1) (collected-at _ _ _ _ _ _ _ (at-name-end .name-end .ensures) (at-skip-params .skip-params .ensures ∙ ap (λ (x : ℕ). paramsAt (s .args .tree .now) x .end) (at-name-end .name-end .ensures)) (at-collect-locals .collect-locals .ensures))) .0, at-collect-locals .collect-locals .kept .1 .1 .1 .1 .0)) ((begins-at _ _ _ _ _ _ _ _ _ _ _ (at-begun .begun .given .1) (at-begin-named .begin-named .ensures)) .1 .sound), block-at _ _ _ _ (at-skip-params .skip-params .ensures ∙ ap (λ (x : ℕ). paramsAt (s .args .tree .now) x .end) (at-name-end .name-end .ensures)) (s .pre .1 .1 .block))))  -- emit-body-requires
     (λ c. search needs)  -- enum-known-body
     (λ c. search needs)  -- enum-told-3
     (λ c. (c .before .before .before .before .before .before .before .before) .emit-body .kept .1 .1 .1 .1 .1 .0)  -- same-length-4

@@ -28,7 +28,7 @@ emit-if-ok t = emit-if-lts.spec (emit-branch-below t, emit-branch.Post, u16-at-r
     (λ c. let at-emit-branch = c .before .before .before .before .before .before .before .before in let s = at-emit-branch .before .before .before .before .before .before .before .before .before in full-by _ _ _ _ _ _ _ _ _ _ _ _ _ _ _ (c .enum-told .given .1) (at-emit-branch .emit-branch .ensures) (within-if _ _ _ (base-below _ _ _ _ _ _ (s .pre .1 .0 .sound)) _ _ _))  -- returns
     (λ c κs. let s = (c .before .before .before .before .before .before .before .before .before .before .before .before .before .before .before .before .before .before) in counted-at _ _ _ ((emits-done _ _ _ _ _ _ _ _ _ _ _ ((c .before) .first .given .1) ((c .before .before .before .before .before .before .before .before .before) .emit-branch .ensures)) .0) (s .pre .1 .1 .count))  -- u16-at-requires
     (λ c. let at-first = c .before .before in let at-emit-branch = at-first .before .before .before .before .before .before .before .before in let s = at-emit-branch .before .before .before .before .before .before .before .before .before in omega (arith, ((emits-done _ _ _ _ _ _ _ _ _ _ _ (at-first .first .given .1) (at-emit-branch .emit-branch .ensures)) .0), s .pre .1 .1 .count .bytes, s .pre .1 .0 .tree-short))  -- add-emit-elifs
-    (λ c κs. let at-u16-at = c .before .before .before in let at-first = at-u16-at .before .before in let at-emit-branch = at-first .before .before .before .before .before .before .before .before in let s = at-emit-branch .before .before .before .before .before .before .before .before .before in (omega (arith, s .pre .0), (ready-again (s .pre .1 .0) (done-left _ _ _ _ _ _ _ _ _ _ _ (at-first .first .given .1) (at-emit-branch .emit-branch .ensures)), elifs-at _ _ _ _ _ _ _ (at-u16-at .u16-at .ensures .0 ∙ ap (countAt (s .args .tree .now)) ((emits-done _ _ _ _ _ _ _ _ _ _ _ (at-first .first .given .1) (at-emit-branch .emit-branch .ensures)) .0)) (ap (λ (x : ℕ). x + 2) ((emits-done _ _ _ _ _ _ _ _ _ _ _ (at-first .first .given .1) (at-emit-branch .emit-branch .ensures)) .0)) (s .pre .1 .1 .rest), if-some _ _ _ _ _ _ _ _ _ _ (s .pre .1 .0 .sound) _ _ _ (done-left _ _ _ _ _ _ _ _ _ _ _ (at-first .first .given .1) (at-emit-branch .emit-branch .ensures)))))  -- emit-elifs-requires
+    (λ c κs. let at-u16-at = c .before .before .before in let at-first = at-u16-at .before .before in let at-emit-branch = at-first .before .before .before .before .before .before .before .before in let s = at-emit-branch .before .before .before .before .before .before .before .before .before in (omega (arith, s .pre .0), (ready-again (s .pre .1 .0) (done-left _ _ _ _ _ _ _ _ _ _ _ (at-first .first .given .1) (at-emit-branch .emit-branch .ensures)), elifs-at _ _ _ _ _ _ (at-u16-at .u16-at .ensures .0 ∙ ap (countAt (s .args .tree .now)) ((emits-done _ _ _ _ _ _ _ _ _ _ _ (at-first .first .given .1) (at-emit-branch .emit-branch .ensures)) .0)) (ap (λ (x : ℕ). x + 2) ((emits-done _ _ _ _ _ _ _ _ _ _ _ (at-first .first .given .1) (at-emit-branch .emit-branch .ensures)) .0)) (s .pre .1 .1 .rest), if-some _ _ _ _ _ _ _ _ _ _ (s .pre .1 .0 .sound) _ _ _ (done-left _ _ _ _ _ _ _ _ _ _ _ (at-first .first .given .1) (at-emit-branch .emit-branch .ensures)))))  -- emit-elifs-requires
     (λ c. search needs)  -- same-length-4
     (λ c. search needs)  -- same-length-5
     (λ c. search needs)  -- same-length-6

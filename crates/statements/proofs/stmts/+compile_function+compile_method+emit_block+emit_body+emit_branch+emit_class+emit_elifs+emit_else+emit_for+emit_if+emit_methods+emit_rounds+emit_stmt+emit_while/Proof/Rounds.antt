@@ -32,7 +32,7 @@ emit-rounds-ok t = emit-rounds-lts.spec (ask-iterator-reads.Asked, ask-iterator-
     (λ c. search needs)  -- same-length-5
     (λ c. search needs)  -- same-length-6
     (λ c. let at-take-iterator = c .before .before .before .before .before .before .before .before in let at-asked = at-take-iterator .before .before .before .before .before in let at-ask-iterator = at-asked .before .before .before .before .before .before .before .before in let s = at-ask-iterator .before .before .before .before .before .before .before .before .before in full-by _ _ _ _ _ _ _ _ _ _ _ _ _ _ _ (c .enum-told2 .given .1) (at-take-iterator .take-iterator .ensures) (λ w. within-first _ _ _ (base-below _ _ _ _ _ _ ((done-left _ _ _ _ _ _ _ _ _ _ _ (at-asked .asked .given .1) (at-ask-iterator .ask-iterator .ensures)) .sound)) (lengthens-block _ _) (inside-within _ _ _ _ _ _ _ _ _ _ (s .pre .1 .0 .sound) _ _ (done-left _ _ _ _ _ _ _ _ _ _ _ (at-asked .asked .given .1) (at-ask-iterator .ask-iterator .ensures)) _ w)))  -- returns-2
-    (λ c κs. let at-taken = c .before .before .before .before in let at-take-iterator = at-taken .before .before .before .before .before .before .before .before in let at-asked = at-take-iterator .before .before .before .before .before in let at-ask-iterator = at-asked .before .before .before .before .before .before .before .before in let s = at-ask-iterator .before .before .before .before .before .before .before .before .before in (omega (arith, s .pre .0), (ready-with (s .pre .1 .0) ((done-left _ _ _ _ _ _ _ _ _ _ _ (at-taken .taken .given .1) (at-take-iterator .take-iterator .ensures)) .sound), block-at _ _ _ _ _ ((emits-done _ _ _ _ _ _ _ _ _ _ _ (at-taken .taken .given .1) (at-take-iterator .take-iterator .ensures)) .0 ∙ (emits-done _ _ _ _ _ _ _ _ _ _ _ (at-asked .asked .given .1) (at-ask-iterator .ask-iterator .ensures)) .0) (s .pre .1 .2))))  -- emit-block-requires
+    (λ c κs. let at-taken = c .before .before .before .before in let at-take-iterator = at-taken .before .before .before .before .before .before .before .before in let at-asked = at-take-iterator .before .before .before .before .before in let at-ask-iterator = at-asked .before .before .before .before .before .before .before .before in let s = at-ask-iterator .before .before .before .before .before .before .before .before .before in (omega (arith, s .pre .0), (ready-with (s .pre .1 .0) ((done-left _ _ _ _ _ _ _ _ _ _ _ (at-taken .taken .given .1) (at-take-iterator .take-iterator .ensures)) .sound), block-at _ _ _ _ ((emits-done _ _ _ _ _ _ _ _ _ _ _ (at-taken .taken .given .1) (at-take-iterator .take-iterator .ensures)) .0 ∙ (emits-done _ _ _ _ _ _ _ _ _ _ _ (at-asked .asked .given .1) (at-ask-iterator .ask-iterator .ensures)) .0) (s .pre .1 .2))))  -- emit-block-requires
     (λ c. search needs)  -- enum-known-body
     (λ c. search needs)  -- enum-told-3
     (λ c. let at-emit-block = c .before .before .before .before .before .before .before .before in let at-take-iterator = at-emit-block .before .before .before .before .before .before .before .before .before .before .before .before .before in let at-ask-iterator = at-take-iterator .before .before .before .before .before .before .before .before .before .before .before .before .before in at-emit-block .emit-block .kept .1 .1 .1 .1 .0 ∙ at-take-iterator .take-iterator .kept .1 .1 .1 .0 ∙ at-ask-iterator .ask-iterator .kept .1 .0)  -- same-length-7

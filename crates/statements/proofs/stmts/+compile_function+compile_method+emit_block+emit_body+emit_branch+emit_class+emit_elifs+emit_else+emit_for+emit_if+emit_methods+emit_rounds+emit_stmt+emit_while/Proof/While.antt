@@ -23,7 +23,7 @@ emit-while-ok t = emit-while-lts.spec (emit-question-reads.Asked, emit-question-
     (λ c. search needs)  -- same-length-2
     (λ c. search needs)  -- same-length-3
     (λ c. let at-emit-question = c .before .before .before .before .before .before .before .before in let s = at-emit-question .before .before .before .before .before .before .before .before .before in full-by _ _ _ _ _ _ _ _ _ _ _ _ _ _ _ (c .enum-told .given .1) (at-emit-question .emit-question .ensures) (head-within _ _ _ _ (base-below _ _ _ _ _ _ (s .pre .1 .0 .sound)) (lengthens-block _ _)))  -- returns
-    (λ c κs. let at-asked = c .before .before .before .before in let at-emit-question = at-asked .before .before .before .before .before .before .before .before in let s = at-emit-question .before .before .before .before .before .before .before .before .before in (omega (arith, s .pre .0), (ready-again (s .pre .1 .0) (done-left _ _ _ _ _ _ _ _ _ _ _ (at-asked .asked .given .1) (at-emit-question .emit-question .ensures)), block-at _ _ _ _ _ ((emits-done _ _ _ _ _ _ _ _ _ _ _ (at-asked .asked .given .1) (at-emit-question .emit-question .ensures)) .0) (s .pre .1 .1 .block))))  -- emit-block-requires
+    (λ c κs. let at-asked = c .before .before .before .before in let at-emit-question = at-asked .before .before .before .before .before .before .before .before in let s = at-emit-question .before .before .before .before .before .before .before .before .before in (omega (arith, s .pre .0), (ready-again (s .pre .1 .0) (done-left _ _ _ _ _ _ _ _ _ _ _ (at-asked .asked .given .1) (at-emit-question .emit-question .ensures)), block-at _ _ _ _ ((emits-done _ _ _ _ _ _ _ _ _ _ _ (at-asked .asked .given .1) (at-emit-question .emit-question .ensures)) .0) (s .pre .1 .1 .block))))  -- emit-block-requires
     (λ c. search needs)  -- enum-known-body
     (λ c. search needs)  -- enum-told-2
     (λ c. search needs)  -- same-length-4
