@@ -1,6 +1,4 @@
 pub mod Sequence
-pub mod Opcodes
-pub mod Arms
 pub mod Literals
 pub mod Shortcuts
 pub mod Elements

@@ -1,6 +1,5 @@
 // The lowering of an expression: the code that leaves its value, and what it adds to the tables.
 mod closures; // closures.rt: a lambda's function and closure
-mod codes; // codes.rt: opcodes of operators and displays
 mod leaves; // leaves.rt: parts that hold no expression
 
 use closures::begin_lambda;
@@ -8,10 +7,6 @@ use closures::end_closure;
 use closures::end_lambda;
 use code::put_jump;
 use code::put_op;
-use codes::binary_code;
-use codes::build_code;
-use codes::held;
-use codes::unary_code;
 use exprs::literals::literal_at;
 use leaves::emit_literal;
 use leaves::end_shortcut;
@@ -23,6 +18,10 @@ use names::emit::emit_load;
 use names::emit::emit_symbol;
 use parts::names::name_end;
 use parts::numbers::u16_at;
+use plain::codes::binary_code;
+use plain::codes::build_code;
+use plain::codes::held;
+use plain::codes::unary_code;
 use slots::Locals;
 use slots::captures::lambda_slots;
 use slots::skip::skip_params;
@@ -43,7 +42,7 @@ ghost use Rattle.state.specs.Words.{nameAt};
 ghost use Rattle.state.specs.State.{Ready, slotNames, slotsFrom, Slots};
 ghost use Rattle.code.specs.Ops.{Plain};
 ghost use Rattle.expressions.specs.Step.{Lowers};
-ghost use Rattle.expressions.specs.Lowerable.{Lowerable, LowerableMany, exprCode, exprsCode, UnaryLowerable, TwoLowerable, BinaryLowerable, unaryOpcode, ArgsLowerable, CallLowerable, NamedLowerable, AttributeLowerable, MethodLowerable, methodCode, callInstr, displayOf, heldOf, DisplayLowerable, Short, LambdaLowerable, lambdaCode, ClosureLowerable, CapturesHeld, closureCode, functionCode};
+ghost use Rattle.plain.specs.Lowerable.{Lowerable, LowerableMany, exprCode, exprsCode, UnaryLowerable, TwoLowerable, BinaryLowerable, unaryOpcode, ArgsLowerable, CallLowerable, NamedLowerable, AttributeLowerable, MethodLowerable, methodCode, callInstr, displayOf, heldOf, DisplayLowerable, Short, LambdaLowerable, lambdaCode, ClosureLowerable, CapturesHeld, closureCode, functionCode};
 ghost use Rattle.names.specs.Calls.{calleeOf};
 
 // The expression at `at`, with `depth` levels left.

@@ -15,22 +15,27 @@ use Rattle.known.specs.Puts.{wordLimit, Room, Shown, Placed, Puts}
 
 -- ---- no answer, and the same answer
 
-pub puts-none : {tree made tables known code code′ : List ℕ} {words : ℕ} {e : Emit} {next : ℕ} → Puts 0 tree made tables known code code′ words e next
-puts-none = record { unless = λ n. absurd (n refl) }
+pub puts-none : {tree made tables known code : List ℕ} {words : ℕ} {e : Emit} {next : ℕ} → Puts 0 tree made tables known code code words e next
+puts-none = record { before = refl; finished = refl; unless = λ n. absurd (n refl) }
+
+-- no answer after some words
+pub puts-stopped : {r : ℕ} {tree made tables known code code′ : List ℕ} {words : ℕ} {e e′ : Emit} {next next′ : ℕ}
+    → Puts r tree made tables known code code′ words e next → Puts 0 tree made tables known code code′ words e′ next′
+puts-stopped h = record { before = h .before; finished = h .finished; unless = λ n. absurd (n refl) }
 
 -- the same code of another part
 pub puts-same : {r : ℕ} {tree made tables known code code′ : List ℕ} {words : ℕ} {e e′ : Emit} {next : ℕ}
     → ((t : Tables) → Shown tree made tables known t → (p : ℕ) → e′ p t ≡ e p t)
     → Puts r tree made tables known code code′ words e next → Puts r tree made tables known code code′ words e′ next
 puts-same same h = record {
+  before = h .before;
+  finished = h .finished;
   unless = λ n.
       let a = h .unless n in
       record {
         position = a .position;
         grown = a .grown;
         within = a .within;
-        before = a .before;
-        finished = a .finished;
         out = λ t s p. same t s p ∙ a .out t s p;
       };
 }
@@ -51,12 +56,12 @@ unfolding emits instrsOf
 puts-word {r} {tree} {made} {tables} {known} {code} {n} {next} w e room h k =
     let m : r % 65536 ≡ n + 1 = omega (arith, room .limit) in
     record {
+      before = take-set-le n code n w (le-refl n);
+      finished = drop-set-lt doneFrom code n w (omega (arith, room .limit));
       unless = λ z. record {
         position = omega (arith, room .limit);
         grown = omega arith;
         within = omega arith;
-        before = take-set-le n code n w (le-refl n);
-        finished = drop-set-lt doneFrom code n w (omega (arith, room .limit));
         out = λ t s p. ap (λ (ws : List ℕ). record { code = map (instrOf tree) ws; tables = t; sources = [] }) (sym (word-part code n (r % 65536) w (omega (arith, room .limit, room .code-room)) m));
       };
     }
@@ -75,12 +80,12 @@ puts-nothing {tree} {made} {tables} {known} {code} {words} {next} room h =
     let m : (next * 65536 + words) % 65536 ≡ words = omega (arith, room .limit, room .few) in
     let none : drop words (take ((next * 65536 + words) % 65536) code) ≡ [] = drop-of-length-le _ {i = words} (let l = length-take ((next * 65536 + words) % 65536) code in omega arith) in
     record {
+      before = refl;
+      finished = refl;
       unless = λ z. record {
         position = omega (arith, room .limit, room .few);
         grown = omega arith;
         within = omega (arith, room .few);
-        before = refl;
-        finished = refl;
         out = λ t s p. ap (λ (ws : List ℕ). record { code = map (instrOf tree) ws; tables = t; sources = [] }) (sym none);
       };
     }
@@ -109,27 +114,32 @@ seq-out e f p t is js a b = ap after a ∙ ap (λ (r : Out). record { code = is 
         let r = f (p + length (o .code)) (o .tables) in
         record { code = o .code ++ r .code; tables = r .tables; sources = o .sources ++ r .sources }
 
-placed-then : {r r₂ : ℕ} {tree made tables known code code₁ code₂ : List ℕ} {words : ℕ} {e f : Emit} {q q₂ : ℕ}
-    → Placed r tree made tables known code code₁ words e q → Placed r₂ tree made tables known code₁ code₂ (r % 65536) f q₂
-    → Placed r₂ tree made tables known code code₂ words (e ⨟ f) q₂
+placed-then : {r r₂ : ℕ} {tree made tables known code₁ code₂ : List ℕ} {words : ℕ} {e f : Emit} {q q₂ : ℕ}
+    → Placed r tree made tables known code₁ words e q → take (r % 65536) code₂ ≡ take (r % 65536) code₁ → Placed r₂ tree made tables known code₂ (r % 65536) f q₂
+    → Placed r₂ tree made tables known code₂ words (e ⨟ f) q₂
 unfolding instrsOf
-placed-then {r} {r₂} {tree} {made} {tables} {known} {code} {code₁} {code₂} {words} {e} {f} a b = record {
+placed-then {r} {r₂} {tree} {made} {tables} {known} {code₁} {code₂} {words} {e} {f} a same b = record {
   position = b .position;
   grown = omega (arith, a .grown, b .grown);
   within = b .within;
-  before = sym (take-take words (r % 65536) code₂ (a .grown)) ∙ ap (take words) (b .before) ∙ take-take words (r % 65536) code₁ (a .grown) ∙ a .before;
-  finished = b .finished ∙ a .finished;
   out = λ t s p.
       seq-out e f p t _ _ (a .out t s p) (b .out t s)
       ∙ ap (λ (is : List Instr). plainOut is t)
       (sym (map-append (instrOf tree) (drop words (take (r % 65536) code₁)) (drop (r % 65536) (take (r₂ % 65536) code₂)))
-      ∙ ap (map (instrOf tree)) (two-parts words (r % 65536) (r₂ % 65536) code₁ code₂ (a .grown) (b .grown) (b .before)));
+      ∙ ap (map (instrOf tree)) (two-parts words (r % 65536) (r₂ % 65536) code₁ code₂ (a .grown) (b .grown) same));
 }
+
+take-before : (m n : ℕ) (xs ys zs : List ℕ) → m ≤ n → take m ys ≡ take m xs → take n zs ≡ take n ys → take m zs ≡ take m xs
+take-before m n xs ys zs h a b = sym (take-take m n zs h) ∙ ap (take m) b ∙ take-take m n ys h ∙ a
 
 pub puts-then : {r r₂ : ℕ} {tree made tables known code code₁ code₂ : List ℕ} {words : ℕ} {e f : Emit} {q q₂ : ℕ} → (r ≡ 0 → ⊥)
     → Puts r tree made tables known code code₁ words e q → Puts r₂ tree made tables known code₁ code₂ (r % 65536) f q₂
     → Puts r₂ tree made tables known code code₂ words (e ⨟ f) q₂
-puts-then n a b = record { unless = λ m. placed-then (a .unless n) (b .unless m) }
+puts-then {r} {r₂} {tree} {made} {tables} {known} {code} {code₁} {code₂} {words} n a b = record {
+  before = take-before words (r % 65536) code code₁ code₂ (a .unless n .grown) (a .before) (b .before);
+  finished = b .finished ∙ a .finished;
+  unless = λ m. placed-then (a .unless n) (b .before) (b .unless m);
+}
 
 -- the same, where the second part begins at n words
 pub puts-after : {r r₂ n : ℕ} {tree made tables known code code₁ code₂ : List ℕ} {words : ℕ} {e f : Emit} {q q₂ : ℕ} → (r ≡ 0 → ⊥) → n ≡ r % 65536

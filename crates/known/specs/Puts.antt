@@ -48,16 +48,16 @@ pub record Shown (tree made tables known : List ℕ) (t : Tables) : Type 0 where
   pub functions : map (λ (f : Function). f .symbol) (t .functions) ≡ map (λ (h : ℕ). h / 2 ^ 16) (region headsFrom (functionCount known) tables)
   pub classes : map (λ (c : Class). c .name) (t .classes) ≡ namesAt tree (region classNamesFrom (classCount known) tables)
 
--- the answer r holds the next position in the tree and how many words are open now; what was before is as it was, and the words since then are the
--- code of e, which adds nothing to the tables
-pub record Placed (r : ℕ) (tree made tables known code code′ : List ℕ) (words : ℕ) (e : Emit) (next : ℕ) : Type 0 where
+-- the answer r holds the next position in the tree and how many words are open now; the words since then are the code of e, which adds nothing to the
+-- tables
+pub record Placed (r : ℕ) (tree made tables known code′ : List ℕ) (words : ℕ) (e : Emit) (next : ℕ) : Type 0 where
   pub position : r / 65536 ≡ next
   pub grown : words ≤ r % 65536
   pub within : r % 65536 ≤ wordLimit known
-  pub before : take words code′ ≡ take words code
-  pub finished : drop doneFrom code′ ≡ drop doneFrom code
   pub out : (t : Tables) → Shown tree made tables known t → (p : ℕ) → e p t ≡ record { code = instrsOf tree (drop words (take (r % 65536) code′)); tables = t; sources = [] }
 
--- 0 says nothing: a name or a string is new, there is no room, or the code is of another kind
+-- what was before is as it was. Of the rest 0 says nothing: a name or a string is new, there is no room, or the code is of another kind
 pub record Puts (r : ℕ) (tree made tables known code code′ : List ℕ) (words : ℕ) (e : Emit) (next : ℕ) : Type 0 where
-  pub unless : (r ≡ 0 → ⊥) → Placed r tree made tables known code code′ words e next
+  pub before : take words code′ ≡ take words code
+  pub finished : drop doneFrom code′ ≡ drop doneFrom code
+  pub unless : (r ≡ 0 → ⊥) → Placed r tree made tables known code′ words e next

@@ -21,17 +21,16 @@ use Rattle.exprs.specs.Literals.{LiteralAt}
 use Rattle.exprs.proofs.ExprViews.{expr-deep, expr-inside, view-var, view-unary, view-binary, view-call, view-attribute, view-list, view-dict, view-tuple, view-set, view-tree-set, view-index, view-lambda, view-exprs-none, view-exprs-more, unary-of, binary-of, and-of, or-of}
 use Rattle.exprs.proofs.LiteralLaws.{view-literal}
 use Rattle.state.specs.Words.{nameAt}
-use Rattle.state.specs.Fits.{fitsExpr}
 use Rattle.plain.specs.Lowerable.{Lowerable, LowerableMany, exprCode, exprsCode, UnaryLowerable, TwoLowerable, BinaryLowerable, unaryOpcode, binaryOpcode, ArgsLowerable, CallLowerable, AttributeLowerable, displayOf, heldOf, DisplayLowerable, LambdaLowerable, lambdaCode}
 
 pub and-both : (a b : Bool) → a && b ≡ true → (a ≡ true) × (b ≡ true)
 and-both true b e = (refl, e)
 and-both false b e = absurd (true≢false (sym e))
 
--- the expression at p holds what Parts says; its code is e, and it ends at q
-pub record Arm (Parts : Type 0) (d : ℕ) (t : List ℕ) (names : List Name) (p : ℕ) (e : Emit) (q : ℕ) : Type 0 where
+-- the expression at p holds what Parts says; its code is e, by the names of the slots, and it ends at q
+pub record Arm (Parts : Type 0) (d : ℕ) (t : List ℕ) (p : ℕ) (e : List Name → Emit) (q : ℕ) : Type 0 where
   pub parts : Parts
-  pub code : exprCode d t names p ≡ e
+  pub code : (names : List Name) → exprCode d t names p ≡ e names
   pub end : exprAt d t p .end ≡ q
 
 pub name-same : (t : List ℕ) (p : ℕ) → nameBytes t p ≡ nameAt t p
@@ -50,19 +49,19 @@ exprs-count d (suc n) t p r =
     ∙ ap suc (ap (λ (m : ℕ). count (exprsAt d m t q .value)) z ∙ exprs-count d n t q (subst (λ (m : ℕ). ExprsRead d m t q) z (v .parts .rest)))
 
 -- what is asked of two operands is asked of both
-module _ (names : List Name) (x y : Expr) where
-  both-low : (k : ℕ) → k < 12 → (askExpr 13 (binaryOf k x y) ≡ askExpr 13 x && askExpr 13 y) × (fitsExpr names (binaryOf k x y) ≡ fitsExpr names x && fitsExpr names y)
-  unfolding askExpr fitsExpr
-  both-low k h = let e = ap (λ (f : Expr → Expr → Expr). f x y) (binary-of k h) in (ap (askExpr 13) e, ap (fitsExpr names) e)
+module _ (x y : Expr) where
+  both-low : (k : ℕ) → k < 12 → askExpr 13 (binaryOf k x y) ≡ askExpr 13 x && askExpr 13 y
+  unfolding askExpr
+  both-low k h = ap (λ (f : Expr → Expr → Expr). askExpr 13 (f x y)) (binary-of k h)
 
-  both-logical : (k : ℕ) (op : LogicalOp) → binaryOf k ≡ logical op → (askExpr 13 (binaryOf k x y) ≡ askExpr 13 x && askExpr 13 y) × (fitsExpr names (binaryOf k x y) ≡ fitsExpr names x && fitsExpr names y)
-  unfolding askExpr fitsExpr
-  both-logical k op w = let e = ap (λ (f : Expr → Expr → Expr). f x y) w in (ap (askExpr 13) e, ap (fitsExpr names) e)
+  both-logical : (k : ℕ) (op : LogicalOp) → binaryOf k ≡ logical op → askExpr 13 (binaryOf k x y) ≡ askExpr 13 x && askExpr 13 y
+  unfolding askExpr
+  both-logical k op w = ap (λ (f : Expr → Expr → Expr). askExpr 13 (f x y)) w
 
-  both-operands : (k : ℕ) → k < 14 → (askExpr 13 (binaryOf k x y) ≡ askExpr 13 x && askExpr 13 y) × (fitsExpr names (binaryOf k x y) ≡ fitsExpr names x && fitsExpr names y)
+  both-operands : (k : ℕ) → k < 14 → askExpr 13 (binaryOf k x y) ≡ askExpr 13 x && askExpr 13 y
   both-operands k h = go (ltb k 12) (ltb k 13) refl refl
     where
-      go : (a b : Bool) → ltb k 12 ≡ a → ltb k 13 ≡ b → (askExpr 13 (binaryOf k x y) ≡ askExpr 13 x && askExpr 13 y) × (fitsExpr names (binaryOf k x y) ≡ fitsExpr names x && fitsExpr names y)
+      go : (a b : Bool) → ltb k 12 ≡ a → ltb k 13 ≡ b → askExpr 13 (binaryOf k x y) ≡ askExpr 13 x && askExpr 13 y
       go true b e f = both-low k (ltb-true k 12 e)
       go false true e f = both-logical k andOp (and-of k (omega (arith, ltb-false k 12 e, ltb-true k 13 f)))
       go false false e f = both-logical k orOp (or-of k (omega (arith, ltb-false k 13 f)))
@@ -84,7 +83,7 @@ few-args : (d : ℕ) (t : List ℕ) (q : ℕ) → ExprsRead d (countAt t q) t (q
 unfolding askArgs ifAsked
 few-args d t q r a = let n = exprs-count d (countAt t q) t (q + 2) r in let h = leb-true (count (listAt d t q .value)) 255 a in omega arith
 
-module _ (d : ℕ) (t : List ℕ) (names : List Name) (p : ℕ) (r : Lowerable d t names p) where
+module _ (d : ℕ) (t : List ℕ) (p : ℕ) (r : Lowerable d t p) where
   pub arm-deep : 0 < d
   arm-deep = let h = expr-deep d t p (r .reads) in omega arith
 
@@ -95,27 +94,24 @@ module _ (d : ℕ) (t : List ℕ) (names : List Name) (p : ℕ) (r : Lowerable d
   asked : (e : Expr) → exprAt d t p .value ≡ e → askExpr 13 e ≡ true
   asked e w = ap (askExpr 13) (sym w) ∙ r .args
 
-  fitted : (e : Expr) → exprAt d t p .value ≡ e → fitsExpr names e ≡ true
-  fitted e w = ap (fitsExpr names) (sym w) ∙ r .fits
-
-  pub arm-literal : getD t p 0 < 6 → Arm (LiteralAt t p) d t names p (exprCode 1 t names p) (exprAt 1 t p .end)
+  pub arm-literal : getD t p 0 < 6 → Arm (LiteralAt t p) d t p (λ names. exprCode 1 t names p) (exprAt 1 t p .end)
   arm-literal h =
       let v = view-literal d t p (r .reads) h in
-      record { parts = v .parts; code = ap (λ (x : Node Expr). emitExpr names (x .value)) (v .is); end = ap (λ (x : Node Expr). x .end) (v .is) }
+      record { parts = v .parts; code = λ names. ap (λ (x : Node Expr). emitExpr names (x .value)) (v .is); end = ap (λ (x : Node Expr). x .end) (v .is) }
 
-  pub arm-variable : getD t p 0 ≡ 6 → Arm (There t (p + 1)) d t names p (load names (nameAt t (p + 1))) (nameEnd t (p + 1))
+  pub arm-variable : getD t p 0 ≡ 6 → Arm (There t (p + 1)) d t p (λ names. load names (nameAt t (p + 1))) (nameEnd t (p + 1))
   unfolding varAt emitExpr
   arm-variable k =
       let v = view-var d t p (r .reads) k in
       record {
         parts = v .parts;
-        code = ap (λ (x : Node Expr). emitExpr names (x .value)) (v .is) ∙ ap (load names) (name-same t (p + 1));
+        code = λ names. ap (λ (x : Node Expr). emitExpr names (x .value)) (v .is) ∙ ap (load names) (name-same t (p + 1));
         end = ap (λ (x : Node Expr). x .end) (v .is);
       }
 
-  pub arm-unary : getD t p 0 ≡ 7 → Arm (UnaryLowerable (d - 1) t names (p + 1)) d t names p
-      (exprCode (d - 1) t names (p + 1 + 1) ⨟ one (instr (unaryOpcode (getD t (p + 1) 0)) 0 0)) (exprAt (d - 1) t (p + 1 + 1) .end)
-  unfolding unaryAt emitExpr askExpr fitsExpr unaryOpcode
+  pub arm-unary : getD t p 0 ≡ 7 → Arm (UnaryLowerable (d - 1) t (p + 1)) d t p
+      (λ names. exprCode (d - 1) t names (p + 1 + 1) ⨟ one (instr (unaryOpcode (getD t (p + 1) 0)) 0 0)) (exprAt (d - 1) t (p + 1 + 1) .end)
+  unfolding unaryAt emitExpr askExpr unaryOpcode
   arm-unary k =
       let v = view-unary d t p (r .reads) k in
       let o = getD t (p + 1) 0 in
@@ -126,107 +122,104 @@ module _ (d : ℕ) (t : List ℕ) (names : List Name) (p : ℕ) (r : Lowerable d
         parts = record {
           inside = v .parts .inside;
           operator = v .parts .operator;
-          operand = record { reads = v .parts .operand; args = asked _ w; fits = fitted _ w };
+          operand = record { reads = v .parts .operand; args = asked _ w };
         };
-        code = ap (emitExpr names) w;
+        code = λ names. ap (emitExpr names) w;
         end = ap (λ (n : Node Expr). n .end) (v .is);
       }
 
-  pub arm-binary : getD t p 0 ≡ 8 → Arm (BinaryLowerable (d - 1) t names (p + 1)) d t names p
-      (emitExpr names (binaryOf (getD t (p + 1) 0) (exprAt (d - 1) t (p + 1 + 1) .value) (secondAt (d - 1) t (p + 1 + 1) .value))) (secondAt (d - 1) t (p + 1 + 1) .end)
+  pub arm-binary : getD t p 0 ≡ 8 → Arm (BinaryLowerable (d - 1) t (p + 1)) d t p
+      (λ names. emitExpr names (binaryOf (getD t (p + 1) 0) (exprAt (d - 1) t (p + 1 + 1) .value) (secondAt (d - 1) t (p + 1 + 1) .value))) (secondAt (d - 1) t (p + 1 + 1) .end)
   unfolding binaryAt
   arm-binary k =
       let v = view-binary d t p (r .reads) k in
       let w = ap (λ (n : Node Expr). n .value) (v .is) in
-      let o = both-operands names (exprAt (d - 1) t (p + 1 + 1) .value) (secondAt (d - 1) t (p + 1 + 1) .value) (getD t (p + 1) 0) (v .parts .operator) in
-      let a = and-both _ _ (sym (o .0) ∙ asked _ w) in
-      let f = and-both _ _ (sym (o .1) ∙ fitted _ w) in
+      let o = both-operands (exprAt (d - 1) t (p + 1 + 1) .value) (secondAt (d - 1) t (p + 1 + 1) .value) (getD t (p + 1) 0) (v .parts .operator) in
+      let a = and-both _ _ (sym o ∙ asked _ w) in
       record {
         parts = record {
           inside = v .parts .inside;
           operator = v .parts .operator;
           operands = record {
-            first = record { reads = v .parts .operands .first; args = a .0; fits = f .0 };
-            second = record { reads = v .parts .operands .second; args = a .1; fits = f .1 };
+            first = record { reads = v .parts .operands .first; args = a .0 };
+            second = record { reads = v .parts .operands .second; args = a .1 };
           };
         };
-        code = ap (emitExpr names) w;
+        code = λ names. ap (emitExpr names) w;
         end = ap (λ (n : Node Expr). n .end) (v .is);
       }
 
-  pub arm-call : getD t p 0 ≡ 9 → Arm (CallLowerable (d - 1) t names (p + 1)) d t names p
-      (emitExpr names (call (exprAt (d - 1) t (p + 1) .value) (listAt (d - 1) t (exprAt (d - 1) t (p + 1) .end) .value))) (listAt (d - 1) t (exprAt (d - 1) t (p + 1) .end) .end)
-  unfolding callAt askExpr fitsExpr
+  pub arm-call : getD t p 0 ≡ 9 → Arm (CallLowerable (d - 1) t (p + 1)) d t p
+      (λ names. emitExpr names (call (exprAt (d - 1) t (p + 1) .value) (listAt (d - 1) t (exprAt (d - 1) t (p + 1) .end) .value))) (listAt (d - 1) t (exprAt (d - 1) t (p + 1) .end) .end)
+  unfolding callAt askExpr
   arm-call k =
       let v = view-call d t p (r .reads) k in
       let w = ap (λ (n : Node Expr). n .value) (v .is) in
       let q = exprAt (d - 1) t (p + 1) .end in
       let a = and-both _ _ (asked _ w) in
       let b = and-both _ _ (a .0) in
-      let f = and-both _ _ (fitted _ w) in
       record {
         parts = record {
-          callee = record { reads = v .parts .callee; args = b .0; fits = f .0 };
+          callee = record { reads = v .parts .callee; args = b .0 };
           args = record {
             count = v .parts .args .count;
             few = few-args (d - 1) t q (v .parts .args .elements) (b .1);
-            elements = record { reads = v .parts .args .elements; args = a .1; fits = f .1 };
+            elements = record { reads = v .parts .args .elements; args = a .1 };
           };
         };
-        code = ap (emitExpr names) w;
+        code = λ names. ap (emitExpr names) w;
         end = ap (λ (n : Node Expr). n .end) (v .is);
       }
 
-  pub arm-attribute : getD t p 0 ≡ 10 → Arm (AttributeLowerable (d - 1) t names (p + 1)) d t names p
-      (exprCode (d - 1) t names (p + 1) ⨟ intern (nameAt t (exprAt (d - 1) t (p + 1) .end)) (λ k. one (LoadAttr k))) (nameEnd t (exprAt (d - 1) t (p + 1) .end))
-  unfolding attributeAt emitExpr askExpr fitsExpr
+  pub arm-attribute : getD t p 0 ≡ 10 → Arm (AttributeLowerable (d - 1) t (p + 1)) d t p
+      (λ names. exprCode (d - 1) t names (p + 1) ⨟ intern (nameAt t (exprAt (d - 1) t (p + 1) .end)) (λ k. one (LoadAttr k))) (nameEnd t (exprAt (d - 1) t (p + 1) .end))
+  unfolding attributeAt emitExpr askExpr
   arm-attribute k =
       let v = view-attribute d t p (r .reads) k in
       let w = ap (λ (n : Node Expr). n .value) (v .is) in
       let q = exprAt (d - 1) t (p + 1) .end in
       record {
         parts = record {
-          object = record { reads = v .parts .object; args = and-both _ _ (asked _ w) .0; fits = fitted _ w };
+          object = record { reads = v .parts .object; args = and-both _ _ (asked _ w) .0 };
           name = v .parts .name;
         };
-        code = ap (emitExpr names) w ∙ ap (λ (x : Name). exprCode (d - 1) t names (p + 1) ⨟ intern x (λ k. one (LoadAttr k))) (name-same t q);
+        code = λ names. ap (emitExpr names) w ∙ ap (λ (x : Name). exprCode (d - 1) t names (p + 1) ⨟ intern x (λ k. one (LoadAttr k))) (name-same t q);
         end = ap (λ (n : Node Expr). n .end) (v .is);
       }
 
-  pub arm-index : getD t p 0 ≡ 16 → Arm (TwoLowerable (d - 1) t names (p + 1)) d t names p
-      (exprCode (d - 1) t names (p + 1) ⨟ exprCode (d - 1) t names (exprAt (d - 1) t (p + 1) .end) ⨟ one LoadIndex) (secondAt (d - 1) t (p + 1) .end)
-  unfolding indexAt emitExpr askExpr fitsExpr
+  pub arm-index : getD t p 0 ≡ 16 → Arm (TwoLowerable (d - 1) t (p + 1)) d t p
+      (λ names. exprCode (d - 1) t names (p + 1) ⨟ exprCode (d - 1) t names (exprAt (d - 1) t (p + 1) .end) ⨟ one LoadIndex) (secondAt (d - 1) t (p + 1) .end)
+  unfolding indexAt emitExpr askExpr
   arm-index k =
       let v = view-index d t p (r .reads) k in
       let w = ap (λ (n : Node Expr). n .value) (v .is) in
       let a = and-both _ _ (asked _ w) in
-      let f = and-both _ _ (fitted _ w) in
       record {
         parts = record {
-          first = record { reads = v .parts .first; args = a .0; fits = f .0 };
-          second = record { reads = v .parts .second; args = a .1; fits = f .1 };
+          first = record { reads = v .parts .first; args = a .0 };
+          second = record { reads = v .parts .second; args = a .1 };
         };
-        code = ap (emitExpr names) w;
+        code = λ names. ap (emitExpr names) w;
         end = ap (λ (n : Node Expr). n .end) (v .is);
       }
 
   -- a display of the kind k
   abbrev DisplayArm : ℕ → Type 0
   DisplayArm k =
-      Arm (DisplayLowerable k (d - 1) t names (p + 1)) d t names p
-      (exprsCode (d - 1) (heldOf k (countAt t (p + 1))) t names (p + 1 + 2) ⨟ one (Build (displayOf k) (countAt t (p + 1)))) (exprsAt (d - 1) (heldOf k (countAt t (p + 1))) t (p + 1 + 2) .end)
+      Arm (DisplayLowerable k (d - 1) t (p + 1)) d t p
+      (λ names. exprsCode (d - 1) (heldOf k (countAt t (p + 1))) t names (p + 1 + 2) ⨟ one (Build (displayOf k) (countAt t (p + 1)))) (exprsAt (d - 1) (heldOf k (countAt t (p + 1))) t (p + 1 + 2) .end)
 
   display-of : (k : ℕ) → 11 ≤ k → k ≤ 15 → Counted t (p + 1) → ExprsRead (d - 1) (heldOf k (countAt t (p + 1))) t (p + 1 + 2) →
       displaySize (displayOf k) (exprsAt (d - 1) (heldOf k (countAt t (p + 1))) t (p + 1 + 2) .value) ≡ countAt t (p + 1) →
       exprAt d t p ≡ node (display (displayOf k) (exprsAt (d - 1) (heldOf k (countAt t (p + 1))) t (p + 1 + 2) .value)) (exprsAt (d - 1) (heldOf k (countAt t (p + 1))) t (p + 1 + 2) .end) →
       DisplayArm k
-  unfolding emitExpr askExpr fitsExpr
+  unfolding emitExpr askExpr
   display-of k lo hi n reads size is =
       let es = exprsAt (d - 1) (heldOf k (countAt t (p + 1))) t (p + 1 + 2) .value in
       let w = ap (λ (n : Node Expr). n .value) is in
       record {
-        parts = record { above = lo; below = hi; count = n; elements = record { reads = reads; args = asked (display (displayOf k) es) w; fits = fitted (display (displayOf k) es) w } };
-        code = ap (emitExpr names) w ∙ ap (λ (i : ℕ). emitExprs names es ⨟ one (Build (displayOf k) i)) size;
+        parts = record { above = lo; below = hi; count = n; elements = record { reads = reads; args = asked (display (displayOf k) es) w } };
+        code = λ names. ap (emitExpr names) w ∙ ap (λ (i : ℕ). emitExprs names es ⨟ one (Build (displayOf k) i)) size;
         end = ap (λ (n : Node Expr). n .end) is;
       }
 
@@ -248,34 +241,32 @@ module _ (d : ℕ) (t : List ℕ) (names : List Name) (p : ℕ) (r : Lowerable d
       go (suc (suc (suc (suc zero)))) e = let v = view-tree-set d t p (r .reads) e in subst DisplayArm (sym e) (display-of 15 (omega arith) (omega arith) (v .parts .count) (v .parts .elements) (many _ (v .parts .elements)) (v .is))
       go (suc (suc (suc (suc (suc j))))) e = absurd (omega arith)
 
-  pub arm-lambda : getD t p 0 ≡ 17 → Arm (LambdaLowerable (d - 1) t names (p + 1)) d t names p (lambdaCode (d - 1) t names (p + 1)) (exprAt (d - 1) t (paramsAt t (p + 1) .end) .end)
-  unfolding lambdaAt askExpr fitsExpr
+  pub arm-lambda : getD t p 0 ≡ 17 → Arm (LambdaLowerable (d - 1) t (p + 1)) d t p (λ names. lambdaCode (d - 1) t names (p + 1)) (exprAt (d - 1) t (paramsAt t (p + 1) .end) .end)
+  unfolding lambdaAt askExpr
   arm-lambda k =
       let v = view-lambda d t p (r .reads) k in
       let w = ap (λ (n : Node Expr). n .value) (v .is) in
       let a = and-both _ _ (asked _ w) in
-      let f = and-both _ _ (fitted _ w) in
       record {
         parts = record {
           params = v .parts .params;
           few = few-params t (p + 1) (a .0);
-          slots = leb-true _ 255 (f .0);
-          body = record { reads = v .parts .body; args = a .1; fits = f .1 };
+          body = record { reads = v .parts .body; args = a .1 };
         };
-        code = ap (emitExpr names) w;
+        code = λ names. ap (emitExpr names) w;
         end = ap (λ (n : Node Expr). n .end) (v .is);
       }
 
 -- ---- positions and counts by other words
 
-pub lowerable-at : (d : ℕ) (t : List ℕ) (names : List Name) (p q : ℕ) → q ≡ p → Lowerable d t names p → Lowerable d t names q
-lowerable-at d t names p q e r = subst (Lowerable d t names) (sym e) r
+pub lowerable-at : (d : ℕ) (t : List ℕ) (p q : ℕ) → q ≡ p → Lowerable d t p → Lowerable d t q
+lowerable-at d t p q e r = subst (Lowerable d t) (sym e) r
 
-pub many-at : (d n m : ℕ) (t : List ℕ) (names : List Name) (p q : ℕ) → m ≡ n → q ≡ p → LowerableMany d n t names p → LowerableMany d m t names q
-many-at d n m t names p q e f r = rw (e, f) r
+pub many-at : (d n m : ℕ) (t : List ℕ) (p q : ℕ) → m ≡ n → q ≡ p → LowerableMany d n t p → LowerableMany d m t q
+many-at d n m t p q e f r = rw (e, f) r
 
-pub args-at : (d : ℕ) (t : List ℕ) (names : List Name) (p q : ℕ) → q ≡ p → ArgsLowerable d t names p → ArgsLowerable d t names q
-args-at d t names p q e r = subst (ArgsLowerable d t names) (sym e) r
+pub args-at : (d : ℕ) (t : List ℕ) (p q : ℕ) → q ≡ p → ArgsLowerable d t p → ArgsLowerable d t q
+args-at d t p q e r = subst (ArgsLowerable d t) (sym e) r
 
 pub there-at : (t : List ℕ) (p q : ℕ) → q ≡ p → There t p → There t q
 there-at t p q e r = subst (There t) (sym e) r

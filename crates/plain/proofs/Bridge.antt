@@ -17,7 +17,7 @@ use Rattle.state.proofs.Answers.{done-emits}
 use Rattle.state.proofs.Emission.{state-eq}
 use Rattle.state.proofs.Regions.{region-length}
 use Rattle.code.proofs.Putting.{withOpen, sound-open, tables-finished}
-use Rattle.known.specs.Puts.{Known, Room, Shown, Placed}
+use Rattle.known.specs.Puts.{Known, Room, Shown, Puts}
 
 -- the known numbers: the counts, and how many open words there may be
 abbrev pub knownOf : Counts → Limits → List ℕ
@@ -71,25 +71,45 @@ module _ (tree made code tables : List ℕ) (c : Counts) (l : Limits) (s : Sound
         (region-length classMethodsFrom (c .classes) tables (omega (arith, s .limited)) ∙ sym (region-length classNamesFrom (c .classes) tables (omega (arith, s .limited))));
   }
 
+  -- ---- what was before is as it was
+
+  module _ (code′ : List ℕ) (before : take (c .open) code′ ≡ take (c .open) code) (finished : drop doneFrom code′ ≡ drop doneFrom code) where
+    pub kept-state : stateOf tree made code′ tables c ≡ stateOf tree made code tables c
+    unfolding stateOf
+    kept-state = state-eq _ _ (ap (instrsOf tree) before) (tables-finished tree made code code′ tables c (c .open) finished)
+
+    pub kept-sound : length code′ ≡ length code → Sound tree made code′ tables c l
+    kept-sound h = sound-open tree made code code′ tables c l (c .open) s h (s .base) (s .words)
+
   -- ---- words put are a step
 
-  module _ (r : ℕ) (code′ : List ℕ) (e : Emit) (next : ℕ) (a : Placed r tree made tables (knownOf c l) code code′ (c .open) e next) where
-    placed-state : stateOf tree made code′ tables (withOpen (r % 65536) c) ≡ emitAt (c .base) e (stateOf tree made code tables c)
+  module _ (r : ℕ) (code′ : List ℕ) (e : Emit) (next : ℕ) (puts : Puts r tree made tables (knownOf c l) code code′ (c .open) e next) where
+    -- no answer leaves the state and sound slices
+    pub stopped-state : stateOf tree made code′ tables c ≡ stateOf tree made code tables c
+    stopped-state = kept-state code′ (puts .before) (puts .finished)
+
+    pub stopped-sound : length code′ ≡ length code → Sound tree made code′ tables c l
+    stopped-sound h = kept-sound code′ (puts .before) (puts .finished) h
+
+    placed-state : (r ≡ 0 → ⊥) → stateOf tree made code′ tables (withOpen (r % 65536) c) ≡ emitAt (c .base) e (stateOf tree made code tables c)
     unfolding stateOf emitAt instrsOf
-    placed-state =
+    placed-state z =
+        let a = puts .unless z in
         let n = c .open in
         let q = length (map (instrOf tree) (take n code)) - c .base in
         let o = a .out (tablesOf tree made code tables c) shown-sound q in
         let ws : take (r % 65536) code′ ≡ take n code ++ drop n (take (r % 65536) code′) =
-        sym (take-append-drop n (take (r % 65536) code′)) ∙ ap (λ (xs : List ℕ). xs ++ drop n (take (r % 65536) code′)) (take-take n (r % 65536) code′ (a .grown) ∙ a .before) in
+        sym (take-append-drop n (take (r % 65536) code′)) ∙ ap (λ (xs : List ℕ). xs ++ drop n (take (r % 65536) code′)) (take-take n (r % 65536) code′ (a .grown) ∙ puts .before) in
         state-eq _ _
         (ap (map (instrOf tree)) ws ∙ map-append (instrOf tree) (take n code) (drop n (take (r % 65536) code′)) ∙ ap (λ (x : Out). map (instrOf tree) (take n code) ++ x .code) (sym o))
-        (tables-finished tree made code code′ tables c (r % 65536) (a .finished) ∙ ap (λ (x : Out). x .tables) (sym o))
+        (tables-finished tree made code code′ tables c (r % 65536) (puts .finished) ∙ ap (λ (x : Out). x .tables) (sym o))
 
-    pub placed-emits : length code′ ≡ length code → Emits (Done (r / 65536) (withOpen (r % 65536) c)) tree made code′ tables c l next (emitAt (c .base) e (stateOf tree made code tables c))
-    placed-emits h = done-emits tree made code′ tables c l next _ (r / 65536) (withOpen (r % 65536) c) (a .position) (record {
-      state = placed-state;
-      base = refl;
-      paced = record { methods = le-refl _; constants = le-refl _ };
-      sound = sound-open tree made code code′ tables c l (r % 65536) s h (omega (arith, s .base, a .grown)) (omega (arith, s .words, a .within));
-    })
+    pub puts-emits : (r ≡ 0 → ⊥) → length code′ ≡ length code → Emits (Done (r / 65536) (withOpen (r % 65536) c)) tree made code′ tables c l next (emitAt (c .base) e (stateOf tree made code tables c))
+    puts-emits z h =
+        let a = puts .unless z in
+        done-emits tree made code′ tables c l next _ (r / 65536) (withOpen (r % 65536) c) (a .position) (record {
+          state = placed-state z;
+          base = refl;
+          paced = record { methods = le-refl _; constants = le-refl _ };
+          sound = sound-open tree made code code′ tables c l (r % 65536) s h (omega (arith, s .base, a .grown)) (omega (arith, s .words, a .within));
+        })

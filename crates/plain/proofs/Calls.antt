@@ -20,7 +20,6 @@ use Rattle.parts.specs.Places.{Node, countAt, nameBytes, nameEnd}
 use Rattle.exprs.specs.ExprAt.{exprAt, listAt, varAt, attributeAt}
 use Rattle.exprs.proofs.ExprViews.{expr-deep, view-var, view-attribute}
 use Rattle.state.specs.Words.{nameAt}
-use Rattle.state.specs.Fits.{fitsExpr}
 use Rattle.plain.specs.Lowerable.{exprCode, exprsCode, ArgsLowerable, CallLowerable, NamedLowerable, MethodLowerable, loadCallee, callInstr, Short}
 use Rattle.names.specs.Calls.{calleeOf}
 use Rattle.names.specs.declared.Callee.the-variants.{Builtin as BuiltinNumber, Function as FunctionNumber, Value}
@@ -46,48 +45,48 @@ named-code ce names x es p t e = ap (λ (c : Callee). callNamed c names x (emitE
 abbrev pub callExpr : ℕ → List ℕ → ℕ → Expr
 callExpr d t p = call (exprAt d t p .value) (listAt d t (exprAt d t p .end) .value)
 
-pub record CallArm (Parts : Type 0) (d : ℕ) (t : List ℕ) (names : List Name) (p : ℕ) (e : Emit) (q : ℕ) : Type 0 where
+pub record CallArm (Parts : Type 0) (d : ℕ) (t : List ℕ) (p : ℕ) (e : List Name → Emit) (q : ℕ) : Type 0 where
   pub parts : Parts
-  pub code : emitExpr names (callExpr d t p) ≡ e
+  pub code : (names : List Name) → emitExpr names (callExpr d t p) ≡ e names
   pub end : listAt d t (exprAt d t p .end) .end ≡ q
 
-module _ (d : ℕ) (t : List ℕ) (names : List Name) (p : ℕ) (r : CallLowerable d t names p) where
-  pub call-named : getD t p 0 ≡ 6 → CallArm (NamedLowerable d t names (p + 1)) d t names p
-      (emitExpr names (call (var (nameAt t (p + 1))) (listAt d t (nameEnd t (p + 1)) .value))) (listAt d t (nameEnd t (p + 1)) .end)
+module _ (d : ℕ) (t : List ℕ) (p : ℕ) (r : CallLowerable d t p) where
+  pub call-named : getD t p 0 ≡ 6 → CallArm (NamedLowerable d t (p + 1)) d t p
+      (λ names. emitExpr names (call (var (nameAt t (p + 1))) (listAt d t (nameEnd t (p + 1)) .value))) (listAt d t (nameEnd t (p + 1)) .end)
   unfolding varAt
   call-named k =
       let v = view-var d t p (r .callee .reads) k in
       let q : exprAt d t p .end ≡ nameEnd t (p + 1) = ap (λ (x : Node Expr). x .end) (v .is) in
       record {
-        parts = record { name = v .parts; args = subst (ArgsLowerable d t names) q (r .args) };
-        code = ap (λ (x : Node Expr). emitExpr names (call (x .value) (listAt d t (x .end) .value))) (v .is)
+        parts = record { name = v .parts; args = subst (ArgsLowerable d t) q (r .args) };
+        code = λ names. ap (λ (x : Node Expr). emitExpr names (call (x .value) (listAt d t (x .end) .value))) (v .is)
             ∙ ap (λ (x : Name). emitExpr names (call (var x) (listAt d t (nameEnd t (p + 1)) .value))) (name-same t (p + 1));
         end = ap (λ (n : ℕ). listAt d t n .end) q;
       }
 
-  pub call-method : getD t p 0 ≡ 10 → CallArm (MethodLowerable d t names (p + 1)) d t names p
-      (exprCode (d - 1) t names (p + 1)
+  pub call-method : getD t p 0 ≡ 10 → CallArm (MethodLowerable d t (p + 1)) d t p
+      (λ names. exprCode (d - 1) t names (p + 1)
       ⨟ exprsCode d (countAt t (nameEnd t (exprAt (d - 1) t (p + 1) .end))) t names (nameEnd t (exprAt (d - 1) t (p + 1) .end) + 2)
       ⨟ intern (nameAt t (exprAt (d - 1) t (p + 1) .end)) (λ k. one (Instruction.CallMethod k (countAt t (nameEnd t (exprAt (d - 1) t (p + 1) .end))))))
       (listAt d t (nameEnd t (exprAt (d - 1) t (p + 1) .end)) .end)
-  unfolding attributeAt emitExpr view callBy askExpr fitsExpr
+  unfolding attributeAt emitExpr view callBy askExpr
   call-method k =
       let v = view-attribute d t p (r .callee .reads) k in
       let o = exprAt (d - 1) t (p + 1) in
       let q : exprAt d t p .end ≡ nameEnd t (o .end) = ap (λ (x : Node Expr). x .end) (v .is) in
       let w : exprAt d t p .value ≡ attr (o .value) (nameBytes t (o .end)) = ap (λ (x : Node Expr). x .value) (v .is) in
-      let args = subst (ArgsLowerable d t names) q (r .args) in
+      let args = subst (ArgsLowerable d t) q (r .args) in
       let z = expr-deep d t p (r .callee .reads) in
       record {
         parts = record {
           deep = omega arith;
           callee = record {
-            object = record { reads = v .parts .object; args = and-both _ _ (ap (askExpr 13) (sym w) ∙ r .callee .args) .0; fits = ap (fitsExpr names) (sym w) ∙ r .callee .fits };
+            object = record { reads = v .parts .object; args = and-both _ _ (ap (askExpr 13) (sym w) ∙ r .callee .args) .0 };
             name = v .parts .name;
           };
           args = args;
         };
-        code = ap (λ (x : Node Expr). emitExpr names (call (x .value) (listAt d t (x .end) .value))) (v .is)
+        code = λ names. ap (λ (x : Node Expr). emitExpr names (call (x .value) (listAt d t (x .end) .value))) (v .is)
             ∙ ap (λ (n : ℕ). emitExpr names (o .value) ⨟ emitExprs names (listAt d t (nameEnd t (o .end)) .value) ⨟ intern (nameBytes t (o .end)) (λ k. one (Instruction.CallMethod k n)))
             (exprs-count d (countAt t (nameEnd t (o .end))) t (nameEnd t (o .end) + 2) (args .elements .reads))
             ∙ ap (λ (x : Name). emitExpr names (o .value) ⨟ emitExprs names (listAt d t (nameEnd t (o .end)) .value) ⨟ intern x (λ k. one (Instruction.CallMethod k (countAt t (nameEnd t (o .end)))))) (name-same t (o .end));
@@ -95,7 +94,7 @@ module _ (d : ℕ) (t : List ℕ) (names : List Name) (p : ℕ) (r : CallLowerab
       }
 
 -- a named call's code, with the count of the arguments
-pub named-args : (d : ℕ) (t : List ℕ) (names : List Name) (q : ℕ) (ce : Callee) (p : ℕ) (u : Tables) → NamedLowerable d t names q → ce ≡ resolve (nameAt t q) u →
+pub named-args : (d : ℕ) (t : List ℕ) (names : List Name) (q : ℕ) (ce : Callee) (p : ℕ) (u : Tables) → NamedLowerable d t q → ce ≡ resolve (nameAt t q) u →
     emitExpr names (call (var (nameAt t q)) (listAt d t (nameEnd t q) .value)) p u
     ≡ (loadCallee ce names (nameAt t q) ⨟ exprsCode d (countAt t (nameEnd t q)) t names (nameEnd t q + 2) ⨟ one (callInstr ce (countAt t (nameEnd t q)))) p u
 named-args d t names q ce p u r e =

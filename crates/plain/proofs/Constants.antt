@@ -41,40 +41,40 @@ eight-same t p h =
 
 -- ---- by the kind byte
 
-module _ (d : ℕ) (t : List ℕ) (names : List Name) (p : ℕ) (r : Lowerable d t names p) where
-  pub arm-constant : (k : ℕ) → getD t p 0 ≡ k → k < 3 → Arm (Unit {0}) d t names p (one (instr (5 - k) 0 0)) (p + 1)
+module _ (d : ℕ) (t : List ℕ) (p : ℕ) (r : Lowerable d t p) where
+  pub arm-constant : (k : ℕ) → getD t p 0 ≡ k → k < 3 → Arm (Unit {0}) d t p (λ names. one (instr (5 - k) 0 0)) (p + 1)
   unfolding emitExpr literal
-  arm-constant zero e h = let v = view-none d t p (r .reads) e in record { parts = tt; code = ap (λ (x : Node Expr). emitExpr names (x .value)) v; end = ap (λ (x : Node Expr). x .end) v }
-  arm-constant (suc zero) e h = let v = view-false d t p (r .reads) e in record { parts = tt; code = ap (λ (x : Node Expr). emitExpr names (x .value)) v; end = ap (λ (x : Node Expr). x .end) v }
-  arm-constant (suc (suc zero)) e h = let v = view-true d t p (r .reads) e in record { parts = tt; code = ap (λ (x : Node Expr). emitExpr names (x .value)) v; end = ap (λ (x : Node Expr). x .end) v }
+  arm-constant zero e h = let v = view-none d t p (r .reads) e in record { parts = tt; code = λ names. ap (λ (x : Node Expr). emitExpr names (x .value)) v; end = ap (λ (x : Node Expr). x .end) v }
+  arm-constant (suc zero) e h = let v = view-false d t p (r .reads) e in record { parts = tt; code = λ names. ap (λ (x : Node Expr). emitExpr names (x .value)) v; end = ap (λ (x : Node Expr). x .end) v }
+  arm-constant (suc (suc zero)) e h = let v = view-true d t p (r .reads) e in record { parts = tt; code = λ names. ap (λ (x : Node Expr). emitExpr names (x .value)) v; end = ap (λ (x : Node Expr). x .end) v }
   arm-constant (suc (suc (suc k))) e h = absurd (omega arith)
 
-  pub arm-int : getD t p 0 ≡ 3 → Arm (p + 1 + 8 ≤ length t) d t names p (one (instr 0 (numberAt 8 t (p + 1)) 0)) (p + 1 + 8)
+  pub arm-int : getD t p 0 ≡ 3 → Arm (p + 1 + 8 ≤ length t) d t p (λ names. one (instr 0 (numberAt 8 t (p + 1)) 0)) (p + 1 + 8)
   unfolding emitExpr literal intAt
   arm-int e =
       let v = view-int d t p (r .reads) e in
       record {
         parts = v .parts;
-        code = ap (λ (x : Node Expr). emitExpr names (x .value)) (v .is) ∙ ap (λ (n : ℕ). one (instr 0 n 0)) (eight-same t (p + 1) (v .parts));
+        code = λ names. ap (λ (x : Node Expr). emitExpr names (x .value)) (v .is) ∙ ap (λ (n : ℕ). one (instr 0 n 0)) (eight-same t (p + 1) (v .parts));
         end = ap (λ (x : Node Expr). x .end) (v .is);
       }
 
-  pub arm-float : getD t p 0 ≡ 4 → Arm (p + 1 + 8 ≤ length t) d t names p (one (instr 1 (numberAt 8 t (p + 1)) 0)) (p + 1 + 8)
+  pub arm-float : getD t p 0 ≡ 4 → Arm (p + 1 + 8 ≤ length t) d t p (λ names. one (instr 1 (numberAt 8 t (p + 1)) 0)) (p + 1 + 8)
   unfolding emitExpr literal floatAt
   arm-float e =
       let v = view-float d t p (r .reads) e in
       record {
         parts = v .parts;
-        code = ap (λ (x : Node Expr). emitExpr names (x .value)) (v .is) ∙ ap (λ (n : ℕ). one (instr 1 n 0)) (eight-same t (p + 1) (v .parts));
+        code = λ names. ap (λ (x : Node Expr). emitExpr names (x .value)) (v .is) ∙ ap (λ (n : ℕ). one (instr 1 n 0)) (eight-same t (p + 1) (v .parts));
         end = ap (λ (x : Node Expr). x .end) (v .is);
       }
 
-  pub arm-string : getD t p 0 ≡ 5 → Arm (TextAt t (p + 1)) d t names p (getOrAddString (textAt t (p + 1)) (λ k. one (ConstStr k))) (p + 1 + 2 + countAt t (p + 1))
+  pub arm-string : getD t p 0 ≡ 5 → Arm (TextAt t (p + 1)) d t p (λ names. getOrAddString (textAt t (p + 1)) (λ k. one (ConstStr k))) (p + 1 + 2 + countAt t (p + 1))
   unfolding emitExpr literal stringAt Places.textAt
   arm-string e =
       let v = view-string d t p (r .reads) e in
       record {
         parts = v .parts;
-        code = ap (λ (x : Node Expr). emitExpr names (x .value)) (v .is) ∙ ap (λ (u : Text). getOrAddString u (λ k. one (ConstStr k))) (text-same t (p + 1));
+        code = λ names. ap (λ (x : Node Expr). emitExpr names (x .value)) (v .is) ∙ ap (λ (u : Text). getOrAddString u (λ k. one (ConstStr k))) (text-same t (p + 1));
         end = ap (λ (x : Node Expr). x .end) (v .is);
       }

@@ -58,7 +58,7 @@ puts-follow f g z i j a b = let h = puts-next z i a in puts-after z j a (puts-as
 -- ---- expressions one after the other
 
 -- all of them are left
-pub rest-all : (d : ℕ) (t : List ℕ) (names : List Name) (made tables known code : List ℕ) (count start words : ℕ) → LowerableMany d count t names start → Room code known words →
+pub rest-all : (d : ℕ) (t : List ℕ) (names : List Name) (made tables known code : List ℕ) (count start words : ℕ) → LowerableMany d count t start → Room code known words →
     Rest d t names made tables known code count start words code count start words
 rest-all d t names made tables known code count start words e room = record { elements = e; next = refl; room = room; kept = refl; whole = λ r code′ q h. h }
 
@@ -73,32 +73,32 @@ pub rest-both : {d : ℕ} {t : List ℕ} {names : List Name} {made tables known 
 rest-both a b = record { elements = b .elements; next = b .next ∙ a .next; room = b .room; kept = b .kept ∙ a .kept; whole = λ r code′ q h. a .whole r code′ q (b .whole r code′ q h) }
 
 module _ (d : ℕ) (t : List ℕ) (names : List Name) (made tables known code₀ : List ℕ) (count start words : ℕ) (code : List ℕ) (n p m : ℕ) (inv : Rest d t names made tables known code₀ count start words code n p m) where
-  pub rest-head : 0 < n → Lowerable d t names p
-  rest-head h = more-view d n t names p h (inv .elements) .head
+  pub rest-head : 0 < n → Lowerable d t p
+  rest-head h = more-view d n t p h (inv .elements) .head
 
   -- one expression more
   pub rest-next : (r : ℕ) (code₁ : List ℕ) (p₁ m₁ : ℕ) → 0 < n → (r ≡ 0 → ⊥) → Puts r t made tables known code code₁ m (exprCode d t names p) (exprAt d t p .end) → length code₁ ≡ length code →
       p₁ ≡ r / 65536 → m₁ ≡ r % 65536 → Rest d t names made tables known code₀ count start words code₁ (n - 1) p₁ m₁
   rest-next r code₁ p₁ m₁ h z a l i j =
-      let v = more-view d n t names p h (inv .elements) in
+      let v = more-view d n t p h (inv .elements) in
       subst (λ (x : ℕ). Rest d t names made tables known code₀ count start words code₁ (n - 1) x m₁) (sym (i ∙ a .unless z .position)) (record {
         elements = v .rest;
         next = sym (v .end) ∙ inv .next;
         room = room-then (inv .room) z j a l;
         kept = l ∙ inv .kept;
-        whole = λ r₂ code′ q g. inv .whole r₂ code′ q (puts-as (sym (v .code)) refl (puts-after z j a g));
+        whole = λ r₂ code′ q g. inv .whole r₂ code′ q (puts-as (sym (v .code names)) refl (puts-after z j a g));
       })
 
   -- a constant more
   pub rest-constant : (k w : ℕ) → 0 < n → getD t p 0 ≡ k → k < 3 → m < wordLimit known → p < 65535 → w ≡ word (5 - k) 0 0 →
       Rest d t names made tables known code₀ count start words (set code m w) (n - 1) (p + 1) (m + 1)
   rest-constant k w h e g f b i =
-      let a = arm-constant d t names p (rest-head h) k e g in
+      let a = arm-constant d t p (rest-head h) k e g in
       let r = (p + 1) * 65536 + (m + 1) in
       let room = inv .room in
       let u : instrOf t w ≡ instr (5 - k) 0 0 = ap (instrOf t) i ∙ instr-plain t (5 - k) 0 0 (plain-below (5 - k) 0 0 (omega arith) (omega arith) (omega arith) (omega arith)) in
       rest-next r (set code m w) (p + 1) (m + 1) h (λ z. omega arith)
-      (puts-as (ap one u ∙ sym (a .code)) (sym (a .end)) (puts-word w refl room (omega arith) f))
+      (puts-as (ap one u ∙ sym (a .code names)) (sym (a .end)) (puts-word w refl room (omega arith) f))
       (length-set code m w) (omega (arith, room .limit)) (omega (arith, room .limit))
 
   -- none more
@@ -169,7 +169,7 @@ module _ (t made tables known : List ℕ) where
   pub known-short : (slots : List ℕ) (x : Name) (ce : Lower.Callee) → Known t slots made tables known → ((u : Tables) → Shown t made tables known u → ce ≡ Lower.resolve x u) → Short ce
   known-short slots x ce k f = callee-short x shownTables ce (functions-few slots k) (f shownTables shown)
 
-pub puts-named : {r : ℕ} {t made tables known code code′ : List ℕ} {words next : ℕ} (d : ℕ) (names : List Name) (q : ℕ) (ce : Lower.Callee) → NamedLowerable d t names q →
+pub puts-named : {r : ℕ} {t made tables known code code′ : List ℕ} {words next : ℕ} (d : ℕ) (names : List Name) (q : ℕ) (ce : Lower.Callee) → NamedLowerable d t q →
     ((u : Tables) → Shown t made tables known u → ce ≡ Lower.resolve (nameAt t q) u) →
     Puts r t made tables known code code′ words (loadCallee ce names (nameAt t q) ⨟ exprsCode d (countAt t (nameEnd t q)) t names (nameEnd t q + 2) ⨟ one (callInstr ce (countAt t (nameEnd t q)))) next →
     Puts r t made tables known code code′ words (emitExpr names (call (var (nameAt t q)) (listAt d t (nameEnd t q) .value))) next

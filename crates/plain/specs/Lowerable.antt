@@ -17,22 +17,19 @@ use Rattle.definitions.specs.Lower.{Callee, builtinCallee, functionCallee, valu
 use Rattle.parts.specs.Places.{countAt, Counted, nameEnd, There, ParamsAt, paramsAt}
 use Rattle.exprs.specs.ExprAt.{exprAt, exprsAt, ExprReads, ExprsRead, unaryOps, binaryOps}
 use Rattle.state.specs.Words.{nameAt}
-use Rattle.state.specs.Fits.{fitsExpr, fitsExprs}
 use Rattle.state.specs.State.{namesAt}
 
 -- ---- expressions
 
--- the expression at p reads, and questions 13 and 14 pass it
-pub record Lowerable (d : ℕ) (t : List ℕ) (names : List Name) (p : ℕ) : Type 0 where
+-- the expression at p reads, and question 13 passes it
+pub record Lowerable (d : ℕ) (t : List ℕ) (p : ℕ) : Type 0 where
   pub reads : ExprReads d t p
   pub args : askExpr 13 (exprAt d t p .value) ≡ true
-  pub fits : fitsExpr names (exprAt d t p .value) ≡ true
 
 -- n expressions from p on
-pub record LowerableMany (d n : ℕ) (t : List ℕ) (names : List Name) (p : ℕ) : Type 0 where
+pub record LowerableMany (d n : ℕ) (t : List ℕ) (p : ℕ) : Type 0 where
   pub reads : ExprsRead d n t p
   pub args : askExprs 13 (exprsAt d n t p .value) ≡ true
-  pub fits : fitsExprs names (exprsAt d n t p .value) ≡ true
 
 -- their code
 abbrev pub exprCode : ℕ → List ℕ → List Name → ℕ → Emit
@@ -43,20 +40,20 @@ exprsCode d n t names p = emitExprs names (exprsAt d n t p .value)
 
 -- ---- operators
 
-pub record UnaryLowerable (d : ℕ) (t : List ℕ) (names : List Name) (p : ℕ) : Type 0 where
+pub record UnaryLowerable (d : ℕ) (t : List ℕ) (p : ℕ) : Type 0 where
   pub inside : p < length t
   pub operator : getD t p 0 < 3
-  pub operand : Lowerable d t names (p + 1)
+  pub operand : Lowerable d t (p + 1)
 
 -- two expressions, the second where the first ends
-pub record TwoLowerable (d : ℕ) (t : List ℕ) (names : List Name) (p : ℕ) : Type 0 where
-  pub first : Lowerable d t names p
-  pub second : Lowerable d t names (exprAt d t p .end)
+pub record TwoLowerable (d : ℕ) (t : List ℕ) (p : ℕ) : Type 0 where
+  pub first : Lowerable d t p
+  pub second : Lowerable d t (exprAt d t p .end)
 
-pub record BinaryLowerable (d : ℕ) (t : List ℕ) (names : List Name) (p : ℕ) : Type 0 where
+pub record BinaryLowerable (d : ℕ) (t : List ℕ) (p : ℕ) : Type 0 where
   pub inside : p < length t
   pub operator : getD t p 0 < 14
-  pub operands : TwoLowerable d t names (p + 1)
+  pub operands : TwoLowerable d t (p + 1)
 
 -- the opcodes of the operators' bytes
 unfoldable pub unaryOpcode : ℕ → ℕ
@@ -68,30 +65,30 @@ binaryOpcode k = binaryCode (getD binaryOps k addOp)
 -- ---- calls
 
 -- a count of at most 255, and so many arguments
-pub record ArgsLowerable (d : ℕ) (t : List ℕ) (names : List Name) (p : ℕ) : Type 0 where
+pub record ArgsLowerable (d : ℕ) (t : List ℕ) (p : ℕ) : Type 0 where
   pub count : Counted t p
   pub few : countAt t p ≤ 255
-  pub elements : LowerableMany d (countAt t p) t names (p + 2)
+  pub elements : LowerableMany d (countAt t p) t (p + 2)
 
-pub record CallLowerable (d : ℕ) (t : List ℕ) (names : List Name) (p : ℕ) : Type 0 where
-  pub callee : Lowerable d t names p
-  pub args : ArgsLowerable d t names (exprAt d t p .end)
+pub record CallLowerable (d : ℕ) (t : List ℕ) (p : ℕ) : Type 0 where
+  pub callee : Lowerable d t p
+  pub args : ArgsLowerable d t (exprAt d t p .end)
 
 -- a call by the name at p
-pub record NamedLowerable (d : ℕ) (t : List ℕ) (names : List Name) (p : ℕ) : Type 0 where
+pub record NamedLowerable (d : ℕ) (t : List ℕ) (p : ℕ) : Type 0 where
   pub name : There t p
-  pub args : ArgsLowerable d t names (nameEnd t p)
+  pub args : ArgsLowerable d t (nameEnd t p)
 
 -- an object, a name
-pub record AttributeLowerable (d : ℕ) (t : List ℕ) (names : List Name) (p : ℕ) : Type 0 where
-  pub object : Lowerable d t names p
+pub record AttributeLowerable (d : ℕ) (t : List ℕ) (p : ℕ) : Type 0 where
+  pub object : Lowerable d t p
   pub name : There t (exprAt d t p .end)
 
 -- a call of an attribute, whose object stands a level deeper
-pub record MethodLowerable (d : ℕ) (t : List ℕ) (names : List Name) (p : ℕ) : Type 0 where
+pub record MethodLowerable (d : ℕ) (t : List ℕ) (p : ℕ) : Type 0 where
   pub deep : 0 < d
-  pub callee : AttributeLowerable (d - 1) t names p
-  pub args : ArgsLowerable d t names (nameEnd t (exprAt (d - 1) t p .end))
+  pub callee : AttributeLowerable (d - 1) t p
+  pub args : ArgsLowerable d t (nameEnd t (exprAt (d - 1) t p .end))
 
 -- its code: the method's symbol comes after the arguments
 abbrev pub methodCode : ℕ → List ℕ → List Name → ℕ → Emit
@@ -127,11 +124,11 @@ displayOf k = getD (listD ∷ dictD ∷ tupleD ∷ setD ∷ treeSetD ∷ []) (k 
 unfoldable pub heldOf : ℕ → ℕ → ℕ
 heldOf k n = elim (eqb k 12) [ true ↦ 2 * n | false ↦ n ]
 
-pub record DisplayLowerable (k d : ℕ) (t : List ℕ) (names : List Name) (p : ℕ) : Type 0 where
+pub record DisplayLowerable (k d : ℕ) (t : List ℕ) (p : ℕ) : Type 0 where
   pub above : 11 ≤ k
   pub below : k ≤ 15
   pub count : Counted t p
-  pub elements : LowerableMany d (heldOf k (countAt t p)) t names (p + 2)
+  pub elements : LowerableMany d (heldOf k (countAt t p)) t (p + 2)
 
 -- ---- lambdas
 
@@ -139,11 +136,10 @@ pub record DisplayLowerable (k d : ℕ) (t : List ℕ) (names : List Name) (p : 
 abbrev pub lambdaNames : ℕ → List ℕ → List Name → ℕ → List Name
 lambdaNames d t names p = paramsAt t p .value ++ captures names (paramsAt t p .value) (exprAt d t (paramsAt t p .end) .value)
 
-pub record LambdaLowerable (d : ℕ) (t : List ℕ) (names : List Name) (p : ℕ) : Type 0 where
+pub record LambdaLowerable (d : ℕ) (t : List ℕ) (p : ℕ) : Type 0 where
   pub params : ParamsAt t p
   pub few : countAt t p ≤ 255
-  pub slots : length (lambdaNames d t names p) ≤ 255
-  pub body : Lowerable d t (lambdaNames d t names p) (paramsAt t p .end)
+  pub body : Lowerable d t (paramsAt t p .end)
 
 -- its code
 abbrev pub lambdaCode : ℕ → List ℕ → List Name → ℕ → Emit
@@ -160,7 +156,7 @@ functionCode d t f arity inner p = function (lambdaName f) arity (namesAt t inne
 pub record ClosureLowerable (d : ℕ) (t : List ℕ) (arity : ℕ) (inner : List ℕ) (p : ℕ) : Type 0 where
   pub few : length inner ≤ 255
   pub params : arity ≤ length inner
-  pub body : Lowerable d t (namesAt t inner) p
+  pub body : Lowerable d t p
 
 -- the captures have slots in the parent
 abbrev pub Held : List Name → List Name → Type 0

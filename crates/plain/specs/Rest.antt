@@ -10,7 +10,7 @@ use Rattle.plain.specs.Lowerable.{LowerableMany, exprsCode}
 
 -- of `count` expressions from `start` on, put from `words` words on, n are left from p on, with m words: what puts these puts them all
 pub record Rest (d : ℕ) (t : List ℕ) (names : List Name) (made tables known code₀ : List ℕ) (count start words : ℕ) (code : List ℕ) (n p m : ℕ) : Type 0 where
-  pub elements : LowerableMany d n t names p
+  pub elements : LowerableMany d n t p
   pub next : exprsAt d n t p .end ≡ exprsAt d count t start .end
   pub room : Room code known m
   pub kept : length code ≡ length code₀

@@ -1,5 +1,5 @@
 // The code of expressions whose names and strings are all numbered already: words alone. An answer is the next position and how many words are open
-// now, in one number; or 0 where a name or a string is new, there is no room, or an expression is of another kind: then nothing is said of the words.
+// now, in one number; or 0 where a name or a string is new, there is no room, or an expression is of another kind: then nothing is said of the words put.
 pub mod codes; // codes.rt: opcodes of operators and displays
 
 use code::packed;
@@ -48,7 +48,7 @@ pub fn plain_expr(
     n: u32,
 ) -> u64
     requires { ⌜ Known (now tree) (now slots) (now made) (now tables) (now known) × Room (now code) (now known) n
-        × Lowerable depth (now tree) (slotNames (now tree) (now slots)) at ⌝ }
+        × Lowerable depth (now tree) at ⌝ }
     ensures { λ r. ⌜ Puts r (now (tree .entry)) (now (made .entry)) (now (tables .entry)) (now (known .entry)) (now (code .entry)) (now (code .exit)) n
         (exprCode depth (now (tree .entry)) (slotNames (now (tree .entry)) (now (slots .entry))) at) (exprAt depth (now (tree .entry)) at .end) ⌝ }
 {
@@ -92,7 +92,7 @@ fn plain_unary(
     n: u32,
 ) -> u64
     requires { ⌜ Known (now tree) (now slots) (now made) (now tables) (now known) × Room (now code) (now known) n
-        × UnaryLowerable depth (now tree) (slotNames (now tree) (now slots)) at ⌝ }
+        × UnaryLowerable depth (now tree) at ⌝ }
     ensures { λ r. ⌜ Puts r (now (tree .entry)) (now (made .entry)) (now (tables .entry)) (now (known .entry)) (now (code .entry)) (now (code .exit)) n
         (exprCode depth (now (tree .entry)) (slotNames (now (tree .entry)) (now (slots .entry))) (at + 1) ⨟ one (instr (unaryOpcode (getD (now (tree .entry)) at 0)) 0 0)) (exprAt depth (now (tree .entry)) (at + 1) .end) ⌝ }
 {
@@ -120,7 +120,7 @@ fn plain_two(
     n: u32,
 ) -> u64
     requires { ⌜ Known (now tree) (now slots) (now made) (now tables) (now known) × Room (now code) (now known) n
-        × TwoLowerable depth (now tree) (slotNames (now tree) (now slots)) at × Plain op 0 0 ⌝ }
+        × TwoLowerable depth (now tree) at × Plain op 0 0 ⌝ }
     ensures { λ r. ⌜ Puts r (now (tree .entry)) (now (made .entry)) (now (tables .entry)) (now (known .entry)) (now (code .entry)) (now (code .exit)) n
         (exprCode depth (now (tree .entry)) (slotNames (now (tree .entry)) (now (slots .entry))) at ⨟ exprCode depth (now (tree .entry)) (slotNames (now (tree .entry)) (now (slots .entry))) (exprAt depth (now (tree .entry)) at .end) ⨟ one (instr op 0 0)) (secondAt depth (now (tree .entry)) at .end) ⌝ }
 {
@@ -152,7 +152,7 @@ fn plain_binary(
     n: u32,
 ) -> u64
     requires { ⌜ Known (now tree) (now slots) (now made) (now tables) (now known) × Room (now code) (now known) n
-        × BinaryLowerable depth (now tree) (slotNames (now tree) (now slots)) at ⌝ }
+        × BinaryLowerable depth (now tree) at ⌝ }
     ensures { λ r. ⌜ Puts r (now (tree .entry)) (now (made .entry)) (now (tables .entry)) (now (known .entry)) (now (code .entry)) (now (code .exit)) n
         (emitExpr (slotNames (now (tree .entry)) (now (slots .entry))) (binaryOf (getD (now (tree .entry)) at 0) (exprAt depth (now (tree .entry)) (at + 1) .value) (secondAt depth (now (tree .entry)) (at + 1) .value))) (secondAt depth (now (tree .entry)) (at + 1) .end) ⌝ }
 {
@@ -175,7 +175,7 @@ fn plain_binary(
 }
 
 // So many expressions, one after the other.
-fn plain_exprs(
+pub fn plain_exprs(
     tree: &[u8],
     at: usize,
     depth: u32,
@@ -188,7 +188,7 @@ fn plain_exprs(
     n: u32,
 ) -> u64
     requires { ⌜ Known (now tree) (now slots) (now made) (now tables) (now known) × Room (now code) (now known) n
-        × LowerableMany depth count (now tree) (slotNames (now tree) (now slots)) at ⌝ }
+        × LowerableMany depth count (now tree) at ⌝ }
     ensures { λ r. ⌜ Puts r (now (tree .entry)) (now (made .entry)) (now (tables .entry)) (now (known .entry)) (now (code .entry)) (now (code .exit)) n
         (exprsCode depth count (now (tree .entry)) (slotNames (now (tree .entry)) (now (slots .entry))) at) (exprsAt depth count (now (tree .entry)) at .end) ⌝ }
 {
@@ -228,7 +228,7 @@ fn plain_display(
     n: u32,
 ) -> u64
     requires { ⌜ Known (now tree) (now slots) (now made) (now tables) (now known) × Room (now code) (now known) n
-        × DisplayLowerable kind depth (now tree) (slotNames (now tree) (now slots)) at ⌝ }
+        × DisplayLowerable kind depth (now tree) at ⌝ }
     ensures { λ r. ⌜ Puts r (now (tree .entry)) (now (made .entry)) (now (tables .entry)) (now (known .entry)) (now (code .entry)) (now (code .exit)) n
         (exprsCode depth (heldOf kind (countAt (now (tree .entry)) at)) (now (tree .entry)) (slotNames (now (tree .entry)) (now (slots .entry))) (at + 2) ⨟ one (Build (displayOf kind) (countAt (now (tree .entry)) at))) (exprsAt depth (heldOf kind (countAt (now (tree .entry)) at)) (now (tree .entry)) (at + 2) .end) ⌝ }
 {
@@ -258,7 +258,7 @@ fn plain_attribute(
     n: u32,
 ) -> u64
     requires { ⌜ Known (now tree) (now slots) (now made) (now tables) (now known) × Room (now code) (now known) n
-        × AttributeLowerable depth (now tree) (slotNames (now tree) (now slots)) at ⌝ }
+        × AttributeLowerable depth (now tree) at ⌝ }
     ensures { λ r. ⌜ Puts r (now (tree .entry)) (now (made .entry)) (now (tables .entry)) (now (known .entry)) (now (code .entry)) (now (code .exit)) n
         (exprCode depth (now (tree .entry)) (slotNames (now (tree .entry)) (now (slots .entry))) at ⨟ intern (nameAt (now (tree .entry)) (exprAt depth (now (tree .entry)) at .end)) (λ k. one (LoadAttr k))) (nameEnd (now (tree .entry)) (exprAt depth (now (tree .entry)) at .end)) ⌝ }
 {
@@ -285,7 +285,7 @@ fn plain_call(
     n: u32,
 ) -> u64
     requires { ⌜ Known (now tree) (now slots) (now made) (now tables) (now known) × Room (now code) (now known) n
-        × CallLowerable depth (now tree) (slotNames (now tree) (now slots)) at ⌝ }
+        × CallLowerable depth (now tree) at ⌝ }
     ensures { λ r. ⌜ Puts r (now (tree .entry)) (now (made .entry)) (now (tables .entry)) (now (known .entry)) (now (code .entry)) (now (code .exit)) n
         (emitExpr (slotNames (now (tree .entry)) (now (slots .entry))) (call (exprAt depth (now (tree .entry)) at .value) (listAt depth (now (tree .entry)) (exprAt depth (now (tree .entry)) at .end) .value))) (listAt depth (now (tree .entry)) (exprAt depth (now (tree .entry)) at .end) .end) ⌝ }
 {
@@ -312,7 +312,7 @@ fn plain_named(
     n: u32,
 ) -> u64
     requires { ⌜ Known (now tree) (now slots) (now made) (now tables) (now known) × Room (now code) (now known) n
-        × NamedLowerable depth (now tree) (slotNames (now tree) (now slots)) at ⌝ }
+        × NamedLowerable depth (now tree) at ⌝ }
     ensures { λ r. ⌜ Puts r (now (tree .entry)) (now (made .entry)) (now (tables .entry)) (now (known .entry)) (now (code .entry)) (now (code .exit)) n
         (emitExpr (slotNames (now (tree .entry)) (now (slots .entry))) (call (var (nameAt (now (tree .entry)) at)) (listAt depth (now (tree .entry)) (nameEnd (now (tree .entry)) at) .value))) (listAt depth (now (tree .entry)) (nameEnd (now (tree .entry)) at) .end) ⌝ }
 {
@@ -365,7 +365,7 @@ fn plain_args(
     n: u32,
 ) -> u64
     requires { ⌜ Known (now tree) (now slots) (now made) (now tables) (now known) × Room (now code) (now known) n
-        × ArgsLowerable depth (now tree) (slotNames (now tree) (now slots)) at × Short (calleeOf callee) ⌝ }
+        × ArgsLowerable depth (now tree) at × Short (calleeOf callee) ⌝ }
     ensures { λ r. ⌜ Puts r (now (tree .entry)) (now (made .entry)) (now (tables .entry)) (now (known .entry)) (now (code .entry)) (now (code .exit)) n
         (exprsCode depth (countAt (now (tree .entry)) at) (now (tree .entry)) (slotNames (now (tree .entry)) (now (slots .entry))) (at + 2) ⨟ one (callInstr (calleeOf callee) (countAt (now (tree .entry)) at))) (listAt depth (now (tree .entry)) at .end) ⌝ }
 {
@@ -416,7 +416,7 @@ fn plain_method(
     n: u32,
 ) -> u64
     requires { ⌜ Known (now tree) (now slots) (now made) (now tables) (now known) × Room (now code) (now known) n
-        × MethodLowerable depth (now tree) (slotNames (now tree) (now slots)) at ⌝ }
+        × MethodLowerable depth (now tree) at ⌝ }
     ensures { λ r. ⌜ Puts r (now (tree .entry)) (now (made .entry)) (now (tables .entry)) (now (known .entry)) (now (code .entry)) (now (code .exit)) n
         (methodCode depth (now (tree .entry)) (slotNames (now (tree .entry)) (now (slots .entry))) at) (listAt depth (now (tree .entry)) (nameEnd (now (tree .entry)) (exprAt (depth - 1) (now (tree .entry)) at .end)) .end) ⌝ }
 {
@@ -464,7 +464,7 @@ fn put_constants(
     n: u32,
 ) -> u32
     requires { ⌜ Known (now tree) (now slots) (now made) (now tables) (now known) × Room (now code) (now known) n
-        × LowerableMany depth count (now tree) (slotNames (now tree) (now slots)) at ⌝ }
+        × LowerableMany depth count (now tree) at ⌝ }
     ensures { λ k. ⌜ (k ≤ count) × Rest depth (now (tree .entry)) (slotNames (now (tree .entry)) (now (slots .entry))) (now (made .entry)) (now (tables .entry)) (now (known .entry)) (now (code .entry)) count at n (now (code .exit)) (count - k) (at + k) (n + k) ⌝ }
 {
     let mut k: u32 = 0;

@@ -20,7 +20,7 @@ put-constants-spec = tie.close (tie.spec Inv-loop μ-loop
     (λ c. let start = c .before .before .before .before .before in (omega arith, rest-at (omega arith) (omega arith) (omega arith) (rest-all _ _ _ _ _ _ _ _ _ _ (start .pre .2) (start .pre .1))))
     (λ c. search needs)
     (λ c. let at-loop = c .before in let start = at-loop .before .before .before .before .before .before in omega (arith, at-loop .loop .inv .1 .elements .reads .start, start .pre .0 .tree-short))
-    (λ c. let at-loop-test = c .before in let at-loop = at-loop-test .before in arm-inside _ _ _ _ (rest-head _ _ _ _ _ _ _ _ _ _ _ _ _ _ (at-loop .loop .inv .1) (omega (arith, at-loop-test .loop-test .taken))))
+    (λ c. let at-loop-test = c .before in let at-loop = at-loop-test .before in arm-inside _ _ _ (rest-head _ _ _ _ _ _ _ _ _ _ _ _ _ _ (at-loop .loop .inv .1) (omega (arith, at-loop-test .loop-test .taken))))
     (λ c. let at-loop = c .before .before .before in at-loop .loop .inv .1 .kept)
     (λ c. let at-loop = c .before .before .before in at-loop .loop .inv)
     (λ c. search needs)

@@ -4,7 +4,8 @@ use native.Mathlib.Omega.{arith}
 use borrow.Author.Needs.{needs}
 use Rattle.state.specs.State.{slotNames}
 use Rattle.state.proofs.Answers.{emits-done}
-use Rattle.expressions.proofs.Elements.{Rest, rest-all, rest-ready, rest-next, rest-over, rest-done, more-view}
+use Rattle.plain.proofs.Elements.{more-view}
+use Rattle.expressions.proofs.Elements.{Rest, rest-all, rest-ready, rest-next, rest-over, rest-done}
 use Rattle.expressions.proofs.emit_expr.Reads as emit-expr
 use Rattle.expressions.proofs.emit_exprs.Reads as emit-exprs
 use Rattle.expressions.proofs.+emit_args+emit_attribute+emit_binary+emit_call+emit_closure+emit_display+emit_expr+emit_exprs+emit_function+emit_lambda+emit_logical+emit_method+emit_named+emit_shortcut+emit_two+emit_unary.Lts-emit_exprs as emit-exprs-lts

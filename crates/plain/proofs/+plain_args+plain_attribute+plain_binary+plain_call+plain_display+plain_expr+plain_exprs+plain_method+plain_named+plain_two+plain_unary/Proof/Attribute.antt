@@ -7,7 +7,7 @@ use Rattle.definitions.specs.Tables.{one, intern}
 use Rattle.parts.specs.Places.{nameEnd}
 use Rattle.state.specs.Words.{nameAt}
 use Rattle.code.proofs.Packing.{plain-above}
-use Rattle.known.proofs.Putting.{puts-none, puts-as, puts-next, room-then}
+use Rattle.known.proofs.Putting.{puts-stopped, puts-as, puts-next, room-then}
 use Rattle.plain.proofs.Arms.{there-at}
 use Rattle.plain.proofs.Putting.{short-name, puts-follow}
 use Rattle.plain.proofs.plain_attribute.Reads as plain-attribute
@@ -23,7 +23,7 @@ pub plain-attribute-ok : {M : Type 1} (t : ℕ) → plain-attribute-lts.Closed (
 plain-attribute-ok t = plain-attribute-lts.spec (plain-expr-below t, plain-expr.Post, position-reads.Asked, position-reads.Learnt, name-end-reads.Asked, name-end-reads.Learnt, words-reads.Asked, words-reads.Learnt, put-symbol-reads.Asked, put-symbol-reads.Learnt) (plain-attribute-at t) plain-attribute.Post
     (λ c κs. let start = c .before .before .before .before .before .before in (omega (arith, start .pre .0), (start .pre .1 .0, start .pre .1 .1, start .pre .1 .2 .object)))
     (λ c. let at-plain-expr = c .before .before .before in at-plain-expr .plain-expr .kept .1 .1 .1 .1 .1 .0)
-    (λ c. puts-none)
+    (λ c. let at-plain-expr = c .before .before .before in puts-stopped (at-plain-expr .plain-expr .ensures))
     (λ c κs. search needs)
     (λ c κs. let at-position = c in let at-if1 = at-position .before in let at-plain-expr = at-if1 .before .before .before in let start = at-plain-expr .before .before .before .before .before .before .before in there-at _ _ _ (puts-next (at-if1 .if1 .left) (at-position .position .ensures) (at-plain-expr .plain-expr .ensures)) (start .pre .1 .2 .name))
     (λ c κs. search needs)

@@ -6,7 +6,7 @@ use Rattle.definitions.specs.Instruction.{Build}
 use Rattle.definitions.specs.Tables.{one}
 use Rattle.parts.specs.Places.{countAt}
 use Rattle.code.proofs.Packing.{plain-above}
-use Rattle.known.proofs.Putting.{puts-none, puts-as, puts-next, room-then}
+use Rattle.known.proofs.Putting.{puts-stopped, puts-as, puts-next, room-then}
 use Rattle.plain.specs.Lowerable.{displayOf, heldOf}
 use Rattle.plain.proofs.Opcodes.{build-as}
 use Rattle.plain.proofs.Arms.{many-at}
@@ -27,9 +27,9 @@ plain-display-ok t = plain-display-lts.spec (u16-at-reads.Asked, u16-at-reads.Le
     (λ c κs. let start = c .before .before .before .before .before in start .pre .1 .2 .count)
     (λ c κs. let at-u16-at = c in at-u16-at .u16-at .ensures .1)
     (λ c. let start = c .before .before .before .before .before .before .before in omega (arith, start .pre .1 .2 .count .bytes, start .pre .1 .0 .tree-short))
-    (λ c κs. let at-held = c .before in let at-u16-at = at-held .before in let start = at-u16-at .before .before .before .before .before .before in let u = at-held .held .ensures ∙ ap (heldOf (start .args .kind)) (at-u16-at .u16-at .ensures .0) in (omega (arith, start .pre .0), (start .pre .1 .0, start .pre .1 .1, many-at _ _ _ _ _ _ _ u refl (start .pre .1 .2 .elements))))
+    (λ c κs. let at-held = c .before in let at-u16-at = at-held .before in let start = at-u16-at .before .before .before .before .before .before in let u = at-held .held .ensures ∙ ap (heldOf (start .args .kind)) (at-u16-at .u16-at .ensures .0) in (omega (arith, start .pre .0), (start .pre .1 .0, start .pre .1 .1, many-at _ _ _ _ _ _ u refl (start .pre .1 .2 .elements))))
     (λ c. let at-plain-exprs = c .before .before .before in at-plain-exprs .plain-exprs .kept .1 .1 .1 .1 .1 .1 .0)
-    (λ c. puts-none)
+    (λ c. let at-plain-exprs = c .before .before .before in puts-stopped (at-plain-exprs .plain-exprs .ensures))
     (λ c κs. let start = c .before .before .before .before .before .before .before .before .before .before .before .before in (start .pre .1 .2 .above, start .pre .1 .2 .below))
     (λ c κs. search needs)
     (λ c κs. search needs)

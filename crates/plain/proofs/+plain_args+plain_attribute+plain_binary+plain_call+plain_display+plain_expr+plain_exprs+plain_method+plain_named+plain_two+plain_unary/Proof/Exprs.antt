@@ -3,7 +3,7 @@ use mathlib.Core.Path.{_∙_}
 use native.Mathlib.Omega.{arith}
 use borrow.Author.Needs.{needs}
 use Rattle.state.specs.State.{slotNames}
-use Rattle.known.proofs.Putting.{puts-none}
+use Rattle.known.proofs.Putting.{puts-stopped}
 use Rattle.plain.specs.Rest.{Rest}
 use Rattle.plain.proofs.Putting.{rest-all, rest-both, rest-head, rest-next, rest-done}
 use Rattle.plain.proofs.plain_exprs.Reads as plain-exprs
@@ -34,7 +34,7 @@ plain-exprs-ok t = plain-exprs-lts.spec (put-constants-reads.Asked, put-constant
     (λ c. let at-placed = c in let at-if1 = at-placed .before in let at-put-constants = at-if1 .before .before .before in let at-loop = at-put-constants .before .before .before in let start = at-loop .before .before .before .before .before .before in let b = rest-both (at-loop .loop .inv) (at-put-constants .put-constants .ensures .1) in rest-done _ _ _ _ _ _ _ _ _ _ _ _ _ _ b _ (omega (arith, at-if1 .if1 .taken)) (omega (arith, b .elements .reads .start, start .pre .1 .0 .tree-short)) (at-placed .placed .ensures))
     (λ c κs. let at-if1 = c .before in let at-put-constants = at-if1 .before .before .before in let at-loop = at-put-constants .before .before .before in let start = at-loop .before .before .before .before .before .before in let b = rest-both (at-loop .loop .inv) (at-put-constants .put-constants .ensures .1) in (omega (arith, start .pre .0), (start .pre .1 .0, b .room, rest-head _ _ _ _ _ _ _ _ _ _ _ _ _ _ b (omega (arith, at-if1 .if1 .left)))))
     (λ c. let at-plain-expr = c .before .before .before in let at-put-constants = at-plain-expr .before .before .before .before .before in let at-loop = at-put-constants .before .before .before in let b = rest-both (at-loop .loop .inv) (at-put-constants .put-constants .ensures .1) in at-plain-expr .plain-expr .kept .1 .1 .1 .1 .1 .0 ∙ b .kept)
-    (λ c. puts-none)
+    (λ c. let at-plain-expr = c .before .before .before in let at-put-constants = at-plain-expr .before .before .before .before .before in let at-loop = at-put-constants .before .before .before in let b = rest-both (at-loop .loop .inv) (at-put-constants .put-constants .ensures .1) in b .whole 0 _ _ (puts-stopped (at-plain-expr .plain-expr .ensures)))
     (λ c κs. search needs)
     (λ c κs. search needs)
     (λ c. let at-if1 = c .before .before .before .before .before .before .before in omega (arith, at-if1 .if1 .left))

@@ -9,7 +9,7 @@ use Rattle.exprs.specs.ExprAt.{listAt}
 use Rattle.state.specs.Words.{nameAt}
 use Rattle.state.specs.State.{slotNames}
 use Rattle.code.proofs.Packing.{plain-above}
-use Rattle.known.proofs.Putting.{puts-none, puts-as, puts-next, room-then}
+use Rattle.known.proofs.Putting.{puts-stopped, puts-after, puts-as, puts-next, room-then}
 use Rattle.plain.specs.Lowerable.{exprsCode}
 use Rattle.plain.proofs.Arms.{many-at, there-at, counted-at}
 use Rattle.plain.proofs.Putting.{short-exprs, puts-follow, puts-many}
@@ -29,15 +29,15 @@ plain-method-ok t = plain-method-lts.spec (plain-expr-below t, plain-expr.Post, 
     (λ c. let start = c .before .before .before .before .before in omega (arith, start .pre .1 .2 .deep))
     (λ c κs. let start = c .before .before .before .before .before .before in (omega (arith, start .pre .0, start .pre .1 .2 .deep), (start .pre .1 .0, start .pre .1 .1, start .pre .1 .2 .callee .object)))
     (λ c. let at-plain-expr = c .before .before .before in at-plain-expr .plain-expr .kept .1 .1 .1 .1 .1 .0)
-    (λ c. puts-none)
+    (λ c. let at-plain-expr = c .before .before .before in puts-stopped (at-plain-expr .plain-expr .ensures))
     (λ c κs. search needs)
     (λ c κs. let at-position = c in let at-if1 = at-position .before in let at-plain-expr = at-if1 .before .before .before in let start = at-plain-expr .before .before .before .before .before .before .before in let n = puts-next (at-if1 .if1 .left) (at-position .position .ensures) (at-plain-expr .plain-expr .ensures) in there-at _ _ _ n (start .pre .1 .2 .callee .name))
     (λ c κs. let at-name-end = c in let at-position = at-name-end .before in let at-if1 = at-position .before in let at-plain-expr = at-if1 .before .before .before in let start = at-plain-expr .before .before .before .before .before .before .before in let n = puts-next (at-if1 .if1 .left) (at-position .position .ensures) (at-plain-expr .plain-expr .ensures) in let e = at-name-end .name-end .ensures ∙ ap (nameEnd (start .args .tree .now)) n in counted-at _ _ _ e (start .pre .1 .2 .args .count))
     (λ c. let at-name-end = c .before in let at-position = at-name-end .before in let at-if1 = at-position .before in let at-plain-expr = at-if1 .before .before .before in let start = at-plain-expr .before .before .before .before .before .before .before in let n = puts-next (at-if1 .if1 .left) (at-position .position .ensures) (at-plain-expr .plain-expr .ensures) in let e = at-name-end .name-end .ensures ∙ ap (nameEnd (start .args .tree .now)) n in let z = counted-at _ _ _ e (start .pre .1 .2 .args .count) in omega (arith, z .bytes, start .pre .1 .0 .tree-short))
     (λ c κs. search needs)
-    (λ c κs. let at-words = c .before in let at-u16-at = at-words .before in let at-name-end = at-u16-at .before in let at-position = at-name-end .before in let at-if1 = at-position .before in let at-plain-expr = at-if1 .before .before .before in let start = at-plain-expr .before .before .before .before .before .before .before in let n = puts-next (at-if1 .if1 .left) (at-position .position .ensures) (at-plain-expr .plain-expr .ensures) in let e = at-name-end .name-end .ensures ∙ ap (nameEnd (start .args .tree .now)) n in let u = at-u16-at .u16-at .ensures .0 ∙ ap (countAt (start .args .tree .now)) e in (omega (arith, start .pre .0), (start .pre .1 .0, room-then (start .pre .1 .1) (at-if1 .if1 .left) (at-words .words .ensures .0) (at-plain-expr .plain-expr .ensures) (at-plain-expr .plain-expr .kept .1 .1 .1 .1 .1 .0), many-at _ _ _ _ _ _ _ u (ap (λ (x : ℕ). x + 2) e) (start .pre .1 .2 .args .elements))))
+    (λ c κs. let at-words = c .before in let at-u16-at = at-words .before in let at-name-end = at-u16-at .before in let at-position = at-name-end .before in let at-if1 = at-position .before in let at-plain-expr = at-if1 .before .before .before in let start = at-plain-expr .before .before .before .before .before .before .before in let n = puts-next (at-if1 .if1 .left) (at-position .position .ensures) (at-plain-expr .plain-expr .ensures) in let e = at-name-end .name-end .ensures ∙ ap (nameEnd (start .args .tree .now)) n in let u = at-u16-at .u16-at .ensures .0 ∙ ap (countAt (start .args .tree .now)) e in (omega (arith, start .pre .0), (start .pre .1 .0, room-then (start .pre .1 .1) (at-if1 .if1 .left) (at-words .words .ensures .0) (at-plain-expr .plain-expr .ensures) (at-plain-expr .plain-expr .kept .1 .1 .1 .1 .1 .0), many-at _ _ _ _ _ _ u (ap (λ (x : ℕ). x + 2) e) (start .pre .1 .2 .args .elements))))
     (λ c. let at-plain-exprs = c .before .before .before in let at-plain-expr = at-plain-exprs .before .before .before .before .before .before .before .before .before in at-plain-exprs .plain-exprs .kept .1 .1 .1 .1 .1 .1 .0 ∙ at-plain-expr .plain-expr .kept .1 .1 .1 .1 .1 .0)
-    (λ c. puts-none)
+    (λ c. let at-plain-exprs = c .before .before .before in let at-words = at-plain-exprs .before .before in let at-position = at-words .before .before .before in let at-if1 = at-position .before in let at-plain-expr = at-if1 .before .before .before in puts-stopped (puts-after (at-if1 .if1 .left) (at-words .words .ensures .0) (at-plain-expr .plain-expr .ensures) (at-plain-exprs .plain-exprs .ensures)))
     (λ c κs. search needs)
     (λ c κs. search needs)
     (λ c κs. let at-words2 = c .before in let at-position2 = at-words2 .before in let at-if2 = at-position2 .before in let at-plain-exprs = at-if2 .before .before .before in let at-words = at-plain-exprs .before .before in let at-u16-at = at-words .before in let at-name-end = at-u16-at .before in let at-position = at-name-end .before in let at-if1 = at-position .before in let at-plain-expr = at-if1 .before .before .before in let start = at-plain-expr .before .before .before .before .before .before .before in let n = puts-next (at-if1 .if1 .left) (at-position .position .ensures) (at-plain-expr .plain-expr .ensures) in let e = at-name-end .name-end .ensures ∙ ap (nameEnd (start .args .tree .now)) n in let u = at-u16-at .u16-at .ensures .0 ∙ ap (countAt (start .args .tree .now)) e in let y = puts-many _ _ _ _ _ _ u (ap (λ (x : ℕ). x + 2) e) (at-plain-exprs .plain-exprs .ensures) in (start .pre .1 .0, room-then (room-then (start .pre .1 .1) (at-if1 .if1 .left) (at-words .words .ensures .0) (at-plain-expr .plain-expr .ensures) (at-plain-expr .plain-expr .kept .1 .1 .1 .1 .1 .0)) (at-if2 .if2 .left) (at-words2 .words2 .ensures .0) (y) (at-plain-exprs .plain-exprs .kept .1 .1 .1 .1 .1 .1 .0), short-exprs _ _ _ (start .pre .1 .0) (start .pre .1 .2 .args .elements .reads) (puts-next (at-if2 .if2 .left) (at-position2 .position2 .ensures) (y)), plain-above 35 0 _ (omega arith) (omega arith) (omega arith) (omega (arith, u, start .pre .1 .2 .args .few))))

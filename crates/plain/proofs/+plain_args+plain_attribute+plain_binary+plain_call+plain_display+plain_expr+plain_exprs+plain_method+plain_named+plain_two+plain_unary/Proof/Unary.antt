@@ -5,7 +5,7 @@ use borrow.Author.Needs.{needs}
 use Rattle.definitions.specs.Instruction.{instr}
 use Rattle.definitions.specs.Tables.{one, _⨟_}
 use Rattle.state.specs.State.{slotNames}
-use Rattle.known.proofs.Putting.{puts-none, puts-as, puts-next, room-then}
+use Rattle.known.proofs.Putting.{puts-stopped, puts-as, puts-next, room-then}
 use Rattle.plain.specs.Lowerable.{exprCode}
 use Rattle.plain.proofs.Putting.{short-expr, puts-follow}
 use Rattle.plain.proofs.plain_unary.Reads as plain-unary
@@ -24,7 +24,7 @@ plain-unary-ok t = plain-unary-lts.spec (unary-code-reads.Asked, unary-code-read
     (λ c. let start = c .before .before .before .before .before .before .before in omega (arith, start .pre .1 .2 .inside, start .pre .1 .0 .tree-short))
     (λ c κs. let start = c .before .before .before .before .before .before .before .before in (omega (arith, start .pre .0), (start .pre .1 .0, start .pre .1 .1, start .pre .1 .2 .operand)))
     (λ c. let at-plain-expr = c .before .before .before in at-plain-expr .plain-expr .kept .1 .1 .1 .1 .1 .0)
-    (λ c. puts-none)
+    (λ c. let at-plain-expr = c .before .before .before in puts-stopped (at-plain-expr .plain-expr .ensures))
     (λ c κs. search needs)
     (λ c κs. search needs)
     (λ c κs. let at-words = c .before in let at-position = at-words .before in let at-if1 = at-position .before in let at-plain-expr = at-if1 .before .before .before in let at-unary-code = at-plain-expr .before .before in let start = at-unary-code .before .before .before .before .before .before .before in (room-then (start .pre .1 .1) (at-if1 .if1 .left) (at-words .words .ensures .0) (at-plain-expr .plain-expr .ensures) (at-plain-expr .plain-expr .kept .1 .1 .1 .1 .1 .0), short-expr _ _ (start .pre .1 .0) (start .pre .1 .2 .operand .reads) (puts-next (at-if1 .if1 .left) (at-position .position .ensures) (at-plain-expr .plain-expr .ensures)), at-unary-code .unary-code .ensures .1))
