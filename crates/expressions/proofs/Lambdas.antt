@@ -38,9 +38,9 @@ use Rattle.names.proofs.Naming.{at-slot, at-load}
 use Rattle.names.specs.Made.{madeName}
 use Rattle.names.specs.declared.Made.the-variants.{Lambda}
 use Rattle.expressions.specs.Step.{Lowers, Ends}
-use Rattle.expressions.specs.Lowerable.{Lowerable, lambdaNames, lambdaCode, LambdaLowerable, closureCode, functionCode, ClosureLowerable, Held, CapturesHeld}
+use Rattle.plain.specs.Lowerable.{Lowerable, lambdaNames, lambdaCode, LambdaLowerable, closureCode, functionCode, ClosureLowerable, Held, CapturesHeld}
 use Rattle.expressions.proofs.Sequence.{lowers-as}
-use Rattle.expressions.proofs.Arms.{and-both, params-count}
+use Rattle.plain.proofs.Arms.{and-both, params-count}
 
 pub lambda-name : (n : ℕ) → madeName (Lambda n) ≡ lambdaName n
 unfolding madeName

@@ -1,9 +1,8 @@
 pub mod Sequence
-pub mod Opcodes
-pub mod Arms
 pub mod Literals
 pub mod Shortcuts
 pub mod Elements
 pub mod Calls
 pub mod Lambdas
 pub mod Collecting
+pub mod Tried

@@ -23,7 +23,7 @@ ghost use Rattle.state.specs.State.{namesAt, stateOf, emitAt, withTables, symbo
 ghost use Rattle.state.specs.Steps.{ended};
 ghost use Rattle.code.specs.Nesting.{begunWith, bodyOf, Begins};
 ghost use Rattle.expressions.specs.Step.{Lowers, Ends};
-ghost use Rattle.expressions.specs.Lowerable.{Held};
+ghost use Rattle.plain.specs.Lowerable.{Held};
 
 // The next function is a lambda with `locals` slots: its name's symbol, then its number.
 pub fn begin_lambda(

@@ -24,7 +24,7 @@ ghost use Rattle.state.specs.Words.{nameAt};
 ghost use Rattle.state.specs.State.{stateOf, Ready, Sound, Emits, emitAt, slotNames};
 ghost use Rattle.state.specs.Steps.{setAt};
 ghost use Rattle.expressions.specs.Step.{Lowers};
-ghost use Rattle.expressions.specs.Lowerable.{loadCallee, callInstr, Short};
+ghost use Rattle.plain.specs.Lowerable.{loadCallee, callInstr, Short};
 ghost use Rattle.names.specs.Calls.{calleeOf};
 
 // The literal whose kind byte is at `at`. An integer's or a float's bytes stay in the tree: a word keeps their place.

@@ -23,9 +23,9 @@ use Rattle.tree.specs.StmtAt.{exprStmtAt, returnAt, assignAt, bodyAt, elifsAt, 
 use Rattle.tree.proofs.StmtViews.{stmt-deep, stmt-inside, stmt-known, view-break, view-continue, view-pass, view-expr, view-return, view-assign, view-if, view-while, view-for, view-def, view-class}
 use Rattle.tree.proofs.StmtViews.{view-block, view-stmts-none, view-stmts-more, view-branches-more, else-inside, else-known, view-done, view-else, view-methods-none, view-methods-more}
 use Rattle.state.specs.Words.{nameAt}
-use Rattle.expressions.specs.Lowerable.{Lowerable, exprCode}
+use Rattle.plain.specs.Lowerable.{Lowerable, exprCode}
 use Rattle.targets.specs.Assigned.{AssignLowerable, assignCode}
-use Rattle.expressions.proofs.Arms.{and-both, name-same, params-count}
+use Rattle.plain.proofs.Arms.{and-both, name-same, params-count}
 use Rattle.statements.specs.Lowering.{StmtLowerable, BlockLowerable, StmtsLowerable, stmtCode, blockCode, stmtsCode, BranchLowerable, BranchesLowerable, IfLowerable, ForLowerable, localsAt, FunctionLowerable, endOf, functionCode, MethodsLowerable, ClassLowerable, classCode}
 
 few-params : (t : List ℕ) (p : ℕ) → askParams 13 (paramsAt t p .value) ≡ true → countAt t p ≤ 255

@@ -25,7 +25,7 @@ use Rattle.state.proofs.Within.{within-one}
 use Rattle.state.proofs.Answers.{emits-done, emits-as, done-emits, left-none, left-as}
 use Rattle.code.specs.Ops.{special, Plain}
 use Rattle.frames.proofs.Answering.{next-emits}
-use Rattle.expressions.specs.Lowerable.{exprCode}
+use Rattle.plain.specs.Lowerable.{exprCode}
 use Rattle.targets.proofs.Unpacking.{plain-of}
 use Rattle.statements.specs.Lowering.{Sole, endOf, blockCode, StmtLowerable, StmtsLowerable, BlockLowerable, BranchesLowerable}
 

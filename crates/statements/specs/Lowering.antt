@@ -19,7 +19,7 @@ use Rattle.state.specs.Words.{nameAt}
 use Rattle.state.specs.State.{Sound}
 use Rattle.state.specs.declared.Counts.{Counts}
 use Rattle.state.specs.declared.Limits.{Limits}
-use Rattle.expressions.specs.Lowerable.{Lowerable}
+use Rattle.plain.specs.Lowerable.{Lowerable}
 
 -- what a step without slots asks: a short tree, sound slices
 pub record Sole (tree made code tables : List ℕ) (c : Counts) (l : Limits) : Type 0 where

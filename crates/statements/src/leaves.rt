@@ -23,7 +23,7 @@ ghost use Rattle.state.specs.Words.{nameAt};
 ghost use Rattle.state.specs.State.{stateOf, emitAt, Sound, Ready, Emits, slotNames};
 ghost use Rattle.code.specs.Ops.{Plain};
 ghost use Rattle.expressions.specs.Step.{Lowers};
-ghost use Rattle.expressions.specs.Lowerable.{Lowerable, exprCode};
+ghost use Rattle.plain.specs.Lowerable.{Lowerable, exprCode};
 ghost use Rattle.statements.specs.Lowering.{StmtLowerable, stmtCode, endOf};
 
 // An expression, and the instruction that takes its value.

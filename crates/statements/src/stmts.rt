@@ -41,7 +41,7 @@ ghost use Rattle.state.specs.Words.{nameAt};
 ghost use Rattle.state.specs.State.{stateOf, emitAt, Sound, Ready, Emits, slotNames};
 ghost use Rattle.state.specs.Steps.{branch, chainAt, methodFunction, methodsAt, methodsOf};
 ghost use Rattle.expressions.specs.Step.{Lowers};
-ghost use Rattle.expressions.specs.Lowerable.{Lowerable, exprCode};
+ghost use Rattle.plain.specs.Lowerable.{Lowerable, exprCode};
 ghost use Rattle.statements.specs.Lowering.{Sole, StmtLowerable, BlockLowerable, stmtCode, blockCode, BranchLowerable, BranchesLowerable, IfLowerable, ForLowerable, FunctionLowerable, functionCode, endOf, MethodsLowerable, ClassLowerable, classCode};
 ghost use Rattle.statements.specs.Compiled.{Compiles, Lists};
 

@@ -22,8 +22,8 @@ use Rattle.state.specs.declared.Limits.{Limits}
 use Rattle.state.specs.declared.Emitted.{Emitted}
 use Rattle.state.proofs.Answers.{emits-as}
 use Rattle.state.proofs.Emission.{base-kept, at-seq, at-three, at-four}
-use Rattle.expressions.specs.Lowerable.{Lowerable, exprCode}
-use Rattle.expressions.proofs.Arms.{and-both}
+use Rattle.plain.specs.Lowerable.{Lowerable, exprCode}
+use Rattle.plain.proofs.Arms.{and-both}
 use Rattle.targets.specs.Elements.{elementsAt}
 use Rattle.targets.specs.Assigned.{AssignLowerable, assignCode, VariableAssigned, AttributeAssigned, PairLowerable, IndexAssigned, TupleAssigned}
 use Rattle.targets.proofs.Forms.{other-form}

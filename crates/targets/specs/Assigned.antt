@@ -10,7 +10,7 @@ use Rattle.definitions.specs.Wellformed.{askExpr}
 use Rattle.definitions.specs.Lower.{assignBy}
 use Rattle.parts.specs.Places.{There, nameEnd}
 use Rattle.exprs.specs.ExprAt.{exprAt, ExprReads, ListAt, secondAt}
-use Rattle.expressions.specs.Lowerable.{Lowerable, exprCode}
+use Rattle.plain.specs.Lowerable.{Lowerable, exprCode}
 
 pub record AssignLowerable (d : ℕ) (t : List ℕ) (p : ℕ) : Type 0 where
   pub target : ExprReads d t p

@@ -21,7 +21,7 @@ ghost use Rattle.exprs.specs.ExprAt.{exprAt, secondAt};
 ghost use Rattle.state.specs.Words.{nameAt};
 ghost use Rattle.state.specs.State.{Ready, slotNames};
 ghost use Rattle.expressions.specs.Step.{Lowers};
-ghost use Rattle.expressions.specs.Lowerable.{Lowerable, exprCode};
+ghost use Rattle.plain.specs.Lowerable.{Lowerable, exprCode};
 ghost use Rattle.targets.specs.Elements.{elementsAt};
 ghost use Rattle.targets.specs.Assigned.{AssignLowerable, assignCode, VariableAssigned, AttributeAssigned, PairLowerable, IndexAssigned, TupleAssigned};
 

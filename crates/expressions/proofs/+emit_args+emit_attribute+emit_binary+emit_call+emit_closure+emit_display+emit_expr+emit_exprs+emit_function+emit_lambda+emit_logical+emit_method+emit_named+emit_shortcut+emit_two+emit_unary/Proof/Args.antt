@@ -7,9 +7,9 @@ use Rattle.parts.specs.Places.{countAt}
 use Rattle.state.proofs.Answers.{emits-done}
 use Rattle.state.proofs.Growth.{lengthens-one}
 use Rattle.names.specs.Calls.{calleeOf}
-use Rattle.expressions.specs.Lowerable.{callInstr}
+use Rattle.plain.specs.Lowerable.{callInstr}
 use Rattle.expressions.proofs.Sequence.{lowers-as, then-lowers, full-lowers}
-use Rattle.expressions.proofs.Arms.{many-at}
+use Rattle.plain.proofs.Arms.{many-at}
 use Rattle.expressions.proofs.Elements.{many-as}
 use Rattle.expressions.proofs.emit_args.Reads as emit-args
 use Rattle.expressions.proofs.emit_exprs.Reads as emit-exprs

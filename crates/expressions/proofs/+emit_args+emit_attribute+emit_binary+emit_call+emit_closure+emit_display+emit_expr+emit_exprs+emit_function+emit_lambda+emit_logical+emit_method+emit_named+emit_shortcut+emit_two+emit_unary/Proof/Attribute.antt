@@ -10,7 +10,7 @@ use Rattle.state.proofs.Answers.{emits-done}
 use Rattle.state.proofs.Growth.{lengthens-one, lengthens-intern}
 use Rattle.code.proofs.Packing.{plain-above}
 use Rattle.expressions.proofs.Sequence.{lowers-as, then-lowers, full-lowers}
-use Rattle.expressions.proofs.Arms.{there-at}
+use Rattle.plain.proofs.Arms.{there-at}
 use Rattle.expressions.proofs.emit_attribute.Reads as emit-attribute
 use Rattle.expressions.proofs.emit_expr.Reads as emit-expr
 use Rattle.expressions.proofs.+emit_args+emit_attribute+emit_binary+emit_call+emit_closure+emit_display+emit_expr+emit_exprs+emit_function+emit_lambda+emit_logical+emit_method+emit_named+emit_shortcut+emit_two+emit_unary.Lts-emit_attribute as emit-attribute-lts

@@ -2,12 +2,12 @@ use Prim.Native.Nat.{ℕ}
 use mathlib.Core.Path.{refl}
 use native.Mathlib.Omega.{arith}
 use Rattle.expressions.proofs.Sequence.{lowers-as}
-use Rattle.expressions.proofs.Arms.{low-code, logical-code}
+use Rattle.plain.proofs.Arms.{low-code, logical-code}
 use Rattle.expressions.proofs.emit_binary.Reads as emit-binary
 use Rattle.expressions.proofs.emit_logical.Reads as emit-logical
 use Rattle.expressions.proofs.emit_two.Reads as emit-two
 use Rattle.expressions.proofs.+emit_args+emit_attribute+emit_binary+emit_call+emit_closure+emit_display+emit_expr+emit_exprs+emit_function+emit_lambda+emit_logical+emit_method+emit_named+emit_shortcut+emit_two+emit_unary.Lts-emit_binary as emit-binary-lts
-use Rattle.expressions.proofs.codes.binary_code.Reads as binary-code-reads
+use Rattle.plain.proofs.codes.binary_code.Reads as binary-code-reads
 use Rattle.expressions.proofs.+emit_args+emit_attribute+emit_binary+emit_call+emit_closure+emit_display+emit_expr+emit_exprs+emit_function+emit_lambda+emit_logical+emit_method+emit_named+emit_shortcut+emit_two+emit_unary.Proof.Common.{emit-binary-at, emit-logical-below, emit-two-below}
 
 pub emit-binary-ok : {M : Type 1} (t : ℕ) → emit-binary-lts.Closed (binary-code-reads.Asked, binary-code-reads.Learnt, emit-two-below t, emit-two.Post, emit-logical-below t, emit-logical.Post) (emit-binary-at t) emit-binary.Post M

@@ -10,10 +10,11 @@ use Rattle.state.proofs.Answers.{emits-done, ready-again}
 use Rattle.state.proofs.Growth.{lengthens-one, lengthens-seq, lengthens-exprs}
 use Rattle.names.specs.Calls.{calleeOf}
 use Rattle.names.specs.declared.Callee.the-variants.{Value}
-use Rattle.expressions.specs.Lowerable.{exprsCode, callInstr}
+use Rattle.plain.specs.Lowerable.{exprsCode, callInstr}
 use Rattle.expressions.proofs.Sequence.{lowers-as, then-lowers, full-lowers}
-use Rattle.expressions.proofs.Arms.{arm-inside, args-at}
-use Rattle.expressions.proofs.Calls.{call-named, call-method, call-value, value-short}
+use Rattle.plain.proofs.Arms.{arm-inside, args-at}
+use Rattle.plain.proofs.Calls.{call-named, call-method}
+use Rattle.expressions.proofs.Calls.{call-value, value-short}
 use Rattle.expressions.proofs.emit_args.Reads as emit-args
 use Rattle.expressions.proofs.emit_call.Reads as emit-call
 use Rattle.expressions.proofs.emit_expr.Reads as emit-expr

@@ -8,16 +8,16 @@ use Rattle.parts.specs.Places.{countAt}
 use Rattle.state.proofs.Answers.{emits-done}
 use Rattle.state.proofs.Growth.{lengthens-one}
 use Rattle.code.proofs.Packing.{plain-above}
-use Rattle.expressions.specs.Lowerable.{displayOf, heldOf}
+use Rattle.plain.specs.Lowerable.{displayOf, heldOf}
 use Rattle.expressions.proofs.Sequence.{lowers-as, then-lowers, full-lowers}
-use Rattle.expressions.proofs.Opcodes.{build-as}
-use Rattle.expressions.proofs.Arms.{many-at}
+use Rattle.plain.proofs.Opcodes.{build-as}
+use Rattle.plain.proofs.Arms.{many-at}
 use Rattle.expressions.proofs.Elements.{many-as}
 use Rattle.expressions.proofs.emit_display.Reads as emit-display
 use Rattle.expressions.proofs.emit_exprs.Reads as emit-exprs
 use Rattle.expressions.proofs.+emit_args+emit_attribute+emit_binary+emit_call+emit_closure+emit_display+emit_expr+emit_exprs+emit_function+emit_lambda+emit_logical+emit_method+emit_named+emit_shortcut+emit_two+emit_unary.Lts-emit_display as emit-display-lts
-use Rattle.expressions.proofs.codes.build_code.Reads as build-code-reads
-use Rattle.expressions.proofs.codes.held.Reads as held-reads
+use Rattle.plain.proofs.codes.build_code.Reads as build-code-reads
+use Rattle.plain.proofs.codes.held.Reads as held-reads
 use Rattle.code.proofs.put_op.Reads as put-op-reads
 use Rattle.parts.proofs.numbers.u16_at.Reads as u16-at-reads
 use Rattle.expressions.proofs.+emit_args+emit_attribute+emit_binary+emit_call+emit_closure+emit_display+emit_expr+emit_exprs+emit_function+emit_lambda+emit_logical+emit_method+emit_named+emit_shortcut+emit_two+emit_unary.Proof.Common.{emit-display-at, emit-exprs-below}

@@ -4,7 +4,7 @@ use native.Mathlib.Omega.{arith}
 use Rattle.exprs.proofs.ExprViews.{expr-known}
 use Rattle.code.proofs.Packing.{plain-above}
 use Rattle.expressions.proofs.Sequence.{lowers-as}
-use Rattle.expressions.proofs.Arms.{arm-deep, arm-inside, arm-literal, arm-variable, arm-unary, arm-binary, arm-call, arm-attribute, arm-index, arm-display, arm-lambda, lit-code, display-kinds}
+use Rattle.plain.proofs.Arms.{arm-deep, arm-inside, arm-literal, arm-variable, arm-unary, arm-binary, arm-call, arm-attribute, arm-index, arm-display, arm-lambda, lit-code, display-kinds}
 use Rattle.expressions.proofs.emit_attribute.Reads as emit-attribute
 use Rattle.expressions.proofs.emit_binary.Reads as emit-binary
 use Rattle.expressions.proofs.emit_call.Reads as emit-call

@@ -8,9 +8,9 @@ use Rattle.exprs.specs.ExprAt.{exprAt}
 use Rattle.state.specs.State.{slotNames}
 use Rattle.state.proofs.Answers.{emits-done, ready-again}
 use Rattle.state.proofs.Growth.{lengthens-expr, lengthens-shortcut}
-use Rattle.expressions.specs.Lowerable.{exprCode}
+use Rattle.plain.specs.Lowerable.{exprCode}
 use Rattle.expressions.proofs.Sequence.{then-lowers, full-lowers}
-use Rattle.expressions.proofs.Arms.{lowerable-at}
+use Rattle.plain.proofs.Arms.{lowerable-at}
 use Rattle.expressions.proofs.emit_expr.Reads as emit-expr
 use Rattle.expressions.proofs.emit_logical.Reads as emit-logical
 use Rattle.expressions.proofs.emit_shortcut.Reads as emit-shortcut

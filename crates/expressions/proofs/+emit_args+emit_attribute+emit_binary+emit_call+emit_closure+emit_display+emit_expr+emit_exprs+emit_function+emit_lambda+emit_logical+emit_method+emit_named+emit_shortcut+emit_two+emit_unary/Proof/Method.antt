@@ -11,9 +11,9 @@ use Rattle.state.specs.State.{slotNames}
 use Rattle.state.proofs.Answers.{emits-done, ready-again}
 use Rattle.state.proofs.Growth.{lengthens-one, lengthens-seq, lengthens-exprs, lengthens-intern}
 use Rattle.code.proofs.Packing.{plain-above}
-use Rattle.expressions.specs.Lowerable.{exprsCode}
+use Rattle.plain.specs.Lowerable.{exprsCode}
 use Rattle.expressions.proofs.Sequence.{lowers-as, then-lowers, full-lowers}
-use Rattle.expressions.proofs.Arms.{many-at, there-at, counted-at}
+use Rattle.plain.proofs.Arms.{many-at, there-at, counted-at}
 use Rattle.expressions.proofs.Elements.{many-as}
 use Rattle.expressions.proofs.emit_expr.Reads as emit-expr
 use Rattle.expressions.proofs.emit_exprs.Reads as emit-exprs

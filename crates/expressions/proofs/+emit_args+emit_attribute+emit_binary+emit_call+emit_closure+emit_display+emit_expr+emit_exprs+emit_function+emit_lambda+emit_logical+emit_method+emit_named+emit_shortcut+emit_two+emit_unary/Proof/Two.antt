@@ -8,9 +8,9 @@ use Rattle.exprs.specs.ExprAt.{exprAt}
 use Rattle.state.specs.State.{slotNames}
 use Rattle.state.proofs.Answers.{emits-done, ready-again}
 use Rattle.state.proofs.Growth.{lengthens-one, lengthens-seq, lengthens-expr}
-use Rattle.expressions.specs.Lowerable.{exprCode}
+use Rattle.plain.specs.Lowerable.{exprCode}
 use Rattle.expressions.proofs.Sequence.{then-lowers, full-lowers}
-use Rattle.expressions.proofs.Arms.{lowerable-at}
+use Rattle.plain.proofs.Arms.{lowerable-at}
 use Rattle.expressions.proofs.emit_expr.Reads as emit-expr
 use Rattle.expressions.proofs.emit_two.Reads as emit-two
 use Rattle.expressions.proofs.+emit_args+emit_attribute+emit_binary+emit_call+emit_closure+emit_display+emit_expr+emit_exprs+emit_function+emit_lambda+emit_logical+emit_method+emit_named+emit_shortcut+emit_two+emit_unary.Lts-emit_two as emit-two-lts

@@ -7,13 +7,13 @@ use Rattle.definitions.specs.Tables.{one, _⨟_}
 use Rattle.state.specs.State.{slotNames}
 use Rattle.state.proofs.Answers.{emits-done}
 use Rattle.state.proofs.Growth.{lengthens-one}
-use Rattle.expressions.specs.Lowerable.{exprCode}
+use Rattle.plain.specs.Lowerable.{exprCode}
 use Rattle.expressions.proofs.Sequence.{lowers-as, then-lowers, full-lowers}
 use Rattle.expressions.proofs.emit_expr.Reads as emit-expr
 use Rattle.expressions.proofs.emit_unary.Reads as emit-unary
 use Rattle.expressions.proofs.+emit_args+emit_attribute+emit_binary+emit_call+emit_closure+emit_display+emit_expr+emit_exprs+emit_function+emit_lambda+emit_logical+emit_method+emit_named+emit_shortcut+emit_two+emit_unary.Lts-emit_unary as emit-unary-lts
 use Rattle.code.proofs.put_op.Reads as put-op-reads
-use Rattle.expressions.proofs.codes.unary_code.Reads as unary-code-reads
+use Rattle.plain.proofs.codes.unary_code.Reads as unary-code-reads
 use Rattle.expressions.proofs.+emit_args+emit_attribute+emit_binary+emit_call+emit_closure+emit_display+emit_expr+emit_exprs+emit_function+emit_lambda+emit_logical+emit_method+emit_named+emit_shortcut+emit_two+emit_unary.Proof.Common.{emit-unary-at, emit-expr-below}
 
 pub emit-unary-ok : {M : Type 1} (t : ℕ) → emit-unary-lts.Closed (unary-code-reads.Asked, unary-code-reads.Learnt, emit-expr-below t, emit-expr.Post, put-op-reads.Asked, put-op-reads.Learnt) (emit-unary-at t) emit-unary.Post M

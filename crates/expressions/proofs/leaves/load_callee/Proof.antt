@@ -1,7 +1,7 @@
 use mathlib.Core.Path.{refl}
 use borrow.Author.Needs.{needs}
 use Rattle.expressions.proofs.Sequence.{lowers-as, nothing-lowers}
-use Rattle.expressions.proofs.Calls.{builtin-load, function-load, value-load}
+use Rattle.plain.proofs.Calls.{builtin-load, function-load, value-load}
 use Rattle.expressions.proofs.leaves.load_callee.Statement.{statement}
 use Rattle.expressions.proofs.leaves.load_callee.Tie as tie
 

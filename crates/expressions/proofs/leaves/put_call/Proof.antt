@@ -3,7 +3,7 @@ use native.Mathlib.Omega.{arith}
 use borrow.Author.Needs.{needs}
 use Rattle.code.proofs.Packing.{plain-above}
 use Rattle.expressions.proofs.Sequence.{lowers-as}
-use Rattle.expressions.proofs.Calls.{builtin-short, function-short, builtin-instr, function-instr, value-instr}
+use Rattle.plain.proofs.Calls.{builtin-short, function-short, builtin-instr, function-instr, value-instr}
 use Rattle.expressions.proofs.leaves.put_call.Statement.{statement}
 use Rattle.expressions.proofs.leaves.put_call.Tie as tie
 

@@ -2,7 +2,7 @@ use native.Mathlib.Omega.{arith}
 use Rattle.state.proofs.Growth.{lengthens-unpack}
 use Rattle.state.proofs.Answers.{ready-again}
 use Rattle.frames.proofs.Answering.{done-left, done-same, first-full}
-use Rattle.expressions.proofs.Arms.{lowerable-at}
+use Rattle.plain.proofs.Arms.{lowerable-at}
 use Rattle.targets.proofs.Unpacking.{tuple-read, count-emits}
 use Rattle.targets.proofs.Assigning.{expr-emits-at}
 use borrow.Author.Needs.{needs}

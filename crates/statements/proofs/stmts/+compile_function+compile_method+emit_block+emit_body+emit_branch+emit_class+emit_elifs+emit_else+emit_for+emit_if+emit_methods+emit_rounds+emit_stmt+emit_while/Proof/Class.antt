@@ -4,7 +4,7 @@ use native.Mathlib.Omega.{arith}
 use borrow.Author.Needs.{needs}
 use Rattle.parts.specs.Places.{countAt}
 use Rattle.state.proofs.Answers.{full-emits, numbers-at, numbers-over}
-use Rattle.expressions.proofs.Arms.{counted-at}
+use Rattle.plain.proofs.Arms.{counted-at}
 use Rattle.statements.proofs.Sequences.{sole-with}
 use Rattle.statements.proofs.Classes.{lists-all, lists-over, lists-at, methods-at, class-methods-within, class-number, class-room, class-constants, class-emits, class-begin-within}
 use Rattle.statements.proofs.stmts.emit_class.Reads as emit-class

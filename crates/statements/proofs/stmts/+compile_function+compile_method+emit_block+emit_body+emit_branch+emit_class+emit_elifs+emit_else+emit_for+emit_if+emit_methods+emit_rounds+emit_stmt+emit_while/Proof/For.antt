@@ -8,7 +8,7 @@ use Rattle.state.specs.Words.{nameAt}
 use Rattle.state.specs.State.{slotNames}
 use Rattle.state.proofs.Answers.{emits-done, full-emits, numbers-at, numbers-over, base-below}
 use Rattle.frames.proofs.Answering.{done-left, full-by}
-use Rattle.expressions.proofs.Arms.{lowerable-at}
+use Rattle.plain.proofs.Arms.{lowerable-at}
 use Rattle.statements.proofs.Sequences.{ready-with, block-at, iterable-emits-at}
 use Rattle.statements.proofs.Jumping.{for-within, for-small, for-emits, iterable-within}
 use Rattle.statements.proofs.stmts.emit_for.Reads as emit-for

@@ -6,7 +6,7 @@ use Rattle.parts.specs.Places.{countAt, nameEnd, paramsAt}
 use Rattle.tree.specs.StmtAt.{defBlockAt}
 use Rattle.state.proofs.Answers.{emits-done, emits-full}
 use Rattle.frames.proofs.Answering.{done-left}
-use Rattle.expressions.proofs.Arms.{params-count}
+use Rattle.plain.proofs.Arms.{params-count}
 use Rattle.expressions.proofs.Collecting.{collected-over}
 use Rattle.statements.specs.Lowering.{localsAt, endOf}
 use Rattle.statements.proofs.Sequences.{block-at, params-at}

@@ -7,7 +7,7 @@ use Rattle.tree.specs.StmtAt.{branchesAt}
 use Rattle.state.proofs.WithinParts.{within-if}
 use Rattle.state.proofs.Answers.{emits-done, ready-again, base-below}
 use Rattle.frames.proofs.Answering.{done-left, full-by}
-use Rattle.expressions.proofs.Arms.{counted-at}
+use Rattle.plain.proofs.Arms.{counted-at}
 use Rattle.statements.proofs.Sequences.{elifs-at}
 use Rattle.statements.proofs.Jumping.{if-some, if-emits}
 use Rattle.statements.proofs.stmts.emit_branch.Reads as emit-branch
