@@ -1,7 +1,7 @@
 // What the lowering keeps in the slices lent to it: counts, limits, and what a step answers.
 
 // How much of each table is used, and of the two halves of the code area: `open` words of functions not done yet, of which the innermost begins at
-// `base`, and `done` words of finished ones.
+// `base`, and `done` words of finished ones. `open` changes with every word: the eight before it are copied whole.
 pub struct Counts {
     pub symbols: u32,
     pub strings: u32,
@@ -10,8 +10,8 @@ pub struct Counts {
     pub methods: u32,
     pub constants: u32,
     pub made: u32,
-    pub open: u32,
     pub base: u32,
+    pub open: u32,
     pub done: u32,
 }
 
