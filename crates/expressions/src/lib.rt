@@ -25,7 +25,7 @@ use plain::codes::binary_code;
 use plain::codes::build_code;
 use plain::codes::held;
 use plain::codes::unary_code;
-use plain::plain_exprs;
+use plain::outer::outer_exprs;
 use slots::Locals;
 use slots::captures::lambda_slots;
 use slots::skip::skip_params;
@@ -109,7 +109,7 @@ fn emit_exprs(
         c.classes,
         l.instructions - c.done,
     ];
-    let r = plain_exprs(
+    let r = outer_exprs(
         tree,
         at,
         depth,
