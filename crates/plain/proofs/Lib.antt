@@ -5,3 +5,4 @@ pub mod Calls
 pub mod Constants
 pub mod Putting
 pub mod Bridge
+pub mod Shortcuts

@@ -1,2 +1,3 @@
 pub mod Lowerable
 pub mod Rest
+pub mod Shortcut

@@ -22,9 +22,10 @@ use parts::names::name_end;
 use parts::numbers::u16_at;
 ghost use Prim.Native.Nat.{_+_, _-_, _<_, _≤_};
 ghost use lib.ListN.{getD};
+ghost use lib.Dec.{eqb};
 ghost use Rattle.definitions.specs.Instruction.{instr, Build, LoadAttr};
 ghost use Rattle.definitions.specs.Tables.{one, _⨟_, intern};
-ghost use Rattle.definitions.specs.Lower.{emitExpr};
+ghost use Rattle.definitions.specs.Lower.{shortcut, emitExpr};
 ghost use Rattle.definitions.specs.Tree.{call, var};
 ghost use Rattle.parts.specs.Places.{countAt, nameEnd};
 ghost use Rattle.exprs.specs.ExprAt.{exprAt, exprsAt, secondAt, listAt, binaryOf};
@@ -35,8 +36,9 @@ ghost use Rattle.names.specs.Calls.{calleeOf};
 ghost use Rattle.known.specs.Puts.{Known, Room, Puts};
 ghost use Rattle.plain.specs.Lowerable.{Lowerable, LowerableMany, exprCode, exprsCode, UnaryLowerable, TwoLowerable, BinaryLowerable, unaryOpcode, ArgsLowerable, CallLowerable, NamedLowerable, AttributeLowerable, MethodLowerable, methodCode, callInstr, loadCallee, displayOf, heldOf, DisplayLowerable, Short};
 ghost use Rattle.plain.specs.Rest.{Rest};
+ghost use Rattle.plain.specs.Shortcut.{ShortcutEnds};
 
-// The expression at `at`, with `depth` levels left; 0 for a lambda, and for `and` and `or`.
+// The expression at `at`, with `depth` levels left; 0 for a lambda.
 pub fn plain_expr(
     tree: &[u8],
     at: usize,
@@ -172,7 +174,80 @@ fn plain_binary(
             n,
         );
     }
-    0
+    let op = 17 + operator as u32;
+    plain_logical(tree, at + 1, depth, op, slots, made, code, tables, known, n)
+}
+
+// `and` (op 29, JumpIfFalse) or `or` (op 30, JumpIfTrue): its two sides.
+fn plain_logical(
+    tree: &[u8],
+    at: usize,
+    depth: u32,
+    op: u32,
+    slots: &[u32],
+    made: &[u8],
+    code: &mut [u32],
+    tables: &[u32],
+    known: &[u32; 5],
+    n: u32,
+) -> u64
+    requires { ⌜ Known (now tree) (now slots) (now made) (now tables) (now known) × Room (now code) (now known) n
+        × TwoLowerable depth (now tree) at × (29 ≤ op) × (op ≤ 30) ⌝ }
+    ensures { λ r. ⌜ Puts r (now (tree .entry)) (now (made .entry)) (now (tables .entry)) (now (known .entry)) (now (code .entry)) (now (code .exit)) n
+        (exprCode depth (now (tree .entry)) (slotNames (now (tree .entry)) (now (slots .entry))) at ⨟ shortcut (eqb op 30) (exprCode depth (now (tree .entry)) (slotNames (now (tree .entry)) (now (slots .entry))) (exprAt depth (now (tree .entry)) at .end))) (secondAt depth (now (tree .entry)) at .end) ⌝ }
+{
+    let left = plain_expr(tree, at, depth, slots, made, code, tables, known, n);
+    if left == 0 {
+        return 0;
+    }
+    let middle = position(left);
+    let m = words(left);
+    plain_shortcut(tree, middle, depth, op, slots, made, code, tables, known, m)
+}
+
+// The right side of `and` or `or`, which a jump passes on the short way.
+fn plain_shortcut(
+    tree: &[u8],
+    at: usize,
+    depth: u32,
+    op: u32,
+    slots: &[u32],
+    made: &[u8],
+    code: &mut [u32],
+    tables: &[u32],
+    known: &[u32; 5],
+    n: u32,
+) -> u64
+    requires { ⌜ Known (now tree) (now slots) (now made) (now tables) (now known) × Room (now code) (now known) n
+        × Lowerable depth (now tree) at × (29 ≤ op) × (op ≤ 30) ⌝ }
+    ensures { λ r. ⌜ Puts r (now (tree .entry)) (now (made .entry)) (now (tables .entry)) (now (known .entry)) (now (code .entry)) (now (code .exit)) n
+        (shortcut (eqb op 30) (exprCode depth (now (tree .entry)) (slotNames (now (tree .entry)) (now (slots .entry))) at)) (exprAt depth (now (tree .entry)) at .end) ⌝ }
+{
+    if known[4] <= n {
+        return 0;
+    }
+    let first = n + 1;
+    let right = plain_expr(tree, at, depth, slots, made, code, tables, known, first);
+    if right == 0 {
+        return 0;
+    }
+    let next = position(right);
+    let m = words(right);
+    end_shortcut(code, known, op, n, next, m)
+}
+
+// After a right side that ends at m words: a jump over the constant, the constant, and at n the jump to it.
+fn end_shortcut(code: &mut [u32], known: &[u32; 5], op: u32, n: u32, next: usize, m: u32) -> u64
+    requires { ⌜ Room (now code) (now known) m × (n < m) × (next < 65536) × (29 ≤ op) × (op ≤ 30) ⌝ }
+    ensures { λ r. ⌜ ShortcutEnds r (now (known .entry)) (now (code .entry)) (now (code .exit)) op n next m ⌝ }
+{
+    if known[4] <= m + 1 {
+        return 0;
+    }
+    code[m as usize] = packed(28, 1, 0);
+    code[m as usize + 1] = packed(33 - op, 0, 0);
+    code[n as usize] = packed(op, m - n, 0);
+    placed(next, m + 2)
 }
 
 // So many expressions, one after the other.

@@ -14,8 +14,8 @@ use Rattle.plain.proofs.plain_expr.Reads as plain-expr
 use Rattle.known.proofs.position.Reads as position-reads
 use Rattle.known.proofs.words.Reads as words-reads
 use Rattle.known.proofs.put_op.Reads as put-op-reads
-use Rattle.plain.proofs.+plain_args+plain_attribute+plain_binary+plain_call+plain_display+plain_expr+plain_exprs+plain_method+plain_named+plain_two+plain_unary.Lts-plain_unary as plain-unary-lts
-use Rattle.plain.proofs.+plain_args+plain_attribute+plain_binary+plain_call+plain_display+plain_expr+plain_exprs+plain_method+plain_named+plain_two+plain_unary.Proof.Common.{plain-unary-at, plain-expr-below}
+use Rattle.plain.proofs.+plain_args+plain_attribute+plain_binary+plain_call+plain_display+plain_expr+plain_exprs+plain_logical+plain_method+plain_named+plain_shortcut+plain_two+plain_unary.Lts-plain_unary as plain-unary-lts
+use Rattle.plain.proofs.+plain_args+plain_attribute+plain_binary+plain_call+plain_display+plain_expr+plain_exprs+plain_logical+plain_method+plain_named+plain_shortcut+plain_two+plain_unary.Proof.Common.{plain-unary-at, plain-expr-below}
 
 pub plain-unary-ok : {M : Type 1} (t : ℕ) → plain-unary-lts.Closed (unary-code-reads.Asked, unary-code-reads.Learnt, plain-expr-below t, plain-expr.Post, position-reads.Asked, position-reads.Learnt, words-reads.Asked, words-reads.Learnt, put-op-reads.Asked, put-op-reads.Learnt) (plain-unary-at t) plain-unary.Post M
 plain-unary-ok t = plain-unary-lts.spec (unary-code-reads.Asked, unary-code-reads.Learnt, plain-expr-below t, plain-expr.Post, position-reads.Asked, position-reads.Learnt, words-reads.Asked, words-reads.Learnt, put-op-reads.Asked, put-op-reads.Learnt) (plain-unary-at t) plain-unary.Post

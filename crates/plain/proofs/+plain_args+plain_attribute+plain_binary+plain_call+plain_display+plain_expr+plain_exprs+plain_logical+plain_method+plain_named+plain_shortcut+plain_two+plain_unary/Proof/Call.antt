@@ -7,8 +7,8 @@ use Rattle.plain.proofs.Calls.{call-named, call-method}
 use Rattle.plain.proofs.plain_call.Reads as plain-call
 use Rattle.plain.proofs.plain_named.Reads as plain-named
 use Rattle.plain.proofs.plain_method.Reads as plain-method
-use Rattle.plain.proofs.+plain_args+plain_attribute+plain_binary+plain_call+plain_display+plain_expr+plain_exprs+plain_method+plain_named+plain_two+plain_unary.Lts-plain_call as plain-call-lts
-use Rattle.plain.proofs.+plain_args+plain_attribute+plain_binary+plain_call+plain_display+plain_expr+plain_exprs+plain_method+plain_named+plain_two+plain_unary.Proof.Common.{plain-call-at, plain-named-below, plain-method-below}
+use Rattle.plain.proofs.+plain_args+plain_attribute+plain_binary+plain_call+plain_display+plain_expr+plain_exprs+plain_logical+plain_method+plain_named+plain_shortcut+plain_two+plain_unary.Lts-plain_call as plain-call-lts
+use Rattle.plain.proofs.+plain_args+plain_attribute+plain_binary+plain_call+plain_display+plain_expr+plain_exprs+plain_logical+plain_method+plain_named+plain_shortcut+plain_two+plain_unary.Proof.Common.{plain-call-at, plain-named-below, plain-method-below}
 
 pub plain-call-ok : {M : Type 1} (t : ℕ) → plain-call-lts.Closed (plain-named-below t, plain-named.Post, plain-method-below t, plain-method.Post) (plain-call-at t) plain-call.Post M
 plain-call-ok t = plain-call-lts.spec (plain-named-below t, plain-named.Post, plain-method-below t, plain-method.Post) (plain-call-at t) plain-call.Post

@@ -16,10 +16,14 @@ use Rattle.plain.proofs.plain_expr.Reads as plain-expr
 use Rattle.plain.proofs.plain_expr.Kinds as plain-expr-kinds
 use Rattle.plain.proofs.plain_exprs.Reads as plain-exprs
 use Rattle.plain.proofs.plain_exprs.Kinds as plain-exprs-kinds
+use Rattle.plain.proofs.plain_logical.Reads as plain-logical
+use Rattle.plain.proofs.plain_logical.Kinds as plain-logical-kinds
 use Rattle.plain.proofs.plain_method.Reads as plain-method
 use Rattle.plain.proofs.plain_method.Kinds as plain-method-kinds
 use Rattle.plain.proofs.plain_named.Reads as plain-named
 use Rattle.plain.proofs.plain_named.Kinds as plain-named-kinds
+use Rattle.plain.proofs.plain_shortcut.Reads as plain-shortcut
+use Rattle.plain.proofs.plain_shortcut.Kinds as plain-shortcut-kinds
 use Rattle.plain.proofs.plain_two.Reads as plain-two
 use Rattle.plain.proofs.plain_two.Kinds as plain-two-kinds
 use Rattle.plain.proofs.plain_unary.Reads as plain-unary
@@ -32,7 +36,7 @@ abbrev pub μ-plain-attribute : Measures 6 plain-attribute-kinds.ps ℕ
 μ-plain-attribute κs a = 8 * (a .1 .1 .0) + 1
 
 abbrev pub μ-plain-binary : Measures 6 plain-binary-kinds.ps ℕ
-μ-plain-binary κs a = 8 * (a .1 .1 .0) + 2
+μ-plain-binary κs a = 8 * (a .1 .1 .0) + 3
 
 abbrev pub μ-plain-call : Measures 6 plain-call-kinds.ps ℕ
 μ-plain-call κs a = 8 * (a .1 .1 .0) + 4
@@ -46,11 +50,17 @@ abbrev pub μ-plain-expr : Measures 6 plain-expr-kinds.ps ℕ
 abbrev pub μ-plain-exprs : Measures 6 plain-exprs-kinds.ps ℕ
 μ-plain-exprs κs a = 8 * (a .1 .1 .0) + 1
 
+abbrev pub μ-plain-logical : Measures 6 plain-logical-kinds.ps ℕ
+μ-plain-logical κs a = 8 * (a .1 .1 .0) + 2
+
 abbrev pub μ-plain-method : Measures 6 plain-method-kinds.ps ℕ
 μ-plain-method κs a = 8 * (a .1 .1 .0) + 2
 
 abbrev pub μ-plain-named : Measures 6 plain-named-kinds.ps ℕ
 μ-plain-named κs a = 8 * (a .1 .1 .0) + 3
+
+abbrev pub μ-plain-shortcut : Measures 6 plain-shortcut-kinds.ps ℕ
+μ-plain-shortcut κs a = 8 * (a .1 .1 .0) + 1
 
 abbrev pub μ-plain-two : Measures 6 plain-two-kinds.ps ℕ
 μ-plain-two κs a = 8 * (a .1 .1 .0) + 1
@@ -100,6 +110,12 @@ plain-exprs-at t = and 6 plain-exprs-kinds.ps (is 6 plain-exprs-kinds.ps μ-plai
 abbrev pub plain-exprs-below : ℕ → In 6 plain-exprs-kinds.ps
 plain-exprs-below t = and 6 plain-exprs-kinds.ps (falls 6 plain-exprs-kinds.ps _<_ μ-plain-exprs t) plain-exprs.Pre
 
+abbrev pub plain-logical-at : ℕ → In 6 plain-logical-kinds.ps
+plain-logical-at t = and 6 plain-logical-kinds.ps (is 6 plain-logical-kinds.ps μ-plain-logical t) plain-logical.Pre
+
+abbrev pub plain-logical-below : ℕ → In 6 plain-logical-kinds.ps
+plain-logical-below t = and 6 plain-logical-kinds.ps (falls 6 plain-logical-kinds.ps _<_ μ-plain-logical t) plain-logical.Pre
+
 abbrev pub plain-method-at : ℕ → In 6 plain-method-kinds.ps
 plain-method-at t = and 6 plain-method-kinds.ps (is 6 plain-method-kinds.ps μ-plain-method t) plain-method.Pre
 
@@ -111,6 +127,12 @@ plain-named-at t = and 6 plain-named-kinds.ps (is 6 plain-named-kinds.ps μ-plai
 
 abbrev pub plain-named-below : ℕ → In 6 plain-named-kinds.ps
 plain-named-below t = and 6 plain-named-kinds.ps (falls 6 plain-named-kinds.ps _<_ μ-plain-named t) plain-named.Pre
+
+abbrev pub plain-shortcut-at : ℕ → In 6 plain-shortcut-kinds.ps
+plain-shortcut-at t = and 6 plain-shortcut-kinds.ps (is 6 plain-shortcut-kinds.ps μ-plain-shortcut t) plain-shortcut.Pre
+
+abbrev pub plain-shortcut-below : ℕ → In 6 plain-shortcut-kinds.ps
+plain-shortcut-below t = and 6 plain-shortcut-kinds.ps (falls 6 plain-shortcut-kinds.ps _<_ μ-plain-shortcut t) plain-shortcut.Pre
 
 abbrev pub plain-two-at : ℕ → In 6 plain-two-kinds.ps
 plain-two-at t = and 6 plain-two-kinds.ps (is 6 plain-two-kinds.ps μ-plain-two t) plain-two.Pre

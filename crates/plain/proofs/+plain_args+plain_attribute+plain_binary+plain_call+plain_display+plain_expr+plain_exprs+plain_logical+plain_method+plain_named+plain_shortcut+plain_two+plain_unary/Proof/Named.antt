@@ -18,8 +18,8 @@ use Rattle.plain.proofs.load_callee.Reads as load-callee-reads
 use Rattle.known.proofs.position.Reads as position-reads
 use Rattle.known.proofs.words.Reads as words-reads
 use Rattle.plain.proofs.plain_args.Reads as plain-args
-use Rattle.plain.proofs.+plain_args+plain_attribute+plain_binary+plain_call+plain_display+plain_expr+plain_exprs+plain_method+plain_named+plain_two+plain_unary.Lts-plain_named as plain-named-lts
-use Rattle.plain.proofs.+plain_args+plain_attribute+plain_binary+plain_call+plain_display+plain_expr+plain_exprs+plain_method+plain_named+plain_two+plain_unary.Proof.Common.{plain-named-at, plain-args-below}
+use Rattle.plain.proofs.+plain_args+plain_attribute+plain_binary+plain_call+plain_display+plain_expr+plain_exprs+plain_logical+plain_method+plain_named+plain_shortcut+plain_two+plain_unary.Lts-plain_named as plain-named-lts
+use Rattle.plain.proofs.+plain_args+plain_attribute+plain_binary+plain_call+plain_display+plain_expr+plain_exprs+plain_logical+plain_method+plain_named+plain_shortcut+plain_two+plain_unary.Proof.Common.{plain-named-at, plain-args-below}
 
 pub plain-named-ok : {M : Type 1} (t : ℕ) → plain-named-lts.Closed (name-end-reads.Asked, name-end-reads.Learnt, resolve-reads.Asked, resolve-reads.Learnt, load-callee-reads.Asked, load-callee-reads.Learnt, position-reads.Asked, position-reads.Learnt, words-reads.Asked, words-reads.Learnt, plain-args-below t, plain-args.Post) (plain-named-at t) plain-named.Post M
 plain-named-ok t = plain-named-lts.spec (name-end-reads.Asked, name-end-reads.Learnt, resolve-reads.Asked, resolve-reads.Learnt, load-callee-reads.Asked, load-callee-reads.Learnt, position-reads.Asked, position-reads.Learnt, words-reads.Asked, words-reads.Learnt, plain-args-below t, plain-args.Post) (plain-named-at t) plain-named.Post

@@ -19,8 +19,8 @@ use Rattle.plain.proofs.codes.build_code.Reads as build-code-reads
 use Rattle.known.proofs.position.Reads as position-reads
 use Rattle.known.proofs.words.Reads as words-reads
 use Rattle.known.proofs.put_op.Reads as put-op-reads
-use Rattle.plain.proofs.+plain_args+plain_attribute+plain_binary+plain_call+plain_display+plain_expr+plain_exprs+plain_method+plain_named+plain_two+plain_unary.Lts-plain_display as plain-display-lts
-use Rattle.plain.proofs.+plain_args+plain_attribute+plain_binary+plain_call+plain_display+plain_expr+plain_exprs+plain_method+plain_named+plain_two+plain_unary.Proof.Common.{plain-display-at, plain-exprs-below}
+use Rattle.plain.proofs.+plain_args+plain_attribute+plain_binary+plain_call+plain_display+plain_expr+plain_exprs+plain_logical+plain_method+plain_named+plain_shortcut+plain_two+plain_unary.Lts-plain_display as plain-display-lts
+use Rattle.plain.proofs.+plain_args+plain_attribute+plain_binary+plain_call+plain_display+plain_expr+plain_exprs+plain_logical+plain_method+plain_named+plain_shortcut+plain_two+plain_unary.Proof.Common.{plain-display-at, plain-exprs-below}
 
 pub plain-display-ok : {M : Type 1} (t : ℕ) → plain-display-lts.Closed (u16-at-reads.Asked, u16-at-reads.Learnt, held-reads.Asked, held-reads.Learnt, plain-exprs-below t, plain-exprs.Post, build-code-reads.Asked, build-code-reads.Learnt, position-reads.Asked, position-reads.Learnt, words-reads.Asked, words-reads.Learnt, put-op-reads.Asked, put-op-reads.Learnt) (plain-display-at t) plain-display.Post M
 plain-display-ok t = plain-display-lts.spec (u16-at-reads.Asked, u16-at-reads.Learnt, held-reads.Asked, held-reads.Learnt, plain-exprs-below t, plain-exprs.Post, build-code-reads.Asked, build-code-reads.Learnt, position-reads.Asked, position-reads.Learnt, words-reads.Asked, words-reads.Learnt, put-op-reads.Asked, put-op-reads.Learnt) (plain-display-at t) plain-display.Post

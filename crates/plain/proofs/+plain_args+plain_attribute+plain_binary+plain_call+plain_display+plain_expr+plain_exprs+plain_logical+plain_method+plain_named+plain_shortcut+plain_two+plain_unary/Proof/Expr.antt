@@ -21,8 +21,8 @@ use Rattle.plain.proofs.plain_call.Reads as plain-call
 use Rattle.plain.proofs.plain_attribute.Reads as plain-attribute
 use Rattle.plain.proofs.plain_two.Reads as plain-two
 use Rattle.plain.proofs.plain_display.Reads as plain-display
-use Rattle.plain.proofs.+plain_args+plain_attribute+plain_binary+plain_call+plain_display+plain_expr+plain_exprs+plain_method+plain_named+plain_two+plain_unary.Lts-plain_expr as plain-expr-lts
-use Rattle.plain.proofs.+plain_args+plain_attribute+plain_binary+plain_call+plain_display+plain_expr+plain_exprs+plain_method+plain_named+plain_two+plain_unary.Proof.Common.{plain-expr-at, plain-unary-below, plain-binary-below, plain-call-below, plain-attribute-below, plain-two-below, plain-display-below}
+use Rattle.plain.proofs.+plain_args+plain_attribute+plain_binary+plain_call+plain_display+plain_expr+plain_exprs+plain_logical+plain_method+plain_named+plain_shortcut+plain_two+plain_unary.Lts-plain_expr as plain-expr-lts
+use Rattle.plain.proofs.+plain_args+plain_attribute+plain_binary+plain_call+plain_display+plain_expr+plain_exprs+plain_logical+plain_method+plain_named+plain_shortcut+plain_two+plain_unary.Proof.Common.{plain-expr-at, plain-unary-below, plain-binary-below, plain-call-below, plain-attribute-below, plain-two-below, plain-display-below}
 
 pub plain-expr-ok : {M : Type 1} (t : ℕ) → plain-expr-lts.Closed (put-op-reads.Asked, put-op-reads.Learnt, put-place-reads.Asked, put-place-reads.Learnt, u16-at-reads.Asked, u16-at-reads.Learnt, put-string-reads.Asked, put-string-reads.Learnt, name-end-reads.Asked, name-end-reads.Learnt, put-variable-reads.Asked, put-variable-reads.Learnt, plain-unary-below t, plain-unary.Post, plain-binary-below t, plain-binary.Post, plain-call-below t, plain-call.Post, plain-attribute-below t, plain-attribute.Post, plain-two-below t, plain-two.Post, plain-display-below t, plain-display.Post) (plain-expr-at t) plain-expr.Post M
 plain-expr-ok t = plain-expr-lts.spec (put-op-reads.Asked, put-op-reads.Learnt, put-place-reads.Asked, put-place-reads.Learnt, u16-at-reads.Asked, u16-at-reads.Learnt, put-string-reads.Asked, put-string-reads.Learnt, name-end-reads.Asked, name-end-reads.Learnt, put-variable-reads.Asked, put-variable-reads.Learnt, plain-unary-below t, plain-unary.Post, plain-binary-below t, plain-binary.Post, plain-call-below t, plain-call.Post, plain-attribute-below t, plain-attribute.Post, plain-two-below t, plain-two.Post, plain-display-below t, plain-display.Post) (plain-expr-at t) plain-expr.Post

@@ -12,8 +12,8 @@ use Rattle.known.proofs.placed.Reads as placed-reads
 use Rattle.plain.proofs.plain_expr.Reads as plain-expr
 use Rattle.known.proofs.position.Reads as position-reads
 use Rattle.known.proofs.words.Reads as words-reads
-use Rattle.plain.proofs.+plain_args+plain_attribute+plain_binary+plain_call+plain_display+plain_expr+plain_exprs+plain_method+plain_named+plain_two+plain_unary.Lts-plain_exprs as plain-exprs-lts
-use Rattle.plain.proofs.+plain_args+plain_attribute+plain_binary+plain_call+plain_display+plain_expr+plain_exprs+plain_method+plain_named+plain_two+plain_unary.Proof.Common.{plain-exprs-at, plain-expr-below}
+use Rattle.plain.proofs.+plain_args+plain_attribute+plain_binary+plain_call+plain_display+plain_expr+plain_exprs+plain_logical+plain_method+plain_named+plain_shortcut+plain_two+plain_unary.Lts-plain_exprs as plain-exprs-lts
+use Rattle.plain.proofs.+plain_args+plain_attribute+plain_binary+plain_call+plain_display+plain_expr+plain_exprs+plain_logical+plain_method+plain_named+plain_shortcut+plain_two+plain_unary.Proof.Common.{plain-exprs-at, plain-expr-below}
 
 abbrev Inv-loop : plain-exprs-lts.InvT-loop
 Inv-loop tree at depth count slots made code₀ tables known n left₀ p₀ m₀ code left p m = Rest depth tree (slotNames tree slots) made tables known code₀ left₀ p₀ m₀ code left p m

@@ -16,8 +16,8 @@ use Rattle.known.proofs.position.Reads as position-reads
 use Rattle.parts.proofs.names.name_end.Reads as name-end-reads
 use Rattle.known.proofs.words.Reads as words-reads
 use Rattle.known.proofs.put_symbol.Reads as put-symbol-reads
-use Rattle.plain.proofs.+plain_args+plain_attribute+plain_binary+plain_call+plain_display+plain_expr+plain_exprs+plain_method+plain_named+plain_two+plain_unary.Lts-plain_attribute as plain-attribute-lts
-use Rattle.plain.proofs.+plain_args+plain_attribute+plain_binary+plain_call+plain_display+plain_expr+plain_exprs+plain_method+plain_named+plain_two+plain_unary.Proof.Common.{plain-attribute-at, plain-expr-below}
+use Rattle.plain.proofs.+plain_args+plain_attribute+plain_binary+plain_call+plain_display+plain_expr+plain_exprs+plain_logical+plain_method+plain_named+plain_shortcut+plain_two+plain_unary.Lts-plain_attribute as plain-attribute-lts
+use Rattle.plain.proofs.+plain_args+plain_attribute+plain_binary+plain_call+plain_display+plain_expr+plain_exprs+plain_logical+plain_method+plain_named+plain_shortcut+plain_two+plain_unary.Proof.Common.{plain-attribute-at, plain-expr-below}
 
 pub plain-attribute-ok : {M : Type 1} (t : ℕ) → plain-attribute-lts.Closed (plain-expr-below t, plain-expr.Post, position-reads.Asked, position-reads.Learnt, name-end-reads.Asked, name-end-reads.Learnt, words-reads.Asked, words-reads.Learnt, put-symbol-reads.Asked, put-symbol-reads.Learnt) (plain-attribute-at t) plain-attribute.Post M
 plain-attribute-ok t = plain-attribute-lts.spec (plain-expr-below t, plain-expr.Post, position-reads.Asked, position-reads.Learnt, name-end-reads.Asked, name-end-reads.Learnt, words-reads.Asked, words-reads.Learnt, put-symbol-reads.Asked, put-symbol-reads.Learnt) (plain-attribute-at t) plain-attribute.Post

@@ -21,8 +21,8 @@ use Rattle.parts.proofs.numbers.u16_at.Reads as u16-at-reads
 use Rattle.known.proofs.words.Reads as words-reads
 use Rattle.plain.proofs.plain_exprs.Reads as plain-exprs
 use Rattle.known.proofs.put_symbol.Reads as put-symbol-reads
-use Rattle.plain.proofs.+plain_args+plain_attribute+plain_binary+plain_call+plain_display+plain_expr+plain_exprs+plain_method+plain_named+plain_two+plain_unary.Lts-plain_method as plain-method-lts
-use Rattle.plain.proofs.+plain_args+plain_attribute+plain_binary+plain_call+plain_display+plain_expr+plain_exprs+plain_method+plain_named+plain_two+plain_unary.Proof.Common.{plain-method-at, plain-expr-below, plain-exprs-below}
+use Rattle.plain.proofs.+plain_args+plain_attribute+plain_binary+plain_call+plain_display+plain_expr+plain_exprs+plain_logical+plain_method+plain_named+plain_shortcut+plain_two+plain_unary.Lts-plain_method as plain-method-lts
+use Rattle.plain.proofs.+plain_args+plain_attribute+plain_binary+plain_call+plain_display+plain_expr+plain_exprs+plain_logical+plain_method+plain_named+plain_shortcut+plain_two+plain_unary.Proof.Common.{plain-method-at, plain-expr-below, plain-exprs-below}
 
 pub plain-method-ok : {M : Type 1} (t : ℕ) → plain-method-lts.Closed (plain-expr-below t, plain-expr.Post, position-reads.Asked, position-reads.Learnt, name-end-reads.Asked, name-end-reads.Learnt, u16-at-reads.Asked, u16-at-reads.Learnt, words-reads.Asked, words-reads.Learnt, plain-exprs-below t, plain-exprs.Post, put-symbol-reads.Asked, put-symbol-reads.Learnt) (plain-method-at t) plain-method.Post M
 plain-method-ok t = plain-method-lts.spec (plain-expr-below t, plain-expr.Post, position-reads.Asked, position-reads.Learnt, name-end-reads.Asked, name-end-reads.Learnt, u16-at-reads.Asked, u16-at-reads.Learnt, words-reads.Asked, words-reads.Learnt, plain-exprs-below t, plain-exprs.Post, put-symbol-reads.Asked, put-symbol-reads.Learnt) (plain-method-at t) plain-method.Post

@@ -15,8 +15,8 @@ use Rattle.plain.proofs.plain_expr.Reads as plain-expr
 use Rattle.known.proofs.position.Reads as position-reads
 use Rattle.known.proofs.words.Reads as words-reads
 use Rattle.known.proofs.put_op.Reads as put-op-reads
-use Rattle.plain.proofs.+plain_args+plain_attribute+plain_binary+plain_call+plain_display+plain_expr+plain_exprs+plain_method+plain_named+plain_two+plain_unary.Lts-plain_two as plain-two-lts
-use Rattle.plain.proofs.+plain_args+plain_attribute+plain_binary+plain_call+plain_display+plain_expr+plain_exprs+plain_method+plain_named+plain_two+plain_unary.Proof.Common.{plain-two-at, plain-expr-below}
+use Rattle.plain.proofs.+plain_args+plain_attribute+plain_binary+plain_call+plain_display+plain_expr+plain_exprs+plain_logical+plain_method+plain_named+plain_shortcut+plain_two+plain_unary.Lts-plain_two as plain-two-lts
+use Rattle.plain.proofs.+plain_args+plain_attribute+plain_binary+plain_call+plain_display+plain_expr+plain_exprs+plain_logical+plain_method+plain_named+plain_shortcut+plain_two+plain_unary.Proof.Common.{plain-two-at, plain-expr-below}
 
 pub plain-two-ok : {M : Type 1} (t : ℕ) → plain-two-lts.Closed (plain-expr-below t, plain-expr.Post, position-reads.Asked, position-reads.Learnt, words-reads.Asked, words-reads.Learnt, put-op-reads.Asked, put-op-reads.Learnt) (plain-two-at t) plain-two.Post M
 plain-two-ok t = plain-two-lts.spec (plain-expr-below t, plain-expr.Post, position-reads.Asked, position-reads.Learnt, words-reads.Asked, words-reads.Learnt, put-op-reads.Asked, put-op-reads.Learnt) (plain-two-at t) plain-two.Post

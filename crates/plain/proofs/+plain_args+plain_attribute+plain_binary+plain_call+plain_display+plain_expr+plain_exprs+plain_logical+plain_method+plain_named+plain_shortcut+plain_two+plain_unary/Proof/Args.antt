@@ -15,8 +15,8 @@ use Rattle.plain.proofs.plain_exprs.Reads as plain-exprs
 use Rattle.known.proofs.position.Reads as position-reads
 use Rattle.known.proofs.words.Reads as words-reads
 use Rattle.plain.proofs.put_call.Reads as put-call-reads
-use Rattle.plain.proofs.+plain_args+plain_attribute+plain_binary+plain_call+plain_display+plain_expr+plain_exprs+plain_method+plain_named+plain_two+plain_unary.Lts-plain_args as plain-args-lts
-use Rattle.plain.proofs.+plain_args+plain_attribute+plain_binary+plain_call+plain_display+plain_expr+plain_exprs+plain_method+plain_named+plain_two+plain_unary.Proof.Common.{plain-args-at, plain-exprs-below}
+use Rattle.plain.proofs.+plain_args+plain_attribute+plain_binary+plain_call+plain_display+plain_expr+plain_exprs+plain_logical+plain_method+plain_named+plain_shortcut+plain_two+plain_unary.Lts-plain_args as plain-args-lts
+use Rattle.plain.proofs.+plain_args+plain_attribute+plain_binary+plain_call+plain_display+plain_expr+plain_exprs+plain_logical+plain_method+plain_named+plain_shortcut+plain_two+plain_unary.Proof.Common.{plain-args-at, plain-exprs-below}
 
 pub plain-args-ok : {M : Type 1} (t : ℕ) → plain-args-lts.Closed (u16-at-reads.Asked, u16-at-reads.Learnt, plain-exprs-below t, plain-exprs.Post, position-reads.Asked, position-reads.Learnt, words-reads.Asked, words-reads.Learnt, put-call-reads.Asked, put-call-reads.Learnt) (plain-args-at t) plain-args.Post M
 plain-args-ok t = plain-args-lts.spec (u16-at-reads.Asked, u16-at-reads.Learnt, plain-exprs-below t, plain-exprs.Post, position-reads.Asked, position-reads.Learnt, words-reads.Asked, words-reads.Learnt, put-call-reads.Asked, put-call-reads.Learnt) (plain-args-at t) plain-args.Post
