@@ -1,3 +1,4 @@
 pub mod Forms
 pub mod Unpacking
 pub mod Assigning
+pub mod Storing

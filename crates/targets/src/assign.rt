@@ -2,6 +2,7 @@
 use crate::targets::emit_elements;
 use code::put_op;
 use expressions::emit_expr;
+use expressions::plainly::emit_plainly;
 use names::emit::emit_store;
 use names::emit::emit_symbol;
 use parts::names::name_end;
@@ -157,7 +158,7 @@ fn assign_tuple(
     ensures { λ r. ⌜ Lowers r (exprCode depth (now (tree .entry)) (slotNames (now (tree .entry)) (now (slots .entry))) (exprAt depth (now (tree .entry)) at .end) ⨟ unpack (slotNames (now (tree .entry)) (now (slots .entry))) (elementsAt (depth - 1) (now (tree .entry)) (countAt (now (tree .entry)) (at + 1)) (at + 3)) 0) (secondAt depth (now (tree .entry)) at .end) (now (tree .entry)) (now (made .entry)) (now (code .entry)) (now (tables .entry)) (now (made .exit)) (now (code .exit)) (now (tables .exit)) c l ⌝ }
 {
     let n = u16_at(tree, at + 1);
-    let value = emit_expr(
+    let value = emit_plainly(
         tree,
         skip_expr(tree, at, depth),
         depth,
