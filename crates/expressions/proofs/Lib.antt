@@ -5,3 +5,4 @@ pub mod Elements
 pub mod Calls
 pub mod Lambdas
 pub mod Collecting
+pub mod Tried

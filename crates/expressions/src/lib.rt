@@ -1,6 +1,7 @@
 // The lowering of an expression: the code that leaves its value, and what it adds to the tables.
 mod closures; // closures.rt: a lambda's function and closure
 mod leaves; // leaves.rt: parts that hold no expression
+pub mod plainly; // plainly.rt: an expression as words alone where nothing in it is new
 
 use closures::begin_lambda;
 use closures::end_closure;
@@ -8,6 +9,8 @@ use closures::end_lambda;
 use code::put_jump;
 use code::put_op;
 use exprs::literals::literal_at;
+use known::position;
+use known::words;
 use leaves::emit_literal;
 use leaves::end_shortcut;
 use leaves::load_callee;
@@ -22,6 +25,7 @@ use plain::codes::binary_code;
 use plain::codes::build_code;
 use plain::codes::held;
 use plain::codes::unary_code;
+use plain::plain_exprs;
 use slots::Locals;
 use slots::captures::lambda_slots;
 use slots::skip::skip_params;
@@ -80,7 +84,7 @@ pub fn emit_expr(
     }
 }
 
-// n expressions, one after the other.
+// n expressions, one after the other: as words alone where nothing in them is new, else each by emit_expr.
 fn emit_exprs(
     tree: &[u8],
     at: usize,
@@ -98,9 +102,32 @@ fn emit_exprs(
     ensures { λ r. ⌜ Lowers r (exprsCode depth n (now (tree .entry)) (slotNames (now (tree .entry)) (now (slots .entry))) at) (exprsAt depth n (now (tree .entry)) at .end)
         (now (tree .entry)) (now (made .entry)) (now (code .entry)) (now (tables .entry)) (now (made .exit)) (now (code .exit)) (now (tables .exit)) c l ⌝ }
 {
+    let known = [
+        c.symbols,
+        c.strings,
+        c.functions,
+        c.classes,
+        l.instructions - c.done,
+    ];
+    let r = plain_exprs(
+        tree,
+        at,
+        depth,
+        n,
+        slots,
+        made,
+        code,
+        tables,
+        &known,
+        c.open,
+    );
+    let mut k = c;
+    if r != 0 {
+        k.open = words(r);
+        return Emitted::Done(position(r), k);
+    }
     let mut left = n;
     let mut p = at;
-    let mut k = c;
     while 0 < left {
         let one = emit_expr(tree, p, depth, slots, made, code, tables, k, l);
         let Emitted::Done(next, m) = one else {
