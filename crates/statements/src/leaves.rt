@@ -2,6 +2,7 @@
 use code::put_jump;
 use code::put_op;
 use expressions::emit_expr;
+use expressions::plainly::emit_plainly;
 use frames::iterators::make_iterator;
 use names::spell::name_part;
 use names::spell::same_bytes;
@@ -64,7 +65,7 @@ pub fn emit_question(
     requires { ⌜ Ready (now tree) (now slots) (now made) (now code) (now tables) c l × Lowerable depth (now tree) at ⌝ }
     ensures { λ r. ⌜ Lowers r (exprCode depth (now (tree .entry)) (slotNames (now (tree .entry)) (now (slots .entry))) at ⨟ one (JumpIfFalse 0)) (exprAt depth (now (tree .entry)) at .end) (now (tree .entry)) (now (made .entry)) (now (code .entry)) (now (tables .entry)) (now (made .exit)) (now (code .exit)) (now (tables .exit)) c l ⌝ }
 {
-    let value = emit_expr(tree, at, depth, slots, made, code, tables, c, l);
+    let value = emit_plainly(tree, at, depth, slots, made, code, tables, c, l);
     let Emitted::Done(next, k) = value else {
         return Emitted::Full;
     };
@@ -86,7 +87,7 @@ pub fn emit_iterable(
     requires { ⌜ Ready (now tree) (now slots) (now made) (now code) (now tables) c l × Lowerable depth (now tree) at ⌝ }
     ensures { λ r. ⌜ Lowers r (exprCode depth (now (tree .entry)) (slotNames (now (tree .entry)) (now (slots .entry))) at ⨟ makeIter) (exprAt depth (now (tree .entry)) at .end) (now (tree .entry)) (now (made .entry)) (now (code .entry)) (now (tables .entry)) (now (made .exit)) (now (code .exit)) (now (tables .exit)) c l ⌝ }
 {
-    let value = emit_expr(tree, at, depth, slots, made, code, tables, c, l);
+    let value = emit_plainly(tree, at, depth, slots, made, code, tables, c, l);
     let Emitted::Done(next, k) = value else {
         return Emitted::Full;
     };

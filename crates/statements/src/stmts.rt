@@ -5,6 +5,7 @@ use crate::leaves::emit_question;
 use crate::leaves::emit_simple;
 use crate::leaves::is_init;
 use crate::leaves::put_end;
+use crate::runs::plain_stmts;
 use code::begin_class;
 use code::end_function;
 use code::set_jump;
@@ -93,6 +94,13 @@ pub fn emit_block(
     let mut p = at + 2;
     let mut k = c;
     while 0 < left {
+        let run = plain_stmts(tree, p, depth, left, slots, made, code, tables, k, l);
+        left -= run.count;
+        p = run.next;
+        k.open = run.words;
+        if left == 0 {
+            return Emitted::Done(p, k);
+        }
         let one = emit_stmt(tree, p, depth, slots, made, code, tables, k, l);
         let Emitted::Done(next, m) = one else {
             return Emitted::Full;
