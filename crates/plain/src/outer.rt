@@ -26,7 +26,5 @@ pub fn outer_exprs(
     if depth < 29 {
         return 0;
     }
-    plain_exprs(
-        tree, at, depth, count, slots, made, code, tables, known, n,
-    )
+    plain_exprs(tree, at, depth, count, slots, made, code, tables, known, n)
 }
