@@ -15,6 +15,7 @@ pub fn all() -> Vec<Case> {
     cases.extend(targets());
     cases.extend(methods());
     cases.extend(parameters());
+    cases.extend(tried());
     cases
 }
 
@@ -295,5 +296,32 @@ fn parameters() -> Vec<Case> {
         script("slow-parameters-255", &times(1, &list(255, 64))),
         script("slow-parameters-500", &[list(500, 64)]),
         script("slow-parameters-990", &[list(990, 32)]),
+    ]
+}
+
+/// Calls in calls and lists in lists, all of known names, with a lambda or a
+/// new name in the innermost: what is tried as plain code comes to it last.
+fn tried() -> Vec<Case> {
+    let classes = alike(60, 3);
+    let mut calls: Vec<Bytes> = classes.iter().map(|n| class(n, &[], &[])).collect();
+    calls.push(def("f", &[], &[]));
+    let in_calls = |inner: Bytes| (0..29).fold(inner, |e, _| call_name("f", &[e]));
+    let mut new_names = calls.clone();
+    calls.extend(times(150, &expr(in_calls(lambda(&[], none())))));
+    new_names.extend(alike(150, 3).iter().map(|n| expr(in_calls(var(&n[1..])))));
+    let in_lists = |inner: Bytes| {
+        let mut items = times(270, &var("a"));
+        let level = |e: Bytes, _| {
+            items.push(e);
+            let held = list(&items);
+            items.pop();
+            held
+        };
+        (0..29).fold(inner, level)
+    };
+    vec![
+        script("slow-tried-calls", &calls),
+        script("slow-tried-names", &new_names),
+        script("slow-tried-lists", &[expr(var("a")), expr(in_lists(lambda(&[], none())))]),
     ]
 }
