@@ -16,23 +16,9 @@ use Rattle.state.specs.declared.Limits.{Limits}
 use Rattle.definitions.specs.Instruction.{Instr}
 use Rattle.state.specs.declared.Emitted.{Emitted}
 use Rattle.state.specs.declared.Emitted.the-variants.{Done, Full}
+use Rattle.code.specs.Nesting.{withOpen}
 use Rattle.state.proofs.Views.{stack-length, instruction-count}
 use Rattle.state.proofs.Emission.{state-eq}
-
--- the counts with another number of open words
-abbrev pub withOpen : ℕ → Counts → Counts
-withOpen n c = record {
-  symbols = c .symbols;
-  strings = c .strings;
-  functions = c .functions;
-  classes = c .classes;
-  methods = c .methods;
-  constants = c .constants;
-  made = c .made;
-  «open» = n;
-  base = c .base;
-  done = c .done;
-}
 
 -- the tables see only the finished words
 pub tables-finished : (t made code code′ tables : List ℕ) (c : Counts) (n : ℕ) → drop doneFrom code′ ≡ drop doneFrom code →

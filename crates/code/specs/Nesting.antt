@@ -34,6 +34,21 @@ unfoldable pub Begins : Numbered → List ℕ → List ℕ → List ℕ → List
 Begins (At i k) tree made code tables c l number want = (i ≡ number) × Moved (c .open) k tree made code tables c l want × (k .methods + c .functions < c .methods + k .functions)
 Begins Over tree made code tables c l number want = Within l want → ⊥
 
+-- the counts with another number of open words
+abbrev pub withOpen : ℕ → Counts → Counts
+withOpen n c = record {
+  symbols = c .symbols;
+  strings = c .strings;
+  functions = c .functions;
+  classes = c .classes;
+  methods = c .methods;
+  constants = c .constants;
+  made = c .made;
+  «open» = n;
+  base = c .base;
+  done = c .done;
+}
+
 -- the counts with other numbers of methods and of constants
 abbrev pub withMethods : ℕ → Counts → Counts
 withMethods n c = record {

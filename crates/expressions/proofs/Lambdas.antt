@@ -38,7 +38,7 @@ use Rattle.names.proofs.Naming.{at-slot, at-load}
 use Rattle.names.specs.Made.{madeName}
 use Rattle.names.specs.declared.Made.the-variants.{Lambda}
 use Rattle.expressions.specs.Step.{Lowers, Ends}
-use Rattle.plain.specs.Lowerable.{Lowerable, lambdaNames, lambdaCode, LambdaLowerable, closureCode, functionCode, ClosureLowerable, Held, CapturesHeld}
+use Rattle.plain.specs.Lowerable.{lambdaNames, lambdaCode, LambdaLowerable, closureCode, functionCode, ClosureLowerable, Held, CapturesHeld}
 use Rattle.expressions.proofs.Sequence.{lowers-as}
 use Rattle.plain.proofs.Arms.{and-both, params-count}
 

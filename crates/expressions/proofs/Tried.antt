@@ -10,7 +10,7 @@ use Rattle.state.specs.declared.Limits.{Limits}
 use Rattle.state.specs.declared.Emitted.{Emitted}
 use Rattle.state.specs.declared.Emitted.the-variants.{Done}
 use Rattle.state.proofs.Answers.{emits-as}
-use Rattle.code.proofs.Putting.{withOpen}
+use Rattle.code.specs.Nesting.{withOpen}
 use Rattle.known.specs.Puts.{Known, Room, Puts}
 use Rattle.plain.proofs.Bridge.{knownOf, known-sound, room-sound, stopped-state, stopped-sound, puts-emits}
 use Rattle.expressions.specs.Step.{Lowers}

@@ -186,7 +186,7 @@ pub fn put_string(
 }
 
 // The function so far whose name is the one given, else a value.
-fn resolve_function(
+fn resolve_function_id(
     tree: &[u8],
     slots: &[u32],
     made: &[u8],
@@ -230,5 +230,5 @@ pub fn resolve(
     if find_place(tree, &tables[2048..end], name) < known[3] as usize {
         return Callee::Value;
     }
-    resolve_function(tree, slots, made, tables, known, name)
+    resolve_function_id(tree, slots, made, tables, known, name)
 }

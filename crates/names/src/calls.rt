@@ -66,7 +66,7 @@ pub fn find_builtin(name: &[u8]) -> u32
 }
 
 // The function so far whose name is the one given, else a value.
-fn resolve_function(
+fn resolve_function_id(
     tree: &[u8],
     made: &[u8],
     code: &[u32],
@@ -112,5 +112,5 @@ pub fn resolve(
     if find_place(tree, &tables[2048..end], name) < c.classes as usize {
         return Callee::Value;
     }
-    resolve_function(tree, made, code, tables, name, c, l)
+    resolve_function_id(tree, made, code, tables, name, c, l)
 }

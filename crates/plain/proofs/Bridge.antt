@@ -16,7 +16,8 @@ use Rattle.state.specs.declared.Emitted.the-variants.{Done}
 use Rattle.state.proofs.Answers.{done-emits}
 use Rattle.state.proofs.Emission.{state-eq}
 use Rattle.state.proofs.Regions.{region-length}
-use Rattle.code.proofs.Putting.{withOpen, sound-open, tables-finished}
+use Rattle.code.proofs.Putting.{sound-open, tables-finished}
+use Rattle.code.specs.Nesting.{withOpen}
 use Rattle.known.specs.Puts.{Known, Room, Shown, Puts}
 
 -- the known numbers: the counts, and how many open words there may be

@@ -124,7 +124,14 @@ fn keep_name(tree: &[u8], at: usize, parent: &[u32], places: &mut [u32], n: u32)
 }
 
 // The names that an expression references.
-fn refs_expr(tree: &[u8], at: usize, depth: u32, parent: &[u32], places: &mut [u32], n: u32) -> Refs
+fn collect_referenced_vars(
+    tree: &[u8],
+    at: usize,
+    depth: u32,
+    parent: &[u32],
+    places: &mut [u32],
+    n: u32,
+) -> Refs
     requires { ⌜ Keeping (now tree) (now parent) (now places) n × ExprReads depth (now tree) at ⌝ }
     ensures { λ r. ⌜ Referred r (now (tree .entry)) (now (places .exit)) (exprAt depth (now (tree .entry)) at .end) (heldExpr (slotNames (now (tree .entry)) (now (parent .entry))) (exprAt depth (now (tree .entry)) at .value) (firstNames (now (tree .entry)) n (now (places .entry)))) ⌝ }
 {
@@ -132,7 +139,7 @@ fn refs_expr(tree: &[u8], at: usize, depth: u32, parent: &[u32], places: &mut [u
     let a = at + 1;
     match kind {
         6 => keep_name(tree, a, parent, places, n),
-        7 => refs_expr(tree, a + 1, depth - 1, parent, places, n),
+        7 => collect_referenced_vars(tree, a + 1, depth - 1, parent, places, n),
         8 => refs_two(tree, a + 1, depth - 1, parent, places, n),
         9 => refs_call(tree, a, depth - 1, parent, places, n),
         10 => refs_attribute(tree, a, depth - 1, parent, places, n),
@@ -156,8 +163,8 @@ fn refs_two(tree: &[u8], at: usize, depth: u32, parent: &[u32], places: &mut [u3
     ensures { λ r. ⌜ Referred r (now (tree .entry)) (now (places .exit)) (secondAt depth (now (tree .entry)) at .end)
         (heldExpr (slotNames (now (tree .entry)) (now (parent .entry))) (secondAt depth (now (tree .entry)) at .value) (heldExpr (slotNames (now (tree .entry)) (now (parent .entry))) (exprAt depth (now (tree .entry)) at .value) (firstNames (now (tree .entry)) n (now (places .entry))))) ⌝ }
 {
-    let left = refs_expr(tree, at, depth, parent, places, n);
-    refs_expr(tree, left.next, depth, parent, places, left.n)
+    let left = collect_referenced_vars(tree, at, depth, parent, places, n);
+    collect_referenced_vars(tree, left.next, depth, parent, places, left.n)
 }
 
 // Those of a callee and its arguments.
@@ -166,7 +173,7 @@ fn refs_call(tree: &[u8], at: usize, depth: u32, parent: &[u32], places: &mut [u
     ensures { λ r. ⌜ Referred r (now (tree .entry)) (now (places .exit)) (listAt depth (now (tree .entry)) (exprAt depth (now (tree .entry)) at .end) .end)
         (heldExprs (slotNames (now (tree .entry)) (now (parent .entry))) (listAt depth (now (tree .entry)) (exprAt depth (now (tree .entry)) at .end) .value) (heldExpr (slotNames (now (tree .entry)) (now (parent .entry))) (exprAt depth (now (tree .entry)) at .value) (firstNames (now (tree .entry)) n (now (places .entry))))) ⌝ }
 {
-    let callee = refs_expr(tree, at, depth, parent, places, n);
+    let callee = collect_referenced_vars(tree, at, depth, parent, places, n);
     refs_list(tree, callee.next, depth, parent, places, callee.n)
 }
 
@@ -182,7 +189,7 @@ fn refs_attribute(
     requires { ⌜ Keeping (now tree) (now parent) (now places) n × AttributeAt depth (now tree) at ⌝ }
     ensures { λ r. ⌜ Referred r (now (tree .entry)) (now (places .exit)) (nameEnd (now (tree .entry)) (exprAt depth (now (tree .entry)) at .end)) (heldExpr (slotNames (now (tree .entry)) (now (parent .entry))) (exprAt depth (now (tree .entry)) at .value) (firstNames (now (tree .entry)) n (now (places .entry)))) ⌝ }
 {
-    let object = refs_expr(tree, at, depth, parent, places, n);
+    let object = collect_referenced_vars(tree, at, depth, parent, places, n);
     Refs {
         next: name_end(tree, object.next),
         n: object.n,
@@ -224,7 +231,7 @@ fn refs_many(
     let mut left = count;
     let mut k = n;
     while 0 < left {
-        let one = refs_expr(tree, p, depth, parent, places, k);
+        let one = collect_referenced_vars(tree, p, depth, parent, places, k);
         p = one.next;
         k = one.n;
         left -= 1;
@@ -246,7 +253,7 @@ fn refs_lambda(
         (without (paramsAt (now (tree .entry)) at .value) (heldExpr (slotNames (now (tree .entry)) (now (parent .entry))) (exprAt depth (now (tree .entry)) (paramsAt (now (tree .entry)) at .end) .value) (firstNames (now (tree .entry)) n (now (places .entry))))) ⌝ }
 {
     let p = skip_params(tree, at);
-    let body = refs_expr(tree, p, depth, parent, places, n);
+    let body = collect_referenced_vars(tree, p, depth, parent, places, n);
     let k = remove_params(tree, at, places, body.n);
     Refs {
         next: body.next,
@@ -255,7 +262,7 @@ fn refs_lambda(
 }
 
 // The captures of a lambda, by its parameters and its body.
-pub fn find_captures(
+pub fn collect_free_vars(
     tree: &[u8],
     params: usize,
     body: usize,
@@ -266,7 +273,7 @@ pub fn find_captures(
     requires { ⌜ (length (now tree) ≤ 32768) × Slots (now tree) (now parent) × (slotsFrom + 256 ≤ length (now places)) × ParamsAt (now tree) params × ExprReads depth (now tree) body ⌝ }
     ensures { λ r. ⌜ Captured r (now (tree .entry)) (now (parent .entry)) (now (places .exit)) (captures (slotNames (now (tree .entry)) (now (parent .entry))) (paramsAt (now (tree .entry)) params .value) (exprAt depth (now (tree .entry)) body .value)) ⌝ }
 {
-    let all = refs_expr(tree, body, depth, parent, places, 0);
+    let all = collect_referenced_vars(tree, body, depth, parent, places, 0);
     let n = remove_params(tree, params, places, all.n);
     let end = 2048 + n as usize;
     sort_names(tree, &mut places[2048..end]);
@@ -290,7 +297,7 @@ pub fn lambda_slots(
         return Locals::TooMany;
     };
     let mut kept = [0u32; 2304];
-    let n = find_captures(tree, params, body, depth, parent, &mut kept);
+    let n = collect_free_vars(tree, params, body, depth, parent, &mut kept);
     if 255 < k + n {
         return Locals::TooMany;
     }

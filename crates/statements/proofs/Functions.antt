@@ -33,7 +33,7 @@ use Rattle.slots.specs.declared.Locals.{Locals}
 use Rattle.slots.specs.declared.Locals.the-variants.{Count}
 use Rattle.slots.specs.Slotted.{firstNames, Indexed, Collected}
 use Rattle.slots.proofs.Adding.{first-length, part-before, front-names, front-slots}
-use Rattle.statements.specs.Lowering.{Sole, BlockLowerable, blockCode, localsAt, endOf, functionCode}
+use Rattle.statements.specs.Lowering.{Sole, blockCode, localsAt, endOf, functionCode}
 use Rattle.statements.specs.Compiled.{Ahead, Compiles}
 use Rattle.statements.proofs.Sequences.{method-end}
 

@@ -16,7 +16,8 @@ use Rattle.names.proofs.Midway.{Midway}
 use Rattle.known.specs.Puts.{Known, Room, Puts}
 use Rattle.plain.proofs.Bridge.{knownOf, known-sound, room-sound, stopped-state, stopped-sound, puts-emits}
 use Rattle.statements.specs.Lowering.{StmtsLowerable, stmtCode, stmtsCode, StmtLowerable}
-use Rattle.statements.specs.Runs.{withWords, Ran}
+use Rattle.code.specs.Nesting.{withOpen}
+use Rattle.statements.specs.Runs.{Ran}
 use Rattle.statements.proofs.Arms.{stmts-more}
 use Rattle.statements.proofs.Blocks.{block-next}
 
@@ -45,17 +46,17 @@ module _ (d count : ℕ) (t : List ℕ) (names : List Name) (at : ℕ) (made tab
 
   module _ (code : List ℕ) (i p n : ℕ) (inv : Ran d count t names at made tables code₀ c l code i p n) where
     -- what a run is within a block
-    pub ran-midway : Midway (withWords n c) t made code tables c l (stmtsCode d (count - i) t names p) (emitAt (c .base) (stmtsCode d count t names at) (stateOf t made code₀ tables c))
+    pub ran-midway : Midway (withOpen n c) t made code tables c l (stmtsCode d (count - i) t names p) (emitAt (c .base) (stmtsCode d count t names at) (stateOf t made code₀ tables c))
     ran-midway = record { state = inv .state; base = refl; paced = record { methods = le-refl _; constants = le-refl _ }; sound = inv .sound }
 
     pub ran-head : i < count → StmtLowerable d t p
     ran-head h = stmts-more d t (count - i) p (omega arith) (inv .rest) .0
 
     pub ran-known : (slots known : List ℕ) → known ≡ knownOf c l → Slots t slots → length t ≤ 32768 → Known t slots made tables known
-    ran-known slots known e s h = subst (Known t slots made tables) (sym e) (known-sound t made code tables (withWords n c) l (inv .sound) slots s h)
+    ran-known slots known e s h = subst (Known t slots made tables) (sym e) (known-sound t made code tables (withOpen n c) l (inv .sound) slots s h)
 
     pub ran-room : (known : List ℕ) → known ≡ knownOf c l → Room code known n
-    ran-room known e = subst (λ (x : List ℕ). Room code x n) (sym e) (room-sound t made code tables (withWords n c) l (inv .sound))
+    ran-room known e = subst (λ (x : List ℕ). Room code x n) (sym e) (room-sound t made code tables (withOpen n c) l (inv .sound))
 
     module _ (r : ℕ) (code₁ known : List ℕ) (is : known ≡ knownOf c l) (kept : length code₁ ≡ length code) (a : Puts r t made tables known code code₁ n (stmtCode d t names p) (stmtAt d t p .end)) where
       by-counts : Puts r t made tables (knownOf c l) code code₁ n (stmtCode d t names p) (stmtAt d t p .end)
@@ -64,14 +65,14 @@ module _ (d count : ℕ) (t : List ℕ) (names : List Name) (at : ℕ) (made tab
       -- one more
       pub ran-next : (q m : ℕ) → i < count → (r ≡ 0 → ⊥) → q ≡ r / 65536 → m ≡ r % 65536 → Ran d count t names at made tables code₀ c l code₁ (i + 1) q m
       ran-next q m h z e f =
-          let b = block-next d t names (count - i) p (withWords n c) made code tables c l _ _ (inv .rest) (inv .end) ran-midway made code₁ tables (r / 65536) (withWords (r % 65536) c) _ (omega arith) refl
-          (puts-emits t made code tables (withWords n c) l (inv .sound) r code₁ _ _ by-counts z kept) in
+          let b = block-next d t names (count - i) p (withOpen n c) made code tables c l _ _ (inv .rest) (inv .end) ran-midway made code₁ tables (r / 65536) (withOpen (r % 65536) c) _ (omega arith) refl
+          (puts-emits t made code tables (withOpen n c) l (inv .sound) r code₁ _ _ by-counts z kept) in
           let y : count - i - 1 ≡ count - (i + 1) = omega arith in
           subst (λ (x : ℕ). Ran d count t names at made tables code₀ c l code₁ (i + 1) x m) (sym e) (subst (Ran d count t names at made tables code₀ c l code₁ (i + 1) (r / 65536)) (sym f) (record {
             few = omega arith;
             rest = subst (λ (x : ℕ). StmtsLowerable d x t (r / 65536)) y (b .0);
             end = ap (λ (x : ℕ). stmtsAt d x t (r / 65536) .end) (sym y) ∙ b .1;
-            state = ap (λ (x : ℕ). emitAt (c .base) (stmtsCode d x t names (r / 65536)) (stateOf t made code₁ tables (withWords (r % 65536) c))) (sym y) ∙ b .2 .state;
+            state = ap (λ (x : ℕ). emitAt (c .base) (stmtsCode d x t names (r / 65536)) (stateOf t made code₁ tables (withOpen (r % 65536) c))) (sym y) ∙ b .2 .state;
             sound = b .2 .sound;
           }))
 
@@ -81,8 +82,8 @@ module _ (d count : ℕ) (t : List ℕ) (names : List Name) (at : ℕ) (made tab
         few = inv .few;
         rest = inv .rest;
         end = inv .end;
-        state = ap (emitAt (c .base) (stmtsCode d (count - i) t names p)) (stopped-state t made code tables (withWords n c) l (inv .sound) r code₁ _ _ by-counts) ∙ inv .state;
-        sound = stopped-sound t made code tables (withWords n c) l (inv .sound) r code₁ _ _ by-counts kept;
+        state = ap (emitAt (c .base) (stmtsCode d (count - i) t names p)) (stopped-state t made code tables (withOpen n c) l (inv .sound) r code₁ _ _ by-counts) ∙ inv .state;
+        sound = stopped-sound t made code tables (withOpen n c) l (inv .sound) r code₁ _ _ by-counts kept;
       }
 
 -- the same for all counts that the known numbers are of
@@ -108,6 +109,6 @@ module _ (d count : ℕ) (t : List ℕ) (names : List Name) (at : ℕ) (made tab
 -- a run of i statements from p on, in the middle of a block
 pub block-run : (d : ℕ) (t : List ℕ) (names : List Name) (n p : ℕ) (k : Counts) (made code tables : List ℕ) (c : Counts) (l : Limits) (end : ℕ) (want : State) (code₁ : List ℕ) (i q m : ℕ)
     → stmtsAt d n t p .end ≡ end → Midway k t made code tables c l (stmtsCode d n t names p) want → Ran d n t names p made tables code k l code₁ i q m
-    → StmtsLowerable d (n - i) t q × (stmtsAt d (n - i) t q .end ≡ end) × Midway (withWords m k) t made code₁ tables c l (stmtsCode d (n - i) t names q) want
+    → StmtsLowerable d (n - i) t q × (stmtsAt d (n - i) t q .end ≡ end) × Midway (withOpen m k) t made code₁ tables c l (stmtsCode d (n - i) t names q) want
 block-run d t names n p k made code tables c l end want code₁ i q m ends mid r =
-    (r .rest, r .end ∙ ends, midway-both t made code tables made code₁ tables c k (withWords m k) l _ _ want mid (ran-midway d n t names p made tables code k l code₁ i q m r))
+    (r .rest, r .end ∙ ends, midway-both t made code tables made code₁ tables c k (withOpen m k) l _ _ want mid (ran-midway d n t names p made tables code k l code₁ i q m r))

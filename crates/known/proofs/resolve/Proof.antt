@@ -41,5 +41,5 @@ resolve-spec = tie.close (tie.spec
     let x = nameAt (a .tree .now) (a .at) in let e = g .before .name-part .ensures in let i = g .find-builtin .ensures ∙ ap (λ (y : Name). foundOr 15 (builtin y)) e in
     let n = classCount (a .known .now) in let q : classNamesFrom + n - classNamesFrom ≡ n = omega arith in
     let j = sought (nameAt (a .tree .now)) (a .tables .now) classNamesFrom (classNamesFrom + n - classNamesFrom) n _ x _ (omega (arith, s .pre .classes, s .pre .tables-room)) q e (u .find-place .ensures) in
-    λ t h. c .resolve-function .ensures t h ∙ ap (λ (y : Name). resolveFunction y t) e
+    λ t h. c .resolve-function-id .ensures t h ∙ ap (λ (y : Name). resolveFunction y t) e
     ∙ calls-other (a .tree .now) (a .slots .now) (a .made .now) (a .tables .now) (a .known .now) (s .pre) x t h _ _ i (b .if1 .left) j (c .before .if2 .left)))

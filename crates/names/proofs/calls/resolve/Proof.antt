@@ -27,5 +27,5 @@ resolve-spec = tie.close (tie.spec
     (λ c κs. search needs)  -- find-place-requires
     (λ c. search needs)  -- cast-if2
     (λ c. let g = c .before .before .before .before .before .before in let s = g .before .before .before .before .before .before in let a = s .args in let x = nameAt (a .tree .now) (a .at) in let e = g .before .name-part .ensures in let i = g .find-builtin .ensures ∙ ap (λ (y : Name). foundOr 15 (builtin y)) e in let u = c .before .before in let q : classNamesFrom + a .c .classes - classNamesFrom ≡ a .c .classes = omega arith in let j = sought (nameAt (a .tree .now)) (a .tables .now) classNamesFrom (classNamesFrom + a .c .classes - classNamesFrom) (a .c .classes) _ x _ (omega (arith, s .pre .limited .classes, s .pre .classes, s .pre .tables-room)) q e (u .find-place .ensures) in calls-class (a .tree .now) (a .made .now) (a .code .now) (a .tables .now) (a .c) (a .l) (s .pre) x _ _ i (c .before .before .before .before .before .if1 .left) j (c .if2 .taken))  -- returns-2
-    (λ c κs. search needs)  -- resolve-function-requires
-    (λ c. let g = c .before .before .before .before .before .before .before in let s = g .before .before .before .before .before .before in let a = s .args in let x = nameAt (a .tree .now) (a .at) in let e = g .before .name-part .ensures in let i = g .find-builtin .ensures ∙ ap (λ (y : Name). foundOr 15 (builtin y)) e in let u = c .before .before .before in let q : classNamesFrom + a .c .classes - classNamesFrom ≡ a .c .classes = omega arith in let j = sought (nameAt (a .tree .now)) (a .tables .now) classNamesFrom (classNamesFrom + a .c .classes - classNamesFrom) (a .c .classes) _ x _ (omega (arith, s .pre .limited .classes, s .pre .classes, s .pre .tables-room)) q e (u .find-place .ensures) in c .resolve-function .ensures ∙ ap (λ (y : Name). resolveFunction y (stateOf (a .tree .now) (a .made .now) (a .code .now) (a .tables .now) (a .c) .tables)) e ∙ calls-other (a .tree .now) (a .made .now) (a .code .now) (a .tables .now) (a .c) (a .l) (s .pre) x _ _ i (c .before .before .before .before .before .before .if1 .left) j (c .before .if2 .left)))  -- returns-3
+    (λ c κs. search needs)  -- resolve-function-id-requires
+    (λ c. let g = c .before .before .before .before .before .before .before in let s = g .before .before .before .before .before .before in let a = s .args in let x = nameAt (a .tree .now) (a .at) in let e = g .before .name-part .ensures in let i = g .find-builtin .ensures ∙ ap (λ (y : Name). foundOr 15 (builtin y)) e in let u = c .before .before .before in let q : classNamesFrom + a .c .classes - classNamesFrom ≡ a .c .classes = omega arith in let j = sought (nameAt (a .tree .now)) (a .tables .now) classNamesFrom (classNamesFrom + a .c .classes - classNamesFrom) (a .c .classes) _ x _ (omega (arith, s .pre .limited .classes, s .pre .classes, s .pre .tables-room)) q e (u .find-place .ensures) in c .resolve-function-id .ensures ∙ ap (λ (y : Name). resolveFunction y (stateOf (a .tree .now) (a .made .now) (a .code .now) (a .tables .now) (a .c) .tables)) e ∙ calls-other (a .tree .now) (a .made .now) (a .code .now) (a .tables .now) (a .c) (a .l) (s .pre) x _ _ i (c .before .before .before .before .before .before .if1 .left) j (c .before .if2 .left)))  -- returns-3

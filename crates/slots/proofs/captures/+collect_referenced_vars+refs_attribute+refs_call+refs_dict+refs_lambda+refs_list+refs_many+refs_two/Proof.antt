@@ -11,36 +11,36 @@ use borrow.Fn.Kinds.{In}
 use borrow.Fn.PlainCycle.{Measures, is, falls, and}
 use Rattle.slots.proofs.captures.refs_attribute.Reads as refs-attribute
 use Rattle.slots.proofs.captures.refs_attribute.Kinds as refs-attribute-kinds
-use Rattle.slots.proofs.captures.+refs_attribute+refs_call+refs_dict+refs_expr+refs_lambda+refs_list+refs_many+refs_two.Lts-refs_attribute as refs-attribute-lts
+use Rattle.slots.proofs.captures.+collect_referenced_vars+refs_attribute+refs_call+refs_dict+refs_lambda+refs_list+refs_many+refs_two.Lts-refs_attribute as refs-attribute-lts
 use Rattle.slots.proofs.captures.refs_call.Reads as refs-call
 use Rattle.slots.proofs.captures.refs_call.Kinds as refs-call-kinds
-use Rattle.slots.proofs.captures.+refs_attribute+refs_call+refs_dict+refs_expr+refs_lambda+refs_list+refs_many+refs_two.Lts-refs_call as refs-call-lts
+use Rattle.slots.proofs.captures.+collect_referenced_vars+refs_attribute+refs_call+refs_dict+refs_lambda+refs_list+refs_many+refs_two.Lts-refs_call as refs-call-lts
 use Rattle.slots.proofs.captures.refs_dict.Reads as refs-dict
 use Rattle.slots.proofs.captures.refs_dict.Kinds as refs-dict-kinds
-use Rattle.slots.proofs.captures.+refs_attribute+refs_call+refs_dict+refs_expr+refs_lambda+refs_list+refs_many+refs_two.Lts-refs_dict as refs-dict-lts
-use Rattle.slots.proofs.captures.refs_expr.Reads as refs-expr
-use Rattle.slots.proofs.captures.refs_expr.Kinds as refs-expr-kinds
-use Rattle.slots.proofs.captures.+refs_attribute+refs_call+refs_dict+refs_expr+refs_lambda+refs_list+refs_many+refs_two.Lts-refs_expr as refs-expr-lts
+use Rattle.slots.proofs.captures.+collect_referenced_vars+refs_attribute+refs_call+refs_dict+refs_lambda+refs_list+refs_many+refs_two.Lts-refs_dict as refs-dict-lts
+use Rattle.slots.proofs.captures.collect_referenced_vars.Reads as collect-referenced-vars
+use Rattle.slots.proofs.captures.collect_referenced_vars.Kinds as collect-referenced-vars-kinds
+use Rattle.slots.proofs.captures.+collect_referenced_vars+refs_attribute+refs_call+refs_dict+refs_lambda+refs_list+refs_many+refs_two.Lts-collect_referenced_vars as collect-referenced-vars-lts
 use Rattle.slots.proofs.captures.refs_lambda.Reads as refs-lambda
 use Rattle.slots.proofs.captures.refs_lambda.Kinds as refs-lambda-kinds
-use Rattle.slots.proofs.captures.+refs_attribute+refs_call+refs_dict+refs_expr+refs_lambda+refs_list+refs_many+refs_two.Lts-refs_lambda as refs-lambda-lts
+use Rattle.slots.proofs.captures.+collect_referenced_vars+refs_attribute+refs_call+refs_dict+refs_lambda+refs_list+refs_many+refs_two.Lts-refs_lambda as refs-lambda-lts
 use Rattle.slots.proofs.captures.refs_list.Reads as refs-list
 use Rattle.slots.proofs.captures.refs_list.Kinds as refs-list-kinds
-use Rattle.slots.proofs.captures.+refs_attribute+refs_call+refs_dict+refs_expr+refs_lambda+refs_list+refs_many+refs_two.Lts-refs_list as refs-list-lts
+use Rattle.slots.proofs.captures.+collect_referenced_vars+refs_attribute+refs_call+refs_dict+refs_lambda+refs_list+refs_many+refs_two.Lts-refs_list as refs-list-lts
 use Rattle.slots.proofs.captures.refs_many.Reads as refs-many
 use Rattle.slots.proofs.captures.refs_many.Kinds as refs-many-kinds
-use Rattle.slots.proofs.captures.+refs_attribute+refs_call+refs_dict+refs_expr+refs_lambda+refs_list+refs_many+refs_two.Lts-refs_many as refs-many-lts
+use Rattle.slots.proofs.captures.+collect_referenced_vars+refs_attribute+refs_call+refs_dict+refs_lambda+refs_list+refs_many+refs_two.Lts-refs_many as refs-many-lts
 use Rattle.slots.proofs.captures.refs_two.Reads as refs-two
 use Rattle.slots.proofs.captures.refs_two.Kinds as refs-two-kinds
-use Rattle.slots.proofs.captures.+refs_attribute+refs_call+refs_dict+refs_expr+refs_lambda+refs_list+refs_many+refs_two.Lts-refs_two as refs-two-lts
+use Rattle.slots.proofs.captures.+collect_referenced_vars+refs_attribute+refs_call+refs_dict+refs_lambda+refs_list+refs_many+refs_two.Lts-refs_two as refs-two-lts
 use Rattle.parts.proofs.names.name_end.Reads as name-end-reads
 use Rattle.parts.proofs.numbers.u16_at.Reads as u16-at-reads
 use Rattle.slots.proofs.captures.keep_name.Reads as keep-name-reads
 use Rattle.slots.proofs.captures.remove_params.Reads as remove-params-reads
 use Rattle.slots.proofs.skip.skip_expr.Reads as skip-expr-reads
 use Rattle.slots.proofs.skip.skip_params.Reads as skip-params-reads
-use Rattle.slots.proofs.captures.+refs_attribute+refs_call+refs_dict+refs_expr+refs_lambda+refs_list+refs_many+refs_two.{statement}
-use Rattle.slots.proofs.captures.+refs_attribute+refs_call+refs_dict+refs_expr+refs_lambda+refs_list+refs_many+refs_two.Tie.{close}
+use Rattle.slots.proofs.captures.+collect_referenced_vars+refs_attribute+refs_call+refs_dict+refs_lambda+refs_list+refs_many+refs_two.{statement}
+use Rattle.slots.proofs.captures.+collect_referenced_vars+refs_attribute+refs_call+refs_dict+refs_lambda+refs_list+refs_many+refs_two.Tie.{close}
 
 abbrev μ-refs-attribute : Measures 3 refs-attribute-kinds.ps ℕ
 μ-refs-attribute κs a = 4 * a .1 .1 .0 + 1
@@ -51,8 +51,8 @@ abbrev μ-refs-call : Measures 3 refs-call-kinds.ps ℕ
 abbrev μ-refs-dict : Measures 3 refs-dict-kinds.ps ℕ
 μ-refs-dict κs a = 4 * a .1 .1 .0 + 2
 
-abbrev μ-refs-expr : Measures 3 refs-expr-kinds.ps ℕ
-μ-refs-expr κs a = 4 * a .1 .1 .0
+abbrev μ-collect-referenced-vars : Measures 3 collect-referenced-vars-kinds.ps ℕ
+μ-collect-referenced-vars κs a = 4 * a .1 .1 .0
 
 abbrev μ-refs-lambda : Measures 3 refs-lambda-kinds.ps ℕ
 μ-refs-lambda κs a = 4 * a .1 .1 .0 + 1
@@ -96,12 +96,12 @@ abbrev refs-dict-below : ℕ → In 3 refs-dict-kinds.ps
 refs-dict-below t =
     and 3 refs-dict-kinds.ps (falls 3 refs-dict-kinds.ps _<_ μ-refs-dict t) refs-dict.Pre
 
-abbrev refs-expr-at : ℕ → In 3 refs-expr-kinds.ps
-refs-expr-at t = and 3 refs-expr-kinds.ps (is 3 refs-expr-kinds.ps μ-refs-expr t) refs-expr.Pre
+abbrev collect-referenced-vars-at : ℕ → In 3 collect-referenced-vars-kinds.ps
+collect-referenced-vars-at t = and 3 collect-referenced-vars-kinds.ps (is 3 collect-referenced-vars-kinds.ps μ-collect-referenced-vars t) collect-referenced-vars.Pre
 
-abbrev refs-expr-below : ℕ → In 3 refs-expr-kinds.ps
-refs-expr-below t =
-    and 3 refs-expr-kinds.ps (falls 3 refs-expr-kinds.ps _<_ μ-refs-expr t) refs-expr.Pre
+abbrev collect-referenced-vars-below : ℕ → In 3 collect-referenced-vars-kinds.ps
+collect-referenced-vars-below t =
+    and 3 collect-referenced-vars-kinds.ps (falls 3 collect-referenced-vars-kinds.ps _<_ μ-collect-referenced-vars t) collect-referenced-vars.Pre
 
 abbrev refs-lambda-at : ℕ → In 3 refs-lambda-kinds.ps
 refs-lambda-at t =
@@ -132,19 +132,19 @@ abbrev refs-two-below : ℕ → In 3 refs-two-kinds.ps
 refs-two-below t =
     and 3 refs-two-kinds.ps (falls 3 refs-two-kinds.ps _<_ μ-refs-two t) refs-two.Pre
 
-refs-attribute-ok : {M : Type 1} (t : ℕ) → refs-attribute-lts.Closed (refs-expr-below t, refs-expr.Post, name-end-reads.Asked, name-end-reads.Learnt) (refs-attribute-at t) refs-attribute.Post M
-refs-attribute-ok t = refs-attribute-lts.spec (refs-expr-below t, refs-expr.Post, name-end-reads.Asked, name-end-reads.Learnt) (refs-attribute-at t) refs-attribute.Post
-    (λ c κs. (omega arith, (c .before .before .before .before .pre .1 .0, c .before .before .before .before .pre .1 .1 .object)))  -- refs-expr-requires
-    (λ c κs. name-there _ _ _ _ _ _ _ (c .before .before .refs-expr .ensures) (c .before .before .before .before .before .before .before .pre .1 .1))  -- name-end-requires
+refs-attribute-ok : {M : Type 1} (t : ℕ) → refs-attribute-lts.Closed (collect-referenced-vars-below t, collect-referenced-vars.Post, name-end-reads.Asked, name-end-reads.Learnt) (refs-attribute-at t) refs-attribute.Post M
+refs-attribute-ok t = refs-attribute-lts.spec (collect-referenced-vars-below t, collect-referenced-vars.Post, name-end-reads.Asked, name-end-reads.Learnt) (refs-attribute-at t) refs-attribute.Post
+    (λ c κs. (omega arith, (c .before .before .before .before .pre .1 .0, c .before .before .before .before .pre .1 .1 .object)))  -- collect-referenced-vars-requires
+    (λ c κs. name-there _ _ _ _ _ _ _ (c .before .before .collect-referenced-vars .ensures) (c .before .before .before .before .before .before .before .pre .1 .1))  -- name-end-requires
     (λ c. search needs)  -- same-length
-    (λ c. refs-object _ _ _ _ _ _ _ (c .before .before .before .refs-expr .ensures) _ (c .name-end .ensures) refl)  -- returns
+    (λ c. refs-object _ _ _ _ _ _ _ (c .before .before .before .collect-referenced-vars .ensures) _ (c .name-end .ensures) refl)  -- returns
 
-refs-call-ok : {M : Type 1} (t : ℕ) → refs-call-lts.Closed (refs-expr-below t, refs-expr.Post, refs-list-below t, refs-list.Post) (refs-call-at t) refs-call.Post M
-refs-call-ok t = refs-call-lts.spec (refs-expr-below t, refs-expr.Post, refs-list-below t, refs-list.Post) (refs-call-at t) refs-call.Post
-    (λ c κs. (omega arith, (c .before .before .before .before .pre .1 .0, c .before .before .before .before .pre .1 .1 .callee)))  -- refs-expr-requires
-    (λ c κs. (omega arith, (keeping-again _ _ _ _ _ _ _ _ (c .before .before .before .before .before .before .before .before .pre .1 .0) (c .before .before .before .refs-expr .ensures) (c .before .before .before .refs-expr .kept .1 .1 .1 .1 .0) (held-expr _ _ _ (c .before .before .before .before .before .before .before .before .pre .1 .0 .held)), list-there _ _ _ _ _ _ _ (c .before .before .before .refs-expr .ensures) (c .before .before .before .before .before .before .before .before .pre .1 .1))))  -- refs-list-requires
+refs-call-ok : {M : Type 1} (t : ℕ) → refs-call-lts.Closed (collect-referenced-vars-below t, collect-referenced-vars.Post, refs-list-below t, refs-list.Post) (refs-call-at t) refs-call.Post M
+refs-call-ok t = refs-call-lts.spec (collect-referenced-vars-below t, collect-referenced-vars.Post, refs-list-below t, refs-list.Post) (refs-call-at t) refs-call.Post
+    (λ c κs. (omega arith, (c .before .before .before .before .pre .1 .0, c .before .before .before .before .pre .1 .1 .callee)))  -- collect-referenced-vars-requires
+    (λ c κs. (omega arith, (keeping-again _ _ _ _ _ _ _ _ (c .before .before .before .before .before .before .before .before .pre .1 .0) (c .before .before .before .collect-referenced-vars .ensures) (c .before .before .before .collect-referenced-vars .kept .1 .1 .1 .1 .0) (held-expr _ _ _ (c .before .before .before .before .before .before .before .before .pre .1 .0 .held)), list-there _ _ _ _ _ _ _ (c .before .before .before .collect-referenced-vars .ensures) (c .before .before .before .before .before .before .before .before .pre .1 .1))))  -- refs-list-requires
     (λ c. search needs)  -- same-length
-    (λ c. refs-args _ _ _ _ _ _ _ (c .before .before .before .before .before .before .refs-expr .ensures) _ _ (c .before .before .refs-list .ensures))  -- returns
+    (λ c. refs-args _ _ _ _ _ _ _ (c .before .before .before .before .before .before .collect-referenced-vars .ensures) _ _ (c .before .before .refs-list .ensures))  -- returns
 
 refs-dict-ok : {M : Type 1} (t : ℕ) → refs-dict-lts.Closed (u16-at-reads.Asked, u16-at-reads.Learnt, refs-many-below t, refs-many.Post) (refs-dict-at t) refs-dict.Post M
 refs-dict-ok t = refs-dict-lts.spec (u16-at-reads.Asked, u16-at-reads.Learnt, refs-many-below t, refs-many.Post) (refs-dict-at t) refs-dict.Post
@@ -155,14 +155,14 @@ refs-dict-ok t = refs-dict-lts.spec (u16-at-reads.Asked, u16-at-reads.Learnt, re
     (λ c. search needs)  -- same-length
     (λ c. refs-list _ _ _ _ _ _ _ (dict-is _ _ _ _ (c .before .before .before .before .u16-at .ensures .0)) (c .before .before .refs-many .ensures))  -- returns
 
-refs-expr-ok : {M : Type 1} (t : ℕ) → refs-expr-lts.Closed (keep-name-reads.Asked, keep-name-reads.Learnt, refs-expr-below t, refs-expr.Post, refs-two-below t, refs-two.Post, refs-call-below t, refs-call.Post, refs-attribute-below t, refs-attribute.Post, refs-list-below t, refs-list.Post, refs-dict-below t, refs-dict.Post, refs-lambda-below t, refs-lambda.Post, skip-expr-reads.Asked, skip-expr-reads.Learnt) (refs-expr-at t) refs-expr.Post M
-refs-expr-ok t = refs-expr-lts.spec (keep-name-reads.Asked, keep-name-reads.Learnt, refs-expr-below t, refs-expr.Post, refs-two-below t, refs-two.Post, refs-call-below t, refs-call.Post, refs-attribute-below t, refs-attribute.Post, refs-list-below t, refs-list.Post, refs-dict-below t, refs-dict.Post, refs-lambda-below t, refs-lambda.Post, skip-expr-reads.Asked, skip-expr-reads.Learnt) (refs-expr-at t) refs-expr.Post
+collect-referenced-vars-ok : {M : Type 1} (t : ℕ) → collect-referenced-vars-lts.Closed (keep-name-reads.Asked, keep-name-reads.Learnt, collect-referenced-vars-below t, collect-referenced-vars.Post, refs-two-below t, refs-two.Post, refs-call-below t, refs-call.Post, refs-attribute-below t, refs-attribute.Post, refs-list-below t, refs-list.Post, refs-dict-below t, refs-dict.Post, refs-lambda-below t, refs-lambda.Post, skip-expr-reads.Asked, skip-expr-reads.Learnt) (collect-referenced-vars-at t) collect-referenced-vars.Post M
+collect-referenced-vars-ok t = collect-referenced-vars-lts.spec (keep-name-reads.Asked, keep-name-reads.Learnt, collect-referenced-vars-below t, collect-referenced-vars.Post, refs-two-below t, refs-two.Post, refs-call-below t, refs-call.Post, refs-attribute-below t, refs-attribute.Post, refs-list-below t, refs-list.Post, refs-dict-below t, refs-dict.Post, refs-lambda-below t, refs-lambda.Post, skip-expr-reads.Asked, skip-expr-reads.Learnt) (collect-referenced-vars-at t) collect-referenced-vars.Post
     (λ c. let h = expr-inside _ _ _ (c .before .before .before .before .pre .1 .1) in omega arith)  -- shared-slice-read-kind
     (λ c. let h = expr-inside _ _ _ (c .before .before .before .before .pre .1 .1) in omega arith)  -- add-a
     (λ c κs. (c .before .before .before .before .before .before .pre .1 .0, view-var _ _ _ (c .before .before .before .before .before .before .pre .1 .1) (c .before .match .keys1) .parts))  -- keep-name-requires
-    (λ c. let h = view-unary _ _ _ (c .before .before .before .before .before .pre .1 .1) (c .match .keys2) .parts .inside in omega arith)  -- add-refs-expr
-    (λ c. let h = expr-deep _ _ _ (c .before .before .before .before .before .pre .1 .1) in omega arith)  -- sub-refs-expr
-    (λ c κs. let h = expr-deep _ _ _ (c .before .before .before .before .before .before .pre .1 .1) in (omega arith, (c .before .before .before .before .before .before .pre .1 .0, view-unary _ _ _ (c .before .before .before .before .before .before .pre .1 .1) (c .before .match .keys2) .parts .operand)))  -- refs-expr-requires
+    (λ c. let h = view-unary _ _ _ (c .before .before .before .before .before .pre .1 .1) (c .match .keys2) .parts .inside in omega arith)  -- add-collect-referenced-vars
+    (λ c. let h = expr-deep _ _ _ (c .before .before .before .before .before .pre .1 .1) in omega arith)  -- sub-collect-referenced-vars
+    (λ c κs. let h = expr-deep _ _ _ (c .before .before .before .before .before .before .pre .1 .1) in (omega arith, (c .before .before .before .before .before .before .pre .1 .0, view-unary _ _ _ (c .before .before .before .before .before .before .pre .1 .1) (c .before .match .keys2) .parts .operand)))  -- collect-referenced-vars-requires
     (λ c. let h = view-binary _ _ _ (c .before .before .before .before .before .pre .1 .1) (c .match .keys3) .parts .inside in omega arith)  -- add-refs-two
     (λ c. let h = expr-deep _ _ _ (c .before .before .before .before .before .pre .1 .1) in omega arith)  -- sub-refs-two
     (λ c κs. let h = expr-deep _ _ _ (c .before .before .before .before .before .before .pre .1 .1) in (omega arith, (c .before .before .before .before .before .before .pre .1 .0, view-binary _ _ _ (c .before .before .before .before .before .before .pre .1 .1) (c .before .match .keys3) .parts .operands)))  -- refs-two-requires
@@ -188,7 +188,7 @@ refs-expr-ok t = refs-expr-lts.spec (keep-name-reads.Asked, keep-name-reads.Lear
     (λ c. search needs)  -- same-length
     (λ c. refs-var _ _ _ (c .before .before .before .before .before .before .before .before .before .pre .1 .1) _ _ _ _ (c .before .before .before .before .match .keys1) (c .before .before .keep-name .ensures))  -- returns
     (λ c. search needs)  -- same-length-2
-    (λ c. refs-unary _ _ _ (c .before .before .before .before .before .before .before .before .before .pre .1 .1) _ _ _ _ (c .before .before .before .before .match .keys2) (c .before .before .refs-expr .ensures))  -- returns-2
+    (λ c. refs-unary _ _ _ (c .before .before .before .before .before .before .before .before .before .pre .1 .1) _ _ _ _ (c .before .before .before .before .match .keys2) (c .before .before .collect-referenced-vars .ensures))  -- returns-2
     (λ c. search needs)  -- same-length-3
     (λ c. refs-binary _ _ _ (c .before .before .before .before .before .before .before .before .before .pre .1 .1) _ _ _ _ (c .before .before .before .before .match .keys3) (c .before .before .refs-two .ensures))  -- returns-3
     (λ c. search needs)  -- same-length-4
@@ -211,13 +211,13 @@ refs-expr-ok t = refs-expr-lts.spec (keep-name-reads.Asked, keep-name-reads.Lear
     (λ c. refs-lambda _ _ _ (c .before .before .before .before .before .before .before .before .before .pre .1 .1) _ _ _ _ (c .before .before .before .before .match .keys12) (c .before .before .refs-lambda .ensures))  -- returns-12
     (λ c. let n = c .before .match .rest in refs-literal _ _ _ (c .before .before .before .before .before .before .pre .1 .1) _ _ _ _ (literal-kinds _ (expr-known _ _ _ (c .before .before .before .before .before .before .pre .1 .1)) (n .0 .0 .0 .0 .0 .0 .0 .0 .0 .0 .0 .1) (n .0 .0 .0 .0 .0 .0 .0 .0 .0 .0 .1) (n .0 .0 .0 .0 .0 .0 .0 .0 .0 .1) (n .0 .0 .0 .0 .0 .0 .0 .0 .1) (n .0 .0 .0 .0 .0 .0 .0 .1) (n .0 .0 .0 .0 .0 .0 .1) (n .0 .0 .0 .0 .0 .1) (n .0 .0 .0 .0 .1) (n .0 .0 .0 .1) (n .0 .0 .1) (n .0 .1) (n .1)) (c .skip-expr .ensures) refl (c .before .before .before .before .before .before .pre .1 .0 .most) (c .before .before .before .before .before .before .pre .1 .0 .indexed))  -- returns-13
 
-refs-lambda-ok : {M : Type 1} (t : ℕ) → refs-lambda-lts.Closed (skip-params-reads.Asked, skip-params-reads.Learnt, refs-expr-below t, refs-expr.Post, remove-params-reads.Asked, remove-params-reads.Learnt) (refs-lambda-at t) refs-lambda.Post M
-refs-lambda-ok t = refs-lambda-lts.spec (skip-params-reads.Asked, skip-params-reads.Learnt, refs-expr-below t, refs-expr.Post, remove-params-reads.Asked, remove-params-reads.Learnt) (refs-lambda-at t) refs-lambda.Post
+refs-lambda-ok : {M : Type 1} (t : ℕ) → refs-lambda-lts.Closed (skip-params-reads.Asked, skip-params-reads.Learnt, collect-referenced-vars-below t, collect-referenced-vars.Post, remove-params-reads.Asked, remove-params-reads.Learnt) (refs-lambda-at t) refs-lambda.Post M
+refs-lambda-ok t = refs-lambda-lts.spec (skip-params-reads.Asked, skip-params-reads.Learnt, collect-referenced-vars-below t, collect-referenced-vars.Post, remove-params-reads.Asked, remove-params-reads.Learnt) (refs-lambda-at t) refs-lambda.Post
     (λ c κs. c .before .before .before .pre .1 .1 .params)  -- skip-params-requires
-    (λ c κs. (omega arith, (c .before .before .before .before .before .pre .1 .0, body-there _ _ _ _ (c .before .skip-params .ensures) (c .before .before .before .before .before .pre .1 .1))))  -- refs-expr-requires
-    (λ c κs. (c .before .before .before .before .before .before .before .before .before .pre .1 .1 .params, c .before .before .before .refs-expr .ensures .most, c .before .before .before .refs-expr .ensures .indexed))  -- remove-params-requires
+    (λ c κs. (omega arith, (c .before .before .before .before .before .pre .1 .0, body-there _ _ _ _ (c .before .skip-params .ensures) (c .before .before .before .before .before .pre .1 .1))))  -- collect-referenced-vars-requires
+    (λ c κs. (c .before .before .before .before .before .before .before .before .before .pre .1 .1 .params, c .before .before .before .collect-referenced-vars .ensures .most, c .before .before .before .collect-referenced-vars .ensures .indexed))  -- remove-params-requires
     (λ c. search needs)  -- same-length
-    (λ c. refs-body _ _ _ _ _ _ _ _ _ _ (c .before .before .before .before .before .before .before .before .skip-params .ensures) (c .before .before .before .before .before .before .refs-expr .ensures) refl (c .before .before .remove-params .ensures) (c .before .before .remove-params .kept .1 .1 .0))  -- returns
+    (λ c. refs-body _ _ _ _ _ _ _ _ _ _ (c .before .before .before .before .before .before .before .before .skip-params .ensures) (c .before .before .before .before .before .before .collect-referenced-vars .ensures) refl (c .before .before .remove-params .ensures) (c .before .before .remove-params .kept .1 .1 .0))  -- returns
 
 refs-list-ok : {M : Type 1} (t : ℕ) → refs-list-lts.Closed (u16-at-reads.Asked, u16-at-reads.Learnt, refs-many-below t, refs-many.Post) (refs-list-at t) refs-list.Post M
 refs-list-ok t = refs-list-lts.spec (u16-at-reads.Asked, u16-at-reads.Learnt, refs-many-below t, refs-many.Post) (refs-list-at t) refs-list.Post
@@ -233,22 +233,22 @@ refs-many-Inv-loop tree at depth count parent places₀ n p₀ left₀ k₀ plac
 abbrev refs-many-μ-loop : refs-many-lts.MeasureT-loop
 refs-many-μ-loop tree at depth count parent places₀ n p₀ left₀ k₀ places p left k = left
 
-refs-many-ok : {M : Type 1} (t : ℕ) → refs-many-lts.Closed (refs-expr-below t, refs-expr.Post) (refs-many-at t) refs-many.Post M
-refs-many-ok t = refs-many-lts.spec (refs-expr-below t, refs-expr.Post) (refs-many-at t) refs-many.Post refs-many-Inv-loop refs-many-μ-loop
+refs-many-ok : {M : Type 1} (t : ℕ) → refs-many-lts.Closed (collect-referenced-vars-below t, collect-referenced-vars.Post) (refs-many-at t) refs-many.Post M
+refs-many-ok t = refs-many-lts.spec (collect-referenced-vars-below t, collect-referenced-vars.Post) (refs-many-at t) refs-many.Post refs-many-Inv-loop refs-many-μ-loop
     (λ c. exprs-start _ _ _ _ _ _ _ (c .before .before .before .pre .1 .0) (c .before .before .before .pre .1 .1))  -- loop-holds
-    (λ c κs. (omega arith, (c .before .before .loop .inv .keeping, exprs-head _ _ _ _ _ _ _ _ _ _ _ (c .before .before .loop .inv) (c .before .loop-test .taken))))  -- refs-expr-requires
+    (λ c κs. (omega arith, (c .before .before .loop .inv .keeping, exprs-head _ _ _ _ _ _ _ _ _ _ _ (c .before .before .loop .inv) (c .before .loop-test .taken))))  -- collect-referenced-vars-requires
     (λ c. omega arith)  -- sub-left
     (λ c. omega arith)  -- loop-less
-    (λ c. exprs-next _ _ _ _ _ _ _ _ _ _ _ (c .before .before .before .before .before .loop .inv) (c .before .before .before .before .loop-test .taken) _ _ (c .before .before .refs-expr .ensures) (c .before .before .refs-expr .kept .1 .1 .1 .1 .0))  -- loop-again
+    (λ c. exprs-next _ _ _ _ _ _ _ _ _ _ _ (c .before .before .before .before .before .loop .inv) (c .before .before .before .before .loop-test .taken) _ _ (c .before .before .collect-referenced-vars .ensures) (c .before .before .collect-referenced-vars .kept .1 .1 .1 .1 .0))  -- loop-again
     (λ c. c .before .loop .inv .kept)  -- same-length
     (λ c. exprs-done _ _ _ _ _ _ _ _ _ _ _ (c .before .loop .inv) _ refl refl (c .loop-test .left))  -- returns
 
-refs-two-ok : {M : Type 1} (t : ℕ) → refs-two-lts.Closed (refs-expr-below t, refs-expr.Post) (refs-two-at t) refs-two.Post M
-refs-two-ok t = refs-two-lts.spec (refs-expr-below t, refs-expr.Post) (refs-two-at t) refs-two.Post
-    (λ c κs. (omega arith, (c .before .before .before .before .pre .1 .0, c .before .before .before .before .pre .1 .1 .first)))  -- refs-expr-requires
-    (λ c κs. (omega arith, (keeping-again _ _ _ _ _ _ _ _ (c .before .before .before .before .before .before .before .before .pre .1 .0) (c .before .before .before .refs-expr .ensures) (c .before .before .before .refs-expr .kept .1 .1 .1 .1 .0) (held-expr _ _ _ (c .before .before .before .before .before .before .before .before .pre .1 .0 .held)), second-there _ _ _ _ _ _ _ (c .before .before .before .refs-expr .ensures) (c .before .before .before .before .before .before .before .before .pre .1 .1))))  -- refs-expr-requires-2
+refs-two-ok : {M : Type 1} (t : ℕ) → refs-two-lts.Closed (collect-referenced-vars-below t, collect-referenced-vars.Post) (refs-two-at t) refs-two.Post M
+refs-two-ok t = refs-two-lts.spec (collect-referenced-vars-below t, collect-referenced-vars.Post) (refs-two-at t) refs-two.Post
+    (λ c κs. (omega arith, (c .before .before .before .before .pre .1 .0, c .before .before .before .before .pre .1 .1 .first)))  -- collect-referenced-vars-requires
+    (λ c κs. (omega arith, (keeping-again _ _ _ _ _ _ _ _ (c .before .before .before .before .before .before .before .before .pre .1 .0) (c .before .before .before .collect-referenced-vars .ensures) (c .before .before .before .collect-referenced-vars .kept .1 .1 .1 .1 .0) (held-expr _ _ _ (c .before .before .before .before .before .before .before .before .pre .1 .0 .held)), second-there _ _ _ _ _ _ _ (c .before .before .before .collect-referenced-vars .ensures) (c .before .before .before .before .before .before .before .before .pre .1 .1))))  -- collect-referenced-vars-requires-2
     (λ c. search needs)  -- same-length
-    (λ c. refs-second _ _ _ _ _ _ _ (c .before .before .before .before .before .before .refs-expr .ensures) _ _ (c .before .before .refs-expr2 .ensures))  -- returns
+    (λ c. refs-second _ _ _ _ _ _ _ (c .before .before .before .before .before .before .collect-referenced-vars .ensures) _ _ (c .before .before .collect-referenced-vars2 .ensures))  -- returns
 
-pub +refs-attribute+refs-call+refs-dict+refs-expr+refs-lambda+refs-list+refs-many+refs-two-spec : {M : Type 1} → statement M
-+refs-attribute+refs-call+refs-dict+refs-expr+refs-lambda+refs-list+refs-many+refs-two-spec = close μ-refs-attribute μ-refs-call μ-refs-dict μ-refs-expr μ-refs-lambda μ-refs-list μ-refs-many μ-refs-two refs-attribute-ok refs-call-ok refs-dict-ok refs-expr-ok refs-lambda-ok refs-list-ok refs-many-ok refs-two-ok
+pub +collect-referenced-vars+refs-attribute+refs-call+refs-dict+refs-lambda+refs-list+refs-many+refs-two-spec : {M : Type 1} → statement M
++collect-referenced-vars+refs-attribute+refs-call+refs-dict+refs-lambda+refs-list+refs-many+refs-two-spec = close μ-collect-referenced-vars μ-refs-attribute μ-refs-call μ-refs-dict μ-refs-lambda μ-refs-list μ-refs-many μ-refs-two collect-referenced-vars-ok refs-attribute-ok refs-call-ok refs-dict-ok refs-lambda-ok refs-list-ok refs-many-ok refs-two-ok

@@ -6,12 +6,12 @@ use Rattle.names.specs.Calls.{calleeOf}
 use Rattle.names.proofs.Finding.{sought-word}
 use Rattle.names.proofs.Calling.{calls-unknown, calls-value, calls-function}
 use borrow.Author.Needs.{needs}
-use Rattle.names.proofs.calls.resolve_function.Statement.{statement}
-use Rattle.names.proofs.calls.resolve_function.Tie as tie
+use Rattle.names.proofs.calls.resolve_function_id.Statement.{statement}
+use Rattle.names.proofs.calls.resolve_function_id.Tie as tie
 
-pub resolve-function-spec : {M : Type 1} → statement M
+pub resolve-function-id-spec : {M : Type 1} → statement M
 unfolding calleeOf
-resolve-function-spec = tie.close (tie.spec
+resolve-function-id-spec = tie.close (tie.spec
     (λ c κs. search needs)  -- find-symbol-requires
     (λ c. let k = c .before .before in let s = k .before .before .before .before .before .before in let a = s .args in calls-unknown (a .tree .now) (a .made .now) (a .code .now) (a .tables .now) (a .c) (a .l) (s .pre) (a .name .now) _ (k .find-symbol .ensures) (c .if1 .taken))  -- returns
     (λ c. search needs)  -- cast-end

@@ -7,12 +7,12 @@ use Rattle.names.specs.Calls.{calleeOf}
 use Rattle.names.proofs.Finding.{sought-word}
 use Rattle.known.specs.Puts.{functionCount}
 use Rattle.known.proofs.Lookups.{calls-unknown, calls-value, calls-function}
-use Rattle.known.proofs.resolve_function.Statement.{statement}
-use Rattle.known.proofs.resolve_function.Tie as tie
+use Rattle.known.proofs.resolve_function_id.Statement.{statement}
+use Rattle.known.proofs.resolve_function_id.Tie as tie
 
-pub resolve-function-spec : {M : Type 1} → statement M
+pub resolve-function-id-spec : {M : Type 1} → statement M
 unfolding calleeOf
-resolve-function-spec = tie.close (tie.spec
+resolve-function-id-spec = tie.close (tie.spec
     (λ c. search needs)
     (λ c κs. search needs)
     (λ c. search needs)
