@@ -1,12 +1,13 @@
 -- Names and strings that are looked up: an instruction with the number that was found, and what a call by name calls.
-use Prim.Native.Nat.{ℕ, _+_, _/_, _^_, _≤_, _<_}
+use Prim.Native.Nat.{ℕ, suc, _+_, _-_, _/_, _^_, _≤_, _<_}
 use mathlib.Core.Path.{_≡_, refl, sym, ap, _∙_}
-use mathlib.Core.Bool.{Bool}
+use mathlib.Core.Bool.{Bool, true}
 use mathlib.Core.Option.{Option, none, some}
 use mathlib.Core.List.{List, [], _∷_, map}
 use native.Mathlib.Omega.{arith}
 use lib.Dec.{eqb}
-use lib.ListN.{length, length-map}
+use lib.ListN.{length, take, drop, getD, length-map}
+use lib.Seq.{drop-cons}
 use Rattle.definitions.specs.Bytes.{Name, Text, same, position}
 use Rattle.definitions.specs.Instruction.{Instr, instr}
 use Rattle.definitions.specs.Tables.{Function, Class, Tables, Out, Emit, one, addSymbol, addString, intern, getOrAddString}
@@ -14,11 +15,13 @@ use Rattle.definitions.specs.Builtins.{builtin}
 use Rattle.definitions.specs.Lower.{Callee, builtinCallee, functionCallee, valueCallee, resolveFunction, resolve}
 use Rattle.definitions.proofs.Resolve.{position-lt}
 use Rattle.state.specs.Words.{region, textAt}
+use Rattle.state.specs.Index.{bucketOf, Covered, startOf}
 use Rattle.state.specs.State.{stringsFrom, headsFrom, classNamesFrom, spelled, namesAt, foundOr}
 use Rattle.state.proofs.Regions.{region-length}
 use Rattle.names.specs.Variable.{variableBy, variable}
 use Rattle.names.proofs.Finding.{step, position-cons, names-length}
 use Rattle.names.proofs.Calling.{builtin-below}
+use Rattle.names.proofs.TableIndex.{indexed-found}
 use Rattle.known.specs.Puts.{symbolCount, stringCount, functionCount, classCount, Known, Shown, Puts}
 use Rattle.known.proofs.Putting.{puts-same}
 
@@ -41,6 +44,24 @@ pub position-map : {A B : Type 0} (test : B → Bool) (f : A → B) (xs : List A
 unfolding position
 position-map test f [] = refl
 position-map test f (x ∷ xs) = position-cons test (f x) (map f xs) ∙ ap (step (test (f x))) (position-map test f xs) ∙ sym (position-cons (λ a. test (f a)) x xs)
+
+-- ---- a name at the first number of its bucket
+
+found-first : (test : Name → Bool) (n : ℕ) (x : Name) (xs : List Name) → test x ≡ true → foundOr n (position test (x ∷ xs)) ≡ 0
+unfolding step foundOr
+found-first test n x xs e = ap (foundOr n) (position-cons test x xs ∙ ap (λ (b : Bool). step b (position test xs)) e)
+
+-- the word at p, the s-th of n words from a on, is spelled so, and s is where the search by the bucket begins: it is the number sought
+pub near-found : (f : ℕ → Name) (ts buckets : List ℕ) (size a n : ℕ) (x : Name) (s b p : ℕ) → a + n ≤ length ts → Covered size buckets 0 (map f (region a n ts)) → b ≡ bucketOf size x
+    → s ≡ startOf (getD buckets b 0) n → p ≡ a + s → s < n → same x (f (getD ts p 0)) ≡ true → s ≡ foundOr n (position (same x) (map f (region a n ts)))
+near-found f ts buckets size a n x s b p inside v bucket start from h e =
+    let m : n - s ≡ suc (n - s - 1) = omega arith in
+    let t = drop-cons ts p 0 (omega arith) in
+    let rest : take (n - s) (drop p ts) ≡ getD ts p 0 ∷ take (n - s - 1) (drop (suc p) ts) = (λ j. take (m j) (t j)) in
+    let zero-is : foundOr (length (take (n - s) (drop p ts))) (position (same x) (map f (take (n - s) (drop p ts)))) ≡ 0 =
+    ap (λ (ws : List ℕ). foundOr (length (take (n - s) (drop p ts))) (position (same x) (map f ws))) rest ∙ found-first (same x) _ (f (getD ts p 0)) _ e in
+    let all = indexed-found f ts buckets size a n x s b 0 p (n - s) inside v bucket start from refl (sym zero-is) in
+    omega (arith, all)
 
 -- ---- an instruction with the number of a name, of a string
 

@@ -1,12 +1,15 @@
 // Words of constants, names and strings that are numbered already. An answer is the next position in the tree times 65,536, and how many words are
 // open now; or 0 where a name or a string is new, or there is no room.
+pub mod near; // near.rt: names and strings at the first number of their bucket
+
+use crate::near::near_string;
+use crate::near::near_symbol;
 use code::packed;
 use names::Callee;
 use names::calls::find_builtin;
 use names::emit::find_slot;
 use names::find::find_head;
 use names::find::find_place;
-use names::number::find_string;
 use names::number::find_symbol;
 use names::spell::name_part;
 use names::spell::text_part;
@@ -121,7 +124,7 @@ pub fn put_symbol(
     requires { ⌜ Known (now tree) (now slots) (now made) (now tables) (now known) × Room (now code) (now known) n × (next < 65536) × Plain op 0 b ⌝ }
     ensures { λ r. ⌜ Puts r (now (tree .entry)) (now (made .entry)) (now (tables .entry)) (now (known .entry)) (now (code .entry)) (now (code .exit)) n (intern (nameAt (now (tree .entry)) at) (λ k. one (instr op k b))) next ⌝ }
 {
-    let k = find_symbol(tree, made, tables, known[0], name_part(tree, at));
+    let k = near_symbol(tree, made, tables, known[0], name_part(tree, at));
     if known[0] <= k {
         return 0;
     }
@@ -178,7 +181,7 @@ pub fn put_string(
     requires { ⌜ Known (now tree) (now slots) (now made) (now tables) (now known) × Room (now code) (now known) n × (next < 65536) ⌝ }
     ensures { λ r. ⌜ Puts r (now (tree .entry)) (now (made .entry)) (now (tables .entry)) (now (known .entry)) (now (code .entry)) (now (code .exit)) n (getOrAddString (textAt (now (tree .entry)) at) (λ k. one (ConstStr k))) next ⌝ }
 {
-    let k = find_string(tree, tables, known[1], text_part(tree, at));
+    let k = near_string(tree, tables, known[1], text_part(tree, at));
     if known[1] <= k {
         return 0;
     }

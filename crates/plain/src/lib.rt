@@ -8,6 +8,7 @@ use codes::binary_code;
 use codes::build_code;
 use codes::held;
 use codes::unary_code;
+use known::near::is_near;
 use known::placed;
 use known::position;
 use known::put_op;
@@ -348,7 +349,7 @@ fn plain_attribute(
     put_symbol(tree, slots, made, code, tables, known, name, 36, 0, next, m)
 }
 
-// A call by name or of an attribute; 0 for another callee.
+// A call by name or of an attribute; 0 for another callee, and for a name that is long to find.
 fn plain_call(
     tree: &[u8],
     at: usize,
@@ -367,7 +368,10 @@ fn plain_call(
 {
     let kind = tree[at];
     if kind == 6 {
-        return plain_named(tree, at + 1, depth, slots, made, code, tables, known, n);
+        if is_near(tree, slots, made, tables, known, at + 1) {
+            return plain_named(tree, at + 1, depth, slots, made, code, tables, known, n);
+        }
+        return 0;
     }
     if kind == 10 {
         return plain_method(tree, at + 1, depth, slots, made, code, tables, known, n);

@@ -19,4 +19,4 @@ put-string-spec = tie.close (tie.spec
     (s .pre .1, s .pre .2, plain-below _ _ _ (omega arith) (omega arith) (omega (arith, s .pre .0 .strings, i .if1 .left)) (omega arith)))
     (λ c. search needs)
     (λ c. let p = c .before .before in let i = p .before .before in let f = i .before .before in let g = f .before in let s = g .before .before .before .before .before .before .before in let a = s .args in
-    puts-string (textAt (a .tree .now) (a .at)) _ _ (λ k. ConstStr k) (g .text-part .ensures) (f .find-string .ensures) (i .if1 .left) (p .put-op .ensures)))
+    puts-string (textAt (a .tree .now) (a .at)) _ _ (λ k. ConstStr k) (g .text-part .ensures) (f .near-string .ensures (i .if1 .left)) (i .if1 .left) (p .put-op .ensures)))

@@ -19,4 +19,4 @@ put-symbol-spec = tie.close (tie.spec
     (s .pre .1, s .pre .2, plain-with _ _ _ (omega (arith, s .pre .0 .symbols, i .if1 .left)) (s .pre .3)))
     (λ c. search needs)
     (λ c. let p = c .before .before in let i = p .before .before in let f = i .before .before in let g = f .before in let s = g .before .before .before .before .before .before .before in let a = s .args in
-    puts-symbol (nameAt (a .tree .now) (a .at)) _ _ (λ k. instr (a .op) k (a .b)) (g .name-part .ensures) (f .find-symbol .ensures) (i .if1 .left) (p .put-op .ensures)))
+    puts-symbol (nameAt (a .tree .now) (a .at)) _ _ (λ k. instr (a .op) k (a .b)) (g .name-part .ensures) (f .near-symbol .ensures (i .if1 .left)) (i .if1 .left) (p .put-op .ensures)))
