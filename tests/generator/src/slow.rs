@@ -322,6 +322,45 @@ fn tried() -> Vec<Case> {
     vec![
         script("slow-tried-calls", &calls),
         script("slow-tried-names", &new_names),
-        script("slow-tried-lists", &[expr(var("a")), expr(in_lists(lambda(&[], none())))]),
+        script(
+            "slow-tried-lists",
+            &[expr(var("a")), expr(in_lists(lambda(&[], none())))],
+        ),
+        script("slow-tried-bucket", &one_bucket()),
     ]
+}
+
+/// The bucket of a symbol's name: of two names with one bucket the later is
+/// sought from the earlier on.
+fn bucket(name: &str) -> u32 {
+    let hash = |h: u32, b: u8| (h * 30_011 + u32::from(b)) % 65_536;
+    name.bytes().fold(0, hash) % 8_192
+}
+
+/// Nearly as many symbols as there may be, the last in the bucket of the
+/// first, and calls and loads of the last before a lambda in a list in a list.
+fn one_bucket() -> Vec<Bytes> {
+    let named = |c: char| {
+        alike(1_000, 3)
+            .into_iter()
+            .map(move |n| n.replacen('a', &c.to_string(), 1))
+    };
+    let mut names: Vec<String> = ('a'..='z').flat_map(named).collect();
+    let with_same = |first: &String| {
+        names
+            .iter()
+            .position(|n| n != first && bucket(n) == bucket(first))
+    };
+    let (first, last) = (0..names.len())
+        .find_map(|n| Some((n, with_same(&names[n])?)))
+        .expect("two names with one bucket");
+    let (first, last) = (names[first].clone(), names[last].clone());
+    names.retain(|n| *n != first && *n != last);
+    names.truncate(1_000);
+    names.insert(0, first);
+    names.push(last.clone());
+    let mut items = times(1_800, &call_name(&last, &[]));
+    items.extend(times(2_000, &var(&last)));
+    items.push(lambda(&[], none()));
+    vec![unpacked(&variables(&names)), expr(list(&[list(&items)]))]
 }
