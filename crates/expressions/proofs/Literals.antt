@@ -1,10 +1,10 @@
 -- A literal's end and code, by what it is.
-use Prim.Native.Nat.{ℕ, zero, suc, _+_, _*_, _<_, _≤_}
+use Prim.Native.Nat.{ℕ, zero, suc, _+_, _<_}
 use mathlib.Core.Path.{_≡_, refl, sym, ap, _∙_, subst}
 use mathlib.Core.Bool.{Bool, cond}
 use mathlib.Core.List.{List}
 use native.Mathlib.Omega.{arith}
-use lib.ListN.{length, take, drop, getD}
+use lib.ListN.{getD}
 use Rattle.definitions.specs.Bytes.{Text}
 use Rattle.definitions.specs.Tree as Tree
 use Rattle.definitions.specs.Tree.{noneL, boolL, intL, floatL, stringL, Expr, lit}
@@ -14,35 +14,14 @@ use lib.Ieee.{Float}
 use Rattle.definitions.specs.Tables.{Emit, one, getOrAddString}
 use Rattle.definitions.specs.Lower.{literal}
 use Rattle.parts.specs.Places as Places
-use Rattle.parts.specs.Places.{Node, node, countAt, Counted, eightAt}
+use Rattle.parts.specs.Places.{Node, node, countAt, Counted}
 use Rattle.exprs.specs.ExprAt.{exprAt, intAt, floatAt, stringAt}
 use Rattle.exprs.specs.Literals.{literalOf, LiteralAt}
 use Rattle.exprs.specs.declared.literals.Literal.{Literal}
 use Rattle.exprs.specs.declared.literals.Literal.the-variants.{None, Bool as Truth, Int, Float as Double, Nan, Text as Bytestring}
 use Rattle.exprs.proofs.ExprViews.{view-none, view-false, view-true, view-int, view-float, view-string}
-use Rattle.exprs.proofs.LiteralLaws.{eight-is}
 use Rattle.state.specs.Words.{numberAt, textAt}
-
--- ---- numbers and texts are the same in both views
-
-pub count-same : (t : List ℕ) (p : ℕ) → numberAt 2 t p ≡ countAt t p
-unfolding numberAt countAt
-count-same t p = omega arith
-
-pub text-same : (t : List ℕ) (p : ℕ) → Places.textAt t p .value ≡ textAt t p
-unfolding Places.textAt textAt
-text-same t p = ap (λ (n : ℕ). take n (drop (p + 2) t)) (sym (count-same t p))
-
-eight-of : (t : List ℕ) (p : ℕ) → numberAt 8 t p ≡ ((countAt t p * 65536 + countAt t (p + 1 + 1)) * 65536 + countAt t (p + 1 + 1 + 1 + 1)) * 65536 + countAt t (p + 1 + 1 + 1 + 1 + 1 + 1)
-unfolding numberAt countAt
-eight-of t p = omega arith
-
-pub eight-same : (t : List ℕ) (p : ℕ) → p + 8 ≤ length t → eightAt t p ≡ numberAt 8 t p
-eight-same t p h =
-    let a : p + 2 ≡ p + 1 + 1 = omega arith in
-    let b : p + 4 ≡ p + 1 + 1 + 1 + 1 = omega arith in
-    let c : p + 6 ≡ p + 1 + 1 + 1 + 1 + 1 + 1 = omega arith in
-    sym (eight-of t p ∙ eight-is t p _ _ _ _ h refl (ap (countAt t) (sym a)) (ap (countAt t) (sym b)) (ap (countAt t) (sym c)))
+use Rattle.plain.proofs.Constants.{text-same, eight-same}
 
 -- ---- the literal l stands at p
 

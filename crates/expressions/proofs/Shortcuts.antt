@@ -1,12 +1,10 @@
 -- `and` and `or`: a placeholder, the right side, a jump over the constant, the constant, and the placeholder set.
 use Prim.Native.Nat.{ℕ, suc, _+_, _-_, _≤_}
 use mathlib.Core.Path.{_≡_, refl, sym, ap, _∙_}
-use mathlib.Core.Bool.{Bool, true, false}
 use mathlib.Core.List.{List, [], _∷_}
 use native.Mathlib.Omega.{arith}
 use lib.Dec.{eqb}
 use lib.ListN.{length, set, length-append}
-use borrow.Author.Tests.{eqb-true, eqb-false}
 use Rattle.definitions.specs.Instruction.{Instr, instr, ConstBool, Jump}
 use Rattle.definitions.specs.Tables.{Emit, one}
 use Rattle.definitions.specs.Lower.{jumpOn, shortcut}
@@ -23,6 +21,7 @@ use Rattle.state.proofs.Jumps.{at-shortcut}
 use Rattle.state.proofs.Growth.{Lengthens}
 use Rattle.state.proofs.Within.{within-one, within-down, within-set, within-shortcut}
 use Rattle.expressions.specs.Step.{Lowers}
+use Rattle.plain.proofs.Shortcuts.{jump-is, constant-is}
 
 -- ---- the end, after the right side
 
@@ -70,22 +69,6 @@ open-grows t made code tables made′ code′ tables′ c k l e s f =
     omega arith
 
 -- ---- the whole
-
--- the instructions by the opcode of the jump
-jump-is : (op n : ℕ) → 29 ≤ op → op ≤ 30 → instr op n 0 ≡ jumpOn (eqb op 30) n
-unfolding jumpOn
-jump-is op n lo hi = go (eqb op 30) refl
-  where
-    go : (b : Bool) → eqb op 30 ≡ b → instr op n 0 ≡ jumpOn (eqb op 30) n
-    go true e = rw (e, jumpOn) (ap (λ (k : ℕ). instr k n 0) (eqb-true op 30 e))
-    go false e = let f = eqb-false op 30 e in let z : op ≡ 29 = omega arith in rw (e, jumpOn) (ap (λ (k : ℕ). instr k n 0) z)
-
-constant-is : (op : ℕ) → 29 ≤ op → op ≤ 30 → instr (33 - op) 0 0 ≡ ConstBool (eqb op 30)
-constant-is op lo hi = go (eqb op 30) refl
-  where
-    go : (b : Bool) → eqb op 30 ≡ b → instr (33 - op) 0 0 ≡ ConstBool (eqb op 30)
-    go true e = let z = eqb-true op 30 e in let f : 33 - op ≡ 3 = omega arith in rw e (ap (λ (k : ℕ). instr k 0 0) f)
-    go false e = let z = eqb-false op 30 e in let f : 33 - op ≡ 4 = omega arith in rw e (ap (λ (k : ℕ). instr k 0 0) f)
 
 module _ (t made code tables : List ℕ) (c : Counts) (l : Limits) (s : Sound t made code tables c l) (op : ℕ) (lo : 29 ≤ op) (hi : op ≤ 30) (e : Emit) (next : ℕ) where
   pub shortcut-full : (r : Emitted) (q : ℕ) (code′ : List ℕ) → Lengthens e → r ≡ Full → Lowers r (one (instr op 0 0)) q t made code tables made code′ tables c l →

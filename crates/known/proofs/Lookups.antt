@@ -20,25 +20,12 @@ use Rattle.state.specs.State.{stringsFrom, headsFrom, classNamesFrom, spelled, 
 use Rattle.state.proofs.Regions.{region-length}
 use Rattle.names.specs.Variable.{variableBy, variable}
 use Rattle.names.proofs.Finding.{step, position-cons, names-length}
-use Rattle.names.proofs.Calling.{builtin-below}
+use Rattle.names.proofs.Calling.{found-some, found-none, below, builtin-below}
 use Rattle.names.proofs.TableIndex.{indexed-found}
 use Rattle.known.specs.Puts.{symbolCount, stringCount, functionCount, classCount, Known, Shown, Puts}
 use Rattle.known.proofs.Putting.{puts-same}
 
 -- ---- a place that is found, or not
-
-found-some : (n : ℕ) (o : Option ℕ) (i : ℕ) → i ≡ foundOr n o → i < n → o ≡ some i
-unfolding foundOr
-found-some n none i e h = absurd (omega arith)
-found-some n (some k) i e h = ap (λ (j : ℕ). some j) (sym e)
-
-found-none : (n : ℕ) (o : Option ℕ) (i : ℕ) → ((k : ℕ) → o ≡ some k → k < n) → i ≡ foundOr n o → n ≤ i → o ≡ none
-unfolding foundOr
-found-none n none i f e h = refl
-found-none n (some k) i f e h = let z = f k refl in absurd (omega arith)
-
-below : {A : Type 0} (test : A → Bool) (ys : List A) (n : ℕ) → length ys ≡ n → (k : ℕ) → position test ys ≡ some k → k < n
-below test ys n e k h = let z = position-lt test ys k h in omega arith
 
 pub position-map : {A B : Type 0} (test : B → Bool) (f : A → B) (xs : List A) → position test (map f xs) ≡ position (λ a. test (f a)) xs
 unfolding position

@@ -56,7 +56,7 @@ pub record Placed (r : ℕ) (tree made tables known code′ : List ℕ) (words :
   pub within : r % 65536 ≤ wordLimit known
   pub out : (t : Tables) → Shown tree made tables known t → (p : ℕ) → e p t ≡ record { code = instrsOf tree (drop words (take (r % 65536) code′)); tables = t; sources = [] }
 
--- what was before is as it was. Of the rest 0 says nothing: a name or a string is new, there is no room, or the code is of another kind
+-- what was before is as it was. Of the rest 0 says nothing: a name or a string is new or long to find, there is no room, or the code is of another kind
 pub record Puts (r : ℕ) (tree made tables known code code′ : List ℕ) (words : ℕ) (e : Emit) (next : ℕ) : Type 0 where
   pub before : take words code′ ≡ take words code
   pub finished : drop doneFrom code′ ≡ drop doneFrom code

@@ -1,5 +1,5 @@
 // Words of constants, names and strings that are numbered already. An answer is the next position in the tree times 65,536, and how many words are
-// open now; or 0 where a name or a string is new, or there is no room.
+// open now; or 0 where a name or a string is new or not the first of its bucket, or there is no room.
 pub mod near; // near.rt: names and strings at the first number of their bucket
 
 use crate::near::near_string;

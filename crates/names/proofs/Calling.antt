@@ -100,15 +100,18 @@ functions-place k tree fin (h ∷ hs) (w ∷ ks) e =
 
 -- ---- a place that is found, or not
 
-found-some : (n : ℕ) (o : Option ℕ) (i : ℕ) → i ≡ foundOr n o → i < n → o ≡ some i
+pub found-some : (n : ℕ) (o : Option ℕ) (i : ℕ) → i ≡ foundOr n o → i < n → o ≡ some i
 unfolding foundOr
 found-some n none i e h = absurd (omega arith)
 found-some n (some k) i e h = ap (λ (j : ℕ). some j) (sym e)
 
-found-none : (n : ℕ) (o : Option ℕ) (i : ℕ) → ((k : ℕ) → o ≡ some k → k < n) → i ≡ foundOr n o → n ≤ i → o ≡ none
+pub found-none : (n : ℕ) (o : Option ℕ) (i : ℕ) → ((k : ℕ) → o ≡ some k → k < n) → i ≡ foundOr n o → n ≤ i → o ≡ none
 unfolding foundOr
 found-none n none i f e h = refl
 found-none n (some k) i f e h = let z = f k refl in absurd (omega arith)
+
+pub below : {A : Type 0} (test : A → Bool) (ys : List A) (n : ℕ) → length ys ≡ n → (k : ℕ) → position test ys ≡ some k → k < n
+below test ys n e k h = let z = position-lt test ys k h in omega arith
 
 -- ---- what a call by name calls
 
@@ -157,9 +160,6 @@ module _ (tree made code tables : List ℕ) (c : Counts) (l : Limits) (s : Sound
   symbols-are : t .symbols ≡ map (spelled tree made) (region 0 (c .symbols) tables)
   unfolding stateOf tablesOf
   symbols-are = refl
-
-  below : {A : Type 0} (test : A → Bool) (ys : List A) (n : ℕ) → length ys ≡ n → (k : ℕ) → position test ys ≡ some k → k < n
-  below test ys n e k h = let z = position-lt test ys k h in omega arith
 
   pub calls-builtin : (i : ℕ) → i ≡ foundOr 15 (builtin x) → i < 15 → builtinCallee i ≡ resolve x t
   unfolding by-builtin

@@ -24,7 +24,7 @@ count-same : (t : List ℕ) (p : ℕ) → numberAt 2 t p ≡ countAt t p
 unfolding numberAt countAt
 count-same t p = omega arith
 
-text-same : (t : List ℕ) (p : ℕ) → Places.textAt t p .value ≡ textAt t p
+pub text-same : (t : List ℕ) (p : ℕ) → Places.textAt t p .value ≡ textAt t p
 unfolding Places.textAt textAt
 text-same t p = ap (λ (n : ℕ). take n (drop (p + 2) t)) (sym (count-same t p))
 
@@ -32,7 +32,7 @@ eight-of : (t : List ℕ) (p : ℕ) → numberAt 8 t p ≡ ((countAt t p * 65536
 unfolding numberAt countAt
 eight-of t p = omega arith
 
-eight-same : (t : List ℕ) (p : ℕ) → p + 8 ≤ length t → eightAt t p ≡ numberAt 8 t p
+pub eight-same : (t : List ℕ) (p : ℕ) → p + 8 ≤ length t → eightAt t p ≡ numberAt 8 t p
 eight-same t p h =
     let a : p + 2 ≡ p + 1 + 1 = omega arith in
     let b : p + 4 ≡ p + 1 + 1 + 1 + 1 = omega arith in

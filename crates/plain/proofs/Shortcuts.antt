@@ -52,20 +52,27 @@ module _ (code : List ℕ) (n m w₀ w₁ w₂ : ℕ) (h : n < m) (k : m + 1 < l
 
 -- ---- the instructions by the opcode of the jump
 
-jump-is : (t : List ℕ) (op n : ℕ) → 29 ≤ op → op ≤ 30 → n < 32768 → instrOf t (word op n 0) ≡ jumpOn (eqb op 30) n
+pub jump-is : (op n : ℕ) → 29 ≤ op → op ≤ 30 → instr op n 0 ≡ jumpOn (eqb op 30) n
 unfolding jumpOn
-jump-is t op n lo hi h = instr-jump t op n (omega arith) hi h ∙ go (eqb op 30) refl
+jump-is op n lo hi = go (eqb op 30) refl
   where
     go : (b : Bool) → eqb op 30 ≡ b → instr op n 0 ≡ jumpOn (eqb op 30) n
     go true e = rw (e, jumpOn) (ap (λ (k : ℕ). instr k n 0) (eqb-true op 30 e))
     go false e = let f = eqb-false op 30 e in let z : op ≡ 29 = omega arith in rw (e, jumpOn) (ap (λ (k : ℕ). instr k n 0) z)
 
-constant-is : (t : List ℕ) (op : ℕ) → 29 ≤ op → op ≤ 30 → instrOf t (word (33 - op) 0 0) ≡ ConstBool (eqb op 30)
-constant-is t op lo hi = instr-plain t (33 - op) 0 0 (plain-below (33 - op) 0 0 (omega arith) (omega arith) (omega arith) (omega arith)) ∙ go (eqb op 30) refl
+pub constant-is : (op : ℕ) → 29 ≤ op → op ≤ 30 → instr (33 - op) 0 0 ≡ ConstBool (eqb op 30)
+constant-is op lo hi = go (eqb op 30) refl
   where
     go : (b : Bool) → eqb op 30 ≡ b → instr (33 - op) 0 0 ≡ ConstBool (eqb op 30)
     go true e = let z = eqb-true op 30 e in let f : 33 - op ≡ 3 = omega arith in rw e (ap (λ (k : ℕ). instr k 0 0) f)
     go false e = let z = eqb-false op 30 e in let f : 33 - op ≡ 4 = omega arith in rw e (ap (λ (k : ℕ). instr k 0 0) f)
+
+-- their words
+jump-word : (t : List ℕ) (op n : ℕ) → 29 ≤ op → op ≤ 30 → n < 32768 → instrOf t (word op n 0) ≡ jumpOn (eqb op 30) n
+jump-word t op n lo hi h = instr-jump t op n (omega arith) hi h ∙ jump-is op n lo hi
+
+constant-word : (t : List ℕ) (op : ℕ) → 29 ≤ op → op ≤ 30 → instrOf t (word (33 - op) 0 0) ≡ ConstBool (eqb op 30)
+constant-word t op lo hi = instr-plain t (33 - op) 0 0 (plain-below (33 - op) 0 0 (omega arith) (omega arith) (omega arith) (omega arith)) ∙ constant-is op lo hi
 
 abbrev plainOut : List Instr → Tables → Out
 plainOut is t = record { code = is; tables = t; sources = [] }
@@ -86,12 +93,12 @@ module _ (tree code : List ℕ) (op n m : ℕ) (lo : 29 ≤ op) (hi : op ≤ 30)
   shortcut-words is e =
       let ws = drop (n + 1) (take m code) in
       let l : suc (length is) ≡ m - n = let a = length-take-le m code (omega arith) in let b = length-drop (n + 1) (take m code) in let c = length-map ws (instrOf tree) in let d : length is ≡ length (map (instrOf tree) ws) = ap length e in omega arith in
-      (λ i. jump l i ∷ (e i ++ (sym (instr-jump tree 28 1 (omega arith) (omega arith) (omega arith)) i ∷ sym (constant-is tree op lo hi) i ∷ [])))
+      (λ i. jump l i ∷ (e i ++ (sym (instr-jump tree 28 1 (omega arith) (omega arith) (omega arith)) i ∷ sym (constant-word tree op lo hi) i ∷ [])))
       ∙ ap (λ (xs : List Instr). instrOf tree (word op (m - n) 0) ∷ xs) (sym (map-append (instrOf tree) ws (word 28 1 0 ∷ word (33 - op) 0 0 ∷ [])))
       ∙ ap (map (instrOf tree)) (sym (between code n m (word op (m - n) 0) (word 28 1 0) (word (33 - op) 0 0) h k))
     where
       jump : {x : ℕ} → x ≡ m - n → jumpOn (eqb op 30) x ≡ instrOf tree (word op (m - n) 0)
-      jump l = ap (jumpOn (eqb op 30)) l ∙ sym (jump-is tree op (m - n) lo hi (omega arith))
+      jump l = ap (jumpOn (eqb op 30)) l ∙ sym (jump-word tree op (m - n) lo hi (omega arith))
 
 -- ---- the whole
 

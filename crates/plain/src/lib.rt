@@ -1,5 +1,6 @@
 // The code of expressions whose names and strings are all numbered already: words alone. An answer is the next position and how many words are open
-// now, in one number; or 0 where a name or a string is new, there is no room, or an expression is of another kind: then nothing is said of the words put.
+// now, in one number; or 0 where a name or a string is new or long to find, there is no room, or an expression is of another kind: then nothing is said of the
+// words put.
 pub mod codes; // codes.rt: opcodes of operators and displays
 pub mod outer; // outer.rt: lists near the outside of a statement
 

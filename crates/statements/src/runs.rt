@@ -44,7 +44,7 @@ fn plain_value(
     put_op(tree, made, code, tables, known, op, 0, 0, next, m)
 }
 
-// The statement at `at`, with `depth` levels left; 0 for one that holds a block, or where a name or a string is new or there is no room.
+// The statement at `at`, with `depth` levels left; 0 for one that holds a block or is not plain.
 fn plain_stmt(
     tree: &[u8],
     at: usize,
