@@ -10,7 +10,8 @@
  * A refusal is the number of the first question that is answered no (README.md
  * has the questions in words). Where a call has nothing to count, 0 means that
  * none is.
- * docs/FORMAT.md has both records byte by byte.
+ * docs/FORMAT.md has both records byte by byte; strings in them are UTF-8, names
+ * ASCII.
  */
 #ifndef RULKETOOS_H
 #define RULKETOOS_H
@@ -22,7 +23,7 @@
 extern "C" {
 #endif
 
-/* Questions 2 to 13 of a tree record: 0, or the refusal. Reads only. */
+/* Questions 2 to 13 and 33 of a tree record: 0, or the refusal. Reads only. */
 uint32_t rulketoos_check(const uint8_t *tree, size_t tree_len);
 
 /* The least length of each work area, in numbers. */
@@ -34,8 +35,8 @@ enum { RULKETOOS_AREA = 16384 };
 /*
  * Lowers a tree record to a module record, which it writes to out from the
  * first byte on; what is past it is left as it was. Answers RULKETOOS_WROTE plus
- * the count of bytes written; or, below RULKETOOS_WROTE, the refusal, 1 to 16,
- * with out left as it was.
+ * the count of bytes written; or, below RULKETOOS_WROTE, the refusal, 1 to 16
+ * or 33, with out left as it was.
  *
  * area1 and area2 are room to work in, whatever is in them before. Both are all
  * zero afterwards, over their whole length and after a refusal too; but refusal

@@ -6,7 +6,8 @@
 Each function has a line with its number, name, parameters and slots, then a
 line an instruction: its place, name and operands, and what these stand for.
 The module is taken as the lowering writes it; a record that can't be read is
-said to be none.
+said to be none. Strings show their characters; the listing is UTF-8, whatever
+the locale.
 """
 
 import struct
@@ -64,8 +65,11 @@ class Reader:
     def number(self, width):
         return int.from_bytes(self.take(width), "big")
 
-    def text(self, width):
-        return self.take(self.number(width)).decode("latin-1")
+    def name(self):
+        return self.take(self.number(1)).decode("ascii", "backslashreplace")
+
+    def string(self):
+        return self.take(self.number(2)).decode("utf-8")
 
     def many(self, read):
         return [read() for _ in range(self.number(2))]
@@ -88,10 +92,10 @@ def module(data):
     reader = Reader(data)
     if reader.number(4) != len(data) - 4 or reader.number(1) != 1:
         raise ValueError("the header is no module's")
-    symbols = reader.many(lambda: reader.text(1))
-    strings = reader.many(lambda: reader.text(2))
+    symbols = reader.many(reader.name)
+    strings = reader.many(reader.string)
     functions = reader.many(lambda: function(reader))
-    classes = reader.many(lambda: (reader.text(1), reader.many(lambda: (reader.text(1), reader.number(2)))))
+    classes = reader.many(lambda: (reader.name(), reader.many(lambda: (reader.name(), reader.number(2)))))
     constants = reader.many(lambda: reader.number(2))
     if reader.at != len(data):
         raise ValueError("bytes are left over")
@@ -142,6 +146,8 @@ def lines(tables):
 def main():
     if len(sys.argv) != 2 or sys.argv[1] in ("-h", "--help"):
         sys.exit(__doc__.strip())
+    sys.stdout.reconfigure(encoding="utf-8")
+    sys.stderr.reconfigure(encoding="utf-8", errors="backslashreplace")
     try:
         if sys.argv[1] == "-":
             data = sys.stdin.buffer.read()

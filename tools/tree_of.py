@@ -1,18 +1,29 @@
 #!/usr/bin/env python3
 """Turns a script's source text into a tree record (docs/FORMAT.md).
 
-    tools/tree_of.py SCRIPT [-o TREE]      SCRIPT may be - for standard input
+    tools/tree_of.py SCRIPT [-o TREE] [--places]      SCRIPT may be - for standard input
 
-The script is read by Python's own parser; what Python has and the language has
-not is refused with its line and column. Nothing is written where the script is
-refused. Names, strings and depths are not judged here: the lowering does that.
+The script is UTF-8, whatever the locale. It is read by Python's own parser; what
+Python has and the language has not is refused with its line and column, counted
+in characters from 1, and so are names outside ASCII and names of loops'
+iterators (33). Nothing is written where the script is refused. Other names,
+strings, targets and depths are not judged here: the lowering does that.
+
+With --places no name is judged, and the tree is followed by a line for each
+statement, expression and name in it: the number of its first byte, its line and
+its column. The tree's header says where these lines begin.
 """
 
 import argparse
 import ast
+import functools
+import io
+import itertools
 import re
 import struct
 import sys
+import tokenize
+import types
 
 UNARY = {ast.Not: 0, ast.USub: 1, ast.UAdd: 2}
 BINARY = {ast.Add: 0, ast.Sub: 1, ast.Mult: 2, ast.Div: 3, ast.FloorDiv: 4, ast.Mod: 5}
@@ -49,8 +60,12 @@ WORDS = {
 }
 
 
+# the names of iterators that are not too long for a name
+ITERATOR = re.compile("__for_iter_[0-9]{1,51}__")
+
+
 class Refused(Exception):
-    """What the language has not, and where."""
+    """What the language has not, and where: line and column from 1."""
 
     def __init__(self, line, column, message):
         super().__init__(message)
@@ -58,8 +73,74 @@ class Refused(Exception):
         self.column = column
 
 
+def place(node):
+    return getattr(node, "lineno", 1), getattr(node, "col_offset", 0) + 1
+
+
 def refuse(node, message):
-    raise Refused(getattr(node, "lineno", 1), getattr(node, "col_offset", 0) + 1, message)
+    raise Refused(*place(node), message)
+
+
+def count_characters(module, lines):
+    """Columns of Python's nodes count bytes; here they count characters."""
+    for node in ast.walk(module):
+        for line, column in (("lineno", "col_offset"), ("end_lineno", "end_col_offset")):
+            if hasattr(node, column):
+                before = lines[getattr(node, line) - 1].encode("utf-8")[: getattr(node, column)]
+                setattr(node, column, len(before.decode("utf-8", "replace")))
+
+
+def after_word(node, lines):
+    """Where the name of a def or class stands: after that word."""
+    word = re.match("(def|class)[ \t\f]+", lines[node.lineno - 1][node.col_offset :])
+    return types.SimpleNamespace(lineno=node.lineno, col_offset=node.col_offset + word.end()) if word else node
+
+
+def at_end(node):
+    """Where the name of an attribute stands: at its end."""
+    return types.SimpleNamespace(lineno=node.end_lineno, col_offset=node.end_col_offset - len(node.attr))
+
+
+class Part(bytes):
+    """Bytes of a tree, with the pieces they were joined from and the node they were made of, if any."""
+
+    pieces = ()
+    node = None
+
+    def __add__(self, other):
+        return joined([self, other])
+
+    def __radd__(self, other):
+        return joined([other, self])
+
+
+def joined(pieces):
+    part = Part(b"".join(pieces))
+    starts = itertools.accumulate(map(len, pieces), initial=0)
+    part.pieces = [(start, piece) for start, piece in zip(starts, pieces) if isinstance(piece, Part)]
+    return part
+
+
+def placed(make):
+    """What is made of a node keeps the node."""
+
+    @functools.wraps(make)
+    def made(node, *rest):
+        part = joined([make(node, *rest)])
+        part.node = node
+        return part
+
+    return made
+
+
+def places(tree):
+    """Where each part that keeps its node begins: the number of its first byte, its line and its column."""
+    todo = [(0, tree)]
+    while todo:
+        start, part = todo.pop()
+        if part.node is not None:
+            yield start, *place(part.node)
+        todo.extend((start + inside, piece) for inside, piece in reversed(part.pieces))
 
 
 def not_in_language(node):
@@ -74,15 +155,14 @@ def count(node, n, what):
 
 
 def counted(node, parts, what):
-    return count(node, len(parts), what) + b"".join(parts)
+    return count(node, len(parts), what) + joined(parts)
 
 
+@placed
 def name(node, text):
     data = text.encode("utf-8")
     if len(data) > 255:
         refuse(node, "a name of more than 255 bytes")
-    if not text.isascii():
-        refuse(node, "a name with letters outside ASCII")
     return bytes([len(data)]) + data
 
 
@@ -101,9 +181,8 @@ def constant(node):
     if isinstance(value, float):
         return b"\x04" + struct.pack(">d", value)
     if isinstance(value, str):
-        if not value.isascii():
-            refuse(node, "a string with characters outside ASCII")
-        return b"\x05" + count(node, len(value), "characters in a string") + value.encode("ascii")
+        data = value.encode("utf-8", "surrogatepass")
+        return b"\x05" + count(node, len(data), "bytes in a string") + data
     refuse(node, "a constant of type " + type(value).__name__ + " is not in the language")
 
 
@@ -162,6 +241,7 @@ def parameters(node, arguments):
     return counted(node, names, "parameters")
 
 
+@placed
 def expression(node):
     if isinstance(node, ast.Constant):
         return constant(node)
@@ -176,7 +256,7 @@ def expression(node):
     if isinstance(node, ast.Call):
         return call(node)
     if isinstance(node, ast.Attribute):
-        return b"\x0a" + expression(node.value) + name(node, node.attr)
+        return b"\x0a" + expression(node.value) + name(at_end(node), node.attr)
     if isinstance(node, ast.Dict):
         return dictionary(node)
     displays = {ast.List: 11, ast.Tuple: 13, ast.Set: 14}
@@ -190,19 +270,10 @@ def expression(node):
     not_in_language(node)
 
 
-def target(node, inside=False):
-    if isinstance(node, ast.Tuple):
-        elements = [target(element, True) for element in node.elts]
-        return b"\x0d" + counted(node, elements, "elements")
-    if isinstance(node, ast.Name) or (not inside and isinstance(node, (ast.Attribute, ast.Subscript))):
-        return expression(node)
-    refuse(node, "this can't be assigned to here: a variable, an attribute, an index, or a tuple of variables and such tuples")
-
-
 def assignment(node):
     if len(node.targets) != 1:
         refuse(node, "a chained assignment is not in the language")
-    return b"\x05" + target(node.targets[0]) + expression(node.value)
+    return b"\x05" + expression(node.targets[0]) + expression(node.value)
 
 
 def conditional(node, lines):
@@ -218,7 +289,7 @@ def conditional(node, lines):
 
 
 def is_elif(node, lines):
-    return lines[node.lineno - 1].encode("utf-8")[node.col_offset :].startswith(b"elif")
+    return lines[node.lineno - 1][node.col_offset :].startswith("elif")
 
 
 def loop(node, lines):
@@ -237,7 +308,7 @@ def definition(node, lines):
         refuse(node.decorator_list[0], "a decorator is not in the language")
     if node.returns is not None:
         refuse(node.returns, "an annotation is not in the language")
-    return name(node, node.name) + parameters(node, node.args) + block(node, node.body, lines)
+    return name(after_word(node, lines), node.name) + parameters(node, node.args) + block(node, node.body, lines)
 
 
 def class_definition(node, lines):
@@ -252,9 +323,11 @@ def class_definition(node, lines):
             attributes.append(name(item, item.targets[0].id) + expression(item.value))
         elif not isinstance(item, ast.Pass):
             refuse(item, "a class holds methods, attributes (x = value) and pass")
-    return b"\x0a" + name(node, node.name) + counted(node, methods, "methods") + counted(node, attributes, "attributes")
+    head = b"\x0a" + name(after_word(node, lines), node.name)
+    return head + counted(node, methods, "methods") + counted(node, attributes, "attributes")
 
 
+@placed
 def statement(node, lines):
     simple = {ast.Break: 0, ast.Continue: 1, ast.Pass: 2}
     if type(node) in simple:
@@ -280,6 +353,16 @@ def block(node, statements, lines):
     return counted(node, [statement(item, lines) for item in statements], "statements")
 
 
+def judge_names(source):
+    """Refuses names outside ASCII, and names of loops' iterators (33), wherever they stand."""
+    for token in tokenize.generate_tokens(io.StringIO(source, newline=None).readline):
+        line, column = token.start
+        if token.type in (tokenize.NAME, tokenize.ERRORTOKEN) and not token.string.isascii():
+            raise Refused(line, column + 1, "a name with letters outside ASCII")
+        if token.type == tokenize.NAME and ITERATOR.fullmatch(token.string):
+            raise Refused(line, column + 1, f"the name {token.string} is one of a loop's iterator (33)")
+
+
 def tree_of(source, filename="<script>"):
     """The tree record of a script's text."""
     try:
@@ -289,15 +372,20 @@ def tree_of(source, filename="<script>"):
     except (ValueError, RecursionError, MemoryError) as error:
         raise Refused(1, 1, "Python's parser gives up: " + str(error)) from None
     lines = re.split("\r\n|\r|\n", source)
+    if not source.isascii():
+        count_characters(module, lines)
     rest = b"\x01" + block(module, module.body, lines)
     return struct.pack(">I", len(rest)) + rest
 
 
 def main():
+    sys.setrecursionlimit(5000)  # what is deeper than the lowering takes should still reach it, and be refused by 6
     parser = argparse.ArgumentParser(description="Turns a script's source text into a tree record.")
     parser.add_argument("script", help="the script's file, or - for standard input")
     parser.add_argument("-o", "--output", help="the tree's file; standard output if none is given")
+    parser.add_argument("--places", action="store_true", help="after the tree, where each part of it stands in the script")
     arguments = parser.parse_args()
+    sys.stderr.reconfigure(encoding="utf-8", errors="backslashreplace")
     shown = "<stdin>" if arguments.script == "-" else arguments.script
     try:
         if arguments.script == "-":
@@ -305,8 +393,10 @@ def main():
         else:
             with open(arguments.script, "rb") as file:
                 data = file.read()
-        source = data.decode("utf-8")
+        source = data.decode("utf-8-sig")
         tree = tree_of(source, shown)
+        if not arguments.places:
+            judge_names(source)
     except OSError as error:
         sys.exit(f"{shown}: {error.strerror}")
     except UnicodeDecodeError as error:
@@ -315,6 +405,8 @@ def main():
         sys.exit(f"{shown}:{refusal.line}:{refusal.column}: {refusal}")
     except RecursionError:
         sys.exit(f"{shown}: nested too deeply")
+    if arguments.places:
+        tree += "".join(f"{start} {line} {column}\n" for start, line, column in places(tree)).encode("ascii")
     if arguments.output:
         with open(arguments.output, "wb") as file:
             file.write(tree)

@@ -17,6 +17,10 @@ static const uint8_t loop_module[] = {
     0, 0, 0, 1, 0, 0, 0, 0, 0, 0, 5, 3, 29, 0, 0, 0, 2, 28, 0, 0, 0, 1,
     28, 255, 255, 255, 252, 33, 0, 0, 0, 0};
 
+/* `__for_iter_2__`, the name of a loop's iterator */
+static const uint8_t iterator_tree[] = {
+    0, 0, 0, 20, 1, 0, 1, 3, 6, 14, '_', '_', 'f', 'o', 'r', '_', 'i', 't', 'e', 'r', '_', '2', '_', '_'};
+
 static uint32_t area1[RULKETOOS_AREA];
 static uint32_t area2[RULKETOOS_AREA];
 static uint8_t out[64];
@@ -91,6 +95,7 @@ int main(void)
 
     expect(rulketoos_check(tree, sizeof tree) == 0, "the empty tree is accepted");
     expect(rulketoos_check(tree, 6) == 3, "a tree that is cut is refused by 3");
+    expect(rulketoos_check(iterator_tree, sizeof iterator_tree) == 33, "the name of an iterator is refused by 33");
     lowers();
     expect(rulketoos_read(module, sizeof module) == 0, "the module is accepted");
     expect(rulketoos_read(module, sizeof module - 1) == 17, "a module that is cut is refused by 17");

@@ -1,15 +1,18 @@
 //! Finds the reference Rust and writes a file of module declarations that
-//! point at it. The source itself is used where it lies, unchanged.
+//! point at it. The source is used where it lies, but for a copy of the
+//! compiler with the edits that the change requests name; an edit that doesn't
+//! apply ends the build.
 
 use std::env;
 use std::fmt::Write as _;
 use std::fs;
 use std::path::{Path, PathBuf};
 
-/// The files that the reference compiler is made of.
-const FILES: [&str; 6] = [
+/// The files that the reference compiler and its edits are made of.
+const FILES: [&str; 7] = [
     "builtins.rs",
     "parser/ast.rs",
+    "semantic/mod.rs",
     "vm/bytecode.rs",
     "vm/compiler.rs",
     "vm/type_def.rs",
@@ -28,15 +31,64 @@ fn main() {
     for file in FILES {
         println!("cargo::rerun-if-changed={}", root.join(file).display());
     }
-    if missing.is_empty() {
-        println!("cargo::rustc-cfg=have_rust");
-        fs::write(out_dir().join("reference.rs"), declarations(&root)).expect("reference.rs");
-    } else {
+    if !missing.is_empty() {
         println!(
             "cargo::rustc-env=RULKETOOS_RUST_MISSING={} below {place}",
             missing.join(", ")
         );
+        return;
     }
+    println!("cargo::rustc-cfg=have_rust");
+    match edited_compiler(&root) {
+        Ok(text) => fs::write(edited_path(), text).expect("compiler.rs"),
+        Err(message) => println!("cargo::error={message}"),
+    }
+    fs::write(out_dir().join("reference.rs"), declarations(&root)).expect("reference.rs");
+}
+
+/// Where the edited copy of the compiler is written.
+fn edited_path() -> PathBuf {
+    out_dir().join("compiler.rs")
+}
+
+/// The compiler with the edits, or which of them doesn't apply.
+fn edited_compiler(root: &Path) -> Result<String, String> {
+    let read = |file: &str| fs::read_to_string(root.join(file)).map_err(|e| format!("{file}: {e}"));
+    let mut text = read("vm/compiler.rs")?;
+    captures_by_scope(&mut text, &read("semantic/mod.rs")?)?;
+    slots_of_tuples(&mut text)?;
+    Ok(text)
+}
+
+/// Puts the new text in the place of the old, which has to be there once.
+fn replace(text: &mut String, request: &str, old: &str, new: &str) -> Result<(), String> {
+    match text.matches(old).count() {
+        1 => {
+            *text = text.replacen(old, new, 1);
+            Ok(())
+        }
+        found => Err(format!(
+            "the edit of vm/compiler.rs for {request} doesn't apply: `{old}` is there {found} times, not once"
+        )),
+    }
+}
+
+/// the references of a lambda's body are gathered by the function of
+/// document 005, which takes them from there.
+fn captures_by_scope(compiler: &mut String, semantic: &str) -> Result<(), String> {
+    let gather = "collect_referenced_vars(body, &mut referenced_vars)";
+    let by_scope = "by_scope::collect_free_vars(body, &params.to_vec(), &mut referenced_vars)";
+    replace(compiler, "R-9", gather, by_scope)?;
+    let head = "\nfn collect_free_vars(";
+    let function = semantic.split_once(head).and_then(|(_, rest)| {
+        let (function, _) = rest.split_once("\n}\n")?;
+        Some(function)
+    });
+    let function = function
+        .ok_or("the edit of vm/compiler.rs for R-9 doesn't apply: semantic/mod.rs has no function collect_free_vars")?;
+    compiler.push_str("\nmod by_scope {\nuse crate::parser::ast::{Expr, ExprS};\nuse std::collections::HashSet;\n");
+    write!(compiler, "pub fn collect_free_vars({function}\n}}\n}}\n").expect("text");
+    Ok(())
 }
 
 /// The folder that holds `vm/compiler.rs`, and words that say where it is.
@@ -66,23 +118,31 @@ fn out_dir() -> PathBuf {
     PathBuf::from(env::var_os("OUT_DIR").expect("output folder"))
 }
 
+/// `walk` calls the function that takes the names of tuple targets, which
+/// the compiler has and doesn't use.
+fn slots_of_tuples(compiler: &mut String) -> Result<(), String> {
+    let variable = "if let Expr::Variable(name) = &target.0 {";
+    let call = format!("collect_locals_from_target(&target.0, seen);\n{variable}");
+    replace(compiler, "R-1", variable, &call)
+}
+
 /// Module declarations in the shape that the source's own paths expect.
 fn declarations(root: &Path) -> String {
     let mut text = String::new();
-    declare(&mut text, root, "builtins.rs", "builtins");
+    declare(&mut text, &root.join("builtins.rs"), "builtins");
     text.push_str("pub mod parser {\n");
-    declare(&mut text, root, "parser/ast.rs", "ast");
+    declare(&mut text, &root.join("parser/ast.rs"), "ast");
     text.push_str("}\npub mod vm {\n");
-    for name in ["bytecode", "compiler", "type_def", "value"] {
-        declare(&mut text, root, &format!("vm/{name}.rs"), name);
+    for name in ["bytecode", "type_def", "value"] {
+        declare(&mut text, &root.join(format!("vm/{name}.rs")), name);
     }
+    declare(&mut text, &edited_path(), "compiler");
     text.push_str("pub use crate::standins::utils;\n}\n");
     text.push_str("pub use crate::standins::types;\n");
     text
 }
 
-fn declare(text: &mut String, root: &Path, file: &str, name: &str) {
-    let path = root.join(file);
+fn declare(text: &mut String, path: &Path, name: &str) {
     writeln!(
         text,
         "#[allow(warnings)]\n#[path = {path:?}]\npub mod {name};"

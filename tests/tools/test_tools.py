@@ -1,8 +1,12 @@
 """Tests of the tools that a person uses: a script's text to a tree record, a module record to text."""
 
+import os
 import pathlib
+import re
+import shutil
 import subprocess
 import sys
+import tempfile
 import unittest
 
 ROOT = pathlib.Path(__file__).resolve().parents[2]
@@ -12,6 +16,19 @@ import listing  # noqa: E402
 import tree_of  # noqa: E402
 
 SAMPLES = sorted((ROOT / "samples").glob("*.py"))
+
+# locales and encodings that a terminal may have
+TERMINALS = [
+    {},
+    {"LC_ALL": "C", "PYTHONUTF8": "0", "PYTHONCOERCECLOCALE": "0"},
+    {"LC_ALL": "POSIX", "PYTHONIOENCODING": "latin-1"},
+    {"PYTHONIOENCODING": "ascii:strict"},
+]
+
+
+def run(tool, arguments, terminal, data=b""):
+    command = [sys.executable, str(ROOT / "tools" / tool), *arguments]
+    return subprocess.run(command, input=data, capture_output=True, check=False, env={**os.environ, **terminal})
 
 # a script and the bytes after the header
 TREES = {
@@ -34,6 +51,34 @@ TREES = {
     "{1}": "0001 03 0e 0001 03 0000000000000001",
     "lambda x: not x": "0001 03 11 0001 01 78 07 00 0601 78",
     "x = 9223372036854775807": "0001 05 0601 78 03 7fffffffffffffff",
+    "__for_iter___": "0001 03 060d 5f5f666f725f697465725f5f5f",
+    "__for_iter_x__": "0001 03 060e 5f5f666f725f697465725f785f5f",
+    "__for_iter_2___": "0001 03 060f 5f5f666f725f697465725f325f5f5f",
+    "'__for_iter_2__'": "0001 03 05000e 5f5f666f725f697465725f325f5f",
+    "'é'": "0001 03 050002 c3a9",
+    "'e\u0301'": "0001 03 050003 65cc81",
+    "'\\xe9'": "0001 03 050002 c3a9",
+    "'\u07ff\u0800\ud7ff\ue000\uffff'": "0001 03 05000e dfbf e0a080 ed9fbf ee8080 efbfbf",
+    "'\U00010000\U0010ffff'": "0001 03 050008 f0908080 f48fbfbf",
+    "class C:\n    x = 'é'\n": "0001 0a 01 43 0000 0001 01 78 050002 c3a9",
+    "if 'é':\n    pass\nelif b:\n    pass\n": "0001 06 050002 c3a9 0001 02 0001 0601 62 0001 02 00",
+    f"__for_iter_{'0' * 52}__": "0001 03 0641 5f5f666f725f697465725f" + "30" * 52 + "5f5f",
+    # the lowering refuses these
+    "a, b.c = t": "0001 05 0d 0002 0601 61 0a 0601 62 01 63 0601 74",
+    "[a] = t": "0001 05 0b 0001 0601 61 0601 74",
+    "x = 'é'": "0001 05 0601 78 05 0002 c3a9",
+    "x = '\\ud800'": "0001 05 0601 78 05 0003 eda080",
+    "é = 1": "0001 05 0602 c3a9 03 0000000000000001",
+}
+
+# a script, and where its parts stand: first byte, line and column
+PLACES = {
+    "": [],
+    "pass\nbreak": [(7, 1, 1), (8, 2, 1)],
+    "a, b = f(1)": [(7, 1, 1), (8, 1, 1), (11, 1, 1), (12, 1, 1), (14, 1, 4), (15, 1, 4), (17, 1, 8), (18, 1, 8), (19, 1, 8), (23, 1, 10)],
+    "class C:\n  x = 1\n  def m(self): pass": [(7, 1, 1), (8, 1, 7), (12, 3, 7), (16, 3, 9), (23, 3, 16), (26, 2, 3), (28, 2, 7)],
+    "'é', (o\n . a)": [(7, 1, 1), (8, 1, 1), (11, 1, 1), (16, 1, 7), (17, 1, 7), (18, 1, 7), (20, 2, 4)],
+    "if 'é': a\nelif b: c": [(7, 1, 1), (8, 1, 4), (15, 1, 9), (16, 1, 9), (17, 1, 9), (21, 2, 6), (22, 2, 6), (26, 2, 9), (27, 2, 9), (28, 2, 9)],
 }
 
 # a script, the line and column of what is refused, and a word of the message
@@ -45,17 +90,41 @@ REFUSALS = [
     ("x = [i for i in y]", 1, 5, "comprehension"),
     ("x = y[1:2]", 1, 7, "slice"),
     ("f(x=1)", 1, 1, "by name"),
-    ("a, b.c = t", 1, 4, "assigned"),
     ("def f(x=1):\n    pass", 1, 1, "plain names"),
     ("for a, b in c:\n    pass", 1, 5, "plain name"),
     ("while a:\n    pass\nelse:\n    pass", 4, 5, "else block"),
     ("x = 9223372036854775808", 1, 5, "64 bits"),
-    ("x = 'é'", 1, 5, "ASCII"),
-    ("é = 1", 1, 1, "ASCII"),
+    ("f('é', x=1)", 1, 1, "by name"),
+    ("f('é', [i for i in y])", 1, 8, "comprehension"),
+    ("x = '" + "é" * 32768 + "'", 1, 5, "65,535 bytes in a string"),
     ("x = 2 ** 3", 1, 5, "operator"),
     ("x = a in b", 1, 5, "comparison"),
     ("x = (1", 1, 5, "never closed"),
     ("class C(B):\n    pass", 1, 1, "bases"),
+]
+
+# a script, and the line and column of a name that is refused, with a word of the message
+NAMES = [
+    ("é = 1", 1, 1, "ASCII"),
+    ("x = ['é', é]", 1, 11, "ASCII"),
+    ("pass\ndef é():\n    pass", 2, 5, "ASCII"),
+    ("o.é = 1", 1, 3, "ASCII"),
+    ("x = lambda a, é: 1", 1, 15, "ASCII"),
+    ("class É:\n    pass", 1, 7, "ASCII"),
+    ("\ufb01n = 1", 1, 1, "ASCII"),
+    ("pass\nx = __for_iter_2__", 2, 5, "__for_iter_2__ is one of a loop's iterator (33)"),
+    ("o . __for_iter_2__ = 1", 1, 5, "(33)"),
+    ("(o.p\n  .__for_iter_2__)()", 2, 4, "(33)"),
+    ("for __for_iter_2__ in r:\n    pass", 1, 5, "(33)"),
+    ("def __for_iter_2__():\n    pass", 1, 5, "(33)"),
+    ("def f(a, __for_iter_2__):\n    pass", 1, 10, "(33)"),
+    ("class __for_iter_2__:\n    pass", 1, 7, "(33)"),
+    ("class C:\n    def __for_iter_2__(self):\n        pass", 2, 9, "(33)"),
+    ("class C:\n    __for_iter_2__ = 1", 2, 5, "(33)"),
+    ("class C:\n    a = [1, __for_iter_2__]", 2, 13, "(33)"),
+    ("x = lambda __for_iter_2__: 1", 1, 12, "(33)"),
+    ("a, (b, __for_iter_2__) = t", 1, 8, "(33)"),
+    ("f(__for_iter_" + "0" * 51 + "__)", 1, 3, "(33)"),
 ]
 
 
@@ -76,6 +145,23 @@ class TreeOf(unittest.TestCase):
                 self.assertEqual((caught.exception.line, caught.exception.column), (line, column))
                 self.assertIn(word, str(caught.exception))
 
+    def test_names(self):
+        for source, line, column, word in NAMES:
+            with self.subTest(source=source):
+                with self.assertRaises(tree_of.Refused) as caught:
+                    tree_of.judge_names(source)
+                self.assertEqual((caught.exception.line, caught.exception.column), (line, column))
+                self.assertIn(word, str(caught.exception))
+        for source in TREES:
+            with self.subTest(source=source):
+                if source != "é = 1":
+                    tree_of.judge_names(source)
+
+    def test_places(self):
+        for source, places in PLACES.items():
+            with self.subTest(source=source):
+                self.assertEqual(list(tree_of.places(tree_of.tree_of(source))), places)
+
     def test_samples(self):
         for script in SAMPLES:
             with self.subTest(script=script.name):
@@ -83,12 +169,28 @@ class TreeOf(unittest.TestCase):
                 self.assertEqual(tree, script.with_suffix(".tree").read_bytes())
 
     def test_command(self):
-        command = [sys.executable, str(ROOT / "tools" / "tree_of.py"), "-"]
-        good = subprocess.run(command, input=b"", capture_output=True, check=False)
-        self.assertEqual((good.returncode, good.stdout.hex()), (0, "00000003010000"))
-        bad = subprocess.run(command, input=b"x += 1", capture_output=True, check=False)
-        self.assertEqual((bad.returncode, bad.stdout), (1, b""))
-        self.assertTrue(bad.stderr.startswith(b"<stdin>:1:1: "))
+        for terminal in TERMINALS:
+            with self.subTest(terminal=terminal):
+                good = run("tree_of.py", ["-"], terminal)
+                self.assertEqual((good.returncode, good.stdout.hex()), (0, "00000003010000"))
+                accents = run("tree_of.py", ["-"], terminal, "'é'".encode("utf-8"))
+                self.assertEqual((accents.returncode, accents.stdout[7:].hex()), (0, "03050002c3a9"))
+                marked = run("tree_of.py", ["-"], terminal, "'é'".encode("utf-8-sig"))
+                self.assertEqual(marked.stdout, accents.stdout)
+                bad = run("tree_of.py", ["-"], terminal, b"x += 1")
+                self.assertEqual((bad.returncode, bad.stdout), (1, b""))
+                self.assertTrue(bad.stderr.startswith(b"<stdin>:1:1: "))
+                named = run("tree_of.py", ["-"], terminal, "f('é', é)".encode("utf-8"))
+                self.assertEqual((named.returncode, named.stdout), (1, b""))
+                self.assertTrue(named.stderr.startswith(b"<stdin>:1:8: "))
+                latin = run("tree_of.py", ["-"], terminal, "'é'".encode("latin-1"))
+                self.assertEqual((latin.returncode, latin.stdout), (1, b""))
+                self.assertIn(b"not UTF-8", latin.stderr)
+
+
+def one_string(data):
+    """A module of a string of two bytes alone."""
+    return bytes([0, 0, 0, 15, 1, 0, 0, 0, 1, 0, 2]) + data + bytes(6)
 
 
 class Listing(unittest.TestCase):
@@ -97,12 +199,99 @@ class Listing(unittest.TestCase):
             with self.subTest(script=script.name):
                 tables = listing.module(script.with_suffix(".module").read_bytes())
                 text = "".join(line + "\n" for line in listing.lines(tables))
-                self.assertEqual(text, script.with_suffix(".listing").read_text(encoding="ascii"))
+                self.assertEqual(text, script.with_suffix(".listing").read_text(encoding="utf-8"))
+
+    def test_characters(self):
+        text = (ROOT / "samples" / "papers.listing").read_text(encoding="utf-8")
+        for word in ("'Büttenpapier'", "'和紙'", "'🗞'", '"vélin d\'Arches"'):
+            self.assertIn(word, text)
+
+    def test_command(self):
+        module = ROOT / "samples" / "papers.module"
+        for terminal in TERMINALS:
+            with self.subTest(terminal=terminal):
+                shown = run("listing.py", [str(module)], terminal)
+                expected = module.with_suffix(".listing").read_bytes()
+                self.assertEqual((shown.returncode, shown.stdout), (0, expected))
+
+    def test_string(self):
+        self.assertEqual(listing.module(one_string(b"\xc3\xa9"))[1], ["é"])
 
     def test_no_module(self):
-        for data in (b"", b"\x00\x00\x00\x01\x01", b"\x00\x00\x00\x00"):
+        for data in (b"", b"\x00\x00\x00\x01\x01", b"\x00\x00\x00\x00", one_string(b"\xc0\x80")):
             with self.subTest(data=data), self.assertRaises(ValueError):
                 listing.module(data)
+
+
+# what stands in for rt: it proves two crates, or fails at the second
+PROVES = """#!/bin/sh
+case $1 in
+check) echo "rt: definitions proved (5 s)"; echo "rt: parts proved (20 s)"; [ "$2" = definitions ] ;;
+staticlib) [ "$2" = exports ] ;;
+esac
+"""
+FAILS = """#!/bin/sh
+echo "rt: definitions proved (5 s)"; echo "rt: parts NOT PROVED (exit 1, 3 s)"; exit 1
+"""
+# what stands in for cargo: it builds a command that says its words
+BUILDS = """#!/bin/sh
+mkdir -p target/release
+printf '#!/bin/sh\necho "words: $*"\n' >target/release/rulketoos
+chmod +x target/release/rulketoos
+"""
+
+
+class Build(unittest.TestCase):
+    """tools/build and tools/show in a copy of the repository, with stand-ins for rt and cargo."""
+
+    def setUp(self):
+        folder = tempfile.TemporaryDirectory()
+        self.addCleanup(folder.cleanup)
+        self.root = pathlib.Path(folder.name)
+        shutil.copytree(ROOT / "tools", self.root / "tools", ignore=shutil.ignore_patterns("__pycache__"))
+        for name in ("crates.txt", "README.md"):
+            shutil.copy(ROOT / name, self.root)
+        for name in ("rust/rulketoos", "bin"):
+            (self.root / name).mkdir(parents=True)
+        for name in "awk bash cat chmod cut dirname env grep mkdir mktemp python3 readlink rm sed sh sort tail".split():
+            (self.root / "bin" / name).symlink_to(shutil.which(name))
+
+    def has(self, name, text):
+        path = self.root / "bin" / name
+        path.write_text(text)
+        path.chmod(0o755)
+
+    def run_tool(self, *words):
+        command = [str(self.root / "tools" / words[0]), *words[1:]]
+        path = {"PATH": str(self.root / "bin"), "HOME": str(pathlib.Path.home())}
+        return subprocess.run(command, env=path, capture_output=True, text=True, check=False)
+
+    def test_progress(self):
+        for name, text in (("rt", PROVES), ("cargo", BUILDS), ("cc", PROVES)):
+            self.has(name, text)
+        first = self.run_tool("show", "spine.py")
+        self.assertEqual((first.returncode, first.stdout), (0, "words: show spine.py\n"), first.stderr)
+        total = first.stderr.split()[1]
+        second = re.findall("^[a-z0-9_]+: definitions\\b", (ROOT / "crates.txt").read_text(), re.MULTILINE)[0].split(":")[0]
+        self.assertRegex(first.stderr, f"(?m)^1 of {total}: definitions proved \\(5 s\\); [0-9]+ s so far; next: {second}$")
+        self.assertIn(f"2 of {total}: parts proved (20 s); ", first.stderr)
+        self.assertIn("rulketoos is built; ", first.stderr)
+        again = self.run_tool("rulketoos", "check", "a b")
+        self.assertEqual((again.stdout, again.stderr), ("words: check a b\n", ""))
+
+    def test_missing_tools(self):
+        missing = self.run_tool("show", "spine.py")
+        self.assertEqual((missing.returncode, missing.stdout), (2, ""))
+        for name in ("rt is missing: install the Rattle toolchain", "cargo is missing: install", "cc is missing: install"):
+            self.assertIn(name, missing.stderr)
+        self.assertNotIn("python3 is missing", missing.stderr)
+
+    def test_failed_proof(self):
+        for name, text in (("rt", FAILS), ("cargo", BUILDS), ("cc", PROVES)):
+            self.has(name, text)
+        failed = self.run_tool("build")
+        self.assertEqual(failed.returncode, 1)
+        self.assertIn("rt: parts NOT PROVED (exit 1, 3 s)\nrt check ", failed.stderr)
 
 
 if __name__ == "__main__":

@@ -45,6 +45,7 @@ module _ (x : Name) (c : ℕ) (ms : List Method) (p : ℕ) (t : Tables) where
   unfolding closed
   closed-trim h a b T = record {
     symbols = T .symbols;
+    strings = T .strings;
     functions = tight-up closed-sizes (T .functions);
     classes = every-set c _ (record { named = h; methods = named-up closed-sizes a; rises = b }) (ordered-up closed-sizes (T .classes));
     constants = constants-up closed-sizes (T .constants);
@@ -69,6 +70,7 @@ module _ (x : Name) (c : ℕ) (ms : List Method) (p : ℕ) (t : Tables) where
       record {
         trim = record {
           symbols = T .symbols;
+          strings = T .strings;
           functions = tight-up z (T .functions);
           classes = ordered-up z (T .classes);
           constants = every-append (constants-up z (T .constants)) (every (record { class = h }) noEvery);
@@ -108,7 +110,7 @@ begin-trim : (x : Name) (t : Tables) → isName x ≡ true → Trim t → Trim (
 unfolding beginClass rising
 begin-trim x t h T =
     let z = begin-longer x t .sizes in
-    record { symbols = T .symbols; functions = tight-up z (T .functions); classes = every-append (ordered-up z (T .classes)) (every (record { named = h; methods = noEvery; rises = refl }) noEvery); constants = constants-up z (T .constants) }
+    record { symbols = T .symbols; strings = T .strings; functions = tight-up z (T .functions); classes = every-append (ordered-up z (T .classes)) (every (record { named = h; methods = noEvery; rises = refl }) noEvery); constants = constants-up z (T .constants) }
 
 begin-weight : (x : Name) (t : Tables) → burden (beginClass x t) ≡ burden t
 unfolding beginClass

@@ -6,7 +6,7 @@ use native.Mathlib.Omega.{arith}
 use lib.ListN.{length}
 use Rattle.definitions.specs.Bytes.{Name}
 use Rattle.definitions.specs.Tree.{Literal, UnaryOp, notOp, negateOp, posOp, Display, listD, tupleD, dictD, setD, treeSetD}
-use Rattle.definitions.specs.Tree.{BinaryOp, addOp, subtractOp, multiplyOp, divideOp, floorDivideOp, moduloOp, equalOp, notEqualOp, lessOp, lessEqualOp, greaterOp, greaterEqualOp}
+use Rattle.definitions.specs.Tree.{BinaryOp, addOp, subtractOp, multiplyOp, divideOp, floorDivideOp, moduloOp, equalOp, notEqualOp, lessOp, lessEqualOp, greaterOp, greaterEqualOp, binaryNumber}
 use Rattle.definitions.specs.Tree.{Expr, Exprs, count, view, viewDisplay}
 use Rattle.definitions.specs.Slots.{captures}
 use Rattle.definitions.specs.Instruction
@@ -29,7 +29,7 @@ fits-literal noneF = fits-within (fits-one (bare refl refl)) (omega arith)
 fits-literal (boolF {b}) = fits-within (fits-one (bool-sound b)) (omega arith)
 fits-literal (intF h) = fits-within (fits-one (single refl h)) (omega arith)
 fits-literal (floatF h) = fits-within (fits-one (single refl h)) (omega arith)
-fits-literal (stringF {s} h) = fits-within (fits-string s (λ k t l. fits-one (single refl l))) h
+fits-literal (stringF {s} u h) = fits-within (fits-string s (record { utf8 = u }) (λ k t l. fits-one (single refl l))) h
 
 unary-sound : {b : Tables} {s : ℕ} (op : UnaryOp) → Sound b s (Instruction.Unary op)
 unfolding allInstruction
@@ -38,7 +38,7 @@ unary-sound negateOp = bare refl refl
 unary-sound posOp = bare refl refl
 
 binary-sound : {b : Tables} {s : ℕ} (op : BinaryOp) → Sound b s (Instruction.Binary op)
-unfolding allInstruction
+unfolding allInstruction binaryNumber
 binary-sound addOp = bare refl refl
 binary-sound subtractOp = bare refl refl
 binary-sound multiplyOp = bare refl refl

@@ -66,6 +66,7 @@ module _ {n : ℕ} {b : Tables} (k arity : ℕ) (few : arity ≤ 255) (slots : L
       let L = begun-longer .sizes in
       record {
         symbols = T .symbols;
+        strings = T .strings;
         functions = every-append (tight-up L (T .functions)) (every (record { symbol = has; arity = few; code = noEvery }) noEvery);
         classes = ordered-up L (T .classes);
         constants = constants-up L (T .constants);
@@ -112,7 +113,7 @@ module _ {n : ℕ} {b : Tables} (k arity : ℕ) (few : arity ≤ 255) (slots : L
           keeps = λ S T.
               let K = I .keeps (inside-small S) (begun-trim T) in
               record {
-                trim = record { symbols = K .trim .symbols; functions = tight T K; classes = ordered-up ready (K .trim .classes); constants = constants-up ready (K .trim .constants) };
+                trim = record { symbols = K .trim .symbols; strings = K .trim .strings; functions = tight T K; classes = ordered-up ready (K .trim .classes); constants = constants-up ready (K .trim .constants) };
                 code = noEvery;
               };
         };

@@ -10,7 +10,7 @@ use Rattle.definitions.specs.Tables.{Tables, Out, Emit, addSymbol, addSt
 use Rattle.definitions.proofs.Every.{noEvery, every, every-append, length-snoc}
 use Rattle.definitions.proofs.Resolve.{position-lt}
 use Rattle.definitions.proofs.Names.{Short}
-use Rattle.definitions.proofs.Bounds.{Trim, texts}
+use Rattle.definitions.proofs.Bounds.{Utf8, Trim, texts}
 use Rattle.definitions.proofs.LongerTables.{Longer, longer-same, longer-none, longer-more, small-down, tight-up, ordered-up, constants-up}
 use Rattle.definitions.proofs.BoundedPart.{Fits, Step, step-within}
 
@@ -23,12 +23,12 @@ string-longer x t = longer-same refl (omega (arith, length-snoc (t .strings) x))
 pub symbol-trim : (x : Name) (t : Tables) → Short x → Trim t → Trim (addSymbol x t)
 symbol-trim x t h T =
     let L = symbol-longer x t .sizes in
-    record { symbols = every-append (T .symbols) (every h noEvery); functions = tight-up L (T .functions); classes = ordered-up L (T .classes); constants = constants-up L (T .constants) }
+    record { symbols = every-append (T .symbols) (every h noEvery); strings = T .strings; functions = tight-up L (T .functions); classes = ordered-up L (T .classes); constants = constants-up L (T .constants) }
 
-string-trim : (x : Text) (t : Tables) → Trim t → Trim (addString x t)
-string-trim x t T =
+string-trim : (x : Text) (t : Tables) → Utf8 x → Trim t → Trim (addString x t)
+string-trim x t h T =
     let L = string-longer x t .sizes in
-    record { symbols = T .symbols; functions = tight-up L (T .functions); classes = ordered-up L (T .classes); constants = constants-up L (T .constants) }
+    record { symbols = T .symbols; strings = every-append (T .strings) (every h noEvery); functions = tight-up L (T .functions); classes = ordered-up L (T .classes); constants = constants-up L (T .constants) }
 
 -- the name is short where the place and the functions so far are few
 pub step-symbol : {n s : ℕ} (f : ℕ → Emit) (x : Name) (p : ℕ) (t : Tables) → (p ≤ 8192 → length (t .functions) ≤ 256 → Short x)
@@ -55,9 +55,9 @@ texts-append : (ss : List Text) (x : Text) → texts (ss ++ (x ∷ [])) ≡ text
 texts-append [] x = omega arith
 texts-append (s ∷ ss) x = omega (arith, texts-append ss x)
 
-pub fits-string : {s : ℕ} {b : Tables} {f : ℕ → Emit} (x : Text) → ((k : ℕ) (t : Tables) → k < length (t .strings) → Fits 0 s t (f k)) → Fits (2 + length x) s b (getOrAddString x f)
+pub fits-string : {s : ℕ} {b : Tables} {f : ℕ → Emit} (x : Text) → Utf8 x → ((k : ℕ) (t : Tables) → k < length (t .strings) → Fits 0 s t (f k)) → Fits (2 + length x) s b (getOrAddString x f)
 unfolding getOrAddString
-fits-string {s} {b} {f} x F = record { at = λ p t u. go p t (position (same x) (t .strings)) (position-lt (same x) (t .strings)) }
+fits-string {s} {b} {f} x h F = record { at = λ p t u. go p t (position (same x) (t .strings)) (position-lt (same x) (t .strings)) }
   where
     go : (p : ℕ) (t : Tables) (o : Option ℕ) → ((j : ℕ) → o ≡ some j → j < length (t .strings)) → Step (2 + length x) s p t (elim o as (λ z. Out) [ some k ↦ f k p t | none ↦ f (length (t .strings)) p (addString x t) ])
     go p t (some j) l = step-within (F j t (l j refl) .at p t longer-none) (omega arith)
@@ -66,5 +66,5 @@ fits-string {s} {b} {f} x F = record { at = λ p t u. go p t (position (same x) 
         record {
           longer = longer-more (string-longer x t) (S .longer);
           weight = omega (arith, S .weight, texts-append (t .strings) x);
-          keeps = λ m r. S .keeps m (string-trim x t r);
+          keeps = λ m r. S .keeps m (string-trim x t h r);
         }

@@ -33,7 +33,7 @@ int-sound i h = single refl (omega arith)
 -- a display as an element: a tuple has at most 65,535 elements, any other stores nothing
 fits-display : {b : Tables} {s : ℕ} (k : Display) (es : Exprs) (e : Emit) → displaySize k es < 65536 → (count es ≤ 65536 → Fits 0 s b e)
     → Fits 0 s b (elim (isTuple k) as (λ z. Emit) [ true ↦ e | false ↦ emits [] ])
-unfolding isTuple displaySize
+unfolding isTuple viewDisplay displaySize
 fits-display listD es e h E = fits-nothing
 fits-display tupleD es e h E = E (omega arith)
 fits-display dictD es e h E = fits-nothing

@@ -101,7 +101,7 @@ unfolding compile noTables allInstruction
 tree-bounded {n} b A m =
     let F = function-in {s = 0} main 0 [] (blockBody b (Return ∷ [])) 0 noTables longer-none (λ c. record { short = omega arith }) (omega arith) (fits-seq (fits-block [] A) (fits-one (bare refl refl))) in
     record {
-      trim = F .step .keeps (small-down longer-none (omega (arith, F .silent)) m) (record { symbols = noEvery; functions = noEvery; classes = noEvery; constants = noEvery }) .trim;
+      trim = F .step .keeps (small-down longer-none (omega (arith, F .silent)) m) (record { symbols = noEvery; strings = noEvery; functions = noEvery; classes = noEvery; constants = noEvery }) .trim;
       weight = omega (arith, F .step .weight);
       constants = omega (arith, F .step .longer .balance);
     }

@@ -8,6 +8,7 @@ use native.Mathlib.Omega.{arith}
 use lib.ListN.{length}
 use lib.Dec.{T, leb}
 use Rattle.definitions.specs.Bytes.{Text}
+use Rattle.definitions.specs.Utf8.{isUtf8}
 use Rattle.definitions.specs.Wellformed.{isName}
 use Rattle.definitions.specs.Builtins.{registry}
 use Rattle.definitions.specs.Instruction.{Instr, instr, Jump, ConstBool, firstWidth, secondWidth}
@@ -111,9 +112,14 @@ pub record Ordered (t : Tables) (c : Class) : Type 0 where
 pub record OfClass (t : Tables) (k : ℕ) : Type 0 where
   pub class : k < length (t .classes)
 
+-- of a string: it is well-formed UTF-8
+pub record Utf8 (s : Text) : Type 0 where
+  pub utf8 : isUtf8 s ≡ true
+
 -- of the tables
 pub record Trim (t : Tables) : Type 0 where
   pub symbols : Every Short (t .symbols)
+  pub strings : Every Utf8 (t .strings)
   pub functions : Every (Tight t) (t .functions)
   pub classes : Every (Ordered t) (t .classes)
   pub constants : Every (OfClass t) (t .constants)

@@ -8,7 +8,7 @@ use lib.ListN.{length}
 use lib.Dec.{T}
 use Rattle.definitions.specs.Instruction.{Instr}
 use Rattle.definitions.specs.Tables.{Function, Source, Tables, Emit, setCode}
-use Rattle.definitions.specs.Walk.{walkSource}
+use Rattle.definitions.specs.Walk.{walkAt}
 use Rattle.definitions.specs.Reader.{codeStands}
 use Rattle.definitions.specs.Statements.{ComesFrom}
 use Rattle.definitions.proofs.Functions.{setCode-seam}
@@ -18,8 +18,8 @@ use Rattle.definitions.proofs.Meaning.{Meaning}
 -- a function is of its source; its code and its source's walk are of one structured code; the walk comes to an end, and question 21 holds of the code
 pub record Good (f : Function) (g : Source) : Type 0 where
   pub source : ComesFrom f g
-  pub meaning : Meaning false (f .code) (walkSource g)
-  pub over : (xs : List ℕ) → Over (walkSource g xs .ending)
+  pub meaning : Meaning false (f .code) (walkAt g (g .body))
+  pub over : (xs : List ℕ) → Over (walkAt g (g .body) xs .ending)
   pub stands : length (f .code) < 4294967296 → T (codeStands f)
 
 pub data Pairs : List Function → List Source → Type 0 where

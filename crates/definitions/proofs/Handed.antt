@@ -10,6 +10,7 @@ use lib.Dec.{leb}
 use lib.Seq.{take-append-seam, drop-at}
 use lib.Pow.{areBytes}
 use Rattle.definitions.specs.Bytes.{Answer, refused, accepted, whenAccepted, Parsed, got, failed, be, concat, all, listBytes, housed, unhouse}
+use Rattle.definitions.specs.Utf8.{isUtf8}
 use Rattle.definitions.specs.Wellformed.{isName}
 use Rattle.definitions.specs.Instruction.{encode, encodes, firstWidth, secondWidth}
 use Rattle.definitions.specs.Tables.{Function, Tables}
@@ -57,7 +58,7 @@ writes-tables : Writes (λ t xs. xs ≡ tableBytes t) moduleRecord
 unfolding moduleRecord tableBytes
 writes-tables =
     writes-bind _ (writes-list 2 nameBytes writes-name) (λ xs zs a.
-    writes-bind _ (writes-list 2 textBytes writes-text) (λ ss bs b.
+    writes-bind _ (writes-list 2 textBytes (writes-checked isUtf8 writes-text)) (λ ss bs b.
     writes-bind _ (writes-list 2 functionBytes writes-function) (λ fs cs c.
     writes-bind _ (writes-list 2 classBytes writes-class) (λ ls ds d.
     writes-bind _ (writes-list 2 (be 2) (writes-number 2)) (λ ks es e.

@@ -8,18 +8,18 @@ use lib.ListN.{length}
 use lib.Dec.{T, eqb}
 use Rattle.definitions.specs.Bytes.{Name, position, same, concat}
 use Rattle.definitions.specs.Tree.{Literal, noneL, boolL, intL, floatL, stringL, UnaryOp, notOp, negateOp, posOp, LogicalOp, Display, listD, tupleD, dictD, setD, treeSetD}
-use Rattle.definitions.specs.Tree.{BinaryOp, addOp, subtractOp, multiplyOp, divideOp, floorDivideOp, moduloOp, equalOp, notEqualOp, lessOp, lessEqualOp, greaterOp, greaterEqualOp}
+use Rattle.definitions.specs.Tree.{BinaryOp, addOp, subtractOp, multiplyOp, divideOp, floorDivideOp, moduloOp, equalOp, notEqualOp, lessOp, lessEqualOp, greaterOp, greaterEqualOp, binaryNumber}
 use Rattle.definitions.specs.Tree.{Expr, lit, var, unary, binary, logical, call, attr, display, index, lambda, Exprs, []ᵉ, _∷ᵉ_, count}
 use Rattle.definitions.specs.Tree.{View, asVar, asAttr, asIndex, asTuple, asOther, view}
 use Rattle.definitions.specs.Wellformed.{init}
 use Rattle.definitions.specs.Slots.{captures}
 use Rattle.definitions.specs.Instruction
-use Rattle.definitions.specs.Instruction.{Instr, ConstBool, Return, LoadLocal, encodes, unaryCode, binaryCode, buildCode}
-use Rattle.definitions.specs.Tables.{Function, Tables, Body, exprBody, Out, Emit, begin, emits, one, _⨟_, intern, getOrAddString, function, enclose}
+use Rattle.definitions.specs.Instruction.{Instr, ConstBool, Return, LoadLocal, encodes, unaryCode, operatorCode, binaryCode, buildCode}
+use Rattle.definitions.specs.Tables.{Function, Tables, Body, exprBody, Out, Emit, addSymbol, begin, emits, one, _⨟_, intern, getOrAddString, function, enclose}
 use Rattle.definitions.specs.Lower
 use Rattle.definitions.specs.Lower.{Callee, builtinCallee, functionCallee, valueCallee, resolve, load, store, literal, decides, callNamed, callBy, loads, closure, emitExpr, emitExprs, emitObject, methodEnd, emitBody}
 use Rattle.definitions.specs.Run.{flow}
-use Rattle.definitions.specs.Walk.{walked, returned, Walk, before, andThen, follow, adds, leaves, Both, walkNamed, walkCall, walkExpr, walkExprs, walkObject, walkBody, walkSource}
+use Rattle.definitions.specs.Walk.{walked, returned, Walk, before, andThen, follow, adds, leaves, Both, walkNamed, walkCall, walkExpr, walkExprs, walkObject, walkBody, walkAt}
 use Rattle.definitions.specs.Reader.{endsInReturn, jumpsLand, codeStands}
 use Rattle.definitions.proofs.Shape.{plain, ret, seq, Plain, Each, none, more}
 use Rattle.definitions.proofs.Demand.{Over, over-then}
@@ -66,7 +66,7 @@ plain-unary negateOp = num refl refl refl
 plain-unary posOp = num refl refl refl
 
 pub plain-binary : (op : BinaryOp) → Plain (Instruction.Binary op)
-unfolding flow binaryCode
+unfolding flow binaryCode operatorCode binaryNumber
 plain-binary addOp = num refl refl refl
 plain-binary subtractOp = num refl refl refl
 plain-binary multiplyOp = num refl refl refl
@@ -147,13 +147,22 @@ stop-end x = go (same x init)
     go false = stop-return
 
 pub leaf-function : {e : Emit} (x : Name) (arity : ℕ) (slots : List Name) (body : Body) → Whole e slots body → Leaf (function x arity slots body e)
-unfolding function enclose begin walkSource codeStands
+unfolding function enclose begin walkAt codeStands
 leaf-function {e} x arity slots body B = leaf-symbol x (λ k. record {
   at = λ p t. none;
   grows = λ p t.
       let u = begin k arity slots t in
       grow-function (t .functions) _ _ _ _ (e 0 u .code) (B .part .grows 0 u) (record { source = record { locals = refl; code = ap (λ (z : Emit). z 0 u .code) (B .emitted) }; meaning = B .part .at 0 u; over = λ xs. B .over u xs; stands = B .stand u });
 })
+
+-- it gives no code in its parent
+pub function-silent : (x : Name) (arity : ℕ) (slots : List Name) (body : Body) (e : Emit) (p : ℕ) (t : Tables) → function x arity slots body e p t .code ≡ []
+unfolding function intern enclose
+function-silent x arity slots body e p t = go (position (same x) (t .symbols))
+  where
+    go : (o : Option ℕ) → (elim o as (λ z. Out) [ some k ↦ enclose k arity slots body e p t | nothing ↦ enclose (length (t .symbols)) arity slots body e p (addSymbol x t) ]) .code ≡ []
+    go (some k) = refl
+    go nothing = refl
 
 pub leaf-closure : (e : Emit) (slots : List Name) (n : ℕ) (inner cs : List Name) (body : Body) → Whole (e ⨟ one Return) inner body → Leaf (closure slots n inner cs body e)
 unfolding closure flow

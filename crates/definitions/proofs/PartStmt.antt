@@ -24,8 +24,8 @@ use Rattle.definitions.proofs.Shape.{brk, cont, size, hop, none, more}
 use Rattle.definitions.proofs.Lands.{stop-return}
 use Rattle.definitions.proofs.Meaning.{Meaning, meaning-seq, meaning-choose, meaning-plain, meaning-length}
 use Rattle.definitions.proofs.Grows.{Grows, Grown, Pairs, grow-none, grow-more}
-use Rattle.definitions.proofs.Part.{Part, Leaf, part-adds, part-follow, part-loop, part-here, part-symbol, leaf-emits, leaf-one, leaf-seq, leaf-symbol, num}
-use Rattle.definitions.proofs.PartExpr.{Whole, whole, leaf-store, part-leave, part-end, stop-end, leaf-function, part-expr}
+use Rattle.definitions.proofs.Part.{Part, Leaf, part-adds, part-silent, part-follow, part-loop, part-here, part-symbol, leaf-emits, leaf-one, leaf-seq, leaf-symbol, num}
+use Rattle.definitions.proofs.PartExpr.{Whole, whole, leaf-store, part-leave, part-end, stop-end, leaf-function, function-silent, part-expr}
 
 -- ---- targets
 
@@ -219,7 +219,9 @@ mutual
       (part-iter (λ g.
       part-follow (part-adds (leaf-one (num refl refl refl)))
       (part-loop (part-adds (leaf-askIter g)) (part-follow (part-adds (leaf-takeIter slots x g)) (part-block (part-blocks true slots b k)))))))
-  part-stmt l slots (def x ps b) k = part-adds (leaf-function x (length ps) (localsBlock b ps) (blockBody b (Return ∷ [])) (whole-block (localsBlock b ps) b (part-block (part-blocks false (localsBlock b ps) b k))))
+  part-stmt l slots (def x ps b) k =
+      part-silent (leaf-function x (length ps) (localsBlock b ps) (blockBody b (Return ∷ [])) (whole-block (localsBlock b ps) b (part-block (part-blocks false (localsBlock b ps) b k))))
+      (function-silent x (length ps) (localsBlock b ps) (blockBody b (Return ∷ [])) _)
   part-stmt l slots (class x ms vs) k = part-adds (leaf-class slots x ms vs (part-methods ms k))
 
   part-blocks : (l : Bool) (slots : List Name) (b : Block) → OkB l b → BlockPart l slots b

@@ -15,14 +15,14 @@ use Rattle.definitions.specs.Tables.{Tables}
 use Rattle.definitions.specs.Lower.{compile}
 use Rattle.definitions.specs.Module.{Limits, moduleBytes, slotsFit, tablesFit, fits, lowerBlock, lowerTables, lowerBytes}
 use Rattle.definitions.specs.Calls.{areasFit, fitsRoom, lowerAnswer}
-use Rattle.definitions.specs.Statements.{parsed, headCounts, readsWhole, notTooDeep, blockRead, moduleOf, answeredYes, lowerQuestions, Refusals}
+use Rattle.definitions.specs.Statements.{parsed, headCounts, readsWhole, notTooDeep, blockRead, moduleOf, Question, lowerQuestions, firstRefusal, Refusals}
 use Rattle.definitions.proofs.Truth.{is-true}
 use Rattle.definitions.proofs.Fails.{FiveOrSix, five, six, fails-tree}
 
 -- ---- questions one after another
 
 -- question q, then what follows it
-unfoldable ask : {A : Type 0} → Bool → ℕ → Answer A → Answer A
+unfoldable pub ask : {A : Type 0} → Bool → ℕ → Answer A → Answer A
 ask true q a = a
 ask false q a = refused q
 
@@ -32,7 +32,7 @@ asks asked [] a = a
 asks asked (q ∷ qs) a = ask (asked q) q (asks asked qs a)
 
 -- a test of the definitions is a question
-ask-is : {A : Type 0} (c : Bool) (q : ℕ) (a : Answer A) → (elim c as (λ z. Answer A) [ true ↦ a | false ↦ refused q ]) ≡ ask c q a
+pub ask-is : {A : Type 0} (c : Bool) (q : ℕ) (a : Answer A) → (elim c as (λ z. Answer A) [ true ↦ a | false ↦ refused q ]) ≡ ask c q a
 unfolding ask
 ask-is true q a = refl
 ask-is false q a = refl
@@ -49,7 +49,7 @@ asks-is {A} asked (q ∷ qs) a = go (asked q) (asks-is asked qs a)
     go false e = refl
 
 -- what goes on from an accepted answer comes after the questions
-when-ask : {A B : Type 0} (c : Bool) (q : ℕ) (a : Answer A) (f : A → Answer B) → whenAccepted (ask c q a) f ≡ ask c q (whenAccepted a f)
+pub when-ask : {A B : Type 0} (c : Bool) (q : ℕ) (a : Answer A) (f : A → Answer B) → whenAccepted (ask c q a) f ≡ ask c q (whenAccepted a f)
 unfolding ask whenAccepted
 when-ask true q a f = refl
 when-ask false q a f = refl
@@ -59,20 +59,20 @@ unfolding asks
 when-asks asked [] a f = refl
 when-asks asked (q ∷ qs) a f = when-ask (asked q) q (asks asked qs a) f ∙ ap (ask (asked q) q) (when-asks asked qs a f)
 
--- ---- 3 and 4: the head
+-- ---- the head of a record: 3 and 4 of a tree, 17 and 18 of a module
 
-head-asked : {A : Type 0} (body : List ℕ → Answer A) (tree : List ℕ)
-    → unhouse 3 4 body tree ≡ ask (headCounts tree) 3 (ask (leb 5 (length tree) && eqb (getD tree 4 0) 1) 4 (body (drop 5 tree)))
+pub head-asked : {A : Type 0} (p q : ℕ) (body : List ℕ → Answer A) (bs : List ℕ)
+    → unhouse p q body bs ≡ ask (headCounts bs) p (ask (leb 5 (length bs) && eqb (getD bs 4 0) 1) q (body (drop 5 bs)))
 unfolding unhouse countsRest versionOne headCounts ask field byte give _>>=_
-head-asked body [] = refl
-head-asked body (a ∷ []) = refl
-head-asked body (a ∷ b ∷ []) = refl
-head-asked body (a ∷ b ∷ c ∷ []) = refl
-head-asked body (a ∷ b ∷ c ∷ d ∷ []) = ask-is (headCounts (a ∷ b ∷ c ∷ d ∷ [])) 3 (refused 4)
-head-asked {A} body (a ∷ b ∷ c ∷ d ∷ v ∷ rest) =
+head-asked p q body [] = refl
+head-asked p q body (a ∷ []) = refl
+head-asked p q body (a ∷ b ∷ []) = refl
+head-asked p q body (a ∷ b ∷ c ∷ []) = refl
+head-asked p q body (a ∷ b ∷ c ∷ d ∷ []) = ask-is (headCounts (a ∷ b ∷ c ∷ d ∷ [])) p (refused q)
+head-asked {A} p q body (a ∷ b ∷ c ∷ d ∷ v ∷ rest) =
     let five = is-true (leb 5 (suc (suc (suc (suc (suc (length rest))))))) (le→leb 5 (suc (suc (suc (suc (suc (length rest)))))) (omega arith)) in
     let head = headCounts (a ∷ b ∷ c ∷ d ∷ v ∷ rest) in
-    rw five (ask-is head 3 (versionOne 4 body (v ∷ rest)) ∙ ap (ask head 3) (ask-is (eqb v 1) 4 (body rest)))
+    rw five (ask-is head p (versionOne q body (v ∷ rest)) ∙ ap (ask head p) (ask-is (eqb v 1) q (body rest)))
 
 -- ---- 5 and 6: the block
 
@@ -94,7 +94,7 @@ tree-asked : (tree : List ℕ)
 unfolding readTree parsed
 tree-asked tree =
     ask-is (leb (length tree) 32768) 2 _
-    ∙ ap (ask (leb (length tree) 32768) 2) (head-asked (λ rest. wholeBlock (blockOf (parseStmt 32) rest)) tree
+    ∙ ap (ask (leb (length tree) 32768) 2) (head-asked 3 4 (λ rest. wholeBlock (blockOf (parseStmt 32) rest)) tree
     ∙ ap (λ (z : Answer Block). ask (headCounts tree) 3 (ask (leb 5 (length tree) && eqb (getD tree 4 0) 1) 4 z)) (block-asked (parsed tree) (fails-tree 32 .at (drop 5 tree))))
 
 -- ---- 7 to 16: the block
@@ -129,7 +129,17 @@ module _ (l : Limits) (room : ℕ) where
 
 -- ---- 1 to 16
 
+-- the questions of the whole list
+unfoldable pub questioned : {A : Type 0} → List Question → Answer A → Answer A
+questioned [] a = a
+questioned (q ∷ qs) a = ask (q .yes) (q .number) (questioned qs a)
+
+pub first-is : {A : Type 0} (qs : List Question) (a : A) → firstRefusal qs a ≡ questioned qs (accepted a)
+unfolding firstRefusal questioned
+first-is [] a = refl
+first-is (q ∷ qs) a = ask-is (q .yes) (q .number) (firstRefusal qs a) ∙ ap (ask (q .yes) (q .number)) (first-is qs a)
+
 pub refusals : Refusals
-unfolding lowerAnswer lowerBytes lowerTables finish answeredYes lowerQuestions blockQuestions asks moduleOf
+unfolding lowerAnswer lowerBytes lowerTables finish lowerQuestions questioned blockQuestions asks moduleOf
 refusals l m n room tree =
-    rw asks-is (ask-is (areasFit m n) 1 _ ∙ ap (ask (areasFit m n) 1) (rw (finish-tree, finish-block, finish-asked)))
+    rw first-is (ask-is (areasFit m n) 1 _ ∙ ap (ask (areasFit m n) 1) (rw (finish-tree, finish-block, finish-asked)))

@@ -3,15 +3,16 @@ use mathlib.Core.List.{List, _∷_, []}
 use Prim.Native.Nat.{ℕ, _≤_}
 use native.Mathlib.Omega.{arith}
 use lib.ListN.{length}
-use Rattle.definitions.specs.Bytes.{Name, Text, field, name, text, be}
+use Rattle.definitions.specs.Bytes.{Name, Text, field, name, text, checked, be}
+use Rattle.definitions.specs.Utf8.{isUtf8}
 use Rattle.definitions.specs.Tables.{Function, Method, Class, Tables}
 use Rattle.definitions.specs.Module.{office, nameBytes, textBytes, functionBytes, methodBytes, classBytes}
 use Rattle.definitions.specs.Reader.{functionRecord, methodRecord, classRecord}
 use Rattle.definitions.proofs.Every.{Every, noEvery, every}
 use Rattle.definitions.proofs.Accepted.{Within}
-use Rattle.definitions.proofs.Readback.{Back, noBack, back, TablesFits, reads-name, reads-text, reads-field, reads-function, reads-method, reads-class}
+use Rattle.definitions.proofs.Readback.{Back, noBack, back, TablesFits, reads-checked, reads-name, reads-text, reads-field, reads-function, reads-method, reads-class}
 use Rattle.definitions.proofs.Names.{Short, name-short}
-use Rattle.definitions.proofs.Bounds.{Lean, Tight, Named, Ordered, OfClass, texts, names, members}
+use Rattle.definitions.proofs.Bounds.{Utf8, Lean, Tight, Named, Ordered, OfClass, texts, names, members}
 use Rattle.definitions.proofs.Known.{Settles, Known}
 use Rattle.definitions.proofs.InstructionsFit.{back-code}
 
@@ -60,9 +61,9 @@ back-symbols : {xs : List Name} → Every Short xs → Back name nameBytes xs
 back-symbols noEvery = noBack
 back-symbols (every {a = x} h r) = back (reads-name x (omega (arith, h .short))) (back-symbols r)
 
-back-strings : (ss : List Text) → texts ss ≤ 32768 → Back text textBytes ss
-back-strings [] h = noBack
-back-strings (s ∷ ss) h = back (reads-text s (omega arith)) (back-strings ss (omega arith))
+back-strings : {ss : List Text} → Every Utf8 ss → texts ss ≤ 32768 → Back (checked isUtf8 text) textBytes ss
+back-strings noEvery h = noBack
+back-strings (every {a = s} u us) h = back (reads-checked isUtf8 (u .utf8) (reads-text s (omega arith))) (back-strings us (omega arith))
 
 pub tables-fit : {n : ℕ} (t : Tables) → n ≤ 32768 → Known n t → TablesFits t
 unfolding office
@@ -74,7 +75,7 @@ tables-fit t h K =
       nsymbols = omega (arith, L .symbols);
       symbols = back-symbols (B .trim .symbols);
       nstrings = omega (arith, L .strings);
-      strings = back-strings (t .strings) (omega (arith, B .weight));
+      strings = back-strings (B .trim .strings) (omega (arith, B .weight));
       nfunctions = omega (arith, L .functions);
       functions = back-functions t L cs (B .trim .functions) (K .lean) (K .settled);
       nclasses = omega (arith, L .classes);

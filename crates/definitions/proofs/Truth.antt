@@ -1,6 +1,6 @@
 -- Laws of Booleans and tests.
 use mathlib.Core.Path.{_≡_, refl, sym, subst}
-use mathlib.Core.Bool.{Bool, true, false, _&&_}
+use mathlib.Core.Bool.{Bool, true, false, not, _&&_}
 use Prim.Native.Nat.{ℕ, _≤_}
 use lib.Dec.{T, eqb, eqb-refl, leb, leb→le}
 
@@ -27,3 +27,7 @@ not-equal m n e q = subst T e (subst (λ (z : ℕ). T (eqb m z)) q (eqb-refl m))
 pub is-true : (b : Bool) → T b → b ≡ true
 is-true true t = refl
 is-true false t = absurd t
+
+pub is-false : (b : Bool) → T (not b) → b ≡ false
+is-false true t = absurd t
+is-false false t = refl

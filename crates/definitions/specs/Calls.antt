@@ -6,9 +6,8 @@ use mathlib.Core.List.{List, [], _∷_, _++_}
 use lib.ListN.{length, take, drop, getElem?, replicate}
 use lib.Dec.{leb}
 use Rattle.definitions.specs.Bytes.{Answer, refused, accepted, whenAccepted, all, ascii, decimal}
-use Rattle.definitions.specs.Tree.{Block}
 use Rattle.definitions.specs.Parse.{readTree}
-use Rattle.definitions.specs.Instruction.{Instr, encodes}
+use Rattle.definitions.specs.Instruction.{encodes}
 use Rattle.definitions.specs.Tables.{Function, Tables}
 use Rattle.definitions.specs.Module.{Limits, office, codeStart, lowerBytes}
 use Rattle.definitions.specs.Reader.{readModule}
@@ -143,10 +142,12 @@ pub record Running : Type 0 where
   pub answer : Answer Counts
   pub events : List ℕ
 
+-- by what the run gives
+unfoldable pub ranCall : Answer Ran → List ℕ → Running
+ranCall a events = record { answer = whenAccepted a ranCounts; events = outputAfter (whenAccepted a (λ (r : Ran). accepted (r .events))) events }
+
 unfoldable pub runCall : List ℕ → ℕ → List ℕ → ℕ → List ℕ → Running
-runCall bs f answers budget events =
-    let a = runAnswer bs f answers budget (length events) in
-    record { answer = whenAccepted a ranCounts; events = outputAfter (whenAccepted a (λ (r : Ran). accepted (r .events))) events }
+runCall bs f answers budget events = ranCall (runAnswer bs f answers budget (length events)) events
 
 -- ---- the walk of a tree's bytes
 

@@ -1,30 +1,70 @@
 -- The theorems about the definitions, as statements. Each is proved, under the same name in small letters, in the module of proofs/ that is named here.
-use Prim.Native.Nat.{ℕ, zero, suc, _+_, _*_, _-_, _≤_, _<_}
+use Prim.Native.Nat.{ℕ, zero, suc, _+_, _*_, _≤_, _<_}
+use Prim.Native.String.{String}
 use mathlib.Core.Path.{_≡_}
-use mathlib.Core.Bool.{Bool, true, false, not, _&&_}
+use mathlib.Core.Bool.{Bool, true, false, not, _&&_, _||_}
 use mathlib.Core.Option.{Option, none, some}
-use mathlib.Core.List.{List, [], _∷_}
-use lib.ListN.{length, getD, getElem?, drop}
-use lib.Dec.{eqb, leb}
+use mathlib.Core.List.{List, [], _∷_, _++_, map}
+use lib.ListN.{length, getD, getElem?, take, drop}
+use lib.Dec.{eqb, leb, ltb}
 use lib.Pow.{areBytes}
-use Rattle.definitions.specs.Bytes.{Answer, refused, accepted, Parsed, got, failed, field, all}
-use Rattle.definitions.specs.Tree.{Block, []ᵇ}
-use Rattle.definitions.specs.Parse.{blockOf, parseStmt}
-use Rattle.definitions.specs.Wellformed.{askBlock, firstNo, refusedBy}
-use Rattle.definitions.specs.Instruction.{Instr, encodes}
-use Rattle.definitions.specs.Tables.{Function, Tables, Source}
-use Rattle.definitions.specs.Lower.{compile, emitBody}
-use Rattle.definitions.specs.Module.{Limits, office, moduleBytes, slotsFit, tablesFit, lowerBlock, lowerTables, lowerBytes}
-use Rattle.definitions.specs.Reader.{readModule}
+use Rattle.definitions.specs.Bytes.{Name, member, Answer, refused, accepted, Parsed, got, failed, field, all, concat}
+use Rattle.definitions.specs.Utf8.{Range, inRange, Octets, utf8Char, isUtf8, isScalar, encodeChar}
+use Rattle.definitions.specs.Tree.{BinaryOp, addOp, subtractOp, multiplyOp, divideOp, floorDivideOp, moduloOp, equalOp, notEqualOp, lessOp, lessEqualOp, greaterOp, greaterEqualOp}
+use Rattle.definitions.specs.Tree.{binaryNumber, UnaryOp, LogicalOp, Display, Expr, lit, var, unary, binary, logical, call, attr, display, index, lambda, Exprs, []ᵉ, _∷ᵉ_}
+use Rattle.definitions.specs.Tree.{Stmt, break, continue, pass, expr, return, assign, if, while, for, def, class, Block, []ᵇ, _∷ᵇ_, Branches, done, else, when, Methods, Attribute}
+use Rattle.definitions.specs.Parse.{binaryKinds, blockOf, parseStmt}
+use Rattle.definitions.specs.Wellformed.{isName, isTuple, isIterator, distinct, askBlock}
+use Rattle.definitions.specs.TreeNames.{namesBlock}
+use Rattle.definitions.specs.Slots.{add, localsBlock, captures}
+use Rattle.definitions.specs.Instruction.{Instr, StoreGlobal, Row, rowOf, binaryCode, encodes}
+use Rattle.definitions.specs.Tables.{Function, Tables, Body, blockBody, Source}
+use Rattle.definitions.specs.Lower.{iterName, noTables, compile, emitBody}
+use Rattle.definitions.specs.Bodies.{bodies}
+use Rattle.definitions.specs.Module.{Limits, office, moduleBytes, codeStart, slotsFit, tablesFit, lowerBlock, lowerTables, lowerBytes}
+use Rattle.definitions.specs.Reader.{moduleRecord, numbersExist, codeStands, readModule}
 use Rattle.definitions.specs.Run.{Ran, run}
 use Rattle.definitions.specs.Walk.{Walked, endingNumber, walk}
-use Rattle.definitions.specs.Calls.{areasFit, areAnswers, lowerAnswer, Part, partOf, codeCall, runAnswer, walkTree}
+use Rattle.definitions.specs.Calls.{areasFit, areAnswers, lowerAnswer, readCall, Part, partOf, codeCall, runAnswer, walkTree}
 use Rattle.definitions.specs.Samples.{samples, holds}
 
 -- ---- the starred samples: proofs/Samples
 
 abbrev pub SamplesHold : Type 0
 SamplesHold = all holds samples ≡ true
+
+-- ---- the operators' sums give what 000 emits: proofs/Operators
+
+-- an operator, and the instruction that 000 emits for it, by its name in 001
+pub record Emitted : Type 0 where
+  pub op : BinaryOp
+  pub name : String
+
+abbrev pub emitted : BinaryOp → String → Emitted
+emitted o x = record { op = o; name = x }
+
+-- the twelve: `/` is TrueDiv, `//` is Div
+unfoldable pub emittedFor : List Emitted
+emittedFor =
+    emitted addOp "Add"
+    ∷ emitted subtractOp "Sub"
+    ∷ emitted multiplyOp "Mul"
+    ∷ emitted divideOp "TrueDiv"
+    ∷ emitted floorDivideOp "Div"
+    ∷ emitted moduloOp "Mod"
+    ∷ emitted equalOp "Eq"
+    ∷ emitted notEqualOp "Ne"
+    ∷ emitted lessOp "Lt"
+    ∷ emitted lessEqualOp "Le"
+    ∷ emitted greaterOp "Gt"
+    ∷ emitted greaterEqualOp "Ge"
+    ∷ []
+
+-- the operators in the order of their bytes in a tree; their numbers are these bytes; the sum of each is the place of its instruction in `enum Instruction`
+pub record Operators : Type 0 where
+  pub bytes : take 12 binaryKinds ≡ map (λ (e : Emitted). binary (e .op)) emittedFor
+  pub numbers : map (λ (e : Emitted). binaryNumber (e .op)) emittedFor ≡ 0 ∷ 1 ∷ 2 ∷ 3 ∷ 4 ∷ 5 ∷ 6 ∷ 7 ∷ 8 ∷ 9 ∷ 10 ∷ 11 ∷ []
+  pub sums : map (λ (e : Emitted). rowOf (binaryCode (e .op)) .name) emittedFor ≡ map (λ (e : Emitted). e .name) emittedFor
 
 -- ---- the shape of refusals: proofs/Refusals
 
@@ -54,40 +94,293 @@ blockRead (failed q) = []ᵇ
 unfoldable pub moduleOf : List ℕ → List ℕ
 moduleOf tree = moduleBytes (compile (blockRead (parsed tree)) .tables)
 
--- whether question q, 1 to 16, is answered yes, those before it being so; by the limits, the lengths of the areas and of the output, and the tree
-unfoldable pub answeredYes : Limits → ℕ → ℕ → ℕ → List ℕ → ℕ → Bool
-answeredYes l m n room tree q =
+-- a question: its number, and whether it is answered yes, those before it being so
+pub record Question : Type 0 where
+  pub number : ℕ
+  pub yes : Bool
+
+abbrev pub asked : ℕ → Bool → Question
+asked n b = record { number = n; yes = b }
+
+-- the questions of the lowering in their order; by the limits, the lengths of the areas and of the output, and the tree
+unfoldable pub lowerQuestions : Limits → ℕ → ℕ → ℕ → List ℕ → List Question
+lowerQuestions l m n room tree =
     let b = blockRead (parsed tree) in
     let t = compile b .tables in
-    getD
-    (true
-    ∷ areasFit m n
-    ∷ leb (length tree) 32768
-    ∷ headCounts tree
-    ∷ (leb 5 (length tree) && eqb (getD tree 4 0) 1)
-    ∷ readsWhole (parsed tree)
-    ∷ notTooDeep (parsed tree)
-    ∷ askBlock 7 false b
-    ∷ askBlock 8 false b
-    ∷ askBlock 9 false b
-    ∷ askBlock 10 false b
-    ∷ askBlock 11 false b
-    ∷ askBlock 12 false b
-    ∷ askBlock 13 false b
-    ∷ slotsFit t
-    ∷ tablesFit l t
-    ∷ leb (length (moduleOf tree)) room
-    ∷ [])
-    q true
+    asked 1 (areasFit m n)
+    ∷ asked 2 (leb (length tree) 32768)
+    ∷ asked 3 (headCounts tree)
+    ∷ asked 4 (leb 5 (length tree) && eqb (getD tree 4 0) 1)
+    ∷ asked 5 (readsWhole (parsed tree))
+    ∷ asked 6 (notTooDeep (parsed tree))
+    ∷ asked 7 (askBlock 7 false b)
+    ∷ asked 33 (askBlock 33 false b)
+    ∷ asked 8 (askBlock 8 false b)
+    ∷ asked 9 (askBlock 9 false b)
+    ∷ asked 10 (askBlock 10 false b)
+    ∷ asked 11 (askBlock 11 false b)
+    ∷ asked 12 (askBlock 12 false b)
+    ∷ asked 13 (askBlock 13 false b)
+    ∷ asked 14 (slotsFit t)
+    ∷ asked 15 (tablesFit l t)
+    ∷ asked 16 (leb (length (moduleOf tree)) room)
+    ∷ []
 
-unfoldable pub lowerQuestions : List ℕ
-lowerQuestions = 1 ∷ 2 ∷ 3 ∷ 4 ∷ 5 ∷ 6 ∷ 7 ∷ 8 ∷ 9 ∷ 10 ∷ 11 ∷ 12 ∷ 13 ∷ 14 ∷ 15 ∷ 16 ∷ []
+-- the refusal by the first question that is answered no; where none is, the result
+unfoldable pub firstRefusal : {A : Type 0} → List Question → A → Answer A
+firstRefusal [] a = accepted a
+firstRefusal (q ∷ qs) a = elim (q .yes) [ true ↦ firstRefusal qs a | false ↦ refused (q .number) ]
 
 -- the lowering refuses by the first question answered no; where none is, it accepts with the module of the tree
 abbrev pub Refusals : Type 0
 Refusals =
-    (l : Limits) (m n room : ℕ) (tree : List ℕ)
-    → lowerAnswer l m n room tree ≡ refusedBy (firstNo (answeredYes l m n room tree) lowerQuestions) (moduleOf tree)
+    (l : Limits) (m n room : ℕ) (tree : List ℕ) → lowerAnswer l m n room tree ≡ firstRefusal (lowerQuestions l m n room tree) (moduleOf tree)
+
+-- ---- the same of the reader, of the hand-back of code and of the run: proofs/ModuleRefusals
+
+-- what the bytes after a module's head read as
+unfoldable pub recordRead : List ℕ → Parsed Tables
+recordRead m = moduleRecord (drop 5 m)
+
+-- 19: the rest follows the layout, with nothing over
+unfoldable pub laidOut : Parsed Tables → Bool
+laidOut (got t rest) = eqb (length rest) 0
+laidOut (failed q) = false
+
+-- the tables that were read; empty ones where none were
+unfoldable pub tablesRead : Parsed Tables → Tables
+tablesRead (got t rest) = t
+tablesRead (failed q) = noTables
+
+-- the tables of a module, whatever the questions say; the code of a function of tables, none where there is no such function
+unfoldable pub tablesIn : List ℕ → Tables
+tablesIn m = tablesRead (recordRead m)
+
+unfoldable pub codeIn : Tables → ℕ → List Instr
+codeIn t f = elim (getElem? (t .functions) f) [ some g ↦ g .code | none ↦ [] ]
+
+-- the questions of the reader
+unfoldable pub readQuestions : List ℕ → List Question
+readQuestions m =
+    asked 17 (leb (length m) 524288 && headCounts m)
+    ∷ asked 18 (leb 5 (length m) && eqb (getD m 4 0) 1)
+    ∷ asked 19 (laidOut (recordRead m))
+    ∷ asked 20 (numbersExist (tablesIn m))
+    ∷ asked 21 (all codeStands (tablesIn m .functions))
+    ∷ []
+
+-- those of the call that hands back the code of function f
+unfoldable pub codeQuestions : List ℕ → ℕ → List Question
+codeQuestions m f = readQuestions m ++ asked 22 (ltb f (length (tablesIn m .functions))) ∷ []
+
+-- what function f does on answers with a budget
+unfoldable pub runIn : List ℕ → ℕ → List ℕ → ℕ → Ran
+runIn m f answers budget = run budget (codeIn (tablesIn m) f) 0 answers
+
+-- those of the run, by the length of the event buffer
+unfoldable pub runQuestions : List ℕ → ℕ → List ℕ → ℕ → ℕ → List Question
+runQuestions m f answers budget room =
+    codeQuestions m f ++ asked 23 (areAnswers answers) ∷ asked 24 (leb (length (runIn m f answers budget .events)) room) ∷ []
+
+-- the reader refuses by the first question answered no; where none is, it accepts the tables of the module
+abbrev pub ReadRefusals : Type 0
+ReadRefusals = (m : List ℕ) → (readModule m ≡ firstRefusal (readQuestions m) (tablesIn m)) × (readCall m ≡ firstRefusal (readQuestions m) tt)
+
+abbrev pub CodeRefusals : Type 0
+CodeRefusals =
+    (m : List ℕ) (f : ℕ)
+    → codeCall m f ≡ firstRefusal (codeQuestions m f) (record { start = codeStart (tablesIn m) f; size = length (encodes (codeIn (tablesIn m) f)) })
+
+abbrev pub RunRefusals : Type 0
+RunRefusals =
+    (m : List ℕ) (f : ℕ) (answers : List ℕ) (budget room : ℕ)
+    → runAnswer m f answers budget room ≡ firstRefusal (runQuestions m f answers budget room) (runIn m f answers budget)
+
+-- ---- 7 and 33 are asked of the names of a tree, of each and of nothing else: proofs/TreeNames
+
+pub record NamesAsked (b : Block) : Type 0 where
+  pub formed : askBlock 7 false b ≡ all isName (namesBlock b)
+  pub apart : askBlock 33 false b ≡ all (λ x. not (isIterator x)) (namesBlock b)
+
+abbrev pub TreeNames : Type 0
+TreeNames = (b : Block) → NamesAsked b
+
+-- ---- a loop's iterator is the loop's own: proofs/Iterators, proofs/LoopGlobals
+
+-- the lowering's name for an iterator has the form that 33 asks for, and the place in it can be told from it
+pub record IteratorNamed (n : ℕ) : Type 0 where
+  pub form : isIterator (iterName n) ≡ true
+  pub place : (m : ℕ) → iterName m ≡ iterName n → m ≡ n
+
+abbrev pub Iterators : Type 0
+Iterators = (n : ℕ) → IteratorNamed n
+
+-- In an accepted tree no name is an iterator's. And an iterator's global is stored at the place that its name tells and nowhere else: by the code of the
+-- loop that begins there, and by no other instruction of the function
+pub record LoopsApart (b : Block) (t : Tables) : Type 0 where
+  pub names : (n : ℕ) → member (iterName n) (namesBlock b) ≡ false
+  pub stores :
+      (k : ℕ) (f : Function) → getElem? (t .functions) k ≡ some f
+      → (p a n : ℕ) → getElem? (f .code) p ≡ some (StoreGlobal a) → getElem? (t .symbols) a ≡ some (iterName n) → p ≡ n
+
+abbrev pub LoopGlobals : Type 0
+LoopGlobals = (b : Block) (t : Tables) → lowerBlock office b ≡ accepted t → LoopsApart b t
+
+-- ---- the test of strings is the grammar of RFC 3629: proofs/Utf8Grammar
+
+-- as many bytes as ranges, each in its own
+pub data Matches : List Range → List ℕ → Type 0 where
+  noByte : Matches [] []
+  byte : {r : Range} {rs : List Range} {b : ℕ} {bs : List ℕ} → inRange r b ≡ true → Matches rs bs → Matches (r ∷ rs) (b ∷ bs)
+
+-- UTF8-octets: characters one after the other, each by a line of UTF8-char
+pub data Utf8Octets : List ℕ → Type 0 where
+  noChar : Utf8Octets []
+  char : {c : Octets} {bs rest : List ℕ} (line : ℕ) → getElem? utf8Char line ≡ some c → Matches (c .first ∷ c .others) bs → Utf8Octets rest → Utf8Octets (bs ++ rest)
+
+abbrev pub Utf8Grammar : Type 0
+Utf8Grammar = (s : List ℕ) → (isUtf8 s ≡ true → Utf8Octets s) × (Utf8Octets s → isUtf8 s ≡ true)
+
+-- ---- and what passes it are the encodings of the scalar values, one after the other: proofs/Utf8Scalars
+
+pub record Utf8Scalars : Type 0 where
+  pub decodes : (s : List ℕ) → isUtf8 s ≡ true → (cs : List ℕ) × (all isScalar cs ≡ true) × (s ≡ concat encodeChar cs)
+  pub encodes : (cs : List ℕ) → all isScalar cs ≡ true → isUtf8 (concat encodeChar cs) ≡ true
+
+-- ---- which names have a slot in a def or method: proofs/Named
+
+-- the variables that a target assigns, as they stand: the target itself, or a tuple's elements from left to right, nested tuples too
+unfoldable mutual
+  pub assigned : Expr → List Name
+  assigned (lit l) = []
+  assigned (var x) = x ∷ []
+  assigned (unary op e) = []
+  assigned (binary op l r) = []
+  assigned (logical op l r) = []
+  assigned (call f es) = []
+  assigned (attr o x) = []
+  assigned (display k es) = elim (isTuple k) [ true ↦ assignedAll es | false ↦ [] ]
+  assigned (index o i) = []
+  assigned (lambda ps b) = []
+
+  pub assignedAll : Exprs → List Name
+  assignedAll []ᵉ = []
+  assignedAll (e ∷ᵉ es) = assigned e ++ assignedAll es
+
+-- the names that a part binds, as they stand: variables assigned, loop variables, names of defs and classes; nothing inside a nested def or class
+unfoldable mutual
+  pub boundStmt : Stmt → List Name
+  boundStmt break = []
+  boundStmt continue = []
+  boundStmt pass = []
+  boundStmt (expr e) = []
+  boundStmt (return e) = []
+  boundStmt (assign t v) = assigned t
+  boundStmt (if bs) = boundBranches bs
+  boundStmt (while c b) = boundBlock b
+  boundStmt (for x e b) = x ∷ boundBlock b
+  boundStmt (def x ps b) = x ∷ []
+  boundStmt (class x ms vs) = x ∷ []
+
+  pub boundBlock : Block → List Name
+  boundBlock []ᵇ = []
+  boundBlock (s ∷ᵇ b) = boundStmt s ++ boundBlock b
+
+  pub boundBranches : Branches → List Name
+  boundBranches done = []
+  boundBranches (else b) = boundBlock b
+  boundBranches (when c b r) = boundBlock b ++ boundBranches r
+
+-- names one after the other, each unless it is there
+unfoldable pub addAll : List Name → List Name → List Name
+addAll [] xs = xs
+addAll (y ∷ ys) xs = addAll ys (add y xs)
+
+-- the slots are the parameters, then the names bound in the body, by first appearance
+abbrev pub FirstAppearance : Type 0
+FirstAppearance = (ps : List Name) (b : Block) → localsBlock b ps ≡ addAll (boundBlock b) ps
+
+-- so just these names have a slot, each one where the parameters are distinct
+abbrev pub Named : Type 0
+Named = (ps : List Name) (b : Block) (x : Name) → member x (localsBlock b ps) ≡ (member x ps || member x (boundBlock b))
+
+abbrev pub NamedOnce : Type 0
+NamedOnce = (ps : List Name) (b : Block) → distinct ps ≡ true → distinct (localsBlock b ps) ≡ true
+
+-- ---- what a def or method stores in globals: proofs/GlobalStores
+
+-- a statement is one of a part's own: in its loops and branches too, not in a nested def or class
+mutual
+  pub data OwnStmt (c : Stmt) : Stmt → Type 0 where
+    itself : OwnStmt c c
+    ofIf : {r : Branches} → OwnBranches c r → OwnStmt c (if r)
+    ofWhile : {e : Expr} {b : Block} → OwnBlock c b → OwnStmt c (while e b)
+    ofFor : {x : Name} {e : Expr} {b : Block} → OwnBlock c b → OwnStmt c (for x e b)
+
+  pub data OwnBlock (c : Stmt) : Block → Type 0 where
+    atFirst : {s : Stmt} {b : Block} → OwnStmt c s → OwnBlock c (s ∷ᵇ b)
+    atLater : {s : Stmt} {b : Block} → OwnBlock c b → OwnBlock c (s ∷ᵇ b)
+
+  pub data OwnBranches (c : Stmt) : Branches → Type 0 where
+    ofElse : {b : Block} → OwnBlock c b → OwnBranches c (else b)
+    ofThen : {e : Expr} {b : Block} {r : Branches} → OwnBlock c b → OwnBranches c (when e b r)
+    ofRest : {e : Expr} {b : Block} {r : Branches} → OwnBranches c r → OwnBranches c (when e b r)
+
+-- the name of one of its own classes, or of a loop's iterator
+pub data Global (b : Block) (x : Name) : Type 0 where
+  ofClass : {ms : Methods} {vs : List Attribute} → OwnBlock (class x ms vs) b → Global b x
+  ofLoop : (n : ℕ) → x ≡ iterName n → Global b x
+
+-- In the code of a def or method StoreGlobal stores no other name. So no name of a target is stored by it, in tuples or not, but where a class of the
+-- function has that name; question 33 keeps scripts from the iterators' names
+abbrev pub GlobalStores : Type 0
+GlobalStores =
+    (b : Block) (t : Tables) → lowerBlock office b ≡ accepted t
+    → (k : ℕ) (f : Function) → getElem? (t .functions) (suc k) ≡ some f
+    → (d : Block) (end : List Instr) → getElem? (bodies b) (suc k) ≡ some (blockBody d end)
+    → (i j : ℕ) → getElem? (f .code) i ≡ some (StoreGlobal j)
+    → (x : Name) → getElem? (t .symbols) j ≡ some x → Global d x
+
+-- ---- what a lambda captures: proofs/Captured
+
+-- one of several expressions
+pub data Among (e : Expr) : Exprs → Type 0 where
+  first : {es : Exprs} → Among e (e ∷ᵉ es)
+  later : {d : Expr} {es : Exprs} → Among e es → Among e (d ∷ᵉ es)
+
+-- a part of an expression that is no lambda
+pub data PartOf (e : Expr) : Expr → Type 0 where
+  operand : {op : UnaryOp} → PartOf e (unary op e)
+  leftOf : {op : BinaryOp} {r : Expr} → PartOf e (binary op e r)
+  rightOf : {op : BinaryOp} {l : Expr} → PartOf e (binary op l e)
+  leftLogical : {op : LogicalOp} {r : Expr} → PartOf e (logical op e r)
+  rightLogical : {op : LogicalOp} {l : Expr} → PartOf e (logical op l e)
+  callee : {es : Exprs} → PartOf e (call e es)
+  argument : {f : Expr} {es : Exprs} → Among e es → PartOf e (call f es)
+  objectOf : {y : Name} → PartOf e (attr e y)
+  element : {k : Display} {es : Exprs} → Among e es → PartOf e (display k es)
+  indexed : {i : Expr} → PartOf e (index e i)
+  indexOf : {o : Expr} → PartOf e (index o e)
+
+-- an occurrence of the variable x; around are the parameters of each lambda that it stands under, the outermost first
+pub data Occurs (x : Name) : List (List Name) → Expr → Type 0 where
+  here : Occurs x [] (var x)
+  inPart : {around : List (List Name)} {e d : Expr} → PartOf e d → Occurs x around e → Occurs x around d
+  inLambda : {around : List (List Name)} {ps : List Name} {b : Expr} → Occurs x around b → Occurs x (ps ∷ around) (lambda ps b)
+
+-- x occurs in the body b where no lambda inside b binds it, is none of the lambda's own parameters, and has a slot in the parent
+pub record Captures (slots ps : List Name) (b : Expr) (x : Name) : Type 0 where
+  pub around : List (List Name)
+  pub occurs : Occurs x around b
+  pub unbound : all (λ (qs : List Name). not (member x qs)) around ≡ true
+  pub foreign : member x ps ≡ false
+  pub slotted : member x slots ≡ true
+
+-- a lambda captures exactly these names
+abbrev pub Captured : Type 0
+Captured =
+    (slots ps : List Name) (b : Expr) (x : Name)
+    → (member x (captures slots ps b) ≡ true → Captures slots ps b x) × (Captures slots ps b x → member x (captures slots ps b) ≡ true)
 
 -- ---- every lowered module is one that the reader takes: proofs/Lowered
 
@@ -102,7 +395,14 @@ pub record ReadsBack (tree m : List ℕ) : Type 0 where
 abbrev pub LoweredReads : Type 0
 LoweredReads = (tree m : List ℕ) → areBytes tree ≡ true → lowerBytes office tree ≡ accepted m → ReadsBack tree m
 
--- ---- the k-th source of a tree is that of function k: proofs/Demand3
+-- ---- the k-th source of a tree is that of function k, and its body is the tree's: proofs/SourceBodies, proofs/Demand3
+
+unfoldable pub bodyOf : Source → Body
+bodyOf s = s .body
+
+-- the bodies that the lowering lowered are those of the tree, in their order
+abbrev pub SourceBodies : Type 0
+SourceBodies = (b : Block) → askBlock 10 false b ≡ true → map bodyOf (compile b .sources) ≡ bodies b
 
 -- a function's slots and code are those of its source
 pub record ComesFrom (f : Function) (s : Source) : Type 0 where
@@ -113,7 +413,7 @@ abbrev pub Sources : Type 0
 Sources =
     (b : Block) (t : Tables) → lowerBlock office b ≡ accepted t
     → (k : ℕ) (f : Function) → getElem? (t .functions) k ≡ some f
-    → (s : Source) × (getElem? (compile b .sources) k ≡ some s) × ComesFrom f s
+    → (s : Source) × (getElem? (compile b .sources) k ≡ some s) × (getElem? (bodies b) k ≡ some (s .body)) × ComesFrom f s
 
 -- ---- demand 3: proofs/Demand3, proofs/Demand3Bytes
 

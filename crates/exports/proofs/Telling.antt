@@ -16,15 +16,15 @@ use Rattle.definitions.specs.Calls.{Part, Counts, Running, fitsRoom, areasFit, 
 use Rattle.tree.specs.Settled.{said, settled}
 use Rattle.tree.specs.declared.Checked.{Checked}
 use Rattle.tree.specs.declared.Checked.the-variants.{Accepted, Refused}
-use Rattle.lowering.specs.Lowered.{told as lowered, Lowers as Lowered′}
+use Rattle.lowering.specs.Lowered.{said as lowered, Lowers as Lowered′}
 use Rattle.lowering.specs.declared.Lowered.{Lowered}
 use Rattle.lowering.specs.declared.Lowered.the-variants.{Wrote, Refused as NotLowered}
-use Rattle.reader.specs.View.{verdict, functionIn, CodeAt, Known, Locates}
+use Rattle.reader.specs.View.{said as readSaid, saidPart, CodeAt, Known, Locates}
 use Rattle.reader.specs.declared.Verdict.{Verdict}
 use Rattle.reader.specs.declared.Verdict.the-variants.{Accepted as Taken, Refused as NotTaken}
 use Rattle.reader.specs.declared.Located.{Located}
 use Rattle.reader.specs.declared.Located.the-variants.{Code, NoCode}
-use Rattle.run.specs.Pass.{outcome, Called}
+use Rattle.run.specs.Pass.{said as ranSaid, Called}
 use Rattle.run.proofs.Calling.{module-short}
 use Rattle.run.specs.declared.Outcome.{Outcome}
 use Rattle.run.specs.declared.Outcome.the-variants.{Finished, Refused as NotRun}
@@ -73,15 +73,13 @@ module _ (r : Lowered) (tree area₁ area₂ out area₁′ area₂′ out′ : 
 
 -- ---- a module
 
-pub read-yes : {A : Type 0} (r : Verdict) (a : Answer A) → r ≡ verdict a → r ≡ Taken → 0 ≡ told a
-unfolding told verdict
-read-yes r (accepted x) e f = refl
-read-yes r (refused q) e f = let z : _≡_ {A = ℕ} 0 1 = cc in absurd (omega arith)
+pub read-yes : (r : Verdict) (a : Answer (Unit {0})) → readSaid r ≡ a → r ≡ Taken → 0 ≡ told a
+unfolding told readSaid
+read-yes r a e f = ap told (sym (ap readSaid f) ∙ e)
 
-pub read-no : {A : Type 0} (r : Verdict) (a : Answer A) (q : ℕ) → r ≡ verdict a → r ≡ NotTaken q → q ≡ told a
-unfolding told verdict
-read-no r (accepted x) q e f = let z : _≡_ {A = ℕ} 0 1 = cc in absurd (omega arith)
-read-no r (refused p) q e f = cc
+pub read-no : (r : Verdict) (a : Answer (Unit {0})) (q : ℕ) → readSaid r ≡ a → r ≡ NotTaken q → q ≡ told a
+unfolding told readSaid
+read-no r a q e f = ap told (sym (ap readSaid f) ∙ e)
 
 -- ---- a function's code
 
@@ -93,24 +91,13 @@ code-known r t f p s n L e = rw e at (L .known)
 pub code-short : (t : List ℕ) (f p s n : ℕ) → CodeAt t f p s n → p + s ≤ 524288
 code-short t f p s n C = omega (arith, C .read .to, module-short t (C .tables) (C .module-is))
 
-pub code-yes : (t : List ℕ) (f p s n : ℕ) → CodeAt t f p s n → p * 4294967296 + s ≡ toldPart (codeCall t f)
-unfolding toldPart codeCall codePart whenAccepted
-code-yes t f p s n C = rw (C .module-is, codeCall) (rw (C .function-is, codePart) (rw (C .start, C .size)))
-
-code-in : (t : List ℕ) (f q : ℕ) (a : Answer Tables) → whenAccepted a (λ x. functionOf x f) ≡ refused q → whenAccepted a (λ x. codePart x f) ≡ refused q
-unfolding whenAccepted codePart
-code-in t f q (refused p) e = cc
-code-in t f q (accepted x) e = go (functionOf x f) e
-  where
-    go : (a : Answer Function) → a ≡ refused q → whenAccepted {B = Part} a (λ (g : Function). accepted (record { start = codeStart x f; size = length (encodes (g .code)) })) ≡ refused q
-    go (refused p) h = cc
-    go (accepted g) h = let z : _≡_ {A = ℕ} 0 1 = cc in absurd (omega arith)
+pub code-yes : (r : Located) (t : List ℕ) (f p s n : ℕ) → Locates r t f → r ≡ Code p s n → p * 4294967296 + s ≡ toldPart (codeCall t f)
+unfolding toldPart saidPart
+code-yes r t f p s n L e = ap toldPart (sym (ap saidPart e) ∙ L .is)
 
 pub code-no : (r : Located) (t : List ℕ) (f q : ℕ) → Locates r t f → r ≡ NoCode q → q ≡ toldPart (codeCall t f)
-unfolding Known functionIn toldPart codeCall
-code-no r t f q L e =
-    let h : functionIn t f ≡ refused q = rw e at (L .known) in
-    sym (ap toldPart (code-in t f q (readModule t) h))
+unfolding toldPart saidPart
+code-no r t f q L e = ap toldPart (sym (ap saidPart e) ∙ L .is)
 
 -- ---- a run
 
@@ -123,22 +110,13 @@ unfolding fourIn
 four-all a b c d xs h = rw (le-leb 4 (length xs) h, fourIn)
 
 pub runs-yes : (r : Outcome) (want : Running) (left numbers numbers′ : List ℕ) (e s u b : ℕ) → Called r want left → r ≡ Finished e s u b → numbers′ ≡ fourIn e s u b numbers → Runs 0 want left numbers numbers′
-unfolding outcome told countsIn
-runs-yes r want left numbers numbers′ e s u b C f n = go (want .answer) (sym (C .says) ∙ f)
-  where
-    go : (a : Answer Counts) → outcome a ≡ Finished e s u b → Runs 0 (record { answer = a; events = want .events }) left numbers numbers′
-    go (accepted k) h =
-        let x : k .ending ≡ e = cc in
-        let y : k .steps ≡ s = cc in
-        let z : k .used ≡ u = cc in
-        let w : k .bytes ≡ b = cc in
-        record { answer = refl; buffer = C .leaves; counts = n ∙ (λ i. fourIn (sym x i) (sym y i) (sym z i) (sym w i) numbers) }
-    go (refused q) h = let z : _≡_ {A = ℕ} 0 1 = cc in absurd (omega arith)
+unfolding ranSaid told countsIn
+runs-yes r want left numbers numbers′ e s u b C f n =
+    let k : accepted (record { ending = e; steps = s; used = u; bytes = b }) ≡ want .answer = sym (ap ranSaid f) ∙ C .says in
+    record { answer = ap told k; buffer = C .leaves; counts = n ∙ ap (λ (a : Answer Counts). countsIn a numbers) k }
 
 pub runs-no : (r : Outcome) (want : Running) (left numbers numbers′ : List ℕ) (q : ℕ) → Called r want left → r ≡ NotRun q → numbers′ ≡ fourIn 0 0 0 0 numbers → Runs q want left numbers numbers′
-unfolding outcome told countsIn
-runs-no r want left numbers numbers′ q C f n = go (want .answer) (sym (C .says) ∙ f)
-  where
-    go : (a : Answer Counts) → outcome a ≡ NotRun q → Runs q (record { answer = a; events = want .events }) left numbers numbers′
-    go (accepted k) h = let z : _≡_ {A = ℕ} 0 1 = cc in absurd (omega arith)
-    go (refused p) h = record { answer = cc; buffer = C .leaves; counts = n }
+unfolding ranSaid told countsIn
+runs-no r want left numbers numbers′ q C f n =
+    let k : refused q ≡ want .answer = sym (ap ranSaid f) ∙ C .says in
+    record { answer = ap told k; buffer = C .leaves; counts = n ∙ ap (λ (a : Answer Counts). countsIn a numbers) k }

@@ -16,7 +16,7 @@ use Rattle.parts.specs.Places.{Node, nodeOf, nodeAt, isGot, countAt, Counted, e
 use Rattle.parts.proofs.Laws.{at-byte, kind-of}
 use Rattle.parts.proofs.Nodes.{Seen, got-node}
 use Rattle.exprs.specs.ExprAt.{exprAt, ExprReads, intAt, floatAt, stringAt}
-use Rattle.exprs.specs.Literals.{literalOf, Plain, LiteralAt, Stands}
+use Rattle.exprs.specs.Literals.{literalOf, Plain, TextPlace, LiteralAt, Stands}
 use Rattle.exprs.specs.declared.literals.Literal.{Literal}
 use Rattle.exprs.specs.declared.literals.Literal.the-variants.{None, Bool as Truth, Int, Float, Nan, Text}
 use Rattle.exprs.proofs.ExprLaws.{deep-E}
@@ -71,25 +71,43 @@ module _ (t : List ℕ) (p : ℕ) (h : LiteralAt t p) where
   pub eight-of-float : getD t p 0 ≡ 4 → p + 1 + 8 ≤ length t
   eight-of-float e = view-float 1 t p (h .reads) e .parts
 
-  pub is-none : getD t p 0 ≡ 0 → (lit (literalOf t None) ≡ exprAt 1 t p .value) × Plain None
-  unfolding literalOf Plain
-  is-none e = (sym (ap (λ (x : Node Expr). x .value) (view-none 1 t p (h .reads) e)), tt)
+  no-text-int : (l : Literal) (n : ℕ) → literalOf t l ≡ intL n → TextPlace t p l
+  unfolding literalOf TextPlace
+  no-text-int None n e = tt
+  no-text-int (Truth b) n e = tt
+  no-text-int (Int z) n e = tt
+  no-text-int (Float x) n e = tt
+  no-text-int (Nan bits) n e = tt
+  no-text-int (Text start len) n e = let z : _≡_ {A = ℕ} 0 1 = cc in absurd (omega arith)
 
-  pub is-false : getD t p 0 ≡ 1 → (lit (literalOf t (Truth false)) ≡ exprAt 1 t p .value) × Plain (Truth false)
-  unfolding literalOf Plain
-  is-false e = (sym (ap (λ (x : Node Expr). x .value) (view-false 1 t p (h .reads) e)), tt)
+  no-text-float : (l : Literal) (n : ℕ) → literalOf t l ≡ floatL n → TextPlace t p l
+  unfolding literalOf TextPlace
+  no-text-float None n e = tt
+  no-text-float (Truth b) n e = tt
+  no-text-float (Int z) n e = tt
+  no-text-float (Float x) n e = tt
+  no-text-float (Nan bits) n e = tt
+  no-text-float (Text start len) n e = let z : _≡_ {A = ℕ} 0 1 = cc in absurd (omega arith)
 
-  pub is-true : getD t p 0 ≡ 2 → (lit (literalOf t (Truth true)) ≡ exprAt 1 t p .value) × Plain (Truth true)
-  unfolding literalOf Plain
-  is-true e = (sym (ap (λ (x : Node Expr). x .value) (view-true 1 t p (h .reads) e)), tt)
+  pub is-none : getD t p 0 ≡ 0 → (lit (literalOf t None) ≡ exprAt 1 t p .value) × Plain None × TextPlace t p None
+  unfolding literalOf Plain TextPlace
+  is-none e = (sym (ap (λ (x : Node Expr). x .value) (view-none 1 t p (h .reads) e)), tt, tt)
 
-  pub is-int : (l : Literal) (n : ℕ) → getD t p 0 ≡ 3 → n ≡ eightAt t (p + 1) → ((t : List ℕ) → Stands t l (intL n)) → (lit (literalOf t l) ≡ exprAt 1 t p .value) × Plain l
+  pub is-false : getD t p 0 ≡ 1 → (lit (literalOf t (Truth false)) ≡ exprAt 1 t p .value) × Plain (Truth false) × TextPlace t p (Truth false)
+  unfolding literalOf Plain TextPlace
+  is-false e = (sym (ap (λ (x : Node Expr). x .value) (view-false 1 t p (h .reads) e)), tt, tt)
+
+  pub is-true : getD t p 0 ≡ 2 → (lit (literalOf t (Truth true)) ≡ exprAt 1 t p .value) × Plain (Truth true) × TextPlace t p (Truth true)
+  unfolding literalOf Plain TextPlace
+  is-true e = (sym (ap (λ (x : Node Expr). x .value) (view-true 1 t p (h .reads) e)), tt, tt)
+
+  pub is-int : (l : Literal) (n : ℕ) → getD t p 0 ≡ 3 → n ≡ eightAt t (p + 1) → ((t : List ℕ) → Stands t l (intL n)) → (lit (literalOf t l) ≡ exprAt 1 t p .value) × Plain l × TextPlace t p l
   unfolding intAt
-  is-int l n e f s = (ap lit (s t .is ∙ ap intL f) ∙ sym (ap (λ (x : Node Expr). x .value) (view-int 1 t p (h .reads) e .is)), s t .plain)
+  is-int l n e f s = (ap lit (s t .is ∙ ap intL f) ∙ sym (ap (λ (x : Node Expr). x .value) (view-int 1 t p (h .reads) e .is)), s t .plain, no-text-int l n (s t .is))
 
-  pub is-float : (l : Literal) (n : ℕ) → getD t p 0 ≡ 4 → n ≡ eightAt t (p + 1) → ((t : List ℕ) → Stands t l (floatL n)) → (lit (literalOf t l) ≡ exprAt 1 t p .value) × Plain l
+  pub is-float : (l : Literal) (n : ℕ) → getD t p 0 ≡ 4 → n ≡ eightAt t (p + 1) → ((t : List ℕ) → Stands t l (floatL n)) → (lit (literalOf t l) ≡ exprAt 1 t p .value) × Plain l × TextPlace t p l
   unfolding floatAt
-  is-float l n e f s = (ap lit (s t .is ∙ ap floatL f) ∙ sym (ap (λ (x : Node Expr). x .value) (view-float 1 t p (h .reads) e .is)), s t .plain)
+  is-float l n e f s = (ap lit (s t .is ∙ ap floatL f) ∙ sym (ap (λ (x : Node Expr). x .value) (view-float 1 t p (h .reads) e .is)), s t .plain, no-text-float l n (s t .is))
 
   module _ (a : getD t p 0 ≡ 0 → ⊥) (b : getD t p 0 ≡ 1 → ⊥) (c : getD t p 0 ≡ 2 → ⊥) (d : getD t p 0 ≡ 3 → ⊥) (e : getD t p 0 ≡ 4 → ⊥) where
     text-kind : getD t p 0 ≡ 5
@@ -98,13 +116,14 @@ module _ (t : List ℕ) (p : ℕ) (h : LiteralAt t p) where
     pub text-counted : Counted t (p + 1)
     text-counted = view-string 1 t p (h .reads) text-kind .parts .count
 
-    pub is-text : (n : ℕ) → n ≡ countAt t (p + 1) → (lit (literalOf t (Text (p + 3) n)) ≡ exprAt 1 t p .value) × Plain (Text (p + 3) n)
-    unfolding literalOf Plain stringAt textAt
+    pub is-text : (n : ℕ) → n ≡ countAt t (p + 1) → (lit (literalOf t (Text (p + 3) n)) ≡ exprAt 1 t p .value) × Plain (Text (p + 3) n) × TextPlace t p (Text (p + 3) n)
+    unfolding literalOf Plain TextPlace stringAt textAt
     is-text n f = (
       ap (λ (k : ℕ). lit (stringL (take k (drop (p + 3) t)))) f
           ∙ ap (λ (k : ℕ). lit (stringL (take (countAt t (p + 1)) (drop k t)))) (let z : p + 3 ≡ p + 1 + 2 = omega arith in z)
           ∙ sym (ap (λ (x : Node Expr). x .value) (view-string 1 t p (h .reads) text-kind .is)),
       tt,
+      (refl, f),
     )
 
 -- ---- an expression whose kind is a literal's, with any number of levels left

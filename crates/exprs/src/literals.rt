@@ -7,7 +7,7 @@ ghost use lib.ListN.{length};
 ghost use Rattle.definitions.specs.Tree.{intL, floatL, lit};
 ghost use Rattle.parts.specs.Places.{eightAt};
 ghost use Rattle.exprs.specs.ExprAt.{exprAt};
-ghost use Rattle.exprs.specs.Literals.{literalOf, Plain, bitsOf, LiteralAt, Stands};
+ghost use Rattle.exprs.specs.Literals.{literalOf, Plain, TextPlace, bitsOf, LiteralAt, Stands};
 
 // A literal of the tree. The string is its place in the tree's bytes; a NaN is its bits, for no f64 keeps them all.
 pub enum Literal {
@@ -56,7 +56,7 @@ fn float_literal(bits: u64) -> Literal
 // The literal whose kind byte is at `at`.
 pub fn literal_at(tree: &[u8], at: usize) -> Literal
     requires { ⌜ LiteralAt (now tree) at ⌝ }
-    ensures { λ r. ⌜ (lit (literalOf (now (tree .entry)) r) ≡ exprAt 1 (now (tree .entry)) at .value) × Plain r ⌝ }
+    ensures { λ r. ⌜ (lit (literalOf (now (tree .entry)) r) ≡ exprAt 1 (now (tree .entry)) at .value) × Plain r × TextPlace (now (tree .entry)) at r ⌝ }
 {
     match tree[at] {
         0 => Literal::None,

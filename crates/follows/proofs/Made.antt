@@ -13,7 +13,7 @@ use Rattle.definitions.specs.Bytes.{Answer, refused, accepted, whenAccepted}
 use Rattle.definitions.specs.Module.{office, lowerBytes}
 use Rattle.definitions.specs.Calls.{written, outputAfter, countAnswer, areasFit, fitsRoom, lowerAnswer, Lowering, lowerCall}
 use Rattle.definitions.proofs.Lowered.{when-accepted}
-use Rattle.lowering.specs.Lowered.{told, Lowers}
+use Rattle.lowering.specs.Lowered.{said, Lowers}
 use Rattle.lowering.specs.declared.Lowered.{Lowered}
 use Rattle.lowering.specs.declared.Lowered.the-variants.{Wrote, Refused}
 use Rattle.follows.specs.Thereafter.{Thereafter, thereafter, leftAfter}
@@ -52,11 +52,11 @@ answer-gives a b room tree m = go (areasFit a b)
         (W .1 ∙ ap accepted (F .0), subst (λ (x : List ℕ). length x ≤ room) (F .0) (F .1))
 
 -- an answer that is a count
-counted : (r : Lowered) (n : ℕ) (a : Answer (List ℕ)) (output output′ : List ℕ) → told r ≡ countAnswer a → output′ ≡ outputAfter a output → r ≡ Wrote n →
+counted : (r : Lowered) (n : ℕ) (a : Answer (List ℕ)) (output output′ : List ℕ) → said r ≡ countAnswer a → output′ ≡ outputAfter a output → r ≡ Wrote n →
     (m : List ℕ) × (a ≡ accepted m) × (n ≡ length m) × (output′ ≡ written m output)
-unfolding told countAnswer outputAfter whenAccepted
-counted r n (refused q) output output′ t o e = let x : accepted n ≡ refused q = sym (ap told e) ∙ t in let z : _≡_ {A = ℕ} 0 1 = cc in absurd (omega arith)
-counted r n (accepted m) output output′ t o e = let x : accepted n ≡ accepted (length m) = sym (ap told e) ∙ t in (m, refl, cc, o)
+unfolding said countAnswer outputAfter whenAccepted
+counted r n (refused q) output output′ t o e = let x : accepted n ≡ refused q = sym (ap said e) ∙ t in let z : _≡_ {A = ℕ} 0 1 = cc in absurd (omega arith)
+counted r n (accepted m) output output′ t o e = let x : accepted n ≡ accepted (length m) = sym (ap said e) ∙ t in (m, refl, cc, o)
 
 front-is : (n : ℕ) (m output output′ : List ℕ) → n ≡ length m → output′ ≡ written m output → take n output′ ≡ m
 unfolding written
@@ -83,14 +83,14 @@ part-is n xs = let e : n - 0 ≡ n = omega arith in ap (λ (k : ℕ). take k xs)
 abbrev both : {A : Type 0} → ℕ → Answer A → Answer (Thereafter A)
 both n x = accepted (record { count = n; next = x })
 
-module _ (w : Lowering) (r : Lowered) (output′ : List ℕ) (answer : told r ≡ w .answer) (output : output′ ≡ w .output) where
+module _ (w : Lowering) (r : Lowered) (output′ : List ℕ) (answer : said r ≡ w .answer) (output : output′ ≡ w .output) where
   answer-wrote : (n : ℕ) → r ≡ Wrote n → w .answer ≡ accepted n
-  unfolding told
-  answer-wrote n e = sym answer ∙ ap told e
+  unfolding said
+  answer-wrote n e = sym answer ∙ ap said e
 
   answer-refused : (q : ℕ) → r ≡ Refused q → w .answer ≡ refused q
-  unfolding told
-  answer-refused q e = sym answer ∙ ap told e
+  unfolding said
+  answer-refused q e = sym answer ∙ ap said e
 
   pub then-accepted : {A : Type 0} (call : List ℕ → Answer A) (n : ℕ) → r ≡ Wrote n → (next : Answer A) → next ≡ call (take n output′) →
       both n next ≡ thereafter (w .answer) (w .output) call

@@ -12,49 +12,44 @@ use Rattle.definitions.specs.Module.{office}
 use Rattle.definitions.specs.Reader.{readModule}
 use Rattle.definitions.specs.Calls.{lowerCall, readCall}
 use Rattle.definitions.proofs.Lowered.{loweredReads}
-use Rattle.reader.specs.View.{verdict}
+use Rattle.reader.specs.View.{said as readSaid}
+use Rattle.reader.proofs.Deciding.{says-accepted}
 use Rattle.reader.specs.declared.Verdict.{Verdict}
-use Rattle.reader.specs.declared.Verdict.the-variants.{Accepted, Refused as NotRead}
+use Rattle.reader.specs.declared.Verdict.the-variants.{Accepted}
 use Rattle.lowering.specs.Lowered.{Lowers}
 use Rattle.lowering.specs.declared.Lowered.{Lowered}
 use Rattle.lowering.specs.declared.Lowered.the-variants.{Wrote as Written, Refused as NotLowered}
-use Rattle.follows.specs.Rereading.{saidRead, toldRead, rereadCall, RereadsAs, Rereads}
+use Rattle.follows.specs.Rereading.{said, rereadCall, RereadsAs, Rereads}
 use Rattle.follows.specs.declared.Reread.{Reread}
 use Rattle.follows.specs.declared.Reread.the-variants.{Wrote, Refused}
 use Rattle.follows.proofs.Made.{Made, made, part-is, then-accepted, then-refused}
 
--- the reader's verdict says its answer
-said-verdict : (a : Answer (Unit {0})) → saidRead (verdict a) ≡ a
-unfolding saidRead verdict
-said-verdict (accepted u) = refl
-said-verdict (refused q) = refl
-
 -- a module that is read is accepted
-read-accepted : (m : List ℕ) (t : Tables) → readModule m ≡ accepted t → verdict (readCall m) ≡ Accepted
-unfolding readCall whenAccepted verdict
-read-accepted m t e = let yes-of : Tables → Answer (Unit {0}) = λ t. accepted tt in ap (λ (a : Answer Tables). verdict (whenAccepted a yes-of)) e
+read-accepted : (m : List ℕ) (t : Tables) → readModule m ≡ accepted t → readCall m ≡ accepted tt
+unfolding readCall whenAccepted
+read-accepted m t e = let yes-of : Tables → Answer (Unit {0}) = λ t. accepted tt in ap (λ (a : Answer Tables). whenAccepted a yes-of) e
 
-made-reads : (tree output output′ : List ℕ) (n : ℕ) → areBytes tree ≡ true → Made tree output output′ n → verdict (readCall (take n output′)) ≡ Accepted
+made-reads : (tree output output′ : List ℕ) (n : ℕ) → areBytes tree ≡ true → Made tree output output′ n → readCall (take n output′) ≡ accepted tt
 made-reads tree output output′ n o M =
     let R = loweredReads tree (M .bytes) o (M .lowers) in
-    ap (λ (m : List ℕ). verdict (readCall m)) (M .front) ∙ read-accepted (M .bytes) (R .tables) (R .reads)
+    ap readCall (M .front) ∙ read-accepted (M .bytes) (R .tables) (R .reads)
 
 module _ (r : Lowered) (tree area₁ area₂ output area₁′ area₂′ output′ : List ℕ) (L : Lowers r area₁′ area₂′ output′ (lowerCall office tree area₁ area₂ output)) where
-  pub reread-wrote : areBytes tree ≡ true → (n : ℕ) → r ≡ Written n → (v : Verdict) → v ≡ verdict (readCall (take (n - 0) output′)) →
+  pub reread-wrote : areBytes tree ≡ true → (n : ℕ) → r ≡ Written n → (v : Verdict) → readSaid v ≡ readCall (take (n - 0) output′) →
       Rereads (Wrote n v) area₁′ area₂′ output′ tree area₁ area₂ output
-  unfolding rereadCall toldRead
-  reread-wrote o n e v g = let h : v ≡ verdict (readCall (take n output′)) = g ∙ ap (λ (m : List ℕ). verdict (readCall m)) (part-is n output′) in record {
+  unfolding rereadCall said
+  reread-wrote o n e v g = let h : readSaid v ≡ readCall (take n output′) = g ∙ ap readCall (part-is n output′) in record {
     equation = record {
-      answer = then-accepted (lowerCall office tree area₁ area₂ output) r output′ (L .answer) (L .output) readCall n e (saidRead v) (ap saidRead h ∙ said-verdict (readCall (take n output′)));
+      answer = then-accepted (lowerCall office tree area₁ area₂ output) r output′ (L .answer) (L .output) readCall n e (readSaid v) h;
       first = L .first;
       second = L .second;
       output = L .output;
     };
-    reads = λ k u x. let same : u ≡ v = cc x in same ∙ h ∙ made-reads tree output output′ n o (made r tree area₁ area₂ output area₁′ area₂′ output′ L n e);
+    reads = λ k u x. let same : u ≡ v = cc x in same ∙ says-accepted v (h ∙ made-reads tree output output′ n o (made r tree area₁ area₂ output area₁′ area₂′ output′ L n e));
   }
 
   pub reread-refused : (q : ℕ) → r ≡ NotLowered q → Rereads (Refused q) area₁′ area₂′ output′ tree area₁ area₂ output
-  unfolding rereadCall toldRead
+  unfolding rereadCall said
   reread-refused q e = record {
     equation = record {
       answer = then-refused (lowerCall office tree area₁ area₂ output) r output′ (L .answer) (L .output) readCall q e;

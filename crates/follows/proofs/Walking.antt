@@ -11,38 +11,35 @@ use Rattle.definitions.specs.Bytes.{Answer, refused, accepted, whenAccepted}
 use Rattle.definitions.specs.Module.{office}
 use Rattle.definitions.specs.Run.{Ran as RunAnswer}
 use Rattle.definitions.specs.Walk.{Walked, endingNumber}
-use Rattle.definitions.specs.Calls.{written, outputAfter, areAnswers, lowerCall, Counts, ranCounts, runAnswer, runCall, walkTree}
+use Rattle.definitions.specs.Calls.{written, outputAfter, areAnswers, lowerCall, Counts, ranCounts, ranCall, runAnswer, runCall, walkTree}
 use Rattle.definitions.specs.Statements.{Agrees, Follows, instructionsIn}
 use Rattle.definitions.proofs.Demand3Bytes.{demand3Bytes}
-use Rattle.run.specs.Pass.{outcome, Called}
+use Rattle.run.specs.Pass.{said as ranSaid, Called}
+use Rattle.run.proofs.Calling.{says-refused, says-finished}
 use Rattle.run.specs.declared.Outcome.{Outcome}
 use Rattle.run.specs.declared.Outcome.the-variants.{Finished, Refused as NotRun}
 use Rattle.lowering.specs.Lowered.{Lowers}
 use Rattle.lowering.specs.declared.Lowered.{Lowered}
 use Rattle.lowering.specs.declared.Lowered.the-variants.{Wrote as Written, Refused as NotLowered}
-use Rattle.follows.specs.Following.{saidRun, toldRun, followCall, FollowsAs, SameAsWalk, AsWalked, FollowsSource}
+use Rattle.follows.specs.Following.{said, followCall, FollowsAs, SameAsWalk, AsWalked, FollowsSource}
 use Rattle.follows.specs.declared.Followed.{Followed}
 use Rattle.follows.specs.declared.Followed.the-variants.{Ran, Refused}
 use Rattle.follows.proofs.Made.{Made, made, part-is, then-accepted, then-refused, left-accepted, left-refused}
 
--- the run's outcome says its answer
-said-outcome : (a : Answer Counts) → saidRun (outcome a) ≡ a
-unfolding saidRun outcome
-said-outcome (accepted n) = refl
-said-outcome (refused q) = refl
-
 -- ---- what a run's answer shows
 
-module _ (a : Answer RunAnswer) (o : Outcome) (events events′ : List ℕ) (says : o ≡ outcome (whenAccepted a ranCounts)) (leaves : events′ ≡ outputAfter (whenAccepted a (λ (r : RunAnswer). accepted (r .events))) events) where
+module _ (a : Answer RunAnswer) (o : Outcome) (events events′ : List ℕ) (says : ranSaid o ≡ whenAccepted a ranCounts) (leaves : events′ ≡ outputAfter (whenAccepted a (λ (r : RunAnswer). accepted (r .events))) events) where
   shows-refused : (q : ℕ) → a ≡ refused q → (o ≡ NotRun q) × (events′ ≡ events)
-  unfolding outcome whenAccepted outputAfter
+  unfolding whenAccepted outputAfter
   shows-refused q e =
-      (says ∙ ap (λ (x : Answer RunAnswer). outcome (whenAccepted x ranCounts)) e, leaves ∙ ap (λ (x : Answer RunAnswer). outputAfter (whenAccepted x (λ (r : RunAnswer). accepted (r .events))) events) e)
+      (says-refused o q (says ∙ ap (λ (x : Answer RunAnswer). whenAccepted x ranCounts) e), leaves ∙ ap (λ (x : Answer RunAnswer). outputAfter (whenAccepted x (λ (r : RunAnswer). accepted (r .events))) events) e)
 
   shows-ran : (r : RunAnswer) → a ≡ accepted r → (o ≡ Finished (r .ending) (r .steps) (r .used) (length (r .events))) × (events′ ≡ written (r .events) events)
-  unfolding outcome whenAccepted outputAfter ranCounts
-  shows-ran r e =
-      (says ∙ ap (λ (x : Answer RunAnswer). outcome (whenAccepted x ranCounts)) e, leaves ∙ ap (λ (x : Answer RunAnswer). outputAfter (whenAccepted x (λ (r : RunAnswer). accepted (r .events))) events) e)
+  unfolding whenAccepted outputAfter ranCounts
+  shows-ran r e = (
+    says-finished o (record { ending = r .ending; steps = r .steps; used = r .used; bytes = length (r .events) }) (says ∙ ap (λ (x : Answer RunAnswer). whenAccepted x ranCounts) e),
+    leaves ∙ ap (λ (x : Answer RunAnswer). outputAfter (whenAccepted x (λ (r : RunAnswer). accepted (r .events))) events) e,
+  )
 
   shows-same : (answers : List ℕ) (w : Walked) (r : RunAnswer) → a ≡ accepted r → Agrees r w answers → SameAsWalk o w answers events events′
   shows-same answers w r e A =
@@ -69,7 +66,7 @@ module _ (r : Lowered) (tree area₁ area₂ bytes area₁′ area₂′ bytes�
   module _ (n : ℕ) (e : r ≡ Written n) (o : Outcome) (events′ : List ℕ) (C : Called o (runCall (take n bytes′) function answers budget events) events′) where
     run-walks : areBytes tree ≡ true → areAnswers answers ≡ true → (length answers + 1) * instructionsIn (take n bytes′) function ≤ budget →
         AsWalked o (walkTree tree function answers) answers events events′
-    unfolding runCall
+    unfolding runCall ranCall
     run-walks small bits enough =
         let M = made r tree area₁ area₂ bytes area₁′ area₂′ bytes′ L n e in
         let D = demand3Bytes tree (M .bytes) small (M .lowers) function answers bits budget (length events) (subst (λ (m : List ℕ). (length answers + 1) * instructionsIn m function ≤ budget) (M .front) enough) in
@@ -77,11 +74,11 @@ module _ (r : Lowered) (tree area₁ area₂ bytes area₁′ area₂′ bytes�
         (subst (λ (m : List ℕ). Follows answers (length events) (walkTree tree function answers) (runAnswer m function answers budget (length events))) (sym (M .front)) D)
 
     run-equation : FollowsAs (Ran n o) area₁′ area₂′ bytes′ events′ (followCall tree function answers budget area₁ area₂ bytes events)
-    unfolding followCall toldRun
+    unfolding followCall said
     run-equation = record {
       answer =
-          then-accepted (lowerCall office tree area₁ area₂ bytes) r bytes′ (L .answer) (L .output) (λ m. runCall m function answers budget events .answer) n e (saidRun o)
-          (ap saidRun (C .says) ∙ said-outcome (runCall (take n bytes′) function answers budget events .answer));
+          then-accepted (lowerCall office tree area₁ area₂ bytes) r bytes′ (L .answer) (L .output) (λ m. runCall m function answers budget events .answer) n e (ranSaid o)
+          (C .says);
       first = L .first;
       second = L .second;
       bytes = L .output;
@@ -103,7 +100,7 @@ module _ (r : Lowered) (tree area₁ area₂ bytes area₁′ area₂′ bytes�
   follow-ran n e o events′ C = ran-follows n e o events′ (subst (λ (m : List ℕ). Called o (runCall m function answers budget events) events′) (part-is n bytes′) C)
 
   pub follow-refused : (q : ℕ) → r ≡ NotLowered q → FollowsSource (Refused q) area₁′ area₂′ bytes′ events tree function answers budget area₁ area₂ bytes events
-  unfolding followCall toldRun
+  unfolding followCall said
   follow-refused q e = record {
     equation = record {
       answer = then-refused (lowerCall office tree area₁ area₂ bytes) r bytes′ (L .answer) (L .output) (λ m. runCall m function answers budget events .answer) q e;

@@ -10,6 +10,7 @@ use Rattle.definitions.specs.Module.{office}
 use Rattle.definitions.specs.Walk.{Walked, endingNumber}
 use Rattle.definitions.specs.Calls.{written, areAnswers, lowerCall, Counts, runCall, walkTree}
 use Rattle.definitions.specs.Statements.{instructionsIn}
+use Rattle.run.specs.Pass.{said as ranSaid}
 use Rattle.run.specs.declared.Outcome.{Outcome}
 use Rattle.run.specs.declared.Outcome.the-variants.{Finished, Refused as NotRun}
 use Rattle.follows.specs.Thereafter.{Thereafter, thereafter, leftAfter}
@@ -18,15 +19,10 @@ use Rattle.follows.specs.declared.Followed.the-variants.{Ran, Refused}
 
 -- ---- the call
 
--- the paper's answer for each case of the run's
-unfoldable pub saidRun : Outcome → Answer Counts
-saidRun (Finished e s u b) = accepted (record { ending = e; steps = s; used = u; bytes = b })
-saidRun (NotRun q) = refused q
-
 -- the paper's answers for each case of the call's: the count of bytes written and the run's answer, or the number of the first question answered no
-unfoldable pub toldRun : Followed → Answer (Thereafter Counts)
-toldRun (Ran n o) = accepted (record { count = n; next = saidRun o })
-toldRun (Refused q) = refused q
+unfoldable pub said : Followed → Answer (Thereafter Counts)
+said (Ran n o) = accepted (record { count = n; next = ranSaid o })
+said (Refused q) = refused q
 
 -- the call: its answer, and the two areas, the module's buffer and the event buffer after it
 pub record Following : Type 0 where
@@ -49,7 +45,7 @@ followCall tree function answers budget area₁ area₂ bytes events =
 
 -- an answer and what is left are those of a call
 pub record FollowsAs (r : Followed) (area₁′ area₂′ bytes′ events′ : List ℕ) (w : Following) : Type 0 where
-  pub answer : toldRun r ≡ w .answer
+  pub answer : said r ≡ w .answer
   pub first : area₁′ ≡ w .area₁
   pub second : area₂′ ≡ w .area₂
   pub bytes : bytes′ ≡ w .bytes

@@ -5,21 +5,17 @@ use mathlib.Core.List.{List}
 use Rattle.definitions.specs.Bytes.{Answer, refused, accepted}
 use Rattle.definitions.specs.Module.{office}
 use Rattle.definitions.specs.Calls.{lowerCall, readCall}
+use Rattle.reader.specs.View.{said as readSaid}
 use Rattle.reader.specs.declared.Verdict.{Verdict}
-use Rattle.reader.specs.declared.Verdict.the-variants.{Accepted, Refused as NotRead}
+use Rattle.reader.specs.declared.Verdict.the-variants.{Accepted}
 use Rattle.follows.specs.Thereafter.{Thereafter, thereafter}
 use Rattle.follows.specs.declared.Reread.{Reread}
 use Rattle.follows.specs.declared.Reread.the-variants.{Wrote, Refused}
 
--- the paper's answer for each case of the reader's
-unfoldable pub saidRead : Verdict → Answer (Unit {0})
-saidRead Accepted = accepted tt
-saidRead (NotRead q) = refused q
-
 -- the paper's answers for each case of the call's: the count of bytes written and the reader's answer, or the number of the first question answered no
-unfoldable pub toldRead : Reread → Answer (Thereafter (Unit {0}))
-toldRead (Wrote n v) = accepted (record { count = n; next = saidRead v })
-toldRead (Refused q) = refused q
+unfoldable pub said : Reread → Answer (Thereafter (Unit {0}))
+said (Wrote n v) = accepted (record { count = n; next = readSaid v })
+said (Refused q) = refused q
 
 -- the call: its answer, and the two areas and the output after it
 pub record Rereading : Type 0 where
@@ -35,7 +31,7 @@ rereadCall tree area₁ area₂ output =
 
 -- an answer and what is left are those of a call
 pub record RereadsAs (r : Reread) (area₁′ area₂′ output′ : List ℕ) (w : Rereading) : Type 0 where
-  pub answer : toldRead r ≡ w .answer
+  pub answer : said r ≡ w .answer
   pub first : area₁′ ≡ w .area₁
   pub second : area₂′ ≡ w .area₂
   pub output : output′ ≡ w .output

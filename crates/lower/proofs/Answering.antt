@@ -13,7 +13,7 @@ use Rattle.definitions.specs.Module.{office}
 use Rattle.definitions.specs.Calls.{written, outputAfter, countAnswer, lowerAnswer, lowerCall, lowerProgram}
 use Rattle.names.specs.Made.{pasted}
 use Rattle.names.proofs.Pasting.{three-length, paste-three, one-digit, more-digits}
-use Rattle.lowering.specs.Lowered.{told, Lowers}
+use Rattle.lowering.specs.Lowered.{said, Lowers}
 use Rattle.lowering.specs.declared.Lowered.{Lowered}
 use Rattle.lowering.specs.declared.Lowered.the-variants.{Wrote, Refused}
 use Rattle.lower.specs.Answered.{Answered}
@@ -99,13 +99,13 @@ module _ (r : Lowered) (input area₁ area₂ out area₁′ area₂′ out′ :
   whole = lowerAnswer office (length area₁) (length area₂) (length out) input
 
   pub answered-wrote : (n : ℕ) → r ≡ Wrote n → Answered n out′ (lowerProgram input)
-  unfolding told lowerCall
+  unfolding said lowerCall
   answered-wrote n e =
-      let w = wrote whole n out out′ (sym (ap told e) ∙ L .answer) (L .output) in
+      let w = wrote whole n out out′ (sym (ap said e) ∙ L .answer) (L .output) in
       rw (program-wrote input (w .0) (same-answer _ _ _ input _ first second room short (w .1))) (w .2)
 
   pub answered-refused : (q n : ℕ) (line : List ℕ) → r ≡ Refused q → Answered n line (ascii "refused " ++ (decimal q ++ 10 ∷ [])) → Answered n line (lowerProgram input)
-  unfolding told lowerCall
+  unfolding said lowerCall
   answered-refused q n line e A =
-      let w = refuses whole q (sym (ap told e) ∙ L .answer) in
+      let w = refuses whole q (sym (ap said e) ∙ L .answer) in
       rw (program-refused input q (same-answer _ _ _ input _ first second room short w)) A

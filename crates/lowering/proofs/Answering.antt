@@ -11,9 +11,9 @@ use Rattle.definitions.specs.Bytes.{Answer, refused, accepted, whenAccepted}
 use Rattle.definitions.specs.Tables.{Tables}
 use Rattle.definitions.specs.Lower.{compile}
 use Rattle.definitions.specs.Module.{office, instructions, moduleBytes, slotsFit, tablesFit}
-use Rattle.definitions.specs.Calls.{written, outputAfter, countAnswer, zeros, areasFit, lowerAnswer, areaAfter, lowerCall}
+use Rattle.definitions.specs.Calls.{written, outputAfter, countAnswer, zeros, areasFit, fitsRoom, lowerAnswer, areaAfter, lowerCall}
 use Rattle.definitions.proofs.Truth.{left, right, at-most}
-use Rattle.tree.specs.Settled.{said, settled}
+use Rattle.tree.specs.Settled.{said as treeSaid, settled}
 use Rattle.tree.specs.StmtAt.{TreeAt}
 use Rattle.tree.specs.declared.Checked.{Checked}
 use Rattle.tree.specs.declared.Checked.the-variants.{Refused as No}
@@ -21,26 +21,25 @@ use Rattle.tree.proofs.TreeViews.{answer-refused}
 use Rattle.state.specs.Fits.{fitsBlock}
 use Rattle.state.specs.State.{State, tablesOf, stateOf, limitsOf, Within, Sound, Limited}
 use Rattle.state.specs.declared.Counts.{Counts}
-use Rattle.state.specs.declared.Limits.{Limits}
-use Rattle.state.specs.declared.Emitted.{Emitted}
-use Rattle.state.specs.declared.Emitted.the-variants.{Done, Full}
+use Rattle.state.specs.Answered.{Limits, Emitted, Done, Full}
 use Rattle.state.proofs.Views.{few-slots, within-sound}
 use Rattle.state.proofs.SlotsFit.{slots-fit, targets-asked}
-use Rattle.module.specs.Sections.{Wrote}
-use Rattle.lowering.specs.Compiled.{treeBlock, Compiles}
-use Rattle.lowering.specs.Lowered.{told, Answers, Lowers}
+use Rattle.module.specs.Sections.{Wrote, Roomy}
+use Rattle.lower_emit.specs.Numbers.{countsOf}
+use Rattle.compile.specs.Compiled.{treeBlock, Compiles}
+use Rattle.lowering.specs.Lowered.{said, Answers, Lowers}
 use Rattle.lowering.specs.declared.Lowered.{Lowered}
 use Rattle.lowering.specs.declared.Lowered.the-variants.{Wrote as Written, Refused}
-use Rattle.lowering.proofs.Outcome.{answer-areas, Checks, check-gives, answer-checked, answer-slots, answer-over, answer-room, answer-module}
+use Rattle.lowering.proofs.Outcome.{answer-areas, Checks, check-gives, answer-checked, answer-slots, answer-over, answer-fits, room-over, room-enough}
 
 -- ---- the answer and the output
 
 pub refuses : (a : Answer (List ℕ)) (q : ℕ) (out : List ℕ) → a ≡ refused q → Answers (Refused q) a out out
-unfolding told countAnswer outputAfter whenAccepted
+unfolding said countAnswer outputAfter whenAccepted
 refuses a q out e = rw e (record { answer = refl; output = refl })
 
 writes : (a : Answer (List ℕ)) (bs : List ℕ) (n : ℕ) (out out′ : List ℕ) → a ≡ accepted bs → n ≡ length bs → out′ ≡ written bs out → Answers (Written n) a out out′
-unfolding told countAnswer outputAfter whenAccepted
+unfolding said countAnswer outputAfter whenAccepted
 writes a bs n out out′ e c w = rw e (record { answer = ap accepted c; output = w })
 
 -- ---- the limits
@@ -88,7 +87,7 @@ module _ (l : Limits) (m n room : ℕ) (tree out : List ℕ) (first : 16384 ≤ 
   answer = lowerAnswer (limitsOf l) m n room tree
 
   -- 2 to 13
-  pub answers-checked : (r : Checked) (q : ℕ) → said r ≡ settled tree → r ≡ No q → Answers (Refused q) answer out out
+  pub answers-checked : (r : Checked) (q : ℕ) → treeSaid r ≡ settled tree → r ≡ No q → Answers (Refused q) answer out out
   answers-checked r q h e = refuses answer q out (answer-checked (limitsOf l) m n room tree (areas-fit m n first second) q (answer-refused r tree q h e))
 
   module _ (T : TreeAt tree) where
@@ -129,22 +128,30 @@ module _ (l : Limits) (m n room : ℕ) (tree out : List ℕ) (first : 16384 ≤ 
       tables-yes =
           ap (tablesFit (limitsOf l)) (sym (compiled .0)) ∙ tables-within l (stateOf tree made code tables k) (within-sound tree made code tables k l (compiled .1))
 
-      module _ (size : ℕ) (sized : size ≡ length (moduleBytes (tablesOf tree made code tables k))) where
-        size-is : size ≡ length (moduleBytes (compile (treeBlock tree) .tables))
-        size-is = sized ∙ ap (λ (t : Tables). length (moduleBytes t)) (compiled .0)
+      -- 16
+      pub answers-fits : (r′ : Lowered) (out′ : List ℕ) → Answers r′ (fitsRoom room (moduleBytes (tablesOf tree made code tables k))) out out′ → Answers r′ answer out out′
+      answers-fits r′ out′ A = subst (λ (a : Answer (List ℕ)). Answers r′ a out out′)
+          (ap (λ (t : Tables). fitsRoom room (moduleBytes t)) (compiled .0)
+          ∙ sym (answer-fits (limitsOf l) m n room tree (areas-fit m n first second) (treeBlock tree) (checks T) slots-yes tables-yes)) A
 
-        -- 16
-        pub answers-room : room < size → Answers (Refused 16) answer out out
-        answers-room g =
-            refuses answer 16 out
-            (answer-room (limitsOf l) m n room tree (areas-fit m n first second) (treeBlock tree) (checks T) slots-yes tables-yes (omega (arith, size-is)))
+-- ---- question 16
 
-        pub answers-module : size ≤ room → (out′ : List ℕ) (w : ℕ) → Wrote w (moduleBytes (tablesOf tree made code tables k)) out out′ → Answers (Written w) answer out out′
-        answers-module g out′ w W =
-            writes answer (moduleBytes (compile (treeBlock tree) .tables)) w out out′
-            (answer-module (limitsOf l) m n room tree (areas-fit m n first second) (treeBlock tree) (checks T) slots-yes tables-yes (omega (arith, size-is)))
-            (W .count ∙ ap (λ (t : Tables). length (moduleBytes t)) (compiled .0))
-            (W .out ∙ ap (λ (t : Tables). written (moduleBytes t) out) (compiled .0))
+pub roomy-as : (code tables k : List ℕ) (c : Counts) → c ≡ countsOf k → Roomy code tables (countsOf k) → Roomy code tables c
+roomy-as code tables k c e R = subst (Roomy code tables) (sym e) R
+
+module _ (tree made code tables k out : List ℕ) (room size : ℕ) (c : Counts) (e : c ≡ countsOf k) (sized : size ≡ length (moduleBytes (tablesOf tree made code tables c))) where
+  abbrev bytes : List ℕ
+  bytes = moduleBytes (tablesOf tree made code tables (countsOf k))
+
+  size-is : size ≡ length bytes
+  size-is = sized ∙ ap (λ (x : Counts). length (moduleBytes (tablesOf tree made code tables x))) e
+
+  pub room-refuses : room < size → Answers (Refused 16) (fitsRoom room bytes) out out
+  room-refuses h = refuses (fitsRoom room bytes) 16 out (room-over room bytes (omega (arith, size-is)))
+
+  pub room-writes : size ≤ room → (w : ℕ) (out′ : List ℕ) → Wrote w (moduleBytes (tablesOf tree made code tables c)) out out′ → Answers (Written w) (fitsRoom room bytes) out out′
+  room-writes h w out′ W = writes (fitsRoom room bytes) bytes w out out′ (room-enough room bytes (omega (arith, size-is)))
+      (W .count ∙ ap (λ (x : Counts). length (moduleBytes (tablesOf tree made code tables x))) e) (W .out ∙ ap (λ (x : Counts). written (moduleBytes (tablesOf tree made code tables x)) out) e)
 
 -- ---- the whole call
 

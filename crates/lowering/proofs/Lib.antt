@@ -1,5 +1,2 @@
 pub mod Outcome
-mod Beginning
-mod Compiling
 mod Answering
-mod Clearing

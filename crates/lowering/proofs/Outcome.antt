@@ -106,17 +106,19 @@ module _ (l : Limits) (m n room : ℕ) (tree : List ℕ) (areas : areasFit m n �
     answer-over e f = refusal 15 (tables-fit l tree b C ∙ fits-over l tree (compile b .tables) e f)
 
     module _ (slots : slotsFit (compile b .tables) ≡ true) (tables : tablesFit l (compile b .tables) ≡ true) where
-      whole : lowerAnswer l m n room tree ≡ fitsRoom room (moduleBytes (compile b .tables))
+      -- 16
+      pub answer-fits : lowerAnswer l m n room tree ≡ fitsRoom room (moduleBytes (compile b .tables))
       unfolding whenAccepted
-      whole =
+      answer-fits =
           answer-bytes l m n room tree areas
           ∙ ap (λ (a : Answer (List ℕ)). whenAccepted a (fitsRoom room)) (bytes-accepted l tree (compile b .tables) (tables-fit l tree b C ∙ fits-all l tree (compile b .tables) slots tables))
 
-      -- 16
-      pub answer-room : room < length (moduleBytes (compile b .tables)) → lowerAnswer l m n room tree ≡ refused 16
-      unfolding fitsRoom
-      answer-room h = whole ∙ rw (lt-leb (length (moduleBytes (compile b .tables))) room h, fitsRoom)
+-- ---- question 16
 
-      pub answer-module : length (moduleBytes (compile b .tables)) ≤ room → lowerAnswer l m n room tree ≡ accepted (moduleBytes (compile b .tables))
-      unfolding fitsRoom
-      answer-module h = whole ∙ rw (le-leb (length (moduleBytes (compile b .tables))) room h, fitsRoom)
+pub room-over : (room : ℕ) (bs : List ℕ) → room < length bs → fitsRoom room bs ≡ refused 16
+unfolding fitsRoom
+room-over room bs h = rw (lt-leb (length bs) room h, fitsRoom)
+
+pub room-enough : (room : ℕ) (bs : List ℕ) → length bs ≤ room → fitsRoom room bs ≡ accepted bs
+unfolding fitsRoom
+room-enough room bs h = rw (le-leb (length bs) room h, fitsRoom)

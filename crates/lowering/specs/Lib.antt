@@ -1,2 +1,1 @@
-pub mod Compiled
 pub mod Lowered

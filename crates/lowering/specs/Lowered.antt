@@ -8,18 +8,18 @@ use Rattle.lowering.specs.declared.Lowered.{Lowered}
 use Rattle.lowering.specs.declared.Lowered.the-variants.{Wrote, Refused}
 
 -- the paper's answer for each case of the code's: the count of bytes written, or the number of the first question answered no
-unfoldable pub told : Lowered → Answer ℕ
-told (Wrote n) = accepted n
-told (Refused q) = refused q
+unfoldable pub said : Lowered → Answer ℕ
+said (Wrote n) = accepted n
+said (Refused q) = refused q
 
 -- the answer, and the output after it
 pub record Answers (r : Lowered) (a : Answer (List ℕ)) (out out′ : List ℕ) : Type 0 where
-  pub answer : told r ≡ countAnswer a
+  pub answer : said r ≡ countAnswer a
   pub output : out′ ≡ outputAfter a out
 
 -- the answer, and the two areas and the output after it
 pub record Lowers (r : Lowered) (area₁ area₂ out : List ℕ) (w : Lowering) : Type 0 where
-  pub answer : told r ≡ w .answer
+  pub answer : said r ≡ w .answer
   pub first : area₁ ≡ w .area₁
   pub second : area₂ ≡ w .area₂
   pub output : out ≡ w .output

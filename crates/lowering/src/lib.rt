@@ -1,21 +1,20 @@
 // The lowering of a tree: questions 1 to 16, and the module's bytes.
-mod compile; // compile.rt: the tables of an accepted tree
-
-use crate::compile::compile;
+use areas::clear;
+use compile::compile;
+use compile::counts;
 use fits::statements::check_slots;
 use module::module_size;
 use module::write_module;
-use state::Emitted;
-use state::Limits;
 use tree::Checked;
 use tree::check_tree;
-ghost use mathlib.Core.Path.{_≡_};
 ghost use Prim.Native.Nat.{_≤_};
 ghost use lib.ListN.{length};
-ghost use Rattle.definitions.specs.Module.{office};
-ghost use Rattle.definitions.specs.Calls.{zeros, lowerAnswer, lowerCall};
+ghost use Rattle.definitions.specs.Module.{office, moduleBytes};
+ghost use Rattle.definitions.specs.Calls.{fitsRoom, lowerAnswer, lowerCall};
 ghost use Rattle.tree.specs.StmtAt.{TreeAt};
-ghost use Rattle.state.specs.State.{limitsOf, Limited};
+ghost use Rattle.state.specs.State.{tablesOf, limitsOf, Limited};
+ghost use Rattle.module.specs.Sections.{Roomy};
+ghost use Rattle.lower_emit.specs.Numbers.{countsOf, limitsIn};
 ghost use Rattle.lowering.specs.Lowered.{Answers, Lowers};
 
 // How many bytes of the output are the module; or the number of the first question answered no.
@@ -24,15 +23,25 @@ pub enum Lowered {
     Refused(u32),
 }
 
-// Every word 0.
-fn clear(area: &mut [u32])
-    ensures { λ _. ⌜ now (area .exit) ≡ zeros (now (area .entry)) ⌝ }
+// Question 16: the module of the tables where the output has room for it.
+fn write_tables<'a>(
+    tree: &'a [u8],
+    made: &'a [u8; 20500],
+    code: &[u32],
+    tables: &[u32],
+    k: &[u32; 10],
+    out: &mut [u8],
+) -> Lowered
+    requires { ⌜ Roomy (now code) (now tables) (countsOf (now k)) ⌝ }
+    ensures { λ r. ⌜ Answers r (fitsRoom (length (now (out .entry))) (moduleBytes (tablesOf (now (tree .entry)) (now (made .entry)) (now (code .entry)) (now (tables .entry)) (countsOf (now (k .entry)))))) (now (out .entry)) (now (out .exit)) ⌝ }
 {
-    let mut i = 0usize;
-    while i < area.len() {
-        area[i] = 0;
-        i += 1;
+    let c = counts(k);
+    let size = module_size(tree, made, code, tables, c);
+    if out.len() < size {
+        return Lowered::Refused(16);
     }
+    let n = write_module(tree, made, code, tables, c, size, out);
+    Lowered::Wrote(n)
 }
 
 // Questions 14 to 16, and the module; the slices keep what was worked out. A tree that is lowered has at most 255 slots a function, so question 14
@@ -42,25 +51,21 @@ fn lower_checked(
     code: &mut [u32],
     tables: &mut [u32],
     out: &mut [u8],
-    l: Limits,
+    l: &[u32; 5],
 ) -> Lowered
-    requires { ⌜ (16384 ≤ length (now code)) × (16384 ≤ length (now tables)) × Limited l × TreeAt (now tree) ⌝ }
-    ensures { λ r. ⌜ Answers r (lowerAnswer (limitsOf l) (length (now (code .entry))) (length (now (tables .entry))) (length (now (out .entry))) (now (tree .entry))) (now (out .entry)) (now (out .exit)) ⌝ }
+    requires { ⌜ (16384 ≤ length (now code)) × (16384 ≤ length (now tables)) × Limited (limitsIn (now l)) × TreeAt (now tree) ⌝ }
+    ensures { λ r. ⌜ Answers r (lowerAnswer (limitsOf (limitsIn (now (l .entry)))) (length (now (code .entry))) (length (now (tables .entry))) (length (now (out .entry))) (now (tree .entry))) (now (out .entry)) (now (out .exit)) ⌝ }
 {
     let mut made = [0u8; 20500];
-    let compiled = compile(tree, &mut made, code, tables, l);
-    let Emitted::Done(_, k) = compiled else {
+    let mut k = [0u32; 10];
+    let next = compile(tree, &mut made, code, tables, &mut k, l);
+    if next == 0 {
         if check_slots(tree) {
             return Lowered::Refused(15);
         }
         return Lowered::Refused(14);
-    };
-    let size = module_size(tree, &made, code, tables, k);
-    if out.len() < size {
-        return Lowered::Refused(16);
     }
-    let n = write_module(tree, &made, code, tables, k, size, out);
-    Lowered::Wrote(n)
+    write_tables(tree, &made, code, tables, &k, out)
 }
 
 // Questions 2 to 16, and the module.
@@ -69,10 +74,10 @@ fn lower_into(
     code: &mut [u32],
     tables: &mut [u32],
     out: &mut [u8],
-    l: Limits,
+    l: &[u32; 5],
 ) -> Lowered
-    requires { ⌜ (16384 ≤ length (now code)) × (16384 ≤ length (now tables)) × Limited l ⌝ }
-    ensures { λ r. ⌜ Answers r (lowerAnswer (limitsOf l) (length (now (code .entry))) (length (now (tables .entry))) (length (now (out .entry))) (now (tree .entry))) (now (out .entry)) (now (out .exit)) ⌝ }
+    requires { ⌜ (16384 ≤ length (now code)) × (16384 ≤ length (now tables)) × Limited (limitsIn (now l)) ⌝ }
+    ensures { λ r. ⌜ Answers r (lowerAnswer (limitsOf (limitsIn (now (l .entry)))) (length (now (code .entry))) (length (now (tables .entry))) (length (now (out .entry))) (now (tree .entry))) (now (out .entry)) (now (out .exit)) ⌝ }
 {
     let checked = check_tree(tree);
     if let Checked::Refused(q) = checked {
@@ -91,14 +96,8 @@ pub fn lower(tree: &[u8], area1: &mut [u32], area2: &mut [u32], out: &mut [u8]) 
     if area2.len() < 16384 {
         return Lowered::Refused(1);
     }
-    let l = Limits {
-        functions: 256,
-        symbols: 1024,
-        strings: 512,
-        classes: 64,
-        instructions: 8192,
-    };
-    let r = lower_into(tree, area1, area2, out, l);
+    let l = [256u32, 1024, 512, 64, 8192];
+    let r = lower_into(tree, area1, area2, out, &l);
     clear(area1);
     clear(area2);
     r

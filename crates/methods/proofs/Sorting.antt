@@ -14,7 +14,7 @@ use Rattle.definitions.specs.Tables.{Method}
 use Rattle.definitions.specs.Lower.{insertMethod}
 use Rattle.state.specs.Words.{nameAt}
 use Rattle.state.specs.State.{methodOf}
-use Rattle.code.proofs.Setting.{mixed, mixed-read, mixed-set, map-set}
+use Rattle.lower_emit.proofs.Setting.{mixed, mixed-read, mixed-set, map-set}
 use Rattle.methods.specs.Order.{inserted, Slotted, Inserted}
 use Rattle.methods.specs.declared.Slot.{Slot}
 use Rattle.methods.specs.declared.Slot.the-variants.{Here, Before}

@@ -15,7 +15,7 @@ pub enum Slot {
 }
 
 // Whether the bytes a are below b: byte by byte, a proper beginning first.
-pub fn below_bytes(a: &[u8], b: &[u8]) -> bool
+pub(crate) fn below_bytes(a: &[u8], b: &[u8]) -> bool
     ensures { λ r. ⌜ r ≡ below (now (a .entry)) (now (b .entry)) ⌝ }
 {
     let mut i = 0;

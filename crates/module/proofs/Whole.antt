@@ -11,7 +11,7 @@ use Rattle.definitions.proofs.BytesWritten.{length-be}
 use Rattle.state.specs.Words.{region, instrsOf}
 use Rattle.state.specs.State.{stringsFrom, headsFrom, codesFrom, classNamesFrom, classMethodsFrom, methodsFrom, constantsFrom, doneFrom, tablesOf, Limited, Sound}
 use Rattle.state.specs.declared.Counts.{Counts}
-use Rattle.state.specs.declared.Limits.{Limits}
+use Rattle.state.specs.Answered.{Limits}
 use Rattle.state.proofs.Regions.{region-length}
 use Rattle.module.specs.Sections.{symbolBytes, stringBytes, functionsBytes, classesBytes, constantBytes, textsBytes, bodiesBytes, Roomy}
 use Rattle.module.proofs.Begun.{joined}

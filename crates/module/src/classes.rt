@@ -69,7 +69,7 @@ fn write_class(tree: &[u8], methods: &[u32], x: u32, place: u32, out: &mut [u8])
 }
 
 // The bytes of the classes.
-pub fn classes_size(tree: &[u8], methods: &[u32], names: &[u32], places: &[u32]) -> usize
+pub(crate) fn classes_size(tree: &[u8], methods: &[u32], names: &[u32], places: &[u32]) -> usize
     requires { ⌜ (length (now names) < 65536) × (length (now names) ≡ length (now places)) ⌝ }
     ensures { λ r. ⌜ r ≡ length (classesBytes (now (tree .entry)) (now (methods .entry)) (now (names .entry)) (now (places .entry))) ⌝ }
 {
@@ -82,7 +82,7 @@ pub fn classes_size(tree: &[u8], methods: &[u32], names: &[u32], places: &[u32])
     size
 }
 
-pub fn write_classes(
+pub(crate) fn write_classes(
     tree: &[u8],
     methods: &[u32],
     names: &[u32],
@@ -102,7 +102,7 @@ pub fn write_classes(
 }
 
 // The constants: the class number of each.
-pub fn write_constants(entries: &[u32], out: &mut [u8]) -> usize
+pub(crate) fn write_constants(entries: &[u32], out: &mut [u8]) -> usize
     requires { ⌜ (length (now entries) < 65536) × (length (constantBytes (now entries)) ≤ length (now out)) ⌝ }
     ensures { λ r. ⌜ Wrote r (constantBytes (now (entries .entry))) (now (out .entry)) (now (out .exit)) ⌝ }
 {

@@ -73,7 +73,7 @@ fn write_function(tree: &[u8], finished: &[u32], head: u32, place: u32, out: &mu
 }
 
 // The bytes of the functions, by the places of their code.
-pub fn functions_size(finished: &[u32], places: &[u32]) -> usize
+pub(crate) fn functions_size(finished: &[u32], places: &[u32]) -> usize
     requires { ⌜ length (now places) < 65536 ⌝ }
     ensures { λ r. ⌜ ((t hs : List ℕ) → length hs ≡ length (now (places .entry)) → r ≡ length (functionsBytes t (now (finished .entry)) hs (now (places .entry)))) ⌝ }
 {
@@ -86,7 +86,7 @@ pub fn functions_size(finished: &[u32], places: &[u32]) -> usize
     size
 }
 
-pub fn write_functions(
+pub(crate) fn write_functions(
     tree: &[u8],
     finished: &[u32],
     heads: &[u32],

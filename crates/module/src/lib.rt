@@ -18,26 +18,9 @@ ghost use mathlib.Core.List.{_++_, _∷_, []};
 ghost use Prim.Native.Nat.{_-_, _≤_, _<_, _^_};
 ghost use lib.ListN.{length};
 ghost use Rattle.definitions.specs.Bytes.{be};
-ghost use Rattle.definitions.specs.Tables.{typeNumber};
 ghost use Rattle.definitions.specs.Module.{moduleBytes};
 ghost use Rattle.state.specs.State.{tablesOf};
 ghost use Rattle.module.specs.Sections.{Wrote, Roomy};
-
-// A class of the module. The type number of its object follows from its number, so a module does not store it.
-pub struct Class {
-    pub number: u32,
-}
-
-impl Class {
-    pub const FIRST: u32 = 100;
-
-    pub fn type_number(class: u32) -> u32
-        requires { ⌜ class < 65536 ⌝ }
-        ensures { λ r. ⌜ r ≡ typeNumber class ⌝ }
-    {
-        Self::FIRST + class
-    }
-}
 
 // The bytes of the module.
 pub fn module_size<'a>(

@@ -21,7 +21,7 @@ fn write_long(w: usize, v: u64, out: &mut [u8]) -> usize
 }
 
 // The low w bytes of v; at most two at once.
-pub fn write_number(w: usize, v: u64, out: &mut [u8]) -> usize
+pub(crate) fn write_number(w: usize, v: u64, out: &mut [u8]) -> usize
     requires { ⌜ w ≤ length (now out) ⌝ }
     ensures { λ r. ⌜ Wrote r (be w v) (now (out .entry)) (now (out .exit)) ⌝ }
 {
@@ -41,7 +41,7 @@ pub fn write_number(w: usize, v: u64, out: &mut [u8]) -> usize
 }
 
 // Some bytes.
-pub fn write_bytes(bytes: &[u8], out: &mut [u8]) -> usize
+pub(crate) fn write_bytes(bytes: &[u8], out: &mut [u8]) -> usize
     requires { ⌜ length (now bytes) ≤ length (now out) ⌝ }
     ensures { λ r. ⌜ Wrote r (now (bytes .entry)) (now (out .entry)) (now (out .exit)) ⌝ }
 {
@@ -54,7 +54,7 @@ pub fn write_bytes(bytes: &[u8], out: &mut [u8]) -> usize
 }
 
 // Some bytes after their count, which fits in w bytes: a name or a string.
-pub fn write_counted(w: usize, bytes: &[u8], out: &mut [u8]) -> usize
+pub(crate) fn write_counted(w: usize, bytes: &[u8], out: &mut [u8]) -> usize
     requires { ⌜ (length (now bytes) < 256 ^ w) × (w + length (now bytes) ≤ length (now out)) ⌝ }
     ensures { λ r. ⌜ Wrote r (be w (length (now (bytes .entry))) ++ now (bytes .entry)) (now (out .entry)) (now (out .exit)) ⌝ }
 {

@@ -42,7 +42,7 @@ pub fn write_texts<'a>(
 }
 
 // The bytes of functions, classes and constants.
-pub fn bodies_size(tree: &[u8], code: &[u32], tables: &[u32], c: Counts) -> usize
+pub(crate) fn bodies_size(tree: &[u8], code: &[u32], tables: &[u32], c: Counts) -> usize
     requires { ⌜ Roomy (now code) (now tables) c ⌝ }
     ensures { λ r. ⌜ (r ≡ length (bodiesBytes (now (tree .entry)) (now (code .entry)) (now (tables .entry)) c)) × (r < 2 ^ 31) ⌝ }
 {
@@ -55,7 +55,13 @@ pub fn bodies_size(tree: &[u8], code: &[u32], tables: &[u32], c: Counts) -> usiz
     functions + classes + 2 + 2 * c.constants as usize
 }
 
-pub fn write_bodies(tree: &[u8], code: &[u32], tables: &[u32], c: Counts, out: &mut [u8]) -> usize
+pub(crate) fn write_bodies(
+    tree: &[u8],
+    code: &[u32],
+    tables: &[u32],
+    c: Counts,
+    out: &mut [u8],
+) -> usize
     requires { ⌜ Roomy (now code) (now tables) c × (length (bodiesBytes (now tree) (now code) (now tables) c) ≤ length (now out)) ⌝ }
     ensures { λ r. ⌜ Wrote r (bodiesBytes (now (tree .entry)) (now (code .entry)) (now (tables .entry)) c) (now (out .entry)) (now (out .exit)) ⌝ }
 {

@@ -38,7 +38,7 @@ pub fn write_symbols<'a>(tree: &'a [u8], made: &'a [u8], entries: &[u32], out: &
 }
 
 // The bytes of the strings.
-pub fn strings_size(tree: &[u8], entries: &[u32]) -> usize
+pub(crate) fn strings_size(tree: &[u8], entries: &[u32]) -> usize
     requires { ⌜ length (now entries) < 65536 ⌝ }
     ensures { λ r. ⌜ r ≡ length (stringBytes (now (tree .entry)) (now (entries .entry))) ⌝ }
 {
@@ -52,7 +52,7 @@ pub fn strings_size(tree: &[u8], entries: &[u32]) -> usize
     size
 }
 
-pub fn write_strings(tree: &[u8], entries: &[u32], out: &mut [u8]) -> usize
+pub(crate) fn write_strings(tree: &[u8], entries: &[u32], out: &mut [u8]) -> usize
     requires { ⌜ (length (now entries) < 65536) × (length (stringBytes (now tree) (now entries)) ≤ length (now out)) ⌝ }
     ensures { λ r. ⌜ Wrote r (stringBytes (now (tree .entry)) (now (entries .entry))) (now (out .entry)) (now (out .exit)) ⌝ }
 {

@@ -91,7 +91,7 @@ fn second_operand(w: u32) -> u64
 }
 
 // How many bytes the instruction of a word has, whatever the tree.
-pub fn instruction_size(w: u32) -> usize
+pub(crate) fn instruction_size(w: u32) -> usize
     ensures { λ r. ⌜ ((t : List ℕ) → r ≡ length (encode (instrOf t w))) × (r ≤ 10) ⌝ }
 {
     whole_width(opcode(w)) as usize
@@ -107,7 +107,7 @@ fn write_place(tree: &[u8], w: u32, out: &mut [u8]) -> usize
 }
 
 // The instruction's bytes: the opcode and the operands in their widths.
-pub fn write_instruction(tree: &[u8], w: u32, out: &mut [u8]) -> usize
+pub(crate) fn write_instruction(tree: &[u8], w: u32, out: &mut [u8]) -> usize
     requires { ⌜ length (encode (instrOf (now tree) w)) ≤ length (now out) ⌝ }
     ensures { λ r. ⌜ Wrote r (encode (instrOf (now (tree .entry)) w)) (now (out .entry)) (now (out .exit)) ⌝ }
 {

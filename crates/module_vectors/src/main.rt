@@ -20,7 +20,7 @@ fn replay(piece: &mut [u8; 4096], r: Reading) -> Reading {
     if !vectors::has_field(name) {
         return name;
     }
-    let mut module = [0u8; 4096];
+    let mut module = [0u8; 32768];
     let field = vectors::hex_field(piece, name, &mut module);
     let size = field.size;
     let next = field.next;

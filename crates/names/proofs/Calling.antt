@@ -1,12 +1,12 @@
 -- Built-ins by their names, classes and functions by theirs, and what a call by name calls.
-use Prim.Native.Nat.{ℕ, zero, suc, _+_, _/_, _^_, _≤_, _<_}
+use Prim.Native.Nat.{ℕ, suc, _/_, _^_, _≤_, _<_}
 use mathlib.Core.Path.{_≡_, refl, sym, ap, _∙_}
 use mathlib.Core.Bool.{Bool, true, false, _&&_}
 use mathlib.Core.Option.{Option, none, some}
 use mathlib.Core.List.{List, [], _∷_, map}
 use native.Mathlib.Omega.{arith}
 use lib.Dec.{eqb, ltb}
-use lib.ListN.{length, take, drop, getD}
+use lib.ListN.{length, drop, getD}
 use lib.Seq.{drop-cons}
 use borrow.Author.Tests.{ltb-true}
 use Rattle.definitions.specs.Bytes.{Name, all, same, position}
@@ -15,12 +15,13 @@ use Rattle.definitions.specs.Builtins.{Builtin, registry, builtinIn, builtin}
 use Rattle.definitions.specs.Lower.{Callee, builtinCallee, functionCallee, valueCallee, resolveFunction, resolve}
 use Rattle.definitions.proofs.Resolve.{position-lt}
 use Rattle.state.specs.Words.{region, nameAt}
-use Rattle.state.specs.State.{headsFrom, codesFrom, classNamesFrom, classMethodsFrom, methodsFrom, doneFrom, spelled, namesAt, functionsOf, functionOf, classesOf, classOf, tablesOf, stateOf, Sound, foundOr}
+use Rattle.state.specs.State.{headsFrom, codesFrom, classNamesFrom, classMethodsFrom, methodsFrom, doneFrom, spelled, namesAt, functionsOf, functionOf, classesOf, classOf}
+use Rattle.state.specs.State.{tablesOf, stateOf, Sound, foundOr}
 use Rattle.state.specs.declared.Counts.{Counts}
-use Rattle.state.specs.declared.Limits.{Limits}
+use Rattle.state.specs.Answered.{Limits}
 use Rattle.state.proofs.Regions.{region-length}
 use Rattle.state.proofs.Views.{symbols-length}
-use Rattle.names.proofs.Finding.{step, position-cons, position-map, sought, found-map, names-length}
+use Rattle.names.proofs.Finding.{step, position-cons, names-length}
 
 -- ---- built-ins
 

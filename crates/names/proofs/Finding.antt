@@ -1,5 +1,5 @@
 -- The first word of a list that passes a test, found from its beginning.
-use Prim.Native.Nat.{ℕ, zero, suc, _+_, _-_, _≤_, _<_}
+use Prim.Native.Nat.{ℕ, suc, _+_, _≤_, _<_}
 use mathlib.Core.Path.{_≡_, refl, sym, ap, _∙_}
 use mathlib.Core.Bool.{Bool, true, false}
 use mathlib.Core.Option.{Option, none, some}
@@ -95,9 +95,6 @@ module _ (f : ℕ → Name) (ts : List ℕ) (a m n : ℕ) (x y : Name) (r : ℕ)
   part-length : length (take m (drop a ts)) ≡ n
   part-length = length-take-le m (drop a ts) (let e = length-drop a ts in omega arith) ∙ size
 
-  pub sought-le : Sought → r ≤ n
-  sought-le e = let k = found-le (same x) (map f (take m (drop a ts))) in let l = length-map (take m (drop a ts)) f in omega (arith, part-length, rw l at k)
-
   pub sought : x ≡ y → Sought → r ≡ foundOr n (position (same y) (map f (region a n ts)))
   unfolding region
   sought e k = k ∙ (λ j. foundOr (part-length j) (position (same (e j)) (map f (take (size j) (drop a ts)))))
@@ -115,9 +112,3 @@ sought-word test ts a m n r inside size k =
 pub names-length : (tree ps : List ℕ) → length (namesAt tree ps) ≡ length ps
 unfolding namesAt
 names-length tree ps = length-map ps (nameAt tree)
-
-pub found-names-le : (tree ps : List ℕ) (x : Name) (r : ℕ) → r ≡ foundOr (length ps) (position (same x) (namesAt tree ps)) → r ≤ length ps
-found-names-le tree ps x r e =
-    let n = names-length tree ps in
-    let k = found-le (same x) (namesAt tree ps) in
-    omega (arith, rw n at k)

@@ -1,36 +1,23 @@
 -- An index of names: what a bucket tells of a name, and what a bucket that is set leaves. Assumes nothing.
-use Prim.Native.Nat.{ℕ, zero, suc, _+_, _-_, _*_, _%_, _≤_, _<_}
+use Prim.Native.Nat.{ℕ, zero, suc, _+_, _-_, _%_, _≤_, _<_}
 use mathlib.Core.Path.{_≡_, refl, sym, ap, subst, _∙_}
 use mathlib.Core.Bool.{Bool, true, false, _&&_}
 use mathlib.Core.Option.{Option, none, some}
 use mathlib.Core.List.{List, [], _∷_, _++_, map}
 use native.Mathlib.Omega.{arith}
 use native.Mathlib.Nat.{zero-add, mod-lt}
-use native.Mathlib.Numerals.{add-one}
 use lib.Dec.{ltb, eqb}
-use lib.ListN.{length, take, drop, getD, set, length-map, length-drop}
-use lib.Seq.{take-all, drop-length, drop-cons, getD-set-same, getD-set-other, getD-take}
+use lib.ListN.{length, take, drop, getD, set, length-drop}
+use lib.Seq.{take-all, getD-set-same, getD-set-other, getD-take}
 use borrow.Author.Tests.{eqb-true, eqb-false, ltb-true, ltb-false, lt-ltb, le-ltb}
 use Rattle.definitions.specs.Bytes.{Name, same, position}
 use Rattle.state.specs.Words.{nameAt}
-use Rattle.state.specs.Index.{hashFrom, hashOf, bucketOf, Covered, noneCovered, covered, startOf, noted}
+use Rattle.state.specs.Index.{hashOf, bucketOf, Covered, noneCovered, covered, startOf}
 use Rattle.state.specs.State.{namesAt, slotsFrom, slotNames, Slots, foundOr}
 use Rattle.names.specs.Sought.{soughtFrom}
 use Rattle.names.proofs.Finding.{step, position-cons, found-le, names-length}
 
 -- ---- the hash
-
-pub hash-next : (h : ℕ) (x : List ℕ) (i : ℕ) → i < length x → hashFrom h (drop i x) ≡ hashFrom ((h * 30011 + getD x i 0) % 65536) (drop (i + 1) x)
-unfolding hashFrom
-hash-next h x i l = ap (hashFrom h) (drop-cons x i 0 l) ∙ ap (λ (k : ℕ). hashFrom ((h * 30011 + getD x i 0) % 65536) (drop k x)) (sym (add-one i))
-
-pub hash-end : (h : ℕ) (x : List ℕ) (i : ℕ) → i ≤ length x → length x ≤ i → hashFrom h (drop i x) ≡ h
-unfolding hashFrom
-hash-end h x i k l = let e : i ≡ length x = omega arith in ap (hashFrom h) (ap (λ (j : ℕ). drop j x) e ∙ drop-length x)
-
-pub hash-start : (x : List ℕ) → hashFrom 0 (drop 0 x) ≡ hashOf x
-unfolding hashOf
-hash-start x = refl
 
 pub bucket-below : (size : ℕ) (x : Name) → 0 < size → bucketOf size x < size
 unfolding bucketOf
@@ -81,10 +68,6 @@ found-other x y ys e = ap (foundOr (suc (length ys))) (position-cons (same x) y 
     go : (o : Option ℕ) → foundOr (suc (length ys)) (step false o) ≡ suc (foundOr (length ys) o)
     go none = refl
     go (some i) = refl
-
-found-empty : (x : Name) → foundIn x [] ≡ 0
-unfolding foundOr position
-found-empty x = refl
 
 module _ (size : ℕ) (bs : List ℕ) (x : Name) where
   abbrev bucket : ℕ

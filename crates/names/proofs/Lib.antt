@@ -1,10 +1,6 @@
 pub mod Spelling
 pub mod Finding
 pub mod Indexing
-pub mod Numbering
 pub mod TableIndex
 pub mod Pasting
-pub mod MadeNames
-pub mod Midway
-pub mod Naming
 pub mod Calling

@@ -1,5 +1,5 @@
 -- Bytes that are pasted into others, decimal digits, and names with their length before them.
-use Prim.Native.Nat.{ℕ, zero, suc, _+_, _*_, _-_, _/_, _%_, _≤_, _<_}
+use Prim.Native.Nat.{ℕ, zero, suc, _+_, _*_, _/_, _%_, _≤_, _<_}
 use mathlib.Core.Path.{_≡_, refl, sym, ap, _∙_}
 use mathlib.Core.Bool.{Bool, true, false}
 use mathlib.Core.List.{List, [], _∷_, _++_, append-assoc}
@@ -7,14 +7,14 @@ use native.Mathlib.Omega.{arith}
 use native.Mathlib.Nat.{add-zero}
 use native.Mathlib.Numerals.{add-one}
 use lib.Dec.{ltb, lit<}
-use lib.ListN.{length, take, drop, getD, set, length-append, length-take, length-drop, length-set, take-append-drop}
-use lib.Seq.{drop-cons, set-at, take-at, drop-at, take-suc, take-length, take-all, take-take, take-append-le, length-take-le, drop-drop, drop-append-add, getD-set-same, drop-set-lt, take-set-le}
+use lib.ListN.{length, take, drop, getD, set, length-append, length-drop, take-append-drop}
+use lib.Seq.{drop-cons, set-at, take-at, drop-at, take-suc, take-all, take-take, take-append-le, length-take-le, drop-drop, drop-append-add, getD-set-same, drop-set-lt, take-set-le}
 use borrow.Author.Tests.{lt-ltb, le-ltb, ltb-true, ltb-false}
 use Rattle.definitions.specs.Bytes.{Name, ascii, digits, decimal}
-use Rattle.definitions.specs.Lower.{iterName, lambdaName}
+use Rattle.definitions.specs.Lower.{lambdaName}
 use Rattle.state.specs.Words.{nameAt}
 use Rattle.names.specs.Made.{madeName, pasted, Stands}
-use Rattle.names.specs.declared.Made.the-variants.{Main, Iter, HasNext, Next, Iterator, Lambda}
+use Rattle.names.specs.declared.Made.the-variants.{Main, Lambda}
 
 -- ---- pasted bytes
 
@@ -166,10 +166,6 @@ pub four-digits : (n : ℕ) → n < 10000 → length (decimal n) ≤ 4
 four-digits n h =
     digits-more 1000 n 3 (λ a p. digits-more 100 a 2 (λ b q. digits-more 10 b 1 (λ d r. let e = one-digit d r in omega arith) (omega arith) q) (omega arith) p) (omega arith) h
 
-pub iterator-short : (place : ℕ) → place < 10000 → length (madeName (Iterator place)) < 20
-unfolding madeName iterName
-iterator-short place h = let a = four-digits place h in omega (arith, three-length (ascii "__for_iter_") (decimal place) (ascii "__"))
-
 pub lambda-short : (n : ℕ) → n < 10000 → length (madeName (Lambda n)) < 20
 unfolding madeName lambdaName
 lambda-short n h = let a = four-digits n h in omega (arith, three-length (ascii "<lambda#") (decimal n) (ascii ">"))
@@ -177,15 +173,3 @@ lambda-short n h = let a = four-digits n h in omega (arith, three-length (ascii 
 pub main-short : length (madeName Main) < 20
 unfolding madeName
 main-short = lit< tt
-
-pub iter-short : length (madeName Iter) < 20
-unfolding madeName
-iter-short = lit< tt
-
-pub has-next-short : length (madeName HasNext) < 20
-unfolding madeName
-has-next-short = lit< tt
-
-pub next-short : length (madeName Next) < 20
-unfolding madeName
-next-short = lit< tt

@@ -1,5 +1,5 @@
 -- Names and strings as parts of bytes, and how two are compared.
-use Prim.Native.Nat.{ℕ, zero, suc, _+_, _*_, _-_, _≤_, _<_, _^_}
+use Prim.Native.Nat.{ℕ, suc, _+_, _*_, _-_, _≤_, _<_}
 use mathlib.Core.Path.{_≡_, refl, sym, ap, _∙_}
 use mathlib.Core.Bool.{Bool, true, false, _&&_}
 use mathlib.Core.List.{List, [], _∷_}
@@ -9,10 +9,11 @@ use native.Mathlib.Numerals.{add-one}
 use lib.Dec.{eqb}
 use lib.ListN.{length, take, drop, getD, length-drop, drop-of-length-le}
 use lib.Seq.{take-nil, take-all, drop-cons}
-use borrow.Author.Tests.{lt-ltb, le-ltb, eq-eqb, ne-eqb}
+use borrow.Author.Tests.{lt-ltb, le-ltb, le-leb, lt-leb, eq-eqb, ne-eqb}
 use Rattle.definitions.specs.Bytes.{same}
 use Rattle.state.specs.Words.{numberAt, nameAt, textAt}
 use Rattle.state.specs.State.{spelled}
+use Rattle.names.specs.Parts.{beginAt, Points, Spells}
 
 -- ---- parts
 
@@ -54,6 +55,28 @@ spelled-tree tree made w h = rw (lt-ltb w 32768 h, spelled)
 pub spelled-made : (tree made : List ℕ) (w : ℕ) → 32768 ≤ w → nameAt made (w - 32768) ≡ spelled tree made w
 unfolding spelled
 spelled-made tree made w h = rw (le-ltb w 32768 h, spelled)
+
+-- ---- where a part begins
+
+pub begin-past : (t : List ℕ) (p : ℕ) → length t < p → 0 ≡ beginAt t p
+unfolding beginAt
+begin-past t p h = rw (lt-leb p (length t) h, beginAt)
+
+pub begin-here : (t : List ℕ) (p : ℕ) → p ≤ length t → p ≡ beginAt t p
+unfolding beginAt
+begin-here t p h = rw (le-leb p (length t) h, beginAt)
+
+pub points-start : (r s : ℕ × ℕ) (t : List ℕ) (p : ℕ) → r .0 ≡ s .0 → r .1 ≡ s .1 + 0 → length t < p → Points r s (beginAt t p)
+points-start r s t p e f h = record { block = e; offset = let b = begin-past t p h in omega arith }
+
+pub points-part : (r s : ℕ × ℕ) (t : List ℕ) (p : ℕ) → r .0 ≡ s .0 → r .1 ≡ s .1 + p → p ≤ length t → Points r s (beginAt t p)
+points-part r s t p e f h = record { block = e; offset = let b = begin-here t p h in omega arith }
+
+pub spells-tree : (r tree made : ℕ × ℕ) (t m : List ℕ) (w : ℕ) → w < 32768 → Points r tree (beginAt t (w + 1)) → Spells r tree made t m w
+spells-tree r tree made t m w h p = record { first = λ k. p; later = λ k. absurd (omega arith) }
+
+pub spells-made : (r tree made : ℕ × ℕ) (t m : List ℕ) (w : ℕ) → 32768 ≤ w → Points r made (beginAt m (w - 32768 + 1)) → Spells r tree made t m w
+spells-made r tree made t m w h p = record { first = λ k. absurd (omega arith); later = λ k. p }
 
 -- ---- equal bytes
 

@@ -1,21 +1,17 @@
 -- A name found by an index: sought among the words from the number in its bucket on.
-use Prim.Native.Nat.{ℕ, _+_, _-_, _%_, _≤_, _<_}
-use mathlib.Core.Path.{_≡_, refl, sym, ap, subst, _∙_}
+use Prim.Native.Nat.{ℕ, _+_, _-_, _%_, _≤_}
+use mathlib.Core.Path.{_≡_, sym, ap, _∙_}
 use mathlib.Core.List.{List, map}
 use native.Mathlib.Omega.{arith}
-use native.Mathlib.Nat.{le-refl}
-use lib.ListN.{length, take, drop, getD, length-map, length-drop}
-use lib.Seq.{drop-drop, length-take-le}
-use borrow.Rule.Slice.PartMut.{putMid, same-len-mid}
+use lib.ListN.{length, take, drop, getD, length-map}
 use Rattle.definitions.specs.Bytes.{Name, same, position}
 use Rattle.state.specs.Words.{region}
-use Rattle.state.specs.Index.{hashOf, bucketOf, Covered, startOf, noted}
+use Rattle.state.specs.Index.{hashOf, bucketOf, Covered, startOf}
 use Rattle.state.specs.State.{foundOr}
 use Rattle.state.proofs.Index.{foundIn, found-from, start-le}
-use Rattle.state.proofs.Regions.{region-length, region-rest, put-here, put-below, put-above}
-use Rattle.code.proofs.Setting.{map-drop}
+use Rattle.state.proofs.Regions.{region-length, region-rest}
+use Rattle.lower_emit.proofs.Setting.{map-drop}
 use Rattle.names.proofs.Finding.{found-le}
-use Rattle.names.proofs.Numbering.{Renewed}
 
 pub bucket-is : (size : ℕ) (x y : Name) (h : ℕ) → h ≡ hashOf y → y ≡ x → h % size ≡ bucketOf size x
 unfolding bucketOf
@@ -54,12 +50,3 @@ module _ (f : ℕ → Name) (ts buckets : List ℕ) (size a n : ℕ) (x : Name) 
 
   pub indexed-le : s + r ≤ n
   indexed-le = let h = found-le (same x) (map f (region a n ts)) in omega (arith, all-found, count)
-
--- a part that came back
-pub renewed-put : (a n : ℕ) (xs ys zs : List ℕ) → a + n ≤ length xs → length ys ≡ n → ys ≡ zs → Renewed a n xs (putMid a n xs ys) zs
-renewed-put a n xs ys zs inside same e = record {
-  size = same-len-mid a n xs ys (same ∙ sym (length-take-le n (drop a xs) (simp length-drop (omega arith))));
-  here = put-here a n xs ys inside same ∙ e;
-  below = put-below a n xs ys inside same;
-  above = put-above a n xs ys inside same;
-}

@@ -1,4 +1,3 @@
 pub mod Made
-pub mod Variable
-pub mod Calls
 pub mod Sought
+pub mod Parts

@@ -1,5 +1,5 @@
 -- Names that the lowering makes: their bytes, and how they stand among the made bytes.
-use Prim.Native.Nat.{ℕ, _+_, _<_}
+use Prim.Native.Nat.{ℕ, _+_}
 use mathlib.Core.Path.{_≡_}
 use mathlib.Core.List.{List, _++_}
 use lib.ListN.{length, take, drop, getD}

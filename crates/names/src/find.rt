@@ -4,15 +4,15 @@ use crate::spell::same_bytes;
 use crate::spell::text_part;
 ghost use mathlib.Core.Path.{_≡_};
 ghost use mathlib.Core.List.{map};
-ghost use Prim.Native.Nat.{_+_, _/_, _^_, _≤_};
+ghost use Prim.Native.Nat.{_/_, _^_};
 ghost use lib.Dec.{eqb};
 ghost use lib.ListN.{length};
 ghost use Rattle.definitions.specs.Bytes.{same, position};
-ghost use Rattle.state.specs.Words.{region, nameAt, textAt};
-ghost use Rattle.state.specs.State.{spelled, namesAt, stringsFrom, foundOr};
+ghost use Rattle.state.specs.Words.{textAt};
+ghost use Rattle.state.specs.State.{spelled, namesAt, foundOr};
 
 // Whether the symbol of a word is spelled so.
-pub fn is_spelled(tree: &[u8], made: &[u8], w: u32, name: &[u8]) -> bool
+pub(crate) fn is_spelled(tree: &[u8], made: &[u8], w: u32, name: &[u8]) -> bool
     ensures { λ r. ⌜ r ≡ same (now (name .entry)) (spelled (now (tree .entry)) (now (made .entry)) w) ⌝ }
 {
     if w < 32768 {

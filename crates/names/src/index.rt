@@ -1,9 +1,9 @@
 // An index of names: by a hash of its bytes, where a name is sought among others.
 use crate::find::find_place;
 ghost use mathlib.Core.Path.{_≡_};
-ghost use Prim.Native.Nat.{_+_, _≤_, _<_, _^_};
+ghost use Prim.Native.Nat.{_+_, _≤_, _<_};
 ghost use lib.ListN.{length, getD};
-ghost use Rattle.state.specs.Index.{hashOf, bucketOf, startOf, noted};
+ghost use Rattle.state.specs.Index.{hashOf, bucketOf, startOf};
 ghost use Rattle.state.specs.State.{slotsFrom, namesAt};
 ghost use Rattle.names.specs.Sought.{soughtFrom};
 
@@ -62,13 +62,4 @@ pub fn first_number(buckets: &[u32], b: u32, n: u32) -> u32
         return n;
     }
     k - 1
-}
-
-// The name of number n has the bucket b.
-pub fn note(buckets: &mut [u32], b: u32, n: u32)
-    requires { ⌜ (b < length (now buckets)) × (n < 2 ^ 31) ⌝ }
-    ensures { λ _. ⌜ now (buckets .exit) ≡ noted (now (buckets .entry)) b n ⌝ }
-{
-    let first = first_number(buckets, b, n);
-    buckets[b as usize] = first + 1;
 }

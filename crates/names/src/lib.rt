@@ -17,10 +17,3 @@ pub enum Made {
     Iterator(u32),
     Lambda(u32),
 }
-
-// What a call by name calls: a built-in by its id, a function by its number, or a loaded value.
-pub enum Callee {
-    Builtin(u32),
-    Function(u32),
-    Value,
-}

@@ -1,15 +1,10 @@
 // Names that the lowering makes: each with its length before it, at the free end of the made bytes.
 use crate::Made;
-use crate::number::intern;
-use state::Counts;
-use state::Limits;
-use state::Numbered;
 ghost use mathlib.Core.Path.{_≡_};
 ghost use mathlib.Core.List.{_++_};
 ghost use Prim.Native.Nat.{_+_, _≤_, _<_};
 ghost use lib.ListN.{length};
 ghost use Rattle.definitions.specs.Bytes.{decimal};
-ghost use Rattle.state.specs.State.{stateOf, Sound, Numbers, symbolNumber, withSymbol, withTables};
 ghost use Rattle.names.specs.Made.{madeName, pasted, Stands};
 
 // The bytes `part` from `at` on, and where they end.
@@ -75,25 +70,4 @@ pub fn write_made(bytes: &mut [u8], at: usize, m: Made) -> u32
     let n = end - from;
     bytes[at] = n as u8;
     1 + n as u32
-}
-
-// The number of the symbol with a made name.
-pub fn intern_made(
-    tree: &[u8],
-    made: &mut [u8],
-    code: &[u32],
-    tables: &mut [u32],
-    m: Made,
-    c: Counts,
-    l: Limits,
-) -> Numbered
-    requires { ⌜ Sound (now tree) (now made) (now code) (now tables) c l × (length (madeName m) < 20) ⌝ }
-    ensures { λ r. ⌜ Numbers r (now (tree .entry)) (now (made .exit)) (now (code .entry)) (now (tables .exit)) c l
-        (symbolNumber (madeName m) (stateOf (now (tree .entry)) (now (made .entry)) (now (code .entry)) (now (tables .entry)) c .tables))
-        (withTables (withSymbol (madeName m) (stateOf (now (tree .entry)) (now (made .entry)) (now (code .entry)) (now (tables .entry)) c .tables))
-        (stateOf (now (tree .entry)) (now (made .entry)) (now (code .entry)) (now (tables .entry)) c)) ⌝ }
-{
-    let at = c.made;
-    let grow = write_made(made, at as usize, m);
-    intern(tree, made, code, tables, 32768 + at, grow, c, l)
 }

@@ -1,10 +1,12 @@
 // Names and strings as parts of the slices that hold them.
 ghost use mathlib.Core.Path.{_≡_};
-ghost use Prim.Native.Nat.{_<_, _^_};
+ghost use Prim.Native.Nat.{_+_, _<_, _^_};
+ghost use denote.Ref.{ptr};
 ghost use lib.ListN.{take, drop, getD};
 ghost use Rattle.definitions.specs.Bytes.{same};
 ghost use Rattle.state.specs.Words.{numberAt, nameAt, textAt};
 ghost use Rattle.state.specs.State.{spelled};
+ghost use Rattle.names.specs.Parts.{beginAt, Points, Spells};
 
 // The byte at `at`, 0 past the end.
 pub fn byte(bytes: &[u8], at: usize) -> u8
@@ -16,6 +18,7 @@ pub fn byte(bytes: &[u8], at: usize) -> u8
 // n bytes from `from` on, cut at the end.
 pub fn part<'a>(bytes: &'a [u8], from: usize, n: usize) -> &'a [u8]
     ensures { λ r. ⌜ now r ≡ take n (drop from (now (bytes .entry))) ⌝ }
+    ensures begins { λ r. ⌜ Points (ptr r) (ptr (bytes .entry)) (beginAt (now (bytes .entry)) from) ⌝ }
 {
     if bytes.len() < from {
         return &bytes[0..0];
@@ -30,6 +33,7 @@ pub fn part<'a>(bytes: &'a [u8], from: usize, n: usize) -> &'a [u8]
 // The name whose length byte is at `at`: empty past the end, cut at the end.
 pub fn name_part<'a>(bytes: &'a [u8], at: usize) -> &'a [u8]
     ensures { λ r. ⌜ now r ≡ nameAt (now (bytes .entry)) at ⌝ }
+    ensures begins { λ r. ⌜ Points (ptr r) (ptr (bytes .entry)) (beginAt (now (bytes .entry)) (at + 1)) ⌝ }
 {
     if bytes.len() <= at {
         return &bytes[0..0];
@@ -39,7 +43,7 @@ pub fn name_part<'a>(bytes: &'a [u8], at: usize) -> &'a [u8]
 }
 
 // The count of two bytes at `at`, 0 for those past the end.
-pub fn count_at(bytes: &[u8], at: usize) -> usize
+pub(crate) fn count_at(bytes: &[u8], at: usize) -> usize
     requires { ⌜ at < 2 ^ 63 ⌝ }
     ensures { λ r. ⌜ (r ≡ numberAt 2 (now (bytes .entry)) at) × (r < 65536) ⌝ }
 {
@@ -51,6 +55,7 @@ pub fn count_at(bytes: &[u8], at: usize) -> usize
 // The string whose count is at `at`.
 pub fn text_part<'a>(bytes: &'a [u8], at: usize) -> &'a [u8]
     ensures { λ r. ⌜ now r ≡ textAt (now (bytes .entry)) at ⌝ }
+    ensures begins { λ r. ⌜ Points (ptr r) (ptr (bytes .entry)) (beginAt (now (bytes .entry)) (at + 2)) ⌝ }
 {
     if bytes.len() <= at {
         return &bytes[0..0];
@@ -62,6 +67,7 @@ pub fn text_part<'a>(bytes: &'a [u8], at: usize) -> &'a [u8]
 // A symbol's spelling: a part of the tree or of the made names, by where it was first made.
 pub fn spelling<'a>(tree: &'a [u8], made: &'a [u8], w: u32) -> &'a [u8]
     ensures { λ r. ⌜ now r ≡ spelled (now (tree .entry)) (now (made .entry)) w ⌝ }
+    ensures begins { λ r. ⌜ Spells (ptr r) (ptr (tree .entry)) (ptr (made .entry)) (now (tree .entry)) (now (made .entry)) w ⌝ }
 {
     if w < 32768 {
         return name_part(tree, w as usize);

@@ -1,12 +1,13 @@
-// Names: a length byte and its bytes (7).
+// Names: a length byte and its bytes (7, 33).
 use crate::Passed;
 use crate::questions::noted;
 ghost use mathlib.Core.Path.{_≡_};
 ghost use mathlib.Core.Bool.{_||_};
-ghost use Prim.Native.Nat.{_≤_};
+ghost use Prim.Native.Nat.{_+_, _≤_};
+ghost use denote.Ref.{ptr};
 ghost use lib.ListN.{length};
-ghost use Rattle.definitions.specs.Bytes.{same};
-ghost use Rattle.definitions.specs.Wellformed.{letter, digit, isName};
+ghost use Rattle.definitions.specs.Bytes.{all, same};
+ghost use Rattle.definitions.specs.Wellformed.{letter, digit, isName, isIterator};
 ghost use Rattle.parts.specs.Judge.{judgeName};
 ghost use Rattle.parts.specs.Places.{nameBytes, nameEnd, There};
 
@@ -82,6 +83,40 @@ pub fn same_bytes(a: &[u8], b: &[u8]) -> bool
     true
 }
 
+// Whether each byte is a digit.
+fn are_digits(bytes: &[u8]) -> bool
+    ensures { λ r. ⌜ r ≡ all digit (now (bytes .entry)) ⌝ }
+{
+    let mut i = 0;
+    while i < bytes.len() {
+        if bytes[i] < 48 {
+            return false;
+        }
+        if 57 < bytes[i] {
+            return false;
+        }
+        i += 1;
+    }
+    true
+}
+
+// 33: whether the bytes are the name of a loop's iterator: its beginning, a digit or more, its end.
+fn is_iterator(bytes: &[u8]) -> bool
+    ensures { λ r. ⌜ r ≡ isIterator (now (bytes .entry)) ⌝ }
+{
+    if bytes.len() < 14 {
+        return false;
+    }
+    if !same_bytes(&bytes[0..11], b"__for_iter_") {
+        return false;
+    }
+    let end = bytes.len() - 2;
+    if !are_digits(&bytes[11..end]) {
+        return false;
+    }
+    same_bytes(&bytes[end..bytes.len()], b"__")
+}
+
 // A name.
 pub fn check_name(tree: &[u8], at: usize, stand: u32) -> Passed
     requires { ⌜ at ≤ length (now tree) ⌝ }
@@ -96,14 +131,16 @@ pub fn check_name(tree: &[u8], at: usize, stand: u32) -> Passed
         return Passed::Refused(5);
     }
     let end = from + n;
+    let ours = is_iterator(&tree[from..end]);
     let ok = is_name(&tree[from..end]);
-    Passed::Next(end, noted(stand, 7, ok))
+    Passed::Next(end, noted(noted(stand, 33, !ours), 7, ok))
 }
 
 // The bytes of the name at `at`.
 pub fn name_part<'a>(tree: &'a [u8], at: usize) -> &'a [u8]
     requires { ⌜ There (now tree) at ⌝ }
     ensures { λ r. ⌜ now r ≡ nameBytes (now (tree .entry)) at ⌝ }
+    ensures begins { λ r. ⌜ (ptr r .0 ≡ ptr (tree .entry) .0) × (ptr r .1 ≡ ptr (tree .entry) .1 + (at + 1)) ⌝ }
 {
     let from = at + 1;
     let end = from + tree[at] as usize;

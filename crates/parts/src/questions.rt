@@ -2,49 +2,52 @@
 use crate::Role;
 ghost use mathlib.Core.Path.{_≡_};
 ghost use mathlib.Core.Option.{some};
-ghost use Prim.Native.Nat.{_≤_, _<_};
+ghost use mathlib.Core.Bool.{true};
+ghost use Prim.Native.Nat.{_<_};
 ghost use lib.ListN.{getElem?};
 ghost use Rattle.definitions.specs.Wellformed.{ifAsked, blockQuestions};
-ghost use Rattle.parts.specs.Judge.{Placed, least, fits, suited, inner};
+ghost use Rattle.parts.specs.Judge.{isQuestion, Placed, least, fits, suited, inner};
 
 // How many questions are asked of a block.
-pub const QUESTIONS: u32 = 7;
+pub const QUESTIONS: u32 = 8;
 
 // The place of a question in the order in which they are asked.
 fn place_of(question: u32) -> u32
-    requires { ⌜ (7 ≤ question) × (question ≤ 13) ⌝ }
+    requires { ⌜ isQuestion question ≡ true ⌝ }
     ensures { λ r. ⌜ Placed question blockQuestions r ⌝ }
 {
     match question {
         7 => 0,
-        8 => 1,
-        9 => 2,
-        10 => 3,
-        11 => 4,
-        12 => 5,
-        _ => 6,
+        33 => 1,
+        8 => 2,
+        9 => 3,
+        10 => 4,
+        11 => 5,
+        12 => 6,
+        _ => 7,
     }
 }
 
 // The question of a place.
 pub fn question_at(place: u32) -> u32
-    requires { ⌜ place < 7 ⌝ }
+    requires { ⌜ place < 8 ⌝ }
     ensures { λ r. ⌜ getElem? blockQuestions place ≡ some r ⌝ }
 {
     match place {
         0 => 7,
-        1 => 8,
-        2 => 9,
-        3 => 10,
-        4 => 11,
-        5 => 12,
+        1 => 33,
+        2 => 8,
+        3 => 9,
+        4 => 10,
+        5 => 11,
+        6 => 12,
         _ => 13,
     }
 }
 
 // How many questions stand after `question` was answered `ok`.
 pub fn noted(stand: u32, question: u32, ok: bool) -> u32
-    requires { ⌜ (7 ≤ question) × (question ≤ 13) ⌝ }
+    requires { ⌜ isQuestion question ≡ true ⌝ }
     ensures { λ r. ⌜ r ≡ least stand (λ q. ifAsked question q ok) ⌝ }
 {
     if ok {

@@ -1,28 +1,14 @@
-// Strings: a count and its bytes (8).
+// Strings: a count and its bytes, well-formed UTF-8 (8).
 use crate::Number;
 use crate::Passed;
 use crate::numbers::number_at;
 use crate::questions::noted;
+use utf8::is_utf8;
 ghost use mathlib.Core.Path.{_≡_};
 ghost use Prim.Native.Nat.{_≤_};
 ghost use lib.ListN.{length};
 ghost use Rattle.definitions.specs.Bytes.{text};
-ghost use Rattle.definitions.specs.Wellformed.{isAscii};
 ghost use Rattle.parts.specs.Judge.{judged, askText};
-
-// 8: whether each byte is below 128.
-fn is_ascii(bytes: &[u8]) -> bool
-    ensures { λ r. ⌜ r ≡ isAscii (now (bytes .entry)) ⌝ }
-{
-    let mut i = 0;
-    while i < bytes.len() {
-        if 128 <= bytes[i] {
-            return false;
-        }
-        i += 1;
-    }
-    true
-}
 
 // A string's count and bytes.
 pub fn check_string(tree: &[u8], at: usize, stand: u32) -> Passed
@@ -38,7 +24,7 @@ pub fn check_string(tree: &[u8], at: usize, stand: u32) -> Passed
                 return Passed::Refused(5);
             }
             let end = from + len;
-            let ok = is_ascii(&tree[from..end]);
+            let ok = is_utf8(&tree[from..end]);
             Passed::Next(end, noted(stand, 8, ok))
         }
     }

@@ -32,7 +32,7 @@ fn ask_constant(bytes: &[u8], at: usize, question: u8, c: Counts) -> Skipped
 }
 
 // A question of the counted constants at `at`.
-pub fn ask_constants(bytes: &[u8], at: usize, question: u8, c: Counts) -> Skipped
+pub(crate) fn ask_constants(bytes: &[u8], at: usize, question: u8, c: Counts) -> Skipped
     requires { ⌜ at ≤ length (now bytes) ⌝ }
     ensures { λ r. ⌜ r ≡ skipAt (checked (all (askConstant question c)) (listOf 2 (field 2))) (now (bytes .entry)) at ⌝ }
 {
@@ -121,7 +121,7 @@ fn ask_class(bytes: &[u8], at: usize, question: u8, c: Counts) -> Skipped
 }
 
 // A question of the counted classes at `at`.
-pub fn ask_classes(bytes: &[u8], at: usize, question: u8, c: Counts) -> Skipped
+pub(crate) fn ask_classes(bytes: &[u8], at: usize, question: u8, c: Counts) -> Skipped
     requires { ⌜ at ≤ length (now bytes) ⌝ }
     ensures { λ r. ⌜ r ≡ skipAt (checked (all (askClass question c)) (listOf 2 classRecord)) (now (bytes .entry)) at ⌝ }
 {

@@ -38,7 +38,7 @@ fn ask_code(bytes: &[u8], at: usize, question: u8, c: Counts, n: u64, slots: u64
 }
 
 // A question of the function at `at`.
-pub fn ask_function(bytes: &[u8], at: usize, question: u8, c: Counts) -> Skipped
+pub(crate) fn ask_function(bytes: &[u8], at: usize, question: u8, c: Counts) -> Skipped
     requires { ⌜ at ≤ length (now bytes) ⌝ }
     ensures { λ r. ⌜ r ≡ skipAt (checked (askFunction question c) functionRecord) (now (bytes .entry)) at ⌝ }
 {
@@ -56,7 +56,7 @@ pub fn ask_function(bytes: &[u8], at: usize, question: u8, c: Counts) -> Skipped
 }
 
 // A question of the counted functions at `at`.
-pub fn ask_functions(bytes: &[u8], at: usize, question: u8, c: Counts) -> Skipped
+pub(crate) fn ask_functions(bytes: &[u8], at: usize, question: u8, c: Counts) -> Skipped
     requires { ⌜ at ≤ length (now bytes) ⌝ }
     ensures { λ r. ⌜ r ≡ skipAt (checked (all (askFunction question c)) (listOf 2 functionRecord)) (now (bytes .entry)) at ⌝ }
 {

@@ -15,7 +15,7 @@ ghost use Prim.Native.Nat.{_≤_};
 ghost use lib.ListN.{length, drop};
 ghost use Rattle.definitions.specs.Reader.{moduleRecord, wholeModule};
 ghost use Rattle.reader.specs.Asks.{countsOf};
-ghost use Rattle.reader.specs.View.{Lays, LaidOut, tablesOf, Heads, verdict, Opens};
+ghost use Rattle.reader.specs.View.{Lays, LaidOut, tablesOf, Heads, said, bare, Opens};
 
 // Question 19, of what follows the head.
 fn lay(bytes: &[u8]) -> Laid
@@ -78,7 +78,7 @@ fn counts_of(bytes: &[u8], a: usize, b: usize, c: usize, d: usize) -> Counts
 // Questions 20 and 21, of a module that follows the layout.
 fn judge(bytes: &[u8], a: usize, b: usize, c: usize, d: usize) -> Verdict
     requires { ⌜ LaidOut (now bytes) a b c d ⌝ }
-    ensures { λ r. ⌜ r ≡ verdict (wholeModule (moduleRecord (drop 5 (now (bytes .entry))))) ⌝ }
+    ensures { λ r. ⌜ said r ≡ bare (wholeModule (moduleRecord (drop 5 (now (bytes .entry))))) ⌝ }
 {
     let counts = counts_of(bytes, a, b, c, d);
     let functions = ask_functions(bytes, b, 20, counts);

@@ -2,6 +2,7 @@
 use crate::Skipped;
 use crate::numbers::number_at;
 use crate::numbers::skip_bytes;
+use utf8::is_utf8;
 ghost use mathlib.Core.Path.{_≡_};
 ghost use Prim.Native.Nat.{_≤_};
 ghost use lib.ListN.{length};
@@ -9,7 +10,7 @@ ghost use Rattle.definitions.specs.Bytes.{name, text, listOf, checked, below};
 ghost use Rattle.definitions.specs.Wellformed.{letter, isName};
 ghost use lib.Seq.{slice};
 ghost use Rattle.reader.specs.Asks.{inName};
-ghost use Rattle.reader.specs.View.{skipAt};
+ghost use Rattle.reader.specs.View.{skipAt, string};
 
 // A name: a length byte and as many bytes.
 fn skip_name(bytes: &[u8], at: usize) -> Skipped
@@ -23,8 +24,8 @@ fn skip_name(bytes: &[u8], at: usize) -> Skipped
     skip_bytes(bytes, at + 1, n as usize)
 }
 
-// A string: its count and as many bytes.
-fn skip_string(bytes: &[u8], at: usize) -> Skipped
+// A count and as many bytes.
+fn skip_text(bytes: &[u8], at: usize) -> Skipped
     requires { ⌜ at ≤ length (now bytes) ⌝ }
     ensures { λ r. ⌜ r ≡ skipAt text (now (bytes .entry)) at ⌝ }
 {
@@ -35,8 +36,24 @@ fn skip_string(bytes: &[u8], at: usize) -> Skipped
     skip_bytes(bytes, at + 2, n as usize)
 }
 
+// A string: a text that is well-formed UTF-8.
+fn skip_string(bytes: &[u8], at: usize) -> Skipped
+    requires { ⌜ at ≤ length (now bytes) ⌝ }
+    ensures { λ r. ⌜ r ≡ skipAt string (now (bytes .entry)) at ⌝ }
+{
+    let one = skip_text(bytes, at);
+    let Skipped::Next(next) = one else {
+        return Skipped::Cut;
+    };
+    if is_utf8(&bytes[at + 2..next]) {
+        Skipped::Next(next)
+    } else {
+        Skipped::Cut
+    }
+}
+
 // The counted symbols at `at`.
-pub fn skip_symbols(bytes: &[u8], at: usize) -> Skipped
+pub(crate) fn skip_symbols(bytes: &[u8], at: usize) -> Skipped
     requires { ⌜ at ≤ length (now bytes) ⌝ }
     ensures { λ r. ⌜ r ≡ skipAt (listOf 2 name) (now (bytes .entry)) at ⌝ }
 {
@@ -57,9 +74,9 @@ pub fn skip_symbols(bytes: &[u8], at: usize) -> Skipped
 }
 
 // The counted strings at `at`.
-pub fn skip_strings(bytes: &[u8], at: usize) -> Skipped
+pub(crate) fn skip_strings(bytes: &[u8], at: usize) -> Skipped
     requires { ⌜ at ≤ length (now bytes) ⌝ }
-    ensures { λ r. ⌜ r ≡ skipAt (listOf 2 text) (now (bytes .entry)) at ⌝ }
+    ensures { λ r. ⌜ r ≡ skipAt (listOf 2 string) (now (bytes .entry)) at ⌝ }
 {
     if bytes.len() - at < 2 {
         return Skipped::Cut;
@@ -135,7 +152,7 @@ fn is_name(bytes: &[u8], from: usize, to: usize) -> bool
 }
 
 // A well formed name.
-pub fn skip_proper(bytes: &[u8], at: usize) -> Skipped
+pub(crate) fn skip_proper(bytes: &[u8], at: usize) -> Skipped
     requires { ⌜ at ≤ length (now bytes) ⌝ }
     ensures { λ r. ⌜ r ≡ skipAt (checked isName name) (now (bytes .entry)) at ⌝ }
 {
@@ -151,7 +168,7 @@ pub fn skip_proper(bytes: &[u8], at: usize) -> Skipped
 }
 
 // The first part's name comes before the second's.
-pub fn name_below(bytes: &[u8], from: usize, to: usize, from2: usize, to2: usize) -> bool
+pub(crate) fn name_below(bytes: &[u8], from: usize, to: usize, from2: usize, to2: usize) -> bool
     requires { ⌜ (from ≤ to) × (to ≤ length (now bytes)) × (from2 ≤ to2) × (to2 ≤ length (now bytes)) ⌝ }
     ensures { λ r. ⌜ r ≡ below (slice from to (now (bytes .entry))) (slice from2 to2 (now (bytes .entry))) ⌝ }
 {

@@ -39,7 +39,7 @@ pub fn number_at(bytes: &[u8], at: usize, width: usize) -> u64
 }
 
 // n bytes at `at`.
-pub fn skip_bytes(bytes: &[u8], at: usize, n: usize) -> Skipped
+pub(crate) fn skip_bytes(bytes: &[u8], at: usize, n: usize) -> Skipped
     requires { ⌜ at ≤ length (now bytes) ⌝ }
     ensures { λ r. ⌜ r ≡ skipAt (counted [] _∷_ byte n) (now (bytes .entry)) at ⌝ }
 {

@@ -94,7 +94,15 @@ fn op_stands(n: u64, place: u64, op: u8, a: u64) -> bool
 }
 
 // A question of one instruction: its opcode and first operand, at a place of a function of n instructions.
-pub fn ask_op(question: u8, c: Counts, n: u64, slots: u64, place: u64, op: u8, a: u64) -> bool
+pub(crate) fn ask_op(
+    question: u8,
+    c: Counts,
+    n: u64,
+    slots: u64,
+    place: u64,
+    op: u8,
+    a: u64,
+) -> bool
     requires { ⌜ (place < 4294967296) × (op < 46) ⌝ }
     ensures { λ r. ⌜ r ≡ askOp question c n slots place op a ⌝ }
 {
@@ -108,7 +116,7 @@ pub fn ask_op(question: u8, c: Counts, n: u64, slots: u64, place: u64, op: u8, a
 }
 
 // A question of a function's name and count of instructions.
-pub fn ask_head(question: u8, c: Counts, name: u64, n: u64) -> bool
+pub(crate) fn ask_head(question: u8, c: Counts, name: u64, n: u64) -> bool
     ensures { λ r. ⌜ r ≡ askHead question c name n ⌝ }
 {
     if question == 20 {

@@ -40,8 +40,8 @@ fn find_function(bytes: &[u8], at: usize, end: usize, f: u64) -> Place
     Place::Function(p)
 }
 
-// Where the code of the function f is, of the counted functions from `at` to `end`.
-pub fn locate_in(bytes: &[u8], a: usize, b: usize, c: usize, d: usize, f: u64) -> Located
+// Where the code of the function f is, in a module whose strings, functions, classes and constants begin at a, b, c and d.
+pub(crate) fn locate_in(bytes: &[u8], a: usize, b: usize, c: usize, d: usize, f: u64) -> Located
     requires { ⌜ Ready (now bytes) a b c d ⌝ }
     ensures { λ r. ⌜ Locates r (now (bytes .entry)) f ⌝ }
 {

@@ -14,7 +14,7 @@ use Rattle.definitions.specs.Instruction.{Instr}
 use Rattle.definitions.specs.Tables.{Tables}
 use Rattle.definitions.specs.Reader.{instruction, moduleRecord, wholeModule, readModule, endsInReturn, jumpsLand}
 use Rattle.definitions.specs.Run.{Ran, ended, after, run}
-use Rattle.definitions.specs.Calls.{functionOf, areAnswers, eventsFit, runFunction, runAnswer, ranCounts, runCall, outputAfter, written}
+use Rattle.definitions.specs.Calls.{Counts, functionOf, areAnswers, eventsFit, runFunction, runAnswer, ranCounts, ranCall, runCall, outputAfter, written}
 use Rattle.reader.specs.View.{Got, functionIn, CodeAt, instructionsOf}
 use Rattle.reader.proofs.Encoding.{Small}
 use Rattle.reader.proofs.Iterated.{code-is, reads-code, bytes-are}
@@ -23,7 +23,7 @@ use Rattle.run.specs.declared.Outcome.the-variants.{Finished, Refused}
 use Rattle.run.specs.declared.Stand.{Stand}
 use Rattle.run.specs.declared.Passed.{Passed}
 use Rattle.run.specs.declared.Passed.the-variants.{Ended, TooMany}
-use Rattle.run.specs.Pass.{outcome, ranCall, Called, Coded, Leads, Ending, Passes, start}
+use Rattle.run.specs.Pass.{said, Called, Coded, Leads, Ending, Passes, start}
 use Rattle.run.proofs.Storing.{copied-written}
 use Rattle.definitions.proofs.Begins.{Rest, Takes, takes-counted, takes-instruction}
 
@@ -44,6 +44,19 @@ pub answers-end : (xs : List ℕ) (i : ℕ) → length xs ≤ i → areAnswers (
 unfolding areAnswers all
 answers-end xs i h = ap areAnswers (drop-of-length-le xs h)
 
+-- ---- what an outcome says
+
+pub says-refused : (o : Outcome) (q : ℕ) → said o ≡ refused q → o ≡ Refused q
+unfolding said
+says-refused (Refused p) q e = let z : p ≡ q = cc in ap Refused z
+says-refused (Finished e s u b) q f = let z : _≡_ {A = ℕ} 0 1 = cc in absurd (omega arith)
+
+pub says-finished : (o : Outcome) (n : Counts) → said o ≡ accepted n → o ≡ Finished (n .ending) (n .steps) (n .used) (n .bytes)
+unfolding said
+says-finished (Refused p) n e = let z : _≡_ {A = ℕ} 0 1 = cc in absurd (omega arith)
+says-finished (Finished e s u b) n f =
+    let k : record { ending = e; steps = s; used = u; bytes = b } ≡ n = cc in λ i. Finished (k i .ending) (k i .steps) (k i .used) (k i .bytes)
+
 -- ---- measured, then written
 
 fitted : (before : List ℕ) (v : Ran) (b : Bool) → leb (length (v .events)) (length before) ≡ b → eventsFit (length before) v ≡ (elim b as (λ z. Answer Ran) [ true ↦ accepted v | false ↦ refused 24 ])
@@ -54,7 +67,7 @@ called : (a : Answer Ran) (want : Answer Ran) (before : List ℕ) (r : Outcome) 
 called a want before r left e c = subst (λ (x : Answer Ran). Called r (ranCall x before) left) (sym e) c
 
 refuses : (q : ℕ) (want : Answer Ran) (before left : List ℕ) → want ≡ refused q → left ≡ before → Called (Refused q) (ranCall want before) left
-unfolding ranCall outcome whenAccepted outputAfter
+unfolding ranCall said whenAccepted outputAfter
 refuses q want before left e f = called (refused q) want before (Refused q) left e (record { says = refl; leaves = f })
 
 pub measured-full : (r : Passed) (v : Ran) (room : ℕ) (before left : List ℕ) → Passes r v room before left → r ≡ TooMany → room < length (v .events)
@@ -87,14 +100,14 @@ measured-fits r v room before left e u h k =
 
 pub ended-called : (r : Passed) (v : Ran) (before mid left : List ℕ) (e : ℕ) (u : Stand) → mid ≡ before → Passes r v (length before) mid left → r ≡ Ended e u
     → Called (Finished e (u .steps) (u .used) (u .written)) (ranCall (eventsFit (length before) v) before) left
-unfolding Passes ranCall outcome whenAccepted ranCounts outputAfter
+unfolding Passes ranCall said whenAccepted ranCounts outputAfter
 ended-called r v before mid left e u m h k =
     let g : Ending v e (length before) start u before left = subst (λ (x : List ℕ). Ending v e (length before) start u x left) m (subst (λ (x : Passed). Passes x v (length before) mid left) k h) in
     let n = ending-is v e (length before) u before left g in
     let f = g .fits in let w = n .4 in let l = ap length (n .3) in
     called (accepted v) (eventsFit (length before) v) before (Finished e (u .steps) (u .used) (u .written)) left (fitted before v true (le-leb (length (v .events)) (length before) (omega arith)))
     (record {
-      says = (let e1 = sym (n .0) in let e2 = sym (n .1) in let e3 = sym (n .2) in let e4 = sym (n .4) in λ z. Finished (e1 z) (e2 z) (e3 z) (e4 z));
+      says = (let e1 = sym (n .0) in let e2 = sym (n .1) in let e3 = sym (n .2) in let e4 = sym (n .4) in λ z. accepted (record { ending = e1 z; steps = e2 z; used = e3 z; bytes = e4 z }));
       leaves = copied-written before left (g .leads .events) (g .leads .copied) (omega arith) ∙ ap (λ (xs : List ℕ). written xs before) (sym (n .3));
     })
 
@@ -170,7 +183,7 @@ module _ (t : List ℕ) (f : ℕ) (answers : List ℕ) (budget : ℕ) (before : 
       go (refused q) = refl
 
   as-run : (r : Outcome) (left : List ℕ) → Called r (ranCall (runAnswer t f answers budget (length before)) before) left → Called r (runCall t f answers budget before) left
-  unfolding runCall ranCall
+  unfolding runCall
   as-run r left c = c
 
   pub call-refused : (q : ℕ) → functionIn t f ≡ refused q → Called (Refused q) (runCall t f answers budget before) before

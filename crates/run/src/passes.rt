@@ -12,12 +12,12 @@ ghost use mathlib.Core.Path.{_≡_};
 ghost use Prim.Native.Nat.{_≤_, _<_};
 ghost use lib.ListN.{length};
 ghost use Rattle.definitions.specs.Run as Run;
-ghost use Rattle.definitions.specs.Calls.{eventsFit};
+ghost use Rattle.definitions.specs.Calls.{eventsFit, ranCall};
 ghost use Rattle.reader.specs.View.{instructionsOf};
-ghost use Rattle.run.specs.Pass.{Coded, Places, Stops, Passes, ranCall, Called};
+ghost use Rattle.run.specs.Pass.{Coded, Places, Stops, Passes, Called};
 
 // One pass: all the steps, and those event bytes that the buffer has room for.
-pub fn pass(
+pub(crate) fn pass(
     code: &[u8],
     places: &[u32],
     stops: &[u32],
@@ -56,7 +56,7 @@ pub fn pass(
 }
 
 // The run, by tables of the code.
-pub fn run_tables(
+pub(crate) fn run_tables(
     code: &[u8],
     places: &[u32],
     stops: &[u32],
@@ -88,7 +88,13 @@ pub fn run_tables(
 }
 
 // The run of a function of n instructions, at most 8,192, as many as a lowered module may have.
-pub fn run_small(code: &[u8], n: usize, answers: &[u8], budget: u64, events: &mut [u8]) -> Outcome
+pub(crate) fn run_small(
+    code: &[u8],
+    n: usize,
+    answers: &[u8],
+    budget: u64,
+    events: &mut [u8],
+) -> Outcome
     requires { ⌜ Coded (now code) × (n ≡ length (instructionsOf (now code))) × (n ≤ 8192) ⌝ }
     ensures { λ r. ⌜ Called r (ranCall (eventsFit (length (now (events .entry))) (Run.run budget (instructionsOf (now (code .entry))) 0 (now (answers .entry)))) (now (events .entry))) (now (events .exit)) ⌝ }
 {
@@ -100,7 +106,13 @@ pub fn run_small(code: &[u8], n: usize, answers: &[u8], budget: u64, events: &mu
 }
 
 // The same of at most 65,536.
-pub fn run_large(code: &[u8], n: usize, answers: &[u8], budget: u64, events: &mut [u8]) -> Outcome
+pub(crate) fn run_large(
+    code: &[u8],
+    n: usize,
+    answers: &[u8],
+    budget: u64,
+    events: &mut [u8],
+) -> Outcome
     requires { ⌜ Coded (now code) × (n ≡ length (instructionsOf (now code))) × (n ≤ 65536) ⌝ }
     ensures { λ r. ⌜ Called r (ranCall (eventsFit (length (now (events .entry))) (Run.run budget (instructionsOf (now (code .entry))) 0 (now (answers .entry)))) (now (events .entry))) (now (events .exit)) ⌝ }
 {
@@ -112,7 +124,13 @@ pub fn run_large(code: &[u8], n: usize, answers: &[u8], budget: u64, events: &mu
 }
 
 // The run of a function's code, with tables that are large enough.
-pub fn run_code(code: &[u8], n: usize, answers: &[u8], budget: u64, events: &mut [u8]) -> Outcome
+pub(crate) fn run_code(
+    code: &[u8],
+    n: usize,
+    answers: &[u8],
+    budget: u64,
+    events: &mut [u8],
+) -> Outcome
     requires { ⌜ Coded (now code) × (n ≡ length (instructionsOf (now code))) ⌝ }
     ensures { λ r. ⌜ Called r (ranCall (eventsFit (length (now (events .entry))) (Run.run budget (instructionsOf (now (code .entry))) 0 (now (answers .entry)))) (now (events .entry))) (now (events .exit)) ⌝ }
 {

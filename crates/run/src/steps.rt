@@ -23,7 +23,7 @@ pub fn put(events: &mut [u8], at: usize, b: u8)
 }
 
 // The bytes of the code from p to q, where the buffer has room for them.
-pub fn copy(events: &mut [u8], at: usize, code: &[u8], p: usize, q: usize)
+pub(crate) fn copy(events: &mut [u8], at: usize, code: &[u8], p: usize, q: usize)
     requires { ⌜ (p ≤ q) × (q ≤ length (now code)) ⌝ }
     ensures { λ _. ⌜ Copied (now (events .entry)) (now (events .exit)) at (take (q - p) (drop p (now (code .entry)))) ⌝ }
 {
@@ -42,7 +42,7 @@ pub fn copy(events: &mut [u8], at: usize, code: &[u8], p: usize, q: usize)
 }
 
 // The place to go straight on to: the stop, or as far as the steps left go.
-pub fn reach(stop: usize, place: usize, left: u64) -> usize
+pub(crate) fn reach(stop: usize, place: usize, left: u64) -> usize
     requires { ⌜ place ≤ stop ⌝ }
     ensures { λ r. ⌜ Reaches r stop place left ⌝ }
 {
@@ -53,7 +53,7 @@ pub fn reach(stop: usize, place: usize, left: u64) -> usize
 }
 
 // Straight on, from where a run stands.
-pub fn stretch(
+pub(crate) fn stretch(
     code: &[u8],
     places: &[u32],
     stops: &[u32],
@@ -83,7 +83,7 @@ pub fn stretch(
 }
 
 // Where a question goes.
-pub fn question_way(op: u8, x: u8, place: u64, a: u64) -> u64
+pub(crate) fn question_way(op: u8, x: u8, place: u64, a: u64) -> u64
     requires { ⌜ place < 65536 ⌝ }
     ensures { λ r. ⌜ r ≡ way (eqb op 30) (eqb x 1) place a ⌝ }
 {
@@ -100,7 +100,14 @@ pub fn question_way(op: u8, x: u8, place: u64, a: u64) -> u64
 }
 
 // A question, of its opcode and operand.
-pub fn ask(op: u8, a: u64, answers: &[u8], room: usize, s: Stand, events: &mut [u8]) -> Turned
+pub(crate) fn ask(
+    op: u8,
+    a: u64,
+    answers: &[u8],
+    room: usize,
+    s: Stand,
+    events: &mut [u8],
+) -> Turned
     requires { ⌜ (s .place < 65536) × (s .steps < 18446744073709551615) × (s .written ≤ room) ⌝ }
     ensures { λ r. ⌜ Asks r op a (now (answers .entry)) room s (now (events .entry)) (now (events .exit)) ⌝ }
 {

@@ -16,7 +16,7 @@ pub fn wide(x: u32) -> usize
 }
 
 // Where each instruction begins.
-pub fn fill_places(code: &[u8], places: &mut [u32])
+pub(crate) fn fill_places(code: &[u8], places: &mut [u32])
     requires { ⌜ Coded (now code) × (length (instructionsOf (now code)) ≤ length (now places)) ⌝ }
     ensures { λ _. ⌜ Places (now (code .entry)) (now (places .exit)) ⌝ }
 {
@@ -33,7 +33,7 @@ pub fn fill_places(code: &[u8], places: &mut [u32])
 }
 
 // The instruction of an opcode goes straight on.
-pub fn goes_on(op: u8) -> bool
+pub(crate) fn goes_on(op: u8) -> bool
     ensures { λ r. ⌜ GoesOn r op ⌝ }
 {
     if op == 28 {
@@ -49,14 +49,14 @@ pub fn goes_on(op: u8) -> bool
 }
 
 // Of the stop after place k, and k: the first that is a stop.
-pub fn nearer(op: u8, k: usize, stop: usize) -> usize
+pub(crate) fn nearer(op: u8, k: usize, stop: usize) -> usize
     ensures { λ r. ⌜ Nearer r op k stop ⌝ }
 {
     if goes_on(op) { stop } else { k }
 }
 
 // Where going straight on stops, from each of n instructions on.
-pub fn fill_stops(code: &[u8], places: &[u32], n: usize, stops: &mut [u32])
+pub(crate) fn fill_stops(code: &[u8], places: &[u32], n: usize, stops: &mut [u32])
     requires { ⌜ Coded (now code) × Places (now code) (now places) × (n ≡ length (instructionsOf (now code))) × (n ≤ length (now stops)) ⌝ }
     ensures { λ _. ⌜ Stops (now (code .entry)) (now (stops .exit)) ⌝ }
 {

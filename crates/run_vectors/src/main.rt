@@ -65,26 +65,19 @@ fn run_case(module: &[u8], f: u64, answers: &[u8], budget: u64, room: u64, event
     answer(outcome, events);
 }
 
-// One line of the input.
-fn replay(piece: &mut [u8; 4096], r: Reading) -> Reading {
-    let name = vectors::skip_name(piece, r);
-    if !vectors::has_field(name) {
-        return name;
-    }
-    let mut module = [0u8; 4096];
-    let bytes = vectors::hex_field(piece, name, &mut module);
-    let function = vectors::decimal_field(piece, bytes.next);
+// What is left of a line after the module.
+fn replay_module(piece: &mut [u8; 4096], r: Reading, module: &[u8]) -> Reading {
+    let function = vectors::decimal_field(piece, r);
     let mut answers = [0u8; 64];
     let word = vectors::hex_field(piece, function.next, &mut answers);
     let budget = vectors::decimal_field(piece, word.next);
     let room = vectors::decimal_field(piece, budget.next);
     let next = room.next;
     if next.is_good {
-        let size = bytes.size;
         let count = word.size;
         let mut events = [0u8; 65600];
         run_case(
-            &module[..size],
+            module,
             function.value,
             &answers[..count],
             budget.value,
@@ -95,6 +88,18 @@ fn replay(piece: &mut [u8; 4096], r: Reading) -> Reading {
         report::text(b"not read\n");
     }
     vectors::skip_line(piece, next)
+}
+
+// One line of the input.
+fn replay(piece: &mut [u8; 4096], r: Reading) -> Reading {
+    let name = vectors::skip_name(piece, r);
+    if !vectors::has_field(name) {
+        return name;
+    }
+    let mut module = [0u8; 4096];
+    let bytes = vectors::hex_field(piece, name, &mut module);
+    let size = bytes.size;
+    replay_module(piece, bytes.next, &module[..size])
 }
 
 // The turns are counted down from a number that no input uses up.

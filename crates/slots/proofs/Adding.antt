@@ -13,12 +13,12 @@ use borrow.Rule.Slice.PartMut.{putMid, postOf}
 use borrow.Author.Tests.{lt-ltb, le-ltb}
 use Rattle.definitions.specs.Bytes.{Name, same, position, member}
 use Rattle.definitions.specs.Slots.{add}
+use Rattle.definitions.proofs.Resolve.{position-lt}
 use Rattle.state.specs.Words.{nameAt}
 use Rattle.state.specs.Index.{bucketOf, Covered, noneCovered, startOf}
 use Rattle.state.specs.State.{namesAt, slotsFrom, slotNames, Slots, foundOr}
 use Rattle.parts.specs.Places.{nameBytes}
 use Rattle.names.specs.Sought.{soughtFrom}
-use Rattle.names.proofs.Finding.{step, position-cons}
 use Rattle.names.proofs.Indexing.{place-found, slot-found, covered-out, covered-part, covered-snoc}
 use Rattle.slots.specs.Slotted.{leading, firstNames, Indexed, IsBucket, Added}
 
@@ -29,23 +29,13 @@ name-bytes t p = refl
 
 -- ---- a name among names
 
-pub found-below : {A : Type 0} (test : A → Bool) (xs : List A) (k : ℕ) → position test xs ≡ some k → k < length xs
-unfolding position step
-found-below test [] k e = let z : _≡_ {A = ℕ} 0 1 = cc in absurd (omega arith)
-found-below test (x ∷ xs) k e = go (test x) (position test xs) refl (sym (position-cons test x xs) ∙ e) (λ j. found-below test xs j)
-  where
-    go : (b : Bool) (o : Option ℕ) → position test xs ≡ o → step b o ≡ some k → ((j : ℕ) → position test xs ≡ some j → j < length xs) → k < length (x ∷ xs)
-    go true o h f g = let z : 0 ≡ k = cc in omega arith
-    go false none h f g = let z : _≡_ {A = ℕ} 0 1 = cc in absurd (omega arith)
-    go false (some j) h f g = let z : suc j ≡ k = cc in let i = g j h in omega arith
-
 pub found-member : (x : Name) (xs : List Name) (n : ℕ) → n ≡ length xs → ltb (foundOr n (position (same x) xs)) n ≡ member x xs
 unfolding member foundOr
 found-member x xs n e = go (position (same x) xs) refl
   where
     go : (o : Option ℕ) → position (same x) xs ≡ o → ltb (foundOr n o) n ≡ elim o as (λ _. Bool) [ none ↦ false | some i ↦ true ]
     go none h = le-ltb n n (omega arith)
-    go (some k) h = let i = found-below (same x) xs k h in lt-ltb k n (omega arith)
+    go (some k) h = let i = position-lt (same x) xs k h in lt-ltb k n (omega arith)
 
 pub found-slot : (t ps : List ℕ) (p : ℕ) (x : Name) (k : ℕ) → x ≡ nameAt t p → k ≡ foundOr (length ps) (position (same x) (namesAt t ps)) → ltb k (length ps) ≡ member (nameBytes t p) (namesAt t ps)
 unfolding namesAt
@@ -115,12 +105,12 @@ add-new x xs e = rw (e, add)
 pub part-before : (n : ℕ) (ps : List ℕ) → take (n - 0) (drop 0 ps) ≡ take n ps
 part-before n ps = ap (λ (k : ℕ). take k ps) (let e : n - 0 ≡ n = omega arith in e)
 
--- whether a slot has the name, by the search of the code
+-- the number of the slot that has the name, by the search of the code
 pub slot-told : (t slots : List ℕ) (p b r : ℕ) (y : Name) → Slots t slots → IsBucket b t p → y ≡ nameAt t p → r ≡ soughtFrom (getD slots b 0) y (namesAt t (take (length slots - slotsFrom) (drop slotsFrom slots)))
-    → ltb r (length slots - slotsFrom) ≡ member (nameBytes t p) (slotNames t slots)
+    → r ≡ foundOr (length slots - slotsFrom) (position (same (nameBytes t p)) (slotNames t slots))
 slot-told t slots p b r y s q e f =
-    ap (ltb r) (sym (places-length slots))
-    ∙ found-slot t (drop slotsFrom slots) p (nameAt t p) r refl (slot-found t slots (nameAt t p) y b r s e (q .is ∙ ap (bucketOf slotsFrom) (sym e)) f)
+    slot-found t slots (nameAt t p) y b r s e (q .is ∙ ap (bucketOf slotsFrom) (sym e)) f
+    ∙ ap (λ (n : ℕ). foundOr n (position (same (nameAt t p)) (slotNames t slots))) (places-length slots) ∙ ap (λ (x : Name). foundOr (length slots - slotsFrom) (position (same x) (slotNames t slots))) (name-bytes t p)
 
 -- whether one of the first n slots has the name, by the search of the code
 module _ (t ps : List ℕ) (n p b r : ℕ) (y : Name) (v : Indexed t n ps) (room : slotsFrom + n ≤ length ps) (q : IsBucket b t p) (e : y ≡ nameAt t p)
@@ -138,7 +128,7 @@ module _ (t ps : List ℕ) (n p b r : ℕ) (y : Name) (v : Indexed t n ps) (room
   unfolding firstNames
   place = place-found t ps places (nameAt t p) y b r (v .at) e (q .is ∙ ap (bucketOf slotsFrom) (sym e)) (f ∙ ap (λ (l : List ℕ). soughtFrom (getD ps b 0) y (namesAt t l)) part)
 
-  pub kept-told : ltb r n ≡ member (nameBytes t p) (firstNames t n ps)
+  kept-told : ltb r n ≡ member (nameBytes t p) (firstNames t n ps)
   unfolding firstNames
   kept-told = ap (ltb r) (sym part-length) ∙ found-slot t places p (nameAt t p) r refl place
 

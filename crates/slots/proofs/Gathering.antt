@@ -7,7 +7,7 @@ use mathlib.Core.Logic.{_⊎_, ⊎-elim}
 use native.Mathlib.Omega.{arith}
 use lib.ListN.{length, getD}
 use Rattle.definitions.specs.Bytes.{Name}
-use Rattle.definitions.specs.Tree.{Expr, View, asVar, asOther, asTuple, asAttr, asIndex, view}
+use Rattle.definitions.specs.Tree.{Expr}
 use Rattle.definitions.specs.Tree.{Stmt, break, continue, pass, expr, return, assign, if, while, for, def, class}
 use Rattle.definitions.specs.Tree.{Block, []ᵇ, _∷ᵇ_, Branches, done, else, when}
 use Rattle.definitions.specs.Slots.{add, addTarget, localsStmt, localsBlock, localsBranches}
@@ -21,8 +21,7 @@ use Rattle.slots.specs.Slotted.{firstNames, Indexed, Added, Room, Gather
 use Rattle.slots.specs.declared.collect.Gathered.{Gathered}
 use Rattle.slots.specs.declared.collect.Gathered.the-variants.{Next, Over}
 use Rattle.slots.proofs.Adding.{first-length}
-use Rattle.slots.proofs.Growing.{stmt-grows, block-grows, branches-grow}
-use Rattle.slots.proofs.Kinded.{form-var, other-form, Formed, attributeF, tupleF, indexF, otherF}
+use Rattle.definitions.proofs.Named.{stmt-grows, block-grows, branches-grow}
 
 -- ---- the two answers
 
@@ -68,29 +67,6 @@ module _ (t qs : List ℕ) (n k next : ℕ) (want : List Name) (a : Added k t qs
 
   pub name-next : k ≤ 255 → Gathers (Next next k) t qs next want
   name-next h = next-gathers t qs next want next k refl h (a .names) (a .indexed)
-
--- ---- the target of an assignment
-
-module _ (d : ℕ) (t : List ℕ) (p : ℕ) (r : ExprReads d t p) (xs : List Name) where
-  pub target-var : getD t p 0 ≡ 6 → add (nameBytes t (p + 1)) xs ≡ addTarget (exprAt d t p .value) xs
-  unfolding addTarget
-  target-var f = sym (go _ _ (form-var d t p r f))
-    where
-      go : (x : Name) (w : View) → w ≡ asVar x → elim w as (λ _. List Name) [ asVar x ↦ add x xs | asAttr o x ↦ xs | asIndex o i ↦ xs | asTuple es ↦ xs | asOther ↦ xs ] ≡ add x xs
-      go x w h = ap (λ (w : View). elim w as (λ _. List Name) [ asVar x ↦ add x xs | asAttr o x ↦ xs | asIndex o i ↦ xs | asTuple es ↦ xs | asOther ↦ xs ]) h
-
-  pub target-other : (getD t p 0 ≡ 6 → ⊥) → xs ≡ addTarget (exprAt d t p .value) xs
-  unfolding addTarget
-  target-other f = sym (go (exprAt d t p .value) (other-form d t p r f))
-    where
-      go : (x : Expr) → Formed (view x) → addTarget x xs ≡ xs
-      go x f = by f
-        where
-          by : {w : View} → Formed w → elim w as (λ _. List Name) [ asVar x ↦ add x xs | asAttr o x ↦ xs | asIndex o i ↦ xs | asTuple es ↦ xs | asOther ↦ xs ] ≡ xs
-          by attributeF = refl
-          by indexF = refl
-          by tupleF = refl
-          by otherF = refl
 
 -- ---- statements that hold no block of the function
 

@@ -1,14 +1,10 @@
 -- Facts of every expression of some kinds. Assumes nothing.
 use Prim.Native.Nat.{ℕ, zero, suc, _+_, _-_, _<_, _≤_}
 use mathlib.Core.Path.{_≡_, refl, sym, ap, _∙_, subst}
-use mathlib.Core.Bool.{Bool, true, false}
 use mathlib.Core.List.{List, [], _∷_}
 use mathlib.Core.Logic.{_⊎_, inl, inr, ⊎-elim}
 use native.Mathlib.Omega.{arith}
 use lib.ListN.{length, getD}
-use lib.Dec.{eqb}
-use borrow.Author.Tests.{eqb-true, eqb-false}
-use Rattle.definitions.specs.Bytes.{Name}
 use Rattle.definitions.specs.Tree.{Literal, noneL, boolL, intL, floatL, stringL, UnaryOp, BinaryOp, LogicalOp, andOp, orOp, notOp, addOp, Display, listD, tupleD, dictD, setD, treeSetD}
 use Rattle.definitions.specs.Tree.{View, asVar, asAttr, asIndex, asTuple, asOther, view, viewDisplay}
 use Rattle.definitions.specs.Tree.{Expr, lit, var, unary, binary, logical, call, attr, display, index, lambda, Exprs, []ᵉ, _∷ᵉ_}
@@ -122,20 +118,3 @@ module _ (d : ℕ) (t : List ℕ) (p : ℕ) (r : ExprReads d t p) where
 
   pub form-other : (getD t p 0 ≡ 6 → ⊥) → (getD t p 0 ≡ 10 → ⊥) → (getD t p 0 ≡ 13 → ⊥) → (getD t p 0 ≡ 16 → ⊥) → view (exprAt d t p .value) ≡ asOther
   form-other f g i j = other-kind (getD t p 0) refl (expr-known d t p r) f g i j
-
--- which form an expression has that is not a variable
-pub data Formed : View → Type 0 where
-  attributeF : {o : Expr} {x : Name} → Formed (asAttr o x)
-  tupleF : {es : Exprs} → Formed (asTuple es)
-  indexF : {o i : Expr} → Formed (asIndex o i)
-  otherF : Formed asOther
-
-module _ (d : ℕ) (t : List ℕ) (p : ℕ) (r : ExprReads d t p) (f : getD t p 0 ≡ 6 → ⊥) where
-  pub other-form : Formed (view (exprAt d t p .value))
-  other-form = by (eqb (getD t p 0) 10) (eqb (getD t p 0) 13) (eqb (getD t p 0) 16) refl refl refl
-    where
-      by : (a b c : Bool) → eqb (getD t p 0) 10 ≡ a → eqb (getD t p 0) 13 ≡ b → eqb (getD t p 0) 16 ≡ c → Formed (view (exprAt d t p .value))
-      by true b c h i j = rw (form-attribute d t p r (eqb-true _ _ h)) attributeF
-      by false true c h i j = rw (form-tuple d t p r (eqb-true _ _ i)) tupleF
-      by false false true h i j = rw (form-index d t p r (eqb-true _ _ j)) indexF
-      by false false false h i j = rw (form-other d t p r f (eqb-false _ _ h) (eqb-false _ _ i) (eqb-false _ _ j)) otherF

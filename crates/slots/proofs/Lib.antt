@@ -3,12 +3,12 @@ pub mod Reindexing
 pub mod Skipping
 pub mod SkippingStmts
 pub mod Kinded
-pub mod Growing
+pub mod Targeting
 pub mod Gathering
 pub mod Params
 pub mod Holding
 pub mod Ordering
 pub mod Spotting
-pub mod Removing
+pub mod Marking
 pub mod Referring
 pub mod Capturing

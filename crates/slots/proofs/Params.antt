@@ -19,7 +19,7 @@ use Rattle.slots.specs.declared.collect.Gathered.{Gathered}
 use Rattle.slots.specs.declared.collect.Gathered.the-variants.{Next, Over}
 use Rattle.slots.proofs.Adding.{leading-set, mid-front}
 use Rattle.slots.proofs.Reindexing.{reindexed-names}
-use Rattle.slots.proofs.Growing.{block-grows}
+use Rattle.definitions.proofs.Named.{block-grows}
 use Rattle.slots.proofs.Gathering.{gathers-next, gathers-over}
 
 pub names-count : (t : List ℕ) (n p : ℕ) → length (namesFrom t n p) ≡ n
@@ -30,6 +30,13 @@ names-count t (suc n) p = ap suc (names-count t n (nameEnd t p))
 names-first : (t : List ℕ) (n k p : ℕ) → n ≡ suc k → namesFrom t n p ≡ nameBytes t p ∷ namesFrom t k (nameEnd t p)
 unfolding namesFrom
 names-first t n k p e = ap (λ (m : ℕ). namesFrom t m p) e
+
+pub params-names : (t : List ℕ) (a n : ℕ) → n ≡ countAt t a → namesFrom t n (a + 2) ≡ paramsAt t a .value
+unfolding paramsAt
+params-names t a n e = ap (λ (m : ℕ). namesFrom t m (a + 2)) e
+
+pub params-all : (t : List ℕ) (a n : ℕ) → ParamsAt t a → n ≡ countAt t a → AllThere t n (a + 2)
+params-all t a n h e = subst (λ (m : ℕ). AllThere t m (a + 2)) (sym e) (h .names)
 
 -- the names put so far and those that follow from p on
 pub record ParamsLeft (t ps₀ : List ℕ) (n a : ℕ) (ps : List ℕ) (p i : ℕ) : Type 0 where

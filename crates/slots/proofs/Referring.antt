@@ -6,21 +6,21 @@ use mathlib.Core.List.{List, [], _∷_, _++_}
 use mathlib.Core.Logic.{_⊎_, inl, inr, ⊎-elim}
 use native.Mathlib.Omega.{arith}
 use lib.ListN.{length, getD}
-use Rattle.definitions.specs.Bytes.{Name, member}
+use Rattle.definitions.specs.Bytes.{Name}
 use Rattle.definitions.specs.Tree.{Expr, Exprs, []ᵉ, _∷ᵉ_, lit, Literal}
-use Rattle.definitions.specs.Slots.{add, without}
+use Rattle.definitions.specs.Slots.{add}
 use Rattle.state.specs.State.{namesAt, slotsFrom, slotNames, Slots}
 use Rattle.parts.specs.Places.{Node, node, countAt, nameBytes, nameEnd, There, paramsAt, ParamsAt}
 use Rattle.exprs.specs.ExprAt.{exprAt, exprsAt, ExprReads, ExprsRead, varAt, unaryOf, binaryOf, UnaryAt, unaryAt, TwoAt, secondAt, BinaryAt, binaryAt, ListAt, listAt, CallAt, callAt, AttributeAt, attributeAt, displayAt, DictAt, pairsAt, dictAt, indexAt, LambdaAt, lambdaAt, ExprsMore, consAt}
 use Rattle.parts.proofs.Laws.{le-or-gt}
 use Rattle.parts.proofs.Nodes.{Seen}
 use Rattle.exprs.proofs.ExprViews.{expr-known, view-var, view-unary, view-binary, view-call, view-attribute, view-dict, view-index, view-lambda, view-exprs-none, view-exprs-more}
-use Rattle.slots.specs.Slotted.{firstNames, Indexed, Added, Removed}
-use Rattle.slots.specs.Held.{addHeld, heldExpr, heldExprs, Held, Keeping, Referred}
+use Rattle.slots.specs.Slotted.{firstNames, Indexed, Added}
+use Rattle.slots.specs.Held.{markAll, isFree, addHeld, heldExpr, heldExprs, Held, Keeping, Referred}
 use Rattle.slots.specs.declared.captures.Refs.{Refs}
 use Rattle.names.proofs.Indexing.{slots-count}
 use Rattle.slots.proofs.Adding.{first-length}
-use Rattle.slots.proofs.Holding.{held-add, held-few, held-expr, held-exprs, held-without}
+use Rattle.slots.proofs.Holding.{held-few, held-expr}
 use Rattle.slots.proofs.Kinded.{up, unary-each, binary-each, seen-literal, seen-display}
 
 -- ---- what is asked, and what is left
@@ -50,21 +50,21 @@ referred-as r t ps e e′ w w′ f h k = record { next-is = f .next-is ∙ h; mo
 
 -- ---- a name
 
-module _ (t parent : List ℕ) (p : ℕ) (b : Bool) (e : b ≡ member (nameBytes t p) (slotNames t parent)) (ps : List ℕ) (n : ℕ) (a : Keeping t parent ps n) where
+module _ (t parent ms : List ℕ) (p : ℕ) (b : Bool) (e : b ≡ isFree (slotNames t parent) ms (nameBytes t p)) (ps : List ℕ) (n : ℕ) (a : Keeping t parent ps n) where
   pub name-kept : (r : Refs) (ps′ : List ℕ) → b ≡ true → r .next ≡ nameEnd t p → Added (r .n) t ps′ n (add (nameBytes t p) (firstNames t n ps)) → length ps′ ≡ length ps →
-      Referred r t ps′ (nameEnd t p) (addHeld (slotNames t parent) (nameBytes t p) (firstNames t n ps))
+      Referred r t ps′ (nameEnd t p) (addHeld (slotNames t parent) ms (nameBytes t p) (firstNames t n ps))
   unfolding addHeld
   name-kept r ps′ h f g m =
       let i = keeping-few t parent ps n a in let j = a .room in let q = g .most in
       record { next-is = f; most = omega arith; names = g .names ∙ sym (let z = sym e ∙ h in rw (z, addHeld)); indexed = g .indexed }
 
-  pub name-left : (r : Refs) → b ≡ false → r .next ≡ nameEnd t p → r .n ≡ n → Referred r t ps (nameEnd t p) (addHeld (slotNames t parent) (nameBytes t p) (firstNames t n ps))
+  pub name-left : (r : Refs) → b ≡ false → r .next ≡ nameEnd t p → r .n ≡ n → Referred r t ps (nameEnd t p) (addHeld (slotNames t parent) ms (nameBytes t p) (firstNames t n ps))
   unfolding addHeld
   name-left r h f g = let i = a .most in record { next-is = f; most = omega arith; names = ap (λ (k : ℕ). firstNames t k ps) g ∙ sym (let z = sym e ∙ h in rw (z, addHeld)); indexed = subst (λ (k : ℕ). Indexed t k ps) (sym g) (a .indexed) }
 
 -- ---- the kinds of expression
 
-module _ (d : ℕ) (t : List ℕ) (p : ℕ) (r : ExprReads d t p) (slots : List Name) (o : Refs) (ps : List ℕ) (xs : List Name) where
+module _ (d : ℕ) (t : List ℕ) (p : ℕ) (r : ExprReads d t p) (slots : List Name) (ms : List ℕ) (o : Refs) (ps : List ℕ) (xs : List Name) where
   abbrev x : Node Expr
   x = exprAt d t p
 
@@ -72,50 +72,50 @@ module _ (d : ℕ) (t : List ℕ) (p : ℕ) (r : ExprReads d t p) (slots : List 
   Kept e w = Referred o t ps e w
 
   abbrev Whole : Type 0
-  Whole = Referred o t ps (exprAt d t p .end) (heldExpr slots (exprAt d t p .value) xs)
+  Whole = Referred o t ps (exprAt d t p .end) (heldExpr slots ms (exprAt d t p .value) xs)
 
-  made-of : (y : Node Expr) → x ≡ y → Referred o t ps (y .end) (heldExpr slots (y .value) xs) → Whole
-  made-of y e g = referred-as o t ps _ _ _ _ g (sym (ap (λ (z : Node Expr). z .end) e)) (sym (ap (λ (z : Node Expr). heldExpr slots (z .value) xs) e))
+  made-of : (y : Node Expr) → x ≡ y → Referred o t ps (y .end) (heldExpr slots ms (y .value) xs) → Whole
+  made-of y e g = referred-as o t ps _ _ _ _ g (sym (ap (λ (z : Node Expr). z .end) e)) (sym (ap (λ (z : Node Expr). heldExpr slots ms (z .value) xs) e))
 
-  pub refs-var : getD t p 0 ≡ 6 → Referred o t ps (nameEnd t (p + 1)) (addHeld slots (nameBytes t (p + 1)) xs) → Whole
+  pub refs-var : getD t p 0 ≡ 6 → Referred o t ps (nameEnd t (p + 1)) (addHeld slots ms (nameBytes t (p + 1)) xs) → Whole
   unfolding heldExpr varAt
   refs-var e g = made-of _ (view-var d t p r e .is) g
 
-  pub refs-unary : getD t p 0 ≡ 7 → Referred o t ps (exprAt (d - 1) t (p + 1 + 1) .end) (heldExpr slots (exprAt (d - 1) t (p + 1 + 1) .value) xs) → Whole
+  pub refs-unary : getD t p 0 ≡ 7 → Referred o t ps (exprAt (d - 1) t (p + 1 + 1) .end) (heldExpr slots ms (exprAt (d - 1) t (p + 1 + 1) .value) xs) → Whole
   unfolding heldExpr unaryAt
   refs-unary e g = let v = view-unary d t p r e in made-of _ (v .is) (subst (λ (w : List Name). Referred o t ps (exprAt (d - 1) t (p + 1 + 1) .end) w)
-      (sym (unary-each (λ (f : Expr → Expr). heldExpr slots (f (exprAt (d - 1) t (p + 1 + 1) .value)) xs ≡ heldExpr slots (exprAt (d - 1) t (p + 1 + 1) .value) xs) (λ op. refl) _ (v .parts .operator))) g)
+      (sym (unary-each (λ (f : Expr → Expr). heldExpr slots ms (f (exprAt (d - 1) t (p + 1 + 1) .value)) xs ≡ heldExpr slots ms (exprAt (d - 1) t (p + 1 + 1) .value) xs) (λ op. refl) _ (v .parts .operator))) g)
 
   pub refs-binary : getD t p 0 ≡ 8 →
-      Referred o t ps (secondAt (d - 1) t (p + 1 + 1) .end) (heldExpr slots (secondAt (d - 1) t (p + 1 + 1) .value) (heldExpr slots (exprAt (d - 1) t (p + 1 + 1) .value) xs)) → Whole
+      Referred o t ps (secondAt (d - 1) t (p + 1 + 1) .end) (heldExpr slots ms (secondAt (d - 1) t (p + 1 + 1) .value) (heldExpr slots ms (exprAt (d - 1) t (p + 1 + 1) .value) xs)) → Whole
   unfolding heldExpr binaryAt
   refs-binary e g = let v = view-binary d t p r e in made-of _ (v .is) (subst (λ (w : List Name). Referred o t ps (secondAt (d - 1) t (p + 1 + 1) .end) w)
-      (sym (binary-each (λ (f : Expr → Expr → Expr). heldExpr slots (f (exprAt (d - 1) t (p + 1 + 1) .value) (secondAt (d - 1) t (p + 1 + 1) .value)) xs
-      ≡ heldExpr slots (secondAt (d - 1) t (p + 1 + 1) .value) (heldExpr slots (exprAt (d - 1) t (p + 1 + 1) .value) xs)) (λ op. refl) (λ op. refl) _ (v .parts .operator))) g)
+      (sym (binary-each (λ (f : Expr → Expr → Expr). heldExpr slots ms (f (exprAt (d - 1) t (p + 1 + 1) .value) (secondAt (d - 1) t (p + 1 + 1) .value)) xs
+      ≡ heldExpr slots ms (secondAt (d - 1) t (p + 1 + 1) .value) (heldExpr slots ms (exprAt (d - 1) t (p + 1 + 1) .value) xs)) (λ op. refl) (λ op. refl) _ (v .parts .operator))) g)
 
   pub refs-call : getD t p 0 ≡ 9 →
-      Referred o t ps (listAt (d - 1) t (exprAt (d - 1) t (p + 1) .end) .end) (heldExprs slots (listAt (d - 1) t (exprAt (d - 1) t (p + 1) .end) .value) (heldExpr slots (exprAt (d - 1) t (p + 1) .value) xs)) → Whole
+      Referred o t ps (listAt (d - 1) t (exprAt (d - 1) t (p + 1) .end) .end) (heldExprs slots ms (listAt (d - 1) t (exprAt (d - 1) t (p + 1) .end) .value) (heldExpr slots ms (exprAt (d - 1) t (p + 1) .value) xs)) → Whole
   unfolding heldExpr callAt
   refs-call e g = made-of _ (view-call d t p r e .is) g
 
-  pub refs-attribute : getD t p 0 ≡ 10 → Referred o t ps (nameEnd t (exprAt (d - 1) t (p + 1) .end)) (heldExpr slots (exprAt (d - 1) t (p + 1) .value) xs) → Whole
+  pub refs-attribute : getD t p 0 ≡ 10 → Referred o t ps (nameEnd t (exprAt (d - 1) t (p + 1) .end)) (heldExpr slots ms (exprAt (d - 1) t (p + 1) .value) xs) → Whole
   unfolding heldExpr attributeAt
   refs-attribute e g = made-of _ (view-attribute d t p r e .is) g
 
-  pub refs-dict : getD t p 0 ≡ 12 → Referred o t ps (pairsAt (d - 1) t (p + 1) .end) (heldExprs slots (pairsAt (d - 1) t (p + 1) .value) xs) → Whole
+  pub refs-dict : getD t p 0 ≡ 12 → Referred o t ps (pairsAt (d - 1) t (p + 1) .end) (heldExprs slots ms (pairsAt (d - 1) t (p + 1) .value) xs) → Whole
   unfolding heldExpr dictAt
   refs-dict e g = made-of _ (view-dict d t p r e .is) g
 
-  pub refs-display : (getD t p 0 ≡ 11) ⊎ ((getD t p 0 ≡ 13) ⊎ ((getD t p 0 ≡ 14) ⊎ (getD t p 0 ≡ 15))) → Referred o t ps (listAt (d - 1) t (p + 1) .end) (heldExprs slots (listAt (d - 1) t (p + 1) .value) xs) → Whole
+  pub refs-display : (getD t p 0 ≡ 11) ⊎ ((getD t p 0 ≡ 13) ⊎ ((getD t p 0 ≡ 14) ⊎ (getD t p 0 ≡ 15))) → Referred o t ps (listAt (d - 1) t (p + 1) .end) (heldExprs slots ms (listAt (d - 1) t (p + 1) .value) xs) → Whole
   unfolding heldExpr displayAt
   refs-display e g = let v = seen-display d t p r e in made-of _ (v .1 .is) g
 
-  pub refs-index : getD t p 0 ≡ 16 → Referred o t ps (secondAt (d - 1) t (p + 1) .end) (heldExpr slots (secondAt (d - 1) t (p + 1) .value) (heldExpr slots (exprAt (d - 1) t (p + 1) .value) xs)) → Whole
+  pub refs-index : getD t p 0 ≡ 16 → Referred o t ps (secondAt (d - 1) t (p + 1) .end) (heldExpr slots ms (secondAt (d - 1) t (p + 1) .value) (heldExpr slots ms (exprAt (d - 1) t (p + 1) .value) xs)) → Whole
   unfolding heldExpr indexAt
   refs-index e g = made-of _ (view-index d t p r e .is) g
 
   pub refs-lambda : getD t p 0 ≡ 17 →
-      Referred o t ps (exprAt (d - 1) t (paramsAt t (p + 1) .end) .end) (without (paramsAt t (p + 1) .value) (heldExpr slots (exprAt (d - 1) t (paramsAt t (p + 1) .end) .value) xs)) → Whole
+      Referred o t ps (exprAt (d - 1) t (paramsAt t (p + 1) .end) .end) (heldExpr slots (markAll slots (paramsAt t (p + 1) .value) ms) (exprAt (d - 1) t (paramsAt t (p + 1) .end) .value) xs) → Whole
   unfolding heldExpr lambdaAt
   refs-lambda e g = made-of _ (view-lambda d t p r e .is) g
 
@@ -126,45 +126,41 @@ literal-kinds k h a b c d e f g i j l m n = ⊎-elim
     (λ (z : k < 6). z)
     (le-or-gt 6 k)
 
-pub refs-literal : (d : ℕ) (t : List ℕ) (p : ℕ) (r : ExprReads d t p) (slots : List Name) (o : Refs) (ps : List ℕ) (n : ℕ) → getD t p 0 < 6 → o .next ≡ exprAt d t p .end → o .n ≡ n → slotsFrom + n ≤ length ps → Indexed t n ps →
-    Referred o t ps (exprAt d t p .end) (heldExpr slots (exprAt d t p .value) (firstNames t n ps))
+pub refs-literal : (d : ℕ) (t : List ℕ) (p : ℕ) (r : ExprReads d t p) (slots : List Name) (ms : List ℕ) (o : Refs) (ps : List ℕ) (n : ℕ) → getD t p 0 < 6 → o .next ≡ exprAt d t p .end → o .n ≡ n → slotsFrom + n ≤ length ps → Indexed t n ps →
+    Referred o t ps (exprAt d t p .end) (heldExpr slots ms (exprAt d t p .value) (firstNames t n ps))
 unfolding heldExpr
-refs-literal d t p r slots o ps n h e f g v = let l = seen-literal d t p r h in
-    record { next-is = e; most = omega arith; names = ap (λ (k : ℕ). firstNames t k ps) f ∙ sym (ap (λ (x : Expr). heldExpr slots x (firstNames t n ps)) (l .1)); indexed = subst (λ (k : ℕ). Indexed t k ps) (sym f) v }
+refs-literal d t p r slots ms o ps n h e f g v = let l = seen-literal d t p r h in
+    record { next-is = e; most = omega arith; names = ap (λ (k : ℕ). firstNames t k ps) f ∙ sym (ap (λ (x : Expr). heldExpr slots ms x (firstNames t n ps)) (l .1)); indexed = subst (λ (k : ℕ). Indexed t k ps) (sym f) v }
 
 -- ---- one part after another
 
-module _ (d : ℕ) (t : List ℕ) (p : ℕ) (slots : List Name) (a : Refs) (ps : List ℕ) (xs : List Name) (f : Referred a t ps (exprAt d t p .end) (heldExpr slots (exprAt d t p .value) xs)) where
+module _ (d : ℕ) (t : List ℕ) (p : ℕ) (slots : List Name) (ms : List ℕ) (a : Refs) (ps : List ℕ) (xs : List Name) (f : Referred a t ps (exprAt d t p .end) (heldExpr slots ms (exprAt d t p .value) xs)) where
   pub second-there : TwoAt d t p → ExprReads d t (a .next)
   second-there h = subst (λ (m : ℕ). ExprReads d t m) (sym (f .next-is)) (h .second)
 
-  pub refs-second : (o : Refs) (ps′ : List ℕ) → Referred o t ps′ (exprAt d t (a .next) .end) (heldExpr slots (exprAt d t (a .next) .value) (firstNames t (a .n) ps)) →
-      Referred o t ps′ (secondAt d t p .end) (heldExpr slots (secondAt d t p .value) (heldExpr slots (exprAt d t p .value) xs))
-  refs-second o ps′ g = referred-as o t ps′ _ _ _ _ g (ap (λ (m : ℕ). exprAt d t m .end) (f .next-is)) (ap₂ (λ (m : ℕ) (w : List Name). heldExpr slots (exprAt d t m .value) w) (f .next-is) (f .names))
+  pub refs-second : (o : Refs) (ps′ : List ℕ) → Referred o t ps′ (exprAt d t (a .next) .end) (heldExpr slots ms (exprAt d t (a .next) .value) (firstNames t (a .n) ps)) →
+      Referred o t ps′ (secondAt d t p .end) (heldExpr slots ms (secondAt d t p .value) (heldExpr slots ms (exprAt d t p .value) xs))
+  refs-second o ps′ g = referred-as o t ps′ _ _ _ _ g (ap (λ (m : ℕ). exprAt d t m .end) (f .next-is)) (ap₂ (λ (m : ℕ) (w : List Name). heldExpr slots ms (exprAt d t m .value) w) (f .next-is) (f .names))
 
   pub list-there : CallAt d t p → ListAt d t (a .next)
   list-there h = subst (λ (m : ℕ). ListAt d t m) (sym (f .next-is)) (h .args)
 
-  pub refs-args : (o : Refs) (ps′ : List ℕ) → Referred o t ps′ (listAt d t (a .next) .end) (heldExprs slots (listAt d t (a .next) .value) (firstNames t (a .n) ps)) →
-      Referred o t ps′ (listAt d t (exprAt d t p .end) .end) (heldExprs slots (listAt d t (exprAt d t p .end) .value) (heldExpr slots (exprAt d t p .value) xs))
-  refs-args o ps′ g = referred-as o t ps′ _ _ _ _ g (ap (λ (m : ℕ). listAt d t m .end) (f .next-is)) (ap₂ (λ (m : ℕ) (w : List Name). heldExprs slots (listAt d t m .value) w) (f .next-is) (f .names))
+  pub refs-args : (o : Refs) (ps′ : List ℕ) → Referred o t ps′ (listAt d t (a .next) .end) (heldExprs slots ms (listAt d t (a .next) .value) (firstNames t (a .n) ps)) →
+      Referred o t ps′ (listAt d t (exprAt d t p .end) .end) (heldExprs slots ms (listAt d t (exprAt d t p .end) .value) (heldExpr slots ms (exprAt d t p .value) xs))
+  refs-args o ps′ g = referred-as o t ps′ _ _ _ _ g (ap (λ (m : ℕ). listAt d t m .end) (f .next-is)) (ap₂ (λ (m : ℕ) (w : List Name). heldExprs slots ms (listAt d t m .value) w) (f .next-is) (f .names))
 
   pub name-there : AttributeAt d t p → There t (a .next)
   name-there h = subst (λ (m : ℕ). There t m) (sym (f .next-is)) (h .name)
 
-  pub refs-object : (o : Refs) → o .next ≡ nameEnd t (a .next) → o .n ≡ a .n → Referred o t ps (nameEnd t (exprAt d t p .end)) (heldExpr slots (exprAt d t p .value) xs)
+  pub refs-object : (o : Refs) → o .next ≡ nameEnd t (a .next) → o .n ≡ a .n → Referred o t ps (nameEnd t (exprAt d t p .end)) (heldExpr slots ms (exprAt d t p .value) xs)
   refs-object o e g = let m = f .most in record { next-is = e ∙ ap (nameEnd t) (f .next-is); most = omega arith; names = ap (λ (k : ℕ). firstNames t k ps) g ∙ f .names; indexed = subst (λ (k : ℕ). Indexed t k ps) (sym g) (f .indexed) }
 
--- a lambda's body at q, where its parameters end
-pub refs-body : (d : ℕ) (t : List ℕ) (p q : ℕ) (slots : List Name) (a o : Refs) (ps ps′ : List ℕ) (xs : List Name) → q ≡ paramsAt t p .end → Referred a t ps (exprAt d t q .end) (heldExpr slots (exprAt d t q .value) xs) →
-    o .next ≡ a .next → Removed (o .n) t p (a .n) ps ps′ → length ps′ ≡ length ps →
-    Referred o t ps′ (exprAt d t (paramsAt t p .end) .end) (without (paramsAt t p .value) (heldExpr slots (exprAt d t (paramsAt t p .end) .value) xs))
-refs-body d t p q slots a o ps ps′ xs e f g h k = let m = f .most in let n = h .most in record {
-  next-is = g ∙ f .next-is ∙ ap (λ (m : ℕ). exprAt d t m .end) e;
-  most = omega arith;
-  names = h .names ∙ ap (without (paramsAt t p .value)) (f .names ∙ ap (λ (m : ℕ). heldExpr slots (exprAt d t m .value) xs) e);
-  indexed = h .indexed;
-}
+-- a lambda's body at q, where its parameters end, under marks that are those of its parameters, too
+pub refs-body : (d : ℕ) (t : List ℕ) (p q : ℕ) (slots : List Name) (ms ms′ : List ℕ) (o : Refs) (ps : List ℕ) (xs : List Name) → q ≡ paramsAt t p .end → ms′ ≡ markAll slots (paramsAt t p .value) ms →
+    Referred o t ps (exprAt d t q .end) (heldExpr slots ms′ (exprAt d t q .value) xs) →
+    Referred o t ps (exprAt d t (paramsAt t p .end) .end) (heldExpr slots (markAll slots (paramsAt t p .value) ms) (exprAt d t (paramsAt t p .end) .value) xs)
+refs-body d t p q slots ms ms′ o ps xs e f g =
+    referred-as o t ps _ _ _ _ g (ap (λ (m : ℕ). exprAt d t m .end) e) (ap₂ (λ (m : ℕ) (k : List ℕ). heldExpr slots k (exprAt d t m .value) xs) e f)
 
 pub body-there : (d : ℕ) (t : List ℕ) (p q : ℕ) → q ≡ paramsAt t p .end → LambdaAt d t p → ExprReads d t q
 body-there d t p q e h = subst (λ (m : ℕ). ExprReads d t m) (sym e) (h .body)
@@ -184,22 +180,22 @@ module _ (d : ℕ) (t : List ℕ) (a n : ℕ) (e : n ≡ countAt t a) where
   pub dict-is : exprsAt d (2 * n) t (a + 2) ≡ pairsAt d t a
   dict-is = ap (λ (m : ℕ). exprsAt d (2 * m) t (a + 2)) e
 
-pub refs-list : (slots : List Name) (t : List ℕ) (x y : Node Exprs) (o : Refs) (ps : List ℕ) (xs : List Name) → x ≡ y → Referred o t ps (x .end) (heldExprs slots (x .value) xs) → Referred o t ps (y .end) (heldExprs slots (y .value) xs)
-refs-list slots t x y o ps xs e g = referred-as o t ps _ _ _ _ g (ap (λ (z : Node Exprs). z .end) e) (ap (λ (z : Node Exprs). heldExprs slots (z .value) xs) e)
+pub refs-list : (slots : List Name) (ms t : List ℕ) (x y : Node Exprs) (o : Refs) (ps : List ℕ) (xs : List Name) → x ≡ y → Referred o t ps (x .end) (heldExprs slots ms (x .value) xs) → Referred o t ps (y .end) (heldExprs slots ms (y .value) xs)
+refs-list slots ms t x y o ps xs e g = referred-as o t ps _ _ _ _ g (ap (λ (z : Node Exprs). z .end) e) (ap (λ (z : Node Exprs). heldExprs slots ms (z .value) xs) e)
 
 -- ---- expressions, one at a time
 
-pub record ExprsLeft (d : ℕ) (t parent ps₀ : List ℕ) (n₀ p₀ k₀ : ℕ) (ps : List ℕ) (n p k : ℕ) : Type 0 where
+pub record ExprsLeft (d : ℕ) (t parent ms ps₀ : List ℕ) (n₀ p₀ k₀ : ℕ) (ps : List ℕ) (n p k : ℕ) : Type 0 where
   pub reads : ExprsRead d n t p
   pub end : exprsAt d n₀ t p₀ .end ≡ exprsAt d n t p .end
-  pub names : heldExprs (slotNames t parent) (exprsAt d n₀ t p₀ .value) (firstNames t k₀ ps₀) ≡ heldExprs (slotNames t parent) (exprsAt d n t p .value) (firstNames t k ps)
+  pub names : heldExprs (slotNames t parent) ms (exprsAt d n₀ t p₀ .value) (firstNames t k₀ ps₀) ≡ heldExprs (slotNames t parent) ms (exprsAt d n t p .value) (firstNames t k ps)
   pub keeping : Keeping t parent ps k
   pub kept : length ps ≡ length ps₀
 
-pub exprs-start : (d : ℕ) (t parent ps : List ℕ) (n p k : ℕ) → Keeping t parent ps k → ExprsRead d n t p → ExprsLeft d t parent ps n p k ps n p k
-exprs-start d t parent ps n p k a r = record { reads = r; end = refl; names = refl; keeping = a; kept = refl }
+pub exprs-start : (d : ℕ) (t parent ms ps : List ℕ) (n p k : ℕ) → Keeping t parent ps k → ExprsRead d n t p → ExprsLeft d t parent ms ps n p k ps n p k
+exprs-start d t parent ms ps n p k a r = record { reads = r; end = refl; names = refl; keeping = a; kept = refl }
 
-module _ (d : ℕ) (t parent ps₀ : List ℕ) (n₀ p₀ k₀ : ℕ) (ps : List ℕ) (n p k : ℕ) (l : ExprsLeft d t parent ps₀ n₀ p₀ k₀ ps n p k) where
+module _ (d : ℕ) (t parent ms ps₀ : List ℕ) (n₀ p₀ k₀ : ℕ) (ps : List ℕ) (n p k : ℕ) (l : ExprsLeft d t parent ms ps₀ n₀ p₀ k₀ ps n p k) where
   module _ (h : 0 < n) where
     pub exprs-head : ExprReads d t p
     exprs-head = view-exprs-more d n t p h (l .reads) .parts .head
@@ -207,30 +203,30 @@ module _ (d : ℕ) (t parent ps₀ : List ℕ) (n₀ p₀ k₀ : ℕ) (ps : List
     is-cons : exprsAt d n t p ≡ consAt d n t p
     is-cons = view-exprs-more d n t p h (l .reads) .is
 
-    all-names : heldExprs (slotNames t parent) (exprsAt d n₀ t p₀ .value) (firstNames t k₀ ps₀)
-        ≡ heldExprs (slotNames t parent) (exprsAt d (n - 1) t (exprAt d t p .end) .value) (heldExpr (slotNames t parent) (exprAt d t p .value) (firstNames t k ps))
+    all-names : heldExprs (slotNames t parent) ms (exprsAt d n₀ t p₀ .value) (firstNames t k₀ ps₀)
+        ≡ heldExprs (slotNames t parent) ms (exprsAt d (n - 1) t (exprAt d t p .end) .value) (heldExpr (slotNames t parent) ms (exprAt d t p .value) (firstNames t k ps))
     unfolding consAt heldExprs
-    all-names = l .names ∙ ap (λ (z : Node Exprs). heldExprs (slotNames t parent) (z .value) (firstNames t k ps)) is-cons
+    all-names = l .names ∙ ap (λ (z : Node Exprs). heldExprs (slotNames t parent) ms (z .value) (firstNames t k ps)) is-cons
 
     all-end : exprsAt d n₀ t p₀ .end ≡ exprsAt d (n - 1) t (exprAt d t p .end) .end
     unfolding consAt
     all-end = l .end ∙ ap (λ (z : Node Exprs). z .end) is-cons
 
-    pub exprs-next : (o : Refs) (ps′ : List ℕ) → Referred o t ps′ (exprAt d t p .end) (heldExpr (slotNames t parent) (exprAt d t p .value) (firstNames t k ps)) → length ps′ ≡ length ps →
-        ExprsLeft d t parent ps₀ n₀ p₀ k₀ ps′ (n - 1) (o .next) (o .n)
+    pub exprs-next : (o : Refs) (ps′ : List ℕ) → Referred o t ps′ (exprAt d t p .end) (heldExpr (slotNames t parent) ms (exprAt d t p .value) (firstNames t k ps)) → length ps′ ≡ length ps →
+        ExprsLeft d t parent ms ps₀ n₀ p₀ k₀ ps′ (n - 1) (o .next) (o .n)
     exprs-next o ps′ g w = record {
       reads = subst (λ (m : ℕ). ExprsRead d (n - 1) t m) (sym (g .next-is)) (view-exprs-more d n t p h (l .reads) .parts .rest);
       end = all-end ∙ ap (λ (m : ℕ). exprsAt d (n - 1) t m .end) (sym (g .next-is));
-      names = all-names ∙ ap₂ (λ (m : ℕ) (x : List Name). heldExprs (slotNames t parent) (exprsAt d (n - 1) t m .value) x) (sym (g .next-is)) (sym (g .names));
-      keeping = keeping-again t parent ps ps′ k _ o _ (l .keeping) g w (held-expr (slotNames t parent) (exprAt d t p .value) (firstNames t k ps) (l .keeping .held));
+      names = all-names ∙ ap₂ (λ (m : ℕ) (x : List Name). heldExprs (slotNames t parent) ms (exprsAt d (n - 1) t m .value) x) (sym (g .next-is)) (sym (g .names));
+      keeping = keeping-again t parent ps ps′ k _ o _ (l .keeping) g w (held-expr (slotNames t parent) ms (exprAt d t p .value) (firstNames t k ps) (l .keeping .held));
       kept = w ∙ l .kept;
     }
 
-  pub exprs-done : (o : Refs) → o .next ≡ p → o .n ≡ k → n ≤ 0 → Referred o t ps (exprsAt d n₀ t p₀ .end) (heldExprs (slotNames t parent) (exprsAt d n₀ t p₀ .value) (firstNames t k₀ ps₀))
+  pub exprs-done : (o : Refs) → o .next ≡ p → o .n ≡ k → n ≤ 0 → Referred o t ps (exprsAt d n₀ t p₀ .end) (heldExprs (slotNames t parent) ms (exprsAt d n₀ t p₀ .value) (firstNames t k₀ ps₀))
   unfolding heldExprs
   exprs-done o a b h = let m = l .keeping .most in let e = view-exprs-none d n t p h (l .reads .start) in record {
     next-is = a ∙ sym (l .end ∙ ap (λ (z : Node Exprs). z .end) e);
     most = omega arith;
-    names = ap (λ (j : ℕ). firstNames t j ps) b ∙ sym (l .names ∙ ap (λ (z : Node Exprs). heldExprs (slotNames t parent) (z .value) (firstNames t k ps)) e);
+    names = ap (λ (j : ℕ). firstNames t j ps) b ∙ sym (l .names ∙ ap (λ (z : Node Exprs). heldExprs (slotNames t parent) ms (z .value) (firstNames t k ps)) e);
     indexed = subst (λ (j : ℕ). Indexed t j ps) (sym b) (l .keeping .indexed);
   }

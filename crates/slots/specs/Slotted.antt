@@ -4,8 +4,6 @@ use mathlib.Core.Path.{_≡_}
 use mathlib.Core.List.{List, _++_}
 use lib.ListN.{length, take, drop}
 use Rattle.definitions.specs.Bytes.{Name}
-use Rattle.definitions.specs.Slots.{without}
-use Rattle.parts.specs.Places.{paramsAt}
 use Rattle.state.specs.Words.{nameAt}
 use Rattle.state.specs.Index.{bucketOf, Covered}
 use Rattle.state.specs.State.{namesAt, slotsFrom}
@@ -46,12 +44,6 @@ pub record Added (r : ℕ) (t ps : List ℕ) (n : ℕ) (want : List Name) : Type
 pub record Appended (t : List ℕ) (k : ℕ) (more ps ps′ : List ℕ) : Type 0 where
   pub names : firstNames t (k + length more) ps′ ≡ firstNames t k ps ++ namesAt t more
   pub indexed : Indexed t (k + length more) ps′
-
--- the first r are the first n without the parameters at p
-pub record Removed (r : ℕ) (t : List ℕ) (p n : ℕ) (ps ps′ : List ℕ) : Type 0 where
-  pub names : firstNames t r ps′ ≡ without (paramsAt t p .value) (firstNames t n ps)
-  pub most : r ≤ n
-  pub indexed : Indexed t r ps′
 
 -- the slots have the wanted names; or these are more than 255
 unfoldable pub Collected : Locals → List ℕ → List ℕ → List Name → Type 0

@@ -4,43 +4,32 @@ use names::index::slot_bucket;
 use names::index::start;
 use names::spell::name_part;
 ghost use mathlib.Core.Path.{_≡_};
-ghost use Prim.Native.Nat.{_+_, _≤_, _<_, _^_};
+ghost use Prim.Native.Nat.{_+_, _-_, _≤_, _<_, _^_};
 ghost use lib.ListN.{length};
-ghost use Rattle.definitions.specs.Bytes.{member};
+ghost use Rattle.definitions.specs.Bytes.{same, position};
 ghost use Rattle.definitions.specs.Slots.{add};
-ghost use Rattle.state.specs.State.{slotsFrom, slotNames, Slots};
+ghost use Rattle.state.specs.State.{slotsFrom, slotNames, Slots, foundOr};
 ghost use Rattle.parts.specs.Places.{nameBytes};
 ghost use Rattle.slots.specs.Slotted.{firstNames, Indexed, IsBucket, Added};
 
 // The bucket of the name at `at`.
-pub fn bucket_at(tree: &[u8], at: usize) -> usize
+pub(crate) fn bucket_at(tree: &[u8], at: usize) -> usize
     ensures { λ r. ⌜ IsBucket r (now (tree .entry)) at ⌝ }
 {
     slot_bucket(name_part(tree, at))
 }
 
-// Whether one of the slots has the name at `at`, whose bucket is b.
-pub fn is_slot(tree: &[u8], slots: &[u32], at: usize, b: usize) -> bool
+// The number of the slot that has the name at `at`, whose bucket is b; as many as there are where none has it.
+pub(crate) fn slot_of(tree: &[u8], slots: &[u32], at: usize, b: usize) -> usize
     requires { ⌜ Slots (now tree) (now slots) × IsBucket b (now tree) at ⌝ }
-    ensures { λ r. ⌜ r ≡ member (nameBytes (now (tree .entry)) at) (slotNames (now (tree .entry)) (now (slots .entry))) ⌝ }
+    ensures { λ r. ⌜ r ≡ foundOr (length (now (slots .entry)) - slotsFrom) (position (same (nameBytes (now (tree .entry)) at)) (slotNames (now (tree .entry)) (now (slots .entry)))) ⌝ }
 {
     let k = slots[b];
-    find_from(tree, &slots[2048..], k, name_part(tree, at)) < slots.len() - 2048
-}
-
-// Whether one of the first n slots has the name at `at`.
-pub fn is_kept(tree: &[u8], slots: &[u32], n: u32, at: usize) -> bool
-    requires { ⌜ Indexed (now tree) n (now slots) × (slotsFrom + n ≤ length (now slots)) ⌝ }
-    ensures { λ r. ⌜ r ≡ member (nameBytes (now (tree .entry)) at) (firstNames (now (tree .entry)) n (now (slots .entry))) ⌝ }
-{
-    let b = bucket_at(tree, at);
-    let k = slots[b];
-    let end = 2048 + n as usize;
-    find_from(tree, &slots[2048..end], k, name_part(tree, at)) < n as usize
+    find_from(tree, &slots[2048..], k, name_part(tree, at))
 }
 
 // The first n slots with the name at `at`, whose bucket is b, unless they have it: how many they are then.
-pub fn add_at(tree: &[u8], slots: &mut [u32], n: u32, at: usize, b: usize) -> u32
+pub(crate) fn add_at(tree: &[u8], slots: &mut [u32], n: u32, at: usize, b: usize) -> u32
     requires { ⌜ Indexed (now tree) n (now slots) × (slotsFrom + n < length (now slots)) × (n ≤ 255) × (at < 2 ^ 32) × IsBucket b (now tree) at ⌝ }
     ensures { λ r. ⌜ Added r (now (tree .entry)) (now (slots .exit)) n (add (nameBytes (now (tree .entry)) at) (firstNames (now (tree .entry)) n (now (slots .entry)))) ⌝ }
 {
@@ -57,7 +46,7 @@ pub fn add_at(tree: &[u8], slots: &mut [u32], n: u32, at: usize, b: usize) -> u3
 }
 
 // The first n slots with the name at `at`, unless they have it: how many they are then.
-pub fn add_name(tree: &[u8], slots: &mut [u32], n: u32, at: usize) -> u32
+pub(crate) fn add_name(tree: &[u8], slots: &mut [u32], n: u32, at: usize) -> u32
     requires { ⌜ Indexed (now tree) n (now slots) × (slotsFrom + n < length (now slots)) × (n ≤ 255) × (at < 2 ^ 32) ⌝ }
     ensures { λ r. ⌜ Added r (now (tree .entry)) (now (slots .exit)) n (add (nameBytes (now (tree .entry)) at) (firstNames (now (tree .entry)) n (now (slots .entry)))) ⌝ }
 {

@@ -10,10 +10,10 @@ use parts::numbers::u16_at;
 ghost use mathlib.Core.Path.{_≡_};
 ghost use Prim.Native.Nat.{_+_, _<_, _≤_};
 ghost use lib.ListN.{length, getD};
-ghost use Rattle.definitions.specs.Slots.{add, addTarget, localsStmt, localsBlock, localsBranches};
+ghost use Rattle.definitions.specs.Slots.{add, addTarget, addTargets, localsStmt, localsBlock, localsBranches};
 ghost use Rattle.parts.specs.Places.{nameBytes, nameEnd, namesFrom, AllThere, ParamsAt, paramsAt};
 ghost use Rattle.state.specs.State.{slotsFrom};
-ghost use Rattle.exprs.specs.ExprAt.{exprAt, TwoAt, secondAt};
+ghost use Rattle.exprs.specs.ExprAt.{exprAt, exprsAt, ExprReads, ExprsRead, TwoAt, secondAt};
 ghost use Rattle.tree.specs.StmtAt.{stmtAt, blockAt, branchesAt, StmtReads, BlockReads, BranchesRead, BranchAt, bodyAt, IfAt, ifAt, elifsAt, ForAt, forAt};
 ghost use Rattle.slots.specs.Slotted.{leading, firstNames, Collected, Room, Gathers};
 
@@ -35,19 +35,62 @@ fn gather_name(tree: &[u8], at: usize, next: usize, slots: &mut [u32], n: u32) -
     Gathered::Next(next, k)
 }
 
-// A target and a value: a target that is a variable gives its name a slot.
+// A target: a variable gives its name a slot, a tuple its elements, from left to right.
+fn gather_target(tree: &[u8], at: usize, depth: u32, slots: &mut [u32], n: u32) -> Gathered
+    requires { ⌜ Room (now tree) (now slots) n × ExprReads depth (now tree) at ⌝ }
+    ensures { λ r. ⌜ Gathers r (now (tree .entry)) (now (slots .exit)) (exprAt depth (now (tree .entry)) at .end) (addTarget (exprAt depth (now (tree .entry)) at .value) (firstNames (now (tree .entry)) n (now (slots .entry)))) ⌝ }
+{
+    let kind = tree[at];
+    let a = at + 1;
+    if kind == 6 {
+        let end = name_end(tree, a);
+        return gather_name(tree, a, end, slots, n);
+    }
+    if kind == 13 {
+        let count = u16_at(tree, a);
+        return gather_targets(tree, a + 2, depth - 1, count, slots, n);
+    }
+    Gathered::Next(skip_expr(tree, at, depth), n)
+}
+
+// So many targets.
+fn gather_targets(
+    tree: &[u8],
+    at: usize,
+    depth: u32,
+    count: u32,
+    slots: &mut [u32],
+    n: u32,
+) -> Gathered
+    requires { ⌜ Room (now tree) (now slots) n × ExprsRead depth count (now tree) at ⌝ }
+    ensures { λ r. ⌜ Gathers r (now (tree .entry)) (now (slots .exit)) (exprsAt depth count (now (tree .entry)) at .end) (addTargets (exprsAt depth count (now (tree .entry)) at .value) (firstNames (now (tree .entry)) n (now (slots .entry)))) ⌝ }
+{
+    let mut p = at;
+    let mut left = count;
+    let mut k = n;
+    while 0 < left {
+        let one = gather_target(tree, p, depth, slots, k);
+        let Gathered::Next(next, m) = one else {
+            return Gathered::Over;
+        };
+        p = next;
+        k = m;
+        left -= 1;
+    }
+    Gathered::Next(p, k)
+}
+
+// A target and a value.
 fn gather_assign(tree: &[u8], at: usize, depth: u32, slots: &mut [u32], n: u32) -> Gathered
     requires { ⌜ Room (now tree) (now slots) n × TwoAt depth (now tree) at ⌝ }
     ensures { λ r. ⌜ Gathers r (now (tree .entry)) (now (slots .exit)) (secondAt depth (now (tree .entry)) at .end) (addTarget (exprAt depth (now (tree .entry)) at .value) (firstNames (now (tree .entry)) n (now (slots .entry)))) ⌝ }
 {
-    if tree[at] == 6 {
-        let value = name_end(tree, at + 1);
-        let end = skip_value(tree, value, depth);
-        return gather_name(tree, at + 1, end, slots, n);
-    }
-    let value = skip_expr(tree, at, depth);
+    let target = gather_target(tree, at, depth, slots, n);
+    let Gathered::Next(value, k) = target else {
+        return Gathered::Over;
+    };
     let end = skip_value(tree, value, depth);
-    Gathered::Next(end, n)
+    Gathered::Next(end, k)
 }
 
 // A statement that holds no block of this function: below 3 one byte, 3 and 4 an expression, 5 an assignment, 9 and 10 a def or class.
@@ -166,7 +209,7 @@ fn gather_else(tree: &[u8], at: usize, depth: u32, slots: &mut [u32], n: u32) ->
     gather_block(tree, at + 1, depth, slots, n)
 }
 
-// A loop variable, a condition and a block.
+// A loop variable, what it goes through, and a block.
 fn gather_for(tree: &[u8], at: usize, depth: u32, slots: &mut [u32], n: u32) -> Gathered
     requires { ⌜ Room (now tree) (now slots) n × ForAt depth (now tree) at ⌝ }
     ensures { λ r. ⌜ Gathers r (now (tree .entry)) (now (slots .exit)) (bodyAt depth (now (tree .entry)) (nameEnd (now (tree .entry)) at) .end)
@@ -195,7 +238,7 @@ fn place_names(tree: &[u8], at: usize, count: u32, places: &mut [u32])
 }
 
 // The slots of the parameters at `at`.
-pub fn put_params(tree: &[u8], at: usize, slots: &mut [u32]) -> Locals
+pub(crate) fn put_params(tree: &[u8], at: usize, slots: &mut [u32]) -> Locals
     requires { ⌜ (length (now tree) ≤ 32768) × (slotsFrom + 256 ≤ length (now slots)) × ParamsAt (now tree) at ⌝ }
     ensures { λ r. ⌜ Collected r (now (tree .entry)) (now (slots .exit)) (paramsAt (now (tree .entry)) at .value) ⌝ }
 {

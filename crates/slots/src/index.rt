@@ -7,7 +7,7 @@ ghost use Rattle.state.specs.State.{slotsFrom};
 ghost use Rattle.slots.specs.Slotted.{Reindexed, Appended};
 
 // The index of the first n slots.
-pub fn index_slots(tree: &[u8], slots: &mut [u32], n: u32)
+pub(crate) fn index_slots(tree: &[u8], slots: &mut [u32], n: u32)
     requires { ⌜ slotsFrom + n ≤ length (now slots) ⌝ }
     ensures { λ r. ⌜ Reindexed (now (tree .entry)) n (now (slots .entry)) (now (slots .exit)) ⌝ }
 {
@@ -34,7 +34,7 @@ fn copy_places(places: &[u32], to: &mut [u32])
 }
 
 // More slots after the first k, and the index of all.
-pub fn append_slots(tree: &[u8], slots: &mut [u32], k: u32, more: &[u32])
+pub(crate) fn append_slots(tree: &[u8], slots: &mut [u32], k: u32, more: &[u32])
     requires { ⌜ (k + length (now more) ≤ 255) × (slotsFrom + 256 ≤ length (now slots)) ⌝ }
     ensures { λ r. ⌜ Appended (now (tree .entry)) k (now (more .entry)) (now (slots .entry)) (now (slots .exit)) ⌝ }
 {

@@ -10,7 +10,7 @@ ghost use Rattle.state.specs.State.{namesAt};
 ghost use Rattle.slots.specs.Order.{InOrder, Spot};
 
 // Whether the first bytes come before the second.
-pub fn is_below(a: &[u8], b: &[u8]) -> bool
+pub(crate) fn is_below(a: &[u8], b: &[u8]) -> bool
     ensures { λ r. ⌜ r ≡ below (now (a .entry)) (now (b .entry)) ⌝ }
 {
     let mut i = 0;
@@ -64,7 +64,7 @@ fn insert_first(tree: &[u8], places: &mut [u32])
 }
 
 // The names are put in order.
-pub fn sort_names(tree: &[u8], places: &mut [u32])
+pub(crate) fn sort_names(tree: &[u8], places: &mut [u32])
     ensures { λ r. ⌜ namesAt (now (tree .entry)) (now (places .exit)) ≡ sort (namesAt (now (tree .entry)) (now (places .entry))) ⌝ }
 {
     let mut i = places.len();

@@ -57,7 +57,7 @@ pub fn skip_expr(tree: &[u8], at: usize, depth: u32) -> usize
 }
 
 // Where the expression at `at` ends; constants, numbers and variables need no call of skip_expr.
-pub fn skip_value(tree: &[u8], at: usize, depth: u32) -> usize
+pub(crate) fn skip_value(tree: &[u8], at: usize, depth: u32) -> usize
     requires { ⌜ ExprReads depth (now tree) at ⌝ }
     ensures { λ r. ⌜ r ≡ exprAt depth (now (tree .entry)) at .end ⌝ }
 {

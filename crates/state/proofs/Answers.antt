@@ -6,11 +6,7 @@ use native.Mathlib.Omega.{arith}
 use lib.ListN.{length}
 use Rattle.state.specs.State.{State, stateOf, Within, Sound, Paced, Ready, Left, Emits, Numbers}
 use Rattle.state.specs.declared.Counts.{Counts}
-use Rattle.state.specs.declared.Limits.{Limits}
-use Rattle.state.specs.declared.Emitted.{Emitted}
-use Rattle.state.specs.declared.Emitted.the-variants.{Done, Full}
-use Rattle.state.specs.declared.Numbered.{Numbered}
-use Rattle.state.specs.declared.Numbered.the-variants.{At, Over}
+use Rattle.state.specs.Answered.{Limits, Emitted, Done, Full, Numbered, At, Over}
 use Rattle.state.proofs.Views.{stack-length}
 
 -- ---- one answer
@@ -53,10 +49,6 @@ pub emits-as : (r : Emitted) (tree made code tables : List ℕ) (c : Counts) (l 
     → Emits r tree made code tables c l next want → Emits r tree made code tables c l next′ want′
 emits-as r tree made code tables c l next next′ want want′ p q h = rw (← p, ← q) h
 
-pub numbers-as : (r : Numbered) (tree made code tables : List ℕ) (c : Counts) (l : Limits) (i i′ : ℕ) (want want′ : State) → i ≡ i′ → want ≡ want′
-    → Numbers r tree made code tables c l i want → Numbers r tree made code tables c l i′ want′
-numbers-as r tree made code tables c l i i′ want want′ p q h = rw (← p, ← q) h
-
 -- ---- one answer after another
 
 pub paced-none : (c : Counts) → Paced c c
@@ -75,12 +67,6 @@ pub emits-after : {c k : Counts} {l : Limits} {want₁ : State} {tree made₁ co
 unfolding Emits
 emits-after (Done n m) made code tables next want A h = (h .0, left-after A (h .1))
 emits-after Full made code tables next want A h = h
-
-pub numbers-after : {c k : Counts} {l : Limits} {want₁ : State} {tree made₁ code₁ tables₁ : List ℕ} (r : Numbered) (made code tables : List ℕ) (i : ℕ) (want : State)
-    → Left k tree made₁ code₁ tables₁ c l want₁ → Numbers r tree made code tables k l i want → Numbers r tree made code tables c l i want
-unfolding Numbers
-numbers-after (At j m) made code tables i want A h = (h .0, left-after A (h .1))
-numbers-after Over made code tables i want A h = h
 
 -- nothing done
 pub left-none : {c : Counts} {l : Limits} {made code tables : List ℕ} (tree : List ℕ) → Sound tree made code tables c l → Left c tree made code tables c l (stateOf tree made code tables c)

@@ -28,10 +28,6 @@ base-kept base e s h = omega (arith, stack-grows base e s)
 
 -- ---- combinators
 
-pub at-emits : (base : ℕ) (is : List Instr) (s : State) → emitAt base (emits is) s ≡ record { stack = s .stack ++ is; tables = s .tables }
-unfolding emitAt emits
-at-emits base is s = refl
-
 pub at-nothing : (base : ℕ) (s : State) → emitAt base (emits []) s ≡ s
 unfolding emitAt emits
 at-nothing base s = state-eq _ s (append-nil (s .stack)) refl

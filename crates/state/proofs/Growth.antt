@@ -9,20 +9,21 @@ use lib.ListN.{length, set, length-append, length-set}
 use lib.Seq.{append-snoc}
 use lib.Dec.{leb}
 use Rattle.definitions.specs.Bytes.{Name, Text, same, position, all}
-use Rattle.definitions.specs.Tree.{Literal, noneL, boolL, intL, floatL, stringL}
-use Rattle.definitions.specs.Tree.{Expr, lit, var, unary, binary, logical, call, attr, display, index, lambda, Exprs, []ᵉ, _∷ᵉ_, count, View, asVar, asAttr, asIndex, asTuple, asOther, view}
-use Rattle.definitions.specs.Tree.{Stmt, break, continue, pass, expr, return, assign, if, while, for, def, class, Block, []ᵇ, _∷ᵇ_, Branches, done, else, when, Methods, []ᵐ, method}
+use Rattle.definitions.specs.Tree.{Literal, noneL, boolL, intL, floatL, stringL, Expr, lit, var, unary, binary, logical, call, attr, display, index, lambda, Exprs, []ᵉ, _∷ᵉ_}
+use Rattle.definitions.specs.Tree.{count, View, asVar, asAttr, asIndex, asTuple, asOther, view, Stmt, break, continue, pass, expr, return, assign, if, while, for, def, class}
+use Rattle.definitions.specs.Tree.{Block, []ᵇ, _∷ᵇ_, Branches, done, else, when, Methods, []ᵐ, method}
 use Rattle.definitions.specs.Wellformed.{isTuple}
 use Rattle.definitions.specs.Instruction
 use Rattle.definitions.specs.Instruction.{Instr, Return}
-use Rattle.definitions.specs.Tables.{Function, Method, Tables, Body, blockBody, exprBody, Out, Emit, emits, one, _⨟_, here, addSymbol, addString, withClasses, intern, getOrAddString, begin, setCode, enclose, function}
+use Rattle.definitions.specs.Tables.{Function, Method, Tables, Body, blockBody, exprBody, Out, Emit, emits, one, _⨟_, here, addSymbol, addString, withClasses, intern}
+use Rattle.definitions.specs.Tables.{getOrAddString, begin, setCode, enclose, function}
 use Rattle.definitions.specs.Slots.{localsBlock, captures}
 use Rattle.definitions.specs.Module.{instructions, slotsFit}
-use Rattle.definitions.specs.Lower.{load, store, literal, shortcut, Callee, builtinCallee, functionCallee, valueCallee, resolve, callNamed, callBy, lambdaName, loads, closure, emitExpr, emitExprs, emitObject, decides, displaySize}
-use Rattle.definitions.specs.Lower.{copy, emitTarget, unpack, assignBy, loop, iterName, makeIter, namedIter, askIter, takeIter, methodEnd, insertMethod, beginClass, classObject, endClass, classOut, emitStmt, emitBlock, emitBranches, emitMethods}
+use Rattle.definitions.specs.Lower.{load, store, literal, shortcut, Callee, builtinCallee, functionCallee, valueCallee, resolve, callNamed, callBy, lambdaName, loads, closure}
+use Rattle.definitions.specs.Lower.{emitExpr, emitExprs, emitObject, decides, displaySize, copy, emitTarget, unpack, assignBy, loop, iterName, makeIter, namedIter, askIter}
+use Rattle.definitions.specs.Lower.{takeIter, methodEnd, insertMethod, beginClass, classObject, endClass, classOut, emitStmt, emitBlock, emitBranches, emitMethods}
 use Rattle.definitions.proofs.Functions.{setCode-seam}
 use Rattle.definitions.proofs.Truth.{left, right}
-use Rattle.state.specs.Steps.{branch, methodFunction}
 
 -- functions are added at the end, and no table is shorter
 pub record Lengthened (t u : Tables) : Type 0 where
@@ -389,15 +390,3 @@ mutual
   pub methods-lengthened : (ms : Methods) (acc : List Method) (t : Tables) → Lengthened t (emitMethods ms acc t .tables)
   methods-lengthened []ᵐ acc t = lengthened-none t
   methods-lengthened (method x ps b rest) acc t = method-by x ps b rest acc t (lengthens-block (localsBlock b ps) b) (λ as′ u. methods-lengthened rest as′ u)
-
--- ---- the parts of branches and methods
-
-pub lengthens-branch : (slots : List Name) (c : Expr) (b : Block) → Lengthens (branch slots c b)
-unfolding branch
-lengthens-branch slots c b = record {
-  at = λ p t. lengthened-more (lengthens-expr slots c .at p t) (lengthens-block slots b .at (suc (p + length (emitExpr slots c p t .code))) (emitExpr slots c p t .tables));
-}
-
-pub lengthens-methodFunction : (x : Name) (ps : List Name) (b : Block) → Lengthens (methodFunction x ps b)
-unfolding methodFunction
-lengthens-methodFunction x ps b = lengthens-function x (length ps) (localsBlock b ps) (blockBody b (methodEnd x)) (lengthens-seq (lengthens-block (localsBlock b ps) b) (lengthens-emits (methodEnd x)))

@@ -1,18 +1,17 @@
 -- An index of names: what its buckets tell of a name, and what one more name leaves.
-use Prim.Native.Nat.{ℕ, zero, suc, _+_, _-_, _*_, _%_, _≤_, _<_}
+use Prim.Native.Nat.{ℕ, zero, suc, _+_, _*_, _%_, _≤_, _<_}
 use mathlib.Core.Path.{_≡_, refl, sym, ap, subst, _∙_}
-use mathlib.Core.Bool.{Bool, true, false, _&&_}
+use mathlib.Core.Bool.{Bool, true, false}
 use mathlib.Core.Option.{Option, none, some}
-use mathlib.Core.List.{List, [], _∷_, _++_, map}
+use mathlib.Core.List.{List, [], _∷_, _++_}
 use native.Mathlib.Omega.{arith}
 use native.Mathlib.Nat.{zero-add, add-zero, suc-add, mod-lt}
 use native.Mathlib.Numerals.{add-one}
-use lib.ListN.{length, take, drop, getD, set, drop-of-length-le}
+use lib.ListN.{length, drop, getD, drop-of-length-le}
 use lib.Seq.{getD-set-same, getD-set-other, drop-cons}
-use lib.Dec.{ltb, eqb}
+use lib.Dec.{ltb, eqb, eqb→eq}
 use Rattle.definitions.specs.Bytes.{Name, same, position}
 use Rattle.state.specs.Index.{hashFrom, hashOf, bucketOf, Covered, noneCovered, covered, startOf, noted}
-use lib.Dec.{T, eqb→eq}
 use borrow.Author.Tests.{ltb-true, ltb-false}
 use Rattle.definitions.proofs.Truth.{left, right, holds, not-equal}
 use Rattle.state.specs.Words.{region}

@@ -1,16 +1,16 @@
 -- The state after parts with jumps, where a jump is put first as any instruction and set when the part after it is done.
-use Prim.Native.Nat.{ℕ, zero, suc, _+_, _-_, _≤_, _<_}
+use Prim.Native.Nat.{ℕ, suc, _+_, _-_, _≤_, _<_}
 use mathlib.Core.Path.{_≡_, refl, sym, ap, _∙_}
 use mathlib.Core.Bool.{Bool}
 use mathlib.Core.List.{List, [], _∷_, _++_, append-assoc, append-nil}
 use native.Mathlib.Omega.{arith}
-use lib.ListN.{length, take, drop, set, getD, length-append, length-set, length-take, length-drop}
-use lib.Seq.{set-append-left, set-append-seam, take-at, drop-at, take-append-le, drop-append-le, length-take-le, append-snoc, take-append-seam, drop-append-seam, drop-append-add, drop-set-lt, take-set-lt}
+use lib.ListN.{length, take, drop, set, length-append, length-set, length-take, length-drop}
+use lib.Seq.{set-append-left, set-append-seam, take-at, drop-at, append-snoc, take-append-seam, drop-append-seam, drop-append-add}
 use Rattle.definitions.specs.Bytes.{Name}
 use Rattle.definitions.specs.Instruction.{Instr, Jump, JumpIfFalse, ConstBool, minus}
 use Rattle.definitions.specs.Tables.{Tables, Emit, emits, one}
 use Rattle.definitions.specs.Tree.{Expr, Block, Branches, done, else, when}
-use Rattle.definitions.specs.Lower.{jumpOn, shortcut, patch, patched, loop, emitExpr, emitBlock, emitBranches}
+use Rattle.definitions.specs.Lower.{jumpOn, shortcut, patch, loop, emitExpr, emitBlock, emitBranches}
 use Rattle.state.specs.State.{State, emitAt}
 use Rattle.state.specs.Steps.{setAt, patchAt, branch, chainAt}
 use Rattle.state.proofs.Emission.{state-eq}
@@ -20,12 +20,6 @@ use Rattle.state.proofs.Emission.{state-eq}
 pub set-length : (k : ℕ) (i : Instr) (s : State) → length (setAt k i s .stack) ≡ length (s .stack)
 unfolding setAt
 set-length k i s = length-set (s .stack) k i
-
-pub set-emit : (base k : ℕ) (i : Instr) (e : Emit) (s : State) → k < length (s .stack) → emitAt base e (setAt k i s) ≡ setAt k i (emitAt base e s)
-unfolding emitAt setAt
-set-emit base k i e s h =
-    ap (λ (n : ℕ). record { stack = set (s .stack) k i ++ e (n - base) (s .tables) .code; tables = e (n - base) (s .tables) .tables }) (length-set (s .stack) k i)
-    ∙ state-eq _ _ (sym (set-append-left (s .stack) (e (length (s .stack) - base) (s .tables) .code) k i h)) refl
 
 patch-long : (h n i : ℕ) (is : List Instr) → length (patch h n i is) ≡ length is
 unfolding patch
@@ -37,51 +31,6 @@ unfolding patchAt
 patch-length h k n s l =
     let m = patch-long h n 0 (take n (drop k (s .stack))) in
     simp (length-append, length-take, length-drop, m) (omega arith)
-
-patch-more : (h k n : ℕ) (xs ys : List Instr) → k + n ≤ length xs
-    → take k (xs ++ ys) ++ (patch h n 0 (take n (drop k (xs ++ ys))) ++ drop (k + n) (xs ++ ys)) ≡ take k xs ++ (patch h n 0 (take n (drop k xs)) ++ drop (k + n) xs) ++ ys
-patch-more h k n xs ys l =
-    let t : take k (xs ++ ys) ≡ take k xs = take-append-le k xs ys (omega arith) in
-    let d : take n (drop k (xs ++ ys)) ≡ take n (drop k xs) = ap (take n) (drop-append-le k xs ys (omega arith)) ∙ take-append-le n (drop k xs) ys (simp length-drop (omega arith)) in
-    let m : drop (k + n) (xs ++ ys) ≡ drop (k + n) xs ++ ys = drop-append-le (k + n) xs ys l in
-    (λ j. t j ++ (patch h n 0 (d j) ++ m j)) ∙ simp append-assoc
-
-pub patch-emit : (base h k n : ℕ) (e : Emit) (s : State) → k + n ≤ length (s .stack) → emitAt base e (patchAt h k n s) ≡ patchAt h k n (emitAt base e s)
-unfolding emitAt patchAt
-patch-emit base h k n e s l =
-    let xs = s .stack in
-    let ys = e (length xs - base) (s .tables) .code in
-    ap (λ (m : ℕ). record { stack = take k xs ++ (patch h n 0 (take n (drop k xs)) ++ drop (k + n) xs) ++ e (m - base) (s .tables) .code; tables = e (m - base) (s .tables) .tables }) (patch-length h k n s l)
-    ∙ state-eq _ _ (sym (patch-more h k n xs ys l)) refl
-
--- the inside of a loop may be patched before or after an instruction in front of it is set
-pub set-patch : (h k n j : ℕ) (i : Instr) (s : State) → j < k → k ≤ length (s .stack) → setAt j i (patchAt h k n s) ≡ patchAt h k n (setAt j i s)
-unfolding setAt patchAt
-set-patch h k n j i s l m =
-    let xs = s .stack in
-    let d : drop k (set xs j i) ≡ drop k xs = drop-set-lt k xs j i l in
-    let r : drop (k + n) (set xs j i) ≡ drop (k + n) xs = drop-set-lt (k + n) xs j i (omega arith) in
-    let t : take k (set xs j i) ≡ set (take k xs) j i = take-set-lt k xs j i l in
-    state-eq _ _
-    (set-append-left (take k xs) (patch h n 0 (take n (drop k xs)) ++ drop (k + n) xs) j i (omega (arith, length-take-le k xs m))
-    ∙ sym (λ a. t a ++ (patch h n 0 (take n (d a)) ++ r a)))
-    refl
-
--- the inside is patched word by word
-pub patch-snoc : (h n i : ℕ) (xs : List Instr) (x : Instr) → patch h n i (xs ++ x ∷ []) ≡ patch h n i xs ++ patched h n (i + length xs) x ∷ []
-unfolding patch
-patch-snoc h n i [] x = let e : i ≡ i + 0 = omega arith in ap (λ (j : ℕ). patched h n j x ∷ []) e
-patch-snoc h n i (y ∷ xs) x =
-    let e : suc i + length xs ≡ i + suc (length xs) = omega arith in
-    ap (λ (l : List Instr). patched h n i y ∷ l) (patch-snoc h n (suc i) xs x ∙ ap (λ (j : ℕ). patch h n (suc i) xs ++ patched h n j x ∷ []) e)
-
-pub patch-getD : (h n i j : ℕ) (xs : List Instr) (d : Instr) → j < length xs → getD (patch h n i xs) j d ≡ patched h n (i + j) (getD xs j d)
-unfolding patch
-patch-getD h n i j [] d l = absurd (omega arith)
-patch-getD h n i zero (x ∷ xs) d l = let e : i ≡ i + 0 = omega arith in ap (λ (m : ℕ). patched h n m x) e
-patch-getD h n i (suc j) (x ∷ xs) d l =
-    let e : suc i + j ≡ i + suc j = omega arith in
-    patch-getD h n (suc i) j xs d (omega arith) ∙ ap (λ (m : ℕ). patched h n m (getD xs j d)) e
 
 -- ---- `and`, `or`
 

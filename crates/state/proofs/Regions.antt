@@ -7,10 +7,9 @@ use native.Mathlib.Omega.{arith}
 use native.Mathlib.Nat.{zero-add, suc-add}
 use native.Mathlib.Numerals.{add-one}
 use lib.ListN.{length, take, drop, getD, set, length-drop, length-map}
-use lib.Seq.{drop-at, take-at, length-take-le, take-take, take-nil, drop-nil, take-set-lt, take-set-le, drop-set-lt, drop-set-add, take-suc-set, getD-take, getD-drop, take-add, drop-drop, take-suc, drop-cons}
+use lib.Seq.{length-take-le, take-take, take-nil, drop-nil, take-set-lt, take-set-le, drop-set-lt, drop-set-add, take-suc-set, getD-take, drop-drop}
 use lib.Dec.{ltb, leb}
 use borrow.Author.Tests.{ltb-false, le-leb}
-use borrow.Rule.Slice.PartMut.{putMid, postOf, take-put, drop-put}
 use Rattle.definitions.specs.Bytes.{Name, all}
 use Rattle.definitions.specs.Tables.{Function, Class, setCode}
 use Rattle.definitions.specs.Module.{instructions}
@@ -40,10 +39,6 @@ pub region-length : (a n : ℕ) (xs : List ℕ) → a + n ≤ length xs → leng
 unfolding region
 region-length a n xs h = length-take-le n (drop a xs) (simp length-drop (omega arith))
 
-pub region-getD : (a n i : ℕ) (xs : List ℕ) → i < n → getD (region a n xs) i 0 ≡ getD xs (a + i) 0
-unfolding region
-region-getD a n i xs h = getD-take n (drop a xs) i 0 h ∙ getD-drop a xs i 0
-
 -- a region of a region, and of what is left of an area
 pub region-region : (a m b n : ℕ) (xs : List ℕ) → b + n ≤ m → region b n (region a m xs) ≡ region (a + b) n xs
 unfolding region
@@ -58,28 +53,12 @@ pub region-take : (m a n : ℕ) (xs : List ℕ) → m ≤ n → take m (region a
 unfolding region
 region-take m a n xs h = take-take m n (drop a xs) h
 
--- a region by its beginning and its rest
-pub region-add : (a m n : ℕ) (xs : List ℕ) → region a (m + n) xs ≡ region a m xs ++ region (a + m) n xs
-unfolding region
-region-add a m n xs = take-add m n (drop a xs) ∙ ap (λ (ys : List ℕ). take m (drop a xs) ++ take n ys) (drop-drop m a xs)
-
 -- what is left of a region
 pub region-rest : (a s n : ℕ) (xs : List ℕ) → s ≤ n → region (a + s) (n - s) xs ≡ drop s (region a n xs)
 unfolding region
 region-rest a s n xs h =
     let e : s + (n - s) ≡ n = omega arith in
     ap (take (n - s)) (sym (drop-drop s a xs)) ∙ swap s (n - s) (drop a xs) ∙ ap (λ (k : ℕ). drop s (take k (drop a xs))) e
-
--- by its beginning and its last word, and by its first word and the rest
-pub region-last : (a n : ℕ) (xs : List ℕ) → a + n < length xs → region a (n + 1) xs ≡ region a n xs ++ getD xs (a + n) 0 ∷ []
-unfolding region
-region-last a n xs h =
-    ap (λ (k : ℕ). take k (drop a xs)) (add-one n) ∙ take-suc (drop a xs) n 0 (simp length-drop (omega arith))
-    ∙ ap (λ (x : ℕ). take n (drop a xs) ++ x ∷ []) (getD-drop a xs n 0)
-
-pub region-first : (a n : ℕ) (xs : List ℕ) → a < length xs → region a (suc n) xs ≡ getD xs a 0 ∷ region (a + 1) n xs
-unfolding region
-region-first a n xs h = ap (take (suc n)) (drop-cons xs a 0 h) ∙ ap (λ (k : ℕ). getD xs a 0 ∷ take n (drop k xs)) (sym (add-one a))
 
 -- ---- a word is set
 
@@ -107,25 +86,6 @@ pub set-first : (n w : ℕ) (xs : List ℕ) → n < length xs → region 0 (n + 
 unfolding region
 set-first n w xs h = ap (λ (k : ℕ). take k (set xs n w)) (add-one n) ∙ take-suc-set xs n w h
 
-pub take-next : (n w : ℕ) (xs : List ℕ) → n < length xs → take (n + 1) (set xs n w) ≡ take n xs ++ w ∷ []
-take-next n w xs h = ap (λ (k : ℕ). take k (set xs n w)) (add-one n) ∙ take-suc-set xs n w h
-
--- ---- a part of n words from a on came back as ys
-
-module _ (a n : ℕ) (xs ys : List ℕ) (inside : a + n ≤ length xs) (same : length ys ≡ n) where
-  pub put-here : region a n (putMid a n xs ys) ≡ ys
-  unfolding region
-  put-here = ap (take n) (drop-at (take a xs) (ys ++ postOf a n xs) a (length-take-le a xs (omega arith))) ∙ take-at ys (postOf a n xs) n same
-
-  pub put-below : (b k : ℕ) → b + k ≤ a → region b k (putMid a n xs ys) ≡ region b k xs
-  put-below b k h = region-same a b k _ xs h (take-put a n xs ys (omega arith))
-
-  pub put-rest : drop (a + n) (putMid a n xs ys) ≡ drop (a + n) xs
-  put-rest = let e : a + n - a ≡ n = omega arith in rw e at (drop-put a (a + n) xs ys (omega arith) inside (same ∙ sym e))
-
-  pub put-above : (b k : ℕ) → a + n ≤ b → region b k (putMid a n xs ys) ≡ region b k xs
-  put-above b k h = region-same-end (a + n) b k _ xs h put-rest
-
 -- ---- a fact of each word
 
 pub every-append : {P : ℕ → Type 0} {xs ys : List ℕ} → Every P xs → Every P ys → Every P (xs ++ ys)
@@ -143,11 +103,6 @@ pub every-set : {P : ℕ → Type 0} {xs : List ℕ} (i w : ℕ) → P w → Eve
 every-set i w p noEvery = noEvery
 every-set zero w p (every q r) = every p r
 every-set (suc i) w p (every q r) = every q (every-set i w p r)
-
-pub every-at : {P : ℕ → Type 0} (xs : List ℕ) (i : ℕ) → Every P xs → i < length xs → P (getD xs i 0)
-every-at [] i noEvery h = absurd (omega arith)
-every-at (x ∷ xs) zero (every p r) h = p
-every-at (x ∷ xs) (suc i) (every p r) h = every-at xs i r (omega arith)
 
 -- ---- the heads and the places of code: functions
 
@@ -207,14 +162,6 @@ classes-snoc tree ms [] [] x k e = refl
 classes-snoc tree ms [] (y ∷ ks) x k e = absurd (omega arith)
 classes-snoc tree ms (h ∷ xs) [] x k e = absurd (omega arith)
 classes-snoc tree ms (h ∷ xs) (y ∷ ks) x k e = ap (λ (cs : List Class). classOf tree ms h y ∷ cs) (classes-snoc tree ms xs ks x k (omega arith))
-
--- a class gets its methods
-pub classes-set : (tree ms xs ks : List ℕ) (i k : ℕ) → classesOf tree ms xs (set ks i k) ≡ set (classesOf tree ms xs ks) i (classOf tree ms (getD xs i 0) k)
-unfolding classesOf
-classes-set tree ms [] ks i k = refl
-classes-set tree ms (x ∷ xs) [] i k = refl
-classes-set tree ms (x ∷ xs) (y ∷ ks) zero k = refl
-classes-set tree ms (x ∷ xs) (y ∷ ks) (suc i) k = ap (λ (cs : List Class). classOf tree ms x y ∷ cs) (classes-set tree ms xs ks i k)
 
 -- classes whose methods lie in a beginning that two tables of methods share
 pub classes-same : (tree ms ms′ xs ks : List ℕ) (n : ℕ) → Every (EndsWithin n) ks → take n ms ≡ take n ms′ → classesOf tree ms xs ks ≡ classesOf tree ms′ xs ks

@@ -9,17 +9,21 @@ use native.Mathlib.Omega.{arith}
 use lib.ListN.{length}
 use lib.Dec.{leb}
 use Rattle.definitions.specs.Bytes.{Name, Text, accepted, same, position, all}
-use Rattle.definitions.specs.Tree.{Literal, noneL, boolL, intL, floatL, stringL, Display, listD, tupleD, dictD, setD, treeSetD}
-use Rattle.definitions.specs.Tree.{Expr, lit, var, unary, binary, logical, call, attr, display, index, lambda, Exprs, []ᵉ, _∷ᵉ_, count, View, asVar, asAttr, asIndex, asTuple, asOther, view, viewDisplay}
-use Rattle.definitions.specs.Tree.{Stmt, break, continue, pass, expr, return, assign, if, while, for, def, class, Block, []ᵇ, _∷ᵇ_, Branches, done, else, when, Methods, []ᵐ, method}
-use Rattle.definitions.specs.Wellformed.{isTuple, areElements, isTarget, ifAsked, askName, askParams, askMethod, askExpr, askTarget, askAttribute, askStmt, askBlock, askBranches, askMethods, blockQuestions, firstNo, refusedBy, wellFormed}
+use Rattle.definitions.specs.Tree.{Literal, noneL, boolL, intL, floatL, stringL, Display, listD, tupleD, dictD, setD, treeSetD, Expr, lit, var, unary, binary, logical, call, attr}
+use Rattle.definitions.specs.Tree.{display, index, lambda, Exprs, []ᵉ, _∷ᵉ_, count, View, asVar, asAttr, asIndex, asTuple, asOther, view, viewDisplay, Stmt, break, continue, pass}
+use Rattle.definitions.specs.Tree.{expr, return, assign, if, while, for, def, class, Block, []ᵇ, _∷ᵇ_, Branches, done, else, when, Methods, []ᵐ, method}
+use Rattle.definitions.specs.Wellformed.{isTuple, areElements, isTarget, ifAsked, askName, askParams, askMethod, askExpr, askTarget, askAttribute, askStmt, askBlock, askBranches}
+use Rattle.definitions.specs.Wellformed.{askMethods, blockQuestions, firstNo, refusedBy, wellFormed}
 use Rattle.definitions.specs.Instruction
 use Rattle.definitions.specs.Instruction.{Instr, Return}
-use Rattle.definitions.specs.Tables.{Function, Method, Tables, Body, blockBody, exprBody, Out, Emit, emits, one, _⨟_, here, addSymbol, addString, intern, getOrAddString, begin, setCode, enclose, function}
+use Rattle.definitions.specs.Tables.{Function, Method, Tables, Body, blockBody, exprBody, Out, Emit, emits, one, _⨟_, here, addSymbol, addString, intern, getOrAddString, begin}
+use Rattle.definitions.specs.Tables.{setCode, enclose, function}
 use Rattle.definitions.specs.Slots.{localsBlock, captures}
 use Rattle.definitions.specs.Module.{slotsFit}
-use Rattle.definitions.specs.Lower.{load, store, literal, shortcut, decides, displaySize, Callee, builtinCallee, functionCallee, valueCallee, resolve, callNamed, callBy, lambdaName, loads, closure, emitExpr, emitExprs, emitObject}
-use Rattle.definitions.specs.Lower.{copy, emitTarget, unpack, assignBy, loop, iterName, makeIter, namedIter, askIter, takeIter, methodEnd, insertMethod, beginClass, classObject, endClass, classOut, emitStmt, emitBlock, emitBranches, emitMethods, main, noTables, compile}
+use Rattle.definitions.specs.Lower.{load, store, literal, shortcut, decides, displaySize, Callee, builtinCallee, functionCallee, valueCallee, resolve, callNamed, callBy}
+use Rattle.definitions.specs.Lower.{lambdaName, loads, closure, emitExpr, emitExprs, emitObject, copy, emitTarget, unpack, assignBy, loop, iterName, makeIter, namedIter, askIter}
+use Rattle.definitions.specs.Lower.{takeIter, methodEnd, insertMethod, beginClass, classObject, endClass, classOut, emitStmt, emitBlock, emitBranches, emitMethods, main, noTables}
+use Rattle.definitions.specs.Lower.{compile}
 use Rattle.definitions.proofs.Truth.{left, right}
 use Rattle.state.specs.Fits.{fitsExpr, fitsExprs, fitsTarget, fitsStmt, fitsBlock, fitsBranches, fitsMethods}
 
@@ -411,5 +415,5 @@ targets-asked b c = go (firstNo (λ q. askBlock q false b) blockQuestions) refl
     go : (o : Option ℕ) → firstNo ask blockQuestions ≡ o → refusedBy o b ≡ accepted c → askBlock 10 false b ≡ true
     go none e h =
         let a = answered ask blockQuestions e in
-        left (ask 10) _ (right (ask 9) _ (right (ask 8) _ (right (ask 7) _ a)))
+        left (ask 10) _ (right (ask 9) _ (right (ask 8) _ (right (ask 33) _ (right (ask 7) _ a))))
     go (some q) e h = let z : _≡_ {A = ℕ} 0 1 = cc in absurd (omega arith)

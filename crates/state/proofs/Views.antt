@@ -10,7 +10,7 @@ use Rattle.definitions.specs.Module.{instructions, slotsFit}
 use Rattle.state.specs.Words.{region, textAt, instrOf, instrsOf}
 use Rattle.state.specs.State.{stringsFrom, headsFrom, codesFrom, classNamesFrom, classMethodsFrom, methodsFrom, constantsFrom, doneFrom, spelled, tablesOf, stateOf, Within, Sound}
 use Rattle.state.specs.declared.Counts.{Counts}
-use Rattle.state.specs.declared.Limits.{Limits}
+use Rattle.state.specs.Answered.{Limits}
 use Rattle.state.proofs.Regions.{region-length, functions-length, functions-slots, classes-length, instructions-total}
 
 module _ (tree made code tables : List ℕ) (c : Counts) (l : Limits) (s : Sound tree made code tables c l) where

@@ -2,28 +2,27 @@
 use Prim.Native.Nat.{ℕ, suc, _+_, _-_, _≤_, _<_}
 use mathlib.Core.Path.{_≡_, refl, sym, ap, subst, _∙_}
 use mathlib.Core.Bool.{Bool}
-use mathlib.Core.Option.{Option, none, some}
 use mathlib.Core.List.{List, [], _++_}
 use native.Mathlib.Omega.{arith}
 use lib.ListN.{length, drop, set, length-append, length-set}
 use lib.Dec.{leb}
 use lib.Seq.{drop-append-seam, take-append-seam}
-use Rattle.definitions.specs.Bytes.{Name, Text, same, position}
+use Rattle.definitions.specs.Bytes.{Name}
 use Rattle.definitions.specs.Tree.{Expr, Block, Branches, else, when, Methods, method}
 use Rattle.definitions.specs.Instruction.{Instr, Jump, JumpIfFalse, ConstBool, LoadConst, StoreGlobal, MakeClosure, Return, minus}
-use Rattle.definitions.specs.Tables.{Method, Tables, Body, Emit, one, _⨟_, addSymbol, addString, withClasses, addConstant, begin, function}
+use Rattle.definitions.specs.Tables.{Method, Tables, Body, Emit, one, _⨟_, withClasses, addConstant, begin, function}
 use Rattle.definitions.specs.Module.{instructions, slotsFit}
 use Rattle.definitions.specs.Lower.{shortcut, jumpOn, loop, loads, lambdaName, closure, emitExpr, emitBlock, emitBranches, emitMethods, beginClass, classObject, endClass, classOut}
 use Rattle.definitions.proofs.Truth.{right, at-most}
-use Rattle.state.specs.State.{State, emitAt, Within, symbolNumber, withSymbol, withString, withTables}
+use Rattle.state.specs.State.{State, emitAt, Within, symbolNumber, withSymbol, withTables}
 use Rattle.state.specs.Steps.{setAt, patchAt, begun, ended, branch, chainAt, methodFunction, methodsAt, methodsOf}
-use Rattle.state.specs.declared.Limits.{Limits}
+use Rattle.state.specs.Answered.{Limits}
 use Rattle.state.proofs.Emission.{stack-grows, base-kept, at-seq}
 use Rattle.state.proofs.Jumps.{set-length, patch-length, at-shortcut, at-loop, at-branch, at-when, chain-when, chain-else}
 use Rattle.state.proofs.Enclosing.{symbol-functions, at-function, at-closure, at-endClass, at-classObject, at-class, methods-more}
-use Rattle.state.proofs.Growth.{Lengthened, Lengthens, lengthened-none, lengthened-same, functions-longer, instructions-longer, slots-fewer, symbol-lengthened, string-lengthened, begin-lengthened, setCode-count, setCode-instructions}
+use Rattle.state.proofs.Growth.{Lengthened, Lengthens, lengthened-none, functions-longer, instructions-longer, slots-fewer, begin-lengthened, setCode-count}
+use Rattle.state.proofs.Growth.{setCode-instructions, lengthens-one, lengthens-seq, branches-lengthened, methods-lengthened, lengthens-endClass, lengthens-loads}
 use Rattle.state.proofs.SlotsFit.{all-snoc, all-setCode}
-use Rattle.state.proofs.Growth.{lengthens-one, lengthens-seq, branches-lengthened, methods-lengthened, beginClass-lengthened, lengthens-endClass, lengthens-loads}
 
 -- ---- parts
 
@@ -61,28 +60,6 @@ within-two {g} base e f s h G w = within-first base f (emitAt base e s) (base-ke
 
 pub within-tables : {l : Limits} (s : State) (u : Tables) → Lengthened (s .tables) u → Within l (withTables u s) → Within l s
 within-tables s u L w = within-less s (withTables u s) L (omega arith) w
-
-pub withSymbol-lengthened : (x : Name) (t : Tables) → Lengthened t (withSymbol x t)
-unfolding withSymbol
-withSymbol-lengthened x t = go (position (same x) (t .symbols))
-  where
-    go : (o : Option ℕ) → Lengthened t (elim o as (λ z. Tables) [ some k ↦ t | none ↦ addSymbol x t ])
-    go none = symbol-lengthened x t
-    go (some k) = lengthened-none t
-
-pub withString-lengthened : (x : Text) (t : Tables) → Lengthened t (withString x t)
-unfolding withString
-withString-lengthened x t = go (position (same x) (t .strings))
-  where
-    go : (o : Option ℕ) → Lengthened t (elim o as (λ z. Tables) [ some k ↦ t | none ↦ addString x t ])
-    go none = string-lengthened x t
-    go (some k) = lengthened-none t
-
-pub within-symbol : {l : Limits} (x : Name) (s : State) → Within l (withTables (withSymbol x (s .tables)) s) → Within l s
-within-symbol x s w = within-tables s (withSymbol x (s .tables)) (withSymbol-lengthened x (s .tables)) w
-
-pub within-string : {l : Limits} (x : Text) (s : State) → Within l (withTables (withString x (s .tables)) s) → Within l s
-within-string x s w = within-tables s (withString x (s .tables)) (withString-lengthened x (s .tables)) w
 
 -- ---- jumps
 
@@ -206,9 +183,6 @@ closure-slots {e} base slots arity inner cs body s h E w =
 
 -- ---- classes
 
-pub within-beginClass : {l : Limits} (x : Name) (s : State) → Within l (withTables (beginClass x (s .tables)) s) → Within l s
-within-beginClass x s w = within-tables s (beginClass x (s .tables)) (beginClass-lengthened x (s .tables)) w
-
 pub within-methods : {l : Limits} (ms : Methods) (acc : List Method) (s : State) → Within l (methodsAt ms acc s) → Within l s
 unfolding methodsAt
 within-methods ms acc s w = within-tables s (emitMethods ms acc (s .tables) .tables) (methods-lengthened ms acc (s .tables)) w
@@ -226,9 +200,6 @@ within-endClass base x c ms s s′ h w = rw (at-endClass base x c ms s s′ h) a
 -- the first of the two instructions of its object
 pub within-classObject : {l : Limits} (base c k : ℕ) (s : State) → Within l (emitAt base (classObject c k) s) → Within l (emitAt base (one (LoadConst (length (s .tables .constants)))) (withTables (addConstant c (s .tables)) s))
 within-classObject base c k s w = within-one base (StoreGlobal k) _ (rw (at-classObject base c k s) at w)
-
-pub within-constant : {l : Limits} (c : ℕ) (s : State) → Within l (withTables (addConstant c (s .tables)) s) → Within l s
-within-constant c s w = within-tables s (addConstant c (s .tables)) (lengthened-same refl (omega arith) (omega arith) (omega arith)) w
 
 -- s₁ is the state with the class's number taken, s₂ that after its methods
 pub within-class : {l : Limits} (base : ℕ) (x : Name) (ms : Methods) (s s₁ s₂ : State) → s₁ ≡ withTables (beginClass x (s .tables)) s → s₂ ≡ methodsAt ms [] s₁

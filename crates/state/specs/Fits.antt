@@ -1,15 +1,13 @@
 -- Question 14 by a walk over the tree: each function that is lowered has at most 255 slots. Targets are taken to be targets (question 10): the value
 -- of an assignment to anything else is tested here, though it is not lowered.
-use Prim.Native.Nat.{ℕ}
-use mathlib.Core.Bool.{Bool, true, false, _&&_}
-use mathlib.Core.List.{List, [], _∷_, _++_}
+use mathlib.Core.Bool.{Bool, true, _&&_}
+use mathlib.Core.List.{List, _++_}
 use lib.ListN.{length}
 use lib.Dec.{leb}
 use Rattle.definitions.specs.Bytes.{Name}
-use Rattle.definitions.specs.Tree.{Expr, lit, var, unary, binary, logical, call, attr, display, index, lambda, Exprs, []ᵉ, _∷ᵉ_}
-use Rattle.definitions.specs.Tree.{View, asVar, asAttr, asIndex, asTuple, asOther, view}
-use Rattle.definitions.specs.Tree.{Stmt, break, continue, pass, expr, return, assign, if, while, for, def, class}
-use Rattle.definitions.specs.Tree.{Block, []ᵇ, _∷ᵇ_, Branches, done, else, when, Methods, []ᵐ, method}
+use Rattle.definitions.specs.Tree.{Expr, lit, var, unary, binary, logical, call, attr, display, index, lambda, Exprs, []ᵉ, _∷ᵉ_, asVar, asAttr, asIndex, asTuple, asOther, view}
+use Rattle.definitions.specs.Tree.{Stmt, break, continue, pass, expr, return, assign, if, while, for, def, class, Block, []ᵇ, _∷ᵇ_, Branches, done, else, when, Methods, []ᵐ}
+use Rattle.definitions.specs.Tree.{method}
 use Rattle.definitions.specs.Slots.{localsBlock, captures}
 
 unfoldable mutual

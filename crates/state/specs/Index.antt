@@ -1,6 +1,6 @@
 -- An index of names: words in buckets. A name's bucket is told by a hash of its bytes; it holds 1 more than the number of the first name with that bucket.
 use Prim.Native.Nat.{ℕ, zero, suc, _+_, _*_, _%_, _≤_, _<_}
-use mathlib.Core.Bool.{Bool, true, false}
+use mathlib.Core.Bool.{true, false}
 use mathlib.Core.List.{List, [], _∷_}
 use lib.ListN.{getD, set}
 use lib.Dec.{ltb}

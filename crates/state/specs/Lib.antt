@@ -1,3 +1,4 @@
+pub mod Answered
 pub mod Words
 pub mod Fits
 pub mod Index

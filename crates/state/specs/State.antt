@@ -1,24 +1,20 @@
 -- The lowering's state, seen in the slices lent to it; and what a step leaves.
-use Prim.Native.Nat.{ℕ, zero, suc, _+_, _-_, _*_, _/_, _%_, _^_, _≤_, _<_}
+use Prim.Native.Nat.{ℕ, _+_, _-_, _*_, _/_, _%_, _^_, _≤_}
 use mathlib.Core.Path.{_≡_}
-use mathlib.Core.Bool.{Bool, true, false}
+use mathlib.Core.Bool.{true, false}
 use mathlib.Core.Option.{Option, none, some}
 use mathlib.Core.List.{List, [], _∷_, _++_, map}
 use lib.ListN.{length, take, drop, getD}
 use lib.Dec.{ltb}
 use Rattle.definitions.specs.Bytes.{Name, Text, same, position}
 use Rattle.definitions.specs.Instruction.{Instr}
-use Rattle.definitions.specs.Tables.{Function, Method, Class, Tables, Out, Emit, addSymbol, addString}
+use Rattle.definitions.specs.Tables.{Function, Method, Class, Tables, Emit, addSymbol, addString}
 use Rattle.definitions.specs.Module as Module
 use Rattle.definitions.specs.Module.{instructions, slotsFit}
 use Rattle.state.specs.Words.{region, nameAt, textAt, instrsOf}
 use Rattle.state.specs.Index.{Covered}
 use Rattle.state.specs.declared.Counts.{Counts}
-use Rattle.state.specs.declared.Limits.{Limits}
-use Rattle.state.specs.declared.Emitted.{Emitted}
-use Rattle.state.specs.declared.Emitted.the-variants.{Done, Full}
-use Rattle.state.specs.declared.Numbered.{Numbered}
-use Rattle.state.specs.declared.Numbered.the-variants.{At, Over}
+use Rattle.state.specs.Answered.{Limits, Emitted, Done, Full, Numbered, At, Over}
 
 -- ---- the tables of the second area: where each begins
 -- symbols 1024, strings 512, heads of functions 256, places of their code 256, names of classes 64, places of their methods 64, methods 256, constants 64, the index of symbols 8192, that of strings 4096

@@ -1,7 +1,7 @@
 -- An instruction as one word of 32 bits: opcode, a 16-bit operand, an 8-bit operand; and parts of a slice.
 use Prim.Native.Nat.{ℕ, zero, suc, _+_, _*_, _-_, _/_, _%_, _^_}
-use mathlib.Core.Bool.{Bool, true, false, _||_}
-use mathlib.Core.List.{List, [], _∷_, map}
+use mathlib.Core.Bool.{true, false, _||_}
+use mathlib.Core.List.{List, map}
 use lib.ListN.{take, drop, getD}
 use lib.Dec.{eqb, ltb}
 use Rattle.definitions.specs.Bytes.{Name, Text}

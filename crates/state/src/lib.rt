@@ -1,4 +1,4 @@
-// What the lowering keeps in the slices lent to it: counts, limits, and what a step answers.
+// What the lowering keeps in the slices lent to it.
 
 // How much of each table is used, and of the two halves of the code area: `open` words of functions not done yet, of which the innermost begins at
 // `base`, and `done` words of finished ones. `open` changes with every word: the eight before it are copied whole.
@@ -13,25 +13,4 @@ pub struct Counts {
     pub base: u32,
     pub open: u32,
     pub done: u32,
-}
-
-// Question 15: how many functions, symbols, strings, classes and instructions a module may have.
-pub struct Limits {
-    pub functions: u32,
-    pub symbols: u32,
-    pub strings: u32,
-    pub classes: u32,
-    pub instructions: u32,
-}
-
-// The next position in the tree and the counts; or that the module is over the limits or has a function of more than 255 slots.
-pub enum Emitted {
-    Done(usize, Counts),
-    Full,
-}
-
-// A number and the counts; or that the module is over the limits or has a function of more than 255 slots.
-pub enum Numbered {
-    At(u32, Counts),
-    Over,
 }

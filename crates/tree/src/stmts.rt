@@ -88,7 +88,7 @@ fn check_values(tree: &[u8], at: usize, depth: u32, n: u32, stand: u32) -> Passe
 }
 
 // A count of class attributes, and these.
-pub fn check_attributes(tree: &[u8], at: usize, depth: u32, stand: u32) -> Passed
+pub(crate) fn check_attributes(tree: &[u8], at: usize, depth: u32, stand: u32) -> Passed
     requires { ⌜ at ≤ length (now tree) ⌝ }
     ensures { λ r. ⌜ r ≡ judgeAttributeList depth (now (tree .entry)) at stand ⌝ }
 {
@@ -100,7 +100,7 @@ pub fn check_attributes(tree: &[u8], at: usize, depth: u32, stand: u32) -> Passe
 }
 
 // A statement with `depth` levels left; `looped` says whether a loop of the same function is around.
-pub fn check_stmt(tree: &[u8], at: usize, depth: u32, looped: bool, stand: u32) -> Passed
+pub(crate) fn check_stmt(tree: &[u8], at: usize, depth: u32, looped: bool, stand: u32) -> Passed
     requires { ⌜ at ≤ length (now tree) ⌝ }
     ensures { λ r. ⌜ r ≡ judgeStmt looped depth (now (tree .entry)) at stand ⌝ }
 {

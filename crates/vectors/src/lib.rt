@@ -6,7 +6,11 @@ use digits::narrow;
 use digits::pair;
 use digits::wide;
 use libc::STDIN_FILENO;
+ghost use mathlib.Core.Path.{_≡_};
+ghost use mathlib.Core.Bool.{true, false};
+ghost use lib.Dec.{eqb};
 ghost use Rattle.io.specs.Counts.{Counts};
+ghost use Rattle.vectors.specs.Lines.{isEnd, spoiltOf, Skips, Finishes, Reads};
 
 const TAB: u32 = 9;
 
@@ -37,7 +41,9 @@ pub struct Number {
 }
 
 // Before the first line.
-pub fn start() -> Reading {
+pub fn start() -> Reading
+    ensures { λ r. ⌜ (r .at ≡ 0) × (r .end ≡ 0) × (r .last ≡ 10) × (r .«is_good» ≡ true) ⌝ }
+{
     Reading {
         at: 0,
         end: 0,
@@ -47,16 +53,22 @@ pub fn start() -> Reading {
 }
 
 // Whether the input has ended.
-pub fn has_ended(r: Reading) -> bool {
+pub fn has_ended(r: Reading) -> bool
+    ensures { λ b. ⌜ b ≡ eqb (r .last) 256 ⌝ }
+{
     r.last == END
 }
 
 // Whether another field follows in the line.
-pub fn has_field(r: Reading) -> bool {
+pub fn has_field(r: Reading) -> bool
+    ensures { λ b. ⌜ b ≡ eqb (r .last) 9 ⌝ }
+{
     r.last == TAB
 }
 
-fn spoilt(r: Reading) -> Reading {
+fn spoilt(r: Reading) -> Reading
+    ensures { λ s. ⌜ s ≡ spoiltOf r ⌝ }
+{
     Reading {
         at: r.at,
         end: r.end,
@@ -66,7 +78,9 @@ fn spoilt(r: Reading) -> Reading {
 }
 
 // The next byte, of the next piece where this one is used up.
-fn take(piece: &mut [u8; 4096], r: Reading) -> Reading {
+fn take(piece: &mut [u8; 4096], r: Reading) -> Reading
+    ensures { λ s. ⌜ s .«is_good» ≡ r .«is_good» ⌝ }
+{
     let at = r.at;
     let end = r.end;
     if at < end {
@@ -97,7 +111,9 @@ fn take(piece: &mut [u8; 4096], r: Reading) -> Reading {
 }
 
 // Whether a line ends here, or a field where `at_tab` is set.
-fn ends(c: u32, at_tab: bool) -> bool {
+fn ends(c: u32, at_tab: bool) -> bool
+    ensures { λ b. ⌜ b ≡ isEnd «at_tab» c ⌝ }
+{
     if c == TAB {
         return at_tab;
     }
@@ -107,24 +123,39 @@ fn ends(c: u32, at_tab: bool) -> bool {
     c == END
 }
 
-// To the end of the field or of the line. Nothing says that it ends: the turns are counted down from a number that no input uses up.
-fn skip(piece: &mut [u8; 4096], r: Reading, at_tab: bool) -> Reading {
+// To the end of the field or of the line. Nothing says that there is one: the turns are counted down from a number that no input uses up, and
+// then the input counts as ended.
+fn skip(piece: &mut [u8; 4096], r: Reading, at_tab: bool) -> Reading
+    ensures { λ s. ⌜ Skips «at_tab» r s (now (piece .entry)) (now (piece .exit)) ⌝ }
+{
     let mut now = r;
     let mut turns = u64::MAX;
-    while turns > 0 && !ends(now.last, at_tab) {
+    while turns > 0 {
+        if ends(now.last, at_tab) {
+            return now;
+        }
         now = take(piece, now);
         turns -= 1;
     }
-    now
+    Reading {
+        at: 0,
+        end: 0,
+        last: END,
+        is_good: now.is_good,
+    }
 }
 
 // To the end of the line.
-pub fn skip_line(piece: &mut [u8; 4096], r: Reading) -> Reading {
+pub fn skip_line(piece: &mut [u8; 4096], r: Reading) -> Reading
+    ensures { λ s. ⌜ Skips false r s (now (piece .entry)) (now (piece .exit)) ⌝ }
+{
     skip(piece, r, false)
 }
 
 // From the end of a line past the name of the next.
-pub fn skip_name(piece: &mut [u8; 4096], r: Reading) -> Reading {
+pub fn skip_name(piece: &mut [u8; 4096], r: Reading) -> Reading
+    ensures { λ s. ⌜ (isEnd true (s .last) ≡ true) × (s .«is_good» ≡ true) ⌝ }
+{
     let line = Reading {
         at: r.at,
         end: r.end,
@@ -136,7 +167,9 @@ pub fn skip_name(piece: &mut [u8; 4096], r: Reading) -> Reading {
 }
 
 // To the end of a field that should end here.
-fn finish(piece: &mut [u8; 4096], r: Reading) -> Reading {
+fn finish(piece: &mut [u8; 4096], r: Reading) -> Reading
+    ensures { λ s. ⌜ Finishes r s ⌝ }
+{
     if ends(r.last, true) {
         return r;
     }
@@ -146,6 +179,7 @@ fn finish(piece: &mut [u8; 4096], r: Reading) -> Reading {
 // The characters of the rest of a field, of which the first is taken.
 fn text_bytes(piece: &mut [u8; 4096], r: Reading, out: &mut [u8]) -> Field
     ensures { λ f. ⌜ Counts (f .size) (now (out .exit)) ⌝ }
+    ensures read { λ f. ⌜ Finishes r (f .next) ⌝ }
 {
     let mut now = r;
     let mut n = 0usize;
@@ -163,6 +197,7 @@ fn text_bytes(piece: &mut [u8; 4096], r: Reading, out: &mut [u8]) -> Field
 // The bytes of the rest of a field in hexadecimal, of which the first character is taken.
 fn hex_bytes(piece: &mut [u8; 4096], r: Reading, out: &mut [u8]) -> Field
     ensures { λ f. ⌜ Counts (f .size) (now (out .exit)) ⌝ }
+    ensures read { λ f. ⌜ Finishes r (f .next) ⌝ }
 {
     let mut now = r;
     let mut n = 0usize;
@@ -187,6 +222,7 @@ fn hex_bytes(piece: &mut [u8; 4096], r: Reading, out: &mut [u8]) -> Field
 // The bytes of the field after a tab in hexadecimal; `-` has none. One of more bytes than `out` holds is skipped and not good.
 pub fn hex_field(piece: &mut [u8; 4096], r: Reading, out: &mut [u8]) -> Field
     ensures { λ f. ⌜ Counts (f .size) (now (out .exit)) ⌝ }
+    ensures read { λ f. ⌜ Reads r (f .next) (now (piece .entry)) (now (piece .exit)) ⌝ }
 {
     if !has_field(r) {
         return Field {
@@ -206,7 +242,9 @@ pub fn hex_field(piece: &mut [u8; 4096], r: Reading, out: &mut [u8]) -> Field
 }
 
 // The number of the field after a tab, in decimal digits.
-pub fn decimal_field(piece: &mut [u8; 4096], r: Reading) -> Number {
+pub fn decimal_field(piece: &mut [u8; 4096], r: Reading) -> Number
+    ensures { λ n. ⌜ Reads r (n .next) (now (piece .entry)) (now (piece .exit)) ⌝ }
+{
     if !has_field(r) {
         return Number {
             value: 0,

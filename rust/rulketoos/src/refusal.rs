@@ -5,7 +5,7 @@ use std::fmt;
 
 /// The first question that is answered no.
 ///
-/// The lowering asks 1 to 16, the check of a tree 2 to 13, the reader of modules 17 to 21, the hand-back of code 17 to 22 and the run 17 to 24.
+/// The lowering asks 1 to 16 and 33, the check of a tree 2 to 13 and 33 (33 just after 7), the reader of modules 17 to 21, the hand-back of code 17 to 22 and the run 17 to 24.
 ///
 /// ```
 /// use rulketoos::Refusal;
@@ -33,7 +33,7 @@ pub enum Refusal {
     TooDeep = 6,
     /// 7: a name isn't well formed.
     BadName = 7,
-    /// 8: a string has a byte of 128 or more.
+    /// 8: a string isn't well-formed UTF-8.
     BadString = 8,
     /// 9: a break or continue stands in no loop of its function.
     LooseBreak = 9,
@@ -55,7 +55,7 @@ pub enum Refusal {
     ModuleHeader = 17,
     /// 18: the module's version isn't 1.
     ModuleVersion = 18,
-    /// 19: the rest of the module doesn't follow the layout.
+    /// 19: the rest of the module doesn't follow the layout, or a string isn't well-formed UTF-8.
     ModuleLayout = 19,
     /// 20: a number in the module names nothing.
     NoSuchNumber = 20,
@@ -67,10 +67,12 @@ pub enum Refusal {
     BadAnswer = 23,
     /// 24: the events don't fit the buffer.
     EventsTooShort = 24,
+    /// 33: a name is one of a loop's iterator: `__for_iter_{}__` with digits in place of the braces.
+    IteratorName = 33,
 }
 
-/// Every refusal with its question, in order.
-const QUESTIONS: [(Refusal, &str); 24] = [
+/// Every refusal with its question, by rising numbers.
+const QUESTIONS: [(Refusal, &str); 25] = [
     (Refusal::AreasTooShort, "is each work area at least 16,384 numbers long?"),
     (Refusal::TreeTooLong, "is the tree at most 32,768 bytes, header included?"),
     (Refusal::TreeHeader, "has the tree four bytes, and do they count the rest?"),
@@ -81,7 +83,7 @@ const QUESTIONS: [(Refusal, &str); 24] = [
         Refusal::BadName,
         "is every name well formed: a letter or _, then letters, digits, _; 1 to 64 bytes?",
     ),
-    (Refusal::BadString, "is every string byte below 128?"),
+    (Refusal::BadString, "is every string well-formed UTF-8 (RFC 3629)?"),
     (
         Refusal::LooseBreak,
         "does each break and continue stand in a loop of its own function?",
@@ -115,7 +117,7 @@ const QUESTIONS: [(Refusal, &str); 24] = [
     (Refusal::ModuleVersion, "is the module's version 1?"),
     (
         Refusal::ModuleLayout,
-        "does the rest of the module follow the layout, class and method names well formed, a class's method names strictly rising, nothing over?",
+        "does the rest of the module follow the layout, strings well-formed UTF-8, class and method names well formed, a class's method names strictly rising, nothing over?",
     ),
     (
         Refusal::NoSuchNumber,
@@ -128,10 +130,14 @@ const QUESTIONS: [(Refusal, &str); 24] = [
     (Refusal::NoSuchFunction, "does the function exist?"),
     (Refusal::BadAnswer, "is each answer 0 or 1?"),
     (Refusal::EventsTooShort, "do the events fit the buffer?"),
+    (
+        Refusal::IteratorName,
+        "is no name of the form __for_iter_{}__, one or more digits in place of the braces?",
+    ),
 ];
 
 impl Refusal {
-    /// The number of the question, 1 to 24.
+    /// The number of the question, 1 to 24 or 33.
     #[must_use]
     pub fn number(self) -> u32 {
         self as u32
@@ -140,7 +146,8 @@ impl Refusal {
     /// The question in words; its answer is no.
     #[must_use]
     pub fn question(self) -> &'static str {
-        QUESTIONS[self as usize - 1].1
+        let found = QUESTIONS.iter().find(|(refusal, _)| *refusal == self);
+        found.expect("every refusal is in the list").1
     }
 
     /// All refusals, by rising numbers.
@@ -163,7 +170,11 @@ pub struct NoSuchQuestion(pub u32);
 
 impl fmt::Display for NoSuchQuestion {
     fn fmt(&self, f: &mut fmt::Formatter<'_>) -> fmt::Result {
-        write!(f, "there is no question {}: they are 1 to 24", self.0)
+        write!(
+            f,
+            "there is no question {}: they are 1 to 24 and 33",
+            self.0
+        )
     }
 }
 
@@ -173,10 +184,8 @@ impl TryFrom<u32> for Refusal {
     type Error = NoSuchQuestion;
 
     fn try_from(number: u32) -> Result<Refusal, NoSuchQuestion> {
-        let place = usize::try_from(number).ok().and_then(|n| n.checked_sub(1));
-        let found = place.and_then(|place| QUESTIONS.get(place));
-        found
-            .map(|&(refusal, _)| refusal)
+        Refusal::all()
+            .find(|refusal| refusal.number() == number)
             .ok_or(NoSuchQuestion(number))
     }
 }

@@ -39,7 +39,7 @@ impl Default for Areas {
 
 /// Lowers a tree record: the module record goes to `out` from its start, and the answer is how many bytes it has. The rest of `out` is left as it was, and after a refusal all of it.
 ///
-/// Asks questions 1 to 16. Nothing is allocated.
+/// Asks questions 1 to 16 and 33. Nothing is allocated.
 ///
 /// ```
 /// let mut areas = rulketoos::Areas::new();
@@ -78,7 +78,7 @@ pub fn lower(tree: &[u8], areas: &mut Areas, out: &mut [u8]) -> Result<usize, Re
 
 /// Lowers a tree record to a new vector: the module record.
 ///
-/// Asks questions 2 to 15: there is always room. Where many trees are lowered, [`lower`] saves making the areas and the output each time.
+/// Asks questions 2 to 15 and 33: there is always room. Where many trees are lowered, [`lower`] saves making the areas and the output each time.
 ///
 /// ```
 /// let module = rulketoos::lower_to_vec(&[0, 0, 0, 3, 1, 0, 0])?;
@@ -98,7 +98,7 @@ pub fn lower_to_vec(tree: &[u8]) -> Result<Vec<u8>, Refusal> {
     Ok(module)
 }
 
-/// Checks a tree record by itself: questions 2 to 13.
+/// Checks a tree record by itself: questions 2 to 13 and 33.
 ///
 /// ```
 /// use rulketoos::Refusal;
@@ -106,6 +106,12 @@ pub fn lower_to_vec(tree: &[u8]) -> Result<Vec<u8>, Refusal> {
 /// assert_eq!(rulketoos::check(&[0, 0, 0, 3, 1, 0, 0]), Ok(()));
 /// // `break` outside a loop
 /// assert_eq!(rulketoos::check(&[0, 0, 0, 4, 1, 0, 1, 0]), Err(Refusal::LooseBreak));
+/// // the name of a loop's iterator
+/// let tree = b"\0\0\0\x14\x01\0\x01\x03\x06\x0e__for_iter_2__";
+/// assert_eq!(rulketoos::check(tree), Err(Refusal::IteratorName));
+/// // strings are UTF-8: "é", and its first byte alone
+/// assert_eq!(rulketoos::check(b"\0\0\0\x09\x01\0\x01\x03\x05\0\x02\xc3\xa9"), Ok(()));
+/// assert_eq!(rulketoos::check(b"\0\0\0\x08\x01\0\x01\x03\x05\0\x01\xc3"), Err(Refusal::BadString));
 /// ```
 ///
 /// # Errors

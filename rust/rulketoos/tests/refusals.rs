@@ -7,7 +7,7 @@ const EMPTY: [u8; 7] = [0, 0, 0, 3, 1, 0, 0];
 #[test]
 fn every_number_has_its_refusal() {
     let mut count = 0;
-    for (number, refusal) in (1..).zip(Refusal::all()) {
+    for (number, refusal) in (1..=24).chain([33]).zip(Refusal::all()) {
         assert_eq!(refusal.number(), number);
         assert_eq!(Refusal::try_from(number), Ok(refusal));
         let text = refusal.to_string();
@@ -15,9 +15,87 @@ fn every_number_has_its_refusal() {
         assert!(text.ends_with(refusal.question()) && text.ends_with('?'));
         count += 1;
     }
-    assert_eq!(count, 24);
-    for number in [0, 25, u32::MAX] {
+    assert_eq!(count, 25);
+    assert_eq!(Refusal::all().count(), count);
+    for number in [0, 25, 32, 34, u32::MAX] {
         assert_eq!(Refusal::try_from(number), Err(NoSuchQuestion(number)));
+    }
+}
+
+/// The tree of a statement that is this name, and of a string before it.
+fn named(string: &[u8], name: &[u8]) -> Vec<u8> {
+    let mut tree = vec![0, 0, 0, 0, 1, 0, 2, 3, 5, 0, string.len() as u8];
+    tree.extend(string);
+    tree.extend([3, 6, name.len() as u8]);
+    tree.extend(name);
+    tree[3] = tree.len() as u8 - 4;
+    tree
+}
+
+#[test]
+fn names_of_iterators() {
+    let digits = |count| format!("__for_iter_{}__", "0".repeat(count)).into_bytes();
+    let refusals = [
+        (
+            &b""[..],
+            b"__for_iter_2__".to_vec(),
+            Err(Refusal::IteratorName),
+        ),
+        (
+            b"\xff",
+            b"__for_iter_2__".to_vec(),
+            Err(Refusal::IteratorName),
+        ),
+        (b"\xff", b"__for_iter___".to_vec(), Err(Refusal::BadString)),
+        (b"", digits(51), Err(Refusal::IteratorName)),
+        (b"", digits(52), Err(Refusal::BadName)),
+        (b"", digits(0), Ok(())),
+        (b"", b"__for_iter_x__".to_vec(), Ok(())),
+        (b"", b"__for_iter_2___".to_vec(), Ok(())),
+    ];
+    for (string, name, answer) in refusals {
+        let tree = named(string, &name);
+        assert_eq!(rulketoos::check(&tree), answer);
+        assert_eq!(rulketoos::lower_to_vec(&tree).map(|_| ()), answer);
+    }
+}
+
+#[test]
+fn strings_are_utf8() {
+    let good = [
+        "",
+        "a\u{7f}",
+        "é",
+        "e\u{301}",
+        "和紙",
+        "\u{d7ff}\u{e000}",
+        "🗞\u{10ffff}",
+    ];
+    for string in good {
+        let module = rulketoos::lower_to_vec(&named(string.as_bytes(), b"a")).expect(string);
+        assert_eq!(rulketoos::read(&module), Ok(()));
+        let found = |bytes: &[u8]| module.windows(bytes.len().max(1)).any(|part| part == bytes);
+        assert!(string.is_empty() || found(string.as_bytes()));
+    }
+    let bad: [&[u8]; 7] = [
+        b"\x80",
+        b"\xc3",
+        b"\xc0\x80",
+        b"\xe0\x9f\xbf",
+        b"\xed\xa0\x80",
+        b"\xf4\x90\x80\x80",
+        b"a\xff",
+    ];
+    for string in bad {
+        let tree = named(string, b"a");
+        assert_eq!(rulketoos::check(&tree), Err(Refusal::BadString));
+        assert_eq!(rulketoos::lower_to_vec(&tree), Err(Refusal::BadString));
+        let ascii = vec![b'x'; string.len()];
+        let mut module = rulketoos::lower_to_vec(&named(&ascii, b"a")).expect("accepted");
+        let place = module.windows(ascii.len()).position(|part| part == ascii);
+        let place = place.expect("the string");
+        module[place..place + string.len()].copy_from_slice(string);
+        assert_eq!(rulketoos::read(&module), Err(Refusal::ModuleLayout));
     }
 }
 

@@ -76,6 +76,15 @@ fn assignments(names: usize) -> Vec<u8> {
     make::tree(&[make::def("f", &[], &body)])
 }
 
+/// A def of 1,000 pairs unpacked to so many names in turn.
+fn pairs(names: usize) -> Vec<u8> {
+    let names = many_names(names);
+    let name = |n: usize| make::var(&names[n % names.len()]);
+    let one = |n: usize| make::assign(make::tuple(&[name(2 * n), name(2 * n + 1)]), make::none());
+    let body: Vec<Vec<u8>> = (0..1_000).map(one).collect();
+    make::tree(&[make::def("f", &[], &body)])
+}
+
 /// A list of so many None, unpacked to no names.
 fn nones(count: usize) -> Vec<u8> {
     let list = make::list(&make::times(count, &make::none()));
@@ -104,10 +113,12 @@ fn cases() -> Vec<(&'static str, Vec<u8>)> {
         ("a script of 20 lines", script.clone()),
         ("20 such scripts in one tree", repeated(&script, 20)),
         ("57 such scripts in one tree", repeated(&script, 57)),
+        ("a script of 20 lines, full of accents", sample("papers")),
         ("a call with 200 arguments, numbers", call_of(&numbers)),
         ("a call with 200 arguments, names", call_of(&names)),
         ("a def of 1,600 assignments to 16 names", assignments(16)),
         ("a def of 1,600 assignments to 250 names", assignments(250)),
+        ("a def of 1,000 pairs unpacked to 250 names", pairs(250)),
         ("a list of 8,190 None", nones(8_190)),
         ("1,024 symbols", symbols()),
         ("255 defs, 3,100 calls of the last", calls_of_the_last()),

@@ -58,6 +58,39 @@ fn long_parameters() -> Vec<u8> {
     make::tree(&[make::expr(make::lambda(&list, make::none()))])
 }
 
+/// Names of 64 bytes that are a loop's iterator's but for their last digit.
+fn nearly_iterators() -> Vec<u8> {
+    let name = format!("__for_iter_{}x__", "7".repeat(50));
+    let list = make::list(&make::times(490, &make::var(&name)));
+    make::tree(&[make::expr(list)])
+}
+
+/// A tree that is one string: this character again and again, some 32,000 bytes.
+fn one_string(character: char) -> Vec<u8> {
+    let text = character.to_string().repeat(32_000 / character.len_utf8());
+    make::tree(&[make::expr(make::string(text.as_bytes()))])
+}
+
+/// A module of strings of this character, some 500,000 bytes.
+fn many_strings(character: char) -> Vec<u8> {
+    let text = character.to_string().repeat(60 / character.len_utf8());
+    let mut parts = modules::Parts::of(&[]);
+    parts.strings = vec![text.into_bytes(); 8_000];
+    parts.bytes()
+}
+
+/// The strings of a module that was read, by Rust's own UTF-8.
+fn plain_strings(module: &[u8]) -> bool {
+    let count = usize::from(u16::from_be_bytes([module[16], module[17]]));
+    let mut at = 18;
+    (0..count).all(|_| {
+        let length = usize::from(u16::from_be_bytes([module[at], module[at + 1]]));
+        let string = &module[at + 2..at + 2 + length];
+        at += 2 + length;
+        std::str::from_utf8(string).is_ok()
+    })
+}
+
 /// The tree of a sample script.
 fn sample(name: &str) -> Vec<u8> {
     let folder = std::path::Path::new(env!("CARGO_MANIFEST_DIR")).join("../../samples");
@@ -89,7 +122,7 @@ fn long_tree() -> Vec<u8> {
 
 /// Our check of a tree beside the reading of the same bytes into the Rust's tree.
 fn trees() {
-    println!("check of a tree (2 to 13), beside reading it into the Rust's tree");
+    println!("check of a tree (2 to 13, 33), beside reading it into the Rust's tree");
     let cases = [
         ("a script of 30 lines", script()),
         ("random statements, some 30,000 bytes", long_tree()),
@@ -97,6 +130,21 @@ fn trees() {
         (
             "500 parameters of 64 bytes, alike but at the end",
             long_parameters(),
+        ),
+        (
+            "490 names of 64 bytes, nearly iterators'",
+            nearly_iterators(),
+        ),
+        ("a script of 20 lines, full of accents", sample("papers")),
+        ("a string of 32,000 bytes, ASCII", one_string('a')),
+        ("a string of 32,000 bytes, accents", one_string('é')),
+        (
+            "a string of 32,000 bytes, three a character",
+            one_string('和'),
+        ),
+        (
+            "a string of 32,000 bytes, four a character",
+            one_string('🗞'),
         ),
     ];
     for (what, tree) in cases {
@@ -120,6 +168,18 @@ fn readers() {
         let ours = best(|| rulketoos::read(black_box(&module)));
         let other = best(|| model::read(black_box(&module)));
         line(what, ours, other);
+    }
+    println!("reading a module of strings, beside Rust's own UTF-8 on the strings alone");
+    for (what, character) in [
+        ("ASCII", 'a'),
+        ("accents", 'é'),
+        ("three bytes a character", '和'),
+    ] {
+        let module = many_strings(character);
+        assert!(plain_strings(&module) && rulketoos::read(&module).is_ok());
+        let ours = best(|| rulketoos::read(black_box(&module)));
+        let other = best(|| plain_strings(black_box(&module)));
+        line(&format!("8,000 strings, {what}"), ours, other);
     }
 }
 

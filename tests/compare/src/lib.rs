@@ -3,6 +3,7 @@
 pub mod ours;
 
 use generator::{random, Rng};
+use std::collections::BTreeMap;
 
 pub const AREA: usize = 16_384;
 pub const ROOM: usize = 65_536;
@@ -13,7 +14,8 @@ pub const WIDE: usize = 4_000_000;
 #[derive(Debug, Default, Clone, PartialEq, Eq)]
 pub struct Tally {
     pub accepted: usize,
-    pub refused: [usize; 25],
+    /// How many each question refused.
+    pub refused: BTreeMap<u8, usize>,
     pub walks: usize,
     /// How the walks ended: returned, no answer left.
     pub endings: [usize; 2],
@@ -21,7 +23,19 @@ pub struct Tally {
 
 impl Tally {
     fn refuse(&mut self, number: u8) {
-        self.refused[usize::from(number)] += 1;
+        *self.refused.entry(number).or_default() += 1;
+    }
+
+    /// How many trees this question refused.
+    pub fn refused(&self, number: u8) -> usize {
+        self.refused.get(&number).copied().unwrap_or(0)
+    }
+
+    /// Fails where a question of trees refused none; there is always room.
+    pub fn every_tree_question(&self) {
+        for number in (2..16).chain([33]) {
+            assert!(self.refused(number) > 0, "no tree is refused by {number}");
+        }
     }
 }
 

@@ -189,10 +189,7 @@ fn compare(tree: &[u8], lent: &mut Lent, rng: &mut Rng, tally: &mut Tally) -> Re
     let whole = model::lower(tree, AREA, AREA, WIDE);
     lent.calls(tree, &whole)?;
     let checked = rulketoos::check(tree).map_err(number);
-    let asked = match whole {
-        Err(number) if number < 14 => Err(number),
-        _ => Ok(()),
-    };
+    let asked = model::check(tree);
     if checked != asked {
         return Err(format!("check says {checked:?}, the model {asked:?}"));
     }

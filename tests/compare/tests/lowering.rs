@@ -21,9 +21,7 @@ fn directed_trees_agree() {
         compare_walks(&case.tree, &mut rng, &mut tally).unwrap_or_else(at);
     }
     println!("{tally:?}");
-    for number in 2..16 {
-        assert!(tally.refused[number] > 0, "no tree is refused by {number}");
-    }
+    tally.every_tree_question();
 }
 
 #[test]
@@ -31,7 +29,7 @@ fn random_trees_agree() {
     oracle::ready("random trees");
     let tally = compare_random(20_251_125, 20_000, true).unwrap_or_else(|e| panic!("{e}"));
     println!("{tally:?}");
-    assert!(tally.accepted > 15_000);
+    assert!(tally.accepted > 15_000 && tally.refused(33) > 100 && tally.refused(8) > 100);
     assert!(tally.endings.iter().all(|&count| count > 1_000));
 }
 

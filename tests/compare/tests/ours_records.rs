@@ -3,17 +3,9 @@
 use compare::ours::number;
 use generator::{damage, limits, modules, random, rng::Rng, runs};
 
-/// What the model says of questions 2 to 13: refusals 14 to 16 come later.
-fn model_check(tree: &[u8]) -> Result<(), u8> {
-    match model::lower(tree, model::AREA, model::AREA, 65_536) {
-        Err(question) if question < 14 => Err(question),
-        _ => Ok(()),
-    }
-}
-
 fn same_check(tree: &[u8]) {
     let ours = rulketoos::check(tree).map_err(number);
-    assert_eq!(ours, model_check(tree), "{tree:02x?}");
+    assert_eq!(ours, model::check(tree), "{tree:02x?}");
 }
 
 fn same_read(module: &[u8]) {

@@ -57,9 +57,18 @@ fn lower_lowers_its_input() {
 }
 
 #[test]
-fn read_module_accepts_its_input() {
-    assert_eq!(model::read(&bytes("crates/read_module/stdin")), Ok(()));
-    assert_eq!(text("crates/read_module/stdout"), "accepted\n");
+fn read_module_reads_its_input() {
+    let module = bytes("crates/read_module/stdin");
+    let arguments = text("crates/read_module/args");
+    let function = arguments.trim_end().parse().expect("a number");
+    let (start, size) = model::code(&module, function).expect("no refusal");
+    // the sample has one class, whose constant is its last record
+    assert!(module.ends_with(&[0, 1, 0, 0]));
+    let code = hex_or_dash(&module[start..start + size]);
+    assert_eq!(
+        text("crates/read_module/stdout"),
+        format!("accepted\nconstant 0: class 0, type 100\ncode: {code}\n")
+    );
 }
 
 #[test]

@@ -130,10 +130,28 @@ fn refusals_of_the_samples() {
     assert_eq!(lower(&starred("sample-break-in-def")), Err(9));
 }
 
-/// In a def with `x`, `lambda: [x, lambda x: x]` captures nothing, the
-/// reversed list captures `x`.
+/// 33 is asked just after 7; a digit at the least stands between the ends.
 #[test]
-fn captures_depend_on_the_order() {
+fn iterator_names() {
+    use make::{attr, expr, none, string, tree, var};
+    let named = |name: &str| lower(&tree(&[expr(var(name))])).map(|_| ());
+    let zeros = |count| format!("__for_iter_{}__", "0".repeat(count));
+    for name in ["__for_iter___", "__for_iter_x__", "__for_iter_2___"] {
+        assert_eq!(named(name), Ok(()), "{name}");
+    }
+    assert_eq!(named("__for_iter_2__"), Err(33));
+    assert_eq!(named(&zeros(51)), Err(33));
+    assert_eq!(named(&zeros(52)), Err(7));
+    let own = || expr(attr(none(), "__for_iter_2__"));
+    let bad_string = || expr(string(&[255]));
+    assert_eq!(lower(&tree(&[bad_string(), own()])), Err(33));
+    assert_eq!(lower(&tree(&[own(), expr(var("9"))])), Err(7));
+}
+
+/// In a def with `x`, `lambda: [x, lambda x: x]` captures `x` in either order,
+/// and the inner lambda alone captures nothing.
+#[test]
+fn captures_by_scope() {
     use make::{def, lambda, list, ret, tree, var};
     let captured = |items: &[Vec<u8>]| {
         let stmts = [def("d", &["x"], &[ret(lambda(&[], list(items)))])];
@@ -142,8 +160,10 @@ fn captures_depend_on_the_order() {
         locals
     };
     let inner = lambda(&["x"], var("x"));
-    assert_eq!(captured(&[var("x"), inner.clone()]), 0);
-    assert_eq!(captured(&[inner, var("x")]), 1);
+    assert_eq!(captured(&[var("x"), inner.clone()]), 1);
+    assert_eq!(captured(&[inner.clone(), var("x")]), 1);
+    assert_eq!(captured(&[lambda(&[], var("x")), inner.clone()]), 1);
+    assert_eq!(captured(&[inner]), 0);
 }
 
 /// The slots that the function's code loads, in order.
@@ -166,8 +186,22 @@ fn slots_by_first_appearance() {
     assert_eq!(listed, [3, 2, 1, 9, 8, 7, 6, 5, 4]);
     // r is 2, since the loop variable i and the body's a come first.
     assert_eq!(loaded_slots("slots-loop-before-body", 1), [2, 0]);
-    // b is a slot because of the later assignment; a is none.
-    assert_eq!(loaded_slots("slots-not-from-tuple", 1), [0]);
+    // a and b are slots of the tuple target, whose value is b.
+    assert_eq!(loaded_slots("slots-from-tuple", 1), [1]);
+}
+
+/// Names of tuple targets stand among the others by first appearance, elements
+/// left to right, and a parameter keeps its slot.
+#[test]
+fn slots_of_tuple_targets() {
+    let slots = loaded_slots("unpack-everywhere", 1);
+    let listed = &slots[slots.len() - 13..];
+    assert_eq!(listed, [1, 2, 3, 6, 7, 8, 9, 4, 5, 10, 11, 12, 0]);
+    assert_eq!(loaded_slots("unpack-parameter", 1), [1, 0]);
+    assert_eq!(loaded_slots("unpack-parameter-first", 1), [0, 1]);
+    // A helper's pair is its own: it loads what it stored, and main its globals.
+    assert_eq!(loaded_slots("unpack-helper", 1), [2]);
+    assert_eq!(loaded_slots("unpack-in-main", 0), []);
 }
 
 /// The folder of sample scripts with their trees and modules.

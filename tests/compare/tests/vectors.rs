@@ -106,7 +106,7 @@ fn every_refusal_is_among_the_vectors() {
         .map(committed)
         .concat();
     // 1 cannot be put in a line: the areas are always long enough there.
-    for number in 2..=24 {
+    for number in (2..=24).chain([33]) {
         let answer = format!("\trefused {number}\n");
         assert!(text.contains(&answer), "{number}");
     }

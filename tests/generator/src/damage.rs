@@ -1,8 +1,9 @@
 //! Damaged copies of records: cuts, changes, insertions, deletions, swapped
-//! counts. Half of them get a header that counts their rest again.
+//! counts, characters spoiled. Most get a header that counts their rest again.
 
 use crate::make::{self, Bytes};
 use crate::rng::Rng;
+use crate::texts::TURNS;
 
 /// One damaged copy; it may happen to be a good record.
 pub fn damaged(rng: &mut Rng, record: &[u8]) -> Bytes {
@@ -19,7 +20,7 @@ pub fn damaged(rng: &mut Rng, record: &[u8]) -> Bytes {
 fn damage_once(rng: &mut Rng, bytes: &mut Bytes) {
     let length = bytes.len().max(1);
     let at = rng.below(length);
-    match rng.below(8) {
+    match rng.below(10) {
         0 => bytes.truncate(at),
         1 if at < bytes.len() => bytes[at] = rng.byte(),
         2 if at < bytes.len() => bytes[at] = bytes[at].wrapping_add(1),
@@ -30,6 +31,7 @@ fn damage_once(rng: &mut Rng, bytes: &mut Bytes) {
             bytes.remove(at);
         }
         7 => swap_counts(rng, bytes),
+        8 | 9 if bytes.iter().any(|&byte| byte >= 0xC2) => spoil_character(rng, bytes),
         _ => bytes.push(rng.byte()),
     }
 }
@@ -43,5 +45,15 @@ fn swap_counts(rng: &mut Rng, bytes: &mut Bytes) {
     if a.abs_diff(b) >= 2 {
         bytes.swap(a, b);
         bytes.swap(a + 1, b + 1);
+    }
+}
+
+/// Changes a byte of a character of several bytes, or the byte after it.
+fn spoil_character(rng: &mut Rng, bytes: &mut Bytes) {
+    let high = |&at: &usize| bytes[at] >= 0x80;
+    let places: Vec<usize> = (0..bytes.len()).filter(high).collect();
+    let at = *rng.pick(&places) + usize::from(rng.once_in(6));
+    if let Some(byte) = bytes.get_mut(at) {
+        *byte = *rng.pick(&TURNS);
     }
 }

@@ -10,6 +10,7 @@ pub mod runs;
 pub mod samples;
 pub mod slow;
 pub mod text;
+pub mod texts;
 pub mod vectors;
 
 pub use make::Bytes;

@@ -1,7 +1,8 @@
-//! Trees on both sides of every limit of questions 2 to 16.
+//! Trees on both sides of every limit of questions 2 to 16 and 33.
 
 use crate::make::*;
 use crate::samples::{case, nested_not, script, Case};
+use crate::texts;
 use std::slice::from_ref;
 
 pub const MAX_TREE: usize = 32_768;
@@ -12,7 +13,8 @@ pub fn all() -> Vec<Case> {
     cases.extend(malformed());
     cases.extend(depths());
     cases.extend(bad_names());
-    cases.extend(bad_strings());
+    cases.extend(iterator_names());
+    cases.extend(strings());
     cases.extend(loops());
     cases.extend(targets());
     cases.extend(params());
@@ -222,8 +224,15 @@ fn bad_names() -> Vec<Case> {
         cases.push(script(&first, &[expr(raw_var(&[byte]))]));
         cases.push(script(&later, &[expr(raw_var(&[b'a', byte]))]));
     }
-    let bad = "9";
-    let stmts = [
+    for (word, stmt) in name_places("9") {
+        cases.push(script(&format!("name-bad-{word}"), &[stmt]));
+    }
+    cases
+}
+
+/// A statement for every place where a name can stand.
+fn name_places(bad: &str) -> Vec<(&'static str, Bytes)> {
+    vec![
         ("for", for_(bad, none(), &[])),
         ("def", def(bad, &[], &[])),
         ("param", def("f", &["a", bad], &[])),
@@ -239,27 +248,132 @@ fn bad_names() -> Vec<Case> {
             "lambda-in-class-attribute",
             class("A", &[], &[("a", lambda(&[bad], none()))]),
         ),
-    ];
-    for (word, stmt) in stmts {
-        cases.push(script(&format!("name-bad-{word}"), &[stmt]));
+        (
+            "attribute-in-class-attribute",
+            class("A", &[], &[("a", attr(none(), bad))]),
+        ),
+        ("attribute-target", assign(attr(none(), bad), none())),
+        (
+            "tuple-target",
+            assign(tuple(&[var("a"), tuple(&[var(bad)])]), none()),
+        ),
+        ("call", expr(call_name(bad, &[]))),
+        ("method-call", expr(call(attr(none(), bad), &[]))),
+        ("in-lambda", expr(lambda(&[], var(bad)))),
+    ]
+}
+
+/// Names of loops' iterators everywhere, and names that are nearly ones.
+fn iterator_names() -> Vec<Case> {
+    let mut cases = Vec::new();
+    for (word, stmt) in name_places("__for_iter_2__") {
+        cases.push(script(&format!("iterator-{word}"), &[stmt]));
     }
+    let middles = [
+        "2",
+        "0",
+        "00",
+        "12",
+        "65535",
+        "1234567890",
+        "",
+        "x",
+        "2_",
+        "_2",
+        "2a",
+        "a2",
+        "2_2",
+        "-",
+        "/",
+        ":",
+    ];
+    let mut names: Vec<String> = middles.map(|m| format!("__for_iter_{m}__")).to_vec();
+    for digits in [50, 51, 52, 242] {
+        names.push(format!("__for_iter_{}__", "0".repeat(digits)));
+    }
+    let near = [
+        "__for_iter_2",
+        "__for_iter_2_",
+        "__for_iter_2___",
+        "__for_iter_2__a",
+        "__for_iter_2__2",
+        "_for_iter_2__",
+        "___for_iter_2__",
+        "a__for_iter_2__",
+        "__For_iter_2__",
+        "__for_iter2__",
+        "__for_iter__2__",
+        "__for_iter_",
+        "__for_iter__",
+        "__for_iter___",
+        "__iter_2__",
+        "__for_item_2__",
+    ];
+    names.extend(near.map(str::to_string));
+    for (place, name) in names.iter().enumerate() {
+        let stmts = [expr(var(name)), expr(attr(none(), name))];
+        cases.push(script(&format!("iterator-form-{place}"), &stmts));
+    }
+    let own = || expr(var("__for_iter_2__"));
+    let loop_ = || for_("i", var("r"), &[pass()]);
+    let text = string(b"__for_iter_2__");
+    cases.push(script("iterator-of-loop-first", &[own(), loop_()]));
+    cases.push(script("iterator-of-loop-last", &[loop_(), own()]));
+    cases.push(script("iterator-as-string", &[expr(text), loop_()]));
     cases
 }
 
-fn bad_strings() -> Vec<Case> {
+/// Characters at both ends of every range, and what is none, in every place
+/// where a string can stand.
+fn strings() -> Vec<Case> {
+    let mut cases = Vec::new();
+    let all: String = texts::EDGES.iter().collect();
+    let back: String = texts::EDGES.iter().rev().collect();
+    let one = |c: char| expr(string(c.to_string().as_bytes()));
+    cases.push(script("string-edges", &texts::EDGES.map(one)));
+    let whole = [all.as_str(), &back].map(|t| expr(string(t.as_bytes())));
+    cases.push(script("string-edges-in-one", &whole));
+    let papers = texts::PAPERS.map(|t| expr(string(t.as_bytes())));
+    cases.push(script("string-papers", &[papers.clone(), papers].concat()));
+    let long = "é".repeat(8_000) + &"和".repeat(5_000);
+    cases.push(script("string-long", &[expr(string(long.as_bytes()))]));
+    for (word, forms) in texts::DAMAGED {
+        for (place, form) in forms.iter().enumerate() {
+            let name = format!("string-{word}-{place}");
+            cases.push(script(&name, &[expr(string(form))]));
+            let between = ["é".as_bytes(), form, b"a"].concat();
+            let stmts = [
+                expr(string(b"a")),
+                class("A", &[], &[("a", string(&between))]),
+            ];
+            cases.push(script(&format!("{name}-in-class-attribute"), &stmts));
+        }
+    }
+    cases.extend(string_places());
+    cases
+}
+
+/// A bad byte wherever a string can stand; a cut character that the next bytes
+/// of the record would make whole.
+fn string_places() -> Vec<Case> {
     let high = || string(&[b'a', 128]);
+    let cut = list(&[string(&[0xC3]), string(&[0xA9])]);
+    let long = [vec![b'a'; 32_000], vec![0xC3]].concat();
     vec![
         script("string-127", &[expr(string(&[127, 0]))]),
         script("string-128", &[expr(string(&[128]))]),
         script("string-255-last", &[expr(string(&[0, 1, 255]))]),
-        script("string-utf8", &[expr(string("\u{e9}".as_bytes()))]),
-        script(
-            "string-in-class-attribute",
-            &[class("A", &[], &[("a", high())])],
-        ),
         script("string-in-target", &[assign(index(high(), none()), none())]),
         script("string-in-lambda", &[expr(lambda(&[], high()))]),
+        script("string-in-def", &[def("f", &[], &[ret(high())])]),
+        script(
+            "string-in-method",
+            &[class("A", &[method("m", &[], &[ret(high())])], &[])],
+        ),
         script("string-then-bad-name", &[expr(high()), expr(var("9"))]),
+        script("string-cut-in-two", &[expr(cut)]),
+        script("string-cut-at-the-end", &[expr(string(&long))]),
+        script("name-not-ascii", &[expr(raw_var("é".as_bytes()))]),
     ]
 }
 
@@ -423,24 +537,79 @@ fn slot_counts() -> Vec<Case> {
         for (word, stmt) in stmts {
             cases.push(script(&format!("slots-{count}-{word}"), &[stmt]));
         }
+        cases.extend(unpacked_slots(count));
     }
     cases.extend(slots_not_counted());
     cases
+}
+
+/// Functions of exactly so many slots, most or all of them from tuple targets.
+fn unpacked_slots(count: usize) -> Vec<Case> {
+    let names = many_names(count);
+    let all = borrowed(&names);
+    let (params, rest) = all.split_at(200);
+    let wide = |names: &[&str]| tuple(&names.iter().map(|n| var(n)).collect::<Vec<_>>());
+    let store = |target: Bytes| assign(target, none());
+    // Tuples of eight in one tuple; each in the next, 29 deep, the last the widest.
+    let eights = tuple(&all.chunks(8).map(wide).collect::<Vec<_>>());
+    let chunks: Vec<&[&str]> = all.chunks(9).collect();
+    let deep = chunks.iter().rev().fold(tuple(&[]), |inner, names| {
+        let mut items: Vec<Bytes> = names.iter().map(|n| var(n)).collect();
+        items.insert(names.len() / 2, inner);
+        tuple(&items)
+    });
+    let pairs: Vec<Bytes> = all.chunks(2).map(|names| store(wide(names))).collect();
+    let mixed = [
+        store(wide(&rest[..20])),
+        for_(
+            rest[20],
+            none(),
+            &[store(tuple(&[var(rest[0]), wide(&rest[21..])]))],
+        ),
+    ];
+    let again = store(tuple(&[wide(params), wide(rest)]));
+    let held = ret(lambda(
+        &["q"],
+        list(&all[1..].iter().map(|n| var(n)).collect::<Vec<_>>()),
+    ));
+    let stmts = [
+        ("tuple", def("f", &[], &[store(wide(&all))])),
+        ("tuple-and-parameters", def("f", params, &[again])),
+        ("tuples-of-eight", def("f", &[], &[store(eights)])),
+        ("tuples-deep", def("f", &[], &[store(deep)])),
+        ("pairs", def("f", &[], &pairs)),
+        ("tuple-mixed", def("f", params, &mixed)),
+        (
+            "tuple-method",
+            class("A", &[method("m", params, &[store(wide(rest))])], &[]),
+        ),
+        (
+            "tuple-captures",
+            def("f", &[], &[store(wide(&all[1..])), held]),
+        ),
+        (
+            "tuple-in-while",
+            def("f", params, &[while_(none(), &[store(wide(rest))])]),
+        ),
+    ];
+    let case_of = |(word, stmt)| script(&format!("slots-{count}-{word}"), &[stmt]);
+    stmts.into_iter().map(case_of).collect()
 }
 
 fn slots_not_counted() -> Vec<Case> {
     let names = many_names(300);
     let all = borrowed(&names);
     let wide = tuple(&all.iter().map(|n| var(n)).collect::<Vec<_>>());
+    let own = tuple(&all[..255].iter().rev().map(|n| var(n)).collect::<Vec<_>>());
+    let parameters = def("f", &all[..255], &[assign(own, none())]);
     let main: Vec<_> = all.iter().map(|n| assign(var(n), none())).collect();
     // 255 parameters and a capture, but the lambda is never lowered.
     let unlowered = lambda(&all[..255], var("zz"));
     let in_attribute = class("A", &[], &[("a", unlowered.clone())]);
     vec![
-        script(
-            "slots-tuple-none",
-            &[def("f", &[], &[assign(wide, none())])],
-        ),
+        script("slots-main-tuple", &[assign(wide.clone(), none())]),
+        script("slots-tuple-300", &[def("f", &[], &[assign(wide, none())])]),
+        script("slots-tuple-of-parameters", &[parameters]),
         script("slots-main-300", &main),
         script(
             "slots-attribute-lambda",
@@ -484,7 +653,8 @@ fn table_counts() -> Vec<Case> {
     ]
 }
 
-/// One statement for each question that can be broken by a statement alone.
+/// One statement for each question that can be broken by a statement alone, in
+/// the order in which they are asked.
 fn faults() -> Vec<(u8, Bytes)> {
     let names = many_names(256);
     let all = borrowed(&names);
@@ -492,6 +662,7 @@ fn faults() -> Vec<(u8, Bytes)> {
     let classes = times(65, &class("A", &[], &[]));
     vec![
         (7, expr(var("9"))),
+        (33, expr(var("__for_iter_2__"))),
         (8, expr(string(&[128]))),
         (9, break_()),
         (10, assign(none(), none())),
@@ -503,20 +674,20 @@ fn faults() -> Vec<(u8, Bytes)> {
     ]
 }
 
-/// Two faults in both orders: the smaller number answers.
+/// Two faults in both orders: the question asked first answers.
 fn pairs_of_faults() -> Vec<Case> {
     let faults = faults();
     let mut cases = Vec::new();
-    for (place, (small, first)) in faults.iter().enumerate() {
-        for (large, second) in &faults[place + 1..] {
-            let name = format!("faults-{small}-{large}");
+    for (place, (early, first)) in faults.iter().enumerate() {
+        for (late, second) in &faults[place + 1..] {
+            let name = format!("faults-{early}-{late}");
             cases.push(script(&name, &[first.clone(), second.clone()]));
-            let name = format!("faults-{large}-{small}");
+            let name = format!("faults-{late}-{early}");
             cases.push(script(&name, &[second.clone(), first.clone()]));
         }
-        let name = format!("faults-{small}-and-bad-kind");
+        let name = format!("faults-{early}-and-bad-kind");
         cases.push(script(&name, &[first.clone(), vec![99]]));
-        let name = format!("faults-{small}-and-depth-33");
+        let name = format!("faults-{early}-and-depth-33");
         cases.push(script(&name, &[first.clone(), expr(nested_not(31))]));
     }
     cases

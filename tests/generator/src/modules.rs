@@ -2,6 +2,7 @@
 
 use crate::make::{with_header, Bytes};
 use crate::rng::Rng;
+use crate::texts;
 
 /// A named module record.
 pub struct ModuleCase {
@@ -164,6 +165,7 @@ pub fn all() -> Vec<ModuleCase> {
     let mut cases = headers();
     cases.extend(layouts());
     cases.extend(class_names());
+    cases.extend(strings());
     cases.extend(numbers());
     cases.extend(jumps());
     cases.extend(orders());
@@ -245,6 +247,35 @@ fn class_names() -> Vec<ModuleCase> {
         let mut parts = Parts::of(&[]);
         parts.classes[0].1 = names.map(|n| (n.as_bytes().to_vec(), 0)).to_vec();
         cases.push(module_case(&format!("methods-{word}"), parts.bytes()));
+    }
+    cases
+}
+
+/// Strings in UTF-8, and such as are none, also where no code names them.
+fn strings() -> Vec<ModuleCase> {
+    let with = |name: &str, strings: &[&[u8]]| {
+        let mut parts = Parts::of(&[]);
+        parts.strings = strings.iter().map(|string| string.to_vec()).collect();
+        module_case(name, parts.bytes())
+    };
+    let edges: Vec<String> = texts::EDGES.iter().map(char::to_string).collect();
+    let edges: Vec<&[u8]> = edges.iter().map(String::as_bytes).collect();
+    let long = "和".repeat(9_000);
+    let mut cases = vec![
+        with("strings-edges", &edges),
+        with("strings-edges-in-one", &[&edges.concat()]),
+        with("strings-papers", &texts::PAPERS.map(str::as_bytes)),
+        with("strings-cut-in-two", &[&[0xC3], &[0xA9]]),
+        with("strings-long", &[long.as_bytes()]),
+        with("strings-long-cut", &[&long.as_bytes()[..26_999]]),
+    ];
+    for (word, forms) in texts::DAMAGED {
+        for (place, form) in forms.iter().enumerate() {
+            let between = ["é".as_bytes(), form, b"a"].concat();
+            cases.push(with(&format!("strings-{word}-{place}"), &[form]));
+            let name = format!("strings-{word}-{place}-second");
+            cases.push(with(&name, &[b"a", &between]));
+        }
     }
     cases
 }
@@ -371,7 +402,7 @@ fn not_asked() -> Vec<ModuleCase> {
     let mut symbols = Parts::of(&[]);
     symbols.symbols = vec![vec![], vec![], vec![255; 255], b"a b".to_vec()];
     let mut strings = Parts::of(&[]);
-    strings.strings = vec![vec![], vec![], vec![128, 255], vec![0; 300]];
+    strings.strings = vec![vec![], vec![], "é".into(), vec![0; 300]];
     let mut arity = Parts::of(&[]);
     arity.functions[0].arity = 255;
     arity.functions[0].locals = 0;
@@ -431,6 +462,11 @@ pub fn full_of_code() -> Bytes {
 pub fn random(rng: &mut Rng) -> Parts {
     let functions = 1 + rng.below(3);
     let mut parts = Parts::with(&[]);
+    parts.strings[0] = if rng.once_in(12) {
+        texts::damaged_text(rng)
+    } else {
+        texts::text(rng)
+    };
     let far = rng.once_in(4);
     for _ in 0..functions {
         let length = 1 + rng.below(12);

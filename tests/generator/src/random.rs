@@ -3,8 +3,9 @@
 
 use crate::make::{self, Bytes};
 use crate::rng::Rng;
+use crate::texts;
 
-const POOL: [&str; 34] = [
+const POOL: [&str; 37] = [
     "a",
     "b",
     "x",
@@ -25,9 +26,12 @@ const POOL: [&str; 34] = [
     "__iter__",
     "__has_next__",
     "__next__",
-    "__for_iter_2__",
-    "__for_iter_4__",
-    "__for_iter_12__",
+    "__for_iter___",
+    "__for_iter_x__",
+    "__for_iter_2___",
+    "__for_iter_2_",
+    "_for_iter_2__",
+    "__for_iter_2x__",
     "__main__",
     "__init__",
     "print",
@@ -41,10 +45,23 @@ const POOL: [&str; 34] = [
     "map",
 ];
 
-/// A rule that a random tree may break: questions 7 to 12.
+/// Names of loops' iterators; 51 digits make the longest.
+const ITERATORS: [&str; 5] = [
+    "__for_iter_2__",
+    "__for_iter_0__",
+    "__for_iter_4__",
+    "__for_iter_00__",
+    "__for_iter_000000000000000000000000000000000000000000000000000__",
+];
+
+/// A digit more, and it is too long for a name.
+const LONG_ITERATOR: &str = "__for_iter_0000000000000000000000000000000000000000000000000000__";
+
+/// A rule that a random tree may break: questions 7 to 12 and 33.
 #[derive(Clone, Copy, PartialEq, Eq)]
 enum Fault {
     Name,
+    Iterator,
     Text,
     Loop,
     Target,
@@ -52,8 +69,10 @@ enum Fault {
     Init,
 }
 
-const FAULTS: [Fault; 6] = [
+const FAULTS: [Fault; 8] = [
     Fault::Name,
+    Fault::Iterator,
+    Fault::Iterator,
     Fault::Text,
     Fault::Loop,
     Fault::Target,
@@ -61,7 +80,7 @@ const FAULTS: [Fault; 6] = [
     Fault::Init,
 ];
 
-/// One random tree. Most are accepted; some break a rule on purpose.
+/// One random tree. Most are accepted; some break one rule or two on purpose.
 pub fn tree(rng: &mut Rng) -> Bytes {
     // How many parts, and how many top statements at the most.
     let (size, most) = match rng.below(200) {
@@ -71,7 +90,15 @@ pub fn tree(rng: &mut Rng) -> Bytes {
         180..198 => (600, 20),
         _ => (6_000, 400),
     };
-    let pool = (0..2 + rng.below(9)).map(|_| *rng.pick(&POOL)).collect();
+    // Few names for lambdas, so that they often hide each other's.
+    let lambdas = rng.once_in(3);
+    let names = 2 + rng.below(if lambdas { 3 } else { 9 });
+    let pool = (0..names).map(|_| *rng.pick(&POOL)).collect();
+    let faults = match rng.below(18) {
+        0 | 1 => vec![*rng.pick(&FAULTS)],
+        2 => vec![*rng.pick(&FAULTS), *rng.pick(&FAULTS)],
+        _ => Vec::new(),
+    };
     let mut maker = Maker {
         pool,
         size,
@@ -80,8 +107,8 @@ pub fn tree(rng: &mut Rng) -> Bytes {
         } else {
             4 + rng.below(9)
         },
-        fault: rng.once_in(8).then(|| *rng.pick(&FAULTS)),
-        lambdas: rng.once_in(3),
+        faults,
+        lambdas,
         rng,
     };
     let stmts = maker.block(1, false, most);
@@ -94,20 +121,25 @@ struct Maker<'r> {
     /// How many parts may still be made; then only small ones follow.
     size: usize,
     deepest: usize,
-    /// The rule that is broken now and then, if any.
-    fault: Option<Fault>,
-    /// Whether expressions are mostly lambdas.
+    /// The rules that are broken now and then, if any.
+    faults: Vec<Fault>,
+    /// Whether expressions are mostly lambdas, and statements defs.
     lambdas: bool,
 }
 
 impl Maker<'_> {
     fn spoil(&mut self, fault: Fault) -> bool {
-        self.fault == Some(fault) && self.rng.once_in(6)
+        self.faults.contains(&fault) && self.rng.once_in(6)
     }
 
     fn name(&mut self) -> &'static str {
         if self.spoil(Fault::Name) {
             return self.rng.pick::<&str>(&["", "1a", "a-b", "a b"]);
+        }
+        if self.spoil(Fault::Iterator) {
+            let long = self.rng.once_in(60);
+            let short = self.rng.pick::<&str>(&ITERATORS);
+            return if long { LONG_ITERATOR } else { short };
         }
         let at = self.rng.below(self.pool.len());
         self.pool[at]
@@ -140,6 +172,10 @@ impl Maker<'_> {
             return make::pass();
         }
         let inner = depth + 1;
+        if self.lambdas && depth == 1 && !small && self.rng.once_in(2) {
+            let (name, params) = (self.name(), self.params());
+            return make::def(name, &params, &self.block(inner, false, 6));
+        }
         match self.rng.below(if small { 7 } else { 20 }) {
             0 => make::pass(),
             1 if in_loop || self.spoil(Fault::Loop) => make::break_(),
@@ -231,16 +267,23 @@ impl Maker<'_> {
     }
 
     fn leaf(&mut self) -> Bytes {
-        match self.rng.below(12) {
+        // A string that is no good where there is one at all.
+        let kinds = if self.faults.contains(&Fault::Text) {
+            6
+        } else {
+            12
+        };
+        match self.rng.below(kinds) {
             0 => make::none(),
             1 => make::true_(),
             2 => make::false_(),
             3 => make::int(self.rng.number() as i64 >> self.rng.below(64)),
             4 => make::float(self.rng.number()),
+            5 if self.spoil(Fault::Text) => make::string(&texts::damaged_text(self.rng)),
+            5 if self.rng.once_in(2) => make::string(&texts::text(self.rng)),
             5 => {
                 let text = *self.rng.pick(&["", "a", "x", "ab", "\u{7f}", "\0"]);
-                let spoiled = self.spoil(Fault::Text);
-                make::string(if spoiled { &[128] } else { text.as_bytes() })
+                make::string(text.as_bytes())
             }
             _ => make::var(self.name()),
         }

@@ -68,6 +68,7 @@ pub fn small() -> Vec<Case> {
         methods,
         classes,
         slots,
+        tuple_slots,
         capture_orders,
         captures,
         ifs,
@@ -88,11 +89,13 @@ fn literals() -> Vec<Case> {
         1,
     ];
     let texts: [&[u8]; 6] = [b"", b"a", b"", b"b", b"a", b"\x00\x7f"];
+    let accents = ["é", "e\u{301}", "é", "e", "É"].map(|t| expr(string(t.as_bytes())));
     vec![
         script("literal-words", &[none(), false_(), true_()].map(expr)),
         script("literal-ints", &ints),
         script("literal-floats", &bits.map(|b| expr(float(b)))),
         script("literal-strings", &texts.map(|t| expr(string(t)))),
+        script("literal-accents", &accents),
         script(
             "string-like-name",
             &[expr(string(b"__main__")), expr(var("a"))],
@@ -144,7 +147,7 @@ fn iterators() -> Vec<Case> {
     let loop_in = |name: &str| def(name, &[], &[for_("i", var("r"), &[pass()])]);
     let loop_ = || for_("i", var("r"), &[pass()]);
     let spelled = |name: &str| assign(var(name), int(1));
-    let after = [loop_(), expr(var("__for_iter_2__")), expr(var("__next__"))];
+    let after = [loop_(), expr(var("__for_iter_2___")), expr(var("__next__"))];
     let inner = for_("i", var("i"), &[loop_()]);
     let over_call = for_("x", call_name("range", &[int(3)]), &[expr(var("x"))]);
     let far = [times(50, &expr(none())), vec![loop_()]].concat();
@@ -152,10 +155,10 @@ fn iterators() -> Vec<Case> {
     vec![
         script("iter-spelled-first", &[spelled("__iter__"), loop_()]),
         script(
-            "iterator-spelled-first",
-            &[spelled("__for_iter_4__"), loop_()],
+            "iterator-nearly-spelled-first",
+            &[spelled("__for_iter_4___"), loop_()],
         ),
-        script("iterator-spelled-last", &after),
+        script("iterator-nearly-spelled-last", &after),
         script("iterator-shared", &[loop_in("f"), loop_in("g"), loop_()]),
         script("loop-in-loop", &[for_("i", var("r"), &[inner])]),
         script(
@@ -312,7 +315,7 @@ fn slots() -> Vec<Case> {
     let itself = [def("f", &[], &[]), ret(var("f"))];
     vec![
         script("slots-all-kinds", &[slots_of_all_kinds()]),
-        script("slots-not-from-tuple", &f(&[pair, store("b")])),
+        script("slots-from-tuple", &f(&[pair, store("b")])),
         script("slots-not-from-attribute", &f(&[attribute, ret(var("o"))])),
         script(
             "slots-def-never-stored",
@@ -331,30 +334,177 @@ fn slots() -> Vec<Case> {
     ]
 }
 
-/// In a def with `x` and `y`: a lambda whose body refers to `x` and holds a
-/// lambda with a parameter `x`, in both orders of every kind.
-fn capture_orders() -> Vec<Case> {
-    let inside = |name: &str, body: Bytes| {
-        let outer = lambda(&[], body);
-        script(name, &[def("d", &["x", "y"], &[ret(outer)])])
+/// A def with tuple targets in every kind of block, and other names between
+/// them. The order of slots is p, a, b, c, i, j, d, e, g, h, k, l, m; the list at
+/// the end names them in byte order.
+fn unpacked_everywhere() -> Bytes {
+    let unpack = |names: &[&str]| {
+        let items: Vec<_> = names.iter().map(|n| var(n)).collect();
+        assign(tuple(&items), var("t"))
     };
-    let x = || var("x");
-    let hides = || lambda(&["x"], var("x"));
-    let inner_then_hide = list(&[lambda(&[], x()), lambda(&["x"], int(0))]);
-    vec![
-        inside("capture-then-hide", list(&[x(), hides()])),
-        inside("hide-then-capture", list(&[hides(), x()])),
-        inside("capture-inner-then-hide", inner_then_hide),
-        inside("capture-call-order", call(x(), &[hides()])),
-        inside("capture-argument-order", call(hides(), &[x()])),
-        inside("capture-dict-order", dict(&[(x(), hides())])),
-        inside("capture-dict-order-back", dict(&[(hides(), x())])),
-        inside("capture-index-order", index(x(), hides())),
-        inside("capture-index-order-back", index(hides(), x())),
-        inside("capture-binary-order", binary(AND, x(), hides())),
-        inside("capture-binary-order-back", binary(0, hides(), x())),
-        inside("capture-method-name", call(attr(x(), "y"), &[])),
+    let nested = tuple(&[tuple(&[var("a"), tuple(&[var("b")])]), var("c")]);
+    let arms = [
+        (none(), vec![unpack(&["g", "a"])]),
+        (none(), vec![unpack(&["h", "p"])]),
+    ];
+    let listed = [
+        "a", "b", "c", "d", "e", "g", "h", "i", "j", "k", "l", "m", "p",
     ]
+    .map(var);
+    let body = [
+        assign(nested, var("t")),
+        for_("i", var("p"), &[unpack(&["j", "i", "d"])]),
+        while_(none(), &[unpack(&["e", "b", "e"])]),
+        if_(&arms, Some(&[unpack(&["k", "c"])])),
+        assign(var("l"), none()),
+        unpack(&["l", "m"]),
+        expr(list(&listed)),
+    ];
+    def("f", &["p"], &body)
+}
+
+fn tuple_slots() -> Vec<Case> {
+    let pair = |a: &str, b: &str| assign(tuple(&[var(a), var(b)]), var("t"));
+    let empty = assign(tuple(&[var("a"), tuple(&[])]), var("t"));
+    let both = || list(&[var("a"), var("b")]);
+    let f = |params: &[&str], body: &[Bytes]| def("f", params, body);
+    let inner = def("g", &[], &[pair("a", "c"), ret(both())]);
+    let held = class(
+        "A",
+        &[method("m", &["s"], &[pair("b", "s"), ret(both())])],
+        &[],
+    );
+    let init = class("A", &[method("__init__", &["a"], &[pair("a", "b")])], &[]);
+    let called = [pair("a", "b"), expr(call_name("a", &[var("b")]))];
+    let captured = lambda(&["b"], both());
+    let round = for_("a", var("t"), &[pair("b", "a")]);
+    let own = def(
+        "helper",
+        &["stock"],
+        &[pair("counts", "full"), ret(var("full"))],
+    );
+    let caller = [
+        pair("counts", "full"),
+        own,
+        expr(call_name("helper", &[var("full")])),
+    ];
+    vec![
+        script("unpack-everywhere", &[unpacked_everywhere()]),
+        script(
+            "unpack-parameter",
+            &[f(&["b"], &[pair("a", "b"), ret(both())])],
+        ),
+        script(
+            "unpack-parameter-first",
+            &[f(&["a"], &[pair("a", "b"), ret(both())])],
+        ),
+        script(
+            "unpack-same-twice",
+            &[f(&[], &[pair("a", "a"), ret(both())])],
+        ),
+        script(
+            "unpack-empty",
+            &[f(&[], &[empty, assign(tuple(&[]), var("a"))])],
+        ),
+        script(
+            "unpack-in-inner-def",
+            &[f(&[], &[pair("a", "b"), inner, ret(both())])],
+        ),
+        script(
+            "unpack-in-held-class",
+            &[f(&[], &[pair("a", "d"), held, ret(both())])],
+        ),
+        script("unpack-in-init", &[init]),
+        script("unpack-called", &[f(&[], &called)]),
+        script(
+            "unpack-captured",
+            &[f(&[], &[pair("a", "b"), ret(captured)])],
+        ),
+        script("unpack-loop-variable", &[f(&[], &[round])]),
+        script(
+            "unpack-dead-code",
+            &[f(&[], &[ret(both()), pair("b", "a")])],
+        ),
+        script(
+            "unpack-own-name",
+            &[f(&[], &[pair("f", "a"), ret(var("f"))])],
+        ),
+        script(
+            "unpack-def-name",
+            &[f(&[], &[pair("g", "a"), def("g", &[], &[]), ret(var("g"))])],
+        ),
+        script("unpack-in-main", &[pair("a", "b"), expr(both())]),
+        script("unpack-helper", &caller),
+    ]
+}
+
+type Pair = fn(Bytes, Bytes) -> Bytes;
+
+/// Expressions that hold two, the first before the second.
+const PAIRS: [(&str, Pair); 16] = [
+    ("list", |a, b| list(&[a, b])),
+    ("tuple", |a, b| tuple(&[a, b])),
+    ("set", |a, b| set(&[a, b])),
+    ("tree-set", |a, b| tree_set(&[a, b])),
+    ("dict", |a, b| dict(&[(a, b)])),
+    ("dict-keys", |a, b| dict(&[(a, none()), (b, none())])),
+    ("dict-values", |a, b| dict(&[(none(), a), (none(), b)])),
+    ("index", index),
+    ("sum", |a, b| binary(0, a, b)),
+    ("and", |a, b| binary(AND, a, b)),
+    ("or", |a, b| binary(OR, a, b)),
+    ("call", |a, b| call(a, &[b])),
+    ("arguments", |a, b| call_name("y", &[a, b])),
+    ("method", |a, b| call(attr(a, "x"), &[b])),
+    ("unary", |a, b| list(&[unary(0, a), unary(1, b)])),
+    ("attribute", |a, b| list(&[attr(a, "x"), attr(b, "y")])),
+];
+
+/// In a def with `x` and `y`: a lambda whose body refers to `x` and holds
+/// lambdas that have it as a parameter, in both orders of every kind.
+fn capture_orders() -> Vec<Case> {
+    let x = || var("x");
+    let shapes = [
+        ("hidden", x(), lambda(&["x"], x())),
+        ("unused", x(), lambda(&["x"], int(0))),
+        ("inner", lambda(&[], x()), lambda(&["x"], x())),
+        ("other", lambda(&["y"], x()), lambda(&["x"], var("y"))),
+        (
+            "deep",
+            lambda(&["y"], lambda(&[], x())),
+            lambda(&["x"], lambda(&["x"], x())),
+        ),
+        (
+            "outer",
+            lambda(&["x"], lambda(&[], x())),
+            lambda(&["y"], var("y")),
+        ),
+        (
+            "both",
+            lambda(&["x"], lambda(&["y"], list(&[x(), var("y")]))),
+            list(&[x(), var("y")]),
+        ),
+    ];
+    let inside = |name: &str, params: &[&str], body: Bytes| {
+        script(name, &[def("d", &["x", "y"], &[ret(lambda(params, body))])])
+    };
+    let mut cases = Vec::new();
+    for (kind, pair) in PAIRS {
+        for (shape, first, second) in &shapes {
+            let name = format!("capture-{kind}-{shape}");
+            let (on, back) = (
+                pair(first.clone(), second.clone()),
+                pair(second.clone(), first.clone()),
+            );
+            if kind == "list" {
+                cases.push(inside(&format!("{name}-own"), &["y"], on.clone()));
+                cases.push(inside(&format!("{name}-back-own"), &["y"], back.clone()));
+            }
+            cases.push(inside(&name, &[], on));
+            cases.push(inside(&format!("{name}-back"), &[], back));
+        }
+    }
+    cases
 }
 
 fn captures() -> Vec<Case> {
@@ -376,7 +526,13 @@ fn captures() -> Vec<Case> {
     let g = [def("g", &[], &[]), ret(outer(call_name("g", &[])))];
     let in_method = method("m", &["self"], &[ret(outer(var("self")))]);
     let named = ret(outer(call_name("len", &[])));
+    let around = |params: &[&str]| lambda(params, outer(lambda(&["y"], list(&[x(), var("y")]))));
     vec![
+        inside("capture-method-name", outer(call(attr(x(), "y"), &[]))),
+        inside("capture-bound-above", around(&["x"])),
+        inside("capture-bound-above-other", around(&["y"])),
+        inside("capture-bound-above-both", around(&["y", "x"])),
+        inside("capture-bound-nowhere", around(&[])),
         inside("capture-in-all", outer(set(&everywhere))),
         inside(
             "capture-own-parameter",

@@ -118,6 +118,14 @@ fn texts() -> Vec<Case> {
         let stmt = filled(&strings, 8_190, unpacked);
         cases.push(script(&format!("slow-strings-{length}"), &[stmt]));
     }
+    for (word, character) in [("2", "é"), ("3", "和"), ("4", "🗞")] {
+        let strings: Vec<Bytes> = alike(512, 3)
+            .iter()
+            .map(|n| string(n.replace('a', &character.repeat(10)).as_bytes()))
+            .collect();
+        let stmt = filled(&strings, 8_190, unpacked);
+        cases.push(script(&format!("slow-strings-of-{word}-bytes"), &[stmt]));
+    }
     cases
 }
 
@@ -147,13 +155,44 @@ fn lambdas() -> Vec<Case> {
         cases.push(lambdas_with_parameters(params, length));
     }
     cases.push(lambdas_in_wide_def());
+    for (slots, most) in [(136, 4_000), (250, 8_000)] {
+        for hidden in [1, 8] {
+            cases.push(lambdas_that_hide(slots, most, hidden));
+        }
+    }
+    cases.push(lambdas_that_bind("same", 250, 0));
+    cases.push(lambdas_that_bind("others", 36, 36));
     cases.push(lambdas_in_lambdas());
     cases.push(lambdas_that_sort());
     cases
 }
 
-/// Lambdas 27 deep around many names and then small lambdas, each of which
-/// takes its parameter from the names.
+/// Lambdas 28 deep around many names, each with some of the names as its own
+/// parameters.
+fn lambdas_that_hide(slots: usize, most: usize, hidden: usize) -> Case {
+    let names = many_names(slots);
+    let stmt = filled(&variables(&names), most, |items| {
+        let hide = |e: Bytes, n: usize| lambda(&borrowed(&names[n * hidden..][..hidden]), e);
+        let chain = (0..28).fold(list(items), |e, n| hide(e, n % (slots / hidden)));
+        def("f", &borrowed(&names), &[ret(chain)])
+    });
+    script(&format!("slow-lambdas-hiding-{slots}-{hidden}"), &[stmt])
+}
+
+/// Lambdas 28 deep with so many parameters each, those of the next so many
+/// names on, around as many names as fit, which the outermost binds.
+fn lambdas_that_bind(word: &str, count: usize, on: usize) -> Case {
+    let names = many_names(1_024);
+    let bound = |n: usize| &names[n * on..][..count];
+    let stmt = filled(&variables(bound(27)), 8_000, |items| {
+        let chain = (0..28).fold(list(items), |e, n| lambda(&borrowed(bound(n)), e));
+        def("f", &["q"], &[ret(chain)])
+    });
+    script(&format!("slow-lambdas-binding-{word}"), &[stmt])
+}
+
+/// Lambdas 27 deep around many names and then small lambdas, each with a
+/// parameter of its own.
 fn lambdas_in_lambdas() -> Case {
     let names = many_names(250);
     let mut items = variables(&names);
@@ -212,6 +251,7 @@ fn long_items() -> Vec<(&'static str, Vec<Bytes>)> {
         ("lambdas", vec![lambda(&[], var("ab"))]),
         ("names", variables(&alike(900, 3))),
         ("string", vec![string(&vec![b's'; 32_000])]),
+        ("accents", vec![string("é".repeat(16_000).as_bytes())]),
     ]
 }
 
@@ -245,7 +285,16 @@ fn stores() -> Vec<Case> {
         let stmts: Vec<Bytes> = alike(255, 3).iter().map(one).collect();
         filled(&stmts, most, |items| def("f", &[], items))
     };
+    // The same names by tuple targets of two.
+    let pairs = |most: usize| {
+        let names = alike(254, 3);
+        let one = |two: &[String]| assign(tuple(&variables(two)), none());
+        let stmts: Vec<Bytes> = names.chunks(2).map(one).collect();
+        filled(&stmts, most, |items| def("f", &[], items))
+    };
     vec![
+        script("slow-pairs-1023", &[pairs(1_023)]),
+        script("slow-pairs-most", &[pairs(8_000)]),
         script("slow-assignments-4095", &[stores(4_095)]),
         script("slow-assignments-most", &[stores(8_000)]),
     ]
@@ -262,8 +311,11 @@ fn targets() -> Vec<Case> {
         }
     };
     let nest = |many: usize, count: usize| (0..28).fold(inner(count), |e, _| with(many)(e));
+    let held = |target: Bytes| def("f", &[], &[assign(target, none())]);
     vec![
         script("slow-targets-31", &[assign(nest(31, 430), none())]),
+        script("slow-targets-31-in-def", &[held(nest(31, 250))]),
+        script("slow-targets-63-in-def", &[held(nest(63, 250))]),
         script("slow-targets-63", &[assign(nest(63, 250), none())]),
         script(
             "slow-targets-wide",

@@ -13,6 +13,7 @@ mod renumber;
 pub mod run;
 pub mod slots;
 pub mod tree;
+pub mod utf8;
 pub mod walk;
 
 pub use run::Ran;
@@ -21,7 +22,7 @@ pub use walk::Walked;
 /// The least length of each work area.
 pub const AREA: usize = 16_384;
 
-/// Questions 1 to 16: the module record of a tree, or the first no.
+/// Questions 1 to 16 and 33: the module record of a tree, or the first no.
 pub fn lower(tree: &[u8], area1: usize, area2: usize, room: usize) -> Result<Vec<u8>, u8> {
     if area1 < AREA || area2 < AREA {
         return Err(1);
@@ -29,10 +30,21 @@ pub fn lower(tree: &[u8], area1: usize, area2: usize, room: usize) -> Result<Vec
     lowering::write(&plan(tree)?, room)
 }
 
-/// Questions 2 to 15: the numbered tree, before it becomes bytes.
-pub fn plan(tree: &[u8]) -> Result<plan::Plan<'_>, u8> {
+/// Questions 2 to 13 and 33: the statements of the tree.
+fn checked(tree: &[u8]) -> Result<tree::Block<'_>, u8> {
     let program = tree::read(tree)?;
     questions::ask(&program)?;
+    Ok(program)
+}
+
+/// Questions 2 to 13 and 33.
+pub fn check(tree: &[u8]) -> Result<(), u8> {
+    checked(tree).map(|_| ())
+}
+
+/// Questions 2 to 15 and 33: the numbered tree, before it becomes bytes.
+pub fn plan(tree: &[u8]) -> Result<plan::Plan<'_>, u8> {
+    let program = checked(tree)?;
     slots::ask(&program)?;
     plan::make(&program)
 }
@@ -79,7 +91,7 @@ pub fn run(
 }
 
 /// The walk through the body with that number. A tree refused by questions 2
-/// to 15, a function that does not exist, or a bad answer gives its number.
+/// to 15 or 33, a function that does not exist, or a bad answer gives its number.
 pub fn walk(tree: &[u8], function: u64, answers: &[u8]) -> Result<Walked, u8> {
     let plan = plan(tree)?;
     let function = find(&plan.functions, function)?;

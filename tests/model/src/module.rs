@@ -1,7 +1,7 @@
 //! The module reader: questions 17 to 21, and the hand-back of code.
 
 use crate::instruction as op;
-use crate::names;
+use crate::{names, utf8};
 
 pub const MAX_MODULE: usize = 524_288;
 
@@ -100,9 +100,11 @@ impl<'m> Cursor<'m> {
         self.take(length.into())
     }
 
+    /// Strings are well-formed UTF-8; symbols are any bytes.
     fn string(&mut self) -> Option<&'m [u8]> {
         let length = self.number()?;
         self.take(length.into())
+            .filter(|bytes| utf8::well_formed(bytes))
     }
 
     fn well_formed_name(&mut self) -> Option<&'m [u8]> {

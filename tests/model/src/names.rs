@@ -49,6 +49,15 @@ pub fn iterator(place: usize) -> Vec<u8> {
     format!("__for_iter_{place}__").into_bytes()
 }
 
+/// A name that a loop's iterator could have: digits, one or more, between
+/// `__for_iter_` and `__`. No script may spell one.
+pub fn is_iterator(name: &[u8]) -> bool {
+    let digits = name
+        .strip_prefix(b"__for_iter_")
+        .and_then(|rest| rest.strip_suffix(b"__"));
+    digits.is_some_and(|digits| !digits.is_empty() && digits.iter().all(u8::is_ascii_digit))
+}
+
 /// The name of the lambda with this function number.
 pub fn lambda(number: usize) -> Vec<u8> {
     format!("<lambda#{number}>").into_bytes()

@@ -1,31 +1,38 @@
-//! Questions 7 to 13. Each is asked over the whole tree before the next, so
-//! one pass notes every no, and the smallest number is the answer.
+//! Questions 7 to 13 and 33. Each is asked over the whole tree before the next,
+//! so one pass notes every no, and the first in their order is the answer.
 
-use crate::names;
 use crate::tree::{Block, Class, Expr, Function, Group, Name, Stmt};
+use crate::{names, utf8};
 use std::collections::HashSet;
 
-/// The first no among questions 7 to 13.
+/// The questions in the order in which they are asked: 33 just after 7.
+const ORDER: [u8; 8] = [7, 33, 8, 9, 10, 11, 12, 13];
+
+/// The first no among these questions.
 pub fn ask(block: &Block) -> Result<(), u8> {
-    let mut noes = Noes { seen: [false; 14] };
+    let mut noes = Noes::default();
     noes.block(block, false);
-    match (7..14).find(|&number| noes.seen[number]) {
-        Some(number) => Err(number as u8),
+    match ORDER.iter().find(|number| noes.seen.contains(number)) {
+        Some(&number) => Err(number),
         None => Ok(()),
     }
 }
 
+#[derive(Default)]
 struct Noes {
-    seen: [bool; 14],
+    seen: HashSet<u8>,
 }
 
 impl Noes {
-    fn ask(&mut self, number: usize, yes: bool) {
-        self.seen[number] |= !yes;
+    fn ask(&mut self, number: u8, yes: bool) {
+        if !yes {
+            self.seen.insert(number);
+        }
     }
 
     fn name(&mut self, name: Name) {
         self.ask(7, names::well_formed(name));
+        self.ask(33, !names::is_iterator(name));
     }
 
     fn params(&mut self, params: &[Name]) {
@@ -104,7 +111,7 @@ impl Noes {
     fn expr(&mut self, expr: &Expr) {
         match expr {
             Expr::None | Expr::False | Expr::True | Expr::Int(_) | Expr::Float(_) => {}
-            Expr::String(bytes) => self.ask(8, bytes.is_ascii()),
+            Expr::String(bytes) => self.ask(8, utf8::well_formed(bytes)),
             Expr::Variable(name) => self.name(name),
             Expr::Unary(_, operand) => self.expr(operand),
             Expr::Binary(_, left, right) | Expr::Index(left, right) => {

@@ -1,6 +1,6 @@
 //! Slots and captures, and question 14 on them.
 
-use crate::tree::{Block, Expr, Name, Stmt};
+use crate::tree::{Block, Expr, Group, Name, Stmt};
 use std::collections::{BTreeSet, HashMap};
 
 pub const MAX_SLOTS: usize = 255;
@@ -40,12 +40,26 @@ impl<'a> Slots<'a> {
         }
     }
 
-    /// One pass in source order. A tuple target adds no slot, and neither
-    /// does anything inside a nested def or class.
+    /// The variables of a target, elements of tuples left to right. Attributes
+    /// and indexes add no slot.
+    fn add_target(&mut self, target: &Expr<'a>) {
+        match target {
+            Expr::Variable(name) => self.add(name),
+            Expr::Group(Group::Tuple, items) => {
+                for item in items {
+                    self.add_target(item);
+                }
+            }
+            _ => {}
+        }
+    }
+
+    /// One pass in source order. Nothing inside a nested def or class adds a
+    /// slot.
     fn add_block(&mut self, block: &Block<'a>) {
         for stmt in block {
             match stmt {
-                Stmt::Assign(Expr::Variable(name), _) => self.add(name),
+                Stmt::Assign(target, _) => self.add_target(target),
                 Stmt::Def(function) => self.add(function.name),
                 Stmt::Class(class) => self.add(class.name),
                 Stmt::If(parts) => {
@@ -88,28 +102,42 @@ pub fn captures<'a>(params: &[Name<'a>], body: &Expr<'a>, parent: &Slots<'a>) ->
     if parent.is_empty() {
         return Vec::new();
     }
-    let mut names = BTreeSet::new();
-    references(body, &mut names);
-    for name in params {
-        names.remove(name);
-    }
-    names.into_iter().filter(|name| parent.has(name)).collect()
+    let mut free = Free::default();
+    free.lambda(params, body);
+    let captured = free.names.into_iter().filter(|name| parent.has(name));
+    captured.collect()
 }
 
-/// Gathers references left to right into one set. The trap: an inner lambda
-/// removes its parameters from the whole set, also what others had put there.
-fn references<'a>(expr: &Expr<'a>, names: &mut BTreeSet<Name<'a>>) {
-    match expr {
-        Expr::Variable(found) => {
-            names.insert(found);
+/// Gathers the references that no lambda around them binds.
+#[derive(Default)]
+struct Free<'a> {
+    /// How many of the lambdas around have the name as a parameter.
+    bound: HashMap<Name<'a>, usize>,
+    names: BTreeSet<Name<'a>>,
+}
+
+impl<'a> Free<'a> {
+    /// Parameters are bound inside their own lambda alone.
+    fn lambda(&mut self, params: &[Name<'a>], body: &Expr<'a>) {
+        for name in params {
+            *self.bound.entry(name).or_default() += 1;
         }
-        Expr::Lambda(params, body) => {
-            references(body, names);
-            for name in params {
-                names.remove(name);
+        self.expr(body);
+        for name in params {
+            *self.bound.entry(name).or_default() -= 1;
+        }
+    }
+
+    fn expr(&mut self, expr: &Expr<'a>) {
+        match expr {
+            Expr::Variable(name) => {
+                if self.bound.get(name).copied().unwrap_or(0) == 0 {
+                    self.names.insert(name);
+                }
             }
+            Expr::Lambda(params, body) => self.lambda(params, body),
+            _ => each_part(expr, &mut |part| self.expr(part)),
         }
-        _ => each_part(expr, &mut |part| references(part, names)),
     }
 }
 

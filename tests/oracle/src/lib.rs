@@ -1,5 +1,6 @@
-//! The reference answer: the published Rust compiler, built unchanged, fed
-//! with tree records and answering with module records.
+//! The reference answer: the published Rust compiler, with the edits that the
+//! change requests name, fed with tree records and answering with module
+//! records.
 //!
 //! Slots at or above the arity in defs and methods are renumbered by first
 //! use, since the Rust takes them from a hash set in random order.

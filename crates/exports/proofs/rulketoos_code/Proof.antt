@@ -12,5 +12,5 @@ rulketoos-code-spec = tie.close (tie.spec
     (λ c. omega (arith, code-short _ _ _ _ _ (code-known _ _ _ _ _ _ (c .before .before .before .locate .ensures) (c .before .place .given .1))))  -- add-result
     (λ c. search needs)  -- enum-known-place-2
     (λ c. search needs)  -- cast-result
-    (λ c. code-yes _ _ _ _ _ (code-known _ _ _ _ _ _ (c .before .before .before .locate .ensures) (c .before .place .given .1)))  -- returns
+    (λ c. code-yes _ _ _ _ _ _ (c .before .before .before .locate .ensures) (c .before .place .given .1))  -- returns
     (λ c. code-no _ _ _ _ (c .before .before .before .locate .ensures) (c .before .place2 .given .1)))  -- returns-2

@@ -1,16 +1,19 @@
-use Rattle.lowering.proofs.Answering.{lowers-first, lowers-second, lowers-all}
 use borrow.Author.Needs.{needs}
+use Rattle.lowering.proofs.Answering.{office-limited, lowers-first, lowers-second, lowers-all}
 use Rattle.lowering.proofs.lower.Statement.{statement}
 use Rattle.lowering.proofs.lower.Tie as tie
 
 pub lower-spec : {M : Type 1} → statement M
 lower-spec = tie.close (tie.spec
-    (λ c. lowers-first _ _ _ _ (c .if1 .taken))  -- returns
-    (λ c. lowers-second _ _ _ _ ((c .before) .if1 .left) (c .if2 .taken))  -- returns-2
-    (λ c κs. search needs)  -- lower-into-requires
+    (λ c. let at-if1 = c in lowers-first _ _ _ _ (at-if1 .if1 .taken))  -- returns
+    (λ c. let at-if2 = c in let at-if1 = at-if2 .before in lowers-second _ _ _ _ (at-if1 .if1 .left) (at-if2 .if2 .taken))  -- returns-2
+    (λ c κs. let at-if2 = c .before .before .before .before in let at-if1 = at-if2 .before in ((at-if1 .if1 .left), (at-if2 .if2 .left), office-limited))  -- lower-into-requires
     (λ c κs. search needs)  -- clear-requires
     (λ c κs. search needs)  -- clear-requires-2
     (λ c. search needs)  -- same-length
     (λ c. search needs)  -- same-length-2
     (λ c. search needs)  -- same-length-3
-    (λ c. lowers-all _ _ _ _ ((c .before .before .before .before .before .before .before .before .before .before .before .before .before .before .before .before .before .before .before) .if1 .left) ((c .before .before .before .before .before .before .before .before .before .before .before .before .before .before .before .before .before .before) .if2 .left) _ _ _ _ _ _ ((c .before .before .before .before .before .before .before .before .before .before .before .before .before .before) .lower-into .ensures) ((c .before .before .before .before .before .before .before .before .before .before .before .before .before .before) .lower-into .kept .1 .0) ((c .before .before .before .before .before .before .before .before .before .before .before .before .before .before) .lower-into .kept .1 .1 .0) ((c .before .before .before .before .before .before) .clear .ensures) ((c .before .before) .clear2 .ensures)))  -- returns-3
+    (λ c. let at-clear2 = c .before .before in let at-clear = at-clear2 .before .before .before .before in
+    let at-lower-into = at-clear .before .before .before .before .before .before .before .before in let at-if2 = at-lower-into .before .before .before .before .before in
+    let at-if1 = at-if2 .before in
+    lowers-all _ _ _ _ (at-if1 .if1 .left) (at-if2 .if2 .left) _ _ _ _ _ _ (at-lower-into .lower-into .ensures) (at-lower-into .lower-into .kept .1 .0) (at-lower-into .lower-into .kept .1 .1 .0) (at-clear .clear .ensures) (at-clear2 .clear2 .ensures)))  -- returns-3

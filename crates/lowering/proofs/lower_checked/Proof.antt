@@ -1,31 +1,33 @@
-use mathlib.Core.Path.{sym, _∙_}
-use Rattle.module.proofs.Whole.{sound-roomy}
-use Rattle.lowering.proofs.Answering.{answers-slots, answers-over, compiled-sound, answers-room, answers-module}
+use mathlib.Core.Path.{refl, sym, _∙_}
 use borrow.Author.Needs.{needs}
+use Rattle.lower_emit.proofs.Counts.{answered-full, answered-done}
+use Rattle.module.proofs.Whole.{sound-roomy}
+use Rattle.lowering.proofs.Answering.{answers-slots, answers-over, compiled-sound, answers-fits}
 use Rattle.lowering.proofs.lower_checked.Statement.{statement}
 use Rattle.lowering.proofs.lower_checked.Tie as tie
 
 pub lower-checked-spec : {M : Type 1} → statement M
 lower-checked-spec = tie.close (tie.spec
-    (λ c. search needs)  -- slice-aggregate-compile
-    (λ c κs. search needs)  -- compile-requires
-    (λ c. search needs)  -- enum-known-compiled
-    (λ c. search needs)  -- enum-told
+    (λ c κs. let start = c .before .before .before .before .before .before .before .before in
+    (record { tables-room = (start .pre .1); made-room = search needs; limited = (start .pre .2); numbers = refl; none = refl }, (start .pre .0), (start .pre .3)))  -- compile-requires
     (λ c κs. search needs)  -- check-slots-requires
     (λ c. search needs)  -- same-length
     (λ c. search needs)  -- same-length-2
-    (λ c. let s = (c .before .before .before .before .before .before .before .before .before .before .before .before .before .before .before .before .before) in answers-over _ _ _ _ _ _ (s .pre .0) (s .pre .1) (s .pre .3) _ _ _ _ ((c .before .before .before .before .before .before .before .before .before) .compile .ensures) ((c .before .before) .enum-told .given .1) (sym ((c .before) .check-slots .ensures) ∙ c .if1 .taken))  -- returns
+    (λ c. let at-if2 = c in let at-check-slots = at-if2 .before in let at-if1 = at-check-slots .before in let at-compile = at-if1 .before .before .before .before .before in
+    let start = at-compile .before .before .before .before .before .before .before .before .before in
+    answers-over _ _ _ _ _ _ (start .pre .0) (start .pre .1) (start .pre .3) _ _ _ _ (at-compile .compile .ensures .compiles) (answered-full _ _ (at-if1 .if1 .taken)) (sym (at-check-slots .check-slots .ensures)
+    ∙ (at-if2 .if2 .taken)))  -- returns
     (λ c. search needs)  -- same-length-3
     (λ c. search needs)  -- same-length-4
-    (λ c. let s = (c .before .before .before .before .before .before .before .before .before .before .before .before .before .before .before .before .before) in answers-slots _ _ _ _ _ _ (s .pre .0) (s .pre .1) (s .pre .3) (sym ((c .before) .check-slots .ensures) ∙ c .if1 .left))  -- returns-2
-    (λ c. search needs)  -- slice-aggregate-module-size
-    (λ c κs. let s = (c .before .before .before .before .before .before .before .before .before .before .before .before .before .before .before .before .before .before .before) in sound-roomy (compiled-sound _ _ _ 0 _ (s .args .tree .now) (s .pre .0) (s .pre .1) (s .pre .3) _ _ _ _ ((c .before .before .before .before .before .before .before .before .before .before .before) .compile .ensures) _ _ ((c .before .before .before .before) .compiled .given .1)))  -- module-size-requires
+    (λ c. let at-if2 = c in let at-check-slots = at-if2 .before in
+    let start = at-check-slots .before .before .before .before .before .before .before .before .before .before .before .before .before .before .before in
+    answers-slots _ _ _ _ _ _ (start .pre .0) (start .pre .1) (start .pre .3) (sym (at-check-slots .check-slots .ensures) ∙ (at-if2 .if2 .left)))  -- returns-2
+    (λ c κs. let at-if1 = c .before .before .before .before .before in let at-compile = at-if1 .before .before .before .before .before in
+    let start = at-compile .before .before .before .before .before .before .before .before .before in
+    sound-roomy (compiled-sound _ _ _ 0 _ (start .args .tree .now) (start .pre .0) (start .pre .1) (start .pre .3) _ _ _ _ (at-compile .compile .ensures .compiles) _ _ (answered-done _ _ (at-if1 .if1 .left))))  -- write-tables-requires
     (λ c. search needs)  -- same-length-5
     (λ c. search needs)  -- same-length-6
-    (λ c. let s = (c .before .before .before .before .before .before .before .before .before .before .before .before .before .before .before .before .before .before .before .before .before) in answers-room _ _ _ _ _ _ (s .pre .0) (s .pre .1) (s .pre .3) _ _ _ _ ((c .before .before .before .before .before .before .before .before .before .before .before .before .before) .compile .ensures) _ _ ((c .before .before .before .before .before .before) .compiled .given .1) _ ((c .before) .module-size .ensures .0) (c .if2 .taken))  -- returns-3
-    (λ c. search needs)  -- slice-aggregate-write-module
-    (λ c κs. let s = (c .before .before .before .before .before .before .before .before .before .before .before .before .before .before .before .before .before .before .before .before .before .before .before .before .before) in (sound-roomy (compiled-sound _ _ _ 0 _ (s .args .tree .now) (s .pre .0) (s .pre .1) (s .pre .3) _ _ _ _ ((c .before .before .before .before .before .before .before .before .before .before .before .before .before .before .before .before .before) .compile .ensures) _ _ ((c .before .before .before .before .before .before .before .before .before .before) .compiled .given .1)), (c .before .before .before .before .before) .module-size .ensures .0, (c .before .before .before .before .before) .module-size .ensures .1, (c .before .before .before .before) .if2 .left))  -- write-module-requires
     (λ c. search needs)  -- same-length-7
-    (λ c. search needs)  -- same-length-8
-    (λ c. search needs)  -- same-length-9
-    (λ c. let s = (c .before .before .before .before .before .before .before .before .before .before .before .before .before .before .before .before .before .before .before .before .before .before .before .before .before .before .before .before) in answers-module _ _ _ _ _ _ (s .pre .0) (s .pre .1) (s .pre .3) _ _ _ _ ((c .before .before .before .before .before .before .before .before .before .before .before .before .before .before .before .before .before .before .before .before) .compile .ensures) _ _ ((c .before .before .before .before .before .before .before .before .before .before .before .before .before) .compiled .given .1) _ ((c .before .before .before .before .before .before .before .before) .module-size .ensures .0) ((c .before .before .before .before .before .before .before) .if2 .left) _ _ ((c .before .before) .write-module .ensures)))  -- returns-4
+    (λ c. let at-write-tables = c .before .before in let at-if1 = at-write-tables .before .before .before .before .before .before in let at-compile = at-if1 .before .before .before .before .before in
+    let start = at-compile .before .before .before .before .before .before .before .before .before in
+    answers-fits _ _ _ _ _ _ (start .pre .0) (start .pre .1) (start .pre .3) _ _ _ _ (at-compile .compile .ensures .compiles) _ _ (answered-done _ _ (at-if1 .if1 .left)) _ _ (at-write-tables .write-tables .ensures)))  -- returns-3

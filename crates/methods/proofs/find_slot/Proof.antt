@@ -23,17 +23,17 @@ find-slot-spec = tie.close (tie.spec Inv-loop μ-loop
     (λ c κs. search needs)
     (λ c κs. search needs)
     (λ c. let p = c .before .before in let u = p .before .before in let g = u .before in let s = g .before .before .before .before in
-    slot-here _ _ _ _ _ (s .pre) (g .loop .inv .1) (u .loop-test .taken) (sym (c .if1 .taken) ∙ c .before .same-bytes .ensures ∙ ap (same _) (p .name-part .ensures)))
+    slot-here _ _ _ _ _ (s .pre) (g .loop .inv .1) (u .loop-test .taken) (sym (c .if1 .taken) ∙ c .before .same-bytes .ensures ∙ ap (same _) (p .name-part .ensures .0)))
     (λ c κs. search needs)
     (λ c κs. search needs)
     (λ c. let q = c .before .before in let f = q .before in let p = f .before .before in let u = p .before .before in let g = u .before in let s = g .before .before .before .before in
-    slot-before _ _ _ _ _ (s .pre) (g .loop .inv .1) (u .loop-test .taken) (sym (f .if1 .left) ∙ f .before .same-bytes .ensures ∙ ap (same _) (p .name-part .ensures))
-    (sym (c .if2 .taken) ∙ c .before .below-bytes .ensures ∙ ap (below _) (q .name-part2 .ensures)))
+    slot-before _ _ _ _ _ (s .pre) (g .loop .inv .1) (u .loop-test .taken) (sym (f .if1 .left) ∙ f .before .same-bytes .ensures ∙ ap (same _) (p .name-part .ensures .0))
+    (sym (c .if2 .taken) ∙ c .before .below-bytes .ensures ∙ ap (below _) (q .name-part2 .ensures .0)))
     (λ c. omega arith)
     (λ c. omega arith)
     (λ c. let q = c .before .before in let f = q .before in let p = f .before .before in let u = p .before .before in let g = u .before in let s = g .before .before .before .before in (
       omega arith,
-      past-next _ _ _ _ _ (s .pre) (g .loop .inv .1) (u .loop-test .taken) (sym (f .if1 .left) ∙ f .before .same-bytes .ensures ∙ ap (same _) (p .name-part .ensures))
-          (sym (c .if2 .left) ∙ c .before .below-bytes .ensures ∙ ap (below _) (q .name-part2 .ensures)),
+      past-next _ _ _ _ _ (s .pre) (g .loop .inv .1) (u .loop-test .taken) (sym (f .if1 .left) ∙ f .before .same-bytes .ensures ∙ ap (same _) (p .name-part .ensures .0))
+          (sym (c .if2 .left) ∙ c .before .below-bytes .ensures ∙ ap (below _) (q .name-part2 .ensures .0)),
     ))
     (λ c. let g = c .before in let s = g .before .before .before .before in slot-last _ _ _ _ _ (s .pre) (g .loop .inv .1) (omega arith)))

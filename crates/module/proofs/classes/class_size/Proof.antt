@@ -14,7 +14,7 @@ sized : (c : tie.After-methods-size) → let w = c .before in let s = w .before 
 sized c =
     let w = c .before in
     let s = w .before .before .before .before .args in
-    ap₂ (λ (m n : ℕ). 1 + m + n) (ap length (w .before .name-part .ensures)) (c .methods-size .ensures)
+    ap₂ (λ (m n : ℕ). 1 + m + n) (ap length (w .before .name-part .ensures .0)) (c .methods-size .ensures)
     ∙ sym (length-class (s .tree .now) (s .methods .now) (s .x) (s .place) (w .words-part .result .now) (w .words-part .ensures))
 
 pub class-size-spec : {M : Type 1} → statement M

@@ -30,7 +30,7 @@ fits c =
 
 size : (c : tie.After-name-part Inv-loop μ-loop) → let l = c .before .before .before .loop in let s = c .before .before .before .before .before .before .args in
     3 + length (c .name-part .result .now) ≡ length (methodPiece (s .tree .now) (getD (s .words .now) (l .i) 0))
-size c = let s = c .before .before .before .before .before .before .args in method-size (s .tree .now) (getD (s .words .now) (c .before .before .before .loop .i) 0) (c .name-part .result .now) (c .name-part .ensures)
+size c = let s = c .before .before .before .before .before .before .args in method-size (s .tree .now) (getD (s .words .now) (c .before .before .before .loop .i) 0) (c .name-part .result .now) (c .name-part .ensures .0)
 
 pub methods-size-spec : {M : Type 1} → statement M
 methods-size-spec = tie.close (tie.spec Inv-loop μ-loop

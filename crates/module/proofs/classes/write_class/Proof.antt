@@ -20,7 +20,7 @@ named : (c : tie.After-slice-known2) → let w = c .before .before .before .befo
 named c =
     let w = c .before .before .before .before in
     let s = w .before .before .before .before .before in
-    begun-first (class-pieces _ _ _ _ (w .words-part .result .now) (w .words-part .ensures)) (s .pre) (name-wrote (w .before .name-part .ensures) (c .before .before .write-counted .ensures))
+    begun-first (class-pieces _ _ _ _ (w .words-part .result .now) (w .words-part .ensures)) (s .pre) (name-wrote (w .before .name-part .ensures .0) (c .before .before .write-counted .ensures))
 
 pub write-class-spec : {M : Type 1} → statement M
 write-class-spec = tie.close (tie.spec
@@ -29,7 +29,7 @@ write-class-spec = tie.close (tie.spec
     (λ c. search needs)
     (λ c κs. search needs)
     (λ c κs. let w = c .before in let k = w .before .before .before .before in let s = k .before in let a = s .args in let t = a .tree .now in
-    name-room (w .before .name-part .ensures) (name-short t (a .x) (λ j. k .shared-slice-known .given j .fits))
+    name-room (w .before .name-part .ensures .0) (name-short t (a .x) (λ j. k .shared-slice-known .given j .fits))
     (let h : length (nameBytes (nameAt t (a .x))) ≤ length (a .out .now) =
     omega (arith, s .pre, length-class t (a .methods .now) (a .x) (a .place) (w .words-part .result .now) (w .words-part .ensures), length-name (nameAt t (a .x))) in h))
     (λ c. omega (arith, begun-fits (named c)))

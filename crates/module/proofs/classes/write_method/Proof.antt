@@ -19,14 +19,14 @@ named : (c : tie.After-slice-known2) → let s = c .before .before .before .befo
 named c =
     let p = c .before .before in
     let s = p .before .before .before .before .before in
-    begun-first (method-pieces _ _) (s .pre) (name-wrote (p .before .before .name-part .ensures) (p .write-counted .ensures))
+    begun-first (method-pieces _ _) (s .pre) (name-wrote (p .before .before .name-part .ensures .0) (p .write-counted .ensures))
 
 pub write-method-spec : {M : Type 1} → statement M
 write-method-spec = tie.close (tie.spec
     (λ c. search needs)
     (λ c κs. search needs)
     (λ c κs. let k = c .before .before .before in let s = k .before in let t = s .args .tree .now in let w = s .args .w in
-    name-room (c .before .name-part .ensures) (name-short t (w / 256) (λ j. k .shared-slice-known .given j .fits))
+    name-room (c .before .name-part .ensures .0) (name-short t (w / 256) (λ j. k .shared-slice-known .given j .fits))
     (let h : length (nameBytes (nameAt t (w / 256))) ≤ length (s .args .out .now) = omega (arith, s .pre, length-method t w, length-name (nameAt t (w / 256))) in h))
     (λ c. search needs)
     (λ c. omega (arith, begun-fits (named c)))

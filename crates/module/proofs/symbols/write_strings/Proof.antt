@@ -47,10 +47,10 @@ write-strings-spec = tie.close (tie.spec Inv-loop μ-loop
     (λ c. omega (arith, begun-fits (here (c .before .before))))
     (λ c. search needs)
     (λ c κs. let k = c .before .before .before in let b = k .before .before .before .before .before .before .before .before in
-    text-room (c .before .text-part .ensures) (text-short _ _ (λ j. b .shared-slice-known .given j .fits)) (begun-piece (here k)))
-    (λ c. let q = c .before .before in omega (arith, text-wrote (q .before .before .text-part .ensures) (q .write-counted .ensures) .count, fits (q .before .before .before .before)))
+    text-room (c .before .text-part .ensures .0) (text-short _ _ (λ j. b .shared-slice-known .given j .fits)) (begun-piece (here k)))
+    (λ c. let q = c .before .before in omega (arith, text-wrote (q .before .before .text-part .ensures .0) (q .write-counted .ensures) .count, fits (q .before .before .before .before)))
     (λ c. omega arith)
     (λ c. omega arith)
-    (λ c. let q = c .before .before in (omega arith, begun-next (here (q .before .before .before .before)) (text-wrote (q .before .before .text-part .ensures) (q .write-counted .ensures))))
+    (λ c. let q = c .before .before in (omega arith, begun-next (here (q .before .before .before .before)) (text-wrote (q .before .before .text-part .ensures .0) (q .write-counted .ensures))))
     (λ c. begun-length (c .before .loop .inv .1) ∙ begun-length (counted (c .before .before)))
     (λ c. begun-back (counted (c .before .before)) (begun-done (begun-as (c .before .loop .inv .1) _ (pieces-none _ (c .before .loop .i) _ (c .loop-test .left))))))

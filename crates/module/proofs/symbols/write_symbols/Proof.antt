@@ -49,11 +49,11 @@ write-symbols-spec = tie.close (tie.spec Inv-loop μ-loop
     (λ c. omega (arith, begun-fits (here (c .before .before))))
     (λ c. search needs)
     (λ c κs. let k = c .before .before .before in let b = k .before .before .before .before .before .before .before .before in
-    name-room (c .before .spelling .ensures) (spelled-short _ _ _ (λ j. b .before .shared-slice-known .given j .fits) (λ j. b .shared-slice-known2 .given j .fits)) (begun-piece (here k)))
-    (λ c. let q = c .before .before in omega (arith, name-wrote (q .before .before .spelling .ensures) (q .write-counted .ensures) .count, fits (q .before .before .before .before)))
+    name-room (c .before .spelling .ensures .0) (spelled-short _ _ _ (λ j. b .before .shared-slice-known .given j .fits) (λ j. b .shared-slice-known2 .given j .fits)) (begun-piece (here k)))
+    (λ c. let q = c .before .before in omega (arith, name-wrote (q .before .before .spelling .ensures .0) (q .write-counted .ensures) .count, fits (q .before .before .before .before)))
     (λ c. omega arith)
     (λ c. omega arith)
     (λ c. let q = c .before .before in let k = q .before .before .before .before in
-    (omega arith, begun-next (here k) (name-wrote (q .before .before .spelling .ensures) (q .write-counted .ensures))))
+    (omega arith, begun-next (here k) (name-wrote (q .before .before .spelling .ensures .0) (q .write-counted .ensures))))
     (λ c. begun-length (c .before .loop .inv .1) ∙ begun-length (counted (c .before .before)))
     (λ c. begun-back (counted (c .before .before)) (begun-done (begun-as (c .before .loop .inv .1) _ (pieces-none _ (c .before .loop .i) _ (c .loop-test .left))))))

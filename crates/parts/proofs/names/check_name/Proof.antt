@@ -9,6 +9,7 @@ use Rattle.parts.proofs.names.check_name.Statement.{statement}
 use Rattle.parts.proofs.names.check_name.Tie as tie
 use Rattle.parts.proofs.names.check_name.Reads as reads
 use Rattle.parts.proofs.names.check_name.Lts as lts
+use Rattle.parts.proofs.names.is_iterator.Reads as is-iterator-reads
 use Rattle.parts.proofs.names.is_name.Reads as is-name-reads
 use Rattle.parts.proofs.questions.noted.Reads as noted-reads
 
@@ -21,9 +22,18 @@ check-name-spec = tie.close (tie.spec
     (λ c. search needs)  -- sub-if2
     (λ c. sym (name-at-short _ _ _ (c .before .before .if1 .left) (c .if2 .taken)))  -- returns-2
     (λ c. search needs)  -- add-end
+    (λ c. search needs)  -- sub-is-iterator
+    (λ c. search needs)  -- part-is-iterator-start
+    (λ c. search needs)  -- part-is-iterator-end
+    (λ c κs. search needs)  -- is-iterator-requires
     (λ c. search needs)  -- sub-is-name
     (λ c. search needs)  -- part-is-name-start
     (λ c. search needs)  -- part-is-name-end
     (λ c κs. search needs)  -- is-name-requires
     (λ c κs. search needs)  -- noted-requires
-    (λ c. let i = c .before .before .before in name-whole _ _ _ _ _ _ (c .noted .ensures) (i .before .before .if1 .left) refl (i .if2 .left) (c .before .is-name .ensures)))  -- returns-3
+    (λ c κs. search needs)  -- noted-requires-2
+    (λ c.
+    let m = c .before .before in
+    let k = m .before .before in
+    let i = k .before .before in
+    name-whole _ _ _ _ _ _ _ _ (i .before .before .if1 .left) refl (i .if2 .left) (k .is-iterator .ensures) (m .is-name .ensures) (c .before .noted .ensures) (c .noted2 .ensures)))  -- returns-3

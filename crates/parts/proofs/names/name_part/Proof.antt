@@ -1,4 +1,5 @@
-use mathlib.Core.Path.{_≡_, refl, sym, ap, _∙_}
+use mathlib.Core.Path.{refl}
+use native.Mathlib.Omega.{arith}
 use Rattle.parts.proofs.NameLaws.{part-of}
 use borrow.Author.Needs.{needs}
 use Rattle.parts.proofs.names.name_part.Statement.{statement}
@@ -15,4 +16,4 @@ name-part-spec = tie.close (tie.spec
     (λ c. search needs)  -- sub-result
     (λ c. search needs)  -- part-result-start
     (λ c. search needs)  -- part-result-end
-    (λ c. part-of _ _))  -- returns
+    (λ c. (part-of _ _, (refl, omega arith))))  -- returns

@@ -32,4 +32,4 @@ check-head-spec = tie.close (tie.spec
     (λ c κs. search needs)  -- may-have-requires
     (λ c κs. search needs)  -- noted-requires
     (λ c. let g = c .before .before .before .before .before in let f = g .before .before .before .before in let e₂ = sym (g .before .before .check-params .ensures) ∙ g .second .given .1 in let e₁ = sym (f .before .before .check-name .ensures) ∙ f .first .given .1 in sym (then-next _ _ _ _ e₁ ∙ then-next _ _ _ _ e₂ ∙ with-unread _ _ _ (sym (c .before .before .before .number-at .ensures) ∙ c .before .count .given .1)))  -- returns-3
-    (λ c. let g = c .before .before .before .before .before .before .before .before in let f = g .before .before .before .before in let e₂ = sym (g .before .before .check-params .ensures) ∙ g .second .given .1 in let e₁ = sym (f .before .before .check-name .ensures) ∙ f .first .given .1 in let n = c .before .before .before .before in head-close _ _ _ _ _ (n .count2 .given .0 .0) _ _ (c .noted .ensures) (c .before .may-have .ensures) (c .before .before .name-part .ensures) ∙ sym (then-next _ _ _ _ e₁ ∙ then-next _ _ _ _ e₂ ∙ with-number _ _ _ _ (sym (n .before .before .number-at .ensures) ∙ n .count2 .given .1))))  -- returns-4
+    (λ c. let g = c .before .before .before .before .before .before .before .before in let f = g .before .before .before .before in let e₂ = sym (g .before .before .check-params .ensures) ∙ g .second .given .1 in let e₁ = sym (f .before .before .check-name .ensures) ∙ f .first .given .1 in let n = c .before .before .before .before in head-close _ _ _ _ _ (n .count2 .given .0 .0) _ _ (c .noted .ensures) (c .before .may-have .ensures) (c .before .before .name-part .ensures .0) ∙ sym (then-next _ _ _ _ e₁ ∙ then-next _ _ _ _ e₂ ∙ with-number _ _ _ _ (sym (n .before .before .number-at .ensures) ∙ n .count2 .given .1))))  -- returns-4

@@ -10,7 +10,6 @@ use Rattle.parts.proofs.texts.check_string.Statement.{statement}
 use Rattle.parts.proofs.texts.check_string.Tie as tie
 use Rattle.parts.proofs.texts.check_string.Reads as reads
 use Rattle.parts.proofs.texts.check_string.Lts as lts
-use Rattle.parts.proofs.texts.is_ascii.Reads as is-ascii-reads
 use Rattle.parts.proofs.questions.noted.Reads as noted-reads
 use Rattle.parts.proofs.numbers.number_at.Reads as number-at-reads
 
@@ -23,10 +22,10 @@ check-string-spec = tie.close (tie.spec
     (λ c. let s = c .before in number-within _ _ _ _ (sym (s .before .before .number-at .ensures) ∙ s .count2 .given .1))  -- sub-if1
     (λ c. let s = c .before .before in sym (text-short _ _ _ _ _ (s .before .before .before .before .pre) (sym (s .before .before .number-at .ensures) ∙ s .count2 .given .1) (c .if1 .taken)))  -- returns
     (λ c. search needs)  -- add-end
-    (λ c. search needs)  -- sub-is-ascii
-    (λ c. search needs)  -- part-is-ascii-start
-    (λ c. let s = c .before .before in let h = number-within _ _ _ _ (sym (s .before .before .number-at .ensures) ∙ s .count2 .given .1) in omega arith)  -- part-is-ascii-end
-    (λ c κs. search needs)  -- is-ascii-requires
+    (λ c. search needs)  -- sub-is-utf8
+    (λ c. search needs)  -- part-is-utf8-start
+    (λ c. let s = c .before .before in let h = number-within _ _ _ _ (sym (s .before .before .number-at .ensures) ∙ s .count2 .given .1) in omega arith)  -- part-is-utf8-end
+    (λ c κs. search needs)  -- is-utf8-requires
     (λ c κs. search needs)  -- noted-requires
     (λ c. let s = c .before in sym (text-unread _ _ _ _ (s .before .before .before .before .pre) (sym (s .before .before .number-at .ensures) ∙ s .count .given .1)))  -- returns-2
-    (λ c. let i = c .before .before .before in let s = i .before .before in let e = sym (s .before .before .number-at .ensures) ∙ s .count2 .given .1 in text-whole _ _ _ _ _ _ _ (c .noted .ensures) (s .before .before .before .before .pre) e (number-within _ _ _ _ e) (i .if1 .left) (c .before .is-ascii .ensures)))  -- returns-3
+    (λ c. let i = c .before .before .before in let s = i .before .before in let e = sym (s .before .before .number-at .ensures) ∙ s .count2 .given .1 in text-whole _ _ _ _ _ _ _ (c .noted .ensures) (s .before .before .before .before .pre) e (number-within _ _ _ _ e) (i .if1 .left) (c .before .is-utf8 .ensures)))  -- returns-3

@@ -1,20 +1,29 @@
 use mathlib.Core.Path.{_≡_, refl, sym, ap, _∙_}
-use Rattle.definitions.specs.Bytes.{text}
-use Rattle.reader.proofs.Taken.{count-cut, count-at}
+use Rattle.reader.proofs.StringLaws.{string-cut, string-range, string-yes, string-no}
 use borrow.Author.Needs.{needs}
+use native.Mathlib.Omega.{arith}
 use Rattle.reader.proofs.names.skip_string.Statement.{statement}
 use Rattle.reader.proofs.names.skip_string.Tie as tie
 use Rattle.reader.proofs.names.skip_string.Reads as reads
 use Rattle.reader.proofs.names.skip_string.Lts as lts
-use Rattle.reader.proofs.numbers.number_at.Reads as number-at-reads
-use Rattle.reader.proofs.numbers.skip_bytes.Reads as skip-bytes-reads
+use Rattle.reader.proofs.names.skip_text.Reads as skip-text-reads
 
 pub skip-string-spec : {M : Type 1} → statement M
-unfolding text
 skip-string-spec = tie.close (tie.spec
-    (λ c. search needs)  -- sub-if1
-    (λ c. sym (count-cut _ _ 2 _ (c .before .before .pre) (c .if1 .taken)))  -- returns
-    (λ c κs. search needs)  -- number-at-requires
-    (λ c. search needs)  -- add-skip-bytes
-    (λ c κs. search needs)  -- skip-bytes-requires
-    (λ c. let n = c .before in c .skip-bytes .ensures ∙ sym (count-at _ _ 2 _ _ (n .before .before .before .pre) (n .before .if1 .left) (n .number-at .ensures .0))))  -- returns-2
+    (λ c κs. search needs)  -- skip-text-requires
+    (λ c. search needs)  -- enum-known-one
+    (λ c. search needs)  -- enum-told
+    (λ c. sym (string-cut _ _ (sym (c .before .before .skip-text .ensures) ∙ c .enum-told .given .1)))  -- returns
+    (λ c. search needs)  -- add-is-utf8
+    (λ c. let o = c .before in let n = o .before .before in let h = string-range _ _ _ (n .before .before .pre) (sym (n .skip-text .ensures) ∙ o .one .given .1) in h .0)  -- sub-is-utf8
+    (λ c. let o = c .before in let n = o .before .before in let h = string-range _ _ _ (n .before .before .pre) (sym (n .skip-text .ensures) ∙ o .one .given .1) in h .0)  -- part-is-utf8-start
+    (λ c. let o = c .before in let n = o .before .before in let h = string-range _ _ _ (n .before .before .pre) (sym (n .skip-text .ensures) ∙ o .one .given .1) in h .1)  -- part-is-utf8-end
+    (λ c κs. search needs)  -- is-utf8-requires
+    (λ c.
+    let o = c .before .before .before .before in
+    let n = o .before .before in
+    sym (string-yes _ _ _ (n .before .before .pre) (sym (n .skip-text .ensures) ∙ o .one .given .1) (sym (c .before .is-utf8 .ensures) ∙ c .if1 .taken)))  -- returns-2
+    (λ c.
+    let o = c .before .before .before .before in
+    let n = o .before .before in
+    sym (string-no _ _ _ (n .before .before .pre) (sym (n .skip-text .ensures) ∙ o .one .given .1) (sym (c .before .is-utf8 .ensures) ∙ c .if1 .left))))  -- returns-3

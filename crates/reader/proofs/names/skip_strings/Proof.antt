@@ -3,14 +3,14 @@ use Prim.Native.Nat.{ℕ, _+_, _-_, _≤_, _<_}
 use native.Mathlib.Omega.{arith}
 use borrow.Author.Needs.{needs}
 use lib.ListN.{length}
-use Rattle.definitions.specs.Bytes.{text}
+use Rattle.reader.specs.View.{string}
 use Rattle.reader.proofs.Taken.{someFrom, count-cut, some-begins, some-next, some-stops, some-ends, next-le}
 use Rattle.reader.proofs.names.skip_strings.Statement.{statement}
 use Rattle.reader.proofs.names.skip_strings.Tie as tie
-use Rattle.definitions.proofs.Begins.{takes-text}
+use Rattle.reader.proofs.StringLaws.{takes-string}
 
 abbrev Inv-loop : tie.InvT-loop
-Inv-loop bytes at left₀ p₀ left p = (p ≤ length bytes) × (someFrom text bytes left₀ p₀ ≡ someFrom text bytes left p)
+Inv-loop bytes at left₀ p₀ left p = (p ≤ length bytes) × (someFrom string bytes left₀ p₀ ≡ someFrom string bytes left p)
 
 abbrev μ-loop : tie.MeasureT-loop
 μ-loop bytes at left₀ p₀ left p = left
@@ -31,8 +31,8 @@ skip-strings-spec = tie.close (tie.spec Inv-loop μ-loop
     (λ c. omega arith)
     (λ c. omega arith)
     (λ c. let s = c .before .before .before in let l = s .before .before in let r = sym (s .skip-string .ensures) ∙ c .before .one .given .1 in (
-      next-le _ takes-text _ (l .loop .p) _ (l .loop .inv .0) r,
-      l .loop .inv .1 ∙ some-next _ _ takes-text _ (l .loop .p) _ (s .before .loop-test .taken) (l .loop .inv .0) r,
+      next-le _ takes-string _ (l .loop .p) _ (l .loop .inv .0) r,
+      l .loop .inv .1 ∙ some-next _ _ takes-string _ (l .loop .p) _ (s .before .loop-test .taken) (l .loop .inv .0) r,
     ))
     (λ c. let l = c .before in let n = l .before in
     sym (some-begins _ _ _ _ (n .before .before .before .pre) (n .before .if1 .left) (n .number-at .ensures .0) ∙ l .loop .inv .1 ∙ some-ends _ _ _ (l .loop .p) (c .loop-test .left) (l .loop .inv .0))))

@@ -1,17 +1,13 @@
-use Rattle.slots.proofs.Capturing.{keeping-start, captured}
+-- A lambda's captures: its parameters are marked, its body is walked, what is kept is put in order.
 use borrow.Author.Needs.{needs}
+use Rattle.slots.proofs.Capturing.{keeping-start, captured}
 use Rattle.slots.proofs.captures.collect_free_vars.Statement.{statement}
 use Rattle.slots.proofs.captures.collect_free_vars.Tie as tie
-use Rattle.slots.proofs.captures.collect_free_vars.Reads as reads
-use Rattle.slots.proofs.captures.collect_free_vars.Lts as lts
-use Rattle.slots.proofs.captures.collect_referenced_vars.Reads as collect-referenced-vars-reads
-use Rattle.slots.proofs.captures.remove_params.Reads as remove-params-reads
-use Rattle.slots.proofs.order.sort_names.Reads as sort-names-reads
 
 pub collect-free-vars-spec : {M : Type 1} → statement M
 collect-free-vars-spec = tie.close (tie.spec
-    (λ c κs. let s = c .before .before .before .before in (keeping-start _ _ _ (s .pre .0) (s .pre .1) (s .pre .2), s .pre .4))  -- collect-referenced-vars-requires
-    (λ c κs. search needs)  -- remove-params-requires
+    (λ c κs. search needs)  -- mark-params-requires
+    (λ c κs. let s = c .before .before .before .before .before .before .before in (keeping-start _ _ _ (s .pre .0) (s .pre .1) (s .pre .2), s .pre .4))  -- collect-referenced-vars-requires
     (λ c. search needs)  -- cast-end
     (λ c. search needs)  -- add-end
     (λ c. search needs)  -- sub-sort-names
@@ -19,4 +15,7 @@ collect-free-vars-spec = tie.close (tie.spec
     (λ c. search needs)  -- part-sort-names-end
     (λ c κs. search needs)  -- sort-names-requires
     (λ c. search needs)  -- same-length
-    (λ c. let s = c .before .before .before .before .before .before .before .before .before .before .before .before .before .before .before in captured _ _ _ _ _ _ _ _ _ _ (s .pre .1) (c .before .before .before .before .before .before .before .before .before .before .collect-referenced-vars .ensures) (c .before .before .before .before .before .before .remove-params .ensures) (c .before .before .before .before .before .before .remove-params .kept .1 .1 .0) _ (c .before .before .sort-names .kept .1 .0) (c .before .before .sort-names .ensures)))  -- returns
+    (λ c. let s = c .before .before .before .before .before .before .before .before .before .before .before .before .before .before .before in captured _ _ _ _ _ _ _ _ _ (s .pre .1)
+    (c .before .before .before .before .before .before .before .before .before .before .mark-params .ensures)
+    (c .before .before .before .before .before .before .before .collect-referenced-vars .ensures) _ (c .before .before .sort-names .kept .1 .0)
+    (c .before .before .sort-names .ensures)))  -- returns

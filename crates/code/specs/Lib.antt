@@ -1,3 +1,0 @@
-pub mod Ops
-pub mod Patch
-pub mod Nesting

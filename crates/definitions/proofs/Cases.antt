@@ -1,0 +1,125 @@
+-- Cases of the change requests, by computing.
+use mathlib.Core.Path.{_≡_, refl}
+use mathlib.Core.Bool.{Bool, true, false, _&&_}
+use mathlib.Core.List.{List, [], _∷_, _++_, map}
+use Prim.Native.Nat.{ℕ}
+use Prim.Native.String.{String}
+use lib.Dec.{eqb}
+use lib.ListN.{replicate}
+use Rattle.definitions.specs.Bytes.{refused, accepted, all, ascii, listBytes}
+use Rattle.definitions.specs.Module.{nameBytes, moduleBytes}
+use Rattle.definitions.specs.Reader.{readModule}
+use Rattle.definitions.specs.Samples.{Sample, sample, holds, passes, refusal, functionIs, tree, named, variable, noneE, exprS, passS, forS, defS, defWith, returnS, classS, methodOf, assignS, listE, tupleE, lambdaE}
+use Rattle.definitions.specs.Tree.{listD}
+use Rattle.definitions.specs.Instruction.{LoadLocal, LoadGlobal, MakeClosure, Build, Return, ConstI64, Dup, LoadIndex, StoreLocal}
+use Rattle.definitions.specs.Open.{everything}
+
+abbrev iterator : String
+iterator = "__for_iter_2__"
+
+-- an iterator's name with n zeros
+unfoldable zeros : ℕ → List ℕ
+zeros n = 6 ∷ nameBytes (ascii "__for_iter_" ++ replicate n 48 ++ ascii "__")
+
+-- an object's attribute; a class with an attribute
+unfoldable attributeE : String → List ℕ
+attributeE x = 10 ∷ variable "o" ++ named x
+
+unfoldable attributed : String → List ℕ → List ℕ
+attributed x v = 10 ∷ named "C" ++ (0 ∷ 0 ∷ 0 ∷ 1 ∷ named x ++ v)
+
+unfoldable badString : List ℕ
+badString = 5 ∷ 0 ∷ 1 ∷ 255 ∷ []
+
+-- R-6: an iterator's name anywhere; names that are none; 33 after 7 and before 8
+unfoldable r6 : List Sample
+r6 =
+    sample (tree (assignS (variable iterator) noneE ∷ [])) (refusal 33)
+    ∷ sample (tree (exprS (attributeE "__for_iter_07__") ∷ [])) (refusal 33)
+    ∷ sample (tree (exprS (lambdaE (iterator ∷ []) noneE) ∷ [])) (refusal 33)
+    ∷ sample (tree (forS iterator noneE (passS ∷ []) ∷ [])) (refusal 33)
+    ∷ sample (tree (defS iterator (passS ∷ []) ∷ [])) (refusal 33)
+    ∷ sample (tree (defWith "f" ("a" ∷ iterator ∷ []) (passS ∷ []) ∷ [])) (refusal 33)
+    ∷ sample (tree (classS iterator [] ∷ [])) (refusal 33)
+    ∷ sample (tree (classS "C" (methodOf iterator [] [] ∷ []) ∷ [])) (refusal 33)
+    ∷ sample (tree (classS "C" (methodOf "m" (iterator ∷ []) [] ∷ []) ∷ [])) (refusal 33)
+    ∷ sample (tree (attributed iterator noneE ∷ [])) (refusal 33)
+    ∷ sample (tree (attributed "a" (variable iterator) ∷ [])) (refusal 33)
+    ∷ sample (tree (exprS (variable "__for_iter___") ∷ exprS (variable "__for_iter_x__") ∷ exprS (variable "__for_iter_2___") ∷ [])) passes
+    ∷ sample (tree (exprS (variable "__for_iter_2_") ∷ exprS (variable "_for_iter_2__") ∷ exprS (variable "__for_iter_2") ∷ [])) passes
+    ∷ sample (tree (exprS (zeros 51) ∷ [])) (refusal 33)
+    ∷ sample (tree (exprS (zeros 52) ∷ [])) (refusal 7)
+    ∷ sample (tree (exprS badString ∷ exprS (variable iterator) ∷ [])) (refusal 33)
+    ∷ sample (tree (exprS (variable iterator) ∷ exprS (variable "2") ∷ [])) (refusal 7)
+    ∷ []
+
+r6-holds : all holds r6 ≡ true
+unfolding everything r6 zeros attributeE attributed badString
+r6-holds = refl
+
+-- R-14: the boundaries of RFC 3629's table, as strings of trees and as strings of modules
+unfoldable text : List ℕ → List ℕ
+text bs = tree (exprS (5 ∷ listBytes 2 (λ (c : ℕ). c ∷ []) bs) ∷ [])
+
+unfoldable wellFormedTexts : List (List ℕ)
+wellFormedTexts =
+    [] ∷ (0x00 ∷ 0x7F ∷ []) ∷ (0xC3 ∷ 0xA9 ∷ []) ∷ (0xC2 ∷ 0x80 ∷ 0xDF ∷ 0xBF ∷ []) ∷ (0xE0 ∷ 0xA0 ∷ 0x80 ∷ []) ∷ (0xED ∷ 0x9F ∷ 0xBF ∷ []) ∷ (0xEE ∷ 0x80 ∷ 0x80 ∷ [])
+    ∷ (0xEF ∷ 0xBF ∷ 0xBF ∷ []) ∷ (0xF0 ∷ 0x90 ∷ 0x80 ∷ 0x80 ∷ []) ∷ (0xF4 ∷ 0x8F ∷ 0xBF ∷ 0xBF ∷ 0x41 ∷ []) ∷ []
+
+-- a tail alone, overlong forms, surrogates, above U+10FFFF, cut characters
+unfoldable illFormedTexts : List (List ℕ)
+illFormedTexts =
+    (0x80 ∷ []) ∷ (0xC0 ∷ 0xAF ∷ []) ∷ (0xC1 ∷ 0xBF ∷ []) ∷ (0xE0 ∷ 0x9F ∷ 0xBF ∷ []) ∷ (0xED ∷ 0xA0 ∷ 0x80 ∷ []) ∷ (0xED ∷ 0xBF ∷ 0xBF ∷ []) ∷ (0xF0 ∷ 0x8F ∷ 0xBF ∷ 0xBF ∷ [])
+    ∷ (0xF4 ∷ 0x90 ∷ 0x80 ∷ 0x80 ∷ []) ∷ (0xF5 ∷ 0x80 ∷ 0x80 ∷ 0x80 ∷ []) ∷ (0xFF ∷ []) ∷ (0xC3 ∷ []) ∷ (0xE2 ∷ 0x82 ∷ []) ∷ (0xF0 ∷ 0x9F ∷ 0x98 ∷ []) ∷ (0xC3 ∷ 0x41 ∷ []) ∷ []
+
+unfoldable r14 : List Sample
+r14 = map (λ (s : List ℕ). sample (text s) passes) wellFormedTexts ++ map (λ (s : List ℕ). sample (text s) (refusal 8)) illFormedTexts
+
+r14-holds : all holds r14 ≡ true
+unfolding everything r14 text wellFormedTexts illFormedTexts
+r14-holds = refl
+
+-- a module of one string and nothing else: read, or refused by 19
+unfoldable moduleOfText : List ℕ → List ℕ
+moduleOfText s = moduleBytes (record { symbols = []; strings = s ∷ []; functions = []; classes = []; constants = [] })
+
+unfoldable reads : List ℕ → Bool
+reads s = elim (readModule (moduleOfText s)) [ accepted t ↦ true | refused q ↦ false ]
+
+unfoldable refused19 : List ℕ → Bool
+refused19 s = elim (readModule (moduleOfText s)) [ accepted t ↦ false | refused q ↦ eqb q 19 ]
+
+r14-reads : (all reads wellFormedTexts && all refused19 illFormedTexts) ≡ true
+unfolding everything reads refused19 moduleOfText wellFormedTexts illFormedTexts
+r14-reads = refl
+
+-- R-9, beside the samples: in a def with `x`, a lambda inside that captures; a parameter of the lambda itself; a name without a slot
+unfoldable inDef : List ℕ → List ℕ
+inDef e = tree (defWith "f" ("x" ∷ []) (returnS e ∷ []) ∷ [])
+
+unfoldable r9 : List Sample
+r9 =
+    sample (inDef (lambdaE [] (listE (lambdaE [] (variable "x") ∷ lambdaE ("x" ∷ []) noneE ∷ []))))
+    (functionIs 2 "<lambda#2>" 0 1 (LoadLocal 0 ∷ MakeClosure 3 1 ∷ MakeClosure 4 0 ∷ Build listD 2 ∷ Return ∷ []))
+    ∷ sample (inDef (lambdaE ("x" ∷ []) (lambdaE [] (variable "x"))))
+    (functionIs 2 "<lambda#2>" 1 1 (LoadLocal 0 ∷ MakeClosure 3 1 ∷ Return ∷ []))
+    ∷ sample (inDef (lambdaE ("y" ∷ []) (variable "z"))) (functionIs 2 "<lambda#2>" 1 1 (LoadGlobal 3 ∷ Return ∷ []))
+    ∷ []
+
+r9-holds : all holds r9 ≡ true
+unfolding everything r9 inDef
+r9-holds = refl
+
+-- R-1: a tuple target in a def, nested: slots from left to right, unpacked from last to first; a parameter in a target, a name twice. Main's is a sample
+unfoldable r1 : List Sample
+r1 =
+    sample (tree (defWith "f" ("t" ∷ []) (assignS (tupleE (variable "a" ∷ tupleE (variable "b" ∷ variable "c" ∷ []) ∷ [])) (variable "t") ∷ []) ∷ []))
+    (functionIs 1 "f" 1 4 (LoadLocal 0 ∷ Dup ∷ ConstI64 1 ∷ LoadIndex ∷ Dup ∷ ConstI64 1 ∷ LoadIndex ∷ StoreLocal 3 ∷ ConstI64 0 ∷ LoadIndex ∷ StoreLocal 2
+    ∷ ConstI64 0 ∷ LoadIndex ∷ StoreLocal 1 ∷ Return ∷ []))
+    ∷ sample (tree (defWith "f" ("t" ∷ []) (assignS (tupleE (variable "b" ∷ variable "t" ∷ [])) (variable "t") ∷ assignS (variable "b") (variable "t") ∷ []) ∷ []))
+    (functionIs 1 "f" 1 2 (LoadLocal 0 ∷ Dup ∷ ConstI64 1 ∷ LoadIndex ∷ StoreLocal 0 ∷ ConstI64 0 ∷ LoadIndex ∷ StoreLocal 1 ∷ LoadLocal 0 ∷ StoreLocal 1 ∷ Return ∷ []))
+    ∷ []
+
+r1-holds : all holds r1 ≡ true
+unfolding everything r1
+r1-holds = refl

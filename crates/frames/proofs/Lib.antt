@@ -1,4 +1,0 @@
-pub mod Answering
-pub mod Setting
-pub mod Calling
-pub mod Ending

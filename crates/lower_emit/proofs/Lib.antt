@@ -1,0 +1,17 @@
+pub mod Packing
+pub mod Putting
+pub mod Patching
+pub mod Setting
+pub mod Begun
+pub mod Ended
+pub mod ClassTables
+pub mod Counts
+pub mod Steps
+pub mod Functions
+pub mod ShortcutWords
+pub mod Sequence
+pub mod Shortcuts
+pub mod Answering
+pub mod SetJumps
+pub mod Writing
+pub mod Ends

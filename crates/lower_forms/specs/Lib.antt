@@ -1,0 +1,4 @@
+pub mod Lowerable
+pub mod Elements
+pub mod Assigned
+pub mod Lowering

@@ -1,0 +1,60 @@
+// The opcodes of operators and displays, by their bytes in the tree.
+ghost use mathlib.Core.Path.{_≡_};
+ghost use Prim.Native.Nat.{_<_, _≤_};
+ghost use Rattle.definitions.specs.Instruction.{operatorCode, buildCode};
+ghost use Rattle.lower_emit.specs.Ops.{Plain};
+ghost use Rattle.opcodes.specs.Codes.{unaryOpcode, displayOf, heldOf};
+
+// Not, Neg, Pos.
+pub fn unary_code(operator: u8) -> u32
+    requires { ⌜ operator < 3 ⌝ }
+    ensures { λ r. ⌜ (r ≡ unaryOpcode operator) × Plain r 0 0 ⌝ }
+{
+    match operator {
+        0 => 27,
+        1 => 19,
+        _ => 20,
+    }
+}
+
+// Add to Ge, by sums; `/` is TrueDiv, `//` is Div.
+pub fn binary_code(operator: u8) -> u32
+    requires { ⌜ operator < 12 ⌝ }
+    ensures { λ r. ⌜ (r ≡ operatorCode operator) × Plain r 0 0 ⌝ }
+{
+    if operator == 3 {
+        return 17;
+    }
+    if operator == 4 {
+        return 16;
+    }
+    if operator < 6 {
+        return 13 + operator as u32;
+    }
+    15 + operator as u32
+}
+
+// BuildList to BuildTreeSet.
+pub fn build_code(kind: u8) -> u32
+    requires { ⌜ (11 ≤ kind) × (kind ≤ 15) ⌝ }
+    ensures { λ r. ⌜ (r ≡ buildCode (displayOf kind)) × (30 < r) × (r < 48) ⌝ }
+{
+    if kind == 12 {
+        return 40;
+    }
+    if kind == 13 {
+        return 39;
+    }
+    27 + kind as u32
+}
+
+// How many expressions a display with the count n holds.
+pub fn held(kind: u8, n: u32) -> u32
+    requires { ⌜ n < 65536 ⌝ }
+    ensures { λ r. ⌜ r ≡ heldOf kind n ⌝ }
+{
+    if kind == 12 {
+        return 2 * n;
+    }
+    n
+}

@@ -1,3 +1,0 @@
-pub mod Lowerable
-pub mod Rest
-pub mod Shortcut

@@ -1,3 +1,0 @@
-pub mod Lowering
-pub mod Compiled
-pub mod Runs

@@ -1,4 +1,0 @@
-pub mod Forms
-pub mod Unpacking
-pub mod Assigning
-pub mod Storing

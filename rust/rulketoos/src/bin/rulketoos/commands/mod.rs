@@ -1,0 +1,27 @@
+//! The subcommands: a file each, and a line each in the table, by which help and parsing go.
+
+mod check;
+mod code;
+mod lower;
+mod read;
+mod run;
+mod show;
+
+use crate::arguments::{Command, Opt};
+
+/// In the order in which a person meets them.
+pub const ALL: &[Command] = &[
+    show::COMMAND,
+    lower::COMMAND,
+    check::COMMAND,
+    read::COMMAND,
+    code::COMMAND,
+    run::COMMAND,
+];
+
+/// Where bytes go, for each command that writes some.
+const OUTPUT: Opt = Opt {
+    name: "-o",
+    value: Some("FILE"),
+    about: "the file to write; it is whole or isn't there. Standard output if none is given",
+};

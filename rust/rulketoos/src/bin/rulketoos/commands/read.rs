@@ -1,0 +1,25 @@
+//! `rulketoos read`: the questions that a module is asked.
+
+use crate::arguments::{Command, Words};
+use crate::failure::Failure;
+use crate::input::{self, Kind};
+use crate::output;
+
+pub const COMMAND: Command = Command {
+    name: "read",
+    operands: &["FILE"],
+    least: 1,
+    options: &[],
+    about: "asks questions 17 to 21 of a module",
+    more: "Writes `accepted`, or says which question is answered no. Every module that is lowered is accepted.",
+    example: "rulketoos read samples/spine.module",
+    run,
+};
+
+fn run(words: &Words) -> Result<(), Failure> {
+    let input = input::read(words.needed(0), Kind::Module)?;
+    let name = input.name().to_string();
+    let module = input.module()?;
+    rulketoos::read(&module).map_err(|refusal| input::refused(&name, refusal))?;
+    output::text("accepted\n")
+}

@@ -1,0 +1,171 @@
+//! Good and bad calls: words, input, exit status, and what standard output and standard error begin with or hold.
+
+use crate::person::{reply, Person, COMMAND};
+
+const EMPTY: &[u8] = &[0, 0, 0, 3, 1, 0, 0];
+const BREAK: &[u8] = &[0, 0, 0, 4, 1, 0, 1, 0];
+
+/// Words, input, status, a part of standard output, a part of standard error.
+type Call = (&'static str, &'static [u8], i32, &'static str, &'static str);
+
+#[rustfmt::skip] // a line a call
+const CALLS: &[Call] = &[
+    // help
+    ("--help", b"", 0, "usage: rulketoos COMMAND", ""),
+    ("help", b"", 0, "  lower    ", ""),
+    ("--version", b"", 0, "rulketoos 0.1.0\n", ""),
+    ("lower --help", b"", 0, "Example", ""),
+    ("run samples/none.py --help", b"", 0, "--budget STEPS", ""),
+    // wrong usage
+    ("", b"", 2, "", "no command is given"),
+    ("lover spine.py", b"", 2, "", "there is no command lover"),
+    ("lower", b"", 2, "", "FILE is missing"),
+    ("lower a.py b.py", b"", 2, "", "b.py is one word too many"),
+    ("lower spine.py -o", b"", 2, "", "FILE is missing after -o"),
+    ("lower spine.py -o a -o b", b"", 2, "", "-o is given twice"),
+    ("lower spine.py --quickly", b"", 2, "", "there is no option --quickly"),
+    ("code spine.py", b"", 2, "", "FUNCTION is missing"),
+    ("code spine.py main", b"", 2, "", "FUNCTION is a number"),
+    ("code spine.py 18446744073709551616", b"", 2, "", "FUNCTION is a number"),
+    ("run loops.py 0 yes", b"", 2, "", "ANSWERS is a word of 0 and 1"),
+    ("run loops.py 0 1 --budget=-1", b"", 2, "", "STEPS is a number"),
+    // files that can't be read
+    ("lower none.py", b"", 2, "", "none.py can't be read: No such file"),
+    ("lower .", b"", 2, "", "can't be read: Is a directory"),
+    ("lower spine.module", b"", 2, "", "spine.module is a module"),
+    ("read spine.tree", b"", 2, "", "spine.tree is a tree"),
+    ("read spine.py", b"", 2, "", "spine.py is a script"),
+    ("lower /dev/zero", b"", 2, "", "/dev/zero has more than"),
+    // done
+    ("show spine.py", b"", 0, "function 0 __main__: 0 parameters, 0 slots\n", ""),
+    ("show spine.tree", b"", 0, "class 0 Job", ""),
+    ("show -", b"x = 1\n", 0, "StoreGlobal  1", ""),
+    ("check spine.py", b"", 0, "accepted\n", ""),
+    ("check -", EMPTY, 0, "accepted\n", ""),
+    ("check -- spine.tree", b"", 0, "accepted\n", ""),
+    ("read spine.module", b"", 0, "accepted\n", ""),
+    ("run loops.module 0 1101", b"", 0, "ending: 1 (returned)\nsteps: 23\nanswers used: 3\nevents: 00", ""),
+    ("run --budget 3 loops.py 0", b"", 0, "ending: 3 (budget spent)\nsteps: 3\n", ""),
+    ("run - 0 --budget 0", EMPTY, 0, "events: -\n", ""),
+    // refused
+    ("lower -", b"", 1, "", "standard input (taken for a tree): refused 3: has the tree four bytes"),
+    ("read -", b"", 1, "", "standard input (taken for a module): refused 17: is the module"),
+    ("check -", BREAK, 1, "", "standard input: byte 7: refused 9: does each break"),
+    ("check -", &[0, 0, 0, 3, 2, 0, 0], 1, "", "refused 4: is the tree's next byte"),
+    ("lower -", b"x += 1\n", 1, "", "standard input:1:1: an augmented assignment"),
+    ("lower -", b"x = (1\n", 1, "", "standard input:1:5: "),
+    ("code loops.py 9", b"", 1, "", "loops.py: refused 22: does the function exist?"),
+    ("run loops.py 0 12", b"", 1, "", "loops.py: refused 23: is each answer 0 or 1?"),
+    ("check -", b"\xef\xbb\xbfx = 1\r\nbreak\r\n", 1, "", "standard input:2:1: refused 9: "),
+    ("show -", b"\xff\xfe\xfd", 1, "", "standard input (taken for a module): refused 17"),
+];
+
+#[test]
+fn calls() {
+    let person = Person::new();
+    for &(words, input, status, out, said) in CALLS {
+        let words: Vec<&str> = words.split_whitespace().collect();
+        let reply = person.types(&words, input);
+        let shown = String::from_utf8_lossy(&reply.out);
+        assert_eq!(reply.status, status, "{words:?}: {reply:?}");
+        assert!(shown.contains(out), "{words:?}: {reply:?}");
+        assert!(reply.said.contains(said), "{words:?}: {reply:?}");
+        // what is done is said on standard output alone, what isn't on standard error alone
+        assert_eq!(shown.is_empty(), status != 0, "{words:?}: {reply:?}");
+        assert_eq!(reply.said.is_empty(), status == 0, "{words:?}: {reply:?}");
+    }
+}
+
+#[test]
+fn every_command_has_help_with_an_example() {
+    let person = Person::new();
+    let overview = String::from_utf8(person.types(&["--help"], b"").out).expect("text");
+    let names = overview.lines().filter_map(|line| line.strip_prefix("  "));
+    let names: Vec<&str> = names.filter_map(|line| line.split(' ').next()).collect();
+    assert!(names.len() >= 6, "{overview}");
+    for name in names {
+        let help = person.types(&[name, "--help"], b"");
+        let text = String::from_utf8(help.out).expect("text");
+        assert!(
+            text.starts_with(&format!("usage: rulketoos {name} ")),
+            "{text}"
+        );
+        let example = text.split("    rulketoos ").nth(1).expect("an example");
+        let words: Vec<&str> = example.split_whitespace().collect();
+        assert_eq!(words[0], name);
+        assert_eq!(person.types(&words, b"").status, 0, "{example}");
+    }
+}
+
+#[test]
+fn samples_are_lowered_and_shown() {
+    let person = Person::new();
+    for name in ["casing", "lambdas", "loops", "spine", "unpack"] {
+        let module = person.file(&format!("{name}.module")).expect("a sample");
+        for kind in ["py", "tree"] {
+            let reply = person.types(&["lower", &format!("{name}.{kind}")], b"");
+            assert_eq!(
+                (reply.status, reply.out),
+                (0, module.clone()),
+                "{name}.{kind}"
+            );
+        }
+        let listing = person.file(&format!("{name}.listing"));
+        let reply = person.types(&["show", &format!("{name}.py")], b"");
+        assert_eq!((reply.status, Some(reply.out)), (0, listing), "{name}");
+    }
+}
+
+#[test]
+fn code_is_a_part_of_the_module() {
+    let person = Person::new();
+    let module = person.file("spine.module").expect("a sample");
+    for (function, number) in ["0", "1", "2"].into_iter().zip(0..) {
+        let reply = person.types(&["code", "spine.py", function], b"");
+        assert_eq!(
+            (reply.status, &reply.out[..]),
+            (0, rulketoos::code(&module, number).expect("a function"))
+        );
+    }
+}
+
+#[test]
+fn missing_tools_are_told() {
+    let person = Person::new();
+    let without = reply(
+        person
+            .command(COMMAND, &["show", "spine.py"])
+            .env("PATH", "."),
+        b"",
+    );
+    assert_eq!(without.status, 2);
+    assert!(
+        without.said.contains("python3 is missing"),
+        "{}",
+        without.said
+    );
+    let tree = reply(
+        person
+            .command(COMMAND, &["lower", "spine.tree"])
+            .env("PATH", "."),
+        b"",
+    );
+    assert_eq!(
+        (tree.status, Some(tree.out)),
+        (0, person.file("spine.module"))
+    );
+    let elsewhere = reply(
+        person
+            .command(COMMAND, &["show", "spine.py"])
+            .env("RULKETOOS_TOOLS", "."),
+        b"",
+    );
+    assert_eq!(elsewhere.status, 2);
+    assert!(
+        elsewhere
+            .said
+            .contains("RULKETOOS_TOOLS is ., which has no tree_of.py"),
+        "{}",
+        elsewhere.said
+    );
+}

@@ -1,0 +1,6 @@
+//! The command `rulketoos`, run as a person would.
+
+mod calls;
+mod files;
+mod person;
+mod places;
