@@ -13,6 +13,7 @@ use Rattle.definitions.specs.Tables.{Function, Tables}
 use Rattle.definitions.specs.Reader.{readModule}
 use Rattle.definitions.specs.Module.{Limits, office, codeStart, lowerBytes}
 use Rattle.definitions.specs.Calls.{Part, Counts, Running, fitsRoom, areasFit, lowerAnswer, countAnswer, lowerCall, readCall, functionOf, codePart, codeCall, runCall}
+use Rattle.definitions.proofs.ReadFits.{module-short}
 use Rattle.tree.specs.Settled.{said, settled}
 use Rattle.tree.specs.declared.Checked.{Checked}
 use Rattle.tree.specs.declared.Checked.the-variants.{Accepted, Refused}
@@ -25,7 +26,6 @@ use Rattle.reader.specs.declared.Verdict.the-variants.{Accepted as Taken, Refus
 use Rattle.reader.specs.declared.Located.{Located}
 use Rattle.reader.specs.declared.Located.the-variants.{Code, NoCode}
 use Rattle.run.specs.Pass.{said as ranSaid, Called}
-use Rattle.run.proofs.Calling.{module-short}
 use Rattle.run.specs.declared.Outcome.{Outcome}
 use Rattle.run.specs.declared.Outcome.the-variants.{Finished, Refused as NotRun}
 use Rattle.exports.specs.Told.{told, toldCount, toldPart, fourIn, countsIn, Lowers, Runs}
