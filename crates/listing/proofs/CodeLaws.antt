@@ -1,29 +1,24 @@
--- The lines of code and of functions, written one after the other, and their lengths.
-use mathlib.Core.Path.{_≡_, refl, sym, ap, ap₂, _∙_, subst}
+-- The lines of code and of functions, written one after the other.
+use mathlib.Core.Path.{_≡_, sym, ap, ap₂, _∙_, subst}
 use mathlib.Core.List.{List, [], _∷_, _++_, append-assoc}
-use Prim.Native.Nat.{ℕ, zero, suc, _+_, _*_, _-_, _/_, _≤_, _<_}
+use Prim.Native.Nat.{ℕ, suc, _+_, _-_, _≤_, _<_}
 use native.Mathlib.Omega.{arith}
-use lib.ListN.{length, length-append, length-take, length-drop}
-use borrow.Rule.Slice.PartMut.{putMid, midOf}
+use lib.ListN.{length}
 use Rattle.definitions.specs.Instruction.{Instr, instr}
 use Rattle.definitions.specs.Module.{instructions}
 use Rattle.definitions.specs.Reader.{instruction, functionRecord}
-use Rattle.definitions.specs.Tables.{Function}
-use Rattle.definitions.proofs.Begins.{takes-instruction}
 use Rattle.definitions.specs.Listing.{heading, codeLine, codeLines, functionLines}
 use Rattle.reader.specs.View.{numberAt, foundAt}
 use Rattle.reader.specs.declared.Found.the-variants.{Instruction, Nothing}
 use Rattle.reader.proofs.Encoding.{Small}
-use Rattle.reader.proofs.InstructionLaws.{found-got}
 use Rattle.reader.proofs.FunctionLaws.{op-small}
 use Rattle.writing.specs.Wrote.{Wrote}
-use Rattle.writing.proofs.Begun.{Begun, begun-start, begun-split, begun-rest, begun-next, length-written}
-use Rattle.definitions.specs.Calls.{written}
+use Rattle.writing.proofs.Begun.{over, from, Begun, begun-start, begun-split, begun-rest, begun-next}
 use Rattle.tally.specs.Walk.{Reads, valuesFrom, valuesEnd, codeFrom}
-use Rattle.tally.proofs.Walking.{reads-first, reads-none, number-small, Stepped, stepped, not-nothing, Function-here, function-head, function-here}
+use Rattle.tally.proofs.Walking.{reads-none, Stepped, stepped, not-nothing, Function-here, function-head, function-here}
 use Rattle.listing.specs.Lines.{Operands, Coded}
 use Rattle.listing.specs.declared.Next.{Next}
-use Rattle.listing.proofs.Entries.{operands-read, first-small, entry-long}
+use Rattle.listing.proofs.Entries.{operands-read}
 
 -- ---- the lines of a function's code
 
@@ -57,15 +52,15 @@ module _ (t : List ℕ) (at n f k : ℕ) (xs : List ℕ) where
         ∙ sym (append-assoc (heading (k + place)) (codeLine f place (instr op a b)) (codeLines f (suc place) (suc (k + place)) (codeFrom (n - place - 1) t m))))
         (l .begun)
 
-    pub lining-next : (r : ℕ) (zs : List ℕ) → Wrote r (heading (k + place) ++ codeLine f place (instr op a b)) (midOf put (length out - put) out) zs →
-        Lining t at n f k xs (putMid put (length out - put) out zs) m (put + r) (place + 1)
+    pub lining-next : (r : ℕ) (zs : List ℕ) → Wrote r (heading (k + place) ++ codeLine f place (instr op a b)) (from put out) zs →
+        Lining t at n f k xs (over put out zs) m (put + r) (place + 1)
     lining-next r zs w =
         let z : n - place - 1 ≡ n - (place + 1) = omega arith in
         record {
           inside = omega arith;
           rest = subst (λ (j : ℕ). Reads instruction j t m) z (s .rest);
           ends = l .ends ∙ s .ends ∙ ap (λ (j : ℕ). valuesEnd instruction j t m) z;
-          begun = subst (λ (q : List ℕ). Begun (codeLines f 0 k (codeFrom n t at)) xs (put + r) (putMid put (length out - put) out zs) (q ∷ []))
+          begun = subst (λ (q : List ℕ). Begun (codeLines f 0 k (codeFrom n t at)) xs (put + r) (over put out zs) (q ∷ []))
               (ap₂ (λ (i j : ℕ). codeLines f i j (codeFrom (n - place - 1) t m)) (let y : suc place ≡ place + 1 = omega arith in y) (let y : suc (k + place) ≡ k + (place + 1) = omega arith in y)
               ∙ ap (λ (j : ℕ). codeLines f (place + 1) (k + (place + 1)) (codeFrom j t m)) z)
               (begun-next lining-here w);
@@ -79,30 +74,6 @@ module _ (t : List ℕ) (at n f k : ℕ) (xs : List ℕ) where
         ends = ea ∙ sym (l .ends ∙ e .1);
         wrote = subst (λ (j : ℕ). Wrote j (codeLines f 0 k (codeFrom n t at)) xs out) (sym ep) (begun-rest (l .begun) (ap (codeLines f place (k + place)) (e .0)));
       }
-
--- how far they bring a listing
-pub code-long : (t : List ℕ) → Small t → (n at f p k : ℕ) → f < 65536 → p + n ≤ 65536 → k + n < 1000000 → Reads instruction n t at →
-    length (codeLines f p k (codeFrom n t at)) + 53 * (k + (k + 49) / 50) ≡ 53 * (k + n + (k + n + 49) / 50)
-unfolding codeLines
-code-long t small zero at f p k hf hp hk r =
-    let e = ap (λ (is : List Instr). length (codeLines f p k is)) (reads-none instruction t zero at (omega arith) r .0) in omega arith
-code-long t small (suc n) at f p k hf hp hk r =
-    let v = reads-first instruction t takes-instruction (suc n) at (omega arith) r in
-    let i = v .value in
-    let y : suc n - 1 ≡ n = omega arith in
-    let rest = subst (λ (j : ℕ). Reads instruction j t (v .next)) y (v .rest) in
-    let ih = code-long t small n (v .next) f (suc p) (suc k) hf (omega arith) (omega arith) rest in
-    let o = operands-read t small at (i .op) (i .a) (i .b) (v .next) (r .here) (v .one) (op-small t at (i .op) (i .a) (i .b) (v .next) (r .here) (found-got t at i (v .next) (v .one))) in
-    let w = entry-long k f p (i .op) (i .a) (i .b) (omega arith) hf (omega arith) o (first-small t small at (i .op) (i .a) (i .b) (v .next) (r .here) (v .one)) in
-    let e = ap (λ (is : List Instr). length (codeLines f p k is)) (v .list ∙ ap (λ (j : ℕ). i ∷ codeFrom j t (v .next)) y) in
-    let c = ap length (sym (append-assoc (heading k) (codeLine f p i) (codeLines f (suc p) (suc k) (codeFrom n t (v .next)))))
-    ∙ length-append (heading k ++ codeLine f p i) (codeLines f (suc p) (suc k) (codeFrom n t (v .next))) in
-    let q : 53 * (suc k + (suc k + 49) / 50) ≡ 53 * (k + 1 + (k + 1 + 49) / 50) = ap (λ (j : ℕ). 53 * (j + (j + 49) / 50)) (let z : suc k ≡ k + 1 = omega arith in z) in
-    let u : 53 * (suc k + n + (suc k + n + 49) / 50) ≡ 53 * (k + suc n + (k + suc n + 49) / 50) = ap (λ (j : ℕ). 53 * (j + (j + 49) / 50)) (let z : suc k + n ≡ k + suc n = omega arith in z) in
-    adds _ _ _ _ _ _ _ _ (e ∙ c) w ih q u
-  where
-    adds : (L H R A B C D E : ℕ) → L ≡ H + R → H + A ≡ B → R + C ≡ D → C ≡ B → D ≡ E → L + A ≡ E
-    adds L H R A B C D E a b c d e = omega arith
 
 -- ---- the lines of functions
 
@@ -139,20 +110,20 @@ module _ (t : List ℕ) (at count : ℕ) (xs : List ℕ) where
     unfolding instructions
     listing-lines = let a = l .lines in let b = ap instructions (g .list) in let c = g .count in omega arith
 
-    pub listing-next : (r : Next) (zs : List ℕ) → Coded r n t (p + 7) f k (midOf put (length out - put) out) zs →
-        Listing t at count xs (putMid put (length out - put) out zs) (r .at) (put + r .put) (f + 1) (k + n)
+    pub listing-next : (r : Next) (zs : List ℕ) → Coded r n t (p + 7) f k (from put out) zs →
+        Listing t at count xs (over put out zs) (r .at) (put + r .put) (f + 1) (k + n)
     unfolding instructions
     listing-next r zs w =
         let z : count - f - 1 ≡ count - (f + 1) = omega arith in
         let q = valuesEnd instruction n t (p + 7) in
         let a = l .lines in let b = ap instructions (g .list) in let c = g .count in
         let d = ap (λ (j : ℕ). instructions (valuesFrom functionRecord j t q)) z in
-        subst (λ (j : ℕ). Listing t at count xs (putMid put (length out - put) out zs) j (put + r .put) (f + 1) (k + n)) (sym (w .ends))
+        subst (λ (j : ℕ). Listing t at count xs (over put out zs) j (put + r .put) (f + 1) (k + n)) (sym (w .ends))
         (record {
           inside = omega arith;
           rest = subst (λ (j : ℕ). Reads functionRecord j t q) z (g .rest);
           lines = omega arith;
-          begun = subst (λ (y : List ℕ). Begun (functionLines 0 0 (valuesFrom functionRecord count t at)) xs (put + r .put) (putMid put (length out - put) out zs) (y ∷ []))
+          begun = subst (λ (y : List ℕ). Begun (functionLines 0 0 (valuesFrom functionRecord count t at)) xs (put + r .put) (over put out zs) (y ∷ []))
               (ap₂ (λ (i j : ℕ). functionLines i (k + n) (valuesFrom functionRecord j t q)) (let y : suc f ≡ f + 1 = omega arith in y) z)
               (begun-next listing-here (w .wrote));
         })
@@ -161,44 +132,9 @@ module _ (t : List ℕ) (at count : ℕ) (xs : List ℕ) where
   unfolding functionLines
   listing-done out p put f k h l = begun-rest (l .begun) (ap (functionLines f k) (reads-none functionRecord t (count - f) p (omega arith) (l .rest) .0))
 
-pub functions-long : (t : List ℕ) → Small t → (count at f k : ℕ) → f + count ≤ 65536 → k + instructions (valuesFrom functionRecord count t at) < 1000000 → Reads functionRecord count t at →
-    length (functionLines f k (valuesFrom functionRecord count t at)) + 53 * (k + (k + 49) / 50)
-    ≡ 53 * (k + instructions (valuesFrom functionRecord count t at) + (k + instructions (valuesFrom functionRecord count t at) + 49) / 50)
-unfolding functionLines instructions
-functions-long t small zero at f k hf hk r =
-    let e = reads-none functionRecord t zero at (omega arith) r .0 in
-    let a = ap (λ (fs : List Function). length (functionLines f k fs)) e in
-    let b = ap (λ (j : ℕ). 53 * (k + j + (k + j + 49) / 50)) (ap instructions e) in
-    omega arith
-functions-long t small (suc count) at f k hf hk r =
-    let n = numberAt 2 t (at + 5) in
-    let g = function-here t (suc count) at n (omega arith) r refl in
-    let y : suc count - 1 ≡ count = omega arith in
-    let q = valuesEnd instruction n t (at + 7) in
-    let rest = subst (λ (j : ℕ). Reads functionRecord j t q) y (g .rest) in
-    let gs = valuesFrom functionRecord count t q in
-    let el : valuesFrom functionRecord (suc count) t at ≡ g .function ∷ gs = g .list ∙ ap (λ (j : ℕ). g .function ∷ valuesFrom functionRecord j t q) y in
-    let ei = ap instructions el in
-    let c = g .count in
-    let w = number-small t small 2 (at + 5) in
-    let ih = functions-long t small count q (suc f) (k + n) (omega arith) (omega arith) rest in
-    let u = code-long t small n (at + 7) f 0 k (omega arith) (omega arith) (omega arith) (g .code) in
-    let e = ap (λ (fs : List Function). length (functionLines f k fs)) el
-    ∙ ap₂ (λ (is : List Instr) (j : ℕ). length (codeLines f 0 k is ++ functionLines (suc f) (k + j) gs)) (sym (g .code-is)) (sym c)
-    ∙ length-append (codeLines f 0 k (codeFrom n t (at + 7))) (functionLines (suc f) (k + n) gs) in
-    let z : 53 * (k + n + instructions gs + (k + n + instructions gs + 49) / 50) ≡ 53 * (k + instructions (valuesFrom functionRecord (suc count) t at) + (k + instructions (valuesFrom functionRecord (suc count) t at) + 49) / 50) =
-    ap (λ (j : ℕ). 53 * (j + (j + 49) / 50)) (let x : k + n + instructions gs ≡ k + instructions (valuesFrom functionRecord (suc count) t at) = omega arith in x) in
-    adds _ _ _ _ _ _ _ e u ih z
-  where
-    adds : (L H R A B D E : ℕ) → L ≡ H + R → H + A ≡ B → R + B ≡ D → D ≡ E → L + A ≡ E
-    adds L H R A B D E a b c d = omega arith
-
 -- ---- what the code's needs ask for
 
-pub mid-long : (n m : ℕ) (s x xs : List ℕ) → x ≡ written s xs → length s ≤ length xs → n + m ≤ length xs → m ≤ length (midOf n (length x - n) x)
-mid-long n m s x xs e g h = let l = ap length e ∙ length-written s xs g in simp (length-take, length-drop) (omega arith)
-
-module _ (t : List ℕ) (at n f k : ℕ) (xs out : List ℕ) (p put place : ℕ) (l : Lining t at n f k xs out p put place) (h : place < n) (op a b m : ℕ) (e : foundAt t p ≡ Instruction op a b m) where
+module _ {t : List ℕ} {at n f k : ℕ} {xs out : List ℕ} {p put place : ℕ} (l : Lining t at n f k xs out p put place) (h : place < n) {op a b m : ℕ} (e : foundAt t p ≡ Instruction op a b m) where
   pub lining-step : Stepped t (n - place) p op a b m
   lining-step = stepped t (n - place) p (omega arith) (l .rest) op a b m e
 
@@ -209,14 +145,17 @@ module _ (t : List ℕ) (at n f k : ℕ) (xs out : List ℕ) (p put place : ℕ)
       ((heading (k + place) ++ codeLine f place (instr op a b)) ∷ codeLines f (suc place) (suc (k + place)) (codeFrom (n - place - 1) t m) ∷ [])
   lining-piece = lining-here t at n f k xs out p put place op a b m l h lining-step
 
-pub lining-goes : (t : List ℕ) (at n f k : ℕ) (xs out : List ℕ) (p put place : ℕ) → Lining t at n f k xs out p put place → place < n → foundAt t p ≡ Nothing → ⊥
-lining-goes t at n f k xs out p put place l h e = not-nothing t (n - place) p (omega arith) (l .rest) e
+  pub lining-more : {r : ℕ} {zs : List ℕ} → Wrote r (heading (k + place) ++ codeLine f place (instr op a b)) (from put out) zs → Lining t at n f k xs (over put out zs) m (put + r) (place + 1)
+  lining-more {r} {zs} w = lining-next t at n f k xs out p put place op a b m l h lining-step r zs w
 
-module _ (t : List ℕ) (at count : ℕ) (xs out : List ℕ) (p put f k : ℕ) (l : Listing t at count xs out p put f k) (h : f < count) where
+pub lining-goes : {t : List ℕ} {at n f k : ℕ} {xs out : List ℕ} {p put place : ℕ} → Lining t at n f k xs out p put place → place < n → foundAt t p ≡ Nothing → ⊥
+lining-goes {t} {at} {n} {f} {k} {xs} {out} {p} {put} {place} l h e = not-nothing t (n - place) p (omega arith) (l .rest) e
+
+module _ {t : List ℕ} {at count : ℕ} {xs out : List ℕ} {p put f k : ℕ} (l : Listing t at count xs out p put f k) (h : f < count) where
   pub listing-head : p + 7 ≤ length t
   listing-head = function-head t (count - f) p (omega arith) (l .rest)
 
-  module _ (n : ℕ) (e : n ≡ numberAt 2 t (p + 5)) where
+  module _ {n : ℕ} (e : n ≡ numberAt 2 t (p + 5)) where
     pub listing-function : Function-here t (count - f) p n
     listing-function = function-here t (count - f) p n (omega arith) (l .rest) e
 
@@ -227,6 +166,6 @@ module _ (t : List ℕ) (at count : ℕ) (xs out : List ℕ) (p put f k : ℕ) (
     pub listing-few : k + n ≤ instructions (valuesFrom functionRecord count t at)
     listing-few = listing-lines t at count xs out p put f k n l h listing-function
 
-    pub listing-step : (r : Next) (zs : List ℕ) → Coded r n t (p + 7) f k (midOf put (length out - put) out) zs →
-        Listing t at count xs (putMid put (length out - put) out zs) (r .at) (put + r .put) (f + 1) (k + n)
-    listing-step r zs w = listing-next t at count xs out p put f k n l h listing-function r zs w
+    pub listing-step : {r : Next} {zs : List ℕ} → Coded r n t (p + 7) f k (from put out) zs →
+        Listing t at count xs (over put out zs) (r .at) (put + r .put) (f + 1) (k + n)
+    listing-step {r} {zs} w = listing-next t at count xs out p put f k n l h listing-function r zs w

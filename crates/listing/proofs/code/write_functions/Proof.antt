@@ -15,17 +15,22 @@ abbrev μ-loop : tie.MeasureT-loop
 pub write-functions-spec : {M : Type 1} → statement M
 write-functions-spec = tie.close (tie.spec Inv-loop μ-loop
     (λ c. let s = c .before .before in listing-start _ _ _ _ (s .pre .0) (s .pre .3))  -- loop-holds
-    (λ c. let l = c .before .loop in let t = c .loop-test .taken in let h = listing-head _ _ _ _ _ (l .p) (l .put) (l .f) (l .k) (l .inv) t in omega arith)  -- add-number-at
-    (λ c κs. let l = c .before .loop in let t = c .loop-test .taken in let h = listing-head _ _ _ _ _ (l .p) (l .put) (l .f) (l .k) (l .inv) t in (omega arith, omega arith))  -- number-at-requires
-    (λ c. let l = c .before .before .loop in let t = c .before .loop-test .taken in let h = listing-head _ _ _ _ _ (l .p) (l .put) (l .f) (l .k) (l .inv) t in omega arith)  -- add-write-code
-    (λ c. let l = c .before .before .loop in let t = c .before .loop-test .taken in let e = c .number-at .ensures .0 in let b = listing-piece _ _ _ _ _ (l .p) (l .put) (l .f) (l .k) (l .inv) t _ e in let f = begun-fits b in omega arith)  -- sub-write-code
-    (λ c. let l = c .before .before .loop in let t = c .before .loop-test .taken in let e = c .number-at .ensures .0 in let b = listing-piece _ _ _ _ _ (l .p) (l .put) (l .f) (l .k) (l .inv) t _ e in let f = begun-fits b in omega arith)  -- part-write-code-start
+    (λ c. let h = listing-head (c .before .loop .inv) (c .loop-test .taken) in omega arith)  -- add-number-at
+    (λ c κs. let h = listing-head (c .before .loop .inv) (c .loop-test .taken) in (omega arith, omega arith))  -- number-at-requires
+    (λ c. let t = c .before in let h = listing-head (t .before .loop .inv) (t .loop-test .taken) in omega arith)  -- add-write-code
+    (λ c. let t = c .before in omega (arith, begun-fits (listing-piece (t .before .loop .inv) (t .loop-test .taken) (c .number-at .ensures .0))))  -- sub-write-code
+    (λ c. let t = c .before in omega (arith, begun-fits (listing-piece (t .before .loop .inv) (t .loop-test .taken) (c .number-at .ensures .0))))  -- part-write-code-start
     (λ c. search needs)  -- part-write-code-end
-    (λ c κs. let l = c .before .before .before .loop in let t = c .before .before .loop-test .taken in let e = c .before .number-at .ensures .0 in let b = listing-piece _ _ _ _ _ (l .p) (l .put) (l .f) (l .k) (l .inv) t _ e in let s = c .before .before .before .before .before .before in let n = c .before .number-at .ensures .1 in let w = listing-few _ _ _ _ _ (l .p) (l .put) (l .f) (l .k) (l .inv) t _ e in let x = s .pre .2 in let y = s .pre .1 in (listing-function _ _ _ _ _ (l .p) (l .put) (l .f) (l .k) (l .inv) t _ e .code, omega arith, omega arith, omega arith, begun-piece b))  -- write-code-requires
-    (λ c. let l = c .before .before .before .before .before .before .before .loop in let t = c .before .before .before .before .before .before .loop-test .taken in let e = c .before .before .before .before .before .number-at .ensures .0 in let b = listing-piece _ _ _ _ _ (l .p) (l .put) (l .f) (l .k) (l .inv) t _ e in let s = c .before .before .before .before .before .before .before .before .before .before in omega (arith, c .before .before .before .write-code .ensures .wrote .count, begun-fits b, begun-length b, s .good))  -- add-put
-    (λ c. let l = c .before .before .before .before .before .before .before .loop in let t = c .before .before .before .before .before .before .loop-test .taken in let e = c .before .before .before .before .before .number-at .ensures .0 in let b = listing-piece _ _ _ _ _ (l .p) (l .put) (l .f) (l .k) (l .inv) t _ e in let s = c .before .before .before .before .before .before .before .before .before .before in let w = listing-few _ _ _ _ _ (l .p) (l .put) (l .f) (l .k) (l .inv) t _ e in let x = s .pre .2 in omega arith)  -- add-k
+    (λ c κs. let n = c .before in let t = n .before in let l = t .before .loop .inv in let s = t .before .before .before .before in
+    let e = n .number-at .ensures in let e₁ = e .1 in let h = t .loop-test .taken in let w = listing-few l h (e .0) in let x = s .pre .2 in let y = s .pre .1 in
+    (listing-function l h (e .0) .code, omega arith, omega arith, omega arith, begun-piece (listing-piece l h (e .0))))  -- write-code-requires
+    (λ c. let w = c .before .before .before in let n = w .before .before in let t = n .before in let b = listing-piece (t .before .loop .inv) (t .loop-test .taken) (n .number-at .ensures .0) in
+    let s = t .before .before .before .before in omega (arith, w .write-code .ensures .wrote .count, begun-fits b, begun-length b, s .good))  -- add-put
+    (λ c. let n = c .before .before .before .before .before in let t = n .before in let s = t .before .before .before .before in
+    let w = listing-few (t .before .loop .inv) (t .loop-test .taken) (n .number-at .ensures .0) in let x = s .pre .2 in omega arith)  -- add-k
     (λ c. omega arith)  -- add-f
     (λ c. omega arith)  -- loop-less
-    (λ c. let l = c .before .before .before .before .before .before .before .loop in let t = c .before .before .before .before .before .before .loop-test .taken in let e = c .before .before .before .before .before .number-at .ensures .0 in let b = listing-piece _ _ _ _ _ (l .p) (l .put) (l .f) (l .k) (l .inv) t _ e in listing-step _ _ _ _ _ (l .p) (l .put) (l .f) (l .k) (l .inv) t _ e _ _ (c .before .before .before .write-code .ensures))  -- loop-again
+    (λ c. let w = c .before .before .before in let n = w .before .before in let t = n .before in
+    listing-step (t .before .loop .inv) (t .loop-test .taken) (n .number-at .ensures .0) (w .write-code .ensures))  -- loop-again
     (λ c. begun-length (c .before .loop .inv .begun))  -- same-length
     (λ c. let l = c .before .loop in listing-done _ _ _ _ _ (l .p) (l .put) (l .f) (l .k) (c .loop-test .left) (l .inv)))  -- returns

@@ -15,10 +15,10 @@ unfolding names nameRow concat instructionTable leftIn spaces
 put-name-spec = tie.close (tie.spec
     (λ c. search needs)  -- mul-from
     (λ c. search needs)  -- add-to
-    (λ c. search needs)  -- sub-put-bytes
-    (λ c. search needs)  -- part-put-bytes-start
-    (λ c. search needs)  -- part-put-bytes-end
-    (λ c κs. search needs)  -- put-bytes-requires
+    (λ c. search needs)  -- sub-write-bytes
+    (λ c. search needs)  -- part-write-bytes-start
+    (λ c. search needs)  -- part-write-bytes-end
+    (λ c κs. search needs)  -- write-bytes-requires
     (λ c. search needs)  -- same-length
     (λ c. let s = c .before .before .before .before .before .before .before in
-    c .before .before .put-bytes .ensures ∙ ap (λ (l : List ℕ). written l (s .args .out .now)) (name-at (s .args .op) _ (s .pre .0) refl)))  -- returns
+    c .before .before .write-bytes .ensures .out ∙ ap (λ (l : List ℕ). written l (s .args .out .now)) (name-at (s .args .op) _ (s .pre .0) refl)))  -- returns
