@@ -20,8 +20,8 @@ use Rattle.listing.specs.Lines.{Operands}
 use Rattle.listing.proofs.Fields.{line-pieces, page-pieces}
 
 -- what is shown, by what it is to be
-shown-written : {f : Field} {s z : List ℕ} (w : ℕ) (x : List ℕ) → fieldText f ≡ s → z ≡ written (rightIn w (fieldText f)) x → z ≡ written (rightIn w s) x
-shown-written w x h e = e ∙ ap (λ (l : List ℕ). written (rightIn w l) x) h
+shown-written : (f : Field) {s z : List ℕ} (w : ℕ) (x : List ℕ) → fieldText f ≡ s → z ≡ written (rightIn w (fieldText f)) x → z ≡ written (rightIn w s) x
+shown-written f w x h e = e ∙ ap (λ (l : List ℕ). written (rightIn w l) x) h
 
 pub first-room : {op a b : ℕ} (f : Field) → Operands op a b → fieldText f ≡ firstText op a → length (fieldText f) ≤ 21
 first-room {op} {a} f O e = let l = ap length e in let h = first-fits op a (O .first) in omega arith
@@ -32,8 +32,8 @@ second-room {op} {a} {b} f O e = let l = ap length e in let h = second-fits op b
 pub line-in : (f p op a b : ℕ) → f < 65536 → p < 65536 → Operands op a b → LineFits f p (instr op a b)
 line-in f p op a b hf hp O = line-fits f p (instr op a b) hf hp (O .first) (O .second)
 
-module _ {f p op a b : ℕ} {first second : Field} (F : LineFits f p (instr op a b)) (sa : fieldText first ≡ firstText op a) (sb : fieldText second ≡ secondText op b)
-    {xs x z₂ z₃ z₄ z₅ : List ℕ} (room : 53 ≤ length xs)
+module _ {f p op a b : ℕ} (first second : Field) (F : LineFits f p (instr op a b)) (sa : fieldText first ≡ firstText op a) (sb : fieldText second ≡ secondText op b)
+    (xs x z₂ z₃ z₄ z₅ : List ℕ) (room : 53 ≤ length xs)
     (e₁ : x ≡ written (rightIn 5 (fieldText (Digits f))) xs)
     (e₂ : z₂ ≡ written (rightIn 6 (fieldText (Digits p))) (from 5 x))
     (e₃ : z₃ ≡ written (32 ∷ leftIn 15 (nameText op)) (from 11 (over 5 x z₂)))
@@ -55,14 +55,14 @@ module _ {f p op a b : ℕ} {first second : Field} (F : LineFits f p (instr op a
       let b₁ = put-first (rightIn 5 (decimal f)) 5 (line-pieces f p i F) (omega arith) (omega arith) e₁ in
       let b₂ = put-next 11 b₁ (omega arith) e₂ in
       let b₃ = put-next 27 b₂ (omega arith) e₃ in
-      let b₄ = put-next 48 b₃ (omega arith) (shown-written 21 _ sa e₄) in
-      let b₅ = put-next 52 b₄ (omega arith) (shown-written 4 _ sb e₅) in
+      let b₄ = put-next 48 b₃ (omega arith) (shown-written first 21 _ sa e₄) in
+      let b₅ = put-next 52 b₄ (omega arith) (shown-written second 4 _ sb e₅) in
       put-last 10 b₅
 
   pub line-same : length (set (over 48 (over 27 (over 11 (over 5 x z₂) z₃) z₄) z₅) 52 10) ≡ length xs
   line-same = let l = line-long f p (instr op a b) F in ap length line-written ∙ length-written _ xs (omega arith)
 
-module _ {n : ℕ} (hn : n < 1000000) {xs x z₂ z₃ : List ℕ} (room : 53 ≤ length xs)
+module _ {n : ℕ} (hn : n < 1000000) (xs x z₂ z₃ : List ℕ) (room : 53 ≤ length xs)
     (e₁ : x ≡ written (ascii "PAGE ") xs)
     (e₂ : z₂ ≡ written (rightIn 6 (fieldText (Digits n))) (from 5 x))
     (e₃ : z₃ ≡ written (rightIn 41 (fieldText Blank)) (from 11 (over 5 x z₂))) where

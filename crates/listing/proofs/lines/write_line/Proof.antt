@@ -24,18 +24,18 @@ write-line-spec = tie.close (tie.spec
     (λ c. search needs)  -- part-put-field-start-2
     (λ c. search needs)  -- part-put-field-end-2
     (λ c κs. let f = c .before .before .before .before .before .before .before .before .before .before .before .before .before .before in
-    (first-room _ (f .before .before .pre .2) (f .first-shown .ensures), search needs))  -- put-field-requires-3
+    (first-room (f .first-shown .result) (f .before .before .pre .2) (f .first-shown .ensures), search needs))  -- put-field-requires-3
     (λ c. search needs)  -- sub-put-field-3
     (λ c. search needs)  -- part-put-field-start-3
     (λ c. search needs)  -- part-put-field-end-3
     (λ c κs. let f = c .before .before .before .before .before .before .before .before .before .before .before .before .before .before .before .before .before in
-    (second-room _ (f .before .before .before .pre .2) (f .second-shown .ensures), search needs))  -- put-field-requires-4
+    (second-room (f .second-shown .result) (f .before .before .before .pre .2) (f .second-shown .ensures), search needs))  -- put-field-requires-4
     (λ c. search needs)  -- slice-write-out
     (λ c. let p₄ = c .before .before in let p₃ = p₄ .before .before .before .before in let n = p₃ .before .before .before .before in
     let p₂ = n .before .before .before .before in let p₁ = p₂ .before .before .before .before in let g = p₁ .before .before in let f = g .before in let s = f .before .before in
-    line-same (line-in _ _ _ _ _ (s .pre .0) (s .pre .1) (s .pre .2)) (f .first-shown .ensures) (g .second-shown .ensures) (s .pre .3)
-    (p₁ .put-field .ensures) (p₂ .put-field2 .ensures) (n .put-name .ensures) (p₃ .put-field3 .ensures) (p₄ .put-field4 .ensures))  -- same-length
+    line-same (f .first-shown .result) (g .second-shown .result) (line-in _ _ _ _ _ (s .pre .0) (s .pre .1) (s .pre .2)) (f .first-shown .ensures) (g .second-shown .ensures)
+    _ _ _ _ _ _ (s .pre .3) (p₁ .put-field .ensures) (p₂ .put-field2 .ensures) (n .put-name .ensures) (p₃ .put-field3 .ensures) (p₄ .put-field4 .ensures))  -- same-length
     (λ c. let p₄ = c .before .before in let p₃ = p₄ .before .before .before .before in let n = p₃ .before .before .before .before in
     let p₂ = n .before .before .before .before in let p₁ = p₂ .before .before .before .before in let g = p₁ .before .before in let f = g .before in let s = f .before .before in
-    line-written (line-in _ _ _ _ _ (s .pre .0) (s .pre .1) (s .pre .2)) (f .first-shown .ensures) (g .second-shown .ensures) (s .pre .3)
-    (p₁ .put-field .ensures) (p₂ .put-field2 .ensures) (n .put-name .ensures) (p₃ .put-field3 .ensures) (p₄ .put-field4 .ensures)))  -- returns
+    line-written (f .first-shown .result) (g .second-shown .result) (line-in _ _ _ _ _ (s .pre .0) (s .pre .1) (s .pre .2)) (f .first-shown .ensures) (g .second-shown .ensures)
+    _ _ _ _ _ _ (s .pre .3) (p₁ .put-field .ensures) (p₂ .put-field2 .ensures) (n .put-name .ensures) (p₃ .put-field3 .ensures) (p₄ .put-field4 .ensures)))  -- returns

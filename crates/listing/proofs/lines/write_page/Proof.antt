@@ -21,6 +21,6 @@ write-page-spec = tie.close (tie.spec
     (λ c κs. (omega arith, search needs))  -- put-field-requires-2
     (λ c. search needs)  -- slice-write-out
     (λ c. let p₂ = c .before .before in let p₁ = p₂ .before .before .before .before in let w = p₁ .before .before .before .before in let s = w .before .before .before .before in
-    page-same (s .pre .0) (s .pre .1) (w .write-bytes .ensures .out) (p₁ .put-field .ensures) (p₂ .put-field2 .ensures))  -- same-length
+    page-same (s .pre .0) _ _ _ _ (s .pre .1) (w .write-bytes .ensures .out) (p₁ .put-field .ensures) (p₂ .put-field2 .ensures))  -- same-length
     (λ c. let p₂ = c .before .before in let p₁ = p₂ .before .before .before .before in let w = p₁ .before .before .before .before in let s = w .before .before .before .before in
-    page-written (s .pre .0) (s .pre .1) (w .write-bytes .ensures .out) (p₁ .put-field .ensures) (p₂ .put-field2 .ensures)))  -- returns
+    page-written (s .pre .0) _ _ _ _ (s .pre .1) (w .write-bytes .ensures .out) (p₁ .put-field .ensures) (p₂ .put-field2 .ensures)))  -- returns
