@@ -1,18 +1,18 @@
 -- The code listing: its lines in order and in pages, what fits their columns, and how long it is.
-use mathlib.Core.Path.{_≡_, refl, sym, ap, ap₂, _∙_, subst}
+use mathlib.Core.Path.{_≡_, refl, sym, ap, ap₂, _∙_}
 use mathlib.Core.Bool.{Bool, true, false}
-use mathlib.Core.Option.{Option, some}
+use mathlib.Core.Option.{some}
 use mathlib.Core.List.{List, [], _∷_, _++_, append-assoc}
 use Prim.Native.Nat.{ℕ, zero, suc, _+_, _*_, _-_, _/_, _%_, _^_, _≤_, _<_}
 use native.Mathlib.Omega.{arith}
 use native.Mathlib.Nat.{pow-le-pow-right}
-use borrow.Author.Tests.{eq-eqb, ne-eqb, eqb-true, eqb-false, ltb-true, ltb-false, leb-true}
+use borrow.Author.Tests.{eq-eqb, ne-eqb, eqb-true, eqb-false, ltb-true, ltb-false, leb-true, le-leb}
 use lib.Dec.{eqb, leb, ltb, lit<}
 use lib.ListN.{length, length-append, getElem?, take, drop, length-drop}
 use Rattle.definitions.specs.Bytes.{ascii, concat, decimal, all}
-use Rattle.definitions.specs.Columns.{leftIn, rightIn, signed}
+use Rattle.definitions.specs.Columns.{rightIn, signed}
 use Rattle.definitions.specs.Instruction.{Instr, ConstI64, ConstF64, Row, row, nothing, instructionTable, rowOf, firstWidth, secondWidth}
-use Rattle.definitions.specs.Tables.{Function, Tables}
+use Rattle.definitions.specs.Tables.{Function}
 use Rattle.definitions.specs.Module.{instructions}
 use Rattle.definitions.specs.Reader.{isJump}
 use Rattle.definitions.specs.Listing.{Shown, blank, plain, signed₆₄, signed₃₂, bits, shownAs, shown, firstText, secondText, nameText, codeLine, pageLine, heading, codeLines, functionLines, listing}
@@ -150,10 +150,17 @@ signed-fits b k a plus minus = go (ltb (a + a) (2 ^ b)) refl
     go true e = let h = ltb-true (a + a) (2 ^ b) e in let l = length-decimal (suc k) a (plus h) in let s = ap length (signed-plus b a h) in omega arith
     go false e = let h = ltb-false (a + a) (2 ^ b) e in let l = length-decimal k (2 ^ b - a) (minus h) in let s = ap length (signed-minus b a h) in omega arith
 
+pub is-jump : (op : ℕ) → 28 ≤ op → op ≤ 30 → isJump op ≡ true
+unfolding isJump
+is-jump op h k = rw (le-leb 28 op h, le-leb op 30 k)
+
 -- a jump's operand has four bytes
 pub jump-width : (op : ℕ) → isJump op ≡ true → firstWidth op ≡ 4
 unfolding isJump firstWidth rowOf instructionTable
-jump-width op e = go (op - 28) (omega (arith, leb-true 28 op (left (leb 28 op) (leb op 30) e), leb-true op 30 (right (leb 28 op) (leb op 30) e))) (omega (arith, leb-true 28 op (left (leb 28 op) (leb op 30) e)))
+jump-width op e =
+    let h = leb-true 28 op (left (leb 28 op) (leb op 30) e) in
+    let k = leb-true op 30 (right (leb 28 op) (leb op 30) e) in
+    go (op - 28) (omega arith) (omega arith)
   where
     go : (d : ℕ) → d < 3 → op ≡ 28 + d → firstWidth op ≡ 4
     go zero h k = ap firstWidth k
@@ -165,7 +172,17 @@ jump-shown : (op : ℕ) → shownAs op ≡ signed₃₂ → isJump op ≡ true
 unfolding shownAs
 jump-shown op e = go (eqb (firstWidth op) 0) (eqb op (ConstI64 0 .op)) (eqb op (ConstF64 0 .op)) (isJump op) e
   where
-    go : (w x y z : Bool) → _≡_ {A = Shown} (elim w as (λ c. Shown) [ true ↦ blank | false ↦ elim x as (λ c. Shown) [ true ↦ signed₆₄ | false ↦ elim y as (λ c. Shown) [ true ↦ bits | false ↦ elim z as (λ c. Shown) [ true ↦ signed₃₂ | false ↦ plain ] ] ] ]) signed₃₂ → z ≡ true
+    go : (w x y z : Bool)
+        → _≡_ {A = Shown} (elim w as (λ c. Shown) [
+          | true ↦ blank
+          | false ↦ elim x as (λ c. Shown) [
+            | true ↦ signed₆₄
+            | false ↦ elim y as (λ c. Shown) [
+              | true ↦ bits
+              | false ↦ elim z as (λ c. Shown) [ true ↦ signed₃₂ | false ↦ plain ]
+            ]
+          ]
+        ]) signed₃₂ → z ≡ true
     go true x y z e = let n : _≡_ {A = ℕ} 0 1 = cc in absurd (omega arith)
     go false true y z e = let n : _≡_ {A = ℕ} 0 1 = cc in absurd (omega arith)
     go false false true z e = let n : _≡_ {A = ℕ} 0 1 = cc in absurd (omega arith)
@@ -236,7 +253,6 @@ line-long f p i F =
 pub page-long : (n : ℕ) → length (decimal n) ≤ 6 → length (pageLine n) ≡ 53
 unfolding pageLine
 page-long n h =
-    let s : List ℕ = ascii "PAGE " ++ rightIn 6 (decimal n) in
     let a = length-right 6 (decimal n) h in
     let b : length (ascii "PAGE " ++ rightIn 6 (decimal n)) ≡ 5 + length (rightIn 6 (decimal n)) = length-append (ascii "PAGE ") (rightIn 6 (decimal n)) in
     let c = length-left 52 (ascii "PAGE " ++ rightIn 6 (decimal n)) (omega arith) in

@@ -13,8 +13,7 @@ use Rattle.definitions.specs.Utf8.{isUtf8}
 use Rattle.definitions.specs.Instruction.{Instr, encode, encodes, firstWidth, secondWidth}
 use Rattle.definitions.specs.Tables.{Function, Tables}
 use Rattle.definitions.specs.Module.{nameBytes, textBytes, functionBytes, classBytes, tableBytes, moduleBytes, instructions}
-use Rattle.definitions.specs.Reader.{instruction, functionRecord, classRecord, moduleRecord, wholeModule, readModule}
-use Rattle.definitions.proofs.BytesWritten.{length-be}
+use Rattle.definitions.specs.Reader.{instruction, functionRecord, moduleRecord, wholeModule, readModule}
 use Rattle.definitions.proofs.Every.{Every, noEvery, every}
 use Rattle.definitions.proofs.Lengths.{length-encode, length-function}
 use Rattle.definitions.proofs.ModuleLength.{length-tables}

@@ -25,13 +25,13 @@ use Rattle.reader.specs.declared.Verdict.{Verdict}
 use Rattle.reader.specs.declared.Verdict.the-variants.{Accepted as Taken, Refused as NotTaken}
 use Rattle.reader.specs.declared.Located.{Located}
 use Rattle.reader.specs.declared.Located.the-variants.{Code, NoCode}
-use Rattle.tally.specs.Listed.{said as textSaid, Lists}
+use Rattle.tally.specs.Listed.{said as textSaid, Printed}
 use Rattle.tally.specs.declared.Listed.{Listed}
 use Rattle.tally.specs.declared.Listed.the-variants.{Written, Refused as NotWritten}
 use Rattle.run.specs.Pass.{said as ranSaid, Called}
 use Rattle.run.specs.declared.Outcome.{Outcome}
 use Rattle.run.specs.declared.Outcome.the-variants.{Finished, Refused as NotRun}
-use Rattle.exports.specs.Told.{told, toldCount, toldPart, fourIn, countsIn, Lowers, Writes, Runs}
+use Rattle.exports.specs.Told.{told, toldCount, toldPart, fourIn, countsIn, Lowers, Prints, Runs}
 
 -- ---- a tree
 
@@ -104,7 +104,7 @@ code-no r t f q L e = ap toldPart (sym (ap saidPart e) ∙ L .is)
 
 -- ---- a text about a module
 
-module _ (q : ℕ) (f : Tables → List ℕ) (r : Listed) (t out out′ : List ℕ) (L : Lists r (textCall q f t out) out′) where
+module _ (q : ℕ) (f : Tables → List ℕ) (r : Listed) (t out out′ : List ℕ) (L : Printed r (textCall q f t out) out′) where
   pub text-fits : (n : ℕ) → r ≡ Written n → n ≤ length out
   unfolding textSaid textCall textAnswer textFits countAnswer whenAccepted
   text-fits n e = go (readModule t) (sym (L .answer) ∙ ap textSaid e)
@@ -113,11 +113,11 @@ module _ (q : ℕ) (f : Tables → List ℕ) (r : Listed) (t out out′ : List �
       go (refused p) k = let z : _≡_ {A = ℕ} 0 1 = cc in absurd (omega arith)
       go (accepted x) k = room-count q (length out) (f x) n (leb (length (f x)) (length out)) refl k
 
-  pub text-yes : (n : ℕ) → r ≡ Written n → Writes (4294967296 + n) (textCall q f t out) out′
+  pub text-yes : (n : ℕ) → r ≡ Written n → Prints (4294967296 + n) (textCall q f t out) out′
   unfolding textSaid toldCount
   text-yes n e = record { answer = ap toldCount (sym (ap textSaid e) ∙ L .answer); output = L .output }
 
-  pub text-no : (p : ℕ) → r ≡ NotWritten p → Writes p (textCall q f t out) out′
+  pub text-no : (p : ℕ) → r ≡ NotWritten p → Prints p (textCall q f t out) out′
   unfolding textSaid toldCount
   text-no p e = record { answer = ap toldCount (sym (ap textSaid e) ∙ L .answer); output = L .output }
 

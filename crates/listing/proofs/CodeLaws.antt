@@ -14,9 +14,9 @@ use Rattle.reader.proofs.Encoding.{Small}
 use Rattle.reader.proofs.FunctionLaws.{op-small}
 use Rattle.writing.specs.Wrote.{Wrote}
 use Rattle.writing.proofs.Begun.{over, from, Begun, begun-start, begun-split, begun-rest, begun-next}
-use Rattle.tally.specs.Walk.{Reads, valuesFrom, valuesEnd, codeFrom}
+use Rattle.tally.specs.Walk.{Values, valuesEnd, codeFrom, functionsFrom}
 use Rattle.tally.proofs.Walking.{reads-none, Stepped, stepped, not-nothing, Function-here, function-head, function-here}
-use Rattle.listing.specs.Lines.{Operands, Coded}
+use Rattle.listing.specs.Lines.{Operands, Lined}
 use Rattle.listing.specs.declared.Next.{Next}
 use Rattle.listing.proofs.Entries.{operands-read}
 
@@ -25,17 +25,17 @@ use Rattle.listing.proofs.Entries.{operands-read}
 -- the lines so far, and the code that is left
 pub record Lining (t : List ℕ) (at n f k : ℕ) (xs out : List ℕ) (p put place : ℕ) : Type 0 where
   pub inside : place ≤ n
-  pub rest : Reads instruction (n - place) t p
+  pub rest : Values instruction (n - place) t p
   pub ends : valuesEnd instruction n t at ≡ valuesEnd instruction (n - place) t p
   pub begun : Begun (codeLines f 0 k (codeFrom n t at)) xs put out (codeLines f place (k + place) (codeFrom (n - place) t p) ∷ [])
 
 module _ (t : List ℕ) (at n f k : ℕ) (xs : List ℕ) where
-  pub lining-start : Reads instruction n t at → length (codeLines f 0 k (codeFrom n t at)) ≤ length xs → Lining t at n f k xs xs at 0 0
+  pub lining-start : Values instruction n t at → length (codeLines f 0 k (codeFrom n t at)) ≤ length xs → Lining t at n f k xs xs at 0 0
   lining-start r h =
       let z : n ≡ n - 0 = omega arith in
       record {
         inside = omega arith;
-        rest = subst (λ (j : ℕ). Reads instruction j t at) z r;
+        rest = subst (λ (j : ℕ). Values instruction j t at) z r;
         ends = ap (λ (j : ℕ). valuesEnd instruction j t at) z;
         begun = subst (λ (l : List ℕ). Begun (codeLines f 0 k (codeFrom n t at)) xs 0 xs (l ∷ [])) (ap₂ (λ (i j : ℕ). codeLines f 0 i (codeFrom j t at)) (let y : k ≡ k + 0 = omega arith in y) z)
             (begun-start (codeLines f 0 k (codeFrom n t at)) xs h);
@@ -58,7 +58,7 @@ module _ (t : List ℕ) (at n f k : ℕ) (xs : List ℕ) where
         let z : n - place - 1 ≡ n - (place + 1) = omega arith in
         record {
           inside = omega arith;
-          rest = subst (λ (j : ℕ). Reads instruction j t m) z (s .rest);
+          rest = subst (λ (j : ℕ). Values instruction j t m) z (s .rest);
           ends = l .ends ∙ s .ends ∙ ap (λ (j : ℕ). valuesEnd instruction j t m) z;
           begun = subst (λ (q : List ℕ). Begun (codeLines f 0 k (codeFrom n t at)) xs (put + r) (over put out zs) (q ∷ []))
               (ap₂ (λ (i j : ℕ). codeLines f i j (codeFrom (n - place - 1) t m)) (let y : suc place ≡ place + 1 = omega arith in y) (let y : suc (k + place) ≡ k + (place + 1) = omega arith in y)
@@ -66,7 +66,7 @@ module _ (t : List ℕ) (at n f k : ℕ) (xs : List ℕ) where
               (begun-next lining-here w);
         }
 
-  pub lining-done : (out : List ℕ) (p put place : ℕ) → n ≤ place → Lining t at n f k xs out p put place → (r : Next) → r .at ≡ p → r .put ≡ put → Coded r n t at f k xs out
+  pub lining-done : (out : List ℕ) (p put place : ℕ) → n ≤ place → Lining t at n f k xs out p put place → (r : Next) → r .at ≡ p → r .put ≡ put → Lined r n t at f k xs out
   unfolding codeLines
   lining-done out p put place h l r ea ep =
       let e = reads-none instruction t (n - place) p (omega arith) (l .rest) in
@@ -79,56 +79,56 @@ module _ (t : List ℕ) (at n f k : ℕ) (xs : List ℕ) where
 
 pub record Listing (t : List ℕ) (at count : ℕ) (xs out : List ℕ) (p put f k : ℕ) : Type 0 where
   pub inside : f ≤ count
-  pub rest : Reads functionRecord (count - f) t p
-  pub lines : instructions (valuesFrom functionRecord count t at) ≡ k + instructions (valuesFrom functionRecord (count - f) t p)
-  pub begun : Begun (functionLines 0 0 (valuesFrom functionRecord count t at)) xs put out (functionLines f k (valuesFrom functionRecord (count - f) t p) ∷ [])
+  pub rest : Values functionRecord (count - f) t p
+  pub lines : instructions (functionsFrom count t at) ≡ k + instructions (functionsFrom (count - f) t p)
+  pub begun : Begun (functionLines 0 0 (functionsFrom count t at)) xs put out (functionLines f k (functionsFrom (count - f) t p) ∷ [])
 
 module _ (t : List ℕ) (at count : ℕ) (xs : List ℕ) where
-  pub listing-start : Reads functionRecord count t at → length (functionLines 0 0 (valuesFrom functionRecord count t at)) ≤ length xs → Listing t at count xs xs at 0 0 0
+  pub listing-start : Values functionRecord count t at → length (functionLines 0 0 (functionsFrom count t at)) ≤ length xs → Listing t at count xs xs at 0 0 0
   listing-start r h =
       let z : count ≡ count - 0 = omega arith in
-      let e = ap (λ (j : ℕ). instructions (valuesFrom functionRecord j t at)) z in
+      let e = ap (λ (j : ℕ). instructions (functionsFrom j t at)) z in
       record {
         inside = omega arith;
-        rest = subst (λ (j : ℕ). Reads functionRecord j t at) z r;
+        rest = subst (λ (j : ℕ). Values functionRecord j t at) z r;
         lines = omega arith;
-        begun = subst (λ (l : List ℕ). Begun (functionLines 0 0 (valuesFrom functionRecord count t at)) xs 0 xs (l ∷ [])) (ap (λ (j : ℕ). functionLines 0 0 (valuesFrom functionRecord j t at)) z)
-            (begun-start (functionLines 0 0 (valuesFrom functionRecord count t at)) xs h);
+        begun = subst (λ (l : List ℕ). Begun (functionLines 0 0 (functionsFrom count t at)) xs 0 xs (l ∷ [])) (ap (λ (j : ℕ). functionLines 0 0 (functionsFrom j t at)) z)
+            (begun-start (functionLines 0 0 (functionsFrom count t at)) xs h);
       }
 
   module _ (out : List ℕ) (p put f k n : ℕ) (l : Listing t at count xs out p put f k) (h : f < count) (g : Function-here t (count - f) p n) where
-    pub listing-here : Begun (functionLines 0 0 (valuesFrom functionRecord count t at)) xs put out
-        (codeLines f 0 k (codeFrom n t (p + 7)) ∷ functionLines (suc f) (k + n) (valuesFrom functionRecord (count - f - 1) t (valuesEnd instruction n t (p + 7))) ∷ [])
+    pub listing-here : Begun (functionLines 0 0 (functionsFrom count t at)) xs put out
+        (codeLines f 0 k (codeFrom n t (p + 7)) ∷ functionLines (suc f) (k + n) (functionsFrom (count - f - 1) t (valuesEnd instruction n t (p + 7))) ∷ [])
     unfolding functionLines
     listing-here =
-        begun-split (codeLines f 0 k (codeFrom n t (p + 7))) (functionLines (suc f) (k + n) (valuesFrom functionRecord (count - f - 1) t (valuesEnd instruction n t (p + 7))))
+        begun-split (codeLines f 0 k (codeFrom n t (p + 7))) (functionLines (suc f) (k + n) (functionsFrom (count - f - 1) t (valuesEnd instruction n t (p + 7))))
         (ap (functionLines f k) (g .list)
-        ∙ ap₂ (λ (is : List Instr) (j : ℕ). codeLines f 0 k is ++ functionLines (suc f) (k + j) (valuesFrom functionRecord (count - f - 1) t (valuesEnd instruction n t (p + 7)))) (sym (g .code-is)) (sym (g .count)))
+        ∙ ap₂ (λ (is : List Instr) (j : ℕ). codeLines f 0 k is ++ functionLines (suc f) (k + j) (functionsFrom (count - f - 1) t (valuesEnd instruction n t (p + 7)))) (sym (g .code-is)) (sym (g .count)))
         (l .begun)
 
-    pub listing-lines : k + n ≤ instructions (valuesFrom functionRecord count t at)
+    pub listing-lines : k + n ≤ instructions (functionsFrom count t at)
     unfolding instructions
     listing-lines = let a = l .lines in let b = ap instructions (g .list) in let c = g .count in omega arith
 
-    pub listing-next : (r : Next) (zs : List ℕ) → Coded r n t (p + 7) f k (from put out) zs →
+    pub listing-next : (r : Next) (zs : List ℕ) → Lined r n t (p + 7) f k (from put out) zs →
         Listing t at count xs (over put out zs) (r .at) (put + r .put) (f + 1) (k + n)
     unfolding instructions
     listing-next r zs w =
         let z : count - f - 1 ≡ count - (f + 1) = omega arith in
         let q = valuesEnd instruction n t (p + 7) in
         let a = l .lines in let b = ap instructions (g .list) in let c = g .count in
-        let d = ap (λ (j : ℕ). instructions (valuesFrom functionRecord j t q)) z in
+        let d = ap (λ (j : ℕ). instructions (functionsFrom j t q)) z in
         subst (λ (j : ℕ). Listing t at count xs (over put out zs) j (put + r .put) (f + 1) (k + n)) (sym (w .ends))
         (record {
           inside = omega arith;
-          rest = subst (λ (j : ℕ). Reads functionRecord j t q) z (g .rest);
+          rest = subst (λ (j : ℕ). Values functionRecord j t q) z (g .rest);
           lines = omega arith;
-          begun = subst (λ (y : List ℕ). Begun (functionLines 0 0 (valuesFrom functionRecord count t at)) xs (put + r .put) (over put out zs) (y ∷ []))
-              (ap₂ (λ (i j : ℕ). functionLines i (k + n) (valuesFrom functionRecord j t q)) (let y : suc f ≡ f + 1 = omega arith in y) z)
+          begun = subst (λ (y : List ℕ). Begun (functionLines 0 0 (functionsFrom count t at)) xs (put + r .put) (over put out zs) (y ∷ []))
+              (ap₂ (λ (i j : ℕ). functionLines i (k + n) (functionsFrom j t q)) (let y : suc f ≡ f + 1 = omega arith in y) z)
               (begun-next listing-here (w .wrote));
         })
 
-  pub listing-done : (out : List ℕ) (p put f k : ℕ) → count ≤ f → Listing t at count xs out p put f k → Wrote put (functionLines 0 0 (valuesFrom functionRecord count t at)) xs out
+  pub listing-done : (out : List ℕ) (p put f k : ℕ) → count ≤ f → Listing t at count xs out p put f k → Wrote put (functionLines 0 0 (functionsFrom count t at)) xs out
   unfolding functionLines
   listing-done out p put f k h l = begun-rest (l .begun) (ap (functionLines f k) (reads-none functionRecord t (count - f) p (omega arith) (l .rest) .0))
 
@@ -159,13 +159,13 @@ module _ {t : List ℕ} {at count : ℕ} {xs out : List ℕ} {p put f k : ℕ} (
     pub listing-function : Function-here t (count - f) p n
     listing-function = function-here t (count - f) p n (omega arith) (l .rest) e
 
-    pub listing-piece : Begun (functionLines 0 0 (valuesFrom functionRecord count t at)) xs put out
-        (codeLines f 0 k (codeFrom n t (p + 7)) ∷ functionLines (suc f) (k + n) (valuesFrom functionRecord (count - f - 1) t (valuesEnd instruction n t (p + 7))) ∷ [])
+    pub listing-piece : Begun (functionLines 0 0 (functionsFrom count t at)) xs put out
+        (codeLines f 0 k (codeFrom n t (p + 7)) ∷ functionLines (suc f) (k + n) (functionsFrom (count - f - 1) t (valuesEnd instruction n t (p + 7))) ∷ [])
     listing-piece = listing-here t at count xs out p put f k n l h listing-function
 
-    pub listing-few : k + n ≤ instructions (valuesFrom functionRecord count t at)
+    pub listing-few : k + n ≤ instructions (functionsFrom count t at)
     listing-few = listing-lines t at count xs out p put f k n l h listing-function
 
-    pub listing-step : {r : Next} {zs : List ℕ} → Coded r n t (p + 7) f k (from put out) zs →
+    pub listing-step : {r : Next} {zs : List ℕ} → Lined r n t (p + 7) f k (from put out) zs →
         Listing t at count xs (over put out zs) (r .at) (put + r .put) (f + 1) (k + n)
     listing-step {r} {zs} w = listing-next t at count xs out p put f k n l h listing-function r zs w

@@ -13,6 +13,7 @@ use Rattle.definitions.specs.Columns.{spaces, leftIn, rightIn, signed}
 use Rattle.definitions.specs.Statements.{LineFits}
 use Rattle.definitions.specs.Listing.{shownAs, shown, firstText, secondText, nameText, codeLine, pageLine}
 use Rattle.definitions.proofs.Columns.{length-right}
+use Rattle.definitions.proofs.Listing.{is-jump}
 use Rattle.columns.specs.declared.Field.{Field}
 use Rattle.columns.specs.declared.Field.the-variants.{Blank, Digits, Negative, Bits}
 use Rattle.columns.specs.Fields.{fieldText}
@@ -20,11 +21,7 @@ use Rattle.definitions.proofs.Decimals.{signed-plus, signed-minus}
 use Rattle.columns.proofs.Right.{right-wider}
 use Rattle.writing.proofs.Begun.{joined}
 
--- ---- jumps
-
-pub is-jump : (op : ℕ) → 28 ≤ op → op ≤ 30 → isJump op ≡ true
-unfolding isJump
-is-jump op g h = rw (le-leb 28 op g, le-leb op 30 h, isJump)
+-- ---- what is no jump
 
 pub below-jump : (op : ℕ) → op < 28 → isJump op ≡ false
 unfolding isJump

@@ -16,6 +16,6 @@ pub record Operands (op a b : ℕ) : Type 0 where
   pub second : b < 256 ^ secondWidth op
 
 -- the lines of n instructions, and where the code after them begins
-pub record Coded (r : Next) (n : ℕ) (t : List ℕ) (at f k : ℕ) (before after : List ℕ) : Type 0 where
+pub record Lined (r : Next) (n : ℕ) (t : List ℕ) (at f k : ℕ) (before after : List ℕ) : Type 0 where
   pub ends : r .at ≡ valuesEnd instruction n t at
   pub wrote : Wrote (r .put) (codeLines f 0 k (codeFrom n t at)) before after

@@ -17,8 +17,8 @@ ghost use Rattle.definitions.specs.Module.{instructions};
 ghost use Rattle.definitions.specs.Reader.{functionRecord, instruction};
 ghost use Rattle.definitions.specs.Listing.{heading, codeLine, codeLines, functionLines};
 ghost use Rattle.writing.specs.Wrote.{Wrote};
-ghost use Rattle.tally.specs.Walk.{Reads, valuesFrom};
-ghost use Rattle.listing.specs.Lines.{Operands, Coded};
+ghost use Rattle.tally.specs.Walk.{Values, codeFrom, functionsFrom};
+ghost use Rattle.listing.specs.Lines.{Operands, Lined};
 
 // Code line k, after a page's first line where it begins a page.
 fn write_entry(k: u64, f: u64, place: u64, op: u8, a: u64, b: u64, out: &mut [u8]) -> usize
@@ -35,9 +35,9 @@ fn write_entry(k: u64, f: u64, place: u64, op: u8, a: u64, b: u64, out: &mut [u8
 }
 
 // The lines of the function f, of n instructions from `at` on, from code line k on.
-pub fn write_code(bytes: &[u8], at: usize, n: u64, f: u64, k: u64, out: &mut [u8]) -> Next
-    requires { ⌜ Reads instruction n (now bytes) at × (n < 65536) × (f < 65536) × (k + n < 1000000) × (length (codeLines f 0 k (valuesFrom instruction n (now bytes) at)) ≤ length (now out)) ⌝ }
-    ensures { λ r. ⌜ Coded r n (now (bytes .entry)) at f k (now (out .entry)) (now (out .exit)) ⌝ }
+fn write_code(bytes: &[u8], at: usize, n: u64, f: u64, k: u64, out: &mut [u8]) -> Next
+    requires { ⌜ Values instruction n (now bytes) at × (n < 65536) × (f < 65536) × (k + n < 1000000) × (length (codeLines f 0 k (codeFrom n (now bytes) at)) ≤ length (now out)) ⌝ }
+    ensures { λ r. ⌜ Lined r n (now (bytes .entry)) at f k (now (out .entry)) (now (out .exit)) ⌝ }
 {
     let mut p = at;
     let mut put = 0usize;
@@ -55,9 +55,9 @@ pub fn write_code(bytes: &[u8], at: usize, n: u64, f: u64, k: u64, out: &mut [u8
 }
 
 // The lines of `count` functions from `at` on.
-pub fn write_functions(bytes: &[u8], at: usize, count: u64, out: &mut [u8]) -> usize
-    requires { ⌜ Reads functionRecord count (now bytes) at × (count < 65536) × (instructions (valuesFrom functionRecord count (now bytes) at) < 1000000) × (length (functionLines 0 0 (valuesFrom functionRecord count (now bytes) at)) ≤ length (now out)) ⌝ }
-    ensures { λ r. ⌜ Wrote r (functionLines 0 0 (valuesFrom functionRecord count (now (bytes .entry)) at)) (now (out .entry)) (now (out .exit)) ⌝ }
+pub(crate) fn write_functions(bytes: &[u8], at: usize, count: u64, out: &mut [u8]) -> usize
+    requires { ⌜ Values functionRecord count (now bytes) at × (count < 65536) × (instructions (functionsFrom count (now bytes) at) < 1000000) × (length (functionLines 0 0 (functionsFrom count (now bytes) at)) ≤ length (now out)) ⌝ }
+    ensures { λ r. ⌜ Wrote r (functionLines 0 0 (functionsFrom count (now (bytes .entry)) at)) (now (out .entry)) (now (out .exit)) ⌝ }
 {
     let mut p = at;
     let mut put = 0usize;

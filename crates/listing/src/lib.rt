@@ -13,7 +13,7 @@ ghost use mathlib.Core.Path.{_≡_};
 ghost use Prim.Native.Nat.{_+_, _*_, _/_, _<_};
 ghost use Rattle.definitions.specs.Calls.{listCall};
 ghost use Rattle.tally.specs.Walk.{FunctionsAt};
-ghost use Rattle.tally.specs.Listed.{Lists};
+ghost use Rattle.tally.specs.Listed.{Printed};
 
 // The bytes of a line, and the code lines of a page.
 pub const LINE: usize = 53;
@@ -37,7 +37,7 @@ fn listing_size(lines: u64) -> u64
 // The listing of a module whose functions begin at `at`.
 fn list_functions(bytes: &[u8], at: usize, out: &mut [u8]) -> Listed
     requires { ⌜ FunctionsAt (now bytes) at ⌝ }
-    ensures { λ r. ⌜ Lists r (listCall (now (bytes .entry)) (now (out .entry))) (now (out .exit)) ⌝ }
+    ensures { λ r. ⌜ Printed r (listCall (now (bytes .entry)) (now (out .entry))) (now (out .exit)) ⌝ }
 {
     let count = number_at(bytes, at, 2);
     let lines = count_functions(bytes, at + 2, count);
@@ -50,7 +50,7 @@ fn list_functions(bytes: &[u8], at: usize, out: &mut [u8]) -> Listed
 
 // The listing of a module, written only where it fits.
 pub fn list(bytes: &[u8], out: &mut [u8]) -> Listed
-    ensures { λ r. ⌜ Lists r (listCall (now (bytes .entry)) (now (out .entry))) (now (out .exit)) ⌝ }
+    ensures { λ r. ⌜ Printed r (listCall (now (bytes .entry)) (now (out .entry))) (now (out .exit)) ⌝ }
 {
     let opened = open_module(bytes);
     match opened {

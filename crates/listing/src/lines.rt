@@ -80,7 +80,7 @@ fn second_shown(op: u8, b: u64) -> Field
 }
 
 // The line of an instruction at a place of the function f.
-pub fn write_line(f: u64, place: u64, op: u8, a: u64, b: u64, out: &mut [u8])
+pub(crate) fn write_line(f: u64, place: u64, op: u8, a: u64, b: u64, out: &mut [u8])
     requires { ⌜ (f < 65536) × (place < 65536) × Operands op a b × (53 ≤ length (now out)) ⌝ }
     ensures { λ _. ⌜ now (out .exit) ≡ written (codeLine f place (instr op a b)) (now (out .entry)) ⌝ }
 {
@@ -95,7 +95,7 @@ pub fn write_line(f: u64, place: u64, op: u8, a: u64, b: u64, out: &mut [u8])
 }
 
 // The first line of page n.
-pub fn write_page(n: u64, out: &mut [u8])
+pub(crate) fn write_page(n: u64, out: &mut [u8])
     requires { ⌜ (n < 1000000) × (53 ≤ length (now out)) ⌝ }
     ensures { λ _. ⌜ now (out .exit) ≡ written (pageLine n) (now (out .entry)) ⌝ }
 {

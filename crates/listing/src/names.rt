@@ -13,7 +13,7 @@ const NAMES: [u8; 736] =
     *b" ConstI64        ConstF64        ConstStr        True            False           None            LoadConst       Pop             Dup             LoadLocal       StoreLocal      LoadGlobal      StoreGlobal     Add             Sub             Mul             Div             TrueDiv         Mod             Neg             Pos             Eq              Ne              Lt              Le              Gt              Ge              Not             Jump            JumpIfFalse     JumpIfTrue      Call            CallBuiltin     Return          CallValue       CallMethod      LoadAttr        StoreAttr       BuildList       BuildTuple      BuildDict       BuildSet        BuildTreeSet    LoadIndex       StoreIndex      MakeClosure    ";
 
 // A space and an instruction's name, in 16 columns.
-pub fn put_name(op: u8, out: &mut [u8])
+pub(crate) fn put_name(op: u8, out: &mut [u8])
     requires { ⌜ (op < 46) × (16 ≤ length (now out)) ⌝ }
     ensures { λ _. ⌜ now (out .exit) ≡ written (32 ∷ leftIn 15 (nameText op)) (now (out .entry)) ⌝ }
 {

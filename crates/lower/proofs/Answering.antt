@@ -1,7 +1,6 @@
 -- What the program's buffer shows, by the lowering's answer.
-use Prim.Native.Nat.{ℕ, _+_, _*_, _/_, _≤_, _<_}
+use Prim.Native.Nat.{ℕ, _+_, _≤_, _<_}
 use mathlib.Core.Path.{_≡_, refl, sym, ap, _∙_}
-use mathlib.Core.Bool.{Bool, true, false}
 use mathlib.Core.List.{List, [], _∷_, _++_}
 use native.Mathlib.Omega.{arith}
 use lib.ListN.{length, take, drop, length-append}

@@ -1,6 +1,5 @@
 -- The bytes of each section of the module, from the words that the lowering keeps.
 use Prim.Native.Nat.{ℕ, _≤_}
-use mathlib.Core.Path.{_≡_}
 use mathlib.Core.List.{List, _++_, map}
 use lib.ListN.{length, drop}
 use Rattle.definitions.specs.Bytes.{be, listBytes}

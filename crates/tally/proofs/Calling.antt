@@ -14,8 +14,8 @@ use Rattle.reader.specs.View.{tablesOf, Ready, Opens, numberAt}
 use Rattle.reader.specs.declared.Opened.{Opened}
 use Rattle.reader.specs.declared.Opened.the-variants.{Module, Closed}
 use Rattle.reader.proofs.Encoding.{Small, number-small}
-use Rattle.tally.specs.Walk.{Reads, valuesFrom, FunctionsAt}
-use Rattle.tally.specs.Listed.{said, Lists}
+use Rattle.tally.specs.Walk.{Values, functionsFrom, FunctionsAt}
+use Rattle.tally.specs.Listed.{said, Printed}
 use Rattle.tally.specs.declared.Listed.the-variants.{Written, Refused}
 use Rattle.tally.proofs.Walking.{functions-read}
 
@@ -37,7 +37,7 @@ opened o t a b c d h e =
 module _ (t : List ℕ) (at : ℕ) (F : FunctionsAt t at) where
   -- the functions
   pub functions-begin : (n : ℕ) → n ≡ numberAt 2 t at
-      → (at + 2 ≤ length t) × Reads functionRecord n t (at + 2) × (valuesFrom functionRecord n t (at + 2) ≡ tablesOf t .functions) × (n ≡ length (tablesOf t .functions))
+      → (at + 2 ≤ length t) × Values functionRecord n t (at + 2) × (functionsFrom n t (at + 2) ≡ tablesOf t .functions) × (n ≡ length (tablesOf t .functions))
   functions-begin n e = functions-read t at (tablesOf t .functions) (F .ends) n (F .here) (F .read) e
 
   pub few-bytes : length t ≤ 524288
@@ -49,7 +49,7 @@ module _ (t : List ℕ) (at : ℕ) (F : FunctionsAt t at) where
 -- ---- the answers
 
 module _ (question : ℕ) (f : Tables → List ℕ) (t out : List ℕ) where
-  pub lists-closed : (q : ℕ) → readModule t ≡ refused q → Lists (Refused q) (textCall question f t out) out
+  pub lists-closed : (q : ℕ) → readModule t ≡ refused q → Printed (Refused q) (textCall question f t out) out
   unfolding textCall textAnswer whenAccepted countAnswer outputAfter said
   lists-closed q e = record {
     answer = sym (ap (λ (x : Answer Tables). countAnswer (whenAccepted x (λ y. textFits question (length out) (f y)))) e);
@@ -61,13 +61,13 @@ module _ (question : ℕ) (f : Tables → List ℕ) (t out : List ℕ) where
     unfolding textAnswer whenAccepted
     asked = ap (λ (x : Answer Tables). whenAccepted x (λ y. textFits question (length out) (f y))) m
 
-    pub lists-full : length out < length (f x) → Lists (Refused question) (textCall question f t out) out
+    pub lists-full : length out < length (f x) → Printed (Refused question) (textCall question f t out) out
     unfolding textCall countAnswer whenAccepted outputAfter said textFits
     lists-full h =
         let w : textAnswer question f t (length out) ≡ refused question = asked ∙ rw (lt-leb (length (f x)) (length out) h, textFits) in
         record { answer = sym (ap countAnswer w); output = sym (ap (λ (x : Answer (List ℕ)). outputAfter x out) w) }
 
-    pub lists-written : (after : List ℕ) (put : ℕ) → length (f x) ≤ length out → put ≡ length (f x) → after ≡ written (f x) out → Lists (Written put) (textCall question f t out) after
+    pub lists-written : (after : List ℕ) (put : ℕ) → length (f x) ≤ length out → put ≡ length (f x) → after ≡ written (f x) out → Printed (Written put) (textCall question f t out) after
     unfolding textCall countAnswer whenAccepted outputAfter said textFits
     lists-written after put h n e =
         let v : textAnswer question f t (length out) ≡ accepted (f x) = asked ∙ rw (le-leb (length (f x)) (length out) h, textFits) in

@@ -8,16 +8,16 @@ use Rattle.definitions.specs.Module.{instructions}
 use Rattle.definitions.specs.Reader.{instruction, functionRecord}
 use Rattle.reader.specs.View.{foundAt}
 use Rattle.reader.specs.declared.Found.the-variants.{Instruction}
-use Rattle.tally.specs.Walk.{valuesFrom, valuesEnd, Reads}
+use Rattle.tally.specs.Walk.{functionsFrom, valuesEnd, Values}
 use Rattle.tally.proofs.Walking.{stepped, reads-none, Function-here, code-many}
 
 -- ---- instructions that are passed over
 
 pub record Skipping (n : ℕ) (t : List ℕ) (at left p : ℕ) : Type 0 where
-  pub rest : Reads instruction left t p
+  pub rest : Values instruction left t p
   pub ends : valuesEnd instruction n t at ≡ valuesEnd instruction left t p
 
-pub skipping-start : (n : ℕ) (t : List ℕ) (at : ℕ) → Reads instruction n t at → Skipping n t at n at
+pub skipping-start : (n : ℕ) (t : List ℕ) (at : ℕ) → Values instruction n t at → Skipping n t at n at
 skipping-start n t at r = record { rest = r; ends = refl }
 
 pub skipping-next : (n : ℕ) (t : List ℕ) (at left p : ℕ) → 0 < left → Skipping n t at left p → (op a b m : ℕ) → foundAt t p ≡ Instruction op a b m → Skipping n t at (left - 1) m
@@ -30,11 +30,11 @@ skipping-done n t at left p h k = sym (k .ends ∙ reads-none instruction t left
 
 -- the instructions so far, and the functions that are left
 pub record Summing (count : ℕ) (t : List ℕ) (at left p total : ℕ) : Type 0 where
-  pub rest : Reads functionRecord left t p
+  pub rest : Values functionRecord left t p
   pub few : total ≤ p
-  pub so : instructions (valuesFrom functionRecord count t at) ≡ total + instructions (valuesFrom functionRecord left t p)
+  pub so : instructions (functionsFrom count t at) ≡ total + instructions (functionsFrom left t p)
 
-pub summing-start : (count : ℕ) (t : List ℕ) (at : ℕ) → Reads functionRecord count t at → Summing count t at count at 0
+pub summing-start : (count : ℕ) (t : List ℕ) (at : ℕ) → Values functionRecord count t at → Summing count t at count at 0
 summing-start count t at r = record { rest = r; few = omega arith; so = omega arith }
 
 pub summing-next : (count : ℕ) (t : List ℕ) (at left p total n q : ℕ) → 0 < left → Summing count t at left p total → (f : Function-here t left p n) → q ≡ valuesEnd instruction n t (p + 7) →
@@ -48,7 +48,7 @@ summing-next count t at left p total n q h k f e =
     let z : Summing count t at (left - 1) (valuesEnd instruction n t (p + 7)) (total + n) = record { rest = f .rest; few = omega arith; so = omega arith } in
     subst (λ (j : ℕ). Summing count t at (left - 1) j (total + n)) (sym e) z
 
-pub summing-done : (count : ℕ) (t : List ℕ) (at left p total : ℕ) → left ≤ 0 → Summing count t at left p total → (total ≡ instructions (valuesFrom functionRecord count t at)) × (total ≤ length t)
+pub summing-done : (count : ℕ) (t : List ℕ) (at left p total : ℕ) → left ≤ 0 → Summing count t at left p total → (total ≡ instructions (functionsFrom count t at)) × (total ≤ length t)
 unfolding instructions
 summing-done count t at left p total h k =
     let e = reads-none functionRecord t left p h (k .rest) in

@@ -1,5 +1,5 @@
 -- Records that are read one after the other: the next one, and the end.
-use mathlib.Core.Path.{_≡_, refl, sym, ap, ap₂, _∙_, subst}
+use mathlib.Core.Path.{_≡_, sym, ap, ap₂, _∙_, subst}
 use mathlib.Core.List.{List, [], _∷_}
 use Prim.Native.Nat.{ℕ, zero, suc, _+_, _-_, _≤_, _<_}
 use native.Mathlib.Omega.{arith}
@@ -16,7 +16,7 @@ use Rattle.reader.proofs.Finding.{counted-view, function-view, give-view}
 use Rattle.reader.proofs.Questions.{list-view}
 use Rattle.reader.proofs.InstructionLaws.{found-got}
 use Rattle.reader.proofs.Encoding.{instruction-view}
-use Rattle.tally.specs.Walk.{readList, readEnd, valuesFrom, valuesEnd, Reads, codeFrom}
+use Rattle.tally.specs.Walk.{readList, readEnd, valuesFrom, valuesEnd, Values, codeFrom, functionsFrom}
 
 -- ---- any records
 
@@ -29,7 +29,7 @@ module _ {A : Type 0} (p : Parser A) (t : List ℕ) where
   unfolding valuesEnd readEnd
   reads-end k at xs m g = ap (readEnd (length t)) (g .is) ∙ (let h = g .to in let l = length-drop m t in let z : length t - length (drop m t) ≡ m = omega arith in z)
 
-  pub reads-are : (k at : ℕ) (xs : List A) (m : ℕ) → at ≤ length t → Got (counted [] _∷_ p k) t at xs m → Reads p k t at
+  pub reads-are : (k at : ℕ) (xs : List A) (m : ℕ) → at ≤ length t → Got (counted [] _∷_ p k) t at xs m → Values p k t at
   reads-are k at xs m h g = record {
     here = h;
     read = subst (λ (ys : List A). Got (counted [] _∷_ p k) t at ys (valuesEnd p k t at)) (sym (reads-list k at xs m g))
@@ -41,11 +41,11 @@ module _ {A : Type 0} (p : Parser A) (t : List ℕ) where
     pub value : A
     pub next : ℕ
     pub one : Got p t at value next
-    pub rest : Reads p (k - 1) t next
+    pub rest : Values p (k - 1) t next
     pub list : valuesFrom p k t at ≡ value ∷ valuesFrom p (k - 1) t next
     pub ends : valuesEnd p k t at ≡ valuesEnd p (k - 1) t next
 
-  pub reads-first : Takes p → (k at : ℕ) → 0 < k → Reads p k t at → First k at
+  pub reads-first : Takes p → (k at : ℕ) → 0 < k → Values p k t at → First k at
   reads-first tp k at h r =
       let v = counted-view p tp k t at _ _ h (r .here) (r .read) in
       let g = v .5 in
@@ -59,7 +59,7 @@ module _ {A : Type 0} (p : Parser A) (t : List ℕ) where
       }
 
   -- none of them
-  pub reads-none : (k at : ℕ) → k ≤ 0 → Reads p k t at → (valuesFrom p k t at ≡ []) × (valuesEnd p k t at ≡ at)
+  pub reads-none : (k at : ℕ) → k ≤ 0 → Values p k t at → (valuesFrom p k t at ≡ []) × (valuesEnd p k t at ≡ at)
   unfolding counted
   reads-none zero at h r = let e = give-view [] t at _ _ (r .here) (r .read) in (e .0, e .1)
   reads-none (suc k) at h r = absurd (omega arith)
@@ -74,12 +74,12 @@ found-same o op a b m i q e f =
 -- the instruction that was found, and the rest
 pub record Stepped (t : List ℕ) (n at op a b m : ℕ) : Type 0 where
   pub one : Got instruction t at (instr op a b) m
-  pub rest : Reads instruction (n - 1) t m
+  pub rest : Values instruction (n - 1) t m
   pub list : codeFrom n t at ≡ instr op a b ∷ codeFrom (n - 1) t m
   pub ends : valuesEnd instruction n t at ≡ valuesEnd instruction (n - 1) t m
   pub further : at < m
 
-module _ (t : List ℕ) (n at : ℕ) (h : 0 < n) (r : Reads instruction n t at) where
+module _ (t : List ℕ) (n at : ℕ) (h : 0 < n) (r : Values instruction n t at) where
   pub stepped : (op a b m : ℕ) → foundAt t at ≡ Instruction op a b m → Stepped t n at op a b m
   stepped op a b m e =
       let f = reads-first instruction t takes-instruction n at h r in
@@ -89,7 +89,7 @@ module _ (t : List ℕ) (n at : ℕ) (h : 0 < n) (r : Reads instruction n t at) 
       let v₄ = v .4 in
       record {
         one = g;
-        rest = subst (λ (q : ℕ). Reads instruction (n - 1) t q) (s .1) (f .rest);
+        rest = subst (λ (q : ℕ). Values instruction (n - 1) t q) (s .1) (f .rest);
         list = f .list ∙ ap₂ (λ (i : Instr) (q : ℕ). i ∷ codeFrom (n - 1) t q) (s .0) (s .1);
         ends = f .ends ∙ ap (valuesEnd instruction (n - 1) t) (s .1);
         further = omega arith;
@@ -102,12 +102,12 @@ module _ (t : List ℕ) (n at : ℕ) (h : 0 < n) (r : Reads instruction n t at) 
       let z : _≡_ {A = ℕ} 0 1 = cc in omega arith
 
 -- they have a byte each
-pub code-many : (t : List ℕ) (n at : ℕ) → Reads instruction n t at → at + n ≤ valuesEnd instruction n t at
+pub code-many : (t : List ℕ) (n at : ℕ) → Values instruction n t at → at + n ≤ valuesEnd instruction n t at
 code-many t zero at r = let e = reads-none instruction t zero at (omega arith) r .1 in omega arith
 code-many t (suc n) at r =
     let f = reads-first instruction t takes-instruction (suc n) at (omega arith) r in
     let z : suc n - 1 ≡ n = omega arith in
-    let k = code-many t n (f .next) (subst (λ (j : ℕ). Reads instruction j t (f .next)) z (f .rest)) in
+    let k = code-many t n (f .next) (subst (λ (j : ℕ). Values instruction j t (f .next)) z (f .rest)) in
     let e = f .ends ∙ ap (λ (j : ℕ). valuesEnd instruction j t (f .next)) z in
     let v = instruction-view t at (f .value) (f .next) (r .here) (f .one) .4 in
     omega arith
@@ -118,18 +118,18 @@ code-many t (suc n) at r =
 pub record Function-here (t : List ℕ) (k at n : ℕ) : Type 0 where
   pub function : Function
   pub head : at + 7 ≤ length t
-  pub code : Reads instruction n t (at + 7)
+  pub code : Values instruction n t (at + 7)
   pub code-is : codeFrom n t (at + 7) ≡ function .code
   pub count : n ≡ length (function .code)
-  pub rest : Reads functionRecord (k - 1) t (valuesEnd instruction n t (at + 7))
-  pub list : valuesFrom functionRecord k t at ≡ function ∷ valuesFrom functionRecord (k - 1) t (valuesEnd instruction n t (at + 7))
+  pub rest : Values functionRecord (k - 1) t (valuesEnd instruction n t (at + 7))
+  pub list : functionsFrom k t at ≡ function ∷ functionsFrom (k - 1) t (valuesEnd instruction n t (at + 7))
   pub ends : valuesEnd functionRecord k t at ≡ valuesEnd functionRecord (k - 1) t (valuesEnd instruction n t (at + 7))
 
-pub function-head : (t : List ℕ) (k at : ℕ) → 0 < k → Reads functionRecord k t at → at + 7 ≤ length t
+pub function-head : (t : List ℕ) (k at : ℕ) → 0 < k → Values functionRecord k t at → at + 7 ≤ length t
 function-head t k at h r =
     let f = reads-first functionRecord t takes-function k at h r in function-view t at (f .value) (f .next) (r .here) (f .one) .0
 
-pub function-here : (t : List ℕ) (k at n : ℕ) → 0 < k → Reads functionRecord k t at → n ≡ numberAt 2 t (at + 5) → Function-here t k at n
+pub function-here : (t : List ℕ) (k at n : ℕ) → 0 < k → Values functionRecord k t at → n ≡ numberAt 2 t (at + 5) → Function-here t k at n
 function-here t k at n h r e =
     let f = reads-first functionRecord t takes-function k at h r in
     let v = function-view t at (f .value) (f .next) (r .here) (f .one) in
@@ -141,14 +141,14 @@ function-here t k at n h r e =
       code = reads-are instruction t n (at + 7) _ _ (v .0) g;
       code-is = reads-list instruction t n (at + 7) _ _ g;
       count = e ∙ v .1;
-      rest = subst (λ (j : ℕ). Reads functionRecord (k - 1) t j) (sym q) (f .rest);
-      list = f .list ∙ ap (λ (j : ℕ). f .value ∷ valuesFrom functionRecord (k - 1) t j) (sym q);
+      rest = subst (λ (j : ℕ). Values functionRecord (k - 1) t j) (sym q) (f .rest);
+      list = f .list ∙ ap (λ (j : ℕ). f .value ∷ functionsFrom (k - 1) t j) (sym q);
       ends = f .ends ∙ ap (valuesEnd functionRecord (k - 1) t) (sym q);
     }
 
 -- the functions of a module
 pub functions-read : (t : List ℕ) (at : ℕ) (fs : List Function) (m n : ℕ) → at ≤ length t → Got (listOf 2 functionRecord) t at fs m → n ≡ numberAt 2 t at →
-    (at + 2 ≤ length t) × Reads functionRecord n t (at + 2) × (valuesFrom functionRecord n t (at + 2) ≡ fs) × (n ≡ length fs)
+    (at + 2 ≤ length t) × Values functionRecord n t (at + 2) × (functionsFrom n t (at + 2) ≡ fs) × (n ≡ length fs)
 functions-read t at fs m n h g e =
     let v = list-view functionRecord takes-function t at fs m h g in
     let k : Got (counted [] _∷_ functionRecord n) t (at + 2) fs m = subst (λ (j : ℕ). Got (counted [] _∷_ functionRecord j) t (at + 2) fs m) (sym (e ∙ v .1)) (v .2) in

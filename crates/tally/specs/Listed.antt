@@ -13,6 +13,6 @@ said (Written n) = accepted n
 said (Refused q) = refused q
 
 -- the answer, and the output after it
-pub record Lists (r : Listed) (want : Writing) (left : List ℕ) : Type 0 where
+pub record Printed (r : Listed) (want : Writing) (left : List ℕ) : Type 0 where
   pub answer : said r ≡ want .answer
   pub output : left ≡ want .output

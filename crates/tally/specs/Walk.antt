@@ -6,6 +6,7 @@ use lib.ListN.{length, drop}
 use Rattle.definitions.specs.Bytes.{Parsed, got, failed, Parser, counted, listOf, accepted}
 use Rattle.definitions.specs.Instruction.{Instr}
 use Rattle.definitions.specs.Reader.{instruction, functionRecord, readModule}
+use Rattle.definitions.specs.Tables.{Function}
 use Rattle.reader.specs.View.{Got, tablesOf}
 
 -- the values that were read, and where the bytes after them begin, of n
@@ -25,13 +26,16 @@ unfoldable pub valuesEnd : {A : Type 0} → Parser A → ℕ → List ℕ → �
 valuesEnd p k t at = readEnd (length t) (counted [] _∷_ p k (drop at t))
 
 -- they are there
-pub record Reads {A : Type 0} (p : Parser A) (k : ℕ) (t : List ℕ) (at : ℕ) : Type 0 where
+pub record Values {A : Type 0} (p : Parser A) (k : ℕ) (t : List ℕ) (at : ℕ) : Type 0 where
   pub here : at ≤ length t
   pub read : Got (counted [] _∷_ p k) t at (valuesFrom p k t at) (valuesEnd p k t at)
 
--- n instructions from `at` on
+-- n instructions from `at` on; n functions
 abbrev pub codeFrom : ℕ → List ℕ → ℕ → List Instr
 codeFrom n t at = valuesFrom instruction n t at
+
+abbrev pub functionsFrom : ℕ → List ℕ → ℕ → List Function
+functionsFrom n t at = valuesFrom functionRecord n t at
 
 -- an accepted module, whose functions begin at `at`, with their count
 pub record FunctionsAt (t : List ℕ) (at : ℕ) : Type 0 where

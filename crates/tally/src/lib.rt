@@ -7,7 +7,7 @@ ghost use Prim.Native.Nat.{_≤_};
 ghost use lib.ListN.{length};
 ghost use Rattle.definitions.specs.Module.{instructions};
 ghost use Rattle.definitions.specs.Reader.{functionRecord, instruction};
-ghost use Rattle.tally.specs.Walk.{Reads, valuesFrom, valuesEnd};
+ghost use Rattle.tally.specs.Walk.{Values, valuesEnd, functionsFrom};
 
 // The count of bytes of a text about a module, or a refusal.
 pub enum Listed {
@@ -21,8 +21,8 @@ pub const COUNT: usize = 5;
 pub const CODE: usize = 7;
 
 // Where the bytes after n instructions begin, from `at` on.
-pub fn skip_code(bytes: &[u8], at: usize, n: u64) -> usize
-    requires { ⌜ Reads instruction n (now bytes) at ⌝ }
+fn skip_code(bytes: &[u8], at: usize, n: u64) -> usize
+    requires { ⌜ Values instruction n (now bytes) at ⌝ }
     ensures { λ r. ⌜ r ≡ valuesEnd instruction n (now (bytes .entry)) at ⌝ }
 {
     let mut p = at;
@@ -40,8 +40,8 @@ pub fn skip_code(bytes: &[u8], at: usize, n: u64) -> usize
 
 // The instructions of `count` functions from `at` on.
 pub fn count_functions(bytes: &[u8], at: usize, count: u64) -> u64
-    requires { ⌜ Reads functionRecord count (now bytes) at ⌝ }
-    ensures { λ r. ⌜ (r ≡ instructions (valuesFrom functionRecord count (now (bytes .entry)) at)) × (r ≤ length (now (bytes .entry))) ⌝ }
+    requires { ⌜ Values functionRecord count (now bytes) at ⌝ }
+    ensures { λ r. ⌜ (r ≡ instructions (functionsFrom count (now (bytes .entry)) at)) × (r ≤ length (now (bytes .entry))) ⌝ }
 {
     let mut p = at;
     let mut left = count;

@@ -1,6 +1,6 @@
 use borrow.Author.Needs.{needs}
-use Rattle.definitions.proofs.Listing.{jump-below}
-use Rattle.listing.proofs.Fields.{is-jump, below-jump, above-jump, first-blank, first-long, first-bits, first-jump, first-plain}
+use Rattle.definitions.proofs.Listing.{is-jump, jump-below}
+use Rattle.listing.proofs.Fields.{below-jump, above-jump, first-blank, first-long, first-bits, first-jump, first-plain}
 use Rattle.listing.proofs.lines.first_shown.Statement.{statement}
 use Rattle.listing.proofs.lines.first_shown.Tie as tie
 
