@@ -31,7 +31,7 @@ use Rattle.tally.specs.declared.Listed.the-variants.{Written, Refused as NotWri
 use Rattle.run.specs.Pass.{said as ranSaid, Called}
 use Rattle.run.specs.declared.Outcome.{Outcome}
 use Rattle.run.specs.declared.Outcome.the-variants.{Finished, Refused as NotRun}
-use Rattle.exports.specs.Told.{told, toldCount, toldPart, fourIn, countsIn, Lowers, Prints, Runs}
+use Rattle.exports.specs.Told.{told, toldCount, toldPart, fourIn, countsIn, Few, Lowers, Prints, Runs}
 
 -- ---- a tree
 
@@ -104,22 +104,33 @@ code-no r t f q L e = ap toldPart (sym (ap saidPart e) ∙ L .is)
 
 -- ---- a text about a module
 
+pub tell-few : (r : Listed) (n : ℕ) → Few (textSaid r) → r ≡ Written n → n < 2 ^ 63
+unfolding textSaid
+tell-few r n h e = h n (ap textSaid e)
+
+pub tell-yes : (r : Listed) (n : ℕ) → r ≡ Written n → 4294967296 + n ≡ toldCount (textSaid r)
+unfolding textSaid toldCount
+tell-yes r n e = sym (ap (λ (x : Listed). toldCount (textSaid x)) e)
+
+pub tell-no : (r : Listed) (q : ℕ) → r ≡ NotWritten q → q ≡ toldCount (textSaid r)
+unfolding textSaid toldCount
+tell-no r q e = sym (ap (λ (x : Listed). toldCount (textSaid x)) e)
+
+-- what is written fits the output
 module _ (q : ℕ) (f : Tables → List ℕ) (r : Listed) (t out out′ : List ℕ) (L : Printed r (textCall q f t out) out′) where
-  pub text-fits : (n : ℕ) → r ≡ Written n → n ≤ length out
-  unfolding textSaid textCall textAnswer textFits countAnswer whenAccepted
-  text-fits n e = go (readModule t) (sym (L .answer) ∙ ap textSaid e)
+  text-fits : (n : ℕ) → textSaid r ≡ accepted n → n ≤ length out
+  unfolding textCall textAnswer textFits countAnswer whenAccepted
+  text-fits n e = go (readModule t) (sym (L .answer) ∙ e)
     where
       go : (a : Answer Tables) → countAnswer (whenAccepted a (λ x. textFits q (length out) (f x))) ≡ accepted n → n ≤ length out
       go (refused p) k = let z : _≡_ {A = ℕ} 0 1 = cc in absurd (omega arith)
       go (accepted x) k = room-count q (length out) (f x) n (leb (length (f x)) (length out)) refl k
 
-  pub text-yes : (n : ℕ) → r ≡ Written n → Prints (4294967296 + n) (textCall q f t out) out′
-  unfolding textSaid toldCount
-  text-yes n e = record { answer = ap toldCount (sym (ap textSaid e) ∙ L .answer); output = L .output }
+  pub text-few : length out < 2 ^ 63 → Few (textSaid r)
+  text-few h n e = let k = text-fits n e in omega arith
 
-  pub text-no : (p : ℕ) → r ≡ NotWritten p → Prints p (textCall q f t out) out′
-  unfolding textSaid toldCount
-  text-no p e = record { answer = ap toldCount (sym (ap textSaid e) ∙ L .answer); output = L .output }
+  pub text-told : (a : ℕ) → a ≡ toldCount (textSaid r) → Prints a (textCall q f t out) out′
+  text-told a e = record { answer = e ∙ ap toldCount (L .answer); output = L .output }
 
 -- ---- a run
 
