@@ -1,6 +1,6 @@
 /*
  * Rulketoos for C and for languages that call C: pyhyeon scripts' trees and
- * modules, checked, lowered, read and run by proved code.
+ * modules, checked, lowered, read, listed and run by proved code.
  *
  * Link target/staticlib/libexports.a, which `rt staticlib exports` writes.
  * A slice is a pointer and a length; the caller owns all memory, nothing is
@@ -29,7 +29,7 @@ uint32_t rulketoos_check(const uint8_t *tree, size_t tree_len);
 /* The least length of each work area, in numbers. */
 enum { RULKETOOS_AREA = 16384 };
 
-/* What is added to the count of bytes that rulketoos_lower answers. */
+/* What is added to the count of bytes that a call answers which writes some. */
 #define RULKETOOS_WROTE (UINT64_C(1) << 32)
 
 /*
@@ -57,6 +57,19 @@ uint32_t rulketoos_read(const uint8_t *module, size_t module_len);
  * Reads only.
  */
 uint64_t rulketoos_code(const uint8_t *module, size_t module_len, uint64_t function);
+
+/*
+ * Writes the code listing of a module record, for printing, to out from the
+ * first byte on; what is past it is left as it was. Each line has 52 characters
+ * and a line feed: function, place, instruction and operands of an instruction,
+ * with a page line before each 50 of them (docs/FORMAT.md). Answers
+ * RULKETOOS_WROTE plus the count of bytes written; or, below RULKETOOS_WROTE, the
+ * refusal, 17 to 21 or 31 (the listing doesn't fit out), with out left as it was.
+ *
+ * The listing of n instructions has 53 * (n + (n + 49) / 50) bytes, and n is less
+ * than module_len.
+ */
+uint64_t rulketoos_list(const uint8_t *module, size_t module_len, uint8_t *out, size_t out_len);
 
 /* What rulketoos_run leaves in numbers. */
 enum {

@@ -1,4 +1,4 @@
-/* Calls the library from C: lowers a tree, reads a module, finds a function's code, runs it. */
+/* Calls the library from C: lowers a tree, reads and lists a module, finds a function's code, runs it. */
 #include "rulketoos.h"
 
 #include <stdio.h>
@@ -23,7 +23,7 @@ static const uint8_t iterator_tree[] = {
 
 static uint32_t area1[RULKETOOS_AREA];
 static uint32_t area2[RULKETOOS_AREA];
-static uint8_t out[64];
+static uint8_t out[512];
 
 static int failures;
 
@@ -88,6 +88,31 @@ static void lowers(void)
     expect(all_bytes(out, sizeof out, 9) && areas_are(7), "the output and the areas are as they were");
 }
 
+/* the listing of the loop */
+static const char listing[] =
+    "PAGE      1                                         \n"
+    "    0     0 True                                    \n"
+    "    0     1 JumpIfFalse                        2    \n"
+    "    0     2 Jump                               1    \n"
+    "    0     3 Jump                              -4    \n"
+    "    0     4 Return                                  \n";
+
+static void lists(void)
+{
+    size_t size = sizeof listing - 1;
+    memset(out, 9, sizeof out);
+    uint64_t answer = rulketoos_list(loop_module, sizeof loop_module, out, sizeof out);
+    expect(answer == RULKETOOS_WROTE + size, "a module is listed");
+    expect(memcmp(out, listing, size) == 0, "its listing is there");
+    expect(all_bytes(out + size, sizeof out - size, 9), "the rest of the output is untouched");
+    memset(out, 9, sizeof out);
+    answer = rulketoos_list(loop_module, sizeof loop_module, out, size - 1);
+    expect(answer == 31, "a shorter output is refused by 31");
+    expect(all_bytes(out, sizeof out, 9), "the output is as it was");
+    answer = rulketoos_list(loop_module, sizeof loop_module - 1, out, sizeof out);
+    expect(answer == 17, "a module that is cut isn't listed, by 17");
+}
+
 int main(void)
 {
     uint8_t events[4] = {9, 9, 9, 9};
@@ -99,6 +124,7 @@ int main(void)
     lowers();
     expect(rulketoos_read(module, sizeof module) == 0, "the module is accepted");
     expect(rulketoos_read(module, sizeof module - 1) == 17, "a module that is cut is refused by 17");
+    lists();
 
     uint64_t code = rulketoos_code(module, sizeof module, 0);
     expect(code >> 32 == 27 && (uint32_t)code == 1, "the code of function 0 is one byte at 27");

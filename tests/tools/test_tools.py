@@ -1,4 +1,4 @@
-"""Tests of the tools that a person uses: a script's text to a tree record, a module record to text."""
+"""Tests of the tools that a person uses: a script's text to a tree record, and the building of the command."""
 
 import os
 import pathlib
@@ -12,7 +12,6 @@ import unittest
 ROOT = pathlib.Path(__file__).resolve().parents[2]
 sys.path.insert(0, str(ROOT / "tools"))
 
-import listing  # noqa: E402
 import tree_of  # noqa: E402
 
 SAMPLES = sorted((ROOT / "samples").glob("*.py"))
@@ -186,41 +185,6 @@ class TreeOf(unittest.TestCase):
                 latin = run("tree_of.py", ["-"], terminal, "'é'".encode("latin-1"))
                 self.assertEqual((latin.returncode, latin.stdout), (1, b""))
                 self.assertIn(b"not UTF-8", latin.stderr)
-
-
-def one_string(data):
-    """A module of a string of two bytes alone."""
-    return bytes([0, 0, 0, 15, 1, 0, 0, 0, 1, 0, 2]) + data + bytes(6)
-
-
-class Listing(unittest.TestCase):
-    def test_samples(self):
-        for script in SAMPLES:
-            with self.subTest(script=script.name):
-                tables = listing.module(script.with_suffix(".module").read_bytes())
-                text = "".join(line + "\n" for line in listing.lines(tables))
-                self.assertEqual(text, script.with_suffix(".listing").read_text(encoding="utf-8"))
-
-    def test_characters(self):
-        text = (ROOT / "samples" / "papers.listing").read_text(encoding="utf-8")
-        for word in ("'Büttenpapier'", "'和紙'", "'🗞'", '"vélin d\'Arches"'):
-            self.assertIn(word, text)
-
-    def test_command(self):
-        module = ROOT / "samples" / "papers.module"
-        for terminal in TERMINALS:
-            with self.subTest(terminal=terminal):
-                shown = run("listing.py", [str(module)], terminal)
-                expected = module.with_suffix(".listing").read_bytes()
-                self.assertEqual((shown.returncode, shown.stdout), (0, expected))
-
-    def test_string(self):
-        self.assertEqual(listing.module(one_string(b"\xc3\xa9"))[1], ["é"])
-
-    def test_no_module(self):
-        for data in (b"", b"\x00\x00\x00\x01\x01", b"\x00\x00\x00\x00", one_string(b"\xc0\x80")):
-            with self.subTest(data=data), self.assertRaises(ValueError):
-                listing.module(data)
 
 
 # what stands in for rt: it proves two crates, or fails at the second

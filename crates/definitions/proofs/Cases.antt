@@ -11,7 +11,8 @@ use Rattle.definitions.specs.Module.{nameBytes, moduleBytes}
 use Rattle.definitions.specs.Reader.{readModule}
 use Rattle.definitions.specs.Samples.{Sample, sample, holds, passes, refusal, functionIs, tree, named, variable, noneE, exprS, passS, forS, defS, defWith, returnS, classS, methodOf, assignS, listE, tupleE, lambdaE}
 use Rattle.definitions.specs.Tree.{listD}
-use Rattle.definitions.specs.Instruction.{LoadLocal, LoadGlobal, MakeClosure, Build, Return, ConstI64, Dup, LoadIndex, StoreLocal}
+use Rattle.definitions.specs.Instruction.{LoadLocal, LoadGlobal, MakeClosure, Build, Return, ConstI64, ConstF64, Dup, LoadIndex, StoreLocal, Jump, JumpIfFalse, CallValue, minus}
+use Rattle.definitions.specs.Listing.{codeLine, pageLine, listing}
 use Rattle.definitions.specs.Open.{everything}
 
 abbrev iterator : String
@@ -123,3 +124,39 @@ r1 =
 r1-holds : all holds r1 ≡ true
 unfolding everything r1
 r1-holds = refl
+
+-- R-2: the smallest and the largest integer, a float, a jump back and one ahead, two operands, CallValue's count in the first operand's columns, no operand;
+-- the first line of a page. A module without functions has no page
+unfoldable r2 : List (List ℕ)
+r2 =
+    codeLine 0 0 (ConstI64 9223372036854775808)
+    ∷ codeLine 1 9 (ConstI64 9223372036854775807)
+    ∷ codeLine 255 31 (ConstF64 18442225394064168022)
+    ∷ codeLine 7 12 (JumpIfFalse (minus 5))
+    ∷ codeLine 7 13 (Jump 41)
+    ∷ codeLine 65534 65534 (MakeClosure 65534 255)
+    ∷ codeLine 2 3 (CallValue 255)
+    ∷ codeLine 2 4 Return
+    ∷ pageLine 10486
+    ∷ []
+
+unfoldable r2-lines : List String
+r2-lines =
+    "    0     0 ConstI64        -9223372036854775808    "
+    ∷ "    1     9 ConstI64         9223372036854775807    "
+    ∷ "  255    31 ConstF64            FFEFF248E8E21456    "
+    ∷ "    7    12 JumpIfFalse                       -5    "
+    ∷ "    7    13 Jump                              41    "
+    ∷ "65534 65534 MakeClosure                    65534 255"
+    ∷ "    2     3 CallValue                        255    "
+    ∷ "    2     4 Return                                  "
+    ∷ "PAGE  10486                                         "
+    ∷ []
+
+r2-holds : r2 ≡ map (λ (s : String). ascii s ++ 10 ∷ []) r2-lines
+unfolding everything r2 r2-lines
+r2-holds = refl
+
+r2-empty : listing (record { symbols = []; strings = []; functions = []; classes = []; constants = [] }) ≡ []
+unfolding everything
+r2-empty = refl

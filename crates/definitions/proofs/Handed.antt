@@ -47,7 +47,7 @@ writes-method =
     writes-bind _ (writes-number 2) (λ f fs k.
     writes-give _ (rw (h, k, append-nil))))
 
-writes-class : Writes (λ c xs. xs ≡ classBytes c) classRecord
+pub writes-class : Writes (λ c xs. xs ≡ classBytes c) classRecord
 unfolding classRecord classBytes
 writes-class =
     writes-bind _ (writes-checked isName writes-name) (λ x xs h.
@@ -82,16 +82,28 @@ house-is : (m rest : List ℕ) (t : Tables) → m ≡ housed rest → rest ≡ t
 unfolding moduleBytes
 house-is m rest t h e = h ∙ ap housed e
 
-pub readIsWritten : ReadIsWritten
+-- the tables of an accepted module are read from the bytes after its head
+pub record Within (m : List ℕ) (t : Tables) : Type 0 where
+  pub rest : List ℕ
+  pub whole : m ≡ housed rest
+  pub bytes : areBytes rest ≡ true
+  pub read : moduleRecord rest ≡ got t []
+
+pub within : (m : List ℕ) (t : Tables) → areBytes m ≡ true → readModule m ≡ accepted t → Within m t
 unfolding readModule
-readIsWritten m t o e = go (leb (length m) 524288) e
+within m t o e = go (leb (length m) 524288) e
   where
-    go : (c : Bool) → (elim c as (λ z. Answer Tables) [ true ↦ unhouse 17 18 (λ rest. wholeModule (moduleRecord rest)) m | false ↦ refused 17 ]) ≡ accepted t → m ≡ moduleBytes t
+    go : (c : Bool) → (elim c as (λ z. Answer Tables) [ true ↦ unhouse 17 18 (λ rest. wholeModule (moduleRecord rest)) m | false ↦ refused 17 ]) ≡ accepted t → Within m t
     go false h = let z : _≡_ {A = ℕ} 0 1 = cc in absurd (omega arith)
     go true h =
         let I = in-house 17 18 (λ rest. wholeModule (moduleRecord rest)) m t o h in
-        let K = writes-tables .at (I .rest) (I .bytes) t [] (whole-got (moduleRecord (I .rest)) t (I .gives)) in
-        house-is m (I .rest) t (I .whole) (K .splits ∙ rw append-nil (K .fact))
+        record { rest = I .rest; whole = I .whole; bytes = I .bytes; read = whole-got (moduleRecord (I .rest)) t (I .gives) }
+
+pub readIsWritten : ReadIsWritten
+readIsWritten m t o e =
+    let W = within m t o e in
+    let K = writes-tables .at (W .rest) (W .bytes) t [] (W .read) in
+    house-is m (W .rest) t (W .whole) (K .splits ∙ rw append-nil (K .fact))
 
 -- ---- where a part stands
 

@@ -44,7 +44,7 @@ constants-room [] = refl
 constants-room (k ∷ ks) = simp (length-append, length-be) (omega (arith, constants-room ks))
 
 -- an instruction has at most ten bytes, one of them its number
-operands-room : (op : ℕ) → (firstWidth op ≤ 8) × (secondWidth op ≤ 1)
+pub operands-room : (op : ℕ) → (firstWidth op ≤ 8) × (secondWidth op ≤ 1)
 unfolding allInstruction all
 operands-room op =
     let e = all-getD (λ (r : Row). leb (r .first) 8 && leb (r .second) 1) instructionTable refl op (row "" 0 0 nothing) refl in
@@ -66,7 +66,7 @@ functions-room (f ∷ fs) = omega (arith, functions-room fs, function-room f, le
 
 -- ---- the whole
 
-length-tables : (t : Tables) → length (tableBytes t) ≡ 10 + length (concat nameBytes (t .symbols)) + length (concat textBytes (t .strings)) + length (concat functionBytes (t .functions)) + length (concat classBytes (t .classes)) + length (concat (be 2) (t .constants))
+pub length-tables : (t : Tables) → length (tableBytes t) ≡ 10 + length (concat nameBytes (t .symbols)) + length (concat textBytes (t .strings)) + length (concat functionBytes (t .functions)) + length (concat classBytes (t .classes)) + length (concat (be 2) (t .constants))
 unfolding tableBytes
 length-tables t = simp (length-append, length-list) (omega arith)
 

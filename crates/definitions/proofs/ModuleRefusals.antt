@@ -1,4 +1,4 @@
--- The reader, the hand-back of code and the run refuse by the first question answered no, and accept where none is.
+-- The reader, the hand-back of code, the run and the texts about a module refuse by the first question answered no, and accept where none is.
 use mathlib.Core.Path.{_≡_, refl, ap, _∙_}
 use mathlib.Core.Bool.{Bool, true, false, _&&_}
 use mathlib.Core.Option.{Option, none, some}
@@ -12,8 +12,8 @@ use Rattle.definitions.specs.Tables.{Function, Tables}
 use Rattle.definitions.specs.Module.{codeStart}
 use Rattle.definitions.specs.Reader.{moduleRecord, numbersExist, codeStands, wholeModule, readModule}
 use Rattle.definitions.specs.Run.{Ran, run}
-use Rattle.definitions.specs.Calls.{readCall, functionOf, codePart, codeCall, areAnswers, eventsFit, runFunction, runAnswer}
-use Rattle.definitions.specs.Statements.{headCounts, firstRefusal, recordRead, laidOut, tablesRead, tablesIn, codeIn, readQuestions, codeQuestions, runIn, runQuestions, ReadRefusals, CodeRefusals, RunRefusals}
+use Rattle.definitions.specs.Calls.{readCall, functionOf, codePart, codeCall, areAnswers, eventsFit, runFunction, runAnswer, textFits, textAnswer}
+use Rattle.definitions.specs.Statements.{headCounts, firstRefusal, recordRead, laidOut, tablesRead, tablesIn, codeIn, readQuestions, codeQuestions, runIn, runQuestions, textQuestions, ReadRefusals, CodeRefusals, RunRefusals, TextRefusals}
 use Rattle.definitions.proofs.Refusals.{ask, ask-is, when-ask, head-asked, questioned, first-is}
 
 -- ---- 17 to 21: the reader
@@ -97,3 +97,11 @@ runRefusals m f answers budget room =
     λ is. ask (areAnswers answers) 23 (ask (leb (length (run budget is 0 answers .events)) room) 24 (accepted (run budget is 0 answers))) in
     rw first-is (read-then m (λ t. whenAccepted (functionOf t f) (runFunction answers budget room))
     ∙ ap (readThen m) (ap (whenAccepted (functionOf (tablesIn m) f)) (λ i g. run-asked answers budget room g i) ∙ when-function (tablesIn m) f after))
+
+-- ---- 31: a text about the module
+
+pub textRefusals : TextRefusals
+unfolding textAnswer textFits textQuestions questioned readThen readQuestions
+textRefusals q f m room =
+    let s = f (tablesIn m) in
+    rw first-is (read-then m (λ t. textFits q room (f t)) ∙ ap (readThen m) (ask-is (leb (length s) room) q (accepted s)))

@@ -72,7 +72,7 @@ writes-byte = record { at = go }
         }
 
 -- a weaker fact
-writes-weak : {A : Type 0} {R S : A → List ℕ → Type 0} {p : Parser A} → ((a : A) (xs : List ℕ) → R a xs → S a xs) → Writes R p → Writes S p
+pub writes-weak : {A : Type 0} {R S : A → List ℕ → Type 0} {p : Parser A} → ((a : A) (xs : List ℕ) → R a xs → S a xs) → Writes R p → Writes S p
 writes-weak f W = record {
   at = λ bs o a rest e.
       let K = W .at bs o a rest e in
@@ -100,7 +100,7 @@ unfolding be
 be-digit w c v h k = rw (digits-div c k, mod-eq-of-lt h, be-low w c v)
 
 -- a number of w bytes, which is below 256 ^ w
-writes-field : (w : ℕ) → Writes (λ v xs. (xs ≡ be w v) × (v < 256 ^ w)) (field w)
+pub writes-field : (w : ℕ) → Writes (λ v xs. (xs ≡ be w v) × (v < 256 ^ w)) (field w)
 unfolding field be
 writes-field zero = writes-give 0 (refl, omega arith)
 writes-field (suc w) =
@@ -152,14 +152,18 @@ writes-text = writes-bytes 2
 
 -- ---- a test
 
-writes-keep : {A : Type 0} (R : A → List ℕ → Type 0) (c : Bool) (a : A) (xs : List ℕ) → R a xs → Writes (λ b ys. R b (xs ++ ys)) (keep c a)
+writes-keep : {A : Type 0} (R : A → List ℕ → Type 0) (c : Bool) (a : A) (xs : List ℕ) → (c ≡ true → R a xs) → Writes (λ b ys. R b (xs ++ ys)) (keep c a)
 unfolding keep
-writes-keep R true a xs h = writes-give a (rw append-nil h)
+writes-keep R true a xs h = writes-give a (rw append-nil (h refl))
 writes-keep R false a xs h = writes-unread
 
-pub writes-checked : {A : Type 0} {R : A → List ℕ → Type 0} (test : A → Bool) {p : Parser A} → Writes R p → Writes R (checked test p)
+-- it is passed
+pub writes-tested : {A : Type 0} {R : A → List ℕ → Type 0} (test : A → Bool) {p : Parser A} → Writes R p → Writes (λ a xs. R a xs × (test a ≡ true)) (checked test p)
 unfolding checked
-writes-checked {R} test P = writes-bind _ P (λ a xs h. writes-keep R (test a) a xs h)
+writes-tested {R} test P = writes-bind _ P (λ a xs h. writes-keep (λ b ys. R b ys × (test b ≡ true)) (test a) a xs (λ e. (h, e)))
+
+pub writes-checked : {A : Type 0} {R : A → List ℕ → Type 0} (test : A → Bool) {p : Parser A} → Writes R p → Writes R (checked test p)
+writes-checked test P = writes-weak (λ a xs h. h .0) (writes-tested test P)
 
 -- ---- a house record
 

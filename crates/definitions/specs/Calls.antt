@@ -1,4 +1,4 @@
--- What each call answers and what it leaves in the slices lent to it: questions 1 and 16, 22 to 24, and the program `lower`.
+-- What each call answers and what it leaves in the slices lent to it: questions 1 and 16, 22 to 24, 31, and the program `lower`.
 use Prim.Native.Nat.{ℕ, zero, suc}
 use mathlib.Core.Bool.{Bool, true, false, _&&_}
 use mathlib.Core.Option.{Option, none, some}
@@ -11,6 +11,7 @@ use Rattle.definitions.specs.Instruction.{encodes}
 use Rattle.definitions.specs.Tables.{Function, Tables}
 use Rattle.definitions.specs.Module.{Limits, office, codeStart, lowerBytes}
 use Rattle.definitions.specs.Reader.{readModule}
+use Rattle.definitions.specs.Listing.{listing}
 use Rattle.definitions.specs.Run.{Ran, run}
 use Rattle.definitions.specs.Walk.{Walked, walk}
 
@@ -108,6 +109,30 @@ codeCall bs f = whenAccepted (readModule bs) (λ t. codePart t f)
 unfoldable pub handedBack : Answer Part → List ℕ → List ℕ
 handedBack (refused q) bs = []
 handedBack (accepted p) bs = partOf p bs
+
+-- ---- texts about a module
+
+-- question q: the text fits the output
+unfoldable pub textFits : ℕ → ℕ → List ℕ → Answer (List ℕ)
+textFits q room s = elim (leb (length s) room) [ true ↦ accepted s | false ↦ refused q ]
+
+-- the text that f gives for a module's tables: the reader's questions, then q, by the length of the output
+unfoldable pub textAnswer : ℕ → (Tables → List ℕ) → List ℕ → ℕ → Answer (List ℕ)
+textAnswer q f bs room = whenAccepted (readModule bs) (λ t. textFits q room (f t))
+
+-- a call that writes a text: its answer, and the output after it
+pub record Writing : Type 0 where
+  pub answer : Answer ℕ
+  pub output : List ℕ
+
+unfoldable pub textCall : ℕ → (Tables → List ℕ) → List ℕ → List ℕ → Writing
+textCall q f bs output =
+    let a = textAnswer q f bs (length output) in
+    record { answer = countAnswer a; output = outputAfter a output }
+
+-- the code listing: questions 17 to 21 and 31
+unfoldable pub listCall : List ℕ → List ℕ → Writing
+listCall bs output = textCall 31 listing bs output
 
 -- ---- the run
 

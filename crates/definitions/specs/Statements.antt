@@ -1,5 +1,5 @@
 -- The theorems about the definitions, as statements. Each is proved, under the same name in small letters, in the module of proofs/ that is named here.
-use Prim.Native.Nat.{ℕ, zero, suc, _+_, _*_, _≤_, _<_}
+use Prim.Native.Nat.{ℕ, zero, suc, _+_, _*_, _/_, _≤_, _<_}
 use Prim.Native.String.{String}
 use mathlib.Core.Path.{_≡_}
 use mathlib.Core.Bool.{Bool, true, false, not, _&&_, _||_}
@@ -8,7 +8,7 @@ use mathlib.Core.List.{List, [], _∷_, _++_, map}
 use lib.ListN.{length, getD, getElem?, take, drop}
 use lib.Dec.{eqb, leb, ltb}
 use lib.Pow.{areBytes}
-use Rattle.definitions.specs.Bytes.{Name, member, Answer, refused, accepted, Parsed, got, failed, field, all, concat}
+use Rattle.definitions.specs.Bytes.{Name, decimal, member, Answer, refused, accepted, Parsed, got, failed, field, all, concat}
 use Rattle.definitions.specs.Utf8.{Range, inRange, Octets, utf8Char, isUtf8, isScalar, encodeChar}
 use Rattle.definitions.specs.Tree.{BinaryOp, addOp, subtractOp, multiplyOp, divideOp, floorDivideOp, moduloOp, equalOp, notEqualOp, lessOp, lessEqualOp, greaterOp, greaterEqualOp}
 use Rattle.definitions.specs.Tree.{binaryNumber, UnaryOp, LogicalOp, Display, Expr, lit, var, unary, binary, logical, call, attr, display, index, lambda, Exprs, []ᵉ, _∷ᵉ_}
@@ -21,11 +21,12 @@ use Rattle.definitions.specs.Instruction.{Instr, StoreGlobal, Row, rowOf
 use Rattle.definitions.specs.Tables.{Function, Tables, Body, blockBody, Source}
 use Rattle.definitions.specs.Lower.{iterName, noTables, compile, emitBody}
 use Rattle.definitions.specs.Bodies.{bodies}
-use Rattle.definitions.specs.Module.{Limits, office, moduleBytes, codeStart, slotsFit, tablesFit, lowerBlock, lowerTables, lowerBytes}
+use Rattle.definitions.specs.Module.{Limits, office, moduleBytes, codeStart, instructions, slotsFit, tablesFit, lowerBlock, lowerTables, lowerBytes}
 use Rattle.definitions.specs.Reader.{moduleRecord, numbersExist, codeStands, readModule}
+use Rattle.definitions.specs.Listing.{firstText, secondText, nameText, codeLine, pageLine, listing}
 use Rattle.definitions.specs.Run.{Ran, run}
 use Rattle.definitions.specs.Walk.{Walked, endingNumber, walk}
-use Rattle.definitions.specs.Calls.{areasFit, areAnswers, lowerAnswer, readCall, Part, partOf, codeCall, runAnswer, walkTree}
+use Rattle.definitions.specs.Calls.{areasFit, areAnswers, lowerAnswer, readCall, Part, partOf, codeCall, textAnswer, runAnswer, walkTree}
 use Rattle.definitions.specs.Samples.{samples, holds}
 
 -- ---- the starred samples: proofs/Samples
@@ -136,7 +137,7 @@ abbrev pub Refusals : Type 0
 Refusals =
     (l : Limits) (m n room : ℕ) (tree : List ℕ) → lowerAnswer l m n room tree ≡ firstRefusal (lowerQuestions l m n room tree) (moduleOf tree)
 
--- ---- the same of the reader, of the hand-back of code and of the run: proofs/ModuleRefusals
+-- ---- the same of the reader, of the hand-back of code, of the run and of texts about a module: proofs/ModuleRefusals
 
 -- what the bytes after a module's head read as
 unfoldable pub recordRead : List ℕ → Parsed Tables
@@ -195,6 +196,13 @@ abbrev pub RunRefusals : Type 0
 RunRefusals =
     (m : List ℕ) (f : ℕ) (answers : List ℕ) (budget room : ℕ)
     → runAnswer m f answers budget room ≡ firstRefusal (runQuestions m f answers budget room) (runIn m f answers budget)
+
+-- those of a call that writes a text about a module, by the length of the output: 31 of the listing
+unfoldable pub textQuestions : ℕ → (Tables → List ℕ) → List ℕ → ℕ → List Question
+textQuestions q f m room = readQuestions m ++ asked q (leb (length (f (tablesIn m))) room) ∷ []
+
+abbrev pub TextRefusals : Type 0
+TextRefusals = (q : ℕ) (f : Tables → List ℕ) (m : List ℕ) (room : ℕ) → textAnswer q f m room ≡ firstRefusal (textQuestions q f m room) (f (tablesIn m))
 
 -- ---- 7 and 33 are asked of the names of a tree, of each and of nothing else: proofs/TreeNames
 
@@ -488,3 +496,49 @@ pub record Handed (m : List ℕ) (k : ℕ) (p : Part) : Type 0 where
 
 abbrev pub HandedCode : Type 0
 HandedCode = (m : List ℕ) (k : ℕ) (p : Part) → areBytes m ≡ true → codeCall m k ≡ accepted p → Handed m k p
+
+-- ---- the code listing: proofs/Listing
+
+-- the code lines of a function, from place p on; of functions, from number f on
+unfoldable pub codeTexts : ℕ → ℕ → List Instr → List (List ℕ)
+codeTexts f p [] = []
+codeTexts f p (i ∷ is) = codeLine f p i ∷ codeTexts f (suc p) is
+
+unfoldable pub functionTexts : ℕ → List Function → List (List ℕ)
+functionTexts f [] = []
+functionTexts f (g ∷ gs) = codeTexts f 0 (g .code) ++ functionTexts (suc f) gs
+
+-- at most so many pages, from number n on: each its first line and the next 50 lines, or as many as are left
+unfoldable pub pages : ℕ → ℕ → List (List ℕ) → List ℕ
+pages zero n ls = []
+pages (suc m) n [] = []
+pages (suc m) n (l ∷ ls) = pageLine n ++ (concat (λ (x : List ℕ). x) (take 50 (l ∷ ls)) ++ pages m (suc n) (drop 50 (l ∷ ls)))
+
+-- The listing is the code lines of the functions in pages of 50. There are as many as instructions, and that of the instruction at place p of function f
+-- stands after the lines of the functions before f and of the p instructions before it: so each instruction is listed once, in order
+pub record InOrder (t : Tables) : Type 0 where
+  pub paged : listing t ≡ pages (length (functionTexts 0 (t .functions))) 1 (functionTexts 0 (t .functions))
+  pub lines : length (functionTexts 0 (t .functions)) ≡ instructions (t .functions)
+  pub line :
+      (f p : ℕ) (g : Function) (i : Instr) → getElem? (t .functions) f ≡ some g → getElem? (g .code) p ≡ some i
+      → getElem? (functionTexts 0 (t .functions)) (instructions (take f (t .functions)) + p) ≡ some (codeLine f p i)
+
+abbrev pub ListingLines : Type 0
+ListingLines = (t : Tables) → InOrder t
+
+-- each text of a line fits its columns
+pub record LineFits (f p : ℕ) (i : Instr) : Type 0 where
+  pub function : length (decimal f) ≤ 5
+  pub place : length (decimal p) ≤ 5
+  pub name : length (nameText (i .op)) ≤ 15
+  pub first : length (firstText (i .op) (i .a)) ≤ 20
+  pub second : length (secondText (i .op) (i .b)) ≤ 3
+
+-- of every line and of every page's number; so the listing has 53 bytes for each code line and for each page, of which 50 lines or the last ones make one
+pub record ListingFits (t : Tables) : Type 0 where
+  pub line : (f p : ℕ) (g : Function) (i : Instr) → getElem? (t .functions) f ≡ some g → getElem? (g .code) p ≡ some i → LineFits f p i
+  pub page : (k : ℕ) → k < instructions (t .functions) → length (decimal (suc (k / 50))) ≤ 6
+  pub long : length (listing t) ≡ 53 * (instructions (t .functions) + (instructions (t .functions) + 49) / 50)
+
+abbrev pub ListingLength : Type 0
+ListingLength = (m : List ℕ) (t : Tables) → areBytes m ≡ true → readModule m ≡ accepted t → ListingFits t

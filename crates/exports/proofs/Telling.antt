@@ -12,7 +12,8 @@ use Rattle.definitions.specs.Instruction.{encodes}
 use Rattle.definitions.specs.Tables.{Function, Tables}
 use Rattle.definitions.specs.Reader.{readModule}
 use Rattle.definitions.specs.Module.{Limits, office, codeStart, lowerBytes}
-use Rattle.definitions.specs.Calls.{Part, Counts, Running, fitsRoom, areasFit, lowerAnswer, countAnswer, lowerCall, readCall, functionOf, codePart, codeCall, runCall}
+use Rattle.definitions.specs.Calls.{Part, Counts, Running, fitsRoom, areasFit, lowerAnswer, countAnswer, lowerCall, readCall, functionOf, codePart, codeCall, textFits, textAnswer, textCall, runCall}
+use Rattle.definitions.proofs.ReadFits.{module-short}
 use Rattle.tree.specs.Settled.{said, settled}
 use Rattle.tree.specs.declared.Checked.{Checked}
 use Rattle.tree.specs.declared.Checked.the-variants.{Accepted, Refused}
@@ -24,11 +25,13 @@ use Rattle.reader.specs.declared.Verdict.{Verdict}
 use Rattle.reader.specs.declared.Verdict.the-variants.{Accepted as Taken, Refused as NotTaken}
 use Rattle.reader.specs.declared.Located.{Located}
 use Rattle.reader.specs.declared.Located.the-variants.{Code, NoCode}
+use Rattle.tally.specs.Listed.{said as textSaid, Printed}
+use Rattle.tally.specs.declared.Listed.{Listed}
+use Rattle.tally.specs.declared.Listed.the-variants.{Written, Refused as NotWritten}
 use Rattle.run.specs.Pass.{said as ranSaid, Called}
-use Rattle.run.proofs.Calling.{module-short}
 use Rattle.run.specs.declared.Outcome.{Outcome}
 use Rattle.run.specs.declared.Outcome.the-variants.{Finished, Refused as NotRun}
-use Rattle.exports.specs.Told.{told, toldCount, toldPart, fourIn, countsIn, Lowers, Runs}
+use Rattle.exports.specs.Told.{told, toldCount, toldPart, fourIn, countsIn, Few, Lowers, Prints, Runs}
 
 -- ---- a tree
 
@@ -43,15 +46,15 @@ check-no r t q e f = ap told (sym (ap said f) ∙ e)
 -- ---- a tree's module
 
 -- what is written fits the output
-room-count : (room : ℕ) (bs : List ℕ) (n : ℕ) (b : Bool) → leb (length bs) room ≡ b → countAnswer (elim b as (λ z. Answer (List ℕ)) [ true ↦ accepted bs | false ↦ refused 16 ]) ≡ accepted n → n ≤ room
+room-count : (q room : ℕ) (bs : List ℕ) (n : ℕ) (b : Bool) → leb (length bs) room ≡ b → countAnswer (elim b as (λ z. Answer (List ℕ)) [ true ↦ accepted bs | false ↦ refused q ]) ≡ accepted n → n ≤ room
 unfolding countAnswer whenAccepted
-room-count room bs n true h e = let x : length bs ≡ n = cc in omega (arith, leb-true (length bs) room h)
-room-count room bs n false h e = let z : _≡_ {A = ℕ} 0 1 = cc in absurd (omega arith)
+room-count q room bs n true h e = let x : length bs ≡ n = cc in omega (arith, leb-true (length bs) room h)
+room-count q room bs n false h e = let z : _≡_ {A = ℕ} 0 1 = cc in absurd (omega arith)
 
 bytes-count : (room n : ℕ) (a : Answer (List ℕ)) → countAnswer (whenAccepted a (fitsRoom room)) ≡ accepted n → n ≤ room
 unfolding fitsRoom countAnswer whenAccepted
 bytes-count room n (refused q) e = let z : _≡_ {A = ℕ} 0 1 = cc in absurd (omega arith)
-bytes-count room n (accepted bs) e = room-count room bs n (leb (length bs) room) refl e
+bytes-count room n (accepted bs) e = room-count 16 room bs n (leb (length bs) room) refl e
 
 answer-count : (l : Limits) (room n : ℕ) (tree : List ℕ) (b : Bool) → countAnswer (elim b as (λ z. Answer (List ℕ)) [ false ↦ refused 1 | true ↦ whenAccepted (lowerBytes l tree) (fitsRoom room) ]) ≡ accepted n → n ≤ room
 unfolding countAnswer whenAccepted
@@ -98,6 +101,36 @@ code-yes r t f p s n L e = ap toldPart (sym (ap saidPart e) ∙ L .is)
 pub code-no : (r : Located) (t : List ℕ) (f q : ℕ) → Locates r t f → r ≡ NoCode q → q ≡ toldPart (codeCall t f)
 unfolding toldPart saidPart
 code-no r t f q L e = ap toldPart (sym (ap saidPart e) ∙ L .is)
+
+-- ---- a text about a module
+
+pub tell-few : (r : Listed) (n : ℕ) → Few (textSaid r) → r ≡ Written n → n < 2 ^ 63
+unfolding textSaid
+tell-few r n h e = h n (ap textSaid e)
+
+pub tell-yes : (r : Listed) (n : ℕ) → r ≡ Written n → 4294967296 + n ≡ toldCount (textSaid r)
+unfolding textSaid toldCount
+tell-yes r n e = sym (ap (λ (x : Listed). toldCount (textSaid x)) e)
+
+pub tell-no : (r : Listed) (q : ℕ) → r ≡ NotWritten q → q ≡ toldCount (textSaid r)
+unfolding textSaid toldCount
+tell-no r q e = sym (ap (λ (x : Listed). toldCount (textSaid x)) e)
+
+-- what is written fits the output
+module _ (q : ℕ) (f : Tables → List ℕ) (r : Listed) (t out out′ : List ℕ) (L : Printed r (textCall q f t out) out′) where
+  text-fits : (n : ℕ) → textSaid r ≡ accepted n → n ≤ length out
+  unfolding textCall textAnswer textFits countAnswer whenAccepted
+  text-fits n e = go (readModule t) (sym (L .answer) ∙ e)
+    where
+      go : (a : Answer Tables) → countAnswer (whenAccepted a (λ x. textFits q (length out) (f x))) ≡ accepted n → n ≤ length out
+      go (refused p) k = let z : _≡_ {A = ℕ} 0 1 = cc in absurd (omega arith)
+      go (accepted x) k = room-count q (length out) (f x) n (leb (length (f x)) (length out)) refl k
+
+  pub text-few : length out < 2 ^ 63 → Few (textSaid r)
+  text-few h n e = let k = text-fits n e in omega arith
+
+  pub text-told : (a : ℕ) → a ≡ toldCount (textSaid r) → Prints a (textCall q f t out) out′
+  text-told a e = record { answer = e ∙ ap toldCount (L .answer); output = L .output }
 
 -- ---- a run
 

@@ -1,14 +1,13 @@
 -- What an accepted lowering wrote.
-use Prim.Native.Nat.{ℕ, zero, suc, _-_, _≤_, _<_}
+use Prim.Native.Nat.{ℕ, _-_, _≤_}
 use mathlib.Core.Path.{_≡_, refl, sym, ap, ap₂, _∙_, subst}
 use mathlib.Core.Bool.{Bool, true, false}
-use mathlib.Core.List.{List, [], _∷_, _++_}
+use mathlib.Core.List.{List}
 use native.Mathlib.Omega.{arith}
-use lib.ListN.{length, take, drop, getD}
+use lib.ListN.{length, take, drop}
 use lib.Seq.{take-append-seam}
 use lib.Dec.{leb}
-use lib.Pow.{areBytes}
-use borrow.Author.Tests.{lt-ltb, leb-true}
+use borrow.Author.Tests.{leb-true}
 use Rattle.definitions.specs.Bytes.{Answer, refused, accepted, whenAccepted}
 use Rattle.definitions.specs.Module.{office, lowerBytes}
 use Rattle.definitions.specs.Calls.{written, outputAfter, countAnswer, areasFit, fitsRoom, lowerAnswer, Lowering, lowerCall}
@@ -17,11 +16,6 @@ use Rattle.lowering.specs.Lowered.{said, Lowers}
 use Rattle.lowering.specs.declared.Lowered.{Lowered}
 use Rattle.lowering.specs.declared.Lowered.the-variants.{Wrote, Refused}
 use Rattle.follows.specs.Thereafter.{Thereafter, thereafter, leftAfter}
-
--- a list whose elements are below 256
-pub small-bytes : (xs : List ℕ) → ((i : ℕ) → getD xs i 0 < 256) → areBytes xs ≡ true
-small-bytes [] small = refl
-small-bytes (x ∷ xs) small = rw (lt-ltb x 256 (small 0)) (small-bytes xs (λ i. small (suc i)))
 
 -- ---- the module that was written
 

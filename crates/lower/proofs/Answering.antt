@@ -1,55 +1,22 @@
 -- What the program's buffer shows, by the lowering's answer.
-use Prim.Native.Nat.{ℕ, _+_, _*_, _/_, _≤_, _<_}
+use Prim.Native.Nat.{ℕ, _+_, _≤_, _<_}
 use mathlib.Core.Path.{_≡_, refl, sym, ap, _∙_}
-use mathlib.Core.Bool.{Bool, true, false}
 use mathlib.Core.List.{List, [], _∷_, _++_}
 use native.Mathlib.Omega.{arith}
-use lib.Dec.{ltb}
 use lib.ListN.{length, take, drop, length-append}
 use lib.Seq.{take-at, take-all}
-use borrow.Author.Tests.{ltb-true, ltb-false}
 use Rattle.definitions.specs.Bytes.{Answer, refused, accepted, whenAccepted, ascii, decimal}
 use Rattle.definitions.specs.Module.{office}
 use Rattle.definitions.specs.Calls.{written, outputAfter, countAnswer, lowerAnswer, lowerCall, lowerProgram}
 use Rattle.names.specs.Made.{pasted}
-use Rattle.names.proofs.Pasting.{three-length, paste-three, one-digit, more-digits}
+use Rattle.definitions.proofs.Decimals.{length-decimal}
+use Rattle.names.proofs.Pasting.{three-length, paste-three}
 use Rattle.lowering.specs.Lowered.{said, Lowers}
 use Rattle.lowering.specs.declared.Lowered.{Lowered}
 use Rattle.lowering.specs.declared.Lowered.the-variants.{Wrote, Refused}
 use Rattle.lower.specs.Answered.{Answered}
 
 -- ---- the line of a refusal
-
--- numbers below ten times m have at most one digit more
-digits-step : (m k : ℕ) → ((i : ℕ) → i < m → length (decimal i) ≤ k) → 1 ≤ k → (n : ℕ) → n < m * 10 → length (decimal n) ≤ k + 1
-digits-step m k f one n h = go (ltb n 10) refl
-  where
-    go : (b : Bool) → ltb n 10 ≡ b → length (decimal n) ≤ k + 1
-    go true e = omega (arith, one-digit n (ltb-true n 10 e))
-    go false e = let g = ltb-false n 10 e in omega (arith, f (n / 10) (omega arith), more-digits n g)
-
-below-ten : (n : ℕ) → n < 10 → length (decimal n) ≤ 1
-below-ten n h = omega (arith, one-digit n h)
-
-pub ten-digits : (n : ℕ) → n < 4294967296 → length (decimal n) ≤ 10
-ten-digits n h =
-    digits-step 1000000000 9
-    (digits-step 100000000 8
-    (digits-step 10000000 7
-    (digits-step 1000000 6
-    (digits-step 100000 5
-    (digits-step 10000 4
-    (digits-step 1000 3
-    (digits-step 100 2
-    (digits-step 10 1 below-ten (omega arith))
-    (omega arith))
-    (omega arith))
-    (omega arith))
-    (omega arith))
-    (omega arith))
-    (omega arith))
-    (omega arith))
-    (omega arith) n (omega arith)
 
 -- bytes at the start of a buffer
 at-start : (n : ℕ) (s rest out : List ℕ) → n ≡ length s → out ≡ s ++ rest → Answered n out s
@@ -67,7 +34,7 @@ pub line-pasted : (q p e r : ℕ) (xs ys zs us : List ℕ) → q < 4294967296 �
 line-pasted q p e r xs ys zs us h room a d b =
     let n = three-length (ascii "refused ") (decimal q) (10 ∷ []) in
     pasted-first (ascii "refused " ++ (decimal q ++ 10 ∷ [])) xs us r
-    (paste-three (ascii "refused ") (decimal q) (10 ∷ []) 0 p e r xs ys zs us (omega (arith, ten-digits q h)) a d b)
+    (paste-three (ascii "refused ") (decimal q) (10 ∷ []) 0 p e r xs ys zs us (omega (arith, length-decimal 9 q (omega arith))) a d b)
 
 -- ---- the program
 

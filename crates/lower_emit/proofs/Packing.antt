@@ -8,6 +8,7 @@ use lib.Dec.{eqb}
 use borrow.Author.Tests.{lt-ltb, le-ltb, le-leb, lt-leb, ne-eqb}
 use Rattle.definitions.specs.Instruction.{instr, ConstI64, Jump, minus}
 use Rattle.definitions.specs.Reader.{isJump}
+use Rattle.definitions.proofs.Listing.{is-jump}
 use Rattle.state.specs.Words.{numberAt, word, opOf, firstOf, secondOf, widened, smallInt, operandOf, instrOf}
 use Rattle.lower_emit.specs.Ops.{special, Plain}
 
@@ -53,10 +54,6 @@ instr-place t (suc zero) a h i = instr-word 1 a 0 (omega arith) i (omega arith) 
 instr-place t (suc (suc n)) a h i = absurd (omega arith)
 
 -- jumps
-is-jump : (op : ℕ) → 28 ≤ op → op ≤ 30 → isJump op ≡ true
-unfolding isJump
-is-jump op h i = rw (le-leb 28 op h, le-leb op 30 i)
-
 jump-operand : (t : List ℕ) (op a : ℕ) → 28 ≤ op → op ≤ 30 → operandOf t op a ≡ widened a
 unfolding operandOf
 jump-operand t op a h i = rw (ne-eqb op 0 (λ e. omega arith), operandOf, ne-eqb op 1 (λ e. omega arith), is-jump op h i)

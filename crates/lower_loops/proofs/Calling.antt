@@ -19,7 +19,7 @@ use Rattle.names.specs.declared.Made.the-variants.{Iter, HasNext, Next, Iterato
 use Rattle.names.specs.Made.{madeName}
 use Rattle.definitions.specs.Reader.{isJump}
 use Rattle.lower_emit.specs.Ops.{special, Plain}
-use Rattle.names.proofs.Pasting.{four-digits}
+use Rattle.definitions.proofs.Decimals.{length-decimal}
 
 -- ---- made names are short
 
@@ -38,7 +38,7 @@ short-next = omega arith
 -- the place of a store is one of at most 8,192 instructions
 pub short-iterator : (n : ℕ) → n ≤ 8192 → length (madeName (Iterator n)) < 20
 unfolding madeName iterName
-short-iterator n h = omega (arith, four-digits n (omega arith), length-append (ascii "__for_iter_") (decimal n ++ ascii "__"), length-append (decimal n) (ascii "__"))
+short-iterator n h = omega (arith, length-decimal 3 n (omega arith), length-append (ascii "__for_iter_") (decimal n ++ ascii "__"), length-append (decimal n) (ascii "__"))
 
 -- ---- the code of an iterator's calls
 

@@ -24,7 +24,8 @@ use Rattle.state.specs.declared.Counts.{Counts}
 use Rattle.state.specs.Answered.{Limits, Emitted, Done, Full}
 use Rattle.state.proofs.Views.{few-slots, within-sound}
 use Rattle.state.proofs.SlotsFit.{slots-fit, targets-asked}
-use Rattle.module.specs.Sections.{Wrote, Roomy}
+use Rattle.writing.specs.Wrote.{Wrote}
+use Rattle.module.specs.Sections.{Roomy}
 use Rattle.lower_emit.specs.Numbers.{countsOf}
 use Rattle.compile.specs.Compiled.{treeBlock, Compiles}
 use Rattle.lowering.specs.Lowered.{said, Answers, Lowers}

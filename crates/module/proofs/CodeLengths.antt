@@ -13,7 +13,7 @@ use Rattle.state.specs.Words.{region, nameAt, instrOf, instrsOf}
 use Rattle.state.specs.State.{placeOf, countOf, functionOf, functionsOf, methodOf, classOf, classesOf}
 use Rattle.state.proofs.Regions.{functions-length, classes-length}
 use Rattle.module.specs.Sections.{codeBytes, functionsBytes, methodsBytes, classesBytes, constantBytes}
-use Rattle.module.proofs.Begun.{joined, joined-list}
+use Rattle.writing.proofs.Begun.{joined, joined-list}
 use Rattle.module.proofs.Pieces.{pieces, listed, pieces-room, pairs, pairsFrom, pairs-room}
 use Rattle.module.proofs.Encoding.{first-is, first-small, second-is, second-small, length-encode}
 use Rattle.module.proofs.Lengths.{Small, name-short, length-name}

@@ -18,8 +18,8 @@ use Rattle.definitions.proofs.Truth.{left, right, at-most}
 use Rattle.definitions.proofs.BytesWritten.{length-be}
 use Rattle.state.specs.Words.{opOf, firstOf, secondOf, widened, operandOf, numberAt, instrOf}
 use Rattle.widths.proofs.Laws.{no-operands}
-use Rattle.module.specs.Sections.{Wrote}
-use Rattle.module.proofs.Begun.{joined, Begun, begun-first, wrote-byte}
+use Rattle.writing.specs.Wrote.{Wrote}
+use Rattle.writing.proofs.Begun.{joined, Begun, begun-first, wrote-byte}
 
 -- ---- the tables
 

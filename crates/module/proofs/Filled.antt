@@ -9,7 +9,7 @@ use lib.Seq.{take-suc, drop-cons, set-at, append-snoc, length-take-le}
 use Rattle.definitions.specs.Bytes.{be}
 use Rattle.definitions.specs.Calls.{written}
 use Rattle.definitions.proofs.BytesWritten.{length-be}
-use Rattle.module.specs.Sections.{Wrote}
+use Rattle.writing.specs.Wrote.{Wrote}
 
 -- the list in which the last of w bytes are written, from place i on
 unfoldable pub filled : ℕ → ℕ → ℕ → List ℕ → List ℕ

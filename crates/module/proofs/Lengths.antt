@@ -11,8 +11,9 @@ use Rattle.definitions.specs.Module.{nameBytes, textBytes}
 use Rattle.definitions.proofs.BytesWritten.{length-be, length-list}
 use Rattle.state.specs.Words.{nameAt, textAt, numberAt}
 use Rattle.state.specs.State.{spelled}
-use Rattle.module.specs.Sections.{Wrote, symbolBytes, stringBytes}
-use Rattle.module.proofs.Begun.{joined}
+use Rattle.writing.specs.Wrote.{Wrote}
+use Rattle.module.specs.Sections.{symbolBytes, stringBytes}
+use Rattle.writing.proofs.Begun.{joined}
 use Rattle.module.proofs.Pieces.{pieces, listed, pieces-room}
 
 -- each element is a byte

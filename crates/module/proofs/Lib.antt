@@ -1,4 +1,3 @@
-pub mod Begun
 pub mod Filled
 pub mod Encoding
 pub mod Pieces

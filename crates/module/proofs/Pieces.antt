@@ -9,7 +9,7 @@ use lib.ListN.{length, getD, take, drop, length-append, length-map, drop-of-leng
 use lib.Seq.{drop-cons}
 use Rattle.definitions.specs.Bytes.{be, concat, listBytes}
 use Rattle.definitions.proofs.BytesWritten.{length-be}
-use Rattle.module.proofs.Begun.{joined}
+use Rattle.writing.proofs.Begun.{joined}
 
 -- ---- a piece for each word, from the i-th on
 

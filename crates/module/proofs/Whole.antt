@@ -14,7 +14,7 @@ use Rattle.state.specs.declared.Counts.{Counts}
 use Rattle.state.specs.Answered.{Limits}
 use Rattle.state.proofs.Regions.{region-length}
 use Rattle.module.specs.Sections.{symbolBytes, stringBytes, functionsBytes, classesBytes, constantBytes, textsBytes, bodiesBytes, Roomy}
-use Rattle.module.proofs.Begun.{joined}
+use Rattle.writing.proofs.Begun.{joined}
 use Rattle.module.proofs.Lengths.{Small, symbols-room, strings-room}
 use Rattle.module.proofs.CodeLengths.{region-short, functions-room, classes-room, length-constants}
 

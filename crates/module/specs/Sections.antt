@@ -1,21 +1,14 @@
--- What a writer leaves, and the bytes of each section of the module, from the words that the lowering keeps.
+-- The bytes of each section of the module, from the words that the lowering keeps.
 use Prim.Native.Nat.{ℕ, _≤_}
-use mathlib.Core.Path.{_≡_}
 use mathlib.Core.List.{List, _++_, map}
 use lib.ListN.{length, drop}
 use Rattle.definitions.specs.Bytes.{be, listBytes}
 use Rattle.definitions.specs.Instruction.{encode}
 use Rattle.definitions.specs.Module.{nameBytes, textBytes, functionBytes, methodBytes, classBytes}
-use Rattle.definitions.specs.Calls.{written}
 use Rattle.state.specs.Words.{region, textAt, instrsOf}
 use Rattle.state.specs.State.{spelled, functionsOf, methodOf, classesOf}
 use Rattle.state.specs.State.{stringsFrom, headsFrom, codesFrom, classNamesFrom, classMethodsFrom, methodsFrom, constantsFrom, doneFrom}
 use Rattle.state.specs.declared.Counts.{Counts}
-
--- the bytes stand at the output's start, the rest of it is as it was, and the answer is their count
-pub record Wrote (r : ℕ) (bytes before after : List ℕ) : Type 0 where
-  pub count : r ≡ length bytes
-  pub out : after ≡ written bytes before
 
 -- symbols and strings, by their entries
 unfoldable pub symbolBytes : List ℕ → List ℕ → List ℕ → List ℕ

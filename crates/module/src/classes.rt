@@ -8,7 +8,8 @@ ghost use Prim.Native.Nat.{_≤_, _<_};
 ghost use lib.ListN.{length};
 ghost use Rattle.definitions.specs.Module.{methodBytes, classBytes};
 ghost use Rattle.state.specs.State.{methodOf, classOf};
-ghost use Rattle.module.specs.Sections.{Wrote, methodsBytes, classesBytes, constantBytes};
+ghost use Rattle.writing.specs.Wrote.{Wrote};
+ghost use Rattle.module.specs.Sections.{methodsBytes, classesBytes, constantBytes};
 
 // The bytes of some methods and their count.
 fn methods_size(tree: &[u8], words: &[u32]) -> usize

@@ -9,7 +9,8 @@ ghost use lib.ListN.{length};
 ghost use Rattle.definitions.specs.Module.{functionBytes};
 ghost use Rattle.state.specs.Words.{region};
 ghost use Rattle.state.specs.State.{functionOf};
-ghost use Rattle.module.specs.Sections.{Wrote, codeBytes, functionsBytes};
+ghost use Rattle.writing.specs.Wrote.{Wrote};
+ghost use Rattle.module.specs.Sections.{codeBytes, functionsBytes};
 
 // n words from `from` on, cut at the end.
 pub fn words_part<'a>(words: &'a [u32], from: usize, n: usize) -> &'a [u32]

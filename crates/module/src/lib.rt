@@ -20,7 +20,8 @@ ghost use lib.ListN.{length};
 ghost use Rattle.definitions.specs.Bytes.{be};
 ghost use Rattle.definitions.specs.Module.{moduleBytes};
 ghost use Rattle.state.specs.State.{tablesOf};
-ghost use Rattle.module.specs.Sections.{Wrote, Roomy};
+ghost use Rattle.writing.specs.Wrote.{Wrote};
+ghost use Rattle.module.specs.Sections.{Roomy};
 
 // The bytes of the module.
 pub fn module_size<'a>(

@@ -1,9 +1,10 @@
 // Numbers of several bytes, the highest first, and bytes with their count before them.
+use writing::write_bytes;
 ghost use mathlib.Core.List.{_++_};
 ghost use Prim.Native.Nat.{_+_, _≤_, _<_, _^_};
 ghost use lib.ListN.{length};
 ghost use Rattle.definitions.specs.Bytes.{be};
-ghost use Rattle.module.specs.Sections.{Wrote};
+ghost use Rattle.writing.specs.Wrote.{Wrote};
 
 // The low w bytes of v, from the last to the first.
 fn write_long(w: usize, v: u64, out: &mut [u8]) -> usize
@@ -38,19 +39,6 @@ pub(crate) fn write_number(w: usize, v: u64, out: &mut [u8]) -> usize
         return 2;
     }
     write_long(w, v, out)
-}
-
-// Some bytes.
-pub(crate) fn write_bytes(bytes: &[u8], out: &mut [u8]) -> usize
-    requires { ⌜ length (now bytes) ≤ length (now out) ⌝ }
-    ensures { λ r. ⌜ Wrote r (now (bytes .entry)) (now (out .entry)) (now (out .exit)) ⌝ }
-{
-    let mut i = 0usize;
-    while i < bytes.len() {
-        out[i] = bytes[i];
-        i += 1;
-    }
-    i
 }
 
 // Some bytes after their count, which fits in w bytes: a name or a string.

@@ -13,7 +13,8 @@ use state::Counts;
 ghost use mathlib.Core.Path.{_≡_};
 ghost use Prim.Native.Nat.{_≤_, _<_, _^_};
 ghost use lib.ListN.{length};
-ghost use Rattle.module.specs.Sections.{Wrote, Roomy, textsBytes, bodiesBytes};
+ghost use Rattle.writing.specs.Wrote.{Wrote};
+ghost use Rattle.module.specs.Sections.{Roomy, textsBytes, bodiesBytes};
 
 // The bytes of symbols and strings.
 pub fn texts_size<'a>(tree: &'a [u8], made: &'a [u8], tables: &[u32], c: Counts) -> usize

@@ -6,7 +6,8 @@ use names::spell::text_part;
 ghost use mathlib.Core.Path.{_≡_};
 ghost use Prim.Native.Nat.{_≤_, _<_};
 ghost use lib.ListN.{length};
-ghost use Rattle.module.specs.Sections.{Wrote, symbolBytes, stringBytes};
+ghost use Rattle.writing.specs.Wrote.{Wrote};
+ghost use Rattle.module.specs.Sections.{symbolBytes, stringBytes};
 
 // The bytes of the symbols.
 pub fn symbols_size<'a>(tree: &'a [u8], made: &'a [u8], entries: &[u32]) -> usize

@@ -12,7 +12,7 @@ ghost use Rattle.definitions.specs.Bytes.{be};
 ghost use Rattle.definitions.specs.Instruction.{encode};
 ghost use Rattle.state.specs.Words.{numberAt, instrOf};
 ghost use Rattle.state.specs.Words as Words;
-ghost use Rattle.module.specs.Sections.{Wrote};
+ghost use Rattle.writing.specs.Wrote.{Wrote};
 
 // The opcode of a word: a small integer is a ConstI64.
 fn opcode(w: u32) -> usize

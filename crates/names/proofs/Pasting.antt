@@ -1,17 +1,16 @@
 -- Bytes that are pasted into others, decimal digits, and names with their length before them.
-use Prim.Native.Nat.{ℕ, zero, suc, _+_, _*_, _/_, _%_, _≤_, _<_}
+use Prim.Native.Nat.{ℕ, suc, _+_, _/_, _%_, _≤_, _<_}
 use mathlib.Core.Path.{_≡_, refl, sym, ap, _∙_}
-use mathlib.Core.Bool.{Bool, true, false}
 use mathlib.Core.List.{List, [], _∷_, _++_, append-assoc}
 use native.Mathlib.Omega.{arith}
 use native.Mathlib.Nat.{add-zero}
 use native.Mathlib.Numerals.{add-one}
-use lib.Dec.{ltb, lit<}
+use lib.Dec.{lit<}
 use lib.ListN.{length, take, drop, getD, set, length-append, length-drop, take-append-drop}
 use lib.Seq.{drop-cons, set-at, take-at, drop-at, take-suc, take-all, take-take, take-append-le, length-take-le, drop-drop, drop-append-add, getD-set-same, drop-set-lt, take-set-le}
-use borrow.Author.Tests.{lt-ltb, le-ltb, ltb-true, ltb-false}
-use Rattle.definitions.specs.Bytes.{Name, ascii, digits, decimal}
+use Rattle.definitions.specs.Bytes.{Name, ascii, decimal}
 use Rattle.definitions.specs.Lower.{lambdaName}
+use Rattle.definitions.proofs.Decimals.{decimal-digit, decimal-more, length-decimal, one-digit, more-digits}
 use Rattle.state.specs.Words.{nameAt}
 use Rattle.names.specs.Made.{madeName, pasted, Stands}
 use Rattle.names.specs.declared.Made.the-variants.{Main, Lambda}
@@ -87,34 +86,6 @@ paste-as x y at r xs ys e h = (h .0 ∙ ap (λ (l : List ℕ). at + length l) e,
 
 -- ---- decimal digits
 
-digits-enough : (m k n : ℕ) → n < m → n < k → digits m n ≡ digits k n
-unfolding digits
-digits-enough zero k n h g = absurd (omega arith)
-digits-enough (suc m) zero n h g = absurd (omega arith)
-digits-enough (suc m) (suc k) n h g = go (ltb n 10) refl (λ (l : 10 ≤ n). digits-enough m k (n / 10) (omega arith) (omega arith))
-  where
-    go : (b : Bool) → ltb n 10 ≡ b → (10 ≤ n → digits m (n / 10) ≡ digits k (n / 10)) →
-        _≡_ {A = List ℕ} (elim b as (λ c. List ℕ) [ true ↦ (48 + n) ∷ [] | false ↦ digits m (n / 10) ++ (48 + n % 10) ∷ [] ])
-        (elim b as (λ c. List ℕ) [ true ↦ (48 + n) ∷ [] | false ↦ digits k (n / 10) ++ (48 + n % 10) ∷ [] ])
-    go true e f = refl
-    go false e f = ap (λ (ds : List ℕ). ds ++ (48 + n % 10) ∷ []) (f (ltb-false n 10 e))
-
-pub decimal-digit : (n : ℕ) → n < 10 → decimal n ≡ (48 + n) ∷ []
-unfolding decimal digits
-decimal-digit n h = rw (lt-ltb n 10 h, digits)
-
-pub decimal-more : (n : ℕ) → 10 ≤ n → decimal n ≡ decimal (n / 10) ++ (48 + n % 10) ∷ []
-unfolding decimal digits
-decimal-more n h =
-    let e : digits (suc n) n ≡ digits n (n / 10) ++ (48 + n % 10) ∷ [] = rw (le-ltb n 10 h, digits) in
-    e ∙ ap (λ (ds : List ℕ). ds ++ (48 + n % 10) ∷ []) (digits-enough n (suc (n / 10)) (n / 10) (omega arith) (omega arith))
-
-pub one-digit : (n : ℕ) → n < 10 → length (decimal n) ≡ 1
-one-digit n h = ap length (decimal-digit n h)
-
-pub more-digits : (n : ℕ) → 10 ≤ n → length (decimal n) ≡ length (decimal (n / 10)) + 1
-more-digits n h = ap length (decimal-more n h) ∙ length-append (decimal (n / 10)) ((48 + n % 10) ∷ [])
-
 -- the digits are pasted, the last one after the others
 pub paste-digit : (p n : ℕ) (xs : List ℕ) → n < 10 → p + length (decimal n) ≤ length xs → set xs p (48 + n) ≡ pasted (decimal n) p xs
 paste-digit p n xs h inside =
@@ -155,20 +126,9 @@ stands-set x p n xs ys inside e f = rw (e, f) (stands x p xs inside)
 
 -- ---- made names are short
 
-digits-more : (m n k : ℕ) → ((i : ℕ) → i < m → length (decimal i) ≤ k) → 1 ≤ k → n < m * 10 → length (decimal n) ≤ k + 1
-digits-more m n k f one h = go (ltb n 10) refl
-  where
-    go : (b : Bool) → ltb n 10 ≡ b → length (decimal n) ≤ k + 1
-    go true e = omega (arith, one-digit n (ltb-true n 10 e))
-    go false e = let g = ltb-false n 10 e in omega (arith, f (n / 10) (omega arith), more-digits n g)
-
-pub four-digits : (n : ℕ) → n < 10000 → length (decimal n) ≤ 4
-four-digits n h =
-    digits-more 1000 n 3 (λ a p. digits-more 100 a 2 (λ b q. digits-more 10 b 1 (λ d r. let e = one-digit d r in omega arith) (omega arith) q) (omega arith) p) (omega arith) h
-
 pub lambda-short : (n : ℕ) → n < 10000 → length (madeName (Lambda n)) < 20
 unfolding madeName lambdaName
-lambda-short n h = let a = four-digits n h in omega (arith, three-length (ascii "<lambda#") (decimal n) (ascii ">"))
+lambda-short n h = let a = length-decimal 3 n (omega arith) in omega (arith, three-length (ascii "<lambda#") (decimal n) (ascii ">"))
 
 pub main-short : length (madeName Main) < 20
 unfolding madeName

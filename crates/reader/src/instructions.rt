@@ -10,7 +10,7 @@ ghost use Prim.Native.Nat.{_≤_};
 ghost use Rattle.reader.specs.View.{foundAt, metAt};
 
 // The instruction at `at`: what listings, counts and the run read.
-pub(crate) fn instruction_at(bytes: &[u8], at: usize) -> Found
+pub fn instruction_at(bytes: &[u8], at: usize) -> Found
     ensures { λ r. ⌜ r ≡ foundAt (now (bytes .entry)) at ⌝ }
 {
     if bytes.len() <= at {

@@ -1,5 +1,5 @@
 -- The run's call, by its cases. Assumes nothing.
-use Prim.Native.Nat.{ℕ, zero, suc, _+_, _-_, _<_, _≤_}
+use Prim.Native.Nat.{ℕ, _+_, _-_, _<_, _≤_}
 use mathlib.Core.Path.{_≡_, refl, sym, ap, ap₂, _∙_, subst}
 use mathlib.Core.Bool.{Bool, true, false, _&&_}
 use mathlib.Core.List.{List, [], _∷_, _++_, append-nil}
@@ -9,10 +9,10 @@ use lib.Dec.{leb}
 use lib.ListN.{length, take, drop, getD, length-take, length-drop, drop-of-length-le, List·getD-eq-default}
 use lib.Seq.{drop-cons, drop-drop, length-take-le, getD-drop, getD-take}
 use borrow.Author.Tests.{le-leb, lt-leb, leb-true, leb-false}
-use Rattle.definitions.specs.Bytes.{Parsed, got, counted, all, Answer, refused, accepted, whenAccepted, unhouse}
+use Rattle.definitions.specs.Bytes.{Parsed, got, counted, all, Answer, refused, accepted, whenAccepted}
 use Rattle.definitions.specs.Instruction.{Instr}
 use Rattle.definitions.specs.Tables.{Tables}
-use Rattle.definitions.specs.Reader.{instruction, moduleRecord, wholeModule, readModule, endsInReturn, jumpsLand}
+use Rattle.definitions.specs.Reader.{instruction, readModule, endsInReturn, jumpsLand}
 use Rattle.definitions.specs.Run.{Ran, ended, after, run}
 use Rattle.definitions.specs.Calls.{Counts, functionOf, areAnswers, eventsFit, runFunction, runAnswer, ranCounts, ranCall, runCall, outputAfter, written}
 use Rattle.reader.specs.View.{Got, functionIn, CodeAt, instructionsOf}
@@ -25,6 +25,7 @@ use Rattle.run.specs.declared.Passed.{Passed}
 use Rattle.run.specs.declared.Passed.the-variants.{Ended, TooMany}
 use Rattle.run.specs.Pass.{said, Called, Coded, Leads, Ending, Passes, start}
 use Rattle.run.proofs.Storing.{copied-written}
+use Rattle.definitions.proofs.ReadFits.{module-short}
 use Rattle.definitions.proofs.Begins.{Rest, Takes, takes-counted, takes-instruction}
 
 -- ---- question 23
@@ -112,15 +113,6 @@ ended-called r v before mid left e u m h k =
     })
 
 -- ---- the code as a part of the module
-
--- an accepted module is short
-pub module-short : (t : List ℕ) (x : Tables) → readModule t ≡ accepted x → length t ≤ 524288
-unfolding readModule
-module-short t x e = go (leb (length t) 524288) refl e
-  where
-    go : (b : Bool) → leb (length t) 524288 ≡ b → (elim b as (λ z. Answer Tables) [ true ↦ unhouse 17 18 (λ rest. wholeModule (moduleRecord rest)) t | false ↦ refused 17 ]) ≡ accepted x → length t ≤ 524288
-    go true k e = leb-true (length t) 524288 k
-    go false k e = let z : _≡_ {A = ℕ} 0 1 = cc in absurd (omega arith)
 
 -- a part's elements are bytes
 small-part : (t : List ℕ) (p s : ℕ) → Small t → Small (take s (drop p t))

@@ -1,4 +1,4 @@
-//! Rulketoos: trees of pyhyeon scripts lowered to stack code, modules read, functions run. The work is done by the static library of the
+//! Rulketoos: trees of pyhyeon scripts lowered to stack code, modules read and listed, functions run. The work is done by the static library of the
 //! repository, whose functions are proved to meet their contracts; this crate lends them safe Rust names and types.
 //!
 //! A tree record goes in, a module record comes out (docs/FORMAT.md has both byte by byte), or a [`Refusal`] that names the first question
@@ -15,7 +15,7 @@
 //! ```
 //!
 //! [`lower`] does the same without allocating, in buffers of the caller; [`check`] asks a tree's own questions only; [`run`] runs a function of a
-//! module on yes and no answers.
+//! module on yes and no answers; [`list`] writes the listing of a module's code.
 //!
 //! No call keeps anything, and none shares anything with another, so calls may be made from several threads. They work on their thread's stack; the
 //! usual 2 MB are enough (the run takes the most, about 600 KB).
@@ -26,8 +26,10 @@
 mod library;
 mod modules;
 mod refusal;
+mod texts;
 mod trees;
 
 pub use modules::{code, read, run, Ending, Run};
 pub use refusal::{NoSuchQuestion, Refusal};
+pub use texts::{list, list_to_string};
 pub use trees::{check, lower, lower_to_vec, Areas, AREA, MODULE_ROOM};

@@ -5,7 +5,7 @@ use std::fmt;
 
 /// The first question that is answered no.
 ///
-/// The lowering asks 1 to 16 and 33, the check of a tree 2 to 13 and 33 (33 just after 7), the reader of modules 17 to 21, the hand-back of code 17 to 22 and the run 17 to 24.
+/// The lowering asks 1 to 16 and 33, the check of a tree 2 to 13 and 33 (33 just after 7), the reader of modules 17 to 21, the hand-back of code 17 to 22 and the run 17 to 24; the listing 17 to 21, then 31.
 ///
 /// ```
 /// use rulketoos::Refusal;
@@ -67,12 +67,14 @@ pub enum Refusal {
     BadAnswer = 23,
     /// 24: the events don't fit the buffer.
     EventsTooShort = 24,
+    /// 31: the listing doesn't fit the buffer.
+    ListingTooShort = 31,
     /// 33: a name is one of a loop's iterator: `__for_iter_{}__` with digits in place of the braces.
     IteratorName = 33,
 }
 
 /// Every refusal with its question, by rising numbers.
-const QUESTIONS: [(Refusal, &str); 25] = [
+const QUESTIONS: [(Refusal, &str); 26] = [
     (Refusal::AreasTooShort, "is each work area at least 16,384 numbers long?"),
     (Refusal::TreeTooLong, "is the tree at most 32,768 bytes, header included?"),
     (Refusal::TreeHeader, "has the tree four bytes, and do they count the rest?"),
@@ -130,6 +132,7 @@ const QUESTIONS: [(Refusal, &str); 25] = [
     (Refusal::NoSuchFunction, "does the function exist?"),
     (Refusal::BadAnswer, "is each answer 0 or 1?"),
     (Refusal::EventsTooShort, "do the events fit the buffer?"),
+    (Refusal::ListingTooShort, "does the listing fit the buffer?"),
     (
         Refusal::IteratorName,
         "is no name of the form __for_iter_{}__, one or more digits in place of the braces?",
@@ -137,7 +140,7 @@ const QUESTIONS: [(Refusal, &str); 25] = [
 ];
 
 impl Refusal {
-    /// The number of the question, 1 to 24 or 33.
+    /// The number of the question, 1 to 24, 31 or 33.
     #[must_use]
     pub fn number(self) -> u32 {
         self as u32
@@ -172,7 +175,7 @@ impl fmt::Display for NoSuchQuestion {
     fn fmt(&self, f: &mut fmt::Formatter<'_>) -> fmt::Result {
         write!(
             f,
-            "there is no question {}: they are 1 to 24 and 33",
+            "there is no question {}: they are 1 to 24, 31 and 33",
             self.0
         )
     }
@@ -193,6 +196,15 @@ impl TryFrom<u32> for Refusal {
 /// The refusal that the library answered with.
 pub(crate) fn refusal(number: u32) -> Refusal {
     Refusal::try_from(number).expect("the library answers with a question's number")
+}
+
+/// An answer of the library that is 2^32 plus a count, or a question's number.
+pub(crate) fn written(answer: u64) -> Result<usize, Refusal> {
+    let low = (answer & 0xffff_ffff) as u32;
+    match answer >> 32 {
+        0 => Err(refusal(low)),
+        _ => Ok(low as usize),
+    }
 }
 
 /// An answer of the library that is 0 or a question's number.

@@ -1,7 +1,7 @@
 //! Trees: the check and the lowering.
 
 use crate::library;
-use crate::refusal::{accepted, refusal, Refusal};
+use crate::refusal::{accepted, written, Refusal};
 
 /// The length that each work area has at the least.
 pub const AREA: usize = 16_384;
@@ -69,11 +69,7 @@ pub fn lower(tree: &[u8], areas: &mut Areas, out: &mut [u8]) -> Result<usize, Re
             out.len(),
         )
     };
-    let low = (told & 0xffff_ffff) as u32;
-    match told >> 32 {
-        0 => Err(refusal(low)),
-        _ => Ok(low as usize),
-    }
+    written(told)
 }
 
 /// Lowers a tree record to a new vector: the module record.

@@ -7,7 +7,7 @@ const EMPTY: [u8; 7] = [0, 0, 0, 3, 1, 0, 0];
 #[test]
 fn every_number_has_its_refusal() {
     let mut count = 0;
-    for (number, refusal) in (1..=24).chain([33]).zip(Refusal::all()) {
+    for (number, refusal) in (1..=24).chain([31, 33]).zip(Refusal::all()) {
         assert_eq!(refusal.number(), number);
         assert_eq!(Refusal::try_from(number), Ok(refusal));
         let text = refusal.to_string();
@@ -15,9 +15,9 @@ fn every_number_has_its_refusal() {
         assert!(text.ends_with(refusal.question()) && text.ends_with('?'));
         count += 1;
     }
-    assert_eq!(count, 25);
+    assert_eq!(count, 26);
     assert_eq!(Refusal::all().count(), count);
-    for number in [0, 25, 32, 34, u32::MAX] {
+    for number in [0, 25, 30, 32, 34, u32::MAX] {
         assert_eq!(Refusal::try_from(number), Err(NoSuchQuestion(number)));
     }
 }
@@ -139,6 +139,30 @@ fn empty_slices_are_read() {
     assert_eq!(rulketoos::code(&[], 0), Err(Refusal::ModuleHeader));
     let run = rulketoos::run(&[], 0, &[], 0, &mut []);
     assert_eq!(run, Err(Refusal::ModuleHeader));
+    let listed = rulketoos::list(&[], &mut []);
+    assert_eq!(listed, Err(Refusal::ModuleHeader));
+}
+
+/// A text fits a buffer of just its length; a shorter one is left as it was.
+#[test]
+fn texts_are_written_or_left() {
+    let module = rulketoos::lower_to_vec(&EMPTY).expect("accepted");
+    let listing = rulketoos::list_to_string(&module).expect("accepted");
+    let mut exact = vec![9; listing.len()];
+    assert_eq!(rulketoos::list(&module, &mut exact), Ok(listing.len()));
+    assert_eq!(exact, listing.as_bytes());
+    let mut short = vec![9; listing.len() - 1];
+    let refused = rulketoos::list(&module, &mut short);
+    assert_eq!(refused, Err(Refusal::ListingTooShort));
+    assert!(short.iter().all(|&byte| byte == 9));
+}
+
+/// A module without functions has a listing of no bytes, in a buffer of none.
+#[test]
+fn a_module_without_functions() {
+    let none = [0, 0, 0, 11, 1, 0, 0, 0, 0, 0, 0, 0, 0, 0, 0];
+    assert_eq!(rulketoos::list(&none, &mut []), Ok(0));
+    assert_eq!(rulketoos::list_to_string(&none), Ok(String::new()));
 }
 
 #[test]

@@ -6,6 +6,7 @@
 //! the best of several rounds.
 
 mod lowering;
+mod texts;
 
 use generator::{make, modules, random, Rng};
 use std::hint::black_box;
@@ -262,5 +263,6 @@ fn main() {
     }
     trees();
     readers();
+    texts::listings();
     runs();
 }

@@ -2,6 +2,7 @@
 
 pub mod damage;
 pub mod limits;
+pub mod listings;
 pub mod make;
 pub mod modules;
 pub mod random;

@@ -460,6 +460,11 @@ pub fn full_of_code() -> Bytes {
 /// A random hand-made module: any instructions, jumps to anywhere in their
 /// function, and now and then a number or jump one too far.
 pub fn random(rng: &mut Rng) -> Parts {
+    random_of(rng, 12)
+}
+
+/// The same, with functions of at most so many instructions.
+pub fn random_of(rng: &mut Rng, longest: usize) -> Parts {
     let functions = 1 + rng.below(3);
     let mut parts = Parts::with(&[]);
     parts.strings[0] = if rng.once_in(12) {
@@ -469,7 +474,7 @@ pub fn random(rng: &mut Rng) -> Parts {
     };
     let far = rng.once_in(4);
     for _ in 0..functions {
-        let length = 1 + rng.below(12);
+        let length = 1 + rng.below(longest);
         let mut code: Vec<Bytes> = (0..length - 1)
             .map(|place| random_instruction(rng, place, length, functions, far))
             .collect();

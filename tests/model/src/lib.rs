@@ -1,9 +1,11 @@
-//! A plain model of the paper: lowering, reader, run and walk.
+//! A plain model of the paper: lowering, reader, run and walk; and of the
+//! requests after it: the code listing.
 //!
-//! Written from the paper alone, to be held against the reference compiler
+//! Written from the documents alone, to be held against the reference compiler
 //! and against the project's own code. A refusal is the question's number.
 
 pub mod instruction;
+pub mod listing;
 pub mod lowering;
 pub mod module;
 pub mod names;
@@ -52,6 +54,20 @@ pub fn plan(tree: &[u8]) -> Result<plan::Plan<'_>, u8> {
 /// Questions 17 to 21.
 pub fn read(module: &[u8]) -> Result<(), u8> {
     module::read(module).map(|_| ())
+}
+
+/// Questions 17 to 21 and 31: the code listing.
+pub fn list(module: &[u8], room: usize) -> Result<String, u8> {
+    fitting(listing::text(&module::read(module)?), room, 31)
+}
+
+/// A text that fits the room, or the number of the question whether it does.
+fn fitting(text: String, room: usize, question: u8) -> Result<String, u8> {
+    if text.len() <= room {
+        Ok(text)
+    } else {
+        Err(question)
+    }
 }
 
 /// The start and length of a function's code in the module's bytes.

@@ -221,6 +221,12 @@ impl Module<'_> {
         }
     }
 
+    /// The bytes of the instruction at this place.
+    pub fn instruction(&self, function: &Function, at: usize) -> &[u8] {
+        let next = function.places.get(at + 1);
+        &self.bytes[function.places[at]..next.copied().unwrap_or(function.end)]
+    }
+
     /// The place that the jump at this place lands on.
     pub fn jump_target(&self, function: &Function, at: usize) -> i64 {
         let place = function.places[at];

@@ -67,9 +67,7 @@ impl Runner<'_> {
     }
 
     fn bytes(&self) -> &[u8] {
-        let start = self.function.places[self.place];
-        let next = self.function.places.get(self.place + 1);
-        &self.module.bytes[start..next.copied().unwrap_or(self.function.end)]
+        self.module.instruction(self.function, self.place)
     }
 
     fn target(&self) -> usize {

@@ -67,6 +67,23 @@ pub fn compile(program: &[parser::ast::StmtS]) -> vm::bytecode::Module {
     vm::compiler::Compiler::new().compile(program)
 }
 
+/// The Rust's own text of each instruction of each function, `Call(1, 2)`.
+#[cfg(have_rust)]
+pub fn instructions(tree: &[u8]) -> Option<Vec<Vec<String>>> {
+    let module = compile(&tree::read(tree)?);
+    let texts = |function: &vm::bytecode::FunctionCode| {
+        let code = function.code.iter();
+        code.map(|instruction| format!("{instruction:?}")).collect()
+    };
+    Some(module.functions.iter().map(texts).collect())
+}
+
+/// Without the Rust source there is none.
+#[cfg(not(have_rust))]
+pub fn instructions(_tree: &[u8]) -> Option<Vec<Vec<String>>> {
+    None
+}
+
 /// Without the Rust source there is no tree to compile.
 #[cfg(not(have_rust))]
 pub fn compile(_program: &[()]) {}

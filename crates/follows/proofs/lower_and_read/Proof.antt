@@ -1,5 +1,6 @@
 use native.Mathlib.Omega.{arith}
-use Rattle.follows.proofs.Made.{small-bytes, part-fits}
+use Rattle.definitions.proofs.ReadFits.{small-bytes}
+use Rattle.follows.proofs.Made.{part-fits}
 use Rattle.follows.proofs.Reading.{reread-wrote, reread-refused}
 use borrow.Author.Needs.{needs}
 use Rattle.follows.proofs.lower_and_read.Statement.{statement}

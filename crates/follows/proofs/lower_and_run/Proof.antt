@@ -1,4 +1,5 @@
-use Rattle.follows.proofs.Made.{small-bytes, part-fits}
+use Rattle.definitions.proofs.ReadFits.{small-bytes}
+use Rattle.follows.proofs.Made.{part-fits}
 use Rattle.follows.proofs.Walking.{follow-ran, follow-refused}
 use borrow.Author.Needs.{needs}
 use Rattle.follows.proofs.lower_and_run.Statement.{statement}

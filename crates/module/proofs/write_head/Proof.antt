@@ -6,7 +6,7 @@ use Prim.Native.Nat.{ℕ, _+_, _-_}
 use lib.ListN.{length, length-append}
 use Rattle.definitions.specs.Bytes.{be}
 use Rattle.definitions.proofs.BytesWritten.{length-be}
-use Rattle.module.proofs.Begun.{Begun, joined-one, begun-first, begun-length, begun-fits, begun-number, begun-next, begun-done}
+use Rattle.writing.proofs.Begun.{Begun, joined-one, begun-first, begun-length, begun-fits, begun-number, begun-next, begun-done}
 use Rattle.module.proofs.write_head.Statement.{statement}
 use Rattle.module.proofs.write_head.Tie as tie
 

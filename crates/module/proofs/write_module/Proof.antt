@@ -7,7 +7,7 @@ use lib.ListN.{length}
 use Rattle.definitions.specs.Module.{moduleBytes}
 use Rattle.state.specs.State.{tablesOf}
 use Rattle.module.specs.Sections.{textsBytes, bodiesBytes}
-use Rattle.module.proofs.Begun.{Begun, begun-first, begun-length, begun-fits, begun-piece, begun-next, begun-done}
+use Rattle.writing.proofs.Begun.{Begun, begun-first, begun-length, begun-fits, begun-piece, begun-next, begun-done}
 use Rattle.module.proofs.Whole.{length-module, module-pieces}
 use Rattle.module.proofs.write_module.Statement.{statement}
 use Rattle.module.proofs.write_module.Tie as tie

@@ -5,6 +5,8 @@ use crate::person::{reply, Person, COMMAND};
 const EMPTY: &[u8] = &[0, 0, 0, 3, 1, 0, 0];
 const BREAK: &[u8] = &[0, 0, 0, 4, 1, 0, 1, 0];
 
+const SAMPLES: [&str; 6] = ["casing", "lambdas", "loops", "papers", "spine", "unpack"];
+
 /// Words, input, status, a part of standard output, a part of standard error.
 type Call = (&'static str, &'static [u8], i32, &'static str, &'static str);
 
@@ -37,9 +39,14 @@ const CALLS: &[Call] = &[
     ("read spine.py", b"", 2, "", "spine.py is a script"),
     ("lower /dev/zero", b"", 2, "", "/dev/zero has more than"),
     // done
-    ("show spine.py", b"", 0, "function 0 __main__: 0 parameters, 0 slots\n", ""),
-    ("show spine.tree", b"", 0, "class 0 Job", ""),
-    ("show -", b"x = 1\n", 0, "StoreGlobal  1", ""),
+    ("show spine.py", b"", 0, "PAGE      1\nfunction 0 __main__: 0 parameters, 0 slots\n    0     0 LoadConst ", ""),
+    ("show spine.tree", b"", 0, "\nclass 0 Job: __init__ is function 3, case is function 4\n", ""),
+    ("show -", b"x = 1\n", 0, "StoreGlobal                        1      x\n", ""),
+    ("show -", b"x = 'a\\n'\n", 0, "ConstStr                           0      \"a\\n\"\n", ""),
+    ("show -", b"x = 0.11\n", 0, "ConstF64            3FBC28F5C28F5C29      0.11\n", ""),
+    ("show loops.module", b"", 0, "to ", ""),
+    ("list spine.py", b"", 0, "PAGE      1                                         \n    0     0 LoadConst", ""),
+    ("list -", EMPTY, 0, "\n    0     0 Return                                  \n", ""),
     ("check spine.py", b"", 0, "accepted\n", ""),
     ("check -", EMPTY, 0, "accepted\n", ""),
     ("check -- spine.tree", b"", 0, "accepted\n", ""),
@@ -48,6 +55,8 @@ const CALLS: &[Call] = &[
     ("run --budget 3 loops.py 0", b"", 0, "ending: 3 (budget spent)\nsteps: 3\n", ""),
     ("run - 0 --budget 0", EMPTY, 0, "events: -\n", ""),
     // refused
+    ("list -", b"", 1, "", "standard input (taken for a module): refused 17: is the module"),
+    ("list -", b"break\n", 1, "", "standard input:1:1: refused 9: "),
     ("lower -", b"", 1, "", "standard input (taken for a tree): refused 3: has the tree four bytes"),
     ("read -", b"", 1, "", "standard input (taken for a module): refused 17: is the module"),
     ("check -", BREAK, 1, "", "standard input: byte 7: refused 9: does each break"),
@@ -98,9 +107,9 @@ fn every_command_has_help_with_an_example() {
 }
 
 #[test]
-fn samples_are_lowered_and_shown() {
+fn samples_are_lowered() {
     let person = Person::new();
-    for name in ["casing", "lambdas", "loops", "spine", "unpack"] {
+    for name in SAMPLES {
         let module = person.file(&format!("{name}.module")).expect("a sample");
         for kind in ["py", "tree"] {
             let reply = person.types(&["lower", &format!("{name}.{kind}")], b"");
@@ -110,9 +119,46 @@ fn samples_are_lowered_and_shown() {
                 "{name}.{kind}"
             );
         }
-        let listing = person.file(&format!("{name}.listing"));
-        let reply = person.types(&["show", &format!("{name}.py")], b"");
-        assert_eq!((reply.status, Some(reply.out)), (0, listing), "{name}");
+    }
+}
+
+/// The listing of each sample; `show` has the same lines, with names.
+#[test]
+fn samples_are_listed_and_shown() {
+    let person = Person::new();
+    for name in SAMPLES {
+        let listing = person.file(&format!("{name}.listing")).expect("a sample");
+        for kind in ["py", "tree", "module"] {
+            let reply = person.types(&["list", &format!("{name}.{kind}")], b"");
+            assert_eq!((reply.status, &reply.out), (0, &listing), "{name}.{kind}");
+        }
+        let reply = person.types(&["show", &format!("{name}.module")], b"");
+        let shown = String::from_utf8(reply.out).expect("text");
+        let listing = String::from_utf8(listing).expect("text");
+        let is_code = |line: &&str| !line.starts_with("function ") && !line.starts_with("class ");
+        let shown: Vec<&str> = shown.lines().filter(is_code).collect();
+        assert_eq!(shown.len(), listing.lines().count(), "{name}");
+        for (shown, line) in shown.into_iter().zip(listing.lines()) {
+            let note = shown.strip_prefix(line.trim_end());
+            assert!(
+                note.is_some_and(|note| note.is_empty() || note.starts_with(' ')),
+                "{shown}"
+            );
+        }
+    }
+}
+
+#[test]
+fn notes_are_in_the_scripts_characters() {
+    let shown = Person::new().types(&["show", "papers.py"], b"");
+    let shown = String::from_utf8(shown.out).expect("text");
+    for word in [
+        "\"Büttenpapier\"",
+        "\"和紙\"",
+        "\"🗞\"",
+        "\"vélin d'Arches\"",
+    ] {
+        assert!(shown.contains(word), "{shown}");
     }
 }
 

@@ -49,6 +49,9 @@ fn an_output_is_whole() {
         person.types(&["lower", "loops.tree", "-o", "-"], b"").out,
         person.file("loops.module").expect("a sample")
     );
+    let listed = person.types(&["list", "loops.py", "-o", "new.listing"], b"");
+    assert_eq!((listed.status, listed.out.len()), (0, 0));
+    assert_eq!(person.file("new.listing"), person.file("loops.listing"));
 }
 
 #[test]
@@ -122,6 +125,7 @@ fn full_disks() {
     for words in [
         &["lower", "spine.py"][..],
         &["show", "spine.py"],
+        &["list", "spine.py"],
         &["check", "spine.py"],
         &["--help"],
     ] {
@@ -181,6 +185,7 @@ fn closed_pipes() {
     let person = Person::new();
     for words in [
         &["show", "spine.py"][..],
+        &["list", "spine.py"],
         &["lower", "spine.py"],
         &["--help"],
     ] {

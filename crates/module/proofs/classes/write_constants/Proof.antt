@@ -7,7 +7,7 @@ use lib.ListN.{length, getD}
 use Rattle.definitions.specs.Bytes.{be}
 use Rattle.definitions.proofs.BytesWritten.{length-be}
 use Rattle.module.specs.Sections.{constantBytes}
-use Rattle.module.proofs.Begun.{Begun, begun-first, begun-now, begun-back, begun-as, begun-length, begun-fits, begun-number, begun-next, begun-done}
+use Rattle.writing.proofs.Begun.{Begun, begun-first, begun-now, begun-back, begun-as, begun-length, begun-fits, begun-number, begun-next, begun-done}
 use Rattle.module.proofs.Pieces.{pieces, pieces-next, pieces-none}
 use Rattle.module.proofs.CodeLengths.{constants-listed, length-constants}
 use Rattle.module.proofs.classes.write_constants.Statement.{statement}

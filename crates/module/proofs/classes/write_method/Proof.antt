@@ -7,7 +7,7 @@ use lib.ListN.{length}
 use Rattle.definitions.specs.Bytes.{be}
 use Rattle.definitions.specs.Module.{nameBytes}
 use Rattle.state.specs.Words.{nameAt}
-use Rattle.module.proofs.Begun.{Begun, begun-first, begun-length, begun-fits, begun-number, begun-next, begun-done}
+use Rattle.writing.proofs.Begun.{Begun, begun-first, begun-length, begun-fits, begun-number, begun-next, begun-done}
 use Rattle.module.proofs.Lengths.{name-short, length-name, name-room, name-wrote}
 use Rattle.module.proofs.CodeLengths.{methodPiece, method-pieces, length-method}
 use Rattle.module.proofs.classes.write_method.Statement.{statement}

@@ -6,7 +6,7 @@ use Prim.Native.Nat.{ℕ, _+_, _/_, _%_, _≤_}
 use lib.ListN.{length}
 use Rattle.definitions.specs.Bytes.{be}
 use Rattle.module.specs.Sections.{codeBytes}
-use Rattle.module.proofs.Begun.{Begun, begun-first, begun-length, begun-fits, begun-piece, begun-number, begun-next, begun-done}
+use Rattle.writing.proofs.Begun.{Begun, begun-first, begun-length, begun-fits, begun-piece, begun-number, begun-next, begun-done}
 use Rattle.module.proofs.CodeLengths.{part-short, functionPiece, function-pieces, length-function}
 use Rattle.module.proofs.functions.write_function.Statement.{statement}
 use Rattle.module.proofs.functions.write_function.Tie as tie

@@ -5,7 +5,7 @@ use mathlib.Core.List.{List, _∷_}
 use Prim.Native.Nat.{ℕ, _+_, _-_, _^_, _≤_, _<_}
 use lib.ListN.{length, getD}
 use Rattle.module.specs.Sections.{functionsBytes}
-use Rattle.module.proofs.Begun.{Begun, begun-first, begun-now, begun-back, begun-as, begun-length, begun-fits, begun-piece, begun-next, begun-done}
+use Rattle.writing.proofs.Begun.{Begun, begun-first, begun-now, begun-back, begun-as, begun-length, begun-fits, begun-piece, begun-next, begun-done}
 use Rattle.module.proofs.Pieces.{pairsFrom, pairs-next, pairs-none}
 use Rattle.module.proofs.CodeLengths.{functionPiece, functions-listed, functions-two}
 use Rattle.module.proofs.functions.write_functions.Statement.{statement}

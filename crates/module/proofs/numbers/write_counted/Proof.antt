@@ -5,7 +5,7 @@ use mathlib.Core.List.{List, [], _∷_, _++_}
 use lib.ListN.{length, length-append}
 use Rattle.definitions.specs.Bytes.{be}
 use Rattle.definitions.proofs.BytesWritten.{length-be}
-use Rattle.module.proofs.Begun.{Begun, joined-one, begun-first, begun-fits, begun-piece, begun-next, begun-done}
+use Rattle.writing.proofs.Begun.{Begun, joined-one, begun-first, begun-fits, begun-piece, begun-next, begun-done}
 use Rattle.module.proofs.numbers.write_counted.Statement.{statement}
 use Rattle.module.proofs.numbers.write_counted.Tie as tie
 

@@ -4,7 +4,7 @@ use mathlib.Core.List.{List}
 use Prim.Native.Nat.{ℕ, _-_, _/_, _%_, _^_, _≤_}
 use lib.ListN.{length, set}
 use Rattle.definitions.specs.Bytes.{be}
-use Rattle.module.specs.Sections.{Wrote}
+use Rattle.writing.specs.Wrote.{Wrote}
 use Rattle.module.proofs.Filled.{filled, filled-start, length-filled, filled-next, rest-next, rest-start, filled-whole}
 use Rattle.module.proofs.numbers.write_long.Statement.{statement}
 use Rattle.module.proofs.numbers.write_long.Tie as tie

@@ -1,7 +1,7 @@
 use borrow.Author.Needs.{needs}
 use native.Mathlib.Omega.{arith}
 use lib.ListN.{length-set}
-use Rattle.module.proofs.Begun.{wrote-none, wrote-one, wrote-two}
+use Rattle.writing.proofs.Begun.{wrote-none, wrote-one, wrote-two}
 use Rattle.module.proofs.numbers.write_number.Statement.{statement}
 use Rattle.module.proofs.numbers.write_number.Tie as tie
 

@@ -6,7 +6,7 @@ use Prim.Native.Nat.{ℕ, _+_, _-_, _≤_, _<_}
 use lib.ListN.{length, take, drop, length-append}
 use Rattle.state.specs.State.{headsFrom, classNamesFrom, constantsFrom}
 use Rattle.module.specs.Sections.{functionsBytes, classesBytes, constantBytes, bodiesBytes}
-use Rattle.module.proofs.Begun.{joined, Begun, begun-first, begun-length, begun-fits, begun-piece, begun-next, begun-done}
+use Rattle.writing.proofs.Begun.{joined, Begun, begun-first, begun-length, begun-fits, begun-piece, begun-next, begun-done}
 use Rattle.module.proofs.Whole.{few, finished-are, same-functions, same-classes, bodies-pieces, length-bodies}
 use Rattle.module.proofs.sections.write_bodies.Statement.{statement}
 use Rattle.module.proofs.sections.write_bodies.Tie as tie

@@ -6,7 +6,7 @@ use Prim.Native.Nat.{ℕ, _+_, _≤_, _<_}
 use lib.ListN.{length}
 use Rattle.state.specs.State.{stringsFrom}
 use Rattle.module.specs.Sections.{symbolBytes, stringBytes, textsBytes}
-use Rattle.module.proofs.Begun.{Begun, begun-first, begun-length, begun-fits, begun-piece, begun-next, begun-done}
+use Rattle.writing.proofs.Begun.{Begun, begun-first, begun-length, begun-fits, begun-piece, begun-next, begun-done}
 use Rattle.module.proofs.Whole.{few, texts-pieces, length-texts}
 use Rattle.module.proofs.sections.write_texts.Statement.{statement}
 use Rattle.module.proofs.sections.write_texts.Tie as tie

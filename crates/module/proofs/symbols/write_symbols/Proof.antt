@@ -7,7 +7,7 @@ use lib.ListN.{length, getD}
 use Rattle.definitions.specs.Bytes.{be}
 use Rattle.definitions.proofs.BytesWritten.{length-be}
 use Rattle.module.specs.Sections.{symbolBytes}
-use Rattle.module.proofs.Begun.{Begun, begun-first, begun-now, begun-back, begun-as, begun-length, begun-fits, begun-piece, begun-next, begun-done}
+use Rattle.writing.proofs.Begun.{Begun, begun-first, begun-now, begun-back, begun-as, begun-length, begun-fits, begun-piece, begun-next, begun-done}
 use Rattle.module.proofs.Pieces.{pieces, pieces-next, pieces-none}
 use Rattle.module.proofs.Lengths.{Small, spelled-short, name-room, name-wrote, symbolPiece, symbols-listed, symbols-room, symbols-two}
 use Rattle.module.proofs.symbols.write_symbols.Statement.{statement}

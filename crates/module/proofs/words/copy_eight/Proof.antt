@@ -7,7 +7,7 @@ use lib.ListN.{length, getD, take, drop, set}
 use lib.Seq.{length-take-le}
 use Rattle.definitions.specs.Calls.{written}
 use Rattle.definitions.proofs.BytesWritten.{length-be}
-use Rattle.module.proofs.Begun.{written-none, written-more, length-written}
+use Rattle.writing.proofs.Begun.{written-none, written-more, length-written}
 use Rattle.module.proofs.Encoding.{wrote-eight, eight-long, eight-copied}
 use Rattle.module.proofs.words.copy_eight.Statement.{statement}
 use Rattle.module.proofs.words.copy_eight.Tie as tie

@@ -5,7 +5,7 @@ use lib.ListN.{set}
 use Rattle.definitions.specs.Bytes.{be}
 use Rattle.definitions.specs.Instruction.{encode}
 use Rattle.state.specs.Words.{instrOf}
-use Rattle.module.proofs.Begun.{Begun, begun-length, begun-fits, begun-number, begun-next, begun-done}
+use Rattle.writing.proofs.Begun.{Begun, begun-length, begun-fits, begun-number, begun-next, begun-done}
 use Rattle.module.proofs.Encoding.{length-encode, wrote-alone, begun-word}
 use Rattle.module.proofs.words.write_instruction.Statement.{statement}
 use Rattle.module.proofs.words.write_instruction.Tie as tie

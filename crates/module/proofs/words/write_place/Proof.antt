@@ -6,7 +6,7 @@ use lib.ListN.{set}
 use Rattle.definitions.specs.Bytes.{be}
 use Rattle.definitions.specs.Instruction.{encode}
 use Rattle.state.specs.Words.{numberAt, instrOf}
-use Rattle.module.proofs.Begun.{Begun, begun-length, begun-fits, begun-number, begun-next, begun-done}
+use Rattle.writing.proofs.Begun.{Begun, begun-length, begun-fits, begun-number, begun-next, begun-done}
 use Rattle.module.proofs.Encoding.{begun-place}
 use Rattle.module.proofs.words.write_place.Statement.{statement}
 use Rattle.module.proofs.words.write_place.Tie as tie

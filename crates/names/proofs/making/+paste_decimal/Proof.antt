@@ -2,7 +2,8 @@ use native.Mathlib.Omega.{arith}
 use mathlib.Core.Path.{_≡_, refl, sym, ap, _∙_}
 use borrow.Author.Needs.{needs}
 use lib.ListN.{length-set}
-use Rattle.names.proofs.Pasting.{one-digit, more-digits, paste-digit, paste-digits}
+use Rattle.definitions.proofs.Decimals.{one-digit, more-digits}
+use Rattle.names.proofs.Pasting.{paste-digit, paste-digits}
 use Prim.Native.Nat.{ℕ, _<_}
 use borrow.Fn.Kinds.{In}
 use borrow.Fn.PlainCycle.{Measures, is, falls, and}

@@ -43,6 +43,12 @@ pub struct Source {
     places: Option<Places>,
 }
 
+/// A module, and the name to speak of it.
+pub struct Module {
+    name: String,
+    pub bytes: Vec<u8>,
+}
+
 /// Reads a file or standard input. `wanted` is what bytes are taken for that might be anything.
 pub fn read(file: &OsStr, wanted: Kind) -> Result<Input, Failure> {
     let (name, read) = if file == "-" {
@@ -114,11 +120,6 @@ fn reads_as_tree(bytes: &[u8]) -> bool {
 }
 
 impl Input {
-    /// The name to speak of it.
-    pub fn name(&self) -> &str {
-        &self.name
-    }
-
     /// The tree of a script or tree.
     pub fn source(self) -> Result<Source, Failure> {
         let Input { name, kind, bytes } = self;
@@ -135,23 +136,28 @@ impl Input {
     }
 
     /// A module as it is.
-    pub fn module(self) -> Result<Vec<u8>, Failure> {
-        if self.kind == Kind::Module {
-            return Ok(self.bytes);
+    pub fn module(self) -> Result<Module, Failure> {
+        let Input { name, kind, bytes } = self;
+        if kind == Kind::Module {
+            return Ok(Module { name, bytes });
         }
-        let what = self.kind.words();
+        let what = kind.words();
         Err(Failure::unable(format!(
-            "{} is {what}, and a module is wanted here: `rulketoos lower` makes one",
-            self.name
+            "{name} is {what}, and a module is wanted here: `rulketoos lower` makes one"
         )))
     }
 
     /// A module, or what a script or tree is lowered to.
-    pub fn lowered(self) -> Result<Vec<u8>, Failure> {
-        match self.kind {
-            Kind::Module => Ok(self.bytes),
-            Kind::Script | Kind::Tree => self.source()?.lowered(),
+    pub fn lowered(self) -> Result<Module, Failure> {
+        if self.kind == Kind::Module {
+            return self.module();
         }
+        let source = self.source()?;
+        let bytes = source.lowered()?;
+        Ok(Module {
+            name: source.name,
+            bytes,
+        })
     }
 }
 
@@ -179,7 +185,9 @@ impl Source {
     }
 }
 
-/// The refusal of a module, or of a call on it, in words.
-pub fn refused(name: &str, refusal: Refusal) -> Failure {
-    Failure::Refused(format!("{name}: {refusal}"))
+impl Module {
+    /// The refusal of the module, or of a call on it, in words.
+    pub fn refused(&self, refusal: Refusal) -> Failure {
+        Failure::Refused(format!("{}: {refusal}", self.name))
+    }
 }

@@ -7,9 +7,12 @@ mod arguments;
 mod commands;
 mod failure;
 mod input;
+mod notes;
 mod output;
 mod places;
 mod script;
+#[cfg(test)]
+mod vectors;
 
 use arguments::{Command, Given};
 use failure::Failure;

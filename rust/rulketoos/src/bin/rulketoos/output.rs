@@ -12,8 +12,23 @@ pub fn text(text: &str) -> Result<(), Failure> {
     standard(text.as_bytes())
 }
 
-/// Bytes to the file that the option -o names, or to standard output.
+/// Text to the file that the option -o names, or to standard output.
+pub fn text_to(file: Option<&OsStr>, text: &str) -> Result<(), Failure> {
+    named(file, text.as_bytes())
+}
+
+/// Bytes to the file that the option -o names, or to standard output where that is no terminal.
 pub fn bytes(file: Option<&OsStr>, bytes: &[u8]) -> Result<(), Failure> {
+    if file.is_none() && io::stdout().is_terminal() {
+        return Err(Failure::unable(
+            "what is written is no text, and standard output is a terminal: name a file with -o FILE",
+        ));
+    }
+    named(file, bytes)
+}
+
+/// To the file of that name; no name, and `-`, are standard output.
+fn named(file: Option<&OsStr>, bytes: &[u8]) -> Result<(), Failure> {
     match file {
         Some(file) if file != "-" => {
             let path = Path::new(file);
@@ -21,9 +36,6 @@ pub fn bytes(file: Option<&OsStr>, bytes: &[u8]) -> Result<(), Failure> {
                 Failure::unable(format!("{} can't be written: {error}", path.display()))
             })
         }
-        None if io::stdout().is_terminal() => Err(Failure::unable(
-            "what is written is no text, and standard output is a terminal: name a file with -o FILE",
-        )),
         _ => standard(bytes),
     }
 }

@@ -1,4 +1,4 @@
-//! The tools in Python: a script's text to a tree, a module to text.
+//! The tool in Python that gives the tree of a script's text.
 
 use crate::failure::Failure;
 use crate::places::Places;
@@ -8,17 +8,21 @@ use std::path::{Path, PathBuf};
 use std::process::{self, Stdio};
 use std::thread;
 
+const TOOL: &str = "tree_of.py";
+
 /// Names the folder of the tools where it isn't the repository's.
 const FOLDER: &str = "RULKETOOS_TOOLS";
 
 /// The tree of a script's text, and where its parts stand in the text.
 pub fn tree_of(name: &str, text: &[u8]) -> Result<(Vec<u8>, Places), Failure> {
-    let told = python("tree_of.py", &["-", "--places"], text)?;
+    let told = python(text)?;
     if !told.status.success() {
         return Err(refused(name, &told));
     }
     parted(told.stdout).ok_or_else(|| {
-        Failure::unable("tree_of.py gave no tree with places: it is not this repository's")
+        Failure::unable(format!(
+            "{TOOL} gave no tree with places: it is not this repository's"
+        ))
     })
 }
 
@@ -35,43 +39,31 @@ fn parted(mut told: Vec<u8>) -> Option<(Vec<u8>, Places)> {
     Some((told, places))
 }
 
-/// A module as text.
-pub fn listing(name: &str, module: &[u8]) -> Result<String, Failure> {
-    let told = python("listing.py", &["-"], module)?;
-    match String::from_utf8(told.stdout) {
-        Ok(text) if told.status.success() => Ok(text),
-        _ => Err(Failure::unable(format!(
-            "{name}: {}",
-            String::from_utf8_lossy(&told.stderr).trim_end()
-        ))),
-    }
-}
-
 /// What the tool says of a script: its refusals begin with the name that it knows.
 fn refused(name: &str, told: &process::Output) -> Failure {
     let said = String::from_utf8_lossy(&told.stderr);
     let said = said.trim_end();
     match said.strip_prefix("<stdin>") {
         Some(rest) => Failure::Refused(format!("{name}{rest}")),
-        None => Failure::unable(format!("tree_of.py failed on {name}:\n{said}")),
+        None => Failure::unable(format!("{TOOL} failed on {name}:\n{said}")),
     }
 }
 
-/// Runs one of the tools on bytes.
-fn python(tool: &str, words: &[&str], input: &[u8]) -> Result<process::Output, Failure> {
-    let path = folder(tool)?.join(tool);
+/// Runs the tool on bytes.
+fn python(input: &[u8]) -> Result<process::Output, Failure> {
+    let path = folder()?.join(TOOL);
     let failed = |error: std::io::Error| {
         match error.kind() {
         ErrorKind::NotFound => Failure::unable(format!(
-            "python3 is missing, and {tool} needs it: install Python 3.8 or later; trees (.tree) and modules (.module) \
-             can be lowered, checked, read and run without it"
+            "python3 is missing, and {TOOL} needs it: install Python 3.8 or later; trees (.tree) and modules (.module) \
+             can be lowered, checked, read, listed and run without it"
         )),
         _ => Failure::unable(format!("python3 can't be started: {error}")),
     }
     };
     let mut child = process::Command::new("python3")
         .arg(path)
-        .args(words)
+        .args(["-", "--places"])
         .env("PYTHONUTF8", "1")
         .stdin(Stdio::piped())
         .stdout(Stdio::piped())
@@ -87,16 +79,16 @@ fn python(tool: &str, words: &[&str], input: &[u8]) -> Result<process::Output, F
     .map_err(failed)
 }
 
-/// The folder with the tools: as the environment says, or the repository's.
-fn folder(tool: &str) -> Result<PathBuf, Failure> {
-    let has = |folder: &Path| folder.join(tool).is_file();
+/// The folder with the tool: as the environment says, or the repository's.
+fn folder() -> Result<PathBuf, Failure> {
+    let has = |folder: &Path| folder.join(TOOL).is_file();
     if let Some(folder) = env::var_os(FOLDER) {
         let folder = PathBuf::from(folder);
         return if has(&folder) {
             Ok(folder)
         } else {
             Err(Failure::unable(format!(
-                "{FOLDER} is {}, which has no {tool}",
+                "{FOLDER} is {}, which has no {TOOL}",
                 folder.display()
             )))
         };
@@ -109,7 +101,7 @@ fn folder(tool: &str) -> Result<PathBuf, Failure> {
         .or_else(|| has(&built).then_some(built))
         .ok_or_else(|| {
             Failure::unable(format!(
-                "{tool} is missing: let {FOLDER} name the folder tools of Rulketoos' repository"
+                "{TOOL} is missing: let {FOLDER} name the folder tools of Rulketoos' repository"
             ))
         })
 }

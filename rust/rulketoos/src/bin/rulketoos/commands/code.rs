@@ -19,10 +19,8 @@ pub const COMMAND: Command = Command {
 
 fn run(words: &Words) -> Result<(), Failure> {
     let function = arguments::number("FUNCTION", words.needed(1))?;
-    let input = input::read(words.needed(0), Kind::Module)?;
-    let name = input.name().to_string();
-    let module = input.lowered()?;
+    let module = input::read(words.needed(0), Kind::Module)?.lowered()?;
     let code =
-        rulketoos::code(&module, function).map_err(|refusal| input::refused(&name, refusal))?;
+        rulketoos::code(&module.bytes, function).map_err(|refusal| module.refused(refusal))?;
     output::bytes(words.option("-o"), code)
 }

@@ -2,6 +2,7 @@
 
 mod check;
 mod code;
+mod list;
 mod lower;
 mod read;
 mod run;
@@ -12,6 +13,7 @@ use crate::arguments::{Command, Opt};
 /// In the order in which a person meets them.
 pub const ALL: &[Command] = &[
     show::COMMAND,
+    list::COMMAND,
     lower::COMMAND,
     check::COMMAND,
     read::COMMAND,
@@ -19,7 +21,7 @@ pub const ALL: &[Command] = &[
     run::COMMAND,
 ];
 
-/// Where bytes go, for each command that writes some.
+/// Where bytes or text go, for each command that writes a file.
 const OUTPUT: Opt = Opt {
     name: "-o",
     value: Some("FILE"),

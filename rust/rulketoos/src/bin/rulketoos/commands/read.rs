@@ -17,9 +17,7 @@ pub const COMMAND: Command = Command {
 };
 
 fn run(words: &Words) -> Result<(), Failure> {
-    let input = input::read(words.needed(0), Kind::Module)?;
-    let name = input.name().to_string();
-    let module = input.module()?;
-    rulketoos::read(&module).map_err(|refusal| input::refused(&name, refusal))?;
+    let module = input::read(words.needed(0), Kind::Module)?.module()?;
+    rulketoos::read(&module.bytes).map_err(|refusal| module.refused(refusal))?;
     output::text("accepted\n")
 }

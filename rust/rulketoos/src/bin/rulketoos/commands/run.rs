@@ -33,16 +33,14 @@ fn run(words: &Words) -> Result<(), Failure> {
     let answers = answers(words.operand(2).unwrap_or_default())?;
     let budget = words.option("--budget").unwrap_or(OsStr::new("100000"));
     let budget = arguments::number("STEPS", budget)?;
-    let input = input::read(words.needed(0), Kind::Module)?;
-    let name = input.name().to_string();
-    let module = input.lowered()?;
+    let module = input::read(words.needed(0), Kind::Module)?.lowered()?;
     let mut room = 1 << 16;
     loop {
         let mut events = vec![0; room];
-        match rulketoos::run(&module, function, &answers, budget, &mut events) {
+        match rulketoos::run(&module.bytes, function, &answers, budget, &mut events) {
             Ok(run) => return output::text(&shown(&run)),
             Err(Refusal::EventsTooShort) if room < MOST => room *= 4,
-            Err(refusal) => return Err(input::refused(&name, refusal)),
+            Err(refusal) => return Err(module.refused(refusal)),
         }
     }
 }

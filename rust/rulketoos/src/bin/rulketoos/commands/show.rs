@@ -1,26 +1,26 @@
-//! `rulketoos show`: code as text.
+//! `rulketoos show`: the listing with names.
 
 use crate::arguments::{Command, Words};
 use crate::failure::Failure;
 use crate::input::{self, Kind};
-use crate::{output, script};
+use crate::{notes, output};
 
 pub const COMMAND: Command = Command {
     name: "show",
     operands: &["FILE"],
     least: 1,
     options: &[],
-    about: "shows the code of a script, a tree or a module as text",
-    more: "A script or tree is lowered first. Each function has a line with its number, name, parameters and slots, then a\n\
-           line an instruction: its place, name and operands, and what these stand for.",
+    about: "shows the code of a script, a tree or a module, with names",
+    more: "A script or tree is lowered first. Each line of the listing (`rulketoos list`) is followed by what its operands\n\
+           stand for; before a function's first line stands its name with its parameters and slots, and the classes\n\
+           come last.",
     example: "rulketoos show samples/spine.py",
     run,
 };
 
 fn run(words: &Words) -> Result<(), Failure> {
-    let input = input::read(words.needed(0), Kind::Module)?;
-    let name = input.name().to_string();
-    let module = input.lowered()?;
-    rulketoos::read(&module).map_err(|refusal| input::refused(&name, refusal))?;
-    output::text(&script::listing(&name, &module)?)
+    let module = input::read(words.needed(0), Kind::Module)?.lowered()?;
+    let listing =
+        rulketoos::list_to_string(&module.bytes).map_err(|refusal| module.refused(refusal))?;
+    output::text(&notes::noted(&module.bytes, &listing))
 }

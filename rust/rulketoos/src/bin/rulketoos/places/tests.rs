@@ -1,9 +1,8 @@
 //! The walk against the proved check: it finds a place for the question that refuses a tree, and none for those before it.
 
 use super::noes;
+use crate::vectors;
 use rulketoos::Refusal;
-use std::fs;
-use std::path::Path;
 
 /// The questions that speak of a part, in the order in which they are asked.
 const ORDER: [Refusal; 8] = [
@@ -16,22 +15,6 @@ const ORDER: [Refusal; 8] = [
     Refusal::BareInit,
     Refusal::ListTooLong,
 ];
-
-fn byte(pair: &[u8]) -> u8 {
-    let text = std::str::from_utf8(pair).expect("text");
-    u8::from_str_radix(text, 16).expect("hexadecimal")
-}
-
-/// The trees of the vectors.
-fn vectors() -> Vec<Vec<u8>> {
-    let path = Path::new(env!("CARGO_MANIFEST_DIR")).join("../../tests/vectors/trees.txt");
-    let text = fs::read_to_string(path).expect("the vectors");
-    let tree = |line: &str| {
-        let hex = line.split('\t').nth(1).expect("a tree");
-        hex.as_bytes().chunks_exact(2).map(byte).collect()
-    };
-    text.lines().map(tree).collect()
-}
 
 /// Which of the questions refuses the tree, as its place in their order; none where another one does.
 fn agrees(tree: &[u8]) -> Option<usize> {
@@ -58,7 +41,7 @@ fn vectors_and_damaged_copies() {
             seen[refused] += 1;
         }
     };
-    for mut tree in vectors() {
+    for mut tree in vectors::records("trees.txt") {
         count(&tree);
         for at in 5..tree.len().min(150) {
             let before = tree[at];

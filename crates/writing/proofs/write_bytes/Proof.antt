@@ -5,9 +5,9 @@ use Prim.Native.Nat.{ℕ, _+_, _-_, _≤_}
 use lib.ListN.{length, getD, take, set}
 use lib.Seq.{take-all, length-take-le}
 use Rattle.definitions.specs.Calls.{written}
-use Rattle.module.proofs.Begun.{written-none, written-more, length-written}
-use Rattle.module.proofs.numbers.write_bytes.Statement.{statement}
-use Rattle.module.proofs.numbers.write_bytes.Tie as tie
+use Rattle.writing.proofs.Begun.{written-none, written-more, length-written}
+use Rattle.writing.proofs.write_bytes.Statement.{statement}
+use Rattle.writing.proofs.write_bytes.Tie as tie
 
 abbrev Inv-loop : tie.InvT-loop
 Inv-loop bytes out₀ i₀ out i = (i ≤ length bytes) × (out ≡ written (take i bytes) out₀) × (length out ≡ length out₀)

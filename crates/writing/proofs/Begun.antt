@@ -1,7 +1,7 @@
 -- Bytes that are written piece by piece, each into the rest of the output.
 use mathlib.Core.Path.{_≡_, refl, sym, ap, ap₂, _∙_, subst}
 use mathlib.Core.List.{List, [], _∷_, _++_, append-nil, append-assoc, map}
-use Prim.Native.Nat.{ℕ, zero, suc, _+_, _-_, _/_, _%_, _≤_, _<_}
+use Prim.Native.Nat.{ℕ, suc, _+_, _-_, _/_, _%_, _≤_, _<_}
 use native.Mathlib.Omega.{arith}
 use native.Mathlib.Nat.{div-one}
 use native.Mathlib.Numerals.{add-one}
@@ -11,7 +11,7 @@ use borrow.Rule.Slice.PartMut.{putMid, midOf}
 use Rattle.definitions.specs.Bytes.{be, concat, listBytes}
 use Rattle.definitions.specs.Calls.{written}
 use Rattle.definitions.proofs.BytesWritten.{length-be}
-use Rattle.module.specs.Sections.{Wrote}
+use Rattle.writing.specs.Wrote.{Wrote}
 
 -- ---- what is written from a list's start on
 
@@ -190,3 +190,51 @@ unfolding joined
 begun-done {s} {before} b =
     let e : s ≡ b .so-far = b .split ∙ append-nil (b .so-far) in
     record { count = b .count ∙ ap length (sym e); out = b .wrote ∙ ap (λ (z : List ℕ). written z before) (sym e) }
+
+-- ---- pieces at known places
+
+pub put-first : {s before after : List ℕ} {ps : List (List ℕ)} (p : List ℕ) (n : ℕ) → s ≡ p ++ joined ps → length s ≤ length before → n ≡ length p → after ≡ written p before → Begun s before n after ps
+put-first p n e h k w = record { so-far = p; split = e; count = k; wrote = w; room = h }
+
+pub put-next : {s before : List ℕ} {at : ℕ} {out p : List ℕ} {ps : List (List ℕ)} {zs : List ℕ} (m : ℕ) → Begun s before at out (p ∷ ps) → m ≡ at + length p →
+    zs ≡ written p (midOf at (length out - at) out) → Begun s before m (putMid at (length out - at) out zs) ps
+put-next {s} {before} {at} {out} {p} {ps} {zs} m b e w =
+    subst (λ (k : ℕ). Begun s before k (putMid at (length out - at) out zs) ps) (sym e) (begun-next b (record { count = refl; out = w }))
+
+pub put-last : {s before : List ℕ} {at : ℕ} {out : List ℕ} (v : ℕ) → Begun s before at out ((v ∷ []) ∷ []) → set out at v ≡ written s before
+unfolding joined
+put-last {s} {before} {at} {out} v b =
+    let l = begun-left b in let k = b .count in let r = b .room in
+    ap₂ (λ (l : List ℕ) (n : ℕ). set l n v) (b .wrote) (b .count)
+    ∙ written-set (b .so-far) before v (omega arith)
+    ∙ ap (λ (z : List ℕ). written z before) (sym (b .split))
+
+-- x from place n on is z now; the part of x from place n on
+abbrev pub over : ℕ → List ℕ → List ℕ → List ℕ
+over n x z = putMid n (length x - n) x z
+
+abbrev pub from : ℕ → List ℕ → List ℕ
+from n x = midOf n (length x - n) x
+
+pub from-long : (n m : ℕ) (s x xs : List ℕ) → x ≡ written s xs → length s ≤ length xs → n + m ≤ length xs → m ≤ length (from n x)
+from-long n m s x xs e g h = let l = ap length e ∙ length-written s xs g in simp (length-take, length-drop) (omega arith)
+
+-- ---- a rest that is taken apart as it is written
+
+pub begun-start : (s xs : List ℕ) → length s ≤ length xs → Begun s xs 0 xs (s ∷ [])
+begun-start s xs h = record { so-far = []; split = joined-one s; count = refl; wrote = sym (written-none xs); room = h }
+
+pub begun-split : {s before : List ℕ} {at : ℕ} {out r : List ℕ} {ps : List (List ℕ)} (p q : List ℕ) → r ≡ p ++ q → Begun s before at out (r ∷ ps) → Begun s before at out (p ∷ q ∷ ps)
+unfolding joined
+begun-split {ps = ps} p q e b = record {
+  so-far = b .so-far;
+  split = b .split ∙ ap (λ (z : List ℕ). b .so-far ++ z) (ap (λ (z : List ℕ). z ++ joined ps) e ∙ append-assoc p q (joined ps));
+  count = b .count;
+  wrote = b .wrote;
+  room = b .room;
+}
+
+pub begun-rest : {s before : List ℕ} {at : ℕ} {out r : List ℕ} → Begun s before at out (r ∷ []) → r ≡ [] → Wrote at s before out
+unfolding joined
+begun-rest {s} {before} {at} {out} {r} b e =
+    begun-done (record { so-far = b .so-far; split = b .split ∙ ap (λ (z : List ℕ). b .so-far ++ (z ++ [])) e; count = b .count; wrote = b .wrote; room = b .room })
