@@ -6,7 +6,7 @@ use generator::modules;
 use rulketoos::Refusal;
 use std::hint::black_box;
 
-/// The module of a script of 30 lines, and the longest module.
+/// The module of a script of 30 lines, and one near the longest.
 fn cases() -> [(&'static str, Vec<u8>); 2] {
     let lowered = rulketoos::lower_to_vec(&script()).expect("accepted");
     [
