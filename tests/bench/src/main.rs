@@ -264,5 +264,6 @@ fn main() {
     trees();
     readers();
     texts::listings();
+    texts::sheets();
     runs();
 }

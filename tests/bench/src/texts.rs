@@ -35,3 +35,8 @@ pub fn listings() {
     println!("listing a module (17 to 21, 31), beside plain Rust");
     beside(rulketoos::list, model::list);
 }
+
+pub fn sheets() {
+    println!("count sheet of a module (17 to 21, 32), beside plain Rust");
+    beside(rulketoos::count_sheet, model::count_sheet);
+}
