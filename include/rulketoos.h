@@ -1,6 +1,6 @@
 /*
  * Rulketoos for C and for languages that call C: pyhyeon scripts' trees and
- * modules, checked, lowered, read, listed and run by proved code.
+ * modules, checked, lowered, read, listed, counted and run by proved code.
  *
  * Link target/staticlib/libexports.a, which `rt staticlib exports` writes.
  * A slice is a pointer and a length; the caller owns all memory, nothing is
@@ -70,6 +70,19 @@ uint64_t rulketoos_code(const uint8_t *module, size_t module_len, uint64_t funct
  * than module_len.
  */
 uint64_t rulketoos_list(const uint8_t *module, size_t module_len, uint8_t *out, size_t out_len);
+
+/*
+ * Writes the count sheet of a module record to out from the first byte on; what
+ * is past it is left as it was. Each line has 40 characters and a line feed:
+ * number, instructions, conditional jumps and calls of a function, and at last
+ * the totals (docs/FORMAT.md). Answers RULKETOOS_WROTE plus the count of bytes
+ * written; or, below RULKETOOS_WROTE, the refusal, 17 to 21 or 32 (the sheet
+ * doesn't fit out), with out left as it was.
+ *
+ * The sheet of n functions has 41 * (n + 1) bytes, and 8 * n is less than
+ * module_len.
+ */
+uint64_t rulketoos_count_sheet(const uint8_t *module, size_t module_len, uint8_t *out, size_t out_len);
 
 /* What rulketoos_run leaves in numbers. */
 enum {

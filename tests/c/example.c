@@ -1,4 +1,4 @@
-/* Calls the library from C: lowers a tree, reads and lists a module, finds a function's code, runs it. */
+/* Calls the library from C: lowers a tree, reads, lists and counts a module, finds a function's code, runs it. */
 #include "rulketoos.h"
 
 #include <stdio.h>
@@ -88,7 +88,7 @@ static void lowers(void)
     expect(all_bytes(out, sizeof out, 9) && areas_are(7), "the output and the areas are as they were");
 }
 
-/* the listing of the loop */
+/* the listing and the count sheet of the loop */
 static const char listing[] =
     "PAGE      1                                         \n"
     "    0     0 True                                    \n"
@@ -97,20 +97,28 @@ static const char listing[] =
     "    0     3 Jump                              -4    \n"
     "    0     4 Return                                  \n";
 
-static void lists(void)
+static const char sheet[] =
+    "    0      5      1      0              \n"
+    "TOTAL      5      1      0              \n";
+
+/* a call that writes a text of a module */
+typedef uint64_t text_call(const uint8_t *module, size_t module_len, uint8_t *out, size_t out_len);
+
+/* the loop's text by that call, in outputs that are long enough and one byte short */
+static void writes(text_call *call, const char *text, uint64_t short_by)
 {
-    size_t size = sizeof listing - 1;
+    size_t size = strlen(text);
     memset(out, 9, sizeof out);
-    uint64_t answer = rulketoos_list(loop_module, sizeof loop_module, out, sizeof out);
-    expect(answer == RULKETOOS_WROTE + size, "a module is listed");
-    expect(memcmp(out, listing, size) == 0, "its listing is there");
+    uint64_t answer = call(loop_module, sizeof loop_module, out, sizeof out);
+    expect(answer == RULKETOOS_WROTE + size, "a text of a module is written");
+    expect(memcmp(out, text, size) == 0, "it is there");
     expect(all_bytes(out + size, sizeof out - size, 9), "the rest of the output is untouched");
     memset(out, 9, sizeof out);
-    answer = rulketoos_list(loop_module, sizeof loop_module, out, size - 1);
-    expect(answer == 31, "a shorter output is refused by 31");
+    answer = call(loop_module, sizeof loop_module, out, size - 1);
+    expect(answer == short_by, "a shorter output is refused by 31, or by 32");
     expect(all_bytes(out, sizeof out, 9), "the output is as it was");
-    answer = rulketoos_list(loop_module, sizeof loop_module - 1, out, sizeof out);
-    expect(answer == 17, "a module that is cut isn't listed, by 17");
+    answer = call(loop_module, sizeof loop_module - 1, out, sizeof out);
+    expect(answer == 17, "a module that is cut has no text, by 17");
 }
 
 int main(void)
@@ -124,7 +132,8 @@ int main(void)
     lowers();
     expect(rulketoos_read(module, sizeof module) == 0, "the module is accepted");
     expect(rulketoos_read(module, sizeof module - 1) == 17, "a module that is cut is refused by 17");
-    lists();
+    writes(rulketoos_list, listing, 31);
+    writes(rulketoos_count_sheet, sheet, 32);
 
     uint64_t code = rulketoos_code(module, sizeof module, 0);
     expect(code >> 32 == 27 && (uint32_t)code == 1, "the code of function 0 is one byte at 27");

@@ -6,13 +6,16 @@ use Prim.Native.Nat.{ℕ}
 use Prim.Native.String.{String}
 use lib.Dec.{eqb}
 use lib.ListN.{replicate}
-use Rattle.definitions.specs.Bytes.{refused, accepted, all, ascii, listBytes}
+use Rattle.definitions.specs.Bytes.{refused, accepted, all, ascii, concat, listBytes}
 use Rattle.definitions.specs.Module.{nameBytes, moduleBytes}
 use Rattle.definitions.specs.Reader.{readModule}
 use Rattle.definitions.specs.Samples.{Sample, sample, holds, passes, refusal, functionIs, tree, named, variable, noneE, exprS, passS, forS, defS, defWith, returnS, classS, methodOf, assignS, listE, tupleE, lambdaE}
 use Rattle.definitions.specs.Tree.{listD}
-use Rattle.definitions.specs.Instruction.{LoadLocal, LoadGlobal, MakeClosure, Build, Return, ConstI64, ConstF64, Dup, LoadIndex, StoreLocal, Jump, JumpIfFalse, CallValue, minus}
+use Rattle.definitions.specs.Instruction.{LoadLocal, LoadGlobal, MakeClosure, Build, Return, ConstI64, ConstF64, Dup, LoadIndex, StoreLocal, minus}
+use Rattle.definitions.specs.Instruction.{Instr, Jump, JumpIfFalse, JumpIfTrue, Call, CallBuiltin, CallValue, CallMethod}
+use Rattle.definitions.specs.Tables.{Function, Tables}
 use Rattle.definitions.specs.Listing.{codeLine, pageLine, listing}
+use Rattle.definitions.specs.Sheet.{sheet}
 use Rattle.definitions.specs.Open.{everything}
 
 abbrev iterator : String
@@ -160,3 +163,22 @@ r2-holds = refl
 r2-empty : listing (record { symbols = []; strings = []; functions = []; classes = []; constants = [] }) ≡ []
 unfolding everything
 r2-empty = refl
+
+-- R-5: every kind of jump and of call, MakeClosure and Return; a function's line and the totals; a module without functions
+unfoldable r5 : List Instr
+r5 = JumpIfFalse 0 ∷ JumpIfTrue 0 ∷ Jump 0 ∷ Call 0 0 ∷ CallBuiltin 0 0 ∷ CallValue 0 ∷ CallMethod 0 0 ∷ MakeClosure 0 0 ∷ Return ∷ []
+
+unfoldable r5-module : List Function → Tables
+r5-module fs = record { symbols = []; strings = []; functions = fs; classes = []; constants = [] }
+
+unfoldable r5-function : List Instr → Function
+r5-function is = record { symbol = 0; arity = 0; locals = 0; code = is }
+
+r5-holds : sheet (r5-module (r5-function r5 ∷ r5-function (Call 0 0 ∷ Return ∷ []) ∷ []))
+    ≡ concat (λ (s : String). ascii s ++ 10 ∷ []) ("    0      9      2      4              " ∷ "    1      2      0      1              " ∷ "TOTAL     11      2      5              " ∷ [])
+unfolding everything r5 r5-module r5-function
+r5-holds = refl
+
+r5-empty : sheet (r5-module []) ≡ ascii "TOTAL      0      0      0              " ++ 10 ∷ []
+unfolding everything r5-module
+r5-empty = refl

@@ -98,7 +98,7 @@ runRefusals m f answers budget room =
     rw first-is (read-then m (λ t. whenAccepted (functionOf t f) (runFunction answers budget room))
     ∙ ap (readThen m) (ap (whenAccepted (functionOf (tablesIn m) f)) (λ i g. run-asked answers budget room g i) ∙ when-function (tablesIn m) f after))
 
--- ---- 31: a text about the module
+-- ---- 31 and 32: a text about the module
 
 pub textRefusals : TextRefusals
 unfolding textAnswer textFits textQuestions questioned readThen readQuestions

@@ -1,4 +1,4 @@
--- What each call answers and what it leaves in the slices lent to it: questions 1 and 16, 22 to 24, 31, and the program `lower`.
+-- What each call answers and what it leaves in the slices lent to it: questions 1 and 16, 22 to 24, 31 and 32, and the program `lower`.
 use Prim.Native.Nat.{ℕ, zero, suc}
 use mathlib.Core.Bool.{Bool, true, false, _&&_}
 use mathlib.Core.Option.{Option, none, some}
@@ -12,6 +12,7 @@ use Rattle.definitions.specs.Tables.{Function, Tables}
 use Rattle.definitions.specs.Module.{Limits, office, codeStart, lowerBytes}
 use Rattle.definitions.specs.Reader.{readModule}
 use Rattle.definitions.specs.Listing.{listing}
+use Rattle.definitions.specs.Sheet.{sheet}
 use Rattle.definitions.specs.Run.{Ran, run}
 use Rattle.definitions.specs.Walk.{Walked, walk}
 
@@ -133,6 +134,10 @@ textCall q f bs output =
 -- the code listing: questions 17 to 21 and 31
 unfoldable pub listCall : List ℕ → List ℕ → Writing
 listCall bs output = textCall 31 listing bs output
+
+-- the count sheet: questions 17 to 21 and 32
+unfoldable pub sheetCall : List ℕ → List ℕ → Writing
+sheetCall bs output = textCall 32 sheet bs output
 
 -- ---- the run
 

@@ -8,7 +8,7 @@ use mathlib.Core.List.{List, [], _∷_, _++_, map}
 use lib.ListN.{length, getD, getElem?, take, drop}
 use lib.Dec.{eqb, leb, ltb}
 use lib.Pow.{areBytes}
-use Rattle.definitions.specs.Bytes.{Name, decimal, member, Answer, refused, accepted, Parsed, got, failed, field, all, concat}
+use Rattle.definitions.specs.Bytes.{Name, ascii, decimal, member, Answer, refused, accepted, Parsed, got, failed, field, all, concat}
 use Rattle.definitions.specs.Utf8.{Range, inRange, Octets, utf8Char, isUtf8, isScalar, encodeChar}
 use Rattle.definitions.specs.Tree.{BinaryOp, addOp, subtractOp, multiplyOp, divideOp, floorDivideOp, moduloOp, equalOp, notEqualOp, lessOp, lessEqualOp, greaterOp, greaterEqualOp}
 use Rattle.definitions.specs.Tree.{binaryNumber, UnaryOp, LogicalOp, Display, Expr, lit, var, unary, binary, logical, call, attr, display, index, lambda, Exprs, []ᵉ, _∷ᵉ_}
@@ -24,6 +24,7 @@ use Rattle.definitions.specs.Bodies.{bodies}
 use Rattle.definitions.specs.Module.{Limits, office, moduleBytes, codeStart, instructions, slotsFit, tablesFit, lowerBlock, lowerTables, lowerBytes}
 use Rattle.definitions.specs.Reader.{moduleRecord, numbersExist, codeStands, readModule}
 use Rattle.definitions.specs.Listing.{firstText, secondText, nameText, codeLine, pageLine, listing}
+use Rattle.definitions.specs.Sheet.{anyOp, isQuestion, isCall, tally, allCode, countLine, sheet}
 use Rattle.definitions.specs.Run.{Ran, run}
 use Rattle.definitions.specs.Walk.{Walked, endingNumber, walk}
 use Rattle.definitions.specs.Calls.{areasFit, areAnswers, lowerAnswer, readCall, Part, partOf, codeCall, textAnswer, runAnswer, walkTree}
@@ -197,7 +198,7 @@ RunRefusals =
     (m : List ℕ) (f : ℕ) (answers : List ℕ) (budget room : ℕ)
     → runAnswer m f answers budget room ≡ firstRefusal (runQuestions m f answers budget room) (runIn m f answers budget)
 
--- those of a call that writes a text about a module, by the length of the output: 31 of the listing
+-- those of a call that writes a text about a module, by the length of the output: 31 of the listing, 32 of the sheet
 unfoldable pub textQuestions : ℕ → (Tables → List ℕ) → List ℕ → ℕ → List Question
 textQuestions q f m room = readQuestions m ++ asked q (leb (length (f (tablesIn m))) room) ∷ []
 
@@ -542,3 +543,43 @@ pub record ListingFits (t : Tables) : Type 0 where
 
 abbrev pub ListingLength : Type 0
 ListingLength = (m : List ℕ) (t : Tables) → areBytes m ≡ true → readModule m ≡ accepted t → ListingFits t
+
+-- ---- the count sheet: proofs/Sheet
+
+-- a column: what is counted, function by function; and its sum
+unfoldable pub column : (ℕ → Bool) → List Function → List ℕ
+column test fs = map (λ (f : Function). tally test (f .code)) fs
+
+unfoldable pub sum : List ℕ → ℕ
+sum [] = 0
+sum (n ∷ ns) = n + sum ns
+
+-- the lines of three columns, from function f on
+unfoldable pub rows : ℕ → List ℕ → List ℕ → List ℕ → List ℕ
+rows f (n ∷ ns) (q ∷ qs) (c ∷ cs) = countLine (decimal f) n q c ++ rows (suc f) ns qs cs
+rows f [] qs cs = []
+rows f (n ∷ ns) [] cs = []
+rows f (n ∷ ns) (q ∷ qs) [] = []
+
+-- The sheet is three columns and a last line with the sum of each. Each sum is also the count over the code of all of the module's functions, and the first
+-- one the count of instructions
+pub record Totalled (t : Tables) : Type 0 where
+  pub shows :
+      sheet t
+      ≡ rows 0 (column anyOp (t .functions)) (column isQuestion (t .functions)) (column isCall (t .functions))
+      ++ countLine (ascii "TOTAL") (sum (column anyOp (t .functions))) (sum (column isQuestion (t .functions))) (sum (column isCall (t .functions)))
+  pub counts : (test : ℕ → Bool) → sum (column test (t .functions)) ≡ tally test (allCode (t .functions))
+  pub all : sum (column anyOp (t .functions)) ≡ instructions (t .functions)
+
+abbrev pub SheetTotals : Type 0
+SheetTotals = (t : Tables) → Totalled t
+
+-- in an accepted module each number of the sheet fits its columns; so the sheet has 41 bytes for each function, and for the totals
+pub record SheetFits (t : Tables) : Type 0 where
+  pub function : (f : ℕ) → f < length (t .functions) → length (decimal f) ≤ 5
+  pub line : (test : ℕ → Bool) (f : ℕ) (g : Function) → getElem? (t .functions) f ≡ some g → length (decimal (tally test (g .code))) ≤ 6
+  pub total : (test : ℕ → Bool) → length (decimal (tally test (allCode (t .functions)))) ≤ 6
+  pub long : length (sheet t) ≡ 41 * (length (t .functions) + 1)
+
+abbrev pub SheetLength : Type 0
+SheetLength = (m : List ℕ) (t : Tables) → areBytes m ≡ true → readModule m ≡ accepted t → SheetFits t

@@ -31,7 +31,7 @@ use Rattle.tally.specs.declared.Listed.the-variants.{Written, Refused as NotWri
 use Rattle.run.specs.Pass.{said as ranSaid, Called}
 use Rattle.run.specs.declared.Outcome.{Outcome}
 use Rattle.run.specs.declared.Outcome.the-variants.{Finished, Refused as NotRun}
-use Rattle.exports.specs.Told.{told, toldCount, toldPart, fourIn, countsIn, Few, Lowers, Prints, Runs}
+use Rattle.exports.specs.Told.{told, toldCount, toldPart, fourIn, countsIn, Tellable, Lowers, Prints, Runs}
 
 -- ---- a tree
 
@@ -104,7 +104,7 @@ code-no r t f q L e = ap toldPart (sym (ap saidPart e) ∙ L .is)
 
 -- ---- a text about a module
 
-pub tell-few : (r : Listed) (n : ℕ) → Few (textSaid r) → r ≡ Written n → n < 2 ^ 63
+pub tell-few : (r : Listed) (n : ℕ) → Tellable (textSaid r) → r ≡ Written n → n < 2 ^ 63
 unfolding textSaid
 tell-few r n h e = h n (ap textSaid e)
 
@@ -126,7 +126,7 @@ module _ (q : ℕ) (f : Tables → List ℕ) (r : Listed) (t out out′ : List �
       go (refused p) k = let z : _≡_ {A = ℕ} 0 1 = cc in absurd (omega arith)
       go (accepted x) k = room-count q (length out) (f x) n (leb (length (f x)) (length out)) refl k
 
-  pub text-few : length out < 2 ^ 63 → Few (textSaid r)
+  pub text-few : length out < 2 ^ 63 → Tellable (textSaid r)
   text-few h n e = let k = text-fits n e in omega arith
 
   pub text-told : (a : ℕ) → a ≡ toldCount (textSaid r) → Prints a (textCall q f t out) out′

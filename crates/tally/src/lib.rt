@@ -1,4 +1,4 @@
-// The functions of an accepted module, one after the other: how many instructions they have; and what a call answers that writes a text about them.
+// The functions of an accepted module, one after the other: what is counted of their code; and what a call answers that writes a text about them.
 use reader::Found;
 use reader::instruction_at;
 use reader::number_at;
@@ -7,7 +7,9 @@ ghost use Prim.Native.Nat.{_≤_};
 ghost use lib.ListN.{length};
 ghost use Rattle.definitions.specs.Module.{instructions};
 ghost use Rattle.definitions.specs.Reader.{functionRecord, instruction};
-ghost use Rattle.tally.specs.Walk.{Values, valuesEnd, functionsFrom};
+ghost use Rattle.definitions.specs.Sheet.{isQuestion, isCall};
+ghost use Rattle.tally.specs.Walk.{Values, functionsFrom};
+ghost use Rattle.tally.specs.Counts.{oneIf, Tallies};
 
 // The count of bytes of a text about a module, or a refusal.
 pub enum Listed {
@@ -15,27 +17,91 @@ pub enum Listed {
     Refused(u8),
 }
 
+// Where the code after some instructions begins, and the conditional jumps and calls among these.
+pub struct Tallied {
+    pub at: usize,
+    pub questions: u64,
+    pub calls: u64,
+}
+
+// Opcodes of conditional jumps and of calls.
+const JUMP_IF_FALSE: u8 = 29;
+
+const JUMP_IF_TRUE: u8 = 30;
+
+const CALL: u8 = 31;
+
+const CALL_BUILTIN: u8 = 32;
+
+const CALL_VALUE: u8 = 34;
+
+const CALL_METHOD: u8 = 35;
+
 // In a function's record: where its count of instructions begins, and its code.
 pub const COUNT: usize = 5;
 
 pub const CODE: usize = 7;
 
-// Where the bytes after n instructions begin, from `at` on.
-fn skip_code(bytes: &[u8], at: usize, n: u64) -> usize
+// 1 for a conditional jump, 0 for any other.
+fn question(op: u8) -> u64
+    ensures { λ r. ⌜ (r ≡ oneIf (isQuestion op)) × (r ≤ 1) ⌝ }
+{
+    if op == JUMP_IF_FALSE {
+        return 1;
+    }
+    if op == JUMP_IF_TRUE {
+        return 1;
+    }
+    0
+}
+
+// 1 for a call, 0 for any other.
+fn call(op: u8) -> u64
+    ensures { λ r. ⌜ (r ≡ oneIf (isCall op)) × (r ≤ 1) ⌝ }
+{
+    if op == CALL {
+        return 1;
+    }
+    if op == CALL_BUILTIN {
+        return 1;
+    }
+    if op == CALL_VALUE {
+        return 1;
+    }
+    if op == CALL_METHOD {
+        return 1;
+    }
+    0
+}
+
+// n instructions from `at` on.
+pub fn count_code(bytes: &[u8], at: usize, n: u64) -> Tallied
     requires { ⌜ Values instruction n (now bytes) at ⌝ }
-    ensures { λ r. ⌜ r ≡ valuesEnd instruction n (now (bytes .entry)) at ⌝ }
+    ensures { λ r. ⌜ Tallies r n (now (bytes .entry)) at ⌝ }
 {
     let mut p = at;
     let mut left = n;
+    let mut questions = 0u64;
+    let mut calls = 0u64;
     while 0 < left {
         let found = instruction_at(bytes, p);
-        let Found::Instruction(_, _, _, next) = found else {
-            return p;
+        let Found::Instruction(op, _, _, next) = found else {
+            return Tallied {
+                at: p,
+                questions: questions,
+                calls: calls,
+            };
         };
+        questions += question(op);
+        calls += call(op);
         p = next;
         left -= 1;
     }
-    p
+    Tallied {
+        at: p,
+        questions: questions,
+        calls: calls,
+    }
 }
 
 // The instructions of `count` functions from `at` on.
@@ -48,7 +114,8 @@ pub fn count_functions(bytes: &[u8], at: usize, count: u64) -> u64
     let mut total = 0u64;
     while 0 < left {
         let n = number_at(bytes, p + COUNT, 2);
-        p = skip_code(bytes, p + CODE, n);
+        let code = count_code(bytes, p + CODE, n);
+        p = code.at;
         total += n;
         left -= 1;
     }

@@ -15,7 +15,7 @@
 //! ```
 //!
 //! [`lower`] does the same without allocating, in buffers of the caller; [`check`] asks a tree's own questions only; [`run`] runs a function of a
-//! module on yes and no answers; [`list`] writes the listing of a module's code.
+//! module on yes and no answers; [`list`] writes the listing of a module's code, [`count_sheet`] its count sheet.
 //!
 //! No call keeps anything, and none shares anything with another, so calls may be made from several threads. They work on their thread's stack; the
 //! usual 2 MB are enough (the run takes the most, about 600 KB).
@@ -31,5 +31,5 @@ mod trees;
 
 pub use modules::{code, read, run, Ending, Run};
 pub use refusal::{NoSuchQuestion, Refusal};
-pub use texts::{list, list_to_string};
+pub use texts::{count_sheet, count_sheet_to_string, list, list_to_string};
 pub use trees::{check, lower, lower_to_vec, Areas, AREA, MODULE_ROOM};

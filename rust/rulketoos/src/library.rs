@@ -20,6 +20,12 @@ unsafe extern "C" {
         out: *mut u8,
         out_len: usize,
     ) -> u64;
+    pub fn rulketoos_count_sheet(
+        module: *const u8,
+        module_len: usize,
+        out: *mut u8,
+        out_len: usize,
+    ) -> u64;
     pub fn rulketoos_run(
         module: *const u8,
         module_len: usize,

@@ -5,7 +5,7 @@ use std::fmt;
 
 /// The first question that is answered no.
 ///
-/// The lowering asks 1 to 16 and 33, the check of a tree 2 to 13 and 33 (33 just after 7), the reader of modules 17 to 21, the hand-back of code 17 to 22 and the run 17 to 24; the listing 17 to 21, then 31.
+/// The lowering asks 1 to 16 and 33, the check of a tree 2 to 13 and 33 (33 just after 7), the reader of modules 17 to 21, the hand-back of code 17 to 22 and the run 17 to 24; the listing 17 to 21, then 31, the count sheet 17 to 21, then 32.
 ///
 /// ```
 /// use rulketoos::Refusal;
@@ -69,12 +69,14 @@ pub enum Refusal {
     EventsTooShort = 24,
     /// 31: the listing doesn't fit the buffer.
     ListingTooShort = 31,
+    /// 32: the count sheet doesn't fit the buffer.
+    SheetTooShort = 32,
     /// 33: a name is one of a loop's iterator: `__for_iter_{}__` with digits in place of the braces.
     IteratorName = 33,
 }
 
 /// Every refusal with its question, by rising numbers.
-const QUESTIONS: [(Refusal, &str); 26] = [
+const QUESTIONS: [(Refusal, &str); 27] = [
     (Refusal::AreasTooShort, "is each work area at least 16,384 numbers long?"),
     (Refusal::TreeTooLong, "is the tree at most 32,768 bytes, header included?"),
     (Refusal::TreeHeader, "has the tree four bytes, and do they count the rest?"),
@@ -133,6 +135,7 @@ const QUESTIONS: [(Refusal, &str); 26] = [
     (Refusal::BadAnswer, "is each answer 0 or 1?"),
     (Refusal::EventsTooShort, "do the events fit the buffer?"),
     (Refusal::ListingTooShort, "does the listing fit the buffer?"),
+    (Refusal::SheetTooShort, "does the count sheet fit the buffer?"),
     (
         Refusal::IteratorName,
         "is no name of the form __for_iter_{}__, one or more digits in place of the braces?",
@@ -140,7 +143,7 @@ const QUESTIONS: [(Refusal, &str); 26] = [
 ];
 
 impl Refusal {
-    /// The number of the question, 1 to 24, 31 or 33.
+    /// The number of the question, 1 to 24 or 31 to 33.
     #[must_use]
     pub fn number(self) -> u32 {
         self as u32
@@ -175,7 +178,7 @@ impl fmt::Display for NoSuchQuestion {
     fn fmt(&self, f: &mut fmt::Formatter<'_>) -> fmt::Result {
         write!(
             f,
-            "there is no question {}: they are 1 to 24, 31 and 33",
+            "there is no question {}: they are 1 to 24 and 31 to 33",
             self.0
         )
     }

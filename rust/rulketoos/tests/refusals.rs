@@ -7,7 +7,7 @@ const EMPTY: [u8; 7] = [0, 0, 0, 3, 1, 0, 0];
 #[test]
 fn every_number_has_its_refusal() {
     let mut count = 0;
-    for (number, refusal) in (1..=24).chain([31, 33]).zip(Refusal::all()) {
+    for (number, refusal) in (1..=24).chain(31..=33).zip(Refusal::all()) {
         assert_eq!(refusal.number(), number);
         assert_eq!(Refusal::try_from(number), Ok(refusal));
         let text = refusal.to_string();
@@ -15,9 +15,9 @@ fn every_number_has_its_refusal() {
         assert!(text.ends_with(refusal.question()) && text.ends_with('?'));
         count += 1;
     }
-    assert_eq!(count, 26);
+    assert_eq!(count, 27);
     assert_eq!(Refusal::all().count(), count);
-    for number in [0, 25, 30, 32, 34, u32::MAX] {
+    for number in [0, 25, 30, 34, u32::MAX] {
         assert_eq!(Refusal::try_from(number), Err(NoSuchQuestion(number)));
     }
 }
@@ -141,28 +141,50 @@ fn empty_slices_are_read() {
     assert_eq!(run, Err(Refusal::ModuleHeader));
     let listed = rulketoos::list(&[], &mut []);
     assert_eq!(listed, Err(Refusal::ModuleHeader));
+    let counted = rulketoos::count_sheet(&[], &mut []);
+    assert_eq!(counted, Err(Refusal::ModuleHeader));
 }
 
 /// A text fits a buffer of just its length; a shorter one is left as it was.
 #[test]
 fn texts_are_written_or_left() {
     let module = rulketoos::lower_to_vec(&EMPTY).expect("accepted");
-    let listing = rulketoos::list_to_string(&module).expect("accepted");
-    let mut exact = vec![9; listing.len()];
-    assert_eq!(rulketoos::list(&module, &mut exact), Ok(listing.len()));
-    assert_eq!(exact, listing.as_bytes());
-    let mut short = vec![9; listing.len() - 1];
-    let refused = rulketoos::list(&module, &mut short);
-    assert_eq!(refused, Err(Refusal::ListingTooShort));
-    assert!(short.iter().all(|&byte| byte == 9));
+    type Write = fn(&[u8], &mut [u8]) -> Result<usize, Refusal>;
+    let texts: [(_, Write, _); 2] = [
+        (
+            rulketoos::list_to_string(&module),
+            rulketoos::list,
+            Refusal::ListingTooShort,
+        ),
+        (
+            rulketoos::count_sheet_to_string(&module),
+            rulketoos::count_sheet,
+            Refusal::SheetTooShort,
+        ),
+    ];
+    for (text, write, refusal) in texts {
+        let text = text.expect("accepted");
+        let mut exact = vec![9; text.len()];
+        assert_eq!(write(&module, &mut exact), Ok(text.len()));
+        assert_eq!(exact, text.as_bytes());
+        let mut short = vec![9; text.len() - 1];
+        assert_eq!(write(&module, &mut short), Err(refusal));
+        assert!(short.iter().all(|&byte| byte == 9));
+    }
 }
 
-/// A module without functions has a listing of no bytes, in a buffer of none.
+/// A module without functions has a listing of no bytes, in a buffer of none,
+/// and a sheet of its totals alone.
 #[test]
 fn a_module_without_functions() {
     let none = [0, 0, 0, 11, 1, 0, 0, 0, 0, 0, 0, 0, 0, 0, 0];
     assert_eq!(rulketoos::list(&none, &mut []), Ok(0));
     assert_eq!(rulketoos::list_to_string(&none), Ok(String::new()));
+    let total = "TOTAL      0      0      0              \n";
+    let sheet = rulketoos::count_sheet_to_string(&none);
+    assert_eq!(sheet, Ok(total.to_string()));
+    let refused = rulketoos::count_sheet(&none, &mut [0; 40]);
+    assert_eq!(refused, Err(Refusal::SheetTooShort));
 }
 
 #[test]

@@ -163,7 +163,10 @@ fn readers() {
             "the module of that script",
             model::lower(&script(), 16_384, 16_384, 65_536).expect("accepted"),
         ),
-        ("524,288 bytes of code", modules::full_of_code()),
+        (
+            "458,827 bytes, nearly all of them code",
+            modules::full_of_code(),
+        ),
     ];
     for (what, module) in cases {
         let ours = best(|| rulketoos::read(black_box(&module)));
@@ -264,5 +267,6 @@ fn main() {
     trees();
     readers();
     texts::listings();
+    texts::sheets();
     runs();
 }

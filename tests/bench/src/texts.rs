@@ -6,7 +6,7 @@ use generator::modules;
 use rulketoos::Refusal;
 use std::hint::black_box;
 
-/// The module of a script of 30 lines, and the longest module.
+/// The module of a script of 30 lines, and one near the longest.
 fn cases() -> [(&'static str, Vec<u8>); 2] {
     let lowered = rulketoos::lower_to_vec(&script()).expect("accepted");
     [
@@ -34,4 +34,9 @@ fn beside(
 pub fn listings() {
     println!("listing a module (17 to 21, 31), beside plain Rust");
     beside(rulketoos::list, model::list);
+}
+
+pub fn sheets() {
+    println!("count sheet of a module (17 to 21, 32), beside plain Rust");
+    beside(rulketoos::count_sheet, model::count_sheet);
 }

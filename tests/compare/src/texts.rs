@@ -25,6 +25,13 @@ pub const LISTING: Text = Text {
     question: 31,
 };
 
+pub const SHEET: Text = Text {
+    name: "count sheet",
+    ours: rulketoos::count_sheet,
+    model: model::count_sheet,
+    question: 32,
+};
+
 impl Text {
     /// One call on a module in buffers that are longer than the text, just
     /// full, one short and empty. A module that is refused has two buffers.

@@ -1,10 +1,10 @@
 //! Our texts of modules against the model's.
 
 use compare::hex;
-use compare::texts::{self, Text, LISTING};
+use compare::texts::{self, Text, LISTING, SHEET};
 use generator::Rng;
 
-const TEXTS: [Text; 1] = [LISTING];
+const TEXTS: [Text; 2] = [LISTING, SHEET];
 
 fn same(module: &[u8]) {
     for text in TEXTS {

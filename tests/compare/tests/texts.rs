@@ -60,6 +60,72 @@ fn no_functions_no_page() {
     assert_eq!(model::list(&module, 0), Ok(String::new()));
 }
 
+#[test]
+fn a_sheet() {
+    let expected = [
+        "    0      5      0      0              ",
+        "    1      8      1      4              ",
+        "TOTAL     13      1      4              ",
+        "",
+    ];
+    let expected = expected.join("\n");
+    let module = some_code().bytes();
+    assert_eq!(model::count_sheet(&module, 123), Ok(expected));
+    assert_eq!(model::count_sheet(&module, 122), Err(32));
+    assert_eq!(model::count_sheet(&module[1..], 0), Err(17));
+}
+
+#[test]
+fn no_functions_a_total() {
+    let module = Parts::with(&[]).bytes();
+    let total = "TOTAL      0      0      0              \n";
+    assert_eq!(model::count_sheet(&module, 41), Ok(total.to_string()));
+    assert_eq!(model::count_sheet(&module, 40), Err(32));
+}
+
+/// Each total is the sum of its column, and each row counts what the listing
+/// lists.
+fn adds_up(module: &[u8]) {
+    let (Ok(sheet), Ok(listing)) = (
+        model::count_sheet(module, usize::MAX),
+        model::list(module, usize::MAX),
+    ) else {
+        return;
+    };
+    let mut listed: Vec<[usize; 3]> = Vec::new();
+    for line in code_lines(&listing) {
+        if line[6..11].trim_start() == "0" {
+            listed.push([0; 3]);
+        }
+        let name = line[12..27].trim_end();
+        let question = name.starts_with("JumpIf");
+        let row = listed.last_mut().expect("a function");
+        row[0] += 1;
+        row[1] += usize::from(question);
+        row[2] += usize::from(name.starts_with("Call"));
+    }
+    let total = listed.iter().fold([0; 3], |sum, row| {
+        std::array::from_fn(|column| sum[column] + row[column])
+    });
+    let mut expected = String::new();
+    let heads = (0..listed.len()).map(|number| number.to_string());
+    for (head, [all, questions, calls]) in heads
+        .chain(["TOTAL".to_string()])
+        .zip(listed.iter().copied().chain([total]))
+    {
+        let row = format!("{head:>5} {all:>6} {questions:>6} {calls:>6}");
+        expected += &format!("{row:<40}\n");
+    }
+    assert_eq!(sheet, expected);
+}
+
+#[test]
+fn sheets_add_up() {
+    let mut rng = Rng::new(35);
+    compare::texts::directed(&mut rng, adds_up);
+    compare::texts::random(&mut rng, 500, adds_up);
+}
+
 /// The code lines of a listing, after a look at its page lines.
 fn code_lines(listing: &str) -> Vec<&str> {
     let lines: Vec<&str> = listing.lines().collect();
@@ -176,6 +242,7 @@ fn texts_of_the_samples() {
             let module = std::fs::read(&path).expect("a module");
             let text = |kind| std::fs::read_to_string(path.with_extension(kind)).expect(kind);
             assert_eq!(model::list(&module, usize::MAX), Ok(text("listing")));
+            assert_eq!(model::count_sheet(&module, usize::MAX), Ok(text("sheet")));
             seen += 1;
         }
     }

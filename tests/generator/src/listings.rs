@@ -9,6 +9,7 @@ pub fn all() -> Vec<ModuleCase> {
     let mut cases = pages();
     cases.extend(operands());
     cases.extend(tables());
+    cases.extend(counted());
     cases.push(module_case("listing-far-jumps", far_jumps().bytes()));
     cases.push(module_case("listing-functions", most_functions().bytes()));
     cases
@@ -122,6 +123,42 @@ fn tables() -> Vec<ModuleCase> {
         module_case("listing-strings", strings.bytes()),
         module_case("listing-constants", constants.bytes()),
     ]
+}
+
+/// Functions of conditional jumps, of calls and of neither, whose counts have
+/// one to six digits.
+fn counted() -> Vec<ModuleCase> {
+    let of = |name: &str, count: usize, instructions: &[Bytes], functions: usize| {
+        let mut code: Vec<Bytes> = instructions
+            .iter()
+            .cycle()
+            .take(count - 1)
+            .cloned()
+            .collect();
+        code.push(vec![RETURN]);
+        let name = format!("sheet-{name}-{count}-times-{functions}");
+        module_case(
+            &name,
+            Parts::with(&vec![function(0, &code); functions]).bytes(),
+        )
+    };
+    let questions = [long(29, 0), long(30, 0)];
+    let calls = [
+        wide(31, 0, &[1]),
+        vec![32, 0, 1],
+        vec![34, 1],
+        wide(35, 0, &[1]),
+    ];
+    let neither = [long(28, 0), wide(45, 0, &[1]), vec![RETURN]];
+    let mut cases = Vec::new();
+    for count in [2, 10, 11, 100, 101, 1_001] {
+        cases.push(of("questions", count, &questions, 3));
+        cases.push(of("calls", count, &calls, 2));
+        cases.push(of("neither", count, &neither, 11));
+    }
+    cases.push(of("questions", 52_000, &questions, 2));
+    cases.push(of("calls", 65_535, &[vec![34, 1]], 3));
+    cases
 }
 
 /// A function of 65,535 instructions whose jumps go from one end to the other.

@@ -1,5 +1,5 @@
 //! A plain model of the paper: lowering, reader, run and walk; and of the
-//! requests after it: the code listing.
+//! requests after it: the code listing, the count sheet.
 //!
 //! Written from the documents alone, to be held against the reference compiler
 //! and against the project's own code. A refusal is the question's number.
@@ -13,6 +13,7 @@ pub mod plan;
 pub mod questions;
 mod renumber;
 pub mod run;
+pub mod sheet;
 pub mod slots;
 pub mod tree;
 pub mod utf8;
@@ -59,6 +60,11 @@ pub fn read(module: &[u8]) -> Result<(), u8> {
 /// Questions 17 to 21 and 31: the code listing.
 pub fn list(module: &[u8], room: usize) -> Result<String, u8> {
     fitting(listing::text(&module::read(module)?), room, 31)
+}
+
+/// Questions 17 to 21 and 32: the count sheet.
+pub fn count_sheet(module: &[u8], room: usize) -> Result<String, u8> {
+    fitting(sheet::text(&module::read(module)?), room, 32)
 }
 
 /// A text that fits the room, or the number of the question whether it does.

@@ -54,7 +54,11 @@ const CALLS: &[Call] = &[
     ("run loops.module 0 1101", b"", 0, "ending: 1 (returned)\nsteps: 23\nanswers used: 3\nevents: 00", ""),
     ("run --budget 3 loops.py 0", b"", 0, "ending: 3 (budget spent)\nsteps: 3\n", ""),
     ("run - 0 --budget 0", EMPTY, 0, "events: -\n", ""),
+    ("sheet loops.py", b"", 0, "\nTOTAL ", ""),
+    ("sheet -", EMPTY, 0, "    0      1      0      0              \nTOTAL      1      0      0              \n", ""),
+    ("sheet -", b"while a: print(b)\n", 0, "    0      7      1      1              \n", ""),
     // refused
+    ("sheet -", b"", 1, "", "standard input (taken for a module): refused 17: is the module"),
     ("list -", b"", 1, "", "standard input (taken for a module): refused 17: is the module"),
     ("list -", b"break\n", 1, "", "standard input:1:1: refused 9: "),
     ("lower -", b"", 1, "", "standard input (taken for a tree): refused 3: has the tree four bytes"),
@@ -122,15 +126,18 @@ fn samples_are_lowered() {
     }
 }
 
-/// The listing of each sample; `show` has the same lines, with names.
+/// The listing and the sheet of each sample; `show` has the same lines, with names.
 #[test]
 fn samples_are_listed_and_shown() {
     let person = Person::new();
     for name in SAMPLES {
         let listing = person.file(&format!("{name}.listing")).expect("a sample");
+        let sheet = person.file(&format!("{name}.sheet")).expect("a sample");
         for kind in ["py", "tree", "module"] {
-            let reply = person.types(&["list", &format!("{name}.{kind}")], b"");
-            assert_eq!((reply.status, &reply.out), (0, &listing), "{name}.{kind}");
+            for (word, text) in [("list", &listing), ("sheet", &sheet)] {
+                let reply = person.types(&[word, &format!("{name}.{kind}")], b"");
+                assert_eq!((reply.status, &reply.out), (0, text), "{name}.{kind}");
+            }
         }
         let reply = person.types(&["show", &format!("{name}.module")], b"");
         let shown = String::from_utf8(reply.out).expect("text");

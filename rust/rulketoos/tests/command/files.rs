@@ -49,9 +49,14 @@ fn an_output_is_whole() {
         person.types(&["lower", "loops.tree", "-o", "-"], b"").out,
         person.file("loops.module").expect("a sample")
     );
-    let listed = person.types(&["list", "loops.py", "-o", "new.listing"], b"");
-    assert_eq!((listed.status, listed.out.len()), (0, 0));
-    assert_eq!(person.file("new.listing"), person.file("loops.listing"));
+    for (word, old, new) in [
+        ("list", "loops.listing", "new.listing"),
+        ("sheet", "loops.sheet", "new.sheet"),
+    ] {
+        let reply = person.types(&[word, "loops.py", "-o", new], b"");
+        assert_eq!((reply.status, reply.out.len()), (0, 0));
+        assert_eq!(person.file(new), person.file(old));
+    }
 }
 
 #[test]

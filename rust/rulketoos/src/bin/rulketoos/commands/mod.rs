@@ -6,6 +6,7 @@ mod list;
 mod lower;
 mod read;
 mod run;
+mod sheet;
 mod show;
 
 use crate::arguments::{Command, Opt};
@@ -14,6 +15,7 @@ use crate::arguments::{Command, Opt};
 pub const ALL: &[Command] = &[
     show::COMMAND,
     list::COMMAND,
+    sheet::COMMAND,
     lower::COMMAND,
     check::COMMAND,
     read::COMMAND,
