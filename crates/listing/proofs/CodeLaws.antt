@@ -1,79 +1,100 @@
 -- The lines of code and of functions, written one after the other.
-use mathlib.Core.Path.{_≡_, sym, ap, ap₂, _∙_, subst}
+use mathlib.Core.Path.{_≡_, refl, sym, ap, ap₂, _∙_, subst}
 use mathlib.Core.List.{List, [], _∷_, _++_, append-assoc}
 use Prim.Native.Nat.{ℕ, suc, _+_, _-_, _≤_, _<_}
 use native.Mathlib.Omega.{arith}
-use lib.ListN.{length}
-use Rattle.definitions.specs.Instruction.{Instr, instr}
+use lib.ListN.{length, drop}
+use Rattle.definitions.specs.Instruction.{Instr, instr, encode}
 use Rattle.definitions.specs.Module.{instructions}
 use Rattle.definitions.specs.Reader.{instruction, functionRecord}
 use Rattle.definitions.specs.Listing.{heading, codeLine, codeLines, functionLines}
-use Rattle.reader.specs.View.{numberAt, foundAt}
-use Rattle.reader.specs.declared.Found.the-variants.{Instruction, Nothing}
+use Rattle.definitions.proofs.Lengths.{length-encode}
+use Rattle.reader.specs.View.{numberAt, instructionsOf, metAt, partAt}
+use Rattle.reader.specs.declared.Cursor.{Cursor}
+use Rattle.reader.specs.declared.Met.the-variants.{At, End}
+use Rattle.reader.specs.declared.Located.the-variants.{Code}
 use Rattle.reader.proofs.Encoding.{Small}
-use Rattle.reader.proofs.FunctionLaws.{op-small}
+use Rattle.reader.proofs.Iterated.{met-at, met-end}
 use Rattle.writing.specs.Wrote.{Wrote}
 use Rattle.writing.proofs.Begun.{over, from, Begun, begun-start, begun-split, begun-rest, begun-next}
 use Rattle.tally.specs.Walk.{Values, valuesEnd, codeFrom, functionsFrom}
-use Rattle.tally.proofs.Walking.{reads-none, Stepped, stepped, not-nothing, Function-here, function-head, function-here}
+use Rattle.tally.proofs.Walking.{reads-none, Function-here, function-head, function-here}
 use Rattle.listing.specs.Lines.{Operands, Lined}
 use Rattle.listing.specs.declared.Next.{Next}
-use Rattle.listing.proofs.Entries.{operands-read}
+use Rattle.listing.proofs.PartLaws.{part-code, code-count, met-operands}
 
 -- ---- the lines of a function's code
 
 -- the lines so far, and the code that is left
-pub record Lining (t : List ℕ) (at n f k : ℕ) (xs out : List ℕ) (p put place : ℕ) : Type 0 where
-  pub inside : place ≤ n
-  pub rest : Values instruction (n - place) t p
-  pub ends : valuesEnd instruction n t at ≡ valuesEnd instruction (n - place) t p
-  pub begun : Begun (codeLines f 0 k (codeFrom n t at)) xs put out (codeLines f place (k + place) (codeFrom (n - place) t p) ∷ [])
+pub record Lining (t : List ℕ) (f k : ℕ) (xs out : List ℕ) (c : Cursor) (put : ℕ) : Type 0 where
+  pub inside : c .at ≤ length t
+  pub behind : c .place ≤ c .at
+  pub count : length (instructionsOf t) ≡ c .place + length (instructionsOf (drop (c .at) t))
+  pub begun : Begun (codeLines f 0 k (instructionsOf t)) xs put out (codeLines f (c .place) (k + c .place) (instructionsOf (drop (c .at) t)) ∷ [])
 
-module _ (t : List ℕ) (at n f k : ℕ) (xs : List ℕ) where
-  pub lining-start : Values instruction n t at → length (codeLines f 0 k (codeFrom n t at)) ≤ length xs → Lining t at n f k xs xs at 0 0
-  lining-start r h =
-      let z : n ≡ n - 0 = omega arith in
-      record {
-        inside = omega arith;
-        rest = subst (λ (j : ℕ). Values instruction j t at) z r;
-        ends = ap (λ (j : ℕ). valuesEnd instruction j t at) z;
-        begun = subst (λ (l : List ℕ). Begun (codeLines f 0 k (codeFrom n t at)) xs 0 xs (l ∷ [])) (ap₂ (λ (i j : ℕ). codeLines f 0 i (codeFrom j t at)) (let y : k ≡ k + 0 = omega arith in y) z)
-            (begun-start (codeLines f 0 k (codeFrom n t at)) xs h);
-      }
+pub lining-start : (t : List ℕ) (f k : ℕ) (xs : List ℕ) → length (codeLines f 0 k (instructionsOf t)) ≤ length xs → Lining t f k xs xs (record { place = 0; at = 0 }) 0
+lining-start t f k xs h = record {
+  inside = omega arith;
+  behind = omega arith;
+  count = omega arith;
+  begun = subst (λ (j : ℕ). Begun (codeLines f 0 k (instructionsOf t)) xs 0 xs (codeLines f 0 j (instructionsOf t) ∷ [])) (let y : k ≡ k + 0 = omega arith in y)
+      (begun-start (codeLines f 0 k (instructionsOf t)) xs h);
+}
 
-  module _ (out : List ℕ) (p put place op a b m : ℕ) (l : Lining t at n f k xs out p put place) (h : place < n) (s : Stepped t (n - place) p op a b m) where
+module _ {t : List ℕ} {f k : ℕ} {xs out : List ℕ} {c : Cursor} {put : ℕ} (l : Lining t f k xs out c put) where
+  module _ {op a b : ℕ} {n : Cursor} (e : metAt t c ≡ At op a b n) where
+    more : (instructionsOf (drop (c .at) t) ≡ instr op a b ∷ instructionsOf (drop (n .at) t)) × (n .place ≡ c .place + 1) × (n .at ≤ length t) × (n .at ≡ c .at + length (encode (instr op a b)))
+    more = met-at t c op a b n (l .inside) e
+
+    pub lining-operands : Small t → Operands op a b
+    lining-operands small = met-operands t small c op a b n (l .inside) e
+
+    -- the place is one of the code's
+    pub lining-in : c .place < length (instructionsOf t)
+    lining-in = let h = l .count in let m = ap length (more .0) in omega arith
+
+    pub lining-less : length t - n .at < length t - c .at
+    lining-less = let q = more .3 in let d = length-encode (instr op a b) in let g = more .2 in omega arith
+
     -- the line in hand is next
-    pub lining-here : Begun (codeLines f 0 k (codeFrom n t at)) xs put out
-        ((heading (k + place) ++ codeLine f place (instr op a b)) ∷ codeLines f (suc place) (suc (k + place)) (codeFrom (n - place - 1) t m) ∷ [])
+    pub lining-piece : Begun (codeLines f 0 k (instructionsOf t)) xs put out
+        ((heading (k + c .place) ++ codeLine f (c .place) (instr op a b)) ∷ codeLines f (suc (c .place)) (suc (k + c .place)) (instructionsOf (drop (n .at) t)) ∷ [])
     unfolding codeLines
-    lining-here =
-        begun-split (heading (k + place) ++ codeLine f place (instr op a b)) (codeLines f (suc place) (suc (k + place)) (codeFrom (n - place - 1) t m))
-        (ap (codeLines f place (k + place)) (s .list)
-        ∙ sym (append-assoc (heading (k + place)) (codeLine f place (instr op a b)) (codeLines f (suc place) (suc (k + place)) (codeFrom (n - place - 1) t m))))
+    lining-piece =
+        begun-split (heading (k + c .place) ++ codeLine f (c .place) (instr op a b)) (codeLines f (suc (c .place)) (suc (k + c .place)) (instructionsOf (drop (n .at) t)))
+        (ap (codeLines f (c .place) (k + c .place)) (more .0)
+        ∙ sym (append-assoc (heading (k + c .place)) (codeLine f (c .place) (instr op a b)) (codeLines f (suc (c .place)) (suc (k + c .place)) (instructionsOf (drop (n .at) t)))))
         (l .begun)
 
-    pub lining-next : (r : ℕ) (zs : List ℕ) → Wrote r (heading (k + place) ++ codeLine f place (instr op a b)) (from put out) zs →
-        Lining t at n f k xs (over put out zs) m (put + r) (place + 1)
-    lining-next r zs w =
-        let z : n - place - 1 ≡ n - (place + 1) = omega arith in
+    pub lining-more : {r : ℕ} {zs : List ℕ} → Wrote r (heading (k + c .place) ++ codeLine f (c .place) (instr op a b)) (from put out) zs → Lining t f k xs (over put out zs) n (put + r)
+    lining-more {r} {zs} w =
+        let p = more .1 in let q = more .3 in let d = length-encode (instr op a b) in let g = l .behind in let h = l .count in let m = ap length (more .0) in
         record {
-          inside = omega arith;
-          rest = subst (λ (j : ℕ). Values instruction j t m) z (s .rest);
-          ends = l .ends ∙ s .ends ∙ ap (λ (j : ℕ). valuesEnd instruction j t m) z;
-          begun = subst (λ (q : List ℕ). Begun (codeLines f 0 k (codeFrom n t at)) xs (put + r) (over put out zs) (q ∷ []))
-              (ap₂ (λ (i j : ℕ). codeLines f i j (codeFrom (n - place - 1) t m)) (let y : suc place ≡ place + 1 = omega arith in y) (let y : suc (k + place) ≡ k + (place + 1) = omega arith in y)
-              ∙ ap (λ (j : ℕ). codeLines f (place + 1) (k + (place + 1)) (codeFrom j t m)) z)
-              (begun-next lining-here w);
+          inside = more .2;
+          behind = omega arith;
+          count = omega arith;
+          begun = subst (λ (y : List ℕ). Begun (codeLines f 0 k (instructionsOf t)) xs (put + r) (over put out zs) (y ∷ []))
+              (ap₂ (λ (i j : ℕ). codeLines f i j (instructionsOf (drop (n .at) t))) (let y : suc (c .place) ≡ n .place = omega arith in y) (let y : suc (k + c .place) ≡ k + n .place = omega arith in y))
+              (begun-next lining-piece w);
         }
 
-  pub lining-done : (out : List ℕ) (p put place : ℕ) → n ≤ place → Lining t at n f k xs out p put place → (r : Next) → r .at ≡ p → r .put ≡ put → Lined r n t at f k xs out
+  pub lining-done : metAt t c ≡ End → Wrote put (codeLines f 0 k (instructionsOf t)) xs out
   unfolding codeLines
-  lining-done out p put place h l r ea ep =
-      let e = reads-none instruction t (n - place) p (omega arith) (l .rest) in
-      record {
-        ends = ea ∙ sym (l .ends ∙ e .1);
-        wrote = subst (λ (j : ℕ). Wrote j (codeLines f 0 k (codeFrom n t at)) xs out) (sym ep) (begun-rest (l .begun) (ap (codeLines f place (k + place)) (e .0)));
-      }
+  lining-done e = begun-rest (l .begun) (ap (codeLines f (c .place) (k + c .place)) (met-end t c e))
+
+-- ---- a function's code, as a part of the module
+
+module _ {t : List ℕ} {n at end : ℕ} {part : List ℕ} (v : Values instruction n t at) (e : end ≡ valuesEnd instruction n t at) (p : part ≡ partAt (Code at (end - at) n) t) where
+  code-of : instructionsOf part ≡ codeFrom n t at
+  code-of = ap instructionsOf p ∙ part-code v e
+
+  pub code-fits : (f k room : ℕ) → n < 65536 → f < 65536 → k + n < 1000000 → length (codeLines f 0 k (codeFrom n t at)) ≤ room
+      → (length (instructionsOf part) < 65536) × (f < 65536) × (k + length (instructionsOf part) < 1000000) × (length (codeLines f 0 k (instructionsOf part)) ≤ room)
+  code-fits f k room a b c d = let l = ap length code-of ∙ code-count v in let m = ap (λ (is : List Instr). length (codeLines f 0 k is)) code-of in (omega arith, b, omega arith, omega arith)
+
+  -- its lines are those of the part
+  pub code-lined : {f k put : ℕ} {xs out : List ℕ} → Wrote put (codeLines f 0 k (instructionsOf part)) xs out → Lined (record { at = end; put = put }) n t at f k xs out
+  code-lined {f} {k} {put} {xs} {out} w = record { ends = e; wrote = subst (λ (is : List Instr). Wrote put (codeLines f 0 k is) xs out) code-of w }
 
 -- ---- the lines of functions
 
@@ -133,23 +154,6 @@ module _ (t : List ℕ) (at count : ℕ) (xs : List ℕ) where
   listing-done out p put f k h l = begun-rest (l .begun) (ap (functionLines f k) (reads-none functionRecord t (count - f) p (omega arith) (l .rest) .0))
 
 -- ---- what the code's needs ask for
-
-module _ {t : List ℕ} {at n f k : ℕ} {xs out : List ℕ} {p put place : ℕ} (l : Lining t at n f k xs out p put place) (h : place < n) {op a b m : ℕ} (e : foundAt t p ≡ Instruction op a b m) where
-  pub lining-step : Stepped t (n - place) p op a b m
-  lining-step = stepped t (n - place) p (omega arith) (l .rest) op a b m e
-
-  pub lining-operands : Small t → Operands op a b
-  lining-operands small = operands-read t small p op a b m (l .rest .here) (lining-step .one) (op-small t p op a b m (l .rest .here) e)
-
-  pub lining-piece : Begun (codeLines f 0 k (codeFrom n t at)) xs put out
-      ((heading (k + place) ++ codeLine f place (instr op a b)) ∷ codeLines f (suc place) (suc (k + place)) (codeFrom (n - place - 1) t m) ∷ [])
-  lining-piece = lining-here t at n f k xs out p put place op a b m l h lining-step
-
-  pub lining-more : {r : ℕ} {zs : List ℕ} → Wrote r (heading (k + place) ++ codeLine f place (instr op a b)) (from put out) zs → Lining t at n f k xs (over put out zs) m (put + r) (place + 1)
-  lining-more {r} {zs} w = lining-next t at n f k xs out p put place op a b m l h lining-step r zs w
-
-pub lining-goes : {t : List ℕ} {at n f k : ℕ} {xs out : List ℕ} {p put place : ℕ} → Lining t at n f k xs out p put place → place < n → foundAt t p ≡ Nothing → ⊥
-lining-goes {t} {at} {n} {f} {k} {xs} {out} {p} {put} {place} l h e = not-nothing t (n - place) p (omega arith) (l .rest) e
 
 module _ {t : List ℕ} {at count : ℕ} {xs out : List ℕ} {p put f k : ℕ} (l : Listing t at count xs out p put f k) (h : f < count) where
   pub listing-head : p + 7 ≤ length t

@@ -4,11 +4,15 @@ use crate::Next;
 use crate::PAGE;
 use crate::lines::write_line;
 use crate::lines::write_page;
-use reader::Found;
-use reader::instruction_at;
+use reader::Cursor;
+use reader::Located;
+use reader::Met;
+use reader::next_instruction;
 use reader::number_at;
+use reader::part_of;
 use tally::CODE;
 use tally::COUNT;
+use tally::count_code;
 ghost use mathlib.Core.List.{_++_};
 ghost use Prim.Native.Nat.{_+_, _≤_, _<_};
 ghost use lib.ListN.{length};
@@ -16,6 +20,7 @@ ghost use Rattle.definitions.specs.Instruction.{instr};
 ghost use Rattle.definitions.specs.Module.{instructions};
 ghost use Rattle.definitions.specs.Reader.{functionRecord, instruction};
 ghost use Rattle.definitions.specs.Listing.{heading, codeLine, codeLines, functionLines};
+ghost use Rattle.reader.specs.View.{instructionsOf};
 ghost use Rattle.writing.specs.Wrote.{Wrote};
 ghost use Rattle.tally.specs.Walk.{Values, codeFrom, functionsFrom};
 ghost use Rattle.listing.specs.Lines.{Operands, Lined};
@@ -34,24 +39,32 @@ fn write_entry(k: u64, f: u64, place: u64, op: u8, a: u64, b: u64, out: &mut [u8
     LINE
 }
 
-// The lines of the function f, of n instructions from `at` on, from code line k on.
-fn write_code(bytes: &[u8], at: usize, n: u64, f: u64, k: u64, out: &mut [u8]) -> Next
+// The lines of the function f, whose code this is, from code line k on: their bytes.
+fn write_code(code: &[u8], f: u64, k: u64, out: &mut [u8]) -> usize
+    requires { ⌜ (length (instructionsOf (now code)) < 65536) × (f < 65536) × (k + length (instructionsOf (now code)) < 1000000) × (length (codeLines f 0 k (instructionsOf (now code))) ≤ length (now out)) ⌝ }
+    ensures { λ r. ⌜ Wrote r (codeLines f 0 k (instructionsOf (now (code .entry)))) (now (out .entry)) (now (out .exit)) ⌝ }
+{
+    let mut c = Cursor { place: 0, at: 0 };
+    let mut put = 0usize;
+    loop {
+        let met = next_instruction(code, c);
+        let Met::At(op, a, b, next) = met else {
+            return put;
+        };
+        put += write_entry(k + c.place, f, c.place, op, a, b, &mut out[put..]);
+        c = next;
+    }
+}
+
+// The lines of the function f, whose n instructions begin at `at`, from code line k on: its code is handed back as a part of the module.
+fn write_function(bytes: &[u8], at: usize, n: u64, f: u64, k: u64, out: &mut [u8]) -> Next
     requires { ⌜ Values instruction n (now bytes) at × (n < 65536) × (f < 65536) × (k + n < 1000000) × (length (codeLines f 0 k (codeFrom n (now bytes) at)) ≤ length (now out)) ⌝ }
     ensures { λ r. ⌜ Lined r n (now (bytes .entry)) at f k (now (out .entry)) (now (out .exit)) ⌝ }
 {
-    let mut p = at;
-    let mut put = 0usize;
-    let mut place = 0u64;
-    while place < n {
-        let found = instruction_at(bytes, p);
-        let Found::Instruction(op, a, b, next) = found else {
-            return Next { at: p, put: put };
-        };
-        put += write_entry(k + place, f, place, op, a, b, &mut out[put..]);
-        p = next;
-        place += 1;
-    }
-    Next { at: p, put: put }
+    let end = count_code(bytes, at, n).at;
+    let code = part_of(bytes, Located::Code(at, end - at, n));
+    let put = write_code(code, f, k, out);
+    Next { at: end, put: put }
 }
 
 // The lines of `count` functions from `at` on.
@@ -65,9 +78,9 @@ pub(crate) fn write_functions(bytes: &[u8], at: usize, count: u64, out: &mut [u8
     let mut k = 0u64;
     while f < count {
         let n = number_at(bytes, p + COUNT, 2);
-        let code = write_code(bytes, p + CODE, n, f, k, &mut out[put..]);
-        put += code.put;
-        p = code.at;
+        let lines = write_function(bytes, p + CODE, n, f, k, &mut out[put..]);
+        put += lines.put;
+        p = lines.at;
         k += n;
         f += 1;
     }

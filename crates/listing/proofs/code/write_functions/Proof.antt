@@ -17,20 +17,20 @@ write-functions-spec = tie.close (tie.spec Inv-loop μ-loop
     (λ c. let s = c .before .before in listing-start _ _ _ _ (s .pre .0) (s .pre .3))  -- loop-holds
     (λ c. let h = listing-head (c .before .loop .inv) (c .loop-test .taken) in omega arith)  -- add-number-at
     (λ c κs. let h = listing-head (c .before .loop .inv) (c .loop-test .taken) in (omega arith, omega arith))  -- number-at-requires
-    (λ c. let t = c .before in let h = listing-head (t .before .loop .inv) (t .loop-test .taken) in omega arith)  -- add-write-code
-    (λ c. let t = c .before in omega (arith, begun-fits (listing-piece (t .before .loop .inv) (t .loop-test .taken) (c .number-at .ensures .0))))  -- sub-write-code
-    (λ c. let t = c .before in omega (arith, begun-fits (listing-piece (t .before .loop .inv) (t .loop-test .taken) (c .number-at .ensures .0))))  -- part-write-code-start
-    (λ c. search needs)  -- part-write-code-end
+    (λ c. let t = c .before in let h = listing-head (t .before .loop .inv) (t .loop-test .taken) in omega arith)  -- add-write-function
+    (λ c. let t = c .before in omega (arith, begun-fits (listing-piece (t .before .loop .inv) (t .loop-test .taken) (c .number-at .ensures .0))))  -- sub-write-function
+    (λ c. let t = c .before in omega (arith, begun-fits (listing-piece (t .before .loop .inv) (t .loop-test .taken) (c .number-at .ensures .0))))  -- part-write-function-start
+    (λ c. search needs)  -- part-write-function-end
     (λ c κs. let n = c .before in let t = n .before in let l = t .before .loop .inv in let s = t .before .before .before .before in
     let e = n .number-at .ensures in let e₁ = e .1 in let h = t .loop-test .taken in let w = listing-few l h (e .0) in let x = s .pre .2 in let y = s .pre .1 in
-    (listing-function l h (e .0) .code, omega arith, omega arith, omega arith, begun-piece (listing-piece l h (e .0))))  -- write-code-requires
+    (listing-function l h (e .0) .code, omega arith, omega arith, omega arith, begun-piece (listing-piece l h (e .0))))  -- write-function-requires
     (λ c. let w = c .before .before .before in let n = w .before .before in let t = n .before in let b = listing-piece (t .before .loop .inv) (t .loop-test .taken) (n .number-at .ensures .0) in
-    let s = t .before .before .before .before in omega (arith, w .write-code .ensures .wrote .count, begun-fits b, begun-length b, s .good))  -- add-put
+    let s = t .before .before .before .before in omega (arith, w .write-function .ensures .wrote .count, begun-fits b, begun-length b, s .good))  -- add-put
     (λ c. let n = c .before .before .before .before .before in let t = n .before in let s = t .before .before .before .before in
     let w = listing-few (t .before .loop .inv) (t .loop-test .taken) (n .number-at .ensures .0) in let x = s .pre .2 in omega arith)  -- add-k
     (λ c. omega arith)  -- add-f
     (λ c. omega arith)  -- loop-less
     (λ c. let w = c .before .before .before in let n = w .before .before in let t = n .before in
-    listing-step (t .before .loop .inv) (t .loop-test .taken) (n .number-at .ensures .0) (w .write-code .ensures))  -- loop-again
+    listing-step (t .before .loop .inv) (t .loop-test .taken) (n .number-at .ensures .0) (w .write-function .ensures))  -- loop-again
     (λ c. begun-length (c .before .loop .inv .begun))  -- same-length
     (λ c. let l = c .before .loop in listing-done _ _ _ _ _ (l .p) (l .put) (l .f) (l .k) (c .loop-test .left) (l .inv)))  -- returns
