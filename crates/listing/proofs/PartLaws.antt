@@ -1,11 +1,11 @@
 -- A function's code as a part of the module: its instructions are those of the module, and each one's operands fit.
-use mathlib.Core.Path.{_≡_, refl, sym, ap, _∙_, subst}
+use mathlib.Core.Path.{_≡_, sym, ap, _∙_, subst}
 use mathlib.Core.List.{List, [], _∷_, append-nil}
-use Prim.Native.Nat.{ℕ, _+_, _-_, _≤_, _<_}
+use Prim.Native.Nat.{ℕ, _+_, _-_, _≤_}
 use native.Mathlib.Omega.{arith}
 use lib.ListN.{length, take, drop, length-drop}
 use Rattle.definitions.specs.Bytes.{Parsed, got, failed, Parser, counted}
-use Rattle.definitions.specs.Instruction.{Instr, instr}
+use Rattle.definitions.specs.Instruction.{Instr}
 use Rattle.definitions.specs.Reader.{instruction}
 use Rattle.definitions.proofs.Begins.{Rest, Takes, takes-counted, takes-instruction}
 use Rattle.reader.specs.View.{Got, found, foundAt, instructionsOf, met, metAt, Inside, partAt}
@@ -51,9 +51,9 @@ module _ {t : List ℕ} {n at : ℕ} (r : Values instruction n t at) where
 
 -- ---- an instruction that the iteration met
 
-met-found : (t : List ℕ) (c : Cursor) (op a b : ℕ) (n : Cursor) → metAt t c ≡ At op a b n → foundAt t (c .at) ≡ Instruction op a b (n .at)
+found-met : (t : List ℕ) (c : Cursor) (op a b : ℕ) (n : Cursor) → metAt t c ≡ At op a b n → foundAt t (c .at) ≡ Instruction op a b (n .at)
 unfolding foundAt found metAt met
-met-found t c op a b n e = go (instruction (drop (c .at) t)) e
+found-met t c op a b n e = go (instruction (drop (c .at) t)) e
   where
     go : (r : Parsed Instr) → met (length t) (c .place) r ≡ At op a b n → found (length t) r ≡ Instruction op a b (n .at)
     go (got i rest) e =
@@ -64,5 +64,5 @@ met-found t c op a b n e = go (instruction (drop (c .at) t)) e
 
 pub met-operands : (t : List ℕ) → Small t → (c : Cursor) (op a b : ℕ) (n : Cursor) → c .at ≤ length t → metAt t c ≡ At op a b n → Operands op a b
 met-operands t small c op a b n h e =
-    let f = met-found t c op a b n e in
+    let f = found-met t c op a b n e in
     operands-read t small (c .at) op a b (n .at) h (found-is t (c .at) op a b (n .at) h f) (op-small t (c .at) op a b (n .at) h f)

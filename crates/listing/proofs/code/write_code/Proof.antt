@@ -27,10 +27,12 @@ write-code-spec = tie.close (tie.spec Inv-loop μ-loop
     (λ c. let i = c .before .before .before .before in let m = c .before .before in omega (arith, begun-fits (lining-piece (i .before .loop .inv) (sym (i .next-instruction .ensures) ∙ m .met .given .1))))  -- sub-write-entry
     (λ c. let i = c .before .before .before .before in let m = c .before .before in omega (arith, begun-fits (lining-piece (i .before .loop .inv) (sym (i .next-instruction .ensures) ∙ m .met .given .1))))  -- part-write-entry-start
     (λ c. search needs)  -- part-write-entry-end
-    (λ c κs. let i = c .before .before .before .before .before in let m = c .before .before .before in let l = i .before in let s = l .before .before .before in let e = sym (i .next-instruction .ensures) ∙ m .met .given .1 in
-    let x = s .pre .0 in let y = s .pre .2 in let h = lining-in (l .loop .inv) e in
+    (λ c κs. let i = c .before .before .before .before .before in let m = c .before .before .before in let l = i .before in let s = l .before .before .before in
+    let e = sym (i .next-instruction .ensures) ∙ m .met .given .1 in let x = s .pre .0 in let y = s .pre .2 in let h = lining-in (l .loop .inv) e in
     (omega arith, s .pre .1, omega arith, lining-operands (l .loop .inv) e (λ j. l .before .before .shared-slice-known .given j .fits), begun-piece (lining-piece (l .loop .inv) e)))  -- write-entry-requires
     (λ c. let w = c .before .before in let i = w .before .before .before .before .before .before in let m = w .before .before .before .before in let l = i .before in let s = l .before .before .before in
     let p = lining-piece (l .loop .inv) (sym (i .next-instruction .ensures) ∙ m .met .given .1) in omega (arith, w .write-entry .ensures .count, begun-fits p, begun-length p, s .good))  -- add-put
-    (λ c. let w = c .before .before in let i = w .before .before .before .before .before .before in let m = w .before .before .before .before in lining-less (i .before .loop .inv) (sym (i .next-instruction .ensures) ∙ m .met .given .1))  -- loop-less
-    (λ c. let w = c .before .before in let i = w .before .before .before .before .before .before in let m = w .before .before .before .before in lining-more (i .before .loop .inv) (sym (i .next-instruction .ensures) ∙ m .met .given .1) (w .write-entry .ensures)))  -- loop-again
+    (λ c. let w = c .before .before in let i = w .before .before .before .before .before .before in let m = w .before .before .before .before in
+    lining-less (i .before .loop .inv) (sym (i .next-instruction .ensures) ∙ m .met .given .1))  -- loop-less
+    (λ c. let w = c .before .before in let i = w .before .before .before .before .before .before in let m = w .before .before .before .before in
+    lining-more (i .before .loop .inv) (sym (i .next-instruction .ensures) ∙ m .met .given .1) (w .write-entry .ensures)))  -- loop-again
