@@ -1,24 +1,19 @@
 -- A place is sought in a function's code. Assumes nothing.
 use Prim.Native.Nat.{ℕ, suc, _+_, _≤_, _<_}
 use mathlib.Core.Path.{_≡_, refl, sym, ap, ap₂, _∙_, subst}
-use mathlib.Core.Bool.{Bool, true, false, _||_}
+use mathlib.Core.Bool.{Bool, true, false}
 use mathlib.Core.Option.{none, some}
 use mathlib.Core.List.{List, [], _∷_, _++_, append-assoc, append-nil}
 use native.Mathlib.Omega.{arith}
-use native.Mathlib.Numerals.{add-one}
-use native.Mathlib.Nat.{zero-add}
-use lib.Dec.{eqb}
-use lib.ListN.{length, getD, set, drop, length-append, length-drop, drop-of-length-le}
+use lib.ListN.{length, getD, set, drop, length-append, length-drop}
 use lib.Seq.{drop-cons, set-append-seam}
-use borrow.Author.Tests.{eq-eqb, ne-eqb, le-leb, lt-leb}
-use Rattle.definitions.specs.Bytes.{Answer, refused, accepted, whenAccepted}
+use Rattle.definitions.specs.Bytes.{accepted, whenAccepted}
 use Rattle.definitions.specs.Instruction.{Instr, Return}
 use Rattle.definitions.specs.Calls.{written}
-use Rattle.definitions.specs.Sheet.{tally, isQuestion}
-use Rattle.definitions.specs.Reach.{Brings, roomAsked, Finds, countFound, foundAnswer, bufferAfter}
-use Rattle.definitions.specs.Search.{oneIf, asks, Way, Swept, byLink}
+use Rattle.definitions.specs.Sheet.{isQuestion, oneIf}
+use Rattle.definitions.specs.Reach.{Brings, Finds, countFound, foundAnswer, bufferAfter}
+use Rattle.definitions.specs.Search.{asks, Way, Swept, byLink}
 use Rattle.definitions.proofs.Trails.{own, ownAnswers, brings, nowhere}
-use Rattle.definitions.proofs.Weights.{tally-one}
 use Rattle.reader.specs.View.{instructionsOf, startOf}
 use Rattle.run.specs.Pass.{Coded, Places}
 use Rattle.run.proofs.Coding.{op-here}
@@ -26,8 +21,7 @@ use Rattle.search.specs.View.{marksOf, Searchable}
 use Rattle.search.proofs.Viewing.{mark-at}
 use Rattle.reach.specs.Tracing.{wayTo, Traceable}
 use Rattle.reach.specs.Reaching.{said, Says, Seekable, Tracked}
-use Rattle.reach.specs.declared.Reached.{Reached}
-use Rattle.reach.specs.declared.Reached.the-variants.{Answers, Nowhere, Refused}
+use Rattle.reach.specs.declared.Reached.the-variants.{Answers, Nowhere}
 use Rattle.reach.proofs.Tracks.{way-is, traced-in}
 
 -- the opcode at a place
