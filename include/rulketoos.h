@@ -26,7 +26,7 @@ extern "C" {
 /* Questions 2 to 13 and 33 of a tree record: 0, or the refusal. Reads only. */
 uint32_t rulketoos_check(const uint8_t *tree, size_t tree_len);
 
-/* The least length of each work area, in numbers. */
+/* The least length of each work area of rulketoos_lower, in numbers. */
 enum { RULKETOOS_AREA = 16384 };
 
 /* What is added to the count of bytes that a call answers which writes some. */
@@ -83,6 +83,35 @@ uint64_t rulketoos_list(const uint8_t *module, size_t module_len, uint8_t *out, 
  * module_len.
  */
 uint64_t rulketoos_count_sheet(const uint8_t *module, size_t module_len, uint8_t *out, size_t out_len);
+
+/* The least length of the work area of rulketoos_reach, in numbers. */
+#define RULKETOOS_REACH_AREA 131072
+
+/* What rulketoos_reach answers where no answers bring a run to the place. */
+#define RULKETOOS_NONE (UINT64_C(1) << 33)
+
+/*
+ * Finds a list of answers, each 0 or 1, with which the run of a function meets a
+ * place: it counts the instruction there as a step. The list is written to answers
+ * from the first byte on; what is past it is left as it was. Answers
+ *   RULKETOOS_WROTE plus the list's length, which is no more than the function's
+ *     conditional jumps are many;
+ *   RULKETOOS_NONE, with answers left as it was, where no list brings a run to the
+ *     place under any budget;
+ *   or, below RULKETOOS_WROTE, the refusal, with answers left as it was: 1 (area is
+ *     shorter than RULKETOOS_REACH_AREA), 17 to 22, 34 (the place isn't in the
+ *     function), 35 (answers is shorter than the function's conditional jumps are
+ *     many).
+ *
+ * With the list a budget of as many steps as the function has instructions is
+ * enough. Which list it is, where several bring a run there, is left open. A
+ * conditional jump is met only with an answer of its own.
+ *
+ * area is room to work in, whatever is in it before. It is all zero afterwards,
+ * over its whole length and after a refusal too; but refusal 1 leaves it.
+ */
+uint64_t rulketoos_reach(const uint8_t *module, size_t module_len, uint64_t function, uint64_t place,
+                         uint32_t *area, size_t area_len, uint8_t *answers, size_t answers_len);
 
 /* What rulketoos_run leaves in numbers. */
 enum {

@@ -1,4 +1,4 @@
-/* Calls the library from C: lowers a tree, reads, lists and counts a module, finds a function's code, runs it. */
+/* Calls the library from C: lowers a tree, reads, lists and counts a module, finds a function's code, runs it to a place. */
 #include "rulketoos.h"
 
 #include <stdio.h>
@@ -23,6 +23,7 @@ static const uint8_t iterator_tree[] = {
 
 static uint32_t area1[RULKETOOS_AREA];
 static uint32_t area2[RULKETOOS_AREA];
+static uint32_t reach_area[RULKETOOS_REACH_AREA];
 static uint8_t out[512];
 
 static int failures;
@@ -121,6 +122,31 @@ static void writes(text_call *call, const char *text, uint64_t short_by)
     expect(answer == 17, "a module that is cut has no text, by 17");
 }
 
+/* a place of the loop, with sevens in the area and nines in the answers */
+static uint64_t reach(uint64_t place, size_t area, size_t room)
+{
+    for (size_t i = 0; i < RULKETOOS_REACH_AREA; i++)
+        reach_area[i] = 7;
+    memset(out, 9, sizeof out);
+    return rulketoos_reach(loop_module, sizeof loop_module, 0, place, reach_area, area, out, room);
+}
+
+static void reaches(void)
+{
+    uint64_t answer = reach(2, RULKETOOS_REACH_AREA, sizeof out);
+    expect(answer == RULKETOOS_WROTE + 1 && out[0] == 1, "a yes brings the run to place 2");
+    expect(all_bytes(out + 1, sizeof out - 1, 9), "the rest of the answers is untouched");
+    expect(all_numbers(reach_area, RULKETOOS_REACH_AREA, 0), "the area is zero");
+    answer = reach(3, RULKETOOS_REACH_AREA, 1);
+    expect(answer == RULKETOOS_NONE, "nothing brings a run to place 3: the loop is left before it");
+    expect(all_bytes(out, sizeof out, 9), "the answers are as they were");
+    expect(reach(5, RULKETOOS_REACH_AREA, 0) == 34, "there is no place 5");
+    expect(reach(3, RULKETOOS_REACH_AREA, 0) == 35, "room for fewer answers than questions is refused by 35");
+    expect(all_numbers(reach_area, RULKETOOS_REACH_AREA, 0), "the area is zero");
+    expect(reach(9, RULKETOOS_REACH_AREA - 1, 0) == 1, "a short area is refused by 1");
+    expect(all_numbers(reach_area, RULKETOOS_REACH_AREA, 7), "the area is as it was");
+}
+
 int main(void)
 {
     uint8_t events[4] = {9, 9, 9, 9};
@@ -134,6 +160,7 @@ int main(void)
     expect(rulketoos_read(module, sizeof module - 1) == 17, "a module that is cut is refused by 17");
     writes(rulketoos_list, listing, 31);
     writes(rulketoos_count_sheet, sheet, 32);
+    reaches();
 
     uint64_t code = rulketoos_code(module, sizeof module, 0);
     expect(code >> 32 == 27 && (uint32_t)code == 1, "the code of function 0 is one byte at 27");

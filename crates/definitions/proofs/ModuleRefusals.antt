@@ -1,4 +1,4 @@
--- The reader, the hand-back of code, the run and the texts about a module refuse by the first question answered no, and accept where none is.
+-- The reader, the hand-back of code, the run, the texts about a module and R-8's tool refuse by the first question answered no, and accept where none is.
 use mathlib.Core.Path.{_≡_, refl, ap, _∙_}
 use mathlib.Core.Bool.{Bool, true, false, _&&_}
 use mathlib.Core.Option.{Option, none, some}
@@ -13,7 +13,9 @@ use Rattle.definitions.specs.Module.{codeStart}
 use Rattle.definitions.specs.Reader.{moduleRecord, numbersExist, codeStands, wholeModule, readModule}
 use Rattle.definitions.specs.Run.{Ran, run}
 use Rattle.definitions.specs.Calls.{readCall, functionOf, codePart, codeCall, areAnswers, eventsFit, runFunction, runAnswer, textFits, textAnswer}
-use Rattle.definitions.specs.Statements.{headCounts, firstRefusal, recordRead, laidOut, tablesRead, tablesIn, codeIn, readQuestions, codeQuestions, runIn, runQuestions, textQuestions, ReadRefusals, CodeRefusals, RunRefusals, TextRefusals}
+use Rattle.definitions.specs.Statements.{headCounts, firstRefusal, recordRead, laidOut, tablesRead, tablesIn, codeIn, readQuestions, codeQuestions, runIn, runQuestions, textQuestions, ReadRefusals, CodeRefusals, RunRefusals, TextRefusals, reachQuestions, ReachRefusals}
+use Rattle.definitions.specs.Sheet.{tally, isQuestion}
+use Rattle.definitions.specs.Reach.{wideArea, roomAsked, placeAsked, sought}
 use Rattle.definitions.proofs.Refusals.{ask, ask-is, when-ask, head-asked, questioned, first-is}
 
 -- ---- 17 to 21: the reader
@@ -105,3 +107,20 @@ unfolding textAnswer textFits textQuestions questioned readThen readQuestions
 textRefusals q f m room =
     let s = f (tablesIn m) in
     rw first-is (read-then m (λ t. textFits q room (f t)) ∙ ap (readThen m) (ask-is (leb (length s) room) q (accepted s)))
+
+-- ---- 1, 34 and 35: a place is sought
+
+place-asked : (place room : ℕ) (g : Function)
+    → placeAsked place room g ≡ ask (ltb place (length (g .code))) 34 (ask (leb (tally isQuestion (g .code)) room) 35 (accepted (g .code)))
+unfolding placeAsked roomAsked
+place-asked place room g =
+    ask-is (ltb place (length (g .code))) 34 _ ∙ ap (ask (ltb place (length (g .code))) 34) (ask-is (leb (tally isQuestion (g .code)) room) 35 (accepted (g .code)))
+
+pub reachRefusals : ReachRefusals
+unfolding sought reachQuestions codeQuestions questioned readThen readQuestions
+reachRefusals n m f place room =
+    let after : List Instr → Answer (List Instr) =
+    λ is. ask (ltb place (length is)) 34 (ask (leb (tally isQuestion is) room) 35 (accepted is)) in
+    rw first-is (ask-is (wideArea n) 1 _
+    ∙ ap (ask (wideArea n) 1) (read-then m (λ t. whenAccepted (functionOf t f) (placeAsked place room))
+    ∙ ap (readThen m) (ap (whenAccepted (functionOf (tablesIn m) f)) (λ i g. place-asked place room g i) ∙ when-function (tablesIn m) f after)))

@@ -11,7 +11,7 @@ use Rattle.definitions.specs.Columns.{spaces, rightIn}
 use Rattle.definitions.specs.Instruction.{Instr}
 use Rattle.definitions.specs.Module.{instructions}
 use Rattle.definitions.specs.Tables.{Function}
-use Rattle.definitions.specs.Sheet.{anyOp, isQuestion, isCall, tally, allCode, countLine, tallyLine, tallyLines, sheetOf, sheet}
+use Rattle.definitions.specs.Sheet.{anyOp, isQuestion, isCall, oneIf, tally, allCode, countLine, tallyLine, tallyLines, sheetOf, sheet}
 use Rattle.definitions.specs.Statements.{column, sum, rows, SheetTotals, SheetLength}
 use Rattle.definitions.proofs.Columns.{length-right, length-left}
 use Rattle.definitions.proofs.Every.{Every, noEvery, every, every-at}
@@ -19,6 +19,15 @@ use Rattle.definitions.proofs.ReadFits.{CodeFits, functions-fit}
 use Rattle.definitions.proofs.Listing.{five-digits, six-digits}
 
 -- ---- counts
+
+-- an instruction more
+pub tally-more : (t : ℕ → Bool) (i : Instr) (is : List Instr) → tally t (i ∷ is) ≡ oneIf (t (i .op)) + tally t is
+unfolding tally oneIf
+tally-more t i is = go (t (i .op))
+  where
+    go : (b : Bool) → (elim b as (λ z. ℕ) [ true ↦ suc (tally t is) | false ↦ tally t is ]) ≡ oneIf b + tally t is
+    go true = omega arith
+    go false = omega arith
 
 pub tally-append : (t : ℕ → Bool) (xs ys : List Instr) → tally t (xs ++ ys) ≡ tally t xs + tally t ys
 unfolding tally

@@ -18,6 +18,11 @@ isQuestion op = eqb op (JumpIfFalse 0 .op) || eqb op (JumpIfTrue 0 .op)
 unfoldable pub isCall : ℕ → Bool
 isCall op = eqb op (Call 0 0 .op) || eqb op (CallBuiltin 0 0 .op) || eqb op (CallValue 0 .op) || eqb op (CallMethod 0 0 .op)
 
+-- 1 for what passes a test
+unfoldable pub oneIf : Bool → ℕ
+oneIf true = 1
+oneIf false = 0
+
 -- how many instructions have an opcode that passes the test
 unfoldable pub tally : (ℕ → Bool) → List Instr → ℕ
 tally p [] = 0

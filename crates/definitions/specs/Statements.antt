@@ -17,7 +17,7 @@ use Rattle.definitions.specs.Parse.{binaryKinds, blockOf, parseStmt}
 use Rattle.definitions.specs.Wellformed.{isName, isTuple, isIterator, distinct, askBlock}
 use Rattle.definitions.specs.TreeNames.{namesBlock}
 use Rattle.definitions.specs.Slots.{add, localsBlock, captures}
-use Rattle.definitions.specs.Instruction.{Instr, StoreGlobal, Row, rowOf, binaryCode, encodes}
+use Rattle.definitions.specs.Instruction.{Instr, Return, StoreGlobal, Row, rowOf, binaryCode, encode, encodes}
 use Rattle.definitions.specs.Tables.{Function, Tables, Body, blockBody, Source}
 use Rattle.definitions.specs.Lower.{iterName, noTables, compile, emitBody}
 use Rattle.definitions.specs.Bodies.{bodies}
@@ -25,9 +25,11 @@ use Rattle.definitions.specs.Module.{Limits, office, moduleBytes, codeSt
 use Rattle.definitions.specs.Reader.{moduleRecord, numbersExist, codeStands, readModule}
 use Rattle.definitions.specs.Listing.{firstText, secondText, nameText, codeLine, pageLine, listing}
 use Rattle.definitions.specs.Sheet.{anyOp, isQuestion, isCall, tally, allCode, countLine, sheet}
-use Rattle.definitions.specs.Run.{Ran, run}
+use Rattle.definitions.specs.Run.{Ran, run, Flow, straight, jump, returns, question, flow}
 use Rattle.definitions.specs.Walk.{Walked, endingNumber, walk}
 use Rattle.definitions.specs.Calls.{areasFit, areAnswers, lowerAnswer, readCall, Part, partOf, codeCall, textAnswer, runAnswer, walkTree}
+use Rattle.definitions.specs.Reach.{placesMet, Reachable, Brings, Nowhere, wideArea, sought, Finds}
+use Rattle.definitions.specs.Search.{Rule, Swept}
 use Rattle.definitions.specs.Samples.{samples, holds}
 
 -- ---- the starred samples: proofs/Samples
@@ -138,7 +140,7 @@ abbrev pub Refusals : Type 0
 Refusals =
     (l : Limits) (m n room : ℕ) (tree : List ℕ) → lowerAnswer l m n room tree ≡ firstRefusal (lowerQuestions l m n room tree) (moduleOf tree)
 
--- ---- the same of the reader, of the hand-back of code, of the run and of texts about a module: proofs/ModuleRefusals
+-- ---- the same of the reader, of the hand-back of code, of the run, of texts about a module and of R-8's tool: proofs/ModuleRefusals
 
 -- what the bytes after a module's head read as
 unfoldable pub recordRead : List ℕ → Parsed Tables
@@ -204,6 +206,16 @@ textQuestions q f m room = readQuestions m ++ asked q (leb (length (f (tablesIn 
 
 abbrev pub TextRefusals : Type 0
 TextRefusals = (q : ℕ) (f : Tables → List ℕ) (m : List ℕ) (room : ℕ) → textAnswer q f m room ≡ firstRefusal (textQuestions q f m room) (f (tablesIn m))
+
+-- those of the tool that seeks a place, by the lengths of the area and of the buffer
+unfoldable pub reachQuestions : ℕ → List ℕ → ℕ → ℕ → ℕ → List Question
+reachQuestions n m f place room =
+    let code = codeIn (tablesIn m) f in
+    asked 1 (wideArea n) ∷ (codeQuestions m f ++ asked 34 (ltb place (length code)) ∷ asked 35 (leb (tally isQuestion code) room) ∷ [])
+
+abbrev pub ReachRefusals : Type 0
+ReachRefusals =
+    (n : ℕ) (m : List ℕ) (f place room : ℕ) → sought n m f place room ≡ firstRefusal (reachQuestions n m f place room) (codeIn (tablesIn m) f)
 
 -- ---- 7 and 33 are asked of the names of a tree, of each and of nothing else: proofs/TreeNames
 
@@ -479,6 +491,62 @@ pub record Budgeted (n : ℕ) (r : Ran) (more : ℕ → Ran) : Type 0 where
 
 abbrev pub Steps : Type 0
 Steps = (n : ℕ) (code : List Instr) (p : ℕ) (answers : List ℕ) → Budgeted n (run n code p answers) (λ m. run (n + m) code p answers)
+
+-- ---- R-8: the places met are the steps counted: proofs/PlacesMet
+
+-- the events of steps at these places, on these answers
+unfoldable pub eventsBy : Flow → Instr → List ℕ → (List ℕ → List ℕ) → List ℕ
+eventsBy straight i answers go = encode i ++ go answers
+eventsBy jump i answers go = go answers
+eventsBy returns i answers go = encode i ++ go answers
+eventsBy (question b) i [] go = []
+eventsBy (question b) i (x ∷ xs) go = i .op ∷ x ∷ go xs
+
+unfoldable pub eventsAt : List Instr → List ℕ → List ℕ → List ℕ
+eventsAt code [] answers = []
+eventsAt code (p ∷ ps) answers = let i = getD code p Return in eventsBy (flow (i .op)) i answers (λ rest. eventsAt code ps rest)
+
+-- there are as many as the run has steps, and the run's events are theirs
+pub record Counted (places : List ℕ) (code : List Instr) (answers : List ℕ) (r : Ran) : Type 0 where
+  pub steps : length places ≡ r .steps
+  pub events : eventsAt code places answers ≡ r .events
+
+abbrev pub MetAreSteps : Type 0
+MetAreSteps = (n : ℕ) (code : List Instr) (p : ℕ) (answers : List ℕ) → Counted (placesMet n code p answers) code answers (run n code p answers)
+
+-- ---- what the marks of a search tell: proofs/Trails
+
+-- a marked place is one that a short list brings every long enough run to (sound); each place that some list reaches is marked (complete)
+pub record Tells (code : List Instr) (marks : List ℕ) : Type 0 where
+  pub sound : (q : ℕ) → (getD marks q 0 ≡ 0 → ⊥) → (answers : List ℕ) × Brings code q answers
+  pub complete : (q : ℕ) → Reachable code q → getD marks q 0 ≡ 0 → ⊥
+
+abbrev pub SearchTells : Type 1
+SearchTells = (R : Rule) (code : List Instr) (marks : List ℕ) → Swept R code marks → Tells code marks
+
+-- ---- what R-8's tool can give: proofs/Reached
+
+-- in a function that stands something is found for every place: answers, or none
+abbrev pub AlwaysFound : Type 0
+AlwaysFound = (g : Function) → codeStands g ≡ true → (place : ℕ) → (found : Option (List ℕ)) × Finds (accepted (g .code)) place found
+
+-- whenever some list reaches the place, one does that is no longer than the number of conditional jumps
+abbrev pub ShortAnswers : Type 0
+ShortAnswers = (g : Function) → codeStands g ≡ true → (place : ℕ) → Reachable (g .code) place → (answers : List ℕ) × Brings (g .code) place answers
+
+-- none is found exactly if no list reaches the place
+abbrev pub NoneExactly : Type 0
+NoneExactly =
+    (code : List Instr) (place : ℕ) (found : Option (List ℕ)) → Finds (accepted code) place found
+    → (found ≡ none → Nowhere code place) × (Nowhere code place → found ≡ none)
+
+-- the run call takes the answers that are found, with room for its events
+abbrev pub FoundRuns : Type 0
+FoundRuns =
+    (n : ℕ) (m : List ℕ) (f place room : ℕ) (code : List Instr) → sought n m f place room ≡ accepted code
+    → (answers : List ℕ) → Brings code place answers
+    → (budget buffer : ℕ) → length (run budget code 0 answers .events) ≤ buffer
+    → runAnswer m f answers budget buffer ≡ accepted (run budget code 0 answers)
 
 -- ---- the hand-back of code: proofs/Handed
 

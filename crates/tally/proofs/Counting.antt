@@ -1,19 +1,20 @@
 -- What is counted of instructions and of functions that stand one after the other.
 use mathlib.Core.Path.{_≡_, refl, sym, ap, _∙_, subst}
-use mathlib.Core.Bool.{Bool, true, false}
-use mathlib.Core.List.{List, _∷_}
-use Prim.Native.Nat.{ℕ, suc, _+_, _-_, _≤_, _<_}
+use mathlib.Core.Bool.{Bool}
+use mathlib.Core.List.{List}
+use Prim.Native.Nat.{ℕ, _+_, _-_, _≤_, _<_}
 use native.Mathlib.Omega.{arith}
 use borrow.Author.Tests.{ne-eqb}
 use lib.ListN.{length}
-use Rattle.definitions.specs.Instruction.{Instr, instr}
-use Rattle.definitions.specs.Sheet.{tally, isQuestion, isCall}
+use Rattle.definitions.specs.Instruction.{instr}
+use Rattle.definitions.specs.Sheet.{isQuestion, isCall, oneIf, tally}
 use Rattle.definitions.specs.Module.{instructions}
 use Rattle.definitions.specs.Reader.{instruction, functionRecord}
+use Rattle.definitions.proofs.Sheet.{tally-more}
 use Rattle.reader.specs.View.{foundAt}
 use Rattle.reader.specs.declared.Found.the-variants.{Instruction}
 use Rattle.tally.specs.Walk.{functionsFrom, valuesEnd, Values, codeFrom}
-use Rattle.tally.specs.Counts.{oneIf, Tallies}
+use Rattle.tally.specs.Counts.{Tallies}
 use Rattle.tally.specs.declared.Tallied.{Tallied}
 use Rattle.tally.proofs.Walking.{stepped, reads-none, Function-here, code-many}
 
@@ -32,14 +33,6 @@ no-call op a b c d = simp (ne-eqb op 31 a, ne-eqb op 32 b, ne-eqb op 34 c, ne-eq
 
 -- ---- instructions
 
-pub tally-more : (p : ℕ → Bool) (op a b : ℕ) (is : List Instr) → tally p (instr op a b ∷ is) ≡ oneIf (p op) + tally p is
-unfolding tally oneIf
-tally-more p op a b is = go (p op)
-  where
-    go : (c : Bool) → (elim c as (λ z. ℕ) [ true ↦ suc (tally p is) | false ↦ tally p is ]) ≡ oneIf c + tally p is
-    go true = omega arith
-    go false = omega arith
-
 -- what was counted so far, and what is left
 pub record Counting (n : ℕ) (t : List ℕ) (at left p questions calls : ℕ) : Type 0 where
   pub rest : Values instruction left t p
@@ -56,8 +49,8 @@ pub counting-next : (n : ℕ) (t : List ℕ) (at left p qs cs : ℕ) → 0 < lef
     Counting n t at (left - 1) m (qs + x) (cs + y)
 counting-next n t at left p qs cs h k op a b m x y e ex hx ey hy =
     let s = stepped t left p h (k .rest) op a b m e in
-    let q = ap (tally isQuestion) (s .list) ∙ tally-more isQuestion op a b (codeFrom (left - 1) t m) in
-    let c = ap (tally isCall) (s .list) ∙ tally-more isCall op a b (codeFrom (left - 1) t m) in
+    let q = ap (tally isQuestion) (s .list) ∙ tally-more isQuestion (instr op a b) (codeFrom (left - 1) t m) in
+    let c = ap (tally isCall) (s .list) ∙ tally-more isCall (instr op a b) (codeFrom (left - 1) t m) in
     let fq = k .few in let fc = k .few-calls in let sq = k .questions-so in let sc = k .calls-so in
     record { rest = s .rest; ends = k .ends ∙ s .ends; few = omega arith; few-calls = omega arith; questions-so = omega arith; calls-so = omega arith }
 

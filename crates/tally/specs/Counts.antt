@@ -1,16 +1,11 @@
 -- What is counted of instructions that stand one after the other.
 use Prim.Native.Nat.{ℕ}
 use mathlib.Core.Path.{_≡_}
-use mathlib.Core.Bool.{Bool, true, false}
 use mathlib.Core.List.{List}
 use Rattle.definitions.specs.Reader.{instruction}
 use Rattle.definitions.specs.Sheet.{tally, isQuestion, isCall}
 use Rattle.tally.specs.Walk.{valuesEnd, codeFrom}
 use Rattle.tally.specs.declared.Tallied.{Tallied}
-
-unfoldable pub oneIf : Bool → ℕ
-oneIf true = 1
-oneIf false = 0
 
 -- of n instructions from `at` on
 pub record Tallies (r : Tallied) (n : ℕ) (t : List ℕ) (at : ℕ) : Type 0 where

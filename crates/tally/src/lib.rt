@@ -7,9 +7,9 @@ ghost use Prim.Native.Nat.{_≤_};
 ghost use lib.ListN.{length};
 ghost use Rattle.definitions.specs.Module.{instructions};
 ghost use Rattle.definitions.specs.Reader.{functionRecord, instruction};
-ghost use Rattle.definitions.specs.Sheet.{isQuestion, isCall};
+ghost use Rattle.definitions.specs.Sheet.{isQuestion, isCall, oneIf};
 ghost use Rattle.tally.specs.Walk.{Values, functionsFrom};
-ghost use Rattle.tally.specs.Counts.{oneIf, Tallies};
+ghost use Rattle.tally.specs.Counts.{Tallies};
 
 // The count of bytes of a text about a module, or a refusal.
 pub enum Listed {
@@ -43,7 +43,7 @@ pub const COUNT: usize = 5;
 pub const CODE: usize = 7;
 
 // 1 for a conditional jump, 0 for any other.
-fn question(op: u8) -> u64
+pub fn question(op: u8) -> u64
     ensures { λ r. ⌜ (r ≡ oneIf (isQuestion op)) × (r ≤ 1) ⌝ }
 {
     if op == JUMP_IF_FALSE {

@@ -26,6 +26,16 @@ unsafe extern "C" {
         out: *mut u8,
         out_len: usize,
     ) -> u64;
+    pub fn rulketoos_reach(
+        module: *const u8,
+        module_len: usize,
+        function: u64,
+        place: u64,
+        area: *mut u32,
+        area_len: usize,
+        answers: *mut u8,
+        answers_len: usize,
+    ) -> u64;
     pub fn rulketoos_run(
         module: *const u8,
         module_len: usize,

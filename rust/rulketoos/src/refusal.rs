@@ -5,7 +5,8 @@ use std::fmt;
 
 /// The first question that is answered no.
 ///
-/// The lowering asks 1 to 16 and 33, the check of a tree 2 to 13 and 33 (33 just after 7), the reader of modules 17 to 21, the hand-back of code 17 to 22 and the run 17 to 24; the listing 17 to 21, then 31, the count sheet 17 to 21, then 32.
+/// The lowering asks 1 to 16 and 33, the check of a tree 2 to 13 and 33 (33 just after 7), the reader of modules 17 to 21, the hand-back of code 17 to 22 and the run 17 to 24; the listing 17 to 21, then 31, the count sheet 17 to 21, then 32;
+/// the search for answers that bring a run to a place 1, 17 to 22, then 34 and 35.
 ///
 /// ```
 /// use rulketoos::Refusal;
@@ -19,7 +20,7 @@ use std::fmt;
 #[derive(Debug, Clone, Copy, PartialEq, Eq, Hash, PartialOrd, Ord)]
 #[repr(u8)]
 pub enum Refusal {
-    /// 1: a work area is shorter than 16,384.
+    /// 1: a work area is shorter than 16,384, or that of [`reach`](crate::reach) than 131,072.
     AreasTooShort = 1,
     /// 2: the tree is longer than 32,768 bytes.
     TreeTooLong = 2,
@@ -73,11 +74,18 @@ pub enum Refusal {
     SheetTooShort = 32,
     /// 33: a name is one of a loop's iterator: `__for_iter_{}__` with digits in place of the braces.
     IteratorName = 33,
+    /// 34: the function has no such place.
+    NoSuchPlace = 34,
+    /// 35: the buffer for the answers is shorter than the number of the function's conditional jumps.
+    AnswersTooShort = 35,
 }
 
 /// Every refusal with its question, by rising numbers.
-const QUESTIONS: [(Refusal, &str); 27] = [
-    (Refusal::AreasTooShort, "is each work area at least 16,384 numbers long?"),
+const QUESTIONS: [(Refusal, &str); 29] = [
+    (
+        Refusal::AreasTooShort,
+        "is each work area at least 16,384 numbers long, that of reach 131,072?",
+    ),
     (Refusal::TreeTooLong, "is the tree at most 32,768 bytes, header included?"),
     (Refusal::TreeHeader, "has the tree four bytes, and do they count the rest?"),
     (Refusal::TreeVersion, "is the tree's next byte there, and 1?"),
@@ -140,10 +148,15 @@ const QUESTIONS: [(Refusal, &str); 27] = [
         Refusal::IteratorName,
         "is no name of the form __for_iter_{}__, one or more digits in place of the braces?",
     ),
+    (Refusal::NoSuchPlace, "is the place in the function?"),
+    (
+        Refusal::AnswersTooShort,
+        "has the buffer room for an answer to each conditional jump of the function?",
+    ),
 ];
 
 impl Refusal {
-    /// The number of the question, 1 to 24 or 31 to 33.
+    /// The number of the question, 1 to 24 or 31 to 35.
     #[must_use]
     pub fn number(self) -> u32 {
         self as u32
@@ -178,7 +191,7 @@ impl fmt::Display for NoSuchQuestion {
     fn fmt(&self, f: &mut fmt::Formatter<'_>) -> fmt::Result {
         write!(
             f,
-            "there is no question {}: they are 1 to 24 and 31 to 33",
+            "there is no question {}: they are 1 to 24 and 31 to 35",
             self.0
         )
     }

@@ -1,13 +1,13 @@
 //! Refusals and their numbers, and what each call leaves of what it is lent.
 
-use rulketoos::{Areas, Ending, NoSuchQuestion, Refusal, AREA};
+use rulketoos::{Areas, Ending, NoSuchQuestion, Refusal, AREA, REACH_AREA};
 
 const EMPTY: [u8; 7] = [0, 0, 0, 3, 1, 0, 0];
 
 #[test]
 fn every_number_has_its_refusal() {
     let mut count = 0;
-    for (number, refusal) in (1..=24).chain(31..=33).zip(Refusal::all()) {
+    for (number, refusal) in (1..=24).chain(31..=35).zip(Refusal::all()) {
         assert_eq!(refusal.number(), number);
         assert_eq!(Refusal::try_from(number), Ok(refusal));
         let text = refusal.to_string();
@@ -15,9 +15,9 @@ fn every_number_has_its_refusal() {
         assert!(text.ends_with(refusal.question()) && text.ends_with('?'));
         count += 1;
     }
-    assert_eq!(count, 27);
+    assert_eq!(count, 29);
     assert_eq!(Refusal::all().count(), count);
-    for number in [0, 25, 30, 34, u32::MAX] {
+    for number in [0, 25, 30, 36, u32::MAX] {
         assert_eq!(Refusal::try_from(number), Err(NoSuchQuestion(number)));
     }
 }
@@ -143,6 +143,12 @@ fn empty_slices_are_read() {
     assert_eq!(listed, Err(Refusal::ModuleHeader));
     let counted = rulketoos::count_sheet(&[], &mut []);
     assert_eq!(counted, Err(Refusal::ModuleHeader));
+    let reached = rulketoos::reach(&[], 0, 0, &mut [], &mut []);
+    assert_eq!(reached, Err(Refusal::AreasTooShort));
+    assert_eq!(
+        rulketoos::reach_to_vec(&[], 0, 0),
+        Err(Refusal::ModuleHeader)
+    );
 }
 
 /// A text fits a buffer of just its length; a shorter one is left as it was.
@@ -206,4 +212,34 @@ fn endings() {
     let refused = rulketoos::run(&module, 0, &[0], 9, &mut events);
     assert_eq!(refused, Err(Refusal::EventsTooShort));
     assert_eq!(events, [9; 2]);
+}
+
+/// Answers are written or left; the area is zero afterwards, or left by 1.
+#[test]
+fn reaching_a_place() {
+    // `while True: pass`: True, JumpIfFalse 1, Jump -3, Return
+    let tree = [0, 0, 0, 8, 1, 0, 1, 7, 2, 0, 1, 2];
+    let module = rulketoos::lower_to_vec(&tree).expect("accepted");
+    let reached = |function, place, area: usize, room: usize| {
+        let (mut area, mut answers) = (vec![7; area], vec![9; room]);
+        let found = rulketoos::reach(&module, function, place, &mut area, &mut answers);
+        let found = found.map(|list| list.map(<[u8]>::to_vec));
+        let left = u32::from(found == Err(Refusal::AreasTooShort)) * 7;
+        assert!(area.iter().all(|&number| number == left));
+        let written = found
+            .as_ref()
+            .map_or(0, |list| list.as_ref().map_or(0, Vec::len));
+        assert!(answers[written..].iter().all(|&answer| answer == 9));
+        found
+    };
+    let long = REACH_AREA;
+    assert_eq!(reached(0, 0, long, 1), Ok(Some(vec![])));
+    assert!(matches!(reached(0, 1, long, 1), Ok(Some(list)) if list.len() == 1));
+    assert_eq!(reached(0, 2, long, 3), Ok(Some(vec![1])));
+    assert_eq!(reached(0, 3, long + 9, 1), Ok(Some(vec![0])));
+    assert_eq!(reached(0, 4, long - 1, 0), Err(Refusal::AreasTooShort));
+    assert_eq!(reached(1, 4, long, 0), Err(Refusal::NoSuchFunction));
+    assert_eq!(reached(0, 4, long, 0), Err(Refusal::NoSuchPlace));
+    assert_eq!(reached(0, 1 << 32, long, 0), Err(Refusal::NoSuchPlace));
+    assert_eq!(reached(0, 3, long, 0), Err(Refusal::AnswersTooShort));
 }

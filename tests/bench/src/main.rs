@@ -6,6 +6,7 @@
 //! the best of several rounds.
 
 mod lowering;
+mod reach;
 mod texts;
 
 use generator::{make, modules, random, Rng};
@@ -268,5 +269,6 @@ fn main() {
     readers();
     texts::listings();
     texts::sheets();
+    reach::last_places();
     runs();
 }

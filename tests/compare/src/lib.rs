@@ -1,6 +1,7 @@
 //! The comparisons that the tests and the program by hand make.
 
 pub mod ours;
+pub mod reach;
 pub mod texts;
 
 use generator::{random, Rng};

@@ -6,6 +6,7 @@ pub mod listings;
 pub mod make;
 pub mod modules;
 pub mod random;
+pub mod reaches;
 pub mod rng;
 pub mod runs;
 pub mod samples;

@@ -1,5 +1,6 @@
 //! A plain model of the paper: lowering, reader, run and walk; and of the
-//! requests after it: the code listing, the count sheet.
+//! requests after it: the code listing, the count sheet,
+//! answers that bring a run to a place.
 //!
 //! Written from the documents alone, to be held against the reference compiler
 //! and against the project's own code. A refusal is the question's number.
@@ -11,6 +12,7 @@ pub mod module;
 pub mod names;
 pub mod plan;
 pub mod questions;
+pub mod reach;
 mod renumber;
 pub mod run;
 pub mod sheet;
@@ -110,6 +112,29 @@ pub fn run(
     let function = find(&module.functions, function)?;
     ask_answers(answers)?;
     run::run(&module, function, answers, budget, room)
+}
+
+/// Question 1 of an area of 131,072, then 17 to 22, 34 and 35: answers with
+/// which the run meets the place, or none if no answers bring it there.
+pub fn reach(
+    module: &[u8],
+    function: u64,
+    place: u64,
+    area: usize,
+    room: usize,
+) -> Result<Option<Vec<u8>>, u8> {
+    if area < reach::AREA {
+        return Err(1);
+    }
+    let module = module::read(module)?;
+    let function = find(&module.functions, function)?;
+    if place >= function.places.len() as u64 {
+        return Err(34);
+    }
+    if room < reach::questions(&module, function) {
+        return Err(35);
+    }
+    Ok(reach::Reached::of(&module, function).list(place as usize))
 }
 
 /// The walk through the body with that number. A tree refused by questions 2

@@ -21,19 +21,7 @@ pub fn run(
     budget: u64,
     room: usize,
 ) -> Result<Ran, u8> {
-    let mut runner = Runner {
-        module,
-        function,
-        answers,
-        place: 0,
-        jumps_in_a_row: 0,
-        ran: Ran {
-            ending: 0,
-            steps: 0,
-            used: 0,
-            events: Vec::new(),
-        },
-    };
+    let mut runner = Runner::new(module, function, answers);
     while runner.ran.ending == 0 {
         runner.step(budget);
         if runner.ran.events.len() > room {
@@ -41,6 +29,28 @@ pub fn run(
         }
     }
     Ok(runner.ran)
+}
+
+/// The places that a run counts as steps, in order, if its budget is without
+/// end. A run that counts more steps without an answer than there are places
+/// goes round for ever, and counts no other place.
+pub fn places_met<'r>(
+    module: &'r Module<'r>,
+    function: &'r Function,
+    answers: &'r [u8],
+) -> impl Iterator<Item = usize> + 'r {
+    let mut runner = Runner::new(module, function, answers);
+    let mut alone = 0;
+    std::iter::from_fn(move || {
+        let (place, steps, used) = (runner.place, runner.ran.steps, runner.ran.used);
+        if runner.ran.ending != 0 || alone > function.places.len() {
+            return None;
+        }
+        runner.step(u64::MAX);
+        runner.ran.events.clear();
+        alone = if runner.ran.used > used { 0 } else { alone + 1 };
+        (runner.ran.steps > steps).then_some(place)
+    })
 }
 
 struct Runner<'r> {
@@ -52,7 +62,23 @@ struct Runner<'r> {
     ran: Ran,
 }
 
-impl Runner<'_> {
+impl<'r> Runner<'r> {
+    fn new(module: &'r Module<'r>, function: &'r Function, answers: &'r [u8]) -> Self {
+        Self {
+            module,
+            function,
+            answers,
+            place: 0,
+            jumps_in_a_row: 0,
+            ran: Ran {
+                ending: 0,
+                steps: 0,
+                used: 0,
+                events: Vec::new(),
+            },
+        }
+    }
+
     /// Budget first, then answers.
     fn step(&mut self, budget: u64) {
         if self.ran.steps == budget {

@@ -1,7 +1,6 @@
 use native.Mathlib.Omega.{arith}
 use mathlib.Core.Path.{refl}
-use Rattle.definitions.specs.Sheet.{isCall}
-use Rattle.tally.specs.Counts.{oneIf}
+use Rattle.definitions.specs.Sheet.{isCall, oneIf}
 use Rattle.tally.proofs.Counting.{kind-is, no-call}
 use Rattle.tally.proofs.call.Statement.{statement}
 use Rattle.tally.proofs.call.Tie as tie

@@ -1,7 +1,6 @@
 use native.Mathlib.Omega.{arith}
 use mathlib.Core.Path.{refl}
-use Rattle.definitions.specs.Sheet.{isQuestion}
-use Rattle.tally.specs.Counts.{oneIf}
+use Rattle.definitions.specs.Sheet.{isQuestion, oneIf}
 use Rattle.tally.proofs.Counting.{kind-is, no-question}
 use Rattle.tally.proofs.question.Statement.{statement}
 use Rattle.tally.proofs.question.Tie as tie

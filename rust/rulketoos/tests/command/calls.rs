@@ -5,6 +5,11 @@ use crate::person::{reply, Person, COMMAND};
 const EMPTY: &[u8] = &[0, 0, 0, 3, 1, 0, 0];
 const BREAK: &[u8] = &[0, 0, 0, 4, 1, 0, 1, 0];
 
+/// A module of Return, Pop, Return.
+const BEHIND: &[u8] = &[
+    0, 0, 0, 22, 1, 0, 1, 0, 0, 0, 0, 1, 0, 0, 0, 0, 0, 0, 3, 33, 7, 33, 0, 0, 0, 0,
+];
+
 const SAMPLES: [&str; 6] = ["casing", "lambdas", "loops", "papers", "spine", "unpack"];
 
 /// Words, input, status, a part of standard output, a part of standard error.
@@ -28,6 +33,9 @@ const CALLS: &[Call] = &[
     ("lower spine.py --quickly", b"", 2, "", "there is no option --quickly"),
     ("code spine.py", b"", 2, "", "FUNCTION is missing"),
     ("code spine.py main", b"", 2, "", "FUNCTION is a number"),
+    ("reach spine.py 0", b"", 2, "", "PLACE is missing"),
+    ("reach spine.py 0 end", b"", 2, "", "PLACE is a number"),
+    ("reach spine.py 0 1 --run=1", b"", 2, "", "--run takes no value"),
     ("code spine.py 18446744073709551616", b"", 2, "", "FUNCTION is a number"),
     ("run loops.py 0 yes", b"", 2, "", "ANSWERS is a word of 0 and 1"),
     ("run loops.py 0 1 --budget=-1", b"", 2, "", "STEPS is a number"),
@@ -57,7 +65,15 @@ const CALLS: &[Call] = &[
     ("sheet loops.py", b"", 0, "\nTOTAL ", ""),
     ("sheet -", EMPTY, 0, "    0      1      0      0              \nTOTAL      1      0      0              \n", ""),
     ("sheet -", b"while a: print(b)\n", 0, "    0      7      1      1              \n", ""),
+    ("reach loops.py 0 0", b"", 0, "answers: -\n", ""),
+    ("reach - 0 2", b"while a: pass\n", 0, "answers: 1\n", ""),
+    ("reach --run - 0 3", b"while a: pass\n", 0, "answers: 0\nending: 1 (returned)\nsteps: 3\nanswers used: 1\nevents: 0b00011d0021\n", ""),
+    ("reach - 0 1 --run", BEHIND, 0, "none\n", ""),
     // refused
+    ("reach loops.py 9 0", b"", 1, "", "loops.py: refused 22: does the function exist?"),
+    ("reach loops.py 0 65535", b"", 1, "", "loops.py: refused 34: is the place in the function?"),
+    ("reach loops.py 0 18446744073709551615", b"", 1, "", "loops.py: refused 34"),
+    ("reach - 0 0", b"", 1, "", "standard input (taken for a module): refused 17: is the module"),
     ("sheet -", b"", 1, "", "standard input (taken for a module): refused 17: is the module"),
     ("list -", b"", 1, "", "standard input (taken for a module): refused 17: is the module"),
     ("list -", b"break\n", 1, "", "standard input:1:1: refused 9: "),
@@ -180,6 +196,33 @@ fn code_is_a_part_of_the_module() {
             (0, rulketoos::code(&module, number).expect("a function"))
         );
     }
+}
+
+/// The places of a sample: `run` uses all the answers that `reach` gives. The end of an if isn't reached behind a continue or a break.
+#[test]
+fn places_of_a_sample() {
+    let person = Person::new();
+    let sheet = String::from_utf8(person.file("loops.sheet").expect("a sample")).expect("text");
+    let length: u64 = sheet[6..12].trim_start().parse().expect("a number");
+    let mut none = Vec::new();
+    for place in 0..length {
+        let reply = person.types(&["reach", "loops.module", "0", &place.to_string()], b"");
+        let text = String::from_utf8(reply.out).expect("text");
+        let Some(answers) = text.trim_end().strip_prefix("answers: ") else {
+            assert_eq!(text, "none\n");
+            none.push(place);
+            continue;
+        };
+        let mut words = vec!["run", "loops.module", "0"];
+        words.extend((answers != "-").then_some(answers));
+        let run = String::from_utf8(person.types(&words, b"").out).expect("text");
+        let used = if answers == "-" { 0 } else { answers.len() };
+        assert!(
+            run.contains(&format!("answers used: {used}\n")),
+            "{place}: {run}"
+        );
+    }
+    assert_eq!(none, [16, 33]);
 }
 
 #[test]

@@ -4,6 +4,7 @@ mod check;
 mod code;
 mod list;
 mod lower;
+mod reach;
 mod read;
 mod run;
 mod sheet;
@@ -21,6 +22,7 @@ pub const ALL: &[Command] = &[
     read::COMMAND,
     code::COMMAND,
     run::COMMAND,
+    reach::COMMAND,
 ];
 
 /// Where bytes or text go, for each command that writes a file.

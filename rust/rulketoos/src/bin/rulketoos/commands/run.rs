@@ -2,7 +2,7 @@
 
 use crate::arguments::{self, Command, Opt, Words};
 use crate::failure::Failure;
-use crate::input::{self, Kind};
+use crate::input::{self, Kind, Module};
 use crate::output;
 use rulketoos::{Ending, Refusal, Run};
 use std::ffi::OsStr;
@@ -25,20 +25,35 @@ pub const COMMAND: Command = Command {
     run,
 };
 
+/// The budget where none is given: more steps than a function has instructions.
+pub const BUDGET: u64 = 100_000;
+
 /// The longest event buffer that is tried: what is longer is of no use to a person.
 const MOST: usize = 256 << 20;
 
 fn run(words: &Words) -> Result<(), Failure> {
     let function = arguments::number("FUNCTION", words.needed(1))?;
     let answers = answers(words.operand(2).unwrap_or_default())?;
-    let budget = words.option("--budget").unwrap_or(OsStr::new("100000"));
-    let budget = arguments::number("STEPS", budget)?;
+    let budget = match words.option("--budget") {
+        Some(word) => arguments::number("STEPS", word)?,
+        None => BUDGET,
+    };
     let module = input::read(words.needed(0), Kind::Module)?.lowered()?;
+    output::text(&outcome(&module, function, &answers, budget)?)
+}
+
+/// What a run comes to, as text.
+pub fn outcome(
+    module: &Module,
+    function: u64,
+    answers: &[u8],
+    budget: u64,
+) -> Result<String, Failure> {
     let mut room = 1 << 16;
     loop {
         let mut events = vec![0; room];
-        match rulketoos::run(&module.bytes, function, &answers, budget, &mut events) {
-            Ok(run) => return output::text(&shown(&run)),
+        match rulketoos::run(&module.bytes, function, answers, budget, &mut events) {
+            Ok(run) => return Ok(shown(&run)),
             Err(Refusal::EventsTooShort) if room < MOST => room *= 4,
             Err(refusal) => return Err(module.refused(refusal)),
         }
