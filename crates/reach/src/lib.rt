@@ -13,7 +13,6 @@ use search::MARKS;
 use search::sweep;
 use tally::count_code;
 use tally::question;
-ghost use mathlib.Core.Path.{_≡_};
 ghost use Prim.Native.Nat.{_≤_};
 ghost use lib.ListN.{length};
 ghost use Rattle.definitions.specs.Bytes.{accepted};
