@@ -3,6 +3,7 @@
 use crate::make::*;
 use crate::samples::{case, nested_not, script, Case};
 use crate::texts;
+use model::{CONSOLE, OFFICE};
 use std::slice::from_ref;
 
 pub const MAX_TREE: usize = 32_768;
@@ -22,8 +23,18 @@ pub fn all() -> Vec<Case> {
     cases.extend(slot_counts());
     cases.extend(table_counts());
     cases.extend(pairs_of_faults());
-    cases.extend(instruction_counts());
+    cases.extend(console_counts());
+    cases.extend(console_faults());
+    cases.extend(instruction_counts(OFFICE.instructions));
     cases.extend(long());
+    cases
+}
+
+/// Trees on both sides of every limit of the console.
+pub fn at_console() -> Vec<Case> {
+    let mut cases = console_counts();
+    cases.extend(shared_counts());
+    cases.extend(console_faults());
     cases
 }
 
@@ -519,7 +530,8 @@ fn slot_counts() -> Vec<Case> {
         let store = |stmt: fn(&str) -> Bytes| rest.iter().map(|n| stmt(n)).collect::<Vec<_>>();
         let assigned = store(|n| assign(var(n), none()));
         let named = store(|n| def(n, &[], &[]));
-        let looped = store(|n| for_(n, none(), &[]));
+        // A loop variable and its loop's iterator have a slot each.
+        let looped: Vec<Bytes> = rest.chunks(2).map(loop_or_name).collect();
         let classes = store(|n| class(n, &[], &[]));
         // A lambda with one parameter and one capture less than the count.
         let captured = list(&all[1..].iter().map(|n| var(n)).collect::<Vec<_>>());
@@ -538,9 +550,46 @@ fn slot_counts() -> Vec<Case> {
             cases.push(script(&format!("slots-{count}-{word}"), &[stmt]));
         }
         cases.extend(unpacked_slots(count));
+        cases.extend(looped_slots(count));
     }
     cases.extend(slots_not_counted());
     cases
+}
+
+/// A statement that gives as many slots as there are names: a loop two, an
+/// assignment one.
+fn loop_or_name(names: &[&str]) -> Bytes {
+    match names {
+        [name] => assign(var(name), none()),
+        _ => for_(names[0], none(), &[]),
+    }
+}
+
+/// Functions of exactly so many slots: a parameter, a variable, and the
+/// iterators of loops.
+fn looped_slots(count: usize) -> Vec<Case> {
+    let one = || for_("i", var("r"), &[]);
+    let row = |loops: usize| times(loops, &one());
+    let loops = count - 2;
+    let deep = (1..28).fold(one(), |inner, _| for_("i", var("r"), &[inner]));
+    let nested = [vec![deep], row(loops - 28)].concat();
+    let arms: Vec<_> = (1..loops).map(|_| (var("r"), row(1))).collect();
+    let branches = if_(&arms, Some(&row(1)));
+    let f = |body: &[Bytes]| def("f", &["r"], body);
+    let inside = for_("i", var("r"), &[def("g", &["r"], &row(loops))]);
+    let stmts = [
+        ("loops-in-row", f(&row(loops))),
+        ("loops-nested", f(&nested)),
+        ("loops-in-branches", f(&[branches])),
+        ("loops-in-while", f(&[while_(var("r"), &row(loops))])),
+        (
+            "loops-in-method",
+            class("A", &[method("m", &["r"], &row(loops))], &[]),
+        ),
+        ("loops-in-def-in-loop", f(&[inside])),
+    ];
+    let case_of = |(word, stmt)| script(&format!("slots-{count}-{word}"), &[stmt]);
+    stmts.into_iter().map(case_of).collect()
 }
 
 /// Functions of exactly so many slots, most or all of them from tuple targets.
@@ -564,7 +613,8 @@ fn unpacked_slots(count: usize) -> Vec<Case> {
         for_(
             rest[20],
             none(),
-            &[store(tuple(&[var(rest[0]), wide(&rest[21..])]))],
+            // A name less, for the loop's iterator.
+            &[store(tuple(&[var(rest[0]), wide(&rest[22..])]))],
         ),
     ];
     let again = store(tuple(&[wide(params), wide(rest)]));
@@ -606,7 +656,15 @@ fn slots_not_counted() -> Vec<Case> {
     // 255 parameters and a capture, but the lambda is never lowered.
     let unlowered = lambda(&all[..255], var("zz"));
     let in_attribute = class("A", &[], &[("a", unlowered.clone())]);
+    // Main's loops have no slots, and an inner function's are its own.
+    let loops = |count: usize| times(count, &for_("i", none(), &[]));
+    let inner = def("g", &[], &loops(200));
     vec![
+        script("slots-main-loops", &loops(300)),
+        script(
+            "slots-loops-apart",
+            &[def("f", &[], &[loops(200), vec![inner]].concat())],
+        ),
         script("slots-main-tuple", &[assign(wide.clone(), none())]),
         script("slots-tuple-300", &[def("f", &[], &[assign(wide, none())])]),
         script("slots-tuple-of-parameters", &[parameters]),
@@ -622,35 +680,66 @@ fn slots_not_counted() -> Vec<Case> {
     ]
 }
 
-/// So many functions, strings, classes and symbols besides main's.
-fn table_counts() -> Vec<Case> {
-    let texts = |count: usize| {
-        let one = |n: String| expr(string(n.as_bytes()));
-        many_names(count).into_iter().map(one).collect::<Vec<_>>()
-    };
-    let variables = |count: usize| {
-        let one = |n: String| expr(var(&n));
-        many_names(count).into_iter().map(one).collect::<Vec<_>>()
-    };
-    let methods = |count: usize| {
-        let one = |n: String| method(&n, &["s"], &[]);
-        many_names(count).into_iter().map(one).collect::<Vec<_>>()
-    };
+/// A word, and what makes statements with so many of something.
+type Way<'a> = (&'a str, &'a dyn Fn(usize) -> Vec<Bytes>);
+
+/// Trees with so many of something as a limit allows, and with one more.
+fn at_limit(what: &str, limit: usize, ways: &[Way]) -> Vec<Case> {
+    let mut cases = Vec::new();
+    for (word, stmts) in ways {
+        for count in [limit, limit + 1] {
+            cases.push(script(&format!("{what}-{count}{word}"), &stmts(count)));
+        }
+    }
+    cases
+}
+
+/// A statement for each of so many names.
+fn each_name(count: usize, one: impl Fn(&str) -> Bytes) -> Vec<Bytes> {
+    many_names(count).iter().map(|name| one(name)).collect()
+}
+
+/// So many functions, main among them: defs, lambdas, methods.
+fn function_counts(limit: usize) -> Vec<Case> {
     let closure = expr(lambda(&[], none()));
-    vec![
-        script("functions-256", &times(255, &def("f", &[], &[]))),
-        script("functions-257", &times(256, &def("f", &[], &[]))),
-        script("functions-256-lambdas", &times(255, &closure)),
-        script("functions-257-lambdas", &times(256, &closure)),
-        script("functions-256-methods", &[class("A", &methods(255), &[])]),
-        script("functions-257-methods", &[class("A", &methods(256), &[])]),
-        script("strings-512", &texts(512)),
-        script("strings-513", &texts(513)),
-        script("classes-64", &times(64, &class("A", &[], &[]))),
-        script("classes-65", &times(65, &class("A", &[], &[]))),
-        script("symbols-1024", &variables(1023)),
-        script("symbols-1025", &variables(1024)),
-    ]
+    let methods = |count: usize| {
+        let methods = each_name(count - 1, |name| method(name, &["s"], &[]));
+        vec![class("A", &methods, &[])]
+    };
+    let defs = |count: usize| times(count - 1, &def("f", &[], &[]));
+    let closures = |count: usize| times(count - 1, &closure);
+    let ways: [Way; 3] = [("", &defs), ("-lambdas", &closures), ("-methods", &methods)];
+    at_limit("functions", limit, &ways)
+}
+
+/// So many symbols, `__main__` among them.
+fn symbol_counts(limit: usize) -> Vec<Case> {
+    let variables = |count: usize| each_name(count - 1, |name| expr(var(name)));
+    at_limit("symbols", limit, &[("", &variables)])
+}
+
+/// So many strings and classes, of which office and console take as many.
+fn shared_counts() -> Vec<Case> {
+    let texts = |count: usize| each_name(count, |name| expr(string(name.as_bytes())));
+    let classes = |count: usize| times(count, &class("A", &[], &[]));
+    let mut cases = at_limit("strings", OFFICE.strings, &[("", &texts)]);
+    cases.extend(at_limit("classes", OFFICE.classes, &[("", &classes)]));
+    cases
+}
+
+fn table_counts() -> Vec<Case> {
+    let mut cases = function_counts(OFFICE.functions);
+    cases.extend(shared_counts());
+    cases.extend(symbol_counts(OFFICE.symbols));
+    cases
+}
+
+/// So many of what the console takes fewer of.
+fn console_counts() -> Vec<Case> {
+    let mut cases = function_counts(CONSOLE.functions);
+    cases.extend(symbol_counts(CONSOLE.symbols));
+    cases.extend(instruction_counts(CONSOLE.instructions));
+    cases
 }
 
 /// One statement for each question that can be broken by a statement alone, in
@@ -693,28 +782,37 @@ fn pairs_of_faults() -> Vec<Case> {
     cases
 }
 
-/// `() = None` has one instruction, `None` as a statement two.
-fn instruction_counts() -> Vec<Case> {
+/// So many instructions: `() = None` has one, `None` as a statement two.
+fn instruction_counts(limit: usize) -> Vec<Case> {
     let two = expr(none());
     let one = assign(tuple(&[]), none());
     let three = while_(none(), &[]);
-    let with = |many: Vec<Bytes>, more: &[Bytes]| [many.as_slice(), more].concat();
-    let in_def = |stmts: &[Bytes]| [def("f", &[], stmts)];
-    let many = times(4095, &two);
-    vec![
-        script("instructions-8192", &with(many.clone(), from_ref(&one))),
-        script("instructions-8193", &times(4096, &two)),
-        script(
-            "instructions-8192-loops",
-            &with(times(2730, &three), from_ref(&one)),
-        ),
-        script(
-            "instructions-8193-loops",
-            &with(times(2730, &three), &[two]),
-        ),
-        script("instructions-8192-in-def", &in_def(&many)),
-        script("instructions-8193-in-def", &in_def(&with(many, &[one]))),
-    ]
+    // the last is the return
+    let of = |each: usize, many: &Bytes, count: usize| {
+        let rest = (count - 1) % each;
+        let twos = times(rest / 2, &two);
+        let ones = times(rest % 2, &one);
+        [times((count - 1) / each, many), twos, ones].concat()
+    };
+    let plain = |count: usize| of(2, &two, count);
+    let loops = |count: usize| of(3, &three, count);
+    let in_def = |count: usize| vec![def("f", &[], &of(2, &two, count - 1))];
+    let ways: [Way; 3] = [("", &plain), ("-loops", &loops), ("-in-def", &in_def)];
+    at_limit("instructions", limit, &ways)
+}
+
+/// Each fault that the office has too, and 65 functions, which the console alone
+/// refuses, in both orders.
+fn console_faults() -> Vec<Case> {
+    let defs = times(CONSOLE.functions, &def("g", &[], &[]));
+    let mut cases = Vec::new();
+    for (number, fault) in faults() {
+        let last = [defs.clone(), vec![fault.clone()]].concat();
+        cases.push(script(&format!("console-faults-{number}-last"), &last));
+        let first = [vec![fault], defs.clone()].concat();
+        cases.push(script(&format!("console-faults-{number}-first"), &first));
+    }
+    cases
 }
 
 /// A module of so many bytes: loops, then a string that fills it.
@@ -731,7 +829,7 @@ fn filled_stmts(text: usize) -> Vec<Bytes> {
 }
 
 fn model_length(stmts: &[Bytes]) -> usize {
-    let module = model::lower(&tree(stmts), 16_384, 16_384, usize::MAX);
+    let module = model::lower(&tree(stmts), model::OFFICE, 16_384, 16_384, usize::MAX);
     module.expect("an accepted tree").len()
 }
 

@@ -6,16 +6,11 @@
 //! counts only grows, so the first one over the limit settles it.
 
 use crate::instruction::{self as op, Instruction};
+use crate::limits::Limits;
 use crate::names;
 use crate::slots::{self, Slots};
 use crate::tree::{Block, Class, Expr, Function, Group, If, Name, Stmt};
 use std::collections::{BTreeMap, HashMap, HashSet};
-
-pub const MAX_FUNCTIONS: usize = 256;
-pub const MAX_SYMBOLS: usize = 1_024;
-pub const MAX_STRINGS: usize = 512;
-pub const MAX_CLASSES: usize = 64;
-pub const MAX_INSTRUCTIONS: usize = 8_192;
 
 pub type Parts = Vec<Part>;
 
@@ -62,7 +57,6 @@ pub struct ClassPlan<'a> {
     pub methods: BTreeMap<Name<'a>, u16>,
 }
 
-#[derive(Default)]
 pub struct Plan<'a> {
     pub symbols: Vec<Vec<u8>>,
     pub strings: Vec<&'a [u8]>,
@@ -74,22 +68,39 @@ pub struct Plan<'a> {
     first_function: HashMap<Vec<u8>, u16>,
     class_names: HashSet<Name<'a>>,
     instructions: usize,
+    limits: Limits,
 }
 
 /// What the instructions of one function are made with.
 struct Scope<'s, 'a> {
     slots: &'s Slots<'a>,
+    /// The slot of the next loop's iterator; none in main, whose loops keep
+    /// theirs in globals.
+    iterator: Option<usize>,
     /// The number of instructions of this function so far, jumps included.
     place: usize,
 }
 
 /// The plan of a tree that passed questions 1 to 14, or 15.
-pub fn make<'a>(program: &Block<'a>) -> Result<Plan<'a>, u8> {
-    let mut plan = Plan::default();
+pub fn make<'a>(program: &Block<'a>, limits: Limits) -> Result<Plan<'a>, u8> {
+    let mut plan = Plan::new(limits);
     let main = plan.begin(names::MAIN, 0, 0)?;
     let none = Slots::default();
-    plan.finish(main, program, &none, false)?;
+    let scope = &mut Scope::new(&none, None);
+    plan.finish(main, program, scope, false)?;
     Ok(plan)
+}
+
+impl<'s, 'a> Scope<'s, 'a> {
+    /// Before the first instruction.
+    fn new(slots: &'s Slots<'a>, iterator: Option<usize>) -> Self {
+        let place = 0;
+        Self {
+            slots,
+            iterator,
+            place,
+        }
+    }
 }
 
 fn at_most(count: usize, limit: usize) -> Result<(), u8> {
@@ -110,6 +121,22 @@ fn small(count: usize) -> u8 {
 }
 
 impl<'a> Plan<'a> {
+    fn new(limits: Limits) -> Self {
+        Self {
+            symbols: Vec::new(),
+            strings: Vec::new(),
+            functions: Vec::new(),
+            classes: Vec::new(),
+            constants: Vec::new(),
+            symbol_of: HashMap::new(),
+            string_of: HashMap::new(),
+            first_function: HashMap::new(),
+            class_names: HashSet::new(),
+            instructions: 0,
+            limits,
+        }
+    }
+
     fn intern(&mut self, name: &[u8]) -> Result<u16, u8> {
         if let Some(known) = self.symbol_of.get(name) {
             return Ok(*known);
@@ -117,7 +144,7 @@ impl<'a> Plan<'a> {
         let symbol = number(self.symbols.len());
         self.symbols.push(name.to_vec());
         self.symbol_of.insert(name.to_vec(), symbol);
-        at_most(self.symbols.len(), MAX_SYMBOLS)?;
+        at_most(self.symbols.len(), self.limits.symbols)?;
         Ok(symbol)
     }
 
@@ -127,7 +154,7 @@ impl<'a> Plan<'a> {
         if index == next {
             self.strings.push(bytes);
         }
-        at_most(self.strings.len(), MAX_STRINGS)?;
+        at_most(self.strings.len(), self.limits.strings)?;
         Ok(index)
     }
 
@@ -135,7 +162,7 @@ impl<'a> Plan<'a> {
     fn count(&mut self, scope: &mut Scope, more: usize) -> Result<(), u8> {
         scope.place += more;
         self.instructions += more;
-        at_most(self.instructions, MAX_INSTRUCTIONS)
+        at_most(self.instructions, self.limits.instructions)
     }
 
     fn op(&mut self, scope: &mut Scope, out: &mut Parts, ins: Instruction) -> Result<(), u8> {
@@ -153,7 +180,7 @@ impl<'a> Plan<'a> {
             locals: number(locals),
             parts: Vec::new(),
         });
-        at_most(self.functions.len(), MAX_FUNCTIONS)?;
+        at_most(self.functions.len(), self.limits.functions)?;
         self.first_function
             .entry(name.to_vec())
             .or_insert(number(function));
@@ -165,10 +192,9 @@ impl<'a> Plan<'a> {
         &mut self,
         function: usize,
         body: &Block<'a>,
-        slots: &Slots<'a>,
+        scope: &mut Scope<'_, 'a>,
         load_self: bool,
     ) -> Result<(), u8> {
-        let scope = &mut Scope { slots, place: 0 };
         let mut out = Parts::new();
         self.block(scope, &mut out, body)?;
         if load_self {
@@ -182,9 +208,11 @@ impl<'a> Plan<'a> {
     /// A def, or a method, whose `__init__` gives back its first slot.
     fn function(&mut self, function: &Function<'a>, is_method: bool) -> Result<u16, u8> {
         let slots = slots::of_function(&function.params, &function.body);
-        let index = self.begin(function.name, function.params.len(), slots.len())?;
+        let locals = slots.len() + slots::loops(&function.body);
+        let index = self.begin(function.name, function.params.len(), locals)?;
         let load_self = is_method && function.name == names::INIT;
-        self.finish(index, &function.body, &slots, load_self)?;
+        let scope = &mut Scope::new(&slots, Some(slots.len()));
+        self.finish(index, &function.body, scope, load_self)?;
         Ok(number(index))
     }
 
@@ -201,7 +229,7 @@ impl<'a> Plan<'a> {
             methods: BTreeMap::new(),
         });
         self.class_names.insert(class.name);
-        at_most(self.classes.len(), MAX_CLASSES)?;
+        at_most(self.classes.len(), self.limits.classes)?;
         for method in &class.methods {
             let function = self.function(method, true)?;
             self.classes[index].methods.insert(method.name, function);
@@ -309,10 +337,7 @@ impl<'a> Plan<'a> {
         let mut before = Parts::new();
         self.expr(scope, &mut before, iterable)?;
         self.method(scope, &mut before, names::ITER, 0)?;
-        // The place of the store, counted in this function.
-        let iterator = self.intern(&names::iterator(scope.place))?;
-        let load = Instruction::wide(op::LOAD_GLOBAL, iterator);
-        let keep = Instruction::wide(op::STORE_GLOBAL, iterator);
+        let (keep, load) = self.iterator(scope)?;
         self.op(scope, &mut before, keep)?;
         let mut more = Parts::new();
         self.op(scope, &mut more, load)?;
@@ -332,6 +357,24 @@ impl<'a> Plan<'a> {
             body: taken,
         }));
         Ok(())
+    }
+
+    /// The instructions that keep a loop's iterator and load it: by a slot of
+    /// its own in a def or method, in main by the global that is named by the
+    /// place of its store.
+    fn iterator(&mut self, scope: &mut Scope) -> Result<(Instruction, Instruction), u8> {
+        let (keep, load, at) = match &mut scope.iterator {
+            Some(next) => {
+                let slot = number(*next);
+                *next += 1;
+                (op::STORE_LOCAL, op::LOAD_LOCAL, slot)
+            }
+            None => {
+                let symbol = self.intern(&names::iterator(scope.place))?;
+                (op::STORE_GLOBAL, op::LOAD_GLOBAL, symbol)
+            }
+        };
+        Ok((Instruction::wide(keep, at), Instruction::wide(load, at)))
     }
 
     fn method(
@@ -554,10 +597,7 @@ impl<'a> Plan<'a> {
         let slots = slots::of_lambda(params, &captures);
         let name = names::lambda(self.functions.len());
         let function = self.begin(&name, params.len(), slots.len())?;
-        let inner = &mut Scope {
-            slots: &slots,
-            place: 0,
-        };
+        let inner = &mut Scope::new(&slots, None);
         let mut parts = Parts::new();
         self.expr(inner, &mut parts, body)?;
         self.op(inner, &mut parts, Instruction::plain(op::RETURN))?;
