@@ -13,6 +13,7 @@ use Rattle.definitions.specs.Wellformed.{isName}
 use Rattle.definitions.specs.Builtins.{registry}
 use Rattle.definitions.specs.Instruction.{Instr, instr, Jump, ConstBool, firstWidth, secondWidth}
 use Rattle.definitions.specs.Instruction.{Numbers, nothing, aString, aConstant, aSlot, aSymbol, aFunction, aBuiltin, numbersOf}
+use Rattle.definitions.specs.Stack.{heightNumber}
 use Rattle.definitions.specs.Tables.{Function, Method, Class, Tables}
 use Rattle.definitions.specs.Lower.{jumpOn}
 use Rattle.definitions.specs.Reader.{isBuiltin, rising}
@@ -37,6 +38,19 @@ pub record Sound (t : Tables) (n : ℕ) (i : Instr) : Type 0 where
   pub op : leb (i .op) 47 ≡ true
   pub first : Operand (numbersOf (i .op)) t n (firstWidth (i .op)) (i .a)
   pub second : i .b < 256 ^ secondWidth (i .op)
+
+-- in a function of more slots
+operand-wider : (k : Numbers) (t : Tables) (m n w a : ℕ) → m ≤ n → Operand k t m w a → Operand k t n w a
+operand-wider nothing t m n w a h o = o
+operand-wider aString t m n w a h o = o
+operand-wider aConstant t m n w a h o = o
+operand-wider aSlot t m n w a h o = omega arith
+operand-wider aSymbol t m n w a h o = o
+operand-wider aFunction t m n w a h o = o
+operand-wider aBuiltin t m n w a h o = o
+
+pub sound-wider : {t : Tables} {m n : ℕ} {i : Instr} → m ≤ n → Sound t m i → Sound t n i
+sound-wider {t} {m} {n} {i} h S = record { op = S .op; first = operand-wider (numbersOf (i .op)) t m n (firstWidth (i .op)) (i .a) h (S .first); second = S .second }
 
 -- an instruction without operands, with one, and with a count of arguments for the second one
 pub bare : {t : Tables} {n op : ℕ} → leb op 47 ≡ true → numbersOf op ≡ nothing → Sound t n (instr op 0 0)
@@ -91,10 +105,11 @@ pub record Small (t : Tables) (p : ℕ) : Type 0 where
   pub count : length (t .functions) ≤ 256
   pub lean : Every Lean (t .functions)
 
--- What is shown of a function: its name's symbol exists, its parameters are few, its instructions are sound
+-- What is shown of a function: its name's symbol exists, its parameters are few, its height is that of its code, its instructions are sound
 pub record Tight (t : Tables) (f : Function) : Type 0 where
   pub symbol : f .symbol < length (t .symbols)
   pub arity : f .arity ≤ 255
+  pub height : f .height ≡ heightNumber (f .code)
   pub code : Every (Sound t (f .locals)) (f .code)
 
 -- of a method: it has a name, and its function exists

@@ -1,6 +1,6 @@
 -- Cases of the change requests, by computing.
 use mathlib.Core.Path.{_≡_, refl}
-use mathlib.Core.Bool.{Bool, true, false, _&&_}
+use mathlib.Core.Bool.{Bool, true, false, not, _&&_}
 use mathlib.Core.List.{List, [], _∷_, _++_, map}
 use Prim.Native.Nat.{ℕ}
 use Prim.Native.String.{String}
@@ -9,9 +9,11 @@ use lib.ListN.{replicate}
 use Rattle.definitions.specs.Bytes.{refused, accepted, all, ascii, listBytes}
 use Rattle.definitions.specs.Module.{nameBytes, moduleBytes}
 use Rattle.definitions.specs.Reader.{readModule}
-use Rattle.definitions.specs.Samples.{Sample, sample, holds, passes, refusal, functionIs, tree, named, variable, noneE, exprS, passS, forS, defS, defWith, returnS, classS, methodOf, assignS, listE, tupleE, lambdaE}
+use Rattle.definitions.specs.Samples.{Sample, sample, holds, passes, refusal, functionIs, heightIs, symbolsAre}
+use Rattle.definitions.specs.Samples.{tree, named, variable, noneE, exprS, breakS, passS, whileS, ifS, forS, defS, defWith, returnS, classS, methodOf, assignS, listE, tupleE, lambdaE, callWith}
 use Rattle.definitions.specs.Tree.{listD}
-use Rattle.definitions.specs.Instruction.{LoadLocal, LoadGlobal, MakeClosure, Build, Return, ConstI64, Dup, LoadIndex, StoreLocal}
+use Rattle.definitions.specs.Instruction.{Instr, ConstBool, ConstNone, Pop, Call, LoadLocal, LoadGlobal, MakeClosure, Build, Return, ConstI64, Dup, LoadIndex, StoreLocal, CallMethod, CallValue, JumpIfFalse, Jump, minus}
+use Rattle.definitions.specs.Heights.{heightsHold}
 use Rattle.definitions.specs.Open.{everything}
 
 abbrev iterator : String
@@ -123,3 +125,111 @@ r1 =
 r1-holds : all holds r1 ≡ true
 unfolding everything r1
 r1-holds = refl
+
+-- R-7: a loop over the parameter `r`, in its place in a tree and in code: its iterator in the slot k, its variable in v, nothing inside
+unfoldable loopIn : String → List (List ℕ) → List ℕ
+loopIn x b = forS x (variable "r") b
+
+unfoldable loopCode : ℕ → ℕ → List Instr
+loopCode k v =
+    LoadLocal 0 ∷ CallMethod 2 0 ∷ StoreLocal k ∷ LoadLocal k ∷ CallMethod 3 0 ∷ JumpIfFalse 4 ∷ LoadLocal k ∷ CallMethod 4 0 ∷ StoreLocal v ∷ Jump (minus 7) ∷ []
+
+-- two helpers with loops at the same place
+unfoldable helpers : List ℕ
+helpers = tree (defWith "f" ("r" ∷ []) (loopIn "i" (passS ∷ []) ∷ []) ∷ defWith "g" ("r" ∷ []) (loopIn "i" [] ∷ exprS (callWith "f" 0) ∷ []) ∷ [])
+
+-- a loop in a loop and one after it, with a lambda, which sees the names alone
+unfoldable nestedLoops : List ℕ
+nestedLoops = tree (defWith "f" ("r" ∷ []) (loopIn "i" (loopIn "j" [] ∷ []) ∷ loopIn "i" (returnS (lambdaE [] (variable "j")) ∷ []) ∷ []) ∷ [])
+
+-- loops in different branches, and one after them
+unfoldable branchLoops : List ℕ
+branchLoops = tree (defWith "f" ("r" ∷ []) (ifS (variable "r") (loopIn "i" [] ∷ []) (variable "r") (loopIn "j" [] ∷ []) ∷ loopIn "i" [] ∷ []) ∷ [])
+
+-- a loop in a method, with a def in it that has a loop of its own
+unfoldable methodLoops : List ℕ
+methodLoops = tree (classS "C" (methodOf "m" ("r" ∷ []) (loopIn "i" (defWith "g" ("r" ∷ []) (loopIn "j" [] ∷ []) ∷ []) ∷ []) ∷ []) ∷ [])
+
+unfoldable r7 : List Sample
+r7 =
+    sample helpers (functionIs 1 "f" 1 3 (loopCode 2 1 ++ Return ∷ []))
+    ∷ sample helpers (functionIs 2 "g" 1 3 (loopCode 2 1 ++ Call 1 0 ∷ Pop ∷ Return ∷ []))
+    ∷ sample helpers (symbolsAre (map ascii ("__main__" ∷ "f" ∷ "__iter__" ∷ "__has_next__" ∷ "__next__" ∷ "g" ∷ [])))
+    ∷ sample nestedLoops
+    (functionIs 1 "f" 1 6
+    (LoadLocal 0 ∷ CallMethod 2 0 ∷ StoreLocal 3 ∷ LoadLocal 3 ∷ CallMethod 3 0 ∷ JumpIfFalse 14 ∷ LoadLocal 3 ∷ CallMethod 4 0 ∷ StoreLocal 1 ∷ loopCode 4 2 ++ Jump (minus 17)
+    ∷ LoadLocal 0 ∷ CallMethod 2 0 ∷ StoreLocal 5 ∷ LoadLocal 5 ∷ CallMethod 3 0 ∷ JumpIfFalse 7 ∷ LoadLocal 5 ∷ CallMethod 4 0 ∷ StoreLocal 1 ∷ LoadLocal 2 ∷ MakeClosure 2 1 ∷ Return ∷ Jump (minus 10)
+    ∷ Return ∷ []))
+    ∷ sample nestedLoops (functionIs 2 "<lambda#2>" 0 1 (LoadLocal 0 ∷ Return ∷ []))
+    ∷ sample branchLoops
+    (functionIs 1 "f" 1 6
+    (LoadLocal 0 ∷ JumpIfFalse 11 ∷ loopCode 3 1 ++ Jump 12 ∷ LoadLocal 0 ∷ JumpIfFalse 11 ∷ loopCode 4 2 ++ Jump 0 ∷ loopCode 5 1 ++ Return ∷ []))
+    ∷ sample methodLoops (functionIs 1 "m" 1 4 (loopCode 3 1 ++ Return ∷ []))
+    ∷ sample methodLoops (functionIs 2 "g" 1 3 (loopCode 2 1 ++ Return ∷ []))
+    -- main's are in globals
+    ∷ sample (tree (loopIn "i" (passS ∷ []) ∷ [])) (symbolsAre (map ascii ("__main__" ∷ "r" ∷ "__iter__" ∷ "__for_iter_2__" ∷ "__has_next__" ∷ "__next__" ∷ "i" ∷ [])))
+    ∷ []
+
+r7-holds : all holds r7 ≡ true
+unfolding everything r7 loopIn loopCode helpers nestedLoops branchLoops methodLoops
+r7-holds = refl
+
+-- 14 counts them: a parameter, the loop variable and 253 loops make 255 slots; one loop more is too many
+unfoldable loopsIn : ℕ → List ℕ
+loopsIn n = tree (defWith "f" ("r" ∷ []) (replicate n (loopIn "i" [])) ∷ [])
+
+r7-slots : all holds (sample (loopsIn 253) passes ∷ sample (loopsIn 254) (refusal 14) ∷ []) ≡ true
+unfolding everything loopIn loopsIn
+r7-slots = refl
+
+-- R-10: an empty tuple as a target or inside one gives 36, after 10 and before 11; as a value it passes
+unfoldable binaryE : ℕ → List ℕ → List ℕ → List ℕ
+binaryE op l r = 8 ∷ op ∷ l ++ r
+
+unfoldable dictE : List (List ℕ) → List ℕ
+dictE ps = 12 ∷ listBytes 2 (λ (p : List ℕ). p) ps
+
+unfoldable callE : List ℕ → List (List ℕ) → List ℕ
+callE f es = 9 ∷ f ++ listBytes 2 (λ (e : List ℕ). e) es
+
+unfoldable emptied : List ℕ
+emptied = assignS (tupleE (variable "a" ∷ tupleE [] ∷ [])) (variable "t")
+
+unfoldable r10 : List Sample
+r10 =
+    sample (tree (emptied ∷ [])) (refusal 36)
+    ∷ sample (tree (assignS (tupleE (variable "a" ∷ tupleE (tupleE [] ∷ variable "b" ∷ []) ∷ [])) (variable "t") ∷ [])) (refusal 36)
+    ∷ sample (tree (defS "f" (whileS noneE (emptied ∷ []) ∷ []) ∷ [])) (refusal 36)
+    ∷ sample (tree (emptied ∷ assignS noneE noneE ∷ [])) (refusal 10)
+    ∷ sample (tree (assignS (tupleE (tupleE [] ∷ noneE ∷ [])) noneE ∷ [])) (refusal 10)
+    ∷ sample (tree (defWith "f" ("x" ∷ "x" ∷ []) [] ∷ emptied ∷ [])) (refusal 36)
+    ∷ sample (tree (assignS (variable "v") (tupleE []) ∷ assignS (attributeE "x") (tupleE []) ∷ [])) passes
+    -- heights: nothing, `a and (b or c)`, a dict, calls by value and of a method, a loop whose inside ends in a break, code behind a return
+    ∷ sample (tree []) (heightIs 0 0)
+    ∷ sample (tree (exprS (binaryE 12 (variable "a") (binaryE 13 (variable "b") (variable "c"))) ∷ [])) (heightIs 0 1)
+    ∷ sample (tree (exprS (binaryE 0 (variable "a") (binaryE 12 (variable "b") (binaryE 0 (variable "c") (variable "d")))) ∷ [])) (heightIs 0 3)
+    ∷ sample (tree (exprS (dictE ((variable "a" ++ variable "b") ∷ (variable "c" ++ variable "d") ∷ [])) ∷ [])) (heightIs 0 4)
+    ∷ sample (tree (exprS (callE (variable "f") (noneE ∷ noneE ∷ [])) ∷ [])) (heightIs 0 3)
+    ∷ sample (tree (exprS (callE (attributeE "m") (noneE ∷ [])) ∷ [])) (heightIs 0 2)
+    ∷ sample (tree (whileS noneE (breakS ∷ exprS (listE (noneE ∷ noneE ∷ [])) ∷ []) ∷ [])) (heightIs 0 2)
+    ∷ sample (tree (defS "f" (returnS noneE ∷ exprS (listE (noneE ∷ noneE ∷ noneE ∷ [])) ∷ []) ∷ [])) (heightIs 1 3)
+    ∷ []
+
+r10-holds : all holds r10 ≡ true
+unfolding everything r10 emptied attributeE binaryE dictE callE
+r10-holds = refl
+
+-- 37. Yes: `while True: break`; a fault that nothing reaches; two ways to two Returns. No: too few values; more than the number; two heights, by a question
+-- and by a loop
+r10-checks :
+    (heightsHold 1 (ConstBool true ∷ JumpIfFalse 2 ∷ Jump 1 ∷ Jump (minus 4) ∷ Return ∷ [])
+    && heightsHold 0 (Return ∷ Pop ∷ Return ∷ [])
+    && heightsHold 1 (ConstNone ∷ JumpIfFalse 2 ∷ ConstNone ∷ Return ∷ Return ∷ [])
+    && not (heightsHold 9 (Pop ∷ Return ∷ []))
+    && not (heightsHold 9 (ConstNone ∷ CallValue 1 ∷ Return ∷ []))
+    && not (heightsHold 0 (ConstNone ∷ Return ∷ []))
+    && not (heightsHold 9 (ConstNone ∷ JumpIfFalse 1 ∷ ConstNone ∷ Return ∷ []))
+    && not (heightsHold 9 (ConstNone ∷ Jump (minus 2) ∷ Return ∷ [])))
+    ≡ true
+unfolding everything
+r10-checks = refl

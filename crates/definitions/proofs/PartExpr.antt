@@ -12,15 +12,15 @@ use Rattle.definitions.specs.Tree.{BinaryOp, addOp, subtractOp, multiply
 use Rattle.definitions.specs.Tree.{Expr, lit, var, unary, binary, logical, call, attr, display, index, lambda, Exprs, []ᵉ, _∷ᵉ_, count}
 use Rattle.definitions.specs.Tree.{View, asVar, asAttr, asIndex, asTuple, asOther, view}
 use Rattle.definitions.specs.Wellformed.{init}
-use Rattle.definitions.specs.Slots.{captures}
+use Rattle.definitions.specs.Slots.{captures, Frame, namesOnly}
 use Rattle.definitions.specs.Instruction
-use Rattle.definitions.specs.Instruction.{Instr, ConstBool, Return, LoadLocal, encodes, unaryCode, operatorCode, binaryCode, buildCode}
+use Rattle.definitions.specs.Instruction.{Instr, ConstBool, Return, LoadLocal, encodes, unaryCode, operatorCode, binaryCode, buildCode, flow}
 use Rattle.definitions.specs.Tables.{Function, Tables, Body, exprBody, Out, Emit, addSymbol, begin, emits, one, _⨟_, intern, getOrAddString, function, enclose}
 use Rattle.definitions.specs.Lower
 use Rattle.definitions.specs.Lower.{Callee, builtinCallee, functionCallee, valueCallee, resolve, load, store, literal, decides, callNamed, callBy, loads, closure, emitExpr, emitExprs, emitObject, methodEnd, emitBody}
-use Rattle.definitions.specs.Run.{flow}
 use Rattle.definitions.specs.Walk.{walked, returned, Walk, before, andThen, follow, adds, leaves, Both, walkNamed, walkCall, walkExpr, walkExprs, walkObject, walkBody, walkAt}
 use Rattle.definitions.specs.Reader.{endsInReturn, jumpsLand, codeStands}
+use Rattle.definitions.specs.Open.{flows}
 use Rattle.definitions.proofs.Shape.{plain, ret, seq, Plain, Each, none, more}
 use Rattle.definitions.proofs.Demand.{Over, over-then}
 use Rattle.definitions.proofs.Lands.{Stop, stands, stop-return, stop-init}
@@ -31,7 +31,7 @@ use Rattle.definitions.proofs.Part.{Part, Leaf, part-adds, part-follow,
 -- ---- leaves
 
 pub leaf-load : (slots : List Name) (x : Name) → Leaf (load slots x)
-unfolding load flow
+unfolding load flows
 leaf-load slots x = go (position (same x) slots)
   where
     go : (o : Option ℕ) → Leaf (elim o as (λ z. Emit) [ some i ↦ one (LoadLocal i) | nothing ↦ intern x (λ k. one (Instruction.LoadGlobal k)) ])
@@ -39,7 +39,7 @@ leaf-load slots x = go (position (same x) slots)
     go nothing = leaf-symbol x (λ k. leaf-one (num refl refl refl))
 
 pub leaf-store : (slots : List Name) (x : Name) → Leaf (store slots x)
-unfolding store flow
+unfolding store flows
 leaf-store slots x = go (position (same x) slots)
   where
     go : (o : Option ℕ) → Leaf (elim o as (λ z. Emit) [ some i ↦ one (Instruction.StoreLocal i) | nothing ↦ intern x (λ k. one (Instruction.StoreGlobal k)) ])
@@ -47,12 +47,12 @@ leaf-store slots x = go (position (same x) slots)
     go nothing = leaf-symbol x (λ k. leaf-one (num refl refl refl))
 
 pub plain-bool : (b : Bool) → Plain (ConstBool b)
-unfolding flow
+unfolding flows
 plain-bool false = num refl refl refl
 plain-bool true = num refl refl refl
 
 pub plain-build : (k : Display) (n : ℕ) → Plain (Instruction.Build k n)
-unfolding flow buildCode
+unfolding flows buildCode
 plain-build listD n = num refl refl refl
 plain-build tupleD n = num refl refl refl
 plain-build dictD n = num refl refl refl
@@ -60,13 +60,13 @@ plain-build setD n = num refl refl refl
 plain-build treeSetD n = num refl refl refl
 
 pub plain-unary : (op : UnaryOp) → Plain (Instruction.Unary op)
-unfolding flow unaryCode
+unfolding flows unaryCode
 plain-unary notOp = num refl refl refl
 plain-unary negateOp = num refl refl refl
 plain-unary posOp = num refl refl refl
 
 pub plain-binary : (op : BinaryOp) → Plain (Instruction.Binary op)
-unfolding flow binaryCode operatorCode binaryNumber
+unfolding flows binaryCode operatorCode binaryNumber
 plain-binary addOp = num refl refl refl
 plain-binary subtractOp = num refl refl refl
 plain-binary multiplyOp = num refl refl refl
@@ -81,7 +81,7 @@ plain-binary greaterOp = num refl refl refl
 plain-binary greaterEqualOp = num refl refl refl
 
 pub leaf-literal : (v : Literal) → Leaf (literal v)
-unfolding literal flow
+unfolding literal flows
 leaf-literal noneL = leaf-one (num refl refl refl)
 leaf-literal (boolL b) = leaf-one (plain-bool b)
 leaf-literal (intL n) = leaf-one (num refl refl refl)
@@ -96,15 +96,15 @@ leaf-loads slots (x ∷ xs) = leaf-seq (leaf-load slots x) (leaf-loads slots xs)
 -- ---- a whole function
 
 -- a body whose end leaves the function
-pub record Whole (e : Emit) (slots : List Name) (body : Body) : Type 0 where
-  pub emitted : e ≡ emitBody slots body
-  pub part : Part false e (walkBody slots body)
-  pub over : (t : Tables) (xs : List ℕ) → Over (walkBody slots body 0 t xs .ending)
+pub record Whole (e : Emit) (frame : Frame) (body : Body) : Type 0 where
+  pub emitted : e ≡ emitBody frame body
+  pub part : Part false e (walkBody frame body)
+  pub over : (t : Tables) (xs : List ℕ) → Over (walkBody frame body 0 t xs .ending)
   pub stand : (t : Tables) → length (e 0 t .code) < 4294967296 → T (endsInReturn (e 0 t .code) && jumpsLand (length (e 0 t .code)) 0 (e 0 t .code))
 
-pub whole : {e : Emit} {w : Walk} (slots : List Name) (body : Body) (end : List Instr) → e ⨟ emits end ≡ emitBody slots body → walkBody slots body ≡ follow e w (leaves end) → Part false e w → Part false (emits end) (leaves end) → Stop end → Whole (e ⨟ emits end) slots body
+pub whole : {e : Emit} {w : Walk} (frame : Frame) (body : Body) (end : List Instr) → e ⨟ emits end ≡ emitBody frame body → walkBody frame body ≡ follow e w (leaves end) → Part false e w → Part false (emits end) (leaves end) → Stop end → Whole (e ⨟ emits end) frame body
 unfolding follow leaves _⨟_ emits
-whole {e} {w} slots body end c q A B S = record {
+whole {e} {w} frame body end c q A B S = record {
   emitted = c;
   part = rw q (part-follow A B);
   over = λ t xs. rw q (over-then _ (w 0 t xs .ending) (w 0 t xs .left) (w 0 t xs .events) (meaning-calm (A .at 0 t) xs) (λ zs. tt));
@@ -116,7 +116,7 @@ unfolding leaves emits
 part-leave = record { at = λ p t. record { code = ret; ok = tt; emitted = refl; walks = refl }; grows = λ p t. grow-none }
 
 pub part-init : Part false (emits (LoadLocal 0 ∷ Return ∷ [])) (leaves (LoadLocal 0 ∷ Return ∷ []))
-unfolding emits leaves flow encodes concat andThen before
+unfolding emits leaves flows encodes concat andThen before
 part-init = record {
   at = λ p t. record {
     code = seq (plain (LoadLocal 0 ∷ [])) ret;
@@ -146,49 +146,49 @@ stop-end x = go (same x init)
     go true = stop-init
     go false = stop-return
 
-pub leaf-function : {e : Emit} (x : Name) (arity : ℕ) (slots : List Name) (body : Body) → Whole e slots body → Leaf (function x arity slots body e)
+pub leaf-function : {e : Emit} (x : Name) (arity : ℕ) (frame : Frame) (body : Body) → Whole e frame body → Leaf (function x arity frame body e)
 unfolding function enclose begin walkAt codeStands
-leaf-function {e} x arity slots body B = leaf-symbol x (λ k. record {
+leaf-function {e} x arity frame body B = leaf-symbol x (λ k. record {
   at = λ p t. none;
   grows = λ p t.
-      let u = begin k arity slots t in
+      let u = begin k arity frame t in
       grow-function (t .functions) _ _ _ _ (e 0 u .code) (B .part .grows 0 u) (record { source = record { locals = refl; code = ap (λ (z : Emit). z 0 u .code) (B .emitted) }; meaning = B .part .at 0 u; over = λ xs. B .over u xs; stands = B .stand u });
 })
 
 -- it gives no code in its parent
-pub function-silent : (x : Name) (arity : ℕ) (slots : List Name) (body : Body) (e : Emit) (p : ℕ) (t : Tables) → function x arity slots body e p t .code ≡ []
+pub function-silent : (x : Name) (arity : ℕ) (frame : Frame) (body : Body) (e : Emit) (p : ℕ) (t : Tables) → function x arity frame body e p t .code ≡ []
 unfolding function intern enclose
-function-silent x arity slots body e p t = go (position (same x) (t .symbols))
+function-silent x arity frame body e p t = go (position (same x) (t .symbols))
   where
-    go : (o : Option ℕ) → (elim o as (λ z. Out) [ some k ↦ enclose k arity slots body e p t | nothing ↦ enclose (length (t .symbols)) arity slots body e p (addSymbol x t) ]) .code ≡ []
+    go : (o : Option ℕ) → (elim o as (λ z. Out) [ some k ↦ enclose k arity frame body e p t | nothing ↦ enclose (length (t .symbols)) arity frame body e p (addSymbol x t) ]) .code ≡ []
     go (some k) = refl
     go nothing = refl
 
-pub leaf-closure : (e : Emit) (slots : List Name) (n : ℕ) (inner cs : List Name) (body : Body) → Whole (e ⨟ one Return) inner body → Leaf (closure slots n inner cs body e)
-unfolding closure flow
+pub leaf-closure : (e : Emit) (slots : List Name) (n : ℕ) (inner cs : List Name) (body : Body) → Whole (e ⨟ one Return) (namesOnly inner) body → Leaf (closure slots n inner cs body e)
+unfolding closure flows
 leaf-closure e slots n inner cs body B =
-    leaf-by (λ t. function (Lower.lambdaName (length (t .functions))) n inner body (e ⨟ one Return) ⨟ loads slots cs ⨟ one (Instruction.MakeClosure (length (t .functions)) (length cs)))
-    (λ t. leaf-seq (leaf-function _ n inner body B) (leaf-seq (leaf-loads slots cs) (leaf-one (num refl refl refl))))
+    leaf-by (λ t. function (Lower.lambdaName (length (t .functions))) n (namesOnly inner) body (e ⨟ one Return) ⨟ loads slots cs ⨟ one (Instruction.MakeClosure (length (t .functions)) (length cs)))
+    (λ t. leaf-seq (leaf-function _ n (namesOnly inner) body B) (leaf-seq (leaf-loads slots cs) (leaf-one (num refl refl refl))))
 
 -- ---- expressions
 
-pub whole-expr : (slots : List Name) (b : Expr) → Part false (emitExpr slots b) (walkExpr slots b) → Whole (emitExpr slots b ⨟ one Return) slots (exprBody b)
+pub whole-expr : (slots : List Name) (b : Expr) → Part false (emitExpr slots b) (walkExpr slots b) → Whole (emitExpr slots b ⨟ one Return) (namesOnly slots) (exprBody b)
 unfolding walkBody emitBody
-whole-expr slots b A = whole slots (exprBody b) (Return ∷ []) refl refl A part-leave stop-return
+whole-expr slots b A = whole (namesOnly slots) (exprBody b) (Return ∷ []) refl refl A part-leave stop-return
 
 pub part-named : {l : Bool} (c : Callee) (slots : List Name) (x : Name) {e : Emit} {w : Walk} (n : ℕ) → Part l e w → Part l (callNamed c slots x e n) (walkNamed c slots x e w n)
-unfolding callNamed walkNamed flow
+unfolding callNamed walkNamed flows
 part-named (builtinCallee i) slots x n A = part-follow A (part-adds (leaf-one (num refl refl refl)))
 part-named (functionCallee i) slots x n A = part-follow A (part-adds (leaf-one (num refl refl refl)))
 part-named valueCallee slots x n A = part-follow (part-adds (leaf-load slots x)) (part-follow A (part-adds (leaf-one (num refl refl refl))))
 
 pub part-value : {l : Bool} {e f : Emit} {w v : Walk} (n : ℕ) → Part l e w → Part l f v → Part l (e ⨟ f ⨟ one (Instruction.CallValue n)) (follow e w (follow f v (adds (one (Instruction.CallValue n)))))
-unfolding flow
+unfolding flows
 part-value n A B = part-follow A (part-follow B (part-adds (leaf-one (num refl refl refl))))
 
 pub part-method : {l : Bool} {e f : Emit} {w v : Walk} (x : Name) (n : ℕ) → Part l e w → Part l f v
     → Part l (e ⨟ f ⨟ intern x (λ k. one (Instruction.CallMethod k n))) (follow e w (follow f v (adds (intern x (λ k. one (Instruction.CallMethod k n))))))
-unfolding flow
+unfolding flows
 part-method x n A B = part-follow A (part-follow B (part-adds (leaf-symbol x (λ k. leaf-one (num refl refl refl)))))
 
 -- code and walk of a part
@@ -211,7 +211,7 @@ pub part-nothing : {l : Bool} → Part l (emits []) (adds (emits []))
 part-nothing = part-adds (leaf-emits none)
 
 mutual
-  unfolding emitExpr walkExpr emitExprs walkExprs emitObject walkObject flow
+  unfolding emitExpr walkExpr emitExprs walkExprs emitObject walkObject flows
 
   pub part-expr : (l : Bool) (slots : List Name) (e : Expr) → Part l (emitExpr slots e) (walkExpr slots e)
   part-expr l slots (lit v) = part-adds (leaf-literal v)

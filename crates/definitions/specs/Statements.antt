@@ -13,19 +13,27 @@ use Rattle.definitions.specs.Utf8.{Range, inRange, Octets, utf8Char, isU
 use Rattle.definitions.specs.Tree.{BinaryOp, addOp, subtractOp, multiplyOp, divideOp, floorDivideOp, moduloOp, equalOp, notEqualOp, lessOp, lessEqualOp, greaterOp, greaterEqualOp}
 use Rattle.definitions.specs.Tree.{binaryNumber, UnaryOp, LogicalOp, Display, Expr, lit, var, unary, binary, logical, call, attr, display, index, lambda, Exprs, []ᵉ, _∷ᵉ_}
 use Rattle.definitions.specs.Tree.{Stmt, break, continue, pass, expr, return, assign, if, while, for, def, class, Block, []ᵇ, _∷ᵇ_, Branches, done, else, when, Methods, Attribute}
-use Rattle.definitions.specs.Parse.{binaryKinds, blockOf, parseStmt}
+use Rattle.definitions.specs.Parse.{binaryKinds, blockOf, parseStmt, treeVersion, readTree}
 use Rattle.definitions.specs.Wellformed.{isName, isTuple, isIterator, distinct, askBlock}
 use Rattle.definitions.specs.TreeNames.{namesBlock}
-use Rattle.definitions.specs.Slots.{add, localsBlock, captures}
-use Rattle.definitions.specs.Instruction.{Instr, StoreGlobal, Row, rowOf, binaryCode, encodes}
-use Rattle.definitions.specs.Tables.{Function, Tables, Body, blockBody, Source}
+use Rattle.definitions.specs.Slots.{add, localsBlock, captures, loopsBlock}
+use Rattle.definitions.specs.Instruction.{Numbers, nothing, aString, aConstant, aSlot, aSymbol, aFunction, aBuiltin, numbersOf}
+use Rattle.definitions.specs.Instruction.{Instr, LoadLocal, StoreLocal, Return, StoreGlobal, Row, rowOf, binaryCode, encode, encodes}
+use Rattle.definitions.specs.Instruction.{Flow, straight, jump, returns, question, flow}
+use Rattle.definitions.specs.Tables.{Function, Tables, Body, blockBody, exprBody, Source}
 use Rattle.definitions.specs.Lower.{iterName, noTables, compile, emitBody}
 use Rattle.definitions.specs.Bodies.{bodies}
-use Rattle.definitions.specs.Module.{Limits, office, moduleBytes, codeStart, slotsFit, tablesFit, lowerBlock, lowerTables, lowerBytes}
+use Rattle.definitions.specs.Module.{Limits, office, moduleVersion, moduleBytes, codeStart, slotsFit, tablesFit, lowerBlock, lowerTables, lowerBytes}
 use Rattle.definitions.specs.Reader.{moduleRecord, numbersExist, codeStands, readModule}
 use Rattle.definitions.specs.Run.{Ran, run}
 use Rattle.definitions.specs.Walk.{Walked, endingNumber, walk}
 use Rattle.definitions.specs.Calls.{areasFit, areAnswers, lowerAnswer, readCall, Part, partOf, codeCall, runAnswer, walkTree}
+use Rattle.definitions.specs.Sheet.{tally, isQuestion}
+use Rattle.definitions.specs.Reach.{placesMet, Reachable, Brings, Nowhere, wideArea, sought, Finds}
+use Rattle.definitions.specs.Search.{Rule, Swept}
+use Rattle.definitions.specs.Stack.{heightAfter, heightNumber, heightAt}
+use Rattle.definitions.specs.Heights.{Spot, spotsMet, Met, Within, HeightsHold, heightsHold, functionHolds, heightsAnswer}
+use Rattle.definitions.specs.Starts.{startsSource}
 use Rattle.definitions.specs.Samples.{samples, holds}
 
 -- ---- the starred samples: proofs/Samples
@@ -110,7 +118,7 @@ lowerQuestions l m n room tree =
     asked 1 (areasFit m n)
     ∷ asked 2 (leb (length tree) 32768)
     ∷ asked 3 (headCounts tree)
-    ∷ asked 4 (leb 5 (length tree) && eqb (getD tree 4 0) 1)
+    ∷ asked 4 (leb 5 (length tree) && eqb (getD tree 4 0) treeVersion)
     ∷ asked 5 (readsWhole (parsed tree))
     ∷ asked 6 (notTooDeep (parsed tree))
     ∷ asked 7 (askBlock 7 false b)
@@ -118,6 +126,7 @@ lowerQuestions l m n room tree =
     ∷ asked 8 (askBlock 8 false b)
     ∷ asked 9 (askBlock 9 false b)
     ∷ asked 10 (askBlock 10 false b)
+    ∷ asked 36 (askBlock 36 false b)
     ∷ asked 11 (askBlock 11 false b)
     ∷ asked 12 (askBlock 12 false b)
     ∷ asked 13 (askBlock 13 false b)
@@ -136,7 +145,7 @@ abbrev pub Refusals : Type 0
 Refusals =
     (l : Limits) (m n room : ℕ) (tree : List ℕ) → lowerAnswer l m n room tree ≡ firstRefusal (lowerQuestions l m n room tree) (moduleOf tree)
 
--- ---- the same of the reader, of the hand-back of code and of the run: proofs/ModuleRefusals
+-- ---- the same of the reader, of the hand-back of code, of the run, of R-8's tool and of the check of heights: proofs/ModuleRefusals
 
 -- what the bytes after a module's head read as
 unfoldable pub recordRead : List ℕ → Parsed Tables
@@ -163,7 +172,7 @@ codeIn t f = elim (getElem? (t .functions) f) [ some g ↦ g .code | none ↦ []
 unfoldable pub readQuestions : List ℕ → List Question
 readQuestions m =
     asked 17 (leb (length m) 524288 && headCounts m)
-    ∷ asked 18 (leb 5 (length m) && eqb (getD m 4 0) 1)
+    ∷ asked 18 (leb 5 (length m) && eqb (getD m 4 0) moduleVersion)
     ∷ asked 19 (laidOut (recordRead m))
     ∷ asked 20 (numbersExist (tablesIn m))
     ∷ asked 21 (all codeStands (tablesIn m .functions))
@@ -196,6 +205,23 @@ RunRefusals =
     (m : List ℕ) (f : ℕ) (answers : List ℕ) (budget room : ℕ)
     → runAnswer m f answers budget room ≡ firstRefusal (runQuestions m f answers budget room) (runIn m f answers budget)
 
+-- those of the tool that seeks a place, by the lengths of the area and of the buffer
+unfoldable pub reachQuestions : ℕ → List ℕ → ℕ → ℕ → ℕ → List Question
+reachQuestions n m f place room =
+    let code = codeIn (tablesIn m) f in
+    asked 1 (wideArea n) ∷ (codeQuestions m f ++ asked 34 (ltb place (length code)) ∷ asked 35 (leb (tally isQuestion code) room) ∷ [])
+
+abbrev pub ReachRefusals : Type 0
+ReachRefusals =
+    (n : ℕ) (m : List ℕ) (f place room : ℕ) → sought n m f place room ≡ firstRefusal (reachQuestions n m f place room) (codeIn (tablesIn m) f)
+
+-- those of the check of heights, by the length of the area
+unfoldable pub heightsQuestions : ℕ → List ℕ → List Question
+heightsQuestions n m = asked 1 (wideArea n) ∷ readQuestions m ++ asked 37 (all functionHolds (tablesIn m .functions)) ∷ []
+
+abbrev pub HeightsRefusals : Type 0
+HeightsRefusals = (n : ℕ) (m : List ℕ) → heightsAnswer n m ≡ firstRefusal (heightsQuestions n m) tt
+
 -- ---- 7 and 33 are asked of the names of a tree, of each and of nothing else: proofs/TreeNames
 
 pub record NamesAsked (b : Block) : Type 0 where
@@ -215,13 +241,16 @@ pub record IteratorNamed (n : ℕ) : Type 0 where
 abbrev pub Iterators : Type 0
 Iterators = (n : ℕ) → IteratorNamed n
 
--- In an accepted tree no name is an iterator's. And an iterator's global is stored at the place that its name tells and nowhere else: by the code of the
--- loop that begins there, and by no other instruction of the function
+-- In an accepted tree no name is an iterator's. And an iterator's global is main's: it is stored at the place that its name tells and nowhere else, by
+-- the code of main's loop that begins there; and each symbol of that form is one of these
 pub record LoopsApart (b : Block) (t : Tables) : Type 0 where
   pub names : (n : ℕ) → member (iterName n) (namesBlock b) ≡ false
   pub stores :
       (k : ℕ) (f : Function) → getElem? (t .functions) k ≡ some f
-      → (p a n : ℕ) → getElem? (f .code) p ≡ some (StoreGlobal a) → getElem? (t .symbols) a ≡ some (iterName n) → p ≡ n
+      → (p a n : ℕ) → getElem? (f .code) p ≡ some (StoreGlobal a) → getElem? (t .symbols) a ≡ some (iterName n) → (k ≡ 0) × (p ≡ n)
+  pub symbols :
+      (f : Function) → getElem? (t .functions) 0 ≡ some f
+      → (a : ℕ) (x : Name) → getElem? (t .symbols) a ≡ some x → isIterator x ≡ true → (p : ℕ) × (getElem? (f .code) p ≡ some (StoreGlobal a)) × (x ≡ iterName p)
 
 abbrev pub LoopGlobals : Type 0
 LoopGlobals = (b : Block) (t : Tables) → lowerBlock office b ≡ accepted t → LoopsApart b t
@@ -326,13 +355,12 @@ mutual
     ofThen : {e : Expr} {b : Block} {r : Branches} → OwnBlock c b → OwnBranches c (when e b r)
     ofRest : {e : Expr} {b : Block} {r : Branches} → OwnBranches c r → OwnBranches c (when e b r)
 
--- the name of one of its own classes, or of a loop's iterator
+-- the name of one of its own classes
 pub data Global (b : Block) (x : Name) : Type 0 where
   ofClass : {ms : Methods} {vs : List Attribute} → OwnBlock (class x ms vs) b → Global b x
-  ofLoop : (n : ℕ) → x ≡ iterName n → Global b x
 
 -- In the code of a def or method StoreGlobal stores no other name. So no name of a target is stored by it, in tuples or not, but where a class of the
--- function has that name; question 33 keeps scripts from the iterators' names
+-- function has that name; and no loop's iterator is
 abbrev pub GlobalStores : Type 0
 GlobalStores =
     (b : Block) (t : Tables) → lowerBlock office b ≡ accepted t
@@ -406,14 +434,59 @@ SourceBodies = (b : Block) → askBlock 10 false b ≡ true → map bodyOf (comp
 
 -- a function's slots and code are those of its source
 pub record ComesFrom (f : Function) (s : Source) : Type 0 where
-  pub locals : f .locals ≡ length (s .slots)
-  pub code : f .code ≡ emitBody (s .slots) (s .body) 0 (s .start) .code
+  pub locals : f .locals ≡ s .frame .locals
+  pub code : f .code ≡ emitBody (s .frame) (s .body) 0 (s .start) .code
 
 abbrev pub Sources : Type 0
 Sources =
     (b : Block) (t : Tables) → lowerBlock office b ≡ accepted t
     → (k : ℕ) (f : Function) → getElem? (t .functions) k ≡ some f
     → (s : Source) × (getElem? (compile b .sources) k ≡ some s) × (getElem? (bodies b) k ≡ some (s .body)) × ComesFrom f s
+
+-- ---- each loop of a def or method has a slot of its own: proofs/LoopSlots
+
+unfoldable pub isSlot : Numbers → Bool
+isSlot nothing = false
+isSlot aString = false
+isSlot aConstant = false
+isSlot aSlot = true
+isSlot aSymbol = false
+isSlot aFunction = false
+isSlot aBuiltin = false
+
+-- the instruction names a slot from n on
+unfoldable pub isBeyond : ℕ → Instr → Bool
+isBeyond n i = isSlot (numbersOf (i .op)) && leb n (i .a)
+
+-- the instructions that do, in their order
+unfoldable pub beyond : ℕ → List Instr → List Instr
+beyond n [] = []
+beyond n (i ∷ is) = elim (isBeyond n i) [ true ↦ i ∷ beyond n is | false ↦ beyond n is ]
+
+-- what so many loops do with the slots from n on, in the order they stand: each has one slot, stores to it once, and loads it in two places
+unfoldable pub iteratorCode : ℕ → ℕ → List Instr
+iteratorCode n zero = []
+iteratorCode n (suc m) = StoreLocal n ∷ LoadLocal n ∷ LoadLocal n ∷ iteratorCode (suc n) m
+
+-- the loops of function k that keep their iterators in slots: those of its body, but none of main's, function 0
+unfoldable pub loopsBody : Body → ℕ
+loopsBody (blockBody b end) = loopsBlock b
+loopsBody (exprBody e) = 0
+
+unfoldable pub loopsOf : ℕ → Body → ℕ
+loopsOf zero body = 0
+loopsOf (suc k) body = loopsBody body
+
+-- a function's slots are those of its names, then one for each loop; and what names a slot beyond those of the names is the loops' code, no other
+pub record OwnSlots (f : Function) (names loops : ℕ) : Type 0 where
+  pub locals : f .locals ≡ names + loops
+  pub code : beyond names (f .code) ≡ iteratorCode names loops
+
+abbrev pub LoopSlots : Type 0
+LoopSlots =
+    (b : Block) (t : Tables) → lowerBlock office b ≡ accepted t
+    → (k : ℕ) (f : Function) → getElem? (t .functions) k ≡ some f
+    → (s : Source) × (getElem? (compile b .sources) k ≡ some s) × (getElem? (bodies b) k ≡ some (s .body)) × OwnSlots f (length (s .frame .names)) (loopsOf k (s .body))
 
 -- ---- demand 3: proofs/Demand3, proofs/Demand3Bytes
 
@@ -471,6 +544,62 @@ pub record Budgeted (n : ℕ) (r : Ran) (more : ℕ → Ran) : Type 0 where
 abbrev pub Steps : Type 0
 Steps = (n : ℕ) (code : List Instr) (p : ℕ) (answers : List ℕ) → Budgeted n (run n code p answers) (λ m. run (n + m) code p answers)
 
+-- ---- R-8: the places met are the steps counted: proofs/PlacesMet
+
+-- the events of steps at these places, on these answers
+unfoldable pub eventsBy : Flow → Instr → List ℕ → (List ℕ → List ℕ) → List ℕ
+eventsBy straight i answers go = encode i ++ go answers
+eventsBy jump i answers go = go answers
+eventsBy returns i answers go = encode i ++ go answers
+eventsBy (question b) i [] go = []
+eventsBy (question b) i (x ∷ xs) go = i .op ∷ x ∷ go xs
+
+unfoldable pub eventsAt : List Instr → List ℕ → List ℕ → List ℕ
+eventsAt code [] answers = []
+eventsAt code (p ∷ ps) answers = let i = getD code p Return in eventsBy (flow (i .op)) i answers (λ rest. eventsAt code ps rest)
+
+-- there are as many as the run has steps, and the run's events are theirs
+pub record Counted (places : List ℕ) (code : List Instr) (answers : List ℕ) (r : Ran) : Type 0 where
+  pub steps : length places ≡ r .steps
+  pub events : eventsAt code places answers ≡ r .events
+
+abbrev pub MetAreSteps : Type 0
+MetAreSteps = (n : ℕ) (code : List Instr) (p : ℕ) (answers : List ℕ) → Counted (placesMet n code p answers) code answers (run n code p answers)
+
+-- ---- what the marks of a search tell: proofs/Trails
+
+-- a marked place is one that a short list brings every long enough run to (sound); each place that some list reaches is marked (complete)
+pub record Tells (code : List Instr) (marks : List ℕ) : Type 0 where
+  pub sound : (q : ℕ) → (getD marks q 0 ≡ 0 → ⊥) → (answers : List ℕ) × Brings code q answers
+  pub complete : (q : ℕ) → Reachable code q → getD marks q 0 ≡ 0 → ⊥
+
+abbrev pub SearchTells : Type 1
+SearchTells = (R : Rule) (code : List Instr) (marks : List ℕ) → Swept R code marks → Tells code marks
+
+-- ---- what R-8's tool can give: proofs/Reached
+
+-- in a function that stands something is found for every place: answers, or none
+abbrev pub AlwaysFound : Type 0
+AlwaysFound = (g : Function) → codeStands g ≡ true → (place : ℕ) → (found : Option (List ℕ)) × Finds (accepted (g .code)) place found
+
+-- whenever some list reaches the place, one does that is no longer than the number of conditional jumps
+abbrev pub ShortAnswers : Type 0
+ShortAnswers = (g : Function) → codeStands g ≡ true → (place : ℕ) → Reachable (g .code) place → (answers : List ℕ) × Brings (g .code) place answers
+
+-- none is found exactly if no list reaches the place
+abbrev pub NoneExactly : Type 0
+NoneExactly =
+    (code : List Instr) (place : ℕ) (found : Option (List ℕ)) → Finds (accepted code) place found
+    → (found ≡ none → Nowhere code place) × (Nowhere code place → found ≡ none)
+
+-- the run call takes the answers that are found, with room for its events
+abbrev pub FoundRuns : Type 0
+FoundRuns =
+    (n : ℕ) (m : List ℕ) (f place room : ℕ) (code : List Instr) → sought n m f place room ≡ accepted code
+    → (answers : List ℕ) → Brings code place answers
+    → (budget buffer : ℕ) → length (run budget code 0 answers .events) ≤ buffer
+    → runAnswer m f answers budget buffer ≡ accepted (run budget code 0 answers)
+
 -- ---- the hand-back of code: proofs/Handed
 
 -- a module that is read is the bytes of its tables
@@ -488,3 +617,63 @@ pub record Handed (m : List ℕ) (k : ℕ) (p : Part) : Type 0 where
 
 abbrev pub HandedCode : Type 0
 HandedCode = (m : List ℕ) (k : ℕ) (p : Part) → areBytes m ≡ true → codeCall m k ≡ accepted p → Handed m k p
+
+-- ---- heights: proofs/Spots, proofs/HeightsLowered, proofs/HeightsDecided, proofs/Check
+
+-- Every function of every accepted tree has the number of its code in its record, and its heights hold with it
+abbrev pub LoweredHeights : Type 0
+LoweredHeights =
+    (tree : List ℕ) (t : Tables) → areBytes tree ≡ true → lowerTables office tree ≡ accepted t
+    → (k : ℕ) (f : Function) → getElem? (t .functions) k ≡ some f → (f .height ≡ heightNumber (f .code)) × HeightsHold (f .height) (f .code)
+
+-- the same about the bytes: of every module that is lowered, as the reader reads it
+abbrev pub LoweredHeightsBytes : Type 0
+LoweredHeightsBytes =
+    (tree m : List ℕ) → areBytes tree ≡ true → lowerBytes office tree ≡ accepted m
+    → (t : Tables) → readModule m ≡ accepted t
+    → (k : ℕ) (f : Function) → getElem? (t .functions) k ≡ some f → (f .height ≡ heightNumber (f .code)) × HeightsHold (f .height) (f .code)
+
+-- the number is the largest height that an instruction of the code leaves, each met at the height of its place
+abbrev pub NumberIsLargest : Type 0
+NumberIsLargest =
+    (code : List Instr)
+    → ((p : ℕ) → p < length code → heightAfter (getD code p Return) (heightAt 0 code p) ≤ heightNumber code)
+    × (1 ≤ length code → (p : ℕ) × (p < length code) × (heightAfter (getD code p Return) (heightAt 0 code p) ≡ heightNumber code))
+
+-- The number counts each statement, and a function's end, from height 0, those that no run reaches included: a run that began there at height 0 would
+-- meet every place at the height that the number counts, with values enough and not above the number
+abbrev pub LoweredStarts : Type 0
+LoweredStarts =
+    (tree : List ℕ) (b : Block) (t : Tables) → areBytes tree ≡ true → readTree tree ≡ accepted b → lowerBlock office b ≡ accepted t
+    → (k : ℕ) (f : Function) → getElem? (t .functions) k ≡ some f
+    → (s : Source) × (getElem? (compile b .sources) k ≡ some s)
+    × ((j q : ℕ) → getElem? (startsSource s) j ≡ some q
+    → (p h : ℕ) → Met (f .code) q p h → (h ≡ heightAt 0 (f .code) p) × Within (f .height) (getD (f .code) p Return) h)
+
+-- the number is at most one more than the count of instructions, which question 15 bounds: it fits its two bytes
+abbrev pub NumberFits : Type 0
+NumberFits = (code : List Instr) → heightNumber code ≤ suc (length code)
+
+-- the places of a run's spots are those that it meets (MetAreSteps: those that it counts as steps)
+abbrev pub SpotsArePlaces : Type 0
+SpotsArePlaces = (n : ℕ) (code : List Instr) (p h : ℕ) (answers : List ℕ) → map (λ (s : Spot). s .place) (spotsMet n code p h answers) ≡ placesMet n code p answers
+
+-- of code that passes question 21: the search says yes exactly if the heights hold
+abbrev pub HeightsDecided : Type 0
+HeightsDecided =
+    (number : ℕ) (f : Function) → codeStands f ≡ true
+    → (heightsHold number (f .code) ≡ true → HeightsHold number (f .code)) × (HeightsHold number (f .code) → heightsHold number (f .code) ≡ true)
+
+-- the heights of every function of a module hold
+abbrev pub EveryHolds : Tables → Type 0
+EveryHolds t = (k : ℕ) (f : Function) → getElem? (t .functions) k ≡ some f → HeightsHold (f .height) (f .code)
+
+-- with an area long enough, a module that the reader takes passes the check exactly if all its heights hold; else the check refuses by 37
+abbrev pub CheckAnswers : Type 0
+CheckAnswers =
+    (n : ℕ) (m : List ℕ) (t : Tables) → wideArea n ≡ true → readModule m ≡ accepted t
+    → (EveryHolds t → heightsAnswer n m ≡ accepted tt) × ((EveryHolds t → ⊥) → heightsAnswer n m ≡ refused 37) × (heightsAnswer n m ≡ accepted tt → EveryHolds t)
+
+-- every lowered module passes the check
+abbrev pub LoweredPasses : Type 0
+LoweredPasses = (tree m : List ℕ) → areBytes tree ≡ true → lowerBytes office tree ≡ accepted m → (n : ℕ) → wideArea n ≡ true → heightsAnswer n m ≡ accepted tt

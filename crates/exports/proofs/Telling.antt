@@ -2,17 +2,19 @@
 use Prim.Native.Nat.{ℕ, _+_, _*_, _^_, _≤_, _<_}
 use mathlib.Core.Path.{_≡_, refl, sym, ap, _∙_}
 use mathlib.Core.Bool.{Bool, true, false}
-use mathlib.Core.List.{List}
+use mathlib.Core.Option.{Option, none, some}
+use mathlib.Core.List.{List, _++_}
 use native.Mathlib.Omega.{arith}
-use lib.ListN.{length, set}
+use lib.ListN.{length, set, drop, length-append}
 use lib.Dec.{leb}
 use borrow.Author.Tests.{le-leb, lt-leb, leb-true}
 use Rattle.definitions.specs.Bytes.{Answer, refused, accepted, whenAccepted}
-use Rattle.definitions.specs.Instruction.{encodes}
+use Rattle.definitions.specs.Instruction.{Instr, encodes}
 use Rattle.definitions.specs.Tables.{Function, Tables}
 use Rattle.definitions.specs.Reader.{readModule}
 use Rattle.definitions.specs.Module.{Limits, office, codeStart, lowerBytes}
-use Rattle.definitions.specs.Calls.{Part, Counts, Running, fitsRoom, areasFit, lowerAnswer, countAnswer, lowerCall, readCall, functionOf, codePart, codeCall, runCall}
+use Rattle.definitions.specs.Calls.{Part, Counts, Running, fitsRoom, areasFit, lowerAnswer, countAnswer, lowerCall, readCall, functionOf, codePart, codeCall, runCall, written}
+use Rattle.definitions.specs.Reach.{sought, countFound, foundAnswer, bufferAfter, Reaching, reachCall}
 use Rattle.tree.specs.Settled.{said, settled}
 use Rattle.tree.specs.declared.Checked.{Checked}
 use Rattle.tree.specs.declared.Checked.the-variants.{Accepted, Refused}
@@ -28,7 +30,10 @@ use Rattle.run.specs.Pass.{said as ranSaid, Called}
 use Rattle.run.proofs.Calling.{module-short}
 use Rattle.run.specs.declared.Outcome.{Outcome}
 use Rattle.run.specs.declared.Outcome.the-variants.{Finished, Refused as NotRun}
-use Rattle.exports.specs.Told.{told, toldCount, toldPart, fourIn, countsIn, Lowers, Runs}
+use Rattle.reach.specs.Reaching.{said as reachSaid, Reaches}
+use Rattle.reach.specs.declared.Reached.{Reached}
+use Rattle.reach.specs.declared.Reached.the-variants.{Answers, Nowhere, Refused as NotSought}
+use Rattle.exports.specs.Told.{told, toldCount, toldPart, fourIn, countsIn, toldFound, Lowers, Runs, Seeks}
 
 -- ---- a tree
 
@@ -120,3 +125,34 @@ unfolding ranSaid told countsIn
 runs-no r want left numbers numbers′ q C f n =
     let k : refused q ≡ want .answer = sym (ap ranSaid f) ∙ C .says in
     record { answer = ap told k; buffer = C .leaves; counts = n ∙ ap (λ (a : Answer Counts). countsIn a numbers) k }
+
+-- ---- a place
+
+-- the answers that are found fit the buffer: it is as long as it was
+found-fits : (s : Answer (List Instr)) (found : Option (List ℕ)) (n : ℕ) (out out′ : List ℕ) → accepted (some n) ≡ foundAnswer s found → out′ ≡ bufferAfter s found out → length out′ ≡ length out → n ≤ length out
+unfolding foundAnswer countFound bufferAfter whenAccepted written
+found-fits (refused q) found n out out′ e f l = let z : _≡_ {A = ℕ} 0 1 = cc in absurd (omega arith)
+found-fits (accepted code) none n out out′ e f l = let z : _≡_ {A = ℕ} 0 1 = cc in absurd (omega arith)
+found-fits (accepted code) (some ys) n out out′ e f l =
+    let x : n ≡ length ys = cc in let y = ap length f ∙ length-append ys (drop (length ys) out) in omega arith
+
+module _ {r : Reached} {bytes : List ℕ} {function place : ℕ} {area area′ out out′ : List ℕ} (R : Reaches r bytes function place area area′ out out′) where
+  pub reached-fits : (n : ℕ) → r ≡ Answers n → length out′ ≡ length out → n ≤ length out
+  unfolding reachSaid reachCall
+  reached-fits n e l =
+      found-fits (sought (length area) bytes function place (length out)) (R .found) n out out′ (sym (ap reachSaid e) ∙ ap (λ (x : Reaching). x .answer) (R .is)) (ap (λ (x : Reaching). x .buffer) (R .is)) l
+
+  told-as : (m : ℕ) → m ≡ toldFound (reachSaid r) → Seeks m bytes function place area area′ out out′
+  told-as m e = record { given = record { answer = reachSaid r; area = area′; buffer = out′ }; call = R; answer = e; left = refl; buffer = refl }
+
+  pub reached-list : (n : ℕ) → r ≡ Answers n → Seeks (4294967296 + n) bytes function place area area′ out out′
+  unfolding reachSaid toldFound
+  reached-list n e = told-as (4294967296 + n) (ap (λ (x : Reached). toldFound (reachSaid x)) (sym e))
+
+  pub reached-none : r ≡ Nowhere → Seeks 8589934592 bytes function place area area′ out out′
+  unfolding reachSaid toldFound
+  reached-none e = told-as 8589934592 (ap (λ (x : Reached). toldFound (reachSaid x)) (sym e))
+
+  pub reached-not : (q : ℕ) → r ≡ NotSought q → Seeks q bytes function place area area′ out out′
+  unfolding reachSaid toldFound
+  reached-not q e = told-as q (ap (λ (x : Reached). toldFound (reachSaid x)) (sym e))

@@ -165,13 +165,17 @@ module _ (t : List ℕ) (f p s n : ℕ) (c : CodeAt t f p s n) (part : List ℕ)
 
 -- ---- the call
 
-when-refused : {A B : Type 0} (x : Answer A) (f : A → Answer B) (q : ℕ) → x ≡ refused q → whenAccepted x f ≡ refused q
+pub when-refused : {A B : Type 0} (x : Answer A) (f : A → Answer B) (q : ℕ) → x ≡ refused q → whenAccepted x f ≡ refused q
 unfolding whenAccepted
 when-refused x f q e = ap (λ (y : Answer _). whenAccepted y f) e
 
-when-accepted : {A B : Type 0} (x : Answer A) (f : A → Answer B) (a : A) → x ≡ accepted a → whenAccepted x f ≡ f a
+pub when-accepted : {A B : Type 0} (x : Answer A) (f : A → Answer B) (a : A) → x ≡ accepted a → whenAccepted x f ≡ f a
 unfolding whenAccepted
 when-accepted x f a e = ap (λ (y : Answer _). whenAccepted y f) e
+
+pub function-known : {t : List ℕ} {f p s n : ℕ} (c : CodeAt t f p s n) → functionIn t f ≡ accepted (c .function)
+unfolding functionIn
+function-known {t} c = when-accepted (readModule t) _ (c .tables) (c .module-is) ∙ c .function-is
 
 module _ (t : List ℕ) (f : ℕ) (answers : List ℕ) (budget : ℕ) (before : List ℕ) where
   by-function : runAnswer t f answers budget (length before) ≡ whenAccepted (functionIn t f) (runFunction answers budget (length before))
@@ -190,13 +194,9 @@ module _ (t : List ℕ) (f : ℕ) (answers : List ℕ) (budget : ℕ) (before : 
   call-refused q e = as-run (Refused q) before (refuses q (runAnswer t f answers budget (length before)) before before (by-function ∙ when-refused (functionIn t f) _ q e) refl)
 
   module _ (p s n : ℕ) (c : CodeAt t f p s n) where
-    known : functionIn t f ≡ accepted (c .function)
-    unfolding functionIn
-    known = when-accepted (readModule t) _ (c .tables) (c .module-is) ∙ c .function-is
-
     asked : (b : Bool) → areAnswers answers ≡ b → runAnswer t f answers budget (length before) ≡ (elim b as (λ z. Answer Ran) [ false ↦ refused 23 | true ↦ eventsFit (length before) (run budget (c .function .code) 0 answers) ])
     unfolding runFunction
-    asked b e = by-function ∙ when-accepted (functionIn t f) _ (c .function) known
+    asked b e = by-function ∙ when-accepted (functionIn t f) _ (c .function) (function-known c)
         ∙ ap (λ (x : Bool). (elim x as (λ z. Answer Ran) [ false ↦ refused 23 | true ↦ eventsFit (length before) (run budget (c .function .code) 0 answers) ])) e
 
     pub call-answers : areAnswers answers ≡ false → Called (Refused 23) (runCall t f answers budget before) before

@@ -1,19 +1,17 @@
--- A function's code: where its instructions begin, what stands there, and what questions 21 says of them. Assumes nothing.
+-- A function's code: where its instructions begin, what stands there, and what question 21 says of them. Assumes nothing.
 use Prim.Native.Nat.{ℕ, zero, suc, _+_, _-_, _<_, _≤_}
 use mathlib.Core.Path.{_≡_, refl, sym, ap, ap₂, _∙_, subst}
-use mathlib.Core.Bool.{Bool, true, false, _&&_, _||_, not}
+use mathlib.Core.Bool.{true}
 use mathlib.Core.List.{List, [], _∷_, _++_, append-assoc}
 use native.Mathlib.Omega.{arith}
 use native.Mathlib.Numerals.{add-one}
-use lib.Dec.{eqb, ltb}
 use lib.ListN.{length, take, drop, getD, length-append, length-drop, take-append-drop}
 use lib.Seq.{take-add, drop-append-seam, take-append-seam, length-take-le, drop-drop}
-use borrow.Author.Tests.{ltb-true, eqb-true}
 use Rattle.definitions.specs.Bytes.{concat}
 use Rattle.definitions.specs.Instruction.{Instr, Return, encode, encodes, firstWidth}
-use Rattle.definitions.specs.Reader.{instruction, endsInReturn, jumpsLand, isJump, landing}
+use Rattle.definitions.specs.Reader.{instruction, isJump, landing}
 use Rattle.definitions.specs.Run.{Flow, straight, flow}
-use Rattle.definitions.proofs.Truth.{left, right}
+use Rattle.definitions.proofs.Stays as Stays
 use Rattle.reader.specs.View.{Got, numberAt, instructionsOf, startOf}
 use Rattle.reader.proofs.Encoding.{instruction-view}
 use Rattle.run.specs.Pass.{Coded, between}
@@ -41,44 +39,11 @@ module _ (is : List Instr) where
   unfolding startOf
   start-within k = let e = ap length (parted k) ∙ length-append (encodes (take k is)) (encodes (drop k is)) in omega arith
 
--- ---- question 21
-
-ends-some : (is : List Instr) → endsInReturn is ≡ true → 0 < length is
-unfolding endsInReturn
-ends-some [] e = let z : _≡_ {A = ℕ} 0 1 = cc in absurd (omega arith)
-ends-some (i ∷ is) e = omega arith
-
-last-return : (is : List Instr) (k : ℕ) → endsInReturn is ≡ true → k + 1 ≡ length is → (getD is k Return) .op ≡ 33
-unfolding endsInReturn
-last-return [] k e l = absurd (omega arith)
-last-return (i ∷ []) zero e l = eqb-true (i .op) 33 e
-last-return (i ∷ []) (suc k) e l = absurd (omega arith)
-last-return (i ∷ j ∷ is) zero e l = absurd (omega arith)
-last-return (i ∷ j ∷ is) (suc k) e l = last-return (j ∷ is) k e (omega arith)
-
-one : (x y : Bool) → (not x || y) ≡ true → x ≡ true → y ≡ true
-one true true e f = refl
-one true false e f = e
-one false y e f = let z : _≡_ {A = ℕ} 0 1 = cc in absurd (omega arith)
-
-lands-at : (n : ℕ) (is : List Instr) (p k : ℕ) → jumpsLand n p is ≡ true → k < length is → isJump ((getD is k Return) .op) ≡ true → landing (p + k) ((getD is k Return) .a) < n
-unfolding jumpsLand
-lands-at n [] p k e l j = absurd (omega arith)
-lands-at n (i ∷ is) p zero e l j =
-    let z = one (isJump (i .op)) (ltb (landing p (i .a)) n) (left (not (isJump (i .op)) || ltb (landing p (i .a)) n) (jumpsLand n (suc p) is) e) j in
-    subst (λ (x : ℕ). landing x (i .a) < n) (let y : p ≡ p + 0 = omega arith in y) (ltb-true (landing p (i .a)) n z)
-lands-at n (i ∷ is) p (suc k) e l j =
-    subst (λ (x : ℕ). landing x ((getD is k Return) .a) < n) (let y : suc p + k ≡ p + suc k = omega arith in y)
-    (lands-at n is (suc p) k (right (not (isJump (i .op)) || ltb (landing p (i .a)) n) (jumpsLand n (suc p) is) e) (omega arith) j)
-
-strictly : (x y : ℕ) → x ≤ y → (x ≡ y → ⊥) → x < y
-strictly x y l f = omega arith
-
 -- ---- code that stands
 
 module _ (c : List ℕ) (h : Coded c) where
   pub nonempty : 0 < length (instructionsOf c)
-  nonempty = ends-some (instructionsOf c) (h .ends)
+  nonempty = Stays.ends-some (instructionsOf c) (h .ends)
 
   pub start-in : (k : ℕ) → startOf (instructionsOf c) k ≤ length c
   start-in k = subst (λ (bs : List ℕ). startOf (instructionsOf c) k ≤ length bs) (sym (h .bytes)) (start-within (instructionsOf c) k)
@@ -118,8 +83,7 @@ module _ (c : List ℕ) (h : Coded c) where
         (omega arith, ap (λ (w : ℕ). numberAt w c (startOf (instructionsOf c) k + 1)) (sym e) ∙ sym (v .2))
 
     pub not-last : (getD (instructionsOf c) k Return .op ≡ 33 → ⊥) → k + 1 < length (instructionsOf c)
-    not-last f = strictly (k + 1) (length (instructionsOf c)) (omega arith) (λ e. f (last-return (instructionsOf c) k (h .ends) e))
+    not-last f = Stays.not-last (instructionsOf c) (h .ends) k l f
 
     pub jump-inside : isJump (getD (instructionsOf c) k Return .op) ≡ true → landing k (getD (instructionsOf c) k Return .a) < length (instructionsOf c)
-    jump-inside j = subst (λ (x : ℕ). landing x (getD (instructionsOf c) k Return .a) < length (instructionsOf c)) (let y : 0 + k ≡ k = omega arith in y)
-        (lands-at (length (instructionsOf c)) (instructionsOf c) 0 k (h .land) l j)
+    jump-inside j = Stays.jump-inside (instructionsOf c) (h .land) k l j

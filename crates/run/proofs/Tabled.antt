@@ -18,7 +18,7 @@ use Rattle.reader.specs.declared.Met.{Met}
 use Rattle.reader.specs.declared.Met.the-variants.{At, End}
 use Rattle.reader.proofs.Iterated.{met-at, met-end}
 use Rattle.run.specs.Pass.{Coded, Places, flowAt, Stop, Stops, Nearer}
-use Rattle.run.proofs.Flows.{return-stops}
+use Rattle.definitions.proofs.Flows.{return-stops}
 use Rattle.run.proofs.Coding.{op-here, not-last, start-in, start-add}
 use Rattle.definitions.specs.Bytes.{concat}
 use Rattle.definitions.proofs.Lengths.{length-encode}

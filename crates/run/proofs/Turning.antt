@@ -17,7 +17,8 @@ use Rattle.run.specs.declared.Stand.{Stand}
 use Rattle.run.specs.declared.Turned.{Turned}
 use Rattle.run.specs.declared.Turned.the-variants.{On, Over, Full}
 use Rattle.run.specs.Pass.{Coded, flowAt, Stands, AtStop, Reaches, Copied, Asked, Starved, Asks, onward, Leads, Turning, Ending, Turns}
-use Rattle.run.proofs.Flows.{stop-jumps, jump-width, is-jump, flow-jump, flow-returns, flow-question, return-bytes, way-below}
+use Rattle.definitions.proofs.Flows.{stop-jumps, jump-width, is-jump, flow-jump, flow-returns, flow-question, way-below}
+use Rattle.run.proofs.Flows.{return-bytes}
 use Rattle.run.proofs.Coding.{op-here, operand-here, not-last, jump-inside}
 use Rattle.run.proofs.Storing.{stored-at, copied-none}
 use Rattle.run.proofs.Leading.{after-none}

@@ -83,7 +83,7 @@ pub(crate) fn stretch(
 }
 
 // Where a question goes.
-pub(crate) fn question_way(op: u8, x: u8, place: u64, a: u64) -> u64
+pub fn question_way(op: u8, x: u8, place: u64, a: u64) -> u64
     requires { ⌜ place < 65536 ⌝ }
     ensures { λ r. ⌜ r ≡ way (eqb op 30) (eqb x 1) place a ⌝ }
 {

@@ -16,7 +16,7 @@ pub fn wide(x: u32) -> usize
 }
 
 // Where each instruction begins.
-pub(crate) fn fill_places(code: &[u8], places: &mut [u32])
+pub fn fill_places(code: &[u8], places: &mut [u32])
     requires { ⌜ Coded (now code) × (length (instructionsOf (now code)) ≤ length (now places)) ⌝ }
     ensures { λ _. ⌜ Places (now (code .entry)) (now (places .exit)) ⌝ }
 {
@@ -33,7 +33,7 @@ pub(crate) fn fill_places(code: &[u8], places: &mut [u32])
 }
 
 // The instruction of an opcode goes straight on.
-pub(crate) fn goes_on(op: u8) -> bool
+pub fn goes_on(op: u8) -> bool
     ensures { λ r. ⌜ GoesOn r op ⌝ }
 {
     if op == 28 {

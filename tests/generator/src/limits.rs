@@ -1,4 +1,4 @@
-//! Trees on both sides of every limit of questions 2 to 16 and 33.
+//! Trees on both sides of every limit of questions 2 to 16, 33 and 36.
 
 use crate::make::*;
 use crate::samples::{case, nested_not, script, Case};
@@ -430,6 +430,16 @@ fn targets() -> Vec<Case> {
         ("tuple-of-attribute", tuple(&[attr(a(), "b")])),
         ("tuple-of-index", tuple(&[index(a(), a())])),
         ("tuple-of-list", tuple(&[list(&[a()])])),
+        ("empty-tuple", tuple(&[])),
+        ("tuple-of-empty-tuple", tuple(&[a(), tuple(&[])])),
+        (
+            "deep-empty-tuple",
+            tuple(&[a(), tuple(&[tuple(&[a(), tuple(&[])]), a()])]),
+        ),
+        ("empty-tuple-and-int", tuple(&[tuple(&[]), int(1)])),
+        ("list-of-empty-tuple", list(&[tuple(&[])])),
+        ("attribute-of-empty-tuple", attr(tuple(&[]), "b")),
+        ("index-of-empty-tuples", index(tuple(&[]), tuple(&[]))),
         (
             "tuple-of-tuple-of-call",
             tuple(&[tuple(&[call_name("f", &[])])]),
@@ -519,7 +529,8 @@ fn slot_counts() -> Vec<Case> {
         let store = |stmt: fn(&str) -> Bytes| rest.iter().map(|n| stmt(n)).collect::<Vec<_>>();
         let assigned = store(|n| assign(var(n), none()));
         let named = store(|n| def(n, &[], &[]));
-        let looped = store(|n| for_(n, none(), &[]));
+        // A loop variable and its loop's iterator have a slot each.
+        let looped: Vec<Bytes> = rest.chunks(2).map(loop_or_name).collect();
         let classes = store(|n| class(n, &[], &[]));
         // A lambda with one parameter and one capture less than the count.
         let captured = list(&all[1..].iter().map(|n| var(n)).collect::<Vec<_>>());
@@ -538,9 +549,46 @@ fn slot_counts() -> Vec<Case> {
             cases.push(script(&format!("slots-{count}-{word}"), &[stmt]));
         }
         cases.extend(unpacked_slots(count));
+        cases.extend(looped_slots(count));
     }
     cases.extend(slots_not_counted());
     cases
+}
+
+/// A statement that gives as many slots as there are names: a loop two, an
+/// assignment one.
+fn loop_or_name(names: &[&str]) -> Bytes {
+    match names {
+        [name] => assign(var(name), none()),
+        _ => for_(names[0], none(), &[]),
+    }
+}
+
+/// Functions of exactly so many slots: a parameter, a variable, and the
+/// iterators of loops.
+fn looped_slots(count: usize) -> Vec<Case> {
+    let one = || for_("i", var("r"), &[]);
+    let row = |loops: usize| times(loops, &one());
+    let loops = count - 2;
+    let deep = (1..28).fold(one(), |inner, _| for_("i", var("r"), &[inner]));
+    let nested = [vec![deep], row(loops - 28)].concat();
+    let arms: Vec<_> = (1..loops).map(|_| (var("r"), row(1))).collect();
+    let branches = if_(&arms, Some(&row(1)));
+    let f = |body: &[Bytes]| def("f", &["r"], body);
+    let inside = for_("i", var("r"), &[def("g", &["r"], &row(loops))]);
+    let stmts = [
+        ("loops-in-row", f(&row(loops))),
+        ("loops-nested", f(&nested)),
+        ("loops-in-branches", f(&[branches])),
+        ("loops-in-while", f(&[while_(var("r"), &row(loops))])),
+        (
+            "loops-in-method",
+            class("A", &[method("m", &["r"], &row(loops))], &[]),
+        ),
+        ("loops-in-def-in-loop", f(&[inside])),
+    ];
+    let case_of = |(word, stmt)| script(&format!("slots-{count}-{word}"), &[stmt]);
+    stmts.into_iter().map(case_of).collect()
 }
 
 /// Functions of exactly so many slots, most or all of them from tuple targets.
@@ -553,7 +601,8 @@ fn unpacked_slots(count: usize) -> Vec<Case> {
     // Tuples of eight in one tuple; each in the next, 29 deep, the last the widest.
     let eights = tuple(&all.chunks(8).map(wide).collect::<Vec<_>>());
     let chunks: Vec<&[&str]> = all.chunks(9).collect();
-    let deep = chunks.iter().rev().fold(tuple(&[]), |inner, names| {
+    let (last, outer) = chunks.split_last().expect("a chunk");
+    let deep = outer.iter().rev().fold(wide(last), |inner, names| {
         let mut items: Vec<Bytes> = names.iter().map(|n| var(n)).collect();
         items.insert(names.len() / 2, inner);
         tuple(&items)
@@ -564,7 +613,8 @@ fn unpacked_slots(count: usize) -> Vec<Case> {
         for_(
             rest[20],
             none(),
-            &[store(tuple(&[var(rest[0]), wide(&rest[21..])]))],
+            // A name less, for the loop's iterator.
+            &[store(tuple(&[var(rest[0]), wide(&rest[22..])]))],
         ),
     ];
     let again = store(tuple(&[wide(params), wide(rest)]));
@@ -606,7 +656,15 @@ fn slots_not_counted() -> Vec<Case> {
     // 255 parameters and a capture, but the lambda is never lowered.
     let unlowered = lambda(&all[..255], var("zz"));
     let in_attribute = class("A", &[], &[("a", unlowered.clone())]);
+    // Main's loops have no slots, and an inner function's are its own.
+    let loops = |count: usize| times(count, &for_("i", none(), &[]));
+    let inner = def("g", &[], &loops(200));
     vec![
+        script("slots-main-loops", &loops(300)),
+        script(
+            "slots-loops-apart",
+            &[def("f", &[], &[loops(200), vec![inner]].concat())],
+        ),
         script("slots-main-tuple", &[assign(wide.clone(), none())]),
         script("slots-tuple-300", &[def("f", &[], &[assign(wide, none())])]),
         script("slots-tuple-of-parameters", &[parameters]),
@@ -666,6 +724,7 @@ fn faults() -> Vec<(u8, Bytes)> {
         (8, expr(string(&[128]))),
         (9, break_()),
         (10, assign(none(), none())),
+        (36, assign(tuple(&[var("a"), tuple(&[])]), none())),
         (11, def("f", &["a", "a"], &[])),
         (12, class("A", &[method("__init__", &[], &[])], &[])),
         (13, expr(call_name("f", &times(256, &none())))),
@@ -693,27 +752,22 @@ fn pairs_of_faults() -> Vec<Case> {
     cases
 }
 
-/// `() = None` has one instruction, `None` as a statement two.
+/// `None` as a statement has two instructions, an empty loop three, a function
+/// one more than its statements.
 fn instruction_counts() -> Vec<Case> {
-    let two = expr(none());
-    let one = assign(tuple(&[]), none());
-    let three = while_(none(), &[]);
+    let two = || expr(none());
+    let three = || while_(none(), &[]);
     let with = |many: Vec<Bytes>, more: &[Bytes]| [many.as_slice(), more].concat();
     let in_def = |stmts: &[Bytes]| [def("f", &[], stmts)];
-    let many = times(4095, &two);
+    let odd = with(times(4094, &two()), &[three()]);
+    let loops = |count: usize, more: &[Bytes]| with(times(count, &three()), more);
     vec![
-        script("instructions-8192", &with(many.clone(), from_ref(&one))),
-        script("instructions-8193", &times(4096, &two)),
-        script(
-            "instructions-8192-loops",
-            &with(times(2730, &three), from_ref(&one)),
-        ),
-        script(
-            "instructions-8193-loops",
-            &with(times(2730, &three), &[two]),
-        ),
-        script("instructions-8192-in-def", &in_def(&many)),
-        script("instructions-8193-in-def", &in_def(&with(many, &[one]))),
+        script("instructions-8192", &odd),
+        script("instructions-8193", &times(4096, &two())),
+        script("instructions-8192-loops", &loops(2729, &[two(), two()])),
+        script("instructions-8193-loops", &loops(2730, &[two()])),
+        script("instructions-8192-in-def", &in_def(&times(4095, &two()))),
+        script("instructions-8193-in-def", &in_def(&odd)),
     ]
 }
 

@@ -3,6 +3,7 @@
 //! Written from the paper alone, to be held against the reference compiler
 //! and against the project's own code. A refusal is the question's number.
 
+pub mod height;
 pub mod instruction;
 pub mod lowering;
 pub mod module;
@@ -22,7 +23,7 @@ pub use walk::Walked;
 /// The least length of each work area.
 pub const AREA: usize = 16_384;
 
-/// Questions 1 to 16 and 33: the module record of a tree, or the first no.
+/// Questions 1 to 16, 33 and 36: the module record of a tree, or the first no.
 pub fn lower(tree: &[u8], area1: usize, area2: usize, room: usize) -> Result<Vec<u8>, u8> {
     if area1 < AREA || area2 < AREA {
         return Err(1);
@@ -30,19 +31,19 @@ pub fn lower(tree: &[u8], area1: usize, area2: usize, room: usize) -> Result<Vec
     lowering::write(&plan(tree)?, room)
 }
 
-/// Questions 2 to 13 and 33: the statements of the tree.
+/// Questions 2 to 13, 33 and 36: the statements of the tree.
 fn checked(tree: &[u8]) -> Result<tree::Block<'_>, u8> {
     let program = tree::read(tree)?;
     questions::ask(&program)?;
     Ok(program)
 }
 
-/// Questions 2 to 13 and 33.
+/// Questions 2 to 13, 33 and 36.
 pub fn check(tree: &[u8]) -> Result<(), u8> {
     checked(tree).map(|_| ())
 }
 
-/// Questions 2 to 15 and 33: the numbered tree, before it becomes bytes.
+/// Questions 2 to 15, 33 and 36: the numbered tree, before it becomes bytes.
 pub fn plan(tree: &[u8]) -> Result<plan::Plan<'_>, u8> {
     let program = checked(tree)?;
     slots::ask(&program)?;
@@ -52,6 +53,14 @@ pub fn plan(tree: &[u8]) -> Result<plan::Plan<'_>, u8> {
 /// Questions 17 to 21.
 pub fn read(module: &[u8]) -> Result<(), u8> {
     module::read(module).map(|_| ())
+}
+
+/// Questions 1, 17 to 21 and 37: the check of heights.
+pub fn heights(module: &[u8], area: usize) -> Result<(), u8> {
+    if area < height::AREA {
+        return Err(1);
+    }
+    height::ask(&module::read(module)?)
 }
 
 /// The start and length of a function's code in the module's bytes.
@@ -91,7 +100,7 @@ pub fn run(
 }
 
 /// The walk through the body with that number. A tree refused by questions 2
-/// to 15 or 33, a function that does not exist, or a bad answer gives its number.
+/// to 15, 33 or 36, a function that does not exist, or a bad answer gives its number.
 pub fn walk(tree: &[u8], function: u64, answers: &[u8]) -> Result<Walked, u8> {
     let plan = plan(tree)?;
     let function = find(&plan.functions, function)?;
@@ -99,7 +108,8 @@ pub fn walk(tree: &[u8], function: u64, answers: &[u8]) -> Result<Walked, u8> {
     Ok(walk::walk(&function.parts, answers))
 }
 
-/// The module with slots numbered by first use, or the reader's refusal.
+/// The module as the reference's record has it, or the reader's refusal: slots
+/// numbered by first use, version 1, and no heights.
 pub fn renumber(module: &[u8]) -> Result<Vec<u8>, u8> {
     Ok(renumber::renumber(&module::read(module)?))
 }
