@@ -5,6 +5,7 @@ use mathlib.Core.Path.{_≡_}
 use mathlib.Core.Bool.{Bool, true, false, not, _&&_, _||_}
 use mathlib.Core.Option.{Option, none, some}
 use mathlib.Core.List.{List, [], _∷_, _++_, map}
+use mathlib.Core.Logic.{_⊎_}
 use lib.ListN.{length, getD, getElem?, take, drop}
 use lib.Dec.{eqb, leb, ltb}
 use lib.Pow.{areBytes}
@@ -13,7 +14,7 @@ use Rattle.definitions.specs.Utf8.{Range, inRange, Octets, utf8Char, isU
 use Rattle.definitions.specs.Tree.{BinaryOp, addOp, subtractOp, multiplyOp, divideOp, floorDivideOp, moduloOp, equalOp, notEqualOp, lessOp, lessEqualOp, greaterOp, greaterEqualOp}
 use Rattle.definitions.specs.Tree.{binaryNumber, UnaryOp, LogicalOp, Display, Expr, lit, var, unary, binary, logical, call, attr, display, index, lambda, Exprs, []ᵉ, _∷ᵉ_}
 use Rattle.definitions.specs.Tree.{Stmt, break, continue, pass, expr, return, assign, if, while, for, def, class, Block, []ᵇ, _∷ᵇ_, Branches, done, else, when, Methods, Attribute}
-use Rattle.definitions.specs.Parse.{binaryKinds, blockOf, parseStmt}
+use Rattle.definitions.specs.Parse.{binaryKinds, blockOf, parseStmt, readTree}
 use Rattle.definitions.specs.Wellformed.{isName, isTuple, isIterator, distinct, askBlock}
 use Rattle.definitions.specs.TreeNames.{namesBlock}
 use Rattle.definitions.specs.Slots.{add, localsBlock, captures}
@@ -26,6 +27,10 @@ use Rattle.definitions.specs.Reader.{moduleRecord, numbersExist, codeSta
 use Rattle.definitions.specs.Run.{Ran, run}
 use Rattle.definitions.specs.Walk.{Walked, endingNumber, walk}
 use Rattle.definitions.specs.Calls.{areasFit, areAnswers, lowerAnswer, readCall, Part, partOf, codeCall, runAnswer, walkTree}
+use Rattle.definitions.specs.TreeBytes.{size, treeBytes}
+use Rattle.definitions.specs.Rests.{rest, taken}
+use Rattle.definitions.specs.Order.{Ordering, less, equal, greater, order, acceptedTree, orderAnswer}
+use Rattle.definitions.specs.Cut.{runOf, firstStart, fewest, passes, failing, overRun, notRefused, cutTo, cutAnswer}
 use Rattle.definitions.specs.Samples.{samples, holds}
 
 -- ---- the starred samples: proofs/Samples
@@ -488,3 +493,114 @@ pub record Handed (m : List ℕ) (k : ℕ) (p : Part) : Type 0 where
 
 abbrev pub HandedCode : Type 0
 HandedCode = (m : List ℕ) (k : ℕ) (p : Part) → areBytes m ≡ true → codeCall m k ≡ accepted p → Handed m k p
+
+-- ---- a tree's bytes: proofs/TreeWritten
+
+-- a tree that is read is the bytes of its block
+abbrev pub TreeWritten : Type 0
+TreeWritten = (tree : List ℕ) (b : Block) → areBytes tree ≡ true → readTree tree ≡ accepted b → tree ≡ treeBytes b
+
+-- ---- the rest of a tree
+
+-- taken out once, nothing is left to take out: proofs/RestTwice
+abbrev pub RestTwice : Type 0
+RestTwice = (b : Block) → rest (rest b) ≡ rest b
+
+-- a rest has as many bytes fewer as are taken out: proofs/Taken
+abbrev pub TreeTaken : Type 0
+TreeTaken = (b : Block) → length (treeBytes (rest b)) + taken b ≡ length (treeBytes b)
+
+-- it lowers to the tree's tables: proofs/RestLowered. Only the sources, which name the bodies, are others
+abbrev pub RestCompiles : Type 0
+RestCompiles = (b : Block) → compile (rest b) .tables ≡ compile b .tables
+
+-- the bytes of a rest read as the rest: proofs/OrderLaws
+abbrev pub RestReads : Type 0
+RestReads = (tree : List ℕ) (b : Block) → areBytes tree ≡ true → readTree tree ≡ accepted b → readTree (treeBytes (rest b)) ≡ accepted (rest b)
+
+-- the rest of an accepted tree is accepted, and has its module: proofs/Sorted
+pub record Rested (l : Limits) (tree : List ℕ) (a : Block) : Type 0 where
+  pub reads : acceptedTree l (treeBytes (rest a)) ≡ accepted (rest a)
+  pub lowers : lowerBytes l (treeBytes (rest a)) ≡ lowerBytes l tree
+
+abbrev pub RestAccepted : Type 0
+RestAccepted = (l : Limits) (tree : List ℕ) (a : Block) → areBytes tree ≡ true → acceptedTree l tree ≡ accepted a → Rested l tree a
+
+-- ---- the order of trees: proofs/OrderLaws
+
+abbrev pub OrderSame : Type 0
+OrderSame = (a : Block) → order a a ≡ equal
+
+-- the same two from the other side
+unfoldable pub turned : Ordering → Ordering
+turned less = greater
+turned equal = equal
+turned greater = less
+
+abbrev pub OrderTurned : Type 0
+OrderTurned = (a b : Block) → order b a ≡ turned (order a b)
+
+-- not after the other
+unfoldable pub atMost : Ordering → Bool
+atMost less = true
+atMost equal = true
+atMost greater = false
+
+abbrev pub OrderTotal : Type 0
+OrderTotal = (a b : Block) → (atMost (order a b) ≡ true) ⊎ (atMost (order b a) ≡ true)
+
+abbrev pub OrderTransitive : Type 0
+OrderTransitive = (a b c : Block) → atMost (order a b) ≡ true → atMost (order b c) ≡ true → atMost (order a c) ≡ true
+
+abbrev pub OrderAntisymmetric : Type 0
+OrderAntisymmetric = (a b : Block) → atMost (order a b) ≡ true → atMost (order b a) ≡ true → order a b ≡ equal
+
+-- two trees are equal in it exactly when their rests are
+abbrev pub EqualRests : Type 0
+EqualRests =
+    (x y : List ℕ) (a b : Block) → areBytes x ≡ true → areBytes y ≡ true → readTree x ≡ accepted a → readTree y ≡ accepted b
+    → (order a b ≡ equal → rest a ≡ rest b) × (rest a ≡ rest b → order a b ≡ equal)
+
+-- equal scripts lower to equal modules, by the same limits
+abbrev pub EqualModules : Type 0
+EqualModules =
+    (l : Limits) (m n : ℕ) (x y : List ℕ) → areBytes x ≡ true → areBytes y ≡ true → orderAnswer l m n x y ≡ accepted equal
+    → (k : List ℕ) × (lowerBytes l x ≡ accepted k) × (lowerBytes l y ≡ accepted k)
+
+-- ---- a refused tree cut down: proofs/CutWritten
+
+-- The bytes are those of the run of `count` top statements from the `start`-th on: refused with the tree's number; no shorter run is, and no earlier
+-- one of its length
+pub record CutIs (l : Limits) (tree bs : List ℕ) : Type 0 where
+  pub number : ℕ
+  pub block : Block
+  pub start : ℕ
+  pub count : ℕ
+  pub reads : readTree tree ≡ accepted block
+  pub bytes : bs ≡ treeBytes (runOf start count block)
+  pub within : start + count ≤ size block
+  pub refusedTree : lowerTables l tree ≡ refused number
+  pub refusedCut : lowerTables l bs ≡ refused number
+  pub fewest : (i n : ℕ) → i + n ≤ size block → n < count → lowerTables l (treeBytes (runOf i n block)) ≡ refused number → ⊥
+  pub earliest : (i : ℕ) → i < start → lowerTables l (treeBytes (runOf i count block)) ≡ refused number → ⊥
+  pub short : length bs ≤ length tree
+
+abbrev pub Cuts : Type 0
+Cuts = (l : Limits) (m n room : ℕ) (tree bs : List ℕ) → areBytes tree ≡ true → cutAnswer l m n room tree ≡ accepted (cutTo bs) → CutIs l tree bs
+
+-- the answer that it is not refused is given of accepted trees alone
+abbrev pub CutsRefused : Type 0
+CutsRefused = (l : Limits) (m n room : ℕ) (tree : List ℕ) → cutAnswer l m n room tree ≡ accepted notRefused → (t : Tables) × (lowerTables l tree ≡ accepted t)
+
+-- a refusal by any question but 15 is cut down to one statement, the first that fails the question: proofs/CutSingle
+pub record Single (l : Limits) (q : ℕ) (b : Block) : Type 0 where
+  pub fewest : fewest l q b ≡ 1
+  pub start : firstStart l q b 1 ≡ failing (passes q) b
+
+abbrev pub SingleEnough : Type 0
+SingleEnough = (l : Limits) (q : ℕ) (b : Block) → lowerBlock l b ≡ refused q → (q ≡ 15 → ⊥) → Single l q b
+
+-- 15: a run within the limits stays so with fewer statements at its end: proofs/CutTables. At its start it need not: a call has an instruction less
+-- after the def
+abbrev pub ShorterFits : Type 0
+ShorterFits = (l : Limits) (b : Block) (i m n : ℕ) → m ≤ n → overRun l b i n ≡ false → overRun l b i m ≡ false

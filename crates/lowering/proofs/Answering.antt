@@ -18,12 +18,12 @@ use Rattle.tree.specs.StmtAt.{TreeAt}
 use Rattle.tree.specs.declared.Checked.{Checked}
 use Rattle.tree.specs.declared.Checked.the-variants.{Refused as No}
 use Rattle.tree.proofs.TreeViews.{answer-refused}
-use Rattle.state.specs.Fits.{fitsBlock}
+use Rattle.definitions.specs.Fits.{fitsBlock}
 use Rattle.state.specs.State.{State, tablesOf, stateOf, limitsOf, Within, Sound, Limited}
 use Rattle.state.specs.declared.Counts.{Counts}
 use Rattle.state.specs.Answered.{Limits, Emitted, Done, Full}
 use Rattle.state.proofs.Views.{few-slots, within-sound}
-use Rattle.state.proofs.SlotsFit.{slots-fit, targets-asked}
+use Rattle.definitions.proofs.SlotsFit.{slots-fit, targets-asked}
 use Rattle.module.specs.Sections.{Wrote, Roomy}
 use Rattle.lower_emit.specs.Numbers.{countsOf}
 use Rattle.compile.specs.Compiled.{treeBlock, Compiles}
