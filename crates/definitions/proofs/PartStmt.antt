@@ -78,7 +78,7 @@ leaf-askIter : (g : ℕ) → Leaf (askIter g)
 unfolding askIter flow
 leaf-askIter g = leaf-seq (leaf-one (num refl refl refl)) (leaf-symbol _ (λ k. leaf-one (num refl refl refl)))
 
-leaf-takeIter : (slots : List Name) (x : Name) (g : ℕ) → Leaf (takeIter slots x g)
+pub leaf-takeIter : (slots : List Name) (x : Name) (g : ℕ) → Leaf (takeIter slots x g)
 unfolding takeIter flow
 leaf-takeIter slots x g = leaf-seq (leaf-one (num refl refl refl)) (leaf-seq (leaf-symbol _ (λ k. leaf-one (num refl refl refl))) (leaf-store slots x))
 
@@ -132,7 +132,7 @@ unfolding emits
 part-continue k = record { at = λ p t. record { code = cont; ok = k; emitted = refl; walks = refl }; grows = λ p t. grow-none }
 
 -- a block, past whose end an end jump before it goes
-record BlockPart (l : Bool) (slots : List Name) (b : Block) : Type 0 where
+pub record BlockPart (l : Bool) (slots : List Name) (b : Block) : Type 0 where
   at : (p : ℕ) (t : Tables) → (C : Meaning l (emitBlock slots b p t .code) (walkBlock slots b p t)) × (hop (C .code) ≡ size (C .code))
   grows : (p : ℕ) (t : Tables) → Grown (emitBlock slots b) p t
 
@@ -145,7 +145,7 @@ record BranchPart (l : Bool) (slots : List Name) (r : Branches) : Type 0 where
 record MethodPart (m : Methods) : Type 0 where
   grows : (ms : List Method) (t : Tables) → Grows (t .functions) (emitMethods m ms t .tables .functions) (emitMethods m ms t .sources)
 
-part-block : {l : Bool} {slots : List Name} {b : Block} → BlockPart l slots b → Part l (emitBlock slots b) (walkBlock slots b)
+pub part-block : {l : Bool} {slots : List Name} {b : Block} → BlockPart l slots b → Part l (emitBlock slots b) (walkBlock slots b)
 part-block B = record { at = λ p t. B .at p t .0; grows = B .grows }
 
 block-nil : {l : Bool} (slots : List Name) → BlockPart l slots []ᵇ
@@ -202,7 +202,7 @@ leaf-class slots x m vs M = record { at = λ p t. leaf-endClass x _ _ .at p _; g
 mutual
   unfolding emitStmt walkStmt emitMethods flow
 
-  part-stmt : (l : Bool) (slots : List Name) (a : Stmt) → OkS l a → Part l (emitStmt slots a) (walkStmt slots a)
+  pub part-stmt : (l : Bool) (slots : List Name) (a : Stmt) → OkS l a → Part l (emitStmt slots a) (walkStmt slots a)
   part-stmt l slots break k = part-break k
   part-stmt l slots continue k = part-continue k
   part-stmt l slots pass k = part-adds (leaf-emits none)
@@ -224,7 +224,7 @@ mutual
       (function-silent x (length ps) (localsBlock b ps) (blockBody b (Return ∷ [])) _)
   part-stmt l slots (class x ms vs) k = part-adds (leaf-class slots x ms vs (part-methods ms k))
 
-  part-blocks : (l : Bool) (slots : List Name) (b : Block) → OkB l b → BlockPart l slots b
+  pub part-blocks : (l : Bool) (slots : List Name) (b : Block) → OkB l b → BlockPart l slots b
   part-blocks l slots []ᵇ k = block-nil slots
   part-blocks l slots (a ∷ᵇ b) k = block-cons a b (part-stmt l slots a (k .0)) (part-blocks l slots b (k .1))
 
