@@ -11,7 +11,7 @@ pub const COMMAND: Command = Command {
     least: 1,
     options: &[super::OUTPUT],
     about: "lowers a script or a tree to a module",
-    more: "Asks questions 2 to 15. The module's bytes are written, or nothing.",
+    more: "Asks questions 2 to 15 and 33. The module's bytes are written, or nothing.",
     example: "rulketoos lower samples/spine.py -o spine.module",
     run,
 };
