@@ -26,7 +26,7 @@ const MOST_QUESTIONS: usize = 65_534;
 /// use rulketoos::{Refusal, REACH_AREA};
 ///
 /// // `while True: pass` is True, JumpIfFalse 1, Jump -3, Return
-/// let module = rulketoos::lower_to_vec(&[0, 0, 0, 8, 1, 0, 1, 7, 2, 0, 1, 2])?;
+/// let module = rulketoos::lower_to_vec(&[0, 0, 0, 8, 1, 0, 1, 7, 2, 0, 1, 2], rulketoos::Limits::Office)?;
 /// let mut area = vec![0; REACH_AREA];
 /// let mut answers = [9; 4];
 /// assert_eq!(rulketoos::reach(&module, 0, 0, &mut area, &mut answers)?, Some([].as_slice()));
