@@ -29,6 +29,17 @@ uint32_t rulketoos_check(const uint8_t *tree, size_t tree_len);
 /* The least length of each work area of rulketoos_lower, in numbers. */
 enum { RULKETOOS_AREA = 16384 };
 
+/*
+ * The sets of limits that question 15 uses: at most so many functions, symbols,
+ * strings, classes and instructions. Every number but 0 is the console.
+ */
+enum {
+    RULKETOOS_OFFICE = 0, /* 256, 1,024, 512, 64, 8,192 */
+    RULKETOOS_CONSOLE = 1 /*  64,   256, 512, 64, 2,048 */
+};
+#define RULKETOOS_OFFICE RULKETOOS_OFFICE
+#define RULKETOOS_CONSOLE RULKETOOS_CONSOLE
+
 /* What is added to the count of bytes that a call answers which writes some. */
 #define RULKETOOS_WROTE (UINT64_C(1) << 32)
 
@@ -36,14 +47,17 @@ enum { RULKETOOS_AREA = 16384 };
  * Lowers a tree record to a module record, which it writes to out from the
  * first byte on; what is past it is left as it was. Answers RULKETOOS_WROTE plus
  * the count of bytes written; or, below RULKETOOS_WROTE, the refusal, 1 to 16
- * or 33, with out left as it was.
+ * or 33, with out left as it was. limits says by which set question 15 is asked.
+ * With the same lengths of areas and out, what the console takes gives the
+ * office the very same bytes, and what the office refuses the console refuses:
+ * by the same number, or by 15 where the office's is 16.
  *
  * area1 and area2 are room to work in, whatever is in them before. Both are all
  * zero afterwards, over their whole length and after a refusal too; but refusal
  * 1, which says that one of them is shorter than RULKETOOS_AREA, leaves both as
  * they were. No module is longer than 524,288 bytes.
  */
-uint64_t rulketoos_lower(const uint8_t *tree, size_t tree_len,
+uint64_t rulketoos_lower(const uint8_t *tree, size_t tree_len, uint32_t limits,
                          uint32_t *area1, size_t area1_len,
                          uint32_t *area2, size_t area2_len,
                          uint8_t *out, size_t out_len);

@@ -24,7 +24,7 @@ static const uint8_t iterator_tree[] = {
 static uint32_t area1[RULKETOOS_AREA];
 static uint32_t area2[RULKETOOS_AREA];
 static uint32_t reach_area[RULKETOOS_REACH_AREA];
-static uint8_t out[512];
+static uint8_t out[1024];
 
 static int failures;
 
@@ -55,12 +55,17 @@ static int areas_are(uint32_t x)
 }
 
 /* lowers with sevens in the areas and nines in the output */
-static uint64_t lower(const uint8_t *bytes, size_t size, size_t area, size_t room)
+static uint64_t lower_by(uint32_t limits, const uint8_t *bytes, size_t size, size_t area, size_t room)
 {
     for (size_t i = 0; i < RULKETOOS_AREA; i++)
         area1[i] = area2[i] = 7;
     memset(out, 9, sizeof out);
-    return rulketoos_lower(bytes, size, area1, RULKETOOS_AREA, area2, area, out, room);
+    return rulketoos_lower(bytes, size, limits, area1, RULKETOOS_AREA, area2, area, out, room);
+}
+
+static uint64_t lower(const uint8_t *bytes, size_t size, size_t area, size_t room)
+{
+    return lower_by(RULKETOOS_OFFICE, bytes, size, area, room);
 }
 
 static void lowers(void)
@@ -147,6 +152,45 @@ static void reaches(void)
     expect(all_numbers(reach_area, RULKETOOS_REACH_AREA, 7), "the area is as it was");
 }
 
+/* so many times `def f(): pass` without the pass: with main one function more */
+static size_t defs(uint8_t *bytes, size_t count)
+{
+    static const uint8_t def[] = {9, 1, 'f', 0, 0, 0, 0};
+    const size_t size = 7 + count * sizeof def;
+    const uint8_t head[] = {0, 0, (uint8_t)((size - 4) >> 8), (uint8_t)(size - 4), 1, 0, (uint8_t)count};
+    memcpy(bytes, head, sizeof head);
+    for (size_t i = 0; i < count; i++)
+        memcpy(bytes + sizeof head + i * sizeof def, def, sizeof def);
+    return size;
+}
+
+/* 64 functions and 65, at the office and at the console, which takes 64 */
+static void limits(void)
+{
+    uint8_t bytes[512];
+    uint8_t office[sizeof out];
+    size_t size = defs(bytes, 63);
+    uint64_t answer = lower_by(RULKETOOS_OFFICE, bytes, size, RULKETOOS_AREA, sizeof out);
+    expect(answer > RULKETOOS_WROTE, "the office takes 64 functions");
+    memcpy(office, out, sizeof out);
+    expect(lower_by(RULKETOOS_CONSOLE, bytes, size, RULKETOOS_AREA, sizeof out) == answer, "the console takes them too");
+    expect(memcmp(office, out, sizeof out) == 0, "with the very same bytes");
+
+    size = defs(bytes, 64);
+    answer = lower_by(RULKETOOS_OFFICE, bytes, size, RULKETOOS_AREA, sizeof out);
+    expect(answer > RULKETOOS_WROTE, "the office takes 65");
+    static const uint32_t numbers[] = {RULKETOOS_CONSOLE, 2, 256, UINT32_C(1) << 31, UINT32_MAX};
+    for (size_t i = 0; i < sizeof numbers / sizeof *numbers; i++) {
+        answer = lower_by(numbers[i], bytes, size, RULKETOOS_AREA, sizeof out);
+        expect(answer == 15, "every number but 0 is the console, which refuses them by 15");
+        expect(all_bytes(out, sizeof out, 9) && areas_are(0), "the output is as it was, the areas are zero");
+    }
+    answer = lower_by(RULKETOOS_OFFICE, bytes, size, RULKETOOS_AREA, 64);
+    expect(answer == 16, "an output that is too short is 16 at the office");
+    answer = lower_by(RULKETOOS_CONSOLE, bytes, size, RULKETOOS_AREA, 64);
+    expect(answer == 15, "and 15 at the console already");
+}
+
 int main(void)
 {
     uint8_t events[4] = {9, 9, 9, 9};
@@ -156,6 +200,7 @@ int main(void)
     expect(rulketoos_check(tree, 6) == 3, "a tree that is cut is refused by 3");
     expect(rulketoos_check(iterator_tree, sizeof iterator_tree) == 33, "the name of an iterator is refused by 33");
     lowers();
+    limits();
     expect(rulketoos_read(module, sizeof module) == 0, "the module is accepted");
     expect(rulketoos_read(module, sizeof module - 1) == 17, "a module that is cut is refused by 17");
     writes(rulketoos_list, listing, 31);

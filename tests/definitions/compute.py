@@ -16,6 +16,7 @@ import tempfile
 ROOT = pathlib.Path(__file__).resolve().parents[2]
 VECTORS = ROOT / "tests" / "vectors"
 LONGEST_TREE = 600
+LONGEST_CONSOLE_TREE = 2100
 LONGEST_MODULE = 1500
 LARGEST_BUDGET = 5000
 CASES_A_THEOREM = 40
@@ -27,7 +28,7 @@ use mathlib.Core.Bool.{Bool, true, false, _&&_}
 use mathlib.Core.List.{List, [], _∷_}
 use lib.Dec.{eqb}
 use Rattle.definitions.specs.Bytes.{Answer, refused, accepted, same}
-use Rattle.definitions.specs.Module.{office}
+use Rattle.definitions.specs.Module.{office, console}
 use Rattle.definitions.specs.Run.{Ran}
 use Rattle.definitions.specs.Calls.{lowerAnswer, readCall, runAnswer}
 use Rattle.definitions.specs.Open.{everything}
@@ -71,10 +72,11 @@ def ran(text):
 
 
 def cases():
-    for _, tree, text in lines("trees.txt"):
-        if len(record(tree)) <= LONGEST_TREE:
-            wanted = answer(text, lambda module: numbers(record(module)))
-            yield f"agrees same (lowerAnswer office 16384 16384 65536 {numbers(record(tree))}) {wanted}"
+    for file, limits, longest in [("trees.txt", "office", LONGEST_TREE), ("console.txt", "console", LONGEST_CONSOLE_TREE)]:
+        for _, tree, text in lines(file):
+            if len(record(tree)) <= longest:
+                wanted = answer(text, lambda module: numbers(record(module)))
+                yield f"agrees same (lowerAnswer {limits} 16384 16384 65536 {numbers(record(tree))}) {wanted}"
     for _, module, text in lines("modules.txt"):
         if len(record(module)) <= LONGEST_MODULE:
             yield f"agrees sameUnit (readCall {numbers(record(module))}) {answer(text, lambda _: 'tt')}"

@@ -7,9 +7,9 @@ use Prim.Native.String.{String}
 use lib.Dec.{eqb}
 use lib.ListN.{replicate}
 use Rattle.definitions.specs.Bytes.{refused, accepted, all, ascii, concat, listBytes}
-use Rattle.definitions.specs.Module.{nameBytes, moduleBytes}
+use Rattle.definitions.specs.Module.{Limits, console, limitsBy, nameBytes, moduleBytes, lowerTables}
 use Rattle.definitions.specs.Reader.{readModule}
-use Rattle.definitions.specs.Samples.{Sample, sample, holds, passes, refusal, functionIs, tree, named, variable, noneE, exprS, passS, forS, defS, defWith, returnS, classS, methodOf, assignS, listE, tupleE, lambdaE}
+use Rattle.definitions.specs.Samples.{Shown, Sample, sample, showsAnswer, holds, passes, refusal, functionIs, tree, named, variable, noneE, exprS, passS, forS, defS, defWith, returnS, classS, methodOf, assignS, listE, tupleE, lambdaE}
 use Rattle.definitions.specs.Tree.{listD}
 use Rattle.definitions.specs.Instruction.{LoadLocal, LoadGlobal, MakeClosure, Build, Return, ConstI64, ConstF64, Dup, LoadIndex, StoreLocal, minus}
 use Rattle.definitions.specs.Instruction.{Instr, Jump, JumpIfFalse, JumpIfTrue, Call, CallBuiltin, CallValue, CallMethod}
@@ -182,3 +182,23 @@ r5-holds = refl
 r5-empty : sheet (r5-module []) ≡ ascii "TOTAL      0      0      0              " ++ 10 ∷ []
 unfolding everything r5-module
 r5-empty = refl
+
+-- R-4: as many functions and instructions as the console takes, and one more; the sets that numbers name. Symbols are long to compute
+unfoldable shownBy : Limits → List (List ℕ) → Shown → Bool
+shownBy l ss s = showsAnswer s (lowerTables l (tree ss))
+
+-- so many functions besides main
+unfoldable defs : ℕ → List (List ℕ)
+defs n = replicate n (defS "f" [])
+
+-- so many instructions besides BuildList, Pop and Return
+unfoldable nones : ℕ → List (List ℕ)
+nones n = exprS (listE (replicate n noneE)) ∷ []
+
+r4-holds : (
+    shownBy console (defs 63) passes && shownBy console (defs 64) (refusal 15)
+    && shownBy console (nones 2045) passes && shownBy console (nones 2046) (refusal 15)
+    && shownBy (limitsBy 0) (defs 64) passes && shownBy (limitsBy 1) (defs 64) (refusal 15) && shownBy (limitsBy 2) (defs 64) (refusal 15)
+    ) ≡ true
+unfolding everything shownBy defs nones
+r4-holds = refl

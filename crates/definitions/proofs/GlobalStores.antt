@@ -599,9 +599,9 @@ unfolding compile function intern enclose position Lower.noTables
 compile-sound b k g e = sound-at _ k g (main-stores b .at 0 (begin 0 0 [] (addSymbol Lower.main Lower.noTables)) .sound) e
 
 pub globalStores : GlobalStores
-globalStores b t e k f h d end q i j c x s =
-    let A = accepted-gives b t e in
-    let S = sources b t e (suc k) f h in
+globalStores l u b t e k f h d end q i j c x s =
+    let A = accepted-gives l u b t e in
+    let S = sources l u b t e (suc k) f h in
     let g = S .0 in
     let body : g .body ≡ blockBody d end = cc in
     let G = compile-sound b k g (S .1) .at d end body in

@@ -602,8 +602,8 @@ absent x (y ∷ xs) h e = go (same x y) refl (position (same x) xs) (absent x xs
     go false s (some i) r = r
 
 pub loopGlobals : LoopGlobals
-loopGlobals b t e =
-    let A = accepted-gives b t e in
+loopGlobals l v b t e =
+    let A = accepted-gives l v b t e in
     let C = subst (λ (u : Tables). Every (OwnCode (u .symbols)) (u .functions)) (sym (A .tables)) (tree-keeps b (A .iterators)) in
     record {
       names = λ n. absent (iterName n) (namesBlock b) (iterators n .form) (sym (treeNames b .apart) ∙ A .iterators);

@@ -2,6 +2,7 @@
 use Prim.Native.Nat.{ℕ, zero, suc, _+_, _*_, _/_, _≤_, _<_}
 use Prim.Native.String.{String}
 use mathlib.Core.Path.{_≡_}
+use mathlib.Core.Logic.{_⊎_}
 use mathlib.Core.Bool.{Bool, true, false, not, _&&_, _||_}
 use mathlib.Core.Option.{Option, none, some}
 use mathlib.Core.List.{List, [], _∷_, _++_, map}
@@ -21,7 +22,7 @@ use Rattle.definitions.specs.Instruction.{Instr, Return, StoreGlobal, Ro
 use Rattle.definitions.specs.Tables.{Function, Tables, Body, blockBody, Source}
 use Rattle.definitions.specs.Lower.{iterName, noTables, compile, emitBody}
 use Rattle.definitions.specs.Bodies.{bodies}
-use Rattle.definitions.specs.Module.{Limits, office, moduleBytes, codeStart, instructions, slotsFit, tablesFit, lowerBlock, lowerTables, lowerBytes}
+use Rattle.definitions.specs.Module.{Limits, office, console, limitsBy, moduleBytes, codeStart, instructions, slotsFit, tablesFit, lowerBlock, lowerTables, lowerBytes}
 use Rattle.definitions.specs.Reader.{moduleRecord, numbersExist, codeStands, readModule}
 use Rattle.definitions.specs.Listing.{firstText, secondText, nameText, codeLine, pageLine, listing}
 use Rattle.definitions.specs.Sheet.{anyOp, isQuestion, isCall, tally, allCode, countLine, sheet}
@@ -217,6 +218,40 @@ abbrev pub ReachRefusals : Type 0
 ReachRefusals =
     (n : ℕ) (m : List ℕ) (f place room : ℕ) → sought n m f place room ≡ firstRefusal (reachQuestions n m f place room) (codeIn (tablesIn m) f)
 
+-- ---- two sets of limits: proofs/Narrower
+
+-- limits none of which is above the other's. The theorems below about what is lowered hold for all limits under the office's
+pub record Under (l w : Limits) : Type 0 where
+  pub functions : l .functions ≤ w .functions
+  pub symbols : l .symbols ≤ w .symbols
+  pub strings : l .strings ≤ w .strings
+  pub classes : l .classes ≤ w .classes
+  pub instructions : l .instructions ≤ w .instructions
+
+-- whichever set a number names
+abbrev pub SetsUnder : Type 0
+SetsUnder = (n : ℕ) → Under (limitsBy n) office
+
+-- what narrower limits answer beside wider ones: the same; or 15, where these accept or say 16
+pub data Narrowed {A : Type 0} (narrow wide : Answer A) : Type 0 where
+  alike : narrow ≡ wide → Narrowed narrow wide
+  over : (a : A) → narrow ≡ refused 15 → wide ≡ accepted a → Narrowed narrow wide
+  overFirst : narrow ≡ refused 15 → wide ≡ refused 16 → Narrowed narrow wide
+
+-- with the same areas and output length
+abbrev pub Narrower : Type 0
+Narrower = (l w : Limits) → Under l w → (m n room : ℕ) (tree : List ℕ) → Narrowed (lowerAnswer l m n room tree) (lowerAnswer w m n room tree)
+
+-- so a script that the console takes gives the office the very same bytes
+abbrev pub ConsoleTakes : Type 0
+ConsoleTakes = (m n room : ℕ) (tree bytes : List ℕ) → lowerAnswer console m n room tree ≡ accepted bytes → lowerAnswer office m n room tree ≡ accepted bytes
+
+-- and nothing that the office refuses passes at the console: the number is the office's, but that the console may say 15 already where the office says 16
+abbrev pub OfficeRefuses : Type 0
+OfficeRefuses =
+    (m n room : ℕ) (tree : List ℕ) (q : ℕ) → lowerAnswer office m n room tree ≡ refused q
+    → (lowerAnswer console m n room tree ≡ refused q) ⊎ ((q ≡ 16) × (lowerAnswer console m n room tree ≡ refused 15))
+
 -- ---- 7 and 33 are asked of the names of a tree, of each and of nothing else: proofs/TreeNames
 
 pub record NamesAsked (b : Block) : Type 0 where
@@ -245,7 +280,7 @@ pub record LoopsApart (b : Block) (t : Tables) : Type 0 where
       → (p a n : ℕ) → getElem? (f .code) p ≡ some (StoreGlobal a) → getElem? (t .symbols) a ≡ some (iterName n) → p ≡ n
 
 abbrev pub LoopGlobals : Type 0
-LoopGlobals = (b : Block) (t : Tables) → lowerBlock office b ≡ accepted t → LoopsApart b t
+LoopGlobals = (l : Limits) → Under l office → (b : Block) (t : Tables) → lowerBlock l b ≡ accepted t → LoopsApart b t
 
 -- ---- the test of strings is the grammar of RFC 3629: proofs/Utf8Grammar
 
@@ -356,7 +391,7 @@ pub data Global (b : Block) (x : Name) : Type 0 where
 -- function has that name; question 33 keeps scripts from the iterators' names
 abbrev pub GlobalStores : Type 0
 GlobalStores =
-    (b : Block) (t : Tables) → lowerBlock office b ≡ accepted t
+    (l : Limits) → Under l office → (b : Block) (t : Tables) → lowerBlock l b ≡ accepted t
     → (k : ℕ) (f : Function) → getElem? (t .functions) (suc k) ≡ some f
     → (d : Block) (end : List Instr) → getElem? (bodies b) (suc k) ≡ some (blockBody d end)
     → (i j : ℕ) → getElem? (f .code) i ≡ some (StoreGlobal j)
@@ -406,15 +441,15 @@ Captured =
 -- ---- every lowered module is one that the reader takes: proofs/Lowered
 
 -- the module reads back as the very tables that were lowered, and is within the reader's limit
-pub record ReadsBack (tree m : List ℕ) : Type 0 where
+pub record ReadsBack (l : Limits) (tree m : List ℕ) : Type 0 where
   pub tables : Tables
-  pub lowers : lowerTables office tree ≡ accepted tables
+  pub lowers : lowerTables l tree ≡ accepted tables
   pub bytes : m ≡ moduleBytes tables
   pub reads : readModule m ≡ accepted tables
   pub short : length m ≤ 524288
 
 abbrev pub LoweredReads : Type 0
-LoweredReads = (tree m : List ℕ) → areBytes tree ≡ true → lowerBytes office tree ≡ accepted m → ReadsBack tree m
+LoweredReads = (l : Limits) → Under l office → (tree m : List ℕ) → areBytes tree ≡ true → lowerBytes l tree ≡ accepted m → ReadsBack l tree m
 
 -- ---- the k-th source of a tree is that of function k, and its body is the tree's: proofs/SourceBodies, proofs/Demand3
 
@@ -432,7 +467,7 @@ pub record ComesFrom (f : Function) (s : Source) : Type 0 where
 
 abbrev pub Sources : Type 0
 Sources =
-    (b : Block) (t : Tables) → lowerBlock office b ≡ accepted t
+    (l : Limits) → Under l office → (b : Block) (t : Tables) → lowerBlock l b ≡ accepted t
     → (k : ℕ) (f : Function) → getElem? (t .functions) k ≡ some f
     → (s : Source) × (getElem? (compile b .sources) k ≡ some s) × (getElem? (bodies b) k ≡ some (s .body)) × ComesFrom f s
 
@@ -448,7 +483,7 @@ pub record Agrees (r : Ran) (w : Walked) (answers : List ℕ) : Type 0 where
 -- on code: every function of every accepted block, every list of answers, every budget of (answers + 1) × instructions or more
 abbrev pub Demand3 : Type 0
 Demand3 =
-    (b : Block) (t : Tables) → lowerBlock office b ≡ accepted t
+    (l : Limits) → Under l office → (b : Block) (t : Tables) → lowerBlock l b ≡ accepted t
     → (k : ℕ) (f : Function) → getElem? (t .functions) k ≡ some f
     → (answers : List ℕ) (budget : ℕ) → (length answers + 1) * length (f .code) ≤ budget
     → (w : Walked) × (walk b k answers ≡ some w) × Agrees (run budget (f .code) 0 answers) w answers
@@ -468,7 +503,7 @@ Follows answers room (some w) a =
 -- on bytes: a lowered function follows its source
 abbrev pub Demand3Bytes : Type 0
 Demand3Bytes =
-    (tree m : List ℕ) → areBytes tree ≡ true → lowerBytes office tree ≡ accepted m
+    (l : Limits) → Under l office → (tree m : List ℕ) → areBytes tree ≡ true → lowerBytes l tree ≡ accepted m
     → (k : ℕ) (answers : List ℕ) → areAnswers answers ≡ true
     → (budget room : ℕ) → (length answers + 1) * instructionsIn m k ≤ budget
     → Follows answers room (walkTree tree k answers) (runAnswer m k answers budget room)
@@ -476,7 +511,7 @@ Demand3Bytes =
 -- so with such a budget no run of a lowered function ends with the budget spent
 abbrev pub NeverSpent : Type 0
 NeverSpent =
-    (tree m : List ℕ) → areBytes tree ≡ true → lowerBytes office tree ≡ accepted m
+    (l : Limits) → Under l office → (tree m : List ℕ) → areBytes tree ≡ true → lowerBytes l tree ≡ accepted m
     → (k : ℕ) (answers : List ℕ) → areAnswers answers ≡ true
     → (budget room : ℕ) → (length answers + 1) * instructionsIn m k ≤ budget
     → (r : Ran) → runAnswer m k answers budget room ≡ accepted r → (1 ≤ r .ending) × (r .ending ≤ 2)

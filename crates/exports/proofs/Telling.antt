@@ -1,6 +1,6 @@
 -- What the exported numbers say, by the cases of the answers.
 use Prim.Native.Nat.{ℕ, _+_, _*_, _^_, _≤_, _<_}
-use mathlib.Core.Path.{_≡_, refl, sym, ap, _∙_}
+use mathlib.Core.Path.{_≡_, refl, sym, ap, _∙_, subst}
 use mathlib.Core.Bool.{Bool, true, false}
 use mathlib.Core.Option.{Option, none, some}
 use mathlib.Core.List.{List, _++_}
@@ -12,8 +12,8 @@ use Rattle.definitions.specs.Bytes.{Answer, refused, accepted, whenAccepted}
 use Rattle.definitions.specs.Instruction.{Instr, encodes}
 use Rattle.definitions.specs.Tables.{Function, Tables}
 use Rattle.definitions.specs.Reader.{readModule}
-use Rattle.definitions.specs.Module.{Limits, office, codeStart, lowerBytes}
-use Rattle.definitions.specs.Calls.{Part, Counts, Running, fitsRoom, areasFit, lowerAnswer, countAnswer, lowerCall, readCall, functionOf, codePart, codeCall, textFits, textAnswer, textCall, runCall, written}
+use Rattle.definitions.specs.Module.{Limits, codeStart, lowerBytes}
+use Rattle.definitions.specs.Calls.{Part, Counts, Running, fitsRoom, areasFit, lowerAnswer, countAnswer, Lowering, lowerCall, readCall, functionOf, codePart, codeCall, textFits, textAnswer, textCall, runCall, written}
 use Rattle.definitions.proofs.ReadFits.{module-short}
 use Rattle.definitions.specs.Reach.{sought, countFound, foundAnswer, bufferAfter, Reaching, reachCall}
 use Rattle.tree.specs.Settled.{said, settled}
@@ -66,18 +66,26 @@ unfolding countAnswer whenAccepted
 answer-count l room n tree true e = bytes-count room n (lowerBytes l tree) e
 answer-count l room n tree false e = let z : _≡_ {A = ℕ} 0 1 = cc in absurd (omega arith)
 
-module _ (r : Lowered) (tree area₁ area₂ out area₁′ area₂′ out′ : List ℕ) (L : Lowered′ r area₁′ area₂′ out′ (lowerCall office tree area₁ area₂ out)) where
+module _ (r : Lowered) (k l : Limits) (e : k ≡ l) (tree area₁ area₂ out area₁′ area₂′ out′ : List ℕ) (L : Lowered′ r area₁′ area₂′ out′ (lowerCall k tree area₁ area₂ out)) where
   pub lowered-fits : (n : ℕ) → r ≡ Wrote n → n ≤ length out
   unfolding lowered lowerCall lowerAnswer
-  lowered-fits n e = answer-count office (length out) n tree (areasFit (length area₁) (length area₂)) (sym (L .answer) ∙ ap lowered e)
+  lowered-fits n h = answer-count k (length out) n tree (areasFit (length area₁) (length area₂)) (sym (L .answer) ∙ ap lowered h)
 
-  pub lowered-yes : (n : ℕ) → r ≡ Wrote n → Lowers (4294967296 + n) (lowerCall office tree area₁ area₂ out) area₁′ area₂′ out′
-  unfolding lowered toldCount
-  lowered-yes n e = record { answer = ap toldCount (sym (ap lowered e) ∙ L .answer); first = L .first; second = L .second; output = L .output }
+  abbrev want : Lowering
+  want = lowerCall l tree area₁ area₂ out
 
-  pub lowered-no : (q : ℕ) → r ≡ NotLowered q → Lowers q (lowerCall office tree area₁ area₂ out) area₁′ area₂′ out′
+  lowers-as : (x : ℕ) → x ≡ toldCount (lowered r) → Lowers x want area₁′ area₂′ out′
+  lowers-as x h =
+      let w : lowerCall k tree area₁ area₂ out ≡ want = ap (λ (m : Limits). lowerCall m tree area₁ area₂ out) e in
+      subst (λ (v : Lowering). Lowers x v area₁′ area₂′ out′) w (record { answer = h ∙ ap toldCount (L .answer); first = L .first; second = L .second; output = L .output })
+
+  pub lowered-yes : (n : ℕ) → r ≡ Wrote n → Lowers (4294967296 + n) want area₁′ area₂′ out′
   unfolding lowered toldCount
-  lowered-no q e = record { answer = ap toldCount (sym (ap lowered e) ∙ L .answer); first = L .first; second = L .second; output = L .output }
+  lowered-yes n h = lowers-as (4294967296 + n) (ap (λ (x : Lowered). toldCount (lowered x)) (sym h))
+
+  pub lowered-no : (q : ℕ) → r ≡ NotLowered q → Lowers q want area₁′ area₂′ out′
+  unfolding lowered toldCount
+  lowered-no q h = lowers-as q (ap (λ (x : Lowered). toldCount (lowered x)) (sym h))
 
 -- ---- a module
 
@@ -175,17 +183,17 @@ module _ (r : Reached) {bytes : List ℕ} {function place : ℕ} {area area′ o
   reached-fits n e l =
       found-fits (sought (length area) bytes function place (length out)) (R .found) n out out′ (sym (ap reachSaid e) ∙ ap (λ (x : Reaching). x .answer) (R .is)) (ap (λ (x : Reaching). x .buffer) (R .is)) l
 
-  told-as : (m : ℕ) → m ≡ toldFound (reachSaid r) → Seeks m bytes function place area area′ out out′
-  told-as m e = record { given = record { answer = reachSaid r; area = area′; buffer = out′ }; call = R; answer = e; left = refl; buffer = refl }
+  seeks-as : (m : ℕ) → m ≡ toldFound (reachSaid r) → Seeks m bytes function place area area′ out out′
+  seeks-as m e = record { given = record { answer = reachSaid r; area = area′; buffer = out′ }; call = R; answer = e; left = refl; buffer = refl }
 
   pub reached-list : (n : ℕ) → r ≡ Answers n → Seeks (4294967296 + n) bytes function place area area′ out out′
   unfolding reachSaid toldFound
-  reached-list n e = told-as (4294967296 + n) (ap (λ (x : Reached). toldFound (reachSaid x)) (sym e))
+  reached-list n e = seeks-as (4294967296 + n) (ap (λ (x : Reached). toldFound (reachSaid x)) (sym e))
 
   pub reached-none : r ≡ Nowhere → Seeks 8589934592 bytes function place area area′ out out′
   unfolding reachSaid toldFound
-  reached-none e = told-as 8589934592 (ap (λ (x : Reached). toldFound (reachSaid x)) (sym e))
+  reached-none e = seeks-as 8589934592 (ap (λ (x : Reached). toldFound (reachSaid x)) (sym e))
 
   pub reached-not : (q : ℕ) → r ≡ NotSought q → Seeks q bytes function place area area′ out out′
   unfolding reachSaid toldFound
-  reached-not q e = told-as q (ap (λ (x : Reached). toldFound (reachSaid x)) (sym e))
+  reached-not q e = seeks-as q (ap (λ (x : Reached). toldFound (reachSaid x)) (sym e))

@@ -1,3 +1,4 @@
 mod Made
 mod Reading
 mod Walking
+mod Narrowing

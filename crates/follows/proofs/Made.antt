@@ -9,7 +9,7 @@ use lib.Seq.{take-append-seam}
 use lib.Dec.{leb}
 use borrow.Author.Tests.{leb-true}
 use Rattle.definitions.specs.Bytes.{Answer, refused, accepted, whenAccepted}
-use Rattle.definitions.specs.Module.{office, lowerBytes}
+use Rattle.definitions.specs.Module.{Limits, lowerBytes}
 use Rattle.definitions.specs.Calls.{written, outputAfter, countAnswer, areasFit, fitsRoom, lowerAnswer, Lowering, lowerCall}
 use Rattle.definitions.proofs.Lowered.{when-accepted}
 use Rattle.lowering.specs.Lowered.{said, Lowers}
@@ -20,9 +20,9 @@ use Rattle.follows.specs.Thereafter.{Thereafter, thereafter, leftAfter}
 -- ---- the module that was written
 
 -- the tree is lowered to a module, and that is the first n bytes of the output
-pub record Made (tree output output′ : List ℕ) (n : ℕ) : Type 0 where
+pub record Made (l : Limits) (tree output output′ : List ℕ) (n : ℕ) : Type 0 where
   pub bytes : List ℕ
-  pub lowers : lowerBytes office tree ≡ accepted bytes
+  pub lowers : lowerBytes l tree ≡ accepted bytes
   pub front : take n output′ ≡ bytes
   pub fits : n ≤ length output
 
@@ -34,14 +34,14 @@ fits-room room x m = go (leb (length x) room) refl
     go true h e = (cc, leb-true _ _ h)
     go false h e = let z : _≡_ {A = ℕ} 0 1 = cc in absurd (omega arith)
 
-answer-gives : (a b room : ℕ) (tree m : List ℕ) → lowerAnswer office a b room tree ≡ accepted m → (lowerBytes office tree ≡ accepted m) × (length m ≤ room)
+answer-gives : (l : Limits) (a b room : ℕ) (tree m : List ℕ) → lowerAnswer l a b room tree ≡ accepted m → (lowerBytes l tree ≡ accepted m) × (length m ≤ room)
 unfolding lowerAnswer
-answer-gives a b room tree m = go (areasFit a b)
+answer-gives l a b room tree m = go (areasFit a b)
   where
-    go : (x : Bool) → (elim x as (λ z. Answer (List ℕ)) [ false ↦ refused 1 | true ↦ whenAccepted (lowerBytes office tree) (fitsRoom room) ]) ≡ accepted m → (lowerBytes office tree ≡ accepted m) × (length m ≤ room)
+    go : (x : Bool) → (elim x as (λ z. Answer (List ℕ)) [ false ↦ refused 1 | true ↦ whenAccepted (lowerBytes l tree) (fitsRoom room) ]) ≡ accepted m → (lowerBytes l tree ≡ accepted m) × (length m ≤ room)
     go false e = let z : _≡_ {A = ℕ} 0 1 = cc in absurd (omega arith)
     go true e =
-        let W = when-accepted (lowerBytes office tree) (fitsRoom room) m e in
+        let W = when-accepted (lowerBytes l tree) (fitsRoom room) m e in
         let F = fits-room room (W .0) m (W .2) in
         (W .1 ∙ ap accepted (F .0), subst (λ (x : List ℕ). length x ≤ room) (F .0) (F .1))
 
@@ -52,16 +52,16 @@ unfolding said countAnswer outputAfter whenAccepted
 counted r n (refused q) output output′ t o e = let x : accepted n ≡ refused q = sym (ap said e) ∙ t in let z : _≡_ {A = ℕ} 0 1 = cc in absurd (omega arith)
 counted r n (accepted m) output output′ t o e = let x : accepted n ≡ accepted (length m) = sym (ap said e) ∙ t in (m, refl, cc, o)
 
-front-is : (n : ℕ) (m output output′ : List ℕ) → n ≡ length m → output′ ≡ written m output → take n output′ ≡ m
+pub front-is : (n : ℕ) (m output output′ : List ℕ) → n ≡ length m → output′ ≡ written m output → take n output′ ≡ m
 unfolding written
 front-is n m output output′ c o = ap₂ take c o ∙ take-append-seam m (drop (length m) output)
 
-module _ (r : Lowered) (tree area₁ area₂ output area₁′ area₂′ output′ : List ℕ) (L : Lowers r area₁′ area₂′ output′ (lowerCall office tree area₁ area₂ output)) (n : ℕ) (e : r ≡ Wrote n) where
-  pub made : Made tree output output′ n
+module _ (r : Lowered) (l : Limits) (tree area₁ area₂ output area₁′ area₂′ output′ : List ℕ) (L : Lowers r area₁′ area₂′ output′ (lowerCall l tree area₁ area₂ output)) (n : ℕ) (e : r ≡ Wrote n) where
+  pub made : Made l tree output output′ n
   unfolding lowerCall
   made =
-      let C = counted r n (lowerAnswer office (length area₁) (length area₂) (length output) tree) output output′ (L .answer) (L .output) e in
-      let G = answer-gives (length area₁) (length area₂) (length output) tree (C .0) (C .1) in
+      let C = counted r n (lowerAnswer l (length area₁) (length area₂) (length output) tree) output output′ (L .answer) (L .output) e in
+      let G = answer-gives l (length area₁) (length area₂) (length output) tree (C .0) (C .1) in
       record { bytes = C .0; lowers = G .0; front = front-is n (C .0) output output′ (C .2) (C .3); fits = omega (arith, C .2, G .1) }
 
   -- the part of the buffer that is the module

@@ -1,6 +1,6 @@
 -- The run of a lowered function does what the walk of the tree does.
 use Prim.Native.Nat.{ℕ, _+_, _*_, _-_, _≤_, _<_}
-use mathlib.Core.Path.{_≡_, refl, sym, ap, _∙_, subst}
+use mathlib.Core.Path.{_≡_, sym, ap, _∙_, subst}
 use mathlib.Core.Bool.{true}
 use mathlib.Core.Option.{Option, none, some}
 use mathlib.Core.List.{List}
@@ -8,11 +8,11 @@ use native.Mathlib.Omega.{arith}
 use lib.ListN.{length, take}
 use lib.Pow.{areBytes}
 use Rattle.definitions.specs.Bytes.{Answer, refused, accepted, whenAccepted}
-use Rattle.definitions.specs.Module.{office}
+use Rattle.definitions.specs.Module.{Limits, office}
 use Rattle.definitions.specs.Run.{Ran as RunAnswer}
 use Rattle.definitions.specs.Walk.{Walked, endingNumber}
 use Rattle.definitions.specs.Calls.{written, outputAfter, areAnswers, lowerCall, Counts, ranCounts, ranCall, runAnswer, runCall, walkTree}
-use Rattle.definitions.specs.Statements.{Agrees, Follows, instructionsIn}
+use Rattle.definitions.specs.Statements.{Under, Agrees, Follows, instructionsIn}
 use Rattle.definitions.proofs.Demand3Bytes.{demand3Bytes}
 use Rattle.run.specs.Pass.{said as ranSaid, Called}
 use Rattle.run.proofs.Calling.{says-refused, says-finished}
@@ -62,52 +62,53 @@ module _ (a : Answer RunAnswer) (o : Outcome) (events events′ : List ℕ) (say
 
 -- ---- the call
 
-module _ (r : Lowered) (tree area₁ area₂ bytes area₁′ area₂′ bytes′ : List ℕ) (L : Lowers r area₁′ area₂′ bytes′ (lowerCall office tree area₁ area₂ bytes)) (function : ℕ) (answers : List ℕ) (budget : ℕ) (events : List ℕ) where
+module _ (r : Lowered) (l : Limits) (tree area₁ area₂ bytes area₁′ area₂′ bytes′ : List ℕ) (L : Lowers r area₁′ area₂′ bytes′ (lowerCall l tree area₁ area₂ bytes))
+    (function : ℕ) (answers : List ℕ) (budget : ℕ) (events : List ℕ) where
   module _ (n : ℕ) (e : r ≡ Written n) (o : Outcome) (events′ : List ℕ) (C : Called o (runCall (take n bytes′) function answers budget events) events′) where
-    run-walks : areBytes tree ≡ true → areAnswers answers ≡ true → (length answers + 1) * instructionsIn (take n bytes′) function ≤ budget →
+    run-walks : Under l office → areBytes tree ≡ true → areAnswers answers ≡ true → (length answers + 1) * instructionsIn (take n bytes′) function ≤ budget →
         AsWalked o (walkTree tree function answers) answers events events′
     unfolding runCall ranCall
-    run-walks small bits enough =
-        let M = made r tree area₁ area₂ bytes area₁′ area₂′ bytes′ L n e in
-        let D = demand3Bytes tree (M .bytes) small (M .lowers) function answers bits budget (length events) (subst (λ (m : List ℕ). (length answers + 1) * instructionsIn m function ≤ budget) (M .front) enough) in
+    run-walks u small bits enough =
+        let M = made r l tree area₁ area₂ bytes area₁′ area₂′ bytes′ L n e in
+        let D = demand3Bytes l u tree (M .bytes) small (M .lowers) function answers bits budget (length events) (subst (λ (m : List ℕ). (length answers + 1) * instructionsIn m function ≤ budget) (M .front) enough) in
         shows-walk (runAnswer (take n bytes′) function answers budget (length events)) o events events′ (C .says) (C .leaves) answers (walkTree tree function answers)
         (subst (λ (m : List ℕ). Follows answers (length events) (walkTree tree function answers) (runAnswer m function answers budget (length events))) (sym (M .front)) D)
 
-    run-equation : FollowsAs (Ran n o) area₁′ area₂′ bytes′ events′ (followCall tree function answers budget area₁ area₂ bytes events)
+    run-equation : FollowsAs (Ran n o) area₁′ area₂′ bytes′ events′ (followCall l tree function answers budget area₁ area₂ bytes events)
     unfolding followCall said
     run-equation = record {
       answer =
-          then-accepted (lowerCall office tree area₁ area₂ bytes) r bytes′ (L .answer) (L .output) (λ m. runCall m function answers budget events .answer) n e (ranSaid o)
+          then-accepted (lowerCall l tree area₁ area₂ bytes) r bytes′ (L .answer) (L .output) (λ m. runCall m function answers budget events .answer) n e (ranSaid o)
           (C .says);
       first = L .first;
       second = L .second;
       bytes = L .output;
-      events = C .leaves ∙ left-accepted (lowerCall office tree area₁ area₂ bytes) r bytes′ (L .answer) (L .output) (λ m. runCall m function answers budget events .events) events n e;
+      events = C .leaves ∙ left-accepted (lowerCall l tree area₁ area₂ bytes) r bytes′ (L .answer) (L .output) (λ m. runCall m function answers budget events .events) events n e;
     }
 
-    ran-follows : areBytes tree ≡ true → FollowsSource (Ran n o) area₁′ area₂′ bytes′ events′ tree function answers budget area₁ area₂ bytes events
-    ran-follows small = record {
+    ran-follows : Under l office → areBytes tree ≡ true → FollowsSource (Ran n o) area₁′ area₂′ bytes′ events′ l tree function answers budget area₁ area₂ bytes events
+    ran-follows u small = record {
       equation = run-equation;
       walk = λ k p x bits enough.
           let same : o ≡ p = cc x in
           let count : k ≡ n = cc x in
           subst (λ (y : Outcome). AsWalked y (walkTree tree function answers) answers events events′) same
-          (run-walks small bits (subst (λ (j : ℕ). (length answers + 1) * instructionsIn (take j bytes′) function ≤ budget) count enough));
+          (run-walks u small bits (subst (λ (j : ℕ). (length answers + 1) * instructionsIn (take j bytes′) function ≤ budget) count enough));
     }
 
-  pub follow-ran : (n : ℕ) → r ≡ Written n → (o : Outcome) (events′ : List ℕ) → Called o (runCall (take (n - 0) bytes′) function answers budget events) events′ → areBytes tree ≡ true →
-      FollowsSource (Ran n o) area₁′ area₂′ bytes′ events′ tree function answers budget area₁ area₂ bytes events
+  pub follow-ran : (n : ℕ) → r ≡ Written n → (o : Outcome) (events′ : List ℕ) → Called o (runCall (take (n - 0) bytes′) function answers budget events) events′ → Under l office → areBytes tree ≡ true →
+      FollowsSource (Ran n o) area₁′ area₂′ bytes′ events′ l tree function answers budget area₁ area₂ bytes events
   follow-ran n e o events′ C = ran-follows n e o events′ (subst (λ (m : List ℕ). Called o (runCall m function answers budget events) events′) (part-is n bytes′) C)
 
-  pub follow-refused : (q : ℕ) → r ≡ NotLowered q → FollowsSource (Refused q) area₁′ area₂′ bytes′ events tree function answers budget area₁ area₂ bytes events
+  pub follow-refused : (q : ℕ) → r ≡ NotLowered q → FollowsSource (Refused q) area₁′ area₂′ bytes′ events l tree function answers budget area₁ area₂ bytes events
   unfolding followCall said
   follow-refused q e = record {
     equation = record {
-      answer = then-refused (lowerCall office tree area₁ area₂ bytes) r bytes′ (L .answer) (L .output) (λ m. runCall m function answers budget events .answer) q e;
+      answer = then-refused (lowerCall l tree area₁ area₂ bytes) r bytes′ (L .answer) (L .output) (λ m. runCall m function answers budget events .answer) q e;
       first = L .first;
       second = L .second;
       bytes = L .output;
-      events = left-refused (lowerCall office tree area₁ area₂ bytes) r bytes′ (L .answer) (L .output) (λ m. runCall m function answers budget events .events) events q e;
+      events = left-refused (lowerCall l tree area₁ area₂ bytes) r bytes′ (L .answer) (L .output) (λ m. runCall m function answers budget events .events) events q e;
     };
     walk = λ k p x bits enough. let z : _≡_ {A = ℕ} 0 1 = cc in absurd (omega arith);
   }

@@ -6,7 +6,7 @@ use mathlib.Core.Option.{Option, none, some}
 use mathlib.Core.List.{List}
 use lib.ListN.{length, take}
 use Rattle.definitions.specs.Bytes.{Answer, refused, accepted}
-use Rattle.definitions.specs.Module.{office}
+use Rattle.definitions.specs.Module.{Limits}
 use Rattle.definitions.specs.Walk.{Walked, endingNumber}
 use Rattle.definitions.specs.Calls.{written, areAnswers, lowerCall, Counts, runCall, walkTree}
 use Rattle.definitions.specs.Statements.{instructionsIn}
@@ -32,9 +32,9 @@ pub record Following : Type 0 where
   pub bytes : List ℕ
   pub events : List ℕ
 
-unfoldable pub followCall : List ℕ → ℕ → List ℕ → ℕ → List ℕ → List ℕ → List ℕ → List ℕ → Following
-followCall tree function answers budget area₁ area₂ bytes events =
-    let w = lowerCall office tree area₁ area₂ bytes in
+unfoldable pub followCall : Limits → List ℕ → ℕ → List ℕ → ℕ → List ℕ → List ℕ → List ℕ → List ℕ → Following
+followCall l tree function answers budget area₁ area₂ bytes events =
+    let w = lowerCall l tree area₁ area₂ bytes in
     record {
       answer = thereafter (w .answer) (w .output) (λ m. runCall m function answers budget events .answer);
       area₁ = w .area₁;
@@ -70,7 +70,7 @@ AsWalked o (some w) answers events events′ =
 
 -- The answer and all that is left are those of `followCall`. And of every accepted tree, on answers that are 0 or 1, with a budget of at least
 -- (answers + 1) × the function's instructions, the run goes as the walk of the tree's function does
-pub record FollowsSource (r : Followed) (area₁′ area₂′ bytes′ events′ tree : List ℕ) (function : ℕ) (answers : List ℕ) (budget : ℕ) (area₁ area₂ bytes events : List ℕ) : Type 0 where
-  pub equation : FollowsAs r area₁′ area₂′ bytes′ events′ (followCall tree function answers budget area₁ area₂ bytes events)
+pub record FollowsSource (r : Followed) (area₁′ area₂′ bytes′ events′ : List ℕ) (l : Limits) (tree : List ℕ) (function : ℕ) (answers : List ℕ) (budget : ℕ) (area₁ area₂ bytes events : List ℕ) : Type 0 where
+  pub equation : FollowsAs r area₁′ area₂′ bytes′ events′ (followCall l tree function answers budget area₁ area₂ bytes events)
   pub walk : (n : ℕ) (o : Outcome) → r ≡ Ran n o → areAnswers answers ≡ true → (length answers + 1) * instructionsIn (take n bytes′) function ≤ budget →
       AsWalked o (walkTree tree function answers) answers events events′

@@ -1,3 +1,4 @@
 pub mod Thereafter
 pub mod Rereading
 pub mod Following
+pub mod Both

@@ -3,7 +3,7 @@ use Prim.Native.Nat.{ℕ}
 use mathlib.Core.Path.{_≡_}
 use mathlib.Core.List.{List}
 use Rattle.definitions.specs.Bytes.{Answer, refused, accepted}
-use Rattle.definitions.specs.Module.{office}
+use Rattle.definitions.specs.Module.{Limits}
 use Rattle.definitions.specs.Calls.{lowerCall, readCall}
 use Rattle.reader.specs.View.{said as readSaid}
 use Rattle.reader.specs.declared.Verdict.{Verdict}
@@ -24,9 +24,9 @@ pub record Rereading : Type 0 where
   pub area₂ : List ℕ
   pub output : List ℕ
 
-unfoldable pub rereadCall : List ℕ → List ℕ → List ℕ → List ℕ → Rereading
-rereadCall tree area₁ area₂ output =
-    let w = lowerCall office tree area₁ area₂ output in
+unfoldable pub rereadCall : Limits → List ℕ → List ℕ → List ℕ → List ℕ → Rereading
+rereadCall l tree area₁ area₂ output =
+    let w = lowerCall l tree area₁ area₂ output in
     record { answer = thereafter (w .answer) (w .output) readCall; area₁ = w .area₁; area₂ = w .area₂; output = w .output }
 
 -- an answer and what is left are those of a call
@@ -37,6 +37,6 @@ pub record RereadsAs (r : Reread) (area₁′ area₂′ output′ : List ℕ) (
   pub output : output′ ≡ w .output
 
 -- the answer and all that is left are those of `rereadCall`; and whenever the lowering accepts, the reader accepts the bytes written
-pub record Rereads (r : Reread) (area₁′ area₂′ output′ tree area₁ area₂ output : List ℕ) : Type 0 where
-  pub equation : RereadsAs r area₁′ area₂′ output′ (rereadCall tree area₁ area₂ output)
+pub record Rereads (r : Reread) (area₁′ area₂′ output′ : List ℕ) (l : Limits) (tree area₁ area₂ output : List ℕ) : Type 0 where
+  pub equation : RereadsAs r area₁′ area₂′ output′ (rereadCall l tree area₁ area₂ output)
   pub reads : (n : ℕ) (v : Verdict) → r ≡ Wrote n v → v ≡ Accepted

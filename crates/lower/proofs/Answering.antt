@@ -6,8 +6,10 @@ use native.Mathlib.Omega.{arith}
 use lib.ListN.{length, take, drop, length-append}
 use lib.Seq.{take-at, take-all}
 use Rattle.definitions.specs.Bytes.{Answer, refused, accepted, whenAccepted, ascii, decimal}
-use Rattle.definitions.specs.Module.{office}
+use Rattle.definitions.specs.Module.{office, limitsBy}
 use Rattle.definitions.specs.Calls.{written, outputAfter, countAnswer, lowerAnswer, lowerCall, lowerProgram}
+use Rattle.limits.specs.Sets.{said as setNumber, limitsFor}
+use Rattle.limits.specs.declared.Limits.the-variants.{Office}
 use Rattle.names.specs.Made.{pasted}
 use Rattle.definitions.proofs.Decimals.{length-decimal}
 use Rattle.names.proofs.Pasting.{three-length, paste-three}
@@ -60,19 +62,19 @@ unfolding countAnswer whenAccepted
 refuses (refused p) q e = cc
 refuses (accepted bs) q e = let z : _≡_ {A = ℕ} 0 1 = cc in absurd (omega arith)
 
-module _ (r : Lowered) (input area₁ area₂ out area₁′ area₂′ out′ : List ℕ) (L : Lowers r area₁′ area₂′ out′ (lowerCall office input area₁ area₂ out))
+module _ (r : Lowered) (input area₁ area₂ out area₁′ area₂′ out′ : List ℕ) (L : Lowers r area₁′ area₂′ out′ (lowerCall (limitsFor Office) input area₁ area₂ out))
     (first : 16384 ≡ length area₁) (second : 16384 ≡ length area₂) (room : 65536 ≡ length out) (short : length input ≤ 32769) where
   abbrev whole : Answer (List ℕ)
   whole = lowerAnswer office (length area₁) (length area₂) (length out) input
 
   pub answered-wrote : (n : ℕ) → r ≡ Wrote n → Answered n out′ (lowerProgram input)
-  unfolding said lowerCall
+  unfolding said lowerCall limitsBy setNumber
   answered-wrote n e =
       let w = wrote whole n out out′ (sym (ap said e) ∙ L .answer) (L .output) in
       rw (program-wrote input (w .0) (same-answer _ _ _ input _ first second room short (w .1))) (w .2)
 
   pub answered-refused : (q n : ℕ) (line : List ℕ) → r ≡ Refused q → Answered n line (ascii "refused " ++ (decimal q ++ 10 ∷ [])) → Answered n line (lowerProgram input)
-  unfolding said lowerCall
+  unfolding said lowerCall limitsBy setNumber
   answered-refused q n line e A =
       let w = refuses whole q (sym (ap said e) ∙ L .answer) in
       rw (program-refused input q (same-answer _ _ _ input _ first second room short w)) A

@@ -2,6 +2,7 @@
 use libc::STDERR_FILENO;
 use libc::STDIN_FILENO;
 use libc::STDOUT_FILENO;
+use limits::Limits;
 use lowering::Lowered;
 use names::making::paste;
 use names::making::paste_decimal;
@@ -30,7 +31,7 @@ fn answer(input: &[u8], out: &mut [u8]) -> usize
 {
     let mut area1 = [0u32; 16384];
     let mut area2 = [0u32; 16384];
-    let lowered = lowering::lower(input, &mut area1, &mut area2, out);
+    let lowered = lowering::lower(input, Limits::Office, &mut area1, &mut area2, out);
     match lowered {
         Lowered::Wrote(n) => n,
         Lowered::Refused(q) => refusal(q, out),

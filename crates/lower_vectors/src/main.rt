@@ -1,4 +1,5 @@
-// The module, or the refusal, of each tree of tests/vectors/trees.txt.
+// The module, or the refusal, of each tree of tests/vectors/trees.txt, within the office's limits.
+use limits::Limits;
 use lowering::Lowered;
 use vectors::Reading;
 
@@ -7,7 +8,7 @@ fn answer(tree: &[u8]) {
     let mut area1 = [0u32; 16384];
     let mut area2 = [0u32; 16384];
     let mut module = [0u8; 65536];
-    let lowered = lowering::lower(tree, &mut area1, &mut area2, &mut module);
+    let lowered = lowering::lower(tree, Limits::Office, &mut area1, &mut area2, &mut module);
     match lowered {
         Lowered::Wrote(n) => report::hex(&module, n),
         Lowered::Refused(q) => report::refused(q as u64),

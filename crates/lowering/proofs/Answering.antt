@@ -1,18 +1,18 @@
 -- What each way out of the lowering shows.
 use Prim.Native.Nat.{ℕ, _≤_, _<_}
 use mathlib.Core.Path.{_≡_, refl, sym, ap, _∙_, subst}
-use mathlib.Core.Bool.{Bool, true, false, _&&_}
+use mathlib.Core.Bool.{Bool, true, false}
 use mathlib.Core.List.{List, []}
 use native.Mathlib.Omega.{arith}
 use lib.ListN.{length, replicate}
-use lib.Dec.{leb}
 use borrow.Author.Tests.{le-leb, lt-leb}
 use Rattle.definitions.specs.Bytes.{Answer, refused, accepted, whenAccepted}
 use Rattle.definitions.specs.Tables.{Tables}
 use Rattle.definitions.specs.Lower.{compile}
-use Rattle.definitions.specs.Module.{office, instructions, moduleBytes, slotsFit, tablesFit}
-use Rattle.definitions.specs.Calls.{written, outputAfter, countAnswer, zeros, areasFit, fitsRoom, lowerAnswer, areaAfter, lowerCall}
-use Rattle.definitions.proofs.Truth.{left, right, at-most}
+use Rattle.definitions.specs.Module.{Limits as DefinedLimits, office, moduleBytes, slotsFit, tablesFit}
+use Rattle.definitions.specs.Calls.{written, outputAfter, countAnswer, zeros, areasFit, fitsRoom, lowerAnswer, areaAfter, Lowering, lowerCall}
+use Rattle.definitions.proofs.Accepted.{within, within-fits}
+use Rattle.definitions.proofs.Narrower.{setsUnder}
 use Rattle.tree.specs.Settled.{said as treeSaid, settled}
 use Rattle.tree.specs.StmtAt.{TreeAt}
 use Rattle.tree.specs.declared.Checked.{Checked}
@@ -26,8 +26,10 @@ use Rattle.state.proofs.Views.{few-slots, within-sound}
 use Rattle.state.proofs.SlotsFit.{slots-fit, targets-asked}
 use Rattle.writing.specs.Wrote.{Wrote}
 use Rattle.module.specs.Sections.{Roomy}
-use Rattle.lower_emit.specs.Numbers.{countsOf}
+use Rattle.lower_emit.specs.Numbers.{countsOf, limitsIn}
 use Rattle.compile.specs.Compiled.{treeBlock, Compiles}
+use Rattle.limits.specs.Sets.{said as setNumber, limitsFor, asNumbers}
+use Rattle.limits.specs.declared.Limits.{Limits as Set}
 use Rattle.lowering.specs.Lowered.{said, Answers, Lowers}
 use Rattle.lowering.specs.declared.Lowered.{Lowered}
 use Rattle.lowering.specs.declared.Lowered.the-variants.{Wrote as Written, Refused}
@@ -47,27 +49,15 @@ writes a bs n out out′ e c w = rw e (record { answer = ap accepted c; output =
 
 -- a state within the limits has tables within them
 tables-within : (l : Limits) (s : State) → Within l s → tablesFit (limitsOf l) (s .tables) ≡ true
-unfolding tablesFit limitsOf
+unfolding limitsOf
 tables-within l s w =
-    rw (le-leb (length (s .tables .functions)) (l .functions) (w .functions), le-leb (length (s .tables .symbols)) (l .symbols) (w .symbols), le-leb (length (s .tables .strings)) (l .strings) (w .strings))
-    (rw (le-leb (length (s .tables .classes)) (l .classes) (w .classes)) (le-leb (instructions (s .tables .functions)) (l .instructions) (omega (arith, w .instructions))))
+    within-fits (limitsOf l) (s .tables) (record { functions = w .functions; symbols = w .symbols; strings = w .strings; classes = w .classes; instructions = omega (arith, w .instructions) })
 
 within-fit : (l : Limits) (t : Tables) → slotsFit t ≡ true → tablesFit (limitsOf l) t ≡ true → Within l (record { stack = []; tables = t })
-unfolding tablesFit limitsOf
+unfolding limitsOf
 within-fit l t slots e =
-    let a = left (leb (length (t .functions)) (l .functions) && leb (length (t .symbols)) (l .symbols) && leb (length (t .strings)) (l .strings) && leb (length (t .classes)) (l .classes)) _ e in
-    let b = left (leb (length (t .functions)) (l .functions) && leb (length (t .symbols)) (l .symbols) && leb (length (t .strings)) (l .strings)) _ a in
-    let c = left (leb (length (t .functions)) (l .functions) && leb (length (t .symbols)) (l .symbols)) _ b in
-    let d : instructions (t .functions) ≤ l .instructions =
-    at-most _ _ (right (leb (length (t .functions)) (l .functions) && leb (length (t .symbols)) (l .symbols) && leb (length (t .strings)) (l .strings) && leb (length (t .classes)) (l .classes)) _ e) in
-    record {
-      functions = at-most _ _ (left (leb (length (t .functions)) (l .functions)) _ c);
-      symbols = at-most _ _ (right (leb (length (t .functions)) (l .functions)) _ c);
-      strings = at-most _ _ (right (leb (length (t .functions)) (l .functions) && leb (length (t .symbols)) (l .symbols)) _ b);
-      classes = at-most _ _ (right (leb (length (t .functions)) (l .functions) && leb (length (t .symbols)) (l .symbols) && leb (length (t .strings)) (l .strings)) _ a);
-      instructions = omega (arith, d);
-      slots = slots;
-    }
+    let L = within (limitsOf l) t e in
+    record { functions = L .functions; symbols = L .symbols; strings = L .strings; classes = L .classes; instructions = omega (arith, L .instructions); slots = slots }
 
 -- tables that are not within the limits, though each function has at most 255 slots
 tables-over : (l : Limits) (t : Tables) → slotsFit t ≡ true → (Within l (record { stack = []; tables = t }) → ⊥) → tablesFit (limitsOf l) t ≡ false
@@ -154,36 +144,47 @@ module _ (tree made code tables k out : List ℕ) (room size : ℕ) (c : Counts)
   room-writes h w out′ W = writes (fitsRoom room bytes) bytes w out out′ (room-enough room bytes (omega (arith, size-is)))
       (W .count ∙ ap (λ (x : Counts). length (moduleBytes (tablesOf tree made code tables x))) e) (W .out ∙ ap (λ (x : Counts). written (moduleBytes (tablesOf tree made code tables x)) out) e)
 
+-- ---- the limits of a set, as the code has them
+
+module _ (s : Set) (l : List ℕ) (e : l ≡ asNumbers (limitsFor s)) where
+  pub set-limited : Limited (limitsIn l)
+  unfolding office
+  set-limited =
+      let u = setsUnder (setNumber s) in
+      rw e (record { functions = u .functions; symbols = u .symbols; strings = u .strings; classes = u .classes; instructions = u .instructions })
+
+  set-is : limitsOf (limitsIn l) ≡ limitsFor s
+  unfolding limitsOf
+  set-is = rw e
+
 -- ---- the whole call
 
-abbrev pub officeLimits : Limits
-officeLimits = record { functions = 256; symbols = 1024; strings = 512; classes = 64; instructions = 8192 }
+module _ (s : Set) (tree area₁ area₂ out : List ℕ) where
+  abbrev whole : Lowering
+  whole = lowerCall (limitsFor s) tree area₁ area₂ out
 
-pub office-limited : Limited officeLimits
-office-limited = record { functions = omega arith; symbols = omega arith; strings = omega arith; classes = omega arith; instructions = omega arith }
-
-module _ (tree area₁ area₂ out : List ℕ) where
-  areas-no : (areasFit (length area₁) (length area₂) ≡ false) → Lowers (Refused 1) area₁ area₂ out (lowerCall office tree area₁ area₂ out)
+  areas-no : (areasFit (length area₁) (length area₂) ≡ false) → Lowers (Refused 1) area₁ area₂ out whole
   unfolding lowerCall areaAfter
   areas-no e =
-      let a = refuses (lowerAnswer office (length area₁) (length area₂) (length out) tree) 1 out (answer-areas office (length area₁) (length area₂) (length out) tree e) in
+      let a = refuses (lowerAnswer (limitsFor s) (length area₁) (length area₂) (length out) tree) 1 out (answer-areas (limitsFor s) (length area₁) (length area₂) (length out) tree e) in
       record { answer = a .answer; first = rw (e, areaAfter) refl; second = rw (e, areaAfter) refl; output = a .output }
 
-  pub lowers-first : length area₁ < 16384 → Lowers (Refused 1) area₁ area₂ out (lowerCall office tree area₁ area₂ out)
+  pub lowers-first : length area₁ < 16384 → Lowers (Refused 1) area₁ area₂ out whole
   unfolding areasFit
   lowers-first h = areas-no (rw (lt-leb 16384 (length area₁) h) refl)
 
-  pub lowers-second : 16384 ≤ length area₁ → length area₂ < 16384 → Lowers (Refused 1) area₁ area₂ out (lowerCall office tree area₁ area₂ out)
+  pub lowers-second : 16384 ≤ length area₁ → length area₂ < 16384 → Lowers (Refused 1) area₁ area₂ out whole
   unfolding areasFit
   lowers-second g h = areas-no (rw (le-leb 16384 (length area₁) g) (lt-leb 16384 (length area₂) h))
 
-  pub lowers-all : 16384 ≤ length area₁ → 16384 ≤ length area₂ → (r : Lowered) (out′ mid₁ mid₂ end₁ end₂ : List ℕ)
-      → Answers r (lowerAnswer (limitsOf officeLimits) (length area₁) (length area₂) (length out) tree) out out′
+  pub lowers-all : (l : List ℕ) → l ≡ asNumbers (limitsFor s) → 16384 ≤ length area₁ → 16384 ≤ length area₂ → (r : Lowered) (out′ mid₁ mid₂ end₁ end₂ : List ℕ)
+      → Answers r (lowerAnswer (limitsOf (limitsIn l)) (length area₁) (length area₂) (length out) tree) out out′
       → length mid₁ ≡ length area₁ → length mid₂ ≡ length area₂ → end₁ ≡ zeros mid₁ → end₂ ≡ zeros mid₂
-      → Lowers r end₁ end₂ out′ (lowerCall office tree area₁ area₂ out)
-  unfolding lowerCall areaAfter limitsOf office zeros
-  lowers-all g h r out′ mid₁ mid₂ end₁ end₂ A p q x y =
+      → Lowers r end₁ end₂ out′ whole
+  unfolding lowerCall areaAfter zeros
+  lowers-all l n g h r out′ mid₁ mid₂ end₁ end₂ B p q x y =
       let e = areas-fit (length area₁) (length area₂) g h in
+      let A = subst (λ (k : DefinedLimits). Answers r (lowerAnswer k (length area₁) (length area₂) (length out) tree) out out′) (set-is s l n) B in
       record {
         answer = A .answer;
         first = rw (e, areaAfter) (x ∙ ap (λ (n : ℕ). replicate {A = ℕ} n 0) p);

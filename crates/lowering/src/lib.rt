@@ -3,18 +3,21 @@ use areas::clear;
 use compile::compile;
 use compile::counts;
 use fits::statements::check_slots;
+use limits::Limits;
+use limits::limit_numbers;
 use module::module_size;
 use module::write_module;
 use tree::Checked;
 use tree::check_tree;
 ghost use Prim.Native.Nat.{_≤_};
 ghost use lib.ListN.{length};
-ghost use Rattle.definitions.specs.Module.{office, moduleBytes};
+ghost use Rattle.definitions.specs.Module.{moduleBytes};
 ghost use Rattle.definitions.specs.Calls.{fitsRoom, lowerAnswer, lowerCall};
 ghost use Rattle.tree.specs.StmtAt.{TreeAt};
 ghost use Rattle.state.specs.State.{tablesOf, limitsOf, Limited};
 ghost use Rattle.module.specs.Sections.{Roomy};
 ghost use Rattle.lower_emit.specs.Numbers.{countsOf, limitsIn};
+ghost use Rattle.limits.specs.Sets.{limitsFor};
 ghost use Rattle.lowering.specs.Lowered.{Answers, Lowers};
 
 // How many bytes of the output are the module; or the number of the first question answered no.
@@ -86,9 +89,16 @@ fn lower_into(
     lower_checked(tree, code, tables, out, l)
 }
 
-// The module of a tree, from the output's first byte on. Both work areas are zero afterwards, but after refusal 1, which leaves them.
-pub fn lower(tree: &[u8], area1: &mut [u32], area2: &mut [u32], out: &mut [u8]) -> Lowered
-    ensures { λ r. ⌜ Lowers r (now (area1 .exit)) (now (area2 .exit)) (now (out .exit)) (lowerCall office (now (tree .entry)) (now (area1 .entry)) (now (area2 .entry)) (now (out .entry))) ⌝ }
+// The module of a tree within a set of limits, from the output's first byte on. Both work areas are zero afterwards, but after refusal 1, which leaves
+// them.
+pub fn lower(
+    tree: &[u8],
+    limits: Limits,
+    area1: &mut [u32],
+    area2: &mut [u32],
+    out: &mut [u8],
+) -> Lowered
+    ensures { λ r. ⌜ Lowers r (now (area1 .exit)) (now (area2 .exit)) (now (out .exit)) (lowerCall (limitsFor limits) (now (tree .entry)) (now (area1 .entry)) (now (area2 .entry)) (now (out .entry))) ⌝ }
 {
     if area1.len() < 16384 {
         return Lowered::Refused(1);
@@ -96,7 +106,7 @@ pub fn lower(tree: &[u8], area1: &mut [u32], area2: &mut [u32], out: &mut [u8]) 
     if area2.len() < 16384 {
         return Lowered::Refused(1);
     }
-    let l = [256u32, 1024, 512, 64, 8192];
+    let l = limit_numbers(limits);
     let r = lower_into(tree, area1, area2, out, &l);
     clear(area1);
     clear(area2);

@@ -5,18 +5,20 @@
 //! answered no:
 //!
 //! ```
+//! use rulketoos::Limits;
+//!
 //! // `a = None`
 //! let tree = [0, 0, 0, 8, 1, 0, 1, 5, 6, 1, b'a', 0];
-//! let module = rulketoos::lower_to_vec(&tree)?;
+//! let module = rulketoos::lower_to_vec(&tree, Limits::Office)?;
 //! rulketoos::read(&module)?;
 //! // None, StoreGlobal 1, Return
 //! assert_eq!(rulketoos::code(&module, 0)?, [5, 12, 0, 1, 33]);
 //! # Ok::<(), rulketoos::Refusal>(())
 //! ```
 //!
-//! [`lower`] does the same without allocating, in buffers of the caller; [`check`] asks a tree's own questions only; [`run`] runs a function of a
-//! module on yes and no answers; [`list`] writes the listing of a module's code, [`count_sheet`] its count sheet;
-//! [`reach`] gives answers that bring a run to a place.
+//! [`Limits`] says how large a module may be. [`lower`] does the same without allocating, in buffers of the caller;
+//! [`check`] asks a tree's own questions only; [`run`] runs a function of a module on yes and no answers; [`list`] writes
+//! the listing of a module's code, [`count_sheet`] its count sheet; [`reach`] gives answers that bring a run to a place.
 //!
 //! No call keeps anything, and none shares anything with another, so calls may be made from several threads. They work on their thread's stack; the
 //! usual 2 MB are enough (the run takes the most, about 600 KB).
@@ -35,4 +37,4 @@ pub use modules::{code, read, run, Ending, Run};
 pub use reach::{reach, reach_to_vec, REACH_AREA};
 pub use refusal::{NoSuchQuestion, Refusal};
 pub use texts::{count_sheet, count_sheet_to_string, list, list_to_string};
-pub use trees::{check, lower, lower_to_vec, Areas, AREA, MODULE_ROOM};
+pub use trees::{check, lower, lower_to_vec, Areas, Limits, AREA, MODULE_ROOM};

@@ -4,6 +4,7 @@ unsafe extern "C" {
     pub fn rulketoos_lower(
         tree: *const u8,
         tree_len: usize,
+        limits: u32,
         area1: *mut u32,
         area1_len: usize,
         area2: *mut u32,

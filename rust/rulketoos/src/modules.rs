@@ -6,9 +6,9 @@ use crate::refusal::{accepted, refusal, Refusal};
 /// Reads a module record: questions 17 to 21.
 ///
 /// ```
-/// use rulketoos::Refusal;
+/// use rulketoos::{Limits, Refusal};
 ///
-/// let mut module = rulketoos::lower_to_vec(&[0, 0, 0, 3, 1, 0, 0])?;
+/// let mut module = rulketoos::lower_to_vec(&[0, 0, 0, 3, 1, 0, 0], Limits::Office)?;
 /// assert_eq!(rulketoos::read(&module), Ok(()));
 /// module[4] = 2;
 /// assert_eq!(rulketoos::read(&module), Err(Refusal::ModuleVersion));
@@ -26,9 +26,9 @@ pub fn read(module: &[u8]) -> Result<(), Refusal> {
 /// The code of one function: a part of the module's bytes. Asks questions 17 to 22; function 0 is main.
 ///
 /// ```
-/// use rulketoos::Refusal;
+/// use rulketoos::{Limits, Refusal};
 ///
-/// let module = rulketoos::lower_to_vec(&[0, 0, 0, 3, 1, 0, 0])?;
+/// let module = rulketoos::lower_to_vec(&[0, 0, 0, 3, 1, 0, 0], Limits::Office)?;
 /// assert_eq!(rulketoos::code(&module, 0), Ok([33].as_slice())); // Return
 /// assert_eq!(rulketoos::code(&module, 1), Err(Refusal::NoSuchFunction));
 /// # Ok::<(), Refusal>(())
@@ -95,11 +95,11 @@ pub struct Run<'e> {
 /// event has at most 9 bytes, so 9 times the budget is always room enough.
 ///
 /// ```
-/// use rulketoos::Ending;
+/// use rulketoos::{Ending, Limits};
 ///
 /// // `while True: pass`
 /// let tree = [0, 0, 0, 8, 1, 0, 1, 7, 2, 0, 1, 2];
-/// let module = rulketoos::lower_to_vec(&tree)?;
+/// let module = rulketoos::lower_to_vec(&tree, Limits::Office)?;
 /// let mut events = [0; 90];
 /// let run = rulketoos::run(&module, 0, &[1, 0], 10, &mut events)?;
 /// assert_eq!(run.ending, Ending::Returned);

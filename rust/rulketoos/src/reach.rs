@@ -26,7 +26,7 @@ const MOST_QUESTIONS: usize = 65_534;
 /// use rulketoos::{Refusal, REACH_AREA};
 ///
 /// // `while True: pass` is True, JumpIfFalse 1, Jump -3, Return
-/// let module = rulketoos::lower_to_vec(&[0, 0, 0, 8, 1, 0, 1, 7, 2, 0, 1, 2])?;
+/// let module = rulketoos::lower_to_vec(&[0, 0, 0, 8, 1, 0, 1, 7, 2, 0, 1, 2], rulketoos::Limits::Office)?;
 /// let mut area = vec![0; REACH_AREA];
 /// let mut answers = [9; 4];
 /// assert_eq!(rulketoos::reach(&module, 0, 0, &mut area, &mut answers)?, Some([].as_slice()));
@@ -73,7 +73,7 @@ pub fn reach<'a>(
 /// ```
 /// // `if a: pass` and `b`: LoadGlobal, JumpIfFalse 1, Jump 0, LoadGlobal, Pop, Return
 /// let tree = b"\0\0\0\x11\x01\0\x02\x06\x06\x01a\0\x01\x02\0\0\0\x03\x06\x01b";
-/// let module = rulketoos::lower_to_vec(tree)?;
+/// let module = rulketoos::lower_to_vec(tree, rulketoos::Limits::Office)?;
 /// assert_eq!(rulketoos::reach_to_vec(&module, 0, 0)?, Some(vec![]));
 /// assert_eq!(rulketoos::reach_to_vec(&module, 0, 2)?, Some(vec![1]));
 /// // code behind the last Return of a module that wasn't lowered: none

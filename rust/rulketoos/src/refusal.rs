@@ -48,7 +48,7 @@ pub enum Refusal {
     ListTooLong = 13,
     /// 14: a function has more than 255 slots.
     TooManySlots = 14,
-    /// 15: there are more functions, symbols, strings, classes or instructions than a module may have.
+    /// 15: there are more functions, symbols, strings, classes or instructions than the [`Limits`](crate::Limits) allow.
     ModuleTooLarge = 15,
     /// 16: the module doesn't fit the output.
     OutputTooShort = 16,
@@ -119,7 +119,7 @@ const QUESTIONS: [(Refusal, &str); 29] = [
     ),
     (
         Refusal::ModuleTooLarge,
-        "are there at most 256 functions, 1,024 symbols, 512 strings, 64 classes, 8,192 instructions in all?",
+        "are there at most 256 functions, 1,024 symbols, 512 strings, 64 classes, 8,192 instructions in all (at the console 64, 256, 512, 64, 2,048)?",
     ),
     (Refusal::OutputTooShort, "does the module fit the output?"),
     (

@@ -23,7 +23,7 @@ const FUNCTION: usize = 8;
 /// ```
 /// use rulketoos::Refusal;
 ///
-/// let module = rulketoos::lower_to_vec(&[0, 0, 0, 3, 1, 0, 0])?;
+/// let module = rulketoos::lower_to_vec(&[0, 0, 0, 3, 1, 0, 0], rulketoos::Limits::Office)?;
 /// let mut out = [b'.'; 110];
 /// assert_eq!(rulketoos::list(&module, &mut out), Ok(106));
 /// let page = b"PAGE      1                                         \n";
@@ -49,7 +49,7 @@ pub fn list(module: &[u8], out: &mut [u8]) -> Result<usize, Refusal> {
 /// ```
 /// // `a = -1`
 /// let tree = [0, 0, 0, 18, 1, 0, 1, 5, 6, 1, b'a', 7, 1, 3, 0, 0, 0, 0, 0, 0, 0, 1];
-/// let listing = rulketoos::list_to_string(&rulketoos::lower_to_vec(&tree)?)?;
+/// let listing = rulketoos::list_to_string(&rulketoos::lower_to_vec(&tree, rulketoos::Limits::Office)?)?;
 /// let lines: Vec<&str> = listing.lines().map(str::trim_end).collect();
 /// assert_eq!(lines[0], "PAGE      1");
 /// assert_eq!(lines[1], "    0     0 ConstI64                           1");
@@ -77,7 +77,7 @@ pub fn list_to_string(module: &[u8]) -> Result<String, Refusal> {
 /// ```
 /// use rulketoos::Refusal;
 ///
-/// let module = rulketoos::lower_to_vec(&[0, 0, 0, 3, 1, 0, 0])?;
+/// let module = rulketoos::lower_to_vec(&[0, 0, 0, 3, 1, 0, 0], rulketoos::Limits::Office)?;
 /// let mut out = [b'.'; 85];
 /// assert_eq!(rulketoos::count_sheet(&module, &mut out), Ok(82));
 /// let main = b"    0      1      0      0              \n";
@@ -103,7 +103,7 @@ pub fn count_sheet(module: &[u8], out: &mut [u8]) -> Result<usize, Refusal> {
 /// ```
 /// // `print(a and b)`: LoadGlobal, JumpIfFalse, LoadGlobal, Jump, False, CallBuiltin, Pop, Return
 /// let tree = b"\0\0\0\x16\x01\0\x01\x03\x09\x06\x05print\0\x01\x08\x0c\x06\x01a\x06\x01b";
-/// let sheet = rulketoos::count_sheet_to_string(&rulketoos::lower_to_vec(tree)?)?;
+/// let sheet = rulketoos::count_sheet_to_string(&rulketoos::lower_to_vec(tree, rulketoos::Limits::Office)?)?;
 /// let lines: Vec<&str> = sheet.lines().map(str::trim_end).collect();
 /// assert_eq!(lines, ["    0      8      1      1", "TOTAL      8      1      1"]);
 /// # Ok::<(), rulketoos::Refusal>(())

@@ -9,6 +9,47 @@ pub const AREA: usize = 16_384;
 /// Room for the module of every tree that is accepted. It holds 1,024 symbols of 64 bytes, 8,192 instructions of 9, the strings of a whole tree and all functions and classes.
 pub const MODULE_ROOM: usize = 262_144;
 
+/// A set of limits: how much question 15 lets a module have.
+///
+/// With the same lengths of areas and output, what the console takes gives the office the very same bytes. What the office refuses the console refuses: by the same question, or by 15 where the office says 16.
+///
+/// ```
+/// use rulketoos::{Limits, Refusal};
+///
+/// // `def f(): ..` 64 times: with main 65 functions
+/// let mut tree = vec![0, 0, 1, 195, 1, 0, 64];
+/// tree.extend([9, 1, b'f', 0, 0, 0, 0].repeat(64));
+/// assert!(rulketoos::lower_to_vec(&tree, Limits::Office).is_ok());
+/// assert_eq!(rulketoos::lower_to_vec(&tree, Limits::Console), Err(Refusal::ModuleTooLarge));
+/// ```
+#[derive(Debug, Clone, Copy, PartialEq, Eq, Hash, Default)]
+#[repr(u8)]
+pub enum Limits {
+    /// 0, the office's: 256 functions, 1,024 symbols, 512 strings, 64 classes, 8,192 instructions.
+    #[default]
+    Office = 0,
+    /// 1, those of the console at the casing-in machine: 64 functions, 256 symbols, 512 strings, 64 classes, 2,048 instructions.
+    Console = 1,
+}
+
+impl Limits {
+    /// The number of the set, 0 or 1.
+    #[must_use]
+    pub fn number(self) -> u32 {
+        self as u32
+    }
+}
+
+impl From<u32> for Limits {
+    /// The set that a number names: 0 is the office, every other number the console.
+    fn from(number: u32) -> Limits {
+        match number {
+            0 => Limits::Office,
+            _ => Limits::Console,
+        }
+    }
+}
+
 /// The two work areas of the lowering. Make them once and lend them to every call; what is in them doesn't matter.
 ///
 /// Both are all zero after every call but one refused with [`Refusal::AreasTooShort`], which leaves them.
@@ -39,12 +80,14 @@ impl Default for Areas {
 
 /// Lowers a tree record: the module record goes to `out` from its start, and the answer is how many bytes it has. The rest of `out` is left as it was, and after a refusal all of it.
 ///
-/// Asks questions 1 to 16 and 33. Nothing is allocated.
+/// Asks questions 1 to 16 and 33, 15 by the limits that are given. Nothing is allocated.
 ///
 /// ```
+/// use rulketoos::Limits;
+///
 /// let mut areas = rulketoos::Areas::new();
 /// let mut out = [9; 40];
-/// let count = rulketoos::lower(&[0, 0, 0, 3, 1, 0, 0], &mut areas, &mut out)?;
+/// let count = rulketoos::lower(&[0, 0, 0, 3, 1, 0, 0], Limits::Office, &mut areas, &mut out)?;
 /// assert_eq!(count, 32);
 /// assert_eq!(&out[..count], b"\0\0\0\x1c\x01\0\x01\x08__main__\0\0\0\x01\0\0\0\0\0\0\x01\x21\0\0\0\0");
 /// assert_eq!(out[count..], [9; 8]);
@@ -54,13 +97,19 @@ impl Default for Areas {
 /// # Errors
 ///
 /// The first question that is answered no.
-pub fn lower(tree: &[u8], areas: &mut Areas, out: &mut [u8]) -> Result<usize, Refusal> {
+pub fn lower(
+    tree: &[u8],
+    limits: Limits,
+    areas: &mut Areas,
+    out: &mut [u8],
+) -> Result<usize, Refusal> {
     let (first, second) = (&mut areas.first, &mut areas.second);
     // SAFETY: each pointer and length are a live slice's; the three that are written to are lent here alone, so none overlap.
     let told = unsafe {
         library::rulketoos_lower(
             tree.as_ptr(),
             tree.len(),
+            limits.number(),
             first.as_mut_ptr(),
             first.len(),
             second.as_mut_ptr(),
@@ -77,7 +126,9 @@ pub fn lower(tree: &[u8], areas: &mut Areas, out: &mut [u8]) -> Result<usize, Re
 /// Asks questions 2 to 15 and 33: there is always room. Where many trees are lowered, [`lower`] saves making the areas and the output each time.
 ///
 /// ```
-/// let module = rulketoos::lower_to_vec(&[0, 0, 0, 3, 1, 0, 0])?;
+/// use rulketoos::Limits;
+///
+/// let module = rulketoos::lower_to_vec(&[0, 0, 0, 3, 1, 0, 0], Limits::Console)?;
 /// assert_eq!(module.len(), 32);
 /// assert_eq!(rulketoos::read(&module), Ok(()));
 /// # Ok::<(), rulketoos::Refusal>(())
@@ -86,9 +137,9 @@ pub fn lower(tree: &[u8], areas: &mut Areas, out: &mut [u8]) -> Result<usize, Re
 /// # Errors
 ///
 /// The first question that is answered no.
-pub fn lower_to_vec(tree: &[u8]) -> Result<Vec<u8>, Refusal> {
+pub fn lower_to_vec(tree: &[u8], limits: Limits) -> Result<Vec<u8>, Refusal> {
     let mut module = vec![0; MODULE_ROOM];
-    let count = lower(tree, &mut Areas::new(), &mut module)?;
+    let count = lower(tree, limits, &mut Areas::new(), &mut module)?;
     module.truncate(count);
     module.shrink_to_fit();
     Ok(module)

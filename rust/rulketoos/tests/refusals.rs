@@ -1,6 +1,6 @@
 //! Refusals and their numbers, and what each call leaves of what it is lent.
 
-use rulketoos::{Areas, Ending, NoSuchQuestion, Refusal, AREA, REACH_AREA};
+use rulketoos::{Areas, Ending, Limits, NoSuchQuestion, Refusal, AREA, REACH_AREA};
 
 const EMPTY: [u8; 7] = [0, 0, 0, 3, 1, 0, 0];
 
@@ -56,7 +56,10 @@ fn names_of_iterators() {
     for (string, name, answer) in refusals {
         let tree = named(string, &name);
         assert_eq!(rulketoos::check(&tree), answer);
-        assert_eq!(rulketoos::lower_to_vec(&tree).map(|_| ()), answer);
+        assert_eq!(
+            rulketoos::lower_to_vec(&tree, Limits::Office).map(|_| ()),
+            answer
+        );
     }
 }
 
@@ -72,7 +75,8 @@ fn strings_are_utf8() {
         "🗞\u{10ffff}",
     ];
     for string in good {
-        let module = rulketoos::lower_to_vec(&named(string.as_bytes(), b"a")).expect(string);
+        let module =
+            rulketoos::lower_to_vec(&named(string.as_bytes(), b"a"), Limits::Office).expect(string);
         assert_eq!(rulketoos::read(&module), Ok(()));
         let found = |bytes: &[u8]| module.windows(bytes.len().max(1)).any(|part| part == bytes);
         assert!(string.is_empty() || found(string.as_bytes()));
@@ -89,9 +93,13 @@ fn strings_are_utf8() {
     for string in bad {
         let tree = named(string, b"a");
         assert_eq!(rulketoos::check(&tree), Err(Refusal::BadString));
-        assert_eq!(rulketoos::lower_to_vec(&tree), Err(Refusal::BadString));
+        assert_eq!(
+            rulketoos::lower_to_vec(&tree, Limits::Office),
+            Err(Refusal::BadString)
+        );
         let ascii = vec![b'x'; string.len()];
-        let mut module = rulketoos::lower_to_vec(&named(&ascii, b"a")).expect("accepted");
+        let mut module =
+            rulketoos::lower_to_vec(&named(&ascii, b"a"), Limits::Office).expect("accepted");
         let place = module.windows(ascii.len()).position(|part| part == ascii);
         let place = place.expect("the string");
         module[place..place + string.len()].copy_from_slice(string);
@@ -109,7 +117,7 @@ fn short_areas_are_left_as_they_were() {
         let before = areas.clone();
         let mut out = [9; 64];
         assert_eq!(
-            rulketoos::lower(&EMPTY, &mut areas, &mut out),
+            rulketoos::lower(&EMPTY, Limits::Office, &mut areas, &mut out),
             Err(Refusal::AreasTooShort)
         );
         assert_eq!((areas, out), (before, [9; 64]));
@@ -121,20 +129,73 @@ fn the_output_is_written_or_left() {
     let mut areas = Areas::default();
     let mut short = [9; 31];
     assert_eq!(
-        rulketoos::lower(&EMPTY, &mut areas, &mut short),
+        rulketoos::lower(&EMPTY, Limits::Office, &mut areas, &mut short),
         Err(Refusal::OutputTooShort)
     );
     assert_eq!(short, [9; 31]);
     let mut exact = [9; 32];
-    assert_eq!(rulketoos::lower(&EMPTY, &mut areas, &mut exact), Ok(32));
-    assert_eq!(rulketoos::lower_to_vec(&EMPTY), Ok(exact.to_vec()));
+    assert_eq!(
+        rulketoos::lower(&EMPTY, Limits::Office, &mut areas, &mut exact),
+        Ok(32)
+    );
+    assert_eq!(
+        rulketoos::lower_to_vec(&EMPTY, Limits::Office),
+        Ok(exact.to_vec())
+    );
     assert_eq!(areas, Areas::new());
+}
+
+/// The tree of so many statements, all these bytes.
+fn repeated(stmt: &[u8], count: u16) -> Vec<u8> {
+    let mut rest = vec![1];
+    rest.extend(count.to_be_bytes());
+    rest.extend(stmt.repeat(count.into()));
+    let mut tree = (rest.len() as u32).to_be_bytes().to_vec();
+    tree.extend(rest);
+    tree
+}
+
+#[test]
+fn limits_of_office_and_console() {
+    let def: &[u8] = &[9, 1, b'f', 0, 0, 0, 0];
+    let class: &[u8] = &[10, 1, b'A', 0, 0, 0, 0];
+    let none: &[u8] = &[3, 0]; // two instructions
+    for (stmt, office, console) in [(def, 255, 63), (class, 64, 64), (none, 4095, 1023)] {
+        let mut areas = Areas::new();
+        let mut out = vec![9; 65_536];
+        for (limits, most) in [(Limits::Office, office), (Limits::Console, console)] {
+            let mut lower = |count| {
+                let tree = repeated(stmt, count);
+                let answer = rulketoos::lower(&tree, limits, &mut areas, &mut out);
+                answer.map(|count| out[..count].to_vec())
+            };
+            let whole = lower(most).expect("as many as are allowed");
+            assert_eq!(lower(most + 1), Err(Refusal::ModuleTooLarge));
+            let tree = repeated(stmt, most);
+            assert_eq!(rulketoos::lower_to_vec(&tree, Limits::Office), Ok(whole));
+        }
+    }
+    assert_eq!(
+        [Limits::Office, Limits::Console].map(Limits::number),
+        [0, 1]
+    );
+    assert_eq!(
+        [0, 1, 2, u32::MAX].map(Limits::from)[1..],
+        [Limits::Console; 3]
+    );
+    assert_eq!(
+        (Limits::from(0), Limits::default()),
+        (Limits::Office, Limits::Office)
+    );
 }
 
 #[test]
 fn empty_slices_are_read() {
     assert_eq!(rulketoos::check(&[]), Err(Refusal::TreeHeader));
-    assert_eq!(rulketoos::lower_to_vec(&[]), Err(Refusal::TreeHeader));
+    assert_eq!(
+        rulketoos::lower_to_vec(&[], Limits::Office),
+        Err(Refusal::TreeHeader)
+    );
     assert_eq!(rulketoos::read(&[]), Err(Refusal::ModuleHeader));
     assert_eq!(rulketoos::code(&[], 0), Err(Refusal::ModuleHeader));
     let run = rulketoos::run(&[], 0, &[], 0, &mut []);
@@ -154,7 +215,7 @@ fn empty_slices_are_read() {
 /// A text fits a buffer of just its length; a shorter one is left as it was.
 #[test]
 fn texts_are_written_or_left() {
-    let module = rulketoos::lower_to_vec(&EMPTY).expect("accepted");
+    let module = rulketoos::lower_to_vec(&EMPTY, Limits::Office).expect("accepted");
     type Write = fn(&[u8], &mut [u8]) -> Result<usize, Refusal>;
     let texts: [(_, Write, _); 2] = [
         (
@@ -197,7 +258,7 @@ fn a_module_without_functions() {
 fn endings() {
     // `while True: pass`
     let tree = [0, 0, 0, 8, 1, 0, 1, 7, 2, 0, 1, 2];
-    let module = rulketoos::lower_to_vec(&tree).expect("accepted");
+    let module = rulketoos::lower_to_vec(&tree, Limits::Office).expect("accepted");
     let ended = |answers: &[u8], budget| {
         let mut events = [0; 90];
         let run = rulketoos::run(&module, 0, answers, budget, &mut events);
@@ -219,7 +280,7 @@ fn endings() {
 fn reaching_a_place() {
     // `while True: pass`: True, JumpIfFalse 1, Jump -3, Return
     let tree = [0, 0, 0, 8, 1, 0, 1, 7, 2, 0, 1, 2];
-    let module = rulketoos::lower_to_vec(&tree).expect("accepted");
+    let module = rulketoos::lower_to_vec(&tree, Limits::Office).expect("accepted");
     let reached = |function, place, area: usize, room: usize| {
         let (mut area, mut answers) = (vec![7; area], vec![9; room]);
         let found = rulketoos::reach(&module, function, place, &mut area, &mut answers);

@@ -4,7 +4,7 @@
 use crate::{line, sample};
 use generator::limits::many_names;
 use generator::{make, slow};
-use rulketoos::{Areas, Refusal, MODULE_ROOM};
+use rulketoos::{Areas, Limits, Refusal, MODULE_ROOM};
 use std::hint::black_box;
 use std::time::{Duration, Instant};
 
@@ -40,8 +40,12 @@ impl Buffers {
         }
     }
 
+    fn lower_by(&mut self, limits: Limits, tree: &[u8]) -> Result<usize, Refusal> {
+        rulketoos::lower(black_box(tree), limits, &mut self.areas, &mut self.out)
+    }
+
     fn lower(&mut self, tree: &[u8]) -> Result<usize, Refusal> {
-        rulketoos::lower(black_box(tree), &mut self.areas, &mut self.out)
+        self.lower_by(Limits::Office, tree)
     }
 
     fn best(&mut self, tree: &[u8]) -> Duration {
@@ -91,9 +95,10 @@ fn nones(count: usize) -> Vec<u8> {
     make::tree(&[make::assign(make::tuple(&[]), list)])
 }
 
-fn symbols() -> Vec<u8> {
+/// So many symbols besides `__main__`.
+fn symbols(count: usize) -> Vec<u8> {
     let one = |n: String| make::expr(make::var(&n));
-    make::tree(&many_names(1_023).into_iter().map(one).collect::<Vec<_>>())
+    make::tree(&many_names(count).into_iter().map(one).collect::<Vec<_>>())
 }
 
 /// 255 defs, and 3,100 calls of the last.
@@ -120,7 +125,7 @@ fn cases() -> Vec<(&'static str, Vec<u8>)> {
         ("a def of 1,600 assignments to 250 names", assignments(250)),
         ("a def of 1,000 pairs unpacked to 250 names", pairs(250)),
         ("a list of 8,190 None", nones(8_190)),
-        ("1,024 symbols", symbols()),
+        ("1,024 symbols", symbols(1_023)),
         ("255 defs, 3,100 calls of the last", calls_of_the_last()),
     ]
 }
@@ -132,6 +137,14 @@ pub fn beside_the_rust() {
     for (what, tree) in cases() {
         assert!(buffers.lower(&tree).is_ok(), "{what} is accepted");
         line(what, buffers.best(&tree), best_compile(&tree));
+    }
+    for (what, tree) in [
+        ("a script of 20 lines, at the console", sample("casing")),
+        ("256 symbols, at the console", symbols(255)),
+    ] {
+        let mut call = || buffers.lower_by(Limits::Console, &tree);
+        assert!(call().is_ok(), "{what} is accepted");
+        line(what, best_call(call), best_compile(&tree));
     }
 }
 

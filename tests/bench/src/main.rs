@@ -162,7 +162,7 @@ fn readers() {
     let cases = [
         (
             "the module of that script",
-            model::lower(&script(), 16_384, 16_384, 65_536).expect("accepted"),
+            model::lower(&script(), model::OFFICE, 16_384, 16_384, 65_536).expect("accepted"),
         ),
         (
             "458,827 bytes, nearly all of them code",

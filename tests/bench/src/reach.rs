@@ -10,7 +10,7 @@ use std::hint::black_box;
 /// The last place of a script's main, and of functions of the most
 /// instructions: with no question, and with a yes to each.
 fn cases() -> Vec<(String, Vec<u8>)> {
-    let lowered = rulketoos::lower_to_vec(&script()).expect("accepted");
+    let lowered = rulketoos::lower_to_vec(&script(), rulketoos::Limits::Office).expect("accepted");
     let mut cases = vec![("main of a script of 30 lines".to_string(), lowered)];
     for case in reaches::large() {
         let what = match case.name.as_str() {

@@ -8,7 +8,7 @@ use std::hint::black_box;
 
 /// The module of a script of 30 lines, and one near the longest.
 fn cases() -> [(&'static str, Vec<u8>); 2] {
-    let lowered = rulketoos::lower_to_vec(&script()).expect("accepted");
+    let lowered = rulketoos::lower_to_vec(&script(), rulketoos::Limits::Office).expect("accepted");
     [
         ("the module of a script of 30 lines", lowered),
         ("458,745 instructions", modules::full_of_code()),

@@ -5,6 +5,7 @@ pub mod reach;
 pub mod texts;
 
 use generator::{random, Rng};
+use model::OFFICE;
 use std::collections::BTreeMap;
 
 pub const AREA: usize = 16_384;
@@ -18,6 +19,8 @@ pub struct Tally {
     pub accepted: usize,
     /// How many each question refused.
     pub refused: BTreeMap<u8, usize>,
+    /// How many the console refuses and the office accepts.
+    pub console_refused: usize,
     pub walks: usize,
     /// How the walks ended: returned, no answer left.
     pub endings: [usize; 2],
@@ -49,7 +52,7 @@ pub fn hex(bytes: &[u8]) -> String {
 /// The model's module equals the Rust's after renumbering, the model's reader
 /// takes it, and renumbering twice is renumbering once.
 pub fn compare_lowering(tree: &[u8], tally: &mut Tally) -> Result<(), String> {
-    let module = match model::lower(tree, AREA, AREA, WIDE) {
+    let module = match model::lower(tree, OFFICE, AREA, AREA, WIDE) {
         Ok(module) => module,
         Err(number) => {
             tally.refuse(number);
@@ -77,7 +80,7 @@ pub fn compare_lowering(tree: &[u8], tally: &mut Tally) -> Result<(), String> {
 
 /// Run equals walk for every function, with random answers (demand 3).
 pub fn compare_walks(tree: &[u8], rng: &mut Rng, tally: &mut Tally) -> Result<(), String> {
-    let Ok(plan) = model::plan(tree) else {
+    let Ok(plan) = model::plan(tree, OFFICE) else {
         return Ok(());
     };
     let module = model::lowering::write(&plan, WIDE).map_err(|n| format!("write says {n}"))?;

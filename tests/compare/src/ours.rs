@@ -3,7 +3,8 @@
 
 use crate::{hex, Tally, AREA, WIDE};
 use generator::{damage, random, Rng};
-use rulketoos::{Areas, Refusal};
+use model::{CONSOLE, OFFICE};
+use rulketoos::{Areas, Limits, Refusal};
 
 /// What lies in areas and outputs before a call.
 const DIRT: u8 = 0xa5;
@@ -66,12 +67,13 @@ impl Lent {
     fn call(
         &mut self,
         tree: &[u8],
+        limits: Limits,
         areas: [usize; 2],
         room: usize,
         whole: &Result<Vec<u8>, u8>,
     ) -> Result<(), String> {
         self.soil(areas, room);
-        let ours = rulketoos::lower(tree, &mut self.areas, &mut self.out).map_err(number);
+        let ours = rulketoos::lower(tree, limits, &mut self.areas, &mut self.out).map_err(number);
         let expected = expected(whole, areas, room);
         let count = expected.map(<[u8]>::len);
         if ours != count {
@@ -94,7 +96,12 @@ impl Lent {
 
     /// Calls with areas just long enough, longer and too short, and with an
     /// output that is longer than the module, just full, and one short.
-    fn calls(&mut self, tree: &[u8], whole: &Result<Vec<u8>, u8>) -> Result<(), String> {
+    fn calls(
+        &mut self,
+        tree: &[u8],
+        limits: Limits,
+        whole: &Result<Vec<u8>, u8>,
+    ) -> Result<(), String> {
         let length = whole.as_ref().map_or(80, Vec::len);
         let short = if tree.len().is_multiple_of(2) {
             [AREA - 1, AREA]
@@ -107,8 +114,8 @@ impl Lent {
             ([AREA + 64, AREA], length - 1),
             (short, length),
         ] {
-            self.call(tree, areas, room, whole)
-                .map_err(|e| format!("areas {areas:?}, room {room}: {e}"))?;
+            self.call(tree, limits, areas, room, whole)
+                .map_err(|e| format!("{limits:?}, areas {areas:?}, room {room}: {e}"))?;
         }
         Ok(())
     }
@@ -122,7 +129,7 @@ impl Lent {
         rng: &mut Rng,
         tally: &mut Tally,
     ) -> Result<(), String> {
-        let plan = model::plan(tree).map_err(|n| format!("plan says {n}"))?;
+        let plan = model::plan(tree, OFFICE).map_err(|n| format!("plan says {n}"))?;
         let read = model::module::read(module).map_err(|n| format!("reader says {n}"))?;
         // Each run reads the whole module, so many functions have one list each.
         let lengths: &[usize] = if plan.functions.len() > 24 {
@@ -186,8 +193,11 @@ fn same_as_the_rust(tree: &[u8], module: &[u8]) -> Result<(), String> {
 }
 
 fn compare(tree: &[u8], lent: &mut Lent, rng: &mut Rng, tally: &mut Tally) -> Result<(), String> {
-    let whole = model::lower(tree, AREA, AREA, WIDE);
-    lent.calls(tree, &whole)?;
+    let whole = model::lower(tree, OFFICE, AREA, AREA, WIDE);
+    lent.calls(tree, Limits::Office, &whole)?;
+    let console = model::lower(tree, CONSOLE, AREA, AREA, WIDE);
+    lent.calls(tree, Limits::Console, &console)?;
+    tally.console_refused += usize::from(whole.is_ok() && console.is_err());
     let checked = rulketoos::check(tree).map_err(number);
     let asked = model::check(tree);
     if checked != asked {

@@ -96,7 +96,13 @@ pub fn random(rng: &mut Rng, count: usize, mut visit: impl FnMut(&[u8])) {
     for round in 0..count {
         let longest = if round % 8 == 0 { 130 } else { 12 };
         let made = modules::random_of(rng, longest).bytes();
-        let lowered = model::lower(&random::tree(rng), model::AREA, model::AREA, crate::WIDE);
+        let lowered = model::lower(
+            &random::tree(rng),
+            model::OFFICE,
+            model::AREA,
+            model::AREA,
+            crate::WIDE,
+        );
         for module in [Some(made), lowered.ok()].into_iter().flatten() {
             visit(&module);
             visit(&damage::damaged(rng, &module));

@@ -2,6 +2,7 @@
 
 use compare::{compare_lowering, compare_random, compare_walks, Tally, AREA, ROOM, WIDE};
 use generator::{limits, samples, Rng};
+use model::{CONSOLE, OFFICE};
 
 fn directed() -> Vec<samples::Case> {
     let mut cases = samples::starred();
@@ -45,16 +46,52 @@ fn directed_names_differ() {
 #[test]
 fn rooms_and_areas() {
     for case in samples::small() {
-        let Ok(module) = model::lower(&case.tree, AREA, AREA, WIDE) else {
+        let lower = |area1, area2, room| model::lower(&case.tree, OFFICE, area1, area2, room);
+        let Ok(module) = lower(AREA, AREA, WIDE) else {
             continue;
         };
         let length = module.len();
-        assert_eq!(model::lower(&case.tree, AREA, AREA, length), Ok(module));
-        assert_eq!(model::lower(&case.tree, AREA, AREA, length - 1), Err(16));
-        assert_eq!(model::lower(&case.tree, AREA - 1, AREA, length), Err(1));
-        assert_eq!(model::lower(&case.tree, AREA, AREA - 1, 0), Err(1));
-        assert_eq!(model::lower(&case.tree, AREA, AREA, 0), Err(16));
+        assert_eq!(lower(AREA, AREA, length), Ok(module));
+        assert_eq!(lower(AREA, AREA, length - 1), Err(16));
+        assert_eq!(lower(AREA - 1, AREA, length), Err(1));
+        assert_eq!(lower(AREA, AREA - 1, 0), Err(1));
+        assert_eq!(lower(AREA, AREA, 0), Err(16));
     }
-    assert_eq!(model::lower(&[], 0, 0, 0), Err(1));
-    assert_eq!(model::lower(&[], AREA, AREA, ROOM), Err(3));
+    assert_eq!(model::lower(&[], OFFICE, 0, 0, 0), Err(1));
+    assert_eq!(model::lower(&[], OFFICE, AREA, AREA, ROOM), Err(3));
+}
+
+/// What the console takes the office takes, with the same bytes; the console's
+/// refusal is the office's, or 15 where the office accepts or says 16.
+#[test]
+fn console_and_office() {
+    let mut over = 0;
+    for case in directed() {
+        for room in [100, WIDE] {
+            let office = model::lower(&case.tree, OFFICE, AREA, AREA, room);
+            let console = model::lower(&case.tree, CONSOLE, AREA, AREA, room);
+            if console != office {
+                assert!(console == Err(15), "{}", case.name);
+                assert!(office.is_ok() || office == Err(16), "{}", case.name);
+                over += 1;
+            }
+        }
+    }
+    assert!(over >= 36, "{over}");
+}
+
+/// Each limit of the console, on both sides.
+#[test]
+fn limits_of_the_console() {
+    for case in limits::at_console() {
+        let answer = model::lower(&case.tree, CONSOLE, AREA, AREA, WIDE);
+        let words: Vec<&str> = case.name.split('-').collect();
+        let wanted = match words[..] {
+            ["functions", "64", ..] | ["symbols", "256"] | ["instructions", "2048", ..] => None,
+            ["strings", "512"] | ["classes", "64"] => None,
+            ["console", "faults", number, _] => number.parse().ok(),
+            _ => Some(15),
+        };
+        assert_eq!(answer.err(), wanted, "{}", case.name);
+    }
 }

@@ -136,7 +136,7 @@ fn lowered_modules() {
     let mut trees: Vec<Vec<u8>> = starred.collect();
     trees.extend((0..200).map(|_| random::tree(&mut rng)));
     for tree in trees {
-        if let Ok(module) = model::lower(&tree, 16_384, 16_384, 4_000) {
+        if let Ok(module) = model::lower(&tree, model::OFFICE, 16_384, 16_384, 4_000) {
             places(&mut lent, &module);
             calls(&mut lent, &mut rng, &module);
         }

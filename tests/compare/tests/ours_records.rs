@@ -98,8 +98,8 @@ fn random_and_damaged_modules() {
         let module = modules::random(&mut rng).bytes();
         same_read(&module);
         same_read(&damage::damaged(&mut rng, &module));
-        if let Ok(lowered) = model::lower(&random::tree(&mut rng), model::AREA, model::AREA, 65_536)
-        {
+        let tree = random::tree(&mut rng);
+        if let Ok(lowered) = model::lower(&tree, model::OFFICE, model::AREA, model::AREA, 65_536) {
             same_read(&lowered);
             same_read(&damage::damaged(&mut rng, &lowered));
         }

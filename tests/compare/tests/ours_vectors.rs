@@ -2,7 +2,7 @@
 
 use compare::ROOM;
 use generator::text::{hex, hex_or_dash, unhex};
-use rulketoos::{Areas, Refusal};
+use rulketoos::{Areas, Limits, Refusal};
 
 /// The fields of every line of a file of vectors, which are so many.
 fn vectors<const N: usize>(file: &str) -> Vec<[String; N]> {
@@ -23,11 +23,16 @@ fn refused(refusal: Refusal) -> String {
 #[test]
 fn trees() {
     let (mut areas, mut out) = (Areas::new(), vec![0; ROOM]);
-    for [name, tree, answer] in vectors("trees.txt") {
-        let tree = unhex(&tree).expect(&name);
-        let lowered = rulketoos::lower(&tree, &mut areas, &mut out);
-        let ours = lowered.map_or_else(refused, |count| hex(&out[..count]));
-        assert_eq!(ours, answer, "{name}");
+    for (file, limits) in [
+        ("trees.txt", Limits::Office),
+        ("console.txt", Limits::Console),
+    ] {
+        for [name, tree, answer] in vectors(file) {
+            let tree = unhex(&tree).expect(&name);
+            let lowered = rulketoos::lower(&tree, limits, &mut areas, &mut out);
+            let ours = lowered.map_or_else(refused, |count| hex(&out[..count]));
+            assert_eq!(ours, answer, "{name}");
+        }
     }
 }
 

@@ -52,7 +52,8 @@ fn inputs_are_samples() {
 
 #[test]
 fn lower_lowers_its_input() {
-    let module = model::lower(&bytes("crates/lower/stdin"), 16_384, 16_384, 65_536);
+    let tree = bytes("crates/lower/stdin");
+    let module = model::lower(&tree, model::OFFICE, 16_384, 16_384, 65_536);
     assert!(module == Ok(bytes("crates/lower/stdout")));
 }
 

@@ -68,7 +68,13 @@ fn all_lists_on_small_modules() {
         visit(&modules::random(&mut rng).bytes());
     }
     for _ in 0..300 {
-        if let Ok(module) = model::lower(&random::tree(&mut rng), 16_384, 16_384, 65_536) {
+        if let Ok(module) = model::lower(
+            &random::tree(&mut rng),
+            model::OFFICE,
+            16_384,
+            16_384,
+            65_536,
+        ) {
             visit(&module);
         }
     }

@@ -20,7 +20,10 @@ fn hostile_trees_are_quick() {
     let start = std::time::Instant::now();
     for case in limits::all() {
         if case.name.starts_with("hostile") {
-            assert_eq!(model::lower(&case.tree, AREA, AREA, WIDE), Err(15));
+            assert_eq!(
+                model::lower(&case.tree, model::OFFICE, AREA, AREA, WIDE),
+                Err(15)
+            );
         }
     }
     assert!(start.elapsed().as_secs() < 20);
@@ -55,7 +58,7 @@ fn damaged_modules() {
     let mut seen = [0; 25];
     for _ in 0..20_000 {
         let tree = random::tree(&mut rng);
-        let Ok(module) = model::lower(&tree, AREA, AREA, WIDE) else {
+        let Ok(module) = model::lower(&tree, model::OFFICE, AREA, AREA, WIDE) else {
             continue;
         };
         let module = damage::damaged(&mut rng, &module);

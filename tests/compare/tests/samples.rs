@@ -5,7 +5,7 @@ use generator::{make, samples};
 use model::instruction as op;
 
 fn lower(tree: &[u8]) -> Result<Vec<u8>, u8> {
-    model::lower(tree, AREA, AREA, ROOM)
+    model::lower(tree, model::OFFICE, AREA, AREA, ROOM)
 }
 
 fn starred(name: &str) -> Vec<u8> {

@@ -214,7 +214,7 @@ fn names_and_operands_are_the_rusts() {
     trees.extend((0..2_000).map(|_| random::tree(&mut rng)));
     let mut seen = [false; 46];
     for tree in trees {
-        let Ok(module) = model::lower(&tree, AREA, AREA, WIDE) else {
+        let Ok(module) = model::lower(&tree, model::OFFICE, AREA, AREA, WIDE) else {
             continue;
         };
         let Some(theirs) = oracle::instructions(&tree) else {

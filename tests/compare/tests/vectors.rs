@@ -4,6 +4,7 @@
 use generator::runs::RunCase;
 use generator::text::unhex;
 use generator::vectors;
+use model::{CONSOLE, OFFICE};
 use std::path::PathBuf;
 
 fn folder() -> PathBuf {
@@ -34,13 +35,19 @@ fn vectors_are_as_generated() {
 
 #[test]
 fn tree_vectors_replay() {
+    for (file, limits) in [("trees.txt", OFFICE), ("console.txt", CONSOLE)] {
+        trees_replay(file, limits);
+    }
+}
+
+fn trees_replay(file: &str, limits: model::Limits) {
     let with_rust = oracle::ready("tree vectors");
-    for fields in lines(&committed("trees.txt")) {
+    for fields in lines(&committed(file)) {
         let [name, tree, answer] = fields[..] else {
             panic!("three fields: {}", fields[0]);
         };
         let tree = unhex(tree).expect(name);
-        assert_eq!(vectors::tree_answer(&tree), answer, "{name}");
+        assert_eq!(vectors::tree_answer(&tree, limits), answer, "{name}");
         if with_rust && !answer.starts_with("refused") {
             let module = unhex(answer).expect(name);
             let theirs = oracle::lower(&tree).expect(name);

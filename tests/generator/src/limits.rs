@@ -3,6 +3,7 @@
 use crate::make::*;
 use crate::samples::{case, nested_not, script, Case};
 use crate::texts;
+use model::{CONSOLE, OFFICE};
 use std::slice::from_ref;
 
 pub const MAX_TREE: usize = 32_768;
@@ -22,8 +23,18 @@ pub fn all() -> Vec<Case> {
     cases.extend(slot_counts());
     cases.extend(table_counts());
     cases.extend(pairs_of_faults());
-    cases.extend(instruction_counts());
+    cases.extend(console_counts());
+    cases.extend(console_faults());
+    cases.extend(instruction_counts(OFFICE.instructions));
     cases.extend(long());
+    cases
+}
+
+/// Trees on both sides of every limit of the console.
+pub fn at_console() -> Vec<Case> {
+    let mut cases = console_counts();
+    cases.extend(shared_counts());
+    cases.extend(console_faults());
     cases
 }
 
@@ -622,35 +633,66 @@ fn slots_not_counted() -> Vec<Case> {
     ]
 }
 
-/// So many functions, strings, classes and symbols besides main's.
-fn table_counts() -> Vec<Case> {
-    let texts = |count: usize| {
-        let one = |n: String| expr(string(n.as_bytes()));
-        many_names(count).into_iter().map(one).collect::<Vec<_>>()
-    };
-    let variables = |count: usize| {
-        let one = |n: String| expr(var(&n));
-        many_names(count).into_iter().map(one).collect::<Vec<_>>()
-    };
-    let methods = |count: usize| {
-        let one = |n: String| method(&n, &["s"], &[]);
-        many_names(count).into_iter().map(one).collect::<Vec<_>>()
-    };
+/// A word, and what makes statements with so many of something.
+type Way<'a> = (&'a str, &'a dyn Fn(usize) -> Vec<Bytes>);
+
+/// Trees with so many of something as a limit allows, and with one more.
+fn at_limit(what: &str, limit: usize, ways: &[Way]) -> Vec<Case> {
+    let mut cases = Vec::new();
+    for (word, stmts) in ways {
+        for count in [limit, limit + 1] {
+            cases.push(script(&format!("{what}-{count}{word}"), &stmts(count)));
+        }
+    }
+    cases
+}
+
+/// A statement for each of so many names.
+fn each_name(count: usize, one: impl Fn(&str) -> Bytes) -> Vec<Bytes> {
+    many_names(count).iter().map(|name| one(name)).collect()
+}
+
+/// So many functions, main among them: defs, lambdas, methods.
+fn function_counts(limit: usize) -> Vec<Case> {
     let closure = expr(lambda(&[], none()));
-    vec![
-        script("functions-256", &times(255, &def("f", &[], &[]))),
-        script("functions-257", &times(256, &def("f", &[], &[]))),
-        script("functions-256-lambdas", &times(255, &closure)),
-        script("functions-257-lambdas", &times(256, &closure)),
-        script("functions-256-methods", &[class("A", &methods(255), &[])]),
-        script("functions-257-methods", &[class("A", &methods(256), &[])]),
-        script("strings-512", &texts(512)),
-        script("strings-513", &texts(513)),
-        script("classes-64", &times(64, &class("A", &[], &[]))),
-        script("classes-65", &times(65, &class("A", &[], &[]))),
-        script("symbols-1024", &variables(1023)),
-        script("symbols-1025", &variables(1024)),
-    ]
+    let methods = |count: usize| {
+        let methods = each_name(count - 1, |name| method(name, &["s"], &[]));
+        vec![class("A", &methods, &[])]
+    };
+    let defs = |count: usize| times(count - 1, &def("f", &[], &[]));
+    let closures = |count: usize| times(count - 1, &closure);
+    let ways: [Way; 3] = [("", &defs), ("-lambdas", &closures), ("-methods", &methods)];
+    at_limit("functions", limit, &ways)
+}
+
+/// So many symbols, `__main__` among them.
+fn symbol_counts(limit: usize) -> Vec<Case> {
+    let variables = |count: usize| each_name(count - 1, |name| expr(var(name)));
+    at_limit("symbols", limit, &[("", &variables)])
+}
+
+/// So many strings and classes, of which office and console take as many.
+fn shared_counts() -> Vec<Case> {
+    let texts = |count: usize| each_name(count, |name| expr(string(name.as_bytes())));
+    let classes = |count: usize| times(count, &class("A", &[], &[]));
+    let mut cases = at_limit("strings", OFFICE.strings, &[("", &texts)]);
+    cases.extend(at_limit("classes", OFFICE.classes, &[("", &classes)]));
+    cases
+}
+
+fn table_counts() -> Vec<Case> {
+    let mut cases = function_counts(OFFICE.functions);
+    cases.extend(shared_counts());
+    cases.extend(symbol_counts(OFFICE.symbols));
+    cases
+}
+
+/// So many of what the console takes fewer of.
+fn console_counts() -> Vec<Case> {
+    let mut cases = function_counts(CONSOLE.functions);
+    cases.extend(symbol_counts(CONSOLE.symbols));
+    cases.extend(instruction_counts(CONSOLE.instructions));
+    cases
 }
 
 /// One statement for each question that can be broken by a statement alone, in
@@ -693,28 +735,37 @@ fn pairs_of_faults() -> Vec<Case> {
     cases
 }
 
-/// `() = None` has one instruction, `None` as a statement two.
-fn instruction_counts() -> Vec<Case> {
+/// So many instructions: `() = None` has one, `None` as a statement two.
+fn instruction_counts(limit: usize) -> Vec<Case> {
     let two = expr(none());
     let one = assign(tuple(&[]), none());
     let three = while_(none(), &[]);
-    let with = |many: Vec<Bytes>, more: &[Bytes]| [many.as_slice(), more].concat();
-    let in_def = |stmts: &[Bytes]| [def("f", &[], stmts)];
-    let many = times(4095, &two);
-    vec![
-        script("instructions-8192", &with(many.clone(), from_ref(&one))),
-        script("instructions-8193", &times(4096, &two)),
-        script(
-            "instructions-8192-loops",
-            &with(times(2730, &three), from_ref(&one)),
-        ),
-        script(
-            "instructions-8193-loops",
-            &with(times(2730, &three), &[two]),
-        ),
-        script("instructions-8192-in-def", &in_def(&many)),
-        script("instructions-8193-in-def", &in_def(&with(many, &[one]))),
-    ]
+    // the last is the return
+    let of = |each: usize, many: &Bytes, count: usize| {
+        let rest = (count - 1) % each;
+        let twos = times(rest / 2, &two);
+        let ones = times(rest % 2, &one);
+        [times((count - 1) / each, many), twos, ones].concat()
+    };
+    let plain = |count: usize| of(2, &two, count);
+    let loops = |count: usize| of(3, &three, count);
+    let in_def = |count: usize| vec![def("f", &[], &of(2, &two, count - 1))];
+    let ways: [Way; 3] = [("", &plain), ("-loops", &loops), ("-in-def", &in_def)];
+    at_limit("instructions", limit, &ways)
+}
+
+/// Each fault that the office has too, and 65 functions, which the console alone
+/// refuses, in both orders.
+fn console_faults() -> Vec<Case> {
+    let defs = times(CONSOLE.functions, &def("g", &[], &[]));
+    let mut cases = Vec::new();
+    for (number, fault) in faults() {
+        let last = [defs.clone(), vec![fault.clone()]].concat();
+        cases.push(script(&format!("console-faults-{number}-last"), &last));
+        let first = [vec![fault], defs.clone()].concat();
+        cases.push(script(&format!("console-faults-{number}-first"), &first));
+    }
+    cases
 }
 
 /// A module of so many bytes: loops, then a string that fills it.
@@ -731,7 +782,7 @@ fn filled_stmts(text: usize) -> Vec<Bytes> {
 }
 
 fn model_length(stmts: &[Bytes]) -> usize {
-    let module = model::lower(&tree(stmts), 16_384, 16_384, usize::MAX);
+    let module = model::lower(&tree(stmts), model::OFFICE, 16_384, 16_384, usize::MAX);
     module.expect("an accepted tree").len()
 }
 

@@ -62,7 +62,7 @@ impl RunCase {
 }
 
 fn lowered(tree: &[u8]) -> Option<Bytes> {
-    model::lower(tree, 16_384, 16_384, ROOM).ok()
+    model::lower(tree, model::OFFICE, 16_384, 16_384, ROOM).ok()
 }
 
 /// All directed runs.

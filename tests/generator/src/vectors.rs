@@ -5,13 +5,15 @@ use crate::runs::{self, RunCase};
 use crate::samples::{self, Case};
 use crate::text::{hex, hex_or_dash};
 use crate::{damage, limits, random, Bytes, Rng};
+use model::{Limits, CONSOLE, OFFICE};
 
 const SEED: u64 = 20_251_125;
 
 /// File names below tests/vectors and their whole text.
-pub fn files() -> [(&'static str, String); 3] {
+pub fn files() -> [(&'static str, String); 4] {
     [
-        ("trees.txt", lines(trees().iter().map(tree_line))),
+        ("trees.txt", tree_lines(&trees(), OFFICE)),
+        ("console.txt", tree_lines(&console_trees(), CONSOLE)),
         ("modules.txt", lines(module_cases().iter().map(module_line))),
         ("runs.txt", lines(run_cases().iter().map(run_line))),
     ]
@@ -21,9 +23,9 @@ fn lines(each: impl Iterator<Item = String>) -> String {
     each.map(|line| line + "\n").collect()
 }
 
-/// The answer of the program `lower` on this tree.
-pub fn tree_answer(tree: &[u8]) -> String {
-    match model::lower(tree, 16_384, 16_384, 65_536) {
+/// The answer on this tree with the areas and the output of the program `lower`.
+pub fn tree_answer(tree: &[u8], limits: Limits) -> String {
+    match model::lower(tree, limits, 16_384, 16_384, 65_536) {
         Ok(module) => hex(&module),
         Err(number) => format!("refused {number}"),
     }
@@ -47,9 +49,12 @@ pub fn run_answer(case: &RunCase) -> String {
 }
 
 /// A field of bytes; the empty record is a dash, too.
-fn tree_line(case: &Case) -> String {
-    let answer = tree_answer(&case.tree);
-    format!("{}\t{}\t{answer}", case.name, hex_or_dash(&case.tree))
+fn tree_lines(cases: &[Case], limits: Limits) -> String {
+    let line = |case: &Case| {
+        let answer = tree_answer(&case.tree, limits);
+        format!("{}\t{}\t{answer}", case.name, hex_or_dash(&case.tree))
+    };
+    lines(cases.iter().map(line))
 }
 
 fn module_line(case: &ModuleCase) -> String {
@@ -98,6 +103,13 @@ pub fn trees() -> Vec<Case> {
     cases
 }
 
+/// Samples, and what the console is asked about.
+pub fn console_trees() -> Vec<Case> {
+    let mut cases = samples::starred();
+    cases.extend(limits::at_console());
+    cases
+}
+
 /// Hand-made modules, random ones, lowered ones, and damaged copies.
 pub fn module_cases() -> Vec<ModuleCase> {
     let mut rng = Rng::new(SEED + 1);
@@ -122,7 +134,7 @@ pub fn module_cases() -> Vec<ModuleCase> {
 fn small_module(rng: &mut Rng, longest: usize) -> Bytes {
     loop {
         let tree = small_tree(rng, longest);
-        let module = model::lower(&tree, 16_384, 16_384, longest);
+        let module = model::lower(&tree, OFFICE, 16_384, 16_384, longest);
         if let Ok(module) = module {
             return module;
         }

@@ -6,6 +6,7 @@
 //! and against the project's own code. A refusal is the question's number.
 
 pub mod instruction;
+pub mod limits;
 pub mod listing;
 pub mod lowering;
 pub mod module;
@@ -21,6 +22,7 @@ pub mod tree;
 pub mod utf8;
 pub mod walk;
 
+pub use limits::{Limits, CONSOLE, OFFICE};
 pub use run::Ran;
 pub use walk::Walked;
 
@@ -28,11 +30,17 @@ pub use walk::Walked;
 pub const AREA: usize = 16_384;
 
 /// Questions 1 to 16 and 33: the module record of a tree, or the first no.
-pub fn lower(tree: &[u8], area1: usize, area2: usize, room: usize) -> Result<Vec<u8>, u8> {
+pub fn lower(
+    tree: &[u8],
+    limits: Limits,
+    area1: usize,
+    area2: usize,
+    room: usize,
+) -> Result<Vec<u8>, u8> {
     if area1 < AREA || area2 < AREA {
         return Err(1);
     }
-    lowering::write(&plan(tree)?, room)
+    lowering::write(&plan(tree, limits)?, room)
 }
 
 /// Questions 2 to 13 and 33: the statements of the tree.
@@ -48,10 +56,10 @@ pub fn check(tree: &[u8]) -> Result<(), u8> {
 }
 
 /// Questions 2 to 15 and 33: the numbered tree, before it becomes bytes.
-pub fn plan(tree: &[u8]) -> Result<plan::Plan<'_>, u8> {
+pub fn plan(tree: &[u8], limits: Limits) -> Result<plan::Plan<'_>, u8> {
     let program = checked(tree)?;
     slots::ask(&program)?;
-    plan::make(&program)
+    plan::make(&program, limits)
 }
 
 /// Questions 17 to 21.
@@ -137,10 +145,11 @@ pub fn reach(
     Ok(reach::Reached::of(&module, function).list(place as usize))
 }
 
-/// The walk through the body with that number. A tree refused by questions 2
-/// to 15 or 33, a function that does not exist, or a bad answer gives its number.
+/// The walk through the body with that number. A tree that the office refuses by
+/// questions 2 to 15 or 33, a function that does not exist, or a bad answer gives
+/// its number.
 pub fn walk(tree: &[u8], function: u64, answers: &[u8]) -> Result<Walked, u8> {
-    let plan = plan(tree)?;
+    let plan = plan(tree, OFFICE)?;
     let function = find(&plan.functions, function)?;
     ask_answers(answers)?;
     Ok(walk::walk(&function.parts, answers))

@@ -6,16 +6,11 @@
 //! counts only grows, so the first one over the limit settles it.
 
 use crate::instruction::{self as op, Instruction};
+use crate::limits::Limits;
 use crate::names;
 use crate::slots::{self, Slots};
 use crate::tree::{Block, Class, Expr, Function, Group, If, Name, Stmt};
 use std::collections::{BTreeMap, HashMap, HashSet};
-
-pub const MAX_FUNCTIONS: usize = 256;
-pub const MAX_SYMBOLS: usize = 1_024;
-pub const MAX_STRINGS: usize = 512;
-pub const MAX_CLASSES: usize = 64;
-pub const MAX_INSTRUCTIONS: usize = 8_192;
 
 pub type Parts = Vec<Part>;
 
@@ -62,7 +57,6 @@ pub struct ClassPlan<'a> {
     pub methods: BTreeMap<Name<'a>, u16>,
 }
 
-#[derive(Default)]
 pub struct Plan<'a> {
     pub symbols: Vec<Vec<u8>>,
     pub strings: Vec<&'a [u8]>,
@@ -74,6 +68,7 @@ pub struct Plan<'a> {
     first_function: HashMap<Vec<u8>, u16>,
     class_names: HashSet<Name<'a>>,
     instructions: usize,
+    limits: Limits,
 }
 
 /// What the instructions of one function are made with.
@@ -84,8 +79,8 @@ struct Scope<'s, 'a> {
 }
 
 /// The plan of a tree that passed questions 1 to 14, or 15.
-pub fn make<'a>(program: &Block<'a>) -> Result<Plan<'a>, u8> {
-    let mut plan = Plan::default();
+pub fn make<'a>(program: &Block<'a>, limits: Limits) -> Result<Plan<'a>, u8> {
+    let mut plan = Plan::new(limits);
     let main = plan.begin(names::MAIN, 0, 0)?;
     let none = Slots::default();
     plan.finish(main, program, &none, false)?;
@@ -110,6 +105,22 @@ fn small(count: usize) -> u8 {
 }
 
 impl<'a> Plan<'a> {
+    fn new(limits: Limits) -> Self {
+        Self {
+            symbols: Vec::new(),
+            strings: Vec::new(),
+            functions: Vec::new(),
+            classes: Vec::new(),
+            constants: Vec::new(),
+            symbol_of: HashMap::new(),
+            string_of: HashMap::new(),
+            first_function: HashMap::new(),
+            class_names: HashSet::new(),
+            instructions: 0,
+            limits,
+        }
+    }
+
     fn intern(&mut self, name: &[u8]) -> Result<u16, u8> {
         if let Some(known) = self.symbol_of.get(name) {
             return Ok(*known);
@@ -117,7 +128,7 @@ impl<'a> Plan<'a> {
         let symbol = number(self.symbols.len());
         self.symbols.push(name.to_vec());
         self.symbol_of.insert(name.to_vec(), symbol);
-        at_most(self.symbols.len(), MAX_SYMBOLS)?;
+        at_most(self.symbols.len(), self.limits.symbols)?;
         Ok(symbol)
     }
 
@@ -127,7 +138,7 @@ impl<'a> Plan<'a> {
         if index == next {
             self.strings.push(bytes);
         }
-        at_most(self.strings.len(), MAX_STRINGS)?;
+        at_most(self.strings.len(), self.limits.strings)?;
         Ok(index)
     }
 
@@ -135,7 +146,7 @@ impl<'a> Plan<'a> {
     fn count(&mut self, scope: &mut Scope, more: usize) -> Result<(), u8> {
         scope.place += more;
         self.instructions += more;
-        at_most(self.instructions, MAX_INSTRUCTIONS)
+        at_most(self.instructions, self.limits.instructions)
     }
 
     fn op(&mut self, scope: &mut Scope, out: &mut Parts, ins: Instruction) -> Result<(), u8> {
@@ -153,7 +164,7 @@ impl<'a> Plan<'a> {
             locals: number(locals),
             parts: Vec::new(),
         });
-        at_most(self.functions.len(), MAX_FUNCTIONS)?;
+        at_most(self.functions.len(), self.limits.functions)?;
         self.first_function
             .entry(name.to_vec())
             .or_insert(number(function));
@@ -201,7 +212,7 @@ impl<'a> Plan<'a> {
             methods: BTreeMap::new(),
         });
         self.class_names.insert(class.name);
-        at_most(self.classes.len(), MAX_CLASSES)?;
+        at_most(self.classes.len(), self.limits.classes)?;
         for method in &class.methods {
             let function = self.function(method, true)?;
             self.classes[index].methods.insert(method.name, function);

@@ -10,7 +10,7 @@ fn main() -> ExitCode {
         eprintln!("standard input: {error}");
         return ExitCode::FAILURE;
     }
-    if let Err(number) = model::lower(&tree, 16_384, 16_384, 65_536) {
+    if let Err(number) = model::lower(&tree, model::OFFICE, 16_384, 16_384, 65_536) {
         println!("refused {number}");
         return ExitCode::SUCCESS;
     }

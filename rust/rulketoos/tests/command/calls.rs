@@ -22,6 +22,7 @@ const CALLS: &[Call] = &[
     ("help", b"", 0, "  lower    ", ""),
     ("--version", b"", 0, "rulketoos 0.1.0\n", ""),
     ("lower --help", b"", 0, "Example", ""),
+    ("lower --help", b"", 0, "  --console       lowers by the console's limits", ""),
     ("run samples/none.py --help", b"", 0, "--budget STEPS", ""),
     // wrong usage
     ("", b"", 2, "", "no command is given"),
@@ -31,6 +32,8 @@ const CALLS: &[Call] = &[
     ("lower spine.py -o", b"", 2, "", "FILE is missing after -o"),
     ("lower spine.py -o a -o b", b"", 2, "", "-o is given twice"),
     ("lower spine.py --quickly", b"", 2, "", "there is no option --quickly"),
+    ("lower spine.py --console=1", b"", 2, "", "--console takes no value"),
+    ("show spine.module --console", b"", 2, "", "spine.module is a module, and --console is for a script or a tree"),
     ("code spine.py", b"", 2, "", "FUNCTION is missing"),
     ("code spine.py main", b"", 2, "", "FUNCTION is a number"),
     ("reach spine.py 0", b"", 2, "", "PLACE is missing"),
@@ -49,6 +52,7 @@ const CALLS: &[Call] = &[
     // done
     ("show spine.py", b"", 0, "PAGE      1\nfunction 0 __main__: 0 parameters, 0 slots\n    0     0 LoadConst ", ""),
     ("show spine.tree", b"", 0, "\nclass 0 Job: __init__ is function 3, case is function 4\n", ""),
+    ("show --console spine.py", b"", 0, "class 0 Job", ""),
     ("show -", b"x = 1\n", 0, "StoreGlobal                        1      x\n", ""),
     ("show -", b"x = 'a\\n'\n", 0, "ConstStr                           0      \"a\\n\"\n", ""),
     ("show -", b"x = 0.11\n", 0, "ConstF64            3FBC28F5C28F5C29      0.11\n", ""),
@@ -132,12 +136,11 @@ fn samples_are_lowered() {
     for name in SAMPLES {
         let module = person.file(&format!("{name}.module")).expect("a sample");
         for kind in ["py", "tree"] {
-            let reply = person.types(&["lower", &format!("{name}.{kind}")], b"");
-            assert_eq!(
-                (reply.status, reply.out),
-                (0, module.clone()),
-                "{name}.{kind}"
-            );
+            let file = format!("{name}.{kind}");
+            for words in [&["lower", &file][..], &["lower", "--console", &file]] {
+                let reply = person.types(words, b"");
+                assert_eq!((reply.status, reply.out), (0, module.clone()), "{file}");
+            }
         }
     }
 }
@@ -183,6 +186,33 @@ fn notes_are_in_the_scripts_characters() {
     ] {
         assert!(shown.contains(word), "{shown}");
     }
+}
+
+/// 64 defs and main are more functions than the console takes.
+#[test]
+fn office_and_console() {
+    let person = Person::new();
+    let defs = |count| "def f():\n    pass\n".repeat(count);
+    person.has("most.py", defs(63)).has("more.py", defs(64));
+    let office = person.types(&["lower", "most.py"], b"");
+    let console = person.types(&["lower", "--console", "most.py"], b"");
+    assert_eq!((office.status, console.status), (0, 0));
+    assert_eq!(office.out, console.out);
+    assert_eq!(person.types(&["lower", "more.py"], b"").status, 0);
+    for words in [
+        &["lower", "--console", "more.py"][..],
+        &["lower", "more.py", "--console", "-o", "more.module"],
+        &["show", "more.py", "--console"],
+    ] {
+        let reply = person.types(words, b"");
+        assert_eq!((reply.status, reply.out.len()), (1, 0), "{words:?}");
+        let said = "more.py: refused 15: are there at most 256 functions";
+        assert!(reply.said.starts_with(said), "{}", reply.said);
+        assert!(reply
+            .said
+            .contains("(at the console 64, 256, 512, 64, 2,048)?"));
+    }
+    assert_eq!(person.file("more.module"), None);
 }
 
 #[test]

@@ -3,7 +3,7 @@
 use crate::failure::Failure;
 use crate::places::{self, Places};
 use crate::script;
-use rulketoos::Refusal;
+use rulketoos::{Limits, Refusal};
 use std::ffi::OsStr;
 use std::fs::File;
 use std::io::{self, Read};
@@ -147,13 +147,23 @@ impl Input {
         )))
     }
 
-    /// A module, or what a script or tree is lowered to.
+    /// A module, or what a script or tree is lowered to at the office.
     pub fn lowered(self) -> Result<Module, Failure> {
-        if self.kind == Kind::Module {
-            return self.module();
+        self.lowered_by(Limits::Office)
+    }
+
+    /// A module, or what a script or tree is lowered to by these limits. The console's say nothing of a module.
+    pub fn lowered_by(self, limits: Limits) -> Result<Module, Failure> {
+        match (self.kind, limits) {
+            (Kind::Module, Limits::Office) => return self.module(),
+            (Kind::Module, Limits::Console) => return Err(Failure::unable(format!(
+                "{} is a module, and --console is for a script or a tree: a module is lowered already",
+                self.name
+            ))),
+            (Kind::Script | Kind::Tree, _) => {}
         }
         let source = self.source()?;
-        let bytes = source.lowered()?;
+        let bytes = source.lowered(limits)?;
         Ok(Module {
             name: source.name,
             bytes,
@@ -163,8 +173,8 @@ impl Input {
 
 impl Source {
     /// The module of the tree.
-    pub fn lowered(&self) -> Result<Vec<u8>, Failure> {
-        rulketoos::lower_to_vec(&self.tree).map_err(|refusal| self.refused(refusal))
+    pub fn lowered(&self, limits: Limits) -> Result<Vec<u8>, Failure> {
+        rulketoos::lower_to_vec(&self.tree, limits).map_err(|refusal| self.refused(refusal))
     }
 
     /// The refusal in words, with the first place where its question is answered no.

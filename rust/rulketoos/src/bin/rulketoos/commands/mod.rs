@@ -10,7 +10,8 @@ mod run;
 mod sheet;
 mod show;
 
-use crate::arguments::{Command, Opt};
+use crate::arguments::{Command, Opt, Words};
+use rulketoos::Limits;
 
 /// In the order in which a person meets them.
 pub const ALL: &[Command] = &[
@@ -31,3 +32,18 @@ const OUTPUT: Opt = Opt {
     value: Some("FILE"),
     about: "the file to write; it is whole or isn't there. Standard output if none is given",
 };
+
+/// Which set of limits a script is lowered by, for each command that shows or writes what it is lowered to.
+const CONSOLE: Opt = Opt {
+    name: "--console",
+    value: None,
+    about: "lowers by the console's limits; by the office's if it isn't given",
+};
+
+/// The set that the words ask for.
+fn limits(words: &Words) -> Limits {
+    match words.option(CONSOLE.name) {
+        Some(_) => Limits::Console,
+        None => Limits::Office,
+    }
+}
