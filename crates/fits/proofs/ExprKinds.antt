@@ -15,14 +15,14 @@ use Rattle.state.specs.State.{slotsFrom, slotNames}
 use Rattle.state.specs.Fits.{fitsExpr, fitsExprs, fitsTarget}
 use Rattle.parts.specs.Places.{Node, node, nameBytes, nameEnd, There, paramsAt}
 use Rattle.exprs.specs.ExprAt.{exprAt, exprsAt, ExprReads, ExprsRead, varAt, unaryOf, binaryOf, UnaryAt, unaryAt, TwoAt, secondAt, BinaryAt, binaryAt, ListAt, listAt, CallAt, callAt, AttributeAt, attributeAt, displayAt, DictAt, pairsAt, dictAt, indexAt, LambdaAt, lambdaAt, consAt}
-use Rattle.parts.proofs.Laws.{le-or-gt}
+use Rattle.parts.proofs.Laws.{le-or-gt, up}
 use Rattle.parts.proofs.Nodes.{Seen}
 use Rattle.exprs.proofs.ExprViews.{expr-known, view-var, view-unary, view-binary, view-call, view-attribute, view-dict, view-index, view-lambda, view-exprs-none, view-exprs-more}
 use Rattle.slots.specs.Slotted.{Collected}
 use Rattle.slots.specs.declared.Locals.{Locals}
 use Rattle.slots.specs.declared.Locals.the-variants.{Count}
 use Rattle.slots.proofs.Skipping.{plain-done}
-use Rattle.slots.proofs.Kinded.{up, unary-each, binary-each, seen-literal, seen-display, form-var, form-attribute, form-tuple, form-index, form-other}
+use Rattle.slots.proofs.Kinded.{unary-each, binary-each, seen-literal, seen-display, form-var, form-attribute, form-tuple, form-index, form-other}
 use Rattle.fits.specs.Walk.{Walks, lambdaFits}
 use Rattle.fits.specs.declared.Fit.{Fit}
 use Rattle.fits.specs.declared.Fit.the-variants.{Next, Over}

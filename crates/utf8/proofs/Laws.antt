@@ -1,8 +1,8 @@
 -- Bytes tested one by one. Assumes nothing.
 use Prim.Native.Nat.{ℕ, zero, suc, _+_, _<_, _≤_}
 use mathlib.Core.Path.{_≡_, refl, sym, ap, _∙_}
-use mathlib.Core.Bool.{Bool, true, false, not, _&&_}
-use mathlib.Core.Option.{Option, none, some}
+use mathlib.Core.Bool.{Bool, true, false, _&&_}
+use mathlib.Core.Option.{none, some}
 use mathlib.Core.List.{List, [], _∷_}
 use native.Mathlib.Omega.{arith}
 use native.Mathlib.Numerals.{add-one}
@@ -13,7 +13,7 @@ use borrow.Author.Tests.{le-leb, lt-leb, ne-eqb}
 use Rattle.definitions.specs.Utf8.{Range, range, inRange, Octets, utf8Char, followers, goesOn, isUtf8}
 use Rattle.definitions.proofs.Utf8Grammar.{line-follows}
 use Rattle.definitions.proofs.Every.{Every, noEvery, every}
-use Rattle.utf8.specs.Due.{dues, from, Begins, Goes, IsFrom}
+use Rattle.utf8.specs.Due.{dues, from, Begins, Goes}
 
 -- ---- ranges
 

@@ -1,14 +1,11 @@
 use mathlib.Core.Path.{_≡_, refl, _∙_}
 use native.Mathlib.Omega.{arith}
-use Prim.Native.Nat.{ℕ, _-_, _≤_}
+use Prim.Native.Nat.{_-_, _≤_}
 use lib.ListN.{length, drop}
 use Rattle.definitions.specs.Utf8.{isUtf8}
-use Rattle.utf8.specs.Due.{IsFrom}
 use Rattle.utf8.proofs.Laws.{ascii-more}
 use Rattle.utf8.proofs.ascii_end.Statement.{statement}
 use Rattle.utf8.proofs.ascii_end.Tie as tie
-use Rattle.utf8.proofs.ascii_end.Reads as reads
-use Rattle.utf8.proofs.ascii_end.Lts as lts
 
 abbrev Inv-loop : tie.InvT-loop
 Inv-loop bytes i₀ i = (i ≤ length bytes) × (isUtf8 bytes ≡ isUtf8 (drop i bytes))

@@ -1,17 +1,11 @@
-use borrow.Author.Needs.{needs}
 use native.Mathlib.Omega.{arith}
-use mathlib.Core.Path.{_≡_, refl, sym, ap, _∙_}
-use mathlib.Core.Bool.{Bool, true, false, _&&_, _||_}
-use lib.ListN.{length, take, drop, getD}
-use Prim.Native.Nat.{ℕ, _+_, _-_, _*_, _≤_, _<_}
-use lib.Dec.{eqb}
+use Prim.Native.Nat.{_-_, _≤_}
+use mathlib.Core.Path.{_≡_, refl, sym, _∙_}
+use lib.ListN.{length, drop}
 use Rattle.definitions.specs.Bytes.{same}
-use borrow.Author.Tests.{lt-ltb, le-ltb, le-leb, lt-leb, eq-eqb, ne-eqb}
-use Rattle.parts.proofs.LeafLaws.{same-go, same-stop, same-none, same-other}
-use Rattle.parts.proofs.names.same_bytes.Statement.{statement}
-use Rattle.parts.proofs.names.same_bytes.Tie as tie
-use Rattle.parts.proofs.names.same_bytes.Reads as reads
-use Rattle.parts.proofs.names.same_bytes.Lts as lts
+use Rattle.byte_tests.proofs.Same.{same-go, same-stop, same-none, same-other}
+use Rattle.byte_tests.proofs.same_bytes.Statement.{statement}
+use Rattle.byte_tests.proofs.same_bytes.Tie as tie
 
 abbrev Inv-loop : tie.InvT-loop
 Inv-loop a b i₀ i = same a b ≡ same (drop i a) (drop i b)

@@ -1,4 +1,5 @@
 // Opcodes, and those of words that are no instruction yet: a break and a continue whose jump is not known, an integer that the word holds.
+use crate::expr;
 
 pub const CONST_I64: u32 = 0;
 
@@ -26,6 +27,20 @@ pub const LOAD_GLOBAL: u32 = 11;
 
 pub const STORE_GLOBAL: u32 = 12;
 
+pub const ADD: u32 = 13;
+
+pub const DIV: u32 = 16;
+
+pub const TRUE_DIV: u32 = 17;
+
+pub const NEG: u32 = 19;
+
+pub const POS: u32 = 20;
+
+pub const EQ: u32 = 21;
+
+pub const NOT: u32 = 27;
+
 pub const JUMP: u32 = 28;
 
 pub const JUMP_IF_FALSE: u32 = 29;
@@ -46,11 +61,29 @@ pub const LOAD_ATTR: u32 = 36;
 
 pub const STORE_ATTR: u32 = 37;
 
+pub const BUILD_LIST: u32 = 38;
+
+pub const BUILD_TUPLE: u32 = 39;
+
+pub const BUILD_DICT: u32 = 40;
+
+pub const BUILD_SET: u32 = 41;
+
+pub const BUILD_TREE_SET: u32 = 42;
+
 pub const LOAD_INDEX: u32 = 43;
 
 pub const STORE_INDEX: u32 = 44;
 
 pub const MAKE_CLOSURE: u32 = 45;
+
+// A display's instruction is its kind plus this, but that tuple and dict are exchanged.
+pub const BUILD: u32 = BUILD_LIST - expr::LIST as u32;
+
+// The jump of `and` or `or` is the operator plus this; the constant on its short way is the other minus the jump.
+pub const LOGICAL: u32 = JUMP_IF_FALSE - expr::AND as u32;
+
+pub const SHORT: u32 = JUMP_IF_FALSE + FALSE;
 
 pub const BREAK: u32 = 46;
 

@@ -1,4 +1,5 @@
-// Numbers by name: counts and limits by their places in the lent numbers, the tables by their places in the second area.
+// Counts and limits by their places in the lent numbers, the tables by their places in the second area.
+use crate::ops;
 
 // How many symbols, strings, functions, classes, methods of ended classes and constants there are.
 pub const SYMBOLS: usize = 0;
@@ -59,5 +60,28 @@ pub const STRING_INDEX_FROM: usize = 10688;
 
 pub const STRING_INDEX_END: usize = 14784;
 
+// How many methods there may be, and how many buckets each index has.
+pub const METHODS_ROOM: usize = 256;
+
+pub const SYMBOL_BUCKETS: u32 = 8192;
+
+pub const STRING_BUCKETS: u32 = 4096;
+
+// A symbol is the place of its name in the tree, or from here on that in the made names.
+pub const MADE_FROM: u32 = 32768;
+
+pub const MADE_START: usize = MADE_FROM as usize;
+
 // The slots of a function come after an index of so many buckets.
 pub const SLOTS_FROM: usize = 2048;
+
+// A word is its opcode times this, its first operand times that, and its second operand.
+pub const WORD_OP: u32 = 16777216;
+
+pub const WORD_FIRST: u32 = 256;
+
+// Below this a word's first operand is the place of its eight bytes in the tree: a ConstI64 or a ConstF64.
+pub const PLACED_END: u32 = ops::CONST_STR * WORD_OP;
+
+// A place and a count in one number, and a symbol and the rest of a function's head: the first times this.
+pub const UPPER: u32 = 65536;

@@ -1,10 +1,7 @@
-use Rattle.parts.proofs.LeafLaws.{inner-yes, inner-low, inner-rest}
+use Rattle.byte_tests.proofs.Names.{inner-yes, inner-low, inner-rest}
 use borrow.Author.Needs.{needs}
-use Rattle.parts.proofs.names.is_inner.Statement.{statement}
-use Rattle.parts.proofs.names.is_inner.Tie as tie
-use Rattle.parts.proofs.names.is_inner.Reads as reads
-use Rattle.parts.proofs.names.is_inner.Lts as lts
-use Rattle.parts.proofs.names.is_letter.Reads as is-letter-reads
+use Rattle.byte_tests.proofs.is_inner.Statement.{statement}
+use Rattle.byte_tests.proofs.is_inner.Tie as tie
 
 pub is-inner-spec : {M : Type 1} → statement M
 is-inner-spec = tie.close (tie.spec

@@ -1,8 +1,6 @@
-use Rattle.parts.proofs.LeafLaws.{letter-1, letter-2, letter-3, letter-4, letter-5}
-use Rattle.parts.proofs.names.is_letter.Statement.{statement}
-use Rattle.parts.proofs.names.is_letter.Tie as tie
-use Rattle.parts.proofs.names.is_letter.Reads as reads
-use Rattle.parts.proofs.names.is_letter.Lts as lts
+use Rattle.byte_tests.proofs.Names.{letter-1, letter-2, letter-3, letter-4, letter-5}
+use Rattle.byte_tests.proofs.is_letter.Statement.{statement}
+use Rattle.byte_tests.proofs.is_letter.Tie as tie
 
 pub is-letter-spec : {M : Type 1} → statement M
 is-letter-spec = tie.close (tie.spec

@@ -1,19 +1,15 @@
 use borrow.Author.Tests.{not-true, not-false}
 use borrow.Author.Needs.{needs}
 use native.Mathlib.Omega.{arith}
-use mathlib.Core.Path.{_≡_, refl, sym, ap, _∙_}
-use mathlib.Core.Bool.{Bool, true, false, _&&_, _||_}
-use lib.ListN.{length, take, drop, getD}
-use Prim.Native.Nat.{ℕ, _+_, _-_, _*_, _≤_, _<_}
+use mathlib.Core.Path.{_≡_, refl, sym, _∙_}
+use mathlib.Core.Bool.{_||_}
+use lib.ListN.{length, drop}
+use Prim.Native.Nat.{_-_, _≤_}
 use Rattle.definitions.specs.Bytes.{all}
-use Rattle.definitions.specs.Wellformed.{letter, digit, isName}
-use Rattle.parts.proofs.LeafLaws.{name-empty, name-long, name-bad-first, name-rest, all-go, all-stop, all-none}
-use Rattle.parts.proofs.names.is_name.Statement.{statement}
-use Rattle.parts.proofs.names.is_name.Tie as tie
-use Rattle.parts.proofs.names.is_name.Reads as reads
-use Rattle.parts.proofs.names.is_name.Lts as lts
-use Rattle.parts.proofs.names.is_inner.Reads as is-inner-reads
-use Rattle.parts.proofs.names.is_letter.Reads as is-letter-reads
+use Rattle.definitions.specs.Wellformed.{letter, digit}
+use Rattle.byte_tests.proofs.Names.{name-empty, name-long, name-bad-first, name-rest, all-go, all-stop, all-none}
+use Rattle.byte_tests.proofs.is_name.Statement.{statement}
+use Rattle.byte_tests.proofs.is_name.Tie as tie
 
 abbrev Inv-loop : tie.InvT-loop
 Inv-loop bytes i₀ i = (all (λ d. letter d || digit d) (drop 1 bytes) ≡ all (λ d. letter d || digit d) (drop i bytes)) × (1 ≤ i)

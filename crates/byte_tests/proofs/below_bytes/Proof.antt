@@ -3,9 +3,9 @@ use Prim.Native.Nat.{_-_}
 use mathlib.Core.Path.{_≡_, refl, sym, _∙_}
 use lib.ListN.{length, drop}
 use Rattle.definitions.specs.Bytes.{below}
-use Rattle.methods.proofs.Sorting.{below-ended, below-differ, below-go, below-all}
-use Rattle.methods.proofs.below_bytes.Statement.{statement}
-use Rattle.methods.proofs.below_bytes.Tie as tie
+use Rattle.byte_tests.proofs.Below.{below-ended, below-differ, below-go, below-all}
+use Rattle.byte_tests.proofs.below_bytes.Statement.{statement}
+use Rattle.byte_tests.proofs.below_bytes.Tie as tie
 
 abbrev Inv-loop : tie.InvT-loop
 Inv-loop a b i₀ i = below a b ≡ below (drop i a) (drop i b)
