@@ -1,15 +1,12 @@
 -- The instruction of a word, by the tests of the code; its bytes; and the tables of widths.
-use mathlib.Core.Path.{_≡_, refl, sym, ap, ap₂, _∙_, subst}
-use mathlib.Core.Bool.{Bool, true, false, _&&_, _||_}
+use mathlib.Core.Path.{_≡_, refl, sym, ap, _∙_, subst}
+use mathlib.Core.Bool.{Bool, true, false, _&&_}
 use mathlib.Core.List.{List, [], _∷_, _++_, map, append-nil}
 use Prim.Native.Nat.{ℕ, zero, suc, _+_, _*_, _-_, _/_, _%_, _^_, _≤_, _<_}
 use native.Mathlib.Omega.{arith}
-use native.Mathlib.Nat.{pow-succ', pow-le-pow-right, add-mul, mul-assoc, mod-eq-of-lt, mul-add-div-right, mul-add-mod-self-right}
-use native.Mathlib.Numerals.{add-one}
-use lib.Arith.{digits-div, digits-lt}
-use lib.Dec.{eqb, ltb, leb, lit<}
-use lib.ListN.{length, getD, set, take, drop, length-append, length-take, length-drop, List·getD-map}
-use lib.Seq.{drop-cons, take-all}
+use native.Mathlib.Nat.{pow-succ', pow-le-pow-right, add-mul, mul-assoc}
+use lib.Dec.{eqb, leb, lit<}
+use lib.ListN.{length, getD, set, length-append, List·getD-map}
 use borrow.Author.Tests.{eqb-true, eqb-false, eq-eqb, ne-eqb, lt-ltb, le-ltb, le-leb, lt-leb}
 use Rattle.definitions.specs.Bytes.{be}
 use Rattle.definitions.specs.Instruction.{Instr, instr, ConstI64, Row, row, nothing, instructionTable, rowOf, firstWidth, secondWidth, encode}

@@ -5,7 +5,7 @@ use crate::words::write_instruction;
 use numerals::places::UPPER;
 ghost use mathlib.Core.Path.{_≡_};
 ghost use mathlib.Core.List.{List};
-ghost use Prim.Native.Nat.{ℕ, _+_, _*_, _≤_, _<_};
+ghost use Prim.Native.Nat.{ℕ, _+_, _≤_, _<_};
 ghost use lib.ListN.{length};
 ghost use Rattle.definitions.specs.Module.{functionBytes};
 ghost use Rattle.state.specs.Words.{region};
