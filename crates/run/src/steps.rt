@@ -9,9 +9,8 @@ use reader::number_at;
 ghost use mathlib.Core.Path.{_≡_};
 ghost use Prim.Native.Nat.{_+_, _-_, _≤_, _<_};
 ghost use lib.Dec.{eqb};
-ghost use lib.ListN.{length, getD, take, drop, set};
+ghost use lib.ListN.{length, take, drop, set};
 ghost use Rattle.definitions.specs.Run.{way};
-ghost use Rattle.reader.specs.View.{instructionsOf};
 ghost use Rattle.run.specs.Pass.{Coded, Places, Stops, Reaches, Copied, Stands, Goes, AtStop, Asks, Turns};
 
 // A byte of the events, where the buffer has room for it.

@@ -3,7 +3,7 @@ use borrow.Author.Needs.{needs}
 use native.Mathlib.Omega.{arith}
 use mathlib.Core.Logic.{inl, inr}
 use mathlib.Core.Path.{refl, ap, _∙_}
-use Prim.Native.Nat.{ℕ, _+_, _*_}
+use Prim.Native.Nat.{ℕ, _+_, _*_, _<_}
 use Rattle.exprs.proofs.ExprViews.{expr-inside, expr-deep, expr-known, view-unary, view-binary, view-call, view-attribute, view-list, view-dict, view-tuple, view-set, view-tree-set, view-index, view-lambda, view-exprs-more}
 use Rattle.state.specs.State.{slotNames}
 use Rattle.slots.proofs.Referring.{list-reads, list-is, dict-reads, dict-is, body-there}

@@ -1,7 +1,7 @@
 use borrow.Author.Needs.{needs}
 use native.Mathlib.Omega.{arith}
 use mathlib.Core.Path.{refl}
-use Prim.Native.Nat.{ℕ, _+_, _-_, _*_}
+use Prim.Native.Nat.{ℕ, _+_, _-_, _*_, _<_}
 use Rattle.tree.proofs.StmtViews.{stmt-inside, stmt-deep, stmt-known, view-expr, view-return, view-assign, view-if, view-while, view-for, view-def, view-class, view-block, view-stmts-more, view-branches-more, view-methods-more, else-inside}
 use Rattle.state.specs.State.{slotNames}
 use Rattle.slots.proofs.Gathering.{elifs-counted, elifs-read, elifs-are, else-reads}

@@ -1,6 +1,5 @@
-use Prim.Native.Nat.{ℕ, _+_}
 use native.Mathlib.Omega.{arith}
-use mathlib.Core.Path.{sym, ap, _∙_}
+use mathlib.Core.Path.{sym, ap}
 use mathlib.Core.Bool.{Bool, cond}
 use Rattle.lower_emit.proofs.Packing.{instr-plain, instr-place, instr-small, plain-below}
 use Rattle.lower_leaves.proofs.LiteralForms.{none-is, bool-is, int-is, float-is, nan-is, text-is}
