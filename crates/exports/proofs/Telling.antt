@@ -74,18 +74,18 @@ module _ (r : Lowered) (k l : Limits) (e : k ≡ l) (tree area₁ area₂ out ar
   abbrev want : Lowering
   want = lowerCall l tree area₁ area₂ out
 
-  told-as : (x : ℕ) → x ≡ toldCount (lowered r) → Lowers x want area₁′ area₂′ out′
-  told-as x h =
+  lowers-as : (x : ℕ) → x ≡ toldCount (lowered r) → Lowers x want area₁′ area₂′ out′
+  lowers-as x h =
       let w : lowerCall k tree area₁ area₂ out ≡ want = ap (λ (m : Limits). lowerCall m tree area₁ area₂ out) e in
       subst (λ (v : Lowering). Lowers x v area₁′ area₂′ out′) w (record { answer = h ∙ ap toldCount (L .answer); first = L .first; second = L .second; output = L .output })
 
   pub lowered-yes : (n : ℕ) → r ≡ Wrote n → Lowers (4294967296 + n) want area₁′ area₂′ out′
   unfolding lowered toldCount
-  lowered-yes n h = told-as (4294967296 + n) (ap (λ (x : Lowered). toldCount (lowered x)) (sym h))
+  lowered-yes n h = lowers-as (4294967296 + n) (ap (λ (x : Lowered). toldCount (lowered x)) (sym h))
 
   pub lowered-no : (q : ℕ) → r ≡ NotLowered q → Lowers q want area₁′ area₂′ out′
   unfolding lowered toldCount
-  lowered-no q h = told-as q (ap (λ (x : Lowered). toldCount (lowered x)) (sym h))
+  lowered-no q h = lowers-as q (ap (λ (x : Lowered). toldCount (lowered x)) (sym h))
 
 -- ---- a module
 
@@ -183,17 +183,17 @@ module _ (r : Reached) {bytes : List ℕ} {function place : ℕ} {area area′ o
   reached-fits n e l =
       found-fits (sought (length area) bytes function place (length out)) (R .found) n out out′ (sym (ap reachSaid e) ∙ ap (λ (x : Reaching). x .answer) (R .is)) (ap (λ (x : Reaching). x .buffer) (R .is)) l
 
-  told-as : (m : ℕ) → m ≡ toldFound (reachSaid r) → Seeks m bytes function place area area′ out out′
-  told-as m e = record { given = record { answer = reachSaid r; area = area′; buffer = out′ }; call = R; answer = e; left = refl; buffer = refl }
+  seeks-as : (m : ℕ) → m ≡ toldFound (reachSaid r) → Seeks m bytes function place area area′ out out′
+  seeks-as m e = record { given = record { answer = reachSaid r; area = area′; buffer = out′ }; call = R; answer = e; left = refl; buffer = refl }
 
   pub reached-list : (n : ℕ) → r ≡ Answers n → Seeks (4294967296 + n) bytes function place area area′ out out′
   unfolding reachSaid toldFound
-  reached-list n e = told-as (4294967296 + n) (ap (λ (x : Reached). toldFound (reachSaid x)) (sym e))
+  reached-list n e = seeks-as (4294967296 + n) (ap (λ (x : Reached). toldFound (reachSaid x)) (sym e))
 
   pub reached-none : r ≡ Nowhere → Seeks 8589934592 bytes function place area area′ out out′
   unfolding reachSaid toldFound
-  reached-none e = told-as 8589934592 (ap (λ (x : Reached). toldFound (reachSaid x)) (sym e))
+  reached-none e = seeks-as 8589934592 (ap (λ (x : Reached). toldFound (reachSaid x)) (sym e))
 
   pub reached-not : (q : ℕ) → r ≡ NotSought q → Seeks q bytes function place area area′ out out′
   unfolding reachSaid toldFound
-  reached-not q e = told-as q (ap (λ (x : Reached). toldFound (reachSaid x)) (sym e))
+  reached-not q e = seeks-as q (ap (λ (x : Reached). toldFound (reachSaid x)) (sym e))
