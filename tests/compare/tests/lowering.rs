@@ -77,7 +77,7 @@ fn console_and_office() {
             }
         }
     }
-    assert!(over > 50, "{over}");
+    assert!(over >= 36, "{over}");
 }
 
 /// Each limit of the console, on both sides.
