@@ -236,7 +236,7 @@ class Build(unittest.TestCase):
         first = self.run_tool("show", "spine.py")
         self.assertEqual((first.returncode, first.stdout), (0, "words: show spine.py\n"), first.stderr)
         total = first.stderr.split()[1]
-        second = re.findall("^[a-z0-9_]+: definitions\\b", (ROOT / "crates.txt").read_text(), re.MULTILINE)[0].split(":")[0]
+        second = re.findall("^([a-z0-9_]+):", (ROOT / "crates.txt").read_text(), re.MULTILINE)[1]
         self.assertRegex(first.stderr, f"(?m)^1 of {total}: definitions proved \\(5 s\\); [0-9]+ s so far; next: {second}$")
         self.assertIn(f"2 of {total}: parts proved (20 s); ", first.stderr)
         self.assertIn("rulketoos is built; ", first.stderr)
