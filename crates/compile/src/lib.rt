@@ -1,22 +1,28 @@
 // The tables of an accepted tree: function 0, `__main__`, is the tree's block, with no slots.
 use lower_emit::begin_function;
 use lower_emit::end_function;
-use lower_emit::ops::RETURN;
-use lower_emit::places::BASE;
-use lower_emit::places::CLASSES;
-use lower_emit::places::CONSTANTS;
-use lower_emit::places::DONE;
-use lower_emit::places::FUNCTIONS;
-use lower_emit::places::MADE;
-use lower_emit::places::METHODS;
-use lower_emit::places::OPEN;
-use lower_emit::places::OVER;
-use lower_emit::places::STRINGS;
-use lower_emit::places::SYMBOLS;
 use lower_emit::put_op;
 use lower_names::intern_made;
 use lower_stmt::emit_block;
 use names::Made;
+use numerals::ops::RETURN;
+use numerals::places::BASE;
+use numerals::places::CLASSES;
+use numerals::places::CONSTANTS;
+use numerals::places::DONE;
+use numerals::places::FUNCTIONS;
+use numerals::places::MADE;
+use numerals::places::METHODS;
+use numerals::places::OPEN;
+use numerals::places::OVER;
+use numerals::places::SLOTS_FROM;
+use numerals::places::STRINGS;
+use numerals::places::SYMBOLS;
+use numerals::sizes::COUNTS;
+use numerals::sizes::DEPTH;
+use numerals::sizes::HEAD;
+use numerals::sizes::LIMITS;
+use numerals::sizes::MADE_ROOM;
 use state::Counts;
 ghost use mathlib.Core.Path.{_≡_};
 ghost use Prim.Native.Nat.{_≤_};
@@ -29,10 +35,10 @@ ghost use Rattle.compile.specs.Compiled.{Fresh, treeBlock, mainCode, Beg
 // `__main__` begins: its number, 0; or 65,536 where there is no room.
 fn begin_main(
     tree: &[u8],
-    made: &mut [u8; 20500],
+    made: &mut [u8; MADE_ROOM],
     tables: &mut [u32],
-    k: &mut [u32; 10],
-    l: &[u32; 5],
+    k: &mut [u32; COUNTS],
+    l: &[u32; LIMITS],
 ) -> u32
     requires { ⌜ Fresh (now made) (now tables) (now k) (now l) ⌝ }
     ensures { λ r. ⌜ BeginsMain r (now (tree .entry)) (now (made .exit)) (now (tables .exit)) (now (k .exit)) (now (l .entry)) ⌝ }
@@ -47,18 +53,18 @@ fn begin_main(
 // The tree's block, and a return.
 fn emit_main(
     tree: &[u8],
-    made: &mut [u8; 20500],
+    made: &mut [u8; MADE_ROOM],
     code: &mut [u32],
     tables: &mut [u32],
-    k: &mut [u32; 10],
-    l: &[u32; 5],
+    k: &mut [u32; COUNTS],
+    l: &[u32; LIMITS],
 ) -> usize
     requires { ⌜ SoundIn (now tree) (now made) (now code) (now tables) (now k) (now l) × TreeAt (now tree) ⌝ }
     ensures { λ r. ⌜ LowersIn r (mainCode (treeBlock (now (tree .entry)))) (blockAt 32 (now (tree .entry)) 5 .end)
         (now (tree .entry)) (now (made .entry)) (now (code .entry)) (now (tables .entry)) (now (k .entry)) (now (l .entry)) (now (made .exit)) (now (code .exit)) (now (tables .exit)) (now (k .exit)) ⌝ }
 {
-    let none = [0u32; 2048];
-    let next = emit_block(tree, 5, 32, &none, made, code, tables, k, l);
+    let none = [0u32; SLOTS_FROM];
+    let next = emit_block(tree, HEAD, DEPTH, &none, made, code, tables, k, l);
     if next == 0 {
         return 0;
     }
@@ -68,11 +74,11 @@ fn emit_main(
 // The tables of the tree, in the slices: where its block ends, or 0 where they are over the limits.
 pub fn compile(
     tree: &[u8],
-    made: &mut [u8; 20500],
+    made: &mut [u8; MADE_ROOM],
     code: &mut [u32],
     tables: &mut [u32],
-    k: &mut [u32; 10],
-    l: &[u32; 5],
+    k: &mut [u32; COUNTS],
+    l: &[u32; LIMITS],
 ) -> usize
     requires { ⌜ Fresh (now made) (now tables) (now k) (now l) × (16384 ≤ length (now code)) × TreeAt (now tree) ⌝ }
     ensures { λ r. ⌜ CompilesTree r (now (tree .entry)) (now (made .exit)) (now (code .exit)) (now (tables .exit)) (now (k .exit)) (now (l .entry)) (Lower.compile (treeBlock (now (tree .entry))) .tables) ⌝ }
@@ -90,7 +96,7 @@ pub fn compile(
 }
 
 // The counts, as the module's writer takes them.
-pub fn counts(k: &[u32; 10]) -> Counts
+pub fn counts(k: &[u32; COUNTS]) -> Counts
     ensures { λ r. ⌜ r ≡ countsOf (now (k .entry)) ⌝ }
 {
     Counts {

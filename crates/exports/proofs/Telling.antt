@@ -3,17 +3,17 @@ use Prim.Native.Nat.{ℕ, _+_, _*_, _^_, _≤_, _<_}
 use mathlib.Core.Path.{_≡_, refl, sym, ap, _∙_, subst}
 use mathlib.Core.Bool.{Bool, true, false}
 use mathlib.Core.Option.{Option, none, some}
-use mathlib.Core.List.{List, _++_}
+use mathlib.Core.List.{List}
 use native.Mathlib.Omega.{arith}
 use lib.ListN.{length, set, drop, length-append}
 use lib.Dec.{leb}
 use borrow.Author.Tests.{le-leb, lt-leb, leb-true}
 use Rattle.definitions.specs.Bytes.{Answer, refused, accepted, whenAccepted}
-use Rattle.definitions.specs.Instruction.{Instr, encodes}
-use Rattle.definitions.specs.Tables.{Function, Tables}
+use Rattle.definitions.specs.Instruction.{Instr}
+use Rattle.definitions.specs.Tables.{Tables}
 use Rattle.definitions.specs.Reader.{readModule}
-use Rattle.definitions.specs.Module.{Limits, codeStart, lowerBytes}
-use Rattle.definitions.specs.Calls.{Part, Counts, Running, fitsRoom, areasFit, lowerAnswer, countAnswer, Lowering, lowerCall, readCall, functionOf, codePart, codeCall, textFits, textAnswer, textCall, runCall, written}
+use Rattle.definitions.specs.Module.{Limits, lowerBytes}
+use Rattle.definitions.specs.Calls.{Counts, Running, fitsRoom, areasFit, lowerAnswer, countAnswer, Lowering, lowerCall, codeCall, textFits, textAnswer, textCall, written}
 use Rattle.definitions.proofs.ReadFits.{module-short}
 use Rattle.definitions.specs.Reach.{sought, countFound, foundAnswer, bufferAfter, Reaching, reachCall}
 use Rattle.tree.specs.Settled.{said, settled}

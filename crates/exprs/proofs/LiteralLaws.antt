@@ -1,22 +1,22 @@
 -- Literals by their kind bytes, and numbers of eight bytes. Assumes nothing.
-use Prim.Native.Nat.{ℕ, zero, suc, _+_, _*_, _-_, _%_, _<_, _≤_, _^_}
+use Prim.Native.Nat.{ℕ, zero, suc, _+_, _*_, _-_, _%_, _<_, _≤_}
 use mathlib.Core.Path.{_≡_, refl, sym, ap, _∙_}
 use mathlib.Core.Bool.{true, false, not}
-use mathlib.Core.List.{List, [], _∷_}
+use mathlib.Core.List.{List, _∷_}
 use native.Mathlib.Omega.{arith}
 use lib.Dec.{T}
 use lib.Ieee.{binary64, isNan, ofBits}
 use lib.ListN.{length, take, drop, getD}
 use borrow.Author.Needs.{const-no-nan}
 use borrow.Author.Tests.{le-ltb}
-use Rattle.definitions.specs.Bytes.{Parser, got, _>>=_, give, unread, byte, field}
+use Rattle.definitions.specs.Bytes.{Parser, got, give, unread, byte, field, _>>=_}
 use Rattle.definitions.specs.Parse.{byKind, exprKinds, parseExpr}
-use Rattle.definitions.specs.Tree.{noneL, boolL, intL, floatL, stringL, Expr, lit}
-use Rattle.parts.specs.Places.{Node, nodeOf, nodeAt, isGot, countAt, Counted, eightAt, TextAt, textAt}
+use Rattle.definitions.specs.Tree.{noneL, intL, floatL, stringL, Expr, lit}
+use Rattle.parts.specs.Places.{Node, nodeOf, nodeAt, isGot, countAt, Counted, eightAt, textAt}
 use Rattle.parts.proofs.Laws.{at-byte, kind-of}
 use Rattle.parts.proofs.Nodes.{Seen, got-node}
 use Rattle.exprs.specs.ExprAt.{exprAt, ExprReads, intAt, floatAt, stringAt}
-use Rattle.exprs.specs.Literals.{literalOf, Plain, TextPlace, LiteralAt, Stands}
+use Rattle.exprs.specs.Literals.{literalOf, Plain, TextPlace, bitsOf, LiteralAt, Stands}
 use Rattle.exprs.specs.declared.literals.Literal.{Literal}
 use Rattle.exprs.specs.declared.literals.Literal.the-variants.{None, Bool as Truth, Int, Float, Nan, Text}
 use Rattle.exprs.proofs.ExprLaws.{deep-E}
@@ -153,3 +153,23 @@ module _ (d : ℕ) (t : List ℕ) (p : ℕ) (r : ExprReads d t p) (h : getD t p 
     parts = record { reads = record { start = r .start; read = ap isGot (sym one-level) ∙ r .read }; kind = h };
     is = ap (nodeOf (lit noneL) t) one-level;
   }
+
+-- ---- the bits of a number's literal
+
+pub int-bits : (x : Literal) (n : ℕ) (t : List ℕ) → Stands t x (intL n) → bitsOf x ≡ n
+unfolding literalOf bitsOf
+int-bits None n t h = let k = h .is in let z : _≡_ {A = ℕ} 0 1 = cc in absurd (omega arith)
+int-bits (Truth b) n t h = let k = h .is in let z : _≡_ {A = ℕ} 0 1 = cc in absurd (omega arith)
+int-bits (Int z) n t h = let k = h .is in cc
+int-bits (Float z) n t h = let k = h .is in let z : _≡_ {A = ℕ} 0 1 = cc in absurd (omega arith)
+int-bits (Nan b) n t h = let k = h .is in let z : _≡_ {A = ℕ} 0 1 = cc in absurd (omega arith)
+int-bits (Text s l) n t h = let k = h .is in let z : _≡_ {A = ℕ} 0 1 = cc in absurd (omega arith)
+
+pub float-bits : (x : Literal) (n : ℕ) (t : List ℕ) → Stands t x (floatL n) → bitsOf x ≡ n
+unfolding literalOf bitsOf
+float-bits None n t h = let k = h .is in let z : _≡_ {A = ℕ} 0 1 = cc in absurd (omega arith)
+float-bits (Truth b) n t h = let k = h .is in let z : _≡_ {A = ℕ} 0 1 = cc in absurd (omega arith)
+float-bits (Int z) n t h = let k = h .is in let z : _≡_ {A = ℕ} 0 1 = cc in absurd (omega arith)
+float-bits (Float z) n t h = let k = h .is in cc
+float-bits (Nan b) n t h = let k = h .is in cc
+float-bits (Text s l) n t h = let k = h .is in let z : _≡_ {A = ℕ} 0 1 = cc in absurd (omega arith)

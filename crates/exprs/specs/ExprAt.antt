@@ -1,14 +1,13 @@
 -- The expression that stands at a position, for each kind: what an accepted one holds, by position, and the node made of it. In all of these d is
 -- the number of levels left for the expressions held, and p the position after the kind byte.
-use Prim.Native.Nat.{ℕ, zero, suc, _+_, _*_, _-_, _<_}
+use Prim.Native.Nat.{ℕ, _+_, _*_, _-_, _<_}
 use mathlib.Core.List.{List, [], _∷_}
 use lib.ListN.{length, getD}
-use Rattle.definitions.specs.Bytes.{Name}
 use Rattle.definitions.specs.Tree.{noneL, intL, floatL, stringL, UnaryOp, notOp, negateOp, posOp, Display, dictD}
 use Rattle.definitions.specs.Tree.{BinaryOp, addOp, subtractOp, multiplyOp, divideOp, floorDivideOp, moduloOp, equalOp, notEqualOp, lessOp, lessEqualOp, greaterOp, greaterEqualOp}
 use Rattle.definitions.specs.Tree.{Expr, lit, var, unary, binary, call, attr, display, index, lambda, Exprs, []ᵉ, _∷ᵉ_}
 use Rattle.definitions.specs.Parse.{exprsOf, unaryKinds, binaryKinds, parseExpr}
-use Rattle.parts.specs.Places.{Node, node, nodeAt, Reads, countAt, Counted, eightAt, nameBytes, nameEnd, There, ParamsAt, paramsAt, TextAt, textAt}
+use Rattle.parts.specs.Places.{Node, node, nodeAt, Reads, countAt, Counted, eightAt, nameBytes, nameEnd, There, ParamsAt, paramsAt, textAt}
 
 -- the expression at p with d levels left, and n expressions from p on
 abbrev pub exprAt : ℕ → List ℕ → ℕ → Node Expr

@@ -1,5 +1,5 @@
 -- What the code's literals stand for.
-use Prim.Native.Nat.{ℕ, zero, suc, _+_, _%_, _<_}
+use Prim.Native.Nat.{ℕ, _+_, _%_, _<_}
 use mathlib.Core.Path.{_≡_}
 use mathlib.Core.Bool.{not}
 use mathlib.Core.List.{List}

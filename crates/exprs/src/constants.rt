@@ -1,4 +1,5 @@
 // Constants in a list of expressions: None, False and True, one byte each.
+use numerals::expr;
 use parts::Role;
 ghost use Prim.Native.Nat.{_≤_};
 ghost use lib.ListN.{length};
@@ -22,7 +23,7 @@ fn leading_constants(tree: &[u8], at: usize, n: usize) -> usize
     let end = smaller(tree.len() - at, n);
     let mut k = 0usize;
     while k < end {
-        if 2 < tree[at + k] {
+        if expr::TRUE < tree[at + k] {
             return k;
         }
         k += 1;

@@ -1,4 +1,5 @@
 // The literals of a tree.
+use numerals::expr;
 use parts::numbers::u16_at;
 ghost use mathlib.Core.Path.{_≡_};
 ghost use mathlib.Core.List.{List};
@@ -32,7 +33,7 @@ fn eight_at(tree: &[u8], at: usize) -> u64
 }
 
 // The integer whose two's complement is `bits`.
-fn int_literal(bits: u64) -> Literal
+pub fn int_literal(bits: u64) -> Literal
     ensures { λ r. ⌜ ((t : List ℕ) → Stands t r (intL bits)) ⌝ }
 {
     if bits < 0x8000_0000_0000_0000 {
@@ -43,7 +44,7 @@ fn int_literal(bits: u64) -> Literal
 }
 
 // The float of these bits.
-fn float_literal(bits: u64) -> Literal
+pub fn float_literal(bits: u64) -> Literal
     ensures { λ r. ⌜ ((t : List ℕ) → Stands t r (floatL bits)) ⌝ }
 {
     if 0x7ff0_0000_0000_0000 < bits % 0x8000_0000_0000_0000 {
@@ -59,11 +60,11 @@ pub fn literal_at(tree: &[u8], at: usize) -> Literal
     ensures { λ r. ⌜ (lit (literalOf (now (tree .entry)) r) ≡ exprAt 1 (now (tree .entry)) at .value) × Plain r × TextPlace (now (tree .entry)) at r ⌝ }
 {
     match tree[at] {
-        0 => Literal::None,
-        1 => Literal::Bool(false),
-        2 => Literal::Bool(true),
-        3 => int_literal(eight_at(tree, at + 1)),
-        4 => float_literal(eight_at(tree, at + 1)),
+        expr::NONE => Literal::None,
+        expr::FALSE => Literal::Bool(false),
+        expr::TRUE => Literal::Bool(true),
+        expr::INT => int_literal(eight_at(tree, at + 1)),
+        expr::FLOAT => float_literal(eight_at(tree, at + 1)),
         _ => Literal::Text {
             start: at + 3,
             len: u16_at(tree, at + 1) as usize,

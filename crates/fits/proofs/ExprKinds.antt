@@ -1,32 +1,31 @@
 -- Question 14 of each kind of expression. Assumes nothing.
-use Prim.Native.Nat.{ℕ, zero, suc, _+_, _*_, _-_, _<_, _≤_}
-use mathlib.Core.Path.{_≡_, refl, sym, ap, _∙_, subst, ap₂}
+use Prim.Native.Nat.{ℕ, _+_, _-_, _<_, _≤_}
+use mathlib.Core.Path.{_≡_, refl, sym, ap, _∙_, subst}
 use mathlib.Core.Bool.{Bool, true, false, _&&_}
-use mathlib.Core.List.{List, [], _∷_, _++_}
-use mathlib.Core.Logic.{_⊎_, inl, inr, ⊎-elim}
+use mathlib.Core.List.{List, _++_}
+use mathlib.Core.Logic.{_⊎_, ⊎-elim}
 use native.Mathlib.Omega.{arith}
 use lib.Dec.{eqb}
 use lib.ListN.{length, take, drop, getD}
 use borrow.Author.Tests.{eqb-true, eqb-false}
 use Rattle.definitions.specs.Bytes.{Name}
-use Rattle.definitions.specs.Tree.{Expr, lit, var, Literal, Exprs, []ᵉ, _∷ᵉ_, View, asVar, asAttr, asIndex, asTuple, asOther, view}
+use Rattle.definitions.specs.Tree.{Expr, Exprs, View, asVar, asAttr, asIndex, asTuple, asOther, view}
 use Rattle.definitions.specs.Slots.{captures}
 use Rattle.state.specs.State.{slotsFrom, slotNames}
 use Rattle.state.specs.Fits.{fitsExpr, fitsExprs, fitsTarget}
-use Rattle.parts.specs.Places.{Node, node, nameBytes, nameEnd, There, paramsAt}
-use Rattle.exprs.specs.ExprAt.{exprAt, exprsAt, ExprReads, ExprsRead, varAt, unaryOf, binaryOf, UnaryAt, unaryAt, TwoAt, secondAt, BinaryAt, binaryAt, ListAt, listAt, CallAt, callAt, AttributeAt, attributeAt, displayAt, DictAt, pairsAt, dictAt, indexAt, LambdaAt, lambdaAt, consAt}
-use Rattle.parts.proofs.Laws.{le-or-gt}
-use Rattle.parts.proofs.Nodes.{Seen}
-use Rattle.exprs.proofs.ExprViews.{expr-known, view-var, view-unary, view-binary, view-call, view-attribute, view-dict, view-index, view-lambda, view-exprs-none, view-exprs-more}
+use Rattle.parts.specs.Places.{Node, nameEnd, There, paramsAt}
+use Rattle.exprs.specs.ExprAt.{exprAt, exprsAt, ExprReads, ExprsRead, varAt, unaryAt, TwoAt, secondAt, binaryAt, ListAt, listAt, CallAt, callAt, AttributeAt, attributeAt, displayAt, pairsAt, dictAt, indexAt, lambdaAt, consAt}
+use Rattle.parts.proofs.Laws.{le-or-gt, up}
+use Rattle.exprs.proofs.ExprViews.{view-var, view-unary, view-binary, view-call, view-attribute, view-dict, view-index, view-lambda, view-exprs-none, view-exprs-more}
 use Rattle.slots.specs.Slotted.{Collected}
 use Rattle.slots.specs.declared.Locals.{Locals}
 use Rattle.slots.specs.declared.Locals.the-variants.{Count}
 use Rattle.slots.proofs.Skipping.{plain-done}
-use Rattle.slots.proofs.Kinded.{up, unary-each, binary-each, seen-literal, seen-display, form-var, form-attribute, form-tuple, form-index, form-other}
+use Rattle.slots.proofs.Kinded.{unary-each, binary-each, seen-literal, seen-display, form-var, form-attribute, form-tuple, form-index, form-other}
 use Rattle.fits.specs.Walk.{Walks, lambdaFits}
 use Rattle.fits.specs.declared.Fit.{Fit}
-use Rattle.fits.specs.declared.Fit.the-variants.{Next, Over}
-use Rattle.fits.proofs.Walking.{walks-as, walks-next, next-walks, second-walks, Left, Step, lambda-inside}
+use Rattle.fits.specs.declared.Fit.the-variants.{Next}
+use Rattle.fits.proofs.Walking.{walks-as, next-walks, Left, Step, lambda-inside}
 
 module _ (d : ℕ) (t : List ℕ) (p : ℕ) (r : ExprReads d t p) (slots : List Name) where
   abbrev x : Node Expr

@@ -1,32 +1,29 @@
 -- Question 14 of each kind of statement, of blocks, branches and methods. Assumes nothing.
-use Prim.Native.Nat.{ℕ, zero, suc, _+_, _*_, _-_, _<_, _≤_}
+use Prim.Native.Nat.{ℕ, zero, suc, _+_, _-_, _<_, _≤_}
 use mathlib.Core.Path.{_≡_, refl, sym, ap, _∙_, subst, ap₂}
 use mathlib.Core.Bool.{Bool, true, false, _&&_}
-use mathlib.Core.List.{List, [], _∷_, _++_}
+use mathlib.Core.List.{List, []}
 use mathlib.Core.Logic.{⊎-elim}
 use native.Mathlib.Omega.{arith}
-use lib.Dec.{leb}
 use lib.ListN.{length, take, drop, getD}
 use Rattle.definitions.specs.Bytes.{Name}
-use Rattle.definitions.specs.Tree.{Expr, Stmt, Block, []ᵇ, _∷ᵇ_, Branches, done, else, when, Methods, []ᵐ, method}
+use Rattle.definitions.specs.Tree.{Stmt, Block, Branches, Methods}
 use Rattle.definitions.specs.Slots.{localsBlock}
 use Rattle.state.specs.State.{slotsFrom, slotNames}
 use Rattle.state.specs.Fits.{fitsExpr, fitsTarget, fitsStmt, fitsBlock, fitsBranches, fitsMethods}
-use Rattle.parts.specs.Places.{Node, node, countAt, nameBytes, nameEnd, There, ParamsAt, paramsAt}
-use Rattle.exprs.specs.ExprAt.{exprAt, ExprReads, TwoAt, secondAt}
-use Rattle.tree.specs.StmtAt.{stmtAt, blockAt, stmtsAt, branchesAt, methodsAt, StmtReads, BlockReads, StmtsRead, BranchesRead, MethodsRead, exprStmtAt, returnAt, assignAt, BranchAt, bodyAt, IfAt, elifsAt, ifAt, whileAt, ForAt, forAt, whenAt, elseAt, DefAt, defBlockAt, defAt, methodAt, ClassAt, classMethodsAt, classAt, consAt}
-use Rattle.parts.proofs.Laws.{le-or-gt}
-use Rattle.parts.proofs.Nodes.{Seen}
-use Rattle.tree.proofs.StmtViews.{stmt-known, view-break, view-continue, view-pass, view-expr, view-return, view-assign, view-if, view-while, view-for, view-def, view-class, view-block, view-stmts-none, view-stmts-more, view-branches-more, else-known, view-done, view-else, view-methods-none, view-methods-more}
+use Rattle.parts.specs.Places.{Node, countAt, nameEnd, ParamsAt, paramsAt}
+use Rattle.exprs.specs.ExprAt.{exprAt, secondAt}
+use Rattle.tree.specs.StmtAt.{stmtAt, blockAt, stmtsAt, branchesAt, methodsAt, StmtReads, BlockReads, StmtsRead, BranchesRead, MethodsRead, exprStmtAt, returnAt, assignAt, BranchAt, bodyAt, elifsAt, ifAt, whileAt, forAt, whenAt, elseAt, DefAt, defBlockAt, defAt, methodAt, ClassAt, classMethodsAt, classAt, consAt}
+use Rattle.parts.proofs.Laws.{le-or-gt, up}
+use Rattle.tree.proofs.StmtViews.{view-break, view-continue, view-pass, view-expr, view-return, view-assign, view-if, view-while, view-for, view-def, view-class, view-block, view-stmts-none, view-stmts-more, view-branches-more, else-known, view-done, view-else, view-methods-none, view-methods-more}
 use Rattle.slots.specs.Slotted.{Collected}
 use Rattle.slots.specs.declared.Locals.{Locals}
 use Rattle.slots.specs.declared.Locals.the-variants.{Count}
 use Rattle.slots.proofs.Adding.{none-names}
-use Rattle.slots.proofs.Kinded.{up}
 use Rattle.fits.specs.Walk.{Walks, defFits}
 use Rattle.fits.specs.declared.Fit.{Fit}
 use Rattle.fits.specs.declared.Fit.the-variants.{Next, Over}
-use Rattle.fits.proofs.Walking.{walks-as, walks-next, walks-over, next-walks, over-walks, second-walks, Left, Step, left-start, def-inside}
+use Rattle.fits.proofs.Walking.{walks-as, walks-next, walks-over, next-walks, over-walks, Left, Step, left-start, def-inside}
 
 module _ (d : ℕ) (t : List ℕ) (p : ℕ) (r : StmtReads d t p) (slots : List Name) where
   abbrev x : Node Stmt
@@ -201,9 +198,6 @@ module _ (d : ℕ) (t : List ℕ) (p a q : ℕ) (e : a ≡ nameEnd t p) (f : q �
   pub def-body : (r : Locals) (ps : List ℕ) (n : ℕ) (o : Fit) → Collected r t ps (localsBlock (blockAt d t q .value) (paramsAt t a .value)) → r ≡ Count n → slotsFrom + 255 ≤ length ps →
       Walks o (blockAt d t q .end) (fitsBlock (slotNames t (take (slotsFrom + n - 0) (drop 0 ps))) (blockAt d t q .value)) → Walks o (defBlockAt d t p .end) (methodFits d t p)
   def-body r ps n o c k g w = def-inside r t ps _ (def-collected r ps c) n k g o _ _ _ _ (ap (λ (m : ℕ). blockAt d t m .end) block-at) (ap (λ (m : ℕ). blockAt d t m .value) block-at) w
-
-pub full-length : (ps : List ℕ) → length ps ≡ 2304 → slotsFrom + 255 ≤ length ps
-full-length ps e = omega arith
 
 -- ---- classes
 

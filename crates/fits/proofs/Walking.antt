@@ -1,8 +1,8 @@
 -- Question 14, one part after another, and one element of a list after another. Assumes nothing.
-use Prim.Native.Nat.{ℕ, zero, suc, _+_, _*_, _-_, _<_, _≤_}
+use Prim.Native.Nat.{ℕ, _+_, _-_, _≤_}
 use mathlib.Core.Path.{_≡_, refl, sym, ap, _∙_, subst, ap₂}
 use mathlib.Core.Bool.{Bool, true, false, _&&_}
-use mathlib.Core.List.{List, [], _∷_, _++_}
+use mathlib.Core.List.{List}
 use native.Mathlib.Omega.{arith}
 use lib.Dec.{leb}
 use lib.ListN.{length, take, drop}
@@ -11,7 +11,7 @@ use Rattle.definitions.specs.Bytes.{Name}
 use Rattle.definitions.specs.Tree.{Expr, Block}
 use Rattle.state.specs.State.{slotsFrom, slotNames, Slots}
 use Rattle.state.specs.Fits.{fitsExpr, fitsBlock}
-use Rattle.slots.specs.Slotted.{firstNames, Collected}
+use Rattle.slots.specs.Slotted.{Collected}
 use Rattle.slots.specs.declared.Locals.{Locals}
 use Rattle.slots.specs.declared.Locals.the-variants.{Count, TooMany}
 use Rattle.slots.proofs.Adding.{first-length, part-before, front-names, front-slots}

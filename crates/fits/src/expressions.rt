@@ -1,16 +1,17 @@
 // Question 14 of expressions: the slots of their lambdas.
 use crate::Fit;
+use numerals::expr;
+use numerals::places::SLOTS_FROM;
+use numerals::sizes::SLOTS_ROOM;
 use parts::names::name_end;
 use parts::numbers::u16_at;
 use slots::Locals;
 use slots::captures::lambda_slots;
 use slots::skip::skip_expr;
 use slots::skip::skip_params;
-ghost use mathlib.Core.Path.{_≡_};
 ghost use mathlib.Core.Bool.{_&&_};
 ghost use mathlib.Core.List.{_++_};
-ghost use Prim.Native.Nat.{_+_, _*_, _≤_, _<_};
-ghost use lib.ListN.{length};
+ghost use Prim.Native.Nat.{_+_, _*_, _<_};
 ghost use Rattle.definitions.specs.Slots.{captures};
 ghost use Rattle.state.specs.State.{slotNames};
 ghost use Rattle.state.specs.Fits.{fitsExpr, fitsExprs, fitsTarget};
@@ -19,24 +20,24 @@ ghost use Rattle.exprs.specs.ExprAt.{exprAt, exprsAt, ExprReads, ExprsRead, Two
 ghost use Rattle.fits.specs.Walk.{Short, Walks, lambdaFits};
 
 // An expression of a function with these slots.
-pub fn fits_expr(tree: &[u8], at: usize, depth: u32, slots: &[u32]) -> Fit
+pub(crate) fn fits_expr(tree: &[u8], at: usize, depth: u32, slots: &[u32]) -> Fit
     requires { ⌜ Short (now tree) (now slots) × ExprReads depth (now tree) at ⌝ }
     ensures { λ r. ⌜ Walks r (exprAt depth (now (tree .entry)) at .end) (fitsExpr (slotNames (now (tree .entry)) (now (slots .entry))) (exprAt depth (now (tree .entry)) at .value)) ⌝ }
 {
     let kind = tree[at];
     let a = at + 1;
     match kind {
-        7 => fits_expr(tree, a + 1, depth - 1, slots),
-        8 => fits_two(tree, a + 1, depth - 1, slots),
-        9 => fits_call(tree, a, depth - 1, slots),
-        10 => fits_attribute(tree, a, depth - 1, slots),
-        11 => fits_list(tree, a, depth - 1, slots),
-        12 => fits_dict(tree, a, depth - 1, slots),
-        13 => fits_list(tree, a, depth - 1, slots),
-        14 => fits_list(tree, a, depth - 1, slots),
-        15 => fits_list(tree, a, depth - 1, slots),
-        16 => fits_two(tree, a, depth - 1, slots),
-        17 => fits_lambda(tree, a, depth - 1, slots),
+        expr::UNARY => fits_expr(tree, a + 1, depth - 1, slots),
+        expr::BINARY => fits_two(tree, a + 1, depth - 1, slots),
+        expr::CALL => fits_call(tree, a, depth - 1, slots),
+        expr::ATTRIBUTE => fits_attribute(tree, a, depth - 1, slots),
+        expr::LIST => fits_list(tree, a, depth - 1, slots),
+        expr::DICT => fits_dict(tree, a, depth - 1, slots),
+        expr::TUPLE => fits_list(tree, a, depth - 1, slots),
+        expr::SET => fits_list(tree, a, depth - 1, slots),
+        expr::TREE_SET => fits_list(tree, a, depth - 1, slots),
+        expr::INDEX => fits_two(tree, a, depth - 1, slots),
+        expr::LAMBDA => fits_lambda(tree, a, depth - 1, slots),
         _ => Fit::Next(skip_expr(tree, at, depth)),
     }
 }
@@ -106,7 +107,7 @@ fn fits_many(tree: &[u8], at: usize, depth: u32, count: u32, slots: &[u32]) -> F
     let mut left = count;
     while 0 < left {
         left -= 1;
-        if tree[p] < 3 {
+        if tree[p] < expr::INT {
             p += 1;
         } else {
             let one = fits_expr(tree, p, depth, slots);
@@ -125,25 +126,25 @@ fn fits_lambda(tree: &[u8], at: usize, depth: u32, slots: &[u32]) -> Fit
     ensures { λ r. ⌜ Walks r (exprAt depth (now (tree .entry)) (paramsAt (now (tree .entry)) at .end) .end)
         (lambdaFits (paramsAt (now (tree .entry)) at .value ++ captures (slotNames (now (tree .entry)) (now (slots .entry))) (paramsAt (now (tree .entry)) at .value) (exprAt depth (now (tree .entry)) (paramsAt (now (tree .entry)) at .end) .value)) (exprAt depth (now (tree .entry)) (paramsAt (now (tree .entry)) at .end) .value)) ⌝ }
 {
-    let mut inner = [0u32; 2304];
+    let mut inner = [0u32; SLOTS_ROOM];
     let p = skip_params(tree, at);
     let found = lambda_slots(tree, at, p, depth, slots, &mut inner);
     let Locals::Count(n) = found else {
         return Fit::Over;
     };
-    let end = 2048 + n as usize;
+    let end = SLOTS_FROM + n as usize;
     fits_expr(tree, p, depth, &inner[0..end])
 }
 
 // An assignment's target: the expressions of an attribute or an index; a tuple's names are none.
-pub fn fits_target(tree: &[u8], at: usize, depth: u32, slots: &[u32]) -> Fit
+pub(crate) fn fits_target(tree: &[u8], at: usize, depth: u32, slots: &[u32]) -> Fit
     requires { ⌜ Short (now tree) (now slots) × ExprReads depth (now tree) at ⌝ }
     ensures { λ r. ⌜ Walks r (exprAt depth (now (tree .entry)) at .end) (fitsTarget (slotNames (now (tree .entry)) (now (slots .entry))) (exprAt depth (now (tree .entry)) at .value)) ⌝ }
 {
     let kind = tree[at];
     match kind {
-        10 => fits_expr(tree, at, depth, slots),
-        16 => fits_expr(tree, at, depth, slots),
+        expr::ATTRIBUTE => fits_expr(tree, at, depth, slots),
+        expr::INDEX => fits_expr(tree, at, depth, slots),
         _ => Fit::Next(skip_expr(tree, at, depth)),
     }
 }

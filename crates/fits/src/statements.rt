@@ -2,6 +2,11 @@
 use crate::Fit;
 use crate::expressions::fits_expr;
 use crate::expressions::fits_target;
+use numerals::places::SLOTS_FROM;
+use numerals::sizes::DEPTH;
+use numerals::sizes::HEAD;
+use numerals::sizes::SLOTS_ROOM;
+use numerals::stmt;
 use parts::names::name_end;
 use parts::numbers::u16_at;
 use slots::Locals;
@@ -10,15 +15,15 @@ use slots::skip::skip_params;
 use slots::skip::skip_stmt;
 ghost use mathlib.Core.Path.{_≡_};
 ghost use mathlib.Core.Bool.{_&&_};
-ghost use mathlib.Core.List.{List, []};
-ghost use Prim.Native.Nat.{_+_, _*_, _-_, _≤_, _<_};
+ghost use mathlib.Core.List.{[]};
+ghost use Prim.Native.Nat.{_+_, _-_, _≤_, _<_};
 ghost use lib.ListN.{length, getD};
 ghost use Rattle.definitions.specs.Slots.{localsBlock};
 ghost use Rattle.state.specs.State.{slotNames};
 ghost use Rattle.state.specs.Fits.{fitsExpr, fitsTarget, fitsStmt, fitsBlock, fitsBranches, fitsMethods};
 ghost use Rattle.parts.specs.Places.{nameEnd, paramsAt};
 ghost use Rattle.exprs.specs.ExprAt.{exprAt, TwoAt, secondAt};
-ghost use Rattle.tree.specs.StmtAt.{stmtAt, blockAt, branchesAt, methodsAt, StmtReads, BlockReads, BranchesRead, MethodsRead, BranchAt, bodyAt, IfAt, elifsAt, ForAt, DefAt, defBlockAt, ClassAt, classMethodsAt, TreeAt};
+ghost use Rattle.tree.specs.StmtAt.{stmtAt, blockAt, branchesAt, methodsAt, StmtReads, BlockReads, BranchesRead, MethodsRead, BranchAt, bodyAt, IfAt, elifsAt, ForAt, DefAt, defBlockAt, classMethodsAt, TreeAt};
 ghost use Rattle.fits.specs.Walk.{Short, Walks, defFits};
 
 // A target and a value.
@@ -42,14 +47,14 @@ fn fits_stmt(tree: &[u8], at: usize, depth: u32, slots: &[u32]) -> Fit
     let kind = tree[at];
     let a = at + 1;
     match kind {
-        3 => fits_expr(tree, a, depth - 1, slots),
-        4 => fits_expr(tree, a, depth - 1, slots),
-        5 => fits_assign(tree, a, depth - 1, slots),
-        6 => fits_if(tree, a, depth - 1, slots),
-        7 => fits_branch(tree, a, depth - 1, slots),
-        8 => fits_for(tree, a, depth - 1, slots),
-        9 => fits_def(tree, a, depth - 1),
-        10 => fits_class(tree, at, depth),
+        stmt::EXPR => fits_expr(tree, a, depth - 1, slots),
+        stmt::RETURN => fits_expr(tree, a, depth - 1, slots),
+        stmt::ASSIGN => fits_assign(tree, a, depth - 1, slots),
+        stmt::IF => fits_if(tree, a, depth - 1, slots),
+        stmt::WHILE => fits_branch(tree, a, depth - 1, slots),
+        stmt::FOR => fits_for(tree, a, depth - 1, slots),
+        stmt::DEF => fits_def(tree, a, depth - 1),
+        stmt::CLASS => fits_class(tree, at, depth),
         _ => Fit::Next(a),
     }
 }
@@ -144,14 +149,14 @@ fn fits_def(tree: &[u8], at: usize, depth: u32) -> Fit
     requires { ⌜ (length (now tree) ≤ 32768) × DefAt depth (now tree) at ⌝ }
     ensures { λ r. ⌜ Walks r (defBlockAt depth (now (tree .entry)) at .end) (defFits (localsBlock (defBlockAt depth (now (tree .entry)) at .value) (paramsAt (now (tree .entry)) (nameEnd (now (tree .entry)) at) .value)) (defBlockAt depth (now (tree .entry)) at .value)) ⌝ }
 {
-    let mut inner = [0u32; 2304];
+    let mut inner = [0u32; SLOTS_ROOM];
     let params = name_end(tree, at);
     let p = skip_params(tree, params);
     let found = collect_locals(tree, params, p, depth, &mut inner);
     let Locals::Count(n) = found else {
         return Fit::Over;
     };
-    let end = 2048 + n as usize;
+    let end = SLOTS_FROM + n as usize;
     fits_block(tree, p, depth, &inner[0..end])
 }
 
@@ -192,8 +197,8 @@ pub fn check_slots(tree: &[u8]) -> bool
     requires { ⌜ TreeAt (now tree) ⌝ }
     ensures { λ r. ⌜ r ≡ fitsBlock [] (blockAt 32 (now (tree .entry)) 5 .value) ⌝ }
 {
-    let none = [0u32; 2048];
-    let whole = fits_block(tree, 5, 32, &none);
+    let none = [0u32; SLOTS_FROM];
+    let whole = fits_block(tree, HEAD, DEPTH, &none);
     match whole {
         Fit::Next(_) => true,
         Fit::Over => false,

@@ -6,7 +6,7 @@ use mathlib.Core.List.{List}
 use native.Mathlib.Omega.{arith}
 use lib.ListN.{take}
 use lib.Pow.{areBytes}
-use Rattle.definitions.specs.Bytes.{Answer, refused, accepted, whenAccepted}
+use Rattle.definitions.specs.Bytes.{Answer, accepted, whenAccepted}
 use Rattle.definitions.specs.Tables.{Tables}
 use Rattle.definitions.specs.Module.{Limits, office}
 use Rattle.definitions.specs.Reader.{readModule}
@@ -16,11 +16,10 @@ use Rattle.definitions.proofs.Lowered.{loweredReads}
 use Rattle.reader.specs.View.{said as readSaid}
 use Rattle.reader.proofs.Deciding.{says-accepted}
 use Rattle.reader.specs.declared.Verdict.{Verdict}
-use Rattle.reader.specs.declared.Verdict.the-variants.{Accepted}
 use Rattle.lowering.specs.Lowered.{Lowers}
 use Rattle.lowering.specs.declared.Lowered.{Lowered}
 use Rattle.lowering.specs.declared.Lowered.the-variants.{Wrote as Written, Refused as NotLowered}
-use Rattle.follows.specs.Rereading.{said, rereadCall, RereadsAs, Rereads}
+use Rattle.follows.specs.Rereading.{said, rereadCall, Rereads}
 use Rattle.follows.specs.declared.Reread.{Reread}
 use Rattle.follows.specs.declared.Reread.the-variants.{Wrote, Refused}
 use Rattle.follows.proofs.Made.{Made, made, part-is, then-accepted, then-refused}

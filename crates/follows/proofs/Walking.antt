@@ -1,5 +1,5 @@
 -- The run of a lowered function does what the walk of the tree does.
-use Prim.Native.Nat.{ℕ, _+_, _*_, _-_, _≤_, _<_}
+use Prim.Native.Nat.{ℕ, _+_, _*_, _-_, _≤_}
 use mathlib.Core.Path.{_≡_, sym, ap, _∙_, subst}
 use mathlib.Core.Bool.{true}
 use mathlib.Core.Option.{Option, none, some}
@@ -10,8 +10,8 @@ use lib.Pow.{areBytes}
 use Rattle.definitions.specs.Bytes.{Answer, refused, accepted, whenAccepted}
 use Rattle.definitions.specs.Module.{Limits, office}
 use Rattle.definitions.specs.Run.{Ran as RunAnswer}
-use Rattle.definitions.specs.Walk.{Walked, endingNumber}
-use Rattle.definitions.specs.Calls.{written, outputAfter, areAnswers, lowerCall, Counts, ranCounts, ranCall, runAnswer, runCall, walkTree}
+use Rattle.definitions.specs.Walk.{Walked}
+use Rattle.definitions.specs.Calls.{written, outputAfter, areAnswers, lowerCall, ranCounts, ranCall, runAnswer, runCall, walkTree}
 use Rattle.definitions.specs.Statements.{Under, Agrees, Follows, instructionsIn}
 use Rattle.definitions.proofs.Demand3Bytes.{demand3Bytes}
 use Rattle.run.specs.Pass.{said as ranSaid, Called}
@@ -24,7 +24,7 @@ use Rattle.lowering.specs.declared.Lowered.the-variants.{Wrote as Written, Refu
 use Rattle.follows.specs.Following.{said, followCall, FollowsAs, SameAsWalk, AsWalked, FollowsSource}
 use Rattle.follows.specs.declared.Followed.{Followed}
 use Rattle.follows.specs.declared.Followed.the-variants.{Ran, Refused}
-use Rattle.follows.proofs.Made.{Made, made, part-is, then-accepted, then-refused, left-accepted, left-refused}
+use Rattle.follows.proofs.Made.{made, part-is, then-accepted, then-refused, left-accepted, left-refused}
 
 -- ---- what a run's answer shows
 

@@ -12,13 +12,13 @@ ghost use Rattle.follows.specs.Both.{LowersAtBoth};
 ghost use Rattle.follows.specs.Rereading.{Rereads};
 ghost use Rattle.follows.specs.Following.{FollowsSource};
 
-// How many bytes of the output are the module, and what the reader says of them; or the number of the first of questions 1 to 16 that is answered no.
+// How many bytes of the output are the module, and what the reader says of them; or the number of the first of questions 1 to 16 and 33 that is answered no.
 pub enum Reread {
     Wrote(usize, Verdict),
     Refused(u32),
 }
 
-// How many bytes are the module, and how the run of its function went; or the number of the first of questions 1 to 16 that is answered no.
+// How many bytes are the module, and how the run of its function went; or the number of the first of questions 1 to 16 and 33 that is answered no.
 pub enum Followed {
     Ran(usize, Outcome),
     Refused(u32),

@@ -8,7 +8,7 @@ use Rattle.definitions.specs.Bytes.{refused}
 use Rattle.definitions.specs.Calls.{written, listCall}
 use Rattle.definitions.specs.Listing.{functionLines, listing}
 use Rattle.definitions.specs.Module.{instructions}
-use Rattle.definitions.specs.Reader.{functionRecord, readModule}
+use Rattle.definitions.specs.Reader.{readModule}
 use Rattle.definitions.proofs.Listing.{listingLength}
 use Rattle.definitions.proofs.ReadFits.{small-bytes}
 use Rattle.reader.specs.View.{tablesOf, numberAt}

@@ -2,7 +2,7 @@
 use Prim.Native.Nat.{ℕ, _+_, _<_, _≤_}
 use mathlib.Core.Path.{_≡_}
 use mathlib.Core.List.{List, map}
-use lib.ListN.{length, getD, set, take}
+use lib.ListN.{length, set, take}
 use Rattle.definitions.specs.Tables.{withClasses, addConstant}
 use Rattle.definitions.specs.Lower.{beginClass, classObject, endClass}
 use Rattle.state.specs.Words.{nameAt}
@@ -10,11 +10,12 @@ use Rattle.state.specs.State.{methodOf, stateOf, emitAt, Numbers, symbolNumber,
 use Rattle.lower_emit.specs.Nesting.{begunWith, Begins, withMethods, withConstants, Counted}
 use Rattle.lower_classes.specs.Ending.{Finishes}
 use Rattle.lower_emit.specs.Numbers.{countsOf, limitsIn, answered, numbered, SoundIn}
+use Rattle.lower_emit.specs.Places.{functionsIn, classesIn, methodsIn, constantsIn, baseIn, openIn, doneIn, classLimit}
 
 pub record Classes (tables k l : List ℕ) : Type 0 where
   pub tables-room : 16384 ≤ length tables
   pub numbers : 10 ≡ length k
-  pub limit : getD l 3 0 ≤ 64
+  pub limit : classLimit l ≤ 64
 
 pub record BeginsClass (r at : ℕ) (tables tables′ k k′ l : List ℕ) : Type 0 where
   pub numbers : (t made code : List ℕ) → SoundIn t made code tables k l → Numbers (numbered r k′) t made code tables′ (countsOf k) (limitsIn l) (length (stateOf t made code tables (countsOf k) .tables .classes))
@@ -22,18 +23,18 @@ pub record BeginsClass (r at : ℕ) (tables tables′ k k′ l : List ℕ) : Typ
   pub kept : 10 ≡ length k′
 
 pub record EndsClass (i at n : ℕ) (list tables tables′ k k′ : List ℕ) : Type 0 where
-  pub counted : (t made code l : List ℕ) → SoundIn t made code tables k l → i < getD k 3 0 → getD k 4 0 + n ≤ getD k 2 0
-      → Counted (countsOf k′) (withMethods (getD k 4 0 + n) (countsOf k)) t made code tables′ (limitsIn l)
+  pub counted : (t made code l : List ℕ) → SoundIn t made code tables k l → i < classesIn k → methodsIn k + n ≤ functionsIn k
+      → Counted (countsOf k′) (withMethods (methodsIn k + n) (countsOf k)) t made code tables′ (limitsIn l)
       (withTables (withClasses (set (stateOf t made code tables (countsOf k) .tables .classes) i (record { name = nameAt t at; methods = map (methodOf t) (take n list) })) (stateOf t made code tables (countsOf k) .tables)) (stateOf t made code tables (countsOf k)))
   pub kept : 10 ≡ length k′
 
 pub record AddsConstant (r i : ℕ) (tables tables′ k k′ : List ℕ) : Type 0 where
-  pub number : r ≡ getD k 5 0
-  pub counted : (t made code l : List ℕ) → SoundIn t made code tables k l → getD k 5 0 < getD k 3 0
-      → Counted (countsOf k′) (withConstants (getD k 5 0 + 1) (countsOf k)) t made code tables′ (limitsIn l)
+  pub number : r ≡ constantsIn k
+  pub counted : (t made code l : List ℕ) → SoundIn t made code tables k l → constantsIn k < classesIn k
+      → Counted (countsOf k′) (withConstants (constantsIn k + 1) (countsOf k)) t made code tables′ (limitsIn l)
       (withTables (addConstant i (stateOf t made code tables (countsOf k) .tables)) (stateOf t made code tables (countsOf k)))
   pub kept : 10 ≡ length k′
-  pub words : (getD k′ 8 0 ≡ getD k 8 0) × (getD k′ 9 0 ≡ getD k 9 0)
+  pub words : (openIn k′ ≡ openIn k) × (doneIn k′ ≡ doneIn k)
 
 pub record BeginsNamed (r at arity locals : ℕ) (tree made tables tables′ k k′ l : List ℕ) : Type 0 where
   pub begins : (code : List ℕ) → SoundIn tree made code tables k l → Begins (numbered r k′) tree made code tables′ (countsOf k) (limitsIn l) (length (stateOf tree made code tables (countsOf k) .tables .functions))
@@ -42,11 +43,11 @@ pub record BeginsNamed (r at arity locals : ℕ) (tree made tables tables′ k k
   pub numbers : 10 ≡ length k′
 
 pub record StoresClass (r i symbol next : ℕ) (code tables k l code′ tables′ k′ : List ℕ) : Type 0 where
-  pub finishes : (t made : List ℕ) → SoundIn t made code tables k l → getD k 5 0 < getD k 3 0 → Finishes (answered r k′) 0 t made code′ tables′ (countsOf k) (limitsIn l) next
-      (emitAt (getD k 7 0) (classObject i symbol) (stateOf t made code tables (countsOf k)))
+  pub finishes : (t made : List ℕ) → SoundIn t made code tables k l → constantsIn k < classesIn k → Finishes (answered r k′) 0 t made code′ tables′ (countsOf k) (limitsIn l) next
+      (emitAt (baseIn k) (classObject i symbol) (stateOf t made code tables (countsOf k)))
   pub numbers : 10 ≡ length k′
 
 pub record FinishesClass (r at n i next : ℕ) (list tree made code tables k l code′ tables′ k′ : List ℕ) : Type 0 where
   pub finishes : Finishes (answered r k′) n tree made code′ tables′ (countsOf k) (limitsIn l) next
-      (emitAt (getD k 7 0) (endClass (nameAt tree at) i (map (methodOf tree) (take n list))) (stateOf tree made code tables (countsOf k)))
+      (emitAt (baseIn k) (endClass (nameAt tree at) i (map (methodOf tree) (take n list))) (stateOf tree made code tables (countsOf k)))
   pub numbers : 10 ≡ length k′

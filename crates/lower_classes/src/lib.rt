@@ -1,29 +1,34 @@
 // Functions begun under their names, classes begun and ended, their objects: each of what it touches alone.
 use lower_emit::begin_function;
-use lower_emit::ops::LOAD_CONST;
-use lower_emit::ops::STORE_GLOBAL;
-use lower_emit::places::CLASS_LIMIT;
-use lower_emit::places::CLASS_METHODS_FROM;
-use lower_emit::places::CLASS_NAMES_FROM;
-use lower_emit::places::CLASSES;
-use lower_emit::places::CONSTANTS;
-use lower_emit::places::CONSTANTS_FROM;
-use lower_emit::places::METHODS;
-use lower_emit::places::METHODS_FROM;
-use lower_emit::places::OVER;
 use lower_emit::put_op;
 use lower_names::intern;
 use names::spell::name_part;
+use numerals::ops::LOAD_CONST;
+use numerals::ops::STORE_GLOBAL;
+use numerals::places::CLASS_LIMIT;
+use numerals::places::CLASS_METHODS_FROM;
+use numerals::places::CLASS_NAMES_FROM;
+use numerals::places::CLASSES;
+use numerals::places::CONSTANTS;
+use numerals::places::CONSTANTS_FROM;
+use numerals::places::METHODS;
+use numerals::places::METHODS_FROM;
+use numerals::places::OVER;
+use numerals::places::UPPER;
+use numerals::sizes::COUNTS;
+use numerals::sizes::LIMITS;
+use numerals::sizes::MADE_ROOM;
 ghost use mathlib.Core.Path.{_≡_};
 ghost use Prim.Native.Nat.{_+_, _<_, _≤_, _^_};
-ghost use lib.ListN.{length, getD};
+ghost use lib.ListN.{length};
 ghost use lib.Seq.{paste};
 ghost use Rattle.lower_emit.specs.Numbers.{Room, Functions, SoundIn};
 ghost use Rattle.lower_names.specs.Naming.{Naming};
 ghost use Rattle.lower_classes.specs.Classes.{Classes, BeginsClass, EndsClass, AddsConstant, BeginsNamed, StoresClass, FinishesClass};
+ghost use Rattle.lower_emit.specs.Places.{functionsIn, classesIn, methodsIn, constantsIn};
 
 // The next class's number, with the name at `at`, 65,536 where classes are at the limit; it has no methods yet.
-pub fn begin_class(tables: &mut [u32], k: &mut [u32; 10], l: &[u32; 5], at: usize) -> u32
+pub fn begin_class(tables: &mut [u32], k: &mut [u32; COUNTS], l: &[u32; LIMITS], at: usize) -> u32
     requires { ⌜ Classes (now tables) (now k) (now l) × (at < 2 ^ 32) ⌝ }
     ensures { λ r. ⌜ BeginsClass r at (now (tables .entry)) (now (tables .exit)) (now (k .entry)) (now (k .exit)) (now (l .entry)) ⌝ }
 {
@@ -50,20 +55,27 @@ fn copy_words(out: &mut [u32], to: usize, list: &[u32], n: usize)
 }
 
 // Class i, whose name is at `at`, has the n methods of the list.
-pub fn end_class(tables: &mut [u32], k: &mut [u32; 10], i: u32, at: usize, list: &[u32], n: u32)
-    requires { ⌜ (16384 ≤ length (now tables)) × (10 ≡ length (now k)) × (i < 64) × (at < 2 ^ 32) × (n ≤ length (now list)) × (getD (now k) 4 0 + n ≤ 256) ⌝ }
+pub(crate) fn end_class(
+    tables: &mut [u32],
+    k: &mut [u32; COUNTS],
+    i: u32,
+    at: usize,
+    list: &[u32],
+    n: u32,
+)
+    requires { ⌜ (16384 ≤ length (now tables)) × (10 ≡ length (now k)) × (i < 64) × (at < 2 ^ 32) × (n ≤ length (now list)) × (methodsIn (now k) + n ≤ 256) ⌝ }
     ensures { λ _. ⌜ EndsClass i at n (now (list .entry)) (now (tables .entry)) (now (tables .exit)) (now (k .entry)) (now (k .exit)) ⌝ }
 {
     let m = k[METHODS];
     copy_words(tables, METHODS_FROM + m as usize, list, n as usize);
     tables[CLASS_NAMES_FROM + i as usize] = at as u32;
-    tables[CLASS_METHODS_FROM + i as usize] = m * 65536 + n;
+    tables[CLASS_METHODS_FROM + i as usize] = m * UPPER + n;
     k[METHODS] = m + n;
 }
 
 // The next constant's number; it is class i.
-pub fn add_constant(tables: &mut [u32], k: &mut [u32; 10], i: u32) -> u32
-    requires { ⌜ (16384 ≤ length (now tables)) × (10 ≡ length (now k)) × (getD (now k) 5 0 < 64) ⌝ }
+pub(crate) fn add_constant(tables: &mut [u32], k: &mut [u32; COUNTS], i: u32) -> u32
+    requires { ⌜ (16384 ≤ length (now tables)) × (10 ≡ length (now k)) × (constantsIn (now k) < 64) ⌝ }
     ensures { λ r. ⌜ AddsConstant r i (now (tables .entry)) (now (tables .exit)) (now (k .entry)) (now (k .exit)) ⌝ }
 {
     let n = k[CONSTANTS];
@@ -75,10 +87,10 @@ pub fn add_constant(tables: &mut [u32], k: &mut [u32; 10], i: u32) -> u32
 // The function with the name at `at` begins: its number, 65,536 where there is no room.
 pub fn begin_named(
     tree: &[u8],
-    made: &[u8; 20500],
+    made: &[u8; MADE_ROOM],
     tables: &mut [u32],
-    k: &mut [u32; 10],
-    l: &[u32; 5],
+    k: &mut [u32; COUNTS],
+    l: &[u32; LIMITS],
     at: usize,
     arity: u32,
     locals: u32,
@@ -97,13 +109,13 @@ pub fn begin_named(
 fn store_class(
     code: &mut [u32],
     tables: &mut [u32],
-    k: &mut [u32; 10],
-    l: &[u32; 5],
+    k: &mut [u32; COUNTS],
+    l: &[u32; LIMITS],
     i: u32,
     symbol: u32,
     next: usize,
 ) -> usize
-    requires { ⌜ Room (now code) (now k) (now l) × (16384 ≤ length (now tables)) × (getD (now k) 5 0 < 64) × (symbol < 65536) × (0 < next) ⌝ }
+    requires { ⌜ Room (now code) (now k) (now l) × (16384 ≤ length (now tables)) × (constantsIn (now k) < 64) × (symbol < 65536) × (0 < next) ⌝ }
     ensures { λ r. ⌜ StoresClass r i symbol next (now (code .entry)) (now (tables .entry)) (now (k .entry)) (now (l .entry)) (now (code .exit)) (now (tables .exit)) (now (k .exit)) ⌝ }
 {
     let n = add_constant(tables, k, i);
@@ -117,18 +129,18 @@ fn store_class(
 // Class i, whose name is at `at`, has the n methods of the list; then its object.
 pub fn finish_class(
     tree: &[u8],
-    made: &[u8; 20500],
+    made: &[u8; MADE_ROOM],
     code: &mut [u32],
     tables: &mut [u32],
-    k: &mut [u32; 10],
-    l: &[u32; 5],
+    k: &mut [u32; COUNTS],
+    l: &[u32; LIMITS],
     at: usize,
     list: &[u32],
     n: u32,
     i: u32,
     next: usize,
 ) -> usize
-    requires { ⌜ SoundIn (now tree) (now made) (now code) (now tables) (now k) (now l) × (i < getD (now k) 3 0) × (at < 32768) × (n ≤ length (now list)) × (getD (now k) 4 0 + n ≤ getD (now k) 2 0) × (getD (now k) 5 0 < getD (now k) 3 0) × (0 < next) ⌝ }
+    requires { ⌜ SoundIn (now tree) (now made) (now code) (now tables) (now k) (now l) × (i < classesIn (now k)) × (at < 32768) × (n ≤ length (now list)) × (methodsIn (now k) + n ≤ functionsIn (now k)) × (constantsIn (now k) < classesIn (now k)) × (0 < next) ⌝ }
     ensures { λ r. ⌜ FinishesClass r at n i next (now (list .entry)) (now (tree .entry)) (now (made .entry)) (now (code .entry)) (now (tables .entry)) (now (k .entry)) (now (l .entry)) (now (code .exit)) (now (tables .exit)) (now (k .exit)) ⌝ }
 {
     end_class(tables, k, i, at, list, n);

@@ -1,6 +1,7 @@
 pub mod Ops
 pub mod Patch
 pub mod Nesting
+pub mod Places
 pub mod Numbers
 pub mod Shortcut
 pub mod Step

@@ -1,19 +1,23 @@
 // The ends of branches and loops: the jumps that pass them are set.
-use crate::ops::BREAK;
-use crate::ops::CONTINUE;
-use crate::ops::JUMP;
-use crate::ops::JUMP_IF_FALSE;
 use crate::packed;
-use crate::places::OPEN;
 use crate::put_op;
+use numerals::ops::BREAK;
+use numerals::ops::CONTINUE;
+use numerals::ops::JUMP;
+use numerals::ops::JUMP_IF_FALSE;
+use numerals::places::OPEN;
+use numerals::places::WORD_OP;
+use numerals::sizes::COUNTS;
+use numerals::sizes::LIMITS;
 ghost use mathlib.Core.Path.{_≡_};
 ghost use Prim.Native.Nat.{_+_, _-_, _<_, _≤_};
-ghost use lib.ListN.{length, getD, set};
+ghost use lib.ListN.{length, set};
 ghost use borrow.Rule.Slice.PartMut.{putMid, midOf};
 ghost use Rattle.state.specs.Words.{word};
 ghost use Rattle.lower_emit.specs.Patch.{patchWord, patchWords};
 ghost use Rattle.lower_emit.specs.Numbers.{Room};
 ghost use Rattle.lower_emit.specs.Ends.{EndsBranch, EndsLoop};
+ghost use Rattle.lower_emit.specs.Places.{openIn};
 
 // The word at j becomes a jump over d instructions.
 pub fn set_jump(code: &mut [u32], j: usize, op: u32, d: u32)
@@ -29,7 +33,7 @@ fn patched_word(w: u32, i: usize, n: usize, h: usize) -> u32
     requires { ⌜ (i < n) × (h + n < 32768) ⌝ }
     ensures { λ r. ⌜ r ≡ patchWord h n i w ⌝ }
 {
-    let op = w / 16777216;
+    let op = w / WORD_OP;
     if op == BREAK {
         return packed(JUMP, (n - i) as u32, 0);
     }
@@ -64,12 +68,12 @@ fn patch_loop(code: &mut [u32], h: usize, from: usize, to: usize)
 // The end of a branch whose block begins at place `from`: an end jump, not known yet, and the jump before the block over both.
 pub fn end_branch(
     code: &mut [u32],
-    k: &mut [u32; 10],
-    l: &[u32; 5],
+    k: &mut [u32; COUNTS],
+    l: &[u32; LIMITS],
     from: u32,
     next: usize,
 ) -> usize
-    requires { ⌜ Room (now code) (now k) (now l) × (0 < from) × (from ≤ getD (now k) 8 0) × (0 < next) ⌝ }
+    requires { ⌜ Room (now code) (now k) (now l) × (0 < from) × (from ≤ openIn (now k)) × (0 < next) ⌝ }
     ensures { λ r. ⌜ EndsBranch r from next (now (code .entry)) (now (k .entry)) (now (l .entry)) (now (code .exit)) (now (k .exit)) ⌝ }
 {
     let over = k[OPEN] - from + 1;
@@ -85,13 +89,13 @@ pub fn end_branch(
 // inside over it.
 pub fn end_loop(
     code: &mut [u32],
-    k: &mut [u32; 10],
-    l: &[u32; 5],
+    k: &mut [u32; COUNTS],
+    l: &[u32; LIMITS],
     start: u32,
     inside: u32,
     next: usize,
 ) -> usize
-    requires { ⌜ Room (now code) (now k) (now l) × (start < inside) × (inside ≤ getD (now k) 8 0) × (0 < next) ⌝ }
+    requires { ⌜ Room (now code) (now k) (now l) × (start < inside) × (inside ≤ openIn (now k)) × (0 < next) ⌝ }
     ensures { λ r. ⌜ EndsLoop r start inside next (now (code .entry)) (now (k .entry)) (now (l .entry)) (now (code .exit)) (now (k .exit)) ⌝ }
 {
     let n = k[OPEN];

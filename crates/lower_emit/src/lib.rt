@@ -1,36 +1,43 @@
 // Words put, jumps set, functions begun and ended: of the code, the tables and the numbers that each touches alone.
 pub mod jumps; // jumps.rt: the ends of branches and loops
-pub mod ops; // ops.rt: opcodes
-pub mod places; // places.rt: counts, limits and tables by their places
 
-use crate::ops::JUMP;
-use crate::places::BASE;
-use crate::places::CODES_FROM;
-use crate::places::DONE;
-use crate::places::FINISHED_FROM;
-use crate::places::FUNCTION_LIMIT;
-use crate::places::FUNCTIONS;
-use crate::places::HEADS_FROM;
-use crate::places::INSTRUCTION_LIMIT;
-use crate::places::OPEN;
-use crate::places::OVER;
+pub use numerals::ops;
+use numerals::ops::JUMP;
+use numerals::ops::SHORT;
+pub use numerals::places;
+use numerals::places::BASE;
+use numerals::places::CODES_FROM;
+use numerals::places::DONE;
+use numerals::places::FINISHED_FROM;
+use numerals::places::FUNCTION_LIMIT;
+use numerals::places::FUNCTIONS;
+use numerals::places::HEADS_FROM;
+use numerals::places::INSTRUCTION_LIMIT;
+use numerals::places::OPEN;
+use numerals::places::OVER;
+use numerals::places::UPPER;
+use numerals::places::WORD_FIRST;
+use numerals::places::WORD_OP;
+use numerals::sizes::COUNTS;
+use numerals::sizes::LIMITS;
 ghost use mathlib.Core.Path.{_≡_};
 ghost use Prim.Native.Nat.{_+_, _<_, _≤_};
-ghost use lib.ListN.{getD, drop, length};
+ghost use lib.ListN.{drop, length};
 ghost use lib.Seq.{paste};
 ghost use Rattle.state.specs.Words.{word};
 ghost use Rattle.lower_emit.specs.Numbers.{Room, Put, ShortcutEnd, Functions, Begun, Ending, Ended};
+ghost use Rattle.lower_emit.specs.Places.{openIn};
 
 // An instruction as a word.
 pub fn packed(op: u32, a: u32, b: u32) -> u32
     requires { ⌜ (op < 256) × (a < 65536) × (b < 256) ⌝ }
     ensures { λ r. ⌜ r ≡ word op a b ⌝ }
 {
-    op * 16777216 + a * 256 + b
+    op * WORD_OP + a * WORD_FIRST + b
 }
 
 // The word w; 0 where open and finished words are at the limit.
-pub fn put(code: &mut [u32], k: &mut [u32; 10], l: &[u32; 5], w: u32, next: usize) -> usize
+pub fn put(code: &mut [u32], k: &mut [u32; COUNTS], l: &[u32; LIMITS], w: u32, next: usize) -> usize
     requires { ⌜ Room (now code) (now k) (now l) ⌝ }
     ensures { λ r. ⌜ Put r (now (code .entry)) (now (code .exit)) (now (k .entry)) (now (k .exit)) (now (l .entry)) w next ⌝ }
 {
@@ -46,8 +53,8 @@ pub fn put(code: &mut [u32], k: &mut [u32; 10], l: &[u32; 5], w: u32, next: usiz
 // An instruction.
 pub fn put_op(
     code: &mut [u32],
-    k: &mut [u32; 10],
-    l: &[u32; 5],
+    k: &mut [u32; COUNTS],
+    l: &[u32; LIMITS],
     op: u32,
     a: u32,
     b: u32,
@@ -60,16 +67,16 @@ pub fn put_op(
     put(code, k, l, w, next)
 }
 
-// The end of `and` (op 29) or `or` (op 30) after its right side: over the constant, the constant, and the jump at `from` to it.
+// The end of `and` (op JumpIfFalse) or `or` (op JumpIfTrue) after its right side: over the constant, the constant, and the jump at `from` to it.
 pub fn end_shortcut(
     code: &mut [u32],
-    k: &mut [u32; 10],
-    l: &[u32; 5],
+    k: &mut [u32; COUNTS],
+    l: &[u32; LIMITS],
     from: u32,
     op: u32,
     next: usize,
 ) -> usize
-    requires { ⌜ Room (now code) (now k) (now l) × (from < getD (now k) 8 0) × (29 ≤ op) × (op ≤ 30) ⌝ }
+    requires { ⌜ Room (now code) (now k) (now l) × (from < openIn (now k)) × (29 ≤ op) × (op ≤ 30) ⌝ }
     ensures { λ r. ⌜ ShortcutEnd r (now (code .entry)) (now (code .exit)) (now (k .entry)) (now (k .exit)) (now (l .entry)) op from next ⌝ }
 {
     let m = k[OPEN];
@@ -77,7 +84,7 @@ pub fn end_shortcut(
         return 0;
     }
     let over = packed(JUMP, 1, 0);
-    let constant = packed(33 - op, 0, 0);
+    let constant = packed(SHORT - op, 0, 0);
     let jump = packed(op, m - from, 0);
     code[m as usize] = over;
     code[m as usize + 1] = constant;
@@ -89,8 +96,8 @@ pub fn end_shortcut(
 // The next function's number, 65,536 where functions are at the limit; it has no code yet, and is the innermost one.
 pub fn begin_function(
     tables: &mut [u32],
-    k: &mut [u32; 10],
-    l: &[u32; 5],
+    k: &mut [u32; COUNTS],
+    l: &[u32; LIMITS],
     symbol: u32,
     arity: u32,
     locals: u32,
@@ -103,7 +110,7 @@ pub fn begin_function(
     if l[FUNCTION_LIMIT] <= n {
         return OVER;
     }
-    let head = symbol * 65536 + arity * 256 + locals;
+    let head = symbol * UPPER + arity * 256 + locals;
     tables[HEADS_FROM + n as usize] = head;
     tables[CODES_FROM + n as usize] = 0;
     k[FUNCTIONS] = n + 1;
@@ -125,7 +132,7 @@ fn move_words(code: &mut [u32], from: usize, to: usize, n: usize)
 }
 
 // The innermost function, number f, ends: its words move to the finished ones. The one around it begins at `base`.
-pub fn end_function(code: &mut [u32], tables: &mut [u32], k: &mut [u32; 10], f: u32, base: u32)
+pub fn end_function(code: &mut [u32], tables: &mut [u32], k: &mut [u32; COUNTS], f: u32, base: u32)
     requires { ⌜ Ending (now code) (now tables) (now k) × (f < 256) ⌝ }
     ensures { λ _. ⌜ Ended (now (code .entry)) (now (code .exit)) (now (tables .entry)) (now (tables .exit)) (now (k .entry)) (now (k .exit)) f base ⌝ }
 {
@@ -138,7 +145,7 @@ pub fn end_function(code: &mut [u32], tables: &mut [u32], k: &mut [u32; 10], f: 
         FINISHED_FROM + done as usize,
         n as usize,
     );
-    tables[CODES_FROM + f as usize] = done * 65536 + n;
+    tables[CODES_FROM + f as usize] = done * UPPER + n;
     k[OPEN] = from;
     k[BASE] = base;
     k[DONE] = done + n;

@@ -1,15 +1,6 @@
 // The lowering of an expression in one path: every answer is the next position in the tree, or 0 where the module is over the limits.
 use exprs::literals::literal_at;
 use lower_emit::end_shortcut;
-use lower_emit::ops::CALL_METHOD;
-use lower_emit::ops::CALL_VALUE;
-use lower_emit::ops::LOAD_ATTR;
-use lower_emit::ops::LOAD_INDEX;
-use lower_emit::places::BASE;
-use lower_emit::places::FUNCTIONS;
-use lower_emit::places::OPEN;
-use lower_emit::places::OVER;
-use lower_emit::places::SLOTS_FROM;
 use lower_emit::put_op;
 use lower_leaves::closures::begin_lambda;
 use lower_leaves::closures::end_closure;
@@ -21,6 +12,22 @@ use lower_names::emit_symbol;
 use lower_names::load_callee;
 use lower_names::put_call;
 use lower_names::resolve;
+use numerals::expr;
+use numerals::ops::CALL_METHOD;
+use numerals::ops::CALL_VALUE;
+use numerals::ops::LOAD_ATTR;
+use numerals::ops::LOAD_INDEX;
+use numerals::ops::LOGICAL;
+use numerals::places::BASE;
+use numerals::places::FUNCTIONS;
+use numerals::places::OPEN;
+use numerals::places::OVER;
+use numerals::places::SLOTS_FROM;
+use numerals::places::UPPER;
+use numerals::sizes::COUNTS;
+use numerals::sizes::LIMITS;
+use numerals::sizes::MADE_ROOM;
+use numerals::sizes::SLOTS_ROOM;
 use opcodes::binary_code;
 use opcodes::build_code;
 use opcodes::held;
@@ -46,6 +53,7 @@ ghost use Rattle.lower_forms.specs.Lowerable.{Lowerable, LowerableMany, exprCod
 ghost use Rattle.opcodes.specs.Codes.{unaryOpcode, displayOf, heldOf};
 ghost use Rattle.lower_emit.specs.Numbers.{ReadyIn, LowersIn};
 ghost use Rattle.lower_names.specs.Naming.{calleeIn};
+ghost use Rattle.lower_emit.specs.Places.{functionsIn};
 
 // The expression at `at`, with `depth` levels left.
 pub fn emit_expr(
@@ -53,29 +61,49 @@ pub fn emit_expr(
     at: usize,
     depth: u32,
     slots: &[u32],
-    made: &mut [u8; 20500],
+    made: &mut [u8; MADE_ROOM],
     code: &mut [u32],
     tables: &mut [u32],
-    k: &mut [u32; 10],
-    l: &[u32; 5],
+    k: &mut [u32; COUNTS],
+    l: &[u32; LIMITS],
 ) -> usize
     requires { ⌜ ReadyIn (now tree) (now slots) (now made) (now code) (now tables) (now k) (now l) × Lowerable depth (now tree) at ⌝ }
     ensures { λ r. ⌜ LowersIn r (exprCode depth (now (tree .entry)) (slotNames (now (tree .entry)) (now (slots .entry))) at) (exprAt depth (now (tree .entry)) at .end)
         (now (tree .entry)) (now (made .entry)) (now (code .entry)) (now (tables .entry)) (now (k .entry)) (now (l .entry)) (now (made .exit)) (now (code .exit)) (now (tables .exit)) (now (k .exit)) ⌝ }
 {
     let kind = tree[at];
-    if kind < 6 {
+    if kind < expr::VARIABLE {
         let x = literal_at(tree, at);
         return emit_literal(tree, at, x, code, tables, k, l);
     }
     let a = at + 1;
     match kind {
-        6 => return emit_load(tree, slots, made, code, tables, k, l, a, name_end(tree, a)),
-        7 => return emit_unary(tree, a, depth - 1, slots, made, code, tables, k, l),
-        8 => return emit_binary(tree, a, depth - 1, slots, made, code, tables, k, l),
-        9 => return emit_call(tree, a, depth - 1, slots, made, code, tables, k, l),
-        10 => return emit_attribute(tree, a, depth - 1, slots, made, code, tables, k, l),
-        16 => return emit_two(
+        expr::VARIABLE => return emit_load(
+            tree,
+            slots,
+            made,
+            code,
+            tables,
+            k,
+            l,
+            a,
+            name_end(tree, a),
+        ),
+        expr::UNARY => return emit_unary(tree, a, depth - 1, slots, made, code, tables, k, l),
+        expr::BINARY => return emit_binary(tree, a, depth - 1, slots, made, code, tables, k, l),
+        expr::CALL => return emit_call(tree, a, depth - 1, slots, made, code, tables, k, l),
+        expr::ATTRIBUTE => return emit_attribute(
+            tree,
+            a,
+            depth - 1,
+            slots,
+            made,
+            code,
+            tables,
+            k,
+            l,
+        ),
+        expr::INDEX => return emit_two(
             tree,
             a,
             depth - 1,
@@ -87,7 +115,7 @@ pub fn emit_expr(
             k,
             l,
         ),
-        17 => return emit_lambda(tree, a, depth - 1, slots, made, code, tables, k, l),
+        expr::LAMBDA => return emit_lambda(tree, a, depth - 1, slots, made, code, tables, k, l),
         _ => return emit_display(tree, a, depth - 1, kind, slots, made, code, tables, k, l),
     }
 }
@@ -99,11 +127,11 @@ fn emit_exprs(
     depth: u32,
     n: u32,
     slots: &[u32],
-    made: &mut [u8; 20500],
+    made: &mut [u8; MADE_ROOM],
     code: &mut [u32],
     tables: &mut [u32],
-    k: &mut [u32; 10],
-    l: &[u32; 5],
+    k: &mut [u32; COUNTS],
+    l: &[u32; LIMITS],
 ) -> usize
     requires { ⌜ ReadyIn (now tree) (now slots) (now made) (now code) (now tables) (now k) (now l) × LowerableMany depth n (now tree) at × (0 < at) ⌝ }
     ensures { λ r. ⌜ LowersIn r (exprsCode depth n (now (tree .entry)) (slotNames (now (tree .entry)) (now (slots .entry))) at) (exprsAt depth n (now (tree .entry)) at .end)
@@ -134,11 +162,11 @@ fn emit_unary(
     at: usize,
     depth: u32,
     slots: &[u32],
-    made: &mut [u8; 20500],
+    made: &mut [u8; MADE_ROOM],
     code: &mut [u32],
     tables: &mut [u32],
-    k: &mut [u32; 10],
-    l: &[u32; 5],
+    k: &mut [u32; COUNTS],
+    l: &[u32; LIMITS],
 ) -> usize
     requires { ⌜ ReadyIn (now tree) (now slots) (now made) (now code) (now tables) (now k) (now l) × UnaryLowerable depth (now tree) at ⌝ }
     ensures { λ r. ⌜ LowersIn r (exprCode depth (now (tree .entry)) (slotNames (now (tree .entry)) (now (slots .entry))) (at + 1) ⨟ one (instr (unaryOpcode (getD (now (tree .entry)) at 0)) 0 0)) (exprAt depth (now (tree .entry)) (at + 1) .end)
@@ -159,11 +187,11 @@ fn emit_two(
     depth: u32,
     op: u32,
     slots: &[u32],
-    made: &mut [u8; 20500],
+    made: &mut [u8; MADE_ROOM],
     code: &mut [u32],
     tables: &mut [u32],
-    k: &mut [u32; 10],
-    l: &[u32; 5],
+    k: &mut [u32; COUNTS],
+    l: &[u32; LIMITS],
 ) -> usize
     requires { ⌜ ReadyIn (now tree) (now slots) (now made) (now code) (now tables) (now k) (now l) × TwoLowerable depth (now tree) at × Plain op 0 0 ⌝ }
     ensures { λ r. ⌜ LowersIn r (exprCode depth (now (tree .entry)) (slotNames (now (tree .entry)) (now (slots .entry))) at ⨟ exprCode depth (now (tree .entry)) (slotNames (now (tree .entry)) (now (slots .entry))) (exprAt depth (now (tree .entry)) at .end) ⨟ one (instr op 0 0)) (secondAt depth (now (tree .entry)) at .end)
@@ -186,18 +214,18 @@ fn emit_binary(
     at: usize,
     depth: u32,
     slots: &[u32],
-    made: &mut [u8; 20500],
+    made: &mut [u8; MADE_ROOM],
     code: &mut [u32],
     tables: &mut [u32],
-    k: &mut [u32; 10],
-    l: &[u32; 5],
+    k: &mut [u32; COUNTS],
+    l: &[u32; LIMITS],
 ) -> usize
     requires { ⌜ ReadyIn (now tree) (now slots) (now made) (now code) (now tables) (now k) (now l) × BinaryLowerable depth (now tree) at ⌝ }
     ensures { λ r. ⌜ LowersIn r (emitExpr (slotNames (now (tree .entry)) (now (slots .entry))) (binaryOf (getD (now (tree .entry)) at 0) (exprAt depth (now (tree .entry)) (at + 1) .value) (secondAt depth (now (tree .entry)) (at + 1) .value))) (secondAt depth (now (tree .entry)) (at + 1) .end)
         (now (tree .entry)) (now (made .entry)) (now (code .entry)) (now (tables .entry)) (now (k .entry)) (now (l .entry)) (now (made .exit)) (now (code .exit)) (now (tables .exit)) (now (k .exit)) ⌝ }
 {
     let operator = tree[at];
-    if operator < 12 {
+    if operator < expr::AND {
         return emit_two(
             tree,
             at + 1,
@@ -215,7 +243,7 @@ fn emit_binary(
         tree,
         at + 1,
         depth,
-        17 + operator as u32,
+        LOGICAL + operator as u32,
         slots,
         made,
         code,
@@ -225,18 +253,18 @@ fn emit_binary(
     )
 }
 
-// `and` (29, JumpIfFalse) or `or` (30, JumpIfTrue).
+// `and` (JumpIfFalse) or `or` (JumpIfTrue).
 fn emit_logical(
     tree: &[u8],
     at: usize,
     depth: u32,
     op: u32,
     slots: &[u32],
-    made: &mut [u8; 20500],
+    made: &mut [u8; MADE_ROOM],
     code: &mut [u32],
     tables: &mut [u32],
-    k: &mut [u32; 10],
-    l: &[u32; 5],
+    k: &mut [u32; COUNTS],
+    l: &[u32; LIMITS],
 ) -> usize
     requires { ⌜ ReadyIn (now tree) (now slots) (now made) (now code) (now tables) (now k) (now l) × TwoLowerable depth (now tree) at × (29 ≤ op) × (op ≤ 30) ⌝ }
     ensures { λ r. ⌜ LowersIn r (exprCode depth (now (tree .entry)) (slotNames (now (tree .entry)) (now (slots .entry))) at ⨟ shortcut (eqb op 30) (exprCode depth (now (tree .entry)) (slotNames (now (tree .entry)) (now (slots .entry))) (exprAt depth (now (tree .entry)) at .end))) (secondAt depth (now (tree .entry)) at .end)
@@ -256,11 +284,11 @@ fn emit_shortcut(
     depth: u32,
     op: u32,
     slots: &[u32],
-    made: &mut [u8; 20500],
+    made: &mut [u8; MADE_ROOM],
     code: &mut [u32],
     tables: &mut [u32],
-    k: &mut [u32; 10],
-    l: &[u32; 5],
+    k: &mut [u32; COUNTS],
+    l: &[u32; LIMITS],
 ) -> usize
     requires { ⌜ ReadyIn (now tree) (now slots) (now made) (now code) (now tables) (now k) (now l) × Lowerable depth (now tree) at × (29 ≤ op) × (op ≤ 30) × (0 < at) ⌝ }
     ensures { λ r. ⌜ LowersIn r (shortcut (eqb op 30) (exprCode depth (now (tree .entry)) (slotNames (now (tree .entry)) (now (slots .entry))) at)) (exprAt depth (now (tree .entry)) at .end)
@@ -284,21 +312,21 @@ fn emit_call(
     at: usize,
     depth: u32,
     slots: &[u32],
-    made: &mut [u8; 20500],
+    made: &mut [u8; MADE_ROOM],
     code: &mut [u32],
     tables: &mut [u32],
-    k: &mut [u32; 10],
-    l: &[u32; 5],
+    k: &mut [u32; COUNTS],
+    l: &[u32; LIMITS],
 ) -> usize
     requires { ⌜ ReadyIn (now tree) (now slots) (now made) (now code) (now tables) (now k) (now l) × CallLowerable depth (now tree) at ⌝ }
     ensures { λ r. ⌜ LowersIn r (emitExpr (slotNames (now (tree .entry)) (now (slots .entry))) (call (exprAt depth (now (tree .entry)) at .value) (listAt depth (now (tree .entry)) (exprAt depth (now (tree .entry)) at .end) .value))) (listAt depth (now (tree .entry)) (exprAt depth (now (tree .entry)) at .end) .end)
         (now (tree .entry)) (now (made .entry)) (now (code .entry)) (now (tables .entry)) (now (k .entry)) (now (l .entry)) (now (made .exit)) (now (code .exit)) (now (tables .exit)) (now (k .exit)) ⌝ }
 {
     let kind = tree[at];
-    if kind == 6 {
+    if kind == expr::VARIABLE {
         return emit_named(tree, at + 1, depth, slots, made, code, tables, k, l);
     }
-    if kind == 10 {
+    if kind == expr::ATTRIBUTE {
         return emit_method(tree, at + 1, depth, slots, made, code, tables, k, l);
     }
     let next = emit_expr(tree, at, depth, slots, made, code, tables, k, l);
@@ -309,7 +337,7 @@ fn emit_call(
         tree,
         next,
         depth,
-        CALL_VALUE * 65536,
+        CALL_VALUE * UPPER,
         slots,
         made,
         code,
@@ -325,11 +353,11 @@ fn emit_named(
     at: usize,
     depth: u32,
     slots: &[u32],
-    made: &mut [u8; 20500],
+    made: &mut [u8; MADE_ROOM],
     code: &mut [u32],
     tables: &mut [u32],
-    k: &mut [u32; 10],
-    l: &[u32; 5],
+    k: &mut [u32; COUNTS],
+    l: &[u32; LIMITS],
 ) -> usize
     requires { ⌜ ReadyIn (now tree) (now slots) (now made) (now code) (now tables) (now k) (now l) × NamedLowerable depth (now tree) at ⌝ }
     ensures { λ r. ⌜ LowersIn r (emitExpr (slotNames (now (tree .entry)) (now (slots .entry))) (call (var (nameAt (now (tree .entry)) at)) (listAt depth (now (tree .entry)) (nameEnd (now (tree .entry)) at) .value))) (listAt depth (now (tree .entry)) (nameEnd (now (tree .entry)) at) .end)
@@ -350,11 +378,11 @@ fn emit_method(
     at: usize,
     depth: u32,
     slots: &[u32],
-    made: &mut [u8; 20500],
+    made: &mut [u8; MADE_ROOM],
     code: &mut [u32],
     tables: &mut [u32],
-    k: &mut [u32; 10],
-    l: &[u32; 5],
+    k: &mut [u32; COUNTS],
+    l: &[u32; LIMITS],
 ) -> usize
     requires { ⌜ ReadyIn (now tree) (now slots) (now made) (now code) (now tables) (now k) (now l) × MethodLowerable depth (now tree) at ⌝ }
     ensures { λ r. ⌜ LowersIn r (methodCode depth (now (tree .entry)) (slotNames (now (tree .entry)) (now (slots .entry))) at) (listAt depth (now (tree .entry)) (nameEnd (now (tree .entry)) (exprAt (depth - 1) (now (tree .entry)) at .end)) .end)
@@ -380,11 +408,11 @@ fn emit_args(
     depth: u32,
     callee: u32,
     slots: &[u32],
-    made: &mut [u8; 20500],
+    made: &mut [u8; MADE_ROOM],
     code: &mut [u32],
     tables: &mut [u32],
-    k: &mut [u32; 10],
-    l: &[u32; 5],
+    k: &mut [u32; COUNTS],
+    l: &[u32; LIMITS],
 ) -> usize
     requires { ⌜ ReadyIn (now tree) (now slots) (now made) (now code) (now tables) (now k) (now l) × ArgsLowerable depth (now tree) at × Short (calleeIn callee) ⌝ }
     ensures { λ r. ⌜ LowersIn r (exprsCode depth (countAt (now (tree .entry)) at) (now (tree .entry)) (slotNames (now (tree .entry)) (now (slots .entry))) (at + 2) ⨟ one (callInstr (calleeIn callee) (countAt (now (tree .entry)) at))) (listAt depth (now (tree .entry)) at .end)
@@ -404,11 +432,11 @@ fn emit_attribute(
     at: usize,
     depth: u32,
     slots: &[u32],
-    made: &mut [u8; 20500],
+    made: &mut [u8; MADE_ROOM],
     code: &mut [u32],
     tables: &mut [u32],
-    k: &mut [u32; 10],
-    l: &[u32; 5],
+    k: &mut [u32; COUNTS],
+    l: &[u32; LIMITS],
 ) -> usize
     requires { ⌜ ReadyIn (now tree) (now slots) (now made) (now code) (now tables) (now k) (now l) × AttributeLowerable depth (now tree) at ⌝ }
     ensures { λ r. ⌜ LowersIn r (exprCode depth (now (tree .entry)) (slotNames (now (tree .entry)) (now (slots .entry))) at ⨟ intern (nameAt (now (tree .entry)) (exprAt depth (now (tree .entry)) at .end)) (λ k. one (LoadAttr k))) (nameEnd (now (tree .entry)) (exprAt depth (now (tree .entry)) at .end))
@@ -439,11 +467,11 @@ fn emit_display(
     depth: u32,
     kind: u8,
     slots: &[u32],
-    made: &mut [u8; 20500],
+    made: &mut [u8; MADE_ROOM],
     code: &mut [u32],
     tables: &mut [u32],
-    k: &mut [u32; 10],
-    l: &[u32; 5],
+    k: &mut [u32; COUNTS],
+    l: &[u32; LIMITS],
 ) -> usize
     requires { ⌜ ReadyIn (now tree) (now slots) (now made) (now code) (now tables) (now k) (now l) × DisplayLowerable kind depth (now tree) at ⌝ }
     ensures { λ r. ⌜ LowersIn r (exprsCode depth (heldOf kind (countAt (now (tree .entry)) at)) (now (tree .entry)) (slotNames (now (tree .entry)) (now (slots .entry))) (at + 2) ⨟ one (Build (displayOf kind) (countAt (now (tree .entry)) at))) (exprsAt depth (heldOf kind (countAt (now (tree .entry)) at)) (now (tree .entry)) (at + 2) .end)
@@ -474,17 +502,17 @@ fn emit_lambda(
     at: usize,
     depth: u32,
     slots: &[u32],
-    made: &mut [u8; 20500],
+    made: &mut [u8; MADE_ROOM],
     code: &mut [u32],
     tables: &mut [u32],
-    k: &mut [u32; 10],
-    l: &[u32; 5],
+    k: &mut [u32; COUNTS],
+    l: &[u32; LIMITS],
 ) -> usize
     requires { ⌜ ReadyIn (now tree) (now slots) (now made) (now code) (now tables) (now k) (now l) × LambdaLowerable depth (now tree) at ⌝ }
     ensures { λ r. ⌜ LowersIn r (lambdaCode depth (now (tree .entry)) (slotNames (now (tree .entry)) (now (slots .entry))) at) (exprAt depth (now (tree .entry)) (paramsAt (now (tree .entry)) at .end) .end)
         (now (tree .entry)) (now (made .entry)) (now (code .entry)) (now (tables .entry)) (now (k .entry)) (now (l .entry)) (now (made .exit)) (now (code .exit)) (now (tables .exit)) (now (k .exit)) ⌝ }
 {
-    let mut places = [0u32; 2304];
+    let mut places = [0u32; SLOTS_ROOM];
     let arity = u16_at(tree, at);
     let body = skip_params(tree, at);
     let all = lambda_slots(tree, at, body, depth, slots, &mut places);
@@ -515,11 +543,11 @@ fn emit_closure(
     arity: u32,
     slots: &[u32],
     inner: &[u32],
-    made: &mut [u8; 20500],
+    made: &mut [u8; MADE_ROOM],
     code: &mut [u32],
     tables: &mut [u32],
-    k: &mut [u32; 10],
-    l: &[u32; 5],
+    k: &mut [u32; COUNTS],
+    l: &[u32; LIMITS],
 ) -> usize
     requires { ⌜ ReadyIn (now tree) (now slots) (now made) (now code) (now tables) (now k) (now l) × ClosureLowerable depth (now tree) arity (drop slotsFrom (now inner)) at × CapturesHeld (now tree) (slotNames (now tree) (now slots)) arity (drop slotsFrom (now inner)) × Slots (now tree) (now inner) ⌝ }
     ensures { λ r. ⌜ LowersIn r (closureCode depth (now (tree .entry)) (slotNames (now (tree .entry)) (now (slots .entry))) arity (drop slotsFrom (now (inner .entry))) at) (exprAt depth (now (tree .entry)) at .end)
@@ -541,14 +569,14 @@ fn emit_function(
     depth: u32,
     arity: u32,
     slots: &[u32],
-    made: &mut [u8; 20500],
+    made: &mut [u8; MADE_ROOM],
     code: &mut [u32],
     tables: &mut [u32],
-    k: &mut [u32; 10],
-    l: &[u32; 5],
+    k: &mut [u32; COUNTS],
+    l: &[u32; LIMITS],
 ) -> usize
     requires { ⌜ ReadyIn (now tree) (now slots) (now made) (now code) (now tables) (now k) (now l) × ClosureLowerable depth (now tree) arity (drop slotsFrom (now slots)) at ⌝ }
-    ensures { λ r. ⌜ LowersIn r (functionCode depth (now (tree .entry)) (getD (now (k .entry)) 2 0) arity (drop slotsFrom (now (slots .entry))) at) (exprAt depth (now (tree .entry)) at .end)
+    ensures { λ r. ⌜ LowersIn r (functionCode depth (now (tree .entry)) (functionsIn (now (k .entry))) arity (drop slotsFrom (now (slots .entry))) at) (exprAt depth (now (tree .entry)) at .end)
         (now (tree .entry)) (now (made .entry)) (now (code .entry)) (now (tables .entry)) (now (k .entry)) (now (l .entry)) (now (made .exit)) (now (code .exit)) (now (tables .exit)) (now (k .exit)) ⌝ }
 {
     let base = k[BASE];

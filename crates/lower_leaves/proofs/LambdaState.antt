@@ -5,8 +5,9 @@ use mathlib.Core.Bool.{Bool, true, false, true≢false}
 use mathlib.Core.Option.{Option, none, some}
 use mathlib.Core.List.{List, [], _∷_, _++_, map}
 use native.Mathlib.Omega.{arith}
-use lib.ListN.{length, take, drop, getD, length-map, length-append, length-drop}
+use lib.ListN.{length, take, drop, getD, length-append, length-drop}
 use lib.Seq.{drop-at, drop-drop, take-all}
+use Rattle.names.proofs.Finding.{names-length}
 use Rattle.definitions.specs.Bytes.{Name, all, member, position, same, below}
 use Rattle.definitions.specs.Tree.{Expr}
 use Rattle.definitions.specs.Instruction.{Return, MakeClosure, LoadLocal}
@@ -131,10 +132,6 @@ module _ (t made code tables code₁ : List ℕ) (c k : Counts) (l : Limits) (f 
     )
 
 -- ---- a whole function
-
-pub names-length : (t ws : List ℕ) → length (namesAt t ws) ≡ length ws
-unfolding namesAt
-names-length t ws = length-map ws (nameAt t)
 
 module _ (t made code tables : List ℕ) (c : Counts) (l : Limits) (s : Sound t made code tables c l) (arity : ℕ) (inner : List ℕ) (e : Emit) (E : Lengthens e) (body : Body) where
   abbrev before : State

@@ -26,7 +26,8 @@ use Rattle.lower_names.proofs.Midway.{Midway, midway-start, midway-base, midway
 use Rattle.lower_names.proofs.Naming.{numbers-name, loads-more, loads-end}
 use Rattle.lower_emit.specs.Step.{Lowers, Ends}
 use Rattle.lower_leaves.proofs.LambdaState.{lambda-name, begins-at, begin-over, begin-after, end-full, end-known, end-empty, end-done, function-over, function-body-over}
-use Rattle.lower_leaves.proofs.LambdaState.{function-known, function-empty, function-base, function-end, names-length, slot-below, slot-load}
+use Rattle.names.proofs.Finding.{names-length}
+use Rattle.lower_leaves.proofs.LambdaState.{function-known, function-empty, function-base, function-end, slot-below, slot-load}
 use Rattle.lower_emit.specs.Numbers.{countsOf, limitsIn, answered, numbered, Room, Put, Begun, Ending, Ended, SoundIn, LowersIn}
 use Rattle.lower_emit.proofs.Counts.{answered-full, answered-done, numbered-at, numbered-over}
 use Rattle.lower_emit.proofs.Steps.{room-put, put-lifts, done-of, sound-next, lowers-full, lowers-state, lowers-stopped, lowers-then}

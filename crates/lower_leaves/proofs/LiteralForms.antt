@@ -1,10 +1,10 @@
 -- A literal's end and code, by what it is.
-use Prim.Native.Nat.{ℕ, zero, suc, _+_, _<_}
+use Prim.Native.Nat.{ℕ, zero, suc, _+_, _-_, _<_, _≤_}
 use mathlib.Core.Path.{_≡_, refl, sym, ap, _∙_, subst}
 use mathlib.Core.Bool.{Bool, cond}
 use mathlib.Core.List.{List}
 use native.Mathlib.Omega.{arith}
-use lib.ListN.{getD}
+use lib.ListN.{length, getD}
 use Rattle.definitions.specs.Bytes.{Text}
 use Rattle.definitions.specs.Tree as Tree
 use Rattle.definitions.specs.Tree.{noneL, boolL, intL, floatL, stringL, Expr, lit}
@@ -16,10 +16,10 @@ use Rattle.definitions.specs.Lower.{literal}
 use Rattle.parts.specs.Places as Places
 use Rattle.parts.specs.Places.{Node, node, countAt, Counted}
 use Rattle.exprs.specs.ExprAt.{exprAt, intAt, floatAt, stringAt}
-use Rattle.exprs.specs.Literals.{literalOf, LiteralAt}
+use Rattle.exprs.specs.Literals.{literalOf, TextPlace, LiteralAt}
 use Rattle.exprs.specs.declared.literals.Literal.{Literal}
 use Rattle.exprs.specs.declared.literals.Literal.the-variants.{None, Bool as Truth, Int, Float as Double, Nan, Text as Bytestring}
-use Rattle.exprs.proofs.ExprViews.{view-none, view-false, view-true, view-int, view-float, view-string}
+use Rattle.exprs.proofs.ExprViews.{expr-within, view-none, view-false, view-true, view-int, view-float, view-string}
 use Rattle.state.specs.Words.{numberAt, textAt}
 use Rattle.lower_forms.proofs.Constants.{text-same, eight-same}
 
@@ -101,8 +101,16 @@ module _ (t : List ℕ) (p : ℕ) (x : Literal) (h : LiteralAt t p) (e : lit (li
       let b = subst (λ (y : Literal). Bytes t p (literalOf t y)) w bytes in
       (ap (λ (y : Literal). literal (literalOf t y)) w ∙ ap (λ (n : ℕ). one (instr 1 n 0)) (b .1), b .0)
 
-  pub text-is : (a n : ℕ) → x ≡ Bytestring a n → Counted t (p + 1) × Is (getOrAddString (textAt t (p + 1)) (λ k. one (ConstStr k))) (p + 3 + countAt t (p + 1))
-  unfolding literalOf literal Bytes
-  text-is a n w =
+  pub text-is : (a n : ℕ) → x ≡ Bytestring a n → TextPlace t p x → (a ≡ p + 3) × (a + n ≤ length t) × Is (getOrAddString (textAt t (a - 2)) (λ k. one (ConstStr k))) (a + n)
+  unfolding literalOf literal Bytes TextPlace
+  text-is a n w q =
       let b = subst (λ (y : Literal). Bytes t p (literalOf t y)) w bytes in
-      (b .0, (ap (λ (y : Literal). literal (literalOf t y)) w ∙ ap (λ (u : Text). getOrAddString u (λ k. one (ConstStr k))) (b .2), b .1))
+      let s = subst (λ (y : Literal). TextPlace t p y) w q in
+      let from = s .0 in
+      let long = s .1 in
+      let u : p + 1 ≡ a - 2 = omega arith in
+      let v : p + 3 + countAt t (p + 1) ≡ a + n = omega arith in (
+        from,
+        subst (λ (m : ℕ). m ≤ length t) (b .1 ∙ v) (expr-within 1 t p (h .reads)),
+        (ap (λ (y : Literal). literal (literalOf t y)) w ∙ ap (λ (z : Text). getOrAddString z (λ k. one (ConstStr k))) (b .2 ∙ ap (textAt t) u), b .1 ∙ v),
+      )

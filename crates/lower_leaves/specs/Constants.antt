@@ -5,6 +5,7 @@ use mathlib.Core.List.{List}
 use lib.ListN.{length, getD, set}
 use Rattle.state.specs.Words.{word}
 use Rattle.lower_forms.specs.Lowerable.{LowerableMany}
+use Rattle.lower_emit.specs.Places.{openIn, doneIn, instructionLimit, setOpen}
 
 -- so many expressions, whatever their depth
 pub record Several (n : ℕ) (t : List ℕ) (p : ℕ) : Type 0 where
@@ -23,6 +24,6 @@ pub record Run (r n : ℕ) (t : List ℕ) (p : ℕ) (code code′ : List ℕ) (o
   pub words : code′ ≡ constantsPut code o t p r
 
 pub record Constants (r n : ℕ) (t : List ℕ) (p : ℕ) (code code′ k k′ l : List ℕ) : Type 0 where
-  pub run : Run r n t p code code′ (getD k 8 0) (getD l 4 0 - getD k 9 0)
-  pub counts : k′ ≡ set k 8 (getD k 8 0 + r)
+  pub run : Run r n t p code code′ (openIn k) (instructionLimit l - doneIn k)
+  pub counts : k′ ≡ setOpen (openIn k + r) k
   pub numbers : 10 ≡ length k′

@@ -1,17 +1,20 @@
 // Parts of a lambda: its function begun and ended, and the closure made of it.
 use lower_emit::begin_function;
 use lower_emit::end_function;
-use lower_emit::ops::LOAD_LOCAL;
-use lower_emit::ops::MAKE_CLOSURE;
-use lower_emit::ops::RETURN;
-use lower_emit::places::FUNCTIONS;
-use lower_emit::places::OVER;
 use lower_emit::put_op;
 use lower_names::intern_made;
 use names::Made;
 use names::emit::find_slot;
+use numerals::ops::LOAD_LOCAL;
+use numerals::ops::MAKE_CLOSURE;
+use numerals::ops::RETURN;
+use numerals::places::FUNCTIONS;
+use numerals::places::OVER;
+use numerals::sizes::COUNTS;
+use numerals::sizes::LIMITS;
+use numerals::sizes::MADE_ROOM;
 ghost use Prim.Native.Nat.{_<_, _≤_};
-ghost use lib.ListN.{length, getD};
+ghost use lib.ListN.{length};
 ghost use Rattle.definitions.specs.Instruction.{MakeClosure};
 ghost use Rattle.definitions.specs.Tables.{one, _⨟_};
 ghost use Rattle.definitions.specs.Lower.{loads};
@@ -20,18 +23,19 @@ ghost use Rattle.lower_forms.specs.Lowerable.{Held};
 ghost use Rattle.lower_emit.specs.Numbers.{Room, Functions, Ending};
 ghost use Rattle.lower_names.specs.Naming.{Naming};
 ghost use Rattle.lower_leaves.specs.Closures.{BeginsLambda, EndsLambda, Loads};
+ghost use Rattle.lower_emit.specs.Places.{functionsIn};
 
 // The next function is a lambda with `locals` slots: its name's symbol, then its number; 65,536 where there is no room.
 pub fn begin_lambda(
     tree: &[u8],
-    made: &mut [u8; 20500],
+    made: &mut [u8; MADE_ROOM],
     tables: &mut [u32],
-    k: &mut [u32; 10],
-    l: &[u32; 5],
+    k: &mut [u32; COUNTS],
+    l: &[u32; LIMITS],
     arity: u32,
     locals: u32,
 ) -> u32
-    requires { ⌜ Naming (now tree) (now made) (now tables) (now k) (now l) × Functions (now tables) (now k) (now l) × (getD (now k) 2 0 ≤ 256) × (arity < 256) × (locals < 256) ⌝ }
+    requires { ⌜ Naming (now tree) (now made) (now tables) (now k) (now l) × Functions (now tables) (now k) (now l) × (functionsIn (now k) ≤ 256) × (arity < 256) × (locals < 256) ⌝ }
     ensures { λ r. ⌜ BeginsLambda r arity locals (now (tree .entry)) (now (made .entry)) (now (made .exit)) (now (tables .entry)) (now (tables .exit)) (now (k .entry)) (now (k .exit)) (now (l .entry)) ⌝ }
 {
     let n = k[FUNCTIONS];
@@ -46,8 +50,8 @@ pub fn begin_lambda(
 pub fn end_lambda(
     code: &mut [u32],
     tables: &mut [u32],
-    k: &mut [u32; 10],
-    l: &[u32; 5],
+    k: &mut [u32; COUNTS],
+    l: &[u32; LIMITS],
     f: u32,
     base: u32,
     next: usize,
@@ -69,8 +73,8 @@ fn load_captured(
     slots: &[u32],
     captured: &[u32],
     code: &mut [u32],
-    k: &mut [u32; 10],
-    l: &[u32; 5],
+    k: &mut [u32; COUNTS],
+    l: &[u32; LIMITS],
     next: usize,
 ) -> usize
     requires { ⌜ Room (now code) (now k) (now l) × Slots (now tree) (now slots) × Held (slotNames (now tree) (now slots)) (namesAt (now tree) (now captured)) × (0 < next) ⌝ }
@@ -97,8 +101,8 @@ pub fn end_closure(
     captured: &[u32],
     f: u32,
     code: &mut [u32],
-    k: &mut [u32; 10],
-    l: &[u32; 5],
+    k: &mut [u32; COUNTS],
+    l: &[u32; LIMITS],
     next: usize,
 ) -> usize
     requires { ⌜ Room (now code) (now k) (now l) × Slots (now tree) (now slots) × Held (slotNames (now tree) (now slots)) (namesAt (now tree) (now captured)) × (length (now captured) ≤ 255) × (f < 65536) × (0 < next) ⌝ }

@@ -1,8 +1,12 @@
 // Runs of None, False and True: each is one byte of the tree and one word.
 use lower_emit::packed;
-use lower_emit::places::DONE;
-use lower_emit::places::INSTRUCTION_LIMIT;
-use lower_emit::places::OPEN;
+use numerals::expr;
+use numerals::ops::NONE;
+use numerals::places::DONE;
+use numerals::places::INSTRUCTION_LIMIT;
+use numerals::places::OPEN;
+use numerals::sizes::COUNTS;
+use numerals::sizes::LIMITS;
 ghost use Prim.Native.Nat.{_≤_};
 ghost use lib.ListN.{length};
 ghost use Rattle.lower_emit.specs.Numbers.{Room};
@@ -16,13 +20,13 @@ fn run(tree: &[u8], at: usize, count: u32, code: &mut [u32], n: u32, room: u32) 
     let mut i: u32 = 0;
     while i < count {
         let kind = tree[at + i as usize];
-        if 2 < kind {
+        if expr::TRUE < kind {
             return i;
         }
         if room <= n + i {
             return i;
         }
-        let w = packed(5 - kind as u32, 0, 0);
+        let w = packed(NONE - kind as u32, 0, 0);
         code[(n + i) as usize] = w;
         i += 1;
     }
@@ -35,8 +39,8 @@ pub fn put_constants(
     at: usize,
     count: u32,
     code: &mut [u32],
-    k: &mut [u32; 10],
-    l: &[u32; 5],
+    k: &mut [u32; COUNTS],
+    l: &[u32; LIMITS],
 ) -> u32
     requires { ⌜ Several count (now tree) at × (length (now tree) ≤ 32768) × Room (now code) (now k) (now l) ⌝ }
     ensures { λ r. ⌜ Constants r count (now (tree .entry)) at (now (code .entry)) (now (code .exit)) (now (k .entry)) (now (k .exit)) (now (l .entry)) ⌝ }

@@ -1,8 +1,10 @@
 // Elements of tuple targets: where they end, and an element of the value on the stack.
-use lower_emit::ops::DUP;
-use lower_emit::ops::LOAD_INDEX;
-use lower_emit::ops::SMALL_INT;
 use lower_emit::put_op;
+use numerals::ops::DUP;
+use numerals::ops::LOAD_INDEX;
+use numerals::ops::SMALL_INT;
+use numerals::sizes::COUNTS;
+use numerals::sizes::LIMITS;
 use slots::skip::skip_expr;
 ghost use mathlib.Core.Path.{_≡_};
 ghost use Prim.Native.Nat.{_<_};
@@ -28,7 +30,13 @@ pub fn skip_exprs(tree: &[u8], at: usize, depth: u32, n: u32) -> usize
 }
 
 // The number i, and the element there of the value below it.
-fn put_index(code: &mut [u32], k: &mut [u32; 10], l: &[u32; 5], i: u32, next: usize) -> usize
+fn put_index(
+    code: &mut [u32],
+    k: &mut [u32; COUNTS],
+    l: &[u32; LIMITS],
+    i: u32,
+    next: usize,
+) -> usize
     requires { ⌜ Room (now code) (now k) (now l) × (i < 65536) × (0 < next) ⌝ }
     ensures { λ r. ⌜ Writes r (one (ConstI64 i) ⨟ one LoadIndex) next (now (code .entry)) (now (k .entry)) (now (l .entry)) (now (code .exit)) (now (k .exit)) ⌝ }
 {
@@ -40,7 +48,13 @@ fn put_index(code: &mut [u32], k: &mut [u32; 10], l: &[u32; 5], i: u32, next: us
 }
 
 // The element i of the value on the stack, which is copied but for the last element taken.
-pub fn put_element(code: &mut [u32], k: &mut [u32; 10], l: &[u32; 5], i: u32, next: usize) -> usize
+pub fn put_element(
+    code: &mut [u32],
+    k: &mut [u32; COUNTS],
+    l: &[u32; LIMITS],
+    i: u32,
+    next: usize,
+) -> usize
     requires { ⌜ Room (now code) (now k) (now l) × (i < 65536) × (0 < next) ⌝ }
     ensures { λ r. ⌜ Writes r (copy i ⨟ one (ConstI64 i) ⨟ one LoadIndex) next (now (code .entry)) (now (k .entry)) (now (l .entry)) (now (code .exit)) (now (k .exit)) ⌝ }
 {

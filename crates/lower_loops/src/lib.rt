@@ -1,15 +1,18 @@
 // The iterator of a for loop.
-use lower_emit::ops::CALL_METHOD;
-use lower_emit::ops::JUMP_IF_FALSE;
-use lower_emit::ops::LOAD_GLOBAL;
-use lower_emit::ops::STORE_GLOBAL;
-use lower_emit::places::BASE;
-use lower_emit::places::OPEN;
-use lower_emit::places::OVER;
 use lower_emit::put_op;
 use lower_names::emit_store;
 use lower_names::intern_made;
 use names::Made;
+use numerals::ops::CALL_METHOD;
+use numerals::ops::JUMP_IF_FALSE;
+use numerals::ops::LOAD_GLOBAL;
+use numerals::ops::STORE_GLOBAL;
+use numerals::places::BASE;
+use numerals::places::OPEN;
+use numerals::places::OVER;
+use numerals::sizes::COUNTS;
+use numerals::sizes::LIMITS;
+use numerals::sizes::MADE_ROOM;
 ghost use Prim.Native.Nat.{_-_, _<_};
 ghost use lib.ListN.{length};
 ghost use Rattle.definitions.specs.Instruction.{instr, LoadGlobal, CallMethod, JumpIfFalse};
@@ -24,13 +27,13 @@ ghost use Rattle.lower_emit.specs.Numbers.{SoundIn, LowersIn};
 ghost use Rattle.lower_loops.specs.Iterators.{StoresIterator};
 
 // An instruction with the symbol of a made name, and b.
-pub fn emit_made(
+pub(crate) fn emit_made(
     tree: &[u8],
-    made: &mut [u8; 20500],
+    made: &mut [u8; MADE_ROOM],
     code: &mut [u32],
     tables: &mut [u32],
-    k: &mut [u32; 10],
-    l: &[u32; 5],
+    k: &mut [u32; COUNTS],
+    l: &[u32; LIMITS],
     m: Made,
     op: u32,
     b: u32,
@@ -50,11 +53,11 @@ pub fn emit_made(
 // The iterator of the value on the stack.
 pub fn make_iterator(
     tree: &[u8],
-    made: &mut [u8; 20500],
+    made: &mut [u8; MADE_ROOM],
     code: &mut [u32],
     tables: &mut [u32],
-    k: &mut [u32; 10],
-    l: &[u32; 5],
+    k: &mut [u32; COUNTS],
+    l: &[u32; LIMITS],
     next: usize,
 ) -> usize
     requires { ⌜ SoundIn (now tree) (now made) (now code) (now tables) (now k) (now l) × (0 < next) ⌝ }
@@ -78,11 +81,11 @@ pub fn make_iterator(
 // The iterator goes to the global of its place: the number of that symbol, 65,536 where there is no room.
 pub fn store_iterator(
     tree: &[u8],
-    made: &mut [u8; 20500],
+    made: &mut [u8; MADE_ROOM],
     code: &mut [u32],
     tables: &mut [u32],
-    k: &mut [u32; 10],
-    l: &[u32; 5],
+    k: &mut [u32; COUNTS],
+    l: &[u32; LIMITS],
 ) -> u32
     requires { ⌜ SoundIn (now tree) (now made) (now code) (now tables) (now k) (now l) ⌝ }
     ensures { λ r. ⌜ StoresIterator r (now (tree .entry)) (now (made .entry)) (now (code .entry)) (now (tables .entry)) (now (k .entry)) (now (l .entry)) (now (made .exit)) (now (code .exit)) (now (tables .exit)) (now (k .exit)) ⌝ }
@@ -102,11 +105,11 @@ pub fn store_iterator(
 // The method with a made name of the iterator in global g is called.
 fn call_iterator(
     tree: &[u8],
-    made: &mut [u8; 20500],
+    made: &mut [u8; MADE_ROOM],
     code: &mut [u32],
     tables: &mut [u32],
-    k: &mut [u32; 10],
-    l: &[u32; 5],
+    k: &mut [u32; COUNTS],
+    l: &[u32; LIMITS],
     g: u32,
     m: Made,
     next: usize,
@@ -125,11 +128,11 @@ fn call_iterator(
 // Is there more? The jump past the loop is not known yet.
 pub fn ask_iterator(
     tree: &[u8],
-    made: &mut [u8; 20500],
+    made: &mut [u8; MADE_ROOM],
     code: &mut [u32],
     tables: &mut [u32],
-    k: &mut [u32; 10],
-    l: &[u32; 5],
+    k: &mut [u32; COUNTS],
+    l: &[u32; LIMITS],
     g: u32,
     next: usize,
 ) -> usize
@@ -148,11 +151,11 @@ pub fn ask_iterator(
 pub fn take_iterator(
     tree: &[u8],
     slots: &[u32],
-    made: &mut [u8; 20500],
+    made: &mut [u8; MADE_ROOM],
     code: &mut [u32],
     tables: &mut [u32],
-    k: &mut [u32; 10],
-    l: &[u32; 5],
+    k: &mut [u32; COUNTS],
+    l: &[u32; LIMITS],
     at: usize,
     g: u32,
     next: usize,

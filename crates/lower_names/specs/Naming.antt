@@ -3,7 +3,7 @@ use Prim.Native.Nat.{ℕ, _*_, _/_, _%_, _≤_}
 use mathlib.Core.Path.{_≡_}
 use mathlib.Core.Bool.{true, false}
 use mathlib.Core.List.{List}
-use lib.ListN.{length, getD}
+use lib.ListN.{length}
 use lib.Dec.{eqb}
 use Rattle.definitions.specs.Bytes.{Name}
 use Rattle.definitions.specs.Tables.{Emit}
@@ -11,6 +11,7 @@ use Rattle.definitions.specs.Lower.{Callee, builtinCallee, functionCallee, valu
 use Rattle.state.specs.Words.{region, textAt, word}
 use Rattle.state.specs.State.{stateOf, Numbers, SymbolIndex, StringIndex, Every, MadeWithin, spelled, symbolNumber, withSymbol, stringNumber, withString, withTables}
 use Rattle.lower_emit.specs.Numbers.{countsOf, limitsIn, numbered, SoundIn, LowersIn}
+use Rattle.lower_emit.specs.Places.{symbolsIn, stringsIn, functionsIn, classesIn, madeIn, openIn, doneIn, symbolLimit, stringLimit}
 
 -- ---- symbols: of the names, the tables and the numbers
 
@@ -18,11 +19,11 @@ pub record Naming (tree made tables k l : List ℕ) : Type 0 where
   pub tables-room : 16384 ≤ length tables
   pub made-room : 20500 ≤ length made
   pub numbers : 10 ≡ length k
-  pub symbols : getD k 0 0 ≤ getD l 1 0
-  pub limit : getD l 1 0 ≤ 1024
-  pub made-count : getD k 6 0 ≤ getD k 0 0 * 20
-  pub names : Every (MadeWithin made (getD k 6 0)) (region 0 (getD k 0 0) tables)
-  pub symbol-index : SymbolIndex tree made tables (getD k 0 0)
+  pub symbols : symbolsIn k ≤ symbolLimit l
+  pub limit : symbolLimit l ≤ 1024
+  pub made-count : madeIn k ≤ symbolsIn k * 20
+  pub names : Every (MadeWithin made (madeIn k)) (region 0 (symbolsIn k) tables)
+  pub symbol-index : SymbolIndex tree made tables (symbolsIn k)
 
 -- whatever the code is
 pub record Interns (r : ℕ) (tree made tables tables′ k k′ l : List ℕ) (w : ℕ) : Type 0 where
@@ -42,9 +43,9 @@ pub record InternsMade (r : ℕ) (x : Name) (tree made made′ tables tables′ 
 pub record Texts (tree tables k l : List ℕ) : Type 0 where
   pub tables-room : 16384 ≤ length tables
   pub numbers : 10 ≡ length k
-  pub strings : getD k 1 0 ≤ getD l 2 0
-  pub limit : getD l 2 0 ≤ 512
-  pub string-index : StringIndex tree tables (getD k 1 0)
+  pub strings : stringsIn k ≤ stringLimit l
+  pub limit : stringLimit l ≤ 512
+  pub string-index : StringIndex tree tables (stringsIn k)
 
 -- whatever the made names and the code are
 pub record Adds (r : ℕ) (tree tables tables′ k k′ l : List ℕ) (at : ℕ) : Type 0 where
@@ -52,7 +53,7 @@ pub record Adds (r : ℕ) (tree tables tables′ k k′ l : List ℕ) (at : ℕ)
       (stringNumber (textAt tree at) (stateOf tree made code tables (countsOf k) .tables))
       (withTables (withString (textAt tree at) (stateOf tree made code tables (countsOf k) .tables)) (stateOf tree made code tables (countsOf k)))
   pub kept : 10 ≡ length k′
-  pub words : (getD k′ 8 0 ≡ getD k 8 0) × (getD k′ 9 0 ≡ getD k 9 0)
+  pub words : (openIn k′ ≡ openIn k) × (doneIn k′ ≡ doneIn k)
 
 -- a step that leaves the made names alone, whatever they are
 pub record Quotes (r : ℕ) (e : Emit) (next : ℕ) (t code tables k l code′ tables′ k′ : List ℕ) : Type 0 where
@@ -62,10 +63,10 @@ pub record Quotes (r : ℕ) (e : Emit) (next : ℕ) (t code tables k l code′ t
 
 pub record Callables (tree made tables k : List ℕ) : Type 0 where
   pub tables-room : 16384 ≤ length tables
-  pub symbols : getD k 0 0 ≤ 1024
-  pub functions : getD k 2 0 ≤ 256
-  pub classes : getD k 3 0 ≤ 64
-  pub symbol-index : SymbolIndex tree made tables (getD k 0 0)
+  pub symbols : symbolsIn k ≤ 1024
+  pub functions : functionsIn k ≤ 256
+  pub classes : classesIn k ≤ 64
+  pub symbol-index : SymbolIndex tree made tables (symbolsIn k)
 
 -- the opcode of the call times 65,536, and the number of the built-in or the function
 unfoldable pub calleeIn : ℕ → Callee

@@ -1,26 +1,5 @@
 // Names and strings numbered in the path of the emission: each part speaks of the tables and the numbers that it touches.
-use lower_emit::ops::CALL;
-use lower_emit::ops::CALL_BUILTIN;
-use lower_emit::ops::CALL_VALUE;
-use lower_emit::ops::CONST_STR;
-use lower_emit::ops::LOAD_LOCAL;
-use lower_emit::ops::STORE_LOCAL;
 use lower_emit::packed;
-use lower_emit::places::CLASS_NAMES_FROM;
-use lower_emit::places::CLASSES;
-use lower_emit::places::FUNCTIONS;
-use lower_emit::places::HEADS_FROM;
-use lower_emit::places::MADE;
-use lower_emit::places::OVER;
-use lower_emit::places::SLOTS_FROM;
-use lower_emit::places::STRING_INDEX_END;
-use lower_emit::places::STRING_INDEX_FROM;
-use lower_emit::places::STRING_LIMIT;
-use lower_emit::places::STRINGS;
-use lower_emit::places::STRINGS_FROM;
-use lower_emit::places::SYMBOL_INDEX_FROM;
-use lower_emit::places::SYMBOL_LIMIT;
-use lower_emit::places::SYMBOLS;
 use lower_emit::put;
 use lower_emit::put_op;
 use names::Made;
@@ -36,10 +15,38 @@ use names::making::write_made;
 use names::number::find_symbol;
 use names::spell::name_part;
 use names::spell::text_part;
+use numerals::ops::CALL;
+use numerals::ops::CALL_BUILTIN;
+use numerals::ops::CALL_VALUE;
+use numerals::ops::CONST_STR;
+use numerals::ops::LOAD_LOCAL;
+use numerals::ops::STORE_LOCAL;
+use numerals::places::CLASS_NAMES_FROM;
+use numerals::places::CLASSES;
+use numerals::places::FUNCTIONS;
+use numerals::places::HEADS_FROM;
+use numerals::places::MADE;
+use numerals::places::MADE_FROM;
+use numerals::places::OVER;
+use numerals::places::SLOTS_FROM;
+use numerals::places::STRING_BUCKETS;
+use numerals::places::STRING_INDEX_END;
+use numerals::places::STRING_INDEX_FROM;
+use numerals::places::STRING_LIMIT;
+use numerals::places::STRINGS;
+use numerals::places::STRINGS_FROM;
+use numerals::places::SYMBOL_BUCKETS;
+use numerals::places::SYMBOL_INDEX_FROM;
+use numerals::places::SYMBOL_LIMIT;
+use numerals::places::SYMBOLS;
+use numerals::places::UPPER;
+use numerals::sizes::COUNTS;
+use numerals::sizes::LIMITS;
+use numerals::sizes::MADE_ROOM;
 ghost use mathlib.Core.Path.{_≡_};
 ghost use mathlib.Core.List.{List};
 ghost use Prim.Native.Nat.{ℕ, _+_, _<_, _≤_, _^_};
-ghost use lib.ListN.{getD, length};
+ghost use lib.ListN.{length};
 ghost use Rattle.definitions.specs.Instruction.{instr, ConstStr};
 ghost use Rattle.definitions.specs.Tables as Tables;
 ghost use Rattle.definitions.specs.Tables.{one, getOrAddString};
@@ -53,24 +60,25 @@ ghost use Rattle.lower_names.specs.Variable.{variable};
 ghost use Rattle.lower_forms.specs.Lowerable.{loadCallee};
 ghost use Rattle.lower_emit.specs.Numbers.{countsOf, Room, Put, SoundIn, LowersIn};
 ghost use Rattle.lower_names.specs.Naming.{Naming, Interns, InternsMade, Texts, Adds, Quotes, Callables, calleeIn, callWord};
+ghost use Rattle.lower_emit.specs.Places.{madeIn};
 
 // The number of the symbol `name`, which the word w spells; 65,536 where there is no room. A made name takes `grow` bytes if it is new.
 pub fn intern(
     tree: &[u8],
-    made: &[u8; 20500],
+    made: &[u8; MADE_ROOM],
     tables: &mut [u32],
-    k: &mut [u32; 10],
-    l: &[u32; 5],
+    k: &mut [u32; COUNTS],
+    l: &[u32; LIMITS],
     name: &[u8],
     w: u32,
     grow: u32,
 ) -> u32
-    requires { ⌜ Naming (now tree) (now made) (now tables) (now k) (now l) × MadeWithin (now made) (getD (now k) 6 0 + grow) w × (grow ≤ 20) × (now name ≡ spelled (now tree) (now made) w) ⌝ }
+    requires { ⌜ Naming (now tree) (now made) (now tables) (now k) (now l) × MadeWithin (now made) (madeIn (now k) + grow) w × (grow ≤ 20) × (now name ≡ spelled (now tree) (now made) w) ⌝ }
     ensures { λ r. ⌜ Interns r (now (tree .entry)) (now (made .entry)) (now (tables .entry)) (now (tables .exit)) (now (k .entry)) (now (k .exit)) (now (l .entry)) w ⌝ }
 {
     let n = k[SYMBOLS];
     let grown = k[MADE] + grow;
-    let b = hash(name) % 8192;
+    let b = hash(name) % SYMBOL_BUCKETS;
     let first = first_number(&tables[SYMBOL_INDEX_FROM..STRING_INDEX_FROM], b, n);
     let from = first as usize;
     let end = n as usize;
@@ -91,14 +99,14 @@ pub fn intern(
 // The number of the symbol with the made name at `at`.
 fn intern_at(
     tree: &[u8],
-    made: &[u8; 20500],
+    made: &[u8; MADE_ROOM],
     tables: &mut [u32],
-    k: &mut [u32; 10],
-    l: &[u32; 5],
+    k: &mut [u32; COUNTS],
+    l: &[u32; LIMITS],
     at: u32,
     grow: u32,
 ) -> u32
-    requires { ⌜ Naming (now tree) (now made) (now tables) (now k) (now l) × MadeWithin (now made) (getD (now k) 6 0 + grow) (32768 + at) × (grow ≤ 20) × (at < 32768) ⌝ }
+    requires { ⌜ Naming (now tree) (now made) (now tables) (now k) (now l) × MadeWithin (now made) (madeIn (now k) + grow) (32768 + at) × (grow ≤ 20) × (at < 32768) ⌝ }
     ensures { λ r. ⌜ Interns r (now (tree .entry)) (now (made .entry)) (now (tables .entry)) (now (tables .exit)) (now (k .entry)) (now (k .exit)) (now (l .entry)) (32768 + at) ⌝ }
 {
     intern(
@@ -108,7 +116,7 @@ fn intern_at(
         k,
         l,
         name_part(made, at as usize),
-        32768 + at,
+        MADE_FROM + at,
         grow,
     )
 }
@@ -116,10 +124,10 @@ fn intern_at(
 // The number of the symbol with a made name.
 pub fn intern_made(
     tree: &[u8],
-    made: &mut [u8; 20500],
+    made: &mut [u8; MADE_ROOM],
     tables: &mut [u32],
-    k: &mut [u32; 10],
-    l: &[u32; 5],
+    k: &mut [u32; COUNTS],
+    l: &[u32; LIMITS],
     m: Made,
 ) -> u32
     requires { ⌜ Naming (now tree) (now made) (now tables) (now k) (now l) × (length (madeName m) < 20) ⌝ }
@@ -131,13 +139,19 @@ pub fn intern_made(
 }
 
 // The number of the string at `at`; 65,536 where there is no room.
-fn string_number(tree: &[u8], tables: &mut [u32], k: &mut [u32; 10], l: &[u32; 5], at: usize) -> u32
+fn string_number(
+    tree: &[u8],
+    tables: &mut [u32],
+    k: &mut [u32; COUNTS],
+    l: &[u32; LIMITS],
+    at: usize,
+) -> u32
     requires { ⌜ Texts (now tree) (now tables) (now k) (now l) × (at < 2 ^ 32) ⌝ }
     ensures { λ r. ⌜ Adds r (now (tree .entry)) (now (tables .entry)) (now (tables .exit)) (now (k .entry)) (now (k .exit)) (now (l .entry)) at ⌝ }
 {
     let n = k[STRINGS];
     let text = text_part(tree, at);
-    let b = hash(text) % 4096;
+    let b = hash(text) % STRING_BUCKETS;
     let first = first_number(&tables[STRING_INDEX_FROM..STRING_INDEX_END], b, n);
     let from = STRINGS_FROM + first as usize;
     let end = STRINGS_FROM + n as usize;
@@ -157,11 +171,11 @@ fn string_number(tree: &[u8], tables: &mut [u32], k: &mut [u32; 10], l: &[u32; 5
 // An instruction with the symbol of the name at `at`, and b.
 pub fn emit_symbol(
     tree: &[u8],
-    made: &[u8; 20500],
+    made: &[u8; MADE_ROOM],
     code: &mut [u32],
     tables: &mut [u32],
-    k: &mut [u32; 10],
-    l: &[u32; 5],
+    k: &mut [u32; COUNTS],
+    l: &[u32; LIMITS],
     at: usize,
     op: u32,
     b: u32,
@@ -183,8 +197,8 @@ pub fn emit_string(
     tree: &[u8],
     code: &mut [u32],
     tables: &mut [u32],
-    k: &mut [u32; 10],
-    l: &[u32; 5],
+    k: &mut [u32; COUNTS],
+    l: &[u32; LIMITS],
     at: usize,
     next: usize,
 ) -> usize
@@ -203,11 +217,11 @@ pub fn emit_string(
 fn emit_variable(
     tree: &[u8],
     slots: &[u32],
-    made: &[u8; 20500],
+    made: &[u8; MADE_ROOM],
     code: &mut [u32],
     tables: &mut [u32],
-    k: &mut [u32; 10],
-    l: &[u32; 5],
+    k: &mut [u32; COUNTS],
+    l: &[u32; LIMITS],
     at: usize,
     op: u32,
     next: usize,
@@ -227,11 +241,11 @@ fn emit_variable(
 pub fn emit_load(
     tree: &[u8],
     slots: &[u32],
-    made: &[u8; 20500],
+    made: &[u8; MADE_ROOM],
     code: &mut [u32],
     tables: &mut [u32],
-    k: &mut [u32; 10],
-    l: &[u32; 5],
+    k: &mut [u32; COUNTS],
+    l: &[u32; LIMITS],
     at: usize,
     next: usize,
 ) -> usize
@@ -246,11 +260,11 @@ pub fn emit_load(
 pub fn emit_store(
     tree: &[u8],
     slots: &[u32],
-    made: &[u8; 20500],
+    made: &[u8; MADE_ROOM],
     code: &mut [u32],
     tables: &mut [u32],
-    k: &mut [u32; 10],
-    l: &[u32; 5],
+    k: &mut [u32; COUNTS],
+    l: &[u32; LIMITS],
     at: usize,
     next: usize,
 ) -> usize
@@ -264,9 +278,9 @@ pub fn emit_store(
 // The function so far whose name is the one given, else a value.
 fn resolve_function_id(
     tree: &[u8],
-    made: &[u8; 20500],
+    made: &[u8; MADE_ROOM],
     tables: &[u32],
-    k: &[u32; 10],
+    k: &[u32; COUNTS],
     name: &[u8],
 ) -> u32
     requires { ⌜ Callables (now tree) (now made) (now tables) (now k) ⌝ }
@@ -275,31 +289,37 @@ fn resolve_function_id(
     let n = k[SYMBOLS];
     let i = find_symbol(tree, made, tables, n, name);
     if n <= i {
-        return CALL_VALUE * 65536;
+        return CALL_VALUE * UPPER;
     }
     let m = k[FUNCTIONS];
     let end = HEADS_FROM + m as usize;
     let f = find_head(&tables[HEADS_FROM..end], i);
     if m as usize <= f {
-        return CALL_VALUE * 65536;
+        return CALL_VALUE * UPPER;
     }
-    CALL * 65536 + f as u32
+    CALL * UPPER + f as u32
 }
 
 // What a call of the name at `at` calls, in one number: its opcode times 65,536, and the number of the built-in or the function.
-pub fn resolve(tree: &[u8], made: &[u8; 20500], tables: &[u32], k: &[u32; 10], at: usize) -> u32
+pub fn resolve(
+    tree: &[u8],
+    made: &[u8; MADE_ROOM],
+    tables: &[u32],
+    k: &[u32; COUNTS],
+    at: usize,
+) -> u32
     requires { ⌜ Callables (now tree) (now made) (now tables) (now k) ⌝ }
     ensures { λ r. ⌜ ((code l : List ℕ) → SoundIn (now (tree .entry)) (now (made .entry)) code (now (tables .entry)) (now (k .entry)) l → calleeIn r ≡ Lower.resolve (nameAt (now (tree .entry)) at) (stateOf (now (tree .entry)) (now (made .entry)) code (now (tables .entry)) (countsOf (now (k .entry))) .tables)) ⌝ }
 {
     let name = name_part(tree, at);
     let id = find_builtin(name);
     if id < 15 {
-        return CALL_BUILTIN * 65536 + id;
+        return CALL_BUILTIN * UPPER + id;
     }
     let m = k[CLASSES];
     let end = CLASS_NAMES_FROM + m as usize;
     if find_place(tree, &tables[CLASS_NAMES_FROM..end], name) < m as usize {
-        return CALL_VALUE * 65536;
+        return CALL_VALUE * UPPER;
     }
     resolve_function_id(tree, made, tables, k, name)
 }
@@ -308,11 +328,11 @@ pub fn resolve(tree: &[u8], made: &[u8; 20500], tables: &[u32], k: &[u32; 10], a
 pub fn load_callee(
     tree: &[u8],
     slots: &[u32],
-    made: &[u8; 20500],
+    made: &[u8; MADE_ROOM],
     code: &mut [u32],
     tables: &mut [u32],
-    k: &mut [u32; 10],
-    l: &[u32; 5],
+    k: &mut [u32; COUNTS],
+    l: &[u32; LIMITS],
     at: usize,
     callee: u32,
     next: usize,
@@ -321,10 +341,10 @@ pub fn load_callee(
     ensures { λ r. ⌜ LowersIn r (loadCallee (calleeIn callee) (slotNames (now (tree .entry)) (now (slots .entry))) (nameAt (now (tree .entry)) at)) next
         (now (tree .entry)) (now (made .entry)) (now (code .entry)) (now (tables .entry)) (now (k .entry)) (now (l .entry)) (now (made .entry)) (now (code .exit)) (now (tables .exit)) (now (k .exit)) ⌝ }
 {
-    if callee / 65536 == CALL_BUILTIN {
+    if callee / UPPER == CALL_BUILTIN {
         return next;
     }
-    if callee / 65536 == CALL {
+    if callee / UPPER == CALL {
         return next;
     }
     emit_load(tree, slots, made, code, tables, k, l, at, next)
@@ -335,12 +355,12 @@ fn call_word(callee: u32, n: u32) -> u32
     requires { ⌜ n ≤ 255 ⌝ }
     ensures { λ r. ⌜ r ≡ callWord callee n ⌝ }
 {
-    let op = callee / 65536;
+    let op = callee / UPPER;
     if op == CALL_BUILTIN {
-        return packed(CALL_BUILTIN, callee % 65536, n);
+        return packed(CALL_BUILTIN, callee % UPPER, n);
     }
     if op == CALL {
-        return packed(CALL, callee % 65536, n);
+        return packed(CALL, callee % UPPER, n);
     }
     packed(CALL_VALUE, n, 0)
 }
@@ -348,8 +368,8 @@ fn call_word(callee: u32, n: u32) -> u32
 // The instruction of a call with n arguments.
 pub fn put_call(
     code: &mut [u32],
-    k: &mut [u32; 10],
-    l: &[u32; 5],
+    k: &mut [u32; COUNTS],
+    l: &[u32; LIMITS],
     callee: u32,
     n: u32,
     next: usize,

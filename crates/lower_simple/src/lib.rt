@@ -1,15 +1,19 @@
 // Parts of statements that hold no block: a value and the instruction that takes it, the iterator of a for loop, simple statements, the end of a function.
-use lower_emit::ops::BREAK;
-use lower_emit::ops::CONTINUE;
-use lower_emit::ops::LOAD_LOCAL;
-use lower_emit::ops::POP;
-use lower_emit::ops::RETURN;
+use byte_tests::same_bytes;
 use lower_emit::put_op;
 use lower_expr::emit_expr;
 use lower_loops::make_iterator;
 use lower_targets::emit_assign;
 use names::spell::name_part;
-use names::spell::same_bytes;
+use numerals::ops::BREAK;
+use numerals::ops::CONTINUE;
+use numerals::ops::LOAD_LOCAL;
+use numerals::ops::POP;
+use numerals::ops::RETURN;
+use numerals::sizes::COUNTS;
+use numerals::sizes::LIMITS;
+use numerals::sizes::MADE_ROOM;
+use numerals::stmt;
 ghost use mathlib.Core.Path.{_≡_};
 ghost use mathlib.Core.List.{List};
 ghost use Prim.Native.Nat.{ℕ, _+_, _-_, _<_};
@@ -28,18 +32,18 @@ ghost use Rattle.lower_forms.specs.Lowering.{StmtLowerable, stmtCode, endOf};
 ghost use Rattle.lower_emit.specs.Numbers.{Room, ReadyIn, LowersIn};
 ghost use Rattle.lower_emit.specs.Writes.{Writes};
 
-// An expression, and the instruction that takes its value: 29 is the jump past what follows, which is not known yet.
+// An expression, and the instruction that takes its value: JumpIfFalse is the jump past what follows, which is not known yet.
 pub fn emit_value(
     tree: &[u8],
     at: usize,
     depth: u32,
     op: u32,
     slots: &[u32],
-    made: &mut [u8; 20500],
+    made: &mut [u8; MADE_ROOM],
     code: &mut [u32],
     tables: &mut [u32],
-    k: &mut [u32; 10],
-    l: &[u32; 5],
+    k: &mut [u32; COUNTS],
+    l: &[u32; LIMITS],
 ) -> usize
     requires { ⌜ ReadyIn (now tree) (now slots) (now made) (now code) (now tables) (now k) (now l) × Lowerable depth (now tree) at × (op < 256) × ((t : List ℕ) → instrOf t (word op 0 0) ≡ instr op 0 0) ⌝ }
     ensures { λ r. ⌜ LowersIn r (exprCode depth (now (tree .entry)) (slotNames (now (tree .entry)) (now (slots .entry))) at ⨟ one (instr op 0 0)) (exprAt depth (now (tree .entry)) at .end)
@@ -58,11 +62,11 @@ pub fn emit_iterable(
     at: usize,
     depth: u32,
     slots: &[u32],
-    made: &mut [u8; 20500],
+    made: &mut [u8; MADE_ROOM],
     code: &mut [u32],
     tables: &mut [u32],
-    k: &mut [u32; 10],
-    l: &[u32; 5],
+    k: &mut [u32; COUNTS],
+    l: &[u32; LIMITS],
 ) -> usize
     requires { ⌜ ReadyIn (now tree) (now slots) (now made) (now code) (now tables) (now k) (now l) × Lowerable depth (now tree) at ⌝ }
     ensures { λ r. ⌜ LowersIn r (exprCode depth (now (tree .entry)) (slotNames (now (tree .entry)) (now (slots .entry))) at ⨟ makeIter) (exprAt depth (now (tree .entry)) at .end)
@@ -81,11 +85,11 @@ pub fn emit_simple(
     at: usize,
     depth: u32,
     slots: &[u32],
-    made: &mut [u8; 20500],
+    made: &mut [u8; MADE_ROOM],
     code: &mut [u32],
     tables: &mut [u32],
-    k: &mut [u32; 10],
-    l: &[u32; 5],
+    k: &mut [u32; COUNTS],
+    l: &[u32; LIMITS],
 ) -> usize
     requires { ⌜ ReadyIn (now tree) (now slots) (now made) (now code) (now tables) (now k) (now l) × StmtLowerable depth (now tree) at × (getD (now tree) at 0 < 6) ⌝ }
     ensures { λ r. ⌜ LowersIn r (stmtCode depth (now (tree .entry)) (slotNames (now (tree .entry)) (now (slots .entry))) at) (stmtAt depth (now (tree .entry)) at .end)
@@ -94,17 +98,34 @@ pub fn emit_simple(
     let kind = tree[at];
     let a = at + 1;
     match kind {
-        0 => return put_op(code, k, l, BREAK, 0, 0, a),
-        1 => return put_op(code, k, l, CONTINUE, 0, 0, a),
-        2 => return a,
-        3 => return emit_value(tree, a, depth - 1, POP, slots, made, code, tables, k, l),
-        4 => return emit_value(tree, a, depth - 1, RETURN, slots, made, code, tables, k, l),
+        stmt::BREAK => return put_op(code, k, l, BREAK, 0, 0, a),
+        stmt::CONTINUE => return put_op(code, k, l, CONTINUE, 0, 0, a),
+        stmt::PASS => return a,
+        stmt::EXPR => return emit_value(tree, a, depth - 1, POP, slots, made, code, tables, k, l),
+        stmt::RETURN => return emit_value(
+            tree,
+            a,
+            depth - 1,
+            RETURN,
+            slots,
+            made,
+            code,
+            tables,
+            k,
+            l,
+        ),
         _ => return emit_assign(tree, a, depth - 1, slots, made, code, tables, k, l),
     }
 }
 
 // The end of a function; that of `__init__` returns its object.
-pub fn put_end(code: &mut [u32], k: &mut [u32; 10], l: &[u32; 5], init: bool, next: usize) -> usize
+pub fn put_end(
+    code: &mut [u32],
+    k: &mut [u32; COUNTS],
+    l: &[u32; LIMITS],
+    init: bool,
+    next: usize,
+) -> usize
     requires { ⌜ Room (now code) (now k) (now l) × (0 < next) ⌝ }
     ensures { λ r. ⌜ Writes r (emits (endOf init)) next (now (code .entry)) (now (k .entry)) (now (l .entry)) (now (code .exit)) (now (k .exit)) ⌝ }
 {

@@ -6,13 +6,6 @@ use lower_emit::end_function;
 use lower_emit::jumps::end_branch;
 use lower_emit::jumps::end_loop;
 use lower_emit::jumps::set_jump;
-use lower_emit::ops::JUMP;
-use lower_emit::ops::JUMP_IF_FALSE;
-use lower_emit::places::BASE;
-use lower_emit::places::FUNCTIONS;
-use lower_emit::places::OPEN;
-use lower_emit::places::OVER;
-use lower_emit::places::SLOTS_FROM;
 use lower_loops::ask_iterator;
 use lower_loops::store_iterator;
 use lower_loops::take_iterator;
@@ -22,6 +15,19 @@ use lower_simple::emit_value;
 use lower_simple::is_init;
 use lower_simple::put_end;
 use methods::insert_method;
+use numerals::ops::JUMP;
+use numerals::ops::JUMP_IF_FALSE;
+use numerals::places::BASE;
+use numerals::places::FUNCTIONS;
+use numerals::places::METHODS_ROOM;
+use numerals::places::OPEN;
+use numerals::places::OVER;
+use numerals::places::SLOTS_FROM;
+use numerals::sizes::COUNTS;
+use numerals::sizes::LIMITS;
+use numerals::sizes::MADE_ROOM;
+use numerals::sizes::SLOTS_ROOM;
+use numerals::stmt;
 use parts::names::name_end;
 use parts::numbers::u16_at;
 use slots::Locals;
@@ -30,7 +36,7 @@ use slots::skip::skip_params;
 use slots::skip::skip_stmt;
 ghost use mathlib.Core.List.{[]};
 ghost use Prim.Native.Nat.{_+_, _-_, _<_, _≤_};
-ghost use lib.ListN.{length, getD};
+ghost use lib.ListN.{length};
 ghost use Rattle.definitions.specs.Tables.{emits, _⨟_};
 ghost use Rattle.definitions.specs.Tree.{if, when, for};
 ghost use Rattle.definitions.specs.Lower.{loop, askIter, takeIter, emitStmt};
@@ -46,6 +52,7 @@ ghost use Rattle.lower_forms.specs.Lowering.{StmtLowerable, BlockLowerable, Stm
 ghost use Rattle.lower_emit.specs.Numbers.{countsOf, ReadyIn, LowersIn};
 ghost use Rattle.lower_emit.specs.Ends.{Reaches};
 ghost use Rattle.lower_stmt.specs.Blocks.{SoleIn, CompilesIn, ListsIn};
+ghost use Rattle.lower_emit.specs.Places.{baseIn, openIn};
 
 // The statement at `at`, with `depth` levels left.
 fn emit_stmt(
@@ -53,11 +60,11 @@ fn emit_stmt(
     at: usize,
     depth: u32,
     slots: &[u32],
-    made: &mut [u8; 20500],
+    made: &mut [u8; MADE_ROOM],
     code: &mut [u32],
     tables: &mut [u32],
-    k: &mut [u32; 10],
-    l: &[u32; 5],
+    k: &mut [u32; COUNTS],
+    l: &[u32; LIMITS],
 ) -> usize
     requires { ⌜ ReadyIn (now tree) (now slots) (now made) (now code) (now tables) (now k) (now l) × StmtLowerable depth (now tree) at × (0 < at) ⌝ }
     ensures { λ r. ⌜ LowersIn r (stmtCode depth (now (tree .entry)) (slotNames (now (tree .entry)) (now (slots .entry))) at) (stmtAt depth (now (tree .entry)) at .end)
@@ -65,11 +72,21 @@ fn emit_stmt(
 {
     let kind = tree[at];
     match kind {
-        6 => return emit_if(tree, at + 1, depth - 1, slots, made, code, tables, k, l),
-        7 => return emit_while(tree, at + 1, depth - 1, slots, made, code, tables, k, l),
-        8 => return emit_for(tree, at + 1, depth - 1, slots, made, code, tables, k, l),
-        9 => return compile_function(tree, at + 1, depth - 1, false, made, code, tables, k, l),
-        10 => {
+        stmt::IF => return emit_if(tree, at + 1, depth - 1, slots, made, code, tables, k, l),
+        stmt::WHILE => return emit_while(tree, at + 1, depth - 1, slots, made, code, tables, k, l),
+        stmt::FOR => return emit_for(tree, at + 1, depth - 1, slots, made, code, tables, k, l),
+        stmt::DEF => return compile_function(
+            tree,
+            at + 1,
+            depth - 1,
+            false,
+            made,
+            code,
+            tables,
+            k,
+            l,
+        ),
+        stmt::CLASS => {
             let next = skip_stmt(tree, at, depth);
             return emit_class(tree, at + 1, depth - 1, made, code, tables, k, l, next);
         }
@@ -84,11 +101,11 @@ fn emit_stmts(
     depth: u32,
     count: u32,
     slots: &[u32],
-    made: &mut [u8; 20500],
+    made: &mut [u8; MADE_ROOM],
     code: &mut [u32],
     tables: &mut [u32],
-    k: &mut [u32; 10],
-    l: &[u32; 5],
+    k: &mut [u32; COUNTS],
+    l: &[u32; LIMITS],
 ) -> usize
     requires { ⌜ ReadyIn (now tree) (now slots) (now made) (now code) (now tables) (now k) (now l) × StmtsLowerable depth count (now tree) at × (0 < at) ⌝ }
     ensures { λ r. ⌜ LowersIn r (stmtsCode depth count (now (tree .entry)) (slotNames (now (tree .entry)) (now (slots .entry))) at) (stmtsAt depth count (now (tree .entry)) at .end)
@@ -113,11 +130,11 @@ pub fn emit_block(
     at: usize,
     depth: u32,
     slots: &[u32],
-    made: &mut [u8; 20500],
+    made: &mut [u8; MADE_ROOM],
     code: &mut [u32],
     tables: &mut [u32],
-    k: &mut [u32; 10],
-    l: &[u32; 5],
+    k: &mut [u32; COUNTS],
+    l: &[u32; LIMITS],
 ) -> usize
     requires { ⌜ ReadyIn (now tree) (now slots) (now made) (now code) (now tables) (now k) (now l) × BlockLowerable depth (now tree) at ⌝ }
     ensures { λ r. ⌜ LowersIn r (blockCode depth (now (tree .entry)) (slotNames (now (tree .entry)) (now (slots .entry))) at) (blockAt depth (now (tree .entry)) at .end)
@@ -133,11 +150,11 @@ fn emit_branch(
     at: usize,
     depth: u32,
     slots: &[u32],
-    made: &mut [u8; 20500],
+    made: &mut [u8; MADE_ROOM],
     code: &mut [u32],
     tables: &mut [u32],
-    k: &mut [u32; 10],
-    l: &[u32; 5],
+    k: &mut [u32; COUNTS],
+    l: &[u32; LIMITS],
 ) -> usize
     requires { ⌜ ReadyIn (now tree) (now slots) (now made) (now code) (now tables) (now k) (now l) × BranchLowerable depth (now tree) at ⌝ }
     ensures { λ r. ⌜ LowersIn r (branch (slotNames (now (tree .entry)) (now (slots .entry))) (exprAt depth (now (tree .entry)) at .value) (bodyAt depth (now (tree .entry)) at .value)) (bodyAt depth (now (tree .entry)) at .end)
@@ -172,11 +189,11 @@ fn emit_if(
     at: usize,
     depth: u32,
     slots: &[u32],
-    made: &mut [u8; 20500],
+    made: &mut [u8; MADE_ROOM],
     code: &mut [u32],
     tables: &mut [u32],
-    k: &mut [u32; 10],
-    l: &[u32; 5],
+    k: &mut [u32; COUNTS],
+    l: &[u32; LIMITS],
 ) -> usize
     requires { ⌜ ReadyIn (now tree) (now slots) (now made) (now code) (now tables) (now k) (now l) × IfLowerable depth (now tree) at ⌝ }
     ensures { λ r. ⌜ LowersIn r (emitStmt (slotNames (now (tree .entry)) (now (slots .entry))) (if (when (exprAt depth (now (tree .entry)) at .value) (bodyAt depth (now (tree .entry)) at .value) (elifsAt depth (now (tree .entry)) at .value)))) (elifsAt depth (now (tree .entry)) at .end)
@@ -197,14 +214,14 @@ fn emit_elifs(
     depth: u32,
     n: u32,
     slots: &[u32],
-    made: &mut [u8; 20500],
+    made: &mut [u8; MADE_ROOM],
     code: &mut [u32],
     tables: &mut [u32],
-    k: &mut [u32; 10],
-    l: &[u32; 5],
+    k: &mut [u32; COUNTS],
+    l: &[u32; LIMITS],
 ) -> usize
-    requires { ⌜ ReadyIn (now tree) (now slots) (now made) (now code) (now tables) (now k) (now l) × BranchesLowerable depth n (now tree) at × (0 < getD (now k) 8 0) ⌝ }
-    ensures { λ r. ⌜ Reaches r (branchesAt depth n (now (tree .entry)) at .end) (chainAt (getD (now (k .entry)) 7 0) (slotNames (now (tree .entry)) (now (slots .entry))) (branchesAt depth n (now (tree .entry)) at .value) ((getD (now (k .entry)) 8 0) - 1) (stateOf (now (tree .entry)) (now (made .entry)) (now (code .entry)) (now (tables .entry)) (countsOf (now (k .entry)))))
+    requires { ⌜ ReadyIn (now tree) (now slots) (now made) (now code) (now tables) (now k) (now l) × BranchesLowerable depth n (now tree) at × (0 < openIn (now k)) ⌝ }
+    ensures { λ r. ⌜ Reaches r (branchesAt depth n (now (tree .entry)) at .end) (chainAt (baseIn (now (k .entry))) (slotNames (now (tree .entry)) (now (slots .entry))) (branchesAt depth n (now (tree .entry)) at .value) ((openIn (now (k .entry))) - 1) (stateOf (now (tree .entry)) (now (made .entry)) (now (code .entry)) (now (tables .entry)) (countsOf (now (k .entry)))))
         (now (tree .entry)) (now (k .entry)) (now (l .entry)) (now (made .exit)) (now (code .exit)) (now (tables .exit)) (now (k .exit)) ⌝ }
 {
     let mut left = n;
@@ -229,14 +246,14 @@ fn emit_else(
     at: usize,
     depth: u32,
     slots: &[u32],
-    made: &mut [u8; 20500],
+    made: &mut [u8; MADE_ROOM],
     code: &mut [u32],
     tables: &mut [u32],
-    k: &mut [u32; 10],
-    l: &[u32; 5],
+    k: &mut [u32; COUNTS],
+    l: &[u32; LIMITS],
 ) -> usize
-    requires { ⌜ ReadyIn (now tree) (now slots) (now made) (now code) (now tables) (now k) (now l) × BranchesLowerable depth 0 (now tree) at × (0 < getD (now k) 8 0) ⌝ }
-    ensures { λ r. ⌜ Reaches r (branchesAt depth 0 (now (tree .entry)) at .end) (chainAt (getD (now (k .entry)) 7 0) (slotNames (now (tree .entry)) (now (slots .entry))) (branchesAt depth 0 (now (tree .entry)) at .value) ((getD (now (k .entry)) 8 0) - 1) (stateOf (now (tree .entry)) (now (made .entry)) (now (code .entry)) (now (tables .entry)) (countsOf (now (k .entry)))))
+    requires { ⌜ ReadyIn (now tree) (now slots) (now made) (now code) (now tables) (now k) (now l) × BranchesLowerable depth 0 (now tree) at × (0 < openIn (now k)) ⌝ }
+    ensures { λ r. ⌜ Reaches r (branchesAt depth 0 (now (tree .entry)) at .end) (chainAt (baseIn (now (k .entry))) (slotNames (now (tree .entry)) (now (slots .entry))) (branchesAt depth 0 (now (tree .entry)) at .value) ((openIn (now (k .entry))) - 1) (stateOf (now (tree .entry)) (now (made .entry)) (now (code .entry)) (now (tables .entry)) (countsOf (now (k .entry)))))
         (now (tree .entry)) (now (k .entry)) (now (l .entry)) (now (made .exit)) (now (code .exit)) (now (tables .exit)) (now (k .exit)) ⌝ }
 {
     let from = k[OPEN];
@@ -259,11 +276,11 @@ fn emit_while(
     at: usize,
     depth: u32,
     slots: &[u32],
-    made: &mut [u8; 20500],
+    made: &mut [u8; MADE_ROOM],
     code: &mut [u32],
     tables: &mut [u32],
-    k: &mut [u32; 10],
-    l: &[u32; 5],
+    k: &mut [u32; COUNTS],
+    l: &[u32; LIMITS],
 ) -> usize
     requires { ⌜ ReadyIn (now tree) (now slots) (now made) (now code) (now tables) (now k) (now l) × BranchLowerable depth (now tree) at ⌝ }
     ensures { λ r. ⌜ LowersIn r (loop (exprCode depth (now (tree .entry)) (slotNames (now (tree .entry)) (now (slots .entry))) at) (blockCode depth (now (tree .entry)) (slotNames (now (tree .entry)) (now (slots .entry))) (exprAt depth (now (tree .entry)) at .end))) (bodyAt depth (now (tree .entry)) at .end)
@@ -299,11 +316,11 @@ fn emit_for(
     at: usize,
     depth: u32,
     slots: &[u32],
-    made: &mut [u8; 20500],
+    made: &mut [u8; MADE_ROOM],
     code: &mut [u32],
     tables: &mut [u32],
-    k: &mut [u32; 10],
-    l: &[u32; 5],
+    k: &mut [u32; COUNTS],
+    l: &[u32; LIMITS],
 ) -> usize
     requires { ⌜ ReadyIn (now tree) (now slots) (now made) (now code) (now tables) (now k) (now l) × ForLowerable depth (now tree) at ⌝ }
     ensures { λ r. ⌜ LowersIn r (emitStmt (slotNames (now (tree .entry)) (now (slots .entry))) (for (nameAt (now (tree .entry)) at) (exprAt depth (now (tree .entry)) (nameEnd (now (tree .entry)) at) .value) (bodyAt depth (now (tree .entry)) (nameEnd (now (tree .entry)) at) .value))) (bodyAt depth (now (tree .entry)) (nameEnd (now (tree .entry)) at) .end)
@@ -329,11 +346,11 @@ fn emit_rounds(
     block: usize,
     g: u32,
     slots: &[u32],
-    made: &mut [u8; 20500],
+    made: &mut [u8; MADE_ROOM],
     code: &mut [u32],
     tables: &mut [u32],
-    k: &mut [u32; 10],
-    l: &[u32; 5],
+    k: &mut [u32; COUNTS],
+    l: &[u32; LIMITS],
 ) -> usize
     requires { ⌜ ReadyIn (now tree) (now slots) (now made) (now code) (now tables) (now k) (now l) × There (now tree) at × BlockLowerable depth (now tree) block × (g < 65536) × (0 < block) ⌝ }
     ensures { λ r. ⌜ LowersIn r (loop (askIter g) (takeIter (slotNames (now (tree .entry)) (now (slots .entry))) (nameAt (now (tree .entry)) at) g ⨟ blockCode depth (now (tree .entry)) (slotNames (now (tree .entry)) (now (slots .entry))) block)) (blockAt depth (now (tree .entry)) block .end)
@@ -363,11 +380,11 @@ fn emit_body(
     depth: u32,
     init: bool,
     slots: &[u32],
-    made: &mut [u8; 20500],
+    made: &mut [u8; MADE_ROOM],
     code: &mut [u32],
     tables: &mut [u32],
-    k: &mut [u32; 10],
-    l: &[u32; 5],
+    k: &mut [u32; COUNTS],
+    l: &[u32; LIMITS],
 ) -> usize
     requires { ⌜ ReadyIn (now tree) (now slots) (now made) (now code) (now tables) (now k) (now l) × BlockLowerable depth (now tree) at ⌝ }
     ensures { λ r. ⌜ LowersIn r (blockCode depth (now (tree .entry)) (slotNames (now (tree .entry)) (now (slots .entry))) at ⨟ emits (endOf init)) (blockAt depth (now (tree .entry)) at .end)
@@ -386,17 +403,17 @@ fn compile_function(
     at: usize,
     depth: u32,
     init: bool,
-    made: &mut [u8; 20500],
+    made: &mut [u8; MADE_ROOM],
     code: &mut [u32],
     tables: &mut [u32],
-    k: &mut [u32; 10],
-    l: &[u32; 5],
+    k: &mut [u32; COUNTS],
+    l: &[u32; LIMITS],
 ) -> usize
     requires { ⌜ SoleIn (now tree) (now made) (now code) (now tables) (now k) (now l) × FunctionLowerable depth (now tree) at ⌝ }
-    ensures { λ r. ⌜ CompilesIn r (defBlockAt depth (now (tree .entry)) at .end) (emitAt (getD (now (k .entry)) 7 0) (functionCode depth (now (tree .entry)) at init) (stateOf (now (tree .entry)) (now (made .entry)) (now (code .entry)) (now (tables .entry)) (countsOf (now (k .entry)))))
+    ensures { λ r. ⌜ CompilesIn r (defBlockAt depth (now (tree .entry)) at .end) (emitAt (baseIn (now (k .entry))) (functionCode depth (now (tree .entry)) at init) (stateOf (now (tree .entry)) (now (made .entry)) (now (code .entry)) (now (tables .entry)) (countsOf (now (k .entry)))))
         (now (tree .entry)) (now (k .entry)) (now (l .entry)) (now (made .exit)) (now (code .exit)) (now (tables .exit)) (now (k .exit)) ⌝ }
 {
-    let mut slots = [0u32; 2304];
+    let mut slots = [0u32; SLOTS_ROOM];
     let params = name_end(tree, at);
     let arity = u16_at(tree, params);
     let block = skip_params(tree, params);
@@ -435,11 +452,11 @@ fn emit_methods(
     at: usize,
     depth: u32,
     n: u32,
-    made: &mut [u8; 20500],
+    made: &mut [u8; MADE_ROOM],
     code: &mut [u32],
     tables: &mut [u32],
-    k: &mut [u32; 10],
-    l: &[u32; 5],
+    k: &mut [u32; COUNTS],
+    l: &[u32; LIMITS],
     list: &mut [u32],
 ) -> u32
     requires { ⌜ SoleIn (now tree) (now made) (now code) (now tables) (now k) (now l) × MethodsLowerable depth n (now tree) at × (256 ≤ length (now list)) ⌝ }
@@ -468,18 +485,18 @@ fn emit_class(
     tree: &[u8],
     at: usize,
     depth: u32,
-    made: &mut [u8; 20500],
+    made: &mut [u8; MADE_ROOM],
     code: &mut [u32],
     tables: &mut [u32],
-    k: &mut [u32; 10],
-    l: &[u32; 5],
+    k: &mut [u32; COUNTS],
+    l: &[u32; LIMITS],
     next: usize,
 ) -> usize
     requires { ⌜ SoleIn (now tree) (now made) (now code) (now tables) (now k) (now l) × ClassLowerable depth (now tree) at × (0 < next) ⌝ }
-    ensures { λ r. ⌜ Reaches r (next) (emitAt (getD (now (k .entry)) 7 0) (classCode (nameAt (now (tree .entry)) at) (classMethodsAt depth (now (tree .entry)) at .value)) (stateOf (now (tree .entry)) (now (made .entry)) (now (code .entry)) (now (tables .entry)) (countsOf (now (k .entry)))))
+    ensures { λ r. ⌜ Reaches r (next) (emitAt (baseIn (now (k .entry))) (classCode (nameAt (now (tree .entry)) at) (classMethodsAt depth (now (tree .entry)) at .value)) (stateOf (now (tree .entry)) (now (made .entry)) (now (code .entry)) (now (tables .entry)) (countsOf (now (k .entry)))))
         (now (tree .entry)) (now (k .entry)) (now (l .entry)) (now (made .exit)) (now (code .exit)) (now (tables .exit)) (now (k .exit)) ⌝ }
 {
-    let mut list = [0u32; 256];
+    let mut list = [0u32; METHODS_ROOM];
     let i = begin_class(tables, k, l, at);
     if OVER <= i {
         return 0;

@@ -1,12 +1,17 @@
 // Assignments by the form of the target, in the path of the emission: every answer is the next position in the tree, or 0 where the module is over the limits.
-use lower_emit::ops::STORE_ATTR;
-use lower_emit::ops::STORE_INDEX;
 use lower_emit::put_op;
 use lower_expr::emit_expr;
 use lower_leaves::elements::put_element;
 use lower_leaves::elements::skip_exprs;
 use lower_names::emit_store;
 use lower_names::emit_symbol;
+use numerals::expr;
+use numerals::ops::NONE;
+use numerals::ops::STORE_ATTR;
+use numerals::ops::STORE_INDEX;
+use numerals::sizes::COUNTS;
+use numerals::sizes::LIMITS;
+use numerals::sizes::MADE_ROOM;
 use parts::names::name_end;
 use parts::numbers::u16_at;
 use slots::skip::skip_expr;
@@ -29,11 +34,11 @@ fn emit_assign_target(
     at: usize,
     depth: u32,
     slots: &[u32],
-    made: &[u8; 20500],
+    made: &[u8; MADE_ROOM],
     code: &mut [u32],
     tables: &mut [u32],
-    k: &mut [u32; 10],
-    l: &[u32; 5],
+    k: &mut [u32; COUNTS],
+    l: &[u32; LIMITS],
     next: usize,
 ) -> usize
     requires { ⌜ ReadyIn (now tree) (now slots) (now made) (now code) (now tables) (now k) (now l) × ExprReads depth (now tree) at × (0 < next) ⌝ }
@@ -42,8 +47,8 @@ fn emit_assign_target(
 {
     let kind = tree[at];
     match kind {
-        6 => return emit_store(tree, slots, made, code, tables, k, l, at + 1, next),
-        13 => {
+        expr::VARIABLE => return emit_store(tree, slots, made, code, tables, k, l, at + 1, next),
+        expr::TUPLE => {
             let n = u16_at(tree, at + 1);
             return emit_elements(
                 tree,
@@ -72,11 +77,11 @@ fn emit_elements(
     n: u32,
     i: u32,
     slots: &[u32],
-    made: &[u8; 20500],
+    made: &[u8; MADE_ROOM],
     code: &mut [u32],
     tables: &mut [u32],
-    k: &mut [u32; 10],
-    l: &[u32; 5],
+    k: &mut [u32; COUNTS],
+    l: &[u32; LIMITS],
     next: usize,
 ) -> usize
     requires { ⌜ ReadyIn (now tree) (now slots) (now made) (now code) (now tables) (now k) (now l) × ElementsRead depth (now tree) n at × (i + n ≤ 65536) × (0 < next) ⌝ }
@@ -121,11 +126,11 @@ fn assign_variable(
     at: usize,
     depth: u32,
     slots: &[u32],
-    made: &mut [u8; 20500],
+    made: &mut [u8; MADE_ROOM],
     code: &mut [u32],
     tables: &mut [u32],
-    k: &mut [u32; 10],
-    l: &[u32; 5],
+    k: &mut [u32; COUNTS],
+    l: &[u32; LIMITS],
 ) -> usize
     requires { ⌜ ReadyIn (now tree) (now slots) (now made) (now code) (now tables) (now k) (now l) × VariableAssigned depth (now tree) at ⌝ }
     ensures { λ r. ⌜ LowersIn r (exprCode depth (now (tree .entry)) (slotNames (now (tree .entry)) (now (slots .entry))) (nameEnd (now (tree .entry)) at) ⨟ store (slotNames (now (tree .entry)) (now (slots .entry))) (nameAt (now (tree .entry)) at)) (exprAt depth (now (tree .entry)) (nameEnd (now (tree .entry)) at) .end)
@@ -133,8 +138,8 @@ fn assign_variable(
 {
     let start = name_end(tree, at);
     let kind = tree[start];
-    if kind < 3 {
-        let p = put_op(code, k, l, 5 - kind as u32, 0, 0, start + 1);
+    if kind < expr::INT {
+        let p = put_op(code, k, l, NONE - kind as u32, 0, 0, start + 1);
         if p == 0 {
             return 0;
         }
@@ -153,11 +158,11 @@ fn assign_attribute(
     at: usize,
     depth: u32,
     slots: &[u32],
-    made: &mut [u8; 20500],
+    made: &mut [u8; MADE_ROOM],
     code: &mut [u32],
     tables: &mut [u32],
-    k: &mut [u32; 10],
-    l: &[u32; 5],
+    k: &mut [u32; COUNTS],
+    l: &[u32; LIMITS],
 ) -> usize
     requires { ⌜ ReadyIn (now tree) (now slots) (now made) (now code) (now tables) (now k) (now l) × AttributeAssigned depth (now tree) at ⌝ }
     ensures { λ r. ⌜ LowersIn r (exprCode (depth - 1) (now (tree .entry)) (slotNames (now (tree .entry)) (now (slots .entry))) at ⨟ exprCode depth (now (tree .entry)) (slotNames (now (tree .entry)) (now (slots .entry))) (nameEnd (now (tree .entry)) (exprAt (depth - 1) (now (tree .entry)) at .end)) ⨟ intern (nameAt (now (tree .entry)) (exprAt (depth - 1) (now (tree .entry)) at .end)) (λ k. one (StoreAttr k))) (exprAt depth (now (tree .entry)) (nameEnd (now (tree .entry)) (exprAt (depth - 1) (now (tree .entry)) at .end)) .end)
@@ -181,11 +186,11 @@ fn assign_index(
     at: usize,
     depth: u32,
     slots: &[u32],
-    made: &mut [u8; 20500],
+    made: &mut [u8; MADE_ROOM],
     code: &mut [u32],
     tables: &mut [u32],
-    k: &mut [u32; 10],
-    l: &[u32; 5],
+    k: &mut [u32; COUNTS],
+    l: &[u32; LIMITS],
 ) -> usize
     requires { ⌜ ReadyIn (now tree) (now slots) (now made) (now code) (now tables) (now k) (now l) × IndexAssigned depth (now tree) at ⌝ }
     ensures { λ r. ⌜ LowersIn r (exprCode (depth - 1) (now (tree .entry)) (slotNames (now (tree .entry)) (now (slots .entry))) at ⨟ exprCode (depth - 1) (now (tree .entry)) (slotNames (now (tree .entry)) (now (slots .entry))) (exprAt (depth - 1) (now (tree .entry)) at .end) ⨟ exprCode depth (now (tree .entry)) (slotNames (now (tree .entry)) (now (slots .entry))) (secondAt (depth - 1) (now (tree .entry)) at .end) ⨟ one StoreIndex) (exprAt depth (now (tree .entry)) (secondAt (depth - 1) (now (tree .entry)) at .end) .end)
@@ -212,11 +217,11 @@ fn assign_tuple(
     at: usize,
     depth: u32,
     slots: &[u32],
-    made: &mut [u8; 20500],
+    made: &mut [u8; MADE_ROOM],
     code: &mut [u32],
     tables: &mut [u32],
-    k: &mut [u32; 10],
-    l: &[u32; 5],
+    k: &mut [u32; COUNTS],
+    l: &[u32; LIMITS],
 ) -> usize
     requires { ⌜ ReadyIn (now tree) (now slots) (now made) (now code) (now tables) (now k) (now l) × TupleAssigned depth (now tree) at ⌝ }
     ensures { λ r. ⌜ LowersIn r (exprCode depth (now (tree .entry)) (slotNames (now (tree .entry)) (now (slots .entry))) (exprAt depth (now (tree .entry)) at .end) ⨟ unpack (slotNames (now (tree .entry)) (now (slots .entry))) (elementsAt (depth - 1) (now (tree .entry)) (countAt (now (tree .entry)) (at + 1)) (at + 3)) 0) (secondAt depth (now (tree .entry)) at .end)
@@ -250,11 +255,11 @@ pub fn emit_assign(
     at: usize,
     depth: u32,
     slots: &[u32],
-    made: &mut [u8; 20500],
+    made: &mut [u8; MADE_ROOM],
     code: &mut [u32],
     tables: &mut [u32],
-    k: &mut [u32; 10],
-    l: &[u32; 5],
+    k: &mut [u32; COUNTS],
+    l: &[u32; LIMITS],
 ) -> usize
     requires { ⌜ ReadyIn (now tree) (now slots) (now made) (now code) (now tables) (now k) (now l) × AssignLowerable depth (now tree) at × (0 < at) ⌝ }
     ensures { λ r. ⌜ LowersIn r (assignCode depth (now (tree .entry)) (slotNames (now (tree .entry)) (now (slots .entry))) at) (secondAt depth (now (tree .entry)) at .end)
@@ -262,10 +267,30 @@ pub fn emit_assign(
 {
     let kind = tree[at];
     match kind {
-        6 => return assign_variable(tree, at + 1, depth, slots, made, code, tables, k, l),
-        10 => return assign_attribute(tree, at + 1, depth, slots, made, code, tables, k, l),
-        13 => return assign_tuple(tree, at, depth, slots, made, code, tables, k, l),
-        16 => return assign_index(tree, at + 1, depth, slots, made, code, tables, k, l),
+        expr::VARIABLE => return assign_variable(
+            tree,
+            at + 1,
+            depth,
+            slots,
+            made,
+            code,
+            tables,
+            k,
+            l,
+        ),
+        expr::ATTRIBUTE => return assign_attribute(
+            tree,
+            at + 1,
+            depth,
+            slots,
+            made,
+            code,
+            tables,
+            k,
+            l,
+        ),
+        expr::TUPLE => return assign_tuple(tree, at, depth, slots, made, code, tables, k, l),
+        expr::INDEX => return assign_index(tree, at + 1, depth, slots, made, code, tables, k, l),
         _ => {
             let value = skip_expr(tree, at, depth);
             return skip_expr(tree, value, depth);

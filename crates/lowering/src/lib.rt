@@ -1,4 +1,4 @@
-// The lowering of a tree: questions 1 to 16, and the module's bytes.
+// The lowering of a tree: questions 1 to 16 and 33, and the module's bytes.
 use areas::clear;
 use compile::compile;
 use compile::counts;
@@ -7,6 +7,10 @@ use limits::Limits;
 use limits::limit_numbers;
 use module::module_size;
 use module::write_module;
+use numerals::sizes::AREA;
+use numerals::sizes::COUNTS;
+use numerals::sizes::LIMITS;
+use numerals::sizes::MADE_ROOM;
 use tree::Checked;
 use tree::check_tree;
 ghost use Prim.Native.Nat.{_≤_};
@@ -29,10 +33,10 @@ pub enum Lowered {
 // Question 16: the module of the tables where the output has room for it.
 fn write_tables<'a>(
     tree: &'a [u8],
-    made: &'a [u8; 20500],
+    made: &'a [u8; MADE_ROOM],
     code: &[u32],
     tables: &[u32],
-    k: &[u32; 10],
+    k: &[u32; COUNTS],
     out: &mut [u8],
 ) -> Lowered
     requires { ⌜ Roomy (now code) (now tables) (countsOf (now k)) ⌝ }
@@ -54,13 +58,13 @@ fn lower_checked(
     code: &mut [u32],
     tables: &mut [u32],
     out: &mut [u8],
-    l: &[u32; 5],
+    l: &[u32; LIMITS],
 ) -> Lowered
     requires { ⌜ (16384 ≤ length (now code)) × (16384 ≤ length (now tables)) × Limited (limitsIn (now l)) × TreeAt (now tree) ⌝ }
     ensures { λ r. ⌜ Answers r (lowerAnswer (limitsOf (limitsIn (now (l .entry)))) (length (now (code .entry))) (length (now (tables .entry))) (length (now (out .entry))) (now (tree .entry))) (now (out .entry)) (now (out .exit)) ⌝ }
 {
-    let mut made = [0u8; 20500];
-    let mut k = [0u32; 10];
+    let mut made = [0u8; MADE_ROOM];
+    let mut k = [0u32; COUNTS];
     let next = compile(tree, &mut made, code, tables, &mut k, l);
     if next == 0 {
         if check_slots(tree) {
@@ -77,7 +81,7 @@ fn lower_into(
     code: &mut [u32],
     tables: &mut [u32],
     out: &mut [u8],
-    l: &[u32; 5],
+    l: &[u32; LIMITS],
 ) -> Lowered
     requires { ⌜ (16384 ≤ length (now code)) × (16384 ≤ length (now tables)) × Limited (limitsIn (now l)) ⌝ }
     ensures { λ r. ⌜ Answers r (lowerAnswer (limitsOf (limitsIn (now (l .entry)))) (length (now (code .entry))) (length (now (tables .entry))) (length (now (out .entry))) (now (tree .entry))) (now (out .entry)) (now (out .exit)) ⌝ }
@@ -100,10 +104,10 @@ pub fn lower(
 ) -> Lowered
     ensures { λ r. ⌜ Lowers r (now (area1 .exit)) (now (area2 .exit)) (now (out .exit)) (lowerCall (limitsFor limits) (now (tree .entry)) (now (area1 .entry)) (now (area2 .entry)) (now (out .entry))) ⌝ }
 {
-    if area1.len() < 16384 {
+    if area1.len() < AREA {
         return Lowered::Refused(1);
     }
-    if area2.len() < 16384 {
+    if area2.len() < AREA {
         return Lowered::Refused(1);
     }
     let l = limit_numbers(limits);

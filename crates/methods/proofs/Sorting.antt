@@ -1,14 +1,12 @@
 -- Names in byte order, and the place of a method.
-use Prim.Native.Nat.{ℕ, zero, suc, _+_, _-_, _/_, _%_, _^_, _≤_, _<_}
+use Prim.Native.Nat.{ℕ, zero, suc, _+_, _/_, _%_, _^_, _≤_, _<_}
 use mathlib.Core.Path.{_≡_, refl, sym, ap, _∙_, subst}
-use mathlib.Core.Bool.{Bool, true, false}
+use mathlib.Core.Bool.{true, false}
 use mathlib.Core.List.{List, [], _∷_, _++_, map}
 use native.Mathlib.Omega.{arith}
 use native.Mathlib.Numerals.{add-one}
-use lib.Dec.{eqb, ltb}
-use lib.ListN.{length, take, drop, set, getD, drop-of-length-le, length-set, take-append-drop}
-use lib.Seq.{drop-cons, take-set-lt, getD-take, take-at, length-take-le}
-use borrow.Author.Tests.{eq-eqb, ne-eqb, ltb-true, ltb-false}
+use lib.ListN.{length, take, drop, set, getD, length-set, take-append-drop}
+use lib.Seq.{take-set-lt, getD-take, take-at, length-take-le}
 use Rattle.definitions.specs.Bytes.{Name, same, below}
 use Rattle.definitions.specs.Tables.{Method}
 use Rattle.definitions.specs.Lower.{insertMethod}
@@ -18,42 +16,6 @@ use Rattle.lower_emit.proofs.Setting.{mixed, mixed-read, mixed-set, map-set}
 use Rattle.methods.specs.Order.{inserted, Slotted, Inserted}
 use Rattle.methods.specs.declared.Slot.{Slot}
 use Rattle.methods.specs.declared.Slot.the-variants.{Here, Before}
-
--- ---- byte order
-
-below-none : (xs : List ℕ) → below xs [] ≡ false
-unfolding below
-below-none [] = refl
-below-none (x ∷ xs) = refl
-
-below-first : (xs ys : List ℕ) (x y : ℕ) → eqb x y ≡ false → below (x ∷ xs) (y ∷ ys) ≡ ltb x y
-unfolding below
-below-first xs ys x y e = rw (e, below)
-
-below-next : (xs ys : List ℕ) (x y : ℕ) → eqb x y ≡ true → below (x ∷ xs) (y ∷ ys) ≡ below xs ys
-unfolding below
-below-next xs ys x y e = rw (e, below)
-
--- b ends first
-pub below-ended : (a b : List ℕ) (i : ℕ) → length b ≤ i → below (drop i a) (drop i b) ≡ false
-below-ended a b i h = ap (below (drop i a)) (drop-of-length-le b h) ∙ below-none (drop i a)
-
--- the bytes at i differ
-pub below-differ : (a b : List ℕ) (i : ℕ) → i < length a → i < length b → (getD a i 0 ≡ getD b i 0 → ⊥) → below (drop i a) (drop i b) ≡ ltb (getD a i 0) (getD b i 0)
-below-differ a b i h k d = rw (drop-cons a i 0 h, drop-cons b i 0 k) (below-first (drop (suc i) a) (drop (suc i) b) (getD a i 0) (getD b i 0) (ne-eqb _ _ d))
-
--- they are the same
-pub below-go : (a b : List ℕ) (i : ℕ) → i < length a → i < length b → getD a i 0 ≡ getD b i 0 → below (drop i a) (drop i b) ≡ below (drop (i + 1) a) (drop (i + 1) b)
-below-go a b i h k e = rw (drop-cons a i 0 h, drop-cons b i 0 k, add-one) (below-next (drop (suc i) a) (drop (suc i) b) (getD a i 0) (getD b i 0) (eq-eqb _ _ e))
-
--- a ends
-pub below-all : (a b : List ℕ) (i : ℕ) → length a ≤ i → below (drop i a) (drop i b) ≡ ltb i (length b)
-unfolding below
-below-all a b i h = ap (λ (z : List ℕ). below z (drop i b)) (drop-of-length-le a h) ∙ go (ltb i (length b)) refl
-  where
-    go : (r : Bool) → ltb i (length b) ≡ r → below [] (drop i b) ≡ r
-    go true e = ap (below []) (drop-cons b i 0 (ltb-true i (length b) e))
-    go false e = ap (below []) (drop-of-length-le b (ltb-false i (length b) e))
 
 -- ---- the place of a method
 

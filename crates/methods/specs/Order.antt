@@ -4,7 +4,6 @@ use mathlib.Core.Path.{_≡_}
 use mathlib.Core.List.{List, [], _∷_, map}
 use lib.ListN.{length, take, set}
 use Rattle.definitions.specs.Bytes.{Name}
-use Rattle.definitions.specs.Tables.{Method}
 use Rattle.definitions.specs.Lower.{insertMethod}
 use Rattle.state.specs.Words.{nameAt}
 use Rattle.state.specs.State.{methodOf}

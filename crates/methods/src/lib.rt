@@ -1,34 +1,16 @@
 // The methods of a class by rising name bytes, each a word: the place of its name in the tree, and its function.
+use byte_tests::below_bytes;
+use byte_tests::same_bytes;
 use names::spell::name_part;
-use names::spell::same_bytes;
 ghost use mathlib.Core.Path.{_≡_};
-ghost use mathlib.Core.List.{_∷_};
 ghost use Prim.Native.Nat.{_+_, _≤_, _<_};
 ghost use lib.ListN.{length, take};
-ghost use Rattle.definitions.specs.Bytes.{below};
 ghost use Rattle.methods.specs.Order.{inserted, Slotted, Inserted};
 
 // Where a method goes: in the place of one of its name, or before one.
 pub enum Slot {
     Here(usize),
     Before(usize),
-}
-
-// Whether the bytes a are below b: byte by byte, a proper beginning first.
-pub(crate) fn below_bytes(a: &[u8], b: &[u8]) -> bool
-    ensures { λ r. ⌜ r ≡ below (now (a .entry)) (now (b .entry)) ⌝ }
-{
-    let mut i = 0;
-    while i < a.len() {
-        if b.len() <= i {
-            return false;
-        }
-        if a[i] != b[i] {
-            return a[i] < b[i];
-        }
-        i += 1;
-    }
-    i < b.len()
 }
 
 // The place of a name among the names of n methods.

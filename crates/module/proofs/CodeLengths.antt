@@ -1,16 +1,15 @@
 -- Functions, classes and constants as pieces, and how long they can be.
 use mathlib.Core.Path.{_≡_, refl, sym, ap, ap₂, _∙_}
 use mathlib.Core.List.{List, [], _∷_, _++_, map, append-nil}
-use Prim.Native.Nat.{ℕ, zero, suc, _+_, _*_, _-_, _/_, _%_, _^_, _≤_, _<_}
+use Prim.Native.Nat.{ℕ, _+_, _*_, _/_, _%_, _≤_, _<_}
 use native.Mathlib.Omega.{arith}
-use lib.ListN.{length, getD, take, drop, length-append, length-take, length-drop}
+use lib.ListN.{length, length-append, length-take}
 use Rattle.definitions.specs.Bytes.{be, concat, listBytes}
-use Rattle.definitions.specs.Instruction.{firstWidth, secondWidth, encode}
+use Rattle.definitions.specs.Instruction.{encode}
 use Rattle.definitions.specs.Module.{nameBytes, functionBytes, methodBytes, classBytes}
-use Rattle.definitions.specs.Tables.{Function, Class}
 use Rattle.definitions.proofs.BytesWritten.{length-be, length-list}
 use Rattle.state.specs.Words.{region, nameAt, instrOf, instrsOf}
-use Rattle.state.specs.State.{placeOf, countOf, functionOf, functionsOf, methodOf, classOf, classesOf}
+use Rattle.state.specs.State.{functionOf, functionsOf, methodOf, classOf, classesOf}
 use Rattle.state.proofs.Regions.{functions-length, classes-length}
 use Rattle.module.specs.Sections.{codeBytes, functionsBytes, methodsBytes, classesBytes, constantBytes}
 use Rattle.writing.proofs.Begun.{joined, joined-list}

@@ -1,15 +1,12 @@
 -- The instruction of a word, by the tests of the code; its bytes; and the tables of widths.
-use mathlib.Core.Path.{_≡_, refl, sym, ap, ap₂, _∙_, subst}
-use mathlib.Core.Bool.{Bool, true, false, _&&_, _||_}
+use mathlib.Core.Path.{_≡_, refl, sym, ap, _∙_, subst}
+use mathlib.Core.Bool.{Bool, true, false, _&&_}
 use mathlib.Core.List.{List, [], _∷_, _++_, map, append-nil}
 use Prim.Native.Nat.{ℕ, zero, suc, _+_, _*_, _-_, _/_, _%_, _^_, _≤_, _<_}
 use native.Mathlib.Omega.{arith}
-use native.Mathlib.Nat.{pow-succ', pow-le-pow-right, add-mul, mul-assoc, mod-eq-of-lt, mul-add-div-right, mul-add-mod-self-right}
-use native.Mathlib.Numerals.{add-one}
-use lib.Arith.{digits-div, digits-lt}
-use lib.Dec.{eqb, ltb, leb, lit<}
-use lib.ListN.{length, getD, set, take, drop, length-append, length-take, length-drop, List·getD-map}
-use lib.Seq.{drop-cons, take-all}
+use native.Mathlib.Nat.{pow-succ', pow-le-pow-right, add-mul, mul-assoc}
+use lib.Dec.{eqb, leb, lit<}
+use lib.ListN.{length, getD, set, length-append, List·getD-map}
 use borrow.Author.Tests.{eqb-true, eqb-false, eq-eqb, ne-eqb, lt-ltb, le-ltb, le-leb, lt-leb}
 use Rattle.definitions.specs.Bytes.{be}
 use Rattle.definitions.specs.Instruction.{Instr, instr, ConstI64, Row, row, nothing, instructionTable, rowOf, firstWidth, secondWidth, encode}
@@ -145,51 +142,9 @@ pub number-all : (t : List ℕ) (at i n : ℕ) → i ≤ 8 → 8 ≤ i → n * 2
 unfolding numberAt
 number-all t at i n h l = ap (λ (k : ℕ). n * 256 ^ k + numberAt k t (at + i)) (let z : 8 - i ≡ 0 = omega arith in z) ∙ (let z : n * 256 ^ 0 + 0 ≡ n = omega arith in z)
 
--- ---- the bytes of a number that stands in a list of bytes
-
-positive : (w : ℕ) → 0 < 256 ^ w
-positive zero = lit< tt
-positive (suc w) = subst (λ (x : ℕ). 0 < x) (sym (pow-succ' 256 w)) (omega (arith, positive w))
-
-number-small : (t : List ℕ) → ((i : ℕ) → getD t i 0 < 256) → (w p : ℕ) → numberAt w t p < 256 ^ w
-unfolding numberAt
-number-small t b zero p = lit< tt
-number-small t b (suc w) p = subst (λ (x : ℕ). getD t p 0 * 256 ^ w + numberAt w t (p + 1) < x) (sym (pow-succ' 256 w)) (digits-lt (b p) (number-small t b w (p + 1)))
-
--- the low bytes do not see what is above them
-be-low : (w k r : ℕ) → be w (k * 256 ^ w + r) ≡ be w r
-unfolding be
-be-low zero k r = refl
-be-low (suc w) k r =
-    let s : k * 256 ^ suc w + r ≡ k * 256 * 256 ^ w + r = ap (λ (x : ℕ). x + r) (ap (λ (x : ℕ). k * x) (pow-succ' 256 w) ∙ sym (mul-assoc k 256 (256 ^ w))) in
-    ap₂ (λ (x : ℕ) (xs : List ℕ). x ∷ xs)
-    (ap (λ (x : ℕ). x / 256 ^ w % 256) s ∙ ap (λ (x : ℕ). x % 256) (mul-add-div-right (positive w) (k * 256) r) ∙ mul-add-mod-self-right k 256 (r / 256 ^ w))
-    (ap (be w) s ∙ be-low w (k * 256) r)
-
--- the bytes of the number that w bytes make are those bytes
-be-number : (t : List ℕ) → ((i : ℕ) → getD t i 0 < 256) → (w p : ℕ) → p + w ≤ length t → be w (numberAt w t p) ≡ take w (drop p t)
-unfolding be numberAt
-be-number t b zero p h = refl
-be-number t b (suc w) p h =
-    ap₂ (λ (x : ℕ) (xs : List ℕ). x ∷ xs)
-    (ap (λ (x : ℕ). x % 256) (digits-div (getD t p 0) (number-small t b w (p + 1))) ∙ mod-eq-of-lt (b p))
-    (be-low w (getD t p 0) (numberAt w t (p + 1)) ∙ be-number t b w (p + 1) (omega arith))
-    ∙ sym (ap (take (suc w)) (drop-cons t p 0 (omega arith) ∙ ap (λ (k : ℕ). getD t p 0 ∷ drop k t) (sym (add-one p))))
-
 -- a number by another name
 pub wrote-eight : {r n m : ℕ} {xs ys : List ℕ} → n ≡ m → Wrote r (be 8 n) xs ys → Wrote r (be 8 m) xs ys
 wrote-eight {r} {n} {m} {xs} {ys} e w = subst (λ (k : ℕ). Wrote r (be 8 k) xs ys) e w
-
--- eight bytes of a list, as a part of it
-module _ (t : List ℕ) (at : ℕ) (h : at + 8 ≤ length t) where
-  pub eight-long : length (take (at + 8 - at) (drop at t)) ≡ 8
-  eight-long = simp (length-take, length-drop) (omega arith)
-
-  pub eight-copied : ((i : ℕ) → getD t i 0 < 256) → (i : ℕ) → 8 ≤ i → take i (take (at + 8 - at) (drop at t)) ≡ be 8 (numberAt 8 t at)
-  eight-copied b i k =
-      take-all i (take (at + 8 - at) (drop at t)) (let l = eight-long in omega arith)
-      ∙ ap (λ (n : ℕ). take n (drop at t)) (let z : at + 8 - at ≡ 8 = omega arith in z)
-      ∙ sym (be-number t b 8 at h)
 
 -- ---- an instruction's bytes
 

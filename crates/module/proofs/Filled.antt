@@ -1,11 +1,11 @@
 -- A number's bytes, written from the last to the first.
-use mathlib.Core.Path.{_≡_, refl, sym, ap, ap₂, _∙_}
-use mathlib.Core.List.{List, [], _∷_, _++_}
-use Prim.Native.Nat.{ℕ, zero, suc, _+_, _*_, _-_, _/_, _%_, _^_, _≤_, _<_}
+use mathlib.Core.Path.{_≡_, sym, ap, ap₂, _∙_}
+use mathlib.Core.List.{List, _++_}
+use Prim.Native.Nat.{ℕ, zero, suc, _-_, _/_, _%_, _^_, _≤_, _<_}
 use native.Mathlib.Omega.{arith}
 use native.Mathlib.Nat.{pow-suc, div-div-eq-div-mul, div-one}
 use lib.ListN.{length, getD, take, drop, set, length-append, length-take, length-drop, take-append-drop}
-use lib.Seq.{take-suc, drop-cons, set-at, append-snoc, length-take-le}
+use lib.Seq.{take-suc, set-at, append-snoc, length-take-le}
 use Rattle.definitions.specs.Bytes.{be}
 use Rattle.definitions.specs.Calls.{written}
 use Rattle.definitions.proofs.BytesWritten.{length-be}

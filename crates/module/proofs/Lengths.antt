@@ -1,12 +1,12 @@
 -- How long names, strings and what is made of words can be; and each section as pieces.
-use mathlib.Core.Path.{_≡_, refl, sym, ap, ap₂, _∙_, subst}
+use mathlib.Core.Path.{_≡_, sym, ap, _∙_, subst}
 use mathlib.Core.Bool.{Bool, true, false}
-use mathlib.Core.List.{List, [], _∷_, _++_, map}
-use Prim.Native.Nat.{ℕ, zero, suc, _+_, _*_, _-_, _/_, _%_, _^_, _≤_, _<_}
+use mathlib.Core.List.{List, _++_, map}
+use Prim.Native.Nat.{ℕ, _+_, _*_, _-_, _^_, _≤_, _<_}
 use native.Mathlib.Omega.{arith}
 use lib.Dec.{ltb}
-use lib.ListN.{length, getD, take, drop, length-append, length-take}
-use Rattle.definitions.specs.Bytes.{Name, Text, be, concat, listBytes}
+use lib.ListN.{length, getD, length-append, length-take}
+use Rattle.definitions.specs.Bytes.{Name, Text, be, listBytes}
 use Rattle.definitions.specs.Module.{nameBytes, textBytes}
 use Rattle.definitions.proofs.BytesWritten.{length-be, length-list}
 use Rattle.state.specs.Words.{nameAt, textAt, numberAt}

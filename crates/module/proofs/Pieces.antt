@@ -1,11 +1,11 @@
 -- Lists of words as pieces of bytes: their count, then a piece for each word, or for each pair of words; and how long they are.
 use mathlib.Core.Path.{_≡_, refl, sym, ap, ap₂, _∙_, subst}
 use mathlib.Core.List.{List, [], _∷_, _++_, map}
-use Prim.Native.Nat.{ℕ, zero, suc, _+_, _*_, _-_, _≤_, _<_}
+use Prim.Native.Nat.{ℕ, _+_, _*_, _≤_, _<_}
 use native.Mathlib.Omega.{arith}
 use native.Mathlib.Numerals.{add-one}
 use native.Mathlib.Nat.{mul-suc}
-use lib.ListN.{length, getD, take, drop, length-append, length-map, drop-of-length-le}
+use lib.ListN.{length, getD, drop, length-append, length-map, drop-of-length-le}
 use lib.Seq.{drop-cons}
 use Rattle.definitions.specs.Bytes.{be, concat, listBytes}
 use Rattle.definitions.proofs.BytesWritten.{length-be}

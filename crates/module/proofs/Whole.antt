@@ -1,15 +1,15 @@
 -- The sections of the areas as the module's bytes.
 use mathlib.Core.Path.{_≡_, refl, sym, ap, ap₂, _∙_}
 use mathlib.Core.List.{List, [], _∷_, _++_, append-nil, append-assoc}
-use Prim.Native.Nat.{ℕ, zero, suc, _+_, _*_, _-_, _≤_, _<_, _^_}
+use Prim.Native.Nat.{ℕ, suc, _+_, _*_, _-_, _≤_, _<_, _^_}
 use native.Mathlib.Omega.{arith}
-use lib.ListN.{length, take, drop, length-append, length-take, length-drop}
+use lib.ListN.{length, take, drop, length-append, length-drop}
 use lib.Seq.{take-all}
 use Rattle.definitions.specs.Bytes.{be, housed}
 use Rattle.definitions.specs.Module.{tableBytes, moduleBytes}
 use Rattle.definitions.proofs.BytesWritten.{length-be}
-use Rattle.state.specs.Words.{region, instrsOf}
-use Rattle.state.specs.State.{stringsFrom, headsFrom, codesFrom, classNamesFrom, classMethodsFrom, methodsFrom, constantsFrom, doneFrom, tablesOf, Limited, Sound}
+use Rattle.state.specs.Words.{region}
+use Rattle.state.specs.State.{stringsFrom, headsFrom, codesFrom, classNamesFrom, classMethodsFrom, methodsFrom, constantsFrom, doneFrom, tablesOf, Sound}
 use Rattle.state.specs.declared.Counts.{Counts}
 use Rattle.state.specs.Answered.{Limits}
 use Rattle.state.proofs.Regions.{region-length}

@@ -3,6 +3,7 @@ use crate::functions::words_part;
 use crate::numbers::write_counted;
 use crate::numbers::write_number;
 use names::spell::name_part;
+use numerals::places::UPPER;
 ghost use mathlib.Core.Path.{_≡_};
 ghost use Prim.Native.Nat.{_≤_, _<_};
 ghost use lib.ListN.{length};
@@ -54,7 +55,7 @@ fn class_size(tree: &[u8], methods: &[u32], x: u32, place: u32) -> usize
     ensures { λ r. ⌜ (r ≡ length (classBytes (classOf (now (tree .entry)) (now (methods .entry)) x place))) × (r < 33554432) ⌝ }
 {
     let name = name_part(tree, x as usize);
-    let own = words_part(methods, (place / 65536) as usize, (place % 65536) as usize);
+    let own = words_part(methods, (place / UPPER) as usize, (place % UPPER) as usize);
     1 + name.len() + methods_size(tree, own)
 }
 
@@ -64,7 +65,7 @@ fn write_class(tree: &[u8], methods: &[u32], x: u32, place: u32, out: &mut [u8])
     ensures { λ r. ⌜ Wrote r (classBytes (classOf (now (tree .entry)) (now (methods .entry)) x place)) (now (out .entry)) (now (out .exit)) ⌝ }
 {
     let name = name_part(tree, x as usize);
-    let own = words_part(methods, (place / 65536) as usize, (place % 65536) as usize);
+    let own = words_part(methods, (place / UPPER) as usize, (place % UPPER) as usize);
     let at = write_counted(1, name, out);
     at + write_methods(tree, own, &mut out[at..])
 }

@@ -2,9 +2,10 @@
 use crate::numbers::write_number;
 use crate::words::instruction_size;
 use crate::words::write_instruction;
+use numerals::places::UPPER;
 ghost use mathlib.Core.Path.{_≡_};
 ghost use mathlib.Core.List.{List};
-ghost use Prim.Native.Nat.{ℕ, _+_, _*_, _≤_, _<_};
+ghost use Prim.Native.Nat.{ℕ, _+_, _≤_, _<_};
 ghost use lib.ListN.{length};
 ghost use Rattle.definitions.specs.Module.{functionBytes};
 ghost use Rattle.state.specs.Words.{region};
@@ -57,7 +58,7 @@ fn write_code(tree: &[u8], words: &[u32], out: &mut [u8]) -> usize
 fn function_size(finished: &[u32], place: u32) -> usize
     ensures { λ r. ⌜ ((t : List ℕ) (h : ℕ) → r ≡ length (functionBytes (functionOf t (now (finished .entry)) h place))) × (r < 1048576) ⌝ }
 {
-    let code = words_part(finished, (place / 65536) as usize, (place % 65536) as usize);
+    let code = words_part(finished, (place / UPPER) as usize, (place % UPPER) as usize);
     5 + code_size(code)
 }
 
@@ -66,8 +67,8 @@ fn write_function(tree: &[u8], finished: &[u32], head: u32, place: u32, out: &mu
     requires { ⌜ length (functionBytes (functionOf (now tree) (now finished) head place)) ≤ length (now out) ⌝ }
     ensures { λ r. ⌜ Wrote r (functionBytes (functionOf (now (tree .entry)) (now (finished .entry)) head place)) (now (out .entry)) (now (out .exit)) ⌝ }
 {
-    let code = words_part(finished, (place / 65536) as usize, (place % 65536) as usize);
-    let mut at = write_number(2, (head / 65536) as u64, out);
+    let code = words_part(finished, (place / UPPER) as usize, (place % UPPER) as usize);
+    let mut at = write_number(2, (head / UPPER) as u64, out);
     at += write_number(1, (head / 256 % 256) as u64, &mut out[at..]);
     at += write_number(2, (head % 256) as u64, &mut out[at..]);
     at + write_code(tree, code, &mut out[at..])

@@ -8,6 +8,8 @@ mod classes; // classes.rt: classes with their methods, constants
 mod sections; // sections.rt: the sections from the areas
 
 use numbers::write_number;
+use numerals::sizes::COUNT;
+use numerals::sizes::HEAD;
 use sections::bodies_size;
 use sections::texts_size;
 use sections::write_bodies;
@@ -34,7 +36,7 @@ pub fn module_size<'a>(
     requires { ⌜ Roomy (now code) (now tables) c ⌝ }
     ensures { λ r. ⌜ (r ≡ length (moduleBytes (tablesOf (now (tree .entry)) (now (made .entry)) (now (code .entry)) (now (tables .entry)) c))) × (r < 2 ^ 32) ⌝ }
 {
-    5 + texts_size(tree, made, tables, c) + bodies_size(tree, code, tables, c)
+    HEAD + texts_size(tree, made, tables, c) + bodies_size(tree, code, tables, c)
 }
 
 // The head of a record of `size` bytes: four bytes with the count of those after them, and version 1.
@@ -42,7 +44,7 @@ fn write_head(size: usize, out: &mut [u8]) -> usize
     requires { ⌜ (5 ≤ length (now out)) × (4 ≤ size) × (size < 2 ^ 32) ⌝ }
     ensures { λ r. ⌜ Wrote r (be 4 (size - 4) ++ (1 ∷ [])) (now (out .entry)) (now (out .exit)) ⌝ }
 {
-    let at = write_number(4, (size - 4) as u64, out);
+    let at = write_number(COUNT, (size - COUNT) as u64, out);
     at + write_number(1, 1, &mut out[at..])
 }
 

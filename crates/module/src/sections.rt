@@ -9,6 +9,15 @@ use crate::symbols::strings_size;
 use crate::symbols::symbols_size;
 use crate::symbols::write_strings;
 use crate::symbols::write_symbols;
+use numerals::places::CLASS_METHODS_FROM;
+use numerals::places::CLASS_NAMES_FROM;
+use numerals::places::CODES_FROM;
+use numerals::places::CONSTANTS_FROM;
+use numerals::places::FINISHED_FROM;
+use numerals::places::HEADS_FROM;
+use numerals::places::METHODS_FROM;
+use numerals::places::METHODS_ROOM;
+use numerals::places::STRINGS_FROM;
 use state::Counts;
 ghost use mathlib.Core.Path.{_≡_};
 ghost use Prim.Native.Nat.{_≤_, _<_, _^_};
@@ -22,7 +31,7 @@ pub fn texts_size<'a>(tree: &'a [u8], made: &'a [u8], tables: &[u32], c: Counts)
     ensures { λ r. ⌜ (r ≡ length (textsBytes (now (tree .entry)) (now (made .entry)) (now (tables .entry)) c)) × (r < 2 ^ 30) ⌝ }
 {
     let symbols = words_part(tables, 0, c.symbols as usize);
-    let strings = words_part(tables, 1024, c.strings as usize);
+    let strings = words_part(tables, STRINGS_FROM, c.strings as usize);
     symbols_size(tree, made, symbols) + strings_size(tree, strings)
 }
 
@@ -37,7 +46,7 @@ pub fn write_texts<'a>(
     ensures { λ r. ⌜ Wrote r (textsBytes (now (tree .entry)) (now (made .entry)) (now (tables .entry)) c) (now (out .entry)) (now (out .exit)) ⌝ }
 {
     let symbols = words_part(tables, 0, c.symbols as usize);
-    let strings = words_part(tables, 1024, c.strings as usize);
+    let strings = words_part(tables, STRINGS_FROM, c.strings as usize);
     let at = write_symbols(tree, made, symbols, out);
     at + write_strings(tree, strings, &mut out[at..])
 }
@@ -47,11 +56,11 @@ pub(crate) fn bodies_size(tree: &[u8], code: &[u32], tables: &[u32], c: Counts) 
     requires { ⌜ Roomy (now code) (now tables) c ⌝ }
     ensures { λ r. ⌜ (r ≡ length (bodiesBytes (now (tree .entry)) (now (code .entry)) (now (tables .entry)) c)) × (r < 2 ^ 31) ⌝ }
 {
-    let codes = words_part(tables, 1792, c.functions as usize);
-    let names = words_part(tables, 2048, c.classes as usize);
-    let places = words_part(tables, 2112, c.classes as usize);
-    let methods = words_part(tables, 2176, 256);
-    let functions = functions_size(&code[8192..], codes);
+    let codes = words_part(tables, CODES_FROM, c.functions as usize);
+    let names = words_part(tables, CLASS_NAMES_FROM, c.classes as usize);
+    let places = words_part(tables, CLASS_METHODS_FROM, c.classes as usize);
+    let methods = words_part(tables, METHODS_FROM, METHODS_ROOM);
+    let functions = functions_size(&code[FINISHED_FROM..], codes);
     let classes = classes_size(tree, methods, names, places);
     functions + classes + 2 + 2 * c.constants as usize
 }
@@ -66,13 +75,13 @@ pub(crate) fn write_bodies(
     requires { ⌜ Roomy (now code) (now tables) c × (length (bodiesBytes (now tree) (now code) (now tables) c) ≤ length (now out)) ⌝ }
     ensures { λ r. ⌜ Wrote r (bodiesBytes (now (tree .entry)) (now (code .entry)) (now (tables .entry)) c) (now (out .entry)) (now (out .exit)) ⌝ }
 {
-    let heads = words_part(tables, 1536, c.functions as usize);
-    let codes = words_part(tables, 1792, c.functions as usize);
-    let names = words_part(tables, 2048, c.classes as usize);
-    let places = words_part(tables, 2112, c.classes as usize);
-    let methods = words_part(tables, 2176, 256);
-    let constants = words_part(tables, 2432, c.constants as usize);
-    let mut at = write_functions(tree, &code[8192..], heads, codes, out);
+    let heads = words_part(tables, HEADS_FROM, c.functions as usize);
+    let codes = words_part(tables, CODES_FROM, c.functions as usize);
+    let names = words_part(tables, CLASS_NAMES_FROM, c.classes as usize);
+    let places = words_part(tables, CLASS_METHODS_FROM, c.classes as usize);
+    let methods = words_part(tables, METHODS_FROM, METHODS_ROOM);
+    let constants = words_part(tables, CONSTANTS_FROM, c.constants as usize);
+    let mut at = write_functions(tree, &code[FINISHED_FROM..], heads, codes, out);
     at += write_classes(tree, methods, names, places, &mut out[at..]);
     at + write_constants(constants, &mut out[at..])
 }

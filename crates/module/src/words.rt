@@ -1,6 +1,17 @@
 // An instruction's bytes from its word.
 use crate::numbers::write_number;
+use exprs::literals::Literal;
+use exprs::literals::float_literal;
+use exprs::literals::int_literal;
+use exprs::literals::literal_bits;
 use names::spell::byte;
+use numerals::ops::JUMP;
+use numerals::ops::JUMP_IF_TRUE;
+use numerals::ops::SMALL_INT;
+use numerals::places::PLACED_END;
+use numerals::places::UPPER;
+use numerals::places::WORD_FIRST;
+use numerals::places::WORD_OP;
 use widths::first_width;
 use widths::second_width;
 use widths::whole_width;
@@ -10,7 +21,8 @@ ghost use Prim.Native.Nat.{ℕ, _+_, _≤_, _<_, _^_};
 ghost use lib.ListN.{length};
 ghost use Rattle.definitions.specs.Bytes.{be};
 ghost use Rattle.definitions.specs.Instruction.{encode};
-ghost use Rattle.state.specs.Words.{numberAt, instrOf};
+ghost use Rattle.exprs.specs.Literals.{Plain, bitsOf};
+ghost use Rattle.state.specs.Words.{numberAt, firstOf, instrOf};
 ghost use Rattle.state.specs.Words as Words;
 ghost use Rattle.writing.specs.Wrote.{Wrote};
 
@@ -18,8 +30,8 @@ ghost use Rattle.writing.specs.Wrote.{Wrote};
 fn opcode(w: u32) -> usize
     ensures { λ r. ⌜ ((t : List ℕ) → r ≡ instrOf t w .op) × (r < 256) ⌝ }
 {
-    let op = w / 16777216;
-    if op == 48 {
+    let op = w / WORD_OP;
+    if op == SMALL_INT {
         return 0;
     }
     op as usize
@@ -39,22 +51,24 @@ fn eight_at(bytes: &[u8], at: usize) -> u64
     n
 }
 
-// The eight bytes at `at`, 0 for those past the end.
-fn copy_eight(bytes: &[u8], at: usize, out: &mut [u8]) -> usize
-    requires { ⌜ (at < 2 ^ 32) × (8 ≤ length (now out)) ⌝ }
-    ensures { λ r. ⌜ Wrote r (be 8 (numberAt 8 (now (bytes .entry)) at)) (now (out .entry)) (now (out .exit)) ⌝ }
+// The literal whose eight bytes stand at the place that the word has: of the opcode 0 an integer, else a float.
+fn literal_of(tree: &[u8], w: u32) -> Literal
+    ensures { λ r. ⌜ Plain r × (bitsOf r ≡ numberAt 8 (now (tree .entry)) (firstOf w)) ⌝ }
 {
-    if bytes.len() < at + 8 {
-        return write_number(8, eight_at(bytes, at), out);
+    let bits = eight_at(tree, (w / WORD_FIRST % UPPER) as usize);
+    if w < WORD_OP {
+        return int_literal(bits);
     }
-    let end = at + 8;
-    let part = &bytes[at..end];
-    let mut i = 0usize;
-    while i < 8 {
-        out[i] = part[i];
-        i += 1;
-    }
-    8
+    float_literal(bits)
+}
+
+// The bytes of that literal's value.
+fn write_literal(tree: &[u8], w: u32, out: &mut [u8]) -> usize
+    requires { ⌜ 8 ≤ length (now out) ⌝ }
+    ensures { λ r. ⌜ Wrote r (be 8 (numberAt 8 (now (tree .entry)) (firstOf w))) (now (out .entry)) (now (out .exit)) ⌝ }
+{
+    let x = literal_of(tree, w);
+    write_number(8, literal_bits(x), out)
 }
 
 // A signed number of 16 bits in 32 bits.
@@ -70,12 +84,12 @@ fn first_operand(w: u32) -> u64
     requires { ⌜ 33554432 ≤ w ⌝ }
     ensures { λ r. ⌜ ((t : List ℕ) → r ≡ instrOf t w .a) ⌝ }
 {
-    let op = w / 16777216;
-    let a = w / 256 % 65536;
-    if op < 28 {
+    let op = w / WORD_OP;
+    let a = w / WORD_FIRST % UPPER;
+    if op < JUMP {
         return a as u64;
     }
-    if 30 < op {
+    if JUMP_IF_TRUE < op {
         return a as u64;
     }
     widened(a) as u64
@@ -84,10 +98,10 @@ fn first_operand(w: u32) -> u64
 fn second_operand(w: u32) -> u64
     ensures { λ r. ⌜ ((t : List ℕ) → r ≡ instrOf t w .b) ⌝ }
 {
-    if w / 16777216 == 48 {
+    if w / WORD_OP == SMALL_INT {
         return 0;
     }
-    (w % 256) as u64
+    (w % WORD_FIRST) as u64
 }
 
 // How many bytes the instruction of a word has, whatever the tree.
@@ -102,8 +116,8 @@ fn write_place(tree: &[u8], w: u32, out: &mut [u8]) -> usize
     requires { ⌜ (w < 33554432) × (length (encode (instrOf (now tree) w)) ≤ length (now out)) ⌝ }
     ensures { λ r. ⌜ Wrote r (encode (instrOf (now (tree .entry)) w)) (now (out .entry)) (now (out .exit)) ⌝ }
 {
-    out[0] = (w / 16777216) as u8;
-    1 + copy_eight(tree, (w / 256 % 65536) as usize, &mut out[1..])
+    out[0] = (w / WORD_OP) as u8;
+    1 + write_literal(tree, w, &mut out[1..])
 }
 
 // The instruction's bytes: the opcode and the operands in their widths.
@@ -117,7 +131,7 @@ pub(crate) fn write_instruction(tree: &[u8], w: u32, out: &mut [u8]) -> usize
         out[0] = op as u8;
         return 1;
     }
-    if w < 33554432 {
+    if w < PLACED_END {
         return write_place(tree, w, out);
     }
     let second = second_width(op) as usize;

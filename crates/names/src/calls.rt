@@ -1,5 +1,5 @@
-// What a call by name calls.
-use crate::spell::same_bytes;
+// The built-ins, by their names.
+use byte_tests::same_bytes;
 ghost use mathlib.Core.Path.{_≡_};
 ghost use Rattle.definitions.specs.Builtins.{builtin};
 ghost use Rattle.state.specs.State.{foundOr};

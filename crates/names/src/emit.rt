@@ -1,7 +1,8 @@
-// Instructions that name a symbol, a string or a slot.
+// The slot of a name.
 use crate::index::find_from;
 use crate::index::slot_bucket;
 use crate::spell::name_part;
+use numerals::places::SLOTS_FROM;
 ghost use mathlib.Core.Path.{_≡_};
 ghost use lib.ListN.{length, drop};
 ghost use Rattle.definitions.specs.Bytes.{same, position};
@@ -15,5 +16,5 @@ pub fn find_slot(tree: &[u8], slots: &[u32], at: usize) -> u32
 {
     let name = name_part(tree, at);
     let k = slots[slot_bucket(name)];
-    find_from(tree, &slots[2048..], k, name) as u32
+    find_from(tree, &slots[SLOTS_FROM..], k, name) as u32
 }

@@ -1,7 +1,10 @@
 // The first of some words that stands for a name, a string or a function; as many as there are where none does.
 use crate::spell::name_part;
-use crate::spell::same_bytes;
 use crate::spell::text_part;
+use byte_tests::same_bytes;
+use numerals::places::MADE_FROM;
+use numerals::places::MADE_START;
+use numerals::places::UPPER;
 ghost use mathlib.Core.Path.{_≡_};
 ghost use mathlib.Core.List.{map};
 ghost use Prim.Native.Nat.{_/_, _^_};
@@ -15,10 +18,10 @@ ghost use Rattle.state.specs.State.{spelled, namesAt, foundOr};
 pub(crate) fn is_spelled(tree: &[u8], made: &[u8], w: u32, name: &[u8]) -> bool
     ensures { λ r. ⌜ r ≡ same (now (name .entry)) (spelled (now (tree .entry)) (now (made .entry)) w) ⌝ }
 {
-    if w < 32768 {
+    if w < MADE_FROM {
         return same_bytes(name, name_part(tree, w as usize));
     }
-    same_bytes(name, name_part(made, w as usize - 32768))
+    same_bytes(name, name_part(made, w as usize - MADE_START))
 }
 
 // A symbol's word, by its spelling.
@@ -71,7 +74,7 @@ pub fn find_head(words: &[u32], k: u32) -> usize
 {
     let mut i = 0;
     while i < words.len() {
-        if k == words[i] / 65536 {
+        if k == words[i] / UPPER {
             return i;
         }
         i += 1;

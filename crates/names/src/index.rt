@@ -1,5 +1,6 @@
 // An index of names: by a hash of its bytes, where a name is sought among others.
 use crate::find::find_place;
+use numerals::places::SLOTS_FROM;
 ghost use mathlib.Core.Path.{_≡_};
 ghost use Prim.Native.Nat.{_+_, _≤_, _<_};
 ghost use lib.ListN.{length, getD};
@@ -24,7 +25,7 @@ pub fn hash(name: &[u8]) -> u32
 pub fn slot_bucket(name: &[u8]) -> usize
     ensures { λ r. ⌜ (r ≡ bucketOf slotsFrom (now (name .entry))) × (r < slotsFrom) ⌝ }
 {
-    hash(name) as usize % 2048
+    hash(name) as usize % SLOTS_FROM
 }
 
 // The number from which on a name is sought among n, by the word in its bucket.

@@ -1,9 +1,10 @@
-// The numbers of symbols and strings, made where they are new.
+// The number of a symbol.
 use crate::find::find_spelling;
 use crate::index::first_number;
 use crate::index::hash;
-use lower_emit::places::STRING_INDEX_FROM;
-use lower_emit::places::SYMBOL_INDEX_FROM;
+use numerals::places::STRING_INDEX_FROM;
+use numerals::places::SYMBOL_BUCKETS;
+use numerals::places::SYMBOL_INDEX_FROM;
 ghost use mathlib.Core.Path.{_≡_};
 ghost use mathlib.Core.List.{map};
 ghost use Prim.Native.Nat.{_+_, _≤_};
@@ -19,7 +20,7 @@ pub fn find_symbol(tree: &[u8], made: &[u8], tables: &[u32], n: u32, name: &[u8]
 {
     let first = first_number(
         &tables[SYMBOL_INDEX_FROM..STRING_INDEX_FROM],
-        hash(name) % 8192,
+        hash(name) % SYMBOL_BUCKETS,
         n,
     );
     let from = first as usize;

@@ -1,9 +1,10 @@
 // Names and strings as parts of the slices that hold them.
+use numerals::places::MADE_FROM;
+use numerals::places::MADE_START;
 ghost use mathlib.Core.Path.{_≡_};
 ghost use Prim.Native.Nat.{_+_, _<_, _^_};
 ghost use denote.Ref.{ptr};
 ghost use lib.ListN.{take, drop, getD};
-ghost use Rattle.definitions.specs.Bytes.{same};
 ghost use Rattle.state.specs.Words.{numberAt, nameAt, textAt};
 ghost use Rattle.state.specs.State.{spelled};
 ghost use Rattle.names.specs.Parts.{beginAt, Points, Spells};
@@ -69,25 +70,8 @@ pub fn spelling<'a>(tree: &'a [u8], made: &'a [u8], w: u32) -> &'a [u8]
     ensures { λ r. ⌜ now r ≡ spelled (now (tree .entry)) (now (made .entry)) w ⌝ }
     ensures begins { λ r. ⌜ Spells (ptr r) (ptr (tree .entry)) (ptr (made .entry)) (now (tree .entry)) (now (made .entry)) w ⌝ }
 {
-    if w < 32768 {
+    if w < MADE_FROM {
         return name_part(tree, w as usize);
     }
-    name_part(made, w as usize - 32768)
-}
-
-// Whether the two are the same bytes.
-pub fn same_bytes(a: &[u8], b: &[u8]) -> bool
-    ensures { λ r. ⌜ r ≡ same (now (a .entry)) (now (b .entry)) ⌝ }
-{
-    if a.len() != b.len() {
-        return false;
-    }
-    let mut i = 0;
-    while i < a.len() {
-        if a[i] != b[i] {
-            return false;
-        }
-        i += 1;
-    }
-    true
+    name_part(made, w as usize - MADE_START)
 }

@@ -1,4 +1,11 @@
 // The opcodes of operators and displays, by their bytes in the tree.
+use numerals::expr;
+use numerals::ops::BUILD;
+use numerals::ops::BUILD_DICT;
+use numerals::ops::BUILD_TUPLE;
+use numerals::ops::NEG;
+use numerals::ops::NOT;
+use numerals::ops::POS;
 ghost use mathlib.Core.Path.{_≡_};
 ghost use Prim.Native.Nat.{_<_, _≤_};
 ghost use Rattle.definitions.specs.Instruction.{operatorCode, buildCode};
@@ -11,9 +18,9 @@ pub fn unary_code(operator: u8) -> u32
     ensures { λ r. ⌜ (r ≡ unaryOpcode operator) × Plain r 0 0 ⌝ }
 {
     match operator {
-        0 => 27,
-        1 => 19,
-        _ => 20,
+        0 => NOT,
+        1 => NEG,
+        _ => POS,
     }
 }
 
@@ -39,13 +46,13 @@ pub fn build_code(kind: u8) -> u32
     requires { ⌜ (11 ≤ kind) × (kind ≤ 15) ⌝ }
     ensures { λ r. ⌜ (r ≡ buildCode (displayOf kind)) × (30 < r) × (r < 48) ⌝ }
 {
-    if kind == 12 {
-        return 40;
+    if kind == expr::DICT {
+        return BUILD_DICT;
     }
-    if kind == 13 {
-        return 39;
+    if kind == expr::TUPLE {
+        return BUILD_TUPLE;
     }
-    27 + kind as u32
+    BUILD + kind as u32
 }
 
 // How many expressions a display with the count n holds.
@@ -53,7 +60,7 @@ pub fn held(kind: u8, n: u32) -> u32
     requires { ⌜ n < 65536 ⌝ }
     ensures { λ r. ⌜ r ≡ heldOf kind n ⌝ }
 {
-    if kind == 12 {
+    if kind == expr::DICT {
         return 2 * n;
     }
     n

@@ -1,19 +1,19 @@
 -- Counts, names, parameters, texts and numbers that are read. Assumes nothing.
-use Prim.Native.Nat.{ℕ, zero, suc, _+_, _*_, _-_, _<_, _≤_}
+use Prim.Native.Nat.{ℕ, zero, suc, _+_, _<_, _≤_}
 use mathlib.Core.Path.{_≡_, refl, sym, ap, _∙_}
-use mathlib.Core.Bool.{Bool, true, false}
+use mathlib.Core.Bool.{true}
 use mathlib.Core.List.{List, [], _∷_}
 use mathlib.Core.Logic.{⊎-elim}
 use native.Mathlib.Omega.{arith}
-use lib.ListN.{length, take, drop, getD, length-drop}
+use lib.ListN.{length, take, drop, length-drop}
 use lib.Seq.{drop-drop}
-use Rattle.definitions.specs.Bytes.{Name, Text, Parsed, got, failed, Parser, _>>=_, byte, field, counted, listOf, name, text}
+use Rattle.definitions.specs.Bytes.{Name, Parsed, got, failed, Parser, _>>=_, byte, field, counted, listOf, name, text}
 use Rattle.definitions.specs.Parse.{params}
-use Rattle.parts.specs.Places.{Node, node, nodeOf, nodeAt, isGot, Reads, countAt, Counted, eightAt, nameBytes, nameEnd, There, namesFrom, namesEnd, AllThere, ParamsAt, paramsAt, TextAt, textAt}
-use Rattle.parts.proofs.Laws.{le-or-gt, steady-field, follow, bind-is}
+use Rattle.parts.specs.Places.{Node, node, nodeAt, isGot, Reads, countAt, Counted, eightAt, nameBytes, nameEnd, There, namesFrom, namesEnd, AllThere, ParamsAt, paramsAt, TextAt, textAt}
+use Rattle.parts.proofs.Laws.{le-or-gt, follow, bind-is}
 use Rattle.parts.proofs.LeafLaws.{field-short, field-long, field-two, bytes-long, bytes-short, name-there}
 use Rattle.parts.proofs.NameLaws.{name-or, Listed, listed, unlisted, names-read}
-use Rattle.parts.proofs.Nodes.{Goes, not-got, got-node, first-reads, goes-got, node-got}
+use Rattle.parts.proofs.Nodes.{Goes, not-got, got-node, first-reads, goes-got}
 
 -- ---- counts
 

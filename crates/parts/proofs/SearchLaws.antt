@@ -1,5 +1,5 @@
 -- The search tree over names: what a step down it finds, and what a name put into an empty slot changes. Assumes nothing.
-use Prim.Native.Nat.{ℕ, zero, suc, _+_, _*_, _-_, _/_, _%_, _^_, _<_, _≤_}
+use Prim.Native.Nat.{ℕ, zero, suc, _+_, _-_, _/_, _%_, _^_, _<_, _≤_}
 use mathlib.Core.Path.{_≡_, refl, sym, ap, _∙_, subst}
 use mathlib.Core.Bool.{Bool, true, false, not, _&&_, _||_, true≢false}
 use mathlib.Core.List.{List, [], _∷_, _++_}
@@ -16,7 +16,7 @@ use Rattle.definitions.specs.Wellformed.{distinct}
 use Rattle.parts.specs.Places.{nameBytes, nameEnd, There, namesFrom, namesEnd, AllThere}
 use Rattle.parts.specs.Search.{turnOf, below, reach, Entry, Met, Searches, Puts}
 use Rattle.parts.specs.declared.distinct.Put.{Put}
-use Rattle.parts.specs.declared.distinct.Put.the-variants.{Twice, New, Lost}
+use Rattle.parts.specs.declared.distinct.Put.the-variants.{Twice, New}
 use Rattle.parts.proofs.Laws.{le-or-gt}
 use Rattle.parts.proofs.NameLaws.{member-cons, there-first, there-rest, from-more, from-none}
 

@@ -1,7 +1,8 @@
 // Whether the names of a list are distinct (11).
 use crate::names::name_end;
 use crate::names::name_part;
-use crate::names::same_bytes;
+use byte_tests::same_bytes;
+use numerals::sizes::TREE_MOST;
 ghost use mathlib.Core.Path.{_≡_};
 ghost use Prim.Native.Nat.{_≤_, _<_};
 ghost use lib.ListN.{length};
@@ -71,14 +72,15 @@ fn turn(tree: &[u8], at: usize, k: usize) -> usize
     (wide(name[i]) >> (k % 8)) % 2
 }
 
-// Puts the name at `at` into the table, which has the `count` names from `root` on.
+// Puts the name at `at` into the table, which has the `count` names from `root` on: at most so many are met.
 fn put_name(tree: &[u8], table: &mut [u16; 32769], root: usize, count: u32, at: usize) -> Put
     requires { ⌜ Searches (now tree) (now table) root (namesFrom (now tree) count root) × There (now tree) at × (at < 32768) × (0 < at) ⌝ }
     ensures { λ r. ⌜ Puts r (now (tree .entry)) (now (table .exit)) root (namesFrom (now (tree .entry)) count root) (nameBytes (now (tree .entry)) at) ⌝ }
 {
+    let most = count as usize;
     let mut p = root;
     let mut k = 0;
-    while k < 4096 {
+    while k < most {
         if same_bytes(name_part(tree, p), name_part(tree, at)) {
             return Put::Twice;
         }
@@ -94,7 +96,7 @@ fn put_name(tree: &[u8], table: &mut [u16; 32769], root: usize, count: u32, at: 
     Put::Lost
 }
 
-// 11, of many names: by a search tree, whose depth is at most the bits of a name.
+// 11, of many names: by a search tree.
 fn distinct_many(tree: &[u8], at: usize, n: u32) -> bool
     requires { ⌜ AllThere (now tree) n at × (0 < n) × (0 < at) × (length (now tree) ≤ 32768) ⌝ }
     ensures { λ r. ⌜ r ≡ distinct (namesFrom (now (tree .entry)) n at) ⌝ }
@@ -127,7 +129,7 @@ pub(crate) fn distinct_names(tree: &[u8], at: usize, n: u32) -> bool
     if at == 0 {
         return distinct_few(tree, at, n);
     }
-    if 32768 < tree.len() {
+    if TREE_MOST < tree.len() {
         return distinct_few(tree, at, n);
     }
     distinct_many(tree, at, n)

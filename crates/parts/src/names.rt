@@ -1,87 +1,16 @@
 // Names: a length byte and its bytes (7, 33).
 use crate::Passed;
 use crate::questions::noted;
+use byte_tests::is_name;
+use byte_tests::same_bytes;
 ghost use mathlib.Core.Path.{_≡_};
-ghost use mathlib.Core.Bool.{_||_};
 ghost use Prim.Native.Nat.{_+_, _≤_};
 ghost use denote.Ref.{ptr};
 ghost use lib.ListN.{length};
-ghost use Rattle.definitions.specs.Bytes.{all, same};
-ghost use Rattle.definitions.specs.Wellformed.{letter, digit, isName, isIterator};
+ghost use Rattle.definitions.specs.Bytes.{all};
+ghost use Rattle.definitions.specs.Wellformed.{digit, isIterator};
 ghost use Rattle.parts.specs.Judge.{judgeName};
 ghost use Rattle.parts.specs.Places.{nameBytes, nameEnd, There};
-
-// A letter or `_`.
-fn is_letter(c: u8) -> bool
-    ensures { λ r. ⌜ r ≡ letter c ⌝ }
-{
-    if c < 65 {
-        return false;
-    }
-    if c <= 90 {
-        return true;
-    }
-    if c == 95 {
-        return true;
-    }
-    if c < 97 {
-        return false;
-    }
-    c <= 122
-}
-
-// A letter, a digit or `_`.
-fn is_inner(c: u8) -> bool
-    ensures { λ r. ⌜ r ≡ (letter c || digit c) ⌝ }
-{
-    if is_letter(c) {
-        return true;
-    }
-    if c < 48 {
-        return false;
-    }
-    c <= 57
-}
-
-// 7: whether the bytes are a name.
-fn is_name(bytes: &[u8]) -> bool
-    ensures { λ r. ⌜ r ≡ isName (now (bytes .entry)) ⌝ }
-{
-    if bytes.len() == 0 {
-        return false;
-    }
-    if 64 < bytes.len() {
-        return false;
-    }
-    if !is_letter(bytes[0]) {
-        return false;
-    }
-    let mut i = 1;
-    while i < bytes.len() {
-        if !is_inner(bytes[i]) {
-            return false;
-        }
-        i += 1;
-    }
-    true
-}
-
-// Whether the two are the same bytes.
-pub fn same_bytes(a: &[u8], b: &[u8]) -> bool
-    ensures { λ r. ⌜ r ≡ same (now (a .entry)) (now (b .entry)) ⌝ }
-{
-    if a.len() != b.len() {
-        return false;
-    }
-    let mut i = 0;
-    while i < a.len() {
-        if a[i] != b[i] {
-            return false;
-        }
-        i += 1;
-    }
-    true
-}
 
 // Whether each byte is a digit.
 fn are_digits(bytes: &[u8]) -> bool

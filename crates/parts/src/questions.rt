@@ -1,5 +1,6 @@
 // Which questions still stand, and the roles that an expression can have (10).
 use crate::Role;
+use numerals::expr;
 ghost use mathlib.Core.Path.{_≡_};
 ghost use mathlib.Core.Option.{some};
 ghost use mathlib.Core.Bool.{true};
@@ -64,10 +65,10 @@ fn is_target(kind: u8) -> bool
     ensures { λ r. ⌜ r ≡ fits Role.Target kind ⌝ }
 {
     match kind {
-        6 => true,
-        10 => true,
-        13 => true,
-        16 => true,
+        expr::VARIABLE => true,
+        expr::ATTRIBUTE => true,
+        expr::TUPLE => true,
+        expr::INDEX => true,
         _ => false,
     }
 }
@@ -76,8 +77,8 @@ fn is_element(kind: u8) -> bool
     ensures { λ r. ⌜ r ≡ fits Role.Element kind ⌝ }
 {
     match kind {
-        6 => true,
-        13 => true,
+        expr::VARIABLE => true,
+        expr::TUPLE => true,
         _ => false,
     }
 }

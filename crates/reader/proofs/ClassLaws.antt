@@ -1,27 +1,27 @@
 -- Well formed names, methods and classes that are read and tested, by position. Assumes nothing.
-use Prim.Native.Nat.{ℕ, zero, suc, _+_, _*_, _-_, _^_, _<_, _≤_}
+use Prim.Native.Nat.{ℕ, zero, suc, _+_, _-_, _<_, _≤_}
 use mathlib.Core.Path.{_≡_, refl, sym, ap, ap₂, _∙_, subst}
-use mathlib.Core.Bool.{Bool, true, false, _&&_, _||_}
+use mathlib.Core.Bool.{Bool, true, false, _&&_}
 use mathlib.Core.List.{List, [], _∷_}
 use native.Mathlib.Omega.{arith}
-use lib.Dec.{leb, ltb, eqb}
-use lib.ListN.{length, drop, getD}
+use lib.Dec.{ltb}
+use lib.ListN.{length, take, drop}
 use lib.Seq.{slice}
 use borrow.Author.Tests.{ne-eqb}
-use Rattle.definitions.specs.Bytes.{Name, Parsed, got, failed, Parser, _>>=_, give, byte, field, counted, listOf, name, keep, checked, all, below}
+use Rattle.definitions.specs.Bytes.{Name, give, field, counted, listOf, name, checked, all, below}
 use Rattle.definitions.specs.Wellformed.{isName, ifAsked}
-use Rattle.definitions.specs.Tables.{Method, Class}
+use Rattle.definitions.specs.Tables.{Method}
 use Rattle.definitions.specs.Reader.{methodRecord, rising, classRecord}
-use Rattle.reader.specs.View.{skipped, skipAt, numberAt, Got}
+use Rattle.reader.specs.View.{skipAt, numberAt, Got}
 use Rattle.reader.specs.Asks.{askNext, askMethods, askMethod, askClass}
 use Rattle.reader.specs.declared.Counts.{Counts}
 use Rattle.reader.specs.declared.Skipped.{Skipped}
 use Rattle.reader.specs.declared.Skipped.the-variants.{Next, Cut}
 use Rattle.reader.proofs.Taken.{skip-cut, skip-next, skip-field, got-field, got-bind, got-give, skipped-got, got-at}
 use Rattle.reader.proofs.InstructionLaws.{got-checked, cut-checked, cut-unchecked}
-use Rattle.reader.proofs.NameLaws.{name-view}
+use Rattle.reader.proofs.NameLaws.{part-slice, name-view}
 use Rattle.reader.proofs.Checked.{Sat, sat-bind, sat-any, sat-checked, got-tested, checked-next, checked-cut, checked-give, checked-same, checked-twice, pass-next, pass-fail, pass-cut, pass-end, pass-count, pass-no-count}
-use Rattle.definitions.proofs.Begins.{Takes, takes-bind, takes-checked, takes-field, takes-give, takes-list, takes-name}
+use Rattle.definitions.proofs.Begins.{takes-checked, takes-name}
 
 -- ---- a well formed name
 
@@ -35,11 +35,15 @@ module _ (t : List ℕ) (at m : ℕ) (h : at ≤ length t) (r : skipAt name t at
   proper-is : Got name t at (slice (at + 1) m t) m
   proper-is = let g = got-at name takes-name t at m h r in subst (λ (x : Name). Got name t at x m) (name-view t at (g .0) m h (g .1) .2) (g .1)
 
-  pub proper-yes : isName (slice (at + 1) m t) ≡ true → skipAt (checked isName name) t at ≡ Next m
-  proper-yes e = skipped-got (checked isName name) t at (slice (at + 1) m t) m (got-checked isName name t at (slice (at + 1) m t) m proper-is e)
+  -- the test of the bytes after the length
+  part-is : (b : Bool) → isName (take (m - (at + 1)) (drop (at + 1) t)) ≡ b → isName (slice (at + 1) m t) ≡ b
+  part-is b e = sym (ap isName (part-slice t (at + 1) m)) ∙ e
 
-  pub proper-no : isName (slice (at + 1) m t) ≡ false → skipAt (checked isName name) t at ≡ Cut
-  proper-no e = cut-checked isName name t at (slice (at + 1) m t) m proper-is e
+  pub proper-yes : isName (take (m - (at + 1)) (drop (at + 1) t)) ≡ true → skipAt (checked isName name) t at ≡ Next m
+  proper-yes e = skipped-got (checked isName name) t at (slice (at + 1) m t) m (got-checked isName name t at (slice (at + 1) m t) m proper-is (part-is true e))
+
+  pub proper-no : isName (take (m - (at + 1)) (drop (at + 1) t)) ≡ false → skipAt (checked isName name) t at ≡ Cut
+  proper-no e = cut-checked isName name t at (slice (at + 1) m t) m proper-is (part-is false e)
 
 pub proper-got : (t : List ℕ) (at m : ℕ) → at ≤ length t → skipAt (checked isName name) t at ≡ Next m → Got (checked isName name) t at (slice (at + 1) m t) m
 proper-got t at m h r =

@@ -1,5 +1,5 @@
 -- Functions that are read and tested, by position. Assumes nothing.
-use Prim.Native.Nat.{ℕ, zero, suc, _+_, _*_, _-_, _^_, _<_, _≤_}
+use Prim.Native.Nat.{ℕ, _+_, _-_, _<_, _≤_}
 use mathlib.Core.Path.{_≡_, refl, sym, ap, ap₂, _∙_, subst}
 use mathlib.Core.Bool.{Bool, true, false, _&&_}
 use mathlib.Core.List.{List, [], _∷_}
@@ -8,22 +8,21 @@ use native.Mathlib.Omega.{arith}
 use lib.Dec.{leb}
 use borrow.Author.Tests.{leb-true, lt-ltb, le-ltb, ne-eqb}
 use Rattle.definitions.specs.Wellformed.{ifAsked}
-use lib.ListN.{length, drop, getD, length-drop}
-use Rattle.definitions.specs.Bytes.{Parsed, got, failed, Parser, _>>=_, give, byte, field, counted, listOf, keep, checked, all}
+use lib.ListN.{length, drop}
+use Rattle.definitions.specs.Bytes.{Parsed, _>>=_, give, byte, field, counted, listOf, checked}
 use Rattle.definitions.specs.Instruction.{Instr, instr, firstWidth, secondWidth}
 use Rattle.definitions.specs.Tables.{Function}
 use Rattle.definitions.specs.Reader.{instruction, functionRecord}
-use Rattle.reader.specs.View.{skipped, skipAt, foundAt, numberAt, Got}
+use Rattle.reader.specs.View.{skipAt, foundAt, numberAt}
 use Rattle.reader.specs.Asks.{askOp, askCode, askHead, askFunction, askConstant}
 use Rattle.reader.specs.declared.Counts.{Counts}
 use Rattle.reader.specs.declared.Skipped.{Skipped}
 use Rattle.reader.specs.declared.Skipped.the-variants.{Next, Cut}
-use Rattle.reader.specs.declared.Found.{Found}
 use Rattle.reader.specs.declared.Found.the-variants.{Instruction, Nothing}
-use Rattle.reader.proofs.Taken.{skip-cut, skip-next, skip-field, got-field, skipped-got}
+use Rattle.reader.proofs.Taken.{skip-cut, skip-field, got-field, skipped-got}
 use Rattle.reader.proofs.InstructionLaws.{found-is, cut-found, got-checked, cut-checked, cut-unchecked}
 use Rattle.reader.proofs.Checked.{Sat, sat-bind, sat-any, sat-checked, counted-length, checked-next, checked-cut, checked-give, checked-same, checked-none, pass-next, pass-fail, pass-cut, pass-end, pass-count}
-use Rattle.definitions.proofs.Begins.{Takes, le-or-gt, takes-bind, takes-field, takes-give, takes-instruction, takes-list}
+use Rattle.definitions.proofs.Begins.{le-or-gt}
 
 -- an opcode that is read is one of the 46
 pub opcode-small : (bs : List ℕ) → Sat (λ (i : Instr). i .op ≤ 45) (instruction bs)

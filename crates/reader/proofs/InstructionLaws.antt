@@ -1,9 +1,9 @@
 -- An instruction at a position. Assumes nothing.
-use Prim.Native.Nat.{ℕ, zero, suc, _+_, _*_, _-_, _^_, _<_, _≤_}
+use Prim.Native.Nat.{ℕ, _+_, _-_, _<_, _≤_}
 use mathlib.Core.Path.{_≡_, refl, sym, ap, ap₂, _∙_, subst}
 use mathlib.Core.Bool.{Bool, true, false}
-use mathlib.Core.List.{List, [], _∷_}
-use mathlib.Core.Logic.{_⊎_, inl, inr, ⊎-elim}
+use mathlib.Core.List.{List}
+use mathlib.Core.Logic.{⊎-elim}
 use native.Mathlib.Omega.{arith}
 use lib.Dec.{leb}
 use lib.ListN.{length, drop, getD, length-drop}
@@ -12,13 +12,11 @@ use Rattle.definitions.specs.Bytes.{Parsed, got, failed, Parser, _>>=_, give, u
 use Rattle.definitions.specs.Instruction.{Instr, instr, firstWidth, secondWidth}
 use Rattle.definitions.specs.Reader.{instruction}
 use Rattle.reader.specs.View.{skipped, skipAt, found, foundAt, numberAt, Got}
-use Rattle.reader.specs.declared.Skipped.{Skipped}
-use Rattle.reader.specs.declared.Skipped.the-variants.{Next, Cut}
-use Rattle.reader.specs.declared.Found.{Found}
+use Rattle.reader.specs.declared.Skipped.the-variants.{Cut}
 use Rattle.reader.specs.declared.Found.the-variants.{Instruction, Nothing}
 use lib.Seq.{drop-drop}
-use Rattle.reader.proofs.Taken.{skip-cut, skip-next, skip-give, got-bind, got-give, got-byte, got-field, skip-field, at-end}
-use Rattle.definitions.proofs.Begins.{Rest, Takes, bind-is, le-or-gt, takes-bind, takes-byte, takes-checked, takes-field, takes-give, takes-instruction}
+use Rattle.reader.proofs.Taken.{skip-cut, skip-next, got-bind, got-give, got-byte, got-field, skip-field, at-end}
+use Rattle.definitions.proofs.Begins.{Rest, bind-is, le-or-gt, takes-instruction}
 
 -- a tested read
 pub got-checked : {A : Type 0} (test : A → Bool) (p : Parser A) (t : List ℕ) (at : ℕ) (a : A) (m : ℕ) → Got p t at a m → test a ≡ true → Got (checked test p) t at a m

@@ -1,24 +1,20 @@
 -- A function's instructions in order: what one call of the iteration says of what is left. Assumes nothing.
 use Prim.Native.Nat.{ℕ, zero, suc, _+_, _-_, _<_, _≤_}
 use mathlib.Core.Path.{_≡_, refl, sym, ap, ap₂, _∙_, subst}
-use mathlib.Core.List.{List, [], _∷_, _++_}
+use mathlib.Core.List.{List, [], _∷_}
 use native.Mathlib.Omega.{arith}
-use native.Mathlib.Numerals.{add-one}
 use lib.ListN.{length, take, drop, getD, length-append, length-drop, drop-of-length-le}
-use lib.Seq.{drop-cons, drop-drop, take-add, take-all, drop-append-seam, drop-append-add}
-use Rattle.definitions.specs.Bytes.{Parsed, got, failed, Parser, _>>=_, give, byte, counted, concat, checked}
+use lib.Seq.{drop-drop, take-all}
+use Rattle.definitions.specs.Bytes.{Parsed, got, failed, Parser, _>>=_, give, counted, concat}
 use Rattle.definitions.specs.Instruction.{Instr, instr, Return, encode, encodes}
 use Rattle.definitions.specs.Reader.{instruction}
-use Rattle.definitions.proofs.Lengths.{length-encode, spans-instruction, spans-code}
-use Rattle.reader.specs.View.{Got, found, foundAt, instructionsIn, instructionsOf, met, metAt, startOf}
-use Rattle.reader.specs.declared.Found.{Found}
+use Rattle.definitions.proofs.Lengths.{length-encode, spans-instruction}
+use Rattle.reader.specs.View.{found, foundAt, instructionsIn, instructionsOf, met, metAt, startOf}
 use Rattle.reader.specs.declared.Found.the-variants.{Instruction, Nothing}
 use Rattle.reader.specs.declared.Cursor.{Cursor}
-use Rattle.reader.specs.declared.Met.{Met}
 use Rattle.reader.specs.declared.Met.the-variants.{At, End}
-use Rattle.reader.proofs.Finding.{counted-view, give-view}
-use Rattle.reader.proofs.Encoding.{Small, encode-read, encodes-read}
-use Rattle.definitions.proofs.Begins.{Rest, Takes, takes-counted, takes-instruction}
+use Rattle.reader.proofs.Encoding.{Small, encodes-read}
+use Rattle.definitions.proofs.Begins.{Rest, takes-instruction}
 
 -- ---- the call
 

@@ -1,156 +1,39 @@
--- Names in the module's bytes: letters, well formed names, their order. Assumes nothing.
-use Prim.Native.Nat.{ℕ, zero, suc, _+_, _*_, _-_, _^_, _<_, _≤_}
+-- Names in the module's bytes, as parts of them. Assumes nothing.
+use Prim.Native.Nat.{ℕ, zero, suc, _+_, _-_, _<_, _≤_}
 use mathlib.Core.Path.{_≡_, refl, sym, ap, ap₂, _∙_, subst}
-use mathlib.Core.Bool.{Bool, true, false, _&&_, _||_}
 use mathlib.Core.List.{List, [], _∷_}
-use mathlib.Core.Logic.{_⊎_, inl, inr, ⊎-elim}
+use mathlib.Core.Logic.{⊎-elim}
 use native.Mathlib.Omega.{arith}
 use native.Mathlib.Numerals.{add-one}
-use lib.Dec.{leb, ltb, eqb}
 use lib.ListN.{length, drop, take, getD, length-drop}
-use lib.Seq.{slice, slice-empty, slice-cons, length-slice}
-use borrow.Author.Tests.{le-leb, lt-leb, eq-eqb, ne-eqb, lt-ltb, le-ltb}
-use Rattle.definitions.specs.Bytes.{Name, Parsed, got, failed, Parser, _>>=_, give, byte, field, counted, listOf, name, keep, checked, all, below}
-use Rattle.definitions.specs.Wellformed.{letter, digit, isName}
-use Rattle.reader.specs.View.{skipped, skipAt, numberAt, Got}
-use Rattle.reader.specs.Asks.{inName}
-use Rattle.reader.specs.declared.Skipped.{Skipped}
-use Rattle.reader.specs.declared.Skipped.the-variants.{Next, Cut}
+use lib.Seq.{slice, slice-empty, slice-cons}
+use Rattle.definitions.specs.Bytes.{Name, got, Parser, _>>=_, give, byte, field, counted, listOf, name, below}
+use Rattle.reader.specs.View.{skipAt, numberAt, Got}
+use Rattle.reader.specs.declared.Skipped.the-variants.{Cut}
 use Rattle.reader.proofs.Taken.{skip-cut, skip-next, skip-field, got-field, got-bind, got-byte, got-give, bytes-cut, skipped-got}
-use Rattle.definitions.proofs.Begins.{Takes, le-or-gt}
+use Rattle.definitions.proofs.Begins.{le-or-gt}
 
--- ---- letters
+-- ---- parts of the bytes
 
-or-false : (x : Bool) → (x || false) ≡ x
-or-false true = refl
-or-false false = refl
+module _ (t : List ℕ) (to i : ℕ) where
+  one-left : i < to → to ≤ length t → slice i to t ≡ getD t i 0 ∷ slice (i + 1) to t
+  one-left h l = slice-cons i to t 0 h l ∙ ap (λ (k : ℕ). getD t i 0 ∷ slice k to t) (sym (add-one i))
 
-and-true : (x : Bool) → (x && true) ≡ x
-and-true true = refl
-and-true false = refl
+take-empty : (n : ℕ) → take {A = ℕ} n [] ≡ []
+take-empty zero = refl
+take-empty (suc n) = refl
 
-and-false : (x : Bool) → (x && false) ≡ false
-and-false true = refl
-and-false false = refl
+-- a part, cut out in either order
+pub part-slice : (t : List ℕ) (i j : ℕ) → take (j - i) (drop i t) ≡ slice i j t
+part-slice t zero j = ap (λ (k : ℕ). take k t) (let e : j - 0 ≡ j = omega arith in e)
+part-slice [] (suc i) zero = take-empty (0 - suc i)
+part-slice [] (suc i) (suc j) = take-empty (suc j - suc i)
+part-slice (x ∷ t) (suc i) zero = ap (λ (k : ℕ). take k (drop i t)) (let e : 0 - suc i ≡ 0 = omega arith in e)
+part-slice (x ∷ t) (suc i) (suc j) = ap (λ (k : ℕ). take k (drop i t)) (let e : suc j - suc i ≡ j - i = omega arith in e) ∙ part-slice t i j
 
-module _ (c : ℕ) where
-  pub letter-low : c < 65 → letter c ≡ false
-  unfolding letter
-  letter-low h = simp (lt-leb 65 c h, lt-leb 97 c (omega arith), ne-eqb c 95 (λ e. omega arith))
-
-  pub letter-upper : 65 ≤ c → c ≤ 90 → letter c ≡ true
-  unfolding letter
-  letter-upper h l = simp (le-leb 65 c h, le-leb c 90 l)
-
-  pub letter-under : c ≡ 95 → letter c ≡ true
-  unfolding letter
-  letter-under e = ap letter e
-
-  pub letter-gap : 90 < c → (c ≡ 95 → ⊥) → c < 97 → letter c ≡ false
-  unfolding letter
-  letter-gap h f l = simp (le-leb 65 c (omega arith), lt-leb c 90 h, lt-leb 97 c l, ne-eqb c 95 f)
-
-  pub letter-lower : 97 ≤ c → letter c ≡ leb c 122
-  unfolding letter
-  letter-lower h = simp (le-leb 65 c (omega arith), lt-leb c 90 (omega arith), le-leb 97 c h, ne-eqb c 95 (λ e. omega arith)) (or-false (leb c 122))
-
-  pub in-letter : letter c ≡ true → inName c ≡ true
-  unfolding inName
-  in-letter e = simp e
-
-  pub in-low : letter c ≡ false → c < 48 → inName c ≡ false
-  unfolding inName digit
-  in-low e h = simp (e, lt-leb 48 c h)
-
-  pub in-digit : letter c ≡ false → 48 ≤ c → inName c ≡ leb c 57
-  unfolding inName digit
-  in-digit e h = simp (e, le-leb 48 c h)
-
--- ---- a name from `from` to `to`
-
-module _ (t : List ℕ) (to : ℕ) where
-  none-left : (i : ℕ) → i ≤ to → to ≤ i → slice i to t ≡ []
-  none-left i h l = ap (λ (k : ℕ). slice k to t) (let z : i ≡ to = omega arith in z) ∙ slice-empty to t
-
-  one-left : (i : ℕ) → i < to → to ≤ length t → slice i to t ≡ getD t i 0 ∷ slice (i + 1) to t
-  one-left i h l = slice-cons i to t 0 h l ∙ ap (λ (k : ℕ). getD t i 0 ∷ slice k to t) (sym (add-one i))
-
-  module _ (from : ℕ) where
-    pub name-empty : from ≤ to → to - from < 1 → isName (slice from to t) ≡ false
-    unfolding isName
-    name-empty h l = ap isName (none-left from h (omega arith))
-
-    pub name-long : to ≤ length t → 64 < to - from → isName (slice from to t) ≡ false
-    unfolding isName
-    name-long h l = ap isName (one-left from (omega arith) h)
-        ∙ (let e : length (slice (from + 1) to t) ≡ to - (from + 1) = length-slice (from + 1) to t h in
-        simp (lt-leb (length (slice (from + 1) to t)) 63 (omega arith)) (and-false (letter (getD t from 0) && all (λ d. letter d || digit d) (slice (from + 1) to t))))
-
-    pub name-bad : from < to → to ≤ length t → letter (getD t from 0) ≡ false → isName (slice from to t) ≡ false
-    unfolding isName
-    name-bad h l e = ap isName (one-left from h l) ∙ simp e
-
-    pub name-rest : from < to → to ≤ length t → to - from ≤ 64 → letter (getD t from 0) ≡ true → isName (slice from to t) ≡ all inName (slice (from + 1) to t)
-    unfolding isName inName
-    name-rest h l k e = ap isName (one-left from h l)
-        ∙ (let f : length (slice (from + 1) to t) ≡ to - (from + 1) = length-slice (from + 1) to t l in
-        simp (e, le-leb (length (slice (from + 1) to t)) 63 (omega arith)) (and-true (all inName (slice (from + 1) to t))))
-
-  pub rest-next : (i : ℕ) → i < to → to ≤ length t → inName (getD t i 0) ≡ true → all inName (slice i to t) ≡ all inName (slice (i + 1) to t)
-  unfolding all
-  rest-next i h l e = ap (all inName) (one-left i h l) ∙ ap (λ (b : Bool). b && all inName (slice (i + 1) to t)) e
-
-  pub rest-bad : (i : ℕ) → i < to → to ≤ length t → inName (getD t i 0) ≡ false → all inName (slice i to t) ≡ false
-  unfolding all
-  rest-bad i h l e = ap (all inName) (one-left i h l) ∙ ap (λ (b : Bool). b && all inName (slice (i + 1) to t)) e
-
-  pub rest-end : (i : ℕ) → i ≤ to → to ≤ i → all inName (slice i to t) ≡ true
-  unfolding all
-  rest-end i h l = ap (all inName) (none-left i h l)
-
--- ---- the order of two names
-
-below-none : (xs : Name) → below xs [] ≡ false
-unfolding below
-below-none [] = refl
-below-none (x ∷ xs) = refl
-
-module _ (x y : ℕ) (xs ys : Name) where
-  first : Bool → Bool
-  first b = elim b [ true ↦ below xs ys | false ↦ ltb x y ]
-
-  below-less : x < y → below (x ∷ xs) (y ∷ ys) ≡ true
-  unfolding below first
-  below-less h = ap first (ne-eqb x y (λ z. omega arith)) ∙ lt-ltb x y h
-
-  below-more : y < x → below (x ∷ xs) (y ∷ ys) ≡ false
-  unfolding below first
-  below-more h = ap first (ne-eqb x y (λ z. omega arith)) ∙ le-ltb x y (omega arith)
-
-  below-same : x ≡ y → below (x ∷ xs) (y ∷ ys) ≡ below xs ys
-  unfolding below first
-  below-same e = ap first (eq-eqb x y e)
-
-module _ (t : List ℕ) (to to2 : ℕ) (l : to ≤ length t) (l2 : to2 ≤ length t) (i j : ℕ) where
-  pub order-end : j ≤ to2 → to2 ≤ j → below (slice i to t) (slice j to2 t) ≡ false
-  order-end h k = ap (below (slice i to t)) (none-left t to2 j h k) ∙ below-none (slice i to t)
-
-  pub order-first : i ≤ to → to ≤ i → j < to2 → below (slice i to t) (slice j to2 t) ≡ true
-  unfolding below
-  order-first h k m = ap₂ below (none-left t to i h k) (one-left t to2 j m l2)
-
-  module _ (h : i < to) (k : j < to2) where
-    both : below (slice i to t) (slice j to2 t) ≡ below (getD t i 0 ∷ slice (i + 1) to t) (getD t j 0 ∷ slice (j + 1) to2 t)
-    both = ap₂ below (one-left t to i h l) (one-left t to2 j k l2)
-
-    pub order-less : getD t i 0 < getD t j 0 → below (slice i to t) (slice j to2 t) ≡ true
-    order-less e = both ∙ below-less (getD t i 0) (getD t j 0) (slice (i + 1) to t) (slice (j + 1) to2 t) e
-
-    pub order-more : getD t j 0 < getD t i 0 → below (slice i to t) (slice j to2 t) ≡ false
-    order-more e = both ∙ below-more (getD t i 0) (getD t j 0) (slice (i + 1) to t) (slice (j + 1) to2 t) e
-
-    pub order-same : getD t j 0 ≤ getD t i 0 → getD t i 0 ≤ getD t j 0 → below (slice i to t) (slice j to2 t) ≡ below (slice (i + 1) to t) (slice (j + 1) to2 t)
-    order-same e f = both ∙ below-same (getD t i 0) (getD t j 0) (slice (i + 1) to t) (slice (j + 1) to2 t) (omega arith)
+-- the order of two parts
+pub parts-below : (t : List ℕ) (i j k l : ℕ) → below (take (j - i) (drop i t)) (take (l - k) (drop k t)) ≡ below (slice i j t) (slice k l t)
+parts-below t i j k l = ap₂ below (part-slice t i j) (part-slice t k l)
 
 -- ---- names that are read
 

@@ -1,19 +1,19 @@
 -- Strings in the module's bytes: a count, and as many bytes that are well-formed UTF-8. Assumes nothing.
-use Prim.Native.Nat.{ℕ, zero, suc, _+_, _-_, _<_, _≤_}
-use mathlib.Core.Path.{_≡_, refl, sym, ap, _∙_, subst}
-use mathlib.Core.Bool.{Bool, true, false}
+use Prim.Native.Nat.{ℕ, _+_, _-_, _<_, _≤_}
+use mathlib.Core.Path.{_≡_, sym, ap, _∙_, subst}
+use mathlib.Core.Bool.{true, false}
 use mathlib.Core.List.{List, [], _∷_}
-use mathlib.Core.Logic.{_⊎_, inl, inr, ⊎-elim}
+use mathlib.Core.Logic.{⊎-elim}
 use native.Mathlib.Omega.{arith}
 use lib.ListN.{length, drop, take}
 use lib.Seq.{slice}
-use Rattle.definitions.specs.Bytes.{Text, byte, field, counted, listOf, text, checked}
+use Rattle.definitions.specs.Bytes.{Text, byte, field, counted, listOf, text}
 use Rattle.definitions.specs.Utf8.{isUtf8}
 use Rattle.definitions.proofs.Begins.{Takes, le-or-gt, takes-checked, takes-text}
 use Rattle.reader.specs.View.{skipAt, numberAt, string, Got}
 use Rattle.reader.specs.declared.Skipped.the-variants.{Next, Cut}
 use Rattle.reader.proofs.Taken.{skip-cut, skip-next, skip-field, got-at, got-bind, got-field, bytes-cut, skipped-got}
-use Rattle.reader.proofs.NameLaws.{read-not-cut, same-read, got-bytes}
+use Rattle.reader.proofs.NameLaws.{part-slice, read-not-cut, same-read, got-bytes}
 use Rattle.reader.proofs.InstructionLaws.{got-checked, cut-checked, cut-unchecked}
 
 pub takes-string : Takes string
@@ -38,18 +38,6 @@ text-view t at x m h g = ⊎-elim
   where
     never : skipAt (listOf 2 byte) t at ≡ Cut → (at + 2 ≤ m) × (x ≡ slice (at + 2) m t)
     never e = read-not-cut text t at x m g e
-
-take-empty : (n : ℕ) → take {A = ℕ} n [] ≡ []
-take-empty zero = refl
-take-empty (suc n) = refl
-
--- a part, cut out in either order
-part-slice : (t : List ℕ) (i j : ℕ) → take (j - i) (drop i t) ≡ slice i j t
-part-slice t zero j = ap (λ (k : ℕ). take k t) (let e : j - 0 ≡ j = omega arith in e)
-part-slice [] (suc i) zero = take-empty (0 - suc i)
-part-slice [] (suc i) (suc j) = take-empty (suc j - suc i)
-part-slice (x ∷ t) (suc i) zero = ap (λ (k : ℕ). take k (drop i t)) (let e : 0 - suc i ≡ 0 = omega arith in e)
-part-slice (x ∷ t) (suc i) (suc j) = ap (λ (k : ℕ). take k (drop i t)) (let e : suc j - suc i ≡ j - i = omega arith in e) ∙ part-slice t i j
 
 pub string-cut : (t : List ℕ) (at : ℕ) → skipAt text t at ≡ Cut → skipAt string t at ≡ Cut
 string-cut t at e = cut-unchecked isUtf8 text t at e

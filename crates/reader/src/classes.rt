@@ -1,9 +1,9 @@
 // Questions 19 and 20 of the classes and constants.
 use crate::Counts;
 use crate::Skipped;
-use crate::names::name_below;
 use crate::names::skip_proper;
 use crate::numbers::number_at;
+use byte_tests::below_bytes;
 ghost use mathlib.Core.Path.{_≡_};
 ghost use mathlib.Core.List.{[]};
 ghost use Prim.Native.Nat.{_≤_};
@@ -66,7 +66,7 @@ fn ask_next(
     requires { ⌜ (from ≤ to) × (to ≤ length (now bytes)) × (from2 ≤ to2) × (to2 ≤ length (now bytes)) ⌝ }
     ensures { λ r. ⌜ r ≡ askNext question c (slice from to (now (bytes .entry))) (slice from2 to2 (now (bytes .entry))) function ⌝ }
 {
-    if name_below(bytes, from, to, from2, to2) {
+    if below_bytes(&bytes[from..to], &bytes[from2..to2]) {
         if question == 20 {
             return function < c.functions;
         }

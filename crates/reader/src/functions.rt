@@ -6,6 +6,7 @@ use crate::instructions::instruction_at;
 use crate::numbers::number_at;
 use crate::operands::ask_head;
 use crate::operands::ask_op;
+use numerals::sizes::FUNCTION_HEAD;
 ghost use mathlib.Core.Path.{_≡_};
 ghost use mathlib.Core.List.{[], _∷_};
 ghost use Prim.Native.Nat.{_≤_, _<_};
@@ -42,14 +43,14 @@ pub(crate) fn ask_function(bytes: &[u8], at: usize, question: u8, c: Counts) -> 
     requires { ⌜ at ≤ length (now bytes) ⌝ }
     ensures { λ r. ⌜ r ≡ skipAt (checked (askFunction question c) functionRecord) (now (bytes .entry)) at ⌝ }
 {
-    if bytes.len() - at < 7 {
+    if bytes.len() - at < FUNCTION_HEAD {
         return Skipped::Cut;
     }
     let name = number_at(bytes, at, 2);
     let slots = number_at(bytes, at + 3, 2);
     let n = number_at(bytes, at + 5, 2);
     if ask_head(question, c, name, n) {
-        ask_code(bytes, at + 7, question, c, n, slots)
+        ask_code(bytes, at + FUNCTION_HEAD, question, c, n, slots)
     } else {
         Skipped::Cut
     }

@@ -3,6 +3,7 @@ use crate::Cursor;
 use crate::Found;
 use crate::Met;
 use crate::numbers::number_at;
+use numerals::op_bytes;
 use widths::first_width;
 use widths::second_width;
 ghost use mathlib.Core.Path.{_≡_};
@@ -17,7 +18,7 @@ pub fn instruction_at(bytes: &[u8], at: usize) -> Found
         return Found::Nothing;
     }
     let op = bytes[at];
-    if 45 < op {
+    if op_bytes::LAST < op {
         return Found::Nothing;
     }
     let first = first_width(op as usize) as usize;

@@ -10,6 +10,9 @@ use crate::functions::ask_functions;
 use crate::names::skip_strings;
 use crate::names::skip_symbols;
 use crate::numbers::number_at;
+use numerals::sizes::COUNT;
+use numerals::sizes::HEAD;
+use numerals::sizes::MODULE_MOST;
 ghost use mathlib.Core.Path.{_≡_};
 ghost use Prim.Native.Nat.{_≤_};
 ghost use lib.ListN.{length, drop};
@@ -29,7 +32,7 @@ fn lay(bytes: &[u8]) -> Laid
         classes: 0,
         constants: 0,
     };
-    let symbols = skip_symbols(bytes, 5);
+    let symbols = skip_symbols(bytes, HEAD);
     let Skipped::Next(strings_at) = symbols else {
         return Laid::NotLaid;
     };
@@ -61,7 +64,7 @@ fn counts_of(bytes: &[u8], a: usize, b: usize, c: usize, d: usize) -> Counts
     requires { ⌜ LaidOut (now bytes) a b c d ⌝ }
     ensures { λ r. ⌜ r ≡ countsOf (tablesOf (now (bytes .entry))) ⌝ }
 {
-    let symbols = number_at(bytes, 5, 2);
+    let symbols = number_at(bytes, HEAD, 2);
     let strings = number_at(bytes, a, 2);
     let functions = number_at(bytes, b, 2);
     let classes = number_at(bytes, c, 2);
@@ -104,19 +107,19 @@ fn judge(bytes: &[u8], a: usize, b: usize, c: usize, d: usize) -> Verdict
 fn read_head(bytes: &[u8]) -> Verdict
     ensures { λ r. ⌜ Heads r (now (bytes .entry)) ⌝ }
 {
-    if 524288 < bytes.len() {
+    if MODULE_MOST < bytes.len() {
         return Verdict::Refused(17);
     }
-    if bytes.len() < 4 {
+    if bytes.len() < COUNT {
         return Verdict::Refused(17);
     }
-    if number_at(bytes, 0, 4) != (bytes.len() - 4) as u64 {
+    if number_at(bytes, 0, COUNT) != (bytes.len() - COUNT) as u64 {
         return Verdict::Refused(17);
     }
-    if bytes.len() < 5 {
+    if bytes.len() < HEAD {
         return Verdict::Refused(18);
     }
-    if bytes[4] != 1 {
+    if bytes[COUNT] != 1 {
         return Verdict::Refused(18);
     }
     Verdict::Accepted

@@ -2,14 +2,13 @@
 use crate::Skipped;
 use crate::numbers::number_at;
 use crate::numbers::skip_bytes;
+use byte_tests::is_name;
 use utf8::is_utf8;
 ghost use mathlib.Core.Path.{_≡_};
 ghost use Prim.Native.Nat.{_≤_};
 ghost use lib.ListN.{length};
-ghost use Rattle.definitions.specs.Bytes.{name, text, listOf, checked, below};
-ghost use Rattle.definitions.specs.Wellformed.{letter, isName};
-ghost use lib.Seq.{slice};
-ghost use Rattle.reader.specs.Asks.{inName};
+ghost use Rattle.definitions.specs.Bytes.{name, text, listOf, checked};
+ghost use Rattle.definitions.specs.Wellformed.{isName};
 ghost use Rattle.reader.specs.View.{skipAt, string};
 
 // A name: a length byte and as many bytes.
@@ -94,63 +93,6 @@ pub(crate) fn skip_strings(bytes: &[u8], at: usize) -> Skipped
     Skipped::Next(p)
 }
 
-// A letter or `_`.
-fn is_letter(x: u8) -> bool
-    ensures { λ r. ⌜ r ≡ letter x ⌝ }
-{
-    if x < 65 {
-        return false;
-    }
-    if x <= 90 {
-        return true;
-    }
-    if x == 95 {
-        return true;
-    }
-    if x < 97 {
-        return false;
-    }
-    x <= 122
-}
-
-// A letter, `_` or a digit.
-fn in_name(x: u8) -> bool
-    ensures { λ r. ⌜ r ≡ inName x ⌝ }
-{
-    if is_letter(x) {
-        return true;
-    }
-    if x < 48 {
-        return false;
-    }
-    x <= 57
-}
-
-// The bytes from `from` to `to` are a well formed name.
-fn is_name(bytes: &[u8], from: usize, to: usize) -> bool
-    requires { ⌜ (from ≤ to) × (to ≤ length (now bytes)) ⌝ }
-    ensures { λ r. ⌜ r ≡ isName (slice from to (now (bytes .entry))) ⌝ }
-{
-    if to - from < 1 {
-        return false;
-    }
-    if 64 < to - from {
-        return false;
-    }
-    if is_letter(bytes[from]) {
-        let mut i = from + 1;
-        while i < to {
-            if in_name(bytes[i]) {
-                i += 1;
-            } else {
-                return false;
-            }
-        }
-        return true;
-    }
-    false
-}
-
 // A well formed name.
 pub(crate) fn skip_proper(bytes: &[u8], at: usize) -> Skipped
     requires { ⌜ at ≤ length (now bytes) ⌝ }
@@ -160,32 +102,9 @@ pub(crate) fn skip_proper(bytes: &[u8], at: usize) -> Skipped
     let Skipped::Next(next) = one else {
         return Skipped::Cut;
     };
-    if is_name(bytes, at + 1, next) {
+    if is_name(&bytes[at + 1..next]) {
         Skipped::Next(next)
     } else {
         Skipped::Cut
     }
-}
-
-// The first part's name comes before the second's.
-pub(crate) fn name_below(bytes: &[u8], from: usize, to: usize, from2: usize, to2: usize) -> bool
-    requires { ⌜ (from ≤ to) × (to ≤ length (now bytes)) × (from2 ≤ to2) × (to2 ≤ length (now bytes)) ⌝ }
-    ensures { λ r. ⌜ r ≡ below (slice from to (now (bytes .entry))) (slice from2 to2 (now (bytes .entry))) ⌝ }
-{
-    let mut i = from;
-    let mut j = from2;
-    while j < to2 {
-        if to <= i {
-            return true;
-        }
-        if bytes[i] < bytes[j] {
-            return true;
-        }
-        if bytes[j] < bytes[i] {
-            return false;
-        }
-        i += 1;
-        j += 1;
-    }
-    false
 }

@@ -1,5 +1,7 @@
 // Questions 20 and 21 of one instruction.
 use crate::Counts;
+use numerals::op_bytes;
+use numerals::op_places;
 ghost use mathlib.Core.Path.{_≡_};
 ghost use Prim.Native.Nat.{_<_};
 ghost use Rattle.definitions.specs.Instruction.{numbersOf};
@@ -34,18 +36,18 @@ fn kind_of(op: usize) -> u8
     ensures { λ r. ⌜ r ≡ kindOf (numbersOf op) ⌝ }
 {
     match op {
-        2 => 1,
-        6 => 2,
-        9 => 3,
-        10 => 3,
-        11 => 4,
-        12 => 4,
-        31 => 5,
-        32 => 6,
-        35 => 4,
-        36 => 4,
-        37 => 4,
-        45 => 5,
+        op_places::CONST_STR => 1,
+        op_places::LOAD_CONST => 2,
+        op_places::LOAD_LOCAL => 3,
+        op_places::STORE_LOCAL => 3,
+        op_places::LOAD_GLOBAL => 4,
+        op_places::STORE_GLOBAL => 4,
+        op_places::CALL => 5,
+        op_places::CALL_BUILTIN => 6,
+        op_places::CALL_METHOD => 4,
+        op_places::LOAD_ATTR => 4,
+        op_places::STORE_ATTR => 4,
+        op_places::MAKE_CLOSURE => 5,
         _ => 0,
     }
 }
@@ -80,13 +82,13 @@ fn op_stands(n: u64, place: u64, op: u8, a: u64) -> bool
     ensures { λ r. ⌜ r ≡ opStands n place op a ⌝ }
 {
     if place + 1 == n {
-        if op != 33 {
+        if op != op_bytes::RETURN {
             return false;
         }
         return true;
     }
-    if 28 <= op {
-        if op <= 30 {
+    if op_bytes::JUMP <= op {
+        if op <= op_bytes::JUMP_IF_TRUE {
             return jump_target(place, a) < n;
         }
     }

@@ -5,15 +5,12 @@ use crate::Place;
 use crate::Skipped;
 use crate::functions::ask_function;
 use crate::numbers::number_at;
-ghost use Prim.Native.Nat.{_≤_};
-ghost use lib.ListN.{length};
-ghost use Rattle.definitions.specs.Bytes.{listOf};
-ghost use Rattle.definitions.specs.Reader.{functionRecord};
-ghost use Rattle.reader.specs.View.{tablesOf, Got, Placed, Ready, Locates};
+use numerals::sizes::FUNCTION_HEAD;
+ghost use Rattle.reader.specs.View.{FunctionsAt, Placed, Ready, Locates};
 
-// The record of the function f, of the counted functions from `at` to `end`.
-fn find_function(bytes: &[u8], at: usize, end: usize, f: u64) -> Place
-    requires { ⌜ (at ≤ length (now bytes)) × Got (listOf 2 functionRecord) (now bytes) at (tablesOf (now bytes) .functions) end ⌝ }
+// The record of the function f, of the counted functions from `at` on.
+fn find_function(bytes: &[u8], at: usize, f: u64) -> Place
+    requires { ⌜ FunctionsAt (now bytes) at ⌝ }
     ensures { λ r. ⌜ Placed r (now (bytes .entry)) at f ⌝ }
 {
     let none = Counts {
@@ -52,7 +49,7 @@ pub(crate) fn locate_in(bytes: &[u8], a: usize, b: usize, c: usize, d: usize, f:
         classes: 0,
         constants: 0,
     };
-    let place = find_function(bytes, b, c, f);
+    let place = find_function(bytes, b, f);
     let Place::Function(p) = place else {
         return Located::NoCode(22);
     };
@@ -61,5 +58,5 @@ pub(crate) fn locate_in(bytes: &[u8], a: usize, b: usize, c: usize, d: usize, f:
         return Located::NoCode(22);
     };
     let n = number_at(bytes, p + 5, 2);
-    Located::Code(p + 7, q - (p + 7), n)
+    Located::Code(p + FUNCTION_HEAD, q - (p + FUNCTION_HEAD), n)
 }

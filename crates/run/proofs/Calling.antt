@@ -7,15 +7,15 @@ use native.Mathlib.Omega.{arith}
 use native.Mathlib.Numerals.{add-one}
 use lib.Dec.{leb}
 use lib.ListN.{length, take, drop, getD, length-take, length-drop, drop-of-length-le, List·getD-eq-default}
-use lib.Seq.{drop-cons, drop-drop, length-take-le, getD-drop, getD-take}
+use lib.Seq.{drop-cons, length-take-le, getD-drop, getD-take}
 use borrow.Author.Tests.{le-leb, lt-leb, leb-true, leb-false}
 use Rattle.definitions.specs.Bytes.{Parsed, got, counted, all, Answer, refused, accepted, whenAccepted}
 use Rattle.definitions.specs.Instruction.{Instr}
 use Rattle.definitions.specs.Tables.{Tables}
 use Rattle.definitions.specs.Reader.{instruction, readModule, endsInReturn, jumpsLand}
-use Rattle.definitions.specs.Run.{Ran, ended, after, run}
+use Rattle.definitions.specs.Run.{Ran, ended, run}
 use Rattle.definitions.specs.Calls.{Counts, functionOf, areAnswers, eventsFit, runFunction, runAnswer, ranCounts, ranCall, runCall, outputAfter, written}
-use Rattle.reader.specs.View.{Got, functionIn, CodeAt, instructionsOf}
+use Rattle.reader.specs.View.{functionIn, CodeAt, instructionsOf}
 use Rattle.reader.proofs.Encoding.{Small}
 use Rattle.reader.proofs.Iterated.{code-is, reads-code, bytes-are}
 use Rattle.run.specs.declared.Outcome.{Outcome}
@@ -23,10 +23,10 @@ use Rattle.run.specs.declared.Outcome.the-variants.{Finished, Refused}
 use Rattle.run.specs.declared.Stand.{Stand}
 use Rattle.run.specs.declared.Passed.{Passed}
 use Rattle.run.specs.declared.Passed.the-variants.{Ended, TooMany}
-use Rattle.run.specs.Pass.{said, Called, Coded, Leads, Ending, Passes, start}
+use Rattle.run.specs.Pass.{said, Called, Coded, Ending, Passes, start}
 use Rattle.run.proofs.Storing.{copied-written}
 use Rattle.definitions.proofs.ReadFits.{module-short}
-use Rattle.definitions.proofs.Begins.{Rest, Takes, takes-counted, takes-instruction}
+use Rattle.definitions.proofs.Begins.{Rest, takes-counted, takes-instruction}
 
 -- ---- question 23
 

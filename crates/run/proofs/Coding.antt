@@ -1,16 +1,14 @@
 -- A function's code: where its instructions begin, what stands there, and what question 21 says of them. Assumes nothing.
-use Prim.Native.Nat.{ℕ, zero, suc, _+_, _-_, _<_, _≤_}
+use Prim.Native.Nat.{ℕ, _+_, _-_, _<_, _≤_}
 use mathlib.Core.Path.{_≡_, refl, sym, ap, ap₂, _∙_, subst}
 use mathlib.Core.Bool.{true}
 use mathlib.Core.List.{List, [], _∷_, _++_, append-assoc}
 use native.Mathlib.Omega.{arith}
-use native.Mathlib.Numerals.{add-one}
 use lib.ListN.{length, take, drop, getD, length-append, length-drop, take-append-drop}
-use lib.Seq.{take-add, drop-append-seam, take-append-seam, length-take-le, drop-drop}
+use lib.Seq.{take-add, drop-append-seam, take-append-seam, length-take-le}
 use Rattle.definitions.specs.Bytes.{concat}
 use Rattle.definitions.specs.Instruction.{Instr, Return, encode, encodes, firstWidth}
 use Rattle.definitions.specs.Reader.{instruction, isJump, landing}
-use Rattle.definitions.specs.Run.{Flow, straight, flow}
 use Rattle.definitions.proofs.Stays as Stays
 use Rattle.reader.specs.View.{Got, numberAt, instructionsOf, startOf}
 use Rattle.reader.proofs.Encoding.{instruction-view}

@@ -1,17 +1,16 @@
 -- From where a run stands to where it comes: what lies between, and what is left. Assumes nothing.
 use Prim.Native.Nat.{ℕ, zero, suc, _+_, _-_, _<_, _≤_}
-use mathlib.Core.Path.{_≡_, refl, sym, ap, ap₂, _∙_, subst}
-use mathlib.Core.List.{List, [], _∷_, _++_, append-assoc, append-nil}
+use mathlib.Core.Path.{_≡_, refl, sym, ap, ap₂, _∙_}
+use mathlib.Core.List.{List, [], _++_, append-assoc}
 use native.Mathlib.Omega.{arith}
-use native.Mathlib.Numerals.{add-one}
 use lib.ListN.{length, take, drop, getD, length-append}
 use lib.Seq.{drop-cons}
 use Rattle.definitions.specs.Bytes.{concat}
 use Rattle.definitions.specs.Instruction.{Instr, Return, encode, encodes}
-use Rattle.definitions.specs.Run.{Ran, ended, after, Flow, straight, flow, obey, run}
-use Rattle.reader.specs.View.{instructionsOf, startOf}
+use Rattle.definitions.specs.Run.{Ran, after, Flow, straight, obey, run}
+use Rattle.reader.specs.View.{instructionsOf}
 use Rattle.run.specs.declared.Stand.{Stand}
-use Rattle.run.specs.Pass.{Coded, between, flowAt, Stands, Went, NoFit, Copied, onward, Leads, start}
+use Rattle.run.specs.Pass.{Coded, between, flowAt, Stands, Went, NoFit, onward, Leads, start}
 use Rattle.run.proofs.Coding.{between-is}
 use Rattle.run.proofs.Storing.{copied-then, copied-none}
 

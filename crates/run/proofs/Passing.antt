@@ -1,17 +1,16 @@
 -- A pass, one stretch and one turn after the other. Assumes nothing.
-use Prim.Native.Nat.{ℕ, zero, suc, _+_, _-_, _<_, _≤_}
-use mathlib.Core.Path.{_≡_, refl, sym, ap, ap₂, _∙_, subst}
-use mathlib.Core.List.{List, [], _∷_}
+use Prim.Native.Nat.{ℕ, _+_, _-_, _<_, _≤_}
+use mathlib.Core.Path.{_≡_, subst}
+use mathlib.Core.List.{List}
 use native.Mathlib.Omega.{arith}
 use lib.ListN.{length}
-use Rattle.definitions.specs.Run.{Ran, run}
+use Rattle.definitions.specs.Run.{run}
 use Rattle.reader.specs.View.{instructionsOf}
 use Rattle.run.specs.declared.Stand.{Stand}
 use Rattle.run.specs.declared.Stretched.{Stretched}
 use Rattle.run.specs.declared.Stretched.the-variants.{To, NoRoom}
 use Rattle.run.specs.declared.Turned.{Turned}
 use Rattle.run.specs.declared.Turned.the-variants.{On, Over, Full}
-use Rattle.run.specs.declared.Passed.{Passed}
 use Rattle.run.specs.declared.Passed.the-variants.{Ended, TooMany}
 use Rattle.run.specs.Pass.{Coded, Stands, AtStop, Went, NoFit, Goes, onward, Leads, Turning, Ending, Turns, start, Passes}
 use Rattle.run.proofs.Coding.{nonempty}

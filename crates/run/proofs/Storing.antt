@@ -1,10 +1,9 @@
 -- Event bytes that are stored. Assumes nothing.
-use Prim.Native.Nat.{ℕ, zero, suc, _+_, _-_, _<_, _≤_}
-use mathlib.Core.Path.{_≡_, refl, sym, ap, ap₂, _∙_, subst}
+use Prim.Native.Nat.{ℕ, suc, _+_, _-_, _<_, _≤_}
+use mathlib.Core.Path.{_≡_, refl, sym, ap, ap₂, _∙_}
 use mathlib.Core.List.{List, [], _∷_, _++_}
 use native.Mathlib.Omega.{arith}
-use native.Mathlib.Numerals.{add-one}
-use lib.ListN.{length, take, drop, getD, set, length-append, length-drop, length-set}
+use lib.ListN.{length, take, drop, getD, set, length-append, length-drop}
 use lib.Seq.{sets, sets-eq, length-sets, drop-cons, length-take-le}
 use Rattle.definitions.specs.Calls.{written}
 use Rattle.run.specs.Pass.{Copied}

@@ -1,15 +1,15 @@
 -- A stretch in the code's terms. Assumes nothing.
-use Prim.Native.Nat.{ℕ, zero, suc, _+_, _-_, _<_, _≤_}
-use mathlib.Core.Path.{_≡_, refl, sym, ap, ap₂, _∙_, subst}
-use mathlib.Core.List.{List, [], _∷_}
-use mathlib.Core.Logic.{_⊎_, inl, inr, ⊎-elim}
+use Prim.Native.Nat.{ℕ, _+_, _-_, _<_, _≤_}
+use mathlib.Core.Path.{_≡_, refl, sym, ap, _∙_, subst}
+use mathlib.Core.List.{List}
+use mathlib.Core.Logic.{inl, inr, ⊎-elim}
 use native.Mathlib.Omega.{arith}
 use lib.ListN.{length, take, drop, getD}
 use Rattle.definitions.specs.Run.{straight}
 use Rattle.reader.specs.View.{instructionsOf, startOf}
 use Rattle.run.specs.declared.Stand.{Stand}
 use Rattle.run.specs.declared.Stretched.the-variants.{To, NoRoom}
-use Rattle.run.specs.Pass.{Coded, Places, flowAt, Stop, Stops, Reaches, Copied, Stands, between, AtStop, Went, NoFit, Goes}
+use Rattle.run.specs.Pass.{Coded, Places, flowAt, Stop, Stops, Reaches, Copied, Stands, between, AtStop, Goes}
 use Rattle.run.proofs.Coding.{start-in, start-up, between-length}
 
 module _ (c : List ℕ) (h : Coded c) (budget room : ℕ) (s : Stand) (st : Stands c budget room s) (stops : List ℕ) (sp : Stops c stops) (stop : ℕ) (es : stop ≡ getD stops (s .place) 0) where

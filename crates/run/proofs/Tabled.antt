@@ -1,14 +1,13 @@
 -- The tables, one entry after the other. Assumes nothing.
-use Prim.Native.Nat.{ℕ, zero, suc, _+_, _-_, _^_, _<_, _≤_}
+use Prim.Native.Nat.{ℕ, _+_, _-_, _^_, _<_, _≤_}
 use mathlib.Core.Path.{_≡_, refl, sym, ap, ap₂, _∙_, subst}
 use mathlib.Core.Bool.{Bool, true, false}
-use mathlib.Core.List.{List, [], _∷_, _++_, append-nil}
+use mathlib.Core.List.{List, [], _∷_, append-nil}
 use mathlib.Core.Logic.{_⊎_, inl, inr, ⊎-elim}
 use native.Mathlib.Omega.{arith}
-use native.Mathlib.Numerals.{add-one}
 use lib.Dec.{eqb}
-use lib.ListN.{length, take, drop, getD, set, length-append, length-drop, length-set}
-use lib.Seq.{getD-set-same, getD-set-other, drop-cons, drop-drop}
+use lib.ListN.{length, take, drop, getD, set, length-drop, length-set}
+use lib.Seq.{getD-set-same, getD-set-other, drop-drop}
 use borrow.Author.Tests.{eqb-true, eq-eqb}
 use Rattle.definitions.specs.Instruction.{Instr, instr, Return, encode, encodes}
 use Rattle.definitions.specs.Run.{Flow, straight, jump, question, returns, flow}
@@ -19,7 +18,7 @@ use Rattle.reader.specs.declared.Met.the-variants.{At, End}
 use Rattle.reader.proofs.Iterated.{met-at, met-end}
 use Rattle.run.specs.Pass.{Coded, Places, flowAt, Stop, Stops, Nearer}
 use Rattle.definitions.proofs.Flows.{return-stops}
-use Rattle.run.proofs.Coding.{op-here, not-last, start-in, start-add}
+use Rattle.run.proofs.Coding.{op-here, not-last, start-add}
 use Rattle.definitions.specs.Bytes.{concat}
 use Rattle.definitions.proofs.Lengths.{length-encode}
 

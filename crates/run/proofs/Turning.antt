@@ -1,22 +1,21 @@
 -- After a stretch: the budget's end, a Return, a jump or a question. Assumes nothing.
-use Prim.Native.Nat.{ℕ, zero, suc, _+_, _-_, _<_, _≤_}
+use Prim.Native.Nat.{ℕ, suc, _+_, _-_, _<_, _≤_}
 use mathlib.Core.Path.{_≡_, refl, sym, ap, ap₂, _∙_, subst}
-use mathlib.Core.Bool.{Bool, true, false}
-use mathlib.Core.List.{List, [], _∷_, _++_}
-use mathlib.Core.Logic.{_⊎_, inl, inr, ⊎-elim}
+use mathlib.Core.List.{List, [], _∷_}
+use mathlib.Core.Logic.{inl, inr, ⊎-elim}
 use native.Mathlib.Omega.{arith}
 use native.Mathlib.Numerals.{add-one}
 use lib.Dec.{eqb}
-use lib.ListN.{length, take, drop, getD, set, length-append, drop-of-length-le}
-use lib.Seq.{sets, drop-cons}
-use Rattle.definitions.specs.Instruction.{Instr, Return, encode}
-use Rattle.definitions.specs.Reader.{isJump, landing}
+use lib.ListN.{length, drop, getD, set, length-append, drop-of-length-le}
+use lib.Seq.{drop-cons}
+use Rattle.definitions.specs.Instruction.{Instr, Return}
+use Rattle.definitions.specs.Reader.{landing}
 use Rattle.definitions.specs.Run.{Ran, ended, after, Flow, straight, jump, question, returns, flow, way, obey, run}
 use Rattle.reader.specs.View.{numberAt, instructionsOf, startOf}
 use Rattle.run.specs.declared.Stand.{Stand}
 use Rattle.run.specs.declared.Turned.{Turned}
 use Rattle.run.specs.declared.Turned.the-variants.{On, Over, Full}
-use Rattle.run.specs.Pass.{Coded, flowAt, Stands, AtStop, Reaches, Copied, Asked, Starved, Asks, onward, Leads, Turning, Ending, Turns}
+use Rattle.run.specs.Pass.{Coded, flowAt, Stands, AtStop, Reaches, Asked, Starved, Asks, onward, Turning, Ending, Turns}
 use Rattle.definitions.proofs.Flows.{stop-jumps, jump-width, is-jump, flow-jump, flow-returns, flow-question, way-below}
 use Rattle.run.proofs.Flows.{return-bytes}
 use Rattle.run.proofs.Coding.{op-here, operand-here, not-last, jump-inside}

@@ -9,7 +9,7 @@ use crate::steps::turn;
 use crate::tables::fill_places;
 use crate::tables::fill_stops;
 ghost use mathlib.Core.Path.{_≡_};
-ghost use Prim.Native.Nat.{_≤_, _<_};
+ghost use Prim.Native.Nat.{_≤_};
 ghost use lib.ListN.{length};
 ghost use Rattle.definitions.specs.Run as Run;
 ghost use Rattle.definitions.specs.Calls.{eventsFit, ranCall};

@@ -3,14 +3,14 @@ use crate::Stand;
 use crate::Stretched;
 use crate::Turned;
 use crate::tables::wide;
+use numerals::op_bytes;
 use reader::jump_target;
 use reader::number_at;
 ghost use mathlib.Core.Path.{_≡_};
 ghost use Prim.Native.Nat.{_+_, _-_, _≤_, _<_};
 ghost use lib.Dec.{eqb};
-ghost use lib.ListN.{length, getD, take, drop, set};
+ghost use lib.ListN.{length, take, drop, set};
 ghost use Rattle.definitions.specs.Run.{way};
-ghost use Rattle.reader.specs.View.{instructionsOf};
 ghost use Rattle.run.specs.Pass.{Coded, Places, Stops, Reaches, Copied, Stands, Goes, AtStop, Asks, Turns};
 
 // A byte of the events, where the buffer has room for it.
@@ -87,7 +87,7 @@ pub fn question_way(op: u8, x: u8, place: u64, a: u64) -> u64
     requires { ⌜ place < 65536 ⌝ }
     ensures { λ r. ⌜ r ≡ way (eqb op 30) (eqb x 1) place a ⌝ }
 {
-    if op == 30 {
+    if op == op_bytes::JUMP_IF_TRUE {
         if x == 1 {
             return jump_target(place, a);
         }
@@ -150,7 +150,7 @@ pub fn turn(
     let place = s.place;
     let at = wide(places[place]);
     let op = code[at];
-    if op == 33 {
+    if op == op_bytes::RETURN {
         if room - s.written < 1 {
             return Turned::Full;
         }
@@ -167,7 +167,7 @@ pub fn turn(
         );
     }
     let a = number_at(code, at + 1, 4);
-    if op == 28 {
+    if op == op_bytes::JUMP {
         let to = jump_target(place as u64, a);
         return Turned::On(Stand {
             steps: s.steps + 1,

@@ -1,11 +1,12 @@
 // Tables of a function's code, made once for a run: where each instruction begins, and where going straight on from it stops.
+use numerals::op_bytes;
 use reader::Cursor;
 use reader::Met;
 use reader::next_instruction;
 ghost use mathlib.Core.Path.{_≡_};
 ghost use Prim.Native.Nat.{_≤_, _<_};
 ghost use lib.ListN.{length};
-ghost use Rattle.definitions.specs.Run.{flow, straight};
+ghost use Rattle.definitions.specs.Run.{straight};
 ghost use Rattle.reader.specs.View.{instructionsOf};
 ghost use Rattle.run.specs.Pass.{Coded, Places, Stops, GoesOn, Nearer};
 
@@ -36,16 +37,16 @@ pub fn fill_places(code: &[u8], places: &mut [u32])
 pub fn goes_on(op: u8) -> bool
     ensures { λ r. ⌜ GoesOn r op ⌝ }
 {
-    if op == 28 {
+    if op == op_bytes::JUMP {
         return false;
     }
-    if op == 29 {
+    if op == op_bytes::JUMP_IF_FALSE {
         return false;
     }
-    if op == 30 {
+    if op == op_bytes::JUMP_IF_TRUE {
         return false;
     }
-    op != 33
+    op != op_bytes::RETURN
 }
 
 // Of the stop after place k, and k: the first that is a stop.

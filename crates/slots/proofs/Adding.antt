@@ -1,5 +1,5 @@
 -- A name among slots, and added to them. Assumes nothing.
-use Prim.Native.Nat.{ℕ, zero, suc, _+_, _-_, _<_, _≤_, min}
+use Prim.Native.Nat.{ℕ, _+_, _-_, _<_, _≤_}
 use mathlib.Core.Path.{_≡_, refl, sym, ap, _∙_, subst}
 use mathlib.Core.Bool.{Bool, true, false}
 use mathlib.Core.Option.{Option, none, some}
@@ -7,10 +7,11 @@ use mathlib.Core.List.{List, [], _∷_, _++_, map}
 use native.Mathlib.Omega.{arith}
 use native.Mathlib.Numerals.{add-one}
 use lib.Dec.{ltb}
-use lib.ListN.{length, take, drop, getD, set, length-take, length-drop, length-map, length-set, drop-of-length-le}
+use lib.ListN.{length, take, drop, getD, set, length-drop, length-map, length-set, drop-of-length-le}
 use lib.Seq.{take-suc-set, length-take-le, drop-set-add, drop-set-lt, drop-at, take-add, take-append-le}
 use borrow.Rule.Slice.PartMut.{putMid, postOf}
 use borrow.Author.Tests.{lt-ltb, le-ltb}
+use Rattle.names.proofs.Finding.{names-length}
 use Rattle.definitions.specs.Bytes.{Name, same, position, member}
 use Rattle.definitions.specs.Slots.{add}
 use Rattle.definitions.proofs.Resolve.{position-lt}
@@ -52,10 +53,6 @@ map-append f (x ∷ xs) ys = ap (λ (l : List _). f x ∷ l) (map-append f xs ys
 pub names-append : (t : List ℕ) (ps qs : List ℕ) → namesAt t (ps ++ qs) ≡ namesAt t ps ++ namesAt t qs
 unfolding namesAt
 names-append t ps qs = map-append (nameAt t) ps qs
-
-pub names-length : (t ps : List ℕ) → length (namesAt t ps) ≡ length ps
-unfolding namesAt
-names-length t ps = length-map ps (nameAt t)
 
 pub names-one : (t : List ℕ) (p : ℕ) → namesAt t (p ∷ []) ≡ nameBytes t p ∷ []
 unfolding namesAt

@@ -1,13 +1,13 @@
 -- The captures of a lambda, and its slots. Assumes nothing.
-use Prim.Native.Nat.{ℕ, zero, suc, _+_, _*_, _-_, _<_, _≤_}
+use Prim.Native.Nat.{ℕ, _+_, _-_, _<_, _≤_}
 use mathlib.Core.Path.{_≡_, refl, sym, ap, _∙_, subst, ap₂}
 use mathlib.Core.Bool.{Bool, true, false, not, _&&_}
-use mathlib.Core.List.{List, [], _∷_, _++_, append-nil}
+use mathlib.Core.List.{List, [], _++_, append-nil}
 use mathlib.Core.Logic.{⊎-elim}
 use native.Mathlib.Omega.{arith}
 use lib.ListN.{length, take, drop, replicate, length-append, length-drop}
 use lib.Seq.{take-all, length-take-le}
-use borrow.Rule.Slice.PartMut.{putMid, postOf}
+use borrow.Rule.Slice.PartMut.{putMid}
 use Rattle.definitions.specs.Bytes.{Name, member}
 use Rattle.definitions.specs.Tree.{Expr, lit, var, unary, binary, logical, call, attr, display, index, lambda, Exprs, []ᵉ, _∷ᵉ_}
 use Rattle.definitions.specs.Slots.{add, within, sort, referencedExpr, referencedExprs, captures}

@@ -1,27 +1,23 @@
 -- Names gathered by a walk over statements, one way out at a time. Assumes nothing.
-use Prim.Native.Nat.{ℕ, zero, suc, _+_, _*_, _-_, _<_, _≤_}
+use Prim.Native.Nat.{ℕ, zero, suc, _+_, _-_, _<_, _≤_}
 use mathlib.Core.Path.{_≡_, refl, sym, ap, _∙_, subst}
-use mathlib.Core.Bool.{Bool, true, false}
-use mathlib.Core.List.{List, [], _∷_, _++_}
+use mathlib.Core.List.{List}
 use mathlib.Core.Logic.{_⊎_, ⊎-elim}
 use native.Mathlib.Omega.{arith}
 use lib.ListN.{length, getD}
 use Rattle.definitions.specs.Bytes.{Name}
-use Rattle.definitions.specs.Tree.{Expr}
-use Rattle.definitions.specs.Tree.{Stmt, break, continue, pass, expr, return, assign, if, while, for, def, class}
-use Rattle.definitions.specs.Tree.{Block, []ᵇ, _∷ᵇ_, Branches, done, else, when}
+use Rattle.definitions.specs.Tree.{Stmt}
+use Rattle.definitions.specs.Tree.{Block, Branches}
 use Rattle.definitions.specs.Slots.{add, addTarget, localsStmt, localsBlock, localsBranches}
-use Rattle.parts.specs.Places.{Node, node, countAt, nameBytes, nameEnd, There}
-use Rattle.exprs.specs.ExprAt.{exprAt, ExprReads, secondAt}
-use Rattle.tree.specs.StmtAt.{stmtAt, blockAt, stmtsAt, branchesAt, StmtReads, BlockReads, StmtsRead, BranchesRead, BranchAt, bodyAt, IfAt, ifAt, elifsAt, whileAt, ForAt, forAt, whenAt, elseAt, consAt, assignAt, exprStmtAt, returnAt, defAt, classAt}
-use Rattle.parts.proofs.Nodes.{Seen}
-use Rattle.exprs.proofs.ExprViews.{expr-known}
-use Rattle.tree.proofs.StmtViews.{view-block, view-stmts-none, view-stmts-more, view-branches-more, else-known, view-done, view-else, stmt-known, view-break, view-continue, view-pass, view-expr, view-return, view-assign, view-if, view-while, view-for, view-def, view-class}
+use Rattle.parts.specs.Places.{Node, countAt, nameBytes, nameEnd}
+use Rattle.exprs.specs.ExprAt.{exprAt, secondAt}
+use Rattle.tree.specs.StmtAt.{stmtAt, blockAt, stmtsAt, branchesAt, StmtReads, BlockReads, StmtsRead, BranchesRead, BranchAt, bodyAt, IfAt, ifAt, elifsAt, whileAt, forAt, whenAt, elseAt, consAt, assignAt, exprStmtAt, returnAt, defAt, classAt}
+use Rattle.tree.proofs.StmtViews.{view-block, view-stmts-none, view-stmts-more, view-branches-more, else-known, view-done, view-else, view-break, view-continue, view-pass, view-expr, view-return, view-assign, view-if, view-while, view-for, view-def, view-class}
 use Rattle.slots.specs.Slotted.{firstNames, Indexed, Added, Room, Gathers}
 use Rattle.slots.specs.declared.collect.Gathered.{Gathered}
 use Rattle.slots.specs.declared.collect.Gathered.the-variants.{Next, Over}
 use Rattle.slots.proofs.Adding.{first-length}
-use Rattle.definitions.proofs.Named.{stmt-grows, block-grows, branches-grow}
+use Rattle.definitions.proofs.Named.{block-grows, branches-grow}
 
 -- ---- the two answers
 

@@ -1,22 +1,18 @@
 -- Facts of every expression of some kinds. Assumes nothing.
 use Prim.Native.Nat.{ℕ, zero, suc, _+_, _-_, _<_, _≤_}
 use mathlib.Core.Path.{_≡_, refl, sym, ap, _∙_, subst}
-use mathlib.Core.List.{List, [], _∷_}
+use mathlib.Core.List.{List}
 use mathlib.Core.Logic.{_⊎_, inl, inr, ⊎-elim}
 use native.Mathlib.Omega.{arith}
-use lib.ListN.{length, getD}
-use Rattle.definitions.specs.Tree.{Literal, noneL, boolL, intL, floatL, stringL, UnaryOp, BinaryOp, LogicalOp, andOp, orOp, notOp, addOp, Display, listD, tupleD, dictD, setD, treeSetD}
+use lib.ListN.{getD}
+use Rattle.definitions.specs.Tree.{Literal, UnaryOp, BinaryOp, LogicalOp, andOp, orOp, notOp, addOp, Display, listD, tupleD, setD, treeSetD}
 use Rattle.definitions.specs.Tree.{View, asVar, asAttr, asIndex, asTuple, asOther, view, viewDisplay}
-use Rattle.definitions.specs.Tree.{Expr, lit, var, unary, binary, logical, call, attr, display, index, lambda, Exprs, []ᵉ, _∷ᵉ_}
-use Rattle.parts.specs.Places.{Node, node, textAt, eightAt, nameBytes, nameEnd}
-use Rattle.exprs.specs.ExprAt.{exprAt, ExprReads, intAt, floatAt, stringAt, varAt, unaryOf, binaryOf, UnaryAt, unaryAt, BinaryAt, binaryAt, ListAt, listAt, secondAt, callAt, attributeAt, displayAt, dictAt, indexAt, lambdaAt, unaryOps, binaryOps}
+use Rattle.definitions.specs.Tree.{Expr, lit, unary, binary, logical}
+use Rattle.parts.specs.Places.{Node, node, nameBytes}
+use Rattle.exprs.specs.ExprAt.{exprAt, ExprReads, intAt, floatAt, stringAt, varAt, unaryOf, binaryOf, unaryAt, binaryAt, ListAt, listAt, secondAt, callAt, attributeAt, displayAt, dictAt, indexAt, lambdaAt, unaryOps, binaryOps}
 use Rattle.parts.proofs.Laws.{le-or-gt}
 use Rattle.parts.proofs.Nodes.{Seen}
 use Rattle.exprs.proofs.ExprViews.{expr-known, view-none, view-false, view-true, view-int, view-float, view-string, view-var, view-unary, view-binary, view-call, view-attribute, view-list, view-dict, view-tuple, view-set, view-tree-set, view-index, view-lambda, unary-of, binary-of, and-of, or-of}
-
--- a number that is not the least of those left
-pub up : (n k : ℕ) → n ≤ k → (k ≡ n → ⊥) → suc n ≤ k
-up n k h f = omega arith
 
 -- what holds of every operator holds of the one of a byte
 pub unary-each : (P : (Expr → Expr) → Type 0) → ((op : UnaryOp) → P (unary op)) → (k : ℕ) → k < 3 → P (unaryOf k)

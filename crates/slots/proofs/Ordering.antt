@@ -1,77 +1,18 @@
 -- Names compared and put in byte order, step by step. Assumes nothing.
-use Prim.Native.Nat.{ℕ, zero, suc, _+_, _-_, _<_, _≤_}
+use Prim.Native.Nat.{ℕ, suc, _+_, _-_, _<_, _≤_}
 use mathlib.Core.Path.{_≡_, refl, sym, ap, _∙_, subst, ap₂}
 use mathlib.Core.Bool.{Bool, true, false}
 use mathlib.Core.List.{List, [], _∷_, _++_, append-assoc, append-nil}
 use native.Mathlib.Omega.{arith}
 use native.Mathlib.Numerals.{add-one}
-use lib.Dec.{eqb, ltb}
-use lib.ListN.{length, take, drop, getD, set, length-set, length-drop, length-take, length-append, drop-of-length-le}
+use lib.ListN.{length, take, drop, getD, set, length-set, length-drop, length-append, drop-of-length-le}
 use lib.Seq.{take-all, drop-length, drop-cons, set-split, take-suc-set, drop-set-lt, drop-drop, getD-drop, getD-take, take-take, length-take-le, take-at, drop-at}
 use borrow.Rule.Slice.PartMut.{putMid, postOf}
-use borrow.Author.Tests.{lt-ltb, le-ltb, eq-eqb, ne-eqb}
 use Rattle.definitions.specs.Bytes.{Name, below}
 use Rattle.definitions.specs.Slots.{insert, sort}
 use Rattle.state.specs.Words.{nameAt}
 use Rattle.state.specs.State.{namesAt}
 use Rattle.slots.proofs.Adding.{names-append}
-
--- ---- byte order
-
-pub below-none : (xs : Name) → below xs [] ≡ false
-unfolding below
-below-none [] = refl
-below-none (x ∷ xs) = refl
-
-module _ (x y : ℕ) (xs ys : Name) where
-  by-first : Bool → Bool
-  by-first b = elim b [ true ↦ below xs ys | false ↦ ltb x y ]
-
-  pub below-less : x < y → below (x ∷ xs) (y ∷ ys) ≡ true
-  unfolding below by-first
-  below-less h = ap by-first (ne-eqb x y (λ z. omega arith)) ∙ lt-ltb x y h
-
-  pub below-more : y < x → below (x ∷ xs) (y ∷ ys) ≡ false
-  unfolding below by-first
-  below-more h = ap by-first (ne-eqb x y (λ z. omega arith)) ∙ le-ltb x y (omega arith)
-
-  pub below-same : x ≡ y → below (x ∷ xs) (y ∷ ys) ≡ below xs ys
-  unfolding below by-first
-  below-same e = ap by-first (eq-eqb x y e)
-
--- the bytes before i are equal
-pub record Tied (a b : Name) (i : ℕ) : Type 0 where
-  pub first : i ≤ length a
-  pub second : i ≤ length b
-  pub is : below a b ≡ below (drop i a) (drop i b)
-
-pub tied-start : (a b : Name) → Tied a b 0
-tied-start a b = record { first = omega arith; second = omega arith; is = refl }
-
-module _ (a b : Name) (i : ℕ) (l : Tied a b i) where
-  pub tied-end : length b ≤ i → false ≡ below a b
-  tied-end h = sym (l .is ∙ ap (below (drop i a)) (drop-of-length-le b h) ∙ below-none (drop i a))
-
-  pub tied-short : length a ≤ i → i < length b → true ≡ below a b
-  unfolding below
-  tied-short h k = sym (l .is ∙ ap₂ below (drop-of-length-le a h) (drop-cons b i 0 k))
-
-  module _ (h : i < length a) (k : i < length b) where
-    split : below a b ≡ below (getD a i 0 ∷ drop (suc i) a) (getD b i 0 ∷ drop (suc i) b)
-    split = l .is ∙ ap₂ below (drop-cons a i 0 h) (drop-cons b i 0 k)
-
-    pub tied-less : getD a i 0 < getD b i 0 → true ≡ below a b
-    tied-less e = sym (split ∙ below-less (getD a i 0) (getD b i 0) (drop (suc i) a) (drop (suc i) b) e)
-
-    pub tied-more : getD b i 0 < getD a i 0 → false ≡ below a b
-    tied-more e = sym (split ∙ below-more (getD a i 0) (getD b i 0) (drop (suc i) a) (drop (suc i) b) e)
-
-    pub tied-next : getD b i 0 ≤ getD a i 0 → getD a i 0 ≤ getD b i 0 → Tied a b (i + 1)
-    tied-next e f = record {
-      first = omega arith;
-      second = omega arith;
-      is = split ∙ below-same (getD a i 0) (getD b i 0) (drop (suc i) a) (drop (suc i) b) (omega arith) ∙ ap (λ (j : ℕ). below (drop j a) (drop j b)) (sym (add-one i));
-    }
 
 -- ---- insertion
 

@@ -1,11 +1,11 @@
 -- The places of parameters as the first slots; locals after them. Assumes nothing.
-use Prim.Native.Nat.{ℕ, zero, suc, _+_, _*_, _-_, _<_, _≤_}
+use Prim.Native.Nat.{ℕ, zero, suc, _+_, _-_, _<_, _≤_}
 use mathlib.Core.Path.{_≡_, refl, sym, ap, _∙_, subst}
 use mathlib.Core.List.{List, [], _∷_, _++_, append-assoc, append-nil}
 use native.Mathlib.Omega.{arith}
-use lib.ListN.{length, getD, set, take, drop, length-set, length-drop}
+use lib.ListN.{length, set, take, drop, length-set, length-drop}
 use lib.Seq.{length-take-le}
-use borrow.Rule.Slice.PartMut.{putMid, postOf, same-len-mid}
+use borrow.Rule.Slice.PartMut.{putMid, same-len-mid}
 use Rattle.definitions.specs.Bytes.{Name}
 use Rattle.definitions.specs.Tree.{Block}
 use Rattle.state.specs.State.{namesAt, slotsFrom}

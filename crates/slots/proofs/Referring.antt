@@ -1,27 +1,26 @@
 -- Names that expressions reference, kept by a walk, one way out at a time. Assumes nothing.
-use Prim.Native.Nat.{ℕ, zero, suc, _+_, _*_, _-_, _<_, _≤_, _^_}
+use Prim.Native.Nat.{ℕ, _+_, _*_, _-_, _<_, _≤_, _^_}
 use mathlib.Core.Path.{_≡_, refl, sym, ap, _∙_, subst, ap₂}
 use mathlib.Core.Bool.{Bool, true, false}
-use mathlib.Core.List.{List, [], _∷_, _++_}
-use mathlib.Core.Logic.{_⊎_, inl, inr, ⊎-elim}
+use mathlib.Core.List.{List}
+use mathlib.Core.Logic.{_⊎_, ⊎-elim}
 use native.Mathlib.Omega.{arith}
 use lib.ListN.{length, getD}
 use Rattle.definitions.specs.Bytes.{Name}
-use Rattle.definitions.specs.Tree.{Expr, Exprs, []ᵉ, _∷ᵉ_, lit, Literal}
+use Rattle.definitions.specs.Tree.{Expr, Exprs}
 use Rattle.definitions.specs.Slots.{add}
-use Rattle.state.specs.State.{namesAt, slotsFrom, slotNames, Slots}
-use Rattle.parts.specs.Places.{Node, node, countAt, nameBytes, nameEnd, There, paramsAt, ParamsAt}
-use Rattle.exprs.specs.ExprAt.{exprAt, exprsAt, ExprReads, ExprsRead, varAt, unaryOf, binaryOf, UnaryAt, unaryAt, TwoAt, secondAt, BinaryAt, binaryAt, ListAt, listAt, CallAt, callAt, AttributeAt, attributeAt, displayAt, DictAt, pairsAt, dictAt, indexAt, LambdaAt, lambdaAt, ExprsMore, consAt}
-use Rattle.parts.proofs.Laws.{le-or-gt}
-use Rattle.parts.proofs.Nodes.{Seen}
-use Rattle.exprs.proofs.ExprViews.{expr-known, view-var, view-unary, view-binary, view-call, view-attribute, view-dict, view-index, view-lambda, view-exprs-none, view-exprs-more}
+use Rattle.state.specs.State.{slotsFrom, slotNames}
+use Rattle.parts.specs.Places.{Node, countAt, nameBytes, nameEnd, There, paramsAt}
+use Rattle.exprs.specs.ExprAt.{exprAt, exprsAt, ExprReads, ExprsRead, varAt, unaryAt, TwoAt, secondAt, binaryAt, ListAt, listAt, CallAt, callAt, AttributeAt, attributeAt, displayAt, DictAt, pairsAt, dictAt, indexAt, LambdaAt, lambdaAt, consAt}
+use Rattle.parts.proofs.Laws.{le-or-gt, up}
+use Rattle.exprs.proofs.ExprViews.{view-var, view-unary, view-binary, view-call, view-attribute, view-dict, view-index, view-lambda, view-exprs-none, view-exprs-more}
 use Rattle.slots.specs.Slotted.{firstNames, Indexed, Added}
 use Rattle.slots.specs.Held.{markAll, isFree, addHeld, heldExpr, heldExprs, Held, Keeping, Referred}
 use Rattle.slots.specs.declared.captures.Refs.{Refs}
 use Rattle.names.proofs.Indexing.{slots-count}
 use Rattle.slots.proofs.Adding.{first-length}
 use Rattle.slots.proofs.Holding.{held-few, held-expr}
-use Rattle.slots.proofs.Kinded.{up, unary-each, binary-each, seen-literal, seen-display}
+use Rattle.slots.proofs.Kinded.{unary-each, binary-each, seen-literal, seen-display}
 
 -- ---- what is asked, and what is left
 

@@ -1,5 +1,5 @@
 -- An index made anew, from the last name to the first; and places copied. Assumes nothing.
-use Prim.Native.Nat.{ℕ, zero, suc, _+_, _-_, _<_, _≤_}
+use Prim.Native.Nat.{ℕ, suc, _+_, _-_, _<_, _≤_}
 use mathlib.Core.Path.{_≡_, refl, sym, ap, _∙_, subst, ap₂}
 use mathlib.Core.List.{List, [], _∷_, _++_}
 use native.Mathlib.Omega.{arith}
@@ -9,11 +9,11 @@ use lib.Seq.{drop-cons, drop-set-lt, getD-take, getD-drop, length-take-le, take-
 use borrow.Rule.Slice.PartMut.{putMid, postOf, same-len-mid}
 use Rattle.definitions.specs.Bytes.{Name}
 use Rattle.state.specs.Words.{nameAt}
-use Rattle.state.specs.Index.{bucketOf, Covered, noneCovered}
+use Rattle.state.specs.Index.{Covered, noneCovered}
 use Rattle.state.specs.State.{namesAt, slotsFrom}
 use Rattle.names.proofs.Indexing.{covered-cons}
-use Rattle.slots.specs.Slotted.{leading, firstNames, Indexed, IsBucket, Reindexed, Appended}
-use Rattle.slots.proofs.Adding.{names-append, places-length, front-places}
+use Rattle.slots.specs.Slotted.{firstNames, IsBucket, Reindexed, Appended}
+use Rattle.slots.proofs.Adding.{names-append, front-places}
 
 -- the names from the i-th on have their index
 pub record IndexLeft (t ps₀ : List ℕ) (n : ℕ) (ps : List ℕ) (i : ℕ) : Type 0 where

@@ -1,9 +1,9 @@
 -- Byte order: names in order stay so, and where a name belongs among them is found by halving. Assumes nothing.
-use Prim.Native.Nat.{ℕ, zero, suc, _+_, _-_, _/_, _<_, _≤_}
+use Prim.Native.Nat.{ℕ, zero, suc, _+_, _-_, _<_, _≤_}
 use mathlib.Core.Path.{_≡_, refl, sym, ap, _∙_, subst}
 use mathlib.Core.Bool.{Bool, true, false}
 use mathlib.Core.List.{List, [], _∷_}
-use mathlib.Core.Logic.{_⊎_, inl, inr, ⊎-elim}
+use mathlib.Core.Logic.{⊎-elim}
 use native.Mathlib.Omega.{arith}
 use lib.ListN.{length, take, drop, getD, set, length-drop}
 use lib.Seq.{getD-drop, drop-drop, drop-set-lt, take-all}
@@ -14,7 +14,8 @@ use Rattle.state.specs.State.{namesAt}
 use Rattle.parts.proofs.Laws.{le-or-gt}
 use Rattle.slots.specs.Order.{NoneBelow, noNames, oneMore, InOrder, noOrder, inOrder, Spot}
 use Rattle.slots.proofs.Holding.{bool-or, clash}
-use Rattle.slots.proofs.Ordering.{below-none, below-less, below-more, below-same, insert-here, insert-after, Inserting, insert-start, insert-end, insert-stop, insert-next, Sorting}
+use Rattle.byte_tests.proofs.Below.{below-none, below-less, below-more, below-same}
+use Rattle.slots.proofs.Ordering.{insert-here, insert-after, Inserting, insert-start, insert-end, insert-stop, insert-next, Sorting}
 
 -- ---- laws of the order
 

@@ -3,6 +3,7 @@ use names::index::find_from;
 use names::index::slot_bucket;
 use names::index::start;
 use names::spell::name_part;
+use numerals::places::SLOTS_FROM;
 ghost use mathlib.Core.Path.{_≡_};
 ghost use Prim.Native.Nat.{_+_, _-_, _≤_, _<_, _^_};
 ghost use lib.ListN.{length};
@@ -25,7 +26,7 @@ pub(crate) fn slot_of(tree: &[u8], slots: &[u32], at: usize, b: usize) -> usize
     ensures { λ r. ⌜ r ≡ foundOr (length (now (slots .entry)) - slotsFrom) (position (same (nameBytes (now (tree .entry)) at)) (slotNames (now (tree .entry)) (now (slots .entry)))) ⌝ }
 {
     let k = slots[b];
-    find_from(tree, &slots[2048..], k, name_part(tree, at))
+    find_from(tree, &slots[SLOTS_FROM..], k, name_part(tree, at))
 }
 
 // The first n slots with the name at `at`, whose bucket is b, unless they have it: how many they are then.
@@ -34,8 +35,8 @@ pub(crate) fn add_at(tree: &[u8], slots: &mut [u32], n: u32, at: usize, b: usize
     ensures { λ r. ⌜ Added r (now (tree .entry)) (now (slots .exit)) n (add (nameBytes (now (tree .entry)) at) (firstNames (now (tree .entry)) n (now (slots .entry)))) ⌝ }
 {
     let k = slots[b];
-    let end = 2048 + n as usize;
-    let i = find_from(tree, &slots[2048..end], k, name_part(tree, at));
+    let end = SLOTS_FROM + n as usize;
+    let i = find_from(tree, &slots[SLOTS_FROM..end], k, name_part(tree, at));
     if i < n as usize {
         return n;
     }

@@ -9,12 +9,15 @@ use crate::marks::mark_params;
 use crate::order::sort_names;
 use crate::skip::skip_expr;
 use crate::skip::skip_params;
+use numerals::expr;
+use numerals::places::SLOTS_FROM;
+use numerals::sizes::SLOTS_MOST;
+use numerals::sizes::SLOTS_ROOM;
 use parts::names::name_end;
 use parts::numbers::u16_at;
-ghost use mathlib.Core.Path.{_≡_};
 ghost use mathlib.Core.List.{_++_};
-ghost use Prim.Native.Nat.{_+_, _*_, _≤_, _<_, _^_};
-ghost use lib.ListN.{length, getD};
+ghost use Prim.Native.Nat.{_+_, _*_, _≤_, _<_};
+ghost use lib.ListN.{length};
 ghost use Rattle.definitions.specs.Slots.{captures};
 ghost use Rattle.state.specs.State.{slotsFrom, slotNames, Slots};
 ghost use Rattle.parts.specs.Places.{nameBytes, nameEnd, There, ParamsAt, paramsAt};
@@ -65,18 +68,18 @@ fn collect_referenced_vars(
     let kind = tree[at];
     let a = at + 1;
     match kind {
-        6 => keep_name(tree, a, parent, marks, places, n),
-        7 => collect_referenced_vars(tree, a + 1, depth - 1, parent, marks, places, n),
-        8 => refs_two(tree, a + 1, depth - 1, parent, marks, places, n),
-        9 => refs_call(tree, a, depth - 1, parent, marks, places, n),
-        10 => refs_attribute(tree, a, depth - 1, parent, marks, places, n),
-        11 => refs_list(tree, a, depth - 1, parent, marks, places, n),
-        12 => refs_dict(tree, a, depth - 1, parent, marks, places, n),
-        13 => refs_list(tree, a, depth - 1, parent, marks, places, n),
-        14 => refs_list(tree, a, depth - 1, parent, marks, places, n),
-        15 => refs_list(tree, a, depth - 1, parent, marks, places, n),
-        16 => refs_two(tree, a, depth - 1, parent, marks, places, n),
-        17 => refs_lambda(tree, a, depth - 1, parent, marks, places, n),
+        expr::VARIABLE => keep_name(tree, a, parent, marks, places, n),
+        expr::UNARY => collect_referenced_vars(tree, a + 1, depth - 1, parent, marks, places, n),
+        expr::BINARY => refs_two(tree, a + 1, depth - 1, parent, marks, places, n),
+        expr::CALL => refs_call(tree, a, depth - 1, parent, marks, places, n),
+        expr::ATTRIBUTE => refs_attribute(tree, a, depth - 1, parent, marks, places, n),
+        expr::LIST => refs_list(tree, a, depth - 1, parent, marks, places, n),
+        expr::DICT => refs_dict(tree, a, depth - 1, parent, marks, places, n),
+        expr::TUPLE => refs_list(tree, a, depth - 1, parent, marks, places, n),
+        expr::SET => refs_list(tree, a, depth - 1, parent, marks, places, n),
+        expr::TREE_SET => refs_list(tree, a, depth - 1, parent, marks, places, n),
+        expr::INDEX => refs_two(tree, a, depth - 1, parent, marks, places, n),
+        expr::LAMBDA => refs_lambda(tree, a, depth - 1, parent, marks, places, n),
         _ => Refs {
             next: skip_expr(tree, at, depth),
             n: n,
@@ -236,8 +239,8 @@ pub(crate) fn collect_free_vars(
     let mut marks = [0u8; 256];
     mark_params(tree, params, parent, &mut marks);
     let all = collect_referenced_vars(tree, body, depth, parent, &marks, places, 0);
-    let end = 2048 + all.n as usize;
-    sort_names(tree, &mut places[2048..end]);
+    let end = SLOTS_FROM + all.n as usize;
+    sort_names(tree, &mut places[SLOTS_FROM..end]);
     all.n
 }
 
@@ -257,12 +260,12 @@ pub fn lambda_slots(
     let Locals::Count(k) = begun else {
         return Locals::TooMany;
     };
-    let mut kept = [0u32; 2304];
+    let mut kept = [0u32; SLOTS_ROOM];
     let n = collect_free_vars(tree, params, body, depth, parent, &mut kept);
-    if 255 < k + n {
+    if SLOTS_MOST < k + n {
         return Locals::TooMany;
     }
-    let end = 2048 + n as usize;
-    append_slots(tree, slots, k, &kept[2048..end]);
+    let end = SLOTS_FROM + n as usize;
+    append_slots(tree, slots, k, &kept[SLOTS_FROM..end]);
     Locals::Count(k + n)
 }

@@ -5,6 +5,10 @@ use crate::index::index_slots;
 use crate::skip::skip_expr;
 use crate::skip::skip_stmt;
 use crate::skip::skip_value;
+use numerals::expr;
+use numerals::places::SLOTS_FROM;
+use numerals::sizes::SLOTS_MOST;
+use numerals::stmt;
 use parts::names::name_end;
 use parts::numbers::u16_at;
 ghost use mathlib.Core.Path.{_≡_};
@@ -14,7 +18,7 @@ ghost use Rattle.definitions.specs.Slots.{add, addTarget, addTargets, localsStm
 ghost use Rattle.parts.specs.Places.{nameBytes, nameEnd, namesFrom, AllThere, ParamsAt, paramsAt};
 ghost use Rattle.state.specs.State.{slotsFrom};
 ghost use Rattle.exprs.specs.ExprAt.{exprAt, exprsAt, ExprReads, ExprsRead, TwoAt, secondAt};
-ghost use Rattle.tree.specs.StmtAt.{stmtAt, blockAt, branchesAt, StmtReads, BlockReads, BranchesRead, BranchAt, bodyAt, IfAt, ifAt, elifsAt, ForAt, forAt};
+ghost use Rattle.tree.specs.StmtAt.{stmtAt, blockAt, branchesAt, StmtReads, BlockReads, BranchesRead, BranchAt, bodyAt, IfAt, elifsAt, ForAt};
 ghost use Rattle.slots.specs.Slotted.{leading, firstNames, Collected, Room, Gathers};
 
 // The next position in the tree and how many slots there are; or that there are more than 255.
@@ -29,7 +33,7 @@ fn gather_name(tree: &[u8], at: usize, next: usize, slots: &mut [u32], n: u32) -
     ensures { λ r. ⌜ Gathers r (now (tree .entry)) (now (slots .exit)) next (add (nameBytes (now (tree .entry)) at) (firstNames (now (tree .entry)) n (now (slots .entry)))) ⌝ }
 {
     let k = add_name(tree, slots, n, at);
-    if 255 < k {
+    if SLOTS_MOST < k {
         return Gathered::Over;
     }
     Gathered::Next(next, k)
@@ -42,11 +46,11 @@ fn gather_target(tree: &[u8], at: usize, depth: u32, slots: &mut [u32], n: u32) 
 {
     let kind = tree[at];
     let a = at + 1;
-    if kind == 6 {
+    if kind == expr::VARIABLE {
         let end = name_end(tree, a);
         return gather_name(tree, a, end, slots, n);
     }
-    if kind == 13 {
+    if kind == expr::TUPLE {
         let count = u16_at(tree, a);
         return gather_targets(tree, a + 2, depth - 1, count, slots, n);
     }
@@ -100,14 +104,14 @@ fn gather_plain(tree: &[u8], at: usize, depth: u32, slots: &mut [u32], n: u32) -
 {
     let kind = tree[at];
     let a = at + 1;
-    if kind < 3 {
+    if kind < stmt::EXPR {
         return Gathered::Next(a, n);
     }
-    if kind < 5 {
+    if kind < stmt::ASSIGN {
         let end = skip_value(tree, a, depth - 1);
         return Gathered::Next(end, n);
     }
-    if kind == 5 {
+    if kind == stmt::ASSIGN {
         return gather_assign(tree, a, depth - 1, slots, n);
     }
     let end = skip_stmt(tree, at, depth);
@@ -121,9 +125,9 @@ fn gather_stmt(tree: &[u8], at: usize, depth: u32, slots: &mut [u32], n: u32) ->
 {
     let kind = tree[at];
     match kind {
-        6 => gather_if(tree, at + 1, depth - 1, slots, n),
-        7 => gather_branch(tree, at + 1, depth - 1, slots, n),
-        8 => gather_for(tree, at + 1, depth - 1, slots, n),
+        stmt::IF => gather_if(tree, at + 1, depth - 1, slots, n),
+        stmt::WHILE => gather_branch(tree, at + 1, depth - 1, slots, n),
+        stmt::FOR => gather_for(tree, at + 1, depth - 1, slots, n),
         _ => gather_plain(tree, at, depth, slots, n),
     }
 }
@@ -243,10 +247,10 @@ pub(crate) fn put_params(tree: &[u8], at: usize, slots: &mut [u32]) -> Locals
     ensures { λ r. ⌜ Collected r (now (tree .entry)) (now (slots .exit)) (paramsAt (now (tree .entry)) at .value) ⌝ }
 {
     let count = u16_at(tree, at);
-    if 255 < count {
+    if SLOTS_MOST < count {
         return Locals::TooMany;
     }
-    place_names(tree, at + 2, count, &mut slots[2048..]);
+    place_names(tree, at + 2, count, &mut slots[SLOTS_FROM..]);
     index_slots(tree, slots, count);
     Locals::Count(count)
 }

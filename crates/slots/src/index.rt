@@ -1,5 +1,6 @@
 // The index of slots, made anew.
 use crate::add::bucket_at;
+use numerals::places::SLOTS_FROM;
 ghost use mathlib.Core.Path.{_≡_};
 ghost use Prim.Native.Nat.{_+_, _≤_};
 ghost use lib.ListN.{length, take};
@@ -14,7 +15,7 @@ pub(crate) fn index_slots(tree: &[u8], slots: &mut [u32], n: u32)
     let mut i = n;
     while 0 < i {
         let j = i - 1;
-        let at = slots[2048 + j as usize] as usize;
+        let at = slots[SLOTS_FROM + j as usize] as usize;
         let b = bucket_at(tree, at);
         slots[b] = i;
         i = j;
@@ -38,7 +39,7 @@ pub(crate) fn append_slots(tree: &[u8], slots: &mut [u32], k: u32, more: &[u32])
     requires { ⌜ (k + length (now more) ≤ 255) × (slotsFrom + 256 ≤ length (now slots)) ⌝ }
     ensures { λ r. ⌜ Appended (now (tree .entry)) k (now (more .entry)) (now (slots .entry)) (now (slots .exit)) ⌝ }
 {
-    let from = 2048 + k as usize;
+    let from = SLOTS_FROM + k as usize;
     copy_places(more, &mut slots[from..]);
     index_slots(tree, slots, k + more.len() as u32);
 }

@@ -1,6 +1,7 @@
 // Which slots of the parent have names that are parameters of a lambda around: a byte for each, not 0 where it is so.
 use crate::add::bucket_at;
 use crate::add::slot_of;
+use numerals::places::SLOTS_FROM;
 use parts::names::name_end;
 use parts::numbers::u16_at;
 ghost use mathlib.Core.Path.{_≡_};
@@ -16,7 +17,7 @@ fn mark_name(tree: &[u8], at: usize, parent: &[u32], marks: &mut [u8; 256])
 {
     let b = bucket_at(tree, at);
     let i = slot_of(tree, parent, at, b);
-    if i < parent.len() - 2048 {
+    if i < parent.len() - SLOTS_FROM {
         marks[i] = 1;
     }
 }
@@ -36,7 +37,7 @@ fn mark_names(tree: &[u8], from: usize, count: u32, parent: &[u32], marks: &mut 
 }
 
 // Those of the parameters at `params`.
-pub fn mark_params(tree: &[u8], params: usize, parent: &[u32], marks: &mut [u8; 256])
+pub(crate) fn mark_params(tree: &[u8], params: usize, parent: &[u32], marks: &mut [u8; 256])
     requires { ⌜ Slots (now tree) (now parent) × ParamsAt (now tree) params ⌝ }
     ensures { λ _. ⌜ now (marks .exit) ≡ markAll (slotNames (now (tree .entry)) (now (parent .entry))) (paramsAt (now (tree .entry)) params .value) (now (marks .entry)) ⌝ }
 {
@@ -45,12 +46,12 @@ pub fn mark_params(tree: &[u8], params: usize, parent: &[u32], marks: &mut [u8; 
 }
 
 // Whether the name at `at`, whose bucket is b, has a slot that is not marked.
-pub fn is_free(tree: &[u8], at: usize, b: usize, parent: &[u32], marks: &[u8; 256]) -> bool
+pub(crate) fn is_free(tree: &[u8], at: usize, b: usize, parent: &[u32], marks: &[u8; 256]) -> bool
     requires { ⌜ Slots (now tree) (now parent) × IsBucket b (now tree) at ⌝ }
     ensures { λ r. ⌜ r ≡ isFree (slotNames (now (tree .entry)) (now (parent .entry))) (now (marks .entry)) (nameBytes (now (tree .entry)) at) ⌝ }
 {
     let i = slot_of(tree, parent, at, b);
-    if i < parent.len() - 2048 {
+    if i < parent.len() - SLOTS_FROM {
         return marks[i] == 0;
     }
     false

@@ -1,33 +1,13 @@
 // Names in byte order.
+use byte_tests::below_bytes;
 use names::spell::name_part;
 ghost use mathlib.Core.Path.{_≡_};
 ghost use Prim.Native.Nat.{_<_};
 ghost use lib.ListN.{length, drop, getD};
-ghost use Rattle.definitions.specs.Bytes.{below};
 ghost use Rattle.definitions.specs.Slots.{insert, sort};
 ghost use Rattle.state.specs.Words.{nameAt};
 ghost use Rattle.state.specs.State.{namesAt};
 ghost use Rattle.slots.specs.Order.{InOrder, Spot};
-
-// Whether the first bytes come before the second.
-pub(crate) fn is_below(a: &[u8], b: &[u8]) -> bool
-    ensures { λ r. ⌜ r ≡ below (now (a .entry)) (now (b .entry)) ⌝ }
-{
-    let mut i = 0;
-    while i < b.len() {
-        if a.len() <= i {
-            return true;
-        }
-        if a[i] < b[i] {
-            return true;
-        }
-        if b[i] < a[i] {
-            return false;
-        }
-        i += 1;
-    }
-    false
-}
 
 // How many of the names after the first, which are in order, the first does not come before.
 fn find_spot(tree: &[u8], places: &[u32]) -> usize
@@ -39,7 +19,7 @@ fn find_spot(tree: &[u8], places: &[u32]) -> usize
     let mut high = places.len() - 1;
     while low < high {
         let middle = (low + high) / 2;
-        if is_below(name, name_part(tree, places[middle + 1] as usize)) {
+        if below_bytes(name, name_part(tree, places[middle + 1] as usize)) {
             high = middle;
         } else {
             low = middle + 1;

@@ -1,4 +1,6 @@
 // Where the parts of an accepted tree end: only kinds, counts and lengths are read.
+use numerals::expr;
+use numerals::stmt;
 use parts::names::name_end;
 use parts::numbers::u16_at;
 ghost use mathlib.Core.Path.{_≡_};
@@ -37,21 +39,21 @@ pub fn skip_expr(tree: &[u8], at: usize, depth: u32) -> usize
     let kind = tree[at];
     let a = at + 1;
     match kind {
-        3 => a + 8,
-        4 => a + 8,
-        5 => text_end(tree, a),
-        6 => name_end(tree, a),
-        7 => skip_expr(tree, a + 1, depth - 1),
-        8 => skip_two(tree, a + 1, depth - 1),
-        9 => skip_call(tree, a, depth - 1),
-        10 => skip_attribute(tree, a, depth - 1),
-        11 => skip_list(tree, a, depth - 1),
-        12 => skip_dict(tree, a, depth - 1),
-        13 => skip_list(tree, a, depth - 1),
-        14 => skip_list(tree, a, depth - 1),
-        15 => skip_list(tree, a, depth - 1),
-        16 => skip_two(tree, a, depth - 1),
-        17 => skip_lambda(tree, a, depth - 1),
+        expr::INT => a + 8,
+        expr::FLOAT => a + 8,
+        expr::STRING => text_end(tree, a),
+        expr::VARIABLE => name_end(tree, a),
+        expr::UNARY => skip_expr(tree, a + 1, depth - 1),
+        expr::BINARY => skip_two(tree, a + 1, depth - 1),
+        expr::CALL => skip_call(tree, a, depth - 1),
+        expr::ATTRIBUTE => skip_attribute(tree, a, depth - 1),
+        expr::LIST => skip_list(tree, a, depth - 1),
+        expr::DICT => skip_dict(tree, a, depth - 1),
+        expr::TUPLE => skip_list(tree, a, depth - 1),
+        expr::SET => skip_list(tree, a, depth - 1),
+        expr::TREE_SET => skip_list(tree, a, depth - 1),
+        expr::INDEX => skip_two(tree, a, depth - 1),
+        expr::LAMBDA => skip_lambda(tree, a, depth - 1),
         _ => a,
     }
 }
@@ -62,13 +64,13 @@ pub(crate) fn skip_value(tree: &[u8], at: usize, depth: u32) -> usize
     ensures { λ r. ⌜ r ≡ exprAt depth (now (tree .entry)) at .end ⌝ }
 {
     let kind = tree[at];
-    if kind < 3 {
+    if kind < expr::INT {
         return at + 1;
     }
-    if kind < 5 {
+    if kind < expr::STRING {
         return at + 9;
     }
-    if kind == 6 {
+    if kind == expr::VARIABLE {
         return name_end(tree, at + 1);
     }
     skip_expr(tree, at, depth)
@@ -150,14 +152,14 @@ pub fn skip_stmt(tree: &[u8], at: usize, depth: u32) -> usize
     let kind = tree[at];
     let a = at + 1;
     match kind {
-        3 => skip_expr(tree, a, depth - 1),
-        4 => skip_expr(tree, a, depth - 1),
-        5 => skip_two(tree, a, depth - 1),
-        6 => skip_if(tree, a, depth - 1),
-        7 => skip_branch(tree, a, depth - 1),
-        8 => skip_for(tree, a, depth - 1),
-        9 => skip_def(tree, a, depth - 1),
-        10 => skip_class(tree, a, depth - 1),
+        stmt::EXPR => skip_expr(tree, a, depth - 1),
+        stmt::RETURN => skip_expr(tree, a, depth - 1),
+        stmt::ASSIGN => skip_two(tree, a, depth - 1),
+        stmt::IF => skip_if(tree, a, depth - 1),
+        stmt::WHILE => skip_branch(tree, a, depth - 1),
+        stmt::FOR => skip_for(tree, a, depth - 1),
+        stmt::DEF => skip_def(tree, a, depth - 1),
+        stmt::CLASS => skip_class(tree, a, depth - 1),
         _ => a,
     }
 }

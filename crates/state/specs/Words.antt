@@ -41,7 +41,7 @@ secondOf w = w % 2 ^ 8
 unfoldable pub widened : ℕ → ℕ
 widened a = elim (ltb a (2 ^ 15)) [ true ↦ a | false ↦ a + (2 ^ 32 - 2 ^ 16) ]
 
--- the opcode of a word whose integer is its operand: an index of a tuple target. ConstI64's own operand is the place of the integer in the tree
+-- the opcode of a word whose integer is its operand: one below 2 ^ 16. ConstI64's own operand is the place of the integer in the tree
 abbrev pub smallInt : ℕ
 smallInt = 48
 

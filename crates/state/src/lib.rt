@@ -1,7 +1,7 @@
 // What the lowering keeps in the slices lent to it.
 
 // How much of each table is used, and of the two halves of the code area: `open` words of functions not done yet, of which the innermost begins at
-// `base`, and `done` words of finished ones. `open` changes with every word: the eight before it are copied whole.
+// `base`, and `done` words of finished ones. The emission keeps these in lent numbers; so the module's writer takes them.
 pub struct Counts {
     pub symbols: u32,
     pub strings: u32,

@@ -14,11 +14,11 @@ use Rattle.definitions.specs.Bytes.{Answer, refused, accepted, whenAccepted, Pa
 use Rattle.definitions.specs.Tree.{Block, []ᵇ}
 use Rattle.definitions.specs.Parse.{parseStmt, blockOf, wholeBlock, readTree}
 use Rattle.definitions.specs.Wellformed.{askBlock, blockQuestions, firstNo, refusedBy, wellFormed, checkTree}
-use Rattle.parts.specs.Places.{Node, node, nodeAt, Reads}
+use Rattle.parts.specs.Places.{Node, node}
 use Rattle.parts.proofs.Laws.{le-or-gt}
 use Rattle.parts.proofs.Nodes.{got-node, got-reads}
 use Rattle.tree.specs.Settled.{said, withoutBlock, settled, Headed}
-use Rattle.tree.specs.StmtAt.{blockAt, BlockReads, TreeAt}
+use Rattle.tree.specs.StmtAt.{blockAt, TreeAt}
 use Rattle.tree.specs.declared.Checked.{Checked}
 use Rattle.tree.specs.declared.Checked.the-variants.{Accepted, Refused}
 use Rattle.tree.proofs.TreeLaws.{head-two, head-three, head-count, head-four, head-version, head-fine}

@@ -1,17 +1,17 @@
 -- The statement that stands at a position, for each kind: what an accepted one holds, by position, and the node made of it. In all of these d is
 -- the number of levels left for the expressions and statements held, and p the position after the kind byte.
-use Prim.Native.Nat.{ℕ, zero, suc, _+_, _-_, _<_, _≤_}
+use Prim.Native.Nat.{ℕ, _+_, _-_, _<_, _≤_}
 use mathlib.Core.Path.{_≡_}
 use mathlib.Core.Bool.{true, false}
 use mathlib.Core.List.{List, [], _∷_}
 use lib.ListN.{length, getD}
-use Rattle.definitions.specs.Bytes.{Name, accepted, counted, listOf}
-use Rattle.definitions.specs.Tree.{Expr, Attribute, Stmt, break, continue, pass, expr, return, assign, if, while, for, def, class}
+use Rattle.definitions.specs.Bytes.{accepted, counted, listOf}
+use Rattle.definitions.specs.Tree.{Attribute, Stmt, pass, expr, return, assign, if, while, for, def, class}
 use Rattle.definitions.specs.Tree.{Block, []ᵇ, _∷ᵇ_, Branches, done, else, when, Methods, []ᵐ, method}
 use Rattle.definitions.specs.Parse.{parseExpr, parseStmt, blockOf, branches, methods, attribute}
 use Rattle.definitions.specs.Wellformed.{askBlock, blockQuestions, checkTree}
 use Rattle.parts.specs.Places.{Node, node, nodeAt, Reads, countAt, Counted, nameBytes, nameEnd, There, ParamsAt, paramsAt}
-use Rattle.exprs.specs.ExprAt.{exprAt, ExprReads, TwoAt, secondAt}
+use Rattle.exprs.specs.ExprAt.{exprAt, ExprReads, secondAt}
 
 -- the statement at p with d levels left, the block at p, n statements from p on
 abbrev pub stmtAt : ℕ → List ℕ → ℕ → Node Stmt

@@ -1,5 +1,7 @@
 // Statements by position: questions 5 to 13.
 use exprs::check_expr;
+use numerals::expr;
+use numerals::stmt;
 use parts::Number;
 use parts::Passed;
 use parts::Role;
@@ -20,7 +22,7 @@ fn check_target(tree: &[u8], at: usize, depth: u32, stand: u32) -> Passed
 {
     if depth != 0 {
         if at < tree.len() {
-            if tree[at] == 6 {
+            if tree[at] == expr::VARIABLE {
                 return check_name(tree, at + 1, stand);
             }
         }
@@ -35,7 +37,7 @@ fn check_assigned(tree: &[u8], at: usize, depth: u32, stand: u32) -> Passed
 {
     if depth != 0 {
         if at < tree.len() {
-            if tree[at] < 3 {
+            if tree[at] < expr::INT {
                 return Passed::Next(at + 1, stand);
             }
         }
@@ -112,17 +114,17 @@ pub(crate) fn check_stmt(tree: &[u8], at: usize, depth: u32, looped: bool, stand
     }
     let kind = tree[at];
     match kind {
-        0 => return Passed::Next(at + 1, noted(stand, 9, looped)),
-        1 => return Passed::Next(at + 1, noted(stand, 9, looped)),
-        2 => return Passed::Next(at + 1, stand),
-        3 => return check_expr(tree, at + 1, depth - 1, Role::Value, stand),
-        4 => return check_expr(tree, at + 1, depth - 1, Role::Value, stand),
-        5 => return check_assign(tree, at + 1, depth - 1, stand),
-        6 => return check_if(tree, at + 1, depth - 1, looped, stand),
-        7 => return check_branch(tree, at + 1, depth - 1, true, stand),
-        8 => return check_for(tree, at + 1, depth - 1, stand),
-        9 => return check_def(tree, at + 1, depth - 1, stand),
-        10 => return check_class(tree, at + 1, depth - 1, stand),
+        stmt::BREAK => return Passed::Next(at + 1, noted(stand, 9, looped)),
+        stmt::CONTINUE => return Passed::Next(at + 1, noted(stand, 9, looped)),
+        stmt::PASS => return Passed::Next(at + 1, stand),
+        stmt::EXPR => return check_expr(tree, at + 1, depth - 1, Role::Value, stand),
+        stmt::RETURN => return check_expr(tree, at + 1, depth - 1, Role::Value, stand),
+        stmt::ASSIGN => return check_assign(tree, at + 1, depth - 1, stand),
+        stmt::IF => return check_if(tree, at + 1, depth - 1, looped, stand),
+        stmt::WHILE => return check_branch(tree, at + 1, depth - 1, true, stand),
+        stmt::FOR => return check_for(tree, at + 1, depth - 1, stand),
+        stmt::DEF => return check_def(tree, at + 1, depth - 1, stand),
+        stmt::CLASS => return check_class(tree, at + 1, depth - 1, stand),
         _ => return Passed::Refused(5),
     }
 }

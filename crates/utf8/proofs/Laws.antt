@@ -1,8 +1,8 @@
 -- Bytes tested one by one. Assumes nothing.
-use Prim.Native.Nat.{ℕ, zero, suc, _+_, _<_, _≤_}
+use Prim.Native.Nat.{ℕ, zero, suc, _+_, _-_, _<_, _≤_}
 use mathlib.Core.Path.{_≡_, refl, sym, ap, _∙_}
-use mathlib.Core.Bool.{Bool, true, false, not, _&&_}
-use mathlib.Core.Option.{Option, none, some}
+use mathlib.Core.Bool.{Bool, true, false, _&&_}
+use mathlib.Core.Option.{none, some}
 use mathlib.Core.List.{List, [], _∷_}
 use native.Mathlib.Omega.{arith}
 use native.Mathlib.Numerals.{add-one}
@@ -209,6 +209,18 @@ at-byte t p h = drop-cons t p 0 h ∙ ap (λ (k : ℕ). getD t p 0 ∷ drop k t)
 pub ascii-more : (t : List ℕ) (i : ℕ) → i < length t → getD t i 0 < 0x80 → isUtf8 (drop i t) ≡ isUtf8 (drop (i + 1) t)
 unfolding isUtf8
 ascii-more t i h l = ap (goesOn []) (at-byte t i h) ∙ sym (begins-ascii (getD t i 0) l .on (drop (i + 1) t)) ∙ sym (from-begin (drop (i + 1) t))
+
+-- so one byte further, or four
+pub ascii-on : (t : List ℕ) (i j : ℕ) → i + 1 ≡ j → i < length t → getD t i 0 < 0x80 → IsFrom t i → IsFrom t j
+ascii-on t i j e h l F = record { place = omega (arith, e, h); same = F .same ∙ ascii-more t i h l ∙ ap (λ k. isUtf8 (drop k t)) e }
+
+pub ascii-four : (t : List ℕ) (i : ℕ) → 3 < length t - i → getD t i 0 < 0x80 → getD t (i + 1) 0 < 0x80 → getD t (i + 2) 0 < 0x80 → getD t (i + 3) 0 < 0x80 →
+    IsFrom t i → IsFrom t (i + 4)
+ascii-four t i h a b c d F =
+    ascii-on t (i + 3) (i + 4) (omega arith) (omega (arith, h)) d
+    (ascii-on t (i + 2) (i + 3) (omega arith) (omega (arith, h)) c
+    (ascii-on t (i + 1) (i + 2) (omega arith) (omega (arith, h)) b
+    (ascii-on t i (i + 1) (omega arith) (omega (arith, h)) a F)))
 
 -- a step on the next byte
 pub from-more : (t : List ℕ) (i due next : ℕ) → i < length t → Goes due (getD t i 0) next → from due (drop i t) ≡ from next (drop (i + 1) t)

@@ -90,11 +90,26 @@ fn step(due: u32, b: u8) -> u32
     }
 }
 
-// Where the bytes below 0x80 at the beginning end.
+// A place before which every byte is below 0x80: found four bytes at a time, the last three one by one.
 fn ascii_end(bytes: &[u8]) -> usize
     ensures { λ r. ⌜ IsFrom (now (bytes .entry)) r ⌝ }
 {
     let mut i = 0;
+    while 3 < bytes.len() - i {
+        if 0x80 <= bytes[i] {
+            return i;
+        }
+        if 0x80 <= bytes[i + 1] {
+            return i;
+        }
+        if 0x80 <= bytes[i + 2] {
+            return i;
+        }
+        if 0x80 <= bytes[i + 3] {
+            return i;
+        }
+        i += 4;
+    }
     while i < bytes.len() {
         if 0x80 <= bytes[i] {
             return i;

@@ -10,7 +10,7 @@ use borrow.Author.Tests.{eq-eqb, ne-eqb}
 use lib.ListN.{getD, List·getD-map, List·getD-eq-default}
 use Rattle.definitions.specs.Instruction.{Row, row, nothing, instructionTable, rowOf, firstWidth, secondWidth}
 use Rattle.definitions.proofs.Begins.{le-or-gt}
-use Rattle.widths.proofs.Table.{every, at}
+use Rattle.widths.proofs.Table.{at}
 
 -- an entry that is no key is 0
 pub no-key : (x : ℕ) (b : Bool) → T (eqb x 0 || b) → b ≡ false → 0 ≡ x

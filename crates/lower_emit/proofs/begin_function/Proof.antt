@@ -4,8 +4,6 @@ use Rattle.lower_emit.proofs.Functions.{begun-over, begun-more}
 use borrow.Author.Needs.{needs}
 use Rattle.lower_emit.proofs.begin_function.Statement.{statement}
 use Rattle.lower_emit.proofs.begin_function.Tie as tie
-use Rattle.lower_emit.proofs.begin_function.Reads as reads
-use Rattle.lower_emit.proofs.begin_function.Lts as lts
 
 pub begin-function-spec : {M : Type 1} → statement M
 begin-function-spec = tie.close (tie.spec

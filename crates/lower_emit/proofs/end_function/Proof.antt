@@ -2,9 +2,6 @@ use Rattle.lower_emit.proofs.Functions.{ended-is}
 use borrow.Author.Needs.{needs}
 use Rattle.lower_emit.proofs.end_function.Statement.{statement}
 use Rattle.lower_emit.proofs.end_function.Tie as tie
-use Rattle.lower_emit.proofs.end_function.Reads as reads
-use Rattle.lower_emit.proofs.end_function.Lts as lts
-use Rattle.lower_emit.proofs.move_words.Reads as move-words-reads
 
 pub end-function-spec : {M : Type 1} → statement M
 end-function-spec = tie.close (tie.spec

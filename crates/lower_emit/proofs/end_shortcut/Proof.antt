@@ -4,9 +4,6 @@ use Rattle.lower_emit.proofs.Steps.{shortcut-none, shortcut-more}
 use borrow.Author.Needs.{needs}
 use Rattle.lower_emit.proofs.end_shortcut.Statement.{statement}
 use Rattle.lower_emit.proofs.end_shortcut.Tie as tie
-use Rattle.lower_emit.proofs.end_shortcut.Reads as reads
-use Rattle.lower_emit.proofs.end_shortcut.Lts as lts
-use Rattle.lower_emit.proofs.packed.Reads as packed-reads
 
 pub end-shortcut-spec : {M : Type 1} → statement M
 end-shortcut-spec = tie.close (tie.spec

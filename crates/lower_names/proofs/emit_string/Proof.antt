@@ -1,5 +1,4 @@
 use native.Mathlib.Omega.{arith}
-use mathlib.Core.Path.{_≡_, refl, sym, ap, _∙_}
 use Rattle.definitions.specs.Instruction.{ConstStr}
 use Rattle.lower_emit.proofs.Packing.{instr-plain, plain-below}
 use Rattle.lower_emit.proofs.Steps.{put-lifts}

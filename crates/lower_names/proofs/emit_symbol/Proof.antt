@@ -1,5 +1,5 @@
 use native.Mathlib.Omega.{arith}
-use mathlib.Core.Path.{_≡_, refl, sym, ap, _∙_}
+use mathlib.Core.Path.{sym, _∙_}
 use Rattle.definitions.specs.Instruction.{instr}
 use Rattle.state.specs.Words.{nameAt}
 use Rattle.lower_emit.proofs.Packing.{instr-plain}

@@ -1,6 +1,6 @@
 use Prim.Native.Nat.{ℕ}
 use native.Mathlib.Omega.{arith}
-use mathlib.Core.Path.{_≡_, refl, sym, ap, _∙_}
+use mathlib.Core.Path.{sym, ap, _∙_}
 use lib.ListN.{getD, drop, length-drop}
 use Rattle.definitions.specs.Bytes.{same, position}
 use Rattle.state.specs.Words.{nameAt}

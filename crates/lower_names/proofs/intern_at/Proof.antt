@@ -1,4 +1,4 @@
-use mathlib.Core.Path.{_≡_, refl, sym, ap, _∙_}
+use mathlib.Core.Path.{_∙_}
 use Rattle.lower_names.proofs.Symbols.{made-spelt}
 use borrow.Author.Needs.{needs}
 use Rattle.lower_names.proofs.intern_at.Statement.{statement}

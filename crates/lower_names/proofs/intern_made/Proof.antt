@@ -1,5 +1,5 @@
 use native.Mathlib.Omega.{arith}
-use mathlib.Core.Path.{_≡_, refl, sym, ap, _∙_}
+use mathlib.Core.Path.{refl}
 use Rattle.lower_names.proofs.Symbols.{naming-made, made-within, interns-made}
 use borrow.Author.Needs.{needs}
 use Rattle.lower_names.proofs.intern_made.Statement.{statement}

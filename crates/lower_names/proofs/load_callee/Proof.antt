@@ -1,4 +1,4 @@
-use mathlib.Core.Path.{_≡_, refl, sym, ap, _∙_}
+use mathlib.Core.Path.{refl}
 use Rattle.lower_emit.proofs.Steps.{lowers-by, lowers-nothing}
 use Rattle.lower_names.proofs.Callees.{load-builtin, load-function, load-value}
 use borrow.Author.Needs.{needs}

@@ -1,6 +1,6 @@
 use Prim.Native.Nat.{_+_, _-_}
 use native.Mathlib.Omega.{arith}
-use mathlib.Core.Path.{_≡_, refl, sym, ap, _∙_}
+use mathlib.Core.Path.{_≡_, ap, _∙_}
 use lib.ListN.{getD}
 use Rattle.definitions.specs.Bytes.{Name}
 use Rattle.definitions.specs.Builtins.{builtin}

@@ -1,9 +1,9 @@
 use borrow.Author.Needs.{needs}
 use native.Mathlib.Omega.{arith}
-use mathlib.Core.Path.{_≡_, ap}
+use mathlib.Core.Path.{ap}
 use mathlib.Core.List.{List, [], _∷_, _++_}
-use Prim.Native.Nat.{ℕ, _+_, _-_}
-use lib.ListN.{length, length-append}
+use Prim.Native.Nat.{ℕ, _-_}
+use lib.ListN.{length-append}
 use Rattle.definitions.specs.Bytes.{be}
 use Rattle.definitions.proofs.BytesWritten.{length-be}
 use Rattle.writing.proofs.Begun.{Begun, joined-one, begun-first, begun-length, begun-fits, begun-number, begun-next, begun-done}

@@ -1,9 +1,6 @@
 use borrow.Author.Needs.{needs}
 use native.Mathlib.Omega.{arith}
-use mathlib.Core.Path.{_≡_}
-use mathlib.Core.List.{List, [], _∷_}
-use Prim.Native.Nat.{ℕ, _+_, _≤_}
-use lib.ListN.{length}
+use mathlib.Core.List.{[], _∷_}
 use Rattle.definitions.specs.Module.{moduleBytes}
 use Rattle.state.specs.State.{tablesOf}
 use Rattle.module.specs.Sections.{textsBytes, bodiesBytes}

@@ -1,9 +1,8 @@
 use native.Mathlib.Omega.{arith}
-use Prim.Native.Nat.{ℕ, _+_, _-_, _≤_, _<_}
+use Prim.Native.Nat.{ℕ, _+_, _-_}
 use mathlib.Core.Path.{_≡_, refl, _∙_, ap}
-use mathlib.Core.List.{List}
 use borrow.Author.Needs.{needs}
-use lib.ListN.{length, take, drop}
+use lib.ListN.{take, drop}
 use Rattle.reader.proofs.Deciding.{part-code, part-none, begins-code, begins-none, inside-code}
 use Rattle.reader.proofs.part_of.Statement.{statement}
 use Rattle.reader.proofs.part_of.Tie as tie

@@ -1,15 +1,12 @@
-use mathlib.Core.Path.{_≡_, refl, sym, ap, _∙_}
-use Prim.Native.Nat.{ℕ, _+_, _-_, _≤_, _<_}
+use mathlib.Core.Path.{_≡_, refl, sym, _∙_}
+use Prim.Native.Nat.{_-_, _≤_}
 use native.Mathlib.Omega.{arith}
-use borrow.Author.Needs.{needs}
 use lib.ListN.{length}
 use lib.ListN.{drop}
 use Rattle.definitions.specs.Calls.{areAnswers}
 use Rattle.run.proofs.Calling.{answer-stands, answer-falls, answers-end}
 use Rattle.run.proofs.are_answers.Statement.{statement}
 use Rattle.run.proofs.are_answers.Tie as tie
-use Rattle.run.proofs.are_answers.Reads as reads
-use Rattle.run.proofs.are_answers.Lts as lts
 
 abbrev Inv-loop : tie.InvT-loop
 Inv-loop answers i₀ i = (i ≤ length answers) × (areAnswers answers ≡ areAnswers (drop i answers))

@@ -1,8 +1,6 @@
 use Rattle.utf8.proofs.Laws.{begins-ascii, begins-low, begins-two, begins-E0, begins-three, begins-ED, begins-three-high, begins-F0, begins-four, begins-F4, begins-over}
 use Rattle.utf8.proofs.begin.Statement.{statement}
 use Rattle.utf8.proofs.begin.Tie as tie
-use Rattle.utf8.proofs.begin.Reads as reads
-use Rattle.utf8.proofs.begin.Lts as lts
 
 pub begin-spec : {M : Type 1} → statement M
 begin-spec = tie.close (tie.spec

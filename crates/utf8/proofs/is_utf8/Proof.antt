@@ -1,17 +1,13 @@
-use mathlib.Core.Path.{_≡_, refl, sym, _∙_}
+use mathlib.Core.Path.{_≡_, sym, _∙_}
 use native.Mathlib.Omega.{arith}
 use borrow.Author.Needs.{needs}
-use Prim.Native.Nat.{ℕ, _-_}
+use Prim.Native.Nat.{_-_}
 use lib.ListN.{length, drop}
 use Rattle.definitions.specs.Utf8.{isUtf8}
 use Rattle.utf8.specs.Due.{from}
 use Rattle.utf8.proofs.Laws.{from-begin, from-more, from-last}
 use Rattle.utf8.proofs.is_utf8.Statement.{statement}
 use Rattle.utf8.proofs.is_utf8.Tie as tie
-use Rattle.utf8.proofs.is_utf8.Reads as reads
-use Rattle.utf8.proofs.is_utf8.Lts as lts
-use Rattle.utf8.proofs.ascii_end.Reads as ascii-end-reads
-use Rattle.utf8.proofs.step.Reads as step-reads
 
 abbrev Inv-loop : tie.InvT-loop
 Inv-loop bytes i₀ due₀ i due = isUtf8 bytes ≡ from due (drop i bytes)

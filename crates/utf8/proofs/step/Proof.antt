@@ -1,4 +1,4 @@
-use mathlib.Core.Path.{_≡_, refl}
+use mathlib.Core.Path.{refl}
 use native.Mathlib.Omega.{arith}
 use borrow.Author.Needs.{needs}
 use Rattle.definitions.specs.Utf8.{range}
@@ -6,10 +6,6 @@ use Rattle.utf8.specs.Due.{dues}
 use Rattle.utf8.proofs.Laws.{goes-begin, goes-within, goes-nothing, up}
 use Rattle.utf8.proofs.step.Statement.{statement}
 use Rattle.utf8.proofs.step.Tie as tie
-use Rattle.utf8.proofs.step.Reads as reads
-use Rattle.utf8.proofs.step.Lts as lts
-use Rattle.utf8.proofs.begin.Reads as begin-reads
-use Rattle.utf8.proofs.within.Reads as within-reads
 
 pub step-spec : {M : Type 1} → statement M
 unfolding dues

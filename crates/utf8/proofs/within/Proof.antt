@@ -1,8 +1,6 @@
 use Rattle.utf8.proofs.Laws.{in-range, below-range, above-range, choose-yes, choose-no}
 use Rattle.utf8.proofs.within.Statement.{statement}
 use Rattle.utf8.proofs.within.Tie as tie
-use Rattle.utf8.proofs.within.Reads as reads
-use Rattle.utf8.proofs.within.Lts as lts
 
 pub within-spec : {M : Type 1} → statement M
 within-spec = tie.close (tie.spec

@@ -1,13 +1,10 @@
-use Prim.Native.Nat.{ℕ, _+_, _-_, _≤_, _<_}
+use Prim.Native.Nat.{_-_}
 use native.Mathlib.Omega.{arith}
 use borrow.Author.Needs.{needs}
 use Rattle.exprs.specs.Constants.{Constants}
 use Rattle.exprs.proofs.ConstantLaws.{constants-none, constants-more}
 use Rattle.exprs.proofs.constants.leading_constants.Statement.{statement}
 use Rattle.exprs.proofs.constants.leading_constants.Tie as tie
-use Rattle.exprs.proofs.constants.leading_constants.Reads as reads
-use Rattle.exprs.proofs.constants.leading_constants.Lts as lts
-use Rattle.exprs.proofs.constants.smaller.Reads as smaller-reads
 
 abbrev Inv-loop : tie.InvT-loop
 Inv-loop tree at n end k₀ k = Constants tree n at k

@@ -3,9 +3,6 @@ use native.Mathlib.Omega.{arith}
 use Rattle.exprs.proofs.ConstantLaws.{pass-none, pass-constants}
 use Rattle.exprs.proofs.constants.skip_constants.Statement.{statement}
 use Rattle.exprs.proofs.constants.skip_constants.Tie as tie
-use Rattle.exprs.proofs.constants.skip_constants.Reads as reads
-use Rattle.exprs.proofs.constants.skip_constants.Lts as lts
-use Rattle.exprs.proofs.constants.leading_constants.Reads as leading-constants-reads
 
 pub skip-constants-spec : {M : Type 1} → statement M
 skip-constants-spec = tie.close (tie.spec

@@ -2,9 +2,6 @@ use Rattle.exprs.proofs.LiteralLaws.{eight-is}
 use borrow.Author.Needs.{needs}
 use Rattle.exprs.proofs.literals.eight_at.Statement.{statement}
 use Rattle.exprs.proofs.literals.eight_at.Tie as tie
-use Rattle.exprs.proofs.literals.eight_at.Reads as reads
-use Rattle.exprs.proofs.literals.eight_at.Lts as lts
-use Rattle.parts.proofs.numbers.u16_at.Reads as u16-at-reads
 
 pub eight-at-spec : {M : Type 1} → statement M
 eight-at-spec = tie.close (tie.spec

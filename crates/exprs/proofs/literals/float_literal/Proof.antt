@@ -6,8 +6,6 @@ use Rattle.exprs.specs.Literals.{literalOf, Plain}
 use Rattle.exprs.proofs.LiteralLaws.{no-nan}
 use Rattle.exprs.proofs.literals.float_literal.Statement.{statement}
 use Rattle.exprs.proofs.literals.float_literal.Tie as tie
-use Rattle.exprs.proofs.literals.float_literal.Reads as reads
-use Rattle.exprs.proofs.literals.float_literal.Lts as lts
 
 pub float-literal-spec : {M : Type 1} → statement M
 unfolding literalOf Plain

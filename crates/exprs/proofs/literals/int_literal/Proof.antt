@@ -7,8 +7,6 @@ use Rattle.exprs.proofs.Signed.{upper-fits, upper-bits}
 use borrow.Author.Needs.{needs}
 use Rattle.exprs.proofs.literals.int_literal.Statement.{statement}
 use Rattle.exprs.proofs.literals.int_literal.Tie as tie
-use Rattle.exprs.proofs.literals.int_literal.Reads as reads
-use Rattle.exprs.proofs.literals.int_literal.Lts as lts
 
 pub int-literal-spec : {M : Type 1} → statement M
 unfolding literalOf Plain

@@ -2,12 +2,6 @@ use Rattle.exprs.proofs.LiteralLaws.{literal-inside, eight-of-int, eigh
 use borrow.Author.Needs.{needs}
 use Rattle.exprs.proofs.literals.literal_at.Statement.{statement}
 use Rattle.exprs.proofs.literals.literal_at.Tie as tie
-use Rattle.exprs.proofs.literals.literal_at.Reads as reads
-use Rattle.exprs.proofs.literals.literal_at.Lts as lts
-use Rattle.exprs.proofs.literals.eight_at.Reads as eight-at-reads
-use Rattle.exprs.proofs.literals.float_literal.Reads as float-literal-reads
-use Rattle.exprs.proofs.literals.int_literal.Reads as int-literal-reads
-use Rattle.parts.proofs.numbers.u16_at.Reads as u16-at-reads
 
 pub literal-at-spec : {M : Type 1} → statement M
 literal-at-spec = tie.close (tie.spec

@@ -1,13 +1,9 @@
 use mathlib.Core.Path.{sym, ap, _∙_}
-use mir.Syntax.{w64}
-use mir.Val.{SFits}
 use Rattle.exprs.specs.Literals.{bitsOf, Plain}
 use Rattle.exprs.proofs.Signed.{low-fits, low-cast, low-sum, low-bits, high-cast, high-bits}
 use borrow.Author.Needs.{needs}
 use Rattle.exprs.proofs.literals.literal_bits.Statement.{statement}
 use Rattle.exprs.proofs.literals.literal_bits.Tie as tie
-use Rattle.exprs.proofs.literals.literal_bits.Reads as reads
-use Rattle.exprs.proofs.literals.literal_bits.Lts as lts
 
 pub literal-bits-spec : {M : Type 1} → statement M
 unfolding bitsOf Plain

@@ -2,15 +2,14 @@ use Rattle.parts.specs.Places.{nameEnd}
 use borrow.Author.Needs.{needs}
 use native.Mathlib.Omega.{arith}
 use mathlib.Core.Logic.{inl, inr}
-use mathlib.Core.Path.{_≡_, refl, sym, ap, _∙_, subst}
-use Prim.Native.Nat.{ℕ, _+_, _*_, _≤_, _<_}
+use mathlib.Core.Path.{refl, ap, _∙_}
+use Prim.Native.Nat.{ℕ, _+_, _*_, _<_}
 use Rattle.exprs.proofs.ExprViews.{expr-inside, expr-deep, expr-known, view-unary, view-binary, view-call, view-attribute, view-list, view-dict, view-tuple, view-set, view-tree-set, view-index, view-lambda, view-exprs-more}
-use Rattle.exprs.specs.ExprAt.{exprAt}
 use Rattle.state.specs.State.{slotNames}
 use Rattle.slots.proofs.Referring.{list-reads, list-is, dict-reads, dict-is, body-there}
-use Rattle.fits.proofs.Walking.{walks-as, walks-next, walks-over, next-walks, over-walks, first-over, second-walks, left-start, left-next, left-over, left-done, lambda-over, slots-few, inner-short, lambda-inside}
+use Rattle.fits.proofs.Walking.{walks-next, walks-over, next-walks, over-walks, first-over, second-walks, left-start, left-next, left-over, left-done, lambda-over, slots-few, inner-short}
 use Rattle.fits.proofs.ExprKinds.{fits-unary, fits-binary, fits-call, fits-attribute, fits-dict, fits-display, fits-index, fits-lambda, fits-simple, fits-plain, simple-kinds, second-there, list-there, name-there, second-moved, list-moved, fits-list, ExprsLeft, exprs-step, exprs-end, exprs-ok, collected-at, lambda-body, long-enough}
-use Prim.Native.Nat.{ℕ, _<_}
+use Prim.Native.Nat.{ℕ}
 use borrow.Fn.Kinds.{In}
 use borrow.Fn.PlainCycle.{Measures, is, falls, and}
 use Rattle.fits.proofs.expressions.fits_attribute.Reads as fits-attribute

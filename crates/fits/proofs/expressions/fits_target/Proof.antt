@@ -1,13 +1,8 @@
 use Rattle.fits.proofs.ExprKinds.{target-attribute, target-index, target-other}
 use Rattle.exprs.proofs.ExprViews.{expr-inside}
 use native.Mathlib.Omega.{arith}
-use borrow.Author.Needs.{needs}
 use Rattle.fits.proofs.expressions.fits_target.Statement.{statement}
 use Rattle.fits.proofs.expressions.fits_target.Tie as tie
-use Rattle.fits.proofs.expressions.fits_target.Reads as reads
-use Rattle.fits.proofs.expressions.fits_target.Lts as lts
-use Rattle.fits.proofs.expressions.fits_expr.Reads as fits-expr-reads
-use Rattle.slots.proofs.skip.skip_expr.Reads as skip-expr-reads
 
 pub fits-target-spec : {M : Type 1} → statement M
 fits-target-spec = tie.close (tie.spec

@@ -5,9 +5,6 @@ use lib.ListN.{replicate}
 use borrow.Author.Needs.{needs}
 use Rattle.fits.proofs.statements.check_slots.Statement.{statement}
 use Rattle.fits.proofs.statements.check_slots.Tie as tie
-use Rattle.fits.proofs.statements.check_slots.Reads as reads
-use Rattle.fits.proofs.statements.check_slots.Lts as lts
-use Rattle.fits.proofs.statements.fits_block.Reads as fits-block-reads
 
 pub check-slots-spec : {M : Type 1} → statement M
 check-slots-spec = tie.close (tie.spec

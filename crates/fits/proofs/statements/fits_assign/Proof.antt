@@ -3,10 +3,6 @@ use Rattle.fits.proofs.Walking.{walks-next, first-over, second-walks}
 use borrow.Author.Needs.{needs}
 use Rattle.fits.proofs.statements.fits_assign.Statement.{statement}
 use Rattle.fits.proofs.statements.fits_assign.Tie as tie
-use Rattle.fits.proofs.statements.fits_assign.Reads as reads
-use Rattle.fits.proofs.statements.fits_assign.Lts as lts
-use Rattle.fits.proofs.expressions.fits_expr.Reads as fits-expr-reads
-use Rattle.fits.proofs.expressions.fits_target.Reads as fits-target-reads
 
 pub fits-assign-spec : {M : Type 1} → statement M
 fits-assign-spec = tie.close (tie.spec

@@ -87,6 +87,7 @@ emit-expr-ok t = emit-expr-lts.spec (
       arm-literal _ _ _ (start .pre .1 .1) (at-if1 .if1 .taken) .parts,
       at-literal-at .literal-at .ensures .0,
       at-literal-at .literal-at .ensures .1,
+      at-literal-at .literal-at .ensures .2,
     ))  -- emit-literal-requires
     (λ c. let at-emit-literal = c .before .before .before .before in at-emit-literal .emit-literal .kept .1 .1 .1 .0)  -- same-length
     (λ c. let at-emit-literal = c .before .before .before .before in at-emit-literal .emit-literal .kept .1 .1 .1 .1 .0)  -- same-length-2

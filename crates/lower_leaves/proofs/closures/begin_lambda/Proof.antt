@@ -1,5 +1,5 @@
 use native.Mathlib.Omega.{arith}
-use mathlib.Core.Path.{_≡_, refl, sym, ap, _∙_}
+use mathlib.Core.Path.{_∙_}
 use Rattle.names.proofs.Pasting.{lambda-short}
 use Rattle.lower_leaves.proofs.Lambdas.{begins-over, begins-lambda}
 use borrow.Author.Needs.{needs}

@@ -1,7 +1,6 @@
 use native.Mathlib.Omega.{arith}
-use mathlib.Core.Path.{_≡_, refl, sym, ap, _∙_}
+use mathlib.Core.Path.{_∙_}
 use Rattle.lower_leaves.proofs.Lambdas.{ends-none, ends-more, ending-put}
-use borrow.Author.Needs.{needs}
 use Rattle.lower_leaves.proofs.closures.end_lambda.Statement.{statement}
 use Rattle.lower_leaves.proofs.closures.end_lambda.Tie as tie
 

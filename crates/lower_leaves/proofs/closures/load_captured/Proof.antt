@@ -1,6 +1,6 @@
 use Prim.Native.Nat.{_-_}
 use native.Mathlib.Omega.{arith}
-use mathlib.Core.Path.{_≡_, refl, sym, ap, _∙_}
+use mathlib.Core.Path.{_∙_}
 use lib.ListN.{length}
 use Rattle.lower_leaves.proofs.LambdaState.{held-at}
 use Rattle.lower_leaves.proofs.Lambdas.{Loading, loading-start, loading-next, loading-over, loading-done, slot-small}

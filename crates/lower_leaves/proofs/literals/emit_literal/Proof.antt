@@ -1,6 +1,5 @@
-use Prim.Native.Nat.{ℕ, _+_}
 use native.Mathlib.Omega.{arith}
-use mathlib.Core.Path.{_≡_, refl, sym, ap, _∙_}
+use mathlib.Core.Path.{sym, ap}
 use mathlib.Core.Bool.{Bool, cond}
 use Rattle.lower_emit.proofs.Packing.{instr-plain, instr-place, instr-small, plain-below}
 use Rattle.lower_leaves.proofs.LiteralForms.{none-is, bool-is, int-is, float-is, nan-is, text-is}
@@ -68,19 +67,27 @@ emit-literal-spec = tie.close (tie.spec
     (λ c. let at-put-op7 = c .before .before in let at-enum-told4 = at-put-op7 .before .before .before in let start = at-enum-told4 .before .before .before .before .before in
     let v = nan-is _ _ _ (start .pre .3) (start .pre .4) _ (at-enum-told4 .enum-told4 .given .1) in
     record { lowers = λ made S. lowers-by (put-lifts _ S (omega arith) (instr-place _ 1 _ (omega arith) (inside-place (start .pre .3) (start .pre .2))) (at-put-op7 .put-op7 .ensures)) (v .0) (v .1) })  -- returns-7
-    (λ c. search needs)  -- enum-told-5
-    (λ c. let start = c .before .before .before .before .before in let i = inside-place (start .pre .3) (start .pre .2) in omega arith)  -- add-u16-at
-    (λ c κs. let at-enum-told5 = c in let start = at-enum-told5 .before .before .before .before .before in text-is _ _ _ (start .pre .3) (start .pre .4) _ _ (at-enum-told5 .enum-told5 .given .1) .0)  -- u16-at-requires
-    (λ c. search needs)  -- cast-n
-    (λ c. let start = c .before .before .before .before .before .before .before .before .before in let i = inside-place (start .pre .3) (start .pre .2) in omega arith)  -- add-emit-string
-    (λ c. let start = c .before .before .before .before .before .before .before .before .before in let i = inside-place (start .pre .3) (start .pre .2) in omega arith)  -- add-emit-string-2
-    (λ c. let at-u16-at = c .before .before .before in let start = at-u16-at .before .before .before .before .before .before in
-    let i = inside-place (start .pre .3) (start .pre .2) in omega (arith, at-u16-at .u16-at .ensures .1))  -- add-emit-string-3
-    (λ c κs. let start = c .before .before .before .before .before .before .before .before .before in
-    (start .pre .0, start .pre .1, (let i = inside-place (start .pre .3) (start .pre .2) in omega arith), omega arith))  -- emit-string-requires
+    (λ c. search needs)  -- enum-known-x-2
+    (λ c.
+    let at-x = c .before .before .before .before in
+    let start = at-x .before .before .before .before .before in
+    let v = text-is _ _ _ (start .pre .3) (start .pre .4) _ _ (at-x .x2 .given .1) (start .pre .6) in
+    omega (arith, v .0))  -- sub-emit-string
+    (λ c.
+    let at-x = c .before .before .before .before in
+    let start = at-x .before .before .before .before .before in
+    let v = text-is _ _ _ (start .pre .3) (start .pre .4) _ _ (at-x .x2 .given .1) (start .pre .6) in
+    omega (arith, v .1, start .pre .2))  -- add-emit-string
+    (λ c κs.
+    let at-x = c .before .before .before .before in
+    let start = at-x .before .before .before .before .before in
+    let v = text-is _ _ _ (start .pre .3) (start .pre .4) _ _ (at-x .x2 .given .1) (start .pre .6) in
+    (start .pre .0, start .pre .1, omega (arith, v .1, start .pre .2), omega (arith, v .0)))  -- emit-string-requires
     (λ c. let at-emit-string = c .before .before .before .before in at-emit-string .emit-string .kept .1 .0)  -- same-length-8
     (λ c. let at-emit-string = c .before .before .before .before in at-emit-string .emit-string .kept .1 .1 .0)  -- same-length-9
-    (λ c. let at-emit-string = c .before .before .before .before in let at-u16-at = at-emit-string .before .before .before .before in let at-enum-told5 = at-u16-at .before in
-    let start = at-enum-told5 .before .before .before .before .before in
-    let v = text-is _ _ _ (start .pre .3) (start .pre .4) _ _ (at-enum-told5 .enum-told5 .given .1) .1 in
-    record { lowers = λ made S. lowers-by (at-emit-string .emit-string .ensures .lowers made S) (v .0) (v .1 ∙ ap (λ (n : ℕ). start .args .at + 3 + n) (sym (at-u16-at .u16-at .ensures .0))) }))  -- returns-8
+    (λ c.
+    let at-emit-string = c .before .before .before .before in
+    let at-x = at-emit-string .before .before .before .before .before in
+    let start = at-x .before .before .before .before .before in
+    let v = text-is _ _ _ (start .pre .3) (start .pre .4) _ _ (at-x .x2 .given .1) (start .pre .6) .2 in
+    record { lowers = λ made S. lowers-by (at-emit-string .emit-string .ensures .lowers made S) (v .0) (v .1) }))  -- returns-8

@@ -3,7 +3,6 @@ use native.Mathlib.Omega.{arith}
 use mathlib.Core.Path.{_≡_, sym, ap, ap₂, _∙_}
 use Prim.Native.Nat.{ℕ, _+_}
 use lib.ListN.{length}
-use Rattle.module.proofs.Lengths.{name-short}
 use Rattle.module.proofs.CodeLengths.{part-short, classPiece, length-class, class-room}
 use Rattle.module.proofs.classes.class_size.Statement.{statement}
 use Rattle.module.proofs.classes.class_size.Tie as tie

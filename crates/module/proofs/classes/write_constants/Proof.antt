@@ -1,11 +1,10 @@
 use borrow.Author.Needs.{needs}
 use native.Mathlib.Omega.{arith}
-use mathlib.Core.Path.{_≡_, _∙_}
-use mathlib.Core.List.{List, _∷_}
-use Prim.Native.Nat.{ℕ, _+_, _-_, _^_, _≤_, _<_}
+use mathlib.Core.Path.{_∙_}
+use mathlib.Core.List.{_∷_}
+use Prim.Native.Nat.{_+_, _-_, _^_, _≤_, _<_}
 use lib.ListN.{length, getD}
 use Rattle.definitions.specs.Bytes.{be}
-use Rattle.definitions.proofs.BytesWritten.{length-be}
 use Rattle.module.specs.Sections.{constantBytes}
 use Rattle.writing.proofs.Begun.{Begun, begun-first, begun-now, begun-back, begun-as, begun-length, begun-fits, begun-number, begun-next, begun-done}
 use Rattle.module.proofs.Pieces.{pieces, pieces-next, pieces-none}

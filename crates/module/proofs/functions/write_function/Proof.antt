@@ -1,9 +1,7 @@
 use borrow.Author.Needs.{needs}
 use native.Mathlib.Omega.{arith}
-use mathlib.Core.Path.{_≡_}
-use mathlib.Core.List.{List, [], _∷_}
-use Prim.Native.Nat.{ℕ, _+_, _/_, _%_, _≤_}
-use lib.ListN.{length}
+use mathlib.Core.List.{[], _∷_}
+use Prim.Native.Nat.{_/_, _%_}
 use Rattle.definitions.specs.Bytes.{be}
 use Rattle.module.specs.Sections.{codeBytes}
 use Rattle.writing.proofs.Begun.{Begun, begun-first, begun-length, begun-fits, begun-piece, begun-number, begun-next, begun-done}

@@ -1,10 +1,8 @@
 use native.Mathlib.Omega.{arith}
-use mathlib.Core.Path.{_≡_, refl, sym, ap, ap₂, _∙_}
+use mathlib.Core.Path.{_≡_, ap, _∙_}
 use mathlib.Core.List.{List}
 use Prim.Native.Nat.{ℕ, _-_, _/_, _%_, _^_, _≤_}
 use lib.ListN.{length, set}
-use Rattle.definitions.specs.Bytes.{be}
-use Rattle.writing.specs.Wrote.{Wrote}
 use Rattle.module.proofs.Filled.{filled, filled-start, length-filled, filled-next, rest-next, rest-start, filled-whole}
 use Rattle.module.proofs.numbers.write_long.Statement.{statement}
 use Rattle.module.proofs.numbers.write_long.Tie as tie

@@ -1,10 +1,9 @@
 use borrow.Author.Needs.{needs}
 use native.Mathlib.Omega.{arith}
 use mathlib.Core.Path.{_≡_, refl, ap₂, _∙_}
-use Prim.Native.Nat.{ℕ, _+_, _*_, _-_, _<_, _^_}
-use lib.ListN.{length, take, drop}
-use Rattle.state.specs.Words.{region}
-use Rattle.state.specs.State.{headsFrom, codesFrom, classNamesFrom}
+use Prim.Native.Nat.{ℕ, _+_, _*_, _<_, _^_}
+use lib.ListN.{length}
+use Rattle.state.specs.State.{codesFrom, classNamesFrom}
 use Rattle.module.specs.Sections.{bodiesBytes}
 use Rattle.module.proofs.Whole.{few, finished-are, same-functions, same-classes, length-bodies, bodies-room}
 use Rattle.module.proofs.sections.bodies_size.Statement.{statement}

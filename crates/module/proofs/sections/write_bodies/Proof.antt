@@ -1,9 +1,9 @@
 use borrow.Author.Needs.{needs}
 use native.Mathlib.Omega.{arith}
 use mathlib.Core.Path.{_≡_, refl}
-use mathlib.Core.List.{List, [], _∷_, _++_}
-use Prim.Native.Nat.{ℕ, _+_, _-_, _≤_, _<_}
-use lib.ListN.{length, take, drop, length-append}
+use mathlib.Core.List.{[], _∷_, _++_}
+use Prim.Native.Nat.{_-_, _≤_}
+use lib.ListN.{length, take, drop}
 use Rattle.state.specs.State.{headsFrom, classNamesFrom, constantsFrom}
 use Rattle.module.specs.Sections.{functionsBytes, classesBytes, constantBytes, bodiesBytes}
 use Rattle.writing.proofs.Begun.{joined, Begun, begun-first, begun-length, begun-fits, begun-piece, begun-next, begun-done}

@@ -1,11 +1,8 @@
 use borrow.Author.Needs.{needs}
 use native.Mathlib.Omega.{arith}
-use mathlib.Core.Path.{_≡_}
-use mathlib.Core.List.{List, [], _∷_}
-use Prim.Native.Nat.{ℕ, _+_, _≤_, _<_}
-use lib.ListN.{length}
+use mathlib.Core.List.{[], _∷_}
 use Rattle.state.specs.State.{stringsFrom}
-use Rattle.module.specs.Sections.{symbolBytes, stringBytes, textsBytes}
+use Rattle.module.specs.Sections.{stringBytes, textsBytes}
 use Rattle.writing.proofs.Begun.{Begun, begun-first, begun-length, begun-fits, begun-piece, begun-next, begun-done}
 use Rattle.module.proofs.Whole.{few, texts-pieces, length-texts}
 use Rattle.module.proofs.sections.write_texts.Statement.{statement}

@@ -1,15 +1,13 @@
 use borrow.Author.Needs.{needs}
 use native.Mathlib.Omega.{arith}
-use mathlib.Core.Path.{_≡_, refl, sym, ap, _∙_}
-use mathlib.Core.List.{List, [], _∷_}
-use Prim.Native.Nat.{ℕ, _+_, _-_, _^_, _≤_, _<_}
+use mathlib.Core.Path.{_∙_}
+use mathlib.Core.List.{_∷_}
+use Prim.Native.Nat.{_+_, _-_, _^_, _≤_, _<_}
 use lib.ListN.{length, getD}
-use Rattle.definitions.specs.Bytes.{be}
-use Rattle.definitions.proofs.BytesWritten.{length-be}
 use Rattle.module.specs.Sections.{symbolBytes}
 use Rattle.writing.proofs.Begun.{Begun, begun-first, begun-now, begun-back, begun-as, begun-length, begun-fits, begun-piece, begun-next, begun-done}
 use Rattle.module.proofs.Pieces.{pieces, pieces-next, pieces-none}
-use Rattle.module.proofs.Lengths.{Small, spelled-short, name-room, name-wrote, symbolPiece, symbols-listed, symbols-room, symbols-two}
+use Rattle.module.proofs.Lengths.{spelled-short, name-room, name-wrote, symbolPiece, symbols-listed, symbols-two}
 use Rattle.module.proofs.symbols.write_symbols.Statement.{statement}
 use Rattle.module.proofs.symbols.write_symbols.Tie as tie
 

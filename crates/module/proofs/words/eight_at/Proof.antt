@@ -1,8 +1,7 @@
 use borrow.Author.Needs.{needs}
 use native.Mathlib.Omega.{arith}
-use mathlib.Core.Path.{_≡_, refl, sym, ap, _∙_}
+use mathlib.Core.Path.{_≡_, sym, ap, _∙_}
 use Prim.Native.Nat.{ℕ, _+_, _*_, _-_, _^_, _<_, _≤_}
-use lib.ListN.{getD}
 use Rattle.state.specs.Words.{numberAt}
 use Rattle.module.proofs.Encoding.{horner, grows, small-one, number-start, number-all}
 use Rattle.module.proofs.words.eight_at.Statement.{statement}

@@ -1,5 +1,4 @@
 use borrow.Author.Needs.{needs}
-use native.Mathlib.Omega.{arith}
 use mathlib.Core.Path.{sym, _∙_}
 use Rattle.module.proofs.Encoding.{first-low, first-high, first-jump}
 use Rattle.module.proofs.words.first_operand.Statement.{statement}

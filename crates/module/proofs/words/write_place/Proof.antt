@@ -20,12 +20,11 @@ pub write-place-spec : {M : Type 1} → statement M
 write-place-spec = tie.close (tie.spec
     (λ c. search needs)
     (λ c. omega (arith, begun-fits (begun c), begun-length (begun c)))
-    (λ c. search needs)
     (λ c. omega (arith, begun-fits (begun c)))
     (λ c. omega (arith, begun-fits (begun c)))
     (λ c. search needs)
-    (λ c κs. (omega arith, begun-number _ _ (begun (c .before))))
+    (λ c κs. begun-number _ _ (begun (c .before)))
     (λ c. let p = c .before .before in let s = p .before .before .before .before in
-    omega (arith, begun-done (begun-next (begun (p .before .before)) (p .copy-eight .ensures)) .count, s .pre .1, s .good))
-    (λ c. let p = c .before .before in begun-length (begun-next (begun (p .before .before)) (p .copy-eight .ensures)))
-    (λ c. let p = c .before .before in begun-done (begun-next (begun (p .before .before)) (p .copy-eight .ensures))))
+    omega (arith, begun-done (begun-next (begun (p .before .before)) (p .write-literal .ensures)) .count, s .pre .1, s .good))
+    (λ c. let p = c .before .before in begun-length (begun-next (begun (p .before .before)) (p .write-literal .ensures)))
+    (λ c. let p = c .before .before in begun-done (begun-next (begun (p .before .before)) (p .write-literal .ensures))))

@@ -1,4 +1,4 @@
-use mathlib.Core.Path.{_≡_, refl, sym, ap, _∙_}
+use mathlib.Core.Path.{sym, _∙_}
 use lib.Dec.{lit<}
 use Rattle.definitions.specs.Builtins.{registry}
 use Rattle.names.proofs.Calling.{Skipped, skipped-none, skip, here, skipped-all}

@@ -1,8 +1,7 @@
 use native.Mathlib.Omega.{arith}
-use mathlib.Core.Path.{_≡_, refl, sym, ap, _∙_}
 use Prim.Native.Nat.{_-_, _≤_, _/_, _^_}
 use lib.ListN.{length}
-use Rattle.names.proofs.Finding.{Passed, seek-start, seek-here, seek-next, seek-end, found-map}
+use Rattle.names.proofs.Finding.{Passed, seek-start, seek-here, seek-next, seek-end}
 use lib.Dec.{eqb}
 use borrow.Author.Tests.{eq-eqb, ne-eqb}
 use Rattle.names.proofs.find.find_head.Statement.{statement}

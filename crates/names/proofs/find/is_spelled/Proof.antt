@@ -1,4 +1,4 @@
-use mathlib.Core.Path.{_≡_, refl, sym, ap, _∙_}
+use mathlib.Core.Path.{ap, _∙_}
 use Rattle.definitions.specs.Bytes.{same}
 use Rattle.names.proofs.Spelling.{spelled-tree, spelled-made}
 use borrow.Author.Needs.{needs}

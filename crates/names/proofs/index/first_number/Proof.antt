@@ -1,7 +1,7 @@
 use native.Mathlib.Omega.{arith}
-use Prim.Native.Nat.{ℕ, _≤_}
+use Prim.Native.Nat.{ℕ}
 use lib.ListN.{getD}
-use mathlib.Core.Path.{_≡_, refl, sym, ap, _∙_}
+use mathlib.Core.Path.{sym, ap, _∙_}
 use Rattle.state.specs.Index.{startOf}
 use Rattle.state.proofs.Index.{start-none, start-over, start-kept}
 use borrow.Author.Needs.{needs}

@@ -4,7 +4,6 @@ use mathlib.Core.Path.{_≡_, refl, sym, _∙_}
 use lib.ListN.{length, drop}
 use Rattle.state.specs.Index.{hashFrom, hashOf}
 use Rattle.state.proofs.Index.{hash-next, hash-end}
-use borrow.Author.Needs.{needs}
 use Rattle.names.proofs.index.hash.Statement.{statement}
 use Rattle.names.proofs.index.hash.Tie as tie
 

@@ -1,5 +1,4 @@
-use native.Mathlib.Omega.{arith}
-use mathlib.Core.Path.{_≡_, refl, sym, ap, _∙_}
+use mathlib.Core.Path.{sym, ap}
 use Rattle.definitions.specs.Lower.{iterName, lambdaName}
 use Rattle.names.specs.Made.{madeName}
 use Rattle.names.proofs.Pasting.{fits-as, paste-as}

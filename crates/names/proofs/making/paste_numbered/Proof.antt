@@ -1,5 +1,4 @@
 use native.Mathlib.Omega.{arith}
-use mathlib.Core.Path.{_≡_, refl, sym, ap, _∙_}
 use Rattle.definitions.specs.Bytes.{decimal}
 use Rattle.names.proofs.Pasting.{three-length, paste-three}
 use borrow.Author.Needs.{needs}

@@ -1,5 +1,4 @@
 use native.Mathlib.Omega.{arith}
-use mathlib.Core.Path.{_≡_, refl, sym, ap, _∙_}
 use Rattle.names.specs.Made.{madeName}
 use Rattle.names.proofs.Pasting.{stands-set}
 use borrow.Author.Needs.{needs}

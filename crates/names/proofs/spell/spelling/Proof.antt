@@ -1,4 +1,3 @@
-use native.Mathlib.Omega.{arith}
 use mathlib.Core.Path.{_∙_}
 use Rattle.names.proofs.Spelling.{spelled-tree, spelled-made, spells-tree, spells-made}
 use borrow.Author.Needs.{needs}

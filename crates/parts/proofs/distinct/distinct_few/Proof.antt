@@ -1,16 +1,10 @@
-use mathlib.Core.Path.{_≡_, refl, sym, ap, _∙_}
-use Prim.Native.Nat.{ℕ, _+_, _-_, _*_, _≤_, _<_}
+use mathlib.Core.Path.{_≡_, refl, sym, _∙_}
 use native.Mathlib.Omega.{arith}
-use borrow.Author.Needs.{needs}
-use Rattle.parts.specs.Places.{nameBytes, namesFrom, AllThere}
+use Rattle.parts.specs.Places.{namesFrom, AllThere}
 use Rattle.definitions.specs.Wellformed.{distinct}
 use Rattle.parts.proofs.NameLaws.{there-first, there-next, distinct-stop, distinct-go, distinct-none}
 use Rattle.parts.proofs.distinct.distinct_few.Statement.{statement}
 use Rattle.parts.proofs.distinct.distinct_few.Tie as tie
-use Rattle.parts.proofs.distinct.distinct_few.Reads as reads
-use Rattle.parts.proofs.distinct.distinct_few.Lts as lts
-use Rattle.parts.proofs.names.name_end.Reads as name-end-reads
-use Rattle.parts.proofs.distinct.occurs.Reads as occurs-reads
 
 abbrev Inv-loop : tie.InvT-loop
 Inv-loop tree at n p₀ left₀ p left = (distinct (namesFrom tree left₀ p₀) ≡ distinct (namesFrom tree left p)) × AllThere tree left p

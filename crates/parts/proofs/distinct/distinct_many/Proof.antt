@@ -1,16 +1,10 @@
-use mathlib.Core.Path.{_≡_, refl, sym, ap, _∙_}
-use Prim.Native.Nat.{ℕ, _+_, _-_, _≤_, _<_}
+use Prim.Native.Nat.{_-_}
 use native.Mathlib.Omega.{arith}
 use borrow.Author.Needs.{needs}
 use Rattle.parts.proofs.NameLaws.{there-first}
 use Rattle.parts.proofs.SearchLaws.{Sifting, sift-start, sift-asks, sift-there, sift-next, sift-twice, sift-end, puts-new, puts-twice}
 use Rattle.parts.proofs.distinct.distinct_many.Statement.{statement}
 use Rattle.parts.proofs.distinct.distinct_many.Tie as tie
-use Rattle.parts.proofs.distinct.distinct_many.Reads as reads
-use Rattle.parts.proofs.distinct.distinct_many.Lts as lts
-use Rattle.parts.proofs.distinct.distinct_few.Reads as distinct-few-reads
-use Rattle.parts.proofs.names.name_end.Reads as name-end-reads
-use Rattle.parts.proofs.distinct.put_name.Reads as put-name-reads
 
 abbrev Inv-loop : tie.InvT-loop
 Inv-loop tree at n table₀ p₀ count₀ table p count = Sifting tree n at count p table

@@ -1,18 +1,12 @@
 use Rattle.parts.proofs.NameLaws.{same-as, occurs-again}
-use mathlib.Core.Path.{_≡_, refl, sym, ap, _∙_}
-use Prim.Native.Nat.{ℕ, _+_, _-_, _*_, _≤_, _<_}
+use mathlib.Core.Path.{_≡_, refl, sym, _∙_}
 use native.Mathlib.Omega.{arith}
 use borrow.Author.Needs.{needs}
 use Rattle.parts.specs.Places.{nameBytes, namesFrom, AllThere}
-use Rattle.definitions.specs.Bytes.{member, same}
-use Rattle.parts.proofs.NameLaws.{there-first, there-rest, member-found, member-next, member-none}
+use Rattle.definitions.specs.Bytes.{member}
+use Rattle.parts.proofs.NameLaws.{there-first, member-found, member-none}
 use Rattle.parts.proofs.distinct.occurs.Statement.{statement}
 use Rattle.parts.proofs.distinct.occurs.Tie as tie
-use Rattle.parts.proofs.distinct.occurs.Reads as reads
-use Rattle.parts.proofs.distinct.occurs.Lts as lts
-use Rattle.parts.proofs.names.name_end.Reads as name-end-reads
-use Rattle.parts.proofs.names.name_part.Reads as name-part-reads
-use Rattle.parts.proofs.names.same_bytes.Reads as same-bytes-reads
 
 abbrev Inv-loop : tie.InvT-loop
 Inv-loop tree at from n p₀ left₀ p left = (member (nameBytes tree at) (namesFrom tree left₀ p₀) ≡ member (nameBytes tree at) (namesFrom tree left p)) × AllThere tree left p

@@ -1,5 +1,5 @@
-use mathlib.Core.Path.{_≡_, refl, sym, ap, _∙_}
-use Prim.Native.Nat.{ℕ, _+_, _-_, _*_, _≤_, _<_}
+use mathlib.Core.Path.{refl}
+use Prim.Native.Nat.{_+_, _-_}
 use native.Mathlib.Omega.{arith}
 use borrow.Author.Needs.{needs}
 use Rattle.parts.specs.Places.{nameBytes, namesFrom}
@@ -8,17 +8,12 @@ use Rattle.parts.proofs.NameLaws.{same-as}
 use Rattle.parts.proofs.SearchLaws.{Seeking, seek-start, put-twice, put-next, put-here, entry-low}
 use Rattle.parts.proofs.distinct.put_name.Statement.{statement}
 use Rattle.parts.proofs.distinct.put_name.Tie as tie
-use Rattle.parts.proofs.distinct.put_name.Reads as reads
-use Rattle.parts.proofs.distinct.put_name.Lts as lts
-use Rattle.parts.proofs.names.name_part.Reads as name-part-reads
-use Rattle.parts.proofs.names.same_bytes.Reads as same-bytes-reads
-use Rattle.parts.proofs.distinct.turn.Reads as turn-reads
 
 abbrev Inv-loop : tie.InvT-loop
-Inv-loop tree table₀ root count at p₀ k₀ table p k = Searches tree table root (namesFrom tree count root) × Seeking tree table root (namesFrom tree count root) (nameBytes tree at) k p
+Inv-loop tree table₀ root count at most p₀ k₀ table p k = Searches tree table root (namesFrom tree count root) × Seeking tree table root (namesFrom tree count root) (nameBytes tree at) k p
 
 abbrev μ-loop : tie.MeasureT-loop
-μ-loop tree table₀ root count at p₀ k₀ table p k = 4096 - k
+μ-loop tree table₀ root count at most p₀ k₀ table p k = most - k
 
 pub put-name-spec : {M : Type 1} → statement M
 unfolding Puts

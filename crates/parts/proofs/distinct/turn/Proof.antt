@@ -2,10 +2,6 @@ use Rattle.parts.proofs.SearchLaws.{turn-past, turn-in}
 use borrow.Author.Needs.{needs}
 use Rattle.parts.proofs.distinct.turn.Statement.{statement}
 use Rattle.parts.proofs.distinct.turn.Tie as tie
-use Rattle.parts.proofs.distinct.turn.Reads as reads
-use Rattle.parts.proofs.distinct.turn.Lts as lts
-use Rattle.parts.proofs.names.name_part.Reads as name-part-reads
-use Rattle.parts.proofs.distinct.wide.Reads as wide-reads
 
 pub turn-spec : {M : Type 1} → statement M
 turn-spec = tie.close (tie.spec

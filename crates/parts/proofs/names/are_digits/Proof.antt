@@ -1,14 +1,13 @@
 use native.Mathlib.Omega.{arith}
-use mathlib.Core.Path.{_≡_, refl, sym, ap, _∙_}
-use lib.ListN.{length, take, drop, getD}
-use Prim.Native.Nat.{ℕ, _+_, _-_, _*_, _≤_, _<_}
+use mathlib.Core.Path.{_≡_, refl, sym, _∙_}
+use lib.ListN.{length, drop}
+use Prim.Native.Nat.{_-_}
 use Rattle.definitions.specs.Bytes.{all}
 use Rattle.definitions.specs.Wellformed.{digit}
-use Rattle.parts.proofs.LeafLaws.{digit-low, digit-high, digit-is, all-go, all-stop, all-none}
+use Rattle.byte_tests.proofs.Names.{all-go, all-stop, all-none}
+use Rattle.parts.proofs.LeafLaws.{digit-low, digit-high, digit-is}
 use Rattle.parts.proofs.names.are_digits.Statement.{statement}
 use Rattle.parts.proofs.names.are_digits.Tie as tie
-use Rattle.parts.proofs.names.are_digits.Reads as reads
-use Rattle.parts.proofs.names.are_digits.Lts as lts
 
 abbrev Inv-loop : tie.InvT-loop
 Inv-loop bytes i₀ i = all digit bytes ≡ all digit (drop i bytes)

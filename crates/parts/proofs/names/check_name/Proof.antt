@@ -1,17 +1,9 @@
 use native.Mathlib.Omega.{arith}
-use mathlib.Core.Path.{_≡_, refl, sym, ap, _∙_}
-use Prim.Native.Nat.{ℕ, _+_, _-_, _*_, _≤_, _<_}
-use lib.ListN.{length, take, drop, getD}
-use Rattle.parts.specs.declared.Passed.the-variants.{Next, Refused}
+use mathlib.Core.Path.{refl, sym}
 use Rattle.parts.proofs.LeafLaws.{name-at-none, name-at-short, name-whole}
 use borrow.Author.Needs.{needs}
 use Rattle.parts.proofs.names.check_name.Statement.{statement}
 use Rattle.parts.proofs.names.check_name.Tie as tie
-use Rattle.parts.proofs.names.check_name.Reads as reads
-use Rattle.parts.proofs.names.check_name.Lts as lts
-use Rattle.parts.proofs.names.is_iterator.Reads as is-iterator-reads
-use Rattle.parts.proofs.names.is_name.Reads as is-name-reads
-use Rattle.parts.proofs.questions.noted.Reads as noted-reads
 
 pub check-name-spec : {M : Type 1} → statement M
 check-name-spec = tie.close (tie.spec

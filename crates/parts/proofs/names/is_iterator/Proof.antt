@@ -3,10 +3,6 @@ use borrow.Author.Needs.{needs}
 use Rattle.parts.proofs.IteratorLaws.{iterator-short, iterator-begins, iterator-digits, iterator-ends}
 use Rattle.parts.proofs.names.is_iterator.Statement.{statement}
 use Rattle.parts.proofs.names.is_iterator.Tie as tie
-use Rattle.parts.proofs.names.is_iterator.Reads as reads
-use Rattle.parts.proofs.names.is_iterator.Lts as lts
-use Rattle.parts.proofs.names.same_bytes.Reads as same-bytes-reads
-use Rattle.parts.proofs.names.are_digits.Reads as are-digits-reads
 
 pub is-iterator-spec : {M : Type 1} → statement M
 is-iterator-spec = tie.close (tie.spec

@@ -1,10 +1,8 @@
-use mathlib.Core.Path.{_≡_, refl, sym, ap, _∙_}
+use mathlib.Core.Path.{refl}
 use Rattle.parts.specs.Places.{nameEnd}
 use borrow.Author.Needs.{needs}
 use Rattle.parts.proofs.names.name_end.Statement.{statement}
 use Rattle.parts.proofs.names.name_end.Tie as tie
-use Rattle.parts.proofs.names.name_end.Reads as reads
-use Rattle.parts.proofs.names.name_end.Lts as lts
 
 pub name-end-spec : {M : Type 1} → statement M
 unfolding nameEnd

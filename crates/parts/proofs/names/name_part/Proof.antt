@@ -4,8 +4,6 @@ use Rattle.parts.proofs.NameLaws.{part-of}
 use borrow.Author.Needs.{needs}
 use Rattle.parts.proofs.names.name_part.Statement.{statement}
 use Rattle.parts.proofs.names.name_part.Tie as tie
-use Rattle.parts.proofs.names.name_part.Reads as reads
-use Rattle.parts.proofs.names.name_part.Lts as lts
 
 pub name-part-spec : {M : Type 1} → statement M
 name-part-spec = tie.close (tie.spec

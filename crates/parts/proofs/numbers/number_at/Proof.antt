@@ -1,16 +1,9 @@
 use Rattle.parts.proofs.LeafLaws.{number-short, number-whole}
-use mathlib.Core.Path.{_≡_, refl, sym, ap, _∙_}
-use Prim.Native.Nat.{ℕ, _+_, _-_, _*_, _≤_, _<_}
-use native.Mathlib.Omega.{arith}
-use lib.ListN.{length, take, drop, getD}
-use Rattle.parts.specs.declared.Number.the-variants.{Is, Unread}
+use mathlib.Core.Path.{sym}
 use Rattle.parts.specs.Places.{countAt}
 use borrow.Author.Needs.{needs}
 use Rattle.parts.proofs.numbers.number_at.Statement.{statement}
 use Rattle.parts.proofs.numbers.number_at.Tie as tie
-use Rattle.parts.proofs.numbers.number_at.Reads as reads
-use Rattle.parts.proofs.numbers.number_at.Lts as lts
-use Rattle.parts.proofs.numbers.u16_at.Reads as u16-at-reads
 
 pub number-at-spec : {M : Type 1} → statement M
 unfolding countAt

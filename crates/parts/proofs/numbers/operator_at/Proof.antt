@@ -2,8 +2,6 @@ use Rattle.parts.proofs.LeafLaws.{operator-end, operator-in}
 use borrow.Author.Needs.{needs}
 use Rattle.parts.proofs.numbers.operator_at.Statement.{statement}
 use Rattle.parts.proofs.numbers.operator_at.Tie as tie
-use Rattle.parts.proofs.numbers.operator_at.Reads as reads
-use Rattle.parts.proofs.numbers.operator_at.Lts as lts
 
 pub operator-at-spec : {M : Type 1} → statement M
 operator-at-spec = tie.close (tie.spec

@@ -1,10 +1,8 @@
-use mathlib.Core.Path.{_≡_, refl, sym, ap, _∙_}
+use mathlib.Core.Path.{sym}
 use Rattle.parts.proofs.LeafLaws.{eight-short, eight-long}
 use borrow.Author.Needs.{needs}
 use Rattle.parts.proofs.numbers.skip_eight.Statement.{statement}
 use Rattle.parts.proofs.numbers.skip_eight.Tie as tie
-use Rattle.parts.proofs.numbers.skip_eight.Reads as reads
-use Rattle.parts.proofs.numbers.skip_eight.Lts as lts
 
 pub skip-eight-spec : {M : Type 1} → statement M
 skip-eight-spec = tie.close (tie.spec

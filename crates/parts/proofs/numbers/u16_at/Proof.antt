@@ -1,12 +1,10 @@
 use native.Mathlib.Omega.{arith}
-use mathlib.Core.Path.{_≡_, refl, sym, ap, _∙_}
-use Prim.Native.Nat.{ℕ, _+_, _-_, _*_, _≤_, _<_}
+use mathlib.Core.Path.{refl}
+use Prim.Native.Nat.{_+_}
 use Rattle.parts.specs.Places.{countAt}
 use borrow.Author.Needs.{needs}
 use Rattle.parts.proofs.numbers.u16_at.Statement.{statement}
 use Rattle.parts.proofs.numbers.u16_at.Tie as tie
-use Rattle.parts.proofs.numbers.u16_at.Reads as reads
-use Rattle.parts.proofs.numbers.u16_at.Lts as lts
 
 pub u16-at-spec : {M : Type 1} → statement M
 unfolding countAt

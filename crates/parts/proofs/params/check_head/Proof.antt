@@ -1,18 +1,10 @@
-use mathlib.Core.Path.{_≡_, refl, sym, ap, _∙_}
+use mathlib.Core.Path.{sym, _∙_}
 use Rattle.parts.specs.Judge.{judgeHead}
-use Rattle.parts.proofs.Laws.{with-unread, with-number, then-next, then-refused, number-within, judged-within}
+use Rattle.parts.proofs.Laws.{with-unread, with-number, then-next, then-refused, judged-within}
 use Rattle.parts.proofs.NameLaws.{name-at-is, head-close}
 use borrow.Author.Needs.{needs}
 use Rattle.parts.proofs.params.check_head.Statement.{statement}
 use Rattle.parts.proofs.params.check_head.Tie as tie
-use Rattle.parts.proofs.params.check_head.Reads as reads
-use Rattle.parts.proofs.params.check_head.Lts as lts
-use Rattle.parts.proofs.names.check_name.Reads as check-name-reads
-use Rattle.parts.proofs.params.check_params.Reads as check-params-reads
-use Rattle.parts.proofs.params.may_have.Reads as may-have-reads
-use Rattle.parts.proofs.names.name_part.Reads as name-part-reads
-use Rattle.parts.proofs.questions.noted.Reads as noted-reads
-use Rattle.parts.proofs.numbers.number_at.Reads as number-at-reads
 
 pub check-head-spec : {M : Type 1} → statement M
 unfolding judgeHead

@@ -1,16 +1,13 @@
-use mathlib.Core.Path.{_≡_, refl, sym, ap, _∙_}
-use Prim.Native.Nat.{ℕ, _+_, _-_, _*_, _≤_, _<_}
+use mathlib.Core.Path.{_≡_, refl, sym, _∙_}
+use Prim.Native.Nat.{_≤_}
 use native.Mathlib.Omega.{arith}
 use borrow.Author.Needs.{needs}
-use lib.ListN.{length, take, drop, getD}
+use lib.ListN.{length}
 use Rattle.parts.specs.Judge.{judgeNames}
 use Rattle.parts.proofs.NameLaws.{names-none, names-more}
 use Rattle.parts.proofs.Laws.{then-next, then-refused, judged-within}
 use Rattle.parts.proofs.params.check_names.Statement.{statement}
 use Rattle.parts.proofs.params.check_names.Tie as tie
-use Rattle.parts.proofs.params.check_names.Reads as reads
-use Rattle.parts.proofs.params.check_names.Lts as lts
-use Rattle.parts.proofs.names.check_name.Reads as check-name-reads
 
 abbrev Inv-loop : tie.InvT-loop
 Inv-loop tree at n stand p₀ left₀ w₀ p left w = (judgeNames tree left₀ p₀ w₀ ≡ judgeNames tree left p w) × (p ≤ length tree)

@@ -1,15 +1,9 @@
-use mathlib.Core.Path.{_≡_, refl, sym, ap, _∙_}
+use mathlib.Core.Path.{sym, _∙_}
 use Rattle.parts.proofs.NameLaws.{params-law, params-close, names-there}
 use Rattle.parts.proofs.Laws.{with-unread, with-number, then-next, then-refused, number-within}
 use borrow.Author.Needs.{needs}
 use Rattle.parts.proofs.params.check_params.Statement.{statement}
 use Rattle.parts.proofs.params.check_params.Tie as tie
-use Rattle.parts.proofs.params.check_params.Reads as reads
-use Rattle.parts.proofs.params.check_params.Lts as lts
-use Rattle.parts.proofs.params.check_names.Reads as check-names-reads
-use Rattle.parts.proofs.distinct.distinct_names.Reads as distinct-names-reads
-use Rattle.parts.proofs.questions.noted.Reads as noted-reads
-use Rattle.parts.proofs.numbers.number_at.Reads as number-at-reads
 
 pub check-params-spec : {M : Type 1} → statement M
 check-params-spec = tie.close (tie.spec

@@ -2,9 +2,6 @@ use Rattle.parts.proofs.NameLaws.{may-none, may-init}
 use borrow.Author.Needs.{needs}
 use Rattle.parts.proofs.params.may_have.Statement.{statement}
 use Rattle.parts.proofs.params.may_have.Tie as tie
-use Rattle.parts.proofs.params.may_have.Reads as reads
-use Rattle.parts.proofs.params.may_have.Lts as lts
-use Rattle.parts.proofs.names.same_bytes.Reads as same-bytes-reads
 
 pub may-have-spec : {M : Type 1} → statement M
 may-have-spec = tie.close (tie.spec

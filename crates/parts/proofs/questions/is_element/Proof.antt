@@ -1,11 +1,9 @@
-use mathlib.Core.Path.{_≡_, refl, sym, ap, _∙_}
-use Rattle.parts.specs.declared.Role.the-variants.{Value, Target, Element}
+use mathlib.Core.Path.{sym, ap}
+use Rattle.parts.specs.declared.Role.the-variants.{Element}
 use Rattle.parts.specs.Judge.{fits}
 use Rattle.parts.proofs.LeafLaws.{fits-element-no}
 use Rattle.parts.proofs.questions.is_element.Statement.{statement}
 use Rattle.parts.proofs.questions.is_element.Tie as tie
-use Rattle.parts.proofs.questions.is_element.Reads as reads
-use Rattle.parts.proofs.questions.is_element.Lts as lts
 
 pub is-element-spec : {M : Type 1} → statement M
 unfolding fits

@@ -1,11 +1,9 @@
-use mathlib.Core.Path.{_≡_, refl, sym, ap, _∙_}
-use Rattle.parts.specs.declared.Role.the-variants.{Value, Target, Element}
+use mathlib.Core.Path.{sym, ap}
+use Rattle.parts.specs.declared.Role.the-variants.{Target}
 use Rattle.parts.specs.Judge.{fits}
 use Rattle.parts.proofs.LeafLaws.{fits-target-no}
 use Rattle.parts.proofs.questions.is_target.Statement.{statement}
 use Rattle.parts.proofs.questions.is_target.Tie as tie
-use Rattle.parts.proofs.questions.is_target.Reads as reads
-use Rattle.parts.proofs.questions.is_target.Lts as lts
 
 pub is-target-spec : {M : Type 1} → statement M
 unfolding fits

@@ -2,8 +2,6 @@ use Rattle.parts.proofs.LeafLaws.{noted-yes, noted-low, noted-no}
 use borrow.Author.Needs.{needs}
 use Rattle.parts.proofs.questions.noted.Statement.{statement}
 use Rattle.parts.proofs.questions.noted.Tie as tie
-use Rattle.parts.proofs.questions.noted.Reads as reads
-use Rattle.parts.proofs.questions.noted.Lts as lts
 
 pub noted-spec : {M : Type 1} → statement M
 noted-spec = tie.close (tie.spec

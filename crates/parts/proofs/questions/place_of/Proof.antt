@@ -8,8 +8,6 @@ use Rattle.parts.proofs.LeafLaws.{placed, question-from}
 use Rattle.parts.proofs.Laws.{up}
 use Rattle.parts.proofs.questions.place_of.Statement.{statement}
 use Rattle.parts.proofs.questions.place_of.Tie as tie
-use Rattle.parts.proofs.questions.place_of.Reads as reads
-use Rattle.parts.proofs.questions.place_of.Lts as lts
 
 pub place-of-spec : {M : Type 1} → statement M
 unfolding blockQuestions position

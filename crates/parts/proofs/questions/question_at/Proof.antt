@@ -6,8 +6,6 @@ use Rattle.parts.proofs.LeafLaws.{last-question}
 use Rattle.parts.proofs.Laws.{up}
 use Rattle.parts.proofs.questions.question_at.Statement.{statement}
 use Rattle.parts.proofs.questions.question_at.Tie as tie
-use Rattle.parts.proofs.questions.question_at.Reads as reads
-use Rattle.parts.proofs.questions.question_at.Lts as lts
 
 pub question-at-spec : {M : Type 1} → statement M
 unfolding blockQuestions

@@ -1,14 +1,8 @@
-use mathlib.Core.Path.{_≡_, refl, sym, ap, _∙_}
-use Rattle.parts.specs.declared.Role.the-variants.{Value, Target, Element}
+use Rattle.parts.specs.declared.Role.the-variants.{Target, Element}
 use Rattle.parts.proofs.LeafLaws.{suits-value, suits-other}
 use borrow.Author.Needs.{needs}
 use Rattle.parts.proofs.questions.suits.Statement.{statement}
 use Rattle.parts.proofs.questions.suits.Tie as tie
-use Rattle.parts.proofs.questions.suits.Reads as reads
-use Rattle.parts.proofs.questions.suits.Lts as lts
-use Rattle.parts.proofs.questions.is_element.Reads as is-element-reads
-use Rattle.parts.proofs.questions.is_target.Reads as is-target-reads
-use Rattle.parts.proofs.questions.noted.Reads as noted-reads
 
 pub suits-spec : {M : Type 1} → statement M
 suits-spec = tie.close (tie.spec

@@ -1,10 +1,8 @@
-use mathlib.Core.Path.{_≡_, refl, sym, ap, _∙_}
+use mathlib.Core.Path.{sym, ap}
 use Rattle.parts.specs.Judge.{inner}
 use borrow.Author.Needs.{needs}
 use Rattle.parts.proofs.questions.within.Statement.{statement}
 use Rattle.parts.proofs.questions.within.Tie as tie
-use Rattle.parts.proofs.questions.within.Reads as reads
-use Rattle.parts.proofs.questions.within.Lts as lts
 
 pub within-spec : {M : Type 1} → statement M
 unfolding inner

@@ -1,17 +1,10 @@
 use native.Mathlib.Omega.{arith}
-use mathlib.Core.Path.{_≡_, refl, sym, ap, _∙_}
-use Prim.Native.Nat.{ℕ, _+_, _-_, _*_, _≤_, _<_}
-use lib.ListN.{length, take, drop, getD}
-use Rattle.parts.specs.declared.Passed.the-variants.{Next, Refused}
+use mathlib.Core.Path.{sym, _∙_}
 use Rattle.parts.proofs.LeafLaws.{text-unread, text-short, text-whole}
 use Rattle.parts.proofs.Laws.{number-within}
 use borrow.Author.Needs.{needs}
 use Rattle.parts.proofs.texts.check_string.Statement.{statement}
 use Rattle.parts.proofs.texts.check_string.Tie as tie
-use Rattle.parts.proofs.texts.check_string.Reads as reads
-use Rattle.parts.proofs.texts.check_string.Lts as lts
-use Rattle.parts.proofs.questions.noted.Reads as noted-reads
-use Rattle.parts.proofs.numbers.number_at.Reads as number-at-reads
 
 pub check-string-spec : {M : Type 1} → statement M
 check-string-spec = tie.close (tie.spec

@@ -1,12 +1,8 @@
-use mathlib.Core.Path.{_≡_, refl, sym, ap, _∙_}
+use mathlib.Core.Path.{sym, _∙_}
 use Rattle.reader.proofs.ClassLaws.{class-cut, class-next, proper-bounds}
 use borrow.Author.Needs.{needs}
 use Rattle.reader.proofs.classes.ask_class.Statement.{statement}
 use Rattle.reader.proofs.classes.ask_class.Tie as tie
-use Rattle.reader.proofs.classes.ask_class.Reads as reads
-use Rattle.reader.proofs.classes.ask_class.Lts as lts
-use Rattle.reader.proofs.classes.ask_methods.Reads as ask-methods-reads
-use Rattle.reader.proofs.names.skip_proper.Reads as skip-proper-reads
 
 pub ask-class-spec : {M : Type 1} → statement M
 ask-class-spec = tie.close (tie.spec

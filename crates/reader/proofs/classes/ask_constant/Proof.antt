@@ -1,11 +1,8 @@
-use mathlib.Core.Path.{_≡_, refl, sym, ap, _∙_}
+use mathlib.Core.Path.{sym}
 use Rattle.reader.proofs.FunctionLaws.{short-constant, constant-exists, constant-fails, constant-reads}
 use borrow.Author.Needs.{needs}
 use Rattle.reader.proofs.classes.ask_constant.Statement.{statement}
 use Rattle.reader.proofs.classes.ask_constant.Tie as tie
-use Rattle.reader.proofs.classes.ask_constant.Reads as reads
-use Rattle.reader.proofs.classes.ask_constant.Lts as lts
-use Rattle.reader.proofs.numbers.number_at.Reads as number-at-reads
 
 pub ask-constant-spec : {M : Type 1} → statement M
 ask-constant-spec = tie.close (tie.spec

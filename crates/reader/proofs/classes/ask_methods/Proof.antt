@@ -1,5 +1,5 @@
-use mathlib.Core.Path.{_≡_, refl, sym, ap, _∙_}
-use Prim.Native.Nat.{ℕ, _+_, _-_, _≤_, _<_}
+use mathlib.Core.Path.{_≡_, refl, sym, _∙_}
+use Prim.Native.Nat.{_≤_}
 use native.Mathlib.Omega.{arith}
 use borrow.Author.Needs.{needs}
 use lib.ListN.{length}
@@ -7,11 +7,6 @@ use lib.Seq.{slice}
 use Rattle.reader.proofs.ClassLaws.{methodsFrom, methods-short, methods-begin, methods-end, methods-cut, methods-no-number, methods-next, methods-fail, proper-bounds}
 use Rattle.reader.proofs.classes.ask_methods.Statement.{statement}
 use Rattle.reader.proofs.classes.ask_methods.Tie as tie
-use Rattle.reader.proofs.classes.ask_methods.Reads as reads
-use Rattle.reader.proofs.classes.ask_methods.Lts as lts
-use Rattle.reader.proofs.classes.ask_next.Reads as ask-next-reads
-use Rattle.reader.proofs.numbers.number_at.Reads as number-at-reads
-use Rattle.reader.proofs.names.skip_proper.Reads as skip-proper-reads
 
 abbrev Inv-loop : tie.InvT-loop
 Inv-loop bytes at question c left₀ p₀ from₀ to₀ left p from to = (p ≤ length bytes) × (from ≤ to) × (to ≤ length bytes) × (methodsFrom bytes question c (slice 0 0 bytes) left₀ p₀ ≡ methodsFrom bytes question c (slice from to bytes) left p)

@@ -1,15 +1,11 @@
-use mathlib.Core.Path.{_≡_, refl, sym, ap, _∙_}
-use Prim.Native.Nat.{ℕ, _+_, _-_, _≤_, _<_}
+use mathlib.Core.Path.{_≡_, refl, sym, _∙_}
+use Prim.Native.Nat.{_-_, _≤_}
 use native.Mathlib.Omega.{arith}
 use borrow.Author.Needs.{needs}
 use lib.ListN.{length}
 use Rattle.reader.proofs.FunctionLaws.{codeFrom, code-all, code-next, code-fail, code-cut, code-end, op-small, found-next}
 use Rattle.reader.proofs.functions.ask_code.Statement.{statement}
 use Rattle.reader.proofs.functions.ask_code.Tie as tie
-use Rattle.reader.proofs.functions.ask_code.Reads as reads
-use Rattle.reader.proofs.functions.ask_code.Lts as lts
-use Rattle.reader.proofs.operands.ask_op.Reads as ask-op-reads
-use Rattle.reader.proofs.instructions.instruction_at.Reads as instruction-at-reads
 
 abbrev Inv-loop : tie.InvT-loop
 Inv-loop bytes at question c n slots p₀ place₀ p place = (p ≤ length bytes) × (place ≤ n) × (codeFrom bytes question c n slots 0 at ≡ codeFrom bytes question c n slots place p)

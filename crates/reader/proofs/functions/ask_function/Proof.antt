@@ -1,13 +1,8 @@
-use mathlib.Core.Path.{_≡_, refl, sym, ap, _∙_}
+use mathlib.Core.Path.{sym, _∙_}
 use Rattle.reader.proofs.FunctionLaws.{short-function, function-head, function-fails}
 use borrow.Author.Needs.{needs}
 use Rattle.reader.proofs.functions.ask_function.Statement.{statement}
 use Rattle.reader.proofs.functions.ask_function.Tie as tie
-use Rattle.reader.proofs.functions.ask_function.Reads as reads
-use Rattle.reader.proofs.functions.ask_function.Lts as lts
-use Rattle.reader.proofs.functions.ask_code.Reads as ask-code-reads
-use Rattle.reader.proofs.operands.ask_head.Reads as ask-head-reads
-use Rattle.reader.proofs.numbers.number_at.Reads as number-at-reads
 
 pub ask-function-spec : {M : Type 1} → statement M
 ask-function-spec = tie.close (tie.spec

@@ -1,11 +1,8 @@
-use mathlib.Core.Path.{_≡_, refl, sym, ap, _∙_}
+use mathlib.Core.Path.{refl, sym}
 use borrow.Author.Needs.{needs}
 use Rattle.reader.proofs.InstructionLaws.{no-byte, no-opcode, no-operands, yes-instruction}
 use Rattle.reader.proofs.instructions.instruction_at.Statement.{statement}
 use Rattle.reader.proofs.instructions.instruction_at.Tie as tie
-use Rattle.reader.proofs.instructions.instruction_at.Reads as reads
-use Rattle.reader.proofs.instructions.instruction_at.Lts as lts
-use Rattle.reader.proofs.numbers.number_at.Reads as number-at-reads
 
 pub instruction-at-spec : {M : Type 1} → statement M
 instruction-at-spec = tie.close (tie.spec

@@ -1,5 +1,5 @@
 use native.Mathlib.Omega.{arith}
-use mathlib.Core.Path.{_≡_, sym, _∙_}
+use mathlib.Core.Path.{sym, _∙_}
 use borrow.Author.Needs.{needs}
 use Rattle.reader.proofs.Iterated.{met-found, met-nothing, found-before}
 use Rattle.reader.proofs.instructions.next_instruction.Statement.{statement}

@@ -1,14 +1,7 @@
-use mathlib.Core.Path.{_≡_, refl, sym, ap, _∙_}
-use Prim.Native.Nat.{ℕ, _+_, _-_, _≤_, _<_}
 use native.Mathlib.Omega.{arith}
-use borrow.Author.Needs.{needs}
-use lib.ListN.{length}
 use Rattle.reader.proofs.Questions.{symbols-count, strings-count, functions-count, classes-count, constants-count, counts-are}
 use Rattle.reader.proofs.layout.counts_of.Statement.{statement}
 use Rattle.reader.proofs.layout.counts_of.Tie as tie
-use Rattle.reader.proofs.layout.counts_of.Reads as reads
-use Rattle.reader.proofs.layout.counts_of.Lts as lts
-use Rattle.reader.proofs.numbers.number_at.Reads as number-at-reads
 
 pub counts-of-spec : {M : Type 1} → statement M
 counts-of-spec = tie.close (tie.spec

@@ -1,14 +1,8 @@
-use mathlib.Core.Path.{_≡_, refl, sym, ap, _∙_}
+use mathlib.Core.Path.{sym, _∙_}
 use Rattle.reader.proofs.Questions.{functions-lack, classes-lack, constants-lack, code-falls, code-stands}
 use borrow.Author.Needs.{needs}
 use Rattle.reader.proofs.layout.judge.Statement.{statement}
 use Rattle.reader.proofs.layout.judge.Tie as tie
-use Rattle.reader.proofs.layout.judge.Reads as reads
-use Rattle.reader.proofs.layout.judge.Lts as lts
-use Rattle.reader.proofs.classes.ask_classes.Reads as ask-classes-reads
-use Rattle.reader.proofs.classes.ask_constants.Reads as ask-constants-reads
-use Rattle.reader.proofs.functions.ask_functions.Reads as ask-functions-reads
-use Rattle.reader.proofs.layout.counts_of.Reads as counts-of-reads
 
 pub judge-spec : {M : Type 1} → statement M
 judge-spec = tie.close (tie.spec

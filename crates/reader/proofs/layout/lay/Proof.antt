@@ -1,15 +1,8 @@
-use mathlib.Core.Path.{_≡_, refl, sym, ap, _∙_}
+use mathlib.Core.Path.{sym, _∙_}
 use Rattle.reader.proofs.Question19.{no-symbols, no-strings, no-functions, no-classes, no-constants, strings-in, functions-in, classes-in, constants-in, laid, over}
 use borrow.Author.Needs.{needs}
 use Rattle.reader.proofs.layout.lay.Statement.{statement}
 use Rattle.reader.proofs.layout.lay.Tie as tie
-use Rattle.reader.proofs.layout.lay.Reads as reads
-use Rattle.reader.proofs.layout.lay.Lts as lts
-use Rattle.reader.proofs.classes.ask_classes.Reads as ask-classes-reads
-use Rattle.reader.proofs.classes.ask_constants.Reads as ask-constants-reads
-use Rattle.reader.proofs.functions.ask_functions.Reads as ask-functions-reads
-use Rattle.reader.proofs.names.skip_strings.Reads as skip-strings-reads
-use Rattle.reader.proofs.names.skip_symbols.Reads as skip-symbols-reads
 
 pub lay-spec : {M : Type 1} → statement M
 lay-spec = tie.close (tie.spec

@@ -1,14 +1,8 @@
-use mathlib.Core.Path.{_≡_, refl, sym, ap, _∙_}
 use Rattle.reader.proofs.Heading.{head-passed, not-laid, laid-out}
 use Rattle.reader.proofs.Deciding.{head-closes, layout-closes, verdict-closes, verdict-opens}
 use borrow.Author.Needs.{needs}
 use Rattle.reader.proofs.layout.open_module.Statement.{statement}
 use Rattle.reader.proofs.layout.open_module.Tie as tie
-use Rattle.reader.proofs.layout.open_module.Reads as reads
-use Rattle.reader.proofs.layout.open_module.Lts as lts
-use Rattle.reader.proofs.layout.judge.Reads as judge-reads
-use Rattle.reader.proofs.layout.lay.Reads as lay-reads
-use Rattle.reader.proofs.layout.read_head.Reads as read-head-reads
 
 pub open-module-spec : {M : Type 1} → statement M
 open-module-spec = tie.close (tie.spec

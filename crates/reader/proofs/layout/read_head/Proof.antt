@@ -1,11 +1,7 @@
-use mathlib.Core.Path.{_≡_, refl, sym, ap, _∙_}
 use Rattle.reader.proofs.Heading.{too-long, no-count, bad-count, no-version, bad-version, good-head}
 use borrow.Author.Needs.{needs}
 use Rattle.reader.proofs.layout.read_head.Statement.{statement}
 use Rattle.reader.proofs.layout.read_head.Tie as tie
-use Rattle.reader.proofs.layout.read_head.Reads as reads
-use Rattle.reader.proofs.layout.read_head.Lts as lts
-use Rattle.reader.proofs.numbers.number_at.Reads as number-at-reads
 
 pub read-head-spec : {M : Type 1} → statement M
 read-head-spec = tie.close (tie.spec

@@ -1,12 +1,8 @@
-use mathlib.Core.Path.{_≡_, refl, sym, ap, _∙_}
+use mathlib.Core.Path.{sym, _∙_}
 use Rattle.reader.proofs.Taken.{short-name, long-name}
 use borrow.Author.Needs.{needs}
 use Rattle.reader.proofs.names.skip_name.Statement.{statement}
 use Rattle.reader.proofs.names.skip_name.Tie as tie
-use Rattle.reader.proofs.names.skip_name.Reads as reads
-use Rattle.reader.proofs.names.skip_name.Lts as lts
-use Rattle.reader.proofs.numbers.number_at.Reads as number-at-reads
-use Rattle.reader.proofs.numbers.skip_bytes.Reads as skip-bytes-reads
 
 pub skip-name-spec : {M : Type 1} → statement M
 skip-name-spec = tie.close (tie.spec

@@ -1,12 +1,8 @@
-use mathlib.Core.Path.{_≡_, refl, sym, ap, _∙_}
+use mathlib.Core.Path.{sym, _∙_}
 use Rattle.reader.proofs.StringLaws.{string-cut, string-range, string-yes, string-no}
 use borrow.Author.Needs.{needs}
-use native.Mathlib.Omega.{arith}
 use Rattle.reader.proofs.names.skip_string.Statement.{statement}
 use Rattle.reader.proofs.names.skip_string.Tie as tie
-use Rattle.reader.proofs.names.skip_string.Reads as reads
-use Rattle.reader.proofs.names.skip_string.Lts as lts
-use Rattle.reader.proofs.names.skip_text.Reads as skip-text-reads
 
 pub skip-string-spec : {M : Type 1} → statement M
 skip-string-spec = tie.close (tie.spec

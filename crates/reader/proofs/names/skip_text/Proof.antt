@@ -1,13 +1,9 @@
-use mathlib.Core.Path.{_≡_, refl, sym, ap, _∙_}
+use mathlib.Core.Path.{sym, _∙_}
 use Rattle.definitions.specs.Bytes.{text}
 use Rattle.reader.proofs.Taken.{count-cut, count-at}
 use borrow.Author.Needs.{needs}
 use Rattle.reader.proofs.names.skip_text.Statement.{statement}
 use Rattle.reader.proofs.names.skip_text.Tie as tie
-use Rattle.reader.proofs.names.skip_text.Reads as reads
-use Rattle.reader.proofs.names.skip_text.Lts as lts
-use Rattle.reader.proofs.numbers.number_at.Reads as number-at-reads
-use Rattle.reader.proofs.numbers.skip_bytes.Reads as skip-bytes-reads
 
 pub skip-text-spec : {M : Type 1} → statement M
 unfolding text

@@ -1,8 +1,6 @@
 use borrow.Author.Needs.{needs}
 use native.Mathlib.Omega.{arith}
-use mathlib.Core.Path.{sym, ap, _∙_}
-use Prim.Native.Nat.{ℕ, _+_}
-use Rattle.reader.specs.View.{numberAt}
+use Prim.Native.Nat.{_+_}
 use Rattle.reader.proofs.NumberLaws.{number-none, number-one, number-two, within}
 use Rattle.reader.proofs.numbers.number_at.Statement.{statement}
 use Rattle.reader.proofs.numbers.number_at.Tie as tie

@@ -1,9 +1,7 @@
-use mathlib.Core.Path.{_≡_, refl, sym, ap, _∙_}
+use mathlib.Core.Path.{sym}
 use Rattle.reader.proofs.Tested.{head-20, head-21, head-other}
 use Rattle.reader.proofs.operands.ask_head.Statement.{statement}
 use Rattle.reader.proofs.operands.ask_head.Tie as tie
-use Rattle.reader.proofs.operands.ask_head.Reads as reads
-use Rattle.reader.proofs.operands.ask_head.Lts as lts
 
 pub ask-head-spec : {M : Type 1} → statement M
 ask-head-spec = tie.close (tie.spec

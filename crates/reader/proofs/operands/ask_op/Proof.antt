@@ -1,15 +1,10 @@
-use mathlib.Core.Path.{_≡_, refl, sym, ap, _∙_}
+use mathlib.Core.Path.{sym, ap, _∙_}
 use Prim.Native.Nat.{ℕ}
 use Rattle.reader.specs.Asks.{existsIn}
 use Rattle.reader.proofs.Tested.{ask-20, ask-21, ask-other}
 use borrow.Author.Needs.{needs}
 use Rattle.reader.proofs.operands.ask_op.Statement.{statement}
 use Rattle.reader.proofs.operands.ask_op.Tie as tie
-use Rattle.reader.proofs.operands.ask_op.Reads as reads
-use Rattle.reader.proofs.operands.ask_op.Lts as lts
-use Rattle.reader.proofs.operands.kind_of.Reads as kind-of-reads
-use Rattle.reader.proofs.operands.number_exists.Reads as number-exists-reads
-use Rattle.reader.proofs.operands.op_stands.Reads as op-stands-reads
 
 pub ask-op-spec : {M : Type 1} → statement M
 ask-op-spec = tie.close (tie.spec

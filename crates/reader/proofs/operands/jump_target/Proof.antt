@@ -1,10 +1,7 @@
-use mathlib.Core.Path.{_≡_, refl, sym, ap, _∙_}
 use Rattle.reader.proofs.Tested.{target-is}
 use borrow.Author.Needs.{needs}
 use Rattle.reader.proofs.operands.jump_target.Statement.{statement}
 use Rattle.reader.proofs.operands.jump_target.Tie as tie
-use Rattle.reader.proofs.operands.jump_target.Reads as reads
-use Rattle.reader.proofs.operands.jump_target.Lts as lts
 
 pub jump-target-spec : {M : Type 1} → statement M
 jump-target-spec = tie.close (tie.spec

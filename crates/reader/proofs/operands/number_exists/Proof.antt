@@ -1,13 +1,8 @@
-use mathlib.Core.Path.{_≡_, refl, sym, ap, _∙_}
-use native.Mathlib.Omega.{arith}
-use Rattle.reader.specs.Asks.{existsIn}
+use mathlib.Core.Path.{sym, _∙_}
 use Rattle.reader.proofs.Tested.{exists-0, exists-1, exists-2, exists-3, exists-4, exists-5, exists-6, exists-other, seven}
 use borrow.Author.Needs.{needs}
 use Rattle.reader.proofs.operands.number_exists.Statement.{statement}
 use Rattle.reader.proofs.operands.number_exists.Tie as tie
-use Rattle.reader.proofs.operands.number_exists.Reads as reads
-use Rattle.reader.proofs.operands.number_exists.Lts as lts
-use Rattle.reader.proofs.operands.is_builtin.Reads as is-builtin-reads
 
 pub number-exists-spec : {M : Type 1} → statement M
 number-exists-spec = tie.close (tie.spec

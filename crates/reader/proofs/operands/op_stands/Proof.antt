@@ -1,14 +1,10 @@
-use mathlib.Core.Path.{_≡_, refl, sym, ap, _∙_}
-use native.Mathlib.Omega.{arith}
+use mathlib.Core.Path.{sym, ap, _∙_}
 use lib.Dec.{ltb}
 use Prim.Native.Nat.{ℕ}
 use Rattle.reader.proofs.Tested.{last-not, last-is, jump-lands, no-jump-below, no-jump-above}
 use borrow.Author.Needs.{needs}
 use Rattle.reader.proofs.operands.op_stands.Statement.{statement}
 use Rattle.reader.proofs.operands.op_stands.Tie as tie
-use Rattle.reader.proofs.operands.op_stands.Reads as reads
-use Rattle.reader.proofs.operands.op_stands.Lts as lts
-use Rattle.reader.proofs.operands.jump_target.Reads as jump-target-reads
 
 pub op-stands-spec : {M : Type 1} → statement M
 op-stands-spec = tie.close (tie.spec

@@ -1,22 +1,15 @@
-use mathlib.Core.Path.{_≡_, refl, sym, ap, _∙_}
-use Prim.Native.Nat.{ℕ, _+_, _-_, _≤_, _<_}
+use mathlib.Core.Path.{sym, _∙_}
 use native.Mathlib.Omega.{arith}
 use borrow.Author.Needs.{needs}
-use lib.ListN.{length}
 use Rattle.reader.proofs.Deciding.{placed-at, placed-not}
 use Rattle.reader.proofs.Finding.{no-function, record-in, record-reads, count-in, code-inside, code-located}
 use borrow.Author.Needs.{needs}
 use Rattle.reader.proofs.places.locate_in.Statement.{statement}
 use Rattle.reader.proofs.places.locate_in.Tie as tie
-use Rattle.reader.proofs.places.locate_in.Reads as reads
-use Rattle.reader.proofs.places.locate_in.Lts as lts
-use Rattle.reader.proofs.functions.ask_function.Reads as ask-function-reads
-use Rattle.reader.proofs.places.find_function.Reads as find-function-reads
-use Rattle.reader.proofs.numbers.number_at.Reads as number-at-reads
 
 pub locate-in-spec : {M : Type 1} → statement M
 locate-in-spec = tie.close (tie.spec
-    (λ c κs. (c .before .pre .laid .stringsAt .to, c .before .pre .laid .functionsAt))  -- find-function-requires
+    (λ c κs. let l = c .before .pre .laid in record { inside = l .stringsAt .to; to = _; read = l .functionsAt })  -- find-function-requires
     (λ c. search needs)  -- enum-known-place
     (λ c. search needs)  -- enum-told
     (λ c. no-function _ _ _ _ _ (c .before .before .before .before .pre) _ (placed-not _ _ _ _ (c .before .before .find-function .ensures) (c .enum-told .given .1)))  -- returns

@@ -1,8 +1,5 @@
-use Prim.Native.Nat.{ℕ, _+_, _-_, _≤_, _<_}
-use mathlib.Core.Path.{_≡_, sym, ap, _∙_}
-use native.Mathlib.Omega.{arith}
+use Prim.Native.Nat.{_-_}
 use borrow.Author.Needs.{needs}
-use lib.ListN.{length}
 use Rattle.run.proofs.Passing.{Going, going-start, stretch-many, near-stands, turn-less, turn-on, turn-over, turn-many}
 use Rattle.run.proofs.passes.pass.Statement.{statement}
 use Rattle.run.proofs.passes.pass.Tie as tie

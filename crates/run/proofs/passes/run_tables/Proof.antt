@@ -1,8 +1,5 @@
-use Prim.Native.Nat.{ℕ, _+_, _-_, _≤_, _<_}
-use mathlib.Core.Path.{_≡_, sym, ap, _∙_}
 use native.Mathlib.Omega.{arith}
 use borrow.Author.Needs.{needs}
-use lib.ListN.{length}
 use Rattle.run.proofs.Calling.{measured-full, full-called, measured-fits, ended-called, nil-front}
 use Rattle.run.proofs.passes.run_tables.Statement.{statement}
 use Rattle.run.proofs.passes.run_tables.Tie as tie

@@ -1,5 +1,3 @@
-use mathlib.Core.Path.{_≡_, sym, _∙_}
-use native.Mathlib.Omega.{arith}
 use borrow.Author.Needs.{needs}
 use Rattle.run.proofs.Turning.{ask-starved, ask-full, ask-on}
 use Rattle.run.proofs.steps.ask.Statement.{statement}

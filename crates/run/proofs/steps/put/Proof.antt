@@ -1,10 +1,8 @@
-use mathlib.Core.Path.{_≡_, refl, sym, ap, _∙_}
+use mathlib.Core.Path.{sym}
 use lib.Seq.{set-out}
 use borrow.Author.Needs.{needs}
 use Rattle.run.proofs.steps.put.Statement.{statement}
 use Rattle.run.proofs.steps.put.Tie as tie
-use Rattle.run.proofs.steps.put.Reads as reads
-use Rattle.run.proofs.steps.put.Lts as lts
 
 pub put-spec : {M : Type 1} → statement M
 put-spec = tie.close (tie.spec

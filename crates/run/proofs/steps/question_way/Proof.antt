@@ -1,11 +1,8 @@
-use mathlib.Core.Path.{_≡_, refl, sym, ap, _∙_}
+use mathlib.Core.Path.{_∙_}
 use Rattle.run.proofs.Flows.{way-true-yes, way-true-no, way-false-yes, way-false-no}
 use borrow.Author.Needs.{needs}
 use Rattle.run.proofs.steps.question_way.Statement.{statement}
 use Rattle.run.proofs.steps.question_way.Tie as tie
-use Rattle.run.proofs.steps.question_way.Reads as reads
-use Rattle.run.proofs.steps.question_way.Lts as lts
-use Rattle.reader.proofs.jump_target.Reads as jump-target-reads
 
 pub question-way-spec : {M : Type 1} → statement M
 question-way-spec = tie.close (tie.spec

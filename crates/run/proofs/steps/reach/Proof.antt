@@ -1,4 +1,3 @@
-use native.Mathlib.Omega.{arith}
 use borrow.Author.Needs.{needs}
 use Rattle.run.proofs.Turning.{reach-stop, reach-short}
 use Rattle.run.proofs.steps.reach.Statement.{statement}

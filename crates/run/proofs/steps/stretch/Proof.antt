@@ -1,8 +1,5 @@
-use Prim.Native.Nat.{ℕ, _+_, _-_, _≤_, _<_}
-use mathlib.Core.Path.{_≡_, sym, ap, _∙_}
 use native.Mathlib.Omega.{arith}
 use borrow.Author.Needs.{needs}
-use lib.ListN.{length, getD}
 use Rattle.run.proofs.Stretching.{stop-after, to-table, p-to-q, stretch-full, stretch-on}
 use Rattle.run.proofs.steps.stretch.Statement.{statement}
 use Rattle.run.proofs.steps.stretch.Tie as tie

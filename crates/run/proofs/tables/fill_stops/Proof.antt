@@ -1,8 +1,6 @@
-use Prim.Native.Nat.{ℕ, _+_, _-_, _≤_, _<_}
-use mathlib.Core.Path.{_≡_, refl, sym, ap, _∙_}
+use mathlib.Core.Path.{refl}
 use native.Mathlib.Omega.{arith}
 use borrow.Author.Needs.{needs}
-use lib.ListN.{length}
 use Rattle.run.proofs.Tabled.{Stopping, stopping-start, place-in, stop-less, stopping-next, stopped}
 use Rattle.run.proofs.tables.fill_stops.Statement.{statement}
 use Rattle.run.proofs.tables.fill_stops.Tie as tie

@@ -1,5 +1,3 @@
-use mathlib.Core.Path.{_≡_, sym, _∙_}
-use borrow.Author.Needs.{needs}
 use Rattle.run.proofs.Flows.{on-28, on-29, on-30, on-last}
 use Rattle.run.proofs.tables.goes_on.Statement.{statement}
 use Rattle.run.proofs.tables.goes_on.Tie as tie

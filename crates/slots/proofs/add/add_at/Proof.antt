@@ -2,11 +2,6 @@ use borrow.Author.Needs.{needs}
 use Rattle.slots.proofs.Adding.{added-there, added-new}
 use Rattle.slots.proofs.add.add_at.Statement.{statement}
 use Rattle.slots.proofs.add.add_at.Tie as tie
-use Rattle.slots.proofs.add.add_at.Reads as reads
-use Rattle.slots.proofs.add.add_at.Lts as lts
-use Rattle.names.proofs.index.find_from.Reads as find-from-reads
-use Rattle.names.proofs.index.start.Reads as start-reads
-use Rattle.names.proofs.spell.name_part.Reads as name-part-reads
 
 pub add-at-spec : {M : Type 1} → statement M
 add-at-spec = tie.close (tie.spec

@@ -4,11 +4,6 @@ use Rattle.slots.proofs.Capturing.{lambda-over, params-few, lambda-few,
 use borrow.Author.Needs.{needs}
 use Rattle.slots.proofs.captures.lambda_slots.Statement.{statement}
 use Rattle.slots.proofs.captures.lambda_slots.Tie as tie
-use Rattle.slots.proofs.captures.lambda_slots.Reads as reads
-use Rattle.slots.proofs.captures.lambda_slots.Lts as lts
-use Rattle.slots.proofs.captures.collect_free_vars.Reads as collect-free-vars-reads
-use Rattle.slots.proofs.collect.put_params.Reads as put-params-reads
-use Rattle.slots.proofs.index.append_slots.Reads as append-slots-reads
 
 pub lambda-slots-spec : {M : Type 1} → statement M
 lambda-slots-spec = tie.close (tie.spec

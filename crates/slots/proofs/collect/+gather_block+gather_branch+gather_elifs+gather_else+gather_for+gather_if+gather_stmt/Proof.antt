@@ -1,12 +1,11 @@
 use borrow.Author.Needs.{needs}
 use native.Mathlib.Omega.{arith}
-use mathlib.Core.Path.{_≡_, refl, sym, ap, _∙_, subst}
-use Prim.Native.Nat.{ℕ, _+_, _*_, _≤_, _<_}
-use Rattle.tree.specs.StmtAt.{BranchAt, BlockReads}
+use mathlib.Core.Path.{refl, _∙_}
+use Prim.Native.Nat.{ℕ, _+_, _*_, _<_}
 use Rattle.tree.proofs.StmtViews.{stmt-inside, stmt-deep, view-block, view-if, view-while, view-for, else-inside}
-use Rattle.definitions.proofs.Named.{stmt-grows, block-grows, branches-grow}
+use Rattle.definitions.proofs.Named.{block-grows, branches-grow}
 use Rattle.slots.proofs.Gathering.{gathers-next, over-more, room-again, stmt-if, stmt-while, stmt-for, StmtsLeft, stmts-start, stmts-head, stmts-next, stmts-over, stmts-done, BranchesLeft, branches-start, branches-head, branches-next, branches-over, branches-last, branches-done, else-none, else-reads, else-some, elifs-counted, elifs-read, if-done, for-done, branch-done, block-there, branch-there}
-use Prim.Native.Nat.{ℕ, _<_}
+use Prim.Native.Nat.{ℕ}
 use borrow.Fn.Kinds.{In}
 use borrow.Fn.PlainCycle.{Measures, is, falls, and}
 use Rattle.slots.proofs.collect.gather_block.Reads as gather-block

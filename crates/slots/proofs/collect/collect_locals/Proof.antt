@@ -2,10 +2,6 @@ use Rattle.slots.proofs.Params.{collected-count, locals-begun, locals-o
 use borrow.Author.Needs.{needs}
 use Rattle.slots.proofs.collect.collect_locals.Statement.{statement}
 use Rattle.slots.proofs.collect.collect_locals.Tie as tie
-use Rattle.slots.proofs.collect.collect_locals.Reads as reads
-use Rattle.slots.proofs.collect.collect_locals.Lts as lts
-use Rattle.slots.proofs.collect.gather_block.Reads as gather-block-reads
-use Rattle.slots.proofs.collect.put_params.Reads as put-params-reads
 
 pub collect-locals-spec : {M : Type 1} → statement M
 collect-locals-spec = tie.close (tie.spec

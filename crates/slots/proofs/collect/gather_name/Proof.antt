@@ -3,9 +3,6 @@ use native.Mathlib.Omega.{arith}
 use borrow.Author.Needs.{needs}
 use Rattle.slots.proofs.collect.gather_name.Statement.{statement}
 use Rattle.slots.proofs.collect.gather_name.Tie as tie
-use Rattle.slots.proofs.collect.gather_name.Reads as reads
-use Rattle.slots.proofs.collect.gather_name.Lts as lts
-use Rattle.slots.proofs.add.add_name.Reads as add-name-reads
 
 pub gather-name-spec : {M : Type 1} → statement M
 gather-name-spec = tie.close (tie.spec

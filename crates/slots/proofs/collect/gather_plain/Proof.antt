@@ -5,12 +5,6 @@ use Rattle.slots.proofs.Gathering.{gathers-as, next-gathers, locals-sim
 use borrow.Author.Needs.{needs}
 use Rattle.slots.proofs.collect.gather_plain.Statement.{statement}
 use Rattle.slots.proofs.collect.gather_plain.Tie as tie
-use Rattle.slots.proofs.collect.gather_plain.Reads as reads
-use Rattle.slots.proofs.collect.gather_plain.Lts as lts
-use Rattle.slots.proofs.collect.gather_assign.Reads as gather-assign-reads
-use Rattle.slots.proofs.collect.gather_name.Reads as gather-name-reads
-use Rattle.slots.proofs.skip.skip_stmt.Reads as skip-stmt-reads
-use Rattle.slots.proofs.skip.skip_value.Reads as skip-value-reads
 
 pub gather-plain-spec : {M : Type 1} → statement M
 gather-plain-spec = tie.close (tie.spec

@@ -4,9 +4,6 @@ use native.Mathlib.Omega.{arith}
 use Prim.Native.Nat.{_-_}
 use Rattle.slots.proofs.collect.place_names.Statement.{statement}
 use Rattle.slots.proofs.collect.place_names.Tie as tie
-use Rattle.slots.proofs.collect.place_names.Reads as reads
-use Rattle.slots.proofs.collect.place_names.Lts as lts
-use Rattle.parts.proofs.names.name_end.Reads as name-end-reads
 
 abbrev Inv-loop : tie.InvT-loop
 Inv-loop tree at count places₀ p₀ i₀ places p i = ParamsLeft tree places₀ count p₀ places p i

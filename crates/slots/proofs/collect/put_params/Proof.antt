@@ -4,11 +4,6 @@ use Rattle.slots.proofs.Params.{params-all, params-over, params-index, 
 use borrow.Author.Needs.{needs}
 use Rattle.slots.proofs.collect.put_params.Statement.{statement}
 use Rattle.slots.proofs.collect.put_params.Tie as tie
-use Rattle.slots.proofs.collect.put_params.Reads as reads
-use Rattle.slots.proofs.collect.put_params.Lts as lts
-use Rattle.parts.proofs.numbers.u16_at.Reads as u16-at-reads
-use Rattle.slots.proofs.collect.place_names.Reads as place-names-reads
-use Rattle.slots.proofs.index.index_slots.Reads as index-slots-reads
 
 pub put-params-spec : {M : Type 1} → statement M
 put-params-spec = tie.close (tie.spec

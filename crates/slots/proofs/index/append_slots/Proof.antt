@@ -2,10 +2,6 @@ use Rattle.slots.proofs.Reindexing.{appended}
 use borrow.Author.Needs.{needs}
 use Rattle.slots.proofs.index.append_slots.Statement.{statement}
 use Rattle.slots.proofs.index.append_slots.Tie as tie
-use Rattle.slots.proofs.index.append_slots.Reads as reads
-use Rattle.slots.proofs.index.append_slots.Lts as lts
-use Rattle.slots.proofs.index.copy_places.Reads as copy-places-reads
-use Rattle.slots.proofs.index.index_slots.Reads as index-slots-reads
 
 pub append-slots-spec : {M : Type 1} → statement M
 append-slots-spec = tie.close (tie.spec

@@ -2,7 +2,6 @@ use native.Mathlib.Omega.{arith}
 use mathlib.Core.Path.{_≡_, refl}
 use Prim.Native.Nat.{_-_, _≤_}
 use lib.ListN.{length, take, length-set}
-use borrow.Author.Needs.{needs}
 use Rattle.slots.proofs.Reindexing.{copy-next, copy-done}
 use Rattle.slots.proofs.index.copy_places.Statement.{statement}
 use Rattle.slots.proofs.index.copy_places.Tie as tie

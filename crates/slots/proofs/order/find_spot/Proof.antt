@@ -26,10 +26,10 @@ find-spot-spec = tie.close (tie.spec Inv-loop μ-loop
     (λ c. let v = c .before .before .loop .inv in let a = v .order in let b = v .most in omega arith)  -- shared-slice-read-name-part-2
     (λ c. omega (arith, c .shared-slice-known4 .given ((c .before .before .loop .low + c .before .before .loop .high) / 2 + 1)))  -- cast-name-part-2
     (λ c κs. search needs)  -- name-part-requires-2
-    (λ c κs. search needs)  -- is-below-requires
+    (λ c κs. search needs)  -- below-bytes-requires
     (λ c. let v = c .before .before .before .before .before .loop .inv in let a = v .order in let b = v .most in omega (arith, c .before .before .before .before .loop-test .taken))  -- loop-less
-    (λ c. seek-down _ _ _ (c .before .before .before .before .before .before .before .before .before .before .pre .1) _ _ _ (c .before .before .before .before .before .loop .inv) (omega (arith, c .before .before .before .before .loop-test .taken)) (omega (arith, c .before .before .before .before .loop-test .taken)) _ _ _ refl (c .before .before .name-part2 .ensures .0) (c .before .is-below .ensures) (c .if1 .taken))  -- loop-again
+    (λ c. seek-down _ _ _ (c .before .before .before .before .before .before .before .before .before .before .pre .1) _ _ _ (c .before .before .before .before .before .loop .inv) (omega (arith, c .before .before .before .before .loop-test .taken)) (omega (arith, c .before .before .before .before .loop-test .taken)) _ _ _ refl (c .before .before .name-part2 .ensures .0) (c .before .below-bytes .ensures) (c .if1 .taken))  -- loop-again
     (λ c. let v = c .before .before .before .before .before .loop .inv in let a = v .order in let b = v .most in omega arith)  -- add-low
     (λ c. let v = c .before .before .before .before .before .loop .inv in let a = v .order in let b = v .most in omega (arith, c .before .before .before .before .loop-test .taken))  -- loop-less-2
-    (λ c. seek-up _ _ _ (c .before .before .before .before .before .before .before .before .before .before .pre .1) _ _ _ (c .before .before .before .before .before .loop .inv) (omega (arith, c .before .before .before .before .loop-test .taken)) (omega (arith, c .before .before .before .before .loop-test .taken)) _ _ _ refl (c .before .before .name-part2 .ensures .0) (c .before .is-below .ensures) (c .if1 .left))  -- loop-again-2
+    (λ c. seek-up _ _ _ (c .before .before .before .before .before .before .before .before .before .before .pre .1) _ _ _ (c .before .before .before .before .before .loop .inv) (omega (arith, c .before .before .before .before .loop-test .taken)) (omega (arith, c .before .before .before .before .loop-test .taken)) _ _ _ refl (c .before .before .name-part2 .ensures .0) (c .before .below-bytes .ensures) (c .if1 .left))  -- loop-again-2
     (λ c. let v = c .before .loop in let s = c .before .before .before .before .before .before in seek-done _ _ _ _ (v .high) (subst (λ (n : List ℕ). Seeking (s .args .tree .now) n (s .args .places .now) (v .low) (v .high)) (c .before .before .name-part .ensures .0) (v .inv)) (c .loop-test .left)))  -- returns

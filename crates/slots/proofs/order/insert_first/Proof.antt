@@ -1,5 +1,5 @@
 use native.Mathlib.Omega.{arith}
-use lib.ListN.{length, length-set}
+use lib.ListN.{length-set}
 use Prim.Native.Nat.{_-_}
 use borrow.Author.Needs.{needs}
 use Rattle.slots.proofs.Spotting.{Moving, move-start, move-read, move-next, move-done}

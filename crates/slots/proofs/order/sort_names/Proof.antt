@@ -1,14 +1,9 @@
 use Rattle.slots.proofs.Ordering.{Sorting, sort-start, sort-first, sort-put, sort-done}
 use Rattle.slots.proofs.Spotting.{sort-rest}
-use lib.ListN.{length, length-drop}
-use borrow.Author.Needs.{needs}
 use native.Mathlib.Omega.{arith}
-use mathlib.Core.Path.{_≡_, refl, sym, ap, _∙_}
+use mathlib.Core.Path.{refl}
 use Rattle.slots.proofs.order.sort_names.Statement.{statement}
 use Rattle.slots.proofs.order.sort_names.Tie as tie
-use Rattle.slots.proofs.order.sort_names.Reads as reads
-use Rattle.slots.proofs.order.sort_names.Lts as lts
-use Rattle.slots.proofs.order.insert_first.Reads as insert-first-reads
 
 abbrev Inv-loop : tie.InvT-loop
 Inv-loop tree places₀ i₀ places i = Sorting tree places₀ places i

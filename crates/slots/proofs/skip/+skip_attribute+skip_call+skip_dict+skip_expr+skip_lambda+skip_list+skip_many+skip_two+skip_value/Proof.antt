@@ -1,13 +1,13 @@
 use native.Mathlib.Omega.{arith}
 use mathlib.Core.Logic.{inl, inr}
 use mathlib.Core.Path.{refl, ap, _∙_}
-use Prim.Native.Nat.{_+_, _*_}
+use Prim.Native.Nat.{_+_, _*_, _<_}
 use Rattle.definitions.specs.Tree.{Exprs}
 use Rattle.parts.specs.Places.{Node}
 use Rattle.exprs.proofs.ExprViews.{expr-inside, expr-deep, expr-known, view-int, view-float, view-string, view-var, view-unary, view-binary, view-call, view-attribute, view-list, view-dict, view-tuple, view-set, view-tree-set, view-index, view-lambda}
 use Rattle.slots.proofs.Referring.{list-reads, list-is, dict-reads, dict-is}
 use Rattle.slots.proofs.Skipping.{plain-done, number-done, plain-kinds, int-done, float-done, string-done, var-done, unary-done, binary-done, call-done, attribute-done, display-done, dict-done, index-done, lambda-done, moved-expr, expr-after, moved-list, list-after, moved-name, name-after, ExprsLeft, exprs-head, exprs-next, exprs-done}
-use Prim.Native.Nat.{ℕ, _<_}
+use Prim.Native.Nat.{ℕ}
 use borrow.Fn.Kinds.{In}
 use borrow.Fn.PlainCycle.{Measures, is, falls, and}
 use Rattle.slots.proofs.skip.skip_attribute.Reads as skip-attribute

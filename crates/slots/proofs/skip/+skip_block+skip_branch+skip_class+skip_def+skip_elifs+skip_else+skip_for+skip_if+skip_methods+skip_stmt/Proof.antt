@@ -1,10 +1,10 @@
 use native.Mathlib.Omega.{arith}
 use mathlib.Core.Path.{refl}
-use Prim.Native.Nat.{_+_, _*_}
+use Prim.Native.Nat.{_+_, _*_, _<_}
 use Rattle.tree.proofs.StmtViews.{stmt-inside, stmt-deep, view-expr, view-return, view-assign, view-if, view-while, view-for, view-def, view-class, view-block, else-inside}
 use Rattle.slots.proofs.Skipping.{moved-params}
 use Rattle.slots.proofs.SkippingStmts.{simple-done, expr-done, return-done, assign-done, if-done, while-done, for-done, def-done, class-done, moved-block, block-after, moved-branch, branch-after, def-block, def-after, StmtsLeft, stmts-start, stmts-head, stmts-next, stmts-done, BranchesLeft, branches-head, branches-next, branches-last, branches-done, else-none, else-reads, else-done, elifs-counted, elifs-read, elifs-done, MethodsLeft, methods-head, methods-next, methods-done, methods-counted, methods-read, attributes-there, attributes-done}
-use Prim.Native.Nat.{ℕ, _<_}
+use Prim.Native.Nat.{ℕ}
 use borrow.Fn.Kinds.{In}
 use borrow.Fn.PlainCycle.{Measures, is, falls, and}
 use Rattle.slots.proofs.skip.skip_block.Reads as skip-block

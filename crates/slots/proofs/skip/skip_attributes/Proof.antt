@@ -4,11 +4,6 @@ use Rattle.tree.proofs.StmtViews.{view-attributes}
 use Rattle.slots.proofs.SkippingStmts.{ValuesLeft, values-start, values-name, values-value, values-next, values-done}
 use Rattle.slots.proofs.skip.skip_attributes.Statement.{statement}
 use Rattle.slots.proofs.skip.skip_attributes.Tie as tie
-use Rattle.slots.proofs.skip.skip_attributes.Reads as reads
-use Rattle.slots.proofs.skip.skip_attributes.Lts as lts
-use Rattle.parts.proofs.names.name_end.Reads as name-end-reads
-use Rattle.parts.proofs.numbers.u16_at.Reads as u16-at-reads
-use Rattle.slots.proofs.skip.skip_expr.Reads as skip-expr-reads
 
 abbrev Inv-loop : tie.InvT-loop
 Inv-loop tree at depth left₀ p₀ left p = ValuesLeft depth tree left₀ p₀ left p

@@ -3,8 +3,6 @@ use Rattle.parts.proofs.NameLaws.{there-first}
 use Rattle.slots.proofs.Skipping.{NamesLeft, names-left, names-next, names-done}
 use Rattle.slots.proofs.skip.skip_params.Statement.{statement}
 use Rattle.slots.proofs.skip.skip_params.Tie as tie
-use Rattle.slots.proofs.skip.skip_params.Reads as reads
-use Rattle.slots.proofs.skip.skip_params.Lts as lts
 
 abbrev Inv-loop : tie.InvT-loop
 Inv-loop tree at p₀ left₀ p left = NamesLeft tree left₀ p₀ left p

@@ -3,9 +3,6 @@ use borrow.Author.Needs.{needs}
 use Rattle.slots.proofs.Skipping.{text-done}
 use Rattle.slots.proofs.skip.text_end.Statement.{statement}
 use Rattle.slots.proofs.skip.text_end.Tie as tie
-use Rattle.slots.proofs.skip.text_end.Reads as reads
-use Rattle.slots.proofs.skip.text_end.Lts as lts
-use Rattle.parts.proofs.numbers.u16_at.Reads as u16-at-reads
 
 pub text-end-spec : {M : Type 1} → statement M
 text-end-spec = tie.close (tie.spec

@@ -2,9 +2,6 @@ use borrow.Author.Needs.{needs}
 use Rattle.exprs.proofs.ConstantLaws.{constant-value}
 use Rattle.tree.proofs.stmts.check_assigned.Statement.{statement}
 use Rattle.tree.proofs.stmts.check_assigned.Tie as tie
-use Rattle.tree.proofs.stmts.check_assigned.Reads as reads
-use Rattle.tree.proofs.stmts.check_assigned.Lts as lts
-use Rattle.exprs.proofs.check_expr.Reads as check-expr-reads
 
 pub check-assigned-spec : {M : Type 1} → statement M
 check-assigned-spec = tie.close (tie.spec

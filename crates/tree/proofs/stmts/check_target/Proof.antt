@@ -3,10 +3,6 @@ use borrow.Author.Needs.{needs}
 use Rattle.exprs.proofs.ConstantLaws.{variable-target}
 use Rattle.tree.proofs.stmts.check_target.Statement.{statement}
 use Rattle.tree.proofs.stmts.check_target.Tie as tie
-use Rattle.tree.proofs.stmts.check_target.Reads as reads
-use Rattle.tree.proofs.stmts.check_target.Lts as lts
-use Rattle.exprs.proofs.check_expr.Reads as check-expr-reads
-use Rattle.parts.proofs.names.check_name.Reads as check-name-reads
 
 pub check-target-spec : {M : Type 1} → statement M
 check-target-spec = tie.close (tie.spec
