@@ -1,4 +1,4 @@
-// The tables of an accepted tree: function 0, `__main__`, is the tree's block, with no slots.
+// The tables of an accepted tree: function 0, `__main__`, is the tree's block, with no slots; its loops keep their iterators in globals.
 use lower_emit::begin_function;
 use lower_emit::end_function;
 use lower_emit::put_op;
@@ -11,6 +11,7 @@ use numerals::places::CLASSES;
 use numerals::places::CONSTANTS;
 use numerals::places::DONE;
 use numerals::places::FUNCTIONS;
+use numerals::places::IN_GLOBALS;
 use numerals::places::MADE;
 use numerals::places::METHODS;
 use numerals::places::OPEN;
@@ -64,7 +65,8 @@ fn emit_main(
         (now (tree .entry)) (now (made .entry)) (now (code .entry)) (now (tables .entry)) (now (k .entry)) (now (l .entry)) (now (made .exit)) (now (code .exit)) (now (tables .exit)) (now (k .exit)) ⌝ }
 {
     let none = [0u32; SLOTS_FROM];
-    let next = emit_block(tree, HEAD, DEPTH, &none, made, code, tables, k, l);
+    let mut it = IN_GLOBALS;
+    let next = emit_block(tree, HEAD, DEPTH, &none, made, code, tables, k, l, &mut it);
     if next == 0 {
         return 0;
     }

@@ -184,8 +184,9 @@ fn slots_by_first_appearance() {
     let slots = loaded_slots("slots-all-kinds", 1);
     let listed = &slots[slots.len() - 9..];
     assert_eq!(listed, [3, 2, 1, 9, 8, 7, 6, 5, 4]);
-    // r is 2, since the loop variable i and the body's a come first.
-    assert_eq!(loaded_slots("slots-loop-before-body", 1), [2, 0]);
+    // r is 2, since the loop variable i and the body's a come first; 3, after
+    // the names, is the loop's iterator.
+    assert_eq!(loaded_slots("slots-loop-before-body", 1), [2, 3, 3, 0]);
     // a and b are slots of the tuple target, whose value is b.
     assert_eq!(loaded_slots("slots-from-tuple", 1), [1]);
 }
