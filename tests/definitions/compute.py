@@ -31,6 +31,7 @@ use Rattle.definitions.specs.Bytes.{Answer, refused, accepted, same}
 use Rattle.definitions.specs.Module.{office, console}
 use Rattle.definitions.specs.Run.{Ran}
 use Rattle.definitions.specs.Calls.{lowerAnswer, readCall, runAnswer}
+use Rattle.definitions.specs.Heights.{heightsAnswer}
 use Rattle.definitions.specs.Open.{everything}
 
 unfoldable agrees : {A : Type 0} → (A → A → Bool) → Answer A → Answer A → Bool
@@ -80,6 +81,9 @@ def cases():
     for _, module, text in lines("modules.txt"):
         if len(record(module)) <= LONGEST_MODULE:
             yield f"agrees sameUnit (readCall {numbers(record(module))}) {answer(text, lambda _: 'tt')}"
+    for _, module, text in lines("heights.txt"):
+        if len(record(module)) <= LONGEST_MODULE:
+            yield f"agrees sameUnit (heightsAnswer 131072 {numbers(record(module))}) {answer(text, lambda _: 'tt')}"
     for _, module, function, answers, budget, room, text in lines("runs.txt"):
         if len(record(module)) <= LONGEST_MODULE and int(budget) <= LARGEST_BUDGET:
             call = f"runAnswer {numbers(record(module))} {function} {numbers(record(answers))} {budget} {room}"

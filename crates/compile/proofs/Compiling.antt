@@ -33,7 +33,7 @@ use Rattle.compile.specs.Compiled.{noCounts, nothing, mainNamed, mainBeg
 
 pub block-lowerable : (tree : List ℕ) → TreeAt tree → BlockLowerable 32 tree 5
 unfolding blockQuestions
-block-lowerable tree T = record { reads = T .block; loop = false; args = T .yes 7 (omega arith) }
+block-lowerable tree T = record { reads = T .block; loop = false; args = T .yes 8 (omega arith) }
 
 -- ---- the whole
 

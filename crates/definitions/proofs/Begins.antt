@@ -10,7 +10,7 @@ use lib.ListN.{length, take, drop, length-drop}
 use lib.Seq.{drop-drop, take-add}
 use borrow.Author.Tests.{leb-true, leb-false}
 use Rattle.definitions.specs.Bytes.{Parsed, got, failed, Parser, _>>=_, give, unread, byte, field, counted, listOf, name, text, keep, checked}
-use Rattle.definitions.specs.Instruction.{instr, firstWidth, secondWidth}
+use Rattle.definitions.specs.Instruction.{instr, firstWidth, secondWidth, isInstruction}
 use Rattle.definitions.specs.Wellformed.{isName}
 use Rattle.definitions.specs.Reader.{instruction, functionRecord, methodRecord, rising, classRecord}
 
@@ -105,14 +105,15 @@ takes-checked test p tp = takes-bind p _ tp (λ a. takes-keep (test a) a)
 
 pub takes-instruction : Takes instruction
 unfolding instruction
-takes-instruction = takes-bind (checked (λ op. leb op 45) byte) _ (takes-checked (λ op. leb op 45) byte takes-byte)
+takes-instruction = takes-bind (checked isInstruction byte) _ (takes-checked isInstruction byte takes-byte)
     (λ op. takes-bind (field (firstWidth op)) _ (takes-field (firstWidth op))
     (λ a. takes-bind (field (secondWidth op)) _ (takes-field (secondWidth op)) (λ b. takes-give (instr op a b))))
 
 pub takes-function : Takes functionRecord
 unfolding functionRecord
 takes-function = takes-bind (field 2) _ (takes-field 2) (λ k. takes-bind (field 1) _ (takes-field 1) (λ n. takes-bind (field 2) _ (takes-field 2)
-    (λ l. takes-bind (listOf 2 instruction) _ (takes-list 2 instruction takes-instruction) (λ is. takes-give (record { symbol = k; arity = n; locals = l; code = is })))))
+    (λ l. takes-bind (field 2) _ (takes-field 2)
+    (λ h. takes-bind (listOf 2 instruction) _ (takes-list 2 instruction takes-instruction) (λ is. takes-give (record { symbol = k; arity = n; locals = l; height = h; code = is }))))))
 
 pub takes-method : Takes methodRecord
 unfolding methodRecord

@@ -77,7 +77,7 @@ spelled (binaryF A B h) = tt
 spelled (logicalF A B h) = tt
 spelled (callF A k B h) = tt
 spelled (attrF A m h) = m
-spelled (displayF {k} {es} s A h) = display-spelled k es
+spelled (displayF {k} {es} s w A h) = display-spelled k es
 spelled (indexF A B h) = tt
 spelled (lambdaF k A h) = tt
 
@@ -92,7 +92,7 @@ mutual
   fits-expr slots (logicalF {op} A B h) = fits-within (fits-seq (fits-expr slots A) (fits-shortcut (decides op) (fits-expr slots B))) h
   fits-expr slots (callF {f} {es} A k B h) = fits-within (fits-call (view f) slots (count es) (spelled A) k (fits-expr slots A) (fits-object slots A) (fits-exprs slots B)) h
   fits-expr slots (attrF {x} A m h) = fits-within (fits-seq (fits-expr slots A) (fits-symbol x (name-short x m) (λ j t u l. fits-one (single refl l)))) (omega arith)
-  fits-expr slots (displayF {k} {es} s A h) = fits-within (fits-seq (fits-exprs slots A) (fits-one (build-sound k (displaySize k es) s))) (omega arith)
+  fits-expr slots (displayF {k} {es} s w A h) = fits-within (fits-seq (fits-exprs slots A) (fits-one (build-sound k (displaySize k es) s))) (omega arith)
   fits-expr slots (indexF A B h) = fits-within (fits-seq (fits-expr slots A) (fits-seq (fits-expr slots B) (fits-one (bare refl refl)))) (omega arith)
   fits-expr slots (lambdaF {ps} {b = d} k A h) =
       let cs = captures slots ps d in
@@ -111,6 +111,6 @@ mutual
   fits-object slots (logicalF A B h) = fits-nothing
   fits-object slots (callF A k B h) = fits-nothing
   fits-object slots (attrF A m h) = fits-within (fits-expr slots A) h
-  fits-object slots (displayF s A h) = fits-nothing
+  fits-object slots (displayF s w A h) = fits-nothing
   fits-object slots (indexF A B h) = fits-nothing
   fits-object slots (lambdaF k A h) = fits-nothing

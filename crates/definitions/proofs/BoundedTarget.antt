@@ -51,7 +51,7 @@ mutual
   fits-target slots (logicalF A B h) = fits-nothing
   fits-target slots (callF A k B h) = fits-nothing
   fits-target slots (attrF A m h) = fits-nothing
-  fits-target slots (displayF {k} {es} s A h) = fits-display k es (unpack slots es 0) s (λ l. fits-unpack slots 0 (omega arith) A)
+  fits-target slots (displayF {k} {es} s w A h) = fits-display k es (unpack slots es 0) s (λ l. fits-unpack slots 0 (omega arith) A)
   fits-target slots (indexF A B h) = fits-nothing
   fits-target slots (lambdaF k A h) = fits-nothing
 
@@ -80,6 +80,6 @@ fits-assign slots (binaryF A B h) E = fits-nothing
 fits-assign slots (logicalF A B h) E = fits-nothing
 fits-assign slots (callF A k B h) E = fits-nothing
 fits-assign slots (attrF {x} A m h) E = fits-within (fits-seq (fits-expr slots A) (fits-seq E (fits-symbol x (name-short x m) (λ j t u l. fits-one (single refl l))))) (omega arith)
-fits-assign slots (displayF {k} s A h) E = fits-within (fits-tuple k slots s A E) (omega arith)
+fits-assign slots (displayF {k} s w A h) E = fits-within (fits-tuple k slots s A E) (omega arith)
 fits-assign slots (indexF A B h) E = fits-within (fits-seq (fits-expr slots A) (fits-seq (fits-expr slots B) (fits-seq E (fits-one (bare refl refl))))) (omega arith)
 fits-assign slots (lambdaF k A h) E = fits-nothing

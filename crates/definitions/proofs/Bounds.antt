@@ -13,6 +13,7 @@ use Rattle.definitions.specs.Wellformed.{isName}
 use Rattle.definitions.specs.Builtins.{registry}
 use Rattle.definitions.specs.Instruction.{Instr, instr, Jump, ConstBool, firstWidth, secondWidth}
 use Rattle.definitions.specs.Instruction.{Numbers, nothing, aString, aConstant, aSlot, aSymbol, aFunction, aBuiltin, numbersOf}
+use Rattle.definitions.specs.Stack.{heightNumber}
 use Rattle.definitions.specs.Tables.{Function, Method, Class, Tables}
 use Rattle.definitions.specs.Lower.{jumpOn}
 use Rattle.definitions.specs.Reader.{isBuiltin, rising}
@@ -104,10 +105,11 @@ pub record Small (t : Tables) (p : ℕ) : Type 0 where
   pub count : length (t .functions) ≤ 256
   pub lean : Every Lean (t .functions)
 
--- What is shown of a function: its name's symbol exists, its parameters are few, its instructions are sound
+-- What is shown of a function: its name's symbol exists, its parameters are few, its height is that of its code, its instructions are sound
 pub record Tight (t : Tables) (f : Function) : Type 0 where
   pub symbol : f .symbol < length (t .symbols)
   pub arity : f .arity ≤ 255
+  pub height : f .height ≡ heightNumber (f .code)
   pub code : Every (Sound t (f .locals)) (f .code)
 
 -- of a method: it has a name, and its function exists

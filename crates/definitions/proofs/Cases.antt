@@ -1,6 +1,6 @@
 -- Cases of the change requests, by computing.
 use mathlib.Core.Path.{_≡_, refl}
-use mathlib.Core.Bool.{Bool, true, false, _&&_}
+use mathlib.Core.Bool.{Bool, true, false, not, _&&_}
 use mathlib.Core.List.{List, [], _∷_, _++_, map}
 use Prim.Native.Nat.{ℕ}
 use Prim.Native.String.{String}
@@ -9,12 +9,13 @@ use lib.ListN.{replicate}
 use Rattle.definitions.specs.Bytes.{refused, accepted, all, ascii, concat, listBytes}
 use Rattle.definitions.specs.Module.{Limits, console, limitsBy, nameBytes, moduleBytes, lowerTables}
 use Rattle.definitions.specs.Reader.{readModule}
-use Rattle.definitions.specs.Samples.{Shown, Sample, sample, showsAnswer, holds, passes, refusal, functionIs, symbolsAre}
-use Rattle.definitions.specs.Samples.{tree, named, variable, noneE, exprS, passS, ifS, forS, defS, defWith, returnS, classS, methodOf, assignS, listE, tupleE, lambdaE, callWith}
+use Rattle.definitions.specs.Samples.{Shown, Sample, sample, showsAnswer, holds, passes, refusal, functionIs, heightIs, symbolsAre}
+use Rattle.definitions.specs.Samples.{tree, named, variable, noneE, exprS, breakS, passS, whileS, ifS, forS, defS, defWith, returnS, classS, methodOf, assignS, listE, tupleE, lambdaE, callWith}
 use Rattle.definitions.specs.Tree.{listD}
-use Rattle.definitions.specs.Instruction.{Instr, Pop, LoadLocal, LoadGlobal, MakeClosure, Build, Return, ConstI64, ConstF64, Dup, LoadIndex, StoreLocal, minus}
+use Rattle.definitions.specs.Instruction.{Instr, ConstBool, ConstNone, Pop, LoadLocal, LoadGlobal, MakeClosure, Build, Return, ConstI64, ConstF64, Dup, LoadIndex, StoreLocal, minus}
 use Rattle.definitions.specs.Instruction.{Jump, JumpIfFalse, JumpIfTrue, Call, CallBuiltin, CallValue, CallMethod}
 use Rattle.definitions.specs.Tables.{Function, Tables}
+use Rattle.definitions.specs.Heights.{heightsHold}
 use Rattle.definitions.specs.Listing.{codeLine, pageLine, listing}
 use Rattle.definitions.specs.Sheet.{sheet}
 use Rattle.definitions.specs.Open.{everything}
@@ -173,7 +174,7 @@ unfoldable r5-module : List Function → Tables
 r5-module fs = record { symbols = []; strings = []; functions = fs; classes = []; constants = [] }
 
 unfoldable r5-function : List Instr → Function
-r5-function is = record { symbol = 0; arity = 0; locals = 0; code = is }
+r5-function is = record { symbol = 0; arity = 0; locals = 0; height = 0; code = is }
 
 r5-holds : sheet (r5-module (r5-function r5 ∷ r5-function (Call 0 0 ∷ Return ∷ []) ∷ []))
     ≡ concat (λ (s : String). ascii s ++ 10 ∷ []) ("    0      9      2      4              " ∷ "    1      2      0      1              " ∷ "TOTAL     11      2      5              " ∷ [])
@@ -259,3 +260,55 @@ loopsIn n = tree (defWith "f" ("r" ∷ []) (replicate n (loopIn "i" [])) ∷ [])
 r7-slots : all holds (sample (loopsIn 253) passes ∷ sample (loopsIn 254) (refusal 14) ∷ []) ≡ true
 unfolding everything loopIn loopsIn
 r7-slots = refl
+
+-- R-10: an empty tuple as a target or inside one gives 36, after 10 and before 11; as a value it passes
+unfoldable binaryE : ℕ → List ℕ → List ℕ → List ℕ
+binaryE op l r = 8 ∷ op ∷ l ++ r
+
+unfoldable dictE : List (List ℕ) → List ℕ
+dictE ps = 12 ∷ listBytes 2 (λ (p : List ℕ). p) ps
+
+unfoldable callE : List ℕ → List (List ℕ) → List ℕ
+callE f es = 9 ∷ f ++ listBytes 2 (λ (e : List ℕ). e) es
+
+unfoldable emptied : List ℕ
+emptied = assignS (tupleE (variable "a" ∷ tupleE [] ∷ [])) (variable "t")
+
+unfoldable r10 : List Sample
+r10 =
+    sample (tree (emptied ∷ [])) (refusal 36)
+    ∷ sample (tree (assignS (tupleE (variable "a" ∷ tupleE (tupleE [] ∷ variable "b" ∷ []) ∷ [])) (variable "t") ∷ [])) (refusal 36)
+    ∷ sample (tree (defS "f" (whileS noneE (emptied ∷ []) ∷ []) ∷ [])) (refusal 36)
+    ∷ sample (tree (emptied ∷ assignS noneE noneE ∷ [])) (refusal 10)
+    ∷ sample (tree (assignS (tupleE (tupleE [] ∷ noneE ∷ [])) noneE ∷ [])) (refusal 10)
+    ∷ sample (tree (defWith "f" ("x" ∷ "x" ∷ []) [] ∷ emptied ∷ [])) (refusal 36)
+    ∷ sample (tree (assignS (variable "v") (tupleE []) ∷ assignS (attributeE "x") (tupleE []) ∷ [])) passes
+    -- heights: nothing, `a and (b or c)`, a dict, calls by value and of a method, a loop whose inside ends in a break, code behind a return
+    ∷ sample (tree []) (heightIs 0 0)
+    ∷ sample (tree (exprS (binaryE 12 (variable "a") (binaryE 13 (variable "b") (variable "c"))) ∷ [])) (heightIs 0 1)
+    ∷ sample (tree (exprS (binaryE 0 (variable "a") (binaryE 12 (variable "b") (binaryE 0 (variable "c") (variable "d")))) ∷ [])) (heightIs 0 3)
+    ∷ sample (tree (exprS (dictE ((variable "a" ++ variable "b") ∷ (variable "c" ++ variable "d") ∷ [])) ∷ [])) (heightIs 0 4)
+    ∷ sample (tree (exprS (callE (variable "f") (noneE ∷ noneE ∷ [])) ∷ [])) (heightIs 0 3)
+    ∷ sample (tree (exprS (callE (attributeE "m") (noneE ∷ [])) ∷ [])) (heightIs 0 2)
+    ∷ sample (tree (whileS noneE (breakS ∷ exprS (listE (noneE ∷ noneE ∷ [])) ∷ []) ∷ [])) (heightIs 0 2)
+    ∷ sample (tree (defS "f" (returnS noneE ∷ exprS (listE (noneE ∷ noneE ∷ noneE ∷ [])) ∷ []) ∷ [])) (heightIs 1 3)
+    ∷ []
+
+r10-holds : all holds r10 ≡ true
+unfolding everything r10 emptied attributeE binaryE dictE callE
+r10-holds = refl
+
+-- 37. Yes: `while True: break`; a fault that nothing reaches; two ways to two Returns. No: too few values; more than the number; two heights, by a question
+-- and by a loop
+r10-checks :
+    (heightsHold 1 (ConstBool true ∷ JumpIfFalse 2 ∷ Jump 1 ∷ Jump (minus 4) ∷ Return ∷ [])
+    && heightsHold 0 (Return ∷ Pop ∷ Return ∷ [])
+    && heightsHold 1 (ConstNone ∷ JumpIfFalse 2 ∷ ConstNone ∷ Return ∷ Return ∷ [])
+    && not (heightsHold 9 (Pop ∷ Return ∷ []))
+    && not (heightsHold 9 (ConstNone ∷ CallValue 1 ∷ Return ∷ []))
+    && not (heightsHold 0 (ConstNone ∷ Return ∷ []))
+    && not (heightsHold 9 (ConstNone ∷ JumpIfFalse 1 ∷ ConstNone ∷ Return ∷ []))
+    && not (heightsHold 9 (ConstNone ∷ Jump (minus 2) ∷ Return ∷ [])))
+    ≡ true
+unfolding everything
+r10-checks = refl

@@ -7,7 +7,7 @@ use lib.Seq.{append-snoc}
 use lib.ListN.{length}
 use lib.Dec.{T}
 use Rattle.definitions.specs.Instruction.{Instr}
-use Rattle.definitions.specs.Tables.{Function, Source, Tables, Emit, setCode}
+use Rattle.definitions.specs.Tables.{Function, coded, Source, Tables, Emit, setCode}
 use Rattle.definitions.specs.Walk.{walkAt}
 use Rattle.definitions.specs.Reader.{codeStands}
 use Rattle.definitions.specs.Statements.{ComesFrom}
@@ -47,9 +47,9 @@ grow-more {fs} A B = record {
 }
 
 pub grow-function : (fs fs′ : List Function) (gs : List Source) (f : Function) (g : Source) (is : List Instr) → Grows (fs ++ (f ∷ [])) fs′ gs
-    → Good (record { symbol = f .symbol; arity = f .arity; locals = f .locals; code = is }) g → Grows fs (setCode fs′ (length fs) is) (g ∷ gs)
+    → Good (coded (f .symbol) (f .arity) (f .locals) is) g → Grows fs (setCode fs′ (length fs) is) (g ∷ gs)
 grow-function fs fs′ gs f g is G k = record {
-  new = record { symbol = f .symbol; arity = f .arity; locals = f .locals; code = is } ∷ G .new;
+  new = coded (f .symbol) (f .arity) (f .locals) is ∷ G .new;
   functions = ap (λ (z : List Function). setCode z (length fs) is) (G .functions ∙ append-snoc fs f (G .new)) ∙ setCode-seam fs (G .new) f is;
   good = pair k (G .good);
 }

@@ -12,7 +12,7 @@ use lib.Pow.{areBytes}
 use Rattle.definitions.specs.Bytes.{Answer, refused, accepted, whenAccepted, Parsed, got, failed, be, concat, all, listBytes, housed, unhouse}
 use Rattle.definitions.specs.Utf8.{isUtf8}
 use Rattle.definitions.specs.Wellformed.{isName}
-use Rattle.definitions.specs.Instruction.{encode, encodes, firstWidth, secondWidth}
+use Rattle.definitions.specs.Instruction.{encode, encodes, firstWidth, secondWidth, isInstruction}
 use Rattle.definitions.specs.Tables.{Function, Tables}
 use Rattle.definitions.specs.Module.{nameBytes, textBytes, functionBytes, methodBytes, classBytes, tableBytes, moduleBytes, codeStart}
 use Rattle.definitions.specs.Reader.{instruction, functionRecord, methodRecord, rising, classRecord, moduleRecord, numbersExist, codeStands, wholeModule, readModule}
@@ -26,7 +26,7 @@ use Rattle.definitions.proofs.Writes.{Writes, writes-give, writes-bind,
 writes-instruction : Writes (λ i xs. xs ≡ encode i) instruction
 unfolding instruction encode
 writes-instruction =
-    writes-bind _ (writes-checked (λ op. leb op 45) writes-byte) (λ op xs h.
+    writes-bind _ (writes-checked isInstruction writes-byte) (λ op xs h.
     writes-bind _ (writes-number (firstWidth op)) (λ a ys k.
     writes-bind _ (writes-number (secondWidth op)) (λ b zs l.
     writes-give _ (rw (h .0, k, l, append-nil)))))
@@ -37,8 +37,9 @@ writes-function =
     writes-bind _ (writes-number 2) (λ k ks hk.
     writes-bind _ (writes-number 1) (λ n ns hn.
     writes-bind _ (writes-number 2) (λ l ls hl.
+    writes-bind _ (writes-number 2) (λ g gs hg.
     writes-bind _ (writes-list 2 encode writes-instruction) (λ is xs h.
-    writes-give _ (rw (hk, hn, hl, h, append-nil))))))
+    writes-give _ (rw (hk, hn, hl, hg, h, append-nil)))))))
 
 writes-method : Writes (λ m xs. xs ≡ methodBytes m) methodRecord
 unfolding methodRecord methodBytes
@@ -78,14 +79,14 @@ whole-got (got u []) t e = go (numbersExist u) (all codeStands (u .functions)) e
     go true false h = let z : _≡_ {A = ℕ} 0 1 = cc in absurd (omega arith)
     go false d h = let z : _≡_ {A = ℕ} 0 1 = cc in absurd (omega arith)
 
-house-is : (m rest : List ℕ) (t : Tables) → m ≡ housed rest → rest ≡ tableBytes t → m ≡ moduleBytes t
+house-is : (m rest : List ℕ) (t : Tables) → m ≡ housed 2 rest → rest ≡ tableBytes t → m ≡ moduleBytes t
 unfolding moduleBytes
-house-is m rest t h e = h ∙ ap housed e
+house-is m rest t h e = h ∙ ap (housed 2) e
 
 -- the tables of an accepted module are read from the bytes after its head
 pub record Within (m : List ℕ) (t : Tables) : Type 0 where
   pub rest : List ℕ
-  pub whole : m ≡ housed rest
+  pub whole : m ≡ housed 2 rest
   pub bytes : areBytes rest ≡ true
   pub read : moduleRecord rest ≡ got t []
 
@@ -93,10 +94,10 @@ pub within : (m : List ℕ) (t : Tables) → areBytes m ≡ true → readModule 
 unfolding readModule
 within m t o e = go (leb (length m) 524288) e
   where
-    go : (c : Bool) → (elim c as (λ z. Answer Tables) [ true ↦ unhouse 17 18 (λ rest. wholeModule (moduleRecord rest)) m | false ↦ refused 17 ]) ≡ accepted t → Within m t
+    go : (c : Bool) → (elim c as (λ z. Answer Tables) [ true ↦ unhouse 2 17 18 (λ rest. wholeModule (moduleRecord rest)) m | false ↦ refused 17 ]) ≡ accepted t → Within m t
     go false h = let z : _≡_ {A = ℕ} 0 1 = cc in absurd (omega arith)
     go true h =
-        let I = in-house 17 18 (λ rest. wholeModule (moduleRecord rest)) m t o h in
+        let I = in-house 2 17 18 (λ rest. wholeModule (moduleRecord rest)) m t o h in
         record { rest = I .rest; whole = I .whole; bytes = I .bytes; read = whole-got (moduleRecord (I .rest)) t (I .gives) }
 
 pub readIsWritten : ReadIsWritten
@@ -153,12 +154,12 @@ stands-element f (b ∷ zs) zero a {xs} {n} e S = let z : b ≡ a = cc in rw z (
 stands-element f (b ∷ zs) (suc k) a {xs} {n} e S =
     stands-at _ _ (omega (arith, length-append (f b) (concat f (take k zs)))) (stands-after (f b) (stands-element f zs k a e S))
 
-stands-code : (f : Function) → Stands (encodes (f .code)) 7 (functionBytes f)
+stands-code : (f : Function) → Stands (encodes (f .code)) 9 (functionBytes f)
 unfolding functionBytes listBytes encodes
 stands-code f =
-    stands-at _ 7
-    (omega (arith, length-be 2 (f .symbol), length-be 1 (f .arity), length-be 2 (f .locals), length-be 2 (length (f .code))))
-    (stands-after (be 2 (f .symbol)) (stands-after (be 1 (f .arity)) (stands-after (be 2 (f .locals)) (stands-after (be 2 (length (f .code))) (stands-all (concat encode (f .code)))))))
+    stands-at _ 9
+    (omega (arith, length-be 2 (f .symbol), length-be 1 (f .arity), length-be 2 (f .locals), length-be 2 (f .height), length-be 2 (length (f .code))))
+    (stands-after (be 2 (f .symbol)) (stands-after (be 1 (f .arity)) (stands-after (be 2 (f .locals)) (stands-after (be 2 (f .height)) (stands-after (be 2 (length (f .code))) (stands-all (concat encode (f .code))))))))
 
 stands-list : {A : Type 0} (f : A → List ℕ) (zs : List A) (k : ℕ) (a : A) {xs : List ℕ} {n : ℕ}
     → getElem? zs k ≡ some a → Stands xs n (f a) → Stands xs (2 + length (concat f (take k zs)) + n) (listBytes 2 f zs)
@@ -167,7 +168,7 @@ stands-list f zs k a e S = stands-at _ _ (omega (arith, length-be 2 (length zs))
 
 stands-tables : (t : Tables) (k : ℕ) (f : Function) → getElem? (t .functions) k ≡ some f
     → Stands (encodes (f .code))
-    (length (listBytes 2 nameBytes (t .symbols)) + (length (listBytes 2 textBytes (t .strings)) + (2 + length (concat functionBytes (take k (t .functions))) + 7)))
+    (length (listBytes 2 nameBytes (t .symbols)) + (length (listBytes 2 textBytes (t .strings)) + (2 + length (concat functionBytes (take k (t .functions))) + 9)))
     (tableBytes t)
 unfolding tableBytes
 stands-tables t k f e =
@@ -176,9 +177,9 @@ stands-tables t k f e =
     (stands-before (listBytes 2 classBytes (t .classes) ++ listBytes 2 (be 2) (t .constants))
     (stands-list functionBytes (t .functions) k f e (stands-code f))))
 
-stands-housed : {xs bs : List ℕ} {n : ℕ} → Stands xs n bs → Stands xs (5 + n) (housed bs)
+stands-housed : {xs bs : List ℕ} {n : ℕ} → Stands xs n bs → Stands xs (5 + n) (housed 2 bs)
 unfolding housed
-stands-housed {bs} S = stands-at _ _ (omega (arith, length-be 4 (suc (length bs)))) (stands-after (be 4 (suc (length bs))) (stands-after (1 ∷ []) S))
+stands-housed {bs} S = stands-at _ _ (omega (arith, length-be 4 (suc (length bs)))) (stands-after (be 4 (suc (length bs))) (stands-after (2 ∷ []) S))
 
 stands-module : (t : Tables) (k : ℕ) (f : Function) → getElem? (t .functions) k ≡ some f → Stands (encodes (f .code)) (codeStart t k) (moduleBytes t)
 unfolding moduleBytes codeStart

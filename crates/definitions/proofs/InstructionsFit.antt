@@ -7,16 +7,17 @@ use native.Mathlib.Nat.{pow-le-pow-right}
 use native.Mathlib.Omega.{arith}
 use lib.Arith.{le-of-le-suc-ne}
 use lib.ListN.{length}
-use lib.Dec.{T, eqb, eqb→eq, leb, le→leb}
+use lib.Dec.{T, eqb, eqb→eq, leb}
 use Rattle.definitions.specs.Bytes.{all}
 use Rattle.definitions.specs.Builtins.{Builtin, registry}
 use Rattle.definitions.specs.Instruction.{Instr, Numbers, nothing, aString, aConstant, aSlot, aSymbol, aFunction, aBuiltin}
-use Rattle.definitions.specs.Instruction.{Row, row, instructionTable, firstWidth, numbersOf, encode}
+use Rattle.definitions.specs.Instruction.{Row, noRow, instructionTable, isInstruction, firstWidth, numbersOf, encode}
 use Rattle.definitions.specs.Tables.{Tables}
 use Rattle.definitions.specs.Module.{office}
 use Rattle.definitions.specs.Reader.{isBuiltin, instruction}
 use Rattle.definitions.specs.Open.{allInstruction}
-use Rattle.definitions.proofs.Truth.{left, right, is-true, not-equal, at-most}
+use Rattle.definitions.proofs.Truth.{left, right, not-equal, at-most}
+use Rattle.definitions.proofs.Rows.{is-instruction}
 use Rattle.definitions.proofs.Shape.{Quiet, Settled, more}
 use Rattle.definitions.proofs.Every.{Every, noEvery, every, all-getD}
 use Rattle.definitions.proofs.Accepted.{Within}
@@ -36,7 +37,7 @@ need aBuiltin = 1
 -- every operand that numbers something is wide enough
 wide-enough : (op : ℕ) → need (numbersOf op) ≤ firstWidth op
 unfolding allInstruction all need
-wide-enough op = at-most _ _ (all-getD (λ (r : Row). leb (need (r .numbers)) (r .first)) instructionTable refl op (row "" 0 0 nothing) refl)
+wide-enough op = at-most _ _ (all-getD (λ (r : Row). leb (need (r .numbers)) (r .first)) instructionTable refl op noRow refl)
 
 -- every built-in's id is below 256
 builtin-below : (bs : List Builtin) (n : ℕ) → all (λ (b : Builtin). leb (b .id) 255) bs ≡ true → T (isBuiltin bs n) → n ≤ 255
@@ -53,8 +54,10 @@ unfolding registry all
 builtin-fits n = builtin-below registry n refl
 
 -- an instruction that is no pending break or continue is one of the table
-real-op : (op : ℕ) → leb op 47 ≡ true → eqb op 46 ≡ false → eqb op 47 ≡ false → leb op 45 ≡ true
-real-op op e b c = is-true (leb op 45) (le→leb op 45 (le-of-le-suc-ne (le-of-le-suc-ne (at-most op 47 e) (not-equal op 47 c)) (not-equal op 46 b)))
+real-op : (op : ℕ) → leb op 47 ≡ true → eqb op 46 ≡ false → eqb op 47 ≡ false → isInstruction op ≡ true
+real-op op e b c =
+    let z : op ≤ 45 = le-of-le-suc-ne (le-of-le-suc-ne (at-most op 47 e) (not-equal op 47 c)) (not-equal op 46 b) in
+    is-instruction op (omega arith)
 
 module _ (t : Tables) (L : Within office t) (cs : length (t .constants) ≤ length (t .classes)) where
   in-field : (c : Numbers) (n a w : ℕ) → n ≤ 255 → need c ≤ w → Operand c t n w a → a < 256 ^ w

@@ -22,7 +22,7 @@ use Rattle.definitions.specs.TreeNames.{namesBlock}
 use Rattle.definitions.specs.Slots.{captures, Keeping, inGlobals, inSlots, past, Frame, namesOnly, withLoops, loopsStmt, loopsBlock}
 use Rattle.definitions.specs.Instruction
 use Rattle.definitions.specs.Instruction.{Instr, Return, LoadLocal, StoreGlobal, JumpIfFalse, Jump, ConstBool, minus}
-use Rattle.definitions.specs.Tables.{Function, Method, Tables, Body, blockBody, exprBody, Out, Emit, addSymbol, addString, withClasses, emits, one, _⨟_, here, intern, getOrAddString, begin, setCode, function, enclose}
+use Rattle.definitions.specs.Tables.{Function, Method, Tables, Body, blockBody, exprBody, Out, Emit, addSymbol, addString, withClasses, emits, one, _⨟_, here, intern, getOrAddString, coded, begin, setCode, function, enclose}
 use Rattle.definitions.specs.Lower
 use Rattle.definitions.specs.Lower.{Callee, builtinCallee, functionCallee, valueCallee, resolve, load, store, literal, decides, jumpOn, shortcut, callNamed, callBy, lambdaName, loads, closure, emitExpr, emitExprs, emitObject}
 use Rattle.definitions.specs.Lower.{copy, emitTarget, unpack, assignBy, patch, patched, loop, Keeper, global, local, makeIter, namedIter, keptIter, storeIter, loadIter, iterName, askIter, takeIter}
@@ -783,7 +783,7 @@ placed : {xs : List Name} (fs : List Function) (is : List Instr) → Aside xs fs
 unfolding setCode
 placed [] is E k f e = let z : _≡_ {A = ℕ} 0 1 = cc in absurd (omega arith)
 placed (g ∷ fs) is E zero f e =
-    let q : record { symbol = g .symbol; arity = g .arity; locals = g .locals; code = is } ≡ f = cc in atMain (ap (λ (h : Function). h .code) (sym q))
+    let q : coded (g .symbol) (g .arity) (g .locals) is ≡ f = cc in atMain (ap (λ (h : Function). h .code) (sym q))
 placed (g ∷ fs) is (every p r) (suc k) f e = atOther (every-at fs r k f e)
 
 -- main has begun

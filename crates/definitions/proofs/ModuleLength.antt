@@ -7,7 +7,7 @@ use native.Mathlib.Omega.{arith}
 use lib.ListN.{length, length-append}
 use lib.Dec.{leb}
 use Rattle.definitions.specs.Bytes.{Name, Text, all, be, concat, housed}
-use Rattle.definitions.specs.Instruction.{Instr, nothing, Row, row, instructionTable, firstWidth, secondWidth, encode}
+use Rattle.definitions.specs.Instruction.{Instr, Row, noRow, instructionTable, firstWidth, secondWidth, encode}
 use Rattle.definitions.specs.Tables.{Function, Method, Class, Tables}
 use Rattle.definitions.specs.Module.{nameBytes, textBytes, functionBytes, methodBytes, classBytes, tableBytes, moduleBytes, office, instructions}
 use Rattle.definitions.specs.Open.{allInstruction}
@@ -47,7 +47,7 @@ constants-room (k ∷ ks) = simp (length-append, length-be) (omega (arith, const
 pub operands-room : (op : ℕ) → (firstWidth op ≤ 8) × (secondWidth op ≤ 1)
 unfolding allInstruction all
 operands-room op =
-    let e = all-getD (λ (r : Row). leb (r .first) 8 && leb (r .second) 1) instructionTable refl op (row "" 0 0 nothing) refl in
+    let e = all-getD (λ (r : Row). leb (r .first) 8 && leb (r .second) 1) instructionTable refl op noRow refl in
     (at-most _ 8 (left (leb (firstWidth op) 8) (leb (secondWidth op) 1) e), at-most _ 1 (right (leb (firstWidth op) 8) (leb (secondWidth op) 1) e))
 
 code-room : (is : List Instr) → length (concat encode is) ≤ 10 * length is
@@ -55,11 +55,11 @@ unfolding concat encode
 code-room [] = omega arith
 code-room (i ∷ is) = simp (length-append, length-be) (omega (arith, code-room is, operands-room (i .op)))
 
-function-room : (f : Function) → length (functionBytes f) ≤ 7 + 10 * length (f .code)
+function-room : (f : Function) → length (functionBytes f) ≤ 9 + 10 * length (f .code)
 unfolding functionBytes
 function-room f = simp (length-append, length-be, length-list) (omega (arith, code-room (f .code)))
 
-functions-room : (fs : List Function) → length (concat functionBytes fs) ≤ 7 * length fs + 10 * instructions fs
+functions-room : (fs : List Function) → length (concat functionBytes fs) ≤ 9 * length fs + 10 * instructions fs
 unfolding concat instructions
 functions-room [] = omega arith
 functions-room (f ∷ fs) = omega (arith, functions-room fs, function-room f, length-append (functionBytes f) (concat functionBytes fs))
@@ -70,7 +70,7 @@ pub length-tables : (t : Tables) → length (tableBytes t) ≡ 10 + length (conc
 unfolding tableBytes
 length-tables t = simp (length-append, length-list) (omega arith)
 
-pub module-room : {n : ℕ} (t : Tables) → n ≤ 32768 → Known n t → length (moduleBytes t) ≤ 187471
+pub module-room : {n : ℕ} (t : Tables) → n ≤ 32768 → Known n t → length (moduleBytes t) ≤ 187983
 unfolding moduleBytes housed office
 module-room t h K =
     let L = K .limits in

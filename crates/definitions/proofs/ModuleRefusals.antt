@@ -1,5 +1,6 @@
--- The reader, the hand-back of code, the run, the texts about a module and R-8's tool refuse by the first question answered no, and accept where none is.
-use mathlib.Core.Path.{_≡_, refl, ap, _∙_}
+-- The reader, the hand-back of code, the run, the texts about a module, R-8's tool and the check of heights refuse by the first question answered no, and accept
+-- where none is.
+use mathlib.Core.Path.{_≡_, refl, sym, ap, _∙_}
 use mathlib.Core.Bool.{Bool, true, false, _&&_}
 use mathlib.Core.Option.{Option, none, some}
 use mathlib.Core.List.{List, [], _∷_, _++_}
@@ -9,14 +10,16 @@ use lib.Dec.{eqb, eqb·suc-zero, leb, ltb, leb·zero, leb·suc-zero, leb·suc-su
 use Rattle.definitions.specs.Bytes.{Answer, refused, accepted, whenAccepted, Parsed, got, failed, all}
 use Rattle.definitions.specs.Instruction.{Instr, encodes}
 use Rattle.definitions.specs.Tables.{Function, Tables}
-use Rattle.definitions.specs.Module.{codeStart}
+use Rattle.definitions.specs.Module.{moduleVersion, codeStart}
 use Rattle.definitions.specs.Reader.{moduleRecord, numbersExist, codeStands, wholeModule, readModule}
 use Rattle.definitions.specs.Run.{Ran, run}
 use Rattle.definitions.specs.Calls.{readCall, functionOf, codePart, codeCall, areAnswers, eventsFit, runFunction, runAnswer, textFits, textAnswer}
-use Rattle.definitions.specs.Statements.{headCounts, firstRefusal, recordRead, laidOut, tablesRead, tablesIn, codeIn, readQuestions, codeQuestions, runIn, runQuestions, textQuestions, ReadRefusals, CodeRefusals, RunRefusals, TextRefusals, reachQuestions, ReachRefusals}
 use Rattle.definitions.specs.Sheet.{tally, isQuestion}
 use Rattle.definitions.specs.Reach.{wideArea, roomAsked, placeAsked, sought}
-use Rattle.definitions.proofs.Refusals.{ask, ask-is, when-ask, head-asked, questioned, first-is}
+use Rattle.definitions.specs.Heights.{functionHolds, heightsAsked, heightsAnswer}
+use Rattle.definitions.specs.Statements.{headCounts, firstRefusal, recordRead, laidOut, tablesRead, tablesIn, codeIn, readQuestions, codeQuestions, runIn, runQuestions, textQuestions, reachQuestions, heightsQuestions}
+use Rattle.definitions.specs.Statements.{ReadRefusals, CodeRefusals, RunRefusals, TextRefusals, ReachRefusals, HeightsRefusals}
+use Rattle.definitions.proofs.Refusals.{ask, ask-is, ask-accepted, when-ask, head-asked, questioned, first-is}
 
 -- ---- 17 to 21: the reader
 
@@ -41,9 +44,21 @@ module-asked : (m : List ℕ) → readModule m ≡ readThen m (accepted (tablesI
 unfolding readModule readThen readQuestions questioned tablesIn recordRead
 module-asked m =
     ap (λ (z : Answer Tables). elim (leb (length m) 524288) as (λ c. Answer Tables) [ true ↦ z | false ↦ refused 17 ])
-    (head-asked 17 18 (λ rest. wholeModule (moduleRecord rest)) m)
+    (head-asked moduleVersion 17 18 (λ rest. wholeModule (moduleRecord rest)) m)
     ∙ two-asked (leb (length m) 524288) (headCounts m) 17 _
-    ∙ ap (λ (z : Answer Tables). ask (leb (length m) 524288 && headCounts m) 17 (ask (leb 5 (length m) && eqb (getD m 4 0) 1) 18 z)) (layout-asked (recordRead m))
+    ∙ ap (λ (z : Answer Tables). ask (leb (length m) 524288 && headCounts m) 17 (ask (leb 5 (length m) && eqb (getD m 4 0) moduleVersion) 18 z)) (layout-asked (recordRead m))
+
+-- a module that is read has passed question 21
+pub read-stands : (m : List ℕ) (t : Tables) → readModule m ≡ accepted t → all codeStands (t .functions) ≡ true
+unfolding readThen readQuestions questioned
+read-stands m t e =
+    let q17 = ask-accepted _ 17 _ t (sym (module-asked m) ∙ e) in
+    let q18 = ask-accepted _ 18 _ t (q17 .1) in
+    let q19 = ask-accepted _ 19 _ t (q18 .1) in
+    let q20 = ask-accepted _ 20 _ t (q19 .1) in
+    let q21 = ask-accepted _ 21 _ t (q20 .1) in
+    let z : tablesIn m ≡ t = cc (q21 .1) in
+    rw z at (q21 .0)
 
 -- what goes on from the tables comes after the questions
 read-then : {A : Type 0} (m : List ℕ) (f : Tables → Answer A) → whenAccepted (readModule m) f ≡ readThen m (f (tablesIn m))
@@ -124,3 +139,15 @@ reachRefusals n m f place room =
     rw first-is (ask-is (wideArea n) 1 _
     ∙ ap (ask (wideArea n) 1) (read-then m (λ t. whenAccepted (functionOf t f) (placeAsked place room))
     ∙ ap (readThen m) (ap (whenAccepted (functionOf (tablesIn m) f)) (λ i g. place-asked place room g i) ∙ when-function (tablesIn m) f after)))
+
+-- ---- 1 and 37: the check of heights
+
+heights-asked : (t : Tables) → heightsAsked t ≡ ask (all functionHolds (t .functions)) 37 (accepted tt)
+unfolding heightsAsked
+heights-asked t = ask-is (all functionHolds (t .functions)) 37 (accepted tt)
+
+pub heightsRefusals : HeightsRefusals
+unfolding heightsAnswer heightsQuestions questioned readThen readQuestions
+heightsRefusals n m =
+    rw first-is (ask-is (wideArea n) 1 (whenAccepted (readModule m) heightsAsked)
+    ∙ ap (ask (wideArea n) 1) (read-then m heightsAsked ∙ ap (readThen m) (heights-asked (tablesIn m))))

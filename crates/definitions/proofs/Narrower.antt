@@ -48,7 +48,7 @@ unfolding lowerQuestions
 narrower l w u m n room tree =
     let t = compile (blockRead (parsed tree)) .tables in
     rw (refusals l m n room tree, refusals w m n room tree)
-    (narrowed-at (take 15 (lowerQuestions w m n room tree)) (moduleOf tree) (leb (length (moduleOf tree)) room) (tablesFit l t) (tablesFit w t) (fit-wider l w u t))
+    (narrowed-at (take 16 (lowerQuestions w m n room tree)) (moduleOf tree) (leb (length (moduleOf tree)) room) (tablesFit l t) (tablesFit w t) (fit-wider l w u t))
 
 -- ---- office and console
 

@@ -14,13 +14,13 @@ use Rattle.definitions.specs.Tree.{Block, []ᵇ, _∷ᵇ_, Branches, don
 use Rattle.definitions.specs.Wellformed.{isTuple}
 use Rattle.definitions.specs.Slots.{Keeping, inGlobals, inSlots, past, Frame, namesOnly, withLoops, loopsStmt, loopsBlock}
 use Rattle.definitions.specs.Instruction
-use Rattle.definitions.specs.Instruction.{Return, Break, Continue}
+use Rattle.definitions.specs.Instruction.{Return, Break, Continue, flow}
 use Rattle.definitions.specs.Tables.{Method, Tables, blockBody, Emit, emits, one, _⨟_, here, intern}
 use Rattle.definitions.specs.Lower
 use Rattle.definitions.specs.Lower.{load, store, copy, emitExpr, emitTarget, unpack, assignBy, Keeper, global, local, makeIter, namedIter, keptIter, storeIter, loadIter, iterName, askIter, takeIter}
 use Rattle.definitions.specs.Lower.{methodEnd, beginClass, classObject, endClass, classOut, emitStmt, emitBlock, emitBranches, emitMethods, emitBody, compile}
-use Rattle.definitions.specs.Run.{flow}
 use Rattle.definitions.specs.Walk.{walked, broke, continued, Walk, follow, adds, leaves, walkExpr, walkAssign, walkStmt, walkBlock, walkBranches, walkBody}
+use Rattle.definitions.specs.Open.{flows}
 use Rattle.definitions.proofs.Shape.{Plain, brk, cont, size, hop, none, more}
 use Rattle.definitions.proofs.Lands.{stop-return}
 use Rattle.definitions.proofs.Meaning.{Meaning, meaning-seq, meaning-choose, meaning-plain, meaning-length}
@@ -31,7 +31,7 @@ use Rattle.definitions.proofs.PartExpr.{Whole, whole, leaf-store, part-
 -- ---- targets
 
 leaf-copy : (i : ℕ) → Leaf (copy i)
-unfolding copy flow
+unfolding copy flows
 leaf-copy zero = leaf-emits none
 leaf-copy (suc i) = leaf-one (num refl refl refl)
 
@@ -43,7 +43,7 @@ leaf-tuple true E = E
 leaf-tuple false E = leaf-nothing
 
 mutual
-  unfolding emitTarget unpack flow
+  unfolding emitTarget unpack flows
 
   leaf-target : (slots : List Name) (e : Expr) → Leaf (emitTarget slots e)
   leaf-target slots (lit l) = leaf-nothing
@@ -62,7 +62,7 @@ mutual
   leaf-unpack slots (e ∷ᵉ es) i = leaf-seq (leaf-unpack slots es (suc i)) (leaf-seq (leaf-copy i) (leaf-seq (leaf-emits (more (num refl refl refl) (more (num refl refl refl) none))) (leaf-target slots e)))
 
 part-assign : (l : Bool) (slots : List Name) (v : View) {e : Emit} {w : Walk} → Part l e w → Part l (assignBy v slots e) (walkAssign v slots e w)
-unfolding assignBy walkAssign flow
+unfolding assignBy walkAssign flows
 part-assign l slots (asVar x) A = part-follow A (part-adds (leaf-store slots x))
 part-assign l slots (asAttr o x) A = part-follow (part-expr l slots o) (part-follow A (part-adds (leaf-symbol x (λ n. leaf-one (num refl refl refl)))))
 part-assign l slots (asIndex o i) A = part-follow (part-expr l slots o) (part-follow (part-expr l slots i) (part-follow A (part-adds (leaf-one (num refl refl refl)))))
@@ -72,25 +72,25 @@ part-assign l slots asOther A = part-adds leaf-nothing
 -- ---- iterators and classes
 
 leaf-makeIter : Leaf makeIter
-unfolding makeIter flow
+unfolding makeIter flows
 leaf-makeIter = leaf-symbol _ (λ k. leaf-one (num refl refl refl))
 
 plain-store : (g : Keeper) → Plain (storeIter g)
-unfolding storeIter flow
+unfolding storeIter flows
 plain-store (global k) = num refl refl refl
 plain-store (local n) = num refl refl refl
 
 plain-load : (g : Keeper) → Plain (loadIter g)
-unfolding loadIter flow
+unfolding loadIter flows
 plain-load (global k) = num refl refl refl
 plain-load (local n) = num refl refl refl
 
 leaf-askIter : (g : Keeper) → Leaf (askIter g)
-unfolding askIter flow
+unfolding askIter flows
 leaf-askIter g = leaf-seq (leaf-one (plain-load g)) (leaf-symbol _ (λ k. leaf-one (num refl refl refl)))
 
 leaf-takeIter : (slots : List Name) (x : Name) (g : Keeper) → Leaf (takeIter slots x g)
-unfolding takeIter flow
+unfolding takeIter flows
 leaf-takeIter slots x g = leaf-seq (leaf-one (plain-load g)) (leaf-seq (leaf-symbol _ (λ k. leaf-one (num refl refl refl))) (leaf-store slots x))
 
 part-iter : {l : Bool} {f : ℕ → Emit} {v : ℕ → Walk} → ((g : ℕ) → Part l (f g) (v g)) → Part l (namedIter f) (namedIter v)
@@ -103,7 +103,7 @@ part-kept inGlobals F = part-iter (λ k. F (global k))
 part-kept (inSlots n) F = F (local n)
 
 leaf-endClass : (x : Name) (c : ℕ) (ms : List Method) → Leaf (endClass x c ms)
-unfolding endClass classObject flow
+unfolding endClass classObject flows
 leaf-endClass x c ms = record { at = λ p t. go .at p _; grows = λ p t. go .grows p _ }
   where
     go : Leaf (intern x (classObject c))
@@ -223,7 +223,7 @@ unfolding emitStmt beginClass classOut
 leaf-class slots keep x m vs M = record { at = λ p t. leaf-endClass x _ _ .at p _; grows = λ p t. grow-more (M .grows [] (beginClass x t)) (leaf-endClass x _ _ .grows p _) }
 
 mutual
-  unfolding emitStmt walkStmt emitMethods flow
+  unfolding emitStmt walkStmt emitMethods flows
 
   part-stmt : (l : Bool) (slots : List Name) (keep : Keeping) (a : Stmt) → OkS l a → Part l (emitStmt slots keep a) (walkStmt slots keep a)
   part-stmt l slots keep break k = part-break k

@@ -5,9 +5,9 @@ use Prim.Native.Nat.{ℕ, zero, suc}
 use native.Mathlib.Omega.{arith}
 use lib.ListN.{getD}
 use lib.Dec.{eqb}
-use Rattle.definitions.specs.Instruction.{Instr, Return, encode}
+use Rattle.definitions.specs.Instruction.{Instr, Return, encode, Flow, straight, jump, returns, question, flow}
 use Rattle.definitions.specs.Reader.{landing}
-use Rattle.definitions.specs.Run.{Ran, Flow, straight, jump, returns, question, flow, way, obey, ended, run}
+use Rattle.definitions.specs.Run.{Ran, way, obey, ended, run}
 use Rattle.definitions.specs.Reach.{passing, placesMet}
 use Rattle.definitions.specs.Statements.{eventsBy, eventsAt, Counted, MetAreSteps}
 

@@ -9,10 +9,10 @@ use lib.ListN.{length, getD, replicate, length-replicate}
 use lib.Dec.{eqb, leb, ltb}
 use borrow.Author.Tests.{eqb-true, leb-true, leb-false, le-leb}
 use Rattle.definitions.specs.Bytes.{Answer, refused, accepted, whenAccepted}
-use Rattle.definitions.specs.Instruction.{Instr, Return}
+use Rattle.definitions.specs.Instruction.{Instr, Return, Flow, straight, jump, question, flow}
 use Rattle.definitions.specs.Tables.{Function, Tables}
 use Rattle.definitions.specs.Reader.{codeStands, readModule}
-use Rattle.definitions.specs.Run.{Ran, Flow, straight, jump, question, flow, run}
+use Rattle.definitions.specs.Run.{Ran, run}
 use Rattle.definitions.specs.Calls.{functionOf, eventsFit, runFunction, runAnswer}
 use Rattle.definitions.specs.Sheet.{tally, isQuestion}
 use Rattle.definitions.specs.Reach.{Brings, wideArea, roomAsked, placeAsked, sought, Finds}

@@ -7,9 +7,9 @@ use Prim.Native.Nat.{ℕ, suc}
 use native.Mathlib.Omega.{arith}
 use lib.ListN.{length, getD, drop}
 use lib.Dec.{eqb, eqb·suc-zero, leb, le→leb}
-use Rattle.definitions.specs.Bytes.{Answer, refused, accepted, whenAccepted, Parsed, got, failed, _>>=_, give, byte, field, unhouse, countsRest, versionOne}
+use Rattle.definitions.specs.Bytes.{Answer, refused, accepted, whenAccepted, Parsed, got, failed, _>>=_, give, byte, field, unhouse, countsRest, versionIs}
 use Rattle.definitions.specs.Tree.{Block}
-use Rattle.definitions.specs.Parse.{blockOf, parseStmt, wholeBlock, readTree}
+use Rattle.definitions.specs.Parse.{blockOf, parseStmt, wholeBlock, treeVersion, readTree}
 use Rattle.definitions.specs.Wellformed.{askBlock, blockQuestions, firstNo, refusedBy, wellFormed}
 use Rattle.definitions.specs.Tables.{Tables}
 use Rattle.definitions.specs.Lower.{compile}
@@ -37,6 +37,12 @@ unfolding ask
 ask-is true q a = refl
 ask-is false q a = refl
 
+-- what is accepted was answered yes
+pub ask-accepted : {A : Type 0} (c : Bool) (q : ℕ) (a : Answer A) (t : A) → ask c q a ≡ accepted t → (c ≡ true) × (a ≡ accepted t)
+unfolding ask
+ask-accepted true q a t e = (refl, e)
+ask-accepted false q a t e = let z : _≡_ {A = ℕ} 0 1 = cc in absurd (omega arith)
+
 -- the first no of a list
 asks-is : {A : Type 0} (asked : ℕ → Bool) (qs : List ℕ) (a : A) → refusedBy (firstNo asked qs) a ≡ asks asked qs (accepted a)
 unfolding refusedBy firstNo asks ask
@@ -61,18 +67,18 @@ when-asks asked (q ∷ qs) a f = when-ask (asked q) q (asks asked qs a) f ∙ ap
 
 -- ---- the head of a record: 3 and 4 of a tree, 17 and 18 of a module
 
-pub head-asked : {A : Type 0} (p q : ℕ) (body : List ℕ → Answer A) (bs : List ℕ)
-    → unhouse p q body bs ≡ ask (headCounts bs) p (ask (leb 5 (length bs) && eqb (getD bs 4 0) 1) q (body (drop 5 bs)))
-unfolding unhouse countsRest versionOne headCounts ask field byte give _>>=_
-head-asked p q body [] = refl
-head-asked p q body (a ∷ []) = refl
-head-asked p q body (a ∷ b ∷ []) = refl
-head-asked p q body (a ∷ b ∷ c ∷ []) = refl
-head-asked p q body (a ∷ b ∷ c ∷ d ∷ []) = ask-is (headCounts (a ∷ b ∷ c ∷ d ∷ [])) p (refused q)
-head-asked {A} p q body (a ∷ b ∷ c ∷ d ∷ v ∷ rest) =
+pub head-asked : {A : Type 0} (w p q : ℕ) (body : List ℕ → Answer A) (bs : List ℕ)
+    → unhouse w p q body bs ≡ ask (headCounts bs) p (ask (leb 5 (length bs) && eqb (getD bs 4 0) w) q (body (drop 5 bs)))
+unfolding unhouse countsRest versionIs headCounts ask field byte give _>>=_
+head-asked w p q body [] = refl
+head-asked w p q body (a ∷ []) = refl
+head-asked w p q body (a ∷ b ∷ []) = refl
+head-asked w p q body (a ∷ b ∷ c ∷ []) = refl
+head-asked w p q body (a ∷ b ∷ c ∷ d ∷ []) = ask-is (headCounts (a ∷ b ∷ c ∷ d ∷ [])) p (refused q)
+head-asked {A} w p q body (a ∷ b ∷ c ∷ d ∷ v ∷ rest) =
     let five = is-true (leb 5 (suc (suc (suc (suc (suc (length rest))))))) (le→leb 5 (suc (suc (suc (suc (suc (length rest)))))) (omega arith)) in
     let head = headCounts (a ∷ b ∷ c ∷ d ∷ v ∷ rest) in
-    rw five (ask-is head p (versionOne q body (v ∷ rest)) ∙ ap (ask head p) (ask-is (eqb v 1) q (body rest)))
+    rw five (ask-is head p (versionIs w q body (v ∷ rest)) ∙ ap (ask head p) (ask-is (eqb v w) q (body rest)))
 
 -- ---- 5 and 6: the block
 
@@ -89,13 +95,13 @@ block-asked (failed q) h = go q (h q refl)
 -- ---- 2 to 6: the tree
 
 tree-asked : (tree : List ℕ)
-    → readTree tree ≡ ask (leb (length tree) 32768) 2 (ask (headCounts tree) 3 (ask (leb 5 (length tree) && eqb (getD tree 4 0) 1) 4
+    → readTree tree ≡ ask (leb (length tree) 32768) 2 (ask (headCounts tree) 3 (ask (leb 5 (length tree) && eqb (getD tree 4 0) treeVersion) 4
     (ask (readsWhole (parsed tree)) 5 (ask (notTooDeep (parsed tree)) 6 (accepted (blockRead (parsed tree)))))))
 unfolding readTree parsed
 tree-asked tree =
     ask-is (leb (length tree) 32768) 2 _
-    ∙ ap (ask (leb (length tree) 32768) 2) (head-asked 3 4 (λ rest. wholeBlock (blockOf (parseStmt 32) rest)) tree
-    ∙ ap (λ (z : Answer Block). ask (headCounts tree) 3 (ask (leb 5 (length tree) && eqb (getD tree 4 0) 1) 4 z)) (block-asked (parsed tree) (fails-tree 32 .at (drop 5 tree))))
+    ∙ ap (ask (leb (length tree) 32768) 2) (head-asked treeVersion 3 4 (λ rest. wholeBlock (blockOf (parseStmt 32) rest)) tree
+    ∙ ap (λ (z : Answer Block). ask (headCounts tree) 3 (ask (leb 5 (length tree) && eqb (getD tree 4 0) treeVersion) 4 z)) (block-asked (parsed tree) (fails-tree 32 .at (drop 5 tree))))
 
 -- ---- 7 to 16: the block
 
@@ -122,7 +128,7 @@ module _ (l : Limits) (room : ℕ) where
 
   finish-tree : (tree : List ℕ)
       → finish (whenAccepted (readTree tree) (lowerBlock l))
-      ≡ ask (leb (length tree) 32768) 2 (ask (headCounts tree) 3 (ask (leb 5 (length tree) && eqb (getD tree 4 0) 1) 4
+      ≡ ask (leb (length tree) 32768) 2 (ask (headCounts tree) 3 (ask (leb 5 (length tree) && eqb (getD tree 4 0) treeVersion) 4
       (ask (readsWhole (parsed tree)) 5 (ask (notTooDeep (parsed tree)) 6 (finish (lowerBlock l (blockRead (parsed tree))))))))
   unfolding finish whenAccepted
   finish-tree tree = rw tree-asked (simp when-ask)

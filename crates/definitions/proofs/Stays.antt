@@ -7,10 +7,10 @@ use native.Mathlib.Omega.{arith}
 use lib.Dec.{ltb}
 use lib.ListN.{length, getD}
 use borrow.Author.Tests.{ltb-true, eqb-true}
-use Rattle.definitions.specs.Instruction.{Instr, Return}
+use Rattle.definitions.specs.Instruction.{Instr, Return, Flow, straight, jump, returns, question, flow}
 use Rattle.definitions.specs.Tables.{Function}
 use Rattle.definitions.specs.Reader.{endsInReturn, jumpsLand, isJump, landing, codeStands}
-use Rattle.definitions.specs.Run.{Flow, straight, jump, returns, question, flow, way}
+use Rattle.definitions.specs.Run.{way}
 use Rattle.definitions.specs.Search.{Next, straightOn, jumpsTo, onNo, onYes, Step}
 use Rattle.definitions.proofs.Truth.{left, right}
 use Rattle.definitions.proofs.Flows.{stop-jumps, is-jump, flow-returns, way-below}

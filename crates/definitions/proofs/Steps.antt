@@ -6,8 +6,8 @@ use Prim.Native.Nat.{ℕ, zero, suc, _+_, _≤_}
 use native.Mathlib.Nat.{suc-add}
 use native.Mathlib.Omega.{arith}
 use lib.ListN.{getD}
-use Rattle.definitions.specs.Instruction.{Instr, Return, encode}
-use Rattle.definitions.specs.Run.{Ran, ended, after, Flow, straight, jump, returns, question, flow, obey, run}
+use Rattle.definitions.specs.Instruction.{Instr, Return, encode, Flow, straight, jump, returns, question, flow}
+use Rattle.definitions.specs.Run.{Ran, ended, after, obey, run}
 use Rattle.definitions.specs.Statements.{Budgeted, Steps}
 
 -- one step before a run

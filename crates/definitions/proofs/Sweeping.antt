@@ -11,9 +11,9 @@ use lib.ListN.{length, getD, set, take, length-append, length-set, List·getD-eq
 use lib.Seq.{getD-set-same, getD-set-other, take-set-le, take-suc, take-suc-set, length-take-le}
 use lib.Dec.{eqb}
 use borrow.Author.Tests.{eqb-true}
-use Rattle.definitions.specs.Instruction.{Instr, Return}
+use Rattle.definitions.specs.Instruction.{Instr, Return, Flow, straight, jump, returns, question, flow}
 use Rattle.definitions.specs.Reader.{landing}
-use Rattle.definitions.specs.Run.{Flow, straight, jump, returns, question, flow, way}
+use Rattle.definitions.specs.Run.{way}
 use Rattle.definitions.specs.Sheet.{tally, isQuestion}
 use Rattle.definitions.specs.Search.{Next, straightOn, jumpsTo, onNo, onYes, Step, answersOf, asks, Table, meet, Marks, expandBy, expand, Rule, Chain, begins, goes, Swept, weigh, Tabled}
 use Rattle.definitions.proofs.Truth.{not-equal}

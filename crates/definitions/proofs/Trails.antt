@@ -9,15 +9,16 @@ use lib.ListN.{length, getD, length-append}
 use lib.Dec.{eqb, leb}
 use borrow.Author.Tests.{eq-eqb, eqb-true}
 use Rattle.definitions.specs.Bytes.{all}
-use Rattle.definitions.specs.Instruction.{Instr, Return}
+use Rattle.definitions.specs.Instruction.{Instr, Return, Flow, straight, jump, returns, question, flow}
 use Rattle.definitions.specs.Reader.{landing}
-use Rattle.definitions.specs.Run.{Flow, straight, jump, returns, question, flow, way}
+use Rattle.definitions.specs.Run.{way}
 use Rattle.definitions.specs.Calls.{areAnswers}
 use Rattle.definitions.specs.Sheet.{isQuestion, oneIf}
 use Rattle.definitions.specs.Reach.{passing, placesMet, isAmong, meets, Reachable, Brings, Nowhere}
 use Rattle.definitions.specs.Search.{Next, straightOn, jumpsTo, onNo, onYes, Step, answersOf, asks, Rule, Chain, begins, goes, Way, Swept}
 use Rattle.definitions.specs.Statements.{SearchTells}
-use Rattle.definitions.proofs.Flows.{chosen, flow-is}
+use Rattle.definitions.specs.Open.{flows}
+use Rattle.definitions.proofs.Rows.{chosen, flow-is}
 
 -- ---- membership
 
@@ -83,7 +84,7 @@ other-asks false false true = refl
 other-asks false false false = refl
 
 pub question-flow : (op : ℕ) → isQuestion op ≡ asksBy (flow op)
-unfolding isQuestion flow asksBy
+unfolding isQuestion flows asksBy
 question-flow op = go (eqb op 28) refl
   where
     go : (a : Bool) → eqb op 28 ≡ a → isQuestion op ≡ asksBy (flow op)

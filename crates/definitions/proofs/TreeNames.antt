@@ -1,11 +1,11 @@
 -- Questions 7 and 33 are asked of the names that stand in a tree, of each and of nothing else.
-use mathlib.Core.Path.{_≡_, refl, sym, _∙_}
+use mathlib.Core.Path.{_≡_, refl, sym, ap, _∙_}
 use mathlib.Core.Bool.{Bool, true, false, not, _&&_, _||_}
 use mathlib.Core.List.{List, [], _∷_, _++_}
-use Prim.Native.Nat.{ℕ, _≤_}
+use Prim.Native.Nat.{ℕ}
 use native.Mathlib.Omega.{arith}
 use lib.ListN.{length}
-use lib.Dec.{leb, ltb}
+use lib.Dec.{eqb, leb, ltb}
 use borrow.Author.Tests.{ne-eqb}
 use Rattle.definitions.specs.Bytes.{Name, all, same}
 use Rattle.definitions.specs.Utf8.{isUtf8}
@@ -13,11 +13,10 @@ use Rattle.definitions.specs.Tree.{Literal, noneL, boolL, intL, floatL, 
 use Rattle.definitions.specs.Tree.{Expr, lit, var, unary, binary, logical, call, attr, display, index, lambda, Exprs, []ᵉ, _∷ᵉ_, Attribute}
 use Rattle.definitions.specs.Tree.{Stmt, break, continue, pass, expr, return, assign, if, while, for, def, class}
 use Rattle.definitions.specs.Tree.{Block, []ᵇ, _∷ᵇ_, Branches, done, else, when, Methods, []ᵐ, method}
-use Rattle.definitions.specs.Wellformed.{isIterator, distinct, init, isTarget, ifAsked, askName, askLiteral, askParams, askMethod, askArgs, askExpr, askExprs}
+use Rattle.definitions.specs.Wellformed.{isIterator, distinct, init, isTarget, isFull, ifAsked, askName, askLiteral, askParams, askMethod, askArgs, askExpr, askExprs}
 use Rattle.definitions.specs.Wellformed.{askTarget, askAttribute, askStmt, askBlock, askBranches, askMethods}
 use Rattle.definitions.specs.TreeNames.{namesExpr, namesExprs, namesAttributes, namesStmt, namesBlock, namesBranches, namesMethods}
 use Rattle.definitions.specs.Statements.{TreeNames}
-use Rattle.definitions.proofs.Truth.{at-most}
 
 and-yes : (a b : Bool) → b ≡ true → (a && b) ≡ a
 and-yes true b e = e
@@ -32,8 +31,12 @@ unfolding all
 all-append f [] ys = refl
 all-append f (x ∷ xs) ys = rw (all-append f xs ys) (sym (and-assoc (f x) (all f xs) (all f ys)))
 
+-- the questions that are not of names
+abbrev others : ℕ → Bool
+others k = leb 8 k && leb k 13 || eqb k 36
+
 -- a question of names: none of the others
-module _ (q : ℕ) (other : (k : ℕ) (test : Bool) → leb 8 k ≡ true → leb k 13 ≡ true → ifAsked k q test ≡ true) where
+module _ (q : ℕ) (other : (k : ℕ) (test : Bool) → others k ≡ true → ifAsked k q test ≡ true) where
   asks : List Name → Bool
   asks xs = all (askName q) xs
 
@@ -56,13 +59,13 @@ module _ (q : ℕ) (other : (k : ℕ) (test : Bool) → leb 8 k ≡ true → leb
   literal (boolL b) = refl
   literal (intL n) = refl
   literal (floatL n) = refl
-  literal (stringL s) = other 8 (isUtf8 s) refl refl
+  literal (stringL s) = other 8 (isUtf8 s) refl
 
   params : (ps : List Name) → askParams q ps ≡ asks ps
   unfolding askParams asks
   params ps =
-      and-yes (all (askName q) ps && ifAsked 11 q (distinct ps)) (ifAsked 13 q (leb (length ps) 255)) (other 13 _ refl refl)
-      ∙ and-yes (all (askName q) ps) (ifAsked 11 q (distinct ps)) (other 11 _ refl refl)
+      and-yes (all (askName q) ps && ifAsked 11 q (distinct ps)) (ifAsked 13 q (leb (length ps) 255)) (other 13 _ refl)
+      ∙ and-yes (all (askName q) ps) (ifAsked 11 q (distinct ps)) (other 11 _ refl)
 
   mutual
     unfolding askExpr askExprs askArgs namesExpr namesExprs asks all
@@ -74,7 +77,7 @@ module _ (q : ℕ) (other : (k : ℕ) (test : Bool) → leb 8 k ≡ true → leb
     of-expr (binary op l r) = both (namesExpr l) (namesExpr r) (of-expr l) (of-expr r)
     of-expr (logical op l r) = both (namesExpr l) (namesExpr r) (of-expr l) (of-expr r)
     of-expr (call f es) =
-        both (namesExpr f) (namesExprs es) (and-yes (askExpr q f) (ifAsked 13 q (leb (count es) 255)) (other 13 _ refl refl) ∙ of-expr f) (of-exprs es)
+        both (namesExpr f) (namesExprs es) (and-yes (askExpr q f) (ifAsked 13 q (leb (count es) 255)) (other 13 _ refl) ∙ of-expr f) (of-exprs es)
     of-expr (attr o x) = both (namesExpr o) (x ∷ []) (of-expr o) (one x)
     of-expr (display k es) = of-exprs es
     of-expr (index o i) = both (namesExpr o) (namesExpr i) (of-expr o) (of-expr i)
@@ -86,7 +89,7 @@ module _ (q : ℕ) (other : (k : ℕ) (test : Bool) → leb 8 k ≡ true → leb
 
   target : (t : Expr) → askTarget q t ≡ asks (namesExpr t)
   unfolding askTarget
-  target t = rw (other 10 (isTarget t) refl refl) (of-expr t)
+  target t = rw (other 36 (isFull t) refl, other 10 (isTarget t) refl) (of-expr t)
 
   attributes : (vs : List Attribute) → all (askAttribute q) vs ≡ asks (namesAttributes vs)
   unfolding askAttribute namesAttributes all asks
@@ -97,7 +100,7 @@ module _ (q : ℕ) (other : (k : ℕ) (test : Bool) → leb 8 k ≡ true → leb
 
   head : (x : Name) (ps : List Name) → askMethod q x ps ≡ (askName q x && askParams q ps)
   unfolding askMethod
-  head x ps = and-yes (askName q x && askParams q ps) (ifAsked 12 q (not (same x init) || ltb 0 (length ps))) (other 12 _ refl refl)
+  head x ps = and-yes (askName q x && askParams q ps) (ifAsked 12 q (not (same x init) || ltb 0 (length ps))) (other 12 _ refl)
 
   -- a name, and two parts
   three : {a b : Bool} (x : Name) (xs ys : List Name) → a ≡ asks xs → b ≡ asks ys → (askName q x && a && b) ≡ asks (x ∷ (xs ++ ys))
@@ -107,8 +110,8 @@ module _ (q : ℕ) (other : (k : ℕ) (test : Bool) → leb 8 k ≡ true → leb
     unfolding askStmt askBlock askBranches askMethods namesStmt namesBlock namesBranches namesMethods asks all
 
     of-stmt : (loop : Bool) (s : Stmt) → askStmt q loop s ≡ asks (namesStmt s)
-    of-stmt loop break = other 9 loop refl refl
-    of-stmt loop continue = other 9 loop refl refl
+    of-stmt loop break = other 9 loop refl
+    of-stmt loop continue = other 9 loop refl
     of-stmt loop pass = refl
     of-stmt loop (expr e) = of-expr e
     of-stmt loop (return e) = of-expr e
@@ -142,15 +145,15 @@ unfolding all
 all-same f g h [] = refl
 all-same f g h (x ∷ xs) = rw (h x, all-same f g h xs)
 
--- 7 and 33 are none of 8 to 13
-off : (q : ℕ) → ((k : ℕ) → 8 ≤ k → k ≤ 13 → q ≡ k → ⊥) → (k : ℕ) (test : Bool) → leb 8 k ≡ true → leb k 13 ≡ true → ifAsked k q test ≡ true
+-- 7 and 33 are none of them
+off : (q : ℕ) → others q ≡ false → (k : ℕ) (test : Bool) → others k ≡ true → ifAsked k q test ≡ true
 unfolding ifAsked
-off q h k test e f = rw (ne-eqb q k (h k (at-most 8 k e) (at-most k 13 f)))
+off q h k test e = rw (ne-eqb q k (λ z. let y : _≡_ {A = Bool} false true = sym h ∙ ap others z ∙ e in let x : _≡_ {A = ℕ} 0 1 = cc in omega arith))
 
 pub treeNames : TreeNames
 unfolding askName ifAsked asks
 treeNames b = record {
-  formed = of-block 7 (off 7 (λ k h g e. omega arith)) false b;
-  apart = of-block 33 (off 33 (λ k h g e. omega arith)) false b
+  formed = of-block 7 (off 7 refl) false b;
+  apart = of-block 33 (off 33 refl) false b
       ∙ all-same (askName 33) (λ x. not (isIterator x)) (λ x. and-yes (not (isIterator x)) true refl) (namesBlock b);
 }

@@ -7,10 +7,10 @@ use mathlib.Core.List.{List, [], _∷_}
 use lib.ListN.{length, getD}
 use lib.Dec.{eqb, leb, ltb}
 use Rattle.definitions.specs.Bytes.{Answer, refused, accepted, whenAccepted}
-use Rattle.definitions.specs.Instruction.{Instr, Return}
+use Rattle.definitions.specs.Instruction.{Instr, Return, Flow, straight, jump, returns, question, flow}
 use Rattle.definitions.specs.Tables.{Function}
 use Rattle.definitions.specs.Reader.{landing, readModule}
-use Rattle.definitions.specs.Run.{Flow, straight, jump, returns, question, flow, way}
+use Rattle.definitions.specs.Run.{way}
 use Rattle.definitions.specs.Calls.{functionOf, areAnswers, zeros, written}
 use Rattle.definitions.specs.Sheet.{tally, isQuestion}
 

@@ -7,9 +7,9 @@ use mathlib.Core.List.{List, [], _∷_, _++_}
 use lib.ListN.{length, getD, set}
 use lib.Dec.{eqb}
 use native.Mathlib.Omega.{arith}
-use Rattle.definitions.specs.Instruction.{Instr, Return}
+use Rattle.definitions.specs.Instruction.{Instr, Return, Flow, straight, jump, returns, question, flow}
 use Rattle.definitions.specs.Reader.{landing}
-use Rattle.definitions.specs.Run.{Flow, straight, jump, returns, question, flow, way}
+use Rattle.definitions.specs.Run.{way}
 use Rattle.definitions.specs.Sheet.{isQuestion, oneIf, tally}
 
 -- ---- from place to place

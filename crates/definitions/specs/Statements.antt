@@ -14,24 +14,28 @@ use Rattle.definitions.specs.Utf8.{Range, inRange, Octets, utf8Char, isU
 use Rattle.definitions.specs.Tree.{BinaryOp, addOp, subtractOp, multiplyOp, divideOp, floorDivideOp, moduloOp, equalOp, notEqualOp, lessOp, lessEqualOp, greaterOp, greaterEqualOp}
 use Rattle.definitions.specs.Tree.{binaryNumber, UnaryOp, LogicalOp, Display, Expr, lit, var, unary, binary, logical, call, attr, display, index, lambda, Exprs, []ᵉ, _∷ᵉ_}
 use Rattle.definitions.specs.Tree.{Stmt, break, continue, pass, expr, return, assign, if, while, for, def, class, Block, []ᵇ, _∷ᵇ_, Branches, done, else, when, Methods, Attribute}
-use Rattle.definitions.specs.Parse.{binaryKinds, blockOf, parseStmt}
+use Rattle.definitions.specs.Parse.{binaryKinds, blockOf, parseStmt, treeVersion, readTree}
 use Rattle.definitions.specs.Wellformed.{isName, isTuple, isIterator, distinct, askBlock}
 use Rattle.definitions.specs.TreeNames.{namesBlock}
 use Rattle.definitions.specs.Slots.{add, localsBlock, captures, loopsBlock}
 use Rattle.definitions.specs.Instruction.{Numbers, nothing, aString, aConstant, aSlot, aSymbol, aFunction, aBuiltin, numbersOf}
 use Rattle.definitions.specs.Instruction.{Instr, LoadLocal, StoreLocal, StoreGlobal, Return, Row, rowOf, binaryCode, encode, encodes}
+use Rattle.definitions.specs.Instruction.{Flow, straight, jump, returns, question, flow}
 use Rattle.definitions.specs.Tables.{Function, Tables, Body, blockBody, exprBody, Source}
 use Rattle.definitions.specs.Lower.{iterName, noTables, compile, emitBody}
 use Rattle.definitions.specs.Bodies.{bodies}
-use Rattle.definitions.specs.Module.{Limits, office, console, limitsBy, moduleBytes, codeStart, instructions, slotsFit, tablesFit, lowerBlock, lowerTables, lowerBytes}
+use Rattle.definitions.specs.Module.{Limits, office, console, limitsBy, moduleVersion, moduleBytes, codeStart, instructions, slotsFit, tablesFit, lowerBlock, lowerTables, lowerBytes}
 use Rattle.definitions.specs.Reader.{moduleRecord, numbersExist, codeStands, readModule}
 use Rattle.definitions.specs.Listing.{firstText, secondText, nameText, codeLine, pageLine, listing}
 use Rattle.definitions.specs.Sheet.{anyOp, isQuestion, isCall, tally, allCode, countLine, sheet}
-use Rattle.definitions.specs.Run.{Ran, run, Flow, straight, jump, returns, question, flow}
+use Rattle.definitions.specs.Run.{Ran, run}
 use Rattle.definitions.specs.Walk.{Walked, endingNumber, walk}
 use Rattle.definitions.specs.Calls.{areasFit, areAnswers, lowerAnswer, readCall, Part, partOf, codeCall, textAnswer, runAnswer, walkTree}
 use Rattle.definitions.specs.Reach.{placesMet, Reachable, Brings, Nowhere, wideArea, sought, Finds}
 use Rattle.definitions.specs.Search.{Rule, Swept}
+use Rattle.definitions.specs.Stack.{heightAfter, heightNumber, heightAt}
+use Rattle.definitions.specs.Heights.{Spot, spotsMet, Met, Within, HeightsHold, heightsHold, functionHolds, heightsAnswer}
+use Rattle.definitions.specs.Starts.{startsSource}
 use Rattle.definitions.specs.Samples.{samples, holds}
 
 -- ---- the starred samples: proofs/Samples
@@ -116,7 +120,7 @@ lowerQuestions l m n room tree =
     asked 1 (areasFit m n)
     ∷ asked 2 (leb (length tree) 32768)
     ∷ asked 3 (headCounts tree)
-    ∷ asked 4 (leb 5 (length tree) && eqb (getD tree 4 0) 1)
+    ∷ asked 4 (leb 5 (length tree) && eqb (getD tree 4 0) treeVersion)
     ∷ asked 5 (readsWhole (parsed tree))
     ∷ asked 6 (notTooDeep (parsed tree))
     ∷ asked 7 (askBlock 7 false b)
@@ -124,6 +128,7 @@ lowerQuestions l m n room tree =
     ∷ asked 8 (askBlock 8 false b)
     ∷ asked 9 (askBlock 9 false b)
     ∷ asked 10 (askBlock 10 false b)
+    ∷ asked 36 (askBlock 36 false b)
     ∷ asked 11 (askBlock 11 false b)
     ∷ asked 12 (askBlock 12 false b)
     ∷ asked 13 (askBlock 13 false b)
@@ -142,7 +147,7 @@ abbrev pub Refusals : Type 0
 Refusals =
     (l : Limits) (m n room : ℕ) (tree : List ℕ) → lowerAnswer l m n room tree ≡ firstRefusal (lowerQuestions l m n room tree) (moduleOf tree)
 
--- ---- the same of the reader, of the hand-back of code, of the run, of texts about a module and of R-8's tool: proofs/ModuleRefusals
+-- ---- the same of the reader, of the hand-back of code, of the run, of texts about a module, of R-8's tool and of the check of heights: proofs/ModuleRefusals
 
 -- what the bytes after a module's head read as
 unfoldable pub recordRead : List ℕ → Parsed Tables
@@ -169,7 +174,7 @@ codeIn t f = elim (getElem? (t .functions) f) [ some g ↦ g .code | none ↦ []
 unfoldable pub readQuestions : List ℕ → List Question
 readQuestions m =
     asked 17 (leb (length m) 524288 && headCounts m)
-    ∷ asked 18 (leb 5 (length m) && eqb (getD m 4 0) 1)
+    ∷ asked 18 (leb 5 (length m) && eqb (getD m 4 0) moduleVersion)
     ∷ asked 19 (laidOut (recordRead m))
     ∷ asked 20 (numbersExist (tablesIn m))
     ∷ asked 21 (all codeStands (tablesIn m .functions))
@@ -219,6 +224,12 @@ abbrev pub ReachRefusals : Type 0
 ReachRefusals =
     (n : ℕ) (m : List ℕ) (f place room : ℕ) → sought n m f place room ≡ firstRefusal (reachQuestions n m f place room) (codeIn (tablesIn m) f)
 
+-- those of the check of heights, by the length of the area
+unfoldable pub heightsQuestions : ℕ → List ℕ → List Question
+heightsQuestions n m = asked 1 (wideArea n) ∷ readQuestions m ++ asked 37 (all functionHolds (tablesIn m .functions)) ∷ []
+
+abbrev pub HeightsRefusals : Type 0
+HeightsRefusals = (n : ℕ) (m : List ℕ) → heightsAnswer n m ≡ firstRefusal (heightsQuestions n m) tt
 -- ---- two sets of limits: proofs/Narrower
 
 -- limits none of which is above the other's. The theorems below about what is lowered hold for all limits under the office's
@@ -734,3 +745,64 @@ pub record SheetFits (t : Tables) : Type 0 where
 
 abbrev pub SheetLength : Type 0
 SheetLength = (m : List ℕ) (t : Tables) → areBytes m ≡ true → readModule m ≡ accepted t → SheetFits t
+
+-- ---- heights: proofs/Spots, proofs/HeightsLowered, proofs/HeightsDecided, proofs/Check
+
+-- Every function of every accepted tree has the number of its code in its record, and its heights hold with it
+abbrev pub LoweredHeights : Type 0
+LoweredHeights =
+    (l : Limits) → Under l office → (tree : List ℕ) (t : Tables) → areBytes tree ≡ true → lowerTables l tree ≡ accepted t
+    → (k : ℕ) (f : Function) → getElem? (t .functions) k ≡ some f → (f .height ≡ heightNumber (f .code)) × HeightsHold (f .height) (f .code)
+
+-- the same about the bytes: of every module that is lowered, as the reader reads it
+abbrev pub LoweredHeightsBytes : Type 0
+LoweredHeightsBytes =
+    (l : Limits) → Under l office → (tree m : List ℕ) → areBytes tree ≡ true → lowerBytes l tree ≡ accepted m
+    → (t : Tables) → readModule m ≡ accepted t
+    → (k : ℕ) (f : Function) → getElem? (t .functions) k ≡ some f → (f .height ≡ heightNumber (f .code)) × HeightsHold (f .height) (f .code)
+
+-- the number is the largest height that an instruction of the code leaves, each met at the height of its place
+abbrev pub NumberIsLargest : Type 0
+NumberIsLargest =
+    (code : List Instr)
+    → ((p : ℕ) → p < length code → heightAfter (getD code p Return) (heightAt 0 code p) ≤ heightNumber code)
+    × (1 ≤ length code → (p : ℕ) × (p < length code) × (heightAfter (getD code p Return) (heightAt 0 code p) ≡ heightNumber code))
+
+-- The number counts each statement, and a function's end, from height 0, those that no run reaches included: a run that began there at height 0 would
+-- meet every place at the height that the number counts, with values enough and not above the number
+abbrev pub LoweredStarts : Type 0
+LoweredStarts =
+    (l : Limits) → Under l office → (tree : List ℕ) (b : Block) (t : Tables) → areBytes tree ≡ true → readTree tree ≡ accepted b → lowerBlock l b ≡ accepted t
+    → (k : ℕ) (f : Function) → getElem? (t .functions) k ≡ some f
+    → (s : Source) × (getElem? (compile b .sources) k ≡ some s)
+    × ((j q : ℕ) → getElem? (startsSource s) j ≡ some q
+    → (p h : ℕ) → Met (f .code) q p h → (h ≡ heightAt 0 (f .code) p) × Within (f .height) (getD (f .code) p Return) h)
+
+-- the number is at most one more than the count of instructions, which question 15 bounds: it fits its two bytes
+abbrev pub NumberFits : Type 0
+NumberFits = (code : List Instr) → heightNumber code ≤ suc (length code)
+
+-- the places of a run's spots are those that it meets (MetAreSteps: those that it counts as steps)
+abbrev pub SpotsArePlaces : Type 0
+SpotsArePlaces = (n : ℕ) (code : List Instr) (p h : ℕ) (answers : List ℕ) → map (λ (s : Spot). s .place) (spotsMet n code p h answers) ≡ placesMet n code p answers
+
+-- of code that passes question 21: the search says yes exactly if the heights hold
+abbrev pub HeightsDecided : Type 0
+HeightsDecided =
+    (number : ℕ) (f : Function) → codeStands f ≡ true
+    → (heightsHold number (f .code) ≡ true → HeightsHold number (f .code)) × (HeightsHold number (f .code) → heightsHold number (f .code) ≡ true)
+
+-- the heights of every function of a module hold
+abbrev pub EveryHolds : Tables → Type 0
+EveryHolds t = (k : ℕ) (f : Function) → getElem? (t .functions) k ≡ some f → HeightsHold (f .height) (f .code)
+
+-- with an area long enough, a module that the reader takes passes the check exactly if all its heights hold; else the check refuses by 37
+abbrev pub CheckAnswers : Type 0
+CheckAnswers =
+    (n : ℕ) (m : List ℕ) (t : Tables) → wideArea n ≡ true → readModule m ≡ accepted t
+    → (EveryHolds t → heightsAnswer n m ≡ accepted tt) × ((EveryHolds t → ⊥) → heightsAnswer n m ≡ refused 37) × (heightsAnswer n m ≡ accepted tt → EveryHolds t)
+
+-- every lowered module passes the check
+abbrev pub LoweredPasses : Type 0
+LoweredPasses =
+    (l : Limits) → Under l office → (tree m : List ℕ) → areBytes tree ≡ true → lowerBytes l tree ≡ accepted m → (n : ℕ) → wideArea n ≡ true → heightsAnswer n m ≡ accepted tt

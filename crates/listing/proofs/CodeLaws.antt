@@ -21,7 +21,8 @@ use Rattle.tally.specs.Walk.{Values, valuesEnd, codeFrom, functionsFrom}
 use Rattle.tally.proofs.Walking.{reads-none, Function-here, function-head, function-here}
 use Rattle.listing.specs.Lines.{Operands, Lined}
 use Rattle.listing.specs.declared.Next.{Next}
-use Rattle.listing.proofs.PartLaws.{part-code, code-count, met-operands}
+use Rattle.tally.proofs.Parts.{part-code, code-count}
+use Rattle.listing.proofs.PartLaws.{met-operands}
 
 -- ---- the lines of a function's code
 
@@ -119,24 +120,24 @@ module _ (t : List ℕ) (at count : ℕ) (xs : List ℕ) where
 
   module _ (out : List ℕ) (p put f k n : ℕ) (l : Listing t at count xs out p put f k) (h : f < count) (g : Function-here t (count - f) p n) where
     pub listing-here : Begun (functionLines 0 0 (functionsFrom count t at)) xs put out
-        (codeLines f 0 k (codeFrom n t (p + 7)) ∷ functionLines (suc f) (k + n) (functionsFrom (count - f - 1) t (valuesEnd instruction n t (p + 7))) ∷ [])
+        (codeLines f 0 k (codeFrom n t (p + 9)) ∷ functionLines (suc f) (k + n) (functionsFrom (count - f - 1) t (valuesEnd instruction n t (p + 9))) ∷ [])
     unfolding functionLines
     listing-here =
-        begun-split (codeLines f 0 k (codeFrom n t (p + 7))) (functionLines (suc f) (k + n) (functionsFrom (count - f - 1) t (valuesEnd instruction n t (p + 7))))
+        begun-split (codeLines f 0 k (codeFrom n t (p + 9))) (functionLines (suc f) (k + n) (functionsFrom (count - f - 1) t (valuesEnd instruction n t (p + 9))))
         (ap (functionLines f k) (g .list)
-        ∙ ap₂ (λ (is : List Instr) (j : ℕ). codeLines f 0 k is ++ functionLines (suc f) (k + j) (functionsFrom (count - f - 1) t (valuesEnd instruction n t (p + 7)))) (sym (g .code-is)) (sym (g .count)))
+        ∙ ap₂ (λ (is : List Instr) (j : ℕ). codeLines f 0 k is ++ functionLines (suc f) (k + j) (functionsFrom (count - f - 1) t (valuesEnd instruction n t (p + 9)))) (sym (g .code-is)) (sym (g .count)))
         (l .begun)
 
     pub listing-lines : k + n ≤ instructions (functionsFrom count t at)
     unfolding instructions
     listing-lines = let a = l .lines in let b = ap instructions (g .list) in let c = g .count in omega arith
 
-    pub listing-next : (r : Next) (zs : List ℕ) → Lined r n t (p + 7) f k (from put out) zs →
+    pub listing-next : (r : Next) (zs : List ℕ) → Lined r n t (p + 9) f k (from put out) zs →
         Listing t at count xs (over put out zs) (r .at) (put + r .put) (f + 1) (k + n)
     unfolding instructions
     listing-next r zs w =
         let z : count - f - 1 ≡ count - (f + 1) = omega arith in
-        let q = valuesEnd instruction n t (p + 7) in
+        let q = valuesEnd instruction n t (p + 9) in
         let a = l .lines in let b = ap instructions (g .list) in let c = g .count in
         let d = ap (λ (j : ℕ). instructions (functionsFrom j t q)) z in
         subst (λ (j : ℕ). Listing t at count xs (over put out zs) j (put + r .put) (f + 1) (k + n)) (sym (w .ends))
@@ -156,20 +157,20 @@ module _ (t : List ℕ) (at count : ℕ) (xs : List ℕ) where
 -- ---- what the code's needs ask for
 
 module _ {t : List ℕ} {at count : ℕ} {xs out : List ℕ} {p put f k : ℕ} (l : Listing t at count xs out p put f k) (h : f < count) where
-  pub listing-head : p + 7 ≤ length t
+  pub listing-head : p + 9 ≤ length t
   listing-head = function-head t (count - f) p (omega arith) (l .rest)
 
-  module _ {n : ℕ} (e : n ≡ numberAt 2 t (p + 5)) where
+  module _ {n : ℕ} (e : n ≡ numberAt 2 t (p + 7)) where
     pub listing-function : Function-here t (count - f) p n
     listing-function = function-here t (count - f) p n (omega arith) (l .rest) e
 
     pub listing-piece : Begun (functionLines 0 0 (functionsFrom count t at)) xs put out
-        (codeLines f 0 k (codeFrom n t (p + 7)) ∷ functionLines (suc f) (k + n) (functionsFrom (count - f - 1) t (valuesEnd instruction n t (p + 7))) ∷ [])
+        (codeLines f 0 k (codeFrom n t (p + 9)) ∷ functionLines (suc f) (k + n) (functionsFrom (count - f - 1) t (valuesEnd instruction n t (p + 9))) ∷ [])
     listing-piece = listing-here t at count xs out p put f k n l h listing-function
 
     pub listing-few : k + n ≤ instructions (functionsFrom count t at)
     listing-few = listing-lines t at count xs out p put f k n l h listing-function
 
-    pub listing-step : {r : Next} {zs : List ℕ} → Lined r n t (p + 7) f k (from put out) zs →
+    pub listing-step : {r : Next} {zs : List ℕ} → Lined r n t (p + 9) f k (from put out) zs →
         Listing t at count xs (over put out zs) (r .at) (put + r .put) (f + 1) (k + n)
     listing-step {r} {zs} w = listing-next t at count xs out p put f k n l h listing-function r zs w

@@ -5,12 +5,13 @@ use Prim.Native.Nat.{ℕ, _+_, _/_, _%_, _≤_, _<_}
 use native.Mathlib.Omega.{arith}
 use lib.ListN.{length}
 use Rattle.definitions.specs.Calls.{written}
-use Rattle.definitions.specs.Instruction.{instr, firstWidth, secondWidth}
+use Rattle.definitions.specs.Instruction.{instr}
 use Rattle.definitions.specs.Reader.{instruction}
 use Rattle.definitions.specs.Listing.{heading, codeLine, pageLine}
 use Rattle.definitions.proofs.Listing as Text
 use Rattle.reader.specs.View.{Got}
-use Rattle.reader.proofs.Encoding.{Small, number-small, instruction-view}
+use Rattle.reader.proofs.Encoding.{Small}
+use Rattle.tally.proofs.Parts.{operands-fit}
 use Rattle.writing.specs.Wrote.{Wrote}
 use Rattle.writing.proofs.Begun.{over, from, joined, begun-done, put-first, put-next}
 use Rattle.listing.specs.Lines.{Operands}
@@ -19,14 +20,8 @@ use Rattle.listing.proofs.LineLaws.{line-in}
 -- operands that were read
 pub operands-read : (t : List ℕ) → Small t → (at op a b m : ℕ) → at ≤ length t → Got instruction t at (instr op a b) m → op < 46 → Operands op a b
 operands-read t small at op a b m h g o =
-    let v = instruction-view t at (instr op a b) m h g in
-    let x = v .2 in
-    let y = v .3 in
-    record {
-      opcode = o;
-      first = omega (arith, number-small t small (firstWidth op) (at + 1));
-      second = omega (arith, number-small t small (secondWidth op) (at + 1 + firstWidth op));
-    }
+    let v = operands-fit t small at (instr op a b) m h g in
+    record { opcode = o; first = v .0; second = v .1 }
 
 -- the page's line
 pub page-53 : (k : ℕ) → k < 1000000 → length (pageLine (k / 50 + 1)) ≡ 53

@@ -14,6 +14,7 @@ use Rattle.definitions.specs.Statements.{LineFits}
 use Rattle.definitions.specs.Listing.{shownAs, shown, firstText, secondText, nameText, codeLine, pageLine}
 use Rattle.definitions.proofs.Columns.{length-right}
 use Rattle.definitions.proofs.Listing.{is-jump}
+use Rattle.definitions.proofs.Rows.{jump-is}
 use Rattle.columns.specs.declared.Field.{Field}
 use Rattle.columns.specs.declared.Field.the-variants.{Blank, Digits, Negative, Bits}
 use Rattle.columns.specs.Fields.{fieldText}
@@ -24,12 +25,10 @@ use Rattle.writing.proofs.Begun.{joined}
 -- ---- what is no jump
 
 pub below-jump : (op : ℕ) → op < 28 → isJump op ≡ false
-unfolding isJump
-below-jump op h = rw (lt-leb 28 op h, isJump)
+below-jump op h = rw (jump-is op, lt-leb 28 op h)
 
 pub above-jump : (op : ℕ) → 28 ≤ op → 30 < op → isJump op ≡ false
-unfolding isJump
-above-jump op g h = rw (le-leb 28 op g, lt-leb op 30 h, isJump)
+above-jump op g h = rw (jump-is op, le-leb 28 op g, lt-leb op 30 h)
 
 -- ---- numbers with a sign
 

@@ -4,14 +4,14 @@ use crate::Next;
 use crate::PAGE;
 use crate::lines::write_line;
 use crate::lines::write_page;
+use numerals::sizes::FUNCTION_COUNT;
+use numerals::sizes::FUNCTION_HEAD;
 use reader::Cursor;
 use reader::Located;
 use reader::Met;
 use reader::next_instruction;
 use reader::number_at;
 use reader::part_of;
-use tally::CODE;
-use tally::COUNT;
 use tally::count_code;
 ghost use mathlib.Core.List.{_++_};
 ghost use Prim.Native.Nat.{_+_, _≤_, _<_};
@@ -77,8 +77,8 @@ pub(crate) fn write_functions(bytes: &[u8], at: usize, count: u64, out: &mut [u8
     let mut f = 0u64;
     let mut k = 0u64;
     while f < count {
-        let n = number_at(bytes, p + COUNT, 2);
-        let lines = write_function(bytes, p + CODE, n, f, k, &mut out[put..]);
+        let n = number_at(bytes, p + FUNCTION_COUNT, 2);
+        let lines = write_function(bytes, p + FUNCTION_HEAD, n, f, k, &mut out[put..]);
         put += lines.put;
         p = lines.at;
         k += n;

@@ -2,6 +2,7 @@
 use crate::names::put_name;
 use columns::Field;
 use columns::put_field;
+use numerals::op_bytes;
 use widths::first_width;
 use widths::second_width;
 use writing::write_bytes;
@@ -15,14 +16,10 @@ ghost use Rattle.definitions.specs.Listing.{firstText, secondText, codeLine, pa
 ghost use Rattle.columns.specs.Fields.{fieldText};
 ghost use Rattle.listing.specs.Lines.{Operands};
 
-// Opcodes by which a first operand is shown: an integer, a float, and the first and the last of the jumps.
+// Opcodes by which a first operand is shown, beside the jumps: an integer, a float.
 const CONST_I64: u8 = 0;
 
 const CONST_F64: u8 = 1;
-
-const JUMP: u8 = 28;
-
-const JUMP_IF_TRUE: u8 = 30;
 
 const LINE_FEED: u8 = 10;
 
@@ -61,8 +58,8 @@ fn first_shown(op: u8, a: u64) -> Field
     if op == CONST_F64 {
         return Field::Bits(16, a);
     }
-    if JUMP <= op {
-        if op <= JUMP_IF_TRUE {
+    if op_bytes::JUMP <= op {
+        if op <= op_bytes::JUMP_IF_TRUE {
             return signed_short(a);
         }
     }

@@ -6,7 +6,7 @@ use native.Mathlib.Omega.{arith}
 use lib.ListN.{length, set}
 use Rattle.definitions.specs.Bytes.{Name}
 use Rattle.definitions.specs.Instruction.{instr, LoadConst}
-use Rattle.definitions.specs.Tables.{Method, one, withClasses, addConstant}
+use Rattle.definitions.specs.Tables.{Method, one, withClasses, addConstant, coded}
 use Rattle.definitions.specs.Lower.{classObject, endClass}
 use Rattle.state.specs.State.{State, stateOf, emitAt, Sound, Within, Left, Emits, Numbers, symbolNumber, withSymbol, withTables}
 use Rattle.state.specs.declared.Counts.{Counts}
@@ -25,7 +25,7 @@ use Rattle.lower_emit.proofs.Answering.{open-after}
 within-begunWith : {l : Limits} (k arity n : ℕ) (s : State) → Within l (begunWith k arity n s) → Within l s
 unfolding begunWith
 within-begunWith k arity n s w =
-    within-tables s _ (record { new = record { symbol = k; arity = arity; locals = n; code = [] } ∷ []; functions = refl; symbols = omega arith; strings = omega arith; classes = omega arith }) w
+    within-tables s _ (record { new = coded k arity n [] ∷ []; functions = refl; symbols = omega arith; strings = omega arith; classes = omega arith }) w
 
 module _ (t made code tables tables₁ : List ℕ) (c : Counts) (l : Limits) (x : Name) (arity locals : ℕ) (sound : Sound t made code tables c l) (n : Numbered)
     (h : Numbers n t made code tables₁ c l (symbolNumber x (stateOf t made code tables c .tables)) (withTables (withSymbol x (stateOf t made code tables c .tables)) (stateOf t made code tables c))) where

@@ -6,7 +6,7 @@ use native.Mathlib.Omega.{arith}
 use native.Mathlib.Nat.{le-refl}
 use lib.ListN.{length, drop, set, length-append}
 use Rattle.definitions.specs.Slots.{Frame}
-use Rattle.definitions.specs.Tables.{Function, Tables, begin}
+use Rattle.definitions.specs.Tables.{Function, Tables, coded, begin}
 use Rattle.state.specs.Words.{region, textAt, instrsOf}
 use Rattle.state.specs.State.{stringsFrom, headsFrom, codesFrom, classNamesFrom, classMethodsFrom, methodsFrom, constantsFrom, doneFrom, spelled, functionOf, functionsOf}
 use Rattle.state.specs.State.{classesOf, State, tablesOf, stateOf, Every, EndsWithin, MadeWithin, total, Sound, symbolIndexFrom, symbolBuckets, stringIndexFrom, stringBuckets}
@@ -41,13 +41,13 @@ tables-eq t u a b c d e = λ i. record { symbols = a i; strings = b i; functions
 
 -- a head is the function of its parts; it has no code
 head-function : (t fin : List ℕ) (sy ar lo h : ℕ) → sy < 65536 → ar < 256 → lo < 256 → h ≡ sy * 65536 + ar * 256 + lo →
-    functionOf t fin h 0 ≡ record { symbol = sy; arity = ar; locals = lo; code = [] }
+    functionOf t fin h 0 ≡ coded sy ar lo []
 unfolding functionOf region instrsOf
 head-function t fin sy ar lo h a b c e =
     let p : h / 2 ^ 16 ≡ sy = omega arith in
     let q : h / 2 ^ 8 % 2 ^ 8 ≡ ar = omega arith in
     let r : h % 2 ^ 8 ≡ lo = omega arith in
-    λ i. record { symbol = p i; arity = q i; locals = r i; code = [] }
+    λ i. coded (p i) (q i) (r i) []
 
 -- the counts with one function more, which is the innermost
 abbrev pub oneMore : Counts → Counts
@@ -146,4 +146,4 @@ pub begin-over : (t made code tables tables′ : List ℕ) (sy ar lo n : ℕ) (c
     Begins Over t made code tables′ c l n (begunWith sy ar lo (stateOf t made code tables c))
 unfolding Begins begunWith
 begin-over t made code tables tables′ sy ar lo n c l s h = λ inside.
-    omega (arith, inside .functions, function-count t made code tables c l s, length-append (stateOf t made code tables c .tables .functions) (record { symbol = sy; arity = ar; locals = lo; code = [] } ∷ []))
+    omega (arith, inside .functions, function-count t made code tables c l s, length-append (stateOf t made code tables c .tables .functions) (coded sy ar lo [] ∷ []))

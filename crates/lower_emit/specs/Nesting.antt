@@ -3,7 +3,7 @@ use Prim.Native.Nat.{ℕ, zero, suc, _+_, _<_}
 use mathlib.Core.Path.{_≡_}
 use mathlib.Core.List.{List, [], _∷_, _++_}
 use Rattle.definitions.specs.Instruction.{Instr}
-use Rattle.definitions.specs.Tables.{Function, withFunctions}
+use Rattle.definitions.specs.Tables.{Function, coded, withFunctions}
 use Rattle.state.specs.State.{State, stateOf, withTables, Within, Sound, Paced}
 use Rattle.state.specs.declared.Counts.{Counts}
 use Rattle.state.specs.Answered.{Limits, Numbered, At, Over}
@@ -11,7 +11,7 @@ use Rattle.state.specs.Answered.{Limits, Numbered, At, Over}
 -- a function of n slots has begun: `begun`, where the rest of its frame doesn't matter
 unfoldable pub begunWith : ℕ → ℕ → ℕ → State → State
 begunWith k arity n s =
-    withTables (withFunctions (s .tables .functions ++ record { symbol = k; arity = arity; locals = n; code = [] } ∷ []) (s .tables)) s
+    withTables (withFunctions (s .tables .functions ++ coded k arity n [] ∷ []) (s .tables)) s
 
 -- the code of function n
 unfoldable pub bodyOf : List Function → ℕ → List Instr

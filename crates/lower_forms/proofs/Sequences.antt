@@ -9,7 +9,8 @@ use Rattle.definitions.specs.Instruction.{Instr, instr}
 use Rattle.definitions.specs.Tables.{emits, one}
 use Rattle.definitions.specs.Wellformed.{init}
 use Rattle.definitions.specs.Lower.{methodEnd}
-use Rattle.definitions.specs.Reader.{isJump}
+use Rattle.definitions.specs.Reader.{jumps, isJump}
+use Rattle.definitions.specs.Open.{flows}
 use Rattle.parts.specs.Places.{Node, ParamsAt}
 use Rattle.definitions.specs.Tree.{Branches, else}
 use Rattle.tree.specs.StmtAt.{blockAt, branchesAt, elseAt}
@@ -23,23 +24,23 @@ use Rattle.lower_forms.proofs.Unpacking.{plain-of}
 use Rattle.lower_forms.specs.Lowering.{endOf, BlockLowerable, BranchesLowerable}
 
 pub plain-break : Plain 46 0 0
-unfolding special isJump
+unfolding special isJump jumps flows
 plain-break = plain-of 46 (omega arith) refl
 
 pub plain-continue : Plain 47 0 0
-unfolding special isJump
+unfolding special isJump jumps flows
 plain-continue = plain-of 47 (omega arith) refl
 
 pub plain-pop : Plain 7 0 0
-unfolding special isJump
+unfolding special isJump jumps flows
 plain-pop = plain-of 7 (omega arith) refl
 
 pub plain-return : Plain 33 0 0
-unfolding special isJump
+unfolding special isJump jumps flows
 plain-return = plain-of 33 (omega arith) refl
 
 pub plain-object : Plain 9 0 0
-unfolding special isJump
+unfolding special isJump jumps flows
 plain-object = plain-of 9 (omega arith) refl
 
 -- ---- a function's end

@@ -11,7 +11,7 @@ use Rattle.definitions.specs.Bytes.{Name, all, same}
 use Rattle.definitions.specs.Tree.{Stmt, if, when, for, Block, Branches, done, Methods}
 use Rattle.definitions.specs.Instruction.{instr}
 use Rattle.definitions.specs.Tables.{Emit, emits, one, _⨟_}
-use Rattle.definitions.specs.Wellformed.{init, ifAsked, isTarget, askName, askParams, askExpr, askTarget, askStmt, askBlock, askBranches, askMethod, askMethods, askAttribute}
+use Rattle.definitions.specs.Wellformed.{init, ifAsked, isTarget, isFull, askName, askParams, askExpr, askTarget, askStmt, askBlock, askBranches, askMethod, askMethods, askAttribute}
 use Rattle.definitions.specs.Slots.{Keeping, past, loopsStmt}
 use Rattle.definitions.specs.Lower.{loop, emitStmt, emitBlock}
 use Rattle.parts.specs.Places.{Node, node, countAt, Counted, nameBytes, nameEnd, paramsAt}
@@ -87,7 +87,7 @@ module _ (d : ℕ) (t : List ℕ) (p : ℕ) (r : StmtLowerable d t p) where
       record {
         parts = record {
           target = v .parts .first;
-          args = and-both (ifAsked 10 13 (isTarget x)) (askExpr 13 x) (a .0) .1;
+          args = and-both (ifAsked 36 13 (isFull x) && ifAsked 10 13 (isTarget x)) (askExpr 13 x) (a .0) .1;
           value = record { reads = v .parts .second; args = a .1 };
         };
         code = coded _ (v .is);

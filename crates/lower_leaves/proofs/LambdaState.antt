@@ -11,7 +11,7 @@ use Rattle.names.proofs.Finding.{names-length}
 use Rattle.definitions.specs.Bytes.{Name, all, member, position, same, below}
 use Rattle.definitions.specs.Tree.{Expr}
 use Rattle.definitions.specs.Instruction.{Return, MakeClosure, LoadLocal}
-use Rattle.definitions.specs.Tables.{Function, Body, exprBody, Emit, one, _⨟_, function}
+use Rattle.definitions.specs.Tables.{Function, Body, exprBody, Emit, one, _⨟_, function, coded}
 use Rattle.definitions.specs.Slots.{inGlobals, Frame, namesOnly, within, insert, sort, captures}
 use Rattle.definitions.proofs.Resolve.{position-lt}
 use Rattle.definitions.specs.Lower.{lambdaName, load, loads, closure, emitExpr}
@@ -194,7 +194,7 @@ module _ (t made code tables : List ℕ) (c : Counts) (l : Limits) (s : Sound t 
       function-known =
           let a = functions-longer body-tables in
           let d = function-count t made₂ code₂ tables₂ m l (g .sound) in
-          omega (arith, number, length-append (withSymbol x (before .tables) .functions) (record { symbol = symbolNumber x (before .tables); arity = arity; locals = length inner; code = [] } ∷ []))
+          omega (arith, number, length-append (withSymbol x (before .tables) .functions) (coded (symbolNumber x (before .tables)) arity (length inner) [] ∷ []))
 
       pub function-empty : bodyOf (stateOf t made₂ code₂ tables₂ m .tables .functions) f ≡ []
       function-empty =

@@ -15,7 +15,8 @@ use Rattle.state.proofs.Emission.{at-seq}
 use Rattle.state.proofs.StmtEmission.{at-takeIter}
 use Rattle.names.specs.declared.Made.the-variants.{Iter, HasNext, Next, Iterator}
 use Rattle.names.specs.Made.{madeName}
-use Rattle.definitions.specs.Reader.{isJump}
+use Rattle.definitions.specs.Reader.{jumps, isJump}
+use Rattle.definitions.specs.Open.{flows}
 use Rattle.lower_emit.specs.Ops.{special, Plain}
 use Rattle.definitions.proofs.Decimals.{length-decimal}
 
@@ -59,5 +60,5 @@ take-is base slots x g s h =
 -- ---- the opcodes
 
 pub plain-method : Plain 35 0 0
-unfolding special isJump
+unfolding special isJump jumps flows
 plain-method = record { op-byte = omega arith; op-plain = refl; first-short = omega arith; second-byte = omega arith }

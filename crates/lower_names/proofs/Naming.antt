@@ -1,7 +1,7 @@
 -- Instructions that name a symbol or a string.
 use Prim.Native.Nat.{ℕ, _+_, _≤_, _<_}
 use mathlib.Core.Path.{_≡_, refl, sym, ap, subst, _∙_}
-use mathlib.Core.Bool.{false, _&&_, _||_}
+use mathlib.Core.Bool.{Bool, false, _&&_, _||_}
 use mathlib.Core.Option.{Option, none, some}
 use mathlib.Core.List.{List, _∷_, map}
 use native.Mathlib.Omega.{arith}
@@ -15,6 +15,7 @@ use Rattle.definitions.specs.Instruction.{Instr, instr}
 use Rattle.definitions.specs.Tables.{Emit, one, intern, getOrAddString}
 use Rattle.definitions.specs.Lower.{load, store, loads}
 use Rattle.definitions.specs.Reader.{isJump}
+use Rattle.definitions.proofs.Rows.{jump-is}
 use Rattle.definitions.proofs.Resolve.{position-lt}
 use Rattle.state.specs.Words.{nameAt, smallInt}
 use Rattle.state.specs.State.{namesAt, State, stateOf, emitAt, Within, Sound, Left, Emits, Numbers, foundOr, symbolNumber, withSymbol, stringNumber, withString, withTables}
@@ -92,13 +93,13 @@ pub plain-with : (op a b : ℕ) → a < 65536 → Plain op 0 b → Plain op a b
 plain-with op a b h p = record { op-byte = p .op-byte; op-plain = p .op-plain; first-short = h; second-byte = p .second-byte }
 
 low-plain : (op : ℕ) → 9 ≤ op → op ≤ 12 → special op ≡ false
-unfolding special isJump
+unfolding special
 low-plain op h g =
     let a = ne-eqb op 0 (λ e. omega arith) in
     let b = ne-eqb op 1 (λ e. omega arith) in
-    let c = lt-leb 28 op (omega arith) in
+    let c : isJump op ≡ false = jump-is op ∙ ap (λ (x : Bool). x && leb op 30) (lt-leb 28 op (omega arith)) in
     let d = ne-eqb op smallInt (λ e. omega arith) in
-    λ j. a j || b j || (c j && leb op 30) || d j
+    λ j. a j || b j || c j || d j
 
 -- loads and stores
 pub plain-op : (op a : ℕ) → 9 ≤ op → op ≤ 12 → a < 65536 → Plain op a 0

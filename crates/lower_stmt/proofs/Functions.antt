@@ -9,7 +9,7 @@ use Rattle.definitions.specs.Bytes.{Name, same}
 use Rattle.definitions.specs.Wellformed.{init}
 use Rattle.definitions.specs.Tree.{Block}
 use Rattle.definitions.specs.Instruction.{Instr}
-use Rattle.definitions.specs.Tables.{Function, Tables, Emit, emits, _⨟_, begin, blockBody, setCode, function}
+use Rattle.definitions.specs.Tables.{Function, Tables, Emit, emits, _⨟_, coded, begin, blockBody, setCode, function}
 use Rattle.definitions.specs.Lower.{emitBlock}
 use Rattle.parts.specs.Places.{nameEnd, paramsAt}
 use Rattle.definitions.specs.Slots.{Keeping, inSlots, Frame, withLoops, loopsBlock}
@@ -168,10 +168,10 @@ module _ (t made code tables : List ℕ) (c : Counts) (l : Limits) (sound : Soun
       unfolding emitAt
       grown = subst (λ (u : State). Lengthened begunTables (u .tables)) (sym (A .state ∙ body-is)) (E .at (length (begun symbol (length ps) inner named .stack) - length (s .stack)) begunTables)
 
-      functions-are : stateOf t made₂ code₂ tables₂ m .tables .functions ≡ s .tables .functions ++ (record { symbol = symbol; arity = length ps; locals = inner .locals; code = [] } ∷ grown .new)
+      functions-are : stateOf t made₂ code₂ tables₂ m .tables .functions ≡ s .tables .functions ++ (coded symbol (length ps) (inner .locals) [] ∷ grown .new)
       unfolding begun begin
       functions-are =
-          grown .functions ∙ ap (λ (fs : List Function). fs ++ record { symbol = symbol; arity = length ps; locals = inner .locals; code = [] } ∷ [] ++ grown .new) (symbol-functions x (s .tables))
+          grown .functions ∙ ap (λ (fs : List Function). fs ++ coded symbol (length ps) (inner .locals) [] ∷ [] ++ grown .new) (symbol-functions x (s .tables))
           ∙ simp append-assoc
 
       m-base : m .base ≡ length (s .stack)
@@ -183,7 +183,7 @@ module _ (t made code tables : List ℕ) (c : Counts) (l : Limits) (sound : Soun
             arith,
             B .0,
             sym (function-count t made₂ code₂ tables₂ m l (A .sound)) ∙ ap length functions-are,
-            length-append (s .tables .functions) (record { symbol = symbol; arity = length ps; locals = inner .locals; code = [] } ∷ grown .new),
+            length-append (s .tables .functions) (coded symbol (length ps) (inner .locals) [] ∷ grown .new),
           )
 
       pub ended-body : bodyOf (stateOf t made₂ code₂ tables₂ m .tables .functions) f ≡ []

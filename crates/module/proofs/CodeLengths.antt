@@ -7,12 +7,13 @@ use lib.ListN.{length, length-append, length-take}
 use Rattle.definitions.specs.Bytes.{be, concat, listBytes}
 use Rattle.definitions.specs.Instruction.{encode}
 use Rattle.definitions.specs.Module.{nameBytes, functionBytes, methodBytes, classBytes}
+use Rattle.definitions.specs.Stack.{heightNumber}
 use Rattle.definitions.proofs.BytesWritten.{length-be, length-list}
 use Rattle.state.specs.Words.{region, nameAt, instrOf, instrsOf}
 use Rattle.state.specs.State.{functionOf, functionsOf, methodOf, classOf, classesOf}
 use Rattle.state.proofs.Regions.{functions-length, classes-length}
-use Rattle.module.specs.Sections.{codeBytes, functionsBytes, methodsBytes, classesBytes, constantBytes}
-use Rattle.writing.proofs.Begun.{joined, joined-list}
+use Rattle.module.specs.Sections.{codeBytes, bodyBytes, functionsBytes, methodsBytes, classesBytes, constantBytes}
+use Rattle.writing.proofs.Begun.{joined, joined-one, joined-list}
 use Rattle.module.proofs.Pieces.{pieces, listed, pieces-room, pairs, pairsFrom, pairs-room}
 use Rattle.module.proofs.Encoding.{first-is, first-small, second-is, second-small, length-encode}
 use Rattle.module.proofs.Lengths.{Small, name-short, length-name}
@@ -47,6 +48,16 @@ module _ (tree ws : List ℕ) where
       omega (arith, first-is o, first-small o, second-is o, second-small o)) in
       omega arith
 
+-- the height, and the code
+module _ (tree ws : List ℕ) where
+  pub body-pieces : {n : ℕ} → n ≡ heightNumber (instrsOf tree ws) → bodyBytes tree ws ≡ be 2 n ++ joined (codeBytes tree ws ∷ [])
+  unfolding bodyBytes
+  body-pieces e = ap₂ (λ (k : ℕ) (z : List ℕ). be 2 k ++ z) (sym e) (joined-one (codeBytes tree ws))
+
+  pub length-body : length (bodyBytes tree ws) ≡ 2 + length (codeBytes tree ws)
+  unfolding bodyBytes
+  length-body = let a = length-append (be 2 (heightNumber (instrsOf tree ws))) (codeBytes tree ws) in let b = length-be 2 (heightNumber (instrsOf tree ws)) in omega arith
+
 -- ---- functions
 
 abbrev pub functionPiece : List ℕ → List ℕ → ℕ → ℕ → List ℕ
@@ -56,17 +67,17 @@ module _ (tree fin : List ℕ) where
   module _ (h k : ℕ) where
     -- with the words that the code has found
     module _ (ws : List ℕ) (e : ws ≡ region (k / 65536) (k % 65536) fin) where
-      pub function-pieces : functionPiece tree fin h k ≡ be 2 (h / 65536) ++ joined (be 1 (h / 256 % 256) ∷ be 2 (h % 256) ∷ codeBytes tree ws ∷ [])
-      unfolding functionBytes functionOf codeBytes joined
-      function-pieces = ap (λ (z : List ℕ). be 2 (h / 65536) ++ (be 1 (h / 256 % 256) ++ (be 2 (h % 256) ++ z))) (ap (codeBytes tree) (sym e) ∙ sym (append-nil (codeBytes tree ws)))
+      pub function-pieces : functionPiece tree fin h k ≡ be 2 (h / 65536) ++ joined (be 1 (h / 256 % 256) ∷ be 2 (h % 256) ∷ bodyBytes tree ws ∷ [])
+      unfolding functionBytes functionOf codeBytes bodyBytes joined
+      function-pieces = ap (λ (z : List ℕ). be 2 (h / 65536) ++ (be 1 (h / 256 % 256) ++ (be 2 (h % 256) ++ z))) (ap (bodyBytes tree) (sym e) ∙ sym (append-nil (bodyBytes tree ws)))
 
-      pub length-function : length (functionPiece tree fin h k) ≡ 5 + length (codeBytes tree ws)
+      pub length-function : length (functionPiece tree fin h k) ≡ 7 + length (codeBytes tree ws)
       unfolding functionBytes functionOf codeBytes
       length-function =
-          let n : length (functionPiece tree fin h k) ≡ 5 + length (codeBytes tree (region (k / 65536) (k % 65536) fin)) = simp (length-append, length-be) (omega arith) in
-          n ∙ ap (λ (z : List ℕ). 5 + length (codeBytes tree z)) (sym e)
+          let n : length (functionPiece tree fin h k) ≡ 7 + length (codeBytes tree (region (k / 65536) (k % 65536) fin)) = simp (length-append, length-be) (omega arith) in
+          n ∙ ap (λ (z : List ℕ). 7 + length (codeBytes tree z)) (sym e)
 
-    pub function-room : length (functionPiece tree fin h k) ≤ 655357
+    pub function-room : length (functionPiece tree fin h k) ≤ 655359
     function-room = let e = length-function (region (k / 65536) (k % 65536) fin) refl in let r = code-room tree (region (k / 65536) (k % 65536) fin) in let s = region-short (k / 65536) (k % 65536) fin in omega arith
 
   functions-joined : (hs ks : List ℕ) → concat functionBytes (functionsOf tree fin hs ks) ≡ joined (pairs (functionPiece tree fin) hs ks)
@@ -84,11 +95,11 @@ module _ (tree fin : List ℕ) where
     unfolding functionsBytes
     functions-two = let h = length-list 2 functionBytes (functionsOf tree fin hs ks) in omega arith
 
-    pub functions-room : length hs ≡ length ks → length (functionsBytes tree fin hs ks) ≤ 2 + 655357 * length hs
+    pub functions-room : length hs ≡ length ks → length (functionsBytes tree fin hs ks) ≤ 2 + 655359 * length hs
     functions-room q =
         let e = ap length (functions-listed q) ∙ length-append (be 2 (length hs)) (joined (pairsFrom (functionPiece tree fin) 0 hs ks)) in
         let l = length-be 2 (length hs) in
-        let r = pairs-room 655357 (functionPiece tree fin) hs ks function-room in
+        let r = pairs-room 655359 (functionPiece tree fin) hs ks function-room in
         omega arith
 
 -- ---- methods

@@ -13,6 +13,7 @@ use Rattle.definitions.specs.Instruction.{Instr, instr, ConstI64, Row, row, not
 use Rattle.definitions.specs.Reader.{isJump}
 use Rattle.definitions.proofs.Truth.{left, right, at-most}
 use Rattle.definitions.proofs.BytesWritten.{length-be}
+use Rattle.definitions.proofs.Rows.{jump-is}
 use Rattle.state.specs.Words.{opOf, firstOf, secondOf, widened, operandOf, numberAt, instrOf}
 use Rattle.widths.proofs.Laws.{no-operands}
 use Rattle.writing.specs.Wrote.{Wrote}
@@ -75,16 +76,14 @@ module _ (t : List ℕ) (op a : ℕ) where
   plain h j = rw (ne-eqb op 0 (λ e. omega arith), operandOf) (rw (ne-eqb op 1 (λ e. omega arith)) (rw j))
 
   operand-low : 2 ≤ op → op < 28 → operandOf t op a ≡ a
-  unfolding isJump
-  operand-low h k = plain h (rw (lt-leb 28 op k))
+  operand-low h k = plain h (rw (jump-is op, lt-leb 28 op k))
 
-  operand-high : 30 < op → operandOf t op a ≡ a
-  unfolding isJump
-  operand-high k = plain (omega arith) (rw (le-leb 28 op (omega arith)) (lt-leb op 30 k))
+  pub operand-high : 30 < op → operandOf t op a ≡ a
+  operand-high k = plain (omega arith) (rw (jump-is op, le-leb 28 op (omega arith)) (lt-leb op 30 k))
 
   operand-jump : 28 ≤ op → op ≤ 30 → operandOf t op a ≡ widened a
-  unfolding operandOf isJump
-  operand-jump h k = rw (ne-eqb op 0 (λ e. omega arith), operandOf) (rw (ne-eqb op 1 (λ e. omega arith)) (rw (le-leb 28 op h, le-leb op 30 k)))
+  unfolding operandOf
+  operand-jump h k = rw (ne-eqb op 0 (λ e. omega arith), operandOf) (rw (ne-eqb op 1 (λ e. omega arith)) (rw (jump-is op) (rw (le-leb 28 op h, le-leb op 30 k))))
 
 -- the first operand of a word that is no small integer
 module _ (t : List ℕ) (w : ℕ) where

@@ -4,3 +4,4 @@ pub mod Pieces
 pub mod Lengths
 pub mod CodeLengths
 pub mod Whole
+pub mod Rising

@@ -109,17 +109,17 @@ module _ (tree made code tables : List ℕ) (c : Counts) where
   length-module =
       let t = tableBytes (tablesOf tree made code tables c) in
       let n = ap length sections ∙ length-append (textsBytes tree made tables c) (bodiesBytes tree code tables c) in
-      let l = length-append (be 4 (suc (length t))) (1 ∷ t) in
+      let l = length-append (be 4 (suc (length t))) (2 ∷ t) in
       let k = length-be 4 (suc (length t)) in
       omega arith
 
   pub module-pieces : (size : ℕ) → size ≡ length (moduleBytes (tablesOf tree made code tables c)) →
-      moduleBytes (tablesOf tree made code tables c) ≡ (be 4 (size - 4) ++ (1 ∷ [])) ++ joined (textsBytes tree made tables c ∷ bodiesBytes tree code tables c ∷ [])
+      moduleBytes (tablesOf tree made code tables c) ≡ (be 4 (size - 4) ++ (2 ∷ [])) ++ joined (textsBytes tree made tables c ∷ bodiesBytes tree code tables c ∷ [])
   unfolding moduleBytes housed joined
   module-pieces size e =
       let t = tableBytes (tablesOf tree made code tables c) in
-      let l = length-append (be 4 (suc (length t))) (1 ∷ t) in
+      let l = length-append (be 4 (suc (length t))) (2 ∷ t) in
       let k = length-be 4 (suc (length t)) in
       let n : suc (length t) ≡ size - 4 = omega arith in
-      ap₂ (λ (x : ℕ) (y : List ℕ). be 4 x ++ (1 ∷ y)) n (sections ∙ ap (λ (z : List ℕ). textsBytes tree made tables c ++ z) (sym (append-nil (bodiesBytes tree code tables c))))
-      ∙ sym (append-assoc (be 4 (size - 4)) (1 ∷ []) (textsBytes tree made tables c ++ (bodiesBytes tree code tables c ++ [])))
+      ap₂ (λ (x : ℕ) (y : List ℕ). be 4 x ++ (2 ∷ y)) n (sections ∙ ap (λ (z : List ℕ). textsBytes tree made tables c ++ z) (sym (append-nil (bodiesBytes tree code tables c))))
+      ∙ sym (append-assoc (be 4 (size - 4)) (2 ∷ []) (textsBytes tree made tables c ++ (bodiesBytes tree code tables c ++ [])))

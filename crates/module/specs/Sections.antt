@@ -4,6 +4,7 @@ use mathlib.Core.List.{List, _++_, map}
 use lib.ListN.{length, drop}
 use Rattle.definitions.specs.Bytes.{be, listBytes}
 use Rattle.definitions.specs.Instruction.{encode}
+use Rattle.definitions.specs.Stack.{heightNumber}
 use Rattle.definitions.specs.Module.{nameBytes, textBytes, functionBytes, methodBytes, classBytes}
 use Rattle.state.specs.Words.{region, textAt, instrsOf}
 use Rattle.state.specs.State.{spelled, functionsOf, methodOf, classesOf}
@@ -20,6 +21,10 @@ stringBytes tree ws = listBytes 2 textBytes (map (textAt tree) ws)
 -- a function's instructions, by their words
 unfoldable pub codeBytes : List ℕ → List ℕ → List ℕ
 codeBytes tree ws = listBytes 2 encode (instrsOf tree ws)
+
+-- the same after the number of their height
+unfoldable pub bodyBytes : List ℕ → List ℕ → List ℕ
+bodyBytes tree ws = be 2 (heightNumber (instrsOf tree ws)) ++ codeBytes tree ws
 
 -- functions, by their heads and the places of their code among the finished words
 unfoldable pub functionsBytes : List ℕ → List ℕ → List ℕ → List ℕ → List ℕ

@@ -1,8 +1,10 @@
 // Functions with their instructions.
+use crate::heights::height_of;
 use crate::numbers::write_number;
 use crate::words::instruction_size;
 use crate::words::write_instruction;
 use numerals::places::UPPER;
+use numerals::sizes::FUNCTION_COUNT;
 ghost use mathlib.Core.Path.{_≡_};
 ghost use mathlib.Core.List.{List};
 ghost use Prim.Native.Nat.{ℕ, _+_, _≤_, _<_};
@@ -11,7 +13,7 @@ ghost use Rattle.definitions.specs.Module.{functionBytes};
 ghost use Rattle.state.specs.Words.{region};
 ghost use Rattle.state.specs.State.{functionOf};
 ghost use Rattle.writing.specs.Wrote.{Wrote};
-ghost use Rattle.module.specs.Sections.{codeBytes, functionsBytes};
+ghost use Rattle.module.specs.Sections.{codeBytes, bodyBytes, functionsBytes};
 
 // n words from `from` on, cut at the end.
 pub fn words_part<'a>(words: &'a [u32], from: usize, n: usize) -> &'a [u32]
@@ -59,10 +61,19 @@ fn function_size(finished: &[u32], place: u32) -> usize
     ensures { λ r. ⌜ ((t : List ℕ) (h : ℕ) → r ≡ length (functionBytes (functionOf t (now (finished .entry)) h place))) × (r < 1048576) ⌝ }
 {
     let code = words_part(finished, (place / UPPER) as usize, (place % UPPER) as usize);
-    5 + code_size(code)
+    FUNCTION_COUNT + code_size(code)
 }
 
-// A function: its name's symbol, arity, slots, count of instructions, instructions.
+// The height of some instructions, their count, and these.
+fn write_body(tree: &[u8], words: &[u32], out: &mut [u8]) -> usize
+    requires { ⌜ (length (now words) < 65536) × (length (bodyBytes (now tree) (now words)) ≤ length (now out)) ⌝ }
+    ensures { λ r. ⌜ Wrote r (bodyBytes (now (tree .entry)) (now (words .entry))) (now (out .entry)) (now (out .exit)) ⌝ }
+{
+    let at = write_number(2, height_of(words), out);
+    at + write_code(tree, words, &mut out[at..])
+}
+
+// A function: its name's symbol, arity, slots, height, count of instructions, instructions.
 fn write_function(tree: &[u8], finished: &[u32], head: u32, place: u32, out: &mut [u8]) -> usize
     requires { ⌜ length (functionBytes (functionOf (now tree) (now finished) head place)) ≤ length (now out) ⌝ }
     ensures { λ r. ⌜ Wrote r (functionBytes (functionOf (now (tree .entry)) (now (finished .entry)) head place)) (now (out .entry)) (now (out .exit)) ⌝ }
@@ -71,7 +82,7 @@ fn write_function(tree: &[u8], finished: &[u32], head: u32, place: u32, out: &mu
     let mut at = write_number(2, (head / UPPER) as u64, out);
     at += write_number(1, (head / 256 % 256) as u64, &mut out[at..]);
     at += write_number(2, (head % 256) as u64, &mut out[at..]);
-    at + write_code(tree, code, &mut out[at..])
+    at + write_body(tree, code, &mut out[at..])
 }
 
 // The bytes of the functions, by the places of their code.

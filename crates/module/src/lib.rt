@@ -2,6 +2,7 @@
 // how many bytes it wrote; the next one is lent the rest, from that byte on. What is to be written is measured first.
 mod numbers; // numbers.rt: numbers of several bytes, bytes with their count
 pub mod words; // words.rt: instructions from their words
+mod heights; // heights.rt: the number in a function's record
 mod symbols; // symbols.rt: symbols and strings
 mod functions; // functions.rt: functions with their instructions
 mod classes; // classes.rt: classes with their methods, constants
@@ -10,6 +11,7 @@ mod sections; // sections.rt: the sections from the areas
 use numbers::write_number;
 use numerals::sizes::COUNT;
 use numerals::sizes::HEAD;
+use numerals::sizes::MODULE_VERSION;
 use sections::bodies_size;
 use sections::texts_size;
 use sections::write_bodies;
@@ -39,13 +41,13 @@ pub fn module_size<'a>(
     HEAD + texts_size(tree, made, tables, c) + bodies_size(tree, code, tables, c)
 }
 
-// The head of a record of `size` bytes: four bytes with the count of those after them, and version 1.
+// The head of a record of `size` bytes: four bytes with the count of those after them, and the version.
 fn write_head(size: usize, out: &mut [u8]) -> usize
     requires { ⌜ (5 ≤ length (now out)) × (4 ≤ size) × (size < 2 ^ 32) ⌝ }
-    ensures { λ r. ⌜ Wrote r (be 4 (size - 4) ++ (1 ∷ [])) (now (out .entry)) (now (out .exit)) ⌝ }
+    ensures { λ r. ⌜ Wrote r (be 4 (size - 4) ++ (2 ∷ [])) (now (out .entry)) (now (out .exit)) ⌝ }
 {
     let at = write_number(COUNT, (size - COUNT) as u64, out);
-    at + write_number(1, 1, &mut out[at..])
+    at + write_number(1, MODULE_VERSION as u64, &mut out[at..])
 }
 
 // The module, whose size was asked before.

@@ -27,7 +27,7 @@ ghost use Rattle.state.specs.Words as Words;
 ghost use Rattle.writing.specs.Wrote.{Wrote};
 
 // The opcode of a word: a small integer is a ConstI64.
-fn opcode(w: u32) -> usize
+pub(crate) fn opcode(w: u32) -> usize
     ensures { λ r. ⌜ ((t : List ℕ) → r ≡ instrOf t w .op) × (r < 256) ⌝ }
 {
     let op = w / WORD_OP;

@@ -10,8 +10,19 @@ pub const COUNT: usize = 4;
 
 pub const HEAD: usize = 5;
 
-// The head of a function in a module: symbol, arity, slots, count of instructions.
-pub const FUNCTION_HEAD: usize = 7;
+// The version of a tree, and of a module.
+pub const TREE_VERSION: u8 = 1;
+
+pub const MODULE_VERSION: u8 = 2;
+
+// In a function's record: where its slots, its height and its count of instructions begin, and its code, after the head.
+pub const FUNCTION_SLOTS: usize = 3;
+
+pub const FUNCTION_HEIGHT: usize = 5;
+
+pub const FUNCTION_COUNT: usize = 7;
+
+pub const FUNCTION_HEAD: usize = 9;
 
 // How deep statements and expressions may stand.
 pub const DEPTH: u32 = 32;

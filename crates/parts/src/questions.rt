@@ -1,4 +1,4 @@
-// Which questions still stand, and the roles that an expression can have (10).
+// Which questions still stand, and the roles that an expression can have (10 and 36).
 use crate::Role;
 use numerals::expr;
 ghost use mathlib.Core.Path.{_≡_};
@@ -8,9 +8,10 @@ ghost use Prim.Native.Nat.{_<_};
 ghost use lib.ListN.{getElem?};
 ghost use Rattle.definitions.specs.Wellformed.{ifAsked, blockQuestions};
 ghost use Rattle.parts.specs.Judge.{isQuestion, Placed, least, fits, suited, inner};
+ghost use Rattle.parts.specs.Judge as Judge;
 
 // How many questions are asked of a block.
-pub const QUESTIONS: u32 = 8;
+pub const QUESTIONS: u32 = 9;
 
 // The place of a question in the order in which they are asked.
 fn place_of(question: u32) -> u32
@@ -23,15 +24,16 @@ fn place_of(question: u32) -> u32
         8 => 2,
         9 => 3,
         10 => 4,
-        11 => 5,
-        12 => 6,
-        _ => 7,
+        36 => 5,
+        11 => 6,
+        12 => 7,
+        _ => 8,
     }
 }
 
 // The question of a place.
 pub fn question_at(place: u32) -> u32
-    requires { ⌜ place < 8 ⌝ }
+    requires { ⌜ place < 9 ⌝ }
     ensures { λ r. ⌜ getElem? blockQuestions place ≡ some r ⌝ }
 {
     match place {
@@ -40,8 +42,9 @@ pub fn question_at(place: u32) -> u32
         2 => 8,
         3 => 9,
         4 => 10,
-        5 => 11,
-        6 => 12,
+        5 => 36,
+        6 => 11,
+        7 => 12,
         _ => 13,
     }
 }
@@ -91,6 +94,17 @@ pub fn suits(role: Role, kind: u8, stand: u32) -> u32
         Role::Value => stand,
         Role::Target => noted(stand, 10, is_target(kind)),
         Role::Element => noted(stand, 10, is_element(kind)),
+    }
+}
+
+// 36: how many questions stand after a display was met in this role, by whether it has elements. Only tuples have another role than a value.
+pub fn filled(role: Role, some: bool, stand: u32) -> u32
+    ensures { λ r. ⌜ r ≡ Judge.filled role some stand ⌝ }
+{
+    match role {
+        Role::Value => stand,
+        Role::Target => noted(stand, 36, some),
+        Role::Element => noted(stand, 36, some),
     }
 }
 

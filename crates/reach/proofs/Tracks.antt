@@ -9,8 +9,7 @@ use lib.Dec.{eqb, leb}
 use lib.ListN.{length, getD, set, take, drop, take-append-drop, length-append, length-take, List·getD-eq-default}
 use lib.Seq.{length-take-le, take-suc, set-append-seam, append-snoc, getD-take, getD-drop}
 use borrow.Author.Tests.{eq-eqb, ne-eqb, leb-true, leb-false}
-use Rattle.definitions.specs.Instruction.{Instr, Return}
-use Rattle.definitions.specs.Run.{Flow, straight, jump, question, flow}
+use Rattle.definitions.specs.Instruction.{Instr, Return, Flow, straight, jump, question, flow}
 use Rattle.definitions.specs.Calls.{written}
 use Rattle.definitions.specs.Search.{Next, straightOn, jumpsTo, onNo, onYes, Step, answersOf, Chain, begins, goes, linkMark, byLink}
 use Rattle.search.specs.View.{marksOf}

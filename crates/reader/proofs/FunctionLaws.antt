@@ -5,12 +5,11 @@ use mathlib.Core.Bool.{Bool, true, false, _&&_}
 use mathlib.Core.List.{List, [], _∷_}
 use mathlib.Core.Logic.{_⊎_, inl, inr, ⊎-elim}
 use native.Mathlib.Omega.{arith}
-use lib.Dec.{leb}
-use borrow.Author.Tests.{leb-true, lt-ltb, le-ltb, ne-eqb}
+use borrow.Author.Tests.{ltb-true, lt-ltb, le-ltb, ne-eqb}
 use Rattle.definitions.specs.Wellformed.{ifAsked}
 use lib.ListN.{length, drop}
 use Rattle.definitions.specs.Bytes.{Parsed, _>>=_, give, byte, field, counted, listOf, checked}
-use Rattle.definitions.specs.Instruction.{Instr, instr, firstWidth, secondWidth}
+use Rattle.definitions.specs.Instruction.{Instr, instr, firstWidth, secondWidth, instructionTable, isInstruction}
 use Rattle.definitions.specs.Tables.{Function}
 use Rattle.definitions.specs.Reader.{instruction, functionRecord}
 use Rattle.reader.specs.View.{skipAt, foundAt, numberAt}
@@ -25,11 +24,15 @@ use Rattle.reader.proofs.Checked.{Sat, sat-bind, sat-any, sat-checked, 
 use Rattle.definitions.proofs.Begins.{le-or-gt}
 
 -- an opcode that is read is one of the 46
+instruction-few : (op : ℕ) → isInstruction op ≡ true → op ≤ 45
+unfolding isInstruction instructionTable
+instruction-few op e = let h = ltb-true op 46 e in omega arith
+
 pub opcode-small : (bs : List ℕ) → Sat (λ (i : Instr). i .op ≤ 45) (instruction bs)
 unfolding instruction give
-opcode-small bs = sat-bind (λ op. leb op 45 ≡ true) (λ i. i .op ≤ 45) (checked (λ op. leb op 45) byte) _ bs (sat-checked (λ op. leb op 45) byte bs)
+opcode-small bs = sat-bind (λ op. isInstruction op ≡ true) (λ i. i .op ≤ 45) (checked isInstruction byte) _ bs (sat-checked isInstruction byte bs)
     (λ op rest e. sat-bind (λ a. Unit {0}) (λ i. i .op ≤ 45) (field (firstWidth op)) _ rest (sat-any (field (firstWidth op) rest))
-    (λ a r u. sat-bind (λ b. Unit {0}) (λ i. i .op ≤ 45) (field (secondWidth op)) _ r (sat-any (field (secondWidth op) r)) (λ b s v. leb-true op 45 e)))
+    (λ a r u. sat-bind (λ b. Unit {0}) (λ i. i .op ≤ 45) (field (secondWidth op)) _ r (sat-any (field (secondWidth op) r)) (λ b s v. instruction-few op e)))
 
 pub op-small : (t : List ℕ) (at op a b m : ℕ) → at ≤ length t → foundAt t at ≡ Instruction op a b m → op < 46
 op-small t at op a b m h e =
@@ -78,10 +81,7 @@ or-le k n = ⊎-elim (λ (h : k ≤ n). inr h) (λ (h : n < k). inl h) (le-or-gt
 -- ---- a function
 
 module _ (t : List ℕ) (at q : ℕ) (c : Counts) where
-  made : ℕ → ℕ → ℕ → List Instr → Function
-  made k n l is = record { symbol = k; arity = n; locals = l; code = is }
-
-  pub short-function : at ≤ length t → length t - at < 7 → skipAt (checked (askFunction q c) functionRecord) t at ≡ Cut
+  pub short-function : at ≤ length t → length t - at < 9 → skipAt (checked (askFunction q c) functionRecord) t at ≡ Cut
   unfolding functionRecord listOf
   short-function h l = ⊎-elim
       (λ (a : length t - at < 2). checked-cut (askFunction q c) (field 2) _ t at (skip-field 2 t at h (omega arith)))
@@ -95,8 +95,13 @@ module _ (t : List ℕ) (at q : ℕ) (c : Counts) where
       (λ (d : length t - at < 5). checked-cut (askFunction q c) (field 2) _ t (at + 2 + 1) (skip-field 2 t (at + 2 + 1) (omega arith) (omega arith)))
       (λ (d : 5 ≤ length t - at).
       checked-next (askFunction q c) (field 2) _ t (at + 2 + 1) (numberAt 2 t (at + 2 + 1)) (at + 2 + 1 + 2) (got-field 2 t (at + 2 + 1) (omega arith))
-      ∙ checked-cut (askFunction q c) (field 2 >>= λ j. counted [] _∷_ instruction j) _ t (at + 2 + 1 + 2)
-      (skip-cut (field 2) _ t (at + 2 + 1 + 2) (skip-field 2 t (at + 2 + 1 + 2) (omega arith) (omega arith))))
+      ∙ ⊎-elim
+      (λ (f : length t - at < 7). checked-cut (askFunction q c) (field 2) _ t (at + 2 + 1 + 2) (skip-field 2 t (at + 2 + 1 + 2) (omega arith) (omega arith)))
+      (λ (f : 7 ≤ length t - at).
+      checked-next (askFunction q c) (field 2) _ t (at + 2 + 1 + 2) (numberAt 2 t (at + 2 + 1 + 2)) (at + 2 + 1 + 2 + 2) (got-field 2 t (at + 2 + 1 + 2) (omega arith))
+      ∙ checked-cut (askFunction q c) (field 2 >>= λ j. counted [] _∷_ instruction j) _ t (at + 2 + 1 + 2 + 2)
+      (skip-cut (field 2) _ t (at + 2 + 1 + 2 + 2) (skip-field 2 t (at + 2 + 1 + 2 + 2) (omega arith) (omega arith))))
+      (or-le 7 (length t - at)))
       (or-le 5 (length t - at)))
       (or-le 3 (length t - at)))
       (or-le 2 (length t - at))
@@ -105,41 +110,43 @@ module _ (t : List ℕ) (at q : ℕ) (c : Counts) where
   codeAs : ℕ → ℕ → ℕ → Skipped
   codeAs x y z = skipAt (checked (λ is. askHead q c (numberAt 2 t at) (numberAt 2 t y) && askCode q c (numberAt 2 t y) (numberAt 2 t x) 0 is) (counted [] _∷_ instruction (numberAt 2 t y))) t z
 
-  module _ (h : 7 ≤ length t - at) where
+  module _ (h : 9 ≤ length t - at) where
     function-code : skipAt (checked (askFunction q c) functionRecord) t at
-        ≡ codeAs (at + 3) (at + 5) (at + 7)
+        ≡ codeAs (at + 3) (at + 7) (at + 9)
     unfolding functionRecord askFunction codeAs
     function-code =
         checked-next (askFunction q c) (field 2) _ t at (numberAt 2 t at) (at + 2) (got-field 2 t at (omega arith))
         ∙ checked-next (askFunction q c) (field 1) _ t (at + 2) (numberAt 1 t (at + 2)) (at + 2 + 1) (got-field 1 t (at + 2) (omega arith))
         ∙ checked-next (askFunction q c) (field 2) _ t (at + 2 + 1) (numberAt 2 t (at + 2 + 1)) (at + 2 + 1 + 2) (got-field 2 t (at + 2 + 1) (omega arith))
-        ∙ checked-give (askFunction q c) (listOf 2 instruction) (λ is. record { symbol = numberAt 2 t at; arity = numberAt 1 t (at + 2); locals = numberAt 2 t (at + 2 + 1); code = is }) t (at + 2 + 1 + 2)
-        ∙ pass-count instruction t _ (at + 2 + 1 + 2) (omega arith)
-        ∙ checked-same (λ is. length is ≡ numberAt 2 t (at + 2 + 1 + 2)) _
-        (λ is. askHead q c (numberAt 2 t at) (numberAt 2 t (at + 2 + 1 + 2)) && askCode q c (numberAt 2 t (at + 2 + 1 + 2)) (numberAt 2 t (at + 2 + 1)) 0 is)
-        (counted [] _∷_ instruction (numberAt 2 t (at + 2 + 1 + 2))) t (at + 2 + 1 + 2 + 2)
-        (counted-length instruction (numberAt 2 t (at + 2 + 1 + 2)) (drop (at + 2 + 1 + 2 + 2) t))
+        ∙ checked-next (askFunction q c) (field 2) _ t (at + 2 + 1 + 2) (numberAt 2 t (at + 2 + 1 + 2)) (at + 2 + 1 + 2 + 2) (got-field 2 t (at + 2 + 1 + 2) (omega arith))
+        ∙ checked-give (askFunction q c) (listOf 2 instruction)
+        (λ is. record { symbol = numberAt 2 t at; arity = numberAt 1 t (at + 2); locals = numberAt 2 t (at + 2 + 1); height = numberAt 2 t (at + 2 + 1 + 2); code = is }) t (at + 2 + 1 + 2 + 2)
+        ∙ pass-count instruction t _ (at + 2 + 1 + 2 + 2) (omega arith)
+        ∙ checked-same (λ is. length is ≡ numberAt 2 t (at + 2 + 1 + 2 + 2)) _
+        (λ is. askHead q c (numberAt 2 t at) (numberAt 2 t (at + 2 + 1 + 2 + 2)) && askCode q c (numberAt 2 t (at + 2 + 1 + 2 + 2)) (numberAt 2 t (at + 2 + 1)) 0 is)
+        (counted [] _∷_ instruction (numberAt 2 t (at + 2 + 1 + 2 + 2))) t (at + 2 + 1 + 2 + 2 + 2)
+        (counted-length instruction (numberAt 2 t (at + 2 + 1 + 2 + 2)) (drop (at + 2 + 1 + 2 + 2 + 2) t))
         (λ is e. ap (λ (j : ℕ). askHead q c (numberAt 2 t at) j && askCode q c j (numberAt 2 t (at + 2 + 1)) 0 is) e)
-        ∙ ap (λ (x : ℕ). codeAs x (at + 2 + 1 + 2) (at + 2 + 1 + 2 + 2)) (let z : at + 2 + 1 ≡ at + 3 = omega arith in z)
-        ∙ ap (λ (x : ℕ). codeAs (at + 3) x (at + 2 + 1 + 2 + 2)) (let z : at + 2 + 1 + 2 ≡ at + 5 = omega arith in z)
-        ∙ ap (λ (x : ℕ). codeAs (at + 3) (at + 5) x) (let z : at + 2 + 1 + 2 + 2 ≡ at + 7 = omega arith in z)
+        ∙ ap (λ (x : ℕ). codeAs x (at + 2 + 1 + 2 + 2) (at + 2 + 1 + 2 + 2 + 2)) (let z : at + 2 + 1 ≡ at + 3 = omega arith in z)
+        ∙ ap (λ (x : ℕ). codeAs (at + 3) x (at + 2 + 1 + 2 + 2 + 2)) (let z : at + 2 + 1 + 2 + 2 ≡ at + 7 = omega arith in z)
+        ∙ ap (λ (x : ℕ). codeAs (at + 3) (at + 7) x) (let z : at + 2 + 1 + 2 + 2 + 2 ≡ at + 9 = omega arith in z)
 
-    module _ (k l n : ℕ) (ek : k ≡ numberAt 2 t at) (el : l ≡ numberAt 2 t (at + 3)) (en : n ≡ numberAt 2 t (at + 5)) where
-      to-code : codeAs (at + 3) (at + 5) (at + 7) ≡ skipAt (checked (λ is. askHead q c k n && askCode q c n l 0 is) (counted [] _∷_ instruction n)) t (at + 7)
+    module _ (k l n : ℕ) (ek : k ≡ numberAt 2 t at) (el : l ≡ numberAt 2 t (at + 3)) (en : n ≡ numberAt 2 t (at + 7)) where
+      to-code : codeAs (at + 3) (at + 7) (at + 9) ≡ skipAt (checked (λ is. askHead q c k n && askCode q c n l 0 is) (counted [] _∷_ instruction n)) t (at + 9)
       unfolding codeAs
-      to-code = sym (ap (λ (x : ℕ). skipAt (checked (λ is. askHead q c x n && askCode q c n l 0 is) (counted [] _∷_ instruction n)) t (at + 7)) ek
-          ∙ ap (λ (x : ℕ). skipAt (checked (λ is. askHead q c (numberAt 2 t at) n && askCode q c n x 0 is) (counted [] _∷_ instruction n)) t (at + 7)) el
-          ∙ ap (λ (x : ℕ). skipAt (checked (λ is. askHead q c (numberAt 2 t at) x && askCode q c x (numberAt 2 t (at + 3)) 0 is) (counted [] _∷_ instruction x)) t (at + 7)) en)
+      to-code = sym (ap (λ (x : ℕ). skipAt (checked (λ is. askHead q c x n && askCode q c n l 0 is) (counted [] _∷_ instruction n)) t (at + 9)) ek
+          ∙ ap (λ (x : ℕ). skipAt (checked (λ is. askHead q c (numberAt 2 t at) n && askCode q c n x 0 is) (counted [] _∷_ instruction n)) t (at + 9)) el
+          ∙ ap (λ (x : ℕ). skipAt (checked (λ is. askHead q c (numberAt 2 t at) x && askCode q c x (numberAt 2 t (at + 3)) 0 is) (counted [] _∷_ instruction x)) t (at + 9)) en)
 
       pub function-head : askHead q c k n ≡ true →
-          skipAt (checked (askFunction q c) functionRecord) t at ≡ skipAt (checked (askCode q c n l 0) (counted [] _∷_ instruction n)) t (at + 7)
+          skipAt (checked (askFunction q c) functionRecord) t at ≡ skipAt (checked (askCode q c n l 0) (counted [] _∷_ instruction n)) t (at + 9)
       function-head e = function-code ∙ to-code
-          ∙ checked-same (λ is. Unit {0}) _ (askCode q c n l 0) (counted [] _∷_ instruction n) t (at + 7) (sat-any (counted [] _∷_ instruction n (drop (at + 7) t)))
+          ∙ checked-same (λ is. Unit {0}) _ (askCode q c n l 0) (counted [] _∷_ instruction n) t (at + 9) (sat-any (counted [] _∷_ instruction n (drop (at + 9) t)))
           (λ is u. ap (λ (b : Bool). b && askCode q c n l 0 is) e)
 
       pub function-fails : askHead q c k n ≡ false → skipAt (checked (askFunction q c) functionRecord) t at ≡ Cut
       function-fails e = function-code ∙ to-code
-          ∙ checked-none (λ is. Unit {0}) _ (counted [] _∷_ instruction n) t (at + 7) (sat-any (counted [] _∷_ instruction n (drop (at + 7) t)))
+          ∙ checked-none (λ is. Unit {0}) _ (counted [] _∷_ instruction n) t (at + 9) (sat-any (counted [] _∷_ instruction n (drop (at + 9) t)))
           (λ is u. ap (λ (b : Bool). b && askCode q c n l 0 is) e)
 
 -- ---- a constant

@@ -5,11 +5,10 @@ use mathlib.Core.Bool.{Bool, true, false}
 use mathlib.Core.List.{List}
 use mathlib.Core.Logic.{⊎-elim}
 use native.Mathlib.Omega.{arith}
-use lib.Dec.{leb}
 use lib.ListN.{length, drop, getD, length-drop}
-use borrow.Author.Tests.{le-leb, lt-leb}
+use borrow.Author.Tests.{le-ltb}
 use Rattle.definitions.specs.Bytes.{Parsed, got, failed, Parser, _>>=_, give, unread, byte, field, keep, checked}
-use Rattle.definitions.specs.Instruction.{Instr, instr, firstWidth, secondWidth}
+use Rattle.definitions.specs.Instruction.{Instr, instr, instructionTable, isInstruction, firstWidth, secondWidth}
 use Rattle.definitions.specs.Reader.{instruction}
 use Rattle.reader.specs.View.{skipped, skipAt, found, foundAt, numberAt, Got}
 use Rattle.reader.specs.declared.Skipped.the-variants.{Cut}
@@ -17,6 +16,7 @@ use Rattle.reader.specs.declared.Found.the-variants.{Instruction, Nothin
 use lib.Seq.{drop-drop}
 use Rattle.reader.proofs.Taken.{skip-cut, skip-next, got-bind, got-give, got-byte, got-field, skip-field, at-end}
 use Rattle.definitions.proofs.Begins.{Rest, bind-is, le-or-gt, takes-instruction}
+use Rattle.definitions.proofs.Rows.{is-instruction}
 
 -- a tested read
 pub got-checked : {A : Type 0} (test : A → Bool) (p : Parser A) (t : List ℕ) (at : ℕ) (a : A) (m : ℕ) → Got p t at a m → test a ≡ true → Got (checked test p) t at a m
@@ -73,19 +73,24 @@ found-is t at op a b m h e = go (instruction (drop at t)) refl (takes-instructio
         record { is = i ∙ ap (λ (x : List ℕ). got j x) (d ∙ ap (λ (n : ℕ). drop n t) k) ∙ ap (λ (x : Instr). got x (drop m t)) same; from = omega arith; to = omega arith }
     go (failed why) i w e = never e
 
+-- an opcode past the table
+no-instruction : (op : ℕ) → 45 < op → isInstruction op ≡ false
+unfolding isInstruction instructionTable
+no-instruction op h = le-ltb op 46 h
+
 module _ (t : List ℕ) (at : ℕ) where
   pub no-byte : length t ≤ at → foundAt t at ≡ Nothing
   unfolding instruction skipAt skipped
-  no-byte h = found-cut t at (skip-cut (checked (λ op. leb op 45) byte) _ t at (cut-unchecked (λ op. leb op 45) byte t at (ap (skipped (length t)) (at-end t at h))))
+  no-byte h = found-cut t at (skip-cut (checked isInstruction byte) _ t at (cut-unchecked isInstruction byte t at (ap (skipped (length t)) (at-end t at h))))
 
   pub no-opcode : at < length t → 45 < getD t at 0 → foundAt t at ≡ Nothing
   unfolding instruction
-  no-opcode h l = found-cut t at (skip-cut (checked (λ op. leb op 45) byte) _ t at
-      (cut-checked (λ op. leb op 45) byte t at (getD t at 0) (at + 1) (got-byte t at h) (lt-leb (getD t at 0) 45 l)))
+  no-opcode h l = found-cut t at (skip-cut (checked isInstruction byte) _ t at
+      (cut-checked isInstruction byte t at (getD t at 0) (at + 1) (got-byte t at h) (no-instruction (getD t at 0) l)))
 
   module _ (h : at < length t) (l : getD t at 0 ≤ 45) (w v : ℕ) (ew : w ≡ firstWidth (getD t at 0)) (ev : v ≡ secondWidth (getD t at 0)) where
-    opcode : Got (checked (λ op. leb op 45) byte) t at (getD t at 0) (at + 1)
-    opcode = got-checked (λ op. leb op 45) byte t at (getD t at 0) (at + 1) (got-byte t at h) (le-leb (getD t at 0) 45 l)
+    opcode : Got (checked isInstruction byte) t at (getD t at 0) (at + 1)
+    opcode = got-checked isInstruction byte t at (getD t at 0) (at + 1) (got-byte t at h) (is-instruction (getD t at 0) (omega arith))
 
     operands : ℕ → Parser Instr
     operands op = field (firstWidth op) >>= λ a. field (secondWidth op) >>= λ b. give (instr op a b)
@@ -100,7 +105,7 @@ module _ (t : List ℕ) (at : ℕ) where
     pub no-operands : length t - at - 1 < w + v → foundAt t at ≡ Nothing
     unfolding instruction operands known
     no-operands s = found-cut t at
-        (skip-next (checked (λ op. leb op 45) byte) operands t at (getD t at 0) (at + 1) opcode
+        (skip-next (checked isInstruction byte) operands t at (getD t at 0) (at + 1) opcode
         ∙ ap (λ (p : Parser Instr). skipAt p t (at + 1)) known-is
         ∙ ⊎-elim
         (λ (k : at + 1 + w ≤ length t).
@@ -111,7 +116,7 @@ module _ (t : List ℕ) (at : ℕ) where
 
     pub got-instruction : w + v ≤ length t - at - 1 → Got instruction t at (instr (getD t at 0) (numberAt w t (at + 1)) (numberAt v t (at + 1 + w))) (at + 1 + w + v)
     unfolding instruction operands known
-    got-instruction s = got-bind (checked (λ op. leb op 45) byte) operands t at (getD t at 0) (at + 1) i (at + 1 + w + v) opcode
+    got-instruction s = got-bind (checked isInstruction byte) operands t at (getD t at 0) (at + 1) i (at + 1 + w + v) opcode
         (subst (λ (p : Parser Instr). Got p t (at + 1) i (at + 1 + w + v)) (sym known-is)
         (got-bind (field w) (λ a. field v >>= λ b. give (instr (getD t at 0) a b)) t (at + 1) (numberAt w t (at + 1)) (at + 1 + w) i (at + 1 + w + v) (got-field w t (at + 1) (omega arith))
         (got-bind (field v) (λ b. give (instr (getD t at 0) (numberAt w t (at + 1)) b)) t (at + 1 + w) (numberAt v t (at + 1 + w)) (at + 1 + w + v) i (at + 1 + w + v) (got-field v t (at + 1 + w) (omega arith))

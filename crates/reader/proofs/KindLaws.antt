@@ -6,7 +6,7 @@ use mathlib.Core.List.{List, map}
 use mathlib.Core.Logic.{⊎-elim}
 use lib.Dec.{eqb, T}
 use lib.ListN.{getD, List·getD-map, List·getD-eq-default}
-use Rattle.definitions.specs.Instruction.{Row, row, nothing, instructionTable, rowOf, numbersOf}
+use Rattle.definitions.specs.Instruction.{Row, noRow, instructionTable, rowOf, numbersOf}
 use Rattle.definitions.proofs.Begins.{le-or-gt}
 use Rattle.widths.proofs.Table.{at}
 use Rattle.widths.proofs.Laws.{no-key}
@@ -21,7 +21,7 @@ kinds = map (λ (r : Row). kindOf (r .numbers)) instructionTable
 
 kind-is : (op : ℕ) → getD kinds op 0 ≡ kindOf (numbersOf op)
 unfolding kinds numbersOf rowOf kindOf
-kind-is op = List·getD-map (λ (r : Row). kindOf (r .numbers)) instructionTable op (row "" 0 0 nothing)
+kind-is op = List·getD-map (λ (r : Row). kindOf (r .numbers)) instructionTable op noRow
 
 kind-rule : ℕ → ℕ → Bool
 kind-rule k x = eqb x 0 || has-kind k

@@ -6,7 +6,9 @@ use crate::instructions::instruction_at;
 use crate::numbers::number_at;
 use crate::operands::ask_head;
 use crate::operands::ask_op;
+use numerals::sizes::FUNCTION_COUNT;
 use numerals::sizes::FUNCTION_HEAD;
+use numerals::sizes::FUNCTION_SLOTS;
 ghost use mathlib.Core.Path.{_≡_};
 ghost use mathlib.Core.List.{[], _∷_};
 ghost use Prim.Native.Nat.{_≤_, _<_};
@@ -47,8 +49,8 @@ pub(crate) fn ask_function(bytes: &[u8], at: usize, question: u8, c: Counts) -> 
         return Skipped::Cut;
     }
     let name = number_at(bytes, at, 2);
-    let slots = number_at(bytes, at + 3, 2);
-    let n = number_at(bytes, at + 5, 2);
+    let slots = number_at(bytes, at + FUNCTION_SLOTS, 2);
+    let n = number_at(bytes, at + FUNCTION_COUNT, 2);
     if ask_head(question, c, name, n) {
         ask_code(bytes, at + FUNCTION_HEAD, question, c, n, slots)
     } else {

@@ -13,6 +13,7 @@ use crate::numbers::number_at;
 use numerals::sizes::COUNT;
 use numerals::sizes::HEAD;
 use numerals::sizes::MODULE_MOST;
+use numerals::sizes::MODULE_VERSION;
 ghost use mathlib.Core.Path.{_≡_};
 ghost use Prim.Native.Nat.{_≤_};
 ghost use lib.ListN.{length, drop};
@@ -119,7 +120,7 @@ fn read_head(bytes: &[u8]) -> Verdict
     if bytes.len() < HEAD {
         return Verdict::Refused(18);
     }
-    if bytes[COUNT] != 1 {
+    if bytes[COUNT] != MODULE_VERSION {
         return Verdict::Refused(18);
     }
     Verdict::Accepted

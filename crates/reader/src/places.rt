@@ -5,6 +5,7 @@ use crate::Place;
 use crate::Skipped;
 use crate::functions::ask_function;
 use crate::numbers::number_at;
+use numerals::sizes::FUNCTION_COUNT;
 use numerals::sizes::FUNCTION_HEAD;
 ghost use Rattle.reader.specs.View.{FunctionsAt, Placed, Ready, Locates};
 
@@ -57,6 +58,6 @@ pub(crate) fn locate_in(bytes: &[u8], a: usize, b: usize, c: usize, d: usize, f:
     let Skipped::Next(q) = end else {
         return Located::NoCode(22);
     };
-    let n = number_at(bytes, p + 5, 2);
+    let n = number_at(bytes, p + FUNCTION_COUNT, 2);
     Located::Code(p + FUNCTION_HEAD, q - (p + FUNCTION_HEAD), n)
 }

@@ -123,37 +123,46 @@ small-part t p s small i = go (leb s i) refl
         subst (λ (x : ℕ). x < 256) (sym (List·getD-eq-default (take s (drop p t)) 0 (let z : length (take s (drop p t)) ≤ i = omega arith in z))) (omega arith)
     go false e = subst (λ (x : ℕ). x < 256) (sym (getD-take s (drop p t) i 0 (leb-false s i e) ∙ getD-drop p t i 0)) (small (p + i))
 
-module _ (t : List ℕ) (f p s n : ℕ) (c : CodeAt t f p s n) (part : List ℕ) (e : part ≡ take s (drop p t)) where
+-- n instructions that are read from p on, in s bytes
+module _ (t : List ℕ) (p s n : ℕ) (is : List Instr) (r : Got (counted [] _∷_ instruction n) t p is (p + s)) (part : List ℕ) (e : part ≡ take s (drop p t)) where
   part-length : length part ≡ s
-  part-length = let b = c .read .to in let l = length-drop p t in ap length e ∙ length-take-le s (drop p t) (omega arith)
+  part-length = let b = r .to in let l = length-drop p t in ap length e ∙ length-take-le s (drop p t) (omega arith)
 
-  part-reads : counted [] _∷_ instruction n part ≡ got (c .function .code) []
+  part-reads : counted [] _∷_ instruction n part ≡ got is []
   part-reads =
-      let b = c .read .to in
-      let w = subst (λ (r : Parsed (List Instr)). Rest (counted [] _∷_ instruction n) (drop p t) r) (c .read .is) (takes-counted [] _∷_ instruction takes-instruction n .rest (drop p t)) in
+      let b = r .to in
+      let w = subst (λ (r : Parsed (List Instr)). Rest (counted [] _∷_ instruction n) (drop p t) r) (r .is) (takes-counted [] _∷_ instruction takes-instruction n .rest (drop p t)) in
       let l = length-drop p t in
       let x = ap length (w .2) in let y = length-drop (w .0) (drop p t) in let u = length-drop (p + s) t in let z = w .1 in
       let k : w .0 ≡ s = omega arith in
       ap (counted [] _∷_ instruction n) (e ∙ ap (λ (j : ℕ). take j (drop p t)) (sym k) ∙ sym (append-nil (take (w .0) (drop p t)))) ∙ w .3 []
 
+  pub part-instructions : instructionsOf part ≡ is
+  part-instructions = code-is n part is part-reads
+
+  -- that stand
+  pub part-stands : length is ≡ n → endsInReturn is ≡ true → jumpsLand n 0 is ≡ true → n < 65536 → length t ≤ 524288 → Small t → Coded part
+  part-stands count ends land few short small =
+      let many : n ≡ length (instructionsOf part) = sym (ap length part-instructions ∙ count) in
+      let reads : counted [] _∷_ instruction n part ≡ got (instructionsOf part) [] = part-reads ∙ ap (λ (is : List Instr). got is []) (sym part-instructions) in
+      record {
+        bytes = bytes-are n part (instructionsOf part) (subst (λ (bs : List ℕ). Small bs) (sym e) (small-part t p s small)) reads;
+        reads = reads-code n part (instructionsOf part) reads;
+        ends = ap endsInReturn part-instructions ∙ ends;
+        land = ap₂ (λ (k : ℕ) (is : List Instr). jumpsLand k 0 is) (sym many) part-instructions ∙ land;
+        few = subst (λ (k : ℕ). k < 65536) many few;
+        short = let a = part-length in let b = r .to in omega arith;
+      }
+
+module _ (t : List ℕ) (f p s n : ℕ) (c : CodeAt t f p s n) (part : List ℕ) (e : part ≡ take s (drop p t)) where
   pub part-code : instructionsOf part ≡ c .function .code
-  part-code = code-is n part (c .function .code) part-reads
+  part-code = part-instructions t p s n (c .function .code) (c .read) part e
 
   pub part-count : n ≡ length (instructionsOf part)
   part-count = sym (ap length part-code ∙ c .count)
 
   pub part-coded : Small t → Coded part
-  part-coded small = record {
-    bytes = bytes-are n part (instructionsOf part) (subst (λ (bs : List ℕ). Small bs) (sym e) (small-part t p s small)) reads;
-    reads = reads-code n part (instructionsOf part) reads;
-    ends = ap endsInReturn part-code ∙ c .ends;
-    land = ap₂ (λ (k : ℕ) (is : List Instr). jumpsLand k 0 is) (sym part-count) part-code ∙ c .land;
-    few = subst (λ (k : ℕ). k < 65536) part-count (c .few);
-    short = let a = part-length in let b = c .read .to in let d = module-short t (c .tables) (c .module-is) in omega arith;
-  }
-    where
-      reads : counted [] _∷_ instruction n part ≡ got (instructionsOf part) []
-      reads = part-reads ∙ ap (λ (is : List Instr). got is []) (sym part-code)
+  part-coded small = part-stands t p s n (c .function .code) (c .read) part e (c .count) (c .ends) (c .land) (c .few) (module-short t (c .tables) (c .module-is)) small
 
 -- ---- the call
 

@@ -7,7 +7,7 @@ use native.Mathlib.Omega.{arith}
 use lib.ListN.{length, take, drop, getD, length-append, length-drop, take-append-drop}
 use lib.Seq.{take-add, drop-append-seam, take-append-seam, length-take-le}
 use Rattle.definitions.specs.Bytes.{concat}
-use Rattle.definitions.specs.Instruction.{Instr, Return, encode, encodes, firstWidth}
+use Rattle.definitions.specs.Instruction.{Instr, Return, encode, encodes, firstWidth, Flow, straight, flow}
 use Rattle.definitions.specs.Reader.{instruction, isJump, landing}
 use Rattle.definitions.proofs.Stays as Stays
 use Rattle.reader.specs.View.{Got, numberAt, instructionsOf, startOf}
@@ -67,7 +67,7 @@ module _ (c : List ℕ) (h : Coded c) where
       length-take-le (startOf (instructionsOf c) j - startOf (instructionsOf c) k) (drop (startOf (instructionsOf c) k) c) (omega arith)
 
   module _ (k : ℕ) (l : k < length (instructionsOf c)) where
-    reads-here : Got instruction c (startOf (instructionsOf c) k) (getD (instructionsOf c) k Return) (startOf (instructionsOf c) (k + 1))
+    pub reads-here : Got instruction c (startOf (instructionsOf c) k) (getD (instructionsOf c) k Return) (startOf (instructionsOf c) (k + 1))
     reads-here = record { is = h .reads k l; from = start-up k (k + 1) (omega arith); to = start-in (k + 1) }
 
     pub op-here : (startOf (instructionsOf c) k < length c) × (getD c (startOf (instructionsOf c) k) 0 ≡ getD (instructionsOf c) k Return .op)

@@ -7,10 +7,10 @@ use native.Mathlib.Omega.{arith}
 use native.Mathlib.Numerals.{add-one}
 use lib.Dec.{eqb}
 use borrow.Author.Tests.{eq-eqb, ne-eqb, eqb-true}
-use Rattle.definitions.specs.Instruction.{Instr, instr, instructionTable, rowOf, firstWidth, secondWidth, encode}
+use Rattle.definitions.specs.Instruction.{Instr, instr, instructionTable, rowOf, firstWidth, secondWidth, encode, straight, flow}
 use Rattle.definitions.specs.Bytes.{be}
 use Rattle.definitions.specs.Reader.{landing}
-use Rattle.definitions.specs.Run.{straight, flow, way}
+use Rattle.definitions.specs.Run.{way}
 use Rattle.definitions.proofs.Flows.{jump-stops, false-stops, true-stops, return-stops, goes-straight}
 use Rattle.run.specs.Pass.{GoesOn, Nearer}
 

@@ -6,7 +6,7 @@ use native.Mathlib.Omega.{arith}
 use lib.ListN.{length, take, drop, getD, length-append}
 use lib.Seq.{drop-cons}
 use Rattle.definitions.specs.Bytes.{concat}
-use Rattle.definitions.specs.Instruction.{Instr, Return, encode, encodes}
+use Rattle.definitions.specs.Instruction.{Instr, Return, encode, encodes, Flow, straight}
 use Rattle.definitions.specs.Run.{Ran, after, Flow, straight, obey, run}
 use Rattle.reader.specs.View.{instructionsOf}
 use Rattle.run.specs.declared.Stand.{Stand}

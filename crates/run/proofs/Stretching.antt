@@ -5,7 +5,7 @@ use mathlib.Core.List.{List}
 use mathlib.Core.Logic.{inl, inr, ⊎-elim}
 use native.Mathlib.Omega.{arith}
 use lib.ListN.{length, take, drop, getD}
-use Rattle.definitions.specs.Run.{straight}
+use Rattle.definitions.specs.Instruction.{straight}
 use Rattle.reader.specs.View.{instructionsOf, startOf}
 use Rattle.run.specs.declared.Stand.{Stand}
 use Rattle.run.specs.declared.Stretched.the-variants.{To, NoRoom}

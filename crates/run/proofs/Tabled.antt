@@ -9,8 +9,7 @@ use lib.Dec.{eqb}
 use lib.ListN.{length, take, drop, getD, set, length-drop, length-set}
 use lib.Seq.{getD-set-same, getD-set-other, drop-drop}
 use borrow.Author.Tests.{eqb-true, eq-eqb}
-use Rattle.definitions.specs.Instruction.{Instr, instr, Return, encode, encodes}
-use Rattle.definitions.specs.Run.{Flow, straight, jump, question, returns, flow}
+use Rattle.definitions.specs.Instruction.{Instr, instr, Return, encode, encodes, Flow, straight, jump, question, returns, flow}
 use Rattle.reader.specs.View.{instructionsOf, startOf, metAt}
 use Rattle.reader.specs.declared.Cursor.{Cursor}
 use Rattle.reader.specs.declared.Met.{Met}

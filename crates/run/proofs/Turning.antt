@@ -8,7 +8,7 @@ use native.Mathlib.Numerals.{add-one}
 use lib.Dec.{eqb}
 use lib.ListN.{length, drop, getD, set, length-append, drop-of-length-le}
 use lib.Seq.{drop-cons}
-use Rattle.definitions.specs.Instruction.{Instr, Return}
+use Rattle.definitions.specs.Instruction.{Instr, Return, Flow, straight, jump, question, returns, flow}
 use Rattle.definitions.specs.Reader.{landing}
 use Rattle.definitions.specs.Run.{Ran, ended, after, Flow, straight, jump, question, returns, flow, way, obey, run}
 use Rattle.reader.specs.View.{numberAt, instructionsOf, startOf}

@@ -7,6 +7,7 @@ ghost use mathlib.Core.Path.{_≡_};
 ghost use Prim.Native.Nat.{_≤_, _<_};
 ghost use lib.ListN.{length};
 ghost use Rattle.definitions.specs.Run.{straight};
+ghost use Rattle.definitions.specs.Instruction.{straight};
 ghost use Rattle.reader.specs.View.{instructionsOf};
 ghost use Rattle.run.specs.Pass.{Coded, Places, Stops, GoesOn, Nearer};
 

@@ -7,9 +7,9 @@ use native.Mathlib.Omega.{arith}
 use native.Mathlib.Numerals.{add-one}
 use lib.Dec.{eqb}
 use lib.ListN.{length, getD}
-use Rattle.definitions.specs.Instruction.{Instr, Return, firstWidth}
+use Rattle.definitions.specs.Instruction.{Instr, Return, firstWidth, Flow, straight, jump, returns, question, flow}
 use Rattle.definitions.specs.Reader.{landing}
-use Rattle.definitions.specs.Run.{Flow, straight, jump, returns, question, flow, way}
+use Rattle.definitions.specs.Run.{way}
 use Rattle.definitions.specs.Search.{Next, straightOn, jumpsTo, onNo, onYes, Step, Table, Marks, meet, expandBy, expand, Tabled}
 use Rattle.definitions.proofs.Flows.{stop-jumps, jump-width, flow-jump, flow-returns, flow-question}
 use Rattle.definitions.proofs.Stays.{Lands, code-lands}

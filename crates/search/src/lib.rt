@@ -1,6 +1,7 @@
 // A search of the places of a function's code that some answers bring a run to. The queue stands in a work area from its start on, the marks of the
 // places behind it.
 use areas::clear;
+use numerals::op_bytes;
 use reader::jump_target;
 use reader::number_at;
 use run::goes_on;
@@ -17,10 +18,6 @@ pub const MARKS: usize = 65536;
 // The mark of place 0 where marks tell the way.
 pub const ROOT: u32 = 4;
 
-const JUMP: u8 = 28;
-
-const RETURN: u8 = 33;
-
 // A place is met: it gets a mark and is put in the queue, unless it was met before. How many places the queue has.
 fn meet(area: &mut [u32], tail: usize, mark: u32, q: usize) -> usize
     requires { ⌜ Meetable (now area) tail q ⌝ }
@@ -35,7 +32,7 @@ fn meet(area: &mut [u32], tail: usize, mark: u32, q: usize) -> usize
 }
 
 // A search of n places begins: place 0 has the mark `root` and stands in the queue alone.
-fn begin(area: &mut [u32], n: usize, root: u32)
+pub fn begin(area: &mut [u32], n: usize, root: u32)
     requires { ⌜ Beginning (now area) n ⌝ }
     ensures { λ _. ⌜ tableIn n (now (area .exit)) 1 ≡ atStart n root (now (area .entry)) ⌝ }
 {
@@ -45,7 +42,7 @@ fn begin(area: &mut [u32], n: usize, root: u32)
 }
 
 // The places after p, each met: straight on or by a jump with the mark `on`, on a no with `no`, on a yes with `yes`.
-fn expand(
+pub fn expand(
     code: &[u8],
     places: &[u32],
     area: &mut [u32],
@@ -60,14 +57,14 @@ fn expand(
 {
     let at = wide(places[p]);
     let op = code[at];
-    if op == RETURN {
+    if op == op_bytes::RETURN {
         return tail;
     }
     if goes_on(op) {
         return meet(area, tail, on, p + 1);
     }
     let a = number_at(code, at + 1, 4);
-    if op == JUMP {
+    if op == op_bytes::JUMP {
         let to = jump_target(p as u64, a);
         return meet(area, tail, on, to as usize);
     }

@@ -3,11 +3,11 @@ mod lines;
 
 use lines::write_count;
 use lines::write_total;
+use numerals::sizes::FUNCTION_COUNT;
+use numerals::sizes::FUNCTION_HEAD;
 use reader::Opened;
 use reader::number_at;
 use reader::open_module;
-use tally::CODE;
-use tally::COUNT;
 use tally::Listed;
 use tally::count_code;
 ghost use Prim.Native.Nat.{_+_, _≤_, _<_};
@@ -35,8 +35,8 @@ fn write_sheet(bytes: &[u8], at: usize, count: u64, out: &mut [u8]) -> usize
     let mut questions = 0u64;
     let mut calls = 0u64;
     while f < count {
-        let n = number_at(bytes, p + COUNT, 2);
-        let code = count_code(bytes, p + CODE, n);
+        let n = number_at(bytes, p + FUNCTION_COUNT, 2);
+        let code = count_code(bytes, p + FUNCTION_HEAD, n);
         write_count(f, n, code.questions, code.calls, &mut out[put..]);
         put += LINE;
         total += n;

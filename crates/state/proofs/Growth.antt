@@ -15,7 +15,7 @@ use Rattle.definitions.specs.Tree.{Block, []ᵇ, _∷ᵇ_, Branches, done, else
 use Rattle.definitions.specs.Wellformed.{isTuple}
 use Rattle.definitions.specs.Instruction
 use Rattle.definitions.specs.Instruction.{Instr, Return}
-use Rattle.definitions.specs.Tables.{Function, Method, Tables, Body, blockBody, exprBody, Out, Emit, emits, one, _⨟_, here, addSymbol, addString, withClasses, intern}
+use Rattle.definitions.specs.Tables.{Function, Method, Tables, Body, blockBody, exprBody, Out, Emit, emits, one, _⨟_, here, addSymbol, addString, withClasses, intern, coded}
 use Rattle.definitions.specs.Tables.{getOrAddString, begin, setCode, enclose, function}
 use Rattle.definitions.specs.Slots.{captures, Keeping, inGlobals, inSlots, past, Frame, namesOnly, withLoops, loopsStmt, loopsBlock}
 use Rattle.definitions.specs.Module.{instructions, slotsFit}
@@ -119,25 +119,25 @@ lengthens-string x F = record { at = λ p t. found F (addString x) (string-lengt
 
 pub begin-lengthened : (k arity : ℕ) (frame : Frame) (t : Tables) → Lengthened t (begin k arity frame t)
 unfolding begin
-begin-lengthened k arity frame t = record { new = record { symbol = k; arity = arity; locals = frame .locals; code = [] } ∷ []; functions = refl; symbols = omega arith; strings = omega arith; classes = omega arith }
+begin-lengthened k arity frame t = record { new = coded k arity (frame .locals) [] ∷ []; functions = refl; symbols = omega arith; strings = omega arith; classes = omega arith }
 
 -- a function's code is set, in tables u that its body left
 module _ (k arity : ℕ) (frame : Frame) (t u : Tables) (L : Lengthened (begin k arity frame t) u) (is : List Instr) where
-  before : u .functions ≡ t .functions ++ (record { symbol = k; arity = arity; locals = frame .locals; code = [] } ∷ L .new)
+  before : u .functions ≡ t .functions ++ (coded k arity (frame .locals) [] ∷ L .new)
   unfolding begin
   before = L .functions ∙ append-snoc (t .functions) _ (L .new)
 
-  pub setCode-after : setCode (u .functions) (length (t .functions)) is ≡ t .functions ++ (record { symbol = k; arity = arity; locals = frame .locals; code = is } ∷ L .new)
+  pub setCode-after : setCode (u .functions) (length (t .functions)) is ≡ t .functions ++ (coded k arity (frame .locals) is ∷ L .new)
   setCode-after = ap (λ (fs : List Function). setCode fs (length (t .functions)) is) before ∙ setCode-seam (t .functions) (L .new) _ is
 
   pub setCode-instructions : instructions (setCode (u .functions) (length (t .functions)) is) ≡ instructions (u .functions) + length is
   unfolding instructions
   setCode-instructions =
-      omega (arith, ap instructions setCode-after, ap instructions before, instructions-append (t .functions) (record { symbol = k; arity = arity; locals = frame .locals; code = is } ∷ L .new), instructions-append (t .functions) (record { symbol = k; arity = arity; locals = frame .locals; code = [] } ∷ L .new))
+      omega (arith, ap instructions setCode-after, ap instructions before, instructions-append (t .functions) (coded k arity (frame .locals) is ∷ L .new), instructions-append (t .functions) (coded k arity (frame .locals) [] ∷ L .new))
 
   pub setCode-count : length (setCode (u .functions) (length (t .functions)) is) ≡ length (u .functions)
   setCode-count =
-      omega (arith, ap length setCode-after, ap length before, length-append (t .functions) (record { symbol = k; arity = arity; locals = frame .locals; code = is } ∷ L .new), length-append (t .functions) (record { symbol = k; arity = arity; locals = frame .locals; code = [] } ∷ L .new))
+      omega (arith, ap length setCode-after, ap length before, length-append (t .functions) (coded k arity (frame .locals) is ∷ L .new), length-append (t .functions) (coded k arity (frame .locals) [] ∷ L .new))
 
 pub lengthens-enclose : {e : Emit} (k arity : ℕ) (frame : Frame) (body : Body) → Lengthens e → Lengthens (enclose k arity frame body e)
 unfolding enclose
@@ -148,7 +148,7 @@ lengthens-enclose {e} k arity frame body E = record {
       let L = E .at 0 u in
       let B = begin-lengthened k arity frame t in
       record {
-        new = record { symbol = k; arity = arity; locals = frame .locals; code = o .code } ∷ L .new;
+        new = coded k arity (frame .locals) (o .code) ∷ L .new;
         functions = setCode-after k arity frame t (o .tables) L (o .code);
         symbols = omega (arith, L .symbols, B .symbols);
         strings = omega (arith, L .strings, B .strings);

@@ -11,7 +11,7 @@ use lib.Seq.{length-take-le, take-take, take-nil, drop-nil, take-set-lt, take-se
 use lib.Dec.{ltb, leb}
 use borrow.Author.Tests.{ltb-false, le-leb}
 use Rattle.definitions.specs.Bytes.{Name, all}
-use Rattle.definitions.specs.Tables.{Function, Class, setCode}
+use Rattle.definitions.specs.Tables.{Function, Class, coded, setCode}
 use Rattle.definitions.specs.Module.{instructions}
 use Rattle.state.specs.Words.{region, nameAt, instrOf, instrsOf}
 use Rattle.state.specs.State.{spelled, functionOf, functionsOf, methodOf, classOf, classesOf, placeOf, countOf, Every, noEvery, every, MadeWithin, EndsWithin, total}
@@ -145,7 +145,7 @@ functions-same tree fin fin′ (h ∷ hs) [] n w e = refl
 functions-same tree fin fin′ (h ∷ hs) (k ∷ ks) n (every p w) e =
     let r = region-same n (placeOf k) (countOf k) fin fin′ p e in
     let s = functions-same tree fin fin′ hs ks n w e in
-    λ j. record { symbol = h / 2 ^ 16; arity = h / 2 ^ 8 % 2 ^ 8; locals = h % 2 ^ 8; code = instrsOf tree (r j) } ∷ s j
+    λ j. coded (h / 2 ^ 16) (h / 2 ^ 8 % 2 ^ 8) (h % 2 ^ 8) (instrsOf tree (r j)) ∷ s j
 
 -- ---- the names and the places of methods: classes
 

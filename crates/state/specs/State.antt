@@ -8,7 +8,7 @@ use lib.ListN.{length, take, drop, getD}
 use lib.Dec.{ltb}
 use Rattle.definitions.specs.Bytes.{Name, Text, same, position}
 use Rattle.definitions.specs.Instruction.{Instr}
-use Rattle.definitions.specs.Tables.{Function, Method, Class, Tables, Emit, addSymbol, addString}
+use Rattle.definitions.specs.Tables.{Function, Method, Class, Tables, Emit, addSymbol, addString, coded}
 use Rattle.definitions.specs.Module as Module
 use Rattle.definitions.specs.Module.{instructions, slotsFit}
 use Rattle.state.specs.Words.{region, nameAt, textAt, instrsOf}
@@ -87,12 +87,7 @@ countOf w = w % 2 ^ 16
 
 -- a function: symbol, arity and slots in its head; its code among the finished words, none while it is open
 unfoldable pub functionOf : List ℕ → List ℕ → ℕ → ℕ → Function
-functionOf tree finished h k = record {
-  symbol = h / 2 ^ 16;
-  arity = h / 2 ^ 8 % 2 ^ 8;
-  locals = h % 2 ^ 8;
-  code = instrsOf tree (region (placeOf k) (countOf k) finished);
-}
+functionOf tree finished h k = coded (h / 2 ^ 16) (h / 2 ^ 8 % 2 ^ 8) (h % 2 ^ 8) (instrsOf tree (region (placeOf k) (countOf k) finished))
 
 unfoldable pub functionsOf : List ℕ → List ℕ → List ℕ → List ℕ → List Function
 functionsOf tree finished [] ks = []

@@ -117,30 +117,32 @@ code-many t (suc n) at r =
 -- the first function, of n instructions
 pub record Function-here (t : List ℕ) (k at n : ℕ) : Type 0 where
   pub function : Function
-  pub head : at + 7 ≤ length t
-  pub code : Values instruction n t (at + 7)
-  pub code-is : codeFrom n t (at + 7) ≡ function .code
+  pub head : at + 9 ≤ length t
+  pub code : Values instruction n t (at + 9)
+  pub code-is : codeFrom n t (at + 9) ≡ function .code
   pub count : n ≡ length (function .code)
-  pub rest : Values functionRecord (k - 1) t (valuesEnd instruction n t (at + 7))
-  pub list : functionsFrom k t at ≡ function ∷ functionsFrom (k - 1) t (valuesEnd instruction n t (at + 7))
-  pub ends : valuesEnd functionRecord k t at ≡ valuesEnd functionRecord (k - 1) t (valuesEnd instruction n t (at + 7))
+  pub height : numberAt 2 t (at + 5) ≡ function .height
+  pub rest : Values functionRecord (k - 1) t (valuesEnd instruction n t (at + 9))
+  pub list : functionsFrom k t at ≡ function ∷ functionsFrom (k - 1) t (valuesEnd instruction n t (at + 9))
+  pub ends : valuesEnd functionRecord k t at ≡ valuesEnd functionRecord (k - 1) t (valuesEnd instruction n t (at + 9))
 
-pub function-head : (t : List ℕ) (k at : ℕ) → 0 < k → Values functionRecord k t at → at + 7 ≤ length t
+pub function-head : (t : List ℕ) (k at : ℕ) → 0 < k → Values functionRecord k t at → at + 9 ≤ length t
 function-head t k at h r =
     let f = reads-first functionRecord t takes-function k at h r in function-view t at (f .value) (f .next) (r .here) (f .one) .0
 
-pub function-here : (t : List ℕ) (k at n : ℕ) → 0 < k → Values functionRecord k t at → n ≡ numberAt 2 t (at + 5) → Function-here t k at n
+pub function-here : (t : List ℕ) (k at n : ℕ) → 0 < k → Values functionRecord k t at → n ≡ numberAt 2 t (at + 7) → Function-here t k at n
 function-here t k at n h r e =
     let f = reads-first functionRecord t takes-function k at h r in
     let v = function-view t at (f .value) (f .next) (r .here) (f .one) in
-    let g : Got (counted [] _∷_ instruction n) t (at + 7) (f .value .code) (f .next) = subst (λ (j : ℕ). Got (counted [] _∷_ instruction j) t (at + 7) (f .value .code) (f .next)) (sym e) (v .2) in
-    let q = reads-end instruction t n (at + 7) _ _ g in
+    let g : Got (counted [] _∷_ instruction n) t (at + 9) (f .value .code) (f .next) = subst (λ (j : ℕ). Got (counted [] _∷_ instruction j) t (at + 9) (f .value .code) (f .next)) (sym e) (v .2) in
+    let q = reads-end instruction t n (at + 9) _ _ g in
     record {
       function = f .value;
       head = v .0;
-      code = reads-are instruction t n (at + 7) _ _ (v .0) g;
-      code-is = reads-list instruction t n (at + 7) _ _ g;
+      code = reads-are instruction t n (at + 9) _ _ (v .0) g;
+      code-is = reads-list instruction t n (at + 9) _ _ g;
       count = e ∙ v .1;
+      height = v .3;
       rest = subst (λ (j : ℕ). Values functionRecord (k - 1) t j) (sym q) (f .rest);
       list = f .list ∙ ap (λ (j : ℕ). f .value ∷ functionsFrom (k - 1) t j) (sym q);
       ends = f .ends ∙ ap (valuesEnd functionRecord (k - 1) t) (sym q);

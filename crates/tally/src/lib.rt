@@ -1,4 +1,7 @@
 // The functions of an accepted module, one after the other: what is counted of their code; and what a call answers that writes a text about them.
+use numerals::op_bytes;
+use numerals::sizes::FUNCTION_COUNT;
+use numerals::sizes::FUNCTION_HEAD;
 use reader::Found;
 use reader::instruction_at;
 use reader::number_at;
@@ -24,11 +27,7 @@ pub struct Tallied {
     pub calls: u64,
 }
 
-// Opcodes of conditional jumps and of calls.
-const JUMP_IF_FALSE: u8 = 29;
-
-const JUMP_IF_TRUE: u8 = 30;
-
+// Opcodes of calls.
 const CALL: u8 = 31;
 
 const CALL_BUILTIN: u8 = 32;
@@ -37,19 +36,14 @@ const CALL_VALUE: u8 = 34;
 
 const CALL_METHOD: u8 = 35;
 
-// In a function's record: where its count of instructions begins, and its code.
-pub const COUNT: usize = 5;
-
-pub const CODE: usize = 7;
-
 // 1 for a conditional jump, 0 for any other.
 pub fn question(op: u8) -> u64
     ensures { λ r. ⌜ (r ≡ oneIf (isQuestion op)) × (r ≤ 1) ⌝ }
 {
-    if op == JUMP_IF_FALSE {
+    if op == op_bytes::JUMP_IF_FALSE {
         return 1;
     }
-    if op == JUMP_IF_TRUE {
+    if op == op_bytes::JUMP_IF_TRUE {
         return 1;
     }
     0
@@ -113,8 +107,8 @@ pub fn count_functions(bytes: &[u8], at: usize, count: u64) -> u64
     let mut left = count;
     let mut total = 0u64;
     while 0 < left {
-        let n = number_at(bytes, p + COUNT, 2);
-        let code = count_code(bytes, p + CODE, n);
+        let n = number_at(bytes, p + FUNCTION_COUNT, 2);
+        let code = count_code(bytes, p + FUNCTION_HEAD, n);
         p = code.at;
         total += n;
         left -= 1;

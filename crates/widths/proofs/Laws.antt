@@ -8,7 +8,7 @@ use native.Mathlib.Omega.{arith}
 use lib.Dec.{eqb, T}
 use borrow.Author.Tests.{eq-eqb, ne-eqb}
 use lib.ListN.{getD, List·getD-map, List·getD-eq-default}
-use Rattle.definitions.specs.Instruction.{Row, row, nothing, instructionTable, rowOf, firstWidth, secondWidth}
+use Rattle.definitions.specs.Instruction.{Row, noRow, instructionTable, rowOf, firstWidth, secondWidth}
 use Rattle.definitions.proofs.Begins.{le-or-gt}
 use Rattle.widths.proofs.Table.{at}
 
@@ -26,7 +26,7 @@ first-column = map (λ (r : Row). r .first) instructionTable
 
 first-is : (op : ℕ) → getD first-column op 0 ≡ firstWidth op
 unfolding first-column firstWidth rowOf
-first-is op = List·getD-map (λ (r : Row). r .first) instructionTable op (row "" 0 0 nothing)
+first-is op = List·getD-map (λ (r : Row). r .first) instructionTable op noRow
 
 first-rule : ℕ → ℕ → Bool
 first-rule k x = eqb x 0 || has-first k
@@ -54,7 +54,7 @@ second-column = map (λ (r : Row). r .second) instructionTable
 
 second-is : (op : ℕ) → getD second-column op 0 ≡ secondWidth op
 unfolding second-column secondWidth rowOf
-second-is op = List·getD-map (λ (r : Row). r .second) instructionTable op (row "" 0 0 nothing)
+second-is op = List·getD-map (λ (r : Row). r .second) instructionTable op noRow
 
 second-rule : ℕ → ℕ → Bool
 second-rule k x = eqb x 0 || has-second k
@@ -82,7 +82,7 @@ lone-column = map lone instructionTable
 
 lone-is : (op : ℕ) → getD lone-column op 0 ≡ lone (rowOf op)
 unfolding lone-column lone rowOf
-lone-is op = List·getD-map lone instructionTable op (row "" 0 0 nothing)
+lone-is op = List·getD-map lone instructionTable op noRow
 
 lone-rule : ℕ → ℕ → Bool
 lone-rule k x = eqb x 0 || false

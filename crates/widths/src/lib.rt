@@ -1,5 +1,9 @@
 // Bytes of an instruction and of its operands, by its opcode. A match becomes a table in the program's data; an array would be made anew at each call.
+mod stack; // stack.rt: what an instruction pops and pushes
+
 use numerals::op_places;
+pub use stack::height_after;
+pub use stack::popped;
 ghost use mathlib.Core.Path.{_≡_};
 ghost use Prim.Native.Nat.{_+_, _≤_};
 ghost use Rattle.definitions.specs.Instruction.{firstWidth, secondWidth};

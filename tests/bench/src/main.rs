@@ -5,6 +5,7 @@
 //! Each line: what, our time, the other's time, ours by the other's. Times are
 //! the best of several rounds.
 
+mod heights;
 mod lowering;
 mod reach;
 mod texts;
@@ -269,6 +270,7 @@ fn main() {
     readers();
     texts::listings();
     texts::sheets();
+    heights::checks();
     reach::last_places();
     runs();
 }

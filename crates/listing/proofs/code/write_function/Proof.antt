@@ -1,5 +1,5 @@
 use borrow.Author.Needs.{needs}
-use Rattle.listing.proofs.PartLaws.{part-inside}
+use Rattle.tally.proofs.Parts.{part-inside}
 use Rattle.listing.proofs.CodeLaws.{code-fits, code-lined}
 use Rattle.listing.proofs.code.write_function.Statement.{statement}
 use Rattle.listing.proofs.code.write_function.Tie as tie

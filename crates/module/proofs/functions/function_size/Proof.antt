@@ -16,6 +16,6 @@ function-size-spec = tie.close (tie.spec
     (λ c. let w = c .before .words-part in let a = c .before .before .before .args in
     omega (arith, c .code-size .ensures [], code-room [] (w .result .now), part-short (a .place) (a .finished .now) _ (w .ensures)))
     (λ c. let w = c .before .words-part in let a = c .before .before .before .args in (
-      λ t h. ap (λ (n : ℕ). 5 + n) (c .code-size .ensures t) ∙ sym (length-function t (a .finished .now) h (a .place) (w .result .now) (w .ensures)),
+      λ t h. ap (λ (n : ℕ). 7 + n) (c .code-size .ensures t) ∙ sym (length-function t (a .finished .now) h (a .place) (w .result .now) (w .ensures)),
       omega (arith, c .code-size .ensures [], code-room [] (w .result .now), part-short (a .place) (a .finished .now) _ (w .ensures)),
     )))

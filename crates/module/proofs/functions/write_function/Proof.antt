@@ -3,7 +3,7 @@ use native.Mathlib.Omega.{arith}
 use mathlib.Core.List.{[], _∷_}
 use Prim.Native.Nat.{_/_, _%_}
 use Rattle.definitions.specs.Bytes.{be}
-use Rattle.module.specs.Sections.{codeBytes}
+use Rattle.module.specs.Sections.{bodyBytes}
 use Rattle.writing.proofs.Begun.{Begun, begun-first, begun-length, begun-fits, begun-piece, begun-number, begun-next, begun-done}
 use Rattle.module.proofs.CodeLengths.{part-short, functionPiece, function-pieces, length-function}
 use Rattle.module.proofs.functions.write_function.Statement.{statement}
@@ -12,7 +12,7 @@ use Rattle.module.proofs.functions.write_function.Tie as tie
 -- the symbol is written
 begun : (c : tie.After-slice-known2) → let w = c .before .before .before .before in let s = w .before .before .before .before .args in
     Begun (functionPiece (s .tree .now) (s .finished .now) (s .head) (s .place)) (s .out .now) (c .before .before .write-number .result) (c .before .before .write-number .last .1 .1 .0)
-    (be 1 (s .head / 256 % 256) ∷ be 2 (s .head % 256) ∷ codeBytes (s .tree .now) (w .words-part .result .now) ∷ [])
+    (be 1 (s .head / 256 % 256) ∷ be 2 (s .head % 256) ∷ bodyBytes (s .tree .now) (w .words-part .result .now) ∷ [])
 begun c =
     let w = c .before .before .before .before in
     let s = w .before .before .before .before in
@@ -49,8 +49,8 @@ write-function-spec = tie.close (tie.spec
     (part-short (a .place) (a .finished .now) _ (w .words-part .ensures), begun-piece (begun-next (begun-next (begun k) (j .before .before .write-number2 .ensures)) (i .before .before .write-number3 .ensures))))
     (λ c. let i = c .before .before .before .before in let j = i .before .before .before .before in let k = j .before .before .before .before in
     let b = begun-next (begun-next (begun k) (j .before .before .write-number2 .ensures)) (i .before .before .write-number3 .ensures) in
-    let s = k .before .before .before .before .before .before .before .before in omega (arith, begun-fits b, begun-length b, c .before .before .write-code .ensures .count, s .good))
+    let s = k .before .before .before .before .before .before .before .before in omega (arith, begun-fits b, begun-length b, c .before .before .write-body .ensures .count, s .good))
     (λ c. let i = c .before .before .before .before in let j = i .before .before .before .before in let k = j .before .before .before .before in
-    begun-length (begun-next (begun-next (begun-next (begun k) (j .before .before .write-number2 .ensures)) (i .before .before .write-number3 .ensures)) (c .before .before .write-code .ensures)))
+    begun-length (begun-next (begun-next (begun-next (begun k) (j .before .before .write-number2 .ensures)) (i .before .before .write-number3 .ensures)) (c .before .before .write-body .ensures)))
     (λ c. let i = c .before .before .before .before in let j = i .before .before .before .before in let k = j .before .before .before .before in
-    begun-done (begun-next (begun-next (begun-next (begun k) (j .before .before .write-number2 .ensures)) (i .before .before .write-number3 .ensures)) (c .before .before .write-code .ensures))))
+    begun-done (begun-next (begun-next (begun-next (begun k) (j .before .before .write-number2 .ensures)) (i .before .before .write-number3 .ensures)) (c .before .before .write-body .ensures))))

@@ -19,8 +19,9 @@ place-of-spec = tie.close (tie.spec
     (λ c. placed _ blockQuestions _ (ap (λ (k : ℕ). position (eqb k) blockQuestions) (c .match .keys5)))  -- returns-5
     (λ c. placed _ blockQuestions _ (ap (λ (k : ℕ). position (eqb k) blockQuestions) (c .match .keys6)))  -- returns-6
     (λ c. placed _ blockQuestions _ (ap (λ (k : ℕ). position (eqb k) blockQuestions) (c .match .keys7)))  -- returns-7
+    (λ c. placed _ blockQuestions _ (ap (λ (k : ℕ). position (eqb k) blockQuestions) (c .match .keys8)))  -- returns-8
     (λ c.
     let n = c .match .rest in
-    let h = question-from _ (c .before .pre) (n .0 .0 .0 .0 .0 .1) in
-    let l = up 12 _ (up 11 _ (up 10 _ (up 9 _ (up 8 _ (up 7 _ (h .0) (n .0 .0 .0 .0 .0 .0 .1)) (n .0 .0 .0 .0 .1)) (n .0 .0 .0 .1)) (n .0 .0 .1)) (n .0 .1)) (n .1) in
-    placed _ blockQuestions _ (ap (λ (k : ℕ). position (eqb k) blockQuestions) (le-antisymm (h .1) l))))  -- returns-8
+    let h = question-from _ (c .before .pre) (n .0 .0 .0 .0 .0 .0 .1) (n .0 .0 .1) in
+    let l = up 12 _ (up 11 _ (up 10 _ (up 9 _ (up 8 _ (up 7 _ (h .0) (n .0 .0 .0 .0 .0 .0 .0 .1)) (n .0 .0 .0 .0 .0 .1)) (n .0 .0 .0 .0 .1)) (n .0 .0 .0 .1)) (n .0 .1)) (n .1) in
+    placed _ blockQuestions _ (ap (λ (k : ℕ). position (eqb k) blockQuestions) (le-antisymm (h .1) l))))  -- returns-9

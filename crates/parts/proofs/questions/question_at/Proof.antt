@@ -17,7 +17,8 @@ question-at-spec = tie.close (tie.spec
     (λ c. ap (getElem? blockQuestions) (c .match .keys5))  -- returns-5
     (λ c. ap (getElem? blockQuestions) (c .match .keys6))  -- returns-6
     (λ c. ap (getElem? blockQuestions) (c .match .keys7))  -- returns-7
+    (λ c. ap (getElem? blockQuestions) (c .match .keys8))  -- returns-8
     (λ c.
     let n = c .match .rest in
-    let l = up 6 _ (up 5 _ (up 4 _ (up 3 _ (up 2 _ (up 1 _ (up 0 _ (omega arith) (n .0 .0 .0 .0 .0 .0 .1)) (n .0 .0 .0 .0 .0 .1)) (n .0 .0 .0 .0 .1)) (n .0 .0 .0 .1)) (n .0 .0 .1)) (n .0 .1)) (n .1) in
-    last-question _ (c .before .pre) l))  -- returns-8
+    let l = up 7 _ (up 6 _ (up 5 _ (up 4 _ (up 3 _ (up 2 _ (up 1 _ (up 0 _ (omega arith) (n .0 .0 .0 .0 .0 .0 .0 .1)) (n .0 .0 .0 .0 .0 .0 .1)) (n .0 .0 .0 .0 .0 .1)) (n .0 .0 .0 .0 .1)) (n .0 .0 .0 .1)) (n .0 .0 .1)) (n .0 .1)) (n .1) in
+    last-question _ (c .before .pre) l))  -- returns-9
