@@ -31,6 +31,7 @@ use Rattle.definitions.specs.Bytes.{Answer, refused, accepted, same}
 use Rattle.definitions.specs.Module.{office, console}
 use Rattle.definitions.specs.Run.{Ran}
 use Rattle.definitions.specs.Calls.{lowerAnswer, readCall, runAnswer}
+use Rattle.definitions.specs.Order.{Ordering, less, equal, greater, orderAnswer}
 use Rattle.definitions.specs.Open.{everything}
 
 unfoldable agrees : {A : Type 0} → (A → A → Bool) → Answer A → Answer A → Bool
@@ -44,7 +45,20 @@ sameUnit a b = true
 
 unfoldable sameRan : Ran → Ran → Bool
 sameRan a b = eqb (a .ending) (b .ending) && eqb (a .steps) (b .steps) && eqb (a .used) (b .used) && same (a .events) (b .events)
+
+unfoldable sameOrder : Ordering → Ordering → Bool
+sameOrder less less = true
+sameOrder less equal = false
+sameOrder less greater = false
+sameOrder equal less = false
+sameOrder equal equal = true
+sameOrder equal greater = false
+sameOrder greater less = false
+sameOrder greater equal = false
+sameOrder greater greater = true
 """
+
+ORDERS = {"before": "less", "equal": "equal", "after": "greater"}
 
 
 def lines(name):
@@ -77,6 +91,10 @@ def cases():
             if len(record(tree)) <= longest:
                 wanted = answer(text, lambda module: numbers(record(module)))
                 yield f"agrees same (lowerAnswer {limits} 16384 16384 65536 {numbers(record(tree))}) {wanted}"
+    for _, first, second, text in lines("orders.txt"):
+        if len(record(first)) <= LONGEST_TREE:
+            call = f"orderAnswer office 16384 16384 {numbers(record(first))} {numbers(record(second))}"
+            yield f"agrees sameOrder ({call}) {answer(text, ORDERS.__getitem__)}"
     for _, module, text in lines("modules.txt"):
         if len(record(module)) <= LONGEST_MODULE:
             yield f"agrees sameUnit (readCall {numbers(record(module))}) {answer(text, lambda _: 'tt')}"
@@ -91,7 +109,7 @@ def theorems(tests):
     for start in range(0, len(tests), CASES_A_THEOREM):
         name = f"cases{start}"
         conjunction = "\n    && ".join(tests[start : start + CASES_A_THEOREM])
-        parts.append(f"{name} : ({conjunction}) ≡ true\nunfolding everything agrees sameUnit sameRan\n{name} = refl\n")
+        parts.append(f"{name} : ({conjunction}) ≡ true\nunfolding everything agrees sameUnit sameRan sameOrder\n{name} = refl\n")
     return "\n".join(parts)
 
 

@@ -1,7 +1,8 @@
 -- Laws of Booleans and tests.
-use mathlib.Core.Path.{_≡_, refl, sym, subst}
+use mathlib.Core.Path.{_≡_, refl, sym, _∙_, subst}
 use mathlib.Core.Bool.{Bool, true, false, not, _&&_}
 use Prim.Native.Nat.{ℕ, _≤_}
+use native.Mathlib.Omega.{arith}
 use lib.Dec.{T, eqb, eqb-refl, leb, leb→le}
 
 pub left : (a b : Bool) → (a && b) ≡ true → a ≡ true
@@ -11,6 +12,16 @@ left false b e = e
 pub right : (a b : Bool) → (a && b) ≡ true → b ≡ true
 right true b e = e
 right false b e = let z : b ≡ true = cc in z
+
+pub and : {a b : Bool} → a ≡ true → b ≡ true → (a && b) ≡ true
+and e f = rw (e, f)
+
+pub and-assoc : (a b c : Bool) → (a && b && c) ≡ (a && (b && c))
+and-assoc true b c = refl
+and-assoc false b c = refl
+
+pub true-false : {A : Type 0} {b : Bool} → b ≡ true → b ≡ false → A
+true-false e f = let w : true ≡ false = sym e ∙ f in let z : _≡_ {A = ℕ} 0 1 = cc in absurd (omega arith)
 
 pub holds : (b : Bool) → b ≡ true → T b
 holds b e = subst T (sym e) tt

@@ -6,6 +6,7 @@ use mathlib.Core.Logic.{_⊎_}
 use mathlib.Core.Bool.{Bool, true, false, not, _&&_, _||_}
 use mathlib.Core.Option.{Option, none, some}
 use mathlib.Core.List.{List, [], _∷_, _++_, map}
+use mathlib.Core.Logic.{_⊎_}
 use lib.ListN.{length, getD, getElem?, take, drop}
 use lib.Dec.{eqb, leb, ltb}
 use lib.Pow.{areBytes}
@@ -14,7 +15,7 @@ use Rattle.definitions.specs.Utf8.{Range, inRange, Octets, utf8Char, isU
 use Rattle.definitions.specs.Tree.{BinaryOp, addOp, subtractOp, multiplyOp, divideOp, floorDivideOp, moduloOp, equalOp, notEqualOp, lessOp, lessEqualOp, greaterOp, greaterEqualOp}
 use Rattle.definitions.specs.Tree.{binaryNumber, UnaryOp, LogicalOp, Display, Expr, lit, var, unary, binary, logical, call, attr, display, index, lambda, Exprs, []ᵉ, _∷ᵉ_}
 use Rattle.definitions.specs.Tree.{Stmt, break, continue, pass, expr, return, assign, if, while, for, def, class, Block, []ᵇ, _∷ᵇ_, Branches, done, else, when, Methods, Attribute}
-use Rattle.definitions.specs.Parse.{binaryKinds, blockOf, parseStmt}
+use Rattle.definitions.specs.Parse.{binaryKinds, blockOf, parseStmt, readTree}
 use Rattle.definitions.specs.Wellformed.{isName, isTuple, isIterator, distinct, askBlock}
 use Rattle.definitions.specs.TreeNames.{namesBlock}
 use Rattle.definitions.specs.Slots.{add, localsBlock, captures}
@@ -31,6 +32,9 @@ use Rattle.definitions.specs.Walk.{Walked, endingNumber, walk}
 use Rattle.definitions.specs.Calls.{areasFit, areAnswers, lowerAnswer, readCall, Part, partOf, codeCall, textAnswer, runAnswer, walkTree}
 use Rattle.definitions.specs.Reach.{placesMet, Reachable, Brings, Nowhere, wideArea, sought, Finds}
 use Rattle.definitions.specs.Search.{Rule, Swept}
+use Rattle.definitions.specs.TreeBytes.{size, treeBytes}
+use Rattle.definitions.specs.Rests.{rest, taken}
+use Rattle.definitions.specs.Order.{Ordering, less, equal, greater, order, acceptedTree, orderAnswer}
 use Rattle.definitions.specs.Samples.{samples, holds}
 
 -- ---- the starred samples: proofs/Samples
@@ -686,3 +690,76 @@ pub record SheetFits (t : Tables) : Type 0 where
 
 abbrev pub SheetLength : Type 0
 SheetLength = (m : List ℕ) (t : Tables) → areBytes m ≡ true → readModule m ≡ accepted t → SheetFits t
+
+-- ---- a tree's bytes: proofs/TreeWritten
+
+-- a tree that is read is the bytes of its block
+abbrev pub TreeWritten : Type 0
+TreeWritten = (tree : List ℕ) (b : Block) → areBytes tree ≡ true → readTree tree ≡ accepted b → tree ≡ treeBytes b
+
+-- ---- the rest of a tree
+
+-- taken out once, nothing is left to take out: proofs/RestTwice
+abbrev pub RestTwice : Type 0
+RestTwice = (b : Block) → rest (rest b) ≡ rest b
+
+-- a rest has as many bytes fewer as are taken out: proofs/Taken
+abbrev pub TreeTaken : Type 0
+TreeTaken = (b : Block) → length (treeBytes (rest b)) + taken b ≡ length (treeBytes b)
+
+-- it lowers to the tree's tables: proofs/RestLowered. Only the sources, which name the bodies, are others
+abbrev pub RestCompiles : Type 0
+RestCompiles = (b : Block) → compile (rest b) .tables ≡ compile b .tables
+
+-- the bytes of a rest read as the rest: proofs/OrderLaws
+abbrev pub RestReads : Type 0
+RestReads = (tree : List ℕ) (b : Block) → areBytes tree ≡ true → readTree tree ≡ accepted b → readTree (treeBytes (rest b)) ≡ accepted (rest b)
+
+-- the rest of an accepted tree is accepted, and has its module: proofs/Sorted
+pub record Rested (l : Limits) (tree : List ℕ) (a : Block) : Type 0 where
+  pub reads : acceptedTree l (treeBytes (rest a)) ≡ accepted (rest a)
+  pub lowers : lowerBytes l (treeBytes (rest a)) ≡ lowerBytes l tree
+
+abbrev pub RestAccepted : Type 0
+RestAccepted = (l : Limits) (tree : List ℕ) (a : Block) → areBytes tree ≡ true → acceptedTree l tree ≡ accepted a → Rested l tree a
+
+-- ---- the order of trees: proofs/OrderLaws
+
+abbrev pub OrderSame : Type 0
+OrderSame = (a : Block) → order a a ≡ equal
+
+-- the same two from the other side
+unfoldable pub turned : Ordering → Ordering
+turned less = greater
+turned equal = equal
+turned greater = less
+
+abbrev pub OrderTurned : Type 0
+OrderTurned = (a b : Block) → order b a ≡ turned (order a b)
+
+-- not after the other
+unfoldable pub atMost : Ordering → Bool
+atMost less = true
+atMost equal = true
+atMost greater = false
+
+abbrev pub OrderTotal : Type 0
+OrderTotal = (a b : Block) → (atMost (order a b) ≡ true) ⊎ (atMost (order b a) ≡ true)
+
+abbrev pub OrderTransitive : Type 0
+OrderTransitive = (a b c : Block) → atMost (order a b) ≡ true → atMost (order b c) ≡ true → atMost (order a c) ≡ true
+
+abbrev pub OrderAntisymmetric : Type 0
+OrderAntisymmetric = (a b : Block) → atMost (order a b) ≡ true → atMost (order b a) ≡ true → order a b ≡ equal
+
+-- two trees are equal in it exactly when their rests are
+abbrev pub EqualRests : Type 0
+EqualRests =
+    (x y : List ℕ) (a b : Block) → areBytes x ≡ true → areBytes y ≡ true → readTree x ≡ accepted a → readTree y ≡ accepted b
+    → (order a b ≡ equal → rest a ≡ rest b) × (rest a ≡ rest b → order a b ≡ equal)
+
+-- equal scripts lower to equal modules, by the same limits
+abbrev pub EqualModules : Type 0
+EqualModules =
+    (l : Limits) (m n : ℕ) (x y : List ℕ) → areBytes x ≡ true → areBytes y ≡ true → orderAnswer l m n x y ≡ accepted equal
+    → (k : List ℕ) × (lowerBytes l x ≡ accepted k) × (lowerBytes l y ≡ accepted k)

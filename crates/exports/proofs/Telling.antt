@@ -14,6 +14,7 @@ use Rattle.definitions.specs.Tables.{Function, Tables}
 use Rattle.definitions.specs.Reader.{readModule}
 use Rattle.definitions.specs.Module.{Limits, codeStart, lowerBytes}
 use Rattle.definitions.specs.Calls.{Part, Counts, Running, fitsRoom, areasFit, lowerAnswer, countAnswer, Lowering, lowerCall, readCall, functionOf, codePart, codeCall, textFits, textAnswer, textCall, runCall, written}
+use Rattle.definitions.specs.Order.{Sorting, orderCall}
 use Rattle.definitions.proofs.ReadFits.{module-short}
 use Rattle.definitions.specs.Reach.{sought, countFound, foundAnswer, bufferAfter, Reaching, reachCall}
 use Rattle.tree.specs.Settled.{said, settled}
@@ -33,7 +34,10 @@ use Rattle.tally.specs.declared.Listed.the-variants.{Written, Refused as NotWri
 use Rattle.run.specs.Pass.{said as ranSaid, Called}
 use Rattle.run.specs.declared.Outcome.{Outcome}
 use Rattle.run.specs.declared.Outcome.the-variants.{Finished, Refused as NotRun}
-use Rattle.exports.specs.Told.{told, toldCount, toldPart, fourIn, countsIn, Tellable, Lowers, Prints, Runs, toldFound, Seeks}
+use Rattle.exports.specs.Told.{told, toldCount, toldPart, fourIn, countsIn, Tellable, Lowers, Prints, Runs, toldFound, Seeks, toldOrder, Orders}
+use Rattle.order.specs.Ordered.{said as orderSaid, Sorts}
+use Rattle.order.specs.declared.Ordered.{Ordered}
+use Rattle.order.specs.declared.Ordered.the-variants.{Less, Equal, Greater, Refused as NotOrdered}
 use Rattle.reach.specs.Reaching.{said as reachSaid, Gives}
 use Rattle.reach.specs.declared.Reached.{Reached}
 use Rattle.reach.specs.declared.Reached.the-variants.{Answers, Nowhere, Refused as NotSought}
@@ -86,6 +90,33 @@ module _ (r : Lowered) (k l : Limits) (e : k ≡ l) (tree area₁ area₂ out ar
   pub lowered-no : (q : ℕ) → r ≡ NotLowered q → Lowers q want area₁′ area₂′ out′
   unfolding lowered toldCount
   lowered-no q h = told-as q (ap (λ (x : Lowered). toldCount (lowered x)) (sym h))
+
+-- ---- the order of two trees
+
+module _ (r : Ordered) (k l : Limits) (e : k ≡ l) (x y area₁ area₂ area₁′ area₂′ : List ℕ) (S : Sorts r area₁′ area₂′ (orderCall k x y area₁ area₂)) where
+  abbrev sorted : Sorting
+  sorted = orderCall l x y area₁ area₂
+
+  ordered-as : (n : ℕ) → n ≡ toldOrder (orderSaid r) → Orders n sorted area₁′ area₂′
+  ordered-as n h =
+      let w : orderCall k x y area₁ area₂ ≡ sorted = ap (λ (m : Limits). orderCall m x y area₁ area₂) e in
+      subst (λ (v : Sorting). Orders n v area₁′ area₂′) w (record { answer = h ∙ ap toldOrder (S .answer); first = S .first; second = S .second })
+
+  pub ordered-less : r ≡ Less → Orders 4294967296 sorted area₁′ area₂′
+  unfolding orderSaid toldOrder
+  ordered-less h = ordered-as 4294967296 (ap (λ (z : Ordered). toldOrder (orderSaid z)) (sym h))
+
+  pub ordered-equal : r ≡ Equal → Orders 4294967297 sorted area₁′ area₂′
+  unfolding orderSaid toldOrder
+  ordered-equal h = ordered-as 4294967297 (ap (λ (z : Ordered). toldOrder (orderSaid z)) (sym h))
+
+  pub ordered-greater : r ≡ Greater → Orders 4294967298 sorted area₁′ area₂′
+  unfolding orderSaid toldOrder
+  ordered-greater h = ordered-as 4294967298 (ap (λ (z : Ordered). toldOrder (orderSaid z)) (sym h))
+
+  pub ordered-no : (q : ℕ) → r ≡ NotOrdered q → Orders q sorted area₁′ area₂′
+  unfolding orderSaid toldOrder
+  ordered-no q h = ordered-as q (ap (λ (z : Ordered). toldOrder (orderSaid z)) (sym h))
 
 -- ---- a module
 

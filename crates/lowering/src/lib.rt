@@ -1,19 +1,16 @@
 // The lowering of a tree: questions 1 to 16, and the module's bytes.
 use areas::clear;
-use compile::compile;
 use compile::counts;
-use fits::statements::check_slots;
 use limits::Limits;
 use limits::limit_numbers;
 use module::module_size;
 use module::write_module;
-use tree::Checked;
-use tree::check_tree;
+use settle::Settled;
+use settle::settle;
 ghost use Prim.Native.Nat.{_≤_};
 ghost use lib.ListN.{length};
 ghost use Rattle.definitions.specs.Module.{moduleBytes};
 ghost use Rattle.definitions.specs.Calls.{fitsRoom, lowerAnswer, lowerCall};
-ghost use Rattle.tree.specs.StmtAt.{TreeAt};
 ghost use Rattle.state.specs.State.{tablesOf, limitsOf, Limited};
 ghost use Rattle.module.specs.Sections.{Roomy};
 ghost use Rattle.lower_emit.specs.Numbers.{countsOf, limitsIn};
@@ -47,31 +44,7 @@ fn write_tables<'a>(
     Lowered::Wrote(n)
 }
 
-// Questions 14 to 16, and the module; the slices keep what was worked out. A tree that is lowered has at most 255 slots a function, so question 14
-// is asked only where the lowering is full.
-fn lower_checked(
-    tree: &[u8],
-    code: &mut [u32],
-    tables: &mut [u32],
-    out: &mut [u8],
-    l: &[u32; 5],
-) -> Lowered
-    requires { ⌜ (16384 ≤ length (now code)) × (16384 ≤ length (now tables)) × Limited (limitsIn (now l)) × TreeAt (now tree) ⌝ }
-    ensures { λ r. ⌜ Answers r (lowerAnswer (limitsOf (limitsIn (now (l .entry)))) (length (now (code .entry))) (length (now (tables .entry))) (length (now (out .entry))) (now (tree .entry))) (now (out .entry)) (now (out .exit)) ⌝ }
-{
-    let mut made = [0u8; 20500];
-    let mut k = [0u32; 10];
-    let next = compile(tree, &mut made, code, tables, &mut k, l);
-    if next == 0 {
-        if check_slots(tree) {
-            return Lowered::Refused(15);
-        }
-        return Lowered::Refused(14);
-    }
-    write_tables(tree, &made, code, tables, &k, out)
-}
-
-// Questions 2 to 16, and the module.
+// Questions 2 to 16, and the module; the slices keep what was worked out.
 fn lower_into(
     tree: &[u8],
     code: &mut [u32],
@@ -82,11 +55,13 @@ fn lower_into(
     requires { ⌜ (16384 ≤ length (now code)) × (16384 ≤ length (now tables)) × Limited (limitsIn (now l)) ⌝ }
     ensures { λ r. ⌜ Answers r (lowerAnswer (limitsOf (limitsIn (now (l .entry)))) (length (now (code .entry))) (length (now (tables .entry))) (length (now (out .entry))) (now (tree .entry))) (now (out .entry)) (now (out .exit)) ⌝ }
 {
-    let checked = check_tree(tree);
-    if let Checked::Refused(q) = checked {
+    let mut made = [0u8; 20500];
+    let mut k = [0u32; 10];
+    let settled = settle(tree, &mut made, code, tables, &mut k, l);
+    if let Settled::Refused(q) = settled {
         return Lowered::Refused(q);
     }
-    lower_checked(tree, code, tables, out, l)
+    write_tables(tree, &made, code, tables, &k, out)
 }
 
 // The module of a tree within a set of limits, from the output's first byte on. Both work areas are zero afterwards, but after refusal 1, which leaves

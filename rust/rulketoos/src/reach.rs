@@ -73,7 +73,7 @@ pub fn reach<'a>(
 /// ```
 /// // `if a: pass` and `b`: LoadGlobal, JumpIfFalse 1, Jump 0, LoadGlobal, Pop, Return
 /// let tree = b"\0\0\0\x11\x01\0\x02\x06\x06\x01a\0\x01\x02\0\0\0\x03\x06\x01b";
-/// let module = rulketoos::lower_to_vec(tree)?;
+/// let module = rulketoos::lower_to_vec(tree, rulketoos::Limits::Office)?;
 /// assert_eq!(rulketoos::reach_to_vec(&module, 0, 0)?, Some(vec![]));
 /// assert_eq!(rulketoos::reach_to_vec(&module, 0, 2)?, Some(vec![1]));
 /// // code behind the last Return of a module that wasn't lowered: none

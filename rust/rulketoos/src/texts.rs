@@ -103,7 +103,7 @@ pub fn count_sheet(module: &[u8], out: &mut [u8]) -> Result<usize, Refusal> {
 /// ```
 /// // `print(a and b)`: LoadGlobal, JumpIfFalse, LoadGlobal, Jump, False, CallBuiltin, Pop, Return
 /// let tree = b"\0\0\0\x16\x01\0\x01\x03\x09\x06\x05print\0\x01\x08\x0c\x06\x01a\x06\x01b";
-/// let sheet = rulketoos::count_sheet_to_string(&rulketoos::lower_to_vec(tree)?)?;
+/// let sheet = rulketoos::count_sheet_to_string(&rulketoos::lower_to_vec(tree, rulketoos::Limits::Office)?)?;
 /// let lines: Vec<&str> = sheet.lines().map(str::trim_end).collect();
 /// assert_eq!(lines, ["    0      8      1      1", "TOTAL      8      1      1"]);
 /// # Ok::<(), rulketoos::Refusal>(())

@@ -6,6 +6,7 @@
 //! the best of several rounds.
 
 mod lowering;
+mod order;
 mod reach;
 mod texts;
 
@@ -269,6 +270,7 @@ fn main() {
     readers();
     texts::listings();
     texts::sheets();
+    order::pairs();
     reach::last_places();
     runs();
 }

@@ -1,5 +1,6 @@
 use borrow.Author.Needs.{needs}
-use Rattle.lowering.proofs.Answering.{set-limited, lowers-first, lowers-second, lowers-all}
+use Rattle.settle.proofs.Sets.{set-limited}
+use Rattle.lowering.proofs.Answering.{lowers-first, lowers-second, lowers-all}
 use Rattle.lowering.proofs.lower.Statement.{statement}
 use Rattle.lowering.proofs.lower.Tie as tie
 
