@@ -19,7 +19,7 @@ use Rattle.state.proofs.Answers.{emits-done, emits-full}
 use Rattle.state.proofs.Views.{function-count}
 use Rattle.state.proofs.Emission.{state-eq}
 use Rattle.state.proofs.Enclosing.{symbol-functions, at-function, at-compile}
-use Rattle.state.proofs.Growth.{Lengthened, Lengthens, functions-longer, lengthens-one, lengthens-seq, lengthens-block}
+use Rattle.definitions.proofs.Growth.{Lengthened, Lengthens, functions-longer, lengthens-one, lengthens-seq, lengthens-block}
 use Rattle.state.proofs.Within.{within-down, within-function}
 use Rattle.lower_emit.specs.Nesting.{bodyOf, Moved, Begins}
 use Rattle.lower_emit.proofs.Begun.{begun-body}

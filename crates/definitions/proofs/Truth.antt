@@ -16,6 +16,10 @@ right false b e = let z : b ≡ true = cc in z
 pub and : {a b : Bool} → a ≡ true → b ≡ true → (a && b) ≡ true
 and e f = rw (e, f)
 
+pub and-true : (a : Bool) → (a && true) ≡ a
+and-true true = refl
+and-true false = refl
+
 pub and-assoc : (a b c : Bool) → (a && b && c) ≡ (a && (b && c))
 and-assoc true b c = refl
 and-assoc false b c = refl

@@ -35,6 +35,7 @@ use Rattle.definitions.specs.Search.{Rule, Swept}
 use Rattle.definitions.specs.TreeBytes.{size, treeBytes}
 use Rattle.definitions.specs.Rests.{rest, taken}
 use Rattle.definitions.specs.Order.{Ordering, less, equal, greater, order, acceptedTree, orderAnswer}
+use Rattle.definitions.specs.Cut.{runOf, firstStart, fewest, passes, failing, overRun, notRefused, cutTo, cutAnswer}
 use Rattle.definitions.specs.Samples.{samples, holds}
 
 -- ---- the starred samples: proofs/Samples
@@ -763,3 +764,41 @@ abbrev pub EqualModules : Type 0
 EqualModules =
     (l : Limits) (m n : ℕ) (x y : List ℕ) → areBytes x ≡ true → areBytes y ≡ true → orderAnswer l m n x y ≡ accepted equal
     → (k : List ℕ) × (lowerBytes l x ≡ accepted k) × (lowerBytes l y ≡ accepted k)
+
+-- ---- a refused tree cut down: proofs/CutWritten
+
+-- The bytes are those of the run of `count` top statements from the `start`-th on: refused with the tree's number; no shorter run is, and no earlier
+-- one of its length
+pub record CutIs (l : Limits) (tree bs : List ℕ) : Type 0 where
+  pub number : ℕ
+  pub block : Block
+  pub start : ℕ
+  pub count : ℕ
+  pub reads : readTree tree ≡ accepted block
+  pub bytes : bs ≡ treeBytes (runOf start count block)
+  pub within : start + count ≤ size block
+  pub refusedTree : lowerTables l tree ≡ refused number
+  pub refusedCut : lowerTables l bs ≡ refused number
+  pub fewest : (i n : ℕ) → i + n ≤ size block → n < count → lowerTables l (treeBytes (runOf i n block)) ≡ refused number → ⊥
+  pub earliest : (i : ℕ) → i < start → lowerTables l (treeBytes (runOf i count block)) ≡ refused number → ⊥
+  pub short : length bs ≤ length tree
+
+abbrev pub Cuts : Type 0
+Cuts = (l : Limits) (m n room : ℕ) (tree bs : List ℕ) → areBytes tree ≡ true → cutAnswer l m n room tree ≡ accepted (cutTo bs) → CutIs l tree bs
+
+-- the answer that it is not refused is given of accepted trees alone
+abbrev pub CutsRefused : Type 0
+CutsRefused = (l : Limits) (m n room : ℕ) (tree : List ℕ) → cutAnswer l m n room tree ≡ accepted notRefused → (t : Tables) × (lowerTables l tree ≡ accepted t)
+
+-- a refusal by any question but 15 is cut down to one statement, the first that fails the question: proofs/CutSingle
+pub record Single (l : Limits) (q : ℕ) (b : Block) : Type 0 where
+  pub fewest : fewest l q b ≡ 1
+  pub start : firstStart l q b 1 ≡ failing (passes q) b
+
+abbrev pub SingleEnough : Type 0
+SingleEnough = (l : Limits) (q : ℕ) (b : Block) → lowerBlock l b ≡ refused q → (q ≡ 15 → ⊥) → Single l q b
+
+-- 15: a run within the limits stays so with fewer statements at its end: proofs/CutTables. At its start it need not: a call has an instruction less
+-- after the def
+abbrev pub ShorterFits : Type 0
+ShorterFits = (l : Limits) (b : Block) (i m n : ℕ) → m ≤ n → overRun l b i n ≡ false → overRun l b i m ≡ false

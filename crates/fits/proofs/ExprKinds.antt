@@ -12,7 +12,7 @@ use Rattle.definitions.specs.Bytes.{Name}
 use Rattle.definitions.specs.Tree.{Expr, lit, var, Literal, Exprs, []ᵉ, _∷ᵉ_, View, asVar, asAttr, asIndex, asTuple, asOther, view}
 use Rattle.definitions.specs.Slots.{captures}
 use Rattle.state.specs.State.{slotsFrom, slotNames}
-use Rattle.state.specs.Fits.{fitsExpr, fitsExprs, fitsTarget}
+use Rattle.definitions.specs.Fits.{fitsExpr, fitsExprs, fitsTarget}
 use Rattle.parts.specs.Places.{Node, node, nameBytes, nameEnd, There, paramsAt}
 use Rattle.exprs.specs.ExprAt.{exprAt, exprsAt, ExprReads, ExprsRead, varAt, unaryOf, binaryOf, UnaryAt, unaryAt, TwoAt, secondAt, BinaryAt, binaryAt, ListAt, listAt, CallAt, callAt, AttributeAt, attributeAt, displayAt, DictAt, pairsAt, dictAt, indexAt, LambdaAt, lambdaAt, consAt}
 use Rattle.parts.proofs.Laws.{le-or-gt}

@@ -11,7 +11,7 @@ use Rattle.definitions.specs.Bytes.{Name}
 use Rattle.definitions.specs.Tree.{Expr, Stmt, Block, []ᵇ, _∷ᵇ_, Branches, done, else, when, Methods, []ᵐ, method}
 use Rattle.definitions.specs.Slots.{localsBlock}
 use Rattle.state.specs.State.{slotsFrom, slotNames}
-use Rattle.state.specs.Fits.{fitsExpr, fitsTarget, fitsStmt, fitsBlock, fitsBranches, fitsMethods}
+use Rattle.definitions.specs.Fits.{fitsExpr, fitsTarget, fitsStmt, fitsBlock, fitsBranches, fitsMethods}
 use Rattle.parts.specs.Places.{Node, node, countAt, nameBytes, nameEnd, There, ParamsAt, paramsAt}
 use Rattle.exprs.specs.ExprAt.{exprAt, ExprReads, TwoAt, secondAt}
 use Rattle.tree.specs.StmtAt.{stmtAt, blockAt, stmtsAt, branchesAt, methodsAt, StmtReads, BlockReads, StmtsRead, BranchesRead, MethodsRead, exprStmtAt, returnAt, assignAt, BranchAt, bodyAt, IfAt, elifsAt, ifAt, whileAt, ForAt, forAt, whenAt, elseAt, DefAt, defBlockAt, defAt, methodAt, ClassAt, classMethodsAt, classAt, consAt}

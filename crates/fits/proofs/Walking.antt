@@ -10,7 +10,7 @@ use borrow.Author.Tests.{le-leb, lt-leb}
 use Rattle.definitions.specs.Bytes.{Name}
 use Rattle.definitions.specs.Tree.{Expr, Block}
 use Rattle.state.specs.State.{slotsFrom, slotNames, Slots}
-use Rattle.state.specs.Fits.{fitsExpr, fitsBlock}
+use Rattle.definitions.specs.Fits.{fitsExpr, fitsBlock}
 use Rattle.slots.specs.Slotted.{firstNames, Collected}
 use Rattle.slots.specs.declared.Locals.{Locals}
 use Rattle.slots.specs.declared.Locals.the-variants.{Count, TooMany}

@@ -8,7 +8,7 @@ use lib.Dec.{leb}
 use Rattle.definitions.specs.Bytes.{Name}
 use Rattle.definitions.specs.Tree.{Expr, Block}
 use Rattle.state.specs.State.{Slots}
-use Rattle.state.specs.Fits.{fitsExpr, fitsBlock}
+use Rattle.definitions.specs.Fits.{fitsExpr, fitsBlock}
 use Rattle.fits.specs.declared.Fit.{Fit}
 use Rattle.fits.specs.declared.Fit.the-variants.{Next, Over}
 

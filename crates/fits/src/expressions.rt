@@ -13,7 +13,7 @@ ghost use Prim.Native.Nat.{_+_, _*_, _≤_, _<_};
 ghost use lib.ListN.{length};
 ghost use Rattle.definitions.specs.Slots.{captures};
 ghost use Rattle.state.specs.State.{slotNames};
-ghost use Rattle.state.specs.Fits.{fitsExpr, fitsExprs, fitsTarget};
+ghost use Rattle.definitions.specs.Fits.{fitsExpr, fitsExprs, fitsTarget};
 ghost use Rattle.parts.specs.Places.{nameEnd, paramsAt};
 ghost use Rattle.exprs.specs.ExprAt.{exprAt, exprsAt, ExprReads, ExprsRead, TwoAt, secondAt, CallAt, ListAt, listAt, DictAt, pairsAt, AttributeAt, LambdaAt};
 ghost use Rattle.fits.specs.Walk.{Short, Walks, lambdaFits};

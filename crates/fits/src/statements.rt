@@ -15,7 +15,7 @@ ghost use Prim.Native.Nat.{_+_, _*_, _-_, _≤_, _<_};
 ghost use lib.ListN.{length, getD};
 ghost use Rattle.definitions.specs.Slots.{localsBlock};
 ghost use Rattle.state.specs.State.{slotNames};
-ghost use Rattle.state.specs.Fits.{fitsExpr, fitsTarget, fitsStmt, fitsBlock, fitsBranches, fitsMethods};
+ghost use Rattle.definitions.specs.Fits.{fitsExpr, fitsTarget, fitsStmt, fitsBlock, fitsBranches, fitsMethods};
 ghost use Rattle.parts.specs.Places.{nameEnd, paramsAt};
 ghost use Rattle.exprs.specs.ExprAt.{exprAt, TwoAt, secondAt};
 ghost use Rattle.tree.specs.StmtAt.{stmtAt, blockAt, branchesAt, methodsAt, StmtReads, BlockReads, BranchesRead, MethodsRead, BranchAt, bodyAt, IfAt, elifsAt, ForAt, DefAt, defBlockAt, ClassAt, classMethodsAt, TreeAt};

@@ -15,7 +15,7 @@ use Rattle.state.proofs.Views.{stack-length, constant-count}
 use Rattle.state.proofs.Enclosing.{symbol-functions, at-endClass, at-classObject}
 use Rattle.state.proofs.Answers.{emits-done, emits-full, emits-as, emits-after, numbers-at, numbers-over, paced-more}
 use Rattle.state.proofs.Within.{within-tables, within-down, within-endClass, within-classObject}
-use Rattle.state.proofs.Growth.{lengthens-classObject}
+use Rattle.definitions.proofs.Growth.{lengthens-classObject}
 use Rattle.lower_emit.specs.Nesting.{begunWith, Begins, withMethods, withConstants, Counted}
 use Rattle.lower_classes.specs.Ending.{Finishes}
 use Rattle.lower_emit.proofs.Answering.{open-after}

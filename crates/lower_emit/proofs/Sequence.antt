@@ -8,7 +8,7 @@ use Rattle.state.specs.declared.Counts.{Counts}
 use Rattle.state.specs.Answered.{Limits, Emitted, Done, Full}
 use Rattle.state.proofs.Answers.{emits-full, full-emits, done-emits, emits-as, emits-after, left-none, left-as, base-below}
 use Rattle.state.proofs.Emission.{at-seq, at-nothing}
-use Rattle.state.proofs.Growth.{Lengthens}
+use Rattle.definitions.proofs.Growth.{Lengthens}
 use Rattle.state.proofs.Within.{within-first}
 use Rattle.lower_emit.specs.Step.{Lowers}
 

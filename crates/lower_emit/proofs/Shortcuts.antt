@@ -16,7 +16,7 @@ use Rattle.state.proofs.Views.{stack-length}
 use Rattle.state.proofs.Answers.{emits-full, full-emits, done-emits, emits-as, emits-after, left-after, left-as, base-below}
 use Rattle.state.proofs.Emission.{at-one, stack-grows}
 use Rattle.state.proofs.Jumps.{at-shortcut}
-use Rattle.state.proofs.Growth.{Lengthens}
+use Rattle.definitions.proofs.Growth.{Lengthens}
 use Rattle.state.proofs.Within.{within-one, within-down, within-shortcut}
 use Rattle.lower_emit.specs.Step.{Lowers}
 use Rattle.lower_emit.proofs.ShortcutWords.{jump-is, constant-is}

@@ -14,7 +14,7 @@ use Rattle.state.specs.Answered.{Limits, Emitted, Done, Full}
 use Rattle.state.proofs.Answers.{emits-done, full-emits, ready-again}
 use Rattle.state.proofs.Views.{stack-length, instruction-count}
 use Rattle.state.proofs.Emission.{at-one}
-use Rattle.state.proofs.Growth.{Lengthens}
+use Rattle.definitions.proofs.Growth.{Lengthens}
 use Rattle.state.proofs.Within.{within-set}
 use Rattle.lower_emit.specs.Nesting.{withOpen}
 use Rattle.lower_emit.proofs.Packing.{instr-jump, instr-plain, plain-below}

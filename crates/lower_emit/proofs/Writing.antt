@@ -5,7 +5,7 @@ use mathlib.Core.List.{List}
 use Rattle.definitions.specs.Instruction.{Instr, instr, ConstI64}
 use Rattle.definitions.specs.Tables.{Emit, one, _⨟_}
 use Rattle.state.specs.Words.{word, instrOf}
-use Rattle.state.proofs.Growth.{Lengthens}
+use Rattle.definitions.proofs.Growth.{Lengthens}
 use Rattle.lower_emit.specs.Ops.{Plain}
 use Rattle.lower_emit.proofs.Packing.{instr-plain, instr-small}
 use Rattle.lower_emit.specs.Numbers.{Put}

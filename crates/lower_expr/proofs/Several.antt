@@ -13,7 +13,7 @@ use Rattle.state.specs.State.{stateOf, emitAt}
 use Rattle.state.specs.Answered.{Emitted}
 use Rattle.state.proofs.Answers.{emits-full, full-emits, done-emits}
 use Rattle.state.proofs.Emission.{at-seq, at-nothing}
-use Rattle.state.proofs.Growth.{lengthens-exprs}
+use Rattle.definitions.proofs.Growth.{lengthens-exprs}
 use Rattle.lower_names.proofs.Midway.{Midway, midway-start, midway-base, midway-next, midway-end, midway-full}
 use Rattle.lower_forms.specs.Lowerable.{LowerableMany, exprCode, exprsCode, Short}
 use Rattle.definitions.specs.Lower.{valueCallee}

@@ -9,7 +9,7 @@ use Rattle.definitions.specs.Instruction.{instr}
 use Rattle.definitions.specs.Tables.{Emit, one}
 use Rattle.definitions.specs.Lower.{shortcut}
 use Rattle.state.specs.Words.{word}
-use Rattle.state.proofs.Growth.{Lengthens}
+use Rattle.definitions.proofs.Growth.{Lengthens}
 use Rattle.lower_emit.proofs.Packing.{instr-jump}
 use Rattle.lower_emit.proofs.Shortcuts.{shortcut-full, shortcut-right, shortcut-end, open-one, open-grows}
 use Rattle.lower_emit.specs.Numbers.{countsOf, limitsIn, answered, Put, ShortcutEnd, SoundIn, LowersIn}

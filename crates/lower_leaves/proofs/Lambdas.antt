@@ -16,7 +16,7 @@ use Rattle.state.specs.Steps.{ended}
 use Rattle.state.specs.declared.Counts.{Counts}
 use Rattle.state.specs.Answered.{Limits, Emitted, Done, Full, Over}
 use Rattle.state.proofs.Answers.{numbers-at, numbers-over, emits-full, full-emits, done-emits}
-use Rattle.state.proofs.Growth.{Lengthens, lengthens-loads}
+use Rattle.definitions.proofs.Growth.{Lengthens, lengthens-loads}
 use Rattle.lower_emit.specs.Nesting.{begunWith, bodyOf, Moved}
 use Rattle.lower_emit.proofs.Packing.{instr-plain, plain-above, plain-below}
 use Rattle.names.specs.Made.{madeName}

@@ -9,7 +9,7 @@ use Rattle.state.specs.State.{State, stateOf, emitAt, Within, Sound, Paced, Lef
 use Rattle.state.specs.declared.Counts.{Counts}
 use Rattle.state.specs.Answered.{Limits}
 use Rattle.state.proofs.Views.{stack-length}
-use Rattle.state.proofs.Growth.{Lengthens}
+use Rattle.definitions.proofs.Growth.{Lengthens}
 use Rattle.state.proofs.Within.{within-down}
 use Rattle.state.proofs.Answers.{paced-none, paced-more}
 

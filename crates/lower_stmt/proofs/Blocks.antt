@@ -9,7 +9,7 @@ use Rattle.state.specs.State.{State, stateOf, emitAt, Emits}
 use Rattle.state.specs.declared.Counts.{Counts}
 use Rattle.state.specs.Answered.{Limits, Emitted, Done, Full}
 use Rattle.state.proofs.Emission.{at-seq, at-nothing}
-use Rattle.state.proofs.Growth.{lengthens-block}
+use Rattle.definitions.proofs.Growth.{lengthens-block}
 use Rattle.state.proofs.Answers.{emits-done, emits-full, done-emits, full-emits}
 use Rattle.lower_names.proofs.Midway.{Midway, midway-base, midway-next, midway-end, midway-full}
 use Rattle.lower_forms.specs.Lowering.{StmtsLowerable, stmtCode, stmtsCode}

@@ -15,7 +15,7 @@ use Rattle.state.specs.Words.{word}
 use Rattle.state.specs.State.{State, stateOf}
 use Rattle.state.specs.Steps.{branch, chainAt}
 use Rattle.state.proofs.Answers.{base-below, full-emits, numbers-at, numbers-over}
-use Rattle.state.proofs.Growth.{Lengthens}
+use Rattle.definitions.proofs.Growth.{Lengthens}
 use Rattle.state.proofs.WithinParts.{within-if}
 use Rattle.lower_emit.proofs.Patching.{jump-set}
 use Rattle.lower_emit.proofs.Answering.{full-by}

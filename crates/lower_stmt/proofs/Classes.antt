@@ -19,7 +19,7 @@ use Rattle.state.specs.declared.Counts.{Counts}
 use Rattle.state.specs.Answered.{Limits, Emitted, Done, Full}
 use Rattle.state.proofs.Views.{function-count, class-count, constant-count}
 use Rattle.state.proofs.Enclosing.{methods-none, methods-none-of, methods-more, methods-more-of, at-class}
-use Rattle.state.proofs.Growth.{methods-lengthened}
+use Rattle.definitions.proofs.Growth.{methods-lengthened}
 use Rattle.state.proofs.Within.{within-method, within-methods, within-class}
 use Rattle.state.proofs.Answers.{paced-none, paced-more}
 use Rattle.methods.specs.Order.{Inserted}

@@ -21,7 +21,7 @@ use Rattle.state.specs.declared.Counts.{Counts}
 use Rattle.state.specs.Answered.{Limits, Emitted, Done, Full, Numbered, At, Over}
 use Rattle.state.proofs.Views.{stack-length, function-count}
 use Rattle.state.proofs.Enclosing.{at-function, symbol-functions}
-use Rattle.state.proofs.Growth.{Lengthens, Lengthened, lengthens-seq, lengthens-emits, lengthens-block}
+use Rattle.definitions.proofs.Growth.{Lengthens, Lengthened, lengthens-seq, lengthens-emits, lengthens-block}
 use Rattle.state.proofs.Within.{within-down, within-function, function-slots}
 use Rattle.state.proofs.Answers.{paced-more}
 use Rattle.lower_emit.specs.Nesting.{begunWith, bodyOf, Moved, Begins}

@@ -19,7 +19,7 @@ use Rattle.state.proofs.Views.{stack-length}
 use Rattle.state.proofs.Emission.{at-seq, stack-grows, stack-after}
 use Rattle.state.proofs.Jumps.{at-loop, at-branch, chain-when, chain-else, chain-done}
 use Rattle.state.proofs.StmtEmission.{at-if, at-for}
-use Rattle.state.proofs.Growth.{Lengthens, lengthens-block}
+use Rattle.definitions.proofs.Growth.{Lengthens, lengthens-block}
 use Rattle.state.proofs.Within.{within-down, within-one, within-branch, within-chain-when, within-chain-else}
 use Rattle.state.proofs.WithinParts.{within-loop-inside, within-loop-jump, within-for-iter, within-for-store}
 use Rattle.state.proofs.Answers.{emits-as, emits-after, done-emits, left-after, left-as, paced-more, paced-none, base-below}

@@ -8,7 +8,9 @@ use Rattle.definitions.specs.Bytes.{refused, accepted}
 use Rattle.definitions.specs.Tables.{Tables}
 use Rattle.definitions.specs.Lower.{compile}
 use Rattle.definitions.specs.Module.{slotsFit, tablesFit, lowerTables}
+use Rattle.definitions.specs.Fits.{fitsBlock}
 use Rattle.definitions.proofs.Accepted.{within, within-fits}
+use Rattle.definitions.proofs.SlotsFit.{slots-fit, targets-asked}
 use Rattle.tree.specs.Settled.{said as treeSaid, settled}
 use Rattle.tree.specs.StmtAt.{TreeAt}
 use Rattle.tree.specs.declared.Checked.{Checked}
@@ -16,9 +18,7 @@ use Rattle.tree.specs.declared.Checked.the-variants.{Refused as No}
 use Rattle.tree.proofs.TreeViews.{answer-refused}
 use Rattle.state.specs.State.{State, tablesOf, stateOf, limitsOf, Within, Sound}
 use Rattle.state.specs.Answered.{Limits, Emitted, Full}
-use Rattle.state.specs.Fits.{fitsBlock}
 use Rattle.state.proofs.Views.{few-slots, within-sound}
-use Rattle.state.proofs.SlotsFit.{slots-fit, targets-asked}
 use Rattle.lower_emit.specs.Numbers.{countsOf, limitsIn}
 use Rattle.lower_emit.proofs.Counts.{answered-full, answered-done}
 use Rattle.compile.specs.Compiled.{treeBlock, Compiles, CompilesTree}

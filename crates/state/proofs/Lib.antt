@@ -5,8 +5,6 @@ pub mod Emission
 pub mod Jumps
 pub mod Enclosing
 pub mod StmtEmission
-pub mod Growth
 pub mod Within
 pub mod WithinParts
-pub mod SlotsFit
 pub mod Answers

@@ -20,9 +20,9 @@ use Rattle.state.specs.Answered.{Limits}
 use Rattle.state.proofs.Emission.{stack-grows, base-kept, at-seq}
 use Rattle.state.proofs.Jumps.{set-length, patch-length, at-shortcut, at-loop, at-branch, at-when, chain-when, chain-else}
 use Rattle.state.proofs.Enclosing.{symbol-functions, at-function, at-closure, at-endClass, at-classObject, at-class, methods-more}
-use Rattle.state.proofs.Growth.{Lengthened, Lengthens, lengthened-none, functions-longer, instructions-longer, slots-fewer, begin-lengthened, setCode-count}
-use Rattle.state.proofs.Growth.{setCode-instructions, lengthens-one, lengthens-seq, branches-lengthened, methods-lengthened, lengthens-endClass, lengthens-loads}
-use Rattle.state.proofs.SlotsFit.{all-snoc, all-setCode}
+use Rattle.definitions.proofs.Growth.{Lengthened, Lengthens, lengthened-none, functions-longer, instructions-longer, slots-fewer, begin-lengthened, setCode-count}
+use Rattle.definitions.proofs.Growth.{setCode-instructions, lengthens-one, lengthens-seq, branches-lengthened, methods-lengthened, lengthens-endClass, lengthens-loads}
+use Rattle.definitions.proofs.SlotsFit.{all-snoc, all-setCode}
 
 -- ---- parts
 

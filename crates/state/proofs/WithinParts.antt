@@ -13,7 +13,7 @@ use Rattle.state.specs.State.{State, emitAt, Within, symbolNumber, withS
 use Rattle.state.specs.Steps.{branch}
 use Rattle.state.specs.Answered.{Limits}
 use Rattle.state.proofs.StmtEmission.{at-for}
-use Rattle.state.proofs.Growth.{Lengthens, lengthens-one, lengthens-seq, lengthens-loop, lengthens-askIter, lengthens-takeIter, lengthens-namedIter, lengthens-block}
+use Rattle.definitions.proofs.Growth.{Lengthens, lengthens-one, lengthens-seq, lengthens-loop, lengthens-askIter, lengthens-takeIter, lengthens-namedIter, lengthens-block}
 use Rattle.state.proofs.Within.{within-down, within-one, within-two, within-loop, within-when}
 
 -- ---- jumps: the parts before the last, with any placeholder i

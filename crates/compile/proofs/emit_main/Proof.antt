@@ -2,7 +2,7 @@ use Rattle.state.specs.State.{namesAt}
 use mathlib.Core.Path.{refl, _∙_}
 use native.Mathlib.Omega.{arith}
 use borrow.Author.Needs.{needs}
-use Rattle.state.proofs.Growth.{lengthens-one}
+use Rattle.definitions.proofs.Growth.{lengthens-one}
 use Rattle.lower_emit.proofs.Packing.{instr-plain}
 use Rattle.lower_emit.proofs.Steps.{room-sound, put-lifts, sound-next, lowers-stopped, lowers-next}
 use Rattle.slots.proofs.Adding.{none-slots}

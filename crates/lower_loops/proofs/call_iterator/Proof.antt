@@ -1,6 +1,6 @@
 use mathlib.Core.Path.{_∙_}
 use native.Mathlib.Omega.{arith}
-use Rattle.state.proofs.Growth.{lengthens-one, lengthens-intern}
+use Rattle.definitions.proofs.Growth.{lengthens-one, lengthens-intern}
 use Rattle.lower_emit.proofs.Packing.{instr-plain, plain-below}
 use Rattle.lower_emit.proofs.Steps.{room-sound, put-lifts, sound-next, lowers-stopped, lowers-next}
 use Rattle.lower_loops.proofs.Calling.{plain-method}

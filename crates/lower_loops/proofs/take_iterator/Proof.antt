@@ -2,7 +2,7 @@ use mathlib.Core.Path.{_∙_}
 use native.Mathlib.Omega.{arith}
 use Rattle.state.specs.Words.{nameAt}
 use Rattle.state.specs.State.{slotNames}
-use Rattle.state.proofs.Growth.{lengthens-store}
+use Rattle.definitions.proofs.Growth.{lengthens-store}
 use Rattle.lower_emit.proofs.Steps.{sound-next, lowers-stopped, lowers-next}
 use Rattle.lower_loops.proofs.Calling.{short-next}
 use Rattle.lower_loops.proofs.Made.{take1}

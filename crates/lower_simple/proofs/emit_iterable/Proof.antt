@@ -1,7 +1,7 @@
 use mathlib.Core.Path.{_∙_}
 use native.Mathlib.Omega.{arith}
 use Rattle.lower_emit.proofs.Steps.{sound-of, sound-next, lowers-stopped, lowers-next}
-use Rattle.state.proofs.Growth.{lengthens-makeIter}
+use Rattle.definitions.proofs.Growth.{lengthens-makeIter}
 use Rattle.lower_simple.proofs.emit_iterable.Statement.{statement}
 use Rattle.lower_simple.proofs.emit_iterable.Tie as tie
 

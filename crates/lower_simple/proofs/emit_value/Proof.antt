@@ -1,6 +1,6 @@
 use mathlib.Core.Path.{_∙_}
 use native.Mathlib.Omega.{arith}
-use Rattle.state.proofs.Growth.{lengthens-one}
+use Rattle.definitions.proofs.Growth.{lengthens-one}
 use Rattle.lower_emit.proofs.Steps.{sound-of, room-sound, put-lifts, sound-next, lowers-stopped, lowers-next}
 use Rattle.lower_simple.proofs.emit_value.Statement.{statement}
 use Rattle.lower_simple.proofs.emit_value.Tie as tie

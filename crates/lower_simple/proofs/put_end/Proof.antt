@@ -1,6 +1,6 @@
 use mathlib.Core.Path.{_∙_}
 use native.Mathlib.Omega.{arith}
-use Rattle.state.proofs.Growth.{lengthens-one}
+use Rattle.definitions.proofs.Growth.{lengthens-one}
 use Rattle.lower_emit.proofs.Steps.{room-put}
 use Rattle.lower_forms.proofs.Sequences.{plain-return, plain-object}
 use Rattle.lower_emit.proofs.Writing.{writes-then, writes-stopped, plain-writes}

@@ -6,7 +6,7 @@ use Rattle.parts.specs.Places.{nameEnd}
 use Rattle.exprs.specs.ExprAt.{exprAt}
 use Rattle.state.specs.Words.{nameAt}
 use Rattle.state.specs.State.{slotNames}
-use Rattle.state.proofs.Growth.{lengthens-one, lengthens-seq, lengthens-expr, lengthens-intern}
+use Rattle.definitions.proofs.Growth.{lengthens-one, lengthens-seq, lengthens-expr, lengthens-intern}
 use Rattle.lower_emit.proofs.Packing.{plain-above}
 use Rattle.lower_forms.specs.Lowerable.{exprCode}
 use Rattle.lower_forms.proofs.ExprArms.{lowerable-at, there-at}

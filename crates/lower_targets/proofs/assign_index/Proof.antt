@@ -5,7 +5,7 @@ use Rattle.definitions.specs.Instruction.{StoreIndex}
 use Rattle.definitions.specs.Tables.{one, _⨟_}
 use Rattle.exprs.specs.ExprAt.{exprAt}
 use Rattle.state.specs.State.{slotNames}
-use Rattle.state.proofs.Growth.{lengthens-one, lengthens-seq, lengthens-expr}
+use Rattle.definitions.proofs.Growth.{lengthens-one, lengthens-seq, lengthens-expr}
 use Rattle.lower_emit.proofs.Packing.{instr-plain, plain-above}
 use Rattle.lower_forms.specs.Lowerable.{exprCode}
 use Rattle.lower_forms.proofs.ExprArms.{lowerable-at}

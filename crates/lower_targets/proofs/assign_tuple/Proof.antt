@@ -3,7 +3,7 @@ use mathlib.Core.Path.{refl, sym, ap, _∙_}
 use native.Mathlib.Omega.{arith}
 use Rattle.definitions.specs.Lower.{unpack}
 use Rattle.state.specs.State.{slotNames}
-use Rattle.state.proofs.Growth.{lengthens-unpack}
+use Rattle.definitions.proofs.Growth.{lengthens-unpack}
 use Rattle.lower_forms.proofs.ExprArms.{lowerable-at}
 use Rattle.lower_forms.specs.Elements.{elementsAt}
 use Rattle.lower_forms.proofs.Unpacking.{tuple-read}

@@ -3,7 +3,7 @@ use native.Mathlib.Omega.{arith}
 use borrow.Author.Needs.{needs}
 use Rattle.exprs.proofs.ExprViews.{expr-inside}
 use Rattle.state.specs.State.{slotNames}
-use Rattle.state.proofs.Growth.{lengthens-store}
+use Rattle.definitions.proofs.Growth.{lengthens-store}
 use Rattle.lower_forms.proofs.ExprArms.{lowerable-at}
 use Rattle.lower_emit.proofs.Steps.{sound-of, room-of, sound-next, lowers-stopped, lowers-next}
 use Rattle.lower_targets.proofs.Assigned.{expr-by, constant-lowers}

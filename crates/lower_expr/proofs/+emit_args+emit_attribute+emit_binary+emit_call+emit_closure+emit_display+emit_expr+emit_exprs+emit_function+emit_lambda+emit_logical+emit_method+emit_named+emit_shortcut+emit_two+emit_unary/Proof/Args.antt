@@ -3,7 +3,7 @@ use mathlib.Core.Path.{refl, ap, _∙_}
 use native.Mathlib.Omega.{arith}
 use Rattle.definitions.specs.Tables.{one}
 use Rattle.parts.specs.Places.{countAt}
-use Rattle.state.proofs.Growth.{lengthens-one}
+use Rattle.definitions.proofs.Growth.{lengthens-one}
 use Rattle.lower_forms.specs.Lowerable.{callInstr}
 use Rattle.lower_forms.proofs.ExprArms.{many-at}
 use Rattle.lower_emit.proofs.Steps.{sound-of, room-sound, put-lifts, sound-next, lowers-then, lowers-stopped}

@@ -5,7 +5,7 @@ use Rattle.definitions.specs.Instruction.{LoadAttr}
 use Rattle.definitions.specs.Tables.{one, intern}
 use Rattle.parts.specs.Places.{nameEnd}
 use Rattle.state.specs.Words.{nameAt}
-use Rattle.state.proofs.Growth.{lengthens-one, lengthens-intern}
+use Rattle.definitions.proofs.Growth.{lengthens-one, lengthens-intern}
 use Rattle.lower_emit.proofs.Packing.{plain-above}
 use Rattle.lower_forms.proofs.ExprArms.{there-at}
 use Rattle.lower_emit.proofs.Steps.{sound-of, done-of, sound-next, lowers-then, lowers-stopped, lowers-by}

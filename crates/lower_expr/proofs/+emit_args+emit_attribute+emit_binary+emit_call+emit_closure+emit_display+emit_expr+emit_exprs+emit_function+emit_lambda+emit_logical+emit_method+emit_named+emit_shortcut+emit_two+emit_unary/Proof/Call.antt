@@ -6,7 +6,7 @@ use Rattle.definitions.specs.Lower.{Callee}
 use Rattle.parts.specs.Places.{countAt}
 use Rattle.exprs.specs.ExprAt.{exprAt, listAt}
 use Rattle.state.specs.State.{slotNames}
-use Rattle.state.proofs.Growth.{lengthens-one, lengthens-seq, lengthens-exprs}
+use Rattle.definitions.proofs.Growth.{lengthens-one, lengthens-seq, lengthens-exprs}
 use Rattle.lower_forms.specs.Lowerable.{exprCode, exprsCode, callInstr}
 use Rattle.lower_forms.proofs.ExprArms.{args-at, arm-inside}
 use Rattle.lower_forms.proofs.CallForms.{call-named, call-method}

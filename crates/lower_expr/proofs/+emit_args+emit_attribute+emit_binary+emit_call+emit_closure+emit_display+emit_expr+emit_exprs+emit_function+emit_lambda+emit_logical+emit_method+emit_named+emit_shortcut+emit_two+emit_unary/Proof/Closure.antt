@@ -8,7 +8,7 @@ use Rattle.definitions.specs.Tables.{one, _⨟_}
 use Rattle.definitions.specs.Lower.{loads}
 use Rattle.state.specs.State.{namesAt, slotsFrom, slotNames}
 use Rattle.state.proofs.Views.{function-count}
-use Rattle.state.proofs.Growth.{lengthens-one, lengthens-seq, lengthens-loads}
+use Rattle.definitions.proofs.Growth.{lengthens-one, lengthens-seq, lengthens-loads}
 use Rattle.lower_leaves.proofs.LambdaState.{closure-state, captured-as, captured-held, captured-few}
 use Rattle.lower_emit.proofs.Steps.{sound-of, room-sound, sound-next, lowers-then, lowers-stopped, lowers-state}
 use Rattle.lower_expr.proofs.emit_closure.Reads as emit-closure

@@ -4,7 +4,7 @@ use native.Mathlib.Omega.{arith}
 use Rattle.definitions.specs.Instruction.{Build}
 use Rattle.definitions.specs.Tables.{one}
 use Rattle.parts.specs.Places.{countAt}
-use Rattle.state.proofs.Growth.{lengthens-one}
+use Rattle.definitions.proofs.Growth.{lengthens-one}
 use Rattle.lower_emit.proofs.Packing.{instr-plain, plain-above}
 use Rattle.opcodes.specs.Codes.{displayOf, heldOf}
 use Rattle.opcodes.proofs.Opcodes.{build-as}

@@ -6,7 +6,7 @@ use lib.ListN.{drop, length-drop}
 use Rattle.definitions.specs.Tables.{exprBody}
 use Rattle.exprs.specs.ExprAt.{exprAt}
 use Rattle.state.specs.State.{slotsFrom, slotNames}
-use Rattle.state.proofs.Growth.{lengthens-expr}
+use Rattle.definitions.proofs.Growth.{lengthens-expr}
 use Rattle.lower_forms.specs.Lowerable.{exprCode}
 use Rattle.lower_emit.proofs.Steps.{sound-of, room-sound, sound-next}
 use Rattle.lower_emit.proofs.Functions.{functions-sound, ending-sound}

@@ -5,7 +5,7 @@ use lib.Dec.{eqb}
 use Rattle.definitions.specs.Lower.{shortcut}
 use Rattle.exprs.specs.ExprAt.{exprAt}
 use Rattle.state.specs.State.{slotNames}
-use Rattle.state.proofs.Growth.{lengthens-expr, lengthens-shortcut}
+use Rattle.definitions.proofs.Growth.{lengthens-expr, lengthens-shortcut}
 use Rattle.lower_forms.specs.Lowerable.{exprCode}
 use Rattle.lower_forms.proofs.ExprArms.{lowerable-at}
 use Rattle.lower_emit.proofs.Steps.{sound-of, done-of, ready-next, lowers-then, lowers-stopped}

@@ -7,7 +7,7 @@ use Rattle.parts.specs.Places.{countAt, nameEnd}
 use Rattle.exprs.specs.ExprAt.{listAt}
 use Rattle.state.specs.Words.{nameAt}
 use Rattle.state.specs.State.{slotNames}
-use Rattle.state.proofs.Growth.{lengthens-one, lengthens-seq, lengthens-exprs, lengthens-intern}
+use Rattle.definitions.proofs.Growth.{lengthens-one, lengthens-seq, lengthens-exprs, lengthens-intern}
 use Rattle.lower_emit.proofs.Packing.{plain-above}
 use Rattle.lower_forms.specs.Lowerable.{exprsCode}
 use Rattle.lower_forms.proofs.ExprArms.{many-at, there-at, counted-at}

@@ -5,7 +5,7 @@ use Rattle.definitions.specs.Tables.{one, _⨟_}
 use Rattle.parts.specs.Places.{countAt}
 use Rattle.exprs.specs.ExprAt.{listAt}
 use Rattle.state.specs.State.{slotNames}
-use Rattle.state.proofs.Growth.{lengthens-one, lengthens-seq, lengthens-exprs}
+use Rattle.definitions.proofs.Growth.{lengthens-one, lengthens-seq, lengthens-exprs}
 use Rattle.lower_forms.specs.Lowerable.{exprsCode, callInstr}
 use Rattle.lower_forms.proofs.ExprArms.{args-at}
 use Rattle.lower_forms.proofs.CallForms.{callee-short}

@@ -4,7 +4,7 @@ use native.Mathlib.Omega.{arith}
 use borrow.Author.Needs.{needs}
 use Rattle.exprs.specs.ExprAt.{exprAt}
 use Rattle.state.specs.State.{slotNames}
-use Rattle.state.proofs.Growth.{lengthens-expr}
+use Rattle.definitions.proofs.Growth.{lengthens-expr}
 use Rattle.lower_forms.specs.Lowerable.{exprCode}
 use Rattle.lower_forms.proofs.ExprArms.{lowerable-at}
 use Rattle.lower_emit.proofs.Steps.{sound-of, room-of, room-sound, done-of, sound-next, ready-next, lowers-by}

@@ -4,7 +4,7 @@ use native.Mathlib.Omega.{arith}
 use Rattle.definitions.specs.Instruction.{instr}
 use Rattle.definitions.specs.Tables.{one, _⨟_}
 use Rattle.state.specs.State.{slotNames}
-use Rattle.state.proofs.Growth.{lengthens-one}
+use Rattle.definitions.proofs.Growth.{lengthens-one}
 use Rattle.lower_emit.proofs.Packing.{instr-plain}
 use Rattle.lower_forms.specs.Lowerable.{exprCode}
 use Rattle.lower_emit.proofs.Steps.{sound-of, room-of, put-lifts, sound-next, ready-next, lowers-then, lowers-stopped, lowers-by}

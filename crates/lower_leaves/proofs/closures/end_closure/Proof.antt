@@ -1,6 +1,6 @@
 use native.Mathlib.Omega.{arith}
 use mathlib.Core.Path.{_≡_, refl, sym, ap, _∙_}
-use Rattle.state.proofs.Growth.{lengthens-one}
+use Rattle.definitions.proofs.Growth.{lengthens-one}
 use Rattle.lower_emit.proofs.Packing.{instr-plain, plain-above}
 use Rattle.lower_leaves.proofs.Lambdas.{closure-over, closure-done}
 use borrow.Author.Needs.{needs}

@@ -2,7 +2,7 @@ use mathlib.Core.Path.{_∙_}
 use native.Mathlib.Omega.{arith}
 use Rattle.definitions.specs.Instruction.{ConstI64, LoadIndex}
 use Rattle.definitions.specs.Tables.{one, _⨟_}
-use Rattle.state.proofs.Growth.{lengthens-one, lengthens-seq}
+use Rattle.definitions.proofs.Growth.{lengthens-one, lengthens-seq}
 use Rattle.lower_emit.proofs.Packing.{plain-below}
 use Rattle.lower_emit.proofs.Steps.{room-put}
 use Rattle.lower_emit.proofs.Writing.{writes-then, writes-stopped, plain-writes}

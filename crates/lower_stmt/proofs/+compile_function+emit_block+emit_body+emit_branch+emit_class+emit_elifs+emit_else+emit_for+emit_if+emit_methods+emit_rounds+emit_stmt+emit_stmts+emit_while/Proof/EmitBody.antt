@@ -2,7 +2,7 @@ use Prim.Native.Nat.{ℕ}
 use mathlib.Core.Path.{_∙_}
 use native.Mathlib.Omega.{arith}
 use Rattle.lower_emit.proofs.Steps.{sound-of, room-sound, sound-next, lowers-stopped, lowers-next}
-use Rattle.state.proofs.Growth.{lengthens-emits}
+use Rattle.definitions.proofs.Growth.{lengthens-emits}
 use Rattle.lower_stmt.proofs.emit_block.Reads as emit-block
 use Rattle.lower_stmt.proofs.emit_body.Reads as emit-body
 use Rattle.lower_stmt.proofs.+compile_function+emit_block+emit_body+emit_branch+emit_class+emit_elifs+emit_else+emit_for+emit_if+emit_methods+emit_rounds+emit_stmt+emit_stmts+emit_while.Lts-emit_body as emit-body-lts

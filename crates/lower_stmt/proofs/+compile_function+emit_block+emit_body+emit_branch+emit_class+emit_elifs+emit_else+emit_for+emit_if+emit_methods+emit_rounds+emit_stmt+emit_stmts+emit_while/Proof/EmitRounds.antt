@@ -4,7 +4,7 @@ use native.Mathlib.Omega.{arith}
 use borrow.Author.Needs.{needs}
 use Rattle.definitions.specs.Instruction.{instr}
 use Rattle.state.specs.State.{slotNames}
-use Rattle.state.proofs.Growth.{lengthens-seq, lengthens-block, lengthens-takeIter}
+use Rattle.definitions.proofs.Growth.{lengthens-seq, lengthens-block, lengthens-takeIter}
 use Rattle.lower_emit.proofs.Steps.{sound-of, room-sound, done-of, sound-next, ready-next, lowers-then, lowers-stopped}
 use Rattle.definitions.specs.Lower.{askIter}
 use Rattle.tree.specs.StmtAt.{blockAt}

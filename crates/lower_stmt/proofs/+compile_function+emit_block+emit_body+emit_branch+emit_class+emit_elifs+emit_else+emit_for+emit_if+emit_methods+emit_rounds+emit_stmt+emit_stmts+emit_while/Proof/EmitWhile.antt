@@ -6,7 +6,7 @@ use Rattle.definitions.specs.Instruction.{instr}
 use Rattle.state.specs.State.{slotNames}
 use Rattle.lower_forms.specs.Lowerable.{exprCode}
 use Rattle.lower_emit.proofs.Steps.{sound-of, room-sound, done-of, sound-next, ready-next}
-use Rattle.state.proofs.Growth.{lengthens-block}
+use Rattle.definitions.proofs.Growth.{lengthens-block}
 use Rattle.lower_emit.proofs.Packing.{instr-jump}
 use Rattle.lower_forms.proofs.Sequences.{block-at}
 use Rattle.lower_stmt.proofs.Sequence.{block-by}

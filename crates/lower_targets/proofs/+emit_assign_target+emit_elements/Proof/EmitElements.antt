@@ -3,7 +3,7 @@ use mathlib.Core.Path.{_∙_}
 use native.Mathlib.Omega.{arith}
 use Rattle.exprs.specs.ExprAt.{exprAt}
 use Rattle.state.specs.State.{slotNames}
-use Rattle.state.proofs.Growth.{lengthens-unpack, lengthens-target}
+use Rattle.definitions.proofs.Growth.{lengthens-unpack, lengthens-target}
 use Rattle.lower_forms.proofs.Unpacking.{elements-more, halves-read, later-read}
 use Rattle.lower_emit.proofs.Steps.{sound-of, room-of, ready-next, lowers-stopped, lowers-state, lowers-nothing, lowers-next}
 use Rattle.lower_targets.proofs.Assigned.{none-state, one-state, halves-state}

@@ -8,34 +8,24 @@ use mathlib.Core.List.{List, [], _∷_, _++_}
 use native.Mathlib.Omega.{arith}
 use lib.ListN.{length}
 use lib.Dec.{leb}
 use Rattle.definitions.specs.Bytes.{Name, Text, accepted, same, position, all}
 use Rattle.definitions.specs.Tree.{Literal, noneL, boolL, intL, floatL, stringL, Display, listD, tupleD, dictD, setD, treeSetD, Expr, lit, var, unary, binary, logical, call, attr}
 use Rattle.definitions.specs.Tree.{display, index, lambda, Exprs, []ᵉ, _∷ᵉ_, count, View, asVar, asAttr, asIndex, asTuple, asOther, view, viewDisplay, Stmt, break, continue, pass}
 use Rattle.definitions.specs.Tree.{expr, return, assign, if, while, for, def, class, Block, []ᵇ, _∷ᵇ_, Branches, done, else, when, Methods, []ᵐ, method}
 use Rattle.definitions.specs.Wellformed.{isTuple, areElements, isTarget, ifAsked, askName, askParams, askMethod, askExpr, askTarget, askAttribute, askStmt, askBlock, askBranches}
 use Rattle.definitions.specs.Wellformed.{askMethods, blockQuestions, firstNo, refusedBy, wellFormed}
 use Rattle.definitions.specs.Instruction
 use Rattle.definitions.specs.Instruction.{Instr, Return}
 use Rattle.definitions.specs.Tables.{Function, Method, Tables, Body, blockBody, exprBody, Out, Emit, emits, one, _⨟_, here, addSymbol, addString, intern, getOrAddString, begin}
 use Rattle.definitions.specs.Tables.{setCode, enclose, function}
 use Rattle.definitions.specs.Slots.{localsBlock, captures}
 use Rattle.definitions.specs.Module.{slotsFit}
 use Rattle.definitions.specs.Lower.{load, store, literal, shortcut, decides, displaySize, Callee, builtinCallee, functionCallee, valueCallee, resolve, callNamed, callBy}
 use Rattle.definitions.specs.Lower.{lambdaName, loads, closure, emitExpr, emitExprs, emitObject, copy, emitTarget, unpack, assignBy, loop, iterName, makeIter, namedIter, askIter}
 use Rattle.definitions.specs.Lower.{takeIter, methodEnd, insertMethod, beginClass, classObject, endClass, classOut, emitStmt, emitBlock, emitBranches, emitMethods, main, noTables}
 use Rattle.definitions.specs.Lower.{compile}
-use Rattle.definitions.proofs.Truth.{left, right}
-use Rattle.state.specs.Fits.{fitsExpr, fitsExprs, fitsTarget, fitsStmt, fitsBlock, fitsBranches, fitsMethods}
-
--- ---- Booleans
-
-and-true : (a : Bool) → (a && true) ≡ a
-and-true true = refl
-and-true false = refl
-
-and-assoc : (a b c : Bool) → (a && b && c) ≡ (a && (b && c))
-and-assoc true b c = refl
-and-assoc false b c = refl
+use Rattle.definitions.proofs.Truth.{left, right, and-true, and-assoc}
+use Rattle.definitions.specs.Fits.{fitsExpr, fitsExprs, fitsTarget, fitsStmt, fitsBlock, fitsBranches, fitsMethods}
 
 -- ---- the test of a part: what it adds to the test of the tables
 
