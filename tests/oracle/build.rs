@@ -57,20 +57,31 @@ fn edited_compiler(root: &Path) -> Result<String, String> {
     let mut text = read("vm/compiler.rs")?;
     captures_by_scope(&mut text, &read("semantic/mod.rs")?)?;
     slots_of_tuples(&mut text)?;
+    iterators_in_slots(&mut text)?;
     Ok(text)
 }
 
 /// Puts the new text in the place of the old, which has to be there once.
 fn replace(text: &mut String, request: &str, old: &str, new: &str) -> Result<(), String> {
-    match text.matches(old).count() {
-        1 => {
-            *text = text.replacen(old, new, 1);
-            Ok(())
-        }
-        found => Err(format!(
-            "the edit of vm/compiler.rs for {request} doesn't apply: `{old}` is there {found} times, not once"
-        )),
+    replace_all(text, request, 1, old, new)
+}
+
+/// The same of an old text that has to be there so many times.
+fn replace_all(
+    text: &mut String,
+    request: &str,
+    times: usize,
+    old: &str,
+    new: &str,
+) -> Result<(), String> {
+    let found = text.matches(old).count();
+    if found != times {
+        return Err(format!(
+            "the edit of vm/compiler.rs for {request} doesn't apply: `{old}` is there {found} times, not {times}"
+        ));
     }
+    *text = text.replace(old, new);
+    Ok(())
 }
 
 /// R-9: the references of a lambda's body are gathered by the function of
@@ -124,6 +135,27 @@ fn slots_of_tuples(compiler: &mut String) -> Result<(), String> {
     let variable = "if let Expr::Variable(name) = &target.0 {";
     let call = format!("collect_locals_from_target(&target.0, seen);\n{variable}");
     replace(compiler, "R-1", variable, &call)
+}
+
+/// R-7: a loop of a def or method keeps its iterator in the slot after those
+/// that its function has so far; one of main in the global, as before.
+fn iterators_in_slots(compiler: &mut String) -> Result<(), String> {
+    let symbol = "= self.intern(&iter_temp_name);";
+    let kept = "= if locals.is_some() {
+        fun.num_locals += 1;
+        let slot = fun.num_locals - 1;
+        [I::StoreLocal(slot), I::LoadLocal(slot)]
+    } else {
+        let symbol = self.intern(&iter_temp_name);
+        [I::StoreGlobal(symbol), I::LoadGlobal(symbol)]
+    };";
+    replace(compiler, "R-7", symbol, kept)?;
+    for (times, place, op) in [(1, 0, "StoreGlobal"), (2, 1, "LoadGlobal")] {
+        let by_symbol = format!("I::{op}(iter_temp_sym)");
+        let as_kept = format!("iter_temp_sym[{place}].clone()");
+        replace_all(compiler, "R-7", times, &by_symbol, &as_kept)?;
+    }
+    Ok(())
 }
 
 /// Module declarations in the shape that the source's own paths expect.

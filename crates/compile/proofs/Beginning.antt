@@ -4,6 +4,7 @@ use mathlib.Core.Path.{_≡_, refl, sym, ap, _∙_, subst}
 use mathlib.Core.List.{List, []}
 use native.Mathlib.Omega.{arith}
 use lib.ListN.{length}
+use Rattle.definitions.specs.Slots.{namesOnly}
 use Rattle.definitions.specs.Lower.{main, noTables}
 use Rattle.state.specs.Words.{region, instrsOf}
 use Rattle.state.specs.State.{State, tablesOf, stateOf, functionsOf, classesOf, withTables, symbolNumber, withSymbol, Within, Sound, Left, Numbers, total, noEvery}
@@ -14,7 +15,7 @@ use Rattle.state.proofs.Views.{stack-length}
 use Rattle.state.proofs.Enclosing.{symbol-functions}
 use Rattle.state.proofs.Within.{within-begun}
 use Rattle.lower_emit.specs.Nesting.{begunWith, Begins}
-use Rattle.lower_emit.proofs.Begun.{begun-names}
+use Rattle.lower_emit.proofs.Begun.{begun-frame}
 use Rattle.state.specs.Index.{noneCovered}
 use Rattle.names.specs.Made.{madeName}
 use Rattle.names.specs.declared.Made.the-variants.{Main}
@@ -67,7 +68,7 @@ module _ (tree made₀ code tables₀ made tables : List ℕ) (l : Limits) (r : 
 
   begin-full : (tables′ : List ℕ) → r ≡ Over → Begins Over tree made code tables′ noCounts l 0 mainBegun
   unfolding Begins mainBegun
-  begin-full tables′ e w = numbers-over tree made code tables noCounts l _ _ r e named (within-begun (symbolNumber main noTables) 0 [] mainNamed w)
+  begin-full tables′ e w = numbers-over tree made code tables noCounts l _ _ r e named (within-begun (symbolNumber main noTables) 0 (namesOnly []) mainNamed w)
 
   module _ (symbol : ℕ) (k : Counts) (e : r ≡ At symbol k) where
     got : (symbol ≡ symbolNumber main noTables) × Left k tree made code tables noCounts l mainNamed
@@ -88,7 +89,7 @@ module _ (tree made₀ code tables₀ made tables : List ℕ) (l : Limits) (r : 
     unfolding mainBegun
     begun-is =
         (λ i. begunWith (got .0 i) 0 0 (got .1 .state i))
-        ∙ begun-names (symbolNumber main noTables) 0 0 [] mainNamed refl
+        ∙ begun-frame (symbolNumber main noTables) 0 0 (namesOnly []) mainNamed refl
 
     begin-done : (q : Numbered) (tables′ : List ℕ)
         → Begins q tree made code tables′ k l (length (stateOf tree made code tables k .tables .functions)) (begunWith symbol 0 0 (stateOf tree made code tables k))

@@ -7,6 +7,7 @@ use native.Mathlib.Omega.{arith}
 use lib.ListN.{length, getD, length-append}
 use Rattle.definitions.specs.Tree.{Block}
 use Rattle.definitions.specs.Instruction.{Return}
+use Rattle.definitions.specs.Slots.{inGlobals, namesOnly}
 use Rattle.definitions.specs.Tables.{Emit, blockBody, begin, function}
 use Rattle.definitions.specs.Lower.{compile, main, noTables}
 use Rattle.definitions.specs.Wellformed.{blockQuestions}
@@ -37,18 +38,18 @@ block-lowerable tree T = record { reads = T .block; loop = false; args = T .yes 
 -- ---- the whole
 
 main-lengthens : (b : Block) → Lengthens (mainCode b)
-main-lengthens b = lengthens-seq (lengthens-block [] b) (lengthens-one Return)
+main-lengthens b = lengthens-seq (lengthens-block [] inGlobals b) (lengthens-one Return)
 
 -- the tables, with nothing left on the stack
 abbrev whole : Block → State
 whole b = record { stack = []; tables = compile b .tables }
 
 abbrev mainFunction : Block → Emit
-mainFunction b = function main 0 [] (blockBody b (Return ∷ [])) (mainCode b)
+mainFunction b = function main 0 (namesOnly []) (blockBody b (Return ∷ [])) (mainCode b)
 
 at-main : (b : Block) → emitAt 0 (mainFunction b) nothing ≡ ended 0 0 (emitAt 0 (mainCode b) mainBegun)
 unfolding mainBegun mainNamed noTables
-at-main b = at-function 0 main 0 [] (blockBody b (Return ∷ [])) (mainCode b) nothing mainNamed refl
+at-main b = at-function 0 main 0 (namesOnly []) (blockBody b (Return ∷ [])) (mainCode b) nothing mainNamed refl
 
 whole-ended : (b : Block) → whole b ≡ ended 0 0 (emitAt 0 (mainCode b) mainBegun)
 unfolding ended
@@ -57,7 +58,7 @@ whole-ended b = state-eq _ _ refl (at-compile b ∙ ap (λ (s : State). s .table
 whole-within : (l : Limits) (b : Block) → Within l (whole b) → Within l (emitAt 0 (mainCode b) mainBegun)
 unfolding mainBegun mainNamed
 whole-within l b w =
-    within-function 0 main 0 [] (blockBody b (Return ∷ [])) nothing mainNamed refl (main-lengthens b) (subst (Within l) (whole-ended b ∙ sym (at-main b)) w)
+    within-function 0 main 0 (namesOnly []) (blockBody b (Return ∷ [])) nothing mainNamed refl (main-lengthens b) (subst (Within l) (whole-ended b ∙ sym (at-main b)) w)
 
 module _ (tree made₁ code₁ tables₁ : List ℕ) (l : Limits) (r : Numbered) (b : Block) (h : Begins r tree made₁ code₁ tables₁ noCounts l 0 mainBegun) where
   pub compile-over : (made code tables : List ℕ) → r ≡ Over → Compiles Full tree made code tables l (compile b .tables)
@@ -115,7 +116,7 @@ module _ (tree made₁ code₁ tables₁ : List ℕ) (l : Limits) (r : Numbered)
         unfolding mainBegun
         main-empty =
             ap (λ (i : ℕ). bodyOf (stateOf tree made code tables m .tables .functions) i) (begins .0 ∙ sym none-before)
-            ∙ begun-body (symbolNumber main noTables) 0 [] mainNamed (stateOf tree made code tables m .tables .functions) (longer .new)
+            ∙ begun-body (symbolNumber main noTables) 0 (namesOnly []) mainNamed (stateOf tree made code tables m .tables .functions) (longer .new)
             (ap (λ (s : State). s .tables .functions) after ∙ longer .functions)
 
         pub compile-done : (code′ tables′ : List ℕ) (d : Counts) → Moved 0 d tree made code′ tables′ m l (ended (m .base) f (stateOf tree made code tables m))

@@ -5,6 +5,7 @@ use mathlib.Core.List.{List, []}
 use lib.ListN.{length}
 use Rattle.definitions.specs.Tree.{Block}
 use Rattle.definitions.specs.Instruction.{Return}
+use Rattle.definitions.specs.Slots.{inGlobals, namesOnly}
 use Rattle.definitions.specs.Tables.{Tables, Emit, one, _⨟_}
 use Rattle.definitions.specs.Lower.{emitBlock, main, noTables}
 use Rattle.tree.specs.StmtAt.{blockAt}
@@ -58,11 +59,11 @@ unfoldable pub mainNamed : State
 mainNamed = withTables (withSymbol main noTables) nothing
 
 unfoldable pub mainBegun : State
-mainBegun = begun (symbolNumber main noTables) 0 [] mainNamed
+mainBegun = begun (symbolNumber main noTables) 0 (namesOnly []) mainNamed
 
--- its code
+-- its code: no slots, and iterators in globals
 abbrev pub mainCode : Block → Emit
-mainCode b = emitBlock [] b ⨟ one Return
+mainCode b = emitBlock [] inGlobals b ⨟ one Return
 
 -- the slices hold the tables; or the tables are over the limits, or have a function of more than 255 slots
 unfoldable pub Compiles : Emitted → List ℕ → List ℕ → List ℕ → List ℕ → Limits → Tables → Type 0

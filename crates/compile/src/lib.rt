@@ -1,4 +1,4 @@
-// The tables of an accepted tree: function 0, `__main__`, is the tree's block, with no slots.
+// The tables of an accepted tree: function 0, `__main__`, is the tree's block, with no slots; its loops keep their iterators in globals.
 use lower_emit::begin_function;
 use lower_emit::end_function;
 use lower_emit::ops::RETURN;
@@ -7,6 +7,7 @@ use lower_emit::places::CLASSES;
 use lower_emit::places::CONSTANTS;
 use lower_emit::places::DONE;
 use lower_emit::places::FUNCTIONS;
+use lower_emit::places::IN_GLOBALS;
 use lower_emit::places::MADE;
 use lower_emit::places::METHODS;
 use lower_emit::places::OPEN;
@@ -58,7 +59,8 @@ fn emit_main(
         (now (tree .entry)) (now (made .entry)) (now (code .entry)) (now (tables .entry)) (now (k .entry)) (now (l .entry)) (now (made .exit)) (now (code .exit)) (now (tables .exit)) (now (k .exit)) ⌝ }
 {
     let none = [0u32; 2048];
-    let next = emit_block(tree, 5, 32, &none, made, code, tables, k, l);
+    let mut it = IN_GLOBALS;
+    let next = emit_block(tree, 5, 32, &none, made, code, tables, k, l, &mut it);
     if next == 0 {
         return 0;
     }

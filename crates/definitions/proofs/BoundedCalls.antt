@@ -10,6 +10,7 @@ use Rattle.definitions.specs.Tree.{View, asVar, asAttr, asIndex, asTuple
 use Rattle.definitions.specs.Wellformed.{isName}
 use Rattle.definitions.specs.Instruction
 use Rattle.definitions.specs.Instruction.{Return}
+use Rattle.definitions.specs.Slots.{namesOnly}
 use Rattle.definitions.specs.Tables.{Tables, Body, Emit, emits, one, _⨟_, function}
 use Rattle.definitions.specs.Lower.{Callee, builtinCallee, functionCallee, valueCallee, resolve, callNamed, callBy, loads, closure, lambdaName}
 use Rattle.definitions.specs.Open.{allInstruction}
@@ -70,8 +71,8 @@ unfolding closure
 fits-closure {n} e slots m ps cs body h held E = record {
   at = λ p t v.
       let k = length (t .functions) in
-      let g = function (lambdaName k) m (ps ++ cs) body (e ⨟ one Return) in
-      let F = function-in {s = length slots} (lambdaName k) m (ps ++ cs) body p t v (λ c. lambda-short k c) h E in
+      let g = function (lambdaName k) m (namesOnly (ps ++ cs)) body (e ⨟ one Return) in
+      let F = function-in {s = length slots} (lambdaName k) m (namesOnly (ps ++ cs)) body p t v (λ c. lambda-short k c) h E in
       let q = p + length (g p t .code) in
       let u = g p t .tables in
       let L = fits-loads slots held .at q u longer-none in

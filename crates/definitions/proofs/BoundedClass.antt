@@ -9,6 +9,7 @@ use lib.ListN.{length, length-set, set}
 use Rattle.definitions.specs.Bytes.{Name, position, same}
 use Rattle.definitions.specs.Tree.{Attribute, class, Methods}
 use Rattle.definitions.specs.Wellformed.{isName}
+use Rattle.definitions.specs.Slots.{Keeping}
 use Rattle.definitions.specs.Tables.{Function, Method, Class, Tables, Out, withClasses, addSymbol, addConstant, intern}
 use Rattle.definitions.specs.Lower.{beginClass, classObject, endClass, classOut, emitStmt, emitMethods}
 use Rattle.definitions.specs.Reader.{rising}
@@ -120,16 +121,16 @@ begin-count : (x : Name) (t : Tables) → (length (beginClass x t .classes) ≡ 
 unfolding beginClass
 begin-count x t = (length-snoc (t .classes) _, refl, refl)
 
-pub fits-class : {m n : ℕ} {b : Tables} (slots : List Name) (x : Name) (ms : Methods) (vs : List Attribute) → isName x ≡ true → m ≤ n → FitsMethods m b ms → Fits n (length slots) b (emitStmt slots (class x ms vs))
+pub fits-class : {m n : ℕ} {b : Tables} (s : ℕ) (slots : List Name) (keep : Keeping) (x : Name) (ms : Methods) (vs : List Attribute) → isName x ≡ true → m ≤ n → FitsMethods m b ms → Fits n s b (emitStmt slots keep (class x ms vs))
 unfolding emitStmt classOut rising
-fits-class slots x ms vs h k M = record {
+fits-class s slots keep x ms vs h k M = record {
   at = λ p t v.
       let c = length (t .classes) in
       let u = beginClass x t in
       let o = emitMethods ms [] u in
       let B = begin-count x t in
       let N = M .at [] u (longer-more v (begin-longer x t)) in
-      let E = end-class x c (o .methods) p (o .tables) (length slots) (omega (arith, B .0, N .longer .sizes .classes)) in
+      let E = end-class x c (o .methods) p (o .tables) s (omega (arith, B .0, N .longer .sizes .classes)) in
       record {
         longer = record {
           sizes = omega (arith, begin-longer x t .sizes, N .longer .sizes, E .sizes);
@@ -138,8 +139,8 @@ fits-class slots x ms vs h k M = record {
           balance = omega (arith, N .longer .balance, E .constants, E .classes, B .0, ap length (B .1));
         };
         weight = omega (arith, N .weight, E .weight, begin-weight x t);
-        keeps = λ s r.
-            let S : Small (o .tables) 0 = record { place = omega arith; count = omega (arith, s .count, ap length (E .new)); lean = subst (λ (fs : List Function). Every Lean fs) (E .new) (s .lean) } in
+        keeps = λ z r.
+            let S : Small (o .tables) 0 = record { place = omega arith; count = omega (arith, z .count, ap length (E .new)); lean = subst (λ (fs : List Function). Every Lean fs) (E .new) (z .lean) } in
             let K = N .keeps S (begin-trim x t h r) noEvery refl in
             let L = E .keeps h (K .named) (K .rises) (K .trim) in
             record { trim = L .trim; code = L .code };

@@ -8,7 +8,7 @@ use lib.ListN.{length}
 use Rattle.definitions.specs.Bytes.{Name, same, below}
 use Rattle.definitions.specs.Tree.{Block, Methods, []ᵐ, method}
 use Rattle.definitions.specs.Wellformed.{isName, init, askMethod}
-use Rattle.definitions.specs.Slots.{localsBlock}
+use Rattle.definitions.specs.Slots.{withLoops}
 use Rattle.definitions.specs.Instruction.{Instr, Return, LoadLocal}
 use Rattle.definitions.specs.Tables.{Method, Tables, blockBody, emits, _⨟_, function}
 use Rattle.definitions.specs.Lower.{methodEnd, insertMethod, Members, emitBlock, emitMethods}
@@ -75,14 +75,14 @@ fits-end {b} {s} x h = go (same x init) h
     go true h = fits-emits (every (single {op = 9} {a = 0} refl (omega (arith, h refl))) (every (bare refl refl) noEvery))
     go false h = fits-one (bare refl refl)
 
-pub fits-method : {i j n : ℕ} {b : Tables} (x : Name) (ps : List Name) (d : Block) (m : Methods) → isName x ≡ true → length ps ≤ 255 → askMethod 12 x ps ≡ true → 3 + length x + (i + j) ≤ n → Fits i (length (localsBlock d ps)) b (emitBlock (localsBlock d ps) d) → FitsMethods j b m → FitsMethods n b (method x ps d m)
+pub fits-method : {i j n : ℕ} {b : Tables} (x : Name) (ps : List Name) (d : Block) (m : Methods) → isName x ≡ true → length ps ≤ 255 → askMethod 12 x ps ≡ true → 3 + length x + (i + j) ≤ n → Fits i (withLoops ps d .locals) b (emitBlock (withLoops ps d .names) (withLoops ps d .keep) d) → FitsMethods j b m → FitsMethods n b (method x ps d m)
 unfolding emitMethods
 fits-method x ps d m h few a k D M = record {
   at = λ ms t u.
-      let inner = localsBlock d ps in
+      let inner = withLoops ps d in
       let l = length (t .functions) in
-      let o = function x (length ps) inner (blockBody d (methodEnd x)) (emitBlock inner d ⨟ emits (methodEnd x)) 0 t in
-      let F = function-in {s = 0} x (length ps) inner (blockBody d (methodEnd x)) 0 t u (λ c. name-short x h) few (fits-seq D (fits-end x (init-slot x ps d a))) in
+      let o = function x (length ps) inner (blockBody d (methodEnd x)) (emitBlock (inner .names) (inner .keep) d ⨟ emits (methodEnd x)) 0 t in
+      let F = function-in {s = 0} x (length ps) inner (blockBody d (methodEnd x)) 0 t u (λ c. name-short x h) few (fits-seq D (fits-end x (λ e. omega (arith, init-slot x ps d a e)))) in
       let N = M .at (insertMethod x l ms) (o .tables) (longer-more u (F .step .longer)) in
       record {
         longer = longer-more (F .step .longer) (N .longer);

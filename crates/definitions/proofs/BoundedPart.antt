@@ -6,7 +6,7 @@ use lib.ListN.{length, length-append}
 use Rattle.definitions.specs.Instruction.{Instr}
 use Rattle.definitions.specs.Tables.{Tables, Out, Emit, emits, one, _⨟_}
 use Rattle.definitions.proofs.Every.{Every, noEvery, every, every-append}
-use Rattle.definitions.proofs.Bounds.{Sound, Small, Trim, burden}
+use Rattle.definitions.proofs.Bounds.{Sound, sound-wider, Small, Trim, burden}
 use Rattle.definitions.proofs.LongerTables.{Longer, longer-none, longer-more, code-up, small-down}
 
 -- the tables after a part, and its code, are in bounds
@@ -30,6 +30,18 @@ step-within S h = record { longer = S .longer; weight = omega arith; keeps = S .
 
 pub fits-within : {m n s : ℕ} {b : Tables} {e : Emit} → Fits m s b e → m ≤ n → Fits n s b e
 fits-within E h = record { at = λ p t u. step-within (E .at p t u) h }
+
+-- in a function of more slots
+code-wider : {t : Tables} {s r : ℕ} {is : List Instr} → s ≤ r → Every (Sound t s) is → Every (Sound t r) is
+code-wider h noEvery = noEvery
+code-wider h (every x xs) = every (sound-wider h x) (code-wider h xs)
+
+pub fits-wider : {n s r : ℕ} {b : Tables} {e : Emit} → s ≤ r → Fits n s b e → Fits n r b e
+fits-wider h E = record {
+  at = λ p t u.
+      let X = E .at p t u in
+      record { longer = X .longer; weight = X .weight; keeps = λ m k. let K = X .keeps m k in record { trim = K .trim; code = code-wider h (K .code) } };
+}
 
 -- from later tables on
 pub fits-later : {n s : ℕ} {b c : Tables} {e : Emit} → Longer b c → Fits n s b e → Fits n s c e

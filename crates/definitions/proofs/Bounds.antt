@@ -38,6 +38,19 @@ pub record Sound (t : Tables) (n : ℕ) (i : Instr) : Type 0 where
   pub first : Operand (numbersOf (i .op)) t n (firstWidth (i .op)) (i .a)
   pub second : i .b < 256 ^ secondWidth (i .op)
 
+-- in a function of more slots
+operand-wider : (k : Numbers) (t : Tables) (m n w a : ℕ) → m ≤ n → Operand k t m w a → Operand k t n w a
+operand-wider nothing t m n w a h o = o
+operand-wider aString t m n w a h o = o
+operand-wider aConstant t m n w a h o = o
+operand-wider aSlot t m n w a h o = omega arith
+operand-wider aSymbol t m n w a h o = o
+operand-wider aFunction t m n w a h o = o
+operand-wider aBuiltin t m n w a h o = o
+
+pub sound-wider : {t : Tables} {m n : ℕ} {i : Instr} → m ≤ n → Sound t m i → Sound t n i
+sound-wider {t} {m} {n} {i} h S = record { op = S .op; first = operand-wider (numbersOf (i .op)) t m n (firstWidth (i .op)) (i .a) h (S .first); second = S .second }
+
 -- an instruction without operands, with one, and with a count of arguments for the second one
 pub bare : {t : Tables} {n op : ℕ} → leb op 47 ≡ true → numbersOf op ≡ nothing → Sound t n (instr op 0 0)
 bare {t} {n} {op} e h = record { op = e; first = subst (λ (c : Numbers). Operand c t n (firstWidth op) 0) (sym h) (one-le-pow _ 256 (omega arith)); second = one-le-pow _ 256 (omega arith) }

@@ -9,10 +9,11 @@ use lib.ListN.{replicate}
 use Rattle.definitions.specs.Bytes.{refused, accepted, all, ascii, concat, listBytes}
 use Rattle.definitions.specs.Module.{Limits, console, limitsBy, nameBytes, moduleBytes, lowerTables}
 use Rattle.definitions.specs.Reader.{readModule}
-use Rattle.definitions.specs.Samples.{Shown, Sample, sample, showsAnswer, holds, passes, refusal, functionIs, tree, named, variable, noneE, exprS, passS, forS, defS, defWith, returnS, classS, methodOf, assignS, listE, tupleE, lambdaE}
+use Rattle.definitions.specs.Samples.{Shown, Sample, sample, showsAnswer, holds, passes, refusal, functionIs, symbolsAre}
+use Rattle.definitions.specs.Samples.{tree, named, variable, noneE, exprS, passS, ifS, forS, defS, defWith, returnS, classS, methodOf, assignS, listE, tupleE, lambdaE, callWith}
 use Rattle.definitions.specs.Tree.{listD}
-use Rattle.definitions.specs.Instruction.{LoadLocal, LoadGlobal, MakeClosure, Build, Return, ConstI64, ConstF64, Dup, LoadIndex, StoreLocal, minus}
-use Rattle.definitions.specs.Instruction.{Instr, Jump, JumpIfFalse, JumpIfTrue, Call, CallBuiltin, CallValue, CallMethod}
+use Rattle.definitions.specs.Instruction.{Instr, Pop, LoadLocal, LoadGlobal, MakeClosure, Build, Return, ConstI64, ConstF64, Dup, LoadIndex, StoreLocal, minus}
+use Rattle.definitions.specs.Instruction.{Jump, JumpIfFalse, JumpIfTrue, Call, CallBuiltin, CallValue, CallMethod}
 use Rattle.definitions.specs.Tables.{Function, Tables}
 use Rattle.definitions.specs.Listing.{codeLine, pageLine, listing}
 use Rattle.definitions.specs.Sheet.{sheet}
@@ -202,3 +203,59 @@ r4-holds : (
     ) ≡ true
 unfolding everything shownBy defs nones
 r4-holds = refl
+
+-- R-7: a loop over the parameter `r`, in its place in a tree and in code: its iterator in the slot k, its variable in v, nothing inside
+unfoldable loopIn : String → List (List ℕ) → List ℕ
+loopIn x b = forS x (variable "r") b
+
+unfoldable loopCode : ℕ → ℕ → List Instr
+loopCode k v =
+    LoadLocal 0 ∷ CallMethod 2 0 ∷ StoreLocal k ∷ LoadLocal k ∷ CallMethod 3 0 ∷ JumpIfFalse 4 ∷ LoadLocal k ∷ CallMethod 4 0 ∷ StoreLocal v ∷ Jump (minus 7) ∷ []
+
+-- two helpers with loops at the same place
+unfoldable helpers : List ℕ
+helpers = tree (defWith "f" ("r" ∷ []) (loopIn "i" (passS ∷ []) ∷ []) ∷ defWith "g" ("r" ∷ []) (loopIn "i" [] ∷ exprS (callWith "f" 0) ∷ []) ∷ [])
+
+-- a loop in a loop and one after it, with a lambda, which sees the names alone
+unfoldable nestedLoops : List ℕ
+nestedLoops = tree (defWith "f" ("r" ∷ []) (loopIn "i" (loopIn "j" [] ∷ []) ∷ loopIn "i" (returnS (lambdaE [] (variable "j")) ∷ []) ∷ []) ∷ [])
+
+-- loops in different branches, and one after them
+unfoldable branchLoops : List ℕ
+branchLoops = tree (defWith "f" ("r" ∷ []) (ifS (variable "r") (loopIn "i" [] ∷ []) (variable "r") (loopIn "j" [] ∷ []) ∷ loopIn "i" [] ∷ []) ∷ [])
+
+-- a loop in a method, with a def in it that has a loop of its own
+unfoldable methodLoops : List ℕ
+methodLoops = tree (classS "C" (methodOf "m" ("r" ∷ []) (loopIn "i" (defWith "g" ("r" ∷ []) (loopIn "j" [] ∷ []) ∷ []) ∷ []) ∷ []) ∷ [])
+
+unfoldable r7 : List Sample
+r7 =
+    sample helpers (functionIs 1 "f" 1 3 (loopCode 2 1 ++ Return ∷ []))
+    ∷ sample helpers (functionIs 2 "g" 1 3 (loopCode 2 1 ++ Call 1 0 ∷ Pop ∷ Return ∷ []))
+    ∷ sample helpers (symbolsAre (map ascii ("__main__" ∷ "f" ∷ "__iter__" ∷ "__has_next__" ∷ "__next__" ∷ "g" ∷ [])))
+    ∷ sample nestedLoops
+    (functionIs 1 "f" 1 6
+    (LoadLocal 0 ∷ CallMethod 2 0 ∷ StoreLocal 3 ∷ LoadLocal 3 ∷ CallMethod 3 0 ∷ JumpIfFalse 14 ∷ LoadLocal 3 ∷ CallMethod 4 0 ∷ StoreLocal 1 ∷ loopCode 4 2 ++ Jump (minus 17)
+    ∷ LoadLocal 0 ∷ CallMethod 2 0 ∷ StoreLocal 5 ∷ LoadLocal 5 ∷ CallMethod 3 0 ∷ JumpIfFalse 7 ∷ LoadLocal 5 ∷ CallMethod 4 0 ∷ StoreLocal 1 ∷ LoadLocal 2 ∷ MakeClosure 2 1 ∷ Return ∷ Jump (minus 10)
+    ∷ Return ∷ []))
+    ∷ sample nestedLoops (functionIs 2 "<lambda#2>" 0 1 (LoadLocal 0 ∷ Return ∷ []))
+    ∷ sample branchLoops
+    (functionIs 1 "f" 1 6
+    (LoadLocal 0 ∷ JumpIfFalse 11 ∷ loopCode 3 1 ++ Jump 12 ∷ LoadLocal 0 ∷ JumpIfFalse 11 ∷ loopCode 4 2 ++ Jump 0 ∷ loopCode 5 1 ++ Return ∷ []))
+    ∷ sample methodLoops (functionIs 1 "m" 1 4 (loopCode 3 1 ++ Return ∷ []))
+    ∷ sample methodLoops (functionIs 2 "g" 1 3 (loopCode 2 1 ++ Return ∷ []))
+    -- main's are in globals
+    ∷ sample (tree (loopIn "i" (passS ∷ []) ∷ [])) (symbolsAre (map ascii ("__main__" ∷ "r" ∷ "__iter__" ∷ "__for_iter_2__" ∷ "__has_next__" ∷ "__next__" ∷ "i" ∷ [])))
+    ∷ []
+
+r7-holds : all holds r7 ≡ true
+unfolding everything r7 loopIn loopCode helpers nestedLoops branchLoops methodLoops
+r7-holds = refl
+
+-- 14 counts them: a parameter, the loop variable and 253 loops make 255 slots; one loop more is too many
+unfoldable loopsIn : ℕ → List ℕ
+loopsIn n = tree (defWith "f" ("r" ∷ []) (replicate n (loopIn "i" [])) ∷ [])
+
+r7-slots : all holds (sample (loopsIn 253) passes ∷ sample (loopsIn 254) (refusal 14) ∷ []) ≡ true
+unfolding everything loopIn loopsIn
+r7-slots = refl

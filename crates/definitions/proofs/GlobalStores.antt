@@ -1,4 +1,4 @@
--- What lowered defs and methods store in globals: their own classes and the iterators of their loops, nothing else.
+-- What lowered defs and methods store in globals: their own classes, nothing else.
 use mathlib.Core.Path.{_≡_, refl, sym, ap, _∙_, subst}
 use mathlib.Core.Bool.{Bool, true, false}
 use mathlib.Core.Option.{Option, none, some}
@@ -16,16 +16,17 @@ use Rattle.definitions.specs.Tree.{View, asVar, asAttr, asIndex, asTuple
 use Rattle.definitions.specs.Tree.{Stmt, break, continue, pass, expr, return, assign, if, while, for, def, class}
 use Rattle.definitions.specs.Tree.{Block, []ᵇ, _∷ᵇ_, Branches, done, else, when, Methods, []ᵐ, method}
 use Rattle.definitions.specs.Wellformed.{init, isTuple}
-use Rattle.definitions.specs.Slots.{localsBlock, captures}
+use Rattle.definitions.specs.Slots.{localsBlock, captures, Keeping, inGlobals, inSlots, past, Frame, namesOnly, withLoops, loopsStmt, loopsBlock}
 use Rattle.definitions.specs.Instruction
 use Rattle.definitions.specs.Instruction.{Instr, Return, LoadLocal, StoreGlobal, unaryCode, operatorCode, binaryCode, buildCode}
 use Rattle.definitions.specs.Tables.{Method, Tables, blockBody, exprBody, Source, Out, Emit, addSymbol, addString, emits, one, _⨟_, here, intern, getOrAddString, begin, function, enclose}
 use Rattle.definitions.specs.Lower
 use Rattle.definitions.specs.Lower.{Callee, builtinCallee, functionCallee, valueCallee, resolve, load, store, literal, decides, jumpOn, shortcut, callNamed, callBy, loads, closure, emitExpr, emitExprs, emitObject}
-use Rattle.definitions.specs.Lower.{copy, emitTarget, unpack, assignBy, patched, patch, loop, iterName, makeIter, namedIter, askIter, takeIter, methodEnd, insertMethod, beginClass, classObject, endClass, classOut}
+use Rattle.definitions.specs.Lower.{copy, emitTarget, unpack, assignBy, patched, patch, loop, Keeper, global, local, iterName, makeIter, namedIter, keptIter, storeIter, loadIter, askIter, takeIter}
+use Rattle.definitions.specs.Lower.{methodEnd, insertMethod, beginClass, classObject, endClass, classOut}
 use Rattle.definitions.specs.Lower.{emitStmt, emitBlock, emitBranches, emitMethods, emitBody, compile}
 use Rattle.definitions.specs.Statements.{assigned, assignedAll, boundStmt, boundBlock, boundBranches, OwnStmt, itself, ofIf, ofWhile, ofFor, OwnBlock, atFirst, atLater, OwnBranches, ofElse, ofThen, ofRest}
-use Rattle.definitions.specs.Statements.{Global, ofClass, ofLoop, GlobalStores}
+use Rattle.definitions.specs.Statements.{Global, ofClass, GlobalStores}
 use Rattle.definitions.proofs.Every.{Every, noEvery, every, every-append, every-map}
 use Rattle.definitions.proofs.MethodOrder.{same-eq}
 use Rattle.definitions.proofs.Captured.{or-true, same-refl, member-cons, member-append}
@@ -108,7 +109,7 @@ okay-of : {ys : List Name} {is : List Instr} (b c : Block) → b ≡ c → Okay 
 okay-of {ys} {is} b c z o = subst (λ (w : Block). Okay (Global w) ys is) z o
 
 record SoundSource (xs : List Name) (s : Source) : Type 0 where
-  at : (b : Block) (end : List Instr) → s .body ≡ blockBody b end → Okay (Global b) xs (emitBody (s .slots) (s .body) 0 (s .start) .code)
+  at : (b : Block) (end : List Instr) → s .body ≡ blockBody b end → Okay (Global b) xs (emitBody (s .frame) (s .body) 0 (s .start) .code)
 
 sound-more : {xs : List Name} (new : List Name) (s : Source) → SoundSource xs s → SoundSource (xs ++ new) s
 sound-more new s S = record { at = λ b end q. okay-more new (S .at b end q) }
@@ -211,11 +212,12 @@ module _ {ok : Name → Type 0} where
   }
 
   -- a function of a block: its own code goes into its source
-  st-block-function : (x : Name) (arity : ℕ) (slots : List Name) (b : Block) (end : List Instr) → Stores (Global b) (emitBlock slots b ⨟ emits end) → Stores ok (function x arity slots (blockBody b end) (emitBlock slots b ⨟ emits end))
+  st-block-function : (x : Name) (arity : ℕ) (f : Frame) (b : Block) (end : List Instr) → Stores (Global b) (emitBlock (f .names) (f .keep) b ⨟ emits end)
+      → Stores ok (function x arity f (blockBody b end) (emitBlock (f .names) (f .keep) b ⨟ emits end))
   unfolding function enclose begin emitBody
-  st-block-function x arity slots b end E = st-symbol x (λ k. record {
+  st-block-function x arity f b end E = st-symbol x (λ k. record {
     at = λ p t.
-        let S = E .at 0 (begin k arity slots t) in
+        let S = E .at 0 (begin k arity f t) in
         record {
           new = S .new;
           symbols = S .symbols;
@@ -225,11 +227,11 @@ module _ {ok : Name → Type 0} where
   })
 
   -- of a lambda
-  st-function : {o : Name → Type 0} {e : Emit} (x : Name) (arity : ℕ) (slots : List Name) (b : Expr) → Stores o e → Stores ok (function x arity slots (exprBody b) e)
+  st-function : {o : Name → Type 0} {e : Emit} (x : Name) (arity : ℕ) (f : Frame) (b : Expr) → Stores o e → Stores ok (function x arity f (exprBody b) e)
   unfolding function enclose begin
-  st-function x arity slots b E = st-symbol x (λ k. record {
+  st-function x arity f b E = st-symbol x (λ k. record {
     at = λ p t.
-        let S = E .at 0 (begin k arity slots t) in
+        let S = E .at 0 (begin k arity f t) in
         record {
           new = S .new;
           symbols = S .symbols;
@@ -264,8 +266,8 @@ module _ {ok : Name → Type 0} where
   st-closure : {e : Emit} (slots : List Name) (n : ℕ) (inner cs : List Name) (b : Expr) → Stores ok e → Stores ok (closure slots n inner cs (exprBody b) e)
   unfolding closure
   st-closure {e} slots n inner cs b E =
-      st-by {g = λ t. function (Lower.lambdaName (length (t .functions))) n inner (exprBody b) (e ⨟ one Return) ⨟ loads slots cs ⨟ one (Instruction.MakeClosure (length (t .functions)) (length cs))}
-      (λ t. st-seq (st-function _ n inner b (st-seq E (st-one Return refl))) (st-seq (st-loads slots cs) (st-one _ refl)))
+      st-by {g = λ t. function (Lower.lambdaName (length (t .functions))) n (namesOnly inner) (exprBody b) (e ⨟ one Return) ⨟ loads slots cs ⨟ one (Instruction.MakeClosure (length (t .functions)) (length cs))}
+      (λ t. st-seq (st-function _ n (namesOnly inner) b (st-seq E (st-one Return refl))) (st-seq (st-loads slots cs) (st-one _ refl)))
 
   st-named : {e : Emit} (c : Callee) (slots : List Name) (x : Name) (n : ℕ) → Stores ok e → Stores ok (callNamed c slots x e n)
   unfolding callNamed
@@ -438,32 +440,49 @@ st-assign ok asOther slots A E = st-none
 
 -- ---- statements
 
+-- what loops store their iterators in: globals, of which every name is ok, or slots
+data Iterates (ok : Name → Type 0) : Keeping → Type 0 where
+  byName : ((n : ℕ) → ok (iterName n)) → Iterates ok inGlobals
+  bySlot : {n : ℕ} → Iterates ok (inSlots n)
+
+iterates-past : {ok : Name → Type 0} {keep : Keeping} (n : ℕ) → Iterates ok keep → Iterates ok (past n keep)
+unfolding past
+iterates-past n (byName I) = byName I
+iterates-past n bySlot = bySlot
+
 module _ {ok : Name → Type 0} where
   st-makeIter : Stores ok makeIter
   unfolding makeIter
   st-makeIter = st-symbol _ (λ k. st-one _ refl)
 
-  st-askIter : (g : ℕ) → Stores ok (askIter g)
-  unfolding askIter
-  st-askIter g = st-seq (st-one _ refl) (st-symbol _ (λ k. st-one _ refl))
+  st-loadIter : (g : Keeper) → Stores ok (one (loadIter g))
+  unfolding loadIter
+  st-loadIter (global k) = st-one _ refl
+  st-loadIter (local n) = st-one _ refl
 
-  st-takeIter : (slots : List Name) (x : Name) (g : ℕ) → (member x slots ≡ true) ⊎ ok x → Stores ok (takeIter slots x g)
+  st-askIter : (g : Keeper) → Stores ok (askIter g)
+  unfolding askIter
+  st-askIter g = st-seq (st-loadIter g) (st-symbol _ (λ k. st-one _ refl))
+
+  st-takeIter : (slots : List Name) (x : Name) (g : Keeper) → (member x slots ≡ true) ⊎ ok x → Stores ok (takeIter slots x g)
   unfolding takeIter
-  st-takeIter slots x g h = st-seq (st-one _ refl) (st-seq (st-symbol _ (λ k. st-one _ refl)) (st-store slots x h))
+  st-takeIter slots x g h = st-seq (st-loadIter g) (st-seq (st-symbol _ (λ k. st-one _ refl)) (st-store slots x h))
 
   -- the iterator is stored, and what follows
-  st-iter : {f : ℕ → Emit} → ((n : ℕ) → ok (iterName n)) → ((g : ℕ) → Stores ok (f g)) → Stores ok (namedIter (λ g. one (StoreGlobal g) ⨟ f g))
-  unfolding namedIter here
-  st-iter {f} I F = record {
-    at = λ p t. stored-symbol (iterName p) (λ g. one (StoreGlobal g) ⨟ f g) p t (λ k u e. stored-seq (u .symbols) (one (StoreGlobal k)) (f k) p u (stored-global (iterName p) k p u e (I p)) (F k .at _ _));
+  st-iter : {f : Keeper → Emit} (keep : Keeping) → Iterates ok keep → ((g : Keeper) → Stores ok (f g)) → Stores ok (keptIter keep (λ g. one (storeIter g) ⨟ f g))
+  unfolding keptIter namedIter here storeIter
+  st-iter {f} keep (byName I) F = record {
+    at = λ p t. stored-symbol (iterName p) (λ k. one (StoreGlobal k) ⨟ f (global k)) p t (λ k u e.
+        stored-seq (u .symbols) (one (StoreGlobal k)) (f (global k)) p u (stored-global (iterName p) k p u e (I p)) (F (global k) .at _ _));
   }
+  st-iter keep bySlot F = st-seq (st-one _ refl) (F (local _))
 
   stored-class : (x : Name) (c : ℕ) (ms : List Method) (p : ℕ) (t : Tables) → ok x → Stored ok (t .symbols) (endClass x c ms p t)
   unfolding endClass classObject
   stored-class x c ms p t o = stored-symbol x (classObject c) p _ (λ k u e. record { new = []; symbols = sym (append-nil (u .symbols)); code = other refl (stores x e o noCode); sound = noEvery })
 
-record StoresBranches (ok : Name → Type 0) (slots : List Name) (r : Branches) : Type 0 where
-  at : (p : ℕ) (t : Tables) → Stored ok (t .symbols) (emitBranches slots r p t .out)
+record StoresBranches (ok : Name → Type 0) (slots : List Name) (keep : Keeping) (r : Branches) : Type 0 where
+  at : (p : ℕ) (t : Tables) → Stored ok (t .symbols) (emitBranches slots keep r p t .out)
 
 -- methods have no code of their own
 record StoredMethods (xs : List Name) (m : Lower.Members) : Type 0 where
@@ -474,14 +493,15 @@ record StoredMethods (xs : List Name) (m : Lower.Members) : Type 0 where
 record StoresMethods (m : Methods) : Type 0 where
   at : (ms : List Method) (t : Tables) → StoredMethods (t .symbols) (emitMethods m ms t)
 
-st-when : (ok : Name → Type 0) (slots : List Name) (c : Expr) (b : Block) (r : Branches) → Stores ok (emitBlock slots b) → StoresBranches ok slots r → StoresBranches ok slots (when c b r)
+st-when : (ok : Name → Type 0) (slots : List Name) (keep : Keeping) (c : Expr) (b : Block) (r : Branches) → Stores ok (emitBlock slots keep b) → StoresBranches ok slots (past (loopsBlock b) keep) r
+    → StoresBranches ok slots keep (when c b r)
 unfolding emitBranches
-st-when ok slots c b r B R = record {
+st-when ok slots keep c b r B R = record {
   at = λ p t.
       let a = emitExpr slots c p t in
       let q = suc (p + length (a .code)) in
-      let o = emitBlock slots b q (a .tables) in
-      let k = emitBranches slots r (q + suc (length (o .code))) (o .tables) in
+      let o = emitBlock slots keep b q (a .tables) in
+      let k = emitBranches slots (past (loopsBlock b) keep) r (q + suc (length (o .code))) (o .tables) in
       let S = st-expr ok slots c .at p t in
       let T = B .at q (a .tables) in
       let U = R .at (q + suc (length (o .code))) (o .tables) in
@@ -494,9 +514,9 @@ st-when ok slots c b r B R = record {
       };
 }
 
-st-class : (ok : Name → Type 0) (slots : List Name) (x : Name) (m : Methods) (vs : List Attribute) → ok x → StoresMethods m → Stores ok (emitStmt slots (class x m vs))
+st-class : (ok : Name → Type 0) (slots : List Name) (keep : Keeping) (x : Name) (m : Methods) (vs : List Attribute) → ok x → StoresMethods m → Stores ok (emitStmt slots keep (class x m vs))
 unfolding emitStmt classOut beginClass
-st-class ok slots x m vs o M = record {
+st-class ok slots keep x m vs o M = record {
   at = λ p t.
       let A = M .at [] (beginClass x t) in
       let n = emitMethods m [] (beginClass x t) in
@@ -517,12 +537,12 @@ method-end {ok} x xs = go (same x init)
     go true = other refl (other refl noCode)
     go false = other refl noCode
 
-st-method : (x : Name) (ps : List Name) (b : Block) (m : Methods) → Stores (Global b) (emitBlock (localsBlock b ps) b) → StoresMethods m → StoresMethods (method x ps b m)
+st-method : (x : Name) (ps : List Name) (b : Block) (m : Methods) → Stores (Global b) (emitBlock (withLoops ps b .names) (withLoops ps b .keep) b) → StoresMethods m → StoresMethods (method x ps b m)
 unfolding emitMethods
 st-method x ps b m B M = record {
   at = λ ms t.
-      let inner = localsBlock b ps in
-      let whole = function x (length ps) inner (blockBody b (methodEnd x)) (emitBlock inner b ⨟ emits (methodEnd x)) in
+      let inner = withLoops ps b in
+      let whole = function x (length ps) inner (blockBody b (methodEnd x)) (emitBlock (inner .names) (inner .keep) b ⨟ emits (methodEnd x)) in
       let o = whole 0 t in
       let F : Stores (Global b) whole = st-block-function x (length ps) inner b (methodEnd x) (st-seq B (st-emits (methodEnd x) (method-end x))) in
       let S = F .at 0 t in
@@ -545,40 +565,40 @@ Classes ok own = (x : Name) (ms : Methods) (vs : List Attribute) → own (class 
 mutual
   unfolding emitStmt emitBlock emitBranches emitMethods boundStmt boundBlock boundBranches Classes
 
-  st-stmt : (ok : Name → Type 0) → ((n : ℕ) → ok (iterName n)) → (slots : List Name) (a : Stmt) → Allowed ok slots (boundStmt a) → Classes ok (λ c. OwnStmt c a) → Stores ok (emitStmt slots a)
-  st-stmt ok I slots break A C = st-one _ refl
-  st-stmt ok I slots continue A C = st-one _ refl
-  st-stmt ok I slots pass A C = st-none
-  st-stmt ok I slots (expr e) A C = st-seq (st-expr ok slots e) (st-one _ refl)
-  st-stmt ok I slots (return e) A C = st-seq (st-expr ok slots e) (st-one _ refl)
-  st-stmt ok I slots (assign t v) A C = st-assign ok (view t) slots (subst (Allowed ok slots) (assigned-form t) A) (st-expr ok slots v)
-  st-stmt ok I slots (if r) A C = let R = st-branches ok I slots r A (λ x ms vs o. C x ms vs (ofIf o)) in record { at = R .at }
-  st-stmt ok I slots (while c b) A C = st-loop (st-expr ok slots c) (st-block ok I slots b A (λ x ms vs o. C x ms vs (ofWhile o)))
-  st-stmt ok I slots (for x e b) A C =
-      st-seq (st-expr ok slots e)
-      (st-seq st-makeIter
-      (st-iter I (λ g. st-loop (st-askIter g) (st-seq (st-takeIter slots x g (allowed-first x (boundBlock b) A)) (st-block ok I slots b (allowed-right (x ∷ []) (boundBlock b) A) (λ y ms vs o. C y ms vs (ofFor o)))))))
-  st-stmt ok I slots (def x ps b) A C =
-      st-block-function x (length ps) (localsBlock b ps) b (Return ∷ []) (st-seq (st-block (Global b) (λ n. ofLoop n refl) (localsBlock b ps) b (own-allowed ps b) (λ y ms ws o. ofClass o)) (st-one Return refl))
-  st-stmt ok I slots (class x m vs) A C = st-class ok slots x m vs (C x m vs itself) (st-methods ok m)
+  st-stmt : (ok : Name → Type 0) (slots : List Name) (keep : Keeping) → Iterates ok keep → (a : Stmt) → Allowed ok slots (boundStmt a) → Classes ok (λ c. OwnStmt c a) → Stores ok (emitStmt slots keep a)
+  st-stmt ok slots keep I break A C = st-one _ refl
+  st-stmt ok slots keep I continue A C = st-one _ refl
+  st-stmt ok slots keep I pass A C = st-none
+  st-stmt ok slots keep I (expr e) A C = st-seq (st-expr ok slots e) (st-one _ refl)
+  st-stmt ok slots keep I (return e) A C = st-seq (st-expr ok slots e) (st-one _ refl)
+  st-stmt ok slots keep I (assign t v) A C = st-assign ok (view t) slots (subst (Allowed ok slots) (assigned-form t) A) (st-expr ok slots v)
+  st-stmt ok slots keep I (if r) A C = let R = st-branches ok slots keep I r A (λ x ms vs o. C x ms vs (ofIf o)) in record { at = R .at }
+  st-stmt ok slots keep I (while c b) A C = st-loop (st-expr ok slots c) (st-block ok slots keep I b A (λ x ms vs o. C x ms vs (ofWhile o)))
+  st-stmt ok slots keep I (for x e b) A C =
+      let inside = st-block ok slots (past 1 keep) (iterates-past 1 I) b (allowed-right (x ∷ []) (boundBlock b) A) (λ y ms vs o. C y ms vs (ofFor o)) in
+      st-seq (st-expr ok slots e) (st-seq st-makeIter (st-iter keep I (λ g. st-loop (st-askIter g) (st-seq (st-takeIter slots x g (allowed-first x (boundBlock b) A)) inside))))
+  st-stmt ok slots keep I (def x ps b) A C =
+      st-block-function x (length ps) (withLoops ps b) b (Return ∷ []) (st-seq (st-block (Global b) (localsBlock b ps) (withLoops ps b .keep) bySlot b (own-allowed ps b) (λ y ms ws o. ofClass o)) (st-one Return refl))
+  st-stmt ok slots keep I (class x m vs) A C = st-class ok slots keep x m vs (C x m vs itself) (st-methods ok m)
 
-  st-block : (ok : Name → Type 0) → ((n : ℕ) → ok (iterName n)) → (slots : List Name) (b : Block) → Allowed ok slots (boundBlock b) → Classes ok (λ c. OwnBlock c b) → Stores ok (emitBlock slots b)
-  st-block ok I slots []ᵇ A C = st-none
-  st-block ok I slots (a ∷ᵇ b) A C =
-      st-seq (st-stmt ok I slots a (allowed-left (boundStmt a) (boundBlock b) A) (λ x ms vs o. C x ms vs (atFirst o)))
-      (st-block ok I slots b (allowed-right (boundStmt a) (boundBlock b) A) (λ x ms vs o. C x ms vs (atLater o)))
+  st-block : (ok : Name → Type 0) (slots : List Name) (keep : Keeping) → Iterates ok keep → (b : Block) → Allowed ok slots (boundBlock b) → Classes ok (λ c. OwnBlock c b) → Stores ok (emitBlock slots keep b)
+  st-block ok slots keep I []ᵇ A C = st-none
+  st-block ok slots keep I (a ∷ᵇ b) A C =
+      st-seq (st-stmt ok slots keep I a (allowed-left (boundStmt a) (boundBlock b) A) (λ x ms vs o. C x ms vs (atFirst o)))
+      (st-block ok slots (past (loopsStmt a) keep) (iterates-past (loopsStmt a) I) b (allowed-right (boundStmt a) (boundBlock b) A) (λ x ms vs o. C x ms vs (atLater o)))
 
-  st-branches : (ok : Name → Type 0) → ((n : ℕ) → ok (iterName n)) → (slots : List Name) (r : Branches) → Allowed ok slots (boundBranches r) → Classes ok (λ c. OwnBranches c r) → StoresBranches ok slots r
-  st-branches ok I slots done A C = record { at = λ p t. st-none .at p t }
-  st-branches ok I slots (else b) A C = record { at = λ p t. st-block ok I slots b A (λ x ms vs o. C x ms vs (ofElse o)) .at p t }
-  st-branches ok I slots (when c b r) A C =
-      st-when ok slots c b r (st-block ok I slots b (allowed-left (boundBlock b) (boundBranches r) A) (λ x ms vs o. C x ms vs (ofThen o)))
-      (st-branches ok I slots r (allowed-right (boundBlock b) (boundBranches r) A) (λ x ms vs o. C x ms vs (ofRest o)))
+  st-branches : (ok : Name → Type 0) (slots : List Name) (keep : Keeping) → Iterates ok keep → (r : Branches) → Allowed ok slots (boundBranches r) → Classes ok (λ c. OwnBranches c r) → StoresBranches ok slots keep r
+  st-branches ok slots keep I done A C = record { at = λ p t. st-none .at p t }
+  st-branches ok slots keep I (else b) A C = record { at = λ p t. st-block ok slots keep I b A (λ x ms vs o. C x ms vs (ofElse o)) .at p t }
+  st-branches ok slots keep I (when c b r) A C =
+      st-when ok slots keep c b r (st-block ok slots keep I b (allowed-left (boundBlock b) (boundBranches r) A) (λ x ms vs o. C x ms vs (ofThen o)))
+      (st-branches ok slots (past (loopsBlock b) keep) (iterates-past (loopsBlock b) I) r (allowed-right (boundBlock b) (boundBranches r) A) (λ x ms vs o. C x ms vs (ofRest o)))
 
   -- whatever is ok outside: the functions of a block are of one universe
   st-methods : (ok : Name → Type 0) (m : Methods) → StoresMethods m
   st-methods ok []ᵐ = record { at = λ ms t. record { new = []; symbols = sym (append-nil (t .symbols)); sound = noEvery } }
-  st-methods ok (method x ps b m) = st-method x ps b m (st-block (Global b) (λ n. ofLoop n refl) (localsBlock b ps) b (own-allowed ps b) (λ y ms ws o. ofClass o)) (st-methods ok m)
+  st-methods ok (method x ps b m) =
+      st-method x ps b m (st-block (Global b) (localsBlock b ps) (withLoops ps b .keep) bySlot b (own-allowed ps b) (λ y ms ws o. ofClass o)) (st-methods ok m)
 
 -- ---- the whole tree
 
@@ -589,14 +609,14 @@ sound-at {xs} (h ∷ gs) zero g (every s a) e = let q : h ≡ g = cc in subst (S
 sound-at (h ∷ gs) (suc k) g (every s a) e = sound-at gs k g a e
 
 -- main may store any name
-main-stores : (b : Block) → Stores (λ x. Unit {0}) (emitBlock [] b ⨟ one Return)
+main-stores : (b : Block) → Stores (λ x. Unit {0}) (emitBlock [] inGlobals b ⨟ one Return)
 unfolding Classes
-main-stores b = st-seq (st-block (λ x. Unit {0}) (λ n. tt) [] b (record { at = λ x h. inr tt }) (λ x ms vs o. tt)) (st-one Return refl)
+main-stores b = st-seq (st-block (λ x. Unit {0}) [] inGlobals (byName (λ n. tt)) b (record { at = λ x h. inr tt }) (λ x ms vs o. tt)) (st-one Return refl)
 
 -- the functions that begin in main, with the symbols of the whole tree
 compile-sound : (b : Block) (k : ℕ) (g : Source) → getElem? (compile b .sources) (suc k) ≡ some g → SoundSource (compile b .tables .symbols) g
 unfolding compile function intern enclose position Lower.noTables
-compile-sound b k g e = sound-at _ k g (main-stores b .at 0 (begin 0 0 [] (addSymbol Lower.main Lower.noTables)) .sound) e
+compile-sound b k g e = sound-at _ k g (main-stores b .at 0 (begin 0 0 (namesOnly []) (addSymbol Lower.main Lower.noTables)) .sound) e
 
 pub globalStores : GlobalStores
 globalStores l u b t e k f h d end q i j c x s =

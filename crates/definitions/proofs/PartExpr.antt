@@ -12,7 +12,7 @@ use Rattle.definitions.specs.Tree.{BinaryOp, addOp, subtractOp, multiply
 use Rattle.definitions.specs.Tree.{Expr, lit, var, unary, binary, logical, call, attr, display, index, lambda, Exprs, []ᵉ, _∷ᵉ_, count}
 use Rattle.definitions.specs.Tree.{View, asVar, asAttr, asIndex, asTuple, asOther, view}
 use Rattle.definitions.specs.Wellformed.{init}
-use Rattle.definitions.specs.Slots.{captures}
+use Rattle.definitions.specs.Slots.{captures, Frame, namesOnly}
 use Rattle.definitions.specs.Instruction
 use Rattle.definitions.specs.Instruction.{Instr, ConstBool, Return, LoadLocal, encodes, unaryCode, operatorCode, binaryCode, buildCode}
 use Rattle.definitions.specs.Tables.{Function, Tables, Body, exprBody, Out, Emit, addSymbol, begin, emits, one, _⨟_, intern, getOrAddString, function, enclose}
@@ -96,15 +96,15 @@ leaf-loads slots (x ∷ xs) = leaf-seq (leaf-load slots x) (leaf-loads slots xs)
 -- ---- a whole function
 
 -- a body whose end leaves the function
-pub record Whole (e : Emit) (slots : List Name) (body : Body) : Type 0 where
-  pub emitted : e ≡ emitBody slots body
-  pub part : Part false e (walkBody slots body)
-  pub over : (t : Tables) (xs : List ℕ) → Over (walkBody slots body 0 t xs .ending)
+pub record Whole (e : Emit) (frame : Frame) (body : Body) : Type 0 where
+  pub emitted : e ≡ emitBody frame body
+  pub part : Part false e (walkBody frame body)
+  pub over : (t : Tables) (xs : List ℕ) → Over (walkBody frame body 0 t xs .ending)
   pub stand : (t : Tables) → length (e 0 t .code) < 4294967296 → T (endsInReturn (e 0 t .code) && jumpsLand (length (e 0 t .code)) 0 (e 0 t .code))
 
-pub whole : {e : Emit} {w : Walk} (slots : List Name) (body : Body) (end : List Instr) → e ⨟ emits end ≡ emitBody slots body → walkBody slots body ≡ follow e w (leaves end) → Part false e w → Part false (emits end) (leaves end) → Stop end → Whole (e ⨟ emits end) slots body
+pub whole : {e : Emit} {w : Walk} (frame : Frame) (body : Body) (end : List Instr) → e ⨟ emits end ≡ emitBody frame body → walkBody frame body ≡ follow e w (leaves end) → Part false e w → Part false (emits end) (leaves end) → Stop end → Whole (e ⨟ emits end) frame body
 unfolding follow leaves _⨟_ emits
-whole {e} {w} slots body end c q A B S = record {
+whole {e} {w} frame body end c q A B S = record {
   emitted = c;
   part = rw q (part-follow A B);
   over = λ t xs. rw q (over-then _ (w 0 t xs .ending) (w 0 t xs .left) (w 0 t xs .events) (meaning-calm (A .at 0 t) xs) (λ zs. tt));
@@ -146,35 +146,35 @@ stop-end x = go (same x init)
     go true = stop-init
     go false = stop-return
 
-pub leaf-function : {e : Emit} (x : Name) (arity : ℕ) (slots : List Name) (body : Body) → Whole e slots body → Leaf (function x arity slots body e)
+pub leaf-function : {e : Emit} (x : Name) (arity : ℕ) (frame : Frame) (body : Body) → Whole e frame body → Leaf (function x arity frame body e)
 unfolding function enclose begin walkAt codeStands
-leaf-function {e} x arity slots body B = leaf-symbol x (λ k. record {
+leaf-function {e} x arity frame body B = leaf-symbol x (λ k. record {
   at = λ p t. none;
   grows = λ p t.
-      let u = begin k arity slots t in
+      let u = begin k arity frame t in
       grow-function (t .functions) _ _ _ _ (e 0 u .code) (B .part .grows 0 u) (record { source = record { locals = refl; code = ap (λ (z : Emit). z 0 u .code) (B .emitted) }; meaning = B .part .at 0 u; over = λ xs. B .over u xs; stands = B .stand u });
 })
 
 -- it gives no code in its parent
-pub function-silent : (x : Name) (arity : ℕ) (slots : List Name) (body : Body) (e : Emit) (p : ℕ) (t : Tables) → function x arity slots body e p t .code ≡ []
+pub function-silent : (x : Name) (arity : ℕ) (frame : Frame) (body : Body) (e : Emit) (p : ℕ) (t : Tables) → function x arity frame body e p t .code ≡ []
 unfolding function intern enclose
-function-silent x arity slots body e p t = go (position (same x) (t .symbols))
+function-silent x arity frame body e p t = go (position (same x) (t .symbols))
   where
-    go : (o : Option ℕ) → (elim o as (λ z. Out) [ some k ↦ enclose k arity slots body e p t | nothing ↦ enclose (length (t .symbols)) arity slots body e p (addSymbol x t) ]) .code ≡ []
+    go : (o : Option ℕ) → (elim o as (λ z. Out) [ some k ↦ enclose k arity frame body e p t | nothing ↦ enclose (length (t .symbols)) arity frame body e p (addSymbol x t) ]) .code ≡ []
     go (some k) = refl
     go nothing = refl
 
-pub leaf-closure : (e : Emit) (slots : List Name) (n : ℕ) (inner cs : List Name) (body : Body) → Whole (e ⨟ one Return) inner body → Leaf (closure slots n inner cs body e)
+pub leaf-closure : (e : Emit) (slots : List Name) (n : ℕ) (inner cs : List Name) (body : Body) → Whole (e ⨟ one Return) (namesOnly inner) body → Leaf (closure slots n inner cs body e)
 unfolding closure flow
 leaf-closure e slots n inner cs body B =
-    leaf-by (λ t. function (Lower.lambdaName (length (t .functions))) n inner body (e ⨟ one Return) ⨟ loads slots cs ⨟ one (Instruction.MakeClosure (length (t .functions)) (length cs)))
-    (λ t. leaf-seq (leaf-function _ n inner body B) (leaf-seq (leaf-loads slots cs) (leaf-one (num refl refl refl))))
+    leaf-by (λ t. function (Lower.lambdaName (length (t .functions))) n (namesOnly inner) body (e ⨟ one Return) ⨟ loads slots cs ⨟ one (Instruction.MakeClosure (length (t .functions)) (length cs)))
+    (λ t. leaf-seq (leaf-function _ n (namesOnly inner) body B) (leaf-seq (leaf-loads slots cs) (leaf-one (num refl refl refl))))
 
 -- ---- expressions
 
-pub whole-expr : (slots : List Name) (b : Expr) → Part false (emitExpr slots b) (walkExpr slots b) → Whole (emitExpr slots b ⨟ one Return) slots (exprBody b)
+pub whole-expr : (slots : List Name) (b : Expr) → Part false (emitExpr slots b) (walkExpr slots b) → Whole (emitExpr slots b ⨟ one Return) (namesOnly slots) (exprBody b)
 unfolding walkBody emitBody
-whole-expr slots b A = whole slots (exprBody b) (Return ∷ []) refl refl A part-leave stop-return
+whole-expr slots b A = whole (namesOnly slots) (exprBody b) (Return ∷ []) refl refl A part-leave stop-return
 
 pub part-named : {l : Bool} (c : Callee) (slots : List Name) (x : Name) {e : Emit} {w : Walk} (n : ℕ) → Part l e w → Part l (callNamed c slots x e n) (walkNamed c slots x e w n)
 unfolding callNamed walkNamed flow

@@ -13,13 +13,13 @@ use Rattle.definitions.specs.Tree.{View, asVar, asAttr, asIndex, asTuple
 use Rattle.definitions.specs.Tree.{Stmt, break, continue, pass, expr, return, assign, if, while, for, def, class}
 use Rattle.definitions.specs.Tree.{Block, []ᵇ, _∷ᵇ_, Branches, done, else, when, Methods, []ᵐ, method}
 use Rattle.definitions.specs.Wellformed.{ifAsked, isTuple, isElement, areElements, isTarget, askName, askParams, askMethod, askTarget, askAttribute, askExpr, askStmt, askBlock, askBranches, askMethods}
-use Rattle.definitions.specs.Slots.{localsBlock, captures}
+use Rattle.definitions.specs.Slots.{captures, Keeping, inGlobals, inSlots, past, Frame, namesOnly, withLoops, loopsStmt, loopsBlock}
 use Rattle.definitions.specs.Instruction
 use Rattle.definitions.specs.Instruction.{Instr, Return, LoadLocal}
 use Rattle.definitions.specs.Tables.{Method, Tables, Body, blockBody, exprBody, Source, Out, Emit, addSymbol, addString, emits, one, _⨟_, here, intern, getOrAddString, function, enclose}
 use Rattle.definitions.specs.Lower
 use Rattle.definitions.specs.Lower.{Callee, builtinCallee, functionCallee, valueCallee, resolve, load, store, literal, decides, shortcut, callNamed, callBy, loads, closure, emitExpr, emitExprs, emitObject}
-use Rattle.definitions.specs.Lower.{copy, emitTarget, unpack, assignBy, loop, makeIter, namedIter, iterName, askIter, takeIter, methodEnd, insertMethod, beginClass, classObject, endClass, classOut, emitStmt, emitBlock, emitBranches, emitMethods, compile}
+use Rattle.definitions.specs.Lower.{copy, emitTarget, unpack, assignBy, loop, Keeper, global, local, makeIter, namedIter, keptIter, iterName, askIter, takeIter, methodEnd, insertMethod, beginClass, classObject, endClass, classOut, emitStmt, emitBlock, emitBranches, emitMethods, compile}
 use Rattle.definitions.specs.Bodies.{bodiesExpr, bodiesExprs, bodiesStmt, bodiesBlock, bodiesBranches, bodiesMethods, bodies}
 use Rattle.definitions.specs.Statements.{bodyOf, SourceBodies}
 use Rattle.definitions.proofs.Truth.{left, right}
@@ -75,9 +75,9 @@ has-string {f} {us} x F = record { at = λ p t. go p t (position (same x) (t .st
     go p t (some k) = F k .at p t
     go p t none = F (length (t .strings)) .at p (addString x t)
 
-has-function : {e : Emit} {us : List Body} (x : Name) (arity : ℕ) (slots : List Name) (body : Body) → Has e us → Has (function x arity slots body e) (body ∷ us)
+has-function : {e : Emit} {us : List Body} (x : Name) (arity : ℕ) (frame : Frame) (body : Body) → Has e us → Has (function x arity frame body e) (body ∷ us)
 unfolding function enclose bodyOf
-has-function x arity slots body E = has-symbol x (λ k. record { at = λ p t. ap (λ (z : List Body). body ∷ z) (E .at 0 _) })
+has-function x arity frame body E = has-symbol x (λ k. record { at = λ p t. ap (λ (z : List Body). body ∷ z) (E .at 0 _) })
 
 has-shortcut : {e : Emit} {us : List Body} (b : Bool) → Has e us → Has (shortcut b e) us
 unfolding shortcut
@@ -121,8 +121,8 @@ has-literal (stringL s) = has-string s (λ k. has-one _)
 has-closure : {e : Emit} {us : List Body} (slots : List Name) (n : ℕ) (inner cs : List Name) (body : Body) → Has e us → Has (closure slots n inner cs body e) (body ∷ us)
 unfolding closure
 has-closure {e} slots n inner cs body E =
-    has-by {g = λ t. function (Lower.lambdaName (length (t .functions))) n inner body (e ⨟ one Return) ⨟ loads slots cs ⨟ one (Instruction.MakeClosure (length (t .functions)) (length cs))}
-    (λ t. has-then (has-function _ n inner body (has-then E (has-one Return))) (has-then (has-loads slots cs) (has-one _)))
+    has-by {g = λ t. function (Lower.lambdaName (length (t .functions))) n (namesOnly inner) body (e ⨟ one Return) ⨟ loads slots cs ⨟ one (Instruction.MakeClosure (length (t .functions)) (length cs))}
+    (λ t. has-then (has-function _ n (namesOnly inner) body (has-then E (has-one Return))) (has-then (has-loads slots cs) (has-one _)))
 
 has-named : {e : Emit} {us : List Body} (c : Callee) (slots : List Name) (x : Name) (n : ℕ) → Has e us → Has (callNamed c slots x e n) us
 unfolding callNamed
@@ -307,11 +307,11 @@ has-makeIter : Has makeIter []
 unfolding makeIter
 has-makeIter = has-symbol _ (λ k. has-one _)
 
-has-askIter : (g : ℕ) → Has (askIter g) []
+has-askIter : (g : Keeper) → Has (askIter g) []
 unfolding askIter
 has-askIter g = has-seq (has-one _) (has-symbol _ (λ k. has-one _))
 
-has-takeIter : (slots : List Name) (x : Name) (g : ℕ) → Has (takeIter slots x g) []
+has-takeIter : (slots : List Name) (x : Name) (g : Keeper) → Has (takeIter slots x g) []
 unfolding takeIter
 has-takeIter slots x g = has-seq (has-one _) (has-seq (has-symbol _ (λ k. has-one _)) (has-store slots x))
 
@@ -319,30 +319,35 @@ has-iter : {f : ℕ → Emit} {us : List Body} → ((g : ℕ) → Has (f g) us) 
 unfolding namedIter here
 has-iter F = record { at = λ p t. has-symbol (iterName p) F .at p t }
 
+has-kept : {f : Keeper → Emit} {us : List Body} (keep : Keeping) → ((g : Keeper) → Has (f g) us) → Has (keptIter keep f) us
+unfolding keptIter
+has-kept inGlobals F = has-iter (λ k. F (global k))
+has-kept (inSlots n) F = F (local n)
+
 has-endClass : (x : Name) (c : ℕ) (ms : List Method) → Has (endClass x c ms) []
 unfolding endClass classObject
 has-endClass x c ms = record { at = λ p t. has-symbol x (λ k. record { at = λ q u. refl }) .at p _ }
 
-record HasBranches (slots : List Name) (r : Branches) : Type 0 where
-  at : (p : ℕ) (t : Tables) → map bodyOf (emitBranches slots r p t .out .sources) ≡ bodiesBranches r
+record HasBranches (slots : List Name) (keep : Keeping) (r : Branches) : Type 0 where
+  at : (p : ℕ) (t : Tables) → map bodyOf (emitBranches slots keep r p t .out .sources) ≡ bodiesBranches r
 
 record HasMethods (m : Methods) : Type 0 where
   at : (ms : List Method) (t : Tables) → map bodyOf (emitMethods m ms t .sources) ≡ bodiesMethods m
 
-has-when : (slots : List Name) (c : Expr) (b : Block) (r : Branches) → Has (emitBlock slots b) (bodiesBlock b) → HasBranches slots r → HasBranches slots (when c b r)
+has-when : (slots : List Name) (keep : Keeping) (c : Expr) (b : Block) (r : Branches) → Has (emitBlock slots keep b) (bodiesBlock b) → HasBranches slots (past (loopsBlock b) keep) r → HasBranches slots keep (when c b r)
 unfolding emitBranches bodiesBranches
-has-when slots c b r B R = record { at = λ p t. both-have (emitExpr slots c p t .sources) _ (has-expr slots c .at p t) (both-have (emitBlock slots b _ _ .sources) _ (B .at _ _) (R .at _ _)) }
+has-when slots keep c b r B R = record { at = λ p t. both-have (emitExpr slots c p t .sources) _ (has-expr slots c .at p t) (both-have (emitBlock slots keep b _ _ .sources) _ (B .at _ _) (R .at _ _)) }
 
-has-class : (slots : List Name) (x : Name) (m : Methods) (vs : List Attribute) → HasMethods m → Has (emitStmt slots (class x m vs)) (bodiesMethods m)
+has-class : (slots : List Name) (keep : Keeping) (x : Name) (m : Methods) (vs : List Attribute) → HasMethods m → Has (emitStmt slots keep (class x m vs)) (bodiesMethods m)
 unfolding emitStmt classOut
-has-class slots x m vs M = record { at = λ p t. both-have (emitMethods m [] (beginClass x t) .sources) _ (M .at [] (beginClass x t)) (has-endClass x _ _ .at p _) ∙ append-nil (bodiesMethods m) }
+has-class slots keep x m vs M = record { at = λ p t. both-have (emitMethods m [] (beginClass x t) .sources) _ (M .at [] (beginClass x t)) (has-endClass x _ _ .at p _) ∙ append-nil (bodiesMethods m) }
 
-has-method : (x : Name) (ps : List Name) (b : Block) (m : Methods) → Has (emitBlock (localsBlock b ps) b) (bodiesBlock b) → HasMethods m → HasMethods (method x ps b m)
+has-method : (x : Name) (ps : List Name) (b : Block) (m : Methods) → Has (emitBlock (withLoops ps b .names) (withLoops ps b .keep) b) (bodiesBlock b) → HasMethods m → HasMethods (method x ps b m)
 unfolding emitMethods bodiesMethods
 has-method x ps b m B M = record {
   at = λ ms t.
-      let F = has-function x (length ps) (localsBlock b ps) (blockBody b (methodEnd x)) (has-then B (has-emits (methodEnd x))) in
-      let o = function x (length ps) (localsBlock b ps) (blockBody b (methodEnd x)) (emitBlock (localsBlock b ps) b ⨟ emits (methodEnd x)) 0 t in
+      let F = has-function x (length ps) (withLoops ps b) (blockBody b (methodEnd x)) (has-then B (has-emits (methodEnd x))) in
+      let o = function x (length ps) (withLoops ps b) (blockBody b (methodEnd x)) (emitBlock (withLoops ps b .names) (withLoops ps b .keep) b ⨟ emits (methodEnd x)) 0 t in
       let ms′ = insertMethod x (length (t .functions)) ms in
       both-have (o .sources) (emitMethods m ms′ (o .tables) .sources) (F .at 0 t) (M .at ms′ (o .tables));
 }
@@ -350,41 +355,41 @@ has-method x ps b m B M = record {
 mutual
   unfolding emitStmt emitBlock emitBranches emitMethods bodiesStmt bodiesBlock bodiesBranches bodiesMethods askStmt askBlock askBranches askMethods askTarget ifAsked
 
-  has-stmt : (l : Bool) (slots : List Name) (a : Stmt) → askStmt 10 l a ≡ true → Has (emitStmt slots a) (bodiesStmt a)
-  has-stmt l slots break q = has-one _
-  has-stmt l slots continue q = has-one _
-  has-stmt l slots pass q = has-emits []
-  has-stmt l slots (expr e) q = has-then (has-expr slots e) (has-one _)
-  has-stmt l slots (return e) q = has-then (has-expr slots e) (has-one _)
-  has-stmt l slots (assign t v) q = has-assign (view t) slots (bodiesExpr t) (target t (left (isTarget t) (askExpr 10 t) (left (askTarget 10 t) (askExpr 10 v) q))) (has-expr slots v)
-  has-stmt l slots (if bs) q = let R = has-branches l slots bs q in record { at = R .at }
-  has-stmt l slots (while c b) q = has-loop (has-expr slots c) (has-block true slots b (right (askExpr 10 c) (askBlock 10 true b) q))
-  has-stmt l slots (for x e b) q =
+  has-stmt : (l : Bool) (slots : List Name) (keep : Keeping) (a : Stmt) → askStmt 10 l a ≡ true → Has (emitStmt slots keep a) (bodiesStmt a)
+  has-stmt l slots keep break q = has-one _
+  has-stmt l slots keep continue q = has-one _
+  has-stmt l slots keep pass q = has-emits []
+  has-stmt l slots keep (expr e) q = has-then (has-expr slots e) (has-one _)
+  has-stmt l slots keep (return e) q = has-then (has-expr slots e) (has-one _)
+  has-stmt l slots keep (assign t v) q = has-assign (view t) slots (bodiesExpr t) (target t (left (isTarget t) (askExpr 10 t) (left (askTarget 10 t) (askExpr 10 v) q))) (has-expr slots v)
+  has-stmt l slots keep (if bs) q = let R = has-branches l slots keep bs q in record { at = R .at }
+  has-stmt l slots keep (while c b) q = has-loop (has-expr slots c) (has-block true slots keep b (right (askExpr 10 c) (askBlock 10 true b) q))
+  has-stmt l slots keep (for x e b) q =
       has-seq (has-expr slots e)
       (has-seq has-makeIter
-      (has-iter (λ g.
-      has-seq (has-one _) (has-loop (has-askIter g) (has-seq (has-takeIter slots x g) (has-block true slots b (right (askName 10 x && askExpr 10 e) (askBlock 10 true b) q)))))))
-  has-stmt l slots (def x ps b) q =
-      has-function x (length ps) (localsBlock b ps) (blockBody b (Return ∷ [])) (has-then (has-block false (localsBlock b ps) b (right (askName 10 x && askParams 10 ps) (askBlock 10 false b) q)) (has-one Return))
-  has-stmt l slots (class x ms vs) q = has-class slots x ms vs (has-methods ms (right (askName 10 x) (askMethods 10 ms) (left (askName 10 x && askMethods 10 ms) (all (askAttribute 10) vs) q)))
+      (has-kept keep (λ g.
+      has-seq (has-one _) (has-loop (has-askIter g) (has-seq (has-takeIter slots x g) (has-block true slots (past 1 keep) b (right (askName 10 x && askExpr 10 e) (askBlock 10 true b) q)))))))
+  has-stmt l slots keep (def x ps b) q =
+      has-function x (length ps) (withLoops ps b) (blockBody b (Return ∷ [])) (has-then (has-block false (withLoops ps b .names) (withLoops ps b .keep) b (right (askName 10 x && askParams 10 ps) (askBlock 10 false b) q)) (has-one Return))
+  has-stmt l slots keep (class x ms vs) q = has-class slots keep x ms vs (has-methods ms (right (askName 10 x) (askMethods 10 ms) (left (askName 10 x && askMethods 10 ms) (all (askAttribute 10) vs) q)))
 
-  has-block : (l : Bool) (slots : List Name) (b : Block) → askBlock 10 l b ≡ true → Has (emitBlock slots b) (bodiesBlock b)
-  has-block l slots []ᵇ q = has-emits []
-  has-block l slots (a ∷ᵇ b) q = has-seq (has-stmt l slots a (left (askStmt 10 l a) (askBlock 10 l b) q)) (has-block l slots b (right (askStmt 10 l a) (askBlock 10 l b) q))
+  has-block : (l : Bool) (slots : List Name) (keep : Keeping) (b : Block) → askBlock 10 l b ≡ true → Has (emitBlock slots keep b) (bodiesBlock b)
+  has-block l slots keep []ᵇ q = has-emits []
+  has-block l slots keep (a ∷ᵇ b) q = has-seq (has-stmt l slots keep a (left (askStmt 10 l a) (askBlock 10 l b) q)) (has-block l slots (past (loopsStmt a) keep) b (right (askStmt 10 l a) (askBlock 10 l b) q))
 
-  has-branches : (l : Bool) (slots : List Name) (r : Branches) → askBranches 10 l r ≡ true → HasBranches slots r
-  has-branches l slots done q = record { at = λ p t. has-emits [] .at p t }
-  has-branches l slots (else b) q = record { at = λ p t. has-block l slots b q .at p t }
-  has-branches l slots (when c b r) q =
-      has-when slots c b r (has-block l slots b (right (askExpr 10 c) (askBlock 10 l b) (left (askExpr 10 c && askBlock 10 l b) (askBranches 10 l r) q)))
-      (has-branches l slots r (right (askExpr 10 c && askBlock 10 l b) (askBranches 10 l r) q))
+  has-branches : (l : Bool) (slots : List Name) (keep : Keeping) (r : Branches) → askBranches 10 l r ≡ true → HasBranches slots keep r
+  has-branches l slots keep done q = record { at = λ p t. has-emits [] .at p t }
+  has-branches l slots keep (else b) q = record { at = λ p t. has-block l slots keep b q .at p t }
+  has-branches l slots keep (when c b r) q =
+      has-when slots keep c b r (has-block l slots keep b (right (askExpr 10 c) (askBlock 10 l b) (left (askExpr 10 c && askBlock 10 l b) (askBranches 10 l r) q)))
+      (has-branches l slots (past (loopsBlock b) keep) r (right (askExpr 10 c && askBlock 10 l b) (askBranches 10 l r) q))
 
   has-methods : (m : Methods) → askMethods 10 m ≡ true → HasMethods m
   has-methods []ᵐ q = record { at = λ ms t. refl }
   has-methods (method x ps b m) q =
-      has-method x ps b m (has-block false (localsBlock b ps) b (right (askMethod 10 x ps) (askBlock 10 false b) (left (askMethod 10 x ps && askBlock 10 false b) (askMethods 10 m) q)))
+      has-method x ps b m (has-block false (withLoops ps b .names) (withLoops ps b .keep) b (right (askMethod 10 x ps) (askBlock 10 false b) (left (askMethod 10 x ps && askBlock 10 false b) (askMethods 10 m) q)))
       (has-methods m (right (askMethod 10 x ps && askBlock 10 false b) (askMethods 10 m) q))
 
 pub sourceBodies : SourceBodies
 unfolding compile bodies
-sourceBodies b q = has-function Lower.main 0 [] (blockBody b (Return ∷ [])) (has-then (has-block false [] b q) (has-one Return)) .at 0 Lower.noTables
+sourceBodies b q = has-function Lower.main 0 (namesOnly []) (blockBody b (Return ∷ [])) (has-then (has-block false [] inGlobals b q) (has-one Return)) .at 0 Lower.noTables

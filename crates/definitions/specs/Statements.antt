@@ -17,9 +17,10 @@ use Rattle.definitions.specs.Tree.{Stmt, break, continue, pass, expr, re
 use Rattle.definitions.specs.Parse.{binaryKinds, blockOf, parseStmt}
 use Rattle.definitions.specs.Wellformed.{isName, isTuple, isIterator, distinct, askBlock}
 use Rattle.definitions.specs.TreeNames.{namesBlock}
-use Rattle.definitions.specs.Slots.{add, localsBlock, captures}
-use Rattle.definitions.specs.Instruction.{Instr, Return, StoreGlobal, Row, rowOf, binaryCode, encode, encodes}
-use Rattle.definitions.specs.Tables.{Function, Tables, Body, blockBody, Source}
+use Rattle.definitions.specs.Slots.{add, localsBlock, captures, loopsBlock}
+use Rattle.definitions.specs.Instruction.{Numbers, nothing, aString, aConstant, aSlot, aSymbol, aFunction, aBuiltin, numbersOf}
+use Rattle.definitions.specs.Instruction.{Instr, LoadLocal, StoreLocal, StoreGlobal, Return, Row, rowOf, binaryCode, encode, encodes}
+use Rattle.definitions.specs.Tables.{Function, Tables, Body, blockBody, exprBody, Source}
 use Rattle.definitions.specs.Lower.{iterName, noTables, compile, emitBody}
 use Rattle.definitions.specs.Bodies.{bodies}
 use Rattle.definitions.specs.Module.{Limits, office, console, limitsBy, moduleBytes, codeStart, instructions, slotsFit, tablesFit, lowerBlock, lowerTables, lowerBytes}
@@ -271,13 +272,16 @@ pub record IteratorNamed (n : ℕ) : Type 0 where
 abbrev pub Iterators : Type 0
 Iterators = (n : ℕ) → IteratorNamed n
 
--- In an accepted tree no name is an iterator's. And an iterator's global is stored at the place that its name tells and nowhere else: by the code of the
--- loop that begins there, and by no other instruction of the function
+-- In an accepted tree no name is an iterator's. And an iterator's global is main's: it is stored at the place that its name tells and nowhere else, by
+-- the code of main's loop that begins there; and each symbol of that form is one of these
 pub record LoopsApart (b : Block) (t : Tables) : Type 0 where
   pub names : (n : ℕ) → member (iterName n) (namesBlock b) ≡ false
   pub stores :
       (k : ℕ) (f : Function) → getElem? (t .functions) k ≡ some f
-      → (p a n : ℕ) → getElem? (f .code) p ≡ some (StoreGlobal a) → getElem? (t .symbols) a ≡ some (iterName n) → p ≡ n
+      → (p a n : ℕ) → getElem? (f .code) p ≡ some (StoreGlobal a) → getElem? (t .symbols) a ≡ some (iterName n) → (k ≡ 0) × (p ≡ n)
+  pub symbols :
+      (f : Function) → getElem? (t .functions) 0 ≡ some f
+      → (a : ℕ) (x : Name) → getElem? (t .symbols) a ≡ some x → isIterator x ≡ true → (p : ℕ) × (getElem? (f .code) p ≡ some (StoreGlobal a)) × (x ≡ iterName p)
 
 abbrev pub LoopGlobals : Type 0
 LoopGlobals = (l : Limits) → Under l office → (b : Block) (t : Tables) → lowerBlock l b ≡ accepted t → LoopsApart b t
@@ -382,13 +386,12 @@ mutual
     ofThen : {e : Expr} {b : Block} {r : Branches} → OwnBlock c b → OwnBranches c (when e b r)
     ofRest : {e : Expr} {b : Block} {r : Branches} → OwnBranches c r → OwnBranches c (when e b r)
 
--- the name of one of its own classes, or of a loop's iterator
+-- the name of one of its own classes
 pub data Global (b : Block) (x : Name) : Type 0 where
   ofClass : {ms : Methods} {vs : List Attribute} → OwnBlock (class x ms vs) b → Global b x
-  ofLoop : (n : ℕ) → x ≡ iterName n → Global b x
 
 -- In the code of a def or method StoreGlobal stores no other name. So no name of a target is stored by it, in tuples or not, but where a class of the
--- function has that name; question 33 keeps scripts from the iterators' names
+-- function has that name; and no loop's iterator is
 abbrev pub GlobalStores : Type 0
 GlobalStores =
     (l : Limits) → Under l office → (b : Block) (t : Tables) → lowerBlock l b ≡ accepted t
@@ -462,14 +465,59 @@ SourceBodies = (b : Block) → askBlock 10 false b ≡ true → map bodyOf (comp
 
 -- a function's slots and code are those of its source
 pub record ComesFrom (f : Function) (s : Source) : Type 0 where
-  pub locals : f .locals ≡ length (s .slots)
-  pub code : f .code ≡ emitBody (s .slots) (s .body) 0 (s .start) .code
+  pub locals : f .locals ≡ s .frame .locals
+  pub code : f .code ≡ emitBody (s .frame) (s .body) 0 (s .start) .code
 
 abbrev pub Sources : Type 0
 Sources =
     (l : Limits) → Under l office → (b : Block) (t : Tables) → lowerBlock l b ≡ accepted t
     → (k : ℕ) (f : Function) → getElem? (t .functions) k ≡ some f
     → (s : Source) × (getElem? (compile b .sources) k ≡ some s) × (getElem? (bodies b) k ≡ some (s .body)) × ComesFrom f s
+
+-- ---- each loop of a def or method has a slot of its own: proofs/LoopSlots
+
+unfoldable pub isSlot : Numbers → Bool
+isSlot nothing = false
+isSlot aString = false
+isSlot aConstant = false
+isSlot aSlot = true
+isSlot aSymbol = false
+isSlot aFunction = false
+isSlot aBuiltin = false
+
+-- the instruction names a slot from n on
+unfoldable pub isBeyond : ℕ → Instr → Bool
+isBeyond n i = isSlot (numbersOf (i .op)) && leb n (i .a)
+
+-- the instructions that do, in their order
+unfoldable pub beyond : ℕ → List Instr → List Instr
+beyond n [] = []
+beyond n (i ∷ is) = elim (isBeyond n i) [ true ↦ i ∷ beyond n is | false ↦ beyond n is ]
+
+-- what so many loops do with the slots from n on, in the order they stand: each has one slot, stores to it once, and loads it in two places
+unfoldable pub iteratorCode : ℕ → ℕ → List Instr
+iteratorCode n zero = []
+iteratorCode n (suc m) = StoreLocal n ∷ LoadLocal n ∷ LoadLocal n ∷ iteratorCode (suc n) m
+
+-- the loops of function k that keep their iterators in slots: those of its body, but none of main's, function 0
+unfoldable pub loopsBody : Body → ℕ
+loopsBody (blockBody b end) = loopsBlock b
+loopsBody (exprBody e) = 0
+
+unfoldable pub loopsOf : ℕ → Body → ℕ
+loopsOf zero body = 0
+loopsOf (suc k) body = loopsBody body
+
+-- a function's slots are those of its names, then one for each loop; and what names a slot beyond those of the names is the loops' code, no other
+pub record OwnSlots (f : Function) (names loops : ℕ) : Type 0 where
+  pub locals : f .locals ≡ names + loops
+  pub code : beyond names (f .code) ≡ iteratorCode names loops
+
+abbrev pub LoopSlots : Type 0
+LoopSlots =
+    (l : Limits) → Under l office → (b : Block) (t : Tables) → lowerBlock l b ≡ accepted t
+    → (k : ℕ) (f : Function) → getElem? (t .functions) k ≡ some f
+    → (s : Source) × (getElem? (compile b .sources) k ≡ some s) × (getElem? (bodies b) k ≡ some (s .body)) × OwnSlots f (length (s .frame .names)) (loopsOf k (s .body))
 
 -- ---- demand 3: proofs/Demand3, proofs/Demand3Bytes
 

@@ -9,7 +9,7 @@ use lib.Dec.{leb}
 use lib.ListN.{length, take, drop, getD}
 use Rattle.definitions.specs.Bytes.{Name}
 use Rattle.definitions.specs.Tree.{Expr, Stmt, Block, []ᵇ, _∷ᵇ_, Branches, done, else, when, Methods, []ᵐ, method}
-use Rattle.definitions.specs.Slots.{localsBlock}
+use Rattle.definitions.specs.Slots.{withLoops}
 use Rattle.state.specs.State.{slotsFrom, slotNames}
 use Rattle.state.specs.Fits.{fitsExpr, fitsTarget, fitsStmt, fitsBlock, fitsBranches, fitsMethods}
 use Rattle.parts.specs.Places.{Node, node, countAt, nameBytes, nameEnd, There, ParamsAt, paramsAt}
@@ -18,9 +18,9 @@ use Rattle.tree.specs.StmtAt.{stmtAt, blockAt, stmtsAt, branchesAt, methodsAt, 
 use Rattle.parts.proofs.Laws.{le-or-gt}
 use Rattle.parts.proofs.Nodes.{Seen}
 use Rattle.tree.proofs.StmtViews.{stmt-known, view-break, view-continue, view-pass, view-expr, view-return, view-assign, view-if, view-while, view-for, view-def, view-class, view-block, view-stmts-none, view-stmts-more, view-branches-more, else-known, view-done, view-else, view-methods-none, view-methods-more}
-use Rattle.slots.specs.Slotted.{Collected}
-use Rattle.slots.specs.declared.Locals.{Locals}
-use Rattle.slots.specs.declared.Locals.the-variants.{Count}
+use Rattle.slots.specs.Slotted.{Frames}
+use Rattle.slots.specs.declared.collect.Framed.{Framed}
+use Rattle.slots.specs.declared.collect.Framed.the-variants.{Slots}
 use Rattle.slots.proofs.Adding.{none-names}
 use Rattle.slots.proofs.Kinded.{up}
 use Rattle.fits.specs.Walk.{Walks, defFits}
@@ -65,7 +65,7 @@ module _ (d : ℕ) (t : List ℕ) (p : ℕ) (r : StmtReads d t p) (slots : List 
     unfolding fitsStmt forAt
     fits-for e g = made-of _ (view-for d t p r e .is) g
 
-    pub fits-def : getD t p 0 ≡ 9 → Walks o (defBlockAt (d - 1) t (p + 1) .end) (defFits (localsBlock (defBlockAt (d - 1) t (p + 1) .value) (paramsAt t (nameEnd t (p + 1)) .value)) (defBlockAt (d - 1) t (p + 1) .value)) → Whole
+    pub fits-def : getD t p 0 ≡ 9 → Walks o (defBlockAt (d - 1) t (p + 1) .end) (defFits (withLoops (paramsAt t (nameEnd t (p + 1)) .value) (defBlockAt (d - 1) t (p + 1) .value)) (defBlockAt (d - 1) t (p + 1) .value)) → Whole
     unfolding fitsStmt defAt defFits
     fits-def e g = made-of _ (view-def d t p r e .is) g
 
@@ -171,7 +171,7 @@ abbrev pub MethodsLeft : ℕ → List ℕ → ℕ → ℕ → ℕ → ℕ → Ty
 MethodsLeft d t = Left (λ n p. MethodsRead d n t p) (λ n p. methodsAt d n t p .end) (λ n p. fitsMethods (methodsAt d n t p .value))
 
 abbrev pub methodFits : ℕ → List ℕ → ℕ → Bool
-methodFits d t p = defFits (localsBlock (defBlockAt d t p .value) (paramsAt t (nameEnd t p) .value)) (defBlockAt d t p .value)
+methodFits d t p = defFits (withLoops (paramsAt t (nameEnd t p) .value) (defBlockAt d t p .value)) (defBlockAt d t p .value)
 
 module _ (d : ℕ) (t : List ℕ) (n p : ℕ) (r : MethodsRead d n t p) where
   pub methods-step : 0 < n → Step (λ n p. MethodsRead d n t p) (λ n p. methodsAt d n t p .end) (λ n p. fitsMethods (methodsAt d n t p .value)) n p (defBlockAt d t p .end) (methodFits d t p)
@@ -195,12 +195,12 @@ module _ (d : ℕ) (t : List ℕ) (p a q : ℕ) (e : a ≡ nameEnd t p) (f : q �
   pub def-block : BlockReads d t q
   def-block = subst (λ (m : ℕ). BlockReads d t m) (sym block-at) (h .block)
 
-  pub def-collected : (r : Locals) (ps : List ℕ) → Collected r t ps (localsBlock (blockAt d t q .value) (paramsAt t a .value)) → Collected r t ps (localsBlock (defBlockAt d t p .value) (paramsAt t (nameEnd t p) .value))
-  def-collected r ps c = subst (Collected r t ps) (ap₂ (λ (m k : ℕ). localsBlock (blockAt d t m .value) (paramsAt t k .value)) block-at e) c
+  pub def-framed : {r : Framed} {ps : List ℕ} → Frames r t ps (withLoops (paramsAt t a .value) (blockAt d t q .value)) → Frames r t ps (withLoops (paramsAt t (nameEnd t p) .value) (defBlockAt d t p .value))
+  def-framed {r} {ps} c = subst (Frames r t ps) (ap₂ (λ (m k : ℕ). withLoops (paramsAt t k .value) (blockAt d t m .value)) block-at e) c
 
-  pub def-body : (r : Locals) (ps : List ℕ) (n : ℕ) (o : Fit) → Collected r t ps (localsBlock (blockAt d t q .value) (paramsAt t a .value)) → r ≡ Count n → slotsFrom + 255 ≤ length ps →
+  pub def-body : {r : Framed} {ps : List ℕ} {n m : ℕ} (o : Fit) → Frames r t ps (withLoops (paramsAt t a .value) (blockAt d t q .value)) → r ≡ Slots n m → slotsFrom + 255 ≤ length ps →
       Walks o (blockAt d t q .end) (fitsBlock (slotNames t (take (slotsFrom + n - 0) (drop 0 ps))) (blockAt d t q .value)) → Walks o (defBlockAt d t p .end) (methodFits d t p)
-  def-body r ps n o c k g w = def-inside r t ps _ (def-collected r ps c) n k g o _ _ _ _ (ap (λ (m : ℕ). blockAt d t m .end) block-at) (ap (λ (m : ℕ). blockAt d t m .value) block-at) w
+  def-body o c k g w = def-inside (def-framed c) k g o (ap (λ (m : ℕ). blockAt d t m .end) block-at) (ap (λ (m : ℕ). blockAt d t m .value) block-at) w
 
 pub full-length : (ps : List ℕ) → length ps ≡ 2304 → slotsFrom + 255 ≤ length ps
 full-length ps e = omega arith

@@ -11,9 +11,12 @@ use Rattle.definitions.specs.Bytes.{Name}
 use Rattle.definitions.specs.Tree.{Expr, Block}
 use Rattle.state.specs.State.{slotsFrom, slotNames, Slots}
 use Rattle.state.specs.Fits.{fitsExpr, fitsBlock}
-use Rattle.slots.specs.Slotted.{firstNames, Collected}
+use Rattle.definitions.specs.Slots.{Frame}
+use Rattle.slots.specs.Slotted.{firstNames, Indexed, Collected, Frames}
 use Rattle.slots.specs.declared.Locals.{Locals}
 use Rattle.slots.specs.declared.Locals.the-variants.{Count, TooMany}
+use Rattle.slots.specs.declared.collect.Framed.{Framed}
+use Rattle.slots.specs.declared.collect.Framed.the-variants as Framed
 use Rattle.slots.proofs.Adding.{first-length, part-before, front-names, front-slots}
 use Rattle.slots.proofs.Params.{collected-count, collected-over}
 use Rattle.fits.specs.Walk.{Short, Walks, lambdaFits, defFits}
@@ -85,39 +88,58 @@ left-start R E B n p r = record { reads = r; end = refl; ok = refl }
 
 -- ---- the slots of a function inside
 
-module _ (r : Locals) (t ps : List ℕ) (inner : List Name) (c : Collected r t ps inner) where
-  too-many : r ≡ TooMany → leb (length inner) 255 ≡ false
-  too-many e = lt-leb (length inner) 255 (collected-over r t ps inner c e)
+-- the first n slots have the names
+module _ (t ps : List ℕ) (inner : List Name) (n : ℕ) (few : n ≤ 255) (names : firstNames t n ps ≡ inner) (indexed : Indexed t n ps) (g : slotsFrom + 255 ≤ length ps) where
+  inner-room : slotsFrom + n ≤ length ps
+  inner-room = omega arith
 
+  inner-names : slotNames t (take (slotsFrom + n - 0) (drop 0 ps)) ≡ inner
+  inner-names = ap (slotNames t) (part-before (slotsFrom + n) ps) ∙ front-names t ps n inner-room ∙ names
+
+  inner-slots : length t ≤ 32768 → Short t (take (slotsFrom + n - 0) (drop 0 ps))
+  inner-slots k = record { tree = k; slotted = subst (Slots t) (sym (part-before (slotsFrom + n) ps)) (front-slots t ps n inner-room few indexed) }
+
+-- of a lambda
+module _ (r : Locals) (t ps : List ℕ) (inner : List Name) (c : Collected r t ps inner) where
   pub lambda-over : (e : ℕ) (b : Expr) → r ≡ TooMany → Walks Over e (lambdaFits inner b)
   unfolding lambdaFits
-  lambda-over e b h = over-walks e _ (ap (λ (x : Bool). x && fitsExpr inner b) (too-many h))
-
-  pub def-over : (e : ℕ) (b : Block) → r ≡ TooMany → Walks Over e (defFits inner b)
-  unfolding defFits
-  def-over e b h = over-walks e _ (ap (λ (x : Bool). x && fitsBlock inner b) (too-many h))
+  lambda-over e b h = over-walks e _ (ap (λ (x : Bool). x && fitsExpr inner b) (lt-leb (length inner) 255 (collected-over r t ps inner c h)))
 
   module _ (n : ℕ) (h : r ≡ Count n) where
     pub slots-few : n ≤ 255
     slots-few = collected-count r t ps inner n c h .0
 
     module _ (g : slotsFrom + 255 ≤ length ps) where
-      inner-room : slotsFrom + n ≤ length ps
-      inner-room = let a = slots-few in omega arith
-
-      inner-names : slotNames t (take (slotsFrom + n - 0) (drop 0 ps)) ≡ inner
-      inner-names = ap (slotNames t) (part-before (slotsFrom + n) ps) ∙ front-names t ps n inner-room ∙ collected-count r t ps inner n c h .1
-
       few-names : leb (length inner) 255 ≡ true
-      few-names = let a = slots-few in le-leb (length inner) 255 (omega (arith, ap length (collected-count r t ps inner n c h .1), first-length t n ps inner-room))
+      few-names =
+          let a = slots-few in
+          le-leb (length inner) 255 (omega (arith, ap length (collected-count r t ps inner n c h .1), first-length t n ps (inner-room t ps inner n a (collected-count r t ps inner n c h .1) (collected-count r t ps inner n c h .2) g)))
 
       pub inner-short : length t ≤ 32768 → Short t (take (slotsFrom + n - 0) (drop 0 ps))
-      inner-short k = record { tree = k; slotted = subst (Slots t) (sym (part-before (slotsFrom + n) ps)) (front-slots t ps n inner-room slots-few (collected-count r t ps inner n c h .2)) }
+      inner-short k = inner-slots t ps inner n slots-few (collected-count r t ps inner n c h .1) (collected-count r t ps inner n c h .2) g k
 
       pub lambda-inside : (o : Fit) (e e′ : ℕ) (b b′ : Expr) → e ≡ e′ → b ≡ b′ → Walks o e (fitsExpr (slotNames t (take (slotsFrom + n - 0) (drop 0 ps))) b) → Walks o e′ (lambdaFits inner b′)
       unfolding lambdaFits
-      lambda-inside o e e′ b b′ i j w = walks-as o e e′ _ _ w i (ap₂ fitsExpr inner-names j ∙ sym (ap (λ (x : Bool). x && fitsExpr inner b′) few-names))
+      lambda-inside o e e′ b b′ i j w =
+          walks-as o e e′ _ _ w i (ap₂ fitsExpr (inner-names t ps inner n slots-few (collected-count r t ps inner n c h .1) (collected-count r t ps inner n c h .2) g) j ∙ sym (ap (λ (x : Bool). x && fitsExpr inner b′) few-names))
 
-      pub def-inside : (o : Fit) (e e′ : ℕ) (b b′ : Block) → e ≡ e′ → b ≡ b′ → Walks o e (fitsBlock (slotNames t (take (slotsFrom + n - 0) (drop 0 ps))) b) → Walks o e′ (defFits inner b′)
+-- of a def or method
+module _ {r : Framed} {t ps : List ℕ} {inner : Frame} (c : Frames r t ps inner) where
+  pub def-over : (e : ℕ) (b : Block) → r ≡ Framed.TooMany → Walks Over e (defFits inner b)
+  unfolding defFits
+  def-over e b h = over-walks e _ (ap (λ (x : Bool). x && fitsBlock (inner .names) b) (lt-leb (inner .locals) 255 (c .over h)))
+
+  module _ {n m : ℕ} (h : r ≡ Framed.Slots n m) where
+    pub def-few : n ≤ 255
+    def-few = let F = c .framing _ _ h in omega (arith, F .named, F .few)
+
+    module _ (g : slotsFrom + 255 ≤ length ps) where
+      pub def-short : length t ≤ 32768 → Short t (take (slotsFrom + n - 0) (drop 0 ps))
+      def-short k = let F = c .framing _ _ h in inner-slots t ps (inner .names) n def-few (F .names) (F .indexed) g k
+
+      pub def-inside : {e e′ : ℕ} {b b′ : Block} (o : Fit) → e ≡ e′ → b ≡ b′ → Walks o e (fitsBlock (slotNames t (take (slotsFrom + n - 0) (drop 0 ps))) b) → Walks o e′ (defFits inner b′)
       unfolding defFits
-      def-inside o e e′ b b′ i j w = walks-as o e e′ _ _ w i (ap₂ fitsBlock inner-names j ∙ sym (ap (λ (x : Bool). x && fitsBlock inner b′) few-names))
+      def-inside {e} {e′} {b} {b′} o i j w =
+          let F = c .framing _ _ h in
+          walks-as o e e′ _ _ w i (ap₂ fitsBlock (inner-names t ps (inner .names) n def-few (F .names) (F .indexed) g) j
+          ∙ sym (ap (λ (x : Bool). x && fitsBlock (inner .names) b′) (le-leb (inner .locals) 255 (omega (arith, F .locals, F .few)))))

@@ -7,6 +7,7 @@ use lib.ListN.{length, getD}
 use lib.Dec.{leb}
 use Rattle.definitions.specs.Bytes.{Name}
 use Rattle.definitions.specs.Tree.{Expr, Block}
+use Rattle.definitions.specs.Slots.{Frame}
 use Rattle.state.specs.State.{Slots}
 use Rattle.state.specs.Fits.{fitsExpr, fitsBlock}
 use Rattle.fits.specs.declared.Fit.{Fit}
@@ -26,5 +27,5 @@ Walks Over end ok = ok ≡ false
 unfoldable pub lambdaFits : List Name → Expr → Bool
 lambdaFits inner b = leb (length inner) 255 && fitsExpr inner b
 
-unfoldable pub defFits : List Name → Block → Bool
-defFits inner b = leb (length inner) 255 && fitsBlock inner b
+unfoldable pub defFits : Frame → Block → Bool
+defFits inner b = leb (inner .locals) 255 && fitsBlock (inner .names) b

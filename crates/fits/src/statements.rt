@@ -4,7 +4,7 @@ use crate::expressions::fits_expr;
 use crate::expressions::fits_target;
 use parts::names::name_end;
 use parts::numbers::u16_at;
-use slots::Locals;
+use slots::collect::Framed;
 use slots::collect::collect_locals;
 use slots::skip::skip_params;
 use slots::skip::skip_stmt;
@@ -13,7 +13,7 @@ ghost use mathlib.Core.Bool.{_&&_};
 ghost use mathlib.Core.List.{List, []};
 ghost use Prim.Native.Nat.{_+_, _*_, _-_, _≤_, _<_};
 ghost use lib.ListN.{length, getD};
-ghost use Rattle.definitions.specs.Slots.{localsBlock};
+ghost use Rattle.definitions.specs.Slots.{withLoops};
 ghost use Rattle.state.specs.State.{slotNames};
 ghost use Rattle.state.specs.Fits.{fitsExpr, fitsTarget, fitsStmt, fitsBlock, fitsBranches, fitsMethods};
 ghost use Rattle.parts.specs.Places.{nameEnd, paramsAt};
@@ -142,13 +142,13 @@ fn fits_for(tree: &[u8], at: usize, depth: u32, slots: &[u32]) -> Fit
 // A def after its kind byte, or a method: its own slots, and its block with these.
 fn fits_def(tree: &[u8], at: usize, depth: u32) -> Fit
     requires { ⌜ (length (now tree) ≤ 32768) × DefAt depth (now tree) at ⌝ }
-    ensures { λ r. ⌜ Walks r (defBlockAt depth (now (tree .entry)) at .end) (defFits (localsBlock (defBlockAt depth (now (tree .entry)) at .value) (paramsAt (now (tree .entry)) (nameEnd (now (tree .entry)) at) .value)) (defBlockAt depth (now (tree .entry)) at .value)) ⌝ }
+    ensures { λ r. ⌜ Walks r (defBlockAt depth (now (tree .entry)) at .end) (defFits (withLoops (paramsAt (now (tree .entry)) (nameEnd (now (tree .entry)) at) .value) (defBlockAt depth (now (tree .entry)) at .value)) (defBlockAt depth (now (tree .entry)) at .value)) ⌝ }
 {
     let mut inner = [0u32; 2304];
     let params = name_end(tree, at);
     let p = skip_params(tree, params);
     let found = collect_locals(tree, params, p, depth, &mut inner);
-    let Locals::Count(n) = found else {
+    let Framed::Slots(n, _) = found else {
         return Fit::Over;
     };
     let end = 2048 + n as usize;

@@ -5,7 +5,7 @@ use mathlib.Core.List.{List, [], _∷_, _++_, map, append-assoc}
 use native.Mathlib.Omega.{arith}
 use native.Mathlib.Nat.{le-refl}
 use lib.ListN.{length, drop, set, length-append}
-use Rattle.definitions.specs.Bytes.{Name}
+use Rattle.definitions.specs.Slots.{Frame}
 use Rattle.definitions.specs.Tables.{Function, Tables, begin}
 use Rattle.state.specs.Words.{region, textAt, instrsOf}
 use Rattle.state.specs.State.{stringsFrom, headsFrom, codesFrom, classNamesFrom, classMethodsFrom, methodsFrom, constantsFrom, doneFrom, spelled, functionOf, functionsOf}
@@ -20,10 +20,10 @@ use Rattle.state.proofs.Emission.{state-eq}
 use Rattle.lower_emit.specs.Nesting.{begunWith, bodyOf, Begins}
 use Rattle.lower_emit.proofs.Setting.{grown-length, grown-below, grown-above, grown-first, grown-second}
 
--- for any names of the slots
-pub begun-names : (k arity n : ℕ) (slots : List Name) (s : State) → length slots ≡ n → begunWith k arity n s ≡ begun k arity slots s
+-- for any frame of so many slots
+pub begun-frame : (k arity n : ℕ) (frame : Frame) (s : State) → frame .locals ≡ n → begunWith k arity n s ≡ begun k arity frame s
 unfolding begunWith begun begin
-begun-names k arity n slots s e = rw (← e)
+begun-frame k arity n frame s e = rw (← e)
 
 body-here : (fs gs : List Function) (f : Function) → bodyOf (fs ++ (f ∷ gs)) (length fs) ≡ f .code
 unfolding bodyOf
@@ -31,9 +31,9 @@ body-here [] gs f = refl
 body-here (x ∷ fs) gs f = body-here fs gs f
 
 -- a function that has begun has no code, also when others come after it
-pub begun-body : (k arity : ℕ) (slots : List Name) (s : State) (fs new : List Function) → fs ≡ begun k arity slots s .tables .functions ++ new → bodyOf fs (length (s .tables .functions)) ≡ []
+pub begun-body : (k arity : ℕ) (frame : Frame) (s : State) (fs new : List Function) → fs ≡ begun k arity frame s .tables .functions ++ new → bodyOf fs (length (s .tables .functions)) ≡ []
 unfolding begun begin
-begun-body k arity slots s fs new e =
+begun-body k arity frame s fs new e =
     ap (λ (z : List Function). bodyOf z (length (s .tables .functions))) (e ∙ append-assoc (s .tables .functions) _ new) ∙ body-here (s .tables .functions) new _
 
 pub tables-eq : (t u : Tables) → t .symbols ≡ u .symbols → t .strings ≡ u .strings → t .functions ≡ u .functions → t .classes ≡ u .classes → t .constants ≡ u .constants → t ≡ u

@@ -8,7 +8,7 @@ use Rattle.state.specs.State.{State, stateOf, withTables, Within, Sound, Paced}
 use Rattle.state.specs.declared.Counts.{Counts}
 use Rattle.state.specs.Answered.{Limits, Numbered, At, Over}
 
--- a function of n slots has begun: `begun`, where the slots' names don't matter
+-- a function of n slots has begun: `begun`, where the rest of its frame doesn't matter
 unfoldable pub begunWith : ℕ → ℕ → ℕ → State → State
 begunWith k arity n s =
     withTables (withFunctions (s .tables .functions ++ record { symbol = k; arity = arity; locals = n; code = [] } ∷ []) (s .tables)) s

@@ -35,6 +35,9 @@ pub const INSTRUCTION_LIMIT: usize = 4;
 // No number: there is no room.
 pub const OVER: u32 = 65536;
 
+// The slots of loops are below this number; main's loops, which keep their iterators in globals, have it in the place of a slot.
+pub const IN_GLOBALS: u32 = 256;
+
 // The first finished word of the code area.
 pub const FINISHED_FROM: usize = 8192;
 

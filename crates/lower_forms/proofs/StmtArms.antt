@@ -12,6 +12,7 @@ use Rattle.definitions.specs.Tree.{Stmt, if, when, for, Block, Branches, done, 
 use Rattle.definitions.specs.Instruction.{instr}
 use Rattle.definitions.specs.Tables.{Emit, emits, one, _⨟_}
 use Rattle.definitions.specs.Wellformed.{init, ifAsked, isTarget, askName, askParams, askExpr, askTarget, askStmt, askBlock, askBranches, askMethod, askMethods, askAttribute}
+use Rattle.definitions.specs.Slots.{Keeping, past, loopsStmt}
 use Rattle.definitions.specs.Lower.{loop, emitStmt, emitBlock}
 use Rattle.parts.specs.Places.{Node, node, countAt, Counted, nameBytes, nameEnd, paramsAt}
 use Rattle.exprs.specs.ExprAt.{exprAt, secondAt}
@@ -27,10 +28,10 @@ use Rattle.lower_forms.proofs.ExprArms.{and-both, name-same, few-params
 use Rattle.lower_forms.specs.Lowering.{StmtLowerable, BlockLowerable, StmtsLowerable, stmtCode, blockCode, stmtsCode, BranchLowerable, BranchesLowerable, IfLowerable}
 use Rattle.lower_forms.specs.Lowering.{ForLowerable, FunctionLowerable, endOf, functionCode, MethodsLowerable, ClassLowerable, classCode}
 
--- the statement at p holds what Parts says; its code is e, by the names of the slots, and it ends at q
-pub record StmtArm (Parts : Type 0) (d : ℕ) (t : List ℕ) (p : ℕ) (e : List Name → Emit) (q : ℕ) : Type 0 where
+-- the statement at p holds what Parts says; its code is e, by the names of the slots and where loops keep their iterators; it ends at q
+pub record StmtArm (Parts : Type 0) (d : ℕ) (t : List ℕ) (p : ℕ) (e : List Name → Keeping → Emit) (q : ℕ) : Type 0 where
   pub parts : Parts
-  pub code : (names : List Name) → e names ≡ stmtCode d t names p
+  pub code : (names : List Name) (keep : Keeping) → e names keep ≡ stmtCode d t names keep p
   pub end : q ≡ stmtAt d t p .end
 
 module _ (d : ℕ) (t : List ℕ) (p : ℕ) (r : StmtLowerable d t p) where
@@ -47,37 +48,37 @@ module _ (d : ℕ) (t : List ℕ) (p : ℕ) (r : StmtLowerable d t p) where
     asked : askStmt 13 (r .loop) (x .value) ≡ true
     asked = ap (λ (n : Node Stmt). askStmt 13 (r .loop) (n .value)) (sym is) ∙ r .args
 
-    coded : (names : List Name) → emitStmt names (x .value) ≡ stmtCode d t names p
-    coded names = ap (λ (n : Node Stmt). emitStmt names (n .value)) (sym is)
+    coded : (names : List Name) (keep : Keeping) → emitStmt names keep (x .value) ≡ stmtCode d t names keep p
+    coded names keep = ap (λ (n : Node Stmt). emitStmt names keep (n .value)) (sym is)
 
     ends : x .end ≡ stmtAt d t p .end
     ends = ap (λ (n : Node Stmt). n .end) (sym is)
 
   -- ---- those that hold no block
 
-  pub arm-break : getD t p 0 ≡ 0 → StmtArm (Unit {0}) d t p (λ names. one (instr 46 0 0)) (p + 1)
+  pub arm-break : getD t p 0 ≡ 0 → StmtArm (Unit {0}) d t p (λ names keep. one (instr 46 0 0)) (p + 1)
   unfolding emitStmt
   arm-break k = let v = view-break d t p (r .reads) k in record { parts = tt; code = coded _ v; end = ends _ v }
 
-  pub arm-continue : getD t p 0 ≡ 1 → StmtArm (Unit {0}) d t p (λ names. one (instr 47 0 0)) (p + 1)
+  pub arm-continue : getD t p 0 ≡ 1 → StmtArm (Unit {0}) d t p (λ names keep. one (instr 47 0 0)) (p + 1)
   unfolding emitStmt
   arm-continue k = let v = view-continue d t p (r .reads) k in record { parts = tt; code = coded _ v; end = ends _ v }
 
-  pub arm-pass : getD t p 0 ≡ 2 → StmtArm (Unit {0}) d t p (λ names. emits []) (p + 1)
+  pub arm-pass : getD t p 0 ≡ 2 → StmtArm (Unit {0}) d t p (λ names keep. emits []) (p + 1)
   unfolding emitStmt
   arm-pass k = let v = view-pass d t p (r .reads) k in record { parts = tt; code = coded _ v; end = ends _ v }
 
-  pub arm-expr : getD t p 0 ≡ 3 → StmtArm (Lowerable (d - 1) t (p + 1)) d t p (λ names. exprCode (d - 1) t names (p + 1) ⨟ one (instr 7 0 0)) (exprAt (d - 1) t (p + 1) .end)
+  pub arm-expr : getD t p 0 ≡ 3 → StmtArm (Lowerable (d - 1) t (p + 1)) d t p (λ names keep. exprCode (d - 1) t names (p + 1) ⨟ one (instr 7 0 0)) (exprAt (d - 1) t (p + 1) .end)
   unfolding emitStmt askStmt exprStmtAt
   arm-expr k = let v = view-expr d t p (r .reads) k in
       record { parts = record { reads = v .parts; args = asked _ (v .is) }; code = coded _ (v .is); end = ends _ (v .is) }
 
-  pub arm-return : getD t p 0 ≡ 4 → StmtArm (Lowerable (d - 1) t (p + 1)) d t p (λ names. exprCode (d - 1) t names (p + 1) ⨟ one (instr 33 0 0)) (exprAt (d - 1) t (p + 1) .end)
+  pub arm-return : getD t p 0 ≡ 4 → StmtArm (Lowerable (d - 1) t (p + 1)) d t p (λ names keep. exprCode (d - 1) t names (p + 1) ⨟ one (instr 33 0 0)) (exprAt (d - 1) t (p + 1) .end)
   unfolding emitStmt askStmt returnAt
   arm-return k = let v = view-return d t p (r .reads) k in
       record { parts = record { reads = v .parts; args = asked _ (v .is) }; code = coded _ (v .is); end = ends _ (v .is) }
 
-  pub arm-assign : getD t p 0 ≡ 5 → StmtArm (AssignLowerable (d - 1) t (p + 1)) d t p (λ names. assignCode (d - 1) t names (p + 1)) (secondAt (d - 1) t (p + 1) .end)
+  pub arm-assign : getD t p 0 ≡ 5 → StmtArm (AssignLowerable (d - 1) t (p + 1)) d t p (λ names keep. assignCode (d - 1) t names (p + 1)) (secondAt (d - 1) t (p + 1) .end)
   unfolding emitStmt askStmt askTarget assignAt
   arm-assign k =
       let v = view-assign d t p (r .reads) k in
@@ -96,7 +97,7 @@ module _ (d : ℕ) (t : List ℕ) (p : ℕ) (r : StmtLowerable d t p) where
   -- ---- branches and loops
 
   pub arm-if : getD t p 0 ≡ 6 → StmtArm (IfLowerable (d - 1) t (p + 1)) d t p
-      (λ names. emitStmt names (if (when (exprAt (d - 1) t (p + 1) .value) (bodyAt (d - 1) t (p + 1) .value) (elifsAt (d - 1) t (p + 1) .value)))) (elifsAt (d - 1) t (p + 1) .end)
+      (λ names keep. emitStmt names keep (if (when (exprAt (d - 1) t (p + 1) .value) (bodyAt (d - 1) t (p + 1) .value) (elifsAt (d - 1) t (p + 1) .value)))) (elifsAt (d - 1) t (p + 1) .end)
   unfolding askStmt ifAt
   arm-if k =
       let v = view-if d t p (r .reads) k in
@@ -116,7 +117,7 @@ module _ (d : ℕ) (t : List ℕ) (p : ℕ) (r : StmtLowerable d t p) where
       }
 
   pub arm-while : getD t p 0 ≡ 7 → StmtArm (BranchLowerable (d - 1) t (p + 1)) d t p
-      (λ names. loop (exprCode (d - 1) t names (p + 1)) (blockCode (d - 1) t names (exprAt (d - 1) t (p + 1) .end))) (bodyAt (d - 1) t (p + 1) .end)
+      (λ names keep. loop (exprCode (d - 1) t names (p + 1)) (blockCode (d - 1) t names keep (exprAt (d - 1) t (p + 1) .end))) (bodyAt (d - 1) t (p + 1) .end)
   unfolding emitStmt askStmt whileAt
   arm-while k =
       let v = view-while d t p (r .reads) k in
@@ -131,7 +132,7 @@ module _ (d : ℕ) (t : List ℕ) (p : ℕ) (r : StmtLowerable d t p) where
       }
 
   pub arm-for : getD t p 0 ≡ 8 → StmtArm (ForLowerable (d - 1) t (p + 1)) d t p
-      (λ names. emitStmt names (for (nameAt t (p + 1)) (exprAt (d - 1) t (nameEnd t (p + 1)) .value) (bodyAt (d - 1) t (nameEnd t (p + 1)) .value))) (bodyAt (d - 1) t (nameEnd t (p + 1)) .end)
+      (λ names keep. emitStmt names keep (for (nameAt t (p + 1)) (exprAt (d - 1) t (nameEnd t (p + 1)) .value) (bodyAt (d - 1) t (nameEnd t (p + 1)) .value))) (bodyAt (d - 1) t (nameEnd t (p + 1)) .end)
   unfolding askStmt forAt
   arm-for k =
       let v = view-for d t p (r .reads) k in
@@ -146,13 +147,13 @@ module _ (d : ℕ) (t : List ℕ) (p : ℕ) (r : StmtLowerable d t p) where
             block = record { reads = v .parts .loop .block; loop = true; args = a .1 };
           };
         };
-        code = λ names. ap (λ (x : Name). emitStmt names (for x (exprAt (d - 1) t (nameEnd t (p + 1)) .value) (bodyAt (d - 1) t (nameEnd t (p + 1)) .value))) (sym (name-same t (p + 1))) ∙ coded _ (v .is) names;
+        code = λ names keep. ap (λ (x : Name). emitStmt names keep (for x (exprAt (d - 1) t (nameEnd t (p + 1)) .value) (bodyAt (d - 1) t (nameEnd t (p + 1)) .value))) (sym (name-same t (p + 1))) ∙ coded _ (v .is) names keep;
         end = ends _ (v .is);
       }
 
   -- ---- defs and classes
 
-  pub arm-def : getD t p 0 ≡ 9 → StmtArm (FunctionLowerable (d - 1) t (p + 1)) d t p (λ names. functionCode (d - 1) t (p + 1) false) (defBlockAt (d - 1) t (p + 1) .end)
+  pub arm-def : getD t p 0 ≡ 9 → StmtArm (FunctionLowerable (d - 1) t (p + 1)) d t p (λ names keep. functionCode (d - 1) t (p + 1) false) (defBlockAt (d - 1) t (p + 1) .end)
   unfolding emitStmt askStmt defAt endOf nameBytes nameAt
   arm-def k =
       let v = view-def d t p (r .reads) k in
@@ -170,7 +171,7 @@ module _ (d : ℕ) (t : List ℕ) (p : ℕ) (r : StmtLowerable d t p) where
         end = ends _ (v .is);
       }
 
-  pub arm-class : getD t p 0 ≡ 10 → StmtArm (ClassLowerable (d - 1) t (p + 1)) d t p (λ names. classCode (nameAt t (p + 1)) (classMethodsAt (d - 1) t (p + 1) .value)) (stmtAt d t p .end)
+  pub arm-class : getD t p 0 ≡ 10 → StmtArm (ClassLowerable (d - 1) t (p + 1)) d t p (λ names keep. classCode (nameAt t (p + 1)) (classMethodsAt (d - 1) t (p + 1) .value)) (stmtAt d t p .end)
   unfolding emitStmt askStmt classAt classCode nameBytes nameAt
   arm-class k =
       let v = view-class d t p (r .reads) k in
@@ -202,10 +203,11 @@ module _ (d : ℕ) (t : List ℕ) where
         },
       )
 
-  pub block-code : (names : List Name) (p n : ℕ) → BlockLowerable d t p → n ≡ countAt t p → (stmtsCode d n t names (p + 2) ≡ blockCode d t names p) × (stmtsAt d n t (p + 2) .end ≡ blockAt d t p .end)
-  block-code names p n r e =
+  pub block-code : (names : List Name) (keep : Keeping) (p n : ℕ) → BlockLowerable d t p → n ≡ countAt t p
+      → (stmtsCode d n t names keep (p + 2) ≡ blockCode d t names keep p) × (stmtsAt d n t (p + 2) .end ≡ blockAt d t p .end)
+  block-code names keep p n r e =
       let v = view-block d t p (r .reads) in (
-        ap (λ (m : ℕ). stmtsCode d m t names (p + 2)) e ∙ ap (λ (x : Node Block). emitBlock names (x .value)) (sym (v .is)),
+        ap (λ (m : ℕ). stmtsCode d m t names keep (p + 2)) e ∙ ap (λ (x : Node Block). emitBlock names keep (x .value)) (sym (v .is)),
         ap (λ (m : ℕ). stmtsAt d m t (p + 2) .end) e ∙ ap (λ (x : Node Block). x .end) (sym (v .is)),
       )
 
@@ -218,18 +220,19 @@ module _ (d : ℕ) (t : List ℕ) where
         record { reads = v .parts .rest; loop = r .loop; args = a .1 },
       )
 
-  pub stmts-code : (names : List Name) (n p : ℕ) → 0 < n → StmtsLowerable d n t p
-      → (stmtsCode d n t names p ≡ (stmtCode d t names p ⨟ stmtsCode d (n - 1) t names (stmtAt d t p .end))) × (stmtsAt d n t p .end ≡ stmtsAt d (n - 1) t (stmtAt d t p .end) .end)
+  pub stmts-code : (names : List Name) (keep : Keeping) (n p : ℕ) → 0 < n → StmtsLowerable d n t p
+      → (stmtsCode d n t names keep p ≡ (stmtCode d t names keep p ⨟ stmtsCode d (n - 1) t names (past (loopsStmt (stmtAt d t p .value)) keep) (stmtAt d t p .end)))
+      × (stmtsAt d n t p .end ≡ stmtsAt d (n - 1) t (stmtAt d t p .end) .end)
   unfolding emitStmt consAt
-  stmts-code names n p h r =
+  stmts-code names keep n p h r =
       let v = view-stmts-more d n t p h (r .reads) in
-      (ap (λ (x : Node Block). emitBlock names (x .value)) (v .is), ap (λ (x : Node Block). x .end) (v .is))
+      (ap (λ (x : Node Block). emitBlock names keep (x .value)) (v .is), ap (λ (x : Node Block). x .end) (v .is))
 
-  pub stmts-none : (names : List Name) (n p : ℕ) → n ≤ 0 → StmtsLowerable d n t p → (stmtsCode d n t names p ≡ emits []) × (p ≡ stmtsAt d n t p .end)
+  pub stmts-none : (names : List Name) (keep : Keeping) (n p : ℕ) → n ≤ 0 → StmtsLowerable d n t p → (stmtsCode d n t names keep p ≡ emits []) × (p ≡ stmtsAt d n t p .end)
   unfolding emitStmt
-  stmts-none names n p h r =
+  stmts-none names keep n p h r =
       let v = view-stmts-none d n t p h (r .reads .start) in
-      (ap (λ (x : Node Block). emitBlock names (x .value)) v, sym (ap (λ (x : Node Block). x .end) v))
+      (ap (λ (x : Node Block). emitBlock names keep (x .value)) v, sym (ap (λ (x : Node Block). x .end) v))
 
   -- ---- elifs and else
 

@@ -11,7 +11,7 @@ use Rattle.definitions.specs.Wellformed.{askExpr, askExprs}
 use Rattle.definitions.specs.Instruction.{Instr}
 use Rattle.definitions.specs.Instruction
 use Rattle.definitions.specs.Tables.{Emit, emits, one, _⨟_, function, exprBody, intern}
-use Rattle.definitions.specs.Slots.{captures}
+use Rattle.definitions.specs.Slots.{captures, namesOnly}
 use Rattle.definitions.specs.Lower.{Callee, builtinCallee, functionCallee, valueCallee, load, lambdaName, closure, emitExpr, emitExprs}
 use Rattle.parts.specs.Places.{countAt, Counted, nameEnd, There, ParamsAt, paramsAt}
 use Rattle.exprs.specs.ExprAt.{exprAt, exprsAt, ExprReads, ExprsRead}
@@ -137,7 +137,7 @@ closureCode d t names arity inner p = closure names arity (namesAt t inner) (nam
 
 -- the code of its function, with f functions before it
 abbrev pub functionCode : ℕ → List ℕ → ℕ → ℕ → List ℕ → ℕ → Emit
-functionCode d t f arity inner p = function (lambdaName f) arity (namesAt t inner) (exprBody (exprAt d t p .value)) (exprCode d t (namesAt t inner) p ⨟ one Instruction.Return)
+functionCode d t f arity inner p = function (lambdaName f) arity (namesOnly (namesAt t inner)) (exprBody (exprAt d t p .value)) (exprCode d t (namesAt t inner) p ⨟ one Instruction.Return)
 
 pub record ClosureLowerable (d : ℕ) (t : List ℕ) (arity : ℕ) (inner : List ℕ) (p : ℕ) : Type 0 where
   pub few : length inner ≤ 255

@@ -1,5 +1,5 @@
 -- What the lowering of statements asks of the tree, and the code of what stands at a position. In all of these d is the number of levels left for what
--- is held, names are those of the slots; `loop` is whether a loop is around, which question 13 does not mind.
+-- is held, names are those of the slots, keep says where loops keep their iterators; `loop` is whether a loop is around, which question 13 does not mind.
 use Prim.Native.Nat.{ℕ, _+_, _≤_}
 use mathlib.Core.Path.{_≡_}
 use mathlib.Core.Bool.{Bool, true, false}
@@ -10,7 +10,7 @@ use Rattle.definitions.specs.Tree.{Methods}
 use Rattle.definitions.specs.Instruction.{Instr, LoadLocal, Return}
 use Rattle.definitions.specs.Tables.{Emit, emits, _⨟_, function, blockBody}
 use Rattle.definitions.specs.Wellformed.{askStmt, askBlock, askBranches, askMethods}
-use Rattle.definitions.specs.Slots.{localsBlock}
+use Rattle.definitions.specs.Slots.{Keeping, Frame, withLoops}
 use Rattle.definitions.specs.Lower.{emitStmt, emitBlock, beginClass, classOut, emitMethods}
 use Rattle.parts.specs.Places.{countAt, Counted, nameEnd, There, ParamsAt, paramsAt}
 use Rattle.exprs.specs.ExprAt.{exprAt}
@@ -44,14 +44,14 @@ pub record StmtsLowerable (d n : ℕ) (t : List ℕ) (p : ℕ) : Type 0 where
   pub loop : Bool
   pub args : askBlock 13 loop (stmtsAt d n t p .value) ≡ true
 
-abbrev pub stmtCode : ℕ → List ℕ → List Name → ℕ → Emit
-stmtCode d t names p = emitStmt names (stmtAt d t p .value)
+abbrev pub stmtCode : ℕ → List ℕ → List Name → Keeping → ℕ → Emit
+stmtCode d t names keep p = emitStmt names keep (stmtAt d t p .value)
 
-abbrev pub blockCode : ℕ → List ℕ → List Name → ℕ → Emit
-blockCode d t names p = emitBlock names (blockAt d t p .value)
+abbrev pub blockCode : ℕ → List ℕ → List Name → Keeping → ℕ → Emit
+blockCode d t names keep p = emitBlock names keep (blockAt d t p .value)
 
-abbrev pub stmtsCode : ℕ → ℕ → List ℕ → List Name → ℕ → Emit
-stmtsCode d n t names p = emitBlock names (stmtsAt d n t p .value)
+abbrev pub stmtsCode : ℕ → ℕ → List ℕ → List Name → Keeping → ℕ → Emit
+stmtsCode d n t names keep p = emitBlock names keep (stmtsAt d n t p .value)
 
 -- ---- branches and loops
 
@@ -78,8 +78,8 @@ pub record ForLowerable (d : ℕ) (t : List ℕ) (p : ℕ) : Type 0 where
 -- ---- defs, methods and classes
 
 -- the slots of a def or method whose name is at p
-abbrev pub localsAt : ℕ → List ℕ → ℕ → List Name
-localsAt d t p = localsBlock (defBlockAt d t p .value) (paramsAt t (nameEnd t p) .value)
+abbrev pub frameAt : ℕ → List ℕ → ℕ → Frame
+frameAt d t p = withLoops (paramsAt t (nameEnd t p) .value) (defBlockAt d t p .value)
 
 pub record FunctionLowerable (d : ℕ) (t : List ℕ) (p : ℕ) : Type 0 where
   pub name : There t p
@@ -95,8 +95,8 @@ endOf false = Return ∷ []
 -- the function whose name is at p
 abbrev pub functionCode : ℕ → List ℕ → ℕ → Bool → Emit
 functionCode d t p init =
-    function (nameAt t p) (length (paramsAt t (nameEnd t p) .value)) (localsAt d t p) (blockBody (defBlockAt d t p .value) (endOf init))
-    (emitBlock (localsAt d t p) (defBlockAt d t p .value) ⨟ emits (endOf init))
+    function (nameAt t p) (length (paramsAt t (nameEnd t p) .value)) (frameAt d t p) (blockBody (defBlockAt d t p .value) (endOf init))
+    (emitBlock (frameAt d t p .names) (frameAt d t p .keep) (defBlockAt d t p .value) ⨟ emits (endOf init))
 
 pub record MethodsLowerable (d n : ℕ) (t : List ℕ) (p : ℕ) : Type 0 where
   pub reads : MethodsRead d n t p

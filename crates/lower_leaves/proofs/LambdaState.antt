@@ -11,7 +11,7 @@ use Rattle.definitions.specs.Bytes.{Name, all, member, position, same, below}
 use Rattle.definitions.specs.Tree.{Expr}
 use Rattle.definitions.specs.Instruction.{Return, MakeClosure, LoadLocal}
 use Rattle.definitions.specs.Tables.{Function, Body, exprBody, Emit, one, _⨟_, function}
-use Rattle.definitions.specs.Slots.{within, insert, sort, captures}
+use Rattle.definitions.specs.Slots.{inGlobals, Frame, namesOnly, within, insert, sort, captures}
 use Rattle.definitions.proofs.Resolve.{position-lt}
 use Rattle.definitions.specs.Lower.{lambdaName, load, loads, closure, emitExpr}
 use Rattle.parts.specs.Places.{paramsAt, countAt}
@@ -28,7 +28,7 @@ use Rattle.state.proofs.Enclosing.{at-function, symbol-functions}
 use Rattle.state.proofs.Growth.{Lengthened, Lengthens, lengthens-one, lengthens-seq, lengthens-expr, functions-longer}
 use Rattle.state.proofs.Within.{within-one, within-down, within-begun, within-function, closure-slots}
 use Rattle.lower_emit.specs.Nesting.{begunWith, bodyOf, Moved, Begins}
-use Rattle.lower_emit.proofs.Begun.{begun-names, begun-body}
+use Rattle.lower_emit.proofs.Begun.{begun-frame, begun-body}
 use Rattle.lower_emit.proofs.Setting.{map-drop}
 use Rattle.lower_names.proofs.Naming.{at-slot, at-load}
 use Rattle.names.specs.Made.{madeName}
@@ -62,15 +62,9 @@ module _ (t made code tables made₁ tables₁ : List ℕ) (c k : Counts) (l : L
 
   pub begin-over : (n sy arity locals : ℕ) (tables₂ : List ℕ) → (Within l named → ⊥) → Begins Over t made₁ code tables₂ c l n (begunWith sy arity locals named)
   unfolding Begins begunWith
-  begin-over n sy arity locals tables₂ h = λ w. h (within-begun sy arity (slots-of locals) named (subst (Within l) (begun-names sy arity locals (slots-of locals) named (slots-count locals)) w))
-    where
-      slots-of : ℕ → List Name
-      slots-of zero = []
-      slots-of (suc n) = [] ∷ slots-of n
-
-      slots-count : (n : ℕ) → length (slots-of n) ≡ n
-      slots-count zero = refl
-      slots-count (suc n) = ap suc (slots-count n)
+  begin-over n sy arity locals tables₂ h =
+      let f : Frame = record { locals = locals; names = []; keep = inGlobals } in
+      λ w. h (within-begun sy arity f named (subst (Within l) (begun-frame sy arity locals f named refl) w))
 
   same-open : Left k t made₁ code tables₁ c l named → k .open ≡ c .open
   same-open f = sym (stack-length t made₁ code tables₁ k l (f .sound)) ∙ ap (λ (u : State). length (u .stack)) (f .state) ∙ stack-length t made code tables c l s
@@ -146,16 +140,16 @@ module _ (t made code tables : List ℕ) (c : Counts) (l : Limits) (s : Sound t 
   abbrev start : State
   start = begunWith (symbolNumber x (before .tables)) arity (length inner) (withTables (withSymbol x (before .tables)) before)
 
-  started : start ≡ begun (symbolNumber x (before .tables)) arity (namesAt t inner) (withTables (withSymbol x (before .tables)) before)
-  started = begun-names _ arity (length inner) (namesAt t inner) _ (names-length t inner)
+  started : start ≡ begun (symbolNumber x (before .tables)) arity (namesOnly (namesAt t inner)) (withTables (withSymbol x (before .tables)) before)
+  started = begun-frame _ arity (length inner) (namesOnly (namesAt t inner)) _ (names-length t inner)
 
-  over : Within l (emitAt (c .base) (function x arity (namesAt t inner) body (e ⨟ one Return)) before) → Within l (emitAt (length (before .stack)) (e ⨟ one Return) start)
+  over : Within l (emitAt (c .base) (function x arity (namesOnly (namesAt t inner)) body (e ⨟ one Return)) before) → Within l (emitAt (length (before .stack)) (e ⨟ one Return) start)
   over w =
       subst (λ (u : State). Within l (emitAt (length (before .stack)) (e ⨟ one Return) u)) (sym started)
-      (within-function (c .base) x arity (namesAt t inner) body before _ refl (lengthens-seq E (lengthens-one Return)) w)
+      (within-function (c .base) x arity (namesOnly (namesAt t inner)) body before _ refl (lengthens-seq E (lengthens-one Return)) w)
 
   pub function-over : (r : Numbered) (next i : ℕ) (made′ code′ tables′ : List ℕ) → r ≡ Over → Begins r t made′ code tables′ c l i start
-      → Lowers Full (function x arity (namesAt t inner) body (e ⨟ one Return)) next t made code tables made′ code′ tables′ c l
+      → Lowers Full (function x arity (namesOnly (namesAt t inner)) body (e ⨟ one Return)) next t made code tables made′ code′ tables′ c l
   function-over r next i made′ code′ tables′ z h =
       full-emits t made′ code′ tables′ c l next _ (λ w. begins-over r t made′ code tables′ c l i start z h (within-down (length (before .stack)) start (lengthens-seq E (lengthens-one Return)) (over w)))
 
@@ -175,7 +169,7 @@ module _ (t made code tables : List ℕ) (c : Counts) (l : Limits) (s : Sound t 
     two-steps = at-seq (length (before .stack)) e (one Return) start start-below
 
     pub function-body-over : (r : Emitted) (q next : ℕ) (made′ code′ tables′ : List ℕ) → r ≡ Full → Lowers r e q t made₁ code tables₁ made′ code′ tables′ k l
-        → Lowers Full (function x arity (namesAt t inner) body (e ⨟ one Return)) next t made code tables made′ code′ tables′ c l
+        → Lowers Full (function x arity (namesOnly (namesAt t inner)) body (e ⨟ one Return)) next t made code tables made′ code′ tables′ c l
     function-body-over r q next made′ code′ tables′ z h =
         full-emits t made′ code′ tables′ c l next _ (λ w. emits-full t made′ code′ tables′ k l q _ r z h
         (subst (Within l) (sym from-start) (within-one (length (before .stack)) Return _ (subst (Within l) two-steps (over w)))))
@@ -208,22 +202,22 @@ module _ (t made code tables : List ℕ) (c : Counts) (l : Limits) (s : Sound t 
       pub function-empty : bodyOf (stateOf t made₂ code₂ tables₂ m .tables .functions) f ≡ []
       function-empty =
           ap (bodyOf (stateOf t made₂ code₂ tables₂ m .tables .functions)) (sym number)
-          ∙ begun-body _ arity (namesAt t inner) (withTables (withSymbol x (before .tables)) before) _ (body-tables .new)
+          ∙ begun-body _ arity (namesOnly (namesAt t inner)) (withTables (withSymbol x (before .tables)) before) _ (body-tables .new)
           (body-tables .functions ∙ ap (λ (u : State). u .tables .functions ++ body-tables .new) started)
 
       last-state : emitAt (m .base) (one Return) (stateOf t made₂ code₂ tables₂ m) ≡ emitAt (length (before .stack)) (e ⨟ one Return) start
       last-state = (λ i. emitAt (at-base i) (one Return) (after-body i)) ∙ sym two-steps
 
-      ended-state : ended (m .base) f (emitAt (m .base) (one Return) (stateOf t made₂ code₂ tables₂ m)) ≡ emitAt (c .base) (function x arity (namesAt t inner) body (e ⨟ one Return)) before
+      ended-state : ended (m .base) f (emitAt (m .base) (one Return) (stateOf t made₂ code₂ tables₂ m)) ≡ emitAt (c .base) (function x arity (namesOnly (namesAt t inner)) body (e ⨟ one Return)) before
       ended-state =
           (λ i. ended (at-base i) f (last-state i))
           ∙ ap (λ (n : ℕ). ended (length (before .stack)) n (emitAt (length (before .stack)) (e ⨟ one Return) start)) (sym number ∙ ap length (symbol-functions x (before .tables)))
           ∙ ap (λ (u : State). ended (length (before .stack)) (length (before .tables .functions)) (emitAt (length (before .stack)) (e ⨟ one Return) u)) started
-          ∙ sym (at-function (c .base) x arity (namesAt t inner) body (e ⨟ one Return) before _ refl)
+          ∙ sym (at-function (c .base) x arity (namesOnly (namesAt t inner)) body (e ⨟ one Return) before _ refl)
 
       pub function-end : (r : Emitted) (q next : ℕ) (code₃ tables₃ : List ℕ) → q ≡ next
           → Ends r (c .base) t made₂ code₃ tables₃ m l q (emitAt (m .base) (one Return) (stateOf t made₂ code₂ tables₂ m)) (ended (m .base) f (emitAt (m .base) (one Return) (stateOf t made₂ code₂ tables₂ m)))
-          → Lowers r (function x arity (namesAt t inner) body (e ⨟ one Return)) next t made code tables made₂ code₃ tables₃ c l
+          → Lowers r (function x arity (namesOnly (namesAt t inner)) body (e ⨟ one Return)) next t made code tables made₂ code₃ tables₃ c l
       unfolding Ends
       function-end (Done n j) q next code₃ tables₃ z h =
           done-emits t made₂ code₃ tables₃ c l next _ n j (h .0 ∙ z) (record {

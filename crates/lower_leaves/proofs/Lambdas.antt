@@ -8,6 +8,7 @@ use lib.ListN.{length, getD, set, drop, length-set, length-drop}
 use lib.Seq.{getD-set-same, getD-set-other}
 use Rattle.definitions.specs.Bytes.{member, same, position}
 use Rattle.definitions.specs.Instruction.{Instr, Return, ConstI64}
+use Rattle.definitions.specs.Slots.{namesOnly}
 use Rattle.definitions.specs.Tables.{Emit, Body, one, _⨟_, function}
 use Rattle.definitions.specs.Lower.{lambdaName, load, loads, literal}
 use Rattle.state.specs.Words.{word, instrOf, nameAt}
@@ -114,7 +115,7 @@ module _ {t made code tables k l code′ tables′ k′ : List ℕ} {f base next
 module _ {t made code tables k l made₁ tables₁ k₁ : List ℕ} {f arity : ℕ} (S : SoundIn t made code tables k l) (inner : List ℕ) (e : Emit) (E : Lengthens e) (body : Body)
     (b : BeginsLambda f arity (length inner) t made made₁ tables tables₁ k k₁ l) where
   abbrev whole : Emit
-  whole = function (lambdaName (getD k 2 0)) arity (namesAt t inner) body (e ⨟ one Return)
+  whole = function (lambdaName (getD k 2 0)) arity (namesOnly (namesAt t inner)) body (e ⨟ one Return)
 
   pub function1-over : {next : ℕ} → 65536 ≤ f → LowersIn 0 whole next t made code tables k l made₁ code tables₁ k₁
   function1-over {next} z = lowers-full (b .numbers)

@@ -1,27 +1,24 @@
 -- The number of a made name, and the instruction with it.
-use Prim.Native.Nat.{ℕ, _-_, _<_, _≤_}
+use Prim.Native.Nat.{ℕ, _<_, _≤_}
 use mathlib.Core.Path.{_≡_, sym, _∙_}
 use mathlib.Core.List.{List}
 use native.Mathlib.Omega.{arith}
 use lib.ListN.{getD}
 use Rattle.definitions.specs.Bytes.{Name}
-use Rattle.definitions.specs.Instruction.{Instr, StoreGlobal, LoadGlobal, CallMethod}
+use Rattle.definitions.specs.Instruction.{Instr, CallMethod}
 use Rattle.definitions.specs.Tables.{one, _⨟_, intern}
-use Rattle.definitions.specs.Lower.{iterName, makeIter, askIter, takeIter, store}
-use Rattle.state.specs.State.{State, stateOf, Numbers, symbolNumber, withSymbol, withTables}
-use Rattle.state.specs.Answered.{At, Over}
+use Rattle.definitions.specs.Lower.{Keeper, makeIter, loadIter, askIter, takeIter, store}
+use Rattle.state.specs.State.{State, stateOf}
 use Rattle.state.proofs.Answers.{base-below}
 use Rattle.state.proofs.Emission.{at-seq}
 use Rattle.names.specs.Made.{madeName}
-use Rattle.names.specs.declared.Made.the-variants.{Iter, HasNext, Next, Iterator}
+use Rattle.names.specs.declared.Made.the-variants.{Iter, HasNext, Next}
 use Rattle.lower_names.proofs.Naming.{symbol-over, symbol-sound, symbol-put}
-use Rattle.lower_loops.proofs.Calling.{make-emits, ask-emits, take-is, iterator-numbers, store-over, store-full, store-at}
+use Rattle.lower_loops.proofs.Calling.{make-emits, ask-emits, take-is}
 use Rattle.lower_emit.specs.Numbers.{countsOf, limitsIn, answered, numbered, SoundIn, LowersIn}
-use Rattle.lower_emit.proofs.Counts.{answered-full, answered-done, numbered-at, numbered-over}
+use Rattle.lower_emit.proofs.Counts.{numbered-at, numbered-over}
 use Rattle.lower_emit.proofs.Steps.{lowers-full, lowers-state}
 use Rattle.lower_names.specs.Naming.{InternsMade}
-use Rattle.lower_loops.specs.Iterators.{StoresIterator}
-use Rattle.lower_emit.proofs.Functions.{numbers-as}
 
 module _ {tree made code tables made₁ tables₁ k k₁ l : List ℕ} {x : Name} {i : ℕ} (S : SoundIn tree made code tables k l) (h : InternsMade i x tree made made₁ tables tables₁ k k₁ l) where
   abbrev s : State
@@ -46,43 +43,14 @@ module _ {tree made code tables made₁ code₁ tables₁ k k₁ l : List ℕ} {
   pub make1 : LowersIn r (intern (madeName Iter) (λ n. one (CallMethod n 0))) next tree made code tables k l made₁ code₁ tables₁ k₁ → LowersIn r makeIter next tree made code tables k l made₁ code₁ tables₁ k₁
   make1 h = record { emits = make-emits _ tree made₁ code₁ tables₁ (countsOf k) (limitsIn l) next _ _ (h .emits); numbers = h .numbers }
 
-  pub ask1 : (g : ℕ) → LowersIn r (one (LoadGlobal g) ⨟ intern (madeName HasNext) (λ n. one (CallMethod n 0))) next tree made code tables k l made₁ code₁ tables₁ k₁ → LowersIn r (askIter g) next tree made code tables k l made₁ code₁ tables₁ k₁
+  pub ask1 : (g : Keeper) → LowersIn r (one (loadIter g) ⨟ intern (madeName HasNext) (λ n. one (CallMethod n 0))) next tree made code tables k l made₁ code₁ tables₁ k₁
+      → LowersIn r (askIter g) next tree made code tables k l made₁ code₁ tables₁ k₁
   ask1 g h = record { emits = ask-emits _ tree made₁ code₁ tables₁ (countsOf k) (limitsIn l) next _ _ g (h .emits); numbers = h .numbers }
 
-  pub take1 : (slots : List Name) (y : Name) (g : ℕ) → SoundIn tree made code tables k l
-      → LowersIn r ((one (LoadGlobal g) ⨟ intern (madeName Next) (λ n. one (CallMethod n 0))) ⨟ store slots y) next tree made code tables k l made₁ code₁ tables₁ k₁ → LowersIn r (takeIter slots y g) next tree made code tables k l made₁ code₁ tables₁ k₁
+  pub take1 : (slots : List Name) (y : Name) (g : Keeper) → SoundIn tree made code tables k l
+      → LowersIn r ((one (loadIter g) ⨟ intern (madeName Next) (λ n. one (CallMethod n 0))) ⨟ store slots y) next tree made code tables k l made₁ code₁ tables₁ k₁
+      → LowersIn r (takeIter slots y g) next tree made code tables k l made₁ code₁ tables₁ k₁
   take1 slots y g S h =
       let s = stateOf tree made code tables (countsOf k) in
       let b = base-below tree made code tables (countsOf k) (limitsIn l) (S .sound) in
-      lowers-state h (sym (take-is (getD k 7 0) slots y g s b) ∙ sym (at-seq (getD k 7 0) (one (LoadGlobal g) ⨟ intern (madeName Next) (λ n. one (CallMethod n 0))) (store slots y) s b))
-
--- ---- the iterator is stored
-
-module _ {tree made code tables made₁ tables₁ k k₁ l : List ℕ} {g : ℕ} (S : SoundIn tree made code tables k l) (h : InternsMade g (madeName (Iterator (getD k 8 0 - getD k 7 0))) tree made made₁ tables tables₁ k k₁ l) where
-  abbrev n : ℕ
-  n = getD k 8 0 - getD k 7 0
-
-  named : Numbers (numbered g k₁) tree made₁ code tables₁ (countsOf k) (limitsIn l) (symbolNumber (iterName n) (stateOf tree made code tables (countsOf k) .tables))
-      (withTables (withSymbol (iterName n) (stateOf tree made code tables (countsOf k) .tables)) (stateOf tree made code tables (countsOf k)))
-  named = iterator-numbers (numbered g k₁) tree made₁ code tables₁ (countsOf k) (limitsIn l) (stateOf tree made code tables (countsOf k)) n (h .numbers code S)
-
-  pub stored-over : 65536 ≤ g → StoresIterator 65536 tree made code tables k l made₁ code tables₁ k₁
-  stored-over z = record {
-    numbers = numbers-as Over (numbered 65536 k₁) tree made₁ code tables₁ k l _ _ (numbered-over 65536 k₁ (omega arith)) (store-over tree made code tables made₁ tables₁ (countsOf k) (limitsIn l) (iterName n) (numbered g k₁) named made₁ code tables₁ (numbered-over g k₁ z));
-    kept = h .kept;
-  }
-
-  module _ {code₂ k₂ : List ℕ} {p next : ℕ} (z : g < 65536) (a : LowersIn p (one (StoreGlobal g)) next tree made₁ code tables₁ k₁ l made₁ code₂ tables₁ k₂) where
-    pub stored-full : p ≡ 0 → StoresIterator 65536 tree made code tables k l made₁ code₂ tables₁ k₂
-    stored-full e = record {
-      numbers = numbers-as Over (numbered 65536 k₂) tree made₁ code₂ tables₁ k l _ _ (numbered-over 65536 k₂ (omega arith))
-          (store-full tree made code tables made₁ tables₁ (countsOf k) (limitsIn l) (iterName n) (numbered g k₁) named g (countsOf k₁) (numbered-at g k₁ z) next code₂ (answered p k₂) (a .emits) made₁ code₂ tables₁ (answered-full p k₂ e));
-      kept = a .numbers;
-    }
-
-    pub stored-done : (p ≡ 0 → ⊥) → StoresIterator g tree made code tables k l made₁ code₂ tables₁ k₂
-    stored-done e = record {
-      numbers = numbers-as (At g (countsOf k₂)) (numbered g k₂) tree made₁ code₂ tables₁ k l _ _ (numbered-at g k₂ z)
-          (store-at tree made code tables made₁ tables₁ (countsOf k) (limitsIn l) (iterName n) (numbered g k₁) named g (countsOf k₁) (numbered-at g k₁ z) next code₂ (answered p k₂) (a .emits) p (countsOf k₂) (answered-done p k₂ e));
-      kept = a .numbers;
-    }
+      lowers-state h (sym (take-is (getD k 7 0) slots y g s b) ∙ sym (at-seq (getD k 7 0) (one (loadIter g) ⨟ intern (madeName Next) (λ n. one (CallMethod n 0))) (store slots y) s b))

@@ -2,26 +2,34 @@
 use lower_emit::ops::CALL_METHOD;
 use lower_emit::ops::JUMP_IF_FALSE;
 use lower_emit::ops::LOAD_GLOBAL;
+use lower_emit::ops::LOAD_LOCAL;
 use lower_emit::ops::STORE_GLOBAL;
+use lower_emit::ops::STORE_LOCAL;
+use lower_emit::packed;
 use lower_emit::places::BASE;
+use lower_emit::places::IN_GLOBALS;
 use lower_emit::places::OPEN;
 use lower_emit::places::OVER;
+use lower_emit::put;
 use lower_emit::put_op;
 use lower_names::emit_store;
 use lower_names::intern_made;
 use names::Made;
-ghost use Prim.Native.Nat.{_-_, _<_};
+ghost use mathlib.Core.Path.{_≡_};
+ghost use Prim.Native.Nat.{_<_};
 ghost use lib.ListN.{length};
-ghost use Rattle.definitions.specs.Instruction.{instr, LoadGlobal, CallMethod, JumpIfFalse};
+ghost use Rattle.definitions.specs.Instruction.{instr, CallMethod, JumpIfFalse};
+ghost use Rattle.definitions.specs.Slots.{inGlobals};
 ghost use Rattle.definitions.specs.Tables.{one, _⨟_};
 ghost use Rattle.definitions.specs.Tables as Tables;
-ghost use Rattle.definitions.specs.Lower.{makeIter, askIter, takeIter};
-ghost use Rattle.state.specs.Words.{nameAt};
+ghost use Rattle.definitions.specs.Lower.{makeIter, loadIter, askIter, takeIter};
+ghost use Rattle.state.specs.Words.{word, nameAt};
 ghost use Rattle.state.specs.State.{slotNames, Slots};
+ghost use Rattle.state.specs.Kept.{keepingOf, afterLoops};
 ghost use Rattle.lower_emit.specs.Ops.{Plain};
 ghost use Rattle.names.specs.Made.{madeName};
-ghost use Rattle.lower_emit.specs.Numbers.{SoundIn, LowersIn};
-ghost use Rattle.lower_loops.specs.Iterators.{StoresIterator};
+ghost use Rattle.lower_emit.specs.Numbers.{Room, SoundIn, LowersIn};
+ghost use Rattle.lower_loops.specs.Iterators.{keeperOf, Loads, StoresKept, StoresIterator};
 
 // An instruction with the symbol of a made name, and b.
 pub fn emit_made(
@@ -75,8 +83,27 @@ pub fn make_iterator(
     )
 }
 
-// The iterator goes to the global of its place: the number of that symbol, 65,536 where there is no room.
-pub fn store_iterator(
+// A value is stored by an instruction with the operand a: the word that loads it again, 0 where there is no room.
+fn store_kept(
+    code: &mut [u32],
+    k: &mut [u32; 10],
+    l: &[u32; 5],
+    store: u32,
+    load: u32,
+    a: u32,
+) -> u32
+    requires { ⌜ Room (now code) (now k) (now l) × Plain store a 0 × Plain load a 0 × (0 < load) ⌝ }
+    ensures { λ r. ⌜ StoresKept r (word load a 0) (instr store a 0) (now (code .entry)) (now (k .entry)) (now (l .entry)) (now (code .exit)) (now (k .exit)) ⌝ }
+{
+    let p = put_op(code, k, l, store, a, 0, 1);
+    if p == 0 {
+        return 0;
+    }
+    packed(load, a, 0)
+}
+
+// The iterator goes to the global that is named by the place of its store: the word that loads it, 0 where there is no room.
+fn store_global(
     tree: &[u8],
     made: &mut [u8; 20500],
     code: &mut [u32],
@@ -85,21 +112,40 @@ pub fn store_iterator(
     l: &[u32; 5],
 ) -> u32
     requires { ⌜ SoundIn (now tree) (now made) (now code) (now tables) (now k) (now l) ⌝ }
-    ensures { λ r. ⌜ StoresIterator r (now (tree .entry)) (now (made .entry)) (now (code .entry)) (now (tables .entry)) (now (k .entry)) (now (l .entry)) (now (made .exit)) (now (code .exit)) (now (tables .exit)) (now (k .exit)) ⌝ }
+    ensures { λ r. ⌜ StoresIterator r inGlobals (now (tree .entry)) (now (made .entry)) (now (code .entry)) (now (tables .entry)) (now (k .entry)) (now (l .entry)) (now (made .exit)) (now (code .exit)) (now (tables .exit)) (now (k .exit)) ⌝ }
 {
     let place = k[OPEN] - k[BASE];
     let g = intern_made(tree, made, tables, k, l, Made::Iterator(place));
     if OVER <= g {
-        return OVER;
+        return 0;
     }
-    let p = put_op(code, k, l, STORE_GLOBAL, g, 0, 1);
-    if p == 0 {
-        return OVER;
-    }
-    g
+    store_kept(code, k, l, STORE_GLOBAL, LOAD_GLOBAL, g)
 }
 
-// The method with a made name of the iterator in global g is called.
+// The iterator goes to the slot of its loop, and the next loop has the next slot; in main it goes to a global. The word that loads it, 0 where there is no
+// room.
+pub fn store_iterator(
+    tree: &[u8],
+    made: &mut [u8; 20500],
+    code: &mut [u32],
+    tables: &mut [u32],
+    k: &mut [u32; 10],
+    l: &[u32; 5],
+    it: &mut u32,
+) -> u32
+    requires { ⌜ SoundIn (now tree) (now made) (now code) (now tables) (now k) (now l) ⌝ }
+    ensures { λ r. ⌜ StoresIterator r (keepingOf (now (it .entry))) (now (tree .entry)) (now (made .entry)) (now (code .entry)) (now (tables .entry)) (now (k .entry)) (now (l .entry)) (now (made .exit)) (now (code .exit)) (now (tables .exit)) (now (k .exit))
+        × (now (it .exit) ≡ afterLoops (now (it .entry)) 1) ⌝ }
+{
+    let slot = *it;
+    if slot < IN_GLOBALS {
+        *it = slot + 1;
+        return store_kept(code, k, l, STORE_LOCAL, LOAD_LOCAL, slot);
+    }
+    store_global(tree, made, code, tables, k, l)
+}
+
+// The method with a made name of the iterator that a word loads is called.
 fn call_iterator(
     tree: &[u8],
     made: &mut [u8; 20500],
@@ -107,15 +153,15 @@ fn call_iterator(
     tables: &mut [u32],
     k: &mut [u32; 10],
     l: &[u32; 5],
-    g: u32,
+    load: u32,
     m: Made,
     next: usize,
 ) -> usize
-    requires { ⌜ SoundIn (now tree) (now made) (now code) (now tables) (now k) (now l) × (g < 65536) × (length (madeName m) < 20) × (0 < next) ⌝ }
-    ensures { λ r. ⌜ LowersIn r (one (LoadGlobal g) ⨟ Tables.intern (madeName m) (λ k. one (CallMethod k 0))) next
+    requires { ⌜ SoundIn (now tree) (now made) (now code) (now tables) (now k) (now l) × Loads load (keeperOf load) × (length (madeName m) < 20) × (0 < next) ⌝ }
+    ensures { λ r. ⌜ LowersIn r (one (loadIter (keeperOf load)) ⨟ Tables.intern (madeName m) (λ k. one (CallMethod k 0))) next
         (now (tree .entry)) (now (made .entry)) (now (code .entry)) (now (tables .entry)) (now (k .entry)) (now (l .entry)) (now (made .exit)) (now (code .exit)) (now (tables .exit)) (now (k .exit)) ⌝ }
 {
-    let p = put_op(code, k, l, LOAD_GLOBAL, g, 0, next);
+    let p = put(code, k, l, load, next);
     if p == 0 {
         return 0;
     }
@@ -130,14 +176,14 @@ pub fn ask_iterator(
     tables: &mut [u32],
     k: &mut [u32; 10],
     l: &[u32; 5],
-    g: u32,
+    load: u32,
     next: usize,
 ) -> usize
-    requires { ⌜ SoundIn (now tree) (now made) (now code) (now tables) (now k) (now l) × (g < 65536) × (0 < next) ⌝ }
-    ensures { λ r. ⌜ LowersIn r (askIter g ⨟ one (JumpIfFalse 0)) next
+    requires { ⌜ SoundIn (now tree) (now made) (now code) (now tables) (now k) (now l) × Loads load (keeperOf load) × (0 < next) ⌝ }
+    ensures { λ r. ⌜ LowersIn r (askIter (keeperOf load) ⨟ one (JumpIfFalse 0)) next
         (now (tree .entry)) (now (made .entry)) (now (code .entry)) (now (tables .entry)) (now (k .entry)) (now (l .entry)) (now (made .exit)) (now (code .exit)) (now (tables .exit)) (now (k .exit)) ⌝ }
 {
-    let p = call_iterator(tree, made, code, tables, k, l, g, Made::HasNext, next);
+    let p = call_iterator(tree, made, code, tables, k, l, load, Made::HasNext, next);
     if p == 0 {
         return 0;
     }
@@ -154,14 +200,14 @@ pub fn take_iterator(
     k: &mut [u32; 10],
     l: &[u32; 5],
     at: usize,
-    g: u32,
+    load: u32,
     next: usize,
 ) -> usize
-    requires { ⌜ SoundIn (now tree) (now made) (now code) (now tables) (now k) (now l) × Slots (now tree) (now slots) × (at < 32768) × (g < 65536) × (0 < next) ⌝ }
-    ensures { λ r. ⌜ LowersIn r (takeIter (slotNames (now (tree .entry)) (now (slots .entry))) (nameAt (now (tree .entry)) at) g) next
+    requires { ⌜ SoundIn (now tree) (now made) (now code) (now tables) (now k) (now l) × Slots (now tree) (now slots) × (at < 32768) × Loads load (keeperOf load) × (0 < next) ⌝ }
+    ensures { λ r. ⌜ LowersIn r (takeIter (slotNames (now (tree .entry)) (now (slots .entry))) (nameAt (now (tree .entry)) at) (keeperOf load)) next
         (now (tree .entry)) (now (made .entry)) (now (code .entry)) (now (tables .entry)) (now (k .entry)) (now (l .entry)) (now (made .exit)) (now (code .exit)) (now (tables .exit)) (now (k .exit)) ⌝ }
 {
-    let p = call_iterator(tree, made, code, tables, k, l, g, Made::Next, next);
+    let p = call_iterator(tree, made, code, tables, k, l, load, Made::Next, next);
     if p == 0 {
         return 0;
     }

@@ -18,6 +18,7 @@ ghost use Rattle.definitions.specs.Bytes.{same};
 ghost use Rattle.definitions.specs.Instruction.{instr};
 ghost use Rattle.definitions.specs.Tables.{one, emits, _⨟_};
 ghost use Rattle.definitions.specs.Wellformed.{init};
+ghost use Rattle.definitions.specs.Slots.{Keeping};
 ghost use Rattle.definitions.specs.Lower.{makeIter};
 ghost use Rattle.exprs.specs.ExprAt.{exprAt};
 ghost use Rattle.tree.specs.StmtAt.{stmtAt};
@@ -75,7 +76,7 @@ pub fn emit_iterable(
     make_iterator(tree, made, code, tables, k, l, next)
 }
 
-// A statement that holds no block: Break, Continue, Pass, Expr, Return or Assign.
+// A statement that holds no block: Break, Continue, Pass, Expr, Return or Assign. It has no loops, wherever these keep their iterators.
 pub fn emit_simple(
     tree: &[u8],
     at: usize,
@@ -88,8 +89,8 @@ pub fn emit_simple(
     l: &[u32; 5],
 ) -> usize
     requires { ⌜ ReadyIn (now tree) (now slots) (now made) (now code) (now tables) (now k) (now l) × StmtLowerable depth (now tree) at × (getD (now tree) at 0 < 6) ⌝ }
-    ensures { λ r. ⌜ LowersIn r (stmtCode depth (now (tree .entry)) (slotNames (now (tree .entry)) (now (slots .entry))) at) (stmtAt depth (now (tree .entry)) at .end)
-        (now (tree .entry)) (now (made .entry)) (now (code .entry)) (now (tables .entry)) (now (k .entry)) (now (l .entry)) (now (made .exit)) (now (code .exit)) (now (tables .exit)) (now (k .exit)) ⌝ }
+    ensures { λ r. ⌜ ((keep : Keeping) → LowersIn r (stmtCode depth (now (tree .entry)) (slotNames (now (tree .entry)) (now (slots .entry))) keep at) (stmtAt depth (now (tree .entry)) at .end)
+        (now (tree .entry)) (now (made .entry)) (now (code .entry)) (now (tables .entry)) (now (k .entry)) (now (l .entry)) (now (made .exit)) (now (code .exit)) (now (tables .exit)) (now (k .exit))) ⌝ }
 {
     let kind = tree[at];
     let a = at + 1;

@@ -12,11 +12,13 @@ use Rattle.definitions.specs.Instruction.{Instr}
 use Rattle.definitions.specs.Tables.{Function, Tables, Emit, emits, _⨟_, begin, blockBody, setCode, function}
 use Rattle.definitions.specs.Lower.{emitBlock}
 use Rattle.parts.specs.Places.{nameEnd, paramsAt}
-use Rattle.definitions.specs.Slots.{localsBlock}
+use Rattle.definitions.specs.Slots.{Keeping, inSlots, Frame, withLoops, loopsBlock}
 use Rattle.tree.specs.StmtAt.{blockAt, defBlockAt}
 use Rattle.state.specs.Words.{nameAt}
 use Rattle.state.specs.State.{State, slotsFrom, slotNames, Slots, stateOf, emitAt, Sound, Within, Ready, Left, Emits, symbolNumber, withSymbol, withTables}
 use Rattle.state.specs.Steps.{begun, ended, methodFunction}
+use Rattle.state.specs.Kept.{keepingOf, Spare}
+use Rattle.state.proofs.Kept.{keeping-slot}
 use Rattle.state.specs.declared.Counts.{Counts}
 use Rattle.state.specs.Answered.{Limits, Emitted, Done, Full, Numbered, At, Over}
 use Rattle.state.proofs.Views.{stack-length, function-count}
@@ -25,19 +27,14 @@ use Rattle.state.proofs.Growth.{Lengthens, Lengthened, lengthens-seq, lengthens
 use Rattle.state.proofs.Within.{within-down, within-function, function-slots}
 use Rattle.state.proofs.Answers.{paced-more}
 use Rattle.lower_emit.specs.Nesting.{begunWith, bodyOf, Moved, Begins}
-use Rattle.slots.specs.declared.Locals.{Locals}
-use Rattle.slots.specs.declared.Locals.the-variants.{Count}
-use Rattle.slots.specs.Slotted.{firstNames, Indexed, Collected}
+use Rattle.slots.specs.declared.collect.Framed.{Framed}
+use Rattle.slots.specs.Slotted.{firstNames, Indexed, Framing, Frames}
 use Rattle.slots.proofs.Adding.{first-length, part-before, front-names, front-slots}
-use Rattle.lower_forms.specs.Lowering.{Sole, localsAt, endOf, functionCode}
+use Rattle.lower_forms.specs.Lowering.{Sole, frameAt, endOf, functionCode}
 use Rattle.lower_stmt.specs.Compiled.{Ahead, Compiles}
 use Rattle.lower_forms.proofs.Sequences.{method-end}
 
 -- ---- answers, once they are matched on
-
-pub collected-count : (r : Locals) (t ps : List ℕ) (want : List Name) (n : ℕ) → r ≡ Count n → Collected r t ps want → (n ≤ 255) × (firstNames t n ps ≡ want) × Indexed t n ps
-unfolding Collected
-collected-count r t ps want n e h = rw e at h
 
 module _ (t made code tables : List ℕ) (c : Counts) (l : Limits) (n : ℕ) (want : State) where
   pub begins-at : (r : Numbered) (i : ℕ) (k : Counts) → r ≡ At i k → Begins r t made code tables c l n want
@@ -78,9 +75,20 @@ compiles-as r t made code tables c l n want want′ e h = subst (Compiles r t ma
 pub names-length : (t ps : List ℕ) (n : ℕ) (want : List Name) → slotsFrom + n ≤ length ps → firstNames t n ps ≡ want → n ≡ length want
 names-length t ps n want h e = sym (ap length (sym e) ∙ first-length t n ps h)
 
-pub collected-at : (r : Locals) (t ps : List ℕ) (d at params block : ℕ) → params ≡ nameEnd t at → block ≡ paramsAt t (nameEnd t at) .end
-    → Collected r t ps (localsBlock (blockAt d t block .value) (paramsAt t params .value)) → Collected r t ps (localsAt d t at)
-collected-at r t ps d at params block e f h = subst (Collected r t ps) (λ j. localsBlock (blockAt d t (f j) .value) (paramsAt t (e j) .value)) h
+pub framed-at : {r : Framed} {t ps : List ℕ} {params block : ℕ} (d at : ℕ) → params ≡ nameEnd t at → block ≡ paramsAt t (nameEnd t at) .end
+    → Frames r t ps (withLoops (paramsAt t params .value) (blockAt d t block .value)) → Frames r t ps (frameAt d t at)
+framed-at {r} {t} {ps} d at e f h = subst (Frames r t ps) (λ j. withLoops (paramsAt t (e j) .value) (blockAt d t (f j) .value)) h
+
+-- the loops' slots come after the n that have a name, and there are enough
+module _ {n m : ℕ} {t ps : List ℕ} (xs : List Name) (b : Block) (F : Framing n m t ps (withLoops xs b)) (room : slotsFrom + 255 ≤ length ps) where
+  named : n ≡ length (withLoops xs b .names)
+  named = names-length t ps n _ (omega (arith, F .named, F .few)) (F .names)
+
+  pub frame-keeping : keepingOf n ≡ withLoops xs b .keep
+  frame-keeping = keeping-slot n (omega (arith, F .named, F .few)) ∙ ap inSlots named
+
+  pub frame-spare : Spare n (loopsBlock b)
+  frame-spare = record { at = λ h. omega (arith, named, F .locals, F .few) }
 
 -- the slots that are used
 pub part-names : (t ps : List ℕ) (n : ℕ) (want : List Name) → firstNames t n ps ≡ want → slotsFrom + n ≤ length ps → slotNames t (take (slotsFrom + n - 0) (drop 0 ps)) ≡ want
@@ -106,7 +114,7 @@ no-body (h ∷ fs) gs f e = no-body fs gs f e
 
 -- ---- the whole function
 
-module _ (t made code tables : List ℕ) (c : Counts) (l : Limits) (sound : Sound t made code tables c l) (x : Name) (arity n : ℕ) (ps inner : List Name) (ea : arity ≡ length ps) (en : n ≡ length inner)
+module _ (t made code tables : List ℕ) (c : Counts) (l : Limits) (sound : Sound t made code tables c l) (x : Name) (arity n : ℕ) (ps : List Name) (inner : Frame) (ea : arity ≡ length ps) (en : n ≡ inner .locals)
     (b : Block) (end : List Instr) where
   abbrev s : State
   s = stateOf t made code tables c
@@ -118,10 +126,10 @@ module _ (t made code tables : List ℕ) (c : Counts) (l : Limits) (sound : Soun
   symbol = symbolNumber x (s .tables)
 
   abbrev e : Emit
-  e = emitBlock inner b ⨟ emits end
+  e = emitBlock (inner .names) (inner .keep) b ⨟ emits end
 
   E : Lengthens e
-  E = lengthens-seq (lengthens-block inner b) (lengthens-emits end)
+  E = lengthens-seq (lengthens-block (inner .names) (inner .keep) b) (lengthens-emits end)
 
   abbrev whole : State
   whole = emitAt (c .base) (function x (length ps) inner (blockBody b end) e) s
@@ -141,18 +149,18 @@ module _ (t made code tables : List ℕ) (c : Counts) (l : Limits) (sound : Soun
 
   -- it has begun
   module _ (f : ℕ) (k : Counts) (tables₁ : List ℕ) (B : (f ≡ length (s .tables .functions)) × Moved (c .open) k t made code tables₁ c l began × (k .methods + c .functions < c .methods + k .functions))
-      (names : List Name) (en′ : names ≡ inner) where
+      (names : List Name) (keep : Keeping) (en′ : names ≡ inner .names) (ek : keep ≡ inner .keep) where
     k-base : k .base ≡ length (s .stack)
     k-base = B .1 .base ∙ sym (stack-length t made code tables c l sound)
 
-    body-is : emitAt (k .base) (emitBlock names b ⨟ emits end) (stateOf t made code tables₁ k) ≡ emitAt (length (s .stack)) e (begun symbol (length ps) inner named)
-    body-is = λ j. emitAt (k-base j) (emitBlock (en′ j) b ⨟ emits end) ((B .1 .state ∙ began-is) j)
+    body-is : emitAt (k .base) (emitBlock names keep b ⨟ emits end) (stateOf t made code tables₁ k) ≡ emitAt (length (s .stack)) e (begun symbol (length ps) inner named)
+    body-is = λ j. emitAt (k-base j) (emitBlock (en′ j) (ek j) b ⨟ emits end) ((B .1 .state ∙ began-is) j)
 
-    pub body-within : Within l whole → Within l (emitAt (k .base) (emitBlock names b ⨟ emits end) (stateOf t made code tables₁ k))
+    pub body-within : Within l whole → Within l (emitAt (k .base) (emitBlock names keep b ⨟ emits end) (stateOf t made code tables₁ k))
     body-within w = subst (Within l) (sym body-is) (within-body w)
 
     -- its body is there
-    module _ (m : Counts) (made₂ code₂ tables₂ : List ℕ) (A : Left m t made₂ code₂ tables₂ k l (emitAt (k .base) (emitBlock names b ⨟ emits end) (stateOf t made code tables₁ k))) where
+    module _ (m : Counts) (made₂ code₂ tables₂ : List ℕ) (A : Left m t made₂ code₂ tables₂ k l (emitAt (k .base) (emitBlock names keep b ⨟ emits end) (stateOf t made code tables₁ k))) where
       abbrev begunTables : Tables
       begunTables = begun symbol (length ps) inner named .tables
 
@@ -160,10 +168,10 @@ module _ (t made code tables : List ℕ) (c : Counts) (l : Limits) (sound : Soun
       unfolding emitAt
       grown = subst (λ (u : State). Lengthened begunTables (u .tables)) (sym (A .state ∙ body-is)) (E .at (length (begun symbol (length ps) inner named .stack) - length (s .stack)) begunTables)
 
-      functions-are : stateOf t made₂ code₂ tables₂ m .tables .functions ≡ s .tables .functions ++ (record { symbol = symbol; arity = length ps; locals = length inner; code = [] } ∷ grown .new)
+      functions-are : stateOf t made₂ code₂ tables₂ m .tables .functions ≡ s .tables .functions ++ (record { symbol = symbol; arity = length ps; locals = inner .locals; code = [] } ∷ grown .new)
       unfolding begun begin
       functions-are =
-          grown .functions ∙ ap (λ (fs : List Function). fs ++ record { symbol = symbol; arity = length ps; locals = length inner; code = [] } ∷ [] ++ grown .new) (symbol-functions x (s .tables))
+          grown .functions ∙ ap (λ (fs : List Function). fs ++ record { symbol = symbol; arity = length ps; locals = inner .locals; code = [] } ∷ [] ++ grown .new) (symbol-functions x (s .tables))
           ∙ simp append-assoc
 
       m-base : m .base ≡ length (s .stack)
@@ -175,7 +183,7 @@ module _ (t made code tables : List ℕ) (c : Counts) (l : Limits) (sound : Soun
             arith,
             B .0,
             sym (function-count t made₂ code₂ tables₂ m l (A .sound)) ∙ ap length functions-are,
-            length-append (s .tables .functions) (record { symbol = symbol; arity = length ps; locals = length inner; code = [] } ∷ grown .new),
+            length-append (s .tables .functions) (record { symbol = symbol; arity = length ps; locals = inner .locals; code = [] } ∷ grown .new),
           )
 
       pub ended-body : bodyOf (stateOf t made₂ code₂ tables₂ m .tables .functions) f ≡ []
@@ -204,9 +212,9 @@ module _ (t made code tables : List ℕ) (c : Counts) (l : Limits) (sound : Soun
             (omega (arith, same-count, ended-number, B .0, function-count t made code tables c l sound))
 
 -- a function with more than 255 slots is over the limits
-pub slots-over : (d : ℕ) (t : List ℕ) (p : ℕ) (b : Bool) (base : ℕ) (l : Limits) (s : State) → 255 < length (localsAt d t p) → Within l (emitAt base (functionCode d t p b) s) → ⊥
+pub slots-over : (d : ℕ) (t : List ℕ) (p : ℕ) (b : Bool) (base : ℕ) (l : Limits) (s : State) → 255 < frameAt d t p .locals → Within l (emitAt base (functionCode d t p b) s) → ⊥
 slots-over d t p b base l s h w =
-    let k = function-slots base _ _ (localsAt d t p) _ s (lengthens-seq (lengthens-block (localsAt d t p) (defBlockAt d t p .value)) (lengthens-emits (endOf b))) w in
+    let k = function-slots base _ _ (frameAt d t p) _ s (lengthens-seq (lengthens-block (frameAt d t p .names) (frameAt d t p .keep) (defBlockAt d t p .value)) (lengthens-emits (endOf b))) w in
     omega arith
 
 -- a method is a function with a method's end
@@ -217,4 +225,4 @@ method-is d t p b base s e =
     let ps = paramsAt t (nameEnd t p) .value in
     let x = defBlockAt d t p .value in
     let f = ap endOf e ∙ method-end (nameAt t p) in
-    λ j. emitAt base (function (nameAt t p) (length ps) (localsAt d t p) (blockBody x (f j)) (emitBlock (localsAt d t p) x ⨟ emits (f j))) s
+    λ j. emitAt base (function (nameAt t p) (length ps) (frameAt d t p) (blockBody x (f j)) (emitBlock (frameAt d t p .names) (frameAt d t p .keep) x ⨟ emits (f j))) s

@@ -10,6 +10,7 @@ use Rattle.definitions.specs.Bytes.{Name, same}
 use Rattle.definitions.specs.Tree.{Methods}
 use Rattle.definitions.specs.Instruction.{Instr}
 use Rattle.definitions.specs.Tables.{Method, Emit, emits, _⨟_}
+use Rattle.definitions.specs.Slots.{Keeping}
 use Rattle.definitions.specs.Wellformed.{init}
 use Rattle.definitions.specs.Lower.{emitBlock, beginClass}
 use Rattle.parts.specs.Places.{nameEnd, paramsAt}
@@ -24,7 +25,7 @@ use Rattle.state.proofs.Answers.{emits-full, full-emits, numbers-at, numbers-ov
 use Rattle.lower_emit.specs.Nesting.{begunWith, Moved}
 use Rattle.methods.specs.Order.{Inserted}
 use Rattle.lower_stmt.specs.Compiled.{Listed, All, Over, Ahead, Compiles, Methodical, Lists}
-use Rattle.lower_forms.specs.Lowering.{blockCode, localsAt, endOf, functionCode, MethodsLowerable, classCode}
+use Rattle.lower_forms.specs.Lowering.{blockCode, frameAt, endOf, functionCode, MethodsLowerable, classCode}
 use Rattle.lower_forms.proofs.StmtArms.{methods-parts}
 use Rattle.lower_stmt.proofs.Functions.{begins-at, begins-over, compiles-done, compiles-full, full-compiles, compiles-emits, compiles-as, begun-within, body-within}
 use Rattle.lower_stmt.proofs.Functions.{ended-number, ended-body, ended-base, compiled, slots-over, part-ready, method-is}
@@ -59,11 +60,11 @@ compiles-stopped {t} {k} {l} {made₁} {code₁} {tables₁} {k₁} {next} {want
   numbers = n;
 }
 
-pub slots-stopped : {t made code tables k l : List ℕ} {next : ℕ} (d : ℕ) (init : Bool) (at : ℕ) → 10 ≡ length k → 255 < length (localsAt d t at)
+pub slots-stopped : {t made code tables k l : List ℕ} {next : ℕ} (d : ℕ) (init : Bool) (at : ℕ) → 10 ≡ length k → 255 < frameAt d t at .locals
     → CompilesIn 0 next (emitAt (getD k 7 0) (functionCode d t at init) (stateOf t made code tables (countsOf k))) t k l made code tables k
 slots-stopped {t} {made} {code} {tables} {k} {l} d init at n h = compiles-stopped n (slots-over d t at init (getD k 7 0) (limitsIn l) (stateOf t made code tables (countsOf k)) h)
 
-module _ {t made code tables k l tables₁ k₁ : List ℕ} {f at arity n : ℕ} (d : ℕ) (init : Bool) (S : SoundIn t made code tables k l) (ea : arity ≡ length (paramsAt t (nameEnd t at) .value)) (en : n ≡ length (localsAt d t at))
+module _ {t made code tables k l tables₁ k₁ : List ℕ} {f at arity n : ℕ} (d : ℕ) (init : Bool) (S : SoundIn t made code tables k l) (ea : arity ≡ length (paramsAt t (nameEnd t at) .value)) (en : n ≡ frameAt d t at .locals)
     (B : BeginsNamed f at arity n t made tables tables₁ k k₁ l) where
   abbrev s : State
   s = stateOf t made code tables (countsOf k)
@@ -74,7 +75,7 @@ module _ {t made code tables k l tables₁ k₁ : List ℕ} {f at arity n : ℕ}
   pub function-over : {next : ℕ} → 65536 ≤ f → CompilesIn 0 next function-want t k l made code tables₁ k₁
   function-over {next} z = compiles-stopped (B .numbers)
       (λ w. begins-over t made code tables₁ (countsOf k) (limitsIn l) _ _ (numbered f k₁) (numbered-over f k₁ z) (B .begins code S)
-      (begun-within t made code tables (countsOf k) (limitsIn l) (S .sound) (nameAt t at) arity n (paramsAt t (nameEnd t at) .value) (localsAt d t at) ea en (defBlockAt d t at .value) (endOf init) w))
+      (begun-within t made code tables (countsOf k) (limitsIn l) (S .sound) (nameAt t at) arity n (paramsAt t (nameEnd t at) .value) (frameAt d t at) ea en (defBlockAt d t at .value) (endOf init) w))
 
   module _ (z : f < 65536) where
     began : (f ≡ length (s .tables .functions))
@@ -85,38 +86,40 @@ module _ {t made code tables k l tables₁ k₁ : List ℕ} {f at arity n : ℕ}
     pub function-sound : SoundIn t made code tables₁ k₁ l
     function-sound = record { numbers = B .numbers; sound = began .1 .sound }
 
-    module _ {names : List Name} (en′ : names ≡ localsAt d t at) {made₂ code₂ tables₂ k₂ : List ℕ} {r next : ℕ}
-        (h : LowersIn r (emitBlock names (defBlockAt d t at .value) ⨟ emits (endOf init)) next t made code tables₁ k₁ l made₂ code₂ tables₂ k₂) where
+    module _ {names : List Name} {keep : Keeping} (en′ : names ≡ frameAt d t at .names) (ek : keep ≡ frameAt d t at .keep) {made₂ code₂ tables₂ k₂ : List ℕ} {r next : ℕ}
+        (h : LowersIn r (emitBlock names keep (defBlockAt d t at .value) ⨟ emits (endOf init)) next t made code tables₁ k₁ l made₂ code₂ tables₂ k₂) where
       pub function-stopped : {q : ℕ} → r ≡ 0 → CompilesIn 0 q function-want t k l made₂ code₂ tables₂ k₂
       function-stopped {q} y = compiles-stopped (h .numbers)
           (λ w. emits-full t made₂ code₂ tables₂ (countsOf k₁) (limitsIn l) next _ (answered r k₂) (answered-full r k₂ y) (h .emits)
-          (body-within t made code tables (countsOf k) (limitsIn l) (S .sound) (nameAt t at) arity n (paramsAt t (nameEnd t at) .value) (localsAt d t at) ea en (defBlockAt d t at .value) (endOf init) f (countsOf k₁) tables₁ began names en′ w))
+          (body-within t made code tables (countsOf k) (limitsIn l) (S .sound) (nameAt t at) arity n (paramsAt t (nameEnd t at) .value) (frameAt d t at) ea en (defBlockAt d t at .value) (endOf init) f (countsOf k₁) tables₁ began
+          names keep en′ ek w))
 
       module _ (y : r ≡ 0 → ⊥) where
         number : f < getD k₂ 2 0
-        number = ended-number t made code tables (countsOf k) (limitsIn l) (S .sound) (nameAt t at) arity n (paramsAt t (nameEnd t at) .value) (localsAt d t at) ea en (defBlockAt d t at .value) (endOf init) f (countsOf k₁) tables₁ began names en′
-            (countsOf k₂) made₂ code₂ tables₂ (done-of y h .1)
+        number = ended-number t made code tables (countsOf k) (limitsIn l) (S .sound) (nameAt t at) arity n (paramsAt t (nameEnd t at) .value) (frameAt d t at) ea en (defBlockAt d t at .value) (endOf init) f (countsOf k₁) tables₁ began
+            names keep en′ ek (countsOf k₂) made₂ code₂ tables₂ (done-of y h .1)
 
         pub function-few : f < 256
         function-few = let S₂ = sound-next y h .sound in omega (arith, number, S₂ .functions, S₂ .limited .functions)
 
         pub function-done : {code₃ tables₃ k₃ : List ℕ} → Ended code₂ code₃ tables₂ tables₃ k₂ k₃ f (getD k 7 0) → CompilesIn r next function-want t k l made₂ code₃ tables₃ k₃
         function-done {code₃} {tables₃} {k₃} x =
-            let empty = ended-body t made code tables (countsOf k) (limitsIn l) (S .sound) (nameAt t at) arity n (paramsAt t (nameEnd t at) .value) (localsAt d t at) ea en (defBlockAt d t at .value) (endOf init) f (countsOf k₁) tables₁ began names en′
-            (countsOf k₂) made₂ code₂ tables₂ (done-of y h .1) in
-            let around = ended-base t made code tables (countsOf k) (limitsIn l) (S .sound) (nameAt t at) arity n (paramsAt t (nameEnd t at) .value) (localsAt d t at) ea en (defBlockAt d t at .value) (endOf init) f (countsOf k₁) tables₁ began names en′
-            (countsOf k₂) made₂ code₂ tables₂ (done-of y h .1) in
+            let empty = ended-body t made code tables (countsOf k) (limitsIn l) (S .sound) (nameAt t at) arity n (paramsAt t (nameEnd t at) .value) (frameAt d t at) ea en (defBlockAt d t at .value) (endOf init) f (countsOf k₁) tables₁ began
+            names keep en′ ek (countsOf k₂) made₂ code₂ tables₂ (done-of y h .1) in
+            let around = ended-base t made code tables (countsOf k) (limitsIn l) (S .sound) (nameAt t at) arity n (paramsAt t (nameEnd t at) .value) (frameAt d t at) ea en (defBlockAt d t at .value) (endOf init) f (countsOf k₁) tables₁ began
+            names keep en′ ek (countsOf k₂) made₂ code₂ tables₂ (done-of y h .1) in
             record {
               compiles = subst (λ (u : Emitted). Compiles u t made₂ code₃ tables₃ (countsOf k) (limitsIn l) next function-want) (sym (answered-done r k₃ y))
-                  (compiled t made code tables (countsOf k) (limitsIn l) (S .sound) (nameAt t at) arity n (paramsAt t (nameEnd t at) .value) (localsAt d t at) ea en (defBlockAt d t at .value) (endOf init) f (countsOf k₁) tables₁ began names en′
-                  (countsOf k₂) made₂ code₂ tables₂ (done-of y h .1) (countsOf k₃) code₃ tables₃ (ended-lifts (sound-next y h) number empty around x) r next (done-of y h .0));
+                  (compiled t made code tables (countsOf k) (limitsIn l) (S .sound) (nameAt t at) arity n (paramsAt t (nameEnd t at) .value) (frameAt d t at) ea en (defBlockAt d t at .value) (endOf init) f (countsOf k₁) tables₁ began
+                  names keep en′ ek (countsOf k₂) made₂ code₂ tables₂ (done-of y h .1) (countsOf k₃) code₃ tables₃ (ended-lifts (sound-next y h) number empty around x) r next (done-of y h .0));
               numbers = x .numbers;
             }
 
 -- by another word for the position
-pub body-by : {made code tables k l made′ code′ tables′ k′ : List ℕ} {r : ℕ} (d : ℕ) (t : List ℕ) (names : List Name) (end : List Instr) (p q : ℕ) → q ≡ p
-    → LowersIn r (blockCode d t names q ⨟ emits end) (blockAt d t q .end) t made code tables k l made′ code′ tables′ k′ → LowersIn r (blockCode d t names p ⨟ emits end) (blockAt d t p .end) t made code tables k l made′ code′ tables′ k′
-body-by d t names end p q e h = lowers-by h (ap (λ (x : ℕ). blockCode d t names x ⨟ emits end) (sym e)) (ap (λ (x : ℕ). blockAt d t x .end) (sym e))
+pub body-by : {made code tables k l made′ code′ tables′ k′ : List ℕ} {r : ℕ} (d : ℕ) (t : List ℕ) (names : List Name) (keep : Keeping) (end : List Instr) (p q : ℕ) → q ≡ p
+    → LowersIn r (blockCode d t names keep q ⨟ emits end) (blockAt d t q .end) t made code tables k l made′ code′ tables′ k′
+    → LowersIn r (blockCode d t names keep p ⨟ emits end) (blockAt d t p .end) t made code tables k l made′ code′ tables′ k′
+body-by d t names keep end p q e h = lowers-by h (ap (λ (x : ℕ). blockCode d t names keep x ⨟ emits end) (sym e)) (ap (λ (x : ℕ). blockAt d t x .end) (sym e))
 
 -- the slots that are used
 pub ready-part : {t ps made₀ code₀ tables₀ k₀ made code tables k l : List ℕ} {n : ℕ} → SoleIn t made₀ code₀ tables₀ k₀ l → n ≤ 255 → Indexed t n ps → slotsFrom + n ≤ length ps → SoundIn t made code tables k l

@@ -1,4 +1,5 @@
 // The lowering of statements and blocks in one path: a statement holds blocks and a block holds statements.
+// `it` tells where loops keep their iterators: it is the slot of the next loop's, or IN_GLOBALS.
 use lower_classes::begin_class;
 use lower_classes::begin_named;
 use lower_classes::finish_class;
@@ -24,13 +25,14 @@ use lower_simple::put_end;
 use methods::insert_method;
 use parts::names::name_end;
 use parts::numbers::u16_at;
-use slots::Locals;
+use slots::collect::Framed;
 use slots::collect::collect_locals;
 use slots::skip::skip_params;
 use slots::skip::skip_stmt;
 ghost use mathlib.Core.List.{[]};
 ghost use Prim.Native.Nat.{_+_, _-_, _<_, _≤_};
 ghost use lib.ListN.{length, getD};
+ghost use Rattle.definitions.specs.Slots.{loopsStmt, loopsBlock, loopsBranches};
 ghost use Rattle.definitions.specs.Tables.{emits, _⨟_};
 ghost use Rattle.definitions.specs.Tree.{if, when, for};
 ghost use Rattle.definitions.specs.Lower.{loop, askIter, takeIter, emitStmt};
@@ -41,10 +43,12 @@ ghost use Rattle.tree.specs.StmtAt as StmtAt;
 ghost use Rattle.state.specs.Words.{nameAt};
 ghost use Rattle.state.specs.State.{stateOf, emitAt, slotNames};
 ghost use Rattle.state.specs.Steps.{branch, chainAt, methodsAt, methodsOf};
+ghost use Rattle.state.specs.Kept.{keepingOf, Spare, Passes};
 ghost use Rattle.lower_forms.specs.Lowerable.{exprCode};
 ghost use Rattle.lower_forms.specs.Lowering.{StmtLowerable, BlockLowerable, StmtsLowerable, stmtCode, blockCode, stmtsCode, BranchLowerable, BranchesLowerable, IfLowerable, ForLowerable, FunctionLowerable, functionCode, endOf, MethodsLowerable, ClassLowerable, classCode};
 ghost use Rattle.lower_emit.specs.Numbers.{countsOf, ReadyIn, LowersIn};
 ghost use Rattle.lower_emit.specs.Ends.{Reaches};
+ghost use Rattle.lower_loops.specs.Iterators.{keeperOf, Loads};
 ghost use Rattle.lower_stmt.specs.Blocks.{SoleIn, CompilesIn, ListsIn};
 
 // The statement at `at`, with `depth` levels left.
@@ -58,16 +62,18 @@ fn emit_stmt(
     tables: &mut [u32],
     k: &mut [u32; 10],
     l: &[u32; 5],
+    it: &mut u32,
 ) -> usize
-    requires { ⌜ ReadyIn (now tree) (now slots) (now made) (now code) (now tables) (now k) (now l) × StmtLowerable depth (now tree) at × (0 < at) ⌝ }
-    ensures { λ r. ⌜ LowersIn r (stmtCode depth (now (tree .entry)) (slotNames (now (tree .entry)) (now (slots .entry))) at) (stmtAt depth (now (tree .entry)) at .end)
-        (now (tree .entry)) (now (made .entry)) (now (code .entry)) (now (tables .entry)) (now (k .entry)) (now (l .entry)) (now (made .exit)) (now (code .exit)) (now (tables .exit)) (now (k .exit)) ⌝ }
+    requires { ⌜ ReadyIn (now tree) (now slots) (now made) (now code) (now tables) (now k) (now l) × StmtLowerable depth (now tree) at × (0 < at) × Spare (now it) (loopsStmt (stmtAt depth (now tree) at .value)) ⌝ }
+    ensures { λ r. ⌜ LowersIn r (stmtCode depth (now (tree .entry)) (slotNames (now (tree .entry)) (now (slots .entry))) (keepingOf (now (it .entry))) at) (stmtAt depth (now (tree .entry)) at .end)
+        (now (tree .entry)) (now (made .entry)) (now (code .entry)) (now (tables .entry)) (now (k .entry)) (now (l .entry)) (now (made .exit)) (now (code .exit)) (now (tables .exit)) (now (k .exit))
+        × Passes r (now (it .entry)) (now (it .exit)) (loopsStmt (stmtAt depth (now (tree .entry)) at .value)) ⌝ }
 {
     let kind = tree[at];
     match kind {
-        6 => return emit_if(tree, at + 1, depth - 1, slots, made, code, tables, k, l),
-        7 => return emit_while(tree, at + 1, depth - 1, slots, made, code, tables, k, l),
-        8 => return emit_for(tree, at + 1, depth - 1, slots, made, code, tables, k, l),
+        6 => return emit_if(tree, at + 1, depth - 1, slots, made, code, tables, k, l, it),
+        7 => return emit_while(tree, at + 1, depth - 1, slots, made, code, tables, k, l, it),
+        8 => return emit_for(tree, at + 1, depth - 1, slots, made, code, tables, k, l, it),
         9 => return compile_function(tree, at + 1, depth - 1, false, made, code, tables, k, l),
         10 => {
             let next = skip_stmt(tree, at, depth);
@@ -89,15 +95,17 @@ fn emit_stmts(
     tables: &mut [u32],
     k: &mut [u32; 10],
     l: &[u32; 5],
+    it: &mut u32,
 ) -> usize
-    requires { ⌜ ReadyIn (now tree) (now slots) (now made) (now code) (now tables) (now k) (now l) × StmtsLowerable depth count (now tree) at × (0 < at) ⌝ }
-    ensures { λ r. ⌜ LowersIn r (stmtsCode depth count (now (tree .entry)) (slotNames (now (tree .entry)) (now (slots .entry))) at) (stmtsAt depth count (now (tree .entry)) at .end)
-        (now (tree .entry)) (now (made .entry)) (now (code .entry)) (now (tables .entry)) (now (k .entry)) (now (l .entry)) (now (made .exit)) (now (code .exit)) (now (tables .exit)) (now (k .exit)) ⌝ }
+    requires { ⌜ ReadyIn (now tree) (now slots) (now made) (now code) (now tables) (now k) (now l) × StmtsLowerable depth count (now tree) at × (0 < at) × Spare (now it) (loopsBlock (stmtsAt depth count (now tree) at .value)) ⌝ }
+    ensures { λ r. ⌜ LowersIn r (stmtsCode depth count (now (tree .entry)) (slotNames (now (tree .entry)) (now (slots .entry))) (keepingOf (now (it .entry))) at) (stmtsAt depth count (now (tree .entry)) at .end)
+        (now (tree .entry)) (now (made .entry)) (now (code .entry)) (now (tables .entry)) (now (k .entry)) (now (l .entry)) (now (made .exit)) (now (code .exit)) (now (tables .exit)) (now (k .exit))
+        × Passes r (now (it .entry)) (now (it .exit)) (loopsBlock (stmtsAt depth count (now (tree .entry)) at .value)) ⌝ }
 {
     let mut left = count;
     let mut p = at;
     while 0 < left {
-        let next = emit_stmt(tree, p, depth, slots, made, code, tables, k, l);
+        let next = emit_stmt(tree, p, depth, slots, made, code, tables, k, l, it);
         if next == 0 {
             return 0;
         }
@@ -118,13 +126,27 @@ pub fn emit_block(
     tables: &mut [u32],
     k: &mut [u32; 10],
     l: &[u32; 5],
+    it: &mut u32,
 ) -> usize
-    requires { ⌜ ReadyIn (now tree) (now slots) (now made) (now code) (now tables) (now k) (now l) × BlockLowerable depth (now tree) at ⌝ }
-    ensures { λ r. ⌜ LowersIn r (blockCode depth (now (tree .entry)) (slotNames (now (tree .entry)) (now (slots .entry))) at) (blockAt depth (now (tree .entry)) at .end)
-        (now (tree .entry)) (now (made .entry)) (now (code .entry)) (now (tables .entry)) (now (k .entry)) (now (l .entry)) (now (made .exit)) (now (code .exit)) (now (tables .exit)) (now (k .exit)) ⌝ }
+    requires { ⌜ ReadyIn (now tree) (now slots) (now made) (now code) (now tables) (now k) (now l) × BlockLowerable depth (now tree) at × Spare (now it) (loopsBlock (blockAt depth (now tree) at .value)) ⌝ }
+    ensures { λ r. ⌜ LowersIn r (blockCode depth (now (tree .entry)) (slotNames (now (tree .entry)) (now (slots .entry))) (keepingOf (now (it .entry))) at) (blockAt depth (now (tree .entry)) at .end)
+        (now (tree .entry)) (now (made .entry)) (now (code .entry)) (now (tables .entry)) (now (k .entry)) (now (l .entry)) (now (made .exit)) (now (code .exit)) (now (tables .exit)) (now (k .exit))
+        × Passes r (now (it .entry)) (now (it .exit)) (loopsBlock (blockAt depth (now (tree .entry)) at .value)) ⌝ }
 {
     let count = u16_at(tree, at);
-    emit_stmts(tree, at + 2, depth, count, slots, made, code, tables, k, l)
+    emit_stmts(
+        tree,
+        at + 2,
+        depth,
+        count,
+        slots,
+        made,
+        code,
+        tables,
+        k,
+        l,
+        it,
+    )
 }
 
 // A condition and a block of an if; the jump to the next end is not known yet.
@@ -138,10 +160,12 @@ fn emit_branch(
     tables: &mut [u32],
     k: &mut [u32; 10],
     l: &[u32; 5],
+    it: &mut u32,
 ) -> usize
-    requires { ⌜ ReadyIn (now tree) (now slots) (now made) (now code) (now tables) (now k) (now l) × BranchLowerable depth (now tree) at ⌝ }
-    ensures { λ r. ⌜ LowersIn r (branch (slotNames (now (tree .entry)) (now (slots .entry))) (exprAt depth (now (tree .entry)) at .value) (bodyAt depth (now (tree .entry)) at .value)) (bodyAt depth (now (tree .entry)) at .end)
-        (now (tree .entry)) (now (made .entry)) (now (code .entry)) (now (tables .entry)) (now (k .entry)) (now (l .entry)) (now (made .exit)) (now (code .exit)) (now (tables .exit)) (now (k .exit)) ⌝ }
+    requires { ⌜ ReadyIn (now tree) (now slots) (now made) (now code) (now tables) (now k) (now l) × BranchLowerable depth (now tree) at × Spare (now it) (loopsBlock (bodyAt depth (now tree) at .value)) ⌝ }
+    ensures { λ r. ⌜ LowersIn r (branch (slotNames (now (tree .entry)) (now (slots .entry))) (keepingOf (now (it .entry))) (exprAt depth (now (tree .entry)) at .value) (bodyAt depth (now (tree .entry)) at .value)) (bodyAt depth (now (tree .entry)) at .end)
+        (now (tree .entry)) (now (made .entry)) (now (code .entry)) (now (tables .entry)) (now (k .entry)) (now (l .entry)) (now (made .exit)) (now (code .exit)) (now (tables .exit)) (now (k .exit))
+        × Passes r (now (it .entry)) (now (it .exit)) (loopsBlock (bodyAt depth (now (tree .entry)) at .value)) ⌝ }
 {
     let block = emit_value(
         tree,
@@ -159,7 +183,7 @@ fn emit_branch(
         return 0;
     }
     let from = k[OPEN];
-    let next = emit_block(tree, block, depth, slots, made, code, tables, k, l);
+    let next = emit_block(tree, block, depth, slots, made, code, tables, k, l, it);
     if next == 0 {
         return 0;
     }
@@ -177,17 +201,19 @@ fn emit_if(
     tables: &mut [u32],
     k: &mut [u32; 10],
     l: &[u32; 5],
+    it: &mut u32,
 ) -> usize
-    requires { ⌜ ReadyIn (now tree) (now slots) (now made) (now code) (now tables) (now k) (now l) × IfLowerable depth (now tree) at ⌝ }
-    ensures { λ r. ⌜ LowersIn r (emitStmt (slotNames (now (tree .entry)) (now (slots .entry))) (if (when (exprAt depth (now (tree .entry)) at .value) (bodyAt depth (now (tree .entry)) at .value) (elifsAt depth (now (tree .entry)) at .value)))) (elifsAt depth (now (tree .entry)) at .end)
-        (now (tree .entry)) (now (made .entry)) (now (code .entry)) (now (tables .entry)) (now (k .entry)) (now (l .entry)) (now (made .exit)) (now (code .exit)) (now (tables .exit)) (now (k .exit)) ⌝ }
+    requires { ⌜ ReadyIn (now tree) (now slots) (now made) (now code) (now tables) (now k) (now l) × IfLowerable depth (now tree) at × Spare (now it) (loopsBlock (bodyAt depth (now tree) at .value) + loopsBranches (elifsAt depth (now tree) at .value)) ⌝ }
+    ensures { λ r. ⌜ LowersIn r (emitStmt (slotNames (now (tree .entry)) (now (slots .entry))) (keepingOf (now (it .entry))) (if (when (exprAt depth (now (tree .entry)) at .value) (bodyAt depth (now (tree .entry)) at .value) (elifsAt depth (now (tree .entry)) at .value)))) (elifsAt depth (now (tree .entry)) at .end)
+        (now (tree .entry)) (now (made .entry)) (now (code .entry)) (now (tables .entry)) (now (k .entry)) (now (l .entry)) (now (made .exit)) (now (code .exit)) (now (tables .exit)) (now (k .exit))
+        × Passes r (now (it .entry)) (now (it .exit)) (loopsBlock (bodyAt depth (now (tree .entry)) at .value) + loopsBranches (elifsAt depth (now (tree .entry)) at .value)) ⌝ }
 {
-    let p = emit_branch(tree, at, depth, slots, made, code, tables, k, l);
+    let p = emit_branch(tree, at, depth, slots, made, code, tables, k, l, it);
     if p == 0 {
         return 0;
     }
     let n = u16_at(tree, p);
-    emit_elifs(tree, p + 2, depth, n, slots, made, code, tables, k, l)
+    emit_elifs(tree, p + 2, depth, n, slots, made, code, tables, k, l, it)
 }
 
 // So many elifs, and an else block or none, after a branch: each end jump is set when the next one is there.
@@ -202,16 +228,18 @@ fn emit_elifs(
     tables: &mut [u32],
     k: &mut [u32; 10],
     l: &[u32; 5],
+    it: &mut u32,
 ) -> usize
-    requires { ⌜ ReadyIn (now tree) (now slots) (now made) (now code) (now tables) (now k) (now l) × BranchesLowerable depth n (now tree) at × (0 < getD (now k) 8 0) ⌝ }
-    ensures { λ r. ⌜ Reaches r (branchesAt depth n (now (tree .entry)) at .end) (chainAt (getD (now (k .entry)) 7 0) (slotNames (now (tree .entry)) (now (slots .entry))) (branchesAt depth n (now (tree .entry)) at .value) ((getD (now (k .entry)) 8 0) - 1) (stateOf (now (tree .entry)) (now (made .entry)) (now (code .entry)) (now (tables .entry)) (countsOf (now (k .entry)))))
-        (now (tree .entry)) (now (k .entry)) (now (l .entry)) (now (made .exit)) (now (code .exit)) (now (tables .exit)) (now (k .exit)) ⌝ }
+    requires { ⌜ ReadyIn (now tree) (now slots) (now made) (now code) (now tables) (now k) (now l) × BranchesLowerable depth n (now tree) at × (0 < getD (now k) 8 0) × Spare (now it) (loopsBranches (branchesAt depth n (now tree) at .value)) ⌝ }
+    ensures { λ r. ⌜ Reaches r (branchesAt depth n (now (tree .entry)) at .end) (chainAt (getD (now (k .entry)) 7 0) (slotNames (now (tree .entry)) (now (slots .entry))) (keepingOf (now (it .entry))) (branchesAt depth n (now (tree .entry)) at .value) ((getD (now (k .entry)) 8 0) - 1) (stateOf (now (tree .entry)) (now (made .entry)) (now (code .entry)) (now (tables .entry)) (countsOf (now (k .entry)))))
+        (now (tree .entry)) (now (k .entry)) (now (l .entry)) (now (made .exit)) (now (code .exit)) (now (tables .exit)) (now (k .exit))
+        × Passes r (now (it .entry)) (now (it .exit)) (loopsBranches (branchesAt depth n (now (tree .entry)) at .value)) ⌝ }
 {
     let mut left = n;
     let mut p = at;
     while 0 < left {
         let from = k[OPEN];
-        let next = emit_branch(tree, p, depth, slots, made, code, tables, k, l);
+        let next = emit_branch(tree, p, depth, slots, made, code, tables, k, l, it);
         if next == 0 {
             return 0;
         }
@@ -220,7 +248,7 @@ fn emit_elifs(
         p = next;
         left -= 1;
     }
-    emit_else(tree, p, depth, slots, made, code, tables, k, l)
+    emit_else(tree, p, depth, slots, made, code, tables, k, l, it)
 }
 
 // The byte 0; or 1, and an else block: the last end jump is set.
@@ -234,17 +262,19 @@ fn emit_else(
     tables: &mut [u32],
     k: &mut [u32; 10],
     l: &[u32; 5],
+    it: &mut u32,
 ) -> usize
-    requires { ⌜ ReadyIn (now tree) (now slots) (now made) (now code) (now tables) (now k) (now l) × BranchesLowerable depth 0 (now tree) at × (0 < getD (now k) 8 0) ⌝ }
-    ensures { λ r. ⌜ Reaches r (branchesAt depth 0 (now (tree .entry)) at .end) (chainAt (getD (now (k .entry)) 7 0) (slotNames (now (tree .entry)) (now (slots .entry))) (branchesAt depth 0 (now (tree .entry)) at .value) ((getD (now (k .entry)) 8 0) - 1) (stateOf (now (tree .entry)) (now (made .entry)) (now (code .entry)) (now (tables .entry)) (countsOf (now (k .entry)))))
-        (now (tree .entry)) (now (k .entry)) (now (l .entry)) (now (made .exit)) (now (code .exit)) (now (tables .exit)) (now (k .exit)) ⌝ }
+    requires { ⌜ ReadyIn (now tree) (now slots) (now made) (now code) (now tables) (now k) (now l) × BranchesLowerable depth 0 (now tree) at × (0 < getD (now k) 8 0) × Spare (now it) (loopsBranches (branchesAt depth 0 (now tree) at .value)) ⌝ }
+    ensures { λ r. ⌜ Reaches r (branchesAt depth 0 (now (tree .entry)) at .end) (chainAt (getD (now (k .entry)) 7 0) (slotNames (now (tree .entry)) (now (slots .entry))) (keepingOf (now (it .entry))) (branchesAt depth 0 (now (tree .entry)) at .value) ((getD (now (k .entry)) 8 0) - 1) (stateOf (now (tree .entry)) (now (made .entry)) (now (code .entry)) (now (tables .entry)) (countsOf (now (k .entry)))))
+        (now (tree .entry)) (now (k .entry)) (now (l .entry)) (now (made .exit)) (now (code .exit)) (now (tables .exit)) (now (k .exit))
+        × Passes r (now (it .entry)) (now (it .exit)) (loopsBranches (branchesAt depth 0 (now (tree .entry)) at .value)) ⌝ }
 {
     let from = k[OPEN];
     if tree[at] == 0 {
         set_jump(code, from as usize - 1, JUMP, 0);
         return at + 1;
     }
-    let next = emit_block(tree, at + 1, depth, slots, made, code, tables, k, l);
+    let next = emit_block(tree, at + 1, depth, slots, made, code, tables, k, l, it);
     if next == 0 {
         return 0;
     }
@@ -264,10 +294,12 @@ fn emit_while(
     tables: &mut [u32],
     k: &mut [u32; 10],
     l: &[u32; 5],
+    it: &mut u32,
 ) -> usize
-    requires { ⌜ ReadyIn (now tree) (now slots) (now made) (now code) (now tables) (now k) (now l) × BranchLowerable depth (now tree) at ⌝ }
-    ensures { λ r. ⌜ LowersIn r (loop (exprCode depth (now (tree .entry)) (slotNames (now (tree .entry)) (now (slots .entry))) at) (blockCode depth (now (tree .entry)) (slotNames (now (tree .entry)) (now (slots .entry))) (exprAt depth (now (tree .entry)) at .end))) (bodyAt depth (now (tree .entry)) at .end)
-        (now (tree .entry)) (now (made .entry)) (now (code .entry)) (now (tables .entry)) (now (k .entry)) (now (l .entry)) (now (made .exit)) (now (code .exit)) (now (tables .exit)) (now (k .exit)) ⌝ }
+    requires { ⌜ ReadyIn (now tree) (now slots) (now made) (now code) (now tables) (now k) (now l) × BranchLowerable depth (now tree) at × Spare (now it) (loopsBlock (bodyAt depth (now tree) at .value)) ⌝ }
+    ensures { λ r. ⌜ LowersIn r (loop (exprCode depth (now (tree .entry)) (slotNames (now (tree .entry)) (now (slots .entry))) at) (blockCode depth (now (tree .entry)) (slotNames (now (tree .entry)) (now (slots .entry))) (keepingOf (now (it .entry))) (exprAt depth (now (tree .entry)) at .end))) (bodyAt depth (now (tree .entry)) at .end)
+        (now (tree .entry)) (now (made .entry)) (now (code .entry)) (now (tables .entry)) (now (k .entry)) (now (l .entry)) (now (made .exit)) (now (code .exit)) (now (tables .exit)) (now (k .exit))
+        × Passes r (now (it .entry)) (now (it .exit)) (loopsBlock (bodyAt depth (now (tree .entry)) at .value)) ⌝ }
 {
     let start = k[OPEN];
     let block = emit_value(
@@ -286,7 +318,7 @@ fn emit_while(
         return 0;
     }
     let inside = k[OPEN];
-    let next = emit_block(tree, block, depth, slots, made, code, tables, k, l);
+    let next = emit_block(tree, block, depth, slots, made, code, tables, k, l, it);
     if next == 0 {
         return 0;
     }
@@ -304,64 +336,82 @@ fn emit_for(
     tables: &mut [u32],
     k: &mut [u32; 10],
     l: &[u32; 5],
+    it: &mut u32,
 ) -> usize
-    requires { ⌜ ReadyIn (now tree) (now slots) (now made) (now code) (now tables) (now k) (now l) × ForLowerable depth (now tree) at ⌝ }
-    ensures { λ r. ⌜ LowersIn r (emitStmt (slotNames (now (tree .entry)) (now (slots .entry))) (for (nameAt (now (tree .entry)) at) (exprAt depth (now (tree .entry)) (nameEnd (now (tree .entry)) at) .value) (bodyAt depth (now (tree .entry)) (nameEnd (now (tree .entry)) at) .value))) (bodyAt depth (now (tree .entry)) (nameEnd (now (tree .entry)) at) .end)
-        (now (tree .entry)) (now (made .entry)) (now (code .entry)) (now (tables .entry)) (now (k .entry)) (now (l .entry)) (now (made .exit)) (now (code .exit)) (now (tables .exit)) (now (k .exit)) ⌝ }
+    requires { ⌜ ReadyIn (now tree) (now slots) (now made) (now code) (now tables) (now k) (now l) × ForLowerable depth (now tree) at × Spare (now it) (1 + loopsBlock (bodyAt depth (now tree) (nameEnd (now tree) at) .value)) ⌝ }
+    ensures { λ r. ⌜ LowersIn r (emitStmt (slotNames (now (tree .entry)) (now (slots .entry))) (keepingOf (now (it .entry))) (for (nameAt (now (tree .entry)) at) (exprAt depth (now (tree .entry)) (nameEnd (now (tree .entry)) at) .value) (bodyAt depth (now (tree .entry)) (nameEnd (now (tree .entry)) at) .value))) (bodyAt depth (now (tree .entry)) (nameEnd (now (tree .entry)) at) .end)
+        (now (tree .entry)) (now (made .entry)) (now (code .entry)) (now (tables .entry)) (now (k .entry)) (now (l .entry)) (now (made .exit)) (now (code .exit)) (now (tables .exit)) (now (k .exit))
+        × Passes r (now (it .entry)) (now (it .exit)) (1 + loopsBlock (bodyAt depth (now (tree .entry)) (nameEnd (now (tree .entry)) at) .value)) ⌝ }
 {
     let start = name_end(tree, at);
     let block = emit_iterable(tree, start, depth, slots, made, code, tables, k, l);
     if block == 0 {
         return 0;
     }
-    let g = store_iterator(tree, made, code, tables, k, l);
-    if OVER <= g {
+    let load = store_iterator(tree, made, code, tables, k, l, it);
+    if load == 0 {
         return 0;
     }
-    emit_rounds(tree, at, depth, block, g, slots, made, code, tables, k, l)
+    emit_rounds(
+        tree,
+        at,
+        depth,
+        block,
+        load,
+        slots,
+        made,
+        code,
+        tables,
+        k,
+        l,
+        it,
+    )
 }
 
-// The rounds of a for loop: its variable is at `at`, its block at `block`, its iterator in global g.
+// The rounds of a for loop: its variable is at `at`, its block at `block`, and the word `load` loads its iterator.
 fn emit_rounds(
     tree: &[u8],
     at: usize,
     depth: u32,
     block: usize,
-    g: u32,
+    load: u32,
     slots: &[u32],
     made: &mut [u8; 20500],
     code: &mut [u32],
     tables: &mut [u32],
     k: &mut [u32; 10],
     l: &[u32; 5],
+    it: &mut u32,
 ) -> usize
-    requires { ⌜ ReadyIn (now tree) (now slots) (now made) (now code) (now tables) (now k) (now l) × There (now tree) at × BlockLowerable depth (now tree) block × (g < 65536) × (0 < block) ⌝ }
-    ensures { λ r. ⌜ LowersIn r (loop (askIter g) (takeIter (slotNames (now (tree .entry)) (now (slots .entry))) (nameAt (now (tree .entry)) at) g ⨟ blockCode depth (now (tree .entry)) (slotNames (now (tree .entry)) (now (slots .entry))) block)) (blockAt depth (now (tree .entry)) block .end)
-        (now (tree .entry)) (now (made .entry)) (now (code .entry)) (now (tables .entry)) (now (k .entry)) (now (l .entry)) (now (made .exit)) (now (code .exit)) (now (tables .exit)) (now (k .exit)) ⌝ }
+    requires { ⌜ ReadyIn (now tree) (now slots) (now made) (now code) (now tables) (now k) (now l) × There (now tree) at × BlockLowerable depth (now tree) block × Loads load (keeperOf load) × (0 < block) × Spare (now it) (loopsBlock (blockAt depth (now tree) block .value)) ⌝ }
+    ensures { λ r. ⌜ LowersIn r (loop (askIter (keeperOf load)) (takeIter (slotNames (now (tree .entry)) (now (slots .entry))) (nameAt (now (tree .entry)) at) (keeperOf load) ⨟ blockCode depth (now (tree .entry)) (slotNames (now (tree .entry)) (now (slots .entry))) (keepingOf (now (it .entry))) block)) (blockAt depth (now (tree .entry)) block .end)
+        (now (tree .entry)) (now (made .entry)) (now (code .entry)) (now (tables .entry)) (now (k .entry)) (now (l .entry)) (now (made .exit)) (now (code .exit)) (now (tables .exit)) (now (k .exit))
+        × Passes r (now (it .entry)) (now (it .exit)) (loopsBlock (blockAt depth (now (tree .entry)) block .value)) ⌝ }
 {
     let start = k[OPEN];
-    let p = ask_iterator(tree, made, code, tables, k, l, g, block);
+    let p = ask_iterator(tree, made, code, tables, k, l, load, block);
     if p == 0 {
         return 0;
     }
     let inside = k[OPEN];
-    let q = take_iterator(tree, slots, made, code, tables, k, l, at, g, p);
+    let q = take_iterator(tree, slots, made, code, tables, k, l, at, load, p);
     if q == 0 {
         return 0;
     }
-    let next = emit_block(tree, q, depth, slots, made, code, tables, k, l);
+    let next = emit_block(tree, q, depth, slots, made, code, tables, k, l, it);
     if next == 0 {
         return 0;
     }
     end_loop(code, k, l, start, inside, next)
 }
 
-// The block of a function, and its end.
+// The block of a function, and its end; its loops keep their iterators in slots from `first` on.
 fn emit_body(
     tree: &[u8],
     at: usize,
     depth: u32,
     init: bool,
+    first: u32,
     slots: &[u32],
     made: &mut [u8; 20500],
     code: &mut [u32],
@@ -369,11 +419,12 @@ fn emit_body(
     k: &mut [u32; 10],
     l: &[u32; 5],
 ) -> usize
-    requires { ⌜ ReadyIn (now tree) (now slots) (now made) (now code) (now tables) (now k) (now l) × BlockLowerable depth (now tree) at ⌝ }
-    ensures { λ r. ⌜ LowersIn r (blockCode depth (now (tree .entry)) (slotNames (now (tree .entry)) (now (slots .entry))) at ⨟ emits (endOf init)) (blockAt depth (now (tree .entry)) at .end)
+    requires { ⌜ ReadyIn (now tree) (now slots) (now made) (now code) (now tables) (now k) (now l) × BlockLowerable depth (now tree) at × Spare first (loopsBlock (blockAt depth (now tree) at .value)) ⌝ }
+    ensures { λ r. ⌜ LowersIn r (blockCode depth (now (tree .entry)) (slotNames (now (tree .entry)) (now (slots .entry))) (keepingOf first) at ⨟ emits (endOf init)) (blockAt depth (now (tree .entry)) at .end)
         (now (tree .entry)) (now (made .entry)) (now (code .entry)) (now (tables .entry)) (now (k .entry)) (now (l .entry)) (now (made .exit)) (now (code .exit)) (now (tables .exit)) (now (k .exit)) ⌝ }
 {
-    let next = emit_block(tree, at, depth, slots, made, code, tables, k, l);
+    let mut it = first;
+    let next = emit_block(tree, at, depth, slots, made, code, tables, k, l, &mut it);
     if next == 0 {
         return 0;
     }
@@ -401,11 +452,11 @@ fn compile_function(
     let arity = u16_at(tree, params);
     let block = skip_params(tree, params);
     let collected = collect_locals(tree, params, block, depth, &mut slots);
-    let Locals::Count(n) = collected else {
+    let Framed::Slots(n, locals) = collected else {
         return 0;
     };
     let base = k[BASE];
-    let f = begin_named(tree, made, tables, k, l, at, arity, n);
+    let f = begin_named(tree, made, tables, k, l, at, arity, locals);
     if OVER <= f {
         return 0;
     }
@@ -415,6 +466,7 @@ fn compile_function(
         block,
         depth,
         init,
+        n,
         &slots[0..end],
         made,
         code,

@@ -4,6 +4,7 @@ pub mod Skipping
 pub mod SkippingStmts
 pub mod Kinded
 pub mod Targeting
+pub mod Tallying
 pub mod Gathering
 pub mod Params
 pub mod Holding

@@ -9,18 +9,20 @@ use borrow.Rule.Slice.PartMut.{putMid, postOf, same-len-mid}
 use Rattle.definitions.specs.Bytes.{Name}
 use Rattle.definitions.specs.Tree.{Block}
 use Rattle.state.specs.State.{namesAt, slotsFrom}
-use Rattle.definitions.specs.Slots.{localsBlock}
+use Rattle.definitions.specs.Slots.{localsBlock, loopsBlock, Frame, withLoops}
 use Rattle.parts.specs.Places.{countAt, nameBytes, nameEnd, There, namesFrom, AllThere, ParamsAt, paramsAt}
 use Rattle.parts.proofs.NameLaws.{there-first, there-next}
-use Rattle.slots.specs.Slotted.{leading, firstNames, Indexed, Reindexed, Collected, Room, Gathers}
+use Rattle.slots.specs.Slotted.{leading, firstNames, Indexed, Reindexed, Collected, Room, Gathers, upTo256, Framing, Frames}
 use Rattle.slots.specs.declared.Locals.{Locals}
 use Rattle.slots.specs.declared.Locals.the-variants.{Count, TooMany}
 use Rattle.slots.specs.declared.collect.Gathered.{Gathered}
 use Rattle.slots.specs.declared.collect.Gathered.the-variants.{Next, Over}
-use Rattle.slots.proofs.Adding.{leading-set, mid-front}
+use Rattle.slots.specs.declared.collect.Framed.{Framed}
+use Rattle.slots.specs.declared.collect.Framed.the-variants as Framed
+use Rattle.slots.proofs.Adding.{leading-set, mid-front, first-length}
 use Rattle.slots.proofs.Reindexing.{reindexed-names}
 use Rattle.definitions.proofs.Named.{block-grows}
-use Rattle.slots.proofs.Gathering.{gathers-next, gathers-over}
+use Rattle.slots.proofs.Gathering.{Stands, gathers-next, gathers-over}
 
 pub names-count : (t : List ℕ) (n p : ℕ) → length (namesFrom t n p) ≡ n
 unfolding namesFrom
@@ -113,19 +115,45 @@ pub collected-over : (r : Locals) (t ps : List ℕ) (want : List Name) → Colle
 unfolding Collected
 collected-over r t ps want c e = subst (λ (s : Locals). Collected s t ps want) e c
 
-pub locals-begun : (r : Locals) (t ps qs : List ℕ) (xs : List Name) (b : Block) → Collected r t ps xs → r ≡ TooMany → Collected TooMany t qs (localsBlock b xs)
-unfolding Collected
-locals-begun r t ps qs xs b c e = let h = collected-over r t ps xs c e in let g = block-grows b xs in omega arith
+-- ---- the slots of a def or method
 
-pub locals-over : (r : Locals) (o : Gathered) (t ps qs : List ℕ) (xs : List Name) (k end : ℕ) (b : Block) → Collected r t ps xs → r ≡ Count k → Gathers o t qs end (localsBlock b (firstNames t k ps)) → o ≡ Over →
-    Collected TooMany t qs (localsBlock b xs)
-unfolding Collected
-locals-over r o t ps qs xs k end b c e g h = let z = collected-count r t ps xs k c e in let y = gathers-over o t qs end _ g h in omega (arith, ap (λ (w : List Name). length (localsBlock b w)) (z .1))
+frames-over : {t ps : List ℕ} {f : Frame} → 255 < f .locals → Frames Framed.TooMany t ps f
+frames-over h = record { framing = λ n m e. (let z : _≡_ {A = ℕ} 0 1 = cc in absurd (omega arith)); over = λ e. h }
 
-pub locals-all : (r : Locals) (o : Gathered) (t ps qs : List ℕ) (xs : List Name) (k end : ℕ) (b : Block) (p n : ℕ) → Collected r t ps xs → r ≡ Count k → Gathers o t qs end (localsBlock b (firstNames t k ps)) → o ≡ Next p n →
-    Collected (Count n) t qs (localsBlock b xs)
-unfolding Collected
-locals-all r o t ps qs xs k end b p n c e g h = let z = collected-count r t ps xs k c e in let y = gathers-next o t qs end _ p n g h in (y .few, y .names ∙ ap (localsBlock b) (z .1), y .indexed)
+frames-slots : {n m : ℕ} {t ps : List ℕ} {f : Frame} → Framing n m t ps f → Frames (Framed.Slots n m) t ps f
+frames-slots {n} {m} {t} {ps} {f} F = record {
+  framing = λ n′ m′ e. (let p : n ≡ n′ = cc in let q : m ≡ m′ = cc in subst (λ (x : ℕ). Framing n′ x t ps f) q (subst (λ (x : ℕ). Framing x m t ps f) p F));
+  over = λ e. (let z : _≡_ {A = ℕ} 0 1 = cc in absurd (omega arith));
+}
+
+pub frames-begun : (r : Locals) (t ps qs : List ℕ) (xs : List Name) (b : Block) → Collected r t ps xs → r ≡ TooMany → Frames Framed.TooMany t qs (withLoops xs b)
+frames-begun r t ps qs xs b c e = let h = collected-over r t ps xs c e in let g = block-grows b xs in frames-over (omega arith)
+
+module _ (r : Locals) (o : Gathered) (t ps qs : List ℕ) (xs : List Name) (k end : ℕ) (b : Block) (c : Collected r t ps xs) (e : r ≡ Count k) (g : Gathers o t qs end (localsBlock b (firstNames t k ps))) where
+  same-names : localsBlock b (firstNames t k ps) ≡ localsBlock b xs
+  same-names = ap (localsBlock b) (collected-count r t ps xs k c e .1)
+
+  pub frames-gathered : o ≡ Over → Frames Framed.TooMany t qs (withLoops xs b)
+  frames-gathered h = let y = gathers-over o t qs end _ g h in frames-over (omega (arith, ap length same-names))
+
+  module _ (m p n : ℕ) (h : o ≡ Next p n) (room : slotsFrom + 256 ≤ length qs) (l : m ≡ upTo256 (0 + loopsBlock b)) where
+    stands : Stands p n t qs end (localsBlock b (firstNames t k ps))
+    stands = gathers-next o t qs end _ p n g h
+
+    names-are : firstNames t n qs ≡ localsBlock b xs
+    names-are = stands .names ∙ same-names
+
+    names-many : n ≡ length (localsBlock b xs)
+    names-many = let f = stands .few in sym (first-length t n qs (omega arith)) ∙ ap length names-are
+
+    pub counts-few : n + m ≤ 511
+    counts-few = let f = stands .few in omega arith
+
+    pub frames-many : 255 < n + m → Frames Framed.TooMany t qs (withLoops xs b)
+    frames-many w = frames-over (omega (arith, names-many))
+
+    pub frames-all : n + m ≤ 255 → Frames (Framed.Slots n (n + m)) t qs (withLoops xs b)
+    frames-all w = frames-slots (record { named = omega arith; few = w; names = names-are; locals = omega (arith, names-many); indexed = stands .indexed })
 
 pub room-of : (t ps qs : List ℕ) (n : ℕ) → length t ≤ 32768 → slotsFrom + 256 ≤ length ps → length qs ≡ length ps → n ≤ 255 → Indexed t n qs → Room t qs n
 room-of t ps qs n h k e g v = record { short = h; room = omega arith; few = g; indexed = v }

@@ -1,9 +1,10 @@
 -- Names in slots: what the places in a slice stand for, and what a step leaves in them.
-use Prim.Native.Nat.{ℕ, _+_, _≤_, _<_}
+use Prim.Native.Nat.{ℕ, _+_, _-_, _≤_, _<_}
 use mathlib.Core.Path.{_≡_}
 use mathlib.Core.List.{List, _++_}
 use lib.ListN.{length, take, drop}
 use Rattle.definitions.specs.Bytes.{Name}
+use Rattle.definitions.specs.Slots.{Frame}
 use Rattle.state.specs.Words.{nameAt}
 use Rattle.state.specs.Index.{bucketOf, Covered}
 use Rattle.state.specs.State.{namesAt, slotsFrom}
@@ -11,6 +12,8 @@ use Rattle.slots.specs.declared.Locals.{Locals}
 use Rattle.slots.specs.declared.Locals.the-variants.{Count, TooMany}
 use Rattle.slots.specs.declared.collect.Gathered.{Gathered}
 use Rattle.slots.specs.declared.collect.Gathered.the-variants.{Next, Over}
+use Rattle.slots.specs.declared.collect.Framed.{Framed}
+use Rattle.slots.specs.declared.collect.Framed.the-variants as Framed
 
 -- the names at the first n of some places
 unfoldable pub leading : List ℕ → ℕ → List ℕ → List Name
@@ -45,7 +48,7 @@ pub record Appended (t : List ℕ) (k : ℕ) (more ps ps′ : List ℕ) : Type 0
   pub names : firstNames t (k + length more) ps′ ≡ firstNames t k ps ++ namesAt t more
   pub indexed : Indexed t (k + length more) ps′
 
--- the slots have the wanted names; or these are more than 255
+-- the slots have the wanted names; or these are more than 255 (parameters, and the slots of a lambda)
 unfoldable pub Collected : Locals → List ℕ → List ℕ → List Name → Type 0
 Collected (Count n) t ps want = (n ≤ 255) × (firstNames t n ps ≡ want) × Indexed t n ps
 Collected TooMany t ps want = 255 < length want
@@ -61,3 +64,26 @@ pub record Room (t ps : List ℕ) (n : ℕ) : Type 0 where
 unfoldable pub Gathers : Gathered → List ℕ → List ℕ → ℕ → List Name → Type 0
 Gathers (Next e n) t ps end want = (e ≡ end) × (n ≤ 255) × (firstNames t n ps ≡ want) × Indexed t n ps
 Gathers Over t ps end want = 255 < length want
+
+-- ---- loops
+
+-- a count up to 256, which is too many
+abbrev pub upTo256 : ℕ → ℕ
+upTo256 n = n - (n - 256)
+
+-- a walk that goes on has counted its loops too
+pub record Tallies (r : Gathered) (m m′ loops : ℕ) : Type 0 where
+  pub counted : (e n : ℕ) → r ≡ Next e n → m′ ≡ upTo256 (m + loops)
+
+-- of the m slots of a frame the first n have its names
+pub record Framing (n m : ℕ) (t ps : List ℕ) (f : Frame) : Type 0 where
+  pub named : n ≤ m
+  pub few : m ≤ 255
+  pub names : firstNames t n ps ≡ f .names
+  pub locals : m ≡ f .locals
+  pub indexed : Indexed t n ps
+
+-- so it is; or there are more than 255
+pub record Frames (r : Framed) (t ps : List ℕ) (f : Frame) : Type 0 where
+  pub framing : (n m : ℕ) → r ≡ Framed.Slots n m → Framing n m t ps f
+  pub over : r ≡ Framed.TooMany → 255 < f .locals

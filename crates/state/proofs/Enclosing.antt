@@ -11,7 +11,7 @@ use Rattle.definitions.specs.Tree.{Block, Methods, []ᵐ, method}
 use Rattle.definitions.specs.Instruction.{Instr, Return, LoadConst, StoreGlobal, MakeClosure}
 use Rattle.definitions.specs.Tables.{Function, Method, Tables, Body, Out, Emit, emits, one, _⨟_, withFunctions, withClasses, addConstant, addSymbol, blockBody, begin, setCode, enclose, function}
 use Rattle.definitions.specs.Lower.{load, loads, lambdaName, closure, insertMethod, beginClass, classObject, endClass, classOut, methodEnd, emitBlock, emitMethods, compile, main, noTables}
-use Rattle.definitions.specs.Slots.{localsBlock}
+use Rattle.definitions.specs.Slots.{inGlobals, Frame, namesOnly, withLoops}
 use Rattle.state.specs.State.{State, emitAt, symbolNumber, withSymbol, withTables}
 use Rattle.state.specs.Steps.{begun, ended, methodFunction, methodsAt, methodsOf}
 use Rattle.state.proofs.Emission.{state-eq, at-seq, at-three, at-nothing, at-intern, intern-by}
@@ -19,12 +19,12 @@ use Rattle.state.proofs.Emission.{state-eq, at-seq, at-three, at-nothin
 -- ---- functions
 
 -- The name's symbol is there; the function begins, with its number f; its body is emitted above the stack; the function ends
-pub at-enclose : (base k arity : ℕ) (slots : List Name) (body : Body) (e : Emit) (s : State)
-    → emitAt base (enclose k arity slots body e) s ≡ ended (length (s .stack)) (length (s .tables .functions)) (emitAt (length (s .stack)) e (begun k arity slots s))
+pub at-enclose : (base k arity : ℕ) (frame : Frame) (body : Body) (e : Emit) (s : State)
+    → emitAt base (enclose k arity frame body e) s ≡ ended (length (s .stack)) (length (s .tables .functions)) (emitAt (length (s .stack)) e (begun k arity frame s))
 unfolding emitAt enclose begun ended
-at-enclose base k arity slots body e s =
+at-enclose base k arity frame body e s =
     let xs = s .stack in
-    let u = begin k arity slots (s .tables) in
+    let u = begin k arity frame (s .tables) in
     let z : 0 ≡ length xs - length xs = omega arith in
     ap (λ (n : ℕ). record { stack = xs ++ []; tables = withFunctions (setCode (e n u .tables .functions) (length (s .tables .functions)) (e n u .code)) (e n u .tables) }) z
     ∙ state-eq _ _ (append-nil xs ∙ sym (take-append-seam xs (e (length xs - length xs) u .code)))
@@ -41,15 +41,15 @@ symbol-functions x t = go (position (same x) (t .symbols))
     go (some k) = refl
 
 -- s′ is the state with the symbol
-pub at-function : (base : ℕ) (x : Name) (arity : ℕ) (slots : List Name) (body : Body) (e : Emit) (s s′ : State) → s′ ≡ withTables (withSymbol x (s .tables)) s
-    → emitAt base (function x arity slots body e) s
-    ≡ ended (length (s .stack)) (length (s .tables .functions)) (emitAt (length (s .stack)) e (begun (symbolNumber x (s .tables)) arity slots s′))
+pub at-function : (base : ℕ) (x : Name) (arity : ℕ) (frame : Frame) (body : Body) (e : Emit) (s s′ : State) → s′ ≡ withTables (withSymbol x (s .tables)) s
+    → emitAt base (function x arity frame body e) s
+    ≡ ended (length (s .stack)) (length (s .tables .functions)) (emitAt (length (s .stack)) e (begun (symbolNumber x (s .tables)) arity frame s′))
 unfolding function
-at-function base x arity slots body e s s′ h =
-    at-intern base x (λ k. enclose k arity slots body e) s
-    ∙ at-enclose base (symbolNumber x (s .tables)) arity slots body e (withTables (withSymbol x (s .tables)) s)
-    ∙ (λ j. ended (length (s .stack)) (length (symbol-functions x (s .tables) j)) (emitAt (length (s .stack)) e (begun (symbolNumber x (s .tables)) arity slots (withTables (withSymbol x (s .tables)) s))))
-    ∙ ap (λ (u : State). ended (length (s .stack)) (length (s .tables .functions)) (emitAt (length (s .stack)) e (begun (symbolNumber x (s .tables)) arity slots u))) (sym h)
+at-function base x arity frame body e s s′ h =
+    at-intern base x (λ k. enclose k arity frame body e) s
+    ∙ at-enclose base (symbolNumber x (s .tables)) arity frame body e (withTables (withSymbol x (s .tables)) s)
+    ∙ (λ j. ended (length (s .stack)) (length (symbol-functions x (s .tables) j)) (emitAt (length (s .stack)) e (begun (symbolNumber x (s .tables)) arity frame (withTables (withSymbol x (s .tables)) s))))
+    ∙ ap (λ (u : State). ended (length (s .stack)) (length (s .tables .functions)) (emitAt (length (s .stack)) e (begun (symbolNumber x (s .tables)) arity frame u))) (sym h)
 
 -- ---- closures
 
@@ -65,10 +65,10 @@ at-loads-more base slots x xs s h = at-seq base (load slots x) (loads slots xs) 
 -- f is the number of functions
 pub at-closure : (base : ℕ) (slots : List Name) (arity : ℕ) (inner cs : List Name) (body : Body) (e : Emit) (s : State) (f : ℕ) → base ≤ length (s .stack) → f ≡ length (s .tables .functions)
     → emitAt base (closure slots arity inner cs body e) s
-    ≡ emitAt base (one (MakeClosure f (length cs))) (emitAt base (loads slots cs) (emitAt base (function (lambdaName f) arity inner body (e ⨟ one Return)) s))
+    ≡ emitAt base (one (MakeClosure f (length cs))) (emitAt base (loads slots cs) (emitAt base (function (lambdaName f) arity (namesOnly inner) body (e ⨟ one Return)) s))
 unfolding closure emitAt
 at-closure base slots arity inner cs body e s f h q =
-    rw q (at-three base (function (lambdaName (length (s .tables .functions))) arity inner body (e ⨟ one Return)) (loads slots cs) (one (MakeClosure (length (s .tables .functions)) (length cs))) s h)
+    rw q (at-three base (function (lambdaName (length (s .tables .functions))) arity (namesOnly inner) body (e ⨟ one Return)) (loads slots cs) (one (MakeClosure (length (s .tables .functions)) (length cs))) s h)
 
 -- ---- classes
 
@@ -81,10 +81,10 @@ unfolding methodsOf emitMethods
 methods-none-of acc s = refl
 
 -- a function is the same at any place
-function-place : (base : ℕ) (x : Name) (arity : ℕ) (slots : List Name) (body : Body) (e : Emit) (s : State) → withTables (function x arity slots body e 0 (s .tables) .tables) s ≡ emitAt base (function x arity slots body e) s
+function-place : (base : ℕ) (x : Name) (arity : ℕ) (frame : Frame) (body : Body) (e : Emit) (s : State) → withTables (function x arity frame body e 0 (s .tables) .tables) s ≡ emitAt base (function x arity frame body e) s
 unfolding function enclose emitAt
-function-place base x arity slots body e s =
-    let f : ℕ → Emit = λ k. enclose k arity slots body e in
+function-place base x arity frame body e s =
+    let f : ℕ → Emit = λ k. enclose k arity frame body e in
     let here′ = intern-by x f 0 (s .tables) in
     let there = intern-by x f (length (s .stack) - base) (s .tables) in
     state-eq _ _ (sym (ap (λ (o : Out). s .stack ++ o .code) there ∙ append-nil (s .stack))) (ap (λ (o : Out). o .tables) here′ ∙ sym (ap (λ (o : Out). o .tables) there))
@@ -94,14 +94,16 @@ pub methods-more : (base : ℕ) (x : Name) (ps : List Name) (b : Block) (rest : 
     → methodsAt (method x ps b rest) acc s ≡ methodsAt rest (insertMethod x (length (s .tables .functions)) acc) s′
 unfolding methodsAt emitMethods methodFunction
 methods-more base x ps b rest acc s s′ h =
-    let q = function-place base x (length ps) (localsBlock b ps) (blockBody b (methodEnd x)) (emitBlock (localsBlock b ps) b ⨟ emits (methodEnd x)) s ∙ sym h in
+    let f = withLoops ps b in
+    let q = function-place base x (length ps) f (blockBody b (methodEnd x)) (emitBlock (f .names) (f .keep) b ⨟ emits (methodEnd x)) s ∙ sym h in
     ap (λ (u : State). withTables (emitMethods rest (insertMethod x (length (s .tables .functions)) acc) (u .tables) .tables) u) q
 
 pub methods-more-of : (base : ℕ) (x : Name) (ps : List Name) (b : Block) (rest : Methods) (acc : List Method) (s s′ : State) → s′ ≡ emitAt base (methodFunction x ps b) s
     → methodsOf (method x ps b rest) acc s ≡ methodsOf rest (insertMethod x (length (s .tables .functions)) acc) s′
 unfolding methodsOf emitMethods methodFunction
 methods-more-of base x ps b rest acc s s′ h =
-    let q = function-place base x (length ps) (localsBlock b ps) (blockBody b (methodEnd x)) (emitBlock (localsBlock b ps) b ⨟ emits (methodEnd x)) s ∙ sym h in
+    let f = withLoops ps b in
+    let q = function-place base x (length ps) f (blockBody b (methodEnd x)) (emitBlock (f .names) (f .keep) b ⨟ emits (methodEnd x)) s ∙ sym h in
     ap (λ (u : State). emitMethods rest (insertMethod x (length (s .tables .functions)) acc) (u .tables) .methods) q
 
 -- the class has its methods, s′ is the state then, and c its number; then its symbol and its object
@@ -124,6 +126,6 @@ at-class base x ms s s₁ s₂ e₁ e₂ = rw (e₂, e₁)
 -- ---- the whole tree
 
 -- nothing is emitted yet
-pub at-compile : (b : Block) → compile b .tables ≡ emitAt 0 (function main 0 [] (blockBody b (Return ∷ [])) (emitBlock [] b ⨟ one Return)) (record { stack = []; tables = noTables }) .tables
+pub at-compile : (b : Block) → compile b .tables ≡ emitAt 0 (function main 0 (namesOnly []) (blockBody b (Return ∷ [])) (emitBlock [] inGlobals b ⨟ one Return)) (record { stack = []; tables = noTables }) .tables
 unfolding compile emitAt
 at-compile b = refl

@@ -17,10 +17,10 @@ use Rattle.definitions.specs.Instruction
 use Rattle.definitions.specs.Instruction.{Instr, Return}
 use Rattle.definitions.specs.Tables.{Function, Method, Tables, Body, blockBody, exprBody, Out, Emit, emits, one, _⨟_, here, addSymbol, addString, withClasses, intern}
 use Rattle.definitions.specs.Tables.{getOrAddString, begin, setCode, enclose, function}
-use Rattle.definitions.specs.Slots.{localsBlock, captures}
+use Rattle.definitions.specs.Slots.{captures, Keeping, inGlobals, inSlots, past, Frame, namesOnly, withLoops, loopsStmt, loopsBlock}
 use Rattle.definitions.specs.Module.{instructions, slotsFit}
 use Rattle.definitions.specs.Lower.{load, store, literal, shortcut, Callee, builtinCallee, functionCallee, valueCallee, resolve, callNamed, callBy, lambdaName, loads, closure}
-use Rattle.definitions.specs.Lower.{emitExpr, emitExprs, emitObject, decides, displaySize, copy, emitTarget, unpack, assignBy, loop, iterName, makeIter, namedIter, askIter}
+use Rattle.definitions.specs.Lower.{emitExpr, emitExprs, emitObject, decides, displaySize, copy, emitTarget, unpack, assignBy, loop, iterName, Keeper, global, local, makeIter, namedIter, keptIter, storeIter, loadIter, askIter}
 use Rattle.definitions.specs.Lower.{takeIter, methodEnd, insertMethod, beginClass, classObject, endClass, classOut, emitStmt, emitBlock, emitBranches, emitMethods}
 use Rattle.definitions.proofs.Functions.{setCode-seam}
 use Rattle.definitions.proofs.Truth.{left, right}
@@ -117,48 +117,48 @@ pub lengthens-string : {f : ℕ → Emit} (x : Text) → ((k : ℕ) → Lengthen
 unfolding getOrAddString
 lengthens-string x F = record { at = λ p t. found F (addString x) (string-lengthened x) (position (same x) (t .strings)) (length (t .strings)) p t }
 
-pub begin-lengthened : (k arity : ℕ) (slots : List Name) (t : Tables) → Lengthened t (begin k arity slots t)
+pub begin-lengthened : (k arity : ℕ) (frame : Frame) (t : Tables) → Lengthened t (begin k arity frame t)
 unfolding begin
-begin-lengthened k arity slots t = record { new = record { symbol = k; arity = arity; locals = length slots; code = [] } ∷ []; functions = refl; symbols = omega arith; strings = omega arith; classes = omega arith }
+begin-lengthened k arity frame t = record { new = record { symbol = k; arity = arity; locals = frame .locals; code = [] } ∷ []; functions = refl; symbols = omega arith; strings = omega arith; classes = omega arith }
 
 -- a function's code is set, in tables u that its body left
-module _ (k arity : ℕ) (slots : List Name) (t u : Tables) (L : Lengthened (begin k arity slots t) u) (is : List Instr) where
-  before : u .functions ≡ t .functions ++ (record { symbol = k; arity = arity; locals = length slots; code = [] } ∷ L .new)
+module _ (k arity : ℕ) (frame : Frame) (t u : Tables) (L : Lengthened (begin k arity frame t) u) (is : List Instr) where
+  before : u .functions ≡ t .functions ++ (record { symbol = k; arity = arity; locals = frame .locals; code = [] } ∷ L .new)
   unfolding begin
   before = L .functions ∙ append-snoc (t .functions) _ (L .new)
 
-  pub setCode-after : setCode (u .functions) (length (t .functions)) is ≡ t .functions ++ (record { symbol = k; arity = arity; locals = length slots; code = is } ∷ L .new)
+  pub setCode-after : setCode (u .functions) (length (t .functions)) is ≡ t .functions ++ (record { symbol = k; arity = arity; locals = frame .locals; code = is } ∷ L .new)
   setCode-after = ap (λ (fs : List Function). setCode fs (length (t .functions)) is) before ∙ setCode-seam (t .functions) (L .new) _ is
 
   pub setCode-instructions : instructions (setCode (u .functions) (length (t .functions)) is) ≡ instructions (u .functions) + length is
   unfolding instructions
   setCode-instructions =
-      omega (arith, ap instructions setCode-after, ap instructions before, instructions-append (t .functions) (record { symbol = k; arity = arity; locals = length slots; code = is } ∷ L .new), instructions-append (t .functions) (record { symbol = k; arity = arity; locals = length slots; code = [] } ∷ L .new))
+      omega (arith, ap instructions setCode-after, ap instructions before, instructions-append (t .functions) (record { symbol = k; arity = arity; locals = frame .locals; code = is } ∷ L .new), instructions-append (t .functions) (record { symbol = k; arity = arity; locals = frame .locals; code = [] } ∷ L .new))
 
   pub setCode-count : length (setCode (u .functions) (length (t .functions)) is) ≡ length (u .functions)
   setCode-count =
-      omega (arith, ap length setCode-after, ap length before, length-append (t .functions) (record { symbol = k; arity = arity; locals = length slots; code = is } ∷ L .new), length-append (t .functions) (record { symbol = k; arity = arity; locals = length slots; code = [] } ∷ L .new))
+      omega (arith, ap length setCode-after, ap length before, length-append (t .functions) (record { symbol = k; arity = arity; locals = frame .locals; code = is } ∷ L .new), length-append (t .functions) (record { symbol = k; arity = arity; locals = frame .locals; code = [] } ∷ L .new))
 
-pub lengthens-enclose : {e : Emit} (k arity : ℕ) (slots : List Name) (body : Body) → Lengthens e → Lengthens (enclose k arity slots body e)
+pub lengthens-enclose : {e : Emit} (k arity : ℕ) (frame : Frame) (body : Body) → Lengthens e → Lengthens (enclose k arity frame body e)
 unfolding enclose
-lengthens-enclose {e} k arity slots body E = record {
+lengthens-enclose {e} k arity frame body E = record {
   at = λ p t.
-      let u = begin k arity slots t in
+      let u = begin k arity frame t in
       let o = e 0 u in
       let L = E .at 0 u in
-      let B = begin-lengthened k arity slots t in
+      let B = begin-lengthened k arity frame t in
       record {
-        new = record { symbol = k; arity = arity; locals = length slots; code = o .code } ∷ L .new;
-        functions = setCode-after k arity slots t (o .tables) L (o .code);
+        new = record { symbol = k; arity = arity; locals = frame .locals; code = o .code } ∷ L .new;
+        functions = setCode-after k arity frame t (o .tables) L (o .code);
         symbols = omega (arith, L .symbols, B .symbols);
         strings = omega (arith, L .strings, B .strings);
         classes = omega (arith, L .classes, B .classes);
       };
 }
 
-pub lengthens-function : {e : Emit} (x : Name) (arity : ℕ) (slots : List Name) (body : Body) → Lengthens e → Lengthens (function x arity slots body e)
+pub lengthens-function : {e : Emit} (x : Name) (arity : ℕ) (frame : Frame) (body : Body) → Lengthens e → Lengthens (function x arity frame body e)
 unfolding function
-lengthens-function x arity slots body E = lengthens-intern x (λ k. lengthens-enclose k arity slots body E)
+lengthens-function x arity frame body E = lengthens-intern x (λ k. lengthens-enclose k arity frame body E)
 
 pub lengthens-shortcut : {r : Emit} (b : Bool) → Lengthens r → Lengthens (shortcut b r)
 unfolding shortcut
@@ -222,8 +222,8 @@ lengthens-callBy asOther slots n F O A = lengthens-seq F (lengthens-seq A (lengt
 pub lengthens-closure : {e : Emit} (slots : List Name) (arity : ℕ) (inner cs : List Name) (body : Body) → Lengthens e → Lengthens (closure slots arity inner cs body e)
 unfolding closure
 lengthens-closure {e} slots arity inner cs body E =
-    lengthens-by (λ t. function (lambdaName (length (t .functions))) arity inner body (e ⨟ one Return) ⨟ loads slots cs ⨟ one (Instruction.MakeClosure (length (t .functions)) (length cs)))
-    (λ t. lengthens-seq (lengthens-function (lambdaName (length (t .functions))) arity inner body (lengthens-seq E (lengthens-one Return)))
+    lengthens-by (λ t. function (lambdaName (length (t .functions))) arity (namesOnly inner) body (e ⨟ one Return) ⨟ loads slots cs ⨟ one (Instruction.MakeClosure (length (t .functions)) (length cs)))
+    (λ t. lengthens-seq (lengthens-function (lambdaName (length (t .functions))) arity (namesOnly inner) body (lengthens-seq E (lengthens-one Return)))
     (lengthens-seq (lengthens-loads slots cs) (lengthens-one (Instruction.MakeClosure (length (t .functions)) (length cs)))))
 
 mutual
@@ -302,17 +302,18 @@ pub lengthens-makeIter : Lengthens makeIter
 unfolding makeIter
 lengthens-makeIter = lengthens-symbol _ (λ k. Instruction.CallMethod k 0)
 
-pub lengthens-askIter : (g : ℕ) → Lengthens (askIter g)
+pub lengthens-askIter : (g : Keeper) → Lengthens (askIter g)
 unfolding askIter
-lengthens-askIter g = lengthens-seq (lengthens-one (Instruction.LoadGlobal g)) (lengthens-symbol _ (λ k. Instruction.CallMethod k 0))
+lengthens-askIter g = lengthens-seq (lengthens-one (loadIter g)) (lengthens-symbol _ (λ k. Instruction.CallMethod k 0))
 
-pub lengthens-takeIter : (slots : List Name) (x : Name) (g : ℕ) → Lengthens (takeIter slots x g)
+pub lengthens-takeIter : (slots : List Name) (x : Name) (g : Keeper) → Lengthens (takeIter slots x g)
 unfolding takeIter
-lengthens-takeIter slots x g = lengthens-seq (lengthens-one (Instruction.LoadGlobal g)) (lengthens-seq (lengthens-symbol _ (λ k. Instruction.CallMethod k 0)) (lengthens-store slots x))
+lengthens-takeIter slots x g = lengthens-seq (lengthens-one (loadIter g)) (lengthens-seq (lengthens-symbol _ (λ k. Instruction.CallMethod k 0)) (lengthens-store slots x))
 
-pub lengthens-namedIter : {f : ℕ → Emit} → ((k : ℕ) → Lengthens (f k)) → Lengthens (namedIter f)
-unfolding namedIter
-lengthens-namedIter F = lengthens-here (λ p. lengthens-intern (iterName p) F)
+pub lengthens-keptIter : {f : Keeper → Emit} (keep : Keeping) → ((g : Keeper) → Lengthens (f g)) → Lengthens (keptIter keep f)
+unfolding keptIter namedIter
+lengthens-keptIter inGlobals F = lengthens-here (λ p. lengthens-intern (iterName p) (λ k. F (global k)))
+lengthens-keptIter (inSlots n) F = F (local n)
 
 -- ---- classes
 
@@ -343,50 +344,55 @@ class-by x ms M = record {
       lengthened-more (beginClass-lengthened x t) (lengthened-more (M [] (beginClass x t)) (lengthens-endClass x (length (t .classes)) (m .methods) .at p (m .tables)));
 }
 
-when-by : (slots : List Name) (c : Expr) (b : Block) (r : Branches) → Lengthens (emitBlock slots b) → ((q : ℕ) (u : Tables) → Lengthened u (emitBranches slots r q u .out .tables))
-    → (p : ℕ) (t : Tables) → Lengthened t (emitBranches slots (when c b r) p t .out .tables)
+when-by : (slots : List Name) (keep : Keeping) (c : Expr) (b : Block) (r : Branches) → Lengthens (emitBlock slots keep b)
+    → ((q : ℕ) (u : Tables) → Lengthened u (emitBranches slots (past (loopsBlock b) keep) r q u .out .tables))
+    → (p : ℕ) (t : Tables) → Lengthened t (emitBranches slots keep (when c b r) p t .out .tables)
 unfolding emitBranches
-when-by slots c b r B R p t =
+when-by slots keep c b r B R p t =
     let a = emitExpr slots c p t in
     let q = suc (p + length (a .code)) in
-    let o = emitBlock slots b q (a .tables) in
+    let o = emitBlock slots keep b q (a .tables) in
     lengthened-more (lengthens-expr slots c .at p t) (lengthened-more (B .at q (a .tables)) (R (q + suc (length (o .code))) (o .tables)))
 
-method-by : (x : Name) (ps : List Name) (b : Block) (rest : Methods) (acc : List Method) (t : Tables) → Lengthens (emitBlock (localsBlock b ps) b)
+method-by : (x : Name) (ps : List Name) (b : Block) (rest : Methods) (acc : List Method) (t : Tables) → Lengthens (emitBlock (withLoops ps b .names) (withLoops ps b .keep) b)
     → ((as′ : List Method) (u : Tables) → Lengthened u (emitMethods rest as′ u .tables)) → Lengthened t (emitMethods (method x ps b rest) acc t .tables)
 unfolding emitMethods
 method-by x ps b rest acc t B M =
-    let F = lengthens-function x (length ps) (localsBlock b ps) (blockBody b (methodEnd x)) (lengthens-seq B (lengthens-emits (methodEnd x))) .at 0 t in
+    let F = lengthens-function x (length ps) (withLoops ps b) (blockBody b (methodEnd x)) (lengthens-seq B (lengthens-emits (methodEnd x))) .at 0 t in
     lengthened-more F (M (insertMethod x (length (t .functions)) acc) _)
 
 mutual
   unfolding emitStmt
 
-  pub lengthens-stmt : (slots : List Name) (s : Stmt) → Lengthens (emitStmt slots s)
-  lengthens-stmt slots break = lengthens-one Instruction.Break
-  lengthens-stmt slots continue = lengthens-one Instruction.Continue
-  lengthens-stmt slots pass = lengthens-emits []
-  lengthens-stmt slots (expr e) = lengthens-seq (lengthens-expr slots e) (lengthens-one Instruction.Pop)
-  lengthens-stmt slots (return e) = lengthens-seq (lengthens-expr slots e) (lengthens-one Return)
-  lengthens-stmt slots (assign t v) = lengthens-assignBy (view t) slots (lengthens-expr slots v)
-  lengthens-stmt slots (if bs) = record { at = λ p t. branches-lengthened slots bs p t }
-  lengthens-stmt slots (while c b) = lengthens-loop (lengthens-expr slots c) (lengthens-block slots b)
-  lengthens-stmt slots (for x e b) =
+  pub lengthens-stmt : (slots : List Name) (keep : Keeping) (s : Stmt) → Lengthens (emitStmt slots keep s)
+  lengthens-stmt slots keep break = lengthens-one Instruction.Break
+  lengthens-stmt slots keep continue = lengthens-one Instruction.Continue
+  lengthens-stmt slots keep pass = lengthens-emits []
+  lengthens-stmt slots keep (expr e) = lengthens-seq (lengthens-expr slots e) (lengthens-one Instruction.Pop)
+  lengthens-stmt slots keep (return e) = lengthens-seq (lengthens-expr slots e) (lengthens-one Return)
+  lengthens-stmt slots keep (assign t v) = lengthens-assignBy (view t) slots (lengthens-expr slots v)
+  lengthens-stmt slots keep (if bs) = record { at = λ p t. branches-lengthened slots keep bs p t }
+  lengthens-stmt slots keep (while c b) = lengthens-loop (lengthens-expr slots c) (lengthens-block slots keep b)
+  lengthens-stmt slots keep (for x e b) =
       lengthens-seq (lengthens-expr slots e) (lengthens-seq lengthens-makeIter
-      (lengthens-namedIter (λ g. lengthens-seq (lengthens-one (Instruction.StoreGlobal g)) (lengthens-loop (lengthens-askIter g) (lengthens-seq (lengthens-takeIter slots x g) (lengthens-block slots b))))))
-  lengthens-stmt slots (def x ps b) = lengthens-function x (length ps) (localsBlock b ps) (blockBody b (Return ∷ [])) (lengthens-seq (lengthens-block (localsBlock b ps) b) (lengthens-one Return))
-  lengthens-stmt slots (class x ms vs) = class-by x ms (λ acc t. methods-lengthened ms acc t)
+      (lengthens-keptIter keep (λ g. lengthens-seq (lengthens-one (storeIter g)) (lengthens-loop (lengthens-askIter g) (lengthens-seq (lengthens-takeIter slots x g) (lengthens-block slots (past 1 keep) b))))))
+  lengthens-stmt slots keep (def x ps b) =
+      let f = withLoops ps b in
+      lengthens-function x (length ps) f (blockBody b (Return ∷ [])) (lengthens-seq (lengthens-block (f .names) (f .keep) b) (lengthens-one Return))
+  lengthens-stmt slots keep (class x ms vs) = class-by x ms (λ acc t. methods-lengthened ms acc t)
 
-  pub lengthens-block : (slots : List Name) (b : Block) → Lengthens (emitBlock slots b)
-  lengthens-block slots []ᵇ = lengthens-emits []
-  lengthens-block slots (s ∷ᵇ b) = lengthens-seq (lengthens-stmt slots s) (lengthens-block slots b)
+  pub lengthens-block : (slots : List Name) (keep : Keeping) (b : Block) → Lengthens (emitBlock slots keep b)
+  lengthens-block slots keep []ᵇ = lengthens-emits []
+  lengthens-block slots keep (s ∷ᵇ b) = lengthens-seq (lengthens-stmt slots keep s) (lengthens-block slots (past (loopsStmt s) keep) b)
 
-  pub branches-lengthened : (slots : List Name) (bs : Branches) (p : ℕ) (t : Tables) → Lengthened t (emitBranches slots bs p t .out .tables)
-  branches-lengthened slots done p t = lengthens-emits [] .at p t
-  branches-lengthened slots (else b) p t = lengthens-block slots b .at p t
-  branches-lengthened slots (when c b r) p t =
-      when-by slots c b r (lengthens-block slots b) (λ q u. branches-lengthened slots r q u) p t
+  pub branches-lengthened : (slots : List Name) (keep : Keeping) (bs : Branches) (p : ℕ) (t : Tables) → Lengthened t (emitBranches slots keep bs p t .out .tables)
+  branches-lengthened slots keep done p t = lengthens-emits [] .at p t
+  branches-lengthened slots keep (else b) p t = lengthens-block slots keep b .at p t
+  branches-lengthened slots keep (when c b r) p t =
+      when-by slots keep c b r (lengthens-block slots keep b) (λ q u. branches-lengthened slots (past (loopsBlock b) keep) r q u) p t
 
   pub methods-lengthened : (ms : Methods) (acc : List Method) (t : Tables) → Lengthened t (emitMethods ms acc t .tables)
   methods-lengthened []ᵐ acc t = lengthened-none t
-  methods-lengthened (method x ps b rest) acc t = method-by x ps b rest acc t (lengthens-block (localsBlock b ps) b) (λ as′ u. methods-lengthened rest as′ u)
+  methods-lengthened (method x ps b rest) acc t =
+      let f = withLoops ps b in
+      method-by x ps b rest acc t (lengthens-block (f .names) (f .keep) b) (λ as′ u. methods-lengthened rest as′ u)

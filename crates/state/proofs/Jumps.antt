@@ -10,6 +10,7 @@ use Rattle.definitions.specs.Bytes.{Name}
 use Rattle.definitions.specs.Instruction.{Instr, Jump, JumpIfFalse, ConstBool, minus}
 use Rattle.definitions.specs.Tables.{Tables, Emit, emits, one}
 use Rattle.definitions.specs.Tree.{Expr, Block, Branches, done, else, when}
+use Rattle.definitions.specs.Slots.{Keeping, past, loopsBlock}
 use Rattle.definitions.specs.Lower.{jumpOn, shortcut, patch, loop, emitExpr, emitBlock, emitBranches}
 use Rattle.state.specs.State.{State, emitAt}
 use Rattle.state.specs.Steps.{setAt, patchAt, branch, chainAt}
@@ -140,35 +141,35 @@ last-seam xs as′ bs rest j c d =
     ∙ ap (λ (l : List Instr). l ++ rest) (set-append-seam us c [] d) ∙ simp append-assoc
 
 -- a branch and those after it, on a stack ys
-rest-by : (base : ℕ) (slots : List Name) (c : Expr) (b : Block) (r : Branches) (p : ℕ) (t : Tables) (ys : List Instr) → base ≤ length ys → length ys - base ≡ p
-    → _≡_ {A = State} (record { stack = ys ++ emitBranches slots (when c b r) p t .out .code; tables = emitBranches slots (when c b r) p t .out .tables })
-    (chainAt base slots r (length (ys ++ branch slots c b p t .code) - 1) (record { stack = ys ++ branch slots c b p t .code; tables = branch slots c b p t .tables }))
+rest-by : (base : ℕ) (slots : List Name) (keep : Keeping) (c : Expr) (b : Block) (r : Branches) (p : ℕ) (t : Tables) (ys : List Instr) → base ≤ length ys → length ys - base ≡ p
+    → _≡_ {A = State} (record { stack = ys ++ emitBranches slots keep (when c b r) p t .out .code; tables = emitBranches slots keep (when c b r) p t .out .tables })
+    (chainAt base slots (past (loopsBlock b) keep) r (length (ys ++ branch slots keep c b p t .code) - 1) (record { stack = ys ++ branch slots keep c b p t .code; tables = branch slots keep c b p t .tables }))
 unfolding emitBranches branch chainAt
-rest-by base slots c b r p t ys h e =
+rest-by base slots keep c b r p t ys h e =
     let a = emitExpr slots c p t in
-    let o = emitBlock slots b (suc (p + length (a .code))) (a .tables) in
+    let o = emitBlock slots keep b (suc (p + length (a .code))) (a .tables) in
     let jif = JumpIfFalse (suc (length (o .code))) in
     let is = a .code ++ (jif ∷ o .code ++ Jump 0 ∷ []) in
     let q : suc (p + length (a .code)) + suc (length (o .code)) ≡ length (ys ++ is) - base =
     omega (arith, length-append ys is, length-append (a .code) (jif ∷ o .code ++ Jump 0 ∷ []), length-append (o .code) (Jump 0 ∷ [])) in
-    ap (λ (n : ℕ). record { stack = ys ++ (a .code ++ (jif ∷ o .code ++ Jump (emitBranches slots r n (o .tables) .hop) ∷ emitBranches slots r n (o .tables) .out .code)); tables = emitBranches slots r n (o .tables) .out .tables }) q
+    ap (λ (n : ℕ). record { stack = ys ++ (a .code ++ (jif ∷ o .code ++ Jump (emitBranches slots (past (loopsBlock b) keep) r n (o .tables) .hop) ∷ emitBranches slots (past (loopsBlock b) keep) r n (o .tables) .out .code)); tables = emitBranches slots (past (loopsBlock b) keep) r n (o .tables) .out .tables }) q
     ∙ state-eq _ _ (sym (last-seam ys (a .code) (o .code) _ jif (Jump 0) _)) refl
 
-branch-hop : (slots : List Name) (c : Expr) (b : Block) (r : Branches) (p : ℕ) (t : Tables) (xs : List Instr)
-    → emitBranches slots (when c b r) p t .hop ≡ length (xs ++ branch slots c b p t .code) - 1 - length xs
+branch-hop : (slots : List Name) (keep : Keeping) (c : Expr) (b : Block) (r : Branches) (p : ℕ) (t : Tables) (xs : List Instr)
+    → emitBranches slots keep (when c b r) p t .hop ≡ length (xs ++ branch slots keep c b p t .code) - 1 - length xs
 unfolding emitBranches branch
-branch-hop slots c b r p t xs =
+branch-hop slots keep c b r p t xs =
     let a = emitExpr slots c p t in
-    let o = emitBlock slots b (suc (p + length (a .code))) (a .tables) in
+    let o = emitBlock slots keep b (suc (p + length (a .code))) (a .tables) in
     let jif = JumpIfFalse (suc (length (o .code))) in
     omega (arith, length-append xs (a .code ++ (jif ∷ o .code ++ Jump 0 ∷ [])), length-append (a .code) (jif ∷ o .code ++ Jump 0 ∷ []), length-append (o .code) (Jump 0 ∷ []))
 
 -- s₁, s₂ and s₃ are the states after the condition, the placeholder i and the block; the end jump is a placeholder too
-module _ (base : ℕ) (slots : List Name) (c : Expr) (b : Block) (s : State) (h : base ≤ length (s .stack)) where
-  branch-by : (i : Instr) → emitAt base (branch slots c b) s
+module _ (base : ℕ) (slots : List Name) (keep : Keeping) (c : Expr) (b : Block) (s : State) (h : base ≤ length (s .stack)) where
+  branch-by : (i : Instr) → emitAt base (branch slots keep c b) s
       ≡ setAt (length (emitAt base (emitExpr slots c) s .stack))
-      (JumpIfFalse (suc (length (emitAt base (emitBlock slots b) (emitAt base (one i) (emitAt base (emitExpr slots c) s)) .stack) - length (emitAt base (one i) (emitAt base (emitExpr slots c) s) .stack))))
-      (emitAt base (one (Jump 0)) (emitAt base (emitBlock slots b) (emitAt base (one i) (emitAt base (emitExpr slots c) s))))
+      (JumpIfFalse (suc (length (emitAt base (emitBlock slots keep b) (emitAt base (one i) (emitAt base (emitExpr slots c) s)) .stack) - length (emitAt base (one i) (emitAt base (emitExpr slots c) s) .stack))))
+      (emitAt base (one (Jump 0)) (emitAt base (emitBlock slots keep b) (emitAt base (one i) (emitAt base (emitExpr slots c) s))))
   unfolding emitAt setAt branch emits
   branch-by i =
       let xs = s .stack in
@@ -176,49 +177,49 @@ module _ (base : ℕ) (slots : List Name) (c : Expr) (b : Block) (s : State) (h 
       let as′ = a .code in
       let n = length (xs ++ as′ ++ i ∷ []) - base in
       let q : suc (length xs - base + length as′) ≡ n = omega (arith, length-append (xs ++ as′) (i ∷ []), length-append xs as′) in
-      let bs = emitBlock slots b n (a .tables) .code in
+      let bs = emitBlock slots keep b n (a .tables) .code in
       let m : length bs ≡ length (xs ++ as′ ++ i ∷ [] ++ bs) - length (xs ++ as′ ++ i ∷ []) = sym (added (xs ++ as′ ++ i ∷ []) bs) in
-      ap (λ (k : ℕ). record { stack = xs ++ (as′ ++ (JumpIfFalse (suc (length (emitBlock slots b k (a .tables) .code))) ∷ emitBlock slots b k (a .tables) .code ++ Jump 0 ∷ [])); tables = emitBlock slots b k (a .tables) .tables }) q
+      ap (λ (k : ℕ). record { stack = xs ++ (as′ ++ (JumpIfFalse (suc (length (emitBlock slots keep b k (a .tables) .code))) ∷ emitBlock slots keep b k (a .tables) .code ++ Jump 0 ∷ [])); tables = emitBlock slots keep b k (a .tables) .tables }) q
       ∙ state-eq _ _ ((λ j. xs ++ (as′ ++ (JumpIfFalse (suc (m j)) ∷ bs ++ Jump 0 ∷ [])))
       ∙ sym (branch-seam xs as′ bs i _ (Jump 0))) refl
 
-  pub at-branch : (i : Instr) (s₁ s₂ s₃ : State) → s₁ ≡ emitAt base (emitExpr slots c) s → s₂ ≡ emitAt base (one i) s₁ → s₃ ≡ emitAt base (emitBlock slots b) s₂
-      → emitAt base (branch slots c b) s ≡ setAt (length (s₁ .stack)) (JumpIfFalse (suc (length (s₃ .stack) - length (s₂ .stack)))) (emitAt base (one (Jump 0)) s₃)
+  pub at-branch : (i : Instr) (s₁ s₂ s₃ : State) → s₁ ≡ emitAt base (emitExpr slots c) s → s₂ ≡ emitAt base (one i) s₁ → s₃ ≡ emitAt base (emitBlock slots keep b) s₂
+      → emitAt base (branch slots keep c b) s ≡ setAt (length (s₁ .stack)) (JumpIfFalse (suc (length (s₃ .stack) - length (s₂ .stack)))) (emitAt base (one (Jump 0)) s₃)
   at-branch i s₁ s₂ s₃ e₁ e₂ e₃ = rw (e₃, e₂, e₁) (branch-by i)
 
   -- the first branch, of which s′ is the state; the end jump is its last instruction
-  pub at-when : (r : Branches) (s′ : State) → s′ ≡ emitAt base (branch slots c b) s
-      → emitAt base (λ p t. emitBranches slots (when c b r) p t .out) s ≡ chainAt base slots r (length (s′ .stack) - 1) s′
+  pub at-when : (r : Branches) (s′ : State) → s′ ≡ emitAt base (branch slots keep c b) s
+      → emitAt base (λ p t. emitBranches slots keep (when c b r) p t .out) s ≡ chainAt base slots (past (loopsBlock b) keep) r (length (s′ .stack) - 1) s′
   unfolding emitAt
-  at-when r s′ e = rw e (rest-by base slots c b r (length (s .stack) - base) (s .tables) (s .stack) h refl)
+  at-when r s′ e = rw e (rest-by base slots keep c b r (length (s .stack) - base) (s .tables) (s .stack) h refl)
 
   -- a branch after one whose end jump is at place k
-  pub chain-when : (r : Branches) (k : ℕ) (s′ : State) → k < length (s .stack) → s′ ≡ emitAt base (branch slots c b) s
-      → chainAt base slots (when c b r) k s ≡ chainAt base slots r (length (s′ .stack) - 1) (setAt k (Jump (length (s′ .stack) - 1 - length (s .stack))) s′)
+  pub chain-when : (r : Branches) (k : ℕ) (s′ : State) → k < length (s .stack) → s′ ≡ emitAt base (branch slots keep c b) s
+      → chainAt base slots keep (when c b r) k s ≡ chainAt base slots (past (loopsBlock b) keep) r (length (s′ .stack) - 1) (setAt k (Jump (length (s′ .stack) - 1 - length (s .stack))) s′)
   unfolding emitAt setAt chainAt emitBranches branch
   chain-when r k s′ l e =
       let xs = s .stack in
       let p = length xs - base in
-      let is = branch slots c b p (s .tables) .code in
-      let t = branch slots c b p (s .tables) .tables in
-      let d = emitBranches slots (when c b r) p (s .tables) .hop in
+      let is = branch slots keep c b p (s .tables) .code in
+      let t = branch slots keep c b p (s .tables) .tables in
+      let d = emitBranches slots keep (when c b r) p (s .tables) .hop in
       let ys = set xs k (Jump d) in
       let same-length : length ys ≡ length xs = length-set xs k (Jump d) in
       let n : length (ys ++ is) ≡ length (xs ++ is) = omega (arith, length-append ys is, length-append xs is) in
       let a : ys ++ is ≡ set (xs ++ is) k (Jump d) = sym (set-append-left xs is k (Jump d) l) in
-      let w : d ≡ length (xs ++ is) - 1 - length xs = branch-hop slots c b r p (s .tables) xs in
-      rw e (rest-by base slots c b r p (s .tables) ys (omega arith) (ap (λ (m : ℕ). m - base) same-length)
-      ∙ (λ j. chainAt base slots r (n j - 1) (record { stack = a j; tables = t }))
-      ∙ (λ j. chainAt base slots r (length (xs ++ is) - 1) (record { stack = set (xs ++ is) k (Jump (w j)); tables = t })))
+      let w : d ≡ length (xs ++ is) - 1 - length xs = branch-hop slots keep c b r p (s .tables) xs in
+      rw e (rest-by base slots keep c b r p (s .tables) ys (omega arith) (ap (λ (m : ℕ). m - base) same-length)
+      ∙ (λ j. chainAt base slots (past (loopsBlock b) keep) r (n j - 1) (record { stack = a j; tables = t }))
+      ∙ (λ j. chainAt base slots (past (loopsBlock b) keep) r (length (xs ++ is) - 1) (record { stack = set (xs ++ is) k (Jump (w j)); tables = t })))
 
-pub chain-else : (base : ℕ) (slots : List Name) (b : Block) (k : ℕ) (s s′ : State) → k < length (s .stack) → s′ ≡ emitAt base (emitBlock slots b) s
-    → chainAt base slots (else b) k s ≡ setAt k (Jump (length (s′ .stack) - length (s .stack))) s′
+pub chain-else : (base : ℕ) (slots : List Name) (keep : Keeping) (b : Block) (k : ℕ) (s s′ : State) → k < length (s .stack) → s′ ≡ emitAt base (emitBlock slots keep b) s
+    → chainAt base slots keep (else b) k s ≡ setAt k (Jump (length (s′ .stack) - length (s .stack))) s′
 unfolding emitAt setAt chainAt emitBranches
-chain-else base slots b k s s′ l e =
+chain-else base slots keep b k s s′ l e =
     let xs = s .stack in
-    let o = emitBlock slots b (length xs - base) (s .tables) in
+    let o = emitBlock slots keep b (length xs - base) (s .tables) in
     rw e (state-eq _ _ (sym (set-append-left xs (o .code) k (Jump (length (o .code))) l) ∙ ap (λ (n : ℕ). set (xs ++ o .code) k (Jump n)) (sym (added xs (o .code)))) refl)
 
-pub chain-done : (base : ℕ) (slots : List Name) (k : ℕ) (s : State) → chainAt base slots done k s ≡ setAt k (Jump 0) s
+pub chain-done : (base : ℕ) (slots : List Name) (keep : Keeping) (k : ℕ) (s : State) → chainAt base slots keep done k s ≡ setAt k (Jump 0) s
 unfolding setAt chainAt emitBranches emits
-chain-done base slots k s = state-eq _ _ (append-nil (set (s .stack) k (Jump 0))) refl
+chain-done base slots keep k s = state-eq _ _ (append-nil (set (s .stack) k (Jump 0))) refl

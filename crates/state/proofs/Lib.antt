@@ -10,3 +10,4 @@ pub mod Within
 pub mod WithinParts
 pub mod SlotsFit
 pub mod Answers
+pub mod Kept

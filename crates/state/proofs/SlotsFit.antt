@@ -18,10 +18,10 @@ use Rattle.definitions.specs.Instruction
 use Rattle.definitions.specs.Instruction.{Instr, Return}
 use Rattle.definitions.specs.Tables.{Function, Method, Tables, Body, blockBody, exprBody, Out, Emit, emits, one, _⨟_, here, addSymbol, addString, intern, getOrAddString, begin}
 use Rattle.definitions.specs.Tables.{setCode, enclose, function}
-use Rattle.definitions.specs.Slots.{localsBlock, captures}
+use Rattle.definitions.specs.Slots.{captures, Keeping, inGlobals, inSlots, past, Frame, namesOnly, withLoops, loopsStmt, loopsBlock}
 use Rattle.definitions.specs.Module.{slotsFit}
 use Rattle.definitions.specs.Lower.{load, store, literal, shortcut, decides, displaySize, Callee, builtinCallee, functionCallee, valueCallee, resolve, callNamed, callBy}
-use Rattle.definitions.specs.Lower.{lambdaName, loads, closure, emitExpr, emitExprs, emitObject, copy, emitTarget, unpack, assignBy, loop, iterName, makeIter, namedIter, askIter}
+use Rattle.definitions.specs.Lower.{lambdaName, loads, closure, emitExpr, emitExprs, emitObject, copy, emitTarget, unpack, assignBy, loop, iterName, Keeper, global, local, makeIter, namedIter, keptIter, storeIter, loadIter, askIter}
 use Rattle.definitions.specs.Lower.{takeIter, methodEnd, insertMethod, beginClass, classObject, endClass, classOut, emitStmt, emitBlock, emitBranches, emitMethods, main, noTables}
 use Rattle.definitions.specs.Lower.{compile}
 use Rattle.definitions.proofs.Truth.{left, right}
@@ -99,19 +99,19 @@ all-setCode [] n is = refl
 all-setCode (f ∷ fs) zero is = refl
 all-setCode (f ∷ fs) (suc n) is = ap (λ (z : Bool). leb (f .locals) 255 && z) (all-setCode fs n is)
 
-tests-enclose : {e : Emit} {b : Bool} (k arity : ℕ) (slots : List Name) (body : Body) → Tests e b → Tests (enclose k arity slots body e) (leb (length slots) 255 && b)
+tests-enclose : {e : Emit} {b : Bool} (k arity : ℕ) (frame : Frame) (body : Body) → Tests e b → Tests (enclose k arity frame body e) (leb (frame .locals) 255 && b)
 unfolding enclose slotsFit begin
-tests-enclose {e} {b} k arity slots body E = record {
+tests-enclose {e} {b} k arity frame body E = record {
   at = λ p t.
-      let u = begin k arity slots t in
+      let u = begin k arity frame t in
       let o = e 0 u in
       all-setCode (o .tables .functions) (length (t .functions)) (o .code) ∙ E .at 0 u ∙ ap (λ (z : Bool). z && b) (all-snoc (t .functions) _)
-      ∙ and-assoc (slotsFit t) (leb (length slots) 255) b;
+      ∙ and-assoc (slotsFit t) (leb (frame .locals) 255) b;
 }
 
-tests-function : {e : Emit} {b : Bool} (x : Name) (arity : ℕ) (slots : List Name) (body : Body) → Tests e b → Tests (function x arity slots body e) (leb (length slots) 255 && b)
+tests-function : {e : Emit} {b : Bool} (x : Name) (arity : ℕ) (frame : Frame) (body : Body) → Tests e b → Tests (function x arity frame body e) (leb (frame .locals) 255 && b)
 unfolding function
-tests-function x arity slots body E = tests-intern x (λ k. tests-enclose k arity slots body E)
+tests-function x arity frame body E = tests-intern x (λ k. tests-enclose k arity frame body E)
 
 tests-shortcut : {r : Emit} {b : Bool} (c : Bool) → Tests r b → Tests (shortcut c r) b
 unfolding shortcut
@@ -190,8 +190,8 @@ tests-call slots (lambda ps b) n F O A = value-call n F A
 tests-closure : {e : Emit} {b : Bool} (slots : List Name) (arity : ℕ) (inner cs : List Name) (body : Body) → Tests e b → Tests (closure slots arity inner cs body e) (leb (length inner) 255 && b)
 unfolding closure
 tests-closure {e} slots arity inner cs body E =
-    tests-by (λ t. function (lambdaName (length (t .functions))) arity inner body (e ⨟ one Return) ⨟ loads slots cs ⨟ one (Instruction.MakeClosure (length (t .functions)) (length cs)))
-    (λ t. tests-then (tests-function (lambdaName (length (t .functions))) arity inner body (tests-then E (tests-one Return)))
+    tests-by (λ t. function (lambdaName (length (t .functions))) arity (namesOnly inner) body (e ⨟ one Return) ⨟ loads slots cs ⨟ one (Instruction.MakeClosure (length (t .functions)) (length cs)))
+    (λ t. tests-then (tests-function (lambdaName (length (t .functions))) arity (namesOnly inner) body (tests-then E (tests-one Return)))
     (tests-seq (tests-loads slots cs) (tests-one (Instruction.MakeClosure (length (t .functions)) (length cs)))))
 
 object-display : (k : Display) (slots : List Name) (es : Exprs) → objectFits slots (display k es) ≡ true
@@ -297,17 +297,18 @@ tests-makeIter : Tests makeIter true
 unfolding makeIter
 tests-makeIter = tests-symbol _ (λ k. Instruction.CallMethod k 0)
 
-tests-askIter : (g : ℕ) → Tests (askIter g) true
+tests-askIter : (g : Keeper) → Tests (askIter g) true
 unfolding askIter
-tests-askIter g = tests-seq (tests-one (Instruction.LoadGlobal g)) (tests-symbol _ (λ k. Instruction.CallMethod k 0))
+tests-askIter g = tests-seq (tests-one (loadIter g)) (tests-symbol _ (λ k. Instruction.CallMethod k 0))
 
-tests-takeIter : (slots : List Name) (x : Name) (g : ℕ) → Tests (takeIter slots x g) true
+tests-takeIter : (slots : List Name) (x : Name) (g : Keeper) → Tests (takeIter slots x g) true
 unfolding takeIter
-tests-takeIter slots x g = tests-seq (tests-one (Instruction.LoadGlobal g)) (tests-seq (tests-symbol _ (λ k. Instruction.CallMethod k 0)) (tests-store slots x))
+tests-takeIter slots x g = tests-seq (tests-one (loadIter g)) (tests-seq (tests-symbol _ (λ k. Instruction.CallMethod k 0)) (tests-store slots x))
 
-tests-namedIter : {b : Bool} {f : ℕ → Emit} → ((k : ℕ) → Tests (f k) b) → Tests (namedIter f) b
-unfolding namedIter here
-tests-namedIter F = record { at = λ p t. tests-intern (iterName p) F .at p t }
+tests-keptIter : {b : Bool} {f : Keeper → Emit} (keep : Keeping) → ((g : Keeper) → Tests (f g) b) → Tests (keptIter keep f) b
+unfolding keptIter namedIter here
+tests-keptIter inGlobals F = record { at = λ p t. tests-intern (iterName p) (λ k. F (global k)) .at p t }
+tests-keptIter (inSlots n) F = F (local n)
 
 tests-object-of : (c k : ℕ) → Tests (classObject c k) true
 unfolding classObject
@@ -328,64 +329,65 @@ tests-class {b} x ms M = record {
 
 -- ---- statements
 
-when-by : (slots : List Name) (c : Expr) (b : Block) (r : Branches) → Tests (emitBlock slots b) (fitsBlock slots b)
-    → ((q : ℕ) (u : Tables) → slotsFit (emitBranches slots r q u .out .tables) ≡ (slotsFit u && fitsBranches slots r))
-    → (p : ℕ) (t : Tables) → slotsFit (emitBranches slots (when c b r) p t .out .tables) ≡ (slotsFit t && (fitsExpr slots c && fitsBlock slots b && fitsBranches slots r))
+when-by : (slots : List Name) (keep : Keeping) (c : Expr) (b : Block) (r : Branches) → Tests (emitBlock slots keep b) (fitsBlock slots b)
+    → ((q : ℕ) (u : Tables) → slotsFit (emitBranches slots (past (loopsBlock b) keep) r q u .out .tables) ≡ (slotsFit u && fitsBranches slots r))
+    → (p : ℕ) (t : Tables) → slotsFit (emitBranches slots keep (when c b r) p t .out .tables) ≡ (slotsFit t && (fitsExpr slots c && fitsBlock slots b && fitsBranches slots r))
 unfolding emitBranches
-when-by slots c b r B R p t =
+when-by slots keep c b r B R p t =
     let a = emitExpr slots c p t in
     let q = suc (p + length (a .code)) in
-    let o = emitBlock slots b q (a .tables) in
+    let o = emitBlock slots keep b q (a .tables) in
     let x = fitsExpr slots c in
     let y = fitsBlock slots b in
     let z = fitsBranches slots r in
     R (q + suc (length (o .code))) (o .tables) ∙ ap (λ (w : Bool). w && z) (B .at q (a .tables) ∙ ap (λ (w : Bool). w && y) (tests-expr slots c .at p t) ∙ and-assoc (slotsFit t) x y)
     ∙ and-assoc (slotsFit t) (x && y) z
 
-method-by : (x : Name) (ps : List Name) (b : Block) (rest : Methods) (acc : List Method) (t : Tables) → Tests (emitBlock (localsBlock b ps) b) (fitsBlock (localsBlock b ps) b)
+method-by : (x : Name) (ps : List Name) (b : Block) (rest : Methods) (acc : List Method) (t : Tables) → Tests (emitBlock (withLoops ps b .names) (withLoops ps b .keep) b) (fitsBlock (withLoops ps b .names) b)
     → ((as′ : List Method) (u : Tables) → slotsFit (emitMethods rest as′ u .tables) ≡ (slotsFit u && fitsMethods rest))
-    → slotsFit (emitMethods (method x ps b rest) acc t .tables) ≡ (slotsFit t && (leb (length (localsBlock b ps)) 255 && fitsBlock (localsBlock b ps) b && fitsMethods rest))
+    → slotsFit (emitMethods (method x ps b rest) acc t .tables) ≡ (slotsFit t && (leb (withLoops ps b .locals) 255 && fitsBlock (withLoops ps b .names) b && fitsMethods rest))
 unfolding emitMethods
 method-by x ps b rest acc t B M =
-    let inner = localsBlock b ps in
+    let inner = withLoops ps b in
     let F = tests-function x (length ps) inner (blockBody b (methodEnd x)) (tests-then B (tests-emits (methodEnd x))) .at 0 t in
-    M (insertMethod x (length (t .functions)) acc) _ ∙ ap (λ (w : Bool). w && fitsMethods rest) F ∙ and-assoc (slotsFit t) (leb (length inner) 255 && fitsBlock inner b) (fitsMethods rest)
+    M (insertMethod x (length (t .functions)) acc) _ ∙ ap (λ (w : Bool). w && fitsMethods rest) F ∙ and-assoc (slotsFit t) (leb (inner .locals) 255 && fitsBlock (inner .names) b) (fitsMethods rest)
 
 mutual
   unfolding emitStmt fitsStmt askStmt askTarget ifAsked fitsTarget assignFits
 
-  tests-stmt : (slots : List Name) (l : Bool) (s : Stmt) → askStmt 10 l s ≡ true → Tests (emitStmt slots s) (fitsStmt slots s)
-  tests-stmt slots l break h = tests-one Instruction.Break
-  tests-stmt slots l continue h = tests-one Instruction.Continue
-  tests-stmt slots l pass h = tests-emits []
-  tests-stmt slots l (expr e) h = tests-then (tests-expr slots e) (tests-one Instruction.Pop)
-  tests-stmt slots l (return e) h = tests-then (tests-expr slots e) (tests-one Return)
-  tests-stmt slots l (assign t v) h = tests-assign (view t) slots (target-form t (left (isTarget t) (askExpr 10 t) (left (isTarget t && askExpr 10 t) (askExpr 10 v) h))) (tests-expr slots v)
-  tests-stmt slots l (if bs) h = record { at = λ p t. tests-branches slots l bs h p t }
-  tests-stmt slots l (while c b) h = tests-loop (tests-expr slots c) (tests-block slots true b (right (askExpr 10 c) _ h))
-  tests-stmt slots l (for x e b) h =
+  tests-stmt : (slots : List Name) (keep : Keeping) (l : Bool) (s : Stmt) → askStmt 10 l s ≡ true → Tests (emitStmt slots keep s) (fitsStmt slots s)
+  tests-stmt slots keep l break h = tests-one Instruction.Break
+  tests-stmt slots keep l continue h = tests-one Instruction.Continue
+  tests-stmt slots keep l pass h = tests-emits []
+  tests-stmt slots keep l (expr e) h = tests-then (tests-expr slots e) (tests-one Instruction.Pop)
+  tests-stmt slots keep l (return e) h = tests-then (tests-expr slots e) (tests-one Return)
+  tests-stmt slots keep l (assign t v) h = tests-assign (view t) slots (target-form t (left (isTarget t) (askExpr 10 t) (left (isTarget t && askExpr 10 t) (askExpr 10 v) h))) (tests-expr slots v)
+  tests-stmt slots keep l (if bs) h = record { at = λ p t. tests-branches slots keep l bs h p t }
+  tests-stmt slots keep l (while c b) h = tests-loop (tests-expr slots c) (tests-block slots keep true b (right (askExpr 10 c) _ h))
+  tests-stmt slots keep l (for x e b) h =
       tests-seq (tests-expr slots e) (tests-seq tests-makeIter
-      (tests-namedIter (λ g. tests-seq (tests-one (Instruction.StoreGlobal g)) (tests-loop (tests-askIter g) (tests-seq (tests-takeIter slots x g) (tests-block slots true b (right (askName 10 x && askExpr 10 e) _ h)))))))
-  tests-stmt slots l (def x ps b) h =
-      tests-function x (length ps) (localsBlock b ps) (blockBody b (Return ∷ [])) (tests-then (tests-block (localsBlock b ps) false b (right (askName 10 x && askParams 10 ps) _ h)) (tests-one Return))
-  tests-stmt slots l (class x ms vs) h =
+      (tests-keptIter keep (λ g. tests-seq (tests-one (storeIter g)) (tests-loop (tests-askIter g) (tests-seq (tests-takeIter slots x g) (tests-block slots (past 1 keep) true b (right (askName 10 x && askExpr 10 e) _ h)))))))
+  tests-stmt slots keep l (def x ps b) h =
+      let f = withLoops ps b in
+      tests-function x (length ps) f (blockBody b (Return ∷ [])) (tests-then (tests-block (f .names) (f .keep) false b (right (askName 10 x && askParams 10 ps) _ h)) (tests-one Return))
+  tests-stmt slots keep l (class x ms vs) h =
       tests-class x ms (λ acc t. tests-methods ms (right (askName 10 x) _ (left (askName 10 x && askMethods 10 ms) (all (askAttribute 10) vs) h)) acc t)
 
-  tests-block : (slots : List Name) (l : Bool) (b : Block) → askBlock 10 l b ≡ true → Tests (emitBlock slots b) (fitsBlock slots b)
-  tests-block slots l []ᵇ h = tests-emits []
-  tests-block slots l (s ∷ᵇ b) h = tests-seq (tests-stmt slots l s (left _ (askBlock 10 l b) h)) (tests-block slots l b (right (askStmt 10 l s) _ h))
+  tests-block : (slots : List Name) (keep : Keeping) (l : Bool) (b : Block) → askBlock 10 l b ≡ true → Tests (emitBlock slots keep b) (fitsBlock slots b)
+  tests-block slots keep l []ᵇ h = tests-emits []
+  tests-block slots keep l (s ∷ᵇ b) h = tests-seq (tests-stmt slots keep l s (left _ (askBlock 10 l b) h)) (tests-block slots (past (loopsStmt s) keep) l b (right (askStmt 10 l s) _ h))
 
-  tests-branches : (slots : List Name) (l : Bool) (bs : Branches) → askBranches 10 l bs ≡ true → (p : ℕ) (t : Tables) → slotsFit (emitBranches slots bs p t .out .tables) ≡ (slotsFit t && fitsBranches slots bs)
-  tests-branches slots l done h p t = tests-emits [] .at p t
-  tests-branches slots l (else b) h p t = tests-block slots l b h .at p t
-  tests-branches slots l (when c b r) h p t =
-      when-by slots c b r (tests-block slots l b (right (askExpr 10 c) _ (left (askExpr 10 c && askBlock 10 l b) (askBranches 10 l r) h)))
-      (λ q u. tests-branches slots l r (right (askExpr 10 c && askBlock 10 l b) _ h) q u) p t
+  tests-branches : (slots : List Name) (keep : Keeping) (l : Bool) (bs : Branches) → askBranches 10 l bs ≡ true → (p : ℕ) (t : Tables) → slotsFit (emitBranches slots keep bs p t .out .tables) ≡ (slotsFit t && fitsBranches slots bs)
+  tests-branches slots keep l done h p t = tests-emits [] .at p t
+  tests-branches slots keep l (else b) h p t = tests-block slots keep l b h .at p t
+  tests-branches slots keep l (when c b r) h p t =
+      when-by slots keep c b r (tests-block slots keep l b (right (askExpr 10 c) _ (left (askExpr 10 c && askBlock 10 l b) (askBranches 10 l r) h)))
+      (λ q u. tests-branches slots (past (loopsBlock b) keep) l r (right (askExpr 10 c && askBlock 10 l b) _ h) q u) p t
 
   tests-methods : (ms : Methods) → askMethods 10 ms ≡ true → (acc : List Method) (t : Tables) → slotsFit (emitMethods ms acc t .tables) ≡ (slotsFit t && fitsMethods ms)
   tests-methods []ᵐ h acc t = sym (and-true (slotsFit t))
   tests-methods (method x ps b rest) h acc t =
-      method-by x ps b rest acc t (tests-block (localsBlock b ps) false b (right (askMethod 10 x ps) _ (left (askMethod 10 x ps && askBlock 10 false b) (askMethods 10 rest) h)))
+      method-by x ps b rest acc t (tests-block (withLoops ps b .names) (withLoops ps b .keep) false b (right (askMethod 10 x ps) _ (left (askMethod 10 x ps && askBlock 10 false b) (askMethods 10 rest) h)))
       (λ as′ u. tests-methods rest (right (askMethod 10 x ps && askBlock 10 false b) _ h) as′ u)
 
 -- ---- the whole tree
@@ -393,7 +395,7 @@ mutual
 -- question 10 is answered yes: each target is one
 pub slots-fit : (b : Block) → askBlock 10 false b ≡ true → slotsFit (compile b .tables) ≡ fitsBlock [] b
 unfolding compile noTables slotsFit all
-slots-fit b h = tests-function main 0 [] (blockBody b (Return ∷ [])) (tests-then (tests-block [] false b h) (tests-one Return)) .at 0 noTables
+slots-fit b h = tests-function main 0 (namesOnly []) (blockBody b (Return ∷ [])) (tests-then (tests-block [] inGlobals false b h) (tests-one Return)) .at 0 noTables
 
 -- of a well-formed tree each question is answered yes
 answered : (asked : ℕ → Bool) (qs : List ℕ) → firstNo asked qs ≡ none → all asked qs ≡ true

@@ -10,10 +10,12 @@ use Rattle.definitions.specs.Tree.{Expr, lit, var, unary, binary, logical, call
 use Rattle.definitions.specs.Tree.{viewDisplay, if, for, Block, Branches, when}
 use Rattle.definitions.specs.Wellformed.{isTuple}
 use Rattle.definitions.specs.Instruction
-use Rattle.definitions.specs.Tables.{Emit, emits, one, _⨟_, here, intern}
-use Rattle.definitions.specs.Lower.{store, copy, emitTarget, unpack, loop, iterName, makeIter, namedIter, askIter, takeIter, emitExpr, emitStmt, emitBlock}
-use Rattle.state.specs.State.{State, emitAt, symbolNumber, withSymbol, withTables}
+use Rattle.definitions.specs.Tables.{Emit, emits, one, _⨟_, intern}
+use Rattle.definitions.specs.Slots.{Keeping, inGlobals, inSlots, past, loopsBlock}
+use Rattle.definitions.specs.Lower.{store, copy, emitTarget, unpack, loop, iterName, Keeper, global, local, makeIter, namedIter, keptIter, storeIter, loadIter, askIter, takeIter, emitExpr, emitStmt, emitBlock}
+use Rattle.state.specs.State.{State, emitAt}
 use Rattle.state.specs.Steps.{isStored, branch, chainAt}
+use Rattle.state.specs.Kept.{keeperAt, keptAt}
 use Rattle.state.proofs.Emission.{base-kept, at-seq, at-three, at-four, at-nothing, at-more, at-here, at-intern}
 use Rattle.state.proofs.Jumps as Jumps
 
@@ -61,35 +63,44 @@ at-unpack-more base slots e es i s h =
 
 -- ---- statements
 
-module _ (base : ℕ) (slots : List Name) (s : State) (h : base ≤ length (s .stack)) where
-  -- the first branch, of which s′ is the state
-  pub at-if : (c : Expr) (b : Block) (r : Branches) (s′ : State) → s′ ≡ emitAt base (branch slots c b) s → emitAt base (emitStmt slots (if (when c b r))) s ≡ chainAt base slots r (length (s′ .stack) - 1) s′
-  unfolding emitStmt
-  at-if c b r s′ e = Jumps.at-when base slots c b s h r s′ e
+-- what goes on with the next loop's keeper
+at-kept : (base : ℕ) (keep : Keeping) (F : Keeper → Emit) (s : State) → emitAt base (keptIter keep F) s ≡ emitAt base (F (keeperAt base keep s)) (keptAt base keep s)
+unfolding keptIter namedIter keeperAt keptAt
+at-kept base inGlobals F s =
+    at-here base (λ p. intern (iterName p) (λ k. F (global k))) s ∙ at-intern base (iterName (length (s .stack) - base)) (λ k. F (global k)) s
+at-kept base (inSlots n) F s = refl
 
-  -- s₁ is the state after the iterable and the call of `__iter__`, g the symbol of the iterator's name
-  pub at-for : (x : Name) (e : Expr) (b : Block) (s₁ : State) (g : ℕ) → s₁ ≡ emitAt base makeIter (emitAt base (emitExpr slots e) s)
-      → g ≡ symbolNumber (iterName (length (s₁ .stack) - base)) (s₁ .tables)
-      → emitAt base (emitStmt slots (for x e b)) s
-      ≡ emitAt base (loop (askIter g) (takeIter slots x g ⨟ emitBlock slots b))
-      (emitAt base (one (Instruction.StoreGlobal g)) (withTables (withSymbol (iterName (length (s₁ .stack) - base)) (s₁ .tables)) s₁))
-  unfolding emitStmt namedIter
+kept-stack : (base : ℕ) (keep : Keeping) (s : State) → keptAt base keep s .stack ≡ s .stack
+unfolding keptAt
+kept-stack base inGlobals s = refl
+kept-stack base (inSlots n) s = refl
+
+module _ (base : ℕ) (slots : List Name) (keep : Keeping) (s : State) (h : base ≤ length (s .stack)) where
+  -- the first branch, of which s′ is the state
+  pub at-if : (c : Expr) (b : Block) (r : Branches) (s′ : State) → s′ ≡ emitAt base (branch slots keep c b) s
+      → emitAt base (emitStmt slots keep (if (when c b r))) s ≡ chainAt base slots (past (loopsBlock b) keep) r (length (s′ .stack) - 1) s′
+  unfolding emitStmt
+  at-if c b r s′ e = Jumps.at-when base slots keep c b s h r s′ e
+
+  -- s₁ is the state after the iterable and the call of `__iter__`, g what keeps the iterator
+  pub at-for : (x : Name) (e : Expr) (b : Block) (s₁ : State) (g : Keeper) → s₁ ≡ emitAt base makeIter (emitAt base (emitExpr slots e) s) → g ≡ keeperAt base keep s₁
+      → emitAt base (emitStmt slots keep (for x e b)) s
+      ≡ emitAt base (loop (askIter g) (takeIter slots x g ⨟ emitBlock slots (past 1 keep) b)) (emitAt base (one (storeIter g)) (keptAt base keep s₁))
+  unfolding emitStmt
   at-for x e b s₁ g e₁ e₂ =
-      let F : ℕ → Emit = λ k. one (Instruction.StoreGlobal k) ⨟ loop (askIter k) (takeIter slots x k ⨟ emitBlock slots b) in
-      let n = iterName (length (s₁ .stack) - base) in
-      let u : State = withTables (withSymbol n (s₁ .tables)) s₁ in
+      let F : Keeper → Emit = λ k. one (storeIter k) ⨟ loop (askIter k) (takeIter slots x k ⨟ emitBlock slots (past 1 keep) b) in
+      let u = keptAt base keep s₁ in
       let k : base ≤ length (s₁ .stack) = rw e₁ (base-kept base makeIter (emitAt base (emitExpr slots e) s) (base-kept base (emitExpr slots e) s h)) in
-      at-three base (emitExpr slots e) makeIter (here (λ p. intern (iterName p) F)) s h
-      ∙ ap (emitAt base (here (λ p. intern (iterName p) F))) (sym e₁)
-      ∙ at-here base (λ p. intern (iterName p) F) s₁
-      ∙ at-intern base n F s₁
-      ∙ ap (λ (m : ℕ). emitAt base (F m) u) (sym e₂)
-      ∙ at-seq base (one (Instruction.StoreGlobal g)) (loop (askIter g) (takeIter slots x g ⨟ emitBlock slots b)) u k
+      at-three base (emitExpr slots e) makeIter (keptIter keep F) s h
+      ∙ ap (emitAt base (keptIter keep F)) (sym e₁)
+      ∙ at-kept base keep F s₁
+      ∙ ap (λ (m : Keeper). emitAt base (F m) u) (sym e₂)
+      ∙ at-seq base (one (storeIter g)) (loop (askIter g) (takeIter slots x g ⨟ emitBlock slots (past 1 keep) b)) u (omega (arith, k, ap length (kept-stack base keep s₁)))
 
 -- ---- the parts of a for loop
 
-pub at-takeIter : (base : ℕ) (slots : List Name) (x : Name) (g : ℕ) (s : State) → base ≤ length (s .stack)
+pub at-takeIter : (base : ℕ) (slots : List Name) (x : Name) (g : Keeper) (s : State) → base ≤ length (s .stack)
     → emitAt base (takeIter slots x g) s
-    ≡ emitAt base (store slots x) (emitAt base (intern (ascii "__next__") (λ k. one (Instruction.CallMethod k 0))) (emitAt base (one (Instruction.LoadGlobal g)) s))
+    ≡ emitAt base (store slots x) (emitAt base (intern (ascii "__next__") (λ k. one (Instruction.CallMethod k 0))) (emitAt base (one (loadIter g)) s))
 unfolding takeIter
-at-takeIter base slots x g s h = at-three base (one (Instruction.LoadGlobal g)) (intern (ascii "__next__") (λ k. one (Instruction.CallMethod k 0))) (store slots x) s h
+at-takeIter base slots x g s h = at-three base (one (loadIter g)) (intern (ascii "__next__") (λ k. one (Instruction.CallMethod k 0))) (store slots x) s h

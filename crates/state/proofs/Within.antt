@@ -12,6 +12,7 @@ use Rattle.definitions.specs.Tree.{Expr, Block, Branches, else, when, Methods, 
 use Rattle.definitions.specs.Instruction.{Instr, Jump, JumpIfFalse, ConstBool, LoadConst, StoreGlobal, MakeClosure, Return, minus}
 use Rattle.definitions.specs.Tables.{Method, Tables, Body, Emit, one, _⨟_, withClasses, addConstant, begin, function}
 use Rattle.definitions.specs.Module.{instructions, slotsFit}
+use Rattle.definitions.specs.Slots.{Keeping, past, Frame, namesOnly, loopsBlock}
 use Rattle.definitions.specs.Lower.{shortcut, jumpOn, loop, loads, lambdaName, closure, emitExpr, emitBlock, emitBranches, emitMethods, beginClass, classObject, endClass, classOut}
 use Rattle.definitions.proofs.Truth.{right, at-most}
 use Rattle.state.specs.State.{State, emitAt, Within, symbolNumber, withSymbol, withTables}
@@ -90,57 +91,57 @@ within-loop base head inside i s h s₁ s₂ s₃ e₁ e₂ e₃ w =
 
 -- ---- branches
 
-pub within-branch : {l : Limits} (base : ℕ) (slots : List Name) (c : Expr) (b : Block) (s : State) → base ≤ length (s .stack) → (i : Instr) (s₁ s₂ s₃ : State)
-    → s₁ ≡ emitAt base (emitExpr slots c) s → s₂ ≡ emitAt base (one i) s₁ → s₃ ≡ emitAt base (emitBlock slots b) s₂
-    → Within l (emitAt base (branch slots c b) s) → Within l (emitAt base (one (Jump 0)) s₃)
-within-branch base slots c b s h i s₁ s₂ s₃ e₁ e₂ e₃ w =
-    within-set (length (s₁ .stack)) (JumpIfFalse (suc (length (s₃ .stack) - length (s₂ .stack)))) _ (rw (at-branch base slots c b s h i s₁ s₂ s₃ e₁ e₂ e₃) at w)
+pub within-branch : {l : Limits} (base : ℕ) (slots : List Name) (keep : Keeping) (c : Expr) (b : Block) (s : State) → base ≤ length (s .stack) → (i : Instr) (s₁ s₂ s₃ : State)
+    → s₁ ≡ emitAt base (emitExpr slots c) s → s₂ ≡ emitAt base (one i) s₁ → s₃ ≡ emitAt base (emitBlock slots keep b) s₂
+    → Within l (emitAt base (branch slots keep c b) s) → Within l (emitAt base (one (Jump 0)) s₃)
+within-branch base slots keep c b s h i s₁ s₂ s₃ e₁ e₂ e₃ w =
+    within-set (length (s₁ .stack)) (JumpIfFalse (suc (length (s₃ .stack) - length (s₂ .stack)))) _ (rw (at-branch base slots keep c b s h i s₁ s₂ s₃ e₁ e₂ e₃) at w)
 
-pub within-chain : {l : Limits} (base : ℕ) (slots : List Name) (bs : Branches) (k : ℕ) (s : State) → Within l (chainAt base slots bs k s) → Within l s
+pub within-chain : {l : Limits} (base : ℕ) (slots : List Name) (keep : Keeping) (bs : Branches) (k : ℕ) (s : State) → Within l (chainAt base slots keep bs k s) → Within l s
 unfolding chainAt
-within-chain base slots bs k s w =
-    let c = emitBranches slots bs (length (s .stack) - base) (s .tables) in
-    within-less s (chainAt base slots bs k s) (branches-lengthened slots bs (length (s .stack) - base) (s .tables))
+within-chain base slots keep bs k s w =
+    let c = emitBranches slots keep bs (length (s .stack) - base) (s .tables) in
+    within-less s (chainAt base slots keep bs k s) (branches-lengthened slots keep bs (length (s .stack) - base) (s .tables))
     (omega (arith, length-append (set (s .stack) k (Jump (c .hop))) (c .out .code), length-set (s .stack) k (Jump (c .hop)))) w
 
 -- the first branch
-pub within-when : {l : Limits} (base : ℕ) (slots : List Name) (c : Expr) (b : Block) (r : Branches) (s : State) → base ≤ length (s .stack)
-    → Within l (emitAt base (λ p t. emitBranches slots (when c b r) p t .out) s) → Within l (emitAt base (branch slots c b) s)
-within-when base slots c b r s h w = within-chain base slots r _ (emitAt base (branch slots c b) s) (rw (at-when base slots c b s h r (emitAt base (branch slots c b) s) refl) at w)
+pub within-when : {l : Limits} (base : ℕ) (slots : List Name) (keep : Keeping) (c : Expr) (b : Block) (r : Branches) (s : State) → base ≤ length (s .stack)
+    → Within l (emitAt base (λ p t. emitBranches slots keep (when c b r) p t .out) s) → Within l (emitAt base (branch slots keep c b) s)
+within-when base slots keep c b r s h w = within-chain base slots (past (loopsBlock b) keep) r _ (emitAt base (branch slots keep c b) s) (rw (at-when base slots keep c b s h r (emitAt base (branch slots keep c b) s) refl) at w)
 
 -- a later branch, or the else block
-pub within-chain-when : {l : Limits} (base : ℕ) (slots : List Name) (c : Expr) (b : Block) (r : Branches) (k : ℕ) (s : State) → base ≤ length (s .stack) → k < length (s .stack)
-    → Within l (chainAt base slots (when c b r) k s) → Within l (emitAt base (branch slots c b) s)
-within-chain-when base slots c b r k s h m w =
-    within-set k _ (emitAt base (branch slots c b) s) (within-chain base slots r _ _ (rw (chain-when base slots c b s h r k (emitAt base (branch slots c b) s) m refl) at w))
+pub within-chain-when : {l : Limits} (base : ℕ) (slots : List Name) (keep : Keeping) (c : Expr) (b : Block) (r : Branches) (k : ℕ) (s : State) → base ≤ length (s .stack) → k < length (s .stack)
+    → Within l (chainAt base slots keep (when c b r) k s) → Within l (emitAt base (branch slots keep c b) s)
+within-chain-when base slots keep c b r k s h m w =
+    within-set k _ (emitAt base (branch slots keep c b) s) (within-chain base slots (past (loopsBlock b) keep) r _ _ (rw (chain-when base slots keep c b s h r k (emitAt base (branch slots keep c b) s) m refl) at w))
 
-pub within-chain-else : {l : Limits} (base : ℕ) (slots : List Name) (b : Block) (k : ℕ) (s : State) → k < length (s .stack)
-    → Within l (chainAt base slots (else b) k s) → Within l (emitAt base (emitBlock slots b) s)
-within-chain-else base slots b k s m w = within-set k _ (emitAt base (emitBlock slots b) s) (rw (chain-else base slots b k s (emitAt base (emitBlock slots b) s) m refl) at w)
+pub within-chain-else : {l : Limits} (base : ℕ) (slots : List Name) (keep : Keeping) (b : Block) (k : ℕ) (s : State) → k < length (s .stack)
+    → Within l (chainAt base slots keep (else b) k s) → Within l (emitAt base (emitBlock slots keep b) s)
+within-chain-else base slots keep b k s m w = within-set k _ (emitAt base (emitBlock slots keep b) s) (rw (chain-else base slots keep b k s (emitAt base (emitBlock slots keep b) s) m refl) at w)
 
 -- ---- functions
 
-pub within-begun : {l : Limits} (k arity : ℕ) (slots : List Name) (s : State) → Within l (begun k arity slots s) → Within l s
+pub within-begun : {l : Limits} (k arity : ℕ) (frame : Frame) (s : State) → Within l (begun k arity frame s) → Within l s
 unfolding begun
-within-begun k arity slots s w = within-tables s (begin k arity slots (s .tables)) (begin-lengthened k arity slots (s .tables)) w
+within-begun k arity frame s w = within-tables s (begin k arity frame (s .tables)) (begin-lengthened k arity frame (s .tables)) w
 
 -- a function that has begun has at most 255 slots
-pub begun-slots : {l : Limits} (k arity : ℕ) (slots : List Name) (s : State) → Within l (begun k arity slots s) → length slots ≤ 255
+pub begun-slots : {l : Limits} (k arity : ℕ) (frame : Frame) (s : State) → Within l (begun k arity frame s) → frame .locals ≤ 255
 unfolding begun begin slotsFit
-begun-slots k arity slots s w = at-most (length slots) 255 (right (slotsFit (s .tables)) (leb (length slots) 255) (sym (all-snoc (s .tables .functions) _) ∙ w .slots))
+begun-slots k arity frame s w = at-most (frame .locals) 255 (right (slotsFit (s .tables)) (leb (frame .locals) 255) (sym (all-snoc (s .tables .functions) _) ∙ w .slots))
 
 -- the end of a function: as many instructions as before it
-pub within-ended : {l : Limits} {e : Emit} (k arity : ℕ) (slots : List Name) (s : State) → Lengthens e
-    → Within l (ended (length (s .stack)) (length (s .tables .functions)) (emitAt (length (s .stack)) e (begun k arity slots s))) → Within l (emitAt (length (s .stack)) e (begun k arity slots s))
+pub within-ended : {l : Limits} {e : Emit} (k arity : ℕ) (frame : Frame) (s : State) → Lengthens e
+    → Within l (ended (length (s .stack)) (length (s .tables .functions)) (emitAt (length (s .stack)) e (begun k arity frame s))) → Within l (emitAt (length (s .stack)) e (begun k arity frame s))
 unfolding ended begun emitAt slotsFit
-within-ended {e} k arity slots s E w =
+within-ended {e} k arity frame s E w =
     let xs = s .stack in
-    let u = begin k arity slots (s .tables) in
+    let u = begin k arity frame (s .tables) in
     let o = e (length xs - length xs) u in
     let L = E .at (length xs - length xs) u in
     let is = drop (length xs) (xs ++ o .code) in
-    let a = setCode-count k arity slots (s .tables) (o .tables) L is in
-    let b = setCode-instructions k arity slots (s .tables) (o .tables) L is in
+    let a = setCode-count k arity frame (s .tables) (o .tables) L is in
+    let b = setCode-instructions k arity frame (s .tables) (o .tables) L is in
     record {
       functions = omega (arith, a, w .functions);
       symbols = w .symbols;
@@ -151,35 +152,35 @@ within-ended {e} k arity slots s E w =
     }
 
 -- a function's body; s′ is the state with its symbol
-pub within-function : {l : Limits} {e : Emit} (base : ℕ) (x : Name) (arity : ℕ) (slots : List Name) (body : Body) (s s′ : State) → s′ ≡ withTables (withSymbol x (s .tables)) s → Lengthens e
-    → Within l (emitAt base (function x arity slots body e) s) → Within l (emitAt (length (s .stack)) e (begun (symbolNumber x (s .tables)) arity slots s′))
-within-function {l} {e} base x arity slots body s s′ h E w =
+pub within-function : {l : Limits} {e : Emit} (base : ℕ) (x : Name) (arity : ℕ) (frame : Frame) (body : Body) (s s′ : State) → s′ ≡ withTables (withSymbol x (s .tables)) s → Lengthens e
+    → Within l (emitAt base (function x arity frame body e) s) → Within l (emitAt (length (s .stack)) e (begun (symbolNumber x (s .tables)) arity frame s′))
+within-function {l} {e} base x arity frame body s s′ h E w =
     let u : State = withTables (withSymbol x (s .tables)) s in
     let k = symbolNumber x (s .tables) in
-    rw h (within-ended k arity slots u E
-    (subst (λ (n : ℕ). Within l (ended (length (s .stack)) n (emitAt (length (s .stack)) e (begun k arity slots u)))) (ap length (sym (symbol-functions x (s .tables))))
-    (rw (at-function base x arity slots body e s u refl) at w)))
+    rw h (within-ended k arity frame u E
+    (subst (λ (n : ℕ). Within l (ended (length (s .stack)) n (emitAt (length (s .stack)) e (begun k arity frame u)))) (ap length (sym (symbol-functions x (s .tables))))
+    (rw (at-function base x arity frame body e s u refl) at w)))
 
 -- a function has at most 255 slots
-pub function-slots : {l : Limits} {e : Emit} (base : ℕ) (x : Name) (arity : ℕ) (slots : List Name) (body : Body) (s : State) → Lengthens e
-    → Within l (emitAt base (function x arity slots body e) s) → length slots ≤ 255
-function-slots base x arity slots body s E w =
-    begun-slots (symbolNumber x (s .tables)) arity slots _ (within-down (length (s .stack)) _ E (within-function base x arity slots body s _ refl E w))
+pub function-slots : {l : Limits} {e : Emit} (base : ℕ) (x : Name) (arity : ℕ) (frame : Frame) (body : Body) (s : State) → Lengthens e
+    → Within l (emitAt base (function x arity frame body e) s) → frame .locals ≤ 255
+function-slots base x arity frame body s E w =
+    begun-slots (symbolNumber x (s .tables)) arity frame _ (within-down (length (s .stack)) _ E (within-function base x arity frame body s _ refl E w))
 
 -- a closure's function, and its loads; f is the number of functions
 pub within-closure : {l : Limits} (base : ℕ) (slots : List Name) (arity : ℕ) (inner cs : List Name) (body : Body) (e : Emit) (s : State) (f : ℕ) → base ≤ length (s .stack) → f ≡ length (s .tables .functions)
-    → Within l (emitAt base (closure slots arity inner cs body e) s) → Within l (emitAt base (loads slots cs) (emitAt base (function (lambdaName f) arity inner body (e ⨟ one Return)) s))
+    → Within l (emitAt base (closure slots arity inner cs body e) s) → Within l (emitAt base (loads slots cs) (emitAt base (function (lambdaName f) arity (namesOnly inner) body (e ⨟ one Return)) s))
 within-closure base slots arity inner cs body e s f h q w =
     within-one base (MakeClosure f (length cs)) _ (rw (at-closure base slots arity inner cs body e s f h q) at w)
 
 pub within-closure-function : {l : Limits} (base : ℕ) (slots : List Name) (arity : ℕ) (inner cs : List Name) (body : Body) (e : Emit) (s : State) (f : ℕ) → base ≤ length (s .stack) → f ≡ length (s .tables .functions)
-    → Within l (emitAt base (closure slots arity inner cs body e) s) → Within l (emitAt base (function (lambdaName f) arity inner body (e ⨟ one Return)) s)
+    → Within l (emitAt base (closure slots arity inner cs body e) s) → Within l (emitAt base (function (lambdaName f) arity (namesOnly inner) body (e ⨟ one Return)) s)
 within-closure-function base slots arity inner cs body e s f h q w = within-down base _ (lengthens-loads slots cs) (within-closure base slots arity inner cs body e s f h q w)
 
 pub closure-slots : {l : Limits} {e : Emit} (base : ℕ) (slots : List Name) (arity : ℕ) (inner cs : List Name) (body : Body) (s : State) → base ≤ length (s .stack) → Lengthens e
     → Within l (emitAt base (closure slots arity inner cs body e) s) → length inner ≤ 255
 closure-slots {e} base slots arity inner cs body s h E w =
-    function-slots base _ arity inner body s (lengthens-seq E (lengthens-one Return)) (within-closure-function base slots arity inner cs body e s _ h refl w)
+    function-slots base _ arity (namesOnly inner) body s (lengthens-seq E (lengthens-one Return)) (within-closure-function base slots arity inner cs body e s _ h refl w)
 
 -- ---- classes
 

@@ -8,7 +8,7 @@ use Rattle.definitions.specs.Bytes.{Name}
 use Rattle.definitions.specs.Tree.{Expr, lit, var, unary, binary, logical, call, attr, display, index, lambda, Exprs, []ᵉ, _∷ᵉ_, asVar, asAttr, asIndex, asTuple, asOther, view}
 use Rattle.definitions.specs.Tree.{Stmt, break, continue, pass, expr, return, assign, if, while, for, def, class, Block, []ᵇ, _∷ᵇ_, Branches, done, else, when, Methods, []ᵐ}
 use Rattle.definitions.specs.Tree.{method}
-use Rattle.definitions.specs.Slots.{localsBlock, captures}
+use Rattle.definitions.specs.Slots.{captures, Frame, withLoops}
 
 unfoldable mutual
   pub fitsExpr : List Name → Expr → Bool
@@ -45,8 +45,8 @@ unfoldable mutual
   fitsStmt slots (while c b) = fitsExpr slots c && fitsBlock slots b
   fitsStmt slots (for x e b) = fitsExpr slots e && fitsBlock slots b
   fitsStmt slots (def x ps b) =
-      let inner = localsBlock b ps in
-      leb (length inner) 255 && fitsBlock inner b
+      let inner = withLoops ps b in
+      leb (inner .locals) 255 && fitsBlock (inner .names) b
   -- attributes are not lowered
   fitsStmt slots (class x ms vs) = fitsMethods ms
 
@@ -62,5 +62,5 @@ unfoldable mutual
   pub fitsMethods : Methods → Bool
   fitsMethods []ᵐ = true
   fitsMethods (method x ps b ms) =
-      let inner = localsBlock b ps in
-      leb (length inner) 255 && fitsBlock inner b && fitsMethods ms
+      let inner = withLoops ps b in
+      leb (inner .locals) 255 && fitsBlock (inner .names) b && fitsMethods ms

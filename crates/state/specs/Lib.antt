@@ -4,3 +4,4 @@ pub mod Fits
 pub mod Index
 pub mod State
 pub mod Steps
+pub mod Kept

@@ -8,7 +8,7 @@ use Rattle.definitions.specs.Bytes.{Name}
 use Rattle.definitions.specs.Tree.{Expr, Block, Branches, Methods, View, asVar, asAttr, asIndex, asTuple, asOther}
 use Rattle.definitions.specs.Instruction.{Instr, Jump, JumpIfFalse}
 use Rattle.definitions.specs.Tables.{Method, Emit, emits, _⨟_, begin, blockBody, function, setCode, withFunctions}
-use Rattle.definitions.specs.Slots.{localsBlock}
+use Rattle.definitions.specs.Slots.{Keeping, Frame, withLoops}
 use Rattle.definitions.specs.Lower.{patch, methodEnd, emitExpr, emitBlock, emitBranches, emitMethods}
 use Rattle.state.specs.State.{State, withTables}
 
@@ -25,8 +25,8 @@ patchAt h k n s = record { stack = take k (s .stack) ++ (patch h n 0 (take n (dr
 -- ---- functions
 
 -- a function has begun: its number is taken
-unfoldable pub begun : ℕ → ℕ → List Name → State → State
-begun k arity slots s = withTables (begin k arity slots (s .tables)) s
+unfoldable pub begun : ℕ → ℕ → Frame → State → State
+begun k arity frame s = withTables (begin k arity frame (s .tables)) s
 
 -- function f has ended: its code is what stands on the stack from base on
 unfoldable pub ended : ℕ → ℕ → State → State
@@ -35,10 +35,10 @@ ended base f s = record { stack = take base (s .stack); tables = withFunctions (
 -- ---- branches
 
 -- one branch of an if: its condition, the jump over its block, the block, and its end jump, which is not known yet
-unfoldable pub branch : List Name → Expr → Block → Emit
-branch slots c b p t =
+unfoldable pub branch : List Name → Keeping → Expr → Block → Emit
+branch slots keep c b p t =
     let a = emitExpr slots c p t in
-    let o = emitBlock slots b (suc (p + length (a .code))) (a .tables) in
+    let o = emitBlock slots keep b (suc (p + length (a .code))) (a .tables) in
     record {
       code = a .code ++ (JumpIfFalse (suc (length (o .code))) ∷ o .code ++ Jump 0 ∷ []);
       tables = o .tables;
@@ -46,16 +46,18 @@ branch slots c b p t =
     }
 
 -- the branches after one whose end jump is at place k: they are emitted, and the jump is set
-unfoldable pub chainAt : ℕ → List Name → Branches → ℕ → State → State
-chainAt base slots bs k s =
-    let c = emitBranches slots bs (length (s .stack) - base) (s .tables) in
+unfoldable pub chainAt : ℕ → List Name → Keeping → Branches → ℕ → State → State
+chainAt base slots keep bs k s =
+    let c = emitBranches slots keep bs (length (s .stack) - base) (s .tables) in
     record { stack = set (s .stack) k (Jump (c .hop)) ++ c .out .code; tables = c .out .tables }
 
 -- ---- classes
 
 -- a method's function
 unfoldable pub methodFunction : Name → List Name → Block → Emit
-methodFunction x ps b = let inner = localsBlock b ps in function x (length ps) inner (blockBody b (methodEnd x)) (emitBlock inner b ⨟ emits (methodEnd x))
+methodFunction x ps b =
+    let inner = withLoops ps b in
+    function x (length ps) inner (blockBody b (methodEnd x)) (emitBlock (inner .names) (inner .keep) b ⨟ emits (methodEnd x))
 
 -- the state after the methods, and the class's methods, with those so far
 unfoldable pub methodsAt : Methods → List Method → State → State

@@ -530,7 +530,8 @@ fn slot_counts() -> Vec<Case> {
         let store = |stmt: fn(&str) -> Bytes| rest.iter().map(|n| stmt(n)).collect::<Vec<_>>();
         let assigned = store(|n| assign(var(n), none()));
         let named = store(|n| def(n, &[], &[]));
-        let looped = store(|n| for_(n, none(), &[]));
+        // A loop variable and its loop's iterator have a slot each.
+        let looped: Vec<Bytes> = rest.chunks(2).map(loop_or_name).collect();
         let classes = store(|n| class(n, &[], &[]));
         // A lambda with one parameter and one capture less than the count.
         let captured = list(&all[1..].iter().map(|n| var(n)).collect::<Vec<_>>());
@@ -549,9 +550,46 @@ fn slot_counts() -> Vec<Case> {
             cases.push(script(&format!("slots-{count}-{word}"), &[stmt]));
         }
         cases.extend(unpacked_slots(count));
+        cases.extend(looped_slots(count));
     }
     cases.extend(slots_not_counted());
     cases
+}
+
+/// A statement that gives as many slots as there are names: a loop two, an
+/// assignment one.
+fn loop_or_name(names: &[&str]) -> Bytes {
+    match names {
+        [name] => assign(var(name), none()),
+        _ => for_(names[0], none(), &[]),
+    }
+}
+
+/// Functions of exactly so many slots: a parameter, a variable, and the
+/// iterators of loops.
+fn looped_slots(count: usize) -> Vec<Case> {
+    let one = || for_("i", var("r"), &[]);
+    let row = |loops: usize| times(loops, &one());
+    let loops = count - 2;
+    let deep = (1..28).fold(one(), |inner, _| for_("i", var("r"), &[inner]));
+    let nested = [vec![deep], row(loops - 28)].concat();
+    let arms: Vec<_> = (1..loops).map(|_| (var("r"), row(1))).collect();
+    let branches = if_(&arms, Some(&row(1)));
+    let f = |body: &[Bytes]| def("f", &["r"], body);
+    let inside = for_("i", var("r"), &[def("g", &["r"], &row(loops))]);
+    let stmts = [
+        ("loops-in-row", f(&row(loops))),
+        ("loops-nested", f(&nested)),
+        ("loops-in-branches", f(&[branches])),
+        ("loops-in-while", f(&[while_(var("r"), &row(loops))])),
+        (
+            "loops-in-method",
+            class("A", &[method("m", &["r"], &row(loops))], &[]),
+        ),
+        ("loops-in-def-in-loop", f(&[inside])),
+    ];
+    let case_of = |(word, stmt)| script(&format!("slots-{count}-{word}"), &[stmt]);
+    stmts.into_iter().map(case_of).collect()
 }
 
 /// Functions of exactly so many slots, most or all of them from tuple targets.
@@ -575,7 +613,8 @@ fn unpacked_slots(count: usize) -> Vec<Case> {
         for_(
             rest[20],
             none(),
-            &[store(tuple(&[var(rest[0]), wide(&rest[21..])]))],
+            // A name less, for the loop's iterator.
+            &[store(tuple(&[var(rest[0]), wide(&rest[22..])]))],
         ),
     ];
     let again = store(tuple(&[wide(params), wide(rest)]));
@@ -617,7 +656,15 @@ fn slots_not_counted() -> Vec<Case> {
     // 255 parameters and a capture, but the lambda is never lowered.
     let unlowered = lambda(&all[..255], var("zz"));
     let in_attribute = class("A", &[], &[("a", unlowered.clone())]);
+    // Main's loops have no slots, and an inner function's are its own.
+    let loops = |count: usize| times(count, &for_("i", none(), &[]));
+    let inner = def("g", &[], &loops(200));
     vec![
+        script("slots-main-loops", &loops(300)),
+        script(
+            "slots-loops-apart",
+            &[def("f", &[], &[loops(200), vec![inner]].concat())],
+        ),
         script("slots-main-tuple", &[assign(wide.clone(), none())]),
         script("slots-tuple-300", &[def("f", &[], &[assign(wide, none())])]),
         script("slots-tuple-of-parameters", &[parameters]),

@@ -62,6 +62,7 @@ pub fn small() -> Vec<Case> {
         operators,
         name_order,
         iterators,
+        own_iterators,
         built_ins,
         calls_by_name,
         calls_of_values,
@@ -159,7 +160,10 @@ fn iterators() -> Vec<Case> {
             &[spelled("__for_iter_4___"), loop_()],
         ),
         script("iterator-nearly-spelled-last", &after),
-        script("iterator-shared", &[loop_in("f"), loop_in("g"), loop_()]),
+        script(
+            "iterators-at-one-place",
+            &[loop_in("f"), loop_in("g"), loop_()],
+        ),
         script("loop-in-loop", &[for_("i", var("r"), &[inner])]),
         script(
             "loop-variable-made",
@@ -168,6 +172,45 @@ fn iterators() -> Vec<Case> {
         script("loop-over-call", &[over_call]),
         script("loop-far", &far),
         script("def-loop-variable", &[def("f", &["r"], &[slot])]),
+    ]
+}
+
+/// Loops of defs and methods, each with a slot of its own for its iterator.
+fn own_iterators() -> Vec<Case> {
+    let over = |name: &str, body: &[Bytes]| for_(name, var("r"), body);
+    let bare = |name: &str| over(name, &[]);
+    let f = |body: &[Bytes]| [def("f", &["r"], body)];
+    let arm = |name: &str| (var("r"), vec![bare(name)]);
+    let branches = || if_(&[arm("i"), arm("j"), arm("i")], Some(&[bare("k")]));
+    let last = if_(&[(var("r"), vec![])], Some(&[bare("i"), bare("i")]));
+    let deep = over("i", &[over("j", &[bare("i")]), bare("k")]);
+    let leave = if_(&[(var("i"), vec![break_()])], Some(&[continue_()]));
+    let left = over("i", &[over("j", &[leave]), bare("i"), break_()]);
+    let inner = def("g", &["r"], &[bare("i"), over("j", &[bare("i")])]);
+    let init = method("__init__", &["r"], &[bare("i")]);
+    let named = method("m", &["r", "i"], &[branches(), bare("i")]);
+    let inside = class("A", &[method("m", &["r"], &[bare("j")])], &[]);
+    let held = lambda(&["x"], list(&[var("j"), var("i"), var("x")]));
+    vec![
+        script("own-in-branches", &f(&[branches(), bare("i")])),
+        script("own-in-else", &f(&[last, bare("j")])),
+        script("own-in-loops", &f(&[deep, bare("i")])),
+        script("own-left", &f(&[left, bare("i")])),
+        script(
+            "own-in-while",
+            &f(&[while_(var("r"), &[bare("i"), bare("j")]), bare("i")]),
+        ),
+        script("own-in-methods", &[class("A", &[init, named], &[])]),
+        script("own-in-def-in-loop", &f(&[over("i", &[inner, bare("j")])])),
+        script(
+            "own-in-method-in-loop",
+            &f(&[over("i", &[inside, bare("i")])]),
+        ),
+        script("own-and-lambda", &f(&[bare("j"), over("i", &[ret(held)])])),
+        script(
+            "own-and-main",
+            &[bare("i"), f(&[bare("i")])[0].clone(), bare("i")],
+        ),
     ]
 }
 

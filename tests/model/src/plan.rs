@@ -74,6 +74,9 @@ pub struct Plan<'a> {
 /// What the instructions of one function are made with.
 struct Scope<'s, 'a> {
     slots: &'s Slots<'a>,
+    /// The slot of the next loop's iterator; none in main, whose loops keep
+    /// theirs in globals.
+    iterator: Option<usize>,
     /// The number of instructions of this function so far, jumps included.
     place: usize,
 }
@@ -83,8 +86,21 @@ pub fn make<'a>(program: &Block<'a>, limits: Limits) -> Result<Plan<'a>, u8> {
     let mut plan = Plan::new(limits);
     let main = plan.begin(names::MAIN, 0, 0)?;
     let none = Slots::default();
-    plan.finish(main, program, &none, false)?;
+    let scope = &mut Scope::new(&none, None);
+    plan.finish(main, program, scope, false)?;
     Ok(plan)
+}
+
+impl<'s, 'a> Scope<'s, 'a> {
+    /// Before the first instruction.
+    fn new(slots: &'s Slots<'a>, iterator: Option<usize>) -> Self {
+        let place = 0;
+        Self {
+            slots,
+            iterator,
+            place,
+        }
+    }
 }
 
 fn at_most(count: usize, limit: usize) -> Result<(), u8> {
@@ -176,10 +192,9 @@ impl<'a> Plan<'a> {
         &mut self,
         function: usize,
         body: &Block<'a>,
-        slots: &Slots<'a>,
+        scope: &mut Scope<'_, 'a>,
         load_self: bool,
     ) -> Result<(), u8> {
-        let scope = &mut Scope { slots, place: 0 };
         let mut out = Parts::new();
         self.block(scope, &mut out, body)?;
         if load_self {
@@ -193,9 +208,11 @@ impl<'a> Plan<'a> {
     /// A def, or a method, whose `__init__` gives back its first slot.
     fn function(&mut self, function: &Function<'a>, is_method: bool) -> Result<u16, u8> {
         let slots = slots::of_function(&function.params, &function.body);
-        let index = self.begin(function.name, function.params.len(), slots.len())?;
+        let locals = slots.len() + slots::loops(&function.body);
+        let index = self.begin(function.name, function.params.len(), locals)?;
         let load_self = is_method && function.name == names::INIT;
-        self.finish(index, &function.body, &slots, load_self)?;
+        let scope = &mut Scope::new(&slots, Some(slots.len()));
+        self.finish(index, &function.body, scope, load_self)?;
         Ok(number(index))
     }
 
@@ -320,10 +337,7 @@ impl<'a> Plan<'a> {
         let mut before = Parts::new();
         self.expr(scope, &mut before, iterable)?;
         self.method(scope, &mut before, names::ITER, 0)?;
-        // The place of the store, counted in this function.
-        let iterator = self.intern(&names::iterator(scope.place))?;
-        let load = Instruction::wide(op::LOAD_GLOBAL, iterator);
-        let keep = Instruction::wide(op::STORE_GLOBAL, iterator);
+        let (keep, load) = self.iterator(scope)?;
         self.op(scope, &mut before, keep)?;
         let mut more = Parts::new();
         self.op(scope, &mut more, load)?;
@@ -343,6 +357,24 @@ impl<'a> Plan<'a> {
             body: taken,
         }));
         Ok(())
+    }
+
+    /// The instructions that keep a loop's iterator and load it: by a slot of
+    /// its own in a def or method, in main by the global that is named by the
+    /// place of its store.
+    fn iterator(&mut self, scope: &mut Scope) -> Result<(Instruction, Instruction), u8> {
+        let (keep, load, at) = match &mut scope.iterator {
+            Some(next) => {
+                let slot = number(*next);
+                *next += 1;
+                (op::STORE_LOCAL, op::LOAD_LOCAL, slot)
+            }
+            None => {
+                let symbol = self.intern(&names::iterator(scope.place))?;
+                (op::STORE_GLOBAL, op::LOAD_GLOBAL, symbol)
+            }
+        };
+        Ok((Instruction::wide(keep, at), Instruction::wide(load, at)))
     }
 
     fn method(
@@ -565,10 +597,7 @@ impl<'a> Plan<'a> {
         let slots = slots::of_lambda(params, &captures);
         let name = names::lambda(self.functions.len());
         let function = self.begin(&name, params.len(), slots.len())?;
-        let inner = &mut Scope {
-            slots: &slots,
-            place: 0,
-        };
+        let inner = &mut Scope::new(&slots, None);
         let mut parts = Parts::new();
         self.expr(inner, &mut parts, body)?;
         self.op(inner, &mut parts, Instruction::plain(op::RETURN))?;

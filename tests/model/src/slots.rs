@@ -5,7 +5,7 @@ use std::collections::{BTreeSet, HashMap};
 
 pub const MAX_SLOTS: usize = 255;
 
-/// The slots of one function by name. Main has none at all.
+/// The slots of one function that have a name. Main has none at all.
 #[derive(Default)]
 pub struct Slots<'a> {
     of: HashMap<Name<'a>, usize>,
@@ -89,6 +89,21 @@ pub fn of_function<'a>(params: &[Name<'a>], body: &Block<'a>) -> Slots<'a> {
     slots
 }
 
+/// How many loops a def or method has: each has a slot of its own for its
+/// iterator. Those inside a nested def or class are not its own.
+pub fn loops(block: &Block) -> usize {
+    let of_stmt = |stmt: &Stmt| match stmt {
+        Stmt::For(_, _, body) => 1 + loops(body),
+        Stmt::While(_, body) => loops(body),
+        Stmt::If(parts) => {
+            let arms: usize = parts.arms.iter().map(|(_, block)| loops(block)).sum();
+            arms + parts.otherwise.as_ref().map_or(0, loops)
+        }
+        _ => 0,
+    };
+    block.iter().map(of_stmt).sum()
+}
+
 /// The slots of a lambda: parameters, then captures in byte order.
 pub fn of_lambda<'a>(params: &[Name<'a>], captures: &[Name<'a>]) -> Slots<'a> {
     let mut slots = Slots::default();
@@ -169,8 +184,8 @@ pub fn ask(block: &Block) -> Result<(), u8> {
     ask_block(block, &Slots::default())
 }
 
-fn few_enough(slots: &Slots) -> Result<(), u8> {
-    if slots.len() <= MAX_SLOTS {
+fn few_enough(count: usize) -> Result<(), u8> {
+    if count <= MAX_SLOTS {
         Ok(())
     } else {
         Err(14)
@@ -218,14 +233,14 @@ fn ask_stmt<'a>(stmt: &Stmt<'a>, slots: &Slots<'a>) -> Result<(), u8> {
 
 fn ask_function<'a>(params: &[Name<'a>], body: &Block<'a>) -> Result<(), u8> {
     let slots = of_function(params, body);
-    few_enough(&slots)?;
+    few_enough(slots.len() + loops(body))?;
     ask_block(body, &slots)
 }
 
 fn ask_expr<'a>(expr: &Expr<'a>, slots: &Slots<'a>) -> Result<(), u8> {
     if let Expr::Lambda(params, body) = expr {
         let inner = of_lambda(params, &captures(params, body, slots));
-        few_enough(&inner)?;
+        few_enough(inner.len())?;
         return ask_expr(body, &inner);
     }
     let mut answer = Ok(());

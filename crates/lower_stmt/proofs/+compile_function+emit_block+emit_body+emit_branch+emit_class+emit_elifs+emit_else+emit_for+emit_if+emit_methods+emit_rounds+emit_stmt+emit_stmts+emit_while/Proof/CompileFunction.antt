@@ -5,10 +5,10 @@ use borrow.Author.Needs.{needs}
 use Rattle.parts.specs.Places.{countAt, nameEnd, paramsAt}
 use Rattle.lower_emit.proofs.Steps.{sound-next}
 use Rattle.lower_forms.proofs.ExprArms.{params-count}
-use Rattle.lower_leaves.proofs.Collecting.{collected-over}
 use Rattle.lower_forms.specs.Lowering.{endOf}
 use Rattle.lower_forms.proofs.Sequences.{block-at, params-at}
-use Rattle.lower_stmt.proofs.Functions.{collected-count, collected-at, names-length, part-names}
+use Rattle.lower_stmt.proofs.Sequence.{spare-at}
+use Rattle.lower_stmt.proofs.Functions.{framed-at, frame-keeping, frame-spare, part-names}
 use Rattle.lower_emit.proofs.Functions.{functions-sound, ending-sound}
 use Rattle.lower_names.proofs.Symbols.{naming-sound}
 use Rattle.lower_stmt.proofs.Nested.{sound-sole, slots-stopped, function-over, function-sound, function-stopped, function-few, function-done, body-by, ready-part}
@@ -68,62 +68,64 @@ compile-function-ok t = compile-function-lts.spec (
     (λ c. let at-enum-told = c in let at-collect-locals = at-enum-told .before .before .before in let at-skip-params = at-collect-locals .before .before in
     let at-name-end = at-skip-params .before .before in let start = at-name-end .before .before .before .before in let e = at-name-end .name-end .ensures in
     let pb = at-skip-params .skip-params .ensures ∙ ap (λ (x : ℕ). paramsAt (start .args .tree .now) x .end) e in
-    let ca = collected-at _ _ _ _ _ _ _ e pb (at-collect-locals .collect-locals .ensures) in
-    slots-stopped (start .args .depth) (start .args .init) (start .args .at) (start .pre .1 .0 .numbers) (collected-over _ _ _ _ (at-enum-told .enum-told .given .1) ca))  -- returns
+    let ca = framed-at _ _ e pb (at-collect-locals .collect-locals .ensures) in
+    slots-stopped (start .args .depth) (start .args .init) (start .args .at) (start .pre .1 .0 .numbers) (ca .over (at-enum-told .enum-told .given .1)))  -- returns
     (λ c. search needs)  -- element-copy-out-base
     (λ c κs. let at-collected = c .before .before .before .before .before in let at-collect-locals = at-collected .before .before .before in let at-skip-params = at-collect-locals .before .before in
     let at-u16-at = at-skip-params .before in let at-name-end = at-u16-at .before in let start = at-name-end .before .before .before .before in let e = at-name-end .name-end .ensures in
     let pb = at-skip-params .skip-params .ensures ∙ ap (λ (x : ℕ). paramsAt (start .args .tree .now) x .end) e in
-    let ca = collected-at _ _ _ _ _ _ _ e pb (at-collect-locals .collect-locals .ensures) in let cc = collected-count _ _ _ _ _ (at-collected .collected .given .1) ca in
+    let ca = framed-at _ _ e pb (at-collect-locals .collect-locals .ensures) in let cc = ca .framing _ _ (at-collected .collected .given .1) in
     let ea = at-u16-at .u16-at .ensures .0 ∙ ap (countAt (start .args .tree .now)) e ∙ sym (params-count (start .args .tree .now) (nameEnd (start .args .tree .now) (start .args .at))) in (
       naming-sound (sound-sole (start .pre .1 .0)),
       functions-sound (sound-sole (start .pre .1 .0)),
       omega (arith, start .pre .1 .1 .name .byte, start .pre .1 .0 .sole .tree-short),
       omega (arith, ea, params-count (start .args .tree .now) (nameEnd (start .args .tree .now) (start .args .at)), start .pre .1 .1 .few),
-      omega (arith, cc .0),
+      omega (arith, cc .few),
     ))  -- begin-named-requires
     (λ c. let at-begin-named = c .before .before .before in at-begin-named .begin-named .kept .1 .1 .0)  -- same-length
     (λ c. let at-if1 = c in let at-begin-named = at-if1 .before .before .before in let at-collected = at-begin-named .before .before .before .before .before .before in
     let at-collect-locals = at-collected .before .before .before in let at-skip-params = at-collect-locals .before .before in let at-u16-at = at-skip-params .before in
     let at-name-end = at-u16-at .before in let start = at-name-end .before .before .before .before in let e = at-name-end .name-end .ensures in
     let pb = at-skip-params .skip-params .ensures ∙ ap (λ (x : ℕ). paramsAt (start .args .tree .now) x .end) e in
-    let ca = collected-at _ _ _ _ _ _ _ e pb (at-collect-locals .collect-locals .ensures) in let cc = collected-count _ _ _ _ _ (at-collected .collected .given .1) ca in
+    let ca = framed-at _ _ e pb (at-collect-locals .collect-locals .ensures) in let cc = ca .framing _ _ (at-collected .collected .given .1) in
     let ea = at-u16-at .u16-at .ensures .0 ∙ ap (countAt (start .args .tree .now)) e ∙ sym (params-count (start .args .tree .now) (nameEnd (start .args .tree .now) (start .args .at))) in
-    let en = names-length _ _ _ _ (omega (arith, cc .0, at-collect-locals .collect-locals .kept .1 .1 .1 .1 .0)) (cc .1) in
+    let en = cc .locals in
     function-over (start .args .depth) (start .args .init) (sound-sole (start .pre .1 .0)) ea en (at-begin-named .begin-named .ensures) (at-if1 .if1 .taken))  -- returns-2
     (λ c. let at-collected = c .before .before .before .before .before .before .before .before .before in let at-collect-locals = at-collected .before .before .before in
     let at-skip-params = at-collect-locals .before .before in let at-name-end = at-skip-params .before .before in let start = at-name-end .before .before .before .before in
     let e = at-name-end .name-end .ensures in let pb = at-skip-params .skip-params .ensures ∙ ap (λ (x : ℕ). paramsAt (start .args .tree .now) x .end) e in
-    let ca = collected-at _ _ _ _ _ _ _ e pb (at-collect-locals .collect-locals .ensures) in
-    let cc = collected-count _ _ _ _ _ (at-collected .collected .given .1) ca in omega (arith, cc .0))  -- cast-end
+    let ca = framed-at _ _ e pb (at-collect-locals .collect-locals .ensures) in
+    let cc = ca .framing _ _ (at-collected .collected .given .1) in omega (arith, cc .named, cc .few))  -- cast-end
     (λ c. let at-collected = c .before .before .before .before .before .before .before .before .before in let at-collect-locals = at-collected .before .before .before in
     let at-skip-params = at-collect-locals .before .before in let at-name-end = at-skip-params .before .before in let start = at-name-end .before .before .before .before in
     let e = at-name-end .name-end .ensures in let pb = at-skip-params .skip-params .ensures ∙ ap (λ (x : ℕ). paramsAt (start .args .tree .now) x .end) e in
-    let ca = collected-at _ _ _ _ _ _ _ e pb (at-collect-locals .collect-locals .ensures) in
-    let cc = collected-count _ _ _ _ _ (at-collected .collected .given .1) ca in omega (arith, cc .0))  -- add-end
+    let ca = framed-at _ _ e pb (at-collect-locals .collect-locals .ensures) in
+    let cc = ca .framing _ _ (at-collected .collected .given .1) in omega (arith, cc .named, cc .few))  -- add-end
     (λ c. omega arith)  -- sub-emit-body
     (λ c. omega arith)  -- part-emit-body-start
     (λ c. let at-collected = c .before .before .before .before .before .before .before .before .before .before in let at-collect-locals = at-collected .before .before .before in
     let at-skip-params = at-collect-locals .before .before in let at-name-end = at-skip-params .before .before in let start = at-name-end .before .before .before .before in
     let e = at-name-end .name-end .ensures in let pb = at-skip-params .skip-params .ensures ∙ ap (λ (x : ℕ). paramsAt (start .args .tree .now) x .end) e in
-    let ca = collected-at _ _ _ _ _ _ _ e pb (at-collect-locals .collect-locals .ensures) in
-    let cc = collected-count _ _ _ _ _ (at-collected .collected .given .1) ca in omega (arith, cc .0, at-collect-locals .collect-locals .kept .1 .1 .1 .1 .0))  -- part-emit-body-end
+    let ca = framed-at _ _ e pb (at-collect-locals .collect-locals .ensures) in
+    let cc = ca .framing _ _ (at-collected .collected .given .1) in omega (arith, cc .named, cc .few, at-collect-locals .collect-locals .kept .1 .1 .1 .1 .0))  -- part-emit-body-end
     (λ c κs. let at-if1 = c .before .before .before .before .before .before in let at-begin-named = at-if1 .before .before .before in
     let at-collected = at-begin-named .before .before .before .before .before .before in let at-collect-locals = at-collected .before .before .before in
     let at-skip-params = at-collect-locals .before .before in let at-u16-at = at-skip-params .before in let at-name-end = at-u16-at .before in
     let start = at-name-end .before .before .before .before in let e = at-name-end .name-end .ensures in
     let pb = at-skip-params .skip-params .ensures ∙ ap (λ (x : ℕ). paramsAt (start .args .tree .now) x .end) e in
-    let ca = collected-at _ _ _ _ _ _ _ e pb (at-collect-locals .collect-locals .ensures) in let cc = collected-count _ _ _ _ _ (at-collected .collected .given .1) ca in
+    let ca = framed-at _ _ e pb (at-collect-locals .collect-locals .ensures) in let cc = ca .framing _ _ (at-collected .collected .given .1) in
     let ea = at-u16-at .u16-at .ensures .0 ∙ ap (countAt (start .args .tree .now)) e ∙ sym (params-count (start .args .tree .now) (nameEnd (start .args .tree .now) (start .args .at))) in
-    let en = names-length _ _ _ _ (omega (arith, cc .0, at-collect-locals .collect-locals .kept .1 .1 .1 .1 .0)) (cc .1) in (
+    let en = cc .locals in (
       omega (arith, start .pre .0),
       (
-        ready-part (start .pre .1 .0) (cc .0) (cc .2) (omega (
+        ready-part (start .pre .1 .0) (omega (arith, cc .named, cc .few)) (cc .indexed) (omega (
           arith,
-          cc .0,
+          cc .named,
+          cc .few,
           at-collect-locals .collect-locals .kept .1 .1 .1 .1 .0,
         )) (function-sound (start .args .depth) (start .args .init) (sound-sole (start .pre .1 .0)) ea en (at-begin-named .begin-named .ensures) (at-if1 .if1 .left)),
         block-at _ _ _ _ pb (start .pre .1 .1 .block),
+        spare-at _ _ pb (frame-spare _ _ cc (omega (arith, at-collect-locals .collect-locals .kept .1 .1 .1 .1 .0))),
       ),
     ))  -- emit-body-requires
     (λ c. let at-emit-body = c .before .before .before .before .before in at-emit-body .emit-body .kept .1 .1 .1 .1 .1 .1 .0)  -- same-length-2
@@ -134,25 +136,27 @@ compile-function-ok t = compile-function-lts.spec (
     let at-collect-locals = at-collected .before .before .before in let at-skip-params = at-collect-locals .before .before in let at-u16-at = at-skip-params .before in
     let at-name-end = at-u16-at .before in let start = at-name-end .before .before .before .before in let e = at-name-end .name-end .ensures in
     let pb = at-skip-params .skip-params .ensures ∙ ap (λ (x : ℕ). paramsAt (start .args .tree .now) x .end) e in
-    let ca = collected-at _ _ _ _ _ _ _ e pb (at-collect-locals .collect-locals .ensures) in let cc = collected-count _ _ _ _ _ (at-collected .collected .given .1) ca in
+    let ca = framed-at _ _ e pb (at-collect-locals .collect-locals .ensures) in let cc = ca .framing _ _ (at-collected .collected .given .1) in
     let ea = at-u16-at .u16-at .ensures .0 ∙ ap (countAt (start .args .tree .now)) e ∙ sym (params-count (start .args .tree .now) (nameEnd (start .args .tree .now) (start .args .at))) in
-    let en = names-length _ _ _ _ (omega (arith, cc .0, at-collect-locals .collect-locals .kept .1 .1 .1 .1 .0)) (cc .1) in
-    let b = body-by (start .args .depth) (start .args .tree .now) _ (endOf (start .args .init)) _ _ pb (at-emit-body .emit-body .ensures) in
-    let nm = part-names _ _ _ _ (cc .1) (omega (arith, cc .0, at-collect-locals .collect-locals .kept .1 .1 .1 .1 .0)) in
-    function-stopped (start .args .depth) (start .args .init) (sound-sole (start .pre .1 .0)) ea en (at-begin-named .begin-named .ensures) (at-if1 .if1 .left) nm b (at-if2 .if2 .taken))  -- returns-3
+    let en = cc .locals in
+    let b = body-by (start .args .depth) (start .args .tree .now) _ _ (endOf (start .args .init)) _ _ pb (at-emit-body .emit-body .ensures) in
+    let nm = part-names _ _ _ _ (cc .names) (omega (arith, cc .named, cc .few, at-collect-locals .collect-locals .kept .1 .1 .1 .1 .0)) in
+    let ek = frame-keeping _ _ cc (omega (arith, at-collect-locals .collect-locals .kept .1 .1 .1 .1 .0)) in
+    function-stopped (start .args .depth) (start .args .init) (sound-sole (start .pre .1 .0)) ea en (at-begin-named .begin-named .ensures) (at-if1 .if1 .left) nm ek b (at-if2 .if2 .taken))  -- returns-3
     (λ c κs. let at-if2 = c .before .before .before in let at-emit-body = at-if2 .before .before .before .before .before in
     let at-if1 = at-emit-body .before .before .before .before .before .before .before in let at-begin-named = at-if1 .before .before .before in
     let at-collected = at-begin-named .before .before .before .before .before .before in let at-collect-locals = at-collected .before .before .before in
     let at-skip-params = at-collect-locals .before .before in let at-u16-at = at-skip-params .before in let at-name-end = at-u16-at .before in
     let start = at-name-end .before .before .before .before in let e = at-name-end .name-end .ensures in
     let pb = at-skip-params .skip-params .ensures ∙ ap (λ (x : ℕ). paramsAt (start .args .tree .now) x .end) e in
-    let ca = collected-at _ _ _ _ _ _ _ e pb (at-collect-locals .collect-locals .ensures) in let cc = collected-count _ _ _ _ _ (at-collected .collected .given .1) ca in
+    let ca = framed-at _ _ e pb (at-collect-locals .collect-locals .ensures) in let cc = ca .framing _ _ (at-collected .collected .given .1) in
     let ea = at-u16-at .u16-at .ensures .0 ∙ ap (countAt (start .args .tree .now)) e ∙ sym (params-count (start .args .tree .now) (nameEnd (start .args .tree .now) (start .args .at))) in
-    let en = names-length _ _ _ _ (omega (arith, cc .0, at-collect-locals .collect-locals .kept .1 .1 .1 .1 .0)) (cc .1) in
-    let b = body-by (start .args .depth) (start .args .tree .now) _ (endOf (start .args .init)) _ _ pb (at-emit-body .emit-body .ensures) in
-    let nm = part-names _ _ _ _ (cc .1) (omega (arith, cc .0, at-collect-locals .collect-locals .kept .1 .1 .1 .1 .0)) in (
+    let en = cc .locals in
+    let b = body-by (start .args .depth) (start .args .tree .now) _ _ (endOf (start .args .init)) _ _ pb (at-emit-body .emit-body .ensures) in
+    let nm = part-names _ _ _ _ (cc .names) (omega (arith, cc .named, cc .few, at-collect-locals .collect-locals .kept .1 .1 .1 .1 .0)) in
+    let ek = frame-keeping _ _ cc (omega (arith, at-collect-locals .collect-locals .kept .1 .1 .1 .1 .0)) in (
       ending-sound (sound-next (at-if2 .if2 .left) b),
-      function-few (start .args .depth) (start .args .init) (sound-sole (start .pre .1 .0)) ea en (at-begin-named .begin-named .ensures) (at-if1 .if1 .left) nm b (at-if2 .if2 .left),
+      function-few (start .args .depth) (start .args .init) (sound-sole (start .pre .1 .0)) ea en (at-begin-named .begin-named .ensures) (at-if1 .if1 .left) nm ek b (at-if2 .if2 .left),
     ))  -- end-function-requires
     (λ c. let at-end-function = c .before .before .before .before in
     let at-emit-body = at-end-function .before .before .before .before .before .before .before .before .before in at-end-function .end-function .kept .0 ∙ at-emit-body .emit-body .kept .1 .1 .1 .1 .1 .1 .0)  -- same-length-4
@@ -165,9 +169,10 @@ compile-function-ok t = compile-function-lts.spec (
     let at-collect-locals = at-collected .before .before .before in let at-skip-params = at-collect-locals .before .before in let at-u16-at = at-skip-params .before in
     let at-name-end = at-u16-at .before in let start = at-name-end .before .before .before .before in let e = at-name-end .name-end .ensures in
     let pb = at-skip-params .skip-params .ensures ∙ ap (λ (x : ℕ). paramsAt (start .args .tree .now) x .end) e in
-    let ca = collected-at _ _ _ _ _ _ _ e pb (at-collect-locals .collect-locals .ensures) in let cc = collected-count _ _ _ _ _ (at-collected .collected .given .1) ca in
+    let ca = framed-at _ _ e pb (at-collect-locals .collect-locals .ensures) in let cc = ca .framing _ _ (at-collected .collected .given .1) in
     let ea = at-u16-at .u16-at .ensures .0 ∙ ap (countAt (start .args .tree .now)) e ∙ sym (params-count (start .args .tree .now) (nameEnd (start .args .tree .now) (start .args .at))) in
-    let en = names-length _ _ _ _ (omega (arith, cc .0, at-collect-locals .collect-locals .kept .1 .1 .1 .1 .0)) (cc .1) in
-    let b = body-by (start .args .depth) (start .args .tree .now) _ (endOf (start .args .init)) _ _ pb (at-emit-body .emit-body .ensures) in
-    let nm = part-names _ _ _ _ (cc .1) (omega (arith, cc .0, at-collect-locals .collect-locals .kept .1 .1 .1 .1 .0)) in
-    function-done (start .args .depth) (start .args .init) (sound-sole (start .pre .1 .0)) ea en (at-begin-named .begin-named .ensures) (at-if1 .if1 .left) nm b (at-if2 .if2 .left) (at-end-function .end-function .ensures))  -- returns-4
+    let en = cc .locals in
+    let b = body-by (start .args .depth) (start .args .tree .now) _ _ (endOf (start .args .init)) _ _ pb (at-emit-body .emit-body .ensures) in
+    let nm = part-names _ _ _ _ (cc .names) (omega (arith, cc .named, cc .few, at-collect-locals .collect-locals .kept .1 .1 .1 .1 .0)) in
+    let ek = frame-keeping _ _ cc (omega (arith, at-collect-locals .collect-locals .kept .1 .1 .1 .1 .0)) in
+    function-done (start .args .depth) (start .args .init) (sound-sole (start .pre .1 .0)) ea en (at-begin-named .begin-named .ensures) (at-if1 .if1 .left) nm ek b (at-if2 .if2 .left) (at-end-function .end-function .ensures))  -- returns-4

@@ -12,16 +12,16 @@ use Rattle.lower_stmt.proofs.+compile_function+emit_block+emit_body+emi
 
 pub emit-body-ok : {M : Type 1} (t : ℕ) → emit-body-lts.Closed (emit-block-below t, emit-block.Post, put-end-reads.Asked, put-end-reads.Learnt) (emit-body-at t) emit-body.Post M
 emit-body-ok t = emit-body-lts.spec (emit-block-below t, emit-block.Post, put-end-reads.Asked, put-end-reads.Learnt) (emit-body-at t) emit-body.Post
-    (λ c κs. let start = c .before .before .before .before .before .before .before .before in (omega (arith, start .pre .0), (start .pre .1 .0, start .pre .1 .1)))  -- emit-block-requires
+    (λ c κs. let start = c .before .before .before .before .before .before .before .before .before in (omega (arith, start .pre .0), (start .pre .1 .0, start .pre .1 .1, start .pre .1 .2)))  -- emit-block-requires
     (λ c. let at-emit-block = c .before .before .before .before .before in at-emit-block .emit-block .kept .1 .1 .1 .1 .1 .0)  -- same-length
     (λ c. let at-emit-block = c .before .before .before .before .before in at-emit-block .emit-block .kept .1 .1 .1 .1 .1 .1 .0)  -- same-length-2
-    (λ c. let at-if1 = c in let at-emit-block = at-if1 .before .before .before .before .before in let start = at-emit-block .before .before .before .before .before .before .before .before .before in
-    let b = at-emit-block .emit-block .ensures in lowers-stopped (at-if1 .if1 .taken) (sound-of (start .pre .1 .0)) (lengthens-emits _) b)  -- returns
+    (λ c. let at-if1 = c in let at-emit-block = at-if1 .before .before .before .before .before in let start = at-emit-block .before .before .before .before .before .before .before .before .before .before in
+    let b = at-emit-block .emit-block .ensures .0 in lowers-stopped (at-if1 .if1 .taken) (sound-of (start .pre .1 .0)) (lengthens-emits _) b)  -- returns
     (λ c κs. let at-if1 = c .before .before in let at-emit-block = at-if1 .before .before .before .before .before in
-    let b = at-emit-block .emit-block .ensures in (room-sound (sound-next (at-if1 .if1 .left) b), omega (arith, (at-if1 .if1 .left))))  -- put-end-requires
+    let b = at-emit-block .emit-block .ensures .0 in (room-sound (sound-next (at-if1 .if1 .left) b), omega (arith, (at-if1 .if1 .left))))  -- put-end-requires
     (λ c. let at-put-end = c .before .before in
     let at-emit-block = at-put-end .before .before .before .before .before .before .before .before in at-put-end .put-end .kept .0 ∙ at-emit-block .emit-block .kept .1 .1 .1 .1 .1 .0)  -- same-length-3
     (λ c. let at-emit-block = c .before .before .before .before .before .before .before .before .before .before in at-emit-block .emit-block .kept .1 .1 .1 .1 .1 .1 .0)  -- same-length-4
     (λ c. let at-put-end = c .before .before in let at-if1 = at-put-end .before .before .before in let at-emit-block = at-if1 .before .before .before .before .before in
-    let start = at-emit-block .before .before .before .before .before .before .before .before .before in
-    let b = at-emit-block .emit-block .ensures in lowers-next (at-if1 .if1 .left) (sound-of (start .pre .1 .0)) b (at-put-end .put-end .ensures .lowers _ _ _ (sound-next (at-if1 .if1 .left) b)))  -- returns-2
+    let start = at-emit-block .before .before .before .before .before .before .before .before .before .before in
+    let b = at-emit-block .emit-block .ensures .0 in lowers-next (at-if1 .if1 .left) (sound-of (start .pre .1 .0)) b (at-put-end .put-end .ensures .lowers _ _ _ (sound-next (at-if1 .if1 .left) b)))  -- returns-2
