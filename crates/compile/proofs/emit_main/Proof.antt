@@ -17,7 +17,8 @@ unfolding namesAt keepingOf
 emit-main-spec = tie.close (tie.spec
     (λ c. search needs)  -- slice-aggregate-emit-block
     (λ c κs. let start = c .before .before .before .before .before .before .before .before in
-    (record { numbers = (start .pre .0) .numbers; ready = record { tree-short = (start .pre .1) .small; slotted = none-slots _ _ refl; sound = (start .pre .0) .sound } }, block-lowerable _ (start .pre .1), record { at = λ h. absurd (omega arith) }))  -- emit-block-requires
+    (record { numbers = (start .pre .0) .numbers; ready = record { tree-short = (start .pre .1) .small; slotted = none-slots _ _ refl; sound = (start .pre .0) .sound } },
+    block-lowerable _ (start .pre .1), record { at = λ h. absurd (omega arith) }))  -- emit-block-requires
     (λ c. let at-emit-block = c .before .before .before .before .before in at-emit-block .emit-block .kept .1 .1 .1 .1 .1 .0)  -- same-length
     (λ c. let at-emit-block = c .before .before .before .before .before in at-emit-block .emit-block .kept .1 .1 .1 .1 .1 .1 .0)  -- same-length-2
     (λ c. let at-if1 = c in let at-emit-block = at-if1 .before .before .before .before .before in let start = at-emit-block .before .before .before .before .before .before .before .before .before in

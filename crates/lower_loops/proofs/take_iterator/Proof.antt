@@ -18,7 +18,8 @@ take-iterator-spec = tie.close (tie.spec
     (λ c. let at-if1 = c in let at-call-iterator = at-if1 .before .before .before .before .before in
     let start = at-call-iterator .before .before .before .before .before .before .before .before .before in
     let e = at-call-iterator .call-iterator .ensures in
-    take1 (slotNames (start .args .tree .now) (start .args .slots .now)) (nameAt (start .args .tree .now) (start .args .at)) (keeperOf (start .args .load)) (start .pre .0) (lowers-stopped (at-if1 .if1 .taken) (start .pre .0) (lengthens-store _ _) e))  -- returns
+    take1 (slotNames (start .args .tree .now) (start .args .slots .now)) (nameAt (start .args .tree .now) (start .args .at)) (keeperOf (start .args .load)) (start .pre .0)
+    (lowers-stopped (at-if1 .if1 .taken) (start .pre .0) (lengthens-store _ _) e))  -- returns
     (λ c κs. let at-if1 = c .before .before .before .before in let at-call-iterator = at-if1 .before .before .before .before .before in
     let start = at-call-iterator .before .before .before .before .before .before .before .before .before in
     let e = at-call-iterator .call-iterator .ensures in (sound-next (at-if1 .if1 .left) e, start .pre .1, start .pre .2, omega (arith, (at-if1 .if1 .left))))  -- emit-store-requires
@@ -30,4 +31,5 @@ take-iterator-spec = tie.close (tie.spec
     (λ c. let at-emit-store = c .before .before .before .before in let at-if1 = at-emit-store .before .before .before .before .before in
     let at-call-iterator = at-if1 .before .before .before .before .before in let start = at-call-iterator .before .before .before .before .before .before .before .before .before in
     let e = at-call-iterator .call-iterator .ensures in
-    take1 (slotNames (start .args .tree .now) (start .args .slots .now)) (nameAt (start .args .tree .now) (start .args .at)) (keeperOf (start .args .load)) (start .pre .0) (lowers-next (at-if1 .if1 .left) (start .pre .0) e (at-emit-store .emit-store .ensures))))  -- returns-2
+    take1 (slotNames (start .args .tree .now) (start .args .slots .now)) (nameAt (start .args .tree .now) (start .args .at)) (keeperOf (start .args .load)) (start .pre .0)
+    (lowers-next (at-if1 .if1 .left) (start .pre .0) e (at-emit-store .emit-store .ensures))))  -- returns-2

@@ -209,14 +209,25 @@ fits-def-ok t = fits-def-lts.spec (name-end-reads.Asked, name-end-reads.Learnt, 
     (λ c κs. (c .before .before .before .before .pre .1 .0, omega arith, def-params _ _ _ _ _ (c .before .before .name-end .ensures) (c .before .skip-params .ensures) (c .before .before .before .before .pre .1 .1), def-block _ _ _ _ _ (c .before .before .name-end .ensures) (c .before .skip-params .ensures) (c .before .before .before .before .pre .1 .1)))  -- collect-locals-requires
     (λ c. search needs)  -- enum-known-found
     (λ c. search needs)  -- enum-told
-    (λ c. def-over (def-framed _ _ _ _ _ (c .before .before .before .before .before .before .name-end .ensures) (c .before .before .before .before .before .skip-params .ensures) (c .before .before .before .before .before .before .before .before .pre .1 .1) (c .before .before .before .collect-locals .ensures)) _ _ (c .enum-told .given .1))  -- returns
+    (λ c. def-over (def-framed _ _ _ _ _ (c .before .before .before .before .before .before .name-end .ensures) (c .before .before .before .before .before .skip-params .ensures)
+    (c .before .before .before .before .before .before .before .before .pre .1 .1) (c .before .before .before .collect-locals .ensures)) _ _ (c .enum-told .given .1))  -- returns
     (λ c. search needs)  -- cast-end
     (λ c. let h = def-few (c .before .before .before .before .collect-locals .ensures) (c .before .found .given .1) in let k = c .before .before .before .before .collect-locals .kept .1 .1 .1 .1 .0 in omega arith)  -- add-end
     (λ c. search needs)  -- sub-fits-block
     (λ c. search needs)  -- part-fits-block-start
-    (λ c. let h = def-few (c .before .before .before .before .before .collect-locals .ensures) (c .before .before .found .given .1) in let k = c .before .before .before .before .before .collect-locals .kept .1 .1 .1 .1 .0 in omega arith)  -- part-fits-block-end
-    (λ c κs. (omega arith, (def-short (c .before .before .before .before .before .before .collect-locals .ensures) (c .before .before .before .found .given .1) (full-length (c .before .before .before .before .before .before .collect-locals .last .1 .1 .1 .1 .0) (c .before .before .before .before .before .before .collect-locals .kept .1 .1 .1 .1 .0)) (c .before .before .before .before .before .before .before .before .before .before .before .pre .1 .0), def-block _ _ _ _ _ (c .before .before .before .before .before .before .before .before .before .name-end .ensures) (c .before .before .before .before .before .before .before .before .skip-params .ensures) (c .before .before .before .before .before .before .before .before .before .before .before .pre .1 .1))))  -- fits-block-requires
-    (λ c. def-body _ _ _ _ _ (c .before .before .before .before .before .before .before .before .before .before .name-end .ensures) (c .before .before .before .before .before .before .before .before .before .skip-params .ensures) (c .before .before .before .before .before .before .before .before .before .before .before .before .pre .1 .1) _ (c .before .before .before .before .before .before .before .collect-locals .ensures) (c .before .before .before .before .found .given .1) (full-length (c .before .before .before .before .before .before .before .collect-locals .last .1 .1 .1 .1 .0) (c .before .before .before .before .before .before .before .collect-locals .kept .1 .1 .1 .1 .0)) (c .fits-block .ensures))  -- returns-2
+    (λ c. let h = def-few (c .before .before .before .before .before .collect-locals .ensures) (c .before .before .found .given .1) in
+    let k = c .before .before .before .before .before .collect-locals .kept .1 .1 .1 .1 .0 in omega arith)  -- part-fits-block-end
+    (λ c κs. (omega arith, (def-short (c .before .before .before .before .before .before .collect-locals .ensures) (c .before .before .before .found .given .1)
+    (full-length (c .before .before .before .before .before .before .collect-locals .last .1 .1 .1 .1 .0) (c .before .before .before .before .before .before .collect-locals .kept .1 .1 .1 .1 .0))
+    (c .before .before .before .before .before .before .before .before .before .before .before .pre .1 .0), def-block _ _ _ _ _
+    (c .before .before .before .before .before .before .before .before .before .name-end .ensures) (c .before .before .before .before .before .before .before .before .skip-params .ensures)
+    (c .before .before .before .before .before .before .before .before .before .before .before .pre .1 .1))))  -- fits-block-requires
+    (λ c. def-body _ _ _ _ _ (c .before .before .before .before .before .before .before .before .before .before .name-end .ensures)
+    (c .before .before .before .before .before .before .before .before .before .skip-params .ensures)
+    (c .before .before .before .before .before .before .before .before .before .before .before .before .pre .1 .1) _
+    (c .before .before .before .before .before .before .before .collect-locals .ensures) (c .before .before .before .before .found .given .1)
+    (full-length (c .before .before .before .before .before .before .before .collect-locals .last .1 .1 .1 .1 .0)
+    (c .before .before .before .before .before .before .before .collect-locals .kept .1 .1 .1 .1 .0)) (c .fits-block .ensures))  -- returns-2
 
 abbrev fits-elifs-Inv-loop : fits-elifs-lts.InvT-loop
 fits-elifs-Inv-loop tree at depth count slots p₀ left₀ p left = BranchesLeft depth tree (slotNames tree slots) left₀ p₀ left p
