@@ -81,14 +81,14 @@ framed-at {r} {t} {ps} d at e f h = subst (Frames r t ps) (λ j. withLoops (para
 
 -- the loops' slots come after the n that have a name, and there are enough
 module _ {n m : ℕ} {t ps : List ℕ} (xs : List Name) (b : Block) (F : Framing n m t ps (withLoops xs b)) (room : slotsFrom + 255 ≤ length ps) where
-  named : n ≡ length (withLoops xs b .names)
-  named = names-length t ps n _ (omega (arith, F .named, F .few)) (F .names)
+  how-many : n ≡ length (withLoops xs b .names)
+  how-many = names-length t ps n _ (omega (arith, F .named, F .few)) (F .names)
 
   pub frame-keeping : keepingOf n ≡ withLoops xs b .keep
-  frame-keeping = keeping-slot n (omega (arith, F .named, F .few)) ∙ ap inSlots named
+  frame-keeping = keeping-slot n (omega (arith, F .named, F .few)) ∙ ap inSlots how-many
 
   pub frame-spare : Spare n (loopsBlock b)
-  frame-spare = record { at = λ h. omega (arith, named, F .locals, F .few) }
+  frame-spare = record { at = λ h. omega (arith, how-many, F .locals, F .few) }
 
 -- the slots that are used
 pub part-names : (t ps : List ℕ) (n : ℕ) (want : List Name) → firstNames t n ps ≡ want → slotsFrom + n ≤ length ps → slotNames t (take (slotsFrom + n - 0) (drop 0 ps)) ≡ want

@@ -81,7 +81,8 @@ module _ {d : ℕ} {t : List ℕ} {names : List Name} {made₀ code₀ tables₀
           next = g .1;
           ahead = omega arith;
           numbers = e .0 .numbers;
-          midway = subst (λ (x : Keeping). Midway (countsOf k′) t made′ code′ tables′ (countsOf k₀) (limitsIn l) (stmtsCode d (n - 1) t names x q) _) keeping (g .2);
+          midway = subst (λ (x : Keeping). Midway (countsOf k′) t made′ code′ tables′ (countsOf k₀) (limitsIn l) (stmtsCode d (n - 1) t names x q)
+              (emitAt (getD k₀ 7 0) (stmtsCode d n₀ t names (keepingOf i₀) p₀) (stateOf t made₀ code₀ tables₀ (countsOf k₀)))) keeping (g .2);
           spare = subst (λ (x : ℕ). Spare x (loopsBlock (stmtsAt d (n - 1) t q .value))) (sym moved) (subst (Spare (afterLoops i m)) left (spare-rest i m rest both));
           loops = (λ j. afterLoops (moved j) (sym left j)) ∙ after-sum i m rest both ∙ ap (afterLoops i) (sym (stmts-loops d t h (inv .stmts .reads))) ∙ inv .loops;
           code-kept = b ∙ inv .code-kept;
