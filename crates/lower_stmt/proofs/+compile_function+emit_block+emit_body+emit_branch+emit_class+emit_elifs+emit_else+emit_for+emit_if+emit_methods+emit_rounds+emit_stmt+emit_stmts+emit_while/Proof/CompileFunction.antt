@@ -128,9 +128,10 @@ compile-function-ok t = compile-function-lts.spec (
         spare-at _ _ pb (frame-spare _ _ cc (omega (arith, at-collect-locals .collect-locals .kept .1 .1 .1 .1 .0))),
       ),
     ))  -- emit-body-requires
-    (λ c. let at-emit-body = c .before .before .before .before .before in at-emit-body .emit-body .kept .1 .1 .1 .1 .1 .1 .0)  -- same-length-2
+    (λ c. let at-emit-body = c .before .before .before .before .before in at-emit-body .emit-body .kept .1 .1 .1 .1 .1 .1 .1 .0)  -- same-length-2
     (λ c. let at-emit-body = c .before .before .before .before .before in
-    let at-begin-named = at-emit-body .before .before .before .before .before .before .before .before .before .before in at-emit-body .emit-body .kept .1 .1 .1 .1 .1 .1 .1 .0 ∙ at-begin-named .begin-named .kept .1 .1 .0)  -- same-length-3
+    let at-begin-named = at-emit-body .before .before .before .before .before .before .before .before .before .before in
+    at-emit-body .emit-body .kept .1 .1 .1 .1 .1 .1 .1 .1 .0 ∙ at-begin-named .begin-named .kept .1 .1 .0)  -- same-length-3
     (λ c. let at-if2 = c in let at-emit-body = at-if2 .before .before .before .before .before in let at-if1 = at-emit-body .before .before .before .before .before .before .before in
     let at-begin-named = at-if1 .before .before .before in let at-collected = at-begin-named .before .before .before .before .before .before in
     let at-collect-locals = at-collected .before .before .before in let at-skip-params = at-collect-locals .before .before in let at-u16-at = at-skip-params .before in
@@ -159,10 +160,10 @@ compile-function-ok t = compile-function-lts.spec (
       function-few (start .args .depth) (start .args .init) (sound-sole (start .pre .1 .0)) ea en (at-begin-named .begin-named .ensures) (at-if1 .if1 .left) nm ek b (at-if2 .if2 .left),
     ))  -- end-function-requires
     (λ c. let at-end-function = c .before .before .before .before in
-    let at-emit-body = at-end-function .before .before .before .before .before .before .before .before .before in at-end-function .end-function .kept .0 ∙ at-emit-body .emit-body .kept .1 .1 .1 .1 .1 .1 .0)  -- same-length-4
+    let at-emit-body = at-end-function .before .before .before .before .before .before .before .before .before in at-end-function .end-function .kept .0 ∙ at-emit-body .emit-body .kept .1 .1 .1 .1 .1 .1 .1 .0)  -- same-length-4
     (λ c. let at-end-function = c .before .before .before .before in let at-emit-body = at-end-function .before .before .before .before .before .before .before .before .before in
     let at-begin-named = at-emit-body .before .before .before .before .before .before .before .before .before .before in
-    at-end-function .end-function .kept .1 .0 ∙ at-emit-body .emit-body .kept .1 .1 .1 .1 .1 .1 .1 .0 ∙ at-begin-named .begin-named .kept .1 .1 .0)  -- same-length-5
+    at-end-function .end-function .kept .1 .0 ∙ at-emit-body .emit-body .kept .1 .1 .1 .1 .1 .1 .1 .1 .0 ∙ at-begin-named .begin-named .kept .1 .1 .0)  -- same-length-5
     (λ c. let at-end-function = c .before .before .before .before in let at-if2 = at-end-function .before .before .before .before in
     let at-emit-body = at-if2 .before .before .before .before .before in let at-if1 = at-emit-body .before .before .before .before .before .before .before in
     let at-begin-named = at-if1 .before .before .before in let at-collected = at-begin-named .before .before .before .before .before .before in
