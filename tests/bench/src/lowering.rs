@@ -89,6 +89,12 @@ fn pairs(names: usize) -> Vec<u8> {
     make::tree(&[make::def("f", &[], &body)])
 }
 
+/// A def of so many loops, one after the other.
+fn loops(count: usize) -> Vec<u8> {
+    let one = make::for_("i", make::var("r"), &[]);
+    make::tree(&[make::def("f", &["r"], &make::times(count, &one))])
+}
+
 /// A list of so many None, unpacked to no names.
 fn nones(count: usize) -> Vec<u8> {
     let list = make::list(&make::times(count, &make::none()));
@@ -124,6 +130,7 @@ fn cases() -> Vec<(&'static str, Vec<u8>)> {
         ("a def of 1,600 assignments to 16 names", assignments(16)),
         ("a def of 1,600 assignments to 250 names", assignments(250)),
         ("a def of 1,000 pairs unpacked to 250 names", pairs(250)),
+        ("a def of 250 loops", loops(250)),
         ("a list of 8,190 None", nones(8_190)),
         ("1,024 symbols", symbols(1_023)),
         ("255 defs, 3,100 calls of the last", calls_of_the_last()),
