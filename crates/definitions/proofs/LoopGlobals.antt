@@ -67,7 +67,7 @@ found-last (y ∷ xs) x = found-last xs x
 found-up : {xs ys : List Name} (k : ℕ) (x : Name) → Grown xs ys → getElem? xs k ≡ some x → getElem? ys k ≡ some x
 found-up {xs} k x G e = rw (G .is) (found-front xs (G .new) k x e)
 
-found-at : (x : Name) (xs : List Name) (k : ℕ) → position (same x) xs ≡ some k → getElem? xs k ≡ some x
+pub found-at : (x : Name) (xs : List Name) (k : ℕ) → position (same x) xs ≡ some k → getElem? xs k ≡ some x
 unfolding position
 found-at x [] k e = let z : _≡_ {A = ℕ} 0 1 = cc in absurd (omega arith)
 found-at x (y ∷ xs) k e = go (same x y) refl (position (same x) xs) (found-at x xs) k e

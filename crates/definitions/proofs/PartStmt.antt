@@ -89,7 +89,7 @@ leaf-askIter : (g : Keeper) → Leaf (askIter g)
 unfolding askIter flow
 leaf-askIter g = leaf-seq (leaf-one (plain-load g)) (leaf-symbol _ (λ k. leaf-one (num refl refl refl)))
 
-leaf-takeIter : (slots : List Name) (x : Name) (g : Keeper) → Leaf (takeIter slots x g)
+pub leaf-takeIter : (slots : List Name) (x : Name) (g : Keeper) → Leaf (takeIter slots x g)
 unfolding takeIter flow
 leaf-takeIter slots x g = leaf-seq (leaf-one (plain-load g)) (leaf-seq (leaf-symbol _ (λ k. leaf-one (num refl refl refl))) (leaf-store slots x))
 
@@ -148,7 +148,7 @@ unfolding emits
 part-continue k = record { at = λ p t. record { code = cont; ok = k; emitted = refl; walks = refl }; grows = λ p t. grow-none }
 
 -- a block, past whose end an end jump before it goes
-record BlockPart (l : Bool) (slots : List Name) (keep : Keeping) (b : Block) : Type 0 where
+pub record BlockPart (l : Bool) (slots : List Name) (keep : Keeping) (b : Block) : Type 0 where
   at : (p : ℕ) (t : Tables) → (C : Meaning l (emitBlock slots keep b p t .code) (walkBlock slots keep b p t)) × (hop (C .code) ≡ size (C .code))
   grows : (p : ℕ) (t : Tables) → Grown (emitBlock slots keep b) p t
 
@@ -161,7 +161,7 @@ record BranchPart (l : Bool) (slots : List Name) (keep : Keeping) (r : Branches)
 record MethodPart (m : Methods) : Type 0 where
   grows : (ms : List Method) (t : Tables) → Grows (t .functions) (emitMethods m ms t .tables .functions) (emitMethods m ms t .sources)
 
-part-block : {l : Bool} {slots : List Name} {keep : Keeping} {b : Block} → BlockPart l slots keep b → Part l (emitBlock slots keep b) (walkBlock slots keep b)
+pub part-block : {l : Bool} {slots : List Name} {keep : Keeping} {b : Block} → BlockPart l slots keep b → Part l (emitBlock slots keep b) (walkBlock slots keep b)
 part-block B = record { at = λ p t. B .at p t .0; grows = B .grows }
 
 block-nil : {l : Bool} (slots : List Name) (keep : Keeping) → BlockPart l slots keep []ᵇ
@@ -225,7 +225,7 @@ leaf-class slots keep x m vs M = record { at = λ p t. leaf-endClass x _ _ .at p
 mutual
   unfolding emitStmt walkStmt emitMethods flow
 
-  part-stmt : (l : Bool) (slots : List Name) (keep : Keeping) (a : Stmt) → OkS l a → Part l (emitStmt slots keep a) (walkStmt slots keep a)
+  pub part-stmt : (l : Bool) (slots : List Name) (keep : Keeping) (a : Stmt) → OkS l a → Part l (emitStmt slots keep a) (walkStmt slots keep a)
   part-stmt l slots keep break k = part-break k
   part-stmt l slots keep continue k = part-continue k
   part-stmt l slots keep pass k = part-adds (leaf-emits none)
@@ -248,7 +248,7 @@ mutual
       (function-silent x (length ps) (withLoops ps b) (blockBody b (Return ∷ [])) _)
   part-stmt l slots keep (class x ms vs) k = part-adds (leaf-class slots keep x ms vs (part-methods ms k))
 
-  part-blocks : (l : Bool) (slots : List Name) (keep : Keeping) (b : Block) → OkB l b → BlockPart l slots keep b
+  pub part-blocks : (l : Bool) (slots : List Name) (keep : Keeping) (b : Block) → OkB l b → BlockPart l slots keep b
   part-blocks l slots keep []ᵇ k = block-nil slots keep
   part-blocks l slots keep (a ∷ᵇ b) k = block-cons keep a b (part-stmt l slots keep a (k .0)) (part-blocks l slots (past (loopsStmt a) keep) b (k .1))
 

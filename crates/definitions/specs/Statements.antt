@@ -15,13 +15,13 @@ use Rattle.definitions.specs.Tree.{BinaryOp, addOp, subtractOp, multiply
 use Rattle.definitions.specs.Tree.{binaryNumber, UnaryOp, LogicalOp, Display, Expr, lit, var, unary, binary, logical, call, attr, display, index, lambda, Exprs, []ᵉ, _∷ᵉ_}
 use Rattle.definitions.specs.Tree.{Stmt, break, continue, pass, expr, return, assign, if, while, for, def, class, Block, []ᵇ, _∷ᵇ_, Branches, done, else, when, Methods, Attribute}
 use Rattle.definitions.specs.Parse.{binaryKinds, blockOf, parseStmt}
-use Rattle.definitions.specs.Wellformed.{isName, isTuple, isIterator, distinct, askBlock}
+use Rattle.definitions.specs.Wellformed.{isName, isTuple, isIterator, distinct, askExpr, askExprs, askStmt, askBlock, askBranches, askMethods}
 use Rattle.definitions.specs.TreeNames.{namesBlock}
-use Rattle.definitions.specs.Slots.{add, localsBlock, captures, loopsBlock}
+use Rattle.definitions.specs.Slots.{add, localsBlock, captures, loopsBlock, Keeping, Frame}
 use Rattle.definitions.specs.Instruction.{Numbers, nothing, aString, aConstant, aSlot, aSymbol, aFunction, aBuiltin, numbersOf}
 use Rattle.definitions.specs.Instruction.{Instr, LoadLocal, StoreLocal, StoreGlobal, Return, Row, rowOf, binaryCode, encode, encodes}
-use Rattle.definitions.specs.Tables.{Function, Tables, Body, blockBody, exprBody, Source}
-use Rattle.definitions.specs.Lower.{iterName, noTables, compile, emitBody}
+use Rattle.definitions.specs.Tables.{Function, Method, Tables, Body, blockBody, exprBody, Source, Out, Emit, _⨟_, intern, begin}
+use Rattle.definitions.specs.Lower.{emitExpr, emitExprs, emitTarget, unpack, patch, iterName, beginClass, emitStmt, emitBlock, emitBranches, emitMethods, noTables, compile, emitBody}
 use Rattle.definitions.specs.Bodies.{bodies}
 use Rattle.definitions.specs.Module.{Limits, office, console, limitsBy, moduleBytes, codeStart, instructions, slotsFit, tablesFit, lowerBlock, lowerTables, lowerBytes}
 use Rattle.definitions.specs.Reader.{moduleRecord, numbersExist, codeStands, readModule}
@@ -29,9 +29,11 @@ use Rattle.definitions.specs.Listing.{firstText, secondText, nameText, c
 use Rattle.definitions.specs.Sheet.{anyOp, isQuestion, isCall, tally, allCode, countLine, sheet}
 use Rattle.definitions.specs.Run.{Ran, run, Flow, straight, jump, returns, question, flow}
 use Rattle.definitions.specs.Walk.{Walked, endingNumber, walk}
-use Rattle.definitions.specs.Calls.{areasFit, areAnswers, lowerAnswer, readCall, Part, partOf, codeCall, textAnswer, runAnswer, walkTree}
+use Rattle.definitions.specs.Calls.{areasFit, areAnswers, lowerAnswer, lowerCall, readCall, Part, partOf, codeCall, textAnswer, runAnswer, walkTree}
 use Rattle.definitions.specs.Reach.{placesMet, Reachable, Brings, Nowhere, wideArea, sought, Finds}
 use Rattle.definitions.specs.Search.{Rule, Swept}
+use Rattle.definitions.specs.Measured.{SoFar, soFar, measureExpr, measureExprs, measureTarget, measureUnpack, measureStmt, measureBlock, measureBranches, measureHop}
+use Rattle.definitions.specs.Measured.{Loop, writeExpr, writeExprs, writeStmt, writeBlock, writeBranches, writeMethods, compileMeasured, measuredCall}
 use Rattle.definitions.specs.Samples.{samples, holds}
 
 -- ---- the starred samples: proofs/Samples
@@ -734,3 +736,112 @@ pub record SheetFits (t : Tables) : Type 0 where
 
 abbrev pub SheetLength : Type 0
 SheetLength = (m : List ℕ) (t : Tables) → areBytes m ≡ true → readModule m ≡ accepted t → SheetFits t
+
+-- ---- the measured lowering: proofs/Measured
+
+-- each function's name is a symbol
+unfoldable pub hasNames : Tables → Bool
+hasNames t = all (λ (f : Function). ltb (f .symbol) (length (t .symbols))) (t .functions)
+
+-- So it is where a lowering begins, where a function's body and where a class's methods begin, and after every part: at every place of a lowering
+pub record NamesStand : Type 0 where
+  pub begins : hasNames noTables ≡ true
+  pub body :
+      (x : Name) (arity : ℕ) (frame : Frame) (p : ℕ) (t : Tables) → hasNames t ≡ true
+      → intern x (λ k q u. hasNames (begin k arity frame u)) p t ≡ true
+  pub members : (x : Name) (t : Tables) → hasNames t ≡ true → hasNames (beginClass x t) ≡ true
+  pub expression : (slots : List Name) (e : Expr) (p : ℕ) (t : Tables) → askExpr 7 e ≡ true → hasNames t ≡ true → hasNames (emitExpr slots e p t .tables) ≡ true
+  pub statement :
+      (l : Bool) (slots : List Name) (keep : Keeping) (a : Stmt) (p : ℕ) (t : Tables) → askStmt 7 l a ≡ true → hasNames t ≡ true
+      → hasNames (emitStmt slots keep a p t .tables) ≡ true
+
+-- a part has so many instructions, wherever it stands and whatever was lowered before it
+abbrev pub HasMeasure : (SoFar → ℕ) → Emit → Type 0
+HasMeasure n e = (p : ℕ) (t : Tables) → hasNames t ≡ true → length (e p t .code) ≡ n (soFar t)
+
+-- each measure is the number of instructions that the part gives where it stands; and an end jump goes as far as was measured
+pub record Measures : Type 0 where
+  pub expression : (slots : List Name) (e : Expr) → askExpr 7 e ≡ true → HasMeasure (λ k. measureExpr slots k e) (emitExpr slots e)
+  pub expressions : (slots : List Name) (es : Exprs) → askExprs 7 es ≡ true → HasMeasure (λ k. measureExprs slots k es) (emitExprs slots es)
+  pub target : (slots : List Name) (e : Expr) → HasMeasure (λ k. measureTarget e) (emitTarget slots e)
+  pub elements : (slots : List Name) (es : Exprs) (i : ℕ) → HasMeasure (λ k. measureUnpack es i) (unpack slots es i)
+  pub statement : (l : Bool) (slots : List Name) (keep : Keeping) (a : Stmt) → askStmt 7 l a ≡ true → HasMeasure (λ k. measureStmt slots k a) (emitStmt slots keep a)
+  pub block : (l : Bool) (slots : List Name) (keep : Keeping) (b : Block) → askBlock 7 l b ≡ true → HasMeasure (λ k. measureBlock slots k b) (emitBlock slots keep b)
+  pub branches :
+      (l : Bool) (slots : List Name) (keep : Keeping) (r : Branches) → askBranches 7 l r ≡ true → HasMeasure (λ k. measureBranches slots k r) (λ p t. emitBranches slots keep r p t .out)
+  pub hop :
+      (l : Bool) (slots : List Name) (keep : Keeping) (r : Branches) → askBranches 7 l r ≡ true
+      → (p : ℕ) (t : Tables) → hasNames t ≡ true → emitBranches slots keep r p t .hop ≡ measureHop slots (soFar t) r
+
+-- w writes what e emits, wherever it stands: code, tables and sources
+abbrev pub WritesAs : Emit → Emit → Type 0
+WritesAs w e = (p : ℕ) (t : Tables) → hasNames t ≡ true → w p t ≡ e p t
+
+-- each part is written as it is emitted; a statement, if no loop is around it
+pub record WritesParts : Type 0 where
+  pub expression : (slots : List Name) (e : Expr) → askExpr 7 e ≡ true → WritesAs (writeExpr slots e) (emitExpr slots e)
+  pub expressions : (slots : List Name) (es : Exprs) → askExprs 7 es ≡ true → WritesAs (writeExprs slots es) (emitExprs slots es)
+  pub statement :
+      (slots : List Name) (keep : Keeping) (v : Loop) (a : Stmt) → askStmt 7 false a ≡ true → askStmt 9 false a ≡ true → WritesAs (writeStmt slots keep v a) (emitStmt slots keep a)
+  pub block :
+      (slots : List Name) (keep : Keeping) (v : Loop) (b : Block) → askBlock 7 false b ≡ true → askBlock 9 false b ≡ true → WritesAs (writeBlock slots keep v b) (emitBlock slots keep b)
+  pub branches :
+      (slots : List Name) (keep : Keeping) (v : Loop) (r : Branches) → askBranches 7 false r ≡ true → askBranches 9 false r ≡ true
+      → WritesAs (writeBranches slots keep v r) (λ p t. emitBranches slots keep r p t .out)
+  pub methods :
+      (m : Methods) → askMethods 7 m ≡ true → askMethods 9 m ≡ true
+      → (ms : List Method) (t : Tables) → hasNames t ≡ true → writeMethods m ms t ≡ emitMethods m ms t
+
+-- The part of m instructions at place p is at index i of the inside of the loop v; the inside has n instructions, and h of the loop stand before it
+pub record LiesIn (v : Loop) (h n i p m : ℕ) : Type 0 where
+  pub place : p ≡ v .start + (h + i)
+  pub end : v .end ≡ v .start + suc (h + n)
+  pub fits : i + m ≤ n
+
+-- a part once the loop around it is patched
+abbrev pub patchOut : ℕ → ℕ → ℕ → Out → Out
+patchOut h n i o = record { code = patch h n i (o .code); tables = o .tables; sources = o .sources }
+
+abbrev pub WritesPatched : (Loop → Emit) → Emit → Type 0
+WritesPatched w e =
+    (v : Loop) (h n i p : ℕ) (t : Tables) → hasNames t ≡ true → LiesIn v h n i p (length (e p t .code)) → w v p t ≡ patchOut h n i (e p t)
+
+-- in a loop each part is written at once as the loop's end leaves what was emitted for it
+pub record WritesInLoop : Type 0 where
+  pub statement : (slots : List Name) (keep : Keeping) (a : Stmt) → askStmt 7 true a ≡ true → askStmt 9 true a ≡ true → WritesPatched (λ v. writeStmt slots keep v a) (emitStmt slots keep a)
+  pub block : (slots : List Name) (keep : Keeping) (b : Block) → askBlock 7 true b ≡ true → askBlock 9 true b ≡ true → WritesPatched (λ v. writeBlock slots keep v b) (emitBlock slots keep b)
+  pub branches :
+      (slots : List Name) (keep : Keeping) (r : Branches) → askBranches 7 true r ≡ true → askBranches 9 true r ≡ true
+      → WritesPatched (λ v. writeBranches slots keep v r) (λ p t. emitBranches slots keep r p t .out)
+
+-- so what is written has as many instructions as were measured
+pub record WritesMeasured : Type 0 where
+  pub expression : (slots : List Name) (e : Expr) → askExpr 7 e ≡ true → HasMeasure (λ k. measureExpr slots k e) (writeExpr slots e)
+  pub statement :
+      (slots : List Name) (keep : Keeping) (v : Loop) (a : Stmt) → askStmt 7 false a ≡ true → askStmt 9 false a ≡ true → HasMeasure (λ k. measureStmt slots k a) (writeStmt slots keep v a)
+  pub inLoop :
+      (slots : List Name) (keep : Keeping) (a : Stmt) (v : Loop) (h n i p : ℕ) (t : Tables) → askStmt 7 true a ≡ true → askStmt 9 true a ≡ true → hasNames t ≡ true
+      → LiesIn v h n i p (length (emitStmt slots keep a p t .code)) → length (writeStmt slots keep v a p t .code) ≡ measureStmt slots (soFar t) a
+
+-- the functions that have begun keep their places and what code they have; new ones come after them
+abbrev pub KeepsFunctions : Out → Tables → Type 0
+KeepsFunctions o t = (new : List Function) × (o .tables .functions ≡ t .functions ++ new)
+
+-- what writes a part leaves all code written before it unchanged; in its own function the part's code comes after what is there
+pub record LeavesBefore : Type 0 where
+  pub expression : (slots : List Name) (e : Expr) (p : ℕ) (t : Tables) → askExpr 7 e ≡ true → hasNames t ≡ true → KeepsFunctions (writeExpr slots e p t) t
+  pub statement :
+      (slots : List Name) (keep : Keeping) (v : Loop) (a : Stmt) (p : ℕ) (t : Tables) → askStmt 7 false a ≡ true → askStmt 9 false a ≡ true → hasNames t ≡ true
+      → KeepsFunctions (writeStmt slots keep v a p t) t
+  pub inLoop :
+      (slots : List Name) (keep : Keeping) (a : Stmt) (v : Loop) (h n i p : ℕ) (t : Tables) → askStmt 7 true a ≡ true → askStmt 9 true a ≡ true → hasNames t ≡ true
+      → LiesIn v h n i p (length (emitStmt slots keep a p t .code)) → KeepsFunctions (writeStmt slots keep v a p t) t
+  pub code : (w v : Emit) (p : ℕ) (t : Tables) → (more : List Instr) × ((w ⨟ v) p t .code ≡ w p t .code ++ more)
+
+-- the whole tree: code, tables and sources
+abbrev pub CompilesAlike : Type 0
+CompilesAlike = (b : Block) → askBlock 7 false b ≡ true → askBlock 9 false b ≡ true → compileMeasured b ≡ compile b
+
+-- the measured lowering answers and leaves what the lowering does, on every input and for every set of limits
+abbrev pub MeasuredAgrees : Type 0
+MeasuredAgrees = (l : Limits) (tree area₁ area₂ output : List ℕ) → measuredCall l tree area₁ area₂ output ≡ lowerCall l tree area₁ area₂ output

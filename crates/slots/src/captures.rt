@@ -222,7 +222,7 @@ fn refs_lambda(
 }
 
 // The captures of a lambda, by its parameters and its body.
-pub(crate) fn collect_free_vars(
+pub fn collect_free_vars(
     tree: &[u8],
     params: usize,
     body: usize,
