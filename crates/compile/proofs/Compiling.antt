@@ -159,7 +159,8 @@ module _ {tree made₁ tables₁ k₁ l code : List ℕ} {f : ℕ} (B : BeginsMa
 
         pub tree-done : {code₃ tables₃ k₃ : List ℕ} → Ended code₂ code₃ tables₂ tables₃ k₂ k₃ f 0 → CompilesTree r tree made₂ code₃ tables₃ k₃ l (compile b .tables)
         tree-done {code₃} {tables₃} {k₃} x =
-            let empty = main-empty tree made₁ code tables₁ (limitsIn l) (numbered f k₁) b (B .begins code room) f (countsOf k₁) (numbered-at f k₁ z) made₂ code₂ tables₂ next (answered r k₂) (g .emits) r (countsOf k₂) (answered-done r k₂ y) in
+            let empty = main-empty tree made₁ code tables₁ (limitsIn l) (numbered f k₁) b (B .begins code room) f (countsOf k₁) (numbered-at f k₁ z) made₂ code₂ tables₂ next (answered r k₂) (g .emits) r
+            (countsOf k₂) (answered-done r k₂ y) in
             record {
               compiles = subst (λ (u : Emitted). Compiles u tree made₂ code₃ tables₃ (limitsIn l) (compile b .tables)) (sym (answered-done r k₃ y))
                   (compile-done tree made₁ code tables₁ (limitsIn l) (numbered f k₁) b (B .begins code room) f (countsOf k₁) (numbered-at f k₁ z) made₂ code₂ tables₂ next (answered r k₂) (g .emits) r (countsOf k₂) (answered-done r k₂ y)

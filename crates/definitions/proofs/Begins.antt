@@ -1,25 +1,17 @@
 -- A reader takes a beginning of its bytes: what it leaves is a rest of them, and what it reads does not depend on that rest.
-use Prim.Native.Nat.{ℕ, zero, suc, _+_, _*_, _-_, _^_, _<_, _≤_}
+use Prim.Native.Nat.{ℕ, zero, suc, _+_, _*_, _^_, _<_, _≤_}
 use mathlib.Core.Path.{_≡_, refl, sym, ap, _∙_}
 use mathlib.Core.Bool.{Bool, true, false}
 use mathlib.Core.List.{List, [], _∷_, _++_, append-assoc}
-use mathlib.Core.Logic.{_⊎_, inl, inr}
 use native.Mathlib.Omega.{arith}
 use lib.Dec.{leb}
-use lib.ListN.{length, take, drop, length-drop}
-use lib.Seq.{drop-drop, take-add}
-use borrow.Author.Tests.{leb-true, leb-false}
+use lib.ListN.{length, take, drop, length-drop, getD, drop-of-length-le}
+use lib.Seq.{drop-drop, take-add, drop-cons}
 use Rattle.definitions.specs.Bytes.{Parsed, got, failed, Parser, _>>=_, give, unread, byte, field, counted, listOf, name, text, keep, checked}
 use Rattle.definitions.specs.Instruction.{instr, firstWidth, secondWidth}
 use Rattle.definitions.specs.Wellformed.{isName}
 use Rattle.definitions.specs.Reader.{instruction, functionRecord, methodRecord, rising, classRecord}
-
-pub le-or-gt : (a b : ℕ) → (a ≤ b) ⊎ (b < a)
-le-or-gt a b = go (leb a b) refl
-  where
-    go : (x : Bool) → leb a b ≡ x → (a ≤ b) ⊎ (b < a)
-    go true e = inl (leb-true a b e)
-    go false e = inr (leb-false a b e)
+use native.Mathlib.Numerals.{add-one}
 
 -- what was read leaves a rest of the bytes, and does not depend on that rest
 abbrev pub Rest : {A : Type 0} → Parser A → List ℕ → Parsed A → Type 0
@@ -122,3 +114,9 @@ pub takes-class : Takes classRecord
 unfolding classRecord
 takes-class = takes-bind (checked isName name) _ (takes-checked isName name takes-name)
     (λ x. takes-bind (checked rising (listOf 2 methodRecord)) _ (takes-checked rising (listOf 2 methodRecord) (takes-list 2 methodRecord takes-method)) (λ ms. takes-give (record { name = x; methods = ms })))
+
+pub at-end : (t : List ℕ) (p : ℕ) → length t ≤ p → drop p t ≡ []
+at-end t p h = drop-of-length-le t h
+
+pub at-byte : (t : List ℕ) (p : ℕ) → p < length t → drop p t ≡ getD t p 0 ∷ drop (p + 1) t
+at-byte t p h = drop-cons t p 0 h ∙ ap (λ (k : ℕ). getD t p 0 ∷ drop k t) (sym (add-one p))

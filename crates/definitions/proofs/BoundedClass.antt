@@ -111,7 +111,14 @@ begin-trim : (x : Name) (t : Tables) → isName x ≡ true → Trim t → Trim (
 unfolding beginClass rising
 begin-trim x t h T =
     let z = begin-longer x t .sizes in
-    record { symbols = T .symbols; strings = T .strings; functions = tight-up z (T .functions); classes = every-append (ordered-up z (T .classes)) (every (record { named = h; methods = noEvery; rises = refl }) noEvery); constants = constants-up z (T .constants) }
+    record {
+      symbols = T .symbols;
+      strings = T .strings;
+      functions = tight-up z (T .functions);
+      classes = every-append (ordered-up z (T .classes))
+          (every (record { named = h; methods = noEvery; rises = refl }) noEvery);
+      constants = constants-up z (T .constants);
+    }
 
 begin-weight : (x : Name) (t : Tables) → burden (beginClass x t) ≡ burden t
 unfolding beginClass

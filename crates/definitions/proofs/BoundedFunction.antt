@@ -14,7 +14,7 @@ use Rattle.definitions.proofs.Functions.{setCode-seam}
 use Rattle.definitions.proofs.Every.{Every, noEvery, every, every-append, every-mid, every-put, length-put, length-snoc}
 use Rattle.definitions.proofs.Resolve.{position-lt}
 use Rattle.definitions.proofs.Names.{Short}
-use Rattle.definitions.proofs.Bounds.{Lean, Small, Tight, Trim, bare}
+use Rattle.definitions.proofs.Bounds.{Lean, Small, Tight, Trim}
 use Rattle.definitions.proofs.LongerTables.{Longer, Sizes, longer-more, small-down, code-up, tight-up, ordered-up, constants-up}
 use Rattle.definitions.proofs.BoundedPart.{Fits, Kept, Step}
 use Rattle.definitions.proofs.BoundedNames.{symbol-longer, symbol-trim}
@@ -123,11 +123,13 @@ module _ {n : ℕ} {b : Tables} (k arity : ℕ) (few : arity ≤ 255) (frame : F
         number = omega (arith, ap length after, length-append (t .functions) (made ∷ added));
       }
 
-pub function-in : {n s : ℕ} {b : Tables} {e : Emit} (x : Name) (arity : ℕ) (frame : Frame) (body : Body) (p : ℕ) (t : Tables) → Longer b t → (length (t .functions) ≤ 256 → Short x) → arity ≤ 255 → Fits n (frame .locals) b e → Enclosed n s p t frame (function x arity frame body e p t)
+pub function-in : {n s : ℕ} {b : Tables} {e : Emit} (x : Name) (arity : ℕ) (frame : Frame) (body : Body) (p : ℕ) (t : Tables) → Longer b t → (length (t .functions) ≤ 256 → Short x) → arity ≤ 255
+    → Fits n (frame .locals) b e → Enclosed n s p t frame (function x arity frame body e p t)
 unfolding function intern
 function-in {n} {s} {e} x arity frame body p t u h few E = go (position (same x) (t .symbols)) (position-lt (same x) (t .symbols))
   where
-    go : (o : Option ℕ) → ((j : ℕ) → o ≡ some j → j < length (t .symbols)) → Enclosed n s p t frame (elim o as (λ z. Out) [ some j ↦ enclose j arity frame body e p t | none ↦ enclose (length (t .symbols)) arity frame body e p (addSymbol x t) ])
+    go : (o : Option ℕ) → ((j : ℕ) → o ≡ some j → j < length (t .symbols))
+        → Enclosed n s p t frame (elim o as (λ z. Out) [ some j ↦ enclose j arity frame body e p t | none ↦ enclose (length (t .symbols)) arity frame body e p (addSymbol x t) ])
     go (some j) l = enclosed j arity few frame body e E p t u (l j refl) s
     go none l =
         let L = symbol-longer x t in

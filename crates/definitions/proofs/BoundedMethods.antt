@@ -29,7 +29,11 @@ names-insert x k [] = omega arith
 names-insert x k (m ∷ ms) = go (same x (m .name)) (below x (m .name)) (names-insert x k ms)
   where
     go : (c d : Bool) → names (insertMethod x k ms) ≤ names ms + (3 + length x)
-        → names (elim c as (λ z. List Method) [ true ↦ record { name = x; function = k } ∷ ms | false ↦ elim d as (λ z. List Method) [ true ↦ record { name = x; function = k } ∷ m ∷ ms | false ↦ m ∷ insertMethod x k ms ] ]) ≤ (3 + length (m .name) + names ms) + (3 + length x)
+        → names (elim c as (λ z. List Method) [
+          | true ↦ record { name = x; function = k } ∷ ms
+          | false ↦ elim d as (λ z. List Method)
+              [ true ↦ record { name = x; function = k } ∷ m ∷ ms | false ↦ m ∷ insertMethod x k ms ]
+        ]) ≤ (3 + length (m .name) + names ms) + (3 + length x)
     go true d h = omega arith
     go false true h = omega arith
     go false false h = omega arith
@@ -39,7 +43,9 @@ unfolding insertMethod
 named-insert x k h noEvery = every h noEvery
 named-insert {t} x k h (every {a = m} {xs = ms} p r) = go (same x (m .name)) (below x (m .name)) (named-insert x k h r)
   where
-    go : (c d : Bool) → Every (Named t) (insertMethod x k ms) → Every (Named t) (elim c as (λ z. List Method) [ true ↦ record { name = x; function = k } ∷ ms | false ↦ elim d as (λ z. List Method) [ true ↦ record { name = x; function = k } ∷ m ∷ ms | false ↦ m ∷ insertMethod x k ms ] ])
+    go : (c d : Bool) → Every (Named t) (insertMethod x k ms)
+        → Every (Named t) (elim c as (λ z. List Method)
+        [ true ↦ record { name = x; function = k } ∷ ms | false ↦ elim d as (λ z. List Method) [ true ↦ record { name = x; function = k } ∷ m ∷ ms | false ↦ m ∷ insertMethod x k ms ] ])
     go true d i = every h r
     go false true i = every h (every p r)
     go false false i = every p i
@@ -75,7 +81,8 @@ fits-end {b} {s} x h = go (same x init) h
     go true h = fits-emits (every (single {op = 9} {a = 0} refl (omega (arith, h refl))) (every (bare refl refl) noEvery))
     go false h = fits-one (bare refl refl)
 
-pub fits-method : {i j n : ℕ} {b : Tables} (x : Name) (ps : List Name) (d : Block) (m : Methods) → isName x ≡ true → length ps ≤ 255 → askMethod 12 x ps ≡ true → 3 + length x + (i + j) ≤ n → Fits i (withLoops ps d .locals) b (emitBlock (withLoops ps d .names) (withLoops ps d .keep) d) → FitsMethods j b m → FitsMethods n b (method x ps d m)
+pub fits-method : {i j n : ℕ} {b : Tables} (x : Name) (ps : List Name) (d : Block) (m : Methods) → isName x ≡ true → length ps ≤ 255 → askMethod 12 x ps ≡ true → 3 + length x + (i + j) ≤ n
+    → Fits i (withLoops ps d .locals) b (emitBlock (withLoops ps d .names) (withLoops ps d .keep) d) → FitsMethods j b m → FitsMethods n b (method x ps d m)
 unfolding emitMethods
 fits-method x ps d m h few a k D M = record {
   at = λ ms t u.

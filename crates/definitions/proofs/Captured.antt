@@ -11,7 +11,7 @@ use Rattle.definitions.specs.Bytes.{Name, same, below, position, member,
 use Rattle.definitions.specs.Tree.{Expr, lit, var, unary, binary, logical, call, attr, display, index, lambda, Exprs, []ᵉ, _∷ᵉ_}
 use Rattle.definitions.specs.Slots.{add, within, referencedExpr, referencedExprs, insert, sort, captures}
 use Rattle.definitions.specs.Statements.{Among, first, later, PartOf, operand, leftOf, rightOf, leftLogical, rightLogical, callee, argument, objectOf, element, indexed, indexOf, Occurs, here, inPart, inLambda, Captures, Captured}
-use Rattle.definitions.proofs.Truth.{left, right, is-true}
+use Rattle.definitions.proofs.Truth.{left, right, is-true, or-false, and-false}
 use Rattle.definitions.proofs.MethodOrder.{same-eq}
 
 -- ---- Booleans
@@ -20,18 +20,10 @@ pub or-assoc : (a b c : Bool) → ((a || b) || c) ≡ (a || (b || c))
 or-assoc true b c = refl
 or-assoc false b c = refl
 
-pub or-false : (a : Bool) → (a || false) ≡ a
-or-false true = refl
-or-false false = refl
-
 pub or-swap : (a b c : Bool) → (a || (b || c)) ≡ (b || (a || c))
 or-swap true true c = refl
 or-swap true false c = refl
 or-swap false b c = refl
-
-pub and-false : (a : Bool) → (a && false) ≡ false
-and-false true = refl
-and-false false = refl
 
 -- ---- names in lists
 

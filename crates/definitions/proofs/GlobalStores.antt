@@ -37,7 +37,7 @@ use Rattle.definitions.proofs.Demand3.{sources}
 -- ---- symbols
 
 -- what is at a place stays there
-at-more : (xs new : List Name) (k : ℕ) (x : Name) → getElem? xs k ≡ some x → getElem? (xs ++ new) k ≡ some x
+pub at-more : (xs new : List Name) (k : ℕ) (x : Name) → getElem? xs k ≡ some x → getElem? (xs ++ new) k ≡ some x
 at-more [] new k x e = let z : _≡_ {A = ℕ} 0 1 = cc in absurd (omega arith)
 at-more (y ∷ xs) new zero x e = e
 at-more (y ∷ xs) new (suc k) x e = at-more xs new k x e
@@ -46,7 +46,7 @@ at-end : (xs : List Name) (x : Name) → getElem? (xs ++ x ∷ []) (length xs) �
 at-end [] x = refl
 at-end (y ∷ xs) x = at-end xs x
 
-at-position : (x : Name) (xs : List Name) (k : ℕ) → position (same x) xs ≡ some k → getElem? xs k ≡ some x
+pub at-position : (x : Name) (xs : List Name) (k : ℕ) → position (same x) xs ≡ some k → getElem? xs k ≡ some x
 unfolding position
 at-position x [] k e = let z : _≡_ {A = ℕ} 0 1 = cc in absurd (omega arith)
 at-position x (y ∷ xs) k e = go (same x y) refl (position (same x) xs) (at-position x xs) k e

@@ -1,17 +1,18 @@
 -- A read takes as many bytes as what was read is written in.
-use Prim.Native.Nat.{ℕ, zero, suc, _+_, _*_, _^_}
-use mathlib.Core.Path.{_≡_, refl, sym, ap, _∙_}
+use Prim.Native.Nat.{ℕ, zero, suc, _+_}
+use mathlib.Core.Path.{_≡_, refl, ap, _∙_}
 use mathlib.Core.Bool.{Bool, true, false}
 use mathlib.Core.List.{List, [], _∷_, _++_}
 use native.Mathlib.Omega.{arith}
 use lib.Dec.{leb}
 use lib.ListN.{length, length-append}
-use Rattle.definitions.specs.Bytes.{Name, Text, Parsed, got, failed, Parser, _>>=_, give, unread, byte, field, counted, listOf, name, text, keep, checked, be, concat, listBytes}
+use Rattle.definitions.specs.Bytes.{Parsed, got, failed, Parser, _>>=_, give, unread, byte, field, counted, listOf, name, text, keep, checked, be, concat, listBytes}
 use Rattle.definitions.specs.Instruction.{Instr, firstWidth, secondWidth, encode, encodes}
 use Rattle.definitions.specs.Tables.{Function}
 use Rattle.definitions.specs.Module.{nameBytes, textBytes, functionBytes}
 use Rattle.definitions.specs.Reader.{instruction, functionRecord}
 use Rattle.definitions.proofs.BytesWritten.{length-be}
+use Rattle.definitions.proofs.Writes.{one, concat-one}
 
 -- with k bytes taken before, a value a is n a bytes in all
 pub record Spans {A : Type 0} (k : ℕ) (n : A → ℕ) (p : Parser A) : Type 0 where
@@ -60,17 +61,9 @@ spans-list w f p sp = spans-bind 0 (λ v. w) _ (field w) _ (spans-field w) (λ n
     more : (n : ℕ) (bs : List ℕ) (xs : List _) (rest : List ℕ) → counted [] _∷_ p n bs ≡ got xs rest → 0 + w + length bs ≡ length (be w (length xs) ++ concat f xs) + length rest
     more n bs xs rest h = let x = spans-counted f p sp n .at bs xs rest h in let l = length-append (be w (length xs)) (concat f xs) in let m = length-be w (length xs) in omega arith
 
-one : ℕ → List ℕ
-one b = b ∷ []
-
-ones : (xs : List ℕ) → concat one xs ≡ xs
-unfolding concat one
-ones [] = refl
-ones (x ∷ xs) = ap (λ (ys : List ℕ). x ∷ ys) (ones xs)
-
 spans-bytes : (w : ℕ) → Spans 0 (λ xs. length (be w (length xs) ++ xs)) (listOf w byte)
-unfolding listBytes one
-spans-bytes w = record { at = λ bs xs rest h. spans-list w one byte spans-byte .at bs xs rest h ∙ ap (λ (ys : List ℕ). length (be w (length xs) ++ ys) + length rest) (ones xs) }
+unfolding listBytes
+spans-bytes w = record { at = λ bs xs rest h. spans-list w one byte spans-byte .at bs xs rest h ∙ ap (λ (ys : List ℕ). length (be w (length xs) ++ ys) + length rest) (concat-one xs) }
 
 pub spans-name : Spans 0 (λ x. length (nameBytes x)) name
 unfolding name nameBytes

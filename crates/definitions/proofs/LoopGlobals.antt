@@ -36,6 +36,7 @@ use Rattle.definitions.proofs.BoundedVariables.{Held, held-captures}
 use Rattle.definitions.proofs.Accepted.{accepted-gives}
 use Rattle.definitions.proofs.Iterators.{iterators}
 use Rattle.definitions.proofs.TreeNames.{treeNames}
+use Rattle.definitions.proofs.GlobalStores.{at-more, at-position}
 
 -- ---- names in tables that grow
 
@@ -55,29 +56,12 @@ grown-more {xs} A B = record {
   is = B .is ∙ ap (λ (z : List Name). z ++ B .new) (A .is) ∙ append-assoc xs (A .new) (B .new);
 }
 
-found-front : (xs ys : List Name) (k : ℕ) (x : Name) → getElem? xs k ≡ some x → getElem? (xs ++ ys) k ≡ some x
-found-front [] ys k x e = let z : _≡_ {A = ℕ} 0 1 = cc in absurd (omega arith)
-found-front (y ∷ xs) ys zero x e = e
-found-front (y ∷ xs) ys (suc k) x e = found-front xs ys k x e
-
 found-last : (xs : List Name) (x : Name) → getElem? (xs ++ (x ∷ [])) (length xs) ≡ some x
 found-last [] x = refl
 found-last (y ∷ xs) x = found-last xs x
 
 found-up : {xs ys : List Name} (k : ℕ) (x : Name) → Grown xs ys → getElem? xs k ≡ some x → getElem? ys k ≡ some x
-found-up {xs} k x G e = rw (G .is) (found-front xs (G .new) k x e)
-
-found-at : (x : Name) (xs : List Name) (k : ℕ) → position (same x) xs ≡ some k → getElem? xs k ≡ some x
-unfolding position
-found-at x [] k e = let z : _≡_ {A = ℕ} 0 1 = cc in absurd (omega arith)
-found-at x (y ∷ xs) k e = go (same x y) refl (position (same x) xs) (found-at x xs) k e
-  where
-    go : (c : Bool) → same x y ≡ c → (o : Option ℕ) → ((j : ℕ) → o ≡ some j → getElem? xs j ≡ some x) → (j : ℕ)
-        → _≡_ {A = Option ℕ} (elim c as (λ z. Option ℕ) [ true ↦ some 0 | false ↦ elim o as (λ z. Option ℕ) [ none ↦ none | some i ↦ some (suc i) ] ]) (some j)
-        → getElem? (y ∷ xs) j ≡ some x
-    go true s o h j e = let z : j ≡ 0 = cc in rw z (ap some (sym (same-eq x y s)))
-    go false s none h j e = let z : _≡_ {A = ℕ} 0 1 = cc in absurd (omega arith)
-    go false s (some i) h j e = let z : j ≡ suc i = cc in rw z (h i refl)
+found-up {xs} k x G e = rw (G .is) (at-more xs (G .new) k x e)
 
 -- the last of the names, or one before it
 found-snoc : (xs : List Name) (x : Name) (k : ℕ) (y : Name) → getElem? (xs ++ (x ∷ [])) k ≡ some y → (getElem? xs k ≡ some y) ⊎ ((k ≡ length xs) × (x ≡ y))
@@ -267,7 +251,7 @@ owning-by G = record { at = λ p t. G t .at p t }
 symbol-step : {m : Bool} (f : ℕ → Emit) (x : Name) (p : ℕ) (t : Tables) → ((k : ℕ) (u : Tables) → getElem? (u .symbols) k ≡ some x → Step m p u (f k p u))
     → ((k : ℕ) (u : Tables) → isIterator x ≡ true → (m ≡ true) × (i : ℕ) × (getElem? (f k p u .code) i ≡ some (StoreGlobal k))) → Step m p t (intern x f p t)
 unfolding intern
-symbol-step {m} f x p t F N = go (position (same x) (t .symbols)) (found-at x (t .symbols))
+symbol-step {m} f x p t F N = go (position (same x) (t .symbols)) (at-position x (t .symbols))
   where
     new : (o : Out) → ((a : ℕ) (y : Name) → getElem? (o .tables .symbols) a ≡ some y → isIterator y ≡ true → Known m (t .symbols ++ (x ∷ [])) a y (o .code))
         → (isIterator x ≡ true → (m ≡ true) × (i : ℕ) × (getElem? (o .code) i ≡ some (StoreGlobal (length (t .symbols)))))

@@ -66,7 +66,8 @@ functions-room (f ∷ fs) = omega (arith, functions-room fs, function-room f, le
 
 -- ---- the whole
 
-pub length-tables : (t : Tables) → length (tableBytes t) ≡ 10 + length (concat nameBytes (t .symbols)) + length (concat textBytes (t .strings)) + length (concat functionBytes (t .functions)) + length (concat classBytes (t .classes)) + length (concat (be 2) (t .constants))
+pub length-tables : (t : Tables) → length (tableBytes t) ≡ 10 + length (concat nameBytes (t .symbols)) + length (concat textBytes (t .strings)) + length (concat functionBytes (t .functions)) + length
+    (concat classBytes (t .classes)) + length (concat (be 2) (t .constants))
 unfolding tableBytes
 length-tables t = simp (length-append, length-list) (omega arith)
 

@@ -2,9 +2,9 @@
 use mathlib.Core.Path.{_≡_, refl, ap, _∙_}
 use mathlib.Core.Bool.{Bool, true, false, _&&_}
 use mathlib.Core.Option.{Option, none, some}
-use mathlib.Core.List.{List, [], _∷_, _++_}
+use mathlib.Core.List.{List, [], _∷_}
 use Prim.Native.Nat.{ℕ, zero, suc}
-use lib.ListN.{length, getD, getElem?, drop}
+use lib.ListN.{length, getD, getElem?}
 use lib.Dec.{eqb, eqb·suc-zero, leb, ltb, leb·zero, leb·suc-zero, leb·suc-suc}
 use Rattle.definitions.specs.Bytes.{Answer, refused, accepted, whenAccepted, Parsed, got, failed, all}
 use Rattle.definitions.specs.Instruction.{Instr, encodes}
@@ -13,7 +13,8 @@ use Rattle.definitions.specs.Module.{codeStart}
 use Rattle.definitions.specs.Reader.{moduleRecord, numbersExist, codeStands, wholeModule, readModule}
 use Rattle.definitions.specs.Run.{Ran, run}
 use Rattle.definitions.specs.Calls.{readCall, functionOf, codePart, codeCall, areAnswers, eventsFit, runFunction, runAnswer, textFits, textAnswer}
-use Rattle.definitions.specs.Statements.{headCounts, firstRefusal, recordRead, laidOut, tablesRead, tablesIn, codeIn, readQuestions, codeQuestions, runIn, runQuestions, textQuestions, ReadRefusals, CodeRefusals, RunRefusals, TextRefusals, reachQuestions, ReachRefusals}
+use Rattle.definitions.specs.Statements.{headCounts, recordRead, laidOut, tablesRead, tablesIn, codeIn, readQuestions, codeQuestions, runIn, runQuestions, textQuestions, ReadRefusals, CodeRefusals, RunRefusals, TextRefusals}
+use Rattle.definitions.specs.Statements.{reachQuestions, ReachRefusals}
 use Rattle.definitions.specs.Sheet.{tally, isQuestion}
 use Rattle.definitions.specs.Reach.{wideArea, roomAsked, placeAsked, sought}
 use Rattle.definitions.proofs.Refusals.{ask, ask-is, when-ask, head-asked, questioned, first-is}

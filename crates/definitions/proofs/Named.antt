@@ -13,9 +13,9 @@ use Rattle.definitions.specs.Tree.{Block, []ᵇ, _∷ᵇ_, Branches, don
 use Rattle.definitions.specs.Wellformed.{isTuple, distinct}
 use Rattle.definitions.specs.Slots.{add, addTarget, addTargets, localsStmt, localsBlock, localsBranches}
 use Rattle.definitions.specs.Statements.{assigned, assignedAll, boundStmt, boundBlock, boundBranches, addAll, FirstAppearance, Named, NamedOnce}
-use Rattle.definitions.proofs.Truth.{left, right}
+use Rattle.definitions.proofs.Truth.{left, right, or-false}
 use Rattle.definitions.proofs.Every.{length-snoc}
-use Rattle.definitions.proofs.Captured.{or-assoc, or-false, member-nil, member-cons, member-append, member-add}
+use Rattle.definitions.proofs.Captured.{or-assoc, member-nil, member-cons, member-append, member-add}
 use Rattle.definitions.proofs.MethodOrder.{same-eq}
 
 -- ---- a target by its form

@@ -3,11 +3,11 @@ use mathlib.Core.Path.{_≡_, refl, ap}
 use mathlib.Core.Bool.{Bool, true, false, _&&_}
 use mathlib.Core.Option.{Option, none as nothing, some}
 use mathlib.Core.List.{List, [], _∷_, _++_, append-nil}
-use Prim.Native.Nat.{ℕ, zero, suc, _+_, _<_}
+use Prim.Native.Nat.{ℕ, _<_}
 use lib.ListN.{length}
-use lib.Dec.{T, eqb}
+use lib.Dec.{T}
 use Rattle.definitions.specs.Bytes.{Name, position, same, concat}
-use Rattle.definitions.specs.Tree.{Literal, noneL, boolL, intL, floatL, stringL, UnaryOp, notOp, negateOp, posOp, LogicalOp, Display, listD, tupleD, dictD, setD, treeSetD}
+use Rattle.definitions.specs.Tree.{Literal, noneL, boolL, intL, floatL, stringL, UnaryOp, notOp, negateOp, posOp, Display, listD, tupleD, dictD, setD, treeSetD}
 use Rattle.definitions.specs.Tree.{BinaryOp, addOp, subtractOp, multiplyOp, divideOp, floorDivideOp, moduloOp, equalOp, notEqualOp, lessOp, lessEqualOp, greaterOp, greaterEqualOp, binaryNumber}
 use Rattle.definitions.specs.Tree.{Expr, lit, var, unary, binary, logical, call, attr, display, index, lambda, Exprs, []ᵉ, _∷ᵉ_, count}
 use Rattle.definitions.specs.Tree.{View, asVar, asAttr, asIndex, asTuple, asOther, view}
@@ -15,13 +15,13 @@ use Rattle.definitions.specs.Wellformed.{init}
 use Rattle.definitions.specs.Slots.{captures, Frame, namesOnly}
 use Rattle.definitions.specs.Instruction
 use Rattle.definitions.specs.Instruction.{Instr, ConstBool, Return, LoadLocal, encodes, unaryCode, operatorCode, binaryCode, buildCode}
-use Rattle.definitions.specs.Tables.{Function, Tables, Body, exprBody, Out, Emit, addSymbol, begin, emits, one, _⨟_, intern, getOrAddString, function, enclose}
+use Rattle.definitions.specs.Tables.{Tables, Body, exprBody, Out, Emit, addSymbol, begin, emits, one, _⨟_, intern, function, enclose}
 use Rattle.definitions.specs.Lower
 use Rattle.definitions.specs.Lower.{Callee, builtinCallee, functionCallee, valueCallee, resolve, load, store, literal, decides, callNamed, callBy, loads, closure, emitExpr, emitExprs, emitObject, methodEnd, emitBody}
 use Rattle.definitions.specs.Run.{flow}
 use Rattle.definitions.specs.Walk.{walked, returned, Walk, before, andThen, follow, adds, leaves, Both, walkNamed, walkCall, walkExpr, walkExprs, walkObject, walkBody, walkAt}
 use Rattle.definitions.specs.Reader.{endsInReturn, jumpsLand, codeStands}
-use Rattle.definitions.proofs.Shape.{plain, ret, seq, Plain, Each, none, more}
+use Rattle.definitions.proofs.Shape.{plain, ret, seq, Plain, none, more}
 use Rattle.definitions.proofs.Demand.{Over, over-then}
 use Rattle.definitions.proofs.Lands.{Stop, stands, stop-return, stop-init}
 use Rattle.definitions.proofs.Meaning.{meaning-calm}
@@ -102,7 +102,8 @@ pub record Whole (e : Emit) (frame : Frame) (body : Body) : Type 0 where
   pub over : (t : Tables) (xs : List ℕ) → Over (walkBody frame body 0 t xs .ending)
   pub stand : (t : Tables) → length (e 0 t .code) < 4294967296 → T (endsInReturn (e 0 t .code) && jumpsLand (length (e 0 t .code)) 0 (e 0 t .code))
 
-pub whole : {e : Emit} {w : Walk} (frame : Frame) (body : Body) (end : List Instr) → e ⨟ emits end ≡ emitBody frame body → walkBody frame body ≡ follow e w (leaves end) → Part false e w → Part false (emits end) (leaves end) → Stop end → Whole (e ⨟ emits end) frame body
+pub whole : {e : Emit} {w : Walk} (frame : Frame) (body : Body) (end : List Instr) → e ⨟ emits end ≡ emitBody frame body → walkBody frame body ≡ follow e w (leaves end) → Part false e w
+    → Part false (emits end) (leaves end) → Stop end → Whole (e ⨟ emits end) frame body
 unfolding follow leaves _⨟_ emits
 whole {e} {w} frame body end c q A B S = record {
   emitted = c;
@@ -152,7 +153,8 @@ leaf-function {e} x arity frame body B = leaf-symbol x (λ k. record {
   at = λ p t. none;
   grows = λ p t.
       let u = begin k arity frame t in
-      grow-function (t .functions) _ _ _ _ (e 0 u .code) (B .part .grows 0 u) (record { source = record { locals = refl; code = ap (λ (z : Emit). z 0 u .code) (B .emitted) }; meaning = B .part .at 0 u; over = λ xs. B .over u xs; stands = B .stand u });
+      grow-function (t .functions) _ _ _ _ (e 0 u .code) (B .part .grows 0 u)
+      (record { source = record { locals = refl; code = ap (λ (z : Emit). z 0 u .code) (B .emitted) }; meaning = B .part .at 0 u; over = λ xs. B .over u xs; stands = B .stand u });
 })
 
 -- it gives no code in its parent

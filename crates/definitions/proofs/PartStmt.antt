@@ -1,13 +1,13 @@
 -- Targets and statements as parts, and every function of a whole tree.
 use mathlib.Core.Path.{_≡_, refl, sym, _∙_}
 use mathlib.Core.Bool.{Bool, true, false}
-use mathlib.Core.List.{List, [], _∷_, _++_}
+use mathlib.Core.List.{List, [], _∷_}
 use Prim.Native.Nat.{ℕ, zero, suc, _+_}
 use native.Mathlib.Omega.{arith}
 use lib.ListN.{length}
 use lib.Dec.{T}
 use Rattle.definitions.specs.Bytes.{Name}
-use Rattle.definitions.specs.Tree.{Display, Expr, lit, var, unary, binary, logical, call, attr, display, index, lambda, Exprs, []ᵉ, _∷ᵉ_}
+use Rattle.definitions.specs.Tree.{Expr, lit, var, unary, binary, logical, call, attr, display, index, lambda, Exprs, []ᵉ, _∷ᵉ_}
 use Rattle.definitions.specs.Tree.{View, asVar, asAttr, asIndex, asTuple, asOther, view, Attribute}
 use Rattle.definitions.specs.Tree.{Stmt, break, continue, pass, expr, return, assign, if, while, for, def, class}
 use Rattle.definitions.specs.Tree.{Block, []ᵇ, _∷ᵇ_, Branches, done, else, when, Methods, []ᵐ, method}
@@ -15,12 +15,12 @@ use Rattle.definitions.specs.Wellformed.{isTuple}
 use Rattle.definitions.specs.Slots.{Keeping, inGlobals, inSlots, past, Frame, namesOnly, withLoops, loopsStmt, loopsBlock}
 use Rattle.definitions.specs.Instruction
 use Rattle.definitions.specs.Instruction.{Return, Break, Continue}
-use Rattle.definitions.specs.Tables.{Method, Tables, blockBody, Emit, emits, one, _⨟_, here, intern}
+use Rattle.definitions.specs.Tables.{Method, Tables, blockBody, Emit, emits, one, _⨟_, intern}
 use Rattle.definitions.specs.Lower
-use Rattle.definitions.specs.Lower.{load, store, copy, emitExpr, emitTarget, unpack, assignBy, Keeper, global, local, makeIter, namedIter, keptIter, storeIter, loadIter, iterName, askIter, takeIter}
+use Rattle.definitions.specs.Lower.{copy, emitExpr, emitTarget, unpack, assignBy, Keeper, global, local, makeIter, namedIter, keptIter, storeIter, loadIter, iterName, askIter, takeIter}
 use Rattle.definitions.specs.Lower.{methodEnd, beginClass, classObject, endClass, classOut, emitStmt, emitBlock, emitBranches, emitMethods, emitBody, compile}
 use Rattle.definitions.specs.Run.{flow}
-use Rattle.definitions.specs.Walk.{walked, broke, continued, Walk, follow, adds, leaves, walkExpr, walkAssign, walkStmt, walkBlock, walkBranches, walkBody}
+use Rattle.definitions.specs.Walk.{walked, broke, continued, Walk, follow, adds, walkExpr, walkAssign, walkStmt, walkBlock, walkBranches, walkBody}
 use Rattle.definitions.proofs.Shape.{Plain, brk, cont, size, hop, none, more}
 use Rattle.definitions.proofs.Lands.{stop-return}
 use Rattle.definitions.proofs.Meaning.{Meaning, meaning-seq, meaning-choose, meaning-plain, meaning-length}

@@ -10,10 +10,10 @@ use lib.Dec.{eqb, eqb·suc-zero, leb, le→leb}
 use Rattle.definitions.specs.Bytes.{Answer, refused, accepted, whenAccepted, Parsed, got, failed, _>>=_, give, byte, field, unhouse, countsRest, versionOne}
 use Rattle.definitions.specs.Tree.{Block}
 use Rattle.definitions.specs.Parse.{blockOf, parseStmt, wholeBlock, readTree}
-use Rattle.definitions.specs.Wellformed.{askBlock, blockQuestions, firstNo, refusedBy, wellFormed}
+use Rattle.definitions.specs.Wellformed.{askBlock, blockQuestions, firstNo, refusedBy, wellFormed, checkTree}
 use Rattle.definitions.specs.Tables.{Tables}
 use Rattle.definitions.specs.Lower.{compile}
-use Rattle.definitions.specs.Module.{Limits, moduleBytes, slotsFit, tablesFit, fits, lowerBlock, lowerTables, lowerBytes}
+use Rattle.definitions.specs.Module.{Limits, moduleBytes, slotsFit, tablesFit, fits, lowerFormed, lowerBlock, lowerTables, lowerBytes}
 use Rattle.definitions.specs.Calls.{areasFit, fitsRoom, lowerAnswer}
 use Rattle.definitions.specs.Statements.{parsed, headCounts, readsWhole, notTooDeep, blockRead, moduleOf, Question, lowerQuestions, firstRefusal, Refusals}
 use Rattle.definitions.proofs.Truth.{is-true}
@@ -107,6 +107,15 @@ room-asked : (room : ℕ) (bs : List ℕ) → fitsRoom room bs ≡ ask (leb (len
 unfolding fitsRoom
 room-asked room bs = ask-is (leb (length bs) room) 16 (accepted bs)
 
+-- 2 to 6, then 7 to 15
+pub tables-by-block : (l : Limits) (tree : List ℕ) → lowerTables l tree ≡ whenAccepted (readTree tree) (lowerBlock l)
+unfolding lowerTables checkTree lowerBlock whenAccepted
+tables-by-block l tree = go (readTree tree)
+  where
+    go : (r : Answer Block) → whenAccepted (whenAccepted r wellFormed) (lowerFormed l) ≡ whenAccepted r (lowerBlock l)
+    go (refused q) = refl
+    go (accepted b) = refl
+
 module _ (l : Limits) (room : ℕ) where
   -- what tables are answered
   unfoldable finish : Answer Tables → Answer (List ℕ)
@@ -117,7 +126,7 @@ module _ (l : Limits) (room : ℕ) where
   finish-asked t = simp (fits-asked, when-ask, room-asked)
 
   finish-block : (b : Block) → finish (lowerBlock l b) ≡ asks (λ q. askBlock q false b) blockQuestions (finish (fits l (compile b .tables)))
-  unfolding finish lowerBlock wellFormed whenAccepted
+  unfolding finish lowerFormed lowerBlock wellFormed whenAccepted
   finish-block b = rw (asks-is, when-asks, when-asks, when-asks)
 
   finish-tree : (tree : List ℕ)
@@ -140,6 +149,6 @@ first-is [] a = refl
 first-is (q ∷ qs) a = ask-is (q .yes) (q .number) (firstRefusal qs a) ∙ ap (ask (q .yes) (q .number)) (first-is qs a)
 
 pub refusals : Refusals
-unfolding lowerAnswer lowerBytes lowerTables finish lowerQuestions questioned blockQuestions asks moduleOf
+unfolding lowerAnswer lowerBytes finish lowerQuestions questioned blockQuestions asks moduleOf
 refusals l m n room tree =
-    rw first-is (ask-is (areasFit m n) 1 _ ∙ ap (ask (areasFit m n) 1) (rw (finish-tree, finish-block, finish-asked)))
+    rw first-is (ask-is (areasFit m n) 1 _ ∙ ap (ask (areasFit m n) 1) (rw (tables-by-block, finish-tree, finish-block, finish-asked)))

@@ -19,7 +19,8 @@ use Rattle.definitions.specs.Instruction.{Instr, Return, LoadLocal}
 use Rattle.definitions.specs.Tables.{Method, Tables, Body, blockBody, exprBody, Source, Out, Emit, addSymbol, addString, emits, one, _⨟_, here, intern, getOrAddString, function, enclose}
 use Rattle.definitions.specs.Lower
 use Rattle.definitions.specs.Lower.{Callee, builtinCallee, functionCallee, valueCallee, resolve, load, store, literal, decides, shortcut, callNamed, callBy, loads, closure, emitExpr, emitExprs, emitObject}
-use Rattle.definitions.specs.Lower.{copy, emitTarget, unpack, assignBy, loop, Keeper, global, local, makeIter, namedIter, keptIter, iterName, askIter, takeIter, methodEnd, insertMethod, beginClass, classObject, endClass, classOut, emitStmt, emitBlock, emitBranches, emitMethods, compile}
+use Rattle.definitions.specs.Lower.{copy, emitTarget, unpack, assignBy, loop, Keeper, global, local, makeIter, namedIter, keptIter, iterName, askIter, takeIter, methodEnd, insertMethod, beginClass, classObject, endClass}
+use Rattle.definitions.specs.Lower.{classOut, emitStmt, emitBlock, emitBranches, emitMethods, compile}
 use Rattle.definitions.specs.Bodies.{bodiesExpr, bodiesExprs, bodiesStmt, bodiesBlock, bodiesBranches, bodiesMethods, bodies}
 use Rattle.definitions.specs.Statements.{bodyOf, SourceBodies}
 use Rattle.definitions.proofs.Truth.{left, right}

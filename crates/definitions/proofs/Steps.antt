@@ -1,8 +1,7 @@
 -- The steps of a run, its budget, and what more budget changes.
 use mathlib.Core.Path.{_≡_, refl, ap, _∙_}
-use mathlib.Core.Bool.{Bool, true, false}
 use mathlib.Core.List.{List, [], _∷_}
-use Prim.Native.Nat.{ℕ, zero, suc, _+_, _≤_}
+use Prim.Native.Nat.{ℕ, zero, suc, _+_}
 use native.Mathlib.Nat.{suc-add}
 use native.Mathlib.Omega.{arith}
 use lib.ListN.{getD}

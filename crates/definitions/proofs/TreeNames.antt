@@ -17,15 +17,11 @@ use Rattle.definitions.specs.Wellformed.{isIterator, distinct, init, isT
 use Rattle.definitions.specs.Wellformed.{askTarget, askAttribute, askStmt, askBlock, askBranches, askMethods}
 use Rattle.definitions.specs.TreeNames.{namesExpr, namesExprs, namesAttributes, namesStmt, namesBlock, namesBranches, namesMethods}
 use Rattle.definitions.specs.Statements.{TreeNames}
-use Rattle.definitions.proofs.Truth.{at-most}
+use Rattle.definitions.proofs.Truth.{at-most, and-assoc}
 
 and-yes : (a b : Bool) → b ≡ true → (a && b) ≡ a
 and-yes true b e = e
 and-yes false b e = refl
-
-and-assoc : (a b c : Bool) → (a && b && c) ≡ (a && (b && c))
-and-assoc true b c = refl
-and-assoc false b c = refl
 
 all-append : (f : Name → Bool) (xs ys : List Name) → all f (xs ++ ys) ≡ (all f xs && all f ys)
 unfolding all

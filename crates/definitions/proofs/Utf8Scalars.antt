@@ -12,7 +12,7 @@ use borrow.Author.Tests.{ltb-true, ltb-false, leb-true, leb-false, lt-ltb, le-lt
 use Rattle.definitions.specs.Bytes.{all, concat}
 use Rattle.definitions.specs.Utf8.{Range, range, inRange, Octets, utf8Char, isScalar, encodeChar}
 use Rattle.definitions.specs.Statements.{Matches, noByte, byte, Utf8Octets, noChar, char, Utf8Scalars}
-use Rattle.definitions.proofs.Truth.{left, right}
+use Rattle.definitions.proofs.Truth.{left, right, and-false}
 use Rattle.definitions.proofs.Every.{Every, noEvery, every, every-at}
 use Rattle.definitions.proofs.Utf8Grammar.{utf8-sound, utf8-complete}
 
@@ -46,17 +46,13 @@ four-bytes c h = rw (le-ltb c 0x80 (omega arith), encodeChar) (rw (le-ltb c 0x80
 
 -- ---- scalar values
 
-and-no : (x : Bool) → (x && false) ≡ false
-and-no true = refl
-and-no false = refl
-
 low-scalar : (c : ℕ) → c < 0xD800 → isScalar c ≡ true
 unfolding isScalar
 low-scalar c h = rw (lt-ltb c 0x110000 (omega arith), lt-leb 0xD800 c h)
 
 high-scalar : (c : ℕ) → 0xDFFF < c → c < 0x110000 → isScalar c ≡ true
 unfolding isScalar
-high-scalar c h g = rw (lt-ltb c 0x110000 g, lt-leb c 0xDFFF h, and-no (leb 0xD800 c))
+high-scalar c h g = rw (lt-ltb c 0x110000 g, lt-leb c 0xDFFF h, and-false (leb 0xD800 c))
 
 scalar-below : (c : ℕ) → isScalar c ≡ true → c < 0x110000
 unfolding isScalar

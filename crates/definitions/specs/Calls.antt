@@ -1,5 +1,5 @@
 -- What each call answers and what it leaves in the slices lent to it: questions 1 and 16, 22 to 24, 31 and 32, and the program `lower`.
-use Prim.Native.Nat.{ℕ, zero, suc}
+use Prim.Native.Nat.{ℕ, zero}
 use mathlib.Core.Bool.{Bool, true, false, _&&_}
 use mathlib.Core.Option.{Option, none, some}
 use mathlib.Core.List.{List, [], _∷_, _++_}

@@ -19,7 +19,7 @@ use Rattle.definitions.specs.Wellformed.{isName, isTuple, isIterator, di
 use Rattle.definitions.specs.TreeNames.{namesBlock}
 use Rattle.definitions.specs.Slots.{add, localsBlock, captures, loopsBlock}
 use Rattle.definitions.specs.Instruction.{Numbers, nothing, aString, aConstant, aSlot, aSymbol, aFunction, aBuiltin, numbersOf}
-use Rattle.definitions.specs.Instruction.{Instr, LoadLocal, StoreLocal, StoreGlobal, Return, Row, rowOf, binaryCode, encode, encodes}
+use Rattle.definitions.specs.Instruction.{Instr, LoadLocal, StoreLocal, StoreGlobal, Return, rowOf, binaryCode, encode, encodes}
 use Rattle.definitions.specs.Tables.{Function, Tables, Body, blockBody, exprBody, Source}
 use Rattle.definitions.specs.Lower.{iterName, noTables, compile, emitBody}
 use Rattle.definitions.specs.Bodies.{bodies}

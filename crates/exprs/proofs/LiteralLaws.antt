@@ -13,7 +13,7 @@ use Rattle.definitions.specs.Bytes.{Parser, got, give, unread, byte, field, _>>
 use Rattle.definitions.specs.Parse.{byKind, exprKinds, parseExpr}
 use Rattle.definitions.specs.Tree.{noneL, intL, floatL, stringL, Expr, lit}
 use Rattle.parts.specs.Places.{Node, nodeOf, nodeAt, isGot, countAt, Counted, eightAt, textAt}
-use Rattle.parts.proofs.Laws.{at-byte, kind-of}
+use Rattle.parts.proofs.Laws.{kind-of}
 use Rattle.parts.proofs.Nodes.{Seen, got-node}
 use Rattle.exprs.specs.ExprAt.{exprAt, ExprReads, intAt, floatAt, stringAt}
 use Rattle.exprs.specs.Literals.{literalOf, Plain, TextPlace, bitsOf, LiteralAt, Stands}
@@ -21,6 +21,7 @@ use Rattle.exprs.specs.declared.literals.Literal.{Literal}
 use Rattle.exprs.specs.declared.literals.Literal.the-variants.{None, Bool as Truth, Int, Float, Nan, Text}
 use Rattle.exprs.proofs.ExprLaws.{deep-E}
 use Rattle.exprs.proofs.ExprViews.{expr-deep, expr-inside, view-none, view-false, view-true, view-int, view-float, view-string}
+use Rattle.definitions.proofs.Begins.{at-byte}
 
 -- ---- a number of eight bytes, two at a time
 

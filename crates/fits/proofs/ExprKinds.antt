@@ -15,7 +15,6 @@ use Rattle.state.specs.State.{slotsFrom, slotNames}
 use Rattle.state.specs.Fits.{fitsExpr, fitsExprs, fitsTarget}
 use Rattle.parts.specs.Places.{Node, nameEnd, There, paramsAt}
 use Rattle.exprs.specs.ExprAt.{exprAt, exprsAt, ExprReads, ExprsRead, varAt, unaryAt, TwoAt, secondAt, binaryAt, ListAt, listAt, CallAt, callAt, AttributeAt, attributeAt, displayAt, pairsAt, dictAt, indexAt, lambdaAt, consAt}
-use Rattle.parts.proofs.Laws.{le-or-gt, up}
 use Rattle.exprs.proofs.ExprViews.{view-var, view-unary, view-binary, view-call, view-attribute, view-dict, view-index, view-lambda, view-exprs-none, view-exprs-more}
 use Rattle.slots.specs.Slotted.{Collected}
 use Rattle.slots.specs.declared.Locals.{Locals}
@@ -26,6 +25,7 @@ use Rattle.fits.specs.Walk.{Walks, lambdaFits}
 use Rattle.fits.specs.declared.Fit.{Fit}
 use Rattle.fits.specs.declared.Fit.the-variants.{Next}
 use Rattle.fits.proofs.Walking.{walks-as, next-walks, Left, Step, lambda-inside}
+use Rattle.definitions.proofs.Truth.{le-or-gt, up}
 
 module _ (d : ℕ) (t : List ℕ) (p : ℕ) (r : ExprReads d t p) (slots : List Name) where
   abbrev x : Node Expr

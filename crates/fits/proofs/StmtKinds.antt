@@ -13,9 +13,10 @@ use Rattle.state.specs.State.{slotsFrom, slotNames}
 use Rattle.state.specs.Fits.{fitsExpr, fitsTarget, fitsStmt, fitsBlock, fitsBranches, fitsMethods}
 use Rattle.parts.specs.Places.{Node, countAt, nameEnd, ParamsAt, paramsAt}
 use Rattle.exprs.specs.ExprAt.{exprAt, secondAt}
-use Rattle.tree.specs.StmtAt.{stmtAt, blockAt, stmtsAt, branchesAt, methodsAt, StmtReads, BlockReads, StmtsRead, BranchesRead, MethodsRead, exprStmtAt, returnAt, assignAt, BranchAt, bodyAt, elifsAt, ifAt, whileAt, forAt, whenAt, elseAt, DefAt, defBlockAt, defAt, methodAt, ClassAt, classMethodsAt, classAt, consAt}
-use Rattle.parts.proofs.Laws.{le-or-gt, up}
-use Rattle.tree.proofs.StmtViews.{view-break, view-continue, view-pass, view-expr, view-return, view-assign, view-if, view-while, view-for, view-def, view-class, view-block, view-stmts-none, view-stmts-more, view-branches-more, else-known, view-done, view-else, view-methods-none, view-methods-more}
+use Rattle.tree.specs.StmtAt.{stmtAt, blockAt, stmtsAt, branchesAt, methodsAt, StmtReads, BlockReads, StmtsRead, BranchesRead, MethodsRead, exprStmtAt, returnAt, assignAt, BranchAt, bodyAt, elifsAt, ifAt, whileAt, forAt, whenAt}
+use Rattle.tree.specs.StmtAt.{elseAt, DefAt, defBlockAt, defAt, methodAt, ClassAt, classMethodsAt, classAt, consAt}
+use Rattle.tree.proofs.StmtViews.{view-break, view-continue, view-pass, view-expr, view-return, view-assign, view-if, view-while, view-for, view-def, view-class, view-block, view-stmts-none, view-stmts-more, view-branches-more}
+use Rattle.tree.proofs.StmtViews.{else-known, view-done, view-else, view-methods-none, view-methods-more}
 use Rattle.slots.specs.Slotted.{Frames}
 use Rattle.slots.specs.declared.collect.Framed.{Framed}
 use Rattle.slots.specs.declared.collect.Framed.the-variants.{Slots}
@@ -24,6 +25,7 @@ use Rattle.fits.specs.Walk.{Walks, defFits}
 use Rattle.fits.specs.declared.Fit.{Fit}
 use Rattle.fits.specs.declared.Fit.the-variants.{Next, Over}
 use Rattle.fits.proofs.Walking.{walks-as, walks-next, walks-over, next-walks, over-walks, Left, Step, left-start, def-inside}
+use Rattle.definitions.proofs.Truth.{le-or-gt, up}
 
 module _ (d : ℕ) (t : List ℕ) (p : ℕ) (r : StmtReads d t p) (slots : List Name) where
   abbrev x : Node Stmt

@@ -59,7 +59,8 @@ fn fits_two(tree: &[u8], at: usize, depth: u32, slots: &[u32]) -> Fit
 fn fits_call(tree: &[u8], at: usize, depth: u32, slots: &[u32]) -> Fit
     requires { ⌜ Short (now tree) (now slots) × CallAt depth (now tree) at ⌝ }
     ensures { λ r. ⌜ Walks r (listAt depth (now (tree .entry)) (exprAt depth (now (tree .entry)) at .end) .end)
-        (fitsExpr (slotNames (now (tree .entry)) (now (slots .entry))) (exprAt depth (now (tree .entry)) at .value) && fitsExprs (slotNames (now (tree .entry)) (now (slots .entry))) (listAt depth (now (tree .entry)) (exprAt depth (now (tree .entry)) at .end) .value)) ⌝ }
+        (fitsExpr (slotNames (now (tree .entry)) (now (slots .entry))) (exprAt depth (now (tree .entry)) at .value)
+        && fitsExprs (slotNames (now (tree .entry)) (now (slots .entry))) (listAt depth (now (tree .entry)) (exprAt depth (now (tree .entry)) at .end) .value)) ⌝ }
 {
     let callee = fits_expr(tree, at, depth, slots);
     let Fit::Next(p) = callee else {
@@ -124,7 +125,9 @@ fn fits_many(tree: &[u8], at: usize, depth: u32, count: u32, slots: &[u32]) -> F
 fn fits_lambda(tree: &[u8], at: usize, depth: u32, slots: &[u32]) -> Fit
     requires { ⌜ Short (now tree) (now slots) × LambdaAt depth (now tree) at ⌝ }
     ensures { λ r. ⌜ Walks r (exprAt depth (now (tree .entry)) (paramsAt (now (tree .entry)) at .end) .end)
-        (lambdaFits (paramsAt (now (tree .entry)) at .value ++ captures (slotNames (now (tree .entry)) (now (slots .entry))) (paramsAt (now (tree .entry)) at .value) (exprAt depth (now (tree .entry)) (paramsAt (now (tree .entry)) at .end) .value)) (exprAt depth (now (tree .entry)) (paramsAt (now (tree .entry)) at .end) .value)) ⌝ }
+        (lambdaFits (paramsAt (now (tree .entry)) at .value
+        ++ captures (slotNames (now (tree .entry)) (now (slots .entry))) (paramsAt (now (tree .entry)) at .value) (exprAt depth (now (tree .entry)) (paramsAt (now (tree .entry)) at .end) .value))
+        (exprAt depth (now (tree .entry)) (paramsAt (now (tree .entry)) at .end) .value)) ⌝ }
 {
     let mut inner = [0u32; SLOTS_ROOM];
     let p = skip_params(tree, at);

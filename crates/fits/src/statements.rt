@@ -138,7 +138,8 @@ fn fits_else(tree: &[u8], at: usize, depth: u32, slots: &[u32]) -> Fit
 fn fits_for(tree: &[u8], at: usize, depth: u32, slots: &[u32]) -> Fit
     requires { ⌜ Short (now tree) (now slots) × ForAt depth (now tree) at ⌝ }
     ensures { λ r. ⌜ Walks r (bodyAt depth (now (tree .entry)) (nameEnd (now (tree .entry)) at) .end)
-        (fitsExpr (slotNames (now (tree .entry)) (now (slots .entry))) (exprAt depth (now (tree .entry)) (nameEnd (now (tree .entry)) at) .value) && fitsBlock (slotNames (now (tree .entry)) (now (slots .entry))) (bodyAt depth (now (tree .entry)) (nameEnd (now (tree .entry)) at) .value)) ⌝ }
+        (fitsExpr (slotNames (now (tree .entry)) (now (slots .entry))) (exprAt depth (now (tree .entry)) (nameEnd (now (tree .entry)) at) .value)
+        && fitsBlock (slotNames (now (tree .entry)) (now (slots .entry))) (bodyAt depth (now (tree .entry)) (nameEnd (now (tree .entry)) at) .value)) ⌝ }
 {
     let p = name_end(tree, at);
     fits_branch(tree, p, depth, slots)
@@ -147,7 +148,8 @@ fn fits_for(tree: &[u8], at: usize, depth: u32, slots: &[u32]) -> Fit
 // A def after its kind byte, or a method: its own slots, and its block with these.
 fn fits_def(tree: &[u8], at: usize, depth: u32) -> Fit
     requires { ⌜ (length (now tree) ≤ 32768) × DefAt depth (now tree) at ⌝ }
-    ensures { λ r. ⌜ Walks r (defBlockAt depth (now (tree .entry)) at .end) (defFits (withLoops (paramsAt (now (tree .entry)) (nameEnd (now (tree .entry)) at) .value) (defBlockAt depth (now (tree .entry)) at .value)) (defBlockAt depth (now (tree .entry)) at .value)) ⌝ }
+    ensures { λ r. ⌜ Walks r (defBlockAt depth (now (tree .entry)) at .end)
+        (defFits (withLoops (paramsAt (now (tree .entry)) (nameEnd (now (tree .entry)) at) .value) (defBlockAt depth (now (tree .entry)) at .value)) (defBlockAt depth (now (tree .entry)) at .value)) ⌝ }
 {
     let mut inner = [0u32; SLOTS_ROOM];
     let params = name_end(tree, at);

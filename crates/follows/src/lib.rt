@@ -62,7 +62,8 @@ pub fn lower_and_run(
     bytes: &mut [u8],
     events: &mut [u8],
 ) -> Followed
-    ensures { λ r. ⌜ FollowsSource r (now (area1 .exit)) (now (area2 .exit)) (now (bytes .exit)) (now (events .exit)) (limitsFor limits) (now (tree .entry)) function (now (answers .entry)) budget (now (area1 .entry)) (now (area2 .entry)) (now (bytes .entry)) (now (events .entry)) ⌝ }
+    ensures { λ r. ⌜ FollowsSource r (now (area1 .exit)) (now (area2 .exit)) (now (bytes .exit)) (now (events .exit)) (limitsFor limits) (now (tree .entry)) function (now (answers .entry)) budget
+        (now (area1 .entry)) (now (area2 .entry)) (now (bytes .entry)) (now (events .entry)) ⌝ }
 {
     let lowered = lower(tree, limits, area1, area2, bytes);
     match lowered {

@@ -123,7 +123,8 @@ module _ (t made code tables tables₁ : List ℕ) (c k : Counts) (l : Limits) (
 
 -- a class that has its methods: its symbol, and then its object
 module _ (t made code tables tables₁ : List ℕ) (c k : Counts) (l : Limits) (x : Name) (i n : ℕ) (ms : List Method)
-    (h : Counted k (withMethods (c .methods + n) c) t made code tables₁ l (withTables (withClasses (set (stateOf t made code tables c .tables .classes) i (record { name = x; methods = ms })) (stateOf t made code tables c .tables)) (stateOf t made code tables c))) where
+    (h : Counted k (withMethods (c .methods + n) c) t made code tables₁ l
+    (withTables (withClasses (set (stateOf t made code tables c .tables .classes) i (record { name = x; methods = ms })) (stateOf t made code tables c .tables)) (stateOf t made code tables c))) where
   abbrev s₂ : State
   s₂ = stateOf t made code tables c
 

@@ -109,7 +109,8 @@ module _ {code tables tables₁ k k₁ l code₂ k₂ : List ℕ} {i c p next : 
   pub stores-full : p ≡ 0 → StoresClass 0 i symbol next code tables k l code₂ tables₁ k₂
   stores-full z = record {
     finishes = λ t made S more. finishes-as Full (answered 0 k₂) 0 t made code₂ tables₁ (countsOf k) (limitsIn l) next _ (answered-full 0 k₂ refl)
-        (object-full t made code tables tables₁ (countsOf k) (countsOf k₁) (limitsIn l) i symbol (S .sound) (A .counted t made code l S more) next (answered p k₂) code₂ (loaded t made S more .emits) code₂ tables₁ next (answered-full p k₂ z));
+        (object-full t made code tables tables₁ (countsOf k) (countsOf k₁) (limitsIn l) i symbol (S .sound) (A .counted t made code l S more) next (answered p k₂) code₂ (loaded t made S more .emits) code₂
+        tables₁ next (answered-full p k₂ z));
     numbers = g .numbers;
   }
 
@@ -118,7 +119,8 @@ module _ {code tables tables₁ k k₁ l code₂ k₂ : List ℕ} {i c p next : 
     finishes = λ t made S more.
         let e = loaded t made S more in
         let y = put-lifts r (sound-next z e) (omega arith) (instr-plain t 12 symbol 0 (plain-below 12 symbol 0 (omega arith) (omega arith) b (omega arith))) x in
-        object-finishes t made code tables tables₁ (countsOf k) (countsOf k₁) (limitsIn l) i symbol (S .sound) (A .counted t made code l S more) next (answered p k₂) code₂ (e .emits) p (countsOf k₂) (answered-done p k₂ z) (answered r k₃) code₃ (y .emits);
+        object-finishes t made code tables tables₁ (countsOf k) (countsOf k₁) (limitsIn l) i symbol (S .sound) (A .counted t made code l S more) next (answered p k₂) code₂ (e .emits) p (countsOf k₂)
+        (answered-done p k₂ z) (answered r k₃) code₃ (y .emits);
     numbers = x .numbers;
   }
 
@@ -137,7 +139,8 @@ module _ {tree made code tables tables₁ k k₁ l list : List ℕ} {i at n : �
     pub finish-over : {next : ℕ} → 65536 ≤ s → FinishesClass 0 at n i next list tree made code tables k l code tables₂ k₂
     finish-over {next} z = record {
       finishes = finishes-as Full (answered 0 k₂) n tree made code tables₂ (countsOf k) (limitsIn l) next _ (answered-full 0 k₂ refl)
-          (class-over tree made code tables tables₁ (countsOf k) (countsOf k₁) (limitsIn l) (nameAt tree at) i n (map (methodOf tree) (take n list)) (C .counted tree made code l S number fits) tables₂ (numbered s k₂) named code tables₂ next (numbered-over s k₂ z));
+          (class-over tree made code tables tables₁ (countsOf k) (countsOf k₁) (limitsIn l) (nameAt tree at) i n (map (methodOf tree) (take n list)) (C .counted tree made code l S number fits) tables₂
+          (numbered s k₂) named code tables₂ next (numbered-over s k₂ z));
       numbers = h .kept;
     }
 
@@ -145,16 +148,19 @@ module _ {tree made code tables tables₁ k k₁ l list : List ℕ} {i at n : �
       pub finish-sound : SoundIn tree made code tables₂ k₂ l
       finish-sound = record {
         numbers = h .kept;
-        sound = class-sound tree made code tables tables₁ (countsOf k) (countsOf k₁) (limitsIn l) (nameAt tree at) i n (map (methodOf tree) (take n list)) (C .counted tree made code l S number fits) tables₂ (numbered s k₂) named s (countsOf k₂) (numbered-at s k₂ z);
+        sound = class-sound tree made code tables tables₁ (countsOf k) (countsOf k₁) (limitsIn l) (nameAt tree at) i n (map (methodOf tree) (take n list)) (C .counted tree made code l S number fits) tables₂
+            (numbered s k₂) named s (countsOf k₂) (numbered-at s k₂ z);
       }
 
       pub finish-constants : getD k 5 0 < getD k 3 0 → getD k₂ 5 0 < getD k₂ 3 0
       finish-constants =
-          class-constants tree made code tables tables₁ (countsOf k) (countsOf k₁) (limitsIn l) (nameAt tree at) i n (map (methodOf tree) (take n list)) (C .counted tree made code l S number fits) tables₂ (numbered s k₂) named s (countsOf k₂) (numbered-at s k₂ z)
+          class-constants tree made code tables tables₁ (countsOf k) (countsOf k₁) (limitsIn l) (nameAt tree at) i n (map (methodOf tree) (take n list)) (C .counted tree made code l S number fits) tables₂
+          (numbered s k₂) named s (countsOf k₂) (numbered-at s k₂ z)
 
       pub finish-class-is : {code₃ tables₃ k₃ : List ℕ} {r next : ℕ} → getD k 5 0 < getD k 3 0 → StoresClass r i s next code tables₂ k₂ l code₃ tables₃ k₃ → FinishesClass r at n i next list tree made code tables k l code₃ tables₃ k₃
       finish-class-is {code₃} {tables₃} {k₃} {r} {next} more x = record {
-        finishes = class-finishes tree made code tables tables₁ (countsOf k) (countsOf k₁) (limitsIn l) (nameAt tree at) i n (map (methodOf tree) (take n list)) (C .counted tree made code l S number fits) tables₂ (numbered s k₂) named s (countsOf k₂) (numbered-at s k₂ z)
+        finishes = class-finishes tree made code tables tables₁ (countsOf k) (countsOf k₁) (limitsIn l) (nameAt tree at) i n (map (methodOf tree) (take n list)) (C .counted tree made code l S number fits)
+            tables₂ (numbered s k₂) named s (countsOf k₂) (numbered-at s k₂ z)
             (answered r k₃) code₃ tables₃ next (x .finishes tree made finish-sound (finish-constants more));
         numbers = x .numbers;
       }

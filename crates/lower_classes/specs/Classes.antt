@@ -25,7 +25,8 @@ pub record BeginsClass (r at : ℕ) (tables tables′ k k′ l : List ℕ) : Typ
 pub record EndsClass (i at n : ℕ) (list tables tables′ k k′ : List ℕ) : Type 0 where
   pub counted : (t made code l : List ℕ) → SoundIn t made code tables k l → i < classesIn k → methodsIn k + n ≤ functionsIn k
       → Counted (countsOf k′) (withMethods (methodsIn k + n) (countsOf k)) t made code tables′ (limitsIn l)
-      (withTables (withClasses (set (stateOf t made code tables (countsOf k) .tables .classes) i (record { name = nameAt t at; methods = map (methodOf t) (take n list) })) (stateOf t made code tables (countsOf k) .tables)) (stateOf t made code tables (countsOf k)))
+      (withTables (withClasses (set (stateOf t made code tables (countsOf k) .tables .classes) i (record { name = nameAt t at; methods = map (methodOf t) (take n list) }))
+      (stateOf t made code tables (countsOf k) .tables)) (stateOf t made code tables (countsOf k)))
   pub kept : 10 ≡ length k′
 
 pub record AddsConstant (r i : ℕ) (tables tables′ k k′ : List ℕ) : Type 0 where

@@ -140,8 +140,10 @@ pub fn finish_class(
     i: u32,
     next: usize,
 ) -> usize
-    requires { ⌜ SoundIn (now tree) (now made) (now code) (now tables) (now k) (now l) × (i < classesIn (now k)) × (at < 32768) × (n ≤ length (now list)) × (methodsIn (now k) + n ≤ functionsIn (now k)) × (constantsIn (now k) < classesIn (now k)) × (0 < next) ⌝ }
-    ensures { λ r. ⌜ FinishesClass r at n i next (now (list .entry)) (now (tree .entry)) (now (made .entry)) (now (code .entry)) (now (tables .entry)) (now (k .entry)) (now (l .entry)) (now (code .exit)) (now (tables .exit)) (now (k .exit)) ⌝ }
+    requires { ⌜ SoundIn (now tree) (now made) (now code) (now tables) (now k) (now l) × (i < classesIn (now k)) × (at < 32768) × (n ≤ length (now list)) × (methodsIn (now k) + n ≤ functionsIn (now k))
+        × (constantsIn (now k) < classesIn (now k)) × (0 < next) ⌝ }
+    ensures { λ r. ⌜ FinishesClass r at n i next (now (list .entry)) (now (tree .entry)) (now (made .entry)) (now (code .entry)) (now (tables .entry)) (now (k .entry)) (now (l .entry)) (now (code .exit))
+        (now (tables .exit)) (now (k .exit)) ⌝ }
 {
     end_class(tables, k, i, at, list, n);
     let symbol = intern(tree, made, tables, k, l, name_part(tree, at), at as u32, 0);

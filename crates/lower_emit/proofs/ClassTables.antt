@@ -136,7 +136,8 @@ module _ (t made code tables : List ℕ) (i : ℕ) (c : Counts) (l : Limits) (s 
   kept : (b k : ℕ) → b + k ≤ constantsFrom → region b k (set tables (constantsFrom + c .constants) i) ≡ region b k tables
   kept b k g = set-below b k (constantsFrom + c .constants) i tables (omega arith)
 
-  classes-kept : classesOf t (region methodsFrom 256 (set tables (constantsFrom + c .constants) i)) (region classNamesFrom (c .classes) (set tables (constantsFrom + c .constants) i)) (region classMethodsFrom (c .classes) (set tables (constantsFrom + c .constants) i))
+  classes-kept : classesOf t (region methodsFrom 256 (set tables (constantsFrom + c .constants) i)) (region classNamesFrom (c .classes) (set tables (constantsFrom + c .constants) i))
+      (region classMethodsFrom (c .classes) (set tables (constantsFrom + c .constants) i))
       ≡ classesOf t (region methodsFrom 256 tables) (region classNamesFrom (c .classes) tables) (region classMethodsFrom (c .classes) tables)
   classes-kept =
       let p = kept methodsFrom 256 (omega arith) in
@@ -174,8 +175,10 @@ module _ (t made code tables : List ℕ) (i : ℕ) (c : Counts) (l : Limits) (s 
         codes = subst (Every (EndsWithin (c .done))) (sym k) (s .codes);
         class-methods = subst (Every (EndsWithin (c .methods))) (sym (kept classMethodsFrom (c .classes) (omega (arith, s .classes, s .limited .classes)))) (s .class-methods);
         finished = s .finished ∙ sym (ap total k);
-        symbol-index = symbols-indexed t made tables _ (c .symbols) (set-above symbolIndexFrom symbolBuckets (constantsFrom + c .constants) i tables (omega (arith, s .classes, s .limited .classes))) (kept 0 (c .symbols) (omega (arith, s .symbols, s .limited .symbols))) (s .symbol-index);
-        string-index = strings-indexed t tables _ (c .strings) (set-above stringIndexFrom stringBuckets (constantsFrom + c .constants) i tables (omega (arith, s .classes, s .limited .classes))) (kept stringsFrom (c .strings) (omega (arith, s .strings, s .limited .strings))) (s .string-index);
+        symbol-index = symbols-indexed t made tables _ (c .symbols) (set-above symbolIndexFrom symbolBuckets (constantsFrom + c .constants) i tables (omega (arith, s .classes, s .limited .classes)))
+            (kept 0 (c .symbols) (omega (arith, s .symbols, s .limited .symbols))) (s .symbol-index);
+        string-index = strings-indexed t tables _ (c .strings) (set-above stringIndexFrom stringBuckets (constantsFrom + c .constants) i tables (omega (arith, s .classes, s .limited .classes)))
+            (kept stringsFrom (c .strings) (omega (arith, s .strings, s .limited .strings))) (s .string-index);
       }
 
   pub constant-added : Counted (withConstants (c .constants + 1) c) (withConstants (c .constants + 1) c) t made code (set tables (constantsFrom + c .constants) i) l

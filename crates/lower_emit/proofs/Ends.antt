@@ -27,7 +27,8 @@ reaches-full {t} {k} {l} {made′} {code′} {tables′} {k′} {r} {next} {want
   numbers = n;
 }
 
-pub reaches-done : {t k l made′ code′ tables′ k′ : List ℕ} {r next : ℕ} {want : State} → (r ≡ 0 → ⊥) → 10 ≡ length k′ → Emits (Done r (countsOf k′)) t made′ code′ tables′ (countsOf k) (limitsIn l) next want → Reaches r next want t k l made′ code′ tables′ k′
+pub reaches-done : {t k l made′ code′ tables′ k′ : List ℕ} {r next : ℕ} {want : State} → (r ≡ 0 → ⊥) → 10 ≡ length k′
+    → Emits (Done r (countsOf k′)) t made′ code′ tables′ (countsOf k) (limitsIn l) next want → Reaches r next want t k l made′ code′ tables′ k′
 reaches-done {t} {k} {l} {made′} {code′} {tables′} {k′} {r} {next} {want} z n h = record {
   emits = subst (λ (x : Emitted). Emits x t made′ code′ tables′ (countsOf k) (limitsIn l) next want) (sym (answered-done r k′ z)) h;
   numbers = n;
@@ -50,7 +51,8 @@ module _ {code k l code₁ k₁ : List ℕ} {p next : ℕ} where
           let c = countsOf k in let c₁ = countsOf k₁ in let m = limitsIn l in
           let s₁ = put-sound t made code code₁ tables c c₁ m p next (getD k 7 0) (Jump 0) (S .sound) (answered p k₁) d (a .emits) in
           let o = put-open t made code code₁ tables c c₁ m p next (getD k 7 0) (Jump 0) (S .sound) (answered p k₁) d (a .emits) in
-          let j = jump-set t made code₁ tables (from - 1) 29 (getD k 8 0 - from + 1) (word 29 (getD k 8 0 - from + 1) 0) c₁ m s₁ (omega (arith, o)) (omega arith) (omega arith) (omega (arith, S .sound .words, S .sound .limited .instructions)) refl in
+          let j = jump-set t made code₁ tables (from - 1) 29 (getD k 8 0 - from + 1) (word 29 (getD k 8 0 - from + 1) 0) c₁ m s₁ (omega (arith, o)) (omega arith) (omega arith)
+          (omega (arith, S .sound .words, S .sound .limited .instructions)) refl in
           subst (λ (z : List ℕ). Reaches p next (setAt (from - 1) (instr 29 (getD k 8 0 - from + 1) 0) (emitAt (getD k 7 0) (one (Jump 0)) (stateOf t made code tables c))) t k l made z tables k₁) (sym e)
           (reaches-done n (a .numbers) (set-emits t made code code₁ tables c c₁ m p next (getD k 7 0) (Jump 0) (S .sound) (answered p k₁) d (a .emits) (from - 1) (instr 29 (getD k 8 0 - from + 1) 0) _ j));
     }
@@ -79,8 +81,11 @@ module _ {code k l code₁ k₁ : List ℕ} {p next : ℕ} where
           let s₁ = put-sound t made code code₁ tables c c₁ m p next (getD k 7 0) back (S .sound) (answered p k₁) d (a .emits) in
           let o = put-open t made code code₁ tables c c₁ m p next (getD k 7 0) back (S .sound) (answered p k₁) d (a .emits) in
           let q = loop-patched t made code₁ tables _ (inside - start) inside (open₀ - inside) open₀ c₁ m s₁ (omega arith) (omega (arith, o)) (omega arith) refl in
-          let j = jump-set t made _ tables (inside - 1) 29 (open₀ - inside + 1) (word 29 (open₀ - inside + 1) 0) c₁ m (q .sound) (omega (arith, o)) (omega arith) (omega arith) (omega (arith, S .sound .words, S .sound .limited .instructions)) refl in
-          subst (λ (z : List ℕ). Reaches p next (setAt (inside - 1) (instr 29 (open₀ - inside + 1) 0) (patchAt (inside - start) inside (open₀ - inside) (emitAt (getD k 7 0) (one back) (stateOf t made code tables c)))) t k l made z tables k₁)
+          let j = jump-set t made _ tables (inside - 1) 29 (open₀ - inside + 1) (word 29 (open₀ - inside + 1) 0) c₁ m (q .sound) (omega (arith, o)) (omega arith) (omega arith)
+          (omega (arith, S .sound .words, S .sound .limited .instructions)) refl in
+          subst (λ (z : List ℕ). Reaches p next (setAt (inside - 1) (instr 29 (open₀ - inside + 1) 0)
+          (patchAt (inside - start) inside (open₀ - inside) (emitAt (getD k 7 0) (one back) (stateOf t made code tables c)))) t k l made z tables k₁)
           (sym (f ∙ ap (λ (z : List ℕ). set z (inside - 1) (word 29 (open₀ - inside + 1) 0)) e))
-          (reaches-done n (a .numbers) (patched-emits t made code code₁ tables c c₁ m p next (getD k 7 0) back (S .sound) (answered p k₁) d (a .emits) (inside - start) inside (open₀ - inside) (inside - 1) (instr 29 (open₀ - inside + 1) 0) _ _ q j));
+          (reaches-done n (a .numbers) (patched-emits t made code code₁ tables c c₁ m p next (getD k 7 0) back (S .sound) (answered p k₁) d (a .emits) (inside - start) inside (open₀ - inside) (inside - 1)
+          (instr 29 (open₀ - inside + 1) 0) _ _ q j));
     }

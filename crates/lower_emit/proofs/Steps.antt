@@ -123,7 +123,8 @@ module _ (t made code tables k l : List ℕ) (op from next : ℕ) (S : SoundIn t
       let o = getD k 8 0 in
       let a : answered (suc r) k′ ≡ Done next (withOpen (o + 1 + 1) c) = answered-done (suc r) k′ nz ∙ (λ j. Done (p .0 j) (countsOf (p .3 j))) ∙ ap (Done next) (counts-open k (o + 1 + 1) (S .numbers)) in
       let f = put-left t made code tables (word 28 1 0) (instr 28 1 0) c (limitsIn l) (S .sound) (instr-jump t 28 1 (omega arith) (omega arith) (omega arith)) (omega (arith, p .1)) in
-      let g = put-left t made _ tables (word (33 - op) 0 0) (instr (33 - op) 0 0) _ (limitsIn l) (f .sound) (instr-plain t (33 - op) 0 0 (plain-below (33 - op) 0 0 (omega arith) (omega arith) (omega arith) (omega arith))) (omega (arith, p .1)) in
+      let g = put-left t made _ tables (word (33 - op) 0 0) (instr (33 - op) 0 0) _ (limitsIn l) (f .sound)
+      (instr-plain t (33 - op) 0 0 (plain-below (33 - op) 0 0 (omega arith) (omega arith) (omega arith) (omega arith))) (omega (arith, p .1)) in
       let j = jump-set t made _ tables from op (o - from) (word op (o - from) 0) _ (limitsIn l) (g .sound) (omega arith) (omega arith) hi (omega (arith, S .sound .words, S .sound .limited .instructions)) refl in
       record {
         emits = subst (λ (z : Type 0). z) (λ i. Emits (sym a i) t made (sym (p .2) i) tables c (limitsIn l) next (endAt (getD k 7 0) from op (o - from) s))

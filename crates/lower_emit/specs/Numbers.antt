@@ -11,7 +11,8 @@ use Rattle.state.specs.State.{stateOf, emitAt, Ready, Emits, Sound, headsFrom, 
 use Rattle.state.specs.declared.Counts.{Counts}
 use Rattle.state.specs.Answered.{Limits, Emitted, Done, Full, Numbered, At, Over}
 use Rattle.lower_emit.specs.Shortcut.{shortcutWords}
-use Rattle.lower_emit.specs.Places.{symbolsIn, stringsIn, functionsIn, classesIn, methodsIn, constantsIn, madeIn, baseIn, openIn, doneIn, setFunctions, setBase, setOpen, setDone, functionLimit, symbolLimit, stringLimit, classLimit, instructionLimit}
+use Rattle.lower_emit.specs.Places.{symbolsIn, stringsIn, functionsIn, classesIn, methodsIn, constantsIn, madeIn, baseIn, openIn, doneIn, setFunctions, setBase, setOpen, setDone, functionLimit, symbolLimit, stringLimit}
+use Rattle.lower_emit.specs.Places.{classLimit, instructionLimit}
 
 abbrev pub countsOf : List ℕ → Counts
 countsOf k = record {

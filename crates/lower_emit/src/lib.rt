@@ -1,10 +1,8 @@
 // Words put, jumps set, functions begun and ended: of the code, the tables and the numbers that each touches alone.
 pub mod jumps; // jumps.rt: the ends of branches and loops
 
-pub use numerals::ops;
 use numerals::ops::JUMP;
 use numerals::ops::SHORT;
-pub use numerals::places;
 use numerals::places::BASE;
 use numerals::places::CODES_FROM;
 use numerals::places::DONE;

@@ -39,7 +39,8 @@ pub record ExprsRest (d : ℕ) (t : List ℕ) (names : List Name) (made₀ code�
   pub code-kept : length code ≡ length code₀
   pub tables-kept : length tables ≡ length tables₀
 
-pub rest1-all : {d : ℕ} {t slots : List ℕ} {made code tables k l : List ℕ} {n p : ℕ} (names : List Name) → ReadyIn t slots made code tables k l → LowerableMany d n t p → 0 < p → ExprsRest d t names made code tables k l n p made code tables k n p
+pub rest1-all : {d : ℕ} {t slots : List ℕ} {made code tables k l : List ℕ} {n p : ℕ} (names : List Name) → ReadyIn t slots made code tables k l → LowerableMany d n t p → 0 < p
+    → ExprsRest d t names made code tables k l n p made code tables k n p
 rest1-all {d} {t} {slots} {made} {code} {tables} {k} {l} {n} {p} names R r h = record {
   elements = r;
   next = refl;

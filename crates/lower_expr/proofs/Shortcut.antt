@@ -40,6 +40,7 @@ module _ {t made code tables k l code₁ k₁ : List ℕ} {op at p : ℕ} (S : S
       shortcut1-end {code₃} {k₃} r₃ x =
           let u = shortcut-lifts t made₂ code₂ tables₂ k₂ l op (getD k 8 0) r (sound-next z h) (omega arith) shortcut1-before lo hi r₃ x in
           record {
-            emits = shortcut-end t made code tables (countsOf k) (limitsIn l) (S .sound) op lo hi e next made code₁ tables (countsOf k₁) (done-of y jump .1) (answered r₃ k₃) r made₂ code₂ tables₂ code₃ (countsOf k₂) (done-of z h .1) (done-of z h .0) (u .emits);
+            emits = shortcut-end t made code tables (countsOf k) (limitsIn l) (S .sound) op lo hi e next made code₁ tables (countsOf k₁) (done-of y jump .1) (answered r₃ k₃) r made₂ code₂ tables₂ code₃
+                (countsOf k₂) (done-of z h .1) (done-of z h .0) (u .emits);
             numbers = u .numbers;
           }

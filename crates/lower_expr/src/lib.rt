@@ -49,7 +49,8 @@ ghost use Rattle.exprs.specs.ExprAt.{exprAt, exprsAt, secondAt, listAt, binaryO
 ghost use Rattle.state.specs.Words.{nameAt};
 ghost use Rattle.state.specs.State.{slotNames, slotsFrom, Slots};
 ghost use Rattle.lower_emit.specs.Ops.{Plain};
-ghost use Rattle.lower_forms.specs.Lowerable.{Lowerable, LowerableMany, exprCode, exprsCode, UnaryLowerable, TwoLowerable, BinaryLowerable, ArgsLowerable, CallLowerable, NamedLowerable, AttributeLowerable, MethodLowerable, methodCode, callInstr, DisplayLowerable, Short, LambdaLowerable, lambdaCode, ClosureLowerable, CapturesHeld, closureCode, functionCode};
+ghost use Rattle.lower_forms.specs.Lowerable.{Lowerable, LowerableMany, exprCode, exprsCode, UnaryLowerable, TwoLowerable, BinaryLowerable, ArgsLowerable, CallLowerable, NamedLowerable, AttributeLowerable, MethodLowerable, methodCode};
+ghost use Rattle.lower_forms.specs.Lowerable.{callInstr, DisplayLowerable, Short, LambdaLowerable, lambdaCode, ClosureLowerable, CapturesHeld, closureCode, functionCode};
 ghost use Rattle.opcodes.specs.Codes.{unaryOpcode, displayOf, heldOf};
 ghost use Rattle.lower_emit.specs.Numbers.{ReadyIn, LowersIn};
 ghost use Rattle.lower_names.specs.Naming.{calleeIn};
@@ -169,7 +170,8 @@ fn emit_unary(
     l: &[u32; LIMITS],
 ) -> usize
     requires { ⌜ ReadyIn (now tree) (now slots) (now made) (now code) (now tables) (now k) (now l) × UnaryLowerable depth (now tree) at ⌝ }
-    ensures { λ r. ⌜ LowersIn r (exprCode depth (now (tree .entry)) (slotNames (now (tree .entry)) (now (slots .entry))) (at + 1) ⨟ one (instr (unaryOpcode (getD (now (tree .entry)) at 0)) 0 0)) (exprAt depth (now (tree .entry)) (at + 1) .end)
+    ensures { λ r. ⌜ LowersIn r (exprCode depth (now (tree .entry)) (slotNames (now (tree .entry)) (now (slots .entry))) (at + 1) ⨟ one (instr (unaryOpcode (getD (now (tree .entry)) at 0)) 0 0))
+        (exprAt depth (now (tree .entry)) (at + 1) .end)
         (now (tree .entry)) (now (made .entry)) (now (code .entry)) (now (tables .entry)) (now (k .entry)) (now (l .entry)) (now (made .exit)) (now (code .exit)) (now (tables .exit)) (now (k .exit)) ⌝ }
 {
     let op = unary_code(tree[at]);
@@ -194,7 +196,8 @@ fn emit_two(
     l: &[u32; LIMITS],
 ) -> usize
     requires { ⌜ ReadyIn (now tree) (now slots) (now made) (now code) (now tables) (now k) (now l) × TwoLowerable depth (now tree) at × Plain op 0 0 ⌝ }
-    ensures { λ r. ⌜ LowersIn r (exprCode depth (now (tree .entry)) (slotNames (now (tree .entry)) (now (slots .entry))) at ⨟ exprCode depth (now (tree .entry)) (slotNames (now (tree .entry)) (now (slots .entry))) (exprAt depth (now (tree .entry)) at .end) ⨟ one (instr op 0 0)) (secondAt depth (now (tree .entry)) at .end)
+    ensures { λ r. ⌜ LowersIn r (exprCode depth (now (tree .entry)) (slotNames (now (tree .entry)) (now (slots .entry))) at
+        ⨟ exprCode depth (now (tree .entry)) (slotNames (now (tree .entry)) (now (slots .entry))) (exprAt depth (now (tree .entry)) at .end) ⨟ one (instr op 0 0)) (secondAt depth (now (tree .entry)) at .end)
         (now (tree .entry)) (now (made .entry)) (now (code .entry)) (now (tables .entry)) (now (k .entry)) (now (l .entry)) (now (made .exit)) (now (code .exit)) (now (tables .exit)) (now (k .exit)) ⌝ }
 {
     let middle = emit_expr(tree, at, depth, slots, made, code, tables, k, l);
@@ -221,7 +224,8 @@ fn emit_binary(
     l: &[u32; LIMITS],
 ) -> usize
     requires { ⌜ ReadyIn (now tree) (now slots) (now made) (now code) (now tables) (now k) (now l) × BinaryLowerable depth (now tree) at ⌝ }
-    ensures { λ r. ⌜ LowersIn r (emitExpr (slotNames (now (tree .entry)) (now (slots .entry))) (binaryOf (getD (now (tree .entry)) at 0) (exprAt depth (now (tree .entry)) (at + 1) .value) (secondAt depth (now (tree .entry)) (at + 1) .value))) (secondAt depth (now (tree .entry)) (at + 1) .end)
+    ensures { λ r. ⌜ LowersIn r (emitExpr (slotNames (now (tree .entry)) (now (slots .entry)))
+        (binaryOf (getD (now (tree .entry)) at 0) (exprAt depth (now (tree .entry)) (at + 1) .value) (secondAt depth (now (tree .entry)) (at + 1) .value))) (secondAt depth (now (tree .entry)) (at + 1) .end)
         (now (tree .entry)) (now (made .entry)) (now (code .entry)) (now (tables .entry)) (now (k .entry)) (now (l .entry)) (now (made .exit)) (now (code .exit)) (now (tables .exit)) (now (k .exit)) ⌝ }
 {
     let operator = tree[at];
@@ -267,7 +271,9 @@ fn emit_logical(
     l: &[u32; LIMITS],
 ) -> usize
     requires { ⌜ ReadyIn (now tree) (now slots) (now made) (now code) (now tables) (now k) (now l) × TwoLowerable depth (now tree) at × (29 ≤ op) × (op ≤ 30) ⌝ }
-    ensures { λ r. ⌜ LowersIn r (exprCode depth (now (tree .entry)) (slotNames (now (tree .entry)) (now (slots .entry))) at ⨟ shortcut (eqb op 30) (exprCode depth (now (tree .entry)) (slotNames (now (tree .entry)) (now (slots .entry))) (exprAt depth (now (tree .entry)) at .end))) (secondAt depth (now (tree .entry)) at .end)
+    ensures { λ r. ⌜ LowersIn r (exprCode depth (now (tree .entry)) (slotNames (now (tree .entry)) (now (slots .entry))) at
+        ⨟ shortcut (eqb op 30) (exprCode depth (now (tree .entry)) (slotNames (now (tree .entry)) (now (slots .entry))) (exprAt depth (now (tree .entry)) at .end)))
+        (secondAt depth (now (tree .entry)) at .end)
         (now (tree .entry)) (now (made .entry)) (now (code .entry)) (now (tables .entry)) (now (k .entry)) (now (l .entry)) (now (made .exit)) (now (code .exit)) (now (tables .exit)) (now (k .exit)) ⌝ }
 {
     let middle = emit_expr(tree, at, depth, slots, made, code, tables, k, l);
@@ -319,7 +325,9 @@ fn emit_call(
     l: &[u32; LIMITS],
 ) -> usize
     requires { ⌜ ReadyIn (now tree) (now slots) (now made) (now code) (now tables) (now k) (now l) × CallLowerable depth (now tree) at ⌝ }
-    ensures { λ r. ⌜ LowersIn r (emitExpr (slotNames (now (tree .entry)) (now (slots .entry))) (call (exprAt depth (now (tree .entry)) at .value) (listAt depth (now (tree .entry)) (exprAt depth (now (tree .entry)) at .end) .value))) (listAt depth (now (tree .entry)) (exprAt depth (now (tree .entry)) at .end) .end)
+    ensures { λ r. ⌜ LowersIn r (emitExpr (slotNames (now (tree .entry)) (now (slots .entry)))
+        (call (exprAt depth (now (tree .entry)) at .value) (listAt depth (now (tree .entry)) (exprAt depth (now (tree .entry)) at .end) .value)))
+        (listAt depth (now (tree .entry)) (exprAt depth (now (tree .entry)) at .end) .end)
         (now (tree .entry)) (now (made .entry)) (now (code .entry)) (now (tables .entry)) (now (k .entry)) (now (l .entry)) (now (made .exit)) (now (code .exit)) (now (tables .exit)) (now (k .exit)) ⌝ }
 {
     let kind = tree[at];
@@ -360,7 +368,8 @@ fn emit_named(
     l: &[u32; LIMITS],
 ) -> usize
     requires { ⌜ ReadyIn (now tree) (now slots) (now made) (now code) (now tables) (now k) (now l) × NamedLowerable depth (now tree) at ⌝ }
-    ensures { λ r. ⌜ LowersIn r (emitExpr (slotNames (now (tree .entry)) (now (slots .entry))) (call (var (nameAt (now (tree .entry)) at)) (listAt depth (now (tree .entry)) (nameEnd (now (tree .entry)) at) .value))) (listAt depth (now (tree .entry)) (nameEnd (now (tree .entry)) at) .end)
+    ensures { λ r. ⌜ LowersIn r (emitExpr (slotNames (now (tree .entry)) (now (slots .entry)))
+        (call (var (nameAt (now (tree .entry)) at)) (listAt depth (now (tree .entry)) (nameEnd (now (tree .entry)) at) .value))) (listAt depth (now (tree .entry)) (nameEnd (now (tree .entry)) at) .end)
         (now (tree .entry)) (now (made .entry)) (now (code .entry)) (now (tables .entry)) (now (k .entry)) (now (l .entry)) (now (made .exit)) (now (code .exit)) (now (tables .exit)) (now (k .exit)) ⌝ }
 {
     let start = name_end(tree, at);
@@ -385,7 +394,8 @@ fn emit_method(
     l: &[u32; LIMITS],
 ) -> usize
     requires { ⌜ ReadyIn (now tree) (now slots) (now made) (now code) (now tables) (now k) (now l) × MethodLowerable depth (now tree) at ⌝ }
-    ensures { λ r. ⌜ LowersIn r (methodCode depth (now (tree .entry)) (slotNames (now (tree .entry)) (now (slots .entry))) at) (listAt depth (now (tree .entry)) (nameEnd (now (tree .entry)) (exprAt (depth - 1) (now (tree .entry)) at .end)) .end)
+    ensures { λ r. ⌜ LowersIn r (methodCode depth (now (tree .entry)) (slotNames (now (tree .entry)) (now (slots .entry))) at)
+        (listAt depth (now (tree .entry)) (nameEnd (now (tree .entry)) (exprAt (depth - 1) (now (tree .entry)) at .end)) .end)
         (now (tree .entry)) (now (made .entry)) (now (code .entry)) (now (tables .entry)) (now (k .entry)) (now (l .entry)) (now (made .exit)) (now (code .exit)) (now (tables .exit)) (now (k .exit)) ⌝ }
 {
     let name = emit_expr(tree, at, depth - 1, slots, made, code, tables, k, l);
@@ -415,7 +425,8 @@ fn emit_args(
     l: &[u32; LIMITS],
 ) -> usize
     requires { ⌜ ReadyIn (now tree) (now slots) (now made) (now code) (now tables) (now k) (now l) × ArgsLowerable depth (now tree) at × Short (calleeIn callee) ⌝ }
-    ensures { λ r. ⌜ LowersIn r (exprsCode depth (countAt (now (tree .entry)) at) (now (tree .entry)) (slotNames (now (tree .entry)) (now (slots .entry))) (at + 2) ⨟ one (callInstr (calleeIn callee) (countAt (now (tree .entry)) at))) (listAt depth (now (tree .entry)) at .end)
+    ensures { λ r. ⌜ LowersIn r (exprsCode depth (countAt (now (tree .entry)) at) (now (tree .entry)) (slotNames (now (tree .entry)) (now (slots .entry))) (at + 2)
+        ⨟ one (callInstr (calleeIn callee) (countAt (now (tree .entry)) at))) (listAt depth (now (tree .entry)) at .end)
         (now (tree .entry)) (now (made .entry)) (now (code .entry)) (now (tables .entry)) (now (k .entry)) (now (l .entry)) (now (made .exit)) (now (code .exit)) (now (tables .exit)) (now (k .exit)) ⌝ }
 {
     let n = u16_at(tree, at);
@@ -439,7 +450,8 @@ fn emit_attribute(
     l: &[u32; LIMITS],
 ) -> usize
     requires { ⌜ ReadyIn (now tree) (now slots) (now made) (now code) (now tables) (now k) (now l) × AttributeLowerable depth (now tree) at ⌝ }
-    ensures { λ r. ⌜ LowersIn r (exprCode depth (now (tree .entry)) (slotNames (now (tree .entry)) (now (slots .entry))) at ⨟ intern (nameAt (now (tree .entry)) (exprAt depth (now (tree .entry)) at .end)) (λ k. one (LoadAttr k))) (nameEnd (now (tree .entry)) (exprAt depth (now (tree .entry)) at .end))
+    ensures { λ r. ⌜ LowersIn r (exprCode depth (now (tree .entry)) (slotNames (now (tree .entry)) (now (slots .entry))) at
+        ⨟ intern (nameAt (now (tree .entry)) (exprAt depth (now (tree .entry)) at .end)) (λ k. one (LoadAttr k))) (nameEnd (now (tree .entry)) (exprAt depth (now (tree .entry)) at .end))
         (now (tree .entry)) (now (made .entry)) (now (code .entry)) (now (tables .entry)) (now (k .entry)) (now (l .entry)) (now (made .exit)) (now (code .exit)) (now (tables .exit)) (now (k .exit)) ⌝ }
 {
     let name = emit_expr(tree, at, depth, slots, made, code, tables, k, l);
@@ -474,7 +486,8 @@ fn emit_display(
     l: &[u32; LIMITS],
 ) -> usize
     requires { ⌜ ReadyIn (now tree) (now slots) (now made) (now code) (now tables) (now k) (now l) × DisplayLowerable kind depth (now tree) at ⌝ }
-    ensures { λ r. ⌜ LowersIn r (exprsCode depth (heldOf kind (countAt (now (tree .entry)) at)) (now (tree .entry)) (slotNames (now (tree .entry)) (now (slots .entry))) (at + 2) ⨟ one (Build (displayOf kind) (countAt (now (tree .entry)) at))) (exprsAt depth (heldOf kind (countAt (now (tree .entry)) at)) (now (tree .entry)) (at + 2) .end)
+    ensures { λ r. ⌜ LowersIn r (exprsCode depth (heldOf kind (countAt (now (tree .entry)) at)) (now (tree .entry)) (slotNames (now (tree .entry)) (now (slots .entry))) (at + 2)
+        ⨟ one (Build (displayOf kind) (countAt (now (tree .entry)) at))) (exprsAt depth (heldOf kind (countAt (now (tree .entry)) at)) (now (tree .entry)) (at + 2) .end)
         (now (tree .entry)) (now (made .entry)) (now (code .entry)) (now (tables .entry)) (now (k .entry)) (now (l .entry)) (now (made .exit)) (now (code .exit)) (now (tables .exit)) (now (k .exit)) ⌝ }
 {
     let n = u16_at(tree, at);
@@ -549,7 +562,8 @@ fn emit_closure(
     k: &mut [u32; COUNTS],
     l: &[u32; LIMITS],
 ) -> usize
-    requires { ⌜ ReadyIn (now tree) (now slots) (now made) (now code) (now tables) (now k) (now l) × ClosureLowerable depth (now tree) arity (drop slotsFrom (now inner)) at × CapturesHeld (now tree) (slotNames (now tree) (now slots)) arity (drop slotsFrom (now inner)) × Slots (now tree) (now inner) ⌝ }
+    requires { ⌜ ReadyIn (now tree) (now slots) (now made) (now code) (now tables) (now k) (now l) × ClosureLowerable depth (now tree) arity (drop slotsFrom (now inner)) at
+        × CapturesHeld (now tree) (slotNames (now tree) (now slots)) arity (drop slotsFrom (now inner)) × Slots (now tree) (now inner) ⌝ }
     ensures { λ r. ⌜ LowersIn r (closureCode depth (now (tree .entry)) (slotNames (now (tree .entry)) (now (slots .entry))) arity (drop slotsFrom (now (inner .entry))) at) (exprAt depth (now (tree .entry)) at .end)
         (now (tree .entry)) (now (made .entry)) (now (code .entry)) (now (tables .entry)) (now (k .entry)) (now (l .entry)) (now (made .exit)) (now (code .exit)) (now (tables .exit)) (now (k .exit)) ⌝ }
 {

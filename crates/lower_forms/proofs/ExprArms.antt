@@ -14,7 +14,7 @@ use Rattle.definitions.specs.Wellformed.{ifAsked, askName, distinct, askParams,
 use Rattle.definitions.specs.Instruction.{instr, Build, LoadAttr, LoadIndex, operatorCode}
 use Rattle.definitions.specs.Tables.{Emit, one, _⨟_, intern}
 use Rattle.definitions.specs.Lower.{literal, load, decides, shortcut, displaySize, emitExpr, emitExprs}
-use Rattle.parts.specs.Places.{Node, node, countAt, Counted, nameBytes, nameEnd, There, paramsAt, namesFrom}
+use Rattle.parts.specs.Places.{Node, node, countAt, Counted, nameBytes, nameEnd, There, paramsAt}
 use Rattle.exprs.specs.ExprAt.{exprAt, exprsAt, ExprsRead, unaryOps, binaryOf, secondAt, listAt, varAt, unaryAt, binaryAt, callAt, attributeAt, displayAt, dictAt, indexAt, lambdaAt, consAt}
 use Rattle.exprs.specs.Literals.{LiteralAt}
 use Rattle.exprs.proofs.ExprViews.{expr-deep, expr-inside, view-var, view-unary, view-binary, view-call, view-attribute, view-list, view-dict, view-tuple, view-set, view-tree-set}
@@ -25,6 +25,7 @@ use Rattle.lower_forms.specs.Lowerable.{Lowerable, LowerableMany, exprCo
 use Rattle.lower_forms.specs.Lowerable.{AttributeLowerable, DisplayLowerable, LambdaLowerable, lambdaCode}
 use Rattle.opcodes.specs.Codes.{unaryOpcode, displayOf, heldOf}
 use Rattle.opcodes.proofs.Opcodes.{operator-is}
+use Rattle.parts.proofs.NameLaws.{length-names}
 
 pub and-both : (a b : Bool) → a && b ≡ true → (a ≡ true) × (b ≡ true)
 and-both true b e = (refl, e)
@@ -69,18 +70,15 @@ module _ (x y : Expr) where
       go false true e f = both-logical k andOp (and-of k (omega (arith, ltb-false k 12 e, ltb-true k 13 f)))
       go false false e f = both-logical k orOp (or-of k (omega (arith, ltb-false k 13 f)))
 
-names-count : (t : List ℕ) (n p : ℕ) → length (namesFrom t n p) ≡ n
-unfolding namesFrom
-names-count t zero p = refl
-names-count t (suc n) p = ap suc (names-count t n (nameEnd t p))
-
 pub params-count : (t : List ℕ) (p : ℕ) → length (paramsAt t p .value) ≡ countAt t p
 unfolding paramsAt
-params-count t p = names-count t (countAt t p) (p + 2)
+params-count t p = length-names t (countAt t p) (p + 2)
 
 pub few-params : (t : List ℕ) (p : ℕ) → askParams 13 (paramsAt t p .value) ≡ true → countAt t p ≤ 255
 unfolding askParams ifAsked
-few-params t p a = let n = params-count t p in let h = leb-true (length (paramsAt t p .value)) 255 (and-both (all (askName 13) (paramsAt t p .value) && ifAsked 11 13 (distinct (paramsAt t p .value))) (leb (length (paramsAt t p .value)) 255) a .1) in omega arith
+few-params t p a = let n = params-count t p in
+    let h = leb-true (length (paramsAt t p .value)) 255 (and-both (all (askName 13) (paramsAt t p .value) && ifAsked 11 13 (distinct (paramsAt t p .value))) (leb (length (paramsAt t p .value)) 255) a .1)
+    in omega arith
 
 few-args : (d : ℕ) (t : List ℕ) (q : ℕ) → ExprsRead d (countAt t q) t (q + 2) → askArgs 13 (listAt d t q .value) ≡ true → countAt t q ≤ 255
 unfolding askArgs ifAsked

@@ -363,7 +363,8 @@ rest-is n xs = take-all (length xs - (slotsFrom + n)) (drop (slotsFrom + n) xs) 
 
 -- the closure's end, for the captures as a part of the slots
 pub captured-as : (n : ℕ) (inner : List ℕ) (r : Emitted) (names : List Name) (f q : ℕ) (t made code tables made′ code′ tables′ : List ℕ) (c : Counts) (l : Limits)
-    → Lowers r (loads names (namesAt t (take (length inner - (slotsFrom + n)) (drop (slotsFrom + n) inner))) ⨟ one (MakeClosure f (length (take (length inner - (slotsFrom + n)) (drop (slotsFrom + n) inner))))) q t made code tables made′ code′ tables′ c l
+    → Lowers r (loads names (namesAt t (take (length inner - (slotsFrom + n)) (drop (slotsFrom + n) inner)))
+    ⨟ one (MakeClosure f (length (take (length inner - (slotsFrom + n)) (drop (slotsFrom + n) inner))))) q t made code tables made′ code′ tables′ c l
     → Lowers r (loads names (namesAt t (drop n (drop slotsFrom inner))) ⨟ one (MakeClosure f (length (drop n (drop slotsFrom inner))))) q t made code tables made′ code′ tables′ c l
 captured-as n inner r names f q t made code tables made′ code′ tables′ c l h =
     lowers-as r _ _ q q t made code tables made′ code′ tables′ c l h (ap (λ (xs : List ℕ). loads names (namesAt t xs) ⨟ one (MakeClosure f (length xs))) (sym (rest-is n inner))) refl

@@ -61,7 +61,8 @@ module _ {tree made made₁ tables tables₁ k k₁ l : List ℕ} {i : ℕ} (ari
   pub begins-lambda : {tables₂ k₂ : List ℕ} {r : ℕ} → i < 65536 → arity < 256 → locals < 256 → Begun r tables₁ tables₂ k₁ k₂ l i arity locals → BeginsLambda r arity locals tree made made₁ tables tables₂ k k₂ l
   begins-lambda {tables₂} {k₂} {r} z a b g = record {
     begins = λ code S.
-        let q = numbers-at tree made₁ code tables₁ (countsOf k) (limitsIn l) _ _ _ i (countsOf k₁) (numbered-at i k₁ z) (numbers-name _ tree made₁ code tables₁ (countsOf k) (limitsIn l) _ _ _ (lambda-name (getD k 2 0)) (h .numbers code S)) in
+        let q = numbers-at tree made₁ code tables₁ (countsOf k) (limitsIn l) _ _ _ i (countsOf k₁) (numbered-at i k₁ z)
+        (numbers-name _ tree made₁ code tables₁ (countsOf k) (limitsIn l) _ _ _ (lambda-name (getD k 2 0)) (h .numbers code S)) in
         begin-after tree made code tables made₁ tables₁ (countsOf k) (countsOf k₁) (limitsIn l) (lambdaName (getD k 2 0)) (S .sound) (numbered r k₂) i _ arity locals tables₂ q
         (begun-lifts (record { numbers = h .kept; sound = q .1 .sound }) z a b g);
     numbers = g .numbers;
@@ -191,7 +192,8 @@ module _ {t slots captured code₀ k₀ l code k : List ℕ} {i : ℕ} (G : Load
     pub slot-small : s < 65536
     slot-small = let b = slot-below (slotNames t slots) _ _ s has (sym (names-length t (drop slotsFrom slots))) slot in let z = slots-count t slots Z in omega (arith, b, z .0, z .1)
 
-    one-load : {code′ k′ : List ℕ} {p next : ℕ} → 0 < next → Put p code code′ k k′ l (word 9 s 0) next → (made tables : List ℕ) → SoundIn t made code₀ tables k₀ l → LowersIn p (load (slotNames t slots) (nameAt t (getD captured i 0))) next t made code tables k l made code′ tables k′
+    one-load : {code′ k′ : List ℕ} {p next : ℕ} → 0 < next → Put p code code′ k k′ l (word 9 s 0) next → (made tables : List ℕ) → SoundIn t made code₀ tables k₀ l
+        → LowersIn p (load (slotNames t slots) (nameAt t (getD captured i 0))) next t made code tables k l made code′ tables k′
     one-load {code′} {k′} {p} {next} n h made tables S =
         let here : SoundIn t made code tables k l = record { numbers = G .room .numbers; sound = G .midway made tables S .sound } in
         lowers-state (put-lifts p here n (instr-plain t 9 s 0 (plain-below 9 s 0 (omega arith) (omega arith) slot-small (omega arith))) h)

@@ -32,7 +32,8 @@ pub fn emit_literal(
     k: &mut [u32; COUNTS],
     l: &[u32; LIMITS],
 ) -> usize
-    requires { ⌜ Texts (now tree) (now tables) (now k) (now l) × Room (now code) (now k) (now l) × (length (now tree) ≤ 32768) × LiteralAt (now tree) at × (lit (literalOf (now tree) x) ≡ exprAt 1 (now tree) at .value) × Plain x × TextPlace (now tree) at x ⌝ }
+    requires { ⌜ Texts (now tree) (now tables) (now k) (now l) × Room (now code) (now k) (now l) × (length (now tree) ≤ 32768) × LiteralAt (now tree) at
+        × (lit (literalOf (now tree) x) ≡ exprAt 1 (now tree) at .value) × Plain x × TextPlace (now tree) at x ⌝ }
     ensures { λ r. ⌜ Quotes r (literal (literalOf (now (tree .entry)) x)) (exprAt 1 (now (tree .entry)) at .end)
         (now (tree .entry)) (now (code .entry)) (now (tables .entry)) (now (k .entry)) (now (l .entry)) (now (code .exit)) (now (tables .exit)) (now (k .exit)) ⌝ }
 {

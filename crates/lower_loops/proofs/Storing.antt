@@ -1,12 +1,12 @@
 -- An iterator stored, in a slot or in a global, and the word that loads it.
 use Prim.Native.Nat.{ℕ, _+_, _-_, _<_, _≤_}
-use mathlib.Core.Path.{_≡_, refl, sym, ap, subst, _∙_}
+use mathlib.Core.Path.{_≡_, refl, sym, ap, subst}
 use mathlib.Core.List.{List}
 use native.Mathlib.Omega.{arith}
 use lib.ListN.{length, getD}
 use Rattle.definitions.specs.Instruction.{Instr, instr}
 use Rattle.definitions.specs.Tables.{one}
-use Rattle.definitions.specs.Slots.{Keeping, inGlobals, inSlots}
+use Rattle.definitions.specs.Slots.{Keeping, inGlobals}
 use Rattle.definitions.specs.Lower.{Keeper, global, local, storeIter, loadIter, iterName}
 use Rattle.state.specs.Words.{word}
 use Rattle.state.specs.State.{State, stateOf, emitAt, Left, Emits, Numbers, symbolNumber, withSymbol, withTables}

@@ -9,7 +9,7 @@ use Rattle.definitions.specs.Tables.{one}
 use Rattle.definitions.specs.Slots.{Keeping}
 use Rattle.definitions.specs.Lower.{Keeper, global, local, storeIter, loadIter}
 use Rattle.state.specs.Words.{word, opOf, firstOf, instrOf}
-use Rattle.state.specs.State.{State, stateOf, emitAt}
+use Rattle.state.specs.State.{stateOf, emitAt}
 use Rattle.state.specs.Kept.{keeperAt, keptAt}
 use Rattle.lower_emit.specs.Numbers.{countsOf, SoundIn}
 use Rattle.lower_emit.specs.Places.{baseIn}

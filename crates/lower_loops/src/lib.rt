@@ -115,7 +115,8 @@ fn store_global(
     l: &[u32; LIMITS],
 ) -> u32
     requires { ⌜ SoundIn (now tree) (now made) (now code) (now tables) (now k) (now l) ⌝ }
-    ensures { λ r. ⌜ StoresIterator r inGlobals (now (tree .entry)) (now (made .entry)) (now (code .entry)) (now (tables .entry)) (now (k .entry)) (now (l .entry)) (now (made .exit)) (now (code .exit)) (now (tables .exit)) (now (k .exit)) ⌝ }
+    ensures { λ r. ⌜ StoresIterator r inGlobals (now (tree .entry)) (now (made .entry)) (now (code .entry)) (now (tables .entry)) (now (k .entry)) (now (l .entry)) (now (made .exit)) (now (code .exit))
+        (now (tables .exit)) (now (k .exit)) ⌝ }
 {
     let place = k[OPEN] - k[BASE];
     let g = intern_made(tree, made, tables, k, l, Made::Iterator(place));
@@ -137,7 +138,8 @@ pub fn store_iterator(
     it: &mut u32,
 ) -> u32
     requires { ⌜ SoundIn (now tree) (now made) (now code) (now tables) (now k) (now l) ⌝ }
-    ensures { λ r. ⌜ StoresIterator r (keepingOf (now (it .entry))) (now (tree .entry)) (now (made .entry)) (now (code .entry)) (now (tables .entry)) (now (k .entry)) (now (l .entry)) (now (made .exit)) (now (code .exit)) (now (tables .exit)) (now (k .exit))
+    ensures { λ r. ⌜ StoresIterator r (keepingOf (now (it .entry))) (now (tree .entry)) (now (made .entry)) (now (code .entry)) (now (tables .entry)) (now (k .entry)) (now (l .entry)) (now (made .exit))
+        (now (code .exit)) (now (tables .exit)) (now (k .exit))
         × (now (it .exit) ≡ afterLoops (now (it .entry)) 1) ⌝ }
 {
     let slot = *it;

@@ -264,7 +264,8 @@ module _ (tree made code tables : List ℕ) (c : Counts) (l : Limits) (s : Sound
       omega (arith, inside .strings)
 
   -- zs: the tables with the place p after the strings, and its bucket noted
-  module _ (zs : List ℕ) (r : Renewed stringIndexFrom stringBuckets (set tables (stringsFrom + c .strings) p) zs (noted (region stringIndexFrom stringBuckets (set tables (stringsFrom + c .strings) p)) (bucketOf stringBuckets text) (c .strings)))
+  module _ (zs : List ℕ) (r : Renewed stringIndexFrom stringBuckets (set tables (stringsFrom + c .strings) p) zs
+      (noted (region stringIndexFrom stringBuckets (set tables (stringsFrom + c .strings) p)) (bucketOf stringBuckets text) (c .strings)))
       (room : c .strings < l .strings) where
     above-text : (a n : ℕ) → 1536 ≤ a → a + n ≤ stringIndexFrom → region a n zs ≡ region a n tables
     above-text a n h k = r .below a n k ∙ set-above a n (stringsFrom + c .strings) p tables (omega (arith, s .limited))

@@ -45,7 +45,8 @@ module _ {tree tables k l : List ℕ} {p i : ℕ} (T : Texts tree tables k l) (f
     words = (refl, refl);
   }
 
-  pub adds-new : (zs : List ℕ) → Renewed stringIndexFrom stringBuckets (set tables (stringsFrom + getD k 1 0) p) zs (noted (region stringIndexFrom stringBuckets (set tables (stringsFrom + getD k 1 0) p)) (bucketOf stringBuckets (textAt tree p)) (getD k 1 0))
+  pub adds-new : (zs : List ℕ) → Renewed stringIndexFrom stringBuckets (set tables (stringsFrom + getD k 1 0) p) zs
+      (noted (region stringIndexFrom stringBuckets (set tables (stringsFrom + getD k 1 0) p)) (bucketOf stringBuckets (textAt tree p)) (getD k 1 0))
       → getD k 1 0 < getD l 2 0 → getD k 1 0 ≤ i → Adds (getD k 1 0) tree tables zs k (set k 1 (getD k 1 0 + 1)) l p
   adds-new zs r room h = record {
     numbers = λ made code S.
@@ -60,13 +61,15 @@ module _ {tree tables k l : List ℕ} {p i : ℕ} (T : Texts tree tables k l) (f
 -- what the code finds from the first number on
 module _ {tree tables k l text : List ℕ} (p : ℕ) {h first r : ℕ} (T : Texts tree tables k l) (is : text ≡ textAt tree p) (hashed : h ≡ hashOf text)
     (start : first ≡ startOf (getD (region stringIndexFrom stringBuckets tables) (h % stringBuckets) 0) (getD k 1 0))
-    (found : r ≡ foundOr (length (take (stringsFrom + getD k 1 0 - (stringsFrom + first)) (drop (stringsFrom + first) tables))) (position (same text) (map (textAt tree) (take (stringsFrom + getD k 1 0 - (stringsFrom + first)) (drop (stringsFrom + first) tables))))) where
+    (found : r ≡ foundOr (length (take (stringsFrom + getD k 1 0 - (stringsFrom + first)) (drop (stringsFrom + first) tables)))
+    (position (same text) (map (textAt tree) (take (stringsFrom + getD k 1 0 - (stringsFrom + first)) (drop (stringsFrom + first) tables))))) where
   pub added-le : first + r ≤ getD k 1 0
   added-le = indexed-le (textAt tree) tables (region stringIndexFrom stringBuckets tables) stringBuckets stringsFrom (getD k 1 0) text first (h % stringBuckets) r (stringsFrom + first) (stringsFrom + getD k 1 0 - (stringsFrom + first))
       (omega (arith, T .tables-room, T .strings, T .limit)) (T .string-index) (bucket-is stringBuckets text text h hashed refl) start refl (omega arith) found
 
   pub added-found : FoundText tree tables k p (first + r)
-  added-found = indexed-found (textAt tree) tables (region stringIndexFrom stringBuckets tables) stringBuckets stringsFrom (getD k 1 0) text first (h % stringBuckets) r (stringsFrom + first) (stringsFrom + getD k 1 0 - (stringsFrom + first))
+  added-found = indexed-found (textAt tree) tables (region stringIndexFrom stringBuckets tables) stringBuckets stringsFrom (getD k 1 0) text first (h % stringBuckets) r (stringsFrom + first)
+      (stringsFrom + getD k 1 0 - (stringsFrom + first))
       (omega (arith, T .tables-room, T .strings, T .limit)) (T .string-index) (bucket-is stringBuckets text text h hashed refl) start refl (omega arith) found
       ∙ ap (λ (y : Text). foundOr (getD k 1 0) (position (same y) (map (textAt tree) (region stringsFrom (getD k 1 0) tables)))) is
 

@@ -71,7 +71,9 @@ module _ {tree made tables k l : List ℕ} {w i : ℕ} (N : Naming tree made tab
     kept = N .numbers;
   }
 
-  pub interns-new : (zs : List ℕ) (grow : ℕ) → Renewed symbolIndexFrom symbolBuckets (set tables (getD k 0 0) w) zs (noted (region symbolIndexFrom symbolBuckets (set tables (getD k 0 0) w)) (bucketOf symbolBuckets (spelled tree made w)) (getD k 0 0))
+  pub interns-new : (zs : List ℕ) (grow : ℕ)
+      → Renewed symbolIndexFrom symbolBuckets (set tables (getD k 0 0) w) zs
+      (noted (region symbolIndexFrom symbolBuckets (set tables (getD k 0 0) w)) (bucketOf symbolBuckets (spelled tree made w)) (getD k 0 0))
       → getD k 0 0 < getD l 1 0 → grow ≤ 20 → MadeWithin made (getD k 6 0 + grow) w → getD k 0 0 ≤ i → Interns (getD k 0 0) tree made tables zs k (set (set k 0 (getD k 0 0 + 1)) 6 (getD k 6 0 + grow)) l w
   interns-new zs grow r room small within h = record {
     numbers = λ code S.

@@ -284,7 +284,8 @@ fn resolve_function_id(
     name: &[u8],
 ) -> u32
     requires { ⌜ Callables (now tree) (now made) (now tables) (now k) ⌝ }
-    ensures { λ r. ⌜ ((code l : List ℕ) → SoundIn (now (tree .entry)) (now (made .entry)) code (now (tables .entry)) (now (k .entry)) l → calleeIn r ≡ Lower.resolveFunction (now (name .entry)) (stateOf (now (tree .entry)) (now (made .entry)) code (now (tables .entry)) (countsOf (now (k .entry))) .tables)) ⌝ }
+    ensures { λ r. ⌜ ((code l : List ℕ) → SoundIn (now (tree .entry)) (now (made .entry)) code (now (tables .entry)) (now (k .entry)) l
+        → calleeIn r ≡ Lower.resolveFunction (now (name .entry)) (stateOf (now (tree .entry)) (now (made .entry)) code (now (tables .entry)) (countsOf (now (k .entry))) .tables)) ⌝ }
 {
     let n = k[SYMBOLS];
     let i = find_symbol(tree, made, tables, n, name);
@@ -309,7 +310,8 @@ pub fn resolve(
     at: usize,
 ) -> u32
     requires { ⌜ Callables (now tree) (now made) (now tables) (now k) ⌝ }
-    ensures { λ r. ⌜ ((code l : List ℕ) → SoundIn (now (tree .entry)) (now (made .entry)) code (now (tables .entry)) (now (k .entry)) l → calleeIn r ≡ Lower.resolve (nameAt (now (tree .entry)) at) (stateOf (now (tree .entry)) (now (made .entry)) code (now (tables .entry)) (countsOf (now (k .entry))) .tables)) ⌝ }
+    ensures { λ r. ⌜ ((code l : List ℕ) → SoundIn (now (tree .entry)) (now (made .entry)) code (now (tables .entry)) (now (k .entry)) l
+        → calleeIn r ≡ Lower.resolve (nameAt (now (tree .entry)) at) (stateOf (now (tree .entry)) (now (made .entry)) code (now (tables .entry)) (countsOf (now (k .entry))) .tables)) ⌝ }
 {
     let name = name_part(tree, at);
     let id = find_builtin(name);

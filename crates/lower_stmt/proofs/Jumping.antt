@@ -81,7 +81,8 @@ module _ (t made code tables made₁ code₁ tables₁ : List ℕ) (c k : Counts
 
     -- a loop
     pub loop-emits : (code₃ : List ℕ) (q : ℕ) (r : Emitted)
-        → Emits r t made₂ code₃ tables₂ m l q (setAt (k .open - 1) (instr 29 (m .open - k .open + 1) 0) (patchAt (k .open - c .open) (k .open) (m .open - k .open) (emitAt (m .base) (one (Jump (minus (m .open - c .open + 1)))) (stateOf t made₂ code₂ tables₂ m))))
+        → Emits r t made₂ code₃ tables₂ m l q (setAt (k .open - 1) (instr 29 (m .open - k .open + 1) 0)
+        (patchAt (k .open - c .open) (k .open) (m .open - k .open) (emitAt (m .base) (one (Jump (minus (m .open - c .open + 1)))) (stateOf t made₂ code₂ tables₂ m))))
         → Emits r t made₂ code₃ tables₂ c l q (emitAt (c .base) (loop head inside) s)
     loop-emits code₃ q r h =
         let n = stack-length t made code tables c l sound in
@@ -253,7 +254,8 @@ module _ (t made code tables : List ℕ) (c : Counts) (l : Limits) (names : List
       pub else-above : c .open ≤ k .open
       else-above = omega (arith, k-long, stack-grows (c .base) (emitBlock names keep b) z, stack-length t made code tables c l sound)
 
-      pub else-emits : (q : ℕ) (code₂ : List ℕ) → q ≡ x .end → Left k t made₁ code₂ tables₁ k l (setAt (c .open - 1) (instr 28 (k .open - c .open) 0) (stateOf t made₁ code₁ tables₁ k)) → Emits (Done q k) t made₁ code₂ tables₁ c l (x .end) (Else (x .value))
+      pub else-emits : (q : ℕ) (code₂ : List ℕ) → q ≡ x .end → Left k t made₁ code₂ tables₁ k l (setAt (c .open - 1) (instr 28 (k .open - c .open) 0) (stateOf t made₁ code₁ tables₁ k))
+          → Emits (Done q k) t made₁ code₂ tables₁ c l (x .end) (Else (x .value))
       else-emits q code₂ f B =
           let n : k .open - c .open ≡ length (emitAt (c .base) (emitBlock names keep b) z .stack) - length (z .stack) = omega (arith, k-long, stack-length t made code tables c l sound) in
           done-emits t made₁ code₂ tables₁ c l (x .end) _ q k f

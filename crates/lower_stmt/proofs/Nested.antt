@@ -106,7 +106,8 @@ module _ {t made code tables k l tables₁ k₁ : List ℕ} {f at arity n : ℕ}
         function-done {code₃} {tables₃} {k₃} x =
             let empty = ended-body t made code tables (countsOf k) (limitsIn l) (S .sound) (nameAt t at) arity n (paramsAt t (nameEnd t at) .value) (frameAt d t at) ea en (defBlockAt d t at .value) (endOf init) f (countsOf k₁) tables₁ began
             names keep en′ ek (countsOf k₂) made₂ code₂ tables₂ (done-of y h .1) in
-            let around = ended-base t made code tables (countsOf k) (limitsIn l) (S .sound) (nameAt t at) arity n (paramsAt t (nameEnd t at) .value) (frameAt d t at) ea en (defBlockAt d t at .value) (endOf init) f (countsOf k₁) tables₁ began
+            let around = ended-base t made code tables (countsOf k) (limitsIn l) (S .sound) (nameAt t at) arity n (paramsAt t (nameEnd t at) .value) (frameAt d t at) ea en (defBlockAt d t at .value) (endOf init)
+            f (countsOf k₁) tables₁ began
             names keep en′ ek (countsOf k₂) made₂ code₂ tables₂ (done-of y h .1) in
             record {
               compiles = subst (λ (u : Emitted). Compiles u t made₂ code₃ tables₃ (countsOf k) (limitsIn l) next function-want) (sym (answered-done r k₃ y))
@@ -128,7 +129,8 @@ ready-part {t} {ps} {made₀} {code₀} {tables₀} {k₀} {made} {code} {tables
     record { numbers = S .numbers; ready = part-ready t ps made₀ code₀ tables₀ made code tables (countsOf k₀) (countsOf k) (limitsIn l) n (R .sole) h v g (S .sound) }
 
 -- a function is a step
-pub compiles-lowers : {t made code tables k l made₁ code₁ tables₁ k₁ : List ℕ} {r next : ℕ} (d : ℕ) (init : Bool) (at : ℕ) → CompilesIn r next (emitAt (getD k 7 0) (functionCode d t at init) (stateOf t made code tables (countsOf k))) t k l made₁ code₁ tables₁ k₁
+pub compiles-lowers : {t made code tables k l made₁ code₁ tables₁ k₁ : List ℕ} {r next : ℕ} (d : ℕ) (init : Bool) (at : ℕ)
+    → CompilesIn r next (emitAt (getD k 7 0) (functionCode d t at init) (stateOf t made code tables (countsOf k))) t k l made₁ code₁ tables₁ k₁
     → LowersIn r (functionCode d t at init) next t made code tables k l made₁ code₁ tables₁ k₁
 compiles-lowers {t} {made} {code} {tables} {k} {l} {made₁} {code₁} {tables₁} {k₁} {r} {next} d init at h =
     record { emits = compiles-emits t made₁ code₁ tables₁ (countsOf k) (limitsIn l) next _ (answered r k₁) (h .compiles); numbers = h .numbers }
@@ -204,10 +206,12 @@ module _ {d : ℕ} {t made₀ code₀ tables₀ k₀ l list₀ : List ℕ} {n₀
       done = compiles-done t made₁ code₁ tables₁ (countsOf k) (limitsIn l) _ _ (answered q k₁) q (countsOf k₁) (answered-done q k₁ z) method
 
       pub methods-number : getD k 2 0 < 256
-      methods-number = number-small (countsOf k) t list made code tables (countsOf k₀) (limitsIn l) count _ _ _ (inv .listing) (R .sole .sound .methods) _ _ _ _ (methods-is d t n p h (inv .methods)) (countsOf k₁) made₁ code₁ tables₁ (done .1) (done .2) (done .3)
+      methods-number = number-small (countsOf k) t list made code tables (countsOf k₀) (limitsIn l) count _ _ _ (inv .listing) (R .sole .sound .methods) _ _ _ _ (methods-is d t n p h (inv .methods))
+          (countsOf k₁) made₁ code₁ tables₁ (done .1) (done .2) (done .3)
 
       pub methods-room : count < 256
-      methods-room = listing-room (countsOf k) t list made code tables (countsOf k₀) (limitsIn l) count _ _ _ (inv .listing) (R .sole .sound .methods) _ _ _ _ (methods-is d t n p h (inv .methods)) (countsOf k₁) made₁ code₁ tables₁ (done .1) (done .2) (done .3)
+      methods-room = listing-room (countsOf k) t list made code tables (countsOf k₀) (limitsIn l) count _ _ _ (inv .listing) (R .sole .sound .methods) _ _ _ _ (methods-is d t n p h (inv .methods))
+          (countsOf k₁) made₁ code₁ tables₁ (done .1) (done .2) (done .3)
 
       pub methods-next : {list₁ : List ℕ} {count₁ : ℕ} → Inserted count₁ t list₁ list count (p * 256 + getD k 2 0) → length code₁ ≡ length code → length tables₁ ≡ length tables → length list₁ ≡ length list
           → MethodsRest d t made₀ code₀ tables₀ k₀ l list₀ n₀ p₀ made₁ code₁ tables₁ k₁ list₁ (n - 1) q count₁
@@ -215,7 +219,8 @@ module _ {d : ℕ} {t made₀ code₀ tables₀ k₀ l list₀ : List ℕ} {n₀
         methods = methods-at d t (n - 1) (n - 1) (defBlockAt d t p .end) q refl (done .0) (methods-parts d t n p h (inv .methods) .1);
         numbers = x .numbers;
         listing = listing-at (countsOf k₁) t list₁ made₁ code₁ tables₁ (countsOf k₀) (limitsIn l) count₁ _ _ d (n - 1) (defBlockAt d t p .end) q (done .0)
-            (listing-next (countsOf k) t list made code tables (countsOf k₀) (limitsIn l) count _ _ _ (inv .listing) (R .sole .sound .methods) _ _ _ _ (methods-is d t n p h (inv .methods)) (countsOf k₁) made₁ code₁ tables₁ (done .1) (done .2) (done .3)
+            (listing-next (countsOf k) t list made code tables (countsOf k₀) (limitsIn l) count _ _ _ (inv .listing) (R .sole .sound .methods) _ _ _ _ (methods-is d t n p h (inv .methods)) (countsOf k₁) made₁
+            code₁ tables₁ (done .1) (done .2) (done .3)
             count₁ list₁ p refl I);
         code-kept = a ∙ inv .code-kept;
         tables-kept = b′ ∙ inv .tables-kept;

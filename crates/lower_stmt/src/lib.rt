@@ -51,7 +51,8 @@ ghost use Rattle.state.specs.State.{stateOf, emitAt, slotNames};
 ghost use Rattle.state.specs.Steps.{branch, chainAt, methodsAt, methodsOf};
 ghost use Rattle.state.specs.Kept.{keepingOf, Spare, Passes};
 ghost use Rattle.lower_forms.specs.Lowerable.{exprCode};
-ghost use Rattle.lower_forms.specs.Lowering.{StmtLowerable, BlockLowerable, StmtsLowerable, stmtCode, blockCode, stmtsCode, BranchLowerable, BranchesLowerable, IfLowerable, ForLowerable, FunctionLowerable, functionCode, endOf, MethodsLowerable, ClassLowerable, classCode};
+ghost use Rattle.lower_forms.specs.Lowering.{StmtLowerable, BlockLowerable, StmtsLowerable, stmtCode, blockCode, stmtsCode, BranchLowerable, BranchesLowerable, IfLowerable, ForLowerable, FunctionLowerable, functionCode, endOf};
+ghost use Rattle.lower_forms.specs.Lowering.{MethodsLowerable, ClassLowerable, classCode};
 ghost use Rattle.lower_emit.specs.Numbers.{countsOf, ReadyIn, LowersIn};
 ghost use Rattle.lower_emit.specs.Ends.{Reaches};
 ghost use Rattle.lower_loops.specs.Iterators.{keeperOf, Loads};
@@ -191,7 +192,8 @@ fn emit_branch(
     it: &mut u32,
 ) -> usize
     requires { ⌜ ReadyIn (now tree) (now slots) (now made) (now code) (now tables) (now k) (now l) × BranchLowerable depth (now tree) at × Spare (now it) (loopsBlock (bodyAt depth (now tree) at .value)) ⌝ }
-    ensures { λ r. ⌜ LowersIn r (branch (slotNames (now (tree .entry)) (now (slots .entry))) (keepingOf (now (it .entry))) (exprAt depth (now (tree .entry)) at .value) (bodyAt depth (now (tree .entry)) at .value)) (bodyAt depth (now (tree .entry)) at .end)
+    ensures { λ r. ⌜ LowersIn r (branch (slotNames (now (tree .entry)) (now (slots .entry))) (keepingOf (now (it .entry))) (exprAt depth (now (tree .entry)) at .value)
+        (bodyAt depth (now (tree .entry)) at .value)) (bodyAt depth (now (tree .entry)) at .end)
         (now (tree .entry)) (now (made .entry)) (now (code .entry)) (now (tables .entry)) (now (k .entry)) (now (l .entry)) (now (made .exit)) (now (code .exit)) (now (tables .exit)) (now (k .exit))
         × Passes r (now (it .entry)) (now (it .exit)) (loopsBlock (bodyAt depth (now (tree .entry)) at .value)) ⌝ }
 {
@@ -231,8 +233,10 @@ fn emit_if(
     l: &[u32; LIMITS],
     it: &mut u32,
 ) -> usize
-    requires { ⌜ ReadyIn (now tree) (now slots) (now made) (now code) (now tables) (now k) (now l) × IfLowerable depth (now tree) at × Spare (now it) (loopsBlock (bodyAt depth (now tree) at .value) + loopsBranches (elifsAt depth (now tree) at .value)) ⌝ }
-    ensures { λ r. ⌜ LowersIn r (emitStmt (slotNames (now (tree .entry)) (now (slots .entry))) (keepingOf (now (it .entry))) (if (when (exprAt depth (now (tree .entry)) at .value) (bodyAt depth (now (tree .entry)) at .value) (elifsAt depth (now (tree .entry)) at .value)))) (elifsAt depth (now (tree .entry)) at .end)
+    requires { ⌜ ReadyIn (now tree) (now slots) (now made) (now code) (now tables) (now k) (now l) × IfLowerable depth (now tree) at
+        × Spare (now it) (loopsBlock (bodyAt depth (now tree) at .value) + loopsBranches (elifsAt depth (now tree) at .value)) ⌝ }
+    ensures { λ r. ⌜ LowersIn r (emitStmt (slotNames (now (tree .entry)) (now (slots .entry))) (keepingOf (now (it .entry)))
+        (if (when (exprAt depth (now (tree .entry)) at .value) (bodyAt depth (now (tree .entry)) at .value) (elifsAt depth (now (tree .entry)) at .value)))) (elifsAt depth (now (tree .entry)) at .end)
         (now (tree .entry)) (now (made .entry)) (now (code .entry)) (now (tables .entry)) (now (k .entry)) (now (l .entry)) (now (made .exit)) (now (code .exit)) (now (tables .exit)) (now (k .exit))
         × Passes r (now (it .entry)) (now (it .exit)) (loopsBlock (bodyAt depth (now (tree .entry)) at .value) + loopsBranches (elifsAt depth (now (tree .entry)) at .value)) ⌝ }
 {
@@ -258,8 +262,11 @@ fn emit_elifs(
     l: &[u32; LIMITS],
     it: &mut u32,
 ) -> usize
-    requires { ⌜ ReadyIn (now tree) (now slots) (now made) (now code) (now tables) (now k) (now l) × BranchesLowerable depth n (now tree) at × (0 < openIn (now k)) × Spare (now it) (loopsBranches (branchesAt depth n (now tree) at .value)) ⌝ }
-    ensures { λ r. ⌜ Reaches r (branchesAt depth n (now (tree .entry)) at .end) (chainAt (baseIn (now (k .entry))) (slotNames (now (tree .entry)) (now (slots .entry))) (keepingOf (now (it .entry))) (branchesAt depth n (now (tree .entry)) at .value) ((openIn (now (k .entry))) - 1) (stateOf (now (tree .entry)) (now (made .entry)) (now (code .entry)) (now (tables .entry)) (countsOf (now (k .entry)))))
+    requires { ⌜ ReadyIn (now tree) (now slots) (now made) (now code) (now tables) (now k) (now l) × BranchesLowerable depth n (now tree) at × (0 < openIn (now k))
+        × Spare (now it) (loopsBranches (branchesAt depth n (now tree) at .value)) ⌝ }
+    ensures { λ r. ⌜ Reaches r (branchesAt depth n (now (tree .entry)) at .end)
+        (chainAt (baseIn (now (k .entry))) (slotNames (now (tree .entry)) (now (slots .entry))) (keepingOf (now (it .entry))) (branchesAt depth n (now (tree .entry)) at .value)
+        ((openIn (now (k .entry))) - 1) (stateOf (now (tree .entry)) (now (made .entry)) (now (code .entry)) (now (tables .entry)) (countsOf (now (k .entry)))))
         (now (tree .entry)) (now (k .entry)) (now (l .entry)) (now (made .exit)) (now (code .exit)) (now (tables .exit)) (now (k .exit))
         × Passes r (now (it .entry)) (now (it .exit)) (loopsBranches (branchesAt depth n (now (tree .entry)) at .value)) ⌝ }
 {
@@ -292,8 +299,11 @@ fn emit_else(
     l: &[u32; LIMITS],
     it: &mut u32,
 ) -> usize
-    requires { ⌜ ReadyIn (now tree) (now slots) (now made) (now code) (now tables) (now k) (now l) × BranchesLowerable depth 0 (now tree) at × (0 < openIn (now k)) × Spare (now it) (loopsBranches (branchesAt depth 0 (now tree) at .value)) ⌝ }
-    ensures { λ r. ⌜ Reaches r (branchesAt depth 0 (now (tree .entry)) at .end) (chainAt (baseIn (now (k .entry))) (slotNames (now (tree .entry)) (now (slots .entry))) (keepingOf (now (it .entry))) (branchesAt depth 0 (now (tree .entry)) at .value) ((openIn (now (k .entry))) - 1) (stateOf (now (tree .entry)) (now (made .entry)) (now (code .entry)) (now (tables .entry)) (countsOf (now (k .entry)))))
+    requires { ⌜ ReadyIn (now tree) (now slots) (now made) (now code) (now tables) (now k) (now l) × BranchesLowerable depth 0 (now tree) at × (0 < openIn (now k))
+        × Spare (now it) (loopsBranches (branchesAt depth 0 (now tree) at .value)) ⌝ }
+    ensures { λ r. ⌜ Reaches r (branchesAt depth 0 (now (tree .entry)) at .end)
+        (chainAt (baseIn (now (k .entry))) (slotNames (now (tree .entry)) (now (slots .entry))) (keepingOf (now (it .entry))) (branchesAt depth 0 (now (tree .entry)) at .value)
+        ((openIn (now (k .entry))) - 1) (stateOf (now (tree .entry)) (now (made .entry)) (now (code .entry)) (now (tables .entry)) (countsOf (now (k .entry)))))
         (now (tree .entry)) (now (k .entry)) (now (l .entry)) (now (made .exit)) (now (code .exit)) (now (tables .exit)) (now (k .exit))
         × Passes r (now (it .entry)) (now (it .exit)) (loopsBranches (branchesAt depth 0 (now (tree .entry)) at .value)) ⌝ }
 {
@@ -325,7 +335,9 @@ fn emit_while(
     it: &mut u32,
 ) -> usize
     requires { ⌜ ReadyIn (now tree) (now slots) (now made) (now code) (now tables) (now k) (now l) × BranchLowerable depth (now tree) at × Spare (now it) (loopsBlock (bodyAt depth (now tree) at .value)) ⌝ }
-    ensures { λ r. ⌜ LowersIn r (loop (exprCode depth (now (tree .entry)) (slotNames (now (tree .entry)) (now (slots .entry))) at) (blockCode depth (now (tree .entry)) (slotNames (now (tree .entry)) (now (slots .entry))) (keepingOf (now (it .entry))) (exprAt depth (now (tree .entry)) at .end))) (bodyAt depth (now (tree .entry)) at .end)
+    ensures { λ r. ⌜ LowersIn r (loop (exprCode depth (now (tree .entry)) (slotNames (now (tree .entry)) (now (slots .entry))) at)
+        (blockCode depth (now (tree .entry)) (slotNames (now (tree .entry)) (now (slots .entry))) (keepingOf (now (it .entry))) (exprAt depth (now (tree .entry)) at .end)))
+        (bodyAt depth (now (tree .entry)) at .end)
         (now (tree .entry)) (now (made .entry)) (now (code .entry)) (now (tables .entry)) (now (k .entry)) (now (l .entry)) (now (made .exit)) (now (code .exit)) (now (tables .exit)) (now (k .exit))
         × Passes r (now (it .entry)) (now (it .exit)) (loopsBlock (bodyAt depth (now (tree .entry)) at .value)) ⌝ }
 {
@@ -367,7 +379,9 @@ fn emit_for(
     it: &mut u32,
 ) -> usize
     requires { ⌜ ReadyIn (now tree) (now slots) (now made) (now code) (now tables) (now k) (now l) × ForLowerable depth (now tree) at × Spare (now it) (1 + loopsBlock (bodyAt depth (now tree) (nameEnd (now tree) at) .value)) ⌝ }
-    ensures { λ r. ⌜ LowersIn r (emitStmt (slotNames (now (tree .entry)) (now (slots .entry))) (keepingOf (now (it .entry))) (for (nameAt (now (tree .entry)) at) (exprAt depth (now (tree .entry)) (nameEnd (now (tree .entry)) at) .value) (bodyAt depth (now (tree .entry)) (nameEnd (now (tree .entry)) at) .value))) (bodyAt depth (now (tree .entry)) (nameEnd (now (tree .entry)) at) .end)
+    ensures { λ r. ⌜ LowersIn r (emitStmt (slotNames (now (tree .entry)) (now (slots .entry))) (keepingOf (now (it .entry)))
+        (for (nameAt (now (tree .entry)) at) (exprAt depth (now (tree .entry)) (nameEnd (now (tree .entry)) at) .value) (bodyAt depth (now (tree .entry)) (nameEnd (now (tree .entry)) at) .value)))
+        (bodyAt depth (now (tree .entry)) (nameEnd (now (tree .entry)) at) .end)
         (now (tree .entry)) (now (made .entry)) (now (code .entry)) (now (tables .entry)) (now (k .entry)) (now (l .entry)) (now (made .exit)) (now (code .exit)) (now (tables .exit)) (now (k .exit))
         × Passes r (now (it .entry)) (now (it .exit)) (1 + loopsBlock (bodyAt depth (now (tree .entry)) (nameEnd (now (tree .entry)) at) .value)) ⌝ }
 {
@@ -411,8 +425,11 @@ fn emit_rounds(
     l: &[u32; LIMITS],
     it: &mut u32,
 ) -> usize
-    requires { ⌜ ReadyIn (now tree) (now slots) (now made) (now code) (now tables) (now k) (now l) × There (now tree) at × BlockLowerable depth (now tree) block × Loads load (keeperOf load) × (0 < block) × Spare (now it) (loopsBlock (blockAt depth (now tree) block .value)) ⌝ }
-    ensures { λ r. ⌜ LowersIn r (loop (askIter (keeperOf load)) (takeIter (slotNames (now (tree .entry)) (now (slots .entry))) (nameAt (now (tree .entry)) at) (keeperOf load) ⨟ blockCode depth (now (tree .entry)) (slotNames (now (tree .entry)) (now (slots .entry))) (keepingOf (now (it .entry))) block)) (blockAt depth (now (tree .entry)) block .end)
+    requires { ⌜ ReadyIn (now tree) (now slots) (now made) (now code) (now tables) (now k) (now l) × There (now tree) at × BlockLowerable depth (now tree) block × Loads load (keeperOf load) × (0 < block)
+        × Spare (now it) (loopsBlock (blockAt depth (now tree) block .value)) ⌝ }
+    ensures { λ r. ⌜ LowersIn r (loop (askIter (keeperOf load))
+        (takeIter (slotNames (now (tree .entry)) (now (slots .entry))) (nameAt (now (tree .entry)) at) (keeperOf load)
+        ⨟ blockCode depth (now (tree .entry)) (slotNames (now (tree .entry)) (now (slots .entry))) (keepingOf (now (it .entry))) block)) (blockAt depth (now (tree .entry)) block .end)
         (now (tree .entry)) (now (made .entry)) (now (code .entry)) (now (tables .entry)) (now (k .entry)) (now (l .entry)) (now (made .exit)) (now (code .exit)) (now (tables .exit)) (now (k .exit))
         × Passes r (now (it .entry)) (now (it .exit)) (loopsBlock (blockAt depth (now (tree .entry)) block .value)) ⌝ }
 {
@@ -472,7 +489,9 @@ fn compile_function(
     l: &[u32; LIMITS],
 ) -> usize
     requires { ⌜ SoleIn (now tree) (now made) (now code) (now tables) (now k) (now l) × FunctionLowerable depth (now tree) at ⌝ }
-    ensures { λ r. ⌜ CompilesIn r (defBlockAt depth (now (tree .entry)) at .end) (emitAt (baseIn (now (k .entry))) (functionCode depth (now (tree .entry)) at init) (stateOf (now (tree .entry)) (now (made .entry)) (now (code .entry)) (now (tables .entry)) (countsOf (now (k .entry)))))
+    ensures { λ r. ⌜ CompilesIn r (defBlockAt depth (now (tree .entry)) at .end)
+        (emitAt (baseIn (now (k .entry))) (functionCode depth (now (tree .entry)) at init)
+        (stateOf (now (tree .entry)) (now (made .entry)) (now (code .entry)) (now (tables .entry)) (countsOf (now (k .entry)))))
         (now (tree .entry)) (now (k .entry)) (now (l .entry)) (now (made .exit)) (now (code .exit)) (now (tables .exit)) (now (k .exit)) ⌝ }
 {
     let mut slots = [0u32; SLOTS_ROOM];
@@ -523,7 +542,9 @@ fn emit_methods(
     list: &mut [u32],
 ) -> u32
     requires { ⌜ SoleIn (now tree) (now made) (now code) (now tables) (now k) (now l) × MethodsLowerable depth n (now tree) at × (256 ≤ length (now list)) ⌝ }
-    ensures { λ r. ⌜ ListsIn r (methodsAt (StmtAt.methodsAt depth n (now (tree .entry)) at .value) [] (stateOf (now (tree .entry)) (now (made .entry)) (now (code .entry)) (now (tables .entry)) (countsOf (now (k .entry))))) (methodsOf (StmtAt.methodsAt depth n (now (tree .entry)) at .value) [] (stateOf (now (tree .entry)) (now (made .entry)) (now (code .entry)) (now (tables .entry)) (countsOf (now (k .entry)))))
+    ensures { λ r. ⌜ ListsIn r (methodsAt (StmtAt.methodsAt depth n (now (tree .entry)) at .value) []
+        (stateOf (now (tree .entry)) (now (made .entry)) (now (code .entry)) (now (tables .entry)) (countsOf (now (k .entry)))))
+        (methodsOf (StmtAt.methodsAt depth n (now (tree .entry)) at .value) [] (stateOf (now (tree .entry)) (now (made .entry)) (now (code .entry)) (now (tables .entry)) (countsOf (now (k .entry)))))
         (now (tree .entry)) (now (list .exit)) (now (k .entry)) (now (l .entry)) (now (made .exit)) (now (code .exit)) (now (tables .exit)) (now (k .exit)) ⌝ }
 {
     let mut left = n;
@@ -556,7 +577,8 @@ fn emit_class(
     next: usize,
 ) -> usize
     requires { ⌜ SoleIn (now tree) (now made) (now code) (now tables) (now k) (now l) × ClassLowerable depth (now tree) at × (0 < next) ⌝ }
-    ensures { λ r. ⌜ Reaches r (next) (emitAt (baseIn (now (k .entry))) (classCode (nameAt (now (tree .entry)) at) (classMethodsAt depth (now (tree .entry)) at .value)) (stateOf (now (tree .entry)) (now (made .entry)) (now (code .entry)) (now (tables .entry)) (countsOf (now (k .entry)))))
+    ensures { λ r. ⌜ Reaches r (next) (emitAt (baseIn (now (k .entry))) (classCode (nameAt (now (tree .entry)) at) (classMethodsAt depth (now (tree .entry)) at .value))
+        (stateOf (now (tree .entry)) (now (made .entry)) (now (code .entry)) (now (tables .entry)) (countsOf (now (k .entry)))))
         (now (tree .entry)) (now (k .entry)) (now (l .entry)) (now (made .exit)) (now (code .exit)) (now (tables .exit)) (now (k .exit)) ⌝ }
 {
     let mut list = [0u32; METHODS_ROOM];

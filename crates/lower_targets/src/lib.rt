@@ -133,7 +133,8 @@ fn assign_variable(
     l: &[u32; LIMITS],
 ) -> usize
     requires { ⌜ ReadyIn (now tree) (now slots) (now made) (now code) (now tables) (now k) (now l) × VariableAssigned depth (now tree) at ⌝ }
-    ensures { λ r. ⌜ LowersIn r (exprCode depth (now (tree .entry)) (slotNames (now (tree .entry)) (now (slots .entry))) (nameEnd (now (tree .entry)) at) ⨟ store (slotNames (now (tree .entry)) (now (slots .entry))) (nameAt (now (tree .entry)) at)) (exprAt depth (now (tree .entry)) (nameEnd (now (tree .entry)) at) .end)
+    ensures { λ r. ⌜ LowersIn r (exprCode depth (now (tree .entry)) (slotNames (now (tree .entry)) (now (slots .entry))) (nameEnd (now (tree .entry)) at)
+        ⨟ store (slotNames (now (tree .entry)) (now (slots .entry))) (nameAt (now (tree .entry)) at)) (exprAt depth (now (tree .entry)) (nameEnd (now (tree .entry)) at) .end)
         (now (tree .entry)) (now (made .entry)) (now (code .entry)) (now (tables .entry)) (now (k .entry)) (now (l .entry)) (now (made .exit)) (now (code .exit)) (now (tables .exit)) (now (k .exit)) ⌝ }
 {
     let start = name_end(tree, at);
@@ -165,7 +166,10 @@ fn assign_attribute(
     l: &[u32; LIMITS],
 ) -> usize
     requires { ⌜ ReadyIn (now tree) (now slots) (now made) (now code) (now tables) (now k) (now l) × AttributeAssigned depth (now tree) at ⌝ }
-    ensures { λ r. ⌜ LowersIn r (exprCode (depth - 1) (now (tree .entry)) (slotNames (now (tree .entry)) (now (slots .entry))) at ⨟ exprCode depth (now (tree .entry)) (slotNames (now (tree .entry)) (now (slots .entry))) (nameEnd (now (tree .entry)) (exprAt (depth - 1) (now (tree .entry)) at .end)) ⨟ intern (nameAt (now (tree .entry)) (exprAt (depth - 1) (now (tree .entry)) at .end)) (λ k. one (StoreAttr k))) (exprAt depth (now (tree .entry)) (nameEnd (now (tree .entry)) (exprAt (depth - 1) (now (tree .entry)) at .end)) .end)
+    ensures { λ r. ⌜ LowersIn r (exprCode (depth - 1) (now (tree .entry)) (slotNames (now (tree .entry)) (now (slots .entry))) at
+        ⨟ exprCode depth (now (tree .entry)) (slotNames (now (tree .entry)) (now (slots .entry))) (nameEnd (now (tree .entry)) (exprAt (depth - 1) (now (tree .entry)) at .end))
+        ⨟ intern (nameAt (now (tree .entry)) (exprAt (depth - 1) (now (tree .entry)) at .end)) (λ k. one (StoreAttr k)))
+        (exprAt depth (now (tree .entry)) (nameEnd (now (tree .entry)) (exprAt (depth - 1) (now (tree .entry)) at .end)) .end)
         (now (tree .entry)) (now (made .entry)) (now (code .entry)) (now (tables .entry)) (now (k .entry)) (now (l .entry)) (now (made .exit)) (now (code .exit)) (now (tables .exit)) (now (k .exit)) ⌝ }
 {
     let name = emit_expr(tree, at, depth - 1, slots, made, code, tables, k, l);
@@ -193,7 +197,10 @@ fn assign_index(
     l: &[u32; LIMITS],
 ) -> usize
     requires { ⌜ ReadyIn (now tree) (now slots) (now made) (now code) (now tables) (now k) (now l) × IndexAssigned depth (now tree) at ⌝ }
-    ensures { λ r. ⌜ LowersIn r (exprCode (depth - 1) (now (tree .entry)) (slotNames (now (tree .entry)) (now (slots .entry))) at ⨟ exprCode (depth - 1) (now (tree .entry)) (slotNames (now (tree .entry)) (now (slots .entry))) (exprAt (depth - 1) (now (tree .entry)) at .end) ⨟ exprCode depth (now (tree .entry)) (slotNames (now (tree .entry)) (now (slots .entry))) (secondAt (depth - 1) (now (tree .entry)) at .end) ⨟ one StoreIndex) (exprAt depth (now (tree .entry)) (secondAt (depth - 1) (now (tree .entry)) at .end) .end)
+    ensures { λ r. ⌜ LowersIn r (exprCode (depth - 1) (now (tree .entry)) (slotNames (now (tree .entry)) (now (slots .entry))) at
+        ⨟ exprCode (depth - 1) (now (tree .entry)) (slotNames (now (tree .entry)) (now (slots .entry))) (exprAt (depth - 1) (now (tree .entry)) at .end)
+        ⨟ exprCode depth (now (tree .entry)) (slotNames (now (tree .entry)) (now (slots .entry))) (secondAt (depth - 1) (now (tree .entry)) at .end) ⨟ one StoreIndex)
+        (exprAt depth (now (tree .entry)) (secondAt (depth - 1) (now (tree .entry)) at .end) .end)
         (now (tree .entry)) (now (made .entry)) (now (code .entry)) (now (tables .entry)) (now (k .entry)) (now (l .entry)) (now (made .exit)) (now (code .exit)) (now (tables .exit)) (now (k .exit)) ⌝ }
 {
     let middle = emit_expr(tree, at, depth - 1, slots, made, code, tables, k, l);
@@ -224,7 +231,9 @@ fn assign_tuple(
     l: &[u32; LIMITS],
 ) -> usize
     requires { ⌜ ReadyIn (now tree) (now slots) (now made) (now code) (now tables) (now k) (now l) × TupleAssigned depth (now tree) at ⌝ }
-    ensures { λ r. ⌜ LowersIn r (exprCode depth (now (tree .entry)) (slotNames (now (tree .entry)) (now (slots .entry))) (exprAt depth (now (tree .entry)) at .end) ⨟ unpack (slotNames (now (tree .entry)) (now (slots .entry))) (elementsAt (depth - 1) (now (tree .entry)) (countAt (now (tree .entry)) (at + 1)) (at + 3)) 0) (secondAt depth (now (tree .entry)) at .end)
+    ensures { λ r. ⌜ LowersIn r (exprCode depth (now (tree .entry)) (slotNames (now (tree .entry)) (now (slots .entry))) (exprAt depth (now (tree .entry)) at .end)
+        ⨟ unpack (slotNames (now (tree .entry)) (now (slots .entry))) (elementsAt (depth - 1) (now (tree .entry)) (countAt (now (tree .entry)) (at + 1)) (at + 3)) 0)
+        (secondAt depth (now (tree .entry)) at .end)
         (now (tree .entry)) (now (made .entry)) (now (code .entry)) (now (tables .entry)) (now (k .entry)) (now (l .entry)) (now (made .exit)) (now (code .exit)) (now (tables .exit)) (now (k .exit)) ⌝ }
 {
     let n = u16_at(tree, at + 1);

@@ -13,7 +13,7 @@ use Rattle.definitions.specs.Parse.{readTree}
 use Rattle.definitions.specs.Wellformed.{askBlock, firstNo, blockQuestions, refusedBy, wellFormed, checkTree}
 use Rattle.definitions.specs.Tables.{Tables}
 use Rattle.definitions.specs.Lower.{compile}
-use Rattle.definitions.specs.Module.{Limits, moduleBytes, slotsFit, tablesFit, fits, lowerBlock, lowerTables, lowerBytes}
+use Rattle.definitions.specs.Module.{Limits, moduleBytes, slotsFit, tablesFit, fits, lowerFormed, lowerTables, lowerBytes}
 use Rattle.definitions.specs.Calls.{areasFit, fitsRoom, lowerAnswer}
 
 module _ (l : Limits) (m n room : ℕ) (tree : List ℕ) where
@@ -50,20 +50,13 @@ check-gives tree b = go (readTree tree) refl
 module _ (l : Limits) (tree : List ℕ) where
   -- 2 to 13
   tables-refused : (q : ℕ) → checkTree tree ≡ refused q → lowerTables l tree ≡ refused q
-  unfolding lowerTables checkTree whenAccepted lowerBlock
-  tables-refused q = go (readTree tree)
-    where
-      formed : (a : Answer Block) → a ≡ refused q → whenAccepted a (λ c. fits l (compile c .tables)) ≡ refused q
-      formed (refused p) e = cc
-      formed (accepted b) e = let z : _≡_ {A = ℕ} 0 1 = cc in absurd (omega arith)
-
-      go : (r : Answer Block) → whenAccepted r wellFormed ≡ refused q → whenAccepted r (lowerBlock l) ≡ refused q
-      go (refused p) e = cc
-      go (accepted b) e = formed (wellFormed b) e
+  unfolding lowerTables whenAccepted
+  tables-refused q e = ap (λ (a : Answer Block). whenAccepted a (lowerFormed l)) e
 
   tables-fit : (b : Block) → Checks tree b → lowerTables l tree ≡ fits l (compile b .tables)
-  unfolding lowerTables lowerBlock whenAccepted
-  tables-fit b C = rw (C .reads, lowerTables) (rw (C .formed, lowerBlock))
+  unfolding lowerTables lowerFormed checkTree whenAccepted
+  tables-fit b C =
+      ap (λ (a : Answer Block). whenAccepted a (lowerFormed l)) (ap (λ (a : Answer Block). whenAccepted a wellFormed) (C .reads) ∙ C .formed)
 
   fits-slots : (t : Tables) → slotsFit t ≡ false → fits l t ≡ refused 14
   unfolding fits

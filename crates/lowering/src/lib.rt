@@ -40,7 +40,8 @@ fn write_tables<'a>(
     out: &mut [u8],
 ) -> Lowered
     requires { ⌜ Roomy (now code) (now tables) (countsOf (now k)) ⌝ }
-    ensures { λ r. ⌜ Answers r (fitsRoom (length (now (out .entry))) (moduleBytes (tablesOf (now (tree .entry)) (now (made .entry)) (now (code .entry)) (now (tables .entry)) (countsOf (now (k .entry)))))) (now (out .entry)) (now (out .exit)) ⌝ }
+    ensures { λ r. ⌜ Answers r (fitsRoom (length (now (out .entry)))
+        (moduleBytes (tablesOf (now (tree .entry)) (now (made .entry)) (now (code .entry)) (now (tables .entry)) (countsOf (now (k .entry)))))) (now (out .entry)) (now (out .exit)) ⌝ }
 {
     let c = counts(k);
     let size = module_size(tree, made, code, tables, c);

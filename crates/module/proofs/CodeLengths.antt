@@ -14,8 +14,9 @@ use Rattle.state.proofs.Regions.{functions-length, classes-length}
 use Rattle.module.specs.Sections.{codeBytes, functionsBytes, methodsBytes, classesBytes, constantBytes}
 use Rattle.writing.proofs.Begun.{joined, joined-list}
 use Rattle.module.proofs.Pieces.{pieces, listed, pieces-room, pairs, pairsFrom, pairs-room}
-use Rattle.module.proofs.Encoding.{first-is, first-small, second-is, second-small, length-encode}
+use Rattle.module.proofs.Encoding.{first-is, first-small, second-is, second-small}
 use Rattle.module.proofs.Lengths.{Small, name-short, length-name}
+use Rattle.definitions.proofs.Lengths.{length-encode}
 
 pub region-short : (a n : ℕ) (xs : List ℕ) → length (region a n xs) ≤ n
 unfolding region
@@ -145,7 +146,8 @@ module _ (tree ms : List ℕ) where
           n ∙ ap (λ (z : List ℕ). 1 + length (nameAt tree x) + length (methodsBytes tree z)) (sym e)
 
     pub class-room : Small tree → length (classPiece tree ms x k) ≤ 16908288
-    class-room b = let e = length-class (region (k / 65536) (k % 65536) ms) refl in let n = name-short tree x b in let r = methods-room tree (region (k / 65536) (k % 65536) ms) b in let s = region-short (k / 65536) (k % 65536) ms in omega arith
+    class-room b = let e = length-class (region (k / 65536) (k % 65536) ms) refl in let n = name-short tree x b in let r = methods-room tree (region (k / 65536) (k % 65536) ms) b in
+        let s = region-short (k / 65536) (k % 65536) ms in omega arith
 
   classes-joined : (xs ks : List ℕ) → concat classBytes (classesOf tree ms xs ks) ≡ joined (pairs (classPiece tree ms) xs ks)
   unfolding classesOf concat joined pairs

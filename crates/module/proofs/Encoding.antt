@@ -6,17 +6,17 @@ use Prim.Native.Nat.{ℕ, zero, suc, _+_, _*_, _-_, _/_, _%_, _^_, _≤_, _<_}
 use native.Mathlib.Omega.{arith}
 use native.Mathlib.Nat.{pow-succ', pow-le-pow-right, add-mul, mul-assoc}
 use lib.Dec.{eqb, leb, lit<}
-use lib.ListN.{length, getD, set, length-append, List·getD-map}
+use lib.ListN.{length, getD, set, List·getD-map}
 use borrow.Author.Tests.{eqb-true, eqb-false, eq-eqb, ne-eqb, lt-ltb, le-ltb, le-leb, lt-leb}
 use Rattle.definitions.specs.Bytes.{be}
 use Rattle.definitions.specs.Instruction.{Instr, instr, ConstI64, Row, row, nothing, instructionTable, rowOf, firstWidth, secondWidth, encode}
 use Rattle.definitions.specs.Reader.{isJump}
 use Rattle.definitions.proofs.Truth.{left, right, at-most}
-use Rattle.definitions.proofs.BytesWritten.{length-be}
 use Rattle.state.specs.Words.{opOf, firstOf, secondOf, widened, operandOf, numberAt, instrOf}
 use Rattle.widths.proofs.Laws.{no-operands}
 use Rattle.writing.specs.Wrote.{Wrote}
 use Rattle.writing.proofs.Begun.{joined, Begun, begun-first, wrote-byte}
+use Rattle.definitions.proofs.Lengths.{length-encode}
 
 -- ---- the tables
 
@@ -129,9 +129,6 @@ horner t at w i n h = go (w - (i + 1)) (w - i) (omega arith)
         ap (λ (x : ℕ). n * 256 ^ suc k + (getD t (at + i) 0 * 256 ^ k + numberAt k t x)) c
         ∙ (let z : n * 256 ^ suc k + (getD t (at + i) 0 * 256 ^ k + numberAt k t (at + (i + 1))) ≡ (n * 256 + getD t (at + i) 0) * 256 ^ k + numberAt k t (at + (i + 1)) = omega arith in z))
 
-pub grows : (n b i : ℕ) → n < 256 ^ i → b < 256 → n * 256 + b < 256 ^ (i + 1)
-grows n b i h l = subst (λ (x : ℕ). n * 256 + b < x) (sym (ap (λ (k : ℕ). 256 ^ k) (let z : i + 1 ≡ suc i = omega arith in z) ∙ pow-succ' 256 i)) (omega arith)
-
 pub small-one : (n i : ℕ) → i < 8 → n < 256 ^ i → n < 2 ^ 56
 small-one n i h b = let p : 256 ^ i ≤ 256 ^ 7 = pow-le-pow-right (lit< tt) (let z : i ≤ 7 = omega arith in z) in omega arith
 
@@ -147,10 +144,6 @@ pub wrote-eight : {r n m : ℕ} {xs ys : List ℕ} → n ≡ m → Wrote r (be 8
 wrote-eight {r} {n} {m} {xs} {ys} e w = subst (λ (k : ℕ). Wrote r (be 8 k) xs ys) e w
 
 -- ---- an instruction's bytes
-
-pub length-encode : (i : Instr) → length (encode i) ≡ 1 + firstWidth (i .op) + secondWidth (i .op)
-unfolding encode
-length-encode i = simp (length-append, length-be) (omega arith)
 
 pub encode-pieces : (i : Instr) → encode i ≡ (i .op ∷ []) ++ joined (be (firstWidth (i .op)) (i .a) ∷ be (secondWidth (i .op)) (i .b) ∷ [])
 unfolding encode joined

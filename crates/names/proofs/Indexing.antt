@@ -1,11 +1,11 @@
 -- An index of names: what a bucket tells of a name, and what a bucket that is set leaves. Assumes nothing.
 use Prim.Native.Nat.{ℕ, zero, suc, _+_, _-_, _%_, _≤_, _<_}
 use mathlib.Core.Path.{_≡_, refl, sym, ap, subst, _∙_}
-use mathlib.Core.Bool.{Bool, true, false, _&&_}
-use mathlib.Core.Option.{Option, none, some}
+use mathlib.Core.Bool.{Bool, true, false}
+use mathlib.Core.Option.{some}
 use mathlib.Core.List.{List, [], _∷_, _++_, map}
 use native.Mathlib.Omega.{arith}
-use native.Mathlib.Nat.{zero-add, mod-lt}
+use native.Mathlib.Nat.{zero-add}
 use lib.Dec.{ltb, eqb}
 use lib.ListN.{length, take, drop, getD, set, length-drop}
 use lib.Seq.{take-all, getD-set-same, getD-set-other, getD-take}
@@ -15,13 +15,11 @@ use Rattle.state.specs.Words.{nameAt}
 use Rattle.state.specs.Index.{hashOf, bucketOf, Covered, noneCovered, covered, startOf}
 use Rattle.state.specs.State.{namesAt, slotsFrom, slotNames, Slots, foundOr}
 use Rattle.names.specs.Sought.{soughtFrom}
-use Rattle.names.proofs.Finding.{step, position-cons, found-le, names-length}
+use Rattle.names.proofs.Finding.{found-le, names-length}
+use Rattle.definitions.proofs.MethodOrder.{same-eq}
+use Rattle.state.proofs.Index.{bucket-below, found-other}
 
 -- ---- the hash
-
-pub bucket-below : (size : ℕ) (x : Name) → 0 < size → bucketOf size x < size
-unfolding bucketOf
-bucket-below size x h = mod-lt (hashOf x) h
 
 pub bucket-of : (size h : ℕ) (x : Name) → h ≡ hashOf x → h % size ≡ bucketOf size x
 unfolding bucketOf
@@ -46,28 +44,9 @@ start-past (suc k) n h g = let b = le-ltb k n (omega arith) in sym (rw (b, start
 
 -- ---- a name sought
 
-pub same-equal : (x y : Name) → same x y ≡ true → x ≡ y
-unfolding same
-same-equal [] [] e = refl
-same-equal [] (d ∷ y) e = let z : _≡_ {A = ℕ} 0 1 = cc in absurd (omega arith)
-same-equal (c ∷ x) [] e = let z : _≡_ {A = ℕ} 0 1 = cc in absurd (omega arith)
-same-equal (c ∷ x) (d ∷ y) e = go (eqb c d) refl e (λ f. same-equal x y f)
-  where
-    go : (b : Bool) → eqb c d ≡ b → (b && same x y) ≡ true → (same x y ≡ true → x ≡ y) → c ∷ x ≡ d ∷ y
-    go true h f q = let p = eqb-true c d h in let r = q f in (λ i. p i ∷ r i)
-    go false h f q = let z : _≡_ {A = ℕ} 0 1 = cc in absurd (omega arith)
-
 -- its number among the names, or how many they are
 abbrev pub foundIn : Name → List Name → ℕ
 foundIn x xs = foundOr (length xs) (position (same x) xs)
-
-found-other : (x y : Name) (ys : List Name) → same x y ≡ false → foundIn x (y ∷ ys) ≡ suc (foundIn x ys)
-unfolding foundOr step
-found-other x y ys e = ap (foundOr (suc (length ys))) (position-cons (same x) y ys ∙ ap (λ (b : Bool). step b (position (same x) ys)) e) ∙ go (position (same x) ys)
-  where
-    go : (o : Option ℕ) → foundOr (suc (length ys)) (step false o) ≡ suc (foundOr (length ys) o)
-    go none = refl
-    go (some i) = refl
 
 module _ (size : ℕ) (bs : List ℕ) (x : Name) where
   abbrev bucket : ℕ
@@ -81,7 +60,7 @@ module _ (size : ℕ) (bs : List ℕ) (x : Name) where
     where
       go : (b : Bool) → same x y ≡ b → foundIn x ys ≡ s + foundIn x (drop s ys) → foundIn x (y ∷ ys) ≡ suc s + foundIn x (drop s ys)
       go true f r =
-          let e = same-equal x y f in
+          let e = same-eq x y f in
           let a : 0 < bucket = subst (λ (z : Name). 0 < getD bs (bucketOf size z) 0) (sym e) more in
           let b : bucket ≤ j + 1 = subst (λ (z : Name). getD bs (bucketOf size z) 0 ≤ j + 1) (sym e) most in
           absurd (h 0 (omega arith) a (omega arith))

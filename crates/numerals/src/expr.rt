@@ -42,3 +42,15 @@ pub const UNARY_OPERATORS: u8 = 3;
 pub const BINARY_OPERATORS: u8 = 14;
 
 pub const AND: u8 = 12;
+
+// Unary operators: `not` and the sign that negates.
+pub const NOT: u8 = 0;
+
+pub const NEGATE: u8 = 1;
+
+// Binary ones: `/`, `//`, and the first of the comparisons.
+pub const DIVIDE: u8 = 3;
+
+pub const FLOOR_DIVIDE: u8 = 4;
+
+pub const EQUAL: u8 = 6;

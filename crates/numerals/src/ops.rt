@@ -80,6 +80,9 @@ pub const MAKE_CLOSURE: u32 = 45;
 // A display's instruction is its kind plus this, but that tuple and dict are exchanged.
 pub const BUILD: u32 = BUILD_LIST - expr::LIST as u32;
 
+// An operator's instruction is the operator plus that of `+`, a comparison's the operator plus this, but that `/` and `//` are exchanged.
+pub const COMPARISON: u32 = EQ - expr::EQUAL as u32;
+
 // The jump of `and` or `or` is the operator plus this; the constant on its short way is the other minus the jump.
 pub const LOGICAL: u32 = JUMP_IF_FALSE - expr::AND as u32;
 

@@ -1,11 +1,15 @@
 // The opcodes of operators and displays, by their bytes in the tree.
 use numerals::expr;
+use numerals::ops::ADD;
 use numerals::ops::BUILD;
 use numerals::ops::BUILD_DICT;
 use numerals::ops::BUILD_TUPLE;
+use numerals::ops::COMPARISON;
+use numerals::ops::DIV;
 use numerals::ops::NEG;
 use numerals::ops::NOT;
 use numerals::ops::POS;
+use numerals::ops::TRUE_DIV;
 ghost use mathlib.Core.Path.{_≡_};
 ghost use Prim.Native.Nat.{_<_, _≤_};
 ghost use Rattle.definitions.specs.Instruction.{operatorCode, buildCode};
@@ -18,8 +22,8 @@ pub fn unary_code(operator: u8) -> u32
     ensures { λ r. ⌜ (r ≡ unaryOpcode operator) × Plain r 0 0 ⌝ }
 {
     match operator {
-        0 => NOT,
-        1 => NEG,
+        expr::NOT => NOT,
+        expr::NEGATE => NEG,
         _ => POS,
     }
 }
@@ -29,16 +33,16 @@ pub fn binary_code(operator: u8) -> u32
     requires { ⌜ operator < 12 ⌝ }
     ensures { λ r. ⌜ (r ≡ operatorCode operator) × Plain r 0 0 ⌝ }
 {
-    if operator == 3 {
-        return 17;
+    if operator == expr::DIVIDE {
+        return TRUE_DIV;
     }
-    if operator == 4 {
-        return 16;
+    if operator == expr::FLOOR_DIVIDE {
+        return DIV;
     }
-    if operator < 6 {
-        return 13 + operator as u32;
+    if operator < expr::EQUAL {
+        return ADD + operator as u32;
     }
-    15 + operator as u32
+    COMPARISON + operator as u32
 }
 
 // BuildList to BuildTreeSet.

@@ -10,10 +10,11 @@ use lib.Seq.{drop-drop}
 use Rattle.definitions.specs.Bytes.{Name, Parsed, got, failed, Parser, _>>=_, byte, field, counted, listOf, name, text}
 use Rattle.definitions.specs.Parse.{params}
 use Rattle.parts.specs.Places.{Node, node, nodeAt, isGot, Reads, countAt, Counted, eightAt, nameBytes, nameEnd, There, namesFrom, namesEnd, AllThere, ParamsAt, paramsAt, TextAt, textAt}
-use Rattle.parts.proofs.Laws.{le-or-gt, follow, bind-is}
+use Rattle.parts.proofs.Laws.{follow, bind-is}
 use Rattle.parts.proofs.LeafLaws.{field-short, field-long, field-two, bytes-long, bytes-short, name-there}
 use Rattle.parts.proofs.NameLaws.{name-or, Listed, listed, unlisted, names-read}
 use Rattle.parts.proofs.Nodes.{Goes, not-got, got-node, first-reads, goes-got}
+use Rattle.definitions.proofs.Truth.{le-or-gt}
 
 -- ---- counts
 

@@ -12,7 +12,9 @@ use Rattle.definitions.specs.Parse.{byKind, choice}
 use Rattle.parts.specs.Judge.{passed, judged, least}
 use Rattle.parts.specs.Places.{Node, node, nodeOf, nodeAt, isGot, Reads}
 use Rattle.parts.specs.declared.Passed.the-variants.{Next}
-use Rattle.parts.proofs.Laws.{Went, went, lost, Steady, follow, bind-is, at-byte, at-end, le-or-gt, kind-of, kind-none, rest-place, steady-counted}
+use Rattle.parts.proofs.Laws.{Went, went, lost, Steady, follow, bind-is, kind-of, kind-none, rest-place, steady-counted}
+use Rattle.definitions.proofs.Truth.{le-or-gt}
+use Rattle.definitions.proofs.Begins.{at-end, at-byte}
 
 -- P at p goes on as Q at q
 pub record Goes {A : Type 0} (z : A) (P : Parser A) (t : List ℕ) (p : ℕ) (Q : Parser A) (q : ℕ) : Type 0 where

@@ -10,22 +10,16 @@ use native.Mathlib.Nat.{zero-div}
 use lib.Dec.{eqb}
 use lib.ListN.{length, getD, set, length-set, replicate, length-replicate, getD-replicate, List·getD-eq-default}
 use lib.Seq.{getD-set-same, getD-set-other}
-use borrow.Author.Tests.{eq-eqb, ne-eqb, eqb-true, eqb-false}
+use borrow.Author.Tests.{eq-eqb, ne-eqb, eqb-true}
 use Rattle.definitions.specs.Bytes.{Name, same, position, member, all}
 use Rattle.definitions.specs.Wellformed.{distinct}
 use Rattle.parts.specs.Places.{nameBytes, nameEnd, There, namesFrom, namesEnd, AllThere}
 use Rattle.parts.specs.Search.{turnOf, below, reach, Entry, Met, Searches, Puts}
 use Rattle.parts.specs.declared.distinct.Put.{Put}
 use Rattle.parts.specs.declared.distinct.Put.the-variants.{Twice, New}
-use Rattle.parts.proofs.Laws.{le-or-gt}
-use Rattle.parts.proofs.NameLaws.{member-cons, there-first, there-rest, from-more, from-none}
-
-equal-or : (a b : ℕ) → (a ≡ b) ⊎ (a ≡ b → ⊥)
-equal-or a b = go (eqb a b) refl
-  where
-    go : (x : Bool) → eqb a b ≡ x → (a ≡ b) ⊎ (a ≡ b → ⊥)
-    go true e = inl (eqb-true a b e)
-    go false e = inr (eqb-false a b e)
+use Rattle.parts.proofs.NameLaws.{there-first, there-rest, from-more, from-none}
+use Rattle.definitions.proofs.Truth.{le-or-gt, or-false, equal-or}
+use Rattle.definitions.proofs.Captured.{member-cons, member-nil}
 
 -- ---- turns
 
@@ -68,14 +62,6 @@ same-sym a b = go (same a b) (same b a) refl refl
 or-assoc : (a b c : Bool) → (a || (b || c)) ≡ (a || b || c)
 or-assoc true b c = refl
 or-assoc false b c = refl
-
-member-nil : (x : Name) → member x [] ≡ false
-unfolding member position
-member-nil x = refl
-
-or-false : (a : Bool) → (a || false) ≡ a
-or-false true = refl
-or-false false = refl
 
 pub member-end : (y x : Name) (xs : List Name) → member y (xs ++ x ∷ []) ≡ (member y xs || same y x)
 member-end y x [] = member-cons y x [] ∙ ap (λ (b : Bool). same y x || b) (member-nil y) ∙ or-false (same y x) ∙ sym (ap (λ (b : Bool). b || same y x) (member-nil y))
@@ -308,7 +294,7 @@ pub record Sifting (t : List ℕ) (n at count p : ℕ) (T : List ℕ) : Type 0 w
   pub left : AllThere t (n - count) p
   pub fine : distinct (namesFrom t n at) ≡ apart (namesFrom t count at) (namesFrom t (n - count) p)
 
-no-entry : (n s : ℕ) → _≡_ {A = ℕ} (getD (replicate n 0) s 0) 0
+pub no-entry : (n s : ℕ) → _≡_ {A = ℕ} (getD (replicate n 0) s 0) 0
 no-entry n s = ⊎-elim
     (λ (h : n ≤ s). List·getD-eq-default (replicate n 0) 0 (simp length-replicate h))
     (λ (h : s < n). getD-replicate n s 0 0 h)

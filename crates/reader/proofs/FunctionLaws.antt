@@ -22,7 +22,7 @@ use Rattle.reader.specs.declared.Found.the-variants.{Instruction, Nothin
 use Rattle.reader.proofs.Taken.{skip-cut, skip-field, got-field, skipped-got}
 use Rattle.reader.proofs.InstructionLaws.{found-is, cut-found, got-checked, cut-checked, cut-unchecked}
 use Rattle.reader.proofs.Checked.{Sat, sat-bind, sat-any, sat-checked, counted-length, checked-next, checked-cut, checked-give, checked-same, checked-none, pass-next, pass-fail, pass-cut, pass-end, pass-count}
-use Rattle.definitions.proofs.Begins.{le-or-gt}
+use Rattle.definitions.proofs.Truth.{le-or-gt}
 
 -- an opcode that is read is one of the 46
 pub opcode-small : (bs : List ℕ) → Sat (λ (i : Instr). i .op ≤ 45) (instruction bs)

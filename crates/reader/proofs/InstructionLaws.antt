@@ -16,7 +16,8 @@ use Rattle.reader.specs.declared.Skipped.the-variants.{Cut}
 use Rattle.reader.specs.declared.Found.the-variants.{Instruction, Nothing}
 use lib.Seq.{drop-drop}
 use Rattle.reader.proofs.Taken.{skip-cut, skip-next, got-bind, got-give, got-byte, got-field, skip-field, at-end}
-use Rattle.definitions.proofs.Begins.{Rest, bind-is, le-or-gt, takes-instruction}
+use Rattle.definitions.proofs.Begins.{Rest, bind-is, takes-instruction}
+use Rattle.definitions.proofs.Truth.{le-or-gt}
 
 -- a tested read
 pub got-checked : {A : Type 0} (test : A → Bool) (p : Parser A) (t : List ℕ) (at : ℕ) (a : A) (m : ℕ) → Got p t at a m → test a ≡ true → Got (checked test p) t at a m

@@ -7,10 +7,10 @@ use mathlib.Core.Logic.{⊎-elim}
 use lib.Dec.{eqb, T}
 use lib.ListN.{getD, List·getD-map, List·getD-eq-default}
 use Rattle.definitions.specs.Instruction.{Row, row, nothing, instructionTable, rowOf, numbersOf}
-use Rattle.definitions.proofs.Begins.{le-or-gt}
 use Rattle.widths.proofs.Table.{at}
 use Rattle.widths.proofs.Laws.{no-key}
 use Rattle.reader.specs.Asks.{kindOf}
+use Rattle.definitions.proofs.Truth.{le-or-gt}
 
 -- the opcodes whose first operand numbers something
 unfoldable pub has-kind : ℕ → Bool

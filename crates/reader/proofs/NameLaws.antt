@@ -11,7 +11,7 @@ use Rattle.definitions.specs.Bytes.{Name, got, Parser, _>>=_, give, byte, field
 use Rattle.reader.specs.View.{skipAt, numberAt, Got}
 use Rattle.reader.specs.declared.Skipped.the-variants.{Cut}
 use Rattle.reader.proofs.Taken.{skip-cut, skip-next, skip-field, got-field, got-bind, got-byte, got-give, bytes-cut, skipped-got}
-use Rattle.definitions.proofs.Begins.{le-or-gt}
+use Rattle.definitions.proofs.Truth.{le-or-gt}
 
 -- ---- parts of the bytes
 

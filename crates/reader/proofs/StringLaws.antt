@@ -9,12 +9,13 @@ use lib.ListN.{length, drop, take}
 use lib.Seq.{slice}
 use Rattle.definitions.specs.Bytes.{Text, byte, field, counted, listOf, text}
 use Rattle.definitions.specs.Utf8.{isUtf8}
-use Rattle.definitions.proofs.Begins.{Takes, le-or-gt, takes-checked, takes-text}
+use Rattle.definitions.proofs.Begins.{Takes, takes-checked, takes-text}
 use Rattle.reader.specs.View.{skipAt, numberAt, string, Got}
 use Rattle.reader.specs.declared.Skipped.the-variants.{Next, Cut}
 use Rattle.reader.proofs.Taken.{skip-cut, skip-next, skip-field, got-at, got-bind, got-field, bytes-cut, skipped-got}
 use Rattle.reader.proofs.NameLaws.{part-slice, read-not-cut, same-read, got-bytes}
 use Rattle.reader.proofs.InstructionLaws.{got-checked, cut-checked, cut-unchecked}
+use Rattle.definitions.proofs.Truth.{le-or-gt}
 
 pub takes-string : Takes string
 takes-string = takes-checked isUtf8 text takes-text

@@ -8,7 +8,7 @@ use native.Mathlib.Omega.{arith}
 use lib.Dec.{eqb}
 use lib.ListN.{length, take, drop, getD, set, length-drop, length-set}
 use lib.Seq.{getD-set-same, getD-set-other, drop-drop}
-use borrow.Author.Tests.{eqb-true, eq-eqb}
+use borrow.Author.Tests.{eqb-true}
 use Rattle.definitions.specs.Instruction.{Instr, instr, Return, encode, encodes}
 use Rattle.definitions.specs.Run.{Flow, straight, jump, question, returns, flow}
 use Rattle.reader.specs.View.{instructionsOf, startOf, metAt}
@@ -21,9 +21,7 @@ use Rattle.definitions.proofs.Flows.{return-stops}
 use Rattle.run.proofs.Coding.{op-here, not-last, start-add}
 use Rattle.definitions.specs.Bytes.{concat}
 use Rattle.definitions.proofs.Lengths.{length-encode}
-
-differs : (m n : ℕ) → eqb m n ≡ false → m ≡ n → ⊥
-differs m n e k = let z = sym (eq-eqb m n k) ∙ e in let y : _≡_ {A = ℕ} 0 1 = cc in omega arith
+use Rattle.definitions.proofs.Truth.{not-equal}
 
 below : (k n : ℕ) → k < n + 1 → (k ≡ n → ⊥) → k < n
 below k n l f = omega arith
@@ -78,7 +76,8 @@ module _ (c : List ℕ) (cur : Cursor) (before table : List ℕ) (f : Filling c 
         let p = more .1 in let q = more .3 in let d = length-encode (instr op a b) in let g = f .behind in
         let one : drop (n .place) (instructionsOf c) ≡ instructionsOf (drop (n .at) c) = ap (λ (k : ℕ). drop k (instructionsOf c)) p ∙ sym (drop-drop 1 (cur .place) (instructionsOf c)) ∙ ap (drop 1) here in
         let s : startOf (instructionsOf c) (cur .place + 1) ≡ startOf (instructionsOf c) (cur .place) + length (encode (instr op a b)) =
-        start-add (instructionsOf c) (cur .place) 1 ∙ ap (λ (js : List Instr). startOf (instructionsOf c) (cur .place) + length (encodes (take 1 js))) here ∙ ap (λ (k : ℕ). startOf (instructionsOf c) (cur .place) + k) (first-one (instr op a b)) in
+        start-add (instructionsOf c) (cur .place) 1 ∙ ap (λ (js : List Instr). startOf (instructionsOf c) (cur .place) + length (encodes (take 1 js))) here
+        ∙ ap (λ (k : ℕ). startOf (instructionsOf c) (cur .place) + k) (first-one (instr op a b)) in
         let t = ap (startOf (instructionsOf c)) p in let u = f .at in
         record {
           rest = sym one;
@@ -97,7 +96,7 @@ module _ (c : List ℕ) (cur : Cursor) (before table : List ℕ) (f : Filling c 
           where
             go : (b : Bool) → eqb k (cur .place) ≡ b → getD left k 0 ≡ startOf (instructionsOf c) k
             go true x = let y = eqb-true k (cur .place) x in ap₂ (λ (xs : List ℕ) (j : ℕ). getD xs j 0) e y ∙ getD-set-same table (cur .place) (cur .at) 0 h ∙ f .at ∙ ap (startOf (instructionsOf c)) (sym y)
-            go false x = let y = differs k (cur .place) x in ap (λ (xs : List ℕ). getD xs k 0) e ∙ getD-set-other table (cur .place) k (cur .at) 0 y ∙ f .entries k (below k (cur .place) l y)
+            go false x = let y = not-equal k (cur .place) x in ap (λ (xs : List ℕ). getD xs k 0) e ∙ getD-set-other table (cur .place) k (cur .at) 0 y ∙ f .entries k (below k (cur .place) l y)
 
   pub filled : length (instructionsOf c) ≤ length before → metAt c cur ≡ End → Places c table
   filled h e =
@@ -143,7 +142,7 @@ module _ (c : List ℕ) (h : Coded c) (n : ℕ) (en : n ≡ length (instructions
               where
                 go : (y : Bool) → eqb j k ≡ y → flowAt (instructionsOf c) j ≡ straight
                 go true x = ap (flowAt (instructionsOf c)) (eqb-true j k x) ∙ sym eo ∙ e
-                go false x = let d = differs j k x in s .goes j (above k j a d) b
+                go false x = let d = not-equal j k x in s .goes j (above k j a d) b
 
         off : (flow op ≡ straight → ⊥) → Stop (instructionsOf c) k r
         off f = subst (λ (x : ℕ). Stop (instructionsOf c) k x) (sym (w .stops f)) (record { from = omega arith; inside = omega arith; goes = λ j a b. absurd (omega arith); stops = λ e. f (eo ∙ e) })
@@ -162,7 +161,7 @@ module _ (c : List ℕ) (h : Coded c) (n : ℕ) (en : n ≡ length (instructions
             go : (y : Bool) → eqb j k ≡ y → Stop (instructionsOf c) j (getD left j 0)
             go true x = let y = eqb-true j k x in
                 subst (λ (i : ℕ). Stop (instructionsOf c) i (getD left i 0)) (sym y) (subst (λ (v : ℕ). Stop (instructionsOf c) k v) (sym (ap (λ (xs : List ℕ). getD xs k 0) e ∙ getD-set-same table k r 0 m)) stop-here)
-            go false x = let d = differs j k x in
+            go false x = let d = not-equal j k x in
                 subst (λ (v : ℕ). Stop (instructionsOf c) j v) (sym (ap (λ (xs : List ℕ). getD xs j 0) e ∙ getD-set-other table k j r 0 d)) (s .entries j (above k j a d) b)
 
 pub stopped : (c : List ℕ) (n k stop : ℕ) (before table : List ℕ) → n ≡ length (instructionsOf c) → n ≤ length before → k ≤ 0 → Stopping c n k stop before table → Stops c table

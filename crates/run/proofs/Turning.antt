@@ -20,7 +20,7 @@ use Rattle.definitions.proofs.Flows.{stop-jumps, jump-width, is-jump, flow-jump
 use Rattle.run.proofs.Flows.{return-bytes}
 use Rattle.run.proofs.Coding.{op-here, operand-here, not-last, jump-inside}
 use Rattle.run.proofs.Storing.{stored-at, copied-none}
-use Rattle.run.proofs.Leading.{after-none}
+use Rattle.definitions.proofs.Follow.{after-none}
 
 module _ (c answers : List ℕ) (budget room : ℕ) (s : Stand) where
   -- no budget left
@@ -165,7 +165,8 @@ module _ (c answers : List ℕ) (budget room : ℕ) (s : Stand) where
             unfolding obey go
             answered u = asks
                 ∙ ap (λ (xs : List ℕ). obey (question (eqb op 30)) i (s .place) xs go) (drop-cons answers (s .used) 0 u ∙ ap (λ (j : ℕ). getD answers (s .used) 0 ∷ drop j answers) (sym (add-one (s .used))))
-                ∙ ap₂ (λ (x y : ℕ). after 1 1 (x ∷ getD answers (s .used) 0 ∷ []) (run (budget - (s .steps + 1)) (instructionsOf c) (way (eqb op 30) (eqb (getD answers (s .used) 0) 1) (s .place) y) (drop (s .used + 1) answers))) (sym op-is) (sym a-is)
+                ∙ ap₂ (λ (x y : ℕ). after 1 1 (x ∷ getD answers (s .used) 0 ∷ [])
+                (run (budget - (s .steps + 1)) (instructionsOf c) (way (eqb op 30) (eqb (getD answers (s .used) 0) 1) (s .place) y) (drop (s .used + 1) answers))) (sym op-is) (sym a-is)
 
             goes : (u : Stand) (before left : List ℕ) → Asked op a answers room s u before left → Turns (On u) c answers budget room s before left
             unfolding Turns onward i
@@ -186,7 +187,8 @@ module _ (c answers : List ℕ) (budget room : ℕ) (s : Stand) where
                   stands = record {
                     steps = omega arith;
                     written = f;
-                    place = way-below (length (instructionsOf c)) (s .place) a (eqb op 30) (eqb (getD answers (s .used) 0) 1) (subst (λ (x : ℕ). landing (s .place) x < length (instructionsOf c)) (sym a-is) lands) (not-last c h (s .place) (st .place) (λ x. r (op-is ∙ x)));
+                    place = way-below (length (instructionsOf c)) (s .place) a (eqb op 30) (eqb (getD answers (s .used) 0) 1) (subst (λ (x : ℕ). landing (s .place) x < length (instructionsOf c)) (sym a-is) lands)
+                        (not-last c h (s .place) (st .place) (λ x. r (op-is ∙ x)));
                   };
                   less = omega arith;
                 })

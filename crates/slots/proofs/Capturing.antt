@@ -11,7 +11,6 @@ use borrow.Rule.Slice.PartMut.{putMid}
 use Rattle.definitions.specs.Bytes.{Name, member}
 use Rattle.definitions.specs.Tree.{Expr, lit, var, unary, binary, logical, call, attr, display, index, lambda, Exprs, []ᵉ, _∷ᵉ_}
 use Rattle.definitions.specs.Slots.{add, within, sort, referencedExpr, referencedExprs, captures}
-use Rattle.definitions.proofs.Captured.{and-false}
 use Rattle.parts.specs.Places.{paramsAt}
 use Rattle.names.proofs.Indexing.{slots-count}
 use Rattle.state.specs.Index.{Covered, noneCovered}
@@ -25,6 +24,7 @@ use Rattle.slots.proofs.Adding.{first-length, mid-front}
 use Rattle.slots.proofs.Holding.{bool-or, within-none, within-add, within-other, held-in, held-out, held-expr, held-few}
 use Rattle.slots.proofs.Marking.{marked-none, marked-all, free-is}
 use Rattle.slots.proofs.Params.{collected-count, collected-over}
+use Rattle.definitions.proofs.Truth.{and-false}
 
 first-none : (t ps : List ℕ) → firstNames t 0 ps ≡ []
 unfolding firstNames namesAt

@@ -11,8 +11,10 @@ use Rattle.definitions.specs.Tree.{Block, Branches}
 use Rattle.definitions.specs.Slots.{add, addTarget, localsStmt, localsBlock, localsBranches}
 use Rattle.parts.specs.Places.{Node, countAt, nameBytes, nameEnd}
 use Rattle.exprs.specs.ExprAt.{exprAt, secondAt}
-use Rattle.tree.specs.StmtAt.{stmtAt, blockAt, stmtsAt, branchesAt, StmtReads, BlockReads, StmtsRead, BranchesRead, BranchAt, bodyAt, IfAt, ifAt, elifsAt, whileAt, forAt, whenAt, elseAt, consAt, assignAt, exprStmtAt, returnAt, defAt, classAt}
-use Rattle.tree.proofs.StmtViews.{view-block, view-stmts-none, view-stmts-more, view-branches-more, else-known, view-done, view-else, view-break, view-continue, view-pass, view-expr, view-return, view-assign, view-if, view-while, view-for, view-def, view-class}
+use Rattle.tree.specs.StmtAt.{stmtAt, blockAt, stmtsAt, branchesAt, StmtReads, BlockReads, StmtsRead, BranchesRead, BranchAt, bodyAt, IfAt, ifAt, elifsAt, whileAt, forAt, whenAt, elseAt, consAt, assignAt, exprStmtAt, returnAt, defAt}
+use Rattle.tree.specs.StmtAt.{classAt}
+use Rattle.tree.proofs.StmtViews.{view-block, view-stmts-none, view-stmts-more, view-branches-more, else-known, view-done, view-else, view-break, view-continue, view-pass, view-expr, view-return, view-assign, view-if, view-while}
+use Rattle.tree.proofs.StmtViews.{view-for, view-def, view-class}
 use Rattle.slots.specs.Slotted.{firstNames, Indexed, Added, Room, Gathers}
 use Rattle.slots.specs.declared.collect.Gathered.{Gathered}
 use Rattle.slots.specs.declared.collect.Gathered.the-variants.{Next, Over}

@@ -10,9 +10,10 @@ use Rattle.definitions.specs.Tree.{View, asVar, asAttr, asIndex, asTuple, asOth
 use Rattle.definitions.specs.Tree.{Expr, lit, unary, binary, logical}
 use Rattle.parts.specs.Places.{Node, node, nameBytes}
 use Rattle.exprs.specs.ExprAt.{exprAt, ExprReads, intAt, floatAt, stringAt, varAt, unaryOf, binaryOf, unaryAt, binaryAt, ListAt, listAt, secondAt, callAt, attributeAt, displayAt, dictAt, indexAt, lambdaAt, unaryOps, binaryOps}
-use Rattle.parts.proofs.Laws.{le-or-gt}
 use Rattle.parts.proofs.Nodes.{Seen}
-use Rattle.exprs.proofs.ExprViews.{expr-known, view-none, view-false, view-true, view-int, view-float, view-string, view-var, view-unary, view-binary, view-call, view-attribute, view-list, view-dict, view-tuple, view-set, view-tree-set, view-index, view-lambda, unary-of, binary-of, and-of, or-of}
+use Rattle.exprs.proofs.ExprViews.{expr-known, view-none, view-false, view-true, view-int, view-float, view-string, view-var, view-unary, view-binary, view-call, view-attribute, view-list, view-dict, view-tuple, view-set}
+use Rattle.exprs.proofs.ExprViews.{view-tree-set, view-index, view-lambda, unary-of, binary-of, and-of, or-of, unary-other, binary-other}
+use Rattle.definitions.proofs.Truth.{le-or-gt}
 
 -- what holds of every operator holds of the one of a byte
 pub unary-each : (P : (Expr → Expr) → Type 0) → ((op : UnaryOp) → P (unary op)) → (k : ℕ) → k < 3 → P (unaryOf k)
@@ -35,14 +36,6 @@ literal-is x l m e = (l, ap (λ (y : Node Expr). y .value) e)
 
 view-is : (x y : Node Expr) (v : View) → x ≡ y → view (y .value) ≡ v → view (x .value) ≡ v
 view-is x y v e f = ap (λ (z : Node Expr). view (z .value)) e ∙ f
-
-unary-other : (k : ℕ) (e : Expr) → k < 3 → view (unaryOf k e) ≡ asOther
-unfolding view
-unary-other k e h = unary-each (λ (f : Expr → Expr). view (f e) ≡ asOther) (λ op. refl) k h
-
-binary-other : (k : ℕ) (l r : Expr) → k < 14 → view (binaryOf k l r) ≡ asOther
-unfolding view
-binary-other k l r h = binary-each (λ (f : Expr → Expr → Expr). view (f l r) ≡ asOther) (λ op. refl) (λ op. refl) k h
 
 module _ (d : ℕ) (t : List ℕ) (p : ℕ) (r : ExprReads d t p) where
   abbrev x : Node Expr

@@ -1,5 +1,5 @@
 -- Marks of slots: which of their names a lambda around has as parameters. Assumes nothing.
-use Prim.Native.Nat.{ℕ, zero, suc, _+_, _-_, _<_, _≤_}
+use Prim.Native.Nat.{ℕ, suc, _+_, _-_, _<_, _≤_}
 use mathlib.Core.Path.{_≡_, refl, sym, ap, _∙_}
 use mathlib.Core.Bool.{Bool, true, false, not, _&&_, _||_}
 use mathlib.Core.Option.{Option, none, some}
@@ -20,6 +20,7 @@ use Rattle.names.proofs.Finding.{step, position-cons}
 use Rattle.slots.specs.Held.{mark, markAll, isFree, Marked}
 use Rattle.slots.proofs.Holding.{bool-or, clash, member-next}
 use Rattle.slots.proofs.Params.{params-names}
+use Rattle.parts.proofs.SearchLaws.{no-entry}
 
 -- ---- a name's slot
 
@@ -40,14 +41,9 @@ found-one x y xs i e f = same-eq x (getD xs i []) (found-same x xs i e) ∙ sym 
 
 -- ---- marks of names
 
-zero-there : (n i : ℕ) → _≡_ {A = ℕ} (getD (replicate n 0) i 0) 0
-zero-there zero i = refl
-zero-there (suc n) zero = refl
-zero-there (suc n) (suc i) = zero-there n i
-
 module _ (slots : List Name) where
   pub marked-none : (n : ℕ) → length slots ≤ n → Marked slots [] (replicate n 0)
-  marked-none n h = record { room = omega (arith, length-replicate {A = ℕ} n 0); at = λ x i e. ap (λ (m : ℕ). eqb m 0) (zero-there n i) ∙ ap not (sym (member-nil x)) }
+  marked-none n h = record { room = omega (arith, length-replicate {A = ℕ} n 0); at = λ x i e. ap (λ (m : ℕ). eqb m 0) (no-entry n i) ∙ ap not (sym (member-nil x)) }
 
   module _ (x : Name) (bound : List Name) (ms : List ℕ) (k : Marked slots bound ms) where
     -- a name without a slot

@@ -76,7 +76,8 @@ module _ (t ps₀ : List ℕ) (x : ℕ) (ps : List ℕ) (j : ℕ) (l : Inserting
         let c : below (nameAt t x) (nameAt t y) ≡ false = cc in
         let q = set ps j y in
         let front : namesAt t (take (j + 1) q) ≡ namesAt t (take j ps) ++ (nameAt t y ∷ []) =
-        ap (λ (i : ℕ). namesAt t (take i q)) (add-one j) ∙ ap (namesAt t) (take-suc-set ps j y (l .inside)) ∙ names-append t (take j ps) (y ∷ []) ∙ ap (λ (z : List Name). namesAt t (take j ps) ++ z) (names-cons t y [] ∙ ap (λ (z : List Name). nameAt t y ∷ z) (names-none t)) in
+        ap (λ (i : ℕ). namesAt t (take i q)) (add-one j) ∙ ap (namesAt t) (take-suc-set ps j y (l .inside)) ∙ names-append t (take j ps) (y ∷ [])
+        ∙ ap (λ (z : List Name). namesAt t (take j ps) ++ z) (names-cons t y [] ∙ ap (λ (z : List Name). nameAt t y ∷ z) (names-none t)) in
         let back : namesAt t (drop (j + 1 + 1) q) ≡ namesAt t (drop (j + 1 + 1) ps) = ap (namesAt t) (drop-set-lt (j + 1 + 1) ps j y (omega arith)) in
         record {
           names = ap₂ (λ (a b : List Name). a ++ insert (nameAt t x) b) front back ∙ append-assoc (namesAt t (take j ps)) (nameAt t y ∷ []) (insert (nameAt t x) (namesAt t (drop (j + 1 + 1) ps)))

@@ -1,5 +1,5 @@
 -- The places of parameters as the first slots; locals after them. Assumes nothing.
-use Prim.Native.Nat.{ℕ, zero, suc, _+_, _-_, _<_, _≤_}
+use Prim.Native.Nat.{ℕ, suc, _+_, _-_, _<_, _≤_}
 use mathlib.Core.Path.{_≡_, refl, sym, ap, _∙_, subst}
 use mathlib.Core.List.{List, [], _∷_, _++_, append-assoc, append-nil}
 use native.Mathlib.Omega.{arith}
@@ -11,7 +11,7 @@ use Rattle.definitions.specs.Tree.{Block}
 use Rattle.state.specs.State.{namesAt, slotsFrom}
 use Rattle.definitions.specs.Slots.{localsBlock, loopsBlock, Frame, withLoops}
 use Rattle.parts.specs.Places.{countAt, nameBytes, nameEnd, There, namesFrom, AllThere, ParamsAt, paramsAt}
-use Rattle.parts.proofs.NameLaws.{there-first, there-next}
+use Rattle.parts.proofs.NameLaws.{there-first, there-next, length-names}
 use Rattle.slots.specs.Slotted.{leading, firstNames, Indexed, Reindexed, Collected, Room, Gathers, upTo256, Framing, Frames}
 use Rattle.slots.specs.declared.Locals.{Locals}
 use Rattle.slots.specs.declared.Locals.the-variants.{Count, TooMany}
@@ -23,11 +23,6 @@ use Rattle.slots.proofs.Adding.{leading-set, mid-front, first-length}
 use Rattle.slots.proofs.Reindexing.{reindexed-names}
 use Rattle.definitions.proofs.Named.{block-grows}
 use Rattle.slots.proofs.Gathering.{Stands, gathers-next, gathers-over}
-
-pub names-count : (t : List ℕ) (n p : ℕ) → length (namesFrom t n p) ≡ n
-unfolding namesFrom
-names-count t zero p = refl
-names-count t (suc n) p = ap suc (names-count t n (nameEnd t p))
 
 names-first : (t : List ℕ) (n k p : ℕ) → n ≡ suc k → namesFrom t n p ≡ nameBytes t p ∷ namesFrom t k (nameEnd t p)
 unfolding namesFrom
@@ -103,7 +98,7 @@ module _ (t ps part : List ℕ) (n a : ℕ) (few : n ≤ 255) (room : slotsFrom 
 
 pub params-over : (t ps : List ℕ) (n a : ℕ) → n ≡ countAt t a → 255 < n → Collected TooMany t ps (paramsAt t a .value)
 unfolding Collected paramsAt
-params-over t ps n a e h = let z = e in omega (arith, names-count t (countAt t a) (a + 2))
+params-over t ps n a e h = let z = e in omega (arith, length-names t (countAt t a) (a + 2))
 
 -- ---- locals after parameters
 

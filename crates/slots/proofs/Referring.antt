@@ -11,8 +11,8 @@ use Rattle.definitions.specs.Tree.{Expr, Exprs}
 use Rattle.definitions.specs.Slots.{add}
 use Rattle.state.specs.State.{slotsFrom, slotNames}
 use Rattle.parts.specs.Places.{Node, countAt, nameBytes, nameEnd, There, paramsAt}
-use Rattle.exprs.specs.ExprAt.{exprAt, exprsAt, ExprReads, ExprsRead, varAt, unaryAt, TwoAt, secondAt, binaryAt, ListAt, listAt, CallAt, callAt, AttributeAt, attributeAt, displayAt, DictAt, pairsAt, dictAt, indexAt, LambdaAt, lambdaAt, consAt}
-use Rattle.parts.proofs.Laws.{le-or-gt, up}
+use Rattle.exprs.specs.ExprAt.{exprAt, exprsAt, ExprReads, ExprsRead, varAt, unaryAt, TwoAt, secondAt, binaryAt, ListAt, listAt, CallAt, callAt, AttributeAt, attributeAt, displayAt, DictAt, pairsAt, dictAt, indexAt, LambdaAt}
+use Rattle.exprs.specs.ExprAt.{lambdaAt, consAt}
 use Rattle.exprs.proofs.ExprViews.{view-var, view-unary, view-binary, view-call, view-attribute, view-dict, view-index, view-lambda, view-exprs-none, view-exprs-more}
 use Rattle.slots.specs.Slotted.{firstNames, Indexed, Added}
 use Rattle.slots.specs.Held.{markAll, isFree, addHeld, heldExpr, heldExprs, Held, Keeping, Referred}
@@ -21,6 +21,7 @@ use Rattle.names.proofs.Indexing.{slots-count}
 use Rattle.slots.proofs.Adding.{first-length}
 use Rattle.slots.proofs.Holding.{held-few, held-expr}
 use Rattle.slots.proofs.Kinded.{unary-each, binary-each, seen-literal, seen-display}
+use Rattle.definitions.proofs.Truth.{le-or-gt, up}
 
 -- ---- what is asked, and what is left
 
@@ -125,7 +126,8 @@ literal-kinds k h a b c d e f g i j l m n = ⊎-elim
     (λ (z : k < 6). z)
     (le-or-gt 6 k)
 
-pub refs-literal : (d : ℕ) (t : List ℕ) (p : ℕ) (r : ExprReads d t p) (slots : List Name) (ms : List ℕ) (o : Refs) (ps : List ℕ) (n : ℕ) → getD t p 0 < 6 → o .next ≡ exprAt d t p .end → o .n ≡ n → slotsFrom + n ≤ length ps → Indexed t n ps →
+pub refs-literal : (d : ℕ) (t : List ℕ) (p : ℕ) (r : ExprReads d t p) (slots : List Name) (ms : List ℕ) (o : Refs) (ps : List ℕ) (n : ℕ) → getD t p 0 < 6 → o .next ≡ exprAt d t p .end → o .n ≡ n
+    → slotsFrom + n ≤ length ps → Indexed t n ps →
     Referred o t ps (exprAt d t p .end) (heldExpr slots ms (exprAt d t p .value) (firstNames t n ps))
 unfolding heldExpr
 refs-literal d t p r slots ms o ps n h e f g v = let l = seen-literal d t p r h in
@@ -179,7 +181,8 @@ module _ (d : ℕ) (t : List ℕ) (a n : ℕ) (e : n ≡ countAt t a) where
   pub dict-is : exprsAt d (2 * n) t (a + 2) ≡ pairsAt d t a
   dict-is = ap (λ (m : ℕ). exprsAt d (2 * m) t (a + 2)) e
 
-pub refs-list : (slots : List Name) (ms t : List ℕ) (x y : Node Exprs) (o : Refs) (ps : List ℕ) (xs : List Name) → x ≡ y → Referred o t ps (x .end) (heldExprs slots ms (x .value) xs) → Referred o t ps (y .end) (heldExprs slots ms (y .value) xs)
+pub refs-list : (slots : List Name) (ms t : List ℕ) (x y : Node Exprs) (o : Refs) (ps : List ℕ) (xs : List Name) → x ≡ y → Referred o t ps (x .end) (heldExprs slots ms (x .value) xs)
+    → Referred o t ps (y .end) (heldExprs slots ms (y .value) xs)
 refs-list slots ms t x y o ps xs e g = referred-as o t ps _ _ _ _ g (ap (λ (z : Node Exprs). z .end) e) (ap (λ (z : Node Exprs). heldExprs slots ms (z .value) xs) e)
 
 -- ---- expressions, one at a time

@@ -9,10 +9,10 @@ use lib.ListN.{getD}
 use Rattle.definitions.specs.Tree.{Expr, Exprs}
 use Rattle.parts.specs.Places.{Node, countAt, nameEnd, There, namesEnd, AllThere, ParamsAt, paramsAt, textAt}
 use Rattle.exprs.specs.ExprAt.{exprAt, exprsAt, ExprReads, ExprsRead, intAt, floatAt, stringAt, varAt, unaryAt, secondAt, binaryAt, ListAt, listAt, callAt, attributeAt, displayAt, pairsAt, dictAt, indexAt, lambdaAt, consAt}
-use Rattle.parts.proofs.Laws.{le-or-gt, up}
 use Rattle.parts.proofs.NameLaws.{there-next}
 use Rattle.exprs.proofs.ExprViews.{view-none, view-false, view-true, view-int, view-float, view-string, view-var, view-unary, view-binary, view-call, view-attribute, view-dict, view-index, view-lambda, view-exprs-none, view-exprs-more}
 use Rattle.slots.proofs.Kinded.{seen-display}
+use Rattle.definitions.proofs.Truth.{le-or-gt, up}
 
 pub text-done : (t : List ℕ) (p n : ℕ) → n ≡ countAt t p → p + 2 + n ≡ textAt t p .end
 unfolding textAt

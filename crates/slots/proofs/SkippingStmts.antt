@@ -10,9 +10,9 @@ use Rattle.parts.specs.Places.{Node, countAt, nameEnd, There, paramsAt}
 use Rattle.exprs.specs.ExprAt.{exprAt, ExprReads, secondAt}
 use Rattle.tree.specs.StmtAt.{stmtAt, blockAt, stmtsAt, branchesAt, methodsAt, attributesAt, valuesAt, StmtReads, BlockReads, StmtsRead, BranchesRead, MethodsRead, AttributesRead, ValuesRead}
 use Rattle.tree.specs.StmtAt.{exprStmtAt, returnAt, assignAt, BranchAt, bodyAt, IfAt, elifsAt, ifAt, whileAt, forAt, whenAt, elseAt, DefAt, defBlockAt, defAt, methodAt, ClassAt, classMethodsAt, classAt, valueAt, consAt}
-use Rattle.parts.proofs.Laws.{le-or-gt, up}
 use Rattle.tree.proofs.StmtViews.{stmt-known, view-break, view-continue, view-pass, view-expr, view-return, view-assign, view-if, view-while, view-for, view-def, view-class}
 use Rattle.tree.proofs.StmtViews.{view-block, view-stmts-none, view-stmts-more, view-branches-more, else-known, view-done, view-else, view-methods-none, view-methods-more, view-attributes, view-values-none, view-values-more}
+use Rattle.definitions.proofs.Truth.{le-or-gt, up}
 
 -- ---- the kinds of statement
 

@@ -11,11 +11,11 @@ use Rattle.definitions.specs.Bytes.{Name, below}
 use Rattle.definitions.specs.Slots.{insert, sort}
 use Rattle.state.specs.Words.{nameAt}
 use Rattle.state.specs.State.{namesAt}
-use Rattle.parts.proofs.Laws.{le-or-gt}
 use Rattle.slots.specs.Order.{NoneBelow, noNames, oneMore, InOrder, noOrder, inOrder, Spot}
 use Rattle.slots.proofs.Holding.{bool-or, clash}
 use Rattle.byte_tests.proofs.Below.{below-none, below-less, below-more, below-same}
 use Rattle.slots.proofs.Ordering.{insert-here, insert-after, Inserting, insert-start, insert-end, insert-stop, insert-next, Sorting}
+use Rattle.definitions.proofs.Truth.{le-or-gt}
 
 -- ---- laws of the order
 

@@ -41,7 +41,8 @@ fn keep_name(
     n: u32,
 ) -> Refs
     requires { ⌜ Keeping (now tree) (now parent) (now places) n × There (now tree) at ⌝ }
-    ensures { λ r. ⌜ Referred r (now (tree .entry)) (now (places .exit)) (nameEnd (now (tree .entry)) at) (addHeld (slotNames (now (tree .entry)) (now (parent .entry))) (now (marks .entry)) (nameBytes (now (tree .entry)) at) (firstNames (now (tree .entry)) n (now (places .entry)))) ⌝ }
+    ensures { λ r. ⌜ Referred r (now (tree .entry)) (now (places .exit)) (nameEnd (now (tree .entry)) at)
+        (addHeld (slotNames (now (tree .entry)) (now (parent .entry))) (now (marks .entry)) (nameBytes (now (tree .entry)) at) (firstNames (now (tree .entry)) n (now (places .entry)))) ⌝ }
 {
     let next = name_end(tree, at);
     let b = bucket_at(tree, at);
@@ -63,7 +64,8 @@ fn collect_referenced_vars(
     n: u32,
 ) -> Refs
     requires { ⌜ Keeping (now tree) (now parent) (now places) n × ExprReads depth (now tree) at ⌝ }
-    ensures { λ r. ⌜ Referred r (now (tree .entry)) (now (places .exit)) (exprAt depth (now (tree .entry)) at .end) (heldExpr (slotNames (now (tree .entry)) (now (parent .entry))) (now (marks .entry)) (exprAt depth (now (tree .entry)) at .value) (firstNames (now (tree .entry)) n (now (places .entry)))) ⌝ }
+    ensures { λ r. ⌜ Referred r (now (tree .entry)) (now (places .exit)) (exprAt depth (now (tree .entry)) at .end)
+        (heldExpr (slotNames (now (tree .entry)) (now (parent .entry))) (now (marks .entry)) (exprAt depth (now (tree .entry)) at .value) (firstNames (now (tree .entry)) n (now (places .entry)))) ⌝ }
 {
     let kind = tree[at];
     let a = at + 1;
@@ -99,7 +101,8 @@ fn refs_two(
 ) -> Refs
     requires { ⌜ Keeping (now tree) (now parent) (now places) n × TwoAt depth (now tree) at ⌝ }
     ensures { λ r. ⌜ Referred r (now (tree .entry)) (now (places .exit)) (secondAt depth (now (tree .entry)) at .end)
-        (heldExpr (slotNames (now (tree .entry)) (now (parent .entry))) (now (marks .entry)) (secondAt depth (now (tree .entry)) at .value) (heldExpr (slotNames (now (tree .entry)) (now (parent .entry))) (now (marks .entry)) (exprAt depth (now (tree .entry)) at .value) (firstNames (now (tree .entry)) n (now (places .entry))))) ⌝ }
+        (heldExpr (slotNames (now (tree .entry)) (now (parent .entry))) (now (marks .entry)) (secondAt depth (now (tree .entry)) at .value)
+        (heldExpr (slotNames (now (tree .entry)) (now (parent .entry))) (now (marks .entry)) (exprAt depth (now (tree .entry)) at .value) (firstNames (now (tree .entry)) n (now (places .entry))))) ⌝ }
 {
     let left = collect_referenced_vars(tree, at, depth, parent, marks, places, n);
     collect_referenced_vars(tree, left.next, depth, parent, marks, places, left.n)
@@ -117,7 +120,8 @@ fn refs_call(
 ) -> Refs
     requires { ⌜ Keeping (now tree) (now parent) (now places) n × CallAt depth (now tree) at ⌝ }
     ensures { λ r. ⌜ Referred r (now (tree .entry)) (now (places .exit)) (listAt depth (now (tree .entry)) (exprAt depth (now (tree .entry)) at .end) .end)
-        (heldExprs (slotNames (now (tree .entry)) (now (parent .entry))) (now (marks .entry)) (listAt depth (now (tree .entry)) (exprAt depth (now (tree .entry)) at .end) .value) (heldExpr (slotNames (now (tree .entry)) (now (parent .entry))) (now (marks .entry)) (exprAt depth (now (tree .entry)) at .value) (firstNames (now (tree .entry)) n (now (places .entry))))) ⌝ }
+        (heldExprs (slotNames (now (tree .entry)) (now (parent .entry))) (now (marks .entry)) (listAt depth (now (tree .entry)) (exprAt depth (now (tree .entry)) at .end) .value)
+        (heldExpr (slotNames (now (tree .entry)) (now (parent .entry))) (now (marks .entry)) (exprAt depth (now (tree .entry)) at .value) (firstNames (now (tree .entry)) n (now (places .entry))))) ⌝ }
 {
     let callee = collect_referenced_vars(tree, at, depth, parent, marks, places, n);
     refs_list(tree, callee.next, depth, parent, marks, places, callee.n)
@@ -134,7 +138,8 @@ fn refs_attribute(
     n: u32,
 ) -> Refs
     requires { ⌜ Keeping (now tree) (now parent) (now places) n × AttributeAt depth (now tree) at ⌝ }
-    ensures { λ r. ⌜ Referred r (now (tree .entry)) (now (places .exit)) (nameEnd (now (tree .entry)) (exprAt depth (now (tree .entry)) at .end)) (heldExpr (slotNames (now (tree .entry)) (now (parent .entry))) (now (marks .entry)) (exprAt depth (now (tree .entry)) at .value) (firstNames (now (tree .entry)) n (now (places .entry)))) ⌝ }
+    ensures { λ r. ⌜ Referred r (now (tree .entry)) (now (places .exit)) (nameEnd (now (tree .entry)) (exprAt depth (now (tree .entry)) at .end))
+        (heldExpr (slotNames (now (tree .entry)) (now (parent .entry))) (now (marks .entry)) (exprAt depth (now (tree .entry)) at .value) (firstNames (now (tree .entry)) n (now (places .entry)))) ⌝ }
 {
     let object = collect_referenced_vars(tree, at, depth, parent, marks, places, n);
     Refs {
@@ -154,7 +159,8 @@ fn refs_list(
     n: u32,
 ) -> Refs
     requires { ⌜ Keeping (now tree) (now parent) (now places) n × ListAt depth (now tree) at ⌝ }
-    ensures { λ r. ⌜ Referred r (now (tree .entry)) (now (places .exit)) (listAt depth (now (tree .entry)) at .end) (heldExprs (slotNames (now (tree .entry)) (now (parent .entry))) (now (marks .entry)) (listAt depth (now (tree .entry)) at .value) (firstNames (now (tree .entry)) n (now (places .entry)))) ⌝ }
+    ensures { λ r. ⌜ Referred r (now (tree .entry)) (now (places .exit)) (listAt depth (now (tree .entry)) at .end)
+        (heldExprs (slotNames (now (tree .entry)) (now (parent .entry))) (now (marks .entry)) (listAt depth (now (tree .entry)) at .value) (firstNames (now (tree .entry)) n (now (places .entry)))) ⌝ }
 {
     let count = u16_at(tree, at);
     refs_many(tree, at + 2, depth, count, parent, marks, places, n)
@@ -171,7 +177,8 @@ fn refs_dict(
     n: u32,
 ) -> Refs
     requires { ⌜ Keeping (now tree) (now parent) (now places) n × DictAt depth (now tree) at ⌝ }
-    ensures { λ r. ⌜ Referred r (now (tree .entry)) (now (places .exit)) (pairsAt depth (now (tree .entry)) at .end) (heldExprs (slotNames (now (tree .entry)) (now (parent .entry))) (now (marks .entry)) (pairsAt depth (now (tree .entry)) at .value) (firstNames (now (tree .entry)) n (now (places .entry)))) ⌝ }
+    ensures { λ r. ⌜ Referred r (now (tree .entry)) (now (places .exit)) (pairsAt depth (now (tree .entry)) at .end)
+        (heldExprs (slotNames (now (tree .entry)) (now (parent .entry))) (now (marks .entry)) (pairsAt depth (now (tree .entry)) at .value) (firstNames (now (tree .entry)) n (now (places .entry)))) ⌝ }
 {
     let count = u16_at(tree, at);
     refs_many(tree, at + 2, depth, 2 * count, parent, marks, places, n)
@@ -189,7 +196,8 @@ fn refs_many(
     n: u32,
 ) -> Refs
     requires { ⌜ Keeping (now tree) (now parent) (now places) n × ExprsRead depth count (now tree) at ⌝ }
-    ensures { λ r. ⌜ Referred r (now (tree .entry)) (now (places .exit)) (exprsAt depth count (now (tree .entry)) at .end) (heldExprs (slotNames (now (tree .entry)) (now (parent .entry))) (now (marks .entry)) (exprsAt depth count (now (tree .entry)) at .value) (firstNames (now (tree .entry)) n (now (places .entry)))) ⌝ }
+    ensures { λ r. ⌜ Referred r (now (tree .entry)) (now (places .exit)) (exprsAt depth count (now (tree .entry)) at .end)
+        (heldExprs (slotNames (now (tree .entry)) (now (parent .entry))) (now (marks .entry)) (exprsAt depth count (now (tree .entry)) at .value) (firstNames (now (tree .entry)) n (now (places .entry)))) ⌝ }
 {
     let mut p = at;
     let mut left = count;
@@ -234,7 +242,8 @@ pub(crate) fn collect_free_vars(
     places: &mut [u32],
 ) -> u32
     requires { ⌜ (length (now tree) ≤ 32768) × Slots (now tree) (now parent) × (slotsFrom + 256 ≤ length (now places)) × ParamsAt (now tree) params × ExprReads depth (now tree) body ⌝ }
-    ensures { λ r. ⌜ CapturesAt r (now (tree .entry)) (now (parent .entry)) (now (places .exit)) (captures (slotNames (now (tree .entry)) (now (parent .entry))) (paramsAt (now (tree .entry)) params .value) (exprAt depth (now (tree .entry)) body .value)) ⌝ }
+    ensures { λ r. ⌜ CapturesAt r (now (tree .entry)) (now (parent .entry)) (now (places .exit))
+        (captures (slotNames (now (tree .entry)) (now (parent .entry))) (paramsAt (now (tree .entry)) params .value) (exprAt depth (now (tree .entry)) body .value)) ⌝ }
 {
     let mut marks = [0u8; 256];
     mark_params(tree, params, parent, &mut marks);
@@ -254,7 +263,9 @@ pub fn lambda_slots(
     slots: &mut [u32],
 ) -> Locals
     requires { ⌜ (length (now tree) ≤ 32768) × Slots (now tree) (now parent) × (slotsFrom + 256 ≤ length (now slots)) × ParamsAt (now tree) params × ExprReads depth (now tree) body ⌝ }
-    ensures { λ r. ⌜ Collected r (now (tree .entry)) (now (slots .exit)) (paramsAt (now (tree .entry)) params .value ++ captures (slotNames (now (tree .entry)) (now (parent .entry))) (paramsAt (now (tree .entry)) params .value) (exprAt depth (now (tree .entry)) body .value)) ⌝ }
+    ensures { λ r. ⌜ Collected r (now (tree .entry)) (now (slots .exit))
+        (paramsAt (now (tree .entry)) params .value
+        ++ captures (slotNames (now (tree .entry)) (now (parent .entry))) (paramsAt (now (tree .entry)) params .value) (exprAt depth (now (tree .entry)) body .value)) ⌝ }
 {
     let begun = put_params(tree, params, slots);
     let Locals::Count(k) = begun else {

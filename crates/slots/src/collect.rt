@@ -18,7 +18,7 @@ ghost use Rattle.definitions.specs.Slots.{add, addTarget, addTargets, localsStm
 ghost use Rattle.parts.specs.Places.{nameBytes, nameEnd, namesFrom, AllThere, ParamsAt, paramsAt};
 ghost use Rattle.state.specs.State.{slotsFrom};
 ghost use Rattle.exprs.specs.ExprAt.{exprAt, exprsAt, ExprReads, ExprsRead, TwoAt, secondAt};
-ghost use Rattle.tree.specs.StmtAt.{stmtAt, blockAt, branchesAt, StmtReads, BlockReads, BranchesRead, BranchAt, bodyAt, IfAt, ifAt, elifsAt, ForAt, forAt};
+ghost use Rattle.tree.specs.StmtAt.{stmtAt, blockAt, branchesAt, StmtReads, BlockReads, BranchesRead, BranchAt, bodyAt, IfAt, elifsAt, ForAt};
 ghost use Rattle.slots.specs.Slotted.{leading, firstNames, Collected, Room, Gathers, upTo256, Tallies, Frames};
 
 // The next position in the tree and how many slots have a name; or that more than 255 have one.
@@ -67,7 +67,8 @@ fn gather_targets(
     n: u32,
 ) -> Gathered
     requires { ⌜ Room (now tree) (now slots) n × ExprsRead depth count (now tree) at ⌝ }
-    ensures { λ r. ⌜ Gathers r (now (tree .entry)) (now (slots .exit)) (exprsAt depth count (now (tree .entry)) at .end) (addTargets (exprsAt depth count (now (tree .entry)) at .value) (firstNames (now (tree .entry)) n (now (slots .entry)))) ⌝ }
+    ensures { λ r. ⌜ Gathers r (now (tree .entry)) (now (slots .exit)) (exprsAt depth count (now (tree .entry)) at .end)
+        (addTargets (exprsAt depth count (now (tree .entry)) at .value) (firstNames (now (tree .entry)) n (now (slots .entry)))) ⌝ }
 {
     let mut p = at;
     let mut left = count;
@@ -218,7 +219,8 @@ fn gather_elifs(
     loops: &mut u32,
 ) -> Gathered
     requires { ⌜ Room (now tree) (now slots) n × BranchesRead depth count (now tree) at × (now loops ≤ 256) ⌝ }
-    ensures { λ r. ⌜ Gathers r (now (tree .entry)) (now (slots .exit)) (branchesAt depth count (now (tree .entry)) at .end) (localsBranches (branchesAt depth count (now (tree .entry)) at .value) (firstNames (now (tree .entry)) n (now (slots .entry))))
+    ensures { λ r. ⌜ Gathers r (now (tree .entry)) (now (slots .exit)) (branchesAt depth count (now (tree .entry)) at .end)
+        (localsBranches (branchesAt depth count (now (tree .entry)) at .value) (firstNames (now (tree .entry)) n (now (slots .entry))))
         × Tallies r (now (loops .entry)) (now (loops .exit)) (loopsBranches (branchesAt depth count (now (tree .entry)) at .value)) ⌝ }
 {
     let mut p = at;
@@ -246,7 +248,8 @@ fn gather_else(
     loops: &mut u32,
 ) -> Gathered
     requires { ⌜ Room (now tree) (now slots) n × BranchesRead depth 0 (now tree) at × (now loops ≤ 256) ⌝ }
-    ensures { λ r. ⌜ Gathers r (now (tree .entry)) (now (slots .exit)) (branchesAt depth 0 (now (tree .entry)) at .end) (localsBranches (branchesAt depth 0 (now (tree .entry)) at .value) (firstNames (now (tree .entry)) n (now (slots .entry))))
+    ensures { λ r. ⌜ Gathers r (now (tree .entry)) (now (slots .exit)) (branchesAt depth 0 (now (tree .entry)) at .end)
+        (localsBranches (branchesAt depth 0 (now (tree .entry)) at .value) (firstNames (now (tree .entry)) n (now (slots .entry))))
         × Tallies r (now (loops .entry)) (now (loops .exit)) (loopsBranches (branchesAt depth 0 (now (tree .entry)) at .value)) ⌝ }
 {
     if tree[at] == 0 {

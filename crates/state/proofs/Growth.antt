@@ -133,11 +133,23 @@ module _ (k arity : ℕ) (frame : Frame) (t u : Tables) (L : Lengthened (begin k
   pub setCode-instructions : instructions (setCode (u .functions) (length (t .functions)) is) ≡ instructions (u .functions) + length is
   unfolding instructions
   setCode-instructions =
-      omega (arith, ap instructions setCode-after, ap instructions before, instructions-append (t .functions) (record { symbol = k; arity = arity; locals = frame .locals; code = is } ∷ L .new), instructions-append (t .functions) (record { symbol = k; arity = arity; locals = frame .locals; code = [] } ∷ L .new))
+      omega (
+        arith,
+        ap instructions setCode-after,
+        ap instructions before,
+        instructions-append (t .functions) (record { symbol = k; arity = arity; locals = frame .locals; code = is } ∷ L .new),
+        instructions-append (t .functions) (record { symbol = k; arity = arity; locals = frame .locals; code = [] } ∷ L .new),
+      )
 
   pub setCode-count : length (setCode (u .functions) (length (t .functions)) is) ≡ length (u .functions)
   setCode-count =
-      omega (arith, ap length setCode-after, ap length before, length-append (t .functions) (record { symbol = k; arity = arity; locals = frame .locals; code = is } ∷ L .new), length-append (t .functions) (record { symbol = k; arity = arity; locals = frame .locals; code = [] } ∷ L .new))
+      omega (
+        arith,
+        ap length setCode-after,
+        ap length before,
+        length-append (t .functions) (record { symbol = k; arity = arity; locals = frame .locals; code = is } ∷ L .new),
+        length-append (t .functions) (record { symbol = k; arity = arity; locals = frame .locals; code = [] } ∷ L .new),
+      )
 
 pub lengthens-enclose : {e : Emit} (k arity : ℕ) (frame : Frame) (body : Body) → Lengthens e → Lengthens (enclose k arity frame body e)
 unfolding enclose

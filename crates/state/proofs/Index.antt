@@ -13,17 +13,10 @@ use lib.Dec.{ltb, eqb, eqb→eq}
 use Rattle.definitions.specs.Bytes.{Name, same, position}
 use Rattle.state.specs.Index.{hashFrom, hashOf, bucketOf, Covered, noneCovered, covered, startOf, noted}
 use borrow.Author.Tests.{ltb-true, ltb-false}
-use Rattle.definitions.proofs.Truth.{left, right, holds, not-equal}
+use Rattle.definitions.proofs.Truth.{holds, not-equal}
 use Rattle.state.specs.Words.{region}
 use Rattle.state.specs.State.{foundOr, stringsFrom, symbolIndexFrom, symbolBuckets, stringIndexFrom, stringBuckets, SymbolIndex, StringIndex}
-
--- the same bytes
-pub same-equal : (x y : Name) → same x y ≡ true → x ≡ y
-unfolding same
-same-equal [] [] e = refl
-same-equal [] (d ∷ y) e = let z : _≡_ {A = ℕ} 0 1 = cc in absurd (omega arith)
-same-equal (c ∷ x) [] e = let z : _≡_ {A = ℕ} 0 1 = cc in absurd (omega arith)
-same-equal (c ∷ x) (d ∷ y) e = rw (eqb→eq c d (holds (eqb c d) (left (eqb c d) (same x y) e)), same-equal x y (right (eqb c d) (same x y) e))
+use Rattle.definitions.proofs.MethodOrder.{same-eq}
 
 -- ---- where a name is found among others
 
@@ -31,7 +24,7 @@ same-equal (c ∷ x) (d ∷ y) e = rw (eqb→eq c d (holds (eqb c d) (left (eqb 
 abbrev pub foundIn : Name → List Name → ℕ
 foundIn x xs = foundOr (length xs) (position (same x) xs)
 
-found-other : (x y : Name) (ys : List Name) → same x y ≡ false → foundIn x (y ∷ ys) ≡ suc (foundIn x ys)
+pub found-other : (x y : Name) (ys : List Name) → same x y ≡ false → foundIn x (y ∷ ys) ≡ suc (foundIn x ys)
 unfolding foundOr position
 found-other x y ys e = go (same x y) e (position (same x) ys)
   where
@@ -52,7 +45,7 @@ module _ (size : ℕ) (buckets : List ℕ) (x : Name) where
   found-none j (y ∷ ys) (covered more most rest) e = go (found-none (j + 1) ys rest e) (same x y) refl
     where
       go : foundIn x ys ≡ length ys → (b : Bool) → same x y ≡ b → foundIn x (y ∷ ys) ≡ suc (length ys)
-      go r true f = let h : 0 < bucket = subst (λ (z : Name). 0 < getD buckets (bucketOf size z) 0) (sym (same-equal x y f)) more in absurd (omega arith)
+      go r true f = let h : 0 < bucket = subst (λ (z : Name). 0 < getD buckets (bucketOf size z) 0) (sym (same-eq x y f)) more in absurd (omega arith)
       go r false f = found-other x y ys f ∙ ap suc r
 
   -- nor is it among those before the number in its bucket
@@ -62,7 +55,7 @@ module _ (size : ℕ) (buckets : List ℕ) (x : Name) where
   found-later (suc s) j (y ∷ ys) (covered more most rest) h l = go (found-later s (j + 1) ys rest (omega arith) (omega arith)) (same x y) refl
     where
       go : foundIn x ys ≡ s + foundIn x (drop s ys) → (b : Bool) → same x y ≡ b → foundIn x (y ∷ ys) ≡ suc s + foundIn x (drop s ys)
-      go r true f = let k : bucket ≤ j + 1 = subst (λ (z : Name). getD buckets (bucketOf size z) 0 ≤ j + 1) (sym (same-equal x y f)) most in absurd (omega arith)
+      go r true f = let k : bucket ≤ j + 1 = subst (λ (z : Name). getD buckets (bucketOf size z) 0 ≤ j + 1) (sym (same-eq x y f)) most in absurd (omega arith)
       go r false f = found-other x y ys f ∙ ap suc r ∙ sym (suc-add s (foundIn x (drop s ys)))
 
   found-end : (xs : List Name) → foundIn x xs ≡ length xs → foundIn x xs ≡ length xs + foundIn x (drop (length xs) xs)

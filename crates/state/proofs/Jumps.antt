@@ -15,6 +15,7 @@ use Rattle.definitions.specs.Lower.{jumpOn, shortcut, patch, loop, emitExpr, em
 use Rattle.state.specs.State.{State, emitAt}
 use Rattle.state.specs.Steps.{setAt, patchAt, branch, chainAt}
 use Rattle.state.proofs.Emission.{state-eq}
+use Rattle.definitions.proofs.Shape.{length-patch}
 
 -- ---- a jump may be set before or after the next part
 
@@ -22,15 +23,10 @@ pub set-length : (k : ℕ) (i : Instr) (s : State) → length (setAt k i s .stac
 unfolding setAt
 set-length k i s = length-set (s .stack) k i
 
-patch-long : (h n i : ℕ) (is : List Instr) → length (patch h n i is) ≡ length is
-unfolding patch
-patch-long h n i [] = refl
-patch-long h n i (x ∷ is) = ap suc (patch-long h n (suc i) is)
-
 pub patch-length : (h k n : ℕ) (s : State) → k + n ≤ length (s .stack) → length (patchAt h k n s .stack) ≡ length (s .stack)
 unfolding patchAt
 patch-length h k n s l =
-    let m = patch-long h n 0 (take n (drop k (s .stack))) in
+    let m = length-patch h n 0 (take n (drop k (s .stack))) in
     simp (length-append, length-take, length-drop, m) (omega arith)
 
 -- ---- `and`, `or`
@@ -152,7 +148,12 @@ rest-by base slots keep c b r p t ys h e =
     let is = a .code ++ (jif ∷ o .code ++ Jump 0 ∷ []) in
     let q : suc (p + length (a .code)) + suc (length (o .code)) ≡ length (ys ++ is) - base =
     omega (arith, length-append ys is, length-append (a .code) (jif ∷ o .code ++ Jump 0 ∷ []), length-append (o .code) (Jump 0 ∷ [])) in
-    ap (λ (n : ℕ). record { stack = ys ++ (a .code ++ (jif ∷ o .code ++ Jump (emitBranches slots (past (loopsBlock b) keep) r n (o .tables) .hop) ∷ emitBranches slots (past (loopsBlock b) keep) r n (o .tables) .out .code)); tables = emitBranches slots (past (loopsBlock b) keep) r n (o .tables) .out .tables }) q
+    ap (λ (n : ℕ). record {
+      stack = ys ++ (a .code
+          ++ (jif ∷ o .code ++ Jump (emitBranches slots (past (loopsBlock b) keep) r n (o .tables) .hop) ∷ emitBranches slots (past (loopsBlock b) keep) r n (o .tables) .out .code));
+      tables = emitBranches
+          slots (past (loopsBlock b) keep) r n (o .tables) .out .tables;
+    }) q
     ∙ state-eq _ _ (sym (last-seam ys (a .code) (o .code) _ jif (Jump 0) _)) refl
 
 branch-hop : (slots : List Name) (keep : Keeping) (c : Expr) (b : Block) (r : Branches) (p : ℕ) (t : Tables) (xs : List Instr)
@@ -179,7 +180,11 @@ module _ (base : ℕ) (slots : List Name) (keep : Keeping) (c : Expr) (b : Block
       let q : suc (length xs - base + length as′) ≡ n = omega (arith, length-append (xs ++ as′) (i ∷ []), length-append xs as′) in
       let bs = emitBlock slots keep b n (a .tables) .code in
       let m : length bs ≡ length (xs ++ as′ ++ i ∷ [] ++ bs) - length (xs ++ as′ ++ i ∷ []) = sym (added (xs ++ as′ ++ i ∷ []) bs) in
-      ap (λ (k : ℕ). record { stack = xs ++ (as′ ++ (JumpIfFalse (suc (length (emitBlock slots keep b k (a .tables) .code))) ∷ emitBlock slots keep b k (a .tables) .code ++ Jump 0 ∷ [])); tables = emitBlock slots keep b k (a .tables) .tables }) q
+      ap (λ (k : ℕ). record {
+        stack = xs ++ (as′ ++ (JumpIfFalse (suc (length (emitBlock slots keep b k (a .tables) .code))) ∷ emitBlock slots keep b k (a .tables) .code ++ Jump 0 ∷ []));
+        tables =
+            emitBlock slots keep b k (a .tables) .tables;
+      }) q
       ∙ state-eq _ _ ((λ j. xs ++ (as′ ++ (JumpIfFalse (suc (m j)) ∷ bs ++ Jump 0 ∷ [])))
       ∙ sym (branch-seam xs as′ bs i _ (Jump 0))) refl
 

@@ -5,7 +5,7 @@ use mathlib.Core.Bool.{Bool, true, false}
 use native.Mathlib.Omega.{arith}
 use lib.Dec.{ltb}
 use borrow.Author.Tests.{lt-ltb, le-ltb, ltb-true, ltb-false}
-use Rattle.definitions.specs.Slots.{Keeping, inGlobals, inSlots, past}
+use Rattle.definitions.specs.Slots.{inGlobals, inSlots, past}
 use Rattle.state.specs.Kept.{keepingOf, afterLoops, Spare, Passes}
 
 -- ---- by cases

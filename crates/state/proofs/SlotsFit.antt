@@ -24,18 +24,10 @@ use Rattle.definitions.specs.Lower.{load, store, literal, shortcut, decides, di
 use Rattle.definitions.specs.Lower.{lambdaName, loads, closure, emitExpr, emitExprs, emitObject, copy, emitTarget, unpack, assignBy, loop, iterName, Keeper, global, local, makeIter, namedIter, keptIter, storeIter, loadIter, askIter}
 use Rattle.definitions.specs.Lower.{takeIter, methodEnd, insertMethod, beginClass, classObject, endClass, classOut, emitStmt, emitBlock, emitBranches, emitMethods, main, noTables}
 use Rattle.definitions.specs.Lower.{compile}
-use Rattle.definitions.proofs.Truth.{left, right}
+use Rattle.definitions.proofs.Truth.{left, right, and-true, and-assoc}
 use Rattle.state.specs.Fits.{fitsExpr, fitsExprs, fitsTarget, fitsStmt, fitsBlock, fitsBranches, fitsMethods}
 
 -- ---- Booleans
-
-and-true : (a : Bool) → (a && true) ≡ a
-and-true true = refl
-and-true false = refl
-
-and-assoc : (a b c : Bool) → (a && b && c) ≡ (a && (b && c))
-and-assoc true b c = refl
-and-assoc false b c = refl
 
 -- ---- the test of a part: what it adds to the test of the tables
 

@@ -12,7 +12,7 @@ use Rattle.definitions.specs.Wellformed.{isTuple}
 use Rattle.definitions.specs.Instruction
 use Rattle.definitions.specs.Tables.{Emit, emits, one, _⨟_, intern}
 use Rattle.definitions.specs.Slots.{Keeping, inGlobals, inSlots, past, loopsBlock}
-use Rattle.definitions.specs.Lower.{store, copy, emitTarget, unpack, loop, iterName, Keeper, global, local, makeIter, namedIter, keptIter, storeIter, loadIter, askIter, takeIter, emitExpr, emitStmt, emitBlock}
+use Rattle.definitions.specs.Lower.{store, copy, emitTarget, unpack, loop, iterName, Keeper, global, makeIter, namedIter, keptIter, storeIter, loadIter, askIter, takeIter, emitExpr, emitStmt, emitBlock}
 use Rattle.state.specs.State.{State, emitAt}
 use Rattle.state.specs.Steps.{isStored, branch, chainAt}
 use Rattle.state.specs.Kept.{keeperAt, keptAt}

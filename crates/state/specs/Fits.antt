@@ -8,7 +8,7 @@ use Rattle.definitions.specs.Bytes.{Name}
 use Rattle.definitions.specs.Tree.{Expr, lit, var, unary, binary, logical, call, attr, display, index, lambda, Exprs, []ᵉ, _∷ᵉ_, asVar, asAttr, asIndex, asTuple, asOther, view}
 use Rattle.definitions.specs.Tree.{Stmt, break, continue, pass, expr, return, assign, if, while, for, def, class, Block, []ᵇ, _∷ᵇ_, Branches, done, else, when, Methods, []ᵐ}
 use Rattle.definitions.specs.Tree.{method}
-use Rattle.definitions.specs.Slots.{captures, Frame, withLoops}
+use Rattle.definitions.specs.Slots.{captures, withLoops}
 
 unfoldable mutual
   pub fitsExpr : List Name → Expr → Bool

@@ -4,34 +4,25 @@ use mathlib.Core.Path.{_≡_, refl, sym, ap, _∙_}
 use mathlib.Core.Bool.{Bool, true, false}
 use mathlib.Core.Option.{Option, none, some}
 use mathlib.Core.List.{List, [], _∷_}
-use mathlib.Core.Logic.{_⊎_, inl, inr, ⊎-elim}
+use mathlib.Core.Logic.{⊎-elim}
 use native.Mathlib.Omega.{arith}
-use lib.Dec.{eqb}
 use lib.ListN.{length, drop, getD}
 use lib.Seq.{drop-length}
-use borrow.Author.Tests.{eqb-true, eqb-false}
 use Rattle.definitions.specs.Bytes.{Answer, refused, accepted, whenAccepted, Parsed, got, failed}
 use Rattle.definitions.specs.Tree.{Block, []ᵇ}
 use Rattle.definitions.specs.Parse.{parseStmt, blockOf, wholeBlock, readTree}
 use Rattle.definitions.specs.Wellformed.{askBlock, blockQuestions, firstNo, refusedBy, wellFormed, checkTree}
 use Rattle.parts.specs.Places.{Node, node}
-use Rattle.parts.proofs.Laws.{le-or-gt}
 use Rattle.parts.proofs.Nodes.{got-node, got-reads}
 use Rattle.tree.specs.Settled.{said, withoutBlock, settled, Headed}
 use Rattle.tree.specs.StmtAt.{blockAt, TreeAt}
 use Rattle.tree.specs.declared.Checked.{Checked}
 use Rattle.tree.specs.declared.Checked.the-variants.{Accepted, Refused}
 use Rattle.tree.proofs.TreeLaws.{head-two, head-three, head-count, head-four, head-version, head-fine}
+use Rattle.definitions.proofs.Truth.{equal-or, le-or-gt}
 
 never : {A C : Type 0} {q : ℕ} {a : A} → refused q ≡ accepted a → C
 never e = let z : _≡_ {A = ℕ} 0 1 = cc in absurd (omega arith)
-
-equal-or : (a b : ℕ) → (a ≡ b) ⊎ (a ≡ b → ⊥)
-equal-or a b = go (eqb a b) refl
-  where
-    go : (x : Bool) → eqb a b ≡ x → (a ≡ b) ⊎ (a ≡ b → ⊥)
-    go true e = inl (eqb-true a b e)
-    go false e = inr (eqb-false a b e)
 
 -- ---- questions 2 to 6
 

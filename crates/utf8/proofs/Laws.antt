@@ -5,15 +5,14 @@ use mathlib.Core.Bool.{Bool, true, false, _&&_}
 use mathlib.Core.Option.{none, some}
 use mathlib.Core.List.{List, [], _∷_}
 use native.Mathlib.Omega.{arith}
-use native.Mathlib.Numerals.{add-one}
 use lib.Dec.{eqb, leb}
-use lib.ListN.{length, drop, getD, getElem?, drop-of-length-le}
-use lib.Seq.{drop-cons}
+use lib.ListN.{length, drop, getD, getElem?}
 use borrow.Author.Tests.{le-leb, lt-leb, ne-eqb}
 use Rattle.definitions.specs.Utf8.{Range, range, inRange, Octets, utf8Char, followers, goesOn, isUtf8}
 use Rattle.definitions.proofs.Utf8Grammar.{line-follows}
 use Rattle.definitions.proofs.Every.{Every, noEvery, every}
 use Rattle.utf8.specs.Due.{dues, from, Begins, Goes, IsFrom}
+use Rattle.definitions.proofs.Begins.{at-end, at-byte}
 
 -- ---- ranges
 
@@ -177,10 +176,6 @@ goes-within due b next r k w rs e f g h = record {
 pub goes-nothing : (due b : ℕ) → 8 ≤ due → Goes due b 8
 goes-nothing due b h = record { on = λ bs. from-past 8 bs (omega arith) ∙ sym (from-past due (b ∷ bs) h) }
 
--- past a number that k is not: the last arm of a match
-pub up : (n k : ℕ) → n ≤ k → (k ≡ n → ⊥) → suc n ≤ k
-up n k h f = omega arith
-
 -- ---- the beginning and the end
 
 pub from-begin : (bs : List ℕ) → isUtf8 bs ≡ from 0 bs
@@ -198,12 +193,6 @@ ends (suc (suc (suc (suc (suc zero))))) = refl
 ends (suc (suc (suc (suc (suc (suc zero)))))) = refl
 ends (suc (suc (suc (suc (suc (suc (suc zero))))))) = refl
 ends (suc (suc (suc (suc (suc (suc (suc (suc n)))))))) = sym (ne-eqb (suc (suc (suc (suc (suc (suc (suc (suc n)))))))) 0 (λ e. omega arith))
-
-at-end : (t : List ℕ) (p : ℕ) → length t ≤ p → drop p t ≡ []
-at-end t p h = drop-of-length-le t h
-
-at-byte : (t : List ℕ) (p : ℕ) → p < length t → drop p t ≡ getD t p 0 ∷ drop (p + 1) t
-at-byte t p h = drop-cons t p 0 h ∙ ap (λ (k : ℕ). getD t p 0 ∷ drop k t) (sym (add-one p))
 
 -- a byte below 80 is a character
 pub ascii-more : (t : List ℕ) (i : ℕ) → i < length t → getD t i 0 < 0x80 → isUtf8 (drop i t) ≡ isUtf8 (drop (i + 1) t)

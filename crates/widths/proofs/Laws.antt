@@ -9,8 +9,8 @@ use lib.Dec.{eqb, T}
 use borrow.Author.Tests.{eq-eqb, ne-eqb}
 use lib.ListN.{getD, List·getD-map, List·getD-eq-default}
 use Rattle.definitions.specs.Instruction.{Row, row, nothing, instructionTable, rowOf, firstWidth, secondWidth}
-use Rattle.definitions.proofs.Begins.{le-or-gt}
 use Rattle.widths.proofs.Table.{at}
+use Rattle.definitions.proofs.Truth.{le-or-gt}
 
 -- an entry that is no key is 0
 pub no-key : (x : ℕ) (b : Bool) → T (eqb x 0 || b) → b ≡ false → 0 ≡ x
@@ -19,7 +19,10 @@ no-key (suc x) b t e = absurd (subst T (ap (λ (a : Bool). a || b) (ne-eqb (suc 
 
 -- the opcodes with a first operand
 unfoldable pub has-first : ℕ → Bool
-has-first k = eqb k 0 || (eqb k 1 || (eqb k 2 || (eqb k 6 || (eqb k 9 || (eqb k 10 || (eqb k 11 || (eqb k 12 || (eqb k 28 || (eqb k 29 || (eqb k 30 || (eqb k 31 || (eqb k 32 || (eqb k 34 || (eqb k 35 || (eqb k 36 || (eqb k 37 || (eqb k 38 || (eqb k 39 || (eqb k 40 || (eqb k 41 || (eqb k 42 || (eqb k 45))))))))))))))))))))))
+has-first k = eqb k 0 || (eqb k 1 || (eqb k 2
+    || (eqb k 6 || (eqb k 9 || (eqb k 10 || (eqb k 11
+    || (eqb k 12 || (eqb k 28 || (eqb k 29 ||
+    (eqb k 30 || (eqb k 31 || (eqb k 32 || (eqb k 34 || (eqb k 35 || (eqb k 36 || (eqb k 37 || (eqb k 38 || (eqb k 39 || (eqb k 40 || (eqb k 41 || (eqb k 42 || (eqb k 45))))))))))))))))))))))
 
 first-column : List ℕ
 first-column = map (λ (r : Row). r .first) instructionTable

@@ -27,7 +27,11 @@ is-name-spec = tie.close (tie.spec Inv-loop μ-loop
     (λ c. (refl, omega arith))  -- loop-holds
     (λ c. omega arith)  -- shared-slice-read-is-inner
     (λ c κs. search needs)  -- is-inner-requires
-    (λ c. let l = c .before .before .before .before in let s = l .before .before in name-rest _ _ (omega arith) (omega arith) (sym (s .is-letter .ensures) ∙ not-false _ (l .before .if3 .left)) (l .loop .inv .0 ∙ all-stop _ _ _ (c .before .before .before .loop-test .taken) (sym (c .before .is-inner .ensures) ∙ not-true _ (c .if4 .taken))))  -- returns-4
+    (λ c. let at-is-inner = c .before in let at-loop-test = at-is-inner .before .before in
+    let l = c .before .before .before .before in
+    let s = l .before .before in
+    name-rest _ _ (omega arith) (omega arith) (sym (s .is-letter .ensures) ∙ not-false _ (l .before .if3 .left))
+    (l .loop .inv .0 ∙ all-stop _ _ _ (at-loop-test .loop-test .taken) (sym (at-is-inner .is-inner .ensures) ∙ not-true _ (c .if4 .taken))))  -- returns-4
     (λ c. omega arith)  -- add-i
     (λ c. omega arith)  -- loop-less
     (λ c. let l = c .before .before .before .before in (l .loop .inv .0 ∙ all-go _ _ _ (c .before .before .before .loop-test .taken) (sym (c .before .is-inner .ensures) ∙ not-false _ (c .if4 .left)), omega arith))  -- loop-again

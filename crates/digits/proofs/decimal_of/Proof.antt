@@ -24,15 +24,30 @@ decimal-of-spec = tie.close (tie.spec Inv-loop μ-loop
     (λ c κs. tt)  -- wide-requires
     (λ c κs. tt)  -- digit-of-requires
     (λ c. search needs)  -- cast-digit
-    (λ c. let l = c .before .before .before .before .before .loop in let t = c .before .before .before .before .before .before .before .before .args .text .now in let h = c .before .before .before .before .loop-test .taken in let e = c .before .digit-of .ensures ∙ ap digitValue (c .before .before .wide .ensures .0) in
+    (λ c. let at-digit-of = c .before in let at-wide = at-digit-of .before in let at-loop-test = at-wide .before .before in let at-loop = at-loop-test .before in
+    let start = at-loop .before .before .before in
+    let l = at-loop .loop in
+    let t = start .args .text .now in
+    let h = at-loop-test .loop-test .taken in
+    let e = at-digit-of .digit-of .ensures ∙ ap digitValue (at-wide .wide .ensures .0) in
     sym (l .inv .1 ∙ rest-bad t (l .value) (l .i) _ h e (c .if2 .taken)))  -- returns-2
     (λ c. omega arith)  -- sub-if3
-    (λ c. let l = c .before .before .before .before .before .before .loop in let t = c .before .before .before .before .before .before .before .before .before .args .text .now in let h = c .before .before .before .before .before .loop-test .taken in let e = c .before .before .digit-of .ensures ∙ ap digitValue (c .before .before .before .wide .ensures .0) in
+    (λ c. let at-digit-of = c .before .before in let at-wide = at-digit-of .before in let at-loop-test = at-wide .before .before in let at-loop = at-loop-test .before in
+    let start = at-loop .before .before .before in
+    let l = at-loop .loop in
+    let t = start .args .text .now in
+    let h = at-loop-test .loop-test .taken in
+    let e = at-digit-of .digit-of .ensures ∙ ap digitValue (at-wide .wide .ensures .0) in
     sym (l .inv .1 ∙ rest-over t (l .value) (l .i) _ h e (omega arith)))  -- returns-3
     (λ c. omega arith)  -- mul-value
     (λ c. omega arith)  -- add-value
     (λ c. omega arith)  -- add-i
     (λ c. omega arith)  -- loop-less
-    (λ c. let l = c .before .before .before .before .before .before .loop in let t = c .before .before .before .before .before .before .before .before .before .args .text .now in let h = c .before .before .before .before .before .loop-test .taken in let e = c .before .before .digit-of .ensures ∙ ap digitValue (c .before .before .before .wide .ensures .0) in
+    (λ c. let at-digit-of = c .before .before in let at-wide = at-digit-of .before in let at-loop-test = at-wide .before .before in let at-loop = at-loop-test .before in
+    let start = at-loop .before .before .before in
+    let l = at-loop .loop in
+    let t = start .args .text .now in
+    let h = at-loop-test .loop-test .taken in
+    let e = at-digit-of .digit-of .ensures ∙ ap digitValue (at-wide .wide .ensures .0) in
     (omega arith, l .inv .1 ∙ rest-next t (l .value) (l .i) _ h e (c .before .if2 .left)))  -- loop-again
     (λ c. let l = c .before .loop in sym (l .inv .1 ∙ rest-end _ (l .value) (l .i) (c .loop-test .left) (l .inv .0))))  -- returns-4

@@ -12,6 +12,14 @@ answer-spec = tie.close (tie.spec
     (λ c. search needs)  -- enum-known-lowered-2
     (λ c κs. search needs)  -- refusal-requires
     (λ c. search needs)  -- same-length
-    (λ c. let l = c .before .before .before .before .before .before .before in let s = l .before .before .before .before .before .before in answered-wrote _ (s .args .input .now) _ _ (s .args .out .now) _ _ _ (l .lower .ensures) (search needs) (search needs) (s .pre .1) (s .pre .0) _ (c .before .lowered .given .1))  -- returns
+    (λ c. let at-lowered = c .before in
+    let l = c .before .before .before .before .before .before .before in
+    let s = l .before .before .before .before .before .before in
+    answered-wrote _ (s .args .input .now) _ _ (s .args .out .now) _ _ _ (l .lower .ensures) (search needs) (search needs) (s .pre .1) (s .pre .0) _ (at-lowered .lowered .given .1))  -- returns
     (λ c. search needs)  -- same-length-2
-    (λ c. let f = c .before .before in let k = f .before .before .before in let l = k .before .before .before .before .before .before in let s = l .before .before .before .before .before .before in answered-refused _ (s .args .input .now) _ _ (s .args .out .now) _ _ _ (l .lower .ensures) (search needs) (search needs) (s .pre .1) (s .pre .0) _ _ _ (k .lowered2 .given .1) (f .refusal .ensures)))  -- returns-2
+    (λ c.
+    let f = c .before .before in
+    let k = f .before .before .before in
+    let l = k .before .before .before .before .before .before in
+    let s = l .before .before .before .before .before .before in
+    answered-refused _ (s .args .input .now) _ _ (s .args .out .now) _ _ _ (l .lower .ensures) (search needs) (search needs) (s .pre .1) (s .pre .0) _ _ _ (k .lowered2 .given .1) (f .refusal .ensures)))  -- returns-2

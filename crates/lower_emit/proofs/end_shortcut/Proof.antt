@@ -31,4 +31,5 @@ end-shortcut-spec = tie.close (tie.spec
     (λ c. search needs)  -- add-k-2
     (λ c. search needs)  -- element-write-k
     (λ c. search needs)  -- same-length
-    (λ c. shortcut-more (c .before .before .before .before .before .before .before .before .pre .0) (c .before .before .before .if1 .left) (c .before .before .packed .ensures) (c .before .packed2 .ensures) (c .packed3 .ensures)))  -- returns-2
+    (λ c. let at-packed2 = c .before in let at-packed = at-packed2 .before in let at-if1 = at-packed .before in let start = at-if1 .before .before .before .before .before in
+    shortcut-more (start .pre .0) (at-if1 .if1 .left) (at-packed .packed .ensures) (at-packed2 .packed2 .ensures) (c .packed3 .ensures)))  -- returns-2

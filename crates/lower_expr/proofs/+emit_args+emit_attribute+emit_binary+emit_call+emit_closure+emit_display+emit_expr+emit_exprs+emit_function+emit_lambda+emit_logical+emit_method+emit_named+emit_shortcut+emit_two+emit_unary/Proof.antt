@@ -52,4 +52,7 @@ use Rattle.lower_expr.proofs.+emit_args+emit_attribute+emit_binary+emit
 use Rattle.lower_expr.proofs.+emit_args+emit_attribute+emit_binary+emit_call+emit_closure+emit_display+emit_expr+emit_exprs+emit_function+emit_lambda+emit_logical+emit_method+emit_named+emit_shortcut+emit_two+emit_unary.Tie.{close}
 
 pub +emit-args+emit-attribute+emit-binary+emit-call+emit-closure+emit-display+emit-expr+emit-exprs+emit-function+emit-lambda+emit-logical+emit-method+emit-named+emit-shortcut+emit-two+emit-unary-spec : {M : Type 1} → statement M
-+emit-args+emit-attribute+emit-binary+emit-call+emit-closure+emit-display+emit-expr+emit-exprs+emit-function+emit-lambda+emit-logical+emit-method+emit-named+emit-shortcut+emit-two+emit-unary-spec = close μ-emit-args μ-emit-attribute μ-emit-binary μ-emit-call μ-emit-closure μ-emit-display μ-emit-expr μ-emit-exprs μ-emit-function μ-emit-lambda μ-emit-logical μ-emit-method μ-emit-named μ-emit-shortcut μ-emit-two μ-emit-unary emit-args-ok emit-attribute-ok emit-binary-ok emit-call-ok emit-closure-ok emit-display-ok emit-expr-ok emit-exprs-ok emit-function-ok emit-lambda-ok emit-logical-ok emit-method-ok emit-named-ok emit-shortcut-ok emit-two-ok emit-unary-ok
++emit-args+emit-attribute+emit-binary+emit-call+emit-closure+emit-display+emit-expr+emit-exprs+emit-function+emit-lambda+emit-logical+emit-method+emit-named+emit-shortcut+emit-two+emit-unary-spec =
+    close μ-emit-args μ-emit-attribute μ-emit-binary μ-emit-call μ-emit-closure μ-emit-display μ-emit-expr μ-emit-exprs μ-emit-function μ-emit-lambda μ-emit-logical μ-emit-method μ-emit-named
+    μ-emit-shortcut μ-emit-two μ-emit-unary emit-args-ok emit-attribute-ok emit-binary-ok emit-call-ok emit-closure-ok emit-display-ok emit-expr-ok emit-exprs-ok emit-function-ok emit-lambda-ok
+    emit-logical-ok emit-method-ok emit-named-ok emit-shortcut-ok emit-two-ok emit-unary-ok

@@ -20,4 +20,6 @@ emit-made-spec = tie.close (tie.spec
     (λ c. let at-intern-made = c .before .before .before .before .before .before .before .before in at-intern-made .intern-made .kept .1 .1 .0)  -- same-length-3
     (λ c. let at-put-op = c .before .before in let at-if1 = at-put-op .before .before .before in let at-intern-made = at-if1 .before .before .before in
     let start = at-intern-made .before .before .before .before .before .before .before in
-    made1-put (start .pre .0) (at-intern-made .intern-made .ensures) (λ n. instr (start .args .op) n (start .args .b)) (at-if1 .if1 .left) (put-lifts _ (made1-sound (start .pre .0) (at-intern-made .intern-made .ensures) (at-if1 .if1 .left)) (start .pre .3) (instr-plain _ _ _ _ (plain-with _ _ _ (at-if1 .if1 .left) (start .pre .2))) (at-put-op .put-op .ensures))))  -- returns-2
+    made1-put (start .pre .0) (at-intern-made .intern-made .ensures) (λ n. instr (start .args .op) n (start .args .b)) (at-if1 .if1 .left)
+    (put-lifts _ (made1-sound (start .pre .0) (at-intern-made .intern-made .ensures) (at-if1 .if1 .left)) (start .pre .3) (instr-plain _ _ _ _ (plain-with _ _ _ (at-if1 .if1 .left) (start .pre .2)))
+    (at-put-op .put-op .ensures))))  -- returns-2

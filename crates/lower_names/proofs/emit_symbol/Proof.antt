@@ -21,10 +21,12 @@ emit-symbol-spec = tie.close (tie.spec
     (λ c. let at-intern = c .before .before .before in at-intern .intern .kept .1 .1 .0)  -- same-length
     (λ c. let at-if1 = c in let at-intern = at-if1 .before .before .before in
     let start = at-intern .before .before .before .before .before .before .before in
-    symbol1-over (start .pre .0) (at-intern .intern .ensures) (nameAt (start .args .tree .now) (start .args .at)) (sym (spelled-tree (start .args .tree .now) (start .args .made .now) (start .args .at) (start .pre .1))) (λ n. instr (start .args .op) n (start .args .b)) (at-if1 .if1 .taken))  -- returns
+    symbol1-over (start .pre .0) (at-intern .intern .ensures) (nameAt (start .args .tree .now) (start .args .at))
+    (sym (spelled-tree (start .args .tree .now) (start .args .made .now) (start .args .at) (start .pre .1))) (λ n. instr (start .args .op) n (start .args .b)) (at-if1 .if1 .taken))  -- returns
     (λ c κs. let at-if1 = c .before .before in let at-intern = at-if1 .before .before .before in
     let start = at-intern .before .before .before .before .before .before .before in (
-      room-sound (symbol1-sound (start .pre .0) (at-intern .intern .ensures) (nameAt (start .args .tree .now) (start .args .at)) (sym (spelled-tree (start .args .tree .now) (start .args .made .now) (start .args .at) (start .pre .1))) (at-if1 .if1 .left)),
+      room-sound (symbol1-sound (start .pre .0) (at-intern .intern .ensures) (nameAt (start .args .tree .now) (start .args .at))
+          (sym (spelled-tree (start .args .tree .now) (start .args .made .now) (start .args .at) (start .pre .1))) (at-if1 .if1 .left)),
       start .pre .2 .op-byte,
       omega (arith, at-if1 .if1 .left),
       start .pre .2 .second-byte,
@@ -33,4 +35,8 @@ emit-symbol-spec = tie.close (tie.spec
     (λ c. let at-intern = c .before .before .before .before .before .before .before .before in at-intern .intern .kept .1 .1 .0)  -- same-length-3
     (λ c. let at-put-op = c .before .before in let at-if1 = at-put-op .before .before .before in let at-intern = at-if1 .before .before .before in
     let start = at-intern .before .before .before .before .before .before .before in
-    symbol1-put (start .pre .0) (at-intern .intern .ensures) (nameAt (start .args .tree .now) (start .args .at)) (sym (spelled-tree (start .args .tree .now) (start .args .made .now) (start .args .at) (start .pre .1))) (λ n. instr (start .args .op) n (start .args .b)) (at-if1 .if1 .left) (put-lifts _ (symbol1-sound (start .pre .0) (at-intern .intern .ensures) (nameAt (start .args .tree .now) (start .args .at)) (sym (spelled-tree (start .args .tree .now) (start .args .made .now) (start .args .at) (start .pre .1))) (at-if1 .if1 .left)) (start .pre .3) (instr-plain _ _ _ _ (plain-with _ _ _ (at-if1 .if1 .left) (start .pre .2))) (at-put-op .put-op .ensures))))  -- returns-2
+    symbol1-put (start .pre .0) (at-intern .intern .ensures) (nameAt (start .args .tree .now) (start .args .at))
+    (sym (spelled-tree (start .args .tree .now) (start .args .made .now) (start .args .at) (start .pre .1))) (λ n. instr (start .args .op) n (start .args .b)) (at-if1 .if1 .left)
+    (put-lifts _ (symbol1-sound (start .pre .0) (at-intern .intern .ensures) (nameAt (start .args .tree .now) (start .args .at))
+    (sym (spelled-tree (start .args .tree .now) (start .args .made .now) (start .args .at) (start .pre .1))) (at-if1 .if1 .left)) (start .pre .3)
+    (instr-plain _ _ _ _ (plain-with _ _ _ (at-if1 .if1 .left) (start .pre .2))) (at-put-op .put-op .ensures))))  -- returns-2

@@ -43,7 +43,8 @@ intern-spec = tie.close (tie.spec
     (λ c. let at-if2 = c in let at-if1 = at-if2 .before .before in let at-find-spelling = at-if1 .before in let at-first-number = at-find-spelling .before .before .before .before in
     let at-hash = at-first-number .before .before .before in
     let start = at-hash .before .before .before .before .before .before in
-    interns-over (start .pre .0) (interned-found _ (start .pre .0) (start .pre .3) (at-hash .hash .ensures .0) (at-first-number .first-number .ensures .0) (at-find-spelling .find-spelling .ensures)) (at-if1 .if1 .left) (at-if2 .if2 .taken))  -- returns-2
+    interns-over (start .pre .0) (interned-found _ (start .pre .0) (start .pre .3) (at-hash .hash .ensures .0) (at-first-number .first-number .ensures .0) (at-find-spelling .find-spelling .ensures))
+    (at-if1 .if1 .left) (at-if2 .if2 .taken))  -- returns-2
     (λ c. search needs)  -- cast-tables
     (λ c. search needs)  -- mul-tables
     (λ c. search needs)  -- slice-write-tables
@@ -59,7 +60,8 @@ intern-spec = tie.close (tie.spec
     (λ c. let at-if2 = c in let at-if1 = at-if2 .before .before in let at-find-spelling = at-if1 .before in let at-first-number = at-find-spelling .before .before .before .before in
     let at-hash = at-first-number .before .before .before in let start = at-hash .before .before .before .before .before .before in
     let a = start .args in
-    interns-new (start .pre .0) (interned-found _ (start .pre .0) (start .pre .3) (at-hash .hash .ensures .0) (at-first-number .first-number .ensures .0) (at-find-spelling .find-spelling .ensures)) _ (a .grow) (renewed-noted symbolIndexFrom symbolBuckets (getD (a .k .now) 0 0) (a .w) (getD (a .k .now) 0 0) _ _ _ (a .tables .now) (omega (
+    interns-new (start .pre .0) (interned-found _ (start .pre .0) (start .pre .3) (at-hash .hash .ensures .0) (at-first-number .first-number .ensures .0) (at-find-spelling .find-spelling .ensures)) _
+    (a .grow) (renewed-noted symbolIndexFrom symbolBuckets (getD (a .k .now) 0 0) (a .w) (getD (a .k .now) 0 0) _ _ _ (a .tables .now) (omega (
       arith,
       start .pre .0 .symbols,
       start .pre .0 .limit,

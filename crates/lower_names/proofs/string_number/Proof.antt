@@ -47,7 +47,8 @@ string-number-spec = tie.close (tie.spec
     (λ c. let at-if2 = c in let at-if1 = at-if2 .before .before in let at-find-text = at-if1 .before in let at-first-number = at-find-text .before .before .before in
     let at-hash = at-first-number .before .before .before in let at-text-part = at-hash .before in
     let start = at-text-part .before .before .before .before in
-    adds-over (start .pre .0) (added-found _ (start .pre .0) (at-text-part .text-part .ensures .0) (at-hash .hash .ensures .0) (at-first-number .first-number .ensures .0) (at-find-text .find-text .ensures)) (at-if1 .if1 .left) (at-if2 .if2 .taken))  -- returns-2
+    adds-over (start .pre .0) (added-found _ (start .pre .0) (at-text-part .text-part .ensures .0) (at-hash .hash .ensures .0) (at-first-number .first-number .ensures .0)
+    (at-find-text .find-text .ensures)) (at-if1 .if1 .left) (at-if2 .if2 .taken))  -- returns-2
     (λ c. search needs)  -- cast-tables
     (λ c. search needs)  -- cast-tables-2
     (λ c. search needs)  -- add-tables
@@ -64,7 +65,8 @@ string-number-spec = tie.close (tie.spec
     (λ c. let at-if2 = c in let at-if1 = at-if2 .before .before in let at-find-text = at-if1 .before in let at-first-number = at-find-text .before .before .before in
     let at-hash = at-first-number .before .before .before in let at-text-part = at-hash .before in let start = at-text-part .before .before .before .before in
     let a = start .args in
-    adds-new (start .pre .0) (added-found _ (start .pre .0) (at-text-part .text-part .ensures .0) (at-hash .hash .ensures .0) (at-first-number .first-number .ensures .0) (at-find-text .find-text .ensures)) _ (renewed-noted stringIndexFrom stringBuckets (stringsFrom + getD (a .k .now) 1 0) (a .at) (getD (a .k .now) 1 0) _ _ _ (a .tables .now) (omega (
+    adds-new (start .pre .0) (added-found _ (start .pre .0) (at-text-part .text-part .ensures .0) (at-hash .hash .ensures .0) (at-first-number .first-number .ensures .0)
+    (at-find-text .find-text .ensures)) _ (renewed-noted stringIndexFrom stringBuckets (stringsFrom + getD (a .k .now) 1 0) (a .at) (getD (a .k .now) 1 0) _ _ _ (a .tables .now) (omega (
       arith,
       start .pre .0 .strings,
       start .pre .0 .limit,

@@ -46,4 +46,6 @@ use Rattle.lower_stmt.proofs.+compile_function+emit_block+emit_body+emi
 use Rattle.lower_stmt.proofs.+compile_function+emit_block+emit_body+emit_branch+emit_class+emit_elifs+emit_else+emit_for+emit_if+emit_methods+emit_rounds+emit_stmt+emit_stmts+emit_while.Tie.{close}
 
 pub +compile-function+emit-block+emit-body+emit-branch+emit-class+emit-elifs+emit-else+emit-for+emit-if+emit-methods+emit-rounds+emit-stmt+emit-stmts+emit-while-spec : {M : Type 1} → statement M
-+compile-function+emit-block+emit-body+emit-branch+emit-class+emit-elifs+emit-else+emit-for+emit-if+emit-methods+emit-rounds+emit-stmt+emit-stmts+emit-while-spec = close μ-compile-function μ-emit-block μ-emit-body μ-emit-branch μ-emit-class μ-emit-elifs μ-emit-else μ-emit-for μ-emit-if μ-emit-methods μ-emit-rounds μ-emit-stmt μ-emit-stmts μ-emit-while compile-function-ok emit-block-ok emit-body-ok emit-branch-ok emit-class-ok emit-elifs-ok emit-else-ok emit-for-ok emit-if-ok emit-methods-ok emit-rounds-ok emit-stmt-ok emit-stmts-ok emit-while-ok
++compile-function+emit-block+emit-body+emit-branch+emit-class+emit-elifs+emit-else+emit-for+emit-if+emit-methods+emit-rounds+emit-stmt+emit-stmts+emit-while-spec = close μ-compile-function
+    μ-emit-block μ-emit-body μ-emit-branch μ-emit-class μ-emit-elifs μ-emit-else μ-emit-for μ-emit-if μ-emit-methods μ-emit-rounds μ-emit-stmt μ-emit-stmts μ-emit-while compile-function-ok emit-block-ok
+    emit-body-ok emit-branch-ok emit-class-ok emit-elifs-ok emit-else-ok emit-for-ok emit-if-ok emit-methods-ok emit-rounds-ok emit-stmt-ok emit-stmts-ok emit-while-ok

@@ -40,7 +40,9 @@ assign-attribute-spec = tie.close (tie.spec
     let at-if1 = at-name-end .before in let at-emit-expr = at-if1 .before .before .before .before .before in
     let start = at-emit-expr .before .before .before .before .before .before .before .before .before in let e = at-emit-expr .emit-expr .ensures in let h = done-of (at-if1 .if1 .left) e .0 in
     let y = expr-by (start .args .depth) (start .args .tree .now) (slotNames (start .args .tree .now) (start .args .slots .now)) _ _ (at-name-end .name-end .ensures) (at-emit-expr2 .emit-expr2 .ensures) in
-    lowers-then (λ x. exprCode (start .args .depth) (start .args .tree .now) (slotNames (start .args .tree .now) (start .args .slots .now)) (nameEnd (start .args .tree .now) x) ⨟ intern (nameAt (start .args .tree .now) x) (λ k. one (StoreAttr k))) (λ x. exprAt (start .args .depth) (start .args .tree .now) (nameEnd (start .args .tree .now) x) .end) (at-if1 .if1 .left) (sound-of (start .pre .0)) e (lowers-stopped (at-if2 .if2 .taken) (sound-next (at-if1 .if1 .left) e) (lengthens-intern _ (λ k. lengthens-one _)) y))  -- returns-2
+    lowers-then (λ x. exprCode (start .args .depth) (start .args .tree .now) (slotNames (start .args .tree .now) (start .args .slots .now)) (nameEnd (start .args .tree .now) x)
+    ⨟ intern (nameAt (start .args .tree .now) x) (λ k. one (StoreAttr k))) (λ x. exprAt (start .args .depth) (start .args .tree .now) (nameEnd (start .args .tree .now) x) .end) (at-if1 .if1 .left)
+    (sound-of (start .pre .0)) e (lowers-stopped (at-if2 .if2 .taken) (sound-next (at-if1 .if1 .left) e) (lengthens-intern _ (λ k. lengthens-one _)) y))  -- returns-2
     (λ c κs. let at-if2 = c .before .before .before .before in let at-emit-expr2 = at-if2 .before .before .before .before .before in
     let at-name-end = at-emit-expr2 .before .before .before .before .before in let at-if1 = at-name-end .before in let at-emit-expr = at-if1 .before .before .before .before .before in
     let start = at-emit-expr .before .before .before .before .before .before .before .before .before in let e = at-emit-expr .emit-expr .ensures in let h = done-of (at-if1 .if1 .left) e .0 in
@@ -61,4 +63,6 @@ assign-attribute-spec = tie.close (tie.spec
     let at-emit-expr = at-if1 .before .before .before .before .before in let start = at-emit-expr .before .before .before .before .before .before .before .before .before in
     let e = at-emit-expr .emit-expr .ensures in let h = done-of (at-if1 .if1 .left) e .0 in
     let y = expr-by (start .args .depth) (start .args .tree .now) (slotNames (start .args .tree .now) (start .args .slots .now)) _ _ (at-name-end .name-end .ensures) (at-emit-expr2 .emit-expr2 .ensures) in
-    lowers-then (λ x. exprCode (start .args .depth) (start .args .tree .now) (slotNames (start .args .tree .now) (start .args .slots .now)) (nameEnd (start .args .tree .now) x) ⨟ intern (nameAt (start .args .tree .now) x) (λ k. one (StoreAttr k))) (λ x. exprAt (start .args .depth) (start .args .tree .now) (nameEnd (start .args .tree .now) x) .end) (at-if1 .if1 .left) (sound-of (start .pre .0)) e (lowers-next (at-if2 .if2 .left) (sound-next (at-if1 .if1 .left) e) y (at-emit-symbol .emit-symbol .ensures))))  -- returns-3
+    lowers-then (λ x. exprCode (start .args .depth) (start .args .tree .now) (slotNames (start .args .tree .now) (start .args .slots .now)) (nameEnd (start .args .tree .now) x)
+    ⨟ intern (nameAt (start .args .tree .now) x) (λ k. one (StoreAttr k))) (λ x. exprAt (start .args .depth) (start .args .tree .now) (nameEnd (start .args .tree .now) x) .end) (at-if1 .if1 .left)
+    (sound-of (start .pre .0)) e (lowers-next (at-if2 .if2 .left) (sound-next (at-if1 .if1 .left) e) y (at-emit-symbol .emit-symbol .ensures))))  -- returns-3

@@ -36,7 +36,10 @@ assign-index-spec = tie.close (tie.spec
     let at-emit-expr = at-if1 .before .before .before .before .before in let start = at-emit-expr .before .before .before .before .before .before .before .before .before in
     let e = at-emit-expr .emit-expr .ensures in let f = at-emit-expr2 .emit-expr2 .ensures in
     let S1 = sound-next (at-if1 .if1 .left) e in
-    lowers-then (λ x. exprCode ((start .args .depth) - 1) (start .args .tree .now) (slotNames (start .args .tree .now) (start .args .slots .now)) x ⨟ exprCode (start .args .depth) (start .args .tree .now) (slotNames (start .args .tree .now) (start .args .slots .now)) (exprAt ((start .args .depth) - 1) (start .args .tree .now) x .end) ⨟ one StoreIndex) (λ x. exprAt (start .args .depth) (start .args .tree .now) (exprAt ((start .args .depth) - 1) (start .args .tree .now) x .end) .end) (at-if1 .if1 .left) (sound-of (start .pre .0)) e (lowers-stopped (at-if2 .if2 .taken) S1 (lengthens-seq (lengthens-expr _ _) (lengthens-one _)) f))  -- returns-2
+    lowers-then (λ x. exprCode ((start .args .depth) - 1) (start .args .tree .now) (slotNames (start .args .tree .now) (start .args .slots .now)) x
+    ⨟ exprCode (start .args .depth) (start .args .tree .now) (slotNames (start .args .tree .now) (start .args .slots .now)) (exprAt ((start .args .depth) - 1) (start .args .tree .now) x .end)
+    ⨟ one StoreIndex) (λ x. exprAt (start .args .depth) (start .args .tree .now) (exprAt ((start .args .depth) - 1) (start .args .tree .now) x .end) .end) (at-if1 .if1 .left) (sound-of (start .pre .0)) e
+    (lowers-stopped (at-if2 .if2 .taken) S1 (lengthens-seq (lengthens-expr _ _) (lengthens-one _)) f))  -- returns-2
     (λ c κs. let at-if2 = c .before .before .before .before in let at-emit-expr2 = at-if2 .before .before .before .before .before in
     let at-if1 = at-emit-expr2 .before .before .before .before .before in let at-emit-expr = at-if1 .before .before .before .before .before in
     let start = at-emit-expr .before .before .before .before .before .before .before .before .before in let e = at-emit-expr .emit-expr .ensures in let f = at-emit-expr2 .emit-expr2 .ensures in
@@ -55,7 +58,11 @@ assign-index-spec = tie.close (tie.spec
     let at-emit-expr = at-if1 .before .before .before .before .before in let start = at-emit-expr .before .before .before .before .before .before .before .before .before in
     let e = at-emit-expr .emit-expr .ensures in let f = at-emit-expr2 .emit-expr2 .ensures in let S1 = sound-next (at-if1 .if1 .left) e in let g = at-emit-expr3 .emit-expr3 .ensures in
     let S2 = sound-next (at-if2 .if2 .left) f in
-    lowers-then (λ x. exprCode ((start .args .depth) - 1) (start .args .tree .now) (slotNames (start .args .tree .now) (start .args .slots .now)) x ⨟ exprCode (start .args .depth) (start .args .tree .now) (slotNames (start .args .tree .now) (start .args .slots .now)) (exprAt ((start .args .depth) - 1) (start .args .tree .now) x .end) ⨟ one StoreIndex) (λ x. exprAt (start .args .depth) (start .args .tree .now) (exprAt ((start .args .depth) - 1) (start .args .tree .now) x .end) .end) (at-if1 .if1 .left) (sound-of (start .pre .0)) e (lowers-then (λ x. exprCode (start .args .depth) (start .args .tree .now) (slotNames (start .args .tree .now) (start .args .slots .now)) x ⨟ one StoreIndex) (λ x. exprAt (start .args .depth) (start .args .tree .now) x .end) (at-if2 .if2 .left) S1 f (lowers-stopped (at-if3 .if3 .taken) S2 (lengthens-one _) g)))  -- returns-3
+    lowers-then (λ x. exprCode ((start .args .depth) - 1) (start .args .tree .now) (slotNames (start .args .tree .now) (start .args .slots .now)) x
+    ⨟ exprCode (start .args .depth) (start .args .tree .now) (slotNames (start .args .tree .now) (start .args .slots .now)) (exprAt ((start .args .depth) - 1) (start .args .tree .now) x .end)
+    ⨟ one StoreIndex) (λ x. exprAt (start .args .depth) (start .args .tree .now) (exprAt ((start .args .depth) - 1) (start .args .tree .now) x .end) .end) (at-if1 .if1 .left) (sound-of (start .pre .0)) e
+    (lowers-then (λ x. exprCode (start .args .depth) (start .args .tree .now) (slotNames (start .args .tree .now) (start .args .slots .now)) x ⨟ one StoreIndex)
+    (λ x. exprAt (start .args .depth) (start .args .tree .now) x .end) (at-if2 .if2 .left) S1 f (lowers-stopped (at-if3 .if3 .taken) S2 (lengthens-one _) g)))  -- returns-3
     (λ c κs. let at-if3 = c .before .before in let at-emit-expr3 = at-if3 .before .before .before .before .before in let at-if2 = at-emit-expr3 .before .before .before .before .before in
     let at-emit-expr2 = at-if2 .before .before .before .before .before in let at-if1 = at-emit-expr2 .before .before .before .before .before in
     let at-emit-expr = at-if1 .before .before .before .before .before in let e = at-emit-expr .emit-expr .ensures in let f = at-emit-expr2 .emit-expr2 .ensures in
@@ -75,7 +82,11 @@ assign-index-spec = tie.close (tie.spec
     let start = at-emit-expr .before .before .before .before .before .before .before .before .before in let e = at-emit-expr .emit-expr .ensures in let f = at-emit-expr2 .emit-expr2 .ensures in
     let S1 = sound-next (at-if1 .if1 .left) e in let g = at-emit-expr3 .emit-expr3 .ensures in
     let S2 = sound-next (at-if2 .if2 .left) f in
-    lowers-then (λ x. exprCode ((start .args .depth) - 1) (start .args .tree .now) (slotNames (start .args .tree .now) (start .args .slots .now)) x ⨟ exprCode (start .args .depth) (start .args .tree .now) (slotNames (start .args .tree .now) (start .args .slots .now)) (exprAt ((start .args .depth) - 1) (start .args .tree .now) x .end) ⨟ one StoreIndex) (λ x. exprAt (start .args .depth) (start .args .tree .now) (exprAt ((start .args .depth) - 1) (start .args .tree .now) x .end) .end) (at-if1 .if1 .left) (sound-of (start .pre .0)) e (lowers-then (λ x. exprCode (start .args .depth) (start .args .tree .now) (slotNames (start .args .tree .now) (start .args .slots .now)) x ⨟ one StoreIndex) (λ x. exprAt (start .args .depth) (start .args .tree .now) x .end) (at-if2 .if2 .left) S1 f (lowers-next (at-if3 .if3 .left) S2 g (put-lifts _ (sound-next (at-if3 .if3 .left) g) (omega (
+    lowers-then (λ x. exprCode ((start .args .depth) - 1) (start .args .tree .now) (slotNames (start .args .tree .now) (start .args .slots .now)) x
+    ⨟ exprCode (start .args .depth) (start .args .tree .now) (slotNames (start .args .tree .now) (start .args .slots .now)) (exprAt ((start .args .depth) - 1) (start .args .tree .now) x .end)
+    ⨟ one StoreIndex) (λ x. exprAt (start .args .depth) (start .args .tree .now) (exprAt ((start .args .depth) - 1) (start .args .tree .now) x .end) .end) (at-if1 .if1 .left) (sound-of (start .pre .0)) e
+    (lowers-then (λ x. exprCode (start .args .depth) (start .args .tree .now) (slotNames (start .args .tree .now) (start .args .slots .now)) x ⨟ one StoreIndex)
+    (λ x. exprAt (start .args .depth) (start .args .tree .now) x .end) (at-if2 .if2 .left) S1 f (lowers-next (at-if3 .if3 .left) S2 g (put-lifts _ (sound-next (at-if3 .if3 .left) g) (omega (
       arith,
       (at-if3 .if3 .left),
     )) (instr-plain _ 44 0 0 (plain-above 44 0 0 (omega arith) (omega arith) (omega arith) (omega arith))) (at-put-op .put-op .ensures))))))  -- returns-4

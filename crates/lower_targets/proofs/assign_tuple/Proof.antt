@@ -42,4 +42,7 @@ assign-tuple-spec = tie.close (tie.spec
     let at-emit-expr = at-if1 .before .before .before .before .before in let at-skip-expr = at-emit-expr .before .before .before .before .before in let at-u16-at = at-skip-expr .before in
     let start = at-u16-at .before .before .before .before .before in
     let y = expr-by (start .args .depth) (start .args .tree .now) (slotNames (start .args .tree .now) (start .args .slots .now)) _ _ (at-skip-expr .skip-expr .ensures) (at-emit-expr .emit-expr .ensures) in
-    lowers-next (at-if1 .if1 .left) (sound-of (start .pre .0)) y (lowers-by (at-emit-elements .emit-elements .ensures) (ap (λ (m : ℕ). unpack (slotNames (start .args .tree .now) (start .args .slots .now)) (elementsAt ((start .args .depth) - 1) (start .args .tree .now) m ((start .args .at) + 3)) 0) (sym (at-u16-at .u16-at .ensures .0))) refl)))  -- returns-2
+    lowers-next (at-if1 .if1 .left) (sound-of (start .pre .0)) y
+    (lowers-by (at-emit-elements .emit-elements .ensures)
+    (ap (λ (m : ℕ). unpack (slotNames (start .args .tree .now) (start .args .slots .now)) (elementsAt ((start .args .depth) - 1) (start .args .tree .now) m ((start .args .at) + 3)) 0)
+    (sym (at-u16-at .u16-at .ensures .0))) refl)))  -- returns-2

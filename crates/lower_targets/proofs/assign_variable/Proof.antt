@@ -24,11 +24,14 @@ assign-variable-spec = tie.close (tie.spec
     (λ c. let at-if2 = c in let at-put-op = at-if2 .before .before .before in let at-if1 = at-put-op .before .before .before in let at-name-end = at-if1 .before .before in
     let start = at-name-end .before .before .before .before .before in
     let v = lowerable-at _ _ _ _ (at-name-end .name-end .ensures) (start .pre .1 .value) in
-    lowers-stopped (at-if2 .if2 .taken) (sound-of (start .pre .0)) (lengthens-store _ _) (expr-by (start .args .depth) (start .args .tree .now) (slotNames (start .args .tree .now) (start .args .slots .now)) _ _ (at-name-end .name-end .ensures) (constant-lowers (start .args .depth) (slotNames (start .args .tree .now) (start .args .slots .now)) _ (sound-of (start .pre .0)) v (at-if1 .if1 .taken) (at-put-op .put-op .ensures))))  -- returns
+    lowers-stopped (at-if2 .if2 .taken) (sound-of (start .pre .0)) (lengthens-store _ _)
+    (expr-by (start .args .depth) (start .args .tree .now) (slotNames (start .args .tree .now) (start .args .slots .now)) _ _ (at-name-end .name-end .ensures)
+    (constant-lowers (start .args .depth) (slotNames (start .args .tree .now) (start .args .slots .now)) _ (sound-of (start .pre .0)) v (at-if1 .if1 .taken) (at-put-op .put-op .ensures))))  -- returns
     (λ c κs. let at-if2 = c .before .before .before .before in let at-put-op = at-if2 .before .before .before in let at-if1 = at-put-op .before .before .before in
     let at-name-end = at-if1 .before .before in let start = at-name-end .before .before .before .before .before in
     let v = lowerable-at _ _ _ _ (at-name-end .name-end .ensures) (start .pre .1 .value) in (
-      sound-next (at-if2 .if2 .left) (expr-by (start .args .depth) (start .args .tree .now) (slotNames (start .args .tree .now) (start .args .slots .now)) _ _ (at-name-end .name-end .ensures) (constant-lowers (start .args .depth) (slotNames (start .args .tree .now) (start .args .slots .now)) _ (sound-of (start .pre .0)) v (at-if1 .if1 .taken) (at-put-op .put-op .ensures))),
+      sound-next (at-if2 .if2 .left) (expr-by (start .args .depth) (start .args .tree .now) (slotNames (start .args .tree .now) (start .args .slots .now)) _ _ (at-name-end .name-end .ensures)
+          (constant-lowers (start .args .depth) (slotNames (start .args .tree .now) (start .args .slots .now)) _ (sound-of (start .pre .0)) v (at-if1 .if1 .taken) (at-put-op .put-op .ensures))),
       start .pre .0 .ready .slotted,
       omega (arith, start .pre .1 .name .byte, start .pre .0 .ready .tree-short),
       omega (arith, (at-if2 .if2 .left)),
@@ -39,14 +42,18 @@ assign-variable-spec = tie.close (tie.spec
     (λ c. let at-emit-store = c .before .before .before .before in let at-if2 = at-emit-store .before .before .before .before .before in let at-put-op = at-if2 .before .before .before in
     let at-if1 = at-put-op .before .before .before in let at-name-end = at-if1 .before .before in let start = at-name-end .before .before .before .before .before in
     let v = lowerable-at _ _ _ _ (at-name-end .name-end .ensures) (start .pre .1 .value) in
-    lowers-next (at-if2 .if2 .left) (sound-of (start .pre .0)) (expr-by (start .args .depth) (start .args .tree .now) (slotNames (start .args .tree .now) (start .args .slots .now)) _ _ (at-name-end .name-end .ensures) (constant-lowers (start .args .depth) (slotNames (start .args .tree .now) (start .args .slots .now)) _ (sound-of (start .pre .0)) v (at-if1 .if1 .taken) (at-put-op .put-op .ensures))) (at-emit-store .emit-store .ensures))  -- returns-2
+    lowers-next (at-if2 .if2 .left) (sound-of (start .pre .0))
+    (expr-by (start .args .depth) (start .args .tree .now) (slotNames (start .args .tree .now) (start .args .slots .now)) _ _ (at-name-end .name-end .ensures)
+    (constant-lowers (start .args .depth) (slotNames (start .args .tree .now) (start .args .slots .now)) _ (sound-of (start .pre .0)) v (at-if1 .if1 .taken) (at-put-op .put-op .ensures)))
+    (at-emit-store .emit-store .ensures))  -- returns-2
     (λ c κs. let at-name-end = c .before .before .before .before .before .before in let start = at-name-end .before .before .before .before .before in
     let v = lowerable-at _ _ _ _ (at-name-end .name-end .ensures) (start .pre .1 .value) in (start .pre .0, v))  -- emit-expr-requires
     (λ c. let at-emit-expr = c .before .before .before .before .before in at-emit-expr .emit-expr .kept .1 .1 .1 .1 .1 .0)  -- same-length-4
     (λ c. let at-emit-expr = c .before .before .before .before .before in at-emit-expr .emit-expr .kept .1 .1 .1 .1 .1 .1 .0)  -- same-length-5
     (λ c. let at-if3 = c in let at-emit-expr = at-if3 .before .before .before .before .before in let at-name-end = at-emit-expr .before .before .before .before .before .before .before in
     let start = at-name-end .before .before .before .before .before in
-    lowers-stopped (at-if3 .if3 .taken) (sound-of (start .pre .0)) (lengthens-store _ _) (expr-by (start .args .depth) (start .args .tree .now) (slotNames (start .args .tree .now) (start .args .slots .now)) _ _ (at-name-end .name-end .ensures) (at-emit-expr .emit-expr .ensures)))  -- returns-3
+    lowers-stopped (at-if3 .if3 .taken) (sound-of (start .pre .0)) (lengthens-store _ _)
+    (expr-by (start .args .depth) (start .args .tree .now) (slotNames (start .args .tree .now) (start .args .slots .now)) _ _ (at-name-end .name-end .ensures) (at-emit-expr .emit-expr .ensures)))  -- returns-3
     (λ c κs. let at-if3 = c .before .before .before .before in let at-emit-expr = at-if3 .before .before .before .before .before in
     let at-name-end = at-emit-expr .before .before .before .before .before .before .before in
     let start = at-name-end .before .before .before .before .before in (
@@ -63,4 +70,6 @@ assign-variable-spec = tie.close (tie.spec
     (λ c. let at-emit-store2 = c .before .before .before .before in let at-if3 = at-emit-store2 .before .before .before .before .before in
     let at-emit-expr = at-if3 .before .before .before .before .before in let at-name-end = at-emit-expr .before .before .before .before .before .before .before in
     let start = at-name-end .before .before .before .before .before in
-    lowers-next (at-if3 .if3 .left) (sound-of (start .pre .0)) (expr-by (start .args .depth) (start .args .tree .now) (slotNames (start .args .tree .now) (start .args .slots .now)) _ _ (at-name-end .name-end .ensures) (at-emit-expr .emit-expr .ensures)) (at-emit-store2 .emit-store2 .ensures)))  -- returns-4
+    lowers-next (at-if3 .if3 .left) (sound-of (start .pre .0))
+    (expr-by (start .args .depth) (start .args .tree .now) (slotNames (start .args .tree .now) (start .args .slots .now)) _ _ (at-name-end .name-end .ensures) (at-emit-expr .emit-expr .ensures))
+    (at-emit-store2 .emit-store2 .ensures)))  -- returns-4

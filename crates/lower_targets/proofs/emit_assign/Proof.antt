@@ -46,4 +46,5 @@ emit-assign-spec = tie.close (tie.spec
     (λ c. let at-skip-expr2 = c in let at-skip-expr = at-skip-expr2 .before in let at-match = at-skip-expr .before in let start = at-match .before .before .before .before .before .before in
     let n = at-match .match .rest in
     let z = second-at _ _ _ _ _ (at-skip-expr .skip-expr .ensures) (at-skip-expr2 .skip-expr2 .ensures) in
-    lowers-by (lowers-nothing (second-ahead _ _ _ _ (start .pre .2) (start .pre .1 .target) (start .pre .1 .value .reads) z) (sound-of (start .pre .0))) (arm-other _ _ _ (start .pre .1) _ (n .0 .0 .0 .1) (n .0 .0 .1) (n .0 .1) (n .1)) (sym z)))  -- returns-5
+    lowers-by (lowers-nothing (second-ahead _ _ _ _ (start .pre .2) (start .pre .1 .target) (start .pre .1 .value .reads) z) (sound-of (start .pre .0)))
+    (arm-other _ _ _ (start .pre .1) _ (n .0 .0 .0 .1) (n .0 .0 .1) (n .0 .1) (n .1)) (sym z)))  -- returns-5

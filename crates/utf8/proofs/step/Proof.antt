@@ -3,9 +3,10 @@ use native.Mathlib.Omega.{arith}
 use borrow.Author.Needs.{needs}
 use Rattle.definitions.specs.Utf8.{range}
 use Rattle.utf8.specs.Due.{dues}
-use Rattle.utf8.proofs.Laws.{goes-begin, goes-within, goes-nothing, up}
+use Rattle.utf8.proofs.Laws.{goes-begin, goes-within, goes-nothing}
 use Rattle.utf8.proofs.step.Statement.{statement}
 use Rattle.utf8.proofs.step.Tie as tie
+use Rattle.definitions.proofs.Truth.{up}
 
 pub step-spec : {M : Type 1} → statement M
 unfolding dues

@@ -19,7 +19,9 @@ decimal-field-spec = tie.close (tie.spec
     (λ c. search needs)  -- enum-known-number
     (λ c. search needs)  -- enum-told
     (λ c κs. tt)  -- spoilt-requires-2
-    (λ c. let f = sym (c .before .before .before .before .before .before .before .before .before .before .before .before .before .has-field .ensures) ∙ not-false _ (c .before .before .before .before .before .before .before .before .before .before .before .before .if1 .left) in
+    (λ c. let at-if1 = c .before .before .before .before .before .before .before .before .before .before .before .before in let at-has-field = at-if1 .before in
+    let f = sym (at-has-field .has-field .ensures) ∙ not-false _ (at-if1 .if1 .left) in
     reads-field _ _ _ _ _ f (c .before .before .before .before .before .before .before .before .before .before .take .ensures) (c .before .before .before .before .before .before .before .text-bytes .ensures .1))  -- returns-2
-    (λ c. let f = sym (c .before .before .before .before .before .before .before .before .before .before .before .before .before .has-field .ensures) ∙ not-false _ (c .before .before .before .before .before .before .before .before .before .before .before .before .if1 .left) in
+    (λ c. let at-if1 = c .before .before .before .before .before .before .before .before .before .before .before .before in let at-has-field = at-if1 .before in
+    let f = sym (at-has-field .has-field .ensures) ∙ not-false _ (at-if1 .if1 .left) in
     reads-spoilt _ _ _ _ _ _ f (c .before .before .before .before .before .before .before .text-bytes .ensures .1) (c .spoilt2 .ensures)))  -- returns-3

@@ -31,7 +31,8 @@ hex-bytes-spec = tie.close (tie.spec Inv-loop μ-loop
     (λ c. omega arith)
     (λ c κs. tt)
     (λ c. simp length-set (omega arith))
-    (λ c. (simp length-set (omega arith), simp length-set (omega arith), c .take2 .ensures ∙ c .before .before .before .before .before .before .before .take .ensures ∙ c .before .before .before .before .before .before .before .before .before .before .before .before .loop .inv .2))  -- loop-again
+    (λ c. let at-take = c .before .before .before .before .before .before .before in let at-loop = at-take .before .before .before .before .before in
+    (simp length-set (omega arith), simp length-set (omega arith), c .take2 .ensures ∙ at-take .take .ensures ∙ at-loop .loop .inv .2))  -- loop-again
     (λ c κs. tt)
     (λ c. search needs)
     (λ c. (counts _ _ (omega arith), finishes-after _ _ _ (c .before .before .before .loop .inv .2) (c .finish2 .ensures))))  -- returns-2

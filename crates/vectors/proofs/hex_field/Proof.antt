@@ -18,5 +18,7 @@ hex-field-spec = tie.close (tie.spec
     ((omega arith, refl), reads-field _ _ _ _ _ f (c .before .before .take2 .ensures ∙ c .before .before .before .before .before .before .take .ensures) (c .finish .ensures)))  -- returns-2
     (λ c κs. tt)  -- hex-bytes-requires
     (λ c. search needs)  -- same-length
-    (λ c. let f = sym (c .before .before .before .before .before .before .before .before .before .before .has-field .ensures) ∙ not-false _ (c .before .before .before .before .before .before .before .before .before .if1 .left) in let h = c .before .before .hex-bytes .ensures in
+    (λ c. let at-hex-bytes = c .before .before in let at-if1 = at-hex-bytes .before .before .before .before .before .before .before in let at-has-field = at-if1 .before in
+    let f = sym (at-has-field .has-field .ensures) ∙ not-false _ (at-if1 .if1 .left) in
+    let h = at-hex-bytes .hex-bytes .ensures in
     (h .0, reads-field _ _ _ _ _ f (c .before .before .before .before .before .before .before .take .ensures) (h .1))))  -- returns-3

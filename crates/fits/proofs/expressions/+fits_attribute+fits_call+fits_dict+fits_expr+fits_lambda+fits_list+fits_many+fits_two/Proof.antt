@@ -8,7 +8,8 @@ use Rattle.exprs.proofs.ExprViews.{expr-inside, expr-deep, expr-known, view-una
 use Rattle.state.specs.State.{slotNames}
 use Rattle.slots.proofs.Referring.{list-reads, list-is, dict-reads, dict-is, body-there}
 use Rattle.fits.proofs.Walking.{walks-next, walks-over, next-walks, over-walks, first-over, second-walks, left-start, left-next, left-over, left-done, lambda-over, slots-few, inner-short}
-use Rattle.fits.proofs.ExprKinds.{fits-unary, fits-binary, fits-call, fits-attribute, fits-dict, fits-display, fits-index, fits-lambda, fits-simple, fits-plain, simple-kinds, second-there, list-there, name-there, second-moved, list-moved, fits-list, ExprsLeft, exprs-step, exprs-end, exprs-ok, collected-at, lambda-body, long-enough}
+use Rattle.fits.proofs.ExprKinds.{fits-unary, fits-binary, fits-call, fits-attribute, fits-dict, fits-display, fits-index, fits-lambda, fits-simple, fits-plain, simple-kinds, second-there, list-there, name-there, second-moved}
+use Rattle.fits.proofs.ExprKinds.{list-moved, fits-list, ExprsLeft, exprs-step, exprs-end, exprs-ok, collected-at, lambda-body, long-enough}
 use Prim.Native.Nat.{ℕ}
 use borrow.Fn.Kinds.{In}
 use borrow.Fn.PlainCycle.{Measures, is, falls, and}
@@ -149,8 +150,11 @@ fits-call-ok t = fits-call-lts.spec (fits-expr-below t, fits-expr.Post, fits-lis
     (λ c. search needs)  -- enum-known-callee
     (λ c. search needs)  -- enum-told
     (λ c. first-over _ _ _ _ _ (c .before .before .fits-expr .ensures) (c .enum-told .given .1))  -- returns
-    (λ c κs. (omega arith, (c .before .before .before .before .before .before .pre .1 .0, list-there _ _ _ _ (walks-next _ _ _ _ (c .before .before .before .fits-expr .ensures) (c .before .callee .given .1) .0) (c .before .before .before .before .before .before .pre .1 .1))))  -- fits-list-requires
-    (λ c. second-walks _ _ _ _ _ _ _ (c .before .before .before .before .fits-expr .ensures) (c .before .before .callee .given .1) (list-moved _ _ _ _ (walks-next _ _ _ _ (c .before .before .before .before .fits-expr .ensures) (c .before .before .callee .given .1) .0) _ _ (c .fits-list .ensures)))  -- returns-2
+    (λ c κs. let at-callee = c .before in let at-fits-expr = at-callee .before .before in let start = at-fits-expr .before .before .before in
+    (omega arith, (start .pre .1 .0, list-there _ _ _ _ (walks-next _ _ _ _ (at-fits-expr .fits-expr .ensures) (at-callee .callee .given .1) .0) (start .pre .1 .1))))  -- fits-list-requires
+    (λ c. let at-callee = c .before .before in let at-fits-expr = at-callee .before .before in
+    second-walks _ _ _ _ _ _ _ (at-fits-expr .fits-expr .ensures) (at-callee .callee .given .1)
+    (list-moved _ _ _ _ (walks-next _ _ _ _ (at-fits-expr .fits-expr .ensures) (at-callee .callee .given .1) .0) _ _ (c .fits-list .ensures)))  -- returns-2
 
 fits-dict-ok : {M : Type 1} (t : ℕ) → fits-dict-lts.Closed (u16-at-reads.Asked, u16-at-reads.Learnt, fits-many-below t, fits-many.Post) (fits-dict-at t) fits-dict.Post M
 fits-dict-ok t = fits-dict-lts.spec (u16-at-reads.Asked, u16-at-reads.Learnt, fits-many-below t, fits-many.Post) (fits-dict-at t) fits-dict.Post
@@ -160,34 +164,90 @@ fits-dict-ok t = fits-dict-lts.spec (u16-at-reads.Asked, u16-at-reads.Learnt, fi
     (λ c κs. (omega arith, (c .before .before .before .pre .1 .0, dict-reads _ _ _ _ (c .u16-at .ensures .0) (c .before .before .before .pre .1 .1))))  -- fits-many-requires
     (λ c. fits-list _ _ _ _ (dict-is _ _ _ _ (c .before .u16-at .ensures .0)) (c .fits-many .ensures))  -- returns
 
-fits-expr-ok : {M : Type 1} (t : ℕ) → fits-expr-lts.Closed (fits-expr-below t, fits-expr.Post, fits-two-below t, fits-two.Post, fits-call-below t, fits-call.Post, fits-attribute-below t, fits-attribute.Post, fits-list-below t, fits-list.Post, fits-dict-below t, fits-dict.Post, fits-lambda-below t, fits-lambda.Post, skip-expr-reads.Asked, skip-expr-reads.Learnt) (fits-expr-at t) fits-expr.Post M
-fits-expr-ok t = fits-expr-lts.spec (fits-expr-below t, fits-expr.Post, fits-two-below t, fits-two.Post, fits-call-below t, fits-call.Post, fits-attribute-below t, fits-attribute.Post, fits-list-below t, fits-list.Post, fits-dict-below t, fits-dict.Post, fits-lambda-below t, fits-lambda.Post, skip-expr-reads.Asked, skip-expr-reads.Learnt) (fits-expr-at t) fits-expr.Post
+fits-expr-ok : {M : Type 1} (t : ℕ) → fits-expr-lts.Closed (
+  fits-expr-below t,
+  fits-expr.Post,
+  fits-two-below t,
+  fits-two.Post,
+  fits-call-below t,
+  fits-call.Post,
+  fits-attribute-below t,
+  fits-attribute.Post,
+  fits-list-below t,
+  fits-list.Post,
+  fits-dict-below t,
+  fits-dict.Post,
+  fits-lambda-below t,
+  fits-lambda.Post,
+  skip-expr-reads.Asked,
+  skip-expr-reads.Learnt,
+) (fits-expr-at t) fits-expr.Post M
+fits-expr-ok t = fits-expr-lts.spec (
+  fits-expr-below t,
+  fits-expr.Post,
+  fits-two-below t,
+  fits-two.Post,
+  fits-call-below t,
+  fits-call.Post,
+  fits-attribute-below t,
+  fits-attribute.Post,
+  fits-list-below t,
+  fits-list.Post,
+  fits-dict-below t,
+  fits-dict.Post,
+  fits-lambda-below t,
+  fits-lambda.Post,
+  skip-expr-reads.Asked,
+  skip-expr-reads.Learnt,
+) (fits-expr-at t) fits-expr.Post
     (λ c. let h = expr-inside _ _ _ (c .before .before .before .pre .1 .1) in omega arith)  -- shared-slice-read-kind
     (λ c. let h = expr-inside _ _ _ (c .before .before .before .pre .1 .1) in omega arith)  -- add-a
     (λ c. let h = view-unary _ _ _ (c .before .before .before .before .pre .1 .1) (c .match .keys1) .parts .inside in omega arith)  -- add-fits-expr
     (λ c. let h = expr-deep _ _ _ (c .before .before .before .before .pre .1 .1) in omega arith)  -- sub-fits-expr
-    (λ c κs. let h = expr-deep _ _ _ (c .before .before .before .before .pre .1 .1) in (omega arith, (c .before .before .before .before .pre .1 .0, view-unary _ _ _ (c .before .before .before .before .pre .1 .1) (c .match .keys1) .parts .operand)))  -- fits-expr-requires
+    (λ c κs. let start = c .before .before .before .before in
+    let h = expr-deep _ _ _ (start .pre .1 .1) in
+    (omega arith, (start .pre .1 .0, view-unary _ _ _ (start .pre .1 .1) (c .match .keys1) .parts .operand)))  -- fits-expr-requires
     (λ c. let h = view-binary _ _ _ (c .before .before .before .before .pre .1 .1) (c .match .keys2) .parts .inside in omega arith)  -- add-fits-two
     (λ c. let h = expr-deep _ _ _ (c .before .before .before .before .pre .1 .1) in omega arith)  -- sub-fits-two
-    (λ c κs. let h = expr-deep _ _ _ (c .before .before .before .before .pre .1 .1) in (omega arith, (c .before .before .before .before .pre .1 .0, view-binary _ _ _ (c .before .before .before .before .pre .1 .1) (c .match .keys2) .parts .operands)))  -- fits-two-requires
+    (λ c κs. let start = c .before .before .before .before in
+    let h = expr-deep _ _ _ (start .pre .1 .1) in
+    (omega arith, (start .pre .1 .0, view-binary _ _ _ (start .pre .1 .1) (c .match .keys2) .parts .operands)))  -- fits-two-requires
     (λ c. let h = expr-deep _ _ _ (c .before .before .before .before .pre .1 .1) in omega arith)  -- sub-fits-call
-    (λ c κs. let h = expr-deep _ _ _ (c .before .before .before .before .pre .1 .1) in (omega arith, (c .before .before .before .before .pre .1 .0, view-call _ _ _ (c .before .before .before .before .pre .1 .1) (c .match .keys3) .parts)))  -- fits-call-requires
+    (λ c κs. let start = c .before .before .before .before in
+    let h = expr-deep _ _ _ (start .pre .1 .1) in
+    (omega arith, (start .pre .1 .0, view-call _ _ _ (start .pre .1 .1) (c .match .keys3) .parts)))  -- fits-call-requires
     (λ c. let h = expr-deep _ _ _ (c .before .before .before .before .pre .1 .1) in omega arith)  -- sub-fits-attribute
-    (λ c κs. let h = expr-deep _ _ _ (c .before .before .before .before .pre .1 .1) in (omega arith, (c .before .before .before .before .pre .1 .0, view-attribute _ _ _ (c .before .before .before .before .pre .1 .1) (c .match .keys4) .parts)))  -- fits-attribute-requires
+    (λ c κs. let start = c .before .before .before .before in
+    let h = expr-deep _ _ _ (start .pre .1 .1) in
+    (omega arith, (start .pre .1 .0, view-attribute _ _ _ (start .pre .1 .1) (c .match .keys4) .parts)))  -- fits-attribute-requires
     (λ c. let h = expr-deep _ _ _ (c .before .before .before .before .pre .1 .1) in omega arith)  -- sub-fits-list
-    (λ c κs. let h = expr-deep _ _ _ (c .before .before .before .before .pre .1 .1) in (omega arith, (c .before .before .before .before .pre .1 .0, view-list _ _ _ (c .before .before .before .before .pre .1 .1) (c .match .keys5) .parts)))  -- fits-list-requires
+    (λ c κs. let start = c .before .before .before .before in
+    let h = expr-deep _ _ _ (start .pre .1 .1) in
+    (omega arith, (start .pre .1 .0, view-list _ _ _ (start .pre .1 .1) (c .match .keys5) .parts)))  -- fits-list-requires
     (λ c. let h = expr-deep _ _ _ (c .before .before .before .before .pre .1 .1) in omega arith)  -- sub-fits-dict
-    (λ c κs. let h = expr-deep _ _ _ (c .before .before .before .before .pre .1 .1) in (omega arith, (c .before .before .before .before .pre .1 .0, view-dict _ _ _ (c .before .before .before .before .pre .1 .1) (c .match .keys6) .parts)))  -- fits-dict-requires
+    (λ c κs. let start = c .before .before .before .before in
+    let h = expr-deep _ _ _ (start .pre .1 .1) in
+    (omega arith, (start .pre .1 .0, view-dict _ _ _ (start .pre .1 .1) (c .match .keys6) .parts)))  -- fits-dict-requires
     (λ c. let h = expr-deep _ _ _ (c .before .before .before .before .pre .1 .1) in omega arith)  -- sub-fits-list-2
-    (λ c κs. let h = expr-deep _ _ _ (c .before .before .before .before .pre .1 .1) in (omega arith, (c .before .before .before .before .pre .1 .0, view-tuple _ _ _ (c .before .before .before .before .pre .1 .1) (c .match .keys7) .parts)))  -- fits-list-requires-2
+    (λ c κs. let start = c .before .before .before .before in
+    let h = expr-deep _ _ _ (start .pre .1 .1) in
+    (omega arith, (start .pre .1 .0, view-tuple _ _ _ (start .pre .1 .1) (c .match .keys7) .parts)))  -- fits-list-requires-2
     (λ c. let h = expr-deep _ _ _ (c .before .before .before .before .pre .1 .1) in omega arith)  -- sub-fits-list-3
-    (λ c κs. let h = expr-deep _ _ _ (c .before .before .before .before .pre .1 .1) in (omega arith, (c .before .before .before .before .pre .1 .0, view-set _ _ _ (c .before .before .before .before .pre .1 .1) (c .match .keys8) .parts)))  -- fits-list-requires-3
+    (λ c κs. let start = c .before .before .before .before in
+    let h = expr-deep _ _ _ (start .pre .1 .1) in
+    (omega arith, (start .pre .1 .0, view-set _ _ _ (start .pre .1 .1) (c .match .keys8) .parts)))  -- fits-list-requires-3
     (λ c. let h = expr-deep _ _ _ (c .before .before .before .before .pre .1 .1) in omega arith)  -- sub-fits-list-4
-    (λ c κs. let h = expr-deep _ _ _ (c .before .before .before .before .pre .1 .1) in (omega arith, (c .before .before .before .before .pre .1 .0, view-tree-set _ _ _ (c .before .before .before .before .pre .1 .1) (c .match .keys9) .parts)))  -- fits-list-requires-4
+    (λ c κs. let start = c .before .before .before .before in
+    let h = expr-deep _ _ _ (start .pre .1 .1) in
+    (omega arith, (start .pre .1 .0, view-tree-set _ _ _ (start .pre .1 .1) (c .match .keys9) .parts)))  -- fits-list-requires-4
     (λ c. let h = expr-deep _ _ _ (c .before .before .before .before .pre .1 .1) in omega arith)  -- sub-fits-two-2
-    (λ c κs. let h = expr-deep _ _ _ (c .before .before .before .before .pre .1 .1) in (omega arith, (c .before .before .before .before .pre .1 .0, view-index _ _ _ (c .before .before .before .before .pre .1 .1) (c .match .keys10) .parts)))  -- fits-two-requires-2
+    (λ c κs. let start = c .before .before .before .before in
+    let h = expr-deep _ _ _ (start .pre .1 .1) in
+    (omega arith, (start .pre .1 .0, view-index _ _ _ (start .pre .1 .1) (c .match .keys10) .parts)))  -- fits-two-requires-2
     (λ c. let h = expr-deep _ _ _ (c .before .before .before .before .pre .1 .1) in omega arith)  -- sub-fits-lambda
-    (λ c κs. let h = expr-deep _ _ _ (c .before .before .before .before .pre .1 .1) in (omega arith, (c .before .before .before .before .pre .1 .0, view-lambda _ _ _ (c .before .before .before .before .pre .1 .1) (c .match .keys11) .parts)))  -- fits-lambda-requires
+    (λ c κs. let start = c .before .before .before .before in
+    let h = expr-deep _ _ _ (start .pre .1 .1) in
+    (omega arith, (start .pre .1 .0, view-lambda _ _ _ (start .pre .1 .1) (c .match .keys11) .parts)))  -- fits-lambda-requires
     (λ c κs. c .before .before .before .before .pre .1 .1)  -- skip-expr-requires
     (λ c. fits-unary _ _ _ (c .before .before .before .before .before .pre .1 .1) _ _ (c .before .match .keys1) (c .fits-expr .ensures))  -- returns
     (λ c. fits-binary _ _ _ (c .before .before .before .before .before .pre .1 .1) _ _ (c .before .match .keys2) (c .fits-two .ensures))  -- returns-2
@@ -200,23 +260,53 @@ fits-expr-ok t = fits-expr-lts.spec (fits-expr-below t, fits-expr.Post, fits-two
     (λ c. fits-display _ _ _ (c .before .before .before .before .before .pre .1 .1) _ _ (inr (inr (inr (c .before .match .keys9)))) (c .fits-list4 .ensures))  -- returns-9
     (λ c. fits-index _ _ _ (c .before .before .before .before .before .pre .1 .1) _ _ (c .before .match .keys10) (c .fits-two2 .ensures))  -- returns-10
     (λ c. fits-lambda _ _ _ (c .before .before .before .before .before .pre .1 .1) _ _ (c .before .match .keys11) (c .fits-lambda .ensures))  -- returns-11
-    (λ c. let n = c .before .match .rest in fits-simple _ _ _ (c .before .before .before .before .before .pre .1 .1) _ _ (simple-kinds _ (expr-known _ _ _ (c .before .before .before .before .before .pre .1 .1)) (n .0 .0 .0 .0 .0 .0 .0 .0 .0 .0 .1) (n .0 .0 .0 .0 .0 .0 .0 .0 .0 .1) (n .0 .0 .0 .0 .0 .0 .0 .0 .1) (n .0 .0 .0 .0 .0 .0 .0 .1) (n .0 .0 .0 .0 .0 .0 .1) (n .0 .0 .0 .0 .0 .1) (n .0 .0 .0 .0 .1) (n .0 .0 .0 .1) (n .0 .0 .1) (n .0 .1) (n .1)) (c .skip-expr .ensures))  -- returns-12
+    (λ c. let at-match = c .before in let start = at-match .before .before .before .before in
+    let n = at-match .match .rest in
+    fits-simple _ _ _ (start .pre .1 .1) _ _
+    (simple-kinds _ (expr-known _ _ _ (start .pre .1 .1)) (n .0 .0 .0 .0 .0 .0 .0 .0 .0 .0 .1) (n .0 .0 .0 .0 .0 .0 .0 .0 .0 .1) (n .0 .0 .0 .0 .0 .0 .0 .0 .1) (n .0 .0 .0 .0 .0 .0 .0 .1)
+    (n .0 .0 .0 .0 .0 .0 .1) (n .0 .0 .0 .0 .0 .1) (n .0 .0 .0 .0 .1) (n .0 .0 .0 .1) (n .0 .0 .1) (n .0 .1) (n .1)) (c .skip-expr .ensures))  -- returns-12
 
 fits-lambda-ok : {M : Type 1} (t : ℕ) → fits-lambda-lts.Closed (skip-params-reads.Asked, skip-params-reads.Learnt, lambda-slots-reads.Asked, lambda-slots-reads.Learnt, fits-expr-below t, fits-expr.Post) (fits-lambda-at t) fits-lambda.Post M
 fits-lambda-ok t = fits-lambda-lts.spec (skip-params-reads.Asked, skip-params-reads.Learnt, lambda-slots-reads.Asked, lambda-slots-reads.Learnt, fits-expr-below t, fits-expr.Post) (fits-lambda-at t) fits-lambda.Post
     (λ c κs. c .before .before .pre .1 .1 .params)  -- skip-params-requires
     (λ c. search needs)  -- slice-aggregate-lambda-slots
-    (λ c κs. (c .before .before .before .before .pre .1 .0 .tree, c .before .before .before .before .pre .1 .0 .slotted, omega arith, c .before .before .before .before .pre .1 .1 .params, body-there _ _ _ _ (c .before .skip-params .ensures) (c .before .before .before .before .pre .1 .1)))  -- lambda-slots-requires
+    (λ c κs. let at-skip-params = c .before in let start = at-skip-params .before .before .before in
+    (start .pre .1 .0 .tree, start .pre .1 .0 .slotted, omega arith, start .pre .1 .1 .params, body-there _ _ _ _ (at-skip-params .skip-params .ensures) (start .pre .1 .1)))  -- lambda-slots-requires
     (λ c. search needs)  -- enum-known-found
     (λ c. search needs)  -- enum-told
-    (λ c. lambda-over _ _ _ _ (collected-at _ _ _ (c .before .before .before .before .before .before .before .before .args .at) (c .before .before .before .before .before .before .before .before .args .slots .now) (c .before .before .before .before .before .before .before .before .args .depth) _ _ (c .before .before .before .before .before .skip-params .ensures) (c .before .before .before .lambda-slots .ensures)) _ _ (c .enum-told .given .1))  -- returns
+    (λ c. let at-lambda-slots = c .before .before .before in let at-skip-params = at-lambda-slots .before .before in let start = at-skip-params .before .before .before in
+    lambda-over _ _ _ _ (collected-at _ _ _ (start .args .at) (start .args .slots .now) (start .args .depth) _ _ (at-skip-params .skip-params .ensures) (at-lambda-slots .lambda-slots .ensures)) _ _
+    (c .enum-told .given .1))  -- returns
     (λ c. search needs)  -- cast-end
-    (λ c. let h = slots-few _ _ _ _ (collected-at _ _ _ (c .before .before .before .before .before .before .before .before .before .args .at) (c .before .before .before .before .before .before .before .before .before .args .slots .now) (c .before .before .before .before .before .before .before .before .before .args .depth) _ _ (c .before .before .before .before .before .before .skip-params .ensures) (c .before .before .before .before .lambda-slots .ensures)) _ (c .before .found .given .1) in let k = c .before .before .before .before .lambda-slots .kept .1 .1 .1 .1 .1 .0 in omega arith)  -- add-end
+    (λ c. let at-found = c .before in let at-lambda-slots = at-found .before .before .before in let at-skip-params = at-lambda-slots .before .before in
+    let start = at-skip-params .before .before .before in
+    let h = slots-few _ _ _ _ (collected-at _ _ _ (start .args .at) (start .args .slots .now) (start .args .depth) _ _ (at-skip-params .skip-params .ensures) (at-lambda-slots .lambda-slots .ensures)) _
+    (at-found .found .given .1) in
+    let k = at-lambda-slots .lambda-slots .kept .1 .1 .1 .1 .1 .0 in
+    omega arith)  -- add-end
     (λ c. search needs)  -- sub-fits-expr
     (λ c. search needs)  -- part-fits-expr-start
-    (λ c. let h = slots-few _ _ _ _ (collected-at _ _ _ (c .before .before .before .before .before .before .before .before .before .before .args .at) (c .before .before .before .before .before .before .before .before .before .before .args .slots .now) (c .before .before .before .before .before .before .before .before .before .before .args .depth) _ _ (c .before .before .before .before .before .before .before .skip-params .ensures) (c .before .before .before .before .before .lambda-slots .ensures)) _ (c .before .before .found .given .1) in let k = c .before .before .before .before .before .lambda-slots .kept .1 .1 .1 .1 .1 .0 in omega arith)  -- part-fits-expr-end
-    (λ c κs. (omega arith, (inner-short _ _ _ _ (collected-at _ _ _ (c .before .before .before .before .before .before .before .before .before .before .before .args .at) (c .before .before .before .before .before .before .before .before .before .before .before .args .slots .now) (c .before .before .before .before .before .before .before .before .before .before .before .args .depth) _ _ (c .before .before .before .before .before .before .before .before .skip-params .ensures) (c .before .before .before .before .before .before .lambda-slots .ensures)) _ (c .before .before .before .found .given .1) (long-enough (c .before .before .before .before .before .before .lambda-slots .last .1 .1 .1 .1 .1 .0) (c .before .before .before .before .before .before .lambda-slots .kept .1 .1 .1 .1 .1 .0)) (c .before .before .before .before .before .before .before .before .before .before .before .pre .1 .0 .tree), body-there _ _ _ _ (c .before .before .before .before .before .before .before .before .skip-params .ensures) (c .before .before .before .before .before .before .before .before .before .before .before .pre .1 .1))))  -- fits-expr-requires
-    (λ c. lambda-body _ _ _ _ _ _ _ _ _ (c .before .before .before .before .before .before .before .before .before .skip-params .ensures) (collected-at _ _ _ (c .before .before .before .before .before .before .before .before .before .before .before .before .args .at) (c .before .before .before .before .before .before .before .before .before .before .before .before .args .slots .now) (c .before .before .before .before .before .before .before .before .before .before .before .before .args .depth) _ _ (c .before .before .before .before .before .before .before .before .before .skip-params .ensures) (c .before .before .before .before .before .before .before .lambda-slots .ensures)) (c .before .before .before .before .found .given .1) (long-enough (c .before .before .before .before .before .before .before .lambda-slots .last .1 .1 .1 .1 .1 .0) (c .before .before .before .before .before .before .before .lambda-slots .kept .1 .1 .1 .1 .1 .0)) (c .fits-expr .ensures))  -- returns-2
+    (λ c. let at-found = c .before .before in let at-lambda-slots = at-found .before .before .before in let at-skip-params = at-lambda-slots .before .before in
+    let start = at-skip-params .before .before .before in
+    let h = slots-few _ _ _ _ (collected-at _ _ _ (start .args .at) (start .args .slots .now) (start .args .depth) _ _ (at-skip-params .skip-params .ensures) (at-lambda-slots .lambda-slots .ensures)) _
+    (at-found .found .given .1) in
+    let k = at-lambda-slots .lambda-slots .kept .1 .1 .1 .1 .1 .0 in
+    omega arith)  -- part-fits-expr-end
+    (λ c κs. let at-found = c .before .before .before in let at-lambda-slots = at-found .before .before .before in let at-skip-params = at-lambda-slots .before .before in
+    let start = at-skip-params .before .before .before in (
+      omega arith,
+      (
+        inner-short _ _ _ _ (collected-at _ _ _ (start .args .at) (start .args .slots .now) (start .args .depth) _ _ (at-skip-params .skip-params .ensures)
+            (at-lambda-slots .lambda-slots .ensures)) _ (at-found .found .given .1) (long-enough (at-lambda-slots .lambda-slots .last .1 .1 .1 .1 .1 .0) (at-lambda-slots .lambda-slots .kept .1 .1 .1 .1 .1 .0))
+            (start .pre .1 .0 .tree),
+        body-there _ _ _ _ (at-skip-params .skip-params .ensures) (start .pre .1 .1),
+      ),
+    ))  -- fits-expr-requires
+    (λ c. let at-found = c .before .before .before .before in let at-lambda-slots = at-found .before .before .before in let at-skip-params = at-lambda-slots .before .before in
+    let start = at-skip-params .before .before .before in
+    lambda-body _ _ _ _ _ _ _ _ _ (at-skip-params .skip-params .ensures)
+    (collected-at _ _ _ (start .args .at) (start .args .slots .now) (start .args .depth) _ _ (at-skip-params .skip-params .ensures) (at-lambda-slots .lambda-slots .ensures)) (at-found .found .given .1)
+    (long-enough (at-lambda-slots .lambda-slots .last .1 .1 .1 .1 .1 .0) (at-lambda-slots .lambda-slots .kept .1 .1 .1 .1 .1 .0)) (c .fits-expr .ensures))  -- returns-2
 
 fits-list-ok : {M : Type 1} (t : ℕ) → fits-list-lts.Closed (u16-at-reads.Asked, u16-at-reads.Learnt, fits-many-below t, fits-many.Post) (fits-list-at t) fits-list.Post M
 fits-list-ok t = fits-list-lts.spec (u16-at-reads.Asked, u16-at-reads.Learnt, fits-many-below t, fits-many.Post) (fits-list-at t) fits-list.Post
@@ -238,14 +328,20 @@ fits-many-ok t = fits-many-lts.spec (fits-expr-below t, fits-expr.Post) (fits-ma
     (λ c. let h = expr-inside _ _ _ (view-exprs-more _ _ _ _ (c .before .loop-test .taken) (c .before .before .loop .inv .reads) .parts .head) in omega arith)  -- shared-slice-read-if1
     (λ c. let h = expr-inside _ _ _ (view-exprs-more _ _ _ _ (c .before .before .loop-test .taken) (c .before .before .before .loop .inv .reads) .parts .head) in omega arith)  -- add-p
     (λ c. omega arith)  -- loop-less
-    (λ c. left-next _ _ _ _ _ _ _ (c .before .before .before .loop .inv) _ _ _ _ (exprs-step _ _ _ _ _ (c .before .before .before .loop .inv .reads) (c .before .before .loop-test .taken)) (fits-plain _ _ _ (view-exprs-more _ _ _ _ (c .before .before .loop-test .taken) (c .before .before .before .loop .inv .reads) .parts .head) _ (c .if1 .taken)) refl)  -- loop-again
+    (λ c. let at-loop-test = c .before .before in let at-loop = at-loop-test .before in
+    left-next _ _ _ _ _ _ _ (at-loop .loop .inv) _ _ _ _ (exprs-step _ _ _ _ _ (at-loop .loop .inv .reads) (at-loop-test .loop-test .taken))
+    (fits-plain _ _ _ (view-exprs-more _ _ _ _ (at-loop-test .loop-test .taken) (at-loop .loop .inv .reads) .parts .head) _ (c .if1 .taken)) refl)  -- loop-again
     (λ c κs. (omega arith, (c .before .before .before .before .before .before .pre .1 .0, view-exprs-more _ _ _ _ (c .before .before .loop-test .taken) (c .before .before .before .loop .inv .reads) .parts .head)))  -- fits-expr-requires
     (λ c. search needs)  -- enum-known-one
     (λ c. search needs)  -- enum-told
-    (λ c. left-over _ _ _ _ _ _ _ (c .before .before .before .before .before .before .loop .inv) _ _ _ (exprs-step _ _ _ _ _ (c .before .before .before .before .before .before .loop .inv .reads) (c .before .before .before .before .before .loop-test .taken)) (c .before .before .fits-expr .ensures) (c .enum-told .given .1))  -- returns
+    (λ c. let at-fits-expr = c .before .before in let at-loop-test = at-fits-expr .before .before .before in let at-loop = at-loop-test .before in
+    left-over _ _ _ _ _ _ _ (at-loop .loop .inv) _ _ _ (exprs-step _ _ _ _ _ (at-loop .loop .inv .reads) (at-loop-test .loop-test .taken)) (at-fits-expr .fits-expr .ensures) (c .enum-told .given .1))  -- returns
     (λ c. omega arith)  -- loop-less-2
-    (λ c. left-next _ _ _ _ _ _ _ (c .before .before .before .before .before .before .before .loop .inv) _ _ _ _ (exprs-step _ _ _ _ _ (c .before .before .before .before .before .before .before .loop .inv .reads) (c .before .before .before .before .before .before .loop-test .taken)) (c .before .before .before .fits-expr .ensures) (c .before .one .given .1))  -- loop-again-2
-    (λ c. left-done _ _ _ _ _ _ _ (c .before .loop .inv) (exprs-end _ _ (slotNames (c .before .before .before .before .args .tree .now) (c .before .before .before .before .args .slots .now)) _ _ (c .before .loop .inv .reads) (c .loop-test .left)) (exprs-ok _ _ _ _ _ (c .before .loop .inv .reads) (c .loop-test .left)))  -- returns-2
+    (λ c. let at-one = c .before in let at-fits-expr = at-one .before .before in let at-loop-test = at-fits-expr .before .before .before in let at-loop = at-loop-test .before in
+    left-next _ _ _ _ _ _ _ (at-loop .loop .inv) _ _ _ _ (exprs-step _ _ _ _ _ (at-loop .loop .inv .reads) (at-loop-test .loop-test .taken)) (at-fits-expr .fits-expr .ensures) (at-one .one .given .1))  -- loop-again-2
+    (λ c. let at-loop = c .before in let start = at-loop .before .before .before in
+    left-done _ _ _ _ _ _ _ (at-loop .loop .inv) (exprs-end _ _ (slotNames (start .args .tree .now) (start .args .slots .now)) _ _ (at-loop .loop .inv .reads) (c .loop-test .left))
+    (exprs-ok _ _ _ _ _ (at-loop .loop .inv .reads) (c .loop-test .left)))  -- returns-2
 
 fits-two-ok : {M : Type 1} (t : ℕ) → fits-two-lts.Closed (fits-expr-below t, fits-expr.Post) (fits-two-at t) fits-two.Post M
 fits-two-ok t = fits-two-lts.spec (fits-expr-below t, fits-expr.Post) (fits-two-at t) fits-two.Post
@@ -253,8 +349,12 @@ fits-two-ok t = fits-two-lts.spec (fits-expr-below t, fits-expr.Post) (fits-two-
     (λ c. search needs)  -- enum-known-left
     (λ c. search needs)  -- enum-told
     (λ c. first-over _ _ _ _ _ (c .before .before .fits-expr .ensures) (c .enum-told .given .1))  -- returns
-    (λ c κs. (omega arith, (c .before .before .before .before .before .before .pre .1 .0, second-there _ _ _ _ (walks-next _ _ _ _ (c .before .before .before .fits-expr .ensures) (c .before .left .given .1) .0) (c .before .before .before .before .before .before .pre .1 .1))))  -- fits-expr-requires-2
-    (λ c. second-walks _ _ _ _ _ _ _ (c .before .before .before .before .fits-expr .ensures) (c .before .before .left .given .1) (second-moved _ _ _ _ (walks-next _ _ _ _ (c .before .before .before .before .fits-expr .ensures) (c .before .before .left .given .1) .0) _ _ (c .fits-expr2 .ensures)))  -- returns-2
+    (λ c κs. let at-left = c .before in let at-fits-expr = at-left .before .before in let start = at-fits-expr .before .before .before in
+    (omega arith, (start .pre .1 .0, second-there _ _ _ _ (walks-next _ _ _ _ (at-fits-expr .fits-expr .ensures) (at-left .left .given .1) .0) (start .pre .1 .1))))  -- fits-expr-requires-2
+    (λ c. let at-left = c .before .before in let at-fits-expr = at-left .before .before in
+    second-walks _ _ _ _ _ _ _ (at-fits-expr .fits-expr .ensures) (at-left .left .given .1)
+    (second-moved _ _ _ _ (walks-next _ _ _ _ (at-fits-expr .fits-expr .ensures) (at-left .left .given .1) .0) _ _ (c .fits-expr2 .ensures)))  -- returns-2
 
 pub +fits-attribute+fits-call+fits-dict+fits-expr+fits-lambda+fits-list+fits-many+fits-two-spec : {M : Type 1} → statement M
-+fits-attribute+fits-call+fits-dict+fits-expr+fits-lambda+fits-list+fits-many+fits-two-spec = close μ-fits-attribute μ-fits-call μ-fits-dict μ-fits-expr μ-fits-lambda μ-fits-list μ-fits-many μ-fits-two fits-attribute-ok fits-call-ok fits-dict-ok fits-expr-ok fits-lambda-ok fits-list-ok fits-many-ok fits-two-ok
++fits-attribute+fits-call+fits-dict+fits-expr+fits-lambda+fits-list+fits-many+fits-two-spec = close μ-fits-attribute μ-fits-call μ-fits-dict μ-fits-expr μ-fits-lambda μ-fits-list μ-fits-many
+    μ-fits-two fits-attribute-ok fits-call-ok fits-dict-ok fits-expr-ok fits-lambda-ok fits-list-ok fits-many-ok fits-two-ok

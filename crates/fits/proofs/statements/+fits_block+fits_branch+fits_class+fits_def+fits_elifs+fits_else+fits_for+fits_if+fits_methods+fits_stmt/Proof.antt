@@ -7,7 +7,9 @@ use Rattle.state.specs.State.{slotNames}
 use Rattle.slots.proofs.Gathering.{elifs-counted, elifs-read, elifs-are, else-reads}
 use Rattle.fits.proofs.Walking.{walks-next, first-over, second-walks, left-start, left-next, left-over, left-done, left-as, def-over, def-few, def-short}
 use Rattle.fits.proofs.ExprKinds.{long-enough}
-use Rattle.fits.proofs.StmtKinds.{fits-value, fits-return, fits-assign, fits-if, fits-while, fits-for, fits-def, fits-class, three-kinds, fits-pass, block-there, block-moved, fits-node, branch-there, branch-moved, StmtsLeft, stmts-step, stmts-end, stmts-ok, stmts-start, fits-block, BranchesLeft, branches-step, branches-last, branches-none, else-none, else-some, MethodsLeft, methods-step, methods-end, methods-ok, def-params, def-block, def-body, class-count, class-methods, class-over, class-done, def-framed}
+use Rattle.fits.proofs.StmtKinds.{fits-value, fits-return, fits-assign, fits-if, fits-while, fits-for, fits-def, fits-class, three-kinds, fits-pass, block-there, block-moved, fits-node, branch-there, branch-moved, StmtsLeft}
+use Rattle.fits.proofs.StmtKinds.{stmts-step, stmts-end, stmts-ok, stmts-start, fits-block, BranchesLeft, branches-step, branches-last, branches-none, else-none, else-some, MethodsLeft, methods-step, methods-end, methods-ok}
+use Rattle.fits.proofs.StmtKinds.{def-params, def-block, def-body, class-count, class-methods, class-over, class-done, def-framed}
 use borrow.Fn.Kinds.{In}
 use borrow.Fn.PlainCycle.{Measures, is, falls, and}
 use Rattle.fits.proofs.statements.fits_block.Reads as fits-block
@@ -172,11 +174,18 @@ fits-block-ok t = fits-block-lts.spec (u16-at-reads.Asked, u16-at-reads.Learnt, 
     (λ c κs. (omega arith, (c .before .before .before .before .before .pre .1 .0, view-stmts-more _ _ _ _ (c .loop-test .taken) (c .before .loop .inv .reads) .parts .head)))  -- fits-stmt-requires
     (λ c. search needs)  -- enum-known-one
     (λ c. search needs)  -- enum-told
-    (λ c. fits-block _ _ _ _ (c .before .before .before .before .before .before .before .before .pre .1 .1) (c .before .before .before .before .before .u16-at .ensures .0) _ _ (left-over _ _ _ _ _ _ _ (c .before .before .before .before .loop .inv) _ _ _ (stmts-step _ _ _ _ _ (c .before .before .before .before .loop .inv .reads) (c .before .before .before .loop-test .taken)) (c .before .before .fits-stmt .ensures) (c .enum-told .given .1)))  -- returns
+    (λ c. let at-fits-stmt = c .before .before in let at-loop-test = at-fits-stmt .before in let at-loop = at-loop-test .before in let at-u16-at = at-loop .before in
+    let start = at-u16-at .before .before .before in
+    fits-block _ _ _ _ (start .pre .1 .1) (at-u16-at .u16-at .ensures .0) _ _
+    (left-over _ _ _ _ _ _ _ (at-loop .loop .inv) _ _ _ (stmts-step _ _ _ _ _ (at-loop .loop .inv .reads) (at-loop-test .loop-test .taken)) (at-fits-stmt .fits-stmt .ensures) (c .enum-told .given .1)))  -- returns
     (λ c. omega arith)  -- sub-left
     (λ c. omega arith)  -- loop-less
-    (λ c. left-next _ _ _ _ _ _ _ (c .before .before .before .before .before .loop .inv) _ _ _ _ (stmts-step _ _ _ _ _ (c .before .before .before .before .before .loop .inv .reads) (c .before .before .before .before .loop-test .taken)) (c .before .before .before .fits-stmt .ensures) (c .before .one .given .1))  -- loop-again
-    (λ c. fits-block _ _ _ _ (c .before .before .before .before .before .pre .1 .1) (c .before .before .u16-at .ensures .0) _ _ (left-done _ _ _ _ _ _ _ (c .before .loop .inv) (stmts-end _ _ (slotNames (c .before .before .before .before .before .args .tree .now) (c .before .before .before .before .before .args .slots .now)) _ _ (c .before .loop .inv .reads) (c .loop-test .left)) (stmts-ok _ _ _ _ _ (c .before .loop .inv .reads) (c .loop-test .left))))  -- returns-2
+    (λ c. let at-one = c .before in let at-fits-stmt = at-one .before .before in let at-loop-test = at-fits-stmt .before in let at-loop = at-loop-test .before in
+    left-next _ _ _ _ _ _ _ (at-loop .loop .inv) _ _ _ _ (stmts-step _ _ _ _ _ (at-loop .loop .inv .reads) (at-loop-test .loop-test .taken)) (at-fits-stmt .fits-stmt .ensures) (at-one .one .given .1))  -- loop-again
+    (λ c. let at-loop = c .before in let at-u16-at = at-loop .before in let start = at-u16-at .before .before .before in
+    fits-block _ _ _ _ (start .pre .1 .1) (at-u16-at .u16-at .ensures .0) _ _
+    (left-done _ _ _ _ _ _ _ (at-loop .loop .inv) (stmts-end _ _ (slotNames (start .args .tree .now) (start .args .slots .now)) _ _ (at-loop .loop .inv .reads) (c .loop-test .left))
+    (stmts-ok _ _ _ _ _ (at-loop .loop .inv .reads) (c .loop-test .left))))  -- returns-2
 
 fits-branch-ok : {M : Type 1} (t : ℕ) → fits-branch-lts.Closed (fits-expr-reads.Asked, fits-expr-reads.Learnt, fits-block-below t, fits-block.Post) (fits-branch-at t) fits-branch.Post M
 fits-branch-ok t = fits-branch-lts.spec (fits-expr-reads.Asked, fits-expr-reads.Learnt, fits-block-below t, fits-block.Post) (fits-branch-at t) fits-branch.Post
@@ -184,29 +193,66 @@ fits-branch-ok t = fits-branch-lts.spec (fits-expr-reads.Asked, fits-expr-reads.
     (λ c. search needs)  -- enum-known-condition
     (λ c. search needs)  -- enum-told
     (λ c. first-over _ _ _ _ _ (c .before .before .fits-expr .ensures) (c .enum-told .given .1))  -- returns
-    (λ c κs. (omega arith, (c .before .before .before .before .before .before .pre .1 .0, block-there _ _ _ _ (walks-next _ _ _ _ (c .before .before .before .fits-expr .ensures) (c .before .condition .given .1) .0) (c .before .before .before .before .before .before .pre .1 .1))))  -- fits-block-requires
-    (λ c. second-walks _ _ _ _ _ _ _ (c .before .before .before .before .fits-expr .ensures) (c .before .before .condition .given .1) (block-moved _ _ _ _ (walks-next _ _ _ _ (c .before .before .before .before .fits-expr .ensures) (c .before .before .condition .given .1) .0) _ _ (c .fits-block .ensures)))  -- returns-2
+    (λ c κs. let at-condition = c .before in let at-fits-expr = at-condition .before .before in let start = at-fits-expr .before .before .before in
+    (omega arith, (start .pre .1 .0, block-there _ _ _ _ (walks-next _ _ _ _ (at-fits-expr .fits-expr .ensures) (at-condition .condition .given .1) .0) (start .pre .1 .1))))  -- fits-block-requires
+    (λ c. let at-condition = c .before .before in let at-fits-expr = at-condition .before .before in
+    second-walks _ _ _ _ _ _ _ (at-fits-expr .fits-expr .ensures) (at-condition .condition .given .1)
+    (block-moved _ _ _ _ (walks-next _ _ _ _ (at-fits-expr .fits-expr .ensures) (at-condition .condition .given .1) .0) _ _ (c .fits-block .ensures)))  -- returns-2
 
-fits-class-ok : {M : Type 1} (t : ℕ) → fits-class-lts.Closed (name-end-reads.Asked, name-end-reads.Learnt, u16-at-reads.Asked, u16-at-reads.Learnt, fits-methods-below t, fits-methods.Post, skip-stmt-reads.Asked, skip-stmt-reads.Learnt) (fits-class-at t) fits-class.Post M
-fits-class-ok t = fits-class-lts.spec (name-end-reads.Asked, name-end-reads.Learnt, u16-at-reads.Asked, u16-at-reads.Learnt, fits-methods-below t, fits-methods.Post, skip-stmt-reads.Asked, skip-stmt-reads.Learnt) (fits-class-at t) fits-class.Post
+fits-class-ok : {M : Type 1} (t : ℕ) → fits-class-lts.Closed
+    (name-end-reads.Asked, name-end-reads.Learnt, u16-at-reads.Asked, u16-at-reads.Learnt, fits-methods-below t, fits-methods.Post, skip-stmt-reads.Asked, skip-stmt-reads.Learnt) (fits-class-at t)
+    fits-class.Post M
+fits-class-ok t = fits-class-lts.spec (
+  name-end-reads.Asked,
+  name-end-reads.Learnt,
+  u16-at-reads.Asked,
+  u16-at-reads.Learnt,
+  fits-methods-below t,
+  fits-methods.Post,
+  skip-stmt-reads.Asked,
+  skip-stmt-reads.Learnt,
+) (fits-class-at t) fits-class.Post
     (λ c. let h = stmt-inside _ _ _ (c .before .pre .1 .1) in omega arith)  -- add-name-end
     (λ c κs. view-class _ _ _ (c .before .pre .1 .1) (c .before .pre .1 .2) .parts .name)  -- name-end-requires
     (λ c κs. let h = class-count _ _ _ _ 0 (view-class _ _ _ (c .before .before .pre .1 .1) (c .before .before .pre .1 .2) .parts) (c .name-end .ensures) in omega arith)  -- u16-at-requires
     (λ c. let h = class-count _ _ _ _ 0 (view-class _ _ _ (c .before .before .before .pre .1 .1) (c .before .before .before .pre .1 .2) .parts) (c .before .name-end .ensures) in omega arith)  -- add-fits-methods
     (λ c. let h = stmt-deep _ _ _ (c .before .before .before .pre .1 .1) in omega arith)  -- sub-fits-methods
-    (λ c κs. let h = stmt-deep _ _ _ (c .before .before .before .pre .1 .1) in (omega arith, (c .before .before .before .pre .1 .0, class-methods _ _ _ _ _ (view-class _ _ _ (c .before .before .before .pre .1 .1) (c .before .before .before .pre .1 .2) .parts) (c .before .name-end .ensures) (c .u16-at .ensures .0))))  -- fits-methods-requires
+    (λ c κs. let at-name-end = c .before in let start = at-name-end .before .before in
+    let h = stmt-deep _ _ _ (start .pre .1 .1) in
+    (omega arith, (start .pre .1 .0, class-methods _ _ _ _ _ (view-class _ _ _ (start .pre .1 .1) (start .pre .1 .2) .parts) (at-name-end .name-end .ensures) (c .u16-at .ensures .0))))  -- fits-methods-requires
     (λ c. search needs)  -- enum-told
     (λ c. search needs)  -- enum-told-2
-    (λ c. class-over _ _ _ _ _ (view-class _ _ _ (c .before .before .before .before .before .before .pre .1 .1) (c .before .before .before .before .before .before .pre .1 .2) .parts) (c .before .before .before .before .name-end .ensures) (c .before .before .before .u16-at .ensures .0) _ _ (c .before .before .fits-methods .ensures) (c .enum-told2 .given .1))  -- returns
+    (λ c. let at-fits-methods = c .before .before in let at-u16-at = at-fits-methods .before in let at-name-end = at-u16-at .before in let start = at-name-end .before .before in
+    class-over _ _ _ _ _ (view-class _ _ _ (start .pre .1 .1) (start .pre .1 .2) .parts) (at-name-end .name-end .ensures) (at-u16-at .u16-at .ensures .0) _ _ (at-fits-methods .fits-methods .ensures)
+    (c .enum-told2 .given .1))  -- returns
     (λ c κs. c .before .before .before .before .before .before .pre .1 .1)  -- skip-stmt-requires
-    (λ c. class-done _ _ _ _ _ (view-class _ _ _ (c .before .before .before .before .before .before .before .pre .1 .1) (c .before .before .before .before .before .before .before .pre .1 .2) .parts) (c .before .before .before .before .before .name-end .ensures) (c .before .before .before .before .u16-at .ensures .0) _ _ _ _ (c .before .before .before .fits-methods .ensures) (c .before .enum-told .given .1) (c .skip-stmt .ensures))  -- returns-2
+    (λ c. let at-enum-told = c .before in let at-fits-methods = at-enum-told .before .before in let at-u16-at = at-fits-methods .before in let at-name-end = at-u16-at .before in
+    let start = at-name-end .before .before in
+    class-done _ _ _ _ _ (view-class _ _ _ (start .pre .1 .1) (start .pre .1 .2) .parts) (at-name-end .name-end .ensures) (at-u16-at .u16-at .ensures .0) _ _ _ _ (at-fits-methods .fits-methods .ensures)
+    (at-enum-told .enum-told .given .1) (c .skip-stmt .ensures))  -- returns-2
 
-fits-def-ok : {M : Type 1} (t : ℕ) → fits-def-lts.Closed (name-end-reads.Asked, name-end-reads.Learnt, skip-params-reads.Asked, skip-params-reads.Learnt, collect-locals-reads.Asked, collect-locals-reads.Learnt, fits-block-below t, fits-block.Post) (fits-def-at t) fits-def.Post M
-fits-def-ok t = fits-def-lts.spec (name-end-reads.Asked, name-end-reads.Learnt, skip-params-reads.Asked, skip-params-reads.Learnt, collect-locals-reads.Asked, collect-locals-reads.Learnt, fits-block-below t, fits-block.Post) (fits-def-at t) fits-def.Post
+fits-def-ok : {M : Type 1} (t : ℕ) → fits-def-lts.Closed
+    (name-end-reads.Asked, name-end-reads.Learnt, skip-params-reads.Asked, skip-params-reads.Learnt, collect-locals-reads.Asked, collect-locals-reads.Learnt, fits-block-below t, fits-block.Post)
+    (fits-def-at t) fits-def.Post M
+fits-def-ok t = fits-def-lts.spec (
+  name-end-reads.Asked,
+  name-end-reads.Learnt,
+  skip-params-reads.Asked,
+  skip-params-reads.Learnt,
+  collect-locals-reads.Asked,
+  collect-locals-reads.Learnt,
+  fits-block-below t,
+  fits-block.Post,
+) (fits-def-at t) fits-def.Post
     (λ c κs. c .before .pre .1 .1 .name)  -- name-end-requires
     (λ c κs. def-params _ _ _ _ _ (c .name-end .ensures) refl (c .before .before .pre .1 .1))  -- skip-params-requires
     (λ c. search needs)  -- slice-aggregate-collect-locals
-    (λ c κs. (c .before .before .before .before .pre .1 .0, omega arith, def-params _ _ _ _ _ (c .before .before .name-end .ensures) (c .before .skip-params .ensures) (c .before .before .before .before .pre .1 .1), def-block _ _ _ _ _ (c .before .before .name-end .ensures) (c .before .skip-params .ensures) (c .before .before .before .before .pre .1 .1)))  -- collect-locals-requires
+    (λ c κs. let at-skip-params = c .before in let at-name-end = at-skip-params .before in let start = at-name-end .before .before in (
+      start .pre .1 .0,
+      omega arith,
+      def-params _ _ _ _ _ (at-name-end .name-end .ensures) (at-skip-params .skip-params .ensures) (start .pre .1 .1),
+      def-block _ _ _ _ _ (at-name-end .name-end .ensures) (at-skip-params .skip-params .ensures) (start .pre .1 .1),
+    ))  -- collect-locals-requires
     (λ c. search needs)  -- enum-known-found
     (λ c. search needs)  -- enum-told
     (λ c. def-over (def-framed _ _ _ _ _ (c .before .before .before .before .before .before .name-end .ensures) (c .before .before .before .before .before .skip-params .ensures)
@@ -247,11 +293,16 @@ fits-elifs-ok t = fits-elifs-lts.spec (fits-branch-below t, fits-branch.Post, fi
     (λ c κs. (omega arith, (c .before .before .before .before .pre .1 .0, view-branches-more _ _ _ _ (c .loop-test .taken) (c .before .loop .inv .reads) .parts .first)))  -- fits-branch-requires
     (λ c. search needs)  -- enum-known-one
     (λ c. search needs)  -- enum-told
-    (λ c. left-over _ _ _ _ _ _ _ (c .before .before .before .before .loop .inv) _ _ _ (branches-step _ _ _ _ _ (c .before .before .before .before .loop .inv .reads) (c .before .before .before .loop-test .taken)) (c .before .before .fits-branch .ensures) (c .enum-told .given .1))  -- returns
+    (λ c. let at-fits-branch = c .before .before in let at-loop-test = at-fits-branch .before in let at-loop = at-loop-test .before in
+    left-over _ _ _ _ _ _ _ (at-loop .loop .inv) _ _ _ (branches-step _ _ _ _ _ (at-loop .loop .inv .reads) (at-loop-test .loop-test .taken)) (at-fits-branch .fits-branch .ensures)
+    (c .enum-told .given .1))  -- returns
     (λ c. omega arith)  -- sub-left
     (λ c. omega arith)  -- loop-less
-    (λ c. left-next _ _ _ _ _ _ _ (c .before .before .before .before .before .loop .inv) _ _ _ _ (branches-step _ _ _ _ _ (c .before .before .before .before .before .loop .inv .reads) (c .before .before .before .before .loop-test .taken)) (c .before .before .before .fits-branch .ensures) (c .before .one .given .1))  -- loop-again
-    (λ c κs. (omega arith, (c .before .before .before .before .pre .1 .0, branches-last _ _ (slotNames (c .before .before .before .before .args .tree .now) (c .before .before .before .before .args .slots .now)) _ _ (c .before .loop .inv .reads) (c .loop-test .left))))  -- fits-else-requires
+    (λ c. let at-one = c .before in let at-fits-branch = at-one .before .before in let at-loop-test = at-fits-branch .before in let at-loop = at-loop-test .before in
+    left-next _ _ _ _ _ _ _ (at-loop .loop .inv) _ _ _ _ (branches-step _ _ _ _ _ (at-loop .loop .inv .reads) (at-loop-test .loop-test .taken)) (at-fits-branch .fits-branch .ensures)
+    (at-one .one .given .1))  -- loop-again
+    (λ c κs. let at-loop = c .before in let start = at-loop .before .before .before in
+    (omega arith, (start .pre .1 .0, branches-last _ _ (slotNames (start .args .tree .now) (start .args .slots .now)) _ _ (at-loop .loop .inv .reads) (c .loop-test .left))))  -- fits-else-requires
     (λ c. left-as _ _ _ _ _ _ _ (c .before .before .loop .inv) _ (branches-none _ _ _ _ _ (c .before .before .loop .inv .reads) _ (c .before .loop-test .left) (c .fits-else .ensures)))  -- returns-2
 
 fits-else-ok : {M : Type 1} (t : ℕ) → fits-else-lts.Closed (fits-block-below t, fits-block.Post) (fits-else-at t) fits-else.Post M
@@ -275,10 +326,17 @@ fits-if-ok t = fits-if-lts.spec (fits-branch-below t, fits-branch.Post, u16-at-r
     (λ c. search needs)  -- enum-known-first
     (λ c. search needs)  -- enum-told
     (λ c. first-over _ _ _ _ _ (c .before .before .fits-branch .ensures) (c .enum-told .given .1))  -- returns
-    (λ c κs. let h = elifs-counted _ _ _ _ 0 (walks-next _ _ _ _ (c .before .before .before .fits-branch .ensures) (c .before .first .given .1) .0) (c .before .before .before .before .before .before .pre .1 .1) in omega arith)  -- u16-at-requires
-    (λ c. let h = elifs-counted _ _ _ _ 0 (walks-next _ _ _ _ (c .before .before .before .before .fits-branch .ensures) (c .before .before .first .given .1) .0) (c .before .before .before .before .before .before .before .pre .1 .1) in omega arith)  -- add-fits-elifs
-    (λ c κs. (omega arith, (c .before .before .before .before .before .before .before .pre .1 .0, elifs-read _ _ _ _ _ (walks-next _ _ _ _ (c .before .before .before .before .fits-branch .ensures) (c .before .before .first .given .1) .0) (c .u16-at .ensures .0) (c .before .before .before .before .before .before .before .pre .1 .1))))  -- fits-elifs-requires
-    (λ c. second-walks _ _ _ _ _ _ _ (c .before .before .before .before .before .fits-branch .ensures) (c .before .before .before .first .given .1) (fits-node _ _ _ _ (elifs-are _ _ _ _ _ (walks-next _ _ _ _ (c .before .before .before .before .before .fits-branch .ensures) (c .before .before .before .first .given .1) .0) (c .before .u16-at .ensures .0)) (c .fits-elifs .ensures)))  -- returns-2
+    (λ c κs. let at-first = c .before in let at-fits-branch = at-first .before .before in let start = at-fits-branch .before .before .before in
+    let h = elifs-counted _ _ _ _ 0 (walks-next _ _ _ _ (at-fits-branch .fits-branch .ensures) (at-first .first .given .1) .0) (start .pre .1 .1) in
+    omega arith)  -- u16-at-requires
+    (λ c. let at-first = c .before .before in let at-fits-branch = at-first .before .before in let start = at-fits-branch .before .before .before in
+    let h = elifs-counted _ _ _ _ 0 (walks-next _ _ _ _ (at-fits-branch .fits-branch .ensures) (at-first .first .given .1) .0) (start .pre .1 .1) in
+    omega arith)  -- add-fits-elifs
+    (λ c κs. let at-first = c .before .before in let at-fits-branch = at-first .before .before in let start = at-fits-branch .before .before .before in
+    (omega arith, (start .pre .1 .0, elifs-read _ _ _ _ _ (walks-next _ _ _ _ (at-fits-branch .fits-branch .ensures) (at-first .first .given .1) .0) (c .u16-at .ensures .0) (start .pre .1 .1))))  -- fits-elifs-requires
+    (λ c. let at-u16-at = c .before in let at-first = at-u16-at .before .before in let at-fits-branch = at-first .before .before in
+    second-walks _ _ _ _ _ _ _ (at-fits-branch .fits-branch .ensures) (at-first .first .given .1)
+    (fits-node _ _ _ _ (elifs-are _ _ _ _ _ (walks-next _ _ _ _ (at-fits-branch .fits-branch .ensures) (at-first .first .given .1) .0) (at-u16-at .u16-at .ensures .0)) (c .fits-elifs .ensures)))  -- returns-2
 
 abbrev fits-methods-Inv-loop : fits-methods-lts.InvT-loop
 fits-methods-Inv-loop tree at depth count p₀ left₀ p left = MethodsLeft depth tree left₀ p₀ left p
@@ -292,14 +350,46 @@ fits-methods-ok t = fits-methods-lts.spec (fits-def-below t, fits-def.Post) (fit
     (λ c κs. (omega arith, (c .before .before .before .pre .1 .0, view-methods-more _ _ _ _ (c .loop-test .taken) (c .before .loop .inv .reads) .parts .first)))  -- fits-def-requires
     (λ c. search needs)  -- enum-known-one
     (λ c. search needs)  -- enum-told
-    (λ c. left-over _ _ _ _ _ _ _ (c .before .before .before .before .loop .inv) _ _ _ (methods-step _ _ _ _ (c .before .before .before .before .loop .inv .reads) (c .before .before .before .loop-test .taken)) (c .before .before .fits-def .ensures) (c .enum-told .given .1))  -- returns
+    (λ c. let at-fits-def = c .before .before in let at-loop-test = at-fits-def .before in let at-loop = at-loop-test .before in
+    left-over _ _ _ _ _ _ _ (at-loop .loop .inv) _ _ _ (methods-step _ _ _ _ (at-loop .loop .inv .reads) (at-loop-test .loop-test .taken)) (at-fits-def .fits-def .ensures) (c .enum-told .given .1))  -- returns
     (λ c. omega arith)  -- sub-left
     (λ c. omega arith)  -- loop-less
-    (λ c. left-next _ _ _ _ _ _ _ (c .before .before .before .before .before .loop .inv) _ _ _ _ (methods-step _ _ _ _ (c .before .before .before .before .before .loop .inv .reads) (c .before .before .before .before .loop-test .taken)) (c .before .before .before .fits-def .ensures) (c .before .one .given .1))  -- loop-again
+    (λ c. let at-one = c .before in let at-fits-def = at-one .before .before in let at-loop-test = at-fits-def .before in let at-loop = at-loop-test .before in
+    left-next _ _ _ _ _ _ _ (at-loop .loop .inv) _ _ _ _ (methods-step _ _ _ _ (at-loop .loop .inv .reads) (at-loop-test .loop-test .taken)) (at-fits-def .fits-def .ensures) (at-one .one .given .1))  -- loop-again
     (λ c. left-done _ _ _ _ _ _ _ (c .before .loop .inv) (methods-end _ _ _ _ (c .before .loop .inv .reads) (c .loop-test .left)) (methods-ok _ _ _ _ (c .before .loop .inv .reads) (c .loop-test .left)))  -- returns-2
 
-fits-stmt-ok : {M : Type 1} (t : ℕ) → fits-stmt-lts.Closed (fits-expr-reads.Asked, fits-expr-reads.Learnt, fits-assign-reads.Asked, fits-assign-reads.Learnt, fits-if-below t, fits-if.Post, fits-branch-below t, fits-branch.Post, fits-for-below t, fits-for.Post, fits-def-below t, fits-def.Post, fits-class-below t, fits-class.Post) (fits-stmt-at t) fits-stmt.Post M
-fits-stmt-ok t = fits-stmt-lts.spec (fits-expr-reads.Asked, fits-expr-reads.Learnt, fits-assign-reads.Asked, fits-assign-reads.Learnt, fits-if-below t, fits-if.Post, fits-branch-below t, fits-branch.Post, fits-for-below t, fits-for.Post, fits-def-below t, fits-def.Post, fits-class-below t, fits-class.Post) (fits-stmt-at t) fits-stmt.Post
+fits-stmt-ok : {M : Type 1} (t : ℕ) → fits-stmt-lts.Closed (
+  fits-expr-reads.Asked,
+  fits-expr-reads.Learnt,
+  fits-assign-reads.Asked,
+  fits-assign-reads.Learnt,
+  fits-if-below t,
+  fits-if.Post,
+  fits-branch-below t,
+  fits-branch.Post,
+  fits-for-below t,
+  fits-for.Post,
+  fits-def-below t,
+  fits-def.Post,
+  fits-class-below t,
+  fits-class.Post,
+) (fits-stmt-at t) fits-stmt.Post M
+fits-stmt-ok t = fits-stmt-lts.spec (
+  fits-expr-reads.Asked,
+  fits-expr-reads.Learnt,
+  fits-assign-reads.Asked,
+  fits-assign-reads.Learnt,
+  fits-if-below t,
+  fits-if.Post,
+  fits-branch-below t,
+  fits-branch.Post,
+  fits-for-below t,
+  fits-for.Post,
+  fits-def-below t,
+  fits-def.Post,
+  fits-class-below t,
+  fits-class.Post,
+) (fits-stmt-at t) fits-stmt.Post
     (λ c. let h = stmt-inside _ _ _ (c .before .before .before .pre .1 .1) in omega arith)  -- shared-slice-read-kind
     (λ c. let h = stmt-inside _ _ _ (c .before .before .before .pre .1 .1) in omega arith)  -- add-a
     (λ c. let h = stmt-deep _ _ _ (c .before .before .before .before .pre .1 .1) in omega arith)  -- sub-fits-expr
@@ -309,14 +399,24 @@ fits-stmt-ok t = fits-stmt-lts.spec (fits-expr-reads.Asked, fits-expr-reads.Lear
     (λ c. let h = stmt-deep _ _ _ (c .before .before .before .before .pre .1 .1) in omega arith)  -- sub-fits-assign
     (λ c κs. (c .before .before .before .before .pre .1 .0, view-assign _ _ _ (c .before .before .before .before .pre .1 .1) (c .match .keys3) .parts))  -- fits-assign-requires
     (λ c. let h = stmt-deep _ _ _ (c .before .before .before .before .pre .1 .1) in omega arith)  -- sub-fits-if
-    (λ c κs. let h = stmt-deep _ _ _ (c .before .before .before .before .pre .1 .1) in (omega arith, (c .before .before .before .before .pre .1 .0, view-if _ _ _ (c .before .before .before .before .pre .1 .1) (c .match .keys4) .parts)))  -- fits-if-requires
+    (λ c κs. let start = c .before .before .before .before in
+    let h = stmt-deep _ _ _ (start .pre .1 .1) in
+    (omega arith, (start .pre .1 .0, view-if _ _ _ (start .pre .1 .1) (c .match .keys4) .parts)))  -- fits-if-requires
     (λ c. let h = stmt-deep _ _ _ (c .before .before .before .before .pre .1 .1) in omega arith)  -- sub-fits-branch
-    (λ c κs. let h = stmt-deep _ _ _ (c .before .before .before .before .pre .1 .1) in (omega arith, (c .before .before .before .before .pre .1 .0, view-while _ _ _ (c .before .before .before .before .pre .1 .1) (c .match .keys5) .parts)))  -- fits-branch-requires
+    (λ c κs. let start = c .before .before .before .before in
+    let h = stmt-deep _ _ _ (start .pre .1 .1) in
+    (omega arith, (start .pre .1 .0, view-while _ _ _ (start .pre .1 .1) (c .match .keys5) .parts)))  -- fits-branch-requires
     (λ c. let h = stmt-deep _ _ _ (c .before .before .before .before .pre .1 .1) in omega arith)  -- sub-fits-for
-    (λ c κs. let h = stmt-deep _ _ _ (c .before .before .before .before .pre .1 .1) in (omega arith, (c .before .before .before .before .pre .1 .0, view-for _ _ _ (c .before .before .before .before .pre .1 .1) (c .match .keys6) .parts)))  -- fits-for-requires
+    (λ c κs. let start = c .before .before .before .before in
+    let h = stmt-deep _ _ _ (start .pre .1 .1) in
+    (omega arith, (start .pre .1 .0, view-for _ _ _ (start .pre .1 .1) (c .match .keys6) .parts)))  -- fits-for-requires
     (λ c. let h = stmt-deep _ _ _ (c .before .before .before .before .pre .1 .1) in omega arith)  -- sub-fits-def
-    (λ c κs. let h = stmt-deep _ _ _ (c .before .before .before .before .pre .1 .1) in (omega arith, (c .before .before .before .before .pre .1 .0 .tree, view-def _ _ _ (c .before .before .before .before .pre .1 .1) (c .match .keys7) .parts)))  -- fits-def-requires
-    (λ c κs. let h = stmt-deep _ _ _ (c .before .before .before .before .pre .1 .1) in (omega arith, (c .before .before .before .before .pre .1 .0 .tree, c .before .before .before .before .pre .1 .1, c .match .keys8)))  -- fits-class-requires
+    (λ c κs. let start = c .before .before .before .before in
+    let h = stmt-deep _ _ _ (start .pre .1 .1) in
+    (omega arith, (start .pre .1 .0 .tree, view-def _ _ _ (start .pre .1 .1) (c .match .keys7) .parts)))  -- fits-def-requires
+    (λ c κs. let start = c .before .before .before .before in
+    let h = stmt-deep _ _ _ (start .pre .1 .1) in
+    (omega arith, (start .pre .1 .0 .tree, start .pre .1 .1, c .match .keys8)))  -- fits-class-requires
     (λ c. fits-value _ _ _ (c .before .before .before .before .before .pre .1 .1) _ _ (c .before .match .keys1) (c .fits-expr .ensures))  -- returns
     (λ c. fits-return _ _ _ (c .before .before .before .before .before .pre .1 .1) _ _ (c .before .match .keys2) (c .fits-expr2 .ensures))  -- returns-2
     (λ c. fits-assign _ _ _ (c .before .before .before .before .before .pre .1 .1) _ _ (c .before .match .keys3) (c .fits-assign .ensures))  -- returns-3
@@ -325,7 +425,11 @@ fits-stmt-ok t = fits-stmt-lts.spec (fits-expr-reads.Asked, fits-expr-reads.Lear
     (λ c. fits-for _ _ _ (c .before .before .before .before .before .pre .1 .1) _ _ (c .before .match .keys6) (c .fits-for .ensures))  -- returns-6
     (λ c. fits-def _ _ _ (c .before .before .before .before .before .pre .1 .1) _ _ (c .before .match .keys7) (c .fits-def .ensures))  -- returns-7
     (λ c. fits-class _ _ _ (c .before .before .before .before .before .pre .1 .1) _ _ (c .before .match .keys8) (c .fits-class .ensures))  -- returns-8
-    (λ c. let n = c .match .rest in fits-pass _ _ _ (c .before .before .before .before .pre .1 .1) _ (three-kinds _ (stmt-known _ _ _ (c .before .before .before .before .pre .1 .1)) (n .0 .0 .0 .0 .0 .0 .0 .1) (n .0 .0 .0 .0 .0 .0 .1) (n .0 .0 .0 .0 .0 .1) (n .0 .0 .0 .0 .1) (n .0 .0 .0 .1) (n .0 .0 .1) (n .0 .1) (n .1)))  -- returns-9
+    (λ c. let start = c .before .before .before .before in
+    let n = c .match .rest in
+    fits-pass _ _ _ (start .pre .1 .1) _ (three-kinds _ (stmt-known _ _ _ (start .pre .1 .1)) (n .0 .0 .0 .0 .0 .0 .0 .1) (n .0 .0 .0 .0 .0 .0 .1) (n .0 .0 .0 .0 .0 .1) (n .0 .0 .0 .0 .1) (n .0 .0 .0 .1)
+    (n .0 .0 .1) (n .0 .1) (n .1)))  -- returns-9
 
 pub +fits-block+fits-branch+fits-class+fits-def+fits-elifs+fits-else+fits-for+fits-if+fits-methods+fits-stmt-spec : {M : Type 1} → statement M
-+fits-block+fits-branch+fits-class+fits-def+fits-elifs+fits-else+fits-for+fits-if+fits-methods+fits-stmt-spec = close μ-fits-block μ-fits-branch μ-fits-class μ-fits-def μ-fits-elifs μ-fits-else μ-fits-for μ-fits-if μ-fits-methods μ-fits-stmt fits-block-ok fits-branch-ok fits-class-ok fits-def-ok fits-elifs-ok fits-else-ok fits-for-ok fits-if-ok fits-methods-ok fits-stmt-ok
++fits-block+fits-branch+fits-class+fits-def+fits-elifs+fits-else+fits-for+fits-if+fits-methods+fits-stmt-spec = close μ-fits-block μ-fits-branch μ-fits-class μ-fits-def μ-fits-elifs μ-fits-else
+    μ-fits-for μ-fits-if μ-fits-methods μ-fits-stmt fits-block-ok fits-branch-ok fits-class-ok fits-def-ok fits-elifs-ok fits-else-ok fits-for-ok fits-if-ok fits-methods-ok fits-stmt-ok

@@ -13,4 +13,7 @@ patch-loop-spec = tie.close (tie.spec
     (λ c. search needs)  -- part-patch-words-end
     (λ c κs. search needs)  -- patch-words-requires
     (λ c. search needs)  -- same-length
-    (λ c. let at-patch-words = c .before .before in let start = at-patch-words .before .before .before in ap (putMid (start .args .from) (start .args .to - start .args .from) (start .args .code .now)) (at-patch-words .patch-words .ensures)))  -- returns
+    (λ c.
+    let at-patch-words = c .before .before in
+    let start = at-patch-words .before .before .before in
+    ap (putMid (start .args .from) (start .args .to - start .args .from) (start .args .code .now)) (at-patch-words .patch-words .ensures)))  -- returns

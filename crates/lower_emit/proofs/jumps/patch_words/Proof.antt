@@ -24,7 +24,12 @@ patch-words-spec = tie.close (tie.spec Inv-loop μ-loop
     (λ c. omega arith)
     (λ c. omega arith)
     (λ c. omega arith)
-    (λ c. let l = c .before .before .before .loop in let a = c .before .before .before .before .before .args in
-    (omega arith, patch-step (a .h) (l .i) _ (a .inside .now) (l .inside) (omega arith) (l .inv .1) (c .patched-word .ensures ∙ ap (λ (k : ℕ). patchWord (a .h) k (l .i) (getD (l .inside) (l .i) 0)) (l .inv .3)), length-set (l .inside) (l .i) _ ∙ l .inv .2, l .inv .3))
+    (λ c. let l = c .before .before .before .loop in let a = c .before .before .before .before .before .args in (
+      omega arith,
+      patch-step (a .h) (l .i) _ (a .inside .now) (l .inside) (omega arith) (l .inv .1)
+          (c .patched-word .ensures ∙ ap (λ (k : ℕ). patchWord (a .h) k (l .i) (getD (l .inside) (l .i) 0)) (l .inv .3)),
+      length-set (l .inside) (l .i) _ ∙ l .inv .2,
+      l .inv .3,
+    ))
     (λ c. c .before .loop .inv .2)
     (λ c. let l = c .before .loop in let a = c .before .before .before .args in patch-done (a .h) (l .i) (a .inside .now) (l .inside) (omega arith) (l .inv .1)))

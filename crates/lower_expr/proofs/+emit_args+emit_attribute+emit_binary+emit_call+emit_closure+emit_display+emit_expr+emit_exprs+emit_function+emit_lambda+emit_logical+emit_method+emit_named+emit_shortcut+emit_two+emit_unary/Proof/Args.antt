@@ -40,7 +40,8 @@ emit-args-ok t = emit-args-lts.spec (u16-at-reads.Asked, u16-at-reads.Learnt, em
     (λ c. let at-put-call = c .before .before in let at-if1 = at-put-call .before .before .before in let at-emit-exprs = at-if1 .before .before .before .before .before in
     let at-u16-at = at-emit-exprs .before .before .before .before .before in let start = at-u16-at .before .before .before .before .before in
     let y = many-by _ _ _ _ _ _ _ (at-u16-at .u16-at .ensures .0) refl (at-emit-exprs .emit-exprs .ensures) in
-    lowers-then (λ x. one (callInstr (calleeIn (start .args .callee)) (countAt (start .args .tree .now) (start .args .at)))) (λ x. x) (at-if1 .if1 .left) (sound-of (start .pre .1 .0)) y (put-lifts _ (sound-next (at-if1 .if1 .left) y) (omega (
+    lowers-then (λ x. one (callInstr (calleeIn (start .args .callee)) (countAt (start .args .tree .now) (start .args .at)))) (λ x. x) (at-if1 .if1 .left) (sound-of (start .pre .1 .0)) y
+    (put-lifts _ (sound-next (at-if1 .if1 .left) y) (omega (
       arith,
       (at-if1 .if1 .left),
     )) (call-instr _ _ _ (omega (arith, at-u16-at .u16-at .ensures .0, start .pre .1 .1 .few)) (start .pre .1 .2)

@@ -52,4 +52,5 @@ emit-attribute-ok t = emit-attribute-lts.spec (emit-expr-below t, emit-expr.Post
     (λ c. let at-emit-symbol = c .before .before .before .before in let at-name-end = at-emit-symbol .before in let at-if1 = at-name-end .before .before .before .before .before in
     let at-emit-expr = at-if1 .before .before .before .before .before in
     let start = at-emit-expr .before .before .before .before .before .before .before .before .before in
-    lowers-then (λ x. intern (nameAt (start .args .tree .now) x) (λ k. one (LoadAttr k))) (λ x. nameEnd (start .args .tree .now) x) (at-if1 .if1 .left) (sound-of (start .pre .1 .0)) (at-emit-expr .emit-expr .ensures) (lowers-by (at-emit-symbol .emit-symbol .ensures) refl (sym (at-name-end .name-end .ensures))))  -- returns-2
+    lowers-then (λ x. intern (nameAt (start .args .tree .now) x) (λ k. one (LoadAttr k))) (λ x. nameEnd (start .args .tree .now) x) (at-if1 .if1 .left) (sound-of (start .pre .1 .0))
+    (at-emit-expr .emit-expr .ensures) (lowers-by (at-emit-symbol .emit-symbol .ensures) refl (sym (at-name-end .name-end .ensures))))  -- returns-2

@@ -59,7 +59,8 @@ emit-call-ok t = emit-call-lts.spec (emit-named-below t, emit-named.Post, emit-m
     (λ c. let at-emit-expr = c .before .before .before .before .before in at-emit-expr .emit-expr .kept .1 .1 .1 .1 .1 .1 .0)  -- same-length-6
     (λ c. let at-if3 = c in let at-emit-expr = at-if3 .before .before .before .before .before in let at-if2 = at-emit-expr .before .before .before .before .before in let at-if1 = at-if2 .before in
     let start = at-if1 .before .before .before .before .before .before in
-    lowers-by (lowers-stopped (at-if3 .if3 .taken) (sound-of (start .pre .1 .0)) (lengthens-seq (lengthens-exprs _ _) (lengthens-one _)) (at-emit-expr .emit-expr .ensures)) (call-value _ _ _ (start .pre .1 .1) _ (at-if1 .if1 .left) (at-if2 .if2 .left)) refl)  -- returns-3
+    lowers-by (lowers-stopped (at-if3 .if3 .taken) (sound-of (start .pre .1 .0)) (lengthens-seq (lengthens-exprs _ _) (lengthens-one _)) (at-emit-expr .emit-expr .ensures))
+    (call-value _ _ _ (start .pre .1 .1) _ (at-if1 .if1 .left) (at-if2 .if2 .left)) refl)  -- returns-3
     (λ c. omega arith)  -- mul-emit-args
     (λ c κs. let at-if3 = c .before .before .before .before in let at-emit-expr = at-if3 .before .before .before .before .before in
     let start = at-emit-expr .before .before .before .before .before .before .before .before .before .before .before .before in
@@ -74,5 +75,10 @@ emit-call-ok t = emit-call-lts.spec (emit-named-below t, emit-named.Post, emit-m
     let at-emit-expr = at-if3 .before .before .before .before .before in let at-if2 = at-emit-expr .before .before .before .before .before in let at-if1 = at-if2 .before in
     let start = at-if1 .before .before .before .before .before .before in
     let e = at-emit-expr .emit-expr .ensures in
-    lowers-by (lowers-then (λ x. exprsCode (start .args .depth) (countAt (start .args .tree .now) x) (start .args .tree .now) (slotNames (start .args .tree .now) (start .args .slots .now)) (x + 2) ⨟ one (callInstr (calleeIn (34 * 65536)) (countAt (start .args .tree .now) x))) (λ x. listAt (start .args .depth) (start .args .tree .now) x .end) (at-if3 .if3 .left) (sound-of (start .pre .1 .0)) e (at-emit-args .emit-args .ensures)) (call-value _ _ _ (start .pre .1 .1) _ (at-if1 .if1 .left) (at-if2 .if2 .left)
-    ∙ ap (λ (c : Callee). exprCode (start .args .depth) (start .args .tree .now) (slotNames (start .args .tree .now) (start .args .slots .now)) (start .args .at) ⨟ exprsCode (start .args .depth) (countAt (start .args .tree .now) (exprAt (start .args .depth) (start .args .tree .now) (start .args .at) .end)) (start .args .tree .now) (slotNames (start .args .tree .now) (start .args .slots .now)) (exprAt (start .args .depth) (start .args .tree .now) (start .args .at) .end + 2) ⨟ one (callInstr c (countAt (start .args .tree .now) (exprAt (start .args .depth) (start .args .tree .now) (start .args .at) .end)))) value-same) refl)  -- returns-4
+    lowers-by (lowers-then (λ x. exprsCode (start .args .depth) (countAt (start .args .tree .now) x) (start .args .tree .now) (slotNames (start .args .tree .now) (start .args .slots .now)) (x + 2)
+    ⨟ one (callInstr (calleeIn (34 * 65536)) (countAt (start .args .tree .now) x))) (λ x. listAt (start .args .depth) (start .args .tree .now) x .end) (at-if3 .if3 .left) (sound-of (start .pre .1 .0)) e
+    (at-emit-args .emit-args .ensures)) (call-value _ _ _ (start .pre .1 .1) _ (at-if1 .if1 .left) (at-if2 .if2 .left)
+    ∙ ap (λ (c : Callee). exprCode (start .args .depth) (start .args .tree .now) (slotNames (start .args .tree .now) (start .args .slots .now)) (start .args .at)
+    ⨟ exprsCode (start .args .depth) (countAt (start .args .tree .now) (exprAt (start .args .depth) (start .args .tree .now) (start .args .at) .end)) (start .args .tree .now)
+    (slotNames (start .args .tree .now) (start .args .slots .now)) (exprAt (start .args .depth) (start .args .tree .now) (start .args .at) .end + 2)
+    ⨟ one (callInstr c (countAt (start .args .tree .now) (exprAt (start .args .depth) (start .args .tree .now) (start .args .at) .end)))) value-same) refl)  -- returns-4

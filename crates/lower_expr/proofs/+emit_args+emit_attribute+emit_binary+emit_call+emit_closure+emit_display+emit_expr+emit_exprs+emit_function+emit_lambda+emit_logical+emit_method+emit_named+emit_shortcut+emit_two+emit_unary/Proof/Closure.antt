@@ -29,7 +29,8 @@ emit-closure-ok t = emit-closure-lts.spec (emit-function-below t, emit-function.
     (λ c. let at-emit-function = c .before .before .before .before .before in at-emit-function .emit-function .kept .1 .1 .1 .1 .1 .1 .1 .0)  -- same-length-2
     (λ c. let at-if1 = c in let at-emit-function = at-if1 .before .before .before .before .before in
     let start = at-emit-function .before .before .before .before .before .before .before .before .before .before .before in
-    lowers-state (lowers-stopped (at-if1 .if1 .taken) (sound-of (start .pre .1 .0)) (lengthens-seq (lengthens-loads _ _) (lengthens-one _)) (at-emit-function .emit-function .ensures)) (closure-state _ _ _ _ _ _ _ _ _ (sym (function-count _ _ _ _ _ _ (start .pre .1 .0 .ready .sound)))))  -- returns
+    lowers-state (lowers-stopped (at-if1 .if1 .taken) (sound-of (start .pre .1 .0)) (lengthens-seq (lengthens-loads _ _) (lengthens-one _)) (at-emit-function .emit-function .ensures))
+    (closure-state _ _ _ _ _ _ _ _ _ (sym (function-count _ _ _ _ _ _ (start .pre .1 .0 .ready .sound)))))  -- returns
     (λ c. let start = c .before .before .before .before .before .before .before .before .before .before .before .before .before .before .before .before in
     omega (arith, start .pre .1 .1 .params, start .pre .1 .1 .few, length-drop slotsFrom (start .args .inner .now), start .pre .1 .3 .room))  -- add-a
     (λ c. let start = c .before .before .before .before .before .before .before .before .before .before .before .before .before .before .before .before in
@@ -57,4 +58,8 @@ emit-closure-ok t = emit-closure-lts.spec (emit-function-below t, emit-function.
     let start = at-emit-function .before .before .before .before .before .before .before .before .before .before .before in let e = at-emit-function .emit-function .ensures in
     let S = sound-next (at-if1 .if1 .left) e in
     let x = at-end-closure .end-closure .ensures .lowers _ _ S in
-    lowers-state (lowers-then (λ x. loads (slotNames (start .args .tree .now) (start .args .slots .now)) (namesAt (start .args .tree .now) (drop (start .args .arity) (drop slotsFrom (start .args .inner .now)))) ⨟ one (MakeClosure (getD (start .args .k .now) 2 0) (length (drop (start .args .arity) (drop slotsFrom (start .args .inner .now)))))) (λ x. x) (at-if1 .if1 .left) (sound-of (start .pre .1 .0)) e (record { emits = captured-as (start .args .arity) (start .args .inner .now) _ _ _ _ _ _ _ _ _ _ _ _ _ (x .emits); numbers = x .numbers })) (closure-state _ _ _ _ _ _ _ _ _ (sym (function-count _ _ _ _ _ _ (start .pre .1 .0 .ready .sound)))))  -- returns-2
+    lowers-state (lowers-then (λ x. loads (slotNames (start .args .tree .now) (start .args .slots .now))
+    (namesAt (start .args .tree .now) (drop (start .args .arity) (drop slotsFrom (start .args .inner .now))))
+    ⨟ one (MakeClosure (getD (start .args .k .now) 2 0) (length (drop (start .args .arity) (drop slotsFrom (start .args .inner .now)))))) (λ x. x) (at-if1 .if1 .left) (sound-of (start .pre .1 .0)) e
+    (record { emits = captured-as (start .args .arity) (start .args .inner .now) _ _ _ _ _ _ _ _ _ _ _ _ _ (x .emits); numbers = x .numbers }))
+    (closure-state _ _ _ _ _ _ _ _ _ (sym (function-count _ _ _ _ _ _ (start .pre .1 .0 .ready .sound)))))  -- returns-2

@@ -71,7 +71,8 @@ emit-display-ok t = emit-display-lts.spec (
     let start = at-u16-at .before .before .before .before .before in let u = at-held .held .ensures ∙ ap (heldOf (start .args .kind)) (at-u16-at .u16-at .ensures .0) in
     let y = many-by _ _ _ _ _ _ _ u refl (at-emit-exprs .emit-exprs .ensures) in
     let b = at-build-code .build-code .ensures in
-    lowers-then (λ x. one (Build (displayOf (start .args .kind)) (countAt (start .args .tree .now) (start .args .at)))) (λ x. x) (at-if1 .if1 .left) (sound-of (start .pre .1 .0)) y (lowers-by (put-lifts _ (sound-next (at-if1 .if1 .left) y) (omega (
+    lowers-then (λ x. one (Build (displayOf (start .args .kind)) (countAt (start .args .tree .now) (start .args .at)))) (λ x. x) (at-if1 .if1 .left) (sound-of (start .pre .1 .0)) y
+    (lowers-by (put-lifts _ (sound-next (at-if1 .if1 .left) y) (omega (
       arith,
       (at-if1 .if1 .left),
     )) (instr-plain _ _ _ 0 (plain-above _ _ 0 (b .1) (b .2) (at-u16-at .u16-at .ensures .1) (omega arith))) (at-put-op .put-op .ensures)) (build-as _ _ _ _ (b .0) (at-u16-at .u16-at .ensures .0)) refl))  -- returns-2

@@ -42,10 +42,16 @@ emit-function-ok t = emit-function-lts.spec (begin-lambda-reads.Asked, begin-lam
     (λ c. let at-begin-lambda = c .before .before .before in at-begin-lambda .begin-lambda .kept .1 .1 .0)  -- same-length
     (λ c. let at-if1 = c in let at-begin-lambda = at-if1 .before .before .before in let start = at-begin-lambda .before .before .before .before .before .before .before .before .before in
     let b = begins-count (start .args .slots .now) (at-begin-lambda .begin-lambda .ensures) in
-    function1-over (sound-of (start .pre .1 .0)) (drop slotsFrom (start .args .slots .now)) (exprCode (start .args .depth) (start .args .tree .now) (slotNames (start .args .tree .now) (start .args .slots .now)) (start .args .at)) (lengthens-expr (slotNames (start .args .tree .now) (start .args .slots .now)) (exprAt (start .args .depth) (start .args .tree .now) (start .args .at) .value)) (exprBody (exprAt (start .args .depth) (start .args .tree .now) (start .args .at) .value)) b (at-if1 .if1 .taken))  -- returns
+    function1-over (sound-of (start .pre .1 .0)) (drop slotsFrom (start .args .slots .now))
+    (exprCode (start .args .depth) (start .args .tree .now) (slotNames (start .args .tree .now) (start .args .slots .now)) (start .args .at))
+    (lengthens-expr (slotNames (start .args .tree .now) (start .args .slots .now)) (exprAt (start .args .depth) (start .args .tree .now) (start .args .at) .value))
+    (exprBody (exprAt (start .args .depth) (start .args .tree .now) (start .args .at) .value)) b (at-if1 .if1 .taken))  -- returns
     (λ c κs. let at-if1 = c .before .before .before .before in let at-begin-lambda = at-if1 .before .before .before in
     let start = at-begin-lambda .before .before .before .before .before .before .before .before .before in let b = begins-count (start .args .slots .now) (at-begin-lambda .begin-lambda .ensures) in
-    let S = function1-sound (sound-of (start .pre .1 .0)) (drop slotsFrom (start .args .slots .now)) (exprCode (start .args .depth) (start .args .tree .now) (slotNames (start .args .tree .now) (start .args .slots .now)) (start .args .at)) (lengthens-expr (slotNames (start .args .tree .now) (start .args .slots .now)) (exprAt (start .args .depth) (start .args .tree .now) (start .args .at) .value)) (exprBody (exprAt (start .args .depth) (start .args .tree .now) (start .args .at) .value)) b (at-if1 .if1 .left) in (
+    let S = function1-sound (sound-of (start .pre .1 .0)) (drop slotsFrom (start .args .slots .now))
+    (exprCode (start .args .depth) (start .args .tree .now) (slotNames (start .args .tree .now) (start .args .slots .now)) (start .args .at))
+    (lengthens-expr (slotNames (start .args .tree .now) (start .args .slots .now)) (exprAt (start .args .depth) (start .args .tree .now) (start .args .at) .value))
+    (exprBody (exprAt (start .args .depth) (start .args .tree .now) (start .args .at) .value)) b (at-if1 .if1 .left) in (
       omega (arith, start .pre .0),
       (record { numbers = S .numbers; ready = record { tree-short = start .pre .1 .0 .ready .tree-short; slotted = start .pre .1 .0 .ready .slotted; sound = S .sound } }, start .pre .1 .1 .body),
     ))  -- emit-expr-requires
@@ -55,14 +61,20 @@ emit-function-ok t = emit-function-lts.spec (begin-lambda-reads.Asked, begin-lam
     (λ c. let at-if2 = c in let at-emit-expr = at-if2 .before .before .before .before .before in let at-if1 = at-emit-expr .before .before .before .before .before in
     let at-begin-lambda = at-if1 .before .before .before in let start = at-begin-lambda .before .before .before .before .before .before .before .before .before in
     let b = begins-count (start .args .slots .now) (at-begin-lambda .begin-lambda .ensures) in
-    function1-body (sound-of (start .pre .1 .0)) (drop slotsFrom (start .args .slots .now)) (exprCode (start .args .depth) (start .args .tree .now) (slotNames (start .args .tree .now) (start .args .slots .now)) (start .args .at)) (lengthens-expr (slotNames (start .args .tree .now) (start .args .slots .now)) (exprAt (start .args .depth) (start .args .tree .now) (start .args .at) .value)) (exprBody (exprAt (start .args .depth) (start .args .tree .now) (start .args .at) .value)) b (at-if1 .if1 .left) (at-emit-expr .emit-expr .ensures) (at-if2 .if2 .taken))  -- returns-2
+    function1-body (sound-of (start .pre .1 .0)) (drop slotsFrom (start .args .slots .now))
+    (exprCode (start .args .depth) (start .args .tree .now) (slotNames (start .args .tree .now) (start .args .slots .now)) (start .args .at))
+    (lengthens-expr (slotNames (start .args .tree .now) (start .args .slots .now)) (exprAt (start .args .depth) (start .args .tree .now) (start .args .at) .value))
+    (exprBody (exprAt (start .args .depth) (start .args .tree .now) (start .args .at) .value)) b (at-if1 .if1 .left) (at-emit-expr .emit-expr .ensures) (at-if2 .if2 .taken))  -- returns-2
     (λ c κs. let at-if2 = c .before .before .before in let at-emit-expr = at-if2 .before .before .before .before .before in let at-if1 = at-emit-expr .before .before .before .before .before in
     let at-begin-lambda = at-if1 .before .before .before in let start = at-begin-lambda .before .before .before .before .before .before .before .before .before in
     let b = begins-count (start .args .slots .now) (at-begin-lambda .begin-lambda .ensures) in
     let S = sound-next (at-if2 .if2 .left) (at-emit-expr .emit-expr .ensures) in (
       room-sound S,
       ending-sound S,
-      function1-few (sound-of (start .pre .1 .0)) (drop slotsFrom (start .args .slots .now)) (exprCode (start .args .depth) (start .args .tree .now) (slotNames (start .args .tree .now) (start .args .slots .now)) (start .args .at)) (lengthens-expr (slotNames (start .args .tree .now) (start .args .slots .now)) (exprAt (start .args .depth) (start .args .tree .now) (start .args .at) .value)) (exprBody (exprAt (start .args .depth) (start .args .tree .now) (start .args .at) .value)) b (at-if1 .if1 .left) (at-emit-expr .emit-expr .ensures) (at-if2 .if2 .left),
+      function1-few (sound-of (start .pre .1 .0)) (drop slotsFrom (start .args .slots .now))
+          (exprCode (start .args .depth) (start .args .tree .now) (slotNames (start .args .tree .now) (start .args .slots .now)) (start .args .at))
+          (lengthens-expr (slotNames (start .args .tree .now) (start .args .slots .now)) (exprAt (start .args .depth) (start .args .tree .now) (start .args .at) .value))
+          (exprBody (exprAt (start .args .depth) (start .args .tree .now) (start .args .at) .value)) b (at-if1 .if1 .left) (at-emit-expr .emit-expr .ensures) (at-if2 .if2 .left),
     ))  -- end-lambda-requires
     (λ c. let at-end-lambda = c .before .before .before .before in
     let at-emit-expr = at-end-lambda .before .before .before .before .before .before .before .before .before in at-end-lambda .end-lambda .kept .0 ∙ at-emit-expr .emit-expr .kept .1 .1 .1 .1 .1 .0)  -- same-length-4
@@ -73,4 +85,8 @@ emit-function-ok t = emit-function-lts.spec (begin-lambda-reads.Asked, begin-lam
     let at-if1 = at-emit-expr .before .before .before .before .before in let at-begin-lambda = at-if1 .before .before .before in
     let start = at-begin-lambda .before .before .before .before .before .before .before .before .before in
     let b = begins-count (start .args .slots .now) (at-begin-lambda .begin-lambda .ensures) in
-    function1-end (sound-of (start .pre .1 .0)) (drop slotsFrom (start .args .slots .now)) (exprCode (start .args .depth) (start .args .tree .now) (slotNames (start .args .tree .now) (start .args .slots .now)) (start .args .at)) (lengthens-expr (slotNames (start .args .tree .now) (start .args .slots .now)) (exprAt (start .args .depth) (start .args .tree .now) (start .args .at) .value)) (exprBody (exprAt (start .args .depth) (start .args .tree .now) (start .args .at) .value)) b (at-if1 .if1 .left) (at-emit-expr .emit-expr .ensures) (at-if2 .if2 .left) _ (at-end-lambda .end-lambda .ensures))  -- returns-3
+    function1-end (sound-of (start .pre .1 .0)) (drop slotsFrom (start .args .slots .now))
+    (exprCode (start .args .depth) (start .args .tree .now) (slotNames (start .args .tree .now) (start .args .slots .now)) (start .args .at))
+    (lengthens-expr (slotNames (start .args .tree .now) (start .args .slots .now)) (exprAt (start .args .depth) (start .args .tree .now) (start .args .at) .value))
+    (exprBody (exprAt (start .args .depth) (start .args .tree .now) (start .args .at) .value)) b (at-if1 .if1 .left) (at-emit-expr .emit-expr .ensures) (at-if2 .if2 .left) _
+    (at-end-lambda .end-lambda .ensures))  -- returns-3

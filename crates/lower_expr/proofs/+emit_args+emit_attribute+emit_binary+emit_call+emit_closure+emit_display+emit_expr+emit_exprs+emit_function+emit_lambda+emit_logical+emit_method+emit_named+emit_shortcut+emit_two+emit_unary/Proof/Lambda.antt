@@ -45,7 +45,8 @@ emit-lambda-ok t = emit-lambda-lts.spec (
     (λ c. search needs)  -- enum-told
     (λ c. let at-enum-told = c in let at-lambda-slots = at-enum-told .before .before .before in let at-skip-params = at-lambda-slots .before .before in
     let start = at-skip-params .before .before .before .before .before .before in
-    lowers-full (start .pre .1 .0 .numbers) (lambda-over _ _ _ _ _ _ _ _ _ _ _ _ _ _ (start .pre .1 .0 .ready .sound) (at-skip-params .skip-params .ensures) (collected-over _ _ _ _ (at-enum-told .enum-told .given .1) (at-lambda-slots .lambda-slots .ensures))))  -- returns
+    lowers-full (start .pre .1 .0 .numbers) (lambda-over _ _ _ _ _ _ _ _ _ _ _ _ _ _ (start .pre .1 .0 .ready .sound) (at-skip-params .skip-params .ensures)
+    (collected-over _ _ _ _ (at-enum-told .enum-told .given .1) (at-lambda-slots .lambda-slots .ensures))))  -- returns
     (λ c. let at-all = c .before in let at-lambda-slots = at-all .before .before .before in let w = at-lambda-slots .lambda-slots .kept .1 .1 .1 .1 .1 .0 in
     let q = collected-count _ _ _ _ _ (at-all .all .given .1) (at-lambda-slots .lambda-slots .ensures) w in omega (arith, q .0, w))  -- cast-end
     (λ c. let at-all = c .before in let at-lambda-slots = at-all .before .before .before in let w = at-lambda-slots .lambda-slots .kept .1 .1 .1 .1 .1 .0 in
@@ -65,4 +66,8 @@ emit-lambda-ok t = emit-lambda-lts.spec (
     let at-lambda-slots = at-all .before .before .before in let at-skip-params = at-lambda-slots .before .before in let at-u16-at = at-skip-params .before in
     let start = at-u16-at .before .before .before .before .before in let w = at-lambda-slots .lambda-slots .kept .1 .1 .1 .1 .1 .0 in
     let q = collected-count _ _ _ _ _ (at-all .all .given .1) (at-lambda-slots .lambda-slots .ensures) w in
-    record { emits = lambda-lowers _ _ _ _ (start .pre .1 .1) _ _ _ (at-u16-at .u16-at .ensures .0) (at-skip-params .skip-params .ensures) (q .1) _ _ _ _ _ _ _ _ _ (at-emit-closure .emit-closure .ensures .emits); numbers = at-emit-closure .emit-closure .ensures .numbers })  -- returns-2
+    record {
+      emits = lambda-lowers _ _ _ _ (start .pre .1 .1) _ _ _ (at-u16-at .u16-at .ensures .0) (at-skip-params .skip-params .ensures) (q .1) _ _ _ _ _ _ _ _ _
+          (at-emit-closure .emit-closure .ensures .emits);
+      numbers = at-emit-closure .emit-closure .ensures .numbers;
+    })  -- returns-2

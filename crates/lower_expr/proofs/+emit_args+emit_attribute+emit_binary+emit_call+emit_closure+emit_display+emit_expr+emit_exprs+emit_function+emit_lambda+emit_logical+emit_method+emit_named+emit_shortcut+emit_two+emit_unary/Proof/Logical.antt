@@ -46,4 +46,5 @@ emit-logical-ok t = emit-logical-lts.spec (emit-expr-below t, emit-expr.Post, em
     (λ c. let at-emit-shortcut = c .before .before .before .before in let at-if1 = at-emit-shortcut .before .before .before .before .before in
     let at-emit-expr = at-if1 .before .before .before .before .before in
     let start = at-emit-expr .before .before .before .before .before .before .before .before .before in
-    lowers-then (λ x. shortcut (eqb (start .args .op) 30) (exprCode (start .args .depth) (start .args .tree .now) (slotNames (start .args .tree .now) (start .args .slots .now)) x)) (λ x. exprAt (start .args .depth) (start .args .tree .now) x .end) (at-if1 .if1 .left) (sound-of (start .pre .1 .0)) (at-emit-expr .emit-expr .ensures) (at-emit-shortcut .emit-shortcut .ensures))  -- returns-2
+    lowers-then (λ x. shortcut (eqb (start .args .op) 30) (exprCode (start .args .depth) (start .args .tree .now) (slotNames (start .args .tree .now) (start .args .slots .now)) x))
+    (λ x. exprAt (start .args .depth) (start .args .tree .now) x .end) (at-if1 .if1 .left) (sound-of (start .pre .1 .0)) (at-emit-expr .emit-expr .ensures) (at-emit-shortcut .emit-shortcut .ensures))  -- returns-2

@@ -85,7 +85,11 @@ emit-method-ok t = emit-method-lts.spec (
     let start = at-emit-expr .before .before .before .before .before .before .before .before .before in let e = at-emit-expr .emit-expr .ensures in let h = done-of (at-if1 .if1 .left) e .0 in
     let s = at-name-end .name-end .ensures in let u = at-u16-at .u16-at .ensures .0 ∙ ap (countAt (start .args .tree .now)) s in
     let y = many-by _ _ _ _ _ _ _ u (ap (λ (x : ℕ). x + 2) s) (at-emit-exprs .emit-exprs .ensures) in
-    lowers-then (λ x. exprsCode (start .args .depth) (countAt (start .args .tree .now) (nameEnd (start .args .tree .now) x)) (start .args .tree .now) (slotNames (start .args .tree .now) (start .args .slots .now)) (nameEnd (start .args .tree .now) x + 2) ⨟ intern (nameAt (start .args .tree .now) x) (λ k. one (CallMethod k (countAt (start .args .tree .now) (nameEnd (start .args .tree .now) x))))) (λ x. listAt (start .args .depth) (start .args .tree .now) (nameEnd (start .args .tree .now) x) .end) (at-if1 .if1 .left) (sound-of (start .pre .1 .0)) e (lowers-stopped (at-if2 .if2 .taken) (sound-next (at-if1 .if1 .left) e) (lengthens-intern _ (λ k. lengthens-one _)) y))  -- returns-2
+    lowers-then (λ x. exprsCode (start .args .depth) (countAt (start .args .tree .now) (nameEnd (start .args .tree .now) x)) (start .args .tree .now)
+    (slotNames (start .args .tree .now) (start .args .slots .now)) (nameEnd (start .args .tree .now) x + 2)
+    ⨟ intern (nameAt (start .args .tree .now) x) (λ k. one (CallMethod k (countAt (start .args .tree .now) (nameEnd (start .args .tree .now) x)))))
+    (λ x. listAt (start .args .depth) (start .args .tree .now) (nameEnd (start .args .tree .now) x) .end) (at-if1 .if1 .left) (sound-of (start .pre .1 .0)) e
+    (lowers-stopped (at-if2 .if2 .taken) (sound-next (at-if1 .if1 .left) e) (lengthens-intern _ (λ k. lengthens-one _)) y))  -- returns-2
     (λ c κs. let at-if2 = c .before .before .before .before in let at-emit-exprs = at-if2 .before .before .before .before .before in
     let at-u16-at = at-emit-exprs .before .before .before .before .before in let at-name-end = at-u16-at .before in let at-if1 = at-name-end .before in
     let at-emit-expr = at-if1 .before .before .before .before .before in let start = at-emit-expr .before .before .before .before .before .before .before .before .before in
@@ -110,4 +114,9 @@ emit-method-ok t = emit-method-lts.spec (
     let s = at-name-end .name-end .ensures in let u = at-u16-at .u16-at .ensures .0 ∙ ap (countAt (start .args .tree .now)) s in
     let y = many-by _ _ _ _ _ _ _ u (ap (λ (x : ℕ). x + 2) s) (at-emit-exprs .emit-exprs .ensures) in
     let nm = at-emit-expr .emit-expr .result in
-    lowers-then (λ x. exprsCode (start .args .depth) (countAt (start .args .tree .now) (nameEnd (start .args .tree .now) x)) (start .args .tree .now) (slotNames (start .args .tree .now) (start .args .slots .now)) (nameEnd (start .args .tree .now) x + 2) ⨟ intern (nameAt (start .args .tree .now) x) (λ k. one (CallMethod k (countAt (start .args .tree .now) (nameEnd (start .args .tree .now) x))))) (λ x. listAt (start .args .depth) (start .args .tree .now) (nameEnd (start .args .tree .now) x) .end) (at-if1 .if1 .left) (sound-of (start .pre .1 .0)) e (lowers-then (λ x. intern (nameAt (start .args .tree .now) nm) (λ k. one (CallMethod k (countAt (start .args .tree .now) (nameEnd (start .args .tree .now) nm))))) (λ x. x) (at-if2 .if2 .left) (sound-next (at-if1 .if1 .left) e) y (lowers-by (at-emit-symbol .emit-symbol .ensures) (ap (λ (m : ℕ). intern (nameAt (start .args .tree .now) nm) (λ k. one (CallMethod k m))) (sym u)) refl)))  -- returns-3
+    lowers-then (λ x. exprsCode (start .args .depth) (countAt (start .args .tree .now) (nameEnd (start .args .tree .now) x)) (start .args .tree .now)
+    (slotNames (start .args .tree .now) (start .args .slots .now)) (nameEnd (start .args .tree .now) x + 2)
+    ⨟ intern (nameAt (start .args .tree .now) x) (λ k. one (CallMethod k (countAt (start .args .tree .now) (nameEnd (start .args .tree .now) x)))))
+    (λ x. listAt (start .args .depth) (start .args .tree .now) (nameEnd (start .args .tree .now) x) .end) (at-if1 .if1 .left) (sound-of (start .pre .1 .0)) e
+    (lowers-then (λ x. intern (nameAt (start .args .tree .now) nm) (λ k. one (CallMethod k (countAt (start .args .tree .now) (nameEnd (start .args .tree .now) nm))))) (λ x. x) (at-if2 .if2 .left)
+    (sound-next (at-if1 .if1 .left) e) y (lowers-by (at-emit-symbol .emit-symbol .ensures) (ap (λ (m : ℕ). intern (nameAt (start .args .tree .now) nm) (λ k. one (CallMethod k m))) (sym u)) refl)))  -- returns-3

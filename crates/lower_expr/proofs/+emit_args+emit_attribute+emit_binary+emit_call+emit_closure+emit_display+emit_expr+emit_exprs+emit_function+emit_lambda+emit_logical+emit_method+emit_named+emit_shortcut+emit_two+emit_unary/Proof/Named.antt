@@ -52,7 +52,8 @@ emit-named-ok t = emit-named-lts.spec (
     (λ c. let at-load-callee = c .before .before .before .before .before in at-load-callee .load-callee .kept .1 .1 .1 .1 .0)  -- same-length-2
     (λ c. let at-if1 = c in let at-load-callee = at-if1 .before .before .before .before .before in let at-resolve = at-load-callee .before .before .before .before .before in
     let start = at-resolve .before .before .before .before .before .before .before .before .before in
-    lowers-state (lowers-stopped (at-if1 .if1 .taken) (sound-of (start .pre .1 .0)) (lengthens-seq (lengthens-exprs _ _) (lengthens-one _)) (at-load-callee .load-callee .ensures)) (named-state _ _ _ _ _ _ _ (start .pre .1 .1) (at-resolve .resolve .ensures _ _ (sound-of (start .pre .1 .0)))))  -- returns
+    lowers-state (lowers-stopped (at-if1 .if1 .taken) (sound-of (start .pre .1 .0)) (lengthens-seq (lengthens-exprs _ _) (lengthens-one _)) (at-load-callee .load-callee .ensures))
+    (named-state _ _ _ _ _ _ _ (start .pre .1 .1) (at-resolve .resolve .ensures _ _ (sound-of (start .pre .1 .0)))))  -- returns
     (λ c κs. let at-if1 = c .before .before .before .before in let at-load-callee = at-if1 .before .before .before .before .before in
     let at-resolve = at-load-callee .before .before .before .before .before in let at-name-end = at-resolve .before .before .before .before in
     let start = at-name-end .before .before .before .before .before in
@@ -73,4 +74,6 @@ emit-named-ok t = emit-named-lts.spec (
     let at-load-callee = at-if1 .before .before .before .before .before in let at-resolve = at-load-callee .before .before .before .before .before in
     let at-name-end = at-resolve .before .before .before .before in let start = at-name-end .before .before .before .before .before in
     let e = lowers-by (at-load-callee .load-callee .ensures) refl (sym (at-name-end .name-end .ensures)) in
-    lowers-state (lowers-then (λ x. exprsCode (start .args .depth) (countAt (start .args .tree .now) x) (start .args .tree .now) (slotNames (start .args .tree .now) (start .args .slots .now)) (x + 2) ⨟ one (callInstr (calleeIn (at-resolve .resolve .result)) (countAt (start .args .tree .now) x))) (λ x. listAt (start .args .depth) (start .args .tree .now) x .end) (at-if1 .if1 .left) (sound-of (start .pre .1 .0)) e (at-emit-args .emit-args .ensures)) (named-state _ _ _ _ _ _ _ (start .pre .1 .1) (at-resolve .resolve .ensures _ _ (sound-of (start .pre .1 .0)))))  -- returns-2
+    lowers-state (lowers-then (λ x. exprsCode (start .args .depth) (countAt (start .args .tree .now) x) (start .args .tree .now) (slotNames (start .args .tree .now) (start .args .slots .now)) (x + 2)
+    ⨟ one (callInstr (calleeIn (at-resolve .resolve .result)) (countAt (start .args .tree .now) x))) (λ x. listAt (start .args .depth) (start .args .tree .now) x .end) (at-if1 .if1 .left)
+    (sound-of (start .pre .1 .0)) e (at-emit-args .emit-args .ensures)) (named-state _ _ _ _ _ _ _ (start .pre .1 .1) (at-resolve .resolve .ensures _ _ (sound-of (start .pre .1 .0)))))  -- returns-2

@@ -42,12 +42,14 @@ emit-shortcut-ok t = emit-shortcut-lts.spec (put-op-reads.Asked, put-op-reads.Le
     (λ c. let at-if2 = c in let at-emit-expr = at-if2 .before .before .before .before .before in let at-if1 = at-emit-expr .before .before .before .before .before in
     let at-put-op = at-if1 .before .before .before in let start = at-put-op .before .before .before .before .before .before .before .before in
     let z = done-of (at-if1 .if1 .left) (jump (sound-of (start .pre .1 .0)) (start .pre .1 .2) (start .pre .1 .3) (start .pre .1 .4) (at-put-op .put-op .ensures)) .0 in
-    let y = lowers-by (at-emit-expr .emit-expr .ensures) (ap (λ (x : ℕ). exprCode (start .args .depth) (start .args .tree .now) (slotNames (start .args .tree .now) (start .args .slots .now)) x) (sym z)) (ap (λ (x : ℕ). exprAt (start .args .depth) (start .args .tree .now) x .end) (sym z)) in
+    let y = lowers-by (at-emit-expr .emit-expr .ensures) (ap (λ (x : ℕ). exprCode (start .args .depth) (start .args .tree .now) (slotNames (start .args .tree .now) (start .args .slots .now)) x) (sym z))
+    (ap (λ (x : ℕ). exprAt (start .args .depth) (start .args .tree .now) x .end) (sym z)) in
     shortcut1-right (sound-of (start .pre .1 .0)) (start .pre .1 .2) (start .pre .1 .3) (start .pre .1 .4) (at-put-op .put-op .ensures) (at-if1 .if1 .left) y (at-if2 .if2 .taken))  -- returns-2
     (λ c κs. let at-if2 = c .before .before in let at-emit-expr = at-if2 .before .before .before .before .before in let at-if1 = at-emit-expr .before .before .before .before .before in
     let at-put-op = at-if1 .before .before .before in let start = at-put-op .before .before .before .before .before .before .before .before in
     let z = done-of (at-if1 .if1 .left) (jump (sound-of (start .pre .1 .0)) (start .pre .1 .2) (start .pre .1 .3) (start .pre .1 .4) (at-put-op .put-op .ensures)) .0 in
-    let y = lowers-by (at-emit-expr .emit-expr .ensures) (ap (λ (x : ℕ). exprCode (start .args .depth) (start .args .tree .now) (slotNames (start .args .tree .now) (start .args .slots .now)) x) (sym z)) (ap (λ (x : ℕ). exprAt (start .args .depth) (start .args .tree .now) x .end) (sym z)) in (
+    let y = lowers-by (at-emit-expr .emit-expr .ensures) (ap (λ (x : ℕ). exprCode (start .args .depth) (start .args .tree .now) (slotNames (start .args .tree .now) (start .args .slots .now)) x) (sym z))
+    (ap (λ (x : ℕ). exprAt (start .args .depth) (start .args .tree .now) x .end) (sym z)) in (
       room-sound (sound-next (at-if2 .if2 .left) y),
       shortcut1-before (sound-of (start .pre .1 .0)) (start .pre .1 .2) (start .pre .1 .3) (start .pre .1 .4) (at-put-op .put-op .ensures) (at-if1 .if1 .left) y (at-if2 .if2 .left),
       start .pre .1 .2,
@@ -60,5 +62,6 @@ emit-shortcut-ok t = emit-shortcut-lts.spec (put-op-reads.Asked, put-op-reads.Le
     let at-if1 = at-emit-expr .before .before .before .before .before in let at-put-op = at-if1 .before .before .before in
     let start = at-put-op .before .before .before .before .before .before .before .before in
     let z = done-of (at-if1 .if1 .left) (jump (sound-of (start .pre .1 .0)) (start .pre .1 .2) (start .pre .1 .3) (start .pre .1 .4) (at-put-op .put-op .ensures)) .0 in
-    let y = lowers-by (at-emit-expr .emit-expr .ensures) (ap (λ (x : ℕ). exprCode (start .args .depth) (start .args .tree .now) (slotNames (start .args .tree .now) (start .args .slots .now)) x) (sym z)) (ap (λ (x : ℕ). exprAt (start .args .depth) (start .args .tree .now) x .end) (sym z)) in
+    let y = lowers-by (at-emit-expr .emit-expr .ensures) (ap (λ (x : ℕ). exprCode (start .args .depth) (start .args .tree .now) (slotNames (start .args .tree .now) (start .args .slots .now)) x) (sym z))
+    (ap (λ (x : ℕ). exprAt (start .args .depth) (start .args .tree .now) x .end) (sym z)) in
     shortcut1-end (sound-of (start .pre .1 .0)) (start .pre .1 .2) (start .pre .1 .3) (start .pre .1 .4) (at-put-op .put-op .ensures) (at-if1 .if1 .left) y (at-if2 .if2 .left) _ (at-end-shortcut .end-shortcut .ensures))  -- returns-3

@@ -37,7 +37,9 @@ emit-two-ok t = emit-two-lts.spec (emit-expr-below t, emit-expr.Post, put-op-rea
     (λ c. let at-if2 = c in let at-emit-expr2 = at-if2 .before .before .before .before .before in let at-if1 = at-emit-expr2 .before .before .before .before .before in
     let at-emit-expr = at-if1 .before .before .before .before .before in let start = at-emit-expr .before .before .before .before .before .before .before .before .before in
     let e = at-emit-expr .emit-expr .ensures in
-    lowers-then (λ x. exprCode (start .args .depth) (start .args .tree .now) (slotNames (start .args .tree .now) (start .args .slots .now)) x ⨟ one (instr (start .args .op) 0 0)) (λ x. exprAt (start .args .depth) (start .args .tree .now) x .end) (at-if1 .if1 .left) (sound-of (start .pre .1 .0)) e (lowers-stopped (at-if2 .if2 .taken) (sound-next (at-if1 .if1 .left) e) (lengthens-one _) (at-emit-expr2 .emit-expr2 .ensures)))  -- returns-2
+    lowers-then (λ x. exprCode (start .args .depth) (start .args .tree .now) (slotNames (start .args .tree .now) (start .args .slots .now)) x ⨟ one (instr (start .args .op) 0 0))
+    (λ x. exprAt (start .args .depth) (start .args .tree .now) x .end) (at-if1 .if1 .left) (sound-of (start .pre .1 .0)) e
+    (lowers-stopped (at-if2 .if2 .taken) (sound-next (at-if1 .if1 .left) e) (lengthens-one _) (at-emit-expr2 .emit-expr2 .ensures)))  -- returns-2
     (λ c κs. let at-if2 = c .before .before in let at-emit-expr2 = at-if2 .before .before .before .before .before in
     let start = at-emit-expr2 .before .before .before .before .before .before .before .before .before .before .before .before .before .before .before .before .before .before .before in
     let S = sound-next (at-if2 .if2 .left) (at-emit-expr2 .emit-expr2 .ensures) in (room-sound S, start .pre .1 .2 .op-byte, omega arith, omega arith))  -- put-op-requires
@@ -51,7 +53,9 @@ emit-two-ok t = emit-two-lts.spec (emit-expr-below t, emit-expr.Post, put-op-rea
     let at-if1 = at-emit-expr2 .before .before .before .before .before in let at-emit-expr = at-if1 .before .before .before .before .before in
     let start = at-emit-expr .before .before .before .before .before .before .before .before .before in let e = at-emit-expr .emit-expr .ensures in
     let e2 = at-emit-expr2 .emit-expr2 .ensures in
-    lowers-then (λ x. exprCode (start .args .depth) (start .args .tree .now) (slotNames (start .args .tree .now) (start .args .slots .now)) x ⨟ one (instr (start .args .op) 0 0)) (λ x. exprAt (start .args .depth) (start .args .tree .now) x .end) (at-if1 .if1 .left) (sound-of (start .pre .1 .0)) e (lowers-then (λ x. one (instr (start .args .op) 0 0)) (λ x. x) (at-if2 .if2 .left) (sound-next (at-if1 .if1 .left) e) e2 (put-lifts _ (sound-next (at-if2 .if2 .left) e2) (omega (
+    lowers-then (λ x. exprCode (start .args .depth) (start .args .tree .now) (slotNames (start .args .tree .now) (start .args .slots .now)) x ⨟ one (instr (start .args .op) 0 0))
+    (λ x. exprAt (start .args .depth) (start .args .tree .now) x .end) (at-if1 .if1 .left) (sound-of (start .pre .1 .0)) e
+    (lowers-then (λ x. one (instr (start .args .op) 0 0)) (λ x. x) (at-if2 .if2 .left) (sound-next (at-if1 .if1 .left) e) e2 (put-lifts _ (sound-next (at-if2 .if2 .left) e2) (omega (
       arith,
       (at-if2 .if2 .left),
     )) (instr-plain _ _ _ _ (start .pre .1 .2)) (at-put-op .put-op .ensures))))  -- returns-3

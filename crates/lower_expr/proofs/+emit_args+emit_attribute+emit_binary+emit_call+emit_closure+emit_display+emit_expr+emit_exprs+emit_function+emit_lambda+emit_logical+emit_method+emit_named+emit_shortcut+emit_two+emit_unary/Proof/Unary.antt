@@ -38,4 +38,6 @@ emit-unary-ok t = emit-unary-lts.spec (unary-code-reads.Asked, unary-code-reads.
     lowers-by (lowers-then (λ x. one (instr (at-unary-code .unary-code .result) 0 0)) (λ x. x) (at-if1 .if1 .left) (sound-of (start .pre .1 .0)) e (put-lifts _ (sound-next (at-if1 .if1 .left) e) (omega (
       arith,
       (at-if1 .if1 .left),
-    )) (instr-plain _ _ _ _ (at-unary-code .unary-code .ensures .1)) (at-put-op .put-op .ensures))) (ap (λ (o : ℕ). exprCode (start .args .depth) (start .args .tree .now) (slotNames (start .args .tree .now) (start .args .slots .now)) (start .args .at + 1) ⨟ one (instr o 0 0)) (sym (at-unary-code .unary-code .ensures .0))) refl)  -- returns-2
+    )) (instr-plain _ _ _ _ (at-unary-code .unary-code .ensures .1)) (at-put-op .put-op .ensures)))
+    (ap (λ (o : ℕ). exprCode (start .args .depth) (start .args .tree .now) (slotNames (start .args .tree .now) (start .args .slots .now)) (start .args .at + 1) ⨟ one (instr o 0 0))
+    (sym (at-unary-code .unary-code .ensures .0))) refl)  -- returns-2

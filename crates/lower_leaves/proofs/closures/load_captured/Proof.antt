@@ -32,13 +32,15 @@ load-captured-spec = tie.close (tie.spec Inv-loop μ-loop
     (λ c. let at-if1 = c in let at-put-op = at-if1 .before .before .before in let at-find-slot = at-put-op .before .before .before in let at-loop-test = at-find-slot .before .before in
     let at-loop = at-loop-test .before in
     let start = at-loop .before .before .before .before .before in
-    loading-over (at-loop .loop .inv) (at-loop-test .loop-test .taken) (held-at _ _ _ (at-loop .loop .i) (at-loop-test .loop-test .taken) (start .pre .2)) (start .pre .1) (at-find-slot .find-slot .ensures) (start .pre .3) (at-if1 .if1 .taken) (at-put-op .put-op .ensures))  -- returns
+    loading-over (at-loop .loop .inv) (at-loop-test .loop-test .taken) (held-at _ _ _ (at-loop .loop .i) (at-loop-test .loop-test .taken) (start .pre .2)) (start .pre .1)
+    (at-find-slot .find-slot .ensures) (start .pre .3) (at-if1 .if1 .taken) (at-put-op .put-op .ensures))  -- returns
     (λ c. let at-loop-test = c .before .before .before .before .before .before .before .before in
     let start = at-loop-test .before .before .before .before .before .before in omega (arith, at-loop-test .loop-test .taken, start .good .1 .1 .0 .0))  -- add-i
     (λ c. let at-loop-test = c .before .before .before .before .before .before .before .before in omega (arith, at-loop-test .loop-test .taken))  -- loop-less
     (λ c. let at-if1 = c in let at-put-op = at-if1 .before .before .before in let at-find-slot = at-put-op .before .before .before in let at-loop-test = at-find-slot .before .before in
     let at-loop = at-loop-test .before in
     let start = at-loop .before .before .before .before .before in
-    loading-next (at-loop .loop .inv) (at-loop-test .loop-test .taken) (held-at _ _ _ (at-loop .loop .i) (at-loop-test .loop-test .taken) (start .pre .2)) (start .pre .1) (at-find-slot .find-slot .ensures) (start .pre .3) (at-if1 .if1 .left) (at-put-op .put-op .kept .0) (at-put-op .put-op .ensures))  -- loop-again
+    loading-next (at-loop .loop .inv) (at-loop-test .loop-test .taken) (held-at _ _ _ (at-loop .loop .i) (at-loop-test .loop-test .taken) (start .pre .2)) (start .pre .1)
+    (at-find-slot .find-slot .ensures) (start .pre .3) (at-if1 .if1 .left) (at-put-op .put-op .kept .0) (at-put-op .put-op .ensures))  -- loop-again
     (λ c. let at-loop = c .before in at-loop .loop .inv .kept)  -- same-length-2
     (λ c. let at-loop-test = c in let at-loop = at-loop-test .before in let start = at-loop .before .before .before .before .before in loading-done (at-loop .loop .inv) (at-loop-test .loop-test .left) (start .pre .3)))  -- returns-2

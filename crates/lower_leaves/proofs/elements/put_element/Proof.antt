@@ -19,11 +19,15 @@ put-element-spec = tie.close (tie.spec
     (λ c. let at-put-op = c .before .before .before in at-put-op .put-op .kept .0)  -- same-length-2
     (λ c. let at-if2 = c in let at-put-op = at-if2 .before .before .before in let at-if1 = at-put-op .before .before .before in
     let start = at-if1 .before .before in
-    copied _ (one (ConstI64 (start .args .i)) ⨟ one LoadIndex) (at-if1 .if1 .left) (writes-stopped (plain-writes (start .pre .2) (plain-below 8 0 0 (omega arith) (omega arith) (omega arith) (omega arith)) (at-put-op .put-op .ensures)) (at-if2 .if2 .taken) (lengthens-seq (lengthens-one _) (lengthens-one _))))  -- returns-2
+    copied _ (one (ConstI64 (start .args .i)) ⨟ one LoadIndex) (at-if1 .if1 .left)
+    (writes-stopped (plain-writes (start .pre .2) (plain-below 8 0 0 (omega arith) (omega arith) (omega arith) (omega arith)) (at-put-op .put-op .ensures)) (at-if2 .if2 .taken)
+    (lengthens-seq (lengthens-one _) (lengthens-one _))))  -- returns-2
     (λ c κs. let at-if2 = c .before .before in let at-put-op = at-if2 .before .before .before in
     let start = at-put-op .before .before .before .before .before in (room-put (start .pre .0) (at-if2 .if2 .left) (at-put-op .put-op .ensures), start .pre .1, omega (arith, (at-if2 .if2 .left))))  -- put-index-requires-2
     (λ c. let at-put-index2 = c .before .before in let at-put-op = at-put-index2 .before .before .before .before .before .before in at-put-index2 .put-index2 .kept .0 ∙ at-put-op .put-op .kept .0)  -- same-length-3
     (λ c. let at-put-index2 = c .before .before in let at-if2 = at-put-index2 .before .before .before in let at-put-op = at-if2 .before .before .before in
     let at-if1 = at-put-op .before .before .before in
     let start = at-if1 .before .before in
-    copied _ (one (ConstI64 (start .args .i)) ⨟ one LoadIndex) (at-if1 .if1 .left) (writes-then (plain-writes (start .pre .2) (plain-below 8 0 0 (omega arith) (omega arith) (omega arith) (omega arith)) (at-put-op .put-op .ensures)) (at-if2 .if2 .left) (at-put-index2 .put-index2 .ensures))))  -- returns-3
+    copied _ (one (ConstI64 (start .args .i)) ⨟ one LoadIndex) (at-if1 .if1 .left)
+    (writes-then (plain-writes (start .pre .2) (plain-below 8 0 0 (omega arith) (omega arith) (omega arith) (omega arith)) (at-put-op .put-op .ensures)) (at-if2 .if2 .left)
+    (at-put-index2 .put-index2 .ensures))))  -- returns-3

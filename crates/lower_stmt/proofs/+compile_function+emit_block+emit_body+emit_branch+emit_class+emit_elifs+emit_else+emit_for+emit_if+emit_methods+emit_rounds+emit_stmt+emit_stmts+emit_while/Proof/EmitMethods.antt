@@ -74,7 +74,9 @@ emit-methods-ok t = emit-methods-lts.spec (
     (λ c. let at-insert-method = c .before .before in let at-if1 = at-insert-method .before .before in let at-compile-function = at-if1 .before .before .before .before .before in
     let at-is-init = at-compile-function .before .before .before .before .before in let at-loop-test = at-is-init .before .before in let at-loop = at-loop-test .before in
     let start = at-loop .before .before .before .before .before in
-    methods-next (at-loop .loop .inv) (start .pre .1 .0) (at-loop-test .loop-test .taken) (at-is-init .is-init .ensures) (at-compile-function .compile-function .ensures) (at-if1 .if1 .left) (at-insert-method .insert-method .ensures) (at-compile-function .compile-function .kept .1 .1 .1 .1 .1 .0) (at-compile-function .compile-function .kept .1 .1 .1 .1 .1 .1 .0) (at-insert-method .insert-method .kept .1 .0))  -- loop-again
+    methods-next (at-loop .loop .inv) (start .pre .1 .0) (at-loop-test .loop-test .taken) (at-is-init .is-init .ensures) (at-compile-function .compile-function .ensures) (at-if1 .if1 .left)
+    (at-insert-method .insert-method .ensures) (at-compile-function .compile-function .kept .1 .1 .1 .1 .1 .0) (at-compile-function .compile-function .kept .1 .1 .1 .1 .1 .1 .0)
+    (at-insert-method .insert-method .kept .1 .0))  -- loop-again
     (λ c. let at-loop = c .before in (at-loop .loop .inv) .code-kept)  -- same-length-4
     (λ c. let at-loop = c .before in (at-loop .loop .inv) .tables-kept)  -- same-length-5
     (λ c. let at-loop = c .before in (at-loop .loop .inv) .list-kept)  -- same-length-6

@@ -54,4 +54,5 @@ emit-assign-target-ok t = emit-assign-target-lts.spec (emit-store-reads.Asked, e
     lowers-by (at-emit-elements .emit-elements .ensures) (sym (target-tuple-is _ _ (slotNames (start .args .tree .now) (start .args .slots .now)) _ (start .pre .1 .1) _ (at-match .match .keys2) (u .0))) refl)  -- returns-2
     (λ c. let at-match = c in let start = at-match .before .before .before .before .before .before in
     let n = at-match .match .rest in
-    lowers-state (lowers-nothing (start .pre .1 .2) (sound-of (start .pre .1 .0))) (target-state (sound-of (start .pre .1 .0)) (start .args .depth) (slotNames (start .args .tree .now) (start .args .slots .now)) (start .args .at) (start .pre .1 .1) (n .0 .1) (n .1)))  -- returns-3
+    lowers-state (lowers-nothing (start .pre .1 .2) (sound-of (start .pre .1 .0)))
+    (target-state (sound-of (start .pre .1 .0)) (start .args .depth) (slotNames (start .args .tree .now) (start .args .slots .now)) (start .args .at) (start .pre .1 .1) (n .0 .1) (n .1)))  -- returns-3

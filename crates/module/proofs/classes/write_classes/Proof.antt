@@ -19,15 +19,19 @@ abbrev μ-loop : tie.MeasureT-loop
 
 -- the count is written
 counted : (c : tie.After-slice-known2 Inv-loop μ-loop) → let s = c .before .before .before .before .before .before .before .before .before .args in
-    Begun (classesBytes (s .tree .now) (s .methods .now) (s .names .now) (s .places .now)) (s .out .now) (c .before .before .write-number .result) (c .before .before .write-number .last .1 .1 .0) (pairsFrom (classPiece (s .tree .now) (s .methods .now)) 0 (s .names .now) (s .places .now))
+    Begun (classesBytes (s .tree .now) (s .methods .now) (s .names .now) (s .places .now)) (s .out .now) (c .before .before .write-number .result) (c .before .before .write-number .last .1 .1 .0)
+    (pairsFrom (classPiece (s .tree .now) (s .methods .now)) 0 (s .names .now) (s .places .now))
 counted c = let s = c .before .before .before .before .before .before .before .before .before in begun-first (classes-listed _ _ _ _ (s .pre .1)) (s .pre .2) (c .before .before .write-number .ensures)
 
 -- the class in hand is next
 here : (c : tie.In-loop Inv-loop μ-loop) → let l = c .before .loop in let k = c .before .before .before .before in let s = k .before .before .before .before .before .before .before .args in
-    Begun (classesBytes (s .tree .now) (s .methods .now) (s .names .now) (s .places .now)) (k .write-number .last .1 .1 .0) (l .at) (l .out) (classPiece (s .tree .now) (s .methods .now) (getD (s .names .now) (l .i) 0) (getD (s .places .now) (l .i) 0) ∷ pairsFrom (classPiece (s .tree .now) (s .methods .now)) (l .i + 1) (s .names .now) (s .places .now))
+    Begun (classesBytes (s .tree .now) (s .methods .now) (s .names .now) (s .places .now)) (k .write-number .last .1 .1 .0) (l .at) (l .out)
+    (classPiece (s .tree .now) (s .methods .now) (getD (s .names .now) (l .i) 0) (getD (s .places .now) (l .i) 0) ∷ pairsFrom (classPiece (s .tree .now) (s .methods .now)) (l .i + 1) (s .names .now)
+    (s .places .now))
 here c = begun-as (c .before .loop .inv .1) _ (pairs-next _ (c .before .loop .i) _ _ (c .loop-test .taken) (let s = c .before .before .before .before .before .before .before .before .before .before .before in omega (arith, s .pre .1)))
 
-fits : (c : tie.In-loop Inv-loop μ-loop) → let l = c .before .loop in let s = c .before .before .before .before .before .before .before .before .before .before .before .args in l .at + length (classPiece (s .tree .now) (s .methods .now) (getD (s .names .now) (l .i) 0) (getD (s .places .now) (l .i) 0)) < 2 ^ 64
+fits : (c : tie.In-loop Inv-loop μ-loop) → let l = c .before .loop in let s = c .before .before .before .before .before .before .before .before .before .before .before .args in
+    l .at + length (classPiece (s .tree .now) (s .methods .now) (getD (s .names .now) (l .i) 0) (getD (s .places .now) (l .i) 0)) < 2 ^ 64
 fits c = let b = c .before .before in let s = b .before .before .before .before .before .before .before .before .before in omega (arith, begun-fits (here c), begun-length (here c), begun-length (counted b), s .good)
 
 pub write-classes-spec : {M : Type 1} → statement M

@@ -27,7 +27,8 @@ here : (c : tie.In-loop Inv-loop μ-loop) → let l = c .before .loop in let k =
     Begun (codeBytes (s .tree .now) (s .words .now)) (k .write-number .last .1 .1 .0) (l .at) (l .out) (codePiece (s .tree .now) (getD (s .words .now) (l .i) 0) ∷ pieces (codePiece (s .tree .now)) (l .i + 1) (s .words .now))
 here c = begun-as (c .before .loop .inv .1) _ (pieces-next _ (c .before .loop .i) _ (c .loop-test .taken))
 
-fits : (c : tie.In-loop Inv-loop μ-loop) → let l = c .before .loop in let s = c .before .before .before .before .before .before .before .before .before .args in l .at + length (codePiece (s .tree .now) (getD (s .words .now) (l .i) 0)) < 2 ^ 64
+fits : (c : tie.In-loop Inv-loop μ-loop) → let l = c .before .loop in let s = c .before .before .before .before .before .before .before .before .before .args in
+    l .at + length (codePiece (s .tree .now) (getD (s .words .now) (l .i) 0)) < 2 ^ 64
 fits c = let b = c .before .before in let s = b .before .before .before .before .before .before .before in omega (arith, begun-fits (here c), begun-length (here c), begun-length (counted b), s .good)
 
 pub write-code-spec : {M : Type 1} → statement M

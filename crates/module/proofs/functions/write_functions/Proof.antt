@@ -19,15 +19,19 @@ abbrev μ-loop : tie.MeasureT-loop
 
 -- the count is written
 counted : (c : tie.After-slice-known2 Inv-loop μ-loop) → let s = c .before .before .before .before .before .before .before .before .before .args in
-    Begun (functionsBytes (s .tree .now) (s .finished .now) (s .heads .now) (s .places .now)) (s .out .now) (c .before .before .write-number .result) (c .before .before .write-number .last .1 .1 .0) (pairsFrom (functionPiece (s .tree .now) (s .finished .now)) 0 (s .heads .now) (s .places .now))
+    Begun (functionsBytes (s .tree .now) (s .finished .now) (s .heads .now) (s .places .now)) (s .out .now) (c .before .before .write-number .result) (c .before .before .write-number .last .1 .1 .0)
+    (pairsFrom (functionPiece (s .tree .now) (s .finished .now)) 0 (s .heads .now) (s .places .now))
 counted c = let s = c .before .before .before .before .before .before .before .before .before in begun-first (functions-listed _ _ _ _ (s .pre .1)) (s .pre .2) (c .before .before .write-number .ensures)
 
 -- the function in hand is next
 here : (c : tie.In-loop Inv-loop μ-loop) → let l = c .before .loop in let k = c .before .before .before .before in let s = k .before .before .before .before .before .before .before .args in
-    Begun (functionsBytes (s .tree .now) (s .finished .now) (s .heads .now) (s .places .now)) (k .write-number .last .1 .1 .0) (l .at) (l .out) (functionPiece (s .tree .now) (s .finished .now) (getD (s .heads .now) (l .i) 0) (getD (s .places .now) (l .i) 0) ∷ pairsFrom (functionPiece (s .tree .now) (s .finished .now)) (l .i + 1) (s .heads .now) (s .places .now))
+    Begun (functionsBytes (s .tree .now) (s .finished .now) (s .heads .now) (s .places .now)) (k .write-number .last .1 .1 .0) (l .at) (l .out)
+    (functionPiece (s .tree .now) (s .finished .now) (getD (s .heads .now) (l .i) 0) (getD (s .places .now) (l .i) 0) ∷ pairsFrom (functionPiece (s .tree .now) (s .finished .now)) (l .i + 1)
+    (s .heads .now) (s .places .now))
 here c = begun-as (c .before .loop .inv .1) _ (pairs-next _ (c .before .loop .i) _ _ (c .loop-test .taken) (let s = c .before .before .before .before .before .before .before .before .before .before .before in omega (arith, s .pre .1)))
 
-fits : (c : tie.In-loop Inv-loop μ-loop) → let l = c .before .loop in let s = c .before .before .before .before .before .before .before .before .before .before .before .args in l .at + length (functionPiece (s .tree .now) (s .finished .now) (getD (s .heads .now) (l .i) 0) (getD (s .places .now) (l .i) 0)) < 2 ^ 64
+fits : (c : tie.In-loop Inv-loop μ-loop) → let l = c .before .loop in let s = c .before .before .before .before .before .before .before .before .before .before .before .args in
+    l .at + length (functionPiece (s .tree .now) (s .finished .now) (getD (s .heads .now) (l .i) 0) (getD (s .places .now) (l .i) 0)) < 2 ^ 64
 fits c = let b = c .before .before in let s = b .before .before .before .before .before .before .before .before .before in omega (arith, begun-fits (here c), begun-length (here c), begun-length (counted b), s .good)
 
 pub write-functions-spec : {M : Type 1} → statement M

@@ -84,12 +84,18 @@ write-bodies-spec = tie.close (tie.spec
     (λ c. search needs)
     (λ c κs. let w = c .before .before .before .before .before .before in let s = w .before .before .before .before .before .before .before .before .before .before .before .before .before .before .before in
     (omega (arith, few classNamesFrom 64 (s .args .tables .now) (w .before .before .before .before .before .words-part3 .ensures) (s .pre .0 .classes)), classes-alike w, begun-piece (begun (c .before))))
-    (λ c. let k = c .before .before .before .before in let b = begun k in let s = k .before .before .before .before .before .before .before .before .before .before .before .before .before .before .before .before .before .before .before .before in
+    (λ c.
+    let k = c .before .before .before .before in
+    let b = begun k in
+    let s = k .before .before .before .before .before .before .before .before .before .before .before .before .before .before .before .before .before .before .before .before in
     omega (arith, begun-fits b, begun-length b, c .before .before .write-classes .ensures .count, s .good))
     (λ c. omega (arith, begun-fits (begun-next (begun (c .before .before .before .before)) (c .before .before .write-classes .ensures))))
     (λ c. omega (arith, begun-fits (begun-next (begun (c .before .before .before .before)) (c .before .before .write-classes .ensures))))
     (λ c. search needs)
-    (λ c κs. let k = c .before .before .before .before .before in let w = k .before .before .before .before .before in let s = w .before .before .before .before .before .before .before .before .before .before .before .before .before .before .before in
+    (λ c κs.
+    let k = c .before .before .before .before .before in
+    let w = k .before .before .before .before .before in
+    let s = w .before .before .before .before .before .before .before .before .before .before .before .before .before .before .before in
     (omega (arith, few constantsFrom 64 (s .args .tables .now) (w .words-part6 .ensures) (s .pre .0 .constants)), begun-piece (begun-next (begun k) (c .before .before .before .write-classes .ensures))))
     (λ c. let j = c .before .before .before .before in let k = j .before .before .before .before in let b = begun-next (begun k) (j .before .before .write-classes .ensures) in
     let s = k .before .before .before .before .before .before .before .before .before .before .before .before .before .before .before .before .before .before .before .before in

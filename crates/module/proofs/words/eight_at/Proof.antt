@@ -3,9 +3,10 @@ use native.Mathlib.Omega.{arith}
 use mathlib.Core.Path.{_≡_, sym, ap, _∙_}
 use Prim.Native.Nat.{ℕ, _+_, _*_, _-_, _^_, _<_, _≤_}
 use Rattle.state.specs.Words.{numberAt}
-use Rattle.module.proofs.Encoding.{horner, grows, small-one, number-start, number-all}
+use Rattle.module.proofs.Encoding.{horner, small-one, number-start, number-all}
 use Rattle.module.proofs.words.eight_at.Statement.{statement}
 use Rattle.module.proofs.words.eight_at.Tie as tie
+use Rattle.definitions.proofs.Writes.{grows}
 
 abbrev Inv-loop : tie.InvT-loop
 Inv-loop bytes at n₀ i₀ n i = (i ≤ 8) × (n < 256 ^ i) × (numberAt 8 bytes at ≡ n * 256 ^ (8 - i) + numberAt (8 - i) bytes (at + i))

@@ -4,9 +4,9 @@ use mathlib.Core.Path.{sym, ap, _∙_}
 use Prim.Native.Nat.{ℕ, _+_}
 use Rattle.definitions.specs.Instruction.{firstWidth, secondWidth}
 use Rattle.state.specs.Words.{instrOf}
-use Rattle.module.proofs.Encoding.{length-encode}
 use Rattle.module.proofs.words.instruction_size.Statement.{statement}
 use Rattle.module.proofs.words.instruction_size.Tie as tie
+use Rattle.definitions.proofs.Lengths.{length-encode}
 
 pub instruction-size-spec : {M : Type 1} → statement M
 instruction-size-spec = tie.close (tie.spec

@@ -6,9 +6,10 @@ use Rattle.definitions.specs.Bytes.{be}
 use Rattle.definitions.specs.Instruction.{encode}
 use Rattle.state.specs.Words.{instrOf}
 use Rattle.writing.proofs.Begun.{Begun, begun-length, begun-fits, begun-number, begun-next, begun-done}
-use Rattle.module.proofs.Encoding.{length-encode, wrote-alone, begun-word}
+use Rattle.module.proofs.Encoding.{wrote-alone, begun-word}
 use Rattle.module.proofs.words.write_instruction.Statement.{statement}
 use Rattle.module.proofs.words.write_instruction.Tie as tie
+use Rattle.definitions.proofs.Lengths.{length-encode}
 
 -- the opcode of an instruction with operands is written
 begun : (c : tie.After-second-operand) → let f = c .before .before .before .before .before in let a = f .before .before .before .before .args in
@@ -50,6 +51,7 @@ write-instruction-spec = tie.close (tie.spec
     (λ c. search needs)
     (λ c κs. let p = c .before .before .before in begun-number _ _ (begun-next (begun (p .before .before)) (p .write-number .ensures)))
     (λ c. let q = c .before .before in let p = q .before .before .before .before in
-    let b = begun-next (begun-next (begun (p .before .before)) (p .write-number .ensures)) (q .write-number2 .ensures) in let s = p .before .before .before .before .before .before .before .before .before .before .before in omega (arith, begun-done b .count, s .pre, s .good))
+    let b = begun-next (begun-next (begun (p .before .before)) (p .write-number .ensures)) (q .write-number2 .ensures) in
+    let s = p .before .before .before .before .before .before .before .before .before .before .before in omega (arith, begun-done b .count, s .pre, s .good))
     (λ c. let q = c .before .before in let p = q .before .before .before .before in begun-length (begun-next (begun-next (begun (p .before .before)) (p .write-number .ensures)) (q .write-number2 .ensures)))
     (λ c. let q = c .before .before in let p = q .before .before .before .before in begun-done (begun-next (begun-next (begun (p .before .before)) (p .write-number .ensures)) (q .write-number2 .ensures))))

@@ -14,4 +14,8 @@ find-slot-spec = tie.close (tie.spec
     (λ c. search needs)  -- part-find-from-end
     (λ c κs. search needs)  -- find-from-requires
     (λ c. search needs)  -- cast-result
-    (λ c. let b = c .before .before .before in let s = b .before .before .before .before in let a = s .args in slot-found (a .tree .now) (a .slots .now) _ _ _ _ (s .pre) (b .before .name-part .ensures .0) (b .slot-bucket .ensures .0) (c .find-from .ensures .0)))  -- returns
+    (λ c.
+    let b = c .before .before .before in
+    let s = b .before .before .before .before in
+    let a = s .args in
+    slot-found (a .tree .now) (a .slots .now) _ _ _ _ (s .pre) (b .before .name-part .ensures .0) (b .slot-bucket .ensures .0) (c .find-from .ensures .0)))  -- returns

@@ -25,8 +25,23 @@ find-place-spec = tie.close (tie.spec Inv-loop μ-loop
     (λ c. omega (arith, c .shared-slice-known4 .given (c .before .before .loop .i)))  -- cast-at
     (λ c κs. search needs)  -- name-part-requires
     (λ c κs. search needs)  -- same-bytes-requires
-    (λ c. let l = c .before .before .before .before .before in let a = l .before .before .before .before .args in seek-here (λ w. same (a .name .now) (nameAt (a .tree .now) w)) (a .words .now) _ (l .loop .i) (c .before .before .before .before .loop-test .taken) (ap (same (a .name .now)) (sym (c .before .before .name-part .ensures .0)) ∙ sym (c .before .same-bytes .ensures) ∙ c .if1 .taken) (l .loop .inv .1) ∙ found-map (same (a .name .now)) (nameAt (a .tree .now)) _ (a .words .now))  -- returns
+    (λ c. let at-same-bytes = c .before in let at-name-part = at-same-bytes .before in let at-loop-test = at-name-part .before .before in
+    let l = c .before .before .before .before .before in
+    let a = l .before .before .before .before .args in
+    seek-here (λ w. same (a .name .now) (nameAt (a .tree .now) w)) (a .words .now) _ (l .loop .i) (at-loop-test .loop-test .taken)
+    (ap (same (a .name .now)) (sym (at-name-part .name-part .ensures .0)) ∙ sym (at-same-bytes .same-bytes .ensures) ∙ c .if1 .taken) (l .loop .inv .1)
+    ∙ found-map (same (a .name .now)) (nameAt (a .tree .now)) _ (a .words .now))  -- returns
     (λ c. omega arith)  -- add-i
     (λ c. omega arith)  -- loop-less
-    (λ c. let l = c .before .before .before .before .before in let a = l .before .before .before .before .args in (omega arith, seek-next (λ w. same (a .name .now) (nameAt (a .tree .now) w)) (a .words .now) (l .loop .i) (c .before .before .before .before .loop-test .taken) (ap (same (a .name .now)) (sym (c .before .before .name-part .ensures .0)) ∙ sym (c .before .same-bytes .ensures) ∙ c .if1 .left) (l .loop .inv .1)))  -- loop-again
-    (λ c. let l = c .before in let a = l .before .before .before .before .args in seek-end (λ w. same (a .name .now) (nameAt (a .tree .now) w)) (a .words .now) (l .loop .i) (l .loop .inv .0) (c .loop-test .left) (l .loop .inv .1) ∙ found-map (same (a .name .now)) (nameAt (a .tree .now)) _ (a .words .now)))  -- returns-2
+    (λ c. let at-same-bytes = c .before in let at-name-part = at-same-bytes .before in let at-loop-test = at-name-part .before .before in
+    let l = c .before .before .before .before .before in
+    let a = l .before .before .before .before .args in (
+      omega arith,
+      seek-next (λ w. same (a .name .now) (nameAt (a .tree .now) w)) (a .words .now) (l .loop .i) (at-loop-test .loop-test .taken)
+          (ap (same (a .name .now)) (sym (at-name-part .name-part .ensures .0)) ∙ sym (at-same-bytes .same-bytes .ensures) ∙ c .if1 .left) (l .loop .inv .1),
+    ))  -- loop-again
+    (λ c.
+    let l = c .before in
+    let a = l .before .before .before .before .args in
+    seek-end (λ w. same (a .name .now) (nameAt (a .tree .now) w)) (a .words .now) (l .loop .i) (l .loop .inv .0) (c .loop-test .left) (l .loop .inv .1)
+    ∙ found-map (same (a .name .now)) (nameAt (a .tree .now)) _ (a .words .now)))  -- returns-2

@@ -21,8 +21,22 @@ find-spelling-spec = tie.close (tie.spec Inv-loop μ-loop
     (λ c. omega arith)  -- mul-is-spelled
     (λ c. omega arith)  -- shared-slice-read-is-spelled
     (λ c κs. search needs)  -- is-spelled-requires
-    (λ c. let l = c .before .before .before .before in let a = l .before .before .before .before .before .args in seek-here (λ w. same (a .name .now) (spelled (a .tree .now) (a .made .now) w)) (a .words .now) _ (l .loop .i) (c .before .before .before .loop-test .taken) (sym (c .before .is-spelled .ensures) ∙ c .if1 .taken) (l .loop .inv .1) ∙ found-map (same (a .name .now)) (spelled (a .tree .now) (a .made .now)) _ (a .words .now))  -- returns
+    (λ c. let at-is-spelled = c .before in let at-loop-test = at-is-spelled .before .before in
+    let l = c .before .before .before .before in
+    let a = l .before .before .before .before .before .args in
+    seek-here (λ w. same (a .name .now) (spelled (a .tree .now) (a .made .now) w)) (a .words .now) _ (l .loop .i) (at-loop-test .loop-test .taken)
+    (sym (at-is-spelled .is-spelled .ensures) ∙ c .if1 .taken) (l .loop .inv .1) ∙ found-map (same (a .name .now)) (spelled (a .tree .now) (a .made .now)) _ (a .words .now))  -- returns
     (λ c. omega arith)  -- add-i
     (λ c. omega arith)  -- loop-less
-    (λ c. let l = c .before .before .before .before in let a = l .before .before .before .before .before .args in (omega arith, seek-next (λ w. same (a .name .now) (spelled (a .tree .now) (a .made .now) w)) (a .words .now) (l .loop .i) (c .before .before .before .loop-test .taken) (sym (c .before .is-spelled .ensures) ∙ c .if1 .left) (l .loop .inv .1)))  -- loop-again
-    (λ c. let l = c .before in let a = l .before .before .before .before .before .args in seek-end (λ w. same (a .name .now) (spelled (a .tree .now) (a .made .now) w)) (a .words .now) (l .loop .i) (l .loop .inv .0) (c .loop-test .left) (l .loop .inv .1) ∙ found-map (same (a .name .now)) (spelled (a .tree .now) (a .made .now)) _ (a .words .now)))  -- returns-2
+    (λ c. let at-is-spelled = c .before in let at-loop-test = at-is-spelled .before .before in
+    let l = c .before .before .before .before in
+    let a = l .before .before .before .before .before .args in (
+      omega arith,
+      seek-next (λ w. same (a .name .now) (spelled (a .tree .now) (a .made .now) w)) (a .words .now) (l .loop .i) (at-loop-test .loop-test .taken)
+          (sym (at-is-spelled .is-spelled .ensures) ∙ c .if1 .left) (l .loop .inv .1),
+    ))  -- loop-again
+    (λ c.
+    let l = c .before in
+    let a = l .before .before .before .before .before .args in
+    seek-end (λ w. same (a .name .now) (spelled (a .tree .now) (a .made .now) w)) (a .words .now) (l .loop .i) (l .loop .inv .0) (c .loop-test .left) (l .loop .inv .1)
+    ∙ found-map (same (a .name .now)) (spelled (a .tree .now) (a .made .now)) _ (a .words .now)))  -- returns-2

@@ -1,6 +1,4 @@
 use native.Mathlib.Omega.{arith}
-use mathlib.Core.Path.{_≡_, refl, sym, ap, _∙_}
-use borrow.Author.Needs.{needs}
 use lib.ListN.{length-set}
 use Rattle.definitions.proofs.Decimals.{one-digit, more-digits}
 use Rattle.names.proofs.Pasting.{paste-digit, paste-digits}
@@ -39,10 +37,43 @@ paste-decimal-ok t = paste-decimal-lts.spec (paste-decimal-below t, paste-decima
     (λ c κs. let s = c .before .before .before in let a = s .args in let h = s .pre .1 in let k = more-digits (a .n) (c .before .if1 .left) in (omega arith, omega arith))  -- paste-decimal-requires
     (λ c. omega arith)  -- cast-bytes-2
     (λ c. omega arith)  -- add-bytes-2
-    (λ c. let r = c .before .before in let s = r .before .before .before .before in let a = s .args in let h = s .pre .1 in let g = r .before .before .if1 .left in let k = more-digits (a .n) g in let e = r .paste-decimal .ensures in let q = r .paste-decimal .kept .0 in omega arith)  -- slice-write-bytes-2
-    (λ c. let r = c .before .before in let s = r .before .before .before .before in let a = s .args in let h = s .pre .1 in let g = r .before .before .if1 .left in let k = more-digits (a .n) g in let e = r .paste-decimal .ensures in omega arith)  -- add-result-2
-    (λ c. let r = c .before .before in let s = r .before .before .before .before in let a = s .args in let h = s .pre .1 in let g = r .before .before .if1 .left in let k = more-digits (a .n) g in let e = r .paste-decimal .ensures in simp length-set (r .paste-decimal .kept .0))  -- same-length-2
-    (λ c. let r = c .before .before in let s = r .before .before .before .before in let a = s .args in let h = s .pre .1 in let g = r .before .before .if1 .left in let k = more-digits (a .n) g in let e = r .paste-decimal .ensures in (omega arith, paste-digits (a .at) (a .n) (r .paste-decimal .result) (a .bytes .now) (r .paste-decimal .last .0) g h (e .0) (e .1)))  -- returns-2
+    (λ c.
+    let r = c .before .before in
+    let s = r .before .before .before .before in
+    let a = s .args in
+    let h = s .pre .1 in
+    let g = r .before .before .if1 .left in
+    let k = more-digits (a .n) g in
+    let e = r .paste-decimal .ensures in
+    let q = r .paste-decimal .kept .0 in
+    omega arith)  -- slice-write-bytes-2
+    (λ c.
+    let r = c .before .before in
+    let s = r .before .before .before .before in
+    let a = s .args in
+    let h = s .pre .1 in
+    let g = r .before .before .if1 .left in
+    let k = more-digits (a .n) g in
+    let e = r .paste-decimal .ensures in
+    omega arith)  -- add-result-2
+    (λ c.
+    let r = c .before .before in
+    let s = r .before .before .before .before in
+    let a = s .args in
+    let h = s .pre .1 in
+    let g = r .before .before .if1 .left in
+    let k = more-digits (a .n) g in
+    let e = r .paste-decimal .ensures in
+    simp length-set (r .paste-decimal .kept .0))  -- same-length-2
+    (λ c.
+    let r = c .before .before in
+    let s = r .before .before .before .before in
+    let a = s .args in
+    let h = s .pre .1 in
+    let g = r .before .before .if1 .left in
+    let k = more-digits (a .n) g in
+    let e = r .paste-decimal .ensures in
+    (omega arith, paste-digits (a .at) (a .n) (r .paste-decimal .result) (a .bytes .now) (r .paste-decimal .last .0) g h (e .0) (e .1)))  -- returns-2
 
 pub +paste-decimal-spec : {M : Type 1} → statement M
 +paste-decimal-spec = close μ-paste-decimal paste-decimal-ok

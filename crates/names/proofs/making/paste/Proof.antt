@@ -21,7 +21,14 @@ paste-spec = tie.close (tie.spec Inv-loop μ-loop
     (λ c. omega arith)  -- slice-write-bytes
     (λ c. omega arith)  -- add-i
     (λ c. omega arith)  -- loop-less
-    (λ c. let l = c .before .before in let a = l .before .args in (omega arith, paste-step (a .part .now) (a .at) (l .loop .i) (a .bytes .now) (l .loop .bytes) (c .before .loop-test .taken) (l .before .pre) (l .loop .inv .1), length-set (l .loop .bytes) _ _ ∙ l .loop .inv .2))  -- loop-again
+    (λ c. let at-loop-test = c .before in
+    let l = c .before .before in
+    let a = l .before .args in (
+      omega arith,
+      paste-step (a .part .now) (a .at) (l .loop .i) (a .bytes .now) (l .loop .bytes) (at-loop-test .loop-test .taken) (l .before .pre) (l .loop .inv .1),
+      length-set (l .loop .bytes) _ _
+          ∙ l .loop .inv .2,
+    ))  -- loop-again
     (λ c. omega arith)  -- add-result
     (λ c. c .before .loop .inv .2)  -- same-length
     (λ c. let l = c .before in let a = l .before .args in (omega arith, paste-all (a .part .now) (a .at) (l .loop .i) (a .bytes .now) (l .loop .bytes) (c .loop-test .left) (l .loop .inv .1))))  -- returns

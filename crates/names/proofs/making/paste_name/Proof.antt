@@ -30,14 +30,38 @@ paste-name-spec = tie.close (tie.spec
     (λ c. search needs)  -- slice-aggregate-paste-numbered-4
     (λ c κs. let t = c .before .before .before .before in let s = t .before .before .before in fits-as _ _ (s .args .at) (s .args .bytes .now) (sym (ap madeName (t .m2 .given .1))) (s .pre))  -- paste-numbered-requires-2
     (λ c. search needs)  -- same-length
-    (λ c. let r = c .before .before in let t = r .before .before .before in let s = t .before .before .before in paste-as _ _ (s .args .at) _ (s .args .bytes .now) _ (sym (ap madeName (t .enum-told .given .1))) (r .paste .ensures))  -- returns
+    (λ c.
+    let r = c .before .before in
+    let t = r .before .before .before in
+    let s = t .before .before .before in
+    paste-as _ _ (s .args .at) _ (s .args .bytes .now) _ (sym (ap madeName (t .enum-told .given .1))) (r .paste .ensures))  -- returns
     (λ c. search needs)  -- same-length-2
-    (λ c. let r = c .before .before in let t = r .before .before .before in let s = t .before .before .before in paste-as _ _ (s .args .at) _ (s .args .bytes .now) _ (sym (ap madeName (t .enum-told2 .given .1))) (r .paste2 .ensures))  -- returns-2
+    (λ c.
+    let r = c .before .before in
+    let t = r .before .before .before in
+    let s = t .before .before .before in
+    paste-as _ _ (s .args .at) _ (s .args .bytes .now) _ (sym (ap madeName (t .enum-told2 .given .1))) (r .paste2 .ensures))  -- returns-2
     (λ c. search needs)  -- same-length-3
-    (λ c. let r = c .before .before in let t = r .before .before .before in let s = t .before .before .before in paste-as _ _ (s .args .at) _ (s .args .bytes .now) _ (sym (ap madeName (t .enum-told3 .given .1))) (r .paste3 .ensures))  -- returns-3
+    (λ c.
+    let r = c .before .before in
+    let t = r .before .before .before in
+    let s = t .before .before .before in
+    paste-as _ _ (s .args .at) _ (s .args .bytes .now) _ (sym (ap madeName (t .enum-told3 .given .1))) (r .paste3 .ensures))  -- returns-3
     (λ c. search needs)  -- same-length-4
-    (λ c. let r = c .before .before in let t = r .before .before .before in let s = t .before .before .before in paste-as _ _ (s .args .at) _ (s .args .bytes .now) _ (sym (ap madeName (t .enum-told4 .given .1))) (r .paste4 .ensures))  -- returns-4
+    (λ c.
+    let r = c .before .before in
+    let t = r .before .before .before in
+    let s = t .before .before .before in
+    paste-as _ _ (s .args .at) _ (s .args .bytes .now) _ (sym (ap madeName (t .enum-told4 .given .1))) (r .paste4 .ensures))  -- returns-4
     (λ c. search needs)  -- same-length-5
-    (λ c. let r = c .before .before in let t = r .before .before .before .before .before in let s = t .before .before .before in paste-as _ _ (s .args .at) _ (s .args .bytes .now) _ (sym (ap madeName (t .m .given .1))) (r .paste-numbered .ensures))  -- returns-5
+    (λ c.
+    let r = c .before .before in
+    let t = r .before .before .before .before .before in
+    let s = t .before .before .before in
+    paste-as _ _ (s .args .at) _ (s .args .bytes .now) _ (sym (ap madeName (t .m .given .1))) (r .paste-numbered .ensures))  -- returns-5
     (λ c. search needs)  -- same-length-6
-    (λ c. let r = c .before .before in let t = r .before .before .before .before .before in let s = t .before .before .before in paste-as _ _ (s .args .at) _ (s .args .bytes .now) _ (sym (ap madeName (t .m2 .given .1))) (r .paste-numbered2 .ensures)))  -- returns-6
+    (λ c.
+    let r = c .before .before in
+    let t = r .before .before .before .before .before in
+    let s = t .before .before .before in
+    paste-as _ _ (s .args .at) _ (s .args .bytes .now) _ (sym (ap madeName (t .m2 .given .1))) (r .paste-numbered2 .ensures)))  -- returns-6

@@ -15,4 +15,9 @@ write-made-spec = tie.close (tie.spec
     (λ c. search needs)  -- cast-result
     (λ c. search needs)  -- add-result
     (λ c. search needs)  -- same-length
-    (λ c. let r = c .before .before in let s = r .before .before .before in let a = s .args in let e = r .paste-name .ensures .0 in (omega arith, stands-set (madeName (a .m)) (a .at) _ (a .bytes .now) _ (s .pre .0) (r .paste-name .ensures .1) (omega arith))))  -- returns
+    (λ c.
+    let r = c .before .before in
+    let s = r .before .before .before in
+    let a = s .args in
+    let e = r .paste-name .ensures .0 in
+    (omega arith, stands-set (madeName (a .m)) (a .at) _ (a .bytes .now) _ (s .pre .0) (r .paste-name .ensures .1) (omega arith))))  -- returns

@@ -22,6 +22,32 @@ find-symbol-spec = tie.close (tie.spec
     (λ c. search needs)  -- part-find-spelling-start
     (λ c. search needs)  -- part-find-spelling-end
     (λ c κs. search needs)  -- find-spelling-requires
-    (λ c. let n = c .before .before in let h = n .before in let s = h .before .before .before .before .before .before in let a = s .args in omega (arith, indexed-le (spelled (a .tree .now) (a .made .now)) (a .tables .now) _ symbolBuckets 0 (a .n) (a .name .now) _ _ (c .find-spelling .result) _ _ (omega (arith, s .pre)) (s .pre .2) (bucket-is symbolBuckets (a .name .now) _ _ (h .hash .ensures .0) refl) (n .first-number .ensures .0) (sym (zero-add _)) refl (c .find-spelling .ensures), s .pre))  -- cast-result
-    (λ c. let n = c .before .before in let h = n .before in let s = h .before .before .before .before .before .before in let a = s .args in omega (arith, indexed-le (spelled (a .tree .now) (a .made .now)) (a .tables .now) _ symbolBuckets 0 (a .n) (a .name .now) _ _ (c .find-spelling .result) _ _ (omega (arith, s .pre)) (s .pre .2) (bucket-is symbolBuckets (a .name .now) _ _ (h .hash .ensures .0) refl) (n .first-number .ensures .0) (sym (zero-add _)) refl (c .find-spelling .ensures), s .pre))  -- add-result
-    (λ c. let n = c .before .before in let h = n .before in let s = h .before .before .before .before .before .before in let a = s .args in indexed-found (spelled (a .tree .now) (a .made .now)) (a .tables .now) _ symbolBuckets 0 (a .n) (a .name .now) _ _ (c .find-spelling .result) _ _ (omega (arith, s .pre)) (s .pre .2) (bucket-is symbolBuckets (a .name .now) _ _ (h .hash .ensures .0) refl) (n .first-number .ensures .0) (sym (zero-add _)) refl (c .find-spelling .ensures)))  -- returns
+    (λ c.
+    let n = c .before .before in
+    let h = n .before in
+    let s = h .before .before .before .before .before .before in
+    let a = s .args in
+    omega (
+      arith,
+      indexed-le (spelled (a .tree .now) (a .made .now)) (a .tables .now) _ symbolBuckets 0 (a .n) (a .name .now) _ _ (c .find-spelling .result) _ _ (omega (arith, s .pre)) (s .pre .2)
+          (bucket-is symbolBuckets (a .name .now) _ _ (h .hash .ensures .0) refl) (n .first-number .ensures .0) (sym (zero-add _)) refl (c .find-spelling .ensures),
+      s .pre,
+    ))  -- cast-result
+    (λ c.
+    let n = c .before .before in
+    let h = n .before in
+    let s = h .before .before .before .before .before .before in
+    let a = s .args in
+    omega (
+      arith,
+      indexed-le (spelled (a .tree .now) (a .made .now)) (a .tables .now) _ symbolBuckets 0 (a .n) (a .name .now) _ _ (c .find-spelling .result) _ _ (omega (arith, s .pre)) (s .pre .2)
+          (bucket-is symbolBuckets (a .name .now) _ _ (h .hash .ensures .0) refl) (n .first-number .ensures .0) (sym (zero-add _)) refl (c .find-spelling .ensures),
+      s .pre,
+    ))  -- add-result
+    (λ c.
+    let n = c .before .before in
+    let h = n .before in
+    let s = h .before .before .before .before .before .before in
+    let a = s .args in
+    indexed-found (spelled (a .tree .now) (a .made .now)) (a .tables .now) _ symbolBuckets 0 (a .n) (a .name .now) _ _ (c .find-spelling .result) _ _ (omega (arith, s .pre)) (s .pre .2)
+    (bucket-is symbolBuckets (a .name .now) _ _ (h .hash .ensures .0) refl) (n .first-number .ensures .0) (sym (zero-add _)) refl (c .find-spelling .ensures)))  -- returns

@@ -21,5 +21,11 @@ distinct-few-spec = tie.close (tie.spec Inv-loop μ-loop
     (λ c. let s = c .before in let t = s .before .before in let l = t .before in sym (l .loop .inv .0 ∙ distinct-stop _ _ _ _ _ (s .before .name-end .ensures) (t .loop-test .taken) (s .occurs .ensures) (c .if1 .taken)))  -- returns
     (λ c. omega arith)  -- sub-left
     (λ c. omega arith)  -- loop-less
-    (λ c. let s = c .before in let t = s .before .before in let l = t .before in (l .loop .inv .0 ∙ distinct-go _ _ _ _ _ (s .before .name-end .ensures) (t .loop-test .taken) (s .occurs .ensures) (c .if1 .left), there-next _ _ _ _ (s .before .name-end .ensures) (t .loop-test .taken) (l .loop .inv .1)))  -- loop-again
+    (λ c.
+    let s = c .before in
+    let t = s .before .before in
+    let l = t .before in (
+      l .loop .inv .0 ∙ distinct-go _ _ _ _ _ (s .before .name-end .ensures) (t .loop-test .taken) (s .occurs .ensures) (c .if1 .left),
+      there-next _ _ _ _ (s .before .name-end .ensures) (t .loop-test .taken) (l .loop .inv .1),
+    ))  -- loop-again
     (λ c. let l = c .before in sym (l .loop .inv .0 ∙ distinct-none _ _ _ (c .loop-test .left))))  -- returns-2

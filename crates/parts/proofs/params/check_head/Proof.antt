@@ -16,12 +16,38 @@ check-head-spec = tie.close (tie.spec
     (λ c κs. let f = c .before in judged-within _ _ _ _ _ _ _ (sym (f .before .before .check-name .ensures) ∙ f .first .given .1))  -- check-params-requires
     (λ c. search needs)  -- enum-known-second
     (λ c. search needs)  -- enum-told-2
-    (λ c. let k = c .enum-told2 .given in let s = c .before .before in let f = s .before .before in k .1 ∙ sym (then-next _ _ _ _ (sym (f .before .before .check-name .ensures) ∙ f .first .given .1) ∙ then-refused _ _ _ (sym (s .check-params .ensures) ∙ k .1)))  -- returns-2
-    (λ c κs. let g = c .before in let f = g .before .before .before .before in let e₂ = sym (g .before .before .check-params .ensures) ∙ g .second .given .1 in let e₁ = sym (f .before .before .check-name .ensures) ∙ f .first .given .1 in judged-within _ _ _ _ _ _ _ e₁)  -- number-at-requires
+    (λ c.
+    let k = c .enum-told2 .given in
+    let s = c .before .before in
+    let f = s .before .before in
+    k .1 ∙ sym (then-next _ _ _ _ (sym (f .before .before .check-name .ensures) ∙ f .first .given .1) ∙ then-refused _ _ _ (sym (s .check-params .ensures) ∙ k .1)))  -- returns-2
+    (λ c κs.
+    let g = c .before in
+    let f = g .before .before .before .before in
+    let e₂ = sym (g .before .before .check-params .ensures) ∙ g .second .given .1 in
+    let e₁ = sym (f .before .before .check-name .ensures) ∙ f .first .given .1 in
+    judged-within _ _ _ _ _ _ _ e₁)  -- number-at-requires
     (λ c. search needs)  -- enum-known-count
     (λ c. search needs)  -- enum-known-count-2
-    (λ c κs. let g = c .before .before .before .before .before in let f = g .before .before .before .before in let e₂ = sym (g .before .before .check-params .ensures) ∙ g .second .given .1 in let e₁ = sym (f .before .before .check-name .ensures) ∙ f .first .given .1 in name-at-is _ _ _ _ _ e₁)  -- name-part-requires
+    (λ c κs.
+    let g = c .before .before .before .before .before in
+    let f = g .before .before .before .before in
+    let e₂ = sym (g .before .before .check-params .ensures) ∙ g .second .given .1 in
+    let e₁ = sym (f .before .before .check-name .ensures) ∙ f .first .given .1 in
+    name-at-is _ _ _ _ _ e₁)  -- name-part-requires
     (λ c κs. search needs)  -- may-have-requires
     (λ c κs. search needs)  -- noted-requires
-    (λ c. let g = c .before .before .before .before .before in let f = g .before .before .before .before in let e₂ = sym (g .before .before .check-params .ensures) ∙ g .second .given .1 in let e₁ = sym (f .before .before .check-name .ensures) ∙ f .first .given .1 in sym (then-next _ _ _ _ e₁ ∙ then-next _ _ _ _ e₂ ∙ with-unread _ _ _ (sym (c .before .before .before .number-at .ensures) ∙ c .before .count .given .1)))  -- returns-3
-    (λ c. let g = c .before .before .before .before .before .before .before .before in let f = g .before .before .before .before in let e₂ = sym (g .before .before .check-params .ensures) ∙ g .second .given .1 in let e₁ = sym (f .before .before .check-name .ensures) ∙ f .first .given .1 in let n = c .before .before .before .before in head-close _ _ _ _ _ (n .count2 .given .0 .0) _ _ (c .noted .ensures) (c .before .may-have .ensures) (c .before .before .name-part .ensures .0) ∙ sym (then-next _ _ _ _ e₁ ∙ then-next _ _ _ _ e₂ ∙ with-number _ _ _ _ (sym (n .before .before .number-at .ensures) ∙ n .count2 .given .1))))  -- returns-4
+    (λ c. let at-count = c .before in let at-number-at = at-count .before .before in
+    let g = c .before .before .before .before .before in
+    let f = g .before .before .before .before in
+    let e₂ = sym (g .before .before .check-params .ensures) ∙ g .second .given .1 in
+    let e₁ = sym (f .before .before .check-name .ensures) ∙ f .first .given .1 in
+    sym (then-next _ _ _ _ e₁ ∙ then-next _ _ _ _ e₂ ∙ with-unread _ _ _ (sym (at-number-at .number-at .ensures) ∙ at-count .count .given .1)))  -- returns-3
+    (λ c. let at-may-have = c .before in let at-name-part = at-may-have .before in
+    let g = c .before .before .before .before .before .before .before .before in
+    let f = g .before .before .before .before in
+    let e₂ = sym (g .before .before .check-params .ensures) ∙ g .second .given .1 in
+    let e₁ = sym (f .before .before .check-name .ensures) ∙ f .first .given .1 in
+    let n = c .before .before .before .before in
+    head-close _ _ _ _ _ (n .count2 .given .0 .0) _ _ (c .noted .ensures) (at-may-have .may-have .ensures) (at-name-part .name-part .ensures .0)
+    ∙ sym (then-next _ _ _ _ e₁ ∙ then-next _ _ _ _ e₂ ∙ with-number _ _ _ _ (sym (n .before .before .number-at .ensures) ∙ n .count2 .given .1))))  -- returns-4

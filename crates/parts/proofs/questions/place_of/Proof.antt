@@ -5,9 +5,9 @@ use lib.Dec.{eqb}
 use Rattle.definitions.specs.Bytes.{position}
 use Rattle.definitions.specs.Wellformed.{blockQuestions}
 use Rattle.parts.proofs.LeafLaws.{placed, question-from}
-use Rattle.parts.proofs.Laws.{up}
 use Rattle.parts.proofs.questions.place_of.Statement.{statement}
 use Rattle.parts.proofs.questions.place_of.Tie as tie
+use Rattle.definitions.proofs.Truth.{up}
 
 pub place-of-spec : {M : Type 1} → statement M
 unfolding blockQuestions position

@@ -3,9 +3,9 @@ use native.Mathlib.Omega.{arith}
 use lib.ListN.{getElem?}
 use Rattle.definitions.specs.Wellformed.{blockQuestions}
 use Rattle.parts.proofs.LeafLaws.{last-question}
-use Rattle.parts.proofs.Laws.{up}
 use Rattle.parts.proofs.questions.question_at.Statement.{statement}
 use Rattle.parts.proofs.questions.question_at.Tie as tie
+use Rattle.definitions.proofs.Truth.{up}
 
 pub question-at-spec : {M : Type 1} → statement M
 unfolding blockQuestions

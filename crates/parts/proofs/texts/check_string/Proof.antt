@@ -21,4 +21,8 @@ check-string-spec = tie.close (tie.spec
     (λ c κs. search needs)  -- is-utf8-requires
     (λ c κs. search needs)  -- noted-requires
     (λ c. let s = c .before in sym (text-unread _ _ _ _ (s .before .before .before .before .pre) (sym (s .before .before .number-at .ensures) ∙ s .count .given .1)))  -- returns-2
-    (λ c. let i = c .before .before .before in let s = i .before .before in let e = sym (s .before .before .number-at .ensures) ∙ s .count2 .given .1 in text-whole _ _ _ _ _ _ _ (c .noted .ensures) (s .before .before .before .before .pre) e (number-within _ _ _ _ e) (i .if1 .left) (c .before .is-utf8 .ensures)))  -- returns-3
+    (λ c. let at-is-utf8 = c .before in
+    let i = c .before .before .before in
+    let s = i .before .before in
+    let e = sym (s .before .before .number-at .ensures) ∙ s .count2 .given .1 in
+    text-whole _ _ _ _ _ _ _ (c .noted .ensures) (s .before .before .before .before .pre) e (number-within _ _ _ _ e) (i .if1 .left) (at-is-utf8 .is-utf8 .ensures)))  -- returns-3

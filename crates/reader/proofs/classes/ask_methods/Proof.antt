@@ -24,21 +24,102 @@ ask-methods-spec = tie.close (tie.spec Inv-loop μ-loop
     (λ c κs. search needs)  -- skip-proper-requires
     (λ c. search needs)  -- enum-known-named
     (λ c. search needs)  -- enum-told
-    (λ c. let n = c .before .before .before .before .before in let l = c .before .before .before .before .loop in let a = c .before .before .before .before .before .before .before .before in let t = a .args .bytes .now in let x = slice (l .from) (l .to) t in
-    sym (methods-begin t _ _ _ _ (n .before .if1 .left) (n .number-at .ensures .0) ∙ l .inv .3 ∙ methods-cut t _ _ x _ (l .p) (c .before .before .before .loop-test .taken) (l .inv .0) (sym (c .before .before .skip-proper .ensures) ∙ c .enum-told .given .1)))  -- returns-2
-    (λ c. let n = c .before .before .before .before .before .before in let l = c .before .before .before .before .before .loop in let a = c .before .before .before .before .before .before .before .before .before in let t = a .args .bytes .now in let x = slice (l .from) (l .to) t in let r = sym (c .before .before .before .skip-proper .ensures) ∙ c .before .named .given .1 in let b = proper-bounds t (l .p) _ (l .inv .0) r in omega arith)  -- sub-if2
-    (λ c. let n = c .before .before .before .before .before .before .before in let l = c .before .before .before .before .before .before .loop in let a = c .before .before .before .before .before .before .before .before .before .before in let t = a .args .bytes .now in let x = slice (l .from) (l .to) t in let r = sym (c .before .before .before .before .skip-proper .ensures) ∙ c .before .before .named .given .1 in
-    sym (methods-begin t _ _ _ _ (n .before .if1 .left) (n .number-at .ensures .0) ∙ l .inv .3 ∙ methods-no-number t _ _ x _ (l .p) (c .before .before .before .before .before .loop-test .taken) (l .inv .0) _ r (c .if2 .taken)))  -- returns-3
-    (λ c κs. let n = c .before .before .before .before .before .before .before in let l = c .before .before .before .before .before .before .loop in let a = c .before .before .before .before .before .before .before .before .before .before in let t = a .args .bytes .now in let x = slice (l .from) (l .to) t in let r = sym (c .before .before .before .before .skip-proper .ensures) ∙ c .before .before .named .given .1 in let b = proper-bounds t (l .p) _ (l .inv .0) r in omega arith)  -- number-at-requires-2
-    (λ c. let n = c .before .before .before .before .before .before .before .before in let l = c .before .before .before .before .before .before .before .loop in let a = c .before .before .before .before .before .before .before .before .before .before .before in let t = a .args .bytes .now in let x = slice (l .from) (l .to) t in let r = sym (c .before .before .before .before .before .skip-proper .ensures) ∙ c .before .before .before .named .given .1 in let b = proper-bounds t (l .p) _ (l .inv .0) r in omega arith)  -- add-ask-next
-    (λ c κs. let n = c .before .before .before .before .before .before .before .before in let l = c .before .before .before .before .before .before .before .loop in let a = c .before .before .before .before .before .before .before .before .before .before .before in let t = a .args .bytes .now in let x = slice (l .from) (l .to) t in let r = sym (c .before .before .before .before .before .skip-proper .ensures) ∙ c .before .before .before .named .given .1 in let b = proper-bounds t (l .p) _ (l .inv .0) r in (l .inv .1, l .inv .2, b .0, b .1))  -- ask-next-requires
-    (λ c. let n = c .before .before .before .before .before .before .before .before .before .before in let l = c .before .before .before .before .before .before .before .before .before .loop in let a = c .before .before .before .before .before .before .before .before .before .before .before .before .before in let t = a .args .bytes .now in let x = slice (l .from) (l .to) t in let r = sym (c .before .before .before .before .before .before .before .skip-proper .ensures) ∙ c .before .before .before .before .before .named .given .1 in let b = proper-bounds t (l .p) _ (l .inv .0) r in omega arith)  -- add-from
-    (λ c. let n = c .before .before .before .before .before .before .before .before .before .before in let l = c .before .before .before .before .before .before .before .before .before .loop in let a = c .before .before .before .before .before .before .before .before .before .before .before .before .before in let t = a .args .bytes .now in let x = slice (l .from) (l .to) t in let r = sym (c .before .before .before .before .before .before .before .skip-proper .ensures) ∙ c .before .before .before .before .before .named .given .1 in let b = proper-bounds t (l .p) _ (l .inv .0) r in omega arith)  -- add-p-2
+    (λ c. let at-loop = c .before .before .before .before in
+    let n = c .before .before .before .before .before in
+    let l = at-loop .loop in
+    let a = c .before .before .before .before .before .before .before .before in
+    let t = a .args .bytes .now in
+    let x = slice (l .from) (l .to) t in
+    sym (methods-begin t _ _ _ _ (n .before .if1 .left) (n .number-at .ensures .0) ∙ l .inv .3
+    ∙ methods-cut t _ _ x _ (l .p) (c .before .before .before .loop-test .taken) (l .inv .0) (sym (c .before .before .skip-proper .ensures) ∙ c .enum-told .given .1)))  -- returns-2
+    (λ c. let at-named = c .before in let at-skip-proper = at-named .before .before in let at-loop = at-skip-proper .before .before in
+    let n = c .before .before .before .before .before .before in
+    let l = at-loop .loop in
+    let a = c .before .before .before .before .before .before .before .before .before in
+    let t = a .args .bytes .now in
+    let x = slice (l .from) (l .to) t in
+    let r = sym (at-skip-proper .skip-proper .ensures) ∙ at-named .named .given .1 in
+    let b = proper-bounds t (l .p) _ (l .inv .0) r in
+    omega arith)  -- sub-if2
+    (λ c. let at-named = c .before .before in let at-skip-proper = at-named .before .before in let at-loop = at-skip-proper .before .before in
+    let n = c .before .before .before .before .before .before .before in
+    let l = at-loop .loop in
+    let a = c .before .before .before .before .before .before .before .before .before .before in
+    let t = a .args .bytes .now in
+    let x = slice (l .from) (l .to) t in
+    let r = sym (at-skip-proper .skip-proper .ensures) ∙ at-named .named .given .1 in
+    sym (methods-begin t _ _ _ _ (n .before .if1 .left) (n .number-at .ensures .0) ∙ l .inv .3
+    ∙ methods-no-number t _ _ x _ (l .p) (c .before .before .before .before .before .loop-test .taken) (l .inv .0) _ r (c .if2 .taken)))  -- returns-3
+    (λ c κs. let at-named = c .before .before in let at-skip-proper = at-named .before .before in let at-loop = at-skip-proper .before .before in
+    let n = c .before .before .before .before .before .before .before in
+    let l = at-loop .loop in
+    let a = c .before .before .before .before .before .before .before .before .before .before in
+    let t = a .args .bytes .now in
+    let x = slice (l .from) (l .to) t in
+    let r = sym (at-skip-proper .skip-proper .ensures) ∙ at-named .named .given .1 in
+    let b = proper-bounds t (l .p) _ (l .inv .0) r in
+    omega arith)  -- number-at-requires-2
+    (λ c. let at-named = c .before .before .before in let at-skip-proper = at-named .before .before in let at-loop = at-skip-proper .before .before in
+    let n = c .before .before .before .before .before .before .before .before in
+    let l = at-loop .loop in
+    let a = c .before .before .before .before .before .before .before .before .before .before .before in
+    let t = a .args .bytes .now in
+    let x = slice (l .from) (l .to) t in
+    let r = sym (at-skip-proper .skip-proper .ensures) ∙ at-named .named .given .1 in
+    let b = proper-bounds t (l .p) _ (l .inv .0) r in
+    omega arith)  -- add-ask-next
+    (λ c κs. let at-named = c .before .before .before in let at-skip-proper = at-named .before .before in let at-loop = at-skip-proper .before .before in
+    let n = c .before .before .before .before .before .before .before .before in
+    let l = at-loop .loop in
+    let a = c .before .before .before .before .before .before .before .before .before .before .before in
+    let t = a .args .bytes .now in
+    let x = slice (l .from) (l .to) t in
+    let r = sym (at-skip-proper .skip-proper .ensures) ∙ at-named .named .given .1 in
+    let b = proper-bounds t (l .p) _ (l .inv .0) r in
+    (l .inv .1, l .inv .2, b .0, b .1))  -- ask-next-requires
+    (λ c. let at-named = c .before .before .before .before .before in let at-skip-proper = at-named .before .before in let at-loop = at-skip-proper .before .before in
+    let n = c .before .before .before .before .before .before .before .before .before .before in
+    let l = at-loop .loop in
+    let a = c .before .before .before .before .before .before .before .before .before .before .before .before .before in
+    let t = a .args .bytes .now in
+    let x = slice (l .from) (l .to) t in
+    let r = sym (at-skip-proper .skip-proper .ensures) ∙ at-named .named .given .1 in
+    let b = proper-bounds t (l .p) _ (l .inv .0) r in
+    omega arith)  -- add-from
+    (λ c. let at-named = c .before .before .before .before .before in let at-skip-proper = at-named .before .before in let at-loop = at-skip-proper .before .before in
+    let n = c .before .before .before .before .before .before .before .before .before .before in
+    let l = at-loop .loop in
+    let a = c .before .before .before .before .before .before .before .before .before .before .before .before .before in
+    let t = a .args .bytes .now in
+    let x = slice (l .from) (l .to) t in
+    let r = sym (at-skip-proper .skip-proper .ensures) ∙ at-named .named .given .1 in
+    let b = proper-bounds t (l .p) _ (l .inv .0) r in
+    omega arith)  -- add-p-2
     (λ c. omega arith)  -- sub-left
     (λ c. omega arith)  -- loop-less
-    (λ c. let n = c .before .before .before .before .before .before .before .before .before .before in let l = c .before .before .before .before .before .before .before .before .before .loop in let a = c .before .before .before .before .before .before .before .before .before .before .before .before .before in let t = a .args .bytes .now in let x = slice (l .from) (l .to) t in let r = sym (c .before .before .before .before .before .before .before .skip-proper .ensures) ∙ c .before .before .before .before .before .named .given .1 in let b = proper-bounds t (l .p) _ (l .inv .0) r in
-    (omega arith, b .0, b .1, l .inv .3 ∙ methods-next t _ _ x _ (l .p) (c .before .before .before .before .before .before .before .before .loop-test .taken) (l .inv .0) _ r (c .before .before .before .if2 .left) _ (c .before .before .number-at2 .ensures .0) (sym (c .before .ask-next .ensures) ∙ c .if3 .taken)))  -- loop-again
-    (λ c. let n = c .before .before .before .before .before .before .before .before .before .before in let l = c .before .before .before .before .before .before .before .before .before .loop in let a = c .before .before .before .before .before .before .before .before .before .before .before .before .before in let t = a .args .bytes .now in let x = slice (l .from) (l .to) t in let r = sym (c .before .before .before .before .before .before .before .skip-proper .ensures) ∙ c .before .before .before .before .before .named .given .1 in
-    sym (methods-begin t _ _ _ _ (n .before .if1 .left) (n .number-at .ensures .0) ∙ l .inv .3 ∙ methods-fail t _ _ x _ (l .p) (c .before .before .before .before .before .before .before .before .loop-test .taken) (l .inv .0) _ r (c .before .before .before .if2 .left) _ (c .before .before .number-at2 .ensures .0) (sym (c .before .ask-next .ensures) ∙ c .if3 .left)))  -- returns-4
+    (λ c. let at-named = c .before .before .before .before .before in let at-skip-proper = at-named .before .before in let at-loop = at-skip-proper .before .before in
+    let n = c .before .before .before .before .before .before .before .before .before .before in
+    let l = at-loop .loop in
+    let a = c .before .before .before .before .before .before .before .before .before .before .before .before .before in
+    let t = a .args .bytes .now in
+    let x = slice (l .from) (l .to) t in
+    let r = sym (at-skip-proper .skip-proper .ensures) ∙ at-named .named .given .1 in
+    let b = proper-bounds t (l .p) _ (l .inv .0) r in (
+      omega arith,
+      b .0,
+      b .1,
+      l .inv .3 ∙ methods-next t _ _ x _ (l .p) (c .before .before .before .before .before .before .before .before .loop-test .taken) (l .inv .0) _ r
+          (c .before .before .before .if2 .left) _ (c .before .before .number-at2 .ensures .0) (sym (c .before .ask-next .ensures) ∙ c .if3 .taken),
+    ))  -- loop-again
+    (λ c. let at-named = c .before .before .before .before .before in let at-skip-proper = at-named .before .before in let at-loop = at-skip-proper .before .before in
+    let n = c .before .before .before .before .before .before .before .before .before .before in
+    let l = at-loop .loop in
+    let a = c .before .before .before .before .before .before .before .before .before .before .before .before .before in
+    let t = a .args .bytes .now in
+    let x = slice (l .from) (l .to) t in
+    let r = sym (at-skip-proper .skip-proper .ensures) ∙ at-named .named .given .1 in
+    sym (methods-begin t _ _ _ _ (n .before .if1 .left) (n .number-at .ensures .0) ∙ l .inv .3
+    ∙ methods-fail t _ _ x _ (l .p) (c .before .before .before .before .before .before .before .before .loop-test .taken) (l .inv .0) _ r (c .before .before .before .if2 .left) _
+    (c .before .before .number-at2 .ensures .0) (sym (c .before .ask-next .ensures) ∙ c .if3 .left)))  -- returns-4
     (λ c. let n = c .before .before in let l = c .before .loop in let a = c .before .before .before .before .before in let t = a .args .bytes .now in let x = slice (l .from) (l .to) t in
     sym (methods-begin t _ _ _ _ (n .before .if1 .left) (n .number-at .ensures .0) ∙ l .inv .3 ∙ methods-end t _ _ x _ (l .p) (c .loop-test .left) (l .inv .0))))  -- returns-5

@@ -19,7 +19,8 @@ ask-next-spec = tie.close (tie.spec
     let b = c .before .before .before in
     let a = b .before .before .before .before .args in
     let t = a .bytes .now in
-    sym (next-above _ (slice (a .from) (a .to) t) (slice (a .from2) (a .to2) t) _ _ (sym (parts-below t (a .from) (a .to) (a .from2) (a .to2)) ∙ sym (b .below-bytes .ensures) ∙ c .before .before .if1 .taken) (c .before .if2 .taken)))  -- returns
+    sym (next-above _ (slice (a .from) (a .to) t) (slice (a .from2) (a .to2) t) _ _
+    (sym (parts-below t (a .from) (a .to) (a .from2) (a .to2)) ∙ sym (b .below-bytes .ensures) ∙ c .before .before .if1 .taken) (c .before .if2 .taken)))  -- returns
     (λ c.
     let b = c .before .before in
     let a = b .before .before .before .before .args in

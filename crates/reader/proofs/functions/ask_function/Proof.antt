@@ -16,5 +16,13 @@ ask-function-spec = tie.close (tie.spec
     (λ c κs. search needs)  -- ask-head-requires
     (λ c. search needs)  -- add-ask-code
     (λ c κs. search needs)  -- ask-code-requires
-    (λ c. let h = c .before .before in let n = h .before in c .ask-code .ensures ∙ sym (function-head _ _ _ _ (n .before .before .before .if1 .left) _ _ _ (n .before .before .number-at .ensures .0) (n .before .number-at2 .ensures .0) (n .number-at3 .ensures .0) (sym (h .ask-head .ensures) ∙ c .before .if2 .taken)))  -- returns-2
-    (λ c. let h = c .before in let n = h .before in sym (function-fails _ _ _ _ (n .before .before .before .if1 .left) _ _ _ (n .before .before .number-at .ensures .0) (n .before .number-at2 .ensures .0) (n .number-at3 .ensures .0) (sym (h .ask-head .ensures) ∙ c .if2 .left))))  -- returns-3
+    (λ c. let at-if2 = c .before in
+    let h = c .before .before in
+    let n = h .before in
+    c .ask-code .ensures ∙ sym (function-head _ _ _ _ (n .before .before .before .if1 .left) _ _ _ (n .before .before .number-at .ensures .0) (n .before .number-at2 .ensures .0)
+    (n .number-at3 .ensures .0) (sym (h .ask-head .ensures) ∙ at-if2 .if2 .taken)))  -- returns-2
+    (λ c.
+    let h = c .before in
+    let n = h .before in
+    sym (function-fails _ _ _ _ (n .before .before .before .if1 .left) _ _ _ (n .before .before .number-at .ensures .0) (n .before .number-at2 .ensures .0) (n .number-at3 .ensures .0)
+    (sym (h .ask-head .ensures) ∙ c .if2 .left))))  -- returns-3

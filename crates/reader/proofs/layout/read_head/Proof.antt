@@ -10,7 +10,12 @@ read-head-spec = tie.close (tie.spec
     (λ c κs. search needs)  -- number-at-requires
     (λ c. search needs)  -- sub-if3
     (λ c. bad-count (c .before .before .before .before .before .args .bytes .now) (c .before .before .before .if1 .left) (c .before .before .if2 .left) _ (c .before .number-at .ensures .0) (c .if3 .taken))  -- returns-3
-    (λ c. no-version (c .before .before .before .before .before .before .args .bytes .now) (c .before .before .before .before .if1 .left) (c .before .before .before .if2 .left) _ (c .before .before .number-at .ensures .0) (c .before .if3 .left) (c .if4 .taken))  -- returns-4
+    (λ c. let at-if3 = c .before in let at-number-at = at-if3 .before in let at-if2 = at-number-at .before in let at-if1 = at-if2 .before in let start = at-if1 .before .before in
+    no-version (start .args .bytes .now) (at-if1 .if1 .left) (at-if2 .if2 .left) _ (at-number-at .number-at .ensures .0) (at-if3 .if3 .left) (c .if4 .taken))  -- returns-4
     (λ c. search needs)  -- shared-slice-read-if5
-    (λ c. bad-version (c .before .before .before .before .before .before .before .before .args .bytes .now) (c .before .before .before .before .before .before .if1 .left) (c .before .before .before .before .before .if2 .left) _ (c .before .before .before .before .number-at .ensures .0) (c .before .before .before .if3 .left) (c .before .before .if4 .left) (c .if5 .taken))  -- returns-5
-    (λ c. good-head (c .before .before .before .before .before .before .before .before .args .bytes .now) (c .before .before .before .before .before .before .if1 .left) (c .before .before .before .before .before .if2 .left) _ (c .before .before .before .before .number-at .ensures .0) (c .before .before .before .if3 .left) (c .before .before .if4 .left) (c .if5 .left)))  -- returns-6
+    (λ c. let at-if4 = c .before .before in let at-if3 = at-if4 .before in let at-number-at = at-if3 .before in let at-if2 = at-number-at .before in let at-if1 = at-if2 .before in
+    let start = at-if1 .before .before in
+    bad-version (start .args .bytes .now) (at-if1 .if1 .left) (at-if2 .if2 .left) _ (at-number-at .number-at .ensures .0) (at-if3 .if3 .left) (at-if4 .if4 .left) (c .if5 .taken))  -- returns-5
+    (λ c. let at-if4 = c .before .before in let at-if3 = at-if4 .before in let at-number-at = at-if3 .before in let at-if2 = at-number-at .before in let at-if1 = at-if2 .before in
+    let start = at-if1 .before .before in
+    good-head (start .args .bytes .now) (at-if1 .if1 .left) (at-if2 .if2 .left) _ (at-number-at .number-at .ensures .0) (at-if3 .if3 .left) (at-if4 .if4 .left) (c .if5 .left)))  -- returns-6

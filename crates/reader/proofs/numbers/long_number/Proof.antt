@@ -2,9 +2,10 @@ use Prim.Native.Nat.{ℕ, _+_, _*_, _-_, _^_, _<_, _≤_}
 use mathlib.Core.Path.{_≡_, sym, _∙_, subst}
 use native.Mathlib.Omega.{arith}
 use Rattle.reader.specs.View.{numberAt}
-use Rattle.reader.proofs.NumberLaws.{horner, grows, small-one, start, number-all}
+use Rattle.reader.proofs.NumberLaws.{horner, small-one, start, number-all}
 use Rattle.reader.proofs.numbers.long_number.Statement.{statement}
 use Rattle.reader.proofs.numbers.long_number.Tie as tie
+use Rattle.definitions.proofs.Writes.{grows}
 
 abbrev Inv-loop : tie.InvT-loop
 Inv-loop bytes at width n₀ i₀ n i = (i ≤ width) × (n < 256 ^ i) × (numberAt width bytes at ≡ n * 256 ^ (width - i) + numberAt (width - i) bytes (at + i))

@@ -21,4 +21,21 @@ is-builtin-spec = tie.close (tie.spec
     (λ c. sym (ap (isBuiltin registry) (c .match .keys11)))
     (λ c. sym (ap (isBuiltin registry) (c .match .keys12)))
     (λ c. sym (ap (isBuiltin registry) (c .match .keys13)))
-    (λ c. let r = c .match .rest in let n = c .before .args .n in sym (simp (ne-eqb 0 n (λ e. r .0 .0 .0 .0 .0 .0 .0 .0 .0 .0 .0 .0 .1 (sym e)), ne-eqb 1 n (λ e. r .0 .0 .0 .0 .0 .0 .0 .0 .0 .0 .0 .1 (sym e)), ne-eqb 2 n (λ e. r .0 .0 .0 .0 .0 .0 .0 .0 .0 .0 .1 (sym e)), ne-eqb 3 n (λ e. r .0 .0 .0 .0 .0 .0 .0 .0 .0 .1 (sym e)), ne-eqb 4 n (λ e. r .0 .0 .0 .0 .0 .0 .0 .0 .1 (sym e)), ne-eqb 5 n (λ e. r .0 .0 .0 .0 .0 .0 .0 .1 (sym e)), ne-eqb 6 n (λ e. r .0 .0 .0 .0 .0 .0 .1 (sym e)), ne-eqb 7 n (λ e. r .0 .0 .0 .0 .0 .1 (sym e)), ne-eqb 10 n (λ e. r .0 .0 .0 .0 .1 (sym e)), ne-eqb 11 n (λ e. r .0 .0 .0 .1 (sym e)), ne-eqb 12 n (λ e. r .0 .0 .1 (sym e)), ne-eqb 13 n (λ e. r .0 .1 (sym e)), ne-eqb 14 n (λ e. r .1 (sym e))))))
+    (λ c. let start = c .before in
+    let r = c .match .rest in
+    let n = start .args .n in
+    sym (simp (
+      ne-eqb 0 n (λ e. r .0 .0 .0 .0 .0 .0 .0 .0 .0 .0 .0 .0 .1 (sym e)),
+      ne-eqb 1 n (λ e. r .0 .0 .0 .0 .0 .0 .0 .0 .0 .0 .0 .1 (sym e)),
+      ne-eqb 2 n (λ e. r .0 .0 .0 .0 .0 .0 .0 .0 .0 .0 .1 (sym e)),
+      ne-eqb 3 n (λ e. r .0 .0 .0 .0 .0 .0 .0 .0 .0 .1 (sym e)),
+      ne-eqb 4 n (λ e. r .0 .0 .0 .0 .0 .0 .0 .0 .1 (sym e)),
+      ne-eqb 5 n (λ e. r .0 .0 .0 .0 .0 .0 .0 .1 (sym e)),
+      ne-eqb 6 n (λ e. r .0 .0 .0 .0 .0 .0 .1 (sym e)),
+      ne-eqb 7 n (λ e. r .0 .0 .0 .0 .0 .1 (sym e)),
+      ne-eqb 10 n (λ e. r .0 .0 .0 .0 .1 (sym e)),
+      ne-eqb 11 n (λ e. r .0 .0 .0 .1 (sym e)),
+      ne-eqb 12 n (λ e. r .0 .0 .1 (sym e)),
+      ne-eqb 13 n (λ e. r .0 .1 (sym e)),
+      ne-eqb 14 n (λ e. r .1 (sym e)),
+    ))))

@@ -22,4 +22,20 @@ kind-of-spec = tie.close (tie.spec
     (λ c. sym (ap (λ (k : ℕ). kindOf (numbersOf k)) (c .match .keys10)))
     (λ c. sym (ap (λ (k : ℕ). kindOf (numbersOf k)) (c .match .keys11)))
     (λ c. sym (ap (λ (k : ℕ). kindOf (numbersOf k)) (c .match .keys12)))
-    (λ c. let n = c .match .rest in let k = c .before .args .op in kind-none k (simp (ne-eqb k 2 (n .0 .0 .0 .0 .0 .0 .0 .0 .0 .0 .0 .1), ne-eqb k 6 (n .0 .0 .0 .0 .0 .0 .0 .0 .0 .0 .1), ne-eqb k 9 (n .0 .0 .0 .0 .0 .0 .0 .0 .0 .1), ne-eqb k 10 (n .0 .0 .0 .0 .0 .0 .0 .0 .1), ne-eqb k 11 (n .0 .0 .0 .0 .0 .0 .0 .1), ne-eqb k 12 (n .0 .0 .0 .0 .0 .0 .1), ne-eqb k 31 (n .0 .0 .0 .0 .0 .1), ne-eqb k 32 (n .0 .0 .0 .0 .1), ne-eqb k 35 (n .0 .0 .0 .1), ne-eqb k 36 (n .0 .0 .1), ne-eqb k 37 (n .0 .1), ne-eqb k 45 (n .1)))))
+    (λ c. let start = c .before in
+    let n = c .match .rest in
+    let k = start .args .op in
+    kind-none k (simp (
+      ne-eqb k 2 (n .0 .0 .0 .0 .0 .0 .0 .0 .0 .0 .0 .1),
+      ne-eqb k 6 (n .0 .0 .0 .0 .0 .0 .0 .0 .0 .0 .1),
+      ne-eqb k 9 (n .0 .0 .0 .0 .0 .0 .0 .0 .0 .1),
+      ne-eqb k 10 (n .0 .0 .0 .0 .0 .0 .0 .0 .1),
+      ne-eqb k 11 (n .0 .0 .0 .0 .0 .0 .0 .1),
+      ne-eqb k 12 (n .0 .0 .0 .0 .0 .0 .1),
+      ne-eqb k 31 (n .0 .0 .0 .0 .0 .1),
+      ne-eqb k 32 (n .0 .0 .0 .0 .1),
+      ne-eqb k 35 (n .0 .0 .0 .1),
+      ne-eqb k 36 (n .0 .0 .1),
+      ne-eqb k 37 (n .0 .1),
+      ne-eqb k 45 (n .1),
+    ))))

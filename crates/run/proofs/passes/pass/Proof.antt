@@ -17,14 +17,37 @@ pass-spec = tie.close (tie.spec Inv-loop μ-loop
     (λ c. search needs)  -- enum-known-went
     (λ c. search needs)  -- enum-told
     (λ c. search needs)  -- same-length
-    (λ c. let a = c .before .before .before .before .before .before .before .before .before .before .before .before in let l = c .before .before .before .before .before .before .loop in stretch-many _ _ (a .pre .0) _ _ _ _ _ (l .inv) _ _ (c .before .before .before .before .stretch .ensures) (c .enum-told .given .1))  -- returns
-    (λ c κs. let a = c .before .before .before .before .before .before .before .before .before .before .before .before .before .before in let l = c .before .before .before .before .before .before .before .before .loop in let n = near-stands _ _ (a .pre .0) _ _ _ _ _ (l .inv) _ _ (c .before .before .before .before .before .before .stretch .ensures) _ (c .before .before .went .given .1) in (a .pre .0, a .pre .1, n .0, n .1))  -- turn-requires
+    (λ c. let at-stretch = c .before .before .before .before in let at-loop = at-stretch .before .before in
+    let a = c .before .before .before .before .before .before .before .before .before .before .before .before in
+    let l = at-loop .loop in
+    stretch-many _ _ (a .pre .0) _ _ _ _ _ (l .inv) _ _ (at-stretch .stretch .ensures) (c .enum-told .given .1))  -- returns
+    (λ c κs. let at-went = c .before .before in let at-stretch = at-went .before .before .before .before in let at-loop = at-stretch .before .before in
+    let a = c .before .before .before .before .before .before .before .before .before .before .before .before .before .before in
+    let l = at-loop .loop in
+    let n = near-stands _ _ (a .pre .0) _ _ _ _ _ (l .inv) _ _ (at-stretch .stretch .ensures) _ (at-went .went .given .1) in
+    (a .pre .0, a .pre .1, n .0, n .1))  -- turn-requires
     (λ c. search needs)  -- enum-known-turned
-    (λ c. let a = c .before .before .before .before .before .before .before .before .before .before .before .before .before .before .before .before .before .before .before .before in let l = c .before .before .before .before .before .before .before .before .before .before .before .before .before .before .loop in turn-less _ _ (a .pre .0) _ _ _ _ _ (l .inv) _ _ (c .before .before .before .before .before .before .before .before .before .before .before .before .stretch .ensures) _ (c .before .before .before .before .before .before .before .before .went .given .1) _ _ (c .before .before .before .before .before .turn .ensures) _ (c .before .turned .given .1))  -- loop-less
-    (λ c. let a = c .before .before .before .before .before .before .before .before .before .before .before .before .before .before .before .before .before .before .before .before in let l = c .before .before .before .before .before .before .before .before .before .before .before .before .before .before .loop in turn-on _ _ (a .pre .0) _ _ _ _ _ (l .inv) _ _ (c .before .before .before .before .before .before .before .before .before .before .before .before .stretch .ensures) _ (c .before .before .before .before .before .before .before .before .went .given .1) _ _ (c .before .before .before .before .before .turn .ensures) _ (c .before .turned .given .1))  -- loop-again
+    (λ c. let at-turned = c .before in let at-turn = at-turned .before .before .before .before in let at-went = at-turn .before .before .before in
+    let at-stretch = at-went .before .before .before .before in let at-loop = at-stretch .before .before in
+    let a = c .before .before .before .before .before .before .before .before .before .before .before .before .before .before .before .before .before .before .before .before in
+    let l = at-loop .loop in
+    turn-less _ _ (a .pre .0) _ _ _ _ _ (l .inv) _ _ (at-stretch .stretch .ensures) _ (at-went .went .given .1) _ _ (at-turn .turn .ensures) _ (at-turned .turned .given .1))  -- loop-less
+    (λ c. let at-turned = c .before in let at-turn = at-turned .before .before .before .before in let at-went = at-turn .before .before .before in
+    let at-stretch = at-went .before .before .before .before in let at-loop = at-stretch .before .before in
+    let a = c .before .before .before .before .before .before .before .before .before .before .before .before .before .before .before .before .before .before .before .before in
+    let l = at-loop .loop in
+    turn-on _ _ (a .pre .0) _ _ _ _ _ (l .inv) _ _ (at-stretch .stretch .ensures) _ (at-went .went .given .1) _ _ (at-turn .turn .ensures) _ (at-turned .turned .given .1))  -- loop-again
     (λ c. search needs)  -- enum-known-turned-2
     (λ c. search needs)  -- same-length-2
-    (λ c. let a = c .before .before .before .before .before .before .before .before .before .before .before .before .before .before .before .before .before .before .before .before in let l = c .before .before .before .before .before .before .before .before .before .before .before .before .before .before .loop in turn-over _ _ (a .pre .0) _ _ _ _ _ (l .inv) _ _ (c .before .before .before .before .before .before .before .before .before .before .before .before .stretch .ensures) _ (c .before .before .before .before .before .before .before .before .went .given .1) _ _ (c .before .before .before .before .before .turn .ensures) _ _ (c .before .turned2 .given .1))  -- returns-2
+    (λ c. let at-turned2 = c .before in let at-turn = at-turned2 .before .before .before .before in let at-went = at-turn .before .before .before in
+    let at-stretch = at-went .before .before .before .before in let at-loop = at-stretch .before .before in
+    let a = c .before .before .before .before .before .before .before .before .before .before .before .before .before .before .before .before .before .before .before .before in
+    let l = at-loop .loop in
+    turn-over _ _ (a .pre .0) _ _ _ _ _ (l .inv) _ _ (at-stretch .stretch .ensures) _ (at-went .went .given .1) _ _ (at-turn .turn .ensures) _ _ (at-turned2 .turned2 .given .1))  -- returns-2
     (λ c. search needs)  -- enum-told-2
     (λ c. search needs)  -- same-length-3
-    (λ c. let a = c .before .before .before .before .before .before .before .before .before .before .before .before .before .before .before .before .before .before .before in let l = c .before .before .before .before .before .before .before .before .before .before .before .before .before .loop in turn-many _ _ (a .pre .0) _ _ _ _ _ (l .inv) _ _ (c .before .before .before .before .before .before .before .before .before .before .before .stretch .ensures) _ (c .before .before .before .before .before .before .before .went .given .1) _ _ (c .before .before .before .before .turn .ensures) (c .enum-told2 .given .1)))  -- returns-3
+    (λ c. let at-turn = c .before .before .before .before in let at-went = at-turn .before .before .before in let at-stretch = at-went .before .before .before .before in
+    let at-loop = at-stretch .before .before in
+    let a = c .before .before .before .before .before .before .before .before .before .before .before .before .before .before .before .before .before .before .before in
+    let l = at-loop .loop in
+    turn-many _ _ (a .pre .0) _ _ _ _ _ (l .inv) _ _ (at-stretch .stretch .ensures) _ (at-went .went .given .1) _ _ (at-turn .turn .ensures) (c .enum-told2 .given .1)))  -- returns-3

@@ -13,11 +13,19 @@ run-tables-spec = tie.close (tie.spec
     (λ c. search needs)  -- enum-told
     (λ c. search needs)  -- enum-told-2
     (λ c. search needs)  -- same-length
-    (λ c. full-called _ _ _ (measured-full _ _ _ _ _ (c .before .before .before .before .pass .ensures) (c .enum-told2 .given .1)) (let p = c .before .before .before .before .pass in nil-front (p .last .1 .1 .1 .1 .1 .1 .0) (c .before .before .before .before .before .before .before .before .before .before .before .args .events .now) (p .kept .1 .1 .1 .1 .1 .1 .0)))  -- returns
+    (λ c. let at-pass = c .before .before .before .before in let start = at-pass .before .before .before .before .before .before .before in
+    full-called _ _ _ (measured-full _ _ _ _ _ (at-pass .pass .ensures) (c .enum-told2 .given .1))
+    (let p = at-pass .pass in nil-front (p .last .1 .1 .1 .1 .1 .1 .0) (start .args .events .now) (p .kept .1 .1 .1 .1 .1 .1 .0)))  -- returns
     (λ c κs. search needs)  -- pass-requires-2
     (λ c. search needs)  -- enum-known-ran
     (λ c. search needs)  -- enum-told-3
     (λ c. search needs)  -- same-length-2
-    (λ c. let f = measured-fits _ _ _ _ _ _ _ (c .before .before .before .before .before .before .before .before .before .before .pass .ensures) (c .before .before .before .before .before .before .enum-told .given .1) in let g = measured-full _ _ _ _ _ (c .before .before .before .before .pass2 .ensures) (c .enum-told3 .given .1) in absurd (omega arith))  -- returns-2
+    (λ c. let at-pass2 = c .before .before .before .before in let at-enum-told = at-pass2 .before .before in let at-pass = at-enum-told .before .before .before .before in
+    let f = measured-fits _ _ _ _ _ _ _ (at-pass .pass .ensures) (at-enum-told .enum-told .given .1) in
+    let g = measured-full _ _ _ _ _ (at-pass2 .pass2 .ensures) (c .enum-told3 .given .1) in
+    absurd (omega arith))  -- returns-2
     (λ c. search needs)  -- same-length-3
-    (λ c. ended-called _ _ _ _ _ _ _ (let p = c .before .before .before .before .before .before .before .before .before .before .before .pass in nil-front (p .last .1 .1 .1 .1 .1 .1 .0) (c .before .before .before .before .before .before .before .before .before .before .before .before .before .before .before .before .before .before .args .events .now) (p .kept .1 .1 .1 .1 .1 .1 .0)) (c .before .before .before .before .before .pass2 .ensures) (c .before .ran .given .1)))  -- returns-3
+    (λ c. let at-ran = c .before in let at-pass2 = at-ran .before .before .before .before in let at-pass = at-pass2 .before .before .before .before .before .before in
+    let start = at-pass .before .before .before .before .before .before .before in
+    ended-called _ _ _ _ _ _ _ (let p = at-pass .pass in nil-front (p .last .1 .1 .1 .1 .1 .1 .0) (start .args .events .now) (p .kept .1 .1 .1 .1 .1 .1 .0)) (at-pass2 .pass2 .ensures)
+    (at-ran .ran .given .1)))  -- returns-3

@@ -17,4 +17,6 @@ ask-spec = tie.close (tie.spec
     (λ c. search needs)  -- add-t11
     (λ c. search needs)  -- add-t21
     (λ c. search needs)  -- same-length
-    (λ c. ask-on _ _ _ _ _ _ _ _ _ (c .before .before .before .before .before .before .before .before .before .before .before .before .before .if1 .left) (c .before .before .before .before .before .before .before .before .before .before .before .before .before .before .before .before .pre .2) (c .before .before .before .before .before .before .before .before .before .before .before .if2 .left) (c .before .before .before .before .before .before .before .before .put .ensures) (c .before .before .before .before .put2 .ensures) (c .before .question-way .ensures)))  -- returns-3
+    (λ c. let at-question-way = c .before in let at-put2 = at-question-way .before .before .before in let at-put = at-put2 .before .before .before .before in
+    let at-if2 = at-put .before .before .before in let at-if1 = at-if2 .before .before in let start = at-if1 .before .before .before in
+    ask-on _ _ _ _ _ _ _ _ _ (at-if1 .if1 .left) (start .pre .2) (at-if2 .if2 .left) (at-put .put .ensures) (at-put2 .put2 .ensures) (at-question-way .question-way .ensures)))  -- returns-3

@@ -14,7 +14,10 @@ add-at-spec = tie.close (tie.spec
     (λ c κs. search needs)  -- name-part-requires
     (λ c κs. search needs)  -- find-from-requires
     (λ c. search needs)  -- same-length
-    (λ c. let s = c .before .before .before .before .before .before .before .before in let a = s .args in added-there (a .tree .now) (a .slots .now) (a .n) (a .at) (a .b) _ _ (s .pre .0) (s .pre .1) (s .pre .4) (c .before .before .name-part .ensures .0) (c .before .find-from .ensures .0) (c .if1 .taken))  -- returns
+    (λ c. let at-find-from = c .before in let at-name-part = at-find-from .before in
+    let s = c .before .before .before .before .before .before .before .before in
+    let a = s .args in
+    added-there (a .tree .now) (a .slots .now) (a .n) (a .at) (a .b) _ _ (s .pre .0) (s .pre .1) (s .pre .4) (at-name-part .name-part .ensures .0) (at-find-from .find-from .ensures .0) (c .if1 .taken))  -- returns
     (λ c κs. search needs)  -- start-requires
     (λ c. search needs)  -- cast-first
     (λ c. search needs)  -- add-slots
@@ -25,4 +28,8 @@ add-at-spec = tie.close (tie.spec
     (λ c. search needs)  -- slice-write-slots-2
     (λ c. search needs)  -- add-result
     (λ c. search needs)  -- same-length-2
-    (λ c. let s = c .before .before .before .before .before .before .before .before .before in let a = s .args in added-new (a .tree .now) (a .slots .now) (a .n) (a .at) (a .b) _ _ (s .pre .0) (s .pre .1) (s .pre .4) (c .before .before .before .name-part .ensures .0) (c .before .before .find-from .ensures .0) (c .start .result) (c .start .ensures .0) (c .start .ensures .1) (c .before .if1 .left)))  -- returns-2
+    (λ c. let at-if1 = c .before in let at-find-from = at-if1 .before in let at-name-part = at-find-from .before in
+    let s = c .before .before .before .before .before .before .before .before .before in
+    let a = s .args in
+    added-new (a .tree .now) (a .slots .now) (a .n) (a .at) (a .b) _ _ (s .pre .0) (s .pre .1) (s .pre .4) (at-name-part .name-part .ensures .0) (at-find-from .find-from .ensures .0) (c .start .result)
+    (c .start .ensures .0) (c .start .ensures .1) (at-if1 .if1 .left)))  -- returns-2

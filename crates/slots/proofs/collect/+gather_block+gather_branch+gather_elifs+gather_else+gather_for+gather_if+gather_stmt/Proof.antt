@@ -4,7 +4,8 @@ use mathlib.Core.Path.{refl, _∙_}
 use Prim.Native.Nat.{ℕ, _+_, _*_, _<_}
 use Rattle.tree.proofs.StmtViews.{stmt-inside, stmt-deep, view-block, view-if, view-while, view-for, else-inside}
 use Rattle.definitions.proofs.Named.{block-grows, branches-grow}
-use Rattle.slots.proofs.Gathering.{gathers-next, over-more, room-again, stmt-if, stmt-while, stmt-for, StmtsLeft, stmts-start, stmts-head, stmts-next, stmts-over, stmts-done, BranchesLeft, branches-start, branches-head, branches-next, branches-over, branches-last, branches-done, else-none, else-reads, else-some, elifs-counted, elifs-read, if-done, for-done, branch-done, block-there, branch-there, elifs-are}
+use Rattle.slots.proofs.Gathering.{gathers-next, over-more, room-again, stmt-if, stmt-while, stmt-for, StmtsLeft, stmts-start, stmts-head, stmts-next, stmts-over, stmts-done, BranchesLeft, branches-start, branches-head}
+use Rattle.slots.proofs.Gathering.{branches-next, branches-over, branches-last, branches-done, else-none, else-reads, else-some, elifs-counted, elifs-read, if-done, for-done, branch-done, block-there, branch-there, elifs-are}
 use Rattle.tree.specs.StmtAt.{stmtsAt, branchesAt}
 use Rattle.tree.proofs.LoopsAt.{if-loops, while-loops, for-loops, other-loops, loops-at, no-else-loops, else-loops}
 use Rattle.definitions.specs.Slots.{loopsBlock, loopsBranches}
@@ -251,8 +252,19 @@ gather-else-ok t = gather-else-lts.spec (gather-block-below t, gather-block.Post
           (at-gather-block .gather-block .ensures .1),
     ))  -- returns-2
 
-gather-for-ok : {M : Type 1} (t : ℕ) → gather-for-lts.Closed (one-more-reads.Asked, one-more-reads.Learnt, name-end-reads.Asked, name-end-reads.Learnt, gather-name-reads.Asked, gather-name-reads.Learnt, gather-branch-below t, gather-branch.Post) (gather-for-at t) gather-for.Post M
-gather-for-ok t = gather-for-lts.spec (one-more-reads.Asked, one-more-reads.Learnt, name-end-reads.Asked, name-end-reads.Learnt, gather-name-reads.Asked, gather-name-reads.Learnt, gather-branch-below t, gather-branch.Post) (gather-for-at t) gather-for.Post
+gather-for-ok : {M : Type 1} (t : ℕ) → gather-for-lts.Closed
+    (one-more-reads.Asked, one-more-reads.Learnt, name-end-reads.Asked, name-end-reads.Learnt, gather-name-reads.Asked, gather-name-reads.Learnt, gather-branch-below t, gather-branch.Post)
+    (gather-for-at t) gather-for.Post M
+gather-for-ok t = gather-for-lts.spec (
+  one-more-reads.Asked,
+  one-more-reads.Learnt,
+  name-end-reads.Asked,
+  name-end-reads.Learnt,
+  gather-name-reads.Asked,
+  gather-name-reads.Learnt,
+  gather-branch-below t,
+  gather-branch.Post,
+) (gather-for-at t) gather-for.Post
     (λ c κs. let start = c .before .before .before in start .pre .1 .2)  -- one-more-requires
     (λ c κs. let start = c .before .before .before .before in start .pre .1 .1 .name)  -- name-end-requires
     (λ c κs. let start = c .before .before .before .before .before .before in (start .pre .1 .0, start .pre .1 .1 .name .byte))  -- gather-name-requires
@@ -309,8 +321,19 @@ gather-if-ok t = gather-if-lts.spec (gather-branch-below t, gather-branch.Post, 
           (elifs-are _ _ _ _ _ (z .end) (at-u16-at .u16-at .ensures .0)) m (at-gather-elifs .gather-elifs .ensures .1),
     ))  -- returns-2
 
-gather-stmt-ok : {M : Type 1} (t : ℕ) → gather-stmt-lts.Closed (gather-if-below t, gather-if.Post, gather-branch-below t, gather-branch.Post, gather-for-below t, gather-for.Post, gather-plain-reads.Asked, gather-plain-reads.Learnt) (gather-stmt-at t) gather-stmt.Post M
-gather-stmt-ok t = gather-stmt-lts.spec (gather-if-below t, gather-if.Post, gather-branch-below t, gather-branch.Post, gather-for-below t, gather-for.Post, gather-plain-reads.Asked, gather-plain-reads.Learnt) (gather-stmt-at t) gather-stmt.Post
+gather-stmt-ok : {M : Type 1} (t : ℕ) → gather-stmt-lts.Closed
+    (gather-if-below t, gather-if.Post, gather-branch-below t, gather-branch.Post, gather-for-below t, gather-for.Post, gather-plain-reads.Asked, gather-plain-reads.Learnt) (gather-stmt-at t)
+    gather-stmt.Post M
+gather-stmt-ok t = gather-stmt-lts.spec (
+  gather-if-below t,
+  gather-if.Post,
+  gather-branch-below t,
+  gather-branch.Post,
+  gather-for-below t,
+  gather-for.Post,
+  gather-plain-reads.Asked,
+  gather-plain-reads.Learnt,
+) (gather-stmt-at t) gather-stmt.Post
     (λ c. let start = c .before .before .before in let h = stmt-inside _ _ _ (start .pre .1 .1) in omega arith)  -- shared-slice-read-kind
     (λ c. let start = c .before .before .before .before in let h = stmt-inside _ _ _ (start .pre .1 .1) in omega arith)  -- add-gather-if
     (λ c. let start = c .before .before .before .before in let h = stmt-deep _ _ _ (start .pre .1 .1) in omega arith)  -- sub-gather-if
@@ -348,4 +371,5 @@ gather-stmt-ok t = gather-stmt-lts.spec (gather-if-below t, gather-if.Post, gath
     (at-gather-plain .gather-plain .ensures, tallies-none (start .pre .1 .2) (other-loops _ _ _ (start .pre .1 .1) (λ h. omega (arith, n .0 .0 .1, n .0 .1, n .1)))))  -- returns-4
 
 pub +gather-block+gather-branch+gather-elifs+gather-else+gather-for+gather-if+gather-stmt-spec : {M : Type 1} → statement M
-+gather-block+gather-branch+gather-elifs+gather-else+gather-for+gather-if+gather-stmt-spec = close μ-gather-block μ-gather-branch μ-gather-elifs μ-gather-else μ-gather-for μ-gather-if μ-gather-stmt gather-block-ok gather-branch-ok gather-elifs-ok gather-else-ok gather-for-ok gather-if-ok gather-stmt-ok
++gather-block+gather-branch+gather-elifs+gather-else+gather-for+gather-if+gather-stmt-spec = close μ-gather-block μ-gather-branch μ-gather-elifs μ-gather-else μ-gather-for μ-gather-if μ-gather-stmt
+    gather-block-ok gather-branch-ok gather-elifs-ok gather-else-ok gather-for-ok gather-if-ok gather-stmt-ok

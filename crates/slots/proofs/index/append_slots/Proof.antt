@@ -15,4 +15,8 @@ append-slots-spec = tie.close (tie.spec
     (λ c. search needs)  -- add-index-slots
     (λ c κs. search needs)  -- index-slots-requires
     (λ c. search needs)  -- same-length
-    (λ c. let s = c .before .before .before .before .before .before .before .before .before .before .before in let a = s .args in appended (a .tree .now) (a .slots .now) (a .k) (a .more .now) _ (s .pre .0) (s .pre .1) (c .before .before .before .before .before .before .copy-places .kept .1 .0) (c .before .before .before .before .before .before .copy-places .ensures) _ (c .before .before .index-slots .ensures)))  -- returns
+    (λ c. let at-index-slots = c .before .before in let at-copy-places = at-index-slots .before .before .before .before in
+    let s = c .before .before .before .before .before .before .before .before .before .before .before in
+    let a = s .args in
+    appended (a .tree .now) (a .slots .now) (a .k) (a .more .now) _ (s .pre .0) (s .pre .1) (at-copy-places .copy-places .kept .1 .0) (at-copy-places .copy-places .ensures) _
+    (at-index-slots .index-slots .ensures)))  -- returns

@@ -21,6 +21,9 @@ copy-places-spec = tie.close (tie.spec Inv-loop μ-loop
     (λ c. omega arith)  -- slice-write-to
     (λ c. omega arith)  -- add-i
     (λ c. omega arith)  -- loop-less
-    (λ c. let v = c .before .before .loop in let s = c .before .before .before in (omega arith, simp length-set (v .inv .1), copy-next _ _ (v .i) (c .before .loop-test .taken) (let e = v .inv .1 in omega (arith, s .pre)) (v .inv .2)))  -- loop-again
+    (λ c. let at-loop-test = c .before in let at-loop = at-loop-test .before in
+    let v = at-loop .loop in
+    let s = c .before .before .before in
+    (omega arith, simp length-set (v .inv .1), copy-next _ _ (v .i) (at-loop-test .loop-test .taken) (let e = v .inv .1 in omega (arith, s .pre)) (v .inv .2)))  -- loop-again
     (λ c. c .before .loop .inv .1)  -- same-length
     (λ c. let v = c .before .loop in copy-done _ _ (v .i) (v .inv .0) (c .loop-test .left) (v .inv .2)))  -- returns

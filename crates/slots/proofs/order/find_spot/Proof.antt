@@ -28,8 +28,17 @@ find-spot-spec = tie.close (tie.spec Inv-loop μ-loop
     (λ c κs. search needs)  -- name-part-requires-2
     (λ c κs. search needs)  -- below-bytes-requires
     (λ c. let v = c .before .before .before .before .before .loop .inv in let a = v .order in let b = v .most in omega (arith, c .before .before .before .before .loop-test .taken))  -- loop-less
-    (λ c. seek-down _ _ _ (c .before .before .before .before .before .before .before .before .before .before .pre .1) _ _ _ (c .before .before .before .before .before .loop .inv) (omega (arith, c .before .before .before .before .loop-test .taken)) (omega (arith, c .before .before .before .before .loop-test .taken)) _ _ _ refl (c .before .before .name-part2 .ensures .0) (c .before .below-bytes .ensures) (c .if1 .taken))  -- loop-again
+    (λ c. let at-below-bytes = c .before in let at-name-part2 = at-below-bytes .before in let at-loop-test = at-name-part2 .before .before in let at-loop = at-loop-test .before in
+    let start = at-loop .before .before .before .before .before in
+    seek-down _ _ _ (start .pre .1) _ _ _ (at-loop .loop .inv) (omega (arith, at-loop-test .loop-test .taken)) (omega (arith, at-loop-test .loop-test .taken)) _ _ _ refl
+    (at-name-part2 .name-part2 .ensures .0) (at-below-bytes .below-bytes .ensures) (c .if1 .taken))  -- loop-again
     (λ c. let v = c .before .before .before .before .before .loop .inv in let a = v .order in let b = v .most in omega arith)  -- add-low
     (λ c. let v = c .before .before .before .before .before .loop .inv in let a = v .order in let b = v .most in omega (arith, c .before .before .before .before .loop-test .taken))  -- loop-less-2
-    (λ c. seek-up _ _ _ (c .before .before .before .before .before .before .before .before .before .before .pre .1) _ _ _ (c .before .before .before .before .before .loop .inv) (omega (arith, c .before .before .before .before .loop-test .taken)) (omega (arith, c .before .before .before .before .loop-test .taken)) _ _ _ refl (c .before .before .name-part2 .ensures .0) (c .before .below-bytes .ensures) (c .if1 .left))  -- loop-again-2
-    (λ c. let v = c .before .loop in let s = c .before .before .before .before .before .before in seek-done _ _ _ _ (v .high) (subst (λ (n : List ℕ). Seeking (s .args .tree .now) n (s .args .places .now) (v .low) (v .high)) (c .before .before .name-part .ensures .0) (v .inv)) (c .loop-test .left)))  -- returns
+    (λ c. let at-below-bytes = c .before in let at-name-part2 = at-below-bytes .before in let at-loop-test = at-name-part2 .before .before in let at-loop = at-loop-test .before in
+    let start = at-loop .before .before .before .before .before in
+    seek-up _ _ _ (start .pre .1) _ _ _ (at-loop .loop .inv) (omega (arith, at-loop-test .loop-test .taken)) (omega (arith, at-loop-test .loop-test .taken)) _ _ _ refl
+    (at-name-part2 .name-part2 .ensures .0) (at-below-bytes .below-bytes .ensures) (c .if1 .left))  -- loop-again-2
+    (λ c. let at-loop = c .before in let at-name-part = at-loop .before in
+    let v = at-loop .loop in
+    let s = c .before .before .before .before .before .before in
+    seek-done _ _ _ _ (v .high) (subst (λ (n : List ℕ). Seeking (s .args .tree .now) n (s .args .places .now) (v .low) (v .high)) (at-name-part .name-part .ensures .0) (v .inv)) (c .loop-test .left)))  -- returns

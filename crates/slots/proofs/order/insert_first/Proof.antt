@@ -21,7 +21,10 @@ insert-first-spec = tie.close (tie.spec Inv-loop μ-loop
     (λ c. let h = move-read _ _ _ _ _ _ (c .before .before .find-spot .ensures) (c .before .loop .inv) (c .loop-test .taken) in let k = c .before .loop .inv .inserting .kept in omega arith)  -- mul-places
     (λ c. move-read _ _ _ _ _ _ (c .before .before .before .find-spot .ensures) (c .before .before .loop .inv) (c .before .loop-test .taken))  -- slice-read-places
     (λ c. let h = move-read _ _ _ _ _ _ (c .before .before .before .find-spot .ensures) (c .before .before .loop .inv) (c .before .loop-test .taken) in let k = c .before .before .loop .inv .inserting .kept in omega arith)  -- mul-places-2
-    (λ c. let h = move-read _ _ _ _ _ _ (c .before .before .before .find-spot .ensures) (c .before .before .loop .inv) (c .before .loop-test .taken) in let k = c .before .before .loop .inv .inserting .kept in omega arith)  -- slice-write-places
+    (λ c. let at-loop-test = c .before in let at-loop = at-loop-test .before in let at-find-spot = at-loop .before in
+    let h = move-read _ _ _ _ _ _ (at-find-spot .find-spot .ensures) (at-loop .loop .inv) (at-loop-test .loop-test .taken) in
+    let k = at-loop .loop .inv .inserting .kept in
+    omega arith)  -- slice-write-places
     (λ c. let h = move-read _ _ _ _ _ _ (c .before .before .before .find-spot .ensures) (c .before .before .loop .inv) (c .before .loop-test .taken) in let k = c .before .before .loop .inv .inserting .kept in omega arith)  -- add-j
     (λ c. omega (arith, c .before .loop-test .taken))  -- loop-less
     (λ c. move-next _ _ _ _ _ _ (c .before .before .before .find-spot .ensures) (c .before .before .loop .inv) (c .before .loop-test .taken))  -- loop-again

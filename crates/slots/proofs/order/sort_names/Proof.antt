@@ -21,6 +21,7 @@ sort-names-spec = tie.close (tie.spec Inv-loop μ-loop
     (λ c. let h = c .before .loop .inv .most in let k = c .before .loop .inv .kept in omega arith)  -- part-insert-first-end
     (λ c κs. (sort-first _ _ _ _ _ (c .before .before .loop .inv) (c .before .loop-test .taken) refl, sort-rest _ _ _ _ _ (c .before .before .loop .inv) (c .before .loop-test .taken) refl))  -- insert-first-requires
     (λ c. omega arith)  -- loop-less
-    (λ c. sort-put _ _ _ _ _ (c .before .before .before .before .before .loop .inv) (c .before .before .before .before .loop-test .taken) refl _ (c .before .before .insert-first .kept .1 .0) (c .before .before .insert-first .ensures))  -- loop-again
+    (λ c. let at-insert-first = c .before .before in let at-loop-test = at-insert-first .before .before in let at-loop = at-loop-test .before in
+    sort-put _ _ _ _ _ (at-loop .loop .inv) (at-loop-test .loop-test .taken) refl _ (at-insert-first .insert-first .kept .1 .0) (at-insert-first .insert-first .ensures))  -- loop-again
     (λ c. c .before .loop .inv .kept)  -- same-length
     (λ c. sort-done _ _ _ _ (c .before .loop .inv) (c .loop-test .left)))  -- returns

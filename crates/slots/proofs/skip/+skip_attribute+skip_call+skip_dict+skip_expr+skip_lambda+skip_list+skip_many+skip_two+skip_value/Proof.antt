@@ -4,9 +4,11 @@ use mathlib.Core.Path.{refl, ap, _∙_}
 use Prim.Native.Nat.{_+_, _*_, _<_}
 use Rattle.definitions.specs.Tree.{Exprs}
 use Rattle.parts.specs.Places.{Node}
-use Rattle.exprs.proofs.ExprViews.{expr-inside, expr-deep, expr-known, view-int, view-float, view-string, view-var, view-unary, view-binary, view-call, view-attribute, view-list, view-dict, view-tuple, view-set, view-tree-set, view-index, view-lambda}
+use Rattle.exprs.proofs.ExprViews.{expr-inside, expr-deep, expr-known, view-int, view-float, view-string, view-var, view-unary, view-binary, view-call, view-attribute, view-list, view-dict, view-tuple, view-set, view-tree-set}
+use Rattle.exprs.proofs.ExprViews.{view-index, view-lambda}
 use Rattle.slots.proofs.Referring.{list-reads, list-is, dict-reads, dict-is}
-use Rattle.slots.proofs.Skipping.{plain-done, number-done, plain-kinds, int-done, float-done, string-done, var-done, unary-done, binary-done, call-done, attribute-done, display-done, dict-done, index-done, lambda-done, moved-expr, expr-after, moved-list, list-after, moved-name, name-after, ExprsLeft, exprs-head, exprs-next, exprs-done}
+use Rattle.slots.proofs.Skipping.{plain-done, number-done, plain-kinds, int-done, float-done, string-done, var-done, unary-done, binary-done, call-done, attribute-done, display-done, dict-done, index-done, lambda-done}
+use Rattle.slots.proofs.Skipping.{moved-expr, expr-after, moved-list, list-after, moved-name, name-after, ExprsLeft, exprs-head, exprs-next, exprs-done}
 use Prim.Native.Nat.{ℕ}
 use borrow.Fn.Kinds.{In}
 use borrow.Fn.PlainCycle.{Measures, is, falls, and}
@@ -165,8 +167,47 @@ skip-dict-ok t = skip-dict-lts.spec (u16-at-reads.Asked, u16-at-reads.Learnt, sk
     (λ c κs. (omega arith, dict-reads _ _ _ _ (c .u16-at .ensures .0) (c .before .before .pre .1)))  -- skip-many-requires
     (λ c. c .skip-many .ensures ∙ ap (λ (x : Node Exprs). x .end) (dict-is _ _ _ _ (c .before .u16-at .ensures .0)))  -- returns
 
-skip-expr-ok : {M : Type 1} (t : ℕ) → skip-expr-lts.Closed (text-end-reads.Asked, text-end-reads.Learnt, name-end-reads.Asked, name-end-reads.Learnt, skip-expr-below t, skip-expr.Post, skip-two-below t, skip-two.Post, skip-call-below t, skip-call.Post, skip-attribute-below t, skip-attribute.Post, skip-list-below t, skip-list.Post, skip-dict-below t, skip-dict.Post, skip-lambda-below t, skip-lambda.Post) (skip-expr-at t) skip-expr.Post M
-skip-expr-ok t = skip-expr-lts.spec (text-end-reads.Asked, text-end-reads.Learnt, name-end-reads.Asked, name-end-reads.Learnt, skip-expr-below t, skip-expr.Post, skip-two-below t, skip-two.Post, skip-call-below t, skip-call.Post, skip-attribute-below t, skip-attribute.Post, skip-list-below t, skip-list.Post, skip-dict-below t, skip-dict.Post, skip-lambda-below t, skip-lambda.Post) (skip-expr-at t) skip-expr.Post
+skip-expr-ok : {M : Type 1} (t : ℕ) → skip-expr-lts.Closed (
+  text-end-reads.Asked,
+  text-end-reads.Learnt,
+  name-end-reads.Asked,
+  name-end-reads.Learnt,
+  skip-expr-below t,
+  skip-expr.Post,
+  skip-two-below t,
+  skip-two.Post,
+  skip-call-below t,
+  skip-call.Post,
+  skip-attribute-below t,
+  skip-attribute.Post,
+  skip-list-below t,
+  skip-list.Post,
+  skip-dict-below t,
+  skip-dict.Post,
+  skip-lambda-below t,
+  skip-lambda.Post,
+) (skip-expr-at t) skip-expr.Post M
+skip-expr-ok t = skip-expr-lts.spec (
+  text-end-reads.Asked,
+  text-end-reads.Learnt,
+  name-end-reads.Asked,
+  name-end-reads.Learnt,
+  skip-expr-below t,
+  skip-expr.Post,
+  skip-two-below t,
+  skip-two.Post,
+  skip-call-below t,
+  skip-call.Post,
+  skip-attribute-below t,
+  skip-attribute.Post,
+  skip-list-below t,
+  skip-list.Post,
+  skip-dict-below t,
+  skip-dict.Post,
+  skip-lambda-below t,
+  skip-lambda.Post,
+)
+    (skip-expr-at t) skip-expr.Post
     (λ c. let h = expr-inside _ _ _ (c .before .before .pre .1) in omega arith)  -- shared-slice-read-kind
     (λ c. let h = expr-inside _ _ _ (c .before .before .pre .1) in omega arith)  -- add-a
     (λ c. let h = view-int _ _ _ (c .before .before .before .pre .1) (c .match .keys1) .parts in omega arith)  -- add-result
@@ -212,7 +253,11 @@ skip-expr-ok t = skip-expr-lts.spec (text-end-reads.Asked, text-end-reads.Learnt
     (λ c. display-done _ _ _ (c .before .before .before .before .pre .1) _ (inr (inr (inr (c .before .match .keys13)))) (c .skip-list4 .ensures))  -- returns-13
     (λ c. index-done _ _ _ (c .before .before .before .before .pre .1) _ (c .before .match .keys14) (c .skip-two2 .ensures))  -- returns-14
     (λ c. lambda-done _ _ _ (c .before .before .before .before .pre .1) _ (c .before .match .keys15) (c .skip-lambda .ensures))  -- returns-15
-    (λ c. let n = c .match .rest in plain-done _ _ _ (c .before .before .before .pre .1) (plain-kinds _ (expr-known _ _ _ (c .before .before .before .pre .1)) (n .0 .0 .0 .0 .0 .0 .0 .0 .0 .0 .0 .0 .0 .0 .1) (n .0 .0 .0 .0 .0 .0 .0 .0 .0 .0 .0 .0 .0 .1) (n .0 .0 .0 .0 .0 .0 .0 .0 .0 .0 .0 .0 .1) (n .0 .0 .0 .0 .0 .0 .0 .0 .0 .0 .0 .1) (n .0 .0 .0 .0 .0 .0 .0 .0 .0 .0 .1) (n .0 .0 .0 .0 .0 .0 .0 .0 .0 .1) (n .0 .0 .0 .0 .0 .0 .0 .0 .1) (n .0 .0 .0 .0 .0 .0 .0 .1) (n .0 .0 .0 .0 .0 .0 .1) (n .0 .0 .0 .0 .0 .1) (n .0 .0 .0 .0 .1) (n .0 .0 .0 .1) (n .0 .0 .1) (n .0 .1) (n .1)))  -- returns-16
+    (λ c. let start = c .before .before .before in
+    let n = c .match .rest in
+    plain-done _ _ _ (start .pre .1) (plain-kinds _ (expr-known _ _ _ (start .pre .1)) (n .0 .0 .0 .0 .0 .0 .0 .0 .0 .0 .0 .0 .0 .0 .1) (n .0 .0 .0 .0 .0 .0 .0 .0 .0 .0 .0 .0 .0 .1)
+    (n .0 .0 .0 .0 .0 .0 .0 .0 .0 .0 .0 .0 .1) (n .0 .0 .0 .0 .0 .0 .0 .0 .0 .0 .0 .1) (n .0 .0 .0 .0 .0 .0 .0 .0 .0 .0 .1) (n .0 .0 .0 .0 .0 .0 .0 .0 .0 .1) (n .0 .0 .0 .0 .0 .0 .0 .0 .1)
+    (n .0 .0 .0 .0 .0 .0 .0 .1) (n .0 .0 .0 .0 .0 .0 .1) (n .0 .0 .0 .0 .0 .1) (n .0 .0 .0 .0 .1) (n .0 .0 .0 .1) (n .0 .0 .1) (n .0 .1) (n .1)))  -- returns-16
 
 skip-lambda-ok : {M : Type 1} (t : ℕ) → skip-lambda-lts.Closed (skip-params-reads.Asked, skip-params-reads.Learnt, skip-expr-below t, skip-expr.Post) (skip-lambda-at t) skip-lambda.Post M
 skip-lambda-ok t = skip-lambda-lts.spec (skip-params-reads.Asked, skip-params-reads.Learnt, skip-expr-below t, skip-expr.Post) (skip-lambda-at t) skip-lambda.Post
@@ -262,4 +307,5 @@ skip-value-ok t = skip-value-lts.spec (name-end-reads.Asked, name-end-reads.Lear
     (λ c. c .skip-expr .ensures)  -- returns-4
 
 pub +skip-attribute+skip-call+skip-dict+skip-expr+skip-lambda+skip-list+skip-many+skip-two+skip-value-spec : {M : Type 1} → statement M
-+skip-attribute+skip-call+skip-dict+skip-expr+skip-lambda+skip-list+skip-many+skip-two+skip-value-spec = close μ-skip-attribute μ-skip-call μ-skip-dict μ-skip-expr μ-skip-lambda μ-skip-list μ-skip-many μ-skip-two μ-skip-value skip-attribute-ok skip-call-ok skip-dict-ok skip-expr-ok skip-lambda-ok skip-list-ok skip-many-ok skip-two-ok skip-value-ok
++skip-attribute+skip-call+skip-dict+skip-expr+skip-lambda+skip-list+skip-many+skip-two+skip-value-spec = close μ-skip-attribute μ-skip-call μ-skip-dict μ-skip-expr μ-skip-lambda μ-skip-list
+    μ-skip-many μ-skip-two μ-skip-value skip-attribute-ok skip-call-ok skip-dict-ok skip-expr-ok skip-lambda-ok skip-list-ok skip-many-ok skip-two-ok skip-value-ok

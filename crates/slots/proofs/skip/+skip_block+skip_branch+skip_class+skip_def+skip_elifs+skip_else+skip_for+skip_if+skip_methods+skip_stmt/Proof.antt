@@ -3,7 +3,9 @@ use mathlib.Core.Path.{refl}
 use Prim.Native.Nat.{_+_, _*_, _<_}
 use Rattle.tree.proofs.StmtViews.{stmt-inside, stmt-deep, view-expr, view-return, view-assign, view-if, view-while, view-for, view-def, view-class, view-block, else-inside}
 use Rattle.slots.proofs.Skipping.{moved-params}
-use Rattle.slots.proofs.SkippingStmts.{simple-done, expr-done, return-done, assign-done, if-done, while-done, for-done, def-done, class-done, moved-block, block-after, moved-branch, branch-after, def-block, def-after, StmtsLeft, stmts-start, stmts-head, stmts-next, stmts-done, BranchesLeft, branches-head, branches-next, branches-last, branches-done, else-none, else-reads, else-done, elifs-counted, elifs-read, elifs-done, MethodsLeft, methods-head, methods-next, methods-done, methods-counted, methods-read, attributes-there, attributes-done}
+use Rattle.slots.proofs.SkippingStmts.{simple-done, expr-done, return-done, assign-done, if-done, while-done, for-done, def-done, class-done, moved-block, block-after, moved-branch, branch-after, def-block, def-after}
+use Rattle.slots.proofs.SkippingStmts.{StmtsLeft, stmts-start, stmts-head, stmts-next, stmts-done, BranchesLeft, branches-head, branches-next, branches-last, branches-done, else-none, else-reads, else-done, elifs-counted}
+use Rattle.slots.proofs.SkippingStmts.{elifs-read, elifs-done, MethodsLeft, methods-head, methods-next, methods-done, methods-counted, methods-read, attributes-there, attributes-done}
 use Prim.Native.Nat.{ℕ}
 use borrow.Fn.Kinds.{In}
 use borrow.Fn.PlainCycle.{Measures, is, falls, and}
@@ -177,14 +179,26 @@ skip-branch-ok t = skip-branch-lts.spec (skip-expr-reads.Asked, skip-expr-reads.
     (λ c κs. (omega arith, moved-block _ _ _ _ (c .skip-expr .ensures) (c .before .before .pre .1 .block)))  -- skip-block-requires
     (λ c. block-after _ _ _ _ (c .before .skip-expr .ensures) _ (c .skip-block .ensures))  -- returns
 
-skip-class-ok : {M : Type 1} (t : ℕ) → skip-class-lts.Closed (name-end-reads.Asked, name-end-reads.Learnt, u16-at-reads.Asked, u16-at-reads.Learnt, skip-methods-below t, skip-methods.Post, skip-attributes-reads.Asked, skip-attributes-reads.Learnt) (skip-class-at t) skip-class.Post M
-skip-class-ok t = skip-class-lts.spec (name-end-reads.Asked, name-end-reads.Learnt, u16-at-reads.Asked, u16-at-reads.Learnt, skip-methods-below t, skip-methods.Post, skip-attributes-reads.Asked, skip-attributes-reads.Learnt) (skip-class-at t) skip-class.Post
+skip-class-ok : {M : Type 1} (t : ℕ) → skip-class-lts.Closed
+    (name-end-reads.Asked, name-end-reads.Learnt, u16-at-reads.Asked, u16-at-reads.Learnt, skip-methods-below t, skip-methods.Post, skip-attributes-reads.Asked, skip-attributes-reads.Learnt)
+    (skip-class-at t) skip-class.Post M
+skip-class-ok t = skip-class-lts.spec (
+  name-end-reads.Asked,
+  name-end-reads.Learnt,
+  u16-at-reads.Asked,
+  u16-at-reads.Learnt,
+  skip-methods-below t,
+  skip-methods.Post,
+  skip-attributes-reads.Asked,
+  skip-attributes-reads.Learnt,
+) (skip-class-at t) skip-class.Post
     (λ c κs. c .before .pre .1 .name)  -- name-end-requires
     (λ c κs. let h = methods-counted _ _ _ _ (c .name-end .ensures) (c .before .before .pre .1) in omega arith)  -- u16-at-requires
     (λ c. let h = methods-counted _ _ _ _ (c .before .name-end .ensures) (c .before .before .before .pre .1) in omega arith)  -- add-skip-methods
     (λ c κs. (omega arith, methods-read _ _ _ _ (c .before .name-end .ensures) (c .before .before .before .pre .1) _ (c .u16-at .ensures .0)))  -- skip-methods-requires
     (λ c κs. attributes-there _ _ _ _ (c .before .before .name-end .ensures) (c .before .before .before .before .pre .1) _ (c .before .u16-at .ensures .0) _ (c .skip-methods .ensures))  -- skip-attributes-requires
-    (λ c. attributes-done _ _ _ _ (c .before .before .before .name-end .ensures) (c .before .before .before .before .before .pre .1) _ (c .before .before .u16-at .ensures .0) _ (c .before .skip-methods .ensures) _ (c .skip-attributes .ensures))  -- returns
+    (λ c. let at-skip-methods = c .before in let at-u16-at = at-skip-methods .before in let at-name-end = at-u16-at .before in let start = at-name-end .before .before in
+    attributes-done _ _ _ _ (at-name-end .name-end .ensures) (start .pre .1) _ (at-u16-at .u16-at .ensures .0) _ (at-skip-methods .skip-methods .ensures) _ (c .skip-attributes .ensures))  -- returns
 
 skip-def-ok : {M : Type 1} (t : ℕ) → skip-def-lts.Closed (name-end-reads.Asked, name-end-reads.Learnt, skip-params-reads.Asked, skip-params-reads.Learnt, skip-block-below t, skip-block.Post) (skip-def-at t) skip-def.Post M
 skip-def-ok t = skip-def-lts.spec (name-end-reads.Asked, name-end-reads.Learnt, skip-params-reads.Asked, skip-params-reads.Learnt, skip-block-below t, skip-block.Post) (skip-def-at t) skip-def.Post
@@ -247,8 +261,38 @@ skip-methods-ok t = skip-methods-lts.spec (skip-def-below t, skip-def.Post) (ski
     (λ c. methods-next _ _ _ _ _ _ (c .before .before .loop .inv) (c .before .loop-test .taken) _ (c .skip-def .ensures))  -- loop-again
     (λ c. methods-done _ _ _ _ _ _ (c .before .loop .inv) (c .loop-test .left))  -- returns
 
-skip-stmt-ok : {M : Type 1} (t : ℕ) → skip-stmt-lts.Closed (skip-expr-reads.Asked, skip-expr-reads.Learnt, skip-two-reads.Asked, skip-two-reads.Learnt, skip-if-below t, skip-if.Post, skip-branch-below t, skip-branch.Post, skip-for-below t, skip-for.Post, skip-def-below t, skip-def.Post, skip-class-below t, skip-class.Post) (skip-stmt-at t) skip-stmt.Post M
-skip-stmt-ok t = skip-stmt-lts.spec (skip-expr-reads.Asked, skip-expr-reads.Learnt, skip-two-reads.Asked, skip-two-reads.Learnt, skip-if-below t, skip-if.Post, skip-branch-below t, skip-branch.Post, skip-for-below t, skip-for.Post, skip-def-below t, skip-def.Post, skip-class-below t, skip-class.Post) (skip-stmt-at t) skip-stmt.Post
+skip-stmt-ok : {M : Type 1} (t : ℕ) → skip-stmt-lts.Closed (
+  skip-expr-reads.Asked,
+  skip-expr-reads.Learnt,
+  skip-two-reads.Asked,
+  skip-two-reads.Learnt,
+  skip-if-below t,
+  skip-if.Post,
+  skip-branch-below t,
+  skip-branch.Post,
+  skip-for-below t,
+  skip-for.Post,
+  skip-def-below t,
+  skip-def.Post,
+  skip-class-below t,
+  skip-class.Post,
+) (skip-stmt-at t) skip-stmt.Post M
+skip-stmt-ok t = skip-stmt-lts.spec (
+  skip-expr-reads.Asked,
+  skip-expr-reads.Learnt,
+  skip-two-reads.Asked,
+  skip-two-reads.Learnt,
+  skip-if-below t,
+  skip-if.Post,
+  skip-branch-below t,
+  skip-branch.Post,
+  skip-for-below t,
+  skip-for.Post,
+  skip-def-below t,
+  skip-def.Post,
+  skip-class-below t,
+  skip-class.Post,
+) (skip-stmt-at t) skip-stmt.Post
     (λ c. let h = stmt-inside _ _ _ (c .before .before .pre .1) in omega arith)  -- shared-slice-read-kind
     (λ c. let h = stmt-inside _ _ _ (c .before .before .pre .1) in omega arith)  -- add-a
     (λ c. let h = stmt-deep _ _ _ (c .before .before .before .pre .1) in omega arith)  -- sub-skip-expr
@@ -275,7 +319,10 @@ skip-stmt-ok t = skip-stmt-lts.spec (skip-expr-reads.Asked, skip-expr-reads.Lear
     (λ c. for-done _ _ _ (c .before .before .before .before .pre .1) _ (c .before .match .keys6) (c .skip-for .ensures))  -- returns-6
     (λ c. def-done _ _ _ (c .before .before .before .before .pre .1) _ (c .before .match .keys7) (c .skip-def .ensures))  -- returns-7
     (λ c. class-done _ _ _ (c .before .before .before .before .pre .1) _ (c .before .match .keys8) (c .skip-class .ensures))  -- returns-8
-    (λ c. let n = c .match .rest in simple-done _ _ _ (c .before .before .before .pre .1) (n .0 .0 .0 .0 .0 .0 .0 .1) (n .0 .0 .0 .0 .0 .0 .1) (n .0 .0 .0 .0 .0 .1) (n .0 .0 .0 .0 .1) (n .0 .0 .0 .1) (n .0 .0 .1) (n .0 .1) (n .1))  -- returns-9
+    (λ c. let start = c .before .before .before in
+    let n = c .match .rest in
+    simple-done _ _ _ (start .pre .1) (n .0 .0 .0 .0 .0 .0 .0 .1) (n .0 .0 .0 .0 .0 .0 .1) (n .0 .0 .0 .0 .0 .1) (n .0 .0 .0 .0 .1) (n .0 .0 .0 .1) (n .0 .0 .1) (n .0 .1) (n .1))  -- returns-9
 
 pub +skip-block+skip-branch+skip-class+skip-def+skip-elifs+skip-else+skip-for+skip-if+skip-methods+skip-stmt-spec : {M : Type 1} → statement M
-+skip-block+skip-branch+skip-class+skip-def+skip-elifs+skip-else+skip-for+skip-if+skip-methods+skip-stmt-spec = close μ-skip-block μ-skip-branch μ-skip-class μ-skip-def μ-skip-elifs μ-skip-else μ-skip-for μ-skip-if μ-skip-methods μ-skip-stmt skip-block-ok skip-branch-ok skip-class-ok skip-def-ok skip-elifs-ok skip-else-ok skip-for-ok skip-if-ok skip-methods-ok skip-stmt-ok
++skip-block+skip-branch+skip-class+skip-def+skip-elifs+skip-else+skip-for+skip-if+skip-methods+skip-stmt-spec = close μ-skip-block μ-skip-branch μ-skip-class μ-skip-def μ-skip-elifs μ-skip-else
+    μ-skip-for μ-skip-if μ-skip-methods μ-skip-stmt skip-block-ok skip-branch-ok skip-class-ok skip-def-ok skip-elifs-ok skip-else-ok skip-for-ok skip-if-ok skip-methods-ok skip-stmt-ok
