@@ -10,7 +10,7 @@ use lib.ListN.{length, drop, get_or, length-drop, drop_of_length-le}
 use lib.Seq.{drop-cons}
 use borrow.Author.Tests.{le-leb, lt-leb, eq-eqb, ne_eqb}
 use Rattle.definitions.specs.Bytes.{all}
-use Rattle.definitions.specs.Wellformed.{letter, digit, isName}
+use Rattle.definitions.specs.Wellformed.{letter, digit, is_name}
 use Rattle.byte_tests.proofs.Same.{and_no}
 
 -- ---- a test of each byte from i on
@@ -72,23 +72,23 @@ inner-rest c b e h g = rw (sym e ∙ h, le-leb 48 c g)
 
 -- ---- names
 
-name-first : (bs : List ℕ) → 0 < length bs → isName bs ≡ (letter (get_or bs 0 0) && all (λ d. letter d || digit d) (drop 1 bs) && leb (length (drop 1 bs)) 63)
-unfolding isName
+name-first : (bs : List ℕ) → 0 < length bs → is_name bs ≡ (letter (get_or bs 0 0) && all (λ d. letter d || digit d) (drop 1 bs) && leb (length (drop 1 bs)) 63)
+unfolding is_name
 name-first [] h = absurd (omega arith)
 name-first (b ∷ bs) h = refl
 
-pub name-empty : (bs : List ℕ) → length bs ≡ 0 → false ≡ isName bs
-unfolding isName
+pub name-empty : (bs : List ℕ) → length bs ≡ 0 → false ≡ is_name bs
+unfolding is_name
 name-empty [] h = refl
 name-empty (b ∷ bs) h = absurd (omega arith)
 
-pub name-long : (bs : List ℕ) → 64 < length bs → false ≡ isName bs
+pub name-long : (bs : List ℕ) → 64 < length bs → false ≡ is_name bs
 name-long bs h = rw (name-first bs (omega arith), lt-leb (length (drop 1 bs)) 63 (omega (arith, length-drop 1 bs))) (and_no (letter (get_or bs 0 0) && all (λ d. letter d || digit d) (drop 1 bs)))
 
-pub name-bad-first : (bs : List ℕ) → 0 < length bs → letter (get_or bs 0 0) ≡ false → false ≡ isName bs
+pub name-bad-first : (bs : List ℕ) → 0 < length bs → letter (get_or bs 0 0) ≡ false → false ≡ is_name bs
 name-bad-first bs h e = rw (name-first bs h, e)
 
-pub name-rest : (bs : List ℕ) (b : Bool) → 0 < length bs → length bs ≤ 64 → letter (get_or bs 0 0) ≡ true → all (λ d. letter d || digit d) (drop 1 bs) ≡ b → b ≡ isName bs
+pub name-rest : (bs : List ℕ) (b : Bool) → 0 < length bs → length bs ≤ 64 → letter (get_or bs 0 0) ≡ true → all (λ d. letter d || digit d) (drop 1 bs) ≡ b → b ≡ is_name bs
 name-rest bs b h g e a = rw (name-first bs h, e, a, le-leb (length (drop 1 bs)) 63 (omega (arith, length-drop 1 bs))) (go b)
   where
     go : (x : Bool) → x ≡ (x && true)

@@ -1,7 +1,7 @@
 // Tests of bytes: whether two lists of them are the same, which comes first, whether they are a name.
 ghost use Rattle.std.specs.Prelude.{◌≡◌, ◌||◌};
 ghost use Rattle.definitions.specs.Bytes.{same, below};
-ghost use Rattle.definitions.specs.Wellformed.{letter, digit, isName};
+ghost use Rattle.definitions.specs.Wellformed.{letter, digit, is_name};
 
 // Whether the two are the same bytes.
 pub fn same_bytes(a: &[u8], b: &[u8]) -> bool
@@ -71,7 +71,7 @@ fn is_inner(c: u8) -> bool
 
 // Whether the bytes are a name (7, 19).
 pub fn is_name(bytes: &[u8]) -> bool
-    ensures { result ≡ isName bytes.now }
+    ensures { result ≡ is_name bytes.now }
 {
     if bytes.len() == 0 {
         return false;

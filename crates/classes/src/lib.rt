@@ -1,6 +1,6 @@
 // Classes of a module and the types of their objects.
 ghost use Rattle.std.specs.Prelude.{◌≡◌};
-ghost use Rattle.definitions.specs.Tables.{typeNumber};
+ghost use Rattle.definitions.specs.Tables.{type_number};
 
 // A class of the module. The type number of its object follows from its number, so a module does not store it.
 #[derive(Drop)]
@@ -12,7 +12,7 @@ impl Class {
     pub const FIRST: u32 = 100;
 
     pub fn type_number(class: u16) -> u32
-        ensures { result ≡ typeNumber class }
+        ensures { result ≡ type_number class }
     {
         Self::FIRST + class as u32
     }

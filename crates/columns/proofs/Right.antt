@@ -6,7 +6,7 @@ use native.Mathlib.Omega.{arith}
 use lib.ListN.{length, get_or, take, drop, set, replicate, length-append, length-take, length-drop, take-append-drop}
 use lib.Seq.{take-suc, set_at, append_snoc, length-take-le}
 use Rattle.definitions.specs.Calls.{written}
-use Rattle.definitions.specs.Columns.{spaces, rightIn}
+use Rattle.definitions.specs.Columns.{spaces, right_in}
 
 -- ---- the last byte of a field
 
@@ -14,23 +14,23 @@ replicate-last : (n x : ℕ) → replicate (suc n) x ≡ replicate n x ++ x ∷ 
 replicate-last zero x = refl
 replicate-last (suc n) x = ap (λ (l : List ℕ). x ∷ l) (replicate-last n x)
 
-pub right-blank : (w : ℕ) → rightIn (suc w) [] ≡ rightIn w [] ++ 32 ∷ []
-unfolding rightIn spaces
+pub right-blank : (w : ℕ) → right_in (suc w) [] ≡ right_in w [] ++ 32 ∷ []
+unfolding right_in spaces
 right-blank w =
     ap (λ (k : ℕ). replicate k 32 ++ []) (let z : suc w - length {A = ℕ} [] ≡ suc w = omega arith in z)
     ∙ append-nil (replicate {A = ℕ} (suc w) 32) ∙ replicate-last w 32 ∙ ap (λ (l : List ℕ). l ++ 32 ∷ []) (sym (append-nil (replicate w 32)))
     ∙ ap (λ (k : ℕ). (replicate k 32 ++ []) ++ 32 ∷ []) (let z : w ≡ w - length {A = ℕ} [] = omega arith in z)
 
-pub right-last : (w : ℕ) (s : List ℕ) (v : ℕ) → rightIn (suc w) (s ++ v ∷ []) ≡ rightIn w s ++ v ∷ []
-unfolding rightIn
+pub right-last : (w : ℕ) (s : List ℕ) (v : ℕ) → right_in (suc w) (s ++ v ∷ []) ≡ right_in w s ++ v ∷ []
+unfolding right_in
 right-last w s v =
     let l = length-append s (v ∷ []) in
     ap (λ (k : ℕ). spaces k ++ (s ++ v ∷ [])) (let z : suc w - length (s ++ v ∷ []) ≡ w - length s = omega arith in z)
     ∙ sym (append_assoc (spaces (w - length s)) s (v ∷ []))
 
 -- a column of spaces before a field is a wider field
-pub right-wider : (w : ℕ) (s : List ℕ) → length s ≤ w → 32 ∷ rightIn w s ≡ rightIn (suc w) s
-unfolding rightIn spaces
+pub right-wider : (w : ℕ) (s : List ℕ) → length s ≤ w → 32 ∷ right_in w s ≡ right_in (suc w) s
+unfolding right_in spaces
 right-wider w s h = ap (λ (k : ℕ). replicate k 32 ++ s) (let z : suc (w - length s) ≡ suc w - length s = omega arith in z)
 
 -- ---- stores from the end on

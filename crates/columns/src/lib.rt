@@ -1,8 +1,8 @@
 // Fields of a line: numbers at the right of their columns, each written from the start of the output that is lent.
 ghost use Rattle.std.specs.Prelude.{◌≡◌, ◌≤◌, ◌<◌, length};
 ghost use Rattle.definitions.specs.Calls.{written};
-ghost use Rattle.definitions.specs.Columns.{rightIn, hexDigit};
-ghost use Rattle.columns.specs.Fields.{fieldText, Splits};
+ghost use Rattle.definitions.specs.Columns.{right_in, hex_digit};
+ghost use Rattle.columns.specs.Fields.{field_text, Splits};
 
 // What a field shows, at its right: nothing, a number in decimal digits, the same after a minus, a minus, the low hexadecimal digits of a number.
 #[derive(Drop)]
@@ -28,7 +28,7 @@ const MINUS: u8 = 45;
 // An upper-case hexadecimal digit.
 fn hex_digit(d: u64) -> u8
     requires { d < 16 }
-    ensures { result ≡ hexDigit d }
+    ensures { result ≡ hex_digit d }
 {
     if d < 10 {
         return (48 + d) as u8;
@@ -91,8 +91,8 @@ fn last_of(f: Field) -> Last
 
 // A field of w columns, from its last byte to its first.
 pub fn put_field(w: usize, f: Field, out: &mut [u8])
-    requires { (length (fieldText f) ≤ w) × (w ≤ length out.old) }
-    ensures { out.new ≡ written (rightIn w (fieldText f)) out.old }
+    requires { (length (field_text f) ≤ w) × (w ≤ length out.old) }
+    ensures { out.new ≡ written (right_in w (field_text f)) out.old }
 {
     let mut i = w;
     let mut rest = f;

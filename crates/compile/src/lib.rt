@@ -2,8 +2,8 @@
 ghost use Rattle.std.specs.Prelude.{◌≡◌, ◌≤◌, length};
 ghost use Rattle.definitions.specs.Lower as Lower;
 ghost use Rattle.tree.specs.StmtAt.{block_at, TreeAt};
-ghost use Rattle.lower_emit.specs.Numbers.{countsOf, SoundIn, LowersIn};
-ghost use Rattle.compile.specs.Compiled.{Fresh, treeBlock, mainCode, BeginsMain, CompilesTree};
+ghost use Rattle.lower_emit.specs.Numbers.{counts_of, SoundIn, LowersIn};
+ghost use Rattle.compile.specs.Compiled.{Fresh, tree_block, main_code, BeginsMain, CompilesTree};
 
 use lower_emit::{begin_function, end_function, put_op};
 use lower_names::intern_made;
@@ -45,7 +45,7 @@ fn emit_main(
     l: &[u32; LIMITS],
 ) -> usize
     requires { SoundIn tree.now made.old code.old tables.old k.old l.now × TreeAt tree.now }
-    ensures { LowersIn result (mainCode (treeBlock tree.now)) (block_at 32 tree.now 5).end
+    ensures { LowersIn result (main_code (tree_block tree.now)) (block_at 32 tree.now 5).end
         tree.now made.old code.old tables.old k.old l.now made.new code.new tables.new k.new }
 {
     let none = [0u32; SLOTS_FROM];
@@ -67,7 +67,7 @@ pub fn compile(
     l: &[u32; LIMITS],
 ) -> usize
     requires { Fresh made.old tables.old k.old l.now × (16384 ≤ length code.old) × TreeAt tree.now }
-    ensures { CompilesTree result tree.now made.new code.new tables.new k.new l.now (Lower.compile (treeBlock tree.now)).tables }
+    ensures { CompilesTree result tree.now made.new code.new tables.new k.new l.now (Lower.compile (tree_block tree.now)).tables }
 {
     let f = begin_main(tree, made, tables, k, l);
     if OVER <= f {
@@ -83,7 +83,7 @@ pub fn compile(
 
 // The counts, as the module's writer takes them.
 pub fn counts(k: &[u32; COUNTS]) -> Counts
-    ensures { result ≡ countsOf k.now }
+    ensures { result ≡ counts_of k.now }
 {
     Counts {
         symbols: k[SYMBOLS],

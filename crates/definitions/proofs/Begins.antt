@@ -10,9 +10,9 @@ use lib.ListN.{length, take, drop, length-drop}
 use lib.Seq.{drop-drop, take-add}
 use borrow.Author.Tests.{leb-true, leb-false}
 use Rattle.definitions.specs.Bytes.{Parsed, got, failed, Parser, ◌>>=◌, give, unread, byte, field, counted, list_of, name, text, keep, checked}
-use Rattle.definitions.specs.Instruction.{instr, firstWidth, secondWidth}
-use Rattle.definitions.specs.Wellformed.{isName}
-use Rattle.definitions.specs.Reader.{instruction, functionRecord, methodRecord, rising, classRecord}
+use Rattle.definitions.specs.Instruction.{instr, first_width, second_width}
+use Rattle.definitions.specs.Wellformed.{is_name}
+use Rattle.definitions.specs.Reader.{instruction, function_record, method_record, rising, class_record}
 
 pub le-or-gt : (a b : ℕ) → (a ≤ b) ⊎ (b < a)
 le-or-gt a b = go (leb a b) refl
@@ -106,19 +106,19 @@ takes-checked test p tp = takes-bind p _ tp (λ a. takes-keep (test a) a)
 pub takes-instruction : Takes instruction
 unfolding instruction
 takes-instruction = takes-bind (checked (λ op. leb op 45) byte) _ (takes-checked (λ op. leb op 45) byte takes-byte)
-    (λ op. takes-bind (field (firstWidth op)) _ (takes_field (firstWidth op))
-    (λ a. takes-bind (field (secondWidth op)) _ (takes_field (secondWidth op)) (λ b. takes-give (instr op a b))))
+    (λ op. takes-bind (field (first_width op)) _ (takes_field (first_width op))
+    (λ a. takes-bind (field (second_width op)) _ (takes_field (second_width op)) (λ b. takes-give (instr op a b))))
 
-pub takes-function : Takes functionRecord
-unfolding functionRecord
+pub takes-function : Takes function_record
+unfolding function_record
 takes-function = takes-bind (field 2) _ (takes_field 2) (λ k. takes-bind (field 1) _ (takes_field 1) (λ n. takes-bind (field 2) _ (takes_field 2)
     (λ l. takes-bind (list_of 2 instruction) _ (takes-list 2 instruction takes-instruction) (λ is. takes-give (record { symbol = k; arity = n; locals = l; code = is })))))
 
-pub takes-method : Takes methodRecord
-unfolding methodRecord
-takes-method = takes-bind (checked isName name) _ (takes-checked isName name takes-name) (λ x. takes-bind (field 2) _ (takes_field 2) (λ f. takes-give (record { name = x; function = f })))
+pub takes-method : Takes method_record
+unfolding method_record
+takes-method = takes-bind (checked is_name name) _ (takes-checked is_name name takes-name) (λ x. takes-bind (field 2) _ (takes_field 2) (λ f. takes-give (record { name = x; function = f })))
 
-pub takes-class : Takes classRecord
-unfolding classRecord
-takes-class = takes-bind (checked isName name) _ (takes-checked isName name takes-name)
-    (λ x. takes-bind (checked rising (list_of 2 methodRecord)) _ (takes-checked rising (list_of 2 methodRecord) (takes-list 2 methodRecord takes-method)) (λ ms. takes-give (record { name = x; methods = ms })))
+pub takes-class : Takes class_record
+unfolding class_record
+takes-class = takes-bind (checked is_name name) _ (takes-checked is_name name takes-name)
+    (λ x. takes-bind (checked rising (list_of 2 method_record)) _ (takes-checked rising (list_of 2 method_record) (takes-list 2 method_record takes-method)) (λ ms. takes-give (record { name = x; methods = ms })))

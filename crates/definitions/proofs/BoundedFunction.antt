@@ -8,10 +8,10 @@ use lib.Seq.{append_snoc}
 use lib.ListN.{length, length-append}
 use Rattle.definitions.specs.Bytes.{Name, position, same}
 use Rattle.definitions.specs.Slots.{Frame}
-use Rattle.definitions.specs.Tables.{Function, Tables, Body, Out, Emit, addSymbol, begin, set_code, intern, function, enclose}
-use Rattle.definitions.specs.Open.{allInstruction}
-use Rattle.definitions.proofs.Functions.{setCode-seam}
-use Rattle.definitions.proofs.Every.{Every, noEvery, every, every_append, every-mid, every-put, length-put, length-snoc}
+use Rattle.definitions.specs.Tables.{Function, Tables, Body, Out, Emit, add_symbol, begin, set_code, intern, function, enclose}
+use Rattle.definitions.specs.Open.{all_instruction}
+use Rattle.definitions.proofs.Functions.{set_code-seam}
+use Rattle.definitions.proofs.Every.{Every, no_every, every, every_append, every-mid, every-put, length-put, length-snoc}
 use Rattle.definitions.proofs.Resolve.{position-lt}
 use Rattle.definitions.proofs.Names.{Short}
 use Rattle.definitions.proofs.Bounds.{Lean, Small, Tight, Trim, bare}
@@ -59,16 +59,16 @@ module _ {n : ℕ} {b : Tables} (k arity : ℕ) (few : arity ≤ 255) (frame : F
 
   after : (enclose k arity frame body e p t).tables.functions ≡ t.functions ++ (made ∷ added)
   unfolding enclose begun made out fresh
-  after = ap (λ (fs : List Function). set_code fs (length t.functions) out.code) before ∙ setCode-seam t.functions added fresh out.code
+  after = ap (λ (fs : List Function). set_code fs (length t.functions) out.code) before ∙ set_code-seam t.functions added fresh out.code
 
   begun-trim : Trim t → Trim begun
-  unfolding begun begin allInstruction
+  unfolding begun begin all_instruction
   begun-trim T =
       let L = begun-longer.sizes in
       record {
         symbols = T.symbols;
         strings = T.strings;
-        functions = every_append (tight-up L T.functions) (every (record { symbol = has; arity = few; code = noEvery }) noEvery);
+        functions = every_append (tight-up L T.functions) (every (record { symbol = has; arity = few; code = no_every }) no_every);
         classes = ordered-up L T.classes;
         constants = constants-up L T.constants;
       }
@@ -115,7 +115,7 @@ module _ {n : ℕ} {b : Tables} (k arity : ℕ) (few : arity ≤ 255) (frame : F
               let K = I.keeps (inside-small S) (begun-trim T) in
               record {
                 trim = record { symbols = K.trim.symbols; strings = K.trim.strings; functions = tight T K; classes = ordered-up ready K.trim.classes; constants = constants-up ready K.trim.constants };
-                code = noEvery;
+                code = no_every;
               };
         };
         few = λ q S. (made-lean S).slots;
@@ -127,11 +127,11 @@ pub function-in : {n s : ℕ} {b : Tables} {e : Emit} (x : Name) (arity : ℕ) (
 unfolding function intern
 function-in {n} {s} {e} x arity frame body p t u h few E = go (position (same x) t.symbols) (position-lt (same x) t.symbols)
   where
-    go : (o : Option ℕ) → ((j : ℕ) → o ≡ some j → j < length t.symbols) → Enclosed n s p t frame (elim o as (λ z. Out) [ some j ↦ enclose j arity frame body e p t | none ↦ enclose (length t.symbols) arity frame body e p (addSymbol x t) ])
+    go : (o : Option ℕ) → ((j : ℕ) → o ≡ some j → j < length t.symbols) → Enclosed n s p t frame (elim o as (λ z. Out) [ some j ↦ enclose j arity frame body e p t | none ↦ enclose (length t.symbols) arity frame body e p (add_symbol x t) ])
     go (some j) l = enclosed j arity few frame body e E p t u (l j refl) s
     go none l =
         let L = symbol-longer x t in
-        let F = enclosed (length t.symbols) arity few frame body e E p (addSymbol x t) (longer-more u L) (omega (arith, length-snoc t.symbols x)) s in
+        let F = enclosed (length t.symbols) arity few frame body e E p (add_symbol x t) (longer-more u L) (omega (arith, length-snoc t.symbols x)) s in
         record {
           step = record {
             longer = longer-more L F.step.longer;

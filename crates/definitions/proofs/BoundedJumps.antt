@@ -9,10 +9,10 @@ use lib.Dec.{eqb}
 use Rattle.definitions.specs.Instruction.{Instr, Jump, JumpIfFalse, ConstBool, minus}
 use Rattle.definitions.specs.Tables.{Tables, Out, Emit}
 use Rattle.definitions.specs.Lower
-use Rattle.definitions.specs.Lower.{jumpOn, shortcut, patch, patched}
+use Rattle.definitions.specs.Lower.{jump_on, shortcut, patch, patched}
 use Rattle.definitions.proofs.Shape.{length-patch}
-use Rattle.definitions.proofs.Every.{Every, noEvery, every, every_append}
-use Rattle.definitions.proofs.Bounds.{Sound, jump-sound, jumpOn-sound, bool-sound}
+use Rattle.definitions.proofs.Every.{Every, no_every, every, every_append}
+use Rattle.definitions.proofs.Bounds.{Sound, jump-sound, jump_on-sound, bool-sound}
 use Rattle.definitions.proofs.LongerTables.{longer-none, longer-more, code_up, small-down}
 use Rattle.definitions.proofs.BoundedPart.{Step, Fits, step-two}
 
@@ -27,7 +27,7 @@ patched-sound {t} {s} h m i x l k = go (eqb x.op 46) (eqb x.op 47)
 
 patch-sound : {t : Tables} {s : ℕ} (h m i : ℕ) {is : List Instr} → m < 4294967296 → Every (Sound t s) is → Every (Sound t s) (patch h m i is)
 unfolding patch
-patch-sound h m i l noEvery = noEvery
+patch-sound h m i l no_every = no_every
 patch-sound h m i l (every {a = x} k r) = every (patched-sound h m i x l k) (patch-sound h m (suc i) l r)
 
 -- how long a loop's and a branch's code is
@@ -35,7 +35,7 @@ pub length_three : (xs ys zs : List Instr) (i j : Instr) → length (xs ++ (i �
 length_three xs ys zs i j = simp length-append
 
 pub fits-loop : {m n s : ℕ} {b : Tables} {e f : Emit} → Fits m s b e → Fits n s b f → Fits (m + n) s b (Lower.loop e f)
-unfolding Lower.loop minus jumpOn
+unfolding Lower.loop minus jump_on
 fits-loop {e} {f} A B = record {
   at = λ p t u.
       let S = A.at p t u in
@@ -48,13 +48,13 @@ fits-loop {e} {f} A B = record {
       let is = a.code ++ (JumpIfFalse (suc n) ∷ (patch h n 0 b.code ++ (j ∷ []))) in
       let l : length is ≡ length a.code + suc (n + 1) = length_three a.code (patch h n 0 b.code) [] (JumpIfFalse (suc n)) j ∙ rw (length-patch h n 0 b.code) in
       step-two a b q is S (B.at q a.tables (longer-more u S.longer)) (omega arith) (omega arith)
-      (λ S x y. every_append x (every (jumpOn-sound false _ (omega (arith, S.place))) (every_append (patch-sound h n 0 (omega (arith, S.place)) y) (every (jump-sound (omega arith)) noEvery))));
+      (λ S x y. every_append x (every (jump_on-sound false _ (omega (arith, S.place))) (every_append (patch-sound h n 0 (omega (arith, S.place)) y) (every (jump-sound (omega arith)) no_every))));
 }
 
 -- a branch: a condition, a part, and the parts after it
 pub step-branch : {m n k s p : ℕ} {t : Tables} (a o r : Out) (q q' hop : ℕ) → q ≡ suc (p + length a.code) → q' ≡ q + suc (length o.code) → hop ≤ length r.code → Step m s p t a → Step n s q a.tables o → Step k s q' o.tables r
     → Step (m + (n + k)) s p t (record { code = a.code ++ (JumpIfFalse (suc (length o.code)) ∷ (o.code ++ (Jump hop ∷ r.code))); tables = r.tables; sources = a.sources ++ (o.sources ++ r.sources) })
-unfolding jumpOn
+unfolding jump_on
 step-branch {p} a o r q q' hop e e' h A B C =
     let is = a.code ++ (JumpIfFalse (suc (length o.code)) ∷ (o.code ++ (Jump hop ∷ r.code))) in
     let l : length is ≡ length a.code + suc (length o.code + suc (length r.code)) = length_three a.code o.code r.code (JumpIfFalse (suc (length o.code))) (Jump hop) in
@@ -67,7 +67,7 @@ step-branch {p} a o r q q' hop e e' h A B C =
           let z = C.keeps (small-down longer-none (omega arith) S) y.trim in
           record {
             trim = z.trim;
-            code = every_append (code_up (longer-more B.longer C.longer).sizes x.code) (every (jumpOn-sound false _ (omega (arith, S.place))) (every_append (code_up C.longer.sizes y.code) (every (jump-sound (omega (arith, S.place))) z.code)));
+            code = every_append (code_up (longer-more B.longer C.longer).sizes x.code) (every (jump_on-sound false _ (omega (arith, S.place))) (every_append (code_up C.longer.sizes y.code) (every (jump-sound (omega (arith, S.place))) z.code)));
           };
     }
 
@@ -83,6 +83,6 @@ fits-shortcut {f} c A = record {
         weight = S.weight;
         keeps = λ s r.
             let K = S.keeps (small-down longer-none (omega arith) s) r in
-            record { trim = K.trim; code = every (jumpOn-sound c (suc (length o.code)) (omega (arith, s.place))) (every_append K.code (every (jump-sound {k = 1} (omega arith)) (every (bool-sound c) noEvery))) };
+            record { trim = K.trim; code = every (jump_on-sound c (suc (length o.code)) (omega (arith, s.place))) (every_append K.code (every (jump-sound {k = 1} (omega arith)) (every (bool-sound c) no_every))) };
       };
 }

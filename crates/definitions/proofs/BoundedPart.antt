@@ -5,7 +5,7 @@ use native.Mathlib.Omega.{arith}
 use lib.ListN.{length, length-append}
 use Rattle.definitions.specs.Instruction.{Instr}
 use Rattle.definitions.specs.Tables.{Tables, Out, Emit, emits, one, ◌⨟◌}
-use Rattle.definitions.proofs.Every.{Every, noEvery, every, every_append}
+use Rattle.definitions.proofs.Every.{Every, no_every, every, every_append}
 use Rattle.definitions.proofs.Bounds.{Sound, sound-wider, Small, Trim, burden}
 use Rattle.definitions.proofs.LongerTables.{Longer, longer-none, longer-more, code_up, small-down}
 
@@ -33,7 +33,7 @@ fits-within E h = record { at = λ p t u. step-within (E.at p t u) h }
 
 -- in a function of more slots
 code-wider : {t : Tables} {s r : ℕ} {is : List Instr} → s ≤ r → Every (Sound t s) is → Every (Sound t r) is
-code-wider h noEvery = noEvery
+code-wider h no_every = no_every
 code-wider h (every x xs) = every (sound-wider h x) (code-wider h xs)
 
 pub fits_wider : {n s r : ℕ} {b : Tables} {e : Emit} → s ≤ r → Fits n s b e → Fits n r b e
@@ -52,10 +52,10 @@ unfolding emits
 fits-emits k = record { at = λ p t u. record { longer = longer-none; weight = omega arith; keeps = λ m r. record { trim = r; code = code_up u.sizes k } } }
 
 pub fits-nothing : {n s : ℕ} {b : Tables} → Fits n s b (emits [])
-fits-nothing = fits-within (fits-emits noEvery) (omega arith)
+fits-nothing = fits-within (fits-emits no_every) (omega arith)
 
 pub fits_one : {s : ℕ} {b : Tables} {i : Instr} → Sound b s i → Fits 0 s b (one i)
-fits_one k = fits-emits (every k noEvery)
+fits_one k = fits-emits (every k no_every)
 
 -- two parts, whose codes go into one
 pub step-two : {m n s p : ℕ} {t : Tables} (o r : Out) (q : ℕ) (is : List Instr) → Step m s p t o → Step n s q o.tables r

@@ -8,15 +8,15 @@ use native.Mathlib.Omega.{arith}
 use lib.ListN.{length}
 use lib.Dec.{T, leb}
 use Rattle.definitions.specs.Bytes.{Text}
-use Rattle.definitions.specs.Utf8.{isUtf8}
-use Rattle.definitions.specs.Wellformed.{isName}
+use Rattle.definitions.specs.Utf8.{is_utf8}
+use Rattle.definitions.specs.Wellformed.{is_name}
 use Rattle.definitions.specs.Builtins.{registry}
-use Rattle.definitions.specs.Instruction.{Instr, instr, Jump, ConstBool, firstWidth, secondWidth}
-use Rattle.definitions.specs.Instruction.{Numbers, nothing, aString, aConstant, aSlot, aSymbol, aFunction, aBuiltin, numbersOf}
+use Rattle.definitions.specs.Instruction.{Instr, instr, Jump, ConstBool, first_width, second_width}
+use Rattle.definitions.specs.Instruction.{Numbers, nothing, a_string, a_constant, a_slot, a_symbol, a_function, a_builtin, numbers_of}
 use Rattle.definitions.specs.Tables.{Function, Method, Class, Tables}
-use Rattle.definitions.specs.Lower.{jumpOn}
-use Rattle.definitions.specs.Reader.{isBuiltin, rising}
-use Rattle.definitions.specs.Open.{allInstruction}
+use Rattle.definitions.specs.Lower.{jump_on}
+use Rattle.definitions.specs.Reader.{is_builtin, rising}
+use Rattle.definitions.specs.Open.{all_instruction}
 use Rattle.definitions.proofs.Every.{Every}
 use Rattle.definitions.proofs.Names.{Short}
 
@@ -25,53 +25,53 @@ use Rattle.definitions.proofs.Names.{Short}
 -- an operand of w bytes, in a function of n slots: a number that stands for something exists, any other fits its bytes
 abbrev pub Operand : Numbers → Tables → ℕ → ℕ → ℕ → Type 0
 Operand nothing t n w a = a < 256 ^ w
-Operand aString t n w a = a < length t.strings
-Operand aConstant t n w a = a < length t.constants
-Operand aSlot t n w a = a < n
-Operand aSymbol t n w a = a < length t.symbols
-Operand aFunction t n w a = a < length t.functions
-Operand aBuiltin t n w a = T (isBuiltin registry a)
+Operand a_string t n w a = a < length t.strings
+Operand a_constant t n w a = a < length t.constants
+Operand a_slot t n w a = a < n
+Operand a_symbol t n w a = a < length t.symbols
+Operand a_function t n w a = a < length t.functions
+Operand a_builtin t n w a = T (is_builtin registry a)
 
 -- an instruction of a function of n slots, or a pending break or continue: its operands are so, and its second one fits its bytes
 pub record Sound (t : Tables) (n : ℕ) (i : Instr) : Type 0 where
   pub op : leb i.op 47 ≡ true
-  pub first : Operand (numbersOf i.op) t n (firstWidth i.op) i.a
-  pub second : i.b < 256 ^ secondWidth i.op
+  pub first : Operand (numbers_of i.op) t n (first_width i.op) i.a
+  pub second : i.b < 256 ^ second_width i.op
 
 -- in a function of more slots
 operand-wider : (k : Numbers) (t : Tables) (m n w a : ℕ) → m ≤ n → Operand k t m w a → Operand k t n w a
 operand-wider nothing t m n w a h o = o
-operand-wider aString t m n w a h o = o
-operand-wider aConstant t m n w a h o = o
-operand-wider aSlot t m n w a h o = omega arith
-operand-wider aSymbol t m n w a h o = o
-operand-wider aFunction t m n w a h o = o
-operand-wider aBuiltin t m n w a h o = o
+operand-wider a_string t m n w a h o = o
+operand-wider a_constant t m n w a h o = o
+operand-wider a_slot t m n w a h o = omega arith
+operand-wider a_symbol t m n w a h o = o
+operand-wider a_function t m n w a h o = o
+operand-wider a_builtin t m n w a h o = o
 
 pub sound-wider : {t : Tables} {m n : ℕ} {i : Instr} → m ≤ n → Sound t m i → Sound t n i
-sound-wider {t} {m} {n} {i} h S = record { op = S.op; first = operand-wider (numbersOf i.op) t m n (firstWidth i.op) i.a h S.first; second = S.second }
+sound-wider {t} {m} {n} {i} h S = record { op = S.op; first = operand-wider (numbers_of i.op) t m n (first_width i.op) i.a h S.first; second = S.second }
 
 -- an instruction without operands, with one, and with a count of arguments for the second one
-pub bare : {t : Tables} {n op : ℕ} → leb op 47 ≡ true → numbersOf op ≡ nothing → Sound t n (instr op 0 0)
-bare {t} {n} {op} e h = record { op = e; first = subst (λ (c : Numbers). Operand c t n (firstWidth op) 0) (sym h) (one-le-pow _ 256 (omega arith)); second = one-le-pow _ 256 (omega arith) }
+pub bare : {t : Tables} {n op : ℕ} → leb op 47 ≡ true → numbers_of op ≡ nothing → Sound t n (instr op 0 0)
+bare {t} {n} {op} e h = record { op = e; first = subst (λ (c : Numbers). Operand c t n (first_width op) 0) (sym h) (one-le-pow _ 256 (omega arith)); second = one-le-pow _ 256 (omega arith) }
 
-pub single : {t : Tables} {n op a : ℕ} → leb op 47 ≡ true → Operand (numbersOf op) t n (firstWidth op) a → Sound t n (instr op a 0)
+pub single : {t : Tables} {n op a : ℕ} → leb op 47 ≡ true → Operand (numbers_of op) t n (first_width op) a → Sound t n (instr op a 0)
 single e h = record { op = e; first = h; second = one-le-pow _ 256 (omega arith) }
 
-pub counted : {t : Tables} {n op a m : ℕ} → leb op 47 ≡ true → secondWidth op ≡ 1 → Operand (numbersOf op) t n (firstWidth op) a → m ≤ 255 → Sound t n (instr op a m)
+pub counted : {t : Tables} {n op a m : ℕ} → leb op 47 ≡ true → second_width op ≡ 1 → Operand (numbers_of op) t n (first_width op) a → m ≤ 255 → Sound t n (instr op a m)
 counted e w h k = record { op = e; first = h; second = rw w (omega arith) }
 
 pub jump-sound : {t : Tables} {n k : ℕ} → k < 4294967296 → Sound t n (Jump k)
-unfolding allInstruction
+unfolding all_instruction
 jump-sound h = single refl h
 
-pub jumpOn-sound : {t : Tables} {n : ℕ} (b : Bool) (k : ℕ) → k < 4294967296 → Sound t n (jumpOn b k)
-unfolding allInstruction jumpOn
-jumpOn-sound false k h = single refl h
-jumpOn-sound true k h = single refl h
+pub jump_on-sound : {t : Tables} {n : ℕ} (b : Bool) (k : ℕ) → k < 4294967296 → Sound t n (jump_on b k)
+unfolding all_instruction jump_on
+jump_on-sound false k h = single refl h
+jump_on-sound true k h = single refl h
 
 pub bool-sound : {t : Tables} {n : ℕ} (b : Bool) → Sound t n (ConstBool b)
-unfolding allInstruction
+unfolding all_instruction
 bool-sound false = bare refl refl
 bool-sound true = bare refl refl
 
@@ -112,12 +112,12 @@ pub record Tight (t : Tables) (f : Function) : Type 0 where
 
 -- of a method: it has a name, and its function exists
 pub record Named (t : Tables) (m : Method) : Type 0 where
-  pub named : isName m.name ≡ true
+  pub named : is_name m.name ≡ true
   pub function : m.function < length t.functions
 
 -- of a class: it has a name, and so have its methods, which rise
 pub record Ordered (t : Tables) (c : Class) : Type 0 where
-  pub named : isName c.name ≡ true
+  pub named : is_name c.name ≡ true
   pub methods : Every (Named t) c.methods
   pub rises : rising c.methods ≡ true
 
@@ -127,7 +127,7 @@ pub record OfClass (t : Tables) (k : ℕ) : Type 0 where
 
 -- of a string: it is well-formed UTF-8
 pub record Utf8 (s : Text) : Type 0 where
-  pub utf8 : isUtf8 s ≡ true
+  pub utf8 : is_utf8 s ≡ true
 
 -- of the tables
 pub record Trim (t : Tables) : Type 0 where

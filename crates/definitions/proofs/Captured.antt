@@ -9,8 +9,8 @@ use native.Mathlib.Omega.{arith}
 use lib.Dec.{eqb, eqb_refl}
 use Rattle.definitions.specs.Bytes.{Name, same, below, position, member, all}
 use Rattle.definitions.specs.Tree.{Expr, lit, var, unary, binary, logical, call, attr, display, index, lambda, Exprs, []ᵉ, ◌∷ᵉ◌}
-use Rattle.definitions.specs.Slots.{add, within, referencedExpr, referencedExprs, insert, sort, captures}
-use Rattle.definitions.specs.Statements.{Among, first, later, PartOf, operand, left_of, rightOf, leftLogical, rightLogical, callee, argument, objectOf, element, indexed, index_of, Occurs, here, inPart, inLambda, Captures, Captured}
+use Rattle.definitions.specs.Slots.{add, within, referenced_expr, referenced_exprs, insert, sort, captures}
+use Rattle.definitions.specs.Statements.{Among, first, later, PartOf, operand, left_of, right_of, left_logical, right_logical, callee, argument, object_of, element, indexed, index_of, Occurs, here, in_part, in_lambda, Captures, Captured}
 use Rattle.definitions.proofs.Truth.{left, right, is_true}
 use Rattle.definitions.proofs.MethodOrder.{same-eq}
 
@@ -141,21 +141,21 @@ unfolding all
 free-lambda x ps bound b f = go (member x ps) (member x bound) refl refl (sym (member-append x ps bound) ∙ f.foreign)
   where
     go : (m n : Bool) → member x ps ≡ m → member x bound ≡ n → (m || n) ≡ false → Free x bound (lambda ps b)
-    go false n p q r = record { around = ps ∷ f.around; occurs = inLambda f.occurs; unbound = rw p f.unbound; foreign = q ∙ r }
+    go false n p q r = record { around = ps ∷ f.around; occurs = in_lambda f.occurs; unbound = rw p f.unbound; foreign = q ∙ r }
     go true n p q r = let z : ◌≡◌ {A = ℕ} 0 1 = cc in absurd (omega arith)
 
 module _ {x : Name} {bound : List Name} where
   in-part : {A : Type 0} {e d : Expr} → PartOf e d → A ⊎ Free x bound e → A ⊎ Free x bound d
   in-part p (inl h) = inl h
-  in-part p (inr f) = inr (record { around = f.around; occurs = inPart p f.occurs; unbound = f.unbound; foreign = f.foreign })
+  in-part p (inr f) = inr (record { around = f.around; occurs = in_part p f.occurs; unbound = f.unbound; foreign = f.foreign })
 
   in-any : {A : Type 0} {es : Exprs} {d : Expr} → ((e : Expr) → Among e es → PartOf e d) → A ⊎ FreeAny x bound es → A ⊎ Free x bound d
   in-any p (inl h) = inl h
   in-any p (inr f) = in-part (p f.one f.among) (inr f.free)
 
-  at_first : {A : Type 0} {e : Expr} {es : Exprs} → A ⊎ Free x bound e → A ⊎ FreeAny x bound (e ∷ᵉ es)
-  at_first (inl h) = inl h
-  at_first (inr f) = inr (record { one = _; among = first; free = f })
+  at-first : {A : Type 0} {e : Expr} {es : Exprs} → A ⊎ Free x bound e → A ⊎ FreeAny x bound (e ∷ᵉ es)
+  at-first (inl h) = inl h
+  at-first (inr f) = inr (record { one = _; among = first; free = f })
 
   at-later : {A : Type 0} {e : Expr} {es : Exprs} → A ⊎ FreeAny x bound es → A ⊎ FreeAny x bound (e ∷ᵉ es)
   at-later (inl h) = inl h
@@ -167,23 +167,23 @@ before f (inl h) = f h
 before f (inr a) = inr a
 
 mutual
-  unfolding referencedExpr referencedExprs
+  unfolding referenced_expr referenced_exprs
 
-  found : (x : Name) (bound : List Name) (e : Expr) (xs : List Name) → member x (referencedExpr bound e xs) ≡ true → (member x xs ≡ true) ⊎ Free x bound e
+  found : (x : Name) (bound : List Name) (e : Expr) (xs : List Name) → member x (referenced_expr bound e xs) ≡ true → (member x xs ≡ true) ⊎ Free x bound e
   found x bound (lit l) xs h = inl h
   found x bound (var y) xs h = free-var x y bound xs (member y bound) refl h
   found x bound (unary op e) xs h = in-part operand (found x bound e xs h)
-  found x bound (binary op l r) xs h = before (λ k. in-part left_of (found x bound l xs k)) (in-part rightOf (found x bound r (referencedExpr bound l xs) h))
-  found x bound (logical op l r) xs h = before (λ k. in-part leftLogical (found x bound l xs k)) (in-part rightLogical (found x bound r (referencedExpr bound l xs) h))
-  found x bound (call f es) xs h = before (λ k. in-part callee (found x bound f xs k)) (in-any (λ e a. argument a) (found-any x bound es (referencedExpr bound f xs) h))
-  found x bound (attr o y) xs h = in-part objectOf (found x bound o xs h)
+  found x bound (binary op l r) xs h = before (λ k. in-part left_of (found x bound l xs k)) (in-part right_of (found x bound r (referenced_expr bound l xs) h))
+  found x bound (logical op l r) xs h = before (λ k. in-part left_logical (found x bound l xs k)) (in-part right_logical (found x bound r (referenced_expr bound l xs) h))
+  found x bound (call f es) xs h = before (λ k. in-part callee (found x bound f xs k)) (in-any (λ e a. argument a) (found-any x bound es (referenced_expr bound f xs) h))
+  found x bound (attr o y) xs h = in-part object_of (found x bound o xs h)
   found x bound (display k es) xs h = in-any (λ e a. element a) (found-any x bound es xs h)
-  found x bound (index o i) xs h = before (λ k. in-part indexed (found x bound o xs k)) (in-part index_of (found x bound i (referencedExpr bound o xs) h))
+  found x bound (index o i) xs h = before (λ k. in-part indexed (found x bound o xs k)) (in-part index_of (found x bound i (referenced_expr bound o xs) h))
   found x bound (lambda ps b) xs h = ⊎_elim (λ (k : member x xs ≡ true). inl k) (λ (f : Free x (ps ++ bound) b). inr (free-lambda x ps bound b f)) (found x (ps ++ bound) b xs h)
 
-  found-any : (x : Name) (bound : List Name) (es : Exprs) (xs : List Name) → member x (referencedExprs bound es xs) ≡ true → (member x xs ≡ true) ⊎ FreeAny x bound es
+  found-any : (x : Name) (bound : List Name) (es : Exprs) (xs : List Name) → member x (referenced_exprs bound es xs) ≡ true → (member x xs ≡ true) ⊎ FreeAny x bound es
   found-any x bound []ᵉ xs h = inl h
-  found-any x bound (e ∷ᵉ es) xs h = before (λ k. at_first (found x bound e xs k)) (at-later (found-any x bound es (referencedExpr bound e xs) h))
+  found-any x bound (e ∷ᵉ es) xs h = before (λ k. at-first (found x bound e xs k)) (at-later (found-any x bound es (referenced_expr bound e xs) h))
 
 -- ---- a name that occurs is kept
 
@@ -201,49 +201,49 @@ kept-var x y xs true h = h
 kept-var x y xs false h = member-add x y xs ∙ rw h
 
 mutual
-  unfolding referencedExpr referencedExprs
+  unfolding referenced_expr referenced_exprs
 
-  kept : (x : Name) (bound : List Name) (e : Expr) (xs : List Name) → member x xs ≡ true → member x (referencedExpr bound e xs) ≡ true
+  kept : (x : Name) (bound : List Name) (e : Expr) (xs : List Name) → member x xs ≡ true → member x (referenced_expr bound e xs) ≡ true
   kept x bound (lit l) xs h = h
   kept x bound (var y) xs h = kept-var x y xs (member y bound) h
   kept x bound (unary op e) xs h = kept x bound e xs h
-  kept x bound (binary op l r) xs h = kept x bound r (referencedExpr bound l xs) (kept x bound l xs h)
-  kept x bound (logical op l r) xs h = kept x bound r (referencedExpr bound l xs) (kept x bound l xs h)
-  kept x bound (call f es) xs h = kept-all x bound es (referencedExpr bound f xs) (kept x bound f xs h)
+  kept x bound (binary op l r) xs h = kept x bound r (referenced_expr bound l xs) (kept x bound l xs h)
+  kept x bound (logical op l r) xs h = kept x bound r (referenced_expr bound l xs) (kept x bound l xs h)
+  kept x bound (call f es) xs h = kept-all x bound es (referenced_expr bound f xs) (kept x bound f xs h)
   kept x bound (attr o y) xs h = kept x bound o xs h
   kept x bound (display k es) xs h = kept-all x bound es xs h
-  kept x bound (index o i) xs h = kept x bound i (referencedExpr bound o xs) (kept x bound o xs h)
+  kept x bound (index o i) xs h = kept x bound i (referenced_expr bound o xs) (kept x bound o xs h)
   kept x bound (lambda ps b) xs h = kept x (ps ++ bound) b xs h
 
-  kept-all : (x : Name) (bound : List Name) (es : Exprs) (xs : List Name) → member x xs ≡ true → member x (referencedExprs bound es xs) ≡ true
+  kept-all : (x : Name) (bound : List Name) (es : Exprs) (xs : List Name) → member x xs ≡ true → member x (referenced_exprs bound es xs) ≡ true
   kept-all x bound []ᵉ xs h = h
-  kept-all x bound (e ∷ᵉ es) xs h = kept-all x bound es (referencedExpr bound e xs) (kept x bound e xs h)
+  kept-all x bound (e ∷ᵉ es) xs h = kept-all x bound es (referenced_expr bound e xs) (kept x bound e xs h)
 
 -- x is kept of whatever was kept before
 abbrev Kept : Name → List Name → Expr → Type 0
-Kept x bound e = (xs : List Name) → member x (referencedExpr bound e xs) ≡ true
+Kept x bound e = (xs : List Name) → member x (referenced_expr bound e xs) ≡ true
 
-kept-among : (x : Name) (bound : List Name) (e : Expr) (es : Exprs) → Among e es → Kept x bound e → (xs : List Name) → member x (referencedExprs bound es xs) ≡ true
-unfolding referencedExprs
-kept-among x bound e _ (first {es = es}) g xs = kept-all x bound es (referencedExpr bound e xs) (g xs)
-kept-among x bound e _ (later {d = d} {es = es} a) g xs = kept-among x bound e es a g (referencedExpr bound d xs)
+kept-among : (x : Name) (bound : List Name) (e : Expr) (es : Exprs) → Among e es → Kept x bound e → (xs : List Name) → member x (referenced_exprs bound es xs) ≡ true
+unfolding referenced_exprs
+kept-among x bound e _ (first {es = es}) g xs = kept-all x bound es (referenced_expr bound e xs) (g xs)
+kept-among x bound e _ (later {d = d} {es = es} a) g xs = kept-among x bound e es a g (referenced_expr bound d xs)
 
 kept-part : (x : Name) (bound : List Name) (e d : Expr) → PartOf e d → Kept x bound e → Kept x bound d
-unfolding referencedExpr
+unfolding referenced_expr
 kept-part x bound e _ operand g xs = g xs
-kept-part x bound e _ (left_of {r = r}) g xs = kept x bound r (referencedExpr bound e xs) (g xs)
-kept-part x bound e _ (rightOf {l = l}) g xs = g (referencedExpr bound l xs)
-kept-part x bound e _ (leftLogical {r = r}) g xs = kept x bound r (referencedExpr bound e xs) (g xs)
-kept-part x bound e _ (rightLogical {l = l}) g xs = g (referencedExpr bound l xs)
-kept-part x bound e _ (callee {es = es}) g xs = kept-all x bound es (referencedExpr bound e xs) (g xs)
-kept-part x bound e _ (argument {f = f} {es = es} a) g xs = kept-among x bound e es a g (referencedExpr bound f xs)
-kept-part x bound e _ objectOf g xs = g xs
+kept-part x bound e _ (left_of {r = r}) g xs = kept x bound r (referenced_expr bound e xs) (g xs)
+kept-part x bound e _ (right_of {l = l}) g xs = g (referenced_expr bound l xs)
+kept-part x bound e _ (left_logical {r = r}) g xs = kept x bound r (referenced_expr bound e xs) (g xs)
+kept-part x bound e _ (right_logical {l = l}) g xs = g (referenced_expr bound l xs)
+kept-part x bound e _ (callee {es = es}) g xs = kept-all x bound es (referenced_expr bound e xs) (g xs)
+kept-part x bound e _ (argument {f = f} {es = es} a) g xs = kept-among x bound e es a g (referenced_expr bound f xs)
+kept-part x bound e _ object_of g xs = g xs
 kept-part x bound e _ (element {es = es} a) g xs = kept-among x bound e es a g xs
-kept-part x bound e _ (indexed {i = i}) g xs = kept x bound i (referencedExpr bound e xs) (g xs)
-kept-part x bound e _ (index_of {o = o}) g xs = g (referencedExpr bound o xs)
+kept-part x bound e _ (indexed {i = i}) g xs = kept x bound i (referenced_expr bound e xs) (g xs)
+kept-part x bound e _ (index_of {o = o}) g xs = g (referenced_expr bound o xs)
 
 kept_here : (x : Name) (bound : List Name) → member x bound ≡ false → Kept x bound (var x)
-unfolding referencedExpr
+unfolding referenced_expr
 kept_here x bound f xs = go (member x bound) f
   where
     go : (b : Bool) → b ≡ false → member x (elim b as (λ z. List Name) [ true ↦ xs | false ↦ add x xs ]) ≡ true
@@ -258,18 +258,18 @@ unbound-too x ps bound h f = member-append x ps bound ∙ rw f (go (member x ps)
     go false h = refl
 
 occurs-kept : (x : Name) (around : List (List Name)) (e : Expr) → Occurs x around e → (bound : List Name) → all (λ (qs : List Name). not (member x qs)) around ≡ true → member x bound ≡ false → Kept x bound e
-unfolding all referencedExpr
+unfolding all referenced_expr
 occurs-kept x _ _ here bound u f xs = kept_here x bound f xs
-occurs-kept x around _ (inPart {e = e} {d = d} p o) bound u f xs = kept-part x bound e d p (occurs-kept x around e o bound u f) xs
-occurs-kept x _ _ (inLambda {around = around} {ps = ps} {b = b} o) bound u f xs =
+occurs-kept x around _ (in_part {e = e} {d = d} p o) bound u f xs = kept-part x bound e d p (occurs-kept x around e o bound u f) xs
+occurs-kept x _ _ (in_lambda {around = around} {ps = ps} {b = b} o) bound u f xs =
     let l = left (not (member x ps)) (all (λ (qs : List Name). not (member x qs)) around) u in
     occurs-kept x around b o (ps ++ bound) (right (not (member x ps)) (all (λ (qs : List Name). not (member x qs)) around) u) (unbound-too x ps bound l f) xs
 
 -- ---- what is captured
 
-member-captures : (slots ps : List Name) (b : Expr) (x : Name) → member x (captures slots ps b) ≡ (member x (referencedExpr ps b []) && member x slots)
+member-captures : (slots ps : List Name) (b : Expr) (x : Name) → member x (captures slots ps b) ≡ (member x (referenced_expr ps b []) && member x slots)
 unfolding captures
-member-captures slots ps b x = member-sort x (within slots (referencedExpr ps b [])) ∙ member-within x slots (referencedExpr ps b [])
+member-captures slots ps b x = member-sort x (within slots (referenced_expr ps b [])) ∙ member-within x slots (referenced_expr ps b [])
 
 pub captured : Captured
 captured slots ps b x = (there-so, so-there)
@@ -279,8 +279,8 @@ captured slots ps b x = (there-so, so-there)
         let k = sym (member-captures slots ps b x) ∙ h in
         ⊎_elim
         (λ (n : member x [] ≡ true). let q = sym (member-nil x) ∙ n in let z : ◌≡◌ {A = ℕ} 0 1 = cc in absurd (omega arith))
-        (λ (f : Free x ps b). record { around = f.around; occurs = f.occurs; unbound = f.unbound; foreign = f.foreign; slotted = right (member x (referencedExpr ps b [])) (member x slots) k })
-        (found x ps b [] (left (member x (referencedExpr ps b [])) (member x slots) k))
+        (λ (f : Free x ps b). record { around = f.around; occurs = f.occurs; unbound = f.unbound; foreign = f.foreign; slotted = right (member x (referenced_expr ps b [])) (member x slots) k })
+        (found x ps b [] (left (member x (referenced_expr ps b [])) (member x slots) k))
 
     so-there : Captures slots ps b x → member x (captures slots ps b) ≡ true
     so-there c = member-captures slots ps b x ∙ rw (occurs-kept x c.around b c.occurs ps c.unbound c.foreign [], c.slotted)

@@ -9,7 +9,7 @@ use borrow.Author.Tests.{ltb-true, ltb-false, lt-ltb, le-ltb}
 use lib.Dec.{ltb}
 use lib.ListN.{length, length-append}
 use Rattle.definitions.specs.Bytes.{digits, decimal}
-use Rattle.definitions.specs.Columns.{signed, hexDigit, hexadecimal}
+use Rattle.definitions.specs.Columns.{signed, hex_digit, hexadecimal}
 
 digits-enough : (m k n : ℕ) → n < m → n < k → digits m n ≡ digits k n
 unfolding digits
@@ -52,11 +52,11 @@ length-decimal (suc k) n h =
     go false e r = let z = more-digits n (ltb-false n 10 e) in omega arith
 
 -- the last hexadecimal digit
-pub hexadecimal-last : (w n : ℕ) → hexadecimal (suc w) n ≡ hexadecimal w (n / 16) ++ hexDigit (n % 16) ∷ []
+pub hexadecimal-last : (w n : ℕ) → hexadecimal (suc w) n ≡ hexadecimal w (n / 16) ++ hex_digit (n % 16) ∷ []
 unfolding hexadecimal
-hexadecimal-last zero n = ap (λ (x : ℕ). hexDigit (x % 16) ∷ []) (div-one n)
+hexadecimal-last zero n = ap (λ (x : ℕ). hex_digit (x % 16) ∷ []) (div-one n)
 hexadecimal-last (suc w) n =
-    ap₂ (λ (x : ℕ) (xs : List ℕ). hexDigit (x % 16) ∷ xs)
+    ap₂ (λ (x : ℕ) (xs : List ℕ). hex_digit (x % 16) ∷ xs)
     (ap (λ (x : ℕ). n / x) (pow-succ' 16 w) ∙ sym (div-div-eq-div-mul n 16 (16 ^ w)))
     (hexadecimal-last w n)
 

@@ -5,9 +5,9 @@ use Prim.Native.Nat.{ℕ, zero, suc, ◌*◌}
 use native.Mathlib.Omega.{arith}
 use lib.ListN.{get_or}
 use Rattle.definitions.specs.Bytes.{Parsed, got, failed, Parser, ◌>>=◌, give, unread, byte, field, counted, list_of, name, text}
-use Rattle.definitions.specs.Tree.{Display, listD, tupleD, setD, treeSetD, Expr, Stmt}
-use Rattle.definitions.specs.Parse.{by_kind, choice, tooDeep, params, exprsOf, displayOf, exprKinds, parseExpr, block_of, branches, methods, attribute, stmtKinds, parseStmt}
-use Rattle.definitions.proofs.Every.{Every, noEvery, every}
+use Rattle.definitions.specs.Tree.{Display, list_d, tuple_d, set_d, tree_set_d, Expr, Stmt}
+use Rattle.definitions.specs.Parse.{by_kind, choice, too_deep, params, exprs_of, display_of, expr_kinds, parse_expr, block_of, branches, methods, attribute, stmt_kinds, parse_stmt}
+use Rattle.definitions.proofs.Every.{Every, no_every, every}
 
 pub data FiveOrSix : ℕ → Type 0 where
   five : FiveOrSix 5
@@ -43,11 +43,11 @@ fails-byte = record { at = go }
     go [] q e = fails-5 q e
     go (b ∷ bs) q e = fails-not b bs q e
 
-fails-deep : {A : Type 0} → Fails (tooDeep {A = A})
-unfolding tooDeep
+fails-deep : {A : Type 0} → Fails (too_deep {A = A})
+unfolding too_deep
 fails-deep {A} = record { at = go }
   where
-    go : (bs : List ℕ) (q : ℕ) → tooDeep {A = A} bs ≡ failed q → FiveOrSix q
+    go : (bs : List ℕ) (q : ℕ) → too_deep {A = A} bs ≡ failed q → FiveOrSix q
     go [] q e = fails-5 q e
     go (b ∷ bs) q e = fails-6 q e
 
@@ -64,17 +64,17 @@ unfolding field
 fails-field zero = fails-give 0
 fails-field (suc w) = fails-bind _ fails-byte (λ b. fails-bind _ (fails-field w) (λ n. fails-give _))
 
-fails-getD : {A : Type 0} {ps : List (Parser A)} → Every Fails ps → (k : ℕ) → Fails (get_or ps k unread)
-fails-getD noEvery k = fails-unread
-fails-getD (every p r) zero = p
-fails-getD (every p r) (suc k) = fails-getD r k
+fails-get_d : {A : Type 0} {ps : List (Parser A)} → Every Fails ps → (k : ℕ) → Fails (get_or ps k unread)
+fails-get_d no_every k = fails-unread
+fails-get_d (every p r) zero = p
+fails-get_d (every p r) (suc k) = fails-get_d r k
 
 fails-kinds : {A : Type 0} {ps : List (Parser A)} → Every Fails ps → Fails (by_kind ps)
 unfolding by_kind
-fails-kinds K = fails-bind _ fails-byte (fails-getD K)
+fails-kinds K = fails-bind _ fails-byte (fails-get_d K)
 
 fails-gives : {A : Type 0} (xs : List A) → Every Fails (map give xs)
-fails-gives [] = noEvery
+fails-gives [] = no_every
 fails-gives (x ∷ xs) = every (fails-give x) (fails-gives xs)
 
 fails-choice : {A : Type 0} (xs : List A) → Fails (choice xs)
@@ -104,17 +104,17 @@ fails-params = fails-list 2 fails-name
 
 -- ---- expressions
 
-fails-exprs : {e : Parser Expr} → Fails e → (n : ℕ) → Fails (exprsOf e n)
-unfolding exprsOf
+fails-exprs : {e : Parser Expr} → Fails e → (n : ℕ) → Fails (exprs_of e n)
+unfolding exprs_of
 fails-exprs E n = fails-counted _ _ E n
 
-fails-display : {e : Parser Expr} → Fails e → (k : Display) → Fails (displayOf e k)
-unfolding displayOf
+fails-display : {e : Parser Expr} → Fails e → (k : Display) → Fails (display_of e k)
+unfolding display_of
 fails-display E k = fails-bind _ (fails-field 2) (λ n. fails-bind _ (fails-exprs E n) (λ es. fails-give _))
 
-fails-exprKinds : {e : Parser Expr} → Fails e → Every Fails (exprKinds e)
-unfolding exprKinds
-fails-exprKinds E =
+fails-expr_kinds : {e : Parser Expr} → Fails e → Every Fails (expr_kinds e)
+unfolding expr_kinds
+fails-expr_kinds E =
     every (fails-give _)
     (every (fails-give _)
     (every (fails-give _)
@@ -126,19 +126,19 @@ fails-exprKinds E =
     (every (fails-bind _ (fails-choice _) (λ op. fails-bind _ E (λ l. fails-bind _ E (λ r. fails-give _))))
     (every (fails-bind _ E (λ f. fails-bind _ (fails-field 2) (λ n. fails-bind _ (fails-exprs E n) (λ es. fails-give _))))
     (every (fails-bind _ E (λ o. fails-bind _ fails-name (λ x. fails-give _)))
-    (every (fails-display E listD)
+    (every (fails-display E list_d)
     (every (fails-bind _ (fails-field 2) (λ n. fails-bind _ (fails-exprs E (2 * n)) (λ es. fails-give _)))
-    (every (fails-display E tupleD)
-    (every (fails-display E setD)
-    (every (fails-display E treeSetD)
+    (every (fails-display E tuple_d)
+    (every (fails-display E set_d)
+    (every (fails-display E tree_set_d)
     (every (fails-bind _ E (λ o. fails-bind _ E (λ i. fails-give _)))
     (every (fails-bind _ fails-params (λ ps. fails-bind _ E (λ b. fails-give _)))
-    noEvery)))))))))))))))))
+    no_every)))))))))))))))))
 
-fails-expr : (d : ℕ) → Fails (parseExpr d)
-unfolding parseExpr
+fails-expr : (d : ℕ) → Fails (parse_expr d)
+unfolding parse_expr
 fails-expr zero = fails-deep
-fails-expr (suc d) = fails-kinds (fails-exprKinds (fails-expr d))
+fails-expr (suc d) = fails-kinds (fails-expr_kinds (fails-expr d))
 
 -- ---- statements
 
@@ -148,7 +148,7 @@ fails-block S = fails-bind _ (fails-field 2) (fails-counted _ _ S)
 
 fails-branches : {e : Parser Expr} {s : Parser Stmt} → Fails e → Fails s → (n : ℕ) → Fails (branches e s n)
 unfolding branches
-fails-branches E S zero = fails-kinds (every (fails-give _) (every (fails-bind _ (fails-block S) (λ b. fails-give _)) noEvery))
+fails-branches E S zero = fails-kinds (every (fails-give _) (every (fails-bind _ (fails-block S) (λ b. fails-give _)) no_every))
 fails-branches E S (suc n) = fails-bind _ E (λ c. fails-bind _ (fails-block S) (λ b. fails-bind _ (fails-branches E S n) (λ r. fails-give _)))
 
 fails-methods : {s : Parser Stmt} → Fails s → (n : ℕ) → Fails (methods s n)
@@ -161,9 +161,9 @@ fails-attribute : {e : Parser Expr} → Fails e → Fails (attribute e)
 unfolding attribute
 fails-attribute E = fails-bind _ fails-name (λ x. fails-bind _ E (λ v. fails-give _))
 
-fails-stmtKinds : {e : Parser Expr} {s : Parser Stmt} → Fails e → Fails s → Every Fails (stmtKinds e s)
-unfolding stmtKinds
-fails-stmtKinds E S =
+fails-stmt_kinds : {e : Parser Expr} {s : Parser Stmt} → Fails e → Fails s → Every Fails (stmt_kinds e s)
+unfolding stmt_kinds
+fails-stmt_kinds E S =
     every (fails-give _)
     (every (fails-give _)
     (every (fails-give _)
@@ -175,12 +175,12 @@ fails-stmtKinds E S =
     (every (fails-bind _ fails-name (λ x. fails-bind _ E (λ i. fails-bind _ (fails-block S) (λ b. fails-give _))))
     (every (fails-bind _ fails-name (λ x. fails-bind _ fails-params (λ ps. fails-bind _ (fails-block S) (λ b. fails-give _))))
     (every (fails-bind _ fails-name (λ x. fails-bind _ (fails-field 2) (λ n. fails-bind _ (fails-methods S n) (λ ms. fails-bind _ (fails-list 2 (fails-attribute E)) (λ vs. fails-give _)))))
-    noEvery))))))))))
+    no_every))))))))))
 
-fails-stmt : (d : ℕ) → Fails (parseStmt d)
-unfolding parseStmt
+fails-stmt : (d : ℕ) → Fails (parse_stmt d)
+unfolding parse_stmt
 fails-stmt zero = fails-deep
-fails-stmt (suc d) = fails-kinds (fails-stmtKinds (fails-expr d) (fails-stmt d))
+fails-stmt (suc d) = fails-kinds (fails-stmt_kinds (fails-expr d) (fails-stmt d))
 
-pub fails-tree : (d : ℕ) → Fails (block_of (parseStmt d))
+pub fails-tree : (d : ℕ) → Fails (block_of (parse_stmt d))
 fails-tree d = fails-block (fails-stmt d)

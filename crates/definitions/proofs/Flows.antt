@@ -6,8 +6,8 @@ use mathlib.Core.Logic.{◌⊎◌, inl, inr, ⊎_elim}
 use native.Mathlib.Omega.{arith}
 use lib.Dec.{eqb}
 use borrow.Author.Tests.{eq-eqb, ne_eqb, eqb-true, le-leb}
-use Rattle.definitions.specs.Instruction.{instructionTable, row_of, firstWidth}
-use Rattle.definitions.specs.Reader.{isJump, landing}
+use Rattle.definitions.specs.Instruction.{instruction_table, row_of, first_width}
+use Rattle.definitions.specs.Reader.{is_jump, landing}
 use Rattle.definitions.specs.Run.{Flow, straight, jump, question, returns, flow, way}
 
 -- flow, by its four tests
@@ -87,12 +87,12 @@ module _ (op : ℕ) where
             third : (op ≡ 28 → ⊥) → (op ≡ 29 → ⊥) → op ≡ 30
             third f g = omega arith
 
-    pub jump-width : firstWidth op ≡ 4
-    unfolding firstWidth row_of instructionTable
-    jump-width = ⊎_elim (λ (e : op ≡ 28). ap firstWidth e) (⊎_elim (λ (e : op ≡ 29). ap firstWidth e) (λ (e : op ≡ 30). ap firstWidth e)) one_of
+    pub jump-width : first_width op ≡ 4
+    unfolding first_width row_of instruction_table
+    jump-width = ⊎_elim (λ (e : op ≡ 28). ap first_width e) (⊎_elim (λ (e : op ≡ 29). ap first_width e) (λ (e : op ≡ 30). ap first_width e)) one_of
 
-    pub is-jump : isJump op ≡ true
-    unfolding isJump
+    pub is-jump : is_jump op ≡ true
+    unfolding is_jump
     is-jump = ap₂ (λ (x y : Bool). x && y) (le-leb 28 op a) (le-leb op 30 b)
 
     pub flow-question : (op ≡ 28 → ⊥) → flow op ≡ question (eqb op 30)

@@ -9,25 +9,25 @@ use native.Mathlib.Omega.{arith}
 use lib.ListN.{length, get_elem?}
 use lib.Dec.{eqb}
 use Rattle.definitions.specs.Bytes.{Name, Text, position, same, member}
-use Rattle.definitions.specs.Tree.{Literal, noneL, boolL, intL, floatL, stringL, Display, listD, tupleD, dictD, setD, treeSetD, binaryNumber}
-use Rattle.definitions.specs.Tree.{UnaryOp, notOp, negateOp, posOp, BinaryOp, addOp, subtractOp, multiplyOp, divideOp, floorDivideOp, moduloOp, equalOp, notEqualOp, lessOp, lessEqualOp, greaterOp, greaterEqualOp}
+use Rattle.definitions.specs.Tree.{Literal, none_l, bool_l, int_l, float_l, string_l, Display, list_d, tuple_d, dict_d, set_d, tree_set_d, binary_number}
+use Rattle.definitions.specs.Tree.{UnaryOp, not_op, negate_op, pos_op, BinaryOp, add_op, subtract_op, multiply_op, divide_op, floor_divide_op, modulo_op, equal_op, not_equal_op, less_op, less_equal_op, greater_op, greater_equal_op}
 use Rattle.definitions.specs.Tree.{Expr, lit, var, unary, binary, logical, call, attr, display, index, lambda, Exprs, []ᵉ, ◌∷ᵉ◌, count}
-use Rattle.definitions.specs.Tree.{View, asVar, asAttr, asIndex, asTuple, asOther, viewDisplay, view, Attribute}
+use Rattle.definitions.specs.Tree.{View, as_var, as_attr, as_index, as_tuple, as_other, view_display, view, Attribute}
 use Rattle.definitions.specs.Tree.{Stmt, break, continue, pass, expr, return, assign, if, while, for, def, class}
 use Rattle.definitions.specs.Tree.{Block, []ᵇ, ◌∷ᵇ◌, Branches, done, else, when, Methods, []ᵐ, method}
-use Rattle.definitions.specs.Wellformed.{init, isTuple}
-use Rattle.definitions.specs.Slots.{localsBlock, captures, Keeping, inGlobals, inSlots, past, Frame, namesOnly, withLoops, loopsStmt, loopsBlock}
+use Rattle.definitions.specs.Wellformed.{init, is_tuple}
+use Rattle.definitions.specs.Slots.{locals_block, captures, Keeping, in_globals, in_slots, past, Frame, names_only, with_loops, loops_stmt, loops_block}
 use Rattle.definitions.specs.Instruction
-use Rattle.definitions.specs.Instruction.{Instr, Return, LoadLocal, StoreGlobal, unaryCode, operatorCode, binaryCode, buildCode}
-use Rattle.definitions.specs.Tables.{Method, Tables, blockBody, exprBody, Source, Out, Emit, addSymbol, addString, emits, one, ◌⨟◌, here, intern, getOrAddString, begin, function, enclose}
+use Rattle.definitions.specs.Instruction.{Instr, Return, LoadLocal, StoreGlobal, unary_code, operator_code, binary_code, build_code}
+use Rattle.definitions.specs.Tables.{Method, Tables, block_body, expr_body, Source, Out, Emit, add_symbol, add_string, emits, one, ◌⨟◌, here, intern, get_or_add_string, begin, function, enclose}
 use Rattle.definitions.specs.Lower
-use Rattle.definitions.specs.Lower.{Callee, builtinCallee, functionCallee, valueCallee, resolve, load, store, literal, decides, jumpOn, shortcut, callNamed, call_by, loads, closure, emitExpr, emitExprs, emitObject}
-use Rattle.definitions.specs.Lower.{copy, emitTarget, unpack, assignBy, patched, patch, loop, Keeper, global, local, iterName, makeIter, namedIter, keptIter, storeIter, loadIter, askIter, takeIter}
-use Rattle.definitions.specs.Lower.{methodEnd, insertMethod, beginClass, classObject, endClass, classOut}
-use Rattle.definitions.specs.Lower.{emitStmt, emitBlock, emitBranches, emitMethods, emitBody, compile}
-use Rattle.definitions.specs.Statements.{assigned, assignedAll, boundStmt, boundBlock, boundBranches, OwnStmt, itself, ofIf, ofWhile, ofFor, OwnBlock, atFirst, atLater, OwnBranches, ofElse, ofThen, ofRest}
-use Rattle.definitions.specs.Statements.{Global, ofClass, GlobalStores}
-use Rattle.definitions.proofs.Every.{Every, noEvery, every, every_append, every_map}
+use Rattle.definitions.specs.Lower.{Callee, builtin_callee, function_callee, value_callee, resolve, load, store, literal, decides, jump_on, shortcut, call_named, call_by, loads, closure, emit_expr, emit_exprs, emit_object}
+use Rattle.definitions.specs.Lower.{copy, emit_target, unpack, assign_by, patched, patch, loop, Keeper, global, local, iter_name, make_iter, named_iter, kept_iter, store_iter, load_iter, ask_iter, take_iter}
+use Rattle.definitions.specs.Lower.{method_end, insert_method, begin_class, class_object, end_class, class_out}
+use Rattle.definitions.specs.Lower.{emit_stmt, emit_block, emit_branches, emit_methods, emit_body, compile}
+use Rattle.definitions.specs.Statements.{assigned, assigned_all, bound_stmt, bound_block, bound_branches, OwnStmt, itself, of_if, of_while, of_for, OwnBlock, at_first, at_later, OwnBranches, of_else, of_then, of_rest}
+use Rattle.definitions.specs.Statements.{Global, of_class, GlobalStores}
+use Rattle.definitions.proofs.Every.{Every, no_every, every, every_append, every_map}
 use Rattle.definitions.proofs.MethodOrder.{same-eq}
 use Rattle.definitions.proofs.Captured.{or-true, same_refl, member-cons, member-append}
 use Rattle.definitions.proofs.Named.{named}
@@ -60,7 +60,7 @@ at_position x (y ∷ xs) k e = go (same x y) refl (position (same x) xs) (at_pos
 -- ---- code in which each StoreGlobal has a symbol that is ok
 
 data Okay (ok : Name → Type 0) (xs : List Name) : List Instr → Type 0 where
-  noCode : Okay ok xs []
+  no_code : Okay ok xs []
   other : {i : Instr} {is : List Instr} → eqb i.op 12 ≡ false → Okay ok xs is → Okay ok xs (i ∷ is)
   stores : {k : ℕ} {is : List Instr} (x : Name) → get_elem? xs k ≡ some x → ok x → Okay ok xs is → Okay ok xs (StoreGlobal k ∷ is)
 
@@ -80,24 +80,24 @@ bool-code false = refl
 
 module _ {ok : Name → Type 0} {xs : List Name} where
   okay-append : {is js : List Instr} → Okay ok xs is → Okay ok xs js → Okay ok xs (is ++ js)
-  okay-append noCode b = b
+  okay-append no_code b = b
   okay-append (other e a) b = other e (okay-append a b)
   okay-append (stores x e o a) b = stores x e o (okay-append a b)
 
   okay-more : {is : List Instr} (new : List Name) → Okay ok xs is → Okay ok (xs ++ new) is
-  okay-more new noCode = noCode
+  okay-more new no_code = no_code
   okay-more new (other e a) = other e (okay-more new a)
   okay-more new (stores {k} x e o a) = stores x (at_more xs new k x e) o (okay-more new a)
 
   okay-patch : {is : List Instr} (h n i : ℕ) → Okay ok xs is → Okay ok xs (patch h n i is)
   unfolding patch patched
-  okay-patch h n i noCode = noCode
+  okay-patch h n i no_code = no_code
   okay-patch h n i (other {i = x} e a) = other (patched_other h n i x e) (okay-patch h n (suc i) a)
   okay-patch h n i (stores x e o a) = stores x e o (okay-patch h n (suc i) a)
 
   -- at a place
   okay-at : {is : List Instr} → Okay ok xs is → (i j : ℕ) → get_elem? is i ≡ some (StoreGlobal j) → (x : Name) → get_elem? xs j ≡ some x → ok x
-  okay-at noCode i j e x f = let z : ◌≡◌ {A = ℕ} 0 1 = cc in absurd (omega arith)
+  okay-at no_code i j e x f = let z : ◌≡◌ {A = ℕ} 0 1 = cc in absurd (omega arith)
   okay-at (other {i = y} h a) zero j e x f = let q : y ≡ StoreGlobal j = cc in let r = ap (λ (w : Instr). eqb w.op 12) (sym q) ∙ h in let z : ◌≡◌ {A = ℕ} 0 1 = cc in absurd (omega arith)
   okay-at (other h a) (suc i) j e x f = okay-at a i j e x f
   okay-at (stores {k} y h o a) zero j e x f = let q : StoreGlobal k ≡ StoreGlobal j = cc in let r : k ≡ j = ap (λ (w : Instr). w.a) q in let s = sym h ∙ ap (get_elem? xs) r ∙ f in let z : y ≡ x = cc in subst ok z o
@@ -109,7 +109,7 @@ okay-of : {ys : List Name} {is : List Instr} (b c : Block) → b ≡ c → Okay 
 okay-of {ys} {is} b c z o = subst (λ (w : Block). Okay (Global w) ys is) z o
 
 record SoundSource (xs : List Name) (s : Source) : Type 0 where
-  at : (b : Block) (end : List Instr) → s.body ≡ blockBody b end → Okay (Global b) xs (emitBody s.frame s.body 0 s.start).code
+  at : (b : Block) (end : List Instr) → s.body ≡ block_body b end → Okay (Global b) xs (emit_body s.frame s.body 0 s.start).code
 
 sound_more : {xs : List Name} (new : List Name) (s : Source) → SoundSource xs s → SoundSource (xs ++ new) s
 sound_more new s S = record { at = λ b end q. okay-more new (S.at b end q) }
@@ -139,13 +139,13 @@ record Stores (ok : Name → Type 0) (e : Emit) : Type 0 where
 module _ {ok : Name → Type 0} where
   st-emits : (is : List Instr) → ((xs : List Name) → Okay ok xs is) → Stores ok (emits is)
   unfolding emits
-  st-emits is a = record { at = λ p t. record { new = []; symbols = sym (append-nil t.symbols); code = a t.symbols; sound = noEvery } }
+  st-emits is a = record { at = λ p t. record { new = []; symbols = sym (append-nil t.symbols); code = a t.symbols; sound = no_every } }
 
   st-none : Stores ok (emits [])
-  st-none = st-emits [] (λ xs. noCode)
+  st-none = st-emits [] (λ xs. no_code)
 
   st-one : (i : Instr) → eqb i.op 12 ≡ false → Stores ok (one i)
-  st-one i e = st-emits (i ∷ []) (λ xs. other e noCode)
+  st-one i e = st-emits (i ∷ []) (λ xs. other e no_code)
 
   stored-seq : (xs : List Name) (e f : Emit) (p : ℕ) (t : Tables) → Stored ok xs (e p t) → Stored ok (e p t).tables.symbols (f (p + length (e p t).code) (e p t).tables) → Stored ok xs ((e ⨟ f) p t)
   unfolding ◌⨟◌
@@ -171,28 +171,28 @@ module _ {ok : Name → Type 0} where
   stored-symbol x f p t F = go (position (same x) t.symbols) refl
     where
       go : (o : Option ℕ) → position (same x) t.symbols ≡ o
-          → Stored ok t.symbols (elim o as (λ z. Out) [ some k ↦ f k p t | none ↦ f (length t.symbols) p (addSymbol x t) ])
+          → Stored ok t.symbols (elim o as (λ z. Out) [ some k ↦ f k p t | none ↦ f (length t.symbols) p (add_symbol x t) ])
       go (some k) e = F k t (at_position x t.symbols k e)
       go none e =
-          let S = F (length t.symbols) (addSymbol x t) (at-end t.symbols x) in
+          let S = F (length t.symbols) (add_symbol x t) (at-end t.symbols x) in
           record { new = x ∷ S.new; symbols = S.symbols ∙ append_assoc t.symbols (x ∷ []) S.new; code = S.code; sound = S.sound }
 
   st-symbol : {f : ℕ → Emit} (x : Name) → ((k : ℕ) → Stores ok (f k)) → Stores ok (intern x f)
   st-symbol {f} x F = record { at = λ p t. stored-symbol x f p t (λ k u e. (F k).at p u) }
 
-  st-string : {f : ℕ → Emit} (x : Text) → ((k : ℕ) → Stores ok (f k)) → Stores ok (getOrAddString x f)
-  unfolding getOrAddString
+  st-string : {f : ℕ → Emit} (x : Text) → ((k : ℕ) → Stores ok (f k)) → Stores ok (get_or_add_string x f)
+  unfolding get_or_add_string
   st-string {f} x F = record { at = λ p t. go p t (position (same x) t.strings) }
     where
-      go : (p : ℕ) (t : Tables) (o : Option ℕ) → Stored ok t.symbols (elim o as (λ z. Out) [ some k ↦ f k p t | none ↦ f (length t.strings) p (addString x t) ])
+      go : (p : ℕ) (t : Tables) (o : Option ℕ) → Stored ok t.symbols (elim o as (λ z. Out) [ some k ↦ f k p t | none ↦ f (length t.strings) p (add_string x t) ])
       go p t (some k) = (F k).at p t
-      go p t none = (F (length t.strings)).at p (addString x t)
+      go p t none = (F (length t.strings)).at p (add_string x t)
 
   st-shortcut : {e : Emit} (b : Bool) → Stores ok e → Stores ok (shortcut b e)
-  unfolding shortcut jumpOn
-  st-shortcut {e} b E = record { at = λ p t. let S = E.at (suc p) t in record { new = S.new; symbols = S.symbols; code = other (jump b _) (okay-append S.code (other refl (other (bool-code b) noCode))); sound = S.sound } }
+  unfolding shortcut jump_on
+  st-shortcut {e} b E = record { at = λ p t. let S = E.at (suc p) t in record { new = S.new; symbols = S.symbols; code = other (jump b _) (okay-append S.code (other refl (other (bool-code b) no_code))); sound = S.sound } }
     where
-      jump : (b : Bool) (n : ℕ) → eqb (jumpOn b n).op 12 ≡ false
+      jump : (b : Bool) (n : ℕ) → eqb (jump_on b n).op 12 ≡ false
       jump true n = refl
       jump false n = refl
 
@@ -206,28 +206,28 @@ module _ {ok : Name → Type 0} where
         record {
           new = S.new ++ R.new;
           symbols = symbols-later t.symbols S.new R.new S.symbols R.symbols;
-          code = okay-append (code-later R.new R.symbols S.code) (other refl (okay-append (okay-patch _ _ 0 R.code) (other refl noCode)));
+          code = okay-append (code-later R.new R.symbols S.code) (other refl (okay-append (okay-patch _ _ 0 R.code) (other refl no_code)));
           sound = every_append (sound-later R.new R.symbols S.sound) R.sound;
         };
   }
 
   -- a function of a block: its own code goes into its source
-  st-block-function : (x : Name) (arity : ℕ) (f : Frame) (b : Block) (end : List Instr) → Stores (Global b) (emitBlock f.names f.keep b ⨟ emits end)
-      → Stores ok (function x arity f (blockBody b end) (emitBlock f.names f.keep b ⨟ emits end))
-  unfolding function enclose begin emitBody
+  st-block-function : (x : Name) (arity : ℕ) (f : Frame) (b : Block) (end : List Instr) → Stores (Global b) (emit_block f.names f.keep b ⨟ emits end)
+      → Stores ok (function x arity f (block_body b end) (emit_block f.names f.keep b ⨟ emits end))
+  unfolding function enclose begin emit_body
   st-block-function x arity f b end E = st-symbol x (λ k. record {
     at = λ p t.
         let S = E.at 0 (begin k arity f t) in
         record {
           new = S.new;
           symbols = S.symbols;
-          code = noCode;
+          code = no_code;
           sound = every (record { at = λ c fin q. let z : b ≡ c = cc in okay-of b c z S.code }) S.sound;
         };
   })
 
   -- of a lambda
-  st-function : {o : Name → Type 0} {e : Emit} (x : Name) (arity : ℕ) (f : Frame) (b : Expr) → Stores o e → Stores ok (function x arity f (exprBody b) e)
+  st-function : {o : Name → Type 0} {e : Emit} (x : Name) (arity : ℕ) (f : Frame) (b : Expr) → Stores o e → Stores ok (function x arity f (expr_body b) e)
   unfolding function enclose begin
   st-function x arity f b E = st-symbol x (λ k. record {
     at = λ p t.
@@ -235,7 +235,7 @@ module _ {ok : Name → Type 0} where
         record {
           new = S.new;
           symbols = S.symbols;
-          code = noCode;
+          code = no_code;
           sound = every (record { at = λ c fin q. let z : ◌≡◌ {A = ℕ} 0 1 = cc in absurd (omega arith) }) S.sound;
         };
   })
@@ -257,65 +257,65 @@ module _ {ok : Name → Type 0} where
 
   st-literal : (l : Literal) → Stores ok (literal l)
   unfolding literal
-  st-literal noneL = st-one _ refl
-  st-literal (boolL b) = st-one _ (bool-code b)
-  st-literal (intL n) = st-one _ refl
-  st-literal (floatL n) = st-one _ refl
-  st-literal (stringL s) = st-string s (λ k. st-one _ refl)
+  st-literal none_l = st-one _ refl
+  st-literal (bool_l b) = st-one _ (bool-code b)
+  st-literal (int_l n) = st-one _ refl
+  st-literal (float_l n) = st-one _ refl
+  st-literal (string_l s) = st-string s (λ k. st-one _ refl)
 
-  st-closure : {e : Emit} (slots : List Name) (n : ℕ) (inner cs : List Name) (b : Expr) → Stores ok e → Stores ok (closure slots n inner cs (exprBody b) e)
+  st-closure : {e : Emit} (slots : List Name) (n : ℕ) (inner cs : List Name) (b : Expr) → Stores ok e → Stores ok (closure slots n inner cs (expr_body b) e)
   unfolding closure
   st-closure {e} slots n inner cs b E =
-      st-by {g = λ t. function (Lower.lambdaName (length t.functions)) n (namesOnly inner) (exprBody b) (e ⨟ one Return) ⨟ loads slots cs ⨟ one (Instruction.MakeClosure (length t.functions) (length cs))}
-      (λ t. st-seq (st-function _ n (namesOnly inner) b (st-seq E (st-one Return refl))) (st-seq (st-loads slots cs) (st-one _ refl)))
+      st-by {g = λ t. function (Lower.lambda_name (length t.functions)) n (names_only inner) (expr_body b) (e ⨟ one Return) ⨟ loads slots cs ⨟ one (Instruction.MakeClosure (length t.functions) (length cs))}
+      (λ t. st-seq (st-function _ n (names_only inner) b (st-seq E (st-one Return refl))) (st-seq (st-loads slots cs) (st-one _ refl)))
 
-  st-named : {e : Emit} (c : Callee) (slots : List Name) (x : Name) (n : ℕ) → Stores ok e → Stores ok (callNamed c slots x e n)
-  unfolding callNamed
-  st-named (builtinCallee i) slots x n A = st-seq A (st-one _ refl)
-  st-named (functionCallee i) slots x n A = st-seq A (st-one _ refl)
-  st-named valueCallee slots x n A = st-seq (st-load slots x) (st-seq A (st-one _ refl))
+  st-named : {e : Emit} (c : Callee) (slots : List Name) (x : Name) (n : ℕ) → Stores ok e → Stores ok (call_named c slots x e n)
+  unfolding call_named
+  st-named (builtin_callee i) slots x n A = st-seq A (st-one _ refl)
+  st-named (function_callee i) slots x n A = st-seq A (st-one _ refl)
+  st-named value_callee slots x n A = st-seq (st-load slots x) (st-seq A (st-one _ refl))
 
   st-call : (v : View) (slots : List Name) (n : ℕ) {e o a : Emit} → Stores ok e → Stores ok o → Stores ok a → Stores ok (call_by v slots e o a n)
   unfolding call_by
-  st-call (asVar x) slots n E O A = record { at = λ p t. (st-named (resolve x t) slots x n A).at p t }
-  st-call (asAttr o x) slots n E O A = let P = st-seq O (st-seq A (st-symbol x (λ k. st-one _ refl))) in record { at = P.at }
-  st-call (asIndex o i) slots n E O A = let P = st-seq E (st-seq A (st-one _ refl)) in record { at = P.at }
-  st-call (asTuple es) slots n E O A = let P = st-seq E (st-seq A (st-one _ refl)) in record { at = P.at }
-  st-call asOther slots n E O A = let P = st-seq E (st-seq A (st-one _ refl)) in record { at = P.at }
+  st-call (as_var x) slots n E O A = record { at = λ p t. (st-named (resolve x t) slots x n A).at p t }
+  st-call (as_attr o x) slots n E O A = let P = st-seq O (st-seq A (st-symbol x (λ k. st-one _ refl))) in record { at = P.at }
+  st-call (as_index o i) slots n E O A = let P = st-seq E (st-seq A (st-one _ refl)) in record { at = P.at }
+  st-call (as_tuple es) slots n E O A = let P = st-seq E (st-seq A (st-one _ refl)) in record { at = P.at }
+  st-call as_other slots n E O A = let P = st-seq E (st-seq A (st-one _ refl)) in record { at = P.at }
 
-unary-code : (op : UnaryOp) → eqb (unaryCode op) 12 ≡ false
-unfolding unaryCode
-unary-code notOp = refl
-unary-code negateOp = refl
-unary-code posOp = refl
+unary-code : (op : UnaryOp) → eqb (unary_code op) 12 ≡ false
+unfolding unary_code
+unary-code not_op = refl
+unary-code negate_op = refl
+unary-code pos_op = refl
 
-binary-code : (op : BinaryOp) → eqb (binaryCode op) 12 ≡ false
-unfolding binaryCode operatorCode binaryNumber
-binary-code addOp = refl
-binary-code subtractOp = refl
-binary-code multiplyOp = refl
-binary-code divideOp = refl
-binary-code floorDivideOp = refl
-binary-code moduloOp = refl
-binary-code equalOp = refl
-binary-code notEqualOp = refl
-binary-code lessOp = refl
-binary-code lessEqualOp = refl
-binary-code greaterOp = refl
-binary-code greaterEqualOp = refl
+binary-code : (op : BinaryOp) → eqb (binary_code op) 12 ≡ false
+unfolding binary_code operator_code binary_number
+binary-code add_op = refl
+binary-code subtract_op = refl
+binary-code multiply_op = refl
+binary-code divide_op = refl
+binary-code floor_divide_op = refl
+binary-code modulo_op = refl
+binary-code equal_op = refl
+binary-code not_equal_op = refl
+binary-code less_op = refl
+binary-code less_equal_op = refl
+binary-code greater_op = refl
+binary-code greater_equal_op = refl
 
-build-code : (k : Display) → eqb (buildCode k) 12 ≡ false
-unfolding buildCode
-build-code listD = refl
-build-code tupleD = refl
-build-code dictD = refl
-build-code setD = refl
-build-code treeSetD = refl
+build-code : (k : Display) → eqb (build_code k) 12 ≡ false
+unfolding build_code
+build-code list_d = refl
+build-code tuple_d = refl
+build-code dict_d = refl
+build-code set_d = refl
+build-code tree_set_d = refl
 
 mutual
-  unfolding emitExpr emitExprs emitObject
+  unfolding emit_expr emit_exprs emit_object
 
-  st-expr : (ok : Name → Type 0) (slots : List Name) (e : Expr) → Stores ok (emitExpr slots e)
+  st-expr : (ok : Name → Type 0) (slots : List Name) (e : Expr) → Stores ok (emit_expr slots e)
   st-expr ok slots (lit l) = st-literal l
   st-expr ok slots (var x) = st-load slots x
   st-expr ok slots (unary op e) = st-seq (st-expr ok slots e) (st-one _ (unary-code op))
@@ -327,11 +327,11 @@ mutual
   st-expr ok slots (index o i) = st-seq (st-expr ok slots o) (st-seq (st-expr ok slots i) (st-one _ refl))
   st-expr ok slots (lambda ps b) = let cs = captures slots ps b in st-closure slots (length ps) (ps ++ cs) cs b (st-expr ok (ps ++ cs) b)
 
-  st-exprs : (ok : Name → Type 0) (slots : List Name) (es : Exprs) → Stores ok (emitExprs slots es)
+  st-exprs : (ok : Name → Type 0) (slots : List Name) (es : Exprs) → Stores ok (emit_exprs slots es)
   st-exprs ok slots []ᵉ = st-none
   st-exprs ok slots (e ∷ᵉ es) = st-seq (st-expr ok slots e) (st-exprs ok slots es)
 
-  st-object : (ok : Name → Type 0) (slots : List Name) (e : Expr) → Stores ok (emitObject slots e)
+  st-object : (ok : Name → Type 0) (slots : List Name) (e : Expr) → Stores ok (emit_object slots e)
   st-object ok slots (lit l) = st-none
   st-object ok slots (var x) = st-none
   st-object ok slots (unary op e) = st-none
@@ -350,7 +350,7 @@ record Allowed (ok : Name → Type 0) (slots names : List Name) : Type 0 where
 
 stored-global : {ok : Name → Type 0} (x : Name) (k p : ℕ) (t : Tables) → get_elem? t.symbols k ≡ some x → ok x → Stored ok t.symbols (one (StoreGlobal k) p t)
 unfolding emits
-stored-global x k p t e o = record { new = []; symbols = sym (append-nil t.symbols); code = stores x e o noCode; sound = noEvery }
+stored-global x k p t e o = record { new = []; symbols = sym (append-nil t.symbols); code = stores x e o no_code; sound = no_every }
 
 module _ {ok : Name → Type 0} {slots : List Name} where
   allowed-left : (xs ys : List Name) → Allowed ok slots (xs ++ ys) → Allowed ok slots xs
@@ -386,9 +386,9 @@ module _ {ok : Name → Type 0} where
   st-tuple false names A E = st-none
 
 mutual
-  unfolding emitTarget unpack assigned assignedAll
+  unfolding emit_target unpack assigned assigned_all
 
-  st-target : (ok : Name → Type 0) (slots : List Name) (e : Expr) → Allowed ok slots (assigned e) → Stores ok (emitTarget slots e)
+  st-target : (ok : Name → Type 0) (slots : List Name) (e : Expr) → Allowed ok slots (assigned e) → Stores ok (emit_target slots e)
   st-target ok slots (lit l) A = st-none
   st-target ok slots (var x) A = st-store slots x (allowed-first x [] A)
   st-target ok slots (unary op e) A = st-none
@@ -396,22 +396,22 @@ mutual
   st-target ok slots (logical op l r) A = st-none
   st-target ok slots (call f es) A = st-none
   st-target ok slots (attr o x) A = st-none
-  st-target ok slots (display k es) A = st-tuple (isTuple k) (assignedAll es) A (λ B. st-unpack ok slots es 0 B)
+  st-target ok slots (display k es) A = st-tuple (is_tuple k) (assigned_all es) A (λ B. st-unpack ok slots es 0 B)
   st-target ok slots (index o i) A = st-none
   st-target ok slots (lambda ps b) A = st-none
 
-  st-unpack : (ok : Name → Type 0) (slots : List Name) (es : Exprs) (i : ℕ) → Allowed ok slots (assignedAll es) → Stores ok (unpack slots es i)
+  st-unpack : (ok : Name → Type 0) (slots : List Name) (es : Exprs) (i : ℕ) → Allowed ok slots (assigned_all es) → Stores ok (unpack slots es i)
   st-unpack ok slots []ᵉ i A = st-none
   st-unpack ok slots (e ∷ᵉ es) i A =
-      st-seq (st-unpack ok slots es (suc i) (allowed-right (assigned e) (assignedAll es) A))
-      (st-seq (st-copy i) (st-seq (st-emits _ (λ xs. other refl (other refl noCode))) (st-target ok slots e (allowed-left (assigned e) (assignedAll es) A))))
+      st-seq (st-unpack ok slots es (suc i) (allowed-right (assigned e) (assigned_all es) A))
+      (st-seq (st-copy i) (st-seq (st-emits _ (λ xs. other refl (other refl no_code))) (st-target ok slots e (allowed-left (assigned e) (assigned_all es) A))))
 
 -- the names of a target, by its form
-abbrev assignedForm : View → List Name
-assignedForm w = elim w [ asVar x ↦ x ∷ [] | asAttr o x ↦ [] | asIndex o i ↦ [] | asTuple es ↦ assignedAll es | asOther ↦ [] ]
+abbrev assigned_form : View → List Name
+assigned_form w = elim w [ as_var x ↦ x ∷ [] | as_attr o x ↦ [] | as_index o i ↦ [] | as_tuple es ↦ assigned_all es | as_other ↦ [] ]
 
-assigned-form : (e : Expr) → assigned e ≡ assignedForm (view e)
-unfolding assigned view viewDisplay isTuple
+assigned-form : (e : Expr) → assigned e ≡ assigned_form (view e)
+unfolding assigned view view_display is_tuple
 assigned-form (lit l) = refl
 assigned-form (var x) = refl
 assigned-form (unary op e) = refl
@@ -421,68 +421,68 @@ assigned-form (call f es) = refl
 assigned-form (attr o x) = refl
 assigned-form (display k es) = go k
   where
-    go : (k : Display) → ◌≡◌ {A = List Name} (elim (isTuple k) as (λ z. List Name) [ true ↦ assignedAll es | false ↦ [] ]) (assignedForm (viewDisplay k es))
-    go listD = refl
-    go tupleD = refl
-    go dictD = refl
-    go setD = refl
-    go treeSetD = refl
+    go : (k : Display) → ◌≡◌ {A = List Name} (elim (is_tuple k) as (λ z. List Name) [ true ↦ assigned_all es | false ↦ [] ]) (assigned_form (view_display k es))
+    go list_d = refl
+    go tuple_d = refl
+    go dict_d = refl
+    go set_d = refl
+    go tree_set_d = refl
 assigned-form (index o i) = refl
 assigned-form (lambda ps b) = refl
 
-st-assign : (ok : Name → Type 0) (v : View) (slots : List Name) {e : Emit} → Allowed ok slots (assignedForm v) → Stores ok e → Stores ok (assignBy v slots e)
-unfolding assignBy
-st-assign ok (asVar x) slots A E = st-seq E (st-store slots x (allowed-first x [] A))
-st-assign ok (asAttr o x) slots A E = st-seq (st-expr ok slots o) (st-seq E (st-symbol x (λ k. st-one _ refl)))
-st-assign ok (asIndex o i) slots A E = st-seq (st-expr ok slots o) (st-seq (st-expr ok slots i) (st-seq E (st-one _ refl)))
-st-assign ok (asTuple es) slots A E = st-seq E (st-unpack ok slots es 0 A)
-st-assign ok asOther slots A E = st-none
+st-assign : (ok : Name → Type 0) (v : View) (slots : List Name) {e : Emit} → Allowed ok slots (assigned_form v) → Stores ok e → Stores ok (assign_by v slots e)
+unfolding assign_by
+st-assign ok (as_var x) slots A E = st-seq E (st-store slots x (allowed-first x [] A))
+st-assign ok (as_attr o x) slots A E = st-seq (st-expr ok slots o) (st-seq E (st-symbol x (λ k. st-one _ refl)))
+st-assign ok (as_index o i) slots A E = st-seq (st-expr ok slots o) (st-seq (st-expr ok slots i) (st-seq E (st-one _ refl)))
+st-assign ok (as_tuple es) slots A E = st-seq E (st-unpack ok slots es 0 A)
+st-assign ok as_other slots A E = st-none
 
 -- ---- statements
 
 -- what loops store their iterators in: globals, of which every name is ok, or slots
 data Iterates (ok : Name → Type 0) : Keeping → Type 0 where
-  byName : ((n : ℕ) → ok (iterName n)) → Iterates ok inGlobals
-  bySlot : {n : ℕ} → Iterates ok (inSlots n)
+  by_name : ((n : ℕ) → ok (iter_name n)) → Iterates ok in_globals
+  by_slot : {n : ℕ} → Iterates ok (in_slots n)
 
 iterates-past : {ok : Name → Type 0} {keep : Keeping} (n : ℕ) → Iterates ok keep → Iterates ok (past n keep)
 unfolding past
-iterates-past n (byName I) = byName I
-iterates-past n bySlot = bySlot
+iterates-past n (by_name I) = by_name I
+iterates-past n by_slot = by_slot
 
 module _ {ok : Name → Type 0} where
-  st-makeIter : Stores ok makeIter
-  unfolding makeIter
-  st-makeIter = st-symbol _ (λ k. st-one _ refl)
+  st-make_iter : Stores ok make_iter
+  unfolding make_iter
+  st-make_iter = st-symbol _ (λ k. st-one _ refl)
 
-  st-loadIter : (g : Keeper) → Stores ok (one (loadIter g))
-  unfolding loadIter
-  st-loadIter (global k) = st-one _ refl
-  st-loadIter (local n) = st-one _ refl
+  st-load_iter : (g : Keeper) → Stores ok (one (load_iter g))
+  unfolding load_iter
+  st-load_iter (global k) = st-one _ refl
+  st-load_iter (local n) = st-one _ refl
 
-  st-askIter : (g : Keeper) → Stores ok (askIter g)
-  unfolding askIter
-  st-askIter g = st-seq (st-loadIter g) (st-symbol _ (λ k. st-one _ refl))
+  st-ask_iter : (g : Keeper) → Stores ok (ask_iter g)
+  unfolding ask_iter
+  st-ask_iter g = st-seq (st-load_iter g) (st-symbol _ (λ k. st-one _ refl))
 
-  st-takeIter : (slots : List Name) (x : Name) (g : Keeper) → (member x slots ≡ true) ⊎ ok x → Stores ok (takeIter slots x g)
-  unfolding takeIter
-  st-takeIter slots x g h = st-seq (st-loadIter g) (st-seq (st-symbol _ (λ k. st-one _ refl)) (st-store slots x h))
+  st-take_iter : (slots : List Name) (x : Name) (g : Keeper) → (member x slots ≡ true) ⊎ ok x → Stores ok (take_iter slots x g)
+  unfolding take_iter
+  st-take_iter slots x g h = st-seq (st-load_iter g) (st-seq (st-symbol _ (λ k. st-one _ refl)) (st-store slots x h))
 
   -- the iterator is stored, and what follows
-  st-iter : {f : Keeper → Emit} (keep : Keeping) → Iterates ok keep → ((g : Keeper) → Stores ok (f g)) → Stores ok (keptIter keep (λ g. one (storeIter g) ⨟ f g))
-  unfolding keptIter namedIter here storeIter
-  st-iter {f} keep (byName I) F = record {
-    at = λ p t. stored-symbol (iterName p) (λ k. one (StoreGlobal k) ⨟ f (global k)) p t (λ k u e.
-        stored-seq u.symbols (one (StoreGlobal k)) (f (global k)) p u (stored-global (iterName p) k p u e (I p)) ((F (global k)).at _ _));
+  st-iter : {f : Keeper → Emit} (keep : Keeping) → Iterates ok keep → ((g : Keeper) → Stores ok (f g)) → Stores ok (kept_iter keep (λ g. one (store_iter g) ⨟ f g))
+  unfolding kept_iter named_iter here store_iter
+  st-iter {f} keep (by_name I) F = record {
+    at = λ p t. stored-symbol (iter_name p) (λ k. one (StoreGlobal k) ⨟ f (global k)) p t (λ k u e.
+        stored-seq u.symbols (one (StoreGlobal k)) (f (global k)) p u (stored-global (iter_name p) k p u e (I p)) ((F (global k)).at _ _));
   }
-  st-iter keep bySlot F = st-seq (st-one _ refl) (F (local _))
+  st-iter keep by_slot F = st-seq (st-one _ refl) (F (local _))
 
-  stored-class : (x : Name) (c : ℕ) (ms : List Method) (p : ℕ) (t : Tables) → ok x → Stored ok t.symbols (endClass x c ms p t)
-  unfolding endClass classObject
-  stored-class x c ms p t o = stored-symbol x (classObject c) p _ (λ k u e. record { new = []; symbols = sym (append-nil u.symbols); code = other refl (stores x e o noCode); sound = noEvery })
+  stored-class : (x : Name) (c : ℕ) (ms : List Method) (p : ℕ) (t : Tables) → ok x → Stored ok t.symbols (end_class x c ms p t)
+  unfolding end_class class_object
+  stored-class x c ms p t o = stored-symbol x (class_object c) p _ (λ k u e. record { new = []; symbols = sym (append-nil u.symbols); code = other refl (stores x e o no_code); sound = no_every })
 
 record StoresBranches (ok : Name → Type 0) (slots : List Name) (keep : Keeping) (r : Branches) : Type 0 where
-  at : (p : ℕ) (t : Tables) → Stored ok t.symbols (emitBranches slots keep r p t).out
+  at : (p : ℕ) (t : Tables) → Stored ok t.symbols (emit_branches slots keep r p t).out
 
 -- methods have no code of their own
 record StoredMethods (xs : List Name) (m : Lower.Members) : Type 0 where
@@ -491,17 +491,17 @@ record StoredMethods (xs : List Name) (m : Lower.Members) : Type 0 where
   sound : Every (SoundSource m.tables.symbols) m.sources
 
 record StoresMethods (m : Methods) : Type 0 where
-  at : (ms : List Method) (t : Tables) → StoredMethods t.symbols (emitMethods m ms t)
+  at : (ms : List Method) (t : Tables) → StoredMethods t.symbols (emit_methods m ms t)
 
-st-when : (ok : Name → Type 0) (slots : List Name) (keep : Keeping) (c : Expr) (b : Block) (r : Branches) → Stores ok (emitBlock slots keep b) → StoresBranches ok slots (past (loopsBlock b) keep) r
+st-when : (ok : Name → Type 0) (slots : List Name) (keep : Keeping) (c : Expr) (b : Block) (r : Branches) → Stores ok (emit_block slots keep b) → StoresBranches ok slots (past (loops_block b) keep) r
     → StoresBranches ok slots keep (when c b r)
-unfolding emitBranches
+unfolding emit_branches
 st-when ok slots keep c b r B R = record {
   at = λ p t.
-      let a = emitExpr slots c p t in
+      let a = emit_expr slots c p t in
       let q = suc (p + length a.code) in
-      let o = emitBlock slots keep b q a.tables in
-      let k = emitBranches slots (past (loopsBlock b) keep) r (q + suc (length o.code)) o.tables in
+      let o = emit_block slots keep b q a.tables in
+      let k = emit_branches slots (past (loops_block b) keep) r (q + suc (length o.code)) o.tables in
       let S = (st-expr ok slots c).at p t in
       let T = B.at q a.tables in
       let U = R.at (q + suc (length o.code)) o.tables in
@@ -514,12 +514,12 @@ st-when ok slots keep c b r B R = record {
       };
 }
 
-st-class : (ok : Name → Type 0) (slots : List Name) (keep : Keeping) (x : Name) (m : Methods) (vs : List Attribute) → ok x → StoresMethods m → Stores ok (emitStmt slots keep (class x m vs))
-unfolding emitStmt classOut beginClass
+st-class : (ok : Name → Type 0) (slots : List Name) (keep : Keeping) (x : Name) (m : Methods) (vs : List Attribute) → ok x → StoresMethods m → Stores ok (emit_stmt slots keep (class x m vs))
+unfolding emit_stmt class_out begin_class
 st-class ok slots keep x m vs o M = record {
   at = λ p t.
-      let A = M.at [] (beginClass x t) in
-      let n = emitMethods m [] (beginClass x t) in
+      let A = M.at [] (begin_class x t) in
+      let n = emit_methods m [] (begin_class x t) in
       let B = stored-class x (length t.classes) n.methods p n.tables o in
       record {
         new = A.new ++ B.new;
@@ -529,24 +529,24 @@ st-class ok slots keep x m vs o M = record {
       };
 }
 
-method-end : {ok : Name → Type 0} (x : Name) (xs : List Name) → Okay ok xs (methodEnd x)
-unfolding methodEnd
+method-end : {ok : Name → Type 0} (x : Name) (xs : List Name) → Okay ok xs (method_end x)
+unfolding method_end
 method-end {ok} x xs = go (same x init)
   where
     go : (b : Bool) → Okay ok xs (elim b as (λ z. List Instr) [ true ↦ LoadLocal 0 ∷ Return ∷ [] | false ↦ Return ∷ [] ])
-    go true = other refl (other refl noCode)
-    go false = other refl noCode
+    go true = other refl (other refl no_code)
+    go false = other refl no_code
 
-st-method : (x : Name) (ps : List Name) (b : Block) (m : Methods) → Stores (Global b) (emitBlock (withLoops ps b).names (withLoops ps b).keep b) → StoresMethods m → StoresMethods (method x ps b m)
-unfolding emitMethods
+st-method : (x : Name) (ps : List Name) (b : Block) (m : Methods) → Stores (Global b) (emit_block (with_loops ps b).names (with_loops ps b).keep b) → StoresMethods m → StoresMethods (method x ps b m)
+unfolding emit_methods
 st-method x ps b m B M = record {
   at = λ ms t.
-      let inner = withLoops ps b in
-      let whole = function x (length ps) inner (blockBody b (methodEnd x)) (emitBlock inner.names inner.keep b ⨟ emits (methodEnd x)) in
+      let inner = with_loops ps b in
+      let whole = function x (length ps) inner (block_body b (method_end x)) (emit_block inner.names inner.keep b ⨟ emits (method_end x)) in
       let o = whole 0 t in
-      let F : Stores (Global b) whole = st-block-function x (length ps) inner b (methodEnd x) (st-seq B (st-emits (methodEnd x) (method-end x))) in
+      let F : Stores (Global b) whole = st-block-function x (length ps) inner b (method_end x) (st-seq B (st-emits (method_end x) (method-end x))) in
       let S = F.at 0 t in
-      let ms' = insertMethod x (length t.functions) ms in
+      let ms' = insert_method x (length t.functions) ms in
       let R = M.at ms' o.tables in
       record {
         new = S.new ++ R.new;
@@ -556,49 +556,49 @@ st-method x ps b m B M = record {
 }
 
 -- a def's or method's names have slots, but for what is global
-own-allowed : (ps : List Name) (b : Block) → Allowed (Global b) (localsBlock b ps) (boundBlock b)
+own-allowed : (ps : List Name) (b : Block) → Allowed (Global b) (locals_block b ps) (bound_block b)
 own-allowed ps b = record { at = λ x h. inl (named ps b x ∙ rw h (or-true (member x ps))) }
 
 Classes : (Name → Type 0) → (Stmt → Type 0) → Type 0
 Classes ok own = (x : Name) (ms : Methods) (vs : List Attribute) → own (class x ms vs) → ok x
 
 mutual
-  unfolding emitStmt emitBlock emitBranches emitMethods boundStmt boundBlock boundBranches Classes
+  unfolding emit_stmt emit_block emit_branches emit_methods bound_stmt bound_block bound_branches Classes
 
-  st-stmt : (ok : Name → Type 0) (slots : List Name) (keep : Keeping) → Iterates ok keep → (a : Stmt) → Allowed ok slots (boundStmt a) → Classes ok (λ c. OwnStmt c a) → Stores ok (emitStmt slots keep a)
+  st-stmt : (ok : Name → Type 0) (slots : List Name) (keep : Keeping) → Iterates ok keep → (a : Stmt) → Allowed ok slots (bound_stmt a) → Classes ok (λ c. OwnStmt c a) → Stores ok (emit_stmt slots keep a)
   st-stmt ok slots keep I break A C = st-one _ refl
   st-stmt ok slots keep I continue A C = st-one _ refl
   st-stmt ok slots keep I pass A C = st-none
   st-stmt ok slots keep I (expr e) A C = st-seq (st-expr ok slots e) (st-one _ refl)
   st-stmt ok slots keep I (return e) A C = st-seq (st-expr ok slots e) (st-one _ refl)
   st-stmt ok slots keep I (assign t v) A C = st-assign ok (view t) slots (subst (Allowed ok slots) (assigned-form t) A) (st-expr ok slots v)
-  st-stmt ok slots keep I (if r) A C = let R = st-branches ok slots keep I r A (λ x ms vs o. C x ms vs (ofIf o)) in record { at = R.at }
-  st-stmt ok slots keep I (while c b) A C = st-loop (st-expr ok slots c) (st-block ok slots keep I b A (λ x ms vs o. C x ms vs (ofWhile o)))
+  st-stmt ok slots keep I (if r) A C = let R = st-branches ok slots keep I r A (λ x ms vs o. C x ms vs (of_if o)) in record { at = R.at }
+  st-stmt ok slots keep I (while c b) A C = st-loop (st-expr ok slots c) (st-block ok slots keep I b A (λ x ms vs o. C x ms vs (of_while o)))
   st-stmt ok slots keep I (for x e b) A C =
-      let inside = st-block ok slots (past 1 keep) (iterates-past 1 I) b (allowed-right (x ∷ []) (boundBlock b) A) (λ y ms vs o. C y ms vs (ofFor o)) in
-      st-seq (st-expr ok slots e) (st-seq st-makeIter (st-iter keep I (λ g. st-loop (st-askIter g) (st-seq (st-takeIter slots x g (allowed-first x (boundBlock b) A)) inside))))
+      let inside = st-block ok slots (past 1 keep) (iterates-past 1 I) b (allowed-right (x ∷ []) (bound_block b) A) (λ y ms vs o. C y ms vs (of_for o)) in
+      st-seq (st-expr ok slots e) (st-seq st-make_iter (st-iter keep I (λ g. st-loop (st-ask_iter g) (st-seq (st-take_iter slots x g (allowed-first x (bound_block b) A)) inside))))
   st-stmt ok slots keep I (def x ps b) A C =
-      st-block-function x (length ps) (withLoops ps b) b (Return ∷ []) (st-seq (st-block (Global b) (localsBlock b ps) (withLoops ps b).keep bySlot b (own-allowed ps b) (λ y ms ws o. ofClass o)) (st-one Return refl))
+      st-block-function x (length ps) (with_loops ps b) b (Return ∷ []) (st-seq (st-block (Global b) (locals_block b ps) (with_loops ps b).keep by_slot b (own-allowed ps b) (λ y ms ws o. of_class o)) (st-one Return refl))
   st-stmt ok slots keep I (class x m vs) A C = st-class ok slots keep x m vs (C x m vs itself) (st-methods ok m)
 
-  st-block : (ok : Name → Type 0) (slots : List Name) (keep : Keeping) → Iterates ok keep → (b : Block) → Allowed ok slots (boundBlock b) → Classes ok (λ c. OwnBlock c b) → Stores ok (emitBlock slots keep b)
+  st-block : (ok : Name → Type 0) (slots : List Name) (keep : Keeping) → Iterates ok keep → (b : Block) → Allowed ok slots (bound_block b) → Classes ok (λ c. OwnBlock c b) → Stores ok (emit_block slots keep b)
   st-block ok slots keep I []ᵇ A C = st-none
   st-block ok slots keep I (a ∷ᵇ b) A C =
-      st-seq (st-stmt ok slots keep I a (allowed-left (boundStmt a) (boundBlock b) A) (λ x ms vs o. C x ms vs (atFirst o)))
-      (st-block ok slots (past (loopsStmt a) keep) (iterates-past (loopsStmt a) I) b (allowed-right (boundStmt a) (boundBlock b) A) (λ x ms vs o. C x ms vs (atLater o)))
+      st-seq (st-stmt ok slots keep I a (allowed-left (bound_stmt a) (bound_block b) A) (λ x ms vs o. C x ms vs (at_first o)))
+      (st-block ok slots (past (loops_stmt a) keep) (iterates-past (loops_stmt a) I) b (allowed-right (bound_stmt a) (bound_block b) A) (λ x ms vs o. C x ms vs (at_later o)))
 
-  st-branches : (ok : Name → Type 0) (slots : List Name) (keep : Keeping) → Iterates ok keep → (r : Branches) → Allowed ok slots (boundBranches r) → Classes ok (λ c. OwnBranches c r) → StoresBranches ok slots keep r
+  st-branches : (ok : Name → Type 0) (slots : List Name) (keep : Keeping) → Iterates ok keep → (r : Branches) → Allowed ok slots (bound_branches r) → Classes ok (λ c. OwnBranches c r) → StoresBranches ok slots keep r
   st-branches ok slots keep I done A C = record { at = λ p t. st-none.at p t }
-  st-branches ok slots keep I (else b) A C = record { at = λ p t. (st-block ok slots keep I b A (λ x ms vs o. C x ms vs (ofElse o))).at p t }
+  st-branches ok slots keep I (else b) A C = record { at = λ p t. (st-block ok slots keep I b A (λ x ms vs o. C x ms vs (of_else o))).at p t }
   st-branches ok slots keep I (when c b r) A C =
-      st-when ok slots keep c b r (st-block ok slots keep I b (allowed-left (boundBlock b) (boundBranches r) A) (λ x ms vs o. C x ms vs (ofThen o)))
-      (st-branches ok slots (past (loopsBlock b) keep) (iterates-past (loopsBlock b) I) r (allowed-right (boundBlock b) (boundBranches r) A) (λ x ms vs o. C x ms vs (ofRest o)))
+      st-when ok slots keep c b r (st-block ok slots keep I b (allowed-left (bound_block b) (bound_branches r) A) (λ x ms vs o. C x ms vs (of_then o)))
+      (st-branches ok slots (past (loops_block b) keep) (iterates-past (loops_block b) I) r (allowed-right (bound_block b) (bound_branches r) A) (λ x ms vs o. C x ms vs (of_rest o)))
 
   -- whatever is ok outside: the functions of a block are of one universe
   st-methods : (ok : Name → Type 0) (m : Methods) → StoresMethods m
-  st-methods ok []ᵐ = record { at = λ ms t. record { new = []; symbols = sym (append-nil t.symbols); sound = noEvery } }
+  st-methods ok []ᵐ = record { at = λ ms t. record { new = []; symbols = sym (append-nil t.symbols); sound = no_every } }
   st-methods ok (method x ps b m) =
-      st-method x ps b m (st-block (Global b) (localsBlock b ps) (withLoops ps b).keep bySlot b (own-allowed ps b) (λ y ms ws o. ofClass o)) (st-methods ok m)
+      st-method x ps b m (st-block (Global b) (locals_block b ps) (with_loops ps b).keep by_slot b (own-allowed ps b) (λ y ms ws o. of_class o)) (st-methods ok m)
 
 -- ---- the whole tree
 
@@ -609,20 +609,20 @@ sound-at {xs} (h ∷ gs) zero g (every s a) e = let q : h ≡ g = cc in subst (S
 sound-at (h ∷ gs) (suc k) g (every s a) e = sound-at gs k g a e
 
 -- main may store any name
-main-stores : (b : Block) → Stores (λ x. Unit {0}) (emitBlock [] inGlobals b ⨟ one Return)
+main-stores : (b : Block) → Stores (λ x. Unit {0}) (emit_block [] in_globals b ⨟ one Return)
 unfolding Classes
-main-stores b = st-seq (st-block (λ x. Unit {0}) [] inGlobals (byName (λ n. tt)) b (record { at = λ x h. inr tt }) (λ x ms vs o. tt)) (st-one Return refl)
+main-stores b = st-seq (st-block (λ x. Unit {0}) [] in_globals (by_name (λ n. tt)) b (record { at = λ x h. inr tt }) (λ x ms vs o. tt)) (st-one Return refl)
 
 -- the functions that begin in main, with the symbols of the whole tree
 compile-sound : (b : Block) (k : ℕ) (g : Source) → get_elem? (compile b).sources (suc k) ≡ some g → SoundSource (compile b).tables.symbols g
-unfolding compile function intern enclose position Lower.noTables
-compile-sound b k g e = sound-at _ k g ((main-stores b).at 0 (begin 0 0 (namesOnly []) (addSymbol Lower.main Lower.noTables))).sound e
+unfolding compile function intern enclose position Lower.no_tables
+compile-sound b k g e = sound-at _ k g ((main-stores b).at 0 (begin 0 0 (names_only []) (add_symbol Lower.main Lower.no_tables))).sound e
 
-pub globalStores : GlobalStores
-globalStores l u b t e k f h d end q i j c x s =
+pub global_stores : GlobalStores
+global_stores l u b t e k f h d end q i j c x s =
     let A = accepted-gives l u b t e in
     let S = sources l u b t e (suc k) f h in
     let g = S.0 in
-    let body : g.body ≡ blockBody d end = cc in
+    let body : g.body ≡ block_body d end = cc in
     let G = (compile-sound b k g S.1).at d end body in
     okay-at G i j (ap (λ (z : List Instr). get_elem? z i) (sym S.3.code) ∙ c) x (ap (λ (z : Tables). get_elem? z.symbols j) (sym A.tables) ∙ s)

@@ -8,26 +8,26 @@ use lib.ListN.{length}
 use lib.Dec.{T}
 use Rattle.definitions.specs.Instruction.{Instr}
 use Rattle.definitions.specs.Tables.{Function, Source, Tables, Emit, set_code}
-use Rattle.definitions.specs.Walk.{walkAt}
-use Rattle.definitions.specs.Reader.{codeStands}
+use Rattle.definitions.specs.Walk.{walk_at}
+use Rattle.definitions.specs.Reader.{code_stands}
 use Rattle.definitions.specs.Statements.{ComesFrom}
-use Rattle.definitions.proofs.Functions.{setCode-seam}
+use Rattle.definitions.proofs.Functions.{set_code-seam}
 use Rattle.definitions.proofs.Demand.{Over}
 use Rattle.definitions.proofs.Meaning.{Meaning}
 
 -- a function is of its source; its code and its source's walk are of one structured code; the walk comes to an end, and question 21 holds of the code
 pub record Good (f : Function) (g : Source) : Type 0 where
   pub source : ComesFrom f g
-  pub meaning : Meaning false f.code (walkAt g g.body)
-  pub over : (xs : List ℕ) → Over (walkAt g g.body xs).ending
-  pub stands : length f.code < 4294967296 → T (codeStands f)
+  pub meaning : Meaning false f.code (walk_at g g.body)
+  pub over : (xs : List ℕ) → Over (walk_at g g.body xs).ending
+  pub stands : length f.code < 4294967296 → T (code_stands f)
 
 pub data Pairs : List Function → List Source → Type 0 where
-  noPairs : Pairs [] []
+  no_pairs : Pairs [] []
   pair : {f : Function} {g : Source} {fs : List Function} {gs : List Source} → Good f g → Pairs fs gs → Pairs (f ∷ fs) (g ∷ gs)
 
 pub pairs-append : {fs fs' : List Function} {gs gs' : List Source} → Pairs fs gs → Pairs fs' gs' → Pairs (fs ++ fs') (gs ++ gs')
-pairs-append noPairs b = b
+pairs-append no_pairs b = b
 pairs-append (pair g a) b = pair g (pairs-append a b)
 
 -- good functions are added, with these sources
@@ -37,7 +37,7 @@ pub record Grows (fs fs' : List Function) (gs : List Source) : Type 0 where
   pub good : Pairs new gs
 
 pub grow-none : {fs : List Function} → Grows fs fs []
-grow-none {fs} = record { new = []; functions = sym (append-nil fs); good = noPairs }
+grow-none {fs} = record { new = []; functions = sym (append-nil fs); good = no_pairs }
 
 pub grow-more : {fs fs' fs'' : List Function} {gs gs' : List Source} → Grows fs fs' gs → Grows fs' fs'' gs' → Grows fs fs'' (gs ++ gs')
 grow-more {fs} A B = record {
@@ -50,7 +50,7 @@ pub grow-function : (fs fs' : List Function) (gs : List Source) (f : Function) (
     → Good (record { symbol = f.symbol; arity = f.arity; locals = f.locals; code = is }) g → Grows fs (set_code fs' (length fs) is) (g ∷ gs)
 grow-function fs fs' gs f g is G k = record {
   new = record { symbol = f.symbol; arity = f.arity; locals = f.locals; code = is } ∷ G.new;
-  functions = ap (λ (z : List Function). set_code z (length fs) is) (G.functions ∙ append_snoc fs f G.new) ∙ setCode-seam fs G.new f is;
+  functions = ap (λ (z : List Function). set_code z (length fs) is) (G.functions ∙ append_snoc fs f G.new) ∙ set_code-seam fs G.new f is;
   good = pair k G.good;
 }
 

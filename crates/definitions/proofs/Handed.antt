@@ -9,14 +9,14 @@ use lib.ListN.{length, length-append, take, get_elem?}
 use lib.Dec.{leb}
 use lib.Seq.{take-append_seam, drop_at}
 use lib.Pow.{are_bytes}
-use Rattle.definitions.specs.Bytes.{Answer, refused, accepted, whenAccepted, Parsed, got, failed, be, concat, all, listBytes, housed, unhouse}
-use Rattle.definitions.specs.Utf8.{isUtf8}
-use Rattle.definitions.specs.Wellformed.{isName}
-use Rattle.definitions.specs.Instruction.{encode, encodes, firstWidth, secondWidth}
+use Rattle.definitions.specs.Bytes.{Answer, refused, accepted, when_accepted, Parsed, got, failed, be, concat, all, list_bytes, housed, unhouse}
+use Rattle.definitions.specs.Utf8.{is_utf8}
+use Rattle.definitions.specs.Wellformed.{is_name}
+use Rattle.definitions.specs.Instruction.{encode, encodes, first_width, second_width}
 use Rattle.definitions.specs.Tables.{Function, Tables}
-use Rattle.definitions.specs.Module.{nameBytes, textBytes, functionBytes, methodBytes, classBytes, tableBytes, moduleBytes, codeStart}
-use Rattle.definitions.specs.Reader.{instruction, functionRecord, methodRecord, rising, classRecord, moduleRecord, numbersExist, codeStands, wholeModule, readModule}
-use Rattle.definitions.specs.Calls.{Part, part_of, functionOf, codePart, codeCall}
+use Rattle.definitions.specs.Module.{name_bytes, text_bytes, function_bytes, method_bytes, class_bytes, table_bytes, module_bytes, code_start}
+use Rattle.definitions.specs.Reader.{instruction, function_record, method_record, rising, class_record, module_record, numbers_exist, code_stands, whole_module, read_module}
+use Rattle.definitions.specs.Calls.{Part, part_of, function_of, code_part, code_call}
 use Rattle.definitions.specs.Statements.{ReadIsWritten, Handed, HandedCode}
 use Rattle.definitions.proofs.BytesWritten.{length-be}
 use Rattle.definitions.proofs.Writes.{Writes, writes-give, writes-bind, writes_byte, writes-number, writes-list, writes-name, writes-text, writes-checked, in-house}
@@ -27,12 +27,12 @@ writes-instruction : Writes (λ i xs. xs ≡ encode i) instruction
 unfolding instruction encode
 writes-instruction =
     writes-bind _ (writes-checked (λ op. leb op 45) writes_byte) (λ op xs h.
-    writes-bind _ (writes-number (firstWidth op)) (λ a ys k.
-    writes-bind _ (writes-number (secondWidth op)) (λ b zs l.
+    writes-bind _ (writes-number (first_width op)) (λ a ys k.
+    writes-bind _ (writes-number (second_width op)) (λ b zs l.
     writes-give _ (rw (h.0, k, l, append-nil)))))
 
-writes-function : Writes (λ f xs. xs ≡ functionBytes f) functionRecord
-unfolding functionRecord functionBytes
+writes-function : Writes (λ f xs. xs ≡ function_bytes f) function_record
+unfolding function_record function_bytes
 writes-function =
     writes-bind _ (writes-number 2) (λ k ks hk.
     writes-bind _ (writes-number 1) (λ n ns hn.
@@ -40,37 +40,37 @@ writes-function =
     writes-bind _ (writes-list 2 encode writes-instruction) (λ is xs h.
     writes-give _ (rw (hk, hn, hl, h, append-nil))))))
 
-writes-method : Writes (λ m xs. xs ≡ methodBytes m) methodRecord
-unfolding methodRecord methodBytes
+writes-method : Writes (λ m xs. xs ≡ method_bytes m) method_record
+unfolding method_record method_bytes
 writes-method =
-    writes-bind _ (writes-checked isName writes-name) (λ x xs h.
+    writes-bind _ (writes-checked is_name writes-name) (λ x xs h.
     writes-bind _ (writes-number 2) (λ f fs k.
     writes-give _ (rw (h, k, append-nil))))
 
-pub writes-class : Writes (λ c xs. xs ≡ classBytes c) classRecord
-unfolding classRecord classBytes
+pub writes-class : Writes (λ c xs. xs ≡ class_bytes c) class_record
+unfolding class_record class_bytes
 writes-class =
-    writes-bind _ (writes-checked isName writes-name) (λ x xs h.
-    writes-bind _ (writes-checked rising (writes-list 2 methodBytes writes-method)) (λ ms ys k.
+    writes-bind _ (writes-checked is_name writes-name) (λ x xs h.
+    writes-bind _ (writes-checked rising (writes-list 2 method_bytes writes-method)) (λ ms ys k.
     writes-give _ (rw (h, k, append-nil))))
 
-writes-tables : Writes (λ t xs. xs ≡ tableBytes t) moduleRecord
-unfolding moduleRecord tableBytes
+writes-tables : Writes (λ t xs. xs ≡ table_bytes t) module_record
+unfolding module_record table_bytes
 writes-tables =
-    writes-bind _ (writes-list 2 nameBytes writes-name) (λ xs zs a.
-    writes-bind _ (writes-list 2 textBytes (writes-checked isUtf8 writes-text)) (λ ss bs b.
-    writes-bind _ (writes-list 2 functionBytes writes-function) (λ fs cs c.
-    writes-bind _ (writes-list 2 classBytes writes-class) (λ ls ds d.
+    writes-bind _ (writes-list 2 name_bytes writes-name) (λ xs zs a.
+    writes-bind _ (writes-list 2 text_bytes (writes-checked is_utf8 writes-text)) (λ ss bs b.
+    writes-bind _ (writes-list 2 function_bytes writes-function) (λ fs cs c.
+    writes-bind _ (writes-list 2 class_bytes writes-class) (λ ls ds d.
     writes-bind _ (writes-list 2 (be 2) (writes-number 2)) (λ ks es e.
     writes-give _ (rw (a, b, c, d, e, append-nil)))))))
 
 -- ---- the whole module
 
-whole-got : (r : Parsed Tables) (t : Tables) → wholeModule r ≡ accepted t → r ≡ got t []
-unfolding wholeModule
+whole-got : (r : Parsed Tables) (t : Tables) → whole_module r ≡ accepted t → r ≡ got t []
+unfolding whole_module
 whole-got (got u (x ∷ xs)) t e = let z : ◌≡◌ {A = ℕ} 0 1 = cc in absurd (omega arith)
 whole-got (failed q) t e = let z : ◌≡◌ {A = ℕ} 0 1 = cc in absurd (omega arith)
-whole-got (got u []) t e = go (numbersExist u) (all codeStands u.functions) e
+whole-got (got u []) t e = go (numbers_exist u) (all code_stands u.functions) e
   where
     go : (c d : Bool) → (elim c as (λ z. Answer Tables) [ false ↦ refused 20 | true ↦ elim d as (λ z. Answer Tables) [ false ↦ refused 21 | true ↦ accepted u ] ]) ≡ accepted t
         → got u [] ≡ got t []
@@ -78,8 +78,8 @@ whole-got (got u []) t e = go (numbersExist u) (all codeStands u.functions) e
     go true false h = let z : ◌≡◌ {A = ℕ} 0 1 = cc in absurd (omega arith)
     go false d h = let z : ◌≡◌ {A = ℕ} 0 1 = cc in absurd (omega arith)
 
-house-is : (m rest : List ℕ) (t : Tables) → m ≡ housed rest → rest ≡ tableBytes t → m ≡ moduleBytes t
-unfolding moduleBytes
+house-is : (m rest : List ℕ) (t : Tables) → m ≡ housed rest → rest ≡ table_bytes t → m ≡ module_bytes t
+unfolding module_bytes
 house-is m rest t h e = h ∙ ap housed e
 
 -- the tables of an accepted module are read from the bytes after its head
@@ -87,20 +87,20 @@ pub record Within (m : List ℕ) (t : Tables) : Type 0 where
   pub rest : List ℕ
   pub whole : m ≡ housed rest
   pub bytes : are_bytes rest ≡ true
-  pub read : moduleRecord rest ≡ got t []
+  pub read : module_record rest ≡ got t []
 
-pub within : (m : List ℕ) (t : Tables) → are_bytes m ≡ true → readModule m ≡ accepted t → Within m t
-unfolding readModule
+pub within : (m : List ℕ) (t : Tables) → are_bytes m ≡ true → read_module m ≡ accepted t → Within m t
+unfolding read_module
 within m t o e = go (leb (length m) 524288) e
   where
-    go : (c : Bool) → (elim c as (λ z. Answer Tables) [ true ↦ unhouse 17 18 (λ rest. wholeModule (moduleRecord rest)) m | false ↦ refused 17 ]) ≡ accepted t → Within m t
+    go : (c : Bool) → (elim c as (λ z. Answer Tables) [ true ↦ unhouse 17 18 (λ rest. whole_module (module_record rest)) m | false ↦ refused 17 ]) ≡ accepted t → Within m t
     go false h = let z : ◌≡◌ {A = ℕ} 0 1 = cc in absurd (omega arith)
     go true h =
-        let I = in-house 17 18 (λ rest. wholeModule (moduleRecord rest)) m t o h in
-        record { rest = I.rest; whole = I.whole; bytes = I.bytes; read = whole-got (moduleRecord I.rest) t I.gives }
+        let I = in-house 17 18 (λ rest. whole_module (module_record rest)) m t o h in
+        record { rest = I.rest; whole = I.whole; bytes = I.bytes; read = whole-got (module_record I.rest) t I.gives }
 
-pub readIsWritten : ReadIsWritten
-readIsWritten m t o e =
+pub read_is_written : ReadIsWritten
+read_is_written m t o e =
     let W = within m t o e in
     let K = writes-tables.at W.rest W.bytes t [] W.read in
     house-is m W.rest t W.whole (K.splits ∙ rw append-nil K.fact)
@@ -153,57 +153,57 @@ stands-element f (b ∷ zs) zero a {xs} {n} e S = let z : b ≡ a = cc in rw z (
 stands-element f (b ∷ zs) (suc k) a {xs} {n} e S =
     stands_at _ _ (omega (arith, length-append (f b) (concat f (take k zs)))) (stands_after (f b) (stands-element f zs k a e S))
 
-stands-code : (f : Function) → Stands (encodes f.code) 7 (functionBytes f)
-unfolding functionBytes listBytes encodes
+stands-code : (f : Function) → Stands (encodes f.code) 7 (function_bytes f)
+unfolding function_bytes list_bytes encodes
 stands-code f =
     stands_at _ 7
     (omega (arith, length-be 2 f.symbol, length-be 1 f.arity, length-be 2 f.locals, length-be 2 (length f.code)))
     (stands_after (be 2 f.symbol) (stands_after (be 1 f.arity) (stands_after (be 2 f.locals) (stands_after (be 2 (length f.code)) (stands-all (concat encode f.code))))))
 
 stands-list : {A : Type 0} (f : A → List ℕ) (zs : List A) (k : ℕ) (a : A) {xs : List ℕ} {n : ℕ}
-    → get_elem? zs k ≡ some a → Stands xs n (f a) → Stands xs (2 + length (concat f (take k zs)) + n) (listBytes 2 f zs)
-unfolding listBytes
+    → get_elem? zs k ≡ some a → Stands xs n (f a) → Stands xs (2 + length (concat f (take k zs)) + n) (list_bytes 2 f zs)
+unfolding list_bytes
 stands-list f zs k a e S = stands_at _ _ (omega (arith, length-be 2 (length zs))) (stands_after (be 2 (length zs)) (stands-element f zs k a e S))
 
 stands-tables : (t : Tables) (k : ℕ) (f : Function) → get_elem? t.functions k ≡ some f
     → Stands (encodes f.code)
-    (length (listBytes 2 nameBytes t.symbols) + (length (listBytes 2 textBytes t.strings) + (2 + length (concat functionBytes (take k t.functions)) + 7)))
-    (tableBytes t)
-unfolding tableBytes
+    (length (list_bytes 2 name_bytes t.symbols) + (length (list_bytes 2 text_bytes t.strings) + (2 + length (concat function_bytes (take k t.functions)) + 7)))
+    (table_bytes t)
+unfolding table_bytes
 stands-tables t k f e =
-    stands_after (listBytes 2 nameBytes t.symbols)
-    (stands_after (listBytes 2 textBytes t.strings)
-    (stands-before (listBytes 2 classBytes t.classes ++ listBytes 2 (be 2) t.constants)
-    (stands-list functionBytes t.functions k f e (stands-code f))))
+    stands_after (list_bytes 2 name_bytes t.symbols)
+    (stands_after (list_bytes 2 text_bytes t.strings)
+    (stands-before (list_bytes 2 class_bytes t.classes ++ list_bytes 2 (be 2) t.constants)
+    (stands-list function_bytes t.functions k f e (stands-code f))))
 
 stands-housed : {xs bs : List ℕ} {n : ℕ} → Stands xs n bs → Stands xs (5 + n) (housed bs)
 unfolding housed
 stands-housed {bs} S = stands_at _ _ (omega (arith, length-be 4 (suc (length bs)))) (stands_after (be 4 (suc (length bs))) (stands_after (1 ∷ []) S))
 
-stands-module : (t : Tables) (k : ℕ) (f : Function) → get_elem? t.functions k ≡ some f → Stands (encodes f.code) (codeStart t k) (moduleBytes t)
-unfolding moduleBytes codeStart
+stands-module : (t : Tables) (k : ℕ) (f : Function) → get_elem? t.functions k ≡ some f → Stands (encodes f.code) (code_start t k) (module_bytes t)
+unfolding module_bytes code_start
 stands-module t k f e = stands_at _ _ (omega arith) (stands-housed (stands-tables t k f e))
 
 -- ---- the part that is handed back
 
-handed-at : (m : List ℕ) (k : ℕ) (p : Part) (t : Tables) → are_bytes m ≡ true → readModule m ≡ accepted t → codePart t k ≡ accepted p → Handed m k p
-unfolding codePart functionOf whenAccepted
+handed-at : (m : List ℕ) (k : ℕ) (p : Part) (t : Tables) → are_bytes m ≡ true → read_module m ≡ accepted t → code_part t k ≡ accepted p → Handed m k p
+unfolding code_part function_of when_accepted
 handed-at m k p t o h e = go (get_elem? t.functions k) refl e
   where
     go : (s : Option Function) → get_elem? t.functions k ≡ s
-        → whenAccepted (elim s as (λ z. Answer Function) [ some f ↦ accepted f | none ↦ refused 22 ])
-        (λ (f : Function). accepted (record { start = codeStart t k; size = length (encodes f.code) })) ≡ accepted p
+        → when_accepted (elim s as (λ z. Answer Function) [ some f ↦ accepted f | none ↦ refused 22 ])
+        (λ (f : Function). accepted (record { start = code_start t k; size = length (encodes f.code) })) ≡ accepted p
         → Handed m k p
     go none s g = let z : ◌≡◌ {A = ℕ} 0 1 = cc in absurd (omega arith)
     go (some f) s g =
-        let z : record { start = codeStart t k; size = length (encodes f.code) } ≡ p = cc in
-        let S : Stands (encodes f.code) (codeStart t k) m = rw (readIsWritten m t o h) (stands-module t k f s) in
+        let z : record { start = code_start t k; size = length (encodes f.code) } ≡ p = cc in
+        let S : Stands (encodes f.code) (code_start t k) m = rw (read_is_written m t o h) (stands-module t k f s) in
         record { tables = t; function = f; reads = h; found = s; within = rw (← z) (stands-within S); code = rw (← z) (stands-part S) }
 
-pub handedCode : HandedCode
-unfolding codeCall whenAccepted
-handedCode m k p o e = go (readModule m) refl e
+pub handed_code : HandedCode
+unfolding code_call when_accepted
+handed_code m k p o e = go (read_module m) refl e
   where
-    go : (a : Answer Tables) → readModule m ≡ a → whenAccepted a (λ t. codePart t k) ≡ accepted p → Handed m k p
+    go : (a : Answer Tables) → read_module m ≡ a → when_accepted a (λ t. code_part t k) ≡ accepted p → Handed m k p
     go (refused q) h g = let z : ◌≡◌ {A = ℕ} 0 1 = cc in absurd (omega arith)
     go (accepted t) h g = handed-at m k p t o h g

@@ -7,8 +7,8 @@ use native.Mathlib.Omega.{arith}
 use lib.ListN.{length, take, drop, length-append}
 use lib.Dec.{T, leb, ltb, ltb→lt, lt→ltb, nltb→le, le→leb}
 use Rattle.definitions.specs.Bytes.{Name, ascii, all, same, digits, decimal}
-use Rattle.definitions.specs.Wellformed.{digit, isIterator}
-use Rattle.definitions.specs.Lower.{iterName}
+use Rattle.definitions.specs.Wellformed.{digit, is_iterator}
+use Rattle.definitions.specs.Lower.{iter_name}
 use Rattle.definitions.specs.Statements.{Iterators}
 use Rattle.definitions.proofs.Truth.{left, right, is_true}
 
@@ -52,8 +52,8 @@ decimal-digits (suc f) n = go (ltb n 10) (ltb→lt n 10) (decimal-digits f (n / 
         }
 
 -- digits between the beginning and the end
-between : (ds : List ℕ) → Decimal ds → isIterator (ascii "__for_iter_" ++ (ds ++ ascii "__")) ≡ true
-unfolding isIterator same
+between : (ds : List ℕ) → Decimal ds → is_iterator (ascii "__for_iter_" ++ (ds ++ ascii "__")) ≡ true
+unfolding is_iterator same
 between ds D =
     let n = length (ascii "__for_iter_" ++ (ds ++ ascii "__")) - 13 in
     let e : n ≡ length ds = omega (arith, length-append ds (ascii "__")) in
@@ -84,19 +84,19 @@ spelled (suc f) n h = go (ltb n 10) (λ e. spelled f (n / 10) (let g = nltb→le
 inner : Name → List ℕ
 inner x = take (length x - 13) (drop 11 x)
 
-inner-is : (n : ℕ) → inner (iterName n) ≡ decimal n
-unfolding inner iterName
+inner-is : (n : ℕ) → inner (iter_name n) ≡ decimal n
+unfolding inner iter_name
 inner-is n =
     let e : length (ascii "__for_iter_" ++ (decimal n ++ ascii "__")) - 13 ≡ length (decimal n) = omega (arith, length-append (decimal n) (ascii "__")) in
     rw e (take-append (decimal n) (ascii "__"))
 
-same_place : (m n : ℕ) → iterName m ≡ iterName n → m ≡ n
+same_place : (m n : ℕ) → iter_name m ≡ iter_name n → m ≡ n
 unfolding decimal
 same_place m n e =
     sym (spelled m m (omega arith)) ∙ ap (number 0) (sym (inner-is m) ∙ ap inner e ∙ inner-is n) ∙ spelled n n (omega arith)
 
-iterator-form : (n : ℕ) → isIterator (iterName n) ≡ true
-unfolding iterName decimal
+iterator-form : (n : ℕ) → is_iterator (iter_name n) ≡ true
+unfolding iter_name decimal
 iterator-form n = between (decimal n) (decimal-digits n n)
 
 pub iterators : Iterators

@@ -6,11 +6,11 @@ use mathlib.Core.List.{List, [], ◌∷◌, ◌++◌}
 use native.Mathlib.Omega.{arith}
 use lib.Dec.{leb}
 use lib.ListN.{length, length-append}
-use Rattle.definitions.specs.Bytes.{Name, Text, Parsed, got, failed, Parser, ◌>>=◌, give, unread, byte, field, counted, list_of, name, text, keep, checked, be, concat, listBytes}
-use Rattle.definitions.specs.Instruction.{Instr, firstWidth, secondWidth, encode, encodes}
+use Rattle.definitions.specs.Bytes.{Name, Text, Parsed, got, failed, Parser, ◌>>=◌, give, unread, byte, field, counted, list_of, name, text, keep, checked, be, concat, list_bytes}
+use Rattle.definitions.specs.Instruction.{Instr, first_width, second_width, encode, encodes}
 use Rattle.definitions.specs.Tables.{Function}
-use Rattle.definitions.specs.Module.{nameBytes, textBytes, functionBytes}
-use Rattle.definitions.specs.Reader.{instruction, functionRecord}
+use Rattle.definitions.specs.Module.{name_bytes, text_bytes, function_bytes}
+use Rattle.definitions.specs.Reader.{instruction, function_record}
 use Rattle.definitions.proofs.BytesWritten.{length-be}
 
 -- with k bytes taken before, a value a is n a bytes in all
@@ -53,8 +53,8 @@ spans-counted {A} f p sp (suc n) =
     spans-bind _ (λ xs. length (concat f xs)) _ (counted [] ◌∷◌ p n) _ (spans-counted f p sp n) (λ xs.
     spans-give _ _ (a ∷ xs) (let l = length-append (f a) (concat f xs) in let z : 0 + length (f a) + length (concat f xs) ≡ length (f a ++ concat f xs) = omega arith in z)))
 
-pub spans-list : {A : Type 0} (w : ℕ) (f : A → List ℕ) (p : Parser A) → Spans 0 (λ a. length (f a)) p → Spans 0 (λ xs. length (listBytes w f xs)) (list_of w p)
-unfolding list_of listBytes
+pub spans-list : {A : Type 0} (w : ℕ) (f : A → List ℕ) (p : Parser A) → Spans 0 (λ a. length (f a)) p → Spans 0 (λ xs. length (list_bytes w f xs)) (list_of w p)
+unfolding list_of list_bytes
 spans-list w f p sp = spans-bind 0 (λ v. w) _ (field w) _ (spans-field w) (λ n. record { at = λ bs xs rest h. more n bs xs rest h })
   where
     more : (n : ℕ) (bs : List ℕ) (xs : List _) (rest : List ℕ) → counted [] ◌∷◌ p n bs ≡ got xs rest → 0 + w + length bs ≡ length (be w (length xs) ++ concat f xs) + length rest
@@ -69,15 +69,15 @@ ones [] = refl
 ones (x ∷ xs) = ap (λ (ys : List ℕ). x ∷ ys) (ones xs)
 
 spans-bytes : (w : ℕ) → Spans 0 (λ xs. length (be w (length xs) ++ xs)) (list_of w byte)
-unfolding listBytes one
+unfolding list_bytes one
 spans-bytes w = record { at = λ bs xs rest h. (spans-list w one byte spans-byte).at bs xs rest h ∙ ap (λ (ys : List ℕ). length (be w (length xs) ++ ys) + length rest) (ones xs) }
 
-pub spans-name : Spans 0 (λ x. length (nameBytes x)) name
-unfolding name nameBytes
+pub spans-name : Spans 0 (λ x. length (name_bytes x)) name
+unfolding name name_bytes
 spans-name = spans-bytes 1
 
-pub spans-text : Spans 0 (λ x. length (textBytes x)) text
-unfolding text textBytes
+pub spans-text : Spans 0 (λ x. length (text_bytes x)) text
+unfolding text text_bytes
 spans-text = spans-bytes 2
 
 pub spans-keep : {A : Type 0} (k : ℕ) (n : A → ℕ) (b : Bool) (a : A) → k ≡ n a → Spans k n (keep b a)
@@ -89,22 +89,22 @@ pub spans-checked : {A : Type 0} (n : A → ℕ) (test : A → Bool) (p : Parser
 unfolding checked
 spans-checked n test p sp = spans-bind 0 n n p _ sp (λ a. spans-keep _ n (test a) a (let z : 0 + n a ≡ n a = omega arith in z))
 
-pub length-encode : (i : Instr) → length (encode i) ≡ 1 + firstWidth i.op + secondWidth i.op
+pub length-encode : (i : Instr) → length (encode i) ≡ 1 + first_width i.op + second_width i.op
 unfolding encode
 length-encode i =
-    let l = length-append (be (firstWidth i.op) i.a) (be (secondWidth i.op) i.b) in
-    let m = length-be (firstWidth i.op) i.a in let n = length-be (secondWidth i.op) i.b in omega arith
+    let l = length-append (be (first_width i.op) i.a) (be (second_width i.op) i.b) in
+    let m = length-be (first_width i.op) i.a in let n = length-be (second_width i.op) i.b in omega arith
 
 pub spans-instruction : Spans 0 (λ i. length (encode i)) instruction
 unfolding instruction
 spans-instruction =
     spans-bind 0 (λ op. 1) _ (checked (λ op. leb op 45) byte) _ (spans-checked (λ op. 1) (λ op. leb op 45) byte spans-byte) (λ op.
-    spans-bind _ (λ a. firstWidth op) _ (field (firstWidth op)) _ (spans-field (firstWidth op)) (λ a.
-    spans-bind _ (λ b. secondWidth op) _ (field (secondWidth op)) _ (spans-field (secondWidth op)) (λ b.
+    spans-bind _ (λ a. first_width op) _ (field (first_width op)) _ (spans-field (first_width op)) (λ a.
+    spans-bind _ (λ b. second_width op) _ (field (second_width op)) _ (spans-field (second_width op)) (λ b.
     spans-give _ _ (record { op = op; a = a; b = b }) (let l = length-encode (record { op = op; a = a; b = b }) in omega arith))))
 
-pub length-function : (f : Function) → length (functionBytes f) ≡ 7 + length (encodes f.code)
-unfolding functionBytes listBytes encodes
+pub length-function : (f : Function) → length (function_bytes f) ≡ 7 + length (encodes f.code)
+unfolding function_bytes list_bytes encodes
 length-function f =
     let a = length-append (be 2 f.symbol) (be 1 f.arity ++ (be 2 f.locals ++ (be 2 (length f.code) ++ concat encode f.code))) in
     let b = length-append (be 1 f.arity) (be 2 f.locals ++ (be 2 (length f.code) ++ concat encode f.code)) in
@@ -117,14 +117,14 @@ unfolding encodes
 spans-code n = spans-counted encode instruction spans-instruction n
 
 spans-listed : Spans 0 (λ is. 2 + length (encodes is)) (list_of 2 instruction)
-unfolding listBytes encodes
+unfolding list_bytes encodes
 spans-listed = record {
   at = λ bs is rest h. (let x = (spans-list 2 encode instruction spans-instruction).at bs is rest h in
       let l = length-append (be 2 (length is)) (concat encode is) in let m = length-be 2 (length is) in omega arith);
 }
 
-pub spans-function : Spans 0 (λ f. length (functionBytes f)) functionRecord
-unfolding functionRecord
+pub spans-function : Spans 0 (λ f. length (function_bytes f)) function_record
+unfolding function_record
 spans-function =
     spans-bind 0 (λ v. 2) _ (field 2) _ (spans-field 2) (λ k.
     spans-bind _ (λ v. 1) _ (field 1) _ (spans-field 1) (λ n.

@@ -6,7 +6,7 @@ use Prim.Native.Nat.{ℕ, suc, ◌+◌}
 use lib.ListN.{length}
 use Rattle.definitions.specs.Instruction.{Instr, Jump, JumpIfFalse, minus, encodes}
 use Rattle.definitions.specs.Lower.{patch}
-use Rattle.definitions.specs.Walk.{Walked, walked, goesOn, and_then, rounds}
+use Rattle.definitions.specs.Walk.{Walked, walked, goes_on, and_then, rounds}
 use Rattle.definitions.proofs.Shape.{Code, plain, seq, choose, loop, size, hop, asks, pend, query, walk, Plain, Each, Ok, length-pend}
 use Rattle.definitions.proofs.Demand.{Calm, calm}
 
@@ -43,7 +43,7 @@ module _ {l : Bool} {is js : List Instr} {v u : List ℕ → Walked} where
     walks = rw (A.walks, B.walks);
   }
 
-unfoldable pub meaning-plain : {l : Bool} (is : List Instr) → Each Plain is → Meaning l is (λ xs. walked goesOn xs (encodes is))
+unfoldable pub meaning-plain : {l : Bool} (is : List Instr) → Each Plain is → Meaning l is (λ xs. walked goes_on xs (encodes is))
 meaning-plain is k = record { code = plain is; ok = k; emitted = refl; walks = refl }
 
 pub meaning-length : {l : Bool} {is : List Instr} {v : List ℕ → Walked} (M : Meaning l is v) → length is ≡ size M.code

@@ -7,35 +7,35 @@ use native.Mathlib.Omega.{arith}
 use lib.ListN.{length, length-append}
 use lib.Dec.{leb}
 use Rattle.definitions.specs.Bytes.{Name, Text, all, be, concat, housed}
-use Rattle.definitions.specs.Instruction.{Instr, nothing, Row, row, instructionTable, firstWidth, secondWidth, encode}
+use Rattle.definitions.specs.Instruction.{Instr, nothing, Row, row, instruction_table, first_width, second_width, encode}
 use Rattle.definitions.specs.Tables.{Function, Method, Class, Tables}
-use Rattle.definitions.specs.Module.{nameBytes, textBytes, functionBytes, methodBytes, classBytes, tableBytes, moduleBytes, office, instructions}
-use Rattle.definitions.specs.Open.{allInstruction}
+use Rattle.definitions.specs.Module.{name_bytes, text_bytes, function_bytes, method_bytes, class_bytes, table_bytes, module_bytes, office, instructions}
+use Rattle.definitions.specs.Open.{all_instruction}
 use Rattle.definitions.proofs.Truth.{left, right, at_most}
 use Rattle.definitions.proofs.BytesWritten.{length-be, length-list}
-use Rattle.definitions.proofs.Every.{Every, noEvery, every, all_get_d}
+use Rattle.definitions.proofs.Every.{Every, no_every, every, all_get_d}
 use Rattle.definitions.proofs.Names.{Short, name-short}
 use Rattle.definitions.proofs.Bounds.{Ordered, texts, names, members}
 use Rattle.definitions.proofs.Known.{Known}
 
-symbols-room : {xs : List Name} → Every Short xs → length (concat nameBytes xs) ≤ 65 * length xs
-unfolding concat nameBytes
-symbols-room noEvery = omega arith
+symbols-room : {xs : List Name} → Every Short xs → length (concat name_bytes xs) ≤ 65 * length xs
+unfolding concat name_bytes
+symbols-room no_every = omega arith
 symbols-room (every h r) = simp (length-append, length-be) (omega (arith, symbols-room r, h.short))
 
-strings-room : (ss : List Text) → length (concat textBytes ss) ≡ texts ss
-unfolding concat textBytes
+strings-room : (ss : List Text) → length (concat text_bytes ss) ≡ texts ss
+unfolding concat text_bytes
 strings-room [] = refl
 strings-room (s ∷ ss) = simp (length-append, length-be, strings-room ss)
 
-methods-room : (ms : List Method) → length (concat methodBytes ms) ≡ names ms
-unfolding concat methodBytes nameBytes
+methods-room : (ms : List Method) → length (concat method_bytes ms) ≡ names ms
+unfolding concat method_bytes name_bytes
 methods-room [] = refl
 methods-room (m ∷ ms) = simp (length-append, length-be, methods-room ms) (omega arith)
 
-classes-room : {t : Tables} {xs : List Class} → Every (Ordered t) xs → length (concat classBytes xs) ≤ 67 * length xs + members xs
-unfolding concat classBytes nameBytes
-classes-room noEvery = omega arith
+classes-room : {t : Tables} {xs : List Class} → Every (Ordered t) xs → length (concat class_bytes xs) ≤ 67 * length xs + members xs
+unfolding concat class_bytes name_bytes
+classes-room no_every = omega arith
 classes-room (every {a = c} h r) = simp (length-append, length-be, length-list, methods-room) (omega (arith, classes-room r, (name-short c.name h.named).short))
 
 constants-room : (ks : List ℕ) → length (concat (be 2) ks) ≡ 2 * length ks
@@ -44,34 +44,34 @@ constants-room [] = refl
 constants-room (k ∷ ks) = simp (length-append, length-be) (omega (arith, constants-room ks))
 
 -- an instruction has at most ten bytes, one of them its number
-pub operands-room : (op : ℕ) → (firstWidth op ≤ 8) × (secondWidth op ≤ 1)
-unfolding allInstruction all
+pub operands-room : (op : ℕ) → (first_width op ≤ 8) × (second_width op ≤ 1)
+unfolding all_instruction all
 operands-room op =
-    let e = all_get_d (λ (r : Row). leb r.first 8 && leb r.second 1) instructionTable refl op (row "" 0 0 nothing) refl in
-    (at_most _ 8 (left (leb (firstWidth op) 8) (leb (secondWidth op) 1) e), at_most _ 1 (right (leb (firstWidth op) 8) (leb (secondWidth op) 1) e))
+    let e = all_get_d (λ (r : Row). leb r.first 8 && leb r.second 1) instruction_table refl op (row "" 0 0 nothing) refl in
+    (at_most _ 8 (left (leb (first_width op) 8) (leb (second_width op) 1) e), at_most _ 1 (right (leb (first_width op) 8) (leb (second_width op) 1) e))
 
 code-room : (is : List Instr) → length (concat encode is) ≤ 10 * length is
 unfolding concat encode
 code-room [] = omega arith
 code-room (i ∷ is) = simp (length-append, length-be) (omega (arith, code-room is, operands-room i.op))
 
-function-room : (f : Function) → length (functionBytes f) ≤ 7 + 10 * length f.code
-unfolding functionBytes
+function-room : (f : Function) → length (function_bytes f) ≤ 7 + 10 * length f.code
+unfolding function_bytes
 function-room f = simp (length-append, length-be, length-list) (omega (arith, code-room f.code))
 
-functions-room : (fs : List Function) → length (concat functionBytes fs) ≤ 7 * length fs + 10 * instructions fs
+functions-room : (fs : List Function) → length (concat function_bytes fs) ≤ 7 * length fs + 10 * instructions fs
 unfolding concat instructions
 functions-room [] = omega arith
-functions-room (f ∷ fs) = omega (arith, functions-room fs, function-room f, length-append (functionBytes f) (concat functionBytes fs))
+functions-room (f ∷ fs) = omega (arith, functions-room fs, function-room f, length-append (function_bytes f) (concat function_bytes fs))
 
 -- ---- the whole
 
-pub length-tables : (t : Tables) → length (tableBytes t) ≡ 10 + length (concat nameBytes t.symbols) + length (concat textBytes t.strings) + length (concat functionBytes t.functions) + length (concat classBytes t.classes) + length (concat (be 2) t.constants)
-unfolding tableBytes
+pub length-tables : (t : Tables) → length (table_bytes t) ≡ 10 + length (concat name_bytes t.symbols) + length (concat text_bytes t.strings) + length (concat function_bytes t.functions) + length (concat class_bytes t.classes) + length (concat (be 2) t.constants)
+unfolding table_bytes
 length-tables t = simp (length-append, length-list) (omega arith)
 
-pub module-room : {n : ℕ} (t : Tables) → n ≤ 32768 → Known n t → length (moduleBytes t) ≤ 187471
-unfolding moduleBytes housed office
+pub module-room : {n : ℕ} (t : Tables) → n ≤ 32768 → Known n t → length (module_bytes t) ≤ 187471
+unfolding module_bytes housed office
 module-room t h K =
     let L = K.limits in
     let B = K.bounded in

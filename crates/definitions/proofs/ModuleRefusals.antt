@@ -6,16 +6,16 @@ use mathlib.Core.List.{List, [], ◌∷◌, ◌++◌}
 use Prim.Native.Nat.{ℕ, zero, suc}
 use lib.ListN.{length, get_or, get_elem?, drop}
 use lib.Dec.{eqb, eqb-suc-zero, leb, ltb, leb-zero, leb-suc-zero, leb-suc-suc}
-use Rattle.definitions.specs.Bytes.{Answer, refused, accepted, whenAccepted, Parsed, got, failed, all}
+use Rattle.definitions.specs.Bytes.{Answer, refused, accepted, when_accepted, Parsed, got, failed, all}
 use Rattle.definitions.specs.Instruction.{Instr, encodes}
 use Rattle.definitions.specs.Tables.{Function, Tables}
-use Rattle.definitions.specs.Module.{codeStart}
-use Rattle.definitions.specs.Reader.{moduleRecord, numbersExist, codeStands, wholeModule, readModule}
+use Rattle.definitions.specs.Module.{code_start}
+use Rattle.definitions.specs.Reader.{module_record, numbers_exist, code_stands, whole_module, read_module}
 use Rattle.definitions.specs.Run.{Ran, run}
-use Rattle.definitions.specs.Calls.{readCall, functionOf, codePart, codeCall, areAnswers, eventsFit, runFunction, runAnswer, textFits, textAnswer}
-use Rattle.definitions.specs.Statements.{headCounts, firstRefusal, recordRead, laidOut, tablesRead, tablesIn, code_in, readQuestions, codeQuestions, runIn, runQuestions, textQuestions, ReadRefusals, CodeRefusals, RunRefusals, TextRefusals, reachQuestions, ReachRefusals}
-use Rattle.definitions.specs.Sheet.{tally, isQuestion}
-use Rattle.definitions.specs.Reach.{wideArea, roomAsked, placeAsked, sought}
+use Rattle.definitions.specs.Calls.{read_call, function_of, code_part, code_call, are_answers, events_fit, run_function, run_answer, text_fits, text_answer}
+use Rattle.definitions.specs.Statements.{head_counts, first_refusal, record_read, laid_out, tables_read, tables_in, code_in, read_questions, code_questions, run_in, run_questions, text_questions, ReadRefusals, CodeRefusals, RunRefusals, TextRefusals, reach_questions, ReachRefusals}
+use Rattle.definitions.specs.Sheet.{tally, is_question}
+use Rattle.definitions.specs.Reach.{wide_area, room_asked, place_asked, sought}
 use Rattle.definitions.proofs.Refusals.{ask, ask-is, when-ask, head-asked, questioned, first-is}
 
 -- ---- 17 to 21: the reader
@@ -27,32 +27,32 @@ two-asked true d q a = refl
 two-asked false d q a = refl
 
 layout-asked : (r : Parsed Tables)
-    → wholeModule r ≡ ask (laidOut r) 19 (ask (numbersExist (tablesRead r)) 20 (ask (all codeStands (tablesRead r).functions) 21 (accepted (tablesRead r))))
-unfolding wholeModule laidOut tablesRead ask
-layout-asked (got t []) = ask-is (numbersExist t) 20 _ ∙ ap (ask (numbersExist t) 20) (ask-is (all codeStands t.functions) 21 (accepted t))
+    → whole_module r ≡ ask (laid_out r) 19 (ask (numbers_exist (tables_read r)) 20 (ask (all code_stands (tables_read r).functions) 21 (accepted (tables_read r))))
+unfolding whole_module laid_out tables_read ask
+layout-asked (got t []) = ask-is (numbers_exist t) 20 _ ∙ ap (ask (numbers_exist t) 20) (ask-is (all code_stands t.functions) 21 (accepted t))
 layout-asked (got t (x ∷ xs)) = rw (eqb-suc-zero (length xs), ask)
 layout-asked (failed q) = refl
 
 -- the questions of the reader, then what follows them
-unfoldable readThen : {A : Type 0} → List ℕ → Answer A → Answer A
-readThen m a = questioned (readQuestions m) a
+unfoldable read_then : {A : Type 0} → List ℕ → Answer A → Answer A
+read_then m a = questioned (read_questions m) a
 
-module-asked : (m : List ℕ) → readModule m ≡ readThen m (accepted (tablesIn m))
-unfolding readModule readThen readQuestions questioned tablesIn recordRead
+module-asked : (m : List ℕ) → read_module m ≡ read_then m (accepted (tables_in m))
+unfolding read_module read_then read_questions questioned tables_in record_read
 module-asked m =
     ap (λ (z : Answer Tables). elim (leb (length m) 524288) as (λ c. Answer Tables) [ true ↦ z | false ↦ refused 17 ])
-    (head-asked 17 18 (λ rest. wholeModule (moduleRecord rest)) m)
-    ∙ two-asked (leb (length m) 524288) (headCounts m) 17 _
-    ∙ ap (λ (z : Answer Tables). ask (leb (length m) 524288 && headCounts m) 17 (ask (leb 5 (length m) && eqb (get_or m 4 0) 1) 18 z)) (layout-asked (recordRead m))
+    (head-asked 17 18 (λ rest. whole_module (module_record rest)) m)
+    ∙ two-asked (leb (length m) 524288) (head_counts m) 17 _
+    ∙ ap (λ (z : Answer Tables). ask (leb (length m) 524288 && head_counts m) 17 (ask (leb 5 (length m) && eqb (get_or m 4 0) 1) 18 z)) (layout-asked (record_read m))
 
 -- what goes on from the tables comes after the questions
-read-then : {A : Type 0} (m : List ℕ) (f : Tables → Answer A) → whenAccepted (readModule m) f ≡ readThen m (f (tablesIn m))
-unfolding readThen readQuestions questioned whenAccepted
+read-then : {A : Type 0} (m : List ℕ) (f : Tables → Answer A) → when_accepted (read_module m) f ≡ read_then m (f (tables_in m))
+unfolding read_then read_questions questioned when_accepted
 read-then m f = rw module-asked (simp when-ask)
 
-pub readRefusals : ReadRefusals
-unfolding readCall readThen
-readRefusals m = (rw first-is (module-asked m), rw first-is (read-then m (λ t. accepted tt)))
+pub read_refusals : ReadRefusals
+unfolding read_call read_then
+read_refusals m = (rw first-is (module-asked m), rw first-is (read-then m (λ t. accepted tt)))
 
 -- ---- 22: the function
 
@@ -66,61 +66,61 @@ function-asked (g ∷ fs) zero a = rw (leb-suc-suc zero (length fs), leb-zero (l
 function-asked (g ∷ fs) (suc k) a = rw (leb-suc-suc (suc k) (length fs)) (function-asked fs k a)
 
 when-function : {A : Type 0} (t : Tables) (k : ℕ) (a : List Instr → Answer A)
-    → whenAccepted (functionOf t k) (λ (g : Function). a g.code) ≡ ask (ltb k (length t.functions)) 22 (a (code_in t k))
-unfolding functionOf whenAccepted code_in
+    → when_accepted (function_of t k) (λ (g : Function). a g.code) ≡ ask (ltb k (length t.functions)) 22 (a (code_in t k))
+unfolding function_of when_accepted code_in
 when-function {A} t k a = go (get_elem? t.functions k) ∙ function-asked t.functions k a
   where
     go : (o : Option Function)
-        → whenAccepted {A = Function} (elim o as (λ z. Answer Function) [ some g ↦ accepted g | none ↦ refused 22 ]) (λ (g : Function). a g.code)
+        → when_accepted {A = Function} (elim o as (λ z. Answer Function) [ some g ↦ accepted g | none ↦ refused 22 ]) (λ (g : Function). a g.code)
         ≡ elim o as (λ z. Answer A) [ some g ↦ a g.code | none ↦ refused 22 ]
     go (some g) = refl
     go none = refl
 
-pub codeRefusals : CodeRefusals
-unfolding codeCall codePart codeQuestions questioned readThen readQuestions
-codeRefusals m f =
-    rw first-is (read-then m (λ t. codePart t f)
-    ∙ ap (readThen m) (when-function (tablesIn m) f (λ is. accepted (record { start = codeStart (tablesIn m) f; size = length (encodes is) }))))
+pub code_refusals : CodeRefusals
+unfolding code_call code_part code_questions questioned read_then read_questions
+code_refusals m f =
+    rw first-is (read-then m (λ t. code_part t f)
+    ∙ ap (read_then m) (when-function (tables_in m) f (λ is. accepted (record { start = code_start (tables_in m) f; size = length (encodes is) }))))
 
 -- ---- 23 and 24: the run
 
 run-asked : (answers : List ℕ) (budget room : ℕ) (g : Function)
-    → runFunction answers budget room g
-    ≡ ask (areAnswers answers) 23 (ask (leb (length (run budget g.code 0 answers).events) room) 24 (accepted (run budget g.code 0 answers)))
-unfolding runFunction eventsFit
+    → run_function answers budget room g
+    ≡ ask (are_answers answers) 23 (ask (leb (length (run budget g.code 0 answers).events) room) 24 (accepted (run budget g.code 0 answers)))
+unfolding run_function events_fit
 run-asked answers budget room g =
     let r = run budget g.code 0 answers in
-    ask-is (areAnswers answers) 23 _ ∙ ap (ask (areAnswers answers) 23) (ask-is (leb (length r.events) room) 24 (accepted r))
+    ask-is (are_answers answers) 23 _ ∙ ap (ask (are_answers answers) 23) (ask-is (leb (length r.events) room) 24 (accepted r))
 
-pub runRefusals : RunRefusals
-unfolding runAnswer runQuestions codeQuestions runIn questioned readThen readQuestions
-runRefusals m f answers budget room =
+pub run_refusals : RunRefusals
+unfolding run_answer run_questions code_questions run_in questioned read_then read_questions
+run_refusals m f answers budget room =
     let after : List Instr → Answer Ran =
-    λ is. ask (areAnswers answers) 23 (ask (leb (length (run budget is 0 answers).events) room) 24 (accepted (run budget is 0 answers))) in
-    rw first-is (read-then m (λ t. whenAccepted (functionOf t f) (runFunction answers budget room))
-    ∙ ap (readThen m) (ap (whenAccepted (functionOf (tablesIn m) f)) (λ i g. run-asked answers budget room g i) ∙ when-function (tablesIn m) f after))
+    λ is. ask (are_answers answers) 23 (ask (leb (length (run budget is 0 answers).events) room) 24 (accepted (run budget is 0 answers))) in
+    rw first-is (read-then m (λ t. when_accepted (function_of t f) (run_function answers budget room))
+    ∙ ap (read_then m) (ap (when_accepted (function_of (tables_in m) f)) (λ i g. run-asked answers budget room g i) ∙ when-function (tables_in m) f after))
 
 -- ---- 31 and 32: a text about the module
 
-pub textRefusals : TextRefusals
-unfolding textAnswer textFits textQuestions questioned readThen readQuestions
-textRefusals q f m room =
-    let s = f (tablesIn m) in
-    rw first-is (read-then m (λ t. textFits q room (f t)) ∙ ap (readThen m) (ask-is (leb (length s) room) q (accepted s)))
+pub text_refusals : TextRefusals
+unfolding text_answer text_fits text_questions questioned read_then read_questions
+text_refusals q f m room =
+    let s = f (tables_in m) in
+    rw first-is (read-then m (λ t. text_fits q room (f t)) ∙ ap (read_then m) (ask-is (leb (length s) room) q (accepted s)))
 
 -- ---- 1, 34 and 35: a place is sought
 
 place-asked : (place room : ℕ) (g : Function)
-    → placeAsked place room g ≡ ask (ltb place (length g.code)) 34 (ask (leb (tally isQuestion g.code) room) 35 (accepted g.code))
-unfolding placeAsked roomAsked
+    → place_asked place room g ≡ ask (ltb place (length g.code)) 34 (ask (leb (tally is_question g.code) room) 35 (accepted g.code))
+unfolding place_asked room_asked
 place-asked place room g =
-    ask-is (ltb place (length g.code)) 34 _ ∙ ap (ask (ltb place (length g.code)) 34) (ask-is (leb (tally isQuestion g.code) room) 35 (accepted g.code))
+    ask-is (ltb place (length g.code)) 34 _ ∙ ap (ask (ltb place (length g.code)) 34) (ask-is (leb (tally is_question g.code) room) 35 (accepted g.code))
 
-pub reachRefusals : ReachRefusals
-unfolding sought reachQuestions codeQuestions questioned readThen readQuestions
-reachRefusals n m f place room =
+pub reach_refusals : ReachRefusals
+unfolding sought reach_questions code_questions questioned read_then read_questions
+reach_refusals n m f place room =
     let after : List Instr → Answer (List Instr) =
-    λ is. ask (ltb place (length is)) 34 (ask (leb (tally isQuestion is) room) 35 (accepted is)) in
-    rw first-is (ask-is (wideArea n) 1 _
-    ∙ ap (ask (wideArea n) 1) (read-then m (λ t. whenAccepted (functionOf t f) (placeAsked place room))
-    ∙ ap (readThen m) (ap (whenAccepted (functionOf (tablesIn m) f)) (λ i g. place-asked place room g i) ∙ when-function (tablesIn m) f after)))
+    λ is. ask (ltb place (length is)) 34 (ask (leb (tally is_question is) room) 35 (accepted is)) in
+    rw first-is (ask-is (wide_area n) 1 _
+    ∙ ap (ask (wide_area n) 1) (read-then m (λ t. when_accepted (function_of t f) (place_asked place room))
+    ∙ ap (read_then m) (ap (when_accepted (function_of (tables_in m) f)) (λ i g. place-asked place room g i) ∙ when-function (tables_in m) f after)))

@@ -6,13 +6,13 @@ use Prim.Native.Nat.{◌≤◌}
 use native.Mathlib.Omega.{arith}
 use lib.ListN.{length}
 use Rattle.definitions.specs.Bytes.{Name, same, member}
-use Rattle.definitions.specs.Tree.{View, asVar, asAttr, asIndex, asTuple, asOther, view, viewDisplay, Display, listD, tupleD, dictD, setD, treeSetD}
+use Rattle.definitions.specs.Tree.{View, as_var, as_attr, as_index, as_tuple, as_other, view, view_display, Display, list_d, tuple_d, dict_d, set_d, tree_set_d}
 use Rattle.definitions.specs.Tree.{Expr, lit, var, unary, binary, logical, call, attr, display, index, lambda, Exprs, []ᵉ, ◌∷ᵉ◌}
 use Rattle.definitions.specs.Tree.{Stmt, break, continue, pass, expr, return, assign, if, while, for, def, class}
 use Rattle.definitions.specs.Tree.{Block, []ᵇ, ◌∷ᵇ◌, Branches, done, else, when}
-use Rattle.definitions.specs.Wellformed.{isTuple, distinct}
-use Rattle.definitions.specs.Slots.{add, addTarget, addTargets, localsStmt, localsBlock, localsBranches}
-use Rattle.definitions.specs.Statements.{assigned, assignedAll, boundStmt, boundBlock, boundBranches, addAll, FirstAppearance, Named, NamedOnce}
+use Rattle.definitions.specs.Wellformed.{is_tuple, distinct}
+use Rattle.definitions.specs.Slots.{add, add_target, add_targets, locals_stmt, locals_block, locals_branches}
+use Rattle.definitions.specs.Statements.{assigned, assigned_all, bound_stmt, bound_block, bound_branches, add_all, FirstAppearance, Named, NamedOnce}
 use Rattle.definitions.proofs.Truth.{left, right}
 use Rattle.definitions.proofs.Every.{length-snoc}
 use Rattle.definitions.proofs.Captured.{or_assoc, or-false, member-nil, member-cons, member-append, member-add}
@@ -21,11 +21,11 @@ use Rattle.definitions.proofs.MethodOrder.{same-eq}
 -- ---- a target by its form
 
 -- the names with those that a target of this form assigns
-abbrev pub addForm : View → List Name → List Name
-addForm w xs = elim w [ asVar x ↦ add x xs | asAttr o x ↦ xs | asIndex o i ↦ xs | asTuple es ↦ addTargets es xs | asOther ↦ xs ]
+abbrev pub add_form : View → List Name → List Name
+add_form w xs = elim w [ as_var x ↦ add x xs | as_attr o x ↦ xs | as_index o i ↦ xs | as_tuple es ↦ add_targets es xs | as_other ↦ xs ]
 
-pub target-form : (e : Expr) (xs : List Name) → addTarget e xs ≡ addForm (view e) xs
-unfolding addTarget view viewDisplay isTuple
+pub target-form : (e : Expr) (xs : List Name) → add_target e xs ≡ add_form (view e) xs
+unfolding add_target view view_display is_tuple
 target-form (lit l) xs = refl
 target-form (var x) xs = refl
 target-form (unary op e) xs = refl
@@ -35,36 +35,36 @@ target-form (call f es) xs = refl
 target-form (attr o x) xs = refl
 target-form (display k es) xs = go k
   where
-    go : (k : Display) → ◌≡◌ {A = List Name} (elim (isTuple k) as (λ z. List Name) [ true ↦ addTargets es xs | false ↦ xs ]) (addForm (viewDisplay k es) xs)
-    go listD = refl
-    go tupleD = refl
-    go dictD = refl
-    go setD = refl
-    go treeSetD = refl
+    go : (k : Display) → ◌≡◌ {A = List Name} (elim (is_tuple k) as (λ z. List Name) [ true ↦ add_targets es xs | false ↦ xs ]) (add_form (view_display k es) xs)
+    go list_d = refl
+    go tuple_d = refl
+    go dict_d = refl
+    go set_d = refl
+    go tree_set_d = refl
 target-form (index o i) xs = refl
 target-form (lambda ps b) xs = refl
 
 -- ---- by first appearance
 
-all_append : (ys zs xs : List Name) → addAll (ys ++ zs) xs ≡ addAll zs (addAll ys xs)
-unfolding addAll
+all_append : (ys zs xs : List Name) → add_all (ys ++ zs) xs ≡ add_all zs (add_all ys xs)
+unfolding add_all
 all_append [] zs xs = refl
 all_append (y ∷ ys) zs xs = all_append ys zs (add y xs)
 
 -- two parts, one after the other
-then-all : (ys zs xs us vs : List Name) → us ≡ addAll ys xs → vs ≡ addAll zs us → vs ≡ addAll (ys ++ zs) xs
-then-all ys zs xs us vs e f = f ∙ ap (addAll zs) e ∙ sym (all_append ys zs xs)
+then-all : (ys zs xs us vs : List Name) → us ≡ add_all ys xs → vs ≡ add_all zs us → vs ≡ add_all (ys ++ zs) xs
+then-all ys zs xs us vs e f = f ∙ ap (add_all zs) e ∙ sym (all_append ys zs xs)
 
-tuple-all : (b : Bool) (xs us ys : List Name) → us ≡ addAll ys xs
-    → elim b as (λ z. List Name) [ true ↦ us | false ↦ xs ] ≡ addAll (elim b as (λ z. List Name) [ true ↦ ys | false ↦ [] ]) xs
-unfolding addAll
+tuple-all : (b : Bool) (xs us ys : List Name) → us ≡ add_all ys xs
+    → elim b as (λ z. List Name) [ true ↦ us | false ↦ xs ] ≡ add_all (elim b as (λ z. List Name) [ true ↦ ys | false ↦ [] ]) xs
+unfolding add_all
 tuple-all true xs us ys e = e
 tuple-all false xs us ys e = refl
 
 mutual
-  unfolding addTarget addTargets assigned assignedAll addAll
+  unfolding add_target add_targets assigned assigned_all add_all
 
-  target-all : (e : Expr) (xs : List Name) → addTarget e xs ≡ addAll (assigned e) xs
+  target-all : (e : Expr) (xs : List Name) → add_target e xs ≡ add_all (assigned e) xs
   target-all (lit l) xs = refl
   target-all (var y) xs = refl
   target-all (unary op e) xs = refl
@@ -72,18 +72,18 @@ mutual
   target-all (logical op l r) xs = refl
   target-all (call f es) xs = refl
   target-all (attr o y) xs = refl
-  target-all (display k es) xs = tuple-all (isTuple k) xs (addTargets es xs) (assignedAll es) (targets-all es xs)
+  target-all (display k es) xs = tuple-all (is_tuple k) xs (add_targets es xs) (assigned_all es) (targets-all es xs)
   target-all (index o i) xs = refl
   target-all (lambda ps b) xs = refl
 
-  targets-all : (es : Exprs) (xs : List Name) → addTargets es xs ≡ addAll (assignedAll es) xs
+  targets-all : (es : Exprs) (xs : List Name) → add_targets es xs ≡ add_all (assigned_all es) xs
   targets-all []ᵉ xs = refl
-  targets-all (e ∷ᵉ es) xs = then-all (assigned e) (assignedAll es) xs _ _ (target-all e xs) (targets-all es (addTarget e xs))
+  targets-all (e ∷ᵉ es) xs = then-all (assigned e) (assigned_all es) xs _ _ (target-all e xs) (targets-all es (add_target e xs))
 
 mutual
-  unfolding localsStmt localsBlock localsBranches boundStmt boundBlock boundBranches addAll
+  unfolding locals_stmt locals_block locals_branches bound_stmt bound_block bound_branches add_all
 
-  stmt-all : (a : Stmt) (xs : List Name) → localsStmt a xs ≡ addAll (boundStmt a) xs
+  stmt-all : (a : Stmt) (xs : List Name) → locals_stmt a xs ≡ add_all (bound_stmt a) xs
   stmt-all break xs = refl
   stmt-all continue xs = refl
   stmt-all pass xs = refl
@@ -96,17 +96,17 @@ mutual
   stmt-all (def y ps b) xs = refl
   stmt-all (class y ms vs) xs = refl
 
-  block-all : (b : Block) (xs : List Name) → localsBlock b xs ≡ addAll (boundBlock b) xs
+  block-all : (b : Block) (xs : List Name) → locals_block b xs ≡ add_all (bound_block b) xs
   block-all []ᵇ xs = refl
-  block-all (a ∷ᵇ b) xs = then-all (boundStmt a) (boundBlock b) xs _ _ (stmt-all a xs) (block-all b (localsStmt a xs))
+  block-all (a ∷ᵇ b) xs = then-all (bound_stmt a) (bound_block b) xs _ _ (stmt-all a xs) (block-all b (locals_stmt a xs))
 
-  branches-all : (r : Branches) (xs : List Name) → localsBranches r xs ≡ addAll (boundBranches r) xs
+  branches-all : (r : Branches) (xs : List Name) → locals_branches r xs ≡ add_all (bound_branches r) xs
   branches-all done xs = refl
   branches-all (else b) xs = block-all b xs
-  branches-all (when c b r) xs = then-all (boundBlock b) (boundBranches r) xs _ _ (block-all b xs) (branches-all r (localsBlock b xs))
+  branches-all (when c b r) xs = then-all (bound_block b) (bound_branches r) xs _ _ (block-all b xs) (branches-all r (locals_block b xs))
 
-pub firstAppearance : FirstAppearance
-firstAppearance ps b = block-all b ps
+pub first_appearance : FirstAppearance
+first_appearance ps b = block-all b ps
 
 -- ---- they only grow
 
@@ -118,34 +118,34 @@ add-grows x xs = go (member x xs)
     go true = omega arith
     go false = omega (arith, length-snoc xs x)
 
-all-grows : (ys xs : List Name) → length xs ≤ length (addAll ys xs)
-unfolding addAll
+all-grows : (ys xs : List Name) → length xs ≤ length (add_all ys xs)
+unfolding add_all
 all-grows [] xs = omega arith
 all-grows (y ∷ ys) xs = omega (arith, add-grows y xs, all-grows ys (add y xs))
 
-pub targets-grow : (es : Exprs) (xs : List Name) → length xs ≤ length (addTargets es xs)
-targets-grow es xs = omega (arith, all-grows (assignedAll es) xs, ap length (targets-all es xs))
+pub targets-grow : (es : Exprs) (xs : List Name) → length xs ≤ length (add_targets es xs)
+targets-grow es xs = omega (arith, all-grows (assigned_all es) xs, ap length (targets-all es xs))
 
-pub stmt-grows : (a : Stmt) (xs : List Name) → length xs ≤ length (localsStmt a xs)
-stmt-grows a xs = omega (arith, all-grows (boundStmt a) xs, ap length (stmt-all a xs))
+pub stmt-grows : (a : Stmt) (xs : List Name) → length xs ≤ length (locals_stmt a xs)
+stmt-grows a xs = omega (arith, all-grows (bound_stmt a) xs, ap length (stmt-all a xs))
 
-pub block-grows : (b : Block) (xs : List Name) → length xs ≤ length (localsBlock b xs)
-block-grows b xs = omega (arith, all-grows (boundBlock b) xs, ap length (block-all b xs))
+pub block-grows : (b : Block) (xs : List Name) → length xs ≤ length (locals_block b xs)
+block-grows b xs = omega (arith, all-grows (bound_block b) xs, ap length (block-all b xs))
 
-pub branches-grow : (r : Branches) (xs : List Name) → length xs ≤ length (localsBranches r xs)
-branches-grow r xs = omega (arith, all-grows (boundBranches r) xs, ap length (branches-all r xs))
+pub branches-grow : (r : Branches) (xs : List Name) → length xs ≤ length (locals_branches r xs)
+branches-grow r xs = omega (arith, all-grows (bound_branches r) xs, ap length (branches-all r xs))
 
 -- ---- which names
 
-member-all : (x : Name) (ys xs : List Name) → member x (addAll ys xs) ≡ (member x xs || member x ys)
-unfolding addAll
+member-all : (x : Name) (ys xs : List Name) → member x (add_all ys xs) ≡ (member x xs || member x ys)
+unfolding add_all
 member-all x [] xs = sym (ap (λ (z : Bool). member x xs || z) (member-nil x) ∙ or-false (member x xs))
 member-all x (y ∷ ys) xs =
     member-all x ys (add y xs) ∙ ap (λ (z : Bool). z || member x ys) (member-add x y xs) ∙ or_assoc (member x xs) (same x y) (member x ys)
     ∙ ap (λ (z : Bool). member x xs || z) (sym (member-cons x y ys))
 
 pub named : Named
-named ps b x = ap (member x) (block-all b ps) ∙ member-all x (boundBlock b) ps
+named ps b x = ap (member x) (block-all b ps) ∙ member-all x (bound_block b) ps
 
 -- ---- each once
 
@@ -184,10 +184,10 @@ distinct-add x xs d = go (member x xs) refl
     go true e = d
     go false e = distinct_snoc xs x d e
 
-distinct-all : (ys xs : List Name) → distinct xs ≡ true → distinct (addAll ys xs) ≡ true
-unfolding addAll
+distinct-all : (ys xs : List Name) → distinct xs ≡ true → distinct (add_all ys xs) ≡ true
+unfolding add_all
 distinct-all [] xs d = d
 distinct-all (y ∷ ys) xs d = distinct-all ys (add y xs) (distinct-add y xs d)
 
-pub namedOnce : NamedOnce
-namedOnce ps b d = ap distinct (block-all b ps) ∙ distinct-all (boundBlock b) ps d
+pub named_once : NamedOnce
+named_once ps b d = ap distinct (block-all b ps) ∙ distinct-all (bound_block b) ps d

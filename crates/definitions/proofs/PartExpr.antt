@@ -7,20 +7,20 @@ use Prim.Native.Nat.{ℕ, zero, suc, ◌+◌, ◌<◌}
 use lib.ListN.{length}
 use lib.Dec.{T, eqb}
 use Rattle.definitions.specs.Bytes.{Name, position, same, concat}
-use Rattle.definitions.specs.Tree.{Literal, noneL, boolL, intL, floatL, stringL, UnaryOp, notOp, negateOp, posOp, LogicalOp, Display, listD, tupleD, dictD, setD, treeSetD}
-use Rattle.definitions.specs.Tree.{BinaryOp, addOp, subtractOp, multiplyOp, divideOp, floorDivideOp, moduloOp, equalOp, notEqualOp, lessOp, lessEqualOp, greaterOp, greaterEqualOp, binaryNumber}
+use Rattle.definitions.specs.Tree.{Literal, none_l, bool_l, int_l, float_l, string_l, UnaryOp, not_op, negate_op, pos_op, LogicalOp, Display, list_d, tuple_d, dict_d, set_d, tree_set_d}
+use Rattle.definitions.specs.Tree.{BinaryOp, add_op, subtract_op, multiply_op, divide_op, floor_divide_op, modulo_op, equal_op, not_equal_op, less_op, less_equal_op, greater_op, greater_equal_op, binary_number}
 use Rattle.definitions.specs.Tree.{Expr, lit, var, unary, binary, logical, call, attr, display, index, lambda, Exprs, []ᵉ, ◌∷ᵉ◌, count}
-use Rattle.definitions.specs.Tree.{View, asVar, asAttr, asIndex, asTuple, asOther, view}
+use Rattle.definitions.specs.Tree.{View, as_var, as_attr, as_index, as_tuple, as_other, view}
 use Rattle.definitions.specs.Wellformed.{init}
-use Rattle.definitions.specs.Slots.{captures, Frame, namesOnly}
+use Rattle.definitions.specs.Slots.{captures, Frame, names_only}
 use Rattle.definitions.specs.Instruction
-use Rattle.definitions.specs.Instruction.{Instr, ConstBool, Return, LoadLocal, encodes, unaryCode, operatorCode, binaryCode, buildCode}
-use Rattle.definitions.specs.Tables.{Function, Tables, Body, exprBody, Out, Emit, addSymbol, begin, emits, one, ◌⨟◌, intern, getOrAddString, function, enclose}
+use Rattle.definitions.specs.Instruction.{Instr, ConstBool, Return, LoadLocal, encodes, unary_code, operator_code, binary_code, build_code}
+use Rattle.definitions.specs.Tables.{Function, Tables, Body, expr_body, Out, Emit, add_symbol, begin, emits, one, ◌⨟◌, intern, get_or_add_string, function, enclose}
 use Rattle.definitions.specs.Lower
-use Rattle.definitions.specs.Lower.{Callee, builtinCallee, functionCallee, valueCallee, resolve, load, store, literal, decides, callNamed, call_by, loads, closure, emitExpr, emitExprs, emitObject, methodEnd, emitBody}
+use Rattle.definitions.specs.Lower.{Callee, builtin_callee, function_callee, value_callee, resolve, load, store, literal, decides, call_named, call_by, loads, closure, emit_expr, emit_exprs, emit_object, method_end, emit_body}
 use Rattle.definitions.specs.Run.{flow}
-use Rattle.definitions.specs.Walk.{walked, returned, Walk, before, and_then, follow, adds, leaves, Both, walkNamed, walkCall, walkExpr, walkExprs, walkObject, walkBody, walkAt}
-use Rattle.definitions.specs.Reader.{endsInReturn, jumpsLand, codeStands}
+use Rattle.definitions.specs.Walk.{walked, returned, Walk, before, and_then, follow, adds, leaves, Both, walk_named, walk_call, walk_expr, walk_exprs, walk_object, walk_body, walk_at}
+use Rattle.definitions.specs.Reader.{ends_in_return, jumps_land, code_stands}
 use Rattle.definitions.proofs.Shape.{plain, ret, seq, Plain, Each, none, more}
 use Rattle.definitions.proofs.Demand.{Over, over-then}
 use Rattle.definitions.proofs.Lands.{Stop, stands, stop-return, stop-init}
@@ -52,41 +52,41 @@ plain-bool false = num refl refl refl
 plain-bool true = num refl refl refl
 
 pub plain-build : (k : Display) (n : ℕ) → Plain (Instruction.Build k n)
-unfolding flow buildCode
-plain-build listD n = num refl refl refl
-plain-build tupleD n = num refl refl refl
-plain-build dictD n = num refl refl refl
-plain-build setD n = num refl refl refl
-plain-build treeSetD n = num refl refl refl
+unfolding flow build_code
+plain-build list_d n = num refl refl refl
+plain-build tuple_d n = num refl refl refl
+plain-build dict_d n = num refl refl refl
+plain-build set_d n = num refl refl refl
+plain-build tree_set_d n = num refl refl refl
 
 pub plain-unary : (op : UnaryOp) → Plain (Instruction.Unary op)
-unfolding flow unaryCode
-plain-unary notOp = num refl refl refl
-plain-unary negateOp = num refl refl refl
-plain-unary posOp = num refl refl refl
+unfolding flow unary_code
+plain-unary not_op = num refl refl refl
+plain-unary negate_op = num refl refl refl
+plain-unary pos_op = num refl refl refl
 
 pub plain-binary : (op : BinaryOp) → Plain (Instruction.Binary op)
-unfolding flow binaryCode operatorCode binaryNumber
-plain-binary addOp = num refl refl refl
-plain-binary subtractOp = num refl refl refl
-plain-binary multiplyOp = num refl refl refl
-plain-binary divideOp = num refl refl refl
-plain-binary floorDivideOp = num refl refl refl
-plain-binary moduloOp = num refl refl refl
-plain-binary equalOp = num refl refl refl
-plain-binary notEqualOp = num refl refl refl
-plain-binary lessOp = num refl refl refl
-plain-binary lessEqualOp = num refl refl refl
-plain-binary greaterOp = num refl refl refl
-plain-binary greaterEqualOp = num refl refl refl
+unfolding flow binary_code operator_code binary_number
+plain-binary add_op = num refl refl refl
+plain-binary subtract_op = num refl refl refl
+plain-binary multiply_op = num refl refl refl
+plain-binary divide_op = num refl refl refl
+plain-binary floor_divide_op = num refl refl refl
+plain-binary modulo_op = num refl refl refl
+plain-binary equal_op = num refl refl refl
+plain-binary not_equal_op = num refl refl refl
+plain-binary less_op = num refl refl refl
+plain-binary less_equal_op = num refl refl refl
+plain-binary greater_op = num refl refl refl
+plain-binary greater_equal_op = num refl refl refl
 
 pub leaf-literal : (v : Literal) → Leaf (literal v)
 unfolding literal flow
-leaf-literal noneL = leaf-one (num refl refl refl)
-leaf-literal (boolL b) = leaf-one (plain-bool b)
-leaf-literal (intL n) = leaf-one (num refl refl refl)
-leaf-literal (floatL n) = leaf-one (num refl refl refl)
-leaf-literal (stringL s) = leaf-string s (λ k. leaf-one (num refl refl refl))
+leaf-literal none_l = leaf-one (num refl refl refl)
+leaf-literal (bool_l b) = leaf-one (plain-bool b)
+leaf-literal (int_l n) = leaf-one (num refl refl refl)
+leaf-literal (float_l n) = leaf-one (num refl refl refl)
+leaf-literal (string_l s) = leaf-string s (λ k. leaf-one (num refl refl refl))
 
 pub leaf-loads : (slots xs : List Name) → Leaf (loads slots xs)
 unfolding loads
@@ -97,12 +97,12 @@ leaf-loads slots (x ∷ xs) = leaf-seq (leaf-load slots x) (leaf-loads slots xs)
 
 -- a body whose end leaves the function
 pub record Whole (e : Emit) (frame : Frame) (body : Body) : Type 0 where
-  pub emitted : e ≡ emitBody frame body
-  pub part : Part false e (walkBody frame body)
-  pub over : (t : Tables) (xs : List ℕ) → Over (walkBody frame body 0 t xs).ending
-  pub stand : (t : Tables) → length (e 0 t).code < 4294967296 → T (endsInReturn (e 0 t).code && jumpsLand (length (e 0 t).code) 0 (e 0 t).code)
+  pub emitted : e ≡ emit_body frame body
+  pub part : Part false e (walk_body frame body)
+  pub over : (t : Tables) (xs : List ℕ) → Over (walk_body frame body 0 t xs).ending
+  pub stand : (t : Tables) → length (e 0 t).code < 4294967296 → T (ends_in_return (e 0 t).code && jumps_land (length (e 0 t).code) 0 (e 0 t).code)
 
-pub whole : {e : Emit} {w : Walk} (frame : Frame) (body : Body) (end : List Instr) → e ⨟ emits end ≡ emitBody frame body → walkBody frame body ≡ follow e w (leaves end) → Part false e w → Part false (emits end) (leaves end) → Stop end → Whole (e ⨟ emits end) frame body
+pub whole : {e : Emit} {w : Walk} (frame : Frame) (body : Body) (end : List Instr) → e ⨟ emits end ≡ emit_body frame body → walk_body frame body ≡ follow e w (leaves end) → Part false e w → Part false (emits end) (leaves end) → Stop end → Whole (e ⨟ emits end) frame body
 unfolding follow leaves ◌⨟◌ emits
 whole {e} {w} frame body end c q A B S = record {
   emitted = c;
@@ -130,16 +130,16 @@ part-init = record {
     init-events : encodes (LoadLocal 0 ∷ Return ∷ []) ≡ encodes (LoadLocal 0 ∷ []) ++ encodes (Return ∷ [])
     init-events = simp append-nil
 
-pub part_end : (x : Name) → Part false (emits (methodEnd x)) (leaves (methodEnd x))
-unfolding methodEnd
+pub part_end : (x : Name) → Part false (emits (method_end x)) (leaves (method_end x))
+unfolding method_end
 part_end x = go (same x init)
   where
     go : (b : Bool) → Part false (emits (elim b as (λ z. List Instr) [ true ↦ LoadLocal 0 ∷ Return ∷ [] | false ↦ Return ∷ [] ])) (leaves (elim b as (λ z. List Instr) [ true ↦ LoadLocal 0 ∷ Return ∷ [] | false ↦ Return ∷ [] ]))
     go true = part-init
     go false = part-leave
 
-pub stop-end : (x : Name) → Stop (methodEnd x)
-unfolding methodEnd
+pub stop-end : (x : Name) → Stop (method_end x)
+unfolding method_end
 stop-end x = go (same x init)
   where
     go : (b : Bool) → Stop (elim b as (λ z. List Instr) [ true ↦ LoadLocal 0 ∷ Return ∷ [] | false ↦ Return ∷ [] ])
@@ -147,7 +147,7 @@ stop-end x = go (same x init)
     go false = stop-return
 
 pub leaf-function : {e : Emit} (x : Name) (arity : ℕ) (frame : Frame) (body : Body) → Whole e frame body → Leaf (function x arity frame body e)
-unfolding function enclose begin walkAt codeStands
+unfolding function enclose begin walk_at code_stands
 leaf-function {e} x arity frame body B = leaf-symbol x (λ k. record {
   at = λ p t. none;
   grows = λ p t.
@@ -160,27 +160,27 @@ pub function-silent : (x : Name) (arity : ℕ) (frame : Frame) (body : Body) (e 
 unfolding function intern enclose
 function-silent x arity frame body e p t = go (position (same x) t.symbols)
   where
-    go : (o : Option ℕ) → (elim o as (λ z. Out) [ some k ↦ enclose k arity frame body e p t | nothing ↦ enclose (length t.symbols) arity frame body e p (addSymbol x t) ]).code ≡ []
+    go : (o : Option ℕ) → (elim o as (λ z. Out) [ some k ↦ enclose k arity frame body e p t | nothing ↦ enclose (length t.symbols) arity frame body e p (add_symbol x t) ]).code ≡ []
     go (some k) = refl
     go nothing = refl
 
-pub leaf-closure : (e : Emit) (slots : List Name) (n : ℕ) (inner cs : List Name) (body : Body) → Whole (e ⨟ one Return) (namesOnly inner) body → Leaf (closure slots n inner cs body e)
+pub leaf-closure : (e : Emit) (slots : List Name) (n : ℕ) (inner cs : List Name) (body : Body) → Whole (e ⨟ one Return) (names_only inner) body → Leaf (closure slots n inner cs body e)
 unfolding closure flow
 leaf-closure e slots n inner cs body B =
-    leaf-by (λ t. function (Lower.lambdaName (length t.functions)) n (namesOnly inner) body (e ⨟ one Return) ⨟ loads slots cs ⨟ one (Instruction.MakeClosure (length t.functions) (length cs)))
-    (λ t. leaf-seq (leaf-function _ n (namesOnly inner) body B) (leaf-seq (leaf-loads slots cs) (leaf-one (num refl refl refl))))
+    leaf-by (λ t. function (Lower.lambda_name (length t.functions)) n (names_only inner) body (e ⨟ one Return) ⨟ loads slots cs ⨟ one (Instruction.MakeClosure (length t.functions) (length cs)))
+    (λ t. leaf-seq (leaf-function _ n (names_only inner) body B) (leaf-seq (leaf-loads slots cs) (leaf-one (num refl refl refl))))
 
 -- ---- expressions
 
-pub whole-expr : (slots : List Name) (b : Expr) → Part false (emitExpr slots b) (walkExpr slots b) → Whole (emitExpr slots b ⨟ one Return) (namesOnly slots) (exprBody b)
-unfolding walkBody emitBody
-whole-expr slots b A = whole (namesOnly slots) (exprBody b) (Return ∷ []) refl refl A part-leave stop-return
+pub whole-expr : (slots : List Name) (b : Expr) → Part false (emit_expr slots b) (walk_expr slots b) → Whole (emit_expr slots b ⨟ one Return) (names_only slots) (expr_body b)
+unfolding walk_body emit_body
+whole-expr slots b A = whole (names_only slots) (expr_body b) (Return ∷ []) refl refl A part-leave stop-return
 
-pub part-named : {l : Bool} (c : Callee) (slots : List Name) (x : Name) {e : Emit} {w : Walk} (n : ℕ) → Part l e w → Part l (callNamed c slots x e n) (walkNamed c slots x e w n)
-unfolding callNamed walkNamed flow
-part-named (builtinCallee i) slots x n A = part-follow A (part-adds (leaf-one (num refl refl refl)))
-part-named (functionCallee i) slots x n A = part-follow A (part-adds (leaf-one (num refl refl refl)))
-part-named valueCallee slots x n A = part-follow (part-adds (leaf-load slots x)) (part-follow A (part-adds (leaf-one (num refl refl refl))))
+pub part-named : {l : Bool} (c : Callee) (slots : List Name) (x : Name) {e : Emit} {w : Walk} (n : ℕ) → Part l e w → Part l (call_named c slots x e n) (walk_named c slots x e w n)
+unfolding call_named walk_named flow
+part-named (builtin_callee i) slots x n A = part-follow A (part-adds (leaf-one (num refl refl refl)))
+part-named (function_callee i) slots x n A = part-follow A (part-adds (leaf-one (num refl refl refl)))
+part-named value_callee slots x n A = part-follow (part-adds (leaf-load slots x)) (part-follow A (part-adds (leaf-one (num refl refl refl))))
 
 pub part-value : {l : Bool} {e f : Emit} {w v : Walk} (n : ℕ) → Part l e w → Part l f v → Part l (e ⨟ f ⨟ one (Instruction.CallValue n)) (follow e w (follow f v (adds (one (Instruction.CallValue n)))))
 unfolding flow
@@ -196,24 +196,24 @@ abbrev pair : Emit → Walk → Both
 pair e w = record { code = e; walk = w }
 
 pub part-call : {l : Bool} (v : View) (slots : List Name) (n : ℕ) {e o a : Emit} {we wo wa : Walk} → Part l e we → Part l o wo → Part l a wa
-    → Part l (call_by v slots e o a n) (walkCall v slots (pair e we) (pair o wo) (pair a wa) n)
-unfolding call_by walkCall
-part-call {l} (asVar x) slots n E O A = record {
+    → Part l (call_by v slots e o a n) (walk_call v slots (pair e we) (pair o wo) (pair a wa) n)
+unfolding call_by walk_call
+part-call {l} (as_var x) slots n E O A = record {
   at = λ p t. (part-named (resolve x t) slots x n A).at p t;
   grows = λ p t. (part-named {l = l} (resolve x t) slots x n A).grows p t;
 }
-part-call (asAttr o x) slots n E O A = let P = part-method x n O A in record { at = P.at; grows = P.grows }
-part-call (asIndex o i) slots n E O A = let P = part-value n E A in record { at = P.at; grows = P.grows }
-part-call (asTuple es) slots n E O A = let P = part-value n E A in record { at = P.at; grows = P.grows }
-part-call asOther slots n E O A = let P = part-value n E A in record { at = P.at; grows = P.grows }
+part-call (as_attr o x) slots n E O A = let P = part-method x n O A in record { at = P.at; grows = P.grows }
+part-call (as_index o i) slots n E O A = let P = part-value n E A in record { at = P.at; grows = P.grows }
+part-call (as_tuple es) slots n E O A = let P = part-value n E A in record { at = P.at; grows = P.grows }
+part-call as_other slots n E O A = let P = part-value n E A in record { at = P.at; grows = P.grows }
 
 pub part-nothing : {l : Bool} → Part l (emits []) (adds (emits []))
 part-nothing = part-adds (leaf-emits none)
 
 mutual
-  unfolding emitExpr walkExpr emitExprs walkExprs emitObject walkObject flow
+  unfolding emit_expr walk_expr emit_exprs walk_exprs emit_object walk_object flow
 
-  pub part-expr : (l : Bool) (slots : List Name) (e : Expr) → Part l (emitExpr slots e) (walkExpr slots e)
+  pub part-expr : (l : Bool) (slots : List Name) (e : Expr) → Part l (emit_expr slots e) (walk_expr slots e)
   part-expr l slots (lit v) = part-adds (leaf-literal v)
   part-expr l slots (var x) = part-adds (leaf-load slots x)
   part-expr l slots (unary op e) = part-follow (part-expr l slots e) (part-adds (leaf-one (plain-unary op)))
@@ -225,13 +225,13 @@ mutual
   part-expr l slots (index o i) = part-follow (part-expr l slots o) (part-follow (part-expr l slots i) (part-adds (leaf-one (num refl refl refl))))
   part-expr l slots (lambda ps b) =
       let cs = captures slots ps b in
-      part-adds (leaf-closure (emitExpr (ps ++ cs) b) slots (length ps) (ps ++ cs) cs (exprBody b) (whole-expr (ps ++ cs) b (part-expr false (ps ++ cs) b)))
+      part-adds (leaf-closure (emit_expr (ps ++ cs) b) slots (length ps) (ps ++ cs) cs (expr_body b) (whole-expr (ps ++ cs) b (part-expr false (ps ++ cs) b)))
 
-  part-exprs : (l : Bool) (slots : List Name) (es : Exprs) → Part l (emitExprs slots es) (walkExprs slots es)
+  part-exprs : (l : Bool) (slots : List Name) (es : Exprs) → Part l (emit_exprs slots es) (walk_exprs slots es)
   part-exprs l slots []ᵉ = part-nothing
   part-exprs l slots (e ∷ᵉ es) = part-follow (part-expr l slots e) (part-exprs l slots es)
 
-  part-object : (l : Bool) (slots : List Name) (e : Expr) → Part l (emitObject slots e) (walkObject slots e)
+  part-object : (l : Bool) (slots : List Name) (e : Expr) → Part l (emit_object slots e) (walk_object slots e)
   part-object l slots (lit v) = part-nothing
   part-object l slots (var x) = part-nothing
   part-object l slots (unary op e) = part-nothing

@@ -7,15 +7,15 @@ use Prim.Native.Nat.{ℕ, suc}
 use native.Mathlib.Omega.{arith}
 use lib.ListN.{length, get_or, drop}
 use lib.Dec.{eqb, eqb-suc-zero, leb, le→leb}
-use Rattle.definitions.specs.Bytes.{Answer, refused, accepted, whenAccepted, Parsed, got, failed, ◌>>=◌, give, byte, field, unhouse, countsRest, versionOne}
+use Rattle.definitions.specs.Bytes.{Answer, refused, accepted, when_accepted, Parsed, got, failed, ◌>>=◌, give, byte, field, unhouse, counts_rest, version_one}
 use Rattle.definitions.specs.Tree.{Block}
-use Rattle.definitions.specs.Parse.{block_of, parseStmt, wholeBlock, readTree}
-use Rattle.definitions.specs.Wellformed.{askBlock, blockQuestions, firstNo, refusedBy, wellFormed}
+use Rattle.definitions.specs.Parse.{block_of, parse_stmt, whole_block, read_tree}
+use Rattle.definitions.specs.Wellformed.{ask_block, block_questions, first_no, refused_by, well_formed}
 use Rattle.definitions.specs.Tables.{Tables}
 use Rattle.definitions.specs.Lower.{compile}
-use Rattle.definitions.specs.Module.{Limits, moduleBytes, slotsFit, tablesFit, fits, lowerBlock, lowerTables, lowerBytes}
-use Rattle.definitions.specs.Calls.{areasFit, fitsRoom, lowerAnswer}
-use Rattle.definitions.specs.Statements.{parsed, headCounts, readsWhole, notTooDeep, block_read, module_of, Question, lowerQuestions, firstRefusal, Refusals}
+use Rattle.definitions.specs.Module.{Limits, module_bytes, slots_fit, tables_fit, fits, lower_block, lower_tables, lower_bytes}
+use Rattle.definitions.specs.Calls.{areas_fit, fits_room, lower_answer}
+use Rattle.definitions.specs.Statements.{parsed, head_counts, reads_whole, not_too_deep, block_read, module_of, Question, lower_questions, first_refusal, Refusals}
 use Rattle.definitions.proofs.Truth.{is_true}
 use Rattle.definitions.proofs.Fails.{FiveOrSix, five, six, fails-tree}
 
@@ -38,23 +38,23 @@ ask-is true q a = refl
 ask-is false q a = refl
 
 -- the first no of a list
-asks-is : {A : Type 0} (asked : ℕ → Bool) (qs : List ℕ) (a : A) → refusedBy (firstNo asked qs) a ≡ asks asked qs (accepted a)
-unfolding refusedBy firstNo asks ask
+asks-is : {A : Type 0} (asked : ℕ → Bool) (qs : List ℕ) (a : A) → refused_by (first_no asked qs) a ≡ asks asked qs (accepted a)
+unfolding refused_by first_no asks ask
 asks-is asked [] a = refl
 asks-is {A} asked (q ∷ qs) a = go (asked q) (asks-is asked qs a)
   where
-    go : (c : Bool) → refusedBy (firstNo asked qs) a ≡ asks asked qs (accepted a)
-        → refusedBy (elim c as (λ z. Option ℕ) [ true ↦ firstNo asked qs | false ↦ some q ]) a ≡ ask c q (asks asked qs (accepted a))
+    go : (c : Bool) → refused_by (first_no asked qs) a ≡ asks asked qs (accepted a)
+        → refused_by (elim c as (λ z. Option ℕ) [ true ↦ first_no asked qs | false ↦ some q ]) a ≡ ask c q (asks asked qs (accepted a))
     go true e = e
     go false e = refl
 
 -- what goes on from an accepted answer comes after the questions
-pub when-ask : {A B : Type 0} (c : Bool) (q : ℕ) (a : Answer A) (f : A → Answer B) → whenAccepted (ask c q a) f ≡ ask c q (whenAccepted a f)
-unfolding ask whenAccepted
+pub when-ask : {A B : Type 0} (c : Bool) (q : ℕ) (a : Answer A) (f : A → Answer B) → when_accepted (ask c q a) f ≡ ask c q (when_accepted a f)
+unfolding ask when_accepted
 when-ask true q a f = refl
 when-ask false q a f = refl
 
-when-asks : {A B : Type 0} (asked : ℕ → Bool) (qs : List ℕ) (a : Answer A) (f : A → Answer B) → whenAccepted (asks asked qs a) f ≡ asks asked qs (whenAccepted a f)
+when-asks : {A B : Type 0} (asked : ℕ → Bool) (qs : List ℕ) (a : Answer A) (f : A → Answer B) → when_accepted (asks asked qs a) f ≡ asks asked qs (when_accepted a f)
 unfolding asks
 when-asks asked [] a f = refl
 when-asks asked (q ∷ qs) a f = when-ask (asked q) q (asks asked qs a) f ∙ ap (ask (asked q) q) (when-asks asked qs a f)
@@ -62,69 +62,69 @@ when-asks asked (q ∷ qs) a f = when-ask (asked q) q (asks asked qs a) f ∙ ap
 -- ---- the head of a record: 3 and 4 of a tree, 17 and 18 of a module
 
 pub head-asked : {A : Type 0} (p q : ℕ) (body : List ℕ → Answer A) (bs : List ℕ)
-    → unhouse p q body bs ≡ ask (headCounts bs) p (ask (leb 5 (length bs) && eqb (get_or bs 4 0) 1) q (body (drop 5 bs)))
-unfolding unhouse countsRest versionOne headCounts ask field byte give ◌>>=◌
+    → unhouse p q body bs ≡ ask (head_counts bs) p (ask (leb 5 (length bs) && eqb (get_or bs 4 0) 1) q (body (drop 5 bs)))
+unfolding unhouse counts_rest version_one head_counts ask field byte give ◌>>=◌
 head-asked p q body [] = refl
 head-asked p q body (a ∷ []) = refl
 head-asked p q body (a ∷ b ∷ []) = refl
 head-asked p q body (a ∷ b ∷ c ∷ []) = refl
-head-asked p q body (a ∷ b ∷ c ∷ d ∷ []) = ask-is (headCounts (a ∷ b ∷ c ∷ d ∷ [])) p (refused q)
+head-asked p q body (a ∷ b ∷ c ∷ d ∷ []) = ask-is (head_counts (a ∷ b ∷ c ∷ d ∷ [])) p (refused q)
 head-asked {A} p q body (a ∷ b ∷ c ∷ d ∷ v ∷ rest) =
     let five = is_true (leb 5 (suc (suc (suc (suc (suc (length rest))))))) (le→leb 5 (suc (suc (suc (suc (suc (length rest)))))) (omega arith)) in
-    let head = headCounts (a ∷ b ∷ c ∷ d ∷ v ∷ rest) in
-    rw five (ask-is head p (versionOne q body (v ∷ rest)) ∙ ap (ask head p) (ask-is (eqb v 1) q (body rest)))
+    let head = head_counts (a ∷ b ∷ c ∷ d ∷ v ∷ rest) in
+    rw five (ask-is head p (version_one q body (v ∷ rest)) ∙ ap (ask head p) (ask-is (eqb v 1) q (body rest)))
 
 -- ---- 5 and 6: the block
 
-block-asked : (r : Parsed Block) → ((q : ℕ) → r ≡ failed q → FiveOrSix q) → wholeBlock r ≡ ask (readsWhole r) 5 (ask (notTooDeep r) 6 (accepted (block_read r)))
-unfolding wholeBlock readsWhole notTooDeep block_read ask
+block-asked : (r : Parsed Block) → ((q : ℕ) → r ≡ failed q → FiveOrSix q) → whole_block r ≡ ask (reads_whole r) 5 (ask (not_too_deep r) 6 (accepted (block_read r)))
+unfolding whole_block reads_whole not_too_deep block_read ask
 block-asked (got b []) h = refl
 block-asked (got b (x ∷ xs)) h = rw (eqb-suc-zero (length xs), ask)
 block-asked (failed q) h = go q (h q refl)
   where
-    go : (k : ℕ) → FiveOrSix k → wholeBlock (failed k) ≡ ask (readsWhole (failed k)) 5 (ask (notTooDeep (failed k)) 6 (accepted (block_read (failed k))))
+    go : (k : ℕ) → FiveOrSix k → whole_block (failed k) ≡ ask (reads_whole (failed k)) 5 (ask (not_too_deep (failed k)) 6 (accepted (block_read (failed k))))
     go k five = refl
     go k six = refl
 
 -- ---- 2 to 6: the tree
 
 tree-asked : (tree : List ℕ)
-    → readTree tree ≡ ask (leb (length tree) 32768) 2 (ask (headCounts tree) 3 (ask (leb 5 (length tree) && eqb (get_or tree 4 0) 1) 4
-    (ask (readsWhole (parsed tree)) 5 (ask (notTooDeep (parsed tree)) 6 (accepted (block_read (parsed tree)))))))
-unfolding readTree parsed
+    → read_tree tree ≡ ask (leb (length tree) 32768) 2 (ask (head_counts tree) 3 (ask (leb 5 (length tree) && eqb (get_or tree 4 0) 1) 4
+    (ask (reads_whole (parsed tree)) 5 (ask (not_too_deep (parsed tree)) 6 (accepted (block_read (parsed tree)))))))
+unfolding read_tree parsed
 tree-asked tree =
     ask-is (leb (length tree) 32768) 2 _
-    ∙ ap (ask (leb (length tree) 32768) 2) (head-asked 3 4 (λ rest. wholeBlock (block_of (parseStmt 32) rest)) tree
-    ∙ ap (λ (z : Answer Block). ask (headCounts tree) 3 (ask (leb 5 (length tree) && eqb (get_or tree 4 0) 1) 4 z)) (block-asked (parsed tree) ((fails-tree 32).at (drop 5 tree))))
+    ∙ ap (ask (leb (length tree) 32768) 2) (head-asked 3 4 (λ rest. whole_block (block_of (parse_stmt 32) rest)) tree
+    ∙ ap (λ (z : Answer Block). ask (head_counts tree) 3 (ask (leb 5 (length tree) && eqb (get_or tree 4 0) 1) 4 z)) (block-asked (parsed tree) ((fails-tree 32).at (drop 5 tree))))
 
 -- ---- 7 to 16: the block
 
-fits-asked : (l : Limits) (t : Tables) → fits l t ≡ ask (slotsFit t) 14 (ask (tablesFit l t) 15 (accepted t))
+fits-asked : (l : Limits) (t : Tables) → fits l t ≡ ask (slots_fit t) 14 (ask (tables_fit l t) 15 (accepted t))
 unfolding fits
-fits-asked l t = ask-is (slotsFit t) 14 _ ∙ ap (ask (slotsFit t) 14) (ask-is (tablesFit l t) 15 (accepted t))
+fits-asked l t = ask-is (slots_fit t) 14 _ ∙ ap (ask (slots_fit t) 14) (ask-is (tables_fit l t) 15 (accepted t))
 
-room-asked : (room : ℕ) (bs : List ℕ) → fitsRoom room bs ≡ ask (leb (length bs) room) 16 (accepted bs)
-unfolding fitsRoom
+room-asked : (room : ℕ) (bs : List ℕ) → fits_room room bs ≡ ask (leb (length bs) room) 16 (accepted bs)
+unfolding fits_room
 room-asked room bs = ask-is (leb (length bs) room) 16 (accepted bs)
 
 module _ (l : Limits) (room : ℕ) where
   -- what tables are answered
   unfoldable finish : Answer Tables → Answer (List ℕ)
-  finish a = whenAccepted (whenAccepted a (λ t. accepted (moduleBytes t))) (fitsRoom room)
+  finish a = when_accepted (when_accepted a (λ t. accepted (module_bytes t))) (fits_room room)
 
-  finish-asked : (t : Tables) → finish (fits l t) ≡ ask (slotsFit t) 14 (ask (tablesFit l t) 15 (ask (leb (length (moduleBytes t)) room) 16 (accepted (moduleBytes t))))
-  unfolding finish whenAccepted
+  finish-asked : (t : Tables) → finish (fits l t) ≡ ask (slots_fit t) 14 (ask (tables_fit l t) 15 (ask (leb (length (module_bytes t)) room) 16 (accepted (module_bytes t))))
+  unfolding finish when_accepted
   finish-asked t = simp (fits-asked, when-ask, room-asked)
 
-  finish-block : (b : Block) → finish (lowerBlock l b) ≡ asks (λ q. askBlock q false b) blockQuestions (finish (fits l (compile b).tables))
-  unfolding finish lowerBlock wellFormed whenAccepted
+  finish-block : (b : Block) → finish (lower_block l b) ≡ asks (λ q. ask_block q false b) block_questions (finish (fits l (compile b).tables))
+  unfolding finish lower_block well_formed when_accepted
   finish-block b = rw (asks-is, when-asks, when-asks, when-asks)
 
   finish-tree : (tree : List ℕ)
-      → finish (whenAccepted (readTree tree) (lowerBlock l))
-      ≡ ask (leb (length tree) 32768) 2 (ask (headCounts tree) 3 (ask (leb 5 (length tree) && eqb (get_or tree 4 0) 1) 4
-      (ask (readsWhole (parsed tree)) 5 (ask (notTooDeep (parsed tree)) 6 (finish (lowerBlock l (block_read (parsed tree))))))))
-  unfolding finish whenAccepted
+      → finish (when_accepted (read_tree tree) (lower_block l))
+      ≡ ask (leb (length tree) 32768) 2 (ask (head_counts tree) 3 (ask (leb 5 (length tree) && eqb (get_or tree 4 0) 1) 4
+      (ask (reads_whole (parsed tree)) 5 (ask (not_too_deep (parsed tree)) 6 (finish (lower_block l (block_read (parsed tree))))))))
+  unfolding finish when_accepted
   finish-tree tree = rw tree-asked (simp when-ask)
 
 -- ---- 1 to 16
@@ -134,12 +134,12 @@ unfoldable pub questioned : {A : Type 0} → List Question → Answer A → Answ
 questioned [] a = a
 questioned (q ∷ qs) a = ask q.yes q.number (questioned qs a)
 
-pub first-is : {A : Type 0} (qs : List Question) (a : A) → firstRefusal qs a ≡ questioned qs (accepted a)
-unfolding firstRefusal questioned
+pub first-is : {A : Type 0} (qs : List Question) (a : A) → first_refusal qs a ≡ questioned qs (accepted a)
+unfolding first_refusal questioned
 first-is [] a = refl
-first-is (q ∷ qs) a = ask-is q.yes q.number (firstRefusal qs a) ∙ ap (ask q.yes q.number) (first-is qs a)
+first-is (q ∷ qs) a = ask-is q.yes q.number (first_refusal qs a) ∙ ap (ask q.yes q.number) (first-is qs a)
 
 pub refusals : Refusals
-unfolding lowerAnswer lowerBytes lowerTables finish lowerQuestions questioned blockQuestions asks module_of
+unfolding lower_answer lower_bytes lower_tables finish lower_questions questioned block_questions asks module_of
 refusals l m n room tree =
-    rw first-is (ask-is (areasFit m n) 1 _ ∙ ap (ask (areasFit m n) 1) (rw (finish-tree, finish-block, finish-asked)))
+    rw first-is (ask-is (areas_fit m n) 1 _ ∙ ap (ask (areas_fit m n) 1) (rw (finish-tree, finish-block, finish-asked)))

@@ -3,6 +3,6 @@ use mathlib.Core.Path.{◌≡◌, refl}
 use Rattle.definitions.specs.Open.{everything}
 use Rattle.definitions.specs.Statements.{SamplesHold}
 
-pub samplesHold : SamplesHold
+pub samples_hold : SamplesHold
 unfolding everything
-samplesHold = refl
+samples_hold = refl

@@ -14,8 +14,8 @@ use borrow.Author.Tests.{eqb-true}
 use Rattle.definitions.specs.Instruction.{Instr, Return}
 use Rattle.definitions.specs.Reader.{landing}
 use Rattle.definitions.specs.Run.{Flow, straight, jump, returns, question, flow, way}
-use Rattle.definitions.specs.Sheet.{tally, isQuestion}
-use Rattle.definitions.specs.Search.{Next, straightOn, jumpsTo, onNo, onYes, Step, answersOf, asks, Table, meet, Marks, expandBy, expand, Rule, Chain, begins, goes, Swept, weigh, Tabled}
+use Rattle.definitions.specs.Sheet.{tally, is_question}
+use Rattle.definitions.specs.Search.{Next, straight_on, jumps_to, on_no, on_yes, Step, answers_of, asks, Table, meet, Marks, expand_by, expand, Rule, Chain, begins, goes, Swept, weigh, Tabled}
 use Rattle.definitions.proofs.Truth.{not_equal}
 use Rattle.definitions.proofs.Stays.{Lands}
 use Rattle.definitions.proofs.Trails.{takes}
@@ -144,7 +144,7 @@ module _ (R : Rule) (code : List Instr) (s : Table) (S : Searching R code s) (p 
     new-route T =
         let l = T.listed in let o = T.soon in let h = T.short in
         let t = takes code p k q way-to in
-        let a = length-append T.answers (answersOf k) in
+        let a = length-append T.answers (answers_of k) in
         let b = take-suc s.queue T.index 0 (let z = tail-in in omega arith) in
         let c = ap (total (asks code)) b ∙ total-more (asks code) (take T.index s.queue) (get_or s.queue T.index 0) in
         let d = ap (asks code) T.at in
@@ -153,10 +153,10 @@ module _ (R : Rule) (code : List Instr) (s : Table) (S : Searching R code s) (p 
           index = s.tail;
           listed = omega arith;
           at = get_or-set_same s.queue s.tail q 0 tail-in;
-          answers = T.answers ++ answersOf k;
+          answers = T.answers ++ answers_of k;
           steps = suc T.steps;
           chain = goes way-to new-link (chain-set R code s.marks q v free T.chain);
-          short = subst (λ (xs : List ℕ). length (T.answers ++ answersOf k) ≤ total (asks code) xs) (sym (before s.tail (omega arith))) (omega arith);
+          short = subst (λ (xs : List ℕ). length (T.answers ++ answers_of k) ≤ total (asks code) xs) (sym (before s.tail (omega arith))) (omega arith);
           soon = omega arith;
         }
 
@@ -229,20 +229,20 @@ module _ (R : Rule) (code : List Instr) (s : Table) (S : Searching R code s) (p 
 -- ---- the places after one place
 
 only-straight : {p a k q : ℕ} → Next straight p a k q → q ≡ suc p
-only-straight straightOn = refl
+only-straight straight_on = refl
 
 only-jump : {p a k q : ℕ} → Next jump p a k q → q ≡ landing p a
-only-jump jumpsTo = refl
+only-jump jumps_to = refl
 
 only-returns : {f : Flow} {p a k q : ℕ} → Next f p a k q → f ≡ returns → ⊥
-only-returns straightOn e = let z : ◌≡◌ {A = ℕ} 0 1 = cc in omega arith
-only-returns jumpsTo e = let z : ◌≡◌ {A = ℕ} 0 1 = cc in omega arith
-only-returns onNo e = let z : ◌≡◌ {A = ℕ} 0 1 = cc in omega arith
-only-returns onYes e = let z : ◌≡◌ {A = ℕ} 0 1 = cc in omega arith
+only-returns straight_on e = let z : ◌≡◌ {A = ℕ} 0 1 = cc in omega arith
+only-returns jumps_to e = let z : ◌≡◌ {A = ℕ} 0 1 = cc in omega arith
+only-returns on_no e = let z : ◌≡◌ {A = ℕ} 0 1 = cc in omega arith
+only-returns on_yes e = let z : ◌≡◌ {A = ℕ} 0 1 = cc in omega arith
 
 only-question : {b : Bool} {p a k q : ℕ} → Next (question b) p a k q → (q ≡ way b false p a) ⊎ (q ≡ way b true p a)
-only-question onNo = inl refl
-only-question onYes = inr refl
+only-question on_no = inl refl
+only-question on_yes = inr refl
 
 pub record Expanded (R : Rule) (code : List Instr) (p : ℕ) (s u : Table) : Type 0 where
   pub searching : Searching R code u
@@ -266,23 +266,23 @@ module _ (R : Rule) (code : List Instr) (p : ℕ) (s : Table) (S : Searching R c
     back : {k q : ℕ} → Step code p k q → Next f p (get_or code p Return).a k q
     back {k} {q} x = subst (λ (g : Flow). Next g p (get_or code p Return).a k q) e x
 
-  expanded-by : (f : Flow) → flow (get_or code p Return).op ≡ f → Expanded R code p s (expandBy f m p (get_or code p Return).a s)
-  unfolding expandBy mark_of
+  expanded-by : (f : Flow) → flow (get_or code p Return).op ≡ f → Expanded R code p s (expand_by f m p (get_or code p Return).a s)
+  unfolding expand_by mark_of
   expanded-by straight e =
-      let x = here straight e straightOn in
+      let x = here straight e straight_on in
       let M = met R code s S p 0 (suc p) from x (inside 0 (suc p) x) m.on (G.links 0 (suc p) x) in
       record { searching = M.searching; grown = M.grown; all = λ k q y. subst (λ (r : ℕ). get_or (meet m.on (suc p) s).marks r 0 ≡ 0 → ⊥) (sym (only-straight (back straight e y))) M.met }
   expanded-by jump e =
       let t = landing p (get_or code p Return).a in
-      let x = here jump e jumpsTo in
+      let x = here jump e jumps_to in
       let M = met R code s S p 0 t from x (inside 0 t x) m.on (G.links 0 t x) in
       record { searching = M.searching; grown = M.grown; all = λ k q y. subst (λ (r : ℕ). get_or (meet m.on t s).marks r 0 ≡ 0 → ⊥) (sym (only-jump (back jump e y))) M.met }
   expanded-by returns e = record { searching = S; grown = grown-none s; all = λ k q y. absurd (only-returns y e) }
   expanded-by (question b) e =
       let t = way b false p (get_or code p Return).a in
       let u = way b true p (get_or code p Return).a in
-      let x = here (question b) e onNo in
-      let y = here (question b) e onYes in
+      let x = here (question b) e on_no in
+      let y = here (question b) e on_yes in
       let M = met R code s S p 1 t from x (inside 1 t x) m.no₀ (G.links 1 t x) in
       let v = meet m.no₀ t s in
       let N = met R code v M.searching p 2 u (M.grown.marks p from) y (inside 2 u y) m.yes₁ (subst (λ (z : ℕ). R.link z p 2 m.yes₁) (sym (M.grown.same p from)) (G.links 2 u y)) in
@@ -359,7 +359,7 @@ swept R code head s W l = record {
       record { answers = T.answers; steps = T.steps; chain = T.chain; short = omega arith; soon = omega arith };
 }
   where
-    questions : weigh (asks code) 0 s.marks ≤ tally isQuestion code
+    questions : weigh (asks code) 0 s.marks ≤ tally is_question code
     questions = weigh-questions (asks code) code s.marks 0 (λ j. ap (asks code) (zero-add j)) (let m = W.searching.marks-long in omega arith)
 
 -- ---- the start

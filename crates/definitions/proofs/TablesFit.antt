@@ -4,22 +4,22 @@ use Prim.Native.Nat.{ℕ, ◌≤◌}
 use native.Mathlib.Omega.{arith}
 use lib.ListN.{length}
 use Rattle.definitions.specs.Bytes.{Name, Text, field, name, text, checked, be}
-use Rattle.definitions.specs.Utf8.{isUtf8}
+use Rattle.definitions.specs.Utf8.{is_utf8}
 use Rattle.definitions.specs.Tables.{Function, Method, Class, Tables}
-use Rattle.definitions.specs.Module.{office, nameBytes, textBytes, functionBytes, methodBytes, classBytes}
-use Rattle.definitions.specs.Reader.{functionRecord, methodRecord, classRecord}
-use Rattle.definitions.proofs.Every.{Every, noEvery, every}
+use Rattle.definitions.specs.Module.{office, name_bytes, text_bytes, function_bytes, method_bytes, class_bytes}
+use Rattle.definitions.specs.Reader.{function_record, method_record, class_record}
+use Rattle.definitions.proofs.Every.{Every, no_every, every}
 use Rattle.definitions.proofs.Accepted.{Within}
-use Rattle.definitions.proofs.Readback.{Back, noBack, back, TablesFits, reads-checked, reads-name, reads-text, reads-field, reads-function, reads-method, reads-class}
+use Rattle.definitions.proofs.Readback.{Back, no_back, back, TablesFits, reads-checked, reads-name, reads-text, reads-field, reads-function, reads-method, reads-class}
 use Rattle.definitions.proofs.Names.{Short, name-short}
 use Rattle.definitions.proofs.Bounds.{Utf8, Lean, Tight, Named, Ordered, OfClass, texts, names, members}
 use Rattle.definitions.proofs.Known.{Settles, Known}
 use Rattle.definitions.proofs.InstructionsFit.{back-code}
 
 module _ (t : Tables) (L : Within office t) (cs : length t.constants ≤ length t.classes) where
-  back-functions : {fs : List Function} → Every (Tight t) fs → Every Lean fs → Every Settles fs → Back functionRecord functionBytes fs
+  back-functions : {fs : List Function} → Every (Tight t) fs → Every Lean fs → Every Settles fs → Back function_record function_bytes fs
   unfolding office
-  back-functions noEvery c d = noBack
+  back-functions no_every c d = no_back
   back-functions (every {a = f} y ys) (every z zs) (every q qs) =
       back (reads-function f (record {
         symbol = omega (arith, y.symbol, L.symbols);
@@ -30,9 +30,9 @@ module _ (t : Tables) (L : Within office t) (cs : length t.constants ≤ length 
       }))
       (back-functions ys zs qs)
 
-  back-methods : {ms : List Method} → Every (Named t) ms → Back methodRecord methodBytes ms
+  back-methods : {ms : List Method} → Every (Named t) ms → Back method_record method_bytes ms
   unfolding office
-  back-methods noEvery = noBack
+  back-methods no_every = no_back
   back-methods (every {a = m} y ys) =
       back (reads-method m (record { short = omega (arith, (name-short m.name y.named).short); name = y.named; function = omega (arith, y.function, L.functions) })) (back-methods ys)
 
@@ -40,8 +40,8 @@ module _ (t : Tables) (L : Within office t) (cs : length t.constants ≤ length 
   methods-count [] = omega arith
   methods-count (m ∷ ms) = omega (arith, methods-count ms)
 
-  back-classes : {xs : List Class} → members xs ≤ 32768 → Every (Ordered t) xs → Back classRecord classBytes xs
-  back-classes h noEvery = noBack
+  back-classes : {xs : List Class} → members xs ≤ 32768 → Every (Ordered t) xs → Back class_record class_bytes xs
+  back-classes h no_every = no_back
   back-classes h (every {a = c} y ys) =
       back (reads-class c (record {
         short = omega (arith, (name-short c.name y.named).short);
@@ -54,16 +54,16 @@ module _ (t : Tables) (L : Within office t) (cs : length t.constants ≤ length 
 
   back-constants : {ks : List ℕ} → Every (OfClass t) ks → Back (field 2) (be 2) ks
   unfolding office
-  back-constants noEvery = noBack
+  back-constants no_every = no_back
   back-constants (every {a = k} x xs) = back (reads-field 2 k (omega (arith, x.class, L.classes))) (back-constants xs)
 
-back-symbols : {xs : List Name} → Every Short xs → Back name nameBytes xs
-back-symbols noEvery = noBack
+back-symbols : {xs : List Name} → Every Short xs → Back name name_bytes xs
+back-symbols no_every = no_back
 back-symbols (every {a = x} h r) = back (reads-name x (omega (arith, h.short))) (back-symbols r)
 
-back-strings : {ss : List Text} → Every Utf8 ss → texts ss ≤ 32768 → Back (checked isUtf8 text) textBytes ss
-back-strings noEvery h = noBack
-back-strings (every {a = s} u us) h = back (reads-checked isUtf8 u.utf8 (reads-text s (omega arith))) (back-strings us (omega arith))
+back-strings : {ss : List Text} → Every Utf8 ss → texts ss ≤ 32768 → Back (checked is_utf8 text) text_bytes ss
+back-strings no_every h = no_back
+back-strings (every {a = s} u us) h = back (reads-checked is_utf8 u.utf8 (reads-text s (omega arith))) (back-strings us (omega arith))
 
 pub tables-fit : {n : ℕ} (t : Tables) → n ≤ 32768 → Known n t → TablesFits t
 unfolding office

@@ -9,9 +9,9 @@ use lib.ListN.{get_elem?}
 use lib.Dec.{leb, ltb, ltb→lt}
 use lib.Arith.{lt→nleb}
 use Rattle.definitions.specs.Bytes.{all}
-use Rattle.definitions.specs.Utf8.{Range, in_range, Octets, utf8Char, followers, goesOn, isUtf8}
-use Rattle.definitions.specs.Statements.{Matches, noByte, byte, Utf8Octets, noChar, char, Utf8Grammar}
-use Rattle.definitions.specs.Open.{allUtf8}
+use Rattle.definitions.specs.Utf8.{Range, in_range, Octets, utf8_char, followers, goes_on, is_utf8}
+use Rattle.definitions.specs.Statements.{Matches, no_byte, byte, Utf8Octets, no_char, char, Utf8Grammar}
+use Rattle.definitions.specs.Open.{all_utf8}
 use Rattle.definitions.proofs.Truth.{left, right, holds, at_most, is_false}
 
 -- ---- what passes the test is made of characters
@@ -41,32 +41,32 @@ record Split (rs : List Range) (bs : List ℕ) : Type 0 where
   matches : Matches rs bytes
   chars : Utf8Octets rest
 
-split-char : (b : ℕ) (bs : List ℕ) → ((rs : List Range) → goesOn rs bs ≡ true → Split rs bs)
-    → (o : Option (List Range)) → followers utf8Char b ≡ o → (elim o as (λ z. Bool) [ none ↦ false | some rs ↦ goesOn rs bs ]) ≡ true → Split [] (b ∷ bs)
+split-char : (b : ℕ) (bs : List ℕ) → ((rs : List Range) → goes_on rs bs ≡ true → Split rs bs)
+    → (o : Option (List Range)) → followers utf8_char b ≡ o → (elim o as (λ z. Bool) [ none ↦ false | some rs ↦ goes_on rs bs ]) ≡ true → Split [] (b ∷ bs)
 split-char b bs next none q e = let z : ◌≡◌ {A = ℕ} 0 1 = cc in absurd (omega arith)
 split-char b bs next (some rs) q e =
     let S = next rs e in
-    let B = begins utf8Char b rs q in
+    let B = begins utf8_char b rs q in
     let m : Matches B.octets.others S.bytes = subst (λ (z : List Range). Matches z S.bytes) (sym B.others) S.matches in
     record {
       bytes = [];
       rest = b ∷ bs;
       whole = refl;
-      matches = noByte;
+      matches = no_byte;
       chars = subst Utf8Octets (ap (λ (z : List ℕ). b ∷ z) (sym S.whole)) (char B.line B.there (byte B.first m) S.chars);
     }
 
-split : (bs : List ℕ) (rs : List Range) → goesOn rs bs ≡ true → Split rs bs
-unfolding goesOn
-split [] [] e = record { bytes = []; rest = []; whole = refl; matches = noByte; chars = noChar }
+split : (bs : List ℕ) (rs : List Range) → goes_on rs bs ≡ true → Split rs bs
+unfolding goes_on
+split [] [] e = record { bytes = []; rest = []; whole = refl; matches = no_byte; chars = no_char }
 split [] (r ∷ rs) e = let z : ◌≡◌ {A = ℕ} 0 1 = cc in absurd (omega arith)
-split (b ∷ bs) [] e = split-char b bs (split bs) (followers utf8Char b) refl e
+split (b ∷ bs) [] e = split-char b bs (split bs) (followers utf8_char b) refl e
 split (b ∷ bs) (r ∷ rs) e =
-    let S = split bs rs (right (in_range r b) (goesOn rs bs) e) in
-    record { bytes = b ∷ S.bytes; rest = S.rest; whole = ap (λ (z : List ℕ). b ∷ z) S.whole; matches = byte (left (in_range r b) (goesOn rs bs) e) S.matches; chars = S.chars }
+    let S = split bs rs (right (in_range r b) (goes_on rs bs) e) in
+    record { bytes = b ∷ S.bytes; rest = S.rest; whole = ap (λ (z : List ℕ). b ∷ z) S.whole; matches = byte (left (in_range r b) (goes_on rs bs) e) S.matches; chars = S.chars }
 
-pub utf8-sound : (s : List ℕ) → isUtf8 s ≡ true → Utf8Octets s
-unfolding isUtf8
+pub utf8-sound : (s : List ℕ) → is_utf8 s ≡ true → Utf8Octets s
+unfolding is_utf8
 utf8-sound s e = let S = split s [] e in whole_of S.bytes S.rest S.matches S.whole S.chars
   where
     whole_of : (bs rest : List ℕ) → Matches [] bs → s ≡ bs ++ rest → Utf8Octets rest → Utf8Octets s
@@ -105,27 +105,27 @@ follows (d ∷ cs) a (suc k) c b e h =
     let u = all-at (λ (z : Octets). ltb d.first.up_to z.first.from) cs k c (left (all (λ (z : Octets). ltb d.first.up_to z.first.from) cs) (ascending cs) a) e in
     rw (not_earlier d.first c.first b u h, followers) (follows cs (right (all (λ (z : Octets). ltb d.first.up_to z.first.from) cs) (ascending cs) a) k c b e h)
 
-lines-ascend : ascending utf8Char ≡ true
-unfolding ascending all allUtf8
+lines-ascend : ascending utf8_char ≡ true
+unfolding ascending all all_utf8
 lines-ascend = refl
 
 -- what a first byte of a line is followed by
-pub line-follows : (line : ℕ) (c : Octets) (b : ℕ) → get_elem? utf8Char line ≡ some c → in_range c.first b ≡ true → followers utf8Char b ≡ some c.others
-line-follows line c b e h = follows utf8Char lines-ascend line c b e h
+pub line-follows : (line : ℕ) (c : Octets) (b : ℕ) → get_elem? utf8_char line ≡ some c → in_range c.first b ≡ true → followers utf8_char b ≡ some c.others
+line-follows line c b e h = follows utf8_char lines-ascend line c b e h
 
 -- bytes in the ranges are gone over
-past : (rs : List Range) (bs rest : List ℕ) → Matches rs bs → goesOn rs (bs ++ rest) ≡ goesOn [] rest
-unfolding goesOn
-past rs bs rest noByte = refl
+past : (rs : List Range) (bs rest : List ℕ) → Matches rs bs → goes_on rs (bs ++ rest) ≡ goes_on [] rest
+unfolding goes_on
+past rs bs rest no_byte = refl
 past rs bs rest (byte {rs = rs'} {bs = bs'} h m) = rw h (past rs' bs' rest m)
 
-pub utf8-complete : (s : List ℕ) → Utf8Octets s → isUtf8 s ≡ true
-unfolding isUtf8 goesOn
-utf8-complete s noChar = refl
+pub utf8-complete : (s : List ℕ) → Utf8Octets s → is_utf8 s ≡ true
+unfolding is_utf8 goes_on
+utf8-complete s no_char = refl
 utf8-complete s (char {c} {bs} {rest} line e m u) = first-of c line e bs rest m (utf8-complete rest u)
   where
-    first-of : (c : Octets) (line : ℕ) → get_elem? utf8Char line ≡ some c → (bs rest : List ℕ) → Matches (c.first ∷ c.others) bs → goesOn [] rest ≡ true → goesOn [] (bs ++ rest) ≡ true
-    first-of c line e (b ∷ bs) rest (byte h m) q = rw (line-follows line c b e h, goesOn) (rw (past c.others bs rest m) q)
+    first-of : (c : Octets) (line : ℕ) → get_elem? utf8_char line ≡ some c → (bs rest : List ℕ) → Matches (c.first ∷ c.others) bs → goes_on [] rest ≡ true → goes_on [] (bs ++ rest) ≡ true
+    first-of c line e (b ∷ bs) rest (byte h m) q = rw (line-follows line c b e h, goes_on) (rw (past c.others bs rest m) q)
 
-pub utf8Grammar : Utf8Grammar
-utf8Grammar s = (utf8-sound s, utf8-complete s)
+pub utf8_grammar : Utf8Grammar
+utf8_grammar s = (utf8-sound s, utf8-complete s)

@@ -10,10 +10,10 @@ use lib.ListN.{get_elem?}
 use lib.Dec.{leb, ltb}
 use borrow.Author.Tests.{ltb-true, ltb-false, leb-true, leb-false, lt-ltb, le-ltb, le-leb, lt-leb}
 use Rattle.definitions.specs.Bytes.{all, concat}
-use Rattle.definitions.specs.Utf8.{Range, range, in_range, Octets, utf8Char, is_scalar, encodeChar}
-use Rattle.definitions.specs.Statements.{Matches, noByte, byte, Utf8Octets, noChar, char, Utf8Scalars}
+use Rattle.definitions.specs.Utf8.{Range, range, in_range, Octets, utf8_char, is_scalar, encode_char}
+use Rattle.definitions.specs.Statements.{Matches, no_byte, byte, Utf8Octets, no_char, char, Utf8Scalars}
 use Rattle.definitions.proofs.Truth.{left, right}
-use Rattle.definitions.proofs.Every.{Every, noEvery, every, every-at}
+use Rattle.definitions.proofs.Every.{Every, no_every, every, every-at}
 use Rattle.definitions.proofs.Utf8Grammar.{utf8-sound, utf8-complete}
 
 -- ---- bytes in ranges
@@ -28,21 +28,21 @@ in-range {a} {z} {b} h g = rw (le-leb a b h, le-leb b z g)
 
 -- ---- the encoder by the size of the number
 
-one_byte : (c : ℕ) → c < 0x80 → encodeChar c ≡ c ∷ []
-unfolding encodeChar
-one_byte c h = rw (lt-ltb c 0x80 h, encodeChar)
+one_byte : (c : ℕ) → c < 0x80 → encode_char c ≡ c ∷ []
+unfolding encode_char
+one_byte c h = rw (lt-ltb c 0x80 h, encode_char)
 
-two_bytes : (c : ℕ) → 0x80 ≤ c → c < 0x800 → encodeChar c ≡ (0xC0 + c / 64) ∷ (0x80 + c % 64) ∷ []
-unfolding encodeChar
-two_bytes c h g = rw (le-ltb c 0x80 h, encodeChar) (rw (lt-ltb c 0x800 g))
+two_bytes : (c : ℕ) → 0x80 ≤ c → c < 0x800 → encode_char c ≡ (0xC0 + c / 64) ∷ (0x80 + c % 64) ∷ []
+unfolding encode_char
+two_bytes c h g = rw (le-ltb c 0x80 h, encode_char) (rw (lt-ltb c 0x800 g))
 
-three-bytes : (c : ℕ) → 0x800 ≤ c → c < 0x10000 → encodeChar c ≡ (0xE0 + c / 4096) ∷ (0x80 + c / 64 % 64) ∷ (0x80 + c % 64) ∷ []
-unfolding encodeChar
-three-bytes c h g = rw (le-ltb c 0x80 (omega arith), encodeChar) (rw (le-ltb c 0x800 h) (rw (lt-ltb c 0x10000 g)))
+three-bytes : (c : ℕ) → 0x800 ≤ c → c < 0x10000 → encode_char c ≡ (0xE0 + c / 4096) ∷ (0x80 + c / 64 % 64) ∷ (0x80 + c % 64) ∷ []
+unfolding encode_char
+three-bytes c h g = rw (le-ltb c 0x80 (omega arith), encode_char) (rw (le-ltb c 0x800 h) (rw (lt-ltb c 0x10000 g)))
 
-four_bytes : (c : ℕ) → 0x10000 ≤ c → encodeChar c ≡ (0xF0 + c / 262144) ∷ (0x80 + c / 4096 % 64) ∷ (0x80 + c / 64 % 64) ∷ (0x80 + c % 64) ∷ []
-unfolding encodeChar
-four_bytes c h = rw (le-ltb c 0x80 (omega arith), encodeChar) (rw (le-ltb c 0x800 (omega arith)) (rw (le-ltb c 0x10000 h)))
+four_bytes : (c : ℕ) → 0x10000 ≤ c → encode_char c ≡ (0xF0 + c / 262144) ∷ (0x80 + c / 4096 % 64) ∷ (0x80 + c / 64 % 64) ∷ (0x80 + c % 64) ∷ []
+unfolding encode_char
+four_bytes c h = rw (le-ltb c 0x80 (omega arith), encode_char) (rw (le-ltb c 0x800 (omega arith)) (rw (le-ltb c 0x10000 h)))
 
 -- ---- scalar values
 
@@ -76,7 +76,7 @@ scalar-apart c e = go (leb 0xD800 c) refl (leb c 0xDFFF) refl (right (ltb c 0x11
 record Coded (bs : List ℕ) : Type 0 where
   code : ℕ
   scalar : is_scalar code ≡ true
-  is : bs ≡ encodeChar code
+  is : bs ≡ encode_char code
 
 coded-1 : (a : ℕ) → a ≤ 0x7F → Coded (a ∷ [])
 coded-1 a h = record { code = a; scalar = low_scalar a (omega arith); is = sym (one_byte a (omega arith)) }
@@ -124,13 +124,13 @@ line-1 : Line (record { first = range 0x00 0x7F; others = [] })
 line-1 = record { at = go }
   where
     go : {bs : List ℕ} → Matches (range 0x00 0x7F ∷ []) bs → Coded bs
-    go (byte {b = a} h noByte) = coded-1 a (within h).1
+    go (byte {b = a} h no_byte) = coded-1 a (within h).1
 
 line-2 : Line (record { first = range 0xC2 0xDF; others = range 0x80 0xBF ∷ [] })
 line-2 = record { at = go }
   where
     go : {bs : List ℕ} → Matches (range 0xC2 0xDF ∷ range 0x80 0xBF ∷ []) bs → Coded bs
-    go (byte {b = a} h (byte {b = b} k noByte)) = coded-2 a b (within h).0 (within h).1 (within k).0 (within k).1
+    go (byte {b = a} h (byte {b = b} k no_byte)) = coded-2 a b (within h).0 (within h).1 (within k).0 (within k).1
 
 -- three bytes, whose number stands in bounds and is no surrogate
 line-3 : (f l s t : ℕ) → 0xE0 ≤ f → l ≤ 0xEF → 0x80 ≤ s → t ≤ 0xBF
@@ -139,7 +139,7 @@ line-3 : (f l s t : ℕ) → 0xE0 ≤ f → l ≤ 0xEF → 0x80 ≤ s → t ≤ 
 line-3 f l s t f₁ l₁ s₁ t₁ bounds = record { at = go }
   where
     go : {bs : List ℕ} → Matches (range f l ∷ range s t ∷ range 0x80 0xBF ∷ []) bs → Coded bs
-    go (byte {b = a} h (byte {b = b} k (byte {b = c} m noByte))) =
+    go (byte {b = a} h (byte {b = b} k (byte {b = c} m no_byte))) =
         let h' = within h in
         let k' = within k in
         let m' = within m in
@@ -154,7 +154,7 @@ line-4 : (f l s t : ℕ) → 0xF0 ≤ f → l ≤ 0xF4 → 0x80 ≤ s → t ≤ 
 line-4 f l s t f₁ l₁ s₁ t₁ bounds = record { at = go }
   where
     go : {bs : List ℕ} → Matches (range f l ∷ range s t ∷ range 0x80 0xBF ∷ range 0x80 0xBF ∷ []) bs → Coded bs
-    go (byte {b = a} h (byte {b = b} k (byte {b = c} m (byte {b = d} n noByte)))) =
+    go (byte {b = a} h (byte {b = b} k (byte {b = c} m (byte {b = d} n no_byte)))) =
         let h' = within h in
         let k' = within k in
         let m' = within m in
@@ -163,8 +163,8 @@ line-4 f l s t f₁ l₁ s₁ t₁ bounds = record { at = go }
         let x = bounds a b c d v refl h'.0 h'.1 k'.0 k'.1 m'.0 m'.1 n'.0 n'.1 in
         coded-4 a b c d v refl (omega arith) (omega arith) (omega arith) (omega arith) m'.0 m'.1 n'.0 n'.1 x.0 x.1
 
-lines : Every Line utf8Char
-unfolding utf8Char
+lines : Every Line utf8_char
+unfolding utf8_char
 lines =
     every line-1
     (every line-2
@@ -175,21 +175,21 @@ lines =
     (every (line-4 0xF0 0xF0 0x90 0xBF (omega arith) (omega arith) (omega arith) (omega arith) (λ a b c d v e a₁ a₂ b₁ b₂ c₁ c₂ d₁ d₂. (omega arith, omega arith)))
     (every (line-4 0xF1 0xF3 0x80 0xBF (omega arith) (omega arith) (omega arith) (omega arith) (λ a b c d v e a₁ a₂ b₁ b₂ c₁ c₂ d₁ d₂. (omega arith, omega arith)))
     (every (line-4 0xF4 0xF4 0x80 0x8F (omega arith) (omega arith) (omega arith) (omega arith) (λ a b c d v e a₁ a₂ b₁ b₂ c₁ c₂ d₁ d₂. (omega arith, omega arith)))
-    noEvery))))))))
+    no_every))))))))
 
 -- characters that are encodings
 record Decoded (s : List ℕ) : Type 0 where
   codes : List ℕ
   scalars : all is_scalar codes ≡ true
-  is : s ≡ concat encodeChar codes
+  is : s ≡ concat encode_char codes
 
 decoded : {s : List ℕ} → Utf8Octets s → Decoded s
 unfolding concat all
-decoded noChar = record { codes = []; scalars = refl; is = refl }
+decoded no_char = record { codes = []; scalars = refl; is = refl }
 decoded (char {c} {bs} {rest} line e m u) =
-    let C = (every-at utf8Char lines line c e).at m in
+    let C = (every-at utf8_char lines line c e).at m in
     let D = decoded u in
-    record { codes = C.code ∷ D.codes; scalars = rw C.scalar D.scalars; is = ap (λ (x : List ℕ). x ++ rest) C.is ∙ ap (λ (x : List ℕ). encodeChar C.code ++ x) D.is }
+    record { codes = C.code ∷ D.codes; scalars = rw C.scalar D.scalars; is = ap (λ (x : List ℕ). x ++ rest) C.is ∙ ap (λ (x : List ℕ). encode_char C.code ++ x) D.is }
 
 -- ---- the encoding of a scalar value is a character of the table
 
@@ -198,16 +198,16 @@ six : (n : ℕ) {rs : List Range} {bs : List ℕ} → Matches rs bs → Matches 
 six n m = byte {b = 0x80 + n % 64} (in-range {a = 0x80} {z = 0xBF} (omega arith) (omega arith)) m
 
 -- the line of three and of four bytes
-char-3 : (line f l s t c : ℕ) {rest : List ℕ} → get_elem? utf8Char line ≡ some (record { first = range f l; others = range s t ∷ range 0x80 0xBF ∷ [] }) → 0x800 ≤ c → c < 0x10000
-    → f ≤ 0xE0 + c / 4096 → 0xE0 + c / 4096 ≤ l → s ≤ 0x80 + c / 64 % 64 → 0x80 + c / 64 % 64 ≤ t → Utf8Octets rest → Utf8Octets (encodeChar c ++ rest)
+char-3 : (line f l s t c : ℕ) {rest : List ℕ} → get_elem? utf8_char line ≡ some (record { first = range f l; others = range s t ∷ range 0x80 0xBF ∷ [] }) → 0x800 ≤ c → c < 0x10000
+    → f ≤ 0xE0 + c / 4096 → 0xE0 + c / 4096 ≤ l → s ≤ 0x80 + c / 64 % 64 → 0x80 + c / 64 % 64 ≤ t → Utf8Octets rest → Utf8Octets (encode_char c ++ rest)
 char-3 line f l s t c e h g f₁ l₁ s₁ t₁ u =
-    rw (three-bytes c h g) (char line e (byte (in-range f₁ l₁) (byte (in-range s₁ t₁) (six c noByte))) u)
+    rw (three-bytes c h g) (char line e (byte (in-range f₁ l₁) (byte (in-range s₁ t₁) (six c no_byte))) u)
 
-char-4 : (line f l s t c : ℕ) {rest : List ℕ} → get_elem? utf8Char line ≡ some (record { first = range f l; others = range s t ∷ range 0x80 0xBF ∷ range 0x80 0xBF ∷ [] }) → 0x10000 ≤ c
-    → f ≤ 0xF0 + c / 262144 → 0xF0 + c / 262144 ≤ l → s ≤ 0x80 + c / 4096 % 64 → 0x80 + c / 4096 % 64 ≤ t → Utf8Octets rest → Utf8Octets (encodeChar c ++ rest)
+char-4 : (line f l s t c : ℕ) {rest : List ℕ} → get_elem? utf8_char line ≡ some (record { first = range f l; others = range s t ∷ range 0x80 0xBF ∷ range 0x80 0xBF ∷ [] }) → 0x10000 ≤ c
+    → f ≤ 0xF0 + c / 262144 → 0xF0 + c / 262144 ≤ l → s ≤ 0x80 + c / 4096 % 64 → 0x80 + c / 4096 % 64 ≤ t → Utf8Octets rest → Utf8Octets (encode_char c ++ rest)
 char-4 line f l s t c e h f₁ l₁ s₁ t₁ u =
     rw (four_bytes c h)
-    (char line e (byte (in-range f₁ l₁) (byte (in-range s₁ t₁) (six (c / 64) (six c noByte)))) u)
+    (char line e (byte (in-range f₁ l₁) (byte (in-range s₁ t₁) (six (c / 64) (six c no_byte)))) u)
 
 -- a number is below a bound, or not
 below_or : (c n : ℕ) → (c < n) ⊎ (n ≤ c)
@@ -217,8 +217,8 @@ below_or c n = go (ltb c n) refl
     go true e = inl (ltb-true c n e)
     go false e = inr (ltb-false c n e)
 
-char-low : (c : ℕ) {rest : List ℕ} → 0x800 ≤ c → c < 0xD800 → Utf8Octets rest → Utf8Octets (encodeChar c ++ rest)
-unfolding utf8Char
+char-low : (c : ℕ) {rest : List ℕ} → 0x800 ≤ c → c < 0xD800 → Utf8Octets rest → Utf8Octets (encode_char c ++ rest)
+unfolding utf8_char
 char-low c h g u = ⊎_elim
     (λ (k : c < 0x1000). char-3 2 0xE0 0xE0 0xA0 0xBF c refl h (omega arith) (omega arith) (omega arith) (omega arith) (omega arith) u)
     (λ (k : 0x1000 ≤ c). ⊎_elim
@@ -227,8 +227,8 @@ char-low c h g u = ⊎_elim
     (below_or c 0xD000))
     (below_or c 0x1000)
 
-char-high : (c : ℕ) {rest : List ℕ} → 0xDFFF < c → c < 0x110000 → Utf8Octets rest → Utf8Octets (encodeChar c ++ rest)
-unfolding utf8Char
+char-high : (c : ℕ) {rest : List ℕ} → 0xDFFF < c → c < 0x110000 → Utf8Octets rest → Utf8Octets (encode_char c ++ rest)
+unfolding utf8_char
 char-high c h g u = ⊎_elim
     (λ (k : c < 0x10000). char-3 5 0xEE 0xEF 0x80 0xBF c refl (omega arith) k (omega arith) (omega arith) (omega arith) (omega arith) u)
     (λ (k : 0x10000 ≤ c). ⊎_elim
@@ -240,23 +240,23 @@ char-high c h g u = ⊎_elim
     (below_or c 0x40000))
     (below_or c 0x10000)
 
-char_of : (c : ℕ) {rest : List ℕ} → is_scalar c ≡ true → Utf8Octets rest → Utf8Octets (encodeChar c ++ rest)
-unfolding utf8Char
+char_of : (c : ℕ) {rest : List ℕ} → is_scalar c ≡ true → Utf8Octets rest → Utf8Octets (encode_char c ++ rest)
+unfolding utf8_char
 char_of c s u = ⊎_elim
-    (λ (k : c < 0x80). rw (one_byte c k) (char 0 refl (byte {b = c} (in-range {a = 0x00} {z = 0x7F} (omega arith) (omega arith)) noByte) u))
+    (λ (k : c < 0x80). rw (one_byte c k) (char 0 refl (byte {b = c} (in-range {a = 0x00} {z = 0x7F} (omega arith) (omega arith)) no_byte) u))
     (λ (k : 0x80 ≤ c). ⊎_elim
-    (λ (m : c < 0x800). rw (two_bytes c k m) (char 1 refl (byte {b = 0xC0 + c / 64} (in-range {a = 0xC2} {z = 0xDF} (omega arith) (omega arith)) (six c noByte)) u))
+    (λ (m : c < 0x800). rw (two_bytes c k m) (char 1 refl (byte {b = 0xC0 + c / 64} (in-range {a = 0xC2} {z = 0xDF} (omega arith) (omega arith)) (six c no_byte)) u))
     (λ (m : 0x800 ≤ c). ⊎_elim (λ (n : c < 0xD800). char-low c m n u) (λ (n : 0xDFFF < c). char-high c n (scalar_below c s) u) (scalar-apart c s))
     (below_or c 0x800))
     (below_or c 0x80)
 
-encoded : (cs : List ℕ) → all is_scalar cs ≡ true → Utf8Octets (concat encodeChar cs)
+encoded : (cs : List ℕ) → all is_scalar cs ≡ true → Utf8Octets (concat encode_char cs)
 unfolding concat all
-encoded [] e = noChar
+encoded [] e = no_char
 encoded (c ∷ cs) e = char_of c (left (is_scalar c) (all is_scalar cs) e) (encoded cs (right (is_scalar c) (all is_scalar cs) e))
 
-pub utf8Scalars : Utf8Scalars
-utf8Scalars = record {
+pub utf8_scalars : Utf8Scalars
+utf8_scalars = record {
   decodes = λ s e. let D = decoded (utf8-sound s e) in (D.codes, D.scalars, D.is);
-  encodes = λ cs e. utf8-complete (concat encodeChar cs) (encoded cs e);
+  encodes = λ cs e. utf8-complete (concat encode_char cs) (encoded cs e);
 }

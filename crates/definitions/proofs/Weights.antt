@@ -9,7 +9,7 @@ use lib.ListN.{length, get_or, set, take}
 use lib.Dec.{eqb}
 use borrow.Author.Tests.{eq-eqb, ne_eqb, eqb-true}
 use Rattle.definitions.specs.Instruction.{Instr, Return}
-use Rattle.definitions.specs.Sheet.{isQuestion, oneIf, tally}
+use Rattle.definitions.specs.Sheet.{is_question, one_if, tally}
 use Rattle.definitions.specs.Search.{weigh}
 use Rattle.definitions.proofs.Truth.{not_equal}
 use Rattle.definitions.proofs.Sheet.{tally-more}
@@ -84,15 +84,15 @@ total-length [] = refl
 total-length (x ∷ xs) = let i = total-length xs in omega arith
 
 -- questions weigh no more than there are
-pub weigh-questions : (f : ℕ → ℕ) (is : List Instr) (ms : List ℕ) (p : ℕ) → ((j : ℕ) → f (p + j) ≡ oneIf (isQuestion (get_or is j Return).op)) → length ms ≤ length is → weigh f p ms ≤ tally isQuestion is
+pub weigh-questions : (f : ℕ → ℕ) (is : List Instr) (ms : List ℕ) (p : ℕ) → ((j : ℕ) → f (p + j) ≡ one_if (is_question (get_or is j Return).op)) → length ms ≤ length is → weigh f p ms ≤ tally is_question is
 unfolding weigh
 weigh-questions f is [] p h l = omega arith
 weigh-questions f [] (m ∷ ms) p h l = absurd (omega arith)
 weigh-questions f (i ∷ is) (m ∷ ms) p h l =
     let a = weigh-most f ms p m in
     let b = weigh-questions f is ms (suc p) (λ j. ap f (let z : suc p + j ≡ p + suc j = omega arith in z) ∙ h (suc j)) (omega arith) in
-    let c : f p ≡ oneIf (isQuestion i.op) = ap f (let z : p ≡ p + 0 = omega arith in z) ∙ h 0 in
-    let d = tally-more isQuestion i is in
+    let c : f p ≡ one_if (is_question i.op) = ap f (let z : p ≡ p + 0 = omega arith in z) ∙ h 0 in
+    let d = tally-more is_question i is in
     omega arith
 
 -- nothing is marked

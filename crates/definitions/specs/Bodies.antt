@@ -4,55 +4,55 @@ use Rattle.definitions.specs.Tree.{Expr, lit, var, unary, binary, logical, call,
 use Rattle.definitions.specs.Tree.{Stmt, break, continue, pass, expr, return, assign, if, while, for, def, class}
 use Rattle.definitions.specs.Tree.{Block, []ᵇ, ◌∷ᵇ◌, Branches, done, else, when, Methods, []ᵐ, method}
 use Rattle.definitions.specs.Instruction.{Return}
-use Rattle.definitions.specs.Tables.{Body, blockBody, exprBody}
-use Rattle.definitions.specs.Lower.{methodEnd}
+use Rattle.definitions.specs.Tables.{Body, block_body, expr_body}
+use Rattle.definitions.specs.Lower.{method_end}
 
 -- each lambda in an expression, before those inside it, from left to right
 unfoldable mutual
-  pub bodiesExpr : Expr → List Body
-  bodiesExpr (lit l) = []
-  bodiesExpr (var x) = []
-  bodiesExpr (unary op e) = bodiesExpr e
-  bodiesExpr (binary op l r) = bodiesExpr l ++ bodiesExpr r
-  bodiesExpr (logical op l r) = bodiesExpr l ++ bodiesExpr r
-  bodiesExpr (call f es) = bodiesExpr f ++ bodiesExprs es
-  bodiesExpr (attr o x) = bodiesExpr o
-  bodiesExpr (display k es) = bodiesExprs es
-  bodiesExpr (index o i) = bodiesExpr o ++ bodiesExpr i
-  bodiesExpr (lambda ps b) = exprBody b ∷ bodiesExpr b
+  pub bodies_expr : Expr → List Body
+  bodies_expr (lit l) = []
+  bodies_expr (var x) = []
+  bodies_expr (unary op e) = bodies_expr e
+  bodies_expr (binary op l r) = bodies_expr l ++ bodies_expr r
+  bodies_expr (logical op l r) = bodies_expr l ++ bodies_expr r
+  bodies_expr (call f es) = bodies_expr f ++ bodies_exprs es
+  bodies_expr (attr o x) = bodies_expr o
+  bodies_expr (display k es) = bodies_exprs es
+  bodies_expr (index o i) = bodies_expr o ++ bodies_expr i
+  bodies_expr (lambda ps b) = expr_body b ∷ bodies_expr b
 
-  pub bodiesExprs : Exprs → List Body
-  bodiesExprs []ᵉ = []
-  bodiesExprs (e ∷ᵉ es) = bodiesExpr e ++ bodiesExprs es
+  pub bodies_exprs : Exprs → List Body
+  bodies_exprs []ᵉ = []
+  bodies_exprs (e ∷ᵉ es) = bodies_expr e ++ bodies_exprs es
 
 -- each def, method and lambda in a statement, before those inside it, in source order; a class attribute has none
 unfoldable mutual
-  pub bodiesStmt : Stmt → List Body
-  bodiesStmt break = []
-  bodiesStmt continue = []
-  bodiesStmt pass = []
-  bodiesStmt (expr e) = bodiesExpr e
-  bodiesStmt (return e) = bodiesExpr e
-  bodiesStmt (assign t v) = bodiesExpr t ++ bodiesExpr v
-  bodiesStmt (if bs) = bodiesBranches bs
-  bodiesStmt (while c b) = bodiesExpr c ++ bodiesBlock b
-  bodiesStmt (for x e b) = bodiesExpr e ++ bodiesBlock b
-  bodiesStmt (def x ps b) = blockBody b (Return ∷ []) ∷ bodiesBlock b
-  bodiesStmt (class x ms vs) = bodiesMethods ms
+  pub bodies_stmt : Stmt → List Body
+  bodies_stmt break = []
+  bodies_stmt continue = []
+  bodies_stmt pass = []
+  bodies_stmt (expr e) = bodies_expr e
+  bodies_stmt (return e) = bodies_expr e
+  bodies_stmt (assign t v) = bodies_expr t ++ bodies_expr v
+  bodies_stmt (if bs) = bodies_branches bs
+  bodies_stmt (while c b) = bodies_expr c ++ bodies_block b
+  bodies_stmt (for x e b) = bodies_expr e ++ bodies_block b
+  bodies_stmt (def x ps b) = block_body b (Return ∷ []) ∷ bodies_block b
+  bodies_stmt (class x ms vs) = bodies_methods ms
 
-  pub bodiesBlock : Block → List Body
-  bodiesBlock []ᵇ = []
-  bodiesBlock (s ∷ᵇ b) = bodiesStmt s ++ bodiesBlock b
+  pub bodies_block : Block → List Body
+  bodies_block []ᵇ = []
+  bodies_block (s ∷ᵇ b) = bodies_stmt s ++ bodies_block b
 
-  pub bodiesBranches : Branches → List Body
-  bodiesBranches done = []
-  bodiesBranches (else b) = bodiesBlock b
-  bodiesBranches (when c b r) = bodiesExpr c ++ (bodiesBlock b ++ bodiesBranches r)
+  pub bodies_branches : Branches → List Body
+  bodies_branches done = []
+  bodies_branches (else b) = bodies_block b
+  bodies_branches (when c b r) = bodies_expr c ++ (bodies_block b ++ bodies_branches r)
 
-  pub bodiesMethods : Methods → List Body
-  bodiesMethods []ᵐ = []
-  bodiesMethods (method x ps b ms) = blockBody b (methodEnd x) ∷ (bodiesBlock b ++ bodiesMethods ms)
+  pub bodies_methods : Methods → List Body
+  bodies_methods []ᵐ = []
+  bodies_methods (method x ps b ms) = block_body b (method_end x) ∷ (bodies_block b ++ bodies_methods ms)
 
 -- main, function 0, then the rest
 unfoldable pub bodies : Block → List Body
-bodies b = blockBody b (Return ∷ []) ∷ bodiesBlock b
+bodies b = block_body b (Return ∷ []) ∷ bodies_block b

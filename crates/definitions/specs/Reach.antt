@@ -1,13 +1,13 @@
 -- R-8: which answers bring a run to a place of a function. Questions 1, 17 to 22, 34 and 35.
 use Rattle.std.specs.Prelude.{ℕ, zero, suc, ◌≤◌, ◌≡◌, Bool, true, false, List, [], ◌∷◌, length, get_or, eqb, leb, ltb}
 use Rattle.std.proofs.Math.Option.{Option, none, some}
-use Rattle.definitions.specs.Bytes.{Answer, refused, accepted, whenAccepted}
+use Rattle.definitions.specs.Bytes.{Answer, refused, accepted, when_accepted}
 use Rattle.definitions.specs.Instruction.{Instr, Return}
 use Rattle.definitions.specs.Tables.{Function}
-use Rattle.definitions.specs.Reader.{landing, readModule}
+use Rattle.definitions.specs.Reader.{landing, read_module}
 use Rattle.definitions.specs.Run.{Flow, straight, jump, returns, question, flow, way}
-use Rattle.definitions.specs.Calls.{functionOf, areAnswers, zeros, written}
-use Rattle.definitions.specs.Sheet.{tally, isQuestion}
+use Rattle.definitions.specs.Calls.{function_of, are_answers, zeros, written}
+use Rattle.definitions.specs.Sheet.{tally, is_question}
 
 -- ---- a place is met when the run counts it as a step
 
@@ -21,20 +21,20 @@ passing (question b) i p [] go = []
 passing (question b) i p (x ∷ xs) go = p ∷ go (way b (eqb x 1) p i.a) xs
 
 -- by the clauses of run: the places that a run of code from place p on counts as steps, in their order
-unfoldable pub placesMet : ℕ → List Instr → ℕ → List ℕ → List ℕ
-placesMet zero code p answers = []
-placesMet (suc n) code p answers =
+unfoldable pub places_met : ℕ → List Instr → ℕ → List ℕ → List ℕ
+places_met zero code p answers = []
+places_met (suc n) code p answers =
     let i = get_or code p Return in
-    passing (flow i.op) i p answers (λ q rest. placesMet n code q rest)
+    passing (flow i.op) i p answers (λ q rest. places_met n code q rest)
 
 -- a place is one of these
-unfoldable pub isAmong : List ℕ → ℕ → Bool
-isAmong [] place = false
-isAmong (p ∷ ps) place = elim (eqb p place) [ true ↦ true | false ↦ isAmong ps place ]
+unfoldable pub is_among : List ℕ → ℕ → Bool
+is_among [] place = false
+is_among (p ∷ ps) place = elim (eqb p place) [ true ↦ true | false ↦ is_among ps place ]
 
 -- the run of a function's code on these answers meets the place
 unfoldable pub meets : ℕ → List Instr → List ℕ → ℕ → Bool
-meets budget code answers place = isAmong (placesMet budget code 0 answers) place
+meets budget code answers place = is_among (places_met budget code 0 answers) place
 
 -- some finite list meets the place under some budget
 pub record Reachable (code : List Instr) (place : ℕ) : Type 0 where
@@ -47,8 +47,8 @@ pub record Reachable (code : List Instr) (place : ℕ) : Type 0 where
 -- A list that it may give: each answer is 0 or 1, there are no more of them than conditional jumps in the function, and with them the run meets the place
 -- under every budget of as many steps as the function has instructions, or more
 pub record Brings (code : List Instr) (place : ℕ) (answers : List ℕ) : Type 0 where
-  pub are : areAnswers answers ≡ true
-  pub short : length answers ≤ tally isQuestion code
+  pub are : are_answers answers ≡ true
+  pub short : length answers ≤ tally is_question code
   pub met : (budget : ℕ) → length code ≤ budget → meets budget code answers place ≡ true
 
 -- none, where no finite list meets the place under any budget
@@ -58,23 +58,23 @@ Nowhere code place = Reachable code place → ⊥
 -- ---- the questions
 
 -- 1: the work area, of this length, is at least 131,072 long
-unfoldable pub wideArea : ℕ → Bool
-wideArea n = leb 131072 n
+unfoldable pub wide_area : ℕ → Bool
+wide_area n = leb 131072 n
 
 -- 35: the buffer, of this length, has room for an answer to each conditional jump of the code
-unfoldable pub roomAsked : ℕ → List Instr → Answer (List Instr)
-roomAsked room code = elim (leb (tally isQuestion code) room) [ false ↦ refused 35 | true ↦ accepted code ]
+unfoldable pub room_asked : ℕ → List Instr → Answer (List Instr)
+room_asked room code = elim (leb (tally is_question code) room) [ false ↦ refused 35 | true ↦ accepted code ]
 
 -- 34: the place is in the function
-unfoldable pub placeAsked : ℕ → ℕ → Function → Answer (List Instr)
-placeAsked place room g = elim (ltb place (length g.code)) [ false ↦ refused 34 | true ↦ roomAsked room g.code ]
+unfoldable pub place_asked : ℕ → ℕ → Function → Answer (List Instr)
+place_asked place room g = elim (ltb place (length g.code)) [ false ↦ refused 34 | true ↦ room_asked room g.code ]
 
 -- the code in which the place is sought: questions 1, 17 to 22, 34 and 35, by the lengths of the area and of the buffer
 unfoldable pub sought : ℕ → List ℕ → ℕ → ℕ → ℕ → Answer (List Instr)
 sought n bs f place room =
-    elim (wideArea n) [
+    elim (wide_area n) [
       | false ↦ refused 1
-      | true ↦ whenAccepted (readModule bs) (λ t. whenAccepted (functionOf t f) (placeAsked place room))
+      | true ↦ when_accepted (read_module bs) (λ t. when_accepted (function_of t f) (place_asked place room))
     ]
 
 -- ---- the call
@@ -86,22 +86,22 @@ Finds (accepted code) place (some answers) = Brings code place answers
 Finds (accepted code) place none = Nowhere code place
 
 -- the answer of the call: the count of the answers that are found, or none
-unfoldable pub countFound : Option (List ℕ) → Option ℕ
-countFound none = none
-countFound (some answers) = some (length answers)
+unfoldable pub count_found : Option (List ℕ) → Option ℕ
+count_found none = none
+count_found (some answers) = some (length answers)
 
-unfoldable pub foundAnswer : Answer (List Instr) → Option (List ℕ) → Answer (Option ℕ)
-foundAnswer s found = whenAccepted s (λ code. accepted (countFound found))
+unfoldable pub found_answer : Answer (List Instr) → Option (List ℕ) → Answer (Option ℕ)
+found_answer s found = when_accepted s (λ code. accepted (count_found found))
 
 -- the buffer after the call: the answers at its start; a refusal and none leave it
-unfoldable pub bufferAfter : Answer (List Instr) → Option (List ℕ) → List ℕ → List ℕ
-bufferAfter (refused q) found buffer = buffer
-bufferAfter (accepted code) none buffer = buffer
-bufferAfter (accepted code) (some answers) buffer = written answers buffer
+unfoldable pub buffer_after : Answer (List Instr) → Option (List ℕ) → List ℕ → List ℕ
+buffer_after (refused q) found buffer = buffer
+buffer_after (accepted code) none buffer = buffer
+buffer_after (accepted code) (some answers) buffer = written answers buffer
 
 -- the area after the call: zero but after refusal 1, which leaves it
-unfoldable pub areaLeft : List ℕ → List ℕ
-areaLeft area = elim (wideArea (length area)) [ false ↦ area | true ↦ zeros area ]
+unfoldable pub area_left : List ℕ → List ℕ
+area_left area = elim (wide_area (length area)) [ false ↦ area | true ↦ zeros area ]
 
 -- the call `reach`: its answer, and the area and the buffer after it
 pub record Reaching : Type 0 where
@@ -110,13 +110,13 @@ pub record Reaching : Type 0 where
   pub buffer : List ℕ
 
 -- by what is found
-unfoldable pub reachCall : Option (List ℕ) → List ℕ → ℕ → ℕ → List ℕ → List ℕ → Reaching
-reachCall found bs f place area buffer =
+unfoldable pub reach_call : Option (List ℕ) → List ℕ → ℕ → ℕ → List ℕ → List ℕ → Reaching
+reach_call found bs f place area buffer =
     let s = sought (length area) bs f place (length buffer) in
-    record { answer = foundAnswer s found; area = areaLeft area; buffer = bufferAfter s found buffer }
+    record { answer = found_answer s found; area = area_left area; buffer = buffer_after s found buffer }
 
 -- what the call may give: something is found of which Finds holds, and all else is settled by it
 pub record ReachCall (bs : List ℕ) (f place : ℕ) (area buffer : List ℕ) (given : Reaching) : Type 0 where
   pub found : Option (List ℕ)
   pub finds : Finds (sought (length area) bs f place (length buffer)) place found
-  pub is : given ≡ reachCall found bs f place area buffer
+  pub is : given ≡ reach_call found bs f place area buffer

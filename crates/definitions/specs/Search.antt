@@ -5,29 +5,29 @@ use Rattle.std.proofs.Common.{arith}
 use Rattle.definitions.specs.Instruction.{Instr, Return}
 use Rattle.definitions.specs.Reader.{landing}
 use Rattle.definitions.specs.Run.{Flow, straight, jump, returns, question, flow, way}
-use Rattle.definitions.specs.Sheet.{isQuestion, oneIf, tally}
+use Rattle.definitions.specs.Sheet.{is_question, one_if, tally}
 
 -- ---- from place to place
 
 -- where an instruction goes on, by its flow: from place p with the operand a, on the answer of tag k (0 none, 1 a no, 2 a yes), to q
 pub data Next : Flow → ℕ → ℕ → ℕ → ℕ → Type 0 where
-  straightOn : {p a : ℕ} → Next straight p a 0 (suc p)
-  jumpsTo : {p a : ℕ} → Next jump p a 0 (landing p a)
-  onNo : {b : Bool} {p a : ℕ} → Next (question b) p a 1 (way b false p a)
-  onYes : {b : Bool} {p a : ℕ} → Next (question b) p a 2 (way b true p a)
+  straight_on : {p a : ℕ} → Next straight p a 0 (suc p)
+  jumps_to : {p a : ℕ} → Next jump p a 0 (landing p a)
+  on_no : {b : Bool} {p a : ℕ} → Next (question b) p a 1 (way b false p a)
+  on_yes : {b : Bool} {p a : ℕ} → Next (question b) p a 2 (way b true p a)
 
 -- the instruction at place p does
 abbrev pub Step : List Instr → ℕ → ℕ → ℕ → Type 0
 Step code p k q = Next (flow (get_or code p Return).op) p (get_or code p Return).a k q
 
 -- the answers of a tag
-unfoldable pub answersOf : ℕ → List ℕ
-answersOf zero = []
-answersOf (suc k) = k ∷ []
+unfoldable pub answers_of : ℕ → List ℕ
+answers_of zero = []
+answers_of (suc k) = k ∷ []
 
 -- how many answers the instruction at p takes
 unfoldable pub asks : List Instr → ℕ → ℕ
-asks code p = oneIf (isQuestion (get_or code p Return).op)
+asks code p = one_if (is_question (get_or code p Return).op)
 
 -- ---- the search
 
@@ -52,14 +52,14 @@ pub record Marks : Type 0 where
   pub yes₁ : ℕ
 
 -- the places after p are met
-unfoldable pub expandBy : Flow → Marks → ℕ → ℕ → Table → Table
-expandBy straight m p a s = meet m.on (suc p) s
-expandBy jump m p a s = meet m.on (landing p a) s
-expandBy returns m p a s = s
-expandBy (question b) m p a s = meet m.yes₁ (way b true p a) (meet m.no₀ (way b false p a) s)
+unfoldable pub expand_by : Flow → Marks → ℕ → ℕ → Table → Table
+expand_by straight m p a s = meet m.on (suc p) s
+expand_by jump m p a s = meet m.on (landing p a) s
+expand_by returns m p a s = s
+expand_by (question b) m p a s = meet m.yes₁ (way b true p a) (meet m.no₀ (way b false p a) s)
 
 unfoldable pub expand : List Instr → Marks → ℕ → Table → Table
-expand code m p s = let i = get_or code p Return in expandBy (flow i.op) m p i.a s
+expand code m p s = let i = get_or code p Return in expand_by (flow i.op) m p i.a s
 
 -- ---- what the marks tell
 
@@ -73,14 +73,14 @@ pub record Rule : Type 1 where
 -- the marks lead from q back to place 0: the answers that bring a run to q, and the steps before it
 pub data Chain (R : Rule) (code : List Instr) (marks : List ℕ) : ℕ → List ℕ → ℕ → Type 0 where
   begins : get_or marks 0 0 ≡ R.root → Chain R code marks 0 [] 0
-  goes : {p q k n : ℕ} {ys : List ℕ} → Step code p k q → R.link (get_or marks p 0) p k (get_or marks q 0) → Chain R code marks p ys n → Chain R code marks q (ys ++ answersOf k) (suc n)
+  goes : {p q k n : ℕ} {ys : List ℕ} → Step code p k q → R.link (get_or marks p 0) p k (get_or marks q 0) → Chain R code marks p ys n → Chain R code marks q (ys ++ answers_of k) (suc n)
 
 -- a way to q that takes no more answers than the code has questions, q's own answer included, and fewer steps than the code has instructions
 pub record Way (R : Rule) (code : List Instr) (marks : List ℕ) (q : ℕ) : Type 0 where
   pub answers : List ℕ
   pub steps : ℕ
   pub chain : Chain R code marks q answers steps
-  pub short : length answers + asks code q ≤ tally isQuestion code
+  pub short : length answers + asks code q ≤ tally is_question code
   pub soon : steps < length code
 
 -- a search that is done: place 0 is marked, the places after a marked one are, and each marked one has a way
@@ -106,13 +106,13 @@ pub record Tabled (n : ℕ) (s : Table) : Type 0 where
 
 -- ---- R-8: a mark tells the place before and the tag
 
-unfoldable pub linkMark : ℕ → ℕ → ℕ
-linkMark p k = 1 + (4 * p + k)
+unfoldable pub link_mark : ℕ → ℕ → ℕ
+link_mark p k = 1 + (4 * p + k)
 
-pub linkSome : (p k v : ℕ) → v ≡ linkMark p k → v ≡ 0 → ⊥
-unfolding linkMark
-linkSome p k v h e = omega arith
+pub link_some : (p k v : ℕ) → v ≡ link_mark p k → v ≡ 0 → ⊥
+unfolding link_mark
+link_some p k v h e = omega arith
 
 -- place 0 has the mark 4, which is no link: its tag would be 3
-abbrev pub byLink : Rule
-byLink = record { root = 4; link = λ m p k v. v ≡ linkMark p k; some₀ = λ e. omega arith; some = λ m p k v h e. linkSome p k v h e }
+abbrev pub by_link : Rule
+by_link = record { root = 4; link = λ m p k v. v ≡ link_mark p k; some₀ = λ e. omega arith; some = λ m p k v h e. link_some p k v h e }

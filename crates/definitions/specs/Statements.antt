@@ -5,27 +5,27 @@ use Rattle.std.proofs.Math.Option.{Option, none, some}
 use Rattle.std.proofs.Math.ListN.{get_elem?}
 use Rattle.std.proofs.Math.Pow.{are_bytes}
 use Rattle.definitions.specs.Bytes.{Name, ascii, decimal, member, Answer, refused, accepted, Parsed, got, failed, field, all, concat}
-use Rattle.definitions.specs.Utf8.{Range, in_range, Octets, utf8Char, isUtf8, is_scalar, encodeChar}
-use Rattle.definitions.specs.Tree.{BinaryOp, addOp, subtractOp, multiplyOp, divideOp, floorDivideOp, moduloOp, equalOp, notEqualOp, lessOp, lessEqualOp, greaterOp, greaterEqualOp}
-use Rattle.definitions.specs.Tree.{binaryNumber, UnaryOp, LogicalOp, Display, Expr, lit, var, unary, binary, logical, call, attr, display, index, lambda, Exprs, []ᵉ, ◌∷ᵉ◌}
+use Rattle.definitions.specs.Utf8.{Range, in_range, Octets, utf8_char, is_utf8, is_scalar, encode_char}
+use Rattle.definitions.specs.Tree.{BinaryOp, add_op, subtract_op, multiply_op, divide_op, floor_divide_op, modulo_op, equal_op, not_equal_op, less_op, less_equal_op, greater_op, greater_equal_op}
+use Rattle.definitions.specs.Tree.{binary_number, UnaryOp, LogicalOp, Display, Expr, lit, var, unary, binary, logical, call, attr, display, index, lambda, Exprs, []ᵉ, ◌∷ᵉ◌}
 use Rattle.definitions.specs.Tree.{Stmt, break, continue, pass, expr, return, assign, if, while, for, def, class, Block, []ᵇ, ◌∷ᵇ◌, Branches, done, else, when, Methods, Attribute}
-use Rattle.definitions.specs.Parse.{binaryKinds, block_of, parseStmt}
-use Rattle.definitions.specs.Wellformed.{isName, isTuple, isIterator, distinct, askBlock}
-use Rattle.definitions.specs.TreeNames.{namesBlock}
-use Rattle.definitions.specs.Slots.{add, localsBlock, captures, loopsBlock}
-use Rattle.definitions.specs.Instruction.{Numbers, nothing, aString, aConstant, aSlot, aSymbol, aFunction, aBuiltin, numbersOf}
-use Rattle.definitions.specs.Instruction.{Instr, LoadLocal, StoreLocal, StoreGlobal, Return, Row, row_of, binaryCode, encode, encodes}
-use Rattle.definitions.specs.Tables.{Function, Tables, Body, blockBody, exprBody, Source}
-use Rattle.definitions.specs.Lower.{iterName, noTables, compile, emitBody}
+use Rattle.definitions.specs.Parse.{binary_kinds, block_of, parse_stmt}
+use Rattle.definitions.specs.Wellformed.{is_name, is_tuple, is_iterator, distinct, ask_block}
+use Rattle.definitions.specs.TreeNames.{names_block}
+use Rattle.definitions.specs.Slots.{add, locals_block, captures, loops_block}
+use Rattle.definitions.specs.Instruction.{Numbers, nothing, a_string, a_constant, a_slot, a_symbol, a_function, a_builtin, numbers_of}
+use Rattle.definitions.specs.Instruction.{Instr, LoadLocal, StoreLocal, StoreGlobal, Return, Row, row_of, binary_code, encode, encodes}
+use Rattle.definitions.specs.Tables.{Function, Tables, Body, block_body, expr_body, Source}
+use Rattle.definitions.specs.Lower.{iter_name, no_tables, compile, emit_body}
 use Rattle.definitions.specs.Bodies.{bodies}
-use Rattle.definitions.specs.Module.{Limits, office, console, limitsBy, moduleBytes, codeStart, instructions, slotsFit, tablesFit, lowerBlock, lowerTables, lowerBytes}
-use Rattle.definitions.specs.Reader.{moduleRecord, numbersExist, codeStands, readModule}
-use Rattle.definitions.specs.Listing.{firstText, secondText, nameText, codeLine, pageLine, listing}
-use Rattle.definitions.specs.Sheet.{anyOp, isQuestion, is_call, tally, allCode, countLine, sheet}
+use Rattle.definitions.specs.Module.{Limits, office, console, limits_by, module_bytes, code_start, instructions, slots_fit, tables_fit, lower_block, lower_tables, lower_bytes}
+use Rattle.definitions.specs.Reader.{module_record, numbers_exist, code_stands, read_module}
+use Rattle.definitions.specs.Listing.{first_text, second_text, name_text, code_line, page_line, listing}
+use Rattle.definitions.specs.Sheet.{any_op, is_question, is_call, tally, all_code, count_line, sheet}
 use Rattle.definitions.specs.Run.{Ran, run, Flow, straight, jump, returns, question, flow}
-use Rattle.definitions.specs.Walk.{Walked, endingNumber, walk}
-use Rattle.definitions.specs.Calls.{areasFit, areAnswers, lowerAnswer, readCall, Part, part_of, codeCall, textAnswer, runAnswer, walkTree}
-use Rattle.definitions.specs.Reach.{placesMet, Reachable, Brings, Nowhere, wideArea, sought, Finds}
+use Rattle.definitions.specs.Walk.{Walked, ending_number, walk}
+use Rattle.definitions.specs.Calls.{areas_fit, are_answers, lower_answer, read_call, Part, part_of, code_call, text_answer, run_answer, walk_tree}
+use Rattle.definitions.specs.Reach.{places_met, Reachable, Brings, Nowhere, wide_area, sought, Finds}
 use Rattle.definitions.specs.Search.{Rule, Swept}
 use Rattle.definitions.specs.Samples.{samples, holds}
 
@@ -45,46 +45,46 @@ abbrev pub emitted : BinaryOp → String → Emitted
 emitted o x = record { op = o; name = x }
 
 -- the twelve: `/` is TrueDiv, `//` is Div
-unfoldable pub emittedFor : List Emitted
-emittedFor =
-    emitted addOp "Add"
-    ∷ emitted subtractOp "Sub"
-    ∷ emitted multiplyOp "Mul"
-    ∷ emitted divideOp "TrueDiv"
-    ∷ emitted floorDivideOp "Div"
-    ∷ emitted moduloOp "Mod"
-    ∷ emitted equalOp "Eq"
-    ∷ emitted notEqualOp "Ne"
-    ∷ emitted lessOp "Lt"
-    ∷ emitted lessEqualOp "Le"
-    ∷ emitted greaterOp "Gt"
-    ∷ emitted greaterEqualOp "Ge"
+unfoldable pub emitted_for : List Emitted
+emitted_for =
+    emitted add_op "Add"
+    ∷ emitted subtract_op "Sub"
+    ∷ emitted multiply_op "Mul"
+    ∷ emitted divide_op "TrueDiv"
+    ∷ emitted floor_divide_op "Div"
+    ∷ emitted modulo_op "Mod"
+    ∷ emitted equal_op "Eq"
+    ∷ emitted not_equal_op "Ne"
+    ∷ emitted less_op "Lt"
+    ∷ emitted less_equal_op "Le"
+    ∷ emitted greater_op "Gt"
+    ∷ emitted greater_equal_op "Ge"
     ∷ []
 
 -- the operators in the order of their bytes in a tree; their numbers are these bytes; the sum of each is the place of its instruction in `enum Instruction`
 pub record Operators : Type 0 where
-  pub bytes : take 12 binaryKinds ≡ map (λ (e : Emitted). binary e.op) emittedFor
-  pub numbers : map (λ (e : Emitted). binaryNumber e.op) emittedFor ≡ 0 ∷ 1 ∷ 2 ∷ 3 ∷ 4 ∷ 5 ∷ 6 ∷ 7 ∷ 8 ∷ 9 ∷ 10 ∷ 11 ∷ []
-  pub sums : map (λ (e : Emitted). (row_of (binaryCode e.op)).name) emittedFor ≡ map (λ (e : Emitted). e.name) emittedFor
+  pub bytes : take 12 binary_kinds ≡ map (λ (e : Emitted). binary e.op) emitted_for
+  pub numbers : map (λ (e : Emitted). binary_number e.op) emitted_for ≡ 0 ∷ 1 ∷ 2 ∷ 3 ∷ 4 ∷ 5 ∷ 6 ∷ 7 ∷ 8 ∷ 9 ∷ 10 ∷ 11 ∷ []
+  pub sums : map (λ (e : Emitted). (row_of (binary_code e.op)).name) emitted_for ≡ map (λ (e : Emitted). e.name) emitted_for
 
 -- ---- the shape of refusals: proofs/Refusals
 
 -- what the bytes after a tree's head read as
 unfoldable pub parsed : List ℕ → Parsed Block
-parsed tree = block_of (parseStmt 32) (drop 5 tree)
+parsed tree = block_of (parse_stmt 32) (drop 5 tree)
 
 -- 3: four bytes are there, and they count the rest
-unfoldable pub headCounts : List ℕ → Bool
-headCounts tree = elim (field 4 tree) [ got n rest ↦ eqb n (length rest) | failed q ↦ false ]
+unfoldable pub head_counts : List ℕ → Bool
+head_counts tree = elim (field 4 tree) [ got n rest ↦ eqb n (length rest) | failed q ↦ false ]
 
 -- 5: one block and nothing over, but for what 6 refuses; 6: nothing is too deep
-unfoldable pub readsWhole : Parsed Block → Bool
-readsWhole (got b rest) = eqb (length rest) 0
-readsWhole (failed q) = eqb q 6
+unfoldable pub reads_whole : Parsed Block → Bool
+reads_whole (got b rest) = eqb (length rest) 0
+reads_whole (failed q) = eqb q 6
 
-unfoldable pub notTooDeep : Parsed Block → Bool
-notTooDeep (got b rest) = true
-notTooDeep (failed q) = not (eqb q 6)
+unfoldable pub not_too_deep : Parsed Block → Bool
+not_too_deep (got b rest) = true
+not_too_deep (failed q) = not (eqb q 6)
 
 -- the block that was read; an empty one where none was
 unfoldable pub block_read : Parsed Block → Block
@@ -93,7 +93,7 @@ block_read (failed q) = []ᵇ
 
 -- the module of a tree, whatever the questions say
 unfoldable pub module_of : List ℕ → List ℕ
-module_of tree = moduleBytes (compile (block_read (parsed tree))).tables
+module_of tree = module_bytes (compile (block_read (parsed tree))).tables
 
 -- a question: its number, and whether it is answered yes, those before it being so
 pub record Question : Type 0 where
@@ -104,115 +104,115 @@ abbrev pub asked : ℕ → Bool → Question
 asked n b = record { number = n; yes = b }
 
 -- the questions of the lowering in their order; by the limits, the lengths of the areas and of the output, and the tree
-unfoldable pub lowerQuestions : Limits → ℕ → ℕ → ℕ → List ℕ → List Question
-lowerQuestions l m n room tree =
+unfoldable pub lower_questions : Limits → ℕ → ℕ → ℕ → List ℕ → List Question
+lower_questions l m n room tree =
     let b = block_read (parsed tree) in
     let t = (compile b).tables in
-    asked 1 (areasFit m n)
+    asked 1 (areas_fit m n)
     ∷ asked 2 (leb (length tree) 32768)
-    ∷ asked 3 (headCounts tree)
+    ∷ asked 3 (head_counts tree)
     ∷ asked 4 (leb 5 (length tree) && eqb (get_or tree 4 0) 1)
-    ∷ asked 5 (readsWhole (parsed tree))
-    ∷ asked 6 (notTooDeep (parsed tree))
-    ∷ asked 7 (askBlock 7 false b)
-    ∷ asked 33 (askBlock 33 false b)
-    ∷ asked 8 (askBlock 8 false b)
-    ∷ asked 9 (askBlock 9 false b)
-    ∷ asked 10 (askBlock 10 false b)
-    ∷ asked 11 (askBlock 11 false b)
-    ∷ asked 12 (askBlock 12 false b)
-    ∷ asked 13 (askBlock 13 false b)
-    ∷ asked 14 (slotsFit t)
-    ∷ asked 15 (tablesFit l t)
+    ∷ asked 5 (reads_whole (parsed tree))
+    ∷ asked 6 (not_too_deep (parsed tree))
+    ∷ asked 7 (ask_block 7 false b)
+    ∷ asked 33 (ask_block 33 false b)
+    ∷ asked 8 (ask_block 8 false b)
+    ∷ asked 9 (ask_block 9 false b)
+    ∷ asked 10 (ask_block 10 false b)
+    ∷ asked 11 (ask_block 11 false b)
+    ∷ asked 12 (ask_block 12 false b)
+    ∷ asked 13 (ask_block 13 false b)
+    ∷ asked 14 (slots_fit t)
+    ∷ asked 15 (tables_fit l t)
     ∷ asked 16 (leb (length (module_of tree)) room)
     ∷ []
 
 -- the refusal by the first question that is answered no; where none is, the result
-unfoldable pub firstRefusal : {A : Type 0} → List Question → A → Answer A
-firstRefusal [] a = accepted a
-firstRefusal (q ∷ qs) a = elim q.yes [ true ↦ firstRefusal qs a | false ↦ refused q.number ]
+unfoldable pub first_refusal : {A : Type 0} → List Question → A → Answer A
+first_refusal [] a = accepted a
+first_refusal (q ∷ qs) a = elim q.yes [ true ↦ first_refusal qs a | false ↦ refused q.number ]
 
 -- the lowering refuses by the first question answered no; where none is, it accepts with the module of the tree
 abbrev pub Refusals : Type 0
 Refusals =
-    (l : Limits) (m n room : ℕ) (tree : List ℕ) → lowerAnswer l m n room tree ≡ firstRefusal (lowerQuestions l m n room tree) (module_of tree)
+    (l : Limits) (m n room : ℕ) (tree : List ℕ) → lower_answer l m n room tree ≡ first_refusal (lower_questions l m n room tree) (module_of tree)
 
--- ---- the same of the reader, of the hand-back of code, of the run, of texts about a module and of R-8's tool: proofs/ModuleRefusals
+-- ---- the same of the reader, of the hand-back of code, of the run, of texts about a module and of R-8's tool: proofs/Module_refusals
 
 -- what the bytes after a module's head read as
-unfoldable pub recordRead : List ℕ → Parsed Tables
-recordRead m = moduleRecord (drop 5 m)
+unfoldable pub record_read : List ℕ → Parsed Tables
+record_read m = module_record (drop 5 m)
 
 -- 19: the rest follows the layout, with nothing over
-unfoldable pub laidOut : Parsed Tables → Bool
-laidOut (got t rest) = eqb (length rest) 0
-laidOut (failed q) = false
+unfoldable pub laid_out : Parsed Tables → Bool
+laid_out (got t rest) = eqb (length rest) 0
+laid_out (failed q) = false
 
 -- the tables that were read; empty ones where none were
-unfoldable pub tablesRead : Parsed Tables → Tables
-tablesRead (got t rest) = t
-tablesRead (failed q) = noTables
+unfoldable pub tables_read : Parsed Tables → Tables
+tables_read (got t rest) = t
+tables_read (failed q) = no_tables
 
 -- the tables of a module, whatever the questions say; the code of a function of tables, none where there is no such function
-unfoldable pub tablesIn : List ℕ → Tables
-tablesIn m = tablesRead (recordRead m)
+unfoldable pub tables_in : List ℕ → Tables
+tables_in m = tables_read (record_read m)
 
 unfoldable pub code_in : Tables → ℕ → List Instr
 code_in t f = elim (get_elem? t.functions f) [ some g ↦ g.code | none ↦ [] ]
 
 -- the questions of the reader
-unfoldable pub readQuestions : List ℕ → List Question
-readQuestions m =
-    asked 17 (leb (length m) 524288 && headCounts m)
+unfoldable pub read_questions : List ℕ → List Question
+read_questions m =
+    asked 17 (leb (length m) 524288 && head_counts m)
     ∷ asked 18 (leb 5 (length m) && eqb (get_or m 4 0) 1)
-    ∷ asked 19 (laidOut (recordRead m))
-    ∷ asked 20 (numbersExist (tablesIn m))
-    ∷ asked 21 (all codeStands (tablesIn m).functions)
+    ∷ asked 19 (laid_out (record_read m))
+    ∷ asked 20 (numbers_exist (tables_in m))
+    ∷ asked 21 (all code_stands (tables_in m).functions)
     ∷ []
 
 -- those of the call that hands back the code of function f
-unfoldable pub codeQuestions : List ℕ → ℕ → List Question
-codeQuestions m f = readQuestions m ++ asked 22 (ltb f (length (tablesIn m).functions)) ∷ []
+unfoldable pub code_questions : List ℕ → ℕ → List Question
+code_questions m f = read_questions m ++ asked 22 (ltb f (length (tables_in m).functions)) ∷ []
 
 -- what function f does on answers with a budget
-unfoldable pub runIn : List ℕ → ℕ → List ℕ → ℕ → Ran
-runIn m f answers budget = run budget (code_in (tablesIn m) f) 0 answers
+unfoldable pub run_in : List ℕ → ℕ → List ℕ → ℕ → Ran
+run_in m f answers budget = run budget (code_in (tables_in m) f) 0 answers
 
 -- those of the run, by the length of the event buffer
-unfoldable pub runQuestions : List ℕ → ℕ → List ℕ → ℕ → ℕ → List Question
-runQuestions m f answers budget room =
-    codeQuestions m f ++ asked 23 (areAnswers answers) ∷ asked 24 (leb (length (runIn m f answers budget).events) room) ∷ []
+unfoldable pub run_questions : List ℕ → ℕ → List ℕ → ℕ → ℕ → List Question
+run_questions m f answers budget room =
+    code_questions m f ++ asked 23 (are_answers answers) ∷ asked 24 (leb (length (run_in m f answers budget).events) room) ∷ []
 
 -- the reader refuses by the first question answered no; where none is, it accepts the tables of the module
 abbrev pub ReadRefusals : Type 0
-ReadRefusals = (m : List ℕ) → (readModule m ≡ firstRefusal (readQuestions m) (tablesIn m)) × (readCall m ≡ firstRefusal (readQuestions m) tt)
+ReadRefusals = (m : List ℕ) → (read_module m ≡ first_refusal (read_questions m) (tables_in m)) × (read_call m ≡ first_refusal (read_questions m) tt)
 
 abbrev pub CodeRefusals : Type 0
 CodeRefusals =
     (m : List ℕ) (f : ℕ)
-    → codeCall m f ≡ firstRefusal (codeQuestions m f) (record { start = codeStart (tablesIn m) f; size = length (encodes (code_in (tablesIn m) f)) })
+    → code_call m f ≡ first_refusal (code_questions m f) (record { start = code_start (tables_in m) f; size = length (encodes (code_in (tables_in m) f)) })
 
 abbrev pub RunRefusals : Type 0
 RunRefusals =
     (m : List ℕ) (f : ℕ) (answers : List ℕ) (budget room : ℕ)
-    → runAnswer m f answers budget room ≡ firstRefusal (runQuestions m f answers budget room) (runIn m f answers budget)
+    → run_answer m f answers budget room ≡ first_refusal (run_questions m f answers budget room) (run_in m f answers budget)
 
 -- those of a call that writes a text about a module, by the length of the output: 31 of the listing, 32 of the sheet
-unfoldable pub textQuestions : ℕ → (Tables → List ℕ) → List ℕ → ℕ → List Question
-textQuestions q f m room = readQuestions m ++ asked q (leb (length (f (tablesIn m))) room) ∷ []
+unfoldable pub text_questions : ℕ → (Tables → List ℕ) → List ℕ → ℕ → List Question
+text_questions q f m room = read_questions m ++ asked q (leb (length (f (tables_in m))) room) ∷ []
 
 abbrev pub TextRefusals : Type 0
-TextRefusals = (q : ℕ) (f : Tables → List ℕ) (m : List ℕ) (room : ℕ) → textAnswer q f m room ≡ firstRefusal (textQuestions q f m room) (f (tablesIn m))
+TextRefusals = (q : ℕ) (f : Tables → List ℕ) (m : List ℕ) (room : ℕ) → text_answer q f m room ≡ first_refusal (text_questions q f m room) (f (tables_in m))
 
 -- those of the tool that seeks a place, by the lengths of the area and of the buffer
-unfoldable pub reachQuestions : ℕ → List ℕ → ℕ → ℕ → ℕ → List Question
-reachQuestions n m f place room =
-    let code = code_in (tablesIn m) f in
-    asked 1 (wideArea n) ∷ (codeQuestions m f ++ asked 34 (ltb place (length code)) ∷ asked 35 (leb (tally isQuestion code) room) ∷ [])
+unfoldable pub reach_questions : ℕ → List ℕ → ℕ → ℕ → ℕ → List Question
+reach_questions n m f place room =
+    let code = code_in (tables_in m) f in
+    asked 1 (wide_area n) ∷ (code_questions m f ++ asked 34 (ltb place (length code)) ∷ asked 35 (leb (tally is_question code) room) ∷ [])
 
 abbrev pub ReachRefusals : Type 0
 ReachRefusals =
-    (n : ℕ) (m : List ℕ) (f place room : ℕ) → sought n m f place room ≡ firstRefusal (reachQuestions n m f place room) (code_in (tablesIn m) f)
+    (n : ℕ) (m : List ℕ) (f place room : ℕ) → sought n m f place room ≡ first_refusal (reach_questions n m f place room) (code_in (tables_in m) f)
 
 -- ---- two sets of limits: proofs/Narrower
 
@@ -226,43 +226,43 @@ pub record Under (l w : Limits) : Type 0 where
 
 -- whichever set a number names
 abbrev pub SetsUnder : Type 0
-SetsUnder = (n : ℕ) → Under (limitsBy n) office
+SetsUnder = (n : ℕ) → Under (limits_by n) office
 
 -- what narrower limits answer beside wider ones: the same; or 15, where these accept or say 16
 pub data Narrowed {A : Type 0} (narrow wide : Answer A) : Type 0 where
   alike : narrow ≡ wide → Narrowed narrow wide
   over : (a : A) → narrow ≡ refused 15 → wide ≡ accepted a → Narrowed narrow wide
-  overFirst : narrow ≡ refused 15 → wide ≡ refused 16 → Narrowed narrow wide
+  over_first : narrow ≡ refused 15 → wide ≡ refused 16 → Narrowed narrow wide
 
 -- with the same areas and output length
 abbrev pub Narrower : Type 0
-Narrower = (l w : Limits) → Under l w → (m n room : ℕ) (tree : List ℕ) → Narrowed (lowerAnswer l m n room tree) (lowerAnswer w m n room tree)
+Narrower = (l w : Limits) → Under l w → (m n room : ℕ) (tree : List ℕ) → Narrowed (lower_answer l m n room tree) (lower_answer w m n room tree)
 
 -- so a script that the console takes gives the office the very same bytes
 abbrev pub ConsoleTakes : Type 0
-ConsoleTakes = (m n room : ℕ) (tree bytes : List ℕ) → lowerAnswer console m n room tree ≡ accepted bytes → lowerAnswer office m n room tree ≡ accepted bytes
+ConsoleTakes = (m n room : ℕ) (tree bytes : List ℕ) → lower_answer console m n room tree ≡ accepted bytes → lower_answer office m n room tree ≡ accepted bytes
 
 -- and nothing that the office refuses passes at the console: the number is the office's, but that the console may say 15 already where the office says 16
 abbrev pub OfficeRefuses : Type 0
 OfficeRefuses =
-    (m n room : ℕ) (tree : List ℕ) (q : ℕ) → lowerAnswer office m n room tree ≡ refused q
-    → (lowerAnswer console m n room tree ≡ refused q) ⊎ ((q ≡ 16) × (lowerAnswer console m n room tree ≡ refused 15))
+    (m n room : ℕ) (tree : List ℕ) (q : ℕ) → lower_answer office m n room tree ≡ refused q
+    → (lower_answer console m n room tree ≡ refused q) ⊎ ((q ≡ 16) × (lower_answer console m n room tree ≡ refused 15))
 
--- ---- 7 and 33 are asked of the names of a tree, of each and of nothing else: proofs/TreeNames
+-- ---- 7 and 33 are asked of the names of a tree, of each and of nothing else: proofs/Tree_names
 
 pub record NamesAsked (b : Block) : Type 0 where
-  pub formed : askBlock 7 false b ≡ all isName (namesBlock b)
-  pub apart : askBlock 33 false b ≡ all (λ x. not (isIterator x)) (namesBlock b)
+  pub formed : ask_block 7 false b ≡ all is_name (names_block b)
+  pub apart : ask_block 33 false b ≡ all (λ x. not (is_iterator x)) (names_block b)
 
 abbrev pub TreeNames : Type 0
 TreeNames = (b : Block) → NamesAsked b
 
--- ---- a loop's iterator is the loop's own: proofs/Iterators, proofs/LoopGlobals
+-- ---- a loop's iterator is the loop's own: proofs/Iterators, proofs/Loop_globals
 
 -- the lowering's name for an iterator has the form that 33 asks for, and the place in it can be told from it
 pub record IteratorNamed (n : ℕ) : Type 0 where
-  pub form : isIterator (iterName n) ≡ true
-  pub place : (m : ℕ) → iterName m ≡ iterName n → m ≡ n
+  pub form : is_iterator (iter_name n) ≡ true
+  pub place : (m : ℕ) → iter_name m ≡ iter_name n → m ≡ n
 
 abbrev pub Iterators : Type 0
 Iterators = (n : ℕ) → IteratorNamed n
@@ -270,37 +270,37 @@ Iterators = (n : ℕ) → IteratorNamed n
 -- In an accepted tree no name is an iterator's. And an iterator's global is main's: it is stored at the place that its name tells and nowhere else, by
 -- the code of main's loop that begins there; and each symbol of that form is one of these
 pub record LoopsApart (b : Block) (t : Tables) : Type 0 where
-  pub names : (n : ℕ) → member (iterName n) (namesBlock b) ≡ false
+  pub names : (n : ℕ) → member (iter_name n) (names_block b) ≡ false
   pub stores :
       (k : ℕ) (f : Function) → get_elem? t.functions k ≡ some f
-      → (p a n : ℕ) → get_elem? f.code p ≡ some (StoreGlobal a) → get_elem? t.symbols a ≡ some (iterName n) → (k ≡ 0) × (p ≡ n)
+      → (p a n : ℕ) → get_elem? f.code p ≡ some (StoreGlobal a) → get_elem? t.symbols a ≡ some (iter_name n) → (k ≡ 0) × (p ≡ n)
   pub symbols :
       (f : Function) → get_elem? t.functions 0 ≡ some f
-      → (a : ℕ) (x : Name) → get_elem? t.symbols a ≡ some x → isIterator x ≡ true → (p : ℕ) × (get_elem? f.code p ≡ some (StoreGlobal a)) × (x ≡ iterName p)
+      → (a : ℕ) (x : Name) → get_elem? t.symbols a ≡ some x → is_iterator x ≡ true → (p : ℕ) × (get_elem? f.code p ≡ some (StoreGlobal a)) × (x ≡ iter_name p)
 
 abbrev pub LoopGlobals : Type 0
-LoopGlobals = (l : Limits) → Under l office → (b : Block) (t : Tables) → lowerBlock l b ≡ accepted t → LoopsApart b t
+LoopGlobals = (l : Limits) → Under l office → (b : Block) (t : Tables) → lower_block l b ≡ accepted t → LoopsApart b t
 
--- ---- the test of strings is the grammar of RFC 3629: proofs/Utf8Grammar
+-- ---- the test of strings is the grammar of RFC 3629: proofs/Utf8_grammar
 
 -- as many bytes as ranges, each in its own
 pub data Matches : List Range → List ℕ → Type 0 where
-  noByte : Matches [] []
+  no_byte : Matches [] []
   byte : {r : Range} {rs : List Range} {b : ℕ} {bs : List ℕ} → in_range r b ≡ true → Matches rs bs → Matches (r ∷ rs) (b ∷ bs)
 
 -- UTF8-octets: characters one after the other, each by a line of UTF8-char
 pub data Utf8Octets : List ℕ → Type 0 where
-  noChar : Utf8Octets []
-  char : {c : Octets} {bs rest : List ℕ} (line : ℕ) → get_elem? utf8Char line ≡ some c → Matches (c.first ∷ c.others) bs → Utf8Octets rest → Utf8Octets (bs ++ rest)
+  no_char : Utf8Octets []
+  char : {c : Octets} {bs rest : List ℕ} (line : ℕ) → get_elem? utf8_char line ≡ some c → Matches (c.first ∷ c.others) bs → Utf8Octets rest → Utf8Octets (bs ++ rest)
 
 abbrev pub Utf8Grammar : Type 0
-Utf8Grammar = (s : List ℕ) → (isUtf8 s ≡ true → Utf8Octets s) × (Utf8Octets s → isUtf8 s ≡ true)
+Utf8Grammar = (s : List ℕ) → (is_utf8 s ≡ true → Utf8Octets s) × (Utf8Octets s → is_utf8 s ≡ true)
 
--- ---- and what passes it are the encodings of the scalar values, one after the other: proofs/Utf8Scalars
+-- ---- and what passes it are the encodings of the scalar values, one after the other: proofs/Utf8_scalars
 
 pub record Utf8Scalars : Type 0 where
-  pub decodes : (s : List ℕ) → isUtf8 s ≡ true → (cs : List ℕ) × (all is_scalar cs ≡ true) × (s ≡ concat encodeChar cs)
-  pub encodes : (cs : List ℕ) → all is_scalar cs ≡ true → isUtf8 (concat encodeChar cs) ≡ true
+  pub decodes : (s : List ℕ) → is_utf8 s ≡ true → (cs : List ℕ) × (all is_scalar cs ≡ true) × (s ≡ concat encode_char cs)
+  pub encodes : (cs : List ℕ) → all is_scalar cs ≡ true → is_utf8 (concat encode_char cs) ≡ true
 
 -- ---- which names have a slot in a def or method: proofs/Named
 
@@ -314,84 +314,84 @@ unfoldable mutual
   assigned (logical op l r) = []
   assigned (call f es) = []
   assigned (attr o x) = []
-  assigned (display k es) = elim (isTuple k) [ true ↦ assignedAll es | false ↦ [] ]
+  assigned (display k es) = elim (is_tuple k) [ true ↦ assigned_all es | false ↦ [] ]
   assigned (index o i) = []
   assigned (lambda ps b) = []
 
-  pub assignedAll : Exprs → List Name
-  assignedAll []ᵉ = []
-  assignedAll (e ∷ᵉ es) = assigned e ++ assignedAll es
+  pub assigned_all : Exprs → List Name
+  assigned_all []ᵉ = []
+  assigned_all (e ∷ᵉ es) = assigned e ++ assigned_all es
 
 -- the names that a part binds, as they stand: variables assigned, loop variables, names of defs and classes; nothing inside a nested def or class
 unfoldable mutual
-  pub boundStmt : Stmt → List Name
-  boundStmt break = []
-  boundStmt continue = []
-  boundStmt pass = []
-  boundStmt (expr e) = []
-  boundStmt (return e) = []
-  boundStmt (assign t v) = assigned t
-  boundStmt (if bs) = boundBranches bs
-  boundStmt (while c b) = boundBlock b
-  boundStmt (for x e b) = x ∷ boundBlock b
-  boundStmt (def x ps b) = x ∷ []
-  boundStmt (class x ms vs) = x ∷ []
+  pub bound_stmt : Stmt → List Name
+  bound_stmt break = []
+  bound_stmt continue = []
+  bound_stmt pass = []
+  bound_stmt (expr e) = []
+  bound_stmt (return e) = []
+  bound_stmt (assign t v) = assigned t
+  bound_stmt (if bs) = bound_branches bs
+  bound_stmt (while c b) = bound_block b
+  bound_stmt (for x e b) = x ∷ bound_block b
+  bound_stmt (def x ps b) = x ∷ []
+  bound_stmt (class x ms vs) = x ∷ []
 
-  pub boundBlock : Block → List Name
-  boundBlock []ᵇ = []
-  boundBlock (s ∷ᵇ b) = boundStmt s ++ boundBlock b
+  pub bound_block : Block → List Name
+  bound_block []ᵇ = []
+  bound_block (s ∷ᵇ b) = bound_stmt s ++ bound_block b
 
-  pub boundBranches : Branches → List Name
-  boundBranches done = []
-  boundBranches (else b) = boundBlock b
-  boundBranches (when c b r) = boundBlock b ++ boundBranches r
+  pub bound_branches : Branches → List Name
+  bound_branches done = []
+  bound_branches (else b) = bound_block b
+  bound_branches (when c b r) = bound_block b ++ bound_branches r
 
 -- names one after the other, each unless it is there
-unfoldable pub addAll : List Name → List Name → List Name
-addAll [] xs = xs
-addAll (y ∷ ys) xs = addAll ys (add y xs)
+unfoldable pub add_all : List Name → List Name → List Name
+add_all [] xs = xs
+add_all (y ∷ ys) xs = add_all ys (add y xs)
 
 -- the slots are the parameters, then the names bound in the body, by first appearance
 abbrev pub FirstAppearance : Type 0
-FirstAppearance = (ps : List Name) (b : Block) → localsBlock b ps ≡ addAll (boundBlock b) ps
+FirstAppearance = (ps : List Name) (b : Block) → locals_block b ps ≡ add_all (bound_block b) ps
 
 -- so just these names have a slot, each one where the parameters are distinct
 abbrev pub Named : Type 0
-Named = (ps : List Name) (b : Block) (x : Name) → member x (localsBlock b ps) ≡ (member x ps || member x (boundBlock b))
+Named = (ps : List Name) (b : Block) (x : Name) → member x (locals_block b ps) ≡ (member x ps || member x (bound_block b))
 
 abbrev pub NamedOnce : Type 0
-NamedOnce = (ps : List Name) (b : Block) → distinct ps ≡ true → distinct (localsBlock b ps) ≡ true
+NamedOnce = (ps : List Name) (b : Block) → distinct ps ≡ true → distinct (locals_block b ps) ≡ true
 
--- ---- what a def or method stores in globals: proofs/GlobalStores
+-- ---- what a def or method stores in globals: proofs/Global_stores
 
 -- a statement is one of a part's own: in its loops and branches too, not in a nested def or class
 mutual
   pub data OwnStmt (c : Stmt) : Stmt → Type 0 where
     itself : OwnStmt c c
-    ofIf : {r : Branches} → OwnBranches c r → OwnStmt c (if r)
-    ofWhile : {e : Expr} {b : Block} → OwnBlock c b → OwnStmt c (while e b)
-    ofFor : {x : Name} {e : Expr} {b : Block} → OwnBlock c b → OwnStmt c (for x e b)
+    of_if : {r : Branches} → OwnBranches c r → OwnStmt c (if r)
+    of_while : {e : Expr} {b : Block} → OwnBlock c b → OwnStmt c (while e b)
+    of_for : {x : Name} {e : Expr} {b : Block} → OwnBlock c b → OwnStmt c (for x e b)
 
   pub data OwnBlock (c : Stmt) : Block → Type 0 where
-    atFirst : {s : Stmt} {b : Block} → OwnStmt c s → OwnBlock c (s ∷ᵇ b)
-    atLater : {s : Stmt} {b : Block} → OwnBlock c b → OwnBlock c (s ∷ᵇ b)
+    at_first : {s : Stmt} {b : Block} → OwnStmt c s → OwnBlock c (s ∷ᵇ b)
+    at_later : {s : Stmt} {b : Block} → OwnBlock c b → OwnBlock c (s ∷ᵇ b)
 
   pub data OwnBranches (c : Stmt) : Branches → Type 0 where
-    ofElse : {b : Block} → OwnBlock c b → OwnBranches c (else b)
-    ofThen : {e : Expr} {b : Block} {r : Branches} → OwnBlock c b → OwnBranches c (when e b r)
-    ofRest : {e : Expr} {b : Block} {r : Branches} → OwnBranches c r → OwnBranches c (when e b r)
+    of_else : {b : Block} → OwnBlock c b → OwnBranches c (else b)
+    of_then : {e : Expr} {b : Block} {r : Branches} → OwnBlock c b → OwnBranches c (when e b r)
+    of_rest : {e : Expr} {b : Block} {r : Branches} → OwnBranches c r → OwnBranches c (when e b r)
 
 -- the name of one of its own classes
 pub data Global (b : Block) (x : Name) : Type 0 where
-  ofClass : {ms : Methods} {vs : List Attribute} → OwnBlock (class x ms vs) b → Global b x
+  of_class : {ms : Methods} {vs : List Attribute} → OwnBlock (class x ms vs) b → Global b x
 
 -- In the code of a def or method StoreGlobal stores no other name. So no name of a target is stored by it, in tuples or not, but where a class of the
 -- function has that name; and no loop's iterator is
 abbrev pub GlobalStores : Type 0
 GlobalStores =
-    (l : Limits) → Under l office → (b : Block) (t : Tables) → lowerBlock l b ≡ accepted t
+    (l : Limits) → Under l office → (b : Block) (t : Tables) → lower_block l b ≡ accepted t
     → (k : ℕ) (f : Function) → get_elem? t.functions (suc k) ≡ some f
-    → (d : Block) (end : List Instr) → get_elem? (bodies b) (suc k) ≡ some (blockBody d end)
+    → (d : Block) (end : List Instr) → get_elem? (bodies b) (suc k) ≡ some (block_body d end)
     → (i j : ℕ) → get_elem? f.code i ≡ some (StoreGlobal j)
     → (x : Name) → get_elem? t.symbols j ≡ some x → Global d x
 
@@ -406,12 +406,12 @@ pub data Among (e : Expr) : Exprs → Type 0 where
 pub data PartOf (e : Expr) : Expr → Type 0 where
   operand : {op : UnaryOp} → PartOf e (unary op e)
   left_of : {op : BinaryOp} {r : Expr} → PartOf e (binary op e r)
-  rightOf : {op : BinaryOp} {l : Expr} → PartOf e (binary op l e)
-  leftLogical : {op : LogicalOp} {r : Expr} → PartOf e (logical op e r)
-  rightLogical : {op : LogicalOp} {l : Expr} → PartOf e (logical op l e)
+  right_of : {op : BinaryOp} {l : Expr} → PartOf e (binary op l e)
+  left_logical : {op : LogicalOp} {r : Expr} → PartOf e (logical op e r)
+  right_logical : {op : LogicalOp} {l : Expr} → PartOf e (logical op l e)
   callee : {es : Exprs} → PartOf e (call e es)
   argument : {f : Expr} {es : Exprs} → Among e es → PartOf e (call f es)
-  objectOf : {y : Name} → PartOf e (attr e y)
+  object_of : {y : Name} → PartOf e (attr e y)
   element : {k : Display} {es : Exprs} → Among e es → PartOf e (display k es)
   indexed : {i : Expr} → PartOf e (index e i)
   index_of : {o : Expr} → PartOf e (index o e)
@@ -419,8 +419,8 @@ pub data PartOf (e : Expr) : Expr → Type 0 where
 -- an occurrence of the variable x; around are the parameters of each lambda that it stands under, the outermost first
 pub data Occurs (x : Name) : List (List Name) → Expr → Type 0 where
   here : Occurs x [] (var x)
-  inPart : {around : List (List Name)} {e d : Expr} → PartOf e d → Occurs x around e → Occurs x around d
-  inLambda : {around : List (List Name)} {ps : List Name} {b : Expr} → Occurs x around b → Occurs x (ps ∷ around) (lambda ps b)
+  in_part : {around : List (List Name)} {e d : Expr} → PartOf e d → Occurs x around e → Occurs x around d
+  in_lambda : {around : List (List Name)} {ps : List Name} {b : Expr} → Occurs x around b → Occurs x (ps ∷ around) (lambda ps b)
 
 -- x occurs in the body b where no lambda inside b binds it, is none of the lambda's own parameters, and has a slot in the parent
 pub record Captures (slots ps : List Name) (b : Expr) (x : Name) : Type 0 where
@@ -441,100 +441,100 @@ Captured =
 -- the module reads back as the very tables that were lowered, and is within the reader's limit
 pub record ReadsBack (l : Limits) (tree m : List ℕ) : Type 0 where
   pub tables : Tables
-  pub lowers : lowerTables l tree ≡ accepted tables
-  pub bytes : m ≡ moduleBytes tables
-  pub reads : readModule m ≡ accepted tables
+  pub lowers : lower_tables l tree ≡ accepted tables
+  pub bytes : m ≡ module_bytes tables
+  pub reads : read_module m ≡ accepted tables
   pub short : length m ≤ 524288
 
 abbrev pub LoweredReads : Type 0
-LoweredReads = (l : Limits) → Under l office → (tree m : List ℕ) → are_bytes tree ≡ true → lowerBytes l tree ≡ accepted m → ReadsBack l tree m
+LoweredReads = (l : Limits) → Under l office → (tree m : List ℕ) → are_bytes tree ≡ true → lower_bytes l tree ≡ accepted m → ReadsBack l tree m
 
--- ---- the k-th source of a tree is that of function k, and its body is the tree's: proofs/SourceBodies, proofs/Demand3
+-- ---- the k-th source of a tree is that of function k, and its body is the tree's: proofs/Source_bodies, proofs/Demand3
 
 unfoldable pub body_of : Source → Body
 body_of s = s.body
 
 -- the bodies that the lowering lowered are those of the tree, in their order
 abbrev pub SourceBodies : Type 0
-SourceBodies = (b : Block) → askBlock 10 false b ≡ true → map body_of (compile b).sources ≡ bodies b
+SourceBodies = (b : Block) → ask_block 10 false b ≡ true → map body_of (compile b).sources ≡ bodies b
 
 -- a function's slots and code are those of its source
 pub record ComesFrom (f : Function) (s : Source) : Type 0 where
   pub locals : f.locals ≡ s.frame.locals
-  pub code : f.code ≡ (emitBody s.frame s.body 0 s.start).code
+  pub code : f.code ≡ (emit_body s.frame s.body 0 s.start).code
 
 abbrev pub Sources : Type 0
 Sources =
-    (l : Limits) → Under l office → (b : Block) (t : Tables) → lowerBlock l b ≡ accepted t
+    (l : Limits) → Under l office → (b : Block) (t : Tables) → lower_block l b ≡ accepted t
     → (k : ℕ) (f : Function) → get_elem? t.functions k ≡ some f
     → (s : Source) × (get_elem? (compile b).sources k ≡ some s) × (get_elem? (bodies b) k ≡ some s.body) × ComesFrom f s
 
--- ---- each loop of a def or method has a slot of its own: proofs/LoopSlots
+-- ---- each loop of a def or method has a slot of its own: proofs/Loop_slots
 
-unfoldable pub isSlot : Numbers → Bool
-isSlot nothing = false
-isSlot aString = false
-isSlot aConstant = false
-isSlot aSlot = true
-isSlot aSymbol = false
-isSlot aFunction = false
-isSlot aBuiltin = false
+unfoldable pub is_slot : Numbers → Bool
+is_slot nothing = false
+is_slot a_string = false
+is_slot a_constant = false
+is_slot a_slot = true
+is_slot a_symbol = false
+is_slot a_function = false
+is_slot a_builtin = false
 
 -- the instruction names a slot from n on
-unfoldable pub isBeyond : ℕ → Instr → Bool
-isBeyond n i = isSlot (numbersOf i.op) && leb n i.a
+unfoldable pub is_beyond : ℕ → Instr → Bool
+is_beyond n i = is_slot (numbers_of i.op) && leb n i.a
 
 -- the instructions that do, in their order
 unfoldable pub beyond : ℕ → List Instr → List Instr
 beyond n [] = []
-beyond n (i ∷ is) = elim (isBeyond n i) [ true ↦ i ∷ beyond n is | false ↦ beyond n is ]
+beyond n (i ∷ is) = elim (is_beyond n i) [ true ↦ i ∷ beyond n is | false ↦ beyond n is ]
 
 -- what so many loops do with the slots from n on, in the order they stand: each has one slot, stores to it once, and loads it in two places
-unfoldable pub iteratorCode : ℕ → ℕ → List Instr
-iteratorCode n zero = []
-iteratorCode n (suc m) = StoreLocal n ∷ LoadLocal n ∷ LoadLocal n ∷ iteratorCode (suc n) m
+unfoldable pub iterator_code : ℕ → ℕ → List Instr
+iterator_code n zero = []
+iterator_code n (suc m) = StoreLocal n ∷ LoadLocal n ∷ LoadLocal n ∷ iterator_code (suc n) m
 
 -- the loops of function k that keep their iterators in slots: those of its body, but none of main's, function 0
-unfoldable pub loopsBody : Body → ℕ
-loopsBody (blockBody b end) = loopsBlock b
-loopsBody (exprBody e) = 0
+unfoldable pub loops_body : Body → ℕ
+loops_body (block_body b end) = loops_block b
+loops_body (expr_body e) = 0
 
 unfoldable pub loops_of : ℕ → Body → ℕ
 loops_of zero body = 0
-loops_of (suc k) body = loopsBody body
+loops_of (suc k) body = loops_body body
 
 -- a function's slots are those of its names, then one for each loop; and what names a slot beyond those of the names is the loops' code, no other
 pub record OwnSlots (f : Function) (names loops : ℕ) : Type 0 where
   pub locals : f.locals ≡ names + loops
-  pub code : beyond names f.code ≡ iteratorCode names loops
+  pub code : beyond names f.code ≡ iterator_code names loops
 
 abbrev pub LoopSlots : Type 0
 LoopSlots =
-    (l : Limits) → Under l office → (b : Block) (t : Tables) → lowerBlock l b ≡ accepted t
+    (l : Limits) → Under l office → (b : Block) (t : Tables) → lower_block l b ≡ accepted t
     → (k : ℕ) (f : Function) → get_elem? t.functions k ≡ some f
     → (s : Source) × (get_elem? (compile b).sources k ≡ some s) × (get_elem? (bodies b) k ≡ some s.body) × OwnSlots f (length s.frame.names) (loops_of k s.body)
 
--- ---- demand 3: proofs/Demand3, proofs/Demand3Bytes
+-- ---- demand 3: proofs/Demand3, proofs/Demand3_bytes
 
 -- A run ends as a walk does: by a return (1) or for want of an answer (2), after as many answers, with the same events
 pub record Agrees (r : Ran) (w : Walked) (answers : List ℕ) : Type 0 where
   pub ends : (1 ≤ r.ending) × (r.ending ≤ 2)
-  pub ending : r.ending ≡ endingNumber w.ending
+  pub ending : r.ending ≡ ending_number w.ending
   pub used : r.used + length w.left ≡ length answers
   pub events : r.events ≡ w.events
 
 -- on code: every function of every accepted block, every list of answers, every budget of (answers + 1) × instructions or more
 abbrev pub Demand3 : Type 0
 Demand3 =
-    (l : Limits) → Under l office → (b : Block) (t : Tables) → lowerBlock l b ≡ accepted t
+    (l : Limits) → Under l office → (b : Block) (t : Tables) → lower_block l b ≡ accepted t
     → (k : ℕ) (f : Function) → get_elem? t.functions k ≡ some f
     → (answers : List ℕ) (budget : ℕ) → (length answers + 1) * length f.code ≤ budget
     → (w : Walked) × (walk b k answers ≡ some w) × Agrees (run budget f.code 0 answers) w answers
 
 -- the instructions of function k of a module
-unfoldable pub instructionsIn : List ℕ → ℕ → ℕ
-instructionsIn m k =
-    elim (readModule m) [ refused q ↦ 0 | accepted t ↦ elim (get_elem? t.functions k) [ some f ↦ length f.code | none ↦ 0 ] ]
+unfoldable pub instructions_in : List ℕ → ℕ → ℕ
+instructions_in m k =
+    elim (read_module m) [ refused q ↦ 0 | accepted t ↦ elim (get_elem? t.functions k) [ some f ↦ length f.code | none ↦ 0 ] ]
 
 -- What the run answers, by what the walk gives: where there is no such function, refusal 22; where the walk's events fit the room, a run that agrees
 -- with it; else refusal 24
@@ -546,18 +546,18 @@ Follows answers room (some w) a =
 -- on bytes: a lowered function follows its source
 abbrev pub Demand3Bytes : Type 0
 Demand3Bytes =
-    (l : Limits) → Under l office → (tree m : List ℕ) → are_bytes tree ≡ true → lowerBytes l tree ≡ accepted m
-    → (k : ℕ) (answers : List ℕ) → areAnswers answers ≡ true
-    → (budget room : ℕ) → (length answers + 1) * instructionsIn m k ≤ budget
-    → Follows answers room (walkTree tree k answers) (runAnswer m k answers budget room)
+    (l : Limits) → Under l office → (tree m : List ℕ) → are_bytes tree ≡ true → lower_bytes l tree ≡ accepted m
+    → (k : ℕ) (answers : List ℕ) → are_answers answers ≡ true
+    → (budget room : ℕ) → (length answers + 1) * instructions_in m k ≤ budget
+    → Follows answers room (walk_tree tree k answers) (run_answer m k answers budget room)
 
 -- so with such a budget no run of a lowered function ends with the budget spent
 abbrev pub NeverSpent : Type 0
 NeverSpent =
-    (l : Limits) → Under l office → (tree m : List ℕ) → are_bytes tree ≡ true → lowerBytes l tree ≡ accepted m
-    → (k : ℕ) (answers : List ℕ) → areAnswers answers ≡ true
-    → (budget room : ℕ) → (length answers + 1) * instructionsIn m k ≤ budget
-    → (r : Ran) → runAnswer m k answers budget room ≡ accepted r → (1 ≤ r.ending) × (r.ending ≤ 2)
+    (l : Limits) → Under l office → (tree m : List ℕ) → are_bytes tree ≡ true → lower_bytes l tree ≡ accepted m
+    → (k : ℕ) (answers : List ℕ) → are_answers answers ≡ true
+    → (budget room : ℕ) → (length answers + 1) * instructions_in m k ≤ budget
+    → (r : Ran) → run_answer m k answers budget room ≡ accepted r → (1 ≤ r.ending) × (r.ending ≤ 2)
 
 -- ---- the steps of a run: proofs/Steps
 
@@ -570,27 +570,27 @@ pub record Budgeted (n : ℕ) (r : Ran) (more : ℕ → Ran) : Type 0 where
 abbrev pub Steps : Type 0
 Steps = (n : ℕ) (code : List Instr) (p : ℕ) (answers : List ℕ) → Budgeted n (run n code p answers) (λ m. run (n + m) code p answers)
 
--- ---- R-8: the places met are the steps counted: proofs/PlacesMet
+-- ---- R-8: the places met are the steps counted: proofs/Places_met
 
 -- the events of steps at these places, on these answers
-unfoldable pub eventsBy : Flow → Instr → List ℕ → (List ℕ → List ℕ) → List ℕ
-eventsBy straight i answers go = encode i ++ go answers
-eventsBy jump i answers go = go answers
-eventsBy returns i answers go = encode i ++ go answers
-eventsBy (question b) i [] go = []
-eventsBy (question b) i (x ∷ xs) go = i.op ∷ x ∷ go xs
+unfoldable pub events_by : Flow → Instr → List ℕ → (List ℕ → List ℕ) → List ℕ
+events_by straight i answers go = encode i ++ go answers
+events_by jump i answers go = go answers
+events_by returns i answers go = encode i ++ go answers
+events_by (question b) i [] go = []
+events_by (question b) i (x ∷ xs) go = i.op ∷ x ∷ go xs
 
-unfoldable pub eventsAt : List Instr → List ℕ → List ℕ → List ℕ
-eventsAt code [] answers = []
-eventsAt code (p ∷ ps) answers = let i = get_or code p Return in eventsBy (flow i.op) i answers (λ rest. eventsAt code ps rest)
+unfoldable pub events_at : List Instr → List ℕ → List ℕ → List ℕ
+events_at code [] answers = []
+events_at code (p ∷ ps) answers = let i = get_or code p Return in events_by (flow i.op) i answers (λ rest. events_at code ps rest)
 
 -- there are as many as the run has steps, and the run's events are theirs
 pub record Counted (places : List ℕ) (code : List Instr) (answers : List ℕ) (r : Ran) : Type 0 where
   pub steps : length places ≡ r.steps
-  pub events : eventsAt code places answers ≡ r.events
+  pub events : events_at code places answers ≡ r.events
 
 abbrev pub MetAreSteps : Type 0
-MetAreSteps = (n : ℕ) (code : List Instr) (p : ℕ) (answers : List ℕ) → Counted (placesMet n code p answers) code answers (run n code p answers)
+MetAreSteps = (n : ℕ) (code : List Instr) (p : ℕ) (answers : List ℕ) → Counted (places_met n code p answers) code answers (run n code p answers)
 
 -- ---- what the marks of a search tell: proofs/Trails
 
@@ -606,11 +606,11 @@ SearchTells = (R : Rule) (code : List Instr) (marks : List ℕ) → Swept R code
 
 -- in a function that stands something is found for every place: answers, or none
 abbrev pub AlwaysFound : Type 0
-AlwaysFound = (g : Function) → codeStands g ≡ true → (place : ℕ) → (found : Option (List ℕ)) × Finds (accepted g.code) place found
+AlwaysFound = (g : Function) → code_stands g ≡ true → (place : ℕ) → (found : Option (List ℕ)) × Finds (accepted g.code) place found
 
 -- whenever some list reaches the place, one does that is no longer than the number of conditional jumps
 abbrev pub ShortAnswers : Type 0
-ShortAnswers = (g : Function) → codeStands g ≡ true → (place : ℕ) → Reachable g.code place → (answers : List ℕ) × Brings g.code place answers
+ShortAnswers = (g : Function) → code_stands g ≡ true → (place : ℕ) → Reachable g.code place → (answers : List ℕ) × Brings g.code place answers
 
 -- none is found exactly if no list reaches the place
 abbrev pub NoneExactly : Type 0
@@ -624,51 +624,51 @@ FoundRuns =
     (n : ℕ) (m : List ℕ) (f place room : ℕ) (code : List Instr) → sought n m f place room ≡ accepted code
     → (answers : List ℕ) → Brings code place answers
     → (budget buffer : ℕ) → length (run budget code 0 answers).events ≤ buffer
-    → runAnswer m f answers budget buffer ≡ accepted (run budget code 0 answers)
+    → run_answer m f answers budget buffer ≡ accepted (run budget code 0 answers)
 
 -- ---- the hand-back of code: proofs/Handed
 
 -- a module that is read is the bytes of its tables
 abbrev pub ReadIsWritten : Type 0
-ReadIsWritten = (m : List ℕ) (t : Tables) → are_bytes m ≡ true → readModule m ≡ accepted t → m ≡ moduleBytes t
+ReadIsWritten = (m : List ℕ) (t : Tables) → are_bytes m ≡ true → read_module m ≡ accepted t → m ≡ module_bytes t
 
 -- the part that is handed back lies in the module, and is the function's code
 pub record Handed (m : List ℕ) (k : ℕ) (p : Part) : Type 0 where
   pub tables : Tables
   pub function : Function
-  pub reads : readModule m ≡ accepted tables
+  pub reads : read_module m ≡ accepted tables
   pub found : get_elem? tables.functions k ≡ some function
   pub within : p.start + p.size ≤ length m
   pub code : part_of p m ≡ encodes function.code
 
 abbrev pub HandedCode : Type 0
-HandedCode = (m : List ℕ) (k : ℕ) (p : Part) → are_bytes m ≡ true → codeCall m k ≡ accepted p → Handed m k p
+HandedCode = (m : List ℕ) (k : ℕ) (p : Part) → are_bytes m ≡ true → code_call m k ≡ accepted p → Handed m k p
 
 -- ---- the code listing: proofs/Listing
 
 -- the code lines of a function, from place p on; of functions, from number f on
-unfoldable pub codeTexts : ℕ → ℕ → List Instr → List (List ℕ)
-codeTexts f p [] = []
-codeTexts f p (i ∷ is) = codeLine f p i ∷ codeTexts f (suc p) is
+unfoldable pub code_texts : ℕ → ℕ → List Instr → List (List ℕ)
+code_texts f p [] = []
+code_texts f p (i ∷ is) = code_line f p i ∷ code_texts f (suc p) is
 
-unfoldable pub functionTexts : ℕ → List Function → List (List ℕ)
-functionTexts f [] = []
-functionTexts f (g ∷ gs) = codeTexts f 0 g.code ++ functionTexts (suc f) gs
+unfoldable pub function_texts : ℕ → List Function → List (List ℕ)
+function_texts f [] = []
+function_texts f (g ∷ gs) = code_texts f 0 g.code ++ function_texts (suc f) gs
 
 -- at most so many pages, from number n on: each its first line and the next 50 lines, or as many as are left
 unfoldable pub pages : ℕ → ℕ → List (List ℕ) → List ℕ
 pages zero n ls = []
 pages (suc m) n [] = []
-pages (suc m) n (l ∷ ls) = pageLine n ++ (concat (λ (x : List ℕ). x) (take 50 (l ∷ ls)) ++ pages m (suc n) (drop 50 (l ∷ ls)))
+pages (suc m) n (l ∷ ls) = page_line n ++ (concat (λ (x : List ℕ). x) (take 50 (l ∷ ls)) ++ pages m (suc n) (drop 50 (l ∷ ls)))
 
 -- The listing is the code lines of the functions in pages of 50. There are as many as instructions, and that of the instruction at place p of function f
 -- stands after the lines of the functions before f and of the p instructions before it: so each instruction is listed once, in order
 pub record InOrder (t : Tables) : Type 0 where
-  pub paged : listing t ≡ pages (length (functionTexts 0 t.functions)) 1 (functionTexts 0 t.functions)
-  pub lines : length (functionTexts 0 t.functions) ≡ instructions t.functions
+  pub paged : listing t ≡ pages (length (function_texts 0 t.functions)) 1 (function_texts 0 t.functions)
+  pub lines : length (function_texts 0 t.functions) ≡ instructions t.functions
   pub line :
       (f p : ℕ) (g : Function) (i : Instr) → get_elem? t.functions f ≡ some g → get_elem? g.code p ≡ some i
-      → get_elem? (functionTexts 0 t.functions) (instructions (take f t.functions) + p) ≡ some (codeLine f p i)
+      → get_elem? (function_texts 0 t.functions) (instructions (take f t.functions) + p) ≡ some (code_line f p i)
 
 abbrev pub ListingLines : Type 0
 ListingLines = (t : Tables) → InOrder t
@@ -677,9 +677,9 @@ ListingLines = (t : Tables) → InOrder t
 pub record LineFits (f p : ℕ) (i : Instr) : Type 0 where
   pub function : length (decimal f) ≤ 5
   pub place : length (decimal p) ≤ 5
-  pub name : length (nameText i.op) ≤ 15
-  pub first : length (firstText i.op i.a) ≤ 20
-  pub second : length (secondText i.op i.b) ≤ 3
+  pub name : length (name_text i.op) ≤ 15
+  pub first : length (first_text i.op i.a) ≤ 20
+  pub second : length (second_text i.op i.b) ≤ 3
 
 -- of every line and of every page's number; so the listing has 53 bytes for each code line and for each page, of which 50 lines or the last ones make one
 pub record ListingFits (t : Tables) : Type 0 where
@@ -688,7 +688,7 @@ pub record ListingFits (t : Tables) : Type 0 where
   pub long : length (listing t) ≡ 53 * (instructions t.functions + (instructions t.functions + 49) / 50)
 
 abbrev pub ListingLength : Type 0
-ListingLength = (m : List ℕ) (t : Tables) → are_bytes m ≡ true → readModule m ≡ accepted t → ListingFits t
+ListingLength = (m : List ℕ) (t : Tables) → are_bytes m ≡ true → read_module m ≡ accepted t → ListingFits t
 
 -- ---- the count sheet: proofs/Sheet
 
@@ -702,7 +702,7 @@ sum (n ∷ ns) = n + sum ns
 
 -- the lines of three columns, from function f on
 unfoldable pub rows : ℕ → List ℕ → List ℕ → List ℕ → List ℕ
-rows f (n ∷ ns) (q ∷ qs) (c ∷ cs) = countLine (decimal f) n q c ++ rows (suc f) ns qs cs
+rows f (n ∷ ns) (q ∷ qs) (c ∷ cs) = count_line (decimal f) n q c ++ rows (suc f) ns qs cs
 rows f [] qs cs = []
 rows f (n ∷ ns) [] cs = []
 rows f (n ∷ ns) (q ∷ qs) [] = []
@@ -712,10 +712,10 @@ rows f (n ∷ ns) (q ∷ qs) [] = []
 pub record Totalled (t : Tables) : Type 0 where
   pub shows :
       sheet t
-      ≡ rows 0 (column anyOp t.functions) (column isQuestion t.functions) (column is_call t.functions)
-      ++ countLine (ascii "TOTAL") (sum (column anyOp t.functions)) (sum (column isQuestion t.functions)) (sum (column is_call t.functions))
-  pub counts : (test : ℕ → Bool) → sum (column test t.functions) ≡ tally test (allCode t.functions)
-  pub all : sum (column anyOp t.functions) ≡ instructions t.functions
+      ≡ rows 0 (column any_op t.functions) (column is_question t.functions) (column is_call t.functions)
+      ++ count_line (ascii "TOTAL") (sum (column any_op t.functions)) (sum (column is_question t.functions)) (sum (column is_call t.functions))
+  pub counts : (test : ℕ → Bool) → sum (column test t.functions) ≡ tally test (all_code t.functions)
+  pub all : sum (column any_op t.functions) ≡ instructions t.functions
 
 abbrev pub SheetTotals : Type 0
 SheetTotals = (t : Tables) → Totalled t
@@ -724,8 +724,8 @@ SheetTotals = (t : Tables) → Totalled t
 pub record SheetFits (t : Tables) : Type 0 where
   pub function : (f : ℕ) → f < length t.functions → length (decimal f) ≤ 5
   pub line : (test : ℕ → Bool) (f : ℕ) (g : Function) → get_elem? t.functions f ≡ some g → length (decimal (tally test g.code)) ≤ 6
-  pub total : (test : ℕ → Bool) → length (decimal (tally test (allCode t.functions))) ≤ 6
+  pub total : (test : ℕ → Bool) → length (decimal (tally test (all_code t.functions))) ≤ 6
   pub long : length (sheet t) ≡ 41 * (length t.functions + 1)
 
 abbrev pub SheetLength : Type 0
-SheetLength = (m : List ℕ) (t : Tables) → are_bytes m ≡ true → readModule m ≡ accepted t → SheetFits t
+SheetLength = (m : List ℕ) (t : Tables) → are_bytes m ≡ true → read_module m ≡ accepted t → SheetFits t

@@ -27,8 +27,8 @@ abbrev pub tail : Range
 tail = range 0x80 0xBF
 
 -- UTF8-char: UTF8-1, UTF8-2, four of UTF8-3, three of UTF8-4
-unfoldable pub utf8Char : List Octets
-utf8Char =
+unfoldable pub utf8_char : List Octets
+utf8_char =
     octets (range 0x00 0x7F) []
     ∷ octets (range 0xC2 0xDF) (tail ∷ [])
     ∷ octets (range 0xE0 0xE0) (range 0xA0 0xBF ∷ tail ∷ [])
@@ -46,15 +46,15 @@ followers [] b = none
 followers (c ∷ cs) b = elim (in_range c.first b) [ true ↦ some c.others | false ↦ followers cs b ]
 
 -- the bytes go on with one in each of the ranges, and then with characters up to the end
-unfoldable pub goesOn : List Range → List ℕ → Bool
-goesOn [] [] = true
-goesOn (r ∷ rs) [] = false
-goesOn [] (b ∷ bs) = elim (followers utf8Char b) [ none ↦ false | some rs ↦ goesOn rs bs ]
-goesOn (r ∷ rs) (b ∷ bs) = in_range r b && goesOn rs bs
+unfoldable pub goes_on : List Range → List ℕ → Bool
+goes_on [] [] = true
+goes_on (r ∷ rs) [] = false
+goes_on [] (b ∷ bs) = elim (followers utf8_char b) [ none ↦ false | some rs ↦ goes_on rs bs ]
+goes_on (r ∷ rs) (b ∷ bs) = in_range r b && goes_on rs bs
 
 -- UTF8-octets
-unfoldable pub isUtf8 : Text → Bool
-isUtf8 s = goesOn [] s
+unfoldable pub is_utf8 : Text → Bool
+is_utf8 s = goes_on [] s
 
 -- ---- characters
 
@@ -63,8 +63,8 @@ unfoldable pub is_scalar : ℕ → Bool
 is_scalar c = ltb c 0x110000 && not (leb 0xD800 c && leb c 0xDFFF)
 
 -- the bytes of a character, by its number (section 3)
-unfoldable pub encodeChar : ℕ → List ℕ
-encodeChar c =
+unfoldable pub encode_char : ℕ → List ℕ
+encode_char c =
     elim (ltb c 0x80) [
       | true ↦ c ∷ []
       | false ↦

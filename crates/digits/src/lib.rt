@@ -1,6 +1,6 @@
 // Digits and numbers of text.
 ghost use Rattle.std.specs.Prelude.{◌≡◌, ◌+◌, ◌*◌, ◌%◌, ◌<◌};
-ghost use Rattle.digits.specs.Text.{digitValue, decimal, said};
+ghost use Rattle.digits.specs.Text.{digit_value, decimal, said};
 
 // A number, or that the text is none below 2^64.
 #[derive(Drop)]
@@ -25,7 +25,7 @@ pub fn narrow(c: u32) -> u8
 
 // The value of a hexadecimal digit in lower case; 16 of any other character.
 pub fn digit_of(c: u32) -> u32
-    ensures { result ≡ digitValue c }
+    ensures { result ≡ digit_value c }
 {
     if c < 48 {
         return 16;

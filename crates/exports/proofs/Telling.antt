@@ -8,33 +8,33 @@ use native.Mathlib.Omega.{arith}
 use lib.ListN.{length, set, drop, length-append}
 use lib.Dec.{leb}
 use borrow.Author.Tests.{le-leb, lt-leb, leb-true}
-use Rattle.definitions.specs.Bytes.{Answer, refused, accepted, whenAccepted}
+use Rattle.definitions.specs.Bytes.{Answer, refused, accepted, when_accepted}
 use Rattle.definitions.specs.Instruction.{Instr}
 use Rattle.definitions.specs.Tables.{Tables}
-use Rattle.definitions.specs.Reader.{readModule}
-use Rattle.definitions.specs.Module.{Limits, lowerBytes}
-use Rattle.definitions.specs.Calls.{Counts, Running, fitsRoom, areasFit, lowerAnswer, countAnswer, Lowering, lowerCall, codeCall, textFits, textAnswer, textCall, written}
+use Rattle.definitions.specs.Reader.{read_module}
+use Rattle.definitions.specs.Module.{Limits, lower_bytes}
+use Rattle.definitions.specs.Calls.{Counts, Running, fits_room, areas_fit, lower_answer, count_answer, Lowering, lower_call, code_call, text_fits, text_answer, text_call, written}
 use Rattle.definitions.proofs.ReadFits.{module-short}
-use Rattle.definitions.specs.Reach.{sought, countFound, foundAnswer, bufferAfter, Reaching, reachCall}
+use Rattle.definitions.specs.Reach.{sought, count_found, found_answer, buffer_after, Reaching, reach_call}
 use Rattle.tree.specs.Settled.{said, settled}
 use Rattle.tree.specs.declared.Checked.{Checked}
 use Rattle.tree.specs.declared.Checked.TheVariants.{Accepted, Refused}
 use Rattle.lowering.specs.Lowered.{said as lowered, Lowers as Lowered'}
 use Rattle.lowering.specs.declared.Lowered.{Lowered}
 use Rattle.lowering.specs.declared.Lowered.TheVariants.{Wrote, Refused as NotLowered}
-use Rattle.reader.specs.View.{said as readSaid, saidPart, CodeAt, Known, Locates}
+use Rattle.reader.specs.View.{said as read_said, said_part, CodeAt, Known, Locates}
 use Rattle.reader.specs.declared.Verdict.{Verdict}
 use Rattle.reader.specs.declared.Verdict.TheVariants.{Accepted as Taken, Refused as NotTaken}
 use Rattle.reader.specs.declared.Located.{Located}
 use Rattle.reader.specs.declared.Located.TheVariants.{Code, NoCode}
-use Rattle.tally.specs.Listed.{said as textSaid, Printed}
+use Rattle.tally.specs.Listed.{said as text_said, Printed}
 use Rattle.tally.specs.declared.Listed.{Listed}
 use Rattle.tally.specs.declared.Listed.TheVariants.{Written, Refused as NotWritten}
-use Rattle.run.specs.Pass.{said as ranSaid, Called}
+use Rattle.run.specs.Pass.{said as ran_said, Called}
 use Rattle.run.specs.declared.Outcome.{Outcome}
 use Rattle.run.specs.declared.Outcome.TheVariants.{Finished, Refused as NotRun}
-use Rattle.exports.specs.Told.{told, toldCount, toldPart, fourIn, countsIn, Tellable, Lowers, Prints, Runs, toldFound, Seeks}
-use Rattle.reach.specs.Reaching.{said as reachSaid, Gives}
+use Rattle.exports.specs.Told.{told, told_count, told_part, four_in, counts_in, Tellable, Lowers, Prints, Runs, told_found, Seeks}
+use Rattle.reach.specs.Reaching.{said as reach_said, Gives}
 use Rattle.reach.specs.declared.Reached.{Reached}
 use Rattle.reach.specs.declared.Reached.TheVariants.{Answers, Nowhere, Refused as NotSought}
 
@@ -51,51 +51,51 @@ check-no r t q e f = ap told (sym (ap said f) ∙ e)
 -- ---- a tree's module
 
 -- what is written fits the output
-room-count : (q room : ℕ) (bs : List ℕ) (n : ℕ) (b : Bool) → leb (length bs) room ≡ b → countAnswer (elim b as (λ z. Answer (List ℕ)) [ true ↦ accepted bs | false ↦ refused q ]) ≡ accepted n → n ≤ room
-unfolding countAnswer whenAccepted
+room-count : (q room : ℕ) (bs : List ℕ) (n : ℕ) (b : Bool) → leb (length bs) room ≡ b → count_answer (elim b as (λ z. Answer (List ℕ)) [ true ↦ accepted bs | false ↦ refused q ]) ≡ accepted n → n ≤ room
+unfolding count_answer when_accepted
 room-count q room bs n true h e = let x : length bs ≡ n = cc in omega (arith, leb-true (length bs) room h)
 room-count q room bs n false h e = let z : ◌≡◌ {A = ℕ} 0 1 = cc in absurd (omega arith)
 
-bytes_count : (room n : ℕ) (a : Answer (List ℕ)) → countAnswer (whenAccepted a (fitsRoom room)) ≡ accepted n → n ≤ room
-unfolding fitsRoom countAnswer whenAccepted
+bytes_count : (room n : ℕ) (a : Answer (List ℕ)) → count_answer (when_accepted a (fits_room room)) ≡ accepted n → n ≤ room
+unfolding fits_room count_answer when_accepted
 bytes_count room n (refused q) e = let z : ◌≡◌ {A = ℕ} 0 1 = cc in absurd (omega arith)
 bytes_count room n (accepted bs) e = room-count 16 room bs n (leb (length bs) room) refl e
 
-answer-count : (l : Limits) (room n : ℕ) (tree : List ℕ) (b : Bool) → countAnswer (elim b as (λ z. Answer (List ℕ)) [ false ↦ refused 1 | true ↦ whenAccepted (lowerBytes l tree) (fitsRoom room) ]) ≡ accepted n → n ≤ room
-unfolding countAnswer whenAccepted
-answer-count l room n tree true e = bytes_count room n (lowerBytes l tree) e
+answer-count : (l : Limits) (room n : ℕ) (tree : List ℕ) (b : Bool) → count_answer (elim b as (λ z. Answer (List ℕ)) [ false ↦ refused 1 | true ↦ when_accepted (lower_bytes l tree) (fits_room room) ]) ≡ accepted n → n ≤ room
+unfolding count_answer when_accepted
+answer-count l room n tree true e = bytes_count room n (lower_bytes l tree) e
 answer-count l room n tree false e = let z : ◌≡◌ {A = ℕ} 0 1 = cc in absurd (omega arith)
 
-module _ (r : Lowered) (k l : Limits) (e : k ≡ l) (tree area₁ area₂ out area₁' area₂' out' : List ℕ) (L : Lowered' r area₁' area₂' out' (lowerCall k tree area₁ area₂ out)) where
+module _ (r : Lowered) (k l : Limits) (e : k ≡ l) (tree area₁ area₂ out area₁' area₂' out' : List ℕ) (L : Lowered' r area₁' area₂' out' (lower_call k tree area₁ area₂ out)) where
   pub lowered-fits : (n : ℕ) → r ≡ Wrote n → n ≤ length out
-  unfolding lowered lowerCall lowerAnswer
-  lowered-fits n h = answer-count k (length out) n tree (areasFit (length area₁) (length area₂)) (sym L.answer ∙ ap lowered h)
+  unfolding lowered lower_call lower_answer
+  lowered-fits n h = answer-count k (length out) n tree (areas_fit (length area₁) (length area₂)) (sym L.answer ∙ ap lowered h)
 
   abbrev want : Lowering
-  want = lowerCall l tree area₁ area₂ out
+  want = lower_call l tree area₁ area₂ out
 
-  lowers-as : (x : ℕ) → x ≡ toldCount (lowered r) → Lowers x want area₁' area₂' out'
+  lowers-as : (x : ℕ) → x ≡ told_count (lowered r) → Lowers x want area₁' area₂' out'
   lowers-as x h =
-      let w : lowerCall k tree area₁ area₂ out ≡ want = ap (λ (m : Limits). lowerCall m tree area₁ area₂ out) e in
-      subst (λ (v : Lowering). Lowers x v area₁' area₂' out') w (record { answer = h ∙ ap toldCount L.answer; first = L.first; second = L.second; output = L.output })
+      let w : lower_call k tree area₁ area₂ out ≡ want = ap (λ (m : Limits). lower_call m tree area₁ area₂ out) e in
+      subst (λ (v : Lowering). Lowers x v area₁' area₂' out') w (record { answer = h ∙ ap told_count L.answer; first = L.first; second = L.second; output = L.output })
 
   pub lowered-yes : (n : ℕ) → r ≡ Wrote n → Lowers (4294967296 + n) want area₁' area₂' out'
-  unfolding lowered toldCount
-  lowered-yes n h = lowers-as (4294967296 + n) (ap (λ (x : Lowered). toldCount (lowered x)) (sym h))
+  unfolding lowered told_count
+  lowered-yes n h = lowers-as (4294967296 + n) (ap (λ (x : Lowered). told_count (lowered x)) (sym h))
 
   pub lowered-no : (q : ℕ) → r ≡ NotLowered q → Lowers q want area₁' area₂' out'
-  unfolding lowered toldCount
-  lowered-no q h = lowers-as q (ap (λ (x : Lowered). toldCount (lowered x)) (sym h))
+  unfolding lowered told_count
+  lowered-no q h = lowers-as q (ap (λ (x : Lowered). told_count (lowered x)) (sym h))
 
 -- ---- a module
 
-pub read-yes : (r : Verdict) (a : Answer (Unit {0})) → readSaid r ≡ a → r ≡ Taken → 0 ≡ told a
-unfolding told readSaid
-read-yes r a e f = ap told (sym (ap readSaid f) ∙ e)
+pub read-yes : (r : Verdict) (a : Answer (Unit {0})) → read_said r ≡ a → r ≡ Taken → 0 ≡ told a
+unfolding told read_said
+read-yes r a e f = ap told (sym (ap read_said f) ∙ e)
 
-pub read_no : (r : Verdict) (a : Answer (Unit {0})) (q : ℕ) → readSaid r ≡ a → r ≡ NotTaken q → q ≡ told a
-unfolding told readSaid
-read_no r a q e f = ap told (sym (ap readSaid f) ∙ e)
+pub read_no : (r : Verdict) (a : Answer (Unit {0})) (q : ℕ) → read_said r ≡ a → r ≡ NotTaken q → q ≡ told a
+unfolding told read_said
+read_no r a q e f = ap told (sym (ap read_said f) ∙ e)
 
 -- ---- a function's code
 
@@ -107,71 +107,71 @@ code-known r t f p s n L e = rw e at L.known
 pub code-short : (t : List ℕ) (f p s n : ℕ) → CodeAt t f p s n → p + s ≤ 524288
 code-short t f p s n C = omega (arith, C.read.to, module-short t C.tables C.module-is)
 
-pub code-yes : (r : Located) (t : List ℕ) (f p s n : ℕ) → Locates r t f → r ≡ Code p s n → p * 4294967296 + s ≡ toldPart (codeCall t f)
-unfolding toldPart saidPart
-code-yes r t f p s n L e = ap toldPart (sym (ap saidPart e) ∙ L.is)
+pub code-yes : (r : Located) (t : List ℕ) (f p s n : ℕ) → Locates r t f → r ≡ Code p s n → p * 4294967296 + s ≡ told_part (code_call t f)
+unfolding told_part said_part
+code-yes r t f p s n L e = ap told_part (sym (ap said_part e) ∙ L.is)
 
-pub code-no : (r : Located) (t : List ℕ) (f q : ℕ) → Locates r t f → r ≡ NoCode q → q ≡ toldPart (codeCall t f)
-unfolding toldPart saidPart
-code-no r t f q L e = ap toldPart (sym (ap saidPart e) ∙ L.is)
+pub code-no : (r : Located) (t : List ℕ) (f q : ℕ) → Locates r t f → r ≡ NoCode q → q ≡ told_part (code_call t f)
+unfolding told_part said_part
+code-no r t f q L e = ap told_part (sym (ap said_part e) ∙ L.is)
 
 -- ---- a text about a module
 
-pub tell-few : (r : Listed) (n : ℕ) → Tellable (textSaid r) → r ≡ Written n → n < 2 ^ 63
-unfolding textSaid
-tell-few r n h e = h n (ap textSaid e)
+pub tell-few : (r : Listed) (n : ℕ) → Tellable (text_said r) → r ≡ Written n → n < 2 ^ 63
+unfolding text_said
+tell-few r n h e = h n (ap text_said e)
 
-pub tell_yes : (r : Listed) (n : ℕ) → r ≡ Written n → 4294967296 + n ≡ toldCount (textSaid r)
-unfolding textSaid toldCount
-tell_yes r n e = sym (ap (λ (x : Listed). toldCount (textSaid x)) e)
+pub tell_yes : (r : Listed) (n : ℕ) → r ≡ Written n → 4294967296 + n ≡ told_count (text_said r)
+unfolding text_said told_count
+tell_yes r n e = sym (ap (λ (x : Listed). told_count (text_said x)) e)
 
-pub tell_no : (r : Listed) (q : ℕ) → r ≡ NotWritten q → q ≡ toldCount (textSaid r)
-unfolding textSaid toldCount
-tell_no r q e = sym (ap (λ (x : Listed). toldCount (textSaid x)) e)
+pub tell_no : (r : Listed) (q : ℕ) → r ≡ NotWritten q → q ≡ told_count (text_said r)
+unfolding text_said told_count
+tell_no r q e = sym (ap (λ (x : Listed). told_count (text_said x)) e)
 
 -- what is written fits the output
-module _ (q : ℕ) (f : Tables → List ℕ) (r : Listed) (t out out' : List ℕ) (L : Printed r (textCall q f t out) out') where
-  text-fits : (n : ℕ) → textSaid r ≡ accepted n → n ≤ length out
-  unfolding textCall textAnswer textFits countAnswer whenAccepted
-  text-fits n e = go (readModule t) (sym L.answer ∙ e)
+module _ (q : ℕ) (f : Tables → List ℕ) (r : Listed) (t out out' : List ℕ) (L : Printed r (text_call q f t out) out') where
+  text-fits : (n : ℕ) → text_said r ≡ accepted n → n ≤ length out
+  unfolding text_call text_answer text_fits count_answer when_accepted
+  text-fits n e = go (read_module t) (sym L.answer ∙ e)
     where
-      go : (a : Answer Tables) → countAnswer (whenAccepted a (λ x. textFits q (length out) (f x))) ≡ accepted n → n ≤ length out
+      go : (a : Answer Tables) → count_answer (when_accepted a (λ x. text_fits q (length out) (f x))) ≡ accepted n → n ≤ length out
       go (refused p) k = let z : ◌≡◌ {A = ℕ} 0 1 = cc in absurd (omega arith)
       go (accepted x) k = room-count q (length out) (f x) n (leb (length (f x)) (length out)) refl k
 
-  pub text-few : length out < 2 ^ 63 → Tellable (textSaid r)
+  pub text-few : length out < 2 ^ 63 → Tellable (text_said r)
   text-few h n e = let k = text-fits n e in omega arith
 
-  pub text-told : (a : ℕ) → a ≡ toldCount (textSaid r) → Prints a (textCall q f t out) out'
-  text-told a e = record { answer = e ∙ ap toldCount L.answer; output = L.output }
+  pub text-told : (a : ℕ) → a ≡ told_count (text_said r) → Prints a (text_call q f t out) out'
+  text-told a e = record { answer = e ∙ ap told_count L.answer; output = L.output }
 
 -- ---- a run
 
-pub four-none : (a b c d : ℕ) (xs : List ℕ) → length xs < 4 → xs ≡ fourIn a b c d xs
-unfolding fourIn
-four-none a b c d xs h = rw (lt-leb 4 (length xs) h, fourIn)
+pub four-none : (a b c d : ℕ) (xs : List ℕ) → length xs < 4 → xs ≡ four_in a b c d xs
+unfolding four_in
+four-none a b c d xs h = rw (lt-leb 4 (length xs) h, four_in)
 
-pub four-all : (a b c d : ℕ) (xs : List ℕ) → 4 ≤ length xs → set (set (set (set xs 0 a) 1 b) 2 c) 3 d ≡ fourIn a b c d xs
-unfolding fourIn
-four-all a b c d xs h = rw (le-leb 4 (length xs) h, fourIn)
+pub four-all : (a b c d : ℕ) (xs : List ℕ) → 4 ≤ length xs → set (set (set (set xs 0 a) 1 b) 2 c) 3 d ≡ four_in a b c d xs
+unfolding four_in
+four-all a b c d xs h = rw (le-leb 4 (length xs) h, four_in)
 
-pub runs-yes : (r : Outcome) (want : Running) (left numbers numbers' : List ℕ) (e s u b : ℕ) → Called r want left → r ≡ Finished e s u b → numbers' ≡ fourIn e s u b numbers → Runs 0 want left numbers numbers'
-unfolding ranSaid told countsIn
+pub runs-yes : (r : Outcome) (want : Running) (left numbers numbers' : List ℕ) (e s u b : ℕ) → Called r want left → r ≡ Finished e s u b → numbers' ≡ four_in e s u b numbers → Runs 0 want left numbers numbers'
+unfolding ran_said told counts_in
 runs-yes r want left numbers numbers' e s u b C f n =
-    let k : accepted (record { ending = e; steps = s; used = u; bytes = b }) ≡ want.answer = sym (ap ranSaid f) ∙ C.says in
-    record { answer = ap told k; buffer = C.leaves; counts = n ∙ ap (λ (a : Answer Counts). countsIn a numbers) k }
+    let k : accepted (record { ending = e; steps = s; used = u; bytes = b }) ≡ want.answer = sym (ap ran_said f) ∙ C.says in
+    record { answer = ap told k; buffer = C.leaves; counts = n ∙ ap (λ (a : Answer Counts). counts_in a numbers) k }
 
-pub runs-no : (r : Outcome) (want : Running) (left numbers numbers' : List ℕ) (q : ℕ) → Called r want left → r ≡ NotRun q → numbers' ≡ fourIn 0 0 0 0 numbers → Runs q want left numbers numbers'
-unfolding ranSaid told countsIn
+pub runs-no : (r : Outcome) (want : Running) (left numbers numbers' : List ℕ) (q : ℕ) → Called r want left → r ≡ NotRun q → numbers' ≡ four_in 0 0 0 0 numbers → Runs q want left numbers numbers'
+unfolding ran_said told counts_in
 runs-no r want left numbers numbers' q C f n =
-    let k : refused q ≡ want.answer = sym (ap ranSaid f) ∙ C.says in
-    record { answer = ap told k; buffer = C.leaves; counts = n ∙ ap (λ (a : Answer Counts). countsIn a numbers) k }
+    let k : refused q ≡ want.answer = sym (ap ran_said f) ∙ C.says in
+    record { answer = ap told k; buffer = C.leaves; counts = n ∙ ap (λ (a : Answer Counts). counts_in a numbers) k }
 
 -- ---- a place
 
 -- the answers that are found fit the buffer: it is as long as it was
-found-fits : (s : Answer (List Instr)) (found : Option (List ℕ)) (n : ℕ) (out out' : List ℕ) → accepted (some n) ≡ foundAnswer s found → out' ≡ bufferAfter s found out → length out' ≡ length out → n ≤ length out
-unfolding foundAnswer countFound bufferAfter whenAccepted written
+found-fits : (s : Answer (List Instr)) (found : Option (List ℕ)) (n : ℕ) (out out' : List ℕ) → accepted (some n) ≡ found_answer s found → out' ≡ buffer_after s found out → length out' ≡ length out → n ≤ length out
+unfolding found_answer count_found buffer_after when_accepted written
 found-fits (refused q) found n out out' e f l = let z : ◌≡◌ {A = ℕ} 0 1 = cc in absurd (omega arith)
 found-fits (accepted code) none n out out' e f l = let z : ◌≡◌ {A = ℕ} 0 1 = cc in absurd (omega arith)
 found-fits (accepted code) (some ys) n out out' e f l =
@@ -179,21 +179,21 @@ found-fits (accepted code) (some ys) n out out' e f l =
 
 module _ (r : Reached) {bytes : List ℕ} {function place : ℕ} {area area' out out' : List ℕ} (R : Gives r bytes function place area area' out out') where
   pub reached-fits : (n : ℕ) → r ≡ Answers n → length out' ≡ length out → n ≤ length out
-  unfolding reachSaid reachCall
+  unfolding reach_said reach_call
   reached-fits n e l =
-      found-fits (sought (length area) bytes function place (length out)) R.found n out out' (sym (ap reachSaid e) ∙ ap (λ (x : Reaching). x.answer) R.is) (ap (λ (x : Reaching). x.buffer) R.is) l
+      found-fits (sought (length area) bytes function place (length out)) R.found n out out' (sym (ap reach_said e) ∙ ap (λ (x : Reaching). x.answer) R.is) (ap (λ (x : Reaching). x.buffer) R.is) l
 
-  seeks-as : (m : ℕ) → m ≡ toldFound (reachSaid r) → Seeks m bytes function place area area' out out'
-  seeks-as m e = record { given = record { answer = reachSaid r; area = area'; buffer = out' }; call = R; answer = e; left = refl; buffer = refl }
+  seeks-as : (m : ℕ) → m ≡ told_found (reach_said r) → Seeks m bytes function place area area' out out'
+  seeks-as m e = record { given = record { answer = reach_said r; area = area'; buffer = out' }; call = R; answer = e; left = refl; buffer = refl }
 
   pub reached-list : (n : ℕ) → r ≡ Answers n → Seeks (4294967296 + n) bytes function place area area' out out'
-  unfolding reachSaid toldFound
-  reached-list n e = seeks-as (4294967296 + n) (ap (λ (x : Reached). toldFound (reachSaid x)) (sym e))
+  unfolding reach_said told_found
+  reached-list n e = seeks-as (4294967296 + n) (ap (λ (x : Reached). told_found (reach_said x)) (sym e))
 
   pub reached-none : r ≡ Nowhere → Seeks 8589934592 bytes function place area area' out out'
-  unfolding reachSaid toldFound
-  reached-none e = seeks-as 8589934592 (ap (λ (x : Reached). toldFound (reachSaid x)) (sym e))
+  unfolding reach_said told_found
+  reached-none e = seeks-as 8589934592 (ap (λ (x : Reached). told_found (reach_said x)) (sym e))
 
   pub reached-not : (q : ℕ) → r ≡ NotSought q → Seeks q bytes function place area area' out out'
-  unfolding reachSaid toldFound
-  reached-not q e = seeks-as q (ap (λ (x : Reached). toldFound (reachSaid x)) (sym e))
+  unfolding reach_said told_found
+  reached-not q e = seeks-as q (ap (λ (x : Reached). told_found (reach_said x)) (sym e))

@@ -6,39 +6,39 @@ use mathlib.Core.List.{List}
 use native.Mathlib.Omega.{arith}
 use borrow.Author.Count.{below_more}
 use lib.ListN.{length, get_or}
-use Rattle.parts.specs.Judge.{fits, suited, judgeName, judgeExpr, judgeMany}
+use Rattle.parts.specs.Judge.{fits, suited, judge_name, judge_expr, judge_many}
 use Rattle.parts.specs.declared.Passed.TheVariants.{Next}
 use Rattle.parts.specs.declared.Role.{Role}
-use Rattle.parts.specs.declared.Role.TheVariants.{Value, Target as asTarget}
+use Rattle.parts.specs.declared.Role.TheVariants.{Value, Target as as_target}
 use Rattle.parts.proofs.Laws.{then_next}
 use Rattle.parts.proofs.LeafLaws.{noted-yes, suits-value, suits-other}
 use Rattle.exprs.specs.Constants.{Constants, Passes}
 use Rattle.exprs.proofs.ExprLaws.{at_none, at-false, at_true, at-var, many_more}
 
 -- a constant as a value: one byte, of which nothing is asked
-pub constant-value : (d : ℕ) (t : List ℕ) (p w : ℕ) → (d ≡ 0 → ⊥) → p < length t → get_or t p 0 < 3 → Next (p + 1) w ≡ judgeExpr Value d t p w
+pub constant-value : (d : ℕ) (t : List ℕ) (p w : ℕ) → (d ≡ 0 → ⊥) → p < length t → get_or t p 0 < 3 → Next (p + 1) w ≡ judge_expr Value d t p w
 constant-value d t p w f h l = go (get_or t p 0) refl l
   where
     u : w ≡ suited Value (get_or t p 0) w
     u = suits-value Value (get_or t p 0) w refl
 
-    go : (k : ℕ) → get_or t p 0 ≡ k → k < 3 → Next (p + 1) w ≡ judgeExpr Value d t p w
+    go : (k : ℕ) → get_or t p 0 ≡ k → k < 3 → Next (p + 1) w ≡ judge_expr Value d t p w
     go zero e l = at_none Value d t p w w f h u e
     go (suc zero) e l = at-false Value d t p w w f h u e
     go (suc (suc zero)) e l = at_true Value d t p w w f h u e
     go (suc (suc (suc k))) e l = absurd (omega arith)
 
 -- a variable as a target: its name
-pub variable-target : (d : ℕ) (t : List ℕ) (p w : ℕ) → (d ≡ 0 → ⊥) → p < length t → get_or t p 0 ≡ 6 → judgeName t (p + 1) w ≡ judgeExpr asTarget d t p w
+pub variable-target : (d : ℕ) (t : List ℕ) (p w : ℕ) → (d ≡ 0 → ⊥) → p < length t → get_or t p 0 ≡ 6 → judge_name t (p + 1) w ≡ judge_expr as_target d t p w
 unfolding fits
 variable-target d t p w f h e =
-    at-var asTarget d t p w w f h (suits-other asTarget asTarget 6 w w true refl refl (noted-yes w 10 true refl) ∙ ap (λ (k : ℕ). suited asTarget k w) (sym e)) e
+    at-var as_target d t p w w f h (suits-other as_target as_target 6 w w true refl refl (noted-yes w 10 true refl) ∙ ap (λ (k : ℕ). suited as_target k w) (sym e)) e
 
 -- a constant at the head of a list of values
-many-constant : (d : ℕ) (t : List ℕ) (n p w : ℕ) → (d ≡ 0 → ⊥) → p < length t → 0 < n → get_or t p 0 < 3 → judgeMany Value d t n p w ≡ judgeMany Value d t (n - 1) (p + 1) w
+many-constant : (d : ℕ) (t : List ℕ) (n p w : ℕ) → (d ≡ 0 → ⊥) → p < length t → 0 < n → get_or t p 0 < 3 → judge_many Value d t n p w ≡ judge_many Value d t (n - 1) (p + 1) w
 many-constant d t n p w f h m l = many_more Value d t n p w (omega arith) m ∙ then_next _ _ _ _ (sym (constant-value d t p w f h l))
 
-many-at : (r : Role) (d : ℕ) (t : List ℕ) (n m p q w : ℕ) → n ≡ m → p ≡ q → judgeMany r d t n p w ≡ judgeMany r d t m q w
+many-at : (r : Role) (d : ℕ) (t : List ℕ) (n m p q w : ℕ) → n ≡ m → p ≡ q → judge_many r d t n p w ≡ judge_many r d t m q w
 many-at r d t n m p q w e g = rw (e, g)
 
 -- nothing is passed over
@@ -47,7 +47,7 @@ pass-none r d t n p h = record { few = omega arith; inside = omega arith; same =
 
 -- constants in a list of values are passed over
 same-past : (d : ℕ) (t : List ℕ) (n p k : ℕ) → (d ≡ 0 → ⊥) → k ≤ n → p + k ≤ length t → ((i : ℕ) → i < k → get_or t (p + i) 0 < 3) →
-    (w : ℕ) → judgeMany Value d t n p w ≡ judgeMany Value d t (n - k) (p + k) w
+    (w : ℕ) → judge_many Value d t n p w ≡ judge_many Value d t (n - k) (p + k) w
 same-past d t n p zero f a b c w = many-at Value d t _ _ _ _ w (omega arith) (omega arith)
 same-past d t n p (suc k) f a b c w =
     same-past d t n p k f (omega arith) (omega arith) (λ i l. c i (omega arith)) w

@@ -10,13 +10,13 @@ use lib.ListN.{length, take, drop, get_or}
 use borrow.Author.Rules.{const_no_nan}
 use borrow.Author.Tests.{le-ltb}
 use Rattle.definitions.specs.Bytes.{Parser, got, give, unread, byte, field, ◌>>=◌}
-use Rattle.definitions.specs.Parse.{by_kind, exprKinds, parseExpr}
-use Rattle.definitions.specs.Tree.{noneL, intL, floatL, stringL, Expr, lit}
-use Rattle.parts.specs.Places.{Node, node_of, nodeAt, isGot, countAt, Counted, eightAt, textAt}
+use Rattle.definitions.specs.Parse.{by_kind, expr_kinds, parse_expr}
+use Rattle.definitions.specs.Tree.{none_l, int_l, float_l, string_l, Expr, lit}
+use Rattle.parts.specs.Places.{Node, node_of, node_at, is_got, count_at, Counted, eight_at, text_at}
 use Rattle.parts.proofs.Laws.{at_byte, kind-of}
 use Rattle.parts.proofs.Nodes.{Seen, got-node}
-use Rattle.exprs.specs.ExprAt.{exprAt, ExprReads, intAt, float_at, stringAt}
-use Rattle.exprs.specs.Literals.{literalOf, Plain, TextPlace, bits_of, LiteralAt, Stands}
+use Rattle.exprs.specs.ExprAt.{expr_at, ExprReads, int_at, float_at, string_at}
+use Rattle.exprs.specs.Literals.{literal_of, Plain, TextPlace, bits_of, LiteralAt, Stands}
 use Rattle.exprs.specs.declared.literals.Literal.{Literal}
 use Rattle.exprs.specs.declared.literals.Literal.TheVariants.{None, Bool as Truth, Int, Float, Nan, Text}
 use Rattle.exprs.proofs.ExprLaws.{deep-E}
@@ -43,13 +43,13 @@ eight-bytes t p h =
     ∙ ap (λ (x : List ℕ). get_or t (p + 4) 0 ∷ x) (byte_at t p 5 (omega arith) ∙ ap (λ (x : List ℕ). get_or t (p + 5) 0 ∷ x) (byte_at t p 6 (omega arith)
     ∙ ap (λ (x : List ℕ). get_or t (p + 6) 0 ∷ x) (byte_at t p 7 (omega arith))))))))
 
-two : (t : List ℕ) (p k : ℕ) → countAt t (p + k) ≡ get_or t (p + k) 0 * 256 + get_or t (p + (k + 1)) 0
-unfolding countAt
+two : (t : List ℕ) (p k : ℕ) → count_at t (p + k) ≡ get_or t (p + k) 0 * 256 + get_or t (p + (k + 1)) 0
+unfolding count_at
 two t p k = ap (λ (m : ℕ). get_or t (p + k) 0 * 256 + get_or t m 0) (next p k)
 
-pub eight_is : (t : List ℕ) (p a b c d : ℕ) → p + 8 ≤ length t → a ≡ countAt t p → b ≡ countAt t (p + 2) → c ≡ countAt t (p + 4) → d ≡ countAt t (p + 6) →
-    ((a * 65536 + b) * 65536 + c) * 65536 + d ≡ eightAt t p
-unfolding eightAt countAt
+pub eight_is : (t : List ℕ) (p a b c d : ℕ) → p + 8 ≤ length t → a ≡ count_at t p → b ≡ count_at t (p + 2) → c ≡ count_at t (p + 4) → d ≡ count_at t (p + 6) →
+    ((a * 65536 + b) * 65536 + c) * 65536 + d ≡ eight_at t p
+unfolding eight_at count_at
 eight_is t p a b c d h e f g i =
     rw (e, f, g, i, two t p 2, two t p 4, two t p 6)
     (sym (ap (λ (x : Node ℕ). x.value) (got-node 0 (field 8) t p _ (p + 8) h (ap (field 8) (eight-bytes t p h) ∙ field-eight _ _ _ _ _ _ _ _ (drop (p + 8) t)))))
@@ -71,8 +71,8 @@ module _ (t : List ℕ) (p : ℕ) (h : LiteralAt t p) where
   pub eight-of-float : get_or t p 0 ≡ 4 → p + 1 + 8 ≤ length t
   eight-of-float e = (view-float 1 t p h.reads e).parts
 
-  no-text-int : (l : Literal) (n : ℕ) → literalOf t l ≡ intL n → TextPlace t p l
-  unfolding literalOf TextPlace
+  no-text-int : (l : Literal) (n : ℕ) → literal_of t l ≡ int_l n → TextPlace t p l
+  unfolding literal_of TextPlace
   no-text-int None n e = tt
   no-text-int (Truth b) n e = tt
   no-text-int (Int z) n e = tt
@@ -80,8 +80,8 @@ module _ (t : List ℕ) (p : ℕ) (h : LiteralAt t p) where
   no-text-int (Nan bits) n e = tt
   no-text-int (Text start len) n e = let z : ◌≡◌ {A = ℕ} 0 1 = cc in absurd (omega arith)
 
-  no-text-float : (l : Literal) (n : ℕ) → literalOf t l ≡ floatL n → TextPlace t p l
-  unfolding literalOf TextPlace
+  no-text-float : (l : Literal) (n : ℕ) → literal_of t l ≡ float_l n → TextPlace t p l
+  unfolding literal_of TextPlace
   no-text-float None n e = tt
   no-text-float (Truth b) n e = tt
   no-text-float (Int z) n e = tt
@@ -89,25 +89,25 @@ module _ (t : List ℕ) (p : ℕ) (h : LiteralAt t p) where
   no-text-float (Nan bits) n e = tt
   no-text-float (Text start len) n e = let z : ◌≡◌ {A = ℕ} 0 1 = cc in absurd (omega arith)
 
-  pub is_none : get_or t p 0 ≡ 0 → (lit (literalOf t None) ≡ (exprAt 1 t p).value) × Plain None × TextPlace t p None
-  unfolding literalOf Plain TextPlace
+  pub is_none : get_or t p 0 ≡ 0 → (lit (literal_of t None) ≡ (expr_at 1 t p).value) × Plain None × TextPlace t p None
+  unfolding literal_of Plain TextPlace
   is_none e = (sym (ap (λ (x : Node Expr). x.value) (view-none 1 t p h.reads e)), tt, tt)
 
-  pub is_false : get_or t p 0 ≡ 1 → (lit (literalOf t (Truth false)) ≡ (exprAt 1 t p).value) × Plain (Truth false) × TextPlace t p (Truth false)
-  unfolding literalOf Plain TextPlace
+  pub is_false : get_or t p 0 ≡ 1 → (lit (literal_of t (Truth false)) ≡ (expr_at 1 t p).value) × Plain (Truth false) × TextPlace t p (Truth false)
+  unfolding literal_of Plain TextPlace
   is_false e = (sym (ap (λ (x : Node Expr). x.value) (view-false 1 t p h.reads e)), tt, tt)
 
-  pub is_true : get_or t p 0 ≡ 2 → (lit (literalOf t (Truth true)) ≡ (exprAt 1 t p).value) × Plain (Truth true) × TextPlace t p (Truth true)
-  unfolding literalOf Plain TextPlace
+  pub is_true : get_or t p 0 ≡ 2 → (lit (literal_of t (Truth true)) ≡ (expr_at 1 t p).value) × Plain (Truth true) × TextPlace t p (Truth true)
+  unfolding literal_of Plain TextPlace
   is_true e = (sym (ap (λ (x : Node Expr). x.value) (view-true 1 t p h.reads e)), tt, tt)
 
-  pub is-int : (l : Literal) (n : ℕ) → get_or t p 0 ≡ 3 → n ≡ eightAt t (p + 1) → ((t : List ℕ) → Stands t l (intL n)) → (lit (literalOf t l) ≡ (exprAt 1 t p).value) × Plain l × TextPlace t p l
-  unfolding intAt
-  is-int l n e f s = (ap lit ((s t).is ∙ ap intL f) ∙ sym (ap (λ (x : Node Expr). x.value) (view-int 1 t p h.reads e).is), (s t).plain, no-text-int l n (s t).is)
+  pub is-int : (l : Literal) (n : ℕ) → get_or t p 0 ≡ 3 → n ≡ eight_at t (p + 1) → ((t : List ℕ) → Stands t l (int_l n)) → (lit (literal_of t l) ≡ (expr_at 1 t p).value) × Plain l × TextPlace t p l
+  unfolding int_at
+  is-int l n e f s = (ap lit ((s t).is ∙ ap int_l f) ∙ sym (ap (λ (x : Node Expr). x.value) (view-int 1 t p h.reads e).is), (s t).plain, no-text-int l n (s t).is)
 
-  pub is-float : (l : Literal) (n : ℕ) → get_or t p 0 ≡ 4 → n ≡ eightAt t (p + 1) → ((t : List ℕ) → Stands t l (floatL n)) → (lit (literalOf t l) ≡ (exprAt 1 t p).value) × Plain l × TextPlace t p l
+  pub is-float : (l : Literal) (n : ℕ) → get_or t p 0 ≡ 4 → n ≡ eight_at t (p + 1) → ((t : List ℕ) → Stands t l (float_l n)) → (lit (literal_of t l) ≡ (expr_at 1 t p).value) × Plain l × TextPlace t p l
   unfolding float_at
-  is-float l n e f s = (ap lit ((s t).is ∙ ap floatL f) ∙ sym (ap (λ (x : Node Expr). x.value) (view-float 1 t p h.reads e).is), (s t).plain, no-text-float l n (s t).is)
+  is-float l n e f s = (ap lit ((s t).is ∙ ap float_l f) ∙ sym (ap (λ (x : Node Expr). x.value) (view-float 1 t p h.reads e).is), (s t).plain, no-text-float l n (s t).is)
 
   module _ (a : get_or t p 0 ≡ 0 → ⊥) (b : get_or t p 0 ≡ 1 → ⊥) (c : get_or t p 0 ≡ 2 → ⊥) (d : get_or t p 0 ≡ 3 → ⊥) (e : get_or t p 0 ≡ 4 → ⊥) where
     text-kind : get_or t p 0 ≡ 5
@@ -116,11 +116,11 @@ module _ (t : List ℕ) (p : ℕ) (h : LiteralAt t p) where
     pub text-counted : Counted t (p + 1)
     text-counted = (view-string 1 t p h.reads text-kind).parts.count
 
-    pub is-text : (n : ℕ) → n ≡ countAt t (p + 1) → (lit (literalOf t (Text (p + 3) n)) ≡ (exprAt 1 t p).value) × Plain (Text (p + 3) n) × TextPlace t p (Text (p + 3) n)
-    unfolding literalOf Plain TextPlace stringAt textAt
+    pub is-text : (n : ℕ) → n ≡ count_at t (p + 1) → (lit (literal_of t (Text (p + 3) n)) ≡ (expr_at 1 t p).value) × Plain (Text (p + 3) n) × TextPlace t p (Text (p + 3) n)
+    unfolding literal_of Plain TextPlace string_at text_at
     is-text n f = (
-      ap (λ (k : ℕ). lit (stringL (take k (drop (p + 3) t)))) f
-          ∙ ap (λ (k : ℕ). lit (stringL (take (countAt t (p + 1)) (drop k t)))) (let z : p + 3 ≡ p + 1 + 2 = omega arith in z)
+      ap (λ (k : ℕ). lit (string_l (take k (drop (p + 3) t)))) f
+          ∙ ap (λ (k : ℕ). lit (string_l (take (count_at t (p + 1)) (drop k t)))) (let z : p + 3 ≡ p + 1 + 2 = omega arith in z)
           ∙ sym (ap (λ (x : Node Expr). x.value) (view-string 1 t p h.reads text-kind).is),
       tt,
       (refl, f),
@@ -128,8 +128,8 @@ module _ (t : List ℕ) (p : ℕ) (h : LiteralAt t p) where
 
 -- ---- an expression whose kind is a literal's, with any number of levels left
 
-same_kind : (e f : Parser Expr) (k : ℕ) → k < 6 → get_or (exprKinds e) k unread ≡ get_or (exprKinds f) k unread
-unfolding exprKinds
+same_kind : (e f : Parser Expr) (k : ℕ) → k < 6 → get_or (expr_kinds e) k unread ≡ get_or (expr_kinds f) k unread
+unfolding expr_kinds
 same_kind e f zero h = refl
 same_kind e f (suc zero) h = refl
 same_kind e f (suc (suc zero)) h = refl
@@ -139,25 +139,25 @@ same_kind e f (suc (suc (suc (suc (suc zero))))) h = refl
 same_kind e f (suc (suc (suc (suc (suc (suc k)))))) h = absurd (omega arith)
 
 module _ (d : ℕ) (t : List ℕ) (p : ℕ) (r : ExprReads d t p) (h : get_or t p 0 < 6) where
-  one-level : parseExpr d (drop p t) ≡ parseExpr 1 (drop p t)
-  unfolding parseExpr
+  one-level : parse_expr d (drop p t) ≡ parse_expr 1 (drop p t)
+  unfolding parse_expr
   one-level =
       ap (λ (P : Parser Expr). P (drop p t)) (deep-E d (expr-deep d t p r))
-      ∙ ap (by_kind (exprKinds (parseExpr (d - 1)))) (at_byte t p (expr-inside d t p r)) ∙ kind-of (exprKinds (parseExpr (d - 1))) (get_or t p 0) (drop (p + 1) t)
-      ∙ ap (λ (P : Parser Expr). P (drop (p + 1) t)) (same_kind (parseExpr (d - 1)) (parseExpr 0) (get_or t p 0) h)
-      ∙ sym (ap (by_kind (exprKinds (parseExpr 0))) (at_byte t p (expr-inside d t p r)) ∙ kind-of (exprKinds (parseExpr 0)) (get_or t p 0) (drop (p + 1) t))
+      ∙ ap (by_kind (expr_kinds (parse_expr (d - 1)))) (at_byte t p (expr-inside d t p r)) ∙ kind-of (expr_kinds (parse_expr (d - 1))) (get_or t p 0) (drop (p + 1) t)
+      ∙ ap (λ (P : Parser Expr). P (drop (p + 1) t)) (same_kind (parse_expr (d - 1)) (parse_expr 0) (get_or t p 0) h)
+      ∙ sym (ap (by_kind (expr_kinds (parse_expr 0))) (at_byte t p (expr-inside d t p r)) ∙ kind-of (expr_kinds (parse_expr 0)) (get_or t p 0) (drop (p + 1) t))
 
-  pub view-literal : Seen (LiteralAt t p) (exprAt d t p) (exprAt 1 t p)
-  unfolding nodeAt
+  pub view-literal : Seen (LiteralAt t p) (expr_at d t p) (expr_at 1 t p)
+  unfolding node_at
   view-literal = record {
-    parts = record { reads = record { start = r.start; read = ap isGot (sym one-level) ∙ r.read }; kind = h };
-    is = ap (node_of (lit noneL) t) one-level;
+    parts = record { reads = record { start = r.start; read = ap is_got (sym one-level) ∙ r.read }; kind = h };
+    is = ap (node_of (lit none_l) t) one-level;
   }
 
 -- ---- the bits of a number's literal
 
-pub int-bits : (x : Literal) (n : ℕ) (t : List ℕ) → Stands t x (intL n) → bits_of x ≡ n
-unfolding literalOf bits_of
+pub int-bits : (x : Literal) (n : ℕ) (t : List ℕ) → Stands t x (int_l n) → bits_of x ≡ n
+unfolding literal_of bits_of
 int-bits None n t h = let k = h.is in let z : ◌≡◌ {A = ℕ} 0 1 = cc in absurd (omega arith)
 int-bits (Truth b) n t h = let k = h.is in let z : ◌≡◌ {A = ℕ} 0 1 = cc in absurd (omega arith)
 int-bits (Int z) n t h = let k = h.is in cc
@@ -165,8 +165,8 @@ int-bits (Float z) n t h = let k = h.is in let z : ◌≡◌ {A = ℕ} 0 1 = cc 
 int-bits (Nan b) n t h = let k = h.is in let z : ◌≡◌ {A = ℕ} 0 1 = cc in absurd (omega arith)
 int-bits (Text s l) n t h = let k = h.is in let z : ◌≡◌ {A = ℕ} 0 1 = cc in absurd (omega arith)
 
-pub float-bits : (x : Literal) (n : ℕ) (t : List ℕ) → Stands t x (floatL n) → bits_of x ≡ n
-unfolding literalOf bits_of
+pub float-bits : (x : Literal) (n : ℕ) (t : List ℕ) → Stands t x (float_l n) → bits_of x ≡ n
+unfolding literal_of bits_of
 float-bits None n t h = let k = h.is in let z : ◌≡◌ {A = ℕ} 0 1 = cc in absurd (omega arith)
 float-bits (Truth b) n t h = let k = h.is in let z : ◌≡◌ {A = ℕ} 0 1 = cc in absurd (omega arith)
 float-bits (Int z) n t h = let k = h.is in let z : ◌≡◌ {A = ℕ} 0 1 = cc in absurd (omega arith)

@@ -1,6 +1,6 @@
 -- Constants in a list of expressions: None, False and True, whose kind bytes are 0, 1 and 2.
 use Rattle.std.specs.Prelude.{ℕ, ◌+◌, ◌-◌, ◌<◌, ◌≤◌, ◌≡◌, List, length, get_or}
-use Rattle.parts.specs.Judge.{judgeMany}
+use Rattle.parts.specs.Judge.{judge_many}
 use Rattle.parts.specs.declared.Role.{Role}
 
 -- k bytes of t from p on, at most n, are constants
@@ -13,4 +13,4 @@ pub record Constants (t : List ℕ) (n p k : ℕ) : Type 0 where
 pub record Passes (r : Role) (d : ℕ) (t : List ℕ) (n p k : ℕ) : Type 0 where
   pub few : k ≤ n
   pub inside : p + k ≤ length t
-  pub same : (w : ℕ) → judgeMany r d t n p w ≡ judgeMany r d t (n - k) (p + k) w
+  pub same : (w : ℕ) → judge_many r d t n p w ≡ judge_many r d t (n - k) (p + k) w

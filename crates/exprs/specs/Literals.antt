@@ -5,20 +5,20 @@ use Rattle.std.specs.Float.Ieee.{to_bits, is_nan}
 use Rattle.std.specs.Int.{w64}
 use Rattle.std.proofs.Common.{of_z}
 use Rattle.definitions.specs.Tree
-use Rattle.definitions.specs.Tree.{noneL, boolL, intL, floatL, stringL}
-use Rattle.parts.specs.Places.{countAt}
+use Rattle.definitions.specs.Tree.{none_l, bool_l, int_l, float_l, string_l}
+use Rattle.parts.specs.Places.{count_at}
 use Rattle.exprs.specs.ExprAt.{ExprReads}
 use Rattle.exprs.specs.declared.literals.Literal.{Literal}
 use Rattle.exprs.specs.declared.literals.Literal.TheVariants.{None, Bool as Truth, Int, Float, Nan, Text}
 
 -- the paper's literal for each case: an integer's and a float's 64 bits, and of a string the bytes at its place in the tree t
-unfoldable pub literalOf : List ℕ → Literal → Tree.Literal
-literalOf t None = noneL
-literalOf t (Truth b) = boolL b
-literalOf t (Int z) = intL (of_z w64 z)
-literalOf t (Float x) = floatL (to_bits binary64 x)
-literalOf t (Nan bits) = floatL bits
-literalOf t (Text start len) = stringL (take len (drop start t))
+unfoldable pub literal_of : List ℕ → Literal → Tree.Literal
+literal_of t None = none_l
+literal_of t (Truth b) = bool_l b
+literal_of t (Int z) = int_l (of_z w64 z)
+literal_of t (Float x) = float_l (to_bits binary64 x)
+literal_of t (Nan bits) = float_l bits
+literal_of t (Text start len) = string_l (take len (drop start t))
 
 -- a float in the case `Float` is no NaN, and the bits in the case `Nan` are a NaN's: above those of infinity, but for the sign
 unfoldable pub Plain : Literal → Type 0
@@ -36,7 +36,7 @@ TextPlace t p (Truth b) = Unit {0}
 TextPlace t p (Int z) = Unit {0}
 TextPlace t p (Float x) = Unit {0}
 TextPlace t p (Nan bits) = Unit {0}
-TextPlace t p (Text start len) = (start ≡ p + 3) × (len ≡ countAt t (p + 1))
+TextPlace t p (Text start len) = (start ≡ p + 3) × (len ≡ count_at t (p + 1))
 
 -- the 64 bits of an integer or a float; 0 for the others
 unfoldable pub bits_of : Literal → ℕ
@@ -54,5 +54,5 @@ pub record LiteralAt (t : List ℕ) (p : ℕ) : Type 0 where
 
 -- the code's literal l is the paper's x, and plain
 pub record Stands (t : List ℕ) (l : Literal) (x : Tree.Literal) : Type 0 where
-  pub is : literalOf t l ≡ x
+  pub is : literal_of t l ≡ x
   pub plain : Plain l

@@ -1,9 +1,9 @@
 // The literals of a tree.
 ghost use Rattle.std.specs.Prelude.{◌≡◌, List, ℕ, ◌+◌, ◌≤◌, length};
-ghost use Rattle.definitions.specs.Tree.{intL, floatL, lit};
-ghost use Rattle.parts.specs.Places.{eightAt};
-ghost use Rattle.exprs.specs.ExprAt.{exprAt};
-ghost use Rattle.exprs.specs.Literals.{literalOf, Plain, TextPlace, bits_of, LiteralAt, Stands};
+ghost use Rattle.definitions.specs.Tree.{int_l, float_l, lit};
+ghost use Rattle.parts.specs.Places.{eight_at};
+ghost use Rattle.exprs.specs.ExprAt.{expr_at};
+ghost use Rattle.exprs.specs.Literals.{literal_of, Plain, TextPlace, bits_of, LiteralAt, Stands};
 
 use numerals::expr;
 use parts::numbers::u16_at;
@@ -22,7 +22,7 @@ pub enum Literal {
 // The big-endian number of eight bytes at `at`.
 fn eight_at(tree: &[u8], at: usize) -> u64
     requires { at + 8 ≤ length tree.now }
-    ensures { result ≡ eightAt tree.now at }
+    ensures { result ≡ eight_at tree.now at }
 {
     let a = u16_at(tree, at) as u64;
     let b = u16_at(tree, at + 2) as u64;
@@ -33,7 +33,7 @@ fn eight_at(tree: &[u8], at: usize) -> u64
 
 // The integer whose two's complement is `bits`.
 pub fn int_literal(bits: u64) -> Literal
-    ensures { (t : List ℕ) → Stands t result (intL bits) }
+    ensures { (t : List ℕ) → Stands t result (int_l bits) }
 {
     if bits < 0x8000_0000_0000_0000 {
         Literal::Int(bits as i64)
@@ -44,7 +44,7 @@ pub fn int_literal(bits: u64) -> Literal
 
 // The float of these bits.
 pub fn float_literal(bits: u64) -> Literal
-    ensures { (t : List ℕ) → Stands t result (floatL bits) }
+    ensures { (t : List ℕ) → Stands t result (float_l bits) }
 {
     if 0x7ff0_0000_0000_0000 < bits % 0x8000_0000_0000_0000 {
         Literal::Nan(bits)
@@ -56,7 +56,7 @@ pub fn float_literal(bits: u64) -> Literal
 // The literal whose kind byte is at `at`.
 pub fn literal_at(tree: &[u8], at: usize) -> Literal
     requires { LiteralAt tree.now at }
-    ensures { (lit (literalOf tree.now result) ≡ (exprAt 1 tree.now at).value) × Plain result × TextPlace tree.now at result }
+    ensures { (lit (literal_of tree.now result) ≡ (expr_at 1 tree.now at).value) × Plain result × TextPlace tree.now at result }
 {
     match tree[at] {
         expr::NONE => Literal::None,

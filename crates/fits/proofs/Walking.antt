@@ -9,9 +9,9 @@ use lib.ListN.{length, take, drop}
 use borrow.Author.Tests.{le-leb, lt-leb}
 use Rattle.definitions.specs.Bytes.{Name}
 use Rattle.definitions.specs.Tree.{Expr, Block}
-use Rattle.state.specs.State.{slotsFrom, slotNames, Slots}
-use Rattle.state.specs.Fits.{fitsExpr, fitsBlock}
-use Rattle.slots.specs.Slotted.{Collected, firstNames, Indexed, Frames}
+use Rattle.state.specs.State.{slots_from, slot_names, Slots}
+use Rattle.state.specs.Fits.{fits_expr, fits_block}
+use Rattle.slots.specs.Slotted.{Collected, first_names, Indexed, Frames}
 use Rattle.definitions.specs.Slots.{Frame}
 use Rattle.slots.specs.declared.Locals.{Locals}
 use Rattle.slots.specs.declared.Locals.TheVariants.{Count, TooMany}
@@ -19,7 +19,7 @@ use Rattle.slots.specs.declared.collect.Framed.{Framed}
 use Rattle.slots.specs.declared.collect.Framed.TheVariants as Framed
 use Rattle.slots.proofs.Adding.{first-length, part-before, front-names, front-slots}
 use Rattle.slots.proofs.Params.{collected-count, collected-over}
-use Rattle.fits.specs.Walk.{Short, Walks, lambdaFits, defFits}
+use Rattle.fits.specs.Walk.{Short, Walks, lambda_fits, def_fits}
 use Rattle.fits.specs.declared.Fit.{Fit}
 use Rattle.fits.specs.declared.Fit.TheVariants.{Next, Over}
 
@@ -89,57 +89,57 @@ left-start R E B n p r = record { reads = r; end = refl; ok = refl }
 -- ---- the slots of a function inside
 
 -- the first n slots have the names
-module _ (t ps : List ℕ) (inner : List Name) (n : ℕ) (few : n ≤ 255) (names : firstNames t n ps ≡ inner) (indexed : Indexed t n ps) (g : slotsFrom + 255 ≤ length ps) where
-  inner_room : slotsFrom + n ≤ length ps
+module _ (t ps : List ℕ) (inner : List Name) (n : ℕ) (few : n ≤ 255) (names : first_names t n ps ≡ inner) (indexed : Indexed t n ps) (g : slots_from + 255 ≤ length ps) where
+  inner_room : slots_from + n ≤ length ps
   inner_room = omega arith
 
-  inner-names : slotNames t (take (slotsFrom + n - 0) (drop 0 ps)) ≡ inner
-  inner-names = ap (slotNames t) (part-before (slotsFrom + n) ps) ∙ front-names t ps n inner_room ∙ names
+  inner-names : slot_names t (take (slots_from + n - 0) (drop 0 ps)) ≡ inner
+  inner-names = ap (slot_names t) (part-before (slots_from + n) ps) ∙ front-names t ps n inner_room ∙ names
 
-  inner-slots : length t ≤ 32768 → Short t (take (slotsFrom + n - 0) (drop 0 ps))
-  inner-slots k = record { tree = k; slotted = subst (Slots t) (sym (part-before (slotsFrom + n) ps)) (front-slots t ps n inner_room few indexed) }
+  inner-slots : length t ≤ 32768 → Short t (take (slots_from + n - 0) (drop 0 ps))
+  inner-slots k = record { tree = k; slotted = subst (Slots t) (sym (part-before (slots_from + n) ps)) (front-slots t ps n inner_room few indexed) }
 
 -- of a lambda
 module _ (r : Locals) (t ps : List ℕ) (inner : List Name) (c : Collected r t ps inner) where
-  pub lambda-over : (e : ℕ) (b : Expr) → r ≡ TooMany → Walks Over e (lambdaFits inner b)
-  unfolding lambdaFits
-  lambda-over e b h = over-walks e _ (ap (λ (x : Bool). x && fitsExpr inner b) (lt-leb (length inner) 255 (collected-over r t ps inner c h)))
+  pub lambda-over : (e : ℕ) (b : Expr) → r ≡ TooMany → Walks Over e (lambda_fits inner b)
+  unfolding lambda_fits
+  lambda-over e b h = over-walks e _ (ap (λ (x : Bool). x && fits_expr inner b) (lt-leb (length inner) 255 (collected-over r t ps inner c h)))
 
   module _ (n : ℕ) (h : r ≡ Count n) where
     pub slots-few : n ≤ 255
     slots-few = (collected-count r t ps inner n c h).0
 
-    module _ (g : slotsFrom + 255 ≤ length ps) where
+    module _ (g : slots_from + 255 ≤ length ps) where
       few-names : leb (length inner) 255 ≡ true
       few-names =
           let a = slots-few in
           le-leb (length inner) 255 (omega (arith, ap length (collected-count r t ps inner n c h).1, first-length t n ps (inner_room t ps inner n a (collected-count r t ps inner n c h).1 (collected-count r t ps inner n c h).2 g)))
 
-      pub inner-short : length t ≤ 32768 → Short t (take (slotsFrom + n - 0) (drop 0 ps))
+      pub inner-short : length t ≤ 32768 → Short t (take (slots_from + n - 0) (drop 0 ps))
       inner-short k = inner-slots t ps inner n slots-few (collected-count r t ps inner n c h).1 (collected-count r t ps inner n c h).2 g k
 
-      pub lambda-inside : (o : Fit) (e e' : ℕ) (b b' : Expr) → e ≡ e' → b ≡ b' → Walks o e (fitsExpr (slotNames t (take (slotsFrom + n - 0) (drop 0 ps))) b) → Walks o e' (lambdaFits inner b')
-      unfolding lambdaFits
+      pub lambda-inside : (o : Fit) (e e' : ℕ) (b b' : Expr) → e ≡ e' → b ≡ b' → Walks o e (fits_expr (slot_names t (take (slots_from + n - 0) (drop 0 ps))) b) → Walks o e' (lambda_fits inner b')
+      unfolding lambda_fits
       lambda-inside o e e' b b' i j w =
-          walks-as o e e' _ _ w i (ap₂ fitsExpr (inner-names t ps inner n slots-few (collected-count r t ps inner n c h).1 (collected-count r t ps inner n c h).2 g) j ∙ sym (ap (λ (x : Bool). x && fitsExpr inner b') few-names))
+          walks-as o e e' _ _ w i (ap₂ fits_expr (inner-names t ps inner n slots-few (collected-count r t ps inner n c h).1 (collected-count r t ps inner n c h).2 g) j ∙ sym (ap (λ (x : Bool). x && fits_expr inner b') few-names))
 
 -- of a def or method
 module _ {r : Framed} {t ps : List ℕ} {inner : Frame} (c : Frames r t ps inner) where
-  pub def-over : (e : ℕ) (b : Block) → r ≡ Framed.TooMany → Walks Over e (defFits inner b)
-  unfolding defFits
-  def-over e b h = over-walks e _ (ap (λ (x : Bool). x && fitsBlock inner.names b) (lt-leb inner.locals 255 (c.over h)))
+  pub def-over : (e : ℕ) (b : Block) → r ≡ Framed.TooMany → Walks Over e (def_fits inner b)
+  unfolding def_fits
+  def-over e b h = over-walks e _ (ap (λ (x : Bool). x && fits_block inner.names b) (lt-leb inner.locals 255 (c.over h)))
 
   module _ {n m : ℕ} (h : r ≡ Framed.Slots n m) where
     pub def-few : n ≤ 255
     def-few = let F = c.framing _ _ h in omega (arith, F.named, F.few)
 
-    module _ (g : slotsFrom + 255 ≤ length ps) where
-      pub def-short : length t ≤ 32768 → Short t (take (slotsFrom + n - 0) (drop 0 ps))
+    module _ (g : slots_from + 255 ≤ length ps) where
+      pub def-short : length t ≤ 32768 → Short t (take (slots_from + n - 0) (drop 0 ps))
       def-short k = let F = c.framing _ _ h in inner-slots t ps inner.names n def-few F.names F.indexed g k
 
-      pub def-inside : {e e' : ℕ} {b b' : Block} (o : Fit) → e ≡ e' → b ≡ b' → Walks o e (fitsBlock (slotNames t (take (slotsFrom + n - 0) (drop 0 ps))) b) → Walks o e' (defFits inner b')
-      unfolding defFits
+      pub def-inside : {e e' : ℕ} {b b' : Block} (o : Fit) → e ≡ e' → b ≡ b' → Walks o e (fits_block (slot_names t (take (slots_from + n - 0) (drop 0 ps))) b) → Walks o e' (def_fits inner b')
+      unfolding def_fits
       def-inside {e} {e'} {b} {b'} o i j w =
           let F = c.framing _ _ h in
-          walks-as o e e' _ _ w i (ap₂ fitsBlock (inner-names t ps inner.names n def-few F.names F.indexed g) j
-          ∙ sym (ap (λ (x : Bool). x && fitsBlock inner.names b') (le-leb inner.locals 255 (omega (arith, F.locals, F.few)))))
+          walks-as o e e' _ _ w i (ap₂ fits_block (inner-names t ps inner.names n def-few F.names F.indexed g) j
+          ∙ sym (ap (λ (x : Bool). x && fits_block inner.names b') (le-leb inner.locals 255 (omega (arith, F.locals, F.few)))))

@@ -4,7 +4,7 @@ use Rattle.definitions.specs.Bytes.{Name}
 use Rattle.definitions.specs.Tree.{Expr, Block}
 use Rattle.definitions.specs.Slots.{Frame}
 use Rattle.state.specs.State.{Slots}
-use Rattle.state.specs.Fits.{fitsExpr, fitsBlock}
+use Rattle.state.specs.Fits.{fits_expr, fits_block}
 use Rattle.fits.specs.declared.Fit.{Fit}
 use Rattle.fits.specs.declared.Fit.TheVariants.{Next, Over}
 
@@ -19,8 +19,8 @@ Walks (Next e) end ok = (e ≡ end) × (ok ≡ true)
 Walks Over end ok = ok ≡ false
 
 -- a lambda and its body, a def and its block, by the slots of the function
-unfoldable pub lambdaFits : List Name → Expr → Bool
-lambdaFits inner b = leb (length inner) 255 && fitsExpr inner b
+unfoldable pub lambda_fits : List Name → Expr → Bool
+lambda_fits inner b = leb (length inner) 255 && fits_expr inner b
 
-unfoldable pub defFits : Frame → Block → Bool
-defFits inner b = leb inner.locals 255 && fitsBlock inner.names b
+unfoldable pub def_fits : Frame → Block → Bool
+def_fits inner b = leb inner.locals 255 && fits_block inner.names b

@@ -1,11 +1,11 @@
 // Question 14 of expressions: the slots of their lambdas.
 ghost use Rattle.std.specs.Prelude.{◌&&◌, ◌++◌, ◌+◌, ◌*◌, ◌<◌};
 ghost use Rattle.definitions.specs.Slots.{captures};
-ghost use Rattle.state.specs.State.{slotNames};
-ghost use Rattle.state.specs.Fits.{fitsExpr, fitsExprs, fitsTarget};
-ghost use Rattle.parts.specs.Places.{nameEnd, params_at};
-ghost use Rattle.exprs.specs.ExprAt.{exprAt, exprsAt, ExprReads, ExprsRead, TwoAt, secondAt, CallAt, ListAt, listAt, DictAt, pairsAt, AttributeAt, LambdaAt};
-ghost use Rattle.fits.specs.Walk.{Short, Walks, lambdaFits};
+ghost use Rattle.state.specs.State.{slot_names};
+ghost use Rattle.state.specs.Fits.{fits_expr, fits_exprs, fits_target};
+ghost use Rattle.parts.specs.Places.{name_end, params_at};
+ghost use Rattle.exprs.specs.ExprAt.{expr_at, exprs_at, ExprReads, ExprsRead, TwoAt, second_at, CallAt, ListAt, list_at, DictAt, pairs_at, AttributeAt, LambdaAt};
+ghost use Rattle.fits.specs.Walk.{Short, Walks, lambda_fits};
 
 use crate::Fit;
 use numerals::expr;
@@ -21,7 +21,7 @@ use slots::skip::{skip_expr, skip_params};
 #[cycle(fits_attribute_fits_call_fits_dict_fits_expr_fits_lambda_fits_list_fits_many_fits_two)]
 pub(crate) fn fits_expr(tree: &[u8], at: usize, depth: u32, slots: &[u32]) -> Fit
     requires { Short tree.now slots.now × ExprReads depth tree.now at }
-    ensures { Walks result (exprAt depth tree.now at).end (fitsExpr (slotNames tree.now slots.now) (exprAt depth tree.now at).value) }
+    ensures { Walks result (expr_at depth tree.now at).end (fits_expr (slot_names tree.now slots.now) (expr_at depth tree.now at).value) }
 {
     let kind = tree[at];
     let a = at + 1;
@@ -45,8 +45,8 @@ pub(crate) fn fits_expr(tree: &[u8], at: usize, depth: u32, slots: &[u32]) -> Fi
 #[cycle(fits_attribute_fits_call_fits_dict_fits_expr_fits_lambda_fits_list_fits_many_fits_two)]
 fn fits_two(tree: &[u8], at: usize, depth: u32, slots: &[u32]) -> Fit
     requires { Short tree.now slots.now × TwoAt depth tree.now at }
-    ensures { Walks result (secondAt depth tree.now at).end
-        (fitsExpr (slotNames tree.now slots.now) (exprAt depth tree.now at).value && fitsExpr (slotNames tree.now slots.now) (secondAt depth tree.now at).value) }
+    ensures { Walks result (second_at depth tree.now at).end
+        (fits_expr (slot_names tree.now slots.now) (expr_at depth tree.now at).value && fits_expr (slot_names tree.now slots.now) (second_at depth tree.now at).value) }
 {
     let left = fits_expr(tree, at, depth, slots);
     let Fit::Next(p) = left else {
@@ -59,8 +59,8 @@ fn fits_two(tree: &[u8], at: usize, depth: u32, slots: &[u32]) -> Fit
 #[cycle(fits_attribute_fits_call_fits_dict_fits_expr_fits_lambda_fits_list_fits_many_fits_two)]
 fn fits_call(tree: &[u8], at: usize, depth: u32, slots: &[u32]) -> Fit
     requires { Short tree.now slots.now × CallAt depth tree.now at }
-    ensures { Walks result (listAt depth tree.now (exprAt depth tree.now at).end).end
-        (fitsExpr (slotNames tree.now slots.now) (exprAt depth tree.now at).value && fitsExprs (slotNames tree.now slots.now) (listAt depth tree.now (exprAt depth tree.now at).end).value) }
+    ensures { Walks result (list_at depth tree.now (expr_at depth tree.now at).end).end
+        (fits_expr (slot_names tree.now slots.now) (expr_at depth tree.now at).value && fits_exprs (slot_names tree.now slots.now) (list_at depth tree.now (expr_at depth tree.now at).end).value) }
 {
     let callee = fits_expr(tree, at, depth, slots);
     let Fit::Next(p) = callee else {
@@ -73,7 +73,7 @@ fn fits_call(tree: &[u8], at: usize, depth: u32, slots: &[u32]) -> Fit
 #[cycle(fits_attribute_fits_call_fits_dict_fits_expr_fits_lambda_fits_list_fits_many_fits_two)]
 fn fits_attribute(tree: &[u8], at: usize, depth: u32, slots: &[u32]) -> Fit
     requires { Short tree.now slots.now × AttributeAt depth tree.now at }
-    ensures { Walks result (nameEnd tree.now (exprAt depth tree.now at).end) (fitsExpr (slotNames tree.now slots.now) (exprAt depth tree.now at).value) }
+    ensures { Walks result (name_end tree.now (expr_at depth tree.now at).end) (fits_expr (slot_names tree.now slots.now) (expr_at depth tree.now at).value) }
 {
     let object = fits_expr(tree, at, depth, slots);
     let Fit::Next(p) = object else {
@@ -86,7 +86,7 @@ fn fits_attribute(tree: &[u8], at: usize, depth: u32, slots: &[u32]) -> Fit
 #[cycle(fits_attribute_fits_call_fits_dict_fits_expr_fits_lambda_fits_list_fits_many_fits_two)]
 fn fits_list(tree: &[u8], at: usize, depth: u32, slots: &[u32]) -> Fit
     requires { Short tree.now slots.now × ListAt depth tree.now at }
-    ensures { Walks result (listAt depth tree.now at).end (fitsExprs (slotNames tree.now slots.now) (listAt depth tree.now at).value) }
+    ensures { Walks result (list_at depth tree.now at).end (fits_exprs (slot_names tree.now slots.now) (list_at depth tree.now at).value) }
 {
     let count = u16_at(tree, at);
     fits_many(tree, at + 2, depth, count, slots)
@@ -96,7 +96,7 @@ fn fits_list(tree: &[u8], at: usize, depth: u32, slots: &[u32]) -> Fit
 #[cycle(fits_attribute_fits_call_fits_dict_fits_expr_fits_lambda_fits_list_fits_many_fits_two)]
 fn fits_dict(tree: &[u8], at: usize, depth: u32, slots: &[u32]) -> Fit
     requires { Short tree.now slots.now × DictAt depth tree.now at }
-    ensures { Walks result (pairsAt depth tree.now at).end (fitsExprs (slotNames tree.now slots.now) (pairsAt depth tree.now at).value) }
+    ensures { Walks result (pairs_at depth tree.now at).end (fits_exprs (slot_names tree.now slots.now) (pairs_at depth tree.now at).value) }
 {
     let count = u16_at(tree, at);
     fits_many(tree, at + 2, depth, 2 * count, slots)
@@ -106,7 +106,7 @@ fn fits_dict(tree: &[u8], at: usize, depth: u32, slots: &[u32]) -> Fit
 #[cycle(fits_attribute_fits_call_fits_dict_fits_expr_fits_lambda_fits_list_fits_many_fits_two)]
 fn fits_many(tree: &[u8], at: usize, depth: u32, count: u32, slots: &[u32]) -> Fit
     requires { Short tree.now slots.now × ExprsRead depth count tree.now at }
-    ensures { Walks result (exprsAt depth count tree.now at).end (fitsExprs (slotNames tree.now slots.now) (exprsAt depth count tree.now at).value) }
+    ensures { Walks result (exprs_at depth count tree.now at).end (fits_exprs (slot_names tree.now slots.now) (exprs_at depth count tree.now at).value) }
 {
     let mut p = at;
     let mut left = count;
@@ -129,8 +129,8 @@ fn fits_many(tree: &[u8], at: usize, depth: u32, count: u32, slots: &[u32]) -> F
 #[cycle(fits_attribute_fits_call_fits_dict_fits_expr_fits_lambda_fits_list_fits_many_fits_two)]
 fn fits_lambda(tree: &[u8], at: usize, depth: u32, slots: &[u32]) -> Fit
     requires { Short tree.now slots.now × LambdaAt depth tree.now at }
-    ensures { Walks result (exprAt depth tree.now (params_at tree.now at).end).end
-        (lambdaFits ((params_at tree.now at).value ++ captures (slotNames tree.now slots.now) (params_at tree.now at).value (exprAt depth tree.now (params_at tree.now at).end).value) (exprAt depth tree.now (params_at tree.now at).end).value) }
+    ensures { Walks result (expr_at depth tree.now (params_at tree.now at).end).end
+        (lambda_fits ((params_at tree.now at).value ++ captures (slot_names tree.now slots.now) (params_at tree.now at).value (expr_at depth tree.now (params_at tree.now at).end).value) (expr_at depth tree.now (params_at tree.now at).end).value) }
 {
     let mut inner = [0u32; SLOTS_ROOM];
     let p = skip_params(tree, at);
@@ -145,7 +145,7 @@ fn fits_lambda(tree: &[u8], at: usize, depth: u32, slots: &[u32]) -> Fit
 // An assignment's target: the expressions of an attribute or an index; a tuple's names are none.
 pub(crate) fn fits_target(tree: &[u8], at: usize, depth: u32, slots: &[u32]) -> Fit
     requires { Short tree.now slots.now × ExprReads depth tree.now at }
-    ensures { Walks result (exprAt depth tree.now at).end (fitsTarget (slotNames tree.now slots.now) (exprAt depth tree.now at).value) }
+    ensures { Walks result (expr_at depth tree.now at).end (fits_target (slot_names tree.now slots.now) (expr_at depth tree.now at).value) }
 {
     let kind = tree[at];
     match kind {

@@ -1,12 +1,12 @@
 // Question 14 of statements and trees: the slots of their defs, methods and lambdas.
 ghost use Rattle.std.specs.Prelude.{◌≡◌, ◌&&◌, [], ◌+◌, ◌-◌, ◌≤◌, ◌<◌, length, get_or};
-ghost use Rattle.definitions.specs.Slots.{withLoops};
-ghost use Rattle.state.specs.State.{slotNames};
-ghost use Rattle.state.specs.Fits.{fitsExpr, fitsTarget, fitsStmt, fitsBlock, fitsBranches, fitsMethods};
-ghost use Rattle.parts.specs.Places.{nameEnd, params_at};
-ghost use Rattle.exprs.specs.ExprAt.{exprAt, TwoAt, secondAt};
-ghost use Rattle.tree.specs.StmtAt.{stmtAt, block_at, branchesAt, methodsAt, StmtReads, BlockReads, BranchesRead, MethodsRead, BranchAt, body_at, IfAt, elifsAt, ForAt, DefAt, defBlockAt, classMethodsAt, TreeAt};
-ghost use Rattle.fits.specs.Walk.{Short, Walks, defFits};
+ghost use Rattle.definitions.specs.Slots.{with_loops};
+ghost use Rattle.state.specs.State.{slot_names};
+ghost use Rattle.state.specs.Fits.{fits_expr, fits_target, fits_stmt, fits_block, fits_branches, fits_methods};
+ghost use Rattle.parts.specs.Places.{name_end, params_at};
+ghost use Rattle.exprs.specs.ExprAt.{expr_at, TwoAt, second_at};
+ghost use Rattle.tree.specs.StmtAt.{stmt_at, block_at, branches_at, methods_at, StmtReads, BlockReads, BranchesRead, MethodsRead, BranchAt, body_at, IfAt, elifs_at, ForAt, DefAt, def_block_at, class_methods_at, TreeAt};
+ghost use Rattle.fits.specs.Walk.{Short, Walks, def_fits};
 
 use crate::Fit;
 use crate::expressions::{fits_expr, fits_target};
@@ -21,8 +21,8 @@ use slots::skip::{skip_params, skip_stmt};
 // A target and a value.
 fn fits_assign(tree: &[u8], at: usize, depth: u32, slots: &[u32]) -> Fit
     requires { Short tree.now slots.now × TwoAt depth tree.now at }
-    ensures { Walks result (secondAt depth tree.now at).end
-        (fitsTarget (slotNames tree.now slots.now) (exprAt depth tree.now at).value && fitsExpr (slotNames tree.now slots.now) (secondAt depth tree.now at).value) }
+    ensures { Walks result (second_at depth tree.now at).end
+        (fits_target (slot_names tree.now slots.now) (expr_at depth tree.now at).value && fits_expr (slot_names tree.now slots.now) (second_at depth tree.now at).value) }
 {
     let target = fits_target(tree, at, depth, slots);
     let Fit::Next(p) = target else {
@@ -35,7 +35,7 @@ fn fits_assign(tree: &[u8], at: usize, depth: u32, slots: &[u32]) -> Fit
 #[cycle(fits_block_fits_branch_fits_class_fits_def_fits_elifs_fits_else_fits_for_fits_if_fits_methods_fits_stmt)]
 fn fits_stmt(tree: &[u8], at: usize, depth: u32, slots: &[u32]) -> Fit
     requires { Short tree.now slots.now × StmtReads depth tree.now at }
-    ensures { Walks result (stmtAt depth tree.now at).end (fitsStmt (slotNames tree.now slots.now) (stmtAt depth tree.now at).value) }
+    ensures { Walks result (stmt_at depth tree.now at).end (fits_stmt (slot_names tree.now slots.now) (stmt_at depth tree.now at).value) }
 {
     let kind = tree[at];
     let a = at + 1;
@@ -56,7 +56,7 @@ fn fits_stmt(tree: &[u8], at: usize, depth: u32, slots: &[u32]) -> Fit
 #[cycle(fits_block_fits_branch_fits_class_fits_def_fits_elifs_fits_else_fits_for_fits_if_fits_methods_fits_stmt)]
 fn fits_block(tree: &[u8], at: usize, depth: u32, slots: &[u32]) -> Fit
     requires { Short tree.now slots.now × BlockReads depth tree.now at }
-    ensures { Walks result (block_at depth tree.now at).end (fitsBlock (slotNames tree.now slots.now) (block_at depth tree.now at).value) }
+    ensures { Walks result (block_at depth tree.now at).end (fits_block (slot_names tree.now slots.now) (block_at depth tree.now at).value) }
 {
     let mut left = u16_at(tree, at);
     let mut p = at + 2;
@@ -76,7 +76,7 @@ fn fits_block(tree: &[u8], at: usize, depth: u32, slots: &[u32]) -> Fit
 fn fits_branch(tree: &[u8], at: usize, depth: u32, slots: &[u32]) -> Fit
     requires { Short tree.now slots.now × BranchAt depth tree.now at }
     ensures { Walks result (body_at depth tree.now at).end
-        (fitsExpr (slotNames tree.now slots.now) (exprAt depth tree.now at).value && fitsBlock (slotNames tree.now slots.now) (body_at depth tree.now at).value) }
+        (fits_expr (slot_names tree.now slots.now) (expr_at depth tree.now at).value && fits_block (slot_names tree.now slots.now) (body_at depth tree.now at).value) }
 {
     let condition = fits_expr(tree, at, depth, slots);
     let Fit::Next(p) = condition else {
@@ -89,9 +89,9 @@ fn fits_branch(tree: &[u8], at: usize, depth: u32, slots: &[u32]) -> Fit
 #[cycle(fits_block_fits_branch_fits_class_fits_def_fits_elifs_fits_else_fits_for_fits_if_fits_methods_fits_stmt)]
 fn fits_if(tree: &[u8], at: usize, depth: u32, slots: &[u32]) -> Fit
     requires { Short tree.now slots.now × IfAt depth tree.now at }
-    ensures { Walks result (elifsAt depth tree.now at).end
-        (fitsExpr (slotNames tree.now slots.now) (exprAt depth tree.now at).value && fitsBlock (slotNames tree.now slots.now) (body_at depth tree.now at).value
-        && fitsBranches (slotNames tree.now slots.now) (elifsAt depth tree.now at).value) }
+    ensures { Walks result (elifs_at depth tree.now at).end
+        (fits_expr (slot_names tree.now slots.now) (expr_at depth tree.now at).value && fits_block (slot_names tree.now slots.now) (body_at depth tree.now at).value
+        && fits_branches (slot_names tree.now slots.now) (elifs_at depth tree.now at).value) }
 {
     let first = fits_branch(tree, at, depth, slots);
     let Fit::Next(p) = first else {
@@ -105,7 +105,7 @@ fn fits_if(tree: &[u8], at: usize, depth: u32, slots: &[u32]) -> Fit
 #[cycle(fits_block_fits_branch_fits_class_fits_def_fits_elifs_fits_else_fits_for_fits_if_fits_methods_fits_stmt)]
 fn fits_elifs(tree: &[u8], at: usize, depth: u32, count: u32, slots: &[u32]) -> Fit
     requires { Short tree.now slots.now × BranchesRead depth count tree.now at }
-    ensures { Walks result (branchesAt depth count tree.now at).end (fitsBranches (slotNames tree.now slots.now) (branchesAt depth count tree.now at).value) }
+    ensures { Walks result (branches_at depth count tree.now at).end (fits_branches (slot_names tree.now slots.now) (branches_at depth count tree.now at).value) }
 {
     let mut p = at;
     let mut left = count;
@@ -124,7 +124,7 @@ fn fits_elifs(tree: &[u8], at: usize, depth: u32, count: u32, slots: &[u32]) -> 
 #[cycle(fits_block_fits_branch_fits_class_fits_def_fits_elifs_fits_else_fits_for_fits_if_fits_methods_fits_stmt)]
 fn fits_else(tree: &[u8], at: usize, depth: u32, slots: &[u32]) -> Fit
     requires { Short tree.now slots.now × BranchesRead depth 0 tree.now at }
-    ensures { Walks result (branchesAt depth 0 tree.now at).end (fitsBranches (slotNames tree.now slots.now) (branchesAt depth 0 tree.now at).value) }
+    ensures { Walks result (branches_at depth 0 tree.now at).end (fits_branches (slot_names tree.now slots.now) (branches_at depth 0 tree.now at).value) }
 {
     if tree[at] == 0 {
         return Fit::Next(at + 1);
@@ -136,8 +136,8 @@ fn fits_else(tree: &[u8], at: usize, depth: u32, slots: &[u32]) -> Fit
 #[cycle(fits_block_fits_branch_fits_class_fits_def_fits_elifs_fits_else_fits_for_fits_if_fits_methods_fits_stmt)]
 fn fits_for(tree: &[u8], at: usize, depth: u32, slots: &[u32]) -> Fit
     requires { Short tree.now slots.now × ForAt depth tree.now at }
-    ensures { Walks result (body_at depth tree.now (nameEnd tree.now at)).end
-        (fitsExpr (slotNames tree.now slots.now) (exprAt depth tree.now (nameEnd tree.now at)).value && fitsBlock (slotNames tree.now slots.now) (body_at depth tree.now (nameEnd tree.now at)).value) }
+    ensures { Walks result (body_at depth tree.now (name_end tree.now at)).end
+        (fits_expr (slot_names tree.now slots.now) (expr_at depth tree.now (name_end tree.now at)).value && fits_block (slot_names tree.now slots.now) (body_at depth tree.now (name_end tree.now at)).value) }
 {
     let p = name_end(tree, at);
     fits_branch(tree, p, depth, slots)
@@ -147,7 +147,7 @@ fn fits_for(tree: &[u8], at: usize, depth: u32, slots: &[u32]) -> Fit
 #[cycle(fits_block_fits_branch_fits_class_fits_def_fits_elifs_fits_else_fits_for_fits_if_fits_methods_fits_stmt)]
 fn fits_def(tree: &[u8], at: usize, depth: u32) -> Fit
     requires { (length tree.now ≤ 32768) × DefAt depth tree.now at }
-    ensures { Walks result (defBlockAt depth tree.now at).end (defFits (withLoops (params_at tree.now (nameEnd tree.now at)).value (defBlockAt depth tree.now at).value) (defBlockAt depth tree.now at).value) }
+    ensures { Walks result (def_block_at depth tree.now at).end (def_fits (with_loops (params_at tree.now (name_end tree.now at)).value (def_block_at depth tree.now at).value) (def_block_at depth tree.now at).value) }
 {
     let mut inner = [0u32; SLOTS_ROOM];
     let params = name_end(tree, at);
@@ -164,7 +164,7 @@ fn fits_def(tree: &[u8], at: usize, depth: u32) -> Fit
 #[cycle(fits_block_fits_branch_fits_class_fits_def_fits_elifs_fits_else_fits_for_fits_if_fits_methods_fits_stmt)]
 fn fits_methods(tree: &[u8], at: usize, depth: u32, count: u32) -> Fit
     requires { (length tree.now ≤ 32768) × MethodsRead depth count tree.now at }
-    ensures { Walks result (methodsAt depth count tree.now at).end (fitsMethods (methodsAt depth count tree.now at).value) }
+    ensures { Walks result (methods_at depth count tree.now at).end (fits_methods (methods_at depth count tree.now at).value) }
 {
     let mut p = at;
     let mut left = count;
@@ -183,7 +183,7 @@ fn fits_methods(tree: &[u8], at: usize, depth: u32, count: u32) -> Fit
 #[cycle(fits_block_fits_branch_fits_class_fits_def_fits_elifs_fits_else_fits_for_fits_if_fits_methods_fits_stmt)]
 fn fits_class(tree: &[u8], at: usize, depth: u32) -> Fit
     requires { (length tree.now ≤ 32768) × StmtReads depth tree.now at × (get_or tree.now at 0 ≡ 10) }
-    ensures { Walks result (stmtAt depth tree.now at).end (fitsMethods (classMethodsAt (depth - 1) tree.now (at + 1)).value) }
+    ensures { Walks result (stmt_at depth tree.now at).end (fits_methods (class_methods_at (depth - 1) tree.now (at + 1)).value) }
 {
     let p = name_end(tree, at + 1);
     let count = u16_at(tree, p);
@@ -197,7 +197,7 @@ fn fits_class(tree: &[u8], at: usize, depth: u32) -> Fit
 // Question 14 of an accepted tree.
 pub fn check_slots(tree: &[u8]) -> bool
     requires { TreeAt tree.now }
-    ensures { result ≡ fitsBlock [] (block_at 32 tree.now 5).value }
+    ensures { result ≡ fits_block [] (block_at 32 tree.now 5).value }
 {
     let none = [0u32; SLOTS_FROM];
     let whole = fits_block(tree, HEAD, DEPTH, &none);

@@ -8,47 +8,47 @@ use lib.ListN.{length, take, drop}
 use lib.Seq.{take-append_seam}
 use lib.Dec.{leb}
 use borrow.Author.Tests.{leb-true}
-use Rattle.definitions.specs.Bytes.{Answer, refused, accepted, whenAccepted}
-use Rattle.definitions.specs.Module.{Limits, lowerBytes}
-use Rattle.definitions.specs.Calls.{written, outputAfter, countAnswer, areasFit, fitsRoom, lowerAnswer, Lowering, lowerCall}
+use Rattle.definitions.specs.Bytes.{Answer, refused, accepted, when_accepted}
+use Rattle.definitions.specs.Module.{Limits, lower_bytes}
+use Rattle.definitions.specs.Calls.{written, output_after, count_answer, areas_fit, fits_room, lower_answer, Lowering, lower_call}
 use Rattle.definitions.proofs.Lowered.{when-accepted}
 use Rattle.lowering.specs.Lowered.{said, Lowers}
 use Rattle.lowering.specs.declared.Lowered.{Lowered}
 use Rattle.lowering.specs.declared.Lowered.TheVariants.{Wrote, Refused}
-use Rattle.follows.specs.Thereafter.{Thereafter, thereafter, leftAfter}
+use Rattle.follows.specs.Thereafter.{Thereafter, thereafter, left_after}
 
 -- ---- the module that was written
 
 -- the tree is lowered to a module, and that is the first n bytes of the output
 pub record Made (l : Limits) (tree output output' : List ℕ) (n : ℕ) : Type 0 where
   pub bytes : List ℕ
-  pub lowers : lowerBytes l tree ≡ accepted bytes
+  pub lowers : lower_bytes l tree ≡ accepted bytes
   pub front : take n output' ≡ bytes
   pub fits : n ≤ length output
 
-fits-room : (room : ℕ) (x m : List ℕ) → fitsRoom room x ≡ accepted m → (x ≡ m) × (length x ≤ room)
-unfolding fitsRoom
+fits-room : (room : ℕ) (x m : List ℕ) → fits_room room x ≡ accepted m → (x ≡ m) × (length x ≤ room)
+unfolding fits_room
 fits-room room x m = go (leb (length x) room) refl
   where
     go : (b : Bool) → leb (length x) room ≡ b → (elim b as (λ z. Answer (List ℕ)) [ true ↦ accepted x | false ↦ refused 16 ]) ≡ accepted m → (x ≡ m) × (length x ≤ room)
     go true h e = (cc, leb-true _ _ h)
     go false h e = let z : ◌≡◌ {A = ℕ} 0 1 = cc in absurd (omega arith)
 
-answer-gives : (l : Limits) (a b room : ℕ) (tree m : List ℕ) → lowerAnswer l a b room tree ≡ accepted m → (lowerBytes l tree ≡ accepted m) × (length m ≤ room)
-unfolding lowerAnswer
-answer-gives l a b room tree m = go (areasFit a b)
+answer-gives : (l : Limits) (a b room : ℕ) (tree m : List ℕ) → lower_answer l a b room tree ≡ accepted m → (lower_bytes l tree ≡ accepted m) × (length m ≤ room)
+unfolding lower_answer
+answer-gives l a b room tree m = go (areas_fit a b)
   where
-    go : (x : Bool) → (elim x as (λ z. Answer (List ℕ)) [ false ↦ refused 1 | true ↦ whenAccepted (lowerBytes l tree) (fitsRoom room) ]) ≡ accepted m → (lowerBytes l tree ≡ accepted m) × (length m ≤ room)
+    go : (x : Bool) → (elim x as (λ z. Answer (List ℕ)) [ false ↦ refused 1 | true ↦ when_accepted (lower_bytes l tree) (fits_room room) ]) ≡ accepted m → (lower_bytes l tree ≡ accepted m) × (length m ≤ room)
     go false e = let z : ◌≡◌ {A = ℕ} 0 1 = cc in absurd (omega arith)
     go true e =
-        let W = when-accepted (lowerBytes l tree) (fitsRoom room) m e in
+        let W = when-accepted (lower_bytes l tree) (fits_room room) m e in
         let F = fits-room room W.0 m W.2 in
         (W.1 ∙ ap accepted F.0, subst (λ (x : List ℕ). length x ≤ room) F.0 F.1)
 
 -- an answer that is a count
-counted : (r : Lowered) (n : ℕ) (a : Answer (List ℕ)) (output output' : List ℕ) → said r ≡ countAnswer a → output' ≡ outputAfter a output → r ≡ Wrote n →
+counted : (r : Lowered) (n : ℕ) (a : Answer (List ℕ)) (output output' : List ℕ) → said r ≡ count_answer a → output' ≡ output_after a output → r ≡ Wrote n →
     (m : List ℕ) × (a ≡ accepted m) × (n ≡ length m) × (output' ≡ written m output)
-unfolding said countAnswer outputAfter whenAccepted
+unfolding said count_answer output_after when_accepted
 counted r n (refused q) output output' t o e = let x : accepted n ≡ refused q = sym (ap said e) ∙ t in let z : ◌≡◌ {A = ℕ} 0 1 = cc in absurd (omega arith)
 counted r n (accepted m) output output' t o e = let x : accepted n ≡ accepted (length m) = sym (ap said e) ∙ t in (m, refl, cc, o)
 
@@ -56,11 +56,11 @@ pub front-is : (n : ℕ) (m output output' : List ℕ) → n ≡ length m → ou
 unfolding written
 front-is n m output output' c o = ap₂ take c o ∙ take-append_seam m (drop (length m) output)
 
-module _ (r : Lowered) (l : Limits) (tree area₁ area₂ output area₁' area₂' output' : List ℕ) (L : Lowers r area₁' area₂' output' (lowerCall l tree area₁ area₂ output)) (n : ℕ) (e : r ≡ Wrote n) where
+module _ (r : Lowered) (l : Limits) (tree area₁ area₂ output area₁' area₂' output' : List ℕ) (L : Lowers r area₁' area₂' output' (lower_call l tree area₁ area₂ output)) (n : ℕ) (e : r ≡ Wrote n) where
   pub made : Made l tree output output' n
-  unfolding lowerCall
+  unfolding lower_call
   made =
-      let C = counted r n (lowerAnswer l (length area₁) (length area₂) (length output) tree) output output' L.answer L.output e in
+      let C = counted r n (lower_answer l (length area₁) (length area₂) (length output) tree) output output' L.answer L.output e in
       let G = answer-gives l (length area₁) (length area₂) (length output) tree C.0 C.1 in
       record { bytes = C.0; lowers = G.0; front = front-is n C.0 output output' C.2 C.3; fits = omega (arith, C.2, G.1) }
 
@@ -97,10 +97,10 @@ module _ (w : Lowering) (r : Lowered) (output' : List ℕ) (answer : said r ≡ 
   unfolding thereafter
   then-refused call q e = ap (λ (a : Answer ℕ). thereafter a w.output call) (sym (answer-refused q e))
 
-  pub left-accepted : (call : List ℕ → List ℕ) (buffer : List ℕ) (n : ℕ) → r ≡ Wrote n → call (take n output') ≡ leftAfter w.answer w.output call buffer
-  unfolding leftAfter
-  left-accepted call buffer n e = ap₂ (λ (a : Answer ℕ) (o : List ℕ). leftAfter a o call buffer) (sym (answer-wrote n e)) output
+  pub left-accepted : (call : List ℕ → List ℕ) (buffer : List ℕ) (n : ℕ) → r ≡ Wrote n → call (take n output') ≡ left_after w.answer w.output call buffer
+  unfolding left_after
+  left-accepted call buffer n e = ap₂ (λ (a : Answer ℕ) (o : List ℕ). left_after a o call buffer) (sym (answer-wrote n e)) output
 
-  pub left-refused : (call : List ℕ → List ℕ) (buffer : List ℕ) (q : ℕ) → r ≡ Refused q → buffer ≡ leftAfter w.answer w.output call buffer
-  unfolding leftAfter
-  left-refused call buffer q e = ap (λ (a : Answer ℕ). leftAfter a w.output call buffer) (sym (answer-refused q e))
+  pub left-refused : (call : List ℕ → List ℕ) (buffer : List ℕ) (q : ℕ) → r ≡ Refused q → buffer ≡ left_after w.answer w.output call buffer
+  unfolding left_after
+  left-refused call buffer q e = ap (λ (a : Answer ℕ). left_after a w.output call buffer) (sym (answer-refused q e))

@@ -7,38 +7,38 @@ use mathlib.Core.List.{List}
 use native.Mathlib.Omega.{arith}
 use lib.ListN.{length, take}
 use lib.Pow.{are_bytes}
-use Rattle.definitions.specs.Bytes.{Answer, refused, accepted, whenAccepted}
+use Rattle.definitions.specs.Bytes.{Answer, refused, accepted, when_accepted}
 use Rattle.definitions.specs.Module.{Limits, office}
 use Rattle.definitions.specs.Run.{Ran as RunAnswer}
 use Rattle.definitions.specs.Walk.{Walked}
-use Rattle.definitions.specs.Calls.{written, outputAfter, areAnswers, lowerCall, ranCounts, ranCall, runAnswer, runCall, walkTree}
-use Rattle.definitions.specs.Statements.{Under, Agrees, Follows, instructionsIn}
-use Rattle.definitions.proofs.Demand3Bytes.{demand3Bytes}
-use Rattle.run.specs.Pass.{said as ranSaid, Called}
+use Rattle.definitions.specs.Calls.{written, output_after, are_answers, lower_call, ran_counts, ran_call, run_answer, run_call, walk_tree}
+use Rattle.definitions.specs.Statements.{Under, Agrees, Follows, instructions_in}
+use Rattle.definitions.proofs.Demand3Bytes.{demand3_bytes}
+use Rattle.run.specs.Pass.{said as ran_said, Called}
 use Rattle.run.proofs.Calling.{says-refused, says-finished}
 use Rattle.run.specs.declared.Outcome.{Outcome}
 use Rattle.run.specs.declared.Outcome.TheVariants.{Finished, Refused as NotRun}
 use Rattle.lowering.specs.Lowered.{Lowers}
 use Rattle.lowering.specs.declared.Lowered.{Lowered}
 use Rattle.lowering.specs.declared.Lowered.TheVariants.{Wrote as Written, Refused as NotLowered}
-use Rattle.follows.specs.Following.{said, followCall, FollowsAs, SameAsWalk, AsWalked, FollowsSource}
+use Rattle.follows.specs.Following.{said, follow_call, FollowsAs, SameAsWalk, AsWalked, FollowsSource}
 use Rattle.follows.specs.declared.Followed.{Followed}
 use Rattle.follows.specs.declared.Followed.TheVariants.{Ran, Refused}
 use Rattle.follows.proofs.Made.{made, part-is, then-accepted, then-refused, left-accepted, left-refused}
 
 -- ---- what a run's answer shows
 
-module _ (a : Answer RunAnswer) (o : Outcome) (events events' : List ℕ) (says : ranSaid o ≡ whenAccepted a ranCounts) (leaves : events' ≡ outputAfter (whenAccepted a (λ (r : RunAnswer). accepted r.events)) events) where
+module _ (a : Answer RunAnswer) (o : Outcome) (events events' : List ℕ) (says : ran_said o ≡ when_accepted a ran_counts) (leaves : events' ≡ output_after (when_accepted a (λ (r : RunAnswer). accepted r.events)) events) where
   shows-refused : (q : ℕ) → a ≡ refused q → (o ≡ NotRun q) × (events' ≡ events)
-  unfolding whenAccepted outputAfter
+  unfolding when_accepted output_after
   shows-refused q e =
-      (says-refused o q (says ∙ ap (λ (x : Answer RunAnswer). whenAccepted x ranCounts) e), leaves ∙ ap (λ (x : Answer RunAnswer). outputAfter (whenAccepted x (λ (r : RunAnswer). accepted r.events)) events) e)
+      (says-refused o q (says ∙ ap (λ (x : Answer RunAnswer). when_accepted x ran_counts) e), leaves ∙ ap (λ (x : Answer RunAnswer). output_after (when_accepted x (λ (r : RunAnswer). accepted r.events)) events) e)
 
   shows-ran : (r : RunAnswer) → a ≡ accepted r → (o ≡ Finished r.ending r.steps r.used (length r.events)) × (events' ≡ written r.events events)
-  unfolding whenAccepted outputAfter ranCounts
+  unfolding when_accepted output_after ran_counts
   shows-ran r e = (
-    says-finished o (record { ending = r.ending; steps = r.steps; used = r.used; bytes = length r.events }) (says ∙ ap (λ (x : Answer RunAnswer). whenAccepted x ranCounts) e),
-    leaves ∙ ap (λ (x : Answer RunAnswer). outputAfter (whenAccepted x (λ (r : RunAnswer). accepted r.events)) events) e,
+    says-finished o (record { ending = r.ending; steps = r.steps; used = r.used; bytes = length r.events }) (says ∙ ap (λ (x : Answer RunAnswer). when_accepted x ran_counts) e),
+    leaves ∙ ap (λ (x : Answer RunAnswer). output_after (when_accepted x (λ (r : RunAnswer). accepted r.events)) events) e,
   )
 
   shows_same : (answers : List ℕ) (w : Walked) (r : RunAnswer) → a ≡ accepted r → Agrees r w answers → SameAsWalk o w answers events events'
@@ -62,28 +62,28 @@ module _ (a : Answer RunAnswer) (o : Outcome) (events events' : List ℕ) (says 
 
 -- ---- the call
 
-module _ (r : Lowered) (l : Limits) (tree area₁ area₂ bytes area₁' area₂' bytes' : List ℕ) (L : Lowers r area₁' area₂' bytes' (lowerCall l tree area₁ area₂ bytes))
+module _ (r : Lowered) (l : Limits) (tree area₁ area₂ bytes area₁' area₂' bytes' : List ℕ) (L : Lowers r area₁' area₂' bytes' (lower_call l tree area₁ area₂ bytes))
     (function : ℕ) (answers : List ℕ) (budget : ℕ) (events : List ℕ) where
-  module _ (n : ℕ) (e : r ≡ Written n) (o : Outcome) (events' : List ℕ) (C : Called o (runCall (take n bytes') function answers budget events) events') where
-    run-walks : Under l office → are_bytes tree ≡ true → areAnswers answers ≡ true → (length answers + 1) * instructionsIn (take n bytes') function ≤ budget →
-        AsWalked o (walkTree tree function answers) answers events events'
-    unfolding runCall ranCall
+  module _ (n : ℕ) (e : r ≡ Written n) (o : Outcome) (events' : List ℕ) (C : Called o (run_call (take n bytes') function answers budget events) events') where
+    run-walks : Under l office → are_bytes tree ≡ true → are_answers answers ≡ true → (length answers + 1) * instructions_in (take n bytes') function ≤ budget →
+        AsWalked o (walk_tree tree function answers) answers events events'
+    unfolding run_call ran_call
     run-walks u small bits enough =
         let M = made r l tree area₁ area₂ bytes area₁' area₂' bytes' L n e in
-        let D = demand3Bytes l u tree M.bytes small M.lowers function answers bits budget (length events) (subst (λ (m : List ℕ). (length answers + 1) * instructionsIn m function ≤ budget) M.front enough) in
-        shows-walk (runAnswer (take n bytes') function answers budget (length events)) o events events' C.says C.leaves answers (walkTree tree function answers)
-        (subst (λ (m : List ℕ). Follows answers (length events) (walkTree tree function answers) (runAnswer m function answers budget (length events))) (sym M.front) D)
+        let D = demand3_bytes l u tree M.bytes small M.lowers function answers bits budget (length events) (subst (λ (m : List ℕ). (length answers + 1) * instructions_in m function ≤ budget) M.front enough) in
+        shows-walk (run_answer (take n bytes') function answers budget (length events)) o events events' C.says C.leaves answers (walk_tree tree function answers)
+        (subst (λ (m : List ℕ). Follows answers (length events) (walk_tree tree function answers) (run_answer m function answers budget (length events))) (sym M.front) D)
 
-    run-equation : FollowsAs (Ran n o) area₁' area₂' bytes' events' (followCall l tree function answers budget area₁ area₂ bytes events)
-    unfolding followCall said
+    run-equation : FollowsAs (Ran n o) area₁' area₂' bytes' events' (follow_call l tree function answers budget area₁ area₂ bytes events)
+    unfolding follow_call said
     run-equation = record {
       answer =
-          then-accepted (lowerCall l tree area₁ area₂ bytes) r bytes' L.answer L.output (λ m. (runCall m function answers budget events).answer) n e (ranSaid o)
+          then-accepted (lower_call l tree area₁ area₂ bytes) r bytes' L.answer L.output (λ m. (run_call m function answers budget events).answer) n e (ran_said o)
           C.says;
       first = L.first;
       second = L.second;
       bytes = L.output;
-      events = C.leaves ∙ left-accepted (lowerCall l tree area₁ area₂ bytes) r bytes' L.answer L.output (λ m. (runCall m function answers budget events).events) events n e;
+      events = C.leaves ∙ left-accepted (lower_call l tree area₁ area₂ bytes) r bytes' L.answer L.output (λ m. (run_call m function answers budget events).events) events n e;
     }
 
     ran-follows : Under l office → are_bytes tree ≡ true → FollowsSource (Ran n o) area₁' area₂' bytes' events' l tree function answers budget area₁ area₂ bytes events
@@ -92,23 +92,23 @@ module _ (r : Lowered) (l : Limits) (tree area₁ area₂ bytes area₁' area₂
       walk = λ k p x bits enough.
           let same : o ≡ p = cc x in
           let count : k ≡ n = cc x in
-          subst (λ (y : Outcome). AsWalked y (walkTree tree function answers) answers events events') same
-          (run-walks u small bits (subst (λ (j : ℕ). (length answers + 1) * instructionsIn (take j bytes') function ≤ budget) count enough));
+          subst (λ (y : Outcome). AsWalked y (walk_tree tree function answers) answers events events') same
+          (run-walks u small bits (subst (λ (j : ℕ). (length answers + 1) * instructions_in (take j bytes') function ≤ budget) count enough));
     }
 
-  pub follow-ran : (n : ℕ) → r ≡ Written n → (o : Outcome) (events' : List ℕ) → Called o (runCall (take (n - 0) bytes') function answers budget events) events' → Under l office → are_bytes tree ≡ true →
+  pub follow-ran : (n : ℕ) → r ≡ Written n → (o : Outcome) (events' : List ℕ) → Called o (run_call (take (n - 0) bytes') function answers budget events) events' → Under l office → are_bytes tree ≡ true →
       FollowsSource (Ran n o) area₁' area₂' bytes' events' l tree function answers budget area₁ area₂ bytes events
-  follow-ran n e o events' C = ran-follows n e o events' (subst (λ (m : List ℕ). Called o (runCall m function answers budget events) events') (part-is n bytes') C)
+  follow-ran n e o events' C = ran-follows n e o events' (subst (λ (m : List ℕ). Called o (run_call m function answers budget events) events') (part-is n bytes') C)
 
   pub follow-refused : (q : ℕ) → r ≡ NotLowered q → FollowsSource (Refused q) area₁' area₂' bytes' events l tree function answers budget area₁ area₂ bytes events
-  unfolding followCall said
+  unfolding follow_call said
   follow-refused q e = record {
     equation = record {
-      answer = then-refused (lowerCall l tree area₁ area₂ bytes) r bytes' L.answer L.output (λ m. (runCall m function answers budget events).answer) q e;
+      answer = then-refused (lower_call l tree area₁ area₂ bytes) r bytes' L.answer L.output (λ m. (run_call m function answers budget events).answer) q e;
       first = L.first;
       second = L.second;
       bytes = L.output;
-      events = left-refused (lowerCall l tree area₁ area₂ bytes) r bytes' L.answer L.output (λ m. (runCall m function answers budget events).events) events q e;
+      events = left-refused (lower_call l tree area₁ area₂ bytes) r bytes' L.answer L.output (λ m. (run_call m function answers budget events).events) events q e;
     };
     walk = λ k p x bits enough. let z : ◌≡◌ {A = ℕ} 0 1 = cc in absurd (omega arith);
   }

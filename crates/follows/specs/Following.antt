@@ -3,13 +3,13 @@ use Rattle.std.specs.Prelude.{ℕ, ◌+◌, ◌*◌, ◌≤◌, ◌<◌, ◌≡�
 use Rattle.std.proofs.Math.Option.{Option, none, some}
 use Rattle.definitions.specs.Bytes.{Answer, refused, accepted}
 use Rattle.definitions.specs.Module.{Limits}
-use Rattle.definitions.specs.Walk.{Walked, endingNumber}
-use Rattle.definitions.specs.Calls.{written, areAnswers, lowerCall, Counts, runCall, walkTree}
-use Rattle.definitions.specs.Statements.{instructionsIn}
-use Rattle.run.specs.Pass.{said as ranSaid}
+use Rattle.definitions.specs.Walk.{Walked, ending_number}
+use Rattle.definitions.specs.Calls.{written, are_answers, lower_call, Counts, run_call, walk_tree}
+use Rattle.definitions.specs.Statements.{instructions_in}
+use Rattle.run.specs.Pass.{said as ran_said}
 use Rattle.run.specs.declared.Outcome.{Outcome}
 use Rattle.run.specs.declared.Outcome.TheVariants.{Finished, Refused as NotRun}
-use Rattle.follows.specs.Thereafter.{Thereafter, thereafter, leftAfter}
+use Rattle.follows.specs.Thereafter.{Thereafter, thereafter, left_after}
 use Rattle.follows.specs.declared.Followed.{Followed}
 use Rattle.follows.specs.declared.Followed.TheVariants.{Ran, Refused}
 
@@ -17,7 +17,7 @@ use Rattle.follows.specs.declared.Followed.TheVariants.{Ran, Refused}
 
 -- the paper's answers for each case of the call's: the count of bytes written and the run's answer, or the number of the first question answered no
 unfoldable pub said : Followed → Answer (Thereafter Counts)
-said (Ran n o) = accepted (record { count = n; next = ranSaid o })
+said (Ran n o) = accepted (record { count = n; next = ran_said o })
 said (Refused q) = refused q
 
 -- the call: its answer, and the two areas, the module's buffer and the event buffer after it
@@ -28,15 +28,15 @@ pub record Following : Type 0 where
   pub bytes : List ℕ
   pub events : List ℕ
 
-unfoldable pub followCall : Limits → List ℕ → ℕ → List ℕ → ℕ → List ℕ → List ℕ → List ℕ → List ℕ → Following
-followCall l tree function answers budget area₁ area₂ bytes events =
-    let w = lowerCall l tree area₁ area₂ bytes in
+unfoldable pub follow_call : Limits → List ℕ → ℕ → List ℕ → ℕ → List ℕ → List ℕ → List ℕ → List ℕ → Following
+follow_call l tree function answers budget area₁ area₂ bytes events =
+    let w = lower_call l tree area₁ area₂ bytes in
     record {
-      answer = thereafter w.answer w.output (λ m. (runCall m function answers budget events).answer);
+      answer = thereafter w.answer w.output (λ m. (run_call m function answers budget events).answer);
       area₁ = w.area₁;
       area₂ = w.area₂;
       bytes = w.output;
-      events = leftAfter w.answer w.output (λ m. (runCall m function answers budget events).events) events;
+      events = left_after w.answer w.output (λ m. (run_call m function answers budget events).events) events;
     }
 
 -- an answer and what is left are those of a call
@@ -53,8 +53,8 @@ pub record FollowsAs (r : Followed) (area₁' area₂' bytes' events' : List ℕ
 pub record SameAsWalk (o : Outcome) (w : Walked) (answers events events' : List ℕ) : Type 0 where
   pub steps : ℕ
   pub used : ℕ
-  pub says : o ≡ Finished (endingNumber w.ending) steps used (length w.events)
-  pub ends : (1 ≤ endingNumber w.ending) × (endingNumber w.ending ≤ 2)
+  pub says : o ≡ Finished (ending_number w.ending) steps used (length w.events)
+  pub ends : (1 ≤ ending_number w.ending) × (ending_number w.ending ≤ 2)
   pub uses : used + length w.left ≡ length answers
   pub leaves : events' ≡ written w.events events
 
@@ -64,9 +64,9 @@ AsWalked o none answers events events' = (o ≡ NotRun 22) × (events' ≡ event
 AsWalked o (some w) answers events events' =
     (length w.events ≤ length events → SameAsWalk o w answers events events') × (length events < length w.events → (o ≡ NotRun 24) × (events' ≡ events))
 
--- The answer and all that is left are those of `followCall`. And of every accepted tree, on answers that are 0 or 1, with a budget of at least
+-- The answer and all that is left are those of `follow_call`. And of every accepted tree, on answers that are 0 or 1, with a budget of at least
 -- (answers + 1) × the function's instructions, the run goes as the walk of the tree's function does
 pub record FollowsSource (r : Followed) (area₁' area₂' bytes' events' : List ℕ) (l : Limits) (tree : List ℕ) (function : ℕ) (answers : List ℕ) (budget : ℕ) (area₁ area₂ bytes events : List ℕ) : Type 0 where
-  pub equation : FollowsAs r area₁' area₂' bytes' events' (followCall l tree function answers budget area₁ area₂ bytes events)
-  pub walk : (n : ℕ) (o : Outcome) → r ≡ Ran n o → areAnswers answers ≡ true → (length answers + 1) * instructionsIn (take n bytes') function ≤ budget →
-      AsWalked o (walkTree tree function answers) answers events events'
+  pub equation : FollowsAs r area₁' area₂' bytes' events' (follow_call l tree function answers budget area₁ area₂ bytes events)
+  pub walk : (n : ℕ) (o : Outcome) → r ≡ Ran n o → are_answers answers ≡ true → (length answers + 1) * instructions_in (take n bytes') function ≤ budget →
+      AsWalked o (walk_tree tree function answers) answers events events'

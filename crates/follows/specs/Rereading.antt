@@ -2,8 +2,8 @@
 use Rattle.std.specs.Prelude.{ℕ, ◌≡◌, List}
 use Rattle.definitions.specs.Bytes.{Answer, refused, accepted}
 use Rattle.definitions.specs.Module.{Limits}
-use Rattle.definitions.specs.Calls.{lowerCall, readCall}
-use Rattle.reader.specs.View.{said as readSaid}
+use Rattle.definitions.specs.Calls.{lower_call, read_call}
+use Rattle.reader.specs.View.{said as read_said}
 use Rattle.reader.specs.declared.Verdict.{Verdict}
 use Rattle.reader.specs.declared.Verdict.TheVariants.{Accepted}
 use Rattle.follows.specs.Thereafter.{Thereafter, thereafter}
@@ -12,7 +12,7 @@ use Rattle.follows.specs.declared.Reread.TheVariants.{Wrote, Refused}
 
 -- the paper's answers for each case of the call's: the count of bytes written and the reader's answer, or the number of the first question answered no
 unfoldable pub said : Reread → Answer (Thereafter (Unit {0}))
-said (Wrote n v) = accepted (record { count = n; next = readSaid v })
+said (Wrote n v) = accepted (record { count = n; next = read_said v })
 said (Refused q) = refused q
 
 -- the call: its answer, and the two areas and the output after it
@@ -22,10 +22,10 @@ pub record Rereading : Type 0 where
   pub area₂ : List ℕ
   pub output : List ℕ
 
-unfoldable pub rereadCall : Limits → List ℕ → List ℕ → List ℕ → List ℕ → Rereading
-rereadCall l tree area₁ area₂ output =
-    let w = lowerCall l tree area₁ area₂ output in
-    record { answer = thereafter w.answer w.output readCall; area₁ = w.area₁; area₂ = w.area₂; output = w.output }
+unfoldable pub reread_call : Limits → List ℕ → List ℕ → List ℕ → List ℕ → Rereading
+reread_call l tree area₁ area₂ output =
+    let w = lower_call l tree area₁ area₂ output in
+    record { answer = thereafter w.answer w.output read_call; area₁ = w.area₁; area₂ = w.area₂; output = w.output }
 
 -- an answer and what is left are those of a call
 pub record RereadsAs (r : Reread) (area₁' area₂' output' : List ℕ) (w : Rereading) : Type 0 where
@@ -34,7 +34,7 @@ pub record RereadsAs (r : Reread) (area₁' area₂' output' : List ℕ) (w : Re
   pub second : area₂' ≡ w.area₂
   pub output : output' ≡ w.output
 
--- the answer and all that is left are those of `rereadCall`; and whenever the lowering accepts, the reader accepts the bytes written
+-- the answer and all that is left are those of `reread_call`; and whenever the lowering accepts, the reader accepts the bytes written
 pub record Rereads (r : Reread) (area₁' area₂' output' : List ℕ) (l : Limits) (tree area₁ area₂ output : List ℕ) : Type 0 where
-  pub equation : RereadsAs r area₁' area₂' output' (rereadCall l tree area₁ area₂ output)
+  pub equation : RereadsAs r area₁' area₂' output' (reread_call l tree area₁ area₂ output)
   pub reads : (n : ℕ) (v : Verdict) → r ≡ Wrote n v → v ≡ Accepted

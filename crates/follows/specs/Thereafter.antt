@@ -13,6 +13,6 @@ thereafter (refused q) output call = refused q
 thereafter (accepted n) output call = accepted (record { count = n; next = call (take n output) })
 
 -- a buffer after the call; where the lowering refused, it is as it was
-unfoldable pub leftAfter : Answer ℕ → List ℕ → (List ℕ → List ℕ) → List ℕ → List ℕ
-leftAfter (refused q) output call buffer = buffer
-leftAfter (accepted n) output call buffer = call (take n output)
+unfoldable pub left_after : Answer ℕ → List ℕ → (List ℕ → List ℕ) → List ℕ → List ℕ
+left_after (refused q) output call buffer = buffer
+left_after (accepted n) output call buffer = call (take n output)

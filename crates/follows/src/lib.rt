@@ -1,6 +1,6 @@
 // A tree is lowered, and the module that was written is read, or one of its functions run: the reader accepts it, and the run does what the walk of the
 // tree does. Or it is lowered at the console and at the office: what the console takes, the office takes with the very same bytes.
-ghost use Rattle.limits.specs.Sets.{limitsFor};
+ghost use Rattle.limits.specs.Sets.{limits_for};
 ghost use Rattle.follows.specs.Both.{LowersAtBoth};
 ghost use Rattle.follows.specs.Rereading.{Rereads};
 ghost use Rattle.follows.specs.Following.{FollowsSource};
@@ -39,7 +39,7 @@ pub fn lower_and_read(
     area2: &mut [u32],
     out: &mut [u8],
 ) -> Reread
-    ensures { Rereads result area1.new area2.new out.new (limitsFor limits) tree.now area1.old area2.old out.old }
+    ensures { Rereads result area1.new area2.new out.new (limits_for limits) tree.now area1.old area2.old out.old }
 {
     let lowered = lower(tree, limits, area1, area2, out);
     match lowered {
@@ -63,7 +63,7 @@ pub fn lower_and_run(
     bytes: &mut [u8],
     events: &mut [u8],
 ) -> Followed
-    ensures { FollowsSource result area1.new area2.new bytes.new events.new (limitsFor limits) tree.now function answers.now budget area1.old area2.old bytes.old events.old }
+    ensures { FollowsSource result area1.new area2.new bytes.new events.new (limits_for limits) tree.now function answers.now budget area1.old area2.old bytes.old events.old }
 {
     let lowered = lower(tree, limits, area1, area2, bytes);
     match lowered {

@@ -1,7 +1,7 @@
 // The two sets of limits of question 15: the office's, and those of the console at the casing-in machine.
 ghost use Rattle.std.specs.Prelude.{◌≡◌};
-ghost use Rattle.definitions.specs.Module.{limitsBy};
-ghost use Rattle.limits.specs.Sets.{limitsFor, asNumbers};
+ghost use Rattle.definitions.specs.Module.{limits_by};
+ghost use Rattle.limits.specs.Sets.{limits_for, as_numbers};
 
 // Which set the caller wants.
 #[derive(Drop)]
@@ -12,7 +12,7 @@ pub enum Limits {
 
 // The set that a number names: 0 the office's, every other number the console's.
 pub fn limits_by(number: u32) -> Limits
-    ensures { limitsFor result ≡ limitsBy number }
+    ensures { limits_for result ≡ limits_by number }
 {
     if number == 0 {
         return Limits::Office;
@@ -22,7 +22,7 @@ pub fn limits_by(number: u32) -> Limits
 
 // How many functions, symbols, strings, classes and instructions a module may have.
 pub fn limit_numbers(limits: Limits) -> [u32; 5]
-    ensures { result ≡ asNumbers (limitsFor limits) }
+    ensures { result ≡ as_numbers (limits_for limits) }
 {
     match limits {
         Limits::Office => [256, 1024, 512, 64, 8192],

@@ -6,18 +6,18 @@ use native.Mathlib.Omega.{arith}
 use lib.ListN.{length, drop}
 use Rattle.definitions.specs.Instruction.{Instr, instr, encode}
 use Rattle.definitions.specs.Module.{instructions}
-use Rattle.definitions.specs.Reader.{instruction, functionRecord}
-use Rattle.definitions.specs.Listing.{heading, codeLine, codeLines, functionLines}
+use Rattle.definitions.specs.Reader.{instruction, function_record}
+use Rattle.definitions.specs.Listing.{heading, code_line, code_lines, function_lines}
 use Rattle.definitions.proofs.Lengths.{length-encode}
-use Rattle.reader.specs.View.{numberAt, instructionsOf, metAt, part_at}
+use Rattle.reader.specs.View.{number_at, instructions_of, met_at, part_at}
 use Rattle.reader.specs.declared.Cursor.{Cursor}
 use Rattle.reader.specs.declared.Met.TheVariants.{At, End}
 use Rattle.reader.specs.declared.Located.TheVariants.{Code}
 use Rattle.reader.proofs.Encoding.{Small}
-use Rattle.reader.proofs.Iterated.{met_at, met-end}
+use Rattle.reader.proofs.Iterated.{met-at, met-end}
 use Rattle.writing.specs.Wrote.{Wrote}
 use Rattle.writing.proofs.Begun.{over, from, Begun, begun-start, begun-split, begun-rest, begun-next}
-use Rattle.tally.specs.Walk.{Values, valuesEnd, codeFrom, functionsFrom}
+use Rattle.tally.specs.Walk.{Values, values_end, code_from, functions_from}
 use Rattle.tally.proofs.Walking.{reads_none, Function-here, function-head, function-here}
 use Rattle.listing.specs.Lines.{Operands, Lined}
 use Rattle.listing.specs.declared.Next.{Next}
@@ -29,105 +29,105 @@ use Rattle.listing.proofs.PartLaws.{part-code, code-count, met-operands}
 pub record Lining (t : List ℕ) (f k : ℕ) (xs out : List ℕ) (c : Cursor) (put : ℕ) : Type 0 where
   pub inside : c.at ≤ length t
   pub behind : c.place ≤ c.at
-  pub count : length (instructionsOf t) ≡ c.place + length (instructionsOf (drop c.at t))
-  pub begun : Begun (codeLines f 0 k (instructionsOf t)) xs put out (codeLines f c.place (k + c.place) (instructionsOf (drop c.at t)) ∷ [])
+  pub count : length (instructions_of t) ≡ c.place + length (instructions_of (drop c.at t))
+  pub begun : Begun (code_lines f 0 k (instructions_of t)) xs put out (code_lines f c.place (k + c.place) (instructions_of (drop c.at t)) ∷ [])
 
-pub lining-start : (t : List ℕ) (f k : ℕ) (xs : List ℕ) → length (codeLines f 0 k (instructionsOf t)) ≤ length xs → Lining t f k xs xs (record { place = 0; at = 0 }) 0
+pub lining-start : (t : List ℕ) (f k : ℕ) (xs : List ℕ) → length (code_lines f 0 k (instructions_of t)) ≤ length xs → Lining t f k xs xs (record { place = 0; at = 0 }) 0
 lining-start t f k xs h = record {
   inside = omega arith;
   behind = omega arith;
   count = omega arith;
-  begun = subst (λ (j : ℕ). Begun (codeLines f 0 k (instructionsOf t)) xs 0 xs (codeLines f 0 j (instructionsOf t) ∷ [])) (let y : k ≡ k + 0 = omega arith in y)
-      (begun-start (codeLines f 0 k (instructionsOf t)) xs h);
+  begun = subst (λ (j : ℕ). Begun (code_lines f 0 k (instructions_of t)) xs 0 xs (code_lines f 0 j (instructions_of t) ∷ [])) (let y : k ≡ k + 0 = omega arith in y)
+      (begun-start (code_lines f 0 k (instructions_of t)) xs h);
 }
 
 module _ {t : List ℕ} {f k : ℕ} {xs out : List ℕ} {c : Cursor} {put : ℕ} (l : Lining t f k xs out c put) where
-  module _ {op a b : ℕ} {n : Cursor} (e : metAt t c ≡ At op a b n) where
-    more : (instructionsOf (drop c.at t) ≡ instr op a b ∷ instructionsOf (drop n.at t)) × (n.place ≡ c.place + 1) × (n.at ≤ length t) × (n.at ≡ c.at + length (encode (instr op a b)))
-    more = met_at t c op a b n l.inside e
+  module _ {op a b : ℕ} {n : Cursor} (e : met_at t c ≡ At op a b n) where
+    more : (instructions_of (drop c.at t) ≡ instr op a b ∷ instructions_of (drop n.at t)) × (n.place ≡ c.place + 1) × (n.at ≤ length t) × (n.at ≡ c.at + length (encode (instr op a b)))
+    more = met-at t c op a b n l.inside e
 
     pub lining-operands : Small t → Operands op a b
     lining-operands small = met-operands t small c op a b n l.inside e
 
     -- the place is one of the code's
-    pub lining-in : c.place < length (instructionsOf t)
+    pub lining-in : c.place < length (instructions_of t)
     lining-in = let h = l.count in let m = ap length more.0 in omega arith
 
     pub lining-less : length t - n.at < length t - c.at
     lining-less = let q = more.3 in let d = length-encode (instr op a b) in let g = more.2 in omega arith
 
     -- the line in hand is next
-    pub lining-piece : Begun (codeLines f 0 k (instructionsOf t)) xs put out
-        ((heading (k + c.place) ++ codeLine f c.place (instr op a b)) ∷ codeLines f (suc c.place) (suc (k + c.place)) (instructionsOf (drop n.at t)) ∷ [])
-    unfolding codeLines
+    pub lining-piece : Begun (code_lines f 0 k (instructions_of t)) xs put out
+        ((heading (k + c.place) ++ code_line f c.place (instr op a b)) ∷ code_lines f (suc c.place) (suc (k + c.place)) (instructions_of (drop n.at t)) ∷ [])
+    unfolding code_lines
     lining-piece =
-        begun-split (heading (k + c.place) ++ codeLine f c.place (instr op a b)) (codeLines f (suc c.place) (suc (k + c.place)) (instructionsOf (drop n.at t)))
-        (ap (codeLines f c.place (k + c.place)) more.0
-        ∙ sym (append_assoc (heading (k + c.place)) (codeLine f c.place (instr op a b)) (codeLines f (suc c.place) (suc (k + c.place)) (instructionsOf (drop n.at t)))))
+        begun-split (heading (k + c.place) ++ code_line f c.place (instr op a b)) (code_lines f (suc c.place) (suc (k + c.place)) (instructions_of (drop n.at t)))
+        (ap (code_lines f c.place (k + c.place)) more.0
+        ∙ sym (append_assoc (heading (k + c.place)) (code_line f c.place (instr op a b)) (code_lines f (suc c.place) (suc (k + c.place)) (instructions_of (drop n.at t)))))
         l.begun
 
-    pub lining-more : {r : ℕ} {zs : List ℕ} → Wrote r (heading (k + c.place) ++ codeLine f c.place (instr op a b)) (from put out) zs → Lining t f k xs (over put out zs) n (put + r)
+    pub lining-more : {r : ℕ} {zs : List ℕ} → Wrote r (heading (k + c.place) ++ code_line f c.place (instr op a b)) (from put out) zs → Lining t f k xs (over put out zs) n (put + r)
     lining-more {r} {zs} w =
         let p = more.1 in let q = more.3 in let d = length-encode (instr op a b) in let g = l.behind in let h = l.count in let m = ap length more.0 in
         record {
           inside = more.2;
           behind = omega arith;
           count = omega arith;
-          begun = subst (λ (y : List ℕ). Begun (codeLines f 0 k (instructionsOf t)) xs (put + r) (over put out zs) (y ∷ []))
-              (ap₂ (λ (i j : ℕ). codeLines f i j (instructionsOf (drop n.at t))) (let y : suc c.place ≡ n.place = omega arith in y) (let y : suc (k + c.place) ≡ k + n.place = omega arith in y))
+          begun = subst (λ (y : List ℕ). Begun (code_lines f 0 k (instructions_of t)) xs (put + r) (over put out zs) (y ∷ []))
+              (ap₂ (λ (i j : ℕ). code_lines f i j (instructions_of (drop n.at t))) (let y : suc c.place ≡ n.place = omega arith in y) (let y : suc (k + c.place) ≡ k + n.place = omega arith in y))
               (begun-next lining-piece w);
         }
 
-  pub lining-done : metAt t c ≡ End → Wrote put (codeLines f 0 k (instructionsOf t)) xs out
-  unfolding codeLines
-  lining-done e = begun-rest l.begun (ap (codeLines f c.place (k + c.place)) (met-end t c e))
+  pub lining-done : met_at t c ≡ End → Wrote put (code_lines f 0 k (instructions_of t)) xs out
+  unfolding code_lines
+  lining-done e = begun-rest l.begun (ap (code_lines f c.place (k + c.place)) (met-end t c e))
 
 -- ---- a function's code, as a part of the module
 
-module _ {t : List ℕ} {n at end : ℕ} {part : List ℕ} (v : Values instruction n t at) (e : end ≡ valuesEnd instruction n t at) (p : part ≡ part_at (Code at (end - at) n) t) where
-  code_of : instructionsOf part ≡ codeFrom n t at
-  code_of = ap instructionsOf p ∙ part-code v e
+module _ {t : List ℕ} {n at end : ℕ} {part : List ℕ} (v : Values instruction n t at) (e : end ≡ values_end instruction n t at) (p : part ≡ part_at (Code at (end - at) n) t) where
+  code_of : instructions_of part ≡ code_from n t at
+  code_of = ap instructions_of p ∙ part-code v e
 
-  pub code_fits : (f k room : ℕ) → n < 65536 → f < 65536 → k + n < 1000000 → length (codeLines f 0 k (codeFrom n t at)) ≤ room
-      → (length (instructionsOf part) < 65536) × (f < 65536) × (k + length (instructionsOf part) < 1000000) × (length (codeLines f 0 k (instructionsOf part)) ≤ room)
-  code_fits f k room a b c d = let l = ap length code_of ∙ code-count v in let m = ap (λ (is : List Instr). length (codeLines f 0 k is)) code_of in (omega arith, b, omega arith, omega arith)
+  pub code_fits : (f k room : ℕ) → n < 65536 → f < 65536 → k + n < 1000000 → length (code_lines f 0 k (code_from n t at)) ≤ room
+      → (length (instructions_of part) < 65536) × (f < 65536) × (k + length (instructions_of part) < 1000000) × (length (code_lines f 0 k (instructions_of part)) ≤ room)
+  code_fits f k room a b c d = let l = ap length code_of ∙ code-count v in let m = ap (λ (is : List Instr). length (code_lines f 0 k is)) code_of in (omega arith, b, omega arith, omega arith)
 
   -- its lines are those of the part
-  pub code-lined : {f k put : ℕ} {xs out : List ℕ} → Wrote put (codeLines f 0 k (instructionsOf part)) xs out → Lined (record { at = end; put = put }) n t at f k xs out
-  code-lined {f} {k} {put} {xs} {out} w = record { ends = e; wrote = subst (λ (is : List Instr). Wrote put (codeLines f 0 k is) xs out) code_of w }
+  pub code-lined : {f k put : ℕ} {xs out : List ℕ} → Wrote put (code_lines f 0 k (instructions_of part)) xs out → Lined (record { at = end; put = put }) n t at f k xs out
+  code-lined {f} {k} {put} {xs} {out} w = record { ends = e; wrote = subst (λ (is : List Instr). Wrote put (code_lines f 0 k is) xs out) code_of w }
 
 -- ---- the lines of functions
 
 pub record Listing (t : List ℕ) (at count : ℕ) (xs out : List ℕ) (p put f k : ℕ) : Type 0 where
   pub inside : f ≤ count
-  pub rest : Values functionRecord (count - f) t p
-  pub lines : instructions (functionsFrom count t at) ≡ k + instructions (functionsFrom (count - f) t p)
-  pub begun : Begun (functionLines 0 0 (functionsFrom count t at)) xs put out (functionLines f k (functionsFrom (count - f) t p) ∷ [])
+  pub rest : Values function_record (count - f) t p
+  pub lines : instructions (functions_from count t at) ≡ k + instructions (functions_from (count - f) t p)
+  pub begun : Begun (function_lines 0 0 (functions_from count t at)) xs put out (function_lines f k (functions_from (count - f) t p) ∷ [])
 
 module _ (t : List ℕ) (at count : ℕ) (xs : List ℕ) where
-  pub listing_start : Values functionRecord count t at → length (functionLines 0 0 (functionsFrom count t at)) ≤ length xs → Listing t at count xs xs at 0 0 0
+  pub listing_start : Values function_record count t at → length (function_lines 0 0 (functions_from count t at)) ≤ length xs → Listing t at count xs xs at 0 0 0
   listing_start r h =
       let z : count ≡ count - 0 = omega arith in
-      let e = ap (λ (j : ℕ). instructions (functionsFrom j t at)) z in
+      let e = ap (λ (j : ℕ). instructions (functions_from j t at)) z in
       record {
         inside = omega arith;
-        rest = subst (λ (j : ℕ). Values functionRecord j t at) z r;
+        rest = subst (λ (j : ℕ). Values function_record j t at) z r;
         lines = omega arith;
-        begun = subst (λ (l : List ℕ). Begun (functionLines 0 0 (functionsFrom count t at)) xs 0 xs (l ∷ [])) (ap (λ (j : ℕ). functionLines 0 0 (functionsFrom j t at)) z)
-            (begun-start (functionLines 0 0 (functionsFrom count t at)) xs h);
+        begun = subst (λ (l : List ℕ). Begun (function_lines 0 0 (functions_from count t at)) xs 0 xs (l ∷ [])) (ap (λ (j : ℕ). function_lines 0 0 (functions_from j t at)) z)
+            (begun-start (function_lines 0 0 (functions_from count t at)) xs h);
       }
 
   module _ (out : List ℕ) (p put f k n : ℕ) (l : Listing t at count xs out p put f k) (h : f < count) (g : Function-here t (count - f) p n) where
-    pub listing-here : Begun (functionLines 0 0 (functionsFrom count t at)) xs put out
-        (codeLines f 0 k (codeFrom n t (p + 7)) ∷ functionLines (suc f) (k + n) (functionsFrom (count - f - 1) t (valuesEnd instruction n t (p + 7))) ∷ [])
-    unfolding functionLines
+    pub listing-here : Begun (function_lines 0 0 (functions_from count t at)) xs put out
+        (code_lines f 0 k (code_from n t (p + 7)) ∷ function_lines (suc f) (k + n) (functions_from (count - f - 1) t (values_end instruction n t (p + 7))) ∷ [])
+    unfolding function_lines
     listing-here =
-        begun-split (codeLines f 0 k (codeFrom n t (p + 7))) (functionLines (suc f) (k + n) (functionsFrom (count - f - 1) t (valuesEnd instruction n t (p + 7))))
-        (ap (functionLines f k) g.list
-        ∙ ap₂ (λ (is : List Instr) (j : ℕ). codeLines f 0 k is ++ functionLines (suc f) (k + j) (functionsFrom (count - f - 1) t (valuesEnd instruction n t (p + 7)))) (sym g.code_is) (sym g.count))
+        begun-split (code_lines f 0 k (code_from n t (p + 7))) (function_lines (suc f) (k + n) (functions_from (count - f - 1) t (values_end instruction n t (p + 7))))
+        (ap (function_lines f k) g.list
+        ∙ ap₂ (λ (is : List Instr) (j : ℕ). code_lines f 0 k is ++ function_lines (suc f) (k + j) (functions_from (count - f - 1) t (values_end instruction n t (p + 7)))) (sym g.code_is) (sym g.count))
         l.begun
 
-    pub listing-lines : k + n ≤ instructions (functionsFrom count t at)
+    pub listing-lines : k + n ≤ instructions (functions_from count t at)
     unfolding instructions
     listing-lines = let a = l.lines in let b = ap instructions g.list in let c = g.count in omega arith
 
@@ -136,22 +136,22 @@ module _ (t : List ℕ) (at count : ℕ) (xs : List ℕ) where
     unfolding instructions
     listing-next r zs w =
         let z : count - f - 1 ≡ count - (f + 1) = omega arith in
-        let q = valuesEnd instruction n t (p + 7) in
+        let q = values_end instruction n t (p + 7) in
         let a = l.lines in let b = ap instructions g.list in let c = g.count in
-        let d = ap (λ (j : ℕ). instructions (functionsFrom j t q)) z in
+        let d = ap (λ (j : ℕ). instructions (functions_from j t q)) z in
         subst (λ (j : ℕ). Listing t at count xs (over put out zs) j (put + r.put) (f + 1) (k + n)) (sym w.ends)
         (record {
           inside = omega arith;
-          rest = subst (λ (j : ℕ). Values functionRecord j t q) z g.rest;
+          rest = subst (λ (j : ℕ). Values function_record j t q) z g.rest;
           lines = omega arith;
-          begun = subst (λ (y : List ℕ). Begun (functionLines 0 0 (functionsFrom count t at)) xs (put + r.put) (over put out zs) (y ∷ []))
-              (ap₂ (λ (i j : ℕ). functionLines i (k + n) (functionsFrom j t q)) (let y : suc f ≡ f + 1 = omega arith in y) z)
+          begun = subst (λ (y : List ℕ). Begun (function_lines 0 0 (functions_from count t at)) xs (put + r.put) (over put out zs) (y ∷ []))
+              (ap₂ (λ (i j : ℕ). function_lines i (k + n) (functions_from j t q)) (let y : suc f ≡ f + 1 = omega arith in y) z)
               (begun-next listing-here w.wrote);
         })
 
-  pub listing-done : (out : List ℕ) (p put f k : ℕ) → count ≤ f → Listing t at count xs out p put f k → Wrote put (functionLines 0 0 (functionsFrom count t at)) xs out
-  unfolding functionLines
-  listing-done out p put f k h l = begun-rest l.begun (ap (functionLines f k) (reads_none functionRecord t (count - f) p (omega arith) l.rest).0)
+  pub listing-done : (out : List ℕ) (p put f k : ℕ) → count ≤ f → Listing t at count xs out p put f k → Wrote put (function_lines 0 0 (functions_from count t at)) xs out
+  unfolding function_lines
+  listing-done out p put f k h l = begun-rest l.begun (ap (function_lines f k) (reads_none function_record t (count - f) p (omega arith) l.rest).0)
 
 -- ---- what the code's needs ask for
 
@@ -159,15 +159,15 @@ module _ {t : List ℕ} {at count : ℕ} {xs out : List ℕ} {p put f k : ℕ} (
   pub listing-head : p + 7 ≤ length t
   listing-head = function-head t (count - f) p (omega arith) l.rest
 
-  module _ {n : ℕ} (e : n ≡ numberAt 2 t (p + 5)) where
+  module _ {n : ℕ} (e : n ≡ number_at 2 t (p + 5)) where
     pub listing-function : Function-here t (count - f) p n
     listing-function = function-here t (count - f) p n (omega arith) l.rest e
 
-    pub listing-piece : Begun (functionLines 0 0 (functionsFrom count t at)) xs put out
-        (codeLines f 0 k (codeFrom n t (p + 7)) ∷ functionLines (suc f) (k + n) (functionsFrom (count - f - 1) t (valuesEnd instruction n t (p + 7))) ∷ [])
+    pub listing-piece : Begun (function_lines 0 0 (functions_from count t at)) xs put out
+        (code_lines f 0 k (code_from n t (p + 7)) ∷ function_lines (suc f) (k + n) (functions_from (count - f - 1) t (values_end instruction n t (p + 7))) ∷ [])
     listing-piece = listing-here t at count xs out p put f k n l h listing-function
 
-    pub listing-few : k + n ≤ instructions (functionsFrom count t at)
+    pub listing-few : k + n ≤ instructions (functions_from count t at)
     listing-few = listing-lines t at count xs out p put f k n l h listing-function
 
     pub listing_step : {r : Next} {zs : List ℕ} → Lined r n t (p + 7) f k (from put out) zs →

@@ -7,40 +7,40 @@ use lib.ListN.{length, set}
 use Rattle.definitions.specs.Bytes.{decimal, ascii}
 use Rattle.definitions.specs.Calls.{written}
 use Rattle.definitions.specs.Instruction.{instr}
-use Rattle.definitions.specs.Columns.{leftIn, rightIn}
-use Rattle.definitions.specs.Listing.{firstText, secondText, nameText, codeLine, pageLine}
+use Rattle.definitions.specs.Columns.{left_in, right_in}
+use Rattle.definitions.specs.Listing.{first_text, second_text, name_text, code_line, page_line}
 use Rattle.definitions.specs.Statements.{LineFits}
 use Rattle.definitions.proofs.Columns.{length-right, length-left}
 use Rattle.definitions.proofs.Listing.{line-fits, line-long, page-long, first_fits, second_fits, six-digits}
 use Rattle.columns.specs.declared.Field.{Field}
 use Rattle.columns.specs.declared.Field.TheVariants.{Blank, Digits}
-use Rattle.columns.specs.Fields.{fieldText}
+use Rattle.columns.specs.Fields.{field_text}
 use Rattle.writing.proofs.Begun.{over, from, length-written, put_first, put_next, put_last}
 use Rattle.listing.specs.Lines.{Operands}
 use Rattle.listing.proofs.Fields.{line-pieces, page-pieces}
 
 -- what is shown, by what it is to be
-shown-written : (f : Field) {s z : List ℕ} (w : ℕ) (x : List ℕ) → fieldText f ≡ s → z ≡ written (rightIn w (fieldText f)) x → z ≡ written (rightIn w s) x
-shown-written f w x h e = e ∙ ap (λ (l : List ℕ). written (rightIn w l) x) h
+shown-written : (f : Field) {s z : List ℕ} (w : ℕ) (x : List ℕ) → field_text f ≡ s → z ≡ written (right_in w (field_text f)) x → z ≡ written (right_in w s) x
+shown-written f w x h e = e ∙ ap (λ (l : List ℕ). written (right_in w l) x) h
 
-pub first-room : {op a b : ℕ} (f : Field) → Operands op a b → fieldText f ≡ firstText op a → length (fieldText f) ≤ 21
+pub first-room : {op a b : ℕ} (f : Field) → Operands op a b → field_text f ≡ first_text op a → length (field_text f) ≤ 21
 first-room {op} {a} f O e = let l = ap length e in let h = first_fits op a O.first in omega arith
 
-pub second-room : {op a b : ℕ} (f : Field) → Operands op a b → fieldText f ≡ secondText op b → length (fieldText f) ≤ 4
+pub second-room : {op a b : ℕ} (f : Field) → Operands op a b → field_text f ≡ second_text op b → length (field_text f) ≤ 4
 second-room {op} {a} {b} f O e = let l = ap length e in let h = second_fits op b O.second in omega arith
 
 pub line-in : (f p op a b : ℕ) → f < 65536 → p < 65536 → Operands op a b → LineFits f p (instr op a b)
 line-in f p op a b hf hp O = line-fits f p (instr op a b) hf hp O.first O.second
 
-module _ {f p op a b : ℕ} (first second : Field) (F : LineFits f p (instr op a b)) (sa : fieldText first ≡ firstText op a) (sb : fieldText second ≡ secondText op b)
+module _ {f p op a b : ℕ} (first second : Field) (F : LineFits f p (instr op a b)) (sa : field_text first ≡ first_text op a) (sb : field_text second ≡ second_text op b)
     (xs x z₂ z₃ z₄ z₅ : List ℕ) (room : 53 ≤ length xs)
-    (e₁ : x ≡ written (rightIn 5 (fieldText (Digits f))) xs)
-    (e₂ : z₂ ≡ written (rightIn 6 (fieldText (Digits p))) (from 5 x))
-    (e₃ : z₃ ≡ written (32 ∷ leftIn 15 (nameText op)) (from 11 (over 5 x z₂)))
-    (e₄ : z₄ ≡ written (rightIn 21 (fieldText first)) (from 27 (over 11 (over 5 x z₂) z₃)))
-    (e₅ : z₅ ≡ written (rightIn 4 (fieldText second)) (from 48 (over 27 (over 11 (over 5 x z₂) z₃) z₄))) where
-  pub line-written : set (over 48 (over 27 (over 11 (over 5 x z₂) z₃) z₄) z₅) 52 10 ≡ written (codeLine f p (instr op a b)) xs
-  unfolding fieldText
+    (e₁ : x ≡ written (right_in 5 (field_text (Digits f))) xs)
+    (e₂ : z₂ ≡ written (right_in 6 (field_text (Digits p))) (from 5 x))
+    (e₃ : z₃ ≡ written (32 ∷ left_in 15 (name_text op)) (from 11 (over 5 x z₂)))
+    (e₄ : z₄ ≡ written (right_in 21 (field_text first)) (from 27 (over 11 (over 5 x z₂) z₃)))
+    (e₅ : z₅ ≡ written (right_in 4 (field_text second)) (from 48 (over 27 (over 11 (over 5 x z₂) z₃) z₄))) where
+  pub line-written : set (over 48 (over 27 (over 11 (over 5 x z₂) z₃) z₄) z₅) 52 10 ≡ written (code_line f p (instr op a b)) xs
+  unfolding field_text
   line-written =
       let i = instr op a b in
       let hp = F.place in
@@ -49,10 +49,10 @@ module _ {f p op a b : ℕ} (first second : Field) (F : LineFits f p (instr op a
       let l = line-long f p i F in
       let l₁ = length-right 5 (decimal f) F.function in
       let l₂ = length-right 6 (decimal p) (omega arith) in
-      let l₃ = length-left 15 (nameText op) F.name in
-      let l₄ = length-right 21 (firstText op a) (omega arith) in
-      let l₅ = length-right 4 (secondText op b) (omega arith) in
-      let b₁ = put_first (rightIn 5 (decimal f)) 5 (line-pieces f p i F) (omega arith) (omega arith) e₁ in
+      let l₃ = length-left 15 (name_text op) F.name in
+      let l₄ = length-right 21 (first_text op a) (omega arith) in
+      let l₅ = length-right 4 (second_text op b) (omega arith) in
+      let b₁ = put_first (right_in 5 (decimal f)) 5 (line-pieces f p i F) (omega arith) (omega arith) e₁ in
       let b₂ = put_next 11 b₁ (omega arith) e₂ in
       let b₃ = put_next 27 b₂ (omega arith) e₃ in
       let b₄ = put_next 48 b₃ (omega arith) (shown-written first 21 _ sa e₄) in
@@ -64,10 +64,10 @@ module _ {f p op a b : ℕ} (first second : Field) (F : LineFits f p (instr op a
 
 module _ {n : ℕ} (hn : n < 1000000) (xs x z₂ z₃ : List ℕ) (room : 53 ≤ length xs)
     (e₁ : x ≡ written (ascii "PAGE ") xs)
-    (e₂ : z₂ ≡ written (rightIn 6 (fieldText (Digits n))) (from 5 x))
-    (e₃ : z₃ ≡ written (rightIn 41 (fieldText Blank)) (from 11 (over 5 x z₂))) where
-  pub page-written : set (over 11 (over 5 x z₂) z₃) 52 10 ≡ written (pageLine n) xs
-  unfolding fieldText
+    (e₂ : z₂ ≡ written (right_in 6 (field_text (Digits n))) (from 5 x))
+    (e₃ : z₃ ≡ written (right_in 41 (field_text Blank)) (from 11 (over 5 x z₂))) where
+  pub page-written : set (over 11 (over 5 x z₂) z₃) 52 10 ≡ written (page_line n) xs
+  unfolding field_text
   page-written =
       let d = six-digits n hn in
       let l = page-long n d in

@@ -2,11 +2,11 @@
 ghost use Rattle.std.specs.Prelude.{◌++◌, ◌+◌, ◌≤◌, ◌<◌, length};
 ghost use Rattle.definitions.specs.Instruction.{instr};
 ghost use Rattle.definitions.specs.Module.{instructions};
-ghost use Rattle.definitions.specs.Reader.{functionRecord, instruction};
-ghost use Rattle.definitions.specs.Listing.{heading, codeLine, codeLines, functionLines};
-ghost use Rattle.reader.specs.View.{instructionsOf};
+ghost use Rattle.definitions.specs.Reader.{function_record, instruction};
+ghost use Rattle.definitions.specs.Listing.{heading, code_line, code_lines, function_lines};
+ghost use Rattle.reader.specs.View.{instructions_of};
 ghost use Rattle.writing.specs.Wrote.{Wrote};
-ghost use Rattle.tally.specs.Walk.{Values, codeFrom, functionsFrom};
+ghost use Rattle.tally.specs.Walk.{Values, code_from, functions_from};
 ghost use Rattle.listing.specs.Lines.{Operands, Lined};
 
 use crate::lines::{write_line, write_page};
@@ -16,8 +16,8 @@ use tally::{CODE, COUNT, count_code};
 
 // Code line k, after a page's first line where it begins a page.
 fn write_entry(k: u64, f: u64, place: u64, op: u8, a: u64, b: u64, out: &mut [u8]) -> usize
-    requires { (k < 1000000) × (f < 65536) × (place < 65536) × Operands op a b × (length (heading k ++ codeLine f place (instr op a b)) ≤ length out.old) }
-    ensures { Wrote result (heading k ++ codeLine f place (instr op a b)) out.old out.new }
+    requires { (k < 1000000) × (f < 65536) × (place < 65536) × Operands op a b × (length (heading k ++ code_line f place (instr op a b)) ≤ length out.old) }
+    ensures { Wrote result (heading k ++ code_line f place (instr op a b)) out.old out.new }
 {
     if k % PAGE == 0 {
         write_page(k / PAGE + 1, out);
@@ -30,8 +30,8 @@ fn write_entry(k: u64, f: u64, place: u64, op: u8, a: u64, b: u64, out: &mut [u8
 
 // The lines of the function f, whose code this is, from code line k on: their bytes.
 fn write_code(code: &[u8], f: u64, k: u64, out: &mut [u8]) -> usize
-    requires { (length (instructionsOf code.now) < 65536) × (f < 65536) × (k + length (instructionsOf code.now) < 1000000) × (length (codeLines f 0 k (instructionsOf code.now)) ≤ length out.old) }
-    ensures { Wrote result (codeLines f 0 k (instructionsOf code.now)) out.old out.new }
+    requires { (length (instructions_of code.now) < 65536) × (f < 65536) × (k + length (instructions_of code.now) < 1000000) × (length (code_lines f 0 k (instructions_of code.now)) ≤ length out.old) }
+    ensures { Wrote result (code_lines f 0 k (instructions_of code.now)) out.old out.new }
 {
     let mut c = Cursor { place: 0, at: 0 };
     let mut put = 0usize;
@@ -47,7 +47,7 @@ fn write_code(code: &[u8], f: u64, k: u64, out: &mut [u8]) -> usize
 
 // The lines of the function f, whose n instructions begin at `at`, from code line k on: its code is handed back as a part of the module.
 fn write_function(bytes: &[u8], at: usize, n: u64, f: u64, k: u64, out: &mut [u8]) -> Next
-    requires { Values instruction n bytes.now at × (n < 65536) × (f < 65536) × (k + n < 1000000) × (length (codeLines f 0 k (codeFrom n bytes.now at)) ≤ length out.old) }
+    requires { Values instruction n bytes.now at × (n < 65536) × (f < 65536) × (k + n < 1000000) × (length (code_lines f 0 k (code_from n bytes.now at)) ≤ length out.old) }
     ensures { Lined result n bytes.now at f k out.old out.new }
 {
     let end = count_code(bytes, at, n).at;
@@ -58,8 +58,8 @@ fn write_function(bytes: &[u8], at: usize, n: u64, f: u64, k: u64, out: &mut [u8
 
 // The lines of `count` functions from `at` on.
 pub(crate) fn write_functions(bytes: &[u8], at: usize, count: u64, out: &mut [u8]) -> usize
-    requires { Values functionRecord count bytes.now at × (count < 65536) × (instructions (functionsFrom count bytes.now at) < 1000000) × (length (functionLines 0 0 (functionsFrom count bytes.now at)) ≤ length out.old) }
-    ensures { Wrote result (functionLines 0 0 (functionsFrom count bytes.now at)) out.old out.new }
+    requires { Values function_record count bytes.now at × (count < 65536) × (instructions (functions_from count bytes.now at) < 1000000) × (length (function_lines 0 0 (functions_from count bytes.now at)) ≤ length out.old) }
+    ensures { Wrote result (function_lines 0 0 (functions_from count bytes.now at)) out.old out.new }
 {
     let mut p = at;
     let mut put = 0usize;

@@ -4,7 +4,7 @@ mod lines;
 mod names;
 
 ghost use Rattle.std.specs.Prelude.{◌≡◌, ◌+◌, ◌*◌, ◌/◌, ◌<◌};
-ghost use Rattle.definitions.specs.Calls.{listCall};
+ghost use Rattle.definitions.specs.Calls.{list_call};
 ghost use Rattle.tally.specs.Walk.{FunctionsAt};
 ghost use Rattle.tally.specs.Listed.{Printed};
 
@@ -35,7 +35,7 @@ fn listing_size(lines: u64) -> u64
 // The listing of a module whose functions begin at `at`.
 fn list_functions(bytes: &[u8], at: usize, out: &mut [u8]) -> Listed
     requires { FunctionsAt bytes.now at }
-    ensures { Printed result (listCall bytes.now out.old) out.new }
+    ensures { Printed result (list_call bytes.now out.old) out.new }
 {
     let count = number_at(bytes, at, 2);
     let lines = count_functions(bytes, at + 2, count);
@@ -48,7 +48,7 @@ fn list_functions(bytes: &[u8], at: usize, out: &mut [u8]) -> Listed
 
 // The listing of a module, written only where it fits.
 pub fn list(bytes: &[u8], out: &mut [u8]) -> Listed
-    ensures { Printed result (listCall bytes.now out.old) out.new }
+    ensures { Printed result (list_call bytes.now out.old) out.new }
 {
     let opened = open_module(bytes);
     match opened {

@@ -1,10 +1,10 @@
 // The lines of a listing, 52 columns and a line feed each.
 ghost use Rattle.std.specs.Prelude.{◌≡◌, ◌^◌, ◌≤◌, ◌<◌, length};
 ghost use Rattle.definitions.specs.Calls.{written};
-ghost use Rattle.definitions.specs.Instruction.{instr, firstWidth};
+ghost use Rattle.definitions.specs.Instruction.{instr, first_width};
 ghost use Rattle.definitions.specs.Columns.{signed};
-ghost use Rattle.definitions.specs.Listing.{firstText, secondText, codeLine, pageLine};
-ghost use Rattle.columns.specs.Fields.{fieldText};
+ghost use Rattle.definitions.specs.Listing.{first_text, second_text, code_line, page_line};
+ghost use Rattle.columns.specs.Fields.{field_text};
 ghost use Rattle.listing.specs.Lines.{Operands};
 
 use crate::names::put_name;
@@ -25,7 +25,7 @@ const LINE_FEED: u8 = 10;
 
 // A number of 64 bits, by its sign.
 fn signed_long(a: u64) -> Field
-    ensures { fieldText result ≡ signed 64 a }
+    ensures { field_text result ≡ signed 64 a }
 {
     if a < 9223372036854775808 {
         return Field::Digits(a);
@@ -36,7 +36,7 @@ fn signed_long(a: u64) -> Field
 // A number of 32 bits, by its sign.
 fn signed_short(a: u64) -> Field
     requires { a < 4294967296 }
-    ensures { fieldText result ≡ signed 32 a }
+    ensures { field_text result ≡ signed 32 a }
 {
     if a < 2147483648 {
         return Field::Digits(a);
@@ -46,8 +46,8 @@ fn signed_short(a: u64) -> Field
 
 // The first operand.
 fn first_shown(op: u8, a: u64) -> Field
-    requires { a < 256 ^ firstWidth op }
-    ensures { fieldText result ≡ firstText op a }
+    requires { a < 256 ^ first_width op }
+    ensures { field_text result ≡ first_text op a }
 {
     if first_width(op as usize) == 0 {
         return Field::Blank;
@@ -68,7 +68,7 @@ fn first_shown(op: u8, a: u64) -> Field
 
 // The second operand.
 fn second_shown(op: u8, b: u64) -> Field
-    ensures { fieldText result ≡ secondText op b }
+    ensures { field_text result ≡ second_text op b }
 {
     if second_width(op as usize) == 0 {
         return Field::Blank;
@@ -79,7 +79,7 @@ fn second_shown(op: u8, b: u64) -> Field
 // The line of an instruction at a place of the function f.
 pub(crate) fn write_line(f: u64, place: u64, op: u8, a: u64, b: u64, out: &mut [u8])
     requires { (f < 65536) × (place < 65536) × Operands op a b × (53 ≤ length out.old) }
-    ensures { out.new ≡ written (codeLine f place (instr op a b)) out.old }
+    ensures { out.new ≡ written (code_line f place (instr op a b)) out.old }
 {
     let first = first_shown(op, a);
     let second = second_shown(op, b);
@@ -94,7 +94,7 @@ pub(crate) fn write_line(f: u64, place: u64, op: u8, a: u64, b: u64, out: &mut [
 // The first line of page n.
 pub(crate) fn write_page(n: u64, out: &mut [u8])
     requires { (n < 1000000) × (53 ≤ length out.old) }
-    ensures { out.new ≡ written (pageLine n) out.old }
+    ensures { out.new ≡ written (page_line n) out.old }
 {
     write_bytes(b"PAGE ", out);
     put_field(6, Field::Digits(n), &mut out[5..]);

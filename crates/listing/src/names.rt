@@ -1,8 +1,8 @@
 // The names of the instructions.
 ghost use Rattle.std.specs.Prelude.{◌≡◌, ◌∷◌, ◌≤◌, ◌<◌, length};
 ghost use Rattle.definitions.specs.Calls.{written};
-ghost use Rattle.definitions.specs.Columns.{leftIn};
-ghost use Rattle.definitions.specs.Listing.{nameText};
+ghost use Rattle.definitions.specs.Columns.{left_in};
+ghost use Rattle.definitions.specs.Listing.{name_text};
 
 use writing::write_bytes;
 
@@ -13,7 +13,7 @@ const NAMES: [u8; 736] =
 // A space and an instruction's name, in 16 columns.
 pub(crate) fn put_name(op: u8, out: &mut [u8])
     requires { (op < 46) × (16 ≤ length out.old) }
-    ensures { out.new ≡ written (32 ∷ leftIn 15 (nameText op)) out.old }
+    ensures { out.new ≡ written (32 ∷ left_in 15 (name_text op)) out.old }
 {
     let names = NAMES;
     let from = op as usize * 16;

@@ -5,10 +5,10 @@ use mathlib.Core.List.{List, [], ◌∷◌, ◌++◌}
 use native.Mathlib.Omega.{arith}
 use lib.ListN.{length, take, drop, length-append}
 use lib.Seq.{take_at, take_all}
-use Rattle.definitions.specs.Bytes.{Answer, refused, accepted, whenAccepted, ascii, decimal}
-use Rattle.definitions.specs.Module.{office, limitsBy}
-use Rattle.definitions.specs.Calls.{written, outputAfter, countAnswer, lowerAnswer, lowerCall, lowerProgram}
-use Rattle.limits.specs.Sets.{said as setNumber, limitsFor}
+use Rattle.definitions.specs.Bytes.{Answer, refused, accepted, when_accepted, ascii, decimal}
+use Rattle.definitions.specs.Module.{office, limits_by}
+use Rattle.definitions.specs.Calls.{written, output_after, count_answer, lower_answer, lower_call, lower_program}
+use Rattle.limits.specs.Sets.{said as set_number, limits_for}
 use Rattle.limits.specs.declared.Limits.TheVariants.{Office}
 use Rattle.names.specs.Made.{pasted}
 use Rattle.definitions.proofs.Decimals.{length-decimal}
@@ -40,41 +40,41 @@ line-pasted q p e r xs ys zs us h room a d b =
 
 -- ---- the program
 
-program-wrote : (input bs : List ℕ) → lowerAnswer office 16384 16384 65536 (take 32769 input) ≡ accepted bs → lowerProgram input ≡ bs
-unfolding lowerProgram
-program-wrote input bs e = rw (e, lowerProgram)
+program-wrote : (input bs : List ℕ) → lower_answer office 16384 16384 65536 (take 32769 input) ≡ accepted bs → lower_program input ≡ bs
+unfolding lower_program
+program-wrote input bs e = rw (e, lower_program)
 
-program-refused : (input : List ℕ) (q : ℕ) → lowerAnswer office 16384 16384 65536 (take 32769 input) ≡ refused q → lowerProgram input ≡ ascii "refused " ++ (decimal q ++ 10 ∷ [])
-unfolding lowerProgram
-program-refused input q e = rw (e, lowerProgram)
+program-refused : (input : List ℕ) (q : ℕ) → lower_answer office 16384 16384 65536 (take 32769 input) ≡ refused q → lower_program input ≡ ascii "refused " ++ (decimal q ++ 10 ∷ [])
+unfolding lower_program
+program-refused input q e = rw (e, lower_program)
 
 -- the lowering's answer, where its slices are the program's
-same_answer : (m n room : ℕ) (input : List ℕ) (a : Answer (List ℕ)) → 16384 ≡ m → 16384 ≡ n → 65536 ≡ room → length input ≤ 32769 → lowerAnswer office m n room input ≡ a → lowerAnswer office 16384 16384 65536 (take 32769 input) ≡ a
-same_answer m n room input a e f g h k = (λ i. lowerAnswer office (e i) (f i) (g i) (take_all 32769 input h i)) ∙ k
+same_answer : (m n room : ℕ) (input : List ℕ) (a : Answer (List ℕ)) → 16384 ≡ m → 16384 ≡ n → 65536 ≡ room → length input ≤ 32769 → lower_answer office m n room input ≡ a → lower_answer office 16384 16384 65536 (take 32769 input) ≡ a
+same_answer m n room input a e f g h k = (λ i. lower_answer office (e i) (f i) (g i) (take_all 32769 input h i)) ∙ k
 
-wrote : (a : Answer (List ℕ)) (n : ℕ) (out out' : List ℕ) → accepted n ≡ countAnswer a → out' ≡ outputAfter a out → (bs : List ℕ) × (a ≡ accepted bs) × Answered n out' bs
-unfolding countAnswer outputAfter written whenAccepted
+wrote : (a : Answer (List ℕ)) (n : ℕ) (out out' : List ℕ) → accepted n ≡ count_answer a → out' ≡ output_after a out → (bs : List ℕ) × (a ≡ accepted bs) × Answered n out' bs
+unfolding count_answer output_after written when_accepted
 wrote (refused q) n out out' e f = let z : ◌≡◌ {A = ℕ} 0 1 = cc in absurd (omega arith)
 wrote (accepted bs) n out out' e f = let x : n ≡ length bs = cc in (bs, refl, at-start n bs (drop (length bs) out) out' x f)
 
-refuses : (a : Answer (List ℕ)) (q : ℕ) → refused q ≡ countAnswer a → a ≡ refused q
-unfolding countAnswer whenAccepted
+refuses : (a : Answer (List ℕ)) (q : ℕ) → refused q ≡ count_answer a → a ≡ refused q
+unfolding count_answer when_accepted
 refuses (refused p) q e = cc
 refuses (accepted bs) q e = let z : ◌≡◌ {A = ℕ} 0 1 = cc in absurd (omega arith)
 
-module _ (r : Lowered) (input area₁ area₂ out area₁' area₂' out' : List ℕ) (L : Lowers r area₁' area₂' out' (lowerCall (limitsFor Office) input area₁ area₂ out))
+module _ (r : Lowered) (input area₁ area₂ out area₁' area₂' out' : List ℕ) (L : Lowers r area₁' area₂' out' (lower_call (limits_for Office) input area₁ area₂ out))
     (first : 16384 ≡ length area₁) (second : 16384 ≡ length area₂) (room : 65536 ≡ length out) (short : length input ≤ 32769) where
   abbrev whole : Answer (List ℕ)
-  whole = lowerAnswer office (length area₁) (length area₂) (length out) input
+  whole = lower_answer office (length area₁) (length area₂) (length out) input
 
-  pub answered-wrote : (n : ℕ) → r ≡ Wrote n → Answered n out' (lowerProgram input)
-  unfolding said lowerCall limitsBy setNumber
+  pub answered-wrote : (n : ℕ) → r ≡ Wrote n → Answered n out' (lower_program input)
+  unfolding said lower_call limits_by set_number
   answered-wrote n e =
       let w = wrote whole n out out' (sym (ap said e) ∙ L.answer) L.output in
       rw (program-wrote input w.0 (same_answer _ _ _ input _ first second room short w.1)) w.2
 
-  pub answered-refused : (q n : ℕ) (line : List ℕ) → r ≡ Refused q → Answered n line (ascii "refused " ++ (decimal q ++ 10 ∷ [])) → Answered n line (lowerProgram input)
-  unfolding said lowerCall limitsBy setNumber
+  pub answered-refused : (q n : ℕ) (line : List ℕ) → r ≡ Refused q → Answered n line (ascii "refused " ++ (decimal q ++ 10 ∷ [])) → Answered n line (lower_program input)
+  unfolding said lower_call limits_by set_number
   answered-refused q n line e A =
       let w = refuses whole q (sym (ap said e) ∙ L.answer) in
       rw (program-refused input q (same_answer _ _ _ input _ first second room short w)) A

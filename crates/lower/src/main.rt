@@ -1,7 +1,7 @@
 // Lowers the tree on standard input: the module's bytes, or `refused N`, on standard output.
 ghost use Rattle.std.specs.Prelude.{◌≤◌, ◌≡◌, ◌∷◌, [], ◌++◌, length};
 ghost use Rattle.definitions.specs.Bytes.{ascii, decimal};
-ghost use Rattle.definitions.specs.Calls.{lowerProgram};
+ghost use Rattle.definitions.specs.Calls.{lower_program};
 ghost use Rattle.lower.specs.Answered.{Answered};
 
 use libc::{STDERR_FILENO, STDIN_FILENO, STDOUT_FILENO};
@@ -22,7 +22,7 @@ fn refusal(q: u32, out: &mut [u8]) -> usize
 // What the program writes for an input, at the output's start, and how many bytes that is.
 fn answer(input: &[u8], out: &mut [u8]) -> usize
     requires { (length input.now ≤ 32769) × (65536 ≡ length out.old) }
-    ensures { Answered result out.new (lowerProgram input.now) }
+    ensures { Answered result out.new (lower_program input.now) }
 {
     let mut area1 = [0u32; 16384];
     let mut area2 = [0u32; 16384];

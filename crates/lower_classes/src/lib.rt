@@ -4,7 +4,7 @@ ghost use Rattle.std.proofs.Math.Seq.{paste};
 ghost use Rattle.lower_emit.specs.Numbers.{Room, Functions, SoundIn};
 ghost use Rattle.lower_names.specs.Naming.{Naming};
 ghost use Rattle.lower_classes.specs.Classes.{Classes, BeginsClass, EndsClass, AddsConstant, BeginsNamed, StoresClass, FinishesClass};
-ghost use Rattle.lower_emit.specs.Places.{functionsIn, classesIn, methodsIn, constantsIn};
+ghost use Rattle.lower_emit.specs.Places.{functions_in, classes_in, methods_in, constants_in};
 
 use lower_emit::{begin_function, put_op};
 use lower_names::intern;
@@ -52,7 +52,7 @@ pub(crate) fn end_class(
     list: &[u32],
     n: u32,
 )
-    requires { (16384 ≤ length tables.old) × (10 ≡ length k.old) × (i < 64) × (at < 2 ^ 32) × (n ≤ length list.now) × (methodsIn k.old + n ≤ 256) }
+    requires { (16384 ≤ length tables.old) × (10 ≡ length k.old) × (i < 64) × (at < 2 ^ 32) × (n ≤ length list.now) × (methods_in k.old + n ≤ 256) }
     ensures { EndsClass i at n list.now tables.old tables.new k.old k.new }
 {
     let m = k[METHODS];
@@ -64,7 +64,7 @@ pub(crate) fn end_class(
 
 // The next constant's number; it is class i.
 pub(crate) fn add_constant(tables: &mut [u32], k: &mut [u32; COUNTS], i: u32) -> u32
-    requires { (16384 ≤ length tables.old) × (10 ≡ length k.old) × (constantsIn k.old < 64) }
+    requires { (16384 ≤ length tables.old) × (10 ≡ length k.old) × (constants_in k.old < 64) }
     ensures { AddsConstant result i tables.old tables.new k.old k.new }
 {
     let n = k[CONSTANTS];
@@ -104,7 +104,7 @@ fn store_class(
     symbol: u32,
     next: usize,
 ) -> usize
-    requires { Room code.old k.old l.now × (16384 ≤ length tables.old) × (constantsIn k.old < 64) × (symbol < 65536) × (0 < next) }
+    requires { Room code.old k.old l.now × (16384 ≤ length tables.old) × (constants_in k.old < 64) × (symbol < 65536) × (0 < next) }
     ensures { StoresClass result i symbol next code.old tables.old k.old l.now code.new tables.new k.new }
 {
     let n = add_constant(tables, k, i);
@@ -129,7 +129,7 @@ pub fn finish_class(
     i: u32,
     next: usize,
 ) -> usize
-    requires { SoundIn tree.now made.now code.old tables.old k.old l.now × (i < classesIn k.old) × (at < 32768) × (n ≤ length list.now) × (methodsIn k.old + n ≤ functionsIn k.old) × (constantsIn k.old < classesIn k.old) × (0 < next) }
+    requires { SoundIn tree.now made.now code.old tables.old k.old l.now × (i < classes_in k.old) × (at < 32768) × (n ≤ length list.now) × (methods_in k.old + n ≤ functions_in k.old) × (constants_in k.old < classes_in k.old) × (0 < next) }
     ensures { FinishesClass result at n i next list.now tree.now made.now code.old tables.old k.old l.now code.new tables.new k.new }
 {
     end_class(tables, k, i, at, list, n);

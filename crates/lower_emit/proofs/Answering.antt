@@ -5,7 +5,7 @@ use mathlib.Core.List.{List, [], ◌∷◌}
 use lib.ListN.{length, length-append}
 use Rattle.definitions.specs.Instruction.{Instr}
 use Rattle.definitions.specs.Tables.{one}
-use Rattle.state.specs.State.{State, emitAt, Within, Left, Emits}
+use Rattle.state.specs.State.{State, emit_at, Within, Left, Emits}
 use Rattle.state.specs.declared.Counts.{Counts}
 use Rattle.state.specs.Answered.{Limits, Emitted, Full}
 use Rattle.state.proofs.Views.{stack-length}
@@ -16,7 +16,7 @@ use Rattle.state.proofs.Answers.{emits-full, full-emits, emits-as, emits-after}
 pub open_after : (t made code tables : List ℕ) (c k : Counts) (l : Limits) (want : State) → Left k t made code tables c l want → k.open ≡ length want.stack
 open_after t made code tables c k l want A = sym (stack-length t made code tables k l A.sound) ∙ ap (λ (s : State). length s.stack) A.state
 
-pub one-longer : (base : ℕ) (i : Instr) (s : State) → length (emitAt base (one i) s).stack ≡ length s.stack + 1
+pub one-longer : (base : ℕ) (i : Instr) (s : State) → length (emit_at base (one i) s).stack ≡ length s.stack + 1
 one-longer base i s = ap (λ (u : State). length u.stack) (at_one base i s) ∙ length-append s.stack (i ∷ [])
 
 -- over the limits by what another answer says

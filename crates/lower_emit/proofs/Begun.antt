@@ -7,9 +7,9 @@ use native.Mathlib.Nat.{le_refl}
 use lib.ListN.{length, drop, set, length-append}
 use Rattle.definitions.specs.Slots.{Frame}
 use Rattle.definitions.specs.Tables.{Function, Tables, begin}
-use Rattle.state.specs.Words.{region, textAt, instrsOf}
-use Rattle.state.specs.State.{stringsFrom, headsFrom, codesFrom, classNamesFrom, classMethodsFrom, methodsFrom, constantsFrom, doneFrom, spelled, functionOf, functionsOf}
-use Rattle.state.specs.State.{classesOf, State, tables_of, state_of, Every, EndsWithin, MadeWithin, total, Sound, symbolIndexFrom, symbolBuckets, stringIndexFrom, stringBuckets}
+use Rattle.state.specs.Words.{region, text_at, instrs_of}
+use Rattle.state.specs.State.{strings_from, heads_from, codes_from, class_names_from, class_methods_from, methods_from, constants_from, done_from, spelled, function_of, functions_of}
+use Rattle.state.specs.State.{classes_of, State, tables_of, state_of, Every, EndsWithin, MadeWithin, total, Sound, symbol_index_from, symbol_buckets, string_index_from, string_buckets}
 use Rattle.state.specs.Steps.{begun}
 use Rattle.state.specs.declared.Counts.{Counts}
 use Rattle.state.specs.Answered.{Limits, At, Over}
@@ -17,12 +17,12 @@ use Rattle.state.proofs.Index.{symbols-indexed, strings-indexed}
 use Rattle.state.proofs.Regions.{region-length, every-snoc, functions-snoc, total-snoc}
 use Rattle.state.proofs.Views.{function-count}
 use Rattle.state.proofs.Emission.{state-eq}
-use Rattle.lower_emit.specs.Nesting.{begunWith, body_of, Begins}
+use Rattle.lower_emit.specs.Nesting.{begun_with, body_of, Begins}
 use Rattle.lower_emit.proofs.Setting.{grown-length, grown-below, grown-above, grown-first, grown-second}
 
 -- for any frame of so many slots
-pub begun-frame : (k arity n : ℕ) (frame : Frame) (s : State) → frame.locals ≡ n → begunWith k arity n s ≡ begun k arity frame s
-unfolding begunWith begun begin
+pub begun-frame : (k arity n : ℕ) (frame : Frame) (s : State) → frame.locals ≡ n → begun_with k arity n s ≡ begun k arity frame s
+unfolding begun_with begun begin
 begun-frame k arity n frame s e = rw (← e)
 
 body-here : (fs gs : List Function) (f : Function) → body_of (fs ++ (f ∷ gs)) (length fs) ≡ f.code
@@ -41,8 +41,8 @@ tables-eq t u a b c d e = λ i. record { symbols = a i; strings = b i; functions
 
 -- a head is the function of its parts; it has no code
 head-function : (t fin : List ℕ) (sy ar lo h : ℕ) → sy < 65536 → ar < 256 → lo < 256 → h ≡ sy * 65536 + ar * 256 + lo →
-    functionOf t fin h 0 ≡ record { symbol = sy; arity = ar; locals = lo; code = [] }
-unfolding functionOf region instrsOf
+    function_of t fin h 0 ≡ record { symbol = sy; arity = ar; locals = lo; code = [] }
+unfolding function_of region instrs_of
 head-function t fin sy ar lo h a b c e =
     let p : h / 2 ^ 16 ≡ sy = omega arith in
     let q : h / 2 ^ 8 % 2 ^ 8 ≡ ar = omega arith in
@@ -50,8 +50,8 @@ head-function t fin sy ar lo h a b c e =
     λ i. record { symbol = p i; arity = q i; locals = r i; code = [] }
 
 -- the counts with one function more, which is the innermost
-abbrev pub oneMore : Counts → Counts
-oneMore c = record {
+abbrev pub one_more : Counts → Counts
+one_more c = record {
   symbols = c.symbols;
   strings = c.strings;
   functions = c.functions + 1;
@@ -66,49 +66,49 @@ oneMore c = record {
 
 module _ (t made code tables : List ℕ) (sy ar lo h : ℕ) (c : Counts) (l : Limits) (s : Sound t made code tables c l) (more : c.functions < l.functions) where
   abbrev after : List ℕ
-  after = set (set tables (headsFrom + c.functions) h) (codesFrom + c.functions) 0
+  after = set (set tables (heads_from + c.functions) h) (codes_from + c.functions) 0
 
-  apart : headsFrom + c.functions < codesFrom
+  apart : heads_from + c.functions < codes_from
   apart = omega (arith, s.limited.functions)
 
-  room : codesFrom + c.functions < length tables
+  room : codes_from + c.functions < length tables
   room = omega (arith, s.limited.functions, s.tables-room)
 
-  kept-below : (b k : ℕ) → b + k ≤ headsFrom → region b k after ≡ region b k tables
-  kept-below = grown-below headsFrom codesFrom c.functions h tables apart room
+  kept-below : (b k : ℕ) → b + k ≤ heads_from → region b k after ≡ region b k tables
+  kept-below = grown-below heads_from codes_from c.functions h tables apart room
 
-  kept_above : (b k : ℕ) → classNamesFrom ≤ b → region b k after ≡ region b k tables
-  kept_above b k g = grown-above headsFrom codesFrom c.functions h tables apart room b k (let z = apart in omega arith)
+  kept_above : (b k : ℕ) → class_names_from ≤ b → region b k after ≡ region b k tables
+  kept_above b k g = grown-above heads_from codes_from c.functions h tables apart room b k (let z = apart in omega arith)
 
-  heads-after : region headsFrom (c.functions + 1) after ≡ region headsFrom c.functions tables ++ h ∷ []
-  heads-after = grown-first headsFrom codesFrom c.functions h tables apart room
+  heads-after : region heads_from (c.functions + 1) after ≡ region heads_from c.functions tables ++ h ∷ []
+  heads-after = grown-first heads_from codes_from c.functions h tables apart room
 
-  codes-after : region codesFrom (c.functions + 1) after ≡ region codesFrom c.functions tables ++ 0 ∷ []
-  codes-after = grown-second headsFrom codesFrom c.functions h tables apart room
+  codes-after : region codes_from (c.functions + 1) after ≡ region codes_from c.functions tables ++ 0 ∷ []
+  codes-after = grown-second heads_from codes_from c.functions h tables apart room
 
   begin-state : sy < 65536 → ar < 256 → lo < 256 → h ≡ sy * 65536 + ar * 256 + lo →
-      state_of t made code after (oneMore c) ≡ begunWith sy ar lo (state_of t made code tables c)
-  unfolding state_of tables_of begunWith
+      state_of t made code after (one_more c) ≡ begun_with sy ar lo (state_of t made code tables c)
+  unfolding state_of tables_of begun_with
   begin-state x y z e =
-      let fin = drop doneFrom code in
-      let hs = region headsFrom c.functions tables in
-      let ks = region codesFrom c.functions tables in
-      let m : length hs ≡ c.functions = region-length headsFrom c.functions tables (omega (arith, s.functions, s.limited.functions, s.tables-room)) in
-      let n : length ks ≡ c.functions = region-length codesFrom c.functions tables (omega (arith, s.functions, s.limited.functions, s.tables-room)) in
+      let fin = drop done_from code in
+      let hs = region heads_from c.functions tables in
+      let ks = region codes_from c.functions tables in
+      let m : length hs ≡ c.functions = region-length heads_from c.functions tables (omega (arith, s.functions, s.limited.functions, s.tables-room)) in
+      let n : length ks ≡ c.functions = region-length codes_from c.functions tables (omega (arith, s.functions, s.limited.functions, s.tables-room)) in
       let a = kept-below 0 c.symbols (omega (arith, s.symbols, s.limited.symbols)) in
-      let b = kept-below stringsFrom c.strings (omega (arith, s.strings, s.limited.strings)) in
-      let p = kept_above methodsFrom 256 (omega arith) in
-      let q = kept_above classNamesFrom c.classes (omega arith) in
-      let r = kept_above classMethodsFrom c.classes (omega arith) in
-      state-eq _ _ refl (tables-eq _ _ (ap (map (spelled t made)) a) (ap (map (textAt t)) b)
-      ((λ i. functionsOf t fin (heads-after i) (codes-after i)) ∙ functions-snoc t fin hs ks h 0 (m ∙ sym n)
-      ∙ ap (λ (f : Function). functionsOf t fin hs ks ++ f ∷ []) (head-function t fin sy ar lo h x y z e))
-      (λ i. classesOf t (p i) (q i) (r i)) (kept_above constantsFrom c.constants (omega arith)))
+      let b = kept-below strings_from c.strings (omega (arith, s.strings, s.limited.strings)) in
+      let p = kept_above methods_from 256 (omega arith) in
+      let q = kept_above class_names_from c.classes (omega arith) in
+      let r = kept_above class_methods_from c.classes (omega arith) in
+      state-eq _ _ refl (tables-eq _ _ (ap (map (spelled t made)) a) (ap (map (text_at t)) b)
+      ((λ i. functions_of t fin (heads-after i) (codes-after i)) ∙ functions-snoc t fin hs ks h 0 (m ∙ sym n)
+      ∙ ap (λ (f : Function). functions_of t fin hs ks ++ f ∷ []) (head-function t fin sy ar lo h x y z e))
+      (λ i. classes_of t (p i) (q i) (r i)) (kept_above constants_from c.constants (omega arith)))
 
-  begin-sound : Sound t made code after (oneMore c) l
+  begin-sound : Sound t made code after (one_more c) l
   begin-sound = record {
     code-room = s.code-room;
-    tables-room = omega (arith, s.tables-room, grown-length headsFrom codesFrom c.functions h tables apart room);
+    tables-room = omega (arith, s.tables-room, grown-length heads_from codes_from c.functions h tables apart room);
     made-room = s.made-room;
     limited = s.limited;
     symbols = s.symbols;
@@ -122,14 +122,14 @@ module _ (t made code tables : List ℕ) (sy ar lo h : ℕ) (c : Counts) (l : Li
     made-count = s.made-count;
     names = subst (Every (MadeWithin made c.made)) (sym (kept-below 0 c.symbols (omega (arith, s.symbols, s.limited.symbols)))) s.names;
     codes = subst (Every (EndsWithin c.done)) (sym codes-after) (every-snoc s.codes (omega arith));
-    class-methods = subst (Every (EndsWithin c.methods)) (sym (kept_above classMethodsFrom c.classes (omega arith))) s.class-methods;
-    finished = s.finished ∙ sym (ap total codes-after ∙ total-snoc (region codesFrom c.functions tables) 0 ∙ omega arith);
-    symbol-index = symbols-indexed t made tables _ c.symbols (kept_above symbolIndexFrom symbolBuckets (omega arith)) (kept-below 0 c.symbols (omega (arith, s.symbols, s.limited.symbols))) s.symbol-index;
-    string-index = strings-indexed t tables _ c.strings (kept_above stringIndexFrom stringBuckets (omega arith)) (kept-below stringsFrom c.strings (omega (arith, s.strings, s.limited.strings))) s.string-index;
+    class-methods = subst (Every (EndsWithin c.methods)) (sym (kept_above class_methods_from c.classes (omega arith))) s.class-methods;
+    finished = s.finished ∙ sym (ap total codes-after ∙ total-snoc (region codes_from c.functions tables) 0 ∙ omega arith);
+    symbol-index = symbols-indexed t made tables _ c.symbols (kept_above symbol_index_from symbol_buckets (omega arith)) (kept-below 0 c.symbols (omega (arith, s.symbols, s.limited.symbols))) s.symbol-index;
+    string-index = strings-indexed t tables _ c.strings (kept_above string_index_from string_buckets (omega arith)) (kept-below strings_from c.strings (omega (arith, s.strings, s.limited.strings))) s.string-index;
   }
 
   pub begin-at : sy < 65536 → ar < 256 → lo < 256 → h ≡ sy * 65536 + ar * 256 + lo →
-      Begins (At c.functions (oneMore c)) t made code after c l (length (state_of t made code tables c).tables.functions) (begunWith sy ar lo (state_of t made code tables c))
+      Begins (At c.functions (one_more c)) t made code after c l (length (state_of t made code tables c).tables.functions) (begun_with sy ar lo (state_of t made code tables c))
   unfolding Begins
   begin-at x y z e = (
     sym (function-count t made code tables c l s),
@@ -143,7 +143,7 @@ module _ (t made code tables : List ℕ) (sy ar lo h : ℕ) (c : Counts) (l : Li
   )
 
 pub begin-over : (t made code tables tables' : List ℕ) (sy ar lo n : ℕ) (c : Counts) (l : Limits) → Sound t made code tables c l → l.functions ≤ c.functions →
-    Begins Over t made code tables' c l n (begunWith sy ar lo (state_of t made code tables c))
-unfolding Begins begunWith
+    Begins Over t made code tables' c l n (begun_with sy ar lo (state_of t made code tables c))
+unfolding Begins begun_with
 begin-over t made code tables tables' sy ar lo n c l s h = λ inside.
     omega (arith, inside.functions, function-count t made code tables c l s, length-append (state_of t made code tables c).tables.functions (record { symbol = sy; arity = ar; locals = lo; code = [] } ∷ []))

@@ -3,7 +3,7 @@ use Prim.Native.Nat.{ℕ}
 use mathlib.Core.Path.{◌≡◌, refl, sym, ap, ◌∙◌}
 use mathlib.Core.List.{List, []}
 use Rattle.definitions.specs.Tables.{Emit, emits, ◌⨟◌}
-use Rattle.state.specs.State.{state_of, emitAt, Sound, Left}
+use Rattle.state.specs.State.{state_of, emit_at, Sound, Left}
 use Rattle.state.specs.declared.Counts.{Counts}
 use Rattle.state.specs.Answered.{Limits, Emitted, Done, Full}
 use Rattle.state.proofs.Answers.{emits-full, full-emits, done-emits, emits-as, emits-after, left-none, left_as, base-below}
@@ -20,11 +20,11 @@ lowers-as r e e' q q' t made code tables made' code' tables' c l h f g = rw (f, 
 module _ (t made code tables : List ℕ) (c : Counts) (l : Limits) (s : Sound t made code tables c l) (e : Emit) where
   -- the part after a part that is done; n is where the first ends, which is m
   pub then-lowers : (f : ℕ → Emit) (g : ℕ → ℕ) (r : Emitted) (n m : ℕ) (made₁ code₁ tables₁ made₂ code₂ tables₂ : List ℕ) (k : Counts)
-      → (n ≡ m) × Left k t made₁ code₁ tables₁ c l (emitAt c.base e (state_of t made code tables c)) → Lowers r (f n) (g n) t made₁ code₁ tables₁ made₂ code₂ tables₂ k l
+      → (n ≡ m) × Left k t made₁ code₁ tables₁ c l (emit_at c.base e (state_of t made code tables c)) → Lowers r (f n) (g n) t made₁ code₁ tables₁ made₂ code₂ tables₂ k l
       → Lowers r (e ⨟ f m) (g m) t made code tables made₂ code₂ tables₂ c l
   then-lowers f g r n m made₁ code₁ tables₁ made₂ code₂ tables₂ k h x =
       emits-as r t made₂ code₂ tables₂ c l (g n) (g m) _ _ (ap g h.0)
-      ((λ i. emitAt (h.1.base i) (f (h.0 i)) (h.1.state i)) ∙ sym (at-seq c.base e (f m) (state_of t made code tables c) (base-below t made code tables c l s)))
+      ((λ i. emit_at (h.1.base i) (f (h.0 i)) (h.1.state i)) ∙ sym (at-seq c.base e (f m) (state_of t made code tables c) (base-below t made code tables c l s)))
       (emits-after r made₂ code₂ tables₂ (g n) _ h.1 x)
 
   -- the first part is over the limits

@@ -13,14 +13,14 @@ use Rattle.state.proofs.Regions.{set_below, set-above, set_next}
 abbrev pub mixed : ℕ → List ℕ → List ℕ → List ℕ
 mixed i P xs = take i P ++ drop i xs
 
-getD-none : (i : ℕ) → ◌≡◌ {A = ℕ} (get_or [] i 0) 0
-getD-none zero = refl
-getD-none (suc i) = refl
+get_d-none : (i : ℕ) → ◌≡◌ {A = ℕ} (get_or [] i 0) 0
+get_d-none zero = refl
+get_d-none (suc i) = refl
 
 pub mixed-read : (i : ℕ) (P xs : List ℕ) → i ≤ length P → get_or (mixed i P xs) i 0 ≡ get_or xs i 0
 mixed-read zero P xs h = refl
 mixed-read (suc i) [] xs h = absurd (omega arith)
-mixed-read (suc i) (p ∷ P) [] h = ap (λ (l : List ℕ). get_or (take i P ++ l) i 0) (sym (drop-nil i)) ∙ mixed-read i P [] (omega arith) ∙ getD-none i
+mixed-read (suc i) (p ∷ P) [] h = ap (λ (l : List ℕ). get_or (take i P ++ l) i 0) (sym (drop-nil i)) ∙ mixed-read i P [] (omega arith) ∙ get_d-none i
 mixed-read (suc i) (p ∷ P) (x ∷ xs) h = mixed-read i P xs (omega arith)
 
 mixed-suc : (i : ℕ) (P xs : List ℕ) → i < length P → i < length xs → set (mixed i P xs) i (get_or P i 0) ≡ mixed (suc i) P xs

@@ -4,7 +4,7 @@ use mathlib.Core.Path.{◌≡◌}
 use mathlib.Core.List.{List}
 use Rattle.definitions.specs.Instruction.{Instr, instr, ConstI64}
 use Rattle.definitions.specs.Tables.{Emit, one, ◌⨟◌}
-use Rattle.state.specs.Words.{word, instrOf}
+use Rattle.state.specs.Words.{word, instr_of}
 use Rattle.state.proofs.Growth.{Lengthens}
 use Rattle.lower_emit.specs.Ops.{Plain}
 use Rattle.lower_emit.proofs.Packing.{instr-plain, instr-small}
@@ -13,7 +13,7 @@ use Rattle.lower_emit.proofs.Steps.{put-lifts, sound-next, lowers_then, lowers-s
 use Rattle.lower_emit.specs.Writes.{Writes}
 
 -- one word, whose instruction doesn't depend on the tree
-pub word-writes : {code code' k k' l : List ℕ} {r w next : ℕ} {i : Instr} → 0 < next → ((t : List ℕ) → instrOf t w ≡ i) → Put r code code' k k' l w next → Writes r (one i) next code k l code' k'
+pub word-writes : {code code' k k' l : List ℕ} {r w next : ℕ} {i : Instr} → 0 < next → ((t : List ℕ) → instr_of t w ≡ i) → Put r code code' k k' l w next → Writes r (one i) next code k l code' k'
 word-writes n e h = record { lowers = λ t made tables S. put-lifts _ S n (e t) h }
 
 module _ {code code₁ k k₁ l : List ℕ} {r next : ℕ} {e : Emit} (h : Writes r e next code k l code₁ k₁) where

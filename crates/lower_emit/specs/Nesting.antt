@@ -1,15 +1,15 @@
 -- What the beginning and the end of a function leave, and of a class.
 use Rattle.std.specs.Prelude.{ℕ, zero, suc, ◌+◌, ◌<◌, ◌≡◌, List, [], ◌∷◌, ◌++◌}
 use Rattle.definitions.specs.Instruction.{Instr}
-use Rattle.definitions.specs.Tables.{Function, withFunctions}
-use Rattle.state.specs.State.{State, state_of, withTables, Within, Sound, Paced}
+use Rattle.definitions.specs.Tables.{Function, with_functions}
+use Rattle.state.specs.State.{State, state_of, with_tables, Within, Sound, Paced}
 use Rattle.state.specs.declared.Counts.{Counts}
 use Rattle.state.specs.Answered.{Limits, Numbered, At, Over}
 
 -- a function of n slots has begun: `begun`, where the rest of its frame doesn't matter
-unfoldable pub begunWith : ℕ → ℕ → ℕ → State → State
-begunWith k arity n s =
-    withTables (withFunctions (s.tables.functions ++ record { symbol = k; arity = arity; locals = n; code = [] } ∷ []) s.tables) s
+unfoldable pub begun_with : ℕ → ℕ → ℕ → State → State
+begun_with k arity n s =
+    with_tables (with_functions (s.tables.functions ++ record { symbol = k; arity = arity; locals = n; code = [] } ∷ []) s.tables) s
 
 -- the code of function n
 unfoldable pub body_of : List Function → ℕ → List Instr
@@ -31,8 +31,8 @@ Begins (At i k) tree made code tables c l number want = (i ≡ number) × Moved 
 Begins Over tree made code tables c l number want = Within l want → ⊥
 
 -- the counts with another number of open words
-abbrev pub withOpen : ℕ → Counts → Counts
-withOpen n c = record {
+abbrev pub with_open : ℕ → Counts → Counts
+with_open n c = record {
   symbols = c.symbols;
   strings = c.strings;
   functions = c.functions;
@@ -46,8 +46,8 @@ withOpen n c = record {
 }
 
 -- the counts with other numbers of methods and of constants
-abbrev pub withMethods : ℕ → Counts → Counts
-withMethods n c = record {
+abbrev pub with_methods : ℕ → Counts → Counts
+with_methods n c = record {
   symbols = c.symbols;
   strings = c.strings;
   functions = c.functions;
@@ -60,8 +60,8 @@ withMethods n c = record {
   done = c.done;
 }
 
-abbrev pub withConstants : ℕ → Counts → Counts
-withConstants n c = record {
+abbrev pub with_constants : ℕ → Counts → Counts
+with_constants n c = record {
   symbols = c.symbols;
   strings = c.strings;
   functions = c.functions;

@@ -1,11 +1,11 @@
 -- The operands that a word keeps as they are.
 use Rattle.std.specs.Prelude.{ℕ, ◌<◌, ◌≡◌, Bool, false, ◌||◌, eqb}
-use Rattle.definitions.specs.Reader.{isJump}
-use Rattle.state.specs.Words.{smallInt}
+use Rattle.definitions.specs.Reader.{is_jump}
+use Rattle.state.specs.Words.{small_int}
 
 -- an opcode of one byte that is no ConstI64, ConstF64, jump or small integer: its operands are those of the word
 unfoldable pub special : ℕ → Bool
-special op = eqb op 0 || eqb op 1 || isJump op || eqb op smallInt
+special op = eqb op 0 || eqb op 1 || is_jump op || eqb op small_int
 
 pub record Plain (op a b : ℕ) : Type 0 where
   pub op-byte : op < 256

@@ -3,8 +3,8 @@ use Rattle.std.specs.Prelude.{ℕ, suc, ◌+◌, ◌-◌, ◌^◌, true, false, 
 use Rattle.state.specs.Words.{word, op_of}
 
 -- the word at place i of an inside of n words: a pending break or continue as a jump, any other as it is
-unfoldable pub patchWord : ℕ → ℕ → ℕ → ℕ → ℕ
-patchWord h n i w =
+unfoldable pub patch_word : ℕ → ℕ → ℕ → ℕ → ℕ
+patch_word h n i w =
     elim (eqb (op_of w) 46) [
       | true ↦ word 28 (n - i) 0
       | false ↦
@@ -12,6 +12,6 @@ patchWord h n i w =
     ]
 
 -- the words from place i on
-unfoldable pub patchWords : ℕ → ℕ → ℕ → List ℕ → List ℕ
-patchWords h n i [] = []
-patchWords h n i (w ∷ ws) = patchWord h n i w ∷ patchWords h n (suc i) ws
+unfoldable pub patch_words : ℕ → ℕ → ℕ → List ℕ → List ℕ
+patch_words h n i [] = []
+patch_words h n i (w ∷ ws) = patch_word h n i w ∷ patch_words h n (suc i) ws

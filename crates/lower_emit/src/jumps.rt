@@ -2,7 +2,7 @@
 ghost use Rattle.std.specs.Prelude.{◌≡◌, ◌+◌, ◌-◌, ◌<◌, ◌≤◌, length, set};
 ghost use borrow.Rule.Slice.PartMut.{put_mid, mid_of};
 ghost use Rattle.state.specs.Words.{word};
-ghost use Rattle.lower_emit.specs.Patch.{patchWord, patchWords};
+ghost use Rattle.lower_emit.specs.Patch.{patch_word, patch_words};
 ghost use Rattle.lower_emit.specs.Numbers.{Room};
 ghost use Rattle.lower_emit.specs.Ends.{EndsBranch, EndsLoop};
 ghost use Rattle.lower_emit.specs.Places.{open_in};
@@ -24,7 +24,7 @@ pub fn set_jump(code: &mut [u32], j: usize, op: u32, d: u32)
 // The word at place i of a loop's inside of n words, after h of the loop: a pending break or continue is made a jump.
 fn patched_word(w: u32, i: usize, n: usize, h: usize) -> u32
     requires { (i < n) × (h + n < 32768) }
-    ensures { result ≡ patchWord h n i w }
+    ensures { result ≡ patch_word h n i w }
 {
     let op = w / WORD_OP;
     if op == BREAK {
@@ -39,7 +39,7 @@ fn patched_word(w: u32, i: usize, n: usize, h: usize) -> u32
 // The words of a loop's inside with their pending jumps made.
 fn patch_words(inside: &mut [u32], h: usize)
     requires { h + length inside.old < 32768 }
-    ensures { inside.new ≡ patchWords h (length inside.old) 0 inside.old }
+    ensures { inside.new ≡ patch_words h (length inside.old) 0 inside.old }
 {
     let n = inside.len();
     let mut i = 0usize;
@@ -53,7 +53,7 @@ fn patch_words(inside: &mut [u32], h: usize)
 // The words from `from` up to `to` are a loop's inside, after h words of the loop: its pending breaks and continues are made jumps.
 fn patch_loop(code: &mut [u32], h: usize, from: usize, to: usize)
     requires { (from ≤ to) × (to ≤ length code.old) × (h + (to - from) < 32768) }
-    ensures { code.new ≡ put_mid from (to - from) code.old (patchWords h (length (mid_of from (to - from) code.old)) 0 (mid_of from (to - from) code.old)) }
+    ensures { code.new ≡ put_mid from (to - from) code.old (patch_words h (length (mid_of from (to - from) code.old)) 0 (mid_of from (to - from) code.old)) }
 {
     patch_words(&mut code[from..to], h);
 }

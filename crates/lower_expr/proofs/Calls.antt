@@ -8,64 +8,64 @@ use lib.Dec.{ltb}
 use lib.ListN.{length, get_or}
 use borrow.Author.Tests.{ltb-true, ltb-false}
 use Rattle.definitions.specs.Bytes.{Name}
-use Rattle.definitions.specs.Tree.{Expr, var, call, View, asVar, asAttr, asIndex, asTuple, asOther, view, viewDisplay}
+use Rattle.definitions.specs.Tree.{Expr, var, call, View, as_var, as_attr, as_index, as_tuple, as_other, view, view_display}
 use Rattle.definitions.specs.Tables.{Out, Emit, one, ◌⨟◌}
-use Rattle.definitions.specs.Lower.{Callee, valueCallee, resolve, call_by, emitExpr}
-use Rattle.parts.specs.Places.{Node, countAt, nameEnd}
-use Rattle.exprs.specs.ExprAt.{exprAt, listAt, ExprReads, binaryOf, intAt, float_at, stringAt, unaryAt, binaryAt, call_at, displayAt, dictAt, index_at, lambdaAt}
+use Rattle.definitions.specs.Lower.{Callee, value_callee, resolve, call_by, emit_expr}
+use Rattle.parts.specs.Places.{Node, count_at, name_end}
+use Rattle.exprs.specs.ExprAt.{expr_at, list_at, ExprReads, binary_of, int_at, float_at, string_at, unary_at, binary_at, call_at, display_at, dict_at, index_at, lambda_at}
 use Rattle.exprs.proofs.ExprViews.{expr-known, view-none, view-false, view-true, view-int, view-float, view-string, view-unary, view-binary, view-call, view-list, view-dict}
 use Rattle.exprs.proofs.ExprViews.{view-tuple, view-set, view-tree-set, view-index, view-lambda, unary-of, binary-of, and-of, or-of}
 use Rattle.state.specs.Words.{name_at}
-use Rattle.state.specs.State.{State, state_of, emitAt, Sound}
+use Rattle.state.specs.State.{State, state_of, emit_at, Sound}
 use Rattle.state.specs.declared.Counts.{Counts}
 use Rattle.state.specs.Answered.{Limits}
 use Rattle.state.proofs.Views.{function-count}
-use Rattle.state.specs.Steps.{isComputed}
-use Rattle.lower_forms.specs.Lowerable.{exprCode, exprsCode, CallLowerable, NamedLowerable, loadCallee, callInstr, Short}
+use Rattle.state.specs.Steps.{is_computed}
+use Rattle.lower_forms.specs.Lowerable.{expr_code, exprs_code, CallLowerable, NamedLowerable, load_callee, call_instr, Short}
 use Rattle.lower_forms.proofs.ExprArms.{exprs-count}
-use Rattle.lower_forms.proofs.CallForms.{callExpr, named-args}
+use Rattle.lower_forms.proofs.CallForms.{call_expr, named-args}
 
 -- ---- by name
 
 -- parts that give the same at the state's place and tables
-at_same : (base : ℕ) (e f : Emit) (s : State) → e (length s.stack - base) s.tables ≡ f (length s.stack - base) s.tables → emitAt base e s ≡ emitAt base f s
-unfolding emitAt
+at_same : (base : ℕ) (e f : Emit) (s : State) → e (length s.stack - base) s.tables ≡ f (length s.stack - base) s.tables → emit_at base e s ≡ emit_at base f s
+unfolding emit_at
 at_same base e f s h = ap (λ (o : Out). record { stack = s.stack ++ o.code; tables = o.tables }) h
 
 -- a named call's code, with the count of the arguments
 pub named-state : (base d : ℕ) (t : List ℕ) (names : List Name) (p : ℕ) (ce : Callee) (s : State) → NamedLowerable d t p → ce ≡ resolve (name_at t p) s.tables →
-    emitAt base (emitExpr names (call (var (name_at t p)) (listAt d t (nameEnd t p)).value)) s
-    ≡ emitAt base (loadCallee ce names (name_at t p) ⨟ exprsCode d (countAt t (nameEnd t p)) t names (nameEnd t p + 2) ⨟ one (callInstr ce (countAt t (nameEnd t p)))) s
+    emit_at base (emit_expr names (call (var (name_at t p)) (list_at d t (name_end t p)).value)) s
+    ≡ emit_at base (load_callee ce names (name_at t p) ⨟ exprs_code d (count_at t (name_end t p)) t names (name_end t p + 2) ⨟ one (call_instr ce (count_at t (name_end t p)))) s
 named-state base d t names p ce s r e = at_same base _ _ s (named-args d t names p ce (length s.stack - base) s.tables r e)
 
 -- ---- by a value
 
-computed-code : (v : View) (names : List Name) (f o args : Emit) (n : ℕ) → isComputed v ≡ true → call_by v names f o args n ≡ f ⨟ args ⨟ one (callInstr valueCallee n)
-unfolding call_by isComputed callInstr
-computed-code (asVar x) names f o args n h = let z : ◌≡◌ {A = ℕ} 0 1 = cc in absurd (omega arith)
-computed-code (asAttr e x) names f o args n h = let z : ◌≡◌ {A = ℕ} 0 1 = cc in absurd (omega arith)
-computed-code (asIndex e i) names f o args n h = refl
-computed-code (asTuple ts) names f o args n h = refl
-computed-code asOther names f o args n h = refl
+computed-code : (v : View) (names : List Name) (f o args : Emit) (n : ℕ) → is_computed v ≡ true → call_by v names f o args n ≡ f ⨟ args ⨟ one (call_instr value_callee n)
+unfolding call_by is_computed call_instr
+computed-code (as_var x) names f o args n h = let z : ◌≡◌ {A = ℕ} 0 1 = cc in absurd (omega arith)
+computed-code (as_attr e x) names f o args n h = let z : ◌≡◌ {A = ℕ} 0 1 = cc in absurd (omega arith)
+computed-code (as_index e i) names f o args n h = refl
+computed-code (as_tuple ts) names f o args n h = refl
+computed-code as_other names f o args n h = refl
 
-binary-view : (k : ℕ) (x y : Expr) → k < 14 → isComputed (view (binaryOf k x y)) ≡ true
-unfolding view isComputed
+binary-view : (k : ℕ) (x y : Expr) → k < 14 → is_computed (view (binary_of k x y)) ≡ true
+unfolding view is_computed
 binary-view k x y h = go (ltb k 12) (ltb k 13) refl refl
   where
-    by : (f : Expr → Expr → Expr) → binaryOf k ≡ f → isComputed (view (binaryOf k x y)) ≡ isComputed (view (f x y))
-    by f e = ap (λ (g : Expr → Expr → Expr). isComputed (view (g x y))) e
+    by : (f : Expr → Expr → Expr) → binary_of k ≡ f → is_computed (view (binary_of k x y)) ≡ is_computed (view (f x y))
+    by f e = ap (λ (g : Expr → Expr → Expr). is_computed (view (g x y))) e
 
-    go : (a b : Bool) → ltb k 12 ≡ a → ltb k 13 ≡ b → isComputed (view (binaryOf k x y)) ≡ true
+    go : (a b : Bool) → ltb k 12 ≡ a → ltb k 13 ≡ b → is_computed (view (binary_of k x y)) ≡ true
     go true b e f = by _ (binary-of k (ltb-true k 12 e))
     go false true e f = by _ (and-of k (omega (arith, ltb-false k 12 e, ltb-true k 13 f)))
     go false false e f = by _ (or-of k (omega (arith, ltb-false k 13 f)))
 
 module _ (d : ℕ) (t : List ℕ) (p : ℕ) (r : ExprReads d t p) where
-  seen : (x : Node Expr) → exprAt d t p ≡ x → isComputed (view x.value) ≡ true → isComputed (view (exprAt d t p).value) ≡ true
-  seen x e h = ap (λ (y : Node Expr). isComputed (view y.value)) e ∙ h
+  seen : (x : Node Expr) → expr_at d t p ≡ x → is_computed (view x.value) ≡ true → is_computed (view (expr_at d t p).value) ≡ true
+  seen x e h = ap (λ (y : Node Expr). is_computed (view y.value)) e ∙ h
 
-  computed-view : (k : ℕ) → get_or t p 0 ≡ k → (k ≡ 6 → ⊥) → (k ≡ 10 → ⊥) → isComputed (view (exprAt d t p).value) ≡ true
-  unfolding view viewDisplay isComputed intAt float_at stringAt unaryAt binaryAt call_at displayAt dictAt index_at lambdaAt
+  computed-view : (k : ℕ) → get_or t p 0 ≡ k → (k ≡ 6 → ⊥) → (k ≡ 10 → ⊥) → is_computed (view (expr_at d t p).value) ≡ true
+  unfolding view view_display is_computed int_at float_at string_at unary_at binary_at call_at display_at dict_at index_at lambda_at
   computed-view zero e a b = seen _ (view-none d t p r e) refl
   computed-view (suc zero) e a b = seen _ (view-false d t p r e) refl
   computed-view (suc (suc zero)) e a b = seen _ (view-true d t p r e) refl
@@ -75,7 +75,7 @@ module _ (d : ℕ) (t : List ℕ) (p : ℕ) (r : ExprReads d t p) where
   computed-view (suc (suc (suc (suc (suc (suc zero)))))) e a b = absurd (a refl)
   computed-view (suc (suc (suc (suc (suc (suc (suc zero))))))) e a b =
       let v = view-unary d t p r e in
-      seen _ v.is (ap (λ (f : Expr → Expr). isComputed (view (f (exprAt (d - 1) t (p + 1 + 1)).value))) (unary-of (get_or t (p + 1) 0) v.parts.operator))
+      seen _ v.is (ap (λ (f : Expr → Expr). is_computed (view (f (expr_at (d - 1) t (p + 1 + 1)).value))) (unary-of (get_or t (p + 1) 0) v.parts.operator))
   computed-view (suc (suc (suc (suc (suc (suc (suc (suc zero)))))))) e a b =
       let v = view-binary d t p r e in seen _ v.is (binary-view (get_or t (p + 1) 0) _ _ v.parts.operator)
   computed-view (suc (suc (suc (suc (suc (suc (suc (suc (suc zero))))))))) e a b = seen _ (view-call d t p r e).is refl
@@ -91,17 +91,17 @@ module _ (d : ℕ) (t : List ℕ) (p : ℕ) (r : ExprReads d t p) where
       let h = expr-known d t p r in absurd (omega arith)
 
 module _ (d : ℕ) (t : List ℕ) (p : ℕ) (r : CallLowerable d t p) where
-  pub call-value : (names : List Name) → (get_or t p 0 ≡ 6 → ⊥) → (get_or t p 0 ≡ 10 → ⊥) → emitExpr names (callExpr d t p)
-      ≡ exprCode d t names p ⨟ exprsCode d (countAt t (exprAt d t p).end) t names ((exprAt d t p).end + 2) ⨟ one (callInstr (valueCallee) (countAt t (exprAt d t p).end))
-  unfolding emitExpr
+  pub call-value : (names : List Name) → (get_or t p 0 ≡ 6 → ⊥) → (get_or t p 0 ≡ 10 → ⊥) → emit_expr names (call_expr d t p)
+      ≡ expr_code d t names p ⨟ exprs_code d (count_at t (expr_at d t p).end) t names ((expr_at d t p).end + 2) ⨟ one (call_instr (value_callee) (count_at t (expr_at d t p).end))
+  unfolding emit_expr
   call-value names a b =
-      let q = (exprAt d t p).end in
-      computed-code (view (exprAt d t p).value) names _ _ _ _ (computed-view d t p r.callee.reads (get_or t p 0) refl a b)
-      ∙ ap (λ (n : ℕ). exprCode d t names p ⨟ exprsCode d (countAt t q) t names (q + 2) ⨟ one (callInstr valueCallee n)) (exprs-count d (countAt t q) t (q + 2) r.args.elements.reads)
+      let q = (expr_at d t p).end in
+      computed-code (view (expr_at d t p).value) names _ _ _ _ (computed-view d t p r.callee.reads (get_or t p 0) refl a b)
+      ∙ ap (λ (n : ℕ). expr_code d t names p ⨟ exprs_code d (count_at t q) t names (q + 2) ⨟ one (call_instr value_callee n)) (exprs-count d (count_at t q) t (q + 2) r.args.elements.reads)
 
 -- ---- numbers of callees are short
 
-pub value-short : Short (valueCallee)
+pub value-short : Short (value_callee)
 unfolding Short
 value-short = tt
 

@@ -2,18 +2,18 @@
 ghost use Rattle.std.specs.Prelude.{◌+◌, ◌-◌, ◌<◌, ◌≤◌, eqb, get_or, drop};
 ghost use Rattle.definitions.specs.Instruction.{instr, Build, LoadAttr};
 ghost use Rattle.definitions.specs.Tables.{one, ◌⨟◌, intern};
-ghost use Rattle.definitions.specs.Lower.{emitExpr, shortcut};
+ghost use Rattle.definitions.specs.Lower.{emit_expr, shortcut};
 ghost use Rattle.definitions.specs.Tree.{call, var};
-ghost use Rattle.parts.specs.Places.{countAt, nameEnd, params_at};
-ghost use Rattle.exprs.specs.ExprAt.{exprAt, exprsAt, secondAt, listAt, binaryOf};
+ghost use Rattle.parts.specs.Places.{count_at, name_end, params_at};
+ghost use Rattle.exprs.specs.ExprAt.{expr_at, exprs_at, second_at, list_at, binary_of};
 ghost use Rattle.state.specs.Words.{name_at};
-ghost use Rattle.state.specs.State.{slotNames, slotsFrom, Slots};
+ghost use Rattle.state.specs.State.{slot_names, slots_from, Slots};
 ghost use Rattle.lower_emit.specs.Ops.{Plain};
-ghost use Rattle.lower_forms.specs.Lowerable.{Lowerable, LowerableMany, exprCode, exprsCode, UnaryLowerable, TwoLowerable, BinaryLowerable, ArgsLowerable, CallLowerable, NamedLowerable, AttributeLowerable, MethodLowerable, methodCode, callInstr, DisplayLowerable, Short, LambdaLowerable, lambdaCode, ClosureLowerable, CapturesHeld, closureCode, functionCode};
-ghost use Rattle.opcodes.specs.Codes.{unaryOpcode, displayOf, held_of};
+ghost use Rattle.lower_forms.specs.Lowerable.{Lowerable, LowerableMany, expr_code, exprs_code, UnaryLowerable, TwoLowerable, BinaryLowerable, ArgsLowerable, CallLowerable, NamedLowerable, AttributeLowerable, MethodLowerable, method_code, call_instr, DisplayLowerable, Short, LambdaLowerable, lambda_code, ClosureLowerable, CapturesHeld, closure_code, function_code};
+ghost use Rattle.opcodes.specs.Codes.{unary_opcode, display_of, held_of};
 ghost use Rattle.lower_emit.specs.Numbers.{ReadyIn, LowersIn};
 ghost use Rattle.lower_names.specs.Naming.{callee_in};
-ghost use Rattle.lower_emit.specs.Places.{functionsIn};
+ghost use Rattle.lower_emit.specs.Places.{functions_in};
 
 use exprs::literals::literal_at;
 use lower_emit::{end_shortcut, put_op};
@@ -46,7 +46,7 @@ pub fn emit_expr(
     l: &[u32; LIMITS],
 ) -> usize
     requires { ReadyIn tree.now slots.now made.old code.old tables.old k.old l.now × Lowerable depth tree.now at }
-    ensures { LowersIn result (exprCode depth tree.now (slotNames tree.now slots.now) at) (exprAt depth tree.now at).end
+    ensures { LowersIn result (expr_code depth tree.now (slot_names tree.now slots.now) at) (expr_at depth tree.now at).end
         tree.now made.old code.old tables.old k.old l.now made.new code.new tables.new k.new }
 {
     let kind = tree[at];
@@ -113,7 +113,7 @@ fn emit_exprs(
     l: &[u32; LIMITS],
 ) -> usize
     requires { ReadyIn tree.now slots.now made.old code.old tables.old k.old l.now × LowerableMany depth n tree.now at × (0 < at) }
-    ensures { LowersIn result (exprsCode depth n tree.now (slotNames tree.now slots.now) at) (exprsAt depth n tree.now at).end
+    ensures { LowersIn result (exprs_code depth n tree.now (slot_names tree.now slots.now) at) (exprs_at depth n tree.now at).end
         tree.now made.old code.old tables.old k.old l.now made.new code.new tables.new k.new }
 {
     let mut left = n;
@@ -149,7 +149,7 @@ fn emit_unary(
     l: &[u32; LIMITS],
 ) -> usize
     requires { ReadyIn tree.now slots.now made.old code.old tables.old k.old l.now × UnaryLowerable depth tree.now at }
-    ensures { LowersIn result (exprCode depth tree.now (slotNames tree.now slots.now) (at + 1) ⨟ one (instr (unaryOpcode (get_or tree.now at 0)) 0 0)) (exprAt depth tree.now (at + 1)).end
+    ensures { LowersIn result (expr_code depth tree.now (slot_names tree.now slots.now) (at + 1) ⨟ one (instr (unary_opcode (get_or tree.now at 0)) 0 0)) (expr_at depth tree.now (at + 1)).end
         tree.now made.old code.old tables.old k.old l.now made.new code.new tables.new k.new }
 {
     let op = unary_code(tree[at]);
@@ -175,7 +175,7 @@ fn emit_two(
     l: &[u32; LIMITS],
 ) -> usize
     requires { ReadyIn tree.now slots.now made.old code.old tables.old k.old l.now × TwoLowerable depth tree.now at × Plain op 0 0 }
-    ensures { LowersIn result (exprCode depth tree.now (slotNames tree.now slots.now) at ⨟ exprCode depth tree.now (slotNames tree.now slots.now) (exprAt depth tree.now at).end ⨟ one (instr op 0 0)) (secondAt depth tree.now at).end
+    ensures { LowersIn result (expr_code depth tree.now (slot_names tree.now slots.now) at ⨟ expr_code depth tree.now (slot_names tree.now slots.now) (expr_at depth tree.now at).end ⨟ one (instr op 0 0)) (second_at depth tree.now at).end
         tree.now made.old code.old tables.old k.old l.now made.new code.new tables.new k.new }
 {
     let middle = emit_expr(tree, at, depth, slots, made, code, tables, k, l);
@@ -203,7 +203,7 @@ fn emit_binary(
     l: &[u32; LIMITS],
 ) -> usize
     requires { ReadyIn tree.now slots.now made.old code.old tables.old k.old l.now × BinaryLowerable depth tree.now at }
-    ensures { LowersIn result (emitExpr (slotNames tree.now slots.now) (binaryOf (get_or tree.now at 0) (exprAt depth tree.now (at + 1)).value (secondAt depth tree.now (at + 1)).value)) (secondAt depth tree.now (at + 1)).end
+    ensures { LowersIn result (emit_expr (slot_names tree.now slots.now) (binary_of (get_or tree.now at 0) (expr_at depth tree.now (at + 1)).value (second_at depth tree.now (at + 1)).value)) (second_at depth tree.now (at + 1)).end
         tree.now made.old code.old tables.old k.old l.now made.new code.new tables.new k.new }
 {
     let operator = tree[at];
@@ -250,7 +250,7 @@ fn emit_logical(
     l: &[u32; LIMITS],
 ) -> usize
     requires { ReadyIn tree.now slots.now made.old code.old tables.old k.old l.now × TwoLowerable depth tree.now at × (29 ≤ op) × (op ≤ 30) }
-    ensures { LowersIn result (exprCode depth tree.now (slotNames tree.now slots.now) at ⨟ shortcut (eqb op 30) (exprCode depth tree.now (slotNames tree.now slots.now) (exprAt depth tree.now at).end)) (secondAt depth tree.now at).end
+    ensures { LowersIn result (expr_code depth tree.now (slot_names tree.now slots.now) at ⨟ shortcut (eqb op 30) (expr_code depth tree.now (slot_names tree.now slots.now) (expr_at depth tree.now at).end)) (second_at depth tree.now at).end
         tree.now made.old code.old tables.old k.old l.now made.new code.new tables.new k.new }
 {
     let middle = emit_expr(tree, at, depth, slots, made, code, tables, k, l);
@@ -275,7 +275,7 @@ fn emit_shortcut(
     l: &[u32; LIMITS],
 ) -> usize
     requires { ReadyIn tree.now slots.now made.old code.old tables.old k.old l.now × Lowerable depth tree.now at × (29 ≤ op) × (op ≤ 30) × (0 < at) }
-    ensures { LowersIn result (shortcut (eqb op 30) (exprCode depth tree.now (slotNames tree.now slots.now) at)) (exprAt depth tree.now at).end
+    ensures { LowersIn result (shortcut (eqb op 30) (expr_code depth tree.now (slot_names tree.now slots.now) at)) (expr_at depth tree.now at).end
         tree.now made.old code.old tables.old k.old l.now made.new code.new tables.new k.new }
 {
     let from = k[OPEN];
@@ -304,7 +304,7 @@ fn emit_call(
     l: &[u32; LIMITS],
 ) -> usize
     requires { ReadyIn tree.now slots.now made.old code.old tables.old k.old l.now × CallLowerable depth tree.now at }
-    ensures { LowersIn result (emitExpr (slotNames tree.now slots.now) (call (exprAt depth tree.now at).value (listAt depth tree.now (exprAt depth tree.now at).end).value)) (listAt depth tree.now (exprAt depth tree.now at).end).end
+    ensures { LowersIn result (emit_expr (slot_names tree.now slots.now) (call (expr_at depth tree.now at).value (list_at depth tree.now (expr_at depth tree.now at).end).value)) (list_at depth tree.now (expr_at depth tree.now at).end).end
         tree.now made.old code.old tables.old k.old l.now made.new code.new tables.new k.new }
 {
     let kind = tree[at];
@@ -346,7 +346,7 @@ fn emit_named(
     l: &[u32; LIMITS],
 ) -> usize
     requires { ReadyIn tree.now slots.now made.old code.old tables.old k.old l.now × NamedLowerable depth tree.now at }
-    ensures { LowersIn result (emitExpr (slotNames tree.now slots.now) (call (var (name_at tree.now at)) (listAt depth tree.now (nameEnd tree.now at)).value)) (listAt depth tree.now (nameEnd tree.now at)).end
+    ensures { LowersIn result (emit_expr (slot_names tree.now slots.now) (call (var (name_at tree.now at)) (list_at depth tree.now (name_end tree.now at)).value)) (list_at depth tree.now (name_end tree.now at)).end
         tree.now made.old code.old tables.old k.old l.now made.new code.new tables.new k.new }
 {
     let start = name_end(tree, at);
@@ -372,7 +372,7 @@ fn emit_method(
     l: &[u32; LIMITS],
 ) -> usize
     requires { ReadyIn tree.now slots.now made.old code.old tables.old k.old l.now × MethodLowerable depth tree.now at }
-    ensures { LowersIn result (methodCode depth tree.now (slotNames tree.now slots.now) at) (listAt depth tree.now (nameEnd tree.now (exprAt (depth - 1) tree.now at).end)).end
+    ensures { LowersIn result (method_code depth tree.now (slot_names tree.now slots.now) at) (list_at depth tree.now (name_end tree.now (expr_at (depth - 1) tree.now at).end)).end
         tree.now made.old code.old tables.old k.old l.now made.new code.new tables.new k.new }
 {
     let name = emit_expr(tree, at, depth - 1, slots, made, code, tables, k, l);
@@ -403,7 +403,7 @@ fn emit_args(
     l: &[u32; LIMITS],
 ) -> usize
     requires { ReadyIn tree.now slots.now made.old code.old tables.old k.old l.now × ArgsLowerable depth tree.now at × Short (callee_in callee) }
-    ensures { LowersIn result (exprsCode depth (countAt tree.now at) tree.now (slotNames tree.now slots.now) (at + 2) ⨟ one (callInstr (callee_in callee) (countAt tree.now at))) (listAt depth tree.now at).end
+    ensures { LowersIn result (exprs_code depth (count_at tree.now at) tree.now (slot_names tree.now slots.now) (at + 2) ⨟ one (call_instr (callee_in callee) (count_at tree.now at))) (list_at depth tree.now at).end
         tree.now made.old code.old tables.old k.old l.now made.new code.new tables.new k.new }
 {
     let n = u16_at(tree, at);
@@ -428,7 +428,7 @@ fn emit_attribute(
     l: &[u32; LIMITS],
 ) -> usize
     requires { ReadyIn tree.now slots.now made.old code.old tables.old k.old l.now × AttributeLowerable depth tree.now at }
-    ensures { LowersIn result (exprCode depth tree.now (slotNames tree.now slots.now) at ⨟ intern (name_at tree.now (exprAt depth tree.now at).end) (λ k. one (LoadAttr k))) (nameEnd tree.now (exprAt depth tree.now at).end)
+    ensures { LowersIn result (expr_code depth tree.now (slot_names tree.now slots.now) at ⨟ intern (name_at tree.now (expr_at depth tree.now at).end) (λ k. one (LoadAttr k))) (name_end tree.now (expr_at depth tree.now at).end)
         tree.now made.old code.old tables.old k.entry.now l.now made.new code.new tables.new k.exit.now }
 {
     let name = emit_expr(tree, at, depth, slots, made, code, tables, k, l);
@@ -464,7 +464,7 @@ fn emit_display(
     l: &[u32; LIMITS],
 ) -> usize
     requires { ReadyIn tree.now slots.now made.old code.old tables.old k.old l.now × DisplayLowerable kind depth tree.now at }
-    ensures { LowersIn result (exprsCode depth (held_of kind (countAt tree.now at)) tree.now (slotNames tree.now slots.now) (at + 2) ⨟ one (Build (displayOf kind) (countAt tree.now at))) (exprsAt depth (held_of kind (countAt tree.now at)) tree.now (at + 2)).end
+    ensures { LowersIn result (exprs_code depth (held_of kind (count_at tree.now at)) tree.now (slot_names tree.now slots.now) (at + 2) ⨟ one (Build (display_of kind) (count_at tree.now at))) (exprs_at depth (held_of kind (count_at tree.now at)) tree.now (at + 2)).end
         tree.now made.old code.old tables.old k.old l.now made.new code.new tables.new k.new }
 {
     let n = u16_at(tree, at);
@@ -500,7 +500,7 @@ fn emit_lambda(
     l: &[u32; LIMITS],
 ) -> usize
     requires { ReadyIn tree.now slots.now made.old code.old tables.old k.old l.now × LambdaLowerable depth tree.now at }
-    ensures { LowersIn result (lambdaCode depth tree.now (slotNames tree.now slots.now) at) (exprAt depth tree.now (params_at tree.now at).end).end
+    ensures { LowersIn result (lambda_code depth tree.now (slot_names tree.now slots.now) at) (expr_at depth tree.now (params_at tree.now at).end).end
         tree.now made.old code.old tables.old k.old l.now made.new code.new tables.new k.new }
 {
     let mut places = [0u32; SLOTS_ROOM];
@@ -541,8 +541,8 @@ fn emit_closure(
     k: &mut [u32; COUNTS],
     l: &[u32; LIMITS],
 ) -> usize
-    requires { ReadyIn tree.now slots.now made.old code.old tables.old k.old l.now × ClosureLowerable depth tree.now arity (drop slotsFrom inner.now) at × CapturesHeld tree.now (slotNames tree.now slots.now) arity (drop slotsFrom inner.now) × Slots tree.now inner.now }
-    ensures { LowersIn result (closureCode depth tree.now (slotNames tree.now slots.now) arity (drop slotsFrom inner.now) at) (exprAt depth tree.now at).end
+    requires { ReadyIn tree.now slots.now made.old code.old tables.old k.old l.now × ClosureLowerable depth tree.now arity (drop slots_from inner.now) at × CapturesHeld tree.now (slot_names tree.now slots.now) arity (drop slots_from inner.now) × Slots tree.now inner.now }
+    ensures { LowersIn result (closure_code depth tree.now (slot_names tree.now slots.now) arity (drop slots_from inner.now) at) (expr_at depth tree.now at).end
         tree.now made.old code.old tables.old k.old l.now made.new code.new tables.new k.new }
 {
     let f = k[FUNCTIONS];
@@ -568,8 +568,8 @@ fn emit_function(
     k: &mut [u32; COUNTS],
     l: &[u32; LIMITS],
 ) -> usize
-    requires { ReadyIn tree.now slots.now made.old code.old tables.old k.old l.now × ClosureLowerable depth tree.now arity (drop slotsFrom slots.now) at }
-    ensures { LowersIn result (functionCode depth tree.now (functionsIn k.old) arity (drop slotsFrom slots.now) at) (exprAt depth tree.now at).end
+    requires { ReadyIn tree.now slots.now made.old code.old tables.old k.old l.now × ClosureLowerable depth tree.now arity (drop slots_from slots.now) at }
+    ensures { LowersIn result (function_code depth tree.now (functions_in k.old) arity (drop slots_from slots.now) at) (expr_at depth tree.now at).end
         tree.now made.old code.old tables.old k.old l.now made.new code.new tables.new k.new }
 {
     let base = k[BASE];

@@ -7,42 +7,42 @@ use lib.ListN.{length, take, drop, get_or}
 use Rattle.definitions.specs.Tree.{Expr}
 use Rattle.definitions.specs.Instruction.{instr}
 use Rattle.definitions.specs.Tables.{one}
-use Rattle.definitions.specs.Lower.{literal, emitExpr}
+use Rattle.definitions.specs.Lower.{literal, emit_expr}
 use Rattle.parts.specs.Places as Places
-use Rattle.parts.specs.Places.{Node, countAt, eightAt}
+use Rattle.parts.specs.Places.{Node, count_at, eight_at}
 use Rattle.exprs.proofs.ExprViews.{view-none, view-false, view-true}
 use Rattle.exprs.proofs.LiteralLaws.{eight_is}
-use Rattle.state.specs.Words.{numberAt, textAt}
+use Rattle.state.specs.Words.{number_at, text_at}
 use Rattle.lower_forms.specs.Lowerable.{Lowerable}
 use Rattle.lower_forms.proofs.ExprArms.{Arm}
 
 -- ---- numbers and texts are the same in both views
 
-count_same : (t : List ℕ) (p : ℕ) → numberAt 2 t p ≡ countAt t p
-unfolding numberAt countAt
+count_same : (t : List ℕ) (p : ℕ) → number_at 2 t p ≡ count_at t p
+unfolding number_at count_at
 count_same t p = omega arith
 
-pub text_same : (t : List ℕ) (p : ℕ) → (Places.textAt t p).value ≡ textAt t p
-unfolding Places.textAt textAt
+pub text_same : (t : List ℕ) (p : ℕ) → (Places.text_at t p).value ≡ text_at t p
+unfolding Places.text_at text_at
 text_same t p = ap (λ (n : ℕ). take n (drop (p + 2) t)) (sym (count_same t p))
 
-eight-of : (t : List ℕ) (p : ℕ) → numberAt 8 t p ≡ ((countAt t p * 65536 + countAt t (p + 1 + 1)) * 65536 + countAt t (p + 1 + 1 + 1 + 1)) * 65536 + countAt t (p + 1 + 1 + 1 + 1 + 1 + 1)
-unfolding numberAt countAt
+eight-of : (t : List ℕ) (p : ℕ) → number_at 8 t p ≡ ((count_at t p * 65536 + count_at t (p + 1 + 1)) * 65536 + count_at t (p + 1 + 1 + 1 + 1)) * 65536 + count_at t (p + 1 + 1 + 1 + 1 + 1 + 1)
+unfolding number_at count_at
 eight-of t p = omega arith
 
-pub eight-same : (t : List ℕ) (p : ℕ) → p + 8 ≤ length t → eightAt t p ≡ numberAt 8 t p
+pub eight-same : (t : List ℕ) (p : ℕ) → p + 8 ≤ length t → eight_at t p ≡ number_at 8 t p
 eight-same t p h =
     let a : p + 2 ≡ p + 1 + 1 = omega arith in
     let b : p + 4 ≡ p + 1 + 1 + 1 + 1 = omega arith in
     let c : p + 6 ≡ p + 1 + 1 + 1 + 1 + 1 + 1 = omega arith in
-    sym (eight-of t p ∙ eight_is t p _ _ _ _ h refl (ap (countAt t) (sym a)) (ap (countAt t) (sym b)) (ap (countAt t) (sym c)))
+    sym (eight-of t p ∙ eight_is t p _ _ _ _ h refl (ap (count_at t) (sym a)) (ap (count_at t) (sym b)) (ap (count_at t) (sym c)))
 
 -- ---- by the kind byte
 
 module _ (d : ℕ) (t : List ℕ) (p : ℕ) (r : Lowerable d t p) where
   pub arm-constant : (k : ℕ) → get_or t p 0 ≡ k → k < 3 → Arm (Unit {0}) d t p (λ names. one (instr (5 - k) 0 0)) (p + 1)
-  unfolding emitExpr literal
-  arm-constant zero e h = let v = view-none d t p r.reads e in record { parts = tt; code = λ names. ap (λ (x : Node Expr). emitExpr names x.value) v; end = ap (λ (x : Node Expr). x.end) v }
-  arm-constant (suc zero) e h = let v = view-false d t p r.reads e in record { parts = tt; code = λ names. ap (λ (x : Node Expr). emitExpr names x.value) v; end = ap (λ (x : Node Expr). x.end) v }
-  arm-constant (suc (suc zero)) e h = let v = view-true d t p r.reads e in record { parts = tt; code = λ names. ap (λ (x : Node Expr). emitExpr names x.value) v; end = ap (λ (x : Node Expr). x.end) v }
+  unfolding emit_expr literal
+  arm-constant zero e h = let v = view-none d t p r.reads e in record { parts = tt; code = λ names. ap (λ (x : Node Expr). emit_expr names x.value) v; end = ap (λ (x : Node Expr). x.end) v }
+  arm-constant (suc zero) e h = let v = view-false d t p r.reads e in record { parts = tt; code = λ names. ap (λ (x : Node Expr). emit_expr names x.value) v; end = ap (λ (x : Node Expr). x.end) v }
+  arm-constant (suc (suc zero)) e h = let v = view-true d t p r.reads e in record { parts = tt; code = λ names. ap (λ (x : Node Expr). emit_expr names x.value) v; end = ap (λ (x : Node Expr). x.end) v }
   arm-constant (suc (suc (suc k))) e h = absurd (omega arith)

@@ -8,12 +8,12 @@ use Rattle.definitions.specs.Bytes.{Name, same}
 use Rattle.definitions.specs.Instruction.{Instr, instr}
 use Rattle.definitions.specs.Tables.{emits, one}
 use Rattle.definitions.specs.Wellformed.{init}
-use Rattle.definitions.specs.Lower.{methodEnd}
-use Rattle.definitions.specs.Reader.{isJump}
+use Rattle.definitions.specs.Lower.{method_end}
+use Rattle.definitions.specs.Reader.{is_jump}
 use Rattle.parts.specs.Places.{Node, ParamsAt}
 use Rattle.definitions.specs.Tree.{Branches, else}
-use Rattle.tree.specs.StmtAt.{block_at, branchesAt, elseAt}
-use Rattle.state.specs.State.{State, emitAt, Emits}
+use Rattle.tree.specs.StmtAt.{block_at, branches_at, else_at}
+use Rattle.state.specs.State.{State, emit_at, Emits}
 use Rattle.state.specs.declared.Counts.{Counts}
 use Rattle.state.specs.Answered.{Limits, Emitted}
 use Rattle.state.proofs.Emission.{at_more}
@@ -23,23 +23,23 @@ use Rattle.lower_forms.proofs.Unpacking.{plain_of}
 use Rattle.lower_forms.specs.Lowering.{end_of, BlockLowerable, BranchesLowerable}
 
 pub plain-break : Plain 46 0 0
-unfolding special isJump
+unfolding special is_jump
 plain-break = plain_of 46 (omega arith) refl
 
 pub plain-continue : Plain 47 0 0
-unfolding special isJump
+unfolding special is_jump
 plain-continue = plain_of 47 (omega arith) refl
 
 pub plain-pop : Plain 7 0 0
-unfolding special isJump
+unfolding special is_jump
 plain-pop = plain_of 7 (omega arith) refl
 
 pub plain-return : Plain 33 0 0
-unfolding special isJump
+unfolding special is_jump
 plain-return = plain_of 33 (omega arith) refl
 
 pub plain-object : Plain 9 0 0
-unfolding special isJump
+unfolding special is_jump
 plain-object = plain_of 9 (omega arith) refl
 
 -- ---- a function's end
@@ -49,12 +49,12 @@ unfolding end_of
 end-plain b e = ap (λ (x : Bool). emits (end_of x)) (sym e)
 
 -- the object is loaded, and then returned
-pub end-init : (b : Bool) (base : ℕ) (s : State) → b ≡ true → emitAt base (one (instr 33 0 0)) (emitAt base (one (instr 9 0 0)) s) ≡ emitAt base (emits (end_of b)) s
+pub end-init : (b : Bool) (base : ℕ) (s : State) → b ≡ true → emit_at base (one (instr 33 0 0)) (emit_at base (one (instr 9 0 0)) s) ≡ emit_at base (emits (end_of b)) s
 unfolding end_of
-end-init b base s e = sym (at_more base (instr 9 0 0) (instr 33 0 0 ∷ []) s) ∙ ap (λ (x : Bool). emitAt base (emits (end_of x)) s) (sym e)
+end-init b base s e = sym (at_more base (instr 9 0 0) (instr 33 0 0 ∷ []) s) ∙ ap (λ (x : Bool). emit_at base (emits (end_of x)) s) (sym e)
 
-pub method-end : (x : Name) → end_of (same x init) ≡ methodEnd x
-unfolding methodEnd end_of
+pub method-end : (x : Name) → end_of (same x init) ≡ method_end x
+unfolding method_end end_of
 method-end x = go (same x init)
   where
     go : (b : Bool) → end_of b ≡ (elim b as (λ z. List Instr) [ true ↦ instr 9 0 0 ∷ instr 33 0 0 ∷ [] | false ↦ instr 33 0 0 ∷ [] ])
@@ -76,13 +76,13 @@ position-emits r t made code tables c l q q' want e h = emits-as r t made code t
 pub params-at : (t : List ℕ) (p q : ℕ) → q ≡ p → ParamsAt t p → ParamsAt t q
 params-at t p q e r = subst (ParamsAt t) (sym e) r
 
-pub elifs-end : (d n : ℕ) (t : List ℕ) (p q : ℕ) → q ≡ p → (branchesAt d n t q).end ≡ (branchesAt d n t p).end
-elifs-end d n t p q e = ap (λ (x : ℕ). (branchesAt d n t x).end) e
+pub elifs-end : (d n : ℕ) (t : List ℕ) (p q : ℕ) → q ≡ p → (branches_at d n t q).end ≡ (branches_at d n t p).end
+elifs-end d n t p q e = ap (λ (x : ℕ). (branches_at d n t x).end) e
 
-pub else-value : (d : ℕ) (t : List ℕ) (x : Node Branches) (p : ℕ) → x ≡ elseAt d t p → x.value ≡ else (block_at d t p).value
-unfolding elseAt
+pub else-value : (d : ℕ) (t : List ℕ) (x : Node Branches) (p : ℕ) → x ≡ else_at d t p → x.value ≡ else (block_at d t p).value
+unfolding else_at
 else-value d t x p e = ap (λ (n : Node Branches). n.value) e
 
-pub else-ends : (d : ℕ) (t : List ℕ) (x : Node Branches) (p : ℕ) → x ≡ elseAt d t p → x.end ≡ (block_at d t p).end
-unfolding elseAt
+pub else-ends : (d : ℕ) (t : List ℕ) (x : Node Branches) (p : ℕ) → x ≡ else_at d t p → x.end ≡ (block_at d t p).end
+unfolding else_at
 else-ends d t x p e = ap (λ (n : Node Branches). n.end) e

@@ -7,35 +7,35 @@ use native.Mathlib.Omega.{arith}
 use lib.Dec.{ltb}
 use lib.ListN.{get_or}
 use borrow.Author.Tests.{ltb-true, ltb-false}
-use Rattle.definitions.specs.Tree.{Expr, asOther, view, viewDisplay}
+use Rattle.definitions.specs.Tree.{Expr, as_other, view, view_display}
 use Rattle.parts.specs.Places.{Node}
 use Rattle.parts.proofs.Nodes.{Seen}
-use Rattle.exprs.specs.ExprAt.{exprAt, ExprReads, unaryOf, binaryOf, intAt, float_at, stringAt, unaryAt, binaryAt, call_at, displayAt, dictAt, lambdaAt}
+use Rattle.exprs.specs.ExprAt.{expr_at, ExprReads, unary_of, binary_of, int_at, float_at, string_at, unary_at, binary_at, call_at, display_at, dict_at, lambda_at}
 use Rattle.exprs.proofs.ExprViews.{expr-known, view-none, view-false, view-true, view-int, view-float, view-string, view-unary, view-binary, view-call, view-list, view-dict}
 use Rattle.exprs.proofs.ExprViews.{view-set, view-tree-set, view-lambda, unary-of, binary-of, and-of, or-of}
 
-unary-other : (k : ℕ) (x : Expr) → k < 3 → view (unaryOf k x) ≡ asOther
+unary-other : (k : ℕ) (x : Expr) → k < 3 → view (unary_of k x) ≡ as_other
 unfolding view
 unary-other k x h = ap (λ (f : Expr → Expr). view (f x)) (unary-of k h)
 
-binary-other : (k : ℕ) (x y : Expr) → k < 14 → view (binaryOf k x y) ≡ asOther
+binary-other : (k : ℕ) (x y : Expr) → k < 14 → view (binary_of k x y) ≡ as_other
 unfolding view
 binary-other k x y h = go (ltb k 12) (ltb k 13) refl refl
   where
-    go : (a b : Bool) → ltb k 12 ≡ a → ltb k 13 ≡ b → view (binaryOf k x y) ≡ asOther
+    go : (a b : Bool) → ltb k 12 ≡ a → ltb k 13 ≡ b → view (binary_of k x y) ≡ as_other
     go true b e f = ap (λ (g : Expr → Expr → Expr). view (g x y)) (binary-of k (ltb-true k 12 e))
     go false true e f = ap (λ (g : Expr → Expr → Expr). view (g x y)) (and-of k (omega (arith, ltb-false k 12 e, ltb-true k 13 f)))
     go false false e f = ap (λ (g : Expr → Expr → Expr). view (g x y)) (or-of k (omega (arith, ltb-false k 13 f)))
 
 module _ (d : ℕ) (t : List ℕ) (p : ℕ) (r : ExprReads d t p) where
   abbrev Other : Type 0
-  Other = view (exprAt d t p).value ≡ asOther
+  Other = view (expr_at d t p).value ≡ as_other
 
-  seen : {P : Type 0} {y : Node Expr} → Seen P (exprAt d t p) y → view y.value ≡ asOther → Other
+  seen : {P : Type 0} {y : Node Expr} → Seen P (expr_at d t p) y → view y.value ≡ as_other → Other
   seen v e = ap (λ (x : Node Expr). view x.value) v.is ∙ e
 
   by-kind : (k : ℕ) → get_or t p 0 ≡ k → k < 18 → (k ≡ 6 → ⊥) → (k ≡ 10 → ⊥) → (k ≡ 13 → ⊥) → (k ≡ 16 → ⊥) → Other
-  unfolding view viewDisplay intAt float_at stringAt unaryAt binaryAt call_at displayAt dictAt lambdaAt
+  unfolding view view_display int_at float_at string_at unary_at binary_at call_at display_at dict_at lambda_at
   by-kind zero e h a b f g = ap (λ (x : Node Expr). view x.value) (view-none d t p r e)
   by-kind (suc zero) e h a b f g = ap (λ (x : Node Expr). view x.value) (view-false d t p r e)
   by-kind (suc (suc zero)) e h a b f g = ap (λ (x : Node Expr). view x.value) (view-true d t p r e)
@@ -57,5 +57,5 @@ module _ (d : ℕ) (t : List ℕ) (p : ℕ) (r : ExprReads d t p) where
   by-kind (suc (suc (suc (suc (suc (suc (suc (suc (suc (suc (suc (suc (suc (suc (suc (suc (suc (suc k)))))))))))))))))) e h a b f g = absurd (omega arith)
 
   -- neither a variable, an attribute, a tuple nor an index
-  pub other-form : (get_or t p 0 ≡ 6 → ⊥) → (get_or t p 0 ≡ 10 → ⊥) → (get_or t p 0 ≡ 13 → ⊥) → (get_or t p 0 ≡ 16 → ⊥) → view (exprAt d t p).value ≡ asOther
+  pub other-form : (get_or t p 0 ≡ 6 → ⊥) → (get_or t p 0 ≡ 10 → ⊥) → (get_or t p 0 ≡ 13 → ⊥) → (get_or t p 0 ≡ 16 → ⊥) → view (expr_at d t p).value ≡ as_other
   other-form = by-kind (get_or t p 0) refl (expr-known d t p r)

@@ -3,14 +3,14 @@
 use Rattle.std.specs.Prelude.{ℕ, ◌+◌, ◌-◌, ◌<◌, ◌≤◌, ◌≡◌, true, List, [], ◌++◌, length, drop, get_or}
 use Rattle.definitions.specs.Bytes.{Name, all, member}
 use Rattle.definitions.specs.Tree.{lambda}
-use Rattle.definitions.specs.Wellformed.{askExpr, askExprs}
+use Rattle.definitions.specs.Wellformed.{ask_expr, ask_exprs}
 use Rattle.definitions.specs.Instruction.{Instr}
 use Rattle.definitions.specs.Instruction
-use Rattle.definitions.specs.Tables.{Emit, emits, one, ◌⨟◌, function, exprBody, intern}
-use Rattle.definitions.specs.Slots.{captures, namesOnly}
-use Rattle.definitions.specs.Lower.{Callee, builtinCallee, functionCallee, valueCallee, load, lambdaName, closure, emitExpr, emitExprs}
-use Rattle.parts.specs.Places.{countAt, Counted, nameEnd, There, ParamsAt, params_at}
-use Rattle.exprs.specs.ExprAt.{exprAt, exprsAt, ExprReads, ExprsRead}
+use Rattle.definitions.specs.Tables.{Emit, emits, one, ◌⨟◌, function, expr_body, intern}
+use Rattle.definitions.specs.Slots.{captures, names_only}
+use Rattle.definitions.specs.Lower.{Callee, builtin_callee, function_callee, value_callee, load, lambda_name, closure, emit_expr, emit_exprs}
+use Rattle.parts.specs.Places.{count_at, Counted, name_end, There, ParamsAt, params_at}
+use Rattle.exprs.specs.ExprAt.{expr_at, exprs_at, ExprReads, ExprsRead}
 use Rattle.state.specs.Words.{name_at}
 use Rattle.state.specs.State.{names_at}
 use Rattle.opcodes.specs.Codes.{held_of}
@@ -20,19 +20,19 @@ use Rattle.opcodes.specs.Codes.{held_of}
 -- the expression at p reads, and question 13 passes it
 pub record Lowerable (d : ℕ) (t : List ℕ) (p : ℕ) : Type 0 where
   pub reads : ExprReads d t p
-  pub args : askExpr 13 (exprAt d t p).value ≡ true
+  pub args : ask_expr 13 (expr_at d t p).value ≡ true
 
 -- n expressions from p on
 pub record LowerableMany (d n : ℕ) (t : List ℕ) (p : ℕ) : Type 0 where
   pub reads : ExprsRead d n t p
-  pub args : askExprs 13 (exprsAt d n t p).value ≡ true
+  pub args : ask_exprs 13 (exprs_at d n t p).value ≡ true
 
 -- their code
-abbrev pub exprCode : ℕ → List ℕ → List Name → ℕ → Emit
-exprCode d t names p = emitExpr names (exprAt d t p).value
+abbrev pub expr_code : ℕ → List ℕ → List Name → ℕ → Emit
+expr_code d t names p = emit_expr names (expr_at d t p).value
 
-abbrev pub exprsCode : ℕ → ℕ → List ℕ → List Name → ℕ → Emit
-exprsCode d n t names p = emitExprs names (exprsAt d n t p).value
+abbrev pub exprs_code : ℕ → ℕ → List ℕ → List Name → ℕ → Emit
+exprs_code d n t names p = emit_exprs names (exprs_at d n t p).value
 
 -- ---- operators
 
@@ -44,7 +44,7 @@ pub record UnaryLowerable (d : ℕ) (t : List ℕ) (p : ℕ) : Type 0 where
 -- two expressions, the second where the first ends
 pub record TwoLowerable (d : ℕ) (t : List ℕ) (p : ℕ) : Type 0 where
   pub first : Lowerable d t p
-  pub second : Lowerable d t (exprAt d t p).end
+  pub second : Lowerable d t (expr_at d t p).end
 
 pub record BinaryLowerable (d : ℕ) (t : List ℕ) (p : ℕ) : Type 0 where
   pub inside : p < length t
@@ -56,53 +56,53 @@ pub record BinaryLowerable (d : ℕ) (t : List ℕ) (p : ℕ) : Type 0 where
 -- a count of at most 255, and so many arguments
 pub record ArgsLowerable (d : ℕ) (t : List ℕ) (p : ℕ) : Type 0 where
   pub count : Counted t p
-  pub few : countAt t p ≤ 255
-  pub elements : LowerableMany d (countAt t p) t (p + 2)
+  pub few : count_at t p ≤ 255
+  pub elements : LowerableMany d (count_at t p) t (p + 2)
 
 pub record CallLowerable (d : ℕ) (t : List ℕ) (p : ℕ) : Type 0 where
   pub callee : Lowerable d t p
-  pub args : ArgsLowerable d t (exprAt d t p).end
+  pub args : ArgsLowerable d t (expr_at d t p).end
 
 -- a call by the name at p
 pub record NamedLowerable (d : ℕ) (t : List ℕ) (p : ℕ) : Type 0 where
   pub name : There t p
-  pub args : ArgsLowerable d t (nameEnd t p)
+  pub args : ArgsLowerable d t (name_end t p)
 
 -- an object, a name
 pub record AttributeLowerable (d : ℕ) (t : List ℕ) (p : ℕ) : Type 0 where
   pub object : Lowerable d t p
-  pub name : There t (exprAt d t p).end
+  pub name : There t (expr_at d t p).end
 
 -- a call of an attribute, whose object stands a level deeper
 pub record MethodLowerable (d : ℕ) (t : List ℕ) (p : ℕ) : Type 0 where
   pub deep : 0 < d
   pub callee : AttributeLowerable (d - 1) t p
-  pub args : ArgsLowerable d t (nameEnd t (exprAt (d - 1) t p).end)
+  pub args : ArgsLowerable d t (name_end t (expr_at (d - 1) t p).end)
 
 -- its code: the method's symbol comes after the arguments
-abbrev pub methodCode : ℕ → List ℕ → List Name → ℕ → Emit
-methodCode d t names p =
-    let x = (exprAt (d - 1) t p).end in
-    let n = countAt t (nameEnd t x) in
-    exprCode (d - 1) t names p ⨟ exprsCode d n t names (nameEnd t x + 2) ⨟ intern (name_at t x) (λ k. one (Instruction.CallMethod k n))
+abbrev pub method_code : ℕ → List ℕ → List Name → ℕ → Emit
+method_code d t names p =
+    let x = (expr_at (d - 1) t p).end in
+    let n = count_at t (name_end t x) in
+    expr_code (d - 1) t names p ⨟ exprs_code d n t names (name_end t x + 2) ⨟ intern (name_at t x) (λ k. one (Instruction.CallMethod k n))
 
 -- a callee that is a value is loaded before the arguments
-unfoldable pub loadCallee : Callee → List Name → Name → Emit
-loadCallee (builtinCallee i) names x = emits []
-loadCallee (functionCallee i) names x = emits []
-loadCallee valueCallee names x = load names x
+unfoldable pub load_callee : Callee → List Name → Name → Emit
+load_callee (builtin_callee i) names x = emits []
+load_callee (function_callee i) names x = emits []
+load_callee value_callee names x = load names x
 
 -- the instruction that calls
-unfoldable pub callInstr : Callee → ℕ → Instr
-callInstr (builtinCallee i) n = Instruction.CallBuiltin i n
-callInstr (functionCallee i) n = Instruction.Call i n
-callInstr valueCallee n = Instruction.CallValue n
+unfoldable pub call_instr : Callee → ℕ → Instr
+call_instr (builtin_callee i) n = Instruction.CallBuiltin i n
+call_instr (function_callee i) n = Instruction.Call i n
+call_instr value_callee n = Instruction.CallValue n
 
 -- a number of a built-in or a function that a word keeps
 unfoldable pub Short : Callee → Type 0
-Short (builtinCallee i) = i < 256
-Short (functionCallee i) = i < 256
-Short valueCallee = Unit {0}
+Short (builtin_callee i) = i < 256
+Short (function_callee i) = i < 256
+Short value_callee = Unit {0}
 
 -- ---- displays
 
@@ -110,30 +110,30 @@ pub record DisplayLowerable (k d : ℕ) (t : List ℕ) (p : ℕ) : Type 0 where
   pub above : 11 ≤ k
   pub below : k ≤ 15
   pub count : Counted t p
-  pub elements : LowerableMany d (held_of k (countAt t p)) t (p + 2)
+  pub elements : LowerableMany d (held_of k (count_at t p)) t (p + 2)
 
 -- ---- lambdas
 
 -- the names of a lambda's slots: parameters, then captures
-abbrev pub lambdaNames : ℕ → List ℕ → List Name → ℕ → List Name
-lambdaNames d t names p = (params_at t p).value ++ captures names (params_at t p).value (exprAt d t (params_at t p).end).value
+abbrev pub lambda_names : ℕ → List ℕ → List Name → ℕ → List Name
+lambda_names d t names p = (params_at t p).value ++ captures names (params_at t p).value (expr_at d t (params_at t p).end).value
 
 pub record LambdaLowerable (d : ℕ) (t : List ℕ) (p : ℕ) : Type 0 where
   pub params : ParamsAt t p
-  pub few : countAt t p ≤ 255
+  pub few : count_at t p ≤ 255
   pub body : Lowerable d t (params_at t p).end
 
 -- its code
-abbrev pub lambdaCode : ℕ → List ℕ → List Name → ℕ → Emit
-lambdaCode d t names p = emitExpr names (lambda (params_at t p).value (exprAt d t (params_at t p).end).value)
+abbrev pub lambda_code : ℕ → List ℕ → List Name → ℕ → Emit
+lambda_code d t names p = emit_expr names (lambda (params_at t p).value (expr_at d t (params_at t p).end).value)
 
 -- the code of a closure: arity parameters, then captures, in the slots inner; its body is the expression at p
-abbrev pub closureCode : ℕ → List ℕ → List Name → ℕ → List ℕ → ℕ → Emit
-closureCode d t names arity inner p = closure names arity (names_at t inner) (names_at t (drop arity inner)) (exprBody (exprAt d t p).value) (exprCode d t (names_at t inner) p)
+abbrev pub closure_code : ℕ → List ℕ → List Name → ℕ → List ℕ → ℕ → Emit
+closure_code d t names arity inner p = closure names arity (names_at t inner) (names_at t (drop arity inner)) (expr_body (expr_at d t p).value) (expr_code d t (names_at t inner) p)
 
 -- the code of its function, with f functions before it
-abbrev pub functionCode : ℕ → List ℕ → ℕ → ℕ → List ℕ → ℕ → Emit
-functionCode d t f arity inner p = function (lambdaName f) arity (namesOnly (names_at t inner)) (exprBody (exprAt d t p).value) (exprCode d t (names_at t inner) p ⨟ one Instruction.Return)
+abbrev pub function_code : ℕ → List ℕ → ℕ → ℕ → List ℕ → ℕ → Emit
+function_code d t f arity inner p = function (lambda_name f) arity (names_only (names_at t inner)) (expr_body (expr_at d t p).value) (expr_code d t (names_at t inner) p ⨟ one Instruction.Return)
 
 pub record ClosureLowerable (d : ℕ) (t : List ℕ) (arity : ℕ) (inner : List ℕ) (p : ℕ) : Type 0 where
   pub few : length inner ≤ 255

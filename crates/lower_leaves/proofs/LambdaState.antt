@@ -11,14 +11,14 @@ use Rattle.names.proofs.Finding.{names-length}
 use Rattle.definitions.specs.Bytes.{Name, all, member, position, same, below}
 use Rattle.definitions.specs.Tree.{Expr}
 use Rattle.definitions.specs.Instruction.{Return, MakeClosure, LoadLocal}
-use Rattle.definitions.specs.Tables.{Function, Body, exprBody, Emit, one, ◌⨟◌, function}
-use Rattle.definitions.specs.Slots.{inGlobals, Frame, namesOnly, within, insert, sort, captures}
+use Rattle.definitions.specs.Tables.{Function, Body, expr_body, Emit, one, ◌⨟◌, function}
+use Rattle.definitions.specs.Slots.{in_globals, Frame, names_only, within, insert, sort, captures}
 use Rattle.definitions.proofs.Resolve.{position-lt}
-use Rattle.definitions.specs.Lower.{lambdaName, load, loads, closure, emitExpr}
-use Rattle.parts.specs.Places.{params_at, countAt}
-use Rattle.exprs.specs.ExprAt.{exprAt, ExprReads}
+use Rattle.definitions.specs.Lower.{lambda_name, load, loads, closure, emit_expr}
+use Rattle.parts.specs.Places.{params_at, count_at}
+use Rattle.exprs.specs.ExprAt.{expr_at, ExprReads}
 use Rattle.state.specs.Words.{name_at}
-use Rattle.state.specs.State.{State, state_of, names_at, slotsFrom, Slots, emitAt, withTables, symbolNumber, withSymbol, Sound, Within, Left, foundOr}
+use Rattle.state.specs.State.{State, state_of, names_at, slots_from, Slots, emit_at, with_tables, symbol_number, with_symbol, Sound, Within, Left, found_or}
 use Rattle.state.specs.Steps.{begun, ended}
 use Rattle.state.specs.declared.Counts.{Counts}
 use Rattle.state.specs.Answered.{Limits, Emitted, Done, Full, Numbered, At, Over}
@@ -28,19 +28,19 @@ use Rattle.state.proofs.Emission.{at-seq, at_one, at-by}
 use Rattle.state.proofs.Enclosing.{at-function, symbol-functions}
 use Rattle.state.proofs.Growth.{Lengthened, Lengthens, lengthens-one, lengthens-seq, lengthens-expr, functions-longer}
 use Rattle.state.proofs.Within.{within-one, within-down, within-begun, within-function, closure-slots}
-use Rattle.lower_emit.specs.Nesting.{begunWith, body_of, Moved, Begins}
+use Rattle.lower_emit.specs.Nesting.{begun_with, body_of, Moved, Begins}
 use Rattle.lower_emit.proofs.Begun.{begun-frame, begun-body}
 use Rattle.lower_emit.proofs.Setting.{map-drop}
 use Rattle.lower_names.proofs.Naming.{at_slot, at_load}
-use Rattle.names.specs.Made.{madeName}
+use Rattle.names.specs.Made.{made_name}
 use Rattle.names.specs.declared.Made.TheVariants.{Lambda}
 use Rattle.lower_emit.specs.Step.{Lowers, Ends}
-use Rattle.lower_forms.specs.Lowerable.{lambdaNames, lambdaCode, LambdaLowerable, closureCode, functionCode, ClosureLowerable, Held, CapturesHeld}
+use Rattle.lower_forms.specs.Lowerable.{lambda_names, lambda_code, LambdaLowerable, closure_code, function_code, ClosureLowerable, Held, CapturesHeld}
 use Rattle.lower_emit.proofs.Sequence.{lowers-as}
 use Rattle.lower_forms.proofs.ExprArms.{and_both, params-count}
 
-pub lambda-name : (n : ℕ) → madeName (Lambda n) ≡ lambdaName n
-unfolding madeName
+pub lambda-name : (n : ℕ) → made_name (Lambda n) ≡ lambda_name n
+unfolding made_name
 lambda-name n = refl
 
 -- ---- answers, once they are matched on
@@ -59,12 +59,12 @@ begins-over r t made code tables c l n want e h = rw e at h
 -- the function's name has its symbol: k is what is left then
 module _ (t made code tables made₁ tables₁ : List ℕ) (c k : Counts) (l : Limits) (x : Name) (s : Sound t made code tables c l) where
   abbrev named : State
-  named = withTables (withSymbol x (state_of t made code tables c).tables) (state_of t made code tables c)
+  named = with_tables (with_symbol x (state_of t made code tables c).tables) (state_of t made code tables c)
 
-  pub begin-over : (n sy arity locals : ℕ) (tables₂ : List ℕ) → (Within l named → ⊥) → Begins Over t made₁ code tables₂ c l n (begunWith sy arity locals named)
-  unfolding Begins begunWith
+  pub begin-over : (n sy arity locals : ℕ) (tables₂ : List ℕ) → (Within l named → ⊥) → Begins Over t made₁ code tables₂ c l n (begun_with sy arity locals named)
+  unfolding Begins begun_with
   begin-over n sy arity locals tables₂ h =
-      let f : Frame = record { locals = locals; names = []; keep = inGlobals } in
+      let f : Frame = record { locals = locals; names = []; keep = in_globals } in
       λ w. h (within-begun sy arity f named (subst (Within l) (begun-frame sy arity locals f named refl) w))
 
   same-open : Left k t made₁ code tables₁ c l named → k.open ≡ c.open
@@ -75,30 +75,30 @@ module _ (t made code tables made₁ tables₁ : List ℕ) (c k : Counts) (l : L
       ap (λ (u : State). length u.tables.functions) f.state ∙ ap length (symbol-functions x (state_of t made code tables c).tables) ∙ function-count t made code tables c l s
 
   pub begin-after : (r : Numbered) (i sy arity locals : ℕ) (tables₂ : List ℕ) → (i ≡ sy) × Left k t made₁ code tables₁ c l named
-      → Begins r t made₁ code tables₂ k l (length (state_of t made₁ code tables₁ k).tables.functions) (begunWith i arity locals (state_of t made₁ code tables₁ k))
-      → Begins r t made₁ code tables₂ c l c.functions (begunWith sy arity locals named)
+      → Begins r t made₁ code tables₂ k l (length (state_of t made₁ code tables₁ k).tables.functions) (begun_with i arity locals (state_of t made₁ code tables₁ k))
+      → Begins r t made₁ code tables₂ c l c.functions (begun_with sy arity locals named)
   unfolding Begins
   begin-after (At j m) i sy arity locals tables₂ f h = (
     h.0 ∙ same-functions f.1,
     record {
-      state = h.1.state ∙ (λ z. begunWith (f.0 z) arity locals (f.1.state z));
+      state = h.1.state ∙ (λ z. begun_with (f.0 z) arity locals (f.1.state z));
       base = h.1.base ∙ same-open f.1;
       paced = paced-more f.1.paced h.1.paced;
       sound = h.1.sound;
     },
     omega (arith, f.1.paced.methods, h.2),
   )
-  begin-after Over i sy arity locals tables₂ f h = λ w. h (subst (Within l) (sym (λ z. begunWith (f.0 z) arity locals (f.1.state z))) w)
+  begin-after Over i sy arity locals tables₂ f h = λ w. h (subst (Within l) (sym (λ z. begun_with (f.0 z) arity locals (f.1.state z))) w)
 
 -- ---- the end
 
 module _ (t made code tables code₁ : List ℕ) (c k : Counts) (l : Limits) (f b next : ℕ) where
   pub end-full : (r : Emitted) (q : ℕ) (code' tables' : List ℕ) (want : State) → r ≡ Full → Lowers r (one Return) q t made code tables made code₁ tables c l
-      → Ends Full b t made code' tables' c l next (emitAt c.base (one Return) (state_of t made code tables c)) want
+      → Ends Full b t made code' tables' c l next (emit_at c.base (one Return) (state_of t made code tables c)) want
   unfolding Ends
   end-full r q code' tables' want z h = emits-full t made code₁ tables c l q _ r z h
 
-  module _ (g : Left k t made code₁ tables c l (emitAt c.base (one Return) (state_of t made code tables c))) where
+  module _ (g : Left k t made code₁ tables c l (emit_at c.base (one Return) (state_of t made code tables c))) where
     last-functions : (state_of t made code₁ tables k).tables.functions ≡ (state_of t made code tables c).tables.functions
     last-functions = ap (λ (u : State). u.tables.functions) (g.state ∙ at_one c.base Return (state_of t made code tables c))
 
@@ -113,7 +113,7 @@ module _ (t made code tables code₁ : List ℕ) (c k : Counts) (l : Limits) (f 
     end_empty h = ap (λ (fs : List Function). body_of fs f) last-functions ∙ h
 
     pub end-done : (q : ℕ) (m : Counts) (code₂ tables₂ : List ℕ) → q ≡ next → Moved b m t made code₂ tables₂ k l (ended k.base f (state_of t made code₁ tables k))
-        → Ends (Done q m) b t made code₂ tables₂ c l next (emitAt c.base (one Return) (state_of t made code tables c)) (ended c.base f (emitAt c.base (one Return) (state_of t made code tables c)))
+        → Ends (Done q m) b t made code₂ tables₂ c l next (emit_at c.base (one Return) (state_of t made code tables c)) (ended c.base f (emit_at c.base (one Return) (state_of t made code tables c)))
     unfolding Ends
     end-done q m code₂ tables₂ e h = (
       e,
@@ -132,21 +132,21 @@ module _ (t made code tables : List ℕ) (c : Counts) (l : Limits) (s : Sound t 
   before = state_of t made code tables c
 
   abbrev x : Name
-  x = lambdaName c.functions
+  x = lambda_name c.functions
 
   abbrev start : State
-  start = begunWith (symbolNumber x before.tables) arity (length inner) (withTables (withSymbol x before.tables) before)
+  start = begun_with (symbol_number x before.tables) arity (length inner) (with_tables (with_symbol x before.tables) before)
 
-  started : start ≡ begun (symbolNumber x before.tables) arity (namesOnly (names_at t inner)) (withTables (withSymbol x before.tables) before)
-  started = begun-frame _ arity (length inner) (namesOnly (names_at t inner)) _ (names-length t inner)
+  started : start ≡ begun (symbol_number x before.tables) arity (names_only (names_at t inner)) (with_tables (with_symbol x before.tables) before)
+  started = begun-frame _ arity (length inner) (names_only (names_at t inner)) _ (names-length t inner)
 
-  over : Within l (emitAt c.base (function x arity (namesOnly (names_at t inner)) body (e ⨟ one Return)) before) → Within l (emitAt (length before.stack) (e ⨟ one Return) start)
+  over : Within l (emit_at c.base (function x arity (names_only (names_at t inner)) body (e ⨟ one Return)) before) → Within l (emit_at (length before.stack) (e ⨟ one Return) start)
   over w =
-      subst (λ (u : State). Within l (emitAt (length before.stack) (e ⨟ one Return) u)) (sym started)
-      (within-function c.base x arity (namesOnly (names_at t inner)) body before _ refl (lengthens-seq E (lengthens-one Return)) w)
+      subst (λ (u : State). Within l (emit_at (length before.stack) (e ⨟ one Return) u)) (sym started)
+      (within-function c.base x arity (names_only (names_at t inner)) body before _ refl (lengthens-seq E (lengthens-one Return)) w)
 
   pub function-over : (r : Numbered) (next i : ℕ) (made' code' tables' : List ℕ) → r ≡ Over → Begins r t made' code tables' c l i start
-      → Lowers Full (function x arity (namesOnly (names_at t inner)) body (e ⨟ one Return)) next t made code tables made' code' tables' c l
+      → Lowers Full (function x arity (names_only (names_at t inner)) body (e ⨟ one Return)) next t made code tables made' code' tables' c l
   function-over r next i made' code' tables' z h =
       full-emits t made' code' tables' c l next _ (λ w. begins-over r t made' code tables' c l i start z h (within-down (length before.stack) start (lengthens-seq E (lengthens-one Return)) (over w)))
 
@@ -155,66 +155,66 @@ module _ (t made code tables : List ℕ) (c : Counts) (l : Limits) (s : Sound t 
     stack_same = sym (stack-length t made code tables c l s)
 
     -- the body from the beginning
-    from_start : emitAt k.base e (state_of t made₁ code tables₁ k) ≡ emitAt (length before.stack) e start
-    from_start = (λ i. emitAt (b.1.base i) e (b.1.state i)) ∙ ap (λ (n : ℕ). emitAt n e start) stack_same
+    from_start : emit_at k.base e (state_of t made₁ code tables₁ k) ≡ emit_at (length before.stack) e start
+    from_start = (λ i. emit_at (b.1.base i) e (b.1.state i)) ∙ ap (λ (n : ℕ). emit_at n e start) stack_same
 
     start-below : length before.stack ≤ length start.stack
-    unfolding begunWith
+    unfolding begun_with
     start-below = omega arith
 
-    two_steps : emitAt (length before.stack) (e ⨟ one Return) start ≡ emitAt (length before.stack) (one Return) (emitAt (length before.stack) e start)
+    two_steps : emit_at (length before.stack) (e ⨟ one Return) start ≡ emit_at (length before.stack) (one Return) (emit_at (length before.stack) e start)
     two_steps = at-seq (length before.stack) e (one Return) start start-below
 
     pub function-body-over : (r : Emitted) (q next : ℕ) (made' code' tables' : List ℕ) → r ≡ Full → Lowers r e q t made₁ code tables₁ made' code' tables' k l
-        → Lowers Full (function x arity (namesOnly (names_at t inner)) body (e ⨟ one Return)) next t made code tables made' code' tables' c l
+        → Lowers Full (function x arity (names_only (names_at t inner)) body (e ⨟ one Return)) next t made code tables made' code' tables' c l
     function-body-over r q next made' code' tables' z h =
         full-emits t made' code' tables' c l next _ (λ w. emits-full t made' code' tables' k l q _ r z h
         (subst (Within l) (sym from_start) (within-one (length before.stack) Return _ (subst (Within l) two_steps (over w)))))
 
-    module _ (made₂ code₂ tables₂ : List ℕ) (m : Counts) (g : Left m t made₂ code₂ tables₂ k l (emitAt k.base e (state_of t made₁ code tables₁ k))) where
+    module _ (made₂ code₂ tables₂ : List ℕ) (m : Counts) (g : Left m t made₂ code₂ tables₂ k l (emit_at k.base e (state_of t made₁ code tables₁ k))) where
       at_base : m.base ≡ length before.stack
       at_base = g.base ∙ b.1.base ∙ stack_same
 
-      after-body : state_of t made₂ code₂ tables₂ m ≡ emitAt (length before.stack) e start
+      after-body : state_of t made₂ code₂ tables₂ m ≡ emit_at (length before.stack) e start
       after-body = g.state ∙ from_start
 
       -- its number is that of the functions before it
-      number : length (withSymbol x before.tables).functions ≡ f
+      number : length (with_symbol x before.tables).functions ≡ f
       number = ap length (symbol-functions x before.tables) ∙ function-count t made code tables c l s ∙ sym b.0
 
       pub function-base : c.base ≤ m.base
       function-base = let z = base-below t made code tables c l s in omega (arith, at_base)
 
       body-tables : Lengthened start.tables (state_of t made₂ code₂ tables₂ m).tables
-      unfolding emitAt
+      unfolding emit_at
       body-tables = subst (λ (u : State). Lengthened start.tables u.tables) (sym after-body) (E.at (length start.stack - length before.stack) start.tables)
 
       pub function-known : f < m.functions
-      unfolding begunWith
+      unfolding begun_with
       function-known =
           let a = functions-longer body-tables in
           let d = function-count t made₂ code₂ tables₂ m l g.sound in
-          omega (arith, number, length-append (withSymbol x before.tables).functions (record { symbol = symbolNumber x before.tables; arity = arity; locals = length inner; code = [] } ∷ []))
+          omega (arith, number, length-append (with_symbol x before.tables).functions (record { symbol = symbol_number x before.tables; arity = arity; locals = length inner; code = [] } ∷ []))
 
       pub function-empty : body_of (state_of t made₂ code₂ tables₂ m).tables.functions f ≡ []
       function-empty =
           ap (body_of (state_of t made₂ code₂ tables₂ m).tables.functions) (sym number)
-          ∙ begun-body _ arity (namesOnly (names_at t inner)) (withTables (withSymbol x before.tables) before) _ body-tables.new
+          ∙ begun-body _ arity (names_only (names_at t inner)) (with_tables (with_symbol x before.tables) before) _ body-tables.new
           (body-tables.functions ∙ ap (λ (u : State). u.tables.functions ++ body-tables.new) started)
 
-      last-state : emitAt m.base (one Return) (state_of t made₂ code₂ tables₂ m) ≡ emitAt (length before.stack) (e ⨟ one Return) start
-      last-state = (λ i. emitAt (at_base i) (one Return) (after-body i)) ∙ sym two_steps
+      last-state : emit_at m.base (one Return) (state_of t made₂ code₂ tables₂ m) ≡ emit_at (length before.stack) (e ⨟ one Return) start
+      last-state = (λ i. emit_at (at_base i) (one Return) (after-body i)) ∙ sym two_steps
 
-      ended-state : ended m.base f (emitAt m.base (one Return) (state_of t made₂ code₂ tables₂ m)) ≡ emitAt c.base (function x arity (namesOnly (names_at t inner)) body (e ⨟ one Return)) before
+      ended-state : ended m.base f (emit_at m.base (one Return) (state_of t made₂ code₂ tables₂ m)) ≡ emit_at c.base (function x arity (names_only (names_at t inner)) body (e ⨟ one Return)) before
       ended-state =
           (λ i. ended (at_base i) f (last-state i))
-          ∙ ap (λ (n : ℕ). ended (length before.stack) n (emitAt (length before.stack) (e ⨟ one Return) start)) (sym number ∙ ap length (symbol-functions x before.tables))
-          ∙ ap (λ (u : State). ended (length before.stack) (length before.tables.functions) (emitAt (length before.stack) (e ⨟ one Return) u)) started
-          ∙ sym (at-function c.base x arity (namesOnly (names_at t inner)) body (e ⨟ one Return) before _ refl)
+          ∙ ap (λ (n : ℕ). ended (length before.stack) n (emit_at (length before.stack) (e ⨟ one Return) start)) (sym number ∙ ap length (symbol-functions x before.tables))
+          ∙ ap (λ (u : State). ended (length before.stack) (length before.tables.functions) (emit_at (length before.stack) (e ⨟ one Return) u)) started
+          ∙ sym (at-function c.base x arity (names_only (names_at t inner)) body (e ⨟ one Return) before _ refl)
 
       pub function-end : (r : Emitted) (q next : ℕ) (code₃ tables₃ : List ℕ) → q ≡ next
-          → Ends r c.base t made₂ code₃ tables₃ m l q (emitAt m.base (one Return) (state_of t made₂ code₂ tables₂ m)) (ended m.base f (emitAt m.base (one Return) (state_of t made₂ code₂ tables₂ m)))
-          → Lowers r (function x arity (namesOnly (names_at t inner)) body (e ⨟ one Return)) next t made code tables made₂ code₃ tables₃ c l
+          → Ends r c.base t made₂ code₃ tables₃ m l q (emit_at m.base (one Return) (state_of t made₂ code₂ tables₂ m)) (ended m.base f (emit_at m.base (one Return) (state_of t made₂ code₂ tables₂ m)))
+          → Lowers r (function x arity (names_only (names_at t inner)) body (e ⨟ one Return)) next t made code tables made₂ code₃ tables₃ c l
       unfolding Ends
       function-end (Done n j) q next code₃ tables₃ z h =
           done-emits t made₂ code₃ tables₃ c l next _ n j (h.0 ∙ z) (record {
@@ -229,12 +229,12 @@ module _ (t made code tables : List ℕ) (c : Counts) (l : Limits) (s : Sound t 
 
 -- the function, the captured values and the closure; f is the number of functions before it
 pub closure-state : (base d : ℕ) (t : List ℕ) (names : List Name) (arity : ℕ) (inner : List ℕ) (p f : ℕ) (s : State) → f ≡ length s.tables.functions
-    → emitAt base (closureCode d t names arity inner p) s
-    ≡ emitAt base (functionCode d t f arity inner p ⨟ loads names (names_at t (drop arity inner)) ⨟ one (MakeClosure f (length (drop arity inner)))) s
+    → emit_at base (closure_code d t names arity inner p) s
+    ≡ emit_at base (function_code d t f arity inner p ⨟ loads names (names_at t (drop arity inner)) ⨟ one (MakeClosure f (length (drop arity inner)))) s
 unfolding closure
 closure-state base d t names arity inner p f s e =
-    at-by base (λ u. functionCode d t (length u.functions) arity inner p ⨟ loads names (names_at t (drop arity inner)) ⨟ one (MakeClosure (length u.functions) (length (names_at t (drop arity inner))))) s
-    ∙ (λ i. emitAt base (functionCode d t (e' i) arity inner p ⨟ loads names (names_at t (drop arity inner)) ⨟ one (MakeClosure (e' i) (names-length t (drop arity inner) i))) s)
+    at-by base (λ u. function_code d t (length u.functions) arity inner p ⨟ loads names (names_at t (drop arity inner)) ⨟ one (MakeClosure (length u.functions) (length (names_at t (drop arity inner))))) s
+    ∙ (λ i. emit_at base (function_code d t (e' i) arity inner p ⨟ loads names (names_at t (drop arity inner)) ⨟ one (MakeClosure (e' i) (names-length t (drop arity inner) i))) s)
   where
     e' : length s.tables.functions ≡ f
     e' = sym e
@@ -277,47 +277,47 @@ module _ (names : List Name) where
   held_at t (w ∷ ws) (suc i) h k = held_at t ws i (omega arith) (and_both (member (name_at t w) names) (all (λ z. member z names) (map (name_at t) ws)) k).1
 
 -- the slot of a name that has one
-slot_of : (n : ℕ) (o : Option ℕ) → ((k : ℕ) → o ≡ some k → k < n) → ◌≡◌ {A = Bool} (elim o as (λ z. Bool) [ none ↦ false | some i ↦ true ]) true → foundOr n o < n
-unfolding foundOr
+slot_of : (n : ℕ) (o : Option ℕ) → ((k : ℕ) → o ≡ some k → k < n) → ◌≡◌ {A = Bool} (elim o as (λ z. Bool) [ none ↦ false | some i ↦ true ]) true → found_or n o < n
+unfolding found_or
 slot_of n none f h = absurd (true≢false (sym h))
 slot_of n (some k) f h = f k refl
 
-pub slot-below : (names : List Name) (x : Name) (n i : ℕ) → member x names ≡ true → n ≡ length names → i ≡ foundOr n (position (same x) names) → i < length names
+pub slot-below : (names : List Name) (x : Name) (n i : ℕ) → member x names ≡ true → n ≡ length names → i ≡ found_or n (position (same x) names) → i < length names
 unfolding member
 slot-below names x n i h e f =
     let k = slot_of (length names) (position (same x) names) (position-lt (same x) names) h in
-    let z : i ≡ foundOr (length names) (position (same x) names) = f ∙ ap (λ (m : ℕ). foundOr m (position (same x) names)) e in
+    let z : i ≡ found_or (length names) (position (same x) names) = f ∙ ap (λ (m : ℕ). found_or m (position (same x) names)) e in
     omega arith
 
-pub slot-load : (base : ℕ) (t slots : List ℕ) (x : Name) (i : ℕ) (s : State) → member x (names_at t slots) ≡ true → i ≡ foundOr (length slots) (position (same x) (names_at t slots))
-    → emitAt base (one (LoadLocal i)) s ≡ emitAt base (load (names_at t slots) x) s
+pub slot-load : (base : ℕ) (t slots : List ℕ) (x : Name) (i : ℕ) (s : State) → member x (names_at t slots) ≡ true → i ≡ found_or (length slots) (position (same x) (names_at t slots))
+    → emit_at base (one (LoadLocal i)) s ≡ emit_at base (load (names_at t slots) x) s
 slot-load base t slots x i s h e =
     let n = names-length t slots in
-    at_slot 9 base (names_at t slots) x s i (e ∙ ap (λ (m : ℕ). foundOr m (position (same x) (names_at t slots))) (sym n)) (slot-below (names_at t slots) x (length slots) i h (sym n) e)
+    at_slot 9 base (names_at t slots) x s i (e ∙ ap (λ (m : ℕ). found_or m (position (same x) (names_at t slots))) (sym n)) (slot-below (names_at t slots) x (length slots) i h (sym n) e)
     ∙ at_load base (names_at t slots) x s
 
 -- a lambda's slots, in places
-module _ (d : ℕ) (t : List ℕ) (names : List Name) (p : ℕ) (r : LambdaLowerable d t p) (inner : List ℕ) (e : names_at t inner ≡ lambdaNames d t names p) where
+module _ (d : ℕ) (t : List ℕ) (names : List Name) (p : ℕ) (r : LambdaLowerable d t p) (inner : List ℕ) (e : names_at t inner ≡ lambda_names d t names p) where
   abbrev params : List Name
   params = (params_at t p).value
 
   abbrev taken : List Name
-  taken = captures names params (exprAt d t (params_at t p).end).value
+  taken = captures names params (expr_at d t (params_at t p).end).value
 
-  captured-names : names_at t (drop (countAt t p) inner) ≡ taken
+  captured-names : names_at t (drop (count_at t p) inner) ≡ taken
   unfolding names_at
-  captured-names = map-drop (name_at t) (countAt t p) inner ∙ ap (drop (countAt t p)) e ∙ drop_at params taken (countAt t p) (params-count t p)
+  captured-names = map-drop (name_at t) (count_at t p) inner ∙ ap (drop (count_at t p)) e ∙ drop_at params taken (count_at t p) (params-count t p)
 
-  pub lambda-closure : lambdaCode d t names p ≡ closureCode d t names (countAt t p) inner (params_at t p).end
-  unfolding emitExpr
+  pub lambda-closure : lambda_code d t names p ≡ closure_code d t names (count_at t p) inner (params_at t p).end
+  unfolding emit_expr
   lambda-closure =
-      let b = (exprAt d t (params_at t p).end).value in
-      (λ i. closure names (params-count t p i) (sym e i) (sym captured-names i) (exprBody b) (emitExpr (sym e i) b))
+      let b = (expr_at d t (params_at t p).end).value in
+      (λ i. closure names (params-count t p i) (sym e i) (sym captured-names i) (expr_body b) (emit_expr (sym e i) b))
 
-  pub lambda-held : CapturesHeld t names (countAt t p) inner
-  lambda-held = record { held = subst (Held names) (sym captured-names) (held-captures names params (exprAt d t (params_at t p).end).value) }
+  pub lambda-held : CapturesHeld t names (count_at t p) inner
+  lambda-held = record { held = subst (Held names) (sym captured-names) (held-captures names params (expr_at d t (params_at t p).end).value) }
 
-  pub lambda-parts : length inner ≤ 255 → ClosureLowerable d t (countAt t p) inner (params_at t p).end
+  pub lambda-parts : length inner ≤ 255 → ClosureLowerable d t (count_at t p) inner (params_at t p).end
   lambda-parts few = record {
     few = few;
     params = omega (arith, params-count t p, names-length t inner, ap length e, length-append params taken);
@@ -325,51 +325,51 @@ module _ (d : ℕ) (t : List ℕ) (names : List Name) (p : ℕ) (r : LambdaLower
   }
 
 -- a lambda's function and closure, by the code's arity, body and slots
-module _ (d : ℕ) (t : List ℕ) (names : List Name) (p : ℕ) (r : LambdaLowerable d t p) (arity body : ℕ) (inner : List ℕ) (a : arity ≡ countAt t p) (b : body ≡ (params_at t p).end)
-    (e : names_at t inner ≡ (params_at t p).value ++ captures names (params_at t p).value (exprAt d t body).value) where
-  slots-are : names_at t inner ≡ lambdaNames d t names p
-  slots-are = e ∙ ap (λ (q : ℕ). (params_at t p).value ++ captures names (params_at t p).value (exprAt d t q).value) b
+module _ (d : ℕ) (t : List ℕ) (names : List Name) (p : ℕ) (r : LambdaLowerable d t p) (arity body : ℕ) (inner : List ℕ) (a : arity ≡ count_at t p) (b : body ≡ (params_at t p).end)
+    (e : names_at t inner ≡ (params_at t p).value ++ captures names (params_at t p).value (expr_at d t body).value) where
+  slots-are : names_at t inner ≡ lambda_names d t names p
+  slots-are = e ∙ ap (λ (q : ℕ). (params_at t p).value ++ captures names (params_at t p).value (expr_at d t q).value) b
 
   pub lambda-ready : length inner ≤ 255 → ClosureLowerable d t arity inner body × CapturesHeld t names arity inner
   lambda-ready h = (rw (a, b) (lambda-parts d t names p r inner slots-are h), rw a (lambda-held d t names p r inner slots-are))
 
   pub lambda-lowers : (x : Emitted) (made code tables made' code' tables' : List ℕ) (c : Counts) (l : Limits)
-      → Lowers x (closureCode d t names arity inner body) (exprAt d t body).end t made code tables made' code' tables' c l
-      → Lowers x (lambdaCode d t names p) (exprAt d t (params_at t p).end).end t made code tables made' code' tables' c l
+      → Lowers x (closure_code d t names arity inner body) (expr_at d t body).end t made code tables made' code' tables' c l
+      → Lowers x (lambda_code d t names p) (expr_at d t (params_at t p).end).end t made code tables made' code' tables' c l
   lambda-lowers x made code tables made' code' tables' c l h =
       lowers-as x _ _ _ _ t made code tables made' code' tables' c l h
-      (lambda-closure d t names p r inner slots-are ∙ (λ i. closureCode d t names (sym a i) inner (sym b i))) (ap (λ (q : ℕ). (exprAt d t q).end) (sym b))
+      (lambda-closure d t names p r inner slots-are ∙ (λ i. closure_code d t names (sym a i) inner (sym b i))) (ap (λ (q : ℕ). (expr_at d t q).end) (sym b))
 
 -- slots after the index are few
-pub slots-few : (t slots : List ℕ) → Slots t slots → length (drop slotsFrom slots) ≤ 255
-slots-few t slots s = omega (arith, length-drop slotsFrom slots, s.few)
+pub slots-few : (t slots : List ℕ) → Slots t slots → length (drop slots_from slots) ≤ 255
+slots-few t slots s = omega (arith, length-drop slots_from slots, s.few)
 
 -- a lambda with more than 255 slots is over the limits
 pub lambda-over : (d : ℕ) (t : List ℕ) (names : List Name) (p body : ℕ) (made code tables made' code' tables' : List ℕ) (c : Counts) (l : Limits) (next : ℕ) → Sound t made code tables c l → body ≡ (params_at t p).end
-    → 255 < length ((params_at t p).value ++ captures names (params_at t p).value (exprAt d t body).value) → Lowers Full (lambdaCode d t names p) next t made code tables made' code' tables' c l
-unfolding emitExpr
+    → 255 < length ((params_at t p).value ++ captures names (params_at t p).value (expr_at d t body).value) → Lowers Full (lambda_code d t names p) next t made code tables made' code' tables' c l
+unfolding emit_expr
 lambda-over d t names p body made code tables made' code' tables' c l next s b h =
     full-emits t made' code' tables' c l next _ (λ w.
-    let e = ap (λ (q : ℕ). length ((params_at t p).value ++ captures names (params_at t p).value (exprAt d t q).value)) b in
-    let k = closure-slots c.base names (length (params_at t p).value) (lambdaNames d t names p) _ _ (state_of t made code tables c) (base-below t made code tables c l s) (lengthens-expr _ (exprAt d t (params_at t p).end).value) w in
+    let e = ap (λ (q : ℕ). length ((params_at t p).value ++ captures names (params_at t p).value (expr_at d t q).value)) b in
+    let k = closure-slots c.base names (length (params_at t p).value) (lambda_names d t names p) _ _ (state_of t made code tables c) (base-below t made code tables c l s) (lengthens-expr _ (expr_at d t (params_at t p).end).value) w in
     omega arith)
 
 pub reads_at : (d : ℕ) (t : List ℕ) (p q : ℕ) → q ≡ p → ExprReads d t p → ExprReads d t q
 reads_at d t p q e r = subst (ExprReads d t) (sym e) r
 
 -- the rest of the slots from the n-th on
-pub rest-is : (n : ℕ) (xs : List ℕ) → take (length xs - (slotsFrom + n)) (drop (slotsFrom + n) xs) ≡ drop n (drop slotsFrom xs)
-rest-is n xs = take_all (length xs - (slotsFrom + n)) (drop (slotsFrom + n) xs) (omega (arith, length-drop (slotsFrom + n) xs)) ∙ sym (drop-drop n slotsFrom xs)
+pub rest-is : (n : ℕ) (xs : List ℕ) → take (length xs - (slots_from + n)) (drop (slots_from + n) xs) ≡ drop n (drop slots_from xs)
+rest-is n xs = take_all (length xs - (slots_from + n)) (drop (slots_from + n) xs) (omega (arith, length-drop (slots_from + n) xs)) ∙ sym (drop-drop n slots_from xs)
 
 -- the closure's end, for the captures as a part of the slots
 pub captured-as : (n : ℕ) (inner : List ℕ) (r : Emitted) (names : List Name) (f q : ℕ) (t made code tables made' code' tables' : List ℕ) (c : Counts) (l : Limits)
-    → Lowers r (loads names (names_at t (take (length inner - (slotsFrom + n)) (drop (slotsFrom + n) inner))) ⨟ one (MakeClosure f (length (take (length inner - (slotsFrom + n)) (drop (slotsFrom + n) inner))))) q t made code tables made' code' tables' c l
-    → Lowers r (loads names (names_at t (drop n (drop slotsFrom inner))) ⨟ one (MakeClosure f (length (drop n (drop slotsFrom inner))))) q t made code tables made' code' tables' c l
+    → Lowers r (loads names (names_at t (take (length inner - (slots_from + n)) (drop (slots_from + n) inner))) ⨟ one (MakeClosure f (length (take (length inner - (slots_from + n)) (drop (slots_from + n) inner))))) q t made code tables made' code' tables' c l
+    → Lowers r (loads names (names_at t (drop n (drop slots_from inner))) ⨟ one (MakeClosure f (length (drop n (drop slots_from inner))))) q t made code tables made' code' tables' c l
 captured-as n inner r names f q t made code tables made' code' tables' c l h =
     lowers-as r _ _ q q t made code tables made' code' tables' c l h (ap (λ (xs : List ℕ). loads names (names_at t xs) ⨟ one (MakeClosure f (length xs))) (sym (rest-is n inner))) refl
 
-pub captured-held : (names : List Name) (t : List ℕ) (n : ℕ) (inner : List ℕ) → CapturesHeld t names n (drop slotsFrom inner) → Held names (names_at t (take (length inner - (slotsFrom + n)) (drop (slotsFrom + n) inner)))
+pub captured-held : (names : List Name) (t : List ℕ) (n : ℕ) (inner : List ℕ) → CapturesHeld t names n (drop slots_from inner) → Held names (names_at t (take (length inner - (slots_from + n)) (drop (slots_from + n) inner)))
 captured-held names t n inner h = subst (λ (xs : List ℕ). Held names (names_at t xs)) (sym (rest-is n inner)) h.held
 
-pub captured-few : (n : ℕ) (inner : List ℕ) → length (drop slotsFrom inner) ≤ 255 → length (take (length inner - (slotsFrom + n)) (drop (slotsFrom + n) inner)) ≤ 255
-captured-few n inner h = omega (arith, ap length (rest-is n inner), length-drop n (drop slotsFrom inner))
+pub captured-few : (n : ℕ) (inner : List ℕ) → length (drop slots_from inner) ≤ 255 → length (take (length inner - (slots_from + n)) (drop (slots_from + n) inner)) ≤ 255
+captured-few n inner h = omega (arith, ap length (rest-is n inner), length-drop n (drop slots_from inner))

@@ -5,13 +5,13 @@ use mathlib.Core.List.{List, [], ◌∷◌}
 use native.Mathlib.Omega.{arith}
 use native.Mathlib.Numerals.{add-one}
 use lib.ListN.{length, get_or, set, length-set}
-use Rattle.exprs.specs.ExprAt.{exprAt}
+use Rattle.exprs.specs.ExprAt.{expr_at}
 use Rattle.state.specs.Words.{word}
 use Rattle.lower_forms.specs.Lowerable.{Lowerable, LowerableMany}
 use Rattle.lower_forms.proofs.ExprArms.{arm-inside, many-at}
 use Rattle.lower_forms.proofs.Constants.{arm-constant}
 use Rattle.lower_forms.proofs.Elements.{more-view}
-use Rattle.lower_leaves.specs.Constants.{Several, constantsPut, Run, Constants}
+use Rattle.lower_leaves.specs.Constants.{Several, constants_put, Run, Constants}
 
 pub record Running (r n : ℕ) (t : List ℕ) (p : ℕ) (code code' : List ℕ) (o room : ℕ) : Type 0 where
   pub run : Run r n t p code code' o room
@@ -20,7 +20,7 @@ pub record Running (r n : ℕ) (t : List ℕ) (p : ℕ) (code code' : List ℕ) 
   pub kept : length code' ≡ length code
 
 pub running-start : {n : ℕ} {t : List ℕ} {p : ℕ} {code : List ℕ} {o room : ℕ} (S : Several n t p) → o ≤ room → Running 0 n t p code code o room
-unfolding constantsPut
+unfolding constants_put
 running-start {n} {t} {p} S h = record {
   run = record { few = omega arith; small = λ i z. absurd (omega arith); inside = omega arith; words = refl };
   depth = S.depth;
@@ -39,7 +39,7 @@ module _ {r n : ℕ} {t : List ℕ} {p : ℕ} {code code' : List ℕ} {o room : 
   running-inside = arm-inside d t (p + r) running-head
 
   pub running-next : (w : ℕ) → get_or t (p + r) 0 < 3 → o + r < room → w ≡ word (5 - get_or t (p + r) 0) 0 0 → Running (r + 1) n t p code (set code' (o + r) w) o room
-  unfolding constantsPut
+  unfolding constants_put
   running-next w k g e =
       let v = more-view d (n - r) t (p + r) (omega arith) G.rest in
       let end = (arm-constant d t (p + r) running-head (get_or t (p + r) 0) refl k).end in
@@ -48,10 +48,10 @@ module _ {r n : ℕ} {t : List ℕ} {p : ℕ} {code code' : List ℕ} {o room : 
           few = omega arith;
           small = λ i z. small-more i z;
           inside = omega arith;
-          words = (λ j. set (G.run.words j) (o + r) (e j)) ∙ ap (constantsPut code o t p) (sym (add-one r));
+          words = (λ j. set (G.run.words j) (o + r) (e j)) ∙ ap (constants_put code o t p) (sym (add-one r));
         };
         depth = d;
-        rest = many-at d (n - r - 1) (n - (r + 1)) t (exprAt d t (p + r)).end (p + (r + 1)) (omega arith) (omega (arith, end)) v.rest;
+        rest = many-at d (n - r - 1) (n - (r + 1)) t (expr_at d t (p + r)).end (p + (r + 1)) (omega arith) (omega (arith, end)) v.rest;
         kept = length-set code' (o + r) w ∙ G.kept;
       }
     where

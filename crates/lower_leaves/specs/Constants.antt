@@ -2,7 +2,7 @@
 use Rattle.std.specs.Prelude.{ℕ, zero, suc, ◌+◌, ◌-◌, ◌≤◌, ◌<◌, ◌≡◌, List, length, get_or, set}
 use Rattle.state.specs.Words.{word}
 use Rattle.lower_forms.specs.Lowerable.{LowerableMany}
-use Rattle.lower_emit.specs.Places.{open_in, doneIn, instructionLimit, setOpen}
+use Rattle.lower_emit.specs.Places.{open_in, done_in, instruction_limit, set_open}
 
 -- so many expressions, whatever their depth
 pub record Several (n : ℕ) (t : List ℕ) (p : ℕ) : Type 0 where
@@ -10,17 +10,17 @@ pub record Several (n : ℕ) (t : List ℕ) (p : ℕ) : Type 0 where
   pub elements : LowerableMany depth n t p
 
 -- the words of n constants at p on, from the o-th word on
-unfoldable pub constantsPut : List ℕ → ℕ → List ℕ → ℕ → ℕ → List ℕ
-constantsPut code o t p zero = code
-constantsPut code o t p (suc n) = set (constantsPut code o t p n) (o + n) (word (5 - get_or t (p + n) 0) 0 0)
+unfoldable pub constants_put : List ℕ → ℕ → List ℕ → ℕ → ℕ → List ℕ
+constants_put code o t p zero = code
+constants_put code o t p (suc n) = set (constants_put code o t p n) (o + n) (word (5 - get_or t (p + n) 0) 0 0)
 
 pub record Run (r n : ℕ) (t : List ℕ) (p : ℕ) (code code' : List ℕ) (o room : ℕ) : Type 0 where
   pub few : r ≤ n
   pub small : (i : ℕ) → i < r → get_or t (p + i) 0 < 3
   pub inside : o + r ≤ room
-  pub words : code' ≡ constantsPut code o t p r
+  pub words : code' ≡ constants_put code o t p r
 
 pub record Constants (r n : ℕ) (t : List ℕ) (p : ℕ) (code code' k k' l : List ℕ) : Type 0 where
-  pub run : Run r n t p code code' (open_in k) (instructionLimit l - doneIn k)
-  pub counts : k' ≡ setOpen (open_in k + r) k
+  pub run : Run r n t p code code' (open_in k) (instruction_limit l - done_in k)
+  pub counts : k' ≡ set_open (open_in k + r) k
   pub numbers : 10 ≡ length k'

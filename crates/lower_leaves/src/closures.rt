@@ -3,12 +3,12 @@ ghost use Rattle.std.specs.Prelude.{◌<◌, ◌≤◌, length};
 ghost use Rattle.definitions.specs.Instruction.{MakeClosure};
 ghost use Rattle.definitions.specs.Tables.{one, ◌⨟◌};
 ghost use Rattle.definitions.specs.Lower.{loads};
-ghost use Rattle.state.specs.State.{names_at, slotNames, Slots};
+ghost use Rattle.state.specs.State.{names_at, slot_names, Slots};
 ghost use Rattle.lower_forms.specs.Lowerable.{Held};
 ghost use Rattle.lower_emit.specs.Numbers.{Room, Functions, Ending};
 ghost use Rattle.lower_names.specs.Naming.{Naming};
 ghost use Rattle.lower_leaves.specs.Closures.{BeginsLambda, EndsLambda, Loads};
-ghost use Rattle.lower_emit.specs.Places.{functionsIn};
+ghost use Rattle.lower_emit.specs.Places.{functions_in};
 
 use lower_emit::{begin_function, end_function, put_op};
 use lower_names::intern_made;
@@ -28,7 +28,7 @@ pub fn begin_lambda(
     arity: u32,
     locals: u32,
 ) -> u32
-    requires { Naming tree.now made.old tables.old k.old l.now × Functions tables.old k.old l.now × (functionsIn k.old ≤ 256) × (arity < 256) × (locals < 256) }
+    requires { Naming tree.now made.old tables.old k.old l.now × Functions tables.old k.old l.now × (functions_in k.old ≤ 256) × (arity < 256) × (locals < 256) }
     ensures { BeginsLambda result arity locals tree.now made.old made.new tables.old tables.new k.old k.new l.now }
 {
     let n = k[FUNCTIONS];
@@ -70,8 +70,8 @@ fn load_captured(
     l: &[u32; LIMITS],
     next: usize,
 ) -> usize
-    requires { Room code.old k.old l.now × Slots tree.now slots.now × Held (slotNames tree.now slots.now) (names_at tree.now captured.now) × (0 < next) }
-    ensures { Loads result (loads (slotNames tree.now slots.now) (names_at tree.now captured.now)) next
+    requires { Room code.old k.old l.now × Slots tree.now slots.now × Held (slot_names tree.now slots.now) (names_at tree.now captured.now) × (0 < next) }
+    ensures { Loads result (loads (slot_names tree.now slots.now) (names_at tree.now captured.now)) next
         tree.now code.old k.old l.now code.new k.new }
 {
     let mut i = 0;
@@ -98,8 +98,8 @@ pub fn end_closure(
     l: &[u32; LIMITS],
     next: usize,
 ) -> usize
-    requires { Room code.old k.old l.now × Slots tree.now slots.now × Held (slotNames tree.now slots.now) (names_at tree.now captured.now) × (length captured.now ≤ 255) × (f < 65536) × (0 < next) }
-    ensures { Loads result (loads (slotNames tree.now slots.now) (names_at tree.now captured.now) ⨟ one (MakeClosure f (length captured.now))) next
+    requires { Room code.old k.old l.now × Slots tree.now slots.now × Held (slot_names tree.now slots.now) (names_at tree.now captured.now) × (length captured.now ≤ 255) × (f < 65536) × (0 < next) }
+    ensures { Loads result (loads (slot_names tree.now slots.now) (names_at tree.now captured.now) ⨟ one (MakeClosure f (length captured.now))) next
         tree.now code.old k.old l.now code.new k.new }
 {
     let n = captured.len() as u32;

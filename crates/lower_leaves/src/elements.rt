@@ -3,7 +3,7 @@ ghost use Rattle.std.specs.Prelude.{◌≡◌, ◌<◌};
 ghost use Rattle.definitions.specs.Instruction.{ConstI64, LoadIndex};
 ghost use Rattle.definitions.specs.Tables.{one, ◌⨟◌};
 ghost use Rattle.definitions.specs.Lower.{copy};
-ghost use Rattle.lower_forms.specs.Elements.{ElementsRead, elementsEnd};
+ghost use Rattle.lower_forms.specs.Elements.{ElementsRead, elements_end};
 ghost use Rattle.lower_emit.specs.Numbers.{Room};
 ghost use Rattle.lower_emit.specs.Writes.{Writes};
 
@@ -15,7 +15,7 @@ use slots::skip::skip_expr;
 // Where n expressions from `at` on end.
 pub fn skip_exprs(tree: &[u8], at: usize, depth: u32, n: u32) -> usize
     requires { ElementsRead depth tree.now n at }
-    ensures { result ≡ elementsEnd depth tree.now n at }
+    ensures { result ≡ elements_end depth tree.now n at }
 {
     let mut p = at;
     let mut left = n;

@@ -2,8 +2,8 @@
 ghost use Rattle.std.specs.Prelude.{◌≡◌, ◌≤◌, length};
 ghost use Rattle.definitions.specs.Lower.{literal};
 ghost use Rattle.definitions.specs.Tree.{lit};
-ghost use Rattle.exprs.specs.ExprAt.{exprAt};
-ghost use Rattle.exprs.specs.Literals.{literalOf, LiteralAt, Plain, TextPlace};
+ghost use Rattle.exprs.specs.ExprAt.{expr_at};
+ghost use Rattle.exprs.specs.Literals.{literal_of, LiteralAt, Plain, TextPlace};
 ghost use Rattle.lower_emit.specs.Numbers.{Room};
 ghost use Rattle.lower_names.specs.Naming.{Texts, Quotes};
 
@@ -24,8 +24,8 @@ pub fn emit_literal(
     k: &mut [u32; COUNTS],
     l: &[u32; LIMITS],
 ) -> usize
-    requires { Texts tree.now tables.old k.old l.now × Room code.old k.old l.now × (length tree.now ≤ 32768) × LiteralAt tree.now at × (lit (literalOf tree.now x) ≡ (exprAt 1 tree.now at).value) × Plain x × TextPlace tree.now at x }
-    ensures { Quotes result (literal (literalOf tree.now x)) (exprAt 1 tree.now at).end
+    requires { Texts tree.now tables.old k.old l.now × Room code.old k.old l.now × (length tree.now ≤ 32768) × LiteralAt tree.now at × (lit (literal_of tree.now x) ≡ (expr_at 1 tree.now at).value) × Plain x × TextPlace tree.now at x }
+    ensures { Quotes result (literal (literal_of tree.now x)) (expr_at 1 tree.now at).end
         tree.now code.old tables.old k.old l.now code.new tables.new k.new }
 {
     match x {

@@ -1,17 +1,17 @@
 // The iterator of a for loop.
 ghost use Rattle.std.specs.Prelude.{◌≡◌, ◌<◌, length};
 ghost use Rattle.definitions.specs.Instruction.{instr, CallMethod, JumpIfFalse};
-ghost use Rattle.definitions.specs.Slots.{inGlobals};
+ghost use Rattle.definitions.specs.Slots.{in_globals};
 ghost use Rattle.definitions.specs.Tables.{one, ◌⨟◌};
 ghost use Rattle.definitions.specs.Tables as Tables;
-ghost use Rattle.definitions.specs.Lower.{makeIter, loadIter, askIter, takeIter};
+ghost use Rattle.definitions.specs.Lower.{make_iter, load_iter, ask_iter, take_iter};
 ghost use Rattle.state.specs.Words.{word, name_at};
-ghost use Rattle.state.specs.State.{slotNames, Slots};
-ghost use Rattle.state.specs.Kept.{keepingOf, afterLoops};
+ghost use Rattle.state.specs.State.{slot_names, Slots};
+ghost use Rattle.state.specs.Kept.{keeping_of, after_loops};
 ghost use Rattle.lower_emit.specs.Ops.{Plain};
-ghost use Rattle.names.specs.Made.{madeName};
+ghost use Rattle.names.specs.Made.{made_name};
 ghost use Rattle.lower_emit.specs.Numbers.{Room, SoundIn, LowersIn};
-ghost use Rattle.lower_loops.specs.Iterators.{keeperOf, Loads, StoresKept, StoresIterator};
+ghost use Rattle.lower_loops.specs.Iterators.{keeper_of, Loads, StoresKept, StoresIterator};
 
 use lower_emit::{packed, put, put_op};
 use lower_names::{emit_store, intern_made};
@@ -35,8 +35,8 @@ pub(crate) fn emit_made(
     b: u32,
     next: usize,
 ) -> usize
-    requires { SoundIn tree.now made.old code.old tables.old k.old l.now × (length (madeName m) < 20) × Plain op 0 b × (0 < next) }
-    ensures { LowersIn result (Tables.intern (madeName m) (λ k. one (instr op k b))) next
+    requires { SoundIn tree.now made.old code.old tables.old k.old l.now × (length (made_name m) < 20) × Plain op 0 b × (0 < next) }
+    ensures { LowersIn result (Tables.intern (made_name m) (λ k. one (instr op k b))) next
         tree.now made.old code.old tables.old k.entry.now l.now made.new code.new tables.new k.exit.now }
 {
     let i = intern_made(tree, made, tables, k, l, m);
@@ -57,7 +57,7 @@ pub fn make_iterator(
     next: usize,
 ) -> usize
     requires { SoundIn tree.now made.old code.old tables.old k.old l.now × (0 < next) }
-    ensures { LowersIn result makeIter next
+    ensures { LowersIn result make_iter next
         tree.now made.old code.old tables.old k.old l.now made.new code.new tables.new k.new }
 {
     emit_made(
@@ -103,7 +103,7 @@ fn store_global(
     l: &[u32; LIMITS],
 ) -> u32
     requires { SoundIn tree.now made.old code.old tables.old k.old l.now }
-    ensures { StoresIterator result inGlobals tree.now made.old code.old tables.old k.old l.now made.new code.new tables.new k.new }
+    ensures { StoresIterator result in_globals tree.now made.old code.old tables.old k.old l.now made.new code.new tables.new k.new }
 {
     let place = k[OPEN] - k[BASE];
     let g = intern_made(tree, made, tables, k, l, Made::Iterator(place));
@@ -125,8 +125,8 @@ pub fn store_iterator(
     it: &mut u32,
 ) -> u32
     requires { SoundIn tree.now made.old code.old tables.old k.old l.now }
-    ensures { StoresIterator result (keepingOf it.old) tree.now made.old code.old tables.old k.old l.now made.new code.new tables.new k.new
-        × (it.new ≡ afterLoops it.old 1) }
+    ensures { StoresIterator result (keeping_of it.old) tree.now made.old code.old tables.old k.old l.now made.new code.new tables.new k.new
+        × (it.new ≡ after_loops it.old 1) }
 {
     let slot = *it;
     if slot < IN_GLOBALS {
@@ -148,8 +148,8 @@ fn call_iterator(
     m: Made,
     next: usize,
 ) -> usize
-    requires { SoundIn tree.now made.old code.old tables.old k.old l.now × Loads load (keeperOf load) × (length (madeName m) < 20) × (0 < next) }
-    ensures { LowersIn result (one (loadIter (keeperOf load)) ⨟ Tables.intern (madeName m) (λ k. one (CallMethod k 0))) next
+    requires { SoundIn tree.now made.old code.old tables.old k.old l.now × Loads load (keeper_of load) × (length (made_name m) < 20) × (0 < next) }
+    ensures { LowersIn result (one (load_iter (keeper_of load)) ⨟ Tables.intern (made_name m) (λ k. one (CallMethod k 0))) next
         tree.now made.old code.old tables.old k.entry.now l.now made.new code.new tables.new k.exit.now }
 {
     let p = put(code, k, l, load, next);
@@ -170,8 +170,8 @@ pub fn ask_iterator(
     load: u32,
     next: usize,
 ) -> usize
-    requires { SoundIn tree.now made.old code.old tables.old k.old l.now × Loads load (keeperOf load) × (0 < next) }
-    ensures { LowersIn result (askIter (keeperOf load) ⨟ one (JumpIfFalse 0)) next
+    requires { SoundIn tree.now made.old code.old tables.old k.old l.now × Loads load (keeper_of load) × (0 < next) }
+    ensures { LowersIn result (ask_iter (keeper_of load) ⨟ one (JumpIfFalse 0)) next
         tree.now made.old code.old tables.old k.old l.now made.new code.new tables.new k.new }
 {
     let p = call_iterator(tree, made, code, tables, k, l, load, Made::HasNext, next);
@@ -194,8 +194,8 @@ pub fn take_iterator(
     load: u32,
     next: usize,
 ) -> usize
-    requires { SoundIn tree.now made.old code.old tables.old k.old l.now × Slots tree.now slots.now × (at < 32768) × Loads load (keeperOf load) × (0 < next) }
-    ensures { LowersIn result (takeIter (slotNames tree.now slots.now) (name_at tree.now at) (keeperOf load)) next
+    requires { SoundIn tree.now made.old code.old tables.old k.old l.now × Slots tree.now slots.now × (at < 32768) × Loads load (keeper_of load) × (0 < next) }
+    ensures { LowersIn result (take_iter (slot_names tree.now slots.now) (name_at tree.now at) (keeper_of load)) next
         tree.now made.old code.old tables.old k.old l.now made.new code.new tables.new k.new }
 {
     let p = call_iterator(tree, made, code, tables, k, l, load, Made::Next, next);

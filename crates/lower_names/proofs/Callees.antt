@@ -8,10 +8,10 @@ use lib.Dec.{eqb}
 use borrow.Author.Tests.{eq-eqb, ne_eqb, eqb-true, eqb-false}
 use Rattle.definitions.specs.Bytes.{Name}
 use Rattle.definitions.specs.Tables.{emits}
-use Rattle.definitions.specs.Lower.{Callee, builtinCallee, functionCallee, valueCallee, load}
-use Rattle.state.specs.Words.{word, instrOf}
+use Rattle.definitions.specs.Lower.{Callee, builtin_callee, function_callee, value_callee, load}
+use Rattle.state.specs.Words.{word, instr_of}
 use Rattle.lower_emit.proofs.Packing.{instr-plain, plain-above}
-use Rattle.lower_forms.specs.Lowerable.{loadCallee, callInstr, Short}
+use Rattle.lower_forms.specs.Lowerable.{load_callee, call_instr, Short}
 use Rattle.lower_emit.specs.Numbers.{SoundIn}
 use Rattle.lower_names.specs.Naming.{Callables, callee_in, call_word}
 
@@ -25,15 +25,15 @@ callables-sound S = let s = S.sound in record {
 }
 
 module _ (c : ℕ) where
-  pub callee-builtin : c / 65536 ≡ 32 → callee_in c ≡ builtinCallee (c % 65536)
+  pub callee-builtin : c / 65536 ≡ 32 → callee_in c ≡ builtin_callee (c % 65536)
   unfolding callee_in
   callee-builtin h = rw (eq-eqb (c / 65536) 32 h, callee_in)
 
-  pub callee-function : (c / 65536 ≡ 32 → ⊥) → c / 65536 ≡ 31 → callee_in c ≡ functionCallee (c % 65536)
+  pub callee-function : (c / 65536 ≡ 32 → ⊥) → c / 65536 ≡ 31 → callee_in c ≡ function_callee (c % 65536)
   unfolding callee_in
   callee-function n h = rw (ne_eqb (c / 65536) 32 n, callee_in, eq-eqb (c / 65536) 31 h, callee_in)
 
-  pub callee-value : (c / 65536 ≡ 32 → ⊥) → (c / 65536 ≡ 31 → ⊥) → callee_in c ≡ valueCallee
+  pub callee-value : (c / 65536 ≡ 32 → ⊥) → (c / 65536 ≡ 31 → ⊥) → callee_in c ≡ value_callee
   unfolding callee_in
   callee-value n h = rw (ne_eqb (c / 65536) 32 n, callee_in, ne_eqb (c / 65536) 31 h, callee_in)
 
@@ -49,27 +49,27 @@ module _ (c : ℕ) where
   unfolding call_word
   word_value n w h g e = rw (ne_eqb (c / 65536) 32 h, call_word, ne_eqb (c / 65536) 31 g, call_word) e
 
-  pub load-builtin : (names : List Name) (x : Name) → c / 65536 ≡ 32 → loadCallee (callee_in c) names x ≡ emits []
-  unfolding loadCallee
-  load-builtin names x h = ap (λ (y : Callee). loadCallee y names x) (callee-builtin h)
+  pub load-builtin : (names : List Name) (x : Name) → c / 65536 ≡ 32 → load_callee (callee_in c) names x ≡ emits []
+  unfolding load_callee
+  load-builtin names x h = ap (λ (y : Callee). load_callee y names x) (callee-builtin h)
 
-  pub load-function : (names : List Name) (x : Name) → (c / 65536 ≡ 32 → ⊥) → c / 65536 ≡ 31 → loadCallee (callee_in c) names x ≡ emits []
-  unfolding loadCallee
-  load-function names x n h = ap (λ (y : Callee). loadCallee y names x) (callee-function n h)
+  pub load-function : (names : List Name) (x : Name) → (c / 65536 ≡ 32 → ⊥) → c / 65536 ≡ 31 → load_callee (callee_in c) names x ≡ emits []
+  unfolding load_callee
+  load-function names x n h = ap (λ (y : Callee). load_callee y names x) (callee-function n h)
 
-  pub load_value : (names : List Name) (x : Name) → (c / 65536 ≡ 32 → ⊥) → (c / 65536 ≡ 31 → ⊥) → loadCallee (callee_in c) names x ≡ load names x
-  unfolding loadCallee
-  load_value names x n h = ap (λ (y : Callee). loadCallee y names x) (callee-value n h)
+  pub load_value : (names : List Name) (x : Name) → (c / 65536 ≡ 32 → ⊥) → (c / 65536 ≡ 31 → ⊥) → load_callee (callee_in c) names x ≡ load names x
+  unfolding load_callee
+  load_value names x n h = ap (λ (y : Callee). load_callee y names x) (callee-value n h)
 
   -- the word is the call
-  pub call-instr : (t : List ℕ) (n : ℕ) → n ≤ 255 → Short (callee_in c) → instrOf t (call_word c n) ≡ callInstr (callee_in c) n
-  unfolding Short callInstr
+  pub call-instr : (t : List ℕ) (n : ℕ) → n ≤ 255 → Short (callee_in c) → instr_of t (call_word c n) ≡ call_instr (callee_in c) n
+  unfolding Short call_instr
   call-instr t n few short = go (eqb (c / 65536) 32) (eqb (c / 65536) 31) refl refl
     where
-      by : (w : ℕ) (ce : Callee) → w ≡ call_word c n → callee_in c ≡ ce → instrOf t w ≡ callInstr ce n → instrOf t (call_word c n) ≡ callInstr (callee_in c) n
-      by w ce e f h = ap (instrOf t) (sym e) ∙ h ∙ ap (λ (y : Callee). callInstr y n) (sym f)
+      by : (w : ℕ) (ce : Callee) → w ≡ call_word c n → callee_in c ≡ ce → instr_of t w ≡ call_instr ce n → instr_of t (call_word c n) ≡ call_instr (callee_in c) n
+      by w ce e f h = ap (instr_of t) (sym e) ∙ h ∙ ap (λ (y : Callee). call_instr y n) (sym f)
 
-      go : (a b : Bool) → eqb (c / 65536) 32 ≡ a → eqb (c / 65536) 31 ≡ b → instrOf t (call_word c n) ≡ callInstr (callee_in c) n
+      go : (a b : Bool) → eqb (c / 65536) 32 ≡ a → eqb (c / 65536) 31 ≡ b → instr_of t (call_word c n) ≡ call_instr (callee_in c) n
       go true b e f =
           let h = eqb-true (c / 65536) 32 e in
           by _ _ (word-builtin n _ h refl) (callee-builtin h) (instr-plain t 32 (c % 65536) n (plain-above 32 (c % 65536) n (omega arith) (omega arith) (omega arith) (omega arith)))
@@ -83,12 +83,12 @@ module _ (c : ℕ) where
           by _ _ (word_value n _ h g refl) (callee-value h g) (instr-plain t 34 n 0 (plain-above 34 n 0 (omega arith) (omega arith) (omega arith) (omega arith)))
 
 -- numbers made of an opcode and a number
-pub builtin-in : (i : ℕ) → i < 65536 → callee_in (32 * 65536 + i) ≡ builtinCallee i
-builtin-in i h = callee-builtin (32 * 65536 + i) (omega arith) ∙ ap (λ (n : ℕ). builtinCallee n) (omega arith)
+pub builtin-in : (i : ℕ) → i < 65536 → callee_in (32 * 65536 + i) ≡ builtin_callee i
+builtin-in i h = callee-builtin (32 * 65536 + i) (omega arith) ∙ ap (λ (n : ℕ). builtin_callee n) (omega arith)
 
-pub function-in : (i : ℕ) → i < 65536 → callee_in (31 * 65536 + i) ≡ functionCallee i
-function-in i h = callee-function (31 * 65536 + i) (λ e. omega arith) (omega arith) ∙ ap (λ (n : ℕ). functionCallee n) (omega arith)
+pub function-in : (i : ℕ) → i < 65536 → callee_in (31 * 65536 + i) ≡ function_callee i
+function-in i h = callee-function (31 * 65536 + i) (λ e. omega arith) (omega arith) ∙ ap (λ (n : ℕ). function_callee n) (omega arith)
 
-pub value_in : callee_in (34 * 65536) ≡ valueCallee
+pub value_in : callee_in (34 * 65536) ≡ value_callee
 unfolding callee_in
 value_in = refl

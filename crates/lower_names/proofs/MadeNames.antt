@@ -7,7 +7,7 @@ use lib.ListN.{length, take}
 use Rattle.definitions.specs.Bytes.{Name}
 use Rattle.state.specs.Words.{region, name_at}
 use Rattle.state.specs.Index.{Covered}
-use Rattle.state.specs.State.{symbolIndexFrom, symbolBuckets, spelled, State, tables_of, state_of, Sound, Numbers, symbolNumber, withSymbol, withTables}
+use Rattle.state.specs.State.{symbol_index_from, symbol_buckets, spelled, State, tables_of, state_of, Sound, Numbers, symbol_number, with_symbol, with_tables}
 use Rattle.state.specs.declared.Counts.{Counts}
 use Rattle.state.specs.Answered.{Limits, Numbered}
 use Rattle.state.proofs.Regions.{spelled_same, made-within-same, every_map}
@@ -38,7 +38,7 @@ module _ (tree made made' code tables : List ℕ) (c : Counts) (l : Limits) (s :
     codes = s.codes;
     class-methods = s.class-methods;
     finished = s.finished;
-    symbol-index = subst (Covered symbolBuckets (region symbolIndexFrom symbolBuckets tables) 0) (spelled_same tree made made' c.made (region 0 c.symbols tables) s.names kept) s.symbol-index;
+    symbol-index = subst (Covered symbol_buckets (region symbol_index_from symbol_buckets tables) 0) (spelled_same tree made made' c.made (region 0 c.symbols tables) s.names kept) s.symbol-index;
     string-index = s.string-index;
   }
 
@@ -59,10 +59,10 @@ module _ (tree made made' code tables : List ℕ) (c : Counts) (l : Limits) (s :
 
   -- the number of the made name, among the symbols as they were
   pub made-numbers : (r : Numbered) (tables' : List ℕ) →
-      Numbers r tree made' code tables' c l (symbolNumber (spelled tree made' (32768 + at)) (state_of tree made' code tables c).tables)
-      (withTables (withSymbol (spelled tree made' (32768 + at)) (state_of tree made' code tables c).tables) (state_of tree made' code tables c))
-      → Numbers r tree made' code tables' c l (symbolNumber x (state_of tree made code tables c).tables)
-      (withTables (withSymbol x (state_of tree made code tables c).tables) (state_of tree made code tables c))
+      Numbers r tree made' code tables' c l (symbol_number (spelled tree made' (32768 + at)) (state_of tree made' code tables c).tables)
+      (with_tables (with_symbol (spelled tree made' (32768 + at)) (state_of tree made' code tables c).tables) (state_of tree made' code tables c))
+      → Numbers r tree made' code tables' c l (symbol_number x (state_of tree made code tables c).tables)
+      (with_tables (with_symbol x (state_of tree made code tables c).tables) (state_of tree made code tables c))
   made-numbers r tables' h =
-      let f : Name → State → Type 0 = λ y u. Numbers r tree made' code tables' c l (symbolNumber y u.tables) (withTables (withSymbol y u.tables) u) in
+      let f : Name → State → Type 0 = λ y u. Numbers r tree made' code tables' c l (symbol_number y u.tables) (with_tables (with_symbol y u.tables) u) in
       subst (λ (u : State). f x u) made-state (subst (λ (y : Name). f y (state_of tree made' code tables c)) made-spelled h)

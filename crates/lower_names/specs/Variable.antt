@@ -6,9 +6,9 @@ use Rattle.definitions.specs.Instruction.{instr}
 use Rattle.definitions.specs.Tables.{Emit, one, intern}
 
 -- the opcode for a global stands two after that for a slot: LoadLocal 9 and LoadGlobal 11, StoreLocal 10 and StoreGlobal 12
-unfoldable pub variableBy : ℕ → Name → Option ℕ → Emit
-variableBy op x (some i) = one (instr op i 0)
-variableBy op x none = intern x (λ k. one (instr (op + 2) k 0))
+unfoldable pub variable_by : ℕ → Name → Option ℕ → Emit
+variable_by op x (some i) = one (instr op i 0)
+variable_by op x none = intern x (λ k. one (instr (op + 2) k 0))
 
 unfoldable pub variable : ℕ → List Name → Name → Emit
-variable op slots x = variableBy op x (position (same x) slots)
+variable op slots x = variable_by op x (position (same x) slots)

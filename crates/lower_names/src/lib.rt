@@ -2,18 +2,18 @@
 ghost use Rattle.std.specs.Prelude.{◌≡◌, List, ℕ, ◌+◌, ◌<◌, ◌≤◌, ◌^◌, length};
 ghost use Rattle.definitions.specs.Instruction.{instr, ConstStr};
 ghost use Rattle.definitions.specs.Tables as Tables;
-ghost use Rattle.definitions.specs.Tables.{one, getOrAddString};
+ghost use Rattle.definitions.specs.Tables.{one, get_or_add_string};
 ghost use Rattle.definitions.specs.Lower as Lower;
 ghost use Rattle.definitions.specs.Lower.{load, store};
-ghost use Rattle.state.specs.Words.{name_at, textAt};
-ghost use Rattle.state.specs.State.{spelled, MadeWithin, slotNames, Slots, state_of};
+ghost use Rattle.state.specs.Words.{name_at, text_at};
+ghost use Rattle.state.specs.State.{spelled, MadeWithin, slot_names, Slots, state_of};
 ghost use Rattle.lower_emit.specs.Ops.{Plain};
-ghost use Rattle.names.specs.Made.{madeName};
+ghost use Rattle.names.specs.Made.{made_name};
 ghost use Rattle.lower_names.specs.Variable.{variable};
-ghost use Rattle.lower_forms.specs.Lowerable.{loadCallee};
-ghost use Rattle.lower_emit.specs.Numbers.{countsOf, Room, Put, SoundIn, LowersIn};
+ghost use Rattle.lower_forms.specs.Lowerable.{load_callee};
+ghost use Rattle.lower_emit.specs.Numbers.{counts_of, Room, Put, SoundIn, LowersIn};
 ghost use Rattle.lower_names.specs.Naming.{Naming, Interns, InternsMade, Texts, Adds, Quotes, Callables, callee_in, call_word};
-ghost use Rattle.lower_emit.specs.Places.{madeIn};
+ghost use Rattle.lower_emit.specs.Places.{made_in};
 
 use lower_emit::{packed, put, put_op};
 use names::Made;
@@ -43,7 +43,7 @@ pub fn intern(
     w: u32,
     grow: u32,
 ) -> u32
-    requires { Naming tree.now made.now tables.old k.old l.now × MadeWithin made.now (madeIn k.old + grow) w × (grow ≤ 20) × (name.now ≡ spelled tree.now made.now w) }
+    requires { Naming tree.now made.now tables.old k.old l.now × MadeWithin made.now (made_in k.old + grow) w × (grow ≤ 20) × (name.now ≡ spelled tree.now made.now w) }
     ensures { Interns result tree.now made.now tables.old tables.new k.old k.new l.now w }
 {
     let n = k[SYMBOLS];
@@ -76,7 +76,7 @@ fn intern_at(
     at: u32,
     grow: u32,
 ) -> u32
-    requires { Naming tree.now made.now tables.old k.old l.now × MadeWithin made.now (madeIn k.old + grow) (32768 + at) × (grow ≤ 20) × (at < 32768) }
+    requires { Naming tree.now made.now tables.old k.old l.now × MadeWithin made.now (made_in k.old + grow) (32768 + at) × (grow ≤ 20) × (at < 32768) }
     ensures { Interns result tree.now made.now tables.old tables.new k.old k.new l.now (32768 + at) }
 {
     intern(
@@ -100,8 +100,8 @@ pub fn intern_made(
     l: &[u32; LIMITS],
     m: Made,
 ) -> u32
-    requires { Naming tree.now made.old tables.old k.old l.now × (length (madeName m) < 20) }
-    ensures { InternsMade result (madeName m) tree.now made.old made.new tables.old tables.new k.old k.new l.now }
+    requires { Naming tree.now made.old tables.old k.old l.now × (length (made_name m) < 20) }
+    ensures { InternsMade result (made_name m) tree.now made.old made.new tables.old tables.new k.old k.new l.now }
 {
     let at = k[MADE];
     let grow = write_made(made, at as usize, m);
@@ -173,7 +173,7 @@ pub fn emit_string(
     next: usize,
 ) -> usize
     requires { Texts tree.now tables.old k.old l.now × Room code.old k.old l.now × (at < 2 ^ 32) × (0 < next) }
-    ensures { Quotes result (getOrAddString (textAt tree.now at) (λ k. one (ConstStr k))) next
+    ensures { Quotes result (get_or_add_string (text_at tree.now at) (λ k. one (ConstStr k))) next
         tree.now code.old tables.old k.entry.now l.now code.new tables.new k.exit.now }
 {
     let i = string_number(tree, tables, k, l, at);
@@ -197,7 +197,7 @@ fn emit_variable(
     next: usize,
 ) -> usize
     requires { SoundIn tree.now made.now code.old tables.old k.old l.now × Slots tree.now slots.now × (at < 32768) × (9 ≤ op) × (op ≤ 10) × (0 < next) }
-    ensures { LowersIn result (variable op (slotNames tree.now slots.now) (name_at tree.now at)) next
+    ensures { LowersIn result (variable op (slot_names tree.now slots.now) (name_at tree.now at)) next
         tree.now made.now code.old tables.old k.old l.now made.now code.new tables.new k.new }
 {
     let i = find_slot(tree, slots, at);
@@ -220,7 +220,7 @@ pub fn emit_load(
     next: usize,
 ) -> usize
     requires { SoundIn tree.now made.now code.old tables.old k.old l.now × Slots tree.now slots.now × (at < 32768) × (0 < next) }
-    ensures { LowersIn result (load (slotNames tree.now slots.now) (name_at tree.now at)) next
+    ensures { LowersIn result (load (slot_names tree.now slots.now) (name_at tree.now at)) next
         tree.now made.now code.old tables.old k.old l.now made.now code.new tables.new k.new }
 {
     emit_variable(tree, slots, made, code, tables, k, l, at, LOAD_LOCAL, next)
@@ -239,7 +239,7 @@ pub fn emit_store(
     next: usize,
 ) -> usize
     requires { SoundIn tree.now made.now code.old tables.old k.old l.now × Slots tree.now slots.now × (at < 32768) × (0 < next) }
-    ensures { LowersIn result (store (slotNames tree.now slots.now) (name_at tree.now at)) next
+    ensures { LowersIn result (store (slot_names tree.now slots.now) (name_at tree.now at)) next
         tree.now made.now code.old tables.old k.old l.now made.now code.new tables.new k.new }
 {
     emit_variable(tree, slots, made, code, tables, k, l, at, STORE_LOCAL, next)
@@ -254,7 +254,7 @@ fn resolve_function_id(
     name: &[u8],
 ) -> u32
     requires { Callables tree.now made.now tables.now k.now }
-    ensures { (code l : List ℕ) → SoundIn tree.now made.now code tables.now k.now l → callee_in result ≡ Lower.resolveFunction name.now (state_of tree.now made.now code tables.now (countsOf k.now)).tables }
+    ensures { (code l : List ℕ) → SoundIn tree.now made.now code tables.now k.now l → callee_in result ≡ Lower.resolve_function name.now (state_of tree.now made.now code tables.now (counts_of k.now)).tables }
 {
     let n = k[SYMBOLS];
     let i = find_symbol(tree, made, tables, n, name);
@@ -279,7 +279,7 @@ pub fn resolve(
     at: usize,
 ) -> u32
     requires { Callables tree.now made.now tables.now k.now }
-    ensures { (code l : List ℕ) → SoundIn tree.now made.now code tables.now k.now l → callee_in result ≡ Lower.resolve (name_at tree.now at) (state_of tree.now made.now code tables.now (countsOf k.now)).tables }
+    ensures { (code l : List ℕ) → SoundIn tree.now made.now code tables.now k.now l → callee_in result ≡ Lower.resolve (name_at tree.now at) (state_of tree.now made.now code tables.now (counts_of k.now)).tables }
 {
     let name = name_part(tree, at);
     let id = find_builtin(name);
@@ -308,7 +308,7 @@ pub fn load_callee(
     next: usize,
 ) -> usize
     requires { SoundIn tree.now made.now code.old tables.old k.old l.now × Slots tree.now slots.now × (at < 32768) × (0 < next) }
-    ensures { LowersIn result (loadCallee (callee_in callee) (slotNames tree.now slots.now) (name_at tree.now at)) next
+    ensures { LowersIn result (load_callee (callee_in callee) (slot_names tree.now slots.now) (name_at tree.now at)) next
         tree.now made.now code.old tables.old k.old l.now made.now code.new tables.new k.new }
 {
     if callee / UPPER == CALL_BUILTIN {

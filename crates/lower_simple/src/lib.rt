@@ -5,13 +5,13 @@ ghost use Rattle.definitions.specs.Instruction.{instr};
 ghost use Rattle.definitions.specs.Tables.{one, emits, ◌⨟◌};
 ghost use Rattle.definitions.specs.Wellformed.{init};
 ghost use Rattle.definitions.specs.Slots.{Keeping};
-ghost use Rattle.definitions.specs.Lower.{makeIter};
-ghost use Rattle.exprs.specs.ExprAt.{exprAt};
-ghost use Rattle.tree.specs.StmtAt.{stmtAt};
-ghost use Rattle.state.specs.Words.{word, instrOf, name_at};
-ghost use Rattle.state.specs.State.{slotNames};
-ghost use Rattle.lower_forms.specs.Lowerable.{Lowerable, exprCode};
-ghost use Rattle.lower_forms.specs.Lowering.{StmtLowerable, stmtCode, end_of};
+ghost use Rattle.definitions.specs.Lower.{make_iter};
+ghost use Rattle.exprs.specs.ExprAt.{expr_at};
+ghost use Rattle.tree.specs.StmtAt.{stmt_at};
+ghost use Rattle.state.specs.Words.{word, instr_of, name_at};
+ghost use Rattle.state.specs.State.{slot_names};
+ghost use Rattle.lower_forms.specs.Lowerable.{Lowerable, expr_code};
+ghost use Rattle.lower_forms.specs.Lowering.{StmtLowerable, stmt_code, end_of};
 ghost use Rattle.lower_emit.specs.Numbers.{Room, ReadyIn, LowersIn};
 ghost use Rattle.lower_emit.specs.Writes.{Writes};
 
@@ -38,8 +38,8 @@ pub fn emit_value(
     k: &mut [u32; COUNTS],
     l: &[u32; LIMITS],
 ) -> usize
-    requires { ReadyIn tree.now slots.now made.old code.old tables.old k.old l.now × Lowerable depth tree.now at × (op < 256) × ((t : List ℕ) → instrOf t (word op 0 0) ≡ instr op 0 0) }
-    ensures { LowersIn result (exprCode depth tree.now (slotNames tree.now slots.now) at ⨟ one (instr op 0 0)) (exprAt depth tree.now at).end
+    requires { ReadyIn tree.now slots.now made.old code.old tables.old k.old l.now × Lowerable depth tree.now at × (op < 256) × ((t : List ℕ) → instr_of t (word op 0 0) ≡ instr op 0 0) }
+    ensures { LowersIn result (expr_code depth tree.now (slot_names tree.now slots.now) at ⨟ one (instr op 0 0)) (expr_at depth tree.now at).end
         tree.now made.old code.old tables.old k.old l.now made.new code.new tables.new k.new }
 {
     let next = emit_expr(tree, at, depth, slots, made, code, tables, k, l);
@@ -62,7 +62,7 @@ pub fn emit_iterable(
     l: &[u32; LIMITS],
 ) -> usize
     requires { ReadyIn tree.now slots.now made.old code.old tables.old k.old l.now × Lowerable depth tree.now at }
-    ensures { LowersIn result (exprCode depth tree.now (slotNames tree.now slots.now) at ⨟ makeIter) (exprAt depth tree.now at).end
+    ensures { LowersIn result (expr_code depth tree.now (slot_names tree.now slots.now) at ⨟ make_iter) (expr_at depth tree.now at).end
         tree.now made.old code.old tables.old k.old l.now made.new code.new tables.new k.new }
 {
     let next = emit_expr(tree, at, depth, slots, made, code, tables, k, l);
@@ -85,7 +85,7 @@ pub fn emit_simple(
     l: &[u32; LIMITS],
 ) -> usize
     requires { ReadyIn tree.now slots.now made.old code.old tables.old k.old l.now × StmtLowerable depth tree.now at × (get_or tree.now at 0 < 6) }
-    ensures { (keep : Keeping) → LowersIn result (stmtCode depth tree.now (slotNames tree.now slots.now) keep at) (stmtAt depth tree.now at).end
+    ensures { (keep : Keeping) → LowersIn result (stmt_code depth tree.now (slot_names tree.now slots.now) keep at) (stmt_at depth tree.now at).end
         tree.now made.old code.old tables.old k.old l.now made.new code.new tables.new k.new }
 {
     let kind = tree[at];

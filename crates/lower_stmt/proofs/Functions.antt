@@ -9,15 +9,15 @@ use Rattle.definitions.specs.Bytes.{Name, same}
 use Rattle.definitions.specs.Wellformed.{init}
 use Rattle.definitions.specs.Tree.{Block}
 use Rattle.definitions.specs.Instruction.{Instr}
-use Rattle.definitions.specs.Tables.{Function, Tables, Emit, emits, ◌⨟◌, begin, blockBody, set_code, function}
-use Rattle.definitions.specs.Lower.{emitBlock}
-use Rattle.parts.specs.Places.{nameEnd, params_at}
-use Rattle.definitions.specs.Slots.{Keeping, inSlots, Frame, withLoops, loopsBlock}
-use Rattle.tree.specs.StmtAt.{block_at, defBlockAt}
+use Rattle.definitions.specs.Tables.{Function, Tables, Emit, emits, ◌⨟◌, begin, block_body, set_code, function}
+use Rattle.definitions.specs.Lower.{emit_block}
+use Rattle.parts.specs.Places.{name_end, params_at}
+use Rattle.definitions.specs.Slots.{Keeping, in_slots, Frame, with_loops, loops_block}
+use Rattle.tree.specs.StmtAt.{block_at, def_block_at}
 use Rattle.state.specs.Words.{name_at}
-use Rattle.state.specs.State.{State, slotsFrom, slotNames, Slots, state_of, emitAt, Sound, Within, Ready, Left, Emits, symbolNumber, withSymbol, withTables}
-use Rattle.state.specs.Steps.{begun, ended, methodFunction}
-use Rattle.state.specs.Kept.{keepingOf, Spare}
+use Rattle.state.specs.State.{State, slots_from, slot_names, Slots, state_of, emit_at, Sound, Within, Ready, Left, Emits, symbol_number, with_symbol, with_tables}
+use Rattle.state.specs.Steps.{begun, ended, method_function}
+use Rattle.state.specs.Kept.{keeping_of, Spare}
 use Rattle.state.proofs.Kept.{keeping-slot}
 use Rattle.state.specs.declared.Counts.{Counts}
 use Rattle.state.specs.Answered.{Limits, Emitted, Done, Full, Numbered, At, Over}
@@ -26,11 +26,11 @@ use Rattle.state.proofs.Enclosing.{at-function, symbol-functions}
 use Rattle.state.proofs.Growth.{Lengthens, Lengthened, lengthens-seq, lengthens-emits, lengthens-block}
 use Rattle.state.proofs.Within.{within-down, within-function, function-slots}
 use Rattle.state.proofs.Answers.{paced-more}
-use Rattle.lower_emit.specs.Nesting.{begunWith, body_of, Moved, Begins}
+use Rattle.lower_emit.specs.Nesting.{begun_with, body_of, Moved, Begins}
 use Rattle.slots.specs.declared.collect.Framed.{Framed}
-use Rattle.slots.specs.Slotted.{firstNames, Indexed, Framing, Frames}
+use Rattle.slots.specs.Slotted.{first_names, Indexed, Framing, Frames}
 use Rattle.slots.proofs.Adding.{first-length, part-before, front-names, front-slots}
-use Rattle.lower_forms.specs.Lowering.{Sole, frame_at, end_of, functionCode}
+use Rattle.lower_forms.specs.Lowering.{Sole, frame_at, end_of, function_code}
 use Rattle.lower_stmt.specs.Compiled.{Ahead, Compiles}
 use Rattle.lower_forms.proofs.Sequences.{method-end}
 
@@ -72,32 +72,32 @@ compiles-as r t made code tables c l n want want' e h = subst (Compiles r t made
 
 -- ---- slots
 
-pub names-length : (t ps : List ℕ) (n : ℕ) (want : List Name) → slotsFrom + n ≤ length ps → firstNames t n ps ≡ want → n ≡ length want
+pub names-length : (t ps : List ℕ) (n : ℕ) (want : List Name) → slots_from + n ≤ length ps → first_names t n ps ≡ want → n ≡ length want
 names-length t ps n want h e = sym (ap length (sym e) ∙ first-length t n ps h)
 
-pub framed_at : {r : Framed} {t ps : List ℕ} {params block : ℕ} (d at : ℕ) → params ≡ nameEnd t at → block ≡ (params_at t (nameEnd t at)).end
-    → Frames r t ps (withLoops (params_at t params).value (block_at d t block).value) → Frames r t ps (frame_at d t at)
-framed_at {r} {t} {ps} d at e f h = subst (Frames r t ps) (λ j. withLoops (params_at t (e j)).value (block_at d t (f j)).value) h
+pub framed_at : {r : Framed} {t ps : List ℕ} {params block : ℕ} (d at : ℕ) → params ≡ name_end t at → block ≡ (params_at t (name_end t at)).end
+    → Frames r t ps (with_loops (params_at t params).value (block_at d t block).value) → Frames r t ps (frame_at d t at)
+framed_at {r} {t} {ps} d at e f h = subst (Frames r t ps) (λ j. with_loops (params_at t (e j)).value (block_at d t (f j)).value) h
 
 -- the loops' slots come after the n that have a name, and there are enough
-module _ {n m : ℕ} {t ps : List ℕ} (xs : List Name) (b : Block) (F : Framing n m t ps (withLoops xs b)) (room : slotsFrom + 255 ≤ length ps) where
-  how-many : n ≡ length (withLoops xs b).names
+module _ {n m : ℕ} {t ps : List ℕ} (xs : List Name) (b : Block) (F : Framing n m t ps (with_loops xs b)) (room : slots_from + 255 ≤ length ps) where
+  how-many : n ≡ length (with_loops xs b).names
   how-many = names-length t ps n _ (omega (arith, F.named, F.few)) F.names
 
-  pub frame-keeping : keepingOf n ≡ (withLoops xs b).keep
-  frame-keeping = keeping-slot n (omega (arith, F.named, F.few)) ∙ ap inSlots how-many
+  pub frame-keeping : keeping_of n ≡ (with_loops xs b).keep
+  frame-keeping = keeping-slot n (omega (arith, F.named, F.few)) ∙ ap in_slots how-many
 
-  pub frame-spare : Spare n (loopsBlock b)
+  pub frame-spare : Spare n (loops_block b)
   frame-spare = record { at = λ h. omega (arith, how-many, F.locals, F.few) }
 
 -- the slots that are used
-pub part-names : (t ps : List ℕ) (n : ℕ) (want : List Name) → firstNames t n ps ≡ want → slotsFrom + n ≤ length ps → slotNames t (take (slotsFrom + n - 0) (drop 0 ps)) ≡ want
-part-names t ps n want e h = ap (slotNames t) (part-before (slotsFrom + n) ps) ∙ front-names t ps n h ∙ e
+pub part-names : (t ps : List ℕ) (n : ℕ) (want : List Name) → first_names t n ps ≡ want → slots_from + n ≤ length ps → slot_names t (take (slots_from + n - 0) (drop 0 ps)) ≡ want
+part-names t ps n want e h = ap (slot_names t) (part-before (slots_from + n) ps) ∙ front-names t ps n h ∙ e
 
-pub part-ready : (t ps made₀ code₀ tables₀ made code tables : List ℕ) (c k : Counts) (l : Limits) (n : ℕ) → Sole t made₀ code₀ tables₀ c l → n ≤ 255 → Indexed t n ps → slotsFrom + n ≤ length ps → Sound t made code tables k l
-    → Ready t (take (slotsFrom + n - 0) (drop 0 ps)) made code tables k l
+pub part-ready : (t ps made₀ code₀ tables₀ made code tables : List ℕ) (c k : Counts) (l : Limits) (n : ℕ) → Sole t made₀ code₀ tables₀ c l → n ≤ 255 → Indexed t n ps → slots_from + n ≤ length ps → Sound t made code tables k l
+    → Ready t (take (slots_from + n - 0) (drop 0 ps)) made code tables k l
 part-ready t ps made₀ code₀ tables₀ made code tables c k l n r h v g s =
-    record { tree-short = r.tree-short; slotted = subst (Slots t) (sym (part-before (slotsFrom + n) ps)) (front-slots t ps n g h v); sound = s }
+    record { tree-short = r.tree-short; slotted = subst (Slots t) (sym (part-before (slots_from + n) ps)) (front-slots t ps n g h v); sound = s }
 
 -- ---- the functions' codes
 
@@ -120,29 +120,29 @@ module _ (t made code tables : List ℕ) (c : Counts) (l : Limits) (sound : Soun
   s = state_of t made code tables c
 
   abbrev named : State
-  named = withTables (withSymbol x s.tables) s
+  named = with_tables (with_symbol x s.tables) s
 
   abbrev symbol : ℕ
-  symbol = symbolNumber x s.tables
+  symbol = symbol_number x s.tables
 
   abbrev e : Emit
-  e = emitBlock inner.names inner.keep b ⨟ emits end
+  e = emit_block inner.names inner.keep b ⨟ emits end
 
   E : Lengthens e
   E = lengthens-seq (lengthens-block inner.names inner.keep b) (lengthens-emits end)
 
   abbrev whole : State
-  whole = emitAt c.base (function x (length ps) inner (blockBody b end) e) s
+  whole = emit_at c.base (function x (length ps) inner (block_body b end) e) s
 
   abbrev began : State
-  began = begunWith symbol arity n named
+  began = begun_with symbol arity n named
 
   began-is : began ≡ begun symbol (length ps) inner named
-  unfolding begunWith begun begin
-  began-is = λ j. begunWith symbol (ea j) (en j) named
+  unfolding begun_with begun begin
+  began-is = λ j. begun_with symbol (ea j) (en j) named
 
-  within-body : Within l whole → Within l (emitAt (length s.stack) e (begun symbol (length ps) inner named))
-  within-body w = within-function c.base x (length ps) inner (blockBody b end) s named refl E w
+  within-body : Within l whole → Within l (emit_at (length s.stack) e (begun symbol (length ps) inner named))
+  within-body w = within-function c.base x (length ps) inner (block_body b end) s named refl E w
 
   pub begun-within : Within l whole → Within l began
   begun-within w = subst (Within l) (sym began-is) (within-down (length s.stack) _ E (within-body w))
@@ -153,20 +153,20 @@ module _ (t made code tables : List ℕ) (c : Counts) (l : Limits) (sound : Soun
     k-base : k.base ≡ length s.stack
     k-base = B.1.base ∙ sym (stack-length t made code tables c l sound)
 
-    body_is : emitAt k.base (emitBlock names keep b ⨟ emits end) (state_of t made code tables₁ k) ≡ emitAt (length s.stack) e (begun symbol (length ps) inner named)
-    body_is = λ j. emitAt (k-base j) (emitBlock (en' j) (ek j) b ⨟ emits end) ((B.1.state ∙ began-is) j)
+    body_is : emit_at k.base (emit_block names keep b ⨟ emits end) (state_of t made code tables₁ k) ≡ emit_at (length s.stack) e (begun symbol (length ps) inner named)
+    body_is = λ j. emit_at (k-base j) (emit_block (en' j) (ek j) b ⨟ emits end) ((B.1.state ∙ began-is) j)
 
-    pub body-within : Within l whole → Within l (emitAt k.base (emitBlock names keep b ⨟ emits end) (state_of t made code tables₁ k))
+    pub body-within : Within l whole → Within l (emit_at k.base (emit_block names keep b ⨟ emits end) (state_of t made code tables₁ k))
     body-within w = subst (Within l) (sym body_is) (within-body w)
 
     -- its body is there
-    module _ (m : Counts) (made₂ code₂ tables₂ : List ℕ) (A : Left m t made₂ code₂ tables₂ k l (emitAt k.base (emitBlock names keep b ⨟ emits end) (state_of t made code tables₁ k))) where
-      abbrev begunTables : Tables
-      begunTables = (begun symbol (length ps) inner named).tables
+    module _ (m : Counts) (made₂ code₂ tables₂ : List ℕ) (A : Left m t made₂ code₂ tables₂ k l (emit_at k.base (emit_block names keep b ⨟ emits end) (state_of t made code tables₁ k))) where
+      abbrev begun_tables : Tables
+      begun_tables = (begun symbol (length ps) inner named).tables
 
-      grown : Lengthened begunTables (state_of t made₂ code₂ tables₂ m).tables
-      unfolding emitAt
-      grown = subst (λ (u : State). Lengthened begunTables u.tables) (sym (A.state ∙ body_is)) (E.at (length (begun symbol (length ps) inner named).stack - length s.stack) begunTables)
+      grown : Lengthened begun_tables (state_of t made₂ code₂ tables₂ m).tables
+      unfolding emit_at
+      grown = subst (λ (u : State). Lengthened begun_tables u.tables) (sym (A.state ∙ body_is)) (E.at (length (begun symbol (length ps) inner named).stack - length s.stack) begun_tables)
 
       functions-are : (state_of t made₂ code₂ tables₂ m).tables.functions ≡ s.tables.functions ++ (record { symbol = symbol; arity = length ps; locals = inner.locals; code = [] } ∷ grown.new)
       unfolding begun begin
@@ -196,7 +196,7 @@ module _ (t made code tables : List ℕ) (c : Counts) (l : Limits) (sound : Soun
         state-is : state_of t made₂ code₃ tables₃ d ≡ whole
         state-is =
             D.state ∙ (λ j. ended (m-base j) (B.0 j) ((A.state ∙ body_is) j))
-            ∙ sym (at-function c.base x (length ps) inner (blockBody b end) e s named refl)
+            ∙ sym (at-function c.base x (length ps) inner (block_body b end) e s named refl)
 
         same_count : d.functions ≡ m.functions
         unfolding ended
@@ -212,17 +212,17 @@ module _ (t made code tables : List ℕ) (c : Counts) (l : Limits) (sound : Soun
             (omega (arith, same_count, ended-number, B.0, function-count t made code tables c l sound))
 
 -- a function with more than 255 slots is over the limits
-pub slots-over : (d : ℕ) (t : List ℕ) (p : ℕ) (b : Bool) (base : ℕ) (l : Limits) (s : State) → 255 < (frame_at d t p).locals → Within l (emitAt base (functionCode d t p b) s) → ⊥
+pub slots-over : (d : ℕ) (t : List ℕ) (p : ℕ) (b : Bool) (base : ℕ) (l : Limits) (s : State) → 255 < (frame_at d t p).locals → Within l (emit_at base (function_code d t p b) s) → ⊥
 slots-over d t p b base l s h w =
-    let k = function-slots base _ _ (frame_at d t p) _ s (lengthens-seq (lengthens-block (frame_at d t p).names (frame_at d t p).keep (defBlockAt d t p).value) (lengthens-emits (end_of b))) w in
+    let k = function-slots base _ _ (frame_at d t p) _ s (lengthens-seq (lengthens-block (frame_at d t p).names (frame_at d t p).keep (def_block_at d t p).value) (lengthens-emits (end_of b))) w in
     omega arith
 
 -- a method is a function with a method's end
 pub method-is : (d : ℕ) (t : List ℕ) (p : ℕ) (b : Bool) (base : ℕ) (s : State) → b ≡ same (name_at t p) init
-    → emitAt base (functionCode d t p b) s ≡ emitAt base (methodFunction (name_at t p) (params_at t (nameEnd t p)).value (defBlockAt d t p).value) s
-unfolding methodFunction
+    → emit_at base (function_code d t p b) s ≡ emit_at base (method_function (name_at t p) (params_at t (name_end t p)).value (def_block_at d t p).value) s
+unfolding method_function
 method-is d t p b base s e =
-    let ps = (params_at t (nameEnd t p)).value in
-    let x = (defBlockAt d t p).value in
+    let ps = (params_at t (name_end t p)).value in
+    let x = (def_block_at d t p).value in
     let f = ap end_of e ∙ method-end (name_at t p) in
-    λ j. emitAt base (function (name_at t p) (length ps) (frame_at d t p) (blockBody x (f j)) (emitBlock (frame_at d t p).names (frame_at d t p).keep x ⨟ emits (f j))) s
+    λ j. emit_at base (function (name_at t p) (length ps) (frame_at d t p) (block_body x (f j)) (emit_block (frame_at d t p).names (frame_at d t p).keep x ⨟ emits (f j))) s

@@ -1,7 +1,7 @@
 -- What functions and methods leave.
 use Rattle.std.specs.Prelude.{ℕ, ◌+◌, ◌≤◌, ◌<◌, ◌≡◌, List, map, length, take}
 use Rattle.definitions.specs.Tables.{Method}
-use Rattle.state.specs.State.{State, methodOf, Within, Left}
+use Rattle.state.specs.State.{State, method_of, Within, Left}
 use Rattle.state.specs.declared.Counts.{Counts}
 use Rattle.state.specs.Answered.{Limits, Emitted, Done, Full}
 
@@ -23,7 +23,7 @@ Compiles Full tree made code tables c l next want = Within l want → ⊥
 pub record Methodical (n : ℕ) (tree list : List ℕ) (c k : Counts) (want : List Method) : Type 0 where
   pub few : n ≤ length list
   pub ahead : Ahead n c k
-  pub methods : map (methodOf tree) (take n list) ≡ want
+  pub methods : map (method_of tree) (take n list) ≡ want
 
 -- the wanted state and the class's methods; or the wanted state is over the limits
 unfoldable pub Lists : Listed → List ℕ → List ℕ → List ℕ → List ℕ → List ℕ → Counts → Limits → State → List Method → Type 0

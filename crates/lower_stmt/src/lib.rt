@@ -1,25 +1,25 @@
 // The lowering of statements and blocks in one path: a statement holds blocks and a block holds statements.
 // `it` tells where loops keep their iterators: it is the slot of the next loop's, or IN_GLOBALS.
 ghost use Rattle.std.specs.Prelude.{[], ◌+◌, ◌-◌, ◌<◌, ◌≤◌, length};
-ghost use Rattle.definitions.specs.Slots.{loopsStmt, loopsBlock, loopsBranches};
+ghost use Rattle.definitions.specs.Slots.{loops_stmt, loops_block, loops_branches};
 ghost use Rattle.definitions.specs.Tables.{emits, ◌⨟◌};
 ghost use Rattle.definitions.specs.Tree.{if, when, for};
-ghost use Rattle.definitions.specs.Lower.{loop, askIter, takeIter, emitStmt};
-ghost use Rattle.parts.specs.Places.{There, nameEnd};
-ghost use Rattle.exprs.specs.ExprAt.{exprAt};
-ghost use Rattle.tree.specs.StmtAt.{stmtAt, block_at, stmtsAt, branchesAt, body_at, elifsAt, defBlockAt, classMethodsAt};
+ghost use Rattle.definitions.specs.Lower.{loop, ask_iter, take_iter, emit_stmt};
+ghost use Rattle.parts.specs.Places.{There, name_end};
+ghost use Rattle.exprs.specs.ExprAt.{expr_at};
+ghost use Rattle.tree.specs.StmtAt.{stmt_at, block_at, stmts_at, branches_at, body_at, elifs_at, def_block_at, class_methods_at};
 ghost use Rattle.tree.specs.StmtAt as StmtAt;
 ghost use Rattle.state.specs.Words.{name_at};
-ghost use Rattle.state.specs.State.{state_of, emitAt, slotNames};
-ghost use Rattle.state.specs.Steps.{branch, chainAt, methodsAt, methodsOf};
-ghost use Rattle.state.specs.Kept.{keepingOf, Spare, Passes};
-ghost use Rattle.lower_forms.specs.Lowerable.{exprCode};
-ghost use Rattle.lower_forms.specs.Lowering.{StmtLowerable, BlockLowerable, StmtsLowerable, stmtCode, block_code, stmtsCode, BranchLowerable, BranchesLowerable, IfLowerable, ForLowerable, FunctionLowerable, functionCode, end_of, MethodsLowerable, ClassLowerable, classCode};
-ghost use Rattle.lower_emit.specs.Numbers.{countsOf, ReadyIn, LowersIn};
+ghost use Rattle.state.specs.State.{state_of, emit_at, slot_names};
+ghost use Rattle.state.specs.Steps.{branch, chain_at, methods_at, methods_of};
+ghost use Rattle.state.specs.Kept.{keeping_of, Spare, Passes};
+ghost use Rattle.lower_forms.specs.Lowerable.{expr_code};
+ghost use Rattle.lower_forms.specs.Lowering.{StmtLowerable, BlockLowerable, StmtsLowerable, stmt_code, block_code, stmts_code, BranchLowerable, BranchesLowerable, IfLowerable, ForLowerable, FunctionLowerable, function_code, end_of, MethodsLowerable, ClassLowerable, class_code};
+ghost use Rattle.lower_emit.specs.Numbers.{counts_of, ReadyIn, LowersIn};
 ghost use Rattle.lower_emit.specs.Ends.{Reaches};
-ghost use Rattle.lower_loops.specs.Iterators.{keeperOf, Loads};
+ghost use Rattle.lower_loops.specs.Iterators.{keeper_of, Loads};
 ghost use Rattle.lower_stmt.specs.Blocks.{SoleIn, CompilesIn, ListsIn};
-ghost use Rattle.lower_emit.specs.Places.{baseIn, open_in};
+ghost use Rattle.lower_emit.specs.Places.{base_in, open_in};
 
 use lower_classes::{begin_class, begin_named, finish_class};
 use lower_emit::end_function;
@@ -50,10 +50,10 @@ fn emit_stmt(
     l: &[u32; LIMITS],
     it: &mut u32,
 ) -> usize
-    requires { ReadyIn tree.now slots.now made.old code.old tables.old k.old l.now × StmtLowerable depth tree.now at × (0 < at) × Spare it.old (loopsStmt (stmtAt depth tree.now at).value) }
-    ensures { LowersIn result (stmtCode depth tree.now (slotNames tree.now slots.now) (keepingOf it.old) at) (stmtAt depth tree.now at).end
+    requires { ReadyIn tree.now slots.now made.old code.old tables.old k.old l.now × StmtLowerable depth tree.now at × (0 < at) × Spare it.old (loops_stmt (stmt_at depth tree.now at).value) }
+    ensures { LowersIn result (stmt_code depth tree.now (slot_names tree.now slots.now) (keeping_of it.old) at) (stmt_at depth tree.now at).end
         tree.now made.old code.old tables.old k.old l.now made.new code.new tables.new k.new
-        × Passes result it.old it.new (loopsStmt (stmtAt depth tree.now at).value) }
+        × Passes result it.old it.new (loops_stmt (stmt_at depth tree.now at).value) }
 {
     let kind = tree[at];
     match kind {
@@ -105,10 +105,10 @@ fn emit_stmts(
     l: &[u32; LIMITS],
     it: &mut u32,
 ) -> usize
-    requires { ReadyIn tree.now slots.now made.old code.old tables.old k.old l.now × StmtsLowerable depth count tree.now at × (0 < at) × Spare it.old (loopsBlock (stmtsAt depth count tree.now at).value) }
-    ensures { LowersIn result (stmtsCode depth count tree.now (slotNames tree.now slots.now) (keepingOf it.old) at) (stmtsAt depth count tree.now at).end
+    requires { ReadyIn tree.now slots.now made.old code.old tables.old k.old l.now × StmtsLowerable depth count tree.now at × (0 < at) × Spare it.old (loops_block (stmts_at depth count tree.now at).value) }
+    ensures { LowersIn result (stmts_code depth count tree.now (slot_names tree.now slots.now) (keeping_of it.old) at) (stmts_at depth count tree.now at).end
         tree.now made.old code.old tables.old k.old l.now made.new code.new tables.new k.new
-        × Passes result it.old it.new (loopsBlock (stmtsAt depth count tree.now at).value) }
+        × Passes result it.old it.new (loops_block (stmts_at depth count tree.now at).value) }
 {
     let mut left = count;
     let mut p = at;
@@ -137,10 +137,10 @@ pub fn emit_block(
     l: &[u32; LIMITS],
     it: &mut u32,
 ) -> usize
-    requires { ReadyIn tree.now slots.now made.old code.old tables.old k.old l.now × BlockLowerable depth tree.now at × Spare it.old (loopsBlock (block_at depth tree.now at).value) }
-    ensures { LowersIn result (block_code depth tree.now (slotNames tree.now slots.now) (keepingOf it.old) at) (block_at depth tree.now at).end
+    requires { ReadyIn tree.now slots.now made.old code.old tables.old k.old l.now × BlockLowerable depth tree.now at × Spare it.old (loops_block (block_at depth tree.now at).value) }
+    ensures { LowersIn result (block_code depth tree.now (slot_names tree.now slots.now) (keeping_of it.old) at) (block_at depth tree.now at).end
         tree.now made.old code.old tables.old k.old l.now made.new code.new tables.new k.new
-        × Passes result it.old it.new (loopsBlock (block_at depth tree.now at).value) }
+        × Passes result it.old it.new (loops_block (block_at depth tree.now at).value) }
 {
     let count = u16_at(tree, at);
     emit_stmts(
@@ -172,10 +172,10 @@ fn emit_branch(
     l: &[u32; LIMITS],
     it: &mut u32,
 ) -> usize
-    requires { ReadyIn tree.now slots.now made.old code.old tables.old k.old l.now × BranchLowerable depth tree.now at × Spare it.old (loopsBlock (body_at depth tree.now at).value) }
-    ensures { LowersIn result (branch (slotNames tree.now slots.now) (keepingOf it.old) (exprAt depth tree.now at).value (body_at depth tree.now at).value) (body_at depth tree.now at).end
+    requires { ReadyIn tree.now slots.now made.old code.old tables.old k.old l.now × BranchLowerable depth tree.now at × Spare it.old (loops_block (body_at depth tree.now at).value) }
+    ensures { LowersIn result (branch (slot_names tree.now slots.now) (keeping_of it.old) (expr_at depth tree.now at).value (body_at depth tree.now at).value) (body_at depth tree.now at).end
         tree.now made.old code.old tables.old k.old l.now made.new code.new tables.new k.new
-        × Passes result it.old it.new (loopsBlock (body_at depth tree.now at).value) }
+        × Passes result it.old it.new (loops_block (body_at depth tree.now at).value) }
 {
     let block = emit_value(
         tree,
@@ -214,10 +214,10 @@ fn emit_if(
     l: &[u32; LIMITS],
     it: &mut u32,
 ) -> usize
-    requires { ReadyIn tree.now slots.now made.old code.old tables.old k.old l.now × IfLowerable depth tree.now at × Spare it.old (loopsBlock (body_at depth tree.now at).value + loopsBranches (elifsAt depth tree.now at).value) }
-    ensures { LowersIn result (emitStmt (slotNames tree.now slots.now) (keepingOf it.old) (if (when (exprAt depth tree.now at).value (body_at depth tree.now at).value (elifsAt depth tree.now at).value))) (elifsAt depth tree.now at).end
+    requires { ReadyIn tree.now slots.now made.old code.old tables.old k.old l.now × IfLowerable depth tree.now at × Spare it.old (loops_block (body_at depth tree.now at).value + loops_branches (elifs_at depth tree.now at).value) }
+    ensures { LowersIn result (emit_stmt (slot_names tree.now slots.now) (keeping_of it.old) (if (when (expr_at depth tree.now at).value (body_at depth tree.now at).value (elifs_at depth tree.now at).value))) (elifs_at depth tree.now at).end
         tree.now made.old code.old tables.old k.old l.now made.new code.new tables.new k.new
-        × Passes result it.old it.new (loopsBlock (body_at depth tree.now at).value + loopsBranches (elifsAt depth tree.now at).value) }
+        × Passes result it.old it.new (loops_block (body_at depth tree.now at).value + loops_branches (elifs_at depth tree.now at).value) }
 {
     let p = emit_branch(tree, at, depth, slots, made, code, tables, k, l, it);
     if p == 0 {
@@ -242,10 +242,10 @@ fn emit_elifs(
     l: &[u32; LIMITS],
     it: &mut u32,
 ) -> usize
-    requires { ReadyIn tree.now slots.now made.old code.old tables.old k.old l.now × BranchesLowerable depth n tree.now at × (0 < open_in k.old) × Spare it.old (loopsBranches (branchesAt depth n tree.now at).value) }
-    ensures { Reaches result (branchesAt depth n tree.now at).end (chainAt (baseIn k.old) (slotNames tree.now slots.now) (keepingOf it.old) (branchesAt depth n tree.now at).value ((open_in k.old) - 1) (state_of tree.now made.old code.old tables.old (countsOf k.old)))
+    requires { ReadyIn tree.now slots.now made.old code.old tables.old k.old l.now × BranchesLowerable depth n tree.now at × (0 < open_in k.old) × Spare it.old (loops_branches (branches_at depth n tree.now at).value) }
+    ensures { Reaches result (branches_at depth n tree.now at).end (chain_at (base_in k.old) (slot_names tree.now slots.now) (keeping_of it.old) (branches_at depth n tree.now at).value ((open_in k.old) - 1) (state_of tree.now made.old code.old tables.old (counts_of k.old)))
         tree.now k.old l.now made.new code.new tables.new k.new
-        × Passes result it.old it.new (loopsBranches (branchesAt depth n tree.now at).value) }
+        × Passes result it.old it.new (loops_branches (branches_at depth n tree.now at).value) }
 {
     let mut left = n;
     let mut p = at;
@@ -277,10 +277,10 @@ fn emit_else(
     l: &[u32; LIMITS],
     it: &mut u32,
 ) -> usize
-    requires { ReadyIn tree.now slots.now made.old code.old tables.old k.old l.now × BranchesLowerable depth 0 tree.now at × (0 < open_in k.old) × Spare it.old (loopsBranches (branchesAt depth 0 tree.now at).value) }
-    ensures { Reaches result (branchesAt depth 0 tree.now at).end (chainAt (baseIn k.old) (slotNames tree.now slots.now) (keepingOf it.old) (branchesAt depth 0 tree.now at).value ((open_in k.old) - 1) (state_of tree.now made.old code.old tables.old (countsOf k.old)))
+    requires { ReadyIn tree.now slots.now made.old code.old tables.old k.old l.now × BranchesLowerable depth 0 tree.now at × (0 < open_in k.old) × Spare it.old (loops_branches (branches_at depth 0 tree.now at).value) }
+    ensures { Reaches result (branches_at depth 0 tree.now at).end (chain_at (base_in k.old) (slot_names tree.now slots.now) (keeping_of it.old) (branches_at depth 0 tree.now at).value ((open_in k.old) - 1) (state_of tree.now made.old code.old tables.old (counts_of k.old)))
         tree.now k.old l.now made.new code.new tables.new k.new
-        × Passes result it.old it.new (loopsBranches (branchesAt depth 0 tree.now at).value) }
+        × Passes result it.old it.new (loops_branches (branches_at depth 0 tree.now at).value) }
 {
     let from = k[OPEN];
     if tree[at] == 0 {
@@ -310,10 +310,10 @@ fn emit_while(
     l: &[u32; LIMITS],
     it: &mut u32,
 ) -> usize
-    requires { ReadyIn tree.now slots.now made.old code.old tables.old k.old l.now × BranchLowerable depth tree.now at × Spare it.old (loopsBlock (body_at depth tree.now at).value) }
-    ensures { LowersIn result (loop (exprCode depth tree.now (slotNames tree.now slots.now) at) (block_code depth tree.now (slotNames tree.now slots.now) (keepingOf it.old) (exprAt depth tree.now at).end)) (body_at depth tree.now at).end
+    requires { ReadyIn tree.now slots.now made.old code.old tables.old k.old l.now × BranchLowerable depth tree.now at × Spare it.old (loops_block (body_at depth tree.now at).value) }
+    ensures { LowersIn result (loop (expr_code depth tree.now (slot_names tree.now slots.now) at) (block_code depth tree.now (slot_names tree.now slots.now) (keeping_of it.old) (expr_at depth tree.now at).end)) (body_at depth tree.now at).end
         tree.now made.old code.old tables.old k.old l.now made.new code.new tables.new k.new
-        × Passes result it.old it.new (loopsBlock (body_at depth tree.now at).value) }
+        × Passes result it.old it.new (loops_block (body_at depth tree.now at).value) }
 {
     let start = k[OPEN];
     let block = emit_value(
@@ -353,10 +353,10 @@ fn emit_for(
     l: &[u32; LIMITS],
     it: &mut u32,
 ) -> usize
-    requires { ReadyIn tree.now slots.now made.old code.old tables.old k.old l.now × ForLowerable depth tree.now at × Spare it.old (1 + loopsBlock (body_at depth tree.now (nameEnd tree.now at)).value) }
-    ensures { LowersIn result (emitStmt (slotNames tree.now slots.now) (keepingOf it.old) (for (name_at tree.now at) (exprAt depth tree.now (nameEnd tree.now at)).value (body_at depth tree.now (nameEnd tree.now at)).value)) (body_at depth tree.now (nameEnd tree.now at)).end
+    requires { ReadyIn tree.now slots.now made.old code.old tables.old k.old l.now × ForLowerable depth tree.now at × Spare it.old (1 + loops_block (body_at depth tree.now (name_end tree.now at)).value) }
+    ensures { LowersIn result (emit_stmt (slot_names tree.now slots.now) (keeping_of it.old) (for (name_at tree.now at) (expr_at depth tree.now (name_end tree.now at)).value (body_at depth tree.now (name_end tree.now at)).value)) (body_at depth tree.now (name_end tree.now at)).end
         tree.now made.old code.old tables.old k.old l.now made.new code.new tables.new k.new
-        × Passes result it.old it.new (1 + loopsBlock (body_at depth tree.now (nameEnd tree.now at)).value) }
+        × Passes result it.old it.new (1 + loops_block (body_at depth tree.now (name_end tree.now at)).value) }
 {
     let start = name_end(tree, at);
     let block = emit_iterable(tree, start, depth, slots, made, code, tables, k, l);
@@ -388,10 +388,10 @@ fn emit_rounds(
     l: &[u32; LIMITS],
     it: &mut u32,
 ) -> usize
-    requires { ReadyIn tree.now slots.now made.old code.old tables.old k.old l.now × There tree.now at × BlockLowerable depth tree.now block × Loads load (keeperOf load) × (0 < block) × Spare it.old (loopsBlock (block_at depth tree.now block).value) }
-    ensures { LowersIn result (loop (askIter (keeperOf load)) (takeIter (slotNames tree.now slots.now) (name_at tree.now at) (keeperOf load) ⨟ block_code depth tree.now (slotNames tree.now slots.now) (keepingOf it.old) block)) (block_at depth tree.now block).end
+    requires { ReadyIn tree.now slots.now made.old code.old tables.old k.old l.now × There tree.now at × BlockLowerable depth tree.now block × Loads load (keeper_of load) × (0 < block) × Spare it.old (loops_block (block_at depth tree.now block).value) }
+    ensures { LowersIn result (loop (ask_iter (keeper_of load)) (take_iter (slot_names tree.now slots.now) (name_at tree.now at) (keeper_of load) ⨟ block_code depth tree.now (slot_names tree.now slots.now) (keeping_of it.old) block)) (block_at depth tree.now block).end
         tree.now made.old code.old tables.old k.old l.now made.new code.new tables.new k.new
-        × Passes result it.old it.new (loopsBlock (block_at depth tree.now block).value) }
+        × Passes result it.old it.new (loops_block (block_at depth tree.now block).value) }
 {
     let start = k[OPEN];
     let p = ask_iterator(tree, made, code, tables, k, l, load, block);
@@ -425,8 +425,8 @@ fn emit_body(
     k: &mut [u32; COUNTS],
     l: &[u32; LIMITS],
 ) -> usize
-    requires { ReadyIn tree.now slots.now made.old code.old tables.old k.old l.now × BlockLowerable depth tree.now at × Spare first (loopsBlock (block_at depth tree.now at).value) }
-    ensures { LowersIn result (block_code depth tree.now (slotNames tree.now slots.now) (keepingOf first) at ⨟ emits (end_of init)) (block_at depth tree.now at).end
+    requires { ReadyIn tree.now slots.now made.old code.old tables.old k.old l.now × BlockLowerable depth tree.now at × Spare first (loops_block (block_at depth tree.now at).value) }
+    ensures { LowersIn result (block_code depth tree.now (slot_names tree.now slots.now) (keeping_of first) at ⨟ emits (end_of init)) (block_at depth tree.now at).end
         tree.now made.old code.old tables.old k.old l.now made.new code.new tables.new k.new }
 {
     let mut it = first;
@@ -451,7 +451,7 @@ fn compile_function(
     l: &[u32; LIMITS],
 ) -> usize
     requires { SoleIn tree.now made.old code.old tables.old k.old l.now × FunctionLowerable depth tree.now at }
-    ensures { CompilesIn result (defBlockAt depth tree.now at).end (emitAt (baseIn k.old) (functionCode depth tree.now at init) (state_of tree.now made.old code.old tables.old (countsOf k.old)))
+    ensures { CompilesIn result (def_block_at depth tree.now at).end (emit_at (base_in k.old) (function_code depth tree.now at init) (state_of tree.now made.old code.old tables.old (counts_of k.old)))
         tree.now k.old l.now made.new code.new tables.new k.new }
 {
     let mut slots = [0u32; SLOTS_ROOM];
@@ -503,7 +503,7 @@ fn emit_methods(
     list: &mut [u32],
 ) -> u32
     requires { SoleIn tree.now made.old code.old tables.old k.old l.now × MethodsLowerable depth n tree.now at × (256 ≤ length list.old) }
-    ensures { ListsIn result (methodsAt (StmtAt.methodsAt depth n tree.now at).value [] (state_of tree.now made.old code.old tables.old (countsOf k.old))) (methodsOf (StmtAt.methodsAt depth n tree.now at).value [] (state_of tree.now made.old code.old tables.old (countsOf k.old)))
+    ensures { ListsIn result (methods_at (StmtAt.methods_at depth n tree.now at).value [] (state_of tree.now made.old code.old tables.old (counts_of k.old))) (methods_of (StmtAt.methods_at depth n tree.now at).value [] (state_of tree.now made.old code.old tables.old (counts_of k.old)))
         tree.now list.new k.old l.now made.new code.new tables.new k.new }
 {
     let mut left = n;
@@ -537,7 +537,7 @@ fn emit_class(
     next: usize,
 ) -> usize
     requires { SoleIn tree.now made.old code.old tables.old k.old l.now × ClassLowerable depth tree.now at × (0 < next) }
-    ensures { Reaches result (next) (emitAt (baseIn k.old) (classCode (name_at tree.now at) (classMethodsAt depth tree.now at).value) (state_of tree.now made.old code.old tables.old (countsOf k.old)))
+    ensures { Reaches result (next) (emit_at (base_in k.old) (class_code (name_at tree.now at) (class_methods_at depth tree.now at).value) (state_of tree.now made.old code.old tables.old (counts_of k.old)))
         tree.now k.old l.now made.new code.new tables.new k.new }
 {
     let mut list = [0u32; METHODS_ROOM];

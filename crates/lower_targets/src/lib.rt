@@ -2,14 +2,14 @@
 ghost use Rattle.std.specs.Prelude.{◌+◌, ◌-◌, ◌<◌, ◌≤◌};
 ghost use Rattle.definitions.specs.Instruction.{StoreAttr, StoreIndex};
 ghost use Rattle.definitions.specs.Tables.{one, ◌⨟◌, intern};
-ghost use Rattle.definitions.specs.Lower.{store, emitTarget, unpack};
-ghost use Rattle.parts.specs.Places.{countAt, nameEnd};
-ghost use Rattle.exprs.specs.ExprAt.{exprAt, secondAt, ExprReads};
+ghost use Rattle.definitions.specs.Lower.{store, emit_target, unpack};
+ghost use Rattle.parts.specs.Places.{count_at, name_end};
+ghost use Rattle.exprs.specs.ExprAt.{expr_at, second_at, ExprReads};
 ghost use Rattle.state.specs.Words.{name_at};
-ghost use Rattle.state.specs.State.{slotNames};
-ghost use Rattle.lower_forms.specs.Lowerable.{exprCode};
-ghost use Rattle.lower_forms.specs.Elements.{ElementsRead, elementsAt};
-ghost use Rattle.lower_forms.specs.Assigned.{AssignLowerable, assignCode, VariableAssigned, AttributeAssigned, IndexAssigned, TupleAssigned};
+ghost use Rattle.state.specs.State.{slot_names};
+ghost use Rattle.lower_forms.specs.Lowerable.{expr_code};
+ghost use Rattle.lower_forms.specs.Elements.{ElementsRead, elements_at};
+ghost use Rattle.lower_forms.specs.Assigned.{AssignLowerable, assign_code, VariableAssigned, AttributeAssigned, IndexAssigned, TupleAssigned};
 ghost use Rattle.lower_emit.specs.Numbers.{ReadyIn, LowersIn};
 
 use lower_emit::put_op;
@@ -38,7 +38,7 @@ fn emit_assign_target(
     next: usize,
 ) -> usize
     requires { ReadyIn tree.now slots.now made.now code.old tables.old k.old l.now × ExprReads depth tree.now at × (0 < next) }
-    ensures { LowersIn result (emitTarget (slotNames tree.now slots.now) (exprAt depth tree.now at).value) (next)
+    ensures { LowersIn result (emit_target (slot_names tree.now slots.now) (expr_at depth tree.now at).value) (next)
         tree.now made.now code.old tables.old k.old l.now made.now code.new tables.new k.new }
 {
     let kind = tree[at];
@@ -82,7 +82,7 @@ fn emit_elements(
     next: usize,
 ) -> usize
     requires { ReadyIn tree.now slots.now made.now code.old tables.old k.old l.now × ElementsRead depth tree.now n at × (i + n ≤ 65536) × (0 < next) }
-    ensures { LowersIn result (unpack (slotNames tree.now slots.now) (elementsAt depth tree.now n at) i) (next)
+    ensures { LowersIn result (unpack (slot_names tree.now slots.now) (elements_at depth tree.now n at) i) (next)
         tree.now made.now code.old tables.old k.old l.now made.now code.new tables.new k.new }
 {
     if n == 0 {
@@ -130,7 +130,7 @@ fn assign_variable(
     l: &[u32; LIMITS],
 ) -> usize
     requires { ReadyIn tree.now slots.now made.old code.old tables.old k.old l.now × VariableAssigned depth tree.now at }
-    ensures { LowersIn result (exprCode depth tree.now (slotNames tree.now slots.now) (nameEnd tree.now at) ⨟ store (slotNames tree.now slots.now) (name_at tree.now at)) (exprAt depth tree.now (nameEnd tree.now at)).end
+    ensures { LowersIn result (expr_code depth tree.now (slot_names tree.now slots.now) (name_end tree.now at) ⨟ store (slot_names tree.now slots.now) (name_at tree.now at)) (expr_at depth tree.now (name_end tree.now at)).end
         tree.now made.old code.old tables.old k.old l.now made.new code.new tables.new k.new }
 {
     let start = name_end(tree, at);
@@ -162,7 +162,7 @@ fn assign_attribute(
     l: &[u32; LIMITS],
 ) -> usize
     requires { ReadyIn tree.now slots.now made.old code.old tables.old k.old l.now × AttributeAssigned depth tree.now at }
-    ensures { LowersIn result (exprCode (depth - 1) tree.now (slotNames tree.now slots.now) at ⨟ exprCode depth tree.now (slotNames tree.now slots.now) (nameEnd tree.now (exprAt (depth - 1) tree.now at).end) ⨟ intern (name_at tree.now (exprAt (depth - 1) tree.now at).end) (λ k. one (StoreAttr k))) (exprAt depth tree.now (nameEnd tree.now (exprAt (depth - 1) tree.now at).end)).end
+    ensures { LowersIn result (expr_code (depth - 1) tree.now (slot_names tree.now slots.now) at ⨟ expr_code depth tree.now (slot_names tree.now slots.now) (name_end tree.now (expr_at (depth - 1) tree.now at).end) ⨟ intern (name_at tree.now (expr_at (depth - 1) tree.now at).end) (λ k. one (StoreAttr k))) (expr_at depth tree.now (name_end tree.now (expr_at (depth - 1) tree.now at).end)).end
         tree.now made.old code.old tables.old k.entry.now l.now made.new code.new tables.new k.exit.now }
 {
     let name = emit_expr(tree, at, depth - 1, slots, made, code, tables, k, l);
@@ -190,7 +190,7 @@ fn assign_index(
     l: &[u32; LIMITS],
 ) -> usize
     requires { ReadyIn tree.now slots.now made.old code.old tables.old k.old l.now × IndexAssigned depth tree.now at }
-    ensures { LowersIn result (exprCode (depth - 1) tree.now (slotNames tree.now slots.now) at ⨟ exprCode (depth - 1) tree.now (slotNames tree.now slots.now) (exprAt (depth - 1) tree.now at).end ⨟ exprCode depth tree.now (slotNames tree.now slots.now) (secondAt (depth - 1) tree.now at).end ⨟ one StoreIndex) (exprAt depth tree.now (secondAt (depth - 1) tree.now at).end).end
+    ensures { LowersIn result (expr_code (depth - 1) tree.now (slot_names tree.now slots.now) at ⨟ expr_code (depth - 1) tree.now (slot_names tree.now slots.now) (expr_at (depth - 1) tree.now at).end ⨟ expr_code depth tree.now (slot_names tree.now slots.now) (second_at (depth - 1) tree.now at).end ⨟ one StoreIndex) (expr_at depth tree.now (second_at (depth - 1) tree.now at).end).end
         tree.now made.old code.old tables.old k.old l.now made.new code.new tables.new k.new }
 {
     let middle = emit_expr(tree, at, depth - 1, slots, made, code, tables, k, l);
@@ -221,7 +221,7 @@ fn assign_tuple(
     l: &[u32; LIMITS],
 ) -> usize
     requires { ReadyIn tree.now slots.now made.old code.old tables.old k.old l.now × TupleAssigned depth tree.now at }
-    ensures { LowersIn result (exprCode depth tree.now (slotNames tree.now slots.now) (exprAt depth tree.now at).end ⨟ unpack (slotNames tree.now slots.now) (elementsAt (depth - 1) tree.now (countAt tree.now (at + 1)) (at + 3)) 0) (secondAt depth tree.now at).end
+    ensures { LowersIn result (expr_code depth tree.now (slot_names tree.now slots.now) (expr_at depth tree.now at).end ⨟ unpack (slot_names tree.now slots.now) (elements_at (depth - 1) tree.now (count_at tree.now (at + 1)) (at + 3)) 0) (second_at depth tree.now at).end
         tree.now made.old code.old tables.old k.old l.now made.new code.new tables.new k.new }
 {
     let n = u16_at(tree, at + 1);
@@ -259,7 +259,7 @@ pub fn emit_assign(
     l: &[u32; LIMITS],
 ) -> usize
     requires { ReadyIn tree.now slots.now made.old code.old tables.old k.old l.now × AssignLowerable depth tree.now at × (0 < at) }
-    ensures { LowersIn result (assignCode depth tree.now (slotNames tree.now slots.now) at) (secondAt depth tree.now at).end
+    ensures { LowersIn result (assign_code depth tree.now (slot_names tree.now slots.now) at) (second_at depth tree.now at).end
         tree.now made.old code.old tables.old k.old l.now made.new code.new tables.new k.new }
 {
     let kind = tree[at];

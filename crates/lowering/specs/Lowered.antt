@@ -1,7 +1,7 @@
 -- What the call `lower` answers and leaves.
 use Rattle.std.specs.Prelude.{ℕ, ◌≡◌, List}
 use Rattle.definitions.specs.Bytes.{Answer, refused, accepted}
-use Rattle.definitions.specs.Calls.{countAnswer, outputAfter, Lowering}
+use Rattle.definitions.specs.Calls.{count_answer, output_after, Lowering}
 use Rattle.lowering.specs.declared.Lowered.{Lowered}
 use Rattle.lowering.specs.declared.Lowered.TheVariants.{Wrote, Refused}
 
@@ -12,8 +12,8 @@ said (Refused q) = refused q
 
 -- the answer, and the output after it
 pub record Answers (r : Lowered) (a : Answer (List ℕ)) (out out' : List ℕ) : Type 0 where
-  pub answer : said r ≡ countAnswer a
-  pub output : out' ≡ outputAfter a out
+  pub answer : said r ≡ count_answer a
+  pub output : out' ≡ output_after a out
 
 -- the answer, and the two areas and the output after it
 pub record Lowers (r : Lowered) (area₁ area₂ out : List ℕ) (w : Lowering) : Type 0 where

@@ -1,12 +1,12 @@
 // The lowering of a tree: questions 1 to 16 and 33, and the module's bytes.
 ghost use Rattle.std.specs.Prelude.{◌≤◌, length};
-ghost use Rattle.definitions.specs.Module.{moduleBytes};
-ghost use Rattle.definitions.specs.Calls.{fitsRoom, lowerAnswer, lowerCall};
+ghost use Rattle.definitions.specs.Module.{module_bytes};
+ghost use Rattle.definitions.specs.Calls.{fits_room, lower_answer, lower_call};
 ghost use Rattle.tree.specs.StmtAt.{TreeAt};
-ghost use Rattle.state.specs.State.{tables_of, limitsOf, Limited};
+ghost use Rattle.state.specs.State.{tables_of, limits_of, Limited};
 ghost use Rattle.module.specs.Sections.{Roomy};
-ghost use Rattle.lower_emit.specs.Numbers.{countsOf, limitsIn};
-ghost use Rattle.limits.specs.Sets.{limitsFor};
+ghost use Rattle.lower_emit.specs.Numbers.{counts_of, limits_in};
+ghost use Rattle.limits.specs.Sets.{limits_for};
 ghost use Rattle.lowering.specs.Lowered.{Answers, Lowers};
 
 use areas::clear;
@@ -33,8 +33,8 @@ fn write_tables<'a>(
     k: &[u32; COUNTS],
     out: &mut [u8],
 ) -> Lowered
-    requires { Roomy code.now tables.now (countsOf k.now) }
-    ensures { Answers result (fitsRoom (length out.old) (moduleBytes (tables_of tree.now made.now code.now tables.now (countsOf k.now)))) out.old out.new }
+    requires { Roomy code.now tables.now (counts_of k.now) }
+    ensures { Answers result (fits_room (length out.old) (module_bytes (tables_of tree.now made.now code.now tables.now (counts_of k.now)))) out.old out.new }
 {
     let c = counts(k);
     let size = module_size(tree, made, code, tables, c);
@@ -54,8 +54,8 @@ fn lower_checked(
     out: &mut [u8],
     l: &[u32; LIMITS],
 ) -> Lowered
-    requires { (16384 ≤ length code.old) × (16384 ≤ length tables.old) × Limited (limitsIn l.now) × TreeAt tree.now }
-    ensures { Answers result (lowerAnswer (limitsOf (limitsIn l.now)) (length code.old) (length tables.old) (length out.old) tree.now) out.old out.new }
+    requires { (16384 ≤ length code.old) × (16384 ≤ length tables.old) × Limited (limits_in l.now) × TreeAt tree.now }
+    ensures { Answers result (lower_answer (limits_of (limits_in l.now)) (length code.old) (length tables.old) (length out.old) tree.now) out.old out.new }
 {
     let mut made = [0u8; MADE_ROOM];
     let mut k = [0u32; COUNTS];
@@ -77,8 +77,8 @@ fn lower_into(
     out: &mut [u8],
     l: &[u32; LIMITS],
 ) -> Lowered
-    requires { (16384 ≤ length code.old) × (16384 ≤ length tables.old) × Limited (limitsIn l.now) }
-    ensures { Answers result (lowerAnswer (limitsOf (limitsIn l.now)) (length code.old) (length tables.old) (length out.old) tree.now) out.old out.new }
+    requires { (16384 ≤ length code.old) × (16384 ≤ length tables.old) × Limited (limits_in l.now) }
+    ensures { Answers result (lower_answer (limits_of (limits_in l.now)) (length code.old) (length tables.old) (length out.old) tree.now) out.old out.new }
 {
     let checked = check_tree(tree);
     if let Checked::Refused(q) = checked {
@@ -96,7 +96,7 @@ pub fn lower(
     area2: &mut [u32],
     out: &mut [u8],
 ) -> Lowered
-    ensures { Lowers result area1.new area2.new out.new (lowerCall (limitsFor limits) tree.now area1.old area2.old out.old) }
+    ensures { Lowers result area1.new area2.new out.new (lower_call (limits_for limits) tree.now area1.old area2.old out.old) }
 {
     if area1.len() < AREA {
         return Lowered::Refused(1);

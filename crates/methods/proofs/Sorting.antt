@@ -9,9 +9,9 @@ use lib.ListN.{length, take, drop, set, get_or, length-set, take-append-drop}
 use lib.Seq.{take-set-lt, get_or-take, take_at, length-take-le}
 use Rattle.definitions.specs.Bytes.{Name, same, below}
 use Rattle.definitions.specs.Tables.{Method}
-use Rattle.definitions.specs.Lower.{insertMethod}
+use Rattle.definitions.specs.Lower.{insert_method}
 use Rattle.state.specs.Words.{name_at}
-use Rattle.state.specs.State.{methodOf}
+use Rattle.state.specs.State.{method_of}
 use Rattle.lower_emit.proofs.Setting.{mixed, mixed-read, mixed-set, map-set}
 use Rattle.methods.specs.Order.{inserted, Slotted, Inserted}
 use Rattle.methods.specs.declared.Slot.{Slot}
@@ -29,38 +29,38 @@ past-suc t x zero [] start h a b = absurd (omega arith)
 past-suc t x zero (w ∷ ws) start h a b = past a b start
 past-suc t x (suc i) (w ∷ ws) (past c d p) h a b = past c d (past-suc t x i ws p (omega arith) a b)
 
-insert-same : (x : Name) (f : ℕ) (m : Method) (ms : List Method) → same x m.name ≡ true → insertMethod x f (m ∷ ms) ≡ record { name = x; function = f } ∷ ms
-unfolding insertMethod
-insert-same x f m ms e = rw (e, insertMethod)
+insert-same : (x : Name) (f : ℕ) (m : Method) (ms : List Method) → same x m.name ≡ true → insert_method x f (m ∷ ms) ≡ record { name = x; function = f } ∷ ms
+unfolding insert_method
+insert-same x f m ms e = rw (e, insert_method)
 
-insert-below : (x : Name) (f : ℕ) (m : Method) (ms : List Method) → same x m.name ≡ false → below x m.name ≡ true → insertMethod x f (m ∷ ms) ≡ record { name = x; function = f } ∷ m ∷ ms
-unfolding insertMethod
-insert-below x f m ms e d = rw (e, insertMethod, d)
+insert-below : (x : Name) (f : ℕ) (m : Method) (ms : List Method) → same x m.name ≡ false → below x m.name ≡ true → insert_method x f (m ∷ ms) ≡ record { name = x; function = f } ∷ m ∷ ms
+unfolding insert_method
+insert-below x f m ms e d = rw (e, insert_method, d)
 
-insert-past : (x : Name) (f : ℕ) (m : Method) (ms : List Method) → same x m.name ≡ false → below x m.name ≡ false → insertMethod x f (m ∷ ms) ≡ m ∷ insertMethod x f ms
-unfolding insertMethod
-insert-past x f m ms e d = rw (e, insertMethod, d)
+insert-past : (x : Name) (f : ℕ) (m : Method) (ms : List Method) → same x m.name ≡ false → below x m.name ≡ false → insert_method x f (m ∷ ms) ≡ m ∷ insert_method x f ms
+unfolding insert_method
+insert-past x f m ms e d = rw (e, insert_method, d)
 
 module _ (t : List ℕ) (x : Name) (f : ℕ) where
   replaces : (i : ℕ) (ws : List ℕ) → Past t x i ws → i < length ws → same x (name_at t (get_or ws i 0 / 2 ^ 8)) ≡ true →
-      insertMethod x f (map (methodOf t) ws) ≡ set (map (methodOf t) ws) i (record { name = x; function = f })
-  unfolding methodOf
+      insert_method x f (map (method_of t) ws) ≡ set (map (method_of t) ws) i (record { name = x; function = f })
+  unfolding method_of
   replaces zero [] start h e = absurd (omega arith)
   replaces zero (w ∷ ws) start h e = insert-same x f _ _ e
-  replaces (suc i) (w ∷ ws) (past c d p) h e = insert-past x f _ _ c d ∙ ap (λ (ms : List Method). methodOf t w ∷ ms) (replaces i ws p (omega arith) e)
+  replaces (suc i) (w ∷ ws) (past c d p) h e = insert-past x f _ _ c d ∙ ap (λ (ms : List Method). method_of t w ∷ ms) (replaces i ws p (omega arith) e)
 
   precedes : (i : ℕ) (ws : List ℕ) → Past t x i ws → i < length ws → same x (name_at t (get_or ws i 0 / 2 ^ 8)) ≡ false → below x (name_at t (get_or ws i 0 / 2 ^ 8)) ≡ true →
-      insertMethod x f (map (methodOf t) ws) ≡ inserted i (record { name = x; function = f }) (map (methodOf t) ws)
-  unfolding methodOf inserted
+      insert_method x f (map (method_of t) ws) ≡ inserted i (record { name = x; function = f }) (map (method_of t) ws)
+  unfolding method_of inserted
   precedes zero [] start h e g = absurd (omega arith)
   precedes zero (w ∷ ws) start h e g = insert-below x f _ _ e g
-  precedes (suc i) (w ∷ ws) (past c d p) h e g = insert-past x f _ _ c d ∙ ap (λ (ms : List Method). methodOf t w ∷ ms) (precedes i ws p (omega arith) e g)
+  precedes (suc i) (w ∷ ws) (past c d p) h e g = insert-past x f _ _ c d ∙ ap (λ (ms : List Method). method_of t w ∷ ms) (precedes i ws p (omega arith) e g)
 
-  follows : (i : ℕ) (ws : List ℕ) → Past t x i ws → i ≡ length ws → insertMethod x f (map (methodOf t) ws) ≡ inserted i (record { name = x; function = f }) (map (methodOf t) ws)
-  unfolding methodOf inserted insertMethod
+  follows : (i : ℕ) (ws : List ℕ) → Past t x i ws → i ≡ length ws → insert_method x f (map (method_of t) ws) ≡ inserted i (record { name = x; function = f }) (map (method_of t) ws)
+  unfolding method_of inserted insert_method
   follows zero [] start e = refl
   follows zero (w ∷ ws) start e = absurd (omega arith)
-  follows (suc i) (w ∷ ws) (past c d p) e = insert-past x f (methodOf t w) (map (methodOf t) ws) c d ∙ ap (λ (ms : List Method). methodOf t w ∷ ms) (follows i ws p (omega arith))
+  follows (suc i) (w ∷ ws) (past c d p) e = insert-past x f (method_of t w) (map (method_of t) ws) c d ∙ ap (λ (ms : List Method). method_of t w ∷ ms) (follows i ws p (omega arith))
 
 module _ (t : List ℕ) (x : Name) (n i : ℕ) (list : List ℕ) (room : n ≤ length list) (p : Past t x i (take n list)) where
   long : length (take n list) ≡ n
@@ -159,17 +159,17 @@ shift-all i w xs j v ys n h k e s =
 
 module _ (t list : List ℕ) (n w : ℕ) (room : n < length list) where
   pub insert-here : (i : ℕ) → Slotted (Here i) t (name_at t (w / 2 ^ 8)) (take n list) → Inserted n t (set list i w) list n w
-  unfolding Slotted methodOf
+  unfolding Slotted method_of
   insert-here i s = record {
     few = omega arith;
-    methods = ap (map (methodOf t)) (take-set-lt n list i w (let e = length-take-le n list (omega arith) in omega (arith, s.0))) ∙ map-set (methodOf t) (take n list) i w ∙ sym (s.1 (w % 2 ^ 8));
+    methods = ap (map (method_of t)) (take-set-lt n list i w (let e = length-take-le n list (omega arith) in omega (arith, s.0))) ∙ map-set (method_of t) (take n list) i w ∙ sym (s.1 (w % 2 ^ 8));
   }
 
   pub insert-before : (i : ℕ) (list' : List ℕ) → Slotted (Before i) t (name_at t (w / 2 ^ 8)) (take n list) → take (n + 1) list' ≡ inserted i w (take n list) → Inserted (n + 1) t list' list n w
-  unfolding Slotted methodOf
+  unfolding Slotted method_of
   insert-before i list' s e = record {
     few = omega arith;
-    methods = ap (map (methodOf t)) e ∙ map-inserted (methodOf t) i w (take n list) ∙ sym (s.1 (w % 2 ^ 8));
+    methods = ap (map (method_of t)) e ∙ map-inserted (method_of t) i w (take n list) ∙ sym (s.1 (w % 2 ^ 8));
   }
 
 -- what the answer of the search says, once it is matched on

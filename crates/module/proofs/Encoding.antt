@@ -9,11 +9,11 @@ use lib.Dec.{eqb, leb, lit<}
 use lib.ListN.{length, get_or, set, length-append, get_or-map}
 use borrow.Author.Tests.{eqb-true, eqb-false, eq-eqb, ne_eqb, lt-ltb, le-ltb, le-leb, lt-leb}
 use Rattle.definitions.specs.Bytes.{be}
-use Rattle.definitions.specs.Instruction.{Instr, instr, ConstI64, Row, row, nothing, instructionTable, row_of, firstWidth, secondWidth, encode}
-use Rattle.definitions.specs.Reader.{isJump}
+use Rattle.definitions.specs.Instruction.{Instr, instr, ConstI64, Row, row, nothing, instruction_table, row_of, first_width, second_width, encode}
+use Rattle.definitions.specs.Reader.{is_jump}
 use Rattle.definitions.proofs.Truth.{left, right, at_most}
 use Rattle.definitions.proofs.BytesWritten.{length-be}
-use Rattle.state.specs.Words.{op_of, first_of, second_of, widened, operandOf, numberAt, instrOf}
+use Rattle.state.specs.Words.{op_of, first_of, second_of, widened, operand_of, number_at, instr_of}
 use Rattle.widths.proofs.Laws.{no-operands}
 use Rattle.writing.specs.Wrote.{Wrote}
 use Rattle.writing.proofs.Begun.{joined, Begun, begun_first, wrote-byte}
@@ -21,13 +21,13 @@ use Rattle.writing.proofs.Begun.{joined, Begun, begun_first, wrote-byte}
 -- ---- the tables
 
 -- a column of the table of instructions, entry by entry
-pub first-is : (op : ℕ) → get_or (map (λ (r : Row). r.first) instructionTable) op 0 ≡ firstWidth op
-unfolding firstWidth row_of
-first-is op = get_or-map (λ (r : Row). r.first) instructionTable op (row "" 0 0 nothing)
+pub first-is : (op : ℕ) → get_or (map (λ (r : Row). r.first) instruction_table) op 0 ≡ first_width op
+unfolding first_width row_of
+first-is op = get_or-map (λ (r : Row). r.first) instruction_table op (row "" 0 0 nothing)
 
-pub second_is : (op : ℕ) → get_or (map (λ (r : Row). r.second) instructionTable) op 0 ≡ secondWidth op
-unfolding secondWidth row_of
-second_is op = get_or-map (λ (r : Row). r.second) instructionTable op (row "" 0 0 nothing)
+pub second_is : (op : ℕ) → get_or (map (λ (r : Row). r.second) instruction_table) op 0 ≡ second_width op
+unfolding second_width row_of
+second_is op = get_or-map (λ (r : Row). r.second) instruction_table op (row "" 0 0 nothing)
 
 -- every entry is small
 small_all : ℕ → List ℕ → Bool
@@ -40,69 +40,69 @@ small_at b [] e k = omega arith
 small_at b (x ∷ xs) e zero = at_most x b (left (leb x b) (small_all b xs) e)
 small_at b (x ∷ xs) e (suc k) = small_at b xs (right (leb x b) (small_all b xs) e) k
 
-pub first_small : (op : ℕ) → get_or (map (λ (r : Row). r.first) instructionTable) op 0 ≤ 8
-unfolding instructionTable small_all
-first_small op = small_at 8 (map (λ (r : Row). r.first) instructionTable) refl op
+pub first_small : (op : ℕ) → get_or (map (λ (r : Row). r.first) instruction_table) op 0 ≤ 8
+unfolding instruction_table small_all
+first_small op = small_at 8 (map (λ (r : Row). r.first) instruction_table) refl op
 
-pub second-small : (op : ℕ) → get_or (map (λ (r : Row). r.second) instructionTable) op 0 ≤ 1
-unfolding instructionTable small_all
-second-small op = small_at 1 (map (λ (r : Row). r.second) instructionTable) refl op
+pub second-small : (op : ℕ) → get_or (map (λ (r : Row). r.second) instruction_table) op 0 ≤ 1
+unfolding instruction_table small_all
+second-small op = small_at 1 (map (λ (r : Row). r.second) instruction_table) refl op
 
 -- ---- a word's instruction
 
 module _ (t : List ℕ) (w : ℕ) where
   -- a small integer
-  pub of-small : w / 2 ^ 24 ≡ 48 → instrOf t w ≡ ConstI64 (first_of w)
-  unfolding instrOf
-  of-small e = rw (eq-eqb (w / 2 ^ 24) 48 e, instrOf)
+  pub of-small : w / 2 ^ 24 ≡ 48 → instr_of t w ≡ ConstI64 (first_of w)
+  unfolding instr_of
+  of-small e = rw (eq-eqb (w / 2 ^ 24) 48 e, instr_of)
 
-  pub of_other : (w / 2 ^ 24 ≡ 48 → ⊥) → instrOf t w ≡ instr (op_of w) (operandOf t (op_of w) (first_of w)) (second_of w)
-  unfolding instrOf
-  of_other n = rw (ne_eqb (w / 2 ^ 24) 48 n, instrOf)
+  pub of_other : (w / 2 ^ 24 ≡ 48 → ⊥) → instr_of t w ≡ instr (op_of w) (operand_of t (op_of w) (first_of w)) (second_of w)
+  unfolding instr_of
+  of_other n = rw (ne_eqb (w / 2 ^ 24) 48 n, instr_of)
 
 module _ (t : List ℕ) (op a : ℕ) where
-  operand-eight : op < 2 → operandOf t op a ≡ numberAt 8 t a
-  unfolding operandOf
+  operand-eight : op < 2 → operand_of t op a ≡ number_at 8 t a
+  unfolding operand_of
   operand-eight h = go op h
     where
-      go : (o : ℕ) → o < 2 → operandOf t o a ≡ numberAt 8 t a
+      go : (o : ℕ) → o < 2 → operand_of t o a ≡ number_at 8 t a
       go zero h = refl
       go (suc zero) h = refl
       go (suc (suc o)) h = absurd (omega arith)
 
-  plain : 2 ≤ op → isJump op ≡ false → operandOf t op a ≡ a
-  unfolding operandOf
-  plain h j = rw (ne_eqb op 0 (λ e. omega arith), operandOf) (rw (ne_eqb op 1 (λ e. omega arith)) (rw j))
+  plain : 2 ≤ op → is_jump op ≡ false → operand_of t op a ≡ a
+  unfolding operand_of
+  plain h j = rw (ne_eqb op 0 (λ e. omega arith), operand_of) (rw (ne_eqb op 1 (λ e. omega arith)) (rw j))
 
-  operand_low : 2 ≤ op → op < 28 → operandOf t op a ≡ a
-  unfolding isJump
+  operand_low : 2 ≤ op → op < 28 → operand_of t op a ≡ a
+  unfolding is_jump
   operand_low h k = plain h (rw (lt-leb 28 op k))
 
-  operand-high : 30 < op → operandOf t op a ≡ a
-  unfolding isJump
+  operand-high : 30 < op → operand_of t op a ≡ a
+  unfolding is_jump
   operand-high k = plain (omega arith) (rw (le-leb 28 op (omega arith)) (lt-leb op 30 k))
 
-  operand-jump : 28 ≤ op → op ≤ 30 → operandOf t op a ≡ widened a
-  unfolding operandOf isJump
-  operand-jump h k = rw (ne_eqb op 0 (λ e. omega arith), operandOf) (rw (ne_eqb op 1 (λ e. omega arith)) (rw (le-leb 28 op h, le-leb op 30 k)))
+  operand-jump : 28 ≤ op → op ≤ 30 → operand_of t op a ≡ widened a
+  unfolding operand_of is_jump
+  operand-jump h k = rw (ne_eqb op 0 (λ e. omega arith), operand_of) (rw (ne_eqb op 1 (λ e. omega arith)) (rw (le-leb 28 op h, le-leb op 30 k)))
 
 -- the first operand of a word that is no small integer
 module _ (t : List ℕ) (w : ℕ) where
-  first-of : (n : ℕ) → (w / 2 ^ 24 ≡ 48 → ⊥) → operandOf t (op_of w) (first_of w) ≡ n → (instrOf t w).a ≡ n
+  first-of : (n : ℕ) → (w / 2 ^ 24 ≡ 48 → ⊥) → operand_of t (op_of w) (first_of w) ≡ n → (instr_of t w).a ≡ n
   first-of n h e = ap (λ (i : Instr). i.a) (of_other t w h) ∙ e
 
-  pub first-low : 33554432 ≤ w → w / 16777216 < 28 → (instrOf t w).a ≡ w / 256 % 65536
+  pub first-low : 33554432 ≤ w → w / 16777216 < 28 → (instr_of t w).a ≡ w / 256 % 65536
   first-low h k = first-of (first_of w) (λ e. omega arith) (operand_low t (op_of w) (first_of w) (omega arith) k)
 
   -- of a small integer it is the same
-  pub first-high : 30 < w / 16777216 → (instrOf t w).a ≡ w / 256 % 65536
+  pub first-high : 30 < w / 16777216 → (instr_of t w).a ≡ w / 256 % 65536
   first-high k = go (eqb (w / 2 ^ 24) 48) refl
     where
-      go : (b : Bool) → eqb (w / 2 ^ 24) 48 ≡ b → (instrOf t w).a ≡ w / 256 % 65536
+      go : (b : Bool) → eqb (w / 2 ^ 24) 48 ≡ b → (instr_of t w).a ≡ w / 256 % 65536
       go true e = ap (λ (i : Instr). i.a) (of-small t w (eqb-true (w / 2 ^ 24) 48 e))
       go false e = first-of (first_of w) (eqb-false (w / 2 ^ 24) 48 e) (operand-high t (op_of w) (first_of w) k)
 
-  pub first-jump : 28 ≤ w / 16777216 → w / 16777216 ≤ 30 → (instrOf t w).a ≡ widened (w / 256 % 65536)
+  pub first-jump : 28 ≤ w / 16777216 → w / 16777216 ≤ 30 → (instr_of t w).a ≡ widened (w / 256 % 65536)
   first-jump h k = first-of (widened (first_of w)) (λ e. omega arith) (operand-jump t (op_of w) (first_of w) h k)
 
 pub widened-low : (a : ℕ) → a < 32768 → a ≡ widened a
@@ -117,17 +117,17 @@ widened-high a h = rw (le-ltb a 32768 h, widened)
 
 -- one byte more of a number
 pub horner : (t : List ℕ) (at w i n : ℕ) → i < w →
-    n * 256 ^ (w - i) + numberAt (w - i) t (at + i) ≡ (n * 256 + get_or t (at + i) 0) * 256 ^ (w - (i + 1)) + numberAt (w - (i + 1)) t (at + (i + 1))
-unfolding numberAt
+    n * 256 ^ (w - i) + number_at (w - i) t (at + i) ≡ (n * 256 + get_or t (at + i) 0) * 256 ^ (w - (i + 1)) + number_at (w - (i + 1)) t (at + (i + 1))
+unfolding number_at
 horner t at w i n h = go (w - (i + 1)) (w - i) (omega arith)
   where
-    go : (k m : ℕ) → m ≡ suc k → n * 256 ^ m + numberAt m t (at + i) ≡ (n * 256 + get_or t (at + i) 0) * 256 ^ k + numberAt k t (at + (i + 1))
-    go k m e = ap (λ (x : ℕ). n * 256 ^ x + numberAt x t (at + i)) e
+    go : (k m : ℕ) → m ≡ suc k → n * 256 ^ m + number_at m t (at + i) ≡ (n * 256 + get_or t (at + i) 0) * 256 ^ k + number_at k t (at + (i + 1))
+    go k m e = ap (λ (x : ℕ). n * 256 ^ x + number_at x t (at + i)) e
         ∙ (let a : n * 256 ^ suc k ≡ n * 256 * 256 ^ k = ap (λ (x : ℕ). n * x) (pow-succ' 256 k) ∙ sym (mul_assoc n 256 (256 ^ k)) in
         let b = add-mul (n * 256) (get_or t (at + i) 0) (256 ^ k) in
         let c : at + i + 1 ≡ at + (i + 1) = omega arith in
-        ap (λ (x : ℕ). n * 256 ^ suc k + (get_or t (at + i) 0 * 256 ^ k + numberAt k t x)) c
-        ∙ (let z : n * 256 ^ suc k + (get_or t (at + i) 0 * 256 ^ k + numberAt k t (at + (i + 1))) ≡ (n * 256 + get_or t (at + i) 0) * 256 ^ k + numberAt k t (at + (i + 1)) = omega arith in z))
+        ap (λ (x : ℕ). n * 256 ^ suc k + (get_or t (at + i) 0 * 256 ^ k + number_at k t x)) c
+        ∙ (let z : n * 256 ^ suc k + (get_or t (at + i) 0 * 256 ^ k + number_at k t (at + (i + 1))) ≡ (n * 256 + get_or t (at + i) 0) * 256 ^ k + number_at k t (at + (i + 1)) = omega arith in z))
 
 pub grows : (n b i : ℕ) → n < 256 ^ i → b < 256 → n * 256 + b < 256 ^ (i + 1)
 grows n b i h l = subst (λ (x : ℕ). n * 256 + b < x) (sym (ap (λ (k : ℕ). 256 ^ k) (let z : i + 1 ≡ suc i = omega arith in z) ∙ pow-succ' 256 i)) (omega arith)
@@ -135,12 +135,12 @@ grows n b i h l = subst (λ (x : ℕ). n * 256 + b < x) (sym (ap (λ (k : ℕ). 
 pub small_one : (n i : ℕ) → i < 8 → n < 256 ^ i → n < 2 ^ 56
 small_one n i h b = let p : 256 ^ i ≤ 256 ^ 7 = pow-le-pow_right (lit< tt) (let z : i ≤ 7 = omega arith in z) in omega arith
 
-pub number-start : (t : List ℕ) (at : ℕ) → numberAt 8 t at ≡ 0 * 256 ^ (8 - 0) + numberAt (8 - 0) t (at + 0)
-number-start t at = ap (numberAt 8 t) (let f : at ≡ at + 0 = omega arith in f) ∙ (let k : numberAt 8 t (at + 0) ≡ 0 + numberAt 8 t (at + 0) = omega arith in k)
+pub number-start : (t : List ℕ) (at : ℕ) → number_at 8 t at ≡ 0 * 256 ^ (8 - 0) + number_at (8 - 0) t (at + 0)
+number-start t at = ap (number_at 8 t) (let f : at ≡ at + 0 = omega arith in f) ∙ (let k : number_at 8 t (at + 0) ≡ 0 + number_at 8 t (at + 0) = omega arith in k)
 
-pub number-all : (t : List ℕ) (at i n : ℕ) → i ≤ 8 → 8 ≤ i → n * 256 ^ (8 - i) + numberAt (8 - i) t (at + i) ≡ n
-unfolding numberAt
-number-all t at i n h l = ap (λ (k : ℕ). n * 256 ^ k + numberAt k t (at + i)) (let z : 8 - i ≡ 0 = omega arith in z) ∙ (let z : n * 256 ^ 0 + 0 ≡ n = omega arith in z)
+pub number-all : (t : List ℕ) (at i n : ℕ) → i ≤ 8 → 8 ≤ i → n * 256 ^ (8 - i) + number_at (8 - i) t (at + i) ≡ n
+unfolding number_at
+number-all t at i n h l = ap (λ (k : ℕ). n * 256 ^ k + number_at k t (at + i)) (let z : 8 - i ≡ 0 = omega arith in z) ∙ (let z : n * 256 ^ 0 + 0 ≡ n = omega arith in z)
 
 -- a number by another name
 pub wrote-eight : {r n m : ℕ} {xs ys : List ℕ} → n ≡ m → Wrote r (be 8 n) xs ys → Wrote r (be 8 m) xs ys
@@ -148,49 +148,49 @@ wrote-eight {r} {n} {m} {xs} {ys} e w = subst (λ (k : ℕ). Wrote r (be 8 k) xs
 
 -- ---- an instruction's bytes
 
-pub length-encode : (i : Instr) → length (encode i) ≡ 1 + firstWidth i.op + secondWidth i.op
+pub length-encode : (i : Instr) → length (encode i) ≡ 1 + first_width i.op + second_width i.op
 unfolding encode
 length-encode i = simp (length-append, length-be) (omega arith)
 
-pub encode-pieces : (i : Instr) → encode i ≡ (i.op ∷ []) ++ joined (be (firstWidth i.op) i.a ∷ be (secondWidth i.op) i.b ∷ [])
+pub encode-pieces : (i : Instr) → encode i ≡ (i.op ∷ []) ++ joined (be (first_width i.op) i.a ∷ be (second_width i.op) i.b ∷ [])
 unfolding encode joined
-encode-pieces i = ap (λ (z : List ℕ). i.op ∷ z) (ap (λ (z : List ℕ). be (firstWidth i.op) i.a ++ z) (sym (append-nil (be (secondWidth i.op) i.b))))
+encode-pieces i = ap (λ (z : List ℕ). i.op ∷ z) (ap (λ (z : List ℕ). be (first_width i.op) i.a ++ z) (sym (append-nil (be (second_width i.op) i.b))))
 
 -- the opcode is written, in the code's own numbers
-pub begun-word : (t xs : List ℕ) (w : ℕ) {op f s a b : ℕ} → op ≡ (instrOf t w).op → f ≡ firstWidth op → s ≡ secondWidth op → a ≡ (instrOf t w).a → b ≡ (instrOf t w).b →
-    length (encode (instrOf t w)) ≤ length xs → Begun (encode (instrOf t w)) xs 1 (set xs 0 op) (be f a ∷ be s b ∷ [])
+pub begun-word : (t xs : List ℕ) (w : ℕ) {op f s a b : ℕ} → op ≡ (instr_of t w).op → f ≡ first_width op → s ≡ second_width op → a ≡ (instr_of t w).a → b ≡ (instr_of t w).b →
+    length (encode (instr_of t w)) ≤ length xs → Begun (encode (instr_of t w)) xs 1 (set xs 0 op) (be f a ∷ be s b ∷ [])
 begun-word t xs w {op} {f} {s} {a} {b} o e₁ e₂ e₃ e₄ h =
-    let i = instrOf t w in
+    let i = instr_of t w in
     let l = length-encode i in
     let n : encode i ≡ (op ∷ []) ++ joined (be f a ∷ be s b ∷ []) =
-    encode-pieces i ∙ sym (λ j. (o j ∷ []) ++ joined (be ((e₁ ∙ ap firstWidth o) j) (e₃ j) ∷ be ((e₂ ∙ ap secondWidth o) j) (e₄ j) ∷ [])) in
+    encode-pieces i ∙ sym (λ j. (o j ∷ []) ++ joined (be ((e₁ ∙ ap first_width o) j) (e₃ j) ∷ be ((e₂ ∙ ap second_width o) j) (e₄ j) ∷ [])) in
     begun_first n h (wrote-byte op xs (omega arith))
 
 -- an instruction without operands is its opcode
-pub wrote-alone : (t xs : List ℕ) (w : ℕ) {op f : ℕ} → op ≡ (instrOf t w).op → f ≡ firstWidth op → f ≡ 0 → length (encode (instrOf t w)) ≤ length xs →
-    Wrote 1 (encode (instrOf t w)) xs (set xs 0 op)
+pub wrote-alone : (t xs : List ℕ) (w : ℕ) {op f : ℕ} → op ≡ (instr_of t w).op → f ≡ first_width op → f ≡ 0 → length (encode (instr_of t w)) ≤ length xs →
+    Wrote 1 (encode (instr_of t w)) xs (set xs 0 op)
 unfolding encode be
 wrote-alone t xs w {op} {f} o e z h =
-    let i = instrOf t w in
+    let i = instr_of t w in
     let l = length-encode i in
-    let k : firstWidth i.op ≡ 0 = ap firstWidth (sym o) ∙ sym e ∙ z in
+    let k : first_width i.op ≡ 0 = ap first_width (sym o) ∙ sym e ∙ z in
     let n : op ∷ [] ≡ encode i = λ j. o j ∷ (be (sym k j) i.a ++ be (sym (no-operands i.op k) j) i.b) in
     subst (λ (bs : List ℕ). Wrote 1 bs xs (set xs 0 op)) n (wrote-byte op xs (omega arith))
 
 -- ConstI64 and ConstF64 have eight bytes of operand
 place-bytes : (op a b : ℕ) → op < 2 → encode (instr op a b) ≡ (op ∷ []) ++ joined (be 8 a ∷ [])
-unfolding encode firstWidth secondWidth row_of instructionTable be joined
+unfolding encode first_width second_width row_of instruction_table be joined
 place-bytes zero a b h = refl
 place-bytes (suc zero) a b h = refl
 place-bytes (suc (suc op)) a b h = absurd (omega arith)
 
 -- the opcode of a word whose operand is a place in the tree is written
-pub begun-place : (t xs : List ℕ) (w : ℕ) → w < 33554432 → length (encode (instrOf t w)) ≤ length xs →
-    Begun (encode (instrOf t w)) xs 1 (set xs 0 (w / 16777216)) (be 8 (numberAt 8 t (w / 256 % 65536)) ∷ [])
+pub begun-place : (t xs : List ℕ) (w : ℕ) → w < 33554432 → length (encode (instr_of t w)) ≤ length xs →
+    Begun (encode (instr_of t w)) xs 1 (set xs 0 (w / 16777216)) (be 8 (number_at 8 t (w / 256 % 65536)) ∷ [])
 begun-place t xs w s h =
-    let l = length-encode (instrOf t w) in
+    let l = length-encode (instr_of t w) in
     let o : w / 2 ^ 24 < 2 = omega arith in
     begun_first
-    (ap encode (of_other t w (λ e. omega arith)) ∙ place-bytes (op_of w) (operandOf t (op_of w) (first_of w)) (second_of w) o
+    (ap encode (of_other t w (λ e. omega arith)) ∙ place-bytes (op_of w) (operand_of t (op_of w) (first_of w)) (second_of w) o
     ∙ ap (λ (n : ℕ). (op_of w ∷ []) ++ joined (be 8 n ∷ [])) (operand-eight t (op_of w) (first_of w) o))
     h (wrote-byte (w / 16777216) xs (omega arith))

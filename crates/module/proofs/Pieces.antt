@@ -7,7 +7,7 @@ use native.Mathlib.Numerals.{add-one}
 use native.Mathlib.Nat.{mul-suc}
 use lib.ListN.{length, get_or, drop, length-append, length-map, drop_of_length-le}
 use lib.Seq.{drop-cons}
-use Rattle.definitions.specs.Bytes.{be, concat, listBytes}
+use Rattle.definitions.specs.Bytes.{be, concat, list_bytes}
 use Rattle.definitions.proofs.BytesWritten.{length-be}
 use Rattle.writing.proofs.Begun.{joined}
 
@@ -25,8 +25,8 @@ unfolding pieces
 pieces_none h i ws l = ap (map h) (drop_of_length-le ws l)
 
 -- a list of what words stand for
-pub listed : {A : Type 0} (w : ℕ) (f : A → List ℕ) (g : ℕ → A) (ws : List ℕ) → listBytes w f (map g ws) ≡ be w (length ws) ++ joined (pieces (λ (x : ℕ). f (g x)) 0 ws)
-unfolding listBytes pieces concat joined
+pub listed : {A : Type 0} (w : ℕ) (f : A → List ℕ) (g : ℕ → A) (ws : List ℕ) → list_bytes w f (map g ws) ≡ be w (length ws) ++ joined (pieces (λ (x : ℕ). f (g x)) 0 ws)
+unfolding list_bytes pieces concat joined
 listed {A} w f g ws = ap₂ (λ (n : ℕ) (z : List ℕ). be w n ++ z) (length-map ws g) (go ws)
   where
     go : (ws : List ℕ) → concat f (map g ws) ≡ joined (map (λ (x : ℕ). f (g x)) ws)
@@ -46,20 +46,20 @@ pairs h [] ks = []
 pairs h (x ∷ xs) [] = []
 pairs h (x ∷ xs) (k ∷ ks) = h x k ∷ pairs h xs ks
 
-unfoldable pub pairsFrom : (ℕ → ℕ → List ℕ) → ℕ → List ℕ → List ℕ → List (List ℕ)
-pairsFrom h i xs ks = pairs h (drop i xs) (drop i ks)
+unfoldable pub pairs_from : (ℕ → ℕ → List ℕ) → ℕ → List ℕ → List ℕ → List (List ℕ)
+pairs_from h i xs ks = pairs h (drop i xs) (drop i ks)
 
-pub pairs_next : (h : ℕ → ℕ → List ℕ) (i : ℕ) (xs ks : List ℕ) → i < length xs → i < length ks → pairsFrom h i xs ks ≡ h (get_or xs i 0) (get_or ks i 0) ∷ pairsFrom h (i + 1) xs ks
-unfolding pairsFrom pairs
+pub pairs_next : (h : ℕ → ℕ → List ℕ) (i : ℕ) (xs ks : List ℕ) → i < length xs → i < length ks → pairs_from h i xs ks ≡ h (get_or xs i 0) (get_or ks i 0) ∷ pairs_from h (i + 1) xs ks
+unfolding pairs_from pairs
 pairs_next h i xs ks l m =
     ap₂ (λ (a b : List ℕ). pairs h a b) (drop-cons xs i 0 l) (drop-cons ks i 0 m) ∙ ap (λ (n : ℕ). h (get_or xs i 0) (get_or ks i 0) ∷ pairs h (drop n xs) (drop n ks)) (sym (add-one i))
 
-pub pairs-none : (h : ℕ → ℕ → List ℕ) (i : ℕ) (xs ks : List ℕ) → length xs ≤ i → pairsFrom h i xs ks ≡ []
-unfolding pairsFrom pairs
+pub pairs-none : (h : ℕ → ℕ → List ℕ) (i : ℕ) (xs ks : List ℕ) → length xs ≤ i → pairs_from h i xs ks ≡ []
+unfolding pairs_from pairs
 pairs-none h i xs ks l = ap (λ (a : List ℕ). pairs h a (drop i ks)) (drop_of_length-le xs l)
 
-pub pairs-room : (k : ℕ) (h : ℕ → ℕ → List ℕ) (xs ks : List ℕ) → ((x y : ℕ) → length (h x y) ≤ k) → length (joined (pairsFrom h 0 xs ks)) ≤ k * length xs
-unfolding pairsFrom pairs joined
+pub pairs-room : (k : ℕ) (h : ℕ → ℕ → List ℕ) (xs ks : List ℕ) → ((x y : ℕ) → length (h x y) ≤ k) → length (joined (pairs_from h 0 xs ks)) ≤ k * length xs
+unfolding pairs_from pairs joined
 pairs-room k h [] ks b = omega arith
 pairs-room k h (x ∷ xs) [] b = omega arith
 pairs-room k h (x ∷ xs) (y ∷ ks) b = let r = pairs-room k h xs ks b in let l = length-append (h x y) (joined (pairs h xs ks)) in let m = mul-suc k (length xs) in omega (arith, b x y)

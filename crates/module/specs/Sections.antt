@@ -1,47 +1,47 @@
 -- The bytes of each section of the module, from the words that the lowering keeps.
 use Rattle.std.specs.Prelude.{ℕ, ◌≤◌, List, ◌++◌, map, length, drop}
-use Rattle.definitions.specs.Bytes.{be, listBytes}
+use Rattle.definitions.specs.Bytes.{be, list_bytes}
 use Rattle.definitions.specs.Instruction.{encode}
-use Rattle.definitions.specs.Module.{nameBytes, textBytes, functionBytes, methodBytes, classBytes}
-use Rattle.state.specs.Words.{region, textAt, instrsOf}
-use Rattle.state.specs.State.{spelled, functionsOf, methodOf, classesOf}
-use Rattle.state.specs.State.{stringsFrom, headsFrom, codesFrom, classNamesFrom, classMethodsFrom, methodsFrom, constantsFrom, doneFrom}
+use Rattle.definitions.specs.Module.{name_bytes, text_bytes, function_bytes, method_bytes, class_bytes}
+use Rattle.state.specs.Words.{region, text_at, instrs_of}
+use Rattle.state.specs.State.{spelled, functions_of, method_of, classes_of}
+use Rattle.state.specs.State.{strings_from, heads_from, codes_from, class_names_from, class_methods_from, methods_from, constants_from, done_from}
 use Rattle.state.specs.declared.Counts.{Counts}
 
 -- symbols and strings, by their entries
-unfoldable pub symbolBytes : List ℕ → List ℕ → List ℕ → List ℕ
-symbolBytes tree made ws = listBytes 2 nameBytes (map (spelled tree made) ws)
+unfoldable pub symbol_bytes : List ℕ → List ℕ → List ℕ → List ℕ
+symbol_bytes tree made ws = list_bytes 2 name_bytes (map (spelled tree made) ws)
 
-unfoldable pub stringBytes : List ℕ → List ℕ → List ℕ
-stringBytes tree ws = listBytes 2 textBytes (map (textAt tree) ws)
+unfoldable pub string_bytes : List ℕ → List ℕ → List ℕ
+string_bytes tree ws = list_bytes 2 text_bytes (map (text_at tree) ws)
 
 -- a function's instructions, by their words
-unfoldable pub codeBytes : List ℕ → List ℕ → List ℕ
-codeBytes tree ws = listBytes 2 encode (instrsOf tree ws)
+unfoldable pub code_bytes : List ℕ → List ℕ → List ℕ
+code_bytes tree ws = list_bytes 2 encode (instrs_of tree ws)
 
 -- functions, by their heads and the places of their code among the finished words
-unfoldable pub functionsBytes : List ℕ → List ℕ → List ℕ → List ℕ → List ℕ
-functionsBytes tree finished hs ks = listBytes 2 functionBytes (functionsOf tree finished hs ks)
+unfoldable pub functions_bytes : List ℕ → List ℕ → List ℕ → List ℕ → List ℕ
+functions_bytes tree finished hs ks = list_bytes 2 function_bytes (functions_of tree finished hs ks)
 
 -- a class's methods, by their words; classes, by their names and the places of their methods
-unfoldable pub methodsBytes : List ℕ → List ℕ → List ℕ
-methodsBytes tree ws = listBytes 2 methodBytes (map (methodOf tree) ws)
+unfoldable pub methods_bytes : List ℕ → List ℕ → List ℕ
+methods_bytes tree ws = list_bytes 2 method_bytes (map (method_of tree) ws)
 
-unfoldable pub classesBytes : List ℕ → List ℕ → List ℕ → List ℕ → List ℕ
-classesBytes tree methods xs ks = listBytes 2 classBytes (classesOf tree methods xs ks)
+unfoldable pub classes_bytes : List ℕ → List ℕ → List ℕ → List ℕ → List ℕ
+classes_bytes tree methods xs ks = list_bytes 2 class_bytes (classes_of tree methods xs ks)
 
 unfoldable pub constant_bytes : List ℕ → List ℕ
-constant_bytes ws = listBytes 2 (be 2) ws
+constant_bytes ws = list_bytes 2 (be 2) ws
 
 -- the sections of the areas: symbols and strings; functions, classes and constants
-unfoldable pub textsBytes : List ℕ → List ℕ → List ℕ → Counts → List ℕ
-textsBytes tree made tables c = symbolBytes tree made (region 0 c.symbols tables) ++ stringBytes tree (region stringsFrom c.strings tables)
+unfoldable pub texts_bytes : List ℕ → List ℕ → List ℕ → Counts → List ℕ
+texts_bytes tree made tables c = symbol_bytes tree made (region 0 c.symbols tables) ++ string_bytes tree (region strings_from c.strings tables)
 
-unfoldable pub bodiesBytes : List ℕ → List ℕ → List ℕ → Counts → List ℕ
-bodiesBytes tree code tables c =
-    functionsBytes tree (drop doneFrom code) (region headsFrom c.functions tables) (region codesFrom c.functions tables)
-    ++ (classesBytes tree (region methodsFrom 256 tables) (region classNamesFrom c.classes tables) (region classMethodsFrom c.classes tables)
-    ++ constant_bytes (region constantsFrom c.constants tables))
+unfoldable pub bodies_bytes : List ℕ → List ℕ → List ℕ → Counts → List ℕ
+bodies_bytes tree code tables c =
+    functions_bytes tree (drop done_from code) (region heads_from c.functions tables) (region codes_from c.functions tables)
+    ++ (classes_bytes tree (region methods_from 256 tables) (region class_names_from c.classes tables) (region class_methods_from c.classes tables)
+    ++ constant_bytes (region constants_from c.constants tables))
 
 -- what the writer asks of the counts and of the areas' lengths; sound slices have it
 pub record Roomy (code tables : List ℕ) (c : Counts) : Type 0 where

@@ -1,9 +1,9 @@
 // Classes with their methods, and the constants.
 ghost use Rattle.std.specs.Prelude.{◌≡◌, ◌≤◌, ◌<◌, length};
-ghost use Rattle.definitions.specs.Module.{methodBytes, classBytes};
-ghost use Rattle.state.specs.State.{methodOf, class_of};
+ghost use Rattle.definitions.specs.Module.{method_bytes, class_bytes};
+ghost use Rattle.state.specs.State.{method_of, class_of};
 ghost use Rattle.writing.specs.Wrote.{Wrote};
-ghost use Rattle.module.specs.Sections.{methodsBytes, classesBytes, constant_bytes};
+ghost use Rattle.module.specs.Sections.{methods_bytes, classes_bytes, constant_bytes};
 
 use crate::functions::words_part;
 use crate::numbers::{write_counted, write_number};
@@ -13,7 +13,7 @@ use numerals::places::UPPER;
 // The bytes of some methods and their count.
 fn methods_size(tree: &[u8], words: &[u32]) -> usize
     requires { length words.now < 65536 }
-    ensures { result ≡ length (methodsBytes tree.now words.now) }
+    ensures { result ≡ length (methods_bytes tree.now words.now) }
 {
     let mut size = 2usize;
     let mut i = 0usize;
@@ -27,8 +27,8 @@ fn methods_size(tree: &[u8], words: &[u32]) -> usize
 
 // A method: its name and its function's number.
 fn write_method(tree: &[u8], w: u32, out: &mut [u8]) -> usize
-    requires { length (methodBytes (methodOf tree.now w)) ≤ length out.old }
-    ensures { Wrote result (methodBytes (methodOf tree.now w)) out.old out.new }
+    requires { length (method_bytes (method_of tree.now w)) ≤ length out.old }
+    ensures { Wrote result (method_bytes (method_of tree.now w)) out.old out.new }
 {
     let name = name_part(tree, (w / 256) as usize);
     let at = write_counted(1, name, out);
@@ -36,8 +36,8 @@ fn write_method(tree: &[u8], w: u32, out: &mut [u8]) -> usize
 }
 
 fn write_methods(tree: &[u8], words: &[u32], out: &mut [u8]) -> usize
-    requires { (length words.now < 65536) × (length (methodsBytes tree.now words.now) ≤ length out.old) }
-    ensures { Wrote result (methodsBytes tree.now words.now) out.old out.new }
+    requires { (length words.now < 65536) × (length (methods_bytes tree.now words.now) ≤ length out.old) }
+    ensures { Wrote result (methods_bytes tree.now words.now) out.old out.new }
 {
     let mut at = write_number(2, words.len() as u64, out);
     let mut i = 0usize;
@@ -50,7 +50,7 @@ fn write_methods(tree: &[u8], words: &[u32], out: &mut [u8]) -> usize
 
 // The bytes of a class, by the places of its name and of its methods.
 fn class_size(tree: &[u8], methods: &[u32], x: u32, place: u32) -> usize
-    ensures { (result ≡ length (classBytes (class_of tree.now methods.now x place))) × (result < 33554432) }
+    ensures { (result ≡ length (class_bytes (class_of tree.now methods.now x place))) × (result < 33554432) }
 {
     let name = name_part(tree, x as usize);
     let own = words_part(methods, (place / UPPER) as usize, (place % UPPER) as usize);
@@ -59,8 +59,8 @@ fn class_size(tree: &[u8], methods: &[u32], x: u32, place: u32) -> usize
 
 // A class: its name and its methods.
 fn write_class(tree: &[u8], methods: &[u32], x: u32, place: u32, out: &mut [u8]) -> usize
-    requires { length (classBytes (class_of tree.now methods.now x place)) ≤ length out.old }
-    ensures { Wrote result (classBytes (class_of tree.now methods.now x place)) out.old out.new }
+    requires { length (class_bytes (class_of tree.now methods.now x place)) ≤ length out.old }
+    ensures { Wrote result (class_bytes (class_of tree.now methods.now x place)) out.old out.new }
 {
     let name = name_part(tree, x as usize);
     let own = words_part(methods, (place / UPPER) as usize, (place % UPPER) as usize);
@@ -71,7 +71,7 @@ fn write_class(tree: &[u8], methods: &[u32], x: u32, place: u32, out: &mut [u8])
 // The bytes of the classes.
 pub(crate) fn classes_size(tree: &[u8], methods: &[u32], names: &[u32], places: &[u32]) -> usize
     requires { (length names.now < 65536) × (length names.now ≡ length places.now) }
-    ensures { result ≡ length (classesBytes tree.now methods.now names.now places.now) }
+    ensures { result ≡ length (classes_bytes tree.now methods.now names.now places.now) }
 {
     let mut size = 2usize;
     let mut i = 0usize;
@@ -89,8 +89,8 @@ pub(crate) fn write_classes(
     places: &[u32],
     out: &mut [u8],
 ) -> usize
-    requires { (length names.now < 65536) × (length names.now ≡ length places.now) × (length (classesBytes tree.now methods.now names.now places.now) ≤ length out.old) }
-    ensures { Wrote result (classesBytes tree.now methods.now names.now places.now) out.old out.new }
+    requires { (length names.now < 65536) × (length names.now ≡ length places.now) × (length (classes_bytes tree.now methods.now names.now places.now) ≤ length out.old) }
+    ensures { Wrote result (classes_bytes tree.now methods.now names.now places.now) out.old out.new }
 {
     let mut at = write_number(2, names.len() as u64, out);
     let mut i = 0usize;

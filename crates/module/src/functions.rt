@@ -1,10 +1,10 @@
 // Functions with their instructions.
 ghost use Rattle.std.specs.Prelude.{◌≡◌, List, ℕ, ◌+◌, ◌≤◌, ◌<◌, length};
-ghost use Rattle.definitions.specs.Module.{functionBytes};
+ghost use Rattle.definitions.specs.Module.{function_bytes};
 ghost use Rattle.state.specs.Words.{region};
-ghost use Rattle.state.specs.State.{functionOf};
+ghost use Rattle.state.specs.State.{function_of};
 ghost use Rattle.writing.specs.Wrote.{Wrote};
-ghost use Rattle.module.specs.Sections.{codeBytes, functionsBytes};
+ghost use Rattle.module.specs.Sections.{code_bytes, functions_bytes};
 
 use crate::numbers::write_number;
 use crate::words::{instruction_size, write_instruction};
@@ -27,7 +27,7 @@ pub fn words_part<'a>(words: &'a [u32], from: usize, n: usize) -> &'a [u32]
 // The bytes of some instructions and their count, whatever the tree.
 fn code_size(words: &[u32]) -> usize
     requires { length words.now < 65536 }
-    ensures { (t : List ℕ) → result ≡ length (codeBytes t words.now) }
+    ensures { (t : List ℕ) → result ≡ length (code_bytes t words.now) }
 {
     let mut size = 2usize;
     let mut i = 0usize;
@@ -39,8 +39,8 @@ fn code_size(words: &[u32]) -> usize
 }
 
 fn write_code(tree: &[u8], words: &[u32], out: &mut [u8]) -> usize
-    requires { (length words.now < 65536) × (length (codeBytes tree.now words.now) ≤ length out.old) }
-    ensures { Wrote result (codeBytes tree.now words.now) out.old out.new }
+    requires { (length words.now < 65536) × (length (code_bytes tree.now words.now) ≤ length out.old) }
+    ensures { Wrote result (code_bytes tree.now words.now) out.old out.new }
 {
     let mut at = write_number(2, words.len() as u64, out);
     let mut i = 0usize;
@@ -53,7 +53,7 @@ fn write_code(tree: &[u8], words: &[u32], out: &mut [u8]) -> usize
 
 // The bytes of a function whose code stands at a place among the finished words, whatever its head and the tree.
 fn function_size(finished: &[u32], place: u32) -> usize
-    ensures { ((t : List ℕ) (h : ℕ) → result ≡ length (functionBytes (functionOf t finished.now h place))) × (result < 1048576) }
+    ensures { ((t : List ℕ) (h : ℕ) → result ≡ length (function_bytes (function_of t finished.now h place))) × (result < 1048576) }
 {
     let code = words_part(finished, (place / UPPER) as usize, (place % UPPER) as usize);
     5 + code_size(code)
@@ -61,8 +61,8 @@ fn function_size(finished: &[u32], place: u32) -> usize
 
 // A function: its name's symbol, arity, slots, count of instructions, instructions.
 fn write_function(tree: &[u8], finished: &[u32], head: u32, place: u32, out: &mut [u8]) -> usize
-    requires { length (functionBytes (functionOf tree.now finished.now head place)) ≤ length out.old }
-    ensures { Wrote result (functionBytes (functionOf tree.now finished.now head place)) out.old out.new }
+    requires { length (function_bytes (function_of tree.now finished.now head place)) ≤ length out.old }
+    ensures { Wrote result (function_bytes (function_of tree.now finished.now head place)) out.old out.new }
 {
     let code = words_part(finished, (place / UPPER) as usize, (place % UPPER) as usize);
     let mut at = write_number(2, (head / UPPER) as u64, out);
@@ -74,7 +74,7 @@ fn write_function(tree: &[u8], finished: &[u32], head: u32, place: u32, out: &mu
 // The bytes of the functions, by the places of their code.
 pub(crate) fn functions_size(finished: &[u32], places: &[u32]) -> usize
     requires { length places.now < 65536 }
-    ensures { (t hs : List ℕ) → length hs ≡ length places.now → result ≡ length (functionsBytes t finished.now hs places.now) }
+    ensures { (t hs : List ℕ) → length hs ≡ length places.now → result ≡ length (functions_bytes t finished.now hs places.now) }
 {
     let mut size = 2usize;
     let mut i = 0usize;
@@ -92,8 +92,8 @@ pub(crate) fn write_functions(
     places: &[u32],
     out: &mut [u8],
 ) -> usize
-    requires { (length heads.now < 65536) × (length heads.now ≡ length places.now) × (length (functionsBytes tree.now finished.now heads.now places.now) ≤ length out.old) }
-    ensures { Wrote result (functionsBytes tree.now finished.now heads.now places.now) out.old out.new }
+    requires { (length heads.now < 65536) × (length heads.now ≡ length places.now) × (length (functions_bytes tree.now finished.now heads.now places.now) ≤ length out.old) }
+    ensures { Wrote result (functions_bytes tree.now finished.now heads.now places.now) out.old out.new }
 {
     let mut at = write_number(2, heads.len() as u64, out);
     let mut i = 0usize;

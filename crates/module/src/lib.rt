@@ -9,7 +9,7 @@ mod sections; // sections.rt: the sections from the areas
 
 ghost use Rattle.std.specs.Prelude.{◌≡◌, ◌++◌, ◌∷◌, [], ◌-◌, ◌≤◌, ◌<◌, ◌^◌, length};
 ghost use Rattle.definitions.specs.Bytes.{be};
-ghost use Rattle.definitions.specs.Module.{moduleBytes};
+ghost use Rattle.definitions.specs.Module.{module_bytes};
 ghost use Rattle.state.specs.State.{tables_of};
 ghost use Rattle.writing.specs.Wrote.{Wrote};
 ghost use Rattle.module.specs.Sections.{Roomy};
@@ -28,7 +28,7 @@ pub fn module_size<'a>(
     c: Counts,
 ) -> usize
     requires { Roomy code.now tables.now c }
-    ensures { (result ≡ length (moduleBytes (tables_of tree.now made.now code.now tables.now c))) × (result < 2 ^ 32) }
+    ensures { (result ≡ length (module_bytes (tables_of tree.now made.now code.now tables.now c))) × (result < 2 ^ 32) }
 {
     HEAD + texts_size(tree, made, tables, c) + bodies_size(tree, code, tables, c)
 }
@@ -52,8 +52,8 @@ pub fn write_module<'a>(
     size: usize,
     out: &mut [u8],
 ) -> usize
-    requires { Roomy code.now tables.now c × (size ≡ length (moduleBytes (tables_of tree.now made.now code.now tables.now c))) × (size < 2 ^ 32) × (size ≤ length out.old) }
-    ensures { Wrote result (moduleBytes (tables_of tree.now made.now code.now tables.now c)) out.old out.new }
+    requires { Roomy code.now tables.now c × (size ≡ length (module_bytes (tables_of tree.now made.now code.now tables.now c))) × (size < 2 ^ 32) × (size ≤ length out.old) }
+    ensures { Wrote result (module_bytes (tables_of tree.now made.now code.now tables.now c)) out.old out.new }
 {
     let mut at = write_head(size, out);
     at += write_texts(tree, made, tables, c, &mut out[at..]);

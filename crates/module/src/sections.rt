@@ -1,7 +1,7 @@
 // The sections from the areas: each writer is lent the rest of the output, from the byte where the one before it ended.
 ghost use Rattle.std.specs.Prelude.{◌≡◌, ◌≤◌, ◌<◌, ◌^◌, length};
 ghost use Rattle.writing.specs.Wrote.{Wrote};
-ghost use Rattle.module.specs.Sections.{Roomy, textsBytes, bodiesBytes};
+ghost use Rattle.module.specs.Sections.{Roomy, texts_bytes, bodies_bytes};
 
 use crate::classes::{classes_size, write_classes, write_constants};
 use crate::functions::{functions_size, words_part, write_functions};
@@ -15,7 +15,7 @@ use state::Counts;
 // The bytes of symbols and strings.
 pub fn texts_size<'a>(tree: &'a [u8], made: &'a [u8], tables: &[u32], c: Counts) -> usize
     requires { (c.symbols ≤ 1024) × (c.strings ≤ 512) }
-    ensures { (result ≡ length (textsBytes tree.now made.now tables.now c)) × (result < 2 ^ 30) }
+    ensures { (result ≡ length (texts_bytes tree.now made.now tables.now c)) × (result < 2 ^ 30) }
 {
     let symbols = words_part(tables, 0, c.symbols as usize);
     let strings = words_part(tables, STRINGS_FROM, c.strings as usize);
@@ -29,8 +29,8 @@ pub fn write_texts<'a>(
     c: Counts,
     out: &mut [u8],
 ) -> usize
-    requires { (c.symbols ≤ 1024) × (c.strings ≤ 512) × (length (textsBytes tree.now made.now tables.now c) ≤ length out.old) }
-    ensures { Wrote result (textsBytes tree.now made.now tables.now c) out.old out.new }
+    requires { (c.symbols ≤ 1024) × (c.strings ≤ 512) × (length (texts_bytes tree.now made.now tables.now c) ≤ length out.old) }
+    ensures { Wrote result (texts_bytes tree.now made.now tables.now c) out.old out.new }
 {
     let symbols = words_part(tables, 0, c.symbols as usize);
     let strings = words_part(tables, STRINGS_FROM, c.strings as usize);
@@ -41,7 +41,7 @@ pub fn write_texts<'a>(
 // The bytes of functions, classes and constants.
 pub(crate) fn bodies_size(tree: &[u8], code: &[u32], tables: &[u32], c: Counts) -> usize
     requires { Roomy code.now tables.now c }
-    ensures { (result ≡ length (bodiesBytes tree.now code.now tables.now c)) × (result < 2 ^ 31) }
+    ensures { (result ≡ length (bodies_bytes tree.now code.now tables.now c)) × (result < 2 ^ 31) }
 {
     let codes = words_part(tables, CODES_FROM, c.functions as usize);
     let names = words_part(tables, CLASS_NAMES_FROM, c.classes as usize);
@@ -59,8 +59,8 @@ pub(crate) fn write_bodies(
     c: Counts,
     out: &mut [u8],
 ) -> usize
-    requires { Roomy code.now tables.now c × (length (bodiesBytes tree.now code.now tables.now c) ≤ length out.old) }
-    ensures { Wrote result (bodiesBytes tree.now code.now tables.now c) out.old out.new }
+    requires { Roomy code.now tables.now c × (length (bodies_bytes tree.now code.now tables.now c) ≤ length out.old) }
+    ensures { Wrote result (bodies_bytes tree.now code.now tables.now c) out.old out.new }
 {
     let heads = words_part(tables, HEADS_FROM, c.functions as usize);
     let codes = words_part(tables, CODES_FROM, c.functions as usize);

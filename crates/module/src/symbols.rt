@@ -1,7 +1,7 @@
 // Symbols and strings: a count, and each with its own count before it.
 ghost use Rattle.std.specs.Prelude.{◌≡◌, ◌≤◌, ◌<◌, length};
 ghost use Rattle.writing.specs.Wrote.{Wrote};
-ghost use Rattle.module.specs.Sections.{symbolBytes, stringBytes};
+ghost use Rattle.module.specs.Sections.{symbol_bytes, string_bytes};
 
 use crate::numbers::{write_counted, write_number};
 use names::spell::{spelling, text_part};
@@ -9,7 +9,7 @@ use names::spell::{spelling, text_part};
 // The bytes of the symbols.
 pub fn symbols_size<'a>(tree: &'a [u8], made: &'a [u8], entries: &[u32]) -> usize
     requires { length entries.now < 65536 }
-    ensures { result ≡ length (symbolBytes tree.now made.now entries.now) }
+    ensures { result ≡ length (symbol_bytes tree.now made.now entries.now) }
 {
     let mut size = 2usize;
     let mut i = 0usize;
@@ -22,8 +22,8 @@ pub fn symbols_size<'a>(tree: &'a [u8], made: &'a [u8], entries: &[u32]) -> usiz
 }
 
 pub fn write_symbols<'a>(tree: &'a [u8], made: &'a [u8], entries: &[u32], out: &mut [u8]) -> usize
-    requires { (length entries.now < 65536) × (length (symbolBytes tree.now made.now entries.now) ≤ length out.old) }
-    ensures { Wrote result (symbolBytes tree.now made.now entries.now) out.old out.new }
+    requires { (length entries.now < 65536) × (length (symbol_bytes tree.now made.now entries.now) ≤ length out.old) }
+    ensures { Wrote result (symbol_bytes tree.now made.now entries.now) out.old out.new }
 {
     let mut at = write_number(2, entries.len() as u64, out);
     let mut i = 0usize;
@@ -38,7 +38,7 @@ pub fn write_symbols<'a>(tree: &'a [u8], made: &'a [u8], entries: &[u32], out: &
 // The bytes of the strings.
 pub(crate) fn strings_size(tree: &[u8], entries: &[u32]) -> usize
     requires { length entries.now < 65536 }
-    ensures { result ≡ length (stringBytes tree.now entries.now) }
+    ensures { result ≡ length (string_bytes tree.now entries.now) }
 {
     let mut size = 2usize;
     let mut i = 0usize;
@@ -51,8 +51,8 @@ pub(crate) fn strings_size(tree: &[u8], entries: &[u32]) -> usize
 }
 
 pub(crate) fn write_strings(tree: &[u8], entries: &[u32], out: &mut [u8]) -> usize
-    requires { (length entries.now < 65536) × (length (stringBytes tree.now entries.now) ≤ length out.old) }
-    ensures { Wrote result (stringBytes tree.now entries.now) out.old out.new }
+    requires { (length entries.now < 65536) × (length (string_bytes tree.now entries.now) ≤ length out.old) }
+    ensures { Wrote result (string_bytes tree.now entries.now) out.old out.new }
 {
     let mut at = write_number(2, entries.len() as u64, out);
     let mut i = 0usize;

@@ -3,7 +3,7 @@ ghost use Rattle.std.specs.Prelude.{◌≡◌, List, ℕ, ◌+◌, ◌≤◌, �
 ghost use Rattle.definitions.specs.Bytes.{be};
 ghost use Rattle.definitions.specs.Instruction.{encode};
 ghost use Rattle.exprs.specs.Literals.{Plain, bits_of};
-ghost use Rattle.state.specs.Words.{numberAt, first_of, instrOf};
+ghost use Rattle.state.specs.Words.{number_at, first_of, instr_of};
 ghost use Rattle.state.specs.Words as Words;
 ghost use Rattle.writing.specs.Wrote.{Wrote};
 
@@ -16,7 +16,7 @@ use widths::{first_width, second_width, whole_width};
 
 // The opcode of a word: a small integer is a ConstI64.
 fn opcode(w: u32) -> usize
-    ensures { ((t : List ℕ) → result ≡ (instrOf t w).op) × (result < 256) }
+    ensures { ((t : List ℕ) → result ≡ (instr_of t w).op) × (result < 256) }
 {
     let op = w / WORD_OP;
     if op == SMALL_INT {
@@ -28,7 +28,7 @@ fn opcode(w: u32) -> usize
 // The big-endian number of eight bytes at `at`, 0 for those past the end.
 fn eight_at(bytes: &[u8], at: usize) -> u64
     requires { at < 2 ^ 32 }
-    ensures { result ≡ numberAt 8 bytes.now at }
+    ensures { result ≡ number_at 8 bytes.now at }
 {
     let mut n = 0u64;
     let mut i = 0usize;
@@ -41,7 +41,7 @@ fn eight_at(bytes: &[u8], at: usize) -> u64
 
 // The literal whose eight bytes stand at the place that the word has: of the opcode 0 an integer, else a float.
 fn literal_of(tree: &[u8], w: u32) -> Literal
-    ensures { Plain result × (bits_of result ≡ numberAt 8 tree.now (first_of w)) }
+    ensures { Plain result × (bits_of result ≡ number_at 8 tree.now (first_of w)) }
 {
     let bits = eight_at(tree, (w / WORD_FIRST % UPPER) as usize);
     if w < WORD_OP {
@@ -53,7 +53,7 @@ fn literal_of(tree: &[u8], w: u32) -> Literal
 // The bytes of that literal's value.
 fn write_literal(tree: &[u8], w: u32, out: &mut [u8]) -> usize
     requires { 8 ≤ length out.old }
-    ensures { Wrote result (be 8 (numberAt 8 tree.now (first_of w))) out.old out.new }
+    ensures { Wrote result (be 8 (number_at 8 tree.now (first_of w))) out.old out.new }
 {
     let x = literal_of(tree, w);
     write_number(8, literal_bits(x), out)
@@ -70,7 +70,7 @@ fn widened(a: u32) -> u32
 // A word's first operand where it is no place in the tree: of a jump signed.
 fn first_operand(w: u32) -> u64
     requires { 33554432 ≤ w }
-    ensures { (t : List ℕ) → result ≡ (instrOf t w).a }
+    ensures { (t : List ℕ) → result ≡ (instr_of t w).a }
 {
     let op = w / WORD_OP;
     let a = w / WORD_FIRST % UPPER;
@@ -84,7 +84,7 @@ fn first_operand(w: u32) -> u64
 }
 
 fn second_operand(w: u32) -> u64
-    ensures { (t : List ℕ) → result ≡ (instrOf t w).b }
+    ensures { (t : List ℕ) → result ≡ (instr_of t w).b }
 {
     if w / WORD_OP == SMALL_INT {
         return 0;
@@ -94,15 +94,15 @@ fn second_operand(w: u32) -> u64
 
 // How many bytes the instruction of a word has, whatever the tree.
 pub(crate) fn instruction_size(w: u32) -> usize
-    ensures { ((t : List ℕ) → result ≡ length (encode (instrOf t w))) × (result ≤ 10) }
+    ensures { ((t : List ℕ) → result ≡ length (encode (instr_of t w))) × (result ≤ 10) }
 {
     whole_width(opcode(w)) as usize
 }
 
 // The bytes of a ConstI64 or ConstF64 whose operand is a place in the tree: a word with the opcode 0 or 1.
 fn write_place(tree: &[u8], w: u32, out: &mut [u8]) -> usize
-    requires { (w < 33554432) × (length (encode (instrOf tree.now w)) ≤ length out.old) }
-    ensures { Wrote result (encode (instrOf tree.now w)) out.old out.new }
+    requires { (w < 33554432) × (length (encode (instr_of tree.now w)) ≤ length out.old) }
+    ensures { Wrote result (encode (instr_of tree.now w)) out.old out.new }
 {
     out[0] = (w / WORD_OP) as u8;
     1 + write_literal(tree, w, &mut out[1..])
@@ -110,8 +110,8 @@ fn write_place(tree: &[u8], w: u32, out: &mut [u8]) -> usize
 
 // The instruction's bytes: the opcode and the operands in their widths.
 pub(crate) fn write_instruction(tree: &[u8], w: u32, out: &mut [u8]) -> usize
-    requires { length (encode (instrOf tree.now w)) ≤ length out.old }
-    ensures { Wrote result (encode (instrOf tree.now w)) out.old out.new }
+    requires { length (encode (instr_of tree.now w)) ≤ length out.old }
+    ensures { Wrote result (encode (instr_of tree.now w)) out.old out.new }
 {
     let op = opcode(w);
     let first = first_width(op) as usize;

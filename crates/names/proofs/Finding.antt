@@ -12,7 +12,7 @@ use lib.Seq.{drop-cons, length-take-le}
 use Rattle.definitions.specs.Bytes.{Name, same, position}
 use Rattle.definitions.proofs.Resolve.{position-lt}
 use Rattle.state.specs.Words.{region, name_at}
-use Rattle.state.specs.State.{names_at, foundOr}
+use Rattle.state.specs.State.{names_at, found_or}
 
 -- a place among the words from i on, as a place among all
 unfoldable pub shifted : ℕ → Option ℕ → Option ℕ
@@ -51,31 +51,31 @@ module _ (test : ℕ → Bool) (ws : List ℕ) where
   unfolding Passed
   seek-start = shifted-zero (position test ws)
 
-  pub seek-here : (n i : ℕ) → i < length ws → test (get_or ws i 0) ≡ true → Passed test ws i → i ≡ foundOr n (position test ws)
-  unfolding Passed step foundOr shifted
+  pub seek-here : (n i : ℕ) → i < length ws → test (get_or ws i 0) ≡ true → Passed test ws i → i ≡ found_or n (position test ws)
+  unfolding Passed step found_or shifted
   seek-here n i h e p =
       let f : position test (drop i ws) ≡ some 0 = rw (drop-cons ws i 0 h, position-cons, e) in
       let g : i ≡ i + 0 = omega arith in
-      g ∙ sym (ap (foundOr n) (p ∙ ap (shifted i) f))
+      g ∙ sym (ap (found_or n) (p ∙ ap (shifted i) f))
 
   pub seek-next : (i : ℕ) → i < length ws → test (get_or ws i 0) ≡ false → Passed test ws i → Passed test ws (i + 1)
   unfolding Passed
   seek-next i h e p =
       p ∙ ap (shifted i) (rw (drop-cons ws i 0 h, position-cons, e)) ∙ shifted_next i (position test (drop (suc i) ws)) ∙ ap (λ (k : ℕ). shifted (i + 1) (position test (drop k ws))) (sym (add-one i))
 
-  pub seek-end : (i : ℕ) → i ≤ length ws → length ws ≤ i → Passed test ws i → i ≡ foundOr (length ws) (position test ws)
-  unfolding Passed position foundOr shifted
+  pub seek-end : (i : ℕ) → i ≤ length ws → length ws ≤ i → Passed test ws i → i ≡ found_or (length ws) (position test ws)
+  unfolding Passed position found_or shifted
   seek-end i l h p =
       let e : i ≡ length ws = omega arith in
-      e ∙ sym (ap (foundOr (length ws)) (p ∙ ap (λ (l : List ℕ). shifted i (position test l)) (drop_of_length-le ws h)))
+      e ∙ sym (ap (found_or (length ws)) (p ∙ ap (λ (l : List ℕ). shifted i (position test l)) (drop_of_length-le ws h)))
 
 -- ---- where it is found
 
-pub found-le : {A : Type 0} (test : A → Bool) (xs : List A) → foundOr (length xs) (position test xs) ≤ length xs
-unfolding foundOr
+pub found-le : {A : Type 0} (test : A → Bool) (xs : List A) → found_or (length xs) (position test xs) ≤ length xs
+unfolding found_or
 found-le test xs = go (position test xs) (position-lt test xs)
   where
-    go : (o : Option ℕ) → ((k : ℕ) → o ≡ some k → k < length xs) → foundOr (length xs) o ≤ length xs
+    go : (o : Option ℕ) → ((k : ℕ) → o ≡ some k → k < length xs) → found_or (length xs) o ≤ length xs
     go none f = omega arith
     go (some k) f = let z = f k refl in omega arith
 
@@ -84,28 +84,28 @@ unfolding position
 position-map test f [] = refl
 position-map test f (w ∷ ws) = position-cons test (f w) (map f ws) ∙ ap (step (test (f w))) (position-map test f ws) ∙ sym (position-cons (λ w. test (f w)) w ws)
 
-pub found_map : {A : Type 0} (test : A → Bool) (f : ℕ → A) (n : ℕ) (ws : List ℕ) → foundOr n (position (λ w. test (f w)) ws) ≡ foundOr n (position test (map f ws))
-found_map test f n ws = ap (foundOr n) (sym (position-map test f ws))
+pub found_map : {A : Type 0} (test : A → Bool) (f : ℕ → A) (n : ℕ) (ws : List ℕ) → found_or n (position (λ w. test (f w)) ws) ≡ found_or n (position test (map f ws))
+found_map test f n ws = ap (found_or n) (sym (position-map test f ws))
 
 -- a name that is found among the m words of a part of an area, where m is n
 module _ (f : ℕ → Name) (ts : List ℕ) (a m n : ℕ) (x y : Name) (r : ℕ) (inside : a + n ≤ length ts) (size : m ≡ n) where
   abbrev Sought : Type 0
-  Sought = r ≡ foundOr (length (take m (drop a ts))) (position (same x) (map f (take m (drop a ts))))
+  Sought = r ≡ found_or (length (take m (drop a ts))) (position (same x) (map f (take m (drop a ts))))
 
   part_length : length (take m (drop a ts)) ≡ n
   part_length = length-take-le m (drop a ts) (let e = length-drop a ts in omega arith) ∙ size
 
-  pub sought : x ≡ y → Sought → r ≡ foundOr n (position (same y) (map f (region a n ts)))
+  pub sought : x ≡ y → Sought → r ≡ found_or n (position (same y) (map f (region a n ts)))
   unfolding region
-  sought e k = k ∙ (λ j. foundOr (part_length j) (position (same (e j)) (map f (take (size j) (drop a ts)))))
+  sought e k = k ∙ (λ j. found_or (part_length j) (position (same (e j)) (map f (take (size j) (drop a ts)))))
 
 -- a word that is found by a test
-pub sought-word : (test : ℕ → Bool) (ts : List ℕ) (a m n r : ℕ) → a + n ≤ length ts → m ≡ n → r ≡ foundOr (length (take m (drop a ts))) (position test (take m (drop a ts)))
-    → r ≡ foundOr n (position test (region a n ts))
+pub sought-word : (test : ℕ → Bool) (ts : List ℕ) (a m n r : ℕ) → a + n ≤ length ts → m ≡ n → r ≡ found_or (length (take m (drop a ts))) (position test (take m (drop a ts)))
+    → r ≡ found_or n (position test (region a n ts))
 unfolding region
 sought-word test ts a m n r inside size k =
     let e : length (take m (drop a ts)) ≡ n = length-take-le m (drop a ts) (let d = length-drop a ts in omega arith) ∙ size in
-    k ∙ (λ j. foundOr (e j) (position test (take (size j) (drop a ts))))
+    k ∙ (λ j. found_or (e j) (position test (take (size j) (drop a ts))))
 
 -- ---- names at places
 

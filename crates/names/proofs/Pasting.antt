@@ -9,10 +9,10 @@ use lib.Dec.{lit<}
 use lib.ListN.{length, take, drop, get_or, set, length-append, length-drop, take-append-drop}
 use lib.Seq.{drop-cons, set_at, take_at, drop_at, take-suc, take_all, take-take, take-append-le, length-take-le, drop-drop, drop-append-add, get_or-set_same, drop-set-lt, take-set-le}
 use Rattle.definitions.specs.Bytes.{Name, ascii, decimal}
-use Rattle.definitions.specs.Lower.{lambdaName}
+use Rattle.definitions.specs.Lower.{lambda_name}
 use Rattle.definitions.proofs.Decimals.{decimal_digit, decimal-more, length-decimal, one-digit, more-digits}
 use Rattle.state.specs.Words.{name_at}
-use Rattle.names.specs.Made.{madeName, pasted, Stands}
+use Rattle.names.specs.Made.{made_name, pasted, Stands}
 use Rattle.names.specs.declared.Made.TheVariants.{Main, Lambda}
 
 -- ---- pasted bytes
@@ -126,10 +126,10 @@ stands_set x p n xs ys inside e f = rw (e, f) (stands x p xs inside)
 
 -- ---- made names are short
 
-pub lambda-short : (n : ℕ) → n < 10000 → length (madeName (Lambda n)) < 20
-unfolding madeName lambdaName
+pub lambda-short : (n : ℕ) → n < 10000 → length (made_name (Lambda n)) < 20
+unfolding made_name lambda_name
 lambda-short n h = let a = length-decimal 3 n (omega arith) in omega (arith, three-length (ascii "<lambda#") (decimal n) (ascii ">"))
 
-pub main-short : length (madeName Main) < 20
-unfolding madeName
+pub main-short : length (made_name Main) < 20
+unfolding made_name
 main-short = lit< tt

@@ -7,9 +7,9 @@ use native.Mathlib.Nat.{add-sub_cancel_left}
 use lib.ListN.{length, take, drop, get_or, length-drop, drop_of_length-le}
 use lib.Seq.{take-nil, take_all}
 use borrow.Author.Tests.{lt-ltb, le-ltb, le-leb, lt-leb}
-use Rattle.state.specs.Words.{numberAt, name_at, textAt}
+use Rattle.state.specs.Words.{number_at, name_at, text_at}
 use Rattle.state.specs.State.{spelled}
-use Rattle.names.specs.Parts.{beginAt, Points, Spells}
+use Rattle.names.specs.Parts.{begin_at, Points, Spells}
 
 -- ---- parts
 
@@ -32,16 +32,16 @@ pub name-here : (p : ℕ) (t : List ℕ) → take (get_or t p 0) (drop (p + 1) t
 unfolding name_at
 name-here p t = refl
 
-pub text-past : (p : ℕ) (t : List ℕ) → length t ≤ p → [] ≡ textAt t p
-unfolding textAt
-text-past p t h = past_end (numberAt 2 t p) (p + 2) t (omega arith)
+pub text-past : (p : ℕ) (t : List ℕ) → length t ≤ p → [] ≡ text_at t p
+unfolding text_at
+text-past p t h = past_end (number_at 2 t p) (p + 2) t (omega arith)
 
-pub text-here : (p n : ℕ) (t : List ℕ) → n ≡ numberAt 2 t p → take n (drop (p + 2) t) ≡ textAt t p
-unfolding textAt
+pub text-here : (p n : ℕ) (t : List ℕ) → n ≡ number_at 2 t p → take n (drop (p + 2) t) ≡ text_at t p
+unfolding text_at
 text-here p n t e = ap (λ (k : ℕ). take k (drop (p + 2) t)) e
 
-pub count-is : (t : List ℕ) (p a b : ℕ) → a ≡ get_or t p 0 → b ≡ get_or t (p + 1) 0 → a * 256 + b ≡ numberAt 2 t p
-unfolding numberAt
+pub count-is : (t : List ℕ) (p a b : ℕ) → a ≡ get_or t p 0 → b ≡ get_or t (p + 1) 0 → a * 256 + b ≡ number_at 2 t p
+unfolding number_at
 count-is t p a b e f = omega arith
 
 pub spelled-tree : (tree made : List ℕ) (w : ℕ) → w < 32768 → name_at tree w ≡ spelled tree made w
@@ -54,22 +54,22 @@ spelled-made tree made w h = rw (le-ltb w 32768 h, spelled)
 
 -- ---- where a part begins
 
-pub begin-past : (t : List ℕ) (p : ℕ) → length t < p → 0 ≡ beginAt t p
-unfolding beginAt
-begin-past t p h = rw (lt-leb p (length t) h, beginAt)
+pub begin-past : (t : List ℕ) (p : ℕ) → length t < p → 0 ≡ begin_at t p
+unfolding begin_at
+begin-past t p h = rw (lt-leb p (length t) h, begin_at)
 
-pub begin-here : (t : List ℕ) (p : ℕ) → p ≤ length t → p ≡ beginAt t p
-unfolding beginAt
-begin-here t p h = rw (le-leb p (length t) h, beginAt)
+pub begin-here : (t : List ℕ) (p : ℕ) → p ≤ length t → p ≡ begin_at t p
+unfolding begin_at
+begin-here t p h = rw (le-leb p (length t) h, begin_at)
 
-pub points-start : (r s : ℕ × ℕ) (t : List ℕ) (p : ℕ) → r.0 ≡ s.0 → r.1 ≡ s.1 + 0 → length t < p → Points r s (beginAt t p)
+pub points-start : (r s : ℕ × ℕ) (t : List ℕ) (p : ℕ) → r.0 ≡ s.0 → r.1 ≡ s.1 + 0 → length t < p → Points r s (begin_at t p)
 points-start r s t p e f h = record { block = e; offset = let b = begin-past t p h in omega arith }
 
-pub points-part : (r s : ℕ × ℕ) (t : List ℕ) (p : ℕ) → r.0 ≡ s.0 → r.1 ≡ s.1 + p → p ≤ length t → Points r s (beginAt t p)
+pub points-part : (r s : ℕ × ℕ) (t : List ℕ) (p : ℕ) → r.0 ≡ s.0 → r.1 ≡ s.1 + p → p ≤ length t → Points r s (begin_at t p)
 points-part r s t p e f h = record { block = e; offset = let b = begin-here t p h in omega arith }
 
-pub spells-tree : (r tree made : ℕ × ℕ) (t m : List ℕ) (w : ℕ) → w < 32768 → Points r tree (beginAt t (w + 1)) → Spells r tree made t m w
+pub spells-tree : (r tree made : ℕ × ℕ) (t m : List ℕ) (w : ℕ) → w < 32768 → Points r tree (begin_at t (w + 1)) → Spells r tree made t m w
 spells-tree r tree made t m w h p = record { first = λ k. p; later = λ k. absurd (omega arith) }
 
-pub spells-made : (r tree made : ℕ × ℕ) (t m : List ℕ) (w : ℕ) → 32768 ≤ w → Points r made (beginAt m (w - 32768 + 1)) → Spells r tree made t m w
+pub spells-made : (r tree made : ℕ × ℕ) (t m : List ℕ) (w : ℕ) → 32768 ≤ w → Points r made (begin_at m (w - 32768 + 1)) → Spells r tree made t m w
 spells-made r tree made t m w h p = record { first = λ k. absurd (omega arith); later = λ k. p }

@@ -1,13 +1,13 @@
 // The built-ins, by their names.
 ghost use Rattle.std.specs.Prelude.{◌≡◌};
 ghost use Rattle.definitions.specs.Builtins.{builtin};
-ghost use Rattle.state.specs.State.{foundOr};
+ghost use Rattle.state.specs.State.{found_or};
 
 use byte_tests::same_bytes;
 
 // The id of the built-in with the name, 15 where there is none; ids 8 and 9 are unused.
 pub fn find_builtin(name: &[u8]) -> u32
-    ensures { result ≡ foundOr 15 (builtin name.now) }
+    ensures { result ≡ found_or 15 (builtin name.now) }
 {
     if same_bytes(b"print", name) {
         return 0;

@@ -1,8 +1,8 @@
 // The first of some words that stands for a name, a string or a function; as many as there are where none does.
 ghost use Rattle.std.specs.Prelude.{◌≡◌, map, ◌/◌, ◌^◌, eqb, length};
 ghost use Rattle.definitions.specs.Bytes.{same, position};
-ghost use Rattle.state.specs.Words.{textAt};
-ghost use Rattle.state.specs.State.{spelled, names_at, foundOr};
+ghost use Rattle.state.specs.Words.{text_at};
+ghost use Rattle.state.specs.State.{spelled, names_at, found_or};
 
 use crate::spell::{name_part, text_part};
 use byte_tests::same_bytes;
@@ -20,7 +20,7 @@ pub(crate) fn is_spelled(tree: &[u8], made: &[u8], w: u32, name: &[u8]) -> bool
 
 // A symbol's word, by its spelling.
 pub fn find_spelling(tree: &[u8], made: &[u8], words: &[u32], name: &[u8]) -> usize
-    ensures { result ≡ foundOr (length words.now) (position (same name.now) (map (spelled tree.now made.now) words.now)) }
+    ensures { result ≡ found_or (length words.now) (position (same name.now) (map (spelled tree.now made.now) words.now)) }
 {
     let mut i = 0;
     while i < words.len() {
@@ -34,7 +34,7 @@ pub fn find_spelling(tree: &[u8], made: &[u8], words: &[u32], name: &[u8]) -> us
 
 // A place in the tree where the name stands.
 pub fn find_place(tree: &[u8], words: &[u32], name: &[u8]) -> usize
-    ensures { result ≡ foundOr (length words.now) (position (same name.now) (names_at tree.now words.now)) }
+    ensures { result ≡ found_or (length words.now) (position (same name.now) (names_at tree.now words.now)) }
 {
     let mut i = 0;
     while i < words.len() {
@@ -49,7 +49,7 @@ pub fn find_place(tree: &[u8], words: &[u32], name: &[u8]) -> usize
 
 // A place in the tree where the string stands.
 pub fn find_text(tree: &[u8], words: &[u32], text: &[u8]) -> usize
-    ensures { result ≡ foundOr (length words.now) (position (same text.now) (map (textAt tree.now) words.now)) }
+    ensures { result ≡ found_or (length words.now) (position (same text.now) (map (text_at tree.now) words.now)) }
 {
     let mut i = 0;
     while i < words.len() {
@@ -64,7 +64,7 @@ pub fn find_text(tree: &[u8], words: &[u32], text: &[u8]) -> usize
 
 // The head of a function whose name has the symbol k.
 pub fn find_head(words: &[u32], k: u32) -> usize
-    ensures { result ≡ foundOr (length words.now) (position (λ h. eqb k (h / 2 ^ 16)) words.now) }
+    ensures { result ≡ found_or (length words.now) (position (λ h. eqb k (h / 2 ^ 16)) words.now) }
 {
     let mut i = 0;
     while i < words.len() {

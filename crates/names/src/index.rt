@@ -1,15 +1,15 @@
 // An index of names: by a hash of its bytes, where a name is sought among others.
 ghost use Rattle.std.specs.Prelude.{◌≡◌, ◌+◌, ◌≤◌, ◌<◌, length, get_or};
-ghost use Rattle.state.specs.Index.{hashOf, bucketOf, start_of};
-ghost use Rattle.state.specs.State.{slotsFrom, names_at};
-ghost use Rattle.names.specs.Sought.{soughtFrom};
+ghost use Rattle.state.specs.Index.{hash_of, bucket_of, start_of};
+ghost use Rattle.state.specs.State.{slots_from, names_at};
+ghost use Rattle.names.specs.Sought.{sought_from};
 
 use crate::find::find_place;
 use numerals::places::SLOTS_FROM;
 
 // A hash of 16 bits.
 pub fn hash(name: &[u8]) -> u32
-    ensures { (result ≡ hashOf name.now) × (result < 65536) }
+    ensures { (result ≡ hash_of name.now) × (result < 65536) }
 {
     let mut h: u32 = 0;
     let mut i = 0;
@@ -22,7 +22,7 @@ pub fn hash(name: &[u8]) -> u32
 
 // A name's bucket in the index of slots.
 pub fn slot_bucket(name: &[u8]) -> usize
-    ensures { (result ≡ bucketOf slotsFrom name.now) × (result < slotsFrom) }
+    ensures { (result ≡ bucket_of slots_from name.now) × (result < slots_from) }
 {
     hash(name) as usize % SLOTS_FROM
 }
@@ -43,7 +43,7 @@ pub fn start(k: u32, n: usize) -> usize
 
 // The number of a name among those at `places`, by the word k in its bucket; as many as there are where none is.
 pub fn find_from(tree: &[u8], places: &[u32], k: u32, name: &[u8]) -> usize
-    ensures { (result ≡ soughtFrom k name.now (names_at tree.now places.now)) × (result ≤ length places.now) }
+    ensures { (result ≡ sought_from k name.now (names_at tree.now places.now)) × (result ≤ length places.now) }
 {
     let from = start(k, places.len());
     from + find_place(tree, &places[from..], name)

@@ -1,7 +1,7 @@
 // Names that the lowering makes: each with its length before it, at the free end of the made bytes.
 ghost use Rattle.std.specs.Prelude.{◌≡◌, ◌++◌, ◌+◌, ◌≤◌, ◌<◌, length};
 ghost use Rattle.definitions.specs.Bytes.{decimal};
-ghost use Rattle.names.specs.Made.{madeName, pasted, Stands};
+ghost use Rattle.names.specs.Made.{made_name, pasted, Stands};
 
 use crate::Made;
 
@@ -45,8 +45,8 @@ fn paste_numbered(bytes: &mut [u8], at: usize, head: &[u8], n: u32, tail: &[u8])
 
 // The name's bytes from `at` on, and where they end.
 fn paste_name(bytes: &mut [u8], at: usize, m: Made) -> usize
-    requires { at + length (madeName m) ≤ length bytes.old }
-    ensures { (result ≡ at + length (madeName m)) × (bytes.new ≡ pasted (madeName m) at bytes.old) }
+    requires { at + length (made_name m) ≤ length bytes.old }
+    ensures { (result ≡ at + length (made_name m)) × (bytes.new ≡ pasted (made_name m) at bytes.old) }
 {
     match m {
         Made::Main => paste(bytes, at, b"__main__"),
@@ -60,8 +60,8 @@ fn paste_name(bytes: &mut [u8], at: usize, m: Made) -> usize
 
 // The name with its length before it at `at`, and how many bytes that takes.
 pub fn write_made(bytes: &mut [u8], at: usize, m: Made) -> u32
-    requires { (at + 1 + length (madeName m) ≤ length bytes.old) × (length (madeName m) < 20) }
-    ensures { (result ≡ 1 + length (madeName m)) × Stands (madeName m) at bytes.old bytes.new }
+    requires { (at + 1 + length (made_name m) ≤ length bytes.old) × (length (made_name m) < 20) }
+    ensures { (result ≡ 1 + length (made_name m)) × Stands (made_name m) at bytes.old bytes.new }
 {
     let from = at + 1;
     let end = paste_name(bytes, from, m);

@@ -2,7 +2,7 @@
 ghost use Rattle.std.specs.Prelude.{◌≡◌, map, ◌+◌, ◌≤◌, length};
 ghost use Rattle.definitions.specs.Bytes.{same, position};
 ghost use Rattle.state.specs.Words.{region};
-ghost use Rattle.state.specs.State.{spelled, SymbolIndex, foundOr};
+ghost use Rattle.state.specs.State.{spelled, SymbolIndex, found_or};
 
 use crate::find::find_spelling;
 use crate::index::{first_number, hash};
@@ -11,7 +11,7 @@ use numerals::places::{STRING_INDEX_FROM, SYMBOL_BUCKETS, SYMBOL_INDEX_FROM};
 // The number of the symbol with the name, or n.
 pub fn find_symbol(tree: &[u8], made: &[u8], tables: &[u32], n: u32, name: &[u8]) -> u32
     requires { (16384 ≤ length tables.now) × (n ≤ 1024) × SymbolIndex tree.now made.now tables.now n }
-    ensures { result ≡ foundOr n (position (same name.now) (map (spelled tree.now made.now) (region 0 n tables.now))) }
+    ensures { result ≡ found_or n (position (same name.now) (map (spelled tree.now made.now) (region 0 n tables.now))) }
 {
     let first = first_number(
         &tables[SYMBOL_INDEX_FROM..STRING_INDEX_FROM],

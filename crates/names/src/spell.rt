@@ -1,8 +1,8 @@
 // Names and strings as parts of the slices that hold them.
 ghost use Rattle.std.specs.Prelude.{◌≡◌, ◌+◌, ◌<◌, ◌^◌, take, drop, get_or};
-ghost use Rattle.state.specs.Words.{numberAt, name_at, textAt};
+ghost use Rattle.state.specs.Words.{number_at, name_at, text_at};
 ghost use Rattle.state.specs.State.{spelled};
-ghost use Rattle.names.specs.Parts.{beginAt, Points, Spells};
+ghost use Rattle.names.specs.Parts.{begin_at, Points, Spells};
 
 use numerals::places::{MADE_FROM, MADE_START};
 
@@ -16,7 +16,7 @@ pub fn byte(bytes: &[u8], at: usize) -> u8
 // n bytes from `from` on, cut at the end.
 pub fn part<'a>(bytes: &'a [u8], from: usize, n: usize) -> &'a [u8]
     ensures result_value { result.now ≡ take n (drop from bytes.now) }
-    ensures begins { Points result.ref_ptr bytes.entry.ref_ptr (beginAt bytes.now from) }
+    ensures begins { Points result.ref_ptr bytes.entry.ref_ptr (begin_at bytes.now from) }
 {
     if bytes.len() < from {
         return &bytes[0..0];
@@ -31,7 +31,7 @@ pub fn part<'a>(bytes: &'a [u8], from: usize, n: usize) -> &'a [u8]
 // The name whose length byte is at `at`: empty past the end, cut at the end.
 pub fn name_part<'a>(bytes: &'a [u8], at: usize) -> &'a [u8]
     ensures result_value { result.now ≡ name_at bytes.now at }
-    ensures begins { Points result.ref_ptr bytes.entry.ref_ptr (beginAt bytes.now (at + 1)) }
+    ensures begins { Points result.ref_ptr bytes.entry.ref_ptr (begin_at bytes.now (at + 1)) }
 {
     if bytes.len() <= at {
         return &bytes[0..0];
@@ -43,7 +43,7 @@ pub fn name_part<'a>(bytes: &'a [u8], at: usize) -> &'a [u8]
 // The count of two bytes at `at`, 0 for those past the end.
 pub(crate) fn count_at(bytes: &[u8], at: usize) -> usize
     requires { at < 2 ^ 63 }
-    ensures { (result ≡ numberAt 2 bytes.now at) × (result < 65536) }
+    ensures { (result ≡ number_at 2 bytes.now at) × (result < 65536) }
 {
     let high = byte(bytes, at);
     let low = byte(bytes, at + 1);
@@ -52,8 +52,8 @@ pub(crate) fn count_at(bytes: &[u8], at: usize) -> usize
 
 // The string whose count is at `at`.
 pub fn text_part<'a>(bytes: &'a [u8], at: usize) -> &'a [u8]
-    ensures result_value { result.now ≡ textAt bytes.now at }
-    ensures begins { Points result.ref_ptr bytes.entry.ref_ptr (beginAt bytes.now (at + 2)) }
+    ensures result_value { result.now ≡ text_at bytes.now at }
+    ensures begins { Points result.ref_ptr bytes.entry.ref_ptr (begin_at bytes.now (at + 2)) }
 {
     if bytes.len() <= at {
         return &bytes[0..0];

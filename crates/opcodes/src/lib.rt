@@ -1,8 +1,8 @@
 // The opcodes of operators and displays, by their bytes in the tree.
 ghost use Rattle.std.specs.Prelude.{◌≡◌, ◌<◌, ◌≤◌};
-ghost use Rattle.definitions.specs.Instruction.{operatorCode, buildCode};
+ghost use Rattle.definitions.specs.Instruction.{operator_code, build_code};
 ghost use Rattle.lower_emit.specs.Ops.{Plain};
-ghost use Rattle.opcodes.specs.Codes.{unaryOpcode, displayOf, held_of};
+ghost use Rattle.opcodes.specs.Codes.{unary_opcode, display_of, held_of};
 
 use numerals::expr;
 use numerals::ops::{BUILD, BUILD_DICT, BUILD_TUPLE, NEG, NOT, POS};
@@ -10,7 +10,7 @@ use numerals::ops::{BUILD, BUILD_DICT, BUILD_TUPLE, NEG, NOT, POS};
 // Not, Neg, Pos.
 pub fn unary_code(operator: u8) -> u32
     requires { operator < 3 }
-    ensures { (result ≡ unaryOpcode operator) × Plain result 0 0 }
+    ensures { (result ≡ unary_opcode operator) × Plain result 0 0 }
 {
     match operator {
         0 => NOT,
@@ -22,7 +22,7 @@ pub fn unary_code(operator: u8) -> u32
 // Add to Ge, by sums; `/` is TrueDiv, `//` is Div.
 pub fn binary_code(operator: u8) -> u32
     requires { operator < 12 }
-    ensures { (result ≡ operatorCode operator) × Plain result 0 0 }
+    ensures { (result ≡ operator_code operator) × Plain result 0 0 }
 {
     if operator == 3 {
         return 17;
@@ -39,7 +39,7 @@ pub fn binary_code(operator: u8) -> u32
 // BuildList to BuildTreeSet.
 pub fn build_code(kind: u8) -> u32
     requires { (11 ≤ kind) × (kind ≤ 15) }
-    ensures { (result ≡ buildCode (displayOf kind)) × (30 < result) × (result < 48) }
+    ensures { (result ≡ build_code (display_of kind)) × (30 < result) × (result < 48) }
 {
     if kind == expr::DICT {
         return BUILD_DICT;

@@ -8,7 +8,7 @@ use lib.ListN.{length, take, drop, length-drop}
 use lib.Seq.{take_all, drop-drop}
 use borrow.Author.Tests.{lt-ltb, le-ltb}
 use Rattle.definitions.specs.Bytes.{Name, ascii, all, same}
-use Rattle.definitions.specs.Wellformed.{digit, isIterator}
+use Rattle.definitions.specs.Wellformed.{digit, is_iterator}
 
 -- the parts as the code cuts them
 abbrev front : Name → Name
@@ -38,8 +38,8 @@ counts x = all digit (take (length x - 13) (drop 11 x))
 abbrev ends : Name → Bool
 ends x = same (drop (length x - 13) (drop 11 x)) (ascii "__")
 
-by_parts : (x : Name) → isIterator x ≡ (begins x && ltb 0 (length x - 13) && counts x && ends x)
-unfolding isIterator
+by_parts : (x : Name) → is_iterator x ≡ (begins x && ltb 0 (length x - 13) && counts x && ends x)
+unfolding is_iterator
 by_parts x = refl
 
 no_length : (a c d : Bool) → false ≡ (a && false && c && d)
@@ -51,19 +51,19 @@ no-digits true true d = refl
 no-digits true false d = refl
 no-digits false b d = refl
 
-pub iterator-short : (x : Name) → length x < 14 → false ≡ isIterator x
+pub iterator-short : (x : Name) → length x < 14 → false ≡ is_iterator x
 iterator-short x h = rw (by_parts x, le-ltb 0 (length x - 13) (omega arith)) (no_length (begins x) (counts x) (ends x))
 
-pub iterator-begins : (x : Name) (b : Bool) → b ≡ same (front x) (ascii "__for_iter_") → b ≡ false → false ≡ isIterator x
+pub iterator-begins : (x : Name) (b : Bool) → b ≡ same (front x) (ascii "__for_iter_") → b ≡ false → false ≡ is_iterator x
 iterator-begins x b e f = let n : begins x ≡ false = sym e ∙ f in rw (by_parts x, n)
 
-pub iterator-digits : (x : Name) (b : Bool) → b ≡ all digit (middle x) → b ≡ false → false ≡ isIterator x
+pub iterator-digits : (x : Name) (b : Bool) → b ≡ all digit (middle x) → b ≡ false → false ≡ is_iterator x
 iterator-digits x b e f =
     let n : counts x ≡ false = ap (all digit) (sym (middle-is x)) ∙ sym e ∙ f in
     rw (by_parts x, n) (no-digits (begins x) (ltb 0 (length x - 13)) (ends x))
 
 pub iterator-ends : (x : Name) (a b c : Bool) → 14 ≤ length x → a ≡ same (front x) (ascii "__for_iter_") → a ≡ true → b ≡ all digit (middle x) → b ≡ true
-    → c ≡ same (back x) (ascii "__") → c ≡ isIterator x
+    → c ≡ same (back x) (ascii "__") → c ≡ is_iterator x
 iterator-ends x a b c h e₁ t₁ e₂ t₂ e₃ =
     let y₁ : begins x ≡ true = sym e₁ ∙ t₁ in
     let y₂ : counts x ≡ true = ap (all digit) (sym (middle-is x)) ∙ sym e₂ ∙ t₂ in

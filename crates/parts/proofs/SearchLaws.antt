@@ -13,7 +13,7 @@ use lib.Seq.{get_or-set_same, get_or-set_other}
 use borrow.Author.Tests.{eq-eqb, ne_eqb, eqb-true, eqb-false}
 use Rattle.definitions.specs.Bytes.{Name, same, position, member, all}
 use Rattle.definitions.specs.Wellformed.{distinct}
-use Rattle.parts.specs.Places.{nameBytes, nameEnd, There, namesFrom, namesEnd, AllThere}
+use Rattle.parts.specs.Places.{name_bytes, name_end, There, names_from, names_end, AllThere}
 use Rattle.parts.specs.Search.{turn_of, below, reach, Entry, Met, Searches, Puts}
 use Rattle.parts.specs.declared.distinct.Put.{Put}
 use Rattle.parts.specs.declared.distinct.Put.TheVariants.{Twice, New}
@@ -142,22 +142,22 @@ module _ (T : List ℕ) (root : ℕ) (x : Name) where
 pub record Seeking (t T : List ℕ) (root : ℕ) (seen : List Name) (x : Name) (k p : ℕ) : Type 0 where
   pub at : reach T root x k ≡ p
   pub entry : Entry t seen p
-  pub before : (j : ℕ) → j < k → same (nameBytes t (reach T root x j)) x ≡ false
+  pub before : (j : ℕ) → j < k → same (name_bytes t (reach T root x j)) x ≡ false
 
 pub seek-start : (t T : List ℕ) (root : ℕ) (seen : List Name) (x : Name) → Searches t T root seen → Seeking t T root seen x 0 root
 unfolding reach
 seek-start t T root seen x h = record { at = refl; entry = h.first; before = λ j l. absurd (omega arith) }
 
-pub put-twice : (t : List ℕ) (seen : List Name) (x : Name) (p : ℕ) → Entry t seen p → same (nameBytes t p) x ≡ true → member x seen ≡ true
-put-twice t seen x p h e = ap (λ (y : Name). member y seen) (sym (same-eq (nameBytes t p) x e)) ∙ h.known
+pub put-twice : (t : List ℕ) (seen : List Name) (x : Name) (p : ℕ) → Entry t seen p → same (name_bytes t p) x ≡ true → member x seen ≡ true
+put-twice t seen x p h e = ap (λ (y : Name). member y seen) (sym (same-eq (name_bytes t p) x e)) ∙ h.known
 
-module _ (t T : List ℕ) (root : ℕ) (seen : List Name) (x : Name) (k p : ℕ) (h : Searches t T root seen) (g : Seeking t T root seen x k p) (other : same (nameBytes t p) x ≡ false) where
+module _ (t T : List ℕ) (root : ℕ) (seen : List Name) (x : Name) (k p : ℕ) (h : Searches t T root seen) (g : Seeking t T root seen x k p) (other : same (name_bytes t p) x ≡ false) where
   next-is : reach T root x (suc k) ≡ get_or T (p + turn_of x k) 0
   next-is = let n = g.entry.some in let a = g.at in reach-next T root x k (omega arith) ∙ ap (λ (q : ℕ). get_or T (q + turn_of x k) 0) a
 
-  not-before : (j : ℕ) → j < k + 1 → same (nameBytes t (reach T root x j)) x ≡ false
+  not-before : (j : ℕ) → j < k + 1 → same (name_bytes t (reach T root x j)) x ≡ false
   not-before j l = ⊎_elim
-      (λ (a : k ≤ j). ap (λ (q : ℕ). same (nameBytes t q) x) (ap (reach T root x) (let z : j ≡ k = omega arith in z) ∙ g.at) ∙ other)
+      (λ (a : k ≤ j). ap (λ (q : ℕ). same (name_bytes t q) x) (ap (reach T root x) (let z : j ≡ k = omega arith in z) ∙ g.at) ∙ other)
       (λ (a : j < k). g.before j a)
       (le-or-gt k j)
 
@@ -182,12 +182,12 @@ module _ (t T : List ℕ) (root : ℕ) (seen : List Name) (x : Name) (k p : ℕ)
         go true e = absurd (none-met (h.met x e))
         go false e = e
 
-    module _ (at : ℕ) (there : There t at) (low : at < 32768) (some : 0 < at) (is : nameBytes t at ≡ x) (inside : p + turn_of x k < length T) where
+    module _ (at : ℕ) (there : There t at) (low : at < 32768) (some : 0 < at) (is : name_bytes t at ≡ x) (inside : p + turn_of x k < length T) where
       abbrev slot : ℕ
       slot = p + turn_of x k
 
       entry_kept : (q : ℕ) → Entry t seen q → Entry t (seen ++ x ∷ []) q
-      entry_kept q e = record { some = e.some; low = e.low; there = e.there; known = member-kept (nameBytes t q) x seen e.known }
+      entry_kept q e = record { some = e.some; low = e.low; there = e.there; known = member-kept (name_bytes t q) x seen e.known }
 
       entry_new : Entry t (seen ++ x ∷ []) at
       entry_new = record { some = some; low = low; there = there; known = ap (λ (y : Name). member y (seen ++ x ∷ [])) is ∙ member-new x seen }
@@ -200,7 +200,7 @@ module _ (t T : List ℕ) (root : ℕ) (seen : List Name) (x : Name) (k p : ℕ)
 
       met-kept : (y : Name) → Met t T root y → Met t (set T slot at) root y
       met-kept y m = let e = reach-set T root y slot at empty m.depth m.some in
-          record { depth = m.depth; some = (let s = m.some in omega arith); is = ap (nameBytes t) e ∙ m.is }
+          record { depth = m.depth; some = (let s = m.some in omega arith); is = ap (name_bytes t) e ∙ m.is }
 
       new-met : reach (set T slot at) root x (suc k) ≡ at
       new-met = let n = g.entry.some in let a = g.at in
@@ -210,7 +210,7 @@ module _ (t T : List ℕ) (root : ℕ) (seen : List Name) (x : Name) (k p : ℕ)
       met-new : (y : Name) → member y (seen ++ x ∷ []) ≡ true → Met t (set T slot at) root y
       met-new y e = ⊎_elim
           (λ (u : member y seen ≡ true). met-kept y (h.met y u))
-          (λ (u : y ≡ x). subst (Met t (set T slot at) root) (sym u) (record { depth = suc k; some = (let z = new-met in omega arith); is = ap (nameBytes t) new-met ∙ is }))
+          (λ (u : y ≡ x). subst (Met t (set T slot at) root) (sym u) (record { depth = suc k; some = (let z = new-met in omega arith); is = ap (name_bytes t) new-met ∙ is }))
           (member-either y x seen e)
 
       put-new : Searches t (set T slot at) root (seen ++ x ∷ [])
@@ -221,11 +221,11 @@ pub entry-low : (t T : List ℕ) (root : ℕ) (seen : List Name) (s : ℕ) → S
 entry-low t T root seen s h = ⊎_elim (λ (z : get_or T s 0 ≤ 0). omega arith) (λ (z : 0 < get_or T s 0). (h.entries s z).low) (le-or-gt (get_or T s 0) 0)
 
 -- the two ways on from p, v being the turn there
-module _ (t T : List ℕ) (root : ℕ) (seen : List Name) (x : Name) (k p v : ℕ) (h : Searches t T root seen) (g : Seeking t T root seen x k p) (other : same (nameBytes t p) x ≡ false) (turns : v ≡ turn_of x k) where
+module _ (t T : List ℕ) (root : ℕ) (seen : List Name) (x : Name) (k p v : ℕ) (h : Searches t T root seen) (g : Seeking t T root seen x k p) (other : same (name_bytes t p) x ≡ false) (turns : v ≡ turn_of x k) where
   pub put_next : 0 < get_or T (p + v) 0 → Searches t T root seen × Seeking t T root seen x (k + 1) (get_or T (p + v) 0)
   put_next s = (h, seek-next t T root seen x k p h g other (get_or T (p + v) 0) (ap (λ (i : ℕ). get_or T (p + i) 0) turns) s)
 
-  pub put-here : (at : ℕ) → get_or T (p + v) 0 ≡ 0 → There t at → at < 32768 → 0 < at → nameBytes t at ≡ x → p + v < 32769 → (member x seen ≡ false) × Searches t (set T (p + v) at) root (seen ++ x ∷ [])
+  pub put-here : (at : ℕ) → get_or T (p + v) 0 ≡ 0 → There t at → at < 32768 → 0 < at → name_bytes t at ≡ x → p + v < 32769 → (member x seen ≡ false) × Searches t (set T (p + v) at) root (seen ++ x ∷ [])
   put-here at e a b c d i =
       let f : get_or T (p + turn_of x k) 0 ≡ 0 = ap (λ (i : ℕ). get_or T (p + i) 0) (sym turns) ∙ e in (
         put-absent t T root seen x k p h g other f,
@@ -234,17 +234,17 @@ module _ (t T : List ℕ) (root : ℕ) (seen : List Name) (x : Name) (k p v : �
 
 -- ---- the table of one name
 
-pub one_name : (t T : List ℕ) (p : ℕ) → length T ≡ 32769 → ((s : ℕ) → get_or T s 0 ≡ 0) → There t p → p < 32768 → 0 < p → Searches t T p (nameBytes t p ∷ [])
+pub one_name : (t T : List ℕ) (p : ℕ) → length T ≡ 32769 → ((s : ℕ) → get_or T s 0 ≡ 0) → There t p → p < 32768 → 0 < p → Searches t T p (name_bytes t p ∷ [])
 unfolding reach
 one_name t T p n z h l s = record {
   size = n;
   first = record { some = s; low = l; there = h; known = known };
   entries = λ i g. let e = z i in absurd (omega arith);
-  met = λ x e. record { depth = 0; some = s; is = sym (same-eq x (nameBytes t p) (sym (member-cons x (nameBytes t p) [] ∙ ap (λ (b : Bool). same x (nameBytes t p) || b) (member-nil x) ∙ or-false (same x (nameBytes t p))) ∙ e)) };
+  met = λ x e. record { depth = 0; some = s; is = sym (same-eq x (name_bytes t p) (sym (member-cons x (name_bytes t p) [] ∙ ap (λ (b : Bool). same x (name_bytes t p) || b) (member-nil x) ∙ or-false (same x (name_bytes t p))) ∙ e)) };
 }
   where
-    known : member (nameBytes t p) (nameBytes t p ∷ []) ≡ true
-    known = member-cons (nameBytes t p) (nameBytes t p) [] ∙ ap (λ (b : Bool). b || member (nameBytes t p) []) (same_refl (nameBytes t p))
+    known : member (name_bytes t p) (name_bytes t p ∷ []) ≡ true
+    known = member-cons (name_bytes t p) (name_bytes t p) [] ∙ ap (λ (b : Bool). b || member (name_bytes t p) []) (same_refl (name_bytes t p))
 
 -- ---- names that are all new, one by one
 
@@ -289,24 +289,24 @@ apart_more x seen xs =
     go false b c d = refl
 
 -- one name more
-end-suc : (t : List ℕ) (n p : ℕ) → namesEnd t (suc n) p ≡ nameEnd t (namesEnd t n p)
-unfolding namesEnd
+end-suc : (t : List ℕ) (n p : ℕ) → names_end t (suc n) p ≡ name_end t (names_end t n p)
+unfolding names_end
 end-suc t zero p = refl
-end-suc t (suc n) p = end-suc t n (nameEnd t p)
+end-suc t (suc n) p = end-suc t n (name_end t p)
 
-from_suc : (t : List ℕ) (n p : ℕ) → namesFrom t (suc n) p ≡ namesFrom t n p ++ nameBytes t (namesEnd t n p) ∷ []
-unfolding namesFrom namesEnd
+from_suc : (t : List ℕ) (n p : ℕ) → names_from t (suc n) p ≡ names_from t n p ++ name_bytes t (names_end t n p) ∷ []
+unfolding names_from names_end
 from_suc t zero p = refl
-from_suc t (suc n) p = ap (λ (xs : List Name). nameBytes t p ∷ xs) (from_suc t n (nameEnd t p))
+from_suc t (suc n) p = ap (λ (xs : List Name). name_bytes t p ∷ xs) (from_suc t n (name_end t p))
 
 -- ---- the n names at `at`, of which `count` are in the table T, and the rest stand at p
 
 pub record Sifting (t : List ℕ) (n at count p : ℕ) (T : List ℕ) : Type 0 where
-  pub table : Searches t T at (namesFrom t count at)
-  pub end : p ≡ namesEnd t count at
+  pub table : Searches t T at (names_from t count at)
+  pub end : p ≡ names_end t count at
   pub some : 0 < p
   pub left : AllThere t (n - count) p
-  pub fine : distinct (namesFrom t n at) ≡ apart (namesFrom t count at) (namesFrom t (n - count) p)
+  pub fine : distinct (names_from t n at) ≡ apart (names_from t count at) (names_from t (n - count) p)
 
 no-entry : (n s : ℕ) → ◌≡◌ {A = ℕ} (get_or (replicate n 0) s 0) 0
 no-entry n s = ⊎_elim
@@ -318,26 +318,26 @@ module _ (t : List ℕ) (n at : ℕ) (every : AllThere t n at) (more : 0 < n) (s
   first-there : There t at
   first-there = there-first t n at more every
 
-  pub sift-start : (p : ℕ) → p ≡ nameEnd t at → Sifting t n at 1 p (replicate 32769 0)
-  unfolding namesFrom namesEnd nameEnd
+  pub sift-start : (p : ℕ) → p ≡ name_end t at → Sifting t n at 1 p (replicate 32769 0)
+  unfolding names_from names_end name_end
   sift-start p e = record {
     table = one_name t (replicate 32769 0) at (length-replicate {A = ℕ} 32769 0) (no-entry 32769) first-there (let h = first-there.byte in omega arith) some;
     end = e;
     some = omega arith;
     left = subst (AllThere t (n - 1)) (sym e) (there-rest t n at more every);
-    fine = sym (apart_none (namesFrom t n at)) ∙ ap (apart []) (from_more t n at more) ∙ apart_more (nameBytes t at) [] (namesFrom t (n - 1) (nameEnd t at))
-        ∙ ap (λ (b : Bool). not b && apart (nameBytes t at ∷ []) (namesFrom t (n - 1) (nameEnd t at))) (member-nil (nameBytes t at))
-        ∙ ap (λ (q : ℕ). apart (nameBytes t at ∷ []) (namesFrom t (n - 1) q)) (sym e);
+    fine = sym (apart_none (names_from t n at)) ∙ ap (apart []) (from_more t n at more) ∙ apart_more (name_bytes t at) [] (names_from t (n - 1) (name_end t at))
+        ∙ ap (λ (b : Bool). not b && apart (name_bytes t at ∷ []) (names_from t (n - 1) (name_end t at))) (member-nil (name_bytes t at))
+        ∙ ap (λ (q : ℕ). apart (name_bytes t at ∷ []) (names_from t (n - 1) q)) (sym e);
   }
 
   module _ (count p : ℕ) (T : List ℕ) (h : Sifting t n at count p T) where
     abbrev seen : List Name
-    seen = namesFrom t count at
+    seen = names_from t count at
 
     abbrev x : Name
-    x = nameBytes t p
+    x = name_bytes t p
 
-    pub sift-end : n ≤ count → true ≡ distinct (namesFrom t n at)
+    pub sift-end : n ≤ count → true ≡ distinct (names_from t n at)
     unfolding apart all distinct
     sift-end l = sym (h.fine ∙ ap (apart seen) (from-none t (n - count) p (omega arith)))
 
@@ -348,28 +348,28 @@ module _ (t : List ℕ) (n at : ℕ) (every : AllThere t n at) (more : 0 < n) (s
       pub sift-asks : Searches t T at seen × There t p × (p < 32768) × (0 < p)
       sift-asks = (h.table, sift-there, (let b = sift-there.byte in omega arith), h.some)
 
-      stepped : distinct (namesFrom t n at) ≡ (not (member x seen) && apart (seen ++ x ∷ []) (namesFrom t (n - count - 1) (nameEnd t p)))
-      stepped = h.fine ∙ ap (apart seen) (from_more t (n - count) p (omega arith)) ∙ apart_more x seen (namesFrom t (n - count - 1) (nameEnd t p))
+      stepped : distinct (names_from t n at) ≡ (not (member x seen) && apart (seen ++ x ∷ []) (names_from t (n - count - 1) (name_end t p)))
+      stepped = h.fine ∙ ap (apart seen) (from_more t (n - count) p (omega arith)) ∙ apart_more x seen (names_from t (n - count - 1) (name_end t p))
 
-      pub sift-twice : member x seen ≡ true → false ≡ distinct (namesFrom t n at)
-      sift-twice e = sym (stepped ∙ ap (λ (b : Bool). not b && apart (seen ++ x ∷ []) (namesFrom t (n - count - 1) (nameEnd t p))) e)
+      pub sift-twice : member x seen ≡ true → false ≡ distinct (names_from t n at)
+      sift-twice e = sym (stepped ∙ ap (λ (b : Bool). not b && apart (seen ++ x ∷ []) (names_from t (n - count - 1) (name_end t p))) e)
 
-      more-seen : namesFrom t (count + 1) at ≡ seen ++ x ∷ []
-      more-seen = ap (λ (k : ℕ). namesFrom t k at) (add-one count) ∙ from_suc t count at ∙ ap (λ (q : ℕ). seen ++ nameBytes t q ∷ []) (sym h.end)
+      more-seen : names_from t (count + 1) at ≡ seen ++ x ∷ []
+      more-seen = ap (λ (k : ℕ). names_from t k at) (add-one count) ∙ from_suc t count at ∙ ap (λ (q : ℕ). seen ++ name_bytes t q ∷ []) (sym h.end)
 
       less : n - count - 1 ≡ n - (count + 1)
       less = omega arith
 
-      pub sift-next : (q : ℕ) (T' : List ℕ) → q ≡ nameEnd t p → (member x seen ≡ false) × Searches t T' at (seen ++ x ∷ []) → Sifting t n at (count + 1) q T'
-      unfolding nameEnd
+      pub sift-next : (q : ℕ) (T' : List ℕ) → q ≡ name_end t p → (member x seen ≡ false) × Searches t T' at (seen ++ x ∷ []) → Sifting t n at (count + 1) q T'
+      unfolding name_end
       sift-next q T' e f = record {
         table = subst (Searches t T' at) (sym more-seen) f.1;
-        end = e ∙ ap (nameEnd t) h.end ∙ sym (ap (λ (k : ℕ). namesEnd t k at) (add-one count) ∙ end-suc t count at);
+        end = e ∙ ap (name_end t) h.end ∙ sym (ap (λ (k : ℕ). names_end t k at) (add-one count) ∙ end-suc t count at);
         some = omega arith;
         left = subst (λ (k : ℕ). AllThere t k q) less (subst (AllThere t (n - count - 1)) (sym e) (there-rest t (n - count) p (omega arith) h.left));
-        fine = stepped ∙ ap (λ (b : Bool). not b && apart (seen ++ x ∷ []) (namesFrom t (n - count - 1) (nameEnd t p))) f.0
-            ∙ ap (λ (k : ℕ). apart (seen ++ x ∷ []) (namesFrom t k (nameEnd t p))) less ∙ ap (λ (q : ℕ). apart (seen ++ x ∷ []) (namesFrom t (n - (count + 1)) q)) (sym e)
-            ∙ ap (λ (s : List Name). apart s (namesFrom t (n - (count + 1)) q)) (sym more-seen);
+        fine = stepped ∙ ap (λ (b : Bool). not b && apart (seen ++ x ∷ []) (names_from t (n - count - 1) (name_end t p))) f.0
+            ∙ ap (λ (k : ℕ). apart (seen ++ x ∷ []) (names_from t k (name_end t p))) less ∙ ap (λ (q : ℕ). apart (seen ++ x ∷ []) (names_from t (n - (count + 1)) q)) (sym e)
+            ∙ ap (λ (s : List Name). apart s (names_from t (n - (count + 1)) q)) (sym more-seen);
       }
 
 -- what the code's answer says

@@ -2,7 +2,7 @@
 -- depth. An entry is a name's position, 0 for none. Names of one byte or more share no slot; where two share one, a search is longer, no less right.
 use Rattle.std.specs.Prelude.{ℕ, zero, suc, ◌+◌, ◌/◌, ◌%◌, ◌^◌, ◌<◌, ◌≡◌, true, false, List, [], ◌∷◌, ◌++◌, eqb, length, get_or}
 use Rattle.definitions.specs.Bytes.{Name, member}
-use Rattle.parts.specs.Places.{nameBytes, There}
+use Rattle.parts.specs.Places.{name_bytes, There}
 use Rattle.parts.specs.declared.distinct.Put.{Put}
 use Rattle.parts.specs.declared.distinct.Put.TheVariants.{Twice, New, Lost}
 
@@ -23,13 +23,13 @@ pub record Entry (t : List ℕ) (seen : List Name) (p : ℕ) : Type 0 where
   pub some : 0 < p
   pub low : p < 32768
   pub there : There t p
-  pub known : member (nameBytes t p) seen ≡ true
+  pub known : member (name_bytes t p) seen ≡ true
 
 -- x is met
 pub record Met (t T : List ℕ) (root : ℕ) (x : Name) : Type 0 where
   pub depth : ℕ
   pub some : 0 < reach T root x depth
-  pub is : nameBytes t (reach T root x depth) ≡ x
+  pub is : name_bytes t (reach T root x depth) ≡ x
 
 -- the table has the names seen, and no others
 pub record Searches (t T : List ℕ) (root : ℕ) (seen : List Name) : Type 0 where

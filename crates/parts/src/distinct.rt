@@ -3,7 +3,7 @@ ghost use Rattle.std.specs.Prelude.{◌≡◌, ◌≤◌, ◌<◌, length};
 ghost use Rattle.definitions.specs.Bytes.{member};
 ghost use Rattle.definitions.specs.Wellformed.{distinct};
 ghost use Rattle.parts.specs.Search.{turn_of, Searches, Puts};
-ghost use Rattle.parts.specs.Places.{nameBytes, namesFrom, There, AllThere};
+ghost use Rattle.parts.specs.Places.{name_bytes, names_from, There, AllThere};
 
 use crate::names::{name_end, name_part};
 use byte_tests::same_bytes;
@@ -20,7 +20,7 @@ enum Put {
 // Whether the name at `at` is one of the n names from `from` on.
 fn occurs(tree: &[u8], at: usize, from: usize, n: u32) -> bool
     requires { There tree.now at × AllThere tree.now n from }
-    ensures { result ≡ member (nameBytes tree.now at) (namesFrom tree.now n from) }
+    ensures { result ≡ member (name_bytes tree.now at) (names_from tree.now n from) }
 {
     let mut p = from;
     let mut left = n;
@@ -37,7 +37,7 @@ fn occurs(tree: &[u8], at: usize, from: usize, n: u32) -> bool
 // 11: whether no name stands twice among the n names at `at`; each is compared with all after it.
 fn distinct_few(tree: &[u8], at: usize, n: u32) -> bool
     requires { AllThere tree.now n at }
-    ensures { result ≡ distinct (namesFrom tree.now n at) }
+    ensures { result ≡ distinct (names_from tree.now n at) }
 {
     let mut p = at;
     let mut left = n;
@@ -61,7 +61,7 @@ fn wide(x: u8) -> usize
 // The turn of the name at `at` at depth `k`.
 fn turn(tree: &[u8], at: usize, k: usize) -> usize
     requires { There tree.now at }
-    ensures { (result ≡ turn_of (nameBytes tree.now at) k) × (result < 2) }
+    ensures { (result ≡ turn_of (name_bytes tree.now at) k) × (result < 2) }
 {
     let name = name_part(tree, at);
     let i = k / 8;
@@ -73,8 +73,8 @@ fn turn(tree: &[u8], at: usize, k: usize) -> usize
 
 // Puts the name at `at` into the table, which has the `count` names from `root` on: at most so many are met.
 fn put_name(tree: &[u8], table: &mut [u16; 32769], root: usize, count: u32, at: usize) -> Put
-    requires { Searches tree.now table.old root (namesFrom tree.now count root) × There tree.now at × (at < 32768) × (0 < at) }
-    ensures { Puts result tree.now table.new root (namesFrom tree.now count root) (nameBytes tree.now at) }
+    requires { Searches tree.now table.old root (names_from tree.now count root) × There tree.now at × (at < 32768) × (0 < at) }
+    ensures { Puts result tree.now table.new root (names_from tree.now count root) (name_bytes tree.now at) }
 {
     let most = count as usize;
     let mut p = root;
@@ -98,7 +98,7 @@ fn put_name(tree: &[u8], table: &mut [u16; 32769], root: usize, count: u32, at: 
 // 11, of many names: by a search tree.
 fn distinct_many(tree: &[u8], at: usize, n: u32) -> bool
     requires { AllThere tree.now n at × (0 < n) × (0 < at) × (length tree.now ≤ 32768) }
-    ensures { result ≡ distinct (namesFrom tree.now n at) }
+    ensures { result ≡ distinct (names_from tree.now n at) }
 {
     let mut table = [0u16; 32769];
     let mut p = name_end(tree, at);
@@ -120,7 +120,7 @@ fn distinct_many(tree: &[u8], at: usize, n: u32) -> bool
 // 11: whether no name stands twice among the n names at `at`.
 pub(crate) fn distinct_names(tree: &[u8], at: usize, n: u32) -> bool
     requires { AllThere tree.now n at }
-    ensures { result ≡ distinct (namesFrom tree.now n at) }
+    ensures { result ≡ distinct (names_from tree.now n at) }
 {
     if n <= 32 {
         return distinct_few(tree, at, n);

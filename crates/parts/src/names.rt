@@ -1,9 +1,9 @@
 // Names: a length byte and its bytes (7, 33).
 ghost use Rattle.std.specs.Prelude.{◌≡◌, ◌+◌, ◌≤◌, length};
 ghost use Rattle.definitions.specs.Bytes.{all};
-ghost use Rattle.definitions.specs.Wellformed.{digit, isIterator};
-ghost use Rattle.parts.specs.Judge.{judgeName};
-ghost use Rattle.parts.specs.Places.{nameBytes, nameEnd, There};
+ghost use Rattle.definitions.specs.Wellformed.{digit, is_iterator};
+ghost use Rattle.parts.specs.Judge.{judge_name};
+ghost use Rattle.parts.specs.Places.{name_bytes, name_end, There};
 
 use crate::Passed;
 use crate::questions::noted;
@@ -28,7 +28,7 @@ fn are_digits(bytes: &[u8]) -> bool
 
 // 33: whether the bytes are the name of a loop's iterator: its beginning, a digit or more, its end.
 fn is_iterator(bytes: &[u8]) -> bool
-    ensures { result ≡ isIterator bytes.now }
+    ensures { result ≡ is_iterator bytes.now }
 {
     if bytes.len() < 14 {
         return false;
@@ -46,7 +46,7 @@ fn is_iterator(bytes: &[u8]) -> bool
 // A name.
 pub fn check_name(tree: &[u8], at: usize, stand: u32) -> Passed
     requires { at ≤ length tree.now }
-    ensures { result ≡ judgeName tree.now at stand }
+    ensures { result ≡ judge_name tree.now at stand }
 {
     if tree.len() <= at {
         return Passed::Refused(5);
@@ -65,7 +65,7 @@ pub fn check_name(tree: &[u8], at: usize, stand: u32) -> Passed
 // The bytes of the name at `at`.
 pub fn name_part<'a>(tree: &'a [u8], at: usize) -> &'a [u8]
     requires { There tree.now at }
-    ensures result_value { result.now ≡ nameBytes tree.now at }
+    ensures result_value { result.now ≡ name_bytes tree.now at }
     ensures begins { (result.ref_ptr.0 ≡ tree.entry.ref_ptr.0) × (result.ref_ptr.1 ≡ tree.entry.ref_ptr.1 + (at + 1)) }
 {
     let from = at + 1;
@@ -76,7 +76,7 @@ pub fn name_part<'a>(tree: &'a [u8], at: usize) -> &'a [u8]
 // Where the name at `at` ends.
 pub fn name_end(tree: &[u8], at: usize) -> usize
     requires { There tree.now at }
-    ensures { result ≡ nameEnd tree.now at }
+    ensures { result ≡ name_end tree.now at }
 {
     at + 1 + tree[at] as usize
 }

@@ -1,15 +1,15 @@
 // Numbers and operators at a position.
 ghost use Rattle.std.specs.Prelude.{◌≡◌, ◌≤◌, ◌<◌, length};
 ghost use Rattle.definitions.specs.Bytes.{field};
-ghost use Rattle.parts.specs.Judge.{judged, unasked, numberAt, operatorAt};
-ghost use Rattle.parts.specs.Places.{countAt, Counted};
+ghost use Rattle.parts.specs.Judge.{judged, unasked, number_at, operator_at};
+ghost use Rattle.parts.specs.Places.{count_at, Counted};
 
 use crate::{Number, Passed};
 
 // The big-endian number of two bytes at `at`.
 pub fn u16_at(tree: &[u8], at: usize) -> u32
     requires { Counted tree.now at }
-    ensures { (result ≡ countAt tree.now at) × (result < 65536) }
+    ensures { (result ≡ count_at tree.now at) × (result < 65536) }
 {
     (tree[at] as u32) * 256 + tree[at + 1] as u32
 }
@@ -17,7 +17,7 @@ pub fn u16_at(tree: &[u8], at: usize) -> u32
 // A count of two bytes.
 pub fn number_at(tree: &[u8], at: usize) -> Number
     requires { at ≤ length tree.now }
-    ensures { result ≡ numberAt tree.now at }
+    ensures { result ≡ number_at tree.now at }
 {
     if tree.len() - at < 2 {
         return Number::Unread(5);
@@ -38,7 +38,7 @@ pub fn skip_eight(tree: &[u8], at: usize, stand: u32) -> Passed
 
 // Whether an operator below `limit` stands at `at`.
 pub fn operator_at(tree: &[u8], at: usize, limit: u8) -> bool
-    ensures { result ≡ operatorAt limit tree.now at }
+    ensures { result ≡ operator_at limit tree.now at }
 {
     if tree.len() <= at {
         return false;

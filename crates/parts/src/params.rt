@@ -2,7 +2,7 @@
 ghost use Rattle.std.specs.Prelude.{◌≡◌, not, ◌||◌, ◌≤◌, length, ltb};
 ghost use Rattle.definitions.specs.Bytes.{same};
 ghost use Rattle.definitions.specs.Wellformed.{init};
-ghost use Rattle.parts.specs.Judge.{judgeNames, judgeParams, judgeHead};
+ghost use Rattle.parts.specs.Judge.{judge_names, judge_params, judge_head};
 
 use crate::distinct::distinct_names;
 use crate::names::{check_name, name_part};
@@ -14,7 +14,7 @@ use byte_tests::same_bytes;
 // n names.
 fn check_names(tree: &[u8], at: usize, n: u32, stand: u32) -> Passed
     requires { at ≤ length tree.now }
-    ensures { result ≡ judgeNames tree.now n at stand }
+    ensures { result ≡ judge_names tree.now n at stand }
 {
     let mut p = at;
     let mut left = n;
@@ -34,7 +34,7 @@ fn check_names(tree: &[u8], at: usize, n: u32, stand: u32) -> Passed
 // A parameter list.
 pub fn check_params(tree: &[u8], at: usize, stand: u32) -> Passed
     requires { at ≤ length tree.now }
-    ensures { result ≡ judgeParams tree.now at stand }
+    ensures { result ≡ judge_params tree.now at stand }
 {
     let count = number_at(tree, at);
     match count {
@@ -63,7 +63,7 @@ fn may_have(name: &[u8], n: u32) -> bool
 // A method's name and parameters.
 pub fn check_head(tree: &[u8], at: usize, stand: u32) -> Passed
     requires { at ≤ length tree.now }
-    ensures { result ≡ judgeHead tree.now at stand }
+    ensures { result ≡ judge_head tree.now at stand }
 {
     let first = check_name(tree, at, stand);
     let Passed::Next(from, v) = first else {

@@ -2,8 +2,8 @@
 ghost use Rattle.std.specs.Prelude.{◌≡◌, true, ◌<◌};
 ghost use Rattle.std.proofs.Math.Option.{some};
 ghost use Rattle.std.proofs.Math.ListN.{get_elem?};
-ghost use Rattle.definitions.specs.Wellformed.{ifAsked, blockQuestions};
-ghost use Rattle.parts.specs.Judge.{isQuestion, Placed, least, fits, suited, inner};
+ghost use Rattle.definitions.specs.Wellformed.{if_asked, block_questions};
+ghost use Rattle.parts.specs.Judge.{is_question, Placed, least, fits, suited, inner};
 
 use crate::Role;
 use numerals::expr;
@@ -13,8 +13,8 @@ pub const QUESTIONS: u32 = 8;
 
 // The place of a question in the order in which they are asked.
 fn place_of(question: u32) -> u32
-    requires { isQuestion question ≡ true }
-    ensures { Placed question blockQuestions result }
+    requires { is_question question ≡ true }
+    ensures { Placed question block_questions result }
 {
     match question {
         7 => 0,
@@ -31,7 +31,7 @@ fn place_of(question: u32) -> u32
 // The question of a place.
 pub fn question_at(place: u32) -> u32
     requires { place < 8 }
-    ensures { get_elem? blockQuestions place ≡ some result }
+    ensures { get_elem? block_questions place ≡ some result }
 {
     match place {
         0 => 7,
@@ -47,8 +47,8 @@ pub fn question_at(place: u32) -> u32
 
 // How many questions stand after `question` was answered `ok`.
 pub fn noted(stand: u32, question: u32, ok: bool) -> u32
-    requires { isQuestion question ≡ true }
-    ensures { result ≡ least stand (λ q. ifAsked question q ok) }
+    requires { is_question question ≡ true }
+    ensures { result ≡ least stand (λ q. if_asked question q ok) }
 {
     if ok {
         return stand;

@@ -1,7 +1,7 @@
 // Strings: a count and its bytes, well-formed UTF-8 (8).
 ghost use Rattle.std.specs.Prelude.{◌≡◌, ◌≤◌, length};
 ghost use Rattle.definitions.specs.Bytes.{text};
-ghost use Rattle.parts.specs.Judge.{judged, askText};
+ghost use Rattle.parts.specs.Judge.{judged, ask_text};
 
 use crate::numbers::number_at;
 use crate::questions::noted;
@@ -11,7 +11,7 @@ use utf8::is_utf8;
 // A string's count and bytes.
 pub fn check_string(tree: &[u8], at: usize, stand: u32) -> Passed
     requires { at ≤ length tree.now }
-    ensures { result ≡ judged askText text tree.now at stand }
+    ensures { result ≡ judged ask_text text tree.now at stand }
 {
     let count = number_at(tree, at);
     match count {

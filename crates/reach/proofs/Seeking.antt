@@ -7,97 +7,97 @@ use mathlib.Core.List.{List, [], ◌∷◌, ◌++◌, append_assoc, append-nil}
 use native.Mathlib.Omega.{arith}
 use lib.ListN.{length, get_or, set, drop, length-append, length-drop}
 use lib.Seq.{drop-cons, set-append_seam}
-use Rattle.definitions.specs.Bytes.{accepted, whenAccepted}
+use Rattle.definitions.specs.Bytes.{accepted, when_accepted}
 use Rattle.definitions.specs.Instruction.{Instr, Return}
 use Rattle.definitions.specs.Calls.{written}
-use Rattle.definitions.specs.Sheet.{isQuestion, oneIf}
-use Rattle.definitions.specs.Reach.{Brings, Finds, countFound, foundAnswer, bufferAfter}
-use Rattle.definitions.specs.Search.{asks, Way, Swept, byLink}
-use Rattle.definitions.proofs.Trails.{own, ownAnswers, brings, nowhere}
-use Rattle.reader.specs.View.{instructionsOf, start_of}
+use Rattle.definitions.specs.Sheet.{is_question, one_if}
+use Rattle.definitions.specs.Reach.{Brings, Finds, count_found, found_answer, buffer_after}
+use Rattle.definitions.specs.Search.{asks, Way, Swept, by_link}
+use Rattle.definitions.proofs.Trails.{own, own_answers, brings, nowhere}
+use Rattle.reader.specs.View.{instructions_of, start_of}
 use Rattle.run.specs.Pass.{Coded, Places}
 use Rattle.run.proofs.Coding.{op-here}
-use Rattle.search.specs.View.{marksOf, Searchable}
+use Rattle.search.specs.View.{marks_of, Searchable}
 use Rattle.search.proofs.Viewing.{mark-at}
-use Rattle.reach.specs.Tracing.{wayTo, Traceable}
+use Rattle.reach.specs.Tracing.{way_to, Traceable}
 use Rattle.reach.specs.Reaching.{said, Says, Seekable, Tracked}
 use Rattle.reach.specs.declared.Reached.TheVariants.{Answers, Nowhere}
 use Rattle.reach.proofs.Tracks.{way-is, traced-in}
 
 -- the opcode at a place
-module _ {c table : List ℕ} (h : Coded c) (P : Places c table) {k : ℕ} (l : k < length (instructionsOf c)) {at : ℕ} (e : at ≡ get_or table k 0) where
-  starts : at ≡ start_of (instructionsOf c) k
+module _ {c table : List ℕ} (h : Coded c) (P : Places c table) {k : ℕ} (l : k < length (instructions_of c)) {at : ℕ} (e : at ≡ get_or table k 0) where
+  starts : at ≡ start_of (instructions_of c) k
   starts = e ∙ P.at k l
 
   pub place_at : at < length c
   place_at = subst (λ (x : ℕ). x < length c) (sym starts) (op-here c h k l).0
 
-  pub op-at : get_or c at 0 ≡ (get_or (instructionsOf c) k Return).op
+  pub op-at : get_or c at 0 ≡ (get_or (instructions_of c) k Return).op
   op-at = ap (λ (x : ℕ). get_or c x 0) starts ∙ (op-here c h k l).1
 
 -- ---- what is said of code in which a place is sought
 
 -- answers that bring a run to the place
 says-answers : {code : List Instr} {place : ℕ} {out out' : List ℕ} (ys : List ℕ) → Brings code place ys → (k : ℕ) → k ≡ length ys → out' ≡ written ys out → Says (Answers k) (accepted code) place out out'
-unfolding Finds said foundAnswer countFound bufferAfter whenAccepted
+unfolding Finds said found_answer count_found buffer_after when_accepted
 says-answers ys B k e f = record { found = some ys; finds = B; answer = ap (λ (j : ℕ). accepted (some j)) e; leaves = f }
 
 -- ---- a marked place
 
-own-none : (b : Bool) → oneIf b ≡ 0 → own b ≡ []
-unfolding own oneIf
+own-none : (b : Bool) → one_if b ≡ 0 → own b ≡ []
+unfolding own one_if
 own-none true e = absurd (omega arith)
 own-none false e = refl
 
-own-some : (b : Bool) → (oneIf b ≡ 0 → ⊥) → own b ≡ 0 ∷ []
-unfolding own oneIf
+own-some : (b : Bool) → (one_if b ≡ 0 → ⊥) → own b ≡ 0 ∷ []
+unfolding own one_if
 own-some true e = refl
 own-some false e = absurd (e refl)
 
-own-one : (b : Bool) → (oneIf b ≡ 0 → ⊥) → oneIf b ≡ 1
-unfolding oneIf
+own-one : (b : Bool) → (one_if b ≡ 0 → ⊥) → one_if b ≡ 1
+unfolding one_if
 own-one true e = refl
 own-one false e = absurd (e refl)
 
 module _ {c table area out : List ℕ} {place : ℕ} (M : Tracked c table place area out) where
   abbrev pub traceable : Traceable area place
-  traceable = record { code = instructionsOf c; few = M.coded.few; long = M.long; way = M.way }
+  traceable = record { code = instructions_of c; few = M.coded.few; long = M.long; way = M.way }
 
-  pub count_fits : (count : ℕ) → count ≡ length (wayTo area place) → count ≤ length out
+  pub count_fits : (count : ℕ) → count ≡ length (way_to area place) → count ≤ length out
   count_fits count e = let a = ap length (way-is traceable) in let s = M.way.short in let f = M.fits in omega arith
 
-  pub marked-in : place < length (instructionsOf c)
+  pub marked-in : place < length (instructions_of c)
   marked-in = traced-in traceable
 
-  brought : Brings (instructionsOf c) place (M.way.answers ++ ownAnswers (instructionsOf c) place)
-  brought = brings (instructionsOf c) byLink (marksOf (length (instructionsOf c)) area) place M.way
+  brought : Brings (instructions_of c) place (M.way.answers ++ own_answers (instructions_of c) place)
+  brought = brings (instructions_of c) by_link (marks_of (length (instructions_of c)) area) place M.way
 
-  module _ {op : ℕ} (eo : op ≡ (get_or (instructionsOf c) place Return).op) {count : ℕ} (ec : count ≡ length (wayTo area place)) {mid : List ℕ} (em : mid ≡ written (wayTo area place) out) where
+  module _ {op : ℕ} (eo : op ≡ (get_or (instructions_of c) place Return).op) {count : ℕ} (ec : count ≡ length (way_to area place)) {mid : List ℕ} (em : mid ≡ written (way_to area place) out) where
     counted : count ≡ length M.way.answers
     counted = ec ∙ ap length (way-is traceable)
 
     stored : mid ≡ written M.way.answers out
     stored = em ∙ ap (λ (l : List ℕ). written l out) (way-is traceable)
 
-    here : oneIf (isQuestion op) ≡ oneIf (isQuestion (get_or (instructionsOf c) place Return).op)
-    here = ap (λ (x : ℕ). oneIf (isQuestion x)) eo
+    here : one_if (is_question op) ≡ one_if (is_question (get_or (instructions_of c) place Return).op)
+    here = ap (λ (x : ℕ). one_if (is_question x)) eo
 
     -- no question
-    pub no_own : oneIf (isQuestion op) ≡ 0 → Says (Answers count) (accepted (instructionsOf c)) place out mid
-    unfolding ownAnswers
+    pub no_own : one_if (is_question op) ≡ 0 → Says (Answers count) (accepted (instructions_of c)) place out mid
+    unfolding own_answers
     no_own z =
-        let o = own-none (isQuestion (get_or (instructionsOf c) place Return).op) (sym here ∙ z) in
+        let o = own-none (is_question (get_or (instructions_of c) place Return).op) (sym here ∙ z) in
         let a = ap (λ (l : List ℕ). M.way.answers ++ l) o ∙ append-nil M.way.answers in
-        says-answers M.way.answers (subst (λ (l : List ℕ). Brings (instructionsOf c) place l) a brought) count counted stored
+        says-answers M.way.answers (subst (λ (l : List ℕ). Brings (instructions_of c) place l) a brought) count counted stored
 
     -- a question, with its own answer
-    module _ (z : oneIf (isQuestion op) ≡ 0 → ⊥) where
-      asked : oneIf (isQuestion (get_or (instructionsOf c) place Return).op) ≡ 0 → ⊥
+    module _ (z : one_if (is_question op) ≡ 0 → ⊥) where
+      asked : one_if (is_question (get_or (instructions_of c) place Return).op) ≡ 0 → ⊥
       asked y = z (here ∙ y)
 
       room : length M.way.answers < length out
       unfolding asks
-      room = let s = M.way.short in let f = M.fits in let b = own-one (isQuestion (get_or (instructionsOf c) place Return).op) asked in omega arith
+      room = let s = M.way.short in let f = M.fits in let b = own-one (is_question (get_or (instructions_of c) place Return).op) asked in omega arith
 
       pub own_room : count < length mid
       unfolding written
@@ -117,13 +117,13 @@ module _ {c table area out : List ℕ} {place : ℕ} (M : Tracked c table place 
           ∙ sym (append_assoc ys (0 ∷ []) (drop (suc (length ys)) out))
           ∙ ap (λ (j : ℕ). (ys ++ (0 ∷ [])) ++ drop j out) (let y : suc (length ys) ≡ length (ys ++ (0 ∷ [])) = omega arith in y)
 
-      pub own-written : {left : List ℕ} → left ≡ set mid count 0 → Says (Answers (count + 1)) (accepted (instructionsOf c)) place out left
-      unfolding ownAnswers
+      pub own-written : {left : List ℕ} → left ≡ set mid count 0 → Says (Answers (count + 1)) (accepted (instructions_of c)) place out left
+      unfolding own_answers
       own-written e =
           let ys = M.way.answers in
-          let o = own-some (isQuestion (get_or (instructionsOf c) place Return).op) asked in
+          let o = own-some (is_question (get_or (instructions_of c) place Return).op) asked in
           let l = length-append ys (0 ∷ []) in let k = counted in
-          says-answers (ys ++ (0 ∷ [])) (subst (λ (l : List ℕ). Brings (instructionsOf c) place (ys ++ l)) o brought) (count + 1) (omega arith) (own-stored e)
+          says-answers (ys ++ (0 ∷ [])) (subst (λ (l : List ℕ). Brings (instructions_of c) place (ys ++ l)) o brought) (count + 1) (omega arith) (own-stored e)
 
 -- ---- before the search, and after it
 
@@ -131,12 +131,12 @@ module _ {c area out : List ℕ} {n place : ℕ} (S : Seekable c area n place ou
   pub ready : {table : List ℕ} → Places c table → Searchable c table area n
   ready P = record { coded = S.coded; starts = P; count = S.count; long = S.long }
 
-  module _ (area' : List ℕ) (l : length area' ≡ length area) (W : Swept byLink (instructionsOf c) (marksOf n area')) where
-    pub no_way : get_or area' (65536 + place) 0 ≡ 0 → Says Nowhere (accepted (instructionsOf c)) place out out
-    unfolding Finds said foundAnswer countFound bufferAfter whenAccepted
+  module _ (area' : List ℕ) (l : length area' ≡ length area) (W : Swept by_link (instructions_of c) (marks_of n area')) where
+    pub no_way : get_or area' (65536 + place) 0 ≡ 0 → Says Nowhere (accepted (instructions_of c)) place out out
+    unfolding Finds said found_answer count_found buffer_after when_accepted
     no_way e = record {
       found = none;
-      finds = nowhere byLink (instructionsOf c) (marksOf n area') W place (mark-at n area' place S.inside ∙ e);
+      finds = nowhere by_link (instructions_of c) (marks_of n area') W place (mark-at n area' place S.inside ∙ e);
       answer = refl;
       leaves = refl;
     }
@@ -146,6 +146,6 @@ module _ {c area out : List ℕ} {n place : ℕ} (S : Seekable c area n place ou
       coded = S.coded;
       starts = P;
       long = let z = S.long in omega arith;
-      way = subst (λ (k : ℕ). Way byLink (instructionsOf c) (marksOf k area') place) S.count (W.ways place (λ z. f (sym (mark-at n area' place S.inside) ∙ z)));
+      way = subst (λ (k : ℕ). Way by_link (instructions_of c) (marks_of k area') place) S.count (W.ways place (λ z. f (sym (mark-at n area' place S.inside) ∙ z)));
       fits = S.fits;
     }

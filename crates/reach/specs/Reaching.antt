@@ -3,12 +3,12 @@ use Rattle.std.specs.Prelude.{ℕ, ◌≤◌, ◌<◌, ◌≡◌, List, length}
 use Rattle.std.proofs.Math.Option.{Option, none, some}
 use Rattle.definitions.specs.Bytes.{Answer, refused, accepted}
 use Rattle.definitions.specs.Instruction.{Instr}
-use Rattle.definitions.specs.Sheet.{tally, isQuestion}
-use Rattle.definitions.specs.Reach.{Finds, foundAnswer, bufferAfter, ReachCall}
-use Rattle.definitions.specs.Search.{Way, byLink}
-use Rattle.reader.specs.View.{instructionsOf}
+use Rattle.definitions.specs.Sheet.{tally, is_question}
+use Rattle.definitions.specs.Reach.{Finds, found_answer, buffer_after, ReachCall}
+use Rattle.definitions.specs.Search.{Way, by_link}
+use Rattle.reader.specs.View.{instructions_of}
 use Rattle.run.specs.Pass.{Coded, Places}
-use Rattle.search.specs.View.{marksOf}
+use Rattle.search.specs.View.{marks_of}
 use Rattle.reach.specs.declared.Reached.{Reached}
 use Rattle.reach.specs.declared.Reached.TheVariants.{Answers, Nowhere, Refused}
 
@@ -22,8 +22,8 @@ said (Refused q) = refused q
 pub record Says (r : Reached) (s : Answer (List Instr)) (place : ℕ) (out out' : List ℕ) : Type 0 where
   pub found : Option (List ℕ)
   pub finds : Finds s place found
-  pub answer : said r ≡ foundAnswer s found
-  pub leaves : out' ≡ bufferAfter s found out
+  pub answer : said r ≡ found_answer s found
+  pub leaves : out' ≡ buffer_after s found out
 
 -- the call
 abbrev pub Gives : Reached → List ℕ → ℕ → ℕ → List ℕ → List ℕ → List ℕ → List ℕ → Type 0
@@ -34,15 +34,15 @@ Gives r bytes function place area area' out out' = ReachCall bytes function plac
 -- a place is in the code, there is an area to seek it, and room for the answers
 pub record Seekable (code area : List ℕ) (n place : ℕ) (out : List ℕ) : Type 0 where
   pub coded : Coded code
-  pub count : n ≡ length (instructionsOf code)
+  pub count : n ≡ length (instructions_of code)
   pub long : 131072 ≤ length area
   pub inside : place < n
-  pub fits : tally isQuestion (instructionsOf code) ≤ length out
+  pub fits : tally is_question (instructions_of code) ≤ length out
 
 -- a place that a search marked, and room for its answers
 pub record Tracked (code places : List ℕ) (place : ℕ) (area out : List ℕ) : Type 0 where
   pub coded : Coded code
   pub starts : Places code places
   pub long : 131072 ≤ length area
-  pub way : Way byLink (instructionsOf code) (marksOf (length (instructionsOf code)) area) place
-  pub fits : tally isQuestion (instructionsOf code) ≤ length out
+  pub way : Way by_link (instructions_of code) (marks_of (length (instructions_of code)) area) place
+  pub fits : tally is_question (instructions_of code) ≤ length out

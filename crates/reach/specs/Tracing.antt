@@ -1,12 +1,12 @@
 -- The way that the marks of a search show, back from a place. Assumes nothing: these are definitions.
 use Rattle.std.specs.Prelude.{ℕ, zero, suc, ◌-◌, ◌/◌, ◌%◌, ◌≤◌, ◌<◌, true, false, List, [], ◌++◌, length, get_or, set, drop, eqb}
 use Rattle.definitions.specs.Instruction.{Instr}
-use Rattle.definitions.specs.Search.{answersOf, Way, byLink}
-use Rattle.search.specs.View.{marksOf}
+use Rattle.definitions.specs.Search.{answers_of, Way, by_link}
+use Rattle.search.specs.View.{marks_of}
 
 -- of a mark: the place before, and the tag
-unfoldable pub beforeOf : ℕ → ℕ
-beforeOf m = (m - 1) / 4
+unfoldable pub before_of : ℕ → ℕ
+before_of m = (m - 1) / 4
 
 unfoldable pub tag_of : ℕ → ℕ
 tag_of m = (m - 1) % 4
@@ -15,18 +15,18 @@ tag_of m = (m - 1) % 4
 unfoldable pub trace : ℕ → List ℕ → ℕ → List ℕ
 trace zero marks q = []
 trace (suc n) marks q =
-    elim (eqb (get_or marks q 0) 4) [ true ↦ [] | false ↦ trace n marks (beforeOf (get_or marks q 0)) ++ answersOf (tag_of (get_or marks q 0)) ]
+    elim (eqb (get_or marks q 0) 4) [ true ↦ [] | false ↦ trace n marks (before_of (get_or marks q 0)) ++ answers_of (tag_of (get_or marks q 0)) ]
 
 -- by the marks in an area
-unfoldable pub wayTo : List ℕ → ℕ → List ℕ
-wayTo area place = trace 65536 (drop 65536 area) place
+unfoldable pub way_to : List ℕ → ℕ → List ℕ
+way_to area place = trace 65536 (drop 65536 area) place
 
 -- the marks of some code show a way to the place
 pub record Traceable (area : List ℕ) (place : ℕ) : Type 0 where
   pub code : List Instr
   pub few : length code < 65536
   pub long : 131072 ≤ length area
-  pub way : Way byLink code (marksOf (length code) area) place
+  pub way : Way by_link code (marks_of (length code) area) place
 
 -- an answer before `at`, if the tag has one
 unfoldable pub put_back : ℕ → ℕ → List ℕ → List ℕ

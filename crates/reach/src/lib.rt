@@ -4,7 +4,7 @@ mod trace; // trace.rt: the way that the marks of a search show
 ghost use Rattle.std.specs.Prelude.{◌≤◌, length};
 ghost use Rattle.definitions.specs.Bytes.{accepted};
 ghost use Rattle.definitions.specs.Reach.{sought};
-ghost use Rattle.reader.specs.View.{instructionsOf};
+ghost use Rattle.reader.specs.View.{instructions_of};
 ghost use Rattle.reach.specs.Reaching.{Seekable, Tracked, Says, Gives};
 
 use crate::trace::{way_length, write_way};
@@ -28,7 +28,7 @@ pub enum Reached {
 // The answers on the way to a marked place, and one of its own where it is a question.
 fn write_answers(code: &[u8], places: &[u32], place: usize, area: &[u32], out: &mut [u8]) -> Reached
     requires { Tracked code.now places.now place area.now out.old }
-    ensures { Says result (accepted (instructionsOf code.now)) place out.old out.new }
+    ensures { Says result (accepted (instructions_of code.now)) place out.old out.new }
 {
     let count = way_length(area, place);
     write_way(area, place, count, out);
@@ -43,7 +43,7 @@ fn write_answers(code: &[u8], places: &[u32], place: usize, area: &[u32], out: &
 // The search in a function's code of n instructions, and the answers; the area keeps its table.
 fn reach_code(code: &[u8], n: usize, place: usize, area: &mut [u32], out: &mut [u8]) -> Reached
     requires { Seekable code.now area.old n place out.old }
-    ensures { Says result (accepted (instructionsOf code.now)) place out.old out.new }
+    ensures { Says result (accepted (instructions_of code.now)) place out.old out.new }
 {
     let mut places = [0u32; 65536];
     fill_places(code, &mut places);

@@ -9,11 +9,11 @@ use lib.ListN.{length, take, drop}
 use lib.Seq.{slice}
 use borrow.Author.Tests.{ne_eqb}
 use Rattle.definitions.specs.Bytes.{Name, give, field, counted, list_of, name, checked, all, below}
-use Rattle.definitions.specs.Wellformed.{isName, ifAsked}
+use Rattle.definitions.specs.Wellformed.{is_name, if_asked}
 use Rattle.definitions.specs.Tables.{Method}
-use Rattle.definitions.specs.Reader.{methodRecord, rising, classRecord}
-use Rattle.reader.specs.View.{skipAt, numberAt, Got}
-use Rattle.reader.specs.Asks.{askNext, askMethods, askMethod, askClass}
+use Rattle.definitions.specs.Reader.{method_record, rising, class_record}
+use Rattle.reader.specs.View.{skip_at, number_at, Got}
+use Rattle.reader.specs.Asks.{ask_next, ask_methods, ask_method, ask_class}
 use Rattle.reader.specs.declared.Counts.{Counts}
 use Rattle.reader.specs.declared.Skipped.{Skipped}
 use Rattle.reader.specs.declared.Skipped.TheVariants.{Next, Cut}
@@ -25,10 +25,10 @@ use Rattle.definitions.proofs.Begins.{takes-checked, takes-name}
 
 -- ---- a well formed name
 
-pub proper-cut : (t : List ℕ) (at : ℕ) → skipAt name t at ≡ Cut → skipAt (checked isName name) t at ≡ Cut
-proper-cut t at e = cut-unchecked isName name t at e
+pub proper-cut : (t : List ℕ) (at : ℕ) → skip_at name t at ≡ Cut → skip_at (checked is_name name) t at ≡ Cut
+proper-cut t at e = cut-unchecked is_name name t at e
 
-module _ (t : List ℕ) (at m : ℕ) (h : at ≤ length t) (r : skipAt name t at ≡ Next m) where
+module _ (t : List ℕ) (at m : ℕ) (h : at ≤ length t) (r : skip_at name t at ≡ Next m) where
   pub proper-range : (at + 1 ≤ m) × (m ≤ length t)
   proper-range = let g = got-at name takes-name t at m h r in let v = name-view t at g.0 m h g.1 in let e = v.1 in (omega arith, g.1.to)
 
@@ -36,85 +36,85 @@ module _ (t : List ℕ) (at m : ℕ) (h : at ≤ length t) (r : skipAt name t at
   proper-is = let g = got-at name takes-name t at m h r in subst (λ (x : Name). Got name t at x m) (name-view t at g.0 m h g.1).2 g.1
 
   -- the test of the bytes after the length
-  part-is : (b : Bool) → isName (take (m - (at + 1)) (drop (at + 1) t)) ≡ b → isName (slice (at + 1) m t) ≡ b
-  part-is b e = sym (ap isName (part_slice t (at + 1) m)) ∙ e
+  part-is : (b : Bool) → is_name (take (m - (at + 1)) (drop (at + 1) t)) ≡ b → is_name (slice (at + 1) m t) ≡ b
+  part-is b e = sym (ap is_name (part_slice t (at + 1) m)) ∙ e
 
-  pub proper-yes : isName (take (m - (at + 1)) (drop (at + 1) t)) ≡ true → skipAt (checked isName name) t at ≡ Next m
-  proper-yes e = skipped-got (checked isName name) t at (slice (at + 1) m t) m (got-checked isName name t at (slice (at + 1) m t) m proper-is (part-is true e))
+  pub proper-yes : is_name (take (m - (at + 1)) (drop (at + 1) t)) ≡ true → skip_at (checked is_name name) t at ≡ Next m
+  proper-yes e = skipped-got (checked is_name name) t at (slice (at + 1) m t) m (got-checked is_name name t at (slice (at + 1) m t) m proper-is (part-is true e))
 
-  pub proper-no : isName (take (m - (at + 1)) (drop (at + 1) t)) ≡ false → skipAt (checked isName name) t at ≡ Cut
-  proper-no e = cut-checked isName name t at (slice (at + 1) m t) m proper-is (part-is false e)
+  pub proper-no : is_name (take (m - (at + 1)) (drop (at + 1) t)) ≡ false → skip_at (checked is_name name) t at ≡ Cut
+  proper-no e = cut-checked is_name name t at (slice (at + 1) m t) m proper-is (part-is false e)
 
-pub proper-got : (t : List ℕ) (at m : ℕ) → at ≤ length t → skipAt (checked isName name) t at ≡ Next m → Got (checked isName name) t at (slice (at + 1) m t) m
+pub proper-got : (t : List ℕ) (at m : ℕ) → at ≤ length t → skip_at (checked is_name name) t at ≡ Next m → Got (checked is_name name) t at (slice (at + 1) m t) m
 proper-got t at m h r =
-    let g = got-at (checked isName name) (takes-checked isName name takes-name) t at m h r in
-    let k = got-tested isName name t at g.0 m g.1 in
-    subst (λ (x : Name). Got (checked isName name) t at x m) (name-view t at g.0 m h k.0).2 g.1
+    let g = got-at (checked is_name name) (takes-checked is_name name takes-name) t at m h r in
+    let k = got-tested is_name name t at g.0 m g.1 in
+    subst (λ (x : Name). Got (checked is_name name) t at x m) (name-view t at g.0 m h k.0).2 g.1
 
-pub proper-bounds : (t : List ℕ) (at m : ℕ) → at ≤ length t → skipAt (checked isName name) t at ≡ Next m → (at + 1 ≤ m) × (m ≤ length t)
+pub proper-bounds : (t : List ℕ) (at m : ℕ) → at ≤ length t → skip_at (checked is_name name) t at ≡ Next m → (at + 1 ≤ m) × (m ≤ length t)
 proper-bounds t at m h r =
-    let g = got-at (checked isName name) (takes-checked isName name takes-name) t at m h r in
-    let k = got-tested isName name t at g.0 m g.1 in
+    let g = got-at (checked is_name name) (takes-checked is_name name takes-name) t at m h r in
+    let k = got-tested is_name name t at g.0 m g.1 in
     let v = name-view t at g.0 m h k.0 in let e = v.1 in (omega arith, g.1.to)
 
 -- ---- methods
 
 module _ (c : Counts) (x y : Name) (f : ℕ) where
-  pub next-above : (q : ℕ) → below x y ≡ true → q ≡ 20 → askNext q c x y f ≡ ltb f c.functions
-  unfolding askNext ifAsked
-  next-above q e k = ap₂ (λ (b : Bool) (j : ℕ). b && ifAsked 20 j (ltb f c.functions)) e k
+  pub next-above : (q : ℕ) → below x y ≡ true → q ≡ 20 → ask_next q c x y f ≡ ltb f c.functions
+  unfolding ask_next if_asked
+  next-above q e k = ap₂ (λ (b : Bool) (j : ℕ). b && if_asked 20 j (ltb f c.functions)) e k
 
-  pub next-only : (q : ℕ) → below x y ≡ true → (q ≡ 20 → ⊥) → askNext q c x y f ≡ true
-  unfolding askNext ifAsked
+  pub next-only : (q : ℕ) → below x y ≡ true → (q ≡ 20 → ⊥) → ask_next q c x y f ≡ true
+  unfolding ask_next if_asked
   next-only q e k = simp (e, ne_eqb q 20 k)
 
-  pub next-not : (q : ℕ) → below x y ≡ false → askNext q c x y f ≡ false
-  unfolding askNext
+  pub next-not : (q : ℕ) → below x y ≡ false → ask_next q c x y f ≡ false
+  unfolding ask_next
   next-not q e = simp e
 
 module _ (t : List ℕ) (q : ℕ) (c : Counts) where
   -- n methods from `at` on, after one of the name x
-  unfoldable pub methodsFrom : Name → ℕ → ℕ → Skipped
-  methodsFrom x n at = skipAt (checked (askMethods q c x) (counted [] ◌∷◌ methodRecord n)) t at
+  unfoldable pub methods_from : Name → ℕ → ℕ → Skipped
+  methods_from x n at = skip_at (checked (ask_methods q c x) (counted [] ◌∷◌ method_record n)) t at
 
-  pub methods-short : (at : ℕ) → at ≤ length t → length t - at < 2 → skipAt (checked (askMethods q c []) (list_of 2 methodRecord)) t at ≡ Cut
-  methods-short at h l = pass-no-count methodRecord t (askMethods q c []) at h l
+  pub methods-short : (at : ℕ) → at ≤ length t → length t - at < 2 → skip_at (checked (ask_methods q c []) (list_of 2 method_record)) t at ≡ Cut
+  methods-short at h l = pass-no-count method_record t (ask_methods q c []) at h l
 
-  pub methods-begin : (at n : ℕ) → 2 ≤ length t - at → n ≡ numberAt 2 t at → skipAt (checked (askMethods q c []) (list_of 2 methodRecord)) t at ≡ methodsFrom (slice 0 0 t) n (at + 2)
-  unfolding methodsFrom
-  methods-begin at n h k = pass-count methodRecord t (askMethods q c []) at h ∙ sym (ap (λ (j : ℕ). skipAt (checked (askMethods q c []) (counted [] ◌∷◌ methodRecord j)) t (at + 2)) k)
+  pub methods-begin : (at n : ℕ) → 2 ≤ length t - at → n ≡ number_at 2 t at → skip_at (checked (ask_methods q c []) (list_of 2 method_record)) t at ≡ methods_from (slice 0 0 t) n (at + 2)
+  unfolding methods_from
+  methods-begin at n h k = pass-count method_record t (ask_methods q c []) at h ∙ sym (ap (λ (j : ℕ). skip_at (checked (ask_methods q c []) (counted [] ◌∷◌ method_record j)) t (at + 2)) k)
 
-  pub methods-end : (x : Name) (n at : ℕ) → n ≤ 0 → at ≤ length t → methodsFrom x n at ≡ Next at
-  unfolding methodsFrom askMethods
-  methods-end x n at h l = pass-end methodRecord t (askMethods q c x) n at h l refl
+  pub methods-end : (x : Name) (n at : ℕ) → n ≤ 0 → at ≤ length t → methods_from x n at ≡ Next at
+  unfolding methods_from ask_methods
+  methods-end x n at h l = pass-end method_record t (ask_methods q c x) n at h l refl
 
   module _ (x : Name) (n p : ℕ) (h : 0 < n) (l : p ≤ length t) where
-    pub methods-cut : skipAt (checked isName name) t p ≡ Cut → methodsFrom x n p ≡ Cut
-    unfolding methodsFrom methodRecord
-    methods-cut r = pass-cut methodRecord t (askMethods q c x) n p h (skip-cut (checked isName name) _ t p r)
+    pub methods-cut : skip_at (checked is_name name) t p ≡ Cut → methods_from x n p ≡ Cut
+    unfolding methods_from method_record
+    methods-cut r = pass-cut method_record t (ask_methods q c x) n p h (skip-cut (checked is_name name) _ t p r)
 
-    module _ (e : ℕ) (r : skipAt (checked isName name) t p ≡ Next e) where
-      pub methods-no-number : length t - e < 2 → methodsFrom x n p ≡ Cut
-      unfolding methodsFrom methodRecord
-      methods-no-number s = let b = proper-bounds t p e l r in pass-cut methodRecord t (askMethods q c x) n p h
-          (skip-next (checked isName name) _ t p (slice (p + 1) e t) e (proper-got t p e l r) ∙ skip-cut (field 2) _ t e (skip-field 2 t e b.1 (omega arith)))
+    module _ (e : ℕ) (r : skip_at (checked is_name name) t p ≡ Next e) where
+      pub methods-no-number : length t - e < 2 → methods_from x n p ≡ Cut
+      unfolding methods_from method_record
+      methods-no-number s = let b = proper-bounds t p e l r in pass-cut method_record t (ask_methods q c x) n p h
+          (skip-next (checked is_name name) _ t p (slice (p + 1) e t) e (proper-got t p e l r) ∙ skip-cut (field 2) _ t e (skip-field 2 t e b.1 (omega arith)))
 
-      module _ (s : 2 ≤ length t - e) (f : ℕ) (k : f ≡ numberAt 2 t e) where
-        method-got : Got methodRecord t p (record { name = slice (p + 1) e t; function = f }) (e + 2)
-        unfolding methodRecord
+      module _ (s : 2 ≤ length t - e) (f : ℕ) (k : f ≡ number_at 2 t e) where
+        method-got : Got method_record t p (record { name = slice (p + 1) e t; function = f }) (e + 2)
+        unfolding method_record
         method-got = let b = proper-bounds t p e l r in
-            got-bind (checked isName name) _ t p (slice (p + 1) e t) e _ (e + 2) (proper-got t p e l r)
+            got-bind (checked is_name name) _ t p (slice (p + 1) e t) e _ (e + 2) (proper-got t p e l r)
             (got-bind (field 2) _ t e f (e + 2) _ (e + 2) (subst (λ (j : ℕ). Got (field 2) t e j (e + 2)) (sym k) (got-field 2 t e (omega arith)))
             (got-give (record { name = slice (p + 1) e t; function = f }) t (e + 2) (omega arith)))
 
-        pub methods-next : askNext q c x (slice (p + 1) e t) f ≡ true → methodsFrom x n p ≡ methodsFrom (slice (p + 1) e t) (n - 1) (e + 2)
-        unfolding methodsFrom askMethods
-        methods-next a = pass-next methodRecord t (askMethods q c x) (askMethods q c (slice (p + 1) e t)) n p _ (e + 2) h method-got
-            (λ ms. ap (λ (b : Bool). b && askMethods q c (slice (p + 1) e t) ms) a)
+        pub methods-next : ask_next q c x (slice (p + 1) e t) f ≡ true → methods_from x n p ≡ methods_from (slice (p + 1) e t) (n - 1) (e + 2)
+        unfolding methods_from ask_methods
+        methods-next a = pass-next method_record t (ask_methods q c x) (ask_methods q c (slice (p + 1) e t)) n p _ (e + 2) h method-got
+            (λ ms. ap (λ (b : Bool). b && ask_methods q c (slice (p + 1) e t) ms) a)
 
-        pub methods-fail : askNext q c x (slice (p + 1) e t) f ≡ false → methodsFrom x n p ≡ Cut
-        unfolding methodsFrom askMethods
-        methods-fail a = pass-fail methodRecord t (askMethods q c x) n p _ (e + 2) h method-got (λ ms. ap (λ (b : Bool). b && askMethods q c (slice (p + 1) e t) ms) a)
+        pub methods-fail : ask_next q c x (slice (p + 1) e t) f ≡ false → methods_from x n p ≡ Cut
+        unfolding methods_from ask_methods
+        methods-fail a = pass-fail method_record t (ask_methods q c x) n p _ (e + 2) h method-got (λ ms. ap (λ (b : Bool). b && ask_methods q c (slice (p + 1) e t) ms) a)
 
 -- ---- classes
 
@@ -131,54 +131,54 @@ regroup true m a = refl
 regroup false m a = refl
 
 module _ (q : ℕ) (c : Counts) where
-  rises : (m : Method) (ms : List Method) → (rising (m ∷ ms) && all (askMethod q c) (m ∷ ms)) ≡ (askMethod q c m && askMethods q c m.name ms)
-  unfolding rising all askMethods askNext askMethod
+  rises : (m : Method) (ms : List Method) → (rising (m ∷ ms) && all (ask_method q c) (m ∷ ms)) ≡ (ask_method q c m && ask_methods q c m.name ms)
+  unfolding rising all ask_methods ask_next ask_method
   rises m [] = refl
   rises m (n ∷ ms) =
-      shuffle (below m.name n.name) (rising (n ∷ ms)) (askMethod q c m) (all (askMethod q c) (n ∷ ms))
-      ∙ ap (λ (b : Bool). askMethod q c m && (below m.name n.name && b)) (rises n ms)
-      ∙ ap (λ (b : Bool). askMethod q c m && b) (regroup (below m.name n.name) (askMethod q c n) (askMethods q c n.name ms))
+      shuffle (below m.name n.name) (rising (n ∷ ms)) (ask_method q c m) (all (ask_method q c) (n ∷ ms))
+      ∙ ap (λ (b : Bool). ask_method q c m && (below m.name n.name && b)) (rises n ms)
+      ∙ ap (λ (b : Bool). ask_method q c m && b) (regroup (below m.name n.name) (ask_method q c n) (ask_methods q c n.name ms))
 
   -- the first method's name is well formed
   FirstNamed : List Method → Type 0
   FirstNamed [] = Unit {0}
-  FirstNamed (m ∷ ms) = isName m.name ≡ true
+  FirstNamed (m ∷ ms) = is_name m.name ≡ true
 
-  above-none : (x : Name) → isName x ≡ true → below [] x ≡ true
-  unfolding isName below
+  above-none : (x : Name) → is_name x ≡ true → below [] x ≡ true
+  unfolding is_name below
   above-none [] e = e
   above-none (y ∷ ys) e = refl
 
-  rises-first : (ms : List Method) → FirstNamed ms → (rising ms && all (askMethod q c) ms) ≡ askMethods q c [] ms
-  unfolding rising all askMethods askNext askMethod FirstNamed
+  rises-first : (ms : List Method) → FirstNamed ms → (rising ms && all (ask_method q c) ms) ≡ ask_methods q c [] ms
+  unfolding rising all ask_methods ask_next ask_method FirstNamed
   rises-first [] f = refl
-  rises-first (m ∷ ms) f = rises m ms ∙ sym (ap (λ (b : Bool). b && ifAsked 20 q (ltb m.function c.functions) && askMethods q c m.name ms) (above-none m.name f))
+  rises-first (m ∷ ms) f = rises m ms ∙ sym (ap (λ (b : Bool). b && if_asked 20 q (ltb m.function c.functions) && ask_methods q c m.name ms) (above-none m.name f))
 
-  method-named : (bs : List ℕ) → Sat (λ (m : Method). isName m.name ≡ true) (methodRecord bs)
-  unfolding methodRecord give
-  method-named bs = sat-bind (λ x. isName x ≡ true) (λ m. isName m.name ≡ true) (checked isName name) _ bs (sat-checked isName name bs)
-      (λ x rest e. sat-bind (λ f. Unit {0}) (λ m. isName m.name ≡ true) (field 2) _ rest (sat-any (field 2 rest)) (λ f r u. e))
+  method-named : (bs : List ℕ) → Sat (λ (m : Method). is_name m.name ≡ true) (method_record bs)
+  unfolding method_record give
+  method-named bs = sat-bind (λ x. is_name x ≡ true) (λ m. is_name m.name ≡ true) (checked is_name name) _ bs (sat-checked is_name name bs)
+      (λ x rest e. sat-bind (λ f. Unit {0}) (λ m. is_name m.name ≡ true) (field 2) _ rest (sat-any (field 2 rest)) (λ f r u. e))
 
-  first-named : (n : ℕ) (bs : List ℕ) → Sat FirstNamed (counted [] ◌∷◌ methodRecord n bs)
+  first-named : (n : ℕ) (bs : List ℕ) → Sat FirstNamed (counted [] ◌∷◌ method_record n bs)
   unfolding counted give FirstNamed
   first-named zero bs = tt
-  first-named (suc n) bs = sat-bind (λ m. isName m.name ≡ true) FirstNamed methodRecord _ bs (method-named bs)
-      (λ m rest e. sat-bind (λ ms. Unit {0}) FirstNamed (counted [] ◌∷◌ methodRecord n) _ rest (sat-any (counted [] ◌∷◌ methodRecord n rest)) (λ ms r u. e))
+  first-named (suc n) bs = sat-bind (λ m. is_name m.name ≡ true) FirstNamed method_record _ bs (method-named bs)
+      (λ m rest e. sat-bind (λ ms. Unit {0}) FirstNamed (counted [] ◌∷◌ method_record n) _ rest (sat-any (counted [] ◌∷◌ method_record n rest)) (λ ms r u. e))
 
-  list-named : (bs : List ℕ) → Sat FirstNamed (list_of 2 methodRecord bs)
+  list-named : (bs : List ℕ) → Sat FirstNamed (list_of 2 method_record bs)
   unfolding list_of
   list-named bs = sat-bind (λ n. Unit {0}) FirstNamed (field 2) _ bs (sat-any (field 2 bs)) (λ n rest u. first-named n rest)
 
   module _ (t : List ℕ) (at : ℕ) where
-    pub class-cut : skipAt (checked isName name) t at ≡ Cut → skipAt (checked (askClass q c) classRecord) t at ≡ Cut
-    unfolding classRecord
-    class-cut r = checked-cut (askClass q c) (checked isName name) _ t at r
+    pub class-cut : skip_at (checked is_name name) t at ≡ Cut → skip_at (checked (ask_class q c) class_record) t at ≡ Cut
+    unfolding class_record
+    class-cut r = checked-cut (ask_class q c) (checked is_name name) _ t at r
 
-    pub class-next : (m : ℕ) → at ≤ length t → skipAt (checked isName name) t at ≡ Next m →
-        skipAt (checked (askClass q c) classRecord) t at ≡ skipAt (checked (askMethods q c []) (list_of 2 methodRecord)) t m
-    unfolding classRecord askClass
+    pub class-next : (m : ℕ) → at ≤ length t → skip_at (checked is_name name) t at ≡ Next m →
+        skip_at (checked (ask_class q c) class_record) t at ≡ skip_at (checked (ask_methods q c []) (list_of 2 method_record)) t m
+    unfolding class_record ask_class
     class-next m h r =
-        checked-next (askClass q c) (checked isName name) _ t at (slice (at + 1) m t) m (proper-got t at m h r)
-        ∙ checked-give (askClass q c) (checked rising (list_of 2 methodRecord)) (λ ms. record { name = slice (at + 1) m t; methods = ms }) t m
-        ∙ checked-twice (λ ms. all (askMethod q c) ms) rising (list_of 2 methodRecord) t m
-        ∙ checked-same FirstNamed (λ ms. rising ms && all (askMethod q c) ms) (askMethods q c []) (list_of 2 methodRecord) t m (list-named (drop m t)) rises-first
+        checked-next (ask_class q c) (checked is_name name) _ t at (slice (at + 1) m t) m (proper-got t at m h r)
+        ∙ checked-give (ask_class q c) (checked rising (list_of 2 method_record)) (λ ms. record { name = slice (at + 1) m t; methods = ms }) t m
+        ∙ checked-twice (λ ms. all (ask_method q c) ms) rising (list_of 2 method_record) t m
+        ∙ checked-same FirstNamed (λ ms. rising ms && all (ask_method q c) ms) (ask_methods q c []) (list_of 2 method_record) t m (list-named (drop m t)) rises-first

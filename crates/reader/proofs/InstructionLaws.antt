@@ -9,9 +9,9 @@ use lib.Dec.{leb}
 use lib.ListN.{length, drop, get_or, length-drop}
 use borrow.Author.Tests.{le-leb, lt-leb}
 use Rattle.definitions.specs.Bytes.{Parsed, got, failed, Parser, ◌>>=◌, give, unread, byte, field, keep, checked}
-use Rattle.definitions.specs.Instruction.{Instr, instr, firstWidth, secondWidth}
+use Rattle.definitions.specs.Instruction.{Instr, instr, first_width, second_width}
 use Rattle.definitions.specs.Reader.{instruction}
-use Rattle.reader.specs.View.{skipped, skipAt, found, found_at, numberAt, Got}
+use Rattle.reader.specs.View.{skipped, skip_at, found, found_at, number_at, Got}
 use Rattle.reader.specs.declared.Skipped.TheVariants.{Cut}
 use Rattle.reader.specs.declared.Found.TheVariants.{Instruction, Nothing}
 use lib.Seq.{drop-drop}
@@ -24,25 +24,25 @@ unfolding checked keep give
 got-checked test p t at a m g e =
     record { is = bind_is p (λ a. keep (test a) a) (drop at t) a (drop m t) g.is ∙ ap (λ (b : Bool). keep b a (drop m t)) e; from = g.from; to = g.to }
 
-pub cut-checked : {A : Type 0} (test : A → Bool) (p : Parser A) (t : List ℕ) (at : ℕ) (a : A) (m : ℕ) → Got p t at a m → test a ≡ false → skipAt (checked test p) t at ≡ Cut
-unfolding checked keep unread skipAt skipped
+pub cut-checked : {A : Type 0} (test : A → Bool) (p : Parser A) (t : List ℕ) (at : ℕ) (a : A) (m : ℕ) → Got p t at a m → test a ≡ false → skip_at (checked test p) t at ≡ Cut
+unfolding checked keep unread skip_at skipped
 cut-checked test p t at a m g e = skip-next p (λ a. keep (test a) a) t at a m g ∙ ap (λ (b : Bool). skipped (length t) (keep b a (drop m t))) e
 
-pub cut-unchecked : {A : Type 0} (test : A → Bool) (p : Parser A) (t : List ℕ) (at : ℕ) → skipAt p t at ≡ Cut → skipAt (checked test p) t at ≡ Cut
+pub cut-unchecked : {A : Type 0} (test : A → Bool) (p : Parser A) (t : List ℕ) (at : ℕ) → skip_at p t at ≡ Cut → skip_at (checked test p) t at ≡ Cut
 unfolding checked
 cut-unchecked test p t at e = skip-cut p _ t at e
 
 -- nothing is found where nothing is read
-pub found-cut : (t : List ℕ) (at : ℕ) → skipAt instruction t at ≡ Cut → found_at t at ≡ Nothing
-unfolding skipAt found_at skipped found
+pub found-cut : (t : List ℕ) (at : ℕ) → skip_at instruction t at ≡ Cut → found_at t at ≡ Nothing
+unfolding skip_at found_at skipped found
 found-cut t at e = go (instruction (drop at t)) e
   where
     go : (r : Parsed Instr) → skipped (length t) r ≡ Cut → found (length t) r ≡ Nothing
     go (got i rest) e = let z : ◌≡◌ {A = ℕ} 0 1 = cc in absurd (omega arith)
     go (failed why) e = refl
 
-pub cut-found : (t : List ℕ) (at : ℕ) → found_at t at ≡ Nothing → skipAt instruction t at ≡ Cut
-unfolding skipAt found_at skipped found
+pub cut-found : (t : List ℕ) (at : ℕ) → found_at t at ≡ Nothing → skip_at instruction t at ≡ Cut
+unfolding skip_at found_at skipped found
 cut-found t at e = go (instruction (drop at t)) e
   where
     go : (r : Parsed Instr) → found (length t) r ≡ Nothing → skipped (length t) r ≡ Cut
@@ -74,21 +74,21 @@ found-is t at op a b m h e = go (instruction (drop at t)) refl (takes-instructio
     go (failed why) i w e = never e
 
 module _ (t : List ℕ) (at : ℕ) where
-  pub no_byte : length t ≤ at → found_at t at ≡ Nothing
-  unfolding instruction skipAt skipped
-  no_byte h = found-cut t at (skip-cut (checked (λ op. leb op 45) byte) _ t at (cut-unchecked (λ op. leb op 45) byte t at (ap (skipped (length t)) (at-end t at h))))
+  pub no-byte : length t ≤ at → found_at t at ≡ Nothing
+  unfolding instruction skip_at skipped
+  no-byte h = found-cut t at (skip-cut (checked (λ op. leb op 45) byte) _ t at (cut-unchecked (λ op. leb op 45) byte t at (ap (skipped (length t)) (at-end t at h))))
 
   pub no-opcode : at < length t → 45 < get_or t at 0 → found_at t at ≡ Nothing
   unfolding instruction
   no-opcode h l = found-cut t at (skip-cut (checked (λ op. leb op 45) byte) _ t at
       (cut-checked (λ op. leb op 45) byte t at (get_or t at 0) (at + 1) (got-byte t at h) (lt-leb (get_or t at 0) 45 l)))
 
-  module _ (h : at < length t) (l : get_or t at 0 ≤ 45) (w v : ℕ) (ew : w ≡ firstWidth (get_or t at 0)) (ev : v ≡ secondWidth (get_or t at 0)) where
+  module _ (h : at < length t) (l : get_or t at 0 ≤ 45) (w v : ℕ) (ew : w ≡ first_width (get_or t at 0)) (ev : v ≡ second_width (get_or t at 0)) where
     opcode : Got (checked (λ op. leb op 45) byte) t at (get_or t at 0) (at + 1)
     opcode = got-checked (λ op. leb op 45) byte t at (get_or t at 0) (at + 1) (got-byte t at h) (le-leb (get_or t at 0) 45 l)
 
     operands : ℕ → Parser Instr
-    operands op = field (firstWidth op) >>= λ a. field (secondWidth op) >>= λ b. give (instr op a b)
+    operands op = field (first_width op) >>= λ a. field (second_width op) >>= λ b. give (instr op a b)
 
     known : ℕ → ℕ → Parser Instr
     known x y = field x >>= λ a. field y >>= λ b. give (instr (get_or t at 0) a b)
@@ -101,25 +101,25 @@ module _ (t : List ℕ) (at : ℕ) where
     unfolding instruction operands known
     no-operands s = found-cut t at
         (skip-next (checked (λ op. leb op 45) byte) operands t at (get_or t at 0) (at + 1) opcode
-        ∙ ap (λ (p : Parser Instr). skipAt p t (at + 1)) known_is
+        ∙ ap (λ (p : Parser Instr). skip_at p t (at + 1)) known_is
         ∙ ⊎_elim
         (λ (k : at + 1 + w ≤ length t).
-        skip-next (field w) (λ a. field v >>= λ b. give (instr (get_or t at 0) a b)) t (at + 1) (numberAt w t (at + 1)) (at + 1 + w) (got-field w t (at + 1) k)
+        skip-next (field w) (λ a. field v >>= λ b. give (instr (get_or t at 0) a b)) t (at + 1) (number_at w t (at + 1)) (at + 1 + w) (got-field w t (at + 1) k)
         ∙ skip-cut (field v) _ t (at + 1 + w) (skip-field v t (at + 1 + w) k (omega arith)))
         (λ (k : length t < at + 1 + w). skip-cut (field w) _ t (at + 1) (skip-field w t (at + 1) (omega arith) k))
         (le-or-gt (at + 1 + w) (length t)))
 
-    pub got-instruction : w + v ≤ length t - at - 1 → Got instruction t at (instr (get_or t at 0) (numberAt w t (at + 1)) (numberAt v t (at + 1 + w))) (at + 1 + w + v)
+    pub got-instruction : w + v ≤ length t - at - 1 → Got instruction t at (instr (get_or t at 0) (number_at w t (at + 1)) (number_at v t (at + 1 + w))) (at + 1 + w + v)
     unfolding instruction operands known
     got-instruction s = got-bind (checked (λ op. leb op 45) byte) operands t at (get_or t at 0) (at + 1) i (at + 1 + w + v) opcode
         (subst (λ (p : Parser Instr). Got p t (at + 1) i (at + 1 + w + v)) (sym known_is)
-        (got-bind (field w) (λ a. field v >>= λ b. give (instr (get_or t at 0) a b)) t (at + 1) (numberAt w t (at + 1)) (at + 1 + w) i (at + 1 + w + v) (got-field w t (at + 1) (omega arith))
-        (got-bind (field v) (λ b. give (instr (get_or t at 0) (numberAt w t (at + 1)) b)) t (at + 1 + w) (numberAt v t (at + 1 + w)) (at + 1 + w + v) i (at + 1 + w + v) (got-field v t (at + 1 + w) (omega arith))
+        (got-bind (field w) (λ a. field v >>= λ b. give (instr (get_or t at 0) a b)) t (at + 1) (number_at w t (at + 1)) (at + 1 + w) i (at + 1 + w + v) (got-field w t (at + 1) (omega arith))
+        (got-bind (field v) (λ b. give (instr (get_or t at 0) (number_at w t (at + 1)) b)) t (at + 1 + w) (number_at v t (at + 1 + w)) (at + 1 + w + v) i (at + 1 + w + v) (got-field v t (at + 1 + w) (omega arith))
         (got-give i t (at + 1 + w + v) (omega arith)))))
       where
         i : Instr
-        i = instr (get_or t at 0) (numberAt w t (at + 1)) (numberAt v t (at + 1 + w))
+        i = instr (get_or t at 0) (number_at w t (at + 1)) (number_at v t (at + 1 + w))
 
-    pub yes-instruction : (op a b m : ℕ) → op ≡ get_or t at 0 → a ≡ numberAt w t (at + 1) → b ≡ numberAt v t (at + 1 + w) → m ≡ at + 1 + w + v →
+    pub yes-instruction : (op a b m : ℕ) → op ≡ get_or t at 0 → a ≡ number_at w t (at + 1) → b ≡ number_at v t (at + 1 + w) → m ≡ at + 1 + w + v →
         w + v ≤ length t - at - 1 → found_at t at ≡ Instruction op a b m
     yes-instruction op a b m e f g k s = found-got t at _ (at + 1 + w + v) (got-instruction s) ∙ cc

@@ -9,7 +9,7 @@ use Rattle.definitions.specs.Bytes.{Parsed, got, failed, Parser, ◌>>=◌, give
 use Rattle.definitions.specs.Instruction.{Instr, instr, Return, encode, encodes}
 use Rattle.definitions.specs.Reader.{instruction}
 use Rattle.definitions.proofs.Lengths.{length-encode, spans-instruction}
-use Rattle.reader.specs.View.{found, found_at, instructionsIn, instructionsOf, met, metAt, start_of}
+use Rattle.reader.specs.View.{found, found_at, instructions_in, instructions_of, met, met_at, start_of}
 use Rattle.reader.specs.declared.Found.TheVariants.{Instruction, Nothing}
 use Rattle.reader.specs.declared.Cursor.{Cursor}
 use Rattle.reader.specs.declared.Met.TheVariants.{At, End}
@@ -18,8 +18,8 @@ use Rattle.definitions.proofs.Begins.{Rest, takes-instruction}
 
 -- ---- the call
 
-pub met-found : (t : List ℕ) (c : Cursor) (op a b m : ℕ) → found_at t c.at ≡ Instruction op a b m → At op a b (record { place = c.place + 1; at = m }) ≡ metAt t c
-unfolding found_at found metAt met
+pub met-found : (t : List ℕ) (c : Cursor) (op a b m : ℕ) → found_at t c.at ≡ Instruction op a b m → At op a b (record { place = c.place + 1; at = m }) ≡ met_at t c
+unfolding found_at found met_at met
 met-found t c op a b m e = go (instruction (drop c.at t)) e
   where
     go : (r : Parsed Instr) → found (length t) r ≡ Instruction op a b m → At op a b (record { place = c.place + 1; at = m }) ≡ met (length t) c.place r
@@ -28,8 +28,8 @@ met-found t c op a b m e = go (instruction (drop c.at t)) e
         sym (λ z. At (e1 z) (e2 z) (e3 z) (record { place = c.place + 1; at = e4 z }))
     go (failed q) e = let z : ◌≡◌ {A = ℕ} 0 1 = cc in absurd (omega arith)
 
-pub met-nothing : (t : List ℕ) (c : Cursor) → found_at t c.at ≡ Nothing → End ≡ metAt t c
-unfolding found_at found metAt met
+pub met-nothing : (t : List ℕ) (c : Cursor) → found_at t c.at ≡ Nothing → End ≡ met_at t c
+unfolding found_at found met_at met
 met-nothing t c e = go (instruction (drop c.at t)) e
   where
     go : (r : Parsed Instr) → found (length t) r ≡ Nothing → End ≡ met (length t) c.place r
@@ -51,54 +51,54 @@ shorter : (bs : List ℕ) (i : Instr) (rest : List ℕ) → instruction bs ≡ g
 shorter bs i rest e = let k = spans-instruction.at bs i rest e in let l = length-encode i in omega arith
 
 -- more would not be read
-enough : (k m : ℕ) (bs : List ℕ) → length bs ≤ k → length bs ≤ m → instructionsIn k bs ≡ instructionsIn m bs
-unfolding instructionsIn
+enough : (k m : ℕ) (bs : List ℕ) → length bs ≤ k → length bs ≤ m → instructions_in k bs ≡ instructions_in m bs
+unfolding instructions_in
 enough zero zero bs h l = refl
 enough zero (suc m) bs h l = go (instruction bs) refl
   where
-    go : (r : Parsed Instr) → instruction bs ≡ r → ◌≡◌ {A = List Instr} [] (elim r as (λ x. List Instr) [ got i rest ↦ i ∷ instructionsIn m rest | failed q ↦ [] ])
+    go : (r : Parsed Instr) → instruction bs ≡ r → ◌≡◌ {A = List Instr} [] (elim r as (λ x. List Instr) [ got i rest ↦ i ∷ instructions_in m rest | failed q ↦ [] ])
     go (got i rest) e = let z = shorter bs i rest e in absurd (omega arith)
     go (failed q) e = refl
 enough (suc k) zero bs h l = go (instruction bs) refl
   where
-    go : (r : Parsed Instr) → instruction bs ≡ r → ◌≡◌ {A = List Instr} (elim r as (λ x. List Instr) [ got i rest ↦ i ∷ instructionsIn k rest | failed q ↦ [] ]) []
+    go : (r : Parsed Instr) → instruction bs ≡ r → ◌≡◌ {A = List Instr} (elim r as (λ x. List Instr) [ got i rest ↦ i ∷ instructions_in k rest | failed q ↦ [] ]) []
     go (got i rest) e = let z = shorter bs i rest e in absurd (omega arith)
     go (failed q) e = refl
 enough (suc k) (suc m) bs h l = go (instruction bs) refl (λ rest a b. enough k m rest a b)
   where
-    go : (r : Parsed Instr) → instruction bs ≡ r → ((rest : List ℕ) → length rest ≤ k → length rest ≤ m → instructionsIn k rest ≡ instructionsIn m rest)
-        → ◌≡◌ {A = List Instr} (elim r as (λ x. List Instr) [ got i rest ↦ i ∷ instructionsIn k rest | failed q ↦ [] ]) (elim r as (λ x. List Instr) [ got i rest ↦ i ∷ instructionsIn m rest | failed q ↦ [] ])
+    go : (r : Parsed Instr) → instruction bs ≡ r → ((rest : List ℕ) → length rest ≤ k → length rest ≤ m → instructions_in k rest ≡ instructions_in m rest)
+        → ◌≡◌ {A = List Instr} (elim r as (λ x. List Instr) [ got i rest ↦ i ∷ instructions_in k rest | failed q ↦ [] ]) (elim r as (λ x. List Instr) [ got i rest ↦ i ∷ instructions_in m rest | failed q ↦ [] ])
     go (got i rest) e f = let z = shorter bs i rest e in ap (λ (is : List Instr). i ∷ is) (f rest (omega arith) (omega arith))
     go (failed q) e f = refl
 
-pub instructions-next : (bs : List ℕ) (i : Instr) (rest : List ℕ) → instruction bs ≡ got i rest → instructionsOf bs ≡ i ∷ instructionsOf rest
-unfolding instructionsOf instructionsIn
+pub instructions-next : (bs : List ℕ) (i : Instr) (rest : List ℕ) → instruction bs ≡ got i rest → instructions_of bs ≡ i ∷ instructions_of rest
+unfolding instructions_of instructions_in
 instructions-next bs i rest e =
     enough (length bs) (suc (length bs)) bs (omega arith) (omega arith) ∙ ap the e
     ∙ ap (λ (is : List Instr). i ∷ is) (enough (length bs) (length rest) rest (let z = shorter bs i rest e in omega arith) (omega arith))
   where
     the : Parsed Instr → List Instr
-    the r = elim r [ got i rest ↦ i ∷ instructionsIn (length bs) rest | failed q ↦ [] ]
+    the r = elim r [ got i rest ↦ i ∷ instructions_in (length bs) rest | failed q ↦ [] ]
 
-pub instructions-end : (bs : List ℕ) (q : ℕ) → instruction bs ≡ failed q → instructionsOf bs ≡ []
-unfolding instructionsOf instructionsIn
+pub instructions-end : (bs : List ℕ) (q : ℕ) → instruction bs ≡ failed q → instructions_of bs ≡ []
+unfolding instructions_of instructions_in
 instructions-end bs q e = enough (length bs) (suc (length bs)) bs (omega arith) (omega arith) ∙ ap the e
   where
     the : Parsed Instr → List Instr
-    the r = elim r [ got i rest ↦ i ∷ instructionsIn (length bs) rest | failed q ↦ [] ]
+    the r = elim r [ got i rest ↦ i ∷ instructions_in (length bs) rest | failed q ↦ [] ]
 
-instructions-none : instructionsOf [] ≡ []
-unfolding instructionsOf instructionsIn
+instructions-none : instructions_of [] ≡ []
+unfolding instructions_of instructions_in
 instructions-none = refl
 
 -- the iteration: an instruction and what is left after it, or nothing left
-pub met_at : (t : List ℕ) (c : Cursor) (op a b : ℕ) (n : Cursor) → c.at ≤ length t → metAt t c ≡ At op a b n →
-    (instructionsOf (drop c.at t) ≡ instr op a b ∷ instructionsOf (drop n.at t)) × (n.place ≡ c.place + 1) × (n.at ≤ length t) × (n.at ≡ c.at + length (encode (instr op a b)))
-unfolding metAt met
-met_at t c op a b n h e = go (instruction (drop c.at t)) refl (takes-instruction.rest (drop c.at t)) e
+pub met-at : (t : List ℕ) (c : Cursor) (op a b : ℕ) (n : Cursor) → c.at ≤ length t → met_at t c ≡ At op a b n →
+    (instructions_of (drop c.at t) ≡ instr op a b ∷ instructions_of (drop n.at t)) × (n.place ≡ c.place + 1) × (n.at ≤ length t) × (n.at ≡ c.at + length (encode (instr op a b)))
+unfolding met_at met
+met-at t c op a b n h e = go (instruction (drop c.at t)) refl (takes-instruction.rest (drop c.at t)) e
   where
     go : (r : Parsed Instr) → instruction (drop c.at t) ≡ r → Rest instruction (drop c.at t) r → met (length t) c.place r ≡ At op a b n →
-        (instructionsOf (drop c.at t) ≡ instr op a b ∷ instructionsOf (drop n.at t)) × (n.place ≡ c.place + 1) × (n.at ≤ length t) × (n.at ≡ c.at + length (encode (instr op a b)))
+        (instructions_of (drop c.at t) ≡ instr op a b ∷ instructions_of (drop n.at t)) × (n.place ≡ c.place + 1) × (n.at ≤ length t) × (n.at ≡ c.at + length (encode (instr op a b)))
     go (got i rest) k w e =
         let e1 : i.op ≡ op = cc in let e2 : i.a ≡ a = cc in let e3 : i.b ≡ b = cc in
         let e4 : ◌≡◌ {A = Cursor} (record { place = c.place + 1; at = length t - length rest }) n = cc in
@@ -109,18 +109,18 @@ met_at t c op a b n h e = go (instruction (drop c.at t)) refl (takes-instruction
         let u : w.0 ≤ length t - c.at = subst (λ (x : ℕ). w.0 ≤ x) (length-drop c.at t) w.1 in
         let v : c.at + w.0 ≡ n.at = omega arith in
         let s = spans-instruction.at (drop c.at t) i rest k in let x = length-drop c.at t in let y = ap (λ (j : Instr). length (encode j)) same in (
-          instructions-next (drop c.at t) i rest k ∙ ap₂ (λ (j : Instr) (bs : List ℕ). j ∷ instructionsOf bs) same (d ∙ ap (λ (j : ℕ). drop j t) v),
+          instructions-next (drop c.at t) i rest k ∙ ap₂ (λ (j : Instr) (bs : List ℕ). j ∷ instructions_of bs) same (d ∙ ap (λ (j : ℕ). drop j t) v),
           sym (ap (λ (x : Cursor). x.place) e4),
           omega arith,
           omega arith,
         )
     go (failed q) k w e = let z : ◌≡◌ {A = ℕ} 0 1 = cc in absurd (omega arith)
 
-pub met-end : (t : List ℕ) (c : Cursor) → metAt t c ≡ End → instructionsOf (drop c.at t) ≡ []
-unfolding metAt met
+pub met-end : (t : List ℕ) (c : Cursor) → met_at t c ≡ End → instructions_of (drop c.at t) ≡ []
+unfolding met_at met
 met-end t c e = go (instruction (drop c.at t)) refl e
   where
-    go : (r : Parsed Instr) → instruction (drop c.at t) ≡ r → met (length t) c.place r ≡ End → instructionsOf (drop c.at t) ≡ []
+    go : (r : Parsed Instr) → instruction (drop c.at t) ≡ r → met (length t) c.place r ≡ End → instructions_of (drop c.at t) ≡ []
     go (got i rest) k e = let z : ◌≡◌ {A = ℕ} 0 1 = cc in absurd (omega arith)
     go (failed q) k e = instructions-end (drop c.at t) q k
 
@@ -147,11 +147,11 @@ unfolding counted give
 none_left p bs xs e = ((let z : bs ≡ [] = cc in z), (let z : xs ≡ [] = cc in z))
 
 -- the instructions are those that were read
-pub code_is : (n : ℕ) (bs : List ℕ) (is : List Instr) → counted [] ◌∷◌ instruction n bs ≡ got is [] → instructionsOf bs ≡ is
-code_is zero bs is e = let k = none_left instruction bs is e in ap instructionsOf k.0 ∙ instructions-none ∙ sym k.1
-code_is (suc n) bs is e =
+pub code-is : (n : ℕ) (bs : List ℕ) (is : List Instr) → counted [] ◌∷◌ instruction n bs ≡ got is [] → instructions_of bs ≡ is
+code-is zero bs is e = let k = none_left instruction bs is e in ap instructions_of k.0 ∙ instructions-none ∙ sym k.1
+code-is (suc n) bs is e =
     let k = split instruction n bs is [] e in
-    instructions-next bs k.0 k.2 k.3 ∙ ap (λ (js : List Instr). k.0 ∷ js) (code_is n k.2 k.1 k.4) ∙ sym k.5
+    instructions-next bs k.0 k.2 k.3 ∙ ap (λ (js : List Instr). k.0 ∷ js) (code-is n k.2 k.1 k.4) ∙ sym k.5
 
 rest-is : (bs : List ℕ) (i : Instr) (rest : List ℕ) → instruction bs ≡ got i rest → rest ≡ drop (length (encode i)) bs
 rest-is bs i rest e =

@@ -8,7 +8,7 @@ use native.Mathlib.Numerals.{add-one}
 use lib.ListN.{length, drop, take, get_or, length-drop}
 use lib.Seq.{slice, slice_empty, slice-cons}
 use Rattle.definitions.specs.Bytes.{Name, got, Parser, ◌>>=◌, give, byte, field, counted, list_of, name, below}
-use Rattle.reader.specs.View.{skipAt, numberAt, Got}
+use Rattle.reader.specs.View.{skip_at, number_at, Got}
 use Rattle.reader.specs.declared.Skipped.TheVariants.{Cut}
 use Rattle.reader.proofs.Taken.{skip-cut, skip-next, skip-field, got-field, got-bind, got-byte, got-give, bytes_cut, skipped-got}
 use Rattle.definitions.proofs.Begins.{le-or-gt}
@@ -37,11 +37,11 @@ parts_below t i j k l = ap₂ below (part_slice t i j) (part_slice t k l)
 
 -- ---- names that are read
 
-pub number-one : (t : List ℕ) (p : ℕ) → numberAt 1 t p ≡ get_or t p 0
-unfolding numberAt
+pub number-one : (t : List ℕ) (p : ℕ) → number_at 1 t p ≡ get_or t p 0
+unfolding number_at
 number-one t p = omega arith
 
-pub read-not-cut : {A : Type 0} {B : Type 0} (p : Parser A) (t : List ℕ) (at : ℕ) (a : A) (m : ℕ) → Got p t at a m → skipAt p t at ≡ Cut → B
+pub read-not-cut : {A : Type 0} {B : Type 0} (p : Parser A) (t : List ℕ) (at : ℕ) (a : A) (m : ℕ) → Got p t at a m → skip_at p t at ≡ Cut → B
 read-not-cut p t at a m g e = let k = sym (skipped-got p t at a m g) ∙ e in let z : ◌≡◌ {A = ℕ} 0 1 = cc in absurd (omega arith)
 
 -- a reader reads one thing
@@ -72,16 +72,16 @@ name-view t at x m h g = ⊎_elim
     (λ (l : at < length t).
     let f = got-field 1 t at (omega arith) in
     ⊎_elim
-    (λ (k : at + 1 + numberAt 1 t at ≤ length t).
-    let r = got-bind (field 1) (λ n. counted [] ◌∷◌ byte n) t at (numberAt 1 t at) (at + 1) _ (at + 1 + numberAt 1 t at) f (got-bytes t (numberAt 1 t at) (at + 1) k) in
-    let e = same_read (list_of 1 byte) t at x m _ (at + 1 + numberAt 1 t at) g r in
+    (λ (k : at + 1 + number_at 1 t at ≤ length t).
+    let r = got-bind (field 1) (λ n. counted [] ◌∷◌ byte n) t at (number_at 1 t at) (at + 1) _ (at + 1 + number_at 1 t at) f (got-bytes t (number_at 1 t at) (at + 1) k) in
+    let e = same_read (list_of 1 byte) t at x m _ (at + 1 + number_at 1 t at) g r in
     let o = number-one t at in
     let em : m ≡ at + 1 + get_or t at 0 = e.1 ∙ ap (λ (k : ℕ). at + 1 + k) o in
     (l, em, e.0 ∙ ap (λ (k : ℕ). slice (at + 1) k t) (sym e.1)))
-    (λ (k : length t < at + 1 + numberAt 1 t at).
-    never (skip-next (field 1) (λ n. counted [] ◌∷◌ byte n) t at (numberAt 1 t at) (at + 1) f ∙ bytes_cut t (numberAt 1 t at) (at + 1) (omega arith) (omega arith)))
-    (le-or-gt (at + 1 + numberAt 1 t at) (length t)))
+    (λ (k : length t < at + 1 + number_at 1 t at).
+    never (skip-next (field 1) (λ n. counted [] ◌∷◌ byte n) t at (number_at 1 t at) (at + 1) f ∙ bytes_cut t (number_at 1 t at) (at + 1) (omega arith) (omega arith)))
+    (le-or-gt (at + 1 + number_at 1 t at) (length t)))
     (le-or-gt (length t) at)
   where
-    never : skipAt (list_of 1 byte) t at ≡ Cut → (at < length t) × (m ≡ at + 1 + get_or t at 0) × (x ≡ slice (at + 1) m t)
+    never : skip_at (list_of 1 byte) t at ≡ Cut → (at < length t) × (m ≡ at + 1 + get_or t at 0) × (x ≡ slice (at + 1) m t)
     never e = read-not-cut name t at x m g e

@@ -2,9 +2,9 @@
 ghost use Rattle.std.specs.Prelude.{◌≡◌, [], ◌≤◌, length};
 ghost use Rattle.definitions.specs.Bytes.{list_of, field, checked, all};
 ghost use Rattle.std.proofs.Math.Seq.{slice};
-ghost use Rattle.definitions.specs.Reader.{methodRecord, classRecord};
-ghost use Rattle.reader.specs.Asks.{askConstant, askNext, askMethods, askClass};
-ghost use Rattle.reader.specs.View.{skipAt};
+ghost use Rattle.definitions.specs.Reader.{method_record, class_record};
+ghost use Rattle.reader.specs.Asks.{ask_constant, ask_next, ask_methods, ask_class};
+ghost use Rattle.reader.specs.View.{skip_at};
 
 use crate::names::skip_proper;
 use crate::numbers::number_at;
@@ -14,7 +14,7 @@ use byte_tests::below_bytes;
 // A constant is the number of a class.
 fn ask_constant(bytes: &[u8], at: usize, question: u8, c: Counts) -> Skipped
     requires { at ≤ length bytes.now }
-    ensures { result ≡ skipAt (checked (askConstant question c) (field 2)) bytes.now at }
+    ensures { result ≡ skip_at (checked (ask_constant question c) (field 2)) bytes.now at }
 {
     if bytes.len() - at < 2 {
         return Skipped::Cut;
@@ -31,7 +31,7 @@ fn ask_constant(bytes: &[u8], at: usize, question: u8, c: Counts) -> Skipped
 // A question of the counted constants at `at`.
 pub(crate) fn ask_constants(bytes: &[u8], at: usize, question: u8, c: Counts) -> Skipped
     requires { at ≤ length bytes.now }
-    ensures { result ≡ skipAt (checked (all (askConstant question c)) (list_of 2 (field 2))) bytes.now at }
+    ensures { result ≡ skip_at (checked (all (ask_constant question c)) (list_of 2 (field 2))) bytes.now at }
 {
     if bytes.len() - at < 2 {
         return Skipped::Cut;
@@ -61,7 +61,7 @@ fn ask_next(
     function: u64,
 ) -> bool
     requires { (from ≤ to) × (to ≤ length bytes.now) × (from2 ≤ to2) × (to2 ≤ length bytes.now) }
-    ensures { result ≡ askNext question c (slice from to bytes.now) (slice from2 to2 bytes.now) function }
+    ensures { result ≡ ask_next question c (slice from to bytes.now) (slice from2 to2 bytes.now) function }
 {
     if below_bytes(&bytes[from..to], &bytes[from2..to2]) {
         if question == 20 {
@@ -75,7 +75,7 @@ fn ask_next(
 // A question of the counted methods at `at`.
 fn ask_methods(bytes: &[u8], at: usize, question: u8, c: Counts) -> Skipped
     requires { at ≤ length bytes.now }
-    ensures { result ≡ skipAt (checked (askMethods question c []) (list_of 2 methodRecord)) bytes.now at }
+    ensures { result ≡ skip_at (checked (ask_methods question c []) (list_of 2 method_record)) bytes.now at }
 {
     if bytes.len() - at < 2 {
         return Skipped::Cut;
@@ -108,7 +108,7 @@ fn ask_methods(bytes: &[u8], at: usize, question: u8, c: Counts) -> Skipped
 // A question of the class at `at`.
 fn ask_class(bytes: &[u8], at: usize, question: u8, c: Counts) -> Skipped
     requires { at ≤ length bytes.now }
-    ensures { result ≡ skipAt (checked (askClass question c) classRecord) bytes.now at }
+    ensures { result ≡ skip_at (checked (ask_class question c) class_record) bytes.now at }
 {
     let named = skip_proper(bytes, at);
     let Skipped::Next(next) = named else {
@@ -120,7 +120,7 @@ fn ask_class(bytes: &[u8], at: usize, question: u8, c: Counts) -> Skipped
 // A question of the counted classes at `at`.
 pub(crate) fn ask_classes(bytes: &[u8], at: usize, question: u8, c: Counts) -> Skipped
     requires { at ≤ length bytes.now }
-    ensures { result ≡ skipAt (checked (all (askClass question c)) (list_of 2 classRecord)) bytes.now at }
+    ensures { result ≡ skip_at (checked (all (ask_class question c)) (list_of 2 class_record)) bytes.now at }
 {
     if bytes.len() - at < 2 {
         return Skipped::Cut;

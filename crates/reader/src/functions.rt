@@ -1,9 +1,9 @@
 // Questions 19 to 21 of the functions.
 ghost use Rattle.std.specs.Prelude.{◌≡◌, [], ◌∷◌, ◌≤◌, ◌<◌, length};
 ghost use Rattle.definitions.specs.Bytes.{list_of, counted, checked, all};
-ghost use Rattle.definitions.specs.Reader.{instruction, functionRecord};
-ghost use Rattle.reader.specs.Asks.{askCode, askFunction};
-ghost use Rattle.reader.specs.View.{skipAt};
+ghost use Rattle.definitions.specs.Reader.{instruction, function_record};
+ghost use Rattle.reader.specs.Asks.{ask_code, ask_function};
+ghost use Rattle.reader.specs.View.{skip_at};
 
 use crate::instructions::instruction_at;
 use crate::numbers::number_at;
@@ -14,7 +14,7 @@ use numerals::sizes::FUNCTION_HEAD;
 // A question of n instructions from `at` on.
 fn ask_code(bytes: &[u8], at: usize, question: u8, c: Counts, n: u64, slots: u64) -> Skipped
     requires { (at ≤ length bytes.now) × (n < 65536) }
-    ensures { result ≡ skipAt (checked (askCode question c n slots 0) (counted [] ◌∷◌ instruction n)) bytes.now at }
+    ensures { result ≡ skip_at (checked (ask_code question c n slots 0) (counted [] ◌∷◌ instruction n)) bytes.now at }
 {
     let mut p = at;
     let mut place = 0u64;
@@ -36,7 +36,7 @@ fn ask_code(bytes: &[u8], at: usize, question: u8, c: Counts, n: u64, slots: u64
 // A question of the function at `at`.
 pub(crate) fn ask_function(bytes: &[u8], at: usize, question: u8, c: Counts) -> Skipped
     requires { at ≤ length bytes.now }
-    ensures { result ≡ skipAt (checked (askFunction question c) functionRecord) bytes.now at }
+    ensures { result ≡ skip_at (checked (ask_function question c) function_record) bytes.now at }
 {
     if bytes.len() - at < FUNCTION_HEAD {
         return Skipped::Cut;
@@ -54,7 +54,7 @@ pub(crate) fn ask_function(bytes: &[u8], at: usize, question: u8, c: Counts) -> 
 // A question of the counted functions at `at`.
 pub(crate) fn ask_functions(bytes: &[u8], at: usize, question: u8, c: Counts) -> Skipped
     requires { at ≤ length bytes.now }
-    ensures { result ≡ skipAt (checked (all (askFunction question c)) (list_of 2 functionRecord)) bytes.now at }
+    ensures { result ≡ skip_at (checked (all (ask_function question c)) (list_of 2 function_record)) bytes.now at }
 {
     if bytes.len() - at < 2 {
         return Skipped::Cut;

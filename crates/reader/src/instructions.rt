@@ -1,6 +1,6 @@
 // Instructions: one at a position, and those of a code in order.
 ghost use Rattle.std.specs.Prelude.{◌≡◌, ◌≤◌};
-ghost use Rattle.reader.specs.View.{found_at, metAt};
+ghost use Rattle.reader.specs.View.{found_at, met_at};
 
 use crate::numbers::number_at;
 use crate::{Cursor, Found, Met};
@@ -31,7 +31,7 @@ pub fn instruction_at(bytes: &[u8], at: usize) -> Found
 // The instructions of a function's code in order: from the place 0 at 0 on, each with its place.
 pub fn next_instruction(code: &[u8], c: Cursor) -> Met
     requires { c.place ≤ c.at }
-    ensures { result ≡ metAt code.now c }
+    ensures { result ≡ met_at code.now c }
 {
     let found = instruction_at(code, c.at);
     let Found::Instruction(op, a, b, next) = found else {

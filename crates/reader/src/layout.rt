@@ -1,7 +1,7 @@
 // The whole module: the head, the five lists, and the questions of what they hold.
 ghost use Rattle.std.specs.Prelude.{◌≡◌, ◌≤◌, length, drop};
-ghost use Rattle.definitions.specs.Reader.{moduleRecord, wholeModule};
-ghost use Rattle.reader.specs.Asks.{countsOf};
+ghost use Rattle.definitions.specs.Reader.{module_record, whole_module};
+ghost use Rattle.reader.specs.Asks.{counts_of};
 ghost use Rattle.reader.specs.View.{Lays, LaidOut, tables_of, Heads, said, bare, Opens};
 
 use crate::classes::{ask_classes, ask_constants};
@@ -53,7 +53,7 @@ fn lay(bytes: &[u8]) -> Laid
 // The counts of a module's lists.
 fn counts_of(bytes: &[u8], a: usize, b: usize, c: usize, d: usize) -> Counts
     requires { LaidOut bytes.now a b c d }
-    ensures { result ≡ countsOf (tables_of bytes.now) }
+    ensures { result ≡ counts_of (tables_of bytes.now) }
 {
     let symbols = number_at(bytes, HEAD, 2);
     let strings = number_at(bytes, a, 2);
@@ -72,7 +72,7 @@ fn counts_of(bytes: &[u8], a: usize, b: usize, c: usize, d: usize) -> Counts
 // Questions 20 and 21, of a module that follows the layout.
 fn judge(bytes: &[u8], a: usize, b: usize, c: usize, d: usize) -> Verdict
     requires { LaidOut bytes.now a b c d }
-    ensures { said result ≡ bare (wholeModule (moduleRecord (drop 5 bytes.now))) }
+    ensures { said result ≡ bare (whole_module (module_record (drop 5 bytes.now))) }
 {
     let counts = counts_of(bytes, a, b, c, d);
     let functions = ask_functions(bytes, b, 20, counts);

@@ -1,8 +1,8 @@
 // Names and strings: the first two lists of a module, and the names of classes and methods.
 ghost use Rattle.std.specs.Prelude.{◌≡◌, ◌≤◌, length};
 ghost use Rattle.definitions.specs.Bytes.{name, text, list_of, checked};
-ghost use Rattle.definitions.specs.Wellformed.{isName};
-ghost use Rattle.reader.specs.View.{skipAt, string};
+ghost use Rattle.definitions.specs.Wellformed.{is_name};
+ghost use Rattle.reader.specs.View.{skip_at, string};
 
 use crate::Skipped;
 use crate::numbers::{number_at, skip_bytes};
@@ -12,7 +12,7 @@ use utf8::is_utf8;
 // A name: a length byte and as many bytes.
 fn skip_name(bytes: &[u8], at: usize) -> Skipped
     requires { at ≤ length bytes.now }
-    ensures { result ≡ skipAt name bytes.now at }
+    ensures { result ≡ skip_at name bytes.now at }
 {
     if bytes.len() - at < 1 {
         return Skipped::Cut;
@@ -24,7 +24,7 @@ fn skip_name(bytes: &[u8], at: usize) -> Skipped
 // A count and as many bytes.
 fn skip_text(bytes: &[u8], at: usize) -> Skipped
     requires { at ≤ length bytes.now }
-    ensures { result ≡ skipAt text bytes.now at }
+    ensures { result ≡ skip_at text bytes.now at }
 {
     if bytes.len() - at < 2 {
         return Skipped::Cut;
@@ -36,7 +36,7 @@ fn skip_text(bytes: &[u8], at: usize) -> Skipped
 // A string: a text that is well-formed UTF-8.
 fn skip_string(bytes: &[u8], at: usize) -> Skipped
     requires { at ≤ length bytes.now }
-    ensures { result ≡ skipAt string bytes.now at }
+    ensures { result ≡ skip_at string bytes.now at }
 {
     let one = skip_text(bytes, at);
     let Skipped::Next(next) = one else {
@@ -52,7 +52,7 @@ fn skip_string(bytes: &[u8], at: usize) -> Skipped
 // The counted symbols at `at`.
 pub(crate) fn skip_symbols(bytes: &[u8], at: usize) -> Skipped
     requires { at ≤ length bytes.now }
-    ensures { result ≡ skipAt (list_of 2 name) bytes.now at }
+    ensures { result ≡ skip_at (list_of 2 name) bytes.now at }
 {
     if bytes.len() - at < 2 {
         return Skipped::Cut;
@@ -73,7 +73,7 @@ pub(crate) fn skip_symbols(bytes: &[u8], at: usize) -> Skipped
 // The counted strings at `at`.
 pub(crate) fn skip_strings(bytes: &[u8], at: usize) -> Skipped
     requires { at ≤ length bytes.now }
-    ensures { result ≡ skipAt (list_of 2 string) bytes.now at }
+    ensures { result ≡ skip_at (list_of 2 string) bytes.now at }
 {
     if bytes.len() - at < 2 {
         return Skipped::Cut;
@@ -94,7 +94,7 @@ pub(crate) fn skip_strings(bytes: &[u8], at: usize) -> Skipped
 // A well formed name.
 pub(crate) fn skip_proper(bytes: &[u8], at: usize) -> Skipped
     requires { at ≤ length bytes.now }
-    ensures { result ≡ skipAt (checked isName name) bytes.now at }
+    ensures { result ≡ skip_at (checked is_name name) bytes.now at }
 {
     let one = skip_name(bytes, at);
     let Skipped::Next(next) = one else {

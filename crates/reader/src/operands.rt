@@ -1,16 +1,16 @@
 // Questions 20 and 21 of one instruction.
 ghost use Rattle.std.specs.Prelude.{◌≡◌, ◌<◌};
-ghost use Rattle.definitions.specs.Instruction.{numbersOf};
+ghost use Rattle.definitions.specs.Instruction.{numbers_of};
 ghost use Rattle.definitions.specs.Builtins.{registry};
-ghost use Rattle.definitions.specs.Reader.{isBuiltin, landing};
-ghost use Rattle.reader.specs.Asks.{kind_of, existsIn, opStands, askOp, askHead};
+ghost use Rattle.definitions.specs.Reader.{is_builtin, landing};
+ghost use Rattle.reader.specs.Asks.{kind_of, exists_in, op_stands, ask_op, ask_head};
 
 use crate::Counts;
 use numerals::{op_bytes, op_places};
 
 // A built-in has the id.
 fn is_builtin(n: u64) -> bool
-    ensures { result ≡ isBuiltin registry n }
+    ensures { result ≡ is_builtin registry n }
 {
     match n {
         0 => true,
@@ -32,7 +32,7 @@ fn is_builtin(n: u64) -> bool
 
 // What an instruction's first operand numbers.
 fn kind_of(op: usize) -> u8
-    ensures { result ≡ kind_of (numbersOf op) }
+    ensures { result ≡ kind_of (numbers_of op) }
 {
     match op {
         op_places::CONST_STR => 1,
@@ -53,7 +53,7 @@ fn kind_of(op: usize) -> u8
 
 // A number of that kind exists.
 fn number_exists(c: Counts, slots: u64, kind: u8, n: u64) -> bool
-    ensures { result ≡ existsIn c slots kind n }
+    ensures { result ≡ exists_in c slots kind n }
 {
     match kind {
         0 => true,
@@ -78,7 +78,7 @@ pub fn jump_target(place: u64, a: u64) -> u64
 // A jump lands, and the last instruction is Return.
 fn op_stands(n: u64, place: u64, op: u8, a: u64) -> bool
     requires { place < 4294967296 }
-    ensures { result ≡ opStands n place op a }
+    ensures { result ≡ op_stands n place op a }
 {
     if place + 1 == n {
         if op != op_bytes::RETURN {
@@ -105,7 +105,7 @@ pub(crate) fn ask_op(
     a: u64,
 ) -> bool
     requires { (place < 4294967296) × (op < 46) }
-    ensures { result ≡ askOp question c n slots place op a }
+    ensures { result ≡ ask_op question c n slots place op a }
 {
     if question == 20 {
         return number_exists(c, slots, kind_of(op as usize), a);
@@ -118,7 +118,7 @@ pub(crate) fn ask_op(
 
 // A question of a function's name and count of instructions.
 pub(crate) fn ask_head(question: u8, c: Counts, name: u64, n: u64) -> bool
-    ensures { result ≡ askHead question c name n }
+    ensures { result ≡ ask_head question c name n }
 {
     if question == 20 {
         return name < c.symbols;

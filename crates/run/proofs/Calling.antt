@@ -9,15 +9,15 @@ use lib.Dec.{leb}
 use lib.ListN.{length, take, drop, get_or, length-take, length-drop, drop_of_length-le, get_or-eq_default}
 use lib.Seq.{drop-cons, length-take-le, get_or-drop, get_or-take}
 use borrow.Author.Tests.{le-leb, lt-leb, leb-true, leb-false}
-use Rattle.definitions.specs.Bytes.{Parsed, got, counted, all, Answer, refused, accepted, whenAccepted}
+use Rattle.definitions.specs.Bytes.{Parsed, got, counted, all, Answer, refused, accepted, when_accepted}
 use Rattle.definitions.specs.Instruction.{Instr}
 use Rattle.definitions.specs.Tables.{Tables}
-use Rattle.definitions.specs.Reader.{instruction, readModule, endsInReturn, jumpsLand}
+use Rattle.definitions.specs.Reader.{instruction, read_module, ends_in_return, jumps_land}
 use Rattle.definitions.specs.Run.{Ran, ended, run}
-use Rattle.definitions.specs.Calls.{Counts, functionOf, areAnswers, eventsFit, runFunction, runAnswer, ranCounts, ranCall, runCall, outputAfter, written}
-use Rattle.reader.specs.View.{functionIn, CodeAt, instructionsOf}
+use Rattle.definitions.specs.Calls.{Counts, function_of, are_answers, events_fit, run_function, run_answer, ran_counts, ran_call, run_call, output_after, written}
+use Rattle.reader.specs.View.{function_in, CodeAt, instructions_of}
 use Rattle.reader.proofs.Encoding.{Small}
-use Rattle.reader.proofs.Iterated.{code_is, reads-code, bytes-are}
+use Rattle.reader.proofs.Iterated.{code-is, reads-code, bytes-are}
 use Rattle.run.specs.declared.Outcome.{Outcome}
 use Rattle.run.specs.declared.Outcome.TheVariants.{Finished, Refused}
 use Rattle.run.specs.declared.Stand.{Stand}
@@ -31,19 +31,19 @@ use Rattle.definitions.proofs.Begins.{Rest, takes-counted, takes-instruction}
 -- ---- question 23
 
 module _ (xs : List ℕ) (i : ℕ) (h : i < length xs) where
-  one_more : areAnswers (drop i xs) ≡ (leb (get_or xs i 0) 1 && areAnswers (drop (i + 1) xs))
-  unfolding areAnswers all
-  one_more = ap areAnswers (drop-cons xs i 0 h ∙ ap (λ (j : ℕ). get_or xs i 0 ∷ drop j xs) (sym (add-one i)))
+  one-more : are_answers (drop i xs) ≡ (leb (get_or xs i 0) 1 && are_answers (drop (i + 1) xs))
+  unfolding are_answers all
+  one-more = ap are_answers (drop-cons xs i 0 h ∙ ap (λ (j : ℕ). get_or xs i 0 ∷ drop j xs) (sym (add-one i)))
 
-  pub answer-stands : get_or xs i 0 ≤ 1 → areAnswers (drop i xs) ≡ areAnswers (drop (i + 1) xs)
-  answer-stands l = one_more ∙ ap (λ (b : Bool). b && areAnswers (drop (i + 1) xs)) (le-leb (get_or xs i 0) 1 l)
+  pub answer-stands : get_or xs i 0 ≤ 1 → are_answers (drop i xs) ≡ are_answers (drop (i + 1) xs)
+  answer-stands l = one-more ∙ ap (λ (b : Bool). b && are_answers (drop (i + 1) xs)) (le-leb (get_or xs i 0) 1 l)
 
-  pub answer-falls : 1 < get_or xs i 0 → areAnswers (drop i xs) ≡ false
-  answer-falls l = one_more ∙ ap (λ (b : Bool). b && areAnswers (drop (i + 1) xs)) (lt-leb (get_or xs i 0) 1 l)
+  pub answer-falls : 1 < get_or xs i 0 → are_answers (drop i xs) ≡ false
+  answer-falls l = one-more ∙ ap (λ (b : Bool). b && are_answers (drop (i + 1) xs)) (lt-leb (get_or xs i 0) 1 l)
 
-pub answers-end : (xs : List ℕ) (i : ℕ) → length xs ≤ i → areAnswers (drop i xs) ≡ true
-unfolding areAnswers all
-answers-end xs i h = ap areAnswers (drop_of_length-le xs h)
+pub answers-end : (xs : List ℕ) (i : ℕ) → length xs ≤ i → are_answers (drop i xs) ≡ true
+unfolding are_answers all
+answers-end xs i h = ap are_answers (drop_of_length-le xs h)
 
 -- ---- what an outcome says
 
@@ -60,23 +60,23 @@ says-finished (Finished e s u b) n f =
 
 -- ---- measured, then written
 
-fitted : (before : List ℕ) (v : Ran) (b : Bool) → leb (length v.events) (length before) ≡ b → eventsFit (length before) v ≡ (elim b as (λ z. Answer Ran) [ true ↦ accepted v | false ↦ refused 24 ])
-unfolding eventsFit
+fitted : (before : List ℕ) (v : Ran) (b : Bool) → leb (length v.events) (length before) ≡ b → events_fit (length before) v ≡ (elim b as (λ z. Answer Ran) [ true ↦ accepted v | false ↦ refused 24 ])
+unfolding events_fit
 fitted before v b k = ap (λ (x : Bool). (elim x as (λ z. Answer Ran) [ true ↦ accepted v | false ↦ refused 24 ])) k
 
-called : (a : Answer Ran) (want : Answer Ran) (before : List ℕ) (r : Outcome) (left : List ℕ) → want ≡ a → Called r (ranCall a before) left → Called r (ranCall want before) left
-called a want before r left e c = subst (λ (x : Answer Ran). Called r (ranCall x before) left) (sym e) c
+called : (a : Answer Ran) (want : Answer Ran) (before : List ℕ) (r : Outcome) (left : List ℕ) → want ≡ a → Called r (ran_call a before) left → Called r (ran_call want before) left
+called a want before r left e c = subst (λ (x : Answer Ran). Called r (ran_call x before) left) (sym e) c
 
-refuses : (q : ℕ) (want : Answer Ran) (before left : List ℕ) → want ≡ refused q → left ≡ before → Called (Refused q) (ranCall want before) left
-unfolding ranCall said whenAccepted outputAfter
+refuses : (q : ℕ) (want : Answer Ran) (before left : List ℕ) → want ≡ refused q → left ≡ before → Called (Refused q) (ran_call want before) left
+unfolding ran_call said when_accepted output_after
 refuses q want before left e f = called (refused q) want before (Refused q) left e (record { says = refl; leaves = f })
 
 pub measured-full : (r : Passed) (v : Ran) (room : ℕ) (before left : List ℕ) → Passes r v room before left → r ≡ TooMany → room < length v.events
 unfolding Passes
 measured-full r v room before left h e = subst (λ (x : Passed). Passes x v room before left) e h
 
-pub full-called : (v : Ran) (before left : List ℕ) → length before < length v.events → left ≡ before → Called (Refused 24) (ranCall (eventsFit (length before) v) before) left
-full-called v before left l e = refuses 24 (eventsFit (length before) v) before left (fitted before v false (lt-leb (length v.events) (length before) l)) e
+pub full-called : (v : Ran) (before left : List ℕ) → length before < length v.events → left ≡ before → Called (Refused 24) (ran_call (events_fit (length before) v) before) left
+full-called v before left l e = refuses 24 (events_fit (length before) v) before left (fitted before v false (lt-leb (length v.events) (length before) l)) e
 
 -- the numbers of a pass that ended
 ending-is : (v : Ran) (e room : ℕ) (u : Stand) (before left : List ℕ) (g : Ending v e room start u before left) →
@@ -100,13 +100,13 @@ measured-fits r v room before left e u h k =
     let w = (ending-is v e room u before left g).4 in let f = g.fits in omega arith
 
 pub ended-called : (r : Passed) (v : Ran) (before mid left : List ℕ) (e : ℕ) (u : Stand) → mid ≡ before → Passes r v (length before) mid left → r ≡ Ended e u
-    → Called (Finished e u.steps u.used u.written) (ranCall (eventsFit (length before) v) before) left
-unfolding Passes ranCall said whenAccepted ranCounts outputAfter
+    → Called (Finished e u.steps u.used u.written) (ran_call (events_fit (length before) v) before) left
+unfolding Passes ran_call said when_accepted ran_counts output_after
 ended-called r v before mid left e u m h k =
     let g : Ending v e (length before) start u before left = subst (λ (x : List ℕ). Ending v e (length before) start u x left) m (subst (λ (x : Passed). Passes x v (length before) mid left) k h) in
     let n = ending-is v e (length before) u before left g in
     let f = g.fits in let w = n.4 in let l = ap length n.3 in
-    called (accepted v) (eventsFit (length before) v) before (Finished e u.steps u.used u.written) left (fitted before v true (le-leb (length v.events) (length before) (omega arith)))
+    called (accepted v) (events_fit (length before) v) before (Finished e u.steps u.used u.written) left (fitted before v true (le-leb (length v.events) (length before) (omega arith)))
     (record {
       says = (let e1 = sym n.0 in let e2 = sym n.1 in let e3 = sym n.2 in let e4 = sym n.4 in λ z. accepted (record { ending = e1 z; steps = e2 z; used = e3 z; bytes = e4 z }));
       leaves = copied-written before left g.leads.events g.leads.copied (omega arith) ∙ ap (λ (xs : List ℕ). written xs before) (sym n.3);
@@ -136,68 +136,68 @@ module _ (t : List ℕ) (f p s n : ℕ) (c : CodeAt t f p s n) (part : List ℕ)
       let k : w.0 ≡ s = omega arith in
       ap (counted [] ◌∷◌ instruction n) (e ∙ ap (λ (j : ℕ). take j (drop p t)) (sym k) ∙ sym (append-nil (take w.0 (drop p t)))) ∙ w.3 []
 
-  pub part-code : instructionsOf part ≡ c.function.code
-  part-code = code_is n part c.function.code part-reads
+  pub part-code : instructions_of part ≡ c.function.code
+  part-code = code-is n part c.function.code part-reads
 
-  pub part_count : n ≡ length (instructionsOf part)
+  pub part_count : n ≡ length (instructions_of part)
   part_count = sym (ap length part-code ∙ c.count)
 
   pub part-coded : Small t → Coded part
   part-coded small = record {
-    bytes = bytes-are n part (instructionsOf part) (subst (λ (bs : List ℕ). Small bs) (sym e) (small-part t p s small)) reads;
-    reads = reads-code n part (instructionsOf part) reads;
-    ends = ap endsInReturn part-code ∙ c.ends;
-    land = ap₂ (λ (k : ℕ) (is : List Instr). jumpsLand k 0 is) (sym part_count) part-code ∙ c.land;
+    bytes = bytes-are n part (instructions_of part) (subst (λ (bs : List ℕ). Small bs) (sym e) (small-part t p s small)) reads;
+    reads = reads-code n part (instructions_of part) reads;
+    ends = ap ends_in_return part-code ∙ c.ends;
+    land = ap₂ (λ (k : ℕ) (is : List Instr). jumps_land k 0 is) (sym part_count) part-code ∙ c.land;
     few = subst (λ (k : ℕ). k < 65536) part_count c.few;
     short = let a = part_length in let b = c.read.to in let d = module-short t c.tables c.module-is in omega arith;
   }
     where
-      reads : counted [] ◌∷◌ instruction n part ≡ got (instructionsOf part) []
+      reads : counted [] ◌∷◌ instruction n part ≡ got (instructions_of part) []
       reads = part-reads ∙ ap (λ (is : List Instr). got is []) (sym part-code)
 
 -- ---- the call
 
-pub when-refused : {A B : Type 0} (x : Answer A) (f : A → Answer B) (q : ℕ) → x ≡ refused q → whenAccepted x f ≡ refused q
-unfolding whenAccepted
-when-refused x f q e = ap (λ (y : Answer _). whenAccepted y f) e
+pub when-refused : {A B : Type 0} (x : Answer A) (f : A → Answer B) (q : ℕ) → x ≡ refused q → when_accepted x f ≡ refused q
+unfolding when_accepted
+when-refused x f q e = ap (λ (y : Answer _). when_accepted y f) e
 
-pub when-accepted : {A B : Type 0} (x : Answer A) (f : A → Answer B) (a : A) → x ≡ accepted a → whenAccepted x f ≡ f a
-unfolding whenAccepted
-when-accepted x f a e = ap (λ (y : Answer _). whenAccepted y f) e
+pub when-accepted : {A B : Type 0} (x : Answer A) (f : A → Answer B) (a : A) → x ≡ accepted a → when_accepted x f ≡ f a
+unfolding when_accepted
+when-accepted x f a e = ap (λ (y : Answer _). when_accepted y f) e
 
-pub function-known : {t : List ℕ} {f p s n : ℕ} (c : CodeAt t f p s n) → functionIn t f ≡ accepted c.function
-unfolding functionIn
-function-known {t} c = when-accepted (readModule t) _ c.tables c.module-is ∙ c.function-is
+pub function-known : {t : List ℕ} {f p s n : ℕ} (c : CodeAt t f p s n) → function_in t f ≡ accepted c.function
+unfolding function_in
+function-known {t} c = when-accepted (read_module t) _ c.tables c.module-is ∙ c.function-is
 
 module _ (t : List ℕ) (f : ℕ) (answers : List ℕ) (budget : ℕ) (before : List ℕ) where
-  by-function : runAnswer t f answers budget (length before) ≡ whenAccepted (functionIn t f) (runFunction answers budget (length before))
-  unfolding runAnswer functionIn whenAccepted
-  by-function = go (readModule t)
+  by-function : run_answer t f answers budget (length before) ≡ when_accepted (function_in t f) (run_function answers budget (length before))
+  unfolding run_answer function_in when_accepted
+  by-function = go (read_module t)
     where
-      go : (r : Answer Tables) → whenAccepted r (λ x. whenAccepted (functionOf x f) (runFunction answers budget (length before))) ≡ whenAccepted (whenAccepted r (λ x. functionOf x f)) (runFunction answers budget (length before))
+      go : (r : Answer Tables) → when_accepted r (λ x. when_accepted (function_of x f) (run_function answers budget (length before))) ≡ when_accepted (when_accepted r (λ x. function_of x f)) (run_function answers budget (length before))
       go (accepted x) = refl
       go (refused q) = refl
 
-  as-run : (r : Outcome) (left : List ℕ) → Called r (ranCall (runAnswer t f answers budget (length before)) before) left → Called r (runCall t f answers budget before) left
-  unfolding runCall
+  as-run : (r : Outcome) (left : List ℕ) → Called r (ran_call (run_answer t f answers budget (length before)) before) left → Called r (run_call t f answers budget before) left
+  unfolding run_call
   as-run r left c = c
 
-  pub call-refused : (q : ℕ) → functionIn t f ≡ refused q → Called (Refused q) (runCall t f answers budget before) before
-  call-refused q e = as-run (Refused q) before (refuses q (runAnswer t f answers budget (length before)) before before (by-function ∙ when-refused (functionIn t f) _ q e) refl)
+  pub call-refused : (q : ℕ) → function_in t f ≡ refused q → Called (Refused q) (run_call t f answers budget before) before
+  call-refused q e = as-run (Refused q) before (refuses q (run_answer t f answers budget (length before)) before before (by-function ∙ when-refused (function_in t f) _ q e) refl)
 
   module _ (p s n : ℕ) (c : CodeAt t f p s n) where
-    asked : (b : Bool) → areAnswers answers ≡ b → runAnswer t f answers budget (length before) ≡ (elim b as (λ z. Answer Ran) [ false ↦ refused 23 | true ↦ eventsFit (length before) (run budget c.function.code 0 answers) ])
-    unfolding runFunction
-    asked b e = by-function ∙ when-accepted (functionIn t f) _ c.function (function-known c)
-        ∙ ap (λ (x : Bool). (elim x as (λ z. Answer Ran) [ false ↦ refused 23 | true ↦ eventsFit (length before) (run budget c.function.code 0 answers) ])) e
+    asked : (b : Bool) → are_answers answers ≡ b → run_answer t f answers budget (length before) ≡ (elim b as (λ z. Answer Ran) [ false ↦ refused 23 | true ↦ events_fit (length before) (run budget c.function.code 0 answers) ])
+    unfolding run_function
+    asked b e = by-function ∙ when-accepted (function_in t f) _ c.function (function-known c)
+        ∙ ap (λ (x : Bool). (elim x as (λ z. Answer Ran) [ false ↦ refused 23 | true ↦ events_fit (length before) (run budget c.function.code 0 answers) ])) e
 
-    pub call-answers : areAnswers answers ≡ false → Called (Refused 23) (runCall t f answers budget before) before
-    call-answers e = as-run (Refused 23) before (refuses 23 (runAnswer t f answers budget (length before)) before before (asked false e) refl)
+    pub call-answers : are_answers answers ≡ false → Called (Refused 23) (run_call t f answers budget before) before
+    call-answers e = as-run (Refused 23) before (refuses 23 (run_answer t f answers budget (length before)) before before (asked false e) refl)
 
-    pub call-runs : (part : List ℕ) → part ≡ take s (drop p t) → areAnswers answers ≡ true → (r : Outcome) (left : List ℕ)
-        → Called r (ranCall (eventsFit (length before) (run budget (instructionsOf part) 0 answers)) before) left → Called r (runCall t f answers budget before) left
-    call-runs part e a r left k = as-run r left (called (eventsFit (length before) (run budget (instructionsOf part) 0 answers)) (runAnswer t f answers budget (length before)) before r left
-        (asked true a ∙ ap (λ (is : List Instr). eventsFit (length before) (run budget is 0 answers)) (sym (part-code t f p s n c part e))) k)
+    pub call-runs : (part : List ℕ) → part ≡ take s (drop p t) → are_answers answers ≡ true → (r : Outcome) (left : List ℕ)
+        → Called r (ran_call (events_fit (length before) (run budget (instructions_of part) 0 answers)) before) left → Called r (run_call t f answers budget before) left
+    call-runs part e a r left k = as-run r left (called (events_fit (length before) (run budget (instructions_of part) 0 answers)) (run_answer t f answers budget (length before)) before r left
+        (asked true a ∙ ap (λ (is : List Instr). events_fit (length before) (run budget is 0 answers)) (sym (part-code t f p s n c part e))) k)
 
 -- an empty part that came back
 pub nil-front : (zs xs : List ℕ) → length zs ≡ 0 → zs ++ xs ≡ xs

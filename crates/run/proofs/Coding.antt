@@ -7,10 +7,10 @@ use native.Mathlib.Omega.{arith}
 use lib.ListN.{length, take, drop, get_or, length-append, length-drop, take-append-drop}
 use lib.Seq.{take-add, drop-append_seam, take-append_seam, length-take-le}
 use Rattle.definitions.specs.Bytes.{concat}
-use Rattle.definitions.specs.Instruction.{Instr, Return, encode, encodes, firstWidth}
-use Rattle.definitions.specs.Reader.{instruction, isJump, landing}
+use Rattle.definitions.specs.Instruction.{Instr, Return, encode, encodes, first_width}
+use Rattle.definitions.specs.Reader.{instruction, is_jump, landing}
 use Rattle.definitions.proofs.Stays as Stays
-use Rattle.reader.specs.View.{Got, numberAt, instructionsOf, start_of}
+use Rattle.reader.specs.View.{Got, number_at, instructions_of, start_of}
 use Rattle.reader.proofs.Encoding.{instruction-view}
 use Rattle.run.specs.Pass.{Coded, between}
 
@@ -40,48 +40,48 @@ module _ (is : List Instr) where
 -- ---- code that stands
 
 module _ (c : List ℕ) (h : Coded c) where
-  pub nonempty : 0 < length (instructionsOf c)
-  nonempty = Stays.ends_some (instructionsOf c) h.ends
+  pub nonempty : 0 < length (instructions_of c)
+  nonempty = Stays.ends_some (instructions_of c) h.ends
 
-  pub start-in : (k : ℕ) → start_of (instructionsOf c) k ≤ length c
-  start-in k = subst (λ (bs : List ℕ). start_of (instructionsOf c) k ≤ length bs) (sym h.bytes) (start-within (instructionsOf c) k)
+  pub start-in : (k : ℕ) → start_of (instructions_of c) k ≤ length c
+  start-in k = subst (λ (bs : List ℕ). start_of (instructions_of c) k ≤ length bs) (sym h.bytes) (start-within (instructions_of c) k)
 
   -- the code from one place to another
-  pub between_is : (k j : ℕ) → k ≤ j → between c k j ≡ encodes (take (j - k) (drop k (instructionsOf c)))
+  pub between_is : (k j : ℕ) → k ≤ j → between c k j ≡ encodes (take (j - k) (drop k (instructions_of c)))
   unfolding between
   between_is k j l =
-      let is = instructionsOf c in
+      let is = instructions_of c in
       let e : start_of is j ≡ start_of is k + length (encodes (take (j - k) (drop k is))) = ap (start_of is) (let z : j ≡ k + (j - k) = omega arith in z) ∙ start-add is k (j - k) in
       ap₂ (λ (n : ℕ) (bs : List ℕ). take n bs) (let z : start_of is j - start_of is k ≡ length (encodes (take (j - k) (drop k is))) = omega arith in z)
       (ap (drop (start_of is k)) h.bytes ∙ rest-is is k ∙ ap encodes (sym (take-append-drop (j - k) (drop k is))) ∙ encodes-append (take (j - k) (drop k is)) (drop (j - k) (drop k is)))
       ∙ take-append_seam (encodes (take (j - k) (drop k is))) (encodes (drop (j - k) (drop k is)))
 
-  pub start_up : (k j : ℕ) → k ≤ j → start_of (instructionsOf c) k ≤ start_of (instructionsOf c) j
+  pub start_up : (k j : ℕ) → k ≤ j → start_of (instructions_of c) k ≤ start_of (instructions_of c) j
   start_up k j l =
-      let is = instructionsOf c in
+      let is = instructions_of c in
       let e : start_of is j ≡ start_of is k + length (encodes (take (j - k) (drop k is))) = ap (start_of is) (let z : j ≡ k + (j - k) = omega arith in z) ∙ start-add is k (j - k) in omega arith
 
-  pub between-length : (k j : ℕ) → k ≤ j → length (between c k j) ≡ start_of (instructionsOf c) j - start_of (instructionsOf c) k
+  pub between-length : (k j : ℕ) → k ≤ j → length (between c k j) ≡ start_of (instructions_of c) j - start_of (instructions_of c) k
   unfolding between
-  between-length k j l = let a = start-in j in let b = start_up k j l in let d = length-drop (start_of (instructionsOf c) k) c in
-      length-take-le (start_of (instructionsOf c) j - start_of (instructionsOf c) k) (drop (start_of (instructionsOf c) k) c) (omega arith)
+  between-length k j l = let a = start-in j in let b = start_up k j l in let d = length-drop (start_of (instructions_of c) k) c in
+      length-take-le (start_of (instructions_of c) j - start_of (instructions_of c) k) (drop (start_of (instructions_of c) k) c) (omega arith)
 
-  module _ (k : ℕ) (l : k < length (instructionsOf c)) where
-    reads_here : Got instruction c (start_of (instructionsOf c) k) (get_or (instructionsOf c) k Return) (start_of (instructionsOf c) (k + 1))
+  module _ (k : ℕ) (l : k < length (instructions_of c)) where
+    reads_here : Got instruction c (start_of (instructions_of c) k) (get_or (instructions_of c) k Return) (start_of (instructions_of c) (k + 1))
     reads_here = record { is = h.reads k l; from = start_up k (k + 1) (omega arith); to = start-in (k + 1) }
 
-    pub op-here : (start_of (instructionsOf c) k < length c) × (get_or c (start_of (instructionsOf c) k) 0 ≡ (get_or (instructionsOf c) k Return).op)
-    op-here = let v = instruction-view c (start_of (instructionsOf c) k) (get_or (instructionsOf c) k Return) (start_of (instructionsOf c) (k + 1)) (start-in k) reads_here in (v.0, sym v.1)
+    pub op-here : (start_of (instructions_of c) k < length c) × (get_or c (start_of (instructions_of c) k) 0 ≡ (get_or (instructions_of c) k Return).op)
+    op-here = let v = instruction-view c (start_of (instructions_of c) k) (get_or (instructions_of c) k Return) (start_of (instructions_of c) (k + 1)) (start-in k) reads_here in (v.0, sym v.1)
 
-    pub operand-here : firstWidth (get_or (instructionsOf c) k Return).op ≡ 4 →
-        (start_of (instructionsOf c) k + 1 + 4 ≤ length c) × (numberAt 4 c (start_of (instructionsOf c) k + 1) ≡ (get_or (instructionsOf c) k Return).a)
+    pub operand-here : first_width (get_or (instructions_of c) k Return).op ≡ 4 →
+        (start_of (instructions_of c) k + 1 + 4 ≤ length c) × (number_at 4 c (start_of (instructions_of c) k + 1) ≡ (get_or (instructions_of c) k Return).a)
     operand-here e =
-        let v = instruction-view c (start_of (instructionsOf c) k) (get_or (instructionsOf c) k Return) (start_of (instructionsOf c) (k + 1)) (start-in k) reads_here in
+        let v = instruction-view c (start_of (instructions_of c) k) (get_or (instructions_of c) k Return) (start_of (instructions_of c) (k + 1)) (start-in k) reads_here in
         let m = v.4 in let t = start-in (k + 1) in
-        (omega arith, ap (λ (w : ℕ). numberAt w c (start_of (instructionsOf c) k + 1)) (sym e) ∙ sym v.2)
+        (omega arith, ap (λ (w : ℕ). number_at w c (start_of (instructions_of c) k + 1)) (sym e) ∙ sym v.2)
 
-    pub not_last : ((get_or (instructionsOf c) k Return).op ≡ 33 → ⊥) → k + 1 < length (instructionsOf c)
-    not_last f = Stays.not_last (instructionsOf c) h.ends k l f
+    pub not_last : ((get_or (instructions_of c) k Return).op ≡ 33 → ⊥) → k + 1 < length (instructions_of c)
+    not_last f = Stays.not_last (instructions_of c) h.ends k l f
 
-    pub jump-inside : isJump (get_or (instructionsOf c) k Return).op ≡ true → landing k (get_or (instructionsOf c) k Return).a < length (instructionsOf c)
-    jump-inside j = Stays.jump-inside (instructionsOf c) h.land k l j
+    pub jump-inside : is_jump (get_or (instructions_of c) k Return).op ≡ true → landing k (get_or (instructions_of c) k Return).a < length (instructions_of c)
+    jump-inside j = Stays.jump-inside (instructions_of c) h.land k l j

@@ -7,7 +7,7 @@ use native.Mathlib.Omega.{arith}
 use native.Mathlib.Numerals.{add-one}
 use lib.Dec.{eqb}
 use borrow.Author.Tests.{eq-eqb, ne_eqb, eqb-true}
-use Rattle.definitions.specs.Instruction.{Instr, instr, instructionTable, row_of, firstWidth, secondWidth, encode}
+use Rattle.definitions.specs.Instruction.{Instr, instr, instruction_table, row_of, first_width, second_width, encode}
 use Rattle.definitions.specs.Bytes.{be}
 use Rattle.definitions.specs.Reader.{landing}
 use Rattle.definitions.specs.Run.{straight, flow, way}
@@ -16,7 +16,7 @@ use Rattle.run.specs.Pass.{GoesOn, Nearer}
 
 -- a Return has no operands
 pub return-bytes : (i : Instr) → i.op ≡ 33 → encode i ≡ i.op ∷ []
-unfolding encode firstWidth secondWidth row_of instructionTable be
+unfolding encode first_width second_width row_of instruction_table be
 return-bytes i e = ap (λ (k : ℕ). encode (instr k i.a i.b)) e ∙ ap (λ (k : ℕ). k ∷ []) (sym e)
 
 -- ---- what the code tests

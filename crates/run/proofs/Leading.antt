@@ -8,9 +8,9 @@ use lib.Seq.{drop-cons}
 use Rattle.definitions.specs.Bytes.{concat}
 use Rattle.definitions.specs.Instruction.{Instr, Return, encode, encodes}
 use Rattle.definitions.specs.Run.{Ran, after, Flow, straight, obey, run}
-use Rattle.reader.specs.View.{instructionsOf}
+use Rattle.reader.specs.View.{instructions_of}
 use Rattle.run.specs.declared.Stand.{Stand}
-use Rattle.run.specs.Pass.{Coded, between, flowAt, Stands, Went, NoFit, onward, Leads, start}
+use Rattle.run.specs.Pass.{Coded, between, flow_at, Stands, Went, NoFit, onward, Leads, start}
 use Rattle.run.proofs.Coding.{between_is}
 use Rattle.run.proofs.Storing.{copied-then, copied_none}
 
@@ -44,11 +44,11 @@ leads-on whole middle tail s u v before mid left a b =
       copied = copied-then before mid left s.written u.written a.events b.events a.copied a.written b.copied;
     }
 
-pub leads-start : (c answers : List ℕ) (budget : ℕ) (before : List ℕ) → Leads (run budget (instructionsOf c) 0 answers) (onward c answers budget start) start start before before
+pub leads-start : (c answers : List ℕ) (budget : ℕ) (before : List ℕ) → Leads (run budget (instructions_of c) 0 answers) (onward c answers budget start) start start before before
 unfolding onward
 leads-start c answers budget before = record {
   events = [];
-  is = ap (λ (b : ℕ). run b (instructionsOf c) 0 answers) (let z : budget ≡ budget - 0 = omega arith in z) ∙ after_none (run (budget - 0) (instructionsOf c) 0 answers);
+  is = ap (λ (b : ℕ). run b (instructions_of c) 0 answers) (let z : budget ≡ budget - 0 = omega arith in z) ∙ after_none (run (budget - 0) (instructions_of c) 0 answers);
   steps = omega arith;
   used = omega arith;
   written = omega arith;
@@ -63,11 +63,11 @@ too_many whole tail s u before left room a h =
 
 -- ---- straight on
 
-one-step : (b k : ℕ) (is : List Instr) (answers : List ℕ) → flowAt is k ≡ straight → run (suc b) is k answers ≡ after 1 0 (encode (get_or is k Return)) (run b is (suc k) answers)
-unfolding run flowAt obey
+one-step : (b k : ℕ) (is : List Instr) (answers : List ℕ) → flow_at is k ≡ straight → run (suc b) is k answers ≡ after 1 0 (encode (get_or is k Return)) (run b is (suc k) answers)
+unfolding run flow_at obey
 one-step b k is answers e = ap (λ (w : Flow). obey w (get_or is k Return) k answers (λ q rest. run b is q rest)) e
 
-pub run-straight : (m b k : ℕ) (is : List Instr) (answers : List ℕ) → k + m ≤ length is → m ≤ b → ((j : ℕ) → k ≤ j → j < k + m → flowAt is j ≡ straight) →
+pub run-straight : (m b k : ℕ) (is : List Instr) (answers : List ℕ) → k + m ≤ length is → m ≤ b → ((j : ℕ) → k ≤ j → j < k + m → flow_at is j ≡ straight) →
     run b is k answers ≡ after m 0 (encodes (take m (drop k is))) (run (b - m) is (k + m) answers)
 unfolding encodes concat
 run-straight zero b k is answers l h f =
@@ -90,9 +90,9 @@ module _ (c : List ℕ) (h : Coded c) (answers : List ℕ) (budget room : ℕ) (
       let f = w.from in let p = w.steps in let q = w.used in let x = w.stands.steps in let y = w.stands.place in
       record {
         events = between c s.place u.place;
-        is = run-straight m (budget - s.steps) s.place (instructionsOf c) (drop s.used answers) (omega arith) (omega arith) (λ j a b. w.goes j a (omega arith))
-            ∙ after-as m 0 (u.steps - s.steps) (u.used - s.used) (encodes (take m (drop s.place (instructionsOf c)))) (between c s.place u.place) _ _ (omega arith) (omega arith) (sym (between_is c h s.place u.place f))
-            (let e1 : budget - s.steps - m ≡ budget - u.steps = omega arith in let e2 : s.place + m ≡ u.place = omega arith in let e3 : s.used ≡ u.used = sym q in λ z. run (e1 z) (instructionsOf c) (e2 z) (drop (e3 z) answers));
+        is = run-straight m (budget - s.steps) s.place (instructions_of c) (drop s.used answers) (omega arith) (omega arith) (λ j a b. w.goes j a (omega arith))
+            ∙ after-as m 0 (u.steps - s.steps) (u.used - s.used) (encodes (take m (drop s.place (instructions_of c)))) (between c s.place u.place) _ _ (omega arith) (omega arith) (sym (between_is c h s.place u.place f))
+            (let e1 : budget - s.steps - m ≡ budget - u.steps = omega arith in let e2 : s.place + m ≡ u.place = omega arith in let e3 : s.used ≡ u.used = sym q in λ z. run (e1 z) (instructions_of c) (e2 z) (drop (e3 z) answers));
         steps = omega arith;
         used = omega arith;
         written = w.written;
@@ -104,8 +104,8 @@ module _ (c : List ℕ) (h : Coded c) (answers : List ℕ) (budget room : ℕ) (
   no-fit n =
       let m = n.to - s.place in
       let f = n.from in let x = n.within in let y = n.inside in let o = n.over in
-      let e = run-straight m (budget - s.steps) s.place (instructionsOf c) (drop s.used answers) (omega arith) (omega arith) (λ j a b. n.goes j a (omega arith)) in
-      let r = run (budget - s.steps - m) (instructionsOf c) (s.place + m) (drop s.used answers) in
-      let v : length (run (budget - s.steps) (instructionsOf c) s.place (drop s.used answers)).events ≡ length (encodes (take m (drop s.place (instructionsOf c)))) + length r.events =
-      ap (λ (x : Ran). length x.events) e ∙ length-append (encodes (take m (drop s.place (instructionsOf c)))) r.events in
+      let e = run-straight m (budget - s.steps) s.place (instructions_of c) (drop s.used answers) (omega arith) (omega arith) (λ j a b. n.goes j a (omega arith)) in
+      let r = run (budget - s.steps - m) (instructions_of c) (s.place + m) (drop s.used answers) in
+      let v : length (run (budget - s.steps) (instructions_of c) s.place (drop s.used answers)).events ≡ length (encodes (take m (drop s.place (instructions_of c)))) + length r.events =
+      ap (λ (x : Ran). length x.events) e ∙ length-append (encodes (take m (drop s.place (instructions_of c)))) r.events in
       let w = ap length (between_is c h s.place n.to f) in omega arith

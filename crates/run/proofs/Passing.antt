@@ -5,7 +5,7 @@ use mathlib.Core.List.{List}
 use native.Mathlib.Omega.{arith}
 use lib.ListN.{length}
 use Rattle.definitions.specs.Run.{run}
-use Rattle.reader.specs.View.{instructionsOf}
+use Rattle.reader.specs.View.{instructions_of}
 use Rattle.run.specs.declared.Stand.{Stand}
 use Rattle.run.specs.declared.Stretched.{Stretched}
 use Rattle.run.specs.declared.Stretched.TheVariants.{To, NoRoom}
@@ -18,7 +18,7 @@ use Rattle.run.proofs.Leading.{leads-on, leads-start, too_many, went-leads, no-f
 
 -- so far: from the start to where the run stands
 pub record Going (c answers : List ℕ) (budget room : ℕ) (s : Stand) (before events : List ℕ) : Type 0 where
-  pub leads : Leads (run budget (instructionsOf c) 0 answers) (onward c answers budget s) start s before events
+  pub leads : Leads (run budget (instructions_of c) 0 answers) (onward c answers budget s) start s before events
   pub stands : Stands c budget room s
 
 pub going_start : (c answers : List ℕ) (budget room : ℕ) (before : List ℕ) → Coded c → Going c answers budget room start before before
@@ -26,12 +26,12 @@ going_start c answers budget room before h = record { leads = leads-start c answ
 
 module _ (c answers : List ℕ) (h : Coded c) (budget room : ℕ) (s : Stand) (before events : List ℕ) (g : Going c answers budget room s before events) where
   -- further events do not fit
-  overflows : (t : Stand) (left : List ℕ) → Leads (run budget (instructionsOf c) 0 answers) (onward c answers budget t) start t before left → room < t.written + length (onward c answers budget t).events → (last : List ℕ)
-      → Passes TooMany (run budget (instructionsOf c) 0 answers) room before last
+  overflows : (t : Stand) (left : List ℕ) → Leads (run budget (instructions_of c) 0 answers) (onward c answers budget t) start t before left → room < t.written + length (onward c answers budget t).events → (last : List ℕ)
+      → Passes TooMany (run budget (instructions_of c) 0 answers) room before last
   unfolding Passes
-  overflows t left a f last = let z = too_many (run budget (instructionsOf c) 0 answers) (onward c answers budget t) start t before left room a f in omega arith
+  overflows t left a f last = let z = too_many (run budget (instructions_of c) 0 answers) (onward c answers budget t) start t before left room a f in omega arith
 
-  pub stretch-many : (w : Stretched) (left : List ℕ) → Goes w c budget room s events left → w ≡ NoRoom → Passes TooMany (run budget (instructionsOf c) 0 answers) room before left
+  pub stretch-many : (w : Stretched) (left : List ℕ) → Goes w c budget room s events left → w ≡ NoRoom → Passes TooMany (run budget (instructions_of c) 0 answers) room before left
   unfolding Goes
   stretch-many w left a e =
       let n : NoFit c budget room s = subst (λ (x : Stretched). Goes x c budget room s events left) e a in
@@ -45,7 +45,7 @@ module _ (c answers : List ℕ) (h : Coded c) (budget room : ℕ) (s : Stand) (b
     pub near-stands : Stands c budget room u × AtStop c budget u
     near-stands = (went.stands, went.stop)
 
-    near : Leads (run budget (instructionsOf c) 0 answers) (onward c answers budget u) start u before mid
+    near : Leads (run budget (instructions_of c) 0 answers) (onward c answers budget u) start u before mid
     near = leads-on _ (onward c answers budget s) _ start s u before events mid g.leads (went-leads c h answers budget room s g.stands u events mid went)
 
     behind : s.steps ≤ u.steps
@@ -62,12 +62,12 @@ module _ (c answers : List ℕ) (h : Coded c) (budget room : ℕ) (s : Stand) (b
       pub turn_on : (v : Stand) → r ≡ On v → Going c answers budget room v before left
       turn_on v f = let t = turning v f in record { leads = leads-on _ (onward c answers budget u) _ start u v before mid left near t.leads; stands = t.stands }
 
-      pub turn-over : (k : ℕ) (v : Stand) → r ≡ Over k v → Passes (Ended k v) (run budget (instructionsOf c) 0 answers) room before left
+      pub turn-over : (k : ℕ) (v : Stand) → r ≡ Over k v → Passes (Ended k v) (run budget (instructions_of c) 0 answers) room before left
       unfolding Turns Passes
       turn-over k v f =
           let t : Ending (onward c answers budget u) k room u v mid left = subst (λ (x : Turned). Turns x c answers budget room u mid left) f b in
           record { leads = leads-on _ (onward c answers budget u) _ start u v before mid left near t.leads; fits = t.fits }
 
-      pub turn_many : r ≡ Full → Passes TooMany (run budget (instructionsOf c) 0 answers) room before left
+      pub turn_many : r ≡ Full → Passes TooMany (run budget (instructions_of c) 0 answers) room before left
       unfolding Turns
       turn_many f = overflows u mid near (subst (λ (x : Turned). Turns x c answers budget room u mid left) f b) left

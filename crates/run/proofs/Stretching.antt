@@ -6,31 +6,31 @@ use mathlib.Core.Logic.{inl, inr, ⊎_elim}
 use native.Mathlib.Omega.{arith}
 use lib.ListN.{length, take, drop, get_or}
 use Rattle.definitions.specs.Run.{straight}
-use Rattle.reader.specs.View.{instructionsOf, start_of}
+use Rattle.reader.specs.View.{instructions_of, start_of}
 use Rattle.run.specs.declared.Stand.{Stand}
 use Rattle.run.specs.declared.Stretched.TheVariants.{To, NoRoom}
-use Rattle.run.specs.Pass.{Coded, Places, flowAt, Stop, Stops, Reaches, Copied, Stands, between, AtStop, Goes}
+use Rattle.run.specs.Pass.{Coded, Places, flow_at, Stop, Stops, Reaches, Copied, Stands, between, AtStop, Goes}
 use Rattle.run.proofs.Coding.{start-in, start_up, between-length}
 
 module _ (c : List ℕ) (h : Coded c) (budget room : ℕ) (s : Stand) (st : Stands c budget room s) (stops : List ℕ) (sp : Stops c stops) (stop : ℕ) (es : stop ≡ get_or stops s.place 0) where
-  stop_is : Stop (instructionsOf c) s.place stop
-  stop_is = subst (λ (x : ℕ). Stop (instructionsOf c) s.place x) (sym es) (sp.at s.place st.place)
+  stop_is : Stop (instructions_of c) s.place stop
+  stop_is = subst (λ (x : ℕ). Stop (instructions_of c) s.place x) (sym es) (sp.at s.place st.place)
 
   pub stop-after : s.place ≤ stop
   stop-after = stop_is.from
 
   module _ (places : List ℕ) (pl : Places c places) (to : ℕ) (r : Reaches to stop s.place (budget - s.steps)) where
-    to_in : to < length (instructionsOf c)
+    to_in : to < length (instructions_of c)
     to_in = let a = stop_is.inside in let b = r.to in omega arith
 
     pub to-table : to < length places
     to-table = let a = to_in in let b = pl.long in omega arith
 
     module _ (p q : ℕ) (ep : p ≡ get_or places s.place 0) (eq : q ≡ get_or places to 0) where
-      p-is : p ≡ start_of (instructionsOf c) s.place
+      p-is : p ≡ start_of (instructions_of c) s.place
       p-is = ep ∙ pl.at s.place st.place
 
-      q-is : q ≡ start_of (instructionsOf c) to
+      q-is : q ≡ start_of (instructions_of c) to
       q-is = eq ∙ pl.at to to_in
 
       pub p-to-q : (p ≤ q) × (q ≤ length c)
@@ -43,7 +43,7 @@ module _ (c : List ℕ) (h : Coded c) (budget room : ℕ) (s : Stand) (st : Stan
       unfolding between
       part-is = let e1 = p-is in let e2 = q-is in λ z. take (e2 z - e1 z) (drop (e1 z) c)
 
-      goes : (j : ℕ) → s.place ≤ j → j < to → flowAt (instructionsOf c) j ≡ straight
+      goes : (j : ℕ) → s.place ≤ j → j < to → flow_at (instructions_of c) j ≡ straight
       goes j a b = let d = r.to in stop_is.goes j a (omega arith)
 
       pub stretch-full : (before left : List ℕ) → room - s.written < q - p → Goes NoRoom c budget room s before left
@@ -62,6 +62,6 @@ module _ (c : List ℕ) (h : Coded c) (budget room : ℕ) (s : Stand) (st : Stan
             used = refl;
             written = omega arith;
             stands = record { steps = omega arith; written = omega arith; place = to_in };
-            stop = ⊎_elim (λ (e : to ≡ stop). inr (λ g. stop_is.stops (ap (flowAt (instructionsOf c)) (sym e) ∙ g))) (λ (e : to - s.place ≡ budget - s.steps). inl (omega arith)) r.far;
+            stop = ⊎_elim (λ (e : to ≡ stop). inr (λ g. stop_is.stops (ap (flow_at (instructions_of c)) (sym e) ∙ g))) (λ (e : to - s.place ≡ budget - s.steps). inl (omega arith)) r.far;
             copied = subst (λ (bs : List ℕ). Copied before left s.written bs) part-is k;
           }

@@ -11,12 +11,12 @@ use lib.Seq.{get_or-set_same, get_or-set_other, drop-drop}
 use borrow.Author.Tests.{eqb-true, eq-eqb}
 use Rattle.definitions.specs.Instruction.{Instr, instr, Return, encode, encodes}
 use Rattle.definitions.specs.Run.{Flow, straight, jump, question, returns, flow}
-use Rattle.reader.specs.View.{instructionsOf, start_of, metAt}
+use Rattle.reader.specs.View.{instructions_of, start_of, met_at}
 use Rattle.reader.specs.declared.Cursor.{Cursor}
 use Rattle.reader.specs.declared.Met.{Met}
 use Rattle.reader.specs.declared.Met.TheVariants.{At, End}
-use Rattle.reader.proofs.Iterated.{met_at, met-end}
-use Rattle.run.specs.Pass.{Coded, Places, flowAt, Stop, Stops, Nearer}
+use Rattle.reader.proofs.Iterated.{met-at, met-end}
+use Rattle.run.specs.Pass.{Coded, Places, flow_at, Stop, Stops, Nearer}
 use Rattle.definitions.proofs.Flows.{return-stops}
 use Rattle.run.proofs.Coding.{op-here, not_last, start-add}
 use Rattle.definitions.specs.Bytes.{concat}
@@ -35,8 +35,8 @@ one-encoded : (i : Instr) → length (encodes (i ∷ [])) ≡ length (encode i)
 unfolding encodes concat
 one-encoded i = ap length (append-nil (encode i))
 
-flow-of : (is : List Instr) (k : ℕ) → flowAt is k ≡ flow (get_or is k Return).op
-unfolding flowAt
+flow-of : (is : List Instr) (k : ℕ) → flow_at is k ≡ flow (get_or is k Return).op
+unfolding flow_at
 flow-of is k = refl
 
 return-goes : (op : ℕ) → op ≡ 33 → flow op ≡ straight → ⊥
@@ -45,11 +45,11 @@ return-goes op e f = return-stops op e f
 -- ---- where instructions begin
 
 pub record Filling (c : List ℕ) (cur : Cursor) (before table : List ℕ) : Type 0 where
-  pub rest : instructionsOf (drop cur.at c) ≡ drop cur.place (instructionsOf c)
-  pub at : cur.at ≡ start_of (instructionsOf c) cur.place
+  pub rest : instructions_of (drop cur.at c) ≡ drop cur.place (instructions_of c)
+  pub at : cur.at ≡ start_of (instructions_of c) cur.place
   pub inside : cur.at ≤ length c
   pub behind : cur.place ≤ cur.at
-  pub entries : (k : ℕ) → k < cur.place → get_or table k 0 ≡ start_of (instructionsOf c) k
+  pub entries : (k : ℕ) → k < cur.place → get_or table k 0 ≡ start_of (instructions_of c) k
   pub long : length table ≡ length before
 
 pub filling-start : (c table : List ℕ) → Filling c (record { place = 0; at = 0 }) table table
@@ -60,15 +60,15 @@ drop-some : (xs : List Instr) (k : ℕ) (y : Instr) (ys : List Instr) → drop k
 drop-some xs k y ys e = let l = ap length e in let m = length-drop k xs in omega arith
 
 module _ (c : List ℕ) (cur : Cursor) (before table : List ℕ) (f : Filling c cur before table) where
-  module _ (op a b : ℕ) (n : Cursor) (m : metAt c cur ≡ At op a b n) where
-    more : (instructionsOf (drop cur.at c) ≡ instr op a b ∷ instructionsOf (drop n.at c)) × (n.place ≡ cur.place + 1) × (n.at ≤ length c) × (n.at ≡ cur.at + length (encode (instr op a b)))
-    more = met_at c cur op a b n f.inside m
+  module _ (op a b : ℕ) (n : Cursor) (m : met_at c cur ≡ At op a b n) where
+    more : (instructions_of (drop cur.at c) ≡ instr op a b ∷ instructions_of (drop n.at c)) × (n.place ≡ cur.place + 1) × (n.at ≤ length c) × (n.at ≡ cur.at + length (encode (instr op a b)))
+    more = met-at c cur op a b n f.inside m
 
-    here : drop cur.place (instructionsOf c) ≡ instr op a b ∷ instructionsOf (drop n.at c)
+    here : drop cur.place (instructions_of c) ≡ instr op a b ∷ instructions_of (drop n.at c)
     here = sym f.rest ∙ more.0
 
-    pub fill-in : cur.place < length (instructionsOf c)
-    fill-in = drop-some (instructionsOf c) cur.place (instr op a b) (instructionsOf (drop n.at c)) here
+    pub fill-in : cur.place < length (instructions_of c)
+    fill-in = drop-some (instructions_of c) cur.place (instr op a b) (instructions_of (drop n.at c)) here
 
     pub fill-less : length c - n.at < length c - cur.at
     fill-less = let q = more.3 in let d = length-encode (instr op a b) in let g = more.2 in omega arith
@@ -76,10 +76,10 @@ module _ (c : List ℕ) (cur : Cursor) (before table : List ℕ) (f : Filling c 
     pub filling-more : (left : List ℕ) → cur.place < length table → left ≡ set table cur.place cur.at → Filling c n before left
     filling-more left h e =
         let p = more.1 in let q = more.3 in let d = length-encode (instr op a b) in let g = f.behind in
-        let one : drop n.place (instructionsOf c) ≡ instructionsOf (drop n.at c) = ap (λ (k : ℕ). drop k (instructionsOf c)) p ∙ sym (drop-drop 1 cur.place (instructionsOf c)) ∙ ap (drop 1) here in
-        let s : start_of (instructionsOf c) (cur.place + 1) ≡ start_of (instructionsOf c) cur.place + length (encode (instr op a b)) =
-        start-add (instructionsOf c) cur.place 1 ∙ ap (λ (js : List Instr). start_of (instructionsOf c) cur.place + length (encodes (take 1 js))) here ∙ ap (λ (k : ℕ). start_of (instructionsOf c) cur.place + k) (first_one (instr op a b)) in
-        let t = ap (start_of (instructionsOf c)) p in let u = f.at in
+        let one : drop n.place (instructions_of c) ≡ instructions_of (drop n.at c) = ap (λ (k : ℕ). drop k (instructions_of c)) p ∙ sym (drop-drop 1 cur.place (instructions_of c)) ∙ ap (drop 1) here in
+        let s : start_of (instructions_of c) (cur.place + 1) ≡ start_of (instructions_of c) cur.place + length (encode (instr op a b)) =
+        start-add (instructions_of c) cur.place 1 ∙ ap (λ (js : List Instr). start_of (instructions_of c) cur.place + length (encodes (take 1 js))) here ∙ ap (λ (k : ℕ). start_of (instructions_of c) cur.place + k) (first_one (instr op a b)) in
+        let t = ap (start_of (instructions_of c)) p in let u = f.at in
         record {
           rest = sym one;
           at = omega arith;
@@ -92,16 +92,16 @@ module _ (c : List ℕ) (cur : Cursor) (before table : List ℕ) (f : Filling c 
         first_one : (i : Instr) → length (encodes (i ∷ [])) ≡ length (encode i)
         first_one i = one-encoded i
 
-        entry : (left : List ℕ) → left ≡ set table cur.place cur.at → (k : ℕ) → k < cur.place + 1 → get_or left k 0 ≡ start_of (instructionsOf c) k
+        entry : (left : List ℕ) → left ≡ set table cur.place cur.at → (k : ℕ) → k < cur.place + 1 → get_or left k 0 ≡ start_of (instructions_of c) k
         entry left e k l = go (eqb k cur.place) refl
           where
-            go : (b : Bool) → eqb k cur.place ≡ b → get_or left k 0 ≡ start_of (instructionsOf c) k
-            go true x = let y = eqb-true k cur.place x in ap₂ (λ (xs : List ℕ) (j : ℕ). get_or xs j 0) e y ∙ get_or-set_same table cur.place cur.at 0 h ∙ f.at ∙ ap (start_of (instructionsOf c)) (sym y)
+            go : (b : Bool) → eqb k cur.place ≡ b → get_or left k 0 ≡ start_of (instructions_of c) k
+            go true x = let y = eqb-true k cur.place x in ap₂ (λ (xs : List ℕ) (j : ℕ). get_or xs j 0) e y ∙ get_or-set_same table cur.place cur.at 0 h ∙ f.at ∙ ap (start_of (instructions_of c)) (sym y)
             go false x = let y = differs k cur.place x in ap (λ (xs : List ℕ). get_or xs k 0) e ∙ get_or-set_other table cur.place k cur.at 0 y ∙ f.entries k (below k cur.place l y)
 
-  pub filled : length (instructionsOf c) ≤ length before → metAt c cur ≡ End → Places c table
+  pub filled : length (instructions_of c) ≤ length before → met_at c cur ≡ End → Places c table
   filled h e =
-      let d = ap length (sym f.rest ∙ met-end c cur e) in let m = length-drop cur.place (instructionsOf c) in let l = f.long in
+      let d = ap length (sym f.rest ∙ met-end c cur e) in let m = length-drop cur.place (instructions_of c) in let l = f.long in
       record { long = omega arith; at = λ k j. f.entries k (omega arith) }
 
 -- ---- where going straight on stops
@@ -114,39 +114,39 @@ decide (question b) = inr (λ e. let z : ◌≡◌ {A = ℕ} 0 1 = cc in omega a
 
 pub record Stopping (c : List ℕ) (n k stop : ℕ) (before table : List ℕ) : Type 0 where
   pub below : k ≤ n
-  pub near : k < n → Stop (instructionsOf c) k stop
-  pub entries : (j : ℕ) → k ≤ j → j < n → Stop (instructionsOf c) j (get_or table j 0)
+  pub near : k < n → Stop (instructions_of c) k stop
+  pub entries : (j : ℕ) → k ≤ j → j < n → Stop (instructions_of c) j (get_or table j 0)
   pub long : length table ≡ length before
 
 pub stopping-start : (c : List ℕ) (n stop : ℕ) (table : List ℕ) → Stopping c n n stop table table
 stopping-start c n stop table = record { below = omega arith; near = λ h. absurd (omega arith); entries = λ j h l. absurd (omega arith); long = refl }
 
-module _ (c : List ℕ) (h : Coded c) (n : ℕ) (en : n ≡ length (instructionsOf c)) (k : ℕ) (l : k < n) where
+module _ (c : List ℕ) (h : Coded c) (n : ℕ) (en : n ≡ length (instructions_of c)) (k : ℕ) (l : k < n) where
   -- the instruction at k
-  pub op-is : (op p : ℕ) → p ≡ start_of (instructionsOf c) k → op ≡ get_or c p 0 → flow op ≡ flowAt (instructionsOf c) k
-  unfolding flowAt
+  pub op-is : (op p : ℕ) → p ≡ start_of (instructions_of c) k → op ≡ get_or c p 0 → flow op ≡ flow_at (instructions_of c) k
+  unfolding flow_at
   op-is op p e f = ap flow (f ∙ ap (λ (x : ℕ). get_or c x 0) e ∙ (op-here c h k (omega arith)).1)
 
-  module _ (stop op r : ℕ) (near : k + 1 < n → Stop (instructionsOf c) (k + 1) stop) (eo : flow op ≡ flowAt (instructionsOf c) k) (w : Nearer r op k stop) where
-    pub stop-here : Stop (instructionsOf c) k r
+  module _ (stop op r : ℕ) (near : k + 1 < n → Stop (instructions_of c) (k + 1) stop) (eo : flow op ≡ flow_at (instructions_of c) k) (w : Nearer r op k stop) where
+    pub stop-here : Stop (instructions_of c) k r
     stop-here = ⊎_elim on off (decide (flow op))
       where
-        on : flow op ≡ straight → Stop (instructionsOf c) k r
+        on : flow op ≡ straight → Stop (instructions_of c) k r
         on e =
-            let up : k + 1 < n = (let z = not_last c h k (omega arith) (λ x. return-goes (get_or (instructionsOf c) k Return).op x (sym (flow-of (instructionsOf c) k) ∙ sym eo ∙ e)) in omega arith) in
+            let up : k + 1 < n = (let z = not_last c h k (omega arith) (λ x. return-goes (get_or (instructions_of c) k Return).op x (sym (flow-of (instructions_of c) k) ∙ sym eo ∙ e)) in omega arith) in
             let s = near up in
             let q = s.from in
-            subst (λ (x : ℕ). Stop (instructionsOf c) k x) (sym (w.on e)) (record { from = omega arith; inside = s.inside; goes = λ j a b. further j a b e s; stops = s.stops })
+            subst (λ (x : ℕ). Stop (instructions_of c) k x) (sym (w.on e)) (record { from = omega arith; inside = s.inside; goes = λ j a b. further j a b e s; stops = s.stops })
           where
-            further : (j : ℕ) → k ≤ j → j < stop → flow op ≡ straight → Stop (instructionsOf c) (k + 1) stop → flowAt (instructionsOf c) j ≡ straight
+            further : (j : ℕ) → k ≤ j → j < stop → flow op ≡ straight → Stop (instructions_of c) (k + 1) stop → flow_at (instructions_of c) j ≡ straight
             further j a b e s = go (eqb j k) refl
               where
-                go : (y : Bool) → eqb j k ≡ y → flowAt (instructionsOf c) j ≡ straight
-                go true x = ap (flowAt (instructionsOf c)) (eqb-true j k x) ∙ sym eo ∙ e
+                go : (y : Bool) → eqb j k ≡ y → flow_at (instructions_of c) j ≡ straight
+                go true x = ap (flow_at (instructions_of c)) (eqb-true j k x) ∙ sym eo ∙ e
                 go false x = let d = differs j k x in s.goes j (above k j a d) b
 
-        off : (flow op ≡ straight → ⊥) → Stop (instructionsOf c) k r
-        off f = subst (λ (x : ℕ). Stop (instructionsOf c) k x) (sym (w.stops f)) (record { from = omega arith; inside = omega arith; goes = λ j a b. absurd (omega arith); stops = λ e. f (eo ∙ e) })
+        off : (flow op ≡ straight → ⊥) → Stop (instructions_of c) k r
+        off f = subst (λ (x : ℕ). Stop (instructions_of c) k x) (sym (w.stops f)) (record { from = omega arith; inside = omega arith; goes = λ j a b. absurd (omega arith); stops = λ e. f (eo ∙ e) })
 
     pub stopping-more : (before table left : List ℕ) → Stopping c n (k + 1) stop before table → k < length table → left ≡ set table k r → Stopping c n k r before left
     stopping-more before table left s m e = record {
@@ -156,36 +156,36 @@ module _ (c : List ℕ) (h : Coded c) (n : ℕ) (en : n ≡ length (instructions
       long = ap length e ∙ length-set table k r ∙ s.long;
     }
       where
-        entry : (j : ℕ) → k ≤ j → j < n → Stop (instructionsOf c) j (get_or left j 0)
+        entry : (j : ℕ) → k ≤ j → j < n → Stop (instructions_of c) j (get_or left j 0)
         entry j a b = go (eqb j k) refl
           where
-            go : (y : Bool) → eqb j k ≡ y → Stop (instructionsOf c) j (get_or left j 0)
+            go : (y : Bool) → eqb j k ≡ y → Stop (instructions_of c) j (get_or left j 0)
             go true x = let y = eqb-true j k x in
-                subst (λ (i : ℕ). Stop (instructionsOf c) i (get_or left i 0)) (sym y) (subst (λ (v : ℕ). Stop (instructionsOf c) k v) (sym (ap (λ (xs : List ℕ). get_or xs k 0) e ∙ get_or-set_same table k r 0 m)) stop-here)
+                subst (λ (i : ℕ). Stop (instructions_of c) i (get_or left i 0)) (sym y) (subst (λ (v : ℕ). Stop (instructions_of c) k v) (sym (ap (λ (xs : List ℕ). get_or xs k 0) e ∙ get_or-set_same table k r 0 m)) stop-here)
             go false x = let d = differs j k x in
-                subst (λ (v : ℕ). Stop (instructionsOf c) j v) (sym (ap (λ (xs : List ℕ). get_or xs j 0) e ∙ get_or-set_other table k j r 0 d)) (s.entries j (above k j a d) b)
+                subst (λ (v : ℕ). Stop (instructions_of c) j v) (sym (ap (λ (xs : List ℕ). get_or xs j 0) e ∙ get_or-set_other table k j r 0 d)) (s.entries j (above k j a d) b)
 
-pub stopped : (c : List ℕ) (n k stop : ℕ) (before table : List ℕ) → n ≡ length (instructionsOf c) → n ≤ length before → k ≤ 0 → Stopping c n k stop before table → Stops c table
+pub stopped : (c : List ℕ) (n k stop : ℕ) (before table : List ℕ) → n ≡ length (instructions_of c) → n ≤ length before → k ≤ 0 → Stopping c n k stop before table → Stops c table
 stopped c n k stop before table e l z s = let m = s.long in record { long = omega arith; at = λ j h. s.entries j (omega arith) (omega arith) }
 
 -- ---- the same in the code's terms: one place back from k
 
-module _ (c : List ℕ) (h : Coded c) (n : ℕ) (en : n ≡ length (instructionsOf c)) (k stop : ℕ) (before table : List ℕ) (s : Stopping c n k stop before table) (l : 0 < k)
+module _ (c : List ℕ) (h : Coded c) (n : ℕ) (en : n ≡ length (instructions_of c)) (k stop : ℕ) (before table : List ℕ) (s : Stopping c n k stop before table) (l : 0 < k)
     (places : List ℕ) (pl : Places c places) (p : ℕ) (ep : p ≡ get_or places (k - 1) 0) where
   back : k - 1 < n
   back = let b = s.below in omega arith
 
-  at_place : p ≡ start_of (instructionsOf c) (k - 1)
+  at_place : p ≡ start_of (instructions_of c) (k - 1)
   at_place = ep ∙ pl.at (k - 1) (let b = back in omega arith)
 
   pub place_in : p < length c
   place_in = let z = (op-here c h (k - 1) (let b = back in omega arith)).0 in let y = at_place in omega arith
 
   module _ (r : ℕ) (w : Nearer r (get_or c p 0) (k - 1) stop) where
-    near_before : k - 1 + 1 < n → Stop (instructionsOf c) (k - 1 + 1) stop
-    near_before x = subst (λ (j : ℕ). Stop (instructionsOf c) j stop) (let z : k ≡ k - 1 + 1 = omega arith in z) (s.near (omega arith))
+    near_before : k - 1 + 1 < n → Stop (instructions_of c) (k - 1 + 1) stop
+    near_before x = subst (λ (j : ℕ). Stop (instructions_of c) j stop) (let z : k ≡ k - 1 + 1 = omega arith in z) (s.near (omega arith))
 
-    stop-back : Stop (instructionsOf c) (k - 1) r
+    stop-back : Stop (instructions_of c) (k - 1) r
     stop-back = stop-here c h n en (k - 1) back stop (get_or c p 0) r near_before (op-is c h n en (k - 1) back (get_or c p 0) p at_place refl) w
 
     pub stop-less : r < 2 ^ 32

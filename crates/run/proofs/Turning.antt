@@ -11,11 +11,11 @@ use lib.Seq.{drop-cons}
 use Rattle.definitions.specs.Instruction.{Instr, Return}
 use Rattle.definitions.specs.Reader.{landing}
 use Rattle.definitions.specs.Run.{Ran, ended, after, Flow, straight, jump, question, returns, flow, way, obey, run}
-use Rattle.reader.specs.View.{numberAt, instructionsOf, start_of}
+use Rattle.reader.specs.View.{number_at, instructions_of, start_of}
 use Rattle.run.specs.declared.Stand.{Stand}
 use Rattle.run.specs.declared.Turned.{Turned}
 use Rattle.run.specs.declared.Turned.TheVariants.{On, Over, Full}
-use Rattle.run.specs.Pass.{Coded, flowAt, Stands, AtStop, Reaches, Asked, Starved, Asks, onward, Turning, Ending, Turns}
+use Rattle.run.specs.Pass.{Coded, flow_at, Stands, AtStop, Reaches, Asked, Starved, Asks, onward, Turning, Ending, Turns}
 use Rattle.definitions.proofs.Flows.{stop-jumps, jump-width, is-jump, flow-jump, flow-returns, flow-question, way-below}
 use Rattle.run.proofs.Flows.{return-bytes}
 use Rattle.run.proofs.Coding.{op-here, operand-here, not_last, jump-inside}
@@ -29,7 +29,7 @@ module _ (c answers : List ℕ) (budget room : ℕ) (s : Stand) where
   spent f e before = record {
     leads = record {
       events = [];
-      is = ap (λ (b : ℕ). run b (instructionsOf c) s.place (drop s.used answers)) (let z : budget - s.steps ≡ 0 = omega arith in z) ∙ after_none (ended 3)
+      is = ap (λ (b : ℕ). run b (instructions_of c) s.place (drop s.used answers)) (let z : budget - s.steps ≡ 0 = omega arith in z) ∙ after_none (ended 3)
           ∙ ap₂ (λ (x y : ℕ). after x y [] (ended 3)) (let z : 0 ≡ s.steps - s.steps = omega arith in z) (let z : 0 ≡ s.used - s.used = omega arith in z);
       steps = omega arith;
       used = omega arith;
@@ -41,7 +41,7 @@ module _ (c answers : List ℕ) (budget room : ℕ) (s : Stand) where
 
   module _ (h : Coded c) (st : Stands c budget room s) (l : s.steps ≡ budget → ⊥) where
     i : Instr
-    i = get_or (instructionsOf c) s.place Return
+    i = get_or (instructions_of c) s.place Return
 
     pub less : s.steps < budget
     less = let a = st.steps in strictly s.steps budget a l
@@ -50,16 +50,16 @@ module _ (c answers : List ℕ) (budget room : ℕ) (s : Stand) where
         strictly x y l f = omega arith
 
     go : ℕ → List ℕ → Ran
-    go q rest = run (budget - (s.steps + 1)) (instructionsOf c) q rest
+    go q rest = run (budget - (s.steps + 1)) (instructions_of c) q rest
 
     obeyed : (w : Flow) → flow i.op ≡ w → onward c answers budget s ≡ obey w i s.place (drop s.used answers) go
     unfolding onward run i go
     obeyed w e =
         let z = less in
-        ap (λ (b : ℕ). run b (instructionsOf c) s.place (drop s.used answers)) (let y : budget - s.steps ≡ suc (budget - (s.steps + 1)) = omega arith in y)
+        ap (λ (b : ℕ). run b (instructions_of c) s.place (drop s.used answers)) (let y : budget - s.steps ≡ suc (budget - (s.steps + 1)) = omega arith in y)
         ∙ ap (λ (x : Flow). obey x i s.place (drop s.used answers) go) e
 
-    module _ (op : ℕ) (eo : op ≡ get_or c (start_of (instructionsOf c) s.place) 0) where
+    module _ (op : ℕ) (eo : op ≡ get_or c (start_of (instructions_of c) s.place) 0) where
       op-is : op ≡ i.op
       unfolding i
       op-is = eo ∙ (op-here c h s.place st.place).1
@@ -94,24 +94,24 @@ module _ (c answers : List ℕ) (budget room : ℕ) (s : Stand) where
       -- a jump or a question
       module _ (r : op ≡ 33 → ⊥) (stop : AtStop c budget s) where
         not-straight : flow i.op ≡ straight → ⊥
-        unfolding AtStop flowAt i
-        not-straight e = ⊎_elim (λ (z : s.steps ≡ budget). l z) (λ (f : flowAt (instructionsOf c) s.place ≡ straight → ⊥). f e) stop
+        unfolding AtStop flow_at i
+        not-straight e = ⊎_elim (λ (z : s.steps ≡ budget). l z) (λ (f : flow_at (instructions_of c) s.place ≡ straight → ⊥). f e) stop
 
         ranged : (28 ≤ i.op) × (i.op ≤ 30)
         ranged = stop-jumps i.op not-straight (λ z. r (op-is ∙ z))
 
-        operand : (start_of (instructionsOf c) s.place + 1 + 4 ≤ length c) × (numberAt 4 c (start_of (instructionsOf c) s.place + 1) ≡ i.a)
+        operand : (start_of (instructions_of c) s.place + 1 + 4 ≤ length c) × (number_at 4 c (start_of (instructions_of c) s.place + 1) ≡ i.a)
         unfolding i
         operand = operand-here c h s.place st.place (jump-width i.op ranged.0 ranged.1)
 
-        pub operand_in : start_of (instructionsOf c) s.place + 1 + 4 ≤ length c
+        pub operand_in : start_of (instructions_of c) s.place + 1 + 4 ≤ length c
         operand_in = operand.0
 
-        lands : landing s.place i.a < length (instructionsOf c)
+        lands : landing s.place i.a < length (instructions_of c)
         unfolding i
         lands = jump-inside c h s.place st.place (is-jump i.op ranged.0 ranged.1)
 
-        module _ (a : ℕ) (ea : a ≡ numberAt 4 c (start_of (instructionsOf c) s.place + 1)) where
+        module _ (a : ℕ) (ea : a ≡ number_at 4 c (start_of (instructions_of c) s.place + 1)) where
           a-is : a ≡ i.a
           a-is = ea ∙ operand.1
 
@@ -126,13 +126,13 @@ module _ (c answers : List ℕ) (budget room : ℕ) (s : Stand) where
                   events = [];
                   is = obeyed jump (flow-jump i.op (sym op-is ∙ e))
                       ∙ (let e1 : 1 ≡ s.steps + 1 - s.steps = omega arith in let e2 : 0 ≡ s.used - s.used = omega arith in
-                      λ y. after (e1 y) (e2 y) [] (run (budget - (s.steps + 1)) (instructionsOf c) (g y) (drop s.used answers)));
+                      λ y. after (e1 y) (e2 y) [] (run (budget - (s.steps + 1)) (instructions_of c) (g y) (drop s.used answers)));
                   steps = omega arith;
                   used = omega arith;
                   written = omega arith;
                   copied = copied_none before s.written;
                 };
-                stands = record { steps = omega arith; written = st.written; place = subst (λ (x : ℕ). x < length (instructionsOf c)) g lands };
+                stands = record { steps = omega arith; written = st.written; place = subst (λ (x : ℕ). x < length (instructions_of c)) g lands };
                 less = omega arith;
               }
 
@@ -161,11 +161,11 @@ module _ (c answers : List ℕ) (budget room : ℕ) (s : Stand) where
                 (subst (λ (x : List ℕ). Ending (onward c answers budget s) 2 room s s before x) e3 same))
 
             answered : s.used < length answers → onward c answers budget s
-                ≡ after 1 1 (op ∷ get_or answers s.used 0 ∷ []) (run (budget - (s.steps + 1)) (instructionsOf c) (way (eqb op 30) (eqb (get_or answers s.used 0) 1) s.place a) (drop (s.used + 1) answers))
+                ≡ after 1 1 (op ∷ get_or answers s.used 0 ∷ []) (run (budget - (s.steps + 1)) (instructions_of c) (way (eqb op 30) (eqb (get_or answers s.used 0) 1) s.place a) (drop (s.used + 1) answers))
             unfolding obey go
             answered u = asks
                 ∙ ap (λ (xs : List ℕ). obey (question (eqb op 30)) i s.place xs go) (drop-cons answers s.used 0 u ∙ ap (λ (j : ℕ). get_or answers s.used 0 ∷ drop j answers) (sym (add-one s.used)))
-                ∙ ap₂ (λ (x y : ℕ). after 1 1 (x ∷ get_or answers s.used 0 ∷ []) (run (budget - (s.steps + 1)) (instructionsOf c) (way (eqb op 30) (eqb (get_or answers s.used 0) 1) s.place y) (drop (s.used + 1) answers))) (sym op-is) (sym a-is)
+                ∙ ap₂ (λ (x y : ℕ). after 1 1 (x ∷ get_or answers s.used 0 ∷ []) (run (budget - (s.steps + 1)) (instructions_of c) (way (eqb op 30) (eqb (get_or answers s.used 0) 1) s.place y) (drop (s.used + 1) answers))) (sym op-is) (sym a-is)
 
             goes : (u : Stand) (before left : List ℕ) → Asked op a answers room s u before left → Turns (On u) c answers budget room s before left
             unfolding Turns onward i
@@ -186,7 +186,7 @@ module _ (c answers : List ℕ) (budget room : ℕ) (s : Stand) where
                   stands = record {
                     steps = omega arith;
                     written = f;
-                    place = way-below (length (instructionsOf c)) s.place a (eqb op 30) (eqb (get_or answers s.used 0) 1) (subst (λ (x : ℕ). landing s.place x < length (instructionsOf c)) (sym a-is) lands) (not_last c h s.place st.place (λ x. r (op-is ∙ x)));
+                    place = way-below (length (instructions_of c)) s.place a (eqb op 30) (eqb (get_or answers s.used 0) 1) (subst (λ (x : ℕ). landing s.place x < length (instructions_of c)) (sym a-is) lands) (not_last c h s.place st.place (λ x. r (op-is ∙ x)));
                   };
                   less = omega arith;
                 })
@@ -195,7 +195,7 @@ module _ (c answers : List ℕ) (budget room : ℕ) (s : Stand) where
             unfolding Turns
             no_room before left f =
                 let x = f.1 in
-                let rest = run (budget - (s.steps + 1)) (instructionsOf c) (way (eqb op 30) (eqb (get_or answers s.used 0) 1) s.place a) (drop (s.used + 1) answers) in
+                let rest = run (budget - (s.steps + 1)) (instructions_of c) (way (eqb op 30) (eqb (get_or answers s.used 0) 1) s.place a) (drop (s.used + 1) answers) in
                 let v : length (onward c answers budget s).events ≡ 2 + length rest.events =
                 ap (λ (x : Ran). length x.events) (answered f.0) ∙ length-append (op ∷ get_or answers s.used 0 ∷ []) rest.events in omega arith
 

@@ -1,8 +1,8 @@
 // A run's passes over a function's code: the events are measured first, and written where they fit.
 ghost use Rattle.std.specs.Prelude.{◌≡◌, ◌≤◌, length};
 ghost use Rattle.definitions.specs.Run as Run;
-ghost use Rattle.definitions.specs.Calls.{eventsFit, ranCall};
-ghost use Rattle.reader.specs.View.{instructionsOf};
+ghost use Rattle.definitions.specs.Calls.{events_fit, ran_call};
+ghost use Rattle.reader.specs.View.{instructions_of};
 ghost use Rattle.run.specs.Pass.{Coded, Places, Stops, Passes, Called};
 
 use crate::steps::{stretch, turn};
@@ -20,7 +20,7 @@ pub(crate) fn pass(
     events: &mut [u8],
 ) -> Passed
     requires { Coded code.now × Places code.now places.now × Stops code.now stops.now }
-    ensures { Passes result (Run.run budget (instructionsOf code.now) 0 answers.now) room events.old events.new }
+    ensures { Passes result (Run.run budget (instructions_of code.now) 0 answers.now) room events.old events.new }
 {
     let mut s = Stand {
         steps: 0,
@@ -58,7 +58,7 @@ pub(crate) fn run_tables(
     events: &mut [u8],
 ) -> Outcome
     requires { Coded code.now × Places code.now places.now × Stops code.now stops.now }
-    ensures { Called result (ranCall (eventsFit (length events.old) (Run.run budget (instructionsOf code.now) 0 answers.now)) events.old) events.new }
+    ensures { Called result (ran_call (events_fit (length events.old) (Run.run budget (instructions_of code.now) 0 answers.now)) events.old) events.new }
 {
     let room = events.len();
     let measured = pass(
@@ -88,8 +88,8 @@ pub(crate) fn run_small(
     budget: u64,
     events: &mut [u8],
 ) -> Outcome
-    requires { Coded code.now × (n ≡ length (instructionsOf code.now)) × (n ≤ 8192) }
-    ensures { Called result (ranCall (eventsFit (length events.old) (Run.run budget (instructionsOf code.now) 0 answers.now)) events.old) events.new }
+    requires { Coded code.now × (n ≡ length (instructions_of code.now)) × (n ≤ 8192) }
+    ensures { Called result (ran_call (events_fit (length events.old) (Run.run budget (instructions_of code.now) 0 answers.now)) events.old) events.new }
 {
     let mut places = [0u32; 8192];
     fill_places(code, &mut places);
@@ -106,8 +106,8 @@ pub(crate) fn run_large(
     budget: u64,
     events: &mut [u8],
 ) -> Outcome
-    requires { Coded code.now × (n ≡ length (instructionsOf code.now)) × (n ≤ 65536) }
-    ensures { Called result (ranCall (eventsFit (length events.old) (Run.run budget (instructionsOf code.now) 0 answers.now)) events.old) events.new }
+    requires { Coded code.now × (n ≡ length (instructions_of code.now)) × (n ≤ 65536) }
+    ensures { Called result (ran_call (events_fit (length events.old) (Run.run budget (instructions_of code.now) 0 answers.now)) events.old) events.new }
 {
     let mut places = [0u32; 65536];
     fill_places(code, &mut places);
@@ -124,8 +124,8 @@ pub(crate) fn run_code(
     budget: u64,
     events: &mut [u8],
 ) -> Outcome
-    requires { Coded code.now × (n ≡ length (instructionsOf code.now)) }
-    ensures { Called result (ranCall (eventsFit (length events.old) (Run.run budget (instructionsOf code.now) 0 answers.now)) events.old) events.new }
+    requires { Coded code.now × (n ≡ length (instructions_of code.now)) }
+    ensures { Called result (ran_call (events_fit (length events.old) (Run.run budget (instructions_of code.now) 0 answers.now)) events.old) events.new }
 {
     if n <= 8192 {
         return run_small(code, n, answers, budget, events);

@@ -1,7 +1,7 @@
 // Tables of a function's code, made once for a run: where each instruction begins, and where going straight on from it stops.
 ghost use Rattle.std.specs.Prelude.{◌≡◌, ◌≤◌, ◌<◌, length};
 ghost use Rattle.definitions.specs.Run.{straight};
-ghost use Rattle.reader.specs.View.{instructionsOf};
+ghost use Rattle.reader.specs.View.{instructions_of};
 ghost use Rattle.run.specs.Pass.{Coded, Places, Stops, GoesOn, Nearer};
 
 use numerals::op_bytes;
@@ -15,7 +15,7 @@ pub fn wide(x: u32) -> usize
 
 // Where each instruction begins.
 pub fn fill_places(code: &[u8], places: &mut [u32])
-    requires { Coded code.now × (length (instructionsOf code.now) ≤ length places.old) }
+    requires { Coded code.now × (length (instructions_of code.now) ≤ length places.old) }
     ensures { Places code.now places.new }
 {
     let mut c = Cursor { place: 0, at: 0 };
@@ -55,7 +55,7 @@ pub(crate) fn nearer(op: u8, k: usize, stop: usize) -> usize
 
 // Where going straight on stops, from each of n instructions on.
 pub(crate) fn fill_stops(code: &[u8], places: &[u32], n: usize, stops: &mut [u32])
-    requires { Coded code.now × Places code.now places.now × (n ≡ length (instructionsOf code.now)) × (n ≤ length stops.old) }
+    requires { Coded code.now × Places code.now places.now × (n ≡ length (instructions_of code.now)) × (n ≤ length stops.old) }
     ensures { Stops code.now stops.new }
 {
     let mut k = n;

@@ -11,11 +11,11 @@ use borrow.Author.Tests.{eq-eqb, ne_eqb}
 use borrow.Rule.Slice.PartMut.{mid_of, post_of, put_mid}
 use Rattle.definitions.specs.Calls.{zeros}
 use Rattle.definitions.specs.Search.{Table, meet}
-use Rattle.search.specs.View.{marksOf, tableIn, at_start, Meets, Beginning}
+use Rattle.search.specs.View.{marks_of, table_in, at_start, Meets, Beginning}
 
 -- the mark of a place
-pub mark-at : (n : ℕ) (area : List ℕ) (q : ℕ) → q < n → get_or (marksOf n area) q 0 ≡ get_or area (65536 + q) 0
-unfolding marksOf
+pub mark-at : (n : ℕ) (area : List ℕ) (q : ℕ) → q < n → get_or (marks_of n area) q 0 ≡ get_or area (65536 + q) 0
+unfolding marks_of
 mark-at n area q h = get_or-take n (drop 65536 area) q 0 h ∙ get_or-drop 65536 area q 0
 
 -- ---- a search begins
@@ -42,8 +42,8 @@ module _ (area zs : List ℕ) (n : ℕ) (B : Beginning area n) (e : zs ≡ zeros
       take-append-le n (take 65536 area) (zs ++ post_of 65536 n area) (let z = length-take-le 65536 area (omega arith) in omega arith)
       ∙ take-take n 65536 area (omega arith)
 
-  begins-with : (root : ℕ) → tableIn n (set (set (put_mid 65536 n area zs) 0 0) 65536 root) 1 ≡ at_start n root area
-  unfolding tableIn at_start marksOf
+  begins-with : (root : ℕ) → table_in n (set (set (put_mid 65536 n area zs) 0 0) 65536 root) 1 ≡ at_start n root area
+  unfolding table_in at_start marks_of
   begins-with root =
       let f = B.few in let s = B.some in
       let mid = put_mid 65536 n area zs in
@@ -56,26 +56,26 @@ module _ (area zs : List ℕ) (n : ℕ) (B : Beginning area n) (e : zs ≡ zeros
 
 -- the part of the area that was lent has k words
 pub begins : (area zs : List ℕ) (n k root : ℕ) → Beginning area n → k ≡ n → zs ≡ zeros (mid_of 65536 k area)
-    → tableIn n (set (set (put_mid 65536 k area zs) 0 0) 65536 root) 1 ≡ at_start n root area
+    → table_in n (set (set (put_mid 65536 k area zs) 0 0) 65536 root) 1 ≡ at_start n root area
 begins area zs n k root B e f =
-    subst (λ (j : ℕ). zs ≡ zeros (mid_of 65536 j area) → tableIn n (set (set (put_mid 65536 j area zs) 0 0) 65536 root) 1 ≡ at_start n root area) (sym e)
+    subst (λ (j : ℕ). zs ≡ zeros (mid_of 65536 j area) → table_in n (set (set (put_mid 65536 j area zs) 0 0) 65536 root) 1 ≡ at_start n root area) (sym e)
     (λ g. begins-with area zs n B g root) f
 
 -- ---- a place is met
 
 module _ (area : List ℕ) (tail v q : ℕ) where
   -- by its mark in the table
-  by-mark : (n : ℕ) (b : Bool) → eqb (get_or (marksOf n area) q 0) 0 ≡ b
-      → meet v q (tableIn n area tail) ≡ (elim b as (λ z. Table) [ true ↦ record { queue = set (take n area) tail q; marks = set (marksOf n area) q v; tail = tail + 1 } | false ↦ tableIn n area tail ])
-  unfolding meet tableIn
+  by-mark : (n : ℕ) (b : Bool) → eqb (get_or (marks_of n area) q 0) 0 ≡ b
+      → meet v q (table_in n area tail) ≡ (elim b as (λ z. Table) [ true ↦ record { queue = set (take n area) tail q; marks = set (marks_of n area) q v; tail = tail + 1 } | false ↦ table_in n area tail ])
+  unfolding meet table_in
   by-mark n b e =
-      ap (λ (x : Bool). elim x as (λ z. Table) [ true ↦ record { queue = set (take n area) tail q; marks = set (marksOf n area) q v; tail = tail + 1 } | false ↦ tableIn n area tail ]) e
+      ap (λ (x : Bool). elim x as (λ z. Table) [ true ↦ record { queue = set (take n area) tail q; marks = set (marks_of n area) q v; tail = tail + 1 } | false ↦ table_in n area tail ]) e
 
   pub met-before : (get_or area (65536 + q) 0 ≡ 0 → ⊥) → Meets tail area area tail v q
-  met-before h = record { in_table = λ n few to room. sym (by-mark n false (ne_eqb (get_or (marksOf n area) q 0) 0 (λ e. h (sym (mark-at n area q to) ∙ e)))) }
+  met-before h = record { in_table = λ n few to room. sym (by-mark n false (ne_eqb (get_or (marks_of n area) q 0) 0 (λ e. h (sym (mark-at n area q to) ∙ e)))) }
 
   pub met-now : get_or area (65536 + q) 0 ≡ 0 → Meets (tail + 1) area (set (set area tail q) (65536 + q) v) tail v q
-  unfolding tableIn marksOf
+  unfolding table_in marks_of
   met-now e = record {
     in_table = λ n few to room.
         let t = room e in
@@ -84,5 +84,5 @@ module _ (area : List ℕ) (tail v q : ℕ) where
         let y : take n (drop 65536 (set (set area tail q) (65536 + q) v)) ≡ set (take n (drop 65536 area)) q v =
         ap (take n) (drop-set-add 65536 (set area tail q) q v ∙ ap (λ (l : List ℕ). set l q v) (drop-set-lt 65536 area tail q (omega arith)))
         ∙ take-set-lt n (drop 65536 area) q v to in
-        (λ i. record { queue = x i; marks = y i; tail = tail + 1 }) ∙ sym (by-mark n true (eq-eqb (get_or (marksOf n area) q 0) 0 (mark-at n area q to ∙ e)));
+        (λ i. record { queue = x i; marks = y i; tail = tail + 1 }) ∙ sym (by-mark n true (eq-eqb (get_or (marks_of n area) q 0) 0 (mark-at n area q to ∙ e)));
   }

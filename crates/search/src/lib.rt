@@ -1,9 +1,9 @@
 // A search of the places of a function's code that some answers bring a run to. The queue stands in a work area from its start on, the marks of the
 // places behind it.
 ghost use Rattle.std.specs.Prelude.{◌≡◌};
-ghost use Rattle.definitions.specs.Search.{byLink, Swept};
-ghost use Rattle.reader.specs.View.{instructionsOf};
-ghost use Rattle.search.specs.View.{tableIn, marksOf, marks, at_start, Meetable, Meets, Beginning, Expandable, Expands, Searchable};
+ghost use Rattle.definitions.specs.Search.{by_link, Swept};
+ghost use Rattle.reader.specs.View.{instructions_of};
+ghost use Rattle.search.specs.View.{table_in, marks_of, marks, at_start, Meetable, Meets, Beginning, Expandable, Expands, Searchable};
 
 use areas::clear;
 use reader::{jump_target, number_at};
@@ -35,7 +35,7 @@ fn meet(area: &mut [u32], tail: usize, mark: u32, q: usize) -> usize
 // A search of n places begins: place 0 has the mark `root` and stands in the queue alone.
 fn begin(area: &mut [u32], n: usize, root: u32)
     requires { Beginning area.old n }
-    ensures { tableIn n area.new 1 ≡ at_start n root area.old }
+    ensures { table_in n area.new 1 ≡ at_start n root area.old }
 {
     clear(&mut area[MARKS..MARKS + n]);
     area[0] = 0;
@@ -78,7 +78,7 @@ fn expand(
 // The search of n places with marks that tell the way: afterwards the marked places are those that some answers bring a run to.
 pub fn sweep(code: &[u8], places: &[u32], area: &mut [u32], n: usize)
     requires { Searchable code.now places.now area.old n }
-    ensures { Swept byLink (instructionsOf code.now) (marksOf n area.new) }
+    ensures { Swept by_link (instructions_of code.now) (marks_of n area.new) }
 {
     begin(area, n, ROOT);
     let mut head = 0usize;

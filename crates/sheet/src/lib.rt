@@ -2,12 +2,12 @@
 mod lines;
 
 ghost use Rattle.std.specs.Prelude.{◌+◌, ◌≤◌, ◌<◌, length};
-ghost use Rattle.definitions.specs.Calls.{sheetCall};
+ghost use Rattle.definitions.specs.Calls.{sheet_call};
 ghost use Rattle.definitions.specs.Module.{instructions};
-ghost use Rattle.definitions.specs.Reader.{functionRecord};
-ghost use Rattle.definitions.specs.Sheet.{sheetOf};
+ghost use Rattle.definitions.specs.Reader.{function_record};
+ghost use Rattle.definitions.specs.Sheet.{sheet_of};
 ghost use Rattle.writing.specs.Wrote.{Wrote};
-ghost use Rattle.tally.specs.Walk.{Values, functionsFrom, FunctionsAt};
+ghost use Rattle.tally.specs.Walk.{Values, functions_from, FunctionsAt};
 ghost use Rattle.tally.specs.Listed.{Printed};
 
 use lines::{write_count, write_total};
@@ -19,8 +19,8 @@ const LINE: usize = 41;
 
 // The lines of `count` functions from `at` on, and their totals.
 fn write_sheet(bytes: &[u8], at: usize, count: u64, out: &mut [u8]) -> usize
-    requires { Values functionRecord count bytes.now at × (count < 65536) × (instructions (functionsFrom count bytes.now at) < 1000000) × (length (sheetOf (functionsFrom count bytes.now at)) ≤ length out.old) }
-    ensures { Wrote result (sheetOf (functionsFrom count bytes.now at)) out.old out.new }
+    requires { Values function_record count bytes.now at × (count < 65536) × (instructions (functions_from count bytes.now at) < 1000000) × (length (sheet_of (functions_from count bytes.now at)) ≤ length out.old) }
+    ensures { Wrote result (sheet_of (functions_from count bytes.now at)) out.old out.new }
 {
     let mut p = at;
     let mut put = 0usize;
@@ -46,7 +46,7 @@ fn write_sheet(bytes: &[u8], at: usize, count: u64, out: &mut [u8]) -> usize
 // The count sheet of a module whose functions begin at `at`.
 fn sheet_functions(bytes: &[u8], at: usize, out: &mut [u8]) -> Listed
     requires { FunctionsAt bytes.now at }
-    ensures { Printed result (sheetCall bytes.now out.old) out.new }
+    ensures { Printed result (sheet_call bytes.now out.old) out.new }
 {
     let count = number_at(bytes, at, 2);
     if (out.len() as u64) < LINE as u64 * (count + 1) {
@@ -58,7 +58,7 @@ fn sheet_functions(bytes: &[u8], at: usize, out: &mut [u8]) -> Listed
 
 // The count sheet of a module, written only where it fits.
 pub fn count_sheet(bytes: &[u8], out: &mut [u8]) -> Listed
-    ensures { Printed result (sheetCall bytes.now out.old) out.new }
+    ensures { Printed result (sheet_call bytes.now out.old) out.new }
 {
     let opened = open_module(bytes);
     match opened {

@@ -16,29 +16,29 @@ use Rattle.definitions.specs.Bytes.{Name, same, position, member}
 use Rattle.definitions.specs.Slots.{add}
 use Rattle.definitions.proofs.Resolve.{position-lt}
 use Rattle.state.specs.Words.{name_at}
-use Rattle.state.specs.Index.{bucketOf, Covered, noneCovered, start_of}
-use Rattle.state.specs.State.{names_at, slotsFrom, slotNames, Slots, foundOr}
-use Rattle.parts.specs.Places.{nameBytes}
-use Rattle.names.specs.Sought.{soughtFrom}
+use Rattle.state.specs.Index.{bucket_of, Covered, none_covered, start_of}
+use Rattle.state.specs.State.{names_at, slots_from, slot_names, Slots, found_or}
+use Rattle.parts.specs.Places.{name_bytes}
+use Rattle.names.specs.Sought.{sought_from}
 use Rattle.names.proofs.Indexing.{place_found, slot-found, covered_out, covered-part, covered-snoc}
-use Rattle.slots.specs.Slotted.{leading, firstNames, Indexed, IsBucket, Added}
+use Rattle.slots.specs.Slotted.{leading, first_names, Indexed, IsBucket, Added}
 
 -- the two views of a name in the tree are one
-pub name-bytes : (t : List ℕ) (p : ℕ) → name_at t p ≡ nameBytes t p
-unfolding name_at nameBytes
+pub name-bytes : (t : List ℕ) (p : ℕ) → name_at t p ≡ name_bytes t p
+unfolding name_at name_bytes
 name-bytes t p = refl
 
 -- ---- a name among names
 
-pub found-member : (x : Name) (xs : List Name) (n : ℕ) → n ≡ length xs → ltb (foundOr n (position (same x) xs)) n ≡ member x xs
-unfolding member foundOr
+pub found-member : (x : Name) (xs : List Name) (n : ℕ) → n ≡ length xs → ltb (found_or n (position (same x) xs)) n ≡ member x xs
+unfolding member found_or
 found-member x xs n e = go (position (same x) xs) refl
   where
-    go : (o : Option ℕ) → position (same x) xs ≡ o → ltb (foundOr n o) n ≡ elim o as (λ _. Bool) [ none ↦ false | some i ↦ true ]
+    go : (o : Option ℕ) → position (same x) xs ≡ o → ltb (found_or n o) n ≡ elim o as (λ _. Bool) [ none ↦ false | some i ↦ true ]
     go none h = le-ltb n n (omega arith)
     go (some k) h = let i = position-lt (same x) xs k h in lt-ltb k n (omega arith)
 
-pub found-slot : (t ps : List ℕ) (p : ℕ) (x : Name) (k : ℕ) → x ≡ name_at t p → k ≡ foundOr (length ps) (position (same x) (names_at t ps)) → ltb k (length ps) ≡ member (nameBytes t p) (names_at t ps)
+pub found-slot : (t ps : List ℕ) (p : ℕ) (x : Name) (k : ℕ) → x ≡ name_at t p → k ≡ found_or (length ps) (position (same x) (names_at t ps)) → ltb k (length ps) ≡ member (name_bytes t p) (names_at t ps)
 unfolding names_at
 found-slot t ps p x k e f =
     ap (λ (i : ℕ). ltb i (length ps)) f ∙ found-member x (map (name_at t) ps) (length ps) (sym (length-map ps (name_at t)))
@@ -54,7 +54,7 @@ pub names-append : (t : List ℕ) (ps qs : List ℕ) → names_at t (ps ++ qs) �
 unfolding names_at
 names-append t ps qs = map-append (name_at t) ps qs
 
-pub names-one : (t : List ℕ) (p : ℕ) → names_at t (p ∷ []) ≡ nameBytes t p ∷ []
+pub names-one : (t : List ℕ) (p : ℕ) → names_at t (p ∷ []) ≡ name_bytes t p ∷ []
 unfolding names_at
 names-one t p = ap (λ (x : Name). x ∷ []) (name-bytes t p)
 
@@ -62,31 +62,31 @@ pub leading_length : (t : List ℕ) (n : ℕ) (ps : List ℕ) → n ≤ length p
 unfolding leading
 leading_length t n ps h = names-length t (take n ps) ∙ length-take-le n ps h
 
-pub leading-set : (t : List ℕ) (n p : ℕ) (ps : List ℕ) → n < length ps → leading t (n + 1) (set ps n p) ≡ leading t n ps ++ nameBytes t p ∷ []
+pub leading-set : (t : List ℕ) (n p : ℕ) (ps : List ℕ) → n < length ps → leading t (n + 1) (set ps n p) ≡ leading t n ps ++ name_bytes t p ∷ []
 unfolding leading
 leading-set t n p ps h =
     ap (λ (k : ℕ). names_at t (take k (set ps n p))) (add-one n) ∙ ap (names_at t) (take-suc-set ps n p h) ∙ names-append t (take n ps) (p ∷ [])
     ∙ ap (λ (l : List Name). names_at t (take n ps) ++ l) (names-one t p)
 
-pub first-leading : (t : List ℕ) (n : ℕ) (ps : List ℕ) → firstNames t n ps ≡ leading t n (drop slotsFrom ps)
-unfolding firstNames leading
+pub first-leading : (t : List ℕ) (n : ℕ) (ps : List ℕ) → first_names t n ps ≡ leading t n (drop slots_from ps)
+unfolding first_names leading
 first-leading t n ps = refl
 
 -- places are those after the index
-pub places-length : (ps : List ℕ) → length (drop slotsFrom ps) ≡ length ps - slotsFrom
-places-length ps = length-drop slotsFrom ps
+pub places-length : (ps : List ℕ) → length (drop slots_from ps) ≡ length ps - slots_from
+places-length ps = length-drop slots_from ps
 
-pub first-length : (t : List ℕ) (n : ℕ) (ps : List ℕ) → slotsFrom + n ≤ length ps → length (firstNames t n ps) ≡ n
-first-length t n ps h = ap length (first-leading t n ps) ∙ leading_length t n (drop slotsFrom ps) (let e = places-length ps in omega arith)
+pub first-length : (t : List ℕ) (n : ℕ) (ps : List ℕ) → slots_from + n ≤ length ps → length (first_names t n ps) ≡ n
+first-length t n ps h = ap length (first-leading t n ps) ∙ leading_length t n (drop slots_from ps) (let e = places-length ps in omega arith)
 
-pub first-set : (t : List ℕ) (n p : ℕ) (ps : List ℕ) → slotsFrom + n < length ps → firstNames t (n + 1) (set ps (slotsFrom + n) p) ≡ firstNames t n ps ++ nameBytes t p ∷ []
+pub first-set : (t : List ℕ) (n p : ℕ) (ps : List ℕ) → slots_from + n < length ps → first_names t (n + 1) (set ps (slots_from + n) p) ≡ first_names t n ps ++ name_bytes t p ∷ []
 first-set t n p ps h =
-    first-leading t (n + 1) (set ps (slotsFrom + n) p) ∙ ap (leading t (n + 1)) (drop-set-add slotsFrom ps n p) ∙ leading-set t n p (drop slotsFrom ps) (let e = places-length ps in omega arith)
-    ∙ ap (λ (l : List Name). l ++ nameBytes t p ∷ []) (sym (first-leading t n ps))
+    first-leading t (n + 1) (set ps (slots_from + n) p) ∙ ap (leading t (n + 1)) (drop-set-add slots_from ps n p) ∙ leading-set t n p (drop slots_from ps) (let e = places-length ps in omega arith)
+    ∙ ap (λ (l : List Name). l ++ name_bytes t p ∷ []) (sym (first-leading t n ps))
 
-pub first-bucket : (t : List ℕ) (n b v : ℕ) (ps : List ℕ) → b < slotsFrom → firstNames t n (set ps b v) ≡ firstNames t n ps
-unfolding firstNames
-first-bucket t n b v ps h = ap (λ (l : List ℕ). names_at t (take n l)) (drop-set-lt slotsFrom ps b v h)
+pub first-bucket : (t : List ℕ) (n b v : ℕ) (ps : List ℕ) → b < slots_from → first_names t n (set ps b v) ≡ first_names t n ps
+unfolding first_names
+first-bucket t n b v ps h = ap (λ (l : List ℕ). names_at t (take n l)) (drop-set-lt slots_from ps b v h)
 
 -- ---- a name added
 
@@ -103,64 +103,64 @@ pub part-before : (n : ℕ) (ps : List ℕ) → take (n - 0) (drop 0 ps) ≡ tak
 part-before n ps = ap (λ (k : ℕ). take k ps) (let e : n - 0 ≡ n = omega arith in e)
 
 -- the number of the slot that has the name, by the search of the code
-pub slot-told : (t slots : List ℕ) (p b r : ℕ) (y : Name) → Slots t slots → IsBucket b t p → y ≡ name_at t p → r ≡ soughtFrom (get_or slots b 0) y (names_at t (take (length slots - slotsFrom) (drop slotsFrom slots)))
-    → r ≡ foundOr (length slots - slotsFrom) (position (same (nameBytes t p)) (slotNames t slots))
+pub slot-told : (t slots : List ℕ) (p b r : ℕ) (y : Name) → Slots t slots → IsBucket b t p → y ≡ name_at t p → r ≡ sought_from (get_or slots b 0) y (names_at t (take (length slots - slots_from) (drop slots_from slots)))
+    → r ≡ found_or (length slots - slots_from) (position (same (name_bytes t p)) (slot_names t slots))
 slot-told t slots p b r y s q e f =
-    slot-found t slots (name_at t p) y b r s e (q.is ∙ ap (bucketOf slotsFrom) (sym e)) f
-    ∙ ap (λ (n : ℕ). foundOr n (position (same (name_at t p)) (slotNames t slots))) (places-length slots) ∙ ap (λ (x : Name). foundOr (length slots - slotsFrom) (position (same x) (slotNames t slots))) (name-bytes t p)
+    slot-found t slots (name_at t p) y b r s e (q.is ∙ ap (bucket_of slots_from) (sym e)) f
+    ∙ ap (λ (n : ℕ). found_or n (position (same (name_at t p)) (slot_names t slots))) (places-length slots) ∙ ap (λ (x : Name). found_or (length slots - slots_from) (position (same x) (slot_names t slots))) (name-bytes t p)
 
 -- whether one of the first n slots has the name, by the search of the code
-module _ (t ps : List ℕ) (n p b r : ℕ) (y : Name) (v : Indexed t n ps) (room : slotsFrom + n ≤ length ps) (q : IsBucket b t p) (e : y ≡ name_at t p)
-    (f : r ≡ soughtFrom (get_or ps b 0) y (names_at t (take (slotsFrom + n - slotsFrom) (drop slotsFrom ps)))) where
+module _ (t ps : List ℕ) (n p b r : ℕ) (y : Name) (v : Indexed t n ps) (room : slots_from + n ≤ length ps) (q : IsBucket b t p) (e : y ≡ name_at t p)
+    (f : r ≡ sought_from (get_or ps b 0) y (names_at t (take (slots_from + n - slots_from) (drop slots_from ps)))) where
   abbrev places : List ℕ
-  places = take n (drop slotsFrom ps)
+  places = take n (drop slots_from ps)
 
-  part : take (slotsFrom + n - slotsFrom) (drop slotsFrom ps) ≡ places
-  part = ap (λ (k : ℕ). take k (drop slotsFrom ps)) (let z : slotsFrom + n - slotsFrom ≡ n = omega arith in z)
+  part : take (slots_from + n - slots_from) (drop slots_from ps) ≡ places
+  part = ap (λ (k : ℕ). take k (drop slots_from ps)) (let z : slots_from + n - slots_from ≡ n = omega arith in z)
 
   part_length : length places ≡ n
-  part_length = length-take-le n (drop slotsFrom ps) (let z = places-length ps in omega arith)
+  part_length = length-take-le n (drop slots_from ps) (let z = places-length ps in omega arith)
 
-  place : r ≡ foundOr (length places) (position (same (name_at t p)) (names_at t places))
-  unfolding firstNames
-  place = place_found t ps places (name_at t p) y b r v.at e (q.is ∙ ap (bucketOf slotsFrom) (sym e)) (f ∙ ap (λ (l : List ℕ). soughtFrom (get_or ps b 0) y (names_at t l)) part)
+  place : r ≡ found_or (length places) (position (same (name_at t p)) (names_at t places))
+  unfolding first_names
+  place = place_found t ps places (name_at t p) y b r v.at e (q.is ∙ ap (bucket_of slots_from) (sym e)) (f ∙ ap (λ (l : List ℕ). sought_from (get_or ps b 0) y (names_at t l)) part)
 
-  kept-told : ltb r n ≡ member (nameBytes t p) (firstNames t n ps)
-  unfolding firstNames
+  kept-told : ltb r n ≡ member (name_bytes t p) (first_names t n ps)
+  unfolding first_names
   kept-told = ap (ltb r) (sym part_length) ∙ found-slot t places p (name_at t p) r refl place
 
-module _ (t ps : List ℕ) (n p b r : ℕ) (y : Name) (v : Indexed t n ps) (room : slotsFrom + n < length ps) (q : IsBucket b t p) (e : y ≡ name_at t p)
-    (f : r ≡ soughtFrom (get_or ps b 0) y (names_at t (take (slotsFrom + n - slotsFrom) (drop slotsFrom ps)))) where
+module _ (t ps : List ℕ) (n p b r : ℕ) (y : Name) (v : Indexed t n ps) (room : slots_from + n < length ps) (q : IsBucket b t p) (e : y ≡ name_at t p)
+    (f : r ≡ sought_from (get_or ps b 0) y (names_at t (take (slots_from + n - slots_from) (drop slots_from ps)))) where
   abbrev x : Name
-  x = nameBytes t p
+  x = name_bytes t p
 
-  told : ltb r n ≡ member (nameBytes t p) (firstNames t n ps)
+  told : ltb r n ≡ member (name_bytes t p) (first_names t n ps)
   told = kept-told t ps n p b r y v (omega arith) q e f
 
-  pub added-there : r < n → Added n t ps n (add (nameBytes t p) (firstNames t n ps))
-  added-there h = record { names = sym (add-there x (firstNames t n ps) (sym told ∙ lt-ltb r n h)); most = omega arith; indexed = v }
+  pub added-there : r < n → Added n t ps n (add (name_bytes t p) (first_names t n ps))
+  added-there h = record { names = sym (add-there x (first_names t n ps) (sym told ∙ lt-ltb r n h)); most = omega arith; indexed = v }
 
   module _ (s : ℕ) (g : s ≡ start_of (get_or ps b 0) n) (l : s ≤ n) where
     abbrev noted : List ℕ
     noted = set ps b (s + 1)
 
     abbrev more : List ℕ
-    more = set noted (slotsFrom + n) p
+    more = set noted (slots_from + n) p
 
-    more-names : firstNames t (n + 1) more ≡ firstNames t n ps ++ nameBytes t p ∷ []
+    more-names : first_names t (n + 1) more ≡ first_names t n ps ++ name_bytes t p ∷ []
     more-names = first-set t n p noted (let z = length-set ps b (s + 1) in omega arith) ∙ ap (λ (w : List Name). w ++ x ∷ []) (first-bucket t n b (s + 1) ps q.below)
 
-    more-indexed : Covered slotsFrom more 0 (firstNames t n ps ++ nameBytes t p ∷ [])
+    more-indexed : Covered slots_from more 0 (first_names t n ps ++ name_bytes t p ∷ [])
     more-indexed =
         let z = q.below in
-        covered_out slotsFrom noted (slotsFrom + n) p (firstNames t n ps ++ x ∷ []) (omega arith) (omega arith)
-        (covered-snoc slotsFrom ps b (omega arith) x n s 0 (firstNames t n ps) (sym (q.is ∙ ap (bucketOf slotsFrom) (name-bytes t p))) g l (let w = first-length t n ps (omega arith) in omega arith) v.at)
+        covered_out slots_from noted (slots_from + n) p (first_names t n ps ++ x ∷ []) (omega arith) (omega arith)
+        (covered-snoc slots_from ps b (omega arith) x n s 0 (first_names t n ps) (sym (q.is ∙ ap (bucket_of slots_from) (name-bytes t p))) g l (let w = first-length t n ps (omega arith) in omega arith) v.at)
 
-    pub added_new : n ≤ r → Added (n + 1) t (set (set ps b (s + 1)) (slotsFrom + n) p) n (add (nameBytes t p) (firstNames t n ps))
+    pub added_new : n ≤ r → Added (n + 1) t (set (set ps b (s + 1)) (slots_from + n) p) n (add (name_bytes t p) (first_names t n ps))
     added_new h = record {
-      names = more-names ∙ sym (add-new x (firstNames t n ps) (sym told ∙ le-ltb r n h));
+      names = more-names ∙ sym (add-new x (first_names t n ps) (sym told ∙ le-ltb r n h));
       most = omega arith;
-      indexed = record { at = subst (Covered slotsFrom more 0) (sym more-names) more-indexed };
+      indexed = record { at = subst (Covered slots_from more 0) (sym more-names) more-indexed };
     }
 
 -- ---- parts of slots
@@ -170,32 +170,32 @@ pub mid-front : (a m n : ℕ) (ps part : List ℕ) → a ≤ length ps → n ≤
 mid-front a m n ps part h k = ap (take n) (drop_at (take a ps) (part ++ post_of a m ps) a (length-take-le a ps h)) ∙ take-append-le n part (post_of a m ps) k
 
 -- the places, lent
-pub lent-room : (n : ℕ) (ps : List ℕ) → slotsFrom + n ≤ length ps → n ≤ length (take (length ps - slotsFrom) (drop slotsFrom ps))
-lent-room n ps h = let y = length-take-le (length ps - slotsFrom) (drop slotsFrom ps) (let z = places-length ps in omega arith) in omega arith
+pub lent-room : (n : ℕ) (ps : List ℕ) → slots_from + n ≤ length ps → n ≤ length (take (length ps - slots_from) (drop slots_from ps))
+lent-room n ps h = let y = length-take-le (length ps - slots_from) (drop slots_from ps) (let z = places-length ps in omega arith) in omega arith
 
 -- the slots up to the n-th, as places
-pub front-places : (n : ℕ) (ps : List ℕ) → slotsFrom ≤ length ps → drop slotsFrom (take (slotsFrom + n) ps) ≡ take n (drop slotsFrom ps)
-front-places n ps h = ap (drop slotsFrom) (take-add slotsFrom n ps) ∙ drop_at (take slotsFrom ps) (take n (drop slotsFrom ps)) slotsFrom (length-take-le slotsFrom ps h)
+pub front-places : (n : ℕ) (ps : List ℕ) → slots_from ≤ length ps → drop slots_from (take (slots_from + n) ps) ≡ take n (drop slots_from ps)
+front-places n ps h = ap (drop slots_from) (take-add slots_from n ps) ∙ drop_at (take slots_from ps) (take n (drop slots_from ps)) slots_from (length-take-le slots_from ps h)
 
 -- they are slots
-module _ (t ps : List ℕ) (n : ℕ) (room : slotsFrom + n ≤ length ps) where
-  pub front-names : slotNames t (take (slotsFrom + n) ps) ≡ firstNames t n ps
-  unfolding firstNames
+module _ (t ps : List ℕ) (n : ℕ) (room : slots_from + n ≤ length ps) where
+  pub front-names : slot_names t (take (slots_from + n) ps) ≡ first_names t n ps
+  unfolding first_names
   front-names = ap (names_at t) (front-places n ps (omega arith))
 
-  pub front-slots : n ≤ 255 → Indexed t n ps → Slots t (take (slotsFrom + n) ps)
+  pub front-slots : n ≤ 255 → Indexed t n ps → Slots t (take (slots_from + n) ps)
   front-slots h v =
-      let e = length-take-le (slotsFrom + n) ps room in
+      let e = length-take-le (slots_from + n) ps room in
       record {
         room = omega arith;
         few = omega arith;
-        indexed = subst (Covered slotsFrom (take (slotsFrom + n) ps) 0) (sym front-names) (covered-part slotsFrom ps (slotsFrom + n) (firstNames t n ps) (omega arith) (omega arith) v.at);
+        indexed = subst (Covered slots_from (take (slots_from + n) ps) 0) (sym front-names) (covered-part slots_from ps (slots_from + n) (first_names t n ps) (omega arith) (omega arith) v.at);
       }
 
 -- slots that are none: an index alone
-pub none-names : (t ps : List ℕ) → length ps ≡ slotsFrom → slotNames t ps ≡ []
+pub none-names : (t ps : List ℕ) → length ps ≡ slots_from → slot_names t ps ≡ []
 unfolding names_at
-none-names t ps e = let h : length ps ≤ slotsFrom = omega arith in ap (names_at t) (drop_of_length-le ps h)
+none-names t ps e = let h : length ps ≤ slots_from = omega arith in ap (names_at t) (drop_of_length-le ps h)
 
-pub none-slots : (t ps : List ℕ) → length ps ≡ slotsFrom → Slots t ps
-none-slots t ps e = record { room = omega arith; few = omega arith; indexed = subst (Covered slotsFrom ps 0) (sym (none-names t ps e)) noneCovered }
+pub none-slots : (t ps : List ℕ) → length ps ≡ slots_from → Slots t ps
+none-slots t ps e = record { room = omega arith; few = omega arith; indexed = subst (Covered slots_from ps 0) (sym (none-names t ps e)) none_covered }

@@ -10,14 +10,14 @@ use lib.Seq.{take_all, length-take-le}
 use borrow.Rule.Slice.PartMut.{put_mid}
 use Rattle.definitions.specs.Bytes.{Name, member}
 use Rattle.definitions.specs.Tree.{Expr, lit, var, unary, binary, logical, call, attr, display, index, lambda, Exprs, []ᵉ, ◌∷ᵉ◌}
-use Rattle.definitions.specs.Slots.{add, within, sort, referencedExpr, referencedExprs, captures}
+use Rattle.definitions.specs.Slots.{add, within, sort, referenced_expr, referenced_exprs, captures}
 use Rattle.definitions.proofs.Captured.{and-false}
 use Rattle.parts.specs.Places.{params_at}
 use Rattle.names.proofs.Indexing.{slots-count}
-use Rattle.state.specs.Index.{Covered, noneCovered}
-use Rattle.state.specs.State.{names_at, slotsFrom, slotNames, Slots}
-use Rattle.slots.specs.Slotted.{firstNames, Indexed, Appended, Collected}
-use Rattle.slots.specs.Held.{markAll, isFree, Marked, addHeld, heldExpr, heldExprs, Held, no_held, Keeping, Referred, CapturesAt}
+use Rattle.state.specs.Index.{Covered, none_covered}
+use Rattle.state.specs.State.{names_at, slots_from, slot_names, Slots}
+use Rattle.slots.specs.Slotted.{first_names, Indexed, Appended, Collected}
+use Rattle.slots.specs.Held.{mark_all, is_free, Marked, add_held, held_expr, held_exprs, Held, no_held, Keeping, Referred, CapturesAt}
 use Rattle.slots.specs.declared.Locals.{Locals}
 use Rattle.slots.specs.declared.Locals.TheVariants.{Count, TooMany}
 use Rattle.slots.specs.declared.captures.Refs.{Refs}
@@ -26,95 +26,95 @@ use Rattle.slots.proofs.Holding.{bool-or, within_none, within-add, within-other,
 use Rattle.slots.proofs.Marking.{marked-none, marked_all, free-is}
 use Rattle.slots.proofs.Params.{collected-count, collected-over}
 
-first-none : (t ps : List ℕ) → firstNames t 0 ps ≡ []
-unfolding firstNames names_at
+first-none : (t ps : List ℕ) → first_names t 0 ps ≡ []
+unfolding first_names names_at
 first-none t ps = refl
 
-pub keeping_start : (t parent ps : List ℕ) → length t ≤ 32768 → Slots t parent → slotsFrom + 256 ≤ length ps → Keeping t parent ps 0
+pub keeping_start : (t parent ps : List ℕ) → length t ≤ 32768 → Slots t parent → slots_from + 256 ≤ length ps → Keeping t parent ps 0
 keeping_start t parent ps h k g = record {
   short = h;
   slots = k;
   room = g;
   most = omega arith;
-  held = subst (Held (slotNames t parent)) (sym (first-none t ps)) no_held;
-  indexed = record { at = subst (Covered slotsFrom ps 0) (sym (first-none t ps)) noneCovered };
+  held = subst (Held (slot_names t parent)) (sym (first-none t ps)) no_held;
+  indexed = record { at = subst (Covered slots_from ps 0) (sym (first-none t ps)) none_covered };
 }
 
 -- ---- names gathered among those that have a free slot are those referenced that have a slot
 
 module _ (slots : List Name) where
   held-var : (bound : List Name) (ms : List ℕ) → Marked slots bound ms → (x : Name) (xs : List Name) (b : Bool) → member x bound ≡ b →
-      within slots (elim b as (λ _. List Name) [ true ↦ xs | false ↦ add x xs ]) ≡ addHeld slots ms x (within slots xs)
+      within slots (elim b as (λ _. List Name) [ true ↦ xs | false ↦ add x xs ]) ≡ add_held slots ms x (within slots xs)
   held-var bound ms k x xs true e = sym (held_out slots ms x (within slots xs) (free-is slots bound ms k x ∙ ap (λ (b : Bool). member x slots && not b) e ∙ and-false (member x slots)))
   held-var bound ms k x xs false e =
-      let f : isFree slots ms x ≡ (member x slots && true) = free-is slots bound ms k x ∙ ap (λ (b : Bool). member x slots && not b) e in
+      let f : is_free slots ms x ≡ (member x slots && true) = free-is slots bound ms k x ∙ ap (λ (b : Bool). member x slots && not b) e in
       ⊎_elim
       (λ (h : member x slots ≡ true). within-add slots x xs h ∙ sym (held_in slots ms x (within slots xs) (f ∙ ap (λ (b : Bool). b && true) h)))
       (λ (h : member x slots ≡ false). within-other slots x xs h ∙ sym (held_out slots ms x (within slots xs) (f ∙ ap (λ (b : Bool). b && true) h)))
       (bool-or (member x slots))
 
   mutual
-    unfolding referencedExpr referencedExprs heldExpr heldExprs
+    unfolding referenced_expr referenced_exprs held_expr held_exprs
 
-    held-referenced : (bound : List Name) (ms : List ℕ) → Marked slots bound ms → (e : Expr) (xs : List Name) → within slots (referencedExpr bound e xs) ≡ heldExpr slots ms e (within slots xs)
+    held-referenced : (bound : List Name) (ms : List ℕ) → Marked slots bound ms → (e : Expr) (xs : List Name) → within slots (referenced_expr bound e xs) ≡ held_expr slots ms e (within slots xs)
     held-referenced bound ms k (lit l) xs = refl
     held-referenced bound ms k (var x) xs = held-var bound ms k x xs (member x bound) refl
     held-referenced bound ms k (unary op e) xs = held-referenced bound ms k e xs
-    held-referenced bound ms k (binary op l r) xs = held-referenced bound ms k r (referencedExpr bound l xs) ∙ ap (heldExpr slots ms r) (held-referenced bound ms k l xs)
-    held-referenced bound ms k (logical op l r) xs = held-referenced bound ms k r (referencedExpr bound l xs) ∙ ap (heldExpr slots ms r) (held-referenced bound ms k l xs)
-    held-referenced bound ms k (call f es) xs = all-referenced bound ms k es (referencedExpr bound f xs) ∙ ap (heldExprs slots ms es) (held-referenced bound ms k f xs)
+    held-referenced bound ms k (binary op l r) xs = held-referenced bound ms k r (referenced_expr bound l xs) ∙ ap (held_expr slots ms r) (held-referenced bound ms k l xs)
+    held-referenced bound ms k (logical op l r) xs = held-referenced bound ms k r (referenced_expr bound l xs) ∙ ap (held_expr slots ms r) (held-referenced bound ms k l xs)
+    held-referenced bound ms k (call f es) xs = all-referenced bound ms k es (referenced_expr bound f xs) ∙ ap (held_exprs slots ms es) (held-referenced bound ms k f xs)
     held-referenced bound ms k (attr o x) xs = held-referenced bound ms k o xs
     held-referenced bound ms k (display d es) xs = all-referenced bound ms k es xs
-    held-referenced bound ms k (index o i) xs = held-referenced bound ms k i (referencedExpr bound o xs) ∙ ap (heldExpr slots ms i) (held-referenced bound ms k o xs)
-    held-referenced bound ms k (lambda ps b) xs = held-referenced (ps ++ bound) (markAll slots ps ms) (marked_all slots ps bound ms k) b xs
+    held-referenced bound ms k (index o i) xs = held-referenced bound ms k i (referenced_expr bound o xs) ∙ ap (held_expr slots ms i) (held-referenced bound ms k o xs)
+    held-referenced bound ms k (lambda ps b) xs = held-referenced (ps ++ bound) (mark_all slots ps ms) (marked_all slots ps bound ms k) b xs
 
-    all-referenced : (bound : List Name) (ms : List ℕ) → Marked slots bound ms → (es : Exprs) (xs : List Name) → within slots (referencedExprs bound es xs) ≡ heldExprs slots ms es (within slots xs)
+    all-referenced : (bound : List Name) (ms : List ℕ) → Marked slots bound ms → (es : Exprs) (xs : List Name) → within slots (referenced_exprs bound es xs) ≡ held_exprs slots ms es (within slots xs)
     all-referenced bound ms k []ᵉ xs = refl
-    all-referenced bound ms k (e ∷ᵉ es) xs = all-referenced bound ms k es (referencedExpr bound e xs) ∙ ap (heldExprs slots ms es) (held-referenced bound ms k e xs)
+    all-referenced bound ms k (e ∷ᵉ es) xs = all-referenced bound ms k es (referenced_expr bound e xs) ∙ ap (held_exprs slots ms es) (held-referenced bound ms k e xs)
 
   -- the captures of a lambda: its own parameters are marked from the start
-  captures-held : (ps : List Name) (b : Expr) → length slots ≤ 256 → captures slots ps b ≡ sort (heldExpr slots (markAll slots ps (replicate 256 0)) b [])
+  captures-held : (ps : List Name) (b : Expr) → length slots ≤ 256 → captures slots ps b ≡ sort (held_expr slots (mark_all slots ps (replicate 256 0)) b [])
   unfolding captures
   captures-held ps b h =
       let k = marked_all slots ps [] (replicate 256 0) (marked-none slots 256 h) in
-      ap (λ (qs : List Name). sort (within slots (referencedExpr qs b []))) (sym (append-nil ps))
-      ∙ ap sort (held-referenced (ps ++ []) (markAll slots ps (replicate 256 0)) k b [] ∙ ap (heldExpr slots (markAll slots ps (replicate 256 0)) b) (within_none slots))
+      ap (λ (qs : List Name). sort (within slots (referenced_expr qs b []))) (sym (append-nil ps))
+      ∙ ap sort (held-referenced (ps ++ []) (mark_all slots ps (replicate 256 0)) k b [] ∙ ap (held_expr slots (mark_all slots ps (replicate 256 0)) b) (within_none slots))
 
-module _ (t parent ps₀ ps₁ ms : List ℕ) (a : Refs) (end p : ℕ) (b : Expr) (s : Slots t parent) (m : ms ≡ markAll (slotNames t parent) (params_at t p).value (replicate 256 0))
-    (f : Referred a t ps₁ end (heldExpr (slotNames t parent) ms b (firstNames t 0 ps₀))) where
+module _ (t parent ps₀ ps₁ ms : List ℕ) (a : Refs) (end p : ℕ) (b : Expr) (s : Slots t parent) (m : ms ≡ mark_all (slot_names t parent) (params_at t p).value (replicate 256 0))
+    (f : Referred a t ps₁ end (held_expr (slot_names t parent) ms b (first_names t 0 ps₀))) where
   abbrev n : ℕ
   n = a.n
 
   abbrev qs : List Name
   qs = (params_at t p).value
 
-  kept-names : firstNames t a.n ps₁ ≡ heldExpr (slotNames t parent) ms b []
-  kept-names = f.names ∙ ap (heldExpr (slotNames t parent) ms b) (first-none t ps₀)
+  kept-names : first_names t a.n ps₁ ≡ held_expr (slot_names t parent) ms b []
+  kept-names = f.names ∙ ap (held_expr (slot_names t parent) ms b) (first-none t ps₀)
 
-  few-kept : slotsFrom + a.n ≤ length parent
+  few-kept : slots_from + a.n ≤ length parent
   few-kept =
       let r = s.room in
       let c = slots-count t parent s in
-      omega (arith, held-few _ (slotNames t parent) (held-expr (slotNames t parent) ms b [] no_held), ap length kept-names, first-length t n ps₁ f.most, c.0)
+      omega (arith, held-few _ (slot_names t parent) (held-expr (slot_names t parent) ms b [] no_held), ap length kept-names, first-length t n ps₁ f.most, c.0)
 
-  module _ (part : List ℕ) (h : length part ≡ length (take (slotsFrom + a.n - slotsFrom) (drop slotsFrom ps₁))) (o : names_at t part ≡ sort (names_at t (take (slotsFrom + a.n - slotsFrom) (drop slotsFrom ps₁)))) where
-    lent-part : take (slotsFrom + n - slotsFrom) (drop slotsFrom ps₁) ≡ take n (drop slotsFrom ps₁)
-    lent-part = ap (λ (m : ℕ). take m (drop slotsFrom ps₁)) (let z : slotsFrom + n - slotsFrom ≡ n = omega arith in z)
+  module _ (part : List ℕ) (h : length part ≡ length (take (slots_from + a.n - slots_from) (drop slots_from ps₁))) (o : names_at t part ≡ sort (names_at t (take (slots_from + a.n - slots_from) (drop slots_from ps₁)))) where
+    lent-part : take (slots_from + n - slots_from) (drop slots_from ps₁) ≡ take n (drop slots_from ps₁)
+    lent-part = ap (λ (m : ℕ). take m (drop slots_from ps₁)) (let z : slots_from + n - slots_from ≡ n = omega arith in z)
 
     part-long : length part ≡ n
-    part-long = h ∙ ap length lent-part ∙ length-take-le n (drop slotsFrom ps₁) (let x = f.most in let z = length-drop slotsFrom ps₁ in omega arith)
+    part-long = h ∙ ap length lent-part ∙ length-take-le n (drop slots_from ps₁) (let x = f.most in let z = length-drop slots_from ps₁ in omega arith)
 
-    held-few-slots : length (slotNames t parent) ≤ 256
+    held-few-slots : length (slot_names t parent) ≤ 256
     held-few-slots = let c = slots-count t parent s in omega (arith, c.0, c.1)
 
-    pub captured : CapturesAt a.n t parent (put_mid slotsFrom (slotsFrom + a.n - slotsFrom) ps₁ part) (captures (slotNames t parent) (params_at t p).value b)
-    unfolding firstNames
+    pub captured : CapturesAt a.n t parent (put_mid slots_from (slots_from + a.n - slots_from) ps₁ part) (captures (slot_names t parent) (params_at t p).value b)
+    unfolding first_names
     captured =
         let x = f.most in
         record {
           few = few-kept;
-          names = ap (names_at t) (mid-front slotsFrom (slotsFrom + n - slotsFrom) n ps₁ part (omega arith) (omega (arith, part-long)) ∙ take_all n part (omega (arith, part-long)))
-              ∙ o ∙ ap (λ (l : List ℕ). sort (names_at t l)) lent-part ∙ ap sort (kept-names ∙ ap (λ (k : List ℕ). heldExpr (slotNames t parent) k b []) m) ∙ sym (captures-held (slotNames t parent) qs b held-few-slots);
+          names = ap (names_at t) (mid-front slots_from (slots_from + n - slots_from) n ps₁ part (omega arith) (omega (arith, part-long)) ∙ take_all n part (omega (arith, part-long)))
+              ∙ o ∙ ap (λ (l : List ℕ). sort (names_at t l)) lent-part ∙ ap sort (kept-names ∙ ap (λ (k : List ℕ). held_expr (slot_names t parent) k b []) m) ∙ sym (captures-held (slot_names t parent) qs b held-few-slots);
         }
 
 -- ---- parameters, then captures
@@ -124,25 +124,25 @@ module _ (r : Locals) (t ps₁ : List ℕ) (qs : List Name) (c : Collected r t p
   unfolding Collected
   lambda-over ps cs e = let h = collected-over r t ps₁ qs c e in omega (arith, length-append qs cs)
 
-  module _ (k : ℕ) (e : r ≡ Count k) (room : slotsFrom + 256 ≤ length ps₁) where
+  module _ (k : ℕ) (e : r ≡ Count k) (room : slots_from + 256 ≤ length ps₁) where
     pub params-few : k ≤ 255
     params-few = (collected-count r t ps₁ qs k c e).0
 
-    module _ (parent kept : List ℕ) (s : Slots t parent) (n : ℕ) (cs : List Name) (g : CapturesAt n t parent kept cs) (w : length kept ≡ slotsFrom + 256) where
+    module _ (parent kept : List ℕ) (s : Slots t parent) (n : ℕ) (cs : List Name) (g : CapturesAt n t parent kept cs) (w : length kept ≡ slots_from + 256) where
       pub lambda-few : n ≤ 255
       lambda-few = let a = g.few in let b = s.few in omega arith
 
-      lent : take (slotsFrom + n - slotsFrom) (drop slotsFrom kept) ≡ take n (drop slotsFrom kept)
-      lent = ap (λ (m : ℕ). take m (drop slotsFrom kept)) (let z : slotsFrom + n - slotsFrom ≡ n = omega arith in z)
+      lent : take (slots_from + n - slots_from) (drop slots_from kept) ≡ take n (drop slots_from kept)
+      lent = ap (λ (m : ℕ). take m (drop slots_from kept)) (let z : slots_from + n - slots_from ≡ n = omega arith in z)
 
-      pub lent_length : length (take (slotsFrom + n - slotsFrom) (drop slotsFrom kept)) ≡ n
-      lent_length = ap length lent ∙ length-take-le n (drop slotsFrom kept) (let x = lambda-few in let z = length-drop slotsFrom kept in omega arith)
+      pub lent_length : length (take (slots_from + n - slots_from) (drop slots_from kept)) ≡ n
+      lent_length = ap length lent ∙ length-take-le n (drop slots_from kept) (let x = lambda-few in let z = length-drop slots_from kept in omega arith)
 
-      pub lambda-done : (ps₂ : List ℕ) → k + n ≤ 255 → Appended t k (take (slotsFrom + n - slotsFrom) (drop slotsFrom kept)) ps₁ ps₂ → Collected (Count (k + n)) t ps₂ (qs ++ cs)
-      unfolding Collected firstNames
+      pub lambda-done : (ps₂ : List ℕ) → k + n ≤ 255 → Appended t k (take (slots_from + n - slots_from) (drop slots_from kept)) ps₁ ps₂ → Collected (Count (k + n)) t ps₂ (qs ++ cs)
+      unfolding Collected first_names
       lambda-done ps₂ h a = (
         h,
-        ap (λ (m : ℕ). firstNames t (k + m) ps₂) (sym lent_length) ∙ a.names ∙ ap₂ (λ (x y : List Name). x ++ y) (collected-count r t ps₁ qs k c e).1 (ap (names_at t) lent ∙ g.names),
+        ap (λ (m : ℕ). first_names t (k + m) ps₂) (sym lent_length) ∙ a.names ∙ ap₂ (λ (x y : List Name). x ++ y) (collected-count r t ps₁ qs k c e).1 (ap (names_at t) lent ∙ g.names),
         subst (λ (m : ℕ). Indexed t (k + m) ps₂) lent_length a.indexed,
       )
 
@@ -151,5 +151,5 @@ module _ (r : Locals) (t ps₁ : List ℕ) (qs : List Name) (c : Collected r t p
       lambda-more ps₂ h = let m = params-few in let x = lambda-few in
           omega (arith, length-append qs cs, ap length (collected-count r t ps₁ qs k c e).1, first-length t k ps₁ (omega arith), ap length g.names, first-length t n kept (omega arith))
 
-pub room-kept : (ps ps₁ : List ℕ) → slotsFrom + 256 ≤ length ps → length ps₁ ≡ length ps → slotsFrom + 256 ≤ length ps₁
+pub room-kept : (ps ps₁ : List ℕ) → slots_from + 256 ≤ length ps → length ps₁ ≡ length ps → slots_from + 256 ≤ length ps₁
 room-kept ps ps₁ h e = omega arith

@@ -13,7 +13,7 @@ use Rattle.definitions.specs.Tree.{Expr, lit, var, unary, binary, logical, call,
 use Rattle.definitions.specs.Slots.{add, within}
 use Rattle.definitions.proofs.MethodOrder.{same-eq}
 use Rattle.definitions.proofs.Captured.{member-cons, member-nil}
-use Rattle.slots.specs.Held.{markAll, isFree, addHeld, heldExpr, heldExprs, Held, no_held, oneHeld}
+use Rattle.slots.specs.Held.{mark_all, is_free, add_held, held_expr, held_exprs, Held, no_held, one_held}
 use Rattle.slots.proofs.Adding.{add-there, add-new}
 
 -- ---- equal names, and names in a list
@@ -115,55 +115,55 @@ module _ (slots : List Name) where
       (bool-or (member x xs))
 
   module _ (ms : List ℕ) (x : Name) (ys : List Name) where
-    pub held_in : isFree slots ms x ≡ true → addHeld slots ms x ys ≡ add x ys
-    unfolding addHeld
-    held_in e = rw (e, addHeld)
+    pub held_in : is_free slots ms x ≡ true → add_held slots ms x ys ≡ add x ys
+    unfolding add_held
+    held_in e = rw (e, add_held)
 
-    pub held_out : isFree slots ms x ≡ false → addHeld slots ms x ys ≡ ys
-    unfolding addHeld
-    held_out e = rw (e, addHeld)
+    pub held_out : is_free slots ms x ≡ false → add_held slots ms x ys ≡ ys
+    unfolding add_held
+    held_out e = rw (e, add_held)
 
   -- ---- the names stay held
 
   held-snoc : (x : Name) (ys : List Name) → member x slots ≡ true → member x ys ≡ false → Held slots ys → Held slots (ys ++ x ∷ [])
-  held-snoc x [] h k a = oneHeld h k no_held
-  held-snoc x (y ∷ ys) h k (oneHeld p q a) = oneHeld p (member-snoc y x ys (differ x y (not_first x y ys k)) ∙ q) (held-snoc x ys h (not-rest x y ys k) a)
+  held-snoc x [] h k a = one_held h k no_held
+  held-snoc x (y ∷ ys) h k (one_held p q a) = one_held p (member-snoc y x ys (differ x y (not_first x y ys k)) ∙ q) (held-snoc x ys h (not-rest x y ys k) a)
 
-  free-slot : (ms : List ℕ) (x : Name) → isFree slots ms x ≡ true → member x slots ≡ true
-  unfolding isFree member
+  free-slot : (ms : List ℕ) (x : Name) → is_free slots ms x ≡ true → member x slots ≡ true
+  unfolding is_free member
   free-slot ms x h = go (position (same x) slots) h
     where
       go : (o : Option ℕ) → elim o as (λ _. Bool) [ none ↦ false | some i ↦ eqb (get_or ms i 0) 0 ] ≡ true → elim o as (λ _. Bool) [ none ↦ false | some i ↦ true ] ≡ true
       go none e = e
       go (some i) e = refl
 
-  pub held-add : (ms : List ℕ) (x : Name) (ys : List Name) → Held slots ys → Held slots (addHeld slots ms x ys)
+  pub held-add : (ms : List ℕ) (x : Name) (ys : List Name) → Held slots ys → Held slots (add_held slots ms x ys)
   held-add ms x ys a = ⊎_elim
-      (λ (e : isFree slots ms x ≡ true). ⊎_elim
+      (λ (e : is_free slots ms x ≡ true). ⊎_elim
       (λ (f : member x ys ≡ true). subst (Held slots) (sym (held_in ms x ys e ∙ add-there x ys f)) a)
       (λ (f : member x ys ≡ false). subst (Held slots) (sym (held_in ms x ys e ∙ add-new x ys f)) (held-snoc x ys (free-slot ms x e) f a))
       (bool-or (member x ys)))
-      (λ (e : isFree slots ms x ≡ false). subst (Held slots) (sym (held_out ms x ys e)) a)
-      (bool-or (isFree slots ms x))
+      (λ (e : is_free slots ms x ≡ false). subst (Held slots) (sym (held_out ms x ys e)) a)
+      (bool-or (is_free slots ms x))
 
   mutual
-    unfolding heldExpr heldExprs
+    unfolding held_expr held_exprs
 
-    pub held-expr : (ms : List ℕ) (e : Expr) (ys : List Name) → Held slots ys → Held slots (heldExpr slots ms e ys)
+    pub held-expr : (ms : List ℕ) (e : Expr) (ys : List Name) → Held slots ys → Held slots (held_expr slots ms e ys)
     held-expr ms (lit l) ys a = a
     held-expr ms (var x) ys a = held-add ms x ys a
     held-expr ms (unary op e) ys a = held-expr ms e ys a
-    held-expr ms (binary op l r) ys a = held-expr ms r (heldExpr slots ms l ys) (held-expr ms l ys a)
-    held-expr ms (logical op l r) ys a = held-expr ms r (heldExpr slots ms l ys) (held-expr ms l ys a)
-    held-expr ms (call f es) ys a = held-exprs ms es (heldExpr slots ms f ys) (held-expr ms f ys a)
+    held-expr ms (binary op l r) ys a = held-expr ms r (held_expr slots ms l ys) (held-expr ms l ys a)
+    held-expr ms (logical op l r) ys a = held-expr ms r (held_expr slots ms l ys) (held-expr ms l ys a)
+    held-expr ms (call f es) ys a = held-exprs ms es (held_expr slots ms f ys) (held-expr ms f ys a)
     held-expr ms (attr o x) ys a = held-expr ms o ys a
     held-expr ms (display k es) ys a = held-exprs ms es ys a
-    held-expr ms (index o i) ys a = held-expr ms i (heldExpr slots ms o ys) (held-expr ms o ys a)
-    held-expr ms (lambda ps b) ys a = held-expr (markAll slots ps ms) b ys a
+    held-expr ms (index o i) ys a = held-expr ms i (held_expr slots ms o ys) (held-expr ms o ys a)
+    held-expr ms (lambda ps b) ys a = held-expr (mark_all slots ps ms) b ys a
 
-    pub held-exprs : (ms : List ℕ) (es : Exprs) (ys : List Name) → Held slots ys → Held slots (heldExprs slots ms es ys)
+    pub held-exprs : (ms : List ℕ) (es : Exprs) (ys : List Name) → Held slots ys → Held slots (held_exprs slots ms es ys)
     held-exprs ms []ᵉ ys a = a
-    held-exprs ms (e ∷ᵉ es) ys a = held-exprs ms es (heldExpr slots ms e ys) (held-expr ms e ys a)
+    held-exprs ms (e ∷ᵉ es) ys a = held-exprs ms es (held_expr slots ms e ys) (held-expr ms e ys a)
 
 -- ---- held names are no more than the slots
 
@@ -210,8 +210,8 @@ member-other x y (z ∷ zs) h k = ⊎_elim
 
 held-other : (slots : List Name) (x : Name) (ys : List Name) → member x ys ≡ false → Held slots ys → Held (others x slots) ys
 held-other slots x [] h a = no_held
-held-other slots x (y ∷ ys) h (oneHeld p q a) = oneHeld (member-other x y slots (differ x y (not_first x y ys h)) p) q (held-other slots x ys (not-rest x y ys h) a)
+held-other slots x (y ∷ ys) h (one_held p q a) = one_held (member-other x y slots (differ x y (not_first x y ys h)) p) q (held-other slots x ys (not-rest x y ys h) a)
 
 pub held-few : (ys slots : List Name) → Held slots ys → length ys ≤ length slots
 held-few [] slots a = omega arith
-held-few (x ∷ ys) slots (oneHeld p q a) = let h = held-few ys (others x slots) (held-other slots x ys q a) in let k = others-shorter x slots p in omega arith
+held-few (x ∷ ys) slots (one_held p q a) = let h = held-few ys (others x slots) (held-other slots x ys q a) in let k = others-shorter x slots p in omega arith

@@ -13,11 +13,11 @@ use Rattle.definitions.specs.Bytes.{Name, same, position, member}
 use Rattle.definitions.proofs.MethodOrder.{same-eq}
 use Rattle.definitions.proofs.Resolve.{position-lt}
 use Rattle.definitions.proofs.Captured.{or_swap, member-cons, member-nil, member-append}
-use Rattle.state.specs.State.{foundOr}
-use Rattle.parts.specs.Places.{countAt, nameBytes, nameEnd, namesFrom, AllThere, params_at}
+use Rattle.state.specs.State.{found_or}
+use Rattle.parts.specs.Places.{count_at, name_bytes, name_end, names_from, AllThere, params_at}
 use Rattle.parts.proofs.NameLaws.{there-next, from_more, from-none}
 use Rattle.names.proofs.Finding.{step, position-cons}
-use Rattle.slots.specs.Held.{mark, markAll, isFree, Marked}
+use Rattle.slots.specs.Held.{mark, mark_all, is_free, Marked}
 use Rattle.slots.proofs.Holding.{bool-or, clash, member-next}
 use Rattle.slots.proofs.Params.{params-names}
 
@@ -85,8 +85,8 @@ module _ (slots : List Name) where
         go none h = record { room = k.room; at = unslotted h }
         go (some i) h = record { room = let r = k.room in omega (arith, length-set ms i 1); at = slotted i h }
 
-  pub marked_all : (ps bound : List Name) (ms : List ℕ) → Marked slots bound ms → Marked slots (ps ++ bound) (markAll slots ps ms)
-  unfolding markAll
+  pub marked_all : (ps bound : List Name) (ms : List ℕ) → Marked slots bound ms → Marked slots (ps ++ bound) (mark_all slots ps ms)
+  unfolding mark_all
   marked_all [] bound ms k = k
   marked_all (p ∷ ps) bound ms k = let m = marked_all ps (p ∷ bound) (mark slots p ms) (marked-one p bound ms k) in
       record { room = m.room; at = λ x i e. m.at x i e ∙ ap not (turned x) }
@@ -96,8 +96,8 @@ module _ (slots : List Name) where
           ∙ ap (λ (b : Bool). same x p || b) (sym (member-append x ps bound)) ∙ sym (member-cons x p (ps ++ bound))
 
   -- a free slot's name has a slot and is not bound
-  pub free-is : (bound : List Name) (ms : List ℕ) → Marked slots bound ms → (x : Name) → isFree slots ms x ≡ (member x slots && not (member x bound))
-  unfolding isFree member
+  pub free-is : (bound : List Name) (ms : List ℕ) → Marked slots bound ms → (x : Name) → is_free slots ms x ≡ (member x slots && not (member x bound))
+  unfolding is_free member
   free-is bound ms k x = go (position (same x) slots) refl
     where
       go : (o : Option ℕ) → position (same x) slots ≡ o →
@@ -107,20 +107,20 @@ module _ (slots : List Name) where
 
 -- ---- by the number of a slot
 
-module _ (slots : List Name) (x : Name) (ms : List ℕ) (n i : ℕ) (e : i ≡ foundOr n (position (same x) slots)) (w : length slots ≡ n) where
+module _ (slots : List Name) (x : Name) (ms : List ℕ) (n i : ℕ) (e : i ≡ found_or n (position (same x) slots)) (w : length slots ≡ n) where
   at_slot : i < n → position (same x) slots ≡ some i
-  unfolding foundOr
+  unfolding found_or
   at_slot h = go (position (same x) slots) refl e
     where
-      go : (o : Option ℕ) → position (same x) slots ≡ o → i ≡ foundOr n o → position (same x) slots ≡ some i
+      go : (o : Option ℕ) → position (same x) slots ≡ o → i ≡ found_or n o → position (same x) slots ≡ some i
       go none f g = absurd (omega arith)
       go (some k) f g = f ∙ ap some (sym g)
 
   at_none : n ≤ i → position (same x) slots ≡ none
-  unfolding foundOr
+  unfolding found_or
   at_none h = go (position (same x) slots) refl e
     where
-      go : (o : Option ℕ) → position (same x) slots ≡ o → i ≡ foundOr n o → position (same x) slots ≡ none
+      go : (o : Option ℕ) → position (same x) slots ≡ o → i ≡ found_or n o → position (same x) slots ≡ none
       go none f g = f
       go (some k) f g = let b = position-lt (same x) slots k f in absurd (omega arith)
 
@@ -132,27 +132,27 @@ module _ (slots : List Name) (x : Name) (ms : List ℕ) (n i : ℕ) (e : i ≡ f
   unfolding mark
   mark-left h = rw (at_none h, mark)
 
-  pub free-told : i < n → eqb (get_or ms i 0) 0 ≡ isFree slots ms x
-  unfolding isFree
-  free-told h = rw (at_slot h, isFree)
+  pub free-told : i < n → eqb (get_or ms i 0) 0 ≡ is_free slots ms x
+  unfolding is_free
+  free-told h = rw (at_slot h, is_free)
 
-  pub free-left : n ≤ i → false ≡ isFree slots ms x
-  unfolding isFree
-  free-left h = rw (at_none h, isFree)
+  pub free-left : n ≤ i → false ≡ is_free slots ms x
+  unfolding is_free
+  free-left h = rw (at_none h, is_free)
 
 -- ---- parameters, one at a time
 
-pub mark-next : (slots : List Name) (t : List ℕ) (n p e : ℕ) (ms ms' : List ℕ) → e ≡ nameEnd t p → 0 < n → AllThere t n p → ms' ≡ mark slots (nameBytes t p) ms →
-    (markAll slots (namesFrom t n p) ms ≡ markAll slots (namesFrom t (n - 1) e) ms') × AllThere t (n - 1) e
-unfolding markAll
+pub mark-next : (slots : List Name) (t : List ℕ) (n p e : ℕ) (ms ms' : List ℕ) → e ≡ name_end t p → 0 < n → AllThere t n p → ms' ≡ mark slots (name_bytes t p) ms →
+    (mark_all slots (names_from t n p) ms ≡ mark_all slots (names_from t (n - 1) e) ms') × AllThere t (n - 1) e
+unfolding mark_all
 mark-next slots t n p e ms ms' h g a m = (
-  ap (λ (q : List Name). markAll slots q ms) (from_more t n p g) ∙ ap (markAll slots (namesFrom t (n - 1) (nameEnd t p))) (sym m) ∙ ap (λ (k : ℕ). markAll slots (namesFrom t (n - 1) k) ms') (sym h),
+  ap (λ (q : List Name). mark_all slots q ms) (from_more t n p g) ∙ ap (mark_all slots (names_from t (n - 1) (name_end t p))) (sym m) ∙ ap (λ (k : ℕ). mark_all slots (names_from t (n - 1) k) ms') (sym h),
   there-next t n p e h g a,
 )
 
-pub mark-done : (slots : List Name) (t : List ℕ) (n p : ℕ) (ms : List ℕ) → n ≤ 0 → markAll slots (namesFrom t n p) ms ≡ ms
-unfolding markAll
-mark-done slots t n p ms h = ap (λ (q : List Name). markAll slots q ms) (from-none t n p h)
+pub mark-done : (slots : List Name) (t : List ℕ) (n p : ℕ) (ms : List ℕ) → n ≤ 0 → mark_all slots (names_from t n p) ms ≡ ms
+unfolding mark_all
+mark-done slots t n p ms h = ap (λ (q : List Name). mark_all slots q ms) (from-none t n p h)
 
-pub mark-list : (slots : List Name) (t : List ℕ) (a n : ℕ) (ms ms' : List ℕ) → n ≡ countAt t a → ms' ≡ markAll slots (namesFrom t n (a + 2)) ms → ms' ≡ markAll slots (params_at t a).value ms
-mark-list slots t a n ms ms' e f = f ∙ ap (λ (qs : List Name). markAll slots qs ms) (params-names t a n e)
+pub mark-list : (slots : List Name) (t : List ℕ) (a n : ℕ) (ms ms' : List ℕ) → n ≡ count_at t a → ms' ≡ mark_all slots (names_from t n (a + 2)) ms → ms' ≡ mark_all slots (params_at t a).value ms
+mark-list slots t a n ms ms' e f = f ∙ ap (λ (qs : List Name). mark_all slots qs ms) (params-names t a n e)

@@ -8,11 +8,11 @@ use lib.Seq.{length-take-le}
 use borrow.Rule.Slice.PartMut.{put_mid, same_len_mid}
 use Rattle.definitions.specs.Bytes.{Name}
 use Rattle.definitions.specs.Tree.{Block}
-use Rattle.state.specs.State.{names_at, slotsFrom}
-use Rattle.definitions.specs.Slots.{localsBlock, loopsBlock, Frame, withLoops}
-use Rattle.parts.specs.Places.{countAt, nameBytes, nameEnd, There, namesFrom, AllThere, ParamsAt, params_at}
+use Rattle.state.specs.State.{names_at, slots_from}
+use Rattle.definitions.specs.Slots.{locals_block, loops_block, Frame, with_loops}
+use Rattle.parts.specs.Places.{count_at, name_bytes, name_end, There, names_from, AllThere, ParamsAt, params_at}
 use Rattle.parts.proofs.NameLaws.{there-first, there-next}
-use Rattle.slots.specs.Slotted.{leading, firstNames, Indexed, Reindexed, Collected, Room, Gathers, upTo256, Framing, Frames}
+use Rattle.slots.specs.Slotted.{leading, first_names, Indexed, Reindexed, Collected, Room, Gathers, up_to256, Framing, Frames}
 use Rattle.slots.specs.declared.Locals.{Locals}
 use Rattle.slots.specs.declared.Locals.TheVariants.{Count, TooMany}
 use Rattle.slots.specs.declared.collect.Gathered.{Gathered}
@@ -24,25 +24,25 @@ use Rattle.slots.proofs.Reindexing.{reindexed-names}
 use Rattle.definitions.proofs.Named.{block-grows}
 use Rattle.slots.proofs.Gathering.{Stands, gathers-next, gathers-over}
 
-pub names-count : (t : List ℕ) (n p : ℕ) → length (namesFrom t n p) ≡ n
-unfolding namesFrom
+pub names-count : (t : List ℕ) (n p : ℕ) → length (names_from t n p) ≡ n
+unfolding names_from
 names-count t zero p = refl
-names-count t (suc n) p = ap suc (names-count t n (nameEnd t p))
+names-count t (suc n) p = ap suc (names-count t n (name_end t p))
 
-names-first : (t : List ℕ) (n k p : ℕ) → n ≡ suc k → namesFrom t n p ≡ nameBytes t p ∷ namesFrom t k (nameEnd t p)
-unfolding namesFrom
-names-first t n k p e = ap (λ (m : ℕ). namesFrom t m p) e
+names-first : (t : List ℕ) (n k p : ℕ) → n ≡ suc k → names_from t n p ≡ name_bytes t p ∷ names_from t k (name_end t p)
+unfolding names_from
+names-first t n k p e = ap (λ (m : ℕ). names_from t m p) e
 
-pub params-names : (t : List ℕ) (a n : ℕ) → n ≡ countAt t a → namesFrom t n (a + 2) ≡ (params_at t a).value
+pub params-names : (t : List ℕ) (a n : ℕ) → n ≡ count_at t a → names_from t n (a + 2) ≡ (params_at t a).value
 unfolding params_at
-params-names t a n e = ap (λ (m : ℕ). namesFrom t m (a + 2)) e
+params-names t a n e = ap (λ (m : ℕ). names_from t m (a + 2)) e
 
-pub params-all : (t : List ℕ) (a n : ℕ) → ParamsAt t a → n ≡ countAt t a → AllThere t n (a + 2)
+pub params-all : (t : List ℕ) (a n : ℕ) → ParamsAt t a → n ≡ count_at t a → AllThere t n (a + 2)
 params-all t a n h e = subst (λ (m : ℕ). AllThere t m (a + 2)) (sym e) h.names
 
 -- the names put so far and those that follow from p on
 pub record ParamsLeft (t ps₀ : List ℕ) (n a : ℕ) (ps : List ℕ) (p i : ℕ) : Type 0 where
-  pub names : leading t i ps ++ namesFrom t (n - i) p ≡ namesFrom t n a
+  pub names : leading t i ps ++ names_from t (n - i) p ≡ names_from t n a
   pub there : AllThere t (n - i) p
   pub most : i ≤ n
   pub kept : length ps ≡ length ps₀
@@ -53,7 +53,7 @@ module _ (t ps : List ℕ) (n a : ℕ) where
   params-start h =
       let z : n - 0 ≡ n = omega arith in
       record {
-        names = ap (λ (m : ℕ). namesFrom t m a) z;
+        names = ap (λ (m : ℕ). names_from t m a) z;
         there = subst (λ (m : ℕ). AllThere t m a) (sym z) h;
         most = omega arith;
         kept = refl;
@@ -63,51 +63,51 @@ module _ (t ps₀ : List ℕ) (n a : ℕ) (ps : List ℕ) (p i : ℕ) (l : Param
   pub params-head : i < n → There t p
   params-head h = there-first t (n - i) p (omega arith) l.there
 
-  pub params-next : (e : ℕ) → i < n → n ≤ length ps₀ → e ≡ nameEnd t p → ParamsLeft t ps₀ n a (set ps i p) e (i + 1)
+  pub params-next : (e : ℕ) → i < n → n ≤ length ps₀ → e ≡ name_end t p → ParamsLeft t ps₀ n a (set ps i p) e (i + 1)
   params-next e h m k =
       let z : n - (i + 1) ≡ n - i - 1 = omega arith in
       let y : n - i ≡ suc (n - i - 1) = omega arith in
       let w = l.kept in
       record {
-        names = ap (λ (xs : List Name). xs ++ namesFrom t (n - (i + 1)) e) (leading-set t i p ps (omega arith)) ∙ append_assoc (leading t i ps) (nameBytes t p ∷ []) (namesFrom t (n - (i + 1)) e)
-            ∙ ap (λ (m : ℕ). leading t i ps ++ (nameBytes t p ∷ namesFrom t m e)) z ∙ ap (λ (m : ℕ). leading t i ps ++ (nameBytes t p ∷ namesFrom t (n - i - 1) m)) k
+        names = ap (λ (xs : List Name). xs ++ names_from t (n - (i + 1)) e) (leading-set t i p ps (omega arith)) ∙ append_assoc (leading t i ps) (name_bytes t p ∷ []) (names_from t (n - (i + 1)) e)
+            ∙ ap (λ (m : ℕ). leading t i ps ++ (name_bytes t p ∷ names_from t m e)) z ∙ ap (λ (m : ℕ). leading t i ps ++ (name_bytes t p ∷ names_from t (n - i - 1) m)) k
             ∙ ap (λ (xs : List Name). leading t i ps ++ xs) (sym (names-first t (n - i) (n - i - 1) p y)) ∙ l.names;
         there = subst (λ (m : ℕ). AllThere t m e) (sym z) (there-next t (n - i) p e k (omega arith) l.there);
         most = omega arith;
         kept = length-set ps i p ∙ l.kept;
       }
 
-  pub params-done : n ≤ i → leading t n ps ≡ namesFrom t n a
-  unfolding namesFrom
+  pub params-done : n ≤ i → leading t n ps ≡ names_from t n a
+  unfolding names_from
   params-done h =
       let m = l.most in
       let y : i ≡ n = omega arith in
       let z : n - i ≡ 0 = omega arith in
-      ap (λ (j : ℕ). leading t j ps) (sym y) ∙ sym (append-nil (leading t i ps)) ∙ ap (λ (j : ℕ). leading t i ps ++ namesFrom t j p) (sym z) ∙ l.names
+      ap (λ (j : ℕ). leading t j ps) (sym y) ∙ sym (append-nil (leading t i ps)) ∙ ap (λ (j : ℕ). leading t i ps ++ names_from t j p) (sym z) ∙ l.names
 
 -- the places of parameters put into slots, and these indexed
-module _ (t ps part : List ℕ) (n a : ℕ) (few : n ≤ 255) (room : slotsFrom + 256 ≤ length ps) (w : length part ≡ length (take (length ps - slotsFrom) (drop slotsFrom ps))) where
+module _ (t ps part : List ℕ) (n a : ℕ) (few : n ≤ 255) (room : slots_from + 256 ≤ length ps) (w : length part ≡ length (take (length ps - slots_from) (drop slots_from ps))) where
   params-room : n ≤ length part
-  params-room = let y = length-take-le (length ps - slotsFrom) (drop slotsFrom ps) (let z = length-drop slotsFrom ps in omega arith) in omega arith
+  params-room = let y = length-take-le (length ps - slots_from) (drop slots_from ps) (let z = length-drop slots_from ps in omega arith) in omega arith
 
-  pub params-index : slotsFrom + n ≤ length (put_mid slotsFrom (length ps - slotsFrom) ps part)
-  params-index = let z = same_len_mid slotsFrom (length ps - slotsFrom) ps part w in omega arith
+  pub params-index : slots_from + n ≤ length (put_mid slots_from (length ps - slots_from) ps part)
+  params-index = let z = same_len_mid slots_from (length ps - slots_from) ps part w in omega arith
 
-  pub params-put : (ps' : List ℕ) → leading t n part ≡ namesFrom t n (a + 2) → Reindexed t n (put_mid slotsFrom (length ps - slotsFrom) ps part) ps' → n ≡ countAt t a → Collected (Count n) t ps' (params_at t a).value
-  unfolding Collected params_at firstNames leading
+  pub params-put : (ps' : List ℕ) → leading t n part ≡ names_from t n (a + 2) → Reindexed t n (put_mid slots_from (length ps - slots_from) ps part) ps' → n ≡ count_at t a → Collected (Count n) t ps' (params_at t a).value
+  unfolding Collected params_at first_names leading
   params-put ps' e r f = (
     few,
-    reindexed-names t n _ ps' r ∙ ap (names_at t) (mid-front slotsFrom (length ps - slotsFrom) n ps part (omega arith) params-room) ∙ e ∙ ap (λ (j : ℕ). namesFrom t j (a + 2)) f,
+    reindexed-names t n _ ps' r ∙ ap (names_at t) (mid-front slots_from (length ps - slots_from) n ps part (omega arith) params-room) ∙ e ∙ ap (λ (j : ℕ). names_from t j (a + 2)) f,
     r.indexed,
   )
 
-pub params-over : (t ps : List ℕ) (n a : ℕ) → n ≡ countAt t a → 255 < n → Collected TooMany t ps (params_at t a).value
+pub params-over : (t ps : List ℕ) (n a : ℕ) → n ≡ count_at t a → 255 < n → Collected TooMany t ps (params_at t a).value
 unfolding Collected params_at
-params-over t ps n a e h = let z = e in omega (arith, names-count t (countAt t a) (a + 2))
+params-over t ps n a e h = let z = e in omega (arith, names-count t (count_at t a) (a + 2))
 
 -- ---- locals after parameters
 
-pub collected-count : (r : Locals) (t ps : List ℕ) (want : List Name) (n : ℕ) → Collected r t ps want → r ≡ Count n → (n ≤ 255) × (firstNames t n ps ≡ want) × Indexed t n ps
+pub collected-count : (r : Locals) (t ps : List ℕ) (want : List Name) (n : ℕ) → Collected r t ps want → r ≡ Count n → (n ≤ 255) × (first_names t n ps ≡ want) × Indexed t n ps
 unfolding Collected
 collected-count r t ps want n c e = subst (λ (s : Locals). Collected s t ps want) e c
 
@@ -126,34 +126,34 @@ frames-slots {n} {m} {t} {ps} {f} F = record {
   over = λ e. (let z : ◌≡◌ {A = ℕ} 0 1 = cc in absurd (omega arith));
 }
 
-pub frames-begun : (r : Locals) (t ps qs : List ℕ) (xs : List Name) (b : Block) → Collected r t ps xs → r ≡ TooMany → Frames Framed.TooMany t qs (withLoops xs b)
+pub frames-begun : (r : Locals) (t ps qs : List ℕ) (xs : List Name) (b : Block) → Collected r t ps xs → r ≡ TooMany → Frames Framed.TooMany t qs (with_loops xs b)
 frames-begun r t ps qs xs b c e = let h = collected-over r t ps xs c e in let g = block-grows b xs in frames-over (omega arith)
 
-module _ (r : Locals) (o : Gathered) (t ps qs : List ℕ) (xs : List Name) (k end : ℕ) (b : Block) (c : Collected r t ps xs) (e : r ≡ Count k) (g : Gathers o t qs end (localsBlock b (firstNames t k ps))) where
-  same_names : localsBlock b (firstNames t k ps) ≡ localsBlock b xs
-  same_names = ap (localsBlock b) (collected-count r t ps xs k c e).1
+module _ (r : Locals) (o : Gathered) (t ps qs : List ℕ) (xs : List Name) (k end : ℕ) (b : Block) (c : Collected r t ps xs) (e : r ≡ Count k) (g : Gathers o t qs end (locals_block b (first_names t k ps))) where
+  same_names : locals_block b (first_names t k ps) ≡ locals_block b xs
+  same_names = ap (locals_block b) (collected-count r t ps xs k c e).1
 
-  pub frames-gathered : o ≡ Over → Frames Framed.TooMany t qs (withLoops xs b)
+  pub frames-gathered : o ≡ Over → Frames Framed.TooMany t qs (with_loops xs b)
   frames-gathered h = let y = gathers-over o t qs end _ g h in frames-over (omega (arith, ap length same_names))
 
-  module _ (m p n : ℕ) (h : o ≡ Next p n) (room : slotsFrom + 256 ≤ length qs) (l : m ≡ upTo256 (0 + loopsBlock b)) where
-    stands : Stands p n t qs end (localsBlock b (firstNames t k ps))
+  module _ (m p n : ℕ) (h : o ≡ Next p n) (room : slots_from + 256 ≤ length qs) (l : m ≡ up_to256 (0 + loops_block b)) where
+    stands : Stands p n t qs end (locals_block b (first_names t k ps))
     stands = gathers-next o t qs end _ p n g h
 
-    names-are : firstNames t n qs ≡ localsBlock b xs
+    names-are : first_names t n qs ≡ locals_block b xs
     names-are = stands.names ∙ same_names
 
-    names-many : n ≡ length (localsBlock b xs)
+    names-many : n ≡ length (locals_block b xs)
     names-many = let f = stands.few in sym (first-length t n qs (omega arith)) ∙ ap length names-are
 
     pub counts-few : n + m ≤ 511
     counts-few = let f = stands.few in omega arith
 
-    pub frames-many : 255 < n + m → Frames Framed.TooMany t qs (withLoops xs b)
+    pub frames-many : 255 < n + m → Frames Framed.TooMany t qs (with_loops xs b)
     frames-many w = frames-over (omega (arith, names-many))
 
-    pub frames-all : n + m ≤ 255 → Frames (Framed.Slots n (n + m)) t qs (withLoops xs b)
+    pub frames-all : n + m ≤ 255 → Frames (Framed.Slots n (n + m)) t qs (with_loops xs b)
     frames-all w = frames-slots (record { named = omega arith; few = w; names = names-are; locals = omega (arith, names-many); indexed = stands.indexed })
 
-pub room_of : (t ps qs : List ℕ) (n : ℕ) → length t ≤ 32768 → slotsFrom + 256 ≤ length ps → length qs ≡ length ps → n ≤ 255 → Indexed t n qs → Room t qs n
+pub room_of : (t ps qs : List ℕ) (n : ℕ) → length t ≤ 32768 → slots_from + 256 ≤ length ps → length qs ≡ length ps → n ≤ 255 → Indexed t n qs → Room t qs n
 room_of t ps qs n h k e g v = record { short = h; room = omega arith; few = g; indexed = v }

@@ -12,7 +12,7 @@ use Rattle.definitions.specs.Slots.{insert, sort}
 use Rattle.state.specs.Words.{name_at}
 use Rattle.state.specs.State.{names_at}
 use Rattle.parts.proofs.Laws.{le-or-gt}
-use Rattle.slots.specs.Order.{NoneBelow, noNames, oneMore, InOrder, no_order, inOrder, Spot}
+use Rattle.slots.specs.Order.{NoneBelow, no_names, one_more, InOrder, no_order, in_order, Spot}
 use Rattle.slots.proofs.Holding.{bool-or, clash}
 use Rattle.byte_tests.proofs.Below.{below_none, below_less, below_more, below-same}
 use Rattle.slots.proofs.Ordering.{insert-here, insert-after, Inserting, insert-start, insert-end, insert-stop, insert-next, Sorting}
@@ -55,23 +55,23 @@ not_lower x y z e f = below_flip x z (below-past x y z e f)
 -- ---- names in order
 
 lower : (x y : Name) (zs : List Name) → below x y ≡ true → NoneBelow y zs → NoneBelow x zs
-lower x y [] e noNames = noNames
-lower x y (z ∷ zs) e (oneMore f n) = oneMore (not_lower x y z e f) (lower x y zs e n)
+lower x y [] e no_names = no_names
+lower x y (z ∷ zs) e (one_more f n) = one_more (not_lower x y z e f) (lower x y zs e n)
 
 none-insert : (x y : Name) (zs : List Name) → below x y ≡ false → NoneBelow y zs → NoneBelow y (insert x zs)
 unfolding insert
-none-insert x y [] e noNames = oneMore e noNames
-none-insert x y (z ∷ zs) e (oneMore f n) = ⊎_elim
-    (λ (h : below x z ≡ true). subst (NoneBelow y) (sym (insert-here x z zs h)) (oneMore e (oneMore f n)))
-    (λ (h : below x z ≡ false). subst (NoneBelow y) (sym (insert-after x z zs h)) (oneMore f (none-insert x y zs e n)))
+none-insert x y [] e no_names = one_more e no_names
+none-insert x y (z ∷ zs) e (one_more f n) = ⊎_elim
+    (λ (h : below x z ≡ true). subst (NoneBelow y) (sym (insert-here x z zs h)) (one_more e (one_more f n)))
+    (λ (h : below x z ≡ false). subst (NoneBelow y) (sym (insert-after x z zs h)) (one_more f (none-insert x y zs e n)))
     (bool-or (below x z))
 
 pub insert-order : (x : Name) (ys : List Name) → InOrder ys → InOrder (insert x ys)
 unfolding insert
-insert-order x [] no_order = inOrder noNames no_order
-insert-order x (y ∷ ys) (inOrder n o) = ⊎_elim
-    (λ (h : below x y ≡ true). subst InOrder (sym (insert-here x y ys h)) (inOrder (oneMore (below_flip x y h) (lower x y ys h n)) (inOrder n o)))
-    (λ (h : below x y ≡ false). subst InOrder (sym (insert-after x y ys h)) (inOrder (none-insert x y ys h n) (insert-order x ys o)))
+insert-order x [] no_order = in_order no_names no_order
+insert-order x (y ∷ ys) (in_order n o) = ⊎_elim
+    (λ (h : below x y ≡ true). subst InOrder (sym (insert-here x y ys h)) (in_order (one_more (below_flip x y h) (lower x y ys h n)) (in_order n o)))
+    (λ (h : below x y ≡ false). subst InOrder (sym (insert-after x y ys h)) (in_order (none-insert x y ys h n) (insert-order x ys o)))
     (bool-or (below x y))
 
 pub sort-order : (xs : List Name) → InOrder (sort xs)
@@ -82,17 +82,17 @@ sort-order (x ∷ xs) = insert-order x (sort xs) (sort-order xs)
 none-at : (y : Name) (t qs : List ℕ) → NoneBelow y (names_at t qs) → (j : ℕ) → j < length qs → below (name_at t (get_or qs j 0)) y ≡ false
 unfolding names_at
 none-at y t [] n j h = absurd (omega arith)
-none-at y t (q ∷ qs) (oneMore f n) zero h = f
-none-at y t (q ∷ qs) (oneMore f n) (suc j) h = none-at y t qs n j (omega arith)
+none-at y t (q ∷ qs) (one_more f n) zero h = f
+none-at y t (q ∷ qs) (one_more f n) (suc j) h = none-at y t qs n j (omega arith)
 
 -- what comes before a name comes before those after it
 rising : (x : Name) (t qs : List ℕ) → InOrder (names_at t qs) → (i j : ℕ) → i ≤ j → j < length qs → below x (name_at t (get_or qs i 0)) ≡ true → below x (name_at t (get_or qs j 0)) ≡ true
 unfolding names_at
 rising x t [] o i j h k e = absurd (omega arith)
-rising x t (q ∷ qs) (inOrder n o) zero zero h k e = e
-rising x t (q ∷ qs) (inOrder n o) zero (suc j) h k e = below-past x (name_at t q) (name_at t (get_or qs j 0)) e (none-at (name_at t q) t qs n j (omega arith))
-rising x t (q ∷ qs) (inOrder n o) (suc i) zero h k e = absurd (omega arith)
-rising x t (q ∷ qs) (inOrder n o) (suc i) (suc j) h k e = rising x t qs o i j (omega arith) (omega arith) e
+rising x t (q ∷ qs) (in_order n o) zero zero h k e = e
+rising x t (q ∷ qs) (in_order n o) zero (suc j) h k e = below-past x (name_at t q) (name_at t (get_or qs j 0)) e (none-at (name_at t q) t qs n j (omega arith))
+rising x t (q ∷ qs) (in_order n o) (suc i) zero h k e = absurd (omega arith)
+rising x t (q ∷ qs) (in_order n o) (suc i) (suc j) h k e = rising x t qs o i j (omega arith) (omega arith) e
 
 -- ---- halving
 

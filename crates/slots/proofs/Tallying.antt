@@ -4,17 +4,17 @@ use mathlib.Core.Path.{◌≡◌, refl, sym, ap, ◌∙◌, subst}
 use mathlib.Core.List.{List}
 use native.Mathlib.Omega.{arith}
 use Rattle.definitions.specs.Tree.{Branches}
-use Rattle.definitions.specs.Slots.{loopsStmt, loopsBlock, loopsBranches}
-use Rattle.parts.specs.Places.{Node, countAt}
-use Rattle.tree.specs.StmtAt.{stmtAt, block_at, stmtsAt, branchesAt, BlockReads, StmtsRead, BranchesRead, body_at, elifsAt}
+use Rattle.definitions.specs.Slots.{loops_stmt, loops_block, loops_branches}
+use Rattle.parts.specs.Places.{Node, count_at}
+use Rattle.tree.specs.StmtAt.{stmt_at, block_at, stmts_at, branches_at, BlockReads, StmtsRead, BranchesRead, body_at, elifs_at}
 use Rattle.tree.proofs.LoopsAt.{block-loops, stmts-loops, none-loops, elifs-loops}
-use Rattle.slots.specs.Slotted.{upTo256, Tallies}
+use Rattle.slots.specs.Slotted.{up_to256, Tallies}
 use Rattle.slots.specs.declared.collect.Gathered.{Gathered}
 use Rattle.slots.specs.declared.collect.Gathered.TheVariants.{Over}
 
 -- ---- answers
 
-pub tallied : {r : Gathered} {m m' c : ℕ} → m' ≡ upTo256 (m + c) → Tallies r m m' c
+pub tallied : {r : Gathered} {m m' c : ℕ} → m' ≡ up_to256 (m + c) → Tallies r m m' c
 tallied h = record { counted = λ e n g. h }
 
 pub tallies-over : {m m' c : ℕ} → Tallies Over m m' c
@@ -29,25 +29,25 @@ pub tallies-none : {r : Gathered} {m c : ℕ} → m ≤ 256 → 0 ≡ c → Tall
 tallies-none h z = tallied (omega arith)
 
 -- counted in two parts
-in_parts : (m a b : ℕ) {m₁ : ℕ} → m₁ ≡ upTo256 (m + a) → upTo256 (m₁ + b) ≡ upTo256 (m + (a + b))
+in_parts : (m a b : ℕ) {m₁ : ℕ} → m₁ ≡ up_to256 (m + a) → up_to256 (m₁ + b) ≡ up_to256 (m + (a + b))
 in_parts m a b h = omega arith
 
-tallies-then : {r : Gathered} {m m₁ m₂ b : ℕ} (a : ℕ) → m₁ ≡ upTo256 (m + a) → Tallies r m₁ m₂ b → Tallies r m m₂ (a + b)
+tallies-then : {r : Gathered} {m m₁ m₂ b : ℕ} (a : ℕ) → m₁ ≡ up_to256 (m + a) → Tallies r m₁ m₂ b → Tallies r m m₂ (a + b)
 tallies-then {m = m} {b = b} a h g = record { counted = λ e n k. g.counted e n k ∙ in_parts m a b h }
 
 -- ---- what is left of a walk counts as the whole
 
 pub record LoopsLeft (m₀ m whole rest : ℕ) : Type 0 where
   pub few : m ≤ 256
-  pub counts : upTo256 (m₀ + whole) ≡ upTo256 (m + rest)
+  pub counts : up_to256 (m₀ + whole) ≡ up_to256 (m + rest)
 
 pub loops-start : {m c : ℕ} → m ≤ 256 → LoopsLeft m m c c
 loops-start h = record { few = h; counts = refl }
 
-loops-next : {m₀ m m₁ c a d : ℕ} (b : ℕ) → LoopsLeft m₀ m c a → a ≡ b + d → m₁ ≡ upTo256 (m + b) → LoopsLeft m₀ m₁ c d
-loops-next {m = m} {d = d} b l e h = record { few = omega arith; counts = l.counts ∙ ap (λ (x : ℕ). upTo256 (m + x)) e ∙ sym (in_parts m b d h) }
+loops-next : {m₀ m m₁ c a d : ℕ} (b : ℕ) → LoopsLeft m₀ m c a → a ≡ b + d → m₁ ≡ up_to256 (m + b) → LoopsLeft m₀ m₁ c d
+loops-next {m = m} {d = d} b l e h = record { few = omega arith; counts = l.counts ∙ ap (λ (x : ℕ). up_to256 (m + x)) e ∙ sym (in_parts m b d h) }
 
-loops-end : {m₀ m c a : ℕ} → LoopsLeft m₀ m c a → a ≡ 0 → m ≡ upTo256 (m₀ + c)
+loops-end : {m₀ m c a : ℕ} → LoopsLeft m₀ m c a → a ≡ 0 → m ≡ up_to256 (m₀ + c)
 loops-end l e = omega (arith, l.counts, l.few)
 
 loops-last : {r : Gathered} {m₀ m m' c a : ℕ} → LoopsLeft m₀ m c a → Tallies r m m' a → Tallies r m₀ m' c
@@ -56,31 +56,31 @@ loops-last l g = record { counted = λ e n k. g.counted e n k ∙ sym l.counts }
 -- ---- blocks and branches
 
 module _ (d : ℕ) (t : List ℕ) where
-  pub stmts-count : {m₀ m m₁ c n p e : ℕ} → LoopsLeft m₀ m c (loopsBlock (stmtsAt d n t p).value) → 0 < n → StmtsRead d n t p → e ≡ (stmtAt d t p).end
-      → m₁ ≡ upTo256 (m + loopsStmt (stmtAt d t p).value) → LoopsLeft m₀ m₁ c (loopsBlock (stmtsAt d (n - 1) t e).value)
+  pub stmts-count : {m₀ m m₁ c n p e : ℕ} → LoopsLeft m₀ m c (loops_block (stmts_at d n t p).value) → 0 < n → StmtsRead d n t p → e ≡ (stmt_at d t p).end
+      → m₁ ≡ up_to256 (m + loops_stmt (stmt_at d t p).value) → LoopsLeft m₀ m₁ c (loops_block (stmts_at d (n - 1) t e).value)
   stmts-count {n = n} {p} l h r q z =
-      let first = loopsStmt (stmtAt d t p).value in
-      loops-next first l (stmts-loops d t h r ∙ ap (λ (x : ℕ). first + loopsBlock (stmtsAt d (n - 1) t x).value) (sym q)) z
+      let first = loops_stmt (stmt_at d t p).value in
+      loops-next first l (stmts-loops d t h r ∙ ap (λ (x : ℕ). first + loops_block (stmts_at d (n - 1) t x).value) (sym q)) z
 
   -- the statements of the block at a
-  pub block-count : {r : Gathered} {m₀ m n₀ p₀ n p a : ℕ} → LoopsLeft m₀ m (loopsBlock (stmtsAt d n₀ t p₀).value) (loopsBlock (stmtsAt d n t p).value) → n ≤ 0 → StmtsRead d n t p
-      → BlockReads d t a → n₀ ≡ countAt t a → p₀ ≡ a + 2 → Tallies r m₀ m (loopsBlock (block_at d t a).value)
+  pub block-count : {r : Gathered} {m₀ m n₀ p₀ n p a : ℕ} → LoopsLeft m₀ m (loops_block (stmts_at d n₀ t p₀).value) (loops_block (stmts_at d n t p).value) → n ≤ 0 → StmtsRead d n t p
+      → BlockReads d t a → n₀ ≡ count_at t a → p₀ ≡ a + 2 → Tallies r m₀ m (loops_block (block_at d t a).value)
   block-count l h r b f g = tallies-as (block-loops d t b f g) (tallied (loops-end l (none-loops d t h r)))
 
-  pub branches-count : {m₀ m m₁ c n p e : ℕ} → LoopsLeft m₀ m c (loopsBranches (branchesAt d n t p).value) → 0 < n → BranchesRead d n t p → e ≡ (body_at d t p).end
-      → m₁ ≡ upTo256 (m + loopsBlock (body_at d t p).value) → LoopsLeft m₀ m₁ c (loopsBranches (branchesAt d (n - 1) t e).value)
+  pub branches-count : {m₀ m m₁ c n p e : ℕ} → LoopsLeft m₀ m c (loops_branches (branches_at d n t p).value) → 0 < n → BranchesRead d n t p → e ≡ (body_at d t p).end
+      → m₁ ≡ up_to256 (m + loops_block (body_at d t p).value) → LoopsLeft m₀ m₁ c (loops_branches (branches_at d (n - 1) t e).value)
   branches-count {n = n} {p} l h r q z =
-      let first = loopsBlock (body_at d t p).value in
-      loops-next first l (elifs-loops d t h r ∙ ap (λ (x : ℕ). first + loopsBranches (branchesAt d (n - 1) t x).value) (sym q)) z
+      let first = loops_block (body_at d t p).value in
+      loops-next first l (elifs-loops d t h r ∙ ap (λ (x : ℕ). first + loops_branches (branches_at d (n - 1) t x).value) (sym q)) z
 
-  pub branches-end : {r : Gathered} {m₀ m m' c : ℕ} (n p : ℕ) → LoopsLeft m₀ m c (loopsBranches (branchesAt d n t p).value) → n ≤ 0 → Tallies r m m' (loopsBranches (branchesAt d 0 t p).value) → Tallies r m₀ m' c
-  branches-end n p l h g = loops-last l (tallies-as (let z : 0 ≡ n = omega arith in ap (λ (x : ℕ). loopsBranches (branchesAt d x t p).value) z) g)
+  pub branches-end : {r : Gathered} {m₀ m m' c : ℕ} (n p : ℕ) → LoopsLeft m₀ m c (loops_branches (branches_at d n t p).value) → n ≤ 0 → Tallies r m m' (loops_branches (branches_at d 0 t p).value) → Tallies r m₀ m' c
+  branches-end n p l h g = loops-last l (tallies-as (let z : 0 ≡ n = omega arith in ap (λ (x : ℕ). loops_branches (branches_at d x t p).value) z) g)
 
   -- ---- an If, after its first block, and a For
 
-  pub if-count : {r : Gathered} {m m₁ m₂ : ℕ} (a p n : ℕ) → branchesAt d n t (p + 2) ≡ elifsAt d t a → m₁ ≡ upTo256 (m + loopsBlock (body_at d t a).value)
-      → Tallies r m₁ m₂ (loopsBranches (branchesAt d n t (p + 2)).value) → Tallies r m m₂ (loopsBlock (body_at d t a).value + loopsBranches (elifsAt d t a).value)
-  if-count a p n e h g = tallies-then (loopsBlock (body_at d t a).value) h (tallies-as (ap (λ (x : Node Branches). loopsBranches x.value) e) g)
+  pub if-count : {r : Gathered} {m m₁ m₂ : ℕ} (a p n : ℕ) → branches_at d n t (p + 2) ≡ elifs_at d t a → m₁ ≡ up_to256 (m + loops_block (body_at d t a).value)
+      → Tallies r m₁ m₂ (loops_branches (branches_at d n t (p + 2)).value) → Tallies r m m₂ (loops_block (body_at d t a).value + loops_branches (elifs_at d t a).value)
+  if-count a p n e h g = tallies-then (loops_block (body_at d t a).value) h (tallies-as (ap (λ (x : Node Branches). loops_branches x.value) e) g)
 
-  pub for-count : {r : Gathered} {p q m m₁ m₂ : ℕ} → p ≡ q → m₁ ≡ upTo256 (m + 1) → Tallies r m₁ m₂ (loopsBlock (body_at d t p).value) → Tallies r m m₂ (1 + loopsBlock (body_at d t q).value)
-  for-count e h g = tallies-then 1 h (tallies-as (ap (λ (x : ℕ). loopsBlock (body_at d t x).value) e) g)
+  pub for-count : {r : Gathered} {p q m m₁ m₂ : ℕ} → p ≡ q → m₁ ≡ up_to256 (m + 1) → Tallies r m₁ m₂ (loops_block (body_at d t p).value) → Tallies r m m₂ (1 + loops_block (body_at d t q).value)
+  for-count e h g = tallies-then 1 h (tallies-as (ap (λ (x : ℕ). loops_block (body_at d t x).value) e) g)

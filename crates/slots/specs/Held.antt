@@ -4,8 +4,8 @@ use Rattle.std.proofs.Math.Option.{none, some}
 use Rattle.definitions.specs.Bytes.{Name, same, position, member}
 use Rattle.definitions.specs.Tree.{Expr, lit, var, unary, binary, logical, call, attr, display, index, lambda, Exprs, []ᵉ, ◌∷ᵉ◌}
 use Rattle.definitions.specs.Slots.{add}
-use Rattle.state.specs.State.{slotsFrom, slotNames, Slots}
-use Rattle.slots.specs.Slotted.{firstNames, Indexed}
+use Rattle.state.specs.State.{slots_from, slot_names, Slots}
+use Rattle.slots.specs.Slotted.{first_names, Indexed}
 use Rattle.slots.specs.declared.captures.Refs.{Refs}
 
 -- ---- marks: a number for each slot, not 0 where a lambda around has its name as a parameter
@@ -14,13 +14,13 @@ use Rattle.slots.specs.declared.captures.Refs.{Refs}
 unfoldable pub mark : List Name → Name → List ℕ → List ℕ
 mark slots x ms = elim (position (same x) slots) [ none ↦ ms | some i ↦ set ms i 1 ]
 
-unfoldable pub markAll : List Name → List Name → List ℕ → List ℕ
-markAll slots [] ms = ms
-markAll slots (x ∷ xs) ms = markAll slots xs (mark slots x ms)
+unfoldable pub mark_all : List Name → List Name → List ℕ → List ℕ
+mark_all slots [] ms = ms
+mark_all slots (x ∷ xs) ms = mark_all slots xs (mark slots x ms)
 
 -- the name has a slot that is not marked
-unfoldable pub isFree : List Name → List ℕ → Name → Bool
-isFree slots ms x = elim (position (same x) slots) [ none ↦ false | some i ↦ eqb (get_or ms i 0) 0 ]
+unfoldable pub is_free : List Name → List ℕ → Name → Bool
+is_free slots ms x = elim (position (same x) slots) [ none ↦ false | some i ↦ eqb (get_or ms i 0) 0 ]
 
 -- the marks are those of the names in bound
 pub record Marked (slots bound : List Name) (ms : List ℕ) : Type 0 where
@@ -30,49 +30,49 @@ pub record Marked (slots bound : List Name) (ms : List ℕ) : Type 0 where
 -- ---- names that have a slot
 
 -- the name is added if its slot is free
-unfoldable pub addHeld : List Name → List ℕ → Name → List Name → List Name
-addHeld slots ms x ys = elim (isFree slots ms x) [ true ↦ add x ys | false ↦ ys ]
+unfoldable pub add_held : List Name → List ℕ → Name → List Name → List Name
+add_held slots ms x ys = elim (is_free slots ms x) [ true ↦ add x ys | false ↦ ys ]
 
--- `referencedExpr` among names that have a slot
+-- `referenced_expr` among names that have a slot
 unfoldable mutual
-  pub heldExpr : List Name → List ℕ → Expr → List Name → List Name
-  heldExpr slots ms (lit l) ys = ys
-  heldExpr slots ms (var x) ys = addHeld slots ms x ys
-  heldExpr slots ms (unary op e) ys = heldExpr slots ms e ys
-  heldExpr slots ms (binary op l r) ys = heldExpr slots ms r (heldExpr slots ms l ys)
-  heldExpr slots ms (logical op l r) ys = heldExpr slots ms r (heldExpr slots ms l ys)
-  heldExpr slots ms (call f es) ys = heldExprs slots ms es (heldExpr slots ms f ys)
-  heldExpr slots ms (attr o x) ys = heldExpr slots ms o ys
-  heldExpr slots ms (display k es) ys = heldExprs slots ms es ys
-  heldExpr slots ms (index o i) ys = heldExpr slots ms i (heldExpr slots ms o ys)
-  heldExpr slots ms (lambda ps b) ys = heldExpr slots (markAll slots ps ms) b ys
+  pub held_expr : List Name → List ℕ → Expr → List Name → List Name
+  held_expr slots ms (lit l) ys = ys
+  held_expr slots ms (var x) ys = add_held slots ms x ys
+  held_expr slots ms (unary op e) ys = held_expr slots ms e ys
+  held_expr slots ms (binary op l r) ys = held_expr slots ms r (held_expr slots ms l ys)
+  held_expr slots ms (logical op l r) ys = held_expr slots ms r (held_expr slots ms l ys)
+  held_expr slots ms (call f es) ys = held_exprs slots ms es (held_expr slots ms f ys)
+  held_expr slots ms (attr o x) ys = held_expr slots ms o ys
+  held_expr slots ms (display k es) ys = held_exprs slots ms es ys
+  held_expr slots ms (index o i) ys = held_expr slots ms i (held_expr slots ms o ys)
+  held_expr slots ms (lambda ps b) ys = held_expr slots (mark_all slots ps ms) b ys
 
-  pub heldExprs : List Name → List ℕ → Exprs → List Name → List Name
-  heldExprs slots ms []ᵉ ys = ys
-  heldExprs slots ms (e ∷ᵉ es) ys = heldExprs slots ms es (heldExpr slots ms e ys)
+  pub held_exprs : List Name → List ℕ → Exprs → List Name → List Name
+  held_exprs slots ms []ᵉ ys = ys
+  held_exprs slots ms (e ∷ᵉ es) ys = held_exprs slots ms es (held_expr slots ms e ys)
 
 -- the names have slots, and none stands twice
 pub data Held (slots : List Name) : List Name → Type 0 where
   no_held : Held slots []
-  oneHeld : {x : Name} {ys : List Name} → member x slots ≡ true → member x ys ≡ false → Held slots ys → Held slots (x ∷ ys)
+  one_held : {x : Name} {ys : List Name} → member x slots ≡ true → member x ys ≡ false → Held slots ys → Held slots (x ∷ ys)
 
 -- what a walk over expressions asks: a short tree, the parent's slots, room for as many and one more, names that have slots
 pub record Keeping (t parent ps : List ℕ) (n : ℕ) : Type 0 where
   pub short : length t ≤ 32768
   pub slots : Slots t parent
-  pub room : slotsFrom + 256 ≤ length ps
-  pub most : slotsFrom + n ≤ length ps
-  pub held : Held (slotNames t parent) (firstNames t n ps)
+  pub room : slots_from + 256 ≤ length ps
+  pub most : slots_from + n ≤ length ps
+  pub held : Held (slot_names t parent) (first_names t n ps)
   pub indexed : Indexed t n ps
 
 -- and what it leaves: the next position, and places of the wanted names
 pub record Referred (r : Refs) (t ps : List ℕ) (end : ℕ) (want : List Name) : Type 0 where
   pub next-is : r.next ≡ end
-  pub most : slotsFrom + r.n ≤ length ps
-  pub names : firstNames t r.n ps ≡ want
+  pub most : slots_from + r.n ≤ length ps
+  pub names : first_names t r.n ps ≡ want
   pub indexed : Indexed t r.n ps
 
 -- the places of the captures, no more than the parent's slots
 pub record CapturesAt (r : ℕ) (t parent ps : List ℕ) (want : List Name) : Type 0 where
-  pub few : slotsFrom + r ≤ length parent
-  pub names : firstNames t r ps ≡ want
+  pub few : slots_from + r ≤ length parent
+  pub names : first_names t r ps ≡ want

@@ -5,12 +5,12 @@ use Rattle.state.specs.Words.{name_at}
 
 -- none of the names comes before y
 pub data NoneBelow (y : Name) : List Name → Type 0 where
-  noNames : NoneBelow y []
-  oneMore : {z : Name} {zs : List Name} → below z y ≡ false → NoneBelow y zs → NoneBelow y (z ∷ zs)
+  no_names : NoneBelow y []
+  one_more : {z : Name} {zs : List Name} → below z y ≡ false → NoneBelow y zs → NoneBelow y (z ∷ zs)
 
 pub data InOrder : List Name → Type 0 where
   no_order : InOrder []
-  inOrder : {y : Name} {ys : List Name} → NoneBelow y ys → InOrder ys → InOrder (y ∷ ys)
+  in_order : {y : Name} {ys : List Name} → NoneBelow y ys → InOrder ys → InOrder (y ∷ ys)
 
 -- the name at x comes before none of the first r names after the first place, and before the next
 pub record Spot (t : List ℕ) (x : ℕ) (ps : List ℕ) (r : ℕ) : Type 0 where

@@ -3,8 +3,8 @@ use Rattle.std.specs.Prelude.{ℕ, ◌+◌, ◌-◌, ◌≤◌, ◌<◌, ◌≡�
 use Rattle.definitions.specs.Bytes.{Name}
 use Rattle.definitions.specs.Slots.{Frame}
 use Rattle.state.specs.Words.{name_at}
-use Rattle.state.specs.Index.{bucketOf, Covered}
-use Rattle.state.specs.State.{names_at, slotsFrom}
+use Rattle.state.specs.Index.{bucket_of, Covered}
+use Rattle.state.specs.State.{names_at, slots_from}
 use Rattle.slots.specs.declared.Locals.{Locals}
 use Rattle.slots.specs.declared.Locals.TheVariants.{Count, TooMany}
 use Rattle.slots.specs.declared.collect.Gathered.{Gathered}
@@ -17,66 +17,66 @@ unfoldable pub leading : List ℕ → ℕ → List ℕ → List Name
 leading t n ps = names_at t (take n ps)
 
 -- the names of the first n slots
-unfoldable pub firstNames : List ℕ → ℕ → List ℕ → List Name
-firstNames t n ps = names_at t (take n (drop slotsFrom ps))
+unfoldable pub first_names : List ℕ → ℕ → List ℕ → List Name
+first_names t n ps = names_at t (take n (drop slots_from ps))
 
 -- these are indexed
 pub record Indexed (t : List ℕ) (n : ℕ) (ps : List ℕ) : Type 0 where
-  pub at : Covered slotsFrom ps 0 (firstNames t n ps)
+  pub at : Covered slots_from ps 0 (first_names t n ps)
 
 -- b is the bucket of the name at p
 pub record IsBucket (b : ℕ) (t : List ℕ) (p : ℕ) : Type 0 where
-  pub is : b ≡ bucketOf slotsFrom (name_at t p)
-  pub below : b < slotsFrom
+  pub is : b ≡ bucket_of slots_from (name_at t p)
+  pub below : b < slots_from
 
 -- the slots have an index made anew for the first n
 pub record Reindexed (t : List ℕ) (n : ℕ) (ps ps' : List ℕ) : Type 0 where
-  pub same-places : drop slotsFrom ps' ≡ drop slotsFrom ps
+  pub same-places : drop slots_from ps' ≡ drop slots_from ps
   pub indexed : Indexed t n ps'
 
 -- r slots, at most one more than n, have the wanted names
 pub record Added (r : ℕ) (t ps : List ℕ) (n : ℕ) (want : List Name) : Type 0 where
-  pub names : firstNames t r ps ≡ want
+  pub names : first_names t r ps ≡ want
   pub most : r ≤ n + 1
   pub indexed : Indexed t r ps
 
 -- the first k slots have more after them
 pub record Appended (t : List ℕ) (k : ℕ) (more ps ps' : List ℕ) : Type 0 where
-  pub names : firstNames t (k + length more) ps' ≡ firstNames t k ps ++ names_at t more
+  pub names : first_names t (k + length more) ps' ≡ first_names t k ps ++ names_at t more
   pub indexed : Indexed t (k + length more) ps'
 
 -- the slots have the wanted names; or these are more than 255 (parameters, and the slots of a lambda)
 unfoldable pub Collected : Locals → List ℕ → List ℕ → List Name → Type 0
-Collected (Count n) t ps want = (n ≤ 255) × (firstNames t n ps ≡ want) × Indexed t n ps
+Collected (Count n) t ps want = (n ≤ 255) × (first_names t n ps ≡ want) × Indexed t n ps
 Collected TooMany t ps want = 255 < length want
 
 -- what a walk over statements asks: a short tree, room for 256 slots, of which at most 255 are used
 pub record Room (t ps : List ℕ) (n : ℕ) : Type 0 where
   pub short : length t ≤ 32768
-  pub room : slotsFrom + 256 ≤ length ps
+  pub room : slots_from + 256 ≤ length ps
   pub few : n ≤ 255
   pub indexed : Indexed t n ps
 
 -- and what it leaves: the next position, and slots with the wanted names; or these are more than 255
 unfoldable pub Gathers : Gathered → List ℕ → List ℕ → ℕ → List Name → Type 0
-Gathers (Next e n) t ps end want = (e ≡ end) × (n ≤ 255) × (firstNames t n ps ≡ want) × Indexed t n ps
+Gathers (Next e n) t ps end want = (e ≡ end) × (n ≤ 255) × (first_names t n ps ≡ want) × Indexed t n ps
 Gathers Over t ps end want = 255 < length want
 
 -- ---- loops
 
 -- a count up to 256, which is too many
-abbrev pub upTo256 : ℕ → ℕ
-upTo256 n = n - (n - 256)
+abbrev pub up_to256 : ℕ → ℕ
+up_to256 n = n - (n - 256)
 
 -- a walk that goes on has counted its loops too
 pub record Tallies (r : Gathered) (m m' loops : ℕ) : Type 0 where
-  pub counted : (e n : ℕ) → r ≡ Next e n → m' ≡ upTo256 (m + loops)
+  pub counted : (e n : ℕ) → r ≡ Next e n → m' ≡ up_to256 (m + loops)
 
 -- of the m slots of a frame the first n have its names
 pub record Framing (n m : ℕ) (t ps : List ℕ) (f : Frame) : Type 0 where
   pub named : n ≤ m
   pub few : m ≤ 255
-  pub names : firstNames t n ps ≡ f.names
+  pub names : first_names t n ps ≡ f.names
   pub locals : m ≡ f.locals
   pub indexed : Indexed t n ps
 

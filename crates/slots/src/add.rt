@@ -2,9 +2,9 @@
 ghost use Rattle.std.specs.Prelude.{◌≡◌, ◌+◌, ◌-◌, ◌≤◌, ◌<◌, ◌^◌, length};
 ghost use Rattle.definitions.specs.Bytes.{same, position};
 ghost use Rattle.definitions.specs.Slots.{add};
-ghost use Rattle.state.specs.State.{slotsFrom, slotNames, Slots, foundOr};
-ghost use Rattle.parts.specs.Places.{nameBytes};
-ghost use Rattle.slots.specs.Slotted.{firstNames, Indexed, IsBucket, Added};
+ghost use Rattle.state.specs.State.{slots_from, slot_names, Slots, found_or};
+ghost use Rattle.parts.specs.Places.{name_bytes};
+ghost use Rattle.slots.specs.Slotted.{first_names, Indexed, IsBucket, Added};
 
 use names::index::{find_from, slot_bucket, start};
 use names::spell::name_part;
@@ -20,7 +20,7 @@ pub(crate) fn bucket_at(tree: &[u8], at: usize) -> usize
 // The number of the slot that has the name at `at`, whose bucket is b; as many as there are where none has it.
 pub(crate) fn slot_of(tree: &[u8], slots: &[u32], at: usize, b: usize) -> usize
     requires { Slots tree.now slots.now × IsBucket b tree.now at }
-    ensures { result ≡ foundOr (length slots.now - slotsFrom) (position (same (nameBytes tree.now at)) (slotNames tree.now slots.now)) }
+    ensures { result ≡ found_or (length slots.now - slots_from) (position (same (name_bytes tree.now at)) (slot_names tree.now slots.now)) }
 {
     let k = slots[b];
     find_from(tree, &slots[SLOTS_FROM..], k, name_part(tree, at))
@@ -28,8 +28,8 @@ pub(crate) fn slot_of(tree: &[u8], slots: &[u32], at: usize, b: usize) -> usize
 
 // The first n slots with the name at `at`, whose bucket is b, unless they have it: how many they are then.
 pub(crate) fn add_at(tree: &[u8], slots: &mut [u32], n: u32, at: usize, b: usize) -> u32
-    requires { Indexed tree.now n slots.old × (slotsFrom + n < length slots.old) × (n ≤ 255) × (at < 2 ^ 32) × IsBucket b tree.now at }
-    ensures { Added result tree.now slots.new n (add (nameBytes tree.now at) (firstNames tree.now n slots.old)) }
+    requires { Indexed tree.now n slots.old × (slots_from + n < length slots.old) × (n ≤ 255) × (at < 2 ^ 32) × IsBucket b tree.now at }
+    ensures { Added result tree.now slots.new n (add (name_bytes tree.now at) (first_names tree.now n slots.old)) }
 {
     let k = slots[b];
     let end = SLOTS_FROM + n as usize;
@@ -45,8 +45,8 @@ pub(crate) fn add_at(tree: &[u8], slots: &mut [u32], n: u32, at: usize, b: usize
 
 // The first n slots with the name at `at`, unless they have it: how many they are then.
 pub(crate) fn add_name(tree: &[u8], slots: &mut [u32], n: u32, at: usize) -> u32
-    requires { Indexed tree.now n slots.old × (slotsFrom + n < length slots.old) × (n ≤ 255) × (at < 2 ^ 32) }
-    ensures { Added result tree.now slots.new n (add (nameBytes tree.now at) (firstNames tree.now n slots.old)) }
+    requires { Indexed tree.now n slots.old × (slots_from + n < length slots.old) × (n ≤ 255) × (at < 2 ^ 32) }
+    ensures { Added result tree.now slots.new n (add (name_bytes tree.now at) (first_names tree.now n slots.old)) }
 {
     let b = bucket_at(tree, at);
     add_at(tree, slots, n, at, b)

@@ -1,11 +1,11 @@
 // What a lambda captures, and its slots: its parameters, then its captures.
 ghost use Rattle.std.specs.Prelude.{◌++◌, ◌+◌, ◌*◌, ◌≤◌, ◌<◌, length};
 ghost use Rattle.definitions.specs.Slots.{captures};
-ghost use Rattle.state.specs.State.{slotsFrom, slotNames, Slots};
-ghost use Rattle.parts.specs.Places.{nameBytes, nameEnd, There, ParamsAt, params_at};
-ghost use Rattle.exprs.specs.ExprAt.{exprAt, exprsAt, ExprReads, ExprsRead, TwoAt, secondAt, CallAt, ListAt, listAt, DictAt, pairsAt, AttributeAt, LambdaAt};
-ghost use Rattle.slots.specs.Slotted.{firstNames, Collected};
-ghost use Rattle.slots.specs.Held.{markAll, addHeld, heldExpr, heldExprs, Keeping, Referred, CapturesAt};
+ghost use Rattle.state.specs.State.{slots_from, slot_names, Slots};
+ghost use Rattle.parts.specs.Places.{name_bytes, name_end, There, ParamsAt, params_at};
+ghost use Rattle.exprs.specs.ExprAt.{expr_at, exprs_at, ExprReads, ExprsRead, TwoAt, second_at, CallAt, ListAt, list_at, DictAt, pairs_at, AttributeAt, LambdaAt};
+ghost use Rattle.slots.specs.Slotted.{first_names, Collected};
+ghost use Rattle.slots.specs.Held.{mark_all, add_held, held_expr, held_exprs, Keeping, Referred, CapturesAt};
 
 use crate::Locals;
 use crate::add::{add_at, bucket_at};
@@ -37,7 +37,7 @@ fn keep_name(
     n: u32,
 ) -> Refs
     requires { Keeping tree.now parent.now places.old n × There tree.now at }
-    ensures { Referred result tree.now places.new (nameEnd tree.now at) (addHeld (slotNames tree.now parent.now) marks.now (nameBytes tree.now at) (firstNames tree.now n places.old)) }
+    ensures { Referred result tree.now places.new (name_end tree.now at) (add_held (slot_names tree.now parent.now) marks.now (name_bytes tree.now at) (first_names tree.now n places.old)) }
 {
     let next = name_end(tree, at);
     let b = bucket_at(tree, at);
@@ -60,7 +60,7 @@ fn collect_referenced_vars(
     n: u32,
 ) -> Refs
     requires { Keeping tree.now parent.now places.old n × ExprReads depth tree.now at }
-    ensures { Referred result tree.now places.new (exprAt depth tree.now at).end (heldExpr (slotNames tree.now parent.now) marks.now (exprAt depth tree.now at).value (firstNames tree.now n places.old)) }
+    ensures { Referred result tree.now places.new (expr_at depth tree.now at).end (held_expr (slot_names tree.now parent.now) marks.now (expr_at depth tree.now at).value (first_names tree.now n places.old)) }
 {
     let kind = tree[at];
     let a = at + 1;
@@ -96,8 +96,8 @@ fn refs_two(
     n: u32,
 ) -> Refs
     requires { Keeping tree.now parent.now places.old n × TwoAt depth tree.now at }
-    ensures { Referred result tree.now places.new (secondAt depth tree.now at).end
-        (heldExpr (slotNames tree.now parent.now) marks.now (secondAt depth tree.now at).value (heldExpr (slotNames tree.now parent.now) marks.now (exprAt depth tree.now at).value (firstNames tree.now n places.old))) }
+    ensures { Referred result tree.now places.new (second_at depth tree.now at).end
+        (held_expr (slot_names tree.now parent.now) marks.now (second_at depth tree.now at).value (held_expr (slot_names tree.now parent.now) marks.now (expr_at depth tree.now at).value (first_names tree.now n places.old))) }
 {
     let left = collect_referenced_vars(tree, at, depth, parent, marks, places, n);
     collect_referenced_vars(tree, left.next, depth, parent, marks, places, left.n)
@@ -115,8 +115,8 @@ fn refs_call(
     n: u32,
 ) -> Refs
     requires { Keeping tree.now parent.now places.old n × CallAt depth tree.now at }
-    ensures { Referred result tree.now places.new (listAt depth tree.now (exprAt depth tree.now at).end).end
-        (heldExprs (slotNames tree.now parent.now) marks.now (listAt depth tree.now (exprAt depth tree.now at).end).value (heldExpr (slotNames tree.now parent.now) marks.now (exprAt depth tree.now at).value (firstNames tree.now n places.old))) }
+    ensures { Referred result tree.now places.new (list_at depth tree.now (expr_at depth tree.now at).end).end
+        (held_exprs (slot_names tree.now parent.now) marks.now (list_at depth tree.now (expr_at depth tree.now at).end).value (held_expr (slot_names tree.now parent.now) marks.now (expr_at depth tree.now at).value (first_names tree.now n places.old))) }
 {
     let callee = collect_referenced_vars(tree, at, depth, parent, marks, places, n);
     refs_list(tree, callee.next, depth, parent, marks, places, callee.n)
@@ -134,7 +134,7 @@ fn refs_attribute(
     n: u32,
 ) -> Refs
     requires { Keeping tree.now parent.now places.old n × AttributeAt depth tree.now at }
-    ensures { Referred result tree.now places.new (nameEnd tree.now (exprAt depth tree.now at).end) (heldExpr (slotNames tree.now parent.now) marks.now (exprAt depth tree.now at).value (firstNames tree.now n places.old)) }
+    ensures { Referred result tree.now places.new (name_end tree.now (expr_at depth tree.now at).end) (held_expr (slot_names tree.now parent.now) marks.now (expr_at depth tree.now at).value (first_names tree.now n places.old)) }
 {
     let object = collect_referenced_vars(tree, at, depth, parent, marks, places, n);
     Refs {
@@ -155,7 +155,7 @@ fn refs_list(
     n: u32,
 ) -> Refs
     requires { Keeping tree.now parent.now places.old n × ListAt depth tree.now at }
-    ensures { Referred result tree.now places.new (listAt depth tree.now at).end (heldExprs (slotNames tree.now parent.now) marks.now (listAt depth tree.now at).value (firstNames tree.now n places.old)) }
+    ensures { Referred result tree.now places.new (list_at depth tree.now at).end (held_exprs (slot_names tree.now parent.now) marks.now (list_at depth tree.now at).value (first_names tree.now n places.old)) }
 {
     let count = u16_at(tree, at);
     refs_many(tree, at + 2, depth, count, parent, marks, places, n)
@@ -173,7 +173,7 @@ fn refs_dict(
     n: u32,
 ) -> Refs
     requires { Keeping tree.now parent.now places.old n × DictAt depth tree.now at }
-    ensures { Referred result tree.now places.new (pairsAt depth tree.now at).end (heldExprs (slotNames tree.now parent.now) marks.now (pairsAt depth tree.now at).value (firstNames tree.now n places.old)) }
+    ensures { Referred result tree.now places.new (pairs_at depth tree.now at).end (held_exprs (slot_names tree.now parent.now) marks.now (pairs_at depth tree.now at).value (first_names tree.now n places.old)) }
 {
     let count = u16_at(tree, at);
     refs_many(tree, at + 2, depth, 2 * count, parent, marks, places, n)
@@ -192,7 +192,7 @@ fn refs_many(
     n: u32,
 ) -> Refs
     requires { Keeping tree.now parent.now places.old n × ExprsRead depth count tree.now at }
-    ensures { Referred result tree.now places.new (exprsAt depth count tree.now at).end (heldExprs (slotNames tree.now parent.now) marks.now (exprsAt depth count tree.now at).value (firstNames tree.now n places.old)) }
+    ensures { Referred result tree.now places.new (exprs_at depth count tree.now at).end (held_exprs (slot_names tree.now parent.now) marks.now (exprs_at depth count tree.now at).value (first_names tree.now n places.old)) }
 {
     let mut p = at;
     let mut left = count;
@@ -218,9 +218,9 @@ fn refs_lambda(
     n: u32,
 ) -> Refs
     requires { Keeping tree.now parent.now places.old n × LambdaAt depth tree.now at }
-    ensures { Referred result tree.now places.new (exprAt depth tree.now (params_at tree.now at).end).end
-        (heldExpr (slotNames tree.now parent.now) (markAll (slotNames tree.now parent.now) (params_at tree.now at).value marks.now)
-        (exprAt depth tree.now (params_at tree.now at).end).value (firstNames tree.now n places.old)) }
+    ensures { Referred result tree.now places.new (expr_at depth tree.now (params_at tree.now at).end).end
+        (held_expr (slot_names tree.now parent.now) (mark_all (slot_names tree.now parent.now) (params_at tree.now at).value marks.now)
+        (expr_at depth tree.now (params_at tree.now at).end).value (first_names tree.now n places.old)) }
 {
     let mut inner = *marks;
     mark_params(tree, at, parent, &mut inner);
@@ -237,8 +237,8 @@ pub(crate) fn collect_free_vars(
     parent: &[u32],
     places: &mut [u32],
 ) -> u32
-    requires { (length tree.now ≤ 32768) × Slots tree.now parent.now × (slotsFrom + 256 ≤ length places.old) × ParamsAt tree.now params × ExprReads depth tree.now body }
-    ensures { CapturesAt result tree.now parent.now places.new (captures (slotNames tree.now parent.now) (params_at tree.now params).value (exprAt depth tree.now body).value) }
+    requires { (length tree.now ≤ 32768) × Slots tree.now parent.now × (slots_from + 256 ≤ length places.old) × ParamsAt tree.now params × ExprReads depth tree.now body }
+    ensures { CapturesAt result tree.now parent.now places.new (captures (slot_names tree.now parent.now) (params_at tree.now params).value (expr_at depth tree.now body).value) }
 {
     let mut marks = [0u8; 256];
     mark_params(tree, params, parent, &mut marks);
@@ -257,8 +257,8 @@ pub fn lambda_slots(
     parent: &[u32],
     slots: &mut [u32],
 ) -> Locals
-    requires { (length tree.now ≤ 32768) × Slots tree.now parent.now × (slotsFrom + 256 ≤ length slots.old) × ParamsAt tree.now params × ExprReads depth tree.now body }
-    ensures { Collected result tree.now slots.new ((params_at tree.now params).value ++ captures (slotNames tree.now parent.now) (params_at tree.now params).value (exprAt depth tree.now body).value) }
+    requires { (length tree.now ≤ 32768) × Slots tree.now parent.now × (slots_from + 256 ≤ length slots.old) × ParamsAt tree.now params × ExprReads depth tree.now body }
+    ensures { Collected result tree.now slots.new ((params_at tree.now params).value ++ captures (slot_names tree.now parent.now) (params_at tree.now params).value (expr_at depth tree.now body).value) }
 {
     let begun = put_params(tree, params, slots);
     let Locals::Count(k) = begun else {

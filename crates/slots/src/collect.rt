@@ -1,11 +1,11 @@
 // The locals of a def or method: its parameters, then the names that its block gives a slot.
 ghost use Rattle.std.specs.Prelude.{◌≡◌, ◌+◌, ◌<◌, ◌≤◌, length, get_or};
-ghost use Rattle.definitions.specs.Slots.{add, addTarget, addTargets, localsStmt, localsBlock, localsBranches, loopsStmt, loopsBlock, loopsBranches, withLoops};
-ghost use Rattle.parts.specs.Places.{nameBytes, nameEnd, namesFrom, AllThere, ParamsAt, params_at};
-ghost use Rattle.state.specs.State.{slotsFrom};
-ghost use Rattle.exprs.specs.ExprAt.{exprAt, exprsAt, ExprReads, ExprsRead, TwoAt, secondAt};
-ghost use Rattle.tree.specs.StmtAt.{stmtAt, block_at, branchesAt, StmtReads, BlockReads, BranchesRead, BranchAt, body_at, IfAt, ifAt, elifsAt, ForAt, forAt};
-ghost use Rattle.slots.specs.Slotted.{leading, firstNames, Collected, Room, Gathers, upTo256, Tallies, Frames};
+ghost use Rattle.definitions.specs.Slots.{add, add_target, add_targets, locals_stmt, locals_block, locals_branches, loops_stmt, loops_block, loops_branches, with_loops};
+ghost use Rattle.parts.specs.Places.{name_bytes, name_end, names_from, AllThere, ParamsAt, params_at};
+ghost use Rattle.state.specs.State.{slots_from};
+ghost use Rattle.exprs.specs.ExprAt.{expr_at, exprs_at, ExprReads, ExprsRead, TwoAt, second_at};
+ghost use Rattle.tree.specs.StmtAt.{stmt_at, block_at, branches_at, StmtReads, BlockReads, BranchesRead, BranchAt, body_at, IfAt, if_at, elifs_at, ForAt, for_at};
+ghost use Rattle.slots.specs.Slotted.{leading, first_names, Collected, Room, Gathers, up_to256, Tallies, Frames};
 
 use crate::Locals;
 use crate::add::add_name;
@@ -27,7 +27,7 @@ pub enum Gathered {
 // The slots with the name at `at`.
 fn gather_name(tree: &[u8], at: usize, next: usize, slots: &mut [u32], n: u32) -> Gathered
     requires { Room tree.now slots.old n × (at < length tree.now) }
-    ensures { Gathers result tree.now slots.new next (add (nameBytes tree.now at) (firstNames tree.now n slots.old)) }
+    ensures { Gathers result tree.now slots.new next (add (name_bytes tree.now at) (first_names tree.now n slots.old)) }
 {
     let k = add_name(tree, slots, n, at);
     if SLOTS_MOST < k {
@@ -40,7 +40,7 @@ fn gather_name(tree: &[u8], at: usize, next: usize, slots: &mut [u32], n: u32) -
 #[cycle(gather_target_gather_targets)]
 fn gather_target(tree: &[u8], at: usize, depth: u32, slots: &mut [u32], n: u32) -> Gathered
     requires { Room tree.now slots.old n × ExprReads depth tree.now at }
-    ensures { Gathers result tree.now slots.new (exprAt depth tree.now at).end (addTarget (exprAt depth tree.now at).value (firstNames tree.now n slots.old)) }
+    ensures { Gathers result tree.now slots.new (expr_at depth tree.now at).end (add_target (expr_at depth tree.now at).value (first_names tree.now n slots.old)) }
 {
     let kind = tree[at];
     let a = at + 1;
@@ -66,7 +66,7 @@ fn gather_targets(
     n: u32,
 ) -> Gathered
     requires { Room tree.now slots.old n × ExprsRead depth count tree.now at }
-    ensures { Gathers result tree.now slots.new (exprsAt depth count tree.now at).end (addTargets (exprsAt depth count tree.now at).value (firstNames tree.now n slots.old)) }
+    ensures { Gathers result tree.now slots.new (exprs_at depth count tree.now at).end (add_targets (exprs_at depth count tree.now at).value (first_names tree.now n slots.old)) }
 {
     let mut p = at;
     let mut left = count;
@@ -86,7 +86,7 @@ fn gather_targets(
 // A target and a value.
 fn gather_assign(tree: &[u8], at: usize, depth: u32, slots: &mut [u32], n: u32) -> Gathered
     requires { Room tree.now slots.old n × TwoAt depth tree.now at }
-    ensures { Gathers result tree.now slots.new (secondAt depth tree.now at).end (addTarget (exprAt depth tree.now at).value (firstNames tree.now n slots.old)) }
+    ensures { Gathers result tree.now slots.new (second_at depth tree.now at).end (add_target (expr_at depth tree.now at).value (first_names tree.now n slots.old)) }
 {
     let target = gather_target(tree, at, depth, slots, n);
     let Gathered::Next(value, k) = target else {
@@ -99,7 +99,7 @@ fn gather_assign(tree: &[u8], at: usize, depth: u32, slots: &mut [u32], n: u32) 
 // A statement that holds no block of this function: below 3 one byte, 3 and 4 an expression, 5 an assignment, 9 and 10 a def or class.
 fn gather_plain(tree: &[u8], at: usize, depth: u32, slots: &mut [u32], n: u32) -> Gathered
     requires { Room tree.now slots.old n × StmtReads depth tree.now at × (get_or tree.now at 0 ≡ 6 → ⊥) × (get_or tree.now at 0 ≡ 7 → ⊥) × (get_or tree.now at 0 ≡ 8 → ⊥) }
-    ensures { Gathers result tree.now slots.new (stmtAt depth tree.now at).end (localsStmt (stmtAt depth tree.now at).value (firstNames tree.now n slots.old)) }
+    ensures { Gathers result tree.now slots.new (stmt_at depth tree.now at).end (locals_stmt (stmt_at depth tree.now at).value (first_names tree.now n slots.old)) }
 {
     let kind = tree[at];
     let a = at + 1;
@@ -128,8 +128,8 @@ fn gather_stmt(
     loops: &mut u32,
 ) -> Gathered
     requires { Room tree.now slots.old n × StmtReads depth tree.now at × (loops.old ≤ 256) }
-    ensures { Gathers result tree.now slots.new (stmtAt depth tree.now at).end (localsStmt (stmtAt depth tree.now at).value (firstNames tree.now n slots.old))
-        × Tallies result loops.old loops.new (loopsStmt (stmtAt depth tree.now at).value) }
+    ensures { Gathers result tree.now slots.new (stmt_at depth tree.now at).end (locals_stmt (stmt_at depth tree.now at).value (first_names tree.now n slots.old))
+        × Tallies result loops.old loops.new (loops_stmt (stmt_at depth tree.now at).value) }
 {
     let kind = tree[at];
     match kind {
@@ -151,8 +151,8 @@ fn gather_block(
     loops: &mut u32,
 ) -> Gathered
     requires { Room tree.now slots.old n × BlockReads depth tree.now at × (loops.old ≤ 256) }
-    ensures { Gathers result tree.now slots.new (block_at depth tree.now at).end (localsBlock (block_at depth tree.now at).value (firstNames tree.now n slots.old))
-        × Tallies result loops.old loops.new (loopsBlock (block_at depth tree.now at).value) }
+    ensures { Gathers result tree.now slots.new (block_at depth tree.now at).end (locals_block (block_at depth tree.now at).value (first_names tree.now n slots.old))
+        × Tallies result loops.old loops.new (loops_block (block_at depth tree.now at).value) }
 {
     let mut left = u16_at(tree, at);
     let mut p = at + 2;
@@ -180,8 +180,8 @@ fn gather_branch(
     loops: &mut u32,
 ) -> Gathered
     requires { Room tree.now slots.old n × BranchAt depth tree.now at × (loops.old ≤ 256) }
-    ensures { Gathers result tree.now slots.new (body_at depth tree.now at).end (localsBlock (body_at depth tree.now at).value (firstNames tree.now n slots.old))
-        × Tallies result loops.old loops.new (loopsBlock (body_at depth tree.now at).value) }
+    ensures { Gathers result tree.now slots.new (body_at depth tree.now at).end (locals_block (body_at depth tree.now at).value (first_names tree.now n slots.old))
+        × Tallies result loops.old loops.new (loops_block (body_at depth tree.now at).value) }
 {
     let p = skip_expr(tree, at, depth);
     gather_block(tree, p, depth, slots, n, loops)
@@ -198,9 +198,9 @@ fn gather_if(
     loops: &mut u32,
 ) -> Gathered
     requires { Room tree.now slots.old n × IfAt depth tree.now at × (loops.old ≤ 256) }
-    ensures { Gathers result tree.now slots.new (elifsAt depth tree.now at).end
-        (localsBranches (elifsAt depth tree.now at).value (localsBlock (body_at depth tree.now at).value (firstNames tree.now n slots.old)))
-        × Tallies result loops.old loops.new (loopsBlock (body_at depth tree.now at).value + loopsBranches (elifsAt depth tree.now at).value) }
+    ensures { Gathers result tree.now slots.new (elifs_at depth tree.now at).end
+        (locals_branches (elifs_at depth tree.now at).value (locals_block (body_at depth tree.now at).value (first_names tree.now n slots.old)))
+        × Tallies result loops.old loops.new (loops_block (body_at depth tree.now at).value + loops_branches (elifs_at depth tree.now at).value) }
 {
     let first = gather_branch(tree, at, depth, slots, n, loops);
     let Gathered::Next(p, k) = first else {
@@ -222,8 +222,8 @@ fn gather_elifs(
     loops: &mut u32,
 ) -> Gathered
     requires { Room tree.now slots.old n × BranchesRead depth count tree.now at × (loops.old ≤ 256) }
-    ensures { Gathers result tree.now slots.new (branchesAt depth count tree.now at).end (localsBranches (branchesAt depth count tree.now at).value (firstNames tree.now n slots.old))
-        × Tallies result loops.old loops.new (loopsBranches (branchesAt depth count tree.now at).value) }
+    ensures { Gathers result tree.now slots.new (branches_at depth count tree.now at).end (locals_branches (branches_at depth count tree.now at).value (first_names tree.now n slots.old))
+        × Tallies result loops.old loops.new (loops_branches (branches_at depth count tree.now at).value) }
 {
     let mut p = at;
     let mut left = count;
@@ -251,8 +251,8 @@ fn gather_else(
     loops: &mut u32,
 ) -> Gathered
     requires { Room tree.now slots.old n × BranchesRead depth 0 tree.now at × (loops.old ≤ 256) }
-    ensures { Gathers result tree.now slots.new (branchesAt depth 0 tree.now at).end (localsBranches (branchesAt depth 0 tree.now at).value (firstNames tree.now n slots.old))
-        × Tallies result loops.old loops.new (loopsBranches (branchesAt depth 0 tree.now at).value) }
+    ensures { Gathers result tree.now slots.new (branches_at depth 0 tree.now at).end (locals_branches (branches_at depth 0 tree.now at).value (first_names tree.now n slots.old))
+        × Tallies result loops.old loops.new (loops_branches (branches_at depth 0 tree.now at).value) }
 {
     if tree[at] == 0 {
         return Gathered::Next(at + 1, n);
@@ -263,7 +263,7 @@ fn gather_else(
 // One loop more; 256 are too many, and are not counted further.
 fn one_more(m: u32) -> u32
     requires { m ≤ 256 }
-    ensures { result ≡ upTo256 (m + 1) }
+    ensures { result ≡ up_to256 (m + 1) }
 {
     if m < 256 {
         return m + 1;
@@ -282,9 +282,9 @@ fn gather_for(
     loops: &mut u32,
 ) -> Gathered
     requires { Room tree.now slots.old n × ForAt depth tree.now at × (loops.old ≤ 256) }
-    ensures { Gathers result tree.now slots.new (body_at depth tree.now (nameEnd tree.now at)).end
-        (localsBlock (body_at depth tree.now (nameEnd tree.now at)).value (add (nameBytes tree.now at) (firstNames tree.now n slots.old)))
-        × Tallies result loops.old loops.new (1 + loopsBlock (body_at depth tree.now (nameEnd tree.now at)).value) }
+    ensures { Gathers result tree.now slots.new (body_at depth tree.now (name_end tree.now at)).end
+        (locals_block (body_at depth tree.now (name_end tree.now at)).value (add (name_bytes tree.now at) (first_names tree.now n slots.old)))
+        × Tallies result loops.old loops.new (1 + loops_block (body_at depth tree.now (name_end tree.now at)).value) }
 {
     *loops = one_more(*loops);
     let p = name_end(tree, at);
@@ -298,7 +298,7 @@ fn gather_for(
 // The places of so many names from `at` on.
 fn place_names(tree: &[u8], at: usize, count: u32, places: &mut [u32])
     requires { (length tree.now ≤ 32768) × (count ≤ length places.old) × AllThere tree.now count at }
-    ensures { leading tree.now count places.new ≡ namesFrom tree.now count at }
+    ensures { leading tree.now count places.new ≡ names_from tree.now count at }
 {
     let mut p = at;
     let mut i: u32 = 0;
@@ -311,7 +311,7 @@ fn place_names(tree: &[u8], at: usize, count: u32, places: &mut [u32])
 
 // The slots of the parameters at `at`.
 pub(crate) fn put_params(tree: &[u8], at: usize, slots: &mut [u32]) -> Locals
-    requires { (length tree.now ≤ 32768) × (slotsFrom + 256 ≤ length slots.old) × ParamsAt tree.now at }
+    requires { (length tree.now ≤ 32768) × (slots_from + 256 ≤ length slots.old) × ParamsAt tree.now at }
     ensures { Collected result tree.now slots.new (params_at tree.now at).value }
 {
     let count = u16_at(tree, at);
@@ -338,8 +338,8 @@ pub fn collect_locals(
     depth: u32,
     slots: &mut [u32],
 ) -> Framed
-    requires { (length tree.now ≤ 32768) × (slotsFrom + 256 ≤ length slots.old) × ParamsAt tree.now params × BlockReads depth tree.now block }
-    ensures { Frames result tree.now slots.new (withLoops (params_at tree.now params).value (block_at depth tree.now block).value) }
+    requires { (length tree.now ≤ 32768) × (slots_from + 256 ≤ length slots.old) × ParamsAt tree.now params × BlockReads depth tree.now block }
+    ensures { Frames result tree.now slots.new (with_loops (params_at tree.now params).value (block_at depth tree.now block).value) }
 {
     let begun = put_params(tree, params, slots);
     let Locals::Count(k) = begun else {

@@ -1,6 +1,6 @@
 // The index of slots, made anew.
 ghost use Rattle.std.specs.Prelude.{◌≡◌, ◌+◌, ◌≤◌, length, take};
-ghost use Rattle.state.specs.State.{slotsFrom};
+ghost use Rattle.state.specs.State.{slots_from};
 ghost use Rattle.slots.specs.Slotted.{Reindexed, Appended};
 
 use crate::add::bucket_at;
@@ -8,7 +8,7 @@ use numerals::places::SLOTS_FROM;
 
 // The index of the first n slots.
 pub(crate) fn index_slots(tree: &[u8], slots: &mut [u32], n: u32)
-    requires { slotsFrom + n ≤ length slots.old }
+    requires { slots_from + n ≤ length slots.old }
     ensures { Reindexed tree.now n slots.old slots.new }
 {
     let mut i = n;
@@ -35,7 +35,7 @@ fn copy_places(places: &[u32], to: &mut [u32])
 
 // More slots after the first k, and the index of all.
 pub(crate) fn append_slots(tree: &[u8], slots: &mut [u32], k: u32, more: &[u32])
-    requires { (k + length more.now ≤ 255) × (slotsFrom + 256 ≤ length slots.old) }
+    requires { (k + length more.now ≤ 255) × (slots_from + 256 ≤ length slots.old) }
     ensures { Appended tree.now k more.now slots.old slots.new }
 {
     let from = SLOTS_FROM + k as usize;

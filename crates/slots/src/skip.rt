@@ -1,8 +1,8 @@
 // Where the parts of an accepted tree end: only kinds, counts and lengths are read.
 ghost use Rattle.std.specs.Prelude.{◌≡◌, ◌+◌, ◌*◌};
-ghost use Rattle.parts.specs.Places.{nameEnd, TextAt, textAt, ParamsAt, params_at};
-ghost use Rattle.exprs.specs.ExprAt.{exprAt, exprsAt, ExprReads, ExprsRead, TwoAt, secondAt, CallAt, ListAt, listAt, DictAt, pairsAt, AttributeAt, LambdaAt};
-ghost use Rattle.tree.specs.StmtAt.{stmtAt, block_at, branchesAt, methodsAt, attributesAt, StmtReads, BlockReads, BranchesRead, MethodsRead, AttributesRead, BranchAt, body_at, IfAt, elifsAt, ForAt, DefAt, defBlockAt, ClassAt, classMethodsAt};
+ghost use Rattle.parts.specs.Places.{name_end, TextAt, text_at, ParamsAt, params_at};
+ghost use Rattle.exprs.specs.ExprAt.{expr_at, exprs_at, ExprReads, ExprsRead, TwoAt, second_at, CallAt, ListAt, list_at, DictAt, pairs_at, AttributeAt, LambdaAt};
+ghost use Rattle.tree.specs.StmtAt.{stmt_at, block_at, branches_at, methods_at, attributes_at, StmtReads, BlockReads, BranchesRead, MethodsRead, AttributesRead, BranchAt, body_at, IfAt, elifs_at, ForAt, DefAt, def_block_at, ClassAt, class_methods_at};
 
 use numerals::{expr, stmt};
 use parts::names::name_end;
@@ -11,7 +11,7 @@ use parts::numbers::u16_at;
 // Where the text at `at` ends: a count, and so many bytes.
 fn text_end(tree: &[u8], at: usize) -> usize
     requires { TextAt tree.now at }
-    ensures { result ≡ (textAt tree.now at).end }
+    ensures { result ≡ (text_at tree.now at).end }
 {
     at + 2 + u16_at(tree, at) as usize
 }
@@ -34,7 +34,7 @@ pub fn skip_params(tree: &[u8], at: usize) -> usize
 #[cycle(skip_attribute_skip_call_skip_dict_skip_expr_skip_lambda_skip_list_skip_many_skip_two_skip_value)]
 pub fn skip_expr(tree: &[u8], at: usize, depth: u32) -> usize
     requires { ExprReads depth tree.now at }
-    ensures { result ≡ (exprAt depth tree.now at).end }
+    ensures { result ≡ (expr_at depth tree.now at).end }
 {
     let kind = tree[at];
     let a = at + 1;
@@ -62,7 +62,7 @@ pub fn skip_expr(tree: &[u8], at: usize, depth: u32) -> usize
 #[cycle(skip_attribute_skip_call_skip_dict_skip_expr_skip_lambda_skip_list_skip_many_skip_two_skip_value)]
 pub(crate) fn skip_value(tree: &[u8], at: usize, depth: u32) -> usize
     requires { ExprReads depth tree.now at }
-    ensures { result ≡ (exprAt depth tree.now at).end }
+    ensures { result ≡ (expr_at depth tree.now at).end }
 {
     let kind = tree[at];
     if kind < expr::INT {
@@ -81,7 +81,7 @@ pub(crate) fn skip_value(tree: &[u8], at: usize, depth: u32) -> usize
 #[cycle(skip_attribute_skip_call_skip_dict_skip_expr_skip_lambda_skip_list_skip_many_skip_two_skip_value)]
 fn skip_two(tree: &[u8], at: usize, depth: u32) -> usize
     requires { TwoAt depth tree.now at }
-    ensures { result ≡ (secondAt depth tree.now at).end }
+    ensures { result ≡ (second_at depth tree.now at).end }
 {
     let p = skip_value(tree, at, depth);
     skip_value(tree, p, depth)
@@ -91,7 +91,7 @@ fn skip_two(tree: &[u8], at: usize, depth: u32) -> usize
 #[cycle(skip_attribute_skip_call_skip_dict_skip_expr_skip_lambda_skip_list_skip_many_skip_two_skip_value)]
 fn skip_call(tree: &[u8], at: usize, depth: u32) -> usize
     requires { CallAt depth tree.now at }
-    ensures { result ≡ (listAt depth tree.now (exprAt depth tree.now at).end).end }
+    ensures { result ≡ (list_at depth tree.now (expr_at depth tree.now at).end).end }
 {
     let p = skip_value(tree, at, depth);
     skip_list(tree, p, depth)
@@ -101,7 +101,7 @@ fn skip_call(tree: &[u8], at: usize, depth: u32) -> usize
 #[cycle(skip_attribute_skip_call_skip_dict_skip_expr_skip_lambda_skip_list_skip_many_skip_two_skip_value)]
 fn skip_attribute(tree: &[u8], at: usize, depth: u32) -> usize
     requires { AttributeAt depth tree.now at }
-    ensures { result ≡ nameEnd tree.now (exprAt depth tree.now at).end }
+    ensures { result ≡ name_end tree.now (expr_at depth tree.now at).end }
 {
     let p = skip_value(tree, at, depth);
     name_end(tree, p)
@@ -111,7 +111,7 @@ fn skip_attribute(tree: &[u8], at: usize, depth: u32) -> usize
 #[cycle(skip_attribute_skip_call_skip_dict_skip_expr_skip_lambda_skip_list_skip_many_skip_two_skip_value)]
 fn skip_list(tree: &[u8], at: usize, depth: u32) -> usize
     requires { ListAt depth tree.now at }
-    ensures { result ≡ (listAt depth tree.now at).end }
+    ensures { result ≡ (list_at depth tree.now at).end }
 {
     let count = u16_at(tree, at);
     skip_many(tree, at + 2, depth, count)
@@ -121,7 +121,7 @@ fn skip_list(tree: &[u8], at: usize, depth: u32) -> usize
 #[cycle(skip_attribute_skip_call_skip_dict_skip_expr_skip_lambda_skip_list_skip_many_skip_two_skip_value)]
 fn skip_dict(tree: &[u8], at: usize, depth: u32) -> usize
     requires { DictAt depth tree.now at }
-    ensures { result ≡ (pairsAt depth tree.now at).end }
+    ensures { result ≡ (pairs_at depth tree.now at).end }
 {
     let count = u16_at(tree, at);
     skip_many(tree, at + 2, depth, 2 * count)
@@ -131,7 +131,7 @@ fn skip_dict(tree: &[u8], at: usize, depth: u32) -> usize
 #[cycle(skip_attribute_skip_call_skip_dict_skip_expr_skip_lambda_skip_list_skip_many_skip_two_skip_value)]
 fn skip_many(tree: &[u8], at: usize, depth: u32, count: u32) -> usize
     requires { ExprsRead depth count tree.now at }
-    ensures { result ≡ (exprsAt depth count tree.now at).end }
+    ensures { result ≡ (exprs_at depth count tree.now at).end }
 {
     let mut p = at;
     let mut left = count;
@@ -146,7 +146,7 @@ fn skip_many(tree: &[u8], at: usize, depth: u32, count: u32) -> usize
 #[cycle(skip_attribute_skip_call_skip_dict_skip_expr_skip_lambda_skip_list_skip_many_skip_two_skip_value)]
 fn skip_lambda(tree: &[u8], at: usize, depth: u32) -> usize
     requires { LambdaAt depth tree.now at }
-    ensures { result ≡ (exprAt depth tree.now (params_at tree.now at).end).end }
+    ensures { result ≡ (expr_at depth tree.now (params_at tree.now at).end).end }
 {
     let p = skip_params(tree, at);
     skip_expr(tree, p, depth)
@@ -156,7 +156,7 @@ fn skip_lambda(tree: &[u8], at: usize, depth: u32) -> usize
 #[cycle(skip_block_skip_branch_skip_class_skip_def_skip_elifs_skip_else_skip_for_skip_if_skip_methods_skip_stmt)]
 pub fn skip_stmt(tree: &[u8], at: usize, depth: u32) -> usize
     requires { StmtReads depth tree.now at }
-    ensures { result ≡ (stmtAt depth tree.now at).end }
+    ensures { result ≡ (stmt_at depth tree.now at).end }
 {
     let kind = tree[at];
     let a = at + 1;
@@ -202,7 +202,7 @@ fn skip_branch(tree: &[u8], at: usize, depth: u32) -> usize
 #[cycle(skip_block_skip_branch_skip_class_skip_def_skip_elifs_skip_else_skip_for_skip_if_skip_methods_skip_stmt)]
 fn skip_if(tree: &[u8], at: usize, depth: u32) -> usize
     requires { IfAt depth tree.now at }
-    ensures { result ≡ (elifsAt depth tree.now at).end }
+    ensures { result ≡ (elifs_at depth tree.now at).end }
 {
     let p = skip_branch(tree, at, depth);
     let count = u16_at(tree, p);
@@ -213,7 +213,7 @@ fn skip_if(tree: &[u8], at: usize, depth: u32) -> usize
 #[cycle(skip_block_skip_branch_skip_class_skip_def_skip_elifs_skip_else_skip_for_skip_if_skip_methods_skip_stmt)]
 fn skip_elifs(tree: &[u8], at: usize, depth: u32, count: u32) -> usize
     requires { BranchesRead depth count tree.now at }
-    ensures { result ≡ (branchesAt depth count tree.now at).end }
+    ensures { result ≡ (branches_at depth count tree.now at).end }
 {
     let mut p = at;
     let mut left = count;
@@ -228,7 +228,7 @@ fn skip_elifs(tree: &[u8], at: usize, depth: u32, count: u32) -> usize
 #[cycle(skip_block_skip_branch_skip_class_skip_def_skip_elifs_skip_else_skip_for_skip_if_skip_methods_skip_stmt)]
 fn skip_else(tree: &[u8], at: usize, depth: u32) -> usize
     requires { BranchesRead depth 0 tree.now at }
-    ensures { result ≡ (branchesAt depth 0 tree.now at).end }
+    ensures { result ≡ (branches_at depth 0 tree.now at).end }
 {
     if tree[at] == 0 {
         return at + 1;
@@ -240,7 +240,7 @@ fn skip_else(tree: &[u8], at: usize, depth: u32) -> usize
 #[cycle(skip_block_skip_branch_skip_class_skip_def_skip_elifs_skip_else_skip_for_skip_if_skip_methods_skip_stmt)]
 fn skip_for(tree: &[u8], at: usize, depth: u32) -> usize
     requires { ForAt depth tree.now at }
-    ensures { result ≡ (body_at depth tree.now (nameEnd tree.now at)).end }
+    ensures { result ≡ (body_at depth tree.now (name_end tree.now at)).end }
 {
     let p = name_end(tree, at);
     skip_branch(tree, p, depth)
@@ -250,7 +250,7 @@ fn skip_for(tree: &[u8], at: usize, depth: u32) -> usize
 #[cycle(skip_block_skip_branch_skip_class_skip_def_skip_elifs_skip_else_skip_for_skip_if_skip_methods_skip_stmt)]
 fn skip_def(tree: &[u8], at: usize, depth: u32) -> usize
     requires { DefAt depth tree.now at }
-    ensures { result ≡ (defBlockAt depth tree.now at).end }
+    ensures { result ≡ (def_block_at depth tree.now at).end }
 {
     let params = name_end(tree, at);
     let p = skip_params(tree, params);
@@ -261,7 +261,7 @@ fn skip_def(tree: &[u8], at: usize, depth: u32) -> usize
 #[cycle(skip_block_skip_branch_skip_class_skip_def_skip_elifs_skip_else_skip_for_skip_if_skip_methods_skip_stmt)]
 fn skip_methods(tree: &[u8], at: usize, depth: u32, count: u32) -> usize
     requires { MethodsRead depth count tree.now at }
-    ensures { result ≡ (methodsAt depth count tree.now at).end }
+    ensures { result ≡ (methods_at depth count tree.now at).end }
 {
     let mut p = at;
     let mut left = count;
@@ -275,7 +275,7 @@ fn skip_methods(tree: &[u8], at: usize, depth: u32, count: u32) -> usize
 // Where a count of attributes ends: a name and an expression each.
 fn skip_attributes(tree: &[u8], at: usize, depth: u32) -> usize
     requires { AttributesRead depth tree.now at }
-    ensures { result ≡ (attributesAt depth tree.now at).end }
+    ensures { result ≡ (attributes_at depth tree.now at).end }
 {
     let mut left = u16_at(tree, at);
     let mut p = at + 2;
@@ -291,7 +291,7 @@ fn skip_attributes(tree: &[u8], at: usize, depth: u32) -> usize
 #[cycle(skip_block_skip_branch_skip_class_skip_def_skip_elifs_skip_else_skip_for_skip_if_skip_methods_skip_stmt)]
 fn skip_class(tree: &[u8], at: usize, depth: u32) -> usize
     requires { ClassAt depth tree.now at }
-    ensures { result ≡ (attributesAt depth tree.now (classMethodsAt depth tree.now at).end).end }
+    ensures { result ≡ (attributes_at depth tree.now (class_methods_at depth tree.now at).end).end }
 {
     let p = name_end(tree, at);
     let count = u16_at(tree, p);

@@ -58,14 +58,14 @@ pub paced-more : {c k m : Counts} → Paced c k → Paced k m → Paced c m
 paced-more A B = record { methods = omega arith; constants = omega arith }
 
 -- k is left by a first step from c, m by a second one from k
-pub left_after : {c k m : Counts} {l : Limits} {want₁ want : State} {tree made₁ code₁ tables₁ made code tables : List ℕ}
+pub left-after : {c k m : Counts} {l : Limits} {want₁ want : State} {tree made₁ code₁ tables₁ made code tables : List ℕ}
     → Left k tree made₁ code₁ tables₁ c l want₁ → Left m tree made code tables k l want → Left m tree made code tables c l want
-left_after A B = record { state = B.state; base = B.base ∙ A.base; paced = paced-more A.paced B.paced; sound = B.sound }
+left-after A B = record { state = B.state; base = B.base ∙ A.base; paced = paced-more A.paced B.paced; sound = B.sound }
 
 pub emits-after : {c k : Counts} {l : Limits} {want₁ : State} {tree made₁ code₁ tables₁ : List ℕ} (r : Emitted) (made code tables : List ℕ) (next : ℕ) (want : State)
     → Left k tree made₁ code₁ tables₁ c l want₁ → Emits r tree made code tables k l next want → Emits r tree made code tables c l next want
 unfolding Emits
-emits-after (Done n m) made code tables next want A h = (h.0, left_after A h.1)
+emits-after (Done n m) made code tables next want A h = (h.0, left-after A h.1)
 emits-after Full made code tables next want A h = h
 
 -- nothing done

@@ -9,20 +9,20 @@ use lib.ListN.{length, set, length-append, length-set}
 use lib.Seq.{append_snoc}
 use lib.Dec.{leb}
 use Rattle.definitions.specs.Bytes.{Name, Text, same, position, all}
-use Rattle.definitions.specs.Tree.{Literal, noneL, boolL, intL, floatL, stringL, Expr, lit, var, unary, binary, logical, call, attr, display, index, lambda, Exprs, []ᵉ, ◌∷ᵉ◌}
-use Rattle.definitions.specs.Tree.{count, View, asVar, asAttr, asIndex, asTuple, asOther, view, Stmt, break, continue, pass, expr, return, assign, if, while, for, def, class}
+use Rattle.definitions.specs.Tree.{Literal, none_l, bool_l, int_l, float_l, string_l, Expr, lit, var, unary, binary, logical, call, attr, display, index, lambda, Exprs, []ᵉ, ◌∷ᵉ◌}
+use Rattle.definitions.specs.Tree.{count, View, as_var, as_attr, as_index, as_tuple, as_other, view, Stmt, break, continue, pass, expr, return, assign, if, while, for, def, class}
 use Rattle.definitions.specs.Tree.{Block, []ᵇ, ◌∷ᵇ◌, Branches, done, else, when, Methods, []ᵐ, method}
-use Rattle.definitions.specs.Wellformed.{isTuple}
+use Rattle.definitions.specs.Wellformed.{is_tuple}
 use Rattle.definitions.specs.Instruction
 use Rattle.definitions.specs.Instruction.{Instr, Return}
-use Rattle.definitions.specs.Tables.{Function, Method, Tables, Body, blockBody, exprBody, Out, Emit, emits, one, ◌⨟◌, here, addSymbol, addString, withClasses, intern}
-use Rattle.definitions.specs.Tables.{getOrAddString, begin, set_code, enclose, function}
-use Rattle.definitions.specs.Slots.{captures, Keeping, inGlobals, inSlots, past, Frame, namesOnly, withLoops, loopsStmt, loopsBlock}
-use Rattle.definitions.specs.Module.{instructions, slotsFit}
-use Rattle.definitions.specs.Lower.{load, store, literal, shortcut, Callee, builtinCallee, functionCallee, valueCallee, resolve, callNamed, call_by, lambdaName, loads, closure}
-use Rattle.definitions.specs.Lower.{emitExpr, emitExprs, emitObject, decides, displaySize, copy, emitTarget, unpack, assignBy, loop, iterName, Keeper, global, local, makeIter, namedIter, keptIter, storeIter, loadIter, askIter}
-use Rattle.definitions.specs.Lower.{takeIter, methodEnd, insertMethod, beginClass, classObject, endClass, classOut, emitStmt, emitBlock, emitBranches, emitMethods}
-use Rattle.definitions.proofs.Functions.{setCode-seam}
+use Rattle.definitions.specs.Tables.{Function, Method, Tables, Body, block_body, expr_body, Out, Emit, emits, one, ◌⨟◌, here, add_symbol, add_string, with_classes, intern}
+use Rattle.definitions.specs.Tables.{get_or_add_string, begin, set_code, enclose, function}
+use Rattle.definitions.specs.Slots.{captures, Keeping, in_globals, in_slots, past, Frame, names_only, with_loops, loops_stmt, loops_block}
+use Rattle.definitions.specs.Module.{instructions, slots_fit}
+use Rattle.definitions.specs.Lower.{load, store, literal, shortcut, Callee, builtin_callee, function_callee, value_callee, resolve, call_named, call_by, lambda_name, loads, closure}
+use Rattle.definitions.specs.Lower.{emit_expr, emit_exprs, emit_object, decides, display_size, copy, emit_target, unpack, assign_by, loop, iter_name, Keeper, global, local, make_iter, named_iter, kept_iter, store_iter, load_iter, ask_iter}
+use Rattle.definitions.specs.Lower.{take_iter, method_end, insert_method, begin_class, class_object, end_class, class_out, emit_stmt, emit_block, emit_branches, emit_methods}
+use Rattle.definitions.proofs.Functions.{set_code-seam}
 use Rattle.definitions.proofs.Truth.{left, right}
 
 -- functions are added at the end, and no table is shorter
@@ -70,8 +70,8 @@ unfolding all
 few-first [] gs h = refl
 few-first (f ∷ fs) gs h = rw (left (leb f.locals 255) _ h) (few-first fs gs (right (leb f.locals 255) _ h))
 
-pub slots-fewer : {t u : Tables} → Lengthened t u → slotsFit u ≡ true → slotsFit t ≡ true
-unfolding slotsFit
+pub slots-fewer : {t u : Tables} → Lengthened t u → slots_fit u ≡ true → slots_fit t ≡ true
+unfolding slots_fit
 slots-fewer {t} L h = few-first t.functions L.new (rw L.functions at h)
 
 -- ---- combinators
@@ -97,10 +97,10 @@ lengthens-by g G = record { at = λ p t. (G t).at p t }
 snoc-longer : {A : Type 0} (xs : List A) (a : A) → length xs ≤ length (xs ++ a ∷ [])
 snoc-longer xs a = omega (arith, length-append xs (a ∷ []))
 
-pub symbol-lengthened : (x : Name) (t : Tables) → Lengthened t (addSymbol x t)
+pub symbol-lengthened : (x : Name) (t : Tables) → Lengthened t (add_symbol x t)
 symbol-lengthened x t = lengthened-same refl (snoc-longer t.symbols x) (omega arith) (omega arith)
 
-pub string-lengthened : (x : Text) (t : Tables) → Lengthened t (addString x t)
+pub string-lengthened : (x : Text) (t : Tables) → Lengthened t (add_string x t)
 string-lengthened x t = lengthened-same refl (omega arith) (snoc-longer t.strings x) (omega arith)
 
 -- a number that is found, or made in new tables
@@ -111,11 +111,11 @@ found F new N none n p t = lengthened-more (N t) ((F n).at p (new t))
 
 pub lengthens-intern : {f : ℕ → Emit} (x : Name) → ((k : ℕ) → Lengthens (f k)) → Lengthens (intern x f)
 unfolding intern
-lengthens-intern x F = record { at = λ p t. found F (addSymbol x) (symbol-lengthened x) (position (same x) t.symbols) (length t.symbols) p t }
+lengthens-intern x F = record { at = λ p t. found F (add_symbol x) (symbol-lengthened x) (position (same x) t.symbols) (length t.symbols) p t }
 
-pub lengthens-string : {f : ℕ → Emit} (x : Text) → ((k : ℕ) → Lengthens (f k)) → Lengthens (getOrAddString x f)
-unfolding getOrAddString
-lengthens-string x F = record { at = λ p t. found F (addString x) (string-lengthened x) (position (same x) t.strings) (length t.strings) p t }
+pub lengthens-string : {f : ℕ → Emit} (x : Text) → ((k : ℕ) → Lengthens (f k)) → Lengthens (get_or_add_string x f)
+unfolding get_or_add_string
+lengthens-string x F = record { at = λ p t. found F (add_string x) (string-lengthened x) (position (same x) t.strings) (length t.strings) p t }
 
 pub begin-lengthened : (k arity : ℕ) (frame : Frame) (t : Tables) → Lengthened t (begin k arity frame t)
 unfolding begin
@@ -127,17 +127,17 @@ module _ (k arity : ℕ) (frame : Frame) (t u : Tables) (L : Lengthened (begin k
   unfolding begin
   before = L.functions ∙ append_snoc t.functions _ L.new
 
-  pub setCode-after : set_code u.functions (length t.functions) is ≡ t.functions ++ (record { symbol = k; arity = arity; locals = frame.locals; code = is } ∷ L.new)
-  setCode-after = ap (λ (fs : List Function). set_code fs (length t.functions) is) before ∙ setCode-seam t.functions L.new _ is
+  pub set_code-after : set_code u.functions (length t.functions) is ≡ t.functions ++ (record { symbol = k; arity = arity; locals = frame.locals; code = is } ∷ L.new)
+  set_code-after = ap (λ (fs : List Function). set_code fs (length t.functions) is) before ∙ set_code-seam t.functions L.new _ is
 
-  pub setCode-instructions : instructions (set_code u.functions (length t.functions) is) ≡ instructions u.functions + length is
+  pub set_code-instructions : instructions (set_code u.functions (length t.functions) is) ≡ instructions u.functions + length is
   unfolding instructions
-  setCode-instructions =
-      omega (arith, ap instructions setCode-after, ap instructions before, instructions-append t.functions (record { symbol = k; arity = arity; locals = frame.locals; code = is } ∷ L.new), instructions-append t.functions (record { symbol = k; arity = arity; locals = frame.locals; code = [] } ∷ L.new))
+  set_code-instructions =
+      omega (arith, ap instructions set_code-after, ap instructions before, instructions-append t.functions (record { symbol = k; arity = arity; locals = frame.locals; code = is } ∷ L.new), instructions-append t.functions (record { symbol = k; arity = arity; locals = frame.locals; code = [] } ∷ L.new))
 
-  pub setCode-count : length (set_code u.functions (length t.functions) is) ≡ length u.functions
-  setCode-count =
-      omega (arith, ap length setCode-after, ap length before, length-append t.functions (record { symbol = k; arity = arity; locals = frame.locals; code = is } ∷ L.new), length-append t.functions (record { symbol = k; arity = arity; locals = frame.locals; code = [] } ∷ L.new))
+  pub set_code-count : length (set_code u.functions (length t.functions) is) ≡ length u.functions
+  set_code-count =
+      omega (arith, ap length set_code-after, ap length before, length-append t.functions (record { symbol = k; arity = arity; locals = frame.locals; code = is } ∷ L.new), length-append t.functions (record { symbol = k; arity = arity; locals = frame.locals; code = [] } ∷ L.new))
 
 pub lengthens-enclose : {e : Emit} (k arity : ℕ) (frame : Frame) (body : Body) → Lengthens e → Lengthens (enclose k arity frame body e)
 unfolding enclose
@@ -149,7 +149,7 @@ lengthens-enclose {e} k arity frame body E = record {
       let B = begin-lengthened k arity frame t in
       record {
         new = record { symbol = k; arity = arity; locals = frame.locals; code = o.code } ∷ L.new;
-        functions = setCode-after k arity frame t o.tables L o.code;
+        functions = set_code-after k arity frame t o.tables L o.code;
         symbols = omega (arith, L.symbols, B.symbols);
         strings = omega (arith, L.strings, B.strings);
         classes = omega (arith, L.classes, B.classes);
@@ -192,11 +192,11 @@ lengthens-symbol x f = lengthens-intern x (λ k. lengthens-one (f k))
 
 pub lengthens-literal : (l : Literal) → Lengthens (literal l)
 unfolding literal
-lengthens-literal noneL = lengthens-one Instruction.ConstNone
-lengthens-literal (boolL b) = lengthens-one (Instruction.ConstBool b)
-lengthens-literal (intL n) = lengthens-one (Instruction.ConstI64 n)
-lengthens-literal (floatL n) = lengthens-one (Instruction.ConstF64 n)
-lengthens-literal (stringL s) = lengthens-string s (λ k. lengthens-one (Instruction.ConstStr k))
+lengthens-literal none_l = lengthens-one Instruction.ConstNone
+lengthens-literal (bool_l b) = lengthens-one (Instruction.ConstBool b)
+lengthens-literal (int_l n) = lengthens-one (Instruction.ConstI64 n)
+lengthens-literal (float_l n) = lengthens-one (Instruction.ConstF64 n)
+lengthens-literal (string_l s) = lengthens-string s (λ k. lengthens-one (Instruction.ConstStr k))
 
 pub lengthens-loads : (slots xs : List Name) → Lengthens (loads slots xs)
 unfolding loads
@@ -205,47 +205,47 @@ lengthens-loads slots (x ∷ xs) = lengthens-seq (lengthens-load slots x) (lengt
 
 -- ---- expressions
 
-pub lengthens-callNamed : {args : Emit} (c : Callee) (slots : List Name) (x : Name) (n : ℕ) → Lengthens args → Lengthens (callNamed c slots x args n)
-unfolding callNamed
-lengthens-callNamed (builtinCallee i) slots x n A = lengthens-seq A (lengthens-one (Instruction.CallBuiltin i n))
-lengthens-callNamed (functionCallee i) slots x n A = lengthens-seq A (lengthens-one (Instruction.Call i n))
-lengthens-callNamed valueCallee slots x n A = lengthens-seq (lengthens-load slots x) (lengthens-seq A (lengthens-one (Instruction.CallValue n)))
+pub lengthens-call_named : {args : Emit} (c : Callee) (slots : List Name) (x : Name) (n : ℕ) → Lengthens args → Lengthens (call_named c slots x args n)
+unfolding call_named
+lengthens-call_named (builtin_callee i) slots x n A = lengthens-seq A (lengthens-one (Instruction.CallBuiltin i n))
+lengthens-call_named (function_callee i) slots x n A = lengthens-seq A (lengthens-one (Instruction.Call i n))
+lengthens-call_named value_callee slots x n A = lengthens-seq (lengthens-load slots x) (lengthens-seq A (lengthens-one (Instruction.CallValue n)))
 
-pub lengthens-callBy : {callee object args : Emit} (v : View) (slots : List Name) (n : ℕ) → Lengthens callee → Lengthens object → Lengthens args → Lengthens (call_by v slots callee object args n)
+pub lengthens-call_by : {callee object args : Emit} (v : View) (slots : List Name) (n : ℕ) → Lengthens callee → Lengthens object → Lengthens args → Lengthens (call_by v slots callee object args n)
 unfolding call_by
-lengthens-callBy {args} (asVar x) slots n F O A = lengthens-by (λ t. callNamed (resolve x t) slots x args n) (λ t. lengthens-callNamed (resolve x t) slots x n A)
-lengthens-callBy (asAttr o x) slots n F O A = lengthens-seq O (lengthens-seq A (lengthens-symbol x (λ k. Instruction.CallMethod k n)))
-lengthens-callBy (asIndex o i) slots n F O A = lengthens-seq F (lengthens-seq A (lengthens-one (Instruction.CallValue n)))
-lengthens-callBy (asTuple es) slots n F O A = lengthens-seq F (lengthens-seq A (lengthens-one (Instruction.CallValue n)))
-lengthens-callBy asOther slots n F O A = lengthens-seq F (lengthens-seq A (lengthens-one (Instruction.CallValue n)))
+lengthens-call_by {args} (as_var x) slots n F O A = lengthens-by (λ t. call_named (resolve x t) slots x args n) (λ t. lengthens-call_named (resolve x t) slots x n A)
+lengthens-call_by (as_attr o x) slots n F O A = lengthens-seq O (lengthens-seq A (lengthens-symbol x (λ k. Instruction.CallMethod k n)))
+lengthens-call_by (as_index o i) slots n F O A = lengthens-seq F (lengthens-seq A (lengthens-one (Instruction.CallValue n)))
+lengthens-call_by (as_tuple es) slots n F O A = lengthens-seq F (lengthens-seq A (lengthens-one (Instruction.CallValue n)))
+lengthens-call_by as_other slots n F O A = lengthens-seq F (lengthens-seq A (lengthens-one (Instruction.CallValue n)))
 
 pub lengthens-closure : {e : Emit} (slots : List Name) (arity : ℕ) (inner cs : List Name) (body : Body) → Lengthens e → Lengthens (closure slots arity inner cs body e)
 unfolding closure
 lengthens-closure {e} slots arity inner cs body E =
-    lengthens-by (λ t. function (lambdaName (length t.functions)) arity (namesOnly inner) body (e ⨟ one Return) ⨟ loads slots cs ⨟ one (Instruction.MakeClosure (length t.functions) (length cs)))
-    (λ t. lengthens-seq (lengthens-function (lambdaName (length t.functions)) arity (namesOnly inner) body (lengthens-seq E (lengthens-one Return)))
+    lengthens-by (λ t. function (lambda_name (length t.functions)) arity (names_only inner) body (e ⨟ one Return) ⨟ loads slots cs ⨟ one (Instruction.MakeClosure (length t.functions) (length cs)))
+    (λ t. lengthens-seq (lengthens-function (lambda_name (length t.functions)) arity (names_only inner) body (lengthens-seq E (lengthens-one Return)))
     (lengthens-seq (lengthens-loads slots cs) (lengthens-one (Instruction.MakeClosure (length t.functions) (length cs)))))
 
 mutual
-  unfolding emitExpr
+  unfolding emit_expr
 
-  pub lengthens-expr : (slots : List Name) (e : Expr) → Lengthens (emitExpr slots e)
+  pub lengthens-expr : (slots : List Name) (e : Expr) → Lengthens (emit_expr slots e)
   lengthens-expr slots (lit l) = lengthens-literal l
   lengthens-expr slots (var x) = lengthens-load slots x
   lengthens-expr slots (unary op e) = lengthens-seq (lengthens-expr slots e) (lengthens-one (Instruction.Unary op))
   lengthens-expr slots (binary op l r) = lengthens-seq (lengthens-expr slots l) (lengthens-seq (lengthens-expr slots r) (lengthens-one (Instruction.Binary op)))
   lengthens-expr slots (logical op l r) = lengthens-seq (lengthens-expr slots l) (lengthens-shortcut (decides op) (lengthens-expr slots r))
-  lengthens-expr slots (call f es) = lengthens-callBy (view f) slots (count es) (lengthens-expr slots f) (lengthens-object slots f) (lengthens-exprs slots es)
+  lengthens-expr slots (call f es) = lengthens-call_by (view f) slots (count es) (lengthens-expr slots f) (lengthens-object slots f) (lengthens-exprs slots es)
   lengthens-expr slots (attr o x) = lengthens-seq (lengthens-expr slots o) (lengthens-symbol x (λ k. Instruction.LoadAttr k))
-  lengthens-expr slots (display k es) = lengthens-seq (lengthens-exprs slots es) (lengthens-one (Instruction.Build k (displaySize k es)))
+  lengthens-expr slots (display k es) = lengthens-seq (lengthens-exprs slots es) (lengthens-one (Instruction.Build k (display_size k es)))
   lengthens-expr slots (index o i) = lengthens-seq (lengthens-expr slots o) (lengthens-seq (lengthens-expr slots i) (lengthens-one Instruction.LoadIndex))
-  lengthens-expr slots (lambda ps b) = lengthens-closure slots (length ps) (ps ++ captures slots ps b) (captures slots ps b) (exprBody b) (lengthens-expr (ps ++ captures slots ps b) b)
+  lengthens-expr slots (lambda ps b) = lengthens-closure slots (length ps) (ps ++ captures slots ps b) (captures slots ps b) (expr_body b) (lengthens-expr (ps ++ captures slots ps b) b)
 
-  pub lengthens-exprs : (slots : List Name) (es : Exprs) → Lengthens (emitExprs slots es)
+  pub lengthens-exprs : (slots : List Name) (es : Exprs) → Lengthens (emit_exprs slots es)
   lengthens-exprs slots []ᵉ = lengthens-emits []
   lengthens-exprs slots (e ∷ᵉ es) = lengthens-seq (lengthens-expr slots e) (lengthens-exprs slots es)
 
-  pub lengthens-object : (slots : List Name) (e : Expr) → Lengthens (emitObject slots e)
+  pub lengthens-object : (slots : List Name) (e : Expr) → Lengthens (emit_object slots e)
   lengthens-object slots (lit l) = lengthens-emits []
   lengthens-object slots (var x) = lengthens-emits []
   lengthens-object slots (unary op e) = lengthens-emits []
@@ -269,9 +269,9 @@ tuple-by true E = E
 tuple-by false E = lengthens-emits []
 
 mutual
-  unfolding emitTarget
+  unfolding emit_target
 
-  pub lengthens-target : (slots : List Name) (e : Expr) → Lengthens (emitTarget slots e)
+  pub lengthens-target : (slots : List Name) (e : Expr) → Lengthens (emit_target slots e)
   lengthens-target slots (lit l) = lengthens-emits []
   lengthens-target slots (var x) = lengthens-store slots x
   lengthens-target slots (unary op e) = lengthens-emits []
@@ -279,7 +279,7 @@ mutual
   lengthens-target slots (logical op l r) = lengthens-emits []
   lengthens-target slots (call f es) = lengthens-emits []
   lengthens-target slots (attr o x) = lengthens-emits []
-  lengthens-target slots (display k es) = tuple-by (isTuple k) (lengthens-unpack slots es 0)
+  lengthens-target slots (display k es) = tuple-by (is_tuple k) (lengthens-unpack slots es 0)
   lengthens-target slots (index o i) = lengthens-emits []
   lengthens-target slots (lambda ps b) = lengthens-emits []
 
@@ -288,111 +288,111 @@ mutual
   lengthens-unpack slots (e ∷ᵉ es) i =
       lengthens-seq (lengthens-unpack slots es (suc i)) (lengthens-seq (lengthens-copy i) (lengthens-seq (lengthens-emits (Instruction.ConstI64 i ∷ Instruction.LoadIndex ∷ [])) (lengthens-target slots e)))
 
-pub lengthens-assignBy : {v : Emit} (w : View) (slots : List Name) → Lengthens v → Lengthens (assignBy w slots v)
-unfolding assignBy
-lengthens-assignBy (asVar x) slots E = lengthens-seq E (lengthens-store slots x)
-lengthens-assignBy (asAttr o x) slots E = lengthens-seq (lengthens-expr slots o) (lengthens-seq E (lengthens-symbol x (λ k. Instruction.StoreAttr k)))
-lengthens-assignBy (asIndex o i) slots E = lengthens-seq (lengthens-expr slots o) (lengthens-seq (lengthens-expr slots i) (lengthens-seq E (lengthens-one Instruction.StoreIndex)))
-lengthens-assignBy (asTuple es) slots E = lengthens-seq E (lengthens-unpack slots es 0)
-lengthens-assignBy asOther slots E = lengthens-emits []
+pub lengthens-assign_by : {v : Emit} (w : View) (slots : List Name) → Lengthens v → Lengthens (assign_by w slots v)
+unfolding assign_by
+lengthens-assign_by (as_var x) slots E = lengthens-seq E (lengthens-store slots x)
+lengthens-assign_by (as_attr o x) slots E = lengthens-seq (lengthens-expr slots o) (lengthens-seq E (lengthens-symbol x (λ k. Instruction.StoreAttr k)))
+lengthens-assign_by (as_index o i) slots E = lengthens-seq (lengthens-expr slots o) (lengthens-seq (lengthens-expr slots i) (lengthens-seq E (lengthens-one Instruction.StoreIndex)))
+lengthens-assign_by (as_tuple es) slots E = lengthens-seq E (lengthens-unpack slots es 0)
+lengthens-assign_by as_other slots E = lengthens-emits []
 
 -- ---- loops
 
-pub lengthens-makeIter : Lengthens makeIter
-unfolding makeIter
-lengthens-makeIter = lengthens-symbol _ (λ k. Instruction.CallMethod k 0)
+pub lengthens-make_iter : Lengthens make_iter
+unfolding make_iter
+lengthens-make_iter = lengthens-symbol _ (λ k. Instruction.CallMethod k 0)
 
-pub lengthens-askIter : (g : Keeper) → Lengthens (askIter g)
-unfolding askIter
-lengthens-askIter g = lengthens-seq (lengthens-one (loadIter g)) (lengthens-symbol _ (λ k. Instruction.CallMethod k 0))
+pub lengthens-ask_iter : (g : Keeper) → Lengthens (ask_iter g)
+unfolding ask_iter
+lengthens-ask_iter g = lengthens-seq (lengthens-one (load_iter g)) (lengthens-symbol _ (λ k. Instruction.CallMethod k 0))
 
-pub lengthens-takeIter : (slots : List Name) (x : Name) (g : Keeper) → Lengthens (takeIter slots x g)
-unfolding takeIter
-lengthens-takeIter slots x g = lengthens-seq (lengthens-one (loadIter g)) (lengthens-seq (lengthens-symbol _ (λ k. Instruction.CallMethod k 0)) (lengthens-store slots x))
+pub lengthens-take_iter : (slots : List Name) (x : Name) (g : Keeper) → Lengthens (take_iter slots x g)
+unfolding take_iter
+lengthens-take_iter slots x g = lengthens-seq (lengthens-one (load_iter g)) (lengthens-seq (lengthens-symbol _ (λ k. Instruction.CallMethod k 0)) (lengthens-store slots x))
 
-pub lengthens-keptIter : {f : Keeper → Emit} (keep : Keeping) → ((g : Keeper) → Lengthens (f g)) → Lengthens (keptIter keep f)
-unfolding keptIter namedIter
-lengthens-keptIter inGlobals F = lengthens-here (λ p. lengthens-intern (iterName p) (λ k. F (global k)))
-lengthens-keptIter (inSlots n) F = F (local n)
+pub lengthens-kept_iter : {f : Keeper → Emit} (keep : Keeping) → ((g : Keeper) → Lengthens (f g)) → Lengthens (kept_iter keep f)
+unfolding kept_iter named_iter
+lengthens-kept_iter in_globals F = lengthens-here (λ p. lengthens-intern (iter_name p) (λ k. F (global k)))
+lengthens-kept_iter (in_slots n) F = F (local n)
 
 -- ---- classes
 
-pub beginClass-lengthened : (x : Name) (t : Tables) → Lengthened t (beginClass x t)
-unfolding beginClass
-beginClass-lengthened x t = lengthened-same refl (omega arith) (omega arith) (snoc-longer t.classes (record { name = x; methods = [] }))
+pub begin_class-lengthened : (x : Name) (t : Tables) → Lengthened t (begin_class x t)
+unfolding begin_class
+begin_class-lengthened x t = lengthened-same refl (omega arith) (omega arith) (snoc-longer t.classes (record { name = x; methods = [] }))
 
-pub lengthens-classObject : (c k : ℕ) → Lengthens (classObject c k)
-unfolding classObject
-lengthens-classObject c k = record { at = λ p t. lengthened-same refl (omega arith) (omega arith) (omega arith) }
+pub lengthens-class_object : (c k : ℕ) → Lengthens (class_object c k)
+unfolding class_object
+lengthens-class_object c k = record { at = λ p t. lengthened-same refl (omega arith) (omega arith) (omega arith) }
 
-pub lengthens-endClass : (x : Name) (c : ℕ) (ms : List Method) → Lengthens (endClass x c ms)
-unfolding endClass
-lengthens-endClass x c ms = record {
+pub lengthens-end_class : (x : Name) (c : ℕ) (ms : List Method) → Lengthens (end_class x c ms)
+unfolding end_class
+lengthens-end_class x c ms = record {
   at = λ p t.
-      let u = withClasses (set t.classes c (record { name = x; methods = ms })) t in
+      let u = with_classes (set t.classes c (record { name = x; methods = ms })) t in
       lengthened-more (lengthened-same {t = t} {u = u} refl (omega arith) (omega arith) (omega (arith, length-set t.classes c (record { name = x; methods = ms }))))
-      ((lengthens-intern x (lengthens-classObject c)).at p u);
+      ((lengthens-intern x (lengthens-class_object c)).at p u);
 }
 
 -- ---- statements
 
-class-by : (x : Name) (ms : Methods) → ((acc : List Method) (t : Tables) → Lengthened t (emitMethods ms acc t).tables) → Lengthens (λ p t. classOut x (length t.classes) (emitMethods ms [] (beginClass x t)) p)
-unfolding classOut
+class-by : (x : Name) (ms : Methods) → ((acc : List Method) (t : Tables) → Lengthened t (emit_methods ms acc t).tables) → Lengthens (λ p t. class_out x (length t.classes) (emit_methods ms [] (begin_class x t)) p)
+unfolding class_out
 class-by x ms M = record {
   at = λ p t.
-      let m = emitMethods ms [] (beginClass x t) in
-      lengthened-more (beginClass-lengthened x t) (lengthened-more (M [] (beginClass x t)) ((lengthens-endClass x (length t.classes) m.methods).at p m.tables));
+      let m = emit_methods ms [] (begin_class x t) in
+      lengthened-more (begin_class-lengthened x t) (lengthened-more (M [] (begin_class x t)) ((lengthens-end_class x (length t.classes) m.methods).at p m.tables));
 }
 
-when-by : (slots : List Name) (keep : Keeping) (c : Expr) (b : Block) (r : Branches) → Lengthens (emitBlock slots keep b)
-    → ((q : ℕ) (u : Tables) → Lengthened u (emitBranches slots (past (loopsBlock b) keep) r q u).out.tables)
-    → (p : ℕ) (t : Tables) → Lengthened t (emitBranches slots keep (when c b r) p t).out.tables
-unfolding emitBranches
+when-by : (slots : List Name) (keep : Keeping) (c : Expr) (b : Block) (r : Branches) → Lengthens (emit_block slots keep b)
+    → ((q : ℕ) (u : Tables) → Lengthened u (emit_branches slots (past (loops_block b) keep) r q u).out.tables)
+    → (p : ℕ) (t : Tables) → Lengthened t (emit_branches slots keep (when c b r) p t).out.tables
+unfolding emit_branches
 when-by slots keep c b r B R p t =
-    let a = emitExpr slots c p t in
+    let a = emit_expr slots c p t in
     let q = suc (p + length a.code) in
-    let o = emitBlock slots keep b q a.tables in
+    let o = emit_block slots keep b q a.tables in
     lengthened-more ((lengthens-expr slots c).at p t) (lengthened-more (B.at q a.tables) (R (q + suc (length o.code)) o.tables))
 
-method-by : (x : Name) (ps : List Name) (b : Block) (rest : Methods) (acc : List Method) (t : Tables) → Lengthens (emitBlock (withLoops ps b).names (withLoops ps b).keep b)
-    → ((as' : List Method) (u : Tables) → Lengthened u (emitMethods rest as' u).tables) → Lengthened t (emitMethods (method x ps b rest) acc t).tables
-unfolding emitMethods
+method-by : (x : Name) (ps : List Name) (b : Block) (rest : Methods) (acc : List Method) (t : Tables) → Lengthens (emit_block (with_loops ps b).names (with_loops ps b).keep b)
+    → ((as' : List Method) (u : Tables) → Lengthened u (emit_methods rest as' u).tables) → Lengthened t (emit_methods (method x ps b rest) acc t).tables
+unfolding emit_methods
 method-by x ps b rest acc t B M =
-    let F = (lengthens-function x (length ps) (withLoops ps b) (blockBody b (methodEnd x)) (lengthens-seq B (lengthens-emits (methodEnd x)))).at 0 t in
-    lengthened-more F (M (insertMethod x (length t.functions) acc) _)
+    let F = (lengthens-function x (length ps) (with_loops ps b) (block_body b (method_end x)) (lengthens-seq B (lengthens-emits (method_end x)))).at 0 t in
+    lengthened-more F (M (insert_method x (length t.functions) acc) _)
 
 mutual
-  unfolding emitStmt
+  unfolding emit_stmt
 
-  pub lengthens-stmt : (slots : List Name) (keep : Keeping) (s : Stmt) → Lengthens (emitStmt slots keep s)
+  pub lengthens-stmt : (slots : List Name) (keep : Keeping) (s : Stmt) → Lengthens (emit_stmt slots keep s)
   lengthens-stmt slots keep break = lengthens-one Instruction.Break
   lengthens-stmt slots keep continue = lengthens-one Instruction.Continue
   lengthens-stmt slots keep pass = lengthens-emits []
   lengthens-stmt slots keep (expr e) = lengthens-seq (lengthens-expr slots e) (lengthens-one Instruction.Pop)
   lengthens-stmt slots keep (return e) = lengthens-seq (lengthens-expr slots e) (lengthens-one Return)
-  lengthens-stmt slots keep (assign t v) = lengthens-assignBy (view t) slots (lengthens-expr slots v)
+  lengthens-stmt slots keep (assign t v) = lengthens-assign_by (view t) slots (lengthens-expr slots v)
   lengthens-stmt slots keep (if bs) = record { at = λ p t. branches-lengthened slots keep bs p t }
   lengthens-stmt slots keep (while c b) = lengthens-loop (lengthens-expr slots c) (lengthens-block slots keep b)
   lengthens-stmt slots keep (for x e b) =
-      lengthens-seq (lengthens-expr slots e) (lengthens-seq lengthens-makeIter
-      (lengthens-keptIter keep (λ g. lengthens-seq (lengthens-one (storeIter g)) (lengthens-loop (lengthens-askIter g) (lengthens-seq (lengthens-takeIter slots x g) (lengthens-block slots (past 1 keep) b))))))
+      lengthens-seq (lengthens-expr slots e) (lengthens-seq lengthens-make_iter
+      (lengthens-kept_iter keep (λ g. lengthens-seq (lengthens-one (store_iter g)) (lengthens-loop (lengthens-ask_iter g) (lengthens-seq (lengthens-take_iter slots x g) (lengthens-block slots (past 1 keep) b))))))
   lengthens-stmt slots keep (def x ps b) =
-      let f = withLoops ps b in
-      lengthens-function x (length ps) f (blockBody b (Return ∷ [])) (lengthens-seq (lengthens-block f.names f.keep b) (lengthens-one Return))
+      let f = with_loops ps b in
+      lengthens-function x (length ps) f (block_body b (Return ∷ [])) (lengthens-seq (lengthens-block f.names f.keep b) (lengthens-one Return))
   lengthens-stmt slots keep (class x ms vs) = class-by x ms (λ acc t. methods-lengthened ms acc t)
 
-  pub lengthens-block : (slots : List Name) (keep : Keeping) (b : Block) → Lengthens (emitBlock slots keep b)
+  pub lengthens-block : (slots : List Name) (keep : Keeping) (b : Block) → Lengthens (emit_block slots keep b)
   lengthens-block slots keep []ᵇ = lengthens-emits []
-  lengthens-block slots keep (s ∷ᵇ b) = lengthens-seq (lengthens-stmt slots keep s) (lengthens-block slots (past (loopsStmt s) keep) b)
+  lengthens-block slots keep (s ∷ᵇ b) = lengthens-seq (lengthens-stmt slots keep s) (lengthens-block slots (past (loops_stmt s) keep) b)
 
-  pub branches-lengthened : (slots : List Name) (keep : Keeping) (bs : Branches) (p : ℕ) (t : Tables) → Lengthened t (emitBranches slots keep bs p t).out.tables
+  pub branches-lengthened : (slots : List Name) (keep : Keeping) (bs : Branches) (p : ℕ) (t : Tables) → Lengthened t (emit_branches slots keep bs p t).out.tables
   branches-lengthened slots keep done p t = (lengthens-emits []).at p t
   branches-lengthened slots keep (else b) p t = (lengthens-block slots keep b).at p t
   branches-lengthened slots keep (when c b r) p t =
-      when-by slots keep c b r (lengthens-block slots keep b) (λ q u. branches-lengthened slots (past (loopsBlock b) keep) r q u) p t
+      when-by slots keep c b r (lengthens-block slots keep b) (λ q u. branches-lengthened slots (past (loops_block b) keep) r q u) p t
 
-  pub methods-lengthened : (ms : Methods) (acc : List Method) (t : Tables) → Lengthened t (emitMethods ms acc t).tables
+  pub methods-lengthened : (ms : Methods) (acc : List Method) (t : Tables) → Lengthened t (emit_methods ms acc t).tables
   methods-lengthened []ᵐ acc t = lengthened-none t
   methods-lengthened (method x ps b rest) acc t =
-      let f = withLoops ps b in
+      let f = with_loops ps b in
       method-by x ps b rest acc t (lengthens-block f.names f.keep b) (λ as' u. methods-lengthened rest as' u)

@@ -10,10 +10,10 @@ use Rattle.definitions.specs.Bytes.{Name}
 use Rattle.definitions.specs.Instruction.{Instr, Jump, JumpIfFalse, ConstBool, minus}
 use Rattle.definitions.specs.Tables.{Tables, Emit, emits, one}
 use Rattle.definitions.specs.Tree.{Expr, Block, Branches, done, else, when}
-use Rattle.definitions.specs.Slots.{Keeping, past, loopsBlock}
-use Rattle.definitions.specs.Lower.{jumpOn, shortcut, patch, loop, emitExpr, emitBlock, emitBranches}
-use Rattle.state.specs.State.{State, emitAt}
-use Rattle.state.specs.Steps.{set_at, patchAt, branch, chainAt}
+use Rattle.definitions.specs.Slots.{Keeping, past, loops_block}
+use Rattle.definitions.specs.Lower.{jump_on, shortcut, patch, loop, emit_expr, emit_block, emit_branches}
+use Rattle.state.specs.State.{State, emit_at}
+use Rattle.state.specs.Steps.{set_at, patch_at, branch, chain_at}
 use Rattle.state.proofs.Emission.{state-eq}
 
 -- ---- a jump may be set before or after the next part
@@ -27,8 +27,8 @@ unfolding patch
 patch-long h n i [] = refl
 patch-long h n i (x ∷ is) = ap suc (patch-long h n (suc i) is)
 
-pub patch-length : (h k n : ℕ) (s : State) → k + n ≤ length s.stack → length (patchAt h k n s).stack ≡ length s.stack
-unfolding patchAt
+pub patch-length : (h k n : ℕ) (s : State) → k + n ≤ length s.stack → length (patch_at h k n s).stack ≡ length s.stack
+unfolding patch_at
 patch-length h k n s l =
     let m = patch-long h n 0 (take n (drop k s.stack)) in
     simp (length-append, length-take, length-drop, m) (omega arith)
@@ -49,26 +49,26 @@ set-seam xs ys i j a b =
     ap (λ (l : List Instr). set l (length xs) j) e ∙ set-append_seam xs i (ys ++ a ∷ b ∷ []) j
 
 shortcut-by : (base : ℕ) (b : Bool) (r : Emit) (i : Instr) (s : State) → base ≤ length s.stack
-    → emitAt base (shortcut b r) s
-    ≡ set_at (length s.stack) (jumpOn b (suc (length (emitAt base r (emitAt base (one i) s)).stack - length (emitAt base (one i) s).stack)))
-    (emitAt base (one (ConstBool b)) (emitAt base (one (Jump 1)) (emitAt base r (emitAt base (one i) s))))
-unfolding emitAt set_at shortcut emits
+    → emit_at base (shortcut b r) s
+    ≡ set_at (length s.stack) (jump_on b (suc (length (emit_at base r (emit_at base (one i) s)).stack - length (emit_at base (one i) s).stack)))
+    (emit_at base (one (ConstBool b)) (emit_at base (one (Jump 1)) (emit_at base r (emit_at base (one i) s))))
+unfolding emit_at set_at shortcut emits
 shortcut-by base b r i s h =
     let xs = s.stack in
     let n = length (xs ++ i ∷ []) - base in
     let ys = (r n s.tables).code in
-    ap (λ (m : ℕ). record { stack = xs ++ (jumpOn b (suc (length (r m s.tables).code)) ∷ (r m s.tables).code ++ Jump 1 ∷ ConstBool b ∷ []); tables = (r m s.tables).tables })
+    ap (λ (m : ℕ). record { stack = xs ++ (jump_on b (suc (length (r m s.tables).code)) ∷ (r m s.tables).code ++ Jump 1 ∷ ConstBool b ∷ []); tables = (r m s.tables).tables })
     (sym (after_one base i s h))
     ∙ state-eq _ _
-    (ap (λ (m : ℕ). xs ++ (jumpOn b (suc m) ∷ ys ++ Jump 1 ∷ ConstBool b ∷ [])) (sym (added (xs ++ i ∷ []) ys))
+    (ap (λ (m : ℕ). xs ++ (jump_on b (suc m) ∷ ys ++ Jump 1 ∷ ConstBool b ∷ [])) (sym (added (xs ++ i ∷ []) ys))
     ∙ sym (set-seam xs ys i _ (Jump 1) (ConstBool b)))
     refl
 
 -- i is the placeholder; s₁ and s₂ are the states after it and after the right side
 pub at-shortcut : (base : ℕ) (b : Bool) (r : Emit) (i : Instr) (s s₁ s₂ : State) → base ≤ length s.stack
-    → s₁ ≡ emitAt base (one i) s → s₂ ≡ emitAt base r s₁
-    → emitAt base (shortcut b r) s
-    ≡ set_at (length s.stack) (jumpOn b (suc (length s₂.stack - length s₁.stack))) (emitAt base (one (ConstBool b)) (emitAt base (one (Jump 1)) s₂))
+    → s₁ ≡ emit_at base (one i) s → s₂ ≡ emit_at base r s₁
+    → emit_at base (shortcut b r) s
+    ≡ set_at (length s.stack) (jump_on b (suc (length s₂.stack - length s₁.stack))) (emit_at base (one (ConstBool b)) (emit_at base (one (Jump 1)) s₂))
 at-shortcut base b r i s s₁ s₂ h e₁ e₂ = rw (e₂, e₁) (shortcut-by base b r i s h)
 
 -- ---- loops
@@ -92,13 +92,13 @@ loop-seam h n xs as' bs i j c e =
 
 -- i is the placeholder; s₁, s₂ and s₃ are the states after the head, the placeholder and the inside
 module _ (base : ℕ) (head inside : Emit) (i : Instr) (s : State) (h : base ≤ length s.stack) where
-  loop-by : emitAt base (loop head inside) s
-      ≡ set_at (length (emitAt base head s).stack) (JumpIfFalse (suc (length (emitAt base inside (emitAt base (one i) (emitAt base head s))).stack - length (emitAt base (one i) (emitAt base head s)).stack)))
-      (patchAt (length (emitAt base (one i) (emitAt base head s)).stack - length s.stack) (length (emitAt base (one i) (emitAt base head s)).stack)
-      (length (emitAt base inside (emitAt base (one i) (emitAt base head s))).stack - length (emitAt base (one i) (emitAt base head s)).stack)
-      (emitAt base (one (Jump (minus (suc (length (emitAt base inside (emitAt base (one i) (emitAt base head s))).stack - length s.stack)))))
-      (emitAt base inside (emitAt base (one i) (emitAt base head s)))))
-  unfolding emitAt set_at patchAt loop emits
+  loop-by : emit_at base (loop head inside) s
+      ≡ set_at (length (emit_at base head s).stack) (JumpIfFalse (suc (length (emit_at base inside (emit_at base (one i) (emit_at base head s))).stack - length (emit_at base (one i) (emit_at base head s)).stack)))
+      (patch_at (length (emit_at base (one i) (emit_at base head s)).stack - length s.stack) (length (emit_at base (one i) (emit_at base head s)).stack)
+      (length (emit_at base inside (emit_at base (one i) (emit_at base head s))).stack - length (emit_at base (one i) (emit_at base head s)).stack)
+      (emit_at base (one (Jump (minus (suc (length (emit_at base inside (emit_at base (one i) (emit_at base head s))).stack - length s.stack)))))
+      (emit_at base inside (emit_at base (one i) (emit_at base head s)))))
+  unfolding emit_at set_at patch_at loop emits
   loop-by =
       let xs = s.stack in
       let a = head (length xs - base) s.tables in
@@ -118,11 +118,11 @@ module _ (base : ℕ) (head inside : Emit) (i : Instr) (s : State) (h : base ≤
       ∙ state-eq _ _ ((λ j. xs ++ (as' ++ (JumpIfFalse (suc (m j)) ∷ patch (w j) (m j) 0 bs ++ Jump (minus (z j)) ∷ [])))
       ∙ sym (loop-seam (length (xs ++ as' ++ i ∷ []) - length xs) (length (xs ++ as' ++ i ∷ [] ++ bs) - length (xs ++ as' ++ i ∷ [])) xs as' bs i _ _ m)) refl
 
-  pub at-loop : (s₁ s₂ s₃ : State) → s₁ ≡ emitAt base head s → s₂ ≡ emitAt base (one i) s₁ → s₃ ≡ emitAt base inside s₂
-      → emitAt base (loop head inside) s
+  pub at-loop : (s₁ s₂ s₃ : State) → s₁ ≡ emit_at base head s → s₂ ≡ emit_at base (one i) s₁ → s₃ ≡ emit_at base inside s₂
+      → emit_at base (loop head inside) s
       ≡ set_at (length s₁.stack) (JumpIfFalse (suc (length s₃.stack - length s₂.stack)))
-      (patchAt (length s₂.stack - length s.stack) (length s₂.stack) (length s₃.stack - length s₂.stack)
-      (emitAt base (one (Jump (minus (suc (length s₃.stack - length s.stack))))) s₃))
+      (patch_at (length s₂.stack - length s.stack) (length s₂.stack) (length s₃.stack - length s₂.stack)
+      (emit_at base (one (Jump (minus (suc (length s₃.stack - length s.stack))))) s₃))
   at-loop s₁ s₂ s₃ e₁ e₂ e₃ = rw (e₃, e₂, e₁) loop-by
 
 -- ---- branches
@@ -142,84 +142,84 @@ last-seam xs as' bs rest j c d =
 
 -- a branch and those after it, on a stack ys
 rest-by : (base : ℕ) (slots : List Name) (keep : Keeping) (c : Expr) (b : Block) (r : Branches) (p : ℕ) (t : Tables) (ys : List Instr) → base ≤ length ys → length ys - base ≡ p
-    → ◌≡◌ {A = State} (record { stack = ys ++ (emitBranches slots keep (when c b r) p t).out.code; tables = (emitBranches slots keep (when c b r) p t).out.tables })
-    (chainAt base slots (past (loopsBlock b) keep) r (length (ys ++ (branch slots keep c b p t).code) - 1) (record { stack = ys ++ (branch slots keep c b p t).code; tables = (branch slots keep c b p t).tables }))
-unfolding emitBranches branch chainAt
+    → ◌≡◌ {A = State} (record { stack = ys ++ (emit_branches slots keep (when c b r) p t).out.code; tables = (emit_branches slots keep (when c b r) p t).out.tables })
+    (chain_at base slots (past (loops_block b) keep) r (length (ys ++ (branch slots keep c b p t).code) - 1) (record { stack = ys ++ (branch slots keep c b p t).code; tables = (branch slots keep c b p t).tables }))
+unfolding emit_branches branch chain_at
 rest-by base slots keep c b r p t ys h e =
-    let a = emitExpr slots c p t in
-    let o = emitBlock slots keep b (suc (p + length a.code)) a.tables in
+    let a = emit_expr slots c p t in
+    let o = emit_block slots keep b (suc (p + length a.code)) a.tables in
     let jif = JumpIfFalse (suc (length o.code)) in
     let is = a.code ++ (jif ∷ o.code ++ Jump 0 ∷ []) in
     let q : suc (p + length a.code) + suc (length o.code) ≡ length (ys ++ is) - base =
     omega (arith, length-append ys is, length-append a.code (jif ∷ o.code ++ Jump 0 ∷ []), length-append o.code (Jump 0 ∷ [])) in
-    ap (λ (n : ℕ). record { stack = ys ++ (a.code ++ (jif ∷ o.code ++ Jump (emitBranches slots (past (loopsBlock b) keep) r n o.tables).hop ∷ (emitBranches slots (past (loopsBlock b) keep) r n o.tables).out.code)); tables = (emitBranches slots (past (loopsBlock b) keep) r n o.tables).out.tables }) q
+    ap (λ (n : ℕ). record { stack = ys ++ (a.code ++ (jif ∷ o.code ++ Jump (emit_branches slots (past (loops_block b) keep) r n o.tables).hop ∷ (emit_branches slots (past (loops_block b) keep) r n o.tables).out.code)); tables = (emit_branches slots (past (loops_block b) keep) r n o.tables).out.tables }) q
     ∙ state-eq _ _ (sym (last-seam ys a.code o.code _ jif (Jump 0) _)) refl
 
 branch-hop : (slots : List Name) (keep : Keeping) (c : Expr) (b : Block) (r : Branches) (p : ℕ) (t : Tables) (xs : List Instr)
-    → (emitBranches slots keep (when c b r) p t).hop ≡ length (xs ++ (branch slots keep c b p t).code) - 1 - length xs
-unfolding emitBranches branch
+    → (emit_branches slots keep (when c b r) p t).hop ≡ length (xs ++ (branch slots keep c b p t).code) - 1 - length xs
+unfolding emit_branches branch
 branch-hop slots keep c b r p t xs =
-    let a = emitExpr slots c p t in
-    let o = emitBlock slots keep b (suc (p + length a.code)) a.tables in
+    let a = emit_expr slots c p t in
+    let o = emit_block slots keep b (suc (p + length a.code)) a.tables in
     let jif = JumpIfFalse (suc (length o.code)) in
     omega (arith, length-append xs (a.code ++ (jif ∷ o.code ++ Jump 0 ∷ [])), length-append a.code (jif ∷ o.code ++ Jump 0 ∷ []), length-append o.code (Jump 0 ∷ []))
 
 -- s₁, s₂ and s₃ are the states after the condition, the placeholder i and the block; the end jump is a placeholder too
 module _ (base : ℕ) (slots : List Name) (keep : Keeping) (c : Expr) (b : Block) (s : State) (h : base ≤ length s.stack) where
-  branch_by : (i : Instr) → emitAt base (branch slots keep c b) s
-      ≡ set_at (length (emitAt base (emitExpr slots c) s).stack)
-      (JumpIfFalse (suc (length (emitAt base (emitBlock slots keep b) (emitAt base (one i) (emitAt base (emitExpr slots c) s))).stack - length (emitAt base (one i) (emitAt base (emitExpr slots c) s)).stack)))
-      (emitAt base (one (Jump 0)) (emitAt base (emitBlock slots keep b) (emitAt base (one i) (emitAt base (emitExpr slots c) s))))
-  unfolding emitAt set_at branch emits
+  branch_by : (i : Instr) → emit_at base (branch slots keep c b) s
+      ≡ set_at (length (emit_at base (emit_expr slots c) s).stack)
+      (JumpIfFalse (suc (length (emit_at base (emit_block slots keep b) (emit_at base (one i) (emit_at base (emit_expr slots c) s))).stack - length (emit_at base (one i) (emit_at base (emit_expr slots c) s)).stack)))
+      (emit_at base (one (Jump 0)) (emit_at base (emit_block slots keep b) (emit_at base (one i) (emit_at base (emit_expr slots c) s))))
+  unfolding emit_at set_at branch emits
   branch_by i =
       let xs = s.stack in
-      let a = emitExpr slots c (length xs - base) s.tables in
+      let a = emit_expr slots c (length xs - base) s.tables in
       let as' = a.code in
       let n = length (xs ++ as' ++ i ∷ []) - base in
       let q : suc (length xs - base + length as') ≡ n = omega (arith, length-append (xs ++ as') (i ∷ []), length-append xs as') in
-      let bs = (emitBlock slots keep b n a.tables).code in
+      let bs = (emit_block slots keep b n a.tables).code in
       let m : length bs ≡ length (xs ++ as' ++ i ∷ [] ++ bs) - length (xs ++ as' ++ i ∷ []) = sym (added (xs ++ as' ++ i ∷ []) bs) in
-      ap (λ (k : ℕ). record { stack = xs ++ (as' ++ (JumpIfFalse (suc (length (emitBlock slots keep b k a.tables).code)) ∷ (emitBlock slots keep b k a.tables).code ++ Jump 0 ∷ [])); tables = (emitBlock slots keep b k a.tables).tables }) q
+      ap (λ (k : ℕ). record { stack = xs ++ (as' ++ (JumpIfFalse (suc (length (emit_block slots keep b k a.tables).code)) ∷ (emit_block slots keep b k a.tables).code ++ Jump 0 ∷ [])); tables = (emit_block slots keep b k a.tables).tables }) q
       ∙ state-eq _ _ ((λ j. xs ++ (as' ++ (JumpIfFalse (suc (m j)) ∷ bs ++ Jump 0 ∷ [])))
       ∙ sym (branch-seam xs as' bs i _ (Jump 0))) refl
 
-  pub at-branch : (i : Instr) (s₁ s₂ s₃ : State) → s₁ ≡ emitAt base (emitExpr slots c) s → s₂ ≡ emitAt base (one i) s₁ → s₃ ≡ emitAt base (emitBlock slots keep b) s₂
-      → emitAt base (branch slots keep c b) s ≡ set_at (length s₁.stack) (JumpIfFalse (suc (length s₃.stack - length s₂.stack))) (emitAt base (one (Jump 0)) s₃)
+  pub at-branch : (i : Instr) (s₁ s₂ s₃ : State) → s₁ ≡ emit_at base (emit_expr slots c) s → s₂ ≡ emit_at base (one i) s₁ → s₃ ≡ emit_at base (emit_block slots keep b) s₂
+      → emit_at base (branch slots keep c b) s ≡ set_at (length s₁.stack) (JumpIfFalse (suc (length s₃.stack - length s₂.stack))) (emit_at base (one (Jump 0)) s₃)
   at-branch i s₁ s₂ s₃ e₁ e₂ e₃ = rw (e₃, e₂, e₁) (branch_by i)
 
   -- the first branch, of which s' is the state; the end jump is its last instruction
-  pub at-when : (r : Branches) (s' : State) → s' ≡ emitAt base (branch slots keep c b) s
-      → emitAt base (λ p t. (emitBranches slots keep (when c b r) p t).out) s ≡ chainAt base slots (past (loopsBlock b) keep) r (length s'.stack - 1) s'
-  unfolding emitAt
+  pub at-when : (r : Branches) (s' : State) → s' ≡ emit_at base (branch slots keep c b) s
+      → emit_at base (λ p t. (emit_branches slots keep (when c b r) p t).out) s ≡ chain_at base slots (past (loops_block b) keep) r (length s'.stack - 1) s'
+  unfolding emit_at
   at-when r s' e = rw e (rest-by base slots keep c b r (length s.stack - base) s.tables s.stack h refl)
 
   -- a branch after one whose end jump is at place k
-  pub chain-when : (r : Branches) (k : ℕ) (s' : State) → k < length s.stack → s' ≡ emitAt base (branch slots keep c b) s
-      → chainAt base slots keep (when c b r) k s ≡ chainAt base slots (past (loopsBlock b) keep) r (length s'.stack - 1) (set_at k (Jump (length s'.stack - 1 - length s.stack)) s')
-  unfolding emitAt set_at chainAt emitBranches branch
+  pub chain-when : (r : Branches) (k : ℕ) (s' : State) → k < length s.stack → s' ≡ emit_at base (branch slots keep c b) s
+      → chain_at base slots keep (when c b r) k s ≡ chain_at base slots (past (loops_block b) keep) r (length s'.stack - 1) (set_at k (Jump (length s'.stack - 1 - length s.stack)) s')
+  unfolding emit_at set_at chain_at emit_branches branch
   chain-when r k s' l e =
       let xs = s.stack in
       let p = length xs - base in
       let is = (branch slots keep c b p s.tables).code in
       let t = (branch slots keep c b p s.tables).tables in
-      let d = (emitBranches slots keep (when c b r) p s.tables).hop in
+      let d = (emit_branches slots keep (when c b r) p s.tables).hop in
       let ys = set xs k (Jump d) in
       let same_length : length ys ≡ length xs = length-set xs k (Jump d) in
       let n : length (ys ++ is) ≡ length (xs ++ is) = omega (arith, length-append ys is, length-append xs is) in
       let a : ys ++ is ≡ set (xs ++ is) k (Jump d) = sym (set-append_left xs is k (Jump d) l) in
       let w : d ≡ length (xs ++ is) - 1 - length xs = branch-hop slots keep c b r p s.tables xs in
       rw e (rest-by base slots keep c b r p s.tables ys (omega arith) (ap (λ (m : ℕ). m - base) same_length)
-      ∙ (λ j. chainAt base slots (past (loopsBlock b) keep) r (n j - 1) (record { stack = a j; tables = t }))
-      ∙ (λ j. chainAt base slots (past (loopsBlock b) keep) r (length (xs ++ is) - 1) (record { stack = set (xs ++ is) k (Jump (w j)); tables = t })))
+      ∙ (λ j. chain_at base slots (past (loops_block b) keep) r (n j - 1) (record { stack = a j; tables = t }))
+      ∙ (λ j. chain_at base slots (past (loops_block b) keep) r (length (xs ++ is) - 1) (record { stack = set (xs ++ is) k (Jump (w j)); tables = t })))
 
-pub chain-else : (base : ℕ) (slots : List Name) (keep : Keeping) (b : Block) (k : ℕ) (s s' : State) → k < length s.stack → s' ≡ emitAt base (emitBlock slots keep b) s
-    → chainAt base slots keep (else b) k s ≡ set_at k (Jump (length s'.stack - length s.stack)) s'
-unfolding emitAt set_at chainAt emitBranches
+pub chain-else : (base : ℕ) (slots : List Name) (keep : Keeping) (b : Block) (k : ℕ) (s s' : State) → k < length s.stack → s' ≡ emit_at base (emit_block slots keep b) s
+    → chain_at base slots keep (else b) k s ≡ set_at k (Jump (length s'.stack - length s.stack)) s'
+unfolding emit_at set_at chain_at emit_branches
 chain-else base slots keep b k s s' l e =
     let xs = s.stack in
-    let o = emitBlock slots keep b (length xs - base) s.tables in
+    let o = emit_block slots keep b (length xs - base) s.tables in
     rw e (state-eq _ _ (sym (set-append_left xs o.code k (Jump (length o.code)) l) ∙ ap (λ (n : ℕ). set (xs ++ o.code) k (Jump n)) (sym (added xs o.code))) refl)
 
-pub chain-done : (base : ℕ) (slots : List Name) (keep : Keeping) (k : ℕ) (s : State) → chainAt base slots keep done k s ≡ set_at k (Jump 0) s
-unfolding set_at chainAt emitBranches emits
+pub chain-done : (base : ℕ) (slots : List Name) (keep : Keeping) (k : ℕ) (s : State) → chain_at base slots keep done k s ≡ set_at k (Jump 0) s
+unfolding set_at chain_at emit_branches emits
 chain-done base slots keep k s = state-eq _ _ (append-nil (set s.stack k (Jump 0))) refl

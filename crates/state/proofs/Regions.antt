@@ -13,8 +13,8 @@ use borrow.Author.Tests.{ltb-false, le-leb}
 use Rattle.definitions.specs.Bytes.{Name, all}
 use Rattle.definitions.specs.Tables.{Function, Class, set_code}
 use Rattle.definitions.specs.Module.{instructions}
-use Rattle.state.specs.Words.{region, name_at, instrOf, instrsOf}
-use Rattle.state.specs.State.{spelled, functionOf, functionsOf, methodOf, class_of, classesOf, place_of, count_of, Every, noEvery, every, MadeWithin, EndsWithin, total}
+use Rattle.state.specs.Words.{region, name_at, instr_of, instrs_of}
+use Rattle.state.specs.State.{spelled, function_of, functions_of, method_of, class_of, classes_of, place_of, count_of, Every, no_every, every, MadeWithin, EndsWithin, total}
 
 -- ---- regions
 
@@ -89,89 +89,89 @@ set_first n w xs h = ap (λ (k : ℕ). take k (set xs n w)) (add-one n) ∙ take
 -- ---- a fact of each word
 
 pub every_append : {P : ℕ → Type 0} {xs ys : List ℕ} → Every P xs → Every P ys → Every P (xs ++ ys)
-every_append noEvery b = b
+every_append no_every b = b
 every_append (every p a) b = every p (every_append a b)
 
 pub every-snoc : {P : ℕ → Type 0} {xs : List ℕ} {w : ℕ} → Every P xs → P w → Every P (xs ++ w ∷ [])
-every-snoc a p = every_append a (every p noEvery)
+every-snoc a p = every_append a (every p no_every)
 
 pub every_map : {P Q : ℕ → Type 0} {xs : List ℕ} → ((a : ℕ) → P a → Q a) → Every P xs → Every Q xs
-every_map f noEvery = noEvery
+every_map f no_every = no_every
 every_map f (every {a} p b) = every (f a p) (every_map f b)
 
 pub every_set : {P : ℕ → Type 0} {xs : List ℕ} (i w : ℕ) → P w → Every P xs → Every P (set xs i w)
-every_set i w p noEvery = noEvery
+every_set i w p no_every = no_every
 every_set zero w p (every q r) = every p r
 every_set (suc i) w p (every q r) = every q (every_set i w p r)
 
 -- ---- the heads and the places of code: functions
 
-pub functions-length : (tree fin hs ks : List ℕ) → length hs ≡ length ks → length (functionsOf tree fin hs ks) ≡ length hs
-unfolding functionsOf
+pub functions-length : (tree fin hs ks : List ℕ) → length hs ≡ length ks → length (functions_of tree fin hs ks) ≡ length hs
+unfolding functions_of
 functions-length tree fin [] ks e = refl
 functions-length tree fin (h ∷ hs) [] e = sym e
 functions-length tree fin (h ∷ hs) (k ∷ ks) e = ap suc (functions-length tree fin hs ks (omega arith))
 
 -- a head keeps the number of slots in 8 bits
-pub functions-slots : (tree fin hs ks : List ℕ) → all (λ (f : Function). leb f.locals 255) (functionsOf tree fin hs ks) ≡ true
-unfolding all functionsOf functionOf
+pub functions-slots : (tree fin hs ks : List ℕ) → all (λ (f : Function). leb f.locals 255) (functions_of tree fin hs ks) ≡ true
+unfolding all functions_of function_of
 functions-slots tree fin [] ks = refl
 functions-slots tree fin (h ∷ hs) [] = refl
 functions-slots tree fin (h ∷ hs) (k ∷ ks) = rw (le-leb (h % 2 ^ 8) 255 (omega arith)) (functions-slots tree fin hs ks)
 
 -- one function more
 pub functions-snoc : (tree fin hs ks : List ℕ) (h k : ℕ) → length hs ≡ length ks
-    → functionsOf tree fin (hs ++ h ∷ []) (ks ++ k ∷ []) ≡ functionsOf tree fin hs ks ++ functionOf tree fin h k ∷ []
-unfolding functionsOf
+    → functions_of tree fin (hs ++ h ∷ []) (ks ++ k ∷ []) ≡ functions_of tree fin hs ks ++ function_of tree fin h k ∷ []
+unfolding functions_of
 functions-snoc tree fin [] [] h k e = refl
 functions-snoc tree fin [] (y ∷ ks) h k e = absurd (omega arith)
 functions-snoc tree fin (x ∷ hs) [] h k e = absurd (omega arith)
-functions-snoc tree fin (x ∷ hs) (y ∷ ks) h k e = ap (λ (fs : List Function). functionOf tree fin x y ∷ fs) (functions-snoc tree fin hs ks h k (omega arith))
+functions-snoc tree fin (x ∷ hs) (y ∷ ks) h k e = ap (λ (fs : List Function). function_of tree fin x y ∷ fs) (functions-snoc tree fin hs ks h k (omega arith))
 
 -- a function gets its code
 pub functions-set : (tree fin hs ks : List ℕ) (i k : ℕ)
-    → functionsOf tree fin hs (set ks i k) ≡ set_code (functionsOf tree fin hs ks) i (instrsOf tree (region (place_of k) (count_of k) fin))
-unfolding functionsOf functionOf set_code
+    → functions_of tree fin hs (set ks i k) ≡ set_code (functions_of tree fin hs ks) i (instrs_of tree (region (place_of k) (count_of k) fin))
+unfolding functions_of function_of set_code
 functions-set tree fin [] ks i k = refl
 functions-set tree fin (h ∷ hs) [] i k = refl
 functions-set tree fin (h ∷ hs) (x ∷ ks) zero k = refl
-functions-set tree fin (h ∷ hs) (x ∷ ks) (suc i) k = ap (λ (fs : List Function). functionOf tree fin h x ∷ fs) (functions-set tree fin hs ks i k)
+functions-set tree fin (h ∷ hs) (x ∷ ks) (suc i) k = ap (λ (fs : List Function). function_of tree fin h x ∷ fs) (functions-set tree fin hs ks i k)
 
 -- functions whose code lies in a beginning that the finished words share
-pub functions-same : (tree fin fin' hs ks : List ℕ) (n : ℕ) → Every (EndsWithin n) ks → take n fin ≡ take n fin' → functionsOf tree fin hs ks ≡ functionsOf tree fin' hs ks
-unfolding functionsOf functionOf
+pub functions-same : (tree fin fin' hs ks : List ℕ) (n : ℕ) → Every (EndsWithin n) ks → take n fin ≡ take n fin' → functions_of tree fin hs ks ≡ functions_of tree fin' hs ks
+unfolding functions_of function_of
 functions-same tree fin fin' [] ks n w e = refl
 functions-same tree fin fin' (h ∷ hs) [] n w e = refl
 functions-same tree fin fin' (h ∷ hs) (k ∷ ks) n (every p w) e =
     let r = region-same n (place_of k) (count_of k) fin fin' p e in
     let s = functions-same tree fin fin' hs ks n w e in
-    λ j. record { symbol = h / 2 ^ 16; arity = h / 2 ^ 8 % 2 ^ 8; locals = h % 2 ^ 8; code = instrsOf tree (r j) } ∷ s j
+    λ j. record { symbol = h / 2 ^ 16; arity = h / 2 ^ 8 % 2 ^ 8; locals = h % 2 ^ 8; code = instrs_of tree (r j) } ∷ s j
 
 -- ---- the names and the places of methods: classes
 
-pub classes-length : (tree ms xs ks : List ℕ) → length xs ≡ length ks → length (classesOf tree ms xs ks) ≡ length xs
-unfolding classesOf
+pub classes-length : (tree ms xs ks : List ℕ) → length xs ≡ length ks → length (classes_of tree ms xs ks) ≡ length xs
+unfolding classes_of
 classes-length tree ms [] ks e = refl
 classes-length tree ms (x ∷ xs) [] e = sym e
 classes-length tree ms (x ∷ xs) (k ∷ ks) e = ap suc (classes-length tree ms xs ks (omega arith))
 
 pub classes-snoc : (tree ms xs ks : List ℕ) (x k : ℕ) → length xs ≡ length ks
-    → classesOf tree ms (xs ++ x ∷ []) (ks ++ k ∷ []) ≡ classesOf tree ms xs ks ++ class_of tree ms x k ∷ []
-unfolding classesOf
+    → classes_of tree ms (xs ++ x ∷ []) (ks ++ k ∷ []) ≡ classes_of tree ms xs ks ++ class_of tree ms x k ∷ []
+unfolding classes_of
 classes-snoc tree ms [] [] x k e = refl
 classes-snoc tree ms [] (y ∷ ks) x k e = absurd (omega arith)
 classes-snoc tree ms (h ∷ xs) [] x k e = absurd (omega arith)
 classes-snoc tree ms (h ∷ xs) (y ∷ ks) x k e = ap (λ (cs : List Class). class_of tree ms h y ∷ cs) (classes-snoc tree ms xs ks x k (omega arith))
 
 -- classes whose methods lie in a beginning that two tables of methods share
-pub classes-same : (tree ms ms' xs ks : List ℕ) (n : ℕ) → Every (EndsWithin n) ks → take n ms ≡ take n ms' → classesOf tree ms xs ks ≡ classesOf tree ms' xs ks
-unfolding classesOf class_of
+pub classes-same : (tree ms ms' xs ks : List ℕ) (n : ℕ) → Every (EndsWithin n) ks → take n ms ≡ take n ms' → classes_of tree ms xs ks ≡ classes_of tree ms' xs ks
+unfolding classes_of class_of
 classes-same tree ms ms' [] ks n w e = refl
 classes-same tree ms ms' (x ∷ xs) [] n w e = refl
 classes-same tree ms ms' (x ∷ xs) (k ∷ ks) n (every p w) e =
     let r = region-same n (place_of k) (count_of k) ms ms' p e in
     let s = classes-same tree ms ms' xs ks n w e in
-    λ j. record { name = name_at tree x; methods = map (methodOf tree) (r j) } ∷ s j
+    λ j. record { name = name_at tree x; methods = map (method_of tree) (r j) } ∷ s j
 
 -- ---- how many finished words
 
@@ -187,21 +187,21 @@ total-set (x ∷ ks) zero k h = omega arith
 total-set (x ∷ ks) (suc i) k h = omega (arith, total-set ks i k (omega arith))
 
 -- they are the instructions of the functions
-pub instructions-total : (tree fin hs ks : List ℕ) (n : ℕ) → length hs ≡ length ks → Every (EndsWithin n) ks → n ≤ length fin → instructions (functionsOf tree fin hs ks) ≡ total ks
-unfolding functionsOf functionOf instructions total instrsOf
+pub instructions-total : (tree fin hs ks : List ℕ) (n : ℕ) → length hs ≡ length ks → Every (EndsWithin n) ks → n ≤ length fin → instructions (functions_of tree fin hs ks) ≡ total ks
+unfolding functions_of function_of instructions total instrs_of
 instructions-total tree fin [] [] n e w h = refl
 instructions-total tree fin [] (k ∷ ks) n e w h = omega arith
 instructions-total tree fin (x ∷ hs) [] n e w h = omega arith
 instructions-total tree fin (x ∷ hs) (k ∷ ks) n e (every p w) h =
-    omega (arith, instructions-total tree fin hs ks n (omega arith) w h, length-map (region (place_of k) (count_of k) fin) (instrOf tree), region-length (place_of k) (count_of k) fin (omega arith))
+    omega (arith, instructions-total tree fin hs ks n (omega arith) w h, length-map (region (place_of k) (count_of k) fin) (instr_of tree), region-length (place_of k) (count_of k) fin (omega arith))
 
 -- ---- made names
 
-getD-same : (n i : ℕ) (xs ys : List ℕ) → i < n → take n xs ≡ take n ys → get_or xs i 0 ≡ get_or ys i 0
-getD-same n i xs ys h e = sym (get_or-take n xs i 0 h) ∙ ap (λ (l : List ℕ). get_or l i 0) e ∙ get_or-take n ys i 0 h
+get_d-same : (n i : ℕ) (xs ys : List ℕ) → i < n → take n xs ≡ take n ys → get_or xs i 0 ≡ get_or ys i 0
+get_d-same n i xs ys h e = sym (get_or-take n xs i 0 h) ∙ ap (λ (l : List ℕ). get_or l i 0) e ∙ get_or-take n ys i 0 h
 
 pub made-within-same : (made made' : List ℕ) (n w : ℕ) → take n made ≡ take n made' → MadeWithin made n w → MadeWithin made' n w
-made-within-same made made' n w s p h = let k = p h in omega (arith, getD-same n (w - 32768) made made' (omega arith) s)
+made-within-same made made' n w s p h = let k = p h in omega (arith, get_d-same n (w - 32768) made made' (omega arith) s)
 
 pub made-within-more : (made : List ℕ) (m n w : ℕ) → m ≤ n → MadeWithin made m w → MadeWithin made n w
 made-within-more made m n w l p h = let k = p h in omega arith
@@ -212,7 +212,7 @@ ends-within-more m n k l p = omega arith
 name-same : (made made' : List ℕ) (n p : ℕ) → p + 1 + get_or made p 0 ≤ n → take n made ≡ take n made' → name_at made p ≡ name_at made' p
 unfolding name_at region
 name-same made made' n p h s =
-    let e = getD-same n p made made' (omega arith) s in
+    let e = get_d-same n p made made' (omega arith) s in
     region-same n (p + 1) (get_or made p 0) made made' h s ∙ ap (λ (k : ℕ). take k (drop (p + 1) made')) e
 
 spell-same : (tree made made' : List ℕ) (n w : ℕ) → MadeWithin made n w → take n made ≡ take n made' → spelled tree made w ≡ spelled tree made' w

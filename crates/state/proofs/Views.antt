@@ -6,17 +6,17 @@ use mathlib.Core.List.{List}
 use native.Mathlib.Omega.{arith}
 use lib.ListN.{length, take, drop, length-drop, length-map}
 use lib.Seq.{length-take-le}
-use Rattle.definitions.specs.Module.{instructions, slotsFit}
-use Rattle.state.specs.Words.{region, textAt, instrOf, instrsOf}
-use Rattle.state.specs.State.{stringsFrom, headsFrom, codesFrom, classNamesFrom, classMethodsFrom, methodsFrom, constantsFrom, doneFrom, spelled, tables_of, state_of, Within, Sound}
+use Rattle.definitions.specs.Module.{instructions, slots_fit}
+use Rattle.state.specs.Words.{region, text_at, instr_of, instrs_of}
+use Rattle.state.specs.State.{strings_from, heads_from, codes_from, class_names_from, class_methods_from, methods_from, constants_from, done_from, spelled, tables_of, state_of, Within, Sound}
 use Rattle.state.specs.declared.Counts.{Counts}
 use Rattle.state.specs.Answered.{Limits}
 use Rattle.state.proofs.Regions.{region-length, functions-length, functions-slots, classes-length, instructions-total}
 
 module _ (tree made code tables : List ℕ) (c : Counts) (l : Limits) (s : Sound tree made code tables c l) where
   pub stack-length : length (state_of tree made code tables c).stack ≡ c.open
-  unfolding state_of instrsOf
-  stack-length = length-map (take c.open code) (instrOf tree) ∙ length-take-le c.open code (omega (arith, s.limited))
+  unfolding state_of instrs_of
+  stack-length = length-map (take c.open code) (instr_of tree) ∙ length-take-le c.open code (omega (arith, s.limited))
 
   pub symbols-length : length (state_of tree made code tables c).tables.symbols ≡ c.symbols
   unfolding state_of tables_of
@@ -24,42 +24,42 @@ module _ (tree made code tables : List ℕ) (c : Counts) (l : Limits) (s : Sound
 
   pub strings-length : length (state_of tree made code tables c).tables.strings ≡ c.strings
   unfolding state_of tables_of
-  strings-length = length-map (region stringsFrom c.strings tables) (textAt tree) ∙ region-length stringsFrom c.strings tables (omega (arith, s.limited))
+  strings-length = length-map (region strings_from c.strings tables) (text_at tree) ∙ region-length strings_from c.strings tables (omega (arith, s.limited))
 
-  heads : length (region headsFrom c.functions tables) ≡ c.functions
-  heads = region-length headsFrom c.functions tables (omega (arith, s.limited))
+  heads : length (region heads_from c.functions tables) ≡ c.functions
+  heads = region-length heads_from c.functions tables (omega (arith, s.limited))
 
-  codes : length (region codesFrom c.functions tables) ≡ c.functions
-  codes = region-length codesFrom c.functions tables (omega (arith, s.limited))
+  codes : length (region codes_from c.functions tables) ≡ c.functions
+  codes = region-length codes_from c.functions tables (omega (arith, s.limited))
 
   pub function-count : length (state_of tree made code tables c).tables.functions ≡ c.functions
   unfolding state_of tables_of
-  function-count = functions-length tree (drop doneFrom code) (region headsFrom c.functions tables) (region codesFrom c.functions tables) (heads ∙ sym codes) ∙ heads
+  function-count = functions-length tree (drop done_from code) (region heads_from c.functions tables) (region codes_from c.functions tables) (heads ∙ sym codes) ∙ heads
 
-  names : length (region classNamesFrom c.classes tables) ≡ c.classes
-  names = region-length classNamesFrom c.classes tables (omega (arith, s.limited))
+  names : length (region class_names_from c.classes tables) ≡ c.classes
+  names = region-length class_names_from c.classes tables (omega (arith, s.limited))
 
-  methods : length (region classMethodsFrom c.classes tables) ≡ c.classes
-  methods = region-length classMethodsFrom c.classes tables (omega (arith, s.limited))
+  methods : length (region class_methods_from c.classes tables) ≡ c.classes
+  methods = region-length class_methods_from c.classes tables (omega (arith, s.limited))
 
   pub class-count : length (state_of tree made code tables c).tables.classes ≡ c.classes
   unfolding state_of tables_of
-  class-count = classes-length tree (region methodsFrom 256 tables) (region classNamesFrom c.classes tables) (region classMethodsFrom c.classes tables) (names ∙ sym methods) ∙ names
+  class-count = classes-length tree (region methods_from 256 tables) (region class_names_from c.classes tables) (region class_methods_from c.classes tables) (names ∙ sym methods) ∙ names
 
   pub constant-count : length (state_of tree made code tables c).tables.constants ≡ c.constants
   unfolding state_of tables_of
-  constant-count = region-length constantsFrom c.constants tables (omega (arith, s.limited))
+  constant-count = region-length constants_from c.constants tables (omega (arith, s.limited))
 
   pub instruction-count : instructions (state_of tree made code tables c).tables.functions ≡ c.done
   unfolding state_of tables_of
   instruction-count =
-      instructions-total tree (drop doneFrom code) (region headsFrom c.functions tables) (region codesFrom c.functions tables) c.done (heads ∙ sym codes) s.codes
-      (omega (arith, s.limited, length-drop doneFrom code)) ∙ sym s.finished
+      instructions-total tree (drop done_from code) (region heads_from c.functions tables) (region codes_from c.functions tables) c.done (heads ∙ sym codes) s.codes
+      (omega (arith, s.limited, length-drop done_from code)) ∙ sym s.finished
 
   -- a head keeps a function's slots in 8 bits
-  pub few-slots : slotsFit (state_of tree made code tables c).tables ≡ true
-  unfolding state_of tables_of slotsFit
-  few-slots = functions-slots tree (drop doneFrom code) (region headsFrom c.functions tables) (region codesFrom c.functions tables)
+  pub few-slots : slots_fit (state_of tree made code tables c).tables ≡ true
+  unfolding state_of tables_of slots_fit
+  few-slots = functions-slots tree (drop done_from code) (region heads_from c.functions tables) (region codes_from c.functions tables)
 
   pub within-sound : Within l (state_of tree made code tables c)
   within-sound = record {

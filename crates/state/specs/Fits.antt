@@ -2,62 +2,62 @@
 -- of an assignment to anything else is tested here, though it is not lowered.
 use Rattle.std.specs.Prelude.{Bool, true, ◌&&◌, List, ◌++◌, length, leb}
 use Rattle.definitions.specs.Bytes.{Name}
-use Rattle.definitions.specs.Tree.{Expr, lit, var, unary, binary, logical, call, attr, display, index, lambda, Exprs, []ᵉ, ◌∷ᵉ◌, asVar, asAttr, asIndex, asTuple, asOther, view}
+use Rattle.definitions.specs.Tree.{Expr, lit, var, unary, binary, logical, call, attr, display, index, lambda, Exprs, []ᵉ, ◌∷ᵉ◌, as_var, as_attr, as_index, as_tuple, as_other, view}
 use Rattle.definitions.specs.Tree.{Stmt, break, continue, pass, expr, return, assign, if, while, for, def, class, Block, []ᵇ, ◌∷ᵇ◌, Branches, done, else, when, Methods, []ᵐ}
 use Rattle.definitions.specs.Tree.{method}
-use Rattle.definitions.specs.Slots.{captures, Frame, withLoops}
+use Rattle.definitions.specs.Slots.{captures, Frame, with_loops}
 
 unfoldable mutual
-  pub fitsExpr : List Name → Expr → Bool
-  fitsExpr slots (lit l) = true
-  fitsExpr slots (var x) = true
-  fitsExpr slots (unary op e) = fitsExpr slots e
-  fitsExpr slots (binary op l r) = fitsExpr slots l && fitsExpr slots r
-  fitsExpr slots (logical op l r) = fitsExpr slots l && fitsExpr slots r
-  fitsExpr slots (call f es) = fitsExpr slots f && fitsExprs slots es
-  fitsExpr slots (attr o x) = fitsExpr slots o
-  fitsExpr slots (display k es) = fitsExprs slots es
-  fitsExpr slots (index o i) = fitsExpr slots o && fitsExpr slots i
-  fitsExpr slots (lambda ps b) =
+  pub fits_expr : List Name → Expr → Bool
+  fits_expr slots (lit l) = true
+  fits_expr slots (var x) = true
+  fits_expr slots (unary op e) = fits_expr slots e
+  fits_expr slots (binary op l r) = fits_expr slots l && fits_expr slots r
+  fits_expr slots (logical op l r) = fits_expr slots l && fits_expr slots r
+  fits_expr slots (call f es) = fits_expr slots f && fits_exprs slots es
+  fits_expr slots (attr o x) = fits_expr slots o
+  fits_expr slots (display k es) = fits_exprs slots es
+  fits_expr slots (index o i) = fits_expr slots o && fits_expr slots i
+  fits_expr slots (lambda ps b) =
       let inner = ps ++ captures slots ps b in
-      leb (length inner) 255 && fitsExpr inner b
+      leb (length inner) 255 && fits_expr inner b
 
-  pub fitsExprs : List Name → Exprs → Bool
-  fitsExprs slots []ᵉ = true
-  fitsExprs slots (e ∷ᵉ es) = fitsExpr slots e && fitsExprs slots es
+  pub fits_exprs : List Name → Exprs → Bool
+  fits_exprs slots []ᵉ = true
+  fits_exprs slots (e ∷ᵉ es) = fits_expr slots e && fits_exprs slots es
 
 -- the expressions of a target that are lowered: those of an attribute or index; a tuple's names are not
-unfoldable pub fitsTarget : List Name → Expr → Bool
-fitsTarget slots e = elim (view e) [ asVar x ↦ true | asAttr o x ↦ fitsExpr slots o | asIndex o i ↦ fitsExpr slots o && fitsExpr slots i | asTuple es ↦ true | asOther ↦ true ]
+unfoldable pub fits_target : List Name → Expr → Bool
+fits_target slots e = elim (view e) [ as_var x ↦ true | as_attr o x ↦ fits_expr slots o | as_index o i ↦ fits_expr slots o && fits_expr slots i | as_tuple es ↦ true | as_other ↦ true ]
 
 unfoldable mutual
-  pub fitsStmt : List Name → Stmt → Bool
-  fitsStmt slots break = true
-  fitsStmt slots continue = true
-  fitsStmt slots pass = true
-  fitsStmt slots (expr e) = fitsExpr slots e
-  fitsStmt slots (return e) = fitsExpr slots e
-  fitsStmt slots (assign t v) = fitsTarget slots t && fitsExpr slots v
-  fitsStmt slots (if bs) = fitsBranches slots bs
-  fitsStmt slots (while c b) = fitsExpr slots c && fitsBlock slots b
-  fitsStmt slots (for x e b) = fitsExpr slots e && fitsBlock slots b
-  fitsStmt slots (def x ps b) =
-      let inner = withLoops ps b in
-      leb inner.locals 255 && fitsBlock inner.names b
+  pub fits_stmt : List Name → Stmt → Bool
+  fits_stmt slots break = true
+  fits_stmt slots continue = true
+  fits_stmt slots pass = true
+  fits_stmt slots (expr e) = fits_expr slots e
+  fits_stmt slots (return e) = fits_expr slots e
+  fits_stmt slots (assign t v) = fits_target slots t && fits_expr slots v
+  fits_stmt slots (if bs) = fits_branches slots bs
+  fits_stmt slots (while c b) = fits_expr slots c && fits_block slots b
+  fits_stmt slots (for x e b) = fits_expr slots e && fits_block slots b
+  fits_stmt slots (def x ps b) =
+      let inner = with_loops ps b in
+      leb inner.locals 255 && fits_block inner.names b
   -- attributes are not lowered
-  fitsStmt slots (class x ms vs) = fitsMethods ms
+  fits_stmt slots (class x ms vs) = fits_methods ms
 
-  pub fitsBlock : List Name → Block → Bool
-  fitsBlock slots []ᵇ = true
-  fitsBlock slots (s ∷ᵇ b) = fitsStmt slots s && fitsBlock slots b
+  pub fits_block : List Name → Block → Bool
+  fits_block slots []ᵇ = true
+  fits_block slots (s ∷ᵇ b) = fits_stmt slots s && fits_block slots b
 
-  pub fitsBranches : List Name → Branches → Bool
-  fitsBranches slots done = true
-  fitsBranches slots (else b) = fitsBlock slots b
-  fitsBranches slots (when c b r) = fitsExpr slots c && fitsBlock slots b && fitsBranches slots r
+  pub fits_branches : List Name → Branches → Bool
+  fits_branches slots done = true
+  fits_branches slots (else b) = fits_block slots b
+  fits_branches slots (when c b r) = fits_expr slots c && fits_block slots b && fits_branches slots r
 
-  pub fitsMethods : Methods → Bool
-  fitsMethods []ᵐ = true
-  fitsMethods (method x ps b ms) =
-      let inner = withLoops ps b in
-      leb inner.locals 255 && fitsBlock inner.names b && fitsMethods ms
+  pub fits_methods : Methods → Bool
+  fits_methods []ᵐ = true
+  fits_methods (method x ps b ms) =
+      let inner = with_loops ps b in
+      leb inner.locals 255 && fits_block inner.names b && fits_methods ms

@@ -3,10 +3,10 @@ use Rattle.std.specs.Prelude.{ℕ, ◌+◌, ◌-◌, ◌*◌, ◌/◌, ◌%◌, 
 use Rattle.std.proofs.Math.Option.{Option, none, some}
 use Rattle.definitions.specs.Bytes.{Name, Text, same, position}
 use Rattle.definitions.specs.Instruction.{Instr}
-use Rattle.definitions.specs.Tables.{Function, Method, Class, Tables, Emit, addSymbol, addString}
+use Rattle.definitions.specs.Tables.{Function, Method, Class, Tables, Emit, add_symbol, add_string}
 use Rattle.definitions.specs.Module as Module
-use Rattle.definitions.specs.Module.{instructions, slotsFit}
-use Rattle.state.specs.Words.{region, name_at, textAt, instrsOf}
+use Rattle.definitions.specs.Module.{instructions, slots_fit}
+use Rattle.state.specs.Words.{region, name_at, text_at, instrs_of}
 use Rattle.state.specs.Index.{Covered}
 use Rattle.state.specs.declared.Counts.{Counts}
 use Rattle.state.specs.Answered.{Limits, Emitted, Done, Full, Numbered, At, Over}
@@ -14,42 +14,42 @@ use Rattle.state.specs.Answered.{Limits, Emitted, Done, Full, Numbered, At, Over
 -- ---- the tables of the second area: where each begins
 -- symbols 1024, strings 512, heads of functions 256, places of their code 256, names of classes 64, places of their methods 64, methods 256, constants 64, the index of symbols 8192, that of strings 4096
 
-abbrev pub stringsFrom : ℕ
-stringsFrom = 1024
+abbrev pub strings_from : ℕ
+strings_from = 1024
 
-abbrev pub headsFrom : ℕ
-headsFrom = 1536
+abbrev pub heads_from : ℕ
+heads_from = 1536
 
-abbrev pub codesFrom : ℕ
-codesFrom = 1792
+abbrev pub codes_from : ℕ
+codes_from = 1792
 
-abbrev pub classNamesFrom : ℕ
-classNamesFrom = 2048
+abbrev pub class_names_from : ℕ
+class_names_from = 2048
 
-abbrev pub classMethodsFrom : ℕ
-classMethodsFrom = 2112
+abbrev pub class_methods_from : ℕ
+class_methods_from = 2112
 
-abbrev pub methodsFrom : ℕ
-methodsFrom = 2176
+abbrev pub methods_from : ℕ
+methods_from = 2176
 
-abbrev pub constantsFrom : ℕ
-constantsFrom = 2432
+abbrev pub constants_from : ℕ
+constants_from = 2432
 
-abbrev pub symbolIndexFrom : ℕ
-symbolIndexFrom = 2496
+abbrev pub symbol_index_from : ℕ
+symbol_index_from = 2496
 
-abbrev pub symbolBuckets : ℕ
-symbolBuckets = 8192
+abbrev pub symbol_buckets : ℕ
+symbol_buckets = 8192
 
-abbrev pub stringIndexFrom : ℕ
-stringIndexFrom = 10688
+abbrev pub string_index_from : ℕ
+string_index_from = 10688
 
-abbrev pub stringBuckets : ℕ
-stringBuckets = 4096
+abbrev pub string_buckets : ℕ
+string_buckets = 4096
 
 -- the code area: open functions from 0, finished ones from here
-abbrev pub doneFrom : ℕ
-doneFrom = 8192
+abbrev pub done_from : ℕ
+done_from = 8192
 
 -- ---- entries
 
@@ -62,16 +62,16 @@ unfoldable pub names_at : List ℕ → List ℕ → List Name
 names_at tree ps = map (name_at tree) ps
 
 -- slots: an index of so many words, then the places of their names
-abbrev pub slotsFrom : ℕ
-slotsFrom = 2048
+abbrev pub slots_from : ℕ
+slots_from = 2048
 
-abbrev pub slotNames : List ℕ → List ℕ → List Name
-slotNames tree slots = names_at tree (drop slotsFrom slots)
+abbrev pub slot_names : List ℕ → List ℕ → List Name
+slot_names tree slots = names_at tree (drop slots_from slots)
 
 pub record Slots (tree slots : List ℕ) : Type 0 where
-  pub room : slotsFrom ≤ length slots
-  pub few : length slots ≤ slotsFrom + 255
-  pub indexed : Covered slotsFrom slots 0 (slotNames tree slots)
+  pub room : slots_from ≤ length slots
+  pub few : length slots ≤ slots_from + 255
+  pub indexed : Covered slots_from slots 0 (slot_names tree slots)
 
 -- a place and a count in one word
 abbrev pub place_of : ℕ → ℕ
@@ -81,31 +81,31 @@ abbrev pub count_of : ℕ → ℕ
 count_of w = w % 2 ^ 16
 
 -- a function: symbol, arity and slots in its head; its code among the finished words, none while it is open
-unfoldable pub functionOf : List ℕ → List ℕ → ℕ → ℕ → Function
-functionOf tree finished h k = record {
+unfoldable pub function_of : List ℕ → List ℕ → ℕ → ℕ → Function
+function_of tree finished h k = record {
   symbol = h / 2 ^ 16;
   arity = h / 2 ^ 8 % 2 ^ 8;
   locals = h % 2 ^ 8;
-  code = instrsOf tree (region (place_of k) (count_of k) finished);
+  code = instrs_of tree (region (place_of k) (count_of k) finished);
 }
 
-unfoldable pub functionsOf : List ℕ → List ℕ → List ℕ → List ℕ → List Function
-functionsOf tree finished [] ks = []
-functionsOf tree finished (h ∷ hs) [] = []
-functionsOf tree finished (h ∷ hs) (k ∷ ks) = functionOf tree finished h k ∷ functionsOf tree finished hs ks
+unfoldable pub functions_of : List ℕ → List ℕ → List ℕ → List ℕ → List Function
+functions_of tree finished [] ks = []
+functions_of tree finished (h ∷ hs) [] = []
+functions_of tree finished (h ∷ hs) (k ∷ ks) = function_of tree finished h k ∷ functions_of tree finished hs ks
 
 -- a method: the place of its name in the tree, and its function
-unfoldable pub methodOf : List ℕ → ℕ → Method
-methodOf tree w = record { name = name_at tree (w / 2 ^ 8); function = w % 2 ^ 8 }
+unfoldable pub method_of : List ℕ → ℕ → Method
+method_of tree w = record { name = name_at tree (w / 2 ^ 8); function = w % 2 ^ 8 }
 
 -- a class: the place of its name in the tree; its methods among the methods
 unfoldable pub class_of : List ℕ → List ℕ → ℕ → ℕ → Class
-class_of tree methods x k = record { name = name_at tree x; methods = map (methodOf tree) (region (place_of k) (count_of k) methods) }
+class_of tree methods x k = record { name = name_at tree x; methods = map (method_of tree) (region (place_of k) (count_of k) methods) }
 
-unfoldable pub classesOf : List ℕ → List ℕ → List ℕ → List ℕ → List Class
-classesOf tree methods [] ks = []
-classesOf tree methods (x ∷ xs) [] = []
-classesOf tree methods (x ∷ xs) (k ∷ ks) = class_of tree methods x k ∷ classesOf tree methods xs ks
+unfoldable pub classes_of : List ℕ → List ℕ → List ℕ → List ℕ → List Class
+classes_of tree methods [] ks = []
+classes_of tree methods (x ∷ xs) [] = []
+classes_of tree methods (x ∷ xs) (k ∷ ks) = class_of tree methods x k ∷ classes_of tree methods xs ks
 
 -- ---- the state
 
@@ -117,25 +117,25 @@ pub record State : Type 0 where
 unfoldable pub tables_of : List ℕ → List ℕ → List ℕ → List ℕ → Counts → Tables
 tables_of tree made code tables c = record {
   symbols = map (spelled tree made) (region 0 c.symbols tables);
-  strings = map (textAt tree) (region stringsFrom c.strings tables);
-  functions = functionsOf tree (drop doneFrom code) (region headsFrom c.functions tables) (region codesFrom c.functions tables);
-  classes = classesOf tree (region methodsFrom 256 tables) (region classNamesFrom c.classes tables) (region classMethodsFrom c.classes tables);
-  constants = region constantsFrom c.constants tables;
+  strings = map (text_at tree) (region strings_from c.strings tables);
+  functions = functions_of tree (drop done_from code) (region heads_from c.functions tables) (region codes_from c.functions tables);
+  classes = classes_of tree (region methods_from 256 tables) (region class_names_from c.classes tables) (region class_methods_from c.classes tables);
+  constants = region constants_from c.constants tables;
 }
 
 unfoldable pub state_of : List ℕ → List ℕ → List ℕ → List ℕ → Counts → State
-state_of tree made code tables c = record { stack = instrsOf tree (take c.open code); tables = tables_of tree made code tables c }
+state_of tree made code tables c = record { stack = instrs_of tree (take c.open code); tables = tables_of tree made code tables c }
 
 -- a part's code after the stack, at its place in the innermost function, and the tables after it
-unfoldable pub emitAt : ℕ → Emit → State → State
-emitAt base e s =
+unfoldable pub emit_at : ℕ → Emit → State → State
+emit_at base e s =
     let o = e (length s.stack - base) s.tables in
     record { stack = s.stack ++ o.code; tables = o.tables }
 
 -- ---- limits
 
-unfoldable pub limitsOf : Limits → Module.Limits
-limitsOf l = record { functions = l.functions; symbols = l.symbols; strings = l.strings; classes = l.classes; instructions = l.instructions }
+unfoldable pub limits_of : Limits → Module.Limits
+limits_of l = record { functions = l.functions; symbols = l.symbols; strings = l.strings; classes = l.classes; instructions = l.instructions }
 
 -- the state is within the limits, and each of its functions has at most 255 slots (questions 15 and 14)
 pub record Within (l : Limits) (s : State) : Type 0 where
@@ -144,7 +144,7 @@ pub record Within (l : Limits) (s : State) : Type 0 where
   pub strings : length s.tables.strings ≤ l.strings
   pub classes : length s.tables.classes ≤ l.classes
   pub instructions : length s.stack + instructions s.tables.functions ≤ l.instructions
-  pub slots : slotsFit s.tables ≡ true
+  pub slots : slots_fit s.tables ≡ true
 
 -- the limits are within the tables
 pub record Limited (l : Limits) : Type 0 where
@@ -158,14 +158,14 @@ pub record Limited (l : Limits) : Type 0 where
 
 -- the index of the names of so many symbols, and that of strings
 abbrev pub SymbolIndex : List ℕ → List ℕ → List ℕ → ℕ → Type 0
-SymbolIndex tree made tables n = Covered symbolBuckets (region symbolIndexFrom symbolBuckets tables) 0 (map (spelled tree made) (region 0 n tables))
+SymbolIndex tree made tables n = Covered symbol_buckets (region symbol_index_from symbol_buckets tables) 0 (map (spelled tree made) (region 0 n tables))
 
 abbrev pub StringIndex : List ℕ → List ℕ → ℕ → Type 0
-StringIndex tree tables n = Covered stringBuckets (region stringIndexFrom stringBuckets tables) 0 (map (textAt tree) (region stringsFrom n tables))
+StringIndex tree tables n = Covered string_buckets (region string_index_from string_buckets tables) 0 (map (text_at tree) (region strings_from n tables))
 
 -- each element, by a test of it
 pub data Every (P : ℕ → Type 0) : List ℕ → Type 0 where
-  noEvery : Every P []
+  no_every : Every P []
   every : {a : ℕ} {xs : List ℕ} → P a → Every P xs → Every P (a ∷ xs)
 
 -- a made name ends within the made bytes
@@ -198,10 +198,10 @@ pub record Sound (tree made code tables : List ℕ) (c : Counts) (l : Limits) : 
   -- 20 bytes are enough for any made name
   pub made-count : c.made ≤ c.symbols * 20
   pub names : Every (MadeWithin made c.made) (region 0 c.symbols tables)
-  pub codes : Every (EndsWithin c.done) (region codesFrom c.functions tables)
-  pub class-methods : Every (EndsWithin c.methods) (region classMethodsFrom c.classes tables)
+  pub codes : Every (EndsWithin c.done) (region codes_from c.functions tables)
+  pub class-methods : Every (EndsWithin c.methods) (region class_methods_from c.classes tables)
   -- the finished words are those of the functions
-  pub finished : c.done ≡ total (region codesFrom c.functions tables)
+  pub finished : c.done ≡ total (region codes_from c.functions tables)
   pub symbol-index : SymbolIndex tree made tables c.symbols
   pub string-index : StringIndex tree tables c.strings
 
@@ -238,22 +238,22 @@ Numbers Over tree made code tables c l number want = Within l want → ⊥
 -- ---- symbols and strings, by their numbers
 
 -- the place where it is found, else the count
-unfoldable pub foundOr : ℕ → Option ℕ → ℕ
-foundOr n none = n
-foundOr n (some k) = k
+unfoldable pub found_or : ℕ → Option ℕ → ℕ
+found_or n none = n
+found_or n (some k) = k
 
-unfoldable pub symbolNumber : Name → Tables → ℕ
-symbolNumber x t = foundOr (length t.symbols) (position (same x) t.symbols)
+unfoldable pub symbol_number : Name → Tables → ℕ
+symbol_number x t = found_or (length t.symbols) (position (same x) t.symbols)
 
-unfoldable pub withSymbol : Name → Tables → Tables
-withSymbol x t = elim (position (same x) t.symbols) [ some k ↦ t | none ↦ addSymbol x t ]
+unfoldable pub with_symbol : Name → Tables → Tables
+with_symbol x t = elim (position (same x) t.symbols) [ some k ↦ t | none ↦ add_symbol x t ]
 
-unfoldable pub stringNumber : Text → Tables → ℕ
-stringNumber x t = foundOr (length t.strings) (position (same x) t.strings)
+unfoldable pub string_number : Text → Tables → ℕ
+string_number x t = found_or (length t.strings) (position (same x) t.strings)
 
-unfoldable pub withString : Text → Tables → Tables
-withString x t = elim (position (same x) t.strings) [ some k ↦ t | none ↦ addString x t ]
+unfoldable pub with_string : Text → Tables → Tables
+with_string x t = elim (position (same x) t.strings) [ some k ↦ t | none ↦ add_string x t ]
 
 -- the state with other tables
-abbrev pub withTables : Tables → State → State
-withTables t s = record { stack = s.stack; tables = t }
+abbrev pub with_tables : Tables → State → State
+with_tables t s = record { stack = s.stack; tables = t }

@@ -2,23 +2,23 @@
 use Rattle.std.specs.Prelude.{ℕ, zero, suc, ◌+◌, ◌*◌, ◌-◌, ◌/◌, ◌%◌, ◌^◌, true, false, ◌||◌, List, map, take, drop, get_or, eqb, ltb}
 use Rattle.definitions.specs.Bytes.{Name, Text}
 use Rattle.definitions.specs.Instruction.{Instr, instr, ConstI64}
-use Rattle.definitions.specs.Reader.{isJump}
+use Rattle.definitions.specs.Reader.{is_jump}
 
 -- n words of an area from a on
 unfoldable pub region : ℕ → ℕ → List ℕ → List ℕ
 region a n xs = take n (drop a xs)
 
 -- the big-endian number of w bytes at p, 0 past the end
-unfoldable pub numberAt : ℕ → List ℕ → ℕ → ℕ
-numberAt zero t p = 0
-numberAt (suc w) t p = get_or t p 0 * 256 ^ w + numberAt w t (p + 1)
+unfoldable pub number_at : ℕ → List ℕ → ℕ → ℕ
+number_at zero t p = 0
+number_at (suc w) t p = get_or t p 0 * 256 ^ w + number_at w t (p + 1)
 
 -- the name whose length byte is at p; the string whose count is at p
 unfoldable pub name_at : List ℕ → ℕ → Name
 name_at t p = take (get_or t p 0) (drop (p + 1) t)
 
-unfoldable pub textAt : List ℕ → ℕ → Text
-textAt t p = take (numberAt 2 t p) (drop (p + 2) t)
+unfoldable pub text_at : List ℕ → ℕ → Text
+text_at t p = take (number_at 2 t p) (drop (p + 2) t)
 
 -- a word
 abbrev pub word : ℕ → ℕ → ℕ → ℕ
@@ -38,21 +38,21 @@ unfoldable pub widened : ℕ → ℕ
 widened a = elim (ltb a (2 ^ 15)) [ true ↦ a | false ↦ a + (2 ^ 32 - 2 ^ 16) ]
 
 -- the opcode of a word whose integer is its operand: one below 2 ^ 16. ConstI64's own operand is the place of the integer in the tree
-abbrev pub smallInt : ℕ
-smallInt = 48
+abbrev pub small_int : ℕ
+small_int = 48
 
 -- the first operand: of ConstI64 and ConstF64 the eight bytes at that place in the tree; of a jump signed
-unfoldable pub operandOf : List ℕ → ℕ → ℕ → ℕ
-operandOf t op a =
+unfoldable pub operand_of : List ℕ → ℕ → ℕ → ℕ
+operand_of t op a =
     elim (eqb op 0 || eqb op 1) [
-      | true ↦ numberAt 8 t a
+      | true ↦ number_at 8 t a
       | false ↦
-          elim (isJump op) [ true ↦ widened a | false ↦ a ]
+          elim (is_jump op) [ true ↦ widened a | false ↦ a ]
     ]
 
 -- the instruction of a word
-unfoldable pub instrOf : List ℕ → ℕ → Instr
-instrOf t w = elim (eqb (op_of w) smallInt) [ true ↦ ConstI64 (first_of w) | false ↦ instr (op_of w) (operandOf t (op_of w) (first_of w)) (second_of w) ]
+unfoldable pub instr_of : List ℕ → ℕ → Instr
+instr_of t w = elim (eqb (op_of w) small_int) [ true ↦ ConstI64 (first_of w) | false ↦ instr (op_of w) (operand_of t (op_of w) (first_of w)) (second_of w) ]
 
-unfoldable pub instrsOf : List ℕ → List ℕ → List Instr
-instrsOf t ws = map (instrOf t) ws
+unfoldable pub instrs_of : List ℕ → List ℕ → List Instr
+instrs_of t ws = map (instr_of t) ws

@@ -1,9 +1,9 @@
 // The functions of an accepted module, one after the other: what is counted of their code; and what a call answers that writes a text about them.
 ghost use Rattle.std.specs.Prelude.{◌≡◌, ◌≤◌, length};
 ghost use Rattle.definitions.specs.Module.{instructions};
-ghost use Rattle.definitions.specs.Reader.{functionRecord, instruction};
-ghost use Rattle.definitions.specs.Sheet.{isQuestion, is_call, oneIf};
-ghost use Rattle.tally.specs.Walk.{Values, functionsFrom};
+ghost use Rattle.definitions.specs.Reader.{function_record, instruction};
+ghost use Rattle.definitions.specs.Sheet.{is_question, is_call, one_if};
+ghost use Rattle.tally.specs.Walk.{Values, functions_from};
 ghost use Rattle.tally.specs.Counts.{Tallies};
 
 use reader::{Found, instruction_at, number_at};
@@ -43,7 +43,7 @@ pub const CODE: usize = 7;
 
 // 1 for a conditional jump, 0 for any other.
 pub fn question(op: u8) -> u64
-    ensures { (result ≡ oneIf (isQuestion op)) × (result ≤ 1) }
+    ensures { (result ≡ one_if (is_question op)) × (result ≤ 1) }
 {
     if op == JUMP_IF_FALSE {
         return 1;
@@ -56,7 +56,7 @@ pub fn question(op: u8) -> u64
 
 // 1 for a call, 0 for any other.
 fn call(op: u8) -> u64
-    ensures { (result ≡ oneIf (is_call op)) × (result ≤ 1) }
+    ensures { (result ≡ one_if (is_call op)) × (result ≤ 1) }
 {
     if op == CALL {
         return 1;
@@ -105,8 +105,8 @@ pub fn count_code(bytes: &[u8], at: usize, n: u64) -> Tallied
 
 // The instructions of `count` functions from `at` on.
 pub fn count_functions(bytes: &[u8], at: usize, count: u64) -> u64
-    requires { Values functionRecord count bytes.now at }
-    ensures { (result ≡ instructions (functionsFrom count bytes.now at)) × (result ≤ length bytes.now) }
+    requires { Values function_record count bytes.now at }
+    ensures { (result ≡ instructions (functions_from count bytes.now at)) × (result ≤ length bytes.now) }
 {
     let mut p = at;
     let mut left = count;

@@ -10,14 +10,14 @@ use lib.Dec.{eqb}
 use lib.ListN.{length, drop, get_or}
 use lib.Seq.{drop-length}
 use borrow.Author.Tests.{eqb-true, eqb-false}
-use Rattle.definitions.specs.Bytes.{Answer, refused, accepted, whenAccepted, Parsed, got, failed}
+use Rattle.definitions.specs.Bytes.{Answer, refused, accepted, when_accepted, Parsed, got, failed}
 use Rattle.definitions.specs.Tree.{Block, []ᵇ}
-use Rattle.definitions.specs.Parse.{parseStmt, block_of, wholeBlock, readTree}
-use Rattle.definitions.specs.Wellformed.{askBlock, blockQuestions, firstNo, refusedBy, wellFormed, checkTree}
+use Rattle.definitions.specs.Parse.{parse_stmt, block_of, whole_block, read_tree}
+use Rattle.definitions.specs.Wellformed.{ask_block, block_questions, first_no, refused_by, well_formed, check_tree}
 use Rattle.parts.specs.Places.{Node, node}
 use Rattle.parts.proofs.Laws.{le-or-gt}
 use Rattle.parts.proofs.Nodes.{got-node, got-reads}
-use Rattle.tree.specs.Settled.{said, withoutBlock, settled, Headed}
+use Rattle.tree.specs.Settled.{said, without_block, settled, Headed}
 use Rattle.tree.specs.StmtAt.{block_at, TreeAt}
 use Rattle.tree.specs.declared.Checked.{Checked}
 use Rattle.tree.specs.declared.Checked.TheVariants.{Accepted, Refused}
@@ -35,7 +35,7 @@ equal-or a b = go (eqb a b) refl
 
 -- ---- questions 2 to 6
 
-module _ (t : List ℕ) (b : Block) (e : readTree t ≡ accepted b) where
+module _ (t : List ℕ) (b : Block) (e : read_tree t ≡ accepted b) where
   abbrev high : ℕ
   high = get_or t 0 0 * 256 + get_or t 1 0
 
@@ -65,25 +65,25 @@ module _ (t : List ℕ) (b : Block) (e : readTree t ≡ accepted b) where
   unfolding Headed
   version = ⊎_elim (λ (h : get_or t 4 0 ≡ 1). h) (λ (h : get_or t 4 0 ≡ 1 → ⊥). never (sym (head-version t high low small four refl refl counts five h) ∙ e)) (equal-or (get_or t 4 0) 1)
 
-  whole_is : (g : Parsed Block) → wholeBlock g ≡ accepted b → g ≡ got b []
-  unfolding wholeBlock
+  whole_is : (g : Parsed Block) → whole_block g ≡ accepted b → g ≡ got b []
+  unfolding whole_block
   whole_is (got a []) h = ap (λ (a : Block). got a []) (let x : a ≡ b = cc in x)
   whole_is (got a (x ∷ xs)) h = never h
   whole_is (failed q) h = never h
 
-  body-got : block_of (parseStmt 32) (drop 5 t) ≡ got b (drop (length t) t)
+  body-got : block_of (parse_stmt 32) (drop 5 t) ≡ got b (drop (length t) t)
   unfolding Headed
-  body-got = whole_is (block_of (parseStmt 32) (drop 5 t)) (sym (head-fine t high low small four refl refl counts five version).1 ∙ e) ∙ ap (got b) (sym (drop-length t))
+  body-got = whole_is (block_of (parse_stmt 32) (drop 5 t)) (sym (head-fine t high low small four refl refl counts five version).1 ∙ e) ∙ ap (got b) (sym (drop-length t))
 
 -- ---- questions 7 to 13
 
-all_yes : (f : ℕ → Bool) (qs : List ℕ) → firstNo f qs ≡ none → (k : ℕ) → k < length qs → f (get_or qs k 0) ≡ true
-unfolding firstNo
+all_yes : (f : ℕ → Bool) (qs : List ℕ) → first_no f qs ≡ none → (k : ℕ) → k < length qs → f (get_or qs k 0) ≡ true
+unfolding first_no
 all_yes f [] e k h = absurd (omega arith)
 all_yes f (q ∷ qs) e k h = go (f q) refl e k h (all_yes f qs)
   where
-    go : (x : Bool) → f q ≡ x → ◌≡◌ {A = Option ℕ} (elim x as (λ _. Option ℕ) [ true ↦ firstNo f qs | false ↦ some q ]) none → (k : ℕ) → k < length (q ∷ qs) →
-        (firstNo f qs ≡ none → (k : ℕ) → k < length qs → f (get_or qs k 0) ≡ true) → f (get_or (q ∷ qs) k 0) ≡ true
+    go : (x : Bool) → f q ≡ x → ◌≡◌ {A = Option ℕ} (elim x as (λ _. Option ℕ) [ true ↦ first_no f qs | false ↦ some q ]) none → (k : ℕ) → k < length (q ∷ qs) →
+        (first_no f qs ≡ none → (k : ℕ) → k < length qs → f (get_or qs k 0) ≡ true) → f (get_or (q ∷ qs) k 0) ≡ true
     go false y n k h i = let z : ◌≡◌ {A = ℕ} 0 1 = cc in absurd (omega arith)
     go true y n zero h i = y
     go true y n (suc k) h i = i n k (omega arith)
@@ -91,45 +91,45 @@ all_yes f (q ∷ qs) e k h = go (f q) refl e k h (all_yes f qs)
 -- ---- the whole
 
 -- an accepted block is the one that was read, and no question is answered no
-formed : (a : Answer Block) (b : Block) → whenAccepted a wellFormed ≡ accepted b → (a ≡ accepted b) × (firstNo (λ q. askBlock q false b) blockQuestions ≡ none)
-unfolding whenAccepted wellFormed refusedBy
+formed : (a : Answer Block) (b : Block) → when_accepted a well_formed ≡ accepted b → (a ≡ accepted b) × (first_no (λ q. ask_block q false b) block_questions ≡ none)
+unfolding when_accepted well_formed refused_by
 formed (refused q) b e = never e
-formed (accepted c) b e = go (firstNo (λ q. askBlock q false c) blockQuestions) refl e
+formed (accepted c) b e = go (first_no (λ q. ask_block q false c) block_questions) refl e
   where
-    go : (o : Option ℕ) → firstNo (λ q. askBlock q false c) blockQuestions ≡ o → refusedBy o c ≡ accepted b → (accepted c ≡ accepted b) × (firstNo (λ q. askBlock q false b) blockQuestions ≡ none)
-    go none x h = (h, ap (λ (d : Block). firstNo (λ q. askBlock q false d) blockQuestions) (let z : b ≡ c = cc in z) ∙ x)
+    go : (o : Option ℕ) → first_no (λ q. ask_block q false c) block_questions ≡ o → refused_by o c ≡ accepted b → (accepted c ≡ accepted b) × (first_no (λ q. ask_block q false b) block_questions ≡ none)
+    go none x h = (h, ap (λ (d : Block). first_no (λ q. ask_block q false d) block_questions) (let z : b ≡ c = cc in z) ∙ x)
     go (some q) x h = never h
 
-pub view-tree : (t : List ℕ) (b : Block) → checkTree t ≡ accepted b → TreeAt t
-unfolding checkTree
+pub view-tree : (t : List ℕ) (b : Block) → check_tree t ≡ accepted b → TreeAt t
+unfolding check_tree
 view-tree t b e =
-    let f = formed (readTree t) b e in
+    let f = formed (read_tree t) b e in
     let g = body-got t b f.0 in
-    let n : block_at 32 t 5 ≡ node b (length t) = got-node []ᵇ (block_of (parseStmt 32)) t 5 b (length t) (omega arith) g in
+    let n : block_at 32 t 5 ≡ node b (length t) = got-node []ᵇ (block_of (parse_stmt 32)) t 5 b (length t) (omega arith) g in
     let v : b ≡ (block_at 32 t 5).value = sym (ap (λ (x : Node Block). x.value) n) in
     record {
       small = small t b f.0;
-      block = got-reads (block_of (parseStmt 32)) t 5 b (drop (length t) t) (five t b f.0) g;
+      block = got-reads (block_of (parse_stmt 32)) t 5 b (drop (length t) t) (five t b f.0) g;
       whole = ap (λ (x : Node Block). x.end) n;
       answer = e ∙ ap accepted v;
-      yes = λ k h. ap (λ (c : Block). askBlock (get_or blockQuestions k 0) false c) (sym v) ∙ all_yes (λ q. askBlock q false b) blockQuestions f.1 k h;
+      yes = λ k h. ap (λ (c : Block). ask_block (get_or block_questions k 0) false c) (sym v) ∙ all_yes (λ q. ask_block q false b) block_questions f.1 k h;
     }
 
 -- what the code's answer says of the tree
-settled-accepted : (a : Answer Block) → withoutBlock a ≡ accepted tt → (b : Block) × (a ≡ accepted b)
-unfolding withoutBlock whenAccepted
+settled-accepted : (a : Answer Block) → without_block a ≡ accepted tt → (b : Block) × (a ≡ accepted b)
+unfolding without_block when_accepted
 settled-accepted (refused q) e = never e
 settled-accepted (accepted b) e = (b, refl)
 
-settled-refused : (a : Answer Block) (q : ℕ) → withoutBlock a ≡ refused q → a ≡ refused q
-unfolding withoutBlock whenAccepted
+settled-refused : (a : Answer Block) (q : ℕ) → without_block a ≡ refused q → a ≡ refused q
+unfolding without_block when_accepted
 settled-refused (refused n) q e = ap refused (let z : n ≡ q = cc in z)
 settled-refused (accepted b) q e = never (sym e)
 
 pub answer-accepted : (r : Checked) (t : List ℕ) → said r ≡ settled t → r ≡ Accepted → TreeAt t
 unfolding said settled
-answer-accepted r t h e = let a = settled-accepted (checkTree t) (sym h ∙ ap said e) in view-tree t a.0 a.1
+answer-accepted r t h e = let a = settled-accepted (check_tree t) (sym h ∙ ap said e) in view-tree t a.0 a.1
 
-pub answer-refused : (r : Checked) (t : List ℕ) (q : ℕ) → said r ≡ settled t → r ≡ Refused q → checkTree t ≡ refused q
+pub answer-refused : (r : Checked) (t : List ℕ) (q : ℕ) → said r ≡ settled t → r ≡ Refused q → check_tree t ≡ refused q
 unfolding said settled
-answer-refused r t q h e = settled-refused (checkTree t) q (sym h ∙ ap said e)
+answer-refused r t q h e = settled-refused (check_tree t) q (sym h ∙ ap said e)

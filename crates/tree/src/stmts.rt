@@ -1,6 +1,6 @@
 // Statements by position: questions 5 to 13.
 ghost use Rattle.std.specs.Prelude.{◌≡◌, ◌≤◌, length};
-ghost use Rattle.parts.specs.Judge.{judgeExpr, judgeAssign, judgeAttributeList, judgeAttributes, judgeAttributeValue, judgeStmt, judgeBlock, judgeBranch, judgeBranches, judgeIf, judgeFor, judgeDef, judgeMethod, judgeMethods, judgeClass};
+ghost use Rattle.parts.specs.Judge.{judge_expr, judge_assign, judge_attribute_list, judge_attributes, judge_attribute_value, judge_stmt, judge_block, judge_branch, judge_branches, judge_if, judge_for, judge_def, judge_method, judge_methods, judge_class};
 
 use exprs::check_expr;
 use numerals::{expr, stmt};
@@ -13,7 +13,7 @@ use parts::{Number, Passed, Role};
 // An assignment's target. A variable, of kind 6, needs no call of check_expr.
 fn check_target(tree: &[u8], at: usize, depth: u32, stand: u32) -> Passed
     requires { at ≤ length tree.now }
-    ensures { result ≡ judgeExpr Role.Target depth tree.now at stand }
+    ensures { result ≡ judge_expr Role.Target depth tree.now at stand }
 {
     if depth != 0 {
         if at < tree.len() {
@@ -28,7 +28,7 @@ fn check_target(tree: &[u8], at: usize, depth: u32, stand: u32) -> Passed
 // An assignment's value. None, False and True, of one byte each, need no call of check_expr.
 fn check_assigned(tree: &[u8], at: usize, depth: u32, stand: u32) -> Passed
     requires { at ≤ length tree.now }
-    ensures { result ≡ judgeExpr Role.Value depth tree.now at stand }
+    ensures { result ≡ judge_expr Role.Value depth tree.now at stand }
 {
     if depth != 0 {
         if at < tree.len() {
@@ -43,7 +43,7 @@ fn check_assigned(tree: &[u8], at: usize, depth: u32, stand: u32) -> Passed
 // A target and a value.
 fn check_assign(tree: &[u8], at: usize, depth: u32, stand: u32) -> Passed
     requires { at ≤ length tree.now }
-    ensures { result ≡ judgeAssign depth tree.now at stand }
+    ensures { result ≡ judge_assign depth tree.now at stand }
 {
     let target = check_target(tree, at, depth, stand);
     let Passed::Next(p, w) = target else {
@@ -55,7 +55,7 @@ fn check_assign(tree: &[u8], at: usize, depth: u32, stand: u32) -> Passed
 // A class attribute: a name and a value.
 fn check_value(tree: &[u8], at: usize, depth: u32, stand: u32) -> Passed
     requires { at ≤ length tree.now }
-    ensures { result ≡ judgeAttributeValue depth tree.now at stand }
+    ensures { result ≡ judge_attribute_value depth tree.now at stand }
 {
     let name = check_name(tree, at, stand);
     let Passed::Next(p, w) = name else {
@@ -67,7 +67,7 @@ fn check_value(tree: &[u8], at: usize, depth: u32, stand: u32) -> Passed
 // n class attributes.
 fn check_values(tree: &[u8], at: usize, depth: u32, n: u32, stand: u32) -> Passed
     requires { at ≤ length tree.now }
-    ensures { result ≡ judgeAttributes depth tree.now n at stand }
+    ensures { result ≡ judge_attributes depth tree.now n at stand }
 {
     let mut p = at;
     let mut left = n;
@@ -87,7 +87,7 @@ fn check_values(tree: &[u8], at: usize, depth: u32, n: u32, stand: u32) -> Passe
 // A count of class attributes, and these.
 pub(crate) fn check_attributes(tree: &[u8], at: usize, depth: u32, stand: u32) -> Passed
     requires { at ≤ length tree.now }
-    ensures { result ≡ judgeAttributeList depth tree.now at stand }
+    ensures { result ≡ judge_attribute_list depth tree.now at stand }
 {
     let count = number_at(tree, at);
     match count {
@@ -100,7 +100,7 @@ pub(crate) fn check_attributes(tree: &[u8], at: usize, depth: u32, stand: u32) -
 #[cycle(check_block_check_branch_check_class_check_def_check_elifs_check_else_check_for_check_if_check_method_check_methods_check_stmt)]
 pub(crate) fn check_stmt(tree: &[u8], at: usize, depth: u32, looped: bool, stand: u32) -> Passed
     requires { at ≤ length tree.now }
-    ensures { result ≡ judgeStmt looped depth tree.now at stand }
+    ensures { result ≡ judge_stmt looped depth tree.now at stand }
 {
     if tree.len() <= at {
         return Passed::Refused(5);
@@ -129,7 +129,7 @@ pub(crate) fn check_stmt(tree: &[u8], at: usize, depth: u32, looped: bool, stand
 #[cycle(check_block_check_branch_check_class_check_def_check_elifs_check_else_check_for_check_if_check_method_check_methods_check_stmt)]
 pub(crate) fn check_block(tree: &[u8], at: usize, depth: u32, looped: bool, stand: u32) -> Passed
     requires { at ≤ length tree.now }
-    ensures { result ≡ judgeBlock looped depth tree.now at stand }
+    ensures { result ≡ judge_block looped depth tree.now at stand }
 {
     let count = number_at(tree, at);
     match count {
@@ -156,7 +156,7 @@ pub(crate) fn check_block(tree: &[u8], at: usize, depth: u32, looped: bool, stan
 #[cycle(check_block_check_branch_check_class_check_def_check_elifs_check_else_check_for_check_if_check_method_check_methods_check_stmt)]
 fn check_branch(tree: &[u8], at: usize, depth: u32, looped: bool, stand: u32) -> Passed
     requires { at ≤ length tree.now }
-    ensures { result ≡ judgeBranch looped depth tree.now at stand }
+    ensures { result ≡ judge_branch looped depth tree.now at stand }
 {
     let condition = check_expr(tree, at, depth, Role::Value, stand);
     let Passed::Next(p, w) = condition else {
@@ -169,7 +169,7 @@ fn check_branch(tree: &[u8], at: usize, depth: u32, looped: bool, stand: u32) ->
 #[cycle(check_block_check_branch_check_class_check_def_check_elifs_check_else_check_for_check_if_check_method_check_methods_check_stmt)]
 fn check_if(tree: &[u8], at: usize, depth: u32, looped: bool, stand: u32) -> Passed
     requires { at ≤ length tree.now }
-    ensures { result ≡ judgeIf looped depth tree.now at stand }
+    ensures { result ≡ judge_if looped depth tree.now at stand }
 {
     let first = check_branch(tree, at, depth, looped, stand);
     let Passed::Next(p, w) = first else {
@@ -186,7 +186,7 @@ fn check_if(tree: &[u8], at: usize, depth: u32, looped: bool, stand: u32) -> Pas
 #[cycle(check_block_check_branch_check_class_check_def_check_elifs_check_else_check_for_check_if_check_method_check_methods_check_stmt)]
 fn check_elifs(tree: &[u8], at: usize, depth: u32, looped: bool, n: u32, stand: u32) -> Passed
     requires { at ≤ length tree.now }
-    ensures { result ≡ judgeBranches looped depth tree.now n at stand }
+    ensures { result ≡ judge_branches looped depth tree.now n at stand }
 {
     let mut p = at;
     let mut left = n;
@@ -207,7 +207,7 @@ fn check_elifs(tree: &[u8], at: usize, depth: u32, looped: bool, n: u32, stand: 
 #[cycle(check_block_check_branch_check_class_check_def_check_elifs_check_else_check_for_check_if_check_method_check_methods_check_stmt)]
 fn check_else(tree: &[u8], at: usize, depth: u32, looped: bool, stand: u32) -> Passed
     requires { at ≤ length tree.now }
-    ensures { result ≡ judgeBranches looped depth tree.now 0 at stand }
+    ensures { result ≡ judge_branches looped depth tree.now 0 at stand }
 {
     if tree.len() <= at {
         return Passed::Refused(5);
@@ -224,7 +224,7 @@ fn check_else(tree: &[u8], at: usize, depth: u32, looped: bool, stand: u32) -> P
 #[cycle(check_block_check_branch_check_class_check_def_check_elifs_check_else_check_for_check_if_check_method_check_methods_check_stmt)]
 fn check_for(tree: &[u8], at: usize, depth: u32, stand: u32) -> Passed
     requires { at ≤ length tree.now }
-    ensures { result ≡ judgeFor depth tree.now at stand }
+    ensures { result ≡ judge_for depth tree.now at stand }
 {
     let name = check_name(tree, at, stand);
     let Passed::Next(p, w) = name else {
@@ -237,7 +237,7 @@ fn check_for(tree: &[u8], at: usize, depth: u32, stand: u32) -> Passed
 #[cycle(check_block_check_branch_check_class_check_def_check_elifs_check_else_check_for_check_if_check_method_check_methods_check_stmt)]
 fn check_def(tree: &[u8], at: usize, depth: u32, stand: u32) -> Passed
     requires { at ≤ length tree.now }
-    ensures { result ≡ judgeDef depth tree.now at stand }
+    ensures { result ≡ judge_def depth tree.now at stand }
 {
     let name = check_name(tree, at, stand);
     let Passed::Next(p, w) = name else {
@@ -254,7 +254,7 @@ fn check_def(tree: &[u8], at: usize, depth: u32, stand: u32) -> Passed
 #[cycle(check_block_check_branch_check_class_check_def_check_elifs_check_else_check_for_check_if_check_method_check_methods_check_stmt)]
 fn check_method(tree: &[u8], at: usize, depth: u32, stand: u32) -> Passed
     requires { at ≤ length tree.now }
-    ensures { result ≡ judgeMethod depth tree.now at stand }
+    ensures { result ≡ judge_method depth tree.now at stand }
 {
     let head = check_head(tree, at, stand);
     let Passed::Next(p, w) = head else {
@@ -267,7 +267,7 @@ fn check_method(tree: &[u8], at: usize, depth: u32, stand: u32) -> Passed
 #[cycle(check_block_check_branch_check_class_check_def_check_elifs_check_else_check_for_check_if_check_method_check_methods_check_stmt)]
 fn check_methods(tree: &[u8], at: usize, depth: u32, n: u32, stand: u32) -> Passed
     requires { at ≤ length tree.now }
-    ensures { result ≡ judgeMethods depth tree.now n at stand }
+    ensures { result ≡ judge_methods depth tree.now n at stand }
 {
     let mut p = at;
     let mut left = n;
@@ -288,7 +288,7 @@ fn check_methods(tree: &[u8], at: usize, depth: u32, n: u32, stand: u32) -> Pass
 #[cycle(check_block_check_branch_check_class_check_def_check_elifs_check_else_check_for_check_if_check_method_check_methods_check_stmt)]
 fn check_class(tree: &[u8], at: usize, depth: u32, stand: u32) -> Passed
     requires { at ≤ length tree.now }
-    ensures { result ≡ judgeClass depth tree.now at stand }
+    ensures { result ≡ judge_class depth tree.now at stand }
 {
     let name = check_name(tree, at, stand);
     let Passed::Next(p, w) = name else {

@@ -10,9 +10,9 @@ use lib.Dec.{eqb, leb}
 use lib.ListN.{length, drop, get_or, get_elem?, drop_of_length-le}
 use lib.Seq.{drop-cons}
 use borrow.Author.Tests.{le-leb, lt-leb, ne_eqb}
-use Rattle.definitions.specs.Utf8.{Range, range, in_range, Octets, utf8Char, followers, goesOn, isUtf8}
+use Rattle.definitions.specs.Utf8.{Range, range, in_range, Octets, utf8_char, followers, goes_on, is_utf8}
 use Rattle.definitions.proofs.Utf8Grammar.{line-follows}
-use Rattle.definitions.proofs.Every.{Every, noEvery, every}
+use Rattle.definitions.proofs.Every.{Every, no_every, every}
 use Rattle.utf8.specs.Due.{dues, from, Begins, Goes, IsFrom}
 
 -- ---- ranges
@@ -41,20 +41,20 @@ choose_no r b next e = rw e
 
 -- ---- a character's first byte
 
-goes_some : (b : ℕ) (rs : List Range) (bs : List ℕ) → followers utf8Char b ≡ some rs → goesOn [] (b ∷ bs) ≡ goesOn rs bs
-unfolding goesOn
-goes_some b rs bs e = rw (e, goesOn)
+goes_some : (b : ℕ) (rs : List Range) (bs : List ℕ) → followers utf8_char b ≡ some rs → goes_on [] (b ∷ bs) ≡ goes_on rs bs
+unfolding goes_on
+goes_some b rs bs e = rw (e, goes_on)
 
-goes_none : (b : ℕ) (bs : List ℕ) → followers utf8Char b ≡ none → goesOn [] (b ∷ bs) ≡ false
-unfolding goesOn
-goes_none b bs e = rw (e, goesOn)
+goes_none : (b : ℕ) (bs : List ℕ) → followers utf8_char b ≡ none → goes_on [] (b ∷ bs) ≡ false
+unfolding goes_on
+goes_none b bs e = rw (e, goes_on)
 
-from_some : (due : ℕ) (rs : List Range) (bs : List ℕ) → get_elem? dues due ≡ some rs → from due bs ≡ goesOn rs bs
+from_some : (due : ℕ) (rs : List Range) (bs : List ℕ) → get_elem? dues due ≡ some rs → from due bs ≡ goes_on rs bs
 unfolding from
 from_some due rs bs e = rw (e, from)
 
 -- by the line of the table that it begins
-pub begins-line : (line : ℕ) (c : Octets) (due b : ℕ) → get_elem? utf8Char line ≡ some c → get_elem? dues due ≡ some c.others → in_range c.first b ≡ true → Begins due b
+pub begins-line : (line : ℕ) (c : Octets) (due b : ℕ) → get_elem? utf8_char line ≡ some c → get_elem? dues due ≡ some c.others → in_range c.first b ≡ true → Begins due b
 begins-line line c due b e f h = record {
   on = λ bs. from_some due c.others bs f ∙ sym (goes_some b c.others bs (line-follows line c b e h));
 }
@@ -65,15 +65,15 @@ record Outside (b : ℕ) (c : Octets) : Type 0 where
 
 none-follows : {cs : List Octets} (b : ℕ) → Every (Outside b) cs → followers cs b ≡ none
 unfolding followers
-none-follows b noEvery = refl
+none-follows b no_every = refl
 none-follows b (every o os) = rw (o.is, followers) (none-follows b os)
 
-begins-none : (b : ℕ) → Every (Outside b) utf8Char → Begins 8 b
+begins-none : (b : ℕ) → Every (Outside b) utf8_char → Begins 8 b
 unfolding from dues
 begins-none b os = record { on = λ bs. sym (goes_none b bs (none-follows b os)) }
 
 pub begins-low : (b : ℕ) → 0x80 ≤ b → b < 0xC2 → Begins 8 b
-unfolding utf8Char
+unfolding utf8_char
 begins-low b h g = begins-none b
     (every (record { is = above-range 0x00 0x7F b (omega arith) })
     (every (record { is = below-range 0xC2 0xDF b g })
@@ -83,10 +83,10 @@ begins-low b h g = begins-none b
     (every (record { is = below-range 0xEE 0xEF b (omega arith) })
     (every (record { is = below-range 0xF0 0xF0 b (omega arith) })
     (every (record { is = below-range 0xF1 0xF3 b (omega arith) })
-    (every (record { is = below-range 0xF4 0xF4 b (omega arith) }) noEvery)))))))))
+    (every (record { is = below-range 0xF4 0xF4 b (omega arith) }) no_every)))))))))
 
 pub begins-high : (b : ℕ) → 0xF4 < b → Begins 8 b
-unfolding utf8Char
+unfolding utf8_char
 begins-high b h = begins-none b
     (every (record { is = above-range 0x00 0x7F b (omega arith) })
     (every (record { is = above-range 0xC2 0xDF b (omega arith) })
@@ -96,44 +96,44 @@ begins-high b h = begins-none b
     (every (record { is = above-range 0xEE 0xEF b (omega arith) })
     (every (record { is = above-range 0xF0 0xF0 b (omega arith) })
     (every (record { is = above-range 0xF1 0xF3 b (omega arith) })
-    (every (record { is = above-range 0xF4 0xF4 b h }) noEvery)))))))))
+    (every (record { is = above-range 0xF4 0xF4 b h }) no_every)))))))))
 
 -- by what it is found to be
 module _ (b : ℕ) where
   pub begins-ascii : b < 0x80 → Begins 0 b
-  unfolding utf8Char dues
+  unfolding utf8_char dues
   begins-ascii h = begins-line 0 _ 0 b refl refl (in-range 0x00 0x7F b (omega arith) (omega arith))
 
   pub begins-two : 0xC2 ≤ b → b < 0xE0 → Begins 1 b
-  unfolding utf8Char dues
+  unfolding utf8_char dues
   begins-two h g = begins-line 1 _ 1 b refl refl (in-range 0xC2 0xDF b h (omega arith))
 
   pub begins-E0 : b ≡ 0xE0 → Begins 4 b
-  unfolding utf8Char dues
+  unfolding utf8_char dues
   begins-E0 e = begins-line 2 _ 4 b refl refl (in-range 0xE0 0xE0 b (omega arith) (omega arith))
 
   pub begins-three : 0xE0 ≤ b → (b ≡ 0xE0 → ⊥) → b < 0xED → Begins 2 b
-  unfolding utf8Char dues
+  unfolding utf8_char dues
   begins-three h n g = begins-line 3 _ 2 b refl refl (in-range 0xE1 0xEC b (omega arith) (omega arith))
 
   pub begins-ED : b ≡ 0xED → Begins 5 b
-  unfolding utf8Char dues
+  unfolding utf8_char dues
   begins-ED e = begins-line 4 _ 5 b refl refl (in-range 0xED 0xED b (omega arith) (omega arith))
 
   pub begins-three-high : 0xED ≤ b → (b ≡ 0xED → ⊥) → b < 0xF0 → Begins 2 b
-  unfolding utf8Char dues
+  unfolding utf8_char dues
   begins-three-high h n g = begins-line 5 _ 2 b refl refl (in-range 0xEE 0xEF b (omega arith) (omega arith))
 
   pub begins-F0 : b ≡ 0xF0 → Begins 6 b
-  unfolding utf8Char dues
+  unfolding utf8_char dues
   begins-F0 e = begins-line 6 _ 6 b refl refl (in-range 0xF0 0xF0 b (omega arith) (omega arith))
 
   pub begins-four : 0xF0 ≤ b → (b ≡ 0xF0 → ⊥) → b < 0xF4 → Begins 3 b
-  unfolding utf8Char dues
+  unfolding utf8_char dues
   begins-four h n g = begins-line 7 _ 3 b refl refl (in-range 0xF1 0xF3 b (omega arith) (omega arith))
 
   pub begins-F4 : b ≡ 0xF4 → Begins 7 b
-  unfolding utf8Char dues
+  unfolding utf8_char dues
   begins-F4 e = begins-line 8 _ 7 b refl refl (in-range 0xF4 0xF4 b (omega arith) (omega arith))
 
   pub begins-over : 0xF4 ≤ b → (b ≡ 0xF4 → ⊥) → Begins 8 b
@@ -158,11 +158,11 @@ pub goes-begin : (due b next : ℕ) → due ≡ 0 → Begins next b → Goes due
 unfolding from dues
 goes-begin due b next e B = rw e (record { on = λ bs. B.on bs })
 
-byte_more : (r : Range) (b : ℕ) (rs : List Range) (bs : List ℕ) → goesOn (r ∷ rs) (b ∷ bs) ≡ (in_range r b && goesOn rs bs)
-unfolding goesOn
+byte_more : (r : Range) (b : ℕ) (rs : List Range) (bs : List ℕ) → goes_on (r ∷ rs) (b ∷ bs) ≡ (in_range r b && goes_on rs bs)
+unfolding goes_on
 byte_more r b rs bs = refl
 
-chosen : (x : Bool) (next : ℕ) (rs : List Range) (bs : List ℕ) → get_elem? dues next ≡ some rs → from (elim x as (λ _. ℕ) [ true ↦ next | false ↦ 8 ]) bs ≡ (x && goesOn rs bs)
+chosen : (x : Bool) (next : ℕ) (rs : List Range) (bs : List ℕ) → get_elem? dues next ≡ some rs → from (elim x as (λ _. ℕ) [ true ↦ next | false ↦ 8 ]) bs ≡ (x && goes_on rs bs)
 chosen true next rs bs g = from_some next rs bs g
 chosen false next rs bs g = from_past 8 bs (omega arith)
 
@@ -183,12 +183,12 @@ up n k h f = omega arith
 
 -- ---- the beginning and the end
 
-pub from-begin : (bs : List ℕ) → isUtf8 bs ≡ from 0 bs
-unfolding from dues isUtf8
+pub from-begin : (bs : List ℕ) → is_utf8 bs ≡ from 0 bs
+unfolding from dues is_utf8
 from-begin bs = refl
 
 ends : (due : ℕ) → from due [] ≡ eqb due 0
-unfolding from dues goesOn
+unfolding from dues goes_on
 ends zero = refl
 ends (suc zero) = refl
 ends (suc (suc zero)) = refl
@@ -206,13 +206,13 @@ at_byte : (t : List ℕ) (p : ℕ) → p < length t → drop p t ≡ get_or t p 
 at_byte t p h = drop-cons t p 0 h ∙ ap (λ (k : ℕ). get_or t p 0 ∷ drop k t) (sym (add-one p))
 
 -- a byte below 80 is a character
-pub ascii_more : (t : List ℕ) (i : ℕ) → i < length t → get_or t i 0 < 0x80 → isUtf8 (drop i t) ≡ isUtf8 (drop (i + 1) t)
-unfolding isUtf8
-ascii_more t i h l = ap (goesOn []) (at_byte t i h) ∙ sym ((begins-ascii (get_or t i 0) l).on (drop (i + 1) t)) ∙ sym (from-begin (drop (i + 1) t))
+pub ascii_more : (t : List ℕ) (i : ℕ) → i < length t → get_or t i 0 < 0x80 → is_utf8 (drop i t) ≡ is_utf8 (drop (i + 1) t)
+unfolding is_utf8
+ascii_more t i h l = ap (goes_on []) (at_byte t i h) ∙ sym ((begins-ascii (get_or t i 0) l).on (drop (i + 1) t)) ∙ sym (from-begin (drop (i + 1) t))
 
 -- so one byte further, or four
 pub ascii-on : (t : List ℕ) (i j : ℕ) → i + 1 ≡ j → i < length t → get_or t i 0 < 0x80 → IsFrom t i → IsFrom t j
-ascii-on t i j e h l F = record { place = omega (arith, e, h); same = F.same ∙ ascii_more t i h l ∙ ap (λ k. isUtf8 (drop k t)) e }
+ascii-on t i j e h l F = record { place = omega (arith, e, h); same = F.same ∙ ascii_more t i h l ∙ ap (λ k. is_utf8 (drop k t)) e }
 
 pub ascii-four : (t : List ℕ) (i : ℕ) → 3 < length t - i → get_or t i 0 < 0x80 → get_or t (i + 1) 0 < 0x80 → get_or t (i + 2) 0 < 0x80 → get_or t (i + 3) 0 < 0x80 →
     IsFrom t i → IsFrom t (i + 4)

@@ -1,6 +1,6 @@
 // Well-formed UTF-8 (RFC 3629): the test of a string's bytes, for trees (8) and modules (19) alike.
 ghost use Rattle.std.specs.Prelude.{◌≡◌, true, false};
-ghost use Rattle.definitions.specs.Utf8.{range, in_range, isUtf8};
+ghost use Rattle.definitions.specs.Utf8.{range, in_range, is_utf8};
 ghost use Rattle.utf8.specs.Due.{Goes, Begins, IsFrom};
 
 // What is due: a character; one, two, three bytes of 0x80 to 0xBF; the rest after E0, ED, F0, F4; nothing, for what came is no character.
@@ -120,7 +120,7 @@ fn ascii_end(bytes: &[u8]) -> usize
 
 // Whether the bytes are well-formed UTF-8.
 pub fn is_utf8(bytes: &[u8]) -> bool
-    ensures { result ≡ isUtf8 bytes.now }
+    ensures { result ≡ is_utf8 bytes.now }
 {
     let mut i = ascii_end(bytes);
     let mut due = CHAR;

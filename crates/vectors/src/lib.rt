@@ -1,7 +1,7 @@
 // Cases of tests/vectors from standard input: a case a line, its fields parted by tabs, its name first.
 ghost use Rattle.std.specs.Prelude.{◌≡◌, true, false, eqb};
 ghost use Rattle.io.specs.Counts.{IsPrefixLen};
-ghost use Rattle.vectors.specs.Lines.{isEnd, spoiltOf, Skips, Finishes, Reads};
+ghost use Rattle.vectors.specs.Lines.{is_end, spoilt_of, Skips, Finishes, Reads};
 
 use digits::{Decimal, decimal_of, digit_of, narrow, pair, wide};
 use libc::STDIN_FILENO;
@@ -64,7 +64,7 @@ pub fn has_field(r: Reading) -> bool
 }
 
 fn spoilt(r: Reading) -> Reading
-    ensures { result ≡ spoiltOf r }
+    ensures { result ≡ spoilt_of r }
 {
     Reading {
         at: r.at,
@@ -109,7 +109,7 @@ fn take(piece: &mut [u8; 4096], r: Reading) -> Reading
 
 // Whether a line ends here, or a field where `at_tab` is set.
 fn ends(c: u32, at_tab: bool) -> bool
-    ensures { result ≡ isEnd at_tab c }
+    ensures { result ≡ is_end at_tab c }
 {
     if c == TAB {
         return at_tab;
@@ -151,7 +151,7 @@ pub fn skip_line(piece: &mut [u8; 4096], r: Reading) -> Reading
 
 // From the end of a line past the name of the next.
 pub fn skip_name(piece: &mut [u8; 4096], r: Reading) -> Reading
-    ensures { (isEnd true result.last ≡ true) × (result.is_good ≡ true) }
+    ensures { (is_end true result.last ≡ true) × (result.is_good ≡ true) }
 {
     let line = Reading {
         at: r.at,

@@ -1,12 +1,12 @@
 // Bytes of an instruction and of its operands, by its opcode. A match becomes a table in the program's data; an array would be made anew at each call.
 ghost use Rattle.std.specs.Prelude.{◌≡◌, ◌+◌, ◌≤◌};
-ghost use Rattle.definitions.specs.Instruction.{firstWidth, secondWidth};
+ghost use Rattle.definitions.specs.Instruction.{first_width, second_width};
 
 use numerals::op_places;
 
 // Bytes of an instruction's first operand.
 pub fn first_width(op: usize) -> u8
-    ensures { (result ≡ firstWidth op) × (result ≤ 8) }
+    ensures { (result ≡ first_width op) × (result ≤ 8) }
 {
     match op {
         op_places::CONST_I64 => 8,
@@ -38,7 +38,7 @@ pub fn first_width(op: usize) -> u8
 
 // Bytes of its second operand.
 pub fn second_width(op: usize) -> u8
-    ensures { (result ≡ secondWidth op) × (result ≤ 1) }
+    ensures { (result ≡ second_width op) × (result ≤ 1) }
 {
     match op {
         op_places::CALL => 1,
@@ -51,7 +51,7 @@ pub fn second_width(op: usize) -> u8
 
 // Bytes of the whole instruction: the opcode's and both operands'.
 pub fn whole_width(op: usize) -> u8
-    ensures { (result ≡ 1 + firstWidth op + secondWidth op) × (result ≤ 9) }
+    ensures { (result ≡ 1 + first_width op + second_width op) × (result ≤ 9) }
 {
     match op {
         op_places::CONST_I64 => 9,

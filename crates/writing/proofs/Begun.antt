@@ -8,7 +8,7 @@ use native.Mathlib.Numerals.{add-one}
 use lib.ListN.{length, get_or, take, drop, set, length-append, length-drop, length-take, drop_of_length-le}
 use lib.Seq.{take-append_seam, drop-append_seam, drop-drop, drop-cons, set-append_seam, take_all, take-suc, length-take-le}
 use borrow.Rule.Slice.PartMut.{put_mid, mid_of}
-use Rattle.definitions.specs.Bytes.{be, concat, listBytes}
+use Rattle.definitions.specs.Bytes.{be, concat, list_bytes}
 use Rattle.definitions.specs.Calls.{written}
 use Rattle.definitions.proofs.BytesWritten.{length-be}
 use Rattle.writing.specs.Wrote.{Wrote}
@@ -95,8 +95,8 @@ joined-map f [] = refl
 joined-map f (x ∷ xs) = ap (λ (z : List ℕ). f x ++ z) (joined-map f xs)
 
 -- a list is its count and its elements
-pub joined-list {ℓ} : {A : Type ℓ} (w : ℕ) (f : A → List ℕ) (xs : List A) → listBytes w f xs ≡ be w (length xs) ++ joined (map f xs)
-unfolding listBytes
+pub joined-list {ℓ} : {A : Type ℓ} (w : ℕ) (f : A → List ℕ) (xs : List A) → list_bytes w f xs ≡ be w (length xs) ++ joined (map f xs)
+unfolding list_bytes
 joined-list w f xs = ap (λ (z : List ℕ). be w (length xs) ++ z) (joined-map f xs)
 
 pub joined-one : (x : List ℕ) → x ≡ joined (x ∷ [])

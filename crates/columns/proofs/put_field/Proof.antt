@@ -2,8 +2,8 @@ use native.Mathlib.Omega.{arith}
 use borrow.Author.Rules.{rules}
 use Prim.Native.Nat.{◌≤◌}
 use lib.ListN.{length}
-use Rattle.definitions.specs.Columns.{rightIn}
-use Rattle.columns.specs.Fields.{fieldText}
+use Rattle.definitions.specs.Columns.{right_in}
+use Rattle.columns.specs.Fields.{field_text}
 use Rattle.columns.proofs.Right.{Ended, ended-length}
 use Rattle.columns.proofs.Splitting.{field-start, field_next, field-done}
 use Rattle.columns.proofs.put_field.Statement.{statement}
@@ -13,7 +13,7 @@ use Rattle.columns.proofs.put_field.Lts as lts
 use Rattle.columns.proofs.last_of.Reads as last-of-reads
 
 abbrev invariant-loop : tie.invariant-loop
-invariant-loop w out₀ i₀ rest₀ out i rest = (i ≤ w) × (length (fieldText rest) ≤ i) × Ended (rightIn w (fieldText rest₀)) out₀ out (rightIn i (fieldText rest))
+invariant-loop w out₀ i₀ rest₀ out i rest = (i ≤ w) × (length (field_text rest) ≤ i) × Ended (right_in w (field_text rest₀)) out₀ out (right_in i (field_text rest))
 
 abbrev decreases-loop : tie.decreases-loop
 decreases-loop w out₀ i₀ rest₀ out i rest = i

@@ -1,5 +1,5 @@
 use Rattle.state.specs.State.{names_at}
-use Rattle.state.specs.Kept.{keepingOf}
+use Rattle.state.specs.Kept.{keeping_of}
 use mathlib.Core.Path.{refl, ◌∙◌}
 use native.Mathlib.Omega.{arith}
 use borrow.Author.Rules.{rules}
@@ -13,7 +13,7 @@ use Rattle.compile.proofs.emit_main.Statement.{statement}
 use Rattle.compile.proofs.emit_main.Tie as tie
 
 pub emit-main-spec : {M : Type 1} → statement M
-unfolding names_at keepingOf
+unfolding names_at keeping_of
 emit-main-spec = tie.close (tie.spec
     (λ c. search rules)  -- slice-aggregate-emit-block
     (λ c κs. let start = c.before.before.before.before.before.before.before.before.before in (

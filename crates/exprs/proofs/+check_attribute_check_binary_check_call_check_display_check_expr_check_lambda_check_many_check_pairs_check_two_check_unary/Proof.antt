@@ -7,7 +7,7 @@ use Prim.Native.Nat.{ℕ, ◌+◌, ◌*◌, ◌≤◌, ◌<◌}
 use lib.ListN.{length}
 use Rattle.parts.proofs.Laws.{up, then_next, then-refused, with-number, with-unread, judged-within, number-within}
 use Rattle.exprs.proofs.ExprLaws.{at_none, at-false, at_true, at-int, at-float, at-string, at-var, at-unary, at-binary, at_call, at-attribute, at-list, at-dict, at-tuple, at_set, at-tree-set, at-index, at-lambda, tuple-role, expr-none, expr-end, expr-unknown, many-none, many_more}
-use Rattle.parts.specs.Judge.{judgeTwo, judgeCall, judgeArgs, judgeDisplay, judgePairs, judgeAttribute, judgeLambda, judgeUnary, judgeBinary, judgeMany}
+use Rattle.parts.specs.Judge.{judge_two, judge_call, judge_args, judge_display, judge_pairs, judge_attribute, judge_lambda, judge_unary, judge_binary, judge_many}
 use borrow.Fn.Kinds.{In}
 use borrow.Fn.PlainCycle.{Measures, is, falls, and}
 use Rattle.exprs.proofs.check_attribute.Reads as check-attribute
@@ -144,7 +144,7 @@ abbrev check-unary-below : ℕ → In 1 check-unary-kinds.ps
 check-unary-below t = and 1 check-unary-kinds.ps (falls 1 check-unary-kinds.ps ◌<◌ μ-check-unary t) check-unary.Pre
 
 check-attribute-ok : {M : Type 1} (t : ℕ) → check-attribute-lts.Closed (check-expr-below t, check-expr.Post, check-name-reads.Asked, check-name-reads.Learnt) (check-attribute-at t) check-attribute.Post M
-unfolding judgeAttribute
+unfolding judge_attribute
 check-attribute-ok t = check-attribute-lts.spec (check-expr-below t, check-expr.Post, check-name-reads.Asked, check-name-reads.Learnt) (check-attribute-at t) check-attribute.Post
     (λ c κs. (omega arith, c.before.requires.1))  -- check-expr-requires
     (λ c. search rules)  -- enum-known-object
@@ -154,7 +154,7 @@ check-attribute-ok t = check-attribute-lts.spec (check-expr-below t, check-expr.
     (λ c. let b = c.before.before in let s = b.before.before in c.check-name.ensures ∙ sym (then_next _ _ _ _ (sym s.check-expr.ensures ∙ b.object.given.1)))  -- returns-2
 
 check-binary-ok : {M : Type 1} (t : ℕ) → check-binary-lts.Closed (operator-at-reads.Asked, operator-at-reads.Learnt, check-expr-below t, check-expr.Post) (check-binary-at t) check-binary.Post M
-unfolding judgeBinary judgeTwo
+unfolding judge_binary judge_two
 check-binary-ok t = check-binary-lts.spec (operator-at-reads.Asked, operator-at-reads.Learnt, check-expr-below t, check-expr.Post) (check-binary-at t) check-binary.Post
     (λ c κs. search rules)  -- operator-at-requires
     (λ c. let o = c.before in let h = operator-inside _ _ _ _ o.operator-at.ensures c.if1.true in omega arith)  -- add-check-expr
@@ -167,7 +167,7 @@ check-binary-ok t = check-binary-lts.spec (operator-at-reads.Asked, operator-at-
     (λ c. guard-no _ _ _ c.before.operator-at.ensures c.if1.false)  -- returns-3
 
 check-call-ok : {M : Type 1} (t : ℕ) → check-call-lts.Closed (check-expr-below t, check-expr.Post, number-at-reads.Asked, number-at-reads.Learnt, noted-reads.Asked, noted-reads.Learnt, check-many-below t, check-many.Post) (check-call-at t) check-call.Post M
-unfolding judgeCall judgeArgs
+unfolding judge_call judge_args
 check-call-ok t = check-call-lts.spec (check-expr-below t, check-expr.Post, number-at-reads.Asked, number-at-reads.Learnt, noted-reads.Asked, noted-reads.Learnt, check-many-below t, check-many.Post) (check-call-at t) check-call.Post
     (λ c κs. (omega arith, c.before.requires.1))  -- check-expr-requires
     (λ c. search rules)  -- enum-known-callee
@@ -183,7 +183,7 @@ check-call-ok t = check-call-lts.spec (check-expr-below t, check-expr.Post, numb
     (λ c. let s = c.before.before.before in let b = s.before.before.before.before in let e = b.before.before in c.check-many.ensures ∙ many-stand _ _ _ _ _ _ _ c.before.noted.ensures ∙ sym (then_next _ _ _ _ (sym e.check-expr.ensures ∙ b.callee.given.1) ∙ with-number _ _ _ _ (sym s.before.before.number_at.ensures ∙ s.count2.given.1)))  -- returns-3
 
 check-display-ok : {M : Type 1} (t : ℕ) → check-display-lts.Closed (number-at-reads.Asked, number-at-reads.Learnt, check-many-below t, check-many.Post) (check-display-at t) check-display.Post M
-unfolding judgeDisplay
+unfolding judge_display
 check-display-ok t = check-display-lts.spec (number-at-reads.Asked, number-at-reads.Learnt, check-many-below t, check-many.Post) (check-display-at t) check-display.Post
     (λ c κs. c.before.requires.1)  -- number-at-requires
     (λ c. search rules)  -- enum-known-count
@@ -265,7 +265,7 @@ check-expr-ok t = check-expr-lts.spec (suits-reads.Asked, suits-reads.Learnt, sk
     (λ c. let n = c.match.rest in sym (expr-unknown _ _ _ _ _ c.before.before.before.if2.false c.before.before.before.before.if1.false (up 17 _ (up 16 _ (up 15 _ (up 14 _ (up 13 _ (up 12 _ (up 11 _ (up 10 _ (up 9 _ (up 8 _ (up 7 _ (up 6 _ (up 5 _ (up 4 _ (up 3 _ (up 2 _ (up 1 _ (up 0 _ (omega arith) n.0.0.0.0.0.0.0.0.0.0.0.0.0.0.0.0.0.1) n.0.0.0.0.0.0.0.0.0.0.0.0.0.0.0.0.1) n.0.0.0.0.0.0.0.0.0.0.0.0.0.0.0.1) n.0.0.0.0.0.0.0.0.0.0.0.0.0.0.1) n.0.0.0.0.0.0.0.0.0.0.0.0.0.1) n.0.0.0.0.0.0.0.0.0.0.0.0.1) n.0.0.0.0.0.0.0.0.0.0.0.1) n.0.0.0.0.0.0.0.0.0.0.1) n.0.0.0.0.0.0.0.0.0.1) n.0.0.0.0.0.0.0.0.1) n.0.0.0.0.0.0.0.1) n.0.0.0.0.0.0.1) n.0.0.0.0.0.1) n.0.0.0.0.1) n.0.0.0.1) n.0.0.1) n.0.1) n.1)))  -- returns-21
 
 check-lambda-ok : {M : Type 1} (t : ℕ) → check-lambda-lts.Closed (check-params-reads.Asked, check-params-reads.Learnt, check-expr-below t, check-expr.Post) (check-lambda-at t) check-lambda.Post M
-unfolding judgeLambda
+unfolding judge_lambda
 check-lambda-ok t = check-lambda-lts.spec (check-params-reads.Asked, check-params-reads.Learnt, check-expr-below t, check-expr.Post) (check-lambda-at t) check-lambda.Post
     (λ c κs. c.before.requires.1)  -- check-params-requires
     (λ c. search rules)  -- enum-known-params
@@ -275,7 +275,7 @@ check-lambda-ok t = check-lambda-lts.spec (check-params-reads.Asked, check-param
     (λ c. let b = c.before.before in let s = b.before.before in c.check-expr.ensures ∙ sym (then_next _ _ _ _ (sym s.check-params.ensures ∙ b.params.given.1)))  -- returns-2
 
 abbrev check-many-Inv-loop : check-many-lts.invariant-loop
-check-many-Inv-loop tree at depth role n stand p₀ left₀ w₀ p left w = (judgeMany role depth tree left₀ p₀ w₀ ≡ judgeMany role depth tree left p w) × (p ≤ length tree)
+check-many-Inv-loop tree at depth role n stand p₀ left₀ w₀ p left w = (judge_many role depth tree left₀ p₀ w₀ ≡ judge_many role depth tree left p w) × (p ≤ length tree)
 
 abbrev check-many-μ-loop : check-many-lts.decreases-loop
 check-many-μ-loop tree at depth role n stand p₀ left₀ w₀ p left w = left
@@ -297,7 +297,7 @@ check-many-ok t = check-many-lts.spec (skip-constants-reads.Asked, skip-constant
     (λ c. let l = c.before in sym (l.loop.invariant.0 ∙ many-none _ _ _ _ _ _ l.loop.invariant.1 c.loop-test.false))  -- returns-3
 
 check-pairs-ok : {M : Type 1} (t : ℕ) → check-pairs-lts.Closed (number-at-reads.Asked, number-at-reads.Learnt, check-many-below t, check-many.Post) (check-pairs-at t) check-pairs.Post M
-unfolding judgePairs
+unfolding judge_pairs
 check-pairs-ok t = check-pairs-lts.spec (number-at-reads.Asked, number-at-reads.Learnt, check-many-below t, check-many.Post) (check-pairs-at t) check-pairs.Post
     (λ c κs. c.before.requires.1)  -- number-at-requires
     (λ c. search rules)  -- enum-known-count
@@ -309,7 +309,7 @@ check-pairs-ok t = check-pairs-lts.spec (number-at-reads.Asked, number-at-reads.
     (λ c. let s = c.before.before in c.check-many.ensures ∙ sym (with-number _ _ _ _ (sym s.before.before.number_at.ensures ∙ s.count2.given.1)))  -- returns-2
 
 check-two-ok : {M : Type 1} (t : ℕ) → check-two-lts.Closed (check-expr-below t, check-expr.Post) (check-two-at t) check-two.Post M
-unfolding judgeTwo
+unfolding judge_two
 check-two-ok t = check-two-lts.spec (check-expr-below t, check-expr.Post) (check-two-at t) check-two.Post
     (λ c κs. (omega arith, c.before.requires.1))  -- check-expr-requires
     (λ c. search rules)  -- enum-known-left
@@ -319,7 +319,7 @@ check-two-ok t = check-two-lts.spec (check-expr-below t, check-expr.Post) (check
     (λ c. let b = c.before.before in let s = b.before.before in c.check-expr2.ensures ∙ sym (then_next _ _ _ _ (sym s.check-expr.ensures ∙ b.left.given.1)))  -- returns-2
 
 check-unary-ok : {M : Type 1} (t : ℕ) → check-unary-lts.Closed (operator-at-reads.Asked, operator-at-reads.Learnt, check-expr-below t, check-expr.Post) (check-unary-at t) check-unary.Post M
-unfolding judgeUnary
+unfolding judge_unary
 check-unary-ok t = check-unary-lts.spec (operator-at-reads.Asked, operator-at-reads.Learnt, check-expr-below t, check-expr.Post) (check-unary-at t) check-unary.Post
     (λ c κs. search rules)  -- operator-at-requires
     (λ c. let o = c.before in let h = operator-inside _ _ _ _ o.operator-at.ensures c.if1.true in omega arith)  -- add-check-expr

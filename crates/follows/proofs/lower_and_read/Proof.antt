@@ -3,7 +3,7 @@ use Rattle.definitions.proofs.ReadFits.{small_bytes}
 use Rattle.follows.proofs.Made.{part-fits}
 use Rattle.follows.proofs.Reading.{reread-wrote, reread-refused}
 use borrow.Author.Rules.{rules}
-use Rattle.definitions.proofs.Narrower.{setsUnder}
+use Rattle.definitions.proofs.Narrower.{sets_under}
 use Rattle.follows.proofs.lower_and_read.Statement.{statement}
 use Rattle.follows.proofs.lower_and_read.Tie as tie
 
@@ -22,7 +22,7 @@ lower-and-read-spec = tie.close (tie.spec
     (λ c. search rules)  -- same-length-3
     (λ c. let at-lowered = c.before.before.before.before in let at-lower = at-lowered.before.before.before.before.before.before.before.before in
     let s = at-lower.before.before.before.before.before.before.before in
-    reread-wrote _ _ _ _ _ _ _ _ _ at-lower.lower.ensures (setsUnder _) (small_bytes s.before.args.tree.now (λ i. (s.shared-slice-known.given i).fits)) _
+    reread-wrote _ _ _ _ _ _ _ _ _ at-lower.lower.ensures (sets_under _) (small_bytes s.before.args.tree.now (λ i. (s.shared-slice-known.given i).fits)) _
     at-lowered.lowered.given.1 _ c.read_module.ensures)  -- returns
     (λ c. search rules)  -- same-length-4
     (λ c. search rules)  -- same-length-5

@@ -2,7 +2,7 @@ use Rattle.definitions.proofs.ReadFits.{small_bytes}
 use Rattle.follows.proofs.Made.{part-fits}
 use Rattle.follows.proofs.Walking.{follow-ran, follow-refused}
 use borrow.Author.Rules.{rules}
-use Rattle.definitions.proofs.Narrower.{setsUnder}
+use Rattle.definitions.proofs.Narrower.{sets_under}
 use Rattle.follows.proofs.lower_and_run.Statement.{statement}
 use Rattle.follows.proofs.lower_and_run.Tie as tie
 
@@ -21,7 +21,7 @@ lower-and-run-spec = tie.close (tie.spec
     (λ c. search rules)  -- same-length-4
     (λ c. let at-run = c.before.before in let at-lowered = at-run.before.before.before.before.before in
     let at-lower = at-lowered.before.before.before.before.before.before.before.before in let s = at-lower.before.before.before.before.before.before.before.before.before in
-    follow-ran _ _ _ _ _ _ _ _ _ at-lower.lower.ensures _ _ _ _ _ at-lowered.lowered.given.1 _ _ at-run.run.ensures (setsUnder _)
+    follow-ran _ _ _ _ _ _ _ _ _ at-lower.lower.ensures _ _ _ _ _ at-lowered.lowered.given.1 _ _ at-run.run.ensures (sets_under _)
     (small_bytes s.before.args.tree.now (λ i. (s.shared-slice-known.given i).fits)))  -- returns
     (λ c. search rules)  -- same-length-5
     (λ c. search rules)  -- same-length-6

@@ -1,11 +1,11 @@
 use mathlib.Core.Path.{◌∙◌}
 use native.Mathlib.Omega.{arith}
 use Rattle.state.specs.Words.{name_at}
-use Rattle.state.specs.State.{slotNames}
+use Rattle.state.specs.State.{slot_names}
 use Rattle.state.proofs.Growth.{lengthens-store}
 use Rattle.lower_emit.proofs.Steps.{sound-next, lowers-stopped, lowers-next}
 use Rattle.lower_loops.proofs.Calling.{short-next}
-use Rattle.lower_loops.specs.Iterators.{keeperOf}
+use Rattle.lower_loops.specs.Iterators.{keeper_of}
 use Rattle.lower_loops.proofs.Made.{take1}
 use Rattle.lower_loops.proofs.take_iterator.Statement.{statement}
 use Rattle.lower_loops.proofs.take_iterator.Tie as tie
@@ -18,7 +18,7 @@ take-iterator-spec = tie.close (tie.spec
     (λ c. let at-if1 = c in let at-call-iterator = at-if1.before.before.before.before.before in
     let start = at-call-iterator.before.before.before.before.before.before.before.before.before in
     let e = at-call-iterator.call-iterator.ensures in
-    take1 (slotNames start.args.tree.now start.args.slots.now) (name_at start.args.tree.now start.args.at) (keeperOf start.args.load) start.requires.0
+    take1 (slot_names start.args.tree.now start.args.slots.now) (name_at start.args.tree.now start.args.at) (keeper_of start.args.load) start.requires.0
     (lowers-stopped at-if1.if1.true start.requires.0 (lengthens-store _ _) e))  -- returns
     (λ c κs. let at-if1 = c.before.before.before.before in let at-call-iterator = at-if1.before.before.before.before.before in
     let start = at-call-iterator.before.before.before.before.before.before.before.before.before in
@@ -31,5 +31,5 @@ take-iterator-spec = tie.close (tie.spec
     (λ c. let at-emit-store = c.before.before.before.before in let at-if1 = at-emit-store.before.before.before.before.before in
     let at-call-iterator = at-if1.before.before.before.before.before in let start = at-call-iterator.before.before.before.before.before.before.before.before.before in
     let e = at-call-iterator.call-iterator.ensures in
-    take1 (slotNames start.args.tree.now start.args.slots.now) (name_at start.args.tree.now start.args.at) (keeperOf start.args.load) start.requires.0
+    take1 (slot_names start.args.tree.now start.args.slots.now) (name_at start.args.tree.now start.args.at) (keeper_of start.args.load) start.requires.0
     (lowers-next at-if1.if1.false start.requires.0 e at-emit-store.emit-store.ensures)))  -- returns-2

@@ -1,7 +1,7 @@
 use native.Mathlib.Omega.{arith}
 use lib.ListN.{get_or, length-set}
 use Rattle.state.specs.Words.{region}
-use Rattle.state.specs.State.{symbolIndexFrom, symbolBuckets}
+use Rattle.state.specs.State.{symbol_index_from, symbol_buckets}
 use Rattle.names.proofs.TableIndex.{bucket-is}
 use Rattle.lower_names.proofs.Symbols.{renewed-noted, interned-le, interned-found, interns-old, interns-over, interns-new}
 use borrow.Author.Rules.{rules}
@@ -59,8 +59,8 @@ intern-spec = tie.close (tie.spec
     (λ c. let at-if2 = c in let at-if1 = at-if2.before.before in let at-find-spelling = at-if1.before in let at-first-number = at-find-spelling.before.before.before.before in
     let at-hash = at-first-number.before.before.before in let start = at-hash.before.before.before.before.before.before in
     let a = start.args in
-    interns-new start.requires.0 (interned-found _ start.requires.0 start.requires.3 at-hash.hash.ensures.0 at-first-number.first-number.ensures.0 at-find-spelling.find-spelling.ensures) _ a.grow (renewed-noted symbolIndexFrom symbolBuckets (get_or a.k.now 0 0) a.w (get_or a.k.now 0 0) _ _ _ a.tables.now (omega (
+    interns-new start.requires.0 (interned-found _ start.requires.0 start.requires.3 at-hash.hash.ensures.0 at-first-number.first-number.ensures.0 at-find-spelling.find-spelling.ensures) _ a.grow (renewed-noted symbol_index_from symbol_buckets (get_or a.k.now 0 0) a.w (get_or a.k.now 0 0) _ _ _ a.tables.now (omega (
       arith,
       start.requires.0.symbols,
       start.requires.0.limit,
-    )) (bucket-is symbolBuckets _ _ _ at-hash.hash.ensures.0 start.requires.3) (omega arith) at-first-number.first-number.ensures.0) at-if2.if2.false start.requires.2 start.requires.1 at-if1.if1.false))  -- returns-3
+    )) (bucket-is symbol_buckets _ _ _ at-hash.hash.ensures.0 start.requires.3) (omega arith) at-first-number.first-number.ensures.0) at-if2.if2.false start.requires.2 start.requires.1 at-if1.if1.false))  -- returns-3

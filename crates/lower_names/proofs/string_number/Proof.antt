@@ -2,7 +2,7 @@ use Prim.Native.Nat.{◌+◌}
 use native.Mathlib.Omega.{arith}
 use lib.ListN.{get_or, length-set}
 use Rattle.state.specs.Words.{region}
-use Rattle.state.specs.State.{stringsFrom, stringIndexFrom, stringBuckets}
+use Rattle.state.specs.State.{strings_from, string_index_from, string_buckets}
 use Rattle.names.proofs.TableIndex.{bucket-is}
 use Rattle.lower_names.proofs.Symbols.{renewed-noted}
 use Rattle.lower_names.proofs.Strings.{added-le, added-found, adds-old, adds-over, adds-new}
@@ -64,8 +64,8 @@ string-number-spec = tie.close (tie.spec
     (λ c. let at-if2 = c in let at-if1 = at-if2.before.before in let at-find-text = at-if1.before in let at-first-number = at-find-text.before.before.before in
     let at-hash = at-first-number.before.before.before in let at-text-part = at-hash.before in let start = at-text-part.before.before.before.before in
     let a = start.args in
-    adds-new start.requires.0 (added-found _ start.requires.0 at-text-part.text-part.ensures.0 at-hash.hash.ensures.0 at-first-number.first-number.ensures.0 at-find-text.find-text.ensures) _ (renewed-noted stringIndexFrom stringBuckets (stringsFrom + get_or a.k.now 1 0) a.at (get_or a.k.now 1 0) _ _ _ a.tables.now (omega (
+    adds-new start.requires.0 (added-found _ start.requires.0 at-text-part.text-part.ensures.0 at-hash.hash.ensures.0 at-first-number.first-number.ensures.0 at-find-text.find-text.ensures) _ (renewed-noted string_index_from string_buckets (strings_from + get_or a.k.now 1 0) a.at (get_or a.k.now 1 0) _ _ _ a.tables.now (omega (
       arith,
       start.requires.0.strings,
       start.requires.0.limit,
-    )) (bucket-is stringBuckets _ _ _ at-hash.hash.ensures.0 at-text-part.text-part.ensures.0) (omega arith) at-first-number.first-number.ensures.0) at-if2.if2.false at-if1.if1.false))  -- returns-3
+    )) (bucket-is string_buckets _ _ _ at-hash.hash.ensures.0 at-text-part.text-part.ensures.0) (omega arith) at-first-number.first-number.ensures.0) at-if2.if2.false at-if1.if1.false))  -- returns-3

@@ -2,13 +2,13 @@ use mathlib.Core.Path.{ap, ◌∙◌}
 use native.Mathlib.Omega.{arith}
 use Rattle.definitions.specs.Instruction.{StoreAttr}
 use Rattle.definitions.specs.Tables.{one, ◌⨟◌, intern}
-use Rattle.parts.specs.Places.{nameEnd}
-use Rattle.exprs.specs.ExprAt.{exprAt}
+use Rattle.parts.specs.Places.{name_end}
+use Rattle.exprs.specs.ExprAt.{expr_at}
 use Rattle.state.specs.Words.{name_at}
-use Rattle.state.specs.State.{slotNames}
+use Rattle.state.specs.State.{slot_names}
 use Rattle.state.proofs.Growth.{lengthens-one, lengthens-seq, lengthens-expr, lengthens-intern}
 use Rattle.lower_emit.proofs.Packing.{plain-above}
-use Rattle.lower_forms.specs.Lowerable.{exprCode}
+use Rattle.lower_forms.specs.Lowerable.{expr_code}
 use Rattle.lower_forms.proofs.ExprArms.{lowerable-at, there-at}
 use Rattle.lower_emit.proofs.Steps.{sound-of, done-of, sound-next, ready-next, lowers_then, lowers-stopped, lowers-next}
 use Rattle.lower_targets.proofs.Assigned.{expr-by}
@@ -29,7 +29,7 @@ assign-attribute-spec = tie.close (tie.spec
     (λ c κs. let at-name-end = c.before.before.before.before in let at-if1 = at-name-end.before in let at-emit-expr = at-if1.before.before.before.before.before in
     let start = at-emit-expr.before.before.before.before.before.before.before.before.before in let e = at-emit-expr.emit-expr.ensures in
     let h = (done-of at-if1.if1.false e).0 in
-    (ready-next at-if1.if1.false start.requires.0 e, lowerable-at _ _ _ _ (at-name-end.name-end.ensures ∙ ap (nameEnd start.args.tree.now) h) start.requires.1.value))  -- emit-expr-requires-2
+    (ready-next at-if1.if1.false start.requires.0 e, lowerable-at _ _ _ _ (at-name-end.name-end.ensures ∙ ap (name_end start.args.tree.now) h) start.requires.1.value))  -- emit-expr-requires-2
     (λ c. let at-emit-expr2 = c.before.before.before.before.before in
     let at-emit-expr = at-emit-expr2.before.before.before.before.before.before.before.before.before.before.before in
     at-emit-expr2.emit-expr2.auto.1.1.1.1.1.0 ∙ at-emit-expr.emit-expr.auto.1.1.1.1.1.0)  -- same-length-3
@@ -39,12 +39,12 @@ assign-attribute-spec = tie.close (tie.spec
     (λ c. let at-if2 = c in let at-emit-expr2 = at-if2.before.before.before.before.before in let at-name-end = at-emit-expr2.before.before.before.before.before in
     let at-if1 = at-name-end.before in let at-emit-expr = at-if1.before.before.before.before.before in
     let start = at-emit-expr.before.before.before.before.before.before.before.before.before in let e = at-emit-expr.emit-expr.ensures in let h = (done-of at-if1.if1.false e).0 in
-    let y = expr-by start.args.depth start.args.tree.now (slotNames start.args.tree.now start.args.slots.now) _ _ at-name-end.name-end.ensures at-emit-expr2.emit-expr2.ensures in
-    lowers_then (λ x. exprCode start.args.depth start.args.tree.now (slotNames start.args.tree.now start.args.slots.now) (nameEnd start.args.tree.now x) ⨟ intern (name_at start.args.tree.now x) (λ k. one (StoreAttr k))) (λ x. (exprAt start.args.depth start.args.tree.now (nameEnd start.args.tree.now x)).end) at-if1.if1.false (sound-of start.requires.0) e (lowers-stopped at-if2.if2.true (sound-next at-if1.if1.false e) (lengthens-intern _ (λ k. lengthens-one _)) y))  -- returns-2
+    let y = expr-by start.args.depth start.args.tree.now (slot_names start.args.tree.now start.args.slots.now) _ _ at-name-end.name-end.ensures at-emit-expr2.emit-expr2.ensures in
+    lowers_then (λ x. expr_code start.args.depth start.args.tree.now (slot_names start.args.tree.now start.args.slots.now) (name_end start.args.tree.now x) ⨟ intern (name_at start.args.tree.now x) (λ k. one (StoreAttr k))) (λ x. (expr_at start.args.depth start.args.tree.now (name_end start.args.tree.now x)).end) at-if1.if1.false (sound-of start.requires.0) e (lowers-stopped at-if2.if2.true (sound-next at-if1.if1.false e) (lengthens-intern _ (λ k. lengthens-one _)) y))  -- returns-2
     (λ c κs. let at-if2 = c.before.before.before.before in let at-emit-expr2 = at-if2.before.before.before.before.before in
     let at-name-end = at-emit-expr2.before.before.before.before.before in let at-if1 = at-name-end.before in let at-emit-expr = at-if1.before.before.before.before.before in
     let start = at-emit-expr.before.before.before.before.before.before.before.before.before in let e = at-emit-expr.emit-expr.ensures in let h = (done-of at-if1.if1.false e).0 in
-    let y = expr-by start.args.depth start.args.tree.now (slotNames start.args.tree.now start.args.slots.now) _ _ at-name-end.name-end.ensures at-emit-expr2.emit-expr2.ensures in (
+    let y = expr-by start.args.depth start.args.tree.now (slot_names start.args.tree.now start.args.slots.now) _ _ at-name-end.name-end.ensures at-emit-expr2.emit-expr2.ensures in (
       sound-next at-if2.if2.false y,
       omega (arith, (there-at _ _ _ h start.requires.1.name).byte, start.requires.0.ready.tree-short),
       plain-above 37 0 0 (omega arith) (omega arith) (omega arith) (omega arith),
@@ -60,5 +60,5 @@ assign-attribute-spec = tie.close (tie.spec
     let at-emit-expr2 = at-if2.before.before.before.before.before in let at-name-end = at-emit-expr2.before.before.before.before.before in let at-if1 = at-name-end.before in
     let at-emit-expr = at-if1.before.before.before.before.before in let start = at-emit-expr.before.before.before.before.before.before.before.before.before in
     let e = at-emit-expr.emit-expr.ensures in let h = (done-of at-if1.if1.false e).0 in
-    let y = expr-by start.args.depth start.args.tree.now (slotNames start.args.tree.now start.args.slots.now) _ _ at-name-end.name-end.ensures at-emit-expr2.emit-expr2.ensures in
-    lowers_then (λ x. exprCode start.args.depth start.args.tree.now (slotNames start.args.tree.now start.args.slots.now) (nameEnd start.args.tree.now x) ⨟ intern (name_at start.args.tree.now x) (λ k. one (StoreAttr k))) (λ x. (exprAt start.args.depth start.args.tree.now (nameEnd start.args.tree.now x)).end) at-if1.if1.false (sound-of start.requires.0) e (lowers-next at-if2.if2.false (sound-next at-if1.if1.false e) y at-emit-symbol.emit-symbol.ensures)))  -- returns-3
+    let y = expr-by start.args.depth start.args.tree.now (slot_names start.args.tree.now start.args.slots.now) _ _ at-name-end.name-end.ensures at-emit-expr2.emit-expr2.ensures in
+    lowers_then (λ x. expr_code start.args.depth start.args.tree.now (slot_names start.args.tree.now start.args.slots.now) (name_end start.args.tree.now x) ⨟ intern (name_at start.args.tree.now x) (λ k. one (StoreAttr k))) (λ x. (expr_at start.args.depth start.args.tree.now (name_end start.args.tree.now x)).end) at-if1.if1.false (sound-of start.requires.0) e (lowers-next at-if2.if2.false (sound-next at-if1.if1.false e) y at-emit-symbol.emit-symbol.ensures)))  -- returns-3

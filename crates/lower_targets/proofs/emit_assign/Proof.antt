@@ -2,7 +2,7 @@ use mathlib.Core.Path.{sym}
 use native.Mathlib.Omega.{arith}
 use Rattle.lower_leaves.proofs.LambdaState.{reads_at}
 use Rattle.lower_emit.proofs.Steps.{sound-of, lowers-by, lowers-nothing}
-use Rattle.lower_forms.proofs.Assigning.{assign-inside, arm-variable, arm-attribute, arm-tuple, arm-index, arm-other, second_at}
+use Rattle.lower_forms.proofs.Assigning.{assign-inside, arm-variable, arm-attribute, arm-tuple, arm-index, arm-other, second-at}
 use Rattle.lower_targets.proofs.Assigned.{second-ahead}
 use Rattle.lower_targets.proofs.emit_assign.Statement.{statement}
 use Rattle.lower_targets.proofs.emit_assign.Tie as tie
@@ -45,5 +45,5 @@ emit-assign-spec = tie.close (tie.spec
     (λ c κs. let at-skip-expr = c in let start = at-skip-expr.before.before.before.before.before.before.before in reads_at _ _ _ _ at-skip-expr.skip-expr.ensures start.requires.1.value.reads)  -- skip-expr-requires-2
     (λ c. let at-skip-expr2 = c in let at-skip-expr = at-skip-expr2.before in let at-match = at-skip-expr.before in let start = at-match.before.before.before.before.before.before in
     let n = at-match.match.rest in
-    let z = second_at _ _ _ _ _ at-skip-expr.skip-expr.ensures at-skip-expr2.skip-expr2.ensures in
+    let z = second-at _ _ _ _ _ at-skip-expr.skip-expr.ensures at-skip-expr2.skip-expr2.ensures in
     lowers-by (lowers-nothing (second-ahead _ _ _ _ start.requires.2 start.requires.1.target start.requires.1.value.reads z) (sound-of start.requires.0)) (arm-other _ _ _ start.requires.1 _ n.0.0.0.1 n.0.0.1 n.0.1 n.1) (sym z)))  -- returns-5

@@ -1,9 +1,9 @@
 use borrow.Author.Rules.{rules}
 use native.Mathlib.Omega.{arith}
 use mathlib.Core.List.{[], ◌∷◌}
-use Rattle.definitions.specs.Module.{moduleBytes}
+use Rattle.definitions.specs.Module.{module_bytes}
 use Rattle.state.specs.State.{tables_of}
-use Rattle.module.specs.Sections.{textsBytes, bodiesBytes}
+use Rattle.module.specs.Sections.{texts_bytes, bodies_bytes}
 use Rattle.writing.proofs.Begun.{Begun, begun_first, begun-length, begun-fits, begun-piece, begun-next, begun-done}
 use Rattle.module.proofs.Whole.{length-module, module-pieces}
 use Rattle.module.proofs.write_module.Statement.{statement}
@@ -11,8 +11,8 @@ use Rattle.module.proofs.write_module.Tie as tie
 
 -- the head is written
 begun : (c : tie.After-slice-known2) → let a = c.before.before.before.before.before.before.before.before.before.args in
-    Begun (moduleBytes (tables_of a.tree.now a.made.now a.code.now a.tables.now a.c)) a.out.now c.before.before.write-head.result c.before.before.write-head.new.1.0
-    (textsBytes a.tree.now a.made.now a.tables.now a.c ∷ bodiesBytes a.tree.now a.code.now a.tables.now a.c ∷ [])
+    Begun (module_bytes (tables_of a.tree.now a.made.now a.code.now a.tables.now a.c)) a.out.now c.before.before.write-head.result c.before.before.write-head.new.1.0
+    (texts_bytes a.tree.now a.made.now a.tables.now a.c ∷ bodies_bytes a.tree.now a.code.now a.tables.now a.c ∷ [])
 begun c =
     let s = c.before.before.before.before.before.before.before.before.before in
     let a = s.args in

@@ -3,13 +3,13 @@ use Prim.Native.Nat.{◌-◌, ◌≤◌}
 use native.Mathlib.Omega.{arith}
 use lib.ListN.{length}
 use lib.ListN.{drop}
-use Rattle.definitions.specs.Calls.{areAnswers}
+use Rattle.definitions.specs.Calls.{are_answers}
 use Rattle.run.proofs.Calling.{answer-stands, answer-falls, answers-end}
 use Rattle.run.proofs.are_answers.Statement.{statement}
 use Rattle.run.proofs.are_answers.Tie as tie
 
 abbrev invariant-loop : tie.invariant-loop
-invariant-loop answers i₀ i = (i ≤ length answers) × (areAnswers answers ≡ areAnswers (drop i answers))
+invariant-loop answers i₀ i = (i ≤ length answers) × (are_answers answers ≡ are_answers (drop i answers))
 
 abbrev decreases-loop : tie.decreases-loop
 decreases-loop answers i₀ i = length answers - i

@@ -1,12 +1,12 @@
 use native.Mathlib.Omega.{arith}
 use mathlib.Core.Path.{refl}
-use Rattle.definitions.specs.Sheet.{is_call, oneIf}
+use Rattle.definitions.specs.Sheet.{is_call, one_if}
 use Rattle.tally.proofs.Counting.{kind-is, no_call}
 use Rattle.tally.proofs.call.Statement.{statement}
 use Rattle.tally.proofs.call.Tie as tie
 
 pub call-spec : {M : Type 1} → statement M
-unfolding is_call oneIf
+unfolding is_call one_if
 call-spec = tie.close (tie.spec
     (λ c. (kind-is is_call _ 31 1 c.if1.true refl, omega arith))  -- returns
     (λ c. (kind-is is_call _ 32 1 c.if2.true refl, omega arith))  -- returns-2

@@ -3,14 +3,14 @@ use native.Mathlib.Omega.{arith}
 use borrow.Author.Rules.{rules}
 use Prim.Native.Nat.{◌-◌}
 use lib.ListN.{length, drop}
-use Rattle.definitions.specs.Utf8.{isUtf8}
+use Rattle.definitions.specs.Utf8.{is_utf8}
 use Rattle.utf8.specs.Due.{from}
 use Rattle.utf8.proofs.Laws.{from-begin, from_more, from_last}
 use Rattle.utf8.proofs.is_utf8.Statement.{statement}
 use Rattle.utf8.proofs.is_utf8.Tie as tie
 
 abbrev invariant-loop : tie.invariant-loop
-invariant-loop bytes i₀ due₀ i due = isUtf8 bytes ≡ from due (drop i bytes)
+invariant-loop bytes i₀ due₀ i due = is_utf8 bytes ≡ from due (drop i bytes)
 
 abbrev decreases-loop : tie.decreases-loop
 decreases-loop bytes i₀ due₀ i due = length bytes - i

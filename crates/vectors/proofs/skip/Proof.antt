@@ -2,14 +2,14 @@
 use native.Mathlib.Omega.{arith}
 use mathlib.Core.Path.{◌≡◌, refl, sym, ◌∙◌}
 use mathlib.Core.Bool.{true}
-use Rattle.vectors.specs.Lines.{isEnd}
+use Rattle.vectors.specs.Lines.{is_end}
 use Rattle.vectors.proofs.Lines.{end-at-256, gone}
 use Rattle.vectors.proofs.skip.Statement.{statement}
 use Rattle.vectors.proofs.skip.Tie as tie
 
 abbrev invariant-loop : tie.invariant-loop
 invariant-loop piece₀ at-tab now₀ turns₀ piece now turns =
-    (now.is_good ≡ now₀.is_good) × (isEnd at-tab now₀.last ≡ true → (turns ≡ turns₀) × (now ≡ now₀) × (piece ≡ piece₀))
+    (now.is_good ≡ now₀.is_good) × (is_end at-tab now₀.last ≡ true → (turns ≡ turns₀) × (now ≡ now₀) × (piece ≡ piece₀))
 
 -- the turns that are left
 abbrev decreases-loop : tie.decreases-loop

@@ -1,11 +1,11 @@
-use Rattle.parts.specs.Places.{nameEnd}
+use Rattle.parts.specs.Places.{name_end}
 use borrow.Author.Rules.{rules}
 use native.Mathlib.Omega.{arith}
 use mathlib.Core.Logic.{inl, inr}
 use mathlib.Core.Path.{refl, ap, ◌∙◌}
 use Prim.Native.Nat.{ℕ, ◌+◌, ◌*◌, ◌<◌}
 use Rattle.exprs.proofs.ExprViews.{expr-inside, expr-deep, expr-known, view-unary, view-binary, view-call, view-attribute, view-list, view-dict, view-tuple, view-set, view-tree-set, view-index, view-lambda, view-exprs-more}
-use Rattle.state.specs.State.{slotNames}
+use Rattle.state.specs.State.{slot_names}
 use Rattle.slots.proofs.Referring.{list-reads, list-is, dict-reads, dict-is, body-there}
 use Rattle.fits.proofs.Walking.{walks_next, walks-over, next-walks, over-walks, first-over, second_walks, left-start, left-next, left_over, left-done, lambda-over, slots-few, inner-short}
 use Rattle.fits.proofs.ExprKinds.{fits-unary, fits-binary, fits-call, fits-attribute, fits-dict, fits-display, fits-index, fits-lambda, fits-simple, fits-plain, simple-kinds, second-there, list-there, name-there, second-moved, list-moved, fits-list, ExprsLeft, exprs-step, exprs-end, exprs-ok, collected-at, lambda-body, long-enough}
@@ -141,7 +141,7 @@ fits-attribute-ok t = fits-attribute-lts.spec (fits-expr-below t, fits-expr.Post
     (λ c. search rules)  -- enum_told
     (λ c. over-walks _ _ (walks-over _ _ _ c.before.before.fits-expr.ensures c.enum_told.given.1))  -- returns
     (λ c κs. name-there _ _ _ _ (walks_next _ _ _ _ c.before.before.before.fits-expr.ensures c.before.object.given.1).0 c.before.before.before.before.before.before.requires.1.1)  -- name-end-requires
-    (λ c. let z = walks_next _ _ _ _ c.before.before.before.before.fits-expr.ensures c.before.before.object.given.1 in next-walks _ _ _ (c.name-end.ensures ∙ ap (nameEnd _) z.0) z.1)  -- returns-2
+    (λ c. let z = walks_next _ _ _ _ c.before.before.before.before.fits-expr.ensures c.before.before.object.given.1 in next-walks _ _ _ (c.name-end.ensures ∙ ap (name_end _) z.0) z.1)  -- returns-2
 
 fits-call-ok : {M : Type 1} (t : ℕ) → fits-call-lts.Closed (fits-expr-below t, fits-expr.Post, fits-list-below t, fits-list.Post) (fits-call-at t) fits-call.Post M
 fits-call-ok t = fits-call-lts.spec (fits-expr-below t, fits-expr.Post, fits-list-below t, fits-list.Post) (fits-call-at t) fits-call.Post
@@ -226,7 +226,7 @@ fits-list-ok t = fits-list-lts.spec (u16-at-reads.Asked, u16-at-reads.Learnt, fi
     (λ c. fits-list _ _ _ _ (list-is _ _ _ _ c.before.u16-at.ensures.0) c.fits-many.ensures)  -- returns
 
 abbrev fits-many-Inv-loop : fits-many-lts.invariant-loop
-fits-many-Inv-loop tree at depth count slots p₀ left₀ p left = ExprsLeft depth tree (slotNames tree slots) left₀ p₀ left p
+fits-many-Inv-loop tree at depth count slots p₀ left₀ p left = ExprsLeft depth tree (slot_names tree slots) left₀ p₀ left p
 
 abbrev fits-many-μ-loop : fits-many-lts.decreases-loop
 fits-many-μ-loop tree at depth count slots p₀ left₀ p left = left
@@ -245,7 +245,7 @@ fits-many-ok t = fits-many-lts.spec (fits-expr-below t, fits-expr.Post) (fits-ma
     (λ c. left_over _ _ _ _ _ _ _ c.before.before.before.before.before.before.loop.invariant _ _ _ (exprs-step _ _ _ _ _ c.before.before.before.before.before.before.loop.invariant.reads c.before.before.before.before.before.loop-test.true) c.before.before.fits-expr.ensures c.enum_told.given.1)  -- returns
     (λ c. omega arith)  -- loop-less-2
     (λ c. left-next _ _ _ _ _ _ _ c.before.before.before.before.before.before.before.loop.invariant _ _ _ _ (exprs-step _ _ _ _ _ c.before.before.before.before.before.before.before.loop.invariant.reads c.before.before.before.before.before.before.loop-test.true) c.before.before.before.fits-expr.ensures c.before.one.given.1)  -- loop-again-2
-    (λ c. left-done _ _ _ _ _ _ _ c.before.loop.invariant (exprs-end _ _ (slotNames c.before.before.before.before.args.tree.now c.before.before.before.before.args.slots.now) _ _ c.before.loop.invariant.reads c.loop-test.false) (exprs-ok _ _ _ _ _ c.before.loop.invariant.reads c.loop-test.false))  -- returns-2
+    (λ c. left-done _ _ _ _ _ _ _ c.before.loop.invariant (exprs-end _ _ (slot_names c.before.before.before.before.args.tree.now c.before.before.before.before.args.slots.now) _ _ c.before.loop.invariant.reads c.loop-test.false) (exprs-ok _ _ _ _ _ c.before.loop.invariant.reads c.loop-test.false))  -- returns-2
 
 fits-two-ok : {M : Type 1} (t : ℕ) → fits-two-lts.Closed (fits-expr-below t, fits-expr.Post) (fits-two-at t) fits-two.Post M
 fits-two-ok t = fits-two-lts.spec (fits-expr-below t, fits-expr.Post) (fits-two-at t) fits-two.Post

@@ -3,7 +3,7 @@ use native.Mathlib.Omega.{arith}
 use mathlib.Core.Path.{refl}
 use Prim.Native.Nat.{ℕ, ◌+◌, ◌-◌, ◌*◌, ◌<◌}
 use Rattle.tree.proofs.StmtViews.{stmt-inside, stmt-deep, stmt-known, view-expr, view-return, view-assign, view-if, view-while, view-for, view-def, view-class, view-block, view-stmts-more, view-branches-more, view-methods-more, else-inside}
-use Rattle.state.specs.State.{slotNames}
+use Rattle.state.specs.State.{slot_names}
 use Rattle.slots.proofs.Gathering.{elifs-counted, elifs-read, elifs-are, else-reads}
 use Rattle.fits.proofs.Walking.{walks_next, first-over, second_walks, left-start, left-next, left_over, left-done, left_as, def-over, def-few, def-short}
 use Rattle.fits.proofs.ExprKinds.{long-enough}
@@ -159,7 +159,7 @@ fits-stmt-below t =
     and 2 fits-stmt-kinds.ps (falls 2 fits-stmt-kinds.ps ◌<◌ μ-fits-stmt t) fits-stmt.Pre
 
 abbrev fits-block-Inv-loop : fits-block-lts.invariant-loop
-fits-block-Inv-loop tree at depth slots left₀ p₀ left p = StmtsLeft depth tree (slotNames tree slots) left₀ p₀ left p
+fits-block-Inv-loop tree at depth slots left₀ p₀ left p = StmtsLeft depth tree (slot_names tree slots) left₀ p₀ left p
 
 abbrev fits-block-μ-loop : fits-block-lts.decreases-loop
 fits-block-μ-loop tree at depth slots left₀ p₀ left p = left
@@ -176,7 +176,7 @@ fits-block-ok t = fits-block-lts.spec (u16-at-reads.Asked, u16-at-reads.Learnt, 
     (λ c. omega arith)  -- sub-left
     (λ c. omega arith)  -- loop-less
     (λ c. left-next _ _ _ _ _ _ _ c.before.before.before.before.before.loop.invariant _ _ _ _ (stmts-step _ _ _ _ _ c.before.before.before.before.before.loop.invariant.reads c.before.before.before.before.loop-test.true) c.before.before.before.fits-stmt.ensures c.before.one.given.1)  -- loop-again
-    (λ c. fits-block _ _ _ _ c.before.before.before.before.before.requires.1.1 c.before.before.u16-at.ensures.0 _ _ (left-done _ _ _ _ _ _ _ c.before.loop.invariant (stmts-end _ _ (slotNames c.before.before.before.before.before.args.tree.now c.before.before.before.before.before.args.slots.now) _ _ c.before.loop.invariant.reads c.loop-test.false) (stmts-ok _ _ _ _ _ c.before.loop.invariant.reads c.loop-test.false)))  -- returns-2
+    (λ c. fits-block _ _ _ _ c.before.before.before.before.before.requires.1.1 c.before.before.u16-at.ensures.0 _ _ (left-done _ _ _ _ _ _ _ c.before.loop.invariant (stmts-end _ _ (slot_names c.before.before.before.before.before.args.tree.now c.before.before.before.before.before.args.slots.now) _ _ c.before.loop.invariant.reads c.loop-test.false) (stmts-ok _ _ _ _ _ c.before.loop.invariant.reads c.loop-test.false)))  -- returns-2
 
 fits-branch-ok : {M : Type 1} (t : ℕ) → fits-branch-lts.Closed (fits-expr-reads.Asked, fits-expr-reads.Learnt, fits-block-below t, fits-block.Post) (fits-branch-at t) fits-branch.Post M
 fits-branch-ok t = fits-branch-lts.spec (fits-expr-reads.Asked, fits-expr-reads.Learnt, fits-block-below t, fits-block.Post) (fits-branch-at t) fits-branch.Post
@@ -236,7 +236,7 @@ fits-def-ok t = fits-def-lts.spec (name-end-reads.Asked, name-end-reads.Learnt, 
     c.before.before.before.before.before.before.before.collect-locals.auto.1.1.1.1.0) c.fits-block.ensures)  -- returns-2
 
 abbrev fits-elifs-Inv-loop : fits-elifs-lts.invariant-loop
-fits-elifs-Inv-loop tree at depth count slots p₀ left₀ p left = BranchesLeft depth tree (slotNames tree slots) left₀ p₀ left p
+fits-elifs-Inv-loop tree at depth count slots p₀ left₀ p left = BranchesLeft depth tree (slot_names tree slots) left₀ p₀ left p
 
 abbrev fits-elifs-μ-loop : fits-elifs-lts.decreases-loop
 fits-elifs-μ-loop tree at depth count slots p₀ left₀ p left = left
@@ -251,7 +251,7 @@ fits-elifs-ok t = fits-elifs-lts.spec (fits-branch-below t, fits-branch.Post, fi
     (λ c. omega arith)  -- sub-left
     (λ c. omega arith)  -- loop-less
     (λ c. left-next _ _ _ _ _ _ _ c.before.before.before.before.before.loop.invariant _ _ _ _ (branches-step _ _ _ _ _ c.before.before.before.before.before.loop.invariant.reads c.before.before.before.before.loop-test.true) c.before.before.before.fits-branch.ensures c.before.one.given.1)  -- loop-again
-    (λ c κs. (omega arith, (c.before.before.before.before.requires.1.0, branches-last _ _ (slotNames c.before.before.before.before.args.tree.now c.before.before.before.before.args.slots.now) _ _ c.before.loop.invariant.reads c.loop-test.false)))  -- fits-else-requires
+    (λ c κs. (omega arith, (c.before.before.before.before.requires.1.0, branches-last _ _ (slot_names c.before.before.before.before.args.tree.now c.before.before.before.before.args.slots.now) _ _ c.before.loop.invariant.reads c.loop-test.false)))  -- fits-else-requires
     (λ c. left_as _ _ _ _ _ _ _ c.before.before.loop.invariant _ (branches-none _ _ _ _ _ c.before.before.loop.invariant.reads _ c.before.loop-test.false c.fits-else.ensures))  -- returns-2
 
 fits-else-ok : {M : Type 1} (t : ℕ) → fits-else-lts.Closed (fits-block-below t, fits-block.Post) (fits-else-at t) fits-else.Post M

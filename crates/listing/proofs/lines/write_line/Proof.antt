@@ -1,13 +1,13 @@
 use borrow.Author.Rules.{rules}
 use native.Mathlib.Omega.{arith}
 use Rattle.definitions.proofs.Listing.{five-digits}
-use Rattle.columns.specs.Fields.{fieldText}
+use Rattle.columns.specs.Fields.{field_text}
 use Rattle.listing.proofs.LineLaws.{first-room, second-room, line-in, line-written, line_same}
 use Rattle.listing.proofs.lines.write_line.Statement.{statement}
 use Rattle.listing.proofs.lines.write_line.Tie as tie
 
 pub write-line-spec : {M : Type 1} → statement M
-unfolding fieldText
+unfolding field_text
 write-line-spec = tie.close (tie.spec
     (λ c κs. c.before.requires.2.first)  -- first-shown-requires
     (λ c κs. search rules)  -- second-shown-requires

@@ -1,13 +1,13 @@
 use borrow.Author.Rules.{rules}
 use native.Mathlib.Omega.{arith}
 use Rattle.definitions.proofs.Listing.{six-digits}
-use Rattle.columns.specs.Fields.{fieldText}
+use Rattle.columns.specs.Fields.{field_text}
 use Rattle.listing.proofs.LineLaws.{page-written, page-same}
 use Rattle.listing.proofs.lines.write_page.Statement.{statement}
 use Rattle.listing.proofs.lines.write_page.Tie as tie
 
 pub write-page-spec : {M : Type 1} → statement M
-unfolding fieldText
+unfolding field_text
 write-page-spec = tie.close (tie.spec
     (λ c. search rules)  -- slice-aggregate-write-bytes
     (λ c κs. search rules)  -- write-bytes-requires

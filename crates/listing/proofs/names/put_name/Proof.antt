@@ -4,14 +4,14 @@ use mathlib.Core.List.{List}
 use Prim.Native.Nat.{ℕ}
 use Rattle.definitions.specs.Bytes.{concat}
 use Rattle.definitions.specs.Calls.{written}
-use Rattle.definitions.specs.Instruction.{instructionTable}
-use Rattle.definitions.specs.Columns.{spaces, leftIn}
-use Rattle.listing.proofs.NameTable.{nameRow, names, name-at}
+use Rattle.definitions.specs.Instruction.{instruction_table}
+use Rattle.definitions.specs.Columns.{spaces, left_in}
+use Rattle.listing.proofs.NameTable.{name_row, names, name-at}
 use Rattle.listing.proofs.names.put_name.Statement.{statement}
 use Rattle.listing.proofs.names.put_name.Tie as tie
 
 pub put-name-spec : {M : Type 1} → statement M
-unfolding names nameRow concat instructionTable leftIn spaces
+unfolding names name_row concat instruction_table left_in spaces
 put-name-spec = tie.close (tie.spec
     (λ c. search rules)  -- mul-from
     (λ c. search rules)  -- add-to

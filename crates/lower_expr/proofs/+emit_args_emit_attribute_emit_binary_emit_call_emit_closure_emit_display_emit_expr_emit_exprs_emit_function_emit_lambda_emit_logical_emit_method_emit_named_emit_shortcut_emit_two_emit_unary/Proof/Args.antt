@@ -2,9 +2,9 @@ use Prim.Native.Nat.{ℕ}
 use mathlib.Core.Path.{refl, ap, ◌∙◌}
 use native.Mathlib.Omega.{arith}
 use Rattle.definitions.specs.Tables.{one}
-use Rattle.parts.specs.Places.{countAt}
+use Rattle.parts.specs.Places.{count_at}
 use Rattle.state.proofs.Growth.{lengthens-one}
-use Rattle.lower_forms.specs.Lowerable.{callInstr}
+use Rattle.lower_forms.specs.Lowerable.{call_instr}
 use Rattle.lower_forms.proofs.ExprArms.{many-at}
 use Rattle.lower_emit.proofs.Steps.{sound-of, room-sound, put-lifts, sound-next, lowers_then, lowers-stopped}
 use Rattle.lower_names.specs.Naming.{callee_in}
@@ -40,8 +40,8 @@ emit-args-ok t = emit-args-lts.spec (u16-at-reads.Asked, u16-at-reads.Learnt, em
     (λ c. let at-put-call = c.before.before in let at-if1 = at-put-call.before.before.before in let at-emit-exprs = at-if1.before.before.before.before.before in
     let at-u16-at = at-emit-exprs.before.before.before.before.before in let start = at-u16-at.before.before.before.before.before in
     let y = many_by _ _ _ _ _ _ _ at-u16-at.u16-at.ensures.0 refl at-emit-exprs.emit-exprs.ensures in
-    lowers_then (λ x. one (callInstr (callee_in start.args.callee) (countAt start.args.tree.now start.args.at))) (λ x. x) at-if1.if1.false (sound-of start.requires.1.0) y (put-lifts _ (sound-next at-if1.if1.false y) (omega (
+    lowers_then (λ x. one (call_instr (callee_in start.args.callee) (count_at start.args.tree.now start.args.at))) (λ x. x) at-if1.if1.false (sound-of start.requires.1.0) y (put-lifts _ (sound-next at-if1.if1.false y) (omega (
       arith,
       at-if1.if1.false,
     )) (call-instr _ _ _ (omega (arith, at-u16-at.u16-at.ensures.0, start.requires.1.1.few)) start.requires.1.2
-    ∙ ap (λ (m : ℕ). callInstr (callee_in start.args.callee) m) at-u16-at.u16-at.ensures.0) at-put-call.put-call.ensures))  -- returns-2
+    ∙ ap (λ (m : ℕ). call_instr (callee_in start.args.callee) m) at-u16-at.u16-at.ensures.0) at-put-call.put-call.ensures))  -- returns-2

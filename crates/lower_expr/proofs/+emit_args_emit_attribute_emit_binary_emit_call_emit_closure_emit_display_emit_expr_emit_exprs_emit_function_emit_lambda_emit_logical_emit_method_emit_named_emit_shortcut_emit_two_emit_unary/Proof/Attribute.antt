@@ -3,7 +3,7 @@ use mathlib.Core.Path.{refl, sym, ◌∙◌}
 use native.Mathlib.Omega.{arith}
 use Rattle.definitions.specs.Instruction.{LoadAttr}
 use Rattle.definitions.specs.Tables.{one, intern}
-use Rattle.parts.specs.Places.{nameEnd}
+use Rattle.parts.specs.Places.{name_end}
 use Rattle.state.specs.Words.{name_at}
 use Rattle.state.proofs.Growth.{lengthens-one, lengthens-intern}
 use Rattle.lower_emit.proofs.Packing.{plain-above}
@@ -52,4 +52,4 @@ emit-attribute-ok t = emit-attribute-lts.spec (emit-expr-below t, emit-expr.Post
     (λ c. let at-emit-symbol = c.before.before.before.before in let at-name-end = at-emit-symbol.before in let at-if1 = at-name-end.before.before.before.before.before in
     let at-emit-expr = at-if1.before.before.before.before.before in
     let start = at-emit-expr.before.before.before.before.before.before.before.before.before in
-    lowers_then (λ x. intern (name_at start.args.tree.now x) (λ k. one (LoadAttr k))) (λ x. nameEnd start.args.tree.now x) at-if1.if1.false (sound-of start.requires.1.0) at-emit-expr.emit-expr.ensures (lowers-by at-emit-symbol.emit-symbol.ensures refl (sym at-name-end.name-end.ensures)))  -- returns-2
+    lowers_then (λ x. intern (name_at start.args.tree.now x) (λ k. one (LoadAttr k))) (λ x. name_end start.args.tree.now x) at-if1.if1.false (sound-of start.requires.1.0) at-emit-expr.emit-expr.ensures (lowers-by at-emit-symbol.emit-symbol.ensures refl (sym at-name-end.name-end.ensures)))  -- returns-2

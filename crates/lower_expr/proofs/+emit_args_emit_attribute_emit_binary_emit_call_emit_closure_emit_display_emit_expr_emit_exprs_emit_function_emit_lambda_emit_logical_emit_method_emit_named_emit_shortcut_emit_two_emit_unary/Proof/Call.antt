@@ -3,11 +3,11 @@ use mathlib.Core.Path.{refl, ap, ◌∙◌}
 use native.Mathlib.Omega.{arith}
 use Rattle.definitions.specs.Tables.{one, ◌⨟◌}
 use Rattle.definitions.specs.Lower.{Callee}
-use Rattle.parts.specs.Places.{countAt}
-use Rattle.exprs.specs.ExprAt.{exprAt, listAt}
-use Rattle.state.specs.State.{slotNames}
+use Rattle.parts.specs.Places.{count_at}
+use Rattle.exprs.specs.ExprAt.{expr_at, list_at}
+use Rattle.state.specs.State.{slot_names}
 use Rattle.state.proofs.Growth.{lengthens-one, lengthens-seq, lengthens-exprs}
-use Rattle.lower_forms.specs.Lowerable.{exprCode, exprsCode, callInstr}
+use Rattle.lower_forms.specs.Lowerable.{expr_code, exprs_code, call_instr}
 use Rattle.lower_forms.proofs.ExprArms.{args_at, arm-inside}
 use Rattle.lower_forms.proofs.CallForms.{call-named, call-method}
 use Rattle.lower_expr.proofs.Calls.{call-value}
@@ -74,5 +74,5 @@ emit-call-ok t = emit-call-lts.spec (emit-named-below t, emit-named.Post, emit-m
     let at-emit-expr = at-if3.before.before.before.before.before in let at-if2 = at-emit-expr.before.before.before.before.before in let at-if1 = at-if2.before in
     let start = at-if1.before.before.before.before.before.before in
     let e = at-emit-expr.emit-expr.ensures in
-    lowers-by (lowers_then (λ x. exprsCode start.args.depth (countAt start.args.tree.now x) start.args.tree.now (slotNames start.args.tree.now start.args.slots.now) (x + 2) ⨟ one (callInstr (callee_in (34 * 65536)) (countAt start.args.tree.now x))) (λ x. (listAt start.args.depth start.args.tree.now x).end) at-if3.if3.false (sound-of start.requires.1.0) e at-emit-args.emit-args.ensures) (call-value _ _ _ start.requires.1.1 _ at-if1.if1.false at-if2.if2.false
-    ∙ ap (λ (c : Callee). exprCode start.args.depth start.args.tree.now (slotNames start.args.tree.now start.args.slots.now) start.args.at ⨟ exprsCode start.args.depth (countAt start.args.tree.now (exprAt start.args.depth start.args.tree.now start.args.at).end) start.args.tree.now (slotNames start.args.tree.now start.args.slots.now) ((exprAt start.args.depth start.args.tree.now start.args.at).end + 2) ⨟ one (callInstr c (countAt start.args.tree.now (exprAt start.args.depth start.args.tree.now start.args.at).end))) value_same) refl)  -- returns-4
+    lowers-by (lowers_then (λ x. exprs_code start.args.depth (count_at start.args.tree.now x) start.args.tree.now (slot_names start.args.tree.now start.args.slots.now) (x + 2) ⨟ one (call_instr (callee_in (34 * 65536)) (count_at start.args.tree.now x))) (λ x. (list_at start.args.depth start.args.tree.now x).end) at-if3.if3.false (sound-of start.requires.1.0) e at-emit-args.emit-args.ensures) (call-value _ _ _ start.requires.1.1 _ at-if1.if1.false at-if2.if2.false
+    ∙ ap (λ (c : Callee). expr_code start.args.depth start.args.tree.now (slot_names start.args.tree.now start.args.slots.now) start.args.at ⨟ exprs_code start.args.depth (count_at start.args.tree.now (expr_at start.args.depth start.args.tree.now start.args.at).end) start.args.tree.now (slot_names start.args.tree.now start.args.slots.now) ((expr_at start.args.depth start.args.tree.now start.args.at).end + 2) ⨟ one (call_instr c (count_at start.args.tree.now (expr_at start.args.depth start.args.tree.now start.args.at).end))) value_same) refl)  -- returns-4

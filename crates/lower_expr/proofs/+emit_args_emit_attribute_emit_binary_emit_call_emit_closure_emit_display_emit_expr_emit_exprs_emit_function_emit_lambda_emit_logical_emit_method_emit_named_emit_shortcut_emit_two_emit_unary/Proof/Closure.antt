@@ -6,7 +6,7 @@ use lib.ListN.{length, drop, get_or, length-drop}
 use Rattle.definitions.specs.Instruction.{MakeClosure}
 use Rattle.definitions.specs.Tables.{one, ◌⨟◌}
 use Rattle.definitions.specs.Lower.{loads}
-use Rattle.state.specs.State.{names_at, slotsFrom, slotNames}
+use Rattle.state.specs.State.{names_at, slots_from, slot_names}
 use Rattle.state.proofs.Views.{function-count}
 use Rattle.state.proofs.Growth.{lengthens-one, lengthens-seq, lengthens-loads}
 use Rattle.lower_leaves.proofs.LambdaState.{closure-state, captured-as, captured-held, captured-few}
@@ -31,15 +31,15 @@ emit-closure-ok t = emit-closure-lts.spec (emit-function-below t, emit-function.
     let start = at-emit-function.before.before.before.before.before.before.before.before.before.before.before in
     lowers-state (lowers-stopped at-if1.if1.true (sound-of start.requires.1.0) (lengthens-seq (lengthens-loads _ _) (lengthens-one _)) at-emit-function.emit-function.ensures) (closure-state _ _ _ _ _ _ _ _ _ (sym (function-count _ _ _ _ _ _ start.requires.1.0.ready.sound))))  -- returns
     (λ c. let start = c.before.before.before.before.before.before.before.before.before.before.before.before.before.before.before.before in
-    omega (arith, start.requires.1.1.params, start.requires.1.1.few, length-drop slotsFrom start.args.inner.now, start.requires.1.3.room))  -- add-a
+    omega (arith, start.requires.1.1.params, start.requires.1.1.few, length-drop slots_from start.args.inner.now, start.requires.1.3.room))  -- add-a
     (λ c. let start = c.before.before.before.before.before.before.before.before.before.before.before.before.before.before.before.before in
-    omega (arith, start.requires.1.1.params, start.requires.1.1.few, length-drop slotsFrom start.args.inner.now, start.requires.1.3.room))  -- mul-end-closure
+    omega (arith, start.requires.1.1.params, start.requires.1.1.few, length-drop slots_from start.args.inner.now, start.requires.1.3.room))  -- mul-end-closure
     (λ c. let start = c.before.before.before.before.before.before.before.before.before.before.before.before.before.before.before.before in
-    omega (arith, start.requires.1.1.params, start.requires.1.1.few, length-drop slotsFrom start.args.inner.now, start.requires.1.3.room))  -- sub-end-closure
+    omega (arith, start.requires.1.1.params, start.requires.1.1.few, length-drop slots_from start.args.inner.now, start.requires.1.3.room))  -- sub-end-closure
     (λ c. let start = c.before.before.before.before.before.before.before.before.before.before.before.before.before.before.before.before in
-    omega (arith, start.requires.1.1.params, start.requires.1.1.few, length-drop slotsFrom start.args.inner.now, start.requires.1.3.room))  -- part-end-closure-start
+    omega (arith, start.requires.1.1.params, start.requires.1.1.few, length-drop slots_from start.args.inner.now, start.requires.1.3.room))  -- part-end-closure-start
     (λ c. let start = c.before.before.before.before.before.before.before.before.before.before.before.before.before.before.before.before in
-    omega (arith, start.requires.1.1.params, start.requires.1.1.few, length-drop slotsFrom start.args.inner.now, start.requires.1.3.room))  -- part-end-closure-end
+    omega (arith, start.requires.1.1.params, start.requires.1.1.few, length-drop slots_from start.args.inner.now, start.requires.1.3.room))  -- part-end-closure-end
     (λ c κs. let at-if1 = c.before.before.before in let at-emit-function = at-if1.before.before.before.before.before in
     let start = at-emit-function.before.before.before.before.before.before.before.before.before.before.before in (
       room-sound (sound-next at-if1.if1.false at-emit-function.emit-function.ensures),
@@ -57,4 +57,4 @@ emit-closure-ok t = emit-closure-lts.spec (emit-function-below t, emit-function.
     let start = at-emit-function.before.before.before.before.before.before.before.before.before.before.before in let e = at-emit-function.emit-function.ensures in
     let S = sound-next at-if1.if1.false e in
     let x = at-end-closure.end-closure.ensures.lowers _ _ S in
-    lowers-state (lowers_then (λ x. loads (slotNames start.args.tree.now start.args.slots.now) (names_at start.args.tree.now (drop start.args.arity (drop slotsFrom start.args.inner.now))) ⨟ one (MakeClosure (get_or start.args.k.now 2 0) (length (drop start.args.arity (drop slotsFrom start.args.inner.now))))) (λ x. x) at-if1.if1.false (sound-of start.requires.1.0) e (record { emits = captured-as start.args.arity start.args.inner.now _ _ _ _ _ _ _ _ _ _ _ _ _ x.emits; numbers = x.numbers })) (closure-state _ _ _ _ _ _ _ _ _ (sym (function-count _ _ _ _ _ _ start.requires.1.0.ready.sound))))  -- returns-2
+    lowers-state (lowers_then (λ x. loads (slot_names start.args.tree.now start.args.slots.now) (names_at start.args.tree.now (drop start.args.arity (drop slots_from start.args.inner.now))) ⨟ one (MakeClosure (get_or start.args.k.now 2 0) (length (drop start.args.arity (drop slots_from start.args.inner.now))))) (λ x. x) at-if1.if1.false (sound-of start.requires.1.0) e (record { emits = captured-as start.args.arity start.args.inner.now _ _ _ _ _ _ _ _ _ _ _ _ _ x.emits; numbers = x.numbers })) (closure-state _ _ _ _ _ _ _ _ _ (sym (function-count _ _ _ _ _ _ start.requires.1.0.ready.sound))))  -- returns-2

@@ -3,10 +3,10 @@ use mathlib.Core.Path.{refl, ap, ◌∙◌}
 use native.Mathlib.Omega.{arith}
 use Rattle.definitions.specs.Instruction.{Build}
 use Rattle.definitions.specs.Tables.{one}
-use Rattle.parts.specs.Places.{countAt}
+use Rattle.parts.specs.Places.{count_at}
 use Rattle.state.proofs.Growth.{lengthens-one}
 use Rattle.lower_emit.proofs.Packing.{instr-plain, plain-above}
-use Rattle.opcodes.specs.Codes.{displayOf, held_of}
+use Rattle.opcodes.specs.Codes.{display_of, held_of}
 use Rattle.opcodes.proofs.Opcodes.{build-as}
 use Rattle.lower_forms.proofs.ExprArms.{many-at}
 use Rattle.lower_emit.proofs.Steps.{sound-of, room-sound, put-lifts, sound-next, lowers_then, lowers-stopped, lowers-by}
@@ -71,7 +71,7 @@ emit-display-ok t = emit-display-lts.spec (
     let start = at-u16-at.before.before.before.before.before in let u = at_held.held.ensures ∙ ap (held_of start.args.kind) at-u16-at.u16-at.ensures.0 in
     let y = many_by _ _ _ _ _ _ _ u refl at-emit-exprs.emit-exprs.ensures in
     let b = at-build-code.build-code.ensures in
-    lowers_then (λ x. one (Build (displayOf start.args.kind) (countAt start.args.tree.now start.args.at))) (λ x. x) at-if1.if1.false (sound-of start.requires.1.0) y (lowers-by (put-lifts _ (sound-next at-if1.if1.false y) (omega (
+    lowers_then (λ x. one (Build (display_of start.args.kind) (count_at start.args.tree.now start.args.at))) (λ x. x) at-if1.if1.false (sound-of start.requires.1.0) y (lowers-by (put-lifts _ (sound-next at-if1.if1.false y) (omega (
       arith,
       at-if1.if1.false,
     )) (instr-plain _ _ _ 0 (plain-above _ _ 0 b.1 b.2 at-u16-at.u16-at.ensures.1 (omega arith))) at-put-op.put-op.ensures) (build-as _ _ _ _ b.0 at-u16-at.u16-at.ensures.0) refl))  -- returns-2

@@ -1,7 +1,7 @@
 use Prim.Native.Nat.{ℕ}
 use mathlib.Core.Path.{◌∙◌}
 use native.Mathlib.Omega.{arith}
-use Rattle.state.specs.State.{slotNames}
+use Rattle.state.specs.State.{slot_names}
 use Rattle.lower_forms.proofs.Elements.{more-view}
 use Rattle.lower_emit.proofs.Steps.{room_of}
 use Rattle.lower_expr.proofs.Several.{ExprsRest, rest1-all, rest1-ready, rest1-next, rest1-over, rest1-done, rest1-constants}
@@ -13,14 +13,14 @@ use Rattle.lower_expr.proofs.+emit_args_emit_attribute_emit_binary_emit_call_emi
 use Rattle.lower_expr.proofs.+emit_args_emit_attribute_emit_binary_emit_call_emit_closure_emit_display_emit_expr_emit_exprs_emit_function_emit_lambda_emit_logical_emit_method_emit_named_emit_shortcut_emit_two_emit_unary.Proof.Common.{emit-expr-below}
 
 abbrev Inv-loop : emit-exprs-lts.invariant-loop
-Inv-loop tree at depth n slots made₀ code₀ tables₀ k₀ l left₀ p₀ made code tables k left p = ExprsRest depth tree (slotNames tree slots) made₀ code₀ tables₀ k₀ l left₀ p₀ made code tables k left p
+Inv-loop tree at depth n slots made₀ code₀ tables₀ k₀ l left₀ p₀ made code tables k left p = ExprsRest depth tree (slot_names tree slots) made₀ code₀ tables₀ k₀ l left₀ p₀ made code tables k left p
 
 abbrev μ-loop : emit-exprs-lts.decreases-loop
 μ-loop tree at depth n slots made₀ code₀ tables₀ k₀ l left₀ p₀ made code tables k left p = left
 
 pub emit-exprs-ok : {M : Type 1} (t : ℕ) → emit-exprs-lts.Closed (put-constants-reads.Asked, put-constants-reads.Learnt, emit-expr-below t, emit-expr.Post) (emit-exprs-at t) emit-exprs.Post M
 emit-exprs-ok t = emit-exprs-lts.spec (put-constants-reads.Asked, put-constants-reads.Learnt, emit-expr-below t, emit-expr.Post) (emit-exprs-at t) emit-exprs.Post Inv-loop μ-loop
-    (λ c. let start = c.before.before.before.before in rest1-all (slotNames start.args.tree.now start.args.slots.now) start.requires.1.0 start.requires.1.1 start.requires.1.2)  -- loop-holds
+    (λ c. let start = c.before.before.before.before in rest1-all (slot_names start.args.tree.now start.args.slots.now) start.requires.1.0 start.requires.1.1 start.requires.1.2)  -- loop-holds
     (λ c κs. let at-loop = c.before.before.before in
     let start = at-loop.before.before.before.before.before in
     (record { depth = start.args.depth; elements = at-loop.loop.invariant.elements }, start.requires.1.0.ready.tree-short, room_of (rest1-ready at-loop.loop.invariant start.requires.1.0)))  -- put-constants-requires

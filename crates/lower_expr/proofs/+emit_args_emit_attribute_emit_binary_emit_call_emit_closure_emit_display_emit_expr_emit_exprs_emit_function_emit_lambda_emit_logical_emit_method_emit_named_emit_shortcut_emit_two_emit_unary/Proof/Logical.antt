@@ -3,10 +3,10 @@ use mathlib.Core.Path.{◌∙◌}
 use native.Mathlib.Omega.{arith}
 use lib.Dec.{eqb}
 use Rattle.definitions.specs.Lower.{shortcut}
-use Rattle.exprs.specs.ExprAt.{exprAt}
-use Rattle.state.specs.State.{slotNames}
+use Rattle.exprs.specs.ExprAt.{expr_at}
+use Rattle.state.specs.State.{slot_names}
 use Rattle.state.proofs.Growth.{lengthens-expr, lengthens-shortcut}
-use Rattle.lower_forms.specs.Lowerable.{exprCode}
+use Rattle.lower_forms.specs.Lowerable.{expr_code}
 use Rattle.lower_forms.proofs.ExprArms.{lowerable-at}
 use Rattle.lower_emit.proofs.Steps.{sound-of, done-of, ready-next, lowers_then, lowers-stopped}
 use Rattle.lower_expr.proofs.emit_expr.Reads as emit-expr
@@ -46,4 +46,4 @@ emit-logical-ok t = emit-logical-lts.spec (emit-expr-below t, emit-expr.Post, em
     (λ c. let at-emit-shortcut = c.before.before.before.before in let at-if1 = at-emit-shortcut.before.before.before.before.before in
     let at-emit-expr = at-if1.before.before.before.before.before in
     let start = at-emit-expr.before.before.before.before.before.before.before.before.before in
-    lowers_then (λ x. shortcut (eqb start.args.op 30) (exprCode start.args.depth start.args.tree.now (slotNames start.args.tree.now start.args.slots.now) x)) (λ x. (exprAt start.args.depth start.args.tree.now x).end) at-if1.if1.false (sound-of start.requires.1.0) at-emit-expr.emit-expr.ensures at-emit-shortcut.emit-shortcut.ensures)  -- returns-2
+    lowers_then (λ x. shortcut (eqb start.args.op 30) (expr_code start.args.depth start.args.tree.now (slot_names start.args.tree.now start.args.slots.now) x)) (λ x. (expr_at start.args.depth start.args.tree.now x).end) at-if1.if1.false (sound-of start.requires.1.0) at-emit-expr.emit-expr.ensures at-emit-shortcut.emit-shortcut.ensures)  -- returns-2

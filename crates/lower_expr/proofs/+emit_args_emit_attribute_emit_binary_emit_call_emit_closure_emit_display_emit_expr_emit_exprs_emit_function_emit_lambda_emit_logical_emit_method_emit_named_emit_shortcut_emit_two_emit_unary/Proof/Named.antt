@@ -2,11 +2,11 @@ use Prim.Native.Nat.{ℕ, ◌+◌}
 use mathlib.Core.Path.{refl, sym, ◌∙◌}
 use native.Mathlib.Omega.{arith}
 use Rattle.definitions.specs.Tables.{one, ◌⨟◌}
-use Rattle.parts.specs.Places.{countAt}
-use Rattle.exprs.specs.ExprAt.{listAt}
-use Rattle.state.specs.State.{slotNames}
+use Rattle.parts.specs.Places.{count_at}
+use Rattle.exprs.specs.ExprAt.{list_at}
+use Rattle.state.specs.State.{slot_names}
 use Rattle.state.proofs.Growth.{lengthens-one, lengthens-seq, lengthens-exprs}
-use Rattle.lower_forms.specs.Lowerable.{exprsCode, callInstr}
+use Rattle.lower_forms.specs.Lowerable.{exprs_code, call_instr}
 use Rattle.lower_forms.proofs.ExprArms.{args_at}
 use Rattle.lower_forms.proofs.CallForms.{callee-short}
 use Rattle.lower_expr.proofs.Calls.{named-state, functions-few}
@@ -73,4 +73,4 @@ emit-named-ok t = emit-named-lts.spec (
     let at-load-callee = at-if1.before.before.before.before.before in let at-resolve = at-load-callee.before.before.before.before.before in
     let at-name-end = at-resolve.before.before.before.before in let start = at-name-end.before.before.before.before.before in
     let e = lowers-by at-load-callee.load-callee.ensures refl (sym at-name-end.name-end.ensures) in
-    lowers-state (lowers_then (λ x. exprsCode start.args.depth (countAt start.args.tree.now x) start.args.tree.now (slotNames start.args.tree.now start.args.slots.now) (x + 2) ⨟ one (callInstr (callee_in at-resolve.resolve.result) (countAt start.args.tree.now x))) (λ x. (listAt start.args.depth start.args.tree.now x).end) at-if1.if1.false (sound-of start.requires.1.0) e at-emit-args.emit-args.ensures) (named-state _ _ _ _ _ _ _ start.requires.1.1 (at-resolve.resolve.ensures _ _ (sound-of start.requires.1.0))))  -- returns-2
+    lowers-state (lowers_then (λ x. exprs_code start.args.depth (count_at start.args.tree.now x) start.args.tree.now (slot_names start.args.tree.now start.args.slots.now) (x + 2) ⨟ one (call_instr (callee_in at-resolve.resolve.result) (count_at start.args.tree.now x))) (λ x. (list_at start.args.depth start.args.tree.now x).end) at-if1.if1.false (sound-of start.requires.1.0) e at-emit-args.emit-args.ensures) (named-state _ _ _ _ _ _ _ start.requires.1.1 (at-resolve.resolve.ensures _ _ (sound-of start.requires.1.0))))  -- returns-2

@@ -2,10 +2,10 @@ use Prim.Native.Nat.{ℕ}
 use mathlib.Core.Path.{sym, ap, ◌∙◌}
 use native.Mathlib.Omega.{arith}
 use borrow.Author.Rules.{rules}
-use Rattle.exprs.specs.ExprAt.{exprAt}
-use Rattle.state.specs.State.{slotNames}
+use Rattle.exprs.specs.ExprAt.{expr_at}
+use Rattle.state.specs.State.{slot_names}
 use Rattle.state.proofs.Growth.{lengthens-expr}
-use Rattle.lower_forms.specs.Lowerable.{exprCode}
+use Rattle.lower_forms.specs.Lowerable.{expr_code}
 use Rattle.lower_forms.proofs.ExprArms.{lowerable-at}
 use Rattle.lower_emit.proofs.Steps.{sound-of, room_of, room-sound, done-of, sound-next, ready-next, lowers-by}
 use Rattle.lower_expr.proofs.Shortcut.{jump, shortcut1-full, shortcut1-right, shortcut1-before, shortcut1-end}
@@ -42,12 +42,12 @@ emit-shortcut-ok t = emit-shortcut-lts.spec (put-op-reads.Asked, put-op-reads.Le
     (λ c. let at-if2 = c in let at-emit-expr = at-if2.before.before.before.before.before in let at-if1 = at-emit-expr.before.before.before.before.before in
     let at-put-op = at-if1.before.before.before in let start = at-put-op.before.before.before.before.before.before.before.before in
     let z = (done-of at-if1.if1.false (jump (sound-of start.requires.1.0) start.requires.1.2 start.requires.1.3 start.requires.1.4 at-put-op.put-op.ensures)).0 in
-    let y = lowers-by at-emit-expr.emit-expr.ensures (ap (λ (x : ℕ). exprCode start.args.depth start.args.tree.now (slotNames start.args.tree.now start.args.slots.now) x) (sym z)) (ap (λ (x : ℕ). (exprAt start.args.depth start.args.tree.now x).end) (sym z)) in
+    let y = lowers-by at-emit-expr.emit-expr.ensures (ap (λ (x : ℕ). expr_code start.args.depth start.args.tree.now (slot_names start.args.tree.now start.args.slots.now) x) (sym z)) (ap (λ (x : ℕ). (expr_at start.args.depth start.args.tree.now x).end) (sym z)) in
     shortcut1-right (sound-of start.requires.1.0) start.requires.1.2 start.requires.1.3 start.requires.1.4 at-put-op.put-op.ensures at-if1.if1.false y at-if2.if2.true)  -- returns-2
     (λ c κs. let at-if2 = c.before.before in let at-emit-expr = at-if2.before.before.before.before.before in let at-if1 = at-emit-expr.before.before.before.before.before in
     let at-put-op = at-if1.before.before.before in let start = at-put-op.before.before.before.before.before.before.before.before in
     let z = (done-of at-if1.if1.false (jump (sound-of start.requires.1.0) start.requires.1.2 start.requires.1.3 start.requires.1.4 at-put-op.put-op.ensures)).0 in
-    let y = lowers-by at-emit-expr.emit-expr.ensures (ap (λ (x : ℕ). exprCode start.args.depth start.args.tree.now (slotNames start.args.tree.now start.args.slots.now) x) (sym z)) (ap (λ (x : ℕ). (exprAt start.args.depth start.args.tree.now x).end) (sym z)) in (
+    let y = lowers-by at-emit-expr.emit-expr.ensures (ap (λ (x : ℕ). expr_code start.args.depth start.args.tree.now (slot_names start.args.tree.now start.args.slots.now) x) (sym z)) (ap (λ (x : ℕ). (expr_at start.args.depth start.args.tree.now x).end) (sym z)) in (
       room-sound (sound-next at-if2.if2.false y),
       shortcut1-before (sound-of start.requires.1.0) start.requires.1.2 start.requires.1.3 start.requires.1.4 at-put-op.put-op.ensures at-if1.if1.false y at-if2.if2.false,
       start.requires.1.2,
@@ -60,5 +60,5 @@ emit-shortcut-ok t = emit-shortcut-lts.spec (put-op-reads.Asked, put-op-reads.Le
     let at-if1 = at-emit-expr.before.before.before.before.before in let at-put-op = at-if1.before.before.before in
     let start = at-put-op.before.before.before.before.before.before.before.before in
     let z = (done-of at-if1.if1.false (jump (sound-of start.requires.1.0) start.requires.1.2 start.requires.1.3 start.requires.1.4 at-put-op.put-op.ensures)).0 in
-    let y = lowers-by at-emit-expr.emit-expr.ensures (ap (λ (x : ℕ). exprCode start.args.depth start.args.tree.now (slotNames start.args.tree.now start.args.slots.now) x) (sym z)) (ap (λ (x : ℕ). (exprAt start.args.depth start.args.tree.now x).end) (sym z)) in
+    let y = lowers-by at-emit-expr.emit-expr.ensures (ap (λ (x : ℕ). expr_code start.args.depth start.args.tree.now (slot_names start.args.tree.now start.args.slots.now) x) (sym z)) (ap (λ (x : ℕ). (expr_at start.args.depth start.args.tree.now x).end) (sym z)) in
     shortcut1-end (sound-of start.requires.1.0) start.requires.1.2 start.requires.1.3 start.requires.1.4 at-put-op.put-op.ensures at-if1.if1.false y at-if2.if2.false _ at-end-shortcut.end-shortcut.ensures)  -- returns-3

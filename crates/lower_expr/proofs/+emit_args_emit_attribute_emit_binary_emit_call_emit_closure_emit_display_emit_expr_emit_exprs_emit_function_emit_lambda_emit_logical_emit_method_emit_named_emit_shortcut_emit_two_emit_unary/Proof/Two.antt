@@ -3,11 +3,11 @@ use mathlib.Core.Path.{◌∙◌}
 use native.Mathlib.Omega.{arith}
 use Rattle.definitions.specs.Instruction.{instr}
 use Rattle.definitions.specs.Tables.{one, ◌⨟◌}
-use Rattle.exprs.specs.ExprAt.{exprAt}
-use Rattle.state.specs.State.{slotNames}
+use Rattle.exprs.specs.ExprAt.{expr_at}
+use Rattle.state.specs.State.{slot_names}
 use Rattle.state.proofs.Growth.{lengthens-one, lengthens-seq, lengthens-expr}
 use Rattle.lower_emit.proofs.Packing.{instr-plain}
-use Rattle.lower_forms.specs.Lowerable.{exprCode}
+use Rattle.lower_forms.specs.Lowerable.{expr_code}
 use Rattle.lower_forms.proofs.ExprArms.{lowerable-at}
 use Rattle.lower_emit.proofs.Steps.{sound-of, room-sound, put-lifts, done-of, sound-next, ready-next, lowers_then, lowers-stopped}
 use Rattle.lower_expr.proofs.emit_expr.Reads as emit-expr
@@ -37,7 +37,7 @@ emit-two-ok t = emit-two-lts.spec (emit-expr-below t, emit-expr.Post, put-op-rea
     (λ c. let at-if2 = c in let at-emit-expr2 = at-if2.before.before.before.before.before in let at-if1 = at-emit-expr2.before.before.before.before.before in
     let at-emit-expr = at-if1.before.before.before.before.before in let start = at-emit-expr.before.before.before.before.before.before.before.before.before in
     let e = at-emit-expr.emit-expr.ensures in
-    lowers_then (λ x. exprCode start.args.depth start.args.tree.now (slotNames start.args.tree.now start.args.slots.now) x ⨟ one (instr start.args.op 0 0)) (λ x. (exprAt start.args.depth start.args.tree.now x).end) at-if1.if1.false (sound-of start.requires.1.0) e (lowers-stopped at-if2.if2.true (sound-next at-if1.if1.false e) (lengthens-one _) at-emit-expr2.emit-expr2.ensures))  -- returns-2
+    lowers_then (λ x. expr_code start.args.depth start.args.tree.now (slot_names start.args.tree.now start.args.slots.now) x ⨟ one (instr start.args.op 0 0)) (λ x. (expr_at start.args.depth start.args.tree.now x).end) at-if1.if1.false (sound-of start.requires.1.0) e (lowers-stopped at-if2.if2.true (sound-next at-if1.if1.false e) (lengthens-one _) at-emit-expr2.emit-expr2.ensures))  -- returns-2
     (λ c κs. let at-if2 = c.before.before in let at-emit-expr2 = at-if2.before.before.before.before.before in
     let start = at-emit-expr2.before.before.before.before.before.before.before.before.before.before.before.before.before.before.before.before.before.before.before in
     let S = sound-next at-if2.if2.false at-emit-expr2.emit-expr2.ensures in (room-sound S, start.requires.1.2.op-byte, omega arith, omega arith))  -- put-op-requires
@@ -51,7 +51,7 @@ emit-two-ok t = emit-two-lts.spec (emit-expr-below t, emit-expr.Post, put-op-rea
     let at-if1 = at-emit-expr2.before.before.before.before.before in let at-emit-expr = at-if1.before.before.before.before.before in
     let start = at-emit-expr.before.before.before.before.before.before.before.before.before in let e = at-emit-expr.emit-expr.ensures in
     let e2 = at-emit-expr2.emit-expr2.ensures in
-    lowers_then (λ x. exprCode start.args.depth start.args.tree.now (slotNames start.args.tree.now start.args.slots.now) x ⨟ one (instr start.args.op 0 0)) (λ x. (exprAt start.args.depth start.args.tree.now x).end) at-if1.if1.false (sound-of start.requires.1.0) e (lowers_then (λ x. one (instr start.args.op 0 0)) (λ x. x) at-if2.if2.false (sound-next at-if1.if1.false e) e2 (put-lifts _ (sound-next at-if2.if2.false e2) (omega (
+    lowers_then (λ x. expr_code start.args.depth start.args.tree.now (slot_names start.args.tree.now start.args.slots.now) x ⨟ one (instr start.args.op 0 0)) (λ x. (expr_at start.args.depth start.args.tree.now x).end) at-if1.if1.false (sound-of start.requires.1.0) e (lowers_then (λ x. one (instr start.args.op 0 0)) (λ x. x) at-if2.if2.false (sound-next at-if1.if1.false e) e2 (put-lifts _ (sound-next at-if2.if2.false e2) (omega (
       arith,
       at-if2.if2.false,
     )) (instr-plain _ _ _ _ start.requires.1.2) at-put-op.put-op.ensures)))  -- returns-3

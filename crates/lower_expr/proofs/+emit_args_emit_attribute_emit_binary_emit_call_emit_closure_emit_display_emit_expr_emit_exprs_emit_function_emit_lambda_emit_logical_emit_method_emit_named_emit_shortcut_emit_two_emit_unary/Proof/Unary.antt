@@ -3,10 +3,10 @@ use mathlib.Core.Path.{refl, sym, ap, ◌∙◌}
 use native.Mathlib.Omega.{arith}
 use Rattle.definitions.specs.Instruction.{instr}
 use Rattle.definitions.specs.Tables.{one, ◌⨟◌}
-use Rattle.state.specs.State.{slotNames}
+use Rattle.state.specs.State.{slot_names}
 use Rattle.state.proofs.Growth.{lengthens-one}
 use Rattle.lower_emit.proofs.Packing.{instr-plain}
-use Rattle.lower_forms.specs.Lowerable.{exprCode}
+use Rattle.lower_forms.specs.Lowerable.{expr_code}
 use Rattle.lower_emit.proofs.Steps.{sound-of, room_of, put-lifts, sound-next, ready-next, lowers_then, lowers-stopped, lowers-by}
 use Rattle.lower_expr.proofs.emit_expr.Reads as emit-expr
 use Rattle.lower_expr.proofs.emit_unary.Reads as emit-unary
@@ -38,4 +38,4 @@ emit-unary-ok t = emit-unary-lts.spec (unary-code-reads.Asked, unary-code-reads.
     lowers-by (lowers_then (λ x. one (instr at-unary-code.unary-code.result 0 0)) (λ x. x) at-if1.if1.false (sound-of start.requires.1.0) e (put-lifts _ (sound-next at-if1.if1.false e) (omega (
       arith,
       at-if1.if1.false,
-    )) (instr-plain _ _ _ _ at-unary-code.unary-code.ensures.1) at-put-op.put-op.ensures)) (ap (λ (o : ℕ). exprCode start.args.depth start.args.tree.now (slotNames start.args.tree.now start.args.slots.now) (start.args.at + 1) ⨟ one (instr o 0 0)) (sym at-unary-code.unary-code.ensures.0)) refl)  -- returns-2
+    )) (instr-plain _ _ _ _ at-unary-code.unary-code.ensures.1) at-put-op.put-op.ensures)) (ap (λ (o : ℕ). expr_code start.args.depth start.args.tree.now (slot_names start.args.tree.now start.args.slots.now) (start.args.at + 1) ⨟ one (instr o 0 0)) (sym at-unary-code.unary-code.ensures.0)) refl)  -- returns-2

@@ -1,12 +1,12 @@
 use mathlib.Core.Path.{◌≡◌, refl, ◌∙◌}
 use native.Mathlib.Omega.{arith}
-use Rattle.lower_forms.specs.Elements.{ElementsRead, elementsEnd}
+use Rattle.lower_forms.specs.Elements.{ElementsRead, elements_end}
 use Rattle.lower_forms.proofs.Unpacking.{elements-more, end_none, step-again}
 use Rattle.lower_leaves.proofs.elements.skip_exprs.Statement.{statement}
 use Rattle.lower_leaves.proofs.elements.skip_exprs.Tie as tie
 
 abbrev invariant-loop : tie.invariant-loop
-invariant-loop tree at depth n p₀ left₀ p left = ElementsRead depth tree left p × (elementsEnd depth tree left p ≡ elementsEnd depth tree n at)
+invariant-loop tree at depth n p₀ left₀ p left = ElementsRead depth tree left p × (elements_end depth tree left p ≡ elements_end depth tree n at)
 
 abbrev decreases-loop : tie.decreases-loop
 decreases-loop tree at depth n p₀ left₀ p left = left

@@ -2,7 +2,7 @@ use Prim.Native.Nat.{ℕ}
 use mathlib.Core.Path.{refl, sym, ap, ◌∙◌}
 use native.Mathlib.Omega.{arith}
 use borrow.Author.Rules.{rules}
-use Rattle.parts.specs.Places.{countAt, nameEnd, params_at}
+use Rattle.parts.specs.Places.{count_at, name_end, params_at}
 use Rattle.lower_emit.proofs.Steps.{sound-next}
 use Rattle.lower_forms.proofs.ExprArms.{params-count}
 use Rattle.lower_forms.specs.Lowering.{end_of}
@@ -75,11 +75,11 @@ compile-function-ok t = compile-function-lts.spec (
     let at-u16-at = at-skip-params.before in let at-name-end = at-u16-at.before in let start = at-name-end.before.before.before.before in let e = at-name-end.name-end.ensures in
     let pb = at-skip-params.skip-params.ensures ∙ ap (λ (x : ℕ). (params_at start.args.tree.now x).end) e in
     let ca = framed_at _ _ e pb at-collect-locals.collect-locals.ensures in let cc = ca.framing _ _ at-collected.collected.given.1 in
-    let ea = at-u16-at.u16-at.ensures.0 ∙ ap (countAt start.args.tree.now) e ∙ sym (params-count start.args.tree.now (nameEnd start.args.tree.now start.args.at)) in (
+    let ea = at-u16-at.u16-at.ensures.0 ∙ ap (count_at start.args.tree.now) e ∙ sym (params-count start.args.tree.now (name_end start.args.tree.now start.args.at)) in (
       naming-sound (sound-sole start.requires.1.0),
       functions-sound (sound-sole start.requires.1.0),
       omega (arith, start.requires.1.1.name.byte, start.requires.1.0.sole.tree-short),
-      omega (arith, ea, params-count start.args.tree.now (nameEnd start.args.tree.now start.args.at), start.requires.1.1.few),
+      omega (arith, ea, params-count start.args.tree.now (name_end start.args.tree.now start.args.at), start.requires.1.1.few),
       omega (arith, cc.few),
     ))  -- begin-named-requires
     (λ c. let at-begin-named = c.before.before.before in at-begin-named.begin-named.auto.1.1.0)  -- same-length
@@ -88,7 +88,7 @@ compile-function-ok t = compile-function-lts.spec (
     let at-name-end = at-u16-at.before in let start = at-name-end.before.before.before.before in let e = at-name-end.name-end.ensures in
     let pb = at-skip-params.skip-params.ensures ∙ ap (λ (x : ℕ). (params_at start.args.tree.now x).end) e in
     let ca = framed_at _ _ e pb at-collect-locals.collect-locals.ensures in let cc = ca.framing _ _ at-collected.collected.given.1 in
-    let ea = at-u16-at.u16-at.ensures.0 ∙ ap (countAt start.args.tree.now) e ∙ sym (params-count start.args.tree.now (nameEnd start.args.tree.now start.args.at)) in
+    let ea = at-u16-at.u16-at.ensures.0 ∙ ap (count_at start.args.tree.now) e ∙ sym (params-count start.args.tree.now (name_end start.args.tree.now start.args.at)) in
     let en = cc.locals in
     function-over start.args.depth start.args.init (sound-sole start.requires.1.0) ea en at-begin-named.begin-named.ensures at-if1.if1.true)  -- returns-2
     (λ c. let at-collected = c.before.before.before.before.before.before.before.before.before in let at-collect-locals = at-collected.before.before.before in
@@ -114,7 +114,7 @@ compile-function-ok t = compile-function-lts.spec (
     let start = at-name-end.before.before.before.before in let e = at-name-end.name-end.ensures in
     let pb = at-skip-params.skip-params.ensures ∙ ap (λ (x : ℕ). (params_at start.args.tree.now x).end) e in
     let ca = framed_at _ _ e pb at-collect-locals.collect-locals.ensures in let cc = ca.framing _ _ at-collected.collected.given.1 in
-    let ea = at-u16-at.u16-at.ensures.0 ∙ ap (countAt start.args.tree.now) e ∙ sym (params-count start.args.tree.now (nameEnd start.args.tree.now start.args.at)) in
+    let ea = at-u16-at.u16-at.ensures.0 ∙ ap (count_at start.args.tree.now) e ∙ sym (params-count start.args.tree.now (name_end start.args.tree.now start.args.at)) in
     let en = cc.locals in (
       omega (arith, start.requires.0),
       (
@@ -138,7 +138,7 @@ compile-function-ok t = compile-function-lts.spec (
     let at-name-end = at-u16-at.before in let start = at-name-end.before.before.before.before in let e = at-name-end.name-end.ensures in
     let pb = at-skip-params.skip-params.ensures ∙ ap (λ (x : ℕ). (params_at start.args.tree.now x).end) e in
     let ca = framed_at _ _ e pb at-collect-locals.collect-locals.ensures in let cc = ca.framing _ _ at-collected.collected.given.1 in
-    let ea = at-u16-at.u16-at.ensures.0 ∙ ap (countAt start.args.tree.now) e ∙ sym (params-count start.args.tree.now (nameEnd start.args.tree.now start.args.at)) in
+    let ea = at-u16-at.u16-at.ensures.0 ∙ ap (count_at start.args.tree.now) e ∙ sym (params-count start.args.tree.now (name_end start.args.tree.now start.args.at)) in
     let en = cc.locals in
     let b = body-by start.args.depth start.args.tree.now _ _ (end_of start.args.init) _ _ pb at-emit-body.emit-body.ensures in
     let nm = part-names _ _ _ _ cc.names (omega (arith, cc.named, cc.few, at-collect-locals.collect-locals.auto.1.1.1.1.0)) in
@@ -151,7 +151,7 @@ compile-function-ok t = compile-function-lts.spec (
     let start = at-name-end.before.before.before.before in let e = at-name-end.name-end.ensures in
     let pb = at-skip-params.skip-params.ensures ∙ ap (λ (x : ℕ). (params_at start.args.tree.now x).end) e in
     let ca = framed_at _ _ e pb at-collect-locals.collect-locals.ensures in let cc = ca.framing _ _ at-collected.collected.given.1 in
-    let ea = at-u16-at.u16-at.ensures.0 ∙ ap (countAt start.args.tree.now) e ∙ sym (params-count start.args.tree.now (nameEnd start.args.tree.now start.args.at)) in
+    let ea = at-u16-at.u16-at.ensures.0 ∙ ap (count_at start.args.tree.now) e ∙ sym (params-count start.args.tree.now (name_end start.args.tree.now start.args.at)) in
     let en = cc.locals in
     let b = body-by start.args.depth start.args.tree.now _ _ (end_of start.args.init) _ _ pb at-emit-body.emit-body.ensures in
     let nm = part-names _ _ _ _ cc.names (omega (arith, cc.named, cc.few, at-collect-locals.collect-locals.auto.1.1.1.1.0)) in
@@ -171,7 +171,7 @@ compile-function-ok t = compile-function-lts.spec (
     let at-name-end = at-u16-at.before in let start = at-name-end.before.before.before.before in let e = at-name-end.name-end.ensures in
     let pb = at-skip-params.skip-params.ensures ∙ ap (λ (x : ℕ). (params_at start.args.tree.now x).end) e in
     let ca = framed_at _ _ e pb at-collect-locals.collect-locals.ensures in let cc = ca.framing _ _ at-collected.collected.given.1 in
-    let ea = at-u16-at.u16-at.ensures.0 ∙ ap (countAt start.args.tree.now) e ∙ sym (params-count start.args.tree.now (nameEnd start.args.tree.now start.args.at)) in
+    let ea = at-u16-at.u16-at.ensures.0 ∙ ap (count_at start.args.tree.now) e ∙ sym (params-count start.args.tree.now (name_end start.args.tree.now start.args.at)) in
     let en = cc.locals in
     let b = body-by start.args.depth start.args.tree.now _ _ (end_of start.args.init) _ _ pb at-emit-body.emit-body.ensures in
     let nm = part-names _ _ _ _ cc.names (omega (arith, cc.named, cc.few, at-collect-locals.collect-locals.auto.1.1.1.1.0)) in

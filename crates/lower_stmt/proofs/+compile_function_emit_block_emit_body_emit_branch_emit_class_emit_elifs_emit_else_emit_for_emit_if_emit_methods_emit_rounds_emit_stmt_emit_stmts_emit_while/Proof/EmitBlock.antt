@@ -1,10 +1,10 @@
 use mathlib.Core.Path.{refl, sym, subst}
 use Prim.Native.Nat.{ℕ}
 use native.Mathlib.Omega.{arith}
-use Rattle.state.specs.State.{slotNames}
+use Rattle.state.specs.State.{slot_names}
 use Rattle.lower_forms.proofs.StmtArms.{block-parts}
 use Rattle.tree.proofs.LoopsAt.{block-loops}
-use Rattle.state.specs.Kept.{keepingOf, Spare}
+use Rattle.state.specs.Kept.{keeping_of, Spare}
 use Rattle.state.proofs.Kept.{passes-by}
 use Rattle.lower_stmt.proofs.Sequence.{block-is, block-stmts}
 use Rattle.lower_stmt.proofs.emit_block.Reads as emit-block
@@ -31,7 +31,7 @@ emit-block-ok t = emit-block-lts.spec (u16-at-reads.Asked, u16-at-reads.Learnt, 
     (λ c. let at-emit-stmts = c.before.before.before.before in at-emit-stmts.emit-stmts.auto.1.1.1.1.1.1.1.0)  -- same-length-2
     (λ c. let at-emit-stmts = c.before.before.before.before in let at-u16-at = at-emit-stmts.before.before.before.before.before.before in
     let start = at-u16-at.before.before.before.before.before in let tree = start.args.tree.now in (
-      block-is start.args.depth tree (slotNames tree start.args.slots.now) (keepingOf start.args.it.now) start.args.at _ start.requires.1.1 at-u16-at.u16-at.ensures.0
+      block-is start.args.depth tree (slot_names tree start.args.slots.now) (keeping_of start.args.it.now) start.args.at _ start.requires.1.1 at-u16-at.u16-at.ensures.0
           at-emit-stmts.emit-stmts.ensures.0,
       passes-by (λ z. z) (block-loops _ _ start.requires.1.1.reads at-u16-at.u16-at.ensures.0 refl) at-emit-stmts.emit-stmts.ensures.1,
     ))  -- returns

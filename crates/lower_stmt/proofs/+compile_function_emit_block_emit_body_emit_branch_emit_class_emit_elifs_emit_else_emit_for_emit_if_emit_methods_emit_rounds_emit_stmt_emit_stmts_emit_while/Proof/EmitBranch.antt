@@ -1,13 +1,13 @@
-use Rattle.state.specs.Kept.{keepingOf}
+use Rattle.state.specs.Kept.{keeping_of}
 use Rattle.state.proofs.Kept.{passes_over, passes-done}
 use Prim.Native.Nat.{ℕ}
 use mathlib.Core.Path.{◌∙◌}
 use native.Mathlib.Omega.{arith}
 use borrow.Author.Rules.{rules}
 use Rattle.definitions.specs.Instruction.{instr}
-use Rattle.exprs.specs.ExprAt.{exprAt}
-use Rattle.state.specs.State.{slotNames}
-use Rattle.lower_forms.specs.Lowerable.{exprCode}
+use Rattle.exprs.specs.ExprAt.{expr_at}
+use Rattle.state.specs.State.{slot_names}
+use Rattle.lower_forms.specs.Lowerable.{expr_code}
 use Rattle.lower_emit.proofs.Steps.{sound-of, room-sound, done-of, sound-next, ready-next}
 use Rattle.tree.specs.StmtAt.{body_at}
 use Rattle.lower_emit.proofs.Packing.{instr-jump}
@@ -30,9 +30,9 @@ emit-branch-ok t = emit-branch-lts.spec (emit-value-reads.Asked, emit-value-read
     (λ c. let at-emit-value = c.before.before.before.before.before in at-emit-value.emit-value.auto.1.1.1.1.1.1.0)  -- same-length
     (λ c. let at-emit-value = c.before.before.before.before.before in at-emit-value.emit-value.auto.1.1.1.1.1.1.1.0)  -- same-length-2
     (λ c. let at-if1 = c in let at-emit-value = at-if1.before.before.before.before.before in let start = at-emit-value.before.before.before.before.before.before.before.before.before in
-    let tree = start.args.tree.now in let expr = (exprAt start.args.depth tree start.args.at).value in let body = (body_at start.args.depth tree start.args.at).value in
+    let tree = start.args.tree.now in let expr = (expr_at start.args.depth tree start.args.at).value in let body = (body_at start.args.depth tree start.args.at).value in
     let v = at-emit-value.emit-value.ensures in
-    (branch-stopped (slotNames tree start.args.slots.now) (keepingOf start.args.it.now) expr (instr 29 0 0) (sound-of start.requires.1.0) v body at-if1.if1.true, passes_over))  -- returns
+    (branch-stopped (slot_names tree start.args.slots.now) (keeping_of start.args.it.now) expr (instr 29 0 0) (sound-of start.requires.1.0) v body at-if1.if1.true, passes_over))  -- returns
     (λ c. search rules)  -- element-copy-out-from
     (λ c κs. let at-if1 = c.before.before.before.before.before.before in let at-emit-value = at-if1.before.before.before.before.before in
     let start = at-emit-value.before.before.before.before.before.before.before.before.before in let v = at-emit-value.emit-value.ensures in (
@@ -51,15 +51,15 @@ emit-branch-ok t = emit-branch-lts.spec (emit-value-reads.Asked, emit-value-read
     at-emit-block.emit-block.auto.1.1.1.1.1.1.0 ∙ at-emit-value.emit-value.auto.1.1.1.1.1.1.1.0)  -- same-length-4
     (λ c. let at-if2 = c in let at-emit-block = at-if2.before.before.before.before.before in let at-if1 = at-emit-block.before.before.before.before.before.before.before in
     let at-emit-value = at-if1.before.before.before.before.before in let start = at-emit-value.before.before.before.before.before.before.before.before.before in
-    let tree = start.args.tree.now in let names = slotNames tree start.args.slots.now in let keep = keepingOf start.args.it.now in
-    let expr = (exprAt start.args.depth tree start.args.at).value in let body = (body_at start.args.depth tree start.args.at).value in let v = at-emit-value.emit-value.ensures in
+    let tree = start.args.tree.now in let names = slot_names tree start.args.slots.now in let keep = keeping_of start.args.it.now in
+    let expr = (expr_at start.args.depth tree start.args.at).value in let body = (body_at start.args.depth tree start.args.at).value in let v = at-emit-value.emit-value.ensures in
     let b = block-by start.args.depth tree names keep _ _ (done-of at-if1.if1.false v).0 at-emit-block.emit-block.ensures.0 in
     (branch-over names keep expr (instr 29 0 0) (sound-of start.requires.1.0) v at-if1.if1.false body b at-if2.if2.true, passes_over))  -- returns-2
     (λ c κs. let at-if2 = c.before.before in let at-emit-block = at-if2.before.before.before.before.before in
     let at-if1 = at-emit-block.before.before.before.before.before.before.before in let at-emit-value = at-if1.before.before.before.before.before in
-    let start = at-emit-value.before.before.before.before.before.before.before.before.before in let tree = start.args.tree.now in let names = slotNames tree start.args.slots.now in
-    let question = exprCode start.args.depth tree names start.args.at in let v = at-emit-value.emit-value.ensures in
-    let b = block-by start.args.depth tree names (keepingOf start.args.it.now) _ _ (done-of at-if1.if1.false v).0 at-emit-block.emit-block.ensures.0 in (
+    let start = at-emit-value.before.before.before.before.before.before.before.before.before in let tree = start.args.tree.now in let names = slot_names tree start.args.slots.now in
+    let question = expr_code start.args.depth tree names start.args.at in let v = at-emit-value.emit-value.ensures in
+    let b = block-by start.args.depth tree names (keeping_of start.args.it.now) _ _ (done-of at-if1.if1.false v).0 at-emit-block.emit-block.ensures.0 in (
       room-sound (sound-next at-if2.if2.false b),
       omega (arith, inside-above question (instr 29 0 0) (sound-of start.requires.1.0) v at-if1.if1.false b at-if2.if2.false),
       end-above question (instr 29 0 0) (sound-of start.requires.1.0) v at-if1.if1.false b at-if2.if2.false,
@@ -73,8 +73,8 @@ emit-branch-ok t = emit-branch-lts.spec (emit-value-reads.Asked, emit-value-read
     at-emit-block.emit-block.auto.1.1.1.1.1.1.0 ∙ at-emit-value.emit-value.auto.1.1.1.1.1.1.1.0)  -- same-length-6
     (λ c. let at-end-branch = c.before.before in let at-if2 = at-end-branch.before.before.before in let at-emit-block = at-if2.before.before.before.before.before in
     let at-if1 = at-emit-block.before.before.before.before.before.before.before in let at-emit-value = at-if1.before.before.before.before.before in
-    let start = at-emit-value.before.before.before.before.before.before.before.before.before in let tree = start.args.tree.now in let names = slotNames tree start.args.slots.now in
-    let keep = keepingOf start.args.it.now in let expr = (exprAt start.args.depth tree start.args.at).value in
+    let start = at-emit-value.before.before.before.before.before.before.before.before.before in let tree = start.args.tree.now in let names = slot_names tree start.args.slots.now in
+    let keep = keeping_of start.args.it.now in let expr = (expr_at start.args.depth tree start.args.at).value in
     let body = (body_at start.args.depth tree start.args.at).value in let v = at-emit-value.emit-value.ensures in
     let b = block-by start.args.depth tree names keep _ _ (done-of at-if1.if1.false v).0 at-emit-block.emit-block.ensures.0 in (
       branch-done names keep expr (instr 29 0 0) (sound-of start.requires.1.0) v at-if1.if1.false body b at-if2.if2.false at-end-branch.end_branch.ensures,

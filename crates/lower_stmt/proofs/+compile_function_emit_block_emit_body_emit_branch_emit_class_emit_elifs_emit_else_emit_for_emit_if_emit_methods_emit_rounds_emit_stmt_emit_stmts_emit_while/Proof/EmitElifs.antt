@@ -3,7 +3,7 @@ use Prim.Native.Nat.{ℕ}
 use mathlib.Core.Path.{◌∙◌}
 use native.Mathlib.Omega.{arith}
 use borrow.Author.Rules.{rules}
-use Rattle.state.specs.State.{slotNames}
+use Rattle.state.specs.State.{slot_names}
 use Rattle.lower_emit.proofs.Steps.{sound-next}
 use Rattle.lower_forms.proofs.StmtArms.{elifs-more, elifs-none}
 use Rattle.lower_stmt.proofs.Branches.{ChainRest, chain-all, chain-ready, chain-over, chain-longer, chain_next, chain-last, chain-spare, chain-rest}
@@ -18,7 +18,7 @@ use Rattle.lower_stmt.proofs.+compile_function_emit_block_emit_body_emit_branch_
 
 abbrev Inv-loop : emit-elifs-lts.invariant-loop
 Inv-loop tree at depth n slots made₀ code₀ tables₀ k₀ l it₀ left₀ p₀ made code tables k it left p =
-    ChainRest depth tree (slotNames tree slots) made₀ code₀ tables₀ k₀ l it₀ left₀ p₀ made code tables k it left p
+    ChainRest depth tree (slot_names tree slots) made₀ code₀ tables₀ k₀ l it₀ left₀ p₀ made code tables k it left p
 
 abbrev μ-loop : emit-elifs-lts.decreases-loop
 μ-loop tree at depth n slots made₀ code₀ tables₀ k₀ l it₀ left₀ p₀ made code tables k it left p = left
@@ -26,7 +26,7 @@ abbrev μ-loop : emit-elifs-lts.decreases-loop
 pub emit-elifs-ok : {M : Type 1} (t : ℕ) → emit-elifs-lts.Closed (emit-branch-below t, emit-branch.Post, set-jump-reads.Asked, set-jump-reads.Learnt, emit-else-below t, emit-else.Post) (emit-elifs-at t) emit-elifs.Post M
 emit-elifs-ok t = emit-elifs-lts.spec (emit-branch-below t, emit-branch.Post, set-jump-reads.Asked, set-jump-reads.Learnt, emit-else-below t, emit-else.Post) (emit-elifs-at t) emit-elifs.Post Inv-loop μ-loop
     (λ c. let start = c.before.before.before.before in let tree = start.args.tree.now in
-    chain-all (slotNames tree start.args.slots.now) start.requires.1.0 start.requires.1.1 start.requires.1.2 start.requires.1.3)  -- loop-holds
+    chain-all (slot_names tree start.args.slots.now) start.requires.1.0 start.requires.1.1 start.requires.1.2 start.requires.1.3)  -- loop-holds
     (λ c. search rules)  -- element-copy-out-from
     (λ c κs. let at-loop-test = c.before.before.before.before.before.before in let at-loop = at-loop-test.before in let start = at-loop.before.before.before.before.before in (
       omega (arith, start.requires.0),

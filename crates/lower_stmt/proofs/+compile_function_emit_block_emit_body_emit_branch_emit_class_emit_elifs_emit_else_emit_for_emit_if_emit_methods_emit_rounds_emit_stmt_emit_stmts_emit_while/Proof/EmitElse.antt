@@ -1,10 +1,10 @@
-use Rattle.state.specs.Kept.{keepingOf, Spare}
+use Rattle.state.specs.Kept.{keeping_of, Spare}
 use Rattle.state.proofs.Kept.{passes_none, passes_over, passes-by}
 use Prim.Native.Nat.{ℕ}
 use mathlib.Core.Path.{sym, subst, ◌∙◌}
 use native.Mathlib.Omega.{arith}
 use borrow.Author.Rules.{rules}
-use Rattle.state.specs.State.{slotNames}
+use Rattle.state.specs.State.{slot_names}
 use Rattle.lower_emit.proofs.Steps.{sound-of, sound-next}
 use Rattle.lower_forms.proofs.StmtArms.{else-parts, else-in, else-one}
 use Rattle.lower_stmt.proofs.Branches.{else-none, else-over, else-longer, else-done}
@@ -31,7 +31,7 @@ emit-else-ok t = emit-else-lts.spec (set-jump-reads.Asked, set-jump-reads.Learnt
     (λ c. let at-set-jump = c.before.before in at-set-jump.set-jump.auto.0)  -- same-length
     (λ c. let at-set-jump = c.before.before in let at-if1 = at-set-jump.before.before in let start = at-if1.before.before.before.before.before.before.before in
     let tree = start.args.tree.now in (
-      else-none (slotNames tree start.args.slots.now) (keepingOf start.args.it.now) (sound-of start.requires.1.0) start.requires.1.2 start.requires.1.1 at-if1.if1.true
+      else-none (slot_names tree start.args.slots.now) (keeping_of start.args.it.now) (sound-of start.requires.1.0) start.requires.1.2 start.requires.1.1 at-if1.if1.true
           at-set-jump.set-jump.ensures,
       passes-by (λ z. z) (no-else-loops _ _ start.requires.1.1.reads at-if1.if1.true) passes_none,
     ))  -- returns
@@ -48,14 +48,14 @@ emit-else-ok t = emit-else-lts.spec (set-jump-reads.Asked, set-jump-reads.Learnt
     (λ c. let at-emit-block = c.before.before.before.before.before in at-emit-block.emit-block.auto.1.1.1.1.1.1.0)  -- same-length-3
     (λ c. let at-if2 = c in let at-emit-block = at-if2.before.before.before.before.before in let at-if1 = at-emit-block.before.before.before.before.before.before in
     let start = at-if1.before.before.before.before.before.before.before in let tree = start.args.tree.now in (
-      else-over (slotNames tree start.args.slots.now) (keepingOf start.args.it.now) (sound-of start.requires.1.0) start.requires.1.2 start.requires.1.1 at-if1.if1.false
+      else-over (slot_names tree start.args.slots.now) (keeping_of start.args.it.now) (sound-of start.requires.1.0) start.requires.1.2 start.requires.1.1 at-if1.if1.false
           at-emit-block.emit-block.ensures.0 at-if2.if2.true,
       passes_over,
     ))  -- returns-2
     (λ c. search rules)  -- element-copy-out-over
     (λ c. let at-if2 = c.before in let at-emit-block = at-if2.before.before.before.before.before in let at-if1 = at-emit-block.before.before.before.before.before.before in
     let start = at-if1.before.before.before.before.before.before.before in let tree = start.args.tree.now in
-    else-longer (slotNames tree start.args.slots.now) (keepingOf start.args.it.now) (sound-of start.requires.1.0) start.requires.1.2 start.requires.1.1 at-if1.if1.false
+    else-longer (slot_names tree start.args.slots.now) (keeping_of start.args.it.now) (sound-of start.requires.1.0) start.requires.1.2 start.requires.1.1 at-if1.if1.false
     at-emit-block.emit-block.ensures.0 at-if2.if2.false)  -- sub-over
     (λ c. let start = c.before.before.before.before.before.before.before.before.before.before.before.before.before.before.before.before.before.before.before.before in
     omega (arith, start.requires.1.0.ready.sound.words, start.requires.1.0.ready.sound.limited.instructions))  -- cast-set-jump-2
@@ -66,7 +66,7 @@ emit-else-ok t = emit-else-lts.spec (set-jump-reads.Asked, set-jump-reads.Learnt
     let s = (sound-next at-if2.if2.false at-emit-block.emit-block.ensures.0).sound in (
       omega (
         arith,
-        else-longer (slotNames tree start.args.slots.now) (keepingOf start.args.it.now) (sound-of start.requires.1.0) start.requires.1.2 start.requires.1.1 at-if1.if1.false
+        else-longer (slot_names tree start.args.slots.now) (keeping_of start.args.it.now) (sound-of start.requires.1.0) start.requires.1.2 start.requires.1.1 at-if1.if1.false
             at-emit-block.emit-block.ensures.0 at-if2.if2.false,
         start.requires.1.2,
         s.words,
@@ -81,7 +81,7 @@ emit-else-ok t = emit-else-lts.spec (set-jump-reads.Asked, set-jump-reads.Learnt
     (λ c. let at-emit-block = c.before.before.before.before.before.before.before.before.before.before in at-emit-block.emit-block.auto.1.1.1.1.1.1.0)  -- same-length-5
     (λ c. let at-set-jump2 = c.before.before in let at-if2 = at-set-jump2.before.before.before in let at-emit-block = at-if2.before.before.before.before.before in
     let at-if1 = at-emit-block.before.before.before.before.before.before in let start = at-if1.before.before.before.before.before.before.before in let tree = start.args.tree.now in (
-      else-done (slotNames tree start.args.slots.now) (keepingOf start.args.it.now) (sound-of start.requires.1.0) start.requires.1.2 start.requires.1.1 at-if1.if1.false
+      else-done (slot_names tree start.args.slots.now) (keeping_of start.args.it.now) (sound-of start.requires.1.0) start.requires.1.2 start.requires.1.1 at-if1.if1.false
           at-emit-block.emit-block.ensures.0 at-if2.if2.false at-set-jump2.set-jump2.ensures,
       passes-by (λ z. z) (else-loops _ _ start.requires.1.1.reads at-if1.if1.false) at-emit-block.emit-block.ensures.1,
     ))  -- returns-3

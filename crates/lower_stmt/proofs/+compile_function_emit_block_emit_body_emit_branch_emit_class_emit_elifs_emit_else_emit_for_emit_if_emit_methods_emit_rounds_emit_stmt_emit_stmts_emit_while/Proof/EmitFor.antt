@@ -2,10 +2,10 @@ use Rattle.state.proofs.Kept.{passes_over, passes-by}
 use Prim.Native.Nat.{ℕ}
 use mathlib.Core.Path.{◌∙◌}
 use native.Mathlib.Omega.{arith}
-use Rattle.parts.specs.Places.{nameEnd}
-use Rattle.exprs.specs.ExprAt.{exprAt}
+use Rattle.parts.specs.Places.{name_end}
+use Rattle.exprs.specs.ExprAt.{expr_at}
 use Rattle.state.specs.Words.{name_at}
-use Rattle.state.specs.State.{slotNames}
+use Rattle.state.specs.State.{slot_names}
 use Rattle.lower_forms.proofs.ExprArms.{lowerable-at}
 use Rattle.lower_emit.proofs.Steps.{sound-of, done-of, sound-next}
 use Rattle.tree.specs.StmtAt.{block_at, body_at}
@@ -48,13 +48,13 @@ emit-for-ok t = emit-for-lts.spec (
     (λ c. let at-emit-iterable = c.before.before.before.before.before in at-emit-iterable.emit-iterable.auto.1.1.1.1.1.0)  -- same-length
     (λ c. let at-emit-iterable = c.before.before.before.before.before in at-emit-iterable.emit-iterable.auto.1.1.1.1.1.1.0)  -- same-length-2
     (λ c. let at-if1 = c in let at-emit-iterable = at-if1.before.before.before.before.before in let at-name-end = at-emit-iterable.before.before.before.before.before in
-    let start = at-name-end.before.before.before.before.before in let tree = start.args.tree.now in let names = slotNames tree start.args.slots.now in
-    let expr = (exprAt start.args.depth tree (nameEnd tree start.args.at)).value in let body = (body_at start.args.depth tree (nameEnd tree start.args.at)).value in
+    let start = at-name-end.before.before.before.before.before in let tree = start.args.tree.now in let names = slot_names tree start.args.slots.now in
+    let expr = (expr_at start.args.depth tree (name_end tree start.args.at)).value in let body = (body_at start.args.depth tree (name_end tree start.args.at)).value in
     let g = iterable-by start.args.depth tree names _ _ at-name-end.name-end.ensures at-emit-iterable.emit-iterable.ensures in
     (for-stopped names start.args.it.now expr (name_at tree start.args.at) body (sound-of start.requires.1.0) g at-if1.if1.true, passes_over))  -- returns
     (λ c κs. let at-if1 = c.before.before.before.before.before in let at-emit-iterable = at-if1.before.before.before.before.before in
     let at-name-end = at-emit-iterable.before.before.before.before.before in let start = at-name-end.before.before.before.before.before in
-    let g = iterable-by start.args.depth start.args.tree.now (slotNames start.args.tree.now start.args.slots.now) _ _ at-name-end.name-end.ensures at-emit-iterable.emit-iterable.ensures in
+    let g = iterable-by start.args.depth start.args.tree.now (slot_names start.args.tree.now start.args.slots.now) _ _ at-name-end.name-end.ensures at-emit-iterable.emit-iterable.ensures in
     sound-next at-if1.if1.false g)  -- store-iterator-requires
     (λ c. let at-store-iterator = c.before.before.before.before.before in
     let at-emit-iterable = at-store-iterator.before.before.before.before.before.before.before.before.before.before.before in
@@ -64,8 +64,8 @@ emit-for-ok t = emit-for-lts.spec (
     at-store-iterator.store-iterator.auto.1.1.1.0 ∙ at-emit-iterable.emit-iterable.auto.1.1.1.1.1.1.0)  -- same-length-4
     (λ c. let at-if2 = c in let at-store-iterator = at-if2.before.before.before.before.before in let at-if1 = at-store-iterator.before.before.before.before.before.before in
     let at-emit-iterable = at-if1.before.before.before.before.before in let at-name-end = at-emit-iterable.before.before.before.before.before in
-    let start = at-name-end.before.before.before.before.before in let tree = start.args.tree.now in let names = slotNames tree start.args.slots.now in
-    let expr = (exprAt start.args.depth tree (nameEnd tree start.args.at)).value in let body = (body_at start.args.depth tree (nameEnd tree start.args.at)).value in
+    let start = at-name-end.before.before.before.before.before in let tree = start.args.tree.now in let names = slot_names tree start.args.slots.now in
+    let expr = (expr_at start.args.depth tree (name_end tree start.args.at)).value in let body = (body_at start.args.depth tree (name_end tree start.args.at)).value in
     let g = iterable-by start.args.depth tree names _ _ at-name-end.name-end.ensures at-emit-iterable.emit-iterable.ensures in (
       for-over names start.args.it.now expr (name_at tree start.args.at) body (sound-of start.requires.1.0) g at-if1.if1.false at-store-iterator.store-iterator.ensures
           at-if2.if2.true,
@@ -74,8 +74,8 @@ emit-for-ok t = emit-for-lts.spec (
     (λ c κs. let at-if2 = c.before.before.before.before.before in let at-store-iterator = at-if2.before.before.before.before.before in
     let at-if1 = at-store-iterator.before.before.before.before.before.before in let at-emit-iterable = at-if1.before.before.before.before.before in
     let at-name-end = at-emit-iterable.before.before.before.before.before in let start = at-name-end.before.before.before.before.before in let tree = start.args.tree.now in
-    let names = slotNames tree start.args.slots.now in let slot = start.args.it.now in let expr = (exprAt start.args.depth tree (nameEnd tree start.args.at)).value in
-    let name = name_at tree start.args.at in let body = (body_at start.args.depth tree (nameEnd tree start.args.at)).value in
+    let names = slot_names tree start.args.slots.now in let slot = start.args.it.now in let expr = (expr_at start.args.depth tree (name_end tree start.args.at)).value in
+    let name = name_at tree start.args.at in let body = (body_at start.args.depth tree (name_end tree start.args.at)).value in
     let g = iterable-by start.args.depth tree names _ _ at-name-end.name-end.ensures at-emit-iterable.emit-iterable.ensures in (
       omega (arith, start.requires.0),
       (
@@ -97,9 +97,9 @@ emit-for-ok t = emit-for-lts.spec (
     (λ c. let at-emit-rounds = c.before.before.before.before in let at-if2 = at-emit-rounds.before.before.before.before.before.before in
     let at-store-iterator = at-if2.before.before.before.before.before in let at-if1 = at-store-iterator.before.before.before.before.before.before in
     let at-emit-iterable = at-if1.before.before.before.before.before in let at-name-end = at-emit-iterable.before.before.before.before.before in
-    let start = at-name-end.before.before.before.before.before in let tree = start.args.tree.now in let names = slotNames tree start.args.slots.now in
-    let slot = start.args.it.now in let expr = (exprAt start.args.depth tree (nameEnd tree start.args.at)).value in let name = name_at tree start.args.at in
-    let body = (body_at start.args.depth tree (nameEnd tree start.args.at)).value in
+    let start = at-name-end.before.before.before.before.before in let tree = start.args.tree.now in let names = slot_names tree start.args.slots.now in
+    let slot = start.args.it.now in let expr = (expr_at start.args.depth tree (name_end tree start.args.at)).value in let name = name_at tree start.args.at in
+    let body = (body_at start.args.depth tree (name_end tree start.args.at)).value in
     let g = iterable-by start.args.depth tree names _ _ at-name-end.name-end.ensures at-emit-iterable.emit-iterable.ensures in let q = (done-of at-if1.if1.false g).0 in (
       for-done names slot expr name body (sound-of start.requires.1.0) g at-if1.if1.false at-store-iterator.store-iterator.ensures at-if2.if2.false start.requires.1.2
           (λ i. (block_at start.args.depth tree (q i)).value) (λ i. (block_at start.args.depth tree (q i)).end) at-emit-rounds.emit-rounds.ensures.0,

@@ -3,12 +3,12 @@ use mathlib.Core.Path.{refl, ◌∙◌}
 use native.Mathlib.Omega.{arith}
 use borrow.Author.Rules.{rules}
 use Rattle.definitions.specs.Instruction.{instr}
-use Rattle.state.specs.State.{slotNames}
-use Rattle.state.specs.Kept.{keepingOf}
+use Rattle.state.specs.State.{slot_names}
+use Rattle.state.specs.Kept.{keeping_of}
 use Rattle.state.proofs.Kept.{passes_over, passes-done}
-use Rattle.state.proofs.Growth.{lengthens-seq, lengthens-block, lengthens-takeIter}
+use Rattle.state.proofs.Growth.{lengthens-seq, lengthens-block, lengthens-take_iter}
 use Rattle.lower_emit.proofs.Steps.{sound-of, room-sound, done-of, sound-next, ready-next, lowers_then, lowers-stopped}
-use Rattle.definitions.specs.Lower.{askIter}
+use Rattle.definitions.specs.Lower.{ask_iter}
 use Rattle.tree.specs.StmtAt.{block_at}
 use Rattle.lower_forms.specs.Lowering.{block_code}
 use Rattle.lower_forms.proofs.Sequences.{block-at}
@@ -18,7 +18,7 @@ use Rattle.lower_stmt.proofs.Branches.{loop-stopped, loop-over, inside-above, en
 use Rattle.lower_stmt.proofs.emit_block.Reads as emit-block
 use Rattle.lower_stmt.proofs.emit_rounds.Reads as emit-rounds
 use Rattle.lower_stmt.proofs.+compile_function_emit_block_emit_body_emit_branch_emit_class_emit_elifs_emit_else_emit_for_emit_if_emit_methods_emit_rounds_emit_stmt_emit_stmts_emit_while.Lts-emit_rounds as emit-rounds-lts
-use Rattle.lower_loops.specs.Iterators.{keeperOf}
+use Rattle.lower_loops.specs.Iterators.{keeper_of}
 use Rattle.lower_loops.proofs.ask_iterator.Reads as ask-iterator-reads
 use Rattle.lower_loops.proofs.take_iterator.Reads as take-iterator-reads
 use Rattle.lower_emit.proofs.jumps.end_loop.Reads as end-loop-reads
@@ -51,7 +51,7 @@ emit-rounds-ok t = emit-rounds-lts.spec (
     (λ c. let at-ask-iterator = c.before.before.before.before.before in at-ask-iterator.ask-iterator.auto.1.1.1.0)  -- same-length-2
     (λ c. let at-if1 = c in let at-ask-iterator = at-if1.before.before.before.before.before in
     let start = at-ask-iterator.before.before.before.before.before.before.before.before.before.before in let a = at-ask-iterator.ask-iterator.ensures in (
-      loop-stopped (askIter (keeperOf start.args.load)) (instr 29 0 0) (sound-of start.requires.1.0) a (lengthens-seq (lengthens-takeIter _ _ _) (lengthens-block _ _ _)) at-if1.if1.true,
+      loop-stopped (ask_iter (keeper_of start.args.load)) (instr 29 0 0) (sound-of start.requires.1.0) a (lengthens-seq (lengthens-take_iter _ _ _) (lengthens-block _ _ _)) at-if1.if1.true,
       passes_over,
     ))  -- returns
     (λ c. search rules)  -- element-copy-out-inside
@@ -72,8 +72,8 @@ emit-rounds-ok t = emit-rounds-lts.spec (
     (λ c. let at-if2 = c in let at-take-iterator = at-if2.before.before.before.before.before in let at-if1 = at-take-iterator.before.before.before.before.before.before in
     let at-ask-iterator = at-if1.before.before.before.before.before in let start = at-ask-iterator.before.before.before.before.before.before.before.before.before.before in
     let tree = start.args.tree.now in let a = at-ask-iterator.ask-iterator.ensures in let u = at-take-iterator.take-iterator.ensures in let S1 = sound-next at-if1.if1.false a in (
-      loop-over (askIter (keeperOf start.args.load)) (instr 29 0 0) (sound-of start.requires.1.0) a at-if1.if1.false
-          (lowers-stopped {q = 0} at-if2.if2.true S1 (lengthens-block (slotNames tree start.args.slots.now) (keepingOf start.args.it.now) (block_at start.args.depth tree start.args.block).value) u)
+      loop-over (ask_iter (keeper_of start.args.load)) (instr 29 0 0) (sound-of start.requires.1.0) a at-if1.if1.false
+          (lowers-stopped {q = 0} at-if2.if2.true S1 (lengthens-block (slot_names tree start.args.slots.now) (keeping_of start.args.it.now) (block_at start.args.depth tree start.args.block).value) u)
           refl,
       passes_over,
     ))  -- returns-2
@@ -97,16 +97,16 @@ emit-rounds-ok t = emit-rounds-lts.spec (
     (λ c. let at-if3 = c in let at-emit-block = at-if3.before.before.before.before.before in let at-if2 = at-emit-block.before.before.before.before.before.before in
     let at-take-iterator = at-if2.before.before.before.before.before in let at-if1 = at-take-iterator.before.before.before.before.before.before in
     let at-ask-iterator = at-if1.before.before.before.before.before in let start = at-ask-iterator.before.before.before.before.before.before.before.before.before.before in
-    let tree = start.args.tree.now in let names = slotNames tree start.args.slots.now in let keep = keepingOf start.args.it.now in let a = at-ask-iterator.ask-iterator.ensures in
+    let tree = start.args.tree.now in let names = slot_names tree start.args.slots.now in let keep = keeping_of start.args.it.now in let a = at-ask-iterator.ask-iterator.ensures in
     let u = at-take-iterator.take-iterator.ensures in let S1 = sound-next at-if1.if1.false a in
     let b = block-by start.args.depth tree names keep start.args.block _ ((done-of at-if2.if2.false u).0 ∙ (done-of at-if1.if1.false a).0) at-emit-block.emit-block.ensures.0 in
     let w = lowers_then (λ x. block_code start.args.depth tree names keep start.args.block) (λ x. (block_at start.args.depth tree start.args.block).end) at-if2.if2.false S1 u b in
-    (loop-over (askIter (keeperOf start.args.load)) (instr 29 0 0) (sound-of start.requires.1.0) a at-if1.if1.false w at-if3.if3.true, passes_over))  -- returns-3
+    (loop-over (ask_iter (keeper_of start.args.load)) (instr 29 0 0) (sound-of start.requires.1.0) a at-if1.if1.false w at-if3.if3.true, passes_over))  -- returns-3
     (λ c κs. let at-if3 = c.before.before in let at-emit-block = at-if3.before.before.before.before.before in let at-if2 = at-emit-block.before.before.before.before.before.before in
     let at-take-iterator = at-if2.before.before.before.before.before in let at-if1 = at-take-iterator.before.before.before.before.before.before in
     let at-ask-iterator = at-if1.before.before.before.before.before in let start = at-ask-iterator.before.before.before.before.before.before.before.before.before.before in
-    let tree = start.args.tree.now in let names = slotNames tree start.args.slots.now in let keep = keepingOf start.args.it.now in
-    let ask = askIter (keeperOf start.args.load) in let a = at-ask-iterator.ask-iterator.ensures in let u = at-take-iterator.take-iterator.ensures in
+    let tree = start.args.tree.now in let names = slot_names tree start.args.slots.now in let keep = keeping_of start.args.it.now in
+    let ask = ask_iter (keeper_of start.args.load) in let a = at-ask-iterator.ask-iterator.ensures in let u = at-take-iterator.take-iterator.ensures in
     let S1 = sound-next at-if1.if1.false a in
     let b = block-by start.args.depth tree names keep start.args.block _ ((done-of at-if2.if2.false u).0 ∙ (done-of at-if1.if1.false a).0) at-emit-block.emit-block.ensures.0 in
     let w = lowers_then (λ x. block_code start.args.depth tree names keep start.args.block) (λ x. (block_at start.args.depth tree start.args.block).end) at-if2.if2.false S1 u b in (
@@ -127,10 +127,10 @@ emit-rounds-ok t = emit-rounds-lts.spec (
     let at-if2 = at-emit-block.before.before.before.before.before.before in let at-take-iterator = at-if2.before.before.before.before.before in
     let at-if1 = at-take-iterator.before.before.before.before.before.before in let at-ask-iterator = at-if1.before.before.before.before.before in
     let start = at-ask-iterator.before.before.before.before.before.before.before.before.before.before in let tree = start.args.tree.now in
-    let names = slotNames tree start.args.slots.now in let keep = keepingOf start.args.it.now in let a = at-ask-iterator.ask-iterator.ensures in
+    let names = slot_names tree start.args.slots.now in let keep = keeping_of start.args.it.now in let a = at-ask-iterator.ask-iterator.ensures in
     let u = at-take-iterator.take-iterator.ensures in let S1 = sound-next at-if1.if1.false a in
     let b = block-by start.args.depth tree names keep start.args.block _ ((done-of at-if2.if2.false u).0 ∙ (done-of at-if1.if1.false a).0) at-emit-block.emit-block.ensures.0 in
     let w = lowers_then (λ x. block_code start.args.depth tree names keep start.args.block) (λ x. (block_at start.args.depth tree start.args.block).end) at-if2.if2.false S1 u b in (
-      loop-done (askIter (keeperOf start.args.load)) (instr 29 0 0) (sound-of start.requires.1.0) a at-if1.if1.false w at-if3.if3.false at-end-loop.end-loop.ensures,
+      loop-done (ask_iter (keeper_of start.args.load)) (instr 29 0 0) (sound-of start.requires.1.0) a at-if1.if1.false w at-if3.if3.false at-end-loop.end-loop.ensures,
       passes-done at-if3.if3.false (loops-at _ _ ((done-of at-if2.if2.false u).0 ∙ (done-of at-if1.if1.false a).0)) at-emit-block.emit-block.ensures.1,
     ))  -- returns-4

@@ -2,13 +2,13 @@ use Prim.Native.Nat.{ℕ, ◌+◌, ◌-◌}
 use mathlib.Core.Path.{sym, subst}
 use native.Mathlib.Omega.{arith}
 use Rattle.state.specs.Words.{name_at}
-use Rattle.state.specs.Kept.{keepingOf, Spare}
+use Rattle.state.specs.Kept.{keeping_of, Spare}
 use Rattle.state.proofs.Kept.{passes_none, passes-by}
 use Rattle.lower_emit.proofs.Steps.{lowers-by}
 use mathlib.Core.Bool.{false}
-use Rattle.tree.specs.StmtAt.{classMethodsAt}
+use Rattle.tree.specs.StmtAt.{class_methods_at}
 use Rattle.tree.proofs.LoopsAt.{if-loops, while-loops, for-loops, other-loops}
-use Rattle.lower_forms.specs.Lowering.{classCode}
+use Rattle.lower_forms.specs.Lowering.{class_code}
 use Rattle.lower_forms.proofs.StmtArms.{arm-deep, arm-inside, arm-known, arm-if, arm-while, arm-for, arm-def, arm-class}
 use Rattle.lower_stmt.proofs.Sequence.{stmt-ahead}
 use Rattle.lower_stmt.proofs.Nested.{sole_of, compiles-lowers, reaches-lowers}
@@ -128,7 +128,7 @@ emit-stmt-ok t = emit-stmt-lts.spec (
     (λ c. let at-compile-function = c.before.before.before.before in let at-match = at-compile-function.before.before.before.before.before in
     let start = at-match.before.before.before.before.before.before in
     let m = arm-def _ _ _ start.requires.1.1 at-match.match.keys4 in (
-      lowers-by (compiles-lowers (start.args.depth - 1) false (start.args.at + 1) at-compile-function.compile-function.ensures) (sym (m.code _ (keepingOf start.args.it.now))) (sym m.end),
+      lowers-by (compiles-lowers (start.args.depth - 1) false (start.args.at + 1) at-compile-function.compile-function.ensures) (sym (m.code _ (keeping_of start.args.it.now))) (sym m.end),
       passes-by (λ z. z) (other-loops _ _ _ start.requires.1.1.reads (λ h. omega (arith, at-match.match.keys4))) passes_none,
     ))  -- returns-4
     (λ c κs. let start = c.before.before.before.before.before.before in start.requires.1.1.reads)  -- skip-stmt-requires
@@ -144,8 +144,8 @@ emit-stmt-ok t = emit-stmt-lts.spec (
     (λ c. let at-emit-class = c.before.before.before.before in let at-skip-stmt = at-emit-class.before.before.before.before.before in let at-match = at-skip-stmt.before in
     let start = at-match.before.before.before.before.before.before in
     let m = arm-class _ _ _ start.requires.1.1 at-match.match.keys5 in (
-      lowers-by (reaches-lowers (classCode (name_at start.args.tree.now (start.args.at + 1)) (classMethodsAt (start.args.depth - 1) start.args.tree.now (start.args.at + 1)).value) at-emit-class.emit-class.ensures)
-          (sym (m.code _ (keepingOf start.args.it.now))) (sym at-skip-stmt.skip-stmt.ensures),
+      lowers-by (reaches-lowers (class_code (name_at start.args.tree.now (start.args.at + 1)) (class_methods_at (start.args.depth - 1) start.args.tree.now (start.args.at + 1)).value) at-emit-class.emit-class.ensures)
+          (sym (m.code _ (keeping_of start.args.it.now))) (sym at-skip-stmt.skip-stmt.ensures),
       passes-by (λ z. z) (other-loops _ _ _ start.requires.1.1.reads (λ h. omega (arith, at-match.match.keys5))) passes_none,
     ))  -- returns-5
     (λ c κs. let at-match = c.before.before.before.before in
@@ -155,6 +155,6 @@ emit-stmt-ok t = emit-stmt-lts.spec (
     (λ c. let at-emit-simple = c.before.before.before.before in at-emit-simple.emit-simple.auto.1.1.1.1.1.1.0)  -- same-length-12
     (λ c. let at-emit-simple = c.before.before.before.before in let at-match = at-emit-simple.before.before.before.before.before in
     let start = at-match.before.before.before.before.before.before in (
-      at-emit-simple.emit-simple.ensures (keepingOf start.args.it.now),
+      at-emit-simple.emit-simple.ensures (keeping_of start.args.it.now),
       passes-by (λ z. z) (other-loops _ _ _ start.requires.1.1.reads (λ h. (let n = at-match.match.rest in omega (arith, n.0.0.1, n.0.0.0.1, n.0.0.0.0.1)))) passes_none,
     ))  -- returns-6

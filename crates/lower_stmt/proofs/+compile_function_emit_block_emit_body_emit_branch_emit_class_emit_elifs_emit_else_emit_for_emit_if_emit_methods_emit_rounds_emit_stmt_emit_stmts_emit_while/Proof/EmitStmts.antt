@@ -1,7 +1,7 @@
 use Prim.Native.Nat.{ℕ}
 use mathlib.Core.Path.{◌∙◌}
 use native.Mathlib.Omega.{arith}
-use Rattle.state.specs.State.{slotNames}
+use Rattle.state.specs.State.{slot_names}
 use Rattle.lower_forms.proofs.StmtArms.{stmts-more}
 use Rattle.lower_stmt.proofs.Sequence.{StmtsRest, stmts-all, stmts-ready, stmts-spare, stmts-next, stmts-over, stmts-done}
 use Rattle.state.proofs.Kept.{passes_over}
@@ -13,7 +13,7 @@ use Rattle.lower_stmt.proofs.+compile_function_emit_block_emit_body_emit_branch_
 
 abbrev Inv-loop : emit-stmts-lts.invariant-loop
 Inv-loop tree at depth count slots made₀ code₀ tables₀ k₀ l it₀ left₀ p₀ made code tables k it left p =
-    StmtsRest depth tree (slotNames tree slots) made₀ code₀ tables₀ k₀ l it₀ left₀ p₀ made code tables k it left p
+    StmtsRest depth tree (slot_names tree slots) made₀ code₀ tables₀ k₀ l it₀ left₀ p₀ made code tables k it left p
 
 abbrev μ-loop : emit-stmts-lts.decreases-loop
 μ-loop tree at depth count slots made₀ code₀ tables₀ k₀ l it₀ left₀ p₀ made code tables k it left p = left
@@ -21,7 +21,7 @@ abbrev μ-loop : emit-stmts-lts.decreases-loop
 pub emit-stmts-ok : {M : Type 1} (t : ℕ) → emit-stmts-lts.Closed (emit-stmt-below t, emit-stmt.Post) (emit-stmts-at t) emit-stmts.Post M
 emit-stmts-ok t = emit-stmts-lts.spec (emit-stmt-below t, emit-stmt.Post) (emit-stmts-at t) emit-stmts.Post Inv-loop μ-loop
     (λ c. let start = c.before.before.before.before in let tree = start.args.tree.now in
-    stmts-all (slotNames tree start.args.slots.now) start.requires.1.0 start.requires.1.1 start.requires.1.2 start.requires.1.3)  -- loop-holds
+    stmts-all (slot_names tree start.args.slots.now) start.requires.1.0 start.requires.1.1 start.requires.1.2 start.requires.1.3)  -- loop-holds
     (λ c κs. let at-loop-test = c.before.before.before.before.before in let at-loop = at-loop-test.before in let start = at-loop.before.before.before.before.before in (
       omega (arith, start.requires.0),
       (

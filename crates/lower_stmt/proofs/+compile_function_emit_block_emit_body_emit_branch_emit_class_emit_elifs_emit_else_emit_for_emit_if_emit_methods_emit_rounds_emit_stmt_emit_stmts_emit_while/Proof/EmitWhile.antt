@@ -1,12 +1,12 @@
-use Rattle.state.specs.Kept.{keepingOf}
+use Rattle.state.specs.Kept.{keeping_of}
 use Rattle.state.proofs.Kept.{passes_over, passes-done}
 use Prim.Native.Nat.{ℕ}
 use mathlib.Core.Path.{◌∙◌}
 use native.Mathlib.Omega.{arith}
 use borrow.Author.Rules.{rules}
 use Rattle.definitions.specs.Instruction.{instr}
-use Rattle.state.specs.State.{slotNames}
-use Rattle.lower_forms.specs.Lowerable.{exprCode}
+use Rattle.state.specs.State.{slot_names}
+use Rattle.lower_forms.specs.Lowerable.{expr_code}
 use Rattle.lower_emit.proofs.Steps.{sound-of, room-sound, done-of, sound-next, ready-next}
 use Rattle.state.proofs.Growth.{lengthens-block}
 use Rattle.lower_emit.proofs.Packing.{instr-jump}
@@ -31,7 +31,7 @@ emit-while-ok t = emit-while-lts.spec (emit-value-reads.Asked, emit-value-reads.
     (λ c. let at-emit-value = c.before.before.before.before.before in at-emit-value.emit-value.auto.1.1.1.1.1.1.1.0)  -- same-length-2
     (λ c. let at-if1 = c in let at-emit-value = at-if1.before.before.before.before.before in
     let start = at-emit-value.before.before.before.before.before.before.before.before.before.before in let tree = start.args.tree.now in let v = at-emit-value.emit-value.ensures in (
-      loop-stopped (exprCode start.args.depth tree (slotNames tree start.args.slots.now) start.args.at) (instr 29 0 0) (sound-of start.requires.1.0) v (lengthens-block _ _ _)
+      loop-stopped (expr_code start.args.depth tree (slot_names tree start.args.slots.now) start.args.at) (instr 29 0 0) (sound-of start.requires.1.0) v (lengthens-block _ _ _)
           at-if1.if1.true,
       passes_over,
     ))  -- returns
@@ -53,15 +53,15 @@ emit-while-ok t = emit-while-lts.spec (emit-value-reads.Asked, emit-value-reads.
     at-emit-block.emit-block.auto.1.1.1.1.1.1.0 ∙ at-emit-value.emit-value.auto.1.1.1.1.1.1.1.0)  -- same-length-4
     (λ c. let at-if2 = c in let at-emit-block = at-if2.before.before.before.before.before in let at-if1 = at-emit-block.before.before.before.before.before.before.before in
     let at-emit-value = at-if1.before.before.before.before.before in let start = at-emit-value.before.before.before.before.before.before.before.before.before.before in
-    let tree = start.args.tree.now in let names = slotNames tree start.args.slots.now in let question = exprCode start.args.depth tree names start.args.at in
+    let tree = start.args.tree.now in let names = slot_names tree start.args.slots.now in let question = expr_code start.args.depth tree names start.args.at in
     let v = at-emit-value.emit-value.ensures in
-    let b = block-by start.args.depth tree names (keepingOf start.args.it.now) _ _ (done-of at-if1.if1.false v).0 at-emit-block.emit-block.ensures.0 in
+    let b = block-by start.args.depth tree names (keeping_of start.args.it.now) _ _ (done-of at-if1.if1.false v).0 at-emit-block.emit-block.ensures.0 in
     (loop-over question (instr 29 0 0) (sound-of start.requires.1.0) v at-if1.if1.false b at-if2.if2.true, passes_over))  -- returns-2
     (λ c κs. let at-if2 = c.before.before in let at-emit-block = at-if2.before.before.before.before.before in
     let at-if1 = at-emit-block.before.before.before.before.before.before.before in let at-emit-value = at-if1.before.before.before.before.before in
     let start = at-emit-value.before.before.before.before.before.before.before.before.before.before in let tree = start.args.tree.now in
-    let names = slotNames tree start.args.slots.now in let question = exprCode start.args.depth tree names start.args.at in let v = at-emit-value.emit-value.ensures in
-    let b = block-by start.args.depth tree names (keepingOf start.args.it.now) _ _ (done-of at-if1.if1.false v).0 at-emit-block.emit-block.ensures.0 in (
+    let names = slot_names tree start.args.slots.now in let question = expr_code start.args.depth tree names start.args.at in let v = at-emit-value.emit-value.ensures in
+    let b = block-by start.args.depth tree names (keeping_of start.args.it.now) _ _ (done-of at-if1.if1.false v).0 at-emit-block.emit-block.ensures.0 in (
       room-sound (sound-next at-if2.if2.false b),
       inside-above question (instr 29 0 0) (sound-of start.requires.1.0) v at-if1.if1.false b at-if2.if2.false,
       end-above question (instr 29 0 0) (sound-of start.requires.1.0) v at-if1.if1.false b at-if2.if2.false,
@@ -76,8 +76,8 @@ emit-while-ok t = emit-while-lts.spec (emit-value-reads.Asked, emit-value-reads.
     (λ c. let at-end-loop = c.before.before in let at-if2 = at-end-loop.before.before.before in let at-emit-block = at-if2.before.before.before.before.before in
     let at-if1 = at-emit-block.before.before.before.before.before.before.before in let at-emit-value = at-if1.before.before.before.before.before in
     let start = at-emit-value.before.before.before.before.before.before.before.before.before.before in let tree = start.args.tree.now in
-    let names = slotNames tree start.args.slots.now in let question = exprCode start.args.depth tree names start.args.at in let v = at-emit-value.emit-value.ensures in
-    let b = block-by start.args.depth tree names (keepingOf start.args.it.now) _ _ (done-of at-if1.if1.false v).0 at-emit-block.emit-block.ensures.0 in (
+    let names = slot_names tree start.args.slots.now in let question = expr_code start.args.depth tree names start.args.at in let v = at-emit-value.emit-value.ensures in
+    let b = block-by start.args.depth tree names (keeping_of start.args.it.now) _ _ (done-of at-if1.if1.false v).0 at-emit-block.emit-block.ensures.0 in (
       loop-done question (instr 29 0 0) (sound-of start.requires.1.0) v at-if1.if1.false b at-if2.if2.false at-end-loop.end-loop.ensures,
       passes-done at-if2.if2.false (loops-at _ _ (done-of at-if1.if1.false v).0) at-emit-block.emit-block.ensures.1,
     ))  -- returns-3

@@ -3,7 +3,7 @@ use mathlib.Core.Path.{refl, sym}
 use mathlib.Core.List.{[]}
 use native.Mathlib.Omega.{arith}
 use Rattle.exprs.proofs.ExprViews.{expr-inside}
-use Rattle.state.specs.State.{slotNames}
+use Rattle.state.specs.State.{slot_names}
 use Rattle.lower_forms.proofs.Unpacking.{tuple-read, target-deep, target-variable, target-tuple, target-tuple-is}
 use Rattle.lower_emit.proofs.Steps.{sound-of, lowers-by, lowers-state, lowers-nothing}
 use Rattle.lower_targets.proofs.Assigned.{target-state}
@@ -36,7 +36,7 @@ emit-assign-target-ok t = emit-assign-target-lts.spec (emit-store-reads.Asked, e
     (λ c. let at-emit-store = c.before.before.before.before in at-emit-store.emit-store.auto.1.1.1.1.0)  -- same-length-2
     (λ c. let at-emit-store = c.before.before.before.before in let at-match = at-emit-store.before.before.before.before in
     let start = at-match.before.before.before.before.before.before in
-    lowers-by at-emit-store.emit-store.ensures (sym (target-variable _ _ (slotNames start.args.tree.now start.args.slots.now) _ start.requires.1.1 at-match.match.keys1).1) refl)  -- returns
+    lowers-by at-emit-store.emit-store.ensures (sym (target-variable _ _ (slot_names start.args.tree.now start.args.slots.now) _ start.requires.1.1 at-match.match.keys1).1) refl)  -- returns
     (λ c. let start = c.before.before.before.before.before.before in omega (arith, expr-inside _ _ _ start.requires.1.1, start.requires.1.0.ready.tree-short))  -- add-u16-at
     (λ c κs. let at-match = c in let start = at-match.before.before.before.before.before.before in (target-tuple _ _ [] _ start.requires.1.1 at-match.match.keys2).0.count)  -- u16-at-requires
     (λ c. let start = c.before.before.before.before.before.before.before in omega (arith, expr-inside _ _ _ start.requires.1.1, start.requires.1.0.ready.tree-short))  -- add-emit-elements
@@ -51,7 +51,7 @@ emit-assign-target-ok t = emit-assign-target-lts.spec (emit-store-reads.Asked, e
     (λ c. let at-emit-elements = c.before.before.before.before in let at-u16-at = at-emit-elements.before.before.before.before in let at-match = at-u16-at.before in
     let start = at-match.before.before.before.before.before.before in
     let u = at-u16-at.u16-at.ensures in
-    lowers-by at-emit-elements.emit-elements.ensures (sym (target-tuple-is _ _ (slotNames start.args.tree.now start.args.slots.now) _ start.requires.1.1 _ at-match.match.keys2 u.0)) refl)  -- returns-2
+    lowers-by at-emit-elements.emit-elements.ensures (sym (target-tuple-is _ _ (slot_names start.args.tree.now start.args.slots.now) _ start.requires.1.1 _ at-match.match.keys2 u.0)) refl)  -- returns-2
     (λ c. let at-match = c in let start = at-match.before.before.before.before.before.before in
     let n = at-match.match.rest in
-    lowers-state (lowers-nothing start.requires.1.2 (sound-of start.requires.1.0)) (target-state (sound-of start.requires.1.0) start.args.depth (slotNames start.args.tree.now start.args.slots.now) start.args.at start.requires.1.1 n.0.1 n.1))  -- returns-3
+    lowers-state (lowers-nothing start.requires.1.2 (sound-of start.requires.1.0)) (target-state (sound-of start.requires.1.0) start.args.depth (slot_names start.args.tree.now start.args.slots.now) start.args.at start.requires.1.1 n.0.1 n.1))  -- returns-3

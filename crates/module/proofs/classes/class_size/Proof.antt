@@ -3,13 +3,13 @@ use native.Mathlib.Omega.{arith}
 use mathlib.Core.Path.{◌≡◌, sym, ap, ap₂, ◌∙◌}
 use Prim.Native.Nat.{ℕ, ◌+◌}
 use lib.ListN.{length}
-use Rattle.module.proofs.CodeLengths.{part-short, classPiece, length-class, class-room}
+use Rattle.module.proofs.CodeLengths.{part-short, class_piece, length-class, class-room}
 use Rattle.module.proofs.classes.class_size.Statement.{statement}
 use Rattle.module.proofs.classes.class_size.Tie as tie
 
 -- name and methods are the class's bytes
 sized : (c : tie.After-methods-size) → let w = c.before in let s = w.before.before.before.before.args in
-    1 + length w.before.name-part.result.now + c.methods-size.result ≡ length (classPiece s.tree.now s.methods.now s.x s.place)
+    1 + length w.before.name-part.result.now + c.methods-size.result ≡ length (class_piece s.tree.now s.methods.now s.x s.place)
 sized c =
     let w = c.before in
     let s = w.before.before.before.before.args in

@@ -3,22 +3,22 @@ use native.Mathlib.Omega.{arith}
 use mathlib.Core.List.{◌∷◌}
 use Prim.Native.Nat.{◌+◌, ◌-◌, ◌≤◌}
 use lib.ListN.{length, get_or}
-use Rattle.module.specs.Sections.{classesBytes}
-use Rattle.module.proofs.Pieces.{pairsFrom, pairs_next, pairs-none, Measured, measured-count, measured-as, measured-fits, measured-next, measured-done}
-use Rattle.module.proofs.CodeLengths.{classPiece, classes-listed, classes-room}
+use Rattle.module.specs.Sections.{classes_bytes}
+use Rattle.module.proofs.Pieces.{pairs_from, pairs_next, pairs-none, Measured, measured-count, measured-as, measured-fits, measured-next, measured-done}
+use Rattle.module.proofs.CodeLengths.{class_piece, classes-listed, classes-room}
 use Rattle.module.proofs.classes.classes_size.Statement.{statement}
 use Rattle.module.proofs.classes.classes_size.Tie as tie
 
 abbrev invariant-loop : tie.invariant-loop
-invariant-loop tree methods names places size₀ i₀ size i = (i ≤ length names) × Measured (classesBytes tree methods names places) size (pairsFrom (classPiece tree methods) i names places)
+invariant-loop tree methods names places size₀ i₀ size i = (i ≤ length names) × Measured (classes_bytes tree methods names places) size (pairs_from (class_piece tree methods) i names places)
 
 abbrev decreases-loop : tie.decreases-loop
 decreases-loop tree methods names places size₀ i₀ size i = length names - i
 
 -- the class in hand is next
 here : (c : tie.In-loop invariant-loop decreases-loop) → let l = c.before.loop in let s = c.before.before.before.before.before.before.args in
-    Measured (classesBytes s.tree.now s.methods.now s.names.now s.places.now) l.size
-    (classPiece s.tree.now s.methods.now (get_or s.names.now l.i 0) (get_or s.places.now l.i 0) ∷ pairsFrom (classPiece s.tree.now s.methods.now) (l.i + 1) s.names.now s.places.now)
+    Measured (classes_bytes s.tree.now s.methods.now s.names.now s.places.now) l.size
+    (class_piece s.tree.now s.methods.now (get_or s.names.now l.i 0) (get_or s.places.now l.i 0) ∷ pairs_from (class_piece s.tree.now s.methods.now) (l.i + 1) s.names.now s.places.now)
 here c = let s = c.before.before.before.before.before.before in measured-as c.before.loop.invariant.1 (pairs_next _ c.before.loop.i _ _ c.loop-test.true (omega (arith, s.requires.1)))
 
 pub classes-size-spec : {M : Type 1} → statement M

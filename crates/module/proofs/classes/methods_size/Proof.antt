@@ -4,32 +4,32 @@ use mathlib.Core.Path.{◌≡◌}
 use mathlib.Core.List.{◌∷◌}
 use Prim.Native.Nat.{◌+◌, ◌-◌, ◌^◌, ◌≤◌, ◌<◌}
 use lib.ListN.{length, get_or}
-use Rattle.module.specs.Sections.{methodsBytes}
+use Rattle.module.specs.Sections.{methods_bytes}
 use Rattle.module.proofs.Pieces.{pieces, pieces-next, pieces_none, Measured, measured-count, measured-as, measured-fits, measured-next, measured-done}
-use Rattle.module.proofs.CodeLengths.{methodPiece, methods-listed, methods-room, method-size}
+use Rattle.module.proofs.CodeLengths.{method_piece, methods-listed, methods-room, method-size}
 use Rattle.module.proofs.classes.methods_size.Statement.{statement}
 use Rattle.module.proofs.classes.methods_size.Tie as tie
 
 abbrev invariant-loop : tie.invariant-loop
-invariant-loop tree words size₀ i₀ size i = (i ≤ length words) × Measured (methodsBytes tree words) size (pieces (methodPiece tree) i words)
+invariant-loop tree words size₀ i₀ size i = (i ≤ length words) × Measured (methods_bytes tree words) size (pieces (method_piece tree) i words)
 
 abbrev decreases-loop : tie.decreases-loop
 decreases-loop tree words size₀ i₀ size i = length words - i
 
 -- the method in hand is next
 here : (c : tie.In-loop invariant-loop decreases-loop) → let l = c.before.loop in let s = c.before.before.before.before.args in
-    Measured (methodsBytes s.tree.now s.words.now) l.size (methodPiece s.tree.now (get_or s.words.now l.i 0) ∷ pieces (methodPiece s.tree.now) (l.i + 1) s.words.now)
+    Measured (methods_bytes s.tree.now s.words.now) l.size (method_piece s.tree.now (get_or s.words.now l.i 0) ∷ pieces (method_piece s.tree.now) (l.i + 1) s.words.now)
 here c = measured-as c.before.loop.invariant.1 (pieces-next _ c.before.loop.i _ c.loop-test.true)
 
 fits : (c : tie.In-loop invariant-loop decreases-loop) → let l = c.before.loop in let s = c.before.before.before.before.args in
-    l.size + length (methodPiece s.tree.now (get_or s.words.now l.i 0)) < 2 ^ 64
+    l.size + length (method_piece s.tree.now (get_or s.words.now l.i 0)) < 2 ^ 64
 fits c =
     let b = c.before.before.before in
     let h = methods-room b.before.args.tree.now b.before.args.words.now (λ j. (b.shared-slice-known.given j).fits) in
     omega (arith, measured-fits (here c), b.before.requires)
 
 size : (c : tie.After-name-part invariant-loop decreases-loop) → let l = c.before.before.before.loop in let s = c.before.before.before.before.before.before.args in
-    3 + length c.name-part.result.now ≡ length (methodPiece s.tree.now (get_or s.words.now l.i 0))
+    3 + length c.name-part.result.now ≡ length (method_piece s.tree.now (get_or s.words.now l.i 0))
 size c = let s = c.before.before.before.before.before.before.args in method-size s.tree.now (get_or s.words.now c.before.before.before.loop.i 0) c.name-part.result.now c.name-part.ensures.0
 
 pub methods-size-spec : {M : Type 1} → statement M

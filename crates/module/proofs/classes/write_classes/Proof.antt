@@ -4,30 +4,30 @@ use mathlib.Core.Path.{◌∙◌}
 use mathlib.Core.List.{◌∷◌}
 use Prim.Native.Nat.{◌+◌, ◌-◌, ◌^◌, ◌≤◌, ◌<◌}
 use lib.ListN.{length, get_or}
-use Rattle.module.specs.Sections.{classesBytes}
+use Rattle.module.specs.Sections.{classes_bytes}
 use Rattle.writing.proofs.Begun.{Begun, begun_first, begun-now, begun-back, begun-as, begun-length, begun-fits, begun-piece, begun-next, begun-done}
-use Rattle.module.proofs.Pieces.{pairsFrom, pairs_next, pairs-none}
-use Rattle.module.proofs.CodeLengths.{classPiece, classes-listed, classes-two}
+use Rattle.module.proofs.Pieces.{pairs_from, pairs_next, pairs-none}
+use Rattle.module.proofs.CodeLengths.{class_piece, classes-listed, classes-two}
 use Rattle.module.proofs.classes.write_classes.Statement.{statement}
 use Rattle.module.proofs.classes.write_classes.Tie as tie
 
 abbrev invariant-loop : tie.invariant-loop
-invariant-loop tree methods names places out₀ at₀ i₀ out at i = (i ≤ length names) × Begun (classesBytes tree methods names places) out₀ at out (pairsFrom (classPiece tree methods) i names places)
+invariant-loop tree methods names places out₀ at₀ i₀ out at i = (i ≤ length names) × Begun (classes_bytes tree methods names places) out₀ at out (pairs_from (class_piece tree methods) i names places)
 
 abbrev decreases-loop : tie.decreases-loop
 decreases-loop tree methods names places out₀ at₀ i₀ out at i = length names - i
 
 -- the count is written
 counted : (c : tie.After-slice-known2 invariant-loop decreases-loop) → let s = c.before.before.before.before.before.before.before.before.before.args in
-    Begun (classesBytes s.tree.now s.methods.now s.names.now s.places.now) s.out.now c.before.before.write-number.result c.before.before.write-number.new.1.1.0 (pairsFrom (classPiece s.tree.now s.methods.now) 0 s.names.now s.places.now)
+    Begun (classes_bytes s.tree.now s.methods.now s.names.now s.places.now) s.out.now c.before.before.write-number.result c.before.before.write-number.new.1.1.0 (pairs_from (class_piece s.tree.now s.methods.now) 0 s.names.now s.places.now)
 counted c = let s = c.before.before.before.before.before.before.before.before.before in begun_first (classes-listed _ _ _ _ s.requires.1) s.requires.2 c.before.before.write-number.ensures
 
 -- the class in hand is next
 here : (c : tie.In-loop invariant-loop decreases-loop) → let l = c.before.loop in let k = c.before.before.before.before in let s = k.before.before.before.before.before.before.before.args in
-    Begun (classesBytes s.tree.now s.methods.now s.names.now s.places.now) k.write-number.new.1.1.0 l.at l.out (classPiece s.tree.now s.methods.now (get_or s.names.now l.i 0) (get_or s.places.now l.i 0) ∷ pairsFrom (classPiece s.tree.now s.methods.now) (l.i + 1) s.names.now s.places.now)
+    Begun (classes_bytes s.tree.now s.methods.now s.names.now s.places.now) k.write-number.new.1.1.0 l.at l.out (class_piece s.tree.now s.methods.now (get_or s.names.now l.i 0) (get_or s.places.now l.i 0) ∷ pairs_from (class_piece s.tree.now s.methods.now) (l.i + 1) s.names.now s.places.now)
 here c = begun-as c.before.loop.invariant.1 _ (pairs_next _ c.before.loop.i _ _ c.loop-test.true (let s = c.before.before.before.before.before.before.before.before.before.before.before in omega (arith, s.requires.1)))
 
-fits : (c : tie.In-loop invariant-loop decreases-loop) → let l = c.before.loop in let s = c.before.before.before.before.before.before.before.before.before.before.before.args in l.at + length (classPiece s.tree.now s.methods.now (get_or s.names.now l.i 0) (get_or s.places.now l.i 0)) < 2 ^ 64
+fits : (c : tie.In-loop invariant-loop decreases-loop) → let l = c.before.loop in let s = c.before.before.before.before.before.before.before.before.before.before.before.args in l.at + length (class_piece s.tree.now s.methods.now (get_or s.names.now l.i 0) (get_or s.places.now l.i 0)) < 2 ^ 64
 fits c = let b = c.before.before in let s = b.before.before.before.before.before.before.before.before.before in omega (arith, begun-fits (here c), begun-length (here c), begun-length (counted b), s.well-formed)
 
 pub write-classes-spec : {M : Type 1} → statement M

@@ -4,17 +4,17 @@ use mathlib.Core.List.{[], ◌∷◌}
 use Prim.Native.Nat.{◌%◌, ◌/◌, ◌≤◌}
 use lib.ListN.{length}
 use Rattle.definitions.specs.Bytes.{be}
-use Rattle.definitions.specs.Module.{nameBytes}
+use Rattle.definitions.specs.Module.{name_bytes}
 use Rattle.state.specs.Words.{name_at}
 use Rattle.writing.proofs.Begun.{Begun, begun_first, begun-length, begun-fits, begun-number, begun-next, begun-done}
 use Rattle.module.proofs.Lengths.{name-short, length-name, name-room, name-wrote}
-use Rattle.module.proofs.CodeLengths.{methodPiece, method-pieces, length-method}
+use Rattle.module.proofs.CodeLengths.{method_piece, method-pieces, length-method}
 use Rattle.module.proofs.classes.write_method.Statement.{statement}
 use Rattle.module.proofs.classes.write_method.Tie as tie
 
 -- the name is written
 named : (c : tie.After-slice-known2) → let s = c.before.before.before.before.before.before.before.args in
-    Begun (methodPiece s.tree.now s.w) s.out.now c.before.before.write-counted.result c.before.before.write-counted.new.1.1.0 (be 2 (s.w % 256) ∷ [])
+    Begun (method_piece s.tree.now s.w) s.out.now c.before.before.write-counted.result c.before.before.write-counted.new.1.1.0 (be 2 (s.w % 256) ∷ [])
 named c =
     let p = c.before.before in
     let s = p.before.before.before.before.before in
@@ -26,7 +26,7 @@ write-method-spec = tie.close (tie.spec
     (λ c κs. search rules)
     (λ c κs. let k = c.before.before.before in let s = k.before in let t = s.args.tree.now in let w = s.args.w in
     name-room c.before.name-part.ensures.0 (name-short t (w / 256) (λ j. (k.shared-slice-known.given j).fits))
-    (let h : length (nameBytes (name_at t (w / 256))) ≤ length s.args.out.now = omega (arith, s.requires, length-method t w, length-name (name_at t (w / 256))) in h))
+    (let h : length (name_bytes (name_at t (w / 256))) ≤ length s.args.out.now = omega (arith, s.requires, length-method t w, length-name (name_at t (w / 256))) in h))
     (λ c. search rules)
     (λ c. omega (arith, begun-fits (named c)))
     (λ c. omega (arith, begun-fits (named c)))

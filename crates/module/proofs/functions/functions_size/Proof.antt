@@ -4,23 +4,23 @@ use mathlib.Core.Path.{◌≡◌, refl}
 use mathlib.Core.List.{List, [], ◌∷◌}
 use Prim.Native.Nat.{ℕ, ◌+◌, ◌-◌, ◌≤◌}
 use lib.ListN.{length, get_or}
-use Rattle.module.specs.Sections.{functionsBytes}
-use Rattle.module.proofs.Pieces.{pairsFrom, pairs_next, pairs-none, Measured, measured-count, measured-as, measured-fits, measured-next, measured-done}
-use Rattle.module.proofs.CodeLengths.{functionPiece, functions-listed, functions-room}
+use Rattle.module.specs.Sections.{functions_bytes}
+use Rattle.module.proofs.Pieces.{pairs_from, pairs_next, pairs-none, Measured, measured-count, measured-as, measured-fits, measured-next, measured-done}
+use Rattle.module.proofs.CodeLengths.{function_piece, functions-listed, functions-room}
 use Rattle.module.proofs.functions.functions_size.Statement.{statement}
 use Rattle.module.proofs.functions.functions_size.Tie as tie
 
 abbrev invariant-loop : tie.invariant-loop
 invariant-loop finished places size₀ i₀ size i =
-    (i ≤ length places) × ((t hs : List ℕ) → length hs ≡ length places → Measured (functionsBytes t finished hs places) size (pairsFrom (functionPiece t finished) i hs places))
+    (i ≤ length places) × ((t hs : List ℕ) → length hs ≡ length places → Measured (functions_bytes t finished hs places) size (pairs_from (function_piece t finished) i hs places))
 
 abbrev decreases-loop : tie.decreases-loop
 decreases-loop finished places size₀ i₀ size i = length places - i
 
 -- the function in hand is next
 here : (c : tie.In-loop invariant-loop decreases-loop) (t hs : List ℕ) → let l = c.before.loop in let s = c.before.before.before.before.args in length hs ≡ length s.places.now →
-    Measured (functionsBytes t s.finished.now hs s.places.now) l.size
-    (functionPiece t s.finished.now (get_or hs l.i 0) (get_or s.places.now l.i 0) ∷ pairsFrom (functionPiece t s.finished.now) (l.i + 1) hs s.places.now)
+    Measured (functions_bytes t s.finished.now hs s.places.now) l.size
+    (function_piece t s.finished.now (get_or hs l.i 0) (get_or s.places.now l.i 0) ∷ pairs_from (function_piece t s.finished.now) (l.i + 1) hs s.places.now)
 here c t hs e = let h = c.loop-test.true in measured-as (c.before.loop.invariant.1 t hs e) (pairs_next _ c.before.loop.i _ _ (omega arith) h)
 
 pub functions-size-spec : {M : Type 1} → statement M

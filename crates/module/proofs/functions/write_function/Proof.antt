@@ -3,16 +3,16 @@ use native.Mathlib.Omega.{arith}
 use mathlib.Core.List.{[], ◌∷◌}
 use Prim.Native.Nat.{◌/◌, ◌%◌}
 use Rattle.definitions.specs.Bytes.{be}
-use Rattle.module.specs.Sections.{codeBytes}
+use Rattle.module.specs.Sections.{code_bytes}
 use Rattle.writing.proofs.Begun.{Begun, begun_first, begun-length, begun-fits, begun-piece, begun-number, begun-next, begun-done}
-use Rattle.module.proofs.CodeLengths.{part-short, functionPiece, function-pieces, length-function}
+use Rattle.module.proofs.CodeLengths.{part-short, function_piece, function-pieces, length-function}
 use Rattle.module.proofs.functions.write_function.Statement.{statement}
 use Rattle.module.proofs.functions.write_function.Tie as tie
 
 -- the symbol is written
 begun : (c : tie.After-slice-known2) → let w = c.before.before.before.before in let s = w.before.before.before.before.args in
-    Begun (functionPiece s.tree.now s.finished.now s.head s.place) s.out.now c.before.before.write-number.result c.before.before.write-number.new.1.1.0
-    (be 1 (s.head / 256 % 256) ∷ be 2 (s.head % 256) ∷ codeBytes s.tree.now w.words-part.result.now ∷ [])
+    Begun (function_piece s.tree.now s.finished.now s.head s.place) s.out.now c.before.before.write-number.result c.before.before.write-number.new.1.1.0
+    (be 1 (s.head / 256 % 256) ∷ be 2 (s.head % 256) ∷ code_bytes s.tree.now w.words-part.result.now ∷ [])
 begun c =
     let w = c.before.before.before.before in
     let s = w.before.before.before.before in

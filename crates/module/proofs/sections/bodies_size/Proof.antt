@@ -3,8 +3,8 @@ use native.Mathlib.Omega.{arith}
 use mathlib.Core.Path.{◌≡◌, refl, ap₂, ◌∙◌}
 use Prim.Native.Nat.{ℕ, ◌+◌, ◌*◌, ◌<◌, ◌^◌}
 use lib.ListN.{length}
-use Rattle.state.specs.State.{codesFrom, classNamesFrom}
-use Rattle.module.specs.Sections.{bodiesBytes}
+use Rattle.state.specs.State.{codes_from, class_names_from}
+use Rattle.module.specs.Sections.{bodies_bytes}
 use Rattle.module.proofs.Whole.{few, finished-are, same-functions, same-classes, length-bodies, bodies-room}
 use Rattle.module.proofs.sections.bodies_size.Statement.{statement}
 use Rattle.module.proofs.sections.bodies_size.Tie as tie
@@ -12,7 +12,7 @@ use Rattle.module.proofs.sections.bodies_size.Tie as tie
 -- functions and classes are measured
 module _ (c : tie.After-classes-size) where
   sized : let s = c.before.before.before.before.before.before.before.before.before.before.before.before.before.args in
-      c.before.functions-size.result + c.classes-size.result + 2 + 2 * s.c.constants ≡ length (bodiesBytes s.tree.now s.code.now s.tables.now s.c)
+      c.before.functions-size.result + c.classes-size.result + 2 + 2 * s.c.constants ≡ length (bodies_bytes s.tree.now s.code.now s.tables.now s.c)
   sized =
       let w = c.before.before.before in
       let s = w.before.before.before.before.before.before.before.before.before.before in
@@ -26,7 +26,7 @@ module _ (c : tie.After-classes-size) where
       ∙ length-bodies a.tree.now a.code.now a.tables.now a.c (finished-are a.code.now) refl ks w.words-part4.ensures xs ps s.requires
 
   room : let s = c.before.before.before.before.before.before.before.before.before.before.before.before.before.args in
-      length (bodiesBytes s.tree.now s.code.now s.tables.now s.c) < 2 ^ 31
+      length (bodies_bytes s.tree.now s.code.now s.tables.now s.c) < 2 ^ 31
   room =
       let k = c.before.before.before.before.before.before.before.before.before.before.before.before in
       let a = k.before.args in
@@ -45,9 +45,9 @@ bodies-size-spec = tie.close (tie.spec
     (λ c. search rules)
     (λ c. search rules)
     (λ c κs. let s = c.before.before.before.before.before.before.before.before.before.before.before in
-    omega (arith, few codesFrom 256 s.args.tables.now c.before.before.before.before.before.before.words-part.ensures s.requires.functions))
+    omega (arith, few codes_from 256 s.args.tables.now c.before.before.before.before.before.before.words-part.ensures s.requires.functions))
     (λ c κs. let w = c.before.before in let s = w.before.before.before.before.before.before.before.before.before.before in let a = s.args in (
-      omega (arith, few classNamesFrom 64 a.tables.now w.before.before.before.words-part2.ensures s.requires.classes),
+      omega (arith, few class_names_from 64 a.tables.now w.before.before.before.words-part2.ensures s.requires.classes),
       same-classes a.tree.now a.code.now a.tables.now a.c refl refl refl refl w.before.before.before.words-part2.ensures w.before.words-part3.ensures s.requires,
     ))
     (λ c. omega (arith, sized c, room c))

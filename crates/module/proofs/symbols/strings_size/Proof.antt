@@ -3,25 +3,25 @@ use native.Mathlib.Omega.{arith}
 use mathlib.Core.List.{◌∷◌}
 use Prim.Native.Nat.{◌+◌, ◌-◌, ◌^◌, ◌≤◌, ◌<◌}
 use lib.ListN.{length, get_or}
-use Rattle.module.specs.Sections.{stringBytes}
+use Rattle.module.specs.Sections.{string_bytes}
 use Rattle.module.proofs.Pieces.{pieces, pieces-next, pieces_none, Measured, measured-count, measured-as, measured-fits, measured-next, measured-done}
-use Rattle.module.proofs.Lengths.{text-size, stringPiece, strings-listed, strings-room}
+use Rattle.module.proofs.Lengths.{text-size, string_piece, strings-listed, strings-room}
 use Rattle.module.proofs.symbols.strings_size.Statement.{statement}
 use Rattle.module.proofs.symbols.strings_size.Tie as tie
 
 abbrev invariant-loop : tie.invariant-loop
-invariant-loop tree entries size₀ i₀ size i = (i ≤ length entries) × Measured (stringBytes tree entries) size (pieces (stringPiece tree) i entries)
+invariant-loop tree entries size₀ i₀ size i = (i ≤ length entries) × Measured (string_bytes tree entries) size (pieces (string_piece tree) i entries)
 
 abbrev decreases-loop : tie.decreases-loop
 decreases-loop tree entries size₀ i₀ size i = length entries - i
 
 -- the string in hand is next
 here : (c : tie.In-loop invariant-loop decreases-loop) → let l = c.before.loop in let s = c.before.before.before.before.args in
-    Measured (stringBytes s.tree.now s.entries.now) l.size (stringPiece s.tree.now (get_or s.entries.now l.i 0) ∷ pieces (stringPiece s.tree.now) (l.i + 1) s.entries.now)
+    Measured (string_bytes s.tree.now s.entries.now) l.size (string_piece s.tree.now (get_or s.entries.now l.i 0) ∷ pieces (string_piece s.tree.now) (l.i + 1) s.entries.now)
 here c = measured-as c.before.loop.invariant.1 (pieces-next _ c.before.loop.i _ c.loop-test.true)
 
 fits : (c : tie.In-loop invariant-loop decreases-loop) → let l = c.before.loop in let s = c.before.before.before.before.args in
-    l.size + length (stringPiece s.tree.now (get_or s.entries.now l.i 0)) < 2 ^ 64
+    l.size + length (string_piece s.tree.now (get_or s.entries.now l.i 0)) < 2 ^ 64
 fits c =
     let b = c.before.before.before in
     let h = strings-room b.before.args.tree.now b.before.args.entries.now (λ j. (b.shared-slice-known.given j).fits) in

@@ -3,26 +3,26 @@ use native.Mathlib.Omega.{arith}
 use mathlib.Core.List.{◌∷◌}
 use Prim.Native.Nat.{◌+◌, ◌-◌, ◌^◌, ◌≤◌, ◌<◌}
 use lib.ListN.{length, get_or}
-use Rattle.module.specs.Sections.{symbolBytes}
+use Rattle.module.specs.Sections.{symbol_bytes}
 use Rattle.module.proofs.Pieces.{pieces, pieces-next, pieces_none, Measured, measured-count, measured-as, measured-fits, measured-next, measured-done}
-use Rattle.module.proofs.Lengths.{name-size, symbolPiece, symbols-listed, symbols-room}
+use Rattle.module.proofs.Lengths.{name-size, symbol_piece, symbols-listed, symbols-room}
 use Rattle.module.proofs.symbols.symbols_size.Statement.{statement}
 use Rattle.module.proofs.symbols.symbols_size.Tie as tie
 
 abbrev invariant-loop : tie.invariant-loop
-invariant-loop tree made entries size₀ i₀ size i = (i ≤ length entries) × Measured (symbolBytes tree made entries) size (pieces (symbolPiece tree made) i entries)
+invariant-loop tree made entries size₀ i₀ size i = (i ≤ length entries) × Measured (symbol_bytes tree made entries) size (pieces (symbol_piece tree made) i entries)
 
 abbrev decreases-loop : tie.decreases-loop
 decreases-loop tree made entries size₀ i₀ size i = length entries - i
 
 -- the symbol in hand is next
 here : (c : tie.In-loop invariant-loop decreases-loop) → let l = c.before.loop in let s = c.before.before.before.before.before.args in
-    Measured (symbolBytes s.tree.now s.made.now s.entries.now) l.size
-    (symbolPiece s.tree.now s.made.now (get_or s.entries.now l.i 0) ∷ pieces (symbolPiece s.tree.now s.made.now) (l.i + 1) s.entries.now)
+    Measured (symbol_bytes s.tree.now s.made.now s.entries.now) l.size
+    (symbol_piece s.tree.now s.made.now (get_or s.entries.now l.i 0) ∷ pieces (symbol_piece s.tree.now s.made.now) (l.i + 1) s.entries.now)
 here c = measured-as c.before.loop.invariant.1 (pieces-next _ c.before.loop.i _ c.loop-test.true)
 
 fits : (c : tie.In-loop invariant-loop decreases-loop) → let l = c.before.loop in let s = c.before.before.before.before.before.args in
-    l.size + length (symbolPiece s.tree.now s.made.now (get_or s.entries.now l.i 0)) < 2 ^ 64
+    l.size + length (symbol_piece s.tree.now s.made.now (get_or s.entries.now l.i 0)) < 2 ^ 64
 fits c =
     let b = c.before.before in
     let s = b.before.before.before in

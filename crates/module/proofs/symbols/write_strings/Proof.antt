@@ -4,32 +4,32 @@ use mathlib.Core.Path.{◌∙◌}
 use mathlib.Core.List.{◌∷◌}
 use Prim.Native.Nat.{◌+◌, ◌-◌, ◌^◌, ◌≤◌, ◌<◌}
 use lib.ListN.{length, get_or}
-use Rattle.module.specs.Sections.{stringBytes}
+use Rattle.module.specs.Sections.{string_bytes}
 use Rattle.writing.proofs.Begun.{Begun, begun_first, begun-now, begun-back, begun-as, begun-length, begun-fits, begun-piece, begun-next, begun-done}
 use Rattle.module.proofs.Pieces.{pieces, pieces-next, pieces_none}
-use Rattle.module.proofs.Lengths.{text-short, text-room, text-wrote, stringPiece, strings-listed, strings-two}
+use Rattle.module.proofs.Lengths.{text-short, text-room, text-wrote, string_piece, strings-listed, strings-two}
 use Rattle.module.proofs.symbols.write_strings.Statement.{statement}
 use Rattle.module.proofs.symbols.write_strings.Tie as tie
 
 abbrev invariant-loop : tie.invariant-loop
-invariant-loop tree entries out₀ at₀ i₀ out at i = (i ≤ length entries) × Begun (stringBytes tree entries) out₀ at out (pieces (stringPiece tree) i entries)
+invariant-loop tree entries out₀ at₀ i₀ out at i = (i ≤ length entries) × Begun (string_bytes tree entries) out₀ at out (pieces (string_piece tree) i entries)
 
 abbrev decreases-loop : tie.decreases-loop
 decreases-loop tree entries out₀ at₀ i₀ out at i = length entries - i
 
 -- the count is written
 counted : (c : tie.After-slice-known2 invariant-loop decreases-loop) → let s = c.before.before.before.before.before.before.before.args in
-    Begun (stringBytes s.tree.now s.entries.now) s.out.now c.before.before.write-number.result c.before.before.write-number.new.1.1.0 (pieces (stringPiece s.tree.now) 0 s.entries.now)
+    Begun (string_bytes s.tree.now s.entries.now) s.out.now c.before.before.write-number.result c.before.before.write-number.new.1.1.0 (pieces (string_piece s.tree.now) 0 s.entries.now)
 counted c = let s = c.before.before.before.before.before.before.before in begun_first (strings-listed _ _) s.requires.1 c.before.before.write-number.ensures
 
 -- the string in hand is next
 here : (c : tie.In-loop invariant-loop decreases-loop) → let l = c.before.loop in let k = c.before.before.before.before in let s = k.before.before.before.before.before.args in
-    Begun (stringBytes s.tree.now s.entries.now) k.write-number.new.1.1.0 l.at l.out
-    (stringPiece s.tree.now (get_or s.entries.now l.i 0) ∷ pieces (stringPiece s.tree.now) (l.i + 1) s.entries.now)
+    Begun (string_bytes s.tree.now s.entries.now) k.write-number.new.1.1.0 l.at l.out
+    (string_piece s.tree.now (get_or s.entries.now l.i 0) ∷ pieces (string_piece s.tree.now) (l.i + 1) s.entries.now)
 here c = begun-as c.before.loop.invariant.1 _ (pieces-next _ c.before.loop.i _ c.loop-test.true)
 
 fits : (c : tie.In-loop invariant-loop decreases-loop) → let l = c.before.loop in let s = c.before.before.before.before.before.before.before.before.before.args in
-    l.at + length (stringPiece s.tree.now (get_or s.entries.now l.i 0)) < 2 ^ 64
+    l.at + length (string_piece s.tree.now (get_or s.entries.now l.i 0)) < 2 ^ 64
 fits c =
     let b = c.before.before in
     let s = b.before.before.before.before.before.before.before in

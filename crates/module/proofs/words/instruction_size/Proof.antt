@@ -2,8 +2,8 @@ use borrow.Author.Rules.{rules}
 use native.Mathlib.Omega.{arith}
 use mathlib.Core.Path.{sym, ap, ◌∙◌}
 use Prim.Native.Nat.{ℕ, ◌+◌}
-use Rattle.definitions.specs.Instruction.{firstWidth, secondWidth}
-use Rattle.state.specs.Words.{instrOf}
+use Rattle.definitions.specs.Instruction.{first_width, second_width}
+use Rattle.state.specs.Words.{instr_of}
 use Rattle.module.proofs.Encoding.{length-encode}
 use Rattle.module.proofs.words.instruction_size.Statement.{statement}
 use Rattle.module.proofs.words.instruction_size.Tie as tie
@@ -14,6 +14,6 @@ instruction-size-spec = tie.close (tie.spec
     (λ c κs. search rules)
     (λ c. search rules)
     (λ c. let r = c.whole-width.ensures in (
-      λ t. r.0 ∙ ap (λ (op : ℕ). 1 + firstWidth op + secondWidth op) (c.before.opcode.ensures.0 t) ∙ sym (length-encode (instrOf t _)),
+      λ t. r.0 ∙ ap (λ (op : ℕ). 1 + first_width op + second_width op) (c.before.opcode.ensures.0 t) ∙ sym (length-encode (instr_of t _)),
       omega (arith, r.1),
     )))

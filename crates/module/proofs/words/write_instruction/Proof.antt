@@ -4,7 +4,7 @@ use mathlib.Core.List.{[], ◌∷◌}
 use lib.ListN.{set}
 use Rattle.definitions.specs.Bytes.{be}
 use Rattle.definitions.specs.Instruction.{encode}
-use Rattle.state.specs.Words.{instrOf}
+use Rattle.state.specs.Words.{instr_of}
 use Rattle.writing.proofs.Begun.{Begun, begun-length, begun-fits, begun-number, begun-next, begun-done}
 use Rattle.module.proofs.Encoding.{length-encode, wrote-alone, begun-word}
 use Rattle.module.proofs.words.write_instruction.Statement.{statement}
@@ -12,7 +12,7 @@ use Rattle.module.proofs.words.write_instruction.Tie as tie
 
 -- the opcode of an instruction with operands is written
 begun : (c : tie.After-second-operand) → let f = c.before.before.before.before.before in let a = f.before.before.before.before.args in
-    Begun (encode (instrOf a.tree.now a.w)) a.out.now 1 (set a.out.now 0 f.before.opcode.result)
+    Begun (encode (instr_of a.tree.now a.w)) a.out.now 1 (set a.out.now 0 f.before.opcode.result)
     (be f.first_width.result c.before.first-operand.result ∷ be c.before.before.second-width.result c.second-operand.result ∷ [])
 begun c =
     let f = c.before.before.before.before.before in
@@ -27,7 +27,7 @@ write-instruction-spec = tie.close (tie.spec
     (λ c κs. search rules)
     (λ c. search rules)
     (λ c. search rules)
-    (λ c. let s = c.before.before.before.before.before in omega (arith, length-encode (instrOf s.args.tree.now s.args.w), s.requires))
+    (λ c. let s = c.before.before.before.before.before in omega (arith, length-encode (instr_of s.args.tree.now s.args.w), s.requires))
     (λ c. search rules)
     (λ c. let f = c.before in let s = f.before.before.before.before in let a = s.args in
     wrote-alone a.tree.now a.out.now a.w (f.before.opcode.ensures.0 a.tree.now) f.first_width.ensures.0 c.if1.true s.requires)

@@ -2,20 +2,20 @@ use native.Mathlib.Omega.{arith}
 use Prim.Native.Nat.{◌-◌, ◌<◌}
 use mathlib.Core.Path.{◌≡◌, refl, sym, ◌∙◌}
 use lib.ListN.{length, drop}
-use Rattle.state.specs.Index.{hashFrom, hashOf}
+use Rattle.state.specs.Index.{hash_from, hash_of}
 use Rattle.state.proofs.Index.{hash-next, hash-end}
 use Rattle.names.proofs.index.hash.Statement.{statement}
 use Rattle.names.proofs.index.hash.Tie as tie
 
 -- the rest is hashed from here
 abbrev invariant-loop : tie.invariant-loop
-invariant-loop name h₀ i₀ h i = (hashOf name ≡ hashFrom h (drop i name)) × (h < 65536)
+invariant-loop name h₀ i₀ h i = (hash_of name ≡ hash_from h (drop i name)) × (h < 65536)
 
 abbrev decreases-loop : tie.decreases-loop
 decreases-loop name h₀ i₀ h i = length name - i
 
 pub hash-spec : {M : Type 1} → statement M
-unfolding hashOf
+unfolding hash_of
 hash-spec = tie.close (tie.spec invariant-loop decreases-loop
     (λ c. (refl, omega arith))  -- loop-holds
     (λ c. omega (arith, c.before.loop.invariant.1))  -- mul-h

@@ -1,13 +1,13 @@
 use mathlib.Core.Path.{◌≡◌, refl, sym, ◌∙◌}
 use native.Mathlib.Omega.{arith}
-use Rattle.parts.specs.Places.{namesFrom, AllThere}
+use Rattle.parts.specs.Places.{names_from, AllThere}
 use Rattle.definitions.specs.Wellformed.{distinct}
 use Rattle.parts.proofs.NameLaws.{there-first, there-next, distinct-stop, distinct-go, distinct_none}
 use Rattle.parts.proofs.distinct.distinct_few.Statement.{statement}
 use Rattle.parts.proofs.distinct.distinct_few.Tie as tie
 
 abbrev invariant-loop : tie.invariant-loop
-invariant-loop tree at n p₀ left₀ p left = (distinct (namesFrom tree left₀ p₀) ≡ distinct (namesFrom tree left p)) × AllThere tree left p
+invariant-loop tree at n p₀ left₀ p left = (distinct (names_from tree left₀ p₀) ≡ distinct (names_from tree left p)) × AllThere tree left p
 
 abbrev decreases-loop : tie.decreases-loop
 decreases-loop tree at n p₀ left₀ p left = left

@@ -2,14 +2,14 @@ use Rattle.parts.proofs.NameLaws.{same-as, occurs-again}
 use mathlib.Core.Path.{◌≡◌, refl, sym, ◌∙◌}
 use native.Mathlib.Omega.{arith}
 use borrow.Author.Rules.{rules}
-use Rattle.parts.specs.Places.{nameBytes, namesFrom, AllThere}
+use Rattle.parts.specs.Places.{name_bytes, names_from, AllThere}
 use Rattle.definitions.specs.Bytes.{member}
 use Rattle.parts.proofs.NameLaws.{there-first, member-found, member-none}
 use Rattle.parts.proofs.distinct.occurs.Statement.{statement}
 use Rattle.parts.proofs.distinct.occurs.Tie as tie
 
 abbrev invariant-loop : tie.invariant-loop
-invariant-loop tree at from n p₀ left₀ p left = (member (nameBytes tree at) (namesFrom tree left₀ p₀) ≡ member (nameBytes tree at) (namesFrom tree left p)) × AllThere tree left p
+invariant-loop tree at from n p₀ left₀ p left = (member (name_bytes tree at) (names_from tree left₀ p₀) ≡ member (name_bytes tree at) (names_from tree left p)) × AllThere tree left p
 
 abbrev decreases-loop : tie.decreases-loop
 decreases-loop tree at from n p₀ left₀ p left = left

@@ -2,7 +2,7 @@ use mathlib.Core.Path.{refl}
 use Prim.Native.Nat.{◌+◌, ◌-◌}
 use native.Mathlib.Omega.{arith}
 use borrow.Author.Rules.{rules}
-use Rattle.parts.specs.Places.{nameBytes, namesFrom}
+use Rattle.parts.specs.Places.{name_bytes, names_from}
 use Rattle.parts.specs.Search.{Searches, Puts}
 use Rattle.parts.proofs.NameLaws.{same-as}
 use Rattle.parts.proofs.SearchLaws.{Seeking, seek-start, put-twice, put_next, put-here, entry-low}
@@ -10,7 +10,7 @@ use Rattle.parts.proofs.distinct.put_name.Statement.{statement}
 use Rattle.parts.proofs.distinct.put_name.Tie as tie
 
 abbrev invariant-loop : tie.invariant-loop
-invariant-loop tree table₀ root count at most p₀ k₀ table p k = Searches tree table root (namesFrom tree count root) × Seeking tree table root (namesFrom tree count root) (nameBytes tree at) k p
+invariant-loop tree table₀ root count at most p₀ k₀ table p k = Searches tree table root (names_from tree count root) × Seeking tree table root (names_from tree count root) (name_bytes tree at) k p
 
 abbrev decreases-loop : tie.decreases-loop
 decreases-loop tree table₀ root count at most p₀ k₀ table p k = most - k

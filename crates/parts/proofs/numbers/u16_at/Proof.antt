@@ -1,13 +1,13 @@
 use native.Mathlib.Omega.{arith}
 use mathlib.Core.Path.{refl}
 use Prim.Native.Nat.{◌+◌}
-use Rattle.parts.specs.Places.{countAt}
+use Rattle.parts.specs.Places.{count_at}
 use borrow.Author.Rules.{rules}
 use Rattle.parts.proofs.numbers.u16_at.Statement.{statement}
 use Rattle.parts.proofs.numbers.u16_at.Tie as tie
 
 pub u16-at-spec : {M : Type 1} → statement M
-unfolding countAt
+unfolding count_at
 u16-at-spec = tie.close (tie.spec
     (λ c. search rules)  -- shared-slice-read-result
     (λ c. omega (arith, c.shared-slice-known.given c.before.args.at))  -- cast-result

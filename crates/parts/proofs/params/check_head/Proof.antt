@@ -1,5 +1,5 @@
 use mathlib.Core.Path.{sym, ◌∙◌}
-use Rattle.parts.specs.Judge.{judgeHead}
+use Rattle.parts.specs.Judge.{judge_head}
 use Rattle.parts.proofs.Laws.{with-unread, with-number, then_next, then-refused, judged-within}
 use Rattle.parts.proofs.NameLaws.{name-at-is, head-close}
 use borrow.Author.Rules.{rules}
@@ -7,7 +7,7 @@ use Rattle.parts.proofs.params.check_head.Statement.{statement}
 use Rattle.parts.proofs.params.check_head.Tie as tie
 
 pub check-head-spec : {M : Type 1} → statement M
-unfolding judgeHead
+unfolding judge_head
 check-head-spec = tie.close (tie.spec
     (λ c κs. search rules)  -- check-name-requires
     (λ c. search rules)  -- enum-known-first

@@ -3,14 +3,14 @@ use Prim.Native.Nat.{◌≤◌}
 use native.Mathlib.Omega.{arith}
 use borrow.Author.Rules.{rules}
 use lib.ListN.{length}
-use Rattle.parts.specs.Judge.{judgeNames}
+use Rattle.parts.specs.Judge.{judge_names}
 use Rattle.parts.proofs.NameLaws.{names-none, names_more}
 use Rattle.parts.proofs.Laws.{then_next, then-refused, judged-within}
 use Rattle.parts.proofs.params.check_names.Statement.{statement}
 use Rattle.parts.proofs.params.check_names.Tie as tie
 
 abbrev invariant-loop : tie.invariant-loop
-invariant-loop tree at n stand p₀ left₀ w₀ p left w = (judgeNames tree left₀ p₀ w₀ ≡ judgeNames tree left p w) × (p ≤ length tree)
+invariant-loop tree at n stand p₀ left₀ w₀ p left w = (judge_names tree left₀ p₀ w₀ ≡ judge_names tree left p w) × (p ≤ length tree)
 
 abbrev decreases-loop : tie.decreases-loop
 decreases-loop tree at n stand p₀ left₀ w₀ p left w = left

@@ -1,7 +1,7 @@
 use mathlib.Core.Path.{refl}
 use native.Mathlib.Omega.{arith}
 use borrow.Author.Rules.{rules}
-use Rattle.reach.proofs.Tracks.{stepsTo, Counting, counting-start, place_in, mark-in, some, one_less, counted, counting-on}
+use Rattle.reach.proofs.Tracks.{steps_to, Counting, counting-start, place_in, mark-in, some, one_less, counted, counting-on}
 use Rattle.reach.proofs.trace.way_length.Statement.{statement}
 use Rattle.reach.proofs.trace.way_length.Tie as tie
 
@@ -9,7 +9,7 @@ abbrev invariant-loop : tie.invariant-loop
 invariant-loop area place p₀ count₀ p count = Counting area place p count
 
 abbrev decreases-loop : tie.decreases-loop
-decreases-loop area place p₀ count₀ p count = stepsTo area p
+decreases-loop area place p₀ count₀ p count = steps_to area p
 
 pub way-length-spec : {M : Type 1} → statement M
 way-length-spec = tie.close (tie.spec invariant-loop decreases-loop

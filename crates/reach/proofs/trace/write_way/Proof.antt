@@ -1,6 +1,6 @@
 use mathlib.Core.Path.{refl}
 use native.Mathlib.Omega.{arith}
-use Rattle.reach.proofs.Tracks.{stepsTo, place_in, mark-in, some, one_less, Written, written_none, written_all, put-fits, written-more}
+use Rattle.reach.proofs.Tracks.{steps_to, place_in, mark-in, some, one_less, Written, written_none, written_all, put-fits, written-more}
 use Rattle.reach.proofs.trace.write_way.Statement.{statement}
 use Rattle.reach.proofs.trace.write_way.Tie as tie
 
@@ -8,7 +8,7 @@ abbrev invariant-loop : tie.invariant-loop
 invariant-loop area place end out₀ p₀ at₀ out p at = Written area place end p at out₀ out
 
 abbrev decreases-loop : tie.decreases-loop
-decreases-loop area place end out₀ p₀ at₀ out p at = stepsTo area p
+decreases-loop area place end out₀ p₀ at₀ out p at = steps_to area p
 
 pub write-way-spec : {M : Type 1} → statement M
 write-way-spec = tie.close (tie.spec invariant-loop decreases-loop

@@ -3,16 +3,16 @@ use Prim.Native.Nat.{◌≤◌}
 use native.Mathlib.Omega.{arith}
 use borrow.Author.Rules.{rules}
 use lib.ListN.{length}
-use Rattle.definitions.specs.Reader.{classRecord}
-use Rattle.reader.specs.Asks.{askClass}
-use Rattle.reader.proofs.Checked.{eachFrom, list-short, list-begins, list-next, list-stops, list-ends, each-le}
+use Rattle.definitions.specs.Reader.{class_record}
+use Rattle.reader.specs.Asks.{ask_class}
+use Rattle.reader.proofs.Checked.{each_from, list-short, list-begins, list-next, list-stops, list-ends, each-le}
 use Rattle.reader.proofs.classes.ask_classes.Statement.{statement}
 use Rattle.reader.proofs.classes.ask_classes.Tie as tie
 use Rattle.definitions.proofs.Begins.{takes-class}
 
 abbrev invariant-loop : tie.invariant-loop
 invariant-loop bytes at question c left₀ p₀ left p =
-    (p ≤ length bytes) × (eachFrom (askClass question c) classRecord bytes left₀ p₀ ≡ eachFrom (askClass question c) classRecord bytes left p)
+    (p ≤ length bytes) × (each_from (ask_class question c) class_record bytes left₀ p₀ ≡ each_from (ask_class question c) class_record bytes left p)
 
 abbrev decreases-loop : tie.decreases-loop
 decreases-loop bytes at question c left₀ p₀ left p = left

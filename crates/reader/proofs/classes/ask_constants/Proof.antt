@@ -4,15 +4,15 @@ use native.Mathlib.Omega.{arith}
 use borrow.Author.Rules.{rules}
 use lib.ListN.{length}
 use Rattle.definitions.specs.Bytes.{field}
-use Rattle.reader.specs.Asks.{askConstant}
-use Rattle.reader.proofs.Checked.{eachFrom, list-short, list-begins, list-next, list-stops, list-ends, each-le}
+use Rattle.reader.specs.Asks.{ask_constant}
+use Rattle.reader.proofs.Checked.{each_from, list-short, list-begins, list-next, list-stops, list-ends, each-le}
 use Rattle.reader.proofs.classes.ask_constants.Statement.{statement}
 use Rattle.reader.proofs.classes.ask_constants.Tie as tie
 use Rattle.definitions.proofs.Begins.{takes_field}
 
 abbrev invariant-loop : tie.invariant-loop
 invariant-loop bytes at question c left₀ p₀ left p =
-    (p ≤ length bytes) × (eachFrom (askConstant question c) (field 2) bytes left₀ p₀ ≡ eachFrom (askConstant question c) (field 2) bytes left p)
+    (p ≤ length bytes) × (each_from (ask_constant question c) (field 2) bytes left₀ p₀ ≡ each_from (ask_constant question c) (field 2) bytes left p)
 
 abbrev decreases-loop : tie.decreases-loop
 decreases-loop bytes at question c left₀ p₀ left p = left

@@ -4,12 +4,12 @@ use native.Mathlib.Omega.{arith}
 use borrow.Author.Rules.{rules}
 use lib.ListN.{length}
 use lib.Seq.{slice}
-use Rattle.reader.proofs.ClassLaws.{methodsFrom, methods-short, methods-begin, methods-end, methods-cut, methods-no-number, methods-next, methods-fail, proper-bounds}
+use Rattle.reader.proofs.ClassLaws.{methods_from, methods-short, methods-begin, methods-end, methods-cut, methods-no-number, methods-next, methods-fail, proper-bounds}
 use Rattle.reader.proofs.classes.ask_methods.Statement.{statement}
 use Rattle.reader.proofs.classes.ask_methods.Tie as tie
 
 abbrev invariant-loop : tie.invariant-loop
-invariant-loop bytes at question c left₀ p₀ from₀ to₀ left p from to = (p ≤ length bytes) × (from ≤ to) × (to ≤ length bytes) × (methodsFrom bytes question c (slice 0 0 bytes) left₀ p₀ ≡ methodsFrom bytes question c (slice from to bytes) left p)
+invariant-loop bytes at question c left₀ p₀ from₀ to₀ left p from to = (p ≤ length bytes) × (from ≤ to) × (to ≤ length bytes) × (methods_from bytes question c (slice 0 0 bytes) left₀ p₀ ≡ methods_from bytes question c (slice from to bytes) left p)
 
 abbrev decreases-loop : tie.decreases-loop
 decreases-loop bytes at question c left₀ p₀ from₀ to₀ left p from to = left

@@ -3,12 +3,12 @@ use Prim.Native.Nat.{◌-◌, ◌≤◌}
 use native.Mathlib.Omega.{arith}
 use borrow.Author.Rules.{rules}
 use lib.ListN.{length}
-use Rattle.reader.proofs.FunctionLaws.{codeFrom, code-all, code-next, code-fail, code-cut, code-end, op-small, found-next}
+use Rattle.reader.proofs.FunctionLaws.{code_from, code-all, code-next, code-fail, code-cut, code-end, op-small, found-next}
 use Rattle.reader.proofs.functions.ask_code.Statement.{statement}
 use Rattle.reader.proofs.functions.ask_code.Tie as tie
 
 abbrev invariant-loop : tie.invariant-loop
-invariant-loop bytes at question c n slots p₀ place₀ p place = (p ≤ length bytes) × (place ≤ n) × (codeFrom bytes question c n slots 0 at ≡ codeFrom bytes question c n slots place p)
+invariant-loop bytes at question c n slots p₀ place₀ p place = (p ≤ length bytes) × (place ≤ n) × (code_from bytes question c n slots 0 at ≡ code_from bytes question c n slots place p)
 
 abbrev decreases-loop : tie.decreases-loop
 decreases-loop bytes at question c n slots p₀ place₀ p place = n - place

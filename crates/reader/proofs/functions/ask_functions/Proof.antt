@@ -3,16 +3,16 @@ use Prim.Native.Nat.{◌≤◌}
 use native.Mathlib.Omega.{arith}
 use borrow.Author.Rules.{rules}
 use lib.ListN.{length}
-use Rattle.definitions.specs.Reader.{functionRecord}
-use Rattle.reader.specs.Asks.{askFunction}
-use Rattle.reader.proofs.Checked.{eachFrom, list-short, list-begins, list-next, list-stops, list-ends, each-le}
+use Rattle.definitions.specs.Reader.{function_record}
+use Rattle.reader.specs.Asks.{ask_function}
+use Rattle.reader.proofs.Checked.{each_from, list-short, list-begins, list-next, list-stops, list-ends, each-le}
 use Rattle.reader.proofs.functions.ask_functions.Statement.{statement}
 use Rattle.reader.proofs.functions.ask_functions.Tie as tie
 use Rattle.definitions.proofs.Begins.{takes-function}
 
 abbrev invariant-loop : tie.invariant-loop
 invariant-loop bytes at question c left₀ p₀ left p =
-    (p ≤ length bytes) × (eachFrom (askFunction question c) functionRecord bytes left₀ p₀ ≡ eachFrom (askFunction question c) functionRecord bytes left p)
+    (p ≤ length bytes) × (each_from (ask_function question c) function_record bytes left₀ p₀ ≡ each_from (ask_function question c) function_record bytes left p)
 
 abbrev decreases-loop : tie.decreases-loop
 decreases-loop bytes at question c left₀ p₀ left p = left

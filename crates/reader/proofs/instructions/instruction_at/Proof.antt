@@ -1,12 +1,12 @@
 use mathlib.Core.Path.{refl, sym}
 use borrow.Author.Rules.{rules}
-use Rattle.reader.proofs.InstructionLaws.{no_byte, no-opcode, no-operands, yes-instruction}
+use Rattle.reader.proofs.InstructionLaws.{no-byte, no-opcode, no-operands, yes-instruction}
 use Rattle.reader.proofs.instructions.instruction_at.Statement.{statement}
 use Rattle.reader.proofs.instructions.instruction_at.Tie as tie
 
 pub instruction-at-spec : {M : Type 1} → statement M
 instruction-at-spec = tie.close (tie.spec
-    (λ c. sym (no_byte _ _ c.if1.true))  -- returns
+    (λ c. sym (no-byte _ _ c.if1.true))  -- returns
     (λ c. search rules)  -- shared-slice-read-op
     (λ c. sym (no-opcode _ _ c.before.before.if1.false c.if2.true))  -- returns-2
     (λ c. search rules)  -- cast-first-width

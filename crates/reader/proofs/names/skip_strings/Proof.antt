@@ -4,13 +4,13 @@ use native.Mathlib.Omega.{arith}
 use borrow.Author.Rules.{rules}
 use lib.ListN.{length}
 use Rattle.reader.specs.View.{string}
-use Rattle.reader.proofs.Taken.{someFrom, count_cut, some-begins, some_next, some-stops, some-ends, next_le}
+use Rattle.reader.proofs.Taken.{some_from, count_cut, some-begins, some_next, some-stops, some-ends, next_le}
 use Rattle.reader.proofs.names.skip_strings.Statement.{statement}
 use Rattle.reader.proofs.names.skip_strings.Tie as tie
 use Rattle.reader.proofs.StringLaws.{takes-string}
 
 abbrev invariant-loop : tie.invariant-loop
-invariant-loop bytes at left₀ p₀ left p = (p ≤ length bytes) × (someFrom string bytes left₀ p₀ ≡ someFrom string bytes left p)
+invariant-loop bytes at left₀ p₀ left p = (p ≤ length bytes) × (some_from string bytes left₀ p₀ ≡ some_from string bytes left p)
 
 abbrev decreases-loop : tie.decreases-loop
 decreases-loop bytes at left₀ p₀ left p = left

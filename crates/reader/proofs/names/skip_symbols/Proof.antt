@@ -4,13 +4,13 @@ use native.Mathlib.Omega.{arith}
 use borrow.Author.Rules.{rules}
 use lib.ListN.{length}
 use Rattle.definitions.specs.Bytes.{name}
-use Rattle.reader.proofs.Taken.{someFrom, count_cut, some-begins, some_next, some-stops, some-ends, next_le}
+use Rattle.reader.proofs.Taken.{some_from, count_cut, some-begins, some_next, some-stops, some-ends, next_le}
 use Rattle.reader.proofs.names.skip_symbols.Statement.{statement}
 use Rattle.reader.proofs.names.skip_symbols.Tie as tie
 use Rattle.definitions.proofs.Begins.{takes-name}
 
 abbrev invariant-loop : tie.invariant-loop
-invariant-loop bytes at left₀ p₀ left p = (p ≤ length bytes) × (someFrom name bytes left₀ p₀ ≡ someFrom name bytes left p)
+invariant-loop bytes at left₀ p₀ left p = (p ≤ length bytes) × (some_from name bytes left₀ p₀ ≡ some_from name bytes left p)
 
 abbrev decreases-loop : tie.decreases-loop
 decreases-loop bytes at left₀ p₀ left p = left

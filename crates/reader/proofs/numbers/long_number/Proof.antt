@@ -1,13 +1,13 @@
 use Prim.Native.Nat.{ℕ, ◌+◌, ◌*◌, ◌-◌, ◌^◌, ◌<◌, ◌≤◌}
 use mathlib.Core.Path.{◌≡◌, sym, ◌∙◌, subst}
 use native.Mathlib.Omega.{arith}
-use Rattle.reader.specs.View.{numberAt}
+use Rattle.reader.specs.View.{number_at}
 use Rattle.reader.proofs.NumberLaws.{horner, grows, small_one, start, number-all}
 use Rattle.reader.proofs.numbers.long_number.Statement.{statement}
 use Rattle.reader.proofs.numbers.long_number.Tie as tie
 
 abbrev invariant-loop : tie.invariant-loop
-invariant-loop bytes at width n₀ i₀ n i = (i ≤ width) × (n < 256 ^ i) × (numberAt width bytes at ≡ n * 256 ^ (width - i) + numberAt (width - i) bytes (at + i))
+invariant-loop bytes at width n₀ i₀ n i = (i ≤ width) × (n < 256 ^ i) × (number_at width bytes at ≡ n * 256 ^ (width - i) + number_at (width - i) bytes (at + i))
 
 abbrev decreases-loop : tie.decreases-loop
 decreases-loop bytes at width n₀ i₀ n i = width - i

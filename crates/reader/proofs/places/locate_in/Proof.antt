@@ -9,7 +9,7 @@ use Rattle.reader.proofs.places.locate_in.Tie as tie
 
 pub locate-in-spec : {M : Type 1} → statement M
 locate-in-spec = tie.close (tie.spec
-    (λ c κs. let l = c.before.requires.laid in record { inside = l.stringsAt.to; to = _; read = l.functionsAt })  -- find-function-requires
+    (λ c κs. let l = c.before.requires.laid in record { inside = l.strings_at.to; to = _; read = l.functions_at })  -- find-function-requires
     (λ c. search rules)  -- enum-known-place
     (λ c. search rules)  -- enum_told
     (λ c. no-function _ _ _ _ _ c.before.before.before.before.requires _ (placed-not _ _ _ _ c.before.before.find-function.ensures c.enum_told.given.1))  -- returns

@@ -3,7 +3,7 @@ use mathlib.Core.Path.{ap, ◌∙◌}
 use native.Mathlib.Omega.{arith}
 use borrow.Author.Rules.{rules}
 use lib.ListN.{get_or}
-use Rattle.reader.specs.View.{numberAt}
+use Rattle.reader.specs.View.{number_at}
 use Rattle.run.proofs.Coding.{op-here}
 use Rattle.run.proofs.Turning.{spent, return-full, returned, operand_in, jumped, questioned}
 use Rattle.run.proofs.steps.turn.Statement.{statement}
@@ -32,8 +32,8 @@ turn_spec = tie.close (tie.spec
     (λ c κs. search rules)  -- jump-target-requires
     (λ c. search rules)  -- add-t27
     (λ c. let a = c.before.before.before.before.before.before.before.before.before.before.before.before.before.before in let e = c.before.before.before.before.before.before.wide.ensures ∙ a.requires.1.at _ a.requires.2.place in
-    jumped _ _ _ _ _ a.requires.0 a.requires.2 c.before.before.before.before.before.before.before.before.if1.false _ (ap (λ (x : ℕ). get_or a.args.code.now x 0) e) c.before.before.before.before.if2.false a.requires.3 _ (c.before.before.before.number_at.ensures.0 ∙ ap (λ (x : ℕ). numberAt 4 a.args.code.now (x + 1)) e) _ c.before.before.if4.true _ c.before.jump-target.ensures)  -- returns-4
+    jumped _ _ _ _ _ a.requires.0 a.requires.2 c.before.before.before.before.before.before.before.before.if1.false _ (ap (λ (x : ℕ). get_or a.args.code.now x 0) e) c.before.before.before.before.if2.false a.requires.3 _ (c.before.before.before.number_at.ensures.0 ∙ ap (λ (x : ℕ). number_at 4 a.args.code.now (x + 1)) e) _ c.before.before.if4.true _ c.before.jump-target.ensures)  -- returns-4
     (λ c κs. search rules)  -- ask-requires
     (λ c. search rules)  -- same-length-2
     (λ c. let a = c.before.before.before.before.before.before.before.before.before.before.before.before.before.before.before.before in let e = c.before.before.before.before.before.before.before.before.wide.ensures ∙ a.requires.1.at _ a.requires.2.place in
-    questioned _ _ _ _ _ a.requires.0 a.requires.2 c.before.before.before.before.before.before.before.before.before.before.if1.false _ (ap (λ (x : ℕ). get_or a.args.code.now x 0) e) c.before.before.before.before.before.before.if2.false a.requires.3 _ (c.before.before.before.before.before.number_at.ensures.0 ∙ ap (λ (x : ℕ). numberAt 4 a.args.code.now (x + 1)) e) c.before.before.before.before.if4.false _ _ _ c.before.before.ask.ensures))  -- returns-5
+    questioned _ _ _ _ _ a.requires.0 a.requires.2 c.before.before.before.before.before.before.before.before.before.before.if1.false _ (ap (λ (x : ℕ). get_or a.args.code.now x 0) e) c.before.before.before.before.before.before.if2.false a.requires.3 _ (c.before.before.before.before.before.number_at.ensures.0 ∙ ap (λ (x : ℕ). number_at 4 a.args.code.now (x + 1)) e) c.before.before.before.before.if4.false _ _ _ c.before.before.ask.ensures))  -- returns-5

@@ -1,13 +1,13 @@
 use borrow.Author.Rules.{rules}
 use native.Mathlib.Omega.{arith}
 use Rattle.definitions.proofs.Listing.{six-digits}
-use Rattle.columns.specs.Fields.{fieldText}
+use Rattle.columns.specs.Fields.{field_text}
 use Rattle.sheet.proofs.RowLaws.{counts-written, counts_same}
 use Rattle.sheet.proofs.lines.put_counts.Statement.{statement}
 use Rattle.sheet.proofs.lines.put_counts.Tie as tie
 
 pub put-counts-spec : {M : Type 1} → statement M
-unfolding fieldText
+unfolding field_text
 put-counts-spec = tie.close (tie.spec
     (λ c κs. let s = c.before.before in let l = six-digits _ s.requires.0.all in (omega arith, search rules))  -- put-field-requires
     (λ c. search rules)  -- sub-put-field

@@ -2,13 +2,13 @@ use borrow.Author.Rules.{rules}
 use mathlib.Core.Path.{refl}
 use Rattle.definitions.proofs.Columns.{length-right}
 use Rattle.definitions.proofs.Listing.{five-digits}
-use Rattle.columns.specs.Fields.{fieldText}
+use Rattle.columns.specs.Fields.{field_text}
 use Rattle.sheet.proofs.RowLaws.{line-written}
 use Rattle.sheet.proofs.lines.write_count.Statement.{statement}
 use Rattle.sheet.proofs.lines.write_count.Tie as tie
 
 pub write-count-spec : {M : Type 1} → statement M
-unfolding fieldText
+unfolding field_text
 write-count-spec = tie.close (tie.spec
     (λ c κs. let s = c.before.before in (five-digits _ s.requires.0, search rules))  -- put-field-requires
     (λ c. search rules)  -- sub-put-counts

@@ -5,9 +5,9 @@ use Prim.Native.Nat.{ℕ, ◌+◌, ◌*◌, ◌<◌}
 use Rattle.tree.proofs.StmtViews.{stmt-inside, stmt-deep, view-block, view-if, view-while, view-for, else-inside}
 use Rattle.definitions.proofs.Named.{block-grows, branches-grow}
 use Rattle.slots.proofs.Gathering.{gathers-next, over-more, room-again, stmt-if, stmt-while, stmt-for, StmtsLeft, stmts-start, stmts-head, stmts-next, stmts-over, stmts-done, BranchesLeft, branches-start, branches-head, branches-next, branches-over, branches-last, branches-done, else-none, else-reads, else-some, elifs-counted, elifs-read, if-done, for-done, branch-done, block-there, branch-there, elifs-are}
-use Rattle.tree.specs.StmtAt.{stmtsAt, branchesAt}
+use Rattle.tree.specs.StmtAt.{stmts_at, branches_at}
 use Rattle.tree.proofs.LoopsAt.{if-loops, while-loops, for-loops, other-loops, loops-at, no-else-loops, else-loops}
-use Rattle.definitions.specs.Slots.{loopsBlock, loopsBranches}
+use Rattle.definitions.specs.Slots.{loops_block, loops_branches}
 use Rattle.slots.proofs.Tallying.{tallies-over, tallies-as, tallies-none, LoopsLeft, loops-start, stmts-count, block-count, branches-count, branches-end, if-count, for-count}
 use borrow.Fn.Kinds.{In}
 use borrow.Fn.PlainCycle.{Measures, is, falls, and}
@@ -131,7 +131,7 @@ gather-stmt-below t =
 
 abbrev gather-block-Inv-loop : gather-block-lts.invariant-loop
 gather-block-Inv-loop tree at depth slots₀ n loops₀ left₀ p₀ k₀ slots loops left p k =
-    StmtsLeft depth tree slots₀ left₀ p₀ k₀ slots left p k × LoopsLeft loops₀ loops (loopsBlock (stmtsAt depth left₀ tree p₀).value) (loopsBlock (stmtsAt depth left tree p).value)
+    StmtsLeft depth tree slots₀ left₀ p₀ k₀ slots left p k × LoopsLeft loops₀ loops (loops_block (stmts_at depth left₀ tree p₀).value) (loops_block (stmts_at depth left tree p).value)
 
 abbrev gather-block-μ-loop : gather-block-lts.decreases-loop
 gather-block-μ-loop tree at depth slots₀ n loops₀ left₀ p₀ k₀ slots loops left p k = left
@@ -186,7 +186,7 @@ gather-branch-ok t = gather-branch-lts.spec (skip-expr-reads.Asked, skip-expr-re
 
 abbrev gather-elifs-Inv-loop : gather-elifs-lts.invariant-loop
 gather-elifs-Inv-loop tree at depth count slots₀ n loops₀ p₀ left₀ k₀ slots loops p left k =
-    BranchesLeft depth tree slots₀ left₀ p₀ k₀ slots left p k × LoopsLeft loops₀ loops (loopsBranches (branchesAt depth left₀ tree p₀).value) (loopsBranches (branchesAt depth left tree p).value)
+    BranchesLeft depth tree slots₀ left₀ p₀ k₀ slots left p k × LoopsLeft loops₀ loops (loops_branches (branches_at depth left₀ tree p₀).value) (loops_branches (branches_at depth left tree p).value)
 
 abbrev gather-elifs-μ-loop : gather-elifs-lts.decreases-loop
 gather-elifs-μ-loop tree at depth count slots₀ n loops₀ p₀ left₀ k₀ slots loops p left k = left
@@ -261,7 +261,7 @@ gather-for-ok t = gather-for-lts.spec (one-more-reads.Asked, one-more-reads.Lear
     (λ c. search rules)  -- same-length
     (λ c. let at-enum-told = c in let at-gather-name = at-enum-told.before.before.before.before in
     (over-more _ _ _ _ _ _ _ _ at-gather-name.gather-name.ensures at-enum-told.enum_told.given.1 (block-grows _ _), tallies-over))  -- returns
-    (λ c κs. let at_first = c.before.before.before in let at-gather-name = at_first.before.before.before.before in let at-name-end = at-gather-name.before.before in
+    (λ c κs. let at-first = c.before.before.before in let at-gather-name = at_first.before.before.before.before in let at-name-end = at-gather-name.before.before in
     let at-one-more = at-name-end.before in let start = at-one-more.before.before.before.before in
     let z = gathers-next _ _ _ _ _ _ _ at-gather-name.gather-name.ensures at_first.first.given.1 in (
       omega arith,
@@ -273,7 +273,7 @@ gather-for-ok t = gather-for-lts.spec (one-more-reads.Asked, one-more-reads.Lear
       ),
     ))  -- gather-branch-requires
     (λ c. search rules)  -- same-length-2
-    (λ c. let at-gather-branch = c.before.before in let at_first = at-gather-branch.before.before.before.before in let at-gather-name = at_first.before.before.before.before in
+    (λ c. let at-gather-branch = c.before.before in let at-first = at-gather-branch.before.before.before.before in let at-gather-name = at_first.before.before.before.before in
     let at-name-end = at-gather-name.before.before in let at-one-more = at-name-end.before in
     let z = gathers-next _ _ _ _ _ _ _ at-gather-name.gather-name.ensures at_first.first.given.1 in let e = z.end ∙ at-name-end.name-end.ensures in
     (for-done _ _ _ _ _ _ _ _ e z.names at-gather-branch.gather-branch.ensures.0, for-count _ _ e at-one-more.one_more.ensures at-gather-branch.gather-branch.ensures.1))  -- returns-2
@@ -286,11 +286,11 @@ gather-if-ok t = gather-if-lts.spec (gather-branch-below t, gather-branch.Post, 
     (λ c. search rules)  -- same-length
     (λ c. let at-enum-told = c in let at-gather-branch = at-enum-told.before.before.before.before in
     (over-more _ _ _ _ _ _ _ _ at-gather-branch.gather-branch.ensures.0 at-enum-told.enum_told.given.1 (branches-grow _ _), tallies-over))  -- returns
-    (λ c κs. let at_first = c.before in let at-gather-branch = at_first.before.before.before.before in let start = at-gather-branch.before.before.before.before.before in
+    (λ c κs. let at-first = c.before in let at-gather-branch = at_first.before.before.before.before in let start = at-gather-branch.before.before.before.before.before in
     let z = gathers-next _ _ _ _ _ _ _ at-gather-branch.gather-branch.ensures.0 at_first.first.given.1 in let h = elifs-counted _ _ _ _ 0 z.end start.requires.1.1 in omega arith)  -- u16-at-requires
-    (λ c. let at_first = c.before.before in let at-gather-branch = at_first.before.before.before.before in let start = at-gather-branch.before.before.before.before.before in
+    (λ c. let at-first = c.before.before in let at-gather-branch = at_first.before.before.before.before in let start = at-gather-branch.before.before.before.before.before in
     let z = gathers-next _ _ _ _ _ _ _ at-gather-branch.gather-branch.ensures.0 at_first.first.given.1 in let h = elifs-counted _ _ _ _ 0 z.end start.requires.1.1 in omega arith)  -- add-gather-elifs
-    (λ c κs. let at-u16-at = c.before.before in let at_first = at-u16-at.before.before in let at-gather-branch = at_first.before.before.before.before in
+    (λ c κs. let at-u16-at = c.before.before in let at-first = at-u16-at.before.before in let at-gather-branch = at_first.before.before.before.before in
     let start = at-gather-branch.before.before.before.before.before in let z = gathers-next _ _ _ _ _ _ _ at-gather-branch.gather-branch.ensures.0 at_first.first.given.1 in (
       omega arith,
       (
@@ -301,7 +301,7 @@ gather-if-ok t = gather-if-lts.spec (gather-branch-below t, gather-branch.Post, 
       ),
     ))  -- gather-elifs-requires
     (λ c. search rules)  -- same-length-2
-    (λ c. let at-gather-elifs = c.before.before in let at-u16-at = at-gather-elifs.before.before.before in let at_first = at-u16-at.before.before in
+    (λ c. let at-gather-elifs = c.before.before in let at-u16-at = at-gather-elifs.before.before.before in let at-first = at-u16-at.before.before in
     let at-gather-branch = at_first.before.before.before.before in let z = gathers-next _ _ _ _ _ _ _ at-gather-branch.gather-branch.ensures.0 at_first.first.given.1 in
     let m = at-gather-branch.gather-branch.ensures.1.counted _ _ at_first.first.given.1 in (
       if-done _ _ _ _ _ z.end at-u16-at.u16-at.ensures.0 _ _ _ _ z.names at-gather-elifs.gather-elifs.ensures.0,

@@ -2,10 +2,10 @@
 use borrow.Author.Rules.{rules}
 use native.Mathlib.Omega.{arith}
 use mathlib.Core.Path.{◌≡◌, refl, sym, ◌∙◌}
-use Rattle.parts.specs.Places.{namesFrom, AllThere}
+use Rattle.parts.specs.Places.{names_from, AllThere}
 use Rattle.parts.proofs.NameLaws.{there-first}
-use Rattle.state.specs.State.{slotNames}
-use Rattle.slots.specs.Held.{markAll}
+use Rattle.state.specs.State.{slot_names}
+use Rattle.slots.specs.Held.{mark_all}
 use Rattle.slots.proofs.Marking.{mark-next, mark-done}
 use Rattle.slots.proofs.marks.mark_names.Statement.{statement}
 use Rattle.slots.proofs.marks.mark_names.Tie as tie
@@ -13,7 +13,7 @@ use Rattle.slots.proofs.marks.mark_names.Tie as tie
 -- the names that are left mark what all mark
 abbrev invariant-loop : tie.invariant-loop
 invariant-loop tree from count parent marks₀ p₀ left₀ marks p left =
-    (markAll (slotNames tree parent) (namesFrom tree left₀ p₀) marks₀ ≡ markAll (slotNames tree parent) (namesFrom tree left p) marks) × AllThere tree left p
+    (mark_all (slot_names tree parent) (names_from tree left₀ p₀) marks₀ ≡ mark_all (slot_names tree parent) (names_from tree left p) marks) × AllThere tree left p
 
 abbrev decreases-loop : tie.decreases-loop
 decreases-loop tree from count parent marks₀ p₀ left₀ marks p left = left

@@ -5,7 +5,7 @@ use Prim.Native.Nat.{ℕ, ◌+◌, ◌*◌, ◌≤◌, ◌<◌}
 use lib.ListN.{length}
 use Rattle.parts.proofs.Laws.{up, then_next, then-refused, with-number, with-unread, judged-within, number-within}
 use Rattle.tree.proofs.StmtLaws.{at-break, at-continue, at-pass, at-expr, at_return, at-assign, at-if, at-while, at-for, at-def, at-class, stmt-none, stmt-end, stmt-unknown, block-law, stmts-none, stmts-more, branches-none, branches-more, else-end, else-none, else-block, else-unknown, methods-none, methods-more, branch-within, method-within, head-within, stand-next}
-use Rattle.parts.specs.Judge.{judgeStmts, judgeBranches, judgeMethods, judgeBranch, judgeIf, judgeFor, judgeDef, judgeMethod, judgeClass}
+use Rattle.parts.specs.Judge.{judge_stmts, judge_branches, judge_methods, judge_branch, judge_if, judge_for, judge_def, judge_method, judge_class}
 use borrow.Fn.Kinds.{In}
 use borrow.Fn.PlainCycle.{Measures, is, falls, and}
 use Rattle.tree.proofs.stmts.check_block.Reads as check-block
@@ -152,7 +152,7 @@ abbrev check-stmt-below : ℕ → In 1 check-stmt-kinds.ps
 check-stmt-below t = and 1 check-stmt-kinds.ps (falls 1 check-stmt-kinds.ps ◌<◌ μ-check-stmt t) check-stmt.Pre
 
 abbrev check-block-Inv-loop : check-block-lts.invariant-loop
-check-block-Inv-loop tree at depth looped stand n from p₀ left₀ w₀ p left w = (judgeStmts looped depth tree left₀ p₀ w₀ ≡ judgeStmts looped depth tree left p w) × (p ≤ length tree)
+check-block-Inv-loop tree at depth looped stand n from p₀ left₀ w₀ p left w = (judge_stmts looped depth tree left₀ p₀ w₀ ≡ judge_stmts looped depth tree left p w) × (p ≤ length tree)
 
 abbrev check-block-μ-loop : check-block-lts.decreases-loop
 check-block-μ-loop tree at depth looped stand n from p₀ left₀ w₀ p left w = left
@@ -174,7 +174,7 @@ check-block-ok t = check-block-lts.spec (number-at-reads.Asked, number-at-reads.
     (λ c. let l = c.before in let s = l.before.before in sym (block-law _ _ _ _ _ s.before.before.before.before.requires.1 ∙ with-number _ _ _ _ (sym s.before.before.number_at.ensures ∙ s.count2.given.1) ∙ l.loop.invariant.0 ∙ stmts-none _ _ _ _ _ _ l.loop.invariant.1 c.loop-test.false))  -- returns-3
 
 check-branch-ok : {M : Type 1} (t : ℕ) → check-branch-lts.Closed (check-expr-reads.Asked, check-expr-reads.Learnt, check-block-below t, check-block.Post) (check-branch-at t) check-branch.Post M
-unfolding judgeBranch
+unfolding judge_branch
 check-branch-ok t = check-branch-lts.spec (check-expr-reads.Asked, check-expr-reads.Learnt, check-block-below t, check-block.Post) (check-branch-at t) check-branch.Post
     (λ c κs. c.before.requires.1)  -- check-expr-requires
     (λ c. search rules)  -- enum-known-condition
@@ -184,7 +184,7 @@ check-branch-ok t = check-branch-lts.spec (check-expr-reads.Asked, check-expr-re
     (λ c. let b = c.before.before in let s = b.before.before in c.check-block.ensures ∙ sym (then_next _ _ _ _ (sym s.check-expr.ensures ∙ b.condition.given.1)))  -- returns-2
 
 check-class-ok : {M : Type 1} (t : ℕ) → check-class-lts.Closed (check-name-reads.Asked, check-name-reads.Learnt, number-at-reads.Asked, number-at-reads.Learnt, check-methods-below t, check-methods.Post, check-attributes-reads.Asked, check-attributes-reads.Learnt) (check-class-at t) check-class.Post M
-unfolding judgeClass
+unfolding judge_class
 check-class-ok t = check-class-lts.spec (check-name-reads.Asked, check-name-reads.Learnt, number-at-reads.Asked, number-at-reads.Learnt, check-methods-below t, check-methods.Post, check-attributes-reads.Asked, check-attributes-reads.Learnt) (check-class-at t) check-class.Post
     (λ c κs. c.before.requires.1)  -- check-name-requires
     (λ c. search rules)  -- enum-known-name
@@ -202,7 +202,7 @@ check-class-ok t = check-class-lts.spec (check-name-reads.Asked, check-name-read
     (λ c. let g = c.before.before in let e = g.before.before in let s = e.before.before in let b = s.before.before.before.before in c.check-attributes.ensures ∙ sym (then_next _ _ _ _ (sym b.before.before.check-name.ensures ∙ b.name.given.1) ∙ with-number _ _ _ _ (sym s.before.before.number_at.ensures ∙ s.count2.given.1) ∙ then_next _ _ _ _ (sym e.check-methods.ensures ∙ g.methods.given.1)))  -- returns-4
 
 check-def-ok : {M : Type 1} (t : ℕ) → check-def-lts.Closed (check-name-reads.Asked, check-name-reads.Learnt, check-params-reads.Asked, check-params-reads.Learnt, check-block-below t, check-block.Post) (check-def-at t) check-def.Post M
-unfolding judgeDef
+unfolding judge_def
 check-def-ok t = check-def-lts.spec (check-name-reads.Asked, check-name-reads.Learnt, check-params-reads.Asked, check-params-reads.Learnt, check-block-below t, check-block.Post) (check-def-at t) check-def.Post
     (λ c κs. c.before.requires.1)  -- check-name-requires
     (λ c. search rules)  -- enum-known-name
@@ -216,7 +216,7 @@ check-def-ok t = check-def-lts.spec (check-name-reads.Asked, check-name-reads.Le
     (λ c. let g = c.before.before in let b = g.before.before.before.before in c.check-block.ensures ∙ sym (then_next _ _ _ _ (sym b.before.before.check-name.ensures ∙ b.name.given.1) ∙ then_next _ _ _ _ (sym g.before.before.check-params.ensures ∙ g.params.given.1)))  -- returns-3
 
 abbrev check-elifs-Inv-loop : check-elifs-lts.invariant-loop
-check-elifs-Inv-loop tree at depth looped n stand p₀ left₀ w₀ p left w = (judgeBranches looped depth tree left₀ p₀ w₀ ≡ judgeBranches looped depth tree left p w) × (p ≤ length tree)
+check-elifs-Inv-loop tree at depth looped n stand p₀ left₀ w₀ p left w = (judge_branches looped depth tree left₀ p₀ w₀ ≡ judge_branches looped depth tree left p w) × (p ≤ length tree)
 
 abbrev check-elifs-μ-loop : check-elifs-lts.decreases-loop
 check-elifs-μ-loop tree at depth looped n stand p₀ left₀ w₀ p left w = left
@@ -246,7 +246,7 @@ check-else-ok t = check-else-lts.spec (check-block-below t, check-block.Post) (c
     (λ c. let n = c.match.rest in sym (else-unknown _ _ _ _ _ c.before.before.if1.false (up 1 _ (up 0 _ (omega arith) n.0.1) n.1)))  -- returns-4
 
 check-for-ok : {M : Type 1} (t : ℕ) → check-for-lts.Closed (check-name-reads.Asked, check-name-reads.Learnt, check-branch-below t, check-branch.Post) (check-for-at t) check-for.Post M
-unfolding judgeFor
+unfolding judge_for
 check-for-ok t = check-for-lts.spec (check-name-reads.Asked, check-name-reads.Learnt, check-branch-below t, check-branch.Post) (check-for-at t) check-for.Post
     (λ c κs. c.before.requires.1)  -- check-name-requires
     (λ c. search rules)  -- enum-known-name
@@ -256,7 +256,7 @@ check-for-ok t = check-for-lts.spec (check-name-reads.Asked, check-name-reads.Le
     (λ c. let b = c.before.before in let s = b.before.before in c.check-branch.ensures ∙ sym (then_next _ _ _ _ (sym s.check-name.ensures ∙ b.name.given.1)))  -- returns-2
 
 check-if-ok : {M : Type 1} (t : ℕ) → check-if-lts.Closed (check-branch-below t, check-branch.Post, number-at-reads.Asked, number-at-reads.Learnt, check-elifs-below t, check-elifs.Post) (check-if-at t) check-if.Post M
-unfolding judgeIf
+unfolding judge_if
 check-if-ok t = check-if-lts.spec (check-branch-below t, check-branch.Post, number-at-reads.Asked, number-at-reads.Learnt, check-elifs-below t, check-elifs.Post) (check-if-at t) check-if.Post
     (λ c κs. (omega arith, c.before.requires.1))  -- check-branch-requires
     (λ c. search rules)  -- enum-known-first
@@ -270,7 +270,7 @@ check-if-ok t = check-if-lts.spec (check-branch-below t, check-branch.Post, numb
     (λ c. let s = c.before.before in let b = s.before.before.before.before in c.check-elifs.ensures ∙ sym (then_next _ _ _ _ (sym b.before.before.check-branch.ensures ∙ b.first.given.1) ∙ with-number _ _ _ _ (sym s.before.before.number_at.ensures ∙ s.count2.given.1)))  -- returns-3
 
 check-method-ok : {M : Type 1} (t : ℕ) → check-method-lts.Closed (check-head-reads.Asked, check-head-reads.Learnt, check-block-below t, check-block.Post) (check-method-at t) check-method.Post M
-unfolding judgeMethod
+unfolding judge_method
 check-method-ok t = check-method-lts.spec (check-head-reads.Asked, check-head-reads.Learnt, check-block-below t, check-block.Post) (check-method-at t) check-method.Post
     (λ c κs. c.before.requires.1)  -- check-head-requires
     (λ c. search rules)  -- enum-known-head
@@ -280,7 +280,7 @@ check-method-ok t = check-method-lts.spec (check-head-reads.Asked, check-head-re
     (λ c. let b = c.before.before in let s = b.before.before in c.check-block.ensures ∙ sym (then_next _ _ _ _ (sym s.check-head.ensures ∙ b.head.given.1)))  -- returns-2
 
 abbrev check-methods-Inv-loop : check-methods-lts.invariant-loop
-check-methods-Inv-loop tree at depth n stand p₀ left₀ w₀ p left w = (judgeMethods depth tree left₀ p₀ w₀ ≡ judgeMethods depth tree left p w) × (p ≤ length tree)
+check-methods-Inv-loop tree at depth n stand p₀ left₀ w₀ p left w = (judge_methods depth tree left₀ p₀ w₀ ≡ judge_methods depth tree left p w) × (p ≤ length tree)
 
 abbrev check-methods-μ-loop : check-methods-lts.decreases-loop
 check-methods-μ-loop tree at depth n stand p₀ left₀ w₀ p left w = left
