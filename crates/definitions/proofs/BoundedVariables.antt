@@ -49,7 +49,7 @@ fits-held {b} slots x h = go (position (same x) slots) (position-lt (same x) slo
     go (some i) l e = fits_one (single refl (l i refl))
     go none l e = let z : ◌≡◌ {A = ℕ} 0 1 = cc in absurd (omega arith)
 
-pub fits-loads : {b : Tables} {xs : List Name} (slots : List Name) → Every (Held slots) xs → Fits 0 (length slots) b (loads slots xs)
+pub fits-loads : {b : Tables} (slots : List Name) {xs : List Name} → Every (Held slots) xs → Fits 0 (length slots) b (loads slots xs)
 unfolding loads
 fits-loads slots no_every = fits-emits no_every
 fits-loads slots (every {a = x} h r) = fits-seq (fits-held slots x h) (fits-loads slots r)

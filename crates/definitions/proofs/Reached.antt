@@ -12,7 +12,7 @@ use Rattle.definitions.specs.Bytes.{Answer, refused, accepted, when_accepted}
 use Rattle.definitions.specs.Instruction.{Instr, Return}
 use Rattle.definitions.specs.Tables.{Function, Tables}
 use Rattle.definitions.specs.Reader.{code_stands, read_module}
-use Rattle.definitions.specs.Run.{Ran, Flow, straight, jump, question, flow, run}
+use Rattle.definitions.specs.Run.{Ran, Flow, straight, jump, returns, question, flow, run}
 use Rattle.definitions.specs.Calls.{function_of, events_fit, run_function, run_answer}
 use Rattle.definitions.specs.Sheet.{tally, is_question}
 use Rattle.definitions.specs.Reach.{Brings, wide_area, room_asked, place_asked, sought, Finds}
@@ -36,6 +36,7 @@ links-by straight x a k q straight_on = omega arith
 links-by jump x a k q jumps_to = omega arith
 links-by (question b) x a k q on_no = omega arith
 links-by (question b) x a k q on_yes = omega arith
+links-by returns x a k q x3 = elim x3 [ ]
 
 pub links-given : (code : List Instr) (v x : ℕ) → Given by_link code (links_from x) v x
 links-given code v x = record { links = λ k q y. links-by (flow (get_or code x Return).op) x (get_or code x Return).a k q y }

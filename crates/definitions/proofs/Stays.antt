@@ -84,6 +84,7 @@ module _ (is : List Instr) (ends : ends_in_return is ≡ true) (land : jumps_lan
       asked (question b) e (λ y. let x : ◌≡◌ {A = ℕ} 0 1 = cc in omega arith) (λ y. let x : ◌≡◌ {A = ℕ} 0 1 = cc in omega arith) b false
   lands-by (question b) e k q on_yes =
       asked (question b) e (λ y. let x : ◌≡◌ {A = ℕ} 0 1 = cc in omega arith) (λ y. let x : ◌≡◌ {A = ℕ} 0 1 = cc in omega arith) b true
+  lands-by returns e k q x'' = elim x'' [ ]
 
 pub code-lands : (is : List Instr) → ends_in_return is ≡ true → jumps_land (length is) 0 is ≡ true → Lands is
 code-lands is ends land = record { at = λ p l k q x. lands-by is ends land p l (flow (get_or is p Return).op) refl k q x }

@@ -51,6 +51,7 @@ on-by straight i p a k q zs go e straight_on = refl
 on-by jump i p a k q zs go e jumps_to = ap (λ (b : ℕ). p ∷ go (landing p b) zs) e
 on-by (question c) i p a k q zs go e on_no = ap (λ (b : ℕ). p ∷ go (way c false p b) zs) e
 on-by (question c) i p a k q zs go e on_yes = ap (λ (b : ℕ). p ∷ go (way c true p b) zs) e
+on-by returns i p a k q zs go e x'' = elim x'' [ ]
 
 module _ (code : List Instr) where
   one_on : (m p k q : ℕ) (zs : List ℕ) → Step code p k q → places_met (suc m) code p (answers_of k ++ zs) ≡ p ∷ places_met m code q zs
@@ -115,6 +116,7 @@ tag-answers straight p a k q straight_on = (refl, refl)
 tag-answers jump p a k q jumps_to = (refl, refl)
 tag-answers (question b) p a k q on_no = (refl, refl)
 tag-answers (question b) p a k q on_yes = (refl, refl)
+tag-answers returns p a k q x' = elim x' [ ]
 
 answers-append : (xs ys : List ℕ) → are_answers xs ≡ true → are_answers ys ≡ true → are_answers (xs ++ ys) ≡ true
 unfolding are_answers all

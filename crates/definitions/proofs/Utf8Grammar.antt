@@ -71,6 +71,7 @@ utf8-sound s e = let S = split s [] e in whole_of S.bytes S.rest S.matches S.who
   where
     whole_of : (bs rest : List ℕ) → Matches [] bs → s ≡ bs ++ rest → Utf8Octets rest → Utf8Octets s
     whole_of [] rest m q u = subst Utf8Octets (sym q) u
+    whole_of (_ ∷ _) rest m q u = elim m [ ]
 
 -- ---- what is made of characters passes the test
 
@@ -126,6 +127,7 @@ utf8-complete s (char {c} {bs} {rest} line e m u) = first-of c line e bs rest m 
   where
     first-of : (c : Octets) (line : ℕ) → get_elem? utf8_char line ≡ some c → (bs rest : List ℕ) → Matches (c.first ∷ c.others) bs → goes_on [] rest ≡ true → goes_on [] (bs ++ rest) ≡ true
     first-of c line e (b ∷ bs) rest (byte h m) q = rw (line-follows line c b e h, goes_on) (rw (past c.others bs rest m) q)
+    first-of c line e [] rest x3 q = elim x3 [ ]
 
 pub utf8_grammar : Utf8Grammar
 utf8_grammar s = (utf8-sound s, utf8-complete s)
