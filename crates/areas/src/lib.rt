@@ -1,4 +1,6 @@
 // The work areas, which are lent and given back with every word 0.
+#![tactic(auto)]
+
 ghost use Rattle.std.specs.Prelude.{◌≡◌};
 ghost use Rattle.definitions.specs.Calls.{zeros};
 

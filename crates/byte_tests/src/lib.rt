@@ -1,4 +1,6 @@
 // Tests of bytes: whether two lists of them are the same, which comes first, whether they are a name.
+#![tactic(auto)]
+
 ghost use Rattle.std.specs.Prelude.{◌≡◌, ◌||◌};
 ghost use Rattle.definitions.specs.Bytes.{same, below};
 ghost use Rattle.definitions.specs.Wellformed.{letter, digit, is_name};

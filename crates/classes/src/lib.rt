@@ -1,9 +1,11 @@
 // Classes of a module and the types of their objects.
+#![tactic(auto)]
+
 ghost use Rattle.std.specs.Prelude.{◌≡◌};
 ghost use Rattle.definitions.specs.Tables.{type_number};
 
 // A class of the module. The type number of its object follows from its number, so a module does not store it.
-#[derive(Drop)]
+#[derive(Clone, Copy)]
 pub struct Class {
     pub number: u32,
 }

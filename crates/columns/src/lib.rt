@@ -1,11 +1,13 @@
 // Fields of a line: numbers at the right of their columns, each written from the start of the output that is lent.
+#![tactic(auto)]
+
 ghost use Rattle.std.specs.Prelude.{◌≡◌, ◌≤◌, ◌<◌, length};
 ghost use Rattle.definitions.specs.Calls.{written};
 ghost use Rattle.definitions.specs.Columns.{right_in, hex_digit};
 ghost use Rattle.columns.specs.Fields.{field_text, Splits};
 
 // What a field shows, at its right: nothing, a number in decimal digits, the same after a minus, a minus, the low hexadecimal digits of a number.
-#[derive(Drop)]
+#[derive(Clone, Copy)]
 pub enum Field {
     Blank,
     Digits(u64),
@@ -15,7 +17,7 @@ pub enum Field {
 }
 
 // The last byte of a field, and what it shows before that.
-#[derive(Drop)]
+#[derive(Clone, Copy)]
 pub struct Last {
     pub byte: u8,
     pub rest: Field,

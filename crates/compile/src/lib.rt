@@ -1,4 +1,6 @@
 // The tables of an accepted tree: function 0, `__main__`, is the tree's block, with no slots; its loops keep their iterators in globals.
+#![tactic(auto)]
+
 ghost use Rattle.std.specs.Prelude.{◌≡◌, ◌≤◌, length};
 ghost use Rattle.definitions.specs.Lower as Lower;
 ghost use Rattle.tree.specs.StmtAt.{block_at, TreeAt};

@@ -1,9 +1,11 @@
 // Digits and numbers of text.
+#![tactic(auto)]
+
 ghost use Rattle.std.specs.Prelude.{◌≡◌, ◌+◌, ◌*◌, ◌%◌, ◌<◌};
 ghost use Rattle.digits.specs.Text.{digit_value, decimal, said};
 
 // A number, or that the text is none below 2^64.
-#[derive(Drop)]
+#[derive(Clone, Copy)]
 pub enum Decimal {
     Value(u64),
     NotDecimal,

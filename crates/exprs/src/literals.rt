@@ -9,7 +9,7 @@ use numerals::expr;
 use parts::numbers::u16_at;
 
 // A literal of the tree. The string is its place in the tree's bytes; a NaN is its bits, for no f64 keeps them all.
-#[derive(Drop)]
+#[derive(Clone, Copy)]
 pub enum Literal {
     None,
     Bool(bool),

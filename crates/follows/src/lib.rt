@@ -1,5 +1,7 @@
 // A tree is lowered, and the module that was written is read, or one of its functions run: the reader accepts it, and the run does what the walk of the
 // tree does. Or it is lowered at the console and at the office: what the console takes, the office takes with the very same bytes.
+#![tactic(auto)]
+
 ghost use Rattle.limits.specs.Sets.{limits_for};
 ghost use Rattle.follows.specs.Both.{LowersAtBoth};
 ghost use Rattle.follows.specs.Rereading.{Rereads};
@@ -11,21 +13,21 @@ use reader::{Verdict, read_module};
 use run::{Outcome, run};
 
 // How many bytes of the output are the module, and what the reader says of them; or the number of the first of questions 1 to 16 and 33 that is answered no.
-#[derive(Drop)]
+#[derive(Clone, Copy)]
 pub enum Reread {
     Wrote(usize, Verdict),
     Refused(u32),
 }
 
 // How many bytes are the module, and how the run of its function went; or the number of the first of questions 1 to 16 and 33 that is answered no.
-#[derive(Drop)]
+#[derive(Clone, Copy)]
 pub enum Followed {
     Ran(usize, Outcome),
     Refused(u32),
 }
 
 // What the two sets of limits give.
-#[derive(Drop)]
+#[derive(Clone, Copy)]
 pub struct Both {
     pub console: Lowered,
     pub office: Lowered,

@@ -1,10 +1,12 @@
 // The two sets of limits of question 15: the office's, and those of the console at the casing-in machine.
+#![tactic(auto)]
+
 ghost use Rattle.std.specs.Prelude.{◌≡◌};
 ghost use Rattle.definitions.specs.Module.{limits_by};
 ghost use Rattle.limits.specs.Sets.{limits_for, as_numbers};
 
 // Which set the caller wants.
-#[derive(Drop)]
+#[derive(Clone, Copy)]
 pub enum Limits {
     Office,
     Console,

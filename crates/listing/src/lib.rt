@@ -1,4 +1,6 @@
 // The code listing: questions 17 to 21 and 31.
+#![tactic(auto)]
+
 mod code;
 mod lines;
 mod names;
@@ -18,7 +20,7 @@ pub const LINE: usize = 53;
 pub const PAGE: u64 = 50;
 
 // Where the code after some instructions begins, and how many bytes their lines have.
-#[derive(Drop)]
+#[derive(Clone, Copy)]
 pub struct Next {
     pub at: usize,
     pub put: usize,

@@ -1,4 +1,6 @@
 // Lowers the tree on standard input: the module's bytes, or `refused N`, on standard output.
+#![tactic(auto)]
+
 ghost use Rattle.std.specs.Prelude.{◌≤◌, ◌≡◌, ◌∷◌, [], ◌++◌, length};
 ghost use Rattle.definitions.specs.Bytes.{ascii, decimal};
 ghost use Rattle.definitions.specs.Calls.{lower_program};

@@ -1,4 +1,6 @@
 // Functions begun under their names, classes begun and ended, their objects: each of what it touches alone.
+#![tactic(auto)]
+
 ghost use Rattle.std.specs.Prelude.{◌≡◌, ◌+◌, ◌<◌, ◌≤◌, ◌^◌, length};
 ghost use Rattle.std.proofs.Math.Seq.{paste};
 ghost use Rattle.lower_emit.specs.Numbers.{Room, Functions, SoundIn};

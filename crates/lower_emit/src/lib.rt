@@ -1,4 +1,6 @@
 // Words put, jumps set, functions begun and ended: of the code, the tables and the numbers that each touches alone.
+#![tactic(auto)]
+
 pub mod jumps; // jumps.rt: the ends of branches and loops
 
 ghost use Rattle.std.specs.Prelude.{◌≡◌, ◌+◌, ◌<◌, ◌≤◌, drop, length};

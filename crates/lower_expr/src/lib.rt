@@ -1,4 +1,6 @@
 // The lowering of an expression in one path: every answer is the next position in the tree, or 0 where the module is over the limits.
+#![tactic(auto)]
+
 ghost use Rattle.std.specs.Prelude.{◌+◌, ◌-◌, ◌<◌, ◌≤◌, eqb, get_or, drop};
 ghost use Rattle.definitions.specs.Instruction.{instr, Build, LoadAttr};
 ghost use Rattle.definitions.specs.Tables.{one, ◌⨟◌, intern};

@@ -1,4 +1,6 @@
 // The iterator of a for loop.
+#![tactic(auto)]
+
 ghost use Rattle.std.specs.Prelude.{◌≡◌, ◌<◌, length};
 ghost use Rattle.definitions.specs.Instruction.{instr, CallMethod, JumpIfFalse};
 ghost use Rattle.definitions.specs.Slots.{in_globals};

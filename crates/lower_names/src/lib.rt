@@ -1,4 +1,6 @@
 // Names and strings numbered in the path of the emission: each part speaks of the tables and the numbers that it touches.
+#![tactic(auto)]
+
 ghost use Rattle.std.specs.Prelude.{◌≡◌, List, ℕ, ◌+◌, ◌<◌, ◌≤◌, ◌^◌, length};
 ghost use Rattle.definitions.specs.Instruction.{instr, ConstStr};
 ghost use Rattle.definitions.specs.Tables as Tables;

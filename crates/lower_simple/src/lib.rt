@@ -1,4 +1,6 @@
 // Parts of statements that hold no block: a value and the instruction that takes it, the iterator of a for loop, simple statements, the end of a function.
+#![tactic(auto)]
+
 ghost use Rattle.std.specs.Prelude.{◌≡◌, List, ℕ, ◌+◌, ◌-◌, ◌<◌, get_or};
 ghost use Rattle.definitions.specs.Bytes.{same};
 ghost use Rattle.definitions.specs.Instruction.{instr};

@@ -1,5 +1,7 @@
 // The lowering of statements and blocks in one path: a statement holds blocks and a block holds statements.
 // `it` tells where loops keep their iterators: it is the slot of the next loop's, or IN_GLOBALS.
+#![tactic(auto)]
+
 ghost use Rattle.std.specs.Prelude.{[], ◌+◌, ◌-◌, ◌<◌, ◌≤◌, length};
 ghost use Rattle.definitions.specs.Slots.{loops_stmt, loops_block, loops_branches};
 ghost use Rattle.definitions.specs.Tables.{emits, ◌⨟◌};

@@ -1,4 +1,6 @@
 // Assignments by the form of the target, in the path of the emission: every answer is the next position in the tree, or 0 where the module is over the limits.
+#![tactic(auto)]
+
 ghost use Rattle.std.specs.Prelude.{◌+◌, ◌-◌, ◌<◌, ◌≤◌};
 ghost use Rattle.definitions.specs.Instruction.{StoreAttr, StoreIndex};
 ghost use Rattle.definitions.specs.Tables.{one, ◌⨟◌, intern};

@@ -1,4 +1,6 @@
 // The module, or the refusal, of each tree of tests/vectors/trees.txt, within the office's limits.
+#![tactic(auto)]
+
 use limits::Limits;
 use lowering::Lowered;
 use vectors::Reading;

@@ -1,4 +1,6 @@
 // The lowering of a tree: questions 1 to 16 and 33, and the module's bytes.
+#![tactic(auto)]
+
 ghost use Rattle.std.specs.Prelude.{◌≤◌, length};
 ghost use Rattle.definitions.specs.Module.{module_bytes};
 ghost use Rattle.definitions.specs.Calls.{fits_room, lower_answer, lower_call};
@@ -18,7 +20,7 @@ use numerals::sizes::{AREA, COUNTS, LIMITS, MADE_ROOM};
 use tree::{Checked, check_tree};
 
 // How many bytes of the output are the module; or the number of the first question answered no.
-#[derive(Drop)]
+#[derive(Clone, Copy)]
 pub enum Lowered {
     Wrote(usize),
     Refused(u32),

@@ -1,4 +1,6 @@
 // The methods of a class by rising name bytes, each a word: the place of its name in the tree, and its function.
+#![tactic(auto)]
+
 ghost use Rattle.std.specs.Prelude.{◌≡◌, ◌+◌, ◌≤◌, ◌<◌, length, take};
 ghost use Rattle.methods.specs.Order.{inserted, Slotted, Inserted};
 
@@ -6,7 +8,7 @@ use byte_tests::{below_bytes, same_bytes};
 use names::spell::name_part;
 
 // Where a method goes: in the place of one of its name, or before one.
-#[derive(Drop)]
+#[derive(Clone, Copy)]
 pub enum Slot {
     Here(usize),
     Before(usize),

@@ -1,4 +1,6 @@
 // Questions 17 to 21 of each module of tests/vectors/modules.txt.
+#![tactic(auto)]
+
 use reader::Verdict;
 use vectors::Reading;
 

@@ -1,4 +1,6 @@
 // The opcodes of operators and displays, by their bytes in the tree.
+#![tactic(auto)]
+
 ghost use Rattle.std.specs.Prelude.{◌≡◌, ◌<◌, ◌≤◌};
 ghost use Rattle.definitions.specs.Instruction.{operator_code, build_code};
 ghost use Rattle.lower_emit.specs.Ops.{Plain};

@@ -10,7 +10,7 @@ use byte_tests::same_bytes;
 use numerals::sizes::TREE_MOST;
 
 // What putting a name into the search tree of the names before it gives.
-#[derive(Drop)]
+#[derive(Clone, Copy)]
 enum Put {
     Twice,
     New,

@@ -1,4 +1,6 @@
 // Answers that bring a run to a place of a function's code (R-8): questions 1, 17 to 22, 34 and 35.
+#![tactic(auto)]
+
 mod trace; // trace.rt: the way that the marks of a search show
 
 ghost use Rattle.std.specs.Prelude.{◌≤◌, length};
@@ -18,7 +20,7 @@ use tally::{count_code, question};
 pub const AREA: usize = 131072;
 
 // So many answers in the buffer bring a run to the place; none do; or the number of the first question answered no.
-#[derive(Drop)]
+#[derive(Clone, Copy)]
 pub enum Reached {
     Answers(usize),
     Nowhere,

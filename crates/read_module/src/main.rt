@@ -1,5 +1,7 @@
 // Reads the module on standard input: `accepted` and a line for each constant, or `refused N`. With an argument, the number of a function, also the
 // bytes of its code in hexadecimal, or `refused 22`.
+#![tactic(auto)]
+
 use classes::Class;
 use digits::Decimal;
 use libc::{STDERR_FILENO, STDIN_FILENO};

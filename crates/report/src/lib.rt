@@ -1,4 +1,6 @@
 // Answers on standard output.
+#![tactic(auto)]
+
 use libc::STDOUT_FILENO;
 
 pub fn text(bytes: &[u8]) {

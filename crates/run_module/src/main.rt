@@ -1,4 +1,6 @@
 // Runs a function of the module on standard input. Arguments: the function's number, the answers as a word of 0 and 1 or `-`, the budget.
+#![tactic(auto)]
+
 ghost use Rattle.std.specs.Prelude.{length, ◌≡◌};
 
 use digits::Decimal;

@@ -1,4 +1,6 @@
 // The run of each case of tests/vectors/runs.txt. The event buffer is a part of a longer one, and each has its pattern before the call.
+#![tactic(auto)]
+
 use run::Outcome;
 use vectors::Reading;
 

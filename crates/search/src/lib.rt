@@ -1,5 +1,7 @@
 // A search of the places of a function's code that some answers bring a run to. The queue stands in a work area from its start on, the marks of the
 // places behind it.
+#![tactic(auto)]
+
 ghost use Rattle.std.specs.Prelude.{◌≡◌};
 ghost use Rattle.definitions.specs.Search.{by_link, Swept};
 ghost use Rattle.reader.specs.View.{instructions_of};

@@ -1,4 +1,6 @@
 // The count sheet: questions 17 to 21 and 32.
+#![tactic(auto)]
+
 mod lines;
 
 ghost use Rattle.std.specs.Prelude.{◌+◌, ◌≤◌, ◌<◌, length};

@@ -21,7 +21,7 @@ use parts::names::name_end;
 use parts::numbers::u16_at;
 
 // The next position in the tree, and how many names are kept.
-#[derive(Drop)]
+#[derive(Clone, Copy)]
 pub struct Refs {
     pub next: usize,
     pub n: u32,

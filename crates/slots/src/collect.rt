@@ -18,7 +18,7 @@ use parts::names::name_end;
 use parts::numbers::u16_at;
 
 // The next position in the tree and how many slots have a name; or that more than 255 have one.
-#[derive(Drop)]
+#[derive(Clone, Copy)]
 pub enum Gathered {
     Next(usize, u32),
     Over,
@@ -324,7 +324,7 @@ pub(crate) fn put_params(tree: &[u8], at: usize, slots: &mut [u32]) -> Locals
 }
 
 // How many slots of a def or method have a name, and how many there are with those of its loops; or that there are more than 255.
-#[derive(Drop)]
+#[derive(Clone, Copy)]
 pub enum Framed {
     Slots(u32, u32),
     TooMany,

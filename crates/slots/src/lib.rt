@@ -1,5 +1,7 @@
 // The slots of defs, methods and lambdas. A slot is the place of a name in the tree: the position of its length byte.
 // Before the slots stands an index of their names.
+#![tactic(auto)]
+
 pub mod add; // add.rt: names added to slots
 pub mod index; // index.rt: the index of slots
 pub mod skip; // skip.rt: where parts of the tree end
@@ -9,7 +11,7 @@ pub mod marks; // marks.rt: slots whose names a lambda around has as parameters
 pub mod captures; // captures.rt: the slots of a lambda
 
 // How many slots there are; or that there are more than 255.
-#[derive(Drop)]
+#[derive(Clone, Copy)]
 pub enum Locals {
     Count(u32),
     TooMany,

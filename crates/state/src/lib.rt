@@ -1,8 +1,9 @@
 // What the lowering keeps in the slices lent to it.
+#![tactic(auto)]
 
 // How much of each table is used, and of the two halves of the code area: `open` words of functions not done yet, of which the innermost begins at
 // `base`, and `done` words of finished ones. The emission keeps these in lent numbers; so the module's writer takes them.
-#[derive(Drop)]
+#[derive(Clone, Copy)]
 pub struct Counts {
     pub symbols: u32,
     pub strings: u32,

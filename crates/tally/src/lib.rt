@@ -1,4 +1,6 @@
 // The functions of an accepted module, one after the other: what is counted of their code; and what a call answers that writes a text about them.
+#![tactic(auto)]
+
 ghost use Rattle.std.specs.Prelude.{◌≡◌, ◌≤◌, length};
 ghost use Rattle.definitions.specs.Module.{instructions};
 ghost use Rattle.definitions.specs.Reader.{function_record, instruction};
@@ -9,14 +11,14 @@ ghost use Rattle.tally.specs.Counts.{Tallies};
 use reader::{Found, instruction_at, number_at};
 
 // The count of bytes of a text about a module, or a refusal.
-#[derive(Drop)]
+#[derive(Clone, Copy)]
 pub enum Listed {
     Written(usize),
     Refused(u8),
 }
 
 // Where the code after some instructions begins, and the conditional jumps and calls among these.
-#[derive(Drop)]
+#[derive(Clone, Copy)]
 pub struct Tallied {
     pub at: usize,
     pub questions: u64,

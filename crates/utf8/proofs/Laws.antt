@@ -63,7 +63,7 @@ begins-line line c due b e f h = record {
 record Outside (b : ℕ) (c : Octets) : Type 0 where
   is : in_range c.first b ≡ false
 
-none-follows : {cs : List Octets} (b : ℕ) → Every (Outside b) cs → followers cs b ≡ none
+none-follows : (b : ℕ) {cs : List Octets} → Every (Outside b) cs → followers cs b ≡ none
 unfolding followers
 none-follows b no_every = refl
 none-follows b (every o os) = rw (o.is, followers) (none-follows b os)

@@ -1,4 +1,6 @@
 // Well-formed UTF-8 (RFC 3629): the test of a string's bytes, for trees (8) and modules (19) alike.
+#![tactic(auto)]
+
 ghost use Rattle.std.specs.Prelude.{◌≡◌, true, false};
 ghost use Rattle.definitions.specs.Utf8.{range, in_range, is_utf8};
 ghost use Rattle.utf8.specs.Due.{Goes, Begins, IsFrom};

@@ -1,4 +1,6 @@
 // Cases of tests/vectors from standard input: a case a line, its fields parted by tabs, its name first.
+#![tactic(auto)]
+
 ghost use Rattle.std.specs.Prelude.{◌≡◌, true, false, eqb};
 ghost use Rattle.io.specs.Counts.{IsPrefixLen};
 ghost use Rattle.vectors.specs.Lines.{is_end, spoilt_of, Skips, Finishes, Reads};
@@ -15,7 +17,7 @@ const DASH: u32 = 45;
 const END: u32 = 256;
 
 // The part of the piece that is still to be taken, the byte that was taken last, and whether the line's fields so far could be read.
-#[derive(Drop)]
+#[derive(Clone, Copy)]
 pub struct Reading {
     pub at: usize,
     pub end: usize,
@@ -24,14 +26,14 @@ pub struct Reading {
 }
 
 // How many bytes a field has, and how to go on.
-#[derive(Drop)]
+#[derive(Clone, Copy)]
 pub struct Field {
     pub size: usize,
     pub next: Reading,
 }
 
 // A field's number, and how to go on.
-#[derive(Drop)]
+#[derive(Clone, Copy)]
 pub struct Number {
     pub value: u64,
     pub next: Reading,

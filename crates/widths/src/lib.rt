@@ -1,4 +1,6 @@
 // Bytes of an instruction and of its operands, by its opcode. A match becomes a table in the program's data; an array would be made anew at each call.
+#![tactic(auto)]
+
 ghost use Rattle.std.specs.Prelude.{◌≡◌, ◌+◌, ◌≤◌};
 ghost use Rattle.definitions.specs.Instruction.{first_width, second_width};
 

@@ -1,4 +1,6 @@
 // Bytes written from the start of the output that is lent, and the laws of what is written piece by piece.
+#![tactic(auto)]
+
 ghost use Rattle.std.specs.Prelude.{◌≤◌, length};
 ghost use Rattle.writing.specs.Wrote.{Wrote};
 
