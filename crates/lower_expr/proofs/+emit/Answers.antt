@@ -1,108 +1,39 @@
-use Prim.Native.Nat.{ℕ}
-use mathlib.Core.Path.{refl, ap, ◌∙◌}
+use Prim.Native.Nat.{ℕ, ◌+◌, ◌*◌, ◌<◌}
+use mathlib.Core.Path.{refl, ap, ◌∙◌, sym}
 use native.Mathlib.Omega.{arith}
-use Rattle.definitions.specs.Tables.{one}
-use Rattle.parts.specs.Places.{count_at}
-use Rattle.state.proofs.Growth.{lengthens-one}
-use Rattle.lower_forms.specs.Lowerable.{call_instr}
-use Rattle.lower_forms.proofs.ExprArms.{many-at}
-use Rattle.lower_emit.proofs.Steps.{sound-of, room-sound, put-lifts, sound-next, lowers_then, lowers-stopped}
+use Rattle.definitions.specs.Tables.{one, intern, ◌⨟◌, expr_body}
+use Rattle.parts.specs.Places.{count_at, name_end}
+use Rattle.state.proofs.Growth.{lengthens-one, lengthens-intern, lengthens-seq, lengthens-exprs, lengthens-loads, lengthens-expr, lengthens-shortcut}
+use Rattle.lower_forms.specs.Lowerable.{call_instr, expr_code, exprs_code}
+use Rattle.lower_forms.proofs.ExprArms.{many-at, there-at, low-code, logical-code, args_at, arm-inside, arm-deep, arm-literal, arm-variable, arm_unary, arm_binary, arm-call, arm-attribute, arm-index, arm-display, arm-lambda, lit-code, display-kinds, lowerable-at, counted-at}
+use Rattle.lower_emit.proofs.Steps.{sound-of, room-sound, put-lifts, sound-next, lowers_then, lowers-stopped, done-of, lowers-by, ready-next, lowers-state, room_of, lowers-full}
 use Rattle.lower_names.specs.Naming.{callee_in}
-use Rattle.lower_names.proofs.Callees.{call-instr}
-use Rattle.lower_expr.proofs.Several.{many_by}
-use mathlib.Core.Path.{refl, sym, ◌∙◌}
-use Rattle.definitions.specs.Instruction.{LoadAttr}
-use Rattle.definitions.specs.Tables.{one, intern}
-use Rattle.parts.specs.Places.{name_end}
+use Rattle.lower_names.proofs.Callees.{call-instr, callables-sound}
+use Rattle.lower_expr.proofs.Several.{many_by, name-ahead, value_same, value-small, ExprsRest, rest1-all, rest1-ready, rest1-next, rest1-over, rest1-done, rest1-constants}
+use Rattle.definitions.specs.Instruction.{LoadAttr, MakeClosure, Build, CallMethod, instr}
 use Rattle.state.specs.Words.{name_at}
-use Rattle.state.proofs.Growth.{lengthens-one, lengthens-intern}
-use Rattle.lower_emit.proofs.Packing.{plain-above}
-use Rattle.lower_forms.proofs.ExprArms.{there-at}
-use Rattle.lower_emit.proofs.Steps.{sound-of, done-of, sound-next, lowers_then, lowers-stopped, lowers-by}
-use Rattle.lower_expr.proofs.Several.{name-ahead}
-use mathlib.Core.Path.{refl}
-use Rattle.lower_forms.proofs.ExprArms.{low-code, logical-code}
-use Rattle.lower_emit.proofs.Steps.{lowers-by}
-use Prim.Native.Nat.{ℕ, ◌+◌, ◌*◌}
-use Rattle.definitions.specs.Tables.{one, ◌⨟◌}
-use Rattle.definitions.specs.Lower.{Callee}
+use Rattle.lower_emit.proofs.Packing.{plain-above, instr-plain}
+use Rattle.definitions.specs.Lower.{Callee, loads, shortcut}
 use Rattle.exprs.specs.ExprAt.{expr_at, list_at}
-use Rattle.state.specs.State.{slot_names}
-use Rattle.state.proofs.Growth.{lengthens-one, lengthens-seq, lengthens-exprs}
-use Rattle.lower_forms.specs.Lowerable.{expr_code, exprs_code, call_instr}
-use Rattle.lower_forms.proofs.ExprArms.{args_at, arm-inside}
-use Rattle.lower_forms.proofs.CallForms.{call-named, call-method}
-use Rattle.lower_expr.proofs.Calls.{call-value}
-use Rattle.lower_emit.proofs.Steps.{sound-of, done-of, ready-next, lowers_then, lowers-stopped, lowers-by}
-use Rattle.lower_expr.proofs.Several.{value_same, value-small}
-use mathlib.Core.Path.{sym, ◌∙◌}
+use Rattle.state.specs.State.{slot_names, names_at, slots_from}
+use Rattle.lower_forms.proofs.CallForms.{call-named, call-method, callee-short}
+use Rattle.lower_expr.proofs.Calls.{call-value, named-state, functions-few}
 use borrow.Author.Rules.{rules}
 use lib.ListN.{length, drop, get_or, length-drop}
-use Rattle.definitions.specs.Instruction.{MakeClosure}
-use Rattle.definitions.specs.Lower.{loads}
-use Rattle.state.specs.State.{names_at, slots_from, slot_names}
 use Rattle.state.proofs.Views.{function-count}
-use Rattle.state.proofs.Growth.{lengthens-one, lengthens-seq, lengthens-loads}
-use Rattle.lower_leaves.proofs.LambdaState.{closure-state, captured-as, captured-held, captured-few}
-use Rattle.lower_emit.proofs.Steps.{sound-of, room-sound, sound-next, lowers_then, lowers-stopped, lowers-state}
-use Prim.Native.Nat.{ℕ, ◌+◌, ◌*◌, ◌<◌}
-use Rattle.definitions.specs.Instruction.{Build}
-use Rattle.lower_emit.proofs.Packing.{instr-plain, plain-above}
+use Rattle.lower_leaves.proofs.LambdaState.{closure-state, captured-as, captured-held, captured-few, lambda-ready, lambda-lowers, lambda-over, slots-few, reads_at}
 use Rattle.opcodes.specs.Codes.{display_of, held_of}
 use Rattle.opcodes.proofs.Opcodes.{build-as}
-use Rattle.lower_emit.proofs.Steps.{sound-of, room-sound, put-lifts, sound-next, lowers_then, lowers-stopped, lowers-by}
 use Rattle.exprs.proofs.ExprViews.{expr-known}
-use Rattle.lower_forms.proofs.ExprArms.{arm-deep, arm-inside, arm-literal, arm-variable, arm_unary, arm_binary, arm-call, arm-attribute, arm-index, arm-display, arm-lambda, lit-code, display-kinds}
-use Rattle.lower_emit.proofs.Steps.{sound-of, room_of, lowers-by}
 use Rattle.lower_names.proofs.Strings.{texts-sound}
-use mathlib.Core.Path.{◌∙◌}
 use Rattle.lower_forms.proofs.Elements.{more-view}
-use Rattle.lower_emit.proofs.Steps.{room_of}
-use Rattle.lower_expr.proofs.Several.{ExprsRest, rest1-all, rest1-ready, rest1-next, rest1-over, rest1-done, rest1-constants}
-use lib.ListN.{drop, length-drop}
-use Rattle.definitions.specs.Tables.{expr_body}
-use Rattle.exprs.specs.ExprAt.{expr_at}
-use Rattle.state.specs.State.{slots_from, slot_names}
-use Rattle.state.proofs.Growth.{lengthens-expr}
-use Rattle.lower_forms.specs.Lowerable.{expr_code}
-use Rattle.lower_emit.proofs.Steps.{sound-of, room-sound, sound-next}
 use Rattle.lower_emit.proofs.Functions.{functions-sound, ending-sound}
 use Rattle.lower_names.proofs.Symbols.{naming-sound}
 use Rattle.lower_leaves.proofs.Lambdas.{begins-count, function1-over, function1-sound, function1-body, function1-few, function1-end}
-use mathlib.Core.Path.{sym}
 use lib.Seq.{length-take-le}
 use Rattle.lower_leaves.proofs.Collecting.{collected-count, collected-over}
-use Rattle.lower_leaves.proofs.LambdaState.{lambda-ready, lambda-lowers, lambda-over, slots-few, reads_at}
-use Rattle.lower_emit.proofs.Steps.{lowers-full}
 use lib.Dec.{eqb}
-use Rattle.definitions.specs.Lower.{shortcut}
-use Rattle.state.proofs.Growth.{lengthens-expr, lengthens-shortcut}
-use Rattle.lower_forms.proofs.ExprArms.{lowerable-at}
-use Rattle.lower_emit.proofs.Steps.{sound-of, done-of, ready-next, lowers_then, lowers-stopped}
-use Prim.Native.Nat.{ℕ, ◌+◌}
-use mathlib.Core.Path.{refl, sym, ap, ◌∙◌}
-use Rattle.definitions.specs.Instruction.{CallMethod}
-use Rattle.definitions.specs.Tables.{one, ◌⨟◌, intern}
-use Rattle.parts.specs.Places.{count_at, name_end}
-use Rattle.exprs.specs.ExprAt.{list_at}
-use Rattle.state.proofs.Growth.{lengthens-one, lengthens-seq, lengthens-exprs, lengthens-intern}
-use Rattle.lower_forms.specs.Lowerable.{exprs_code}
-use Rattle.lower_forms.proofs.ExprArms.{many-at, there-at, counted-at}
-use Rattle.lower_emit.proofs.Steps.{sound-of, done-of, sound-next, ready-next, lowers_then, lowers-stopped, lowers-by}
-use Rattle.lower_forms.specs.Lowerable.{exprs_code, call_instr}
-use Rattle.lower_forms.proofs.ExprArms.{args_at}
-use Rattle.lower_forms.proofs.CallForms.{callee-short}
-use Rattle.lower_expr.proofs.Calls.{named-state, functions-few}
-use Rattle.lower_emit.proofs.Steps.{sound-of, done-of, ready-next, lowers_then, lowers-stopped, lowers-by, lowers-state}
-use Rattle.lower_names.proofs.Callees.{callables-sound}
-use mathlib.Core.Path.{sym, ap, ◌∙◌}
-use Rattle.lower_emit.proofs.Steps.{sound-of, room_of, room-sound, done-of, sound-next, ready-next, lowers-by}
 use Rattle.lower_expr.proofs.Shortcut.{jump, shortcut1-full, shortcut1-right, shortcut1-before, shortcut1-end}
-use Rattle.definitions.specs.Instruction.{instr}
-use Rattle.state.proofs.Growth.{lengthens-one, lengthens-seq, lengthens-expr}
-use Rattle.lower_emit.proofs.Packing.{instr-plain}
-use Rattle.lower_emit.proofs.Steps.{sound-of, room-sound, put-lifts, done-of, sound-next, ready-next, lowers_then, lowers-stopped}
-use Rattle.lower_emit.proofs.Steps.{sound-of, room_of, put-lifts, sound-next, ready-next, lowers_then, lowers-stopped, lowers-by}
 use Rattle.lower_expr.proofs.+emit.Goals as goal
 
 pub emit_args-u16_at-n-requires : goal.emit_args-u16_at-n-requires

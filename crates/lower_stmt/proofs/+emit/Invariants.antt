@@ -1,94 +1,36 @@
-use Prim.Native.Nat.{ℕ, ◌+◌, ◌*◌, ◌<◌}
-use Prim.Native.Nat.{ℕ}
-use mathlib.Core.Path.{refl, sym, ap, ◌∙◌}
+use Prim.Native.Nat.{ℕ, ◌+◌, ◌*◌, ◌<◌, ◌-◌}
+use mathlib.Core.Path.{refl, sym, ap, ◌∙◌, subst}
 use native.Mathlib.Omega.{arith}
 use borrow.Author.Rules.{rules}
 use Rattle.parts.specs.Places.{count_at, name_end, params_at}
-use Rattle.lower_emit.proofs.Steps.{sound-next}
-use Rattle.lower_forms.proofs.ExprArms.{params-count}
-use Rattle.lower_forms.specs.Lowering.{end_of}
-use Rattle.lower_forms.proofs.Sequences.{block-at, params-at}
-use Rattle.lower_stmt.proofs.Sequence.{spare-at}
+use Rattle.lower_emit.proofs.Steps.{sound-next, sound-of, room-sound, lowers-stopped, lowers-next, done-of, ready-next, lowers_then, lowers-by}
+use Rattle.lower_forms.proofs.ExprArms.{params-count, counted-at, lowerable-at}
+use Rattle.lower_forms.specs.Lowering.{end_of, block_code, class_code}
+use Rattle.lower_forms.proofs.Sequences.{block-at, params-at, elifs-at}
+use Rattle.lower_stmt.proofs.Sequence.{spare-at, block-is, block-stmts, block-by, ready-sound, stmt-ahead, StmtsRest, stmts-all, stmts-ready, stmts-spare, stmts-next, stmts-over, stmts-done}
 use Rattle.lower_stmt.proofs.Functions.{framed_at, frame-keeping, frame-spare, part-names}
 use Rattle.lower_emit.proofs.Functions.{functions-sound, ending-sound}
 use Rattle.lower_names.proofs.Symbols.{naming-sound}
-use Rattle.lower_stmt.proofs.Nested.{sound-sole, slots-stopped, function-over, function-sound, function-stopped, function-few, function-done, body-by, ready-part}
-use mathlib.Core.Path.{refl, sym, subst}
+use Rattle.lower_stmt.proofs.Nested.{sound-sole, slots-stopped, function-over, function-sound, function-stopped, function-few, function-done, body-by, ready-part, sole-next, lists-by, class-over, class-sound, class-stopped, class-asks, class-done, MethodsRest, methods-all, methods-sole, methods-done, methods-stopped, methods-number, methods-room, methods-next, sole_of, compiles-lowers, reaches-lowers}
 use Rattle.state.specs.State.{slot_names}
-use Rattle.lower_forms.proofs.StmtArms.{block-parts}
-use Rattle.tree.proofs.LoopsAt.{block-loops}
+use Rattle.lower_forms.proofs.StmtArms.{block-parts, elifs-more, elifs-none, else-parts, else-in, else-one, methods-parts, arm-deep, arm-inside, arm-known, arm-if, arm-while, arm-for, arm-def, arm-class, stmts-more}
+use Rattle.tree.proofs.LoopsAt.{block-loops, loops-at, no-else-loops, else-loops, if-loops, while-loops, for-loops, other-loops}
 use Rattle.state.specs.Kept.{keeping_of, Spare}
-use Rattle.state.proofs.Kept.{passes-by}
-use Rattle.lower_stmt.proofs.Sequence.{block-is, block-stmts}
-use mathlib.Core.Path.{◌∙◌}
-use Rattle.lower_emit.proofs.Steps.{sound-of, room-sound, sound-next, lowers-stopped, lowers-next}
-use Rattle.state.proofs.Growth.{lengthens-emits}
-use Rattle.state.specs.Kept.{keeping_of}
-use Rattle.state.proofs.Kept.{passes_over, passes-done}
+use Rattle.state.proofs.Kept.{passes-by, passes_over, passes-done, passes_none, spare-first, spare-then, keeping-then, passes_then}
+use Rattle.state.proofs.Growth.{lengthens-emits, lengthens-seq, lengthens-block, lengthens-take_iter}
 use Rattle.definitions.specs.Instruction.{instr}
 use Rattle.exprs.specs.ExprAt.{expr_at}
 use Rattle.lower_forms.specs.Lowerable.{expr_code}
-use Rattle.lower_emit.proofs.Steps.{sound-of, room-sound, done-of, sound-next, ready-next}
-use Rattle.tree.specs.StmtAt.{body_at}
+use Rattle.tree.specs.StmtAt.{body_at, class_methods_at, block_at, branches_at}
 use Rattle.lower_emit.proofs.Packing.{instr-jump}
-use Rattle.lower_forms.proofs.Sequences.{block-at}
-use Rattle.tree.proofs.LoopsAt.{loops-at}
-use Rattle.lower_stmt.proofs.Sequence.{block-by, spare-at}
-use Rattle.lower_stmt.proofs.Branches.{inside-above, end-above, branch-stopped, branch-over, branch-done}
-use Prim.Native.Nat.{ℕ, ◌+◌}
-use Rattle.parts.specs.Places.{count_at}
-use Rattle.tree.specs.StmtAt.{class_methods_at}
-use Rattle.lower_forms.proofs.ExprArms.{counted-at}
+use Rattle.lower_stmt.proofs.Branches.{inside-above, end-above, branch-stopped, branch-over, branch-done, ChainRest, chain-all, chain-ready, chain-over, chain-longer, chain_next, chain-last, chain-spare, chain-rest, else-none, else-over, else-longer, else-done, iterable-by, for-stopped, for-over, for-sound, for-loads, for-spare, for-passes, for-done, if-stopped, if-open, if-done, loop-stopped, loop-over, loop-done}
 use Rattle.lower_stmt.proofs.Classes.{methods-at}
 use Rattle.lower_classes.proofs.Nested.{classes-sound}
-use Rattle.lower_stmt.proofs.Nested.{sound-sole, sole-next, lists-by, class-over, class-sound, class-stopped, class-asks, class-done}
-use Rattle.state.proofs.Kept.{passes_over}
-use Rattle.lower_forms.proofs.StmtArms.{elifs-more, elifs-none}
-use Rattle.lower_stmt.proofs.Branches.{ChainRest, chain-all, chain-ready, chain-over, chain-longer, chain_next, chain-last, chain-spare, chain-rest}
-use Rattle.state.proofs.Kept.{passes_none, passes_over, passes-by}
-use mathlib.Core.Path.{sym, subst, ◌∙◌}
-use Rattle.lower_emit.proofs.Steps.{sound-of, sound-next}
-use Rattle.lower_forms.proofs.StmtArms.{else-parts, else-in, else-one}
-use Rattle.lower_stmt.proofs.Branches.{else-none, else-over, else-longer, else-done}
-use Rattle.tree.proofs.LoopsAt.{no-else-loops, else-loops}
-use Rattle.state.proofs.Kept.{passes_over, passes-by}
-use Rattle.parts.specs.Places.{name_end}
 use Rattle.state.specs.Words.{name_at}
-use Rattle.lower_forms.proofs.ExprArms.{lowerable-at}
-use Rattle.lower_emit.proofs.Steps.{sound-of, done-of, sound-next}
-use Rattle.tree.specs.StmtAt.{block_at, body_at}
-use Rattle.lower_stmt.proofs.Sequence.{ready-sound, spare-at}
-use Rattle.lower_stmt.proofs.Branches.{iterable-by, for-stopped, for-over, for-sound, for-loads, for-spare, for-passes, for-done}
 use Rattle.definitions.specs.Slots.{loops_branches}
-use Rattle.state.proofs.Kept.{spare-first, spare-then, keeping-then, passes_over, passes-by, passes_then}
-use mathlib.Core.Path.{sym, ap, ◌∙◌}
-use Rattle.lower_emit.proofs.Steps.{sound-of, done-of, ready-next}
-use Rattle.tree.specs.StmtAt.{branches_at, body_at}
-use Rattle.lower_forms.proofs.Sequences.{elifs-at}
-use Rattle.lower_stmt.proofs.Branches.{if-stopped, if-open, if-done}
-use Rattle.lower_forms.proofs.StmtArms.{methods-parts}
-use Rattle.lower_stmt.proofs.Nested.{MethodsRest, methods-all, methods-sole, methods-done, methods-stopped, methods-number, methods-room, methods-next}
-use mathlib.Core.Path.{refl, ◌∙◌}
-use Rattle.state.proofs.Growth.{lengthens-seq, lengthens-block, lengthens-take_iter}
-use Rattle.lower_emit.proofs.Steps.{sound-of, room-sound, done-of, sound-next, ready-next, lowers_then, lowers-stopped}
 use Rattle.definitions.specs.Lower.{ask_iter}
-use Rattle.tree.specs.StmtAt.{block_at}
-use Rattle.lower_forms.specs.Lowering.{block_code}
-use Rattle.lower_stmt.proofs.Branches.{loop-stopped, loop-over, inside-above, end-above, loop-done}
 use Rattle.lower_loops.specs.Iterators.{keeper_of}
-use Prim.Native.Nat.{ℕ, ◌+◌, ◌-◌}
-use mathlib.Core.Path.{sym, subst}
-use Rattle.state.proofs.Kept.{passes_none, passes-by}
-use Rattle.lower_emit.proofs.Steps.{lowers-by}
 use mathlib.Core.Bool.{false}
-use Rattle.tree.proofs.LoopsAt.{if-loops, while-loops, for-loops, other-loops}
-use Rattle.lower_forms.specs.Lowering.{class_code}
-use Rattle.lower_forms.proofs.StmtArms.{arm-deep, arm-inside, arm-known, arm-if, arm-while, arm-for, arm-def, arm-class}
-use Rattle.lower_stmt.proofs.Sequence.{stmt-ahead}
-use Rattle.lower_stmt.proofs.Nested.{sole_of, compiles-lowers, reaches-lowers}
-use Rattle.lower_forms.proofs.StmtArms.{stmts-more}
-use Rattle.lower_stmt.proofs.Sequence.{StmtsRest, stmts-all, stmts-ready, stmts-spare, stmts-next, stmts-over, stmts-done}
-use Rattle.state.proofs.Growth.{lengthens-block}
 use Rattle.lower_stmt.proofs.+emit.Given as goal
 
 abbrev pub decreases-compile_function : goal.decreases-compile_function

@@ -5,9 +5,7 @@ use mathlib.Core.Logic.{inl, inr}
 use mathlib.Core.Path.{refl}
 use Rattle.exprs.proofs.ExprViews.{expr-inside, expr-deep, expr-known, view-var, view-unary, view-binary, view-call, view-attribute, view-list, view-dict, view-tuple, view-set, view-tree-set, view-index, view-lambda}
 use Rattle.slots.proofs.Holding.{held-expr}
-use Rattle.slots.proofs.Referring.{keeping-again, literal-kinds, refs-var, refs-unary, refs-binary, refs-call, refs-attribute, refs-dict, refs-display, refs-index, refs-lambda, refs-literal}
-use Rattle.slots.proofs.Referring.{second-there, refs-second, list-there, refs-args, name-there, refs-object, refs-body, body-there, list-reads, list-is, dict-reads, dict-is, refs-list}
-use Rattle.slots.proofs.Referring.{ExprsLeft, exprs-start, exprs-head, exprs-next, exprs-done}
+use Rattle.slots.proofs.Referring.{keeping-again, literal-kinds, refs-var, refs-unary, refs-binary, refs-call, refs-attribute, refs-dict, refs-display, refs-index, refs-lambda, refs-literal, second-there, refs-second, list-there, refs-args, name-there, refs-object, refs-body, body-there, list-reads, list-is, dict-reads, dict-is, refs-list, ExprsLeft, exprs-start, exprs-head, exprs-next, exprs-done}
 use Prim.Native.Nat.{ℕ, ◌+◌, ◌*◌, ◌<◌}
 use Rattle.slots.proofs.captures.+refs.Given as goal
 
