@@ -58,38 +58,58 @@ skipped-13 : (c : tie.Else13) → Skipped 13 c.before.before.before.before.befor
 unfolding registry
 skipped-13 c = skip 12 c.before.before.before.before.before.before.before.before.before.before.before.before.before.before.before.before.before.before.before.before.before.before.before.before.before.before.before.before.before.before.before.before.before.before.before.before.before.before.before.before.args.name.now (lit< tt) (skipped-12 c.before.before.before) (sym c.before.same-bytes13.ensures ∙ c.if13.false)
 
-pub same_bytes-requires-2 : goal.same_bytes-requires-2
+pub returns-then-same_bytes : goal.returns-then-same_bytes
 unfolding registry
-same_bytes-requires-2 c = here 0 c.args.name.now (lit< tt) (skipped-none c.args.name.now) (sym c.same_bytes.ensures ∙ c.if-same_bytes.true)
+returns-then-same_bytes c = here 0 c.args.name.now (lit< tt) (skipped-none c.args.name.now) (sym c.same_bytes.ensures ∙ c.if-same_bytes.true)
+
+pub returns-then-same_bytes-2 : goal.returns-then-same_bytes-2
+unfolding registry
+returns-then-same_bytes-2 c = here 1 c.args.name.now (lit< tt) (skipped-1 c) (sym c.same_bytes-2.ensures ∙ c.if-same_bytes-2.true)
 
 pub returns-then-same_bytes-3 : goal.returns-then-same_bytes-3
 unfolding registry
-returns-then-same_bytes-3 c = here 1 c.args.name.now (lit< tt) (skipped-1 c) (sym c.same_bytes-2.ensures ∙ c.if-same_bytes-2.true)
+returns-then-same_bytes-3 c = here 2 c.args.name.now (lit< tt) (skipped-2 c) (sym c.same_bytes-3.ensures ∙ c.if-same_bytes-3.true)
 
-pub same_bytes-requires-5 : goal.same_bytes-requires-5
+pub returns-then-same_bytes-4 : goal.returns-then-same_bytes-4
 unfolding registry
-same_bytes-requires-5 c = here 2 c.args.name.now (lit< tt) (skipped-2 c) (sym c.same_bytes-3.ensures ∙ c.if-same_bytes-3.true)
+returns-then-same_bytes-4 c = here 3 c.args.name.now (lit< tt) (skipped-3 c) (sym c.same_bytes-4.ensures ∙ c.if-same_bytes-4.true)
+
+pub returns-then-same_bytes-5 : goal.returns-then-same_bytes-5
+unfolding registry
+returns-then-same_bytes-5 c = here 4 c.args.name.now (lit< tt) (skipped-4 c) (sym c.same_bytes-5.ensures ∙ c.if-same_bytes-5.true)
 
 pub returns-then-same_bytes-6 : goal.returns-then-same_bytes-6
 unfolding registry
-returns-then-same_bytes-6 c = here 3 c.args.name.now (lit< tt) (skipped-3 c) (sym c.same_bytes-4.ensures ∙ c.if-same_bytes-4.true)
+returns-then-same_bytes-6 c = here 5 c.args.name.now (lit< tt) (skipped-5 c) (sym c.same_bytes-6.ensures ∙ c.if-same_bytes-6.true)
 
-pub same_bytes-requires-8 : goal.same_bytes-requires-8
+pub returns-then-same_bytes-7 : goal.returns-then-same_bytes-7
 unfolding registry
-same_bytes-requires-8 c = here 4 c.args.name.now (lit< tt) (skipped-4 c) (sym c.same_bytes-5.ensures ∙ c.if-same_bytes-5.true)
+returns-then-same_bytes-7 c = here 6 c.args.name.now (lit< tt) (skipped-6 c) (sym c.same_bytes-7.ensures ∙ c.if-same_bytes-7.true)
+
+pub returns-then-same_bytes-8 : goal.returns-then-same_bytes-8
+unfolding registry
+returns-then-same_bytes-8 c = here 7 c.args.name.now (lit< tt) (skipped-7 c) (sym c.same_bytes-8.ensures ∙ c.if-same_bytes-8.true)
 
 pub returns-then-same_bytes-9 : goal.returns-then-same_bytes-9
 unfolding registry
-returns-then-same_bytes-9 c = here 5 c.args.name.now (lit< tt) (skipped-5 c) (sym c.same_bytes-6.ensures ∙ c.if-same_bytes-6.true)
+returns-then-same_bytes-9 c = here 8 c.args.name.now (lit< tt) (skipped-8 c) (sym c.same_bytes-9.ensures ∙ c.if-same_bytes-9.true)
 
-pub same_bytes-requires-11 : goal.same_bytes-requires-11
+pub returns-then-same_bytes-10 : goal.returns-then-same_bytes-10
 unfolding registry
-same_bytes-requires-11 c = here 6 c.args.name.now (lit< tt) (skipped-6 c) (sym c.same_bytes-7.ensures ∙ c.if-same_bytes-7.true)
+returns-then-same_bytes-10 c = here 9 c.args.name.now (lit< tt) (skipped-9 c) (sym c.same_bytes-10.ensures ∙ c.if-same_bytes-10.true)
+
+pub returns-then-same_bytes-11 : goal.returns-then-same_bytes-11
+unfolding registry
+returns-then-same_bytes-11 c = here 10 c.args.name.now (lit< tt) (skipped-10 c) (sym c.same_bytes-11.ensures ∙ c.if-same_bytes-11.true)
 
 pub returns-then-same_bytes-12 : goal.returns-then-same_bytes-12
 unfolding registry
-returns-then-same_bytes-12 c = here 7 c.args.name.now (lit< tt) (skipped-7 c) (sym c.same_bytes-8.ensures ∙ c.if-same_bytes-8.true)
+returns-then-same_bytes-12 c = here 11 c.args.name.now (lit< tt) (skipped-11 c) (sym c.same_bytes-12.ensures ∙ c.if-same_bytes-12.true)
+
+pub returns-then-same_bytes-13 : goal.returns-then-same_bytes-13
+unfolding registry
+returns-then-same_bytes-13 c = here 12 c.args.name.now (lit< tt) (skipped-12 c) (sym c.same_bytes-13.ensures ∙ c.if-same_bytes-13.true)
 
 pub returns : goal.returns
 unfolding registry
-returns c = here 8 c.args.name.now (lit< tt) (skipped-8 c) (sym c.same_bytes-9.ensures ∙ c.if-same_bytes-9.true)
+returns c = skipped-all c.args.name.now (skipped-13 c)

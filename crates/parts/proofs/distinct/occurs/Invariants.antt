@@ -1,10 +1,9 @@
-use Rattle.parts.proofs.NameLaws.{same-as, occurs-again}
+use Rattle.parts.proofs.NameLaws.{same-as, occurs-again, there-first, member-found, member-none}
 use mathlib.Core.Path.{◌≡◌, refl, sym, ◌∙◌}
 use native.Mathlib.Omega.{arith}
 use borrow.Author.Rules.{rules}
 use Rattle.parts.specs.Places.{name_bytes, names_from, AllThere}
 use Rattle.definitions.specs.Bytes.{member}
-use Rattle.parts.proofs.NameLaws.{there-first, member-found, member-none}
 use Rattle.parts.proofs.distinct.occurs.Given as goal
 
 abbrev pub invariant-loop-left : goal.invariant-loop-left
