@@ -11,7 +11,7 @@ use Rattle.exprs.proofs.+check.Goals as goal
 
 pub check_attribute-check_expr-object-requires : goal.check_attribute-check_expr-object-requires
 unfolding judge_attribute
-check_attribute-check_expr-object-requires t c = (omega arith, c.requires.1)
+check_attribute-check_expr-object-requires t c = (omega arith, c.requires)
 
 pub check_attribute-returns-in_default : goal.check_attribute-returns-in_default
 unfolding judge_attribute
@@ -51,7 +51,7 @@ check_binary-returns t c = guard-no _ _ _ c.operator_at.ensures c.if-operator_at
 
 pub check_call-check_expr-callee-requires : goal.check_call-check_expr-callee-requires
 unfolding judge_call judge_args
-check_call-check_expr-callee-requires t c = (omega arith, c.requires.1)
+check_call-check_expr-callee-requires t c = (omega arith, c.requires)
 
 pub check_call-returns-in_default : goal.check_call-returns-in_default
 unfolding judge_call judge_args
@@ -75,7 +75,7 @@ check_call-returns-in-Is t c = c.check_many.ensures ∙ many-stand _ _ _ _ _ _ _
 
 pub check_display-number_at-count-requires : goal.check_display-number_at-count-requires
 unfolding judge_display
-check_display-number_at-count-requires t c = c.requires.1
+check_display-number_at-count-requires t c = c.requires
 
 pub check_display-check_many-requires : goal.check_display-check_many-requires
 unfolding judge_display
@@ -187,7 +187,7 @@ check_expr-returns-in_default t c = let n = c.in_default.in_default-own.rest in 
 
 pub check_lambda-check_params-params-requires : goal.check_lambda-check_params-params-requires
 unfolding judge_lambda
-check_lambda-check_params-params-requires t c = c.requires.1
+check_lambda-check_params-params-requires t c = c.requires
 
 pub check_lambda-returns-in_default : goal.check_lambda-returns-in_default
 unfolding judge_lambda
@@ -202,7 +202,7 @@ unfolding judge_lambda
 check_lambda-returns t c = c.check_expr.ensures ∙ sym (then_next _ _ _ _ (sym c.check_params-params.ensures ∙ c.in-Next.is))
 
 pub check_many-loop-left-init : goal.check_many-loop-left-init
-check_many-loop-left-init t c = (refl, c.requires.1)
+check_many-loop-left-init t c = (refl, c.requires)
 
 pub check_many-skip_constants-k-requires : goal.check_many-skip_constants-k-requires
 check_many-skip_constants-k-requires t c = c.loop-left.invariant.1
@@ -230,7 +230,7 @@ check_many-returns t c = sym (c.loop-left.invariant.0 ∙ many-none _ _ _ _ _ _ 
 
 pub check_pairs-number_at-count-requires : goal.check_pairs-number_at-count-requires
 unfolding judge_pairs
-check_pairs-number_at-count-requires t c = c.requires.1
+check_pairs-number_at-count-requires t c = c.requires
 
 pub check_pairs-check_many-requires : goal.check_pairs-check_many-requires
 unfolding judge_pairs
@@ -246,7 +246,7 @@ check_pairs-returns-in-Is t c = c.check_many.ensures ∙ sym (with-number _ _ _ 
 
 pub check_two-check_expr-left-requires : goal.check_two-check_expr-left-requires
 unfolding judge_two
-check_two-check_expr-left-requires t c = (omega arith, c.requires.1)
+check_two-check_expr-left-requires t c = (omega arith, c.requires)
 
 pub check_two-returns-in_default : goal.check_two-returns-in_default
 unfolding judge_two

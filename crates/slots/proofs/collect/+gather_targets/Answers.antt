@@ -11,64 +11,64 @@ use Prim.Native.Nat.{ℕ, ◌+◌, ◌<◌}
 use Rattle.slots.proofs.collect.+gather_targets.Goals as goal
 
 pub gather_target-bounds-tree-at : goal.gather_target-bounds-tree-at
-gather_target-bounds-tree-at t c = let h = expr-inside _ _ _ c.requires.1.1 in omega arith
+gather_target-bounds-tree-at t c = let h = expr-inside _ _ _ c.requires.1 in omega arith
 
 pub gather_target-overflow_add-a : goal.gather_target-overflow_add-a
-gather_target-overflow_add-a t c = let h = expr-inside _ _ _ c.requires.1.1 in omega arith
+gather_target-overflow_add-a t c = let h = expr-inside _ _ _ c.requires.1 in omega arith
 
 pub gather_target-name_end-end-requires : goal.gather_target-name_end-end-requires
-gather_target-name_end-end-requires t c = (view-var _ _ _ c.requires.1.1 c.if-kind-eq-VARIABLE.true).parts
+gather_target-name_end-end-requires t c = (view-var _ _ _ c.requires.1 c.if-kind-eq-VARIABLE.true).parts
 
 pub gather_target-gather_name-requires : goal.gather_target-gather_name-requires
-gather_target-gather_name-requires t c = (c.requires.1.0, (view-var _ _ _ c.requires.1.1 c.if-kind-eq-VARIABLE.true).parts.byte)
+gather_target-gather_name-requires t c = (c.requires.0, (view-var _ _ _ c.requires.1 c.if-kind-eq-VARIABLE.true).parts.byte)
 
 pub gather_target-returns-then-kind-eq-VARIABLE : goal.gather_target-returns-then-kind-eq-VARIABLE
 gather_target-returns-then-kind-eq-VARIABLE t c =
     let v = c.if-kind-eq-VARIABLE.true in gathers-as _ _ _ _ _ _ _
-    c.gather_name.ensures (var-done _ _ _ c.requires.1.1 _ v c.name_end-end.ensures) (target-var _ _ _ c.requires.1.1 _ v)
+    c.gather_name.ensures (var-done _ _ _ c.requires.1 _ v c.name_end-end.ensures) (target-var _ _ _ c.requires.1 _ v)
 
 pub gather_target-u16_at-count-requires : goal.gather_target-u16_at-count-requires
-gather_target-u16_at-count-requires t c = let h = (view-tuple _ _ _ c.requires.1.1 c.if-kind-eq-TUPLE.true).parts.count.bytes in omega arith
+gather_target-u16_at-count-requires t c = let h = (view-tuple _ _ _ c.requires.1 c.if-kind-eq-TUPLE.true).parts.count.bytes in omega arith
 
 pub gather_target-overflow_add-a-then-kind-eq-TUPLE : goal.gather_target-overflow_add-a-then-kind-eq-TUPLE
-gather_target-overflow_add-a-then-kind-eq-TUPLE t c = let h = (view-tuple _ _ _ c.requires.1.1 c.if-kind-eq-TUPLE.true).parts.count.bytes in omega arith
+gather_target-overflow_add-a-then-kind-eq-TUPLE t c = let h = (view-tuple _ _ _ c.requires.1 c.if-kind-eq-TUPLE.true).parts.count.bytes in omega arith
 
 pub gather_target-overflow_sub-depth : goal.gather_target-overflow_sub-depth
-gather_target-overflow_sub-depth t c = let h = expr-deep _ _ _ c.requires.1.1 in omega arith
+gather_target-overflow_sub-depth t c = let h = expr-deep _ _ _ c.requires.1 in omega arith
 
 pub gather_target-gather_targets-requires : goal.gather_target-gather_targets-requires
 gather_target-gather_targets-requires t c =
-    let h = expr-deep _ _ _ c.requires.1.1 in (
+    let h = expr-deep _ _ _ c.requires.1 in (
     omega arith,
     (
-    c.requires.1.0,
+    c.requires.0,
     list-reads _ _ _ _
-    c.u16_at-count.ensures.0 (view-tuple _ _ _ c.requires.1.1 c.if-kind-eq-TUPLE.true).parts,
+    c.u16_at-count.ensures.0 (view-tuple _ _ _ c.requires.1 c.if-kind-eq-TUPLE.true).parts,
     ),
     )
 
 pub gather_target-returns-then-kind-eq-TUPLE : goal.gather_target-returns-then-kind-eq-TUPLE
 gather_target-returns-then-kind-eq-TUPLE t c =
-    tuple-gathers _ _ _ c.requires.1.1 _
+    tuple-gathers _ _ _ c.requires.1 _
     c.if-kind-eq-TUPLE.true _ _ _ c.u16_at-count.ensures.0 c.gather_targets.ensures
 
 pub gather_target-skip_expr-requires : goal.gather_target-skip_expr-requires
-gather_target-skip_expr-requires t c = c.requires.1.1
+gather_target-skip_expr-requires t c = c.requires.1
 
 pub gather_target-returns : goal.gather_target-returns
 gather_target-returns t c =
-    next-gathers _ _ _ _ _ _ c.skip_expr.ensures c.requires.1.0.few (target-other _ _ _ c.requires.1.1 _
-    c.if-kind-eq-VARIABLE.false c.if-kind-eq-TUPLE.false) c.requires.1.0.indexed
+    next-gathers _ _ _ _ _ _ c.skip_expr.ensures c.requires.0.few (target-other _ _ _ c.requires.1 _
+    c.if-kind-eq-VARIABLE.false c.if-kind-eq-TUPLE.false) c.requires.0.indexed
 
 pub gather_targets-loop-left-init : goal.gather_targets-loop-left-init
-gather_targets-loop-left-init t c = targets-start _ _ _ _ _ _ c.requires.1.1 c.requires.1.0.few c.requires.1.0.indexed
+gather_targets-loop-left-init t c = targets-start _ _ _ _ _ _ c.requires.1 c.requires.0.few c.requires.0.indexed
 
 pub gather_targets-gather_target-one-requires : goal.gather_targets-gather_target-one-requires
 gather_targets-gather_target-one-requires t c =
     (
     omega arith,
     (
-    room-again _ _ _ _ _ c.requires.1.0 c.loop-left.invariant.kept c.loop-left.invariant.few
+    room-again _ _ _ _ _ c.requires.0 c.loop-left.invariant.kept c.loop-left.invariant.few
     c.loop-left.invariant.indexed,
     targets-head _ _ _ _ _ _ _ _ _ _ c.loop-left.invariant c.loop-left-test.true,
     ),

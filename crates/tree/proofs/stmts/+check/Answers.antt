@@ -9,7 +9,7 @@ use Rattle.parts.specs.Judge.{judge_stmts, judge_branches, judge_methods, judge_
 use Rattle.tree.proofs.stmts.+check.Goals as goal
 
 pub check_block-number_at-count-requires : goal.check_block-number_at-count-requires
-check_block-number_at-count-requires t c = c.requires.1
+check_block-number_at-count-requires t c = c.requires
 
 pub check_block-loop-left-init : goal.check_block-loop-left-init
 check_block-loop-left-init t c = (refl, number-within _ _ _ _ (sym c.number_at-count.ensures ∙ c.in-Is.is))
@@ -18,20 +18,20 @@ pub check_block-check_stmt-one-requires : goal.check_block-check_stmt-one-requir
 check_block-check_stmt-one-requires t c = (omega arith, c.loop-left.invariant.1)
 
 pub check_block-returns-in_default : goal.check_block-returns-in_default
-check_block-returns-in_default t c = c.in_default.is ∙ sym (block-law _ _ _ _ _ c.requires.1 ∙ with-number _ _ _ _ (sym c.number_at-count.ensures ∙ c.in-Is.is) ∙ c.loop-left.invariant.0 ∙ stmts-more _ _ _ _ _ _ c.loop-left.invariant.1 c.loop-left-test.true ∙ then-refused _ _ _ (sym c.check_stmt-one.ensures ∙ c.in_default.is))
+check_block-returns-in_default t c = c.in_default.is ∙ sym (block-law _ _ _ _ _ c.requires ∙ with-number _ _ _ _ (sym c.number_at-count.ensures ∙ c.in-Is.is) ∙ c.loop-left.invariant.0 ∙ stmts-more _ _ _ _ _ _ c.loop-left.invariant.1 c.loop-left-test.true ∙ then-refused _ _ _ (sym c.check_stmt-one.ensures ∙ c.in_default.is))
 
 pub check_block-loop-left-preserved : goal.check_block-loop-left-preserved
 check_block-loop-left-preserved t c = let e = sym c.check_stmt-one.ensures ∙ c.in-Next.is in (c.loop-left.invariant.0 ∙ stmts-more _ _ _ _ _ _ c.loop-left.invariant.1 c.loop-left-test.true ∙ then_next _ _ _ _ e, judged-within _ _ _ _ _ _ _ e)
 
 pub check_block-returns-in-Unread : goal.check_block-returns-in-Unread
-check_block-returns-in-Unread t c = sym (block-law _ _ _ _ _ c.requires.1 ∙ with-unread _ _ _ (sym c.number_at-count.ensures ∙ c.in-Unread.is))
+check_block-returns-in-Unread t c = sym (block-law _ _ _ _ _ c.requires ∙ with-unread _ _ _ (sym c.number_at-count.ensures ∙ c.in-Unread.is))
 
 pub check_block-returns-after-loop-left : goal.check_block-returns-after-loop-left
-check_block-returns-after-loop-left t c = sym (block-law _ _ _ _ _ c.requires.1 ∙ with-number _ _ _ _ (sym c.number_at-count.ensures ∙ c.in-Is.is) ∙ c.loop-left.invariant.0 ∙ stmts-none _ _ _ _ _ _ c.loop-left.invariant.1 c.loop-left-test.false)
+check_block-returns-after-loop-left t c = sym (block-law _ _ _ _ _ c.requires ∙ with-number _ _ _ _ (sym c.number_at-count.ensures ∙ c.in-Is.is) ∙ c.loop-left.invariant.0 ∙ stmts-none _ _ _ _ _ _ c.loop-left.invariant.1 c.loop-left-test.false)
 
 pub check_branch-check_expr-condition-requires : goal.check_branch-check_expr-condition-requires
 unfolding judge_branch
-check_branch-check_expr-condition-requires t c = c.requires.1
+check_branch-check_expr-condition-requires t c = c.requires
 
 pub check_branch-returns-in_default : goal.check_branch-returns-in_default
 unfolding judge_branch
@@ -47,7 +47,7 @@ check_branch-returns t c = c.check_block.ensures ∙ sym (then_next _ _ _ _ (sym
 
 pub check_class-check_name-name-requires : goal.check_class-check_name-name-requires
 unfolding judge_class
-check_class-check_name-name-requires t c = c.requires.1
+check_class-check_name-name-requires t c = c.requires
 
 pub check_class-returns-in_default : goal.check_class-returns-in_default
 unfolding judge_class
@@ -79,7 +79,7 @@ check_class-returns-in-Next-methods t c = c.check_attributes.ensures ∙ sym (th
 
 pub check_def-check_name-name-requires : goal.check_def-check_name-name-requires
 unfolding judge_def
-check_def-check_name-name-requires t c = c.requires.1
+check_def-check_name-name-requires t c = c.requires
 
 pub check_def-returns-in_default : goal.check_def-returns-in_default
 unfolding judge_def
@@ -102,7 +102,7 @@ unfolding judge_def
 check_def-returns t c = c.check_block.ensures ∙ sym (then_next _ _ _ _ (sym c.check_name-name.ensures ∙ c.in-Next.is) ∙ then_next _ _ _ _ (sym c.check_params-params.ensures ∙ c.in-Next-params.is))
 
 pub check_elifs-loop-left-init : goal.check_elifs-loop-left-init
-check_elifs-loop-left-init t c = (refl, c.requires.1)
+check_elifs-loop-left-init t c = (refl, c.requires)
 
 pub check_elifs-check_branch-one-requires : goal.check_elifs-check_branch-one-requires
 check_elifs-check_branch-one-requires t c = (omega arith, c.loop-left.invariant.1)
@@ -136,7 +136,7 @@ check_else-returns-in_default t c = let n = c.in_default.in_default-own.rest in 
 
 pub check_for-check_name-name-requires : goal.check_for-check_name-name-requires
 unfolding judge_for
-check_for-check_name-name-requires t c = c.requires.1
+check_for-check_name-name-requires t c = c.requires
 
 pub check_for-returns-in_default : goal.check_for-returns-in_default
 unfolding judge_for
@@ -152,7 +152,7 @@ check_for-returns t c = c.check_branch.ensures ∙ sym (then_next _ _ _ _ (sym c
 
 pub check_if-check_branch-first-requires : goal.check_if-check_branch-first-requires
 unfolding judge_if
-check_if-check_branch-first-requires t c = (omega arith, c.requires.1)
+check_if-check_branch-first-requires t c = (omega arith, c.requires)
 
 pub check_if-returns-in_default : goal.check_if-returns-in_default
 unfolding judge_if
@@ -176,7 +176,7 @@ check_if-returns-in-Is t c = c.check_elifs.ensures ∙ sym (then_next _ _ _ _ (s
 
 pub check_method-check_head-head-requires : goal.check_method-check_head-head-requires
 unfolding judge_method
-check_method-check_head-head-requires t c = c.requires.1
+check_method-check_head-head-requires t c = c.requires
 
 pub check_method-returns-in_default : goal.check_method-returns-in_default
 unfolding judge_method
@@ -191,7 +191,7 @@ unfolding judge_method
 check_method-returns t c = c.check_block.ensures ∙ sym (then_next _ _ _ _ (sym c.check_head-head.ensures ∙ c.in-Next.is))
 
 pub check_methods-loop-left-init : goal.check_methods-loop-left-init
-check_methods-loop-left-init t c = (refl, c.requires.1)
+check_methods-loop-left-init t c = (refl, c.requires)
 
 pub check_methods-check_method-one-requires : goal.check_methods-check_method-one-requires
 check_methods-check_method-one-requires t c = (omega arith, c.loop-left.invariant.1)
