@@ -1,4 +1,3 @@
-use borrow.Author.Rules.{rules}
 use Rattle.reader.proofs.Deciding.{code-accepted, code-refused}
 use Rattle.reader.proofs.check_code.Goals as goal
 

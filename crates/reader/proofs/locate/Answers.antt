@@ -1,5 +1,4 @@
 use Rattle.reader.proofs.Deciding.{opened-ready, opened-closed}
-use borrow.Author.Rules.{rules}
 use Rattle.reader.proofs.locate.Goals as goal
 
 pub locate_in-requires : goal.locate_in-requires

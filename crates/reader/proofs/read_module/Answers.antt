@@ -1,4 +1,3 @@
-use borrow.Author.Rules.{rules}
 use Rattle.reader.proofs.Deciding.{opened-accepts, opened-refuses}
 use Rattle.reader.proofs.read_module.Goals as goal
 

@@ -1,6 +1,5 @@
 use mathlib.Core.Path.{sym, ◌∙◌}
 use Rattle.reader.proofs.ClassLaws.{class-cut, class-next, proper-bounds}
-use borrow.Author.Rules.{rules}
 use Rattle.reader.proofs.classes.ask_class.Goals as goal
 
 pub returns-in_default : goal.returns-in_default

@@ -1,11 +1,6 @@
-use mathlib.Core.Path.{◌≡◌, refl, sym, ◌∙◌}
-use Prim.Native.Nat.{◌≤◌}
+use mathlib.Core.Path.{refl, sym, ◌∙◌}
 use native.Mathlib.Omega.{arith}
-use borrow.Author.Rules.{rules}
-use lib.ListN.{length}
-use Rattle.definitions.specs.Reader.{class_record}
-use Rattle.reader.specs.Asks.{ask_class}
-use Rattle.reader.proofs.Checked.{each_from, list-short, list-begins, list-next, list-stops, list-ends, each-le}
+use Rattle.reader.proofs.Checked.{list-short, list-begins, list-next, list-stops, list-ends, each-le}
 use Rattle.definitions.proofs.Begins.{takes-class}
 use Rattle.reader.proofs.classes.ask_classes.Goals as goal
 
@@ -23,8 +18,8 @@ returns-in_default c =
 pub loop-left-preserved : goal.loop-left-preserved
 loop-left-preserved c =
     let r = sym c.ask_class-one.ensures ∙ c.in-Next.is in (
-    each-le _ _ _ takes-class c.loop-left.p _ c.loop-left.invariant.0 r,
-    c.loop-left.invariant.1 ∙ list-next _ _ _ takes-class _ c.loop-left.p _ c.loop-left-test.true c.loop-left.invariant.0 r,
+      each-le _ _ _ takes-class c.loop-left.p _ c.loop-left.invariant.0 r,
+      c.loop-left.invariant.1 ∙ list-next _ _ _ takes-class _ c.loop-left.p _ c.loop-left-test.true c.loop-left.invariant.0 r,
     )
 
 pub returns : goal.returns

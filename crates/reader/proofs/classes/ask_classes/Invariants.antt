@@ -1,12 +1,9 @@
-use mathlib.Core.Path.{◌≡◌, refl, sym, ◌∙◌}
+use mathlib.Core.Path.{◌≡◌}
 use Prim.Native.Nat.{◌≤◌}
-use native.Mathlib.Omega.{arith}
-use borrow.Author.Rules.{rules}
 use lib.ListN.{length}
 use Rattle.definitions.specs.Reader.{class_record}
 use Rattle.reader.specs.Asks.{ask_class}
-use Rattle.reader.proofs.Checked.{each_from, list-short, list-begins, list-next, list-stops, list-ends, each-le}
-use Rattle.definitions.proofs.Begins.{takes-class}
+use Rattle.reader.proofs.Checked.{each_from}
 use Rattle.reader.proofs.classes.ask_classes.Given as goal
 
 abbrev pub invariant-loop-left : goal.invariant-loop-left

@@ -1,6 +1,5 @@
 use mathlib.Core.Path.{sym}
 use Rattle.reader.proofs.FunctionLaws.{short-constant, constant-exists, constant-fails, constant-reads}
-use borrow.Author.Rules.{rules}
 use Rattle.reader.proofs.classes.ask_constant.Goals as goal
 
 pub returns-then-bytes-at-lt2 : goal.returns-then-bytes-at-lt2

@@ -1,10 +1,7 @@
-use mathlib.Core.Path.{◌≡◌, refl, sym, ◌∙◌}
-use Prim.Native.Nat.{◌≤◌}
+use mathlib.Core.Path.{refl, sym, ◌∙◌}
 use native.Mathlib.Omega.{arith}
-use borrow.Author.Rules.{rules}
-use lib.ListN.{length}
 use lib.Seq.{slice}
-use Rattle.reader.proofs.ClassLaws.{methods_from, methods-short, methods-begin, methods-end, methods-cut, methods-no-number, methods-next, methods-fail, proper-bounds}
+use Rattle.reader.proofs.ClassLaws.{methods-short, methods-begin, methods-end, methods-cut, methods-no-number, methods-next, methods-fail, proper-bounds}
 use Rattle.reader.proofs.classes.ask_methods.Goals as goal
 
 pub returns-then-bytes-at-lt2 : goal.returns-then-bytes-at-lt2

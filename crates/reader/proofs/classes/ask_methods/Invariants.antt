@@ -1,10 +1,8 @@
-use mathlib.Core.Path.{◌≡◌, refl, sym, ◌∙◌}
+use mathlib.Core.Path.{◌≡◌}
 use Prim.Native.Nat.{◌≤◌}
-use native.Mathlib.Omega.{arith}
-use borrow.Author.Rules.{rules}
 use lib.ListN.{length}
 use lib.Seq.{slice}
-use Rattle.reader.proofs.ClassLaws.{methods_from, methods-short, methods-begin, methods-end, methods-cut, methods-no-number, methods-next, methods-fail, proper-bounds}
+use Rattle.reader.proofs.ClassLaws.{methods_from}
 use Rattle.reader.proofs.classes.ask_methods.Given as goal
 
 abbrev pub invariant-loop-left : goal.invariant-loop-left

@@ -1,6 +1,5 @@
 use mathlib.Core.Path.{sym, ◌∙◌}
 use lib.Seq.{slice}
-use borrow.Author.Rules.{rules}
 use Rattle.reader.proofs.NameLaws.{parts_below}
 use Rattle.reader.proofs.ClassLaws.{next-above, next-only, next-not}
 use Rattle.reader.proofs.classes.ask_next.Goals as goal

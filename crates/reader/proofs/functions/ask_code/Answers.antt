@@ -1,9 +1,6 @@
-use mathlib.Core.Path.{◌≡◌, refl, sym, ◌∙◌}
-use Prim.Native.Nat.{◌-◌, ◌≤◌}
+use mathlib.Core.Path.{refl, sym, ◌∙◌}
 use native.Mathlib.Omega.{arith}
-use borrow.Author.Rules.{rules}
-use lib.ListN.{length}
-use Rattle.reader.proofs.FunctionLaws.{code_from, code-all, code-next, code-fail, code-cut, code-end, op-small, found-next}
+use Rattle.reader.proofs.FunctionLaws.{code-all, code-next, code-fail, code-cut, code-end, op-small, found-next}
 use Rattle.reader.proofs.functions.ask_code.Goals as goal
 
 pub loop-place-init : goal.loop-place-init
@@ -18,9 +15,9 @@ ask_op-requires c = let h = c.requires.1 in (omega arith, op-small _ c.loop-plac
 pub loop-place-preserved : goal.loop-place-preserved
 loop-place-preserved c =
     let e = sym c.instruction_at-found.ensures ∙ c.in-Instruction.is in (
-    found-next _ c.loop-place.p _ _ _ _ c.loop-place.invariant.0 e,
-    omega arith,
-    c.loop-place.invariant.2 ∙ code-next _ _ _ _ _ _ c.loop-place.p c.loop-place-test.true c.loop-place.invariant.0 _ _ _ _ e (sym c.ask_op.ensures ∙ c.if-ask_op.true),
+      found-next _ c.loop-place.p _ _ _ _ c.loop-place.invariant.0 e,
+      omega arith,
+      c.loop-place.invariant.2 ∙ code-next _ _ _ _ _ _ c.loop-place.p c.loop-place-test.true c.loop-place.invariant.0 _ _ _ _ e (sym c.ask_op.ensures ∙ c.if-ask_op.true),
     )
 
 pub returns-else-ask_op : goal.returns-else-ask_op

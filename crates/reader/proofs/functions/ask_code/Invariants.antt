@@ -1,9 +1,7 @@
-use mathlib.Core.Path.{◌≡◌, refl, sym, ◌∙◌}
+use mathlib.Core.Path.{◌≡◌}
 use Prim.Native.Nat.{◌-◌, ◌≤◌}
-use native.Mathlib.Omega.{arith}
-use borrow.Author.Rules.{rules}
 use lib.ListN.{length}
-use Rattle.reader.proofs.FunctionLaws.{code_from, code-all, code-next, code-fail, code-cut, code-end, op-small, found-next}
+use Rattle.reader.proofs.FunctionLaws.{code_from}
 use Rattle.reader.proofs.functions.ask_code.Given as goal
 
 abbrev pub invariant-loop-place : goal.invariant-loop-place

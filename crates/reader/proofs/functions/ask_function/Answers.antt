@@ -1,6 +1,5 @@
 use mathlib.Core.Path.{sym, ◌∙◌}
 use Rattle.reader.proofs.FunctionLaws.{short-function, function-head, function-fails}
-use borrow.Author.Rules.{rules}
 use Rattle.reader.proofs.functions.ask_function.Goals as goal
 
 pub returns-then-bytes-at-lt-FUNCTION_HEAD : goal.returns-then-bytes-at-lt-FUNCTION_HEAD

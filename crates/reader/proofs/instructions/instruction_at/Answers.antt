@@ -1,5 +1,4 @@
 use mathlib.Core.Path.{refl, sym}
-use borrow.Author.Rules.{rules}
 use Rattle.reader.proofs.InstructionLaws.{no-byte, no-opcode, no-operands, yes-instruction}
 use Rattle.reader.proofs.instructions.instruction_at.Goals as goal
 

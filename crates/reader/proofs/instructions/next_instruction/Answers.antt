@@ -1,6 +1,5 @@
 use native.Mathlib.Omega.{arith}
 use mathlib.Core.Path.{sym, ◌∙◌}
-use borrow.Author.Rules.{rules}
 use Rattle.reader.proofs.Iterated.{met-found, met-nothing, found_before}
 use Rattle.reader.proofs.instructions.next_instruction.Goals as goal
 

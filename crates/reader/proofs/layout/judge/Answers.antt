@@ -1,6 +1,5 @@
 use mathlib.Core.Path.{sym, ◌∙◌}
 use Rattle.reader.proofs.Questions.{functions-lack, classes-lack, constants-lack, code-falls, code-stands}
-use borrow.Author.Rules.{rules}
 use Rattle.reader.proofs.layout.judge.Goals as goal
 
 pub returns-in_default : goal.returns-in_default

@@ -1,6 +1,5 @@
 use mathlib.Core.Path.{sym, ◌∙◌}
 use Rattle.reader.proofs.Question19.{no-symbols, no-strings, no-functions, no-classes, no-constants, strings-in, functions-in, classes-in, constants-in, laid, over}
-use borrow.Author.Rules.{rules}
 use Rattle.reader.proofs.layout.lay.Goals as goal
 
 pub returns-in_default : goal.returns-in_default

@@ -1,6 +1,5 @@
 use Rattle.reader.proofs.Heading.{head_passed, not-laid, laid-out}
 use Rattle.reader.proofs.Deciding.{head-closes, layout-closes, verdict-closes, verdict-opens}
-use borrow.Author.Rules.{rules}
 use Rattle.reader.proofs.layout.open_module.Goals as goal
 
 pub returns-in-Refused : goal.returns-in-Refused

@@ -1,5 +1,4 @@
 use Rattle.reader.proofs.Heading.{too_long, no-count, bad-count, no-version, bad-version, good-head}
-use borrow.Author.Rules.{rules}
 use Rattle.reader.proofs.layout.read_head.Goals as goal
 
 pub returns-then-bytes-gt-MODULE_MOST : goal.returns-then-bytes-gt-MODULE_MOST

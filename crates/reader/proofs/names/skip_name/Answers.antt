@@ -1,6 +1,5 @@
 use mathlib.Core.Path.{sym, ◌∙◌}
 use Rattle.reader.proofs.Taken.{short-name, long-name}
-use borrow.Author.Rules.{rules}
 use Rattle.reader.proofs.names.skip_name.Goals as goal
 
 pub returns-then-bytes-at-lt1 : goal.returns-then-bytes-at-lt1

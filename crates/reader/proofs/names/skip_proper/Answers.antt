@@ -1,6 +1,5 @@
 use mathlib.Core.Path.{sym, ◌∙◌}
 use Rattle.reader.proofs.ClassLaws.{proper-cut, proper-range, proper-yes, proper-no}
-use borrow.Author.Rules.{rules}
 use Rattle.reader.proofs.names.skip_proper.Goals as goal
 
 pub returns-in_default : goal.returns-in_default

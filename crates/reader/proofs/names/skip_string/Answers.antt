@@ -1,6 +1,5 @@
 use mathlib.Core.Path.{sym, ◌∙◌}
 use Rattle.reader.proofs.StringLaws.{string-cut, string-range, string-yes, string-no}
-use borrow.Author.Rules.{rules}
 use Rattle.reader.proofs.names.skip_string.Goals as goal
 
 pub returns-in_default : goal.returns-in_default

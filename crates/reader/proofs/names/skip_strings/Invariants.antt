@@ -1,11 +1,8 @@
-use mathlib.Core.Path.{◌≡◌, refl, sym, ◌∙◌}
+use mathlib.Core.Path.{◌≡◌}
 use Prim.Native.Nat.{◌≤◌}
-use native.Mathlib.Omega.{arith}
-use borrow.Author.Rules.{rules}
 use lib.ListN.{length}
 use Rattle.reader.specs.View.{string}
-use Rattle.reader.proofs.Taken.{some_from, count_cut, some-begins, some_next, some-stops, some-ends, next_le}
-use Rattle.reader.proofs.StringLaws.{takes-string}
+use Rattle.reader.proofs.Taken.{some_from}
 use Rattle.reader.proofs.names.skip_strings.Given as goal
 
 abbrev pub invariant-loop-left : goal.invariant-loop-left

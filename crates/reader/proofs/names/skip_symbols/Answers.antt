@@ -1,10 +1,6 @@
-use mathlib.Core.Path.{◌≡◌, refl, sym, ◌∙◌}
-use Prim.Native.Nat.{◌≤◌}
+use mathlib.Core.Path.{refl, sym, ◌∙◌}
 use native.Mathlib.Omega.{arith}
-use borrow.Author.Rules.{rules}
-use lib.ListN.{length}
-use Rattle.definitions.specs.Bytes.{name}
-use Rattle.reader.proofs.Taken.{some_from, count_cut, some-begins, some_next, some-stops, some-ends, next_le}
+use Rattle.reader.proofs.Taken.{count_cut, some-begins, some_next, some-stops, some-ends, next_le}
 use Rattle.definitions.proofs.Begins.{takes-name}
 use Rattle.reader.proofs.names.skip_symbols.Goals as goal
 
@@ -22,8 +18,8 @@ returns-in_default c =
 pub loop-left-preserved : goal.loop-left-preserved
 loop-left-preserved c =
     let r = sym c.skip_name-one.ensures ∙ c.in-Next.is in (
-    next_le _ takes-name _ c.loop-left.p _ c.loop-left.invariant.0 r,
-    c.loop-left.invariant.1 ∙ some_next _ _ takes-name _ c.loop-left.p _ c.loop-left-test.true c.loop-left.invariant.0 r,
+      next_le _ takes-name _ c.loop-left.p _ c.loop-left.invariant.0 r,
+      c.loop-left.invariant.1 ∙ some_next _ _ takes-name _ c.loop-left.p _ c.loop-left-test.true c.loop-left.invariant.0 r,
     )
 
 pub returns : goal.returns

@@ -1,7 +1,6 @@
 use mathlib.Core.Path.{sym, ◌∙◌}
 use Rattle.definitions.specs.Bytes.{text}
 use Rattle.reader.proofs.Taken.{count_cut, count-at}
-use borrow.Author.Rules.{rules}
 use Rattle.reader.proofs.names.skip_text.Goals as goal
 
 pub returns-then-bytes-at-lt2 : goal.returns-then-bytes-at-lt2

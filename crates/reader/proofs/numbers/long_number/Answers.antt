@@ -1,7 +1,6 @@
-use Prim.Native.Nat.{ℕ, ◌+◌, ◌*◌, ◌-◌, ◌^◌, ◌<◌, ◌≤◌}
+use Prim.Native.Nat.{ℕ, ◌+◌, ◌^◌, ◌<◌, ◌≤◌}
 use mathlib.Core.Path.{◌≡◌, sym, ◌∙◌, subst}
 use native.Mathlib.Omega.{arith}
-use Rattle.reader.specs.View.{number_at}
 use Rattle.reader.proofs.NumberLaws.{horner, grows, small_one, start, number-all}
 use Rattle.reader.proofs.numbers.long_number.Goals as goal
 

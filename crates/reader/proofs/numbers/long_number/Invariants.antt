@@ -1,8 +1,6 @@
-use Prim.Native.Nat.{ℕ, ◌+◌, ◌*◌, ◌-◌, ◌^◌, ◌<◌, ◌≤◌}
-use mathlib.Core.Path.{◌≡◌, sym, ◌∙◌, subst}
-use native.Mathlib.Omega.{arith}
+use Prim.Native.Nat.{◌+◌, ◌*◌, ◌-◌, ◌^◌, ◌<◌, ◌≤◌}
+use mathlib.Core.Path.{◌≡◌}
 use Rattle.reader.specs.View.{number_at}
-use Rattle.reader.proofs.NumberLaws.{horner, grows, small_one, start, number-all}
 use Rattle.reader.proofs.numbers.long_number.Given as goal
 
 abbrev pub invariant-loop-i : goal.invariant-loop-i

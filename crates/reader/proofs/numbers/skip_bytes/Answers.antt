@@ -1,4 +1,3 @@
-use borrow.Author.Rules.{rules}
 use mathlib.Core.Path.{sym}
 use Rattle.reader.proofs.Taken.{bytes-at, bytes_cut}
 use Rattle.reader.proofs.numbers.skip_bytes.Goals as goal

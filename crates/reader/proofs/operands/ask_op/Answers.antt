@@ -2,7 +2,6 @@ use mathlib.Core.Path.{sym, ap, ◌∙◌}
 use Prim.Native.Nat.{ℕ}
 use Rattle.reader.specs.Asks.{exists_in}
 use Rattle.reader.proofs.Tested.{ask-20, ask-21, ask-other}
-use borrow.Author.Rules.{rules}
 use Rattle.reader.proofs.operands.ask_op.Goals as goal
 
 pub returns-then-question-eq20 : goal.returns-then-question-eq20

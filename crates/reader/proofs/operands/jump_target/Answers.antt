@@ -1,5 +1,4 @@
 use Rattle.reader.proofs.Tested.{target_is}
-use borrow.Author.Rules.{rules}
 use Rattle.reader.proofs.operands.jump_target.Goals as goal
 
 pub returns : goal.returns

@@ -1,6 +1,5 @@
 use mathlib.Core.Path.{sym, ◌∙◌}
 use Rattle.reader.proofs.Tested.{exists-0, exists-1, exists-2, exists-3, exists-4, exists-5, exists-6, exists-other, seven}
-use borrow.Author.Rules.{rules}
 use Rattle.reader.proofs.operands.number_exists.Goals as goal
 
 pub returns-in-0 : goal.returns-in-0

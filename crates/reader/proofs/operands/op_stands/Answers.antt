@@ -2,7 +2,6 @@ use mathlib.Core.Path.{sym, ap, ◌∙◌}
 use lib.Dec.{ltb}
 use Prim.Native.Nat.{ℕ}
 use Rattle.reader.proofs.Tested.{last-not, last-is, jump-lands, no-jump-below, no-jump-above}
-use borrow.Author.Rules.{rules}
 use Rattle.reader.proofs.operands.op_stands.Goals as goal
 
 pub returns-then-op-ne-RETURN : goal.returns-then-op-ne-RETURN

@@ -1,11 +1,10 @@
 use mathlib.Core.Path.{◌≡◌, sym, ◌∙◌, subst}
-use Prim.Native.Nat.{ℕ, ◌-◌, ◌≤◌, ◌<◌}
+use Prim.Native.Nat.{ℕ, ◌<◌}
 use native.Mathlib.Omega.{arith}
-use borrow.Author.Rules.{rules}
 use lib.ListN.{length}
 use Rattle.reader.specs.View.{tables_of, Placed}
 use Rattle.reader.specs.declared.Place.TheVariants.{Function}
-use Rattle.reader.proofs.Finding.{FunctionsFrom, functions-number, functions-begin, past-functions, function-placed, function-ends, function-next}
+use Rattle.reader.proofs.Finding.{functions-number, functions-begin, past-functions, function-placed, function-ends, function-next}
 use Rattle.reader.proofs.places.find_function.Goals as goal
 
 pub number_at-n-requires : goal.number_at-n-requires

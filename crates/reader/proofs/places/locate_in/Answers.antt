@@ -1,6 +1,5 @@
 use mathlib.Core.Path.{sym, ◌∙◌}
 use native.Mathlib.Omega.{arith}
-use borrow.Author.Rules.{rules}
 use Rattle.reader.proofs.Deciding.{placed_at, placed-not}
 use Rattle.reader.proofs.Finding.{no-function, record-in, record-reads, count-in, code_inside, code-located}
 use Rattle.reader.proofs.places.locate_in.Goals as goal
