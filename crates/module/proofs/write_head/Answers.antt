@@ -1,5 +1,4 @@
 -- the count is written
-use borrow.Author.Rules.{rules}
 use native.Mathlib.Omega.{arith}
 use mathlib.Core.Path.{ap}
 use mathlib.Core.List.{List, [], ◌∷◌, ◌++◌}
@@ -13,35 +12,47 @@ use Rattle.module.proofs.write_head.Goals as goal
 pub slice_bounds-write_number-count : goal.slice_bounds-write_number-count
 unfolding be
 slice_bounds-write_number-count c =
-    let counted : let s = c.args in Begun (be 4 (s.size - 4) ++ (1 ∷ [])) s.out.now c.write_number-at.result c.write_number-at.new.out (be 1 1 ∷ []) = let d = be 4 (c.args.size - 4) in begun_first (ap (λ (z : List ℕ). d ++ z) (joined-one (1 ∷ []))) (let l = length-append d (1 ∷ []) in let k = length-be 4 (c.args.size - 4) in omega (arith, c.requires.0)) c.write_number-at.ensures in
+    let counted : Begun (be 4 (c.args.size - 4) ++ (1 ∷ [])) c.args.out.now c.write_number-at.result c.write_number-at.new.out (be 1 1 ∷ []) =
+    let d = be 4 (c.args.size - 4) in
+    begun_first (ap (λ (z : List ℕ). d ++ z) (joined-one (1 ∷ []))) (let l = length-append d (1 ∷ []) in let k = length-be 4 (c.args.size - 4) in omega (arith, c.requires.0)) c.write_number-at.ensures in
     omega (arith, begun-fits counted)
 
 pub slice_bounds-write_number-start : goal.slice_bounds-write_number-start
 unfolding be
 slice_bounds-write_number-start c =
-    let counted : let s = c.args in Begun (be 4 (s.size - 4) ++ (1 ∷ [])) s.out.now c.write_number-at.result c.write_number-at.new.out (be 1 1 ∷ []) = let d = be 4 (c.args.size - 4) in begun_first (ap (λ (z : List ℕ). d ++ z) (joined-one (1 ∷ []))) (let l = length-append d (1 ∷ []) in let k = length-be 4 (c.args.size - 4) in omega (arith, c.requires.0)) c.write_number-at.ensures in
+    let counted : Begun (be 4 (c.args.size - 4) ++ (1 ∷ [])) c.args.out.now c.write_number-at.result c.write_number-at.new.out (be 1 1 ∷ []) =
+    let d = be 4 (c.args.size - 4) in
+    begun_first (ap (λ (z : List ℕ). d ++ z) (joined-one (1 ∷ []))) (let l = length-append d (1 ∷ []) in let k = length-be 4 (c.args.size - 4) in omega (arith, c.requires.0)) c.write_number-at.ensures in
     omega (arith, begun-fits counted)
 
 pub write_number-requires : goal.write_number-requires
 unfolding be
 write_number-requires c =
-    let counted : let s = c.args in Begun (be 4 (s.size - 4) ++ (1 ∷ [])) s.out.now c.write_number-at.result c.write_number-at.new.out (be 1 1 ∷ []) = let d = be 4 (c.args.size - 4) in begun_first (ap (λ (z : List ℕ). d ++ z) (joined-one (1 ∷ []))) (let l = length-append d (1 ∷ []) in let k = length-be 4 (c.args.size - 4) in omega (arith, c.requires.0)) c.write_number-at.ensures in
+    let counted : Begun (be 4 (c.args.size - 4) ++ (1 ∷ [])) c.args.out.now c.write_number-at.result c.write_number-at.new.out (be 1 1 ∷ []) =
+    let d = be 4 (c.args.size - 4) in
+    begun_first (ap (λ (z : List ℕ). d ++ z) (joined-one (1 ∷ []))) (let l = length-append d (1 ∷ []) in let k = length-be 4 (c.args.size - 4) in omega (arith, c.requires.0)) c.write_number-at.ensures in
     begun-number 1 1 counted
 
 pub overflow_add-result : goal.overflow_add-result
 unfolding be
 overflow_add-result c =
-    let counted : let s = c.args in Begun (be 4 (s.size - 4) ++ (1 ∷ [])) s.out.now c.write_number-at.result c.write_number-at.new.out (be 1 1 ∷ []) = let d = be 4 (c.args.size - 4) in begun_first (ap (λ (z : List ℕ). d ++ z) (joined-one (1 ∷ []))) (let l = length-append d (1 ∷ []) in let k = length-be 4 (c.args.size - 4) in omega (arith, c.requires.0)) c.write_number-at.ensures in
+    let counted : Begun (be 4 (c.args.size - 4) ++ (1 ∷ [])) c.args.out.now c.write_number-at.result c.write_number-at.new.out (be 1 1 ∷ []) =
+    let d = be 4 (c.args.size - 4) in
+    begun_first (ap (λ (z : List ℕ). d ++ z) (joined-one (1 ∷ []))) (let l = length-append d (1 ∷ []) in let k = length-be 4 (c.args.size - 4) in omega (arith, c.requires.0)) c.write_number-at.ensures in
     let b = counted in omega (arith, begun-fits b, begun-length b, c.write_number.ensures.count, c.well_formed)
 
 pub shape_of-out : goal.shape_of-out
 unfolding be
 shape_of-out c =
-    let counted : let s = c.args in Begun (be 4 (s.size - 4) ++ (1 ∷ [])) s.out.now c.write_number-at.result c.write_number-at.new.out (be 1 1 ∷ []) = let d = be 4 (c.args.size - 4) in begun_first (ap (λ (z : List ℕ). d ++ z) (joined-one (1 ∷ []))) (let l = length-append d (1 ∷ []) in let k = length-be 4 (c.args.size - 4) in omega (arith, c.requires.0)) c.write_number-at.ensures in
+    let counted : Begun (be 4 (c.args.size - 4) ++ (1 ∷ [])) c.args.out.now c.write_number-at.result c.write_number-at.new.out (be 1 1 ∷ []) =
+    let d = be 4 (c.args.size - 4) in
+    begun_first (ap (λ (z : List ℕ). d ++ z) (joined-one (1 ∷ []))) (let l = length-append d (1 ∷ []) in let k = length-be 4 (c.args.size - 4) in omega (arith, c.requires.0)) c.write_number-at.ensures in
     begun-length (begun-next counted c.write_number.ensures)
 
 pub returns : goal.returns
 unfolding be
 returns c =
-    let counted : let s = c.args in Begun (be 4 (s.size - 4) ++ (1 ∷ [])) s.out.now c.write_number-at.result c.write_number-at.new.out (be 1 1 ∷ []) = let d = be 4 (c.args.size - 4) in begun_first (ap (λ (z : List ℕ). d ++ z) (joined-one (1 ∷ []))) (let l = length-append d (1 ∷ []) in let k = length-be 4 (c.args.size - 4) in omega (arith, c.requires.0)) c.write_number-at.ensures in
+    let counted : Begun (be 4 (c.args.size - 4) ++ (1 ∷ [])) c.args.out.now c.write_number-at.result c.write_number-at.new.out (be 1 1 ∷ []) =
+    let d = be 4 (c.args.size - 4) in
+    begun_first (ap (λ (z : List ℕ). d ++ z) (joined-one (1 ∷ []))) (let l = length-append d (1 ∷ []) in let k = length-be 4 (c.args.size - 4) in omega (arith, c.requires.0)) c.write_number-at.ensures in
     begun-done (begun-next counted c.write_number.ensures)

@@ -1,5 +1,4 @@
 -- the head is written
-use borrow.Author.Rules.{rules}
 use native.Mathlib.Omega.{arith}
 use mathlib.Core.List.{[], ◌∷◌}
 use Rattle.definitions.specs.Module.{module_bytes}
@@ -16,51 +15,71 @@ write_head-at-requires c =
 
 pub slice_bounds-write_texts-count : goal.slice_bounds-write_texts-count
 slice_bounds-write_texts-count c =
-    let begun : let a = c.args in Begun (module_bytes (tables_of a.tree.now a.made.now a.code.now a.tables.now a.c)) a.out.now c.write_head-at.result c.write_head-at.new.out (texts_bytes a.tree.now a.made.now a.tables.now a.c ∷ bodies_bytes a.tree.now a.code.now a.tables.now a.c ∷ []) = let a = c.args in begun_first (module-pieces a.tree.now a.made.now a.code.now a.tables.now a.c a.size c.requires.1) (omega (arith, c.requires.1, c.requires.3)) c.write_head-at.ensures in
+    let begun : Begun (module_bytes (tables_of c.args.tree.now c.args.made.now c.args.code.now c.args.tables.now c.args.c)) c.args.out.now c.write_head-at.result c.write_head-at.new.out
+    (texts_bytes c.args.tree.now c.args.made.now c.args.tables.now c.args.c ∷ bodies_bytes c.args.tree.now c.args.code.now c.args.tables.now c.args.c ∷ []) =
+    begun_first (module-pieces c.args.tree.now c.args.made.now c.args.code.now c.args.tables.now c.args.c c.args.size c.requires.1) (omega (arith, c.requires.1, c.requires.3)) c.write_head-at.ensures in
     omega (arith, begun-fits begun)
 
 pub slice_bounds-write_texts-start : goal.slice_bounds-write_texts-start
 slice_bounds-write_texts-start c =
-    let begun : let a = c.args in Begun (module_bytes (tables_of a.tree.now a.made.now a.code.now a.tables.now a.c)) a.out.now c.write_head-at.result c.write_head-at.new.out (texts_bytes a.tree.now a.made.now a.tables.now a.c ∷ bodies_bytes a.tree.now a.code.now a.tables.now a.c ∷ []) = let a = c.args in begun_first (module-pieces a.tree.now a.made.now a.code.now a.tables.now a.c a.size c.requires.1) (omega (arith, c.requires.1, c.requires.3)) c.write_head-at.ensures in
+    let begun : Begun (module_bytes (tables_of c.args.tree.now c.args.made.now c.args.code.now c.args.tables.now c.args.c)) c.args.out.now c.write_head-at.result c.write_head-at.new.out
+    (texts_bytes c.args.tree.now c.args.made.now c.args.tables.now c.args.c ∷ bodies_bytes c.args.tree.now c.args.code.now c.args.tables.now c.args.c ∷ []) =
+    begun_first (module-pieces c.args.tree.now c.args.made.now c.args.code.now c.args.tables.now c.args.c c.args.size c.requires.1) (omega (arith, c.requires.1, c.requires.3)) c.write_head-at.ensures in
     omega (arith, begun-fits begun)
 
 pub write_texts-at-requires : goal.write_texts-at-requires
 write_texts-at-requires c =
-    let begun : let a = c.args in Begun (module_bytes (tables_of a.tree.now a.made.now a.code.now a.tables.now a.c)) a.out.now c.write_head-at.result c.write_head-at.new.out (texts_bytes a.tree.now a.made.now a.tables.now a.c ∷ bodies_bytes a.tree.now a.code.now a.tables.now a.c ∷ []) = let a = c.args in begun_first (module-pieces a.tree.now a.made.now a.code.now a.tables.now a.c a.size c.requires.1) (omega (arith, c.requires.1, c.requires.3)) c.write_head-at.ensures in
+    let begun : Begun (module_bytes (tables_of c.args.tree.now c.args.made.now c.args.code.now c.args.tables.now c.args.c)) c.args.out.now c.write_head-at.result c.write_head-at.new.out
+    (texts_bytes c.args.tree.now c.args.made.now c.args.tables.now c.args.c ∷ bodies_bytes c.args.tree.now c.args.code.now c.args.tables.now c.args.c ∷ []) =
+    begun_first (module-pieces c.args.tree.now c.args.made.now c.args.code.now c.args.tables.now c.args.c c.args.size c.requires.1) (omega (arith, c.requires.1, c.requires.3)) c.write_head-at.ensures in
     (c.requires.0.symbols, c.requires.0.strings, begun-piece begun)
 
 pub overflow_add-at : goal.overflow_add-at
 overflow_add-at c =
-    let begun : let a = c.args in Begun (module_bytes (tables_of a.tree.now a.made.now a.code.now a.tables.now a.c)) a.out.now c.write_head-at.result c.write_head-at.new.out (texts_bytes a.tree.now a.made.now a.tables.now a.c ∷ bodies_bytes a.tree.now a.code.now a.tables.now a.c ∷ []) = let a = c.args in begun_first (module-pieces a.tree.now a.made.now a.code.now a.tables.now a.c a.size c.requires.1) (omega (arith, c.requires.1, c.requires.3)) c.write_head-at.ensures in
+    let begun : Begun (module_bytes (tables_of c.args.tree.now c.args.made.now c.args.code.now c.args.tables.now c.args.c)) c.args.out.now c.write_head-at.result c.write_head-at.new.out
+    (texts_bytes c.args.tree.now c.args.made.now c.args.tables.now c.args.c ∷ bodies_bytes c.args.tree.now c.args.code.now c.args.tables.now c.args.c ∷ []) =
+    begun_first (module-pieces c.args.tree.now c.args.made.now c.args.code.now c.args.tables.now c.args.c c.args.size c.requires.1) (omega (arith, c.requires.1, c.requires.3)) c.write_head-at.ensures in
     let b = begun in omega (arith, begun-fits b, begun-length b, c.write_texts-at.ensures.count, c.well_formed)
 
 pub slice_bounds-write_bodies-count : goal.slice_bounds-write_bodies-count
 slice_bounds-write_bodies-count c =
-    let begun : let a = c.args in Begun (module_bytes (tables_of a.tree.now a.made.now a.code.now a.tables.now a.c)) a.out.now c.write_head-at.result c.write_head-at.new.out (texts_bytes a.tree.now a.made.now a.tables.now a.c ∷ bodies_bytes a.tree.now a.code.now a.tables.now a.c ∷ []) = let a = c.args in begun_first (module-pieces a.tree.now a.made.now a.code.now a.tables.now a.c a.size c.requires.1) (omega (arith, c.requires.1, c.requires.3)) c.write_head-at.ensures in
+    let begun : Begun (module_bytes (tables_of c.args.tree.now c.args.made.now c.args.code.now c.args.tables.now c.args.c)) c.args.out.now c.write_head-at.result c.write_head-at.new.out
+    (texts_bytes c.args.tree.now c.args.made.now c.args.tables.now c.args.c ∷ bodies_bytes c.args.tree.now c.args.code.now c.args.tables.now c.args.c ∷ []) =
+    begun_first (module-pieces c.args.tree.now c.args.made.now c.args.code.now c.args.tables.now c.args.c c.args.size c.requires.1) (omega (arith, c.requires.1, c.requires.3)) c.write_head-at.ensures in
     omega (arith, begun-fits (begun-next begun c.write_texts-at.ensures))
 
 pub slice_bounds-write_bodies-start : goal.slice_bounds-write_bodies-start
 slice_bounds-write_bodies-start c =
-    let begun : let a = c.args in Begun (module_bytes (tables_of a.tree.now a.made.now a.code.now a.tables.now a.c)) a.out.now c.write_head-at.result c.write_head-at.new.out (texts_bytes a.tree.now a.made.now a.tables.now a.c ∷ bodies_bytes a.tree.now a.code.now a.tables.now a.c ∷ []) = let a = c.args in begun_first (module-pieces a.tree.now a.made.now a.code.now a.tables.now a.c a.size c.requires.1) (omega (arith, c.requires.1, c.requires.3)) c.write_head-at.ensures in
+    let begun : Begun (module_bytes (tables_of c.args.tree.now c.args.made.now c.args.code.now c.args.tables.now c.args.c)) c.args.out.now c.write_head-at.result c.write_head-at.new.out
+    (texts_bytes c.args.tree.now c.args.made.now c.args.tables.now c.args.c ∷ bodies_bytes c.args.tree.now c.args.code.now c.args.tables.now c.args.c ∷ []) =
+    begun_first (module-pieces c.args.tree.now c.args.made.now c.args.code.now c.args.tables.now c.args.c c.args.size c.requires.1) (omega (arith, c.requires.1, c.requires.3)) c.write_head-at.ensures in
     omega (arith, begun-fits (begun-next begun c.write_texts-at.ensures))
 
 pub write_bodies-requires : goal.write_bodies-requires
 write_bodies-requires c =
-    let begun : let a = c.args in Begun (module_bytes (tables_of a.tree.now a.made.now a.code.now a.tables.now a.c)) a.out.now c.write_head-at.result c.write_head-at.new.out (texts_bytes a.tree.now a.made.now a.tables.now a.c ∷ bodies_bytes a.tree.now a.code.now a.tables.now a.c ∷ []) = let a = c.args in begun_first (module-pieces a.tree.now a.made.now a.code.now a.tables.now a.c a.size c.requires.1) (omega (arith, c.requires.1, c.requires.3)) c.write_head-at.ensures in
+    let begun : Begun (module_bytes (tables_of c.args.tree.now c.args.made.now c.args.code.now c.args.tables.now c.args.c)) c.args.out.now c.write_head-at.result c.write_head-at.new.out
+    (texts_bytes c.args.tree.now c.args.made.now c.args.tables.now c.args.c ∷ bodies_bytes c.args.tree.now c.args.code.now c.args.tables.now c.args.c ∷ []) =
+    begun_first (module-pieces c.args.tree.now c.args.made.now c.args.code.now c.args.tables.now c.args.c c.args.size c.requires.1) (omega (arith, c.requires.1, c.requires.3)) c.write_head-at.ensures in
     (c.requires.0, begun-piece (begun-next begun c.write_texts-at.ensures))
 
 pub overflow_add-result : goal.overflow_add-result
 overflow_add-result c =
-    let begun : let a = c.args in Begun (module_bytes (tables_of a.tree.now a.made.now a.code.now a.tables.now a.c)) a.out.now c.write_head-at.result c.write_head-at.new.out (texts_bytes a.tree.now a.made.now a.tables.now a.c ∷ bodies_bytes a.tree.now a.code.now a.tables.now a.c ∷ []) = let a = c.args in begun_first (module-pieces a.tree.now a.made.now a.code.now a.tables.now a.c a.size c.requires.1) (omega (arith, c.requires.1, c.requires.3)) c.write_head-at.ensures in
+    let begun : Begun (module_bytes (tables_of c.args.tree.now c.args.made.now c.args.code.now c.args.tables.now c.args.c)) c.args.out.now c.write_head-at.result c.write_head-at.new.out
+    (texts_bytes c.args.tree.now c.args.made.now c.args.tables.now c.args.c ∷ bodies_bytes c.args.tree.now c.args.code.now c.args.tables.now c.args.c ∷ []) =
+    begun_first (module-pieces c.args.tree.now c.args.made.now c.args.code.now c.args.tables.now c.args.c c.args.size c.requires.1) (omega (arith, c.requires.1, c.requires.3)) c.write_head-at.ensures in
     let b = begun-next begun c.write_texts-at.ensures in
     omega (arith, begun-fits b, begun-length b, c.write_bodies.ensures.count, c.well_formed)
 
 pub shape_of-out : goal.shape_of-out
 shape_of-out c =
-    let begun : let a = c.args in Begun (module_bytes (tables_of a.tree.now a.made.now a.code.now a.tables.now a.c)) a.out.now c.write_head-at.result c.write_head-at.new.out (texts_bytes a.tree.now a.made.now a.tables.now a.c ∷ bodies_bytes a.tree.now a.code.now a.tables.now a.c ∷ []) = let a = c.args in begun_first (module-pieces a.tree.now a.made.now a.code.now a.tables.now a.c a.size c.requires.1) (omega (arith, c.requires.1, c.requires.3)) c.write_head-at.ensures in
+    let begun : Begun (module_bytes (tables_of c.args.tree.now c.args.made.now c.args.code.now c.args.tables.now c.args.c)) c.args.out.now c.write_head-at.result c.write_head-at.new.out
+    (texts_bytes c.args.tree.now c.args.made.now c.args.tables.now c.args.c ∷ bodies_bytes c.args.tree.now c.args.code.now c.args.tables.now c.args.c ∷ []) =
+    begun_first (module-pieces c.args.tree.now c.args.made.now c.args.code.now c.args.tables.now c.args.c c.args.size c.requires.1) (omega (arith, c.requires.1, c.requires.3)) c.write_head-at.ensures in
     begun-length (begun-next (begun-next begun c.write_texts-at.ensures) c.write_bodies.ensures)
 
 pub returns : goal.returns
 returns c =
-    let begun : let a = c.args in Begun (module_bytes (tables_of a.tree.now a.made.now a.code.now a.tables.now a.c)) a.out.now c.write_head-at.result c.write_head-at.new.out (texts_bytes a.tree.now a.made.now a.tables.now a.c ∷ bodies_bytes a.tree.now a.code.now a.tables.now a.c ∷ []) = let a = c.args in begun_first (module-pieces a.tree.now a.made.now a.code.now a.tables.now a.c a.size c.requires.1) (omega (arith, c.requires.1, c.requires.3)) c.write_head-at.ensures in
+    let begun : Begun (module_bytes (tables_of c.args.tree.now c.args.made.now c.args.code.now c.args.tables.now c.args.c)) c.args.out.now c.write_head-at.result c.write_head-at.new.out
+    (texts_bytes c.args.tree.now c.args.made.now c.args.tables.now c.args.c ∷ bodies_bytes c.args.tree.now c.args.code.now c.args.tables.now c.args.c ∷ []) =
+    begun_first (module-pieces c.args.tree.now c.args.made.now c.args.code.now c.args.tables.now c.args.c c.args.size c.requires.1) (omega (arith, c.requires.1, c.requires.3)) c.write_head-at.ensures in
     begun-done (begun-next (begun-next begun c.write_texts-at.ensures) c.write_bodies.ensures)

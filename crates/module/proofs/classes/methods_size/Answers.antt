@@ -1,15 +1,12 @@
-use borrow.Author.Rules.{rules}
 use native.Mathlib.Omega.{arith}
 use mathlib.Core.Path.{◌≡◌}
 use mathlib.Core.List.{◌∷◌}
-use Prim.Native.Nat.{◌+◌, ◌-◌, ◌^◌, ◌≤◌, ◌<◌}
+use Prim.Native.Nat.{◌+◌, ◌^◌, ◌<◌}
 use lib.ListN.{length, get_or}
 use Rattle.module.specs.Sections.{methods_bytes}
 use Rattle.module.proofs.Pieces.{pieces, pieces-next, pieces_none, Measured, measured-count, measured-as, measured-fits, measured-next, measured-done}
 use Rattle.module.proofs.CodeLengths.{method_piece, methods-listed, methods-room, method-size}
 use Rattle.module.proofs.classes.methods_size.Goals as goal
-
--- the method in hand is next
 
 pub loop-i-init : goal.loop-i-init
 loop-i-init c = (omega arith, measured-count (length c.args.words.now) (methods-listed _ _))
@@ -19,22 +16,32 @@ overflow_cast-words c = omega (arith, c.shared_slice_known-in-loop-i-1.given c.l
 
 pub overflow_add-size : goal.overflow_add-size
 overflow_add-size c =
-    let size : let l = c.loop-i in let s = c.args in 3 + length c.name_part-name.result.now ≡ length (method_piece s.tree.now (get_or s.words.now l.i 0)) = let s = c.args in method-size s.tree.now (get_or s.words.now c.loop-i.i 0) c.name_part-name.result.now c.name_part-name.ensures.result_value in
-    let here : let l = c.loop-i in let s = c.args in Measured (methods_bytes s.tree.now s.words.now) l.size (method_piece s.tree.now (get_or s.words.now l.i 0) ∷ pieces (method_piece s.tree.now) (l.i + 1) s.words.now) = measured-as c.loop-i.invariant.1 (pieces-next _ c.loop-i.i _ c.loop-i-test.true) in
-    let fits : let l = c.loop-i in let s = c.args in l.size + length (method_piece s.tree.now (get_or s.words.now l.i 0)) < 2 ^ 64 = let h = methods-room c.args.tree.now c.args.words.now (λ j. (c.shared_slice_known-1.given j).fits) in omega (arith, measured-fits here, c.requires) in
+    let here : Measured (methods_bytes c.args.tree.now c.args.words.now) c.loop-i.size (method_piece c.args.tree.now (get_or c.args.words.now c.loop-i.i 0) ∷ pieces (method_piece c.args.tree.now) (c.loop-i.i + 1) c.args.words.now) =
+    measured-as c.loop-i.invariant.1 (pieces-next _ c.loop-i.i _ c.loop-i-test.true) in
+    let fits : c.loop-i.size + length (method_piece c.args.tree.now (get_or c.args.words.now c.loop-i.i 0)) < 2 ^ 64 =
+    let h = methods-room c.args.tree.now c.args.words.now (λ j. (c.shared_slice_known-1.given j).fits) in
+    omega (arith, measured-fits here, c.requires) in
+    let size : 3 + length c.name_part-name.result.now ≡ length (method_piece c.args.tree.now (get_or c.args.words.now c.loop-i.i 0)) =
+    method-size c.args.tree.now (get_or c.args.words.now c.loop-i.i 0) c.name_part-name.result.now c.name_part-name.ensures.result_value in
     omega (arith, size, fits)
 
 pub overflow_add-size-in-loop-i : goal.overflow_add-size-in-loop-i
 overflow_add-size-in-loop-i c =
-    let size : let l = c.loop-i in let s = c.args in 3 + length c.name_part-name.result.now ≡ length (method_piece s.tree.now (get_or s.words.now l.i 0)) = let s = c.args in method-size s.tree.now (get_or s.words.now c.loop-i.i 0) c.name_part-name.result.now c.name_part-name.ensures.result_value in
-    let here : let l = c.loop-i in let s = c.args in Measured (methods_bytes s.tree.now s.words.now) l.size (method_piece s.tree.now (get_or s.words.now l.i 0) ∷ pieces (method_piece s.tree.now) (l.i + 1) s.words.now) = measured-as c.loop-i.invariant.1 (pieces-next _ c.loop-i.i _ c.loop-i-test.true) in
-    let fits : let l = c.loop-i in let s = c.args in l.size + length (method_piece s.tree.now (get_or s.words.now l.i 0)) < 2 ^ 64 = let h = methods-room c.args.tree.now c.args.words.now (λ j. (c.shared_slice_known-1.given j).fits) in omega (arith, measured-fits here, c.requires) in
+    let here : Measured (methods_bytes c.args.tree.now c.args.words.now) c.loop-i.size (method_piece c.args.tree.now (get_or c.args.words.now c.loop-i.i 0) ∷ pieces (method_piece c.args.tree.now) (c.loop-i.i + 1) c.args.words.now) =
+    measured-as c.loop-i.invariant.1 (pieces-next _ c.loop-i.i _ c.loop-i-test.true) in
+    let fits : c.loop-i.size + length (method_piece c.args.tree.now (get_or c.args.words.now c.loop-i.i 0)) < 2 ^ 64 =
+    let h = methods-room c.args.tree.now c.args.words.now (λ j. (c.shared_slice_known-1.given j).fits) in
+    omega (arith, measured-fits here, c.requires) in
+    let size : 3 + length c.name_part-name.result.now ≡ length (method_piece c.args.tree.now (get_or c.args.words.now c.loop-i.i 0)) =
+    method-size c.args.tree.now (get_or c.args.words.now c.loop-i.i 0) c.name_part-name.result.now c.name_part-name.ensures.result_value in
     omega (arith, size, fits)
 
 pub loop-i-preserved : goal.loop-i-preserved
 loop-i-preserved c =
-    let size : let l = c.loop-i in let s = c.args in 3 + length c.name_part-name.result.now ≡ length (method_piece s.tree.now (get_or s.words.now l.i 0)) = let s = c.args in method-size s.tree.now (get_or s.words.now c.loop-i.i 0) c.name_part-name.result.now c.name_part-name.ensures.result_value in
-    let here : let l = c.loop-i in let s = c.args in Measured (methods_bytes s.tree.now s.words.now) l.size (method_piece s.tree.now (get_or s.words.now l.i 0) ∷ pieces (method_piece s.tree.now) (l.i + 1) s.words.now) = measured-as c.loop-i.invariant.1 (pieces-next _ c.loop-i.i _ c.loop-i-test.true) in
+    let here : Measured (methods_bytes c.args.tree.now c.args.words.now) c.loop-i.size (method_piece c.args.tree.now (get_or c.args.words.now c.loop-i.i 0) ∷ pieces (method_piece c.args.tree.now) (c.loop-i.i + 1) c.args.words.now) =
+    measured-as c.loop-i.invariant.1 (pieces-next _ c.loop-i.i _ c.loop-i-test.true) in
+    let size : 3 + length c.name_part-name.result.now ≡ length (method_piece c.args.tree.now (get_or c.args.words.now c.loop-i.i 0)) =
+    method-size c.args.tree.now (get_or c.args.words.now c.loop-i.i 0) c.name_part-name.result.now c.name_part-name.ensures.result_value in
     (omega arith, measured-next here _ size)
 
 pub returns : goal.returns

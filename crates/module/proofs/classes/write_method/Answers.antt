@@ -1,5 +1,4 @@
 -- the name is written
-use borrow.Author.Rules.{rules}
 use native.Mathlib.Omega.{arith}
 use mathlib.Core.List.{[], ◌∷◌}
 use Prim.Native.Nat.{◌%◌, ◌/◌, ◌≤◌}
@@ -19,30 +18,36 @@ write_counted-at-requires c =
 
 pub slice_bounds-write_number-count : goal.slice_bounds-write_number-count
 slice_bounds-write_number-count c =
-    let named : let s = c.args in Begun (method_piece s.tree.now s.w) s.out.now c.write_counted-at.result c.write_counted-at.new.out (be 2 (s.w % 256) ∷ []) = begun_first (method-pieces _ _) c.requires (name-wrote c.name_part-name.ensures.result_value c.write_counted-at.ensures) in
+    let named : Begun (method_piece c.args.tree.now c.args.w) c.args.out.now c.write_counted-at.result c.write_counted-at.new.out (be 2 (c.args.w % 256) ∷ []) =
+    begun_first (method-pieces _ _) c.requires (name-wrote c.name_part-name.ensures.result_value c.write_counted-at.ensures) in
     omega (arith, begun-fits named)
 
 pub slice_bounds-write_number-start : goal.slice_bounds-write_number-start
 slice_bounds-write_number-start c =
-    let named : let s = c.args in Begun (method_piece s.tree.now s.w) s.out.now c.write_counted-at.result c.write_counted-at.new.out (be 2 (s.w % 256) ∷ []) = begun_first (method-pieces _ _) c.requires (name-wrote c.name_part-name.ensures.result_value c.write_counted-at.ensures) in
+    let named : Begun (method_piece c.args.tree.now c.args.w) c.args.out.now c.write_counted-at.result c.write_counted-at.new.out (be 2 (c.args.w % 256) ∷ []) =
+    begun_first (method-pieces _ _) c.requires (name-wrote c.name_part-name.ensures.result_value c.write_counted-at.ensures) in
     omega (arith, begun-fits named)
 
 pub write_number-requires : goal.write_number-requires
 write_number-requires c =
-    let named : let s = c.args in Begun (method_piece s.tree.now s.w) s.out.now c.write_counted-at.result c.write_counted-at.new.out (be 2 (s.w % 256) ∷ []) = begun_first (method-pieces _ _) c.requires (name-wrote c.name_part-name.ensures.result_value c.write_counted-at.ensures) in
+    let named : Begun (method_piece c.args.tree.now c.args.w) c.args.out.now c.write_counted-at.result c.write_counted-at.new.out (be 2 (c.args.w % 256) ∷ []) =
+    begun_first (method-pieces _ _) c.requires (name-wrote c.name_part-name.ensures.result_value c.write_counted-at.ensures) in
     begun-number _ _ named
 
 pub overflow_add-result : goal.overflow_add-result
 overflow_add-result c =
-    let named : let s = c.args in Begun (method_piece s.tree.now s.w) s.out.now c.write_counted-at.result c.write_counted-at.new.out (be 2 (s.w % 256) ∷ []) = begun_first (method-pieces _ _) c.requires (name-wrote c.name_part-name.ensures.result_value c.write_counted-at.ensures) in
+    let named : Begun (method_piece c.args.tree.now c.args.w) c.args.out.now c.write_counted-at.result c.write_counted-at.new.out (be 2 (c.args.w % 256) ∷ []) =
+    begun_first (method-pieces _ _) c.requires (name-wrote c.name_part-name.ensures.result_value c.write_counted-at.ensures) in
     let b = named in omega (arith, begun-fits b, begun-length b, c.write_number.ensures.count, c.well_formed)
 
 pub shape_of-out : goal.shape_of-out
 shape_of-out c =
-    let named : let s = c.args in Begun (method_piece s.tree.now s.w) s.out.now c.write_counted-at.result c.write_counted-at.new.out (be 2 (s.w % 256) ∷ []) = begun_first (method-pieces _ _) c.requires (name-wrote c.name_part-name.ensures.result_value c.write_counted-at.ensures) in
+    let named : Begun (method_piece c.args.tree.now c.args.w) c.args.out.now c.write_counted-at.result c.write_counted-at.new.out (be 2 (c.args.w % 256) ∷ []) =
+    begun_first (method-pieces _ _) c.requires (name-wrote c.name_part-name.ensures.result_value c.write_counted-at.ensures) in
     begun-length (begun-next named c.write_number.ensures)
 
 pub returns : goal.returns
 returns c =
-    let named : let s = c.args in Begun (method_piece s.tree.now s.w) s.out.now c.write_counted-at.result c.write_counted-at.new.out (be 2 (s.w % 256) ∷ []) = begun_first (method-pieces _ _) c.requires (name-wrote c.name_part-name.ensures.result_value c.write_counted-at.ensures) in
+    let named : Begun (method_piece c.args.tree.now c.args.w) c.args.out.now c.write_counted-at.result c.write_counted-at.new.out (be 2 (c.args.w % 256) ∷ []) =
+    begun_first (method-pieces _ _) c.requires (name-wrote c.name_part-name.ensures.result_value c.write_counted-at.ensures) in
     begun-done (begun-next named c.write_number.ensures)

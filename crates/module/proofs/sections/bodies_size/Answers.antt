@@ -1,5 +1,4 @@
 -- functions and classes are measured
-use borrow.Author.Rules.{rules}
 use native.Mathlib.Omega.{arith}
 use mathlib.Core.Path.{◌≡◌, refl, ap₂, ◌∙◌}
 use Prim.Native.Nat.{ℕ, ◌+◌, ◌*◌, ◌<◌, ◌^◌}
@@ -21,24 +20,56 @@ classes_size-classes-requires c =
 
 pub overflow_add-result : goal.overflow_add-result
 overflow_add-result c =
-    let sized : let s = c.args in c.functions_size-functions.result + c.classes_size-classes.result + 2 + 2 * s.c.constants ≡ length (bodies_bytes s.tree.now s.code.now s.tables.now s.c) = let a = c.args in let ks = c.words_part-codes.ensures in let xs = c.words_part-names.ensures in let ps = c.words_part-places.ensures in ap₂ (λ (x y : ℕ). x + y + 2 + 2 * a.c.constants) (c.functions_size-functions.ensures a.tree.now _ (same-functions a.tree.now a.code.now a.tables.now a.c (finished-are a.code.now) refl ks c.words_part-methods.ensures xs ps c.requires)) c.classes_size-classes.ensures ∙ length-bodies a.tree.now a.code.now a.tables.now a.c (finished-are a.code.now) refl ks c.words_part-methods.ensures xs ps c.requires in
-    let room : let s = c.args in length (bodies_bytes s.tree.now s.code.now s.tables.now s.c) < 2 ^ 31 = let a = c.args in bodies-room a.tree.now a.code.now a.tables.now a.c refl refl refl refl refl refl (λ j. (c.shared_slice_known-1.given j).fits) c.requires in
+    let sized : c.functions_size-functions.result + c.classes_size-classes.result + 2 + 2 * c.args.c.constants ≡ length (bodies_bytes c.args.tree.now c.args.code.now c.args.tables.now c.args.c) =
+    let ks = c.words_part-codes.ensures in
+    let xs = c.words_part-names.ensures in
+    let ps = c.words_part-places.ensures in
+    ap₂ (λ (x y : ℕ). x + y + 2 + 2 * c.args.c.constants)
+    (c.functions_size-functions.ensures c.args.tree.now _ (same-functions c.args.tree.now c.args.code.now c.args.tables.now c.args.c (finished-are c.args.code.now) refl ks c.words_part-methods.ensures xs ps c.requires))
+    c.classes_size-classes.ensures
+    ∙ length-bodies c.args.tree.now c.args.code.now c.args.tables.now c.args.c (finished-are c.args.code.now) refl ks c.words_part-methods.ensures xs ps c.requires in
+    let room : length (bodies_bytes c.args.tree.now c.args.code.now c.args.tables.now c.args.c) < 2 ^ 31 =
+    bodies-room c.args.tree.now c.args.code.now c.args.tables.now c.args.c refl refl refl refl refl refl (λ j. (c.shared_slice_known-1.given j).fits) c.requires in
     omega (arith, sized, room)
 
 pub overflow_add-result-2 : goal.overflow_add-result-2
 overflow_add-result-2 c =
-    let sized : let s = c.args in c.functions_size-functions.result + c.classes_size-classes.result + 2 + 2 * s.c.constants ≡ length (bodies_bytes s.tree.now s.code.now s.tables.now s.c) = let a = c.args in let ks = c.words_part-codes.ensures in let xs = c.words_part-names.ensures in let ps = c.words_part-places.ensures in ap₂ (λ (x y : ℕ). x + y + 2 + 2 * a.c.constants) (c.functions_size-functions.ensures a.tree.now _ (same-functions a.tree.now a.code.now a.tables.now a.c (finished-are a.code.now) refl ks c.words_part-methods.ensures xs ps c.requires)) c.classes_size-classes.ensures ∙ length-bodies a.tree.now a.code.now a.tables.now a.c (finished-are a.code.now) refl ks c.words_part-methods.ensures xs ps c.requires in
-    let room : let s = c.args in length (bodies_bytes s.tree.now s.code.now s.tables.now s.c) < 2 ^ 31 = let a = c.args in bodies-room a.tree.now a.code.now a.tables.now a.c refl refl refl refl refl refl (λ j. (c.shared_slice_known-1.given j).fits) c.requires in
+    let sized : c.functions_size-functions.result + c.classes_size-classes.result + 2 + 2 * c.args.c.constants ≡ length (bodies_bytes c.args.tree.now c.args.code.now c.args.tables.now c.args.c) =
+    let ks = c.words_part-codes.ensures in
+    let xs = c.words_part-names.ensures in
+    let ps = c.words_part-places.ensures in
+    ap₂ (λ (x y : ℕ). x + y + 2 + 2 * c.args.c.constants)
+    (c.functions_size-functions.ensures c.args.tree.now _ (same-functions c.args.tree.now c.args.code.now c.args.tables.now c.args.c (finished-are c.args.code.now) refl ks c.words_part-methods.ensures xs ps c.requires))
+    c.classes_size-classes.ensures
+    ∙ length-bodies c.args.tree.now c.args.code.now c.args.tables.now c.args.c (finished-are c.args.code.now) refl ks c.words_part-methods.ensures xs ps c.requires in
+    let room : length (bodies_bytes c.args.tree.now c.args.code.now c.args.tables.now c.args.c) < 2 ^ 31 =
+    bodies-room c.args.tree.now c.args.code.now c.args.tables.now c.args.c refl refl refl refl refl refl (λ j. (c.shared_slice_known-1.given j).fits) c.requires in
     omega (arith, sized, room)
 
 pub overflow_add-result-3 : goal.overflow_add-result-3
 overflow_add-result-3 c =
-    let sized : let s = c.args in c.functions_size-functions.result + c.classes_size-classes.result + 2 + 2 * s.c.constants ≡ length (bodies_bytes s.tree.now s.code.now s.tables.now s.c) = let a = c.args in let ks = c.words_part-codes.ensures in let xs = c.words_part-names.ensures in let ps = c.words_part-places.ensures in ap₂ (λ (x y : ℕ). x + y + 2 + 2 * a.c.constants) (c.functions_size-functions.ensures a.tree.now _ (same-functions a.tree.now a.code.now a.tables.now a.c (finished-are a.code.now) refl ks c.words_part-methods.ensures xs ps c.requires)) c.classes_size-classes.ensures ∙ length-bodies a.tree.now a.code.now a.tables.now a.c (finished-are a.code.now) refl ks c.words_part-methods.ensures xs ps c.requires in
-    let room : let s = c.args in length (bodies_bytes s.tree.now s.code.now s.tables.now s.c) < 2 ^ 31 = let a = c.args in bodies-room a.tree.now a.code.now a.tables.now a.c refl refl refl refl refl refl (λ j. (c.shared_slice_known-1.given j).fits) c.requires in
+    let sized : c.functions_size-functions.result + c.classes_size-classes.result + 2 + 2 * c.args.c.constants ≡ length (bodies_bytes c.args.tree.now c.args.code.now c.args.tables.now c.args.c) =
+    let ks = c.words_part-codes.ensures in
+    let xs = c.words_part-names.ensures in
+    let ps = c.words_part-places.ensures in
+    ap₂ (λ (x y : ℕ). x + y + 2 + 2 * c.args.c.constants)
+    (c.functions_size-functions.ensures c.args.tree.now _ (same-functions c.args.tree.now c.args.code.now c.args.tables.now c.args.c (finished-are c.args.code.now) refl ks c.words_part-methods.ensures xs ps c.requires))
+    c.classes_size-classes.ensures
+    ∙ length-bodies c.args.tree.now c.args.code.now c.args.tables.now c.args.c (finished-are c.args.code.now) refl ks c.words_part-methods.ensures xs ps c.requires in
+    let room : length (bodies_bytes c.args.tree.now c.args.code.now c.args.tables.now c.args.c) < 2 ^ 31 =
+    bodies-room c.args.tree.now c.args.code.now c.args.tables.now c.args.c refl refl refl refl refl refl (λ j. (c.shared_slice_known-1.given j).fits) c.requires in
     omega (arith, sized, room)
 
 pub returns : goal.returns
 returns c =
-    let sized : let s = c.args in c.functions_size-functions.result + c.classes_size-classes.result + 2 + 2 * s.c.constants ≡ length (bodies_bytes s.tree.now s.code.now s.tables.now s.c) = let a = c.args in let ks = c.words_part-codes.ensures in let xs = c.words_part-names.ensures in let ps = c.words_part-places.ensures in ap₂ (λ (x y : ℕ). x + y + 2 + 2 * a.c.constants) (c.functions_size-functions.ensures a.tree.now _ (same-functions a.tree.now a.code.now a.tables.now a.c (finished-are a.code.now) refl ks c.words_part-methods.ensures xs ps c.requires)) c.classes_size-classes.ensures ∙ length-bodies a.tree.now a.code.now a.tables.now a.c (finished-are a.code.now) refl ks c.words_part-methods.ensures xs ps c.requires in
-    let room : let s = c.args in length (bodies_bytes s.tree.now s.code.now s.tables.now s.c) < 2 ^ 31 = let a = c.args in bodies-room a.tree.now a.code.now a.tables.now a.c refl refl refl refl refl refl (λ j. (c.shared_slice_known-1.given j).fits) c.requires in
+    let sized : c.functions_size-functions.result + c.classes_size-classes.result + 2 + 2 * c.args.c.constants ≡ length (bodies_bytes c.args.tree.now c.args.code.now c.args.tables.now c.args.c) =
+    let ks = c.words_part-codes.ensures in
+    let xs = c.words_part-names.ensures in
+    let ps = c.words_part-places.ensures in
+    ap₂ (λ (x y : ℕ). x + y + 2 + 2 * c.args.c.constants)
+    (c.functions_size-functions.ensures c.args.tree.now _ (same-functions c.args.tree.now c.args.code.now c.args.tables.now c.args.c (finished-are c.args.code.now) refl ks c.words_part-methods.ensures xs ps c.requires))
+    c.classes_size-classes.ensures
+    ∙ length-bodies c.args.tree.now c.args.code.now c.args.tables.now c.args.c (finished-are c.args.code.now) refl ks c.words_part-methods.ensures xs ps c.requires in
+    let room : length (bodies_bytes c.args.tree.now c.args.code.now c.args.tables.now c.args.c) < 2 ^ 31 =
+    bodies-room c.args.tree.now c.args.code.now c.args.tables.now c.args.c refl refl refl refl refl refl (λ j. (c.shared_slice_known-1.given j).fits) c.requires in
     (sized, omega (arith, sized, room))

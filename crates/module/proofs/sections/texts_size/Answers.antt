@@ -1,4 +1,3 @@
-use borrow.Author.Rules.{rules}
 use native.Mathlib.Omega.{arith}
 use mathlib.Core.Path.{ap₂, ◌∙◌}
 use Prim.Native.Nat.{ℕ, ◌+◌, ◌<◌, ◌^◌}
@@ -16,12 +15,16 @@ strings_size-requires c = omega (arith, few strings_from 512 c.args.tables.now c
 
 pub overflow_add-result : goal.overflow_add-result
 overflow_add-result c =
-    let room : let s = c.args in length (symbol_bytes s.tree.now s.made.now c.words_part-symbols.result.now) + length (string_bytes s.tree.now c.words_part-strings.result.now) < 2 ^ 30 = let a = c.args in texts-room a.tree.now a.made.now a.tables.now a.c c.words_part-symbols.ensures c.words_part-strings.ensures (λ j. (c.shared_slice_known-1.given j).fits) (λ j. (c.shared_slice_known-2-1.given j).fits) c.requires.0 c.requires.1 in
+    let room : length (symbol_bytes c.args.tree.now c.args.made.now c.words_part-symbols.result.now) + length (string_bytes c.args.tree.now c.words_part-strings.result.now) < 2 ^ 30 =
+    texts-room c.args.tree.now c.args.made.now c.args.tables.now c.args.c c.words_part-symbols.ensures c.words_part-strings.ensures
+    (λ j. (c.shared_slice_known-1.given j).fits) (λ j. (c.shared_slice_known-2-1.given j).fits) c.requires.0 c.requires.1 in
     omega (arith, room, c.strings_size.ensures, c.symbols_size.ensures)
 
 pub returns : goal.returns
 returns c =
-    let room : let s = c.args in length (symbol_bytes s.tree.now s.made.now c.words_part-symbols.result.now) + length (string_bytes s.tree.now c.words_part-strings.result.now) < 2 ^ 30 = let a = c.args in texts-room a.tree.now a.made.now a.tables.now a.c c.words_part-symbols.ensures c.words_part-strings.ensures (λ j. (c.shared_slice_known-1.given j).fits) (λ j. (c.shared_slice_known-2-1.given j).fits) c.requires.0 c.requires.1 in
+    let room : length (symbol_bytes c.args.tree.now c.args.made.now c.words_part-symbols.result.now) + length (string_bytes c.args.tree.now c.words_part-strings.result.now) < 2 ^ 30 =
+    texts-room c.args.tree.now c.args.made.now c.args.tables.now c.args.c c.words_part-symbols.ensures c.words_part-strings.ensures
+    (λ j. (c.shared_slice_known-1.given j).fits) (λ j. (c.shared_slice_known-2-1.given j).fits) c.requires.0 c.requires.1 in
     let a = c.args in (
       ap₂ (λ (x y : ℕ). x + y) c.symbols_size.ensures c.strings_size.ensures
           ∙ length-texts a.tree.now a.made.now a.tables.now a.c c.words_part-symbols.ensures c.words_part-strings.ensures,
