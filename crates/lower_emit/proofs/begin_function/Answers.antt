@@ -1,7 +1,6 @@
 use native.Mathlib.Omega.{arith}
 use lib.ListN.{length-set}
 use Rattle.lower_emit.proofs.Functions.{begun-over, begun_more}
-use borrow.Author.Rules.{rules}
 use Rattle.lower_emit.proofs.begin_function.Goals as goal
 
 pub returns-then-l-n : goal.returns-then-l-n

@@ -1,5 +1,4 @@
 use Rattle.lower_emit.proofs.Functions.{ended_is}
-use borrow.Author.Rules.{rules}
 use Rattle.lower_emit.proofs.end_function.Goals as goal
 
 pub returns : goal.returns

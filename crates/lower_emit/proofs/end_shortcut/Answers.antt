@@ -1,7 +1,6 @@
 use native.Mathlib.Omega.{arith}
 use lib.ListN.{length-set}
 use Rattle.lower_emit.proofs.Steps.{shortcut-none, shortcut-more}
-use borrow.Author.Rules.{rules}
 use Rattle.lower_emit.proofs.end_shortcut.Goals as goal
 
 pub returns-then-l-m : goal.returns-then-l-m

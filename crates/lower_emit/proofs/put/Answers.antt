@@ -1,4 +1,3 @@
-use borrow.Author.Rules.{rules}
 use Rattle.lower_emit.proofs.Steps.{put-none}
 use Rattle.lower_emit.proofs.put.Goals as goal
 

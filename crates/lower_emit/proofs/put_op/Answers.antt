@@ -1,4 +1,3 @@
-use borrow.Author.Rules.{rules}
 use Rattle.lower_emit.proofs.Steps.{put_as}
 use Rattle.lower_emit.proofs.put_op.Goals as goal
 

@@ -1,6 +1,5 @@
 use mathlib.Core.Path.{◌∙◌}
 use native.Mathlib.Omega.{arith}
-use borrow.Author.Rules.{rules}
 use Rattle.lower_emit.proofs.Steps.{room-put}
 use Rattle.lower_emit.proofs.Packing.{instr-back}
 use Rattle.lower_emit.proofs.Writing.{word-writes}
@@ -20,7 +19,7 @@ pub put_op-p-requires : goal.put_op-p-requires
 put_op-p-requires c = (c.requires.0, omega arith, omega (arith, c.requires.0.words, c.requires.0.limit, c.requires.1, c.requires.2), omega arith)
 
 pub shape_of-code-then-p-eq0 : goal.shape_of-code-then-p-eq0
-shape_of-code-then-p-eq0 c = c.put_op-p.auto.0
+shape_of-code-then-p-eq0 c = c.put_op-p.auto.code
 
 pub returns-then-p-eq0 : goal.returns-then-p-eq0
 returns-then-p-eq0 c = loop-full c.args.start c.args.inside c.requires.1 c.requires.2 (word-writes c.requires.3 (λ t. instr-back t _ (omega arith) (omega (arith, c.requires.0.words, c.requires.0.limit, c.requires.1, c.requires.2))) c.put_op-p.ensures) c.if-p-eq0.true
@@ -44,10 +43,10 @@ pub overflow_add-n : goal.overflow_add-n
 overflow_add-n c = omega (arith, c.requires.0.words, c.requires.0.limit, c.requires.1, c.requires.2)
 
 pub set_jump-requires : goal.set_jump-requires
-set_jump-requires c = (omega (arith, c.patch_loop.auto.0, (room-put c.requires.0 c.if-p-eq0.false c.put_op-p.ensures).code-room, c.requires.0.words, c.requires.0.limit, c.requires.1, c.requires.2), omega arith, omega (arith, c.requires.0.words, c.requires.0.limit, c.requires.1, c.requires.2))
+set_jump-requires c = (omega (arith, c.patch_loop.auto.code, (room-put c.requires.0 c.if-p-eq0.false c.put_op-p.ensures).code-room, c.requires.0.words, c.requires.0.limit, c.requires.1, c.requires.2), omega arith, omega (arith, c.requires.0.words, c.requires.0.limit, c.requires.1, c.requires.2))
 
 pub shape_of-code : goal.shape_of-code
-shape_of-code c = c.set_jump.auto.0 ∙ c.patch_loop.auto.0 ∙ c.put_op-p.auto.0
+shape_of-code c = c.set_jump.auto.code ∙ c.patch_loop.auto.code ∙ c.put_op-p.auto.code
 
 pub returns : goal.returns
 returns c = loop-done c.args.start c.args.inside c.requires.1 c.requires.2 (word-writes c.requires.3 (λ t. instr-back t _ (omega arith) (omega (arith, c.requires.0.words, c.requires.0.limit, c.requires.1, c.requires.2))) c.put_op-p.ensures) c.if-p-eq0.false c.patch_loop.ensures c.set_jump.ensures

@@ -1,6 +1,5 @@
 use Prim.Native.Nat.{◌-◌}
 use mathlib.Core.Path.{ap}
-use borrow.Author.Rules.{rules}
 use borrow.Rule.Slice.PartMut.{put_mid}
 use Rattle.lower_emit.proofs.jumps.patch_loop.Goals as goal
 

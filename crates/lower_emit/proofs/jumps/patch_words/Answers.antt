@@ -1,9 +1,8 @@
-use mathlib.Core.Path.{◌≡◌, refl, ap, ◌∙◌}
-use Prim.Native.Nat.{ℕ, ◌-◌, ◌≤◌}
+use mathlib.Core.Path.{refl, ap, ◌∙◌}
+use Prim.Native.Nat.{ℕ}
 use native.Mathlib.Omega.{arith}
-use lib.ListN.{length, get_or, length-set}
-use Rattle.lower_emit.specs.Patch.{patch_word, patch_words}
-use Rattle.lower_emit.proofs.Setting.{mixed}
+use lib.ListN.{get_or, length-set}
+use Rattle.lower_emit.specs.Patch.{patch_word}
 use Rattle.lower_emit.proofs.Patching.{patch-step, patch-done}
 use Rattle.lower_emit.proofs.jumps.patch_words.Goals as goal
 

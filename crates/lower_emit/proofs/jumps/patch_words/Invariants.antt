@@ -1,10 +1,8 @@
-use mathlib.Core.Path.{◌≡◌, refl, ap, ◌∙◌}
-use Prim.Native.Nat.{ℕ, ◌-◌, ◌≤◌}
-use native.Mathlib.Omega.{arith}
-use lib.ListN.{length, get_or, length-set}
-use Rattle.lower_emit.specs.Patch.{patch_word, patch_words}
+use mathlib.Core.Path.{◌≡◌}
+use Prim.Native.Nat.{◌-◌, ◌≤◌}
+use lib.ListN.{length}
+use Rattle.lower_emit.specs.Patch.{patch_words}
 use Rattle.lower_emit.proofs.Setting.{mixed}
-use Rattle.lower_emit.proofs.Patching.{patch-step, patch-done}
 use Rattle.lower_emit.proofs.jumps.patch_words.Given as goal
 
 abbrev pub invariant-loop-i : goal.invariant-loop-i

@@ -1,4 +1,3 @@
-use borrow.Author.Rules.{rules}
 use Rattle.lower_emit.proofs.Patching.{patch-break, patch-continue, patch-other}
 use Rattle.lower_emit.proofs.jumps.patched_word.Goals as goal
 
