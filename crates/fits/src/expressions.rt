@@ -18,7 +18,7 @@ use slots::captures::lambda_slots;
 use slots::skip::{skip_expr, skip_params};
 
 // An expression of a function with these slots.
-#[cycle(fits_attribute_fits_call_fits_dict_fits_expr_fits_lambda_fits_list_fits_many_fits_two)]
+#[cycle(fits)]
 pub(crate) fn fits_expr(tree: &[u8], at: usize, depth: u32, slots: &[u32]) -> Fit
     requires { Short tree.now slots.now × ExprReads depth tree.now at }
     ensures { Walks result (expr_at depth tree.now at).end (fits_expr (slot_names tree.now slots.now) (expr_at depth tree.now at).value) }
@@ -42,7 +42,7 @@ pub(crate) fn fits_expr(tree: &[u8], at: usize, depth: u32, slots: &[u32]) -> Fi
 }
 
 // Two expressions.
-#[cycle(fits_attribute_fits_call_fits_dict_fits_expr_fits_lambda_fits_list_fits_many_fits_two)]
+#[cycle(fits)]
 fn fits_two(tree: &[u8], at: usize, depth: u32, slots: &[u32]) -> Fit
     requires { Short tree.now slots.now × TwoAt depth tree.now at }
     ensures { Walks result (second_at depth tree.now at).end
@@ -56,7 +56,7 @@ fn fits_two(tree: &[u8], at: usize, depth: u32, slots: &[u32]) -> Fit
 }
 
 // A callee and its arguments.
-#[cycle(fits_attribute_fits_call_fits_dict_fits_expr_fits_lambda_fits_list_fits_many_fits_two)]
+#[cycle(fits)]
 fn fits_call(tree: &[u8], at: usize, depth: u32, slots: &[u32]) -> Fit
     requires { Short tree.now slots.now × CallAt depth tree.now at }
     ensures { Walks result (list_at depth tree.now (expr_at depth tree.now at).end).end
@@ -70,7 +70,7 @@ fn fits_call(tree: &[u8], at: usize, depth: u32, slots: &[u32]) -> Fit
 }
 
 // An object and an attribute's name.
-#[cycle(fits_attribute_fits_call_fits_dict_fits_expr_fits_lambda_fits_list_fits_many_fits_two)]
+#[cycle(fits)]
 fn fits_attribute(tree: &[u8], at: usize, depth: u32, slots: &[u32]) -> Fit
     requires { Short tree.now slots.now × AttributeAt depth tree.now at }
     ensures { Walks result (name_end tree.now (expr_at depth tree.now at).end) (fits_expr (slot_names tree.now slots.now) (expr_at depth tree.now at).value) }
@@ -83,7 +83,7 @@ fn fits_attribute(tree: &[u8], at: usize, depth: u32, slots: &[u32]) -> Fit
 }
 
 // A count of expressions.
-#[cycle(fits_attribute_fits_call_fits_dict_fits_expr_fits_lambda_fits_list_fits_many_fits_two)]
+#[cycle(fits)]
 fn fits_list(tree: &[u8], at: usize, depth: u32, slots: &[u32]) -> Fit
     requires { Short tree.now slots.now × ListAt depth tree.now at }
     ensures { Walks result (list_at depth tree.now at).end (fits_exprs (slot_names tree.now slots.now) (list_at depth tree.now at).value) }
@@ -93,7 +93,7 @@ fn fits_list(tree: &[u8], at: usize, depth: u32, slots: &[u32]) -> Fit
 }
 
 // A count of keys and values.
-#[cycle(fits_attribute_fits_call_fits_dict_fits_expr_fits_lambda_fits_list_fits_many_fits_two)]
+#[cycle(fits)]
 fn fits_dict(tree: &[u8], at: usize, depth: u32, slots: &[u32]) -> Fit
     requires { Short tree.now slots.now × DictAt depth tree.now at }
     ensures { Walks result (pairs_at depth tree.now at).end (fits_exprs (slot_names tree.now slots.now) (pairs_at depth tree.now at).value) }
@@ -103,7 +103,7 @@ fn fits_dict(tree: &[u8], at: usize, depth: u32, slots: &[u32]) -> Fit
 }
 
 // So many expressions; None, False and True are one byte each.
-#[cycle(fits_attribute_fits_call_fits_dict_fits_expr_fits_lambda_fits_list_fits_many_fits_two)]
+#[cycle(fits)]
 fn fits_many(tree: &[u8], at: usize, depth: u32, count: u32, slots: &[u32]) -> Fit
     requires { Short tree.now slots.now × ExprsRead depth count tree.now at }
     ensures { Walks result (exprs_at depth count tree.now at).end (fits_exprs (slot_names tree.now slots.now) (exprs_at depth count tree.now at).value) }
@@ -126,7 +126,7 @@ fn fits_many(tree: &[u8], at: usize, depth: u32, count: u32, slots: &[u32]) -> F
 }
 
 // A lambda: its own slots, and its body with these.
-#[cycle(fits_attribute_fits_call_fits_dict_fits_expr_fits_lambda_fits_list_fits_many_fits_two)]
+#[cycle(fits)]
 fn fits_lambda(tree: &[u8], at: usize, depth: u32, slots: &[u32]) -> Fit
     requires { Short tree.now slots.now × LambdaAt depth tree.now at }
     ensures { Walks result (expr_at depth tree.now (params_at tree.now at).end).end

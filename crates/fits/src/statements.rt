@@ -32,7 +32,7 @@ fn fits_assign(tree: &[u8], at: usize, depth: u32, slots: &[u32]) -> Fit
 }
 
 // A statement of a function with these slots.
-#[cycle(fits_block_fits_branch_fits_class_fits_def_fits_elifs_fits_else_fits_for_fits_if_fits_methods_fits_stmt)]
+#[cycle(fits)]
 fn fits_stmt(tree: &[u8], at: usize, depth: u32, slots: &[u32]) -> Fit
     requires { Short tree.now slots.now × StmtReads depth tree.now at }
     ensures { Walks result (stmt_at depth tree.now at).end (fits_stmt (slot_names tree.now slots.now) (stmt_at depth tree.now at).value) }
@@ -53,7 +53,7 @@ fn fits_stmt(tree: &[u8], at: usize, depth: u32, slots: &[u32]) -> Fit
 }
 
 // A block.
-#[cycle(fits_block_fits_branch_fits_class_fits_def_fits_elifs_fits_else_fits_for_fits_if_fits_methods_fits_stmt)]
+#[cycle(fits)]
 fn fits_block(tree: &[u8], at: usize, depth: u32, slots: &[u32]) -> Fit
     requires { Short tree.now slots.now × BlockReads depth tree.now at }
     ensures { Walks result (block_at depth tree.now at).end (fits_block (slot_names tree.now slots.now) (block_at depth tree.now at).value) }
@@ -72,7 +72,7 @@ fn fits_block(tree: &[u8], at: usize, depth: u32, slots: &[u32]) -> Fit
 }
 
 // A condition and a block.
-#[cycle(fits_block_fits_branch_fits_class_fits_def_fits_elifs_fits_else_fits_for_fits_if_fits_methods_fits_stmt)]
+#[cycle(fits)]
 fn fits_branch(tree: &[u8], at: usize, depth: u32, slots: &[u32]) -> Fit
     requires { Short tree.now slots.now × BranchAt depth tree.now at }
     ensures { Walks result (body_at depth tree.now at).end
@@ -86,7 +86,7 @@ fn fits_branch(tree: &[u8], at: usize, depth: u32, slots: &[u32]) -> Fit
 }
 
 // A first branch, a count of elifs, these, and an else block or none.
-#[cycle(fits_block_fits_branch_fits_class_fits_def_fits_elifs_fits_else_fits_for_fits_if_fits_methods_fits_stmt)]
+#[cycle(fits)]
 fn fits_if(tree: &[u8], at: usize, depth: u32, slots: &[u32]) -> Fit
     requires { Short tree.now slots.now × IfAt depth tree.now at }
     ensures { Walks result (elifs_at depth tree.now at).end
@@ -102,7 +102,7 @@ fn fits_if(tree: &[u8], at: usize, depth: u32, slots: &[u32]) -> Fit
 }
 
 // So many elifs, and an else block or none.
-#[cycle(fits_block_fits_branch_fits_class_fits_def_fits_elifs_fits_else_fits_for_fits_if_fits_methods_fits_stmt)]
+#[cycle(fits)]
 fn fits_elifs(tree: &[u8], at: usize, depth: u32, count: u32, slots: &[u32]) -> Fit
     requires { Short tree.now slots.now × BranchesRead depth count tree.now at }
     ensures { Walks result (branches_at depth count tree.now at).end (fits_branches (slot_names tree.now slots.now) (branches_at depth count tree.now at).value) }
@@ -121,7 +121,7 @@ fn fits_elifs(tree: &[u8], at: usize, depth: u32, count: u32, slots: &[u32]) -> 
 }
 
 // The byte 0; or 1, and an else block.
-#[cycle(fits_block_fits_branch_fits_class_fits_def_fits_elifs_fits_else_fits_for_fits_if_fits_methods_fits_stmt)]
+#[cycle(fits)]
 fn fits_else(tree: &[u8], at: usize, depth: u32, slots: &[u32]) -> Fit
     requires { Short tree.now slots.now × BranchesRead depth 0 tree.now at }
     ensures { Walks result (branches_at depth 0 tree.now at).end (fits_branches (slot_names tree.now slots.now) (branches_at depth 0 tree.now at).value) }
@@ -133,7 +133,7 @@ fn fits_else(tree: &[u8], at: usize, depth: u32, slots: &[u32]) -> Fit
 }
 
 // A loop variable, an expression and a block.
-#[cycle(fits_block_fits_branch_fits_class_fits_def_fits_elifs_fits_else_fits_for_fits_if_fits_methods_fits_stmt)]
+#[cycle(fits)]
 fn fits_for(tree: &[u8], at: usize, depth: u32, slots: &[u32]) -> Fit
     requires { Short tree.now slots.now × ForAt depth tree.now at }
     ensures { Walks result (body_at depth tree.now (name_end tree.now at)).end
@@ -144,7 +144,7 @@ fn fits_for(tree: &[u8], at: usize, depth: u32, slots: &[u32]) -> Fit
 }
 
 // A def after its kind byte, or a method: its own slots, and its block with these.
-#[cycle(fits_block_fits_branch_fits_class_fits_def_fits_elifs_fits_else_fits_for_fits_if_fits_methods_fits_stmt)]
+#[cycle(fits)]
 fn fits_def(tree: &[u8], at: usize, depth: u32) -> Fit
     requires { (length tree.now ≤ 32768) × DefAt depth tree.now at }
     ensures { Walks result (def_block_at depth tree.now at).end (def_fits (with_loops (params_at tree.now (name_end tree.now at)).value (def_block_at depth tree.now at).value) (def_block_at depth tree.now at).value) }
@@ -161,7 +161,7 @@ fn fits_def(tree: &[u8], at: usize, depth: u32) -> Fit
 }
 
 // So many methods.
-#[cycle(fits_block_fits_branch_fits_class_fits_def_fits_elifs_fits_else_fits_for_fits_if_fits_methods_fits_stmt)]
+#[cycle(fits)]
 fn fits_methods(tree: &[u8], at: usize, depth: u32, count: u32) -> Fit
     requires { (length tree.now ≤ 32768) × MethodsRead depth count tree.now at }
     ensures { Walks result (methods_at depth count tree.now at).end (fits_methods (methods_at depth count tree.now at).value) }
@@ -180,7 +180,7 @@ fn fits_methods(tree: &[u8], at: usize, depth: u32, count: u32) -> Fit
 }
 
 // A class with its kind byte at `at`: its methods; attributes are not lowered.
-#[cycle(fits_block_fits_branch_fits_class_fits_def_fits_elifs_fits_else_fits_for_fits_if_fits_methods_fits_stmt)]
+#[cycle(fits)]
 fn fits_class(tree: &[u8], at: usize, depth: u32) -> Fit
     requires { (length tree.now ≤ 32768) × StmtReads depth tree.now at × (get_or tree.now at 0 ≡ 10) }
     ensures { Walks result (stmt_at depth tree.now at).end (fits_methods (class_methods_at (depth - 1) tree.now (at + 1)).value) }

@@ -8,7 +8,6 @@ use native.Mathlib.Numerals.{add-one}
 use lib.ListN.{length, take, drop, set, length-set, length-append}
 use lib.Seq.{take-suc-set, drop-set-lt}
 use Rattle.definitions.specs.Tables.{emits, one}
-use Rattle.definitions.specs.Module.{instructions}
 use Rattle.state.specs.Words.{instr_of, instrs_of}
 use Rattle.state.specs.State.{State, state_of, tables_of, emit_at, done_from, Sound, Emits}
 use Rattle.state.specs.declared.Counts.{Counts}

@@ -35,7 +35,7 @@ use slots::captures::lambda_slots;
 use slots::skip::skip_params;
 
 // The expression at `at`, with `depth` levels left.
-#[cycle(emit_args_emit_attribute_emit_binary_emit_call_emit_closure_emit_display_emit_expr_emit_exprs_emit_function_emit_lambda_emit_logical_emit_method_emit_named_emit_shortcut_emit_two_emit_unary)]
+#[cycle(emit)]
 pub fn emit_expr(
     tree: &[u8],
     at: usize,
@@ -101,7 +101,7 @@ pub fn emit_expr(
 }
 
 // So many expressions, one after the other; runs of None, False and True by words alone.
-#[cycle(emit_args_emit_attribute_emit_binary_emit_call_emit_closure_emit_display_emit_expr_emit_exprs_emit_function_emit_lambda_emit_logical_emit_method_emit_named_emit_shortcut_emit_two_emit_unary)]
+#[cycle(emit)]
 fn emit_exprs(
     tree: &[u8],
     at: usize,
@@ -138,7 +138,7 @@ fn emit_exprs(
 }
 
 // An operator byte and its operand.
-#[cycle(emit_args_emit_attribute_emit_binary_emit_call_emit_closure_emit_display_emit_expr_emit_exprs_emit_function_emit_lambda_emit_logical_emit_method_emit_named_emit_shortcut_emit_two_emit_unary)]
+#[cycle(emit)]
 fn emit_unary(
     tree: &[u8],
     at: usize,
@@ -163,7 +163,7 @@ fn emit_unary(
 }
 
 // Two expressions and the instruction after them.
-#[cycle(emit_args_emit_attribute_emit_binary_emit_call_emit_closure_emit_display_emit_expr_emit_exprs_emit_function_emit_lambda_emit_logical_emit_method_emit_named_emit_shortcut_emit_two_emit_unary)]
+#[cycle(emit)]
 fn emit_two(
     tree: &[u8],
     at: usize,
@@ -192,7 +192,7 @@ fn emit_two(
 }
 
 // An operator byte and its two operands.
-#[cycle(emit_args_emit_attribute_emit_binary_emit_call_emit_closure_emit_display_emit_expr_emit_exprs_emit_function_emit_lambda_emit_logical_emit_method_emit_named_emit_shortcut_emit_two_emit_unary)]
+#[cycle(emit)]
 fn emit_binary(
     tree: &[u8],
     at: usize,
@@ -238,7 +238,7 @@ fn emit_binary(
 }
 
 // `and` (JumpIfFalse) or `or` (JumpIfTrue).
-#[cycle(emit_args_emit_attribute_emit_binary_emit_call_emit_closure_emit_display_emit_expr_emit_exprs_emit_function_emit_lambda_emit_logical_emit_method_emit_named_emit_shortcut_emit_two_emit_unary)]
+#[cycle(emit)]
 fn emit_logical(
     tree: &[u8],
     at: usize,
@@ -263,7 +263,7 @@ fn emit_logical(
 }
 
 // The right side of `and` or `or`, which a jump passes on the short way.
-#[cycle(emit_args_emit_attribute_emit_binary_emit_call_emit_closure_emit_display_emit_expr_emit_exprs_emit_function_emit_lambda_emit_logical_emit_method_emit_named_emit_shortcut_emit_two_emit_unary)]
+#[cycle(emit)]
 fn emit_shortcut(
     tree: &[u8],
     at: usize,
@@ -293,7 +293,7 @@ fn emit_shortcut(
 }
 
 // A call: its callee and its arguments.
-#[cycle(emit_args_emit_attribute_emit_binary_emit_call_emit_closure_emit_display_emit_expr_emit_exprs_emit_function_emit_lambda_emit_logical_emit_method_emit_named_emit_shortcut_emit_two_emit_unary)]
+#[cycle(emit)]
 fn emit_call(
     tree: &[u8],
     at: usize,
@@ -335,7 +335,7 @@ fn emit_call(
 }
 
 // A call by name.
-#[cycle(emit_args_emit_attribute_emit_binary_emit_call_emit_closure_emit_display_emit_expr_emit_exprs_emit_function_emit_lambda_emit_logical_emit_method_emit_named_emit_shortcut_emit_two_emit_unary)]
+#[cycle(emit)]
 fn emit_named(
     tree: &[u8],
     at: usize,
@@ -361,7 +361,7 @@ fn emit_named(
 }
 
 // A call of an attribute; the method's symbol comes after the arguments.
-#[cycle(emit_args_emit_attribute_emit_binary_emit_call_emit_closure_emit_display_emit_expr_emit_exprs_emit_function_emit_lambda_emit_logical_emit_method_emit_named_emit_shortcut_emit_two_emit_unary)]
+#[cycle(emit)]
 fn emit_method(
     tree: &[u8],
     at: usize,
@@ -391,7 +391,7 @@ fn emit_method(
 }
 
 // The arguments and the instruction that calls.
-#[cycle(emit_args_emit_attribute_emit_binary_emit_call_emit_closure_emit_display_emit_expr_emit_exprs_emit_function_emit_lambda_emit_logical_emit_method_emit_named_emit_shortcut_emit_two_emit_unary)]
+#[cycle(emit)]
 fn emit_args(
     tree: &[u8],
     at: usize,
@@ -417,7 +417,7 @@ fn emit_args(
 }
 
 // An object and the name of its attribute.
-#[cycle(emit_args_emit_attribute_emit_binary_emit_call_emit_closure_emit_display_emit_expr_emit_exprs_emit_function_emit_lambda_emit_logical_emit_method_emit_named_emit_shortcut_emit_two_emit_unary)]
+#[cycle(emit)]
 fn emit_attribute(
     tree: &[u8],
     at: usize,
@@ -452,7 +452,7 @@ fn emit_attribute(
 }
 
 // A list, dict, tuple, set or tree set.
-#[cycle(emit_args_emit_attribute_emit_binary_emit_call_emit_closure_emit_display_emit_expr_emit_exprs_emit_function_emit_lambda_emit_logical_emit_method_emit_named_emit_shortcut_emit_two_emit_unary)]
+#[cycle(emit)]
 fn emit_display(
     tree: &[u8],
     at: usize,
@@ -489,7 +489,7 @@ fn emit_display(
 }
 
 // A lambda: its parameters and its body. Its slots are the parameters, then the captures.
-#[cycle(emit_args_emit_attribute_emit_binary_emit_call_emit_closure_emit_display_emit_expr_emit_exprs_emit_function_emit_lambda_emit_logical_emit_method_emit_named_emit_shortcut_emit_two_emit_unary)]
+#[cycle(emit)]
 fn emit_lambda(
     tree: &[u8],
     at: usize,
@@ -529,7 +529,7 @@ fn emit_lambda(
 }
 
 // The function of a lambda with the slots `inner`, and its closure.
-#[cycle(emit_args_emit_attribute_emit_binary_emit_call_emit_closure_emit_display_emit_expr_emit_exprs_emit_function_emit_lambda_emit_logical_emit_method_emit_named_emit_shortcut_emit_two_emit_unary)]
+#[cycle(emit)]
 fn emit_closure(
     tree: &[u8],
     at: usize,
@@ -557,7 +557,7 @@ fn emit_closure(
 }
 
 // The function of a lambda.
-#[cycle(emit_args_emit_attribute_emit_binary_emit_call_emit_closure_emit_display_emit_expr_emit_exprs_emit_function_emit_lambda_emit_logical_emit_method_emit_named_emit_shortcut_emit_two_emit_unary)]
+#[cycle(emit)]
 fn emit_function(
     tree: &[u8],
     at: usize,

@@ -39,7 +39,7 @@ use slots::collect::{Framed, collect_locals};
 use slots::skip::{skip_params, skip_stmt};
 
 // The statement at `at`, with `depth` levels left.
-#[cycle(compile_function_emit_block_emit_body_emit_branch_emit_class_emit_elifs_emit_else_emit_for_emit_if_emit_methods_emit_rounds_emit_stmt_emit_stmts_emit_while)]
+#[cycle(emit)]
 fn emit_stmt(
     tree: &[u8],
     at: usize,
@@ -93,7 +93,7 @@ fn emit_stmt(
 }
 
 // So many statements.
-#[cycle(compile_function_emit_block_emit_body_emit_branch_emit_class_emit_elifs_emit_else_emit_for_emit_if_emit_methods_emit_rounds_emit_stmt_emit_stmts_emit_while)]
+#[cycle(emit)]
 fn emit_stmts(
     tree: &[u8],
     at: usize,
@@ -126,7 +126,7 @@ fn emit_stmts(
 }
 
 // The block at `at`.
-#[cycle(compile_function_emit_block_emit_body_emit_branch_emit_class_emit_elifs_emit_else_emit_for_emit_if_emit_methods_emit_rounds_emit_stmt_emit_stmts_emit_while)]
+#[cycle(emit)]
 pub fn emit_block(
     tree: &[u8],
     at: usize,
@@ -161,7 +161,7 @@ pub fn emit_block(
 }
 
 // A condition and a block of an if; the jump to the next end is not known yet.
-#[cycle(compile_function_emit_block_emit_body_emit_branch_emit_class_emit_elifs_emit_else_emit_for_emit_if_emit_methods_emit_rounds_emit_stmt_emit_stmts_emit_while)]
+#[cycle(emit)]
 fn emit_branch(
     tree: &[u8],
     at: usize,
@@ -203,7 +203,7 @@ fn emit_branch(
 }
 
 // A first branch, a count of elifs, these, and an else block or none.
-#[cycle(compile_function_emit_block_emit_body_emit_branch_emit_class_emit_elifs_emit_else_emit_for_emit_if_emit_methods_emit_rounds_emit_stmt_emit_stmts_emit_while)]
+#[cycle(emit)]
 fn emit_if(
     tree: &[u8],
     at: usize,
@@ -230,7 +230,7 @@ fn emit_if(
 }
 
 // So many elifs, and an else block or none, after a branch: each end jump is set when the next one is there.
-#[cycle(compile_function_emit_block_emit_body_emit_branch_emit_class_emit_elifs_emit_else_emit_for_emit_if_emit_methods_emit_rounds_emit_stmt_emit_stmts_emit_while)]
+#[cycle(emit)]
 fn emit_elifs(
     tree: &[u8],
     at: usize,
@@ -266,7 +266,7 @@ fn emit_elifs(
 }
 
 // The byte 0; or 1, and an else block: the last end jump is set.
-#[cycle(compile_function_emit_block_emit_body_emit_branch_emit_class_emit_elifs_emit_else_emit_for_emit_if_emit_methods_emit_rounds_emit_stmt_emit_stmts_emit_while)]
+#[cycle(emit)]
 fn emit_else(
     tree: &[u8],
     at: usize,
@@ -299,7 +299,7 @@ fn emit_else(
 }
 
 // A condition and a block, as long as it holds.
-#[cycle(compile_function_emit_block_emit_body_emit_branch_emit_class_emit_elifs_emit_else_emit_for_emit_if_emit_methods_emit_rounds_emit_stmt_emit_stmts_emit_while)]
+#[cycle(emit)]
 fn emit_while(
     tree: &[u8],
     at: usize,
@@ -342,7 +342,7 @@ fn emit_while(
 }
 
 // A loop variable, what it goes through, and a block.
-#[cycle(compile_function_emit_block_emit_body_emit_branch_emit_class_emit_elifs_emit_else_emit_for_emit_if_emit_methods_emit_rounds_emit_stmt_emit_stmts_emit_while)]
+#[cycle(emit)]
 fn emit_for(
     tree: &[u8],
     at: usize,
@@ -375,7 +375,7 @@ fn emit_for(
 }
 
 // The rounds of a for loop: its variable is at `at`, its block at `block`, and the word `load` loads its iterator.
-#[cycle(compile_function_emit_block_emit_body_emit_branch_emit_class_emit_elifs_emit_else_emit_for_emit_if_emit_methods_emit_rounds_emit_stmt_emit_stmts_emit_while)]
+#[cycle(emit)]
 fn emit_rounds(
     tree: &[u8],
     at: usize,
@@ -413,7 +413,7 @@ fn emit_rounds(
 }
 
 // The block of a function, and its end; its loops keep their iterators in slots from `first` on.
-#[cycle(compile_function_emit_block_emit_body_emit_branch_emit_class_emit_elifs_emit_else_emit_for_emit_if_emit_methods_emit_rounds_emit_stmt_emit_stmts_emit_while)]
+#[cycle(emit)]
 fn emit_body(
     tree: &[u8],
     at: usize,
@@ -440,7 +440,7 @@ fn emit_body(
 }
 
 // The function whose name is at `at`, with its parameters and its block.
-#[cycle(compile_function_emit_block_emit_body_emit_branch_emit_class_emit_elifs_emit_else_emit_for_emit_if_emit_methods_emit_rounds_emit_stmt_emit_stmts_emit_while)]
+#[cycle(emit)]
 fn compile_function(
     tree: &[u8],
     at: usize,
@@ -491,7 +491,7 @@ fn compile_function(
 }
 
 // n methods of a class, each a function; the list is of those so far, by rising names. 65,536 where there is no room.
-#[cycle(compile_function_emit_block_emit_body_emit_branch_emit_class_emit_elifs_emit_else_emit_for_emit_if_emit_methods_emit_rounds_emit_stmt_emit_stmts_emit_while)]
+#[cycle(emit)]
 fn emit_methods(
     tree: &[u8],
     at: usize,
@@ -526,7 +526,7 @@ fn emit_methods(
 }
 
 // The class whose name is at `at`, up to `next`: its number, its methods, its object. Its attributes are not lowered.
-#[cycle(compile_function_emit_block_emit_body_emit_branch_emit_class_emit_elifs_emit_else_emit_for_emit_if_emit_methods_emit_rounds_emit_stmt_emit_stmts_emit_while)]
+#[cycle(emit)]
 fn emit_class(
     tree: &[u8],
     at: usize,

@@ -26,7 +26,7 @@ use parts::numbers::u16_at;
 use slots::skip::skip_expr;
 
 // The value on the stack is stored in the target at `at`, an element of a tuple target. What question 10 refuses stores nothing.
-#[cycle(emit_assign_target_emit_elements)]
+#[cycle(emit)]
 fn emit_assign_target(
     tree: &[u8],
     at: usize,
@@ -68,7 +68,7 @@ fn emit_assign_target(
 }
 
 // n elements, from place i of the value on, go to the targets from `at` on: the later half first.
-#[cycle(emit_assign_target_emit_elements)]
+#[cycle(emit)]
 fn emit_elements(
     tree: &[u8],
     at: usize,

@@ -49,7 +49,7 @@ fn keep_name(
 }
 
 // The names that an expression references.
-#[cycle(collect_referenced_vars_refs_attribute_refs_call_refs_dict_refs_lambda_refs_list_refs_many_refs_two)]
+#[cycle(refs)]
 fn collect_referenced_vars(
     tree: &[u8],
     at: usize,
@@ -85,7 +85,7 @@ fn collect_referenced_vars(
 }
 
 // Those of two expressions.
-#[cycle(collect_referenced_vars_refs_attribute_refs_call_refs_dict_refs_lambda_refs_list_refs_many_refs_two)]
+#[cycle(refs)]
 fn refs_two(
     tree: &[u8],
     at: usize,
@@ -104,7 +104,7 @@ fn refs_two(
 }
 
 // Those of a callee and its arguments.
-#[cycle(collect_referenced_vars_refs_attribute_refs_call_refs_dict_refs_lambda_refs_list_refs_many_refs_two)]
+#[cycle(refs)]
 fn refs_call(
     tree: &[u8],
     at: usize,
@@ -123,7 +123,7 @@ fn refs_call(
 }
 
 // Those of an attribute's object.
-#[cycle(collect_referenced_vars_refs_attribute_refs_call_refs_dict_refs_lambda_refs_list_refs_many_refs_two)]
+#[cycle(refs)]
 fn refs_attribute(
     tree: &[u8],
     at: usize,
@@ -144,7 +144,7 @@ fn refs_attribute(
 }
 
 // Those of a count of expressions.
-#[cycle(collect_referenced_vars_refs_attribute_refs_call_refs_dict_refs_lambda_refs_list_refs_many_refs_two)]
+#[cycle(refs)]
 fn refs_list(
     tree: &[u8],
     at: usize,
@@ -162,7 +162,7 @@ fn refs_list(
 }
 
 // Those of a count of keys and values.
-#[cycle(collect_referenced_vars_refs_attribute_refs_call_refs_dict_refs_lambda_refs_list_refs_many_refs_two)]
+#[cycle(refs)]
 fn refs_dict(
     tree: &[u8],
     at: usize,
@@ -180,7 +180,7 @@ fn refs_dict(
 }
 
 // Those of so many expressions.
-#[cycle(collect_referenced_vars_refs_attribute_refs_call_refs_dict_refs_lambda_refs_list_refs_many_refs_two)]
+#[cycle(refs)]
 fn refs_many(
     tree: &[u8],
     at: usize,
@@ -207,7 +207,7 @@ fn refs_many(
 }
 
 // Those of a lambda: in its body its parameters are marked, too.
-#[cycle(collect_referenced_vars_refs_attribute_refs_call_refs_dict_refs_lambda_refs_list_refs_many_refs_two)]
+#[cycle(refs)]
 fn refs_lambda(
     tree: &[u8],
     at: usize,

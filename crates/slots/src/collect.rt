@@ -37,7 +37,7 @@ fn gather_name(tree: &[u8], at: usize, next: usize, slots: &mut [u32], n: u32) -
 }
 
 // A target: a variable gives its name a slot, a tuple its elements, from left to right.
-#[cycle(gather_target_gather_targets)]
+#[cycle(gather_targets)]
 fn gather_target(tree: &[u8], at: usize, depth: u32, slots: &mut [u32], n: u32) -> Gathered
     requires { Room tree.now slots.old n × ExprReads depth tree.now at }
     ensures { Gathers result tree.now slots.new (expr_at depth tree.now at).end (add_target (expr_at depth tree.now at).value (first_names tree.now n slots.old)) }
@@ -56,7 +56,7 @@ fn gather_target(tree: &[u8], at: usize, depth: u32, slots: &mut [u32], n: u32) 
 }
 
 // So many targets.
-#[cycle(gather_target_gather_targets)]
+#[cycle(gather_targets)]
 fn gather_targets(
     tree: &[u8],
     at: usize,
@@ -118,7 +118,7 @@ fn gather_plain(tree: &[u8], at: usize, depth: u32, slots: &mut [u32], n: u32) -
 }
 
 // A statement.
-#[cycle(gather_block_gather_branch_gather_elifs_gather_else_gather_for_gather_if_gather_stmt)]
+#[cycle(gather)]
 fn gather_stmt(
     tree: &[u8],
     at: usize,
@@ -141,7 +141,7 @@ fn gather_stmt(
 }
 
 // A block.
-#[cycle(gather_block_gather_branch_gather_elifs_gather_else_gather_for_gather_if_gather_stmt)]
+#[cycle(gather)]
 fn gather_block(
     tree: &[u8],
     at: usize,
@@ -170,7 +170,7 @@ fn gather_block(
 }
 
 // A condition and a block.
-#[cycle(gather_block_gather_branch_gather_elifs_gather_else_gather_for_gather_if_gather_stmt)]
+#[cycle(gather)]
 fn gather_branch(
     tree: &[u8],
     at: usize,
@@ -188,7 +188,7 @@ fn gather_branch(
 }
 
 // A first branch, a count of elifs, these, and an else block or none.
-#[cycle(gather_block_gather_branch_gather_elifs_gather_else_gather_for_gather_if_gather_stmt)]
+#[cycle(gather)]
 fn gather_if(
     tree: &[u8],
     at: usize,
@@ -211,7 +211,7 @@ fn gather_if(
 }
 
 // So many elifs, and an else block or none.
-#[cycle(gather_block_gather_branch_gather_elifs_gather_else_gather_for_gather_if_gather_stmt)]
+#[cycle(gather)]
 fn gather_elifs(
     tree: &[u8],
     at: usize,
@@ -241,7 +241,7 @@ fn gather_elifs(
 }
 
 // The byte 0; or 1, and an else block.
-#[cycle(gather_block_gather_branch_gather_elifs_gather_else_gather_for_gather_if_gather_stmt)]
+#[cycle(gather)]
 fn gather_else(
     tree: &[u8],
     at: usize,
@@ -272,7 +272,7 @@ fn one_more(m: u32) -> u32
 }
 
 // A loop variable, what it goes through, and a block.
-#[cycle(gather_block_gather_branch_gather_elifs_gather_else_gather_for_gather_if_gather_stmt)]
+#[cycle(gather)]
 fn gather_for(
     tree: &[u8],
     at: usize,

@@ -31,7 +31,7 @@ pub fn skip_params(tree: &[u8], at: usize) -> usize
 }
 
 // Where the expression at `at` ends.
-#[cycle(skip_attribute_skip_call_skip_dict_skip_expr_skip_lambda_skip_list_skip_many_skip_two_skip_value)]
+#[cycle(skip_exprs)]
 pub fn skip_expr(tree: &[u8], at: usize, depth: u32) -> usize
     requires { ExprReads depth tree.now at }
     ensures { result ≡ (expr_at depth tree.now at).end }
@@ -59,7 +59,7 @@ pub fn skip_expr(tree: &[u8], at: usize, depth: u32) -> usize
 }
 
 // Where the expression at `at` ends; constants, numbers and variables need no call of skip_expr.
-#[cycle(skip_attribute_skip_call_skip_dict_skip_expr_skip_lambda_skip_list_skip_many_skip_two_skip_value)]
+#[cycle(skip_exprs)]
 pub(crate) fn skip_value(tree: &[u8], at: usize, depth: u32) -> usize
     requires { ExprReads depth tree.now at }
     ensures { result ≡ (expr_at depth tree.now at).end }
@@ -78,7 +78,7 @@ pub(crate) fn skip_value(tree: &[u8], at: usize, depth: u32) -> usize
 }
 
 // Where the second of two expressions ends.
-#[cycle(skip_attribute_skip_call_skip_dict_skip_expr_skip_lambda_skip_list_skip_many_skip_two_skip_value)]
+#[cycle(skip_exprs)]
 fn skip_two(tree: &[u8], at: usize, depth: u32) -> usize
     requires { TwoAt depth tree.now at }
     ensures { result ≡ (second_at depth tree.now at).end }
@@ -88,7 +88,7 @@ fn skip_two(tree: &[u8], at: usize, depth: u32) -> usize
 }
 
 // Where the arguments after a callee end.
-#[cycle(skip_attribute_skip_call_skip_dict_skip_expr_skip_lambda_skip_list_skip_many_skip_two_skip_value)]
+#[cycle(skip_exprs)]
 fn skip_call(tree: &[u8], at: usize, depth: u32) -> usize
     requires { CallAt depth tree.now at }
     ensures { result ≡ (list_at depth tree.now (expr_at depth tree.now at).end).end }
@@ -98,7 +98,7 @@ fn skip_call(tree: &[u8], at: usize, depth: u32) -> usize
 }
 
 // Where the name after an object ends.
-#[cycle(skip_attribute_skip_call_skip_dict_skip_expr_skip_lambda_skip_list_skip_many_skip_two_skip_value)]
+#[cycle(skip_exprs)]
 fn skip_attribute(tree: &[u8], at: usize, depth: u32) -> usize
     requires { AttributeAt depth tree.now at }
     ensures { result ≡ name_end tree.now (expr_at depth tree.now at).end }
@@ -108,7 +108,7 @@ fn skip_attribute(tree: &[u8], at: usize, depth: u32) -> usize
 }
 
 // Where a count of expressions ends.
-#[cycle(skip_attribute_skip_call_skip_dict_skip_expr_skip_lambda_skip_list_skip_many_skip_two_skip_value)]
+#[cycle(skip_exprs)]
 fn skip_list(tree: &[u8], at: usize, depth: u32) -> usize
     requires { ListAt depth tree.now at }
     ensures { result ≡ (list_at depth tree.now at).end }
@@ -118,7 +118,7 @@ fn skip_list(tree: &[u8], at: usize, depth: u32) -> usize
 }
 
 // Where a count of keys and values ends.
-#[cycle(skip_attribute_skip_call_skip_dict_skip_expr_skip_lambda_skip_list_skip_many_skip_two_skip_value)]
+#[cycle(skip_exprs)]
 fn skip_dict(tree: &[u8], at: usize, depth: u32) -> usize
     requires { DictAt depth tree.now at }
     ensures { result ≡ (pairs_at depth tree.now at).end }
@@ -128,7 +128,7 @@ fn skip_dict(tree: &[u8], at: usize, depth: u32) -> usize
 }
 
 // Where so many expressions end.
-#[cycle(skip_attribute_skip_call_skip_dict_skip_expr_skip_lambda_skip_list_skip_many_skip_two_skip_value)]
+#[cycle(skip_exprs)]
 fn skip_many(tree: &[u8], at: usize, depth: u32, count: u32) -> usize
     requires { ExprsRead depth count tree.now at }
     ensures { result ≡ (exprs_at depth count tree.now at).end }
@@ -143,7 +143,7 @@ fn skip_many(tree: &[u8], at: usize, depth: u32, count: u32) -> usize
 }
 
 // Where the body after parameters ends.
-#[cycle(skip_attribute_skip_call_skip_dict_skip_expr_skip_lambda_skip_list_skip_many_skip_two_skip_value)]
+#[cycle(skip_exprs)]
 fn skip_lambda(tree: &[u8], at: usize, depth: u32) -> usize
     requires { LambdaAt depth tree.now at }
     ensures { result ≡ (expr_at depth tree.now (params_at tree.now at).end).end }
@@ -153,7 +153,7 @@ fn skip_lambda(tree: &[u8], at: usize, depth: u32) -> usize
 }
 
 // Where the statement at `at` ends.
-#[cycle(skip_block_skip_branch_skip_class_skip_def_skip_elifs_skip_else_skip_for_skip_if_skip_methods_skip_stmt)]
+#[cycle(skip_stmts)]
 pub fn skip_stmt(tree: &[u8], at: usize, depth: u32) -> usize
     requires { StmtReads depth tree.now at }
     ensures { result ≡ (stmt_at depth tree.now at).end }
@@ -174,7 +174,7 @@ pub fn skip_stmt(tree: &[u8], at: usize, depth: u32) -> usize
 }
 
 // Where the block at `at` ends.
-#[cycle(skip_block_skip_branch_skip_class_skip_def_skip_elifs_skip_else_skip_for_skip_if_skip_methods_skip_stmt)]
+#[cycle(skip_stmts)]
 fn skip_block(tree: &[u8], at: usize, depth: u32) -> usize
     requires { BlockReads depth tree.now at }
     ensures { result ≡ (block_at depth tree.now at).end }
@@ -189,7 +189,7 @@ fn skip_block(tree: &[u8], at: usize, depth: u32) -> usize
 }
 
 // Where the block after a condition ends.
-#[cycle(skip_block_skip_branch_skip_class_skip_def_skip_elifs_skip_else_skip_for_skip_if_skip_methods_skip_stmt)]
+#[cycle(skip_stmts)]
 fn skip_branch(tree: &[u8], at: usize, depth: u32) -> usize
     requires { BranchAt depth tree.now at }
     ensures { result ≡ (body_at depth tree.now at).end }
@@ -199,7 +199,7 @@ fn skip_branch(tree: &[u8], at: usize, depth: u32) -> usize
 }
 
 // Where a first branch, elifs and an else block or none end.
-#[cycle(skip_block_skip_branch_skip_class_skip_def_skip_elifs_skip_else_skip_for_skip_if_skip_methods_skip_stmt)]
+#[cycle(skip_stmts)]
 fn skip_if(tree: &[u8], at: usize, depth: u32) -> usize
     requires { IfAt depth tree.now at }
     ensures { result ≡ (elifs_at depth tree.now at).end }
@@ -210,7 +210,7 @@ fn skip_if(tree: &[u8], at: usize, depth: u32) -> usize
 }
 
 // Where so many elifs and an else block or none end.
-#[cycle(skip_block_skip_branch_skip_class_skip_def_skip_elifs_skip_else_skip_for_skip_if_skip_methods_skip_stmt)]
+#[cycle(skip_stmts)]
 fn skip_elifs(tree: &[u8], at: usize, depth: u32, count: u32) -> usize
     requires { BranchesRead depth count tree.now at }
     ensures { result ≡ (branches_at depth count tree.now at).end }
@@ -225,7 +225,7 @@ fn skip_elifs(tree: &[u8], at: usize, depth: u32, count: u32) -> usize
 }
 
 // The byte 0; or 1, and an else block.
-#[cycle(skip_block_skip_branch_skip_class_skip_def_skip_elifs_skip_else_skip_for_skip_if_skip_methods_skip_stmt)]
+#[cycle(skip_stmts)]
 fn skip_else(tree: &[u8], at: usize, depth: u32) -> usize
     requires { BranchesRead depth 0 tree.now at }
     ensures { result ≡ (branches_at depth 0 tree.now at).end }
@@ -237,7 +237,7 @@ fn skip_else(tree: &[u8], at: usize, depth: u32) -> usize
 }
 
 // Where the block of a loop over an expression ends.
-#[cycle(skip_block_skip_branch_skip_class_skip_def_skip_elifs_skip_else_skip_for_skip_if_skip_methods_skip_stmt)]
+#[cycle(skip_stmts)]
 fn skip_for(tree: &[u8], at: usize, depth: u32) -> usize
     requires { ForAt depth tree.now at }
     ensures { result ≡ (body_at depth tree.now (name_end tree.now at)).end }
@@ -247,7 +247,7 @@ fn skip_for(tree: &[u8], at: usize, depth: u32) -> usize
 }
 
 // Where the block of a def or method ends.
-#[cycle(skip_block_skip_branch_skip_class_skip_def_skip_elifs_skip_else_skip_for_skip_if_skip_methods_skip_stmt)]
+#[cycle(skip_stmts)]
 fn skip_def(tree: &[u8], at: usize, depth: u32) -> usize
     requires { DefAt depth tree.now at }
     ensures { result ≡ (def_block_at depth tree.now at).end }
@@ -258,7 +258,7 @@ fn skip_def(tree: &[u8], at: usize, depth: u32) -> usize
 }
 
 // Where so many methods end.
-#[cycle(skip_block_skip_branch_skip_class_skip_def_skip_elifs_skip_else_skip_for_skip_if_skip_methods_skip_stmt)]
+#[cycle(skip_stmts)]
 fn skip_methods(tree: &[u8], at: usize, depth: u32, count: u32) -> usize
     requires { MethodsRead depth count tree.now at }
     ensures { result ≡ (methods_at depth count tree.now at).end }
@@ -288,7 +288,7 @@ fn skip_attributes(tree: &[u8], at: usize, depth: u32) -> usize
 }
 
 // Where a class's methods and attributes end.
-#[cycle(skip_block_skip_branch_skip_class_skip_def_skip_elifs_skip_else_skip_for_skip_if_skip_methods_skip_stmt)]
+#[cycle(skip_stmts)]
 fn skip_class(tree: &[u8], at: usize, depth: u32) -> usize
     requires { ClassAt depth tree.now at }
     ensures { result ≡ (attributes_at depth tree.now (class_methods_at depth tree.now at).end).end }

@@ -97,7 +97,7 @@ pub(crate) fn check_attributes(tree: &[u8], at: usize, depth: u32, stand: u32) -
 }
 
 // A statement with `depth` levels left; `looped` says whether a loop of the same function is around.
-#[cycle(check_block_check_branch_check_class_check_def_check_elifs_check_else_check_for_check_if_check_method_check_methods_check_stmt)]
+#[cycle(check)]
 pub(crate) fn check_stmt(tree: &[u8], at: usize, depth: u32, looped: bool, stand: u32) -> Passed
     requires { at ≤ length tree.now }
     ensures { result ≡ judge_stmt looped depth tree.now at stand }
@@ -126,7 +126,7 @@ pub(crate) fn check_stmt(tree: &[u8], at: usize, depth: u32, looped: bool, stand
 }
 
 // A block.
-#[cycle(check_block_check_branch_check_class_check_def_check_elifs_check_else_check_for_check_if_check_method_check_methods_check_stmt)]
+#[cycle(check)]
 pub(crate) fn check_block(tree: &[u8], at: usize, depth: u32, looped: bool, stand: u32) -> Passed
     requires { at ≤ length tree.now }
     ensures { result ≡ judge_block looped depth tree.now at stand }
@@ -153,7 +153,7 @@ pub(crate) fn check_block(tree: &[u8], at: usize, depth: u32, looped: bool, stan
 }
 
 // A condition and a block.
-#[cycle(check_block_check_branch_check_class_check_def_check_elifs_check_else_check_for_check_if_check_method_check_methods_check_stmt)]
+#[cycle(check)]
 fn check_branch(tree: &[u8], at: usize, depth: u32, looped: bool, stand: u32) -> Passed
     requires { at ≤ length tree.now }
     ensures { result ≡ judge_branch looped depth tree.now at stand }
@@ -166,7 +166,7 @@ fn check_branch(tree: &[u8], at: usize, depth: u32, looped: bool, stand: u32) ->
 }
 
 // A first branch, a count of elifs, these, and an else block or none.
-#[cycle(check_block_check_branch_check_class_check_def_check_elifs_check_else_check_for_check_if_check_method_check_methods_check_stmt)]
+#[cycle(check)]
 fn check_if(tree: &[u8], at: usize, depth: u32, looped: bool, stand: u32) -> Passed
     requires { at ≤ length tree.now }
     ensures { result ≡ judge_if looped depth tree.now at stand }
@@ -183,7 +183,7 @@ fn check_if(tree: &[u8], at: usize, depth: u32, looped: bool, stand: u32) -> Pas
 }
 
 // n elifs, and an else block or none.
-#[cycle(check_block_check_branch_check_class_check_def_check_elifs_check_else_check_for_check_if_check_method_check_methods_check_stmt)]
+#[cycle(check)]
 fn check_elifs(tree: &[u8], at: usize, depth: u32, looped: bool, n: u32, stand: u32) -> Passed
     requires { at ≤ length tree.now }
     ensures { result ≡ judge_branches looped depth tree.now n at stand }
@@ -204,7 +204,7 @@ fn check_elifs(tree: &[u8], at: usize, depth: u32, looped: bool, n: u32, stand: 
 }
 
 // The byte 0; or 1, and an else block.
-#[cycle(check_block_check_branch_check_class_check_def_check_elifs_check_else_check_for_check_if_check_method_check_methods_check_stmt)]
+#[cycle(check)]
 fn check_else(tree: &[u8], at: usize, depth: u32, looped: bool, stand: u32) -> Passed
     requires { at ≤ length tree.now }
     ensures { result ≡ judge_branches looped depth tree.now 0 at stand }
@@ -221,7 +221,7 @@ fn check_else(tree: &[u8], at: usize, depth: u32, looped: bool, stand: u32) -> P
 }
 
 // A variable's name, an expression and a block.
-#[cycle(check_block_check_branch_check_class_check_def_check_elifs_check_else_check_for_check_if_check_method_check_methods_check_stmt)]
+#[cycle(check)]
 fn check_for(tree: &[u8], at: usize, depth: u32, stand: u32) -> Passed
     requires { at ≤ length tree.now }
     ensures { result ≡ judge_for depth tree.now at stand }
@@ -234,7 +234,7 @@ fn check_for(tree: &[u8], at: usize, depth: u32, stand: u32) -> Passed
 }
 
 // A name, parameters and a block.
-#[cycle(check_block_check_branch_check_class_check_def_check_elifs_check_else_check_for_check_if_check_method_check_methods_check_stmt)]
+#[cycle(check)]
 fn check_def(tree: &[u8], at: usize, depth: u32, stand: u32) -> Passed
     requires { at ≤ length tree.now }
     ensures { result ≡ judge_def depth tree.now at stand }
@@ -251,7 +251,7 @@ fn check_def(tree: &[u8], at: usize, depth: u32, stand: u32) -> Passed
 }
 
 // A method.
-#[cycle(check_block_check_branch_check_class_check_def_check_elifs_check_else_check_for_check_if_check_method_check_methods_check_stmt)]
+#[cycle(check)]
 fn check_method(tree: &[u8], at: usize, depth: u32, stand: u32) -> Passed
     requires { at ≤ length tree.now }
     ensures { result ≡ judge_method depth tree.now at stand }
@@ -264,7 +264,7 @@ fn check_method(tree: &[u8], at: usize, depth: u32, stand: u32) -> Passed
 }
 
 // n methods.
-#[cycle(check_block_check_branch_check_class_check_def_check_elifs_check_else_check_for_check_if_check_method_check_methods_check_stmt)]
+#[cycle(check)]
 fn check_methods(tree: &[u8], at: usize, depth: u32, n: u32, stand: u32) -> Passed
     requires { at ≤ length tree.now }
     ensures { result ≡ judge_methods depth tree.now n at stand }
@@ -285,7 +285,7 @@ fn check_methods(tree: &[u8], at: usize, depth: u32, n: u32, stand: u32) -> Pass
 }
 
 // A name, a count of methods, these, and the attributes.
-#[cycle(check_block_check_branch_check_class_check_def_check_elifs_check_else_check_for_check_if_check_method_check_methods_check_stmt)]
+#[cycle(check)]
 fn check_class(tree: &[u8], at: usize, depth: u32, stand: u32) -> Passed
     requires { at ≤ length tree.now }
     ensures { result ≡ judge_class depth tree.now at stand }

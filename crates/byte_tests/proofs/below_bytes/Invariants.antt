@@ -1,0 +1,13 @@
+use native.Mathlib.Omega.{arith}
+use Prim.Native.Nat.{◌-◌}
+use mathlib.Core.Path.{◌≡◌, refl, sym, ◌∙◌}
+use lib.ListN.{length, drop}
+use Rattle.definitions.specs.Bytes.{below}
+use Rattle.byte_tests.proofs.Below.{below-ended, below-differ, below-go, below_all}
+use Rattle.byte_tests.proofs.below_bytes.Given as goal
+
+abbrev pub invariant-loop-i : goal.invariant-loop-i
+invariant-loop-i l = below l.a l.b ≡ below (drop l.i l.a) (drop l.i l.b)
+
+abbrev pub decreases-loop-i : goal.decreases-loop-i
+decreases-loop-i l = length l.a - l.i

@@ -1,0 +1,15 @@
+use native.Mathlib.Omega.{arith}
+use borrow.Author.Rules.{rules}
+use Prim.Native.Nat.{◌≤◌}
+use lib.ListN.{length}
+use Rattle.definitions.specs.Columns.{right_in}
+use Rattle.columns.specs.Fields.{field_text}
+use Rattle.columns.proofs.Right.{Ended, ended-length}
+use Rattle.columns.proofs.Splitting.{field-start, field_next, field-done}
+use Rattle.columns.proofs.put_field.Given as goal
+
+abbrev pub invariant-loop-i : goal.invariant-loop-i
+invariant-loop-i l = (l.i ≤ l.w) × (length (field_text l.rest) ≤ l.i) × Ended (right_in l.w (field_text l.initial.rest)) l.initial.out l.out (right_in l.i (field_text l.rest))
+
+abbrev pub decreases-loop-i : goal.decreases-loop-i
+decreases-loop-i l = l.i

@@ -1,0 +1,14 @@
+use borrow.Author.Rules.{rules}
+use native.Mathlib.Omega.{arith}
+use Rattle.definitions.specs.Calls.{sheet_call}
+use Rattle.definitions.specs.Sheet.{sheet}
+use Rattle.exports.proofs.Telling.{text-few, text-told}
+use Rattle.exports.proofs.rulketoos_count_sheet.Goals as goal
+
+pub tell_text-requires : goal.tell_text-requires
+unfolding sheet_call
+tell_text-requires c = text-few 32 sheet _ _ _ _ c.count_sheet-answer.ensures (omega (arith, c.well-formed))
+
+pub returns : goal.returns
+unfolding sheet_call
+returns c = text-told 32 sheet _ _ _ _ c.count_sheet-answer.ensures _ c.tell_text.ensures

@@ -1,0 +1,46 @@
+use Rattle.parts.proofs.LeafLaws.{operator-inside, guard-yes, guard-no}
+use Rattle.exprs.proofs.ExprLaws.{many-stand, at_none, at-false, at_true, at-int, at-float, at-string, at-var, at-unary, at-binary, at_call, at-attribute, at-list, at-dict, at-tuple, at_set, at-tree-set, at-index, at-lambda, tuple-role, expr-none, expr-end, expr-unknown, many-none, many_more}
+use mathlib.Core.Path.{◌≡◌, refl, sym, ◌∙◌}
+use borrow.Author.Rules.{rules}
+use native.Mathlib.Omega.{arith}
+use Prim.Native.Nat.{ℕ, ◌+◌, ◌*◌, ◌≤◌, ◌<◌}
+use lib.ListN.{length}
+use Rattle.parts.proofs.Laws.{up, then_next, then-refused, with-number, with-unread, judged-within, number-within}
+use Rattle.parts.specs.Judge.{judge_two, judge_call, judge_args, judge_display, judge_pairs, judge_attribute, judge_lambda, judge_unary, judge_binary, judge_many}
+use Rattle.exprs.proofs.+check.Given as goal
+
+abbrev pub decreases-check_attribute : goal.decreases-check_attribute
+decreases-check_attribute l = 4 * l.depth + 1
+
+abbrev pub decreases-check_binary : goal.decreases-check_binary
+decreases-check_binary l = 4 * l.depth + 2
+
+abbrev pub decreases-check_call : goal.decreases-check_call
+decreases-check_call l = 4 * l.depth + 2
+
+abbrev pub decreases-check_display : goal.decreases-check_display
+decreases-check_display l = 4 * l.depth + 2
+
+abbrev pub decreases-check_expr : goal.decreases-check_expr
+decreases-check_expr l = 4 * l.depth
+
+abbrev pub decreases-check_lambda : goal.decreases-check_lambda
+decreases-check_lambda l = 4 * l.depth + 1
+
+abbrev pub decreases-check_many : goal.decreases-check_many
+decreases-check_many l = 4 * l.depth + 1
+
+abbrev pub decreases-check_pairs : goal.decreases-check_pairs
+decreases-check_pairs l = 4 * l.depth + 2
+
+abbrev pub decreases-check_two : goal.decreases-check_two
+decreases-check_two l = 4 * l.depth + 1
+
+abbrev pub decreases-check_unary : goal.decreases-check_unary
+decreases-check_unary l = 4 * l.depth + 1
+
+abbrev pub invariant-check_many-loop-left : goal.invariant-check_many-loop-left
+invariant-check_many-loop-left l = (judge_many l.role l.depth l.tree l.initial.left l.initial.p l.initial.w ≡ judge_many l.role l.depth l.tree l.left l.p l.w) × (l.p ≤ length l.tree)
+
+abbrev pub decreases-check_many-loop-left : goal.decreases-check_many-loop-left
+decreases-check_many-loop-left l = l.left

@@ -1,0 +1,59 @@
+use borrow.Author.Rules.{rules}
+use native.Mathlib.Omega.{arith}
+use mathlib.Core.Path.{refl}
+use Prim.Native.Nat.{ℕ, ◌+◌, ◌-◌, ◌*◌, ◌<◌}
+use Rattle.tree.proofs.StmtViews.{stmt-inside, stmt-deep, stmt-known, view-expr, view-return, view-assign, view-if, view-while, view-for, view-def, view-class, view-block, view-stmts-more, view-branches-more, view-methods-more, else-inside}
+use Rattle.state.specs.State.{slot_names}
+use Rattle.slots.proofs.Gathering.{elifs-counted, elifs-read, elifs-are, else-reads}
+use Rattle.fits.proofs.Walking.{walks_next, first-over, second_walks, left-start, left-next, left_over, left-done, left_as, def-over, def-few, def-short}
+use Rattle.fits.proofs.ExprKinds.{long-enough}
+use Rattle.fits.proofs.StmtKinds.{fits-value, fits-return, fits-assign, fits-if, fits-while, fits-for, fits-def, fits-class, three-kinds, fits-pass, block-there, block-moved, fits-node, branch-there, branch-moved, StmtsLeft, stmts-step, stmts-end, stmts-ok, stmts-start, fits-block, BranchesLeft, branches-step, branches-last, branches-none, else-none, else-some, MethodsLeft, methods-step, methods-end, methods-ok, def-params, def-block, def_body, class-count, class-methods, class-over, class-done, def-framed}
+use Rattle.fits.proofs.statements.+fits.Given as goal
+
+abbrev pub decreases-fits_block : goal.decreases-fits_block
+decreases-fits_block l = 10 * l.depth + 1
+
+abbrev pub decreases-fits_branch : goal.decreases-fits_branch
+decreases-fits_branch l = 10 * l.depth + 2
+
+abbrev pub decreases-fits_class : goal.decreases-fits_class
+decreases-fits_class l = 10 * l.depth - 1
+
+abbrev pub decreases-fits_def : goal.decreases-fits_def
+decreases-fits_def l = 10 * l.depth + 2
+
+abbrev pub decreases-fits_elifs : goal.decreases-fits_elifs
+decreases-fits_elifs l = 10 * l.depth + 3
+
+abbrev pub decreases-fits_else : goal.decreases-fits_else
+decreases-fits_else l = 10 * l.depth + 2
+
+abbrev pub decreases-fits_for : goal.decreases-fits_for
+decreases-fits_for l = 10 * l.depth + 3
+
+abbrev pub decreases-fits_if : goal.decreases-fits_if
+decreases-fits_if l = 10 * l.depth + 4
+
+abbrev pub decreases-fits_methods : goal.decreases-fits_methods
+decreases-fits_methods l = 10 * l.depth + 3
+
+abbrev pub decreases-fits_stmt : goal.decreases-fits_stmt
+decreases-fits_stmt l = 10 * l.depth
+
+abbrev pub invariant-fits_block-loop-left : goal.invariant-fits_block-loop-left
+invariant-fits_block-loop-left l = StmtsLeft l.depth l.tree (slot_names l.tree l.slots) l.initial.left l.initial.p l.left l.p
+
+abbrev pub decreases-fits_block-loop-left : goal.decreases-fits_block-loop-left
+decreases-fits_block-loop-left l = l.left
+
+abbrev pub invariant-fits_elifs-loop-left : goal.invariant-fits_elifs-loop-left
+invariant-fits_elifs-loop-left l = BranchesLeft l.depth l.tree (slot_names l.tree l.slots) l.initial.left l.initial.p l.left l.p
+
+abbrev pub decreases-fits_elifs-loop-left : goal.decreases-fits_elifs-loop-left
+decreases-fits_elifs-loop-left l = l.left
+
+abbrev pub invariant-fits_methods-loop-left : goal.invariant-fits_methods-loop-left
+invariant-fits_methods-loop-left l = MethodsLeft l.depth l.tree l.initial.left l.initial.p l.left l.p
+
+abbrev pub decreases-fits_methods-loop-left : goal.decreases-fits_methods-loop-left
+decreases-fits_methods-loop-left l = l.left

@@ -1,0 +1,17 @@
+use borrow.Author.Rules.{rules}
+use Rattle.lowering.proofs.Answering.{set-limited, lowers-first, lowers-second, lowers-all}
+use Rattle.lowering.proofs.lower.Goals as goal
+
+pub returns-then-area1-lt-AREA : goal.returns-then-area1-lt-AREA
+returns-then-area1-lt-AREA c = lowers-first _ _ _ _ _ c.if-area1-lt-AREA.true
+
+pub returns-then-area2-lt-AREA : goal.returns-then-area2-lt-AREA
+returns-then-area2-lt-AREA c = lowers-second _ _ _ _ _ c.if-area1-lt-AREA.false c.if-area2-lt-AREA.true
+
+pub lower_into-r-requires : goal.lower_into-r-requires
+lower_into-r-requires c = (c.if-area1-lt-AREA.false, c.if-area2-lt-AREA.false, set-limited _ _ c.limit_numbers-l.ensures)
+
+pub returns : goal.returns
+returns c =
+    lowers-all _ _ _ _ _ _ c.limit_numbers-l.ensures c.if-area1-lt-AREA.false c.if-area2-lt-AREA.false _ _ _ _ _ _ c.lower_into-r.ensures
+    c.lower_into-r.auto.code c.lower_into-r.auto.tables c.clear.ensures c.clear-2.ensures

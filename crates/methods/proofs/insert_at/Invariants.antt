@@ -1,0 +1,10 @@
+use native.Mathlib.Omega.{arith}
+use Prim.Native.Nat.{◌+◌, ◌-◌, ◌≤◌}
+use Rattle.methods.proofs.Sorting.{Shifted, shift_none, shift-more, shift-all}
+use Rattle.methods.proofs.insert_at.Given as goal
+
+abbrev pub invariant-loop-j : goal.invariant-loop-j
+invariant-loop-j l = (l.j ≤ l.n + 1) × Shifted l.i l.w l.initial.list l.j l.v l.list
+
+abbrev pub decreases-loop-j : goal.decreases-loop-j
+decreases-loop-j l = l.n + 1 - l.j

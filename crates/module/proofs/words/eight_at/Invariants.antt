@@ -1,0 +1,13 @@
+use borrow.Author.Rules.{rules}
+use native.Mathlib.Omega.{arith}
+use mathlib.Core.Path.{◌≡◌, sym, ap, ◌∙◌}
+use Prim.Native.Nat.{ℕ, ◌+◌, ◌*◌, ◌-◌, ◌^◌, ◌<◌, ◌≤◌}
+use Rattle.state.specs.Words.{number_at}
+use Rattle.module.proofs.Encoding.{horner, grows, small_one, number-start, number-all}
+use Rattle.module.proofs.words.eight_at.Given as goal
+
+abbrev pub invariant-loop-i : goal.invariant-loop-i
+invariant-loop-i l = (l.i ≤ 8) × (l.n < 256 ^ l.i) × (number_at 8 l.bytes l.at ≡ l.n * 256 ^ (8 - l.i) + number_at (8 - l.i) l.bytes (l.at + l.i))
+
+abbrev pub decreases-loop-i : goal.decreases-loop-i
+decreases-loop-i l = 8 - l.i

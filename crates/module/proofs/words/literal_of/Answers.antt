@@ -1,0 +1,12 @@
+use native.Mathlib.Omega.{arith}
+use mathlib.Core.Path.{◌∙◌}
+use mathlib.Core.List.{[]}
+use borrow.Author.Rules.{rules}
+use Rattle.exprs.proofs.LiteralLaws.{int-bits, float-bits}
+use Rattle.module.proofs.words.literal_of.Goals as goal
+
+pub returns-then-w-lt-WORD_OP : goal.returns-then-w-lt-WORD_OP
+returns-then-w-lt-WORD_OP c = let h = c.int_literal.ensures [] in (h.plain, int-bits _ _ [] h ∙ c.eight_at-bits.ensures)
+
+pub returns : goal.returns
+returns c = let h = c.float_literal.ensures [] in (h.plain, float-bits _ _ [] h ∙ c.eight_at-bits.ensures)

@@ -1,0 +1,12 @@
+use Prim.Native.Nat.{◌-◌}
+use native.Mathlib.Omega.{arith}
+use borrow.Author.Rules.{rules}
+use Rattle.parts.proofs.NameLaws.{there-first}
+use Rattle.parts.proofs.SearchLaws.{Sifting, sift-start, sift-asks, sift-there, sift-next, sift-twice, sift-end, puts-new, puts-twice}
+use Rattle.parts.proofs.distinct.distinct_many.Given as goal
+
+abbrev pub invariant-loop-count : goal.invariant-loop-count
+invariant-loop-count l = Sifting l.tree l.n l.at l.count l.p l.table
+
+abbrev pub decreases-loop-count : goal.decreases-loop-count
+decreases-loop-count l = l.n - l.count

@@ -1,0 +1,15 @@
+use mathlib.Core.Path.{refl}
+use Prim.Native.Nat.{◌+◌, ◌-◌}
+use native.Mathlib.Omega.{arith}
+use borrow.Author.Rules.{rules}
+use Rattle.parts.specs.Places.{name_bytes, names_from}
+use Rattle.parts.specs.Search.{Searches, Puts}
+use Rattle.parts.proofs.NameLaws.{same-as}
+use Rattle.parts.proofs.SearchLaws.{Seeking, seek-start, put-twice, put_next, put-here, entry-low}
+use Rattle.parts.proofs.distinct.put_name.Given as goal
+
+abbrev pub invariant-loop-k : goal.invariant-loop-k
+invariant-loop-k l = Searches l.tree l.table l.root (names_from l.tree l.count l.root) × Seeking l.tree l.table l.root (names_from l.tree l.count l.root) (name_bytes l.tree l.at) l.k l.p
+
+abbrev pub decreases-loop-k : goal.decreases-loop-k
+decreases-loop-k l = l.most - l.k

@@ -1,0 +1,21 @@
+use mathlib.Core.Path.{◌≡◌, refl, sym, ◌∙◌}
+use Prim.Native.Nat.{◌≤◌}
+use native.Mathlib.Omega.{arith}
+use borrow.Author.Rules.{rules}
+use lib.ListN.{length}
+use Rattle.parts.specs.Judge.{judge_names}
+use Rattle.parts.proofs.NameLaws.{names-none, names_more}
+use Rattle.parts.proofs.Laws.{then_next, then-refused, judged-within}
+use Rattle.parts.proofs.params.check_names.Goals as goal
+
+pub loop-left-init : goal.loop-left-init
+loop-left-init c = (refl, omega arith)
+
+pub returns-in_default : goal.returns-in_default
+returns-in_default c = c.in_default.is ∙ sym (c.loop-left.invariant.0 ∙ names_more _ _ _ _ c.loop-left.invariant.1 c.loop-left-test.true ∙ then-refused _ _ _ (sym c.check_name-one.ensures ∙ c.in_default.is))
+
+pub loop-left-preserved : goal.loop-left-preserved
+loop-left-preserved c = let e = sym c.check_name-one.ensures ∙ c.in-Next.is in (c.loop-left.invariant.0 ∙ names_more _ _ _ _ c.loop-left.invariant.1 c.loop-left-test.true ∙ then_next _ _ _ _ e, judged-within _ _ _ _ _ _ _ e)
+
+pub returns : goal.returns
+returns c = sym (c.loop-left.invariant.0 ∙ names-none _ _ _ _ c.loop-left.invariant.1 c.loop-left-test.false)

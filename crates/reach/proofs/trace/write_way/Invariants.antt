@@ -1,0 +1,10 @@
+use mathlib.Core.Path.{refl}
+use native.Mathlib.Omega.{arith}
+use Rattle.reach.proofs.Tracks.{steps_to, place_in, mark-in, some, one_less, Written, written_none, written_all, put-fits, written-more}
+use Rattle.reach.proofs.trace.write_way.Given as goal
+
+abbrev pub invariant-loop-place : goal.invariant-loop-place
+invariant-loop-place l = Written l.area l.place l.end l.p l.at l.initial.out l.out
+
+abbrev pub decreases-loop-place : goal.decreases-loop-place
+decreases-loop-place l = steps_to l.area l.p

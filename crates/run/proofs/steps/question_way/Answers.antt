@@ -1,0 +1,16 @@
+use mathlib.Core.Path.{◌∙◌}
+use Rattle.run.proofs.Flows.{way-true-yes, way-true-no, way-false-yes, way-false-no}
+use borrow.Author.Rules.{rules}
+use Rattle.run.proofs.steps.question_way.Goals as goal
+
+pub returns-then-x-eq1 : goal.returns-then-x-eq1
+returns-then-x-eq1 c = c.jump_target.ensures ∙ way-true-yes _ _ _ _ c.if-op-eq-JUMP_IF_TRUE.true c.if-x-eq1.true
+
+pub returns-then-op-eq-JUMP_IF_TRUE : goal.returns-then-op-eq-JUMP_IF_TRUE
+returns-then-op-eq-JUMP_IF_TRUE c = way-true-no _ _ _ _ c.if-op-eq-JUMP_IF_TRUE.true c.if-x-eq1.false
+
+pub returns-then-x-eq1-2 : goal.returns-then-x-eq1-2
+returns-then-x-eq1-2 c = way-false-yes _ _ _ _ c.if-op-eq-JUMP_IF_TRUE.false c.if-x-eq1-2.true
+
+pub returns : goal.returns
+returns c = c.jump_target-2.ensures ∙ way-false-no _ _ _ _ c.if-op-eq-JUMP_IF_TRUE.false c.if-x-eq1-2.false

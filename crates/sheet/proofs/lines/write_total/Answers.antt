@@ -1,0 +1,8 @@
+use borrow.Author.Rules.{rules}
+use mathlib.Core.Path.{refl}
+use Rattle.definitions.proofs.Sheet.{total-word}
+use Rattle.sheet.proofs.RowLaws.{line-written}
+use Rattle.sheet.proofs.lines.write_total.Goals as goal
+
+pub returns : goal.returns
+returns c = line-written _ total-word refl c.requires.0 _ _ _ c.requires.1 c.write_bytes.ensures.out c.put_counts.ensures

@@ -1,0 +1,13 @@
+use native.Mathlib.Omega.{arith}
+use mathlib.Core.Path.{refl, subst}
+use mathlib.Core.List.{List}
+use Prim.Native.Nat.{ℕ, ◌+◌, ◌-◌, ◌/◌}
+use borrow.Author.Rules.{rules}
+use Rattle.slots.proofs.Spotting.{Seeking, seek-start, seek-down, seek-up, seek-done}
+use Rattle.slots.proofs.order.find_spot.Given as goal
+
+abbrev pub invariant-loop-low : goal.invariant-loop-low
+invariant-loop-low l = Seeking l.tree l.name l.places l.low l.high
+
+abbrev pub decreases-loop-low : goal.decreases-loop-low
+decreases-loop-low l = l.high - l.low

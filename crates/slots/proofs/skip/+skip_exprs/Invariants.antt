@@ -1,0 +1,43 @@
+use native.Mathlib.Omega.{arith}
+use mathlib.Core.Logic.{inl, inr}
+use mathlib.Core.Path.{refl, ap, ◌∙◌}
+use Prim.Native.Nat.{◌+◌, ◌*◌, ◌<◌, ℕ}
+use Rattle.definitions.specs.Tree.{Exprs}
+use Rattle.parts.specs.Places.{Node}
+use Rattle.exprs.proofs.ExprViews.{expr-inside, expr-deep, expr-known, view-int, view-float, view-string, view-var, view-unary, view-binary, view-call, view-attribute, view-list, view-dict, view-tuple, view-set, view-tree-set, view-index, view-lambda}
+use Rattle.slots.proofs.Referring.{list-reads, list-is, dict-reads, dict-is}
+use Rattle.slots.proofs.Skipping.{plain_done, number-done, plain-kinds, int-done, float-done, string-done, var-done, unary-done, binary-done, call-done, attribute-done, display-done, dict-done, index-done, lambda-done, moved-expr, expr-after, moved-list, list-after, moved-name, name-after, ExprsLeft, exprs-head, exprs-next, exprs-done}
+use Rattle.slots.proofs.skip.+skip_exprs.Given as goal
+
+abbrev pub decreases-skip_attribute : goal.decreases-skip_attribute
+decreases-skip_attribute l = 5 * l.depth + 2
+
+abbrev pub decreases-skip_call : goal.decreases-skip_call
+decreases-skip_call l = 5 * l.depth + 4
+
+abbrev pub decreases-skip_dict : goal.decreases-skip_dict
+decreases-skip_dict l = 5 * l.depth + 3
+
+abbrev pub decreases-skip_expr : goal.decreases-skip_expr
+decreases-skip_expr l = 5 * l.depth
+
+abbrev pub decreases-skip_lambda : goal.decreases-skip_lambda
+decreases-skip_lambda l = 5 * l.depth + 1
+
+abbrev pub decreases-skip_list : goal.decreases-skip_list
+decreases-skip_list l = 5 * l.depth + 3
+
+abbrev pub decreases-skip_many : goal.decreases-skip_many
+decreases-skip_many l = 5 * l.depth + 2
+
+abbrev pub decreases-skip_two : goal.decreases-skip_two
+decreases-skip_two l = 5 * l.depth + 2
+
+abbrev pub decreases-skip_value : goal.decreases-skip_value
+decreases-skip_value l = 5 * l.depth + 1
+
+abbrev pub invariant-skip_many-loop-left : goal.invariant-skip_many-loop-left
+invariant-skip_many-loop-left l = ExprsLeft l.depth l.tree l.initial.left l.initial.p l.left l.p
+
+abbrev pub decreases-skip_many-loop-left : goal.decreases-skip_many-loop-left
+decreases-skip_many-loop-left l = l.left

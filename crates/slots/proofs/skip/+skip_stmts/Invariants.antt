@@ -1,0 +1,55 @@
+use native.Mathlib.Omega.{arith}
+use mathlib.Core.Path.{refl}
+use Prim.Native.Nat.{◌+◌, ◌*◌, ◌<◌, ℕ}
+use Rattle.tree.proofs.StmtViews.{stmt-inside, stmt-deep, view-expr, view-return, view-assign, view-if, view-while, view-for, view-def, view-class, view-block, else-inside}
+use Rattle.slots.proofs.Skipping.{moved-params}
+use Rattle.slots.proofs.SkippingStmts.{simple-done, expr-done, return-done, assign-done, if-done, while-done, for-done, def-done, class-done, moved-block, block-after, moved-branch, branch-after, def-block, def-after, StmtsLeft, stmts-start, stmts-head, stmts-next, stmts-done, BranchesLeft, branches-head, branches-next, branches-last, branches-done, else-none, else-reads, else-done, elifs-counted, elifs-read, elifs-done, MethodsLeft, methods-head, methods-next, methods-done, methods-counted, methods-read, attributes-there, attributes-done}
+use Rattle.slots.proofs.skip.+skip_stmts.Given as goal
+
+abbrev pub decreases-skip_block : goal.decreases-skip_block
+decreases-skip_block l = 8 * l.depth + 1
+
+abbrev pub decreases-skip_branch : goal.decreases-skip_branch
+decreases-skip_branch l = 8 * l.depth + 2
+
+abbrev pub decreases-skip_class : goal.decreases-skip_class
+decreases-skip_class l = 8 * l.depth + 4
+
+abbrev pub decreases-skip_def : goal.decreases-skip_def
+decreases-skip_def l = 8 * l.depth + 2
+
+abbrev pub decreases-skip_elifs : goal.decreases-skip_elifs
+decreases-skip_elifs l = 8 * l.depth + 3
+
+abbrev pub decreases-skip_else : goal.decreases-skip_else
+decreases-skip_else l = 8 * l.depth + 2
+
+abbrev pub decreases-skip_for : goal.decreases-skip_for
+decreases-skip_for l = 8 * l.depth + 3
+
+abbrev pub decreases-skip_if : goal.decreases-skip_if
+decreases-skip_if l = 8 * l.depth + 4
+
+abbrev pub decreases-skip_methods : goal.decreases-skip_methods
+decreases-skip_methods l = 8 * l.depth + 3
+
+abbrev pub decreases-skip_stmt : goal.decreases-skip_stmt
+decreases-skip_stmt l = 8 * l.depth
+
+abbrev pub invariant-skip_block-loop-left : goal.invariant-skip_block-loop-left
+invariant-skip_block-loop-left l = StmtsLeft l.depth l.tree l.initial.left l.initial.p l.left l.p
+
+abbrev pub decreases-skip_block-loop-left : goal.decreases-skip_block-loop-left
+decreases-skip_block-loop-left l = l.left
+
+abbrev pub invariant-skip_elifs-loop-left : goal.invariant-skip_elifs-loop-left
+invariant-skip_elifs-loop-left l = BranchesLeft l.depth l.tree l.initial.left l.initial.p l.left l.p
+
+abbrev pub decreases-skip_elifs-loop-left : goal.decreases-skip_elifs-loop-left
+decreases-skip_elifs-loop-left l = l.left
+
+abbrev pub invariant-skip_methods-loop-left : goal.invariant-skip_methods-loop-left
+invariant-skip_methods-loop-left l = MethodsLeft l.depth l.tree l.initial.left l.initial.p l.left l.p
+
+abbrev pub decreases-skip_methods-loop-left : goal.decreases-skip_methods-loop-left
+decreases-skip_methods-loop-left l = l.left

@@ -1,0 +1,10 @@
+use native.Mathlib.Omega.{arith}
+use Rattle.parts.proofs.NameLaws.{there-first}
+use Rattle.slots.proofs.Skipping.{NamesLeft, names-left, names-next, names-done}
+use Rattle.slots.proofs.skip.skip_params.Given as goal
+
+abbrev pub invariant-loop-left : goal.invariant-loop-left
+invariant-loop-left l = NamesLeft l.tree l.initial.left l.initial.p l.left l.p
+
+abbrev pub decreases-loop-left : goal.decreases-loop-left
+decreases-loop-left l = l.left

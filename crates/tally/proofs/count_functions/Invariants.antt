@@ -1,0 +1,10 @@
+use native.Mathlib.Omega.{arith}
+use Rattle.tally.proofs.Walking.{function-head, function-here}
+use Rattle.tally.proofs.Counting.{Summing, summing_start, summing-next, summing-done}
+use Rattle.tally.proofs.count_functions.Given as goal
+
+abbrev pub invariant-loop-left : goal.invariant-loop-left
+invariant-loop-left l = Summing l.count l.bytes l.at l.left l.p l.total
+
+abbrev pub decreases-loop-left : goal.decreases-loop-left
+decreases-loop-left l = l.left

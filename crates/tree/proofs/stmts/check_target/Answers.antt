@@ -1,0 +1,7 @@
+use mathlib.Core.Path.{◌∙◌}
+use borrow.Author.Rules.{rules}
+use Rattle.exprs.proofs.ConstantLaws.{variable-target}
+use Rattle.tree.proofs.stmts.check_target.Goals as goal
+
+pub returns-then-tree-at-eq-VARIABLE : goal.returns-then-tree-at-eq-VARIABLE
+returns-then-tree-at-eq-VARIABLE c = c.check_name.ensures ∙ variable-target _ _ _ _ c.if-depth-ne0.true c.if-at-tree.true c.if-tree-at-eq-VARIABLE.true
