@@ -14,7 +14,7 @@ use Rattle.definitions.proofs.Functions.{set_code-seam}
 use Rattle.definitions.proofs.Every.{Every, no_every, every, every_append, every-mid, every-put, length-put, length-snoc}
 use Rattle.definitions.proofs.Resolve.{position-lt}
 use Rattle.definitions.proofs.Names.{Short}
-use Rattle.definitions.proofs.Bounds.{Lean, Small, Tight, Trim, bare}
+use Rattle.definitions.proofs.Bounds.{Lean, Small, Tight, Trim}
 use Rattle.definitions.proofs.LongerTables.{Longer, Sizes, longer-more, small-down, code_up, tight-up, ordered-up, constants-up}
 use Rattle.definitions.proofs.BoundedPart.{Fits, Kept, Step}
 use Rattle.definitions.proofs.BoundedNames.{symbol-longer, symbol-trim}

@@ -1,12 +1,12 @@
 -- A read takes as many bytes as what was read is written in.
-use Prim.Native.Nat.{ℕ, zero, suc, ◌+◌, ◌*◌, ◌^◌}
-use mathlib.Core.Path.{◌≡◌, refl, sym, ap, ◌∙◌}
+use Prim.Native.Nat.{ℕ, zero, suc, ◌+◌}
+use mathlib.Core.Path.{◌≡◌, refl, ap, ◌∙◌}
 use mathlib.Core.Bool.{Bool, true, false}
 use mathlib.Core.List.{List, [], ◌∷◌, ◌++◌}
 use native.Mathlib.Omega.{arith}
 use lib.Dec.{leb}
 use lib.ListN.{length, length-append}
-use Rattle.definitions.specs.Bytes.{Name, Text, Parsed, got, failed, Parser, ◌>>=◌, give, unread, byte, field, counted, list_of, name, text, keep, checked, be, concat, list_bytes}
+use Rattle.definitions.specs.Bytes.{Parsed, got, failed, Parser, ◌>>=◌, give, unread, byte, field, counted, list_of, name, text, keep, checked, be, concat, list_bytes}
 use Rattle.definitions.specs.Instruction.{Instr, first_width, second_width, encode, encodes}
 use Rattle.definitions.specs.Tables.{Function}
 use Rattle.definitions.specs.Module.{name_bytes, text_bytes, function_bytes}

@@ -2,9 +2,9 @@
 use mathlib.Core.Path.{◌≡◌, refl, ap, ◌∙◌}
 use mathlib.Core.Bool.{Bool, true, false, ◌&&◌}
 use mathlib.Core.Option.{Option, none, some}
-use mathlib.Core.List.{List, [], ◌∷◌, ◌++◌}
+use mathlib.Core.List.{List, [], ◌∷◌}
 use Prim.Native.Nat.{ℕ, zero, suc}
-use lib.ListN.{length, get_or, get_elem?, drop}
+use lib.ListN.{length, get_or, get_elem?}
 use lib.Dec.{eqb, eqb-suc-zero, leb, ltb, leb-zero, leb-suc-zero, leb-suc-suc}
 use Rattle.definitions.specs.Bytes.{Answer, refused, accepted, when_accepted, Parsed, got, failed, all}
 use Rattle.definitions.specs.Instruction.{Instr, encodes}
@@ -13,7 +13,7 @@ use Rattle.definitions.specs.Module.{code_start}
 use Rattle.definitions.specs.Reader.{module_record, numbers_exist, code_stands, whole_module, read_module}
 use Rattle.definitions.specs.Run.{Ran, run}
 use Rattle.definitions.specs.Calls.{read_call, function_of, code_part, code_call, are_answers, events_fit, run_function, run_answer, text_fits, text_answer}
-use Rattle.definitions.specs.Statements.{head_counts, first_refusal, record_read, laid_out, tables_read, tables_in, code_in, read_questions, code_questions, run_in, run_questions, text_questions, ReadRefusals, CodeRefusals, RunRefusals, TextRefusals, reach_questions, ReachRefusals}
+use Rattle.definitions.specs.Statements.{head_counts, record_read, laid_out, tables_read, tables_in, code_in, read_questions, code_questions, run_in, run_questions, text_questions, ReadRefusals, CodeRefusals, RunRefusals, TextRefusals, reach_questions, ReachRefusals}
 use Rattle.definitions.specs.Sheet.{tally, is_question}
 use Rattle.definitions.specs.Reach.{wide_area, room_asked, place_asked, sought}
 use Rattle.definitions.proofs.Refusals.{ask, ask-is, when-ask, head-asked, questioned, first-is}

@@ -3,11 +3,11 @@ use mathlib.Core.Path.{◌≡◌, refl, ap}
 use mathlib.Core.Bool.{Bool, true, false, ◌&&◌}
 use mathlib.Core.Option.{Option, none as nothing, some}
 use mathlib.Core.List.{List, [], ◌∷◌, ◌++◌, append-nil}
-use Prim.Native.Nat.{ℕ, zero, suc, ◌+◌, ◌<◌}
+use Prim.Native.Nat.{ℕ, ◌<◌}
 use lib.ListN.{length}
-use lib.Dec.{T, eqb}
+use lib.Dec.{T}
 use Rattle.definitions.specs.Bytes.{Name, position, same, concat}
-use Rattle.definitions.specs.Tree.{Literal, none_l, bool_l, int_l, float_l, string_l, UnaryOp, not_op, negate_op, pos_op, LogicalOp, Display, list_d, tuple_d, dict_d, set_d, tree_set_d}
+use Rattle.definitions.specs.Tree.{Literal, none_l, bool_l, int_l, float_l, string_l, UnaryOp, not_op, negate_op, pos_op, Display, list_d, tuple_d, dict_d, set_d, tree_set_d}
 use Rattle.definitions.specs.Tree.{BinaryOp, add_op, subtract_op, multiply_op, divide_op, floor_divide_op, modulo_op, equal_op, not_equal_op, less_op, less_equal_op, greater_op, greater_equal_op, binary_number}
 use Rattle.definitions.specs.Tree.{Expr, lit, var, unary, binary, logical, call, attr, display, index, lambda, Exprs, []ᵉ, ◌∷ᵉ◌, count}
 use Rattle.definitions.specs.Tree.{View, as_var, as_attr, as_index, as_tuple, as_other, view}
@@ -15,13 +15,13 @@ use Rattle.definitions.specs.Wellformed.{init}
 use Rattle.definitions.specs.Slots.{captures, Frame, names_only}
 use Rattle.definitions.specs.Instruction
 use Rattle.definitions.specs.Instruction.{Instr, ConstBool, Return, LoadLocal, encodes, unary_code, operator_code, binary_code, build_code}
-use Rattle.definitions.specs.Tables.{Function, Tables, Body, expr_body, Out, Emit, add_symbol, begin, emits, one, ◌⨟◌, intern, get_or_add_string, function, enclose}
+use Rattle.definitions.specs.Tables.{Tables, Body, expr_body, Out, Emit, add_symbol, begin, emits, one, ◌⨟◌, intern, function, enclose}
 use Rattle.definitions.specs.Lower
 use Rattle.definitions.specs.Lower.{Callee, builtin_callee, function_callee, value_callee, resolve, load, store, literal, decides, call_named, call_by, loads, closure, emit_expr, emit_exprs, emit_object, method_end, emit_body}
 use Rattle.definitions.specs.Run.{flow}
 use Rattle.definitions.specs.Walk.{walked, returned, Walk, before, and_then, follow, adds, leaves, Both, walk_named, walk_call, walk_expr, walk_exprs, walk_object, walk_body, walk_at}
 use Rattle.definitions.specs.Reader.{ends_in_return, jumps_land, code_stands}
-use Rattle.definitions.proofs.Shape.{plain, ret, seq, Plain, Each, none, more}
+use Rattle.definitions.proofs.Shape.{plain, ret, seq, Plain, none, more}
 use Rattle.definitions.proofs.Demand.{Over, over-then}
 use Rattle.definitions.proofs.Lands.{Stop, stands, stop-return, stop-init}
 use Rattle.definitions.proofs.Meaning.{meaning-calm}

@@ -1,26 +1,25 @@
 -- Targets and statements as parts, and every function of a whole tree.
 use mathlib.Core.Path.{◌≡◌, refl, sym, ◌∙◌}
 use mathlib.Core.Bool.{Bool, true, false}
-use mathlib.Core.List.{List, [], ◌∷◌, ◌++◌}
+use mathlib.Core.List.{List, [], ◌∷◌}
 use Prim.Native.Nat.{ℕ, zero, suc, ◌+◌}
 use native.Mathlib.Omega.{arith}
 use lib.ListN.{length}
 use lib.Dec.{T}
 use Rattle.definitions.specs.Bytes.{Name}
-use Rattle.definitions.specs.Tree.{Display, Expr, lit, var, unary, binary, logical, call, attr, display, index, lambda, Exprs, []ᵉ, ◌∷ᵉ◌}
+use Rattle.definitions.specs.Tree.{Expr, lit, var, unary, binary, logical, call, attr, display, index, lambda, Exprs, []ᵉ, ◌∷ᵉ◌}
 use Rattle.definitions.specs.Tree.{View, as_var, as_attr, as_index, as_tuple, as_other, view, Attribute}
 use Rattle.definitions.specs.Tree.{Stmt, break, continue, pass, expr, return, assign, if, while, for, def, class}
 use Rattle.definitions.specs.Tree.{Block, []ᵇ, ◌∷ᵇ◌, Branches, done, else, when, Methods, []ᵐ, method}
 use Rattle.definitions.specs.Wellformed.{is_tuple}
 use Rattle.definitions.specs.Slots.{Keeping, in_globals, in_slots, past, Frame, names_only, with_loops, loops_stmt, loops_block}
-use Rattle.definitions.specs.Instruction
 use Rattle.definitions.specs.Instruction.{Return, Break, Continue}
-use Rattle.definitions.specs.Tables.{Method, Tables, block_body, Emit, emits, one, ◌⨟◌, here, intern}
+use Rattle.definitions.specs.Tables.{Method, Tables, block_body, Emit, emits, one, ◌⨟◌, intern}
 use Rattle.definitions.specs.Lower
 use Rattle.definitions.specs.Lower.{load, store, copy, emit_expr, emit_target, unpack, assign_by, Keeper, global, local, make_iter, named_iter, kept_iter, store_iter, load_iter, iter_name, ask_iter, take_iter}
 use Rattle.definitions.specs.Lower.{method_end, begin_class, class_object, end_class, class_out, emit_stmt, emit_block, emit_branches, emit_methods, emit_body, compile}
 use Rattle.definitions.specs.Run.{flow}
-use Rattle.definitions.specs.Walk.{walked, broke, continued, Walk, follow, adds, leaves, walk_expr, walk_assign, walk_stmt, walk_block, walk_branches, walk_body}
+use Rattle.definitions.specs.Walk.{walked, broke, continued, Walk, follow, adds, walk_expr, walk_assign, walk_stmt, walk_block, walk_branches, walk_body}
 use Rattle.definitions.proofs.Shape.{Plain, brk, cont, size, hop, none, more}
 use Rattle.definitions.proofs.Lands.{stop-return}
 use Rattle.definitions.proofs.Meaning.{Meaning, meaning-seq, meaning-choose, meaning-plain, meaning-length}

@@ -1,5 +1,5 @@
 -- The starred samples hold, by computing.
-use mathlib.Core.Path.{◌≡◌, refl}
+use mathlib.Core.Path.{refl}
 use Rattle.definitions.specs.Open.{everything}
 use Rattle.definitions.specs.Statements.{SamplesHold}
 

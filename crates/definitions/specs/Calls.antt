@@ -1,5 +1,5 @@
 -- What each call answers and what it leaves in the slices lent to it: questions 1 and 16, 22 to 24, 31 and 32, and the program `lower`.
-use Rattle.std.specs.Prelude.{ℕ, zero, suc, Bool, true, false, ◌&&◌, List, [], ◌∷◌, ◌++◌, length, take, drop, replicate, leb}
+use Rattle.std.specs.Prelude.{ℕ, Bool, true, false, ◌&&◌, List, [], ◌∷◌, ◌++◌, length, take, drop, replicate, leb}
 use Rattle.std.proofs.Math.Option.{Option, none, some}
 use Rattle.std.proofs.Math.ListN.{get_elem?}
 use Rattle.definitions.specs.Bytes.{Answer, refused, accepted, when_accepted, all, ascii, decimal}

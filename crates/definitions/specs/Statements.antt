@@ -14,7 +14,7 @@ use Rattle.definitions.specs.Wellformed.{is_name, is_tuple, is_iterator, distinc
 use Rattle.definitions.specs.TreeNames.{names_block}
 use Rattle.definitions.specs.Slots.{add, locals_block, captures, loops_block}
 use Rattle.definitions.specs.Instruction.{Numbers, nothing, a_string, a_constant, a_slot, a_symbol, a_function, a_builtin, numbers_of}
-use Rattle.definitions.specs.Instruction.{Instr, LoadLocal, StoreLocal, StoreGlobal, Return, Row, row_of, binary_code, encode, encodes}
+use Rattle.definitions.specs.Instruction.{Instr, LoadLocal, StoreLocal, StoreGlobal, Return, row_of, binary_code, encode, encodes}
 use Rattle.definitions.specs.Tables.{Function, Tables, Body, block_body, expr_body, Source}
 use Rattle.definitions.specs.Lower.{iter_name, no_tables, compile, emit_body}
 use Rattle.definitions.specs.Bodies.{bodies}

@@ -124,7 +124,7 @@ module _ (t : List ℕ) (at count : ℕ) (xs : List ℕ) where
     listing-here =
         begun-split (code_lines f 0 k (code_from n t (p + 7))) (function_lines (suc f) (k + n) (functions_from (count - f - 1) t (values_end instruction n t (p + 7))))
         (ap (function_lines f k) g.list
-        ∙ ap₂ (λ (is : List Instr) (j : ℕ). code_lines f 0 k is ++ function_lines (suc f) (k + j) (functions_from (count - f - 1) t (values_end instruction n t (p + 7)))) (sym g.code_is) (sym g.count))
+        ∙ ap₂ (λ (is : List Instr) (j : ℕ). code_lines f 0 k is ++ function_lines (suc f) (k + j) (functions_from (count - f - 1) t (values_end instruction n t (p + 7)))) (sym g.code-is) (sym g.count))
         l.begun
 
     pub listing-lines : k + n ≤ instructions (functions_from count t at)

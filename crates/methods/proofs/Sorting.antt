@@ -28,6 +28,7 @@ past-suc : (t : List ℕ) (x : Name) (i : ℕ) (ws : List ℕ) → Past t x i ws
 past-suc t x zero [] start h a b = absurd (omega arith)
 past-suc t x zero (w ∷ ws) start h a b = past a b start
 past-suc t x (suc i) (w ∷ ws) (past c d p) h a b = past c d (past-suc t x i ws p (omega arith) a b)
+past-suc t x (suc i) [] x6 h a b = elim x6 [ ]
 
 insert-same : (x : Name) (f : ℕ) (m : Method) (ms : List Method) → same x m.name ≡ true → insert_method x f (m ∷ ms) ≡ record { name = x; function = f } ∷ ms
 unfolding insert_method
@@ -48,6 +49,7 @@ module _ (t : List ℕ) (x : Name) (f : ℕ) where
   replaces zero [] start h e = absurd (omega arith)
   replaces zero (w ∷ ws) start h e = insert-same x f _ _ e
   replaces (suc i) (w ∷ ws) (past c d p) h e = insert-past x f _ _ c d ∙ ap (λ (ms : List Method). method_of t w ∷ ms) (replaces i ws p (omega arith) e)
+  replaces (suc i) [] x5 h e = elim x5 [ ]
 
   precedes : (i : ℕ) (ws : List ℕ) → Past t x i ws → i < length ws → same x (name_at t (get_or ws i 0 / 2 ^ 8)) ≡ false → below x (name_at t (get_or ws i 0 / 2 ^ 8)) ≡ true →
       insert_method x f (map (method_of t) ws) ≡ inserted i (record { name = x; function = f }) (map (method_of t) ws)
@@ -55,12 +57,14 @@ module _ (t : List ℕ) (x : Name) (f : ℕ) where
   precedes zero [] start h e g = absurd (omega arith)
   precedes zero (w ∷ ws) start h e g = insert-below x f _ _ e g
   precedes (suc i) (w ∷ ws) (past c d p) h e g = insert-past x f _ _ c d ∙ ap (λ (ms : List Method). method_of t w ∷ ms) (precedes i ws p (omega arith) e g)
+  precedes (suc i) [] x6 h e g = elim x6 [ ]
 
   follows : (i : ℕ) (ws : List ℕ) → Past t x i ws → i ≡ length ws → insert_method x f (map (method_of t) ws) ≡ inserted i (record { name = x; function = f }) (map (method_of t) ws)
   unfolding method_of inserted insert_method
   follows zero [] start e = refl
   follows zero (w ∷ ws) start e = absurd (omega arith)
   follows (suc i) (w ∷ ws) (past c d p) e = insert-past x f (method_of t w) (map (method_of t) ws) c d ∙ ap (λ (ms : List Method). method_of t w ∷ ms) (follows i ws p (omega arith))
+  follows (suc i) [] x4 e = elim x4 [ ]
 
 module _ (t : List ℕ) (x : Name) (n i : ℕ) (list : List ℕ) (room : n ≤ length list) (p : Past t x i (take n list)) where
   long : length (take n list) ≡ n

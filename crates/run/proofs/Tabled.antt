@@ -13,7 +13,6 @@ use Rattle.definitions.specs.Instruction.{Instr, instr, Return, encode, encodes}
 use Rattle.definitions.specs.Run.{Flow, straight, jump, question, returns, flow}
 use Rattle.reader.specs.View.{instructions_of, start_of, met_at}
 use Rattle.reader.specs.declared.Cursor.{Cursor}
-use Rattle.reader.specs.declared.Met.{Met}
 use Rattle.reader.specs.declared.Met.TheVariants.{At, End}
 use Rattle.reader.proofs.Iterated.{met-at, met-end}
 use Rattle.run.specs.Pass.{Coded, Places, flow_at, Stop, Stops, Nearer}

@@ -81,10 +81,10 @@ module _ {t : List ℕ} {at count : ℕ} {xs out : List ℕ} {p put f total ques
         all_are = g.count ∙ sym (tally-length g.function.code)
 
         questions-are : r.questions ≡ tally is_question g.function.code
-        questions-are = s.questions ∙ ap (tally is_question) g.code_is
+        questions-are = s.questions ∙ ap (tally is_question) g.code-is
 
         calls_are : r.calls ≡ tally is_call g.function.code
-        calls_are = s.calls ∙ ap (tally is_call) g.code_is
+        calls_are = s.calls ∙ ap (tally is_call) g.code-is
 
         -- the counts of what is left are this function's and those after it
         left-more : (test : ℕ → Bool) → tally test (all_code (functions_from (count - f) t p)) ≡ tally test g.function.code + tally test (all_code gs)

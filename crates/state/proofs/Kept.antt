@@ -5,7 +5,7 @@ use mathlib.Core.Bool.{Bool, true, false}
 use native.Mathlib.Omega.{arith}
 use lib.Dec.{ltb}
 use borrow.Author.Tests.{lt-ltb, le-ltb, ltb-true, ltb-false}
-use Rattle.definitions.specs.Slots.{Keeping, in_globals, in_slots, past}
+use Rattle.definitions.specs.Slots.{in_globals, in_slots, past}
 use Rattle.state.specs.Kept.{keeping_of, after_loops, Spare, Passes}
 
 -- ---- by cases

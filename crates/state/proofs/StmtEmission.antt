@@ -12,7 +12,7 @@ use Rattle.definitions.specs.Wellformed.{is_tuple}
 use Rattle.definitions.specs.Instruction
 use Rattle.definitions.specs.Tables.{Emit, emits, one, ◌⨟◌, intern}
 use Rattle.definitions.specs.Slots.{Keeping, in_globals, in_slots, past, loops_block}
-use Rattle.definitions.specs.Lower.{store, copy, emit_target, unpack, loop, iter_name, Keeper, global, local, make_iter, named_iter, kept_iter, store_iter, load_iter, ask_iter, take_iter, emit_expr, emit_stmt, emit_block}
+use Rattle.definitions.specs.Lower.{store, copy, emit_target, unpack, loop, iter_name, Keeper, global, make_iter, named_iter, kept_iter, store_iter, load_iter, ask_iter, take_iter, emit_expr, emit_stmt, emit_block}
 use Rattle.state.specs.State.{State, emit_at}
 use Rattle.state.specs.Steps.{is_stored, branch, chain_at}
 use Rattle.state.specs.Kept.{keeper_at, kept_at}

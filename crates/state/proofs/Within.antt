@@ -11,7 +11,7 @@ use Rattle.definitions.specs.Bytes.{Name}
 use Rattle.definitions.specs.Tree.{Expr, Block, Branches, else, when, Methods, method}
 use Rattle.definitions.specs.Instruction.{Instr, Jump, JumpIfFalse, ConstBool, LoadConst, StoreGlobal, MakeClosure, Return, minus}
 use Rattle.definitions.specs.Tables.{Method, Tables, Body, Emit, one, ◌⨟◌, with_classes, add_constant, begin, function}
-use Rattle.definitions.specs.Module.{instructions, slots_fit}
+use Rattle.definitions.specs.Module.{slots_fit}
 use Rattle.definitions.specs.Slots.{Keeping, past, Frame, names_only, loops_block}
 use Rattle.definitions.specs.Lower.{shortcut, jump_on, loop, loads, lambda_name, closure, emit_expr, emit_block, emit_branches, emit_methods, begin_class, class_object, end_class, class_out}
 use Rattle.definitions.proofs.Truth.{right, at_most}

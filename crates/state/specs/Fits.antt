@@ -5,7 +5,7 @@ use Rattle.definitions.specs.Bytes.{Name}
 use Rattle.definitions.specs.Tree.{Expr, lit, var, unary, binary, logical, call, attr, display, index, lambda, Exprs, []ᵉ, ◌∷ᵉ◌, as_var, as_attr, as_index, as_tuple, as_other, view}
 use Rattle.definitions.specs.Tree.{Stmt, break, continue, pass, expr, return, assign, if, while, for, def, class, Block, []ᵇ, ◌∷ᵇ◌, Branches, done, else, when, Methods, []ᵐ}
 use Rattle.definitions.specs.Tree.{method}
-use Rattle.definitions.specs.Slots.{captures, Frame, with_loops}
+use Rattle.definitions.specs.Slots.{captures, with_loops}
 
 unfoldable mutual
   pub fits_expr : List Name → Expr → Bool

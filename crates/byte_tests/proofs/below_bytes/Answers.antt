@@ -1,8 +1,5 @@
 use native.Mathlib.Omega.{arith}
-use Prim.Native.Nat.{◌-◌}
-use mathlib.Core.Path.{◌≡◌, refl, sym, ◌∙◌}
-use lib.ListN.{length, drop}
-use Rattle.definitions.specs.Bytes.{below}
+use mathlib.Core.Path.{sym, ◌∙◌}
 use Rattle.byte_tests.proofs.Below.{below-ended, below-differ, below-go, below_all}
 use Rattle.byte_tests.proofs.below_bytes.Goals as goal
 

@@ -1,9 +1,7 @@
-use native.Mathlib.Omega.{arith}
 use Prim.Native.Nat.{◌-◌}
-use mathlib.Core.Path.{◌≡◌, refl, sym, ◌∙◌}
+use mathlib.Core.Path.{◌≡◌}
 use lib.ListN.{length, drop}
 use Rattle.definitions.specs.Bytes.{below}
-use Rattle.byte_tests.proofs.Below.{below-ended, below-differ, below-go, below_all}
 use Rattle.byte_tests.proofs.below_bytes.Given as goal
 
 abbrev pub invariant-loop-i : goal.invariant-loop-i

@@ -1,5 +1,4 @@
 use Rattle.byte_tests.proofs.Names.{inner-yes, inner-low, inner-rest}
-use borrow.Author.Rules.{rules}
 use Rattle.byte_tests.proofs.is_inner.Goals as goal
 
 pub returns-then-is_letter : goal.returns-then-is_letter

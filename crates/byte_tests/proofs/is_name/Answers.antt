@@ -1,12 +1,5 @@
-use borrow.Author.Tests.{not-true, not-false}
-use borrow.Author.Rules.{rules}
 use native.Mathlib.Omega.{arith}
-use mathlib.Core.Path.{◌≡◌, refl, sym, ◌∙◌}
-use mathlib.Core.Bool.{◌||◌}
-use lib.ListN.{length, drop}
-use Prim.Native.Nat.{◌-◌, ◌≤◌}
-use Rattle.definitions.specs.Bytes.{all}
-use Rattle.definitions.specs.Wellformed.{letter, digit}
+use mathlib.Core.Path.{refl, sym, ◌∙◌}
 use Rattle.byte_tests.proofs.Names.{name-empty, name-long, name-bad-first, name-rest, all_go, all-stop, all_none}
 use Rattle.byte_tests.proofs.is_name.Goals as goal
 

@@ -1,8 +1,7 @@
 use native.Mathlib.Omega.{arith}
-use Prim.Native.Nat.{◌-◌, ◌≤◌}
-use mathlib.Core.Path.{◌≡◌, refl, sym, ◌∙◌}
-use lib.ListN.{length, drop}
-use Rattle.definitions.specs.Bytes.{same}
+use Prim.Native.Nat.{◌≤◌}
+use mathlib.Core.Path.{sym, ◌∙◌}
+use lib.ListN.{length}
 use Rattle.byte_tests.proofs.Same.{same-go, same_stop, same_none, same-other}
 use Rattle.byte_tests.proofs.same_bytes.Goals as goal
 

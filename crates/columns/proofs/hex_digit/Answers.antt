@@ -1,4 +1,3 @@
-use borrow.Author.Rules.{rules}
 use borrow.Author.Tests.{lt-ltb, le-ltb}
 use Rattle.definitions.specs.Columns.{hex_digit}
 use Rattle.columns.proofs.hex_digit.Goals as goal

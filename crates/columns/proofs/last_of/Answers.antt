@@ -1,4 +1,3 @@
-use borrow.Author.Rules.{rules}
 use native.Mathlib.Omega.{arith}
 use Rattle.columns.proofs.Splitting.{splits-blank, splits-digit, splits-digits, splits-negative, splits-negatives, splits-minus, splits-no-bits, splits-bits}
 use Rattle.columns.proofs.last_of.Goals as goal

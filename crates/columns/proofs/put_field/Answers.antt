@@ -1,10 +1,5 @@
 use native.Mathlib.Omega.{arith}
-use borrow.Author.Rules.{rules}
-use Prim.Native.Nat.{◌≤◌}
-use lib.ListN.{length}
-use Rattle.definitions.specs.Columns.{right_in}
-use Rattle.columns.specs.Fields.{field_text}
-use Rattle.columns.proofs.Right.{Ended, ended-length}
+use Rattle.columns.proofs.Right.{ended-length}
 use Rattle.columns.proofs.Splitting.{field-start, field_next, field-done}
 use Rattle.columns.proofs.put_field.Goals as goal
 

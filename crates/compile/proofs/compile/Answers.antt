@@ -27,11 +27,10 @@ pub returns-then-next-eq0 : goal.returns-then-next-eq0
 returns-then-next-eq0 c = tree-full c.begin_main-f.ensures c.requires.1 (tree_block c.args.tree.now) c.if-f-ge-OVER.false c.emit_main-next.ensures c.if-next-eq0.true
 
 pub end_function-requires : goal.end_function-requires
-end_function-requires c =
-    (
-    ending-sound (sound-next c.if-next-eq0.false c.emit_main-next.ensures),
-    tree-few c.begin_main-f.ensures c.requires.1 (tree_block c.args.tree.now) c.if-f-ge-OVER.false c.emit_main-next.ensures c.if-next-eq0.false,
-    )
+end_function-requires c = (
+  ending-sound (sound-next c.if-next-eq0.false c.emit_main-next.ensures),
+  tree-few c.begin_main-f.ensures c.requires.1 (tree_block c.args.tree.now) c.if-f-ge-OVER.false c.emit_main-next.ensures c.if-next-eq0.false,
+)
 
 pub shape_of-code : goal.shape_of-code
 shape_of-code c = c.end_function.auto.code ∙ c.emit_main-next.auto.code

@@ -13,12 +13,11 @@ use Rattle.compile.proofs.emit_main.Goals as goal
 
 pub emit_block-next-requires : goal.emit_block-next-requires
 unfolding names_at keeping_of
-emit_block-next-requires c =
-    (
-    record { numbers = c.requires.0.numbers; ready = record { tree-short = c.requires.1.small; slotted = none-slots _ _ refl; sound = c.requires.0.sound } },
-    block-lowerable _ c.requires.1,
-    record { at = λ h. absurd (omega arith) },
-    )
+emit_block-next-requires c = (
+  record { numbers = c.requires.0.numbers; ready = record { tree-short = c.requires.1.small; slotted = none-slots _ _ refl; sound = c.requires.0.sound } },
+  block-lowerable _ c.requires.1,
+  record { at = λ h. absurd (omega arith) },
+)
 
 pub shape_of-code-then-next-eq0 : goal.shape_of-code-then-next-eq0
 unfolding names_at keeping_of

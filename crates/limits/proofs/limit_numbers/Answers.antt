@@ -1,4 +1,3 @@
-use borrow.Author.Rules.{rules}
 use Rattle.limits.proofs.Naming.{office-numbers, console-numbers}
 use Rattle.limits.proofs.limit_numbers.Goals as goal
 

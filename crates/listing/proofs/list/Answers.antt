@@ -1,4 +1,3 @@
-use borrow.Author.Rules.{rules}
 use Rattle.tally.proofs.Calling.{closed, opened}
 use Rattle.listing.proofs.Answering.{list-closed}
 use Rattle.listing.proofs.list.Goals as goal

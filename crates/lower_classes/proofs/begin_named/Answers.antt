@@ -15,13 +15,12 @@ pub returns-then-symbol-ge-OVER : goal.returns-then-symbol-ge-OVER
 returns-then-symbol-ge-OVER c = named-over c.requires.2 c.args.arity c.args.locals c.intern-symbol.ensures c.if-symbol-ge-OVER.true
 
 pub begin_function-requires : goal.begin_function-requires
-begin_function-requires c =
-    (
-    record { tables-room = omega (arith, c.intern-symbol.auto.tables, c.requires.1.tables-room); numbers = c.intern-symbol.ensures.kept; limit = c.requires.1.limit },
-    c.if-symbol-ge-OVER.false,
-    c.requires.3,
-    c.requires.4,
-    )
+begin_function-requires c = (
+  record { tables-room = omega (arith, c.intern-symbol.auto.tables, c.requires.1.tables-room); numbers = c.intern-symbol.ensures.kept; limit = c.requires.1.limit },
+  c.if-symbol-ge-OVER.false,
+  c.requires.3,
+  c.requires.4,
+)
 
 pub shape_of-tables : goal.shape_of-tables
 shape_of-tables c = c.begin_function.auto.tables ∙ c.intern-symbol.auto.tables

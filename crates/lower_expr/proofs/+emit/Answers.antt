@@ -69,8 +69,8 @@ pub emit_args-returns : goal.emit_args-returns
 emit_args-returns t c =
     let y = many_by _ _ _ _ _ _ _ c.u16_at-n.ensures.0 refl c.emit_exprs-next.ensures in
     lowers_then (λ x. one (call_instr (callee_in c.args.callee) (count_at c.args.tree.now c.args.at))) (λ x. x) c.if-next-eq0.false (sound-of c.requires.0) y (put-lifts _ (sound-next c.if-next-eq0.false y) (omega (
-    arith,
-    c.if-next-eq0.false,
+      arith,
+      c.if-next-eq0.false,
     )) (call-instr _ _ _ (omega (arith, c.u16_at-n.ensures.0, c.requires.1.few)) c.requires.2
     ∙ ap (λ (m : ℕ). call_instr (callee_in c.args.callee) m) c.u16_at-n.ensures.0) c.put_call.ensures)
 
@@ -92,10 +92,10 @@ emit_attribute-name_end-requires t c = let e = c.emit_expr-name.ensures in let h
 pub emit_attribute-emit_symbol-requires : goal.emit_attribute-emit_symbol-requires
 emit_attribute-emit_symbol-requires t c =
     let e = c.emit_expr-name.ensures in let h = (done-of c.if-name-eq0.false e).0 in (
-    sound-next c.if-name-eq0.false e,
-    omega (arith, (there-at _ _ _ h c.requires.1.name).byte, c.requires.0.ready.tree-short),
-    plain-above 36 0 0 (omega arith) (omega arith) (omega arith) (omega arith),
-    name-ahead _ _ _ c.name_end.ensures,
+      sound-next c.if-name-eq0.false e,
+      omega (arith, (there-at _ _ _ h c.requires.1.name).byte, c.requires.0.ready.tree-short),
+      plain-above 36 0 0 (omega arith) (omega arith) (omega arith) (omega arith),
+      name-ahead _ _ _ c.name_end.ensures,
     )
 
 pub emit_attribute-shape_of-code : goal.emit_attribute-shape_of-code
@@ -209,11 +209,10 @@ emit_call-returns t c =
     ∙ ap (λ (c : Callee). expr_code c.args.depth c.args.tree.now (slot_names c.args.tree.now c.args.slots.now) c.args.at ⨟ exprs_code c.args.depth (count_at c.args.tree.now (expr_at c.args.depth c.args.tree.now c.args.at).end) c.args.tree.now (slot_names c.args.tree.now c.args.slots.now) ((expr_at c.args.depth c.args.tree.now c.args.at).end + 2) ⨟ one (call_instr c (count_at c.args.tree.now (expr_at c.args.depth c.args.tree.now c.args.at).end))) value_same) refl
 
 pub emit_closure-emit_function-next-requires : goal.emit_closure-emit_function-next-requires
-emit_closure-emit_function-next-requires t c =
-    (
-    omega (arith, c.decreases),
-    (record { numbers = c.requires.0.numbers; ready = record { tree-short = c.requires.0.ready.tree-short; slotted = c.requires.3; sound = c.requires.0.ready.sound } }, c.requires.1),
-    )
+emit_closure-emit_function-next-requires t c = (
+  omega (arith, c.decreases),
+  (record { numbers = c.requires.0.numbers; ready = record { tree-short = c.requires.0.ready.tree-short; slotted = c.requires.3; sound = c.requires.0.ready.sound } }, c.requires.1),
+)
 
 pub emit_closure-shape_of-code-then-next-eq0 : goal.emit_closure-shape_of-code-then-next-eq0
 emit_closure-shape_of-code-then-next-eq0 t c = c.emit_function-next.auto.code
@@ -240,15 +239,14 @@ pub emit_closure-slice_bounds-end_closure-end : goal.emit_closure-slice_bounds-e
 emit_closure-slice_bounds-end_closure-end t c = omega (arith, c.requires.1.params, c.requires.1.few, length-drop slots_from c.args.inner.now, c.requires.3.room)
 
 pub emit_closure-end_closure-requires : goal.emit_closure-end_closure-requires
-emit_closure-end_closure-requires t c =
-    (
-    room-sound (sound-next c.if-next-eq0.false c.emit_function-next.ensures),
-    c.requires.0.ready.slotted,
-    captured-held _ _ c.args.arity c.args.inner.now c.requires.2,
-    captured-few c.args.arity c.args.inner.now c.requires.1.few,
-    omega (arith, c.requires.0.ready.sound.functions, c.requires.0.ready.sound.limited.functions),
-    omega (arith, c.if-next-eq0.false),
-    )
+emit_closure-end_closure-requires t c = (
+  room-sound (sound-next c.if-next-eq0.false c.emit_function-next.ensures),
+  c.requires.0.ready.slotted,
+  captured-held _ _ c.args.arity c.args.inner.now c.requires.2,
+  captured-few c.args.arity c.args.inner.now c.requires.1.few,
+  omega (arith, c.requires.0.ready.sound.functions, c.requires.0.ready.sound.limited.functions),
+  omega (arith, c.if-next-eq0.false),
+)
 
 pub emit_closure-shape_of-code : goal.emit_closure-shape_of-code
 emit_closure-shape_of-code t c = c.end_closure.auto.code ∙ c.emit_function-next.auto.code
@@ -306,8 +304,8 @@ emit_display-returns t c =
     let u = c.held.ensures ∙ ap (held_of c.args.kind) c.u16_at-n.ensures.0 in
     let y = many_by _ _ _ _ _ _ _ u refl c.emit_exprs-next.ensures in
     let b = c.build_code.ensures in lowers_then (λ x. one (Build (display_of c.args.kind) (count_at c.args.tree.now c.args.at))) (λ x. x) c.if-next-eq0.false (sound-of c.requires.0) y (lowers-by (put-lifts _ (sound-next c.if-next-eq0.false y) (omega (
-    arith,
-    c.if-next-eq0.false,
+      arith,
+      c.if-next-eq0.false,
     )) (instr-plain _ _ _ 0 (plain-above _ _ 0 b.1 b.2 c.u16_at-n.ensures.1 (omega arith))) c.put_op.ensures) (build-as _ _ _ _ b.0 c.u16_at-n.ensures.0) refl)
 
 pub emit_expr-bounds-tree-at : goal.emit_expr-bounds-tree-at
@@ -317,16 +315,15 @@ pub emit_expr-literal_at-x-requires : goal.emit_expr-literal_at-x-requires
 emit_expr-literal_at-x-requires t c = (arm-literal _ _ _ c.requires.1 c.if-kind-lt-VARIABLE.true).parts
 
 pub emit_expr-emit_literal-requires : goal.emit_expr-emit_literal-requires
-emit_expr-emit_literal-requires t c =
-    (
-    texts-sound (sound-of c.requires.0),
-    room_of c.requires.0,
-    c.requires.0.ready.tree-short,
-    (arm-literal _ _ _ c.requires.1 c.if-kind-lt-VARIABLE.true).parts,
-    c.literal_at-x.ensures.0,
-    c.literal_at-x.ensures.1,
-    c.literal_at-x.ensures.2,
-    )
+emit_expr-emit_literal-requires t c = (
+  texts-sound (sound-of c.requires.0),
+  room_of c.requires.0,
+  c.requires.0.ready.tree-short,
+  (arm-literal _ _ _ c.requires.1 c.if-kind-lt-VARIABLE.true).parts,
+  c.literal_at-x.ensures.0,
+  c.literal_at-x.ensures.1,
+  c.literal_at-x.ensures.2,
+)
 
 pub emit_expr-shape_of-code-then-kind-lt-VARIABLE : goal.emit_expr-shape_of-code-then-kind-lt-VARIABLE
 emit_expr-shape_of-code-then-kind-lt-VARIABLE t c = c.emit_literal.auto.code
@@ -423,11 +420,10 @@ pub emit_expr-overflow_sub-depth-in-16 : goal.emit_expr-overflow_sub-depth-in-16
 emit_expr-overflow_sub-depth-in-16 t c = omega (arith, arm-deep _ _ _ c.requires.1)
 
 pub emit_expr-emit_two-requires : goal.emit_expr-emit_two-requires
-emit_expr-emit_two-requires t c =
-    (
-    omega (arith, c.decreases, arm-deep _ _ _ c.requires.1),
-    (c.requires.0, (arm-index _ _ _ c.requires.1 c.in-16.is).parts, plain-above 43 0 0 (omega arith) (omega arith) (omega arith) (omega arith)),
-    )
+emit_expr-emit_two-requires t c = (
+  omega (arith, c.decreases, arm-deep _ _ _ c.requires.1),
+  (c.requires.0, (arm-index _ _ _ c.requires.1 c.in-16.is).parts, plain-above 43 0 0 (omega arith) (omega arith) (omega arith) (omega arith)),
+)
 
 pub emit_expr-shape_of-code-in-16 : goal.emit_expr-shape_of-code-in-16
 emit_expr-shape_of-code-in-16 t c = c.emit_two.auto.code
@@ -516,8 +512,8 @@ emit_exprs-loop-left-smaller t c = omega (arith, c.if-left-eq0.false, c.loop-lef
 pub emit_exprs-loop-left-preserved : goal.emit_exprs-loop-left-preserved
 emit_exprs-loop-left-preserved t c =
     rest1-next (rest1-constants c.loop-left.invariant c.put_constants-c.ensures) (omega (
-    arith,
-    c.if-left-eq0.false,
+      arith,
+      c.if-left-eq0.false,
     )) c.if-next-eq0.false c.emit_expr-next.ensures c.emit_expr-next.auto.code c.emit_expr-next.auto.tables
 
 pub emit_exprs-shape_of-code : goal.emit_exprs-shape_of-code
@@ -536,14 +532,13 @@ pub emit_function-overflow_cast-slots : goal.emit_function-overflow_cast-slots
 emit_function-overflow_cast-slots t c = omega (arith, c.requires.1.few, length-drop slots_from c.args.slots.now)
 
 pub emit_function-begin_lambda-f-requires : goal.emit_function-begin_lambda-f-requires
-emit_function-begin_lambda-f-requires t c =
-    (
-    naming-sound (sound-of c.requires.0),
-    functions-sound (sound-of c.requires.0),
-    omega (arith, c.requires.0.ready.sound.functions, c.requires.0.ready.sound.limited.functions),
-    omega (arith, c.requires.1.params, c.requires.1.few),
-    omega (arith, c.requires.1.few, length-drop slots_from c.args.slots.now),
-    )
+emit_function-begin_lambda-f-requires t c = (
+  naming-sound (sound-of c.requires.0),
+  functions-sound (sound-of c.requires.0),
+  omega (arith, c.requires.0.ready.sound.functions, c.requires.0.ready.sound.limited.functions),
+  omega (arith, c.requires.1.params, c.requires.1.few),
+  omega (arith, c.requires.1.few, length-drop slots_from c.args.slots.now),
+)
 
 pub emit_function-shape_of-tables-then-f-ge-OVER : goal.emit_function-shape_of-tables-then-f-ge-OVER
 emit_function-shape_of-tables-then-f-ge-OVER t c = c.begin_lambda-f.auto.tables
@@ -557,8 +552,8 @@ pub emit_function-emit_expr-next-requires : goal.emit_function-emit_expr-next-re
 emit_function-emit_expr-next-requires t c =
     let b = begins-count c.args.slots.now c.begin_lambda-f.ensures in
     let S = function1-sound (sound-of c.requires.0) (drop slots_from c.args.slots.now) (expr_code c.args.depth c.args.tree.now (slot_names c.args.tree.now c.args.slots.now) c.args.at) (lengthens-expr (slot_names c.args.tree.now c.args.slots.now) (expr_at c.args.depth c.args.tree.now c.args.at).value) (expr_body (expr_at c.args.depth c.args.tree.now c.args.at).value) b c.if-f-ge-OVER.false in (
-    omega (arith, c.decreases),
-    (record { numbers = S.numbers; ready = record { tree-short = c.requires.0.ready.tree-short; slotted = c.requires.0.ready.slotted; sound = S.sound } }, c.requires.1.body),
+      omega (arith, c.decreases),
+      (record { numbers = S.numbers; ready = record { tree-short = c.requires.0.ready.tree-short; slotted = c.requires.0.ready.slotted; sound = S.sound } }, c.requires.1.body),
     )
 
 pub emit_function-shape_of-code-then-next-eq0 : goal.emit_function-shape_of-code-then-next-eq0
@@ -576,9 +571,9 @@ pub emit_function-end_lambda-requires : goal.emit_function-end_lambda-requires
 emit_function-end_lambda-requires t c =
     let b = begins-count c.args.slots.now c.begin_lambda-f.ensures in
     let S = sound-next c.if-next-eq0.false c.emit_expr-next.ensures in (
-    room-sound S,
-    ending-sound S,
-    function1-few (sound-of c.requires.0) (drop slots_from c.args.slots.now) (expr_code c.args.depth c.args.tree.now (slot_names c.args.tree.now c.args.slots.now) c.args.at) (lengthens-expr (slot_names c.args.tree.now c.args.slots.now) (expr_at c.args.depth c.args.tree.now c.args.at).value) (expr_body (expr_at c.args.depth c.args.tree.now c.args.at).value) b c.if-f-ge-OVER.false c.emit_expr-next.ensures c.if-next-eq0.false,
+      room-sound S,
+      ending-sound S,
+      function1-few (sound-of c.requires.0) (drop slots_from c.args.slots.now) (expr_code c.args.depth c.args.tree.now (slot_names c.args.tree.now c.args.slots.now) c.args.at) (lengthens-expr (slot_names c.args.tree.now c.args.slots.now) (expr_at c.args.depth c.args.tree.now c.args.at).value) (expr_body (expr_at c.args.depth c.args.tree.now c.args.at).value) b c.if-f-ge-OVER.false c.emit_expr-next.ensures c.if-next-eq0.false,
     )
 
 pub emit_function-shape_of-code : goal.emit_function-shape_of-code
@@ -648,14 +643,14 @@ emit_logical-returns-then-middle-eq0 t c = lowers-stopped c.if-middle-eq0.true (
 pub emit_logical-emit_shortcut-requires : goal.emit_logical-emit_shortcut-requires
 emit_logical-emit_shortcut-requires t c =
     let e = c.emit_expr-middle.ensures in (
-    omega (arith, c.decreases),
-    (
-    ready-next c.if-middle-eq0.false c.requires.0 e,
-    lowerable-at _ _ _ _ (done-of c.if-middle-eq0.false e).0 c.requires.1.second,
-    c.requires.2,
-    c.requires.3,
-    omega (arith, c.if-middle-eq0.false),
-    ),
+      omega (arith, c.decreases),
+      (
+        ready-next c.if-middle-eq0.false c.requires.0 e,
+        lowerable-at _ _ _ _ (done-of c.if-middle-eq0.false e).0 c.requires.1.second,
+        c.requires.2,
+        c.requires.3,
+        omega (arith, c.if-middle-eq0.false),
+      ),
     )
 
 pub emit_logical-shape_of-code : goal.emit_logical-shape_of-code
@@ -697,12 +692,12 @@ pub emit_method-emit_exprs-next-requires : goal.emit_method-emit_exprs-next-requ
 emit_method-emit_exprs-next-requires t c =
     let e = c.emit_expr-name.ensures in let h = (done-of c.if-name-eq0.false e).0 in
     let s = c.name_end-start.ensures ∙ ap (name_end c.args.tree.now) h in (
-    omega (arith, c.decreases),
-    (
-    ready-next c.if-name-eq0.false c.requires.0 e,
-    many-at _ _ _ _ _ _ (c.u16_at-n.ensures.0 ∙ ap (count_at c.args.tree.now) s) (ap (λ (x : ℕ). x + 2) s) c.requires.1.args.elements,
-    omega arith,
-    ),
+      omega (arith, c.decreases),
+      (
+        ready-next c.if-name-eq0.false c.requires.0 e,
+        many-at _ _ _ _ _ _ (c.u16_at-n.ensures.0 ∙ ap (count_at c.args.tree.now) s) (ap (λ (x : ℕ). x + 2) s) c.requires.1.args.elements,
+        omega arith,
+      ),
     )
 
 pub emit_method-shape_of-code-then-next-eq0 : goal.emit_method-shape_of-code-then-next-eq0
@@ -722,10 +717,10 @@ pub emit_method-emit_symbol-requires : goal.emit_method-emit_symbol-requires
 emit_method-emit_symbol-requires t c =
     let e = c.emit_expr-name.ensures in let h = (done-of c.if-name-eq0.false e).0 in let s = c.name_end-start.ensures in let u = c.u16_at-n.ensures.0 ∙ ap (count_at c.args.tree.now) s in
     let y = many_by _ _ _ _ _ _ _ u (ap (λ (x : ℕ). x + 2) s) c.emit_exprs-next.ensures in (
-    sound-next c.if-next-eq0.false y,
-    omega (arith, (there-at _ _ _ h c.requires.1.callee.name).byte, c.requires.0.ready.tree-short),
-    plain-above 35 0 _ (omega arith) (omega arith) (omega arith) (omega (arith, u ∙ ap (λ (x : ℕ). count_at c.args.tree.now (name_end c.args.tree.now x)) h, c.requires.1.args.few)),
-    omega (arith, c.if-next-eq0.false),
+      sound-next c.if-next-eq0.false y,
+      omega (arith, (there-at _ _ _ h c.requires.1.callee.name).byte, c.requires.0.ready.tree-short),
+      plain-above 35 0 _ (omega arith) (omega arith) (omega arith) (omega (arith, u ∙ ap (λ (x : ℕ). count_at c.args.tree.now (name_end c.args.tree.now x)) h, c.requires.1.args.few)),
+      omega (arith, c.if-next-eq0.false),
     )
 
 pub emit_method-shape_of-code : goal.emit_method-shape_of-code
@@ -762,12 +757,12 @@ emit_named-returns-then-next-eq0 t c = lowers-state (lowers-stopped c.if-next-eq
 pub emit_named-emit_args-requires : goal.emit_named-emit_args-requires
 emit_named-emit_args-requires t c =
     let e = c.load_callee-next.ensures in (
-    omega (arith, c.decreases),
-    (
-    ready-next c.if-next-eq0.false c.requires.0 e,
-    args_at _ _ _ _ ((done-of c.if-next-eq0.false e).0 ∙ c.name_end-start.ensures) c.requires.1.args,
-    callee-short _ _ _ (functions-few _ _ _ _ _ _ c.requires.0.ready.sound) (c.resolve-callee.ensures _ _ (sound-of c.requires.0)),
-    ),
+      omega (arith, c.decreases),
+      (
+        ready-next c.if-next-eq0.false c.requires.0 e,
+        args_at _ _ _ _ ((done-of c.if-next-eq0.false e).0 ∙ c.name_end-start.ensures) c.requires.1.args,
+        callee-short _ _ _ (functions-few _ _ _ _ _ _ c.requires.0.ready.sound) (c.resolve-callee.ensures _ _ (sound-of c.requires.0)),
+      ),
     )
 
 pub emit_named-shape_of-code : goal.emit_named-shape_of-code
@@ -811,10 +806,10 @@ pub emit_shortcut-end_shortcut-requires : goal.emit_shortcut-end_shortcut-requir
 emit_shortcut-end_shortcut-requires t c =
     let z = (done-of c.if-p-eq0.false (jump (sound-of c.requires.0) c.requires.2 c.requires.3 c.requires.4 c.put_op-p.ensures)).0 in
     let y = lowers-by c.emit_expr-next.ensures (ap (λ (x : ℕ). expr_code c.args.depth c.args.tree.now (slot_names c.args.tree.now c.args.slots.now) x) (sym z)) (ap (λ (x : ℕ). (expr_at c.args.depth c.args.tree.now x).end) (sym z)) in (
-    room-sound (sound-next c.if-next-eq0.false y),
-    shortcut1-before (sound-of c.requires.0) c.requires.2 c.requires.3 c.requires.4 c.put_op-p.ensures c.if-p-eq0.false y c.if-next-eq0.false,
-    c.requires.2,
-    c.requires.3,
+      room-sound (sound-next c.if-next-eq0.false y),
+      shortcut1-before (sound-of c.requires.0) c.requires.2 c.requires.3 c.requires.4 c.put_op-p.ensures c.if-p-eq0.false y c.if-next-eq0.false,
+      c.requires.2,
+      c.requires.3,
     )
 
 pub emit_shortcut-shape_of-code : goal.emit_shortcut-shape_of-code
@@ -865,8 +860,8 @@ emit_two-shape_of-tables t c = c.emit_expr-next.auto.tables ∙ c.emit_expr-midd
 pub emit_two-returns : goal.emit_two-returns
 emit_two-returns t c =
     let e = c.emit_expr-middle.ensures in let e2 = c.emit_expr-next.ensures in lowers_then (λ x. expr_code c.args.depth c.args.tree.now (slot_names c.args.tree.now c.args.slots.now) x ⨟ one (instr c.args.op 0 0)) (λ x. (expr_at c.args.depth c.args.tree.now x).end) c.if-middle-eq0.false (sound-of c.requires.0) e (lowers_then (λ x. one (instr c.args.op 0 0)) (λ x. x) c.if-next-eq0.false (sound-next c.if-middle-eq0.false e) e2 (put-lifts _ (sound-next c.if-next-eq0.false e2) (omega (
-    arith,
-    c.if-next-eq0.false,
+      arith,
+      c.if-next-eq0.false,
     )) (instr-plain _ _ _ _ c.requires.2) c.put_op.ensures))
 
 pub emit_unary-bounds-tree-at : goal.emit_unary-bounds-tree-at
@@ -902,6 +897,6 @@ emit_unary-shape_of-tables t c = c.emit_expr-next.auto.tables
 pub emit_unary-returns : goal.emit_unary-returns
 emit_unary-returns t c =
     let e = c.emit_expr-next.ensures in lowers-by (lowers_then (λ x. one (instr c.unary_code-op.result 0 0)) (λ x. x) c.if-next-eq0.false (sound-of c.requires.0) e (put-lifts _ (sound-next c.if-next-eq0.false e) (omega (
-    arith,
-    c.if-next-eq0.false,
+      arith,
+      c.if-next-eq0.false,
     )) (instr-plain _ _ _ _ c.unary_code-op.ensures.1) c.put_op.ensures)) (ap (λ (o : ℕ). expr_code c.args.depth c.args.tree.now (slot_names c.args.tree.now c.args.slots.now) (c.args.at + 1) ⨟ one (instr o 0 0)) (sym c.unary_code-op.ensures.0)) refl

@@ -33,6 +33,6 @@ pub returns : goal.returns
 returns c =
     let e = ask1 (keeper_of c.args.load) c.call_iterator-p.ensures in
     lowers-next c.if-p-eq0.false c.requires.0 e (put-lifts _ (sound-next c.if-p-eq0.false e) (omega (
-    arith,
-    c.if-p-eq0.false,
+      arith,
+      c.if-p-eq0.false,
     )) (instr-jump _ 29 0 (omega arith) (omega arith) (omega arith)) c.put_op.ensures)

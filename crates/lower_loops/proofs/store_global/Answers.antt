@@ -22,10 +22,10 @@ returns-then-g-ge-OVER c = global-over c.requires c.intern_made-g.ensures c.if-g
 pub store_kept-requires : goal.store_kept-requires
 store_kept-requires c =
     let small = c.if-g-ge-OVER.false in (
-    room-sound (global-sound c.requires c.intern_made-g.ensures small),
-    plain-below 12 _ 0 (omega arith) (omega arith) small (omega arith),
-    plain-below 11 _ 0 (omega arith) (omega arith) small (omega arith),
-    omega arith,
+      room-sound (global-sound c.requires c.intern_made-g.ensures small),
+      plain-below 12 _ 0 (omega arith) (omega arith) small (omega arith),
+      plain-below 11 _ 0 (omega arith) (omega arith) small (omega arith),
+      omega arith,
     )
 
 pub shape_of-code : goal.shape_of-code

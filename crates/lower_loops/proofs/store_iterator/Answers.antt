@@ -8,13 +8,12 @@ pub overflow_add-it : goal.overflow_add-it
 overflow_add-it c = omega (arith, c.if-slot-lt-IN_GLOBALS.true)
 
 pub store_kept-requires : goal.store_kept-requires
-store_kept-requires c =
-    (
-    room-sound c.requires,
-    plain-below 10 _ 0 (omega arith) (omega arith) (omega (arith, c.if-slot-lt-IN_GLOBALS.true)) (omega arith),
-    plain-below 9 _ 0 (omega arith) (omega arith) (omega (arith, c.if-slot-lt-IN_GLOBALS.true)) (omega arith),
-    omega arith,
-    )
+store_kept-requires c = (
+  room-sound c.requires,
+  plain-below 10 _ 0 (omega arith) (omega arith) (omega (arith, c.if-slot-lt-IN_GLOBALS.true)) (omega arith),
+  plain-below 9 _ 0 (omega arith) (omega arith) (omega (arith, c.if-slot-lt-IN_GLOBALS.true)) (omega arith),
+  omega arith,
+)
 
 pub shape_of-code-then-slot-lt-IN_GLOBALS : goal.shape_of-code-then-slot-lt-IN_GLOBALS
 shape_of-code-then-slot-lt-IN_GLOBALS c = c.store_kept.auto.code

@@ -20,13 +20,12 @@ pub returns-then-i-ge-OVER : goal.returns-then-i-ge-OVER
 returns-then-i-ge-OVER c = symbol1-over c.requires.0 c.intern-i.ensures (name_at c.args.tree.now c.args.at) (sym (spelled-tree c.args.tree.now c.args.made.now c.args.at c.requires.1)) (λ n. instr c.args.op n c.args.b) c.if-i-ge-OVER.true
 
 pub put_op-requires : goal.put_op-requires
-put_op-requires c =
-    (
-    room-sound (symbol1-sound c.requires.0 c.intern-i.ensures (name_at c.args.tree.now c.args.at) (sym (spelled-tree c.args.tree.now c.args.made.now c.args.at c.requires.1)) c.if-i-ge-OVER.false),
-    c.requires.2.op-byte,
-    omega (arith, c.if-i-ge-OVER.false),
-    c.requires.2.second-byte,
-    )
+put_op-requires c = (
+  room-sound (symbol1-sound c.requires.0 c.intern-i.ensures (name_at c.args.tree.now c.args.at) (sym (spelled-tree c.args.tree.now c.args.made.now c.args.at c.requires.1)) c.if-i-ge-OVER.false),
+  c.requires.2.op-byte,
+  omega (arith, c.if-i-ge-OVER.false),
+  c.requires.2.second-byte,
+)
 
 pub shape_of-code : goal.shape_of-code
 shape_of-code c = c.put_op.auto.code

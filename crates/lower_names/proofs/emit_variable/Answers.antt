@@ -24,12 +24,12 @@ returns-then-i-slots c =
     let e = c.find_slot-i.ensures ∙ ap (λ (n : ℕ). found_or n (position (same x) names)) (sym (names-length a.tree.now (drop slots_from a.slots.now))) in
     let k = names-length a.tree.now (drop slots_from a.slots.now) in
     lowers-state (put-lifts _ c.requires.0 c.requires.5 (instr-plain _ _ _ _ (plain_op _ _ c.requires.3 (omega (arith, c.requires.4)) (omega (
-    arith,
-    c.if-i-slots.true,
-    c.requires.1.few,
+      arith,
+      c.if-i-slots.true,
+      c.requires.1.few,
     )))) c.put_op.ensures) (sym (at_slot a.op (get_or a.k.now 7 0) names x _ c.find_slot-i.result e (let h = c.if-i-slots.true in omega (
-    arith,
-    length-drop slots_from a.slots.now,
+      arith,
+      length-drop slots_from a.slots.now,
     ))))
 
 pub emit_symbol-requires : goal.emit_symbol-requires
@@ -47,6 +47,6 @@ returns c =
     let e = c.find_slot-i.ensures ∙ ap (λ (n : ℕ). found_or n (position (same x) names)) (sym (names-length a.tree.now (drop slots_from a.slots.now))) in
     let k = names-length a.tree.now (drop slots_from a.slots.now) in
     lowers-state c.emit_symbol.ensures (sym (at-global a.op (get_or a.k.now 7 0) names x _ c.find_slot-i.result e (let h = c.if-i-slots.false in omega (
-    arith,
-    length-drop slots_from a.slots.now,
+      arith,
+      length-drop slots_from a.slots.now,
     ))))

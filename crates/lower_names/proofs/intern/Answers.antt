@@ -35,7 +35,7 @@ pub returns : goal.returns
 unfolding region
 returns c =
     let a = c.args in interns-new c.requires.0 (interned-found _ c.requires.0 c.requires.3 c.hash-b.ensures.0 c.first_number-first.ensures.0 c.find_spelling.ensures) _ a.grow (renewed-noted symbol_index_from symbol_buckets (get_or a.k.now 0 0) a.w (get_or a.k.now 0 0) _ _ _ a.tables.now (omega (
-    arith,
-    c.requires.0.symbols,
-    c.requires.0.limit,
+      arith,
+      c.requires.0.symbols,
+      c.requires.0.limit,
     )) (bucket-is symbol_buckets _ _ _ c.hash-b.ensures.0 c.requires.3) (omega arith) c.first_number-first.ensures.0) c.if-l-n.false c.requires.2 c.requires.1 c.if-i-n.false

@@ -10,10 +10,10 @@ write_made-grow-requires c = (omega (arith, c.requires.1, c.requires.0.made-coun
 pub intern_at-requires : goal.intern_at-requires
 intern_at-requires c =
     let e = c.write_made-grow.ensures in (
-    naming-made c.requires.0 refl c.write_made-grow.auto.bytes c.write_made-grow.ensures.1,
-    made-within c.requires.0 refl c.write_made-grow.auto.bytes c.write_made-grow.ensures.1 _ e.0,
-    omega (arith, e.0, c.requires.1),
-    omega (arith, c.requires.0.made-count, c.requires.0.symbols, c.requires.0.limit),
+      naming-made c.requires.0 refl c.write_made-grow.auto.bytes c.write_made-grow.ensures.1,
+      made-within c.requires.0 refl c.write_made-grow.auto.bytes c.write_made-grow.ensures.1 _ e.0,
+      omega (arith, e.0, c.requires.1),
+      omega (arith, c.requires.0.made-count, c.requires.0.symbols, c.requires.0.limit),
     )
 
 pub returns : goal.returns

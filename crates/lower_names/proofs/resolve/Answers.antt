@@ -27,9 +27,9 @@ returns-then-find_place-m c =
     let e = c.name_part-name.ensures.result_value in let i = c.find_builtin-id.ensures ∙ ap (λ (y : Name). found_or 15 (builtin y)) e in
     let q : class_names_from + get_or a.k.now 3 0 - class_names_from ≡ get_or a.k.now 3 0 = omega arith in
     let j = sought (name_at a.tree.now) a.tables.now class_names_from (class_names_from + get_or a.k.now 3 0 - class_names_from) (get_or a.k.now 3 0) _ x _ (omega (
-    arith,
-    c.requires.classes,
-    c.requires.tables-room,
+      arith,
+      c.requires.classes,
+      c.requires.tables-room,
     )) q e c.find_place.ensures in
     λ code l S. value_in ∙ calls-class a.tree.now a.made.now code a.tables.now (counts_of a.k.now) (limits_in l) S.sound x _ _ i c.if-id-lt15.false j c.if-find_place-m.true
 
@@ -39,9 +39,9 @@ returns c =
     let a = c.args in let x = name_at a.tree.now a.at in let e = c.name_part-name.ensures.result_value in let i = c.find_builtin-id.ensures ∙ ap (λ (y : Name). found_or 15 (builtin y)) e in
     let q : class_names_from + get_or a.k.now 3 0 - class_names_from ≡ get_or a.k.now 3 0 = omega arith in
     let j = sought (name_at a.tree.now) a.tables.now class_names_from (class_names_from + get_or a.k.now 3 0 - class_names_from) (get_or a.k.now 3 0) _ x _ (omega (
-    arith,
-    c.requires.classes,
-    c.requires.tables-room,
+      arith,
+      c.requires.classes,
+      c.requires.tables-room,
     )) q e c.find_place.ensures in
     λ code l S. c.resolve_function_id.ensures code l S
     ∙ ap (λ (y : Name). resolve_function y (state_of a.tree.now a.made.now code a.tables.now (counts_of a.k.now)).tables) e

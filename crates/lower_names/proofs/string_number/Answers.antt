@@ -37,7 +37,7 @@ pub returns : goal.returns
 unfolding region
 returns c =
     let a = c.args in adds-new c.requires.0 (added-found _ c.requires.0 c.text_part-text.ensures.result_value c.hash-b.ensures.0 c.first_number-first.ensures.0 c.find_text.ensures) _ (renewed-noted string_index_from string_buckets (strings_from + get_or a.k.now 1 0) a.at (get_or a.k.now 1 0) _ _ _ a.tables.now (omega (
-    arith,
-    c.requires.0.strings,
-    c.requires.0.limit,
+      arith,
+      c.requires.0.strings,
+      c.requires.0.limit,
     )) (bucket-is string_buckets _ _ _ c.hash-b.ensures.0 c.text_part-text.ensures.result_value) (omega arith) c.first_number-first.ensures.0) c.if-l-n.false c.if-i-n.false

@@ -25,8 +25,8 @@ shape_of-code-then-init c = c.put_op.auto.code ∙ c.put_op-p.auto.code
 pub returns-then-init : goal.returns-then-init
 returns-then-init c =
     end-object _ c.if-init.true (writes_then (plain-writes c.requires.1 plain-object c.put_op-p.ensures) c.if-p-eq0.false (plain-writes (omega (
-    arith,
-    c.if-p-eq0.false,
+      arith,
+      c.if-p-eq0.false,
     )) plain-return c.put_op.ensures))
 
 pub put_op-requires-2 : goal.put_op-requires-2

@@ -58,11 +58,11 @@ compile_function-begin_named-f-requires t c =
     let e = c.name_end-params.ensures in let pb = c.skip_params-block.ensures ∙ ap (λ (x : ℕ). (params_at c.args.tree.now x).end) e in
     let ca = framed_at _ _ e pb c.collect_locals-collected.ensures in let cc = ca.framing _ _ c.in-Slots.is in
     let ea = c.u16_at-arity.ensures.0 ∙ ap (count_at c.args.tree.now) e ∙ sym (params-count c.args.tree.now (name_end c.args.tree.now c.args.at)) in (
-    naming-sound (sound-sole c.requires.0),
-    functions-sound (sound-sole c.requires.0),
-    omega (arith, c.requires.1.name.byte, c.requires.0.sole.tree-short),
-    omega (arith, ea, params-count c.args.tree.now (name_end c.args.tree.now c.args.at), c.requires.1.few),
-    omega (arith, cc.few),
+      naming-sound (sound-sole c.requires.0),
+      functions-sound (sound-sole c.requires.0),
+      omega (arith, c.requires.1.name.byte, c.requires.0.sole.tree-short),
+      omega (arith, ea, params-count c.args.tree.now (name_end c.args.tree.now c.args.at), c.requires.1.few),
+      omega (arith, cc.few),
     )
 
 pub compile_function-shape_of-tables-then-f-ge-OVER : goal.compile_function-shape_of-tables-then-f-ge-OVER
@@ -99,17 +99,17 @@ compile_function-emit_body-next-requires t c =
     let ca = framed_at _ _ e pb c.collect_locals-collected.ensures in let cc = ca.framing _ _ c.in-Slots.is in
     let ea = c.u16_at-arity.ensures.0 ∙ ap (count_at c.args.tree.now) e ∙ sym (params-count c.args.tree.now (name_end c.args.tree.now c.args.at)) in
     let en = cc.locals in (
-    omega (arith, c.decreases),
-    (
-    ready-part c.requires.0 (omega (arith, cc.named, cc.few)) cc.indexed (omega (
-    arith,
-    cc.named,
-    cc.few,
-    c.collect_locals-collected.auto.slots,
-    )) (function-sound c.args.depth c.args.init (sound-sole c.requires.0) ea en c.begin_named-f.ensures c.if-f-ge-OVER.false),
-    block-at _ _ _ _ pb c.requires.1.block,
-    spare-at _ _ pb (frame-spare _ _ cc (omega (arith, c.collect_locals-collected.auto.slots))),
-    ),
+      omega (arith, c.decreases),
+      (
+        ready-part c.requires.0 (omega (arith, cc.named, cc.few)) cc.indexed (omega (
+          arith,
+          cc.named,
+          cc.few,
+          c.collect_locals-collected.auto.slots,
+        )) (function-sound c.args.depth c.args.init (sound-sole c.requires.0) ea en c.begin_named-f.ensures c.if-f-ge-OVER.false),
+        block-at _ _ _ _ pb c.requires.1.block,
+        spare-at _ _ pb (frame-spare _ _ cc (omega (arith, c.collect_locals-collected.auto.slots))),
+      ),
     )
 
 pub compile_function-shape_of-code-then-next-eq0 : goal.compile_function-shape_of-code-then-next-eq0
@@ -136,8 +136,8 @@ compile_function-end_function-requires t c =
     let en = cc.locals in let b = body-by c.args.depth c.args.tree.now _ _ (end_of c.args.init) _ _ pb c.emit_body-next.ensures in
     let nm = part-names _ _ _ _ cc.names (omega (arith, cc.named, cc.few, c.collect_locals-collected.auto.slots)) in
     let ek = frame-keeping _ _ cc (omega (arith, c.collect_locals-collected.auto.slots)) in (
-    ending-sound (sound-next c.if-next-eq0.false b),
-    function-few c.args.depth c.args.init (sound-sole c.requires.0) ea en c.begin_named-f.ensures c.if-f-ge-OVER.false nm ek b c.if-next-eq0.false,
+      ending-sound (sound-next c.if-next-eq0.false b),
+      function-few c.args.depth c.args.init (sound-sole c.requires.0) ea en c.begin_named-f.ensures c.if-f-ge-OVER.false nm ek b c.if-next-eq0.false,
     )
 
 pub compile_function-shape_of-code : goal.compile_function-shape_of-code
@@ -163,16 +163,15 @@ pub emit_block-overflow_add-at : goal.emit_block-overflow_add-at
 emit_block-overflow_add-at t c = let b = (block-parts _ _ _ c.requires.1).0 in omega (arith, b.bytes, c.requires.0.ready.tree-short)
 
 pub emit_block-emit_stmts-requires : goal.emit_block-emit_stmts-requires
-emit_block-emit_stmts-requires t c =
-    (
-    omega (arith, c.decreases),
-    (
+emit_block-emit_stmts-requires t c = (
+  omega (arith, c.decreases),
+  (
     c.requires.0,
     block-stmts _ _ _ _ c.requires.1 c.u16_at-count.ensures.0,
     omega arith,
     subst (Spare c.args.it.now) (sym (block-loops _ _ c.requires.1.reads c.u16_at-count.ensures.0 refl)) c.requires.2,
-    ),
-    )
+  ),
+)
 
 pub emit_block-shape_of-code : goal.emit_block-shape_of-code
 emit_block-shape_of-code t c = c.emit_stmts.auto.code
@@ -183,9 +182,9 @@ emit_block-shape_of-tables t c = c.emit_stmts.auto.tables
 pub emit_block-returns : goal.emit_block-returns
 emit_block-returns t c =
     let tree = c.args.tree.now in (
-    block-is c.args.depth tree (slot_names tree c.args.slots.now) (keeping_of c.args.it.now) c.args.at _ c.requires.1 c.u16_at-count.ensures.0
-    c.emit_stmts.ensures.0,
-    passes-by (λ z. z) (block-loops _ _ c.requires.1.reads c.u16_at-count.ensures.0 refl) c.emit_stmts.ensures.1,
+      block-is c.args.depth tree (slot_names tree c.args.slots.now) (keeping_of c.args.it.now) c.args.at _ c.requires.1 c.u16_at-count.ensures.0
+          c.emit_stmts.ensures.0,
+      passes-by (λ z. z) (block-loops _ _ c.requires.1.reads c.u16_at-count.ensures.0 refl) c.emit_stmts.ensures.1,
     )
 
 pub emit_body-emit_block-next-requires : goal.emit_body-emit_block-next-requires
@@ -229,12 +228,12 @@ emit_branch-returns-then-block-eq0 t c =
 pub emit_branch-emit_block-next-requires : goal.emit_branch-emit_block-next-requires
 emit_branch-emit_block-next-requires t c =
     let v = c.emit_value-block.ensures in (
-    omega (arith, c.decreases),
-    (
-    ready-next c.if-block-eq0.false c.requires.0 v,
-    block-at _ _ _ _ (done-of c.if-block-eq0.false v).0 c.requires.1.block,
-    spare-at _ _ (done-of c.if-block-eq0.false v).0 c.requires.2,
-    ),
+      omega (arith, c.decreases),
+      (
+        ready-next c.if-block-eq0.false c.requires.0 v,
+        block-at _ _ _ _ (done-of c.if-block-eq0.false v).0 c.requires.1.block,
+        spare-at _ _ (done-of c.if-block-eq0.false v).0 c.requires.2,
+      ),
     )
 
 pub emit_branch-shape_of-code-then-next-eq0 : goal.emit_branch-shape_of-code-then-next-eq0
@@ -253,10 +252,10 @@ pub emit_branch-end_branch-requires : goal.emit_branch-end_branch-requires
 emit_branch-end_branch-requires t c =
     let tree = c.args.tree.now in let names = slot_names tree c.args.slots.now in
     let question = expr_code c.args.depth tree names c.args.at in let v = c.emit_value-block.ensures in let b = block-by c.args.depth tree names (keeping_of c.args.it.now) _ _ (done-of c.if-block-eq0.false v).0 c.emit_block-next.ensures.0 in (
-    room-sound (sound-next c.if-next-eq0.false b),
-    omega (arith, inside-above question (instr 29 0 0) (sound-of c.requires.0) v c.if-block-eq0.false b c.if-next-eq0.false),
-    end-above question (instr 29 0 0) (sound-of c.requires.0) v c.if-block-eq0.false b c.if-next-eq0.false,
-    omega (arith, c.if-next-eq0.false),
+      room-sound (sound-next c.if-next-eq0.false b),
+      omega (arith, inside-above question (instr 29 0 0) (sound-of c.requires.0) v c.if-block-eq0.false b c.if-next-eq0.false),
+      end-above question (instr 29 0 0) (sound-of c.requires.0) v c.if-block-eq0.false b c.if-next-eq0.false,
+      omega (arith, c.if-next-eq0.false),
     )
 
 pub emit_branch-shape_of-code : goal.emit_branch-shape_of-code
@@ -270,8 +269,8 @@ emit_branch-returns t c =
     let tree = c.args.tree.now in let names = slot_names tree c.args.slots.now in
     let keep = keeping_of c.args.it.now in let expr = (expr_at c.args.depth tree c.args.at).value in
     let body = (body_at c.args.depth tree c.args.at).value in let v = c.emit_value-block.ensures in let b = block-by c.args.depth tree names keep _ _ (done-of c.if-block-eq0.false v).0 c.emit_block-next.ensures.0 in (
-    branch-done names keep expr (instr 29 0 0) (sound-of c.requires.0) v c.if-block-eq0.false body b c.if-next-eq0.false c.end_branch.ensures,
-    passes-done c.if-next-eq0.false (loops-at _ _ (done-of c.if-block-eq0.false v).0) c.emit_block-next.ensures.1,
+      branch-done names keep expr (instr 29 0 0) (sound-of c.requires.0) v c.if-block-eq0.false body b c.if-next-eq0.false c.end_branch.ensures,
+      passes-done c.if-next-eq0.false (loops-at _ _ (done-of c.if-block-eq0.false v).0) c.emit_block-next.ensures.1,
     )
 
 pub emit_class-begin_class-i-requires : goal.emit_class-begin_class-i-requires
@@ -296,12 +295,12 @@ pub emit_class-emit_methods-count-requires : goal.emit_class-emit_methods-count-
 emit_class-emit_methods-count-requires t c =
     let ms = (class_methods_at c.args.depth c.args.tree.now c.args.at).value in let e = c.name_end-start.ensures in let n = c.u16_at-n.ensures.0 ∙ ap (count_at c.args.tree.now) e in
     let p = ap (λ (x : ℕ). x + 2) e in (
-    omega (arith, c.decreases),
-    (
-    sole-next c.requires.0 (class-sound ms (sound-sole c.requires.0) c.begin_class-i.ensures c.if-i-ge-OVER.false),
-    methods-at _ _ _ _ _ _ n p c.requires.1.methods,
-    omega arith,
-    ),
+      omega (arith, c.decreases),
+      (
+        sole-next c.requires.0 (class-sound ms (sound-sole c.requires.0) c.begin_class-i.ensures c.if-i-ge-OVER.false),
+        methods-at _ _ _ _ _ _ n p c.requires.1.methods,
+        omega arith,
+      ),
     )
 
 pub emit_class-shape_of-code-then-count-ge-OVER : goal.emit_class-shape_of-code-then-count-ge-OVER
@@ -344,15 +343,14 @@ pub emit_elifs-loop-left-init : goal.emit_elifs-loop-left-init
 emit_elifs-loop-left-init t c = let tree = c.args.tree.now in chain-all (slot_names tree c.args.slots.now) c.requires.0 c.requires.1 c.requires.2 c.requires.3
 
 pub emit_elifs-emit_branch-next-requires : goal.emit_elifs-emit_branch-next-requires
-emit_elifs-emit_branch-next-requires t c =
-    (
-    omega (arith, c.decreases),
-    (
+emit_elifs-emit_branch-next-requires t c = (
+  omega (arith, c.decreases),
+  (
     chain-ready c.loop-left.invariant c.requires.0,
     (elifs-more _ _ _ _ c.loop-left-test.true c.loop-left.invariant.branches).0,
     chain-spare c.loop-left.invariant c.loop-left-test.true,
-    ),
-    )
+  ),
+)
 
 pub emit_elifs-shape_of-code-then-next-eq0 : goal.emit_elifs-shape_of-code-then-next-eq0
 emit_elifs-shape_of-code-then-next-eq0 t c = (c.emit_branch-next.auto.code ∙ c.loop-left.invariant.code-kept)
@@ -378,9 +376,9 @@ emit_elifs-overflow_sub-from t c = omega (arith, c.loop-left.invariant.chained.s
 pub emit_elifs-set_jump-requires : goal.emit_elifs-set_jump-requires
 emit_elifs-set_jump-requires t c =
     let s = (sound-next c.if-next-eq0.false c.emit_branch-next.ensures.0).sound in (
-    omega (arith, chain-longer c.loop-left.invariant c.loop-left-test.true c.emit_branch-next.ensures.0 c.if-next-eq0.false, s.words, s.limited.instructions, s.code-room),
-    omega arith,
-    omega (arith, s.words, s.limited.instructions),
+      omega (arith, chain-longer c.loop-left.invariant c.loop-left-test.true c.emit_branch-next.ensures.0 c.if-next-eq0.false, s.words, s.limited.instructions, s.code-room),
+      omega arith,
+      omega (arith, s.words, s.limited.instructions),
     )
 
 pub emit_elifs-overflow_sub-left : goal.emit_elifs-overflow_sub-left
@@ -395,16 +393,15 @@ emit_elifs-loop-left-preserved t c =
     c.set_jump.ensures (c.set_jump.auto.code ∙ c.emit_branch-next.auto.code) c.emit_branch-next.auto.tables
 
 pub emit_elifs-emit_else-requires : goal.emit_elifs-emit_else-requires
-emit_elifs-emit_else-requires t c =
-    (
-    omega (arith, c.decreases),
-    (
+emit_elifs-emit_else-requires t c = (
+  omega (arith, c.decreases),
+  (
     chain-ready c.loop-left.invariant c.requires.0,
     elifs-none _ _ _ _ c.loop-left-test.false c.loop-left.invariant.branches,
     c.loop-left.invariant.chained.some,
     chain-rest c.loop-left.invariant c.loop-left-test.false,
-    ),
-    )
+  ),
+)
 
 pub emit_elifs-shape_of-code : goal.emit_elifs-shape_of-code
 emit_elifs-shape_of-code t c = (c.emit_else.auto.code ∙ c.loop-left.invariant.code-kept)
@@ -425,12 +422,11 @@ pub emit_else-overflow_sub-from : goal.emit_else-overflow_sub-from
 emit_else-overflow_sub-from t c = omega (arith, c.requires.2)
 
 pub emit_else-set_jump-requires : goal.emit_else-set_jump-requires
-emit_else-set_jump-requires t c =
-    (
-    omega (arith, c.requires.0.ready.sound.words, c.requires.0.ready.sound.limited.instructions, c.requires.0.ready.sound.code-room, c.requires.2),
-    omega arith,
-    omega arith,
-    )
+emit_else-set_jump-requires t c = (
+  omega (arith, c.requires.0.ready.sound.words, c.requires.0.ready.sound.limited.instructions, c.requires.0.ready.sound.code-room, c.requires.2),
+  omega arith,
+  omega arith,
+)
 
 pub emit_else-overflow_add-result : goal.emit_else-overflow_add-result
 emit_else-overflow_add-result t c = omega (arith, else-in _ _ _ c.requires.1, c.requires.0.ready.tree-short)
@@ -441,24 +437,23 @@ emit_else-shape_of-code-then-tree-at-eq0 t c = c.set_jump.auto.code
 pub emit_else-returns-then-tree-at-eq0 : goal.emit_else-returns-then-tree-at-eq0
 emit_else-returns-then-tree-at-eq0 t c =
     let tree = c.args.tree.now in (
-    else-none (slot_names tree c.args.slots.now) (keeping_of c.args.it.now) (sound-of c.requires.0) c.requires.2 c.requires.1 c.if-tree-at-eq0.true
-    c.set_jump.ensures,
-    passes-by (λ z. z) (no-else-loops _ _ c.requires.1.reads c.if-tree-at-eq0.true) passes_none,
+      else-none (slot_names tree c.args.slots.now) (keeping_of c.args.it.now) (sound-of c.requires.0) c.requires.2 c.requires.1 c.if-tree-at-eq0.true
+          c.set_jump.ensures,
+      passes-by (λ z. z) (no-else-loops _ _ c.requires.1.reads c.if-tree-at-eq0.true) passes_none,
     )
 
 pub emit_else-overflow_add-at : goal.emit_else-overflow_add-at
 emit_else-overflow_add-at t c = omega (arith, else-in _ _ _ c.requires.1, c.requires.0.ready.tree-short)
 
 pub emit_else-emit_block-next-requires : goal.emit_else-emit_block-next-requires
-emit_else-emit_block-next-requires t c =
-    (
-    omega (arith, c.decreases),
-    (
+emit_else-emit_block-next-requires t c = (
+  omega (arith, c.decreases),
+  (
     c.requires.0,
     (else-parts _ _ _ c.requires.1 (else-one _ _ _ c.requires.1 c.if-tree-at-eq0.false)).0,
     subst (Spare c.args.it.now) (sym (else-loops _ _ c.requires.1.reads c.if-tree-at-eq0.false)) c.requires.3,
-    ),
-    )
+  ),
+)
 
 pub emit_else-shape_of-code-then-next-eq0 : goal.emit_else-shape_of-code-then-next-eq0
 emit_else-shape_of-code-then-next-eq0 t c = c.emit_block-next.auto.code
@@ -469,9 +464,9 @@ emit_else-shape_of-tables-then-next-eq0 t c = c.emit_block-next.auto.tables
 pub emit_else-returns-then-next-eq0 : goal.emit_else-returns-then-next-eq0
 emit_else-returns-then-next-eq0 t c =
     let tree = c.args.tree.now in (
-    else-over (slot_names tree c.args.slots.now) (keeping_of c.args.it.now) (sound-of c.requires.0) c.requires.2 c.requires.1 c.if-tree-at-eq0.false
-    c.emit_block-next.ensures.0 c.if-next-eq0.true,
-    passes_over,
+      else-over (slot_names tree c.args.slots.now) (keeping_of c.args.it.now) (sound-of c.requires.0) c.requires.2 c.requires.1 c.if-tree-at-eq0.false
+          c.emit_block-next.ensures.0 c.if-next-eq0.true,
+      passes_over,
     )
 
 pub emit_else-overflow_sub-over : goal.emit_else-overflow_sub-over
@@ -488,17 +483,17 @@ emit_else-overflow_sub-from-2 t c = omega (arith, c.requires.2)
 pub emit_else-set_jump-requires-2 : goal.emit_else-set_jump-requires-2
 emit_else-set_jump-requires-2 t c =
     let tree = c.args.tree.now in let s = (sound-next c.if-next-eq0.false c.emit_block-next.ensures.0).sound in (
-    omega (
-    arith,
-    else-longer (slot_names tree c.args.slots.now) (keeping_of c.args.it.now) (sound-of c.requires.0) c.requires.2 c.requires.1 c.if-tree-at-eq0.false
-    c.emit_block-next.ensures.0 c.if-next-eq0.false,
-    c.requires.2,
-    s.words,
-    s.limited.instructions,
-    s.code-room,
-    ),
-    omega arith,
-    omega (arith, s.words, s.limited.instructions),
+      omega (
+        arith,
+        else-longer (slot_names tree c.args.slots.now) (keeping_of c.args.it.now) (sound-of c.requires.0) c.requires.2 c.requires.1 c.if-tree-at-eq0.false
+            c.emit_block-next.ensures.0 c.if-next-eq0.false,
+        c.requires.2,
+        s.words,
+        s.limited.instructions,
+        s.code-room,
+      ),
+      omega arith,
+      omega (arith, s.words, s.limited.instructions),
     )
 
 pub emit_else-shape_of-code : goal.emit_else-shape_of-code
@@ -510,9 +505,9 @@ emit_else-shape_of-tables t c = c.emit_block-next.auto.tables
 pub emit_else-returns : goal.emit_else-returns
 emit_else-returns t c =
     let tree = c.args.tree.now in (
-    else-done (slot_names tree c.args.slots.now) (keeping_of c.args.it.now) (sound-of c.requires.0) c.requires.2 c.requires.1 c.if-tree-at-eq0.false
-    c.emit_block-next.ensures.0 c.if-next-eq0.false c.set_jump-2.ensures,
-    passes-by (λ z. z) (else-loops _ _ c.requires.1.reads c.if-tree-at-eq0.false) c.emit_block-next.ensures.1,
+      else-done (slot_names tree c.args.slots.now) (keeping_of c.args.it.now) (sound-of c.requires.0) c.requires.2 c.requires.1 c.if-tree-at-eq0.false
+          c.emit_block-next.ensures.0 c.if-next-eq0.false c.set_jump-2.ensures,
+      passes-by (λ z. z) (else-loops _ _ c.requires.1.reads c.if-tree-at-eq0.false) c.emit_block-next.ensures.1,
     )
 
 pub emit_for-name_end-start-requires : goal.emit_for-name_end-start-requires
@@ -550,9 +545,9 @@ emit_for-returns-then-load-eq0 t c =
     let tree = c.args.tree.now in let names = slot_names tree c.args.slots.now in
     let expr = (expr_at c.args.depth tree (name_end tree c.args.at)).value in let body = (body_at c.args.depth tree (name_end tree c.args.at)).value in
     let g = iterable-by c.args.depth tree names _ _ c.name_end-start.ensures c.emit_iterable-block.ensures in (
-    for-over names c.args.it.now expr (name_at tree c.args.at) body (sound-of c.requires.0) g c.if-block-eq0.false c.store_iterator-load.ensures
-    c.if-load-eq0.true,
-    passes_over,
+      for-over names c.args.it.now expr (name_at tree c.args.at) body (sound-of c.requires.0) g c.if-block-eq0.false c.store_iterator-load.ensures
+          c.if-load-eq0.true,
+      passes_over,
     )
 
 pub emit_for-emit_rounds-requires : goal.emit_for-emit_rounds-requires
@@ -560,16 +555,16 @@ emit_for-emit_rounds-requires t c =
     let tree = c.args.tree.now in let names = slot_names tree c.args.slots.now in let slot = c.args.it.now in let expr = (expr_at c.args.depth tree (name_end tree c.args.at)).value in
     let name = name_at tree c.args.at in let body = (body_at c.args.depth tree (name_end tree c.args.at)).value in
     let g = iterable-by c.args.depth tree names _ _ c.name_end-start.ensures c.emit_iterable-block.ensures in (
-    omega (arith, c.decreases),
-    (
-    ready-sound c.requires.0 (for-sound names slot expr name body (sound-of c.requires.0) g c.if-block-eq0.false c.store_iterator-load.ensures c.if-load-eq0.false),
-    c.requires.1.name,
-    block-at _ _ _ _ (done-of c.if-block-eq0.false g).0 c.requires.1.loop.block,
-    for-loads names slot expr name body (sound-of c.requires.0) g c.if-block-eq0.false c.store_iterator-load.ensures c.if-load-eq0.false,
-    omega (arith, c.if-block-eq0.false),
-    spare-at _ _ (done-of c.if-block-eq0.false g).0
-    (for-spare names slot expr name body (sound-of c.requires.0) g c.if-block-eq0.false c.store_iterator-load.ensures c.if-load-eq0.false c.requires.2),
-    ),
+      omega (arith, c.decreases),
+      (
+        ready-sound c.requires.0 (for-sound names slot expr name body (sound-of c.requires.0) g c.if-block-eq0.false c.store_iterator-load.ensures c.if-load-eq0.false),
+        c.requires.1.name,
+        block-at _ _ _ _ (done-of c.if-block-eq0.false g).0 c.requires.1.loop.block,
+        for-loads names slot expr name body (sound-of c.requires.0) g c.if-block-eq0.false c.store_iterator-load.ensures c.if-load-eq0.false,
+        omega (arith, c.if-block-eq0.false),
+        spare-at _ _ (done-of c.if-block-eq0.false g).0
+            (for-spare names slot expr name body (sound-of c.requires.0) g c.if-block-eq0.false c.store_iterator-load.ensures c.if-load-eq0.false c.requires.2),
+      ),
     )
 
 pub emit_for-shape_of-code : goal.emit_for-shape_of-code
@@ -584,10 +579,10 @@ emit_for-returns t c =
     let slot = c.args.it.now in let expr = (expr_at c.args.depth tree (name_end tree c.args.at)).value in let name = name_at tree c.args.at in
     let body = (body_at c.args.depth tree (name_end tree c.args.at)).value in
     let g = iterable-by c.args.depth tree names _ _ c.name_end-start.ensures c.emit_iterable-block.ensures in let q = (done-of c.if-block-eq0.false g).0 in (
-    for-done names slot expr name body (sound-of c.requires.0) g c.if-block-eq0.false c.store_iterator-load.ensures c.if-load-eq0.false c.requires.2
-    (λ i. (block_at c.args.depth tree (q i)).value) (λ i. (block_at c.args.depth tree (q i)).end) c.emit_rounds.ensures.0,
-    for-passes names slot expr name body (sound-of c.requires.0) g c.if-block-eq0.false c.store_iterator-load.ensures c.if-load-eq0.false c.requires.2
-    (passes-by (λ z. z) (loops-at _ _ q) c.emit_rounds.ensures.1),
+      for-done names slot expr name body (sound-of c.requires.0) g c.if-block-eq0.false c.store_iterator-load.ensures c.if-load-eq0.false c.requires.2
+          (λ i. (block_at c.args.depth tree (q i)).value) (λ i. (block_at c.args.depth tree (q i)).end) c.emit_rounds.ensures.0,
+      for-passes names slot expr name body (sound-of c.requires.0) g c.if-block-eq0.false c.store_iterator-load.ensures c.if-load-eq0.false c.requires.2
+          (passes-by (λ z. z) (loops-at _ _ q) c.emit_rounds.ensures.1),
     )
 
 pub emit_if-emit_branch-p-requires : goal.emit_if-emit_branch-p-requires
@@ -611,13 +606,13 @@ emit_if-overflow_add-p t c = let g = c.emit_branch-p.ensures.0 in let d = (done-
 pub emit_if-emit_elifs-requires : goal.emit_if-emit_elifs-requires
 emit_if-emit_elifs-requires t c =
     let tree = c.args.tree.now in let expr = (expr_at c.args.depth tree c.args.at).value in let body = (body_at c.args.depth tree c.args.at).value in let g = c.emit_branch-p.ensures.0 in let d = (done-of c.if-p-eq0.false g).0 in let n = c.u16_at-n.ensures.0 ∙ ap (count_at tree) d in let p = ap (λ (x : ℕ). x + 2) d in (
-    omega (arith, c.decreases),
-    (
-    ready-next c.if-p-eq0.false c.requires.0 g,
-    elifs-at _ _ _ _ _ _ n p c.requires.1.rest,
-    if-open (slot_names tree c.args.slots.now) (keeping_of c.args.it.now) expr body (sound-of c.requires.0) g c.if-p-eq0.false,
-    spare-then c.if-p-eq0.false c.emit_branch-p.ensures.1 c.requires.2 (sym (λ i. loops_branches (branches_at c.args.depth (n i) tree (p i)).value)),
-    ),
+      omega (arith, c.decreases),
+      (
+        ready-next c.if-p-eq0.false c.requires.0 g,
+        elifs-at _ _ _ _ _ _ n p c.requires.1.rest,
+        if-open (slot_names tree c.args.slots.now) (keeping_of c.args.it.now) expr body (sound-of c.requires.0) g c.if-p-eq0.false,
+        spare-then c.if-p-eq0.false c.emit_branch-p.ensures.1 c.requires.2 (sym (λ i. loops_branches (branches_at c.args.depth (n i) tree (p i)).value)),
+      ),
     )
 
 pub emit_if-shape_of-code : goal.emit_if-shape_of-code
@@ -631,11 +626,11 @@ emit_if-returns t c =
     let tree = c.args.tree.now in let expr = (expr_at c.args.depth tree c.args.at).value in let body = (body_at c.args.depth tree c.args.at).value in
     let g = c.emit_branch-p.ensures.0 in let d = (done-of c.if-p-eq0.false g).0 in let n = c.u16_at-n.ensures.0 ∙ ap (count_at tree) d in let p = ap (λ (x : ℕ). x + 2) d in
     let passed = c.emit_branch-p.ensures.1 in (
-    if-done (slot_names tree c.args.slots.now) (keeping_of c.args.it.now) expr body (sound-of c.requires.0) g c.if-p-eq0.false
-    (keeping-then c.if-p-eq0.false passed (spare-first _ _ _ c.requires.2)) (λ i. (branches_at c.args.depth (n i) tree (p i)).value)
-    (λ i. (branches_at c.args.depth (n i) tree (p i)).end) c.emit_elifs.ensures.0,
-    passes_then c.requires.2 c.if-p-eq0.false passed
-    (passes-by (λ z. z) (λ i. loops_branches (branches_at c.args.depth (n i) tree (p i)).value) c.emit_elifs.ensures.1),
+      if-done (slot_names tree c.args.slots.now) (keeping_of c.args.it.now) expr body (sound-of c.requires.0) g c.if-p-eq0.false
+          (keeping-then c.if-p-eq0.false passed (spare-first _ _ _ c.requires.2)) (λ i. (branches_at c.args.depth (n i) tree (p i)).value)
+          (λ i. (branches_at c.args.depth (n i) tree (p i)).end) c.emit_elifs.ensures.0,
+      passes_then c.requires.2 c.if-p-eq0.false passed
+          (passes-by (λ z. z) (λ i. loops_branches (branches_at c.args.depth (n i) tree (p i)).value) c.emit_elifs.ensures.1),
     )
 
 pub emit_methods-loop-left-init : goal.emit_methods-loop-left-init
@@ -665,10 +660,10 @@ emit_methods-overflow_mul-p t c = omega (arith, (methods-parts _ _ _ _ c.loop-le
 pub emit_methods-overflow_add-p : goal.emit_methods-overflow_add-p
 emit_methods-overflow_add-p t c =
     omega (
-    arith,
-    (methods-parts _ _ _ _ c.loop-left-test.true c.loop-left.invariant.methods).0.name.byte,
-    c.requires.0.sole.tree-short,
-    methods-number c.loop-left.invariant c.requires.0 c.loop-left-test.true c.is_init-init.ensures c.compile_function-next.ensures c.if-next-eq0.false,
+      arith,
+      (methods-parts _ _ _ _ c.loop-left-test.true c.loop-left.invariant.methods).0.name.byte,
+      c.requires.0.sole.tree-short,
+      methods-number c.loop-left.invariant c.requires.0 c.loop-left-test.true c.is_init-init.ensures c.compile_function-next.ensures c.if-next-eq0.false,
     )
 
 pub emit_methods-insert_method-count-requires : goal.emit_methods-insert_method-count-requires
@@ -709,18 +704,18 @@ emit_rounds-shape_of-tables-then-p-eq0 t c = c.ask_iterator-p.auto.tables
 pub emit_rounds-returns-then-p-eq0 : goal.emit_rounds-returns-then-p-eq0
 emit_rounds-returns-then-p-eq0 t c =
     let a = c.ask_iterator-p.ensures in (
-    loop-stopped (ask_iter (keeper_of c.args.load)) (instr 29 0 0) (sound-of c.requires.0) a (lengthens-seq (lengthens-take_iter _ _ _) (lengthens-block _ _ _)) c.if-p-eq0.true,
-    passes_over,
+      loop-stopped (ask_iter (keeper_of c.args.load)) (instr 29 0 0) (sound-of c.requires.0) a (lengthens-seq (lengthens-take_iter _ _ _) (lengthens-block _ _ _)) c.if-p-eq0.true,
+      passes_over,
     )
 
 pub emit_rounds-take_iterator-q-requires : goal.emit_rounds-take_iterator-q-requires
 emit_rounds-take_iterator-q-requires t c =
     let a = c.ask_iterator-p.ensures in (
-    sound-next c.if-p-eq0.false a,
-    c.requires.0.ready.slotted,
-    omega (arith, c.requires.1.byte, c.requires.0.ready.tree-short),
-    c.requires.3,
-    omega (arith, c.if-p-eq0.false),
+      sound-next c.if-p-eq0.false a,
+      c.requires.0.ready.slotted,
+      omega (arith, c.requires.1.byte, c.requires.0.ready.tree-short),
+      c.requires.3,
+      omega (arith, c.if-p-eq0.false),
     )
 
 pub emit_rounds-shape_of-code-then-q-eq0 : goal.emit_rounds-shape_of-code-then-q-eq0
@@ -732,21 +727,21 @@ emit_rounds-shape_of-tables-then-q-eq0 t c = c.take_iterator-q.auto.tables ∙ c
 pub emit_rounds-returns-then-q-eq0 : goal.emit_rounds-returns-then-q-eq0
 emit_rounds-returns-then-q-eq0 t c =
     let tree = c.args.tree.now in let a = c.ask_iterator-p.ensures in let u = c.take_iterator-q.ensures in let S1 = sound-next c.if-p-eq0.false a in (
-    loop-over (ask_iter (keeper_of c.args.load)) (instr 29 0 0) (sound-of c.requires.0) a c.if-p-eq0.false
-    (lowers-stopped {q = 0} c.if-q-eq0.true S1 (lengthens-block (slot_names tree c.args.slots.now) (keeping_of c.args.it.now) (block_at c.args.depth tree c.args.block).value) u)
-    refl,
-    passes_over,
+      loop-over (ask_iter (keeper_of c.args.load)) (instr 29 0 0) (sound-of c.requires.0) a c.if-p-eq0.false
+          (lowers-stopped {q = 0} c.if-q-eq0.true S1 (lengthens-block (slot_names tree c.args.slots.now) (keeping_of c.args.it.now) (block_at c.args.depth tree c.args.block).value) u)
+          refl,
+      passes_over,
     )
 
 pub emit_rounds-emit_block-next-requires : goal.emit_rounds-emit_block-next-requires
 emit_rounds-emit_block-next-requires t c =
     let a = c.ask_iterator-p.ensures in let u = c.take_iterator-q.ensures in let S1 = sound-next c.if-p-eq0.false a in (
-    omega (arith, c.decreases),
-    (
-    ready-next c.if-q-eq0.false (ready-next c.if-p-eq0.false c.requires.0 a) u,
-    block-at _ _ _ _ ((done-of c.if-q-eq0.false u).0 ∙ (done-of c.if-p-eq0.false a).0) c.requires.2,
-    spare-at _ _ ((done-of c.if-q-eq0.false u).0 ∙ (done-of c.if-p-eq0.false a).0) c.requires.5,
-    ),
+      omega (arith, c.decreases),
+      (
+        ready-next c.if-q-eq0.false (ready-next c.if-p-eq0.false c.requires.0 a) u,
+        block-at _ _ _ _ ((done-of c.if-q-eq0.false u).0 ∙ (done-of c.if-p-eq0.false a).0) c.requires.2,
+        spare-at _ _ ((done-of c.if-q-eq0.false u).0 ∙ (done-of c.if-p-eq0.false a).0) c.requires.5,
+      ),
     )
 
 pub emit_rounds-shape_of-code-then-next-eq0 : goal.emit_rounds-shape_of-code-then-next-eq0
@@ -768,10 +763,10 @@ emit_rounds-end_loop-requires t c =
     let ask = ask_iter (keeper_of c.args.load) in let a = c.ask_iterator-p.ensures in let u = c.take_iterator-q.ensures in let S1 = sound-next c.if-p-eq0.false a in
     let b = block-by c.args.depth tree names keep c.args.block _ ((done-of c.if-q-eq0.false u).0 ∙ (done-of c.if-p-eq0.false a).0) c.emit_block-next.ensures.0 in
     let w = lowers_then (λ x. block_code c.args.depth tree names keep c.args.block) (λ x. (block_at c.args.depth tree c.args.block).end) c.if-q-eq0.false S1 u b in (
-    room-sound (sound-next c.if-next-eq0.false w),
-    inside-above ask (instr 29 0 0) (sound-of c.requires.0) a c.if-p-eq0.false w c.if-next-eq0.false,
-    end-above ask (instr 29 0 0) (sound-of c.requires.0) a c.if-p-eq0.false w c.if-next-eq0.false,
-    omega (arith, c.if-next-eq0.false),
+      room-sound (sound-next c.if-next-eq0.false w),
+      inside-above ask (instr 29 0 0) (sound-of c.requires.0) a c.if-p-eq0.false w c.if-next-eq0.false,
+      end-above ask (instr 29 0 0) (sound-of c.requires.0) a c.if-p-eq0.false w c.if-next-eq0.false,
+      omega (arith, c.if-next-eq0.false),
     )
 
 pub emit_rounds-shape_of-code : goal.emit_rounds-shape_of-code
@@ -785,8 +780,8 @@ emit_rounds-returns t c =
     let tree = c.args.tree.now in let names = slot_names tree c.args.slots.now in let keep = keeping_of c.args.it.now in let a = c.ask_iterator-p.ensures in let u = c.take_iterator-q.ensures in let S1 = sound-next c.if-p-eq0.false a in
     let b = block-by c.args.depth tree names keep c.args.block _ ((done-of c.if-q-eq0.false u).0 ∙ (done-of c.if-p-eq0.false a).0) c.emit_block-next.ensures.0 in
     let w = lowers_then (λ x. block_code c.args.depth tree names keep c.args.block) (λ x. (block_at c.args.depth tree c.args.block).end) c.if-q-eq0.false S1 u b in (
-    loop-done (ask_iter (keeper_of c.args.load)) (instr 29 0 0) (sound-of c.requires.0) a c.if-p-eq0.false w c.if-next-eq0.false c.end_loop.ensures,
-    passes-done c.if-next-eq0.false (loops-at _ _ ((done-of c.if-q-eq0.false u).0 ∙ (done-of c.if-p-eq0.false a).0)) c.emit_block-next.ensures.1,
+      loop-done (ask_iter (keeper_of c.args.load)) (instr 29 0 0) (sound-of c.requires.0) a c.if-p-eq0.false w c.if-next-eq0.false c.end_loop.ensures,
+      passes-done c.if-next-eq0.false (loops-at _ _ ((done-of c.if-q-eq0.false u).0 ∙ (done-of c.if-p-eq0.false a).0)) c.emit_block-next.ensures.1,
     )
 
 pub emit_stmt-bounds-tree-at : goal.emit_stmt-bounds-tree-at
@@ -799,15 +794,14 @@ pub emit_stmt-overflow_sub-depth : goal.emit_stmt-overflow_sub-depth
 emit_stmt-overflow_sub-depth t c = arm-deep _ _ _ c.requires.1
 
 pub emit_stmt-emit_if-requires : goal.emit_stmt-emit_if-requires
-emit_stmt-emit_if-requires t c =
-    (
-    omega (arith, c.decreases, arm-deep _ _ _ c.requires.1),
-    (
+emit_stmt-emit_if-requires t c = (
+  omega (arith, c.decreases, arm-deep _ _ _ c.requires.1),
+  (
     c.requires.0,
     (arm-if _ _ _ c.requires.1 c.in-6.is).parts,
     subst (Spare c.args.it.now) (sym (if-loops _ _ _ c.requires.1.reads c.in-6.is)) c.requires.3,
-    ),
-    )
+  ),
+)
 
 pub emit_stmt-shape_of-code-in-6 : goal.emit_stmt-shape_of-code-in-6
 emit_stmt-shape_of-code-in-6 t c = c.emit_if.auto.code
@@ -818,8 +812,8 @@ emit_stmt-shape_of-tables-in-6 t c = c.emit_if.auto.tables
 pub emit_stmt-returns-in-6 : goal.emit_stmt-returns-in-6
 emit_stmt-returns-in-6 t c =
     let m = arm-if _ _ _ c.requires.1 c.in-6.is in (
-    lowers-by c.emit_if.ensures.0 (sym (m.code _ _)) (sym m.end),
-    passes-by (λ z. z) (if-loops _ _ _ c.requires.1.reads c.in-6.is) c.emit_if.ensures.1,
+      lowers-by c.emit_if.ensures.0 (sym (m.code _ _)) (sym m.end),
+      passes-by (λ z. z) (if-loops _ _ _ c.requires.1.reads c.in-6.is) c.emit_if.ensures.1,
     )
 
 pub emit_stmt-overflow_add-at-in-7 : goal.emit_stmt-overflow_add-at-in-7
@@ -829,15 +823,14 @@ pub emit_stmt-overflow_sub-depth-in-7 : goal.emit_stmt-overflow_sub-depth-in-7
 emit_stmt-overflow_sub-depth-in-7 t c = arm-deep _ _ _ c.requires.1
 
 pub emit_stmt-emit_while-requires : goal.emit_stmt-emit_while-requires
-emit_stmt-emit_while-requires t c =
-    (
-    omega (arith, c.decreases, arm-deep _ _ _ c.requires.1),
-    (
+emit_stmt-emit_while-requires t c = (
+  omega (arith, c.decreases, arm-deep _ _ _ c.requires.1),
+  (
     c.requires.0,
     (arm-while _ _ _ c.requires.1 c.in-7.is).parts,
     subst (Spare c.args.it.now) (sym (while-loops _ _ _ c.requires.1.reads c.in-7.is)) c.requires.3,
-    ),
-    )
+  ),
+)
 
 pub emit_stmt-shape_of-code-in-7 : goal.emit_stmt-shape_of-code-in-7
 emit_stmt-shape_of-code-in-7 t c = c.emit_while.auto.code
@@ -848,8 +841,8 @@ emit_stmt-shape_of-tables-in-7 t c = c.emit_while.auto.tables
 pub emit_stmt-returns-in-7 : goal.emit_stmt-returns-in-7
 emit_stmt-returns-in-7 t c =
     let m = arm-while _ _ _ c.requires.1 c.in-7.is in (
-    lowers-by c.emit_while.ensures.0 (sym (m.code _ _)) (sym m.end),
-    passes-by (λ z. z) (while-loops _ _ _ c.requires.1.reads c.in-7.is) c.emit_while.ensures.1,
+      lowers-by c.emit_while.ensures.0 (sym (m.code _ _)) (sym m.end),
+      passes-by (λ z. z) (while-loops _ _ _ c.requires.1.reads c.in-7.is) c.emit_while.ensures.1,
     )
 
 pub emit_stmt-overflow_add-at-in-8 : goal.emit_stmt-overflow_add-at-in-8
@@ -859,15 +852,14 @@ pub emit_stmt-overflow_sub-depth-in-8 : goal.emit_stmt-overflow_sub-depth-in-8
 emit_stmt-overflow_sub-depth-in-8 t c = arm-deep _ _ _ c.requires.1
 
 pub emit_stmt-emit_for-requires : goal.emit_stmt-emit_for-requires
-emit_stmt-emit_for-requires t c =
-    (
-    omega (arith, c.decreases, arm-deep _ _ _ c.requires.1),
-    (
+emit_stmt-emit_for-requires t c = (
+  omega (arith, c.decreases, arm-deep _ _ _ c.requires.1),
+  (
     c.requires.0,
     (arm-for _ _ _ c.requires.1 c.in-8.is).parts,
     subst (Spare c.args.it.now) (sym (for-loops _ _ _ c.requires.1.reads c.in-8.is)) c.requires.3,
-    ),
-    )
+  ),
+)
 
 pub emit_stmt-shape_of-code-in-8 : goal.emit_stmt-shape_of-code-in-8
 emit_stmt-shape_of-code-in-8 t c = c.emit_for.auto.code
@@ -878,8 +870,8 @@ emit_stmt-shape_of-tables-in-8 t c = c.emit_for.auto.tables
 pub emit_stmt-returns-in-8 : goal.emit_stmt-returns-in-8
 emit_stmt-returns-in-8 t c =
     let m = arm-for _ _ _ c.requires.1 c.in-8.is in (
-    lowers-by c.emit_for.ensures.0 (sym (m.code _ _)) (sym m.end),
-    passes-by (λ z. z) (for-loops _ _ _ c.requires.1.reads c.in-8.is) c.emit_for.ensures.1,
+      lowers-by c.emit_for.ensures.0 (sym (m.code _ _)) (sym m.end),
+      passes-by (λ z. z) (for-loops _ _ _ c.requires.1.reads c.in-8.is) c.emit_for.ensures.1,
     )
 
 pub emit_stmt-overflow_add-at-in-9 : goal.emit_stmt-overflow_add-at-in-9
@@ -900,8 +892,8 @@ emit_stmt-shape_of-tables-in-9 t c = c.compile_function.auto.tables
 pub emit_stmt-returns-in-9 : goal.emit_stmt-returns-in-9
 emit_stmt-returns-in-9 t c =
     let m = arm-def _ _ _ c.requires.1 c.in-9.is in (
-    lowers-by (compiles-lowers (c.args.depth - 1) false (c.args.at + 1) c.compile_function.ensures) (sym (m.code _ (keeping_of c.args.it.now))) (sym m.end),
-    passes-by (λ z. z) (other-loops _ _ _ c.requires.1.reads (λ h. omega (arith, c.in-9.is))) passes_none,
+      lowers-by (compiles-lowers (c.args.depth - 1) false (c.args.at + 1) c.compile_function.ensures) (sym (m.code _ (keeping_of c.args.it.now))) (sym m.end),
+      passes-by (λ z. z) (other-loops _ _ _ c.requires.1.reads (λ h. omega (arith, c.in-9.is))) passes_none,
     )
 
 pub emit_stmt-skip_stmt-next-requires : goal.emit_stmt-skip_stmt-next-requires
@@ -914,11 +906,10 @@ pub emit_stmt-overflow_sub-depth-in-10 : goal.emit_stmt-overflow_sub-depth-in-10
 emit_stmt-overflow_sub-depth-in-10 t c = arm-deep _ _ _ c.requires.1
 
 pub emit_stmt-emit_class-requires : goal.emit_stmt-emit_class-requires
-emit_stmt-emit_class-requires t c =
-    (
-    omega (arith, c.decreases, arm-deep _ _ _ c.requires.1),
-    (sole_of c.requires.0, (arm-class _ _ _ c.requires.1 c.in-10.is).parts, stmt-ahead _ _ _ _ c.requires.2 c.requires.1.reads c.skip_stmt-next.ensures),
-    )
+emit_stmt-emit_class-requires t c = (
+  omega (arith, c.decreases, arm-deep _ _ _ c.requires.1),
+  (sole_of c.requires.0, (arm-class _ _ _ c.requires.1 c.in-10.is).parts, stmt-ahead _ _ _ _ c.requires.2 c.requires.1.reads c.skip_stmt-next.ensures),
+)
 
 pub emit_stmt-shape_of-code-in-10 : goal.emit_stmt-shape_of-code-in-10
 emit_stmt-shape_of-code-in-10 t c = c.emit_class.auto.code
@@ -929,9 +920,9 @@ emit_stmt-shape_of-tables-in-10 t c = c.emit_class.auto.tables
 pub emit_stmt-returns-in-10 : goal.emit_stmt-returns-in-10
 emit_stmt-returns-in-10 t c =
     let m = arm-class _ _ _ c.requires.1 c.in-10.is in (
-    lowers-by (reaches-lowers (class_code (name_at c.args.tree.now (c.args.at + 1)) (class_methods_at (c.args.depth - 1) c.args.tree.now (c.args.at + 1)).value) c.emit_class.ensures)
-    (sym (m.code _ (keeping_of c.args.it.now))) (sym c.skip_stmt-next.ensures),
-    passes-by (λ z. z) (other-loops _ _ _ c.requires.1.reads (λ h. omega (arith, c.in-10.is))) passes_none,
+      lowers-by (reaches-lowers (class_code (name_at c.args.tree.now (c.args.at + 1)) (class_methods_at (c.args.depth - 1) c.args.tree.now (c.args.at + 1)).value) c.emit_class.ensures)
+          (sym (m.code _ (keeping_of c.args.it.now))) (sym c.skip_stmt-next.ensures),
+      passes-by (λ z. z) (other-loops _ _ _ c.requires.1.reads (λ h. omega (arith, c.in-10.is))) passes_none,
     )
 
 pub emit_stmt-emit_simple-requires : goal.emit_stmt-emit_simple-requires
@@ -944,26 +935,24 @@ pub emit_stmt-shape_of-tables-in_default : goal.emit_stmt-shape_of-tables-in_def
 emit_stmt-shape_of-tables-in_default t c = c.emit_simple.auto.tables
 
 pub emit_stmt-returns-in_default : goal.emit_stmt-returns-in_default
-emit_stmt-returns-in_default t c =
-    (
-    c.emit_simple.ensures (keeping_of c.args.it.now),
-    passes-by (λ z. z) (other-loops _ _ _ c.requires.1.reads (λ h. (let n = c.in_default.in_default-own.rest in omega (arith, n.0.0.1, n.0.0.0.1, n.0.0.0.0.1)))) passes_none,
-    )
+emit_stmt-returns-in_default t c = (
+  c.emit_simple.ensures (keeping_of c.args.it.now),
+  passes-by (λ z. z) (other-loops _ _ _ c.requires.1.reads (λ h. (let n = c.in_default.in_default-own.rest in omega (arith, n.0.0.1, n.0.0.0.1, n.0.0.0.0.1)))) passes_none,
+)
 
 pub emit_stmts-loop-left-init : goal.emit_stmts-loop-left-init
 emit_stmts-loop-left-init t c = let tree = c.args.tree.now in stmts-all (slot_names tree c.args.slots.now) c.requires.0 c.requires.1 c.requires.2 c.requires.3
 
 pub emit_stmts-emit_stmt-next-requires : goal.emit_stmts-emit_stmt-next-requires
-emit_stmts-emit_stmt-next-requires t c =
-    (
-    omega (arith, c.decreases),
-    (
+emit_stmts-emit_stmt-next-requires t c = (
+  omega (arith, c.decreases),
+  (
     stmts-ready c.loop-left.invariant c.requires.0,
     (stmts-more _ _ _ _ c.loop-left-test.true c.loop-left.invariant.stmts).0,
     c.loop-left.invariant.ahead,
     stmts-spare c.loop-left.invariant c.loop-left-test.true,
-    ),
-    )
+  ),
+)
 
 pub emit_stmts-shape_of-code-then-next-eq0 : goal.emit_stmts-shape_of-code-then-next-eq0
 emit_stmts-shape_of-code-then-next-eq0 t c = (c.emit_stmt-next.auto.code ∙ c.loop-left.invariant.code-kept)
@@ -1006,20 +995,20 @@ emit_while-shape_of-tables-then-block-eq0 t c = c.emit_value-block.auto.tables
 pub emit_while-returns-then-block-eq0 : goal.emit_while-returns-then-block-eq0
 emit_while-returns-then-block-eq0 t c =
     let tree = c.args.tree.now in let v = c.emit_value-block.ensures in (
-    loop-stopped (expr_code c.args.depth tree (slot_names tree c.args.slots.now) c.args.at) (instr 29 0 0) (sound-of c.requires.0) v (lengthens-block _ _ _)
-    c.if-block-eq0.true,
-    passes_over,
+      loop-stopped (expr_code c.args.depth tree (slot_names tree c.args.slots.now) c.args.at) (instr 29 0 0) (sound-of c.requires.0) v (lengthens-block _ _ _)
+          c.if-block-eq0.true,
+      passes_over,
     )
 
 pub emit_while-emit_block-next-requires : goal.emit_while-emit_block-next-requires
 emit_while-emit_block-next-requires t c =
     let v = c.emit_value-block.ensures in (
-    omega (arith, c.decreases),
-    (
-    ready-next c.if-block-eq0.false c.requires.0 v,
-    block-at _ _ _ _ (done-of c.if-block-eq0.false v).0 c.requires.1.block,
-    spare-at _ _ (done-of c.if-block-eq0.false v).0 c.requires.2,
-    ),
+      omega (arith, c.decreases),
+      (
+        ready-next c.if-block-eq0.false c.requires.0 v,
+        block-at _ _ _ _ (done-of c.if-block-eq0.false v).0 c.requires.1.block,
+        spare-at _ _ (done-of c.if-block-eq0.false v).0 c.requires.2,
+      ),
     )
 
 pub emit_while-shape_of-code-then-next-eq0 : goal.emit_while-shape_of-code-then-next-eq0
@@ -1037,10 +1026,10 @@ emit_while-returns-then-next-eq0 t c =
 pub emit_while-end_loop-requires : goal.emit_while-end_loop-requires
 emit_while-end_loop-requires t c =
     let tree = c.args.tree.now in let names = slot_names tree c.args.slots.now in let question = expr_code c.args.depth tree names c.args.at in let v = c.emit_value-block.ensures in let b = block-by c.args.depth tree names (keeping_of c.args.it.now) _ _ (done-of c.if-block-eq0.false v).0 c.emit_block-next.ensures.0 in (
-    room-sound (sound-next c.if-next-eq0.false b),
-    inside-above question (instr 29 0 0) (sound-of c.requires.0) v c.if-block-eq0.false b c.if-next-eq0.false,
-    end-above question (instr 29 0 0) (sound-of c.requires.0) v c.if-block-eq0.false b c.if-next-eq0.false,
-    omega (arith, c.if-next-eq0.false),
+      room-sound (sound-next c.if-next-eq0.false b),
+      inside-above question (instr 29 0 0) (sound-of c.requires.0) v c.if-block-eq0.false b c.if-next-eq0.false,
+      end-above question (instr 29 0 0) (sound-of c.requires.0) v c.if-block-eq0.false b c.if-next-eq0.false,
+      omega (arith, c.if-next-eq0.false),
     )
 
 pub emit_while-shape_of-code : goal.emit_while-shape_of-code
@@ -1052,6 +1041,6 @@ emit_while-shape_of-tables t c = c.emit_block-next.auto.tables ∙ c.emit_value-
 pub emit_while-returns : goal.emit_while-returns
 emit_while-returns t c =
     let tree = c.args.tree.now in let names = slot_names tree c.args.slots.now in let question = expr_code c.args.depth tree names c.args.at in let v = c.emit_value-block.ensures in let b = block-by c.args.depth tree names (keeping_of c.args.it.now) _ _ (done-of c.if-block-eq0.false v).0 c.emit_block-next.ensures.0 in (
-    loop-done question (instr 29 0 0) (sound-of c.requires.0) v c.if-block-eq0.false b c.if-next-eq0.false c.end_loop.ensures,
-    passes-done c.if-next-eq0.false (loops-at _ _ (done-of c.if-block-eq0.false v).0) c.emit_block-next.ensures.1,
+      loop-done question (instr 29 0 0) (sound-of c.requires.0) v c.if-block-eq0.false b c.if-next-eq0.false c.end_loop.ensures,
+      passes-done c.if-next-eq0.false (loops-at _ _ (done-of c.if-block-eq0.false v).0) c.emit_block-next.ensures.1,
     )

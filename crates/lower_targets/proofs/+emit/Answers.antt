@@ -18,13 +18,12 @@ pub emit_assign_target-overflow_add-at : goal.emit_assign_target-overflow_add-at
 emit_assign_target-overflow_add-at t c = omega (arith, expr-inside _ _ _ c.requires.1, c.requires.0.ready.tree-short)
 
 pub emit_assign_target-emit_store-requires : goal.emit_assign_target-emit_store-requires
-emit_assign_target-emit_store-requires t c =
-    (
-    (sound-of c.requires.0),
-    c.requires.0.ready.slotted,
-    omega (arith, (target-variable _ _ [] _ c.requires.1 c.in-6.is).0.byte, c.requires.0.ready.tree-short),
-    c.requires.2,
-    )
+emit_assign_target-emit_store-requires t c = (
+  (sound-of c.requires.0),
+  c.requires.0.ready.slotted,
+  omega (arith, (target-variable _ _ [] _ c.requires.1 c.in-6.is).0.byte, c.requires.0.ready.tree-short),
+  c.requires.2,
+)
 
 pub emit_assign_target-shape_of-code-in-6 : goal.emit_assign_target-shape_of-code-in-6
 emit_assign_target-shape_of-code-in-6 t c = c.emit_store.auto.code
@@ -50,8 +49,8 @@ emit_assign_target-overflow_sub-depth t c = target-deep _ _ [] _ c.requires.1
 pub emit_assign_target-emit_elements-requires : goal.emit_assign_target-emit_elements-requires
 emit_assign_target-emit_elements-requires t c =
     let u = c.u16_at-n.ensures in (
-    omega (arith, c.decreases, target-deep _ _ [] _ c.requires.1, u.1),
-    (c.requires.0, tuple-read _ _ _ _ u.0 (target-tuple _ _ [] _ c.requires.1 c.in-13.is).0, omega (arith, u.1), c.requires.2),
+      omega (arith, c.decreases, target-deep _ _ [] _ c.requires.1, u.1),
+      (c.requires.0, tuple-read _ _ _ _ u.0 (target-tuple _ _ [] _ c.requires.1 c.in-13.is).0, omega (arith, u.1), c.requires.2),
     )
 
 pub emit_assign_target-shape_of-code-in-13 : goal.emit_assign_target-shape_of-code-in-13
@@ -83,8 +82,8 @@ emit_elements-returns-then-q-eq0 t c =
 pub emit_elements-emit_assign_target-requires : goal.emit_elements-emit_assign_target-requires
 emit_elements-emit_assign_target-requires t c =
     let e = c.put_element-q.ensures.lowers _ _ _ (sound-of c.requires.0) in (
-    omega (arith, c.decreases, c.if-n-eq1.true),
-    (ready-next c.if-q-eq0.false c.requires.0 e, (elements-more _ _ _ _ (omega (arith, c.if-n-eq1.true)) c.requires.1).0, omega (arith, c.if-q-eq0.false)),
+      omega (arith, c.decreases, c.if-n-eq1.true),
+      (ready-next c.if-q-eq0.false c.requires.0 e, (elements-more _ _ _ _ (omega (arith, c.if-n-eq1.true)) c.requires.1).0, omega (arith, c.if-q-eq0.false)),
     )
 
 pub emit_elements-shape_of-code-then-n-eq1 : goal.emit_elements-shape_of-code-then-n-eq1
@@ -105,11 +104,10 @@ pub emit_elements-overflow_add-i : goal.emit_elements-overflow_add-i
 emit_elements-overflow_add-i t c = omega (arith, c.requires.2)
 
 pub emit_elements-emit_elements-p-requires : goal.emit_elements-emit_elements-p-requires
-emit_elements-emit_elements-p-requires t c =
-    (
-    omega (arith, c.decreases, c.if-n-eq0.false, c.if-n-eq1.false),
-    (c.requires.0, later-read _ _ _ _ _ _ (omega arith) c.skip_exprs-middle.ensures c.requires.1, omega (arith, c.requires.2), c.requires.3),
-    )
+emit_elements-emit_elements-p-requires t c = (
+  omega (arith, c.decreases, c.if-n-eq0.false, c.if-n-eq1.false),
+  (c.requires.0, later-read _ _ _ _ _ _ (omega arith) c.skip_exprs-middle.ensures c.requires.1, omega (arith, c.requires.2), c.requires.3),
+)
 
 pub emit_elements-shape_of-code-then-p-eq0 : goal.emit_elements-shape_of-code-then-p-eq0
 emit_elements-shape_of-code-then-p-eq0 t c = c.emit_elements-p.auto.code
@@ -121,16 +119,15 @@ pub emit_elements-returns-then-p-eq0 : goal.emit_elements-returns-then-p-eq0
 emit_elements-returns-then-p-eq0 t c = lowers-state (lowers-stopped c.if-p-eq0.true (sound-of c.requires.0) (lengthens-unpack (slot_names c.args.tree.now c.args.slots.now) _ _) c.emit_elements-p.ensures) (halves-state (sound-of c.requires.0) c.args.depth (slot_names c.args.tree.now c.args.slots.now) _ _ _ _ _ (omega arith) c.skip_exprs-middle.ensures)
 
 pub emit_elements-emit_elements-requires : goal.emit_elements-emit_elements-requires
-emit_elements-emit_elements-requires t c =
-    (
-    omega (arith, c.decreases, c.if-n-eq0.false, c.if-n-eq1.false),
-    (
+emit_elements-emit_elements-requires t c = (
+  omega (arith, c.decreases, c.if-n-eq0.false, c.if-n-eq1.false),
+  (
     ready-next c.if-p-eq0.false c.requires.0 c.emit_elements-p.ensures,
     (halves-read _ _ _ _ _ (omega arith) c.requires.1).0,
     omega (arith, c.requires.2),
     omega (arith, c.if-p-eq0.false),
-    ),
-    )
+  ),
+)
 
 pub emit_elements-shape_of-code : goal.emit_elements-shape_of-code
 emit_elements-shape_of-code t c = c.emit_elements.auto.code ∙ c.emit_elements-p.auto.code

@@ -53,10 +53,10 @@ pub emit_symbol-requires : goal.emit_symbol-requires
 emit_symbol-requires c =
     let e = c.emit_expr-name.ensures in let h = (done-of c.if-name-eq0.false e).0 in
     let y = expr-by c.args.depth c.args.tree.now (slot_names c.args.tree.now c.args.slots.now) _ _ c.name_end-start.ensures c.emit_expr-next.ensures in (
-    sound-next c.if-next-eq0.false y,
-    omega (arith, (there-at _ _ _ h c.requires.1.name).byte, c.requires.0.ready.tree-short),
-    plain-above 37 0 0 (omega arith) (omega arith) (omega arith) (omega arith),
-    omega (arith, c.if-next-eq0.false),
+      sound-next c.if-next-eq0.false y,
+      omega (arith, (there-at _ _ _ h c.requires.1.name).byte, c.requires.0.ready.tree-short),
+      plain-above 37 0 0 (omega arith) (omega arith) (omega arith) (omega arith),
+      omega (arith, c.if-next-eq0.false),
     )
 
 pub shape_of-code : goal.shape_of-code

@@ -48,8 +48,8 @@ returns-then-start-eq0 c =
 pub emit_expr-next-requires : goal.emit_expr-next-requires
 emit_expr-next-requires c =
     let e = c.emit_expr-middle.ensures in let f = c.emit_expr-start.ensures in let S1 = sound-next c.if-middle-eq0.false e in (
-    ready-next c.if-start-eq0.false (ready-next c.if-middle-eq0.false c.requires.0 e) f,
-    lowerable-at _ _ _ _ (second-at _ _ _ _ _ (done-of c.if-middle-eq0.false e).0 (done-of c.if-start-eq0.false f).0) c.requires.1.value,
+      ready-next c.if-start-eq0.false (ready-next c.if-middle-eq0.false c.requires.0 e) f,
+      lowerable-at _ _ _ _ (second-at _ _ _ _ _ (done-of c.if-middle-eq0.false e).0 (done-of c.if-start-eq0.false f).0) c.requires.1.value,
     )
 
 pub shape_of-code-then-next-eq0 : goal.shape_of-code-then-next-eq0
@@ -76,6 +76,6 @@ pub returns : goal.returns
 returns c =
     let e = c.emit_expr-middle.ensures in let f = c.emit_expr-start.ensures in let S1 = sound-next c.if-middle-eq0.false e in let g = c.emit_expr-next.ensures in let S2 = sound-next c.if-start-eq0.false f in
     lowers_then (λ x. expr_code (c.args.depth - 1) c.args.tree.now (slot_names c.args.tree.now c.args.slots.now) x ⨟ expr_code c.args.depth c.args.tree.now (slot_names c.args.tree.now c.args.slots.now) (expr_at (c.args.depth - 1) c.args.tree.now x).end ⨟ one StoreIndex) (λ x. (expr_at c.args.depth c.args.tree.now (expr_at (c.args.depth - 1) c.args.tree.now x).end).end) c.if-middle-eq0.false (sound-of c.requires.0) e (lowers_then (λ x. expr_code c.args.depth c.args.tree.now (slot_names c.args.tree.now c.args.slots.now) x ⨟ one StoreIndex) (λ x. (expr_at c.args.depth c.args.tree.now x).end) c.if-start-eq0.false S1 f (lowers-next c.if-next-eq0.false S2 g (put-lifts _ (sound-next c.if-next-eq0.false g) (omega (
-    arith,
-    c.if-next-eq0.false,
+      arith,
+      c.if-next-eq0.false,
     )) (instr-plain _ 44 0 0 (plain-above 44 0 0 (omega arith) (omega arith) (omega arith) (omega arith))) c.put_op.ensures)))

@@ -35,10 +35,10 @@ returns-then-p-eq0 c =
 pub emit_store-requires : goal.emit_store-requires
 emit_store-requires c =
     let v = lowerable-at _ _ _ _ c.name_end-start.ensures c.requires.1.value in (
-    sound-next c.if-p-eq0.false (expr-by c.args.depth c.args.tree.now (slot_names c.args.tree.now c.args.slots.now) _ _ c.name_end-start.ensures (constant-lowers c.args.depth (slot_names c.args.tree.now c.args.slots.now) _ (sound-of c.requires.0) v c.if-kind-lt-INT.true c.put_op-p.ensures)),
-    c.requires.0.ready.slotted,
-    omega (arith, c.requires.1.name.byte, c.requires.0.ready.tree-short),
-    omega (arith, c.if-p-eq0.false),
+      sound-next c.if-p-eq0.false (expr-by c.args.depth c.args.tree.now (slot_names c.args.tree.now c.args.slots.now) _ _ c.name_end-start.ensures (constant-lowers c.args.depth (slot_names c.args.tree.now c.args.slots.now) _ (sound-of c.requires.0) v c.if-kind-lt-INT.true c.put_op-p.ensures)),
+      c.requires.0.ready.slotted,
+      omega (arith, c.requires.1.name.byte, c.requires.0.ready.tree-short),
+      omega (arith, c.if-p-eq0.false),
     )
 
 pub shape_of-code-then-kind-lt-INT : goal.shape_of-code-then-kind-lt-INT
@@ -65,13 +65,12 @@ pub returns-then-next-eq0 : goal.returns-then-next-eq0
 returns-then-next-eq0 c = lowers-stopped c.if-next-eq0.true (sound-of c.requires.0) (lengthens-store _ _) (expr-by c.args.depth c.args.tree.now (slot_names c.args.tree.now c.args.slots.now) _ _ c.name_end-start.ensures c.emit_expr-next.ensures)
 
 pub emit_store-requires-2 : goal.emit_store-requires-2
-emit_store-requires-2 c =
-    (
-    sound-next c.if-next-eq0.false (expr-by c.args.depth c.args.tree.now (slot_names c.args.tree.now c.args.slots.now) _ _ c.name_end-start.ensures c.emit_expr-next.ensures),
-    c.requires.0.ready.slotted,
-    omega (arith, c.requires.1.name.byte, c.requires.0.ready.tree-short),
-    omega (arith, c.if-next-eq0.false),
-    )
+emit_store-requires-2 c = (
+  sound-next c.if-next-eq0.false (expr-by c.args.depth c.args.tree.now (slot_names c.args.tree.now c.args.slots.now) _ _ c.name_end-start.ensures c.emit_expr-next.ensures),
+  c.requires.0.ready.slotted,
+  omega (arith, c.requires.1.name.byte, c.requires.0.ready.tree-short),
+  omega (arith, c.if-next-eq0.false),
+)
 
 pub shape_of-code : goal.shape_of-code
 shape_of-code c = c.emit_store-2.auto.code ∙ c.emit_expr-next.auto.code

@@ -1,10 +1,7 @@
 use native.Mathlib.Omega.{arith}
-use Prim.Native.Nat.{◌-◌, ◌≤◌}
 use mathlib.Core.Path.{sym, ap, ◌∙◌}
-use borrow.Author.Rules.{rules}
-use lib.ListN.{take}
 use Rattle.definitions.specs.Bytes.{same, below}
-use Rattle.methods.proofs.Sorting.{Past, start, slot-here, slot-before, slot-last, past_next}
+use Rattle.methods.proofs.Sorting.{start, slot-here, slot-before, slot-last, past_next}
 use Rattle.methods.proofs.find_slot.Goals as goal
 
 pub loop-i-init : goal.loop-i-init
@@ -22,12 +19,11 @@ returns-then-below_bytes c =
     (sym c.if-below_bytes.true ∙ c.below_bytes.ensures ∙ ap (below _) c.name_part-in-loop-i.ensures.result_value)
 
 pub loop-i-preserved : goal.loop-i-preserved
-loop-i-preserved c =
-    (
-    omega arith,
-    past_next _ _ _ _ _ c.requires c.loop-i.invariant.1 c.loop-i-test.true (sym c.if-same_bytes.false ∙ c.same_bytes.ensures ∙ ap (same _) c.name_part.ensures.result_value)
-    (sym c.if-below_bytes.false ∙ c.below_bytes.ensures ∙ ap (below _) c.name_part-in-loop-i.ensures.result_value),
-    )
+loop-i-preserved c = (
+  omega arith,
+  past_next _ _ _ _ _ c.requires c.loop-i.invariant.1 c.loop-i-test.true (sym c.if-same_bytes.false ∙ c.same_bytes.ensures ∙ ap (same _) c.name_part.ensures.result_value)
+      (sym c.if-below_bytes.false ∙ c.below_bytes.ensures ∙ ap (below _) c.name_part-in-loop-i.ensures.result_value),
+)
 
 pub returns : goal.returns
 returns c = slot-last _ _ _ _ _ c.requires c.loop-i.invariant.1 (omega arith)

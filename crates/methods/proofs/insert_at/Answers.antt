@@ -1,6 +1,5 @@
 use native.Mathlib.Omega.{arith}
-use Prim.Native.Nat.{◌+◌, ◌-◌, ◌≤◌}
-use Rattle.methods.proofs.Sorting.{Shifted, shift_none, shift-more, shift-all}
+use Rattle.methods.proofs.Sorting.{shift_none, shift-more, shift-all}
 use Rattle.methods.proofs.insert_at.Goals as goal
 
 pub loop-j-init : goal.loop-j-init

@@ -1,6 +1,5 @@
-use native.Mathlib.Omega.{arith}
 use Prim.Native.Nat.{◌+◌, ◌-◌, ◌≤◌}
-use Rattle.methods.proofs.Sorting.{Shifted, shift_none, shift-more, shift-all}
+use Rattle.methods.proofs.Sorting.{Shifted}
 use Rattle.methods.proofs.insert_at.Given as goal
 
 abbrev pub invariant-loop-j : goal.invariant-loop-j

@@ -1,5 +1,4 @@
 use native.Mathlib.Omega.{arith}
-use borrow.Author.Rules.{rules}
 use Rattle.methods.proofs.Sorting.{insert-here, insert-before, slotted-here, slotted-before, here-below, before-below}
 use Rattle.methods.proofs.insert_method.Goals as goal
 

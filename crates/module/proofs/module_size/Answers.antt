@@ -8,6 +8,6 @@ use Rattle.module.proofs.module_size.Goals as goal
 pub returns : goal.returns
 returns c =
     let a = c.args in (
-    ap₂ (λ (x y : ℕ). 5 + x + y) c.texts_size.ensures.0 c.bodies_size.ensures.0 ∙ length-module a.tree.now a.made.now a.code.now a.tables.now a.c,
-    omega (arith, c.texts_size.ensures.1, c.bodies_size.ensures.1),
+      ap₂ (λ (x y : ℕ). 5 + x + y) c.texts_size.ensures.0 c.bodies_size.ensures.0 ∙ length-module a.tree.now a.made.now a.code.now a.tables.now a.c,
+      omega (arith, c.texts_size.ensures.1, c.bodies_size.ensures.1),
     )

@@ -1,5 +1,4 @@
 use native.Mathlib.Omega.{arith}
-use borrow.Author.Rules.{rules}
 use Rattle.opcodes.proofs.Opcodes.{binary-is, binary-divide, binary-floor, binary-low, binary-high}
 use Rattle.opcodes.proofs.binary_code.Goals as goal
 

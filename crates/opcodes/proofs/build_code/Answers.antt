@@ -1,5 +1,4 @@
 use native.Mathlib.Omega.{arith}
-use borrow.Author.Rules.{rules}
 use Rattle.opcodes.proofs.Opcodes.{build-dict, build-tuple, build-other}
 use Rattle.opcodes.proofs.build_code.Goals as goal
 

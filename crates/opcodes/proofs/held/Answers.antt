@@ -1,4 +1,3 @@
-use borrow.Author.Rules.{rules}
 use Rattle.opcodes.proofs.Opcodes.{held-dict, held-other}
 use Rattle.opcodes.proofs.held.Goals as goal
 

@@ -1,8 +1,5 @@
-use mathlib.Core.Path.{◌≡◌, refl, sym, ◌∙◌}
-use Prim.Native.Nat.{◌-◌, ◌≤◌}
+use mathlib.Core.Path.{refl, sym, ◌∙◌}
 use native.Mathlib.Omega.{arith}
-use lib.ListN.{length, drop}
-use Rattle.definitions.specs.Calls.{are_answers}
 use Rattle.run.proofs.Calling.{answer-stands, answer-falls, answers-end}
 use Rattle.run.proofs.are_answers.Goals as goal
 

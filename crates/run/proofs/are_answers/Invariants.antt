@@ -1,9 +1,7 @@
-use mathlib.Core.Path.{◌≡◌, refl, sym, ◌∙◌}
+use mathlib.Core.Path.{◌≡◌}
 use Prim.Native.Nat.{◌-◌, ◌≤◌}
-use native.Mathlib.Omega.{arith}
 use lib.ListN.{length, drop}
 use Rattle.definitions.specs.Calls.{are_answers}
-use Rattle.run.proofs.Calling.{answer-stands, answer-falls, answers-end}
 use Rattle.run.proofs.are_answers.Given as goal
 
 abbrev pub invariant-loop-i : goal.invariant-loop-i

@@ -1,5 +1,4 @@
 use mathlib.Core.Path.{sym, ◌∙◌}
-use borrow.Author.Rules.{rules}
 use Rattle.reader.proofs.Deciding.{located-inside, located-code, located-not, part-code}
 use Rattle.run.proofs.Calling.{part_count, part-coded, call-refused, call-answers, call-runs}
 use Rattle.run.proofs.run.Goals as goal

@@ -34,7 +34,7 @@ write_count-requires c =
 pub overflow_add-put : goal.overflow_add-put
 overflow_add-put c =
     let y = c.requires.1 in let h = c.loop-f-test.true in let l = c.loop-f.invariant in let e = c.number_at-n.ensures.0 in let b = sheeting-here l c.requires.2 h e c.count_code-code.ensures in
-    omega (arith, line-41 l c.requires.2 h e c.count_code-code.ensures (omega arith), begun-fits b, begun-length b, c.well-formed)
+    omega (arith, line-41 l c.requires.2 h e c.count_code-code.ensures (omega arith), begun-fits b, begun-length b, c.well_formed)
 
 pub overflow_add-total : goal.overflow_add-total
 overflow_add-total c = omega (arith, (counts-few c.loop-f.invariant c.requires.2 c.loop-f-test.true c.number_at-n.ensures.0 c.count_code-code.ensures).all)
@@ -62,7 +62,7 @@ write_total-requires c =
 pub overflow_add-result : goal.overflow_add-result
 overflow_add-result c =
     let l = c.loop-f.invariant in let b = sheeting-last l c.requires.2 c.loop-f-test.false in
-    omega (arith, last-41 l c.requires.2 c.loop-f-test.false, begun-fits b, begun-length b, c.well-formed)
+    omega (arith, last-41 l c.requires.2 c.loop-f-test.false, begun-fits b, begun-length b, c.well_formed)
 
 pub shape_of-out : goal.shape_of-out
 shape_of-out c = sheeting-same c.loop-f.invariant c.requires.2 c.loop-f-test.false c.write_total.ensures

@@ -1,8 +1,7 @@
-use borrow.Author.Rules.{rules}
 use native.Mathlib.Omega.{arith}
 use mathlib.Core.Path.{refl, sym, ◌∙◌}
 use Rattle.tally.proofs.Walking.{not-nothing}
-use Rattle.tally.proofs.Counting.{Counting, counting-start, counting-next, counting-done}
+use Rattle.tally.proofs.Counting.{counting-start, counting-next, counting-done}
 use Rattle.tally.proofs.count_code.Goals as goal
 
 pub loop-left-init : goal.loop-left-init

@@ -1,8 +1,4 @@
-use borrow.Author.Rules.{rules}
-use native.Mathlib.Omega.{arith}
-use mathlib.Core.Path.{refl, sym, ◌∙◌}
-use Rattle.tally.proofs.Walking.{not-nothing}
-use Rattle.tally.proofs.Counting.{Counting, counting-start, counting-next, counting-done}
+use Rattle.tally.proofs.Counting.{Counting}
 use Rattle.tally.proofs.count_code.Given as goal
 
 abbrev pub invariant-loop-left : goal.invariant-loop-left

@@ -1,6 +1,6 @@
 use native.Mathlib.Omega.{arith}
 use Rattle.tally.proofs.Walking.{function-head, function-here}
-use Rattle.tally.proofs.Counting.{Summing, summing_start, summing-next, summing-done}
+use Rattle.tally.proofs.Counting.{summing_start, summing-next, summing-done}
 use Rattle.tally.proofs.count_functions.Goals as goal
 
 pub loop-left-init : goal.loop-left-init

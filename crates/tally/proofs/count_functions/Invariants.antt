@@ -1,6 +1,4 @@
-use native.Mathlib.Omega.{arith}
-use Rattle.tally.proofs.Walking.{function-head, function-here}
-use Rattle.tally.proofs.Counting.{Summing, summing_start, summing-next, summing-done}
+use Rattle.tally.proofs.Counting.{Summing}
 use Rattle.tally.proofs.count_functions.Given as goal
 
 abbrev pub invariant-loop-left : goal.invariant-loop-left

@@ -1,8 +1,5 @@
 use mathlib.Core.Path.{refl}
 use native.Mathlib.Omega.{arith}
-use Prim.Native.Nat.{◌-◌}
-use lib.ListN.{length}
-use Rattle.utf8.specs.Due.{IsFrom}
 use Rattle.utf8.proofs.Laws.{ascii-on, ascii-four}
 use Rattle.utf8.proofs.ascii_end.Goals as goal
 

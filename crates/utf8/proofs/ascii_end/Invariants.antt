@@ -1,9 +1,6 @@
-use mathlib.Core.Path.{refl}
-use native.Mathlib.Omega.{arith}
 use Prim.Native.Nat.{◌-◌}
 use lib.ListN.{length}
 use Rattle.utf8.specs.Due.{IsFrom}
-use Rattle.utf8.proofs.Laws.{ascii-on, ascii-four}
 use Rattle.utf8.proofs.ascii_end.Given as goal
 
 abbrev pub invariant-loop-i : goal.invariant-loop-i

@@ -1,10 +1,4 @@
-use mathlib.Core.Path.{◌≡◌, sym, ◌∙◌}
-use native.Mathlib.Omega.{arith}
-use borrow.Author.Rules.{rules}
-use Prim.Native.Nat.{◌-◌}
-use lib.ListN.{length, drop}
-use Rattle.definitions.specs.Utf8.{is_utf8}
-use Rattle.utf8.specs.Due.{from}
+use mathlib.Core.Path.{sym, ◌∙◌}
 use Rattle.utf8.proofs.Laws.{from-begin, from_more, from_last}
 use Rattle.utf8.proofs.is_utf8.Goals as goal
 

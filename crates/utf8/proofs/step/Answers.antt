@@ -1,6 +1,5 @@
 use mathlib.Core.Path.{refl}
 use native.Mathlib.Omega.{arith}
-use borrow.Author.Rules.{rules}
 use Rattle.definitions.specs.Utf8.{range}
 use Rattle.utf8.specs.Due.{dues}
 use Rattle.utf8.proofs.Laws.{goes-begin, goes-within, goes-nothing, up}

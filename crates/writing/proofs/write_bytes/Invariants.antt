@@ -1,11 +1,7 @@
-use native.Mathlib.Omega.{arith}
-use mathlib.Core.Path.{◌≡◌, refl, sym, ap, ◌∙◌}
-use mathlib.Core.List.{List}
-use Prim.Native.Nat.{ℕ, ◌+◌, ◌-◌, ◌≤◌}
-use lib.ListN.{length, get_or, take, set}
-use lib.Seq.{take_all, length-take-le}
+use mathlib.Core.Path.{◌≡◌}
+use Prim.Native.Nat.{◌-◌, ◌≤◌}
+use lib.ListN.{length, take}
 use Rattle.definitions.specs.Calls.{written}
-use Rattle.writing.proofs.Begun.{written_none, written-more, length-written}
 use Rattle.writing.proofs.write_bytes.Given as goal
 
 abbrev pub invariant-loop-i : goal.invariant-loop-i

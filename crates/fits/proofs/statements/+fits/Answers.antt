@@ -93,18 +93,17 @@ fits_def-slice_bounds-fits_block-end t c =
     let k = c.collect_locals-found.auto.slots in omega arith
 
 pub fits_def-fits_block-requires : goal.fits_def-fits_block-requires
-fits_def-fits_block-requires t c =
-    (
-    omega arith,
-    (
+fits_def-fits_block-requires t c = (
+  omega arith,
+  (
     def-short c.collect_locals-found.ensures c.in-Slots.is
-    (long-enough c.collect_locals-found.new.slots c.collect_locals-found.auto.slots)
-    c.requires.0,
+        (long-enough c.collect_locals-found.new.slots c.collect_locals-found.auto.slots)
+        c.requires.0,
     def-block _ _ _ _ _
-    c.name_end-params.ensures c.skip_params-p.ensures
-    c.requires.1,
-    ),
-    )
+        c.name_end-params.ensures c.skip_params-p.ensures
+        c.requires.1,
+  ),
+)
 
 pub fits_def-returns : goal.fits_def-returns
 fits_def-returns t c =

@@ -1,10 +1,7 @@
-use borrow.Author.Rules.{rules}
 use native.Mathlib.Omega.{arith}
 use mathlib.Core.Path.{sym, ◌∙◌}
-use Prim.Native.Nat.{◌-◌}
-use lib.ListN.{length}
 use Rattle.writing.proofs.Begun.{begun-length, begun-fits, begun-piece}
-use Rattle.listing.proofs.CodeLaws.{Lining, lining-start, lining-operands, lining-in, lining-less, lining-piece, lining-more, lining-done}
+use Rattle.listing.proofs.CodeLaws.{lining-start, lining-operands, lining-in, lining-less, lining-piece, lining-more, lining-done}
 use Rattle.listing.proofs.code.write_code.Goals as goal
 
 pub loop-op-init : goal.loop-op-init
@@ -34,7 +31,7 @@ write_entry-put-requires c =
     (omega arith, c.requires.1, omega arith, lining-operands c.loop-op.invariant e (λ j. (c.shared_slice_known-1.given j).fits), begun-piece (lining-piece c.loop-op.invariant e))
 
 pub overflow_add-put : goal.overflow_add-put
-overflow_add-put c = let p = lining-piece c.loop-op.invariant (sym c.next_instruction-met.ensures ∙ c.in-At.is) in omega (arith, c.write_entry-put.ensures.count, begun-fits p, begun-length p, c.well-formed)
+overflow_add-put c = let p = lining-piece c.loop-op.invariant (sym c.next_instruction-met.ensures ∙ c.in-At.is) in omega (arith, c.write_entry-put.ensures.count, begun-fits p, begun-length p, c.well_formed)
 
 pub loop-op-smaller : goal.loop-op-smaller
 loop-op-smaller c = lining-less c.loop-op.invariant (sym c.next_instruction-met.ensures ∙ c.in-At.is)

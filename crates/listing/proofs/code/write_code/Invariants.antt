@@ -1,10 +1,6 @@
-use borrow.Author.Rules.{rules}
-use native.Mathlib.Omega.{arith}
-use mathlib.Core.Path.{sym, ◌∙◌}
 use Prim.Native.Nat.{◌-◌}
 use lib.ListN.{length}
-use Rattle.writing.proofs.Begun.{begun-length, begun-fits, begun-piece}
-use Rattle.listing.proofs.CodeLaws.{Lining, lining-start, lining-operands, lining-in, lining-less, lining-piece, lining-more, lining-done}
+use Rattle.listing.proofs.CodeLaws.{Lining}
 use Rattle.listing.proofs.code.write_code.Given as goal
 
 abbrev pub invariant-loop-op : goal.invariant-loop-op

@@ -1,4 +1,3 @@
-use borrow.Author.Rules.{rules}
 use native.Mathlib.Omega.{arith}
 use Rattle.writing.proofs.Begun.{from-long}
 use Rattle.listing.proofs.Entries.{page-53, entry_new, entry_old, page-then-line, line-alone}
@@ -8,10 +7,10 @@ pub write_page-requires : goal.write_page-requires
 write_page-requires c = let l = entry_new _ _ _ _ _ _ c.requires.0 c.requires.1 c.requires.2 c.requires.3 c.if-k-eq0.true in let r = c.requires.4 in (omega arith, omega arith)
 
 pub slice_bounds-write_line-count : goal.slice_bounds-write_line-count
-slice_bounds-write_line-count c = let l = entry_new _ _ _ _ _ _ c.requires.0 c.requires.1 c.requires.2 c.requires.3 c.if-k-eq0.true in let r = c.requires.4 in let k = c.write_page.auto.n in omega arith
+slice_bounds-write_line-count c = let l = entry_new _ _ _ _ _ _ c.requires.0 c.requires.1 c.requires.2 c.requires.3 c.if-k-eq0.true in let r = c.requires.4 in let k = c.write_page.auto.out in omega arith
 
 pub slice_bounds-write_line-start : goal.slice_bounds-write_line-start
-slice_bounds-write_line-start c = let l = entry_new _ _ _ _ _ _ c.requires.0 c.requires.1 c.requires.2 c.requires.3 c.if-k-eq0.true in let r = c.requires.4 in let k = c.write_page.auto.n in omega arith
+slice_bounds-write_line-start c = let l = entry_new _ _ _ _ _ _ c.requires.0 c.requires.1 c.requires.2 c.requires.3 c.if-k-eq0.true in let r = c.requires.4 in let k = c.write_page.auto.out in omega arith
 
 pub write_line-requires : goal.write_line-requires
 write_line-requires c =

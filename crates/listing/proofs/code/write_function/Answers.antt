@@ -1,4 +1,3 @@
-use borrow.Author.Rules.{rules}
 use Rattle.listing.proofs.PartLaws.{part-inside}
 use Rattle.listing.proofs.CodeLaws.{code_fits, code-lined}
 use Rattle.listing.proofs.code.write_function.Goals as goal

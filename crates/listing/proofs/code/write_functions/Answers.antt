@@ -1,8 +1,6 @@
-use borrow.Author.Rules.{rules}
 use native.Mathlib.Omega.{arith}
-use Prim.Native.Nat.{◌-◌}
 use Rattle.writing.proofs.Begun.{begun-length, begun-fits, begun-piece}
-use Rattle.listing.proofs.CodeLaws.{Listing, listing_start, listing-done, listing-head, listing-function, listing-piece, listing-few, listing_step}
+use Rattle.listing.proofs.CodeLaws.{listing_start, listing-done, listing-head, listing-function, listing-piece, listing-few, listing_step}
 use Rattle.listing.proofs.code.write_functions.Goals as goal
 
 pub loop-f-init : goal.loop-f-init
@@ -29,7 +27,7 @@ write_function-lines-requires c = let l = c.loop-f.invariant in let e = c.number
 pub overflow_add-put : goal.overflow_add-put
 overflow_add-put c =
     let b = listing-piece c.loop-f.invariant c.loop-f-test.true c.number_at-n.ensures.0 in
-    omega (arith, c.write_function-lines.ensures.wrote.count, begun-fits b, begun-length b, c.well-formed)
+    omega (arith, c.write_function-lines.ensures.wrote.count, begun-fits b, begun-length b, c.well_formed)
 
 pub overflow_add-k : goal.overflow_add-k
 overflow_add-k c = let w = listing-few c.loop-f.invariant c.loop-f-test.true c.number_at-n.ensures.0 in let x = c.requires.2 in omega arith

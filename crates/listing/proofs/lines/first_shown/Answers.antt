@@ -1,4 +1,3 @@
-use borrow.Author.Rules.{rules}
 use Rattle.definitions.proofs.Listing.{is-jump, jump-below}
 use Rattle.listing.proofs.Fields.{below-jump, above-jump, first-blank, first-long, first-bits, first-jump, first_plain}
 use Rattle.listing.proofs.lines.first_shown.Goals as goal

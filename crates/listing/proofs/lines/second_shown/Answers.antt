@@ -1,4 +1,3 @@
-use borrow.Author.Rules.{rules}
 use Rattle.listing.proofs.Fields.{second-blank, second_digits}
 use Rattle.listing.proofs.lines.second_shown.Goals as goal
 

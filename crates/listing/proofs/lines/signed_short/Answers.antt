@@ -1,4 +1,3 @@
-use borrow.Author.Rules.{rules}
 use Rattle.listing.proofs.Fields.{short-plus, short-minus}
 use Rattle.listing.proofs.lines.signed_short.Goals as goal
 

@@ -17,10 +17,10 @@ returns-then-symbol-ge-OVER c = begins-over _ _ c.intern_made-symbol.ensures c.i
 pub begin_function-requires : goal.begin_function-requires
 begin_function-requires c =
     let h = c.intern_made-symbol.ensures in (
-    record { tables-room = omega (arith, c.requires.1.tables-room, c.intern_made-symbol.auto.tables); numbers = h.kept; limit = c.requires.1.limit },
-    c.if-symbol-ge-OVER.false,
-    c.requires.3,
-    c.requires.4,
+      record { tables-room = omega (arith, c.requires.1.tables-room, c.intern_made-symbol.auto.tables); numbers = h.kept; limit = c.requires.1.limit },
+      c.if-symbol-ge-OVER.false,
+      c.requires.3,
+      c.requires.4,
     )
 
 pub shape_of-tables : goal.shape_of-tables

@@ -21,6 +21,6 @@ shape_of-code c = c.put_op.auto.code ∙ c.load_captured-p.auto.code
 pub returns : goal.returns
 returns c =
     closure-done c.if-p-eq0.false (omega (
-    arith,
-    c.if-p-eq0.false,
+      arith,
+      c.if-p-eq0.false,
     )) (instr-plain _ 45 _ _ (plain-above 45 _ _ (omega arith) (omega arith) c.requires.4 (omega (arith, c.requires.3)))) c.load_captured-p.ensures c.put_op.ensures

@@ -14,13 +14,12 @@ pub overflow_cast-at : goal.overflow_cast-at
 overflow_cast-at c = omega (arith, c.shared_slice_known-in-loop-i-1.given c.loop-i.i)
 
 pub put_op-p-requires : goal.put_op-p-requires
-put_op-p-requires c =
-    (
-    c.loop-i.invariant.room,
-    omega arith,
-    slot_small c.loop-i.invariant c.loop-i-test.true (held_at _ _ _ c.loop-i.i c.loop-i-test.true c.requires.2) c.requires.1 c.find_slot-s.ensures,
-    omega arith,
-    )
+put_op-p-requires c = (
+  c.loop-i.invariant.room,
+  omega arith,
+  slot_small c.loop-i.invariant c.loop-i-test.true (held_at _ _ _ c.loop-i.i c.loop-i-test.true c.requires.2) c.requires.1 c.find_slot-s.ensures,
+  omega arith,
+)
 
 pub shape_of-code-then-p-eq0 : goal.shape_of-code-then-p-eq0
 shape_of-code-then-p-eq0 c = c.put_op-p.auto.code ∙ c.loop-i.invariant.kept

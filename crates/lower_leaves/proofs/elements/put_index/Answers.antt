@@ -24,6 +24,6 @@ shape_of-code c = c.put_op.auto.code ∙ c.put_op-p.auto.code
 pub returns : goal.returns
 returns c =
     writes_then (small-writes c.requires.2 c.requires.1 c.put_op-p.ensures) c.if-p-eq0.false (plain-writes (omega (
-    arith,
-    c.if-p-eq0.false,
+      arith,
+      c.if-p-eq0.false,
     )) (plain-above 43 0 0 (omega arith) (omega arith) (omega arith) (omega arith)) c.put_op.ensures)

@@ -15,6 +15,6 @@ overflow_add-result c = let w = c.words_part-code in let a = c.args in omega (ar
 pub returns : goal.returns
 returns c =
     let w = c.words_part-code in let a = c.args in (
-    λ t h. ap (λ (n : ℕ). 5 + n) (c.code_size.ensures t) ∙ sym (length-function t a.finished.now h a.place w.result.now w.ensures),
-    omega (arith, c.code_size.ensures [], code-room [] w.result.now, part-short a.place a.finished.now _ w.ensures),
+      λ t h. ap (λ (n : ℕ). 5 + n) (c.code_size.ensures t) ∙ sym (length-function t a.finished.now h a.place w.result.now w.ensures),
+      omega (arith, c.code_size.ensures [], code-room [] w.result.now, part-short a.place a.finished.now _ w.ensures),
     )

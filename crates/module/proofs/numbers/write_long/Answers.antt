@@ -15,9 +15,9 @@ bounds-out-i c = let l = c.loop-i in let a = c.args in let n = ap length l.invar
 pub loop-i-preserved : goal.loop-i-preserved
 loop-i-preserved c =
     let l = c.loop-i in let a = c.args in (
-    omega arith,
-    ap (λ (x : List ℕ). set x (l.i - 1) (l.rest % 256)) l.invariant.1 ∙ filled_next a.w a.v a.out.now c.requires l.i l.rest c.loop-i-test.true l.invariant.0 l.invariant.2,
-    rest-next a.w a.v a.out.now c.requires l.i l.rest c.loop-i-test.true l.invariant.0 l.invariant.2,
+      omega arith,
+      ap (λ (x : List ℕ). set x (l.i - 1) (l.rest % 256)) l.invariant.1 ∙ filled_next a.w a.v a.out.now c.requires l.i l.rest c.loop-i-test.true l.invariant.0 l.invariant.2,
+      rest-next a.w a.v a.out.now c.requires l.i l.rest c.loop-i-test.true l.invariant.0 l.invariant.2,
     )
 
 pub shape_of-out : goal.shape_of-out

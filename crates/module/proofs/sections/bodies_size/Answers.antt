@@ -37,8 +37,8 @@ functions_size-functions-requires c = omega (arith, few codes_from 256 c.args.ta
 pub classes_size-classes-requires : goal.classes_size-classes-requires
 classes_size-classes-requires c =
     let a = c.args in (
-    omega (arith, few class_names_from 64 a.tables.now c.words_part-names.ensures c.requires.classes),
-    same-classes a.tree.now a.code.now a.tables.now a.c refl refl refl refl c.words_part-names.ensures c.words_part-places.ensures c.requires,
+      omega (arith, few class_names_from 64 a.tables.now c.words_part-names.ensures c.requires.classes),
+      same-classes a.tree.now a.code.now a.tables.now a.c refl refl refl refl c.words_part-names.ensures c.words_part-places.ensures c.requires,
     )
 
 pub overflow_add-result : goal.overflow_add-result

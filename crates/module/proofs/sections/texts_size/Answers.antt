@@ -29,7 +29,7 @@ overflow_add-result c = omega (arith, room c, c.strings_size.ensures, c.symbols_
 pub returns : goal.returns
 returns c =
     let a = c.args in (
-    ap₂ (λ (x y : ℕ). x + y) c.symbols_size.ensures c.strings_size.ensures
-    ∙ length-texts a.tree.now a.made.now a.tables.now a.c c.words_part-symbols.ensures c.words_part-strings.ensures,
-    omega (arith, room c, c.strings_size.ensures, c.symbols_size.ensures),
+      ap₂ (λ (x y : ℕ). x + y) c.symbols_size.ensures c.strings_size.ensures
+          ∙ length-texts a.tree.now a.made.now a.tables.now a.c c.words_part-symbols.ensures c.words_part-strings.ensures,
+      omega (arith, room c, c.strings_size.ensures, c.symbols_size.ensures),
     )

@@ -65,12 +65,11 @@ pub slice_bounds-write_functions-start : goal.slice_bounds-write_functions-start
 slice_bounds-write_functions-start c = omega (arith, c.requires.0.code-room)
 
 pub write_functions-at-requires : goal.write_functions-at-requires
-write_functions-at-requires c =
-    (
-    omega (arith, few heads_from 256 c.args.tables.now c.words_part-heads.ensures c.requires.0.functions),
-    functions-alike c,
-    functions-fit c,
-    )
+write_functions-at-requires c = (
+  omega (arith, few heads_from 256 c.args.tables.now c.words_part-heads.ensures c.requires.0.functions),
+  functions-alike c,
+  functions-fit c,
+)
 
 pub slice_bounds-write_classes-count : goal.slice_bounds-write_classes-count
 slice_bounds-write_classes-count c = omega (arith, begun-fits (begun c))

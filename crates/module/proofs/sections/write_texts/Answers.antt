@@ -20,8 +20,8 @@ begun c =
 pub write_symbols-at-requires : goal.write_symbols-at-requires
 write_symbols-at-requires c =
     let a = c.args in (
-    omega (arith, few 0 1024 a.tables.now c.words_part-symbols.ensures c.requires.0),
-    omega (arith, c.requires.2, length-texts a.tree.now a.made.now a.tables.now a.c c.words_part-symbols.ensures c.words_part-strings.ensures),
+      omega (arith, few 0 1024 a.tables.now c.words_part-symbols.ensures c.requires.0),
+      omega (arith, c.requires.2, length-texts a.tree.now a.made.now a.tables.now a.c c.words_part-symbols.ensures c.words_part-strings.ensures),
     )
 
 pub slice_bounds-write_strings-count : goal.slice_bounds-write_strings-count

@@ -26,10 +26,10 @@ overflow_add-n c = omega (arith, room c, c.byte.type-inv)
 pub loop-i-preserved : goal.loop-i-preserved
 loop-i-preserved c =
     let l = c.loop-i in let t = c.args.bytes.now in let at = c.args.at in (
-    omega arith,
-    grows l.n _ l.i l.invariant.1 (omega (arith, c.byte.type-inv)),
-    l.invariant.2 ∙ horner t at 8 l.i l.n c.loop-i-test.true
-    ∙ ap (λ (b : ℕ). (l.n * 256 + b) * 256 ^ (8 - (l.i + 1)) + number_at (8 - (l.i + 1)) t (at + (l.i + 1))) (sym c.byte.ensures),
+      omega arith,
+      grows l.n _ l.i l.invariant.1 (omega (arith, c.byte.type-inv)),
+      l.invariant.2 ∙ horner t at 8 l.i l.n c.loop-i-test.true
+          ∙ ap (λ (b : ℕ). (l.n * 256 + b) * 256 ^ (8 - (l.i + 1)) + number_at (8 - (l.i + 1)) t (at + (l.i + 1))) (sym c.byte.ensures),
     )
 
 pub returns : goal.returns

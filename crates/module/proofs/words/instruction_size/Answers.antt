@@ -10,6 +10,6 @@ use Rattle.module.proofs.words.instruction_size.Goals as goal
 pub returns : goal.returns
 returns c =
     let r = c.whole_width.ensures in (
-    λ t. r.0 ∙ ap (λ (op : ℕ). 1 + first_width op + second_width op) (c.opcode.ensures.0 t) ∙ sym (length-encode (instr_of t _)),
-    omega (arith, r.1),
+      λ t. r.0 ∙ ap (λ (op : ℕ). 1 + first_width op + second_width op) (c.opcode.ensures.0 t) ∙ sym (length-encode (instr_of t _)),
+      omega (arith, r.1),
     )

@@ -1,4 +1,3 @@
-use borrow.Author.Rules.{rules}
 use Rattle.names.proofs.Indexing.{slot-found}
 use Rattle.names.proofs.emit.find_slot.Goals as goal
 

@@ -1,7 +1,6 @@
 use native.Mathlib.Omega.{arith}
-use Prim.Native.Nat.{◌-◌, ◌≤◌, ◌/◌, ◌^◌}
-use lib.ListN.{length}
-use Rattle.names.proofs.Finding.{Passed, seek-start, seek-here, seek-next, seek-end}
+use Prim.Native.Nat.{◌/◌, ◌^◌}
+use Rattle.names.proofs.Finding.{seek-start, seek-here, seek-next, seek-end}
 use lib.Dec.{eqb}
 use borrow.Author.Tests.{eq-eqb, ne_eqb}
 use Rattle.names.proofs.find.find_head.Goals as goal

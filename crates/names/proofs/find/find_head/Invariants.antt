@@ -1,9 +1,7 @@
-use native.Mathlib.Omega.{arith}
 use Prim.Native.Nat.{◌-◌, ◌≤◌, ◌/◌, ◌^◌}
 use lib.ListN.{length}
-use Rattle.names.proofs.Finding.{Passed, seek-start, seek-here, seek-next, seek-end}
+use Rattle.names.proofs.Finding.{Passed}
 use lib.Dec.{eqb}
-use borrow.Author.Tests.{eq-eqb, ne_eqb}
 use Rattle.names.proofs.find.find_head.Given as goal
 
 abbrev pub invariant-loop-i : goal.invariant-loop-i

@@ -1,10 +1,7 @@
 use native.Mathlib.Omega.{arith}
 use mathlib.Core.Path.{sym, ◌∙◌}
-use Prim.Native.Nat.{◌-◌, ◌≤◌}
-use lib.ListN.{length}
-use Rattle.names.proofs.Finding.{Passed, seek-start, seek-here, seek-next, seek-end, found_map}
+use Rattle.names.proofs.Finding.{seek-start, seek-here, seek-next, seek-end, found_map}
 use Rattle.definitions.specs.Bytes.{same}
-use borrow.Author.Rules.{rules}
 use Rattle.state.specs.State.{spelled}
 use Rattle.names.proofs.find.find_spelling.Goals as goal
 

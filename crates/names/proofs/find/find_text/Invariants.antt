@@ -1,10 +1,7 @@
-use native.Mathlib.Omega.{arith}
-use mathlib.Core.Path.{sym, ap, ◌∙◌}
 use Prim.Native.Nat.{◌-◌, ◌≤◌}
 use lib.ListN.{length}
-use Rattle.names.proofs.Finding.{Passed, seek-start, seek-here, seek-next, seek-end, found_map}
+use Rattle.names.proofs.Finding.{Passed}
 use Rattle.definitions.specs.Bytes.{same}
-use borrow.Author.Rules.{rules}
 use Rattle.state.specs.Words.{text_at}
 use Rattle.names.proofs.find.find_text.Given as goal
 

@@ -1,7 +1,6 @@
 use mathlib.Core.Path.{ap, ◌∙◌}
 use Rattle.definitions.specs.Bytes.{same}
 use Rattle.names.proofs.Spelling.{spelled-tree, spelled-made}
-use borrow.Author.Rules.{rules}
 use Rattle.names.proofs.find.is_spelled.Goals as goal
 
 pub returns-then-w-lt-MADE_FROM : goal.returns-then-w-lt-MADE_FROM

@@ -4,7 +4,6 @@ use lib.ListN.{get_or}
 use mathlib.Core.Path.{sym, ap, ◌∙◌}
 use Rattle.state.specs.Index.{start_of}
 use Rattle.state.proofs.Index.{start_none, start-over, start-kept}
-use borrow.Author.Rules.{rules}
 use Rattle.names.proofs.index.first_number.Goals as goal
 
 pub returns-then-k-eq0 : goal.returns-then-k-eq0

@@ -1,9 +1,7 @@
 -- the rest is hashed from here
 use native.Mathlib.Omega.{arith}
-use Prim.Native.Nat.{◌-◌, ◌<◌}
-use mathlib.Core.Path.{◌≡◌, refl, sym, ◌∙◌}
-use lib.ListN.{length, drop}
-use Rattle.state.specs.Index.{hash_from, hash_of}
+use mathlib.Core.Path.{refl, sym, ◌∙◌}
+use Rattle.state.specs.Index.{hash_of}
 use Rattle.state.proofs.Index.{hash-next, hash-end}
 use Rattle.names.proofs.index.hash.Goals as goal
 

@@ -1,10 +1,8 @@
 -- the rest is hashed from here
-use native.Mathlib.Omega.{arith}
 use Prim.Native.Nat.{◌-◌, ◌<◌}
-use mathlib.Core.Path.{◌≡◌, refl, sym, ◌∙◌}
+use mathlib.Core.Path.{◌≡◌}
 use lib.ListN.{length, drop}
 use Rattle.state.specs.Index.{hash_from, hash_of}
-use Rattle.state.proofs.Index.{hash-next, hash-end}
 use Rattle.names.proofs.index.hash.Given as goal
 
 abbrev pub invariant-loop-i : goal.invariant-loop-i

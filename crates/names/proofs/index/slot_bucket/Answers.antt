@@ -1,5 +1,4 @@
 use native.Mathlib.Omega.{arith}
-use borrow.Author.Rules.{rules}
 use Rattle.names.proofs.Indexing.{bucket-of}
 use Rattle.names.proofs.index.slot_bucket.Goals as goal
 

@@ -1,5 +1,4 @@
 use native.Mathlib.Omega.{arith}
-use borrow.Author.Rules.{rules}
 use Rattle.names.proofs.Indexing.{start_none, start-at, start-past}
 use Rattle.names.proofs.index.start.Goals as goal
 

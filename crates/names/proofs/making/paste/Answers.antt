@@ -1,8 +1,6 @@
 use native.Mathlib.Omega.{arith}
-use mathlib.Core.Path.{◌≡◌, refl, ◌∙◌}
-use Prim.Native.Nat.{◌-◌, ◌≤◌}
-use lib.ListN.{length, take, length-set}
-use Rattle.names.specs.Made.{pasted}
+use mathlib.Core.Path.{refl, ◌∙◌}
+use lib.ListN.{length-set}
 use Rattle.names.proofs.Pasting.{pasted-none, paste-step, paste_all}
 use Rattle.names.proofs.making.paste.Goals as goal
 

@@ -1,9 +1,7 @@
-use native.Mathlib.Omega.{arith}
-use mathlib.Core.Path.{◌≡◌, refl, ◌∙◌}
+use mathlib.Core.Path.{◌≡◌}
 use Prim.Native.Nat.{◌-◌, ◌≤◌}
-use lib.ListN.{length, take, length-set}
+use lib.ListN.{length, take}
 use Rattle.names.specs.Made.{pasted}
-use Rattle.names.proofs.Pasting.{pasted-none, paste-step, paste_all}
 use Rattle.names.proofs.making.paste.Given as goal
 
 abbrev pub invariant-loop-i : goal.invariant-loop-i

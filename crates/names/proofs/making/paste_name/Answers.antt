@@ -2,7 +2,6 @@ use mathlib.Core.Path.{sym, ap}
 use Rattle.definitions.specs.Lower.{iter_name, lambda_name}
 use Rattle.names.specs.Made.{made_name}
 use Rattle.names.proofs.Pasting.{fits-as, paste-as}
-use borrow.Author.Rules.{rules}
 use Rattle.names.proofs.making.paste_name.Goals as goal
 
 pub paste-requires : goal.paste-requires

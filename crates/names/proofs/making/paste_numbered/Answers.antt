@@ -1,7 +1,6 @@
 use native.Mathlib.Omega.{arith}
 use Rattle.definitions.specs.Bytes.{decimal}
 use Rattle.names.proofs.Pasting.{three-length, paste-three}
-use borrow.Author.Rules.{rules}
 use Rattle.names.proofs.making.paste_numbered.Goals as goal
 
 pub paste-p-requires : goal.paste-p-requires

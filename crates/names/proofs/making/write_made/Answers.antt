@@ -1,7 +1,6 @@
 use native.Mathlib.Omega.{arith}
 use Rattle.names.specs.Made.{made_name}
 use Rattle.names.proofs.Pasting.{stands_set}
-use borrow.Author.Rules.{rules}
 use Rattle.names.proofs.making.write_made.Goals as goal
 
 pub returns : goal.returns

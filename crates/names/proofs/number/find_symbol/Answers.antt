@@ -4,7 +4,6 @@ use mathlib.Core.Path.{refl, sym}
 use Rattle.state.specs.Words.{region}
 use Rattle.state.specs.State.{symbol_buckets, spelled}
 use Rattle.names.proofs.TableIndex.{bucket-is, indexed-found, indexed-le}
-use borrow.Author.Rules.{rules}
 use Rattle.names.proofs.number.find_symbol.Goals as goal
 
 pub overflow_cast-result : goal.overflow_cast-result

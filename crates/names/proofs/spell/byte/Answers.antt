@@ -1,6 +1,5 @@
 use mathlib.Core.Path.{sym}
 use lib.ListN.{get_or-eq_default}
-use borrow.Author.Rules.{rules}
 use Rattle.names.proofs.spell.byte.Goals as goal
 
 pub returns-else-at-bytes : goal.returns-else-at-bytes

@@ -1,6 +1,5 @@
 use native.Mathlib.Omega.{arith}
 use Rattle.names.proofs.Spelling.{count-is}
-use borrow.Author.Rules.{rules}
 use Rattle.names.proofs.spell.count_at.Goals as goal
 
 pub returns : goal.returns

@@ -1,6 +1,4 @@
-use Prim.Native.Nat.{◌-◌}
-use borrow.Author.Rules.{rules}
-use Rattle.run.proofs.Passing.{Going, going_start, stretch-many, near-stands, turn-less, turn_on, turn-over, turn_many}
+use Rattle.run.proofs.Passing.{going_start, stretch-many, near-stands, turn-less, turn_on, turn-over, turn_many}
 use Rattle.run.proofs.passes.pass.Goals as goal
 
 pub loop-near-init : goal.loop-near-init

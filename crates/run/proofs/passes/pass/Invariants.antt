@@ -1,6 +1,5 @@
 use Prim.Native.Nat.{◌-◌}
-use borrow.Author.Rules.{rules}
-use Rattle.run.proofs.Passing.{Going, going_start, stretch-many, near-stands, turn-less, turn_on, turn-over, turn_many}
+use Rattle.run.proofs.Passing.{Going}
 use Rattle.run.proofs.passes.pass.Given as goal
 
 abbrev pub invariant-loop-near : goal.invariant-loop-near

@@ -1,6 +1,5 @@
 use native.Mathlib.Omega.{arith}
 use lib.ListN.{length-replicate}
-use borrow.Author.Rules.{rules}
 use Rattle.run.proofs.passes.run_large.Goals as goal
 
 pub fill_places-requires : goal.fill_places-requires

@@ -1,4 +1,3 @@
-use borrow.Author.Rules.{rules}
 use Rattle.run.proofs.Turning.{ask-starved, ask-full, ask-on}
 use Rattle.run.proofs.steps.ask.Goals as goal
 

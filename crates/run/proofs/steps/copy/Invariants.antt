@@ -1,9 +1,7 @@
 use Prim.Native.Nat.{◌+◌, ◌-◌, ◌≤◌}
-use mathlib.Core.Path.{◌≡◌, refl, sym, ◌∙◌}
-use native.Mathlib.Omega.{arith}
-use lib.ListN.{length, take, drop, length-set}
+use mathlib.Core.Path.{◌≡◌}
+use lib.ListN.{length, take, drop}
 use lib.Seq.{sets}
-use Rattle.run.proofs.Storing.{stored_at, copied-not, copy_start, copy-next, copy-end}
 use Rattle.run.proofs.steps.copy.Given as goal
 
 abbrev pub invariant-loop-i : goal.invariant-loop-i

@@ -1,6 +1,5 @@
 use mathlib.Core.Path.{sym}
 use lib.Seq.{set_out}
-use borrow.Author.Rules.{rules}
 use Rattle.run.proofs.steps.put.Goals as goal
 
 pub returns-else-at-events : goal.returns-else-at-events

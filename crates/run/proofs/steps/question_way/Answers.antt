@@ -1,6 +1,5 @@
 use mathlib.Core.Path.{◌∙◌}
 use Rattle.run.proofs.Flows.{way-true-yes, way-true-no, way-false-yes, way-false-no}
-use borrow.Author.Rules.{rules}
 use Rattle.run.proofs.steps.question_way.Goals as goal
 
 pub returns-then-x-eq1 : goal.returns-then-x-eq1

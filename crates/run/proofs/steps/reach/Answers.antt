@@ -1,4 +1,3 @@
-use borrow.Author.Rules.{rules}
 use Rattle.run.proofs.Turning.{reach-stop, reach-short}
 use Rattle.run.proofs.steps.reach.Goals as goal
 

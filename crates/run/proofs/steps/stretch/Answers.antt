@@ -1,5 +1,4 @@
 use native.Mathlib.Omega.{arith}
-use borrow.Author.Rules.{rules}
 use Rattle.run.proofs.Stretching.{stop-after, to-table, p-to-q, stretch-full, stretch-on}
 use Rattle.run.proofs.steps.stretch.Goals as goal
 

@@ -1,9 +1,6 @@
-use Prim.Native.Nat.{◌-◌}
 use mathlib.Core.Path.{refl, sym, ◌∙◌}
 use native.Mathlib.Omega.{arith}
-use borrow.Author.Rules.{rules}
-use lib.ListN.{length}
-use Rattle.run.proofs.Tabled.{Filling, filling-start, fill-in, fill-less, filling-more, filled}
+use Rattle.run.proofs.Tabled.{filling-start, fill-in, fill-less, filling-more, filled}
 use Rattle.run.proofs.tables.fill_places.Goals as goal
 
 pub loop-next-init : goal.loop-next-init

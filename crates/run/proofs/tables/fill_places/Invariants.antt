@@ -1,9 +1,6 @@
 use Prim.Native.Nat.{◌-◌}
-use mathlib.Core.Path.{refl, sym, ◌∙◌}
-use native.Mathlib.Omega.{arith}
-use borrow.Author.Rules.{rules}
 use lib.ListN.{length}
-use Rattle.run.proofs.Tabled.{Filling, filling-start, fill-in, fill-less, filling-more, filled}
+use Rattle.run.proofs.Tabled.{Filling}
 use Rattle.run.proofs.tables.fill_places.Given as goal
 
 abbrev pub invariant-loop-next : goal.invariant-loop-next

@@ -1,7 +1,6 @@
 use mathlib.Core.Path.{refl}
 use native.Mathlib.Omega.{arith}
-use borrow.Author.Rules.{rules}
-use Rattle.run.proofs.Tabled.{Stopping, stopping-start, place_in, stop-less, stopping-next, stopped}
+use Rattle.run.proofs.Tabled.{stopping-start, place_in, stop-less, stopping-next, stopped}
 use Rattle.run.proofs.tables.fill_stops.Goals as goal
 
 pub loop-k-init : goal.loop-k-init

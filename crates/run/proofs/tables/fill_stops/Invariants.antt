@@ -1,7 +1,4 @@
-use mathlib.Core.Path.{refl}
-use native.Mathlib.Omega.{arith}
-use borrow.Author.Rules.{rules}
-use Rattle.run.proofs.Tabled.{Stopping, stopping-start, place_in, stop-less, stopping-next, stopped}
+use Rattle.run.proofs.Tabled.{Stopping}
 use Rattle.run.proofs.tables.fill_stops.Given as goal
 
 abbrev pub invariant-loop-k : goal.invariant-loop-k

@@ -1,4 +1,3 @@
-use borrow.Author.Rules.{rules}
 use Rattle.run.proofs.Flows.{nearer-on, nearer-stop}
 use Rattle.run.proofs.tables.nearer.Goals as goal
 

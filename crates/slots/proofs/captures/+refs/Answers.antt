@@ -22,15 +22,14 @@ pub refs_call-collect_referenced_vars-callee-requires : goal.refs_call-collect_r
 refs_call-collect_referenced_vars-callee-requires t c = (omega arith, (c.requires.0, c.requires.1.callee))
 
 pub refs_call-refs_list-requires : goal.refs_call-refs_list-requires
-refs_call-refs_list-requires t c =
-    (
-    omega arith,
-    (
+refs_call-refs_list-requires t c = (
+  omega arith,
+  (
     keeping-again _ _ _ _ _ _ _ _ c.requires.0
-    c.collect_referenced_vars-callee.ensures c.collect_referenced_vars-callee.auto.places (held-expr _ _ _ _ c.requires.0.held),
+        c.collect_referenced_vars-callee.ensures c.collect_referenced_vars-callee.auto.places (held-expr _ _ _ _ c.requires.0.held),
     list-there _ _ _ _ _ _ _ _ c.collect_referenced_vars-callee.ensures c.requires.1,
-    ),
-    )
+  ),
+)
 
 pub refs_call-returns : goal.refs_call-returns
 refs_call-returns t c = refs-args _ _ _ _ _ _ _ _ c.collect_referenced_vars-callee.ensures _ _ c.refs_list.ensures
@@ -68,12 +67,12 @@ collect_referenced_vars-overflow_sub-depth t c = let h = expr-deep _ _ _ c.requi
 pub collect_referenced_vars-collect_referenced_vars-requires : goal.collect_referenced_vars-collect_referenced_vars-requires
 collect_referenced_vars-collect_referenced_vars-requires t c =
     let h = expr-deep _ _ _ c.requires.1 in (
-    omega arith,
-    (
-    c.requires.0,
-    (view-unary _ _ _ c.requires.1
-    c.in-7.is).parts.operand,
-    ),
+      omega arith,
+      (
+        c.requires.0,
+        (view-unary _ _ _ c.requires.1
+            c.in-7.is).parts.operand,
+      ),
     )
 
 pub collect_referenced_vars-overflow_add-a-in-8 : goal.collect_referenced_vars-overflow_add-a-in-8
@@ -85,12 +84,12 @@ collect_referenced_vars-overflow_sub-depth-in-8 t c = let h = expr-deep _ _ _ c.
 pub collect_referenced_vars-refs_two-requires : goal.collect_referenced_vars-refs_two-requires
 collect_referenced_vars-refs_two-requires t c =
     let h = expr-deep _ _ _ c.requires.1 in (
-    omega arith,
-    (
-    c.requires.0,
-    (view-binary _ _ _ c.requires.1
-    c.in-8.is).parts.operands,
-    ),
+      omega arith,
+      (
+        c.requires.0,
+        (view-binary _ _ _ c.requires.1
+            c.in-8.is).parts.operands,
+      ),
     )
 
 pub collect_referenced_vars-overflow_sub-depth-in-9 : goal.collect_referenced_vars-overflow_sub-depth-in-9
@@ -105,12 +104,12 @@ collect_referenced_vars-overflow_sub-depth-in-10 t c = let h = expr-deep _ _ _ c
 pub collect_referenced_vars-refs_attribute-requires : goal.collect_referenced_vars-refs_attribute-requires
 collect_referenced_vars-refs_attribute-requires t c =
     let h = expr-deep _ _ _ c.requires.1 in (
-    omega arith,
-    (
-    c.requires.0,
-    (view-attribute _ _ _ c.requires.1
-    c.in-10.is).parts,
-    ),
+      omega arith,
+      (
+        c.requires.0,
+        (view-attribute _ _ _ c.requires.1
+            c.in-10.is).parts,
+      ),
     )
 
 pub collect_referenced_vars-overflow_sub-depth-in-11 : goal.collect_referenced_vars-overflow_sub-depth-in-11
@@ -143,12 +142,12 @@ collect_referenced_vars-overflow_sub-depth-in-15 t c = let h = expr-deep _ _ _ c
 pub collect_referenced_vars-refs_list-requires-in-15 : goal.collect_referenced_vars-refs_list-requires-in-15
 collect_referenced_vars-refs_list-requires-in-15 t c =
     let h = expr-deep _ _ _ c.requires.1 in (
-    omega arith,
-    (
-    c.requires.0,
-    (view-tree-set _ _ _ c.requires.1
-    c.in-15.is).parts,
-    ),
+      omega arith,
+      (
+        c.requires.0,
+        (view-tree-set _ _ _ c.requires.1
+            c.in-15.is).parts,
+      ),
     )
 
 pub collect_referenced_vars-overflow_sub-depth-in-16 : goal.collect_referenced_vars-overflow_sub-depth-in-16
@@ -234,15 +233,14 @@ pub refs_lambda-skip_params-p-requires : goal.refs_lambda-skip_params-p-requires
 refs_lambda-skip_params-p-requires t c = c.requires.1.params
 
 pub refs_lambda-collect_referenced_vars-requires : goal.refs_lambda-collect_referenced_vars-requires
-refs_lambda-collect_referenced_vars-requires t c =
-    (
-    omega arith,
-    (
+refs_lambda-collect_referenced_vars-requires t c = (
+  omega arith,
+  (
     c.requires.0,
     body-there _ _ _ _ c.skip_params-p.ensures
-    c.requires.1,
-    ),
-    )
+        c.requires.1,
+  ),
+)
 
 pub refs_lambda-returns : goal.refs_lambda-returns
 refs_lambda-returns t c =
@@ -282,15 +280,14 @@ pub refs_two-collect_referenced_vars-left-requires : goal.refs_two-collect_refer
 refs_two-collect_referenced_vars-left-requires t c = (omega arith, (c.requires.0, c.requires.1.first))
 
 pub refs_two-collect_referenced_vars-requires : goal.refs_two-collect_referenced_vars-requires
-refs_two-collect_referenced_vars-requires t c =
-    (
-    omega arith,
-    (
+refs_two-collect_referenced_vars-requires t c = (
+  omega arith,
+  (
     keeping-again _ _ _ _ _ _ _ _ c.requires.0
-    c.collect_referenced_vars-left.ensures c.collect_referenced_vars-left.auto.places (held-expr _ _ _ _ c.requires.0.held),
+        c.collect_referenced_vars-left.ensures c.collect_referenced_vars-left.auto.places (held-expr _ _ _ _ c.requires.0.held),
     second-there _ _ _ _ _ _ _ _ c.collect_referenced_vars-left.ensures c.requires.1,
-    ),
-    )
+  ),
+)
 
 pub refs_two-returns : goal.refs_two-returns
 refs_two-returns t c = refs-second _ _ _ _ _ _ _ _ c.collect_referenced_vars-left.ensures _ _ c.collect_referenced_vars.ensures

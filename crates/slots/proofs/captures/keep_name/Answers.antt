@@ -10,11 +10,11 @@ name_end-next-requires c = c.requires.1
 pub add_at-k-requires : goal.add_at-k-requires
 add_at-k-requires c =
     let k = keeping-name _ _ _ _ _ c.requires.0 c.requires.1 in (
-    c.requires.0.indexed,
-    k.0,
-    k.1,
-    k.2,
-    c.bucket_at-b.ensures,
+      c.requires.0.indexed,
+      k.0,
+      k.1,
+      k.2,
+      c.bucket_at-b.ensures,
     )
 
 pub returns-then-is_free : goal.returns-then-is_free

@@ -21,46 +21,43 @@ pub gather_block-loop-left-init : goal.gather_block-loop-left-init
 gather_block-loop-left-init t c = (stmts-start _ _ _ _ _ _ c.requires.1 c.u16_at-left.ensures.0 c.requires.0.few c.requires.0.indexed, loops-start c.requires.2)
 
 pub gather_block-gather_stmt-one-requires : goal.gather_block-gather_stmt-one-requires
-gather_block-gather_stmt-one-requires t c =
-    (
-    omega arith,
-    (
+gather_block-gather_stmt-one-requires t c = (
+  omega arith,
+  (
     room-again _ _ _ _ _ c.requires.0 c.loop-left.invariant.0.kept c.loop-left.invariant.0.few c.loop-left.invariant.0.indexed,
     stmts-head _ _ _ _ _ _ _ _ _ _
-    c.loop-left.invariant.0 c.loop-left-test.true,
+        c.loop-left.invariant.0 c.loop-left-test.true,
     c.loop-left.invariant.1.few,
-    ),
-    )
+  ),
+)
 
 pub gather_block-shape_of-slots-in_default : goal.gather_block-shape_of-slots-in_default
 gather_block-shape_of-slots-in_default t c = c.gather_stmt-one.auto.slots ∙ c.loop-left.invariant.0.kept
 
 pub gather_block-returns-in_default : goal.gather_block-returns-in_default
-gather_block-returns-in_default t c =
-    (
-    stmts-over _ _ _ _ _ _ _ _ _ _ c.loop-left.invariant.0 c.loop-left-test.true _ c.requires.1 c.u16_at-left.ensures.0 refl _ _ c.gather_stmt-one.ensures.0
-    c.in_default.is,
-    tallies-over,
-    )
+gather_block-returns-in_default t c = (
+  stmts-over _ _ _ _ _ _ _ _ _ _ c.loop-left.invariant.0 c.loop-left-test.true _ c.requires.1 c.u16_at-left.ensures.0 refl _ _ c.gather_stmt-one.ensures.0
+      c.in_default.is,
+  tallies-over,
+)
 
 pub gather_block-loop-left-preserved : goal.gather_block-loop-left-preserved
 gather_block-loop-left-preserved t c =
     let g = c.gather_stmt-one.ensures in let e = c.in-Next.is in (
-    stmts-next _ _ _ _ _ _ _ _ _ _ c.loop-left.invariant.0 c.loop-left-test.true _ _ _ _ g.0 e c.gather_stmt-one.auto.slots,
-    stmts-count _ _ c.loop-left.invariant.1
-    c.loop-left-test.true c.loop-left.invariant.0.reads (gathers-next _ _ _ _ _ _ _ g.0 e).end (g.1.counted _ _ e),
+      stmts-next _ _ _ _ _ _ _ _ _ _ c.loop-left.invariant.0 c.loop-left-test.true _ _ _ _ g.0 e c.gather_stmt-one.auto.slots,
+      stmts-count _ _ c.loop-left.invariant.1
+          c.loop-left-test.true c.loop-left.invariant.0.reads (gathers-next _ _ _ _ _ _ _ g.0 e).end (g.1.counted _ _ e),
     )
 
 pub gather_block-shape_of-slots : goal.gather_block-shape_of-slots
 gather_block-shape_of-slots t c = c.loop-left.invariant.0.kept
 
 pub gather_block-returns : goal.gather_block-returns
-gather_block-returns t c =
-    (
-    stmts-done _ _ _ _ _ _ _ _ _ _ c.loop-left.invariant.0 _ c.requires.1 c.u16_at-left.ensures.0 refl c.loop-left-test.false,
-    block-count _ _ c.loop-left.invariant.1
-    c.loop-left-test.false c.loop-left.invariant.0.reads c.requires.1 c.u16_at-left.ensures.0 refl,
-    )
+gather_block-returns t c = (
+  stmts-done _ _ _ _ _ _ _ _ _ _ c.loop-left.invariant.0 _ c.requires.1 c.u16_at-left.ensures.0 refl c.loop-left-test.false,
+  block-count _ _ c.loop-left.invariant.1
+      c.loop-left-test.false c.loop-left.invariant.0.reads c.requires.1 c.u16_at-left.ensures.0 refl,
+)
 
 pub gather_branch-skip_expr-p-requires : goal.gather_branch-skip_expr-p-requires
 gather_branch-skip_expr-p-requires t c = c.requires.1.condition
@@ -75,58 +72,54 @@ pub gather_elifs-loop-left-init : goal.gather_elifs-loop-left-init
 gather_elifs-loop-left-init t c = (branches-start _ _ _ _ _ _ c.requires.1 c.requires.0.few c.requires.0.indexed, loops-start c.requires.2)
 
 pub gather_elifs-gather_branch-one-requires : goal.gather_elifs-gather_branch-one-requires
-gather_elifs-gather_branch-one-requires t c =
-    (
-    omega arith,
-    (
+gather_elifs-gather_branch-one-requires t c = (
+  omega arith,
+  (
     room-again _ _ _ _ _ c.requires.0 c.loop-left.invariant.0.kept c.loop-left.invariant.0.few c.loop-left.invariant.0.indexed,
     branches-head _ _ _ _ _ _ _ _ _ _
-    c.loop-left.invariant.0 c.loop-left-test.true,
+        c.loop-left.invariant.0 c.loop-left-test.true,
     c.loop-left.invariant.1.few,
-    ),
-    )
+  ),
+)
 
 pub gather_elifs-shape_of-slots-in_default : goal.gather_elifs-shape_of-slots-in_default
 gather_elifs-shape_of-slots-in_default t c = c.gather_branch-one.auto.slots ∙ c.loop-left.invariant.0.kept
 
 pub gather_elifs-returns-in_default : goal.gather_elifs-returns-in_default
-gather_elifs-returns-in_default t c =
-    (
-    branches-over _ _ _ _ _ _ _ _ _ _ c.loop-left.invariant.0 c.loop-left-test.true _ _ c.gather_branch-one.ensures.0
-    c.in_default.is,
-    tallies-over,
-    )
+gather_elifs-returns-in_default t c = (
+  branches-over _ _ _ _ _ _ _ _ _ _ c.loop-left.invariant.0 c.loop-left-test.true _ _ c.gather_branch-one.ensures.0
+      c.in_default.is,
+  tallies-over,
+)
 
 pub gather_elifs-loop-left-preserved : goal.gather_elifs-loop-left-preserved
 gather_elifs-loop-left-preserved t c =
     let g = c.gather_branch-one.ensures in let e = c.in-Next.is in (
-    branches-next _ _ _ _ _ _ _ _ _ _ c.loop-left.invariant.0 c.loop-left-test.true _ _ _ _ g.0 e c.gather_branch-one.auto.slots,
-    branches-count _ _
-    c.loop-left.invariant.1 c.loop-left-test.true c.loop-left.invariant.0.reads (gathers-next _ _ _ _ _ _ _ g.0 e).end (g.1.counted _ _ e),
+      branches-next _ _ _ _ _ _ _ _ _ _ c.loop-left.invariant.0 c.loop-left-test.true _ _ _ _ g.0 e c.gather_branch-one.auto.slots,
+      branches-count _ _
+          c.loop-left.invariant.1 c.loop-left-test.true c.loop-left.invariant.0.reads (gathers-next _ _ _ _ _ _ _ g.0 e).end (g.1.counted _ _ e),
     )
 
 pub gather_elifs-gather_else-requires : goal.gather_elifs-gather_else-requires
-gather_elifs-gather_else-requires t c =
-    (
-    omega arith,
-    (
+gather_elifs-gather_else-requires t c = (
+  omega arith,
+  (
     room-again _ _ _ _ _ c.requires.0 c.loop-left.invariant.0.kept c.loop-left.invariant.0.few c.loop-left.invariant.0.indexed,
     branches-last _ _ _ _ _ _ _ _ _ _
-    c.loop-left.invariant.0 c.loop-left-test.false,
+        c.loop-left.invariant.0 c.loop-left-test.false,
     c.loop-left.invariant.1.few,
-    ),
-    )
+  ),
+)
 
 pub gather_elifs-shape_of-slots : goal.gather_elifs-shape_of-slots
 gather_elifs-shape_of-slots t c = c.gather_else.auto.slots ∙ c.loop-left.invariant.0.kept
 
 pub gather_elifs-returns : goal.gather_elifs-returns
-gather_elifs-returns t c =
-    (
-    branches-done _ _ _ _ _ _ _ _ _ _ c.loop-left.invariant.0 c.loop-left-test.false _ _ c.gather_else.ensures.0,
-    branches-end _ _ _ _ c.loop-left.invariant.1
-    c.loop-left-test.false c.gather_else.ensures.1,
-    )
+gather_elifs-returns t c = (
+  branches-done _ _ _ _ _ _ _ _ _ _ c.loop-left.invariant.0 c.loop-left-test.false _ _ c.gather_else.ensures.0,
+  branches-end _ _ _ _ c.loop-left.invariant.1
+      c.loop-left-test.false c.gather_else.ensures.1,
+)
 
 pub gather_else-bounds-tree-at : goal.gather_else-bounds-tree-at
 gather_else-bounds-tree-at t c = let h = else-inside _ _ _ 0 (omega arith) c.requires.1 in omega arith
@@ -144,12 +137,11 @@ pub gather_else-gather_block-requires : goal.gather_else-gather_block-requires
 gather_else-gather_block-requires t c = (omega arith, (c.requires.0, else-reads _ _ _ c.requires.1 c.if-tree-at-eq0.false, c.requires.2))
 
 pub gather_else-returns : goal.gather_else-returns
-gather_else-returns t c =
-    (
-    else-some _ _ _ c.requires.1 c.if-tree-at-eq0.false _ _ _ c.gather_block.ensures.0,
-    tallies-as (else-loops _ _ c.requires.1 c.if-tree-at-eq0.false)
-    c.gather_block.ensures.1,
-    )
+gather_else-returns t c = (
+  else-some _ _ _ c.requires.1 c.if-tree-at-eq0.false _ _ _ c.gather_block.ensures.0,
+  tallies-as (else-loops _ _ c.requires.1 c.if-tree-at-eq0.false)
+      c.gather_block.ensures.1,
+)
 
 pub gather_for-one_more-requires : goal.gather_for-one_more-requires
 gather_for-one_more-requires t c = c.requires.2
@@ -166,13 +158,13 @@ gather_for-returns-in_default t c = (over-more _ _ _ _ _ _ _ _ c.gather_name-fir
 pub gather_for-gather_branch-requires : goal.gather_for-gather_branch-requires
 gather_for-gather_branch-requires t c =
     let at-gather-name = at_first.before.before.before.before in let at-name-end = at-gather-name.before.before in let at-one-more = at-name-end.before in let start = at-one-more.before.before.before.before in let z = gathers-next _ _ _ _ _ _ _ at-gather-name.gather-name.ensures at_first.first.given.1 in (
-    omega arith,
-    (
-    room-again _ _ _ _ _ start.requires.1.0 at-gather-name.gather-name.auto.1.1.1.0 z.few z.indexed,
-    branch-there _ _ _ _ (z.end ∙ at-name-end.name-end.ensures)
-    start.requires.1.1.loop,
-    omega (arith, at-one-more.one_more.ensures),
-    ),
+      omega arith,
+      (
+        room-again _ _ _ _ _ start.requires.1.0 at-gather-name.gather-name.auto.1.1.1.0 z.few z.indexed,
+        branch-there _ _ _ _ (z.end ∙ at-name-end.name-end.ensures)
+            start.requires.1.1.loop,
+        omega (arith, at-one-more.one_more.ensures),
+      ),
     )
 
 pub gather_for-returns : goal.gather_for-returns
@@ -195,22 +187,22 @@ gather_if-overflow_add-p t c = let at-gather-branch = at_first.before.before.bef
 pub gather_if-gather_elifs-requires : goal.gather_if-gather_elifs-requires
 gather_if-gather_elifs-requires t c =
     let at-gather-branch = at_first.before.before.before.before in let start = at-gather-branch.before.before.before.before.before in let z = gathers-next _ _ _ _ _ _ _ at-gather-branch.gather-branch.ensures.0 at_first.first.given.1 in (
-    omega arith,
-    (
-    room-again _ _ _ _ _ start.requires.1.0 at-gather-branch.gather-branch.auto.1.1.1.0 z.few z.indexed,
-    elifs-read _ _ _ _ _ z.end c.u16_at-count.ensures.0
-    start.requires.1.1,
-    omega (arith, at-gather-branch.gather-branch.ensures.1.counted _ _ at_first.first.given.1),
-    ),
+      omega arith,
+      (
+        room-again _ _ _ _ _ start.requires.1.0 at-gather-branch.gather-branch.auto.1.1.1.0 z.few z.indexed,
+        elifs-read _ _ _ _ _ z.end c.u16_at-count.ensures.0
+            start.requires.1.1,
+        omega (arith, at-gather-branch.gather-branch.ensures.1.counted _ _ at_first.first.given.1),
+      ),
     )
 
 pub gather_if-returns : goal.gather_if-returns
 gather_if-returns t c =
     let at-gather-branch = at_first.before.before.before.before in let z = gathers-next _ _ _ _ _ _ _ at-gather-branch.gather-branch.ensures.0 at_first.first.given.1 in
     let m = at-gather-branch.gather-branch.ensures.1.counted _ _ at_first.first.given.1 in (
-    if-done _ _ _ _ _ z.end c.u16_at-count.ensures.0 _ _ _ _ z.names c.gather_elifs.ensures.0,
-    if-count _ _ _ _ _
-    (elifs-are _ _ _ _ _ z.end c.u16_at-count.ensures.0) m c.gather_elifs.ensures.1,
+      if-done _ _ _ _ _ z.end c.u16_at-count.ensures.0 _ _ _ _ z.names c.gather_elifs.ensures.0,
+      if-count _ _ _ _ _
+          (elifs-are _ _ _ _ _ z.end c.u16_at-count.ensures.0) m c.gather_elifs.ensures.1,
     )
 
 pub gather_stmt-bounds-tree-at : goal.gather_stmt-bounds-tree-at
@@ -253,28 +245,25 @@ pub gather_stmt-gather_plain-requires : goal.gather_stmt-gather_plain-requires
 gather_stmt-gather_plain-requires t c = let n = c.in_default.in_default-own.rest in (c.requires.0, c.requires.1, n.0.0.1, n.0.1, n.1)
 
 pub gather_stmt-returns-in-6 : goal.gather_stmt-returns-in-6
-gather_stmt-returns-in-6 t c =
-    (
-    stmt-if _ _ _ c.requires.1 _ _ _ c.in-6.is c.gather_if.ensures.0,
-    tallies-as (if-loops _ _ _ c.requires.1 c.in-6.is)
-    c.gather_if.ensures.1,
-    )
+gather_stmt-returns-in-6 t c = (
+  stmt-if _ _ _ c.requires.1 _ _ _ c.in-6.is c.gather_if.ensures.0,
+  tallies-as (if-loops _ _ _ c.requires.1 c.in-6.is)
+      c.gather_if.ensures.1,
+)
 
 pub gather_stmt-returns-in-7 : goal.gather_stmt-returns-in-7
-gather_stmt-returns-in-7 t c =
-    (
-    stmt-while _ _ _ c.requires.1 _ _ _ c.in-7.is c.gather_branch.ensures.0,
-    tallies-as (while-loops _ _ _ c.requires.1 c.in-7.is)
-    c.gather_branch.ensures.1,
-    )
+gather_stmt-returns-in-7 t c = (
+  stmt-while _ _ _ c.requires.1 _ _ _ c.in-7.is c.gather_branch.ensures.0,
+  tallies-as (while-loops _ _ _ c.requires.1 c.in-7.is)
+      c.gather_branch.ensures.1,
+)
 
 pub gather_stmt-returns-in-8 : goal.gather_stmt-returns-in-8
-gather_stmt-returns-in-8 t c =
-    (
-    stmt-for _ _ _ c.requires.1 _ _ _ c.in-8.is c.gather_for.ensures.0,
-    tallies-as (for-loops _ _ _ c.requires.1 c.in-8.is)
-    c.gather_for.ensures.1,
-    )
+gather_stmt-returns-in-8 t c = (
+  stmt-for _ _ _ c.requires.1 _ _ _ c.in-8.is c.gather_for.ensures.0,
+  tallies-as (for-loops _ _ _ c.requires.1 c.in-8.is)
+      c.gather_for.ensures.1,
+)
 
 pub gather_stmt-returns-in_default : goal.gather_stmt-returns-in_default
 gather_stmt-returns-in_default t c = let n = c.in_default.in_default-own.rest in (c.gather_plain.ensures, tallies-none c.requires.2 (other-loops _ _ _ c.requires.1 (λ h. omega (arith, n.0.0.1, n.0.1, n.1))))

@@ -39,12 +39,12 @@ gather_target-overflow_sub-depth t c = let h = expr-deep _ _ _ c.requires.1 in o
 pub gather_target-gather_targets-requires : goal.gather_target-gather_targets-requires
 gather_target-gather_targets-requires t c =
     let h = expr-deep _ _ _ c.requires.1 in (
-    omega arith,
-    (
-    c.requires.0,
-    list-reads _ _ _ _
-    c.u16_at-count.ensures.0 (view-tuple _ _ _ c.requires.1 c.if-kind-eq-TUPLE.true).parts,
-    ),
+      omega arith,
+      (
+        c.requires.0,
+        list-reads _ _ _ _
+            c.u16_at-count.ensures.0 (view-tuple _ _ _ c.requires.1 c.if-kind-eq-TUPLE.true).parts,
+      ),
     )
 
 pub gather_target-returns-then-kind-eq-TUPLE : goal.gather_target-returns-then-kind-eq-TUPLE
@@ -64,15 +64,14 @@ pub gather_targets-loop-left-init : goal.gather_targets-loop-left-init
 gather_targets-loop-left-init t c = targets-start _ _ _ _ _ _ c.requires.1 c.requires.0.few c.requires.0.indexed
 
 pub gather_targets-gather_target-one-requires : goal.gather_targets-gather_target-one-requires
-gather_targets-gather_target-one-requires t c =
-    (
-    omega arith,
-    (
+gather_targets-gather_target-one-requires t c = (
+  omega arith,
+  (
     room-again _ _ _ _ _ c.requires.0 c.loop-left.invariant.kept c.loop-left.invariant.few
-    c.loop-left.invariant.indexed,
+        c.loop-left.invariant.indexed,
     targets-head _ _ _ _ _ _ _ _ _ _ c.loop-left.invariant c.loop-left-test.true,
-    ),
-    )
+  ),
+)
 
 pub gather_targets-shape_of-slots-in_default : goal.gather_targets-shape_of-slots-in_default
 gather_targets-shape_of-slots-in_default t c = c.gather_target-one.auto.slots ∙ c.loop-left.invariant.kept

@@ -17,9 +17,9 @@ returns-in_default-all c = frames-gathered _ _ _ _ _ _ _ _ _ c.put_params-begun.
 pub overflow_add-n : goal.overflow_add-n
 overflow_add-n c =
     omega (
-    arith,
-    counts-few _ _ _ _ _ _ _ _ _ c.put_params-begun.ensures c.in-Count.is c.gather_block-all.ensures.0 _ _ _ c.in-Next.is
-    (omega (arith, c.put_params-begun.auto.slots, c.gather_block-all.auto.slots, c.requires.1)) (c.gather_block-all.ensures.1.counted _ _ c.in-Next.is),
+      arith,
+      counts-few _ _ _ _ _ _ _ _ _ c.put_params-begun.ensures c.in-Count.is c.gather_block-all.ensures.0 _ _ _ c.in-Next.is
+          (omega (arith, c.put_params-begun.auto.slots, c.gather_block-all.auto.slots, c.requires.1)) (c.gather_block-all.ensures.1.counted _ _ c.in-Next.is),
     )
 
 pub returns-then-n-loops-gt255 : goal.returns-then-n-loops-gt255
@@ -31,9 +31,9 @@ returns-then-n-loops-gt255 c =
 pub overflow_add-result : goal.overflow_add-result
 overflow_add-result c =
     omega (
-    arith,
-    counts-few _ _ _ _ _ _ _ _ _ c.put_params-begun.ensures c.in-Count.is c.gather_block-all.ensures.0 _ _ _ c.in-Next.is
-    (omega (arith, c.put_params-begun.auto.slots, c.gather_block-all.auto.slots, c.requires.1)) (c.gather_block-all.ensures.1.counted _ _ c.in-Next.is),
+      arith,
+      counts-few _ _ _ _ _ _ _ _ _ c.put_params-begun.ensures c.in-Count.is c.gather_block-all.ensures.0 _ _ _ c.in-Next.is
+          (omega (arith, c.put_params-begun.auto.slots, c.gather_block-all.auto.slots, c.requires.1)) (c.gather_block-all.ensures.1.counted _ _ c.in-Next.is),
     )
 
 pub returns : goal.returns

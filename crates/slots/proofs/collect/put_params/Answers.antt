@@ -8,12 +8,11 @@ pub returns-then-count-gt-SLOTS_MOST : goal.returns-then-count-gt-SLOTS_MOST
 returns-then-count-gt-SLOTS_MOST c = params-over _ _ _ _ c.u16_at-count.ensures.0 c.if-count-gt-SLOTS_MOST.true
 
 pub place_names-requires : goal.place_names-requires
-place_names-requires c =
-    (
-    c.requires.0,
-    lent-room c.u16_at-count.result c.args.slots.now (omega (arith, c.requires.1, c.if-count-gt-SLOTS_MOST.false)),
-    params-all _ _ _ c.requires.2 c.u16_at-count.ensures.0,
-    )
+place_names-requires c = (
+  c.requires.0,
+  lent-room c.u16_at-count.result c.args.slots.now (omega (arith, c.requires.1, c.if-count-gt-SLOTS_MOST.false)),
+  params-all _ _ _ c.requires.2 c.u16_at-count.ensures.0,
+)
 
 pub index_slots-requires : goal.index_slots-requires
 index_slots-requires c =
