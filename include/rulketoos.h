@@ -2,7 +2,7 @@
  * Rulketoos for C and for languages that call C: pyhyeon scripts' trees and
  * modules, checked, lowered, read, listed, counted and run by proved code.
  *
- * Link target/staticlib/libexports.a, which `rt staticlib exports` writes.
+ * Link crates/exports/out/libexports.a, which `rt lib` in crates/exports writes.
  * A slice is a pointer and a length; the caller owns all memory, nothing is
  * kept after a call, and no call allocates. A length of 0 may come with any
  * pointer. Slices that a call writes to must not overlap others.

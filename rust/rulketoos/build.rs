@@ -1,4 +1,4 @@
-//! Finds the static library, which `rt staticlib exports` writes, and links it.
+//! Finds the static library, which `rt lib` in crates/exports writes, and links it.
 
 use std::env;
 use std::path::{Path, PathBuf};
@@ -12,7 +12,7 @@ fn main() {
     println!("cargo::rerun-if-changed={}", library.display());
     if !library.is_file() {
         println!(
-            "cargo::error={} is missing: run `rt staticlib exports` in the root of Rulketoos, or let RULKETOOS_LIB name the library or its folder",
+            "cargo::error={} is missing: run `rt lib` in crates/exports of Rulketoos, or let RULKETOOS_LIB name the library or its folder",
             library.display()
         );
         return;
@@ -28,7 +28,7 @@ fn library() -> PathBuf {
         let package = env::var_os("CARGO_MANIFEST_DIR").expect("the package's folder");
         let root = Path::new(&package).join("../..");
         let root = root.canonicalize().unwrap_or(root);
-        return root.join("target/staticlib").join(NAME);
+        return root.join("crates/exports/out").join(NAME);
     };
     let given = PathBuf::from(given);
     if given.ends_with(NAME) {

@@ -22,16 +22,13 @@ LARGEST_BUDGET = 5000
 CASES_A_THEOREM = 40
 
 HEAD = """-- The definitions give the vectors' answers.
-use Prim.Native.Nat.{ℕ}
-use mathlib.Core.Path.{_≡_, refl}
-use mathlib.Core.Bool.{Bool, true, false, _&&_}
-use mathlib.Core.List.{List, [], _∷_}
-use lib.Dec.{eqb}
-use Rattle·definitions·specs.specs.Bytes.{Answer, refused, accepted, same}
-use Rattle·definitions·specs.specs.Module.{office, console}
-use Rattle·definitions·specs.specs.Run.{Ran}
-use Rattle·definitions·specs.specs.Calls.{lowerAnswer, readCall, runAnswer}
-use Rattle·definitions·specs.specs.Open.{everything}
+use Rattle.std.specs.Prelude.{ℕ, ◌≡◌, Bool, true, false, ◌&&◌, List, [], ◌∷◌, eqb}
+use Rattle.std.proofs.Common.{refl}
+use Rattle.definitions.specs.Bytes.{Answer, refused, accepted, same}
+use Rattle.definitions.specs.Module.{office, console}
+use Rattle.definitions.specs.Run.{Ran}
+use Rattle.definitions.specs.Calls.{lower_answer, read_call, run_answer}
+use Rattle.definitions.specs.Open.{everything}
 
 unfoldable agrees : {A : Type 0} → (A → A → Bool) → Answer A → Answer A → Bool
 agrees eq (refused q) (refused r) = eqb q r
@@ -39,11 +36,11 @@ agrees eq (refused q) (accepted b) = false
 agrees eq (accepted a) (refused r) = false
 agrees eq (accepted a) (accepted b) = eq a b
 
-unfoldable sameUnit : Unit {0} → Unit {0} → Bool
-sameUnit a b = true
+unfoldable same_unit : Unit {0} → Unit {0} → Bool
+same_unit a b = true
 
-unfoldable sameRan : Ran → Ran → Bool
-sameRan a b = eqb (a .ending) (b .ending) && eqb (a .steps) (b .steps) && eqb (a .used) (b .used) && same (a .events) (b .events)
+unfoldable same_ran : Ran → Ran → Bool
+same_ran a b = eqb a.ending b.ending && eqb a.steps b.steps && eqb a.used b.used && same a.events b.events
 """
 
 
@@ -76,14 +73,14 @@ def cases():
         for _, tree, text in lines(file):
             if len(record(tree)) <= longest:
                 wanted = answer(text, lambda module: numbers(record(module)))
-                yield f"agrees same (lowerAnswer {limits} 16384 16384 65536 {numbers(record(tree))}) {wanted}"
+                yield f"agrees same (lower_answer {limits} 16384 16384 65536 {numbers(record(tree))}) {wanted}"
     for _, module, text in lines("modules.txt"):
         if len(record(module)) <= LONGEST_MODULE:
-            yield f"agrees sameUnit (readCall {numbers(record(module))}) {answer(text, lambda _: 'tt')}"
+            yield f"agrees same_unit (read_call {numbers(record(module))}) {answer(text, lambda _: 'tt')}"
     for _, module, function, answers, budget, room, text in lines("runs.txt"):
         if len(record(module)) <= LONGEST_MODULE and int(budget) <= LARGEST_BUDGET:
-            call = f"runAnswer {numbers(record(module))} {function} {numbers(record(answers))} {budget} {room}"
-            yield f"agrees sameRan ({call}) {answer(text, ran)}"
+            call = f"run_answer {numbers(record(module))} {function} {numbers(record(answers))} {budget} {room}"
+            yield f"agrees same_ran ({call}) {answer(text, ran)}"
 
 
 def theorems(tests):
@@ -91,7 +88,7 @@ def theorems(tests):
     for start in range(0, len(tests), CASES_A_THEOREM):
         name = f"cases{start}"
         conjunction = "\n    && ".join(tests[start : start + CASES_A_THEOREM])
-        parts.append(f"{name} : ({conjunction}) ≡ true\nunfolding everything agrees sameUnit sameRan\n{name} = refl\n")
+        parts.append(f"{name} : ({conjunction}) ≡ true\nunfolding everything agrees same_unit same_ran\n{name} = refl\n")
     return "\n".join(parts)
 
 
@@ -99,15 +96,15 @@ def main():
     tests = list(cases())
     with tempfile.TemporaryDirectory() as folder:
         copy = pathlib.Path(folder)
-        shutil.copytree(ROOT / "crates" / "definitions", copy / "crates" / "definitions")
-        shutil.rmtree(copy / "crates" / "definitions" / "must-fail", ignore_errors=True)
+        crate = copy / "crates" / "definitions"
+        shutil.copytree(ROOT / "crates" / "definitions", crate, ignore=shutil.ignore_patterns("must-fail", "out"))
         (copy / "crates.txt").write_text("definitions:\n", encoding="ascii")
-        proofs = copy / "crates" / "definitions" / "proofs"
+        proofs = crate / "proofs"
         (proofs / "Vectors.antt").write_text(theorems(tests), encoding="utf-8")
         with open(proofs / "Lib.antt", "a", encoding="utf-8") as file:
             file.write("pub mod Vectors\n")
-        result = subprocess.run(["rt", "check", "definitions"], cwd=copy, capture_output=True, text=True, check=False)
-    good = result.returncode == 0 and "definitions proved" in result.stdout + result.stderr
+        result = subprocess.run(["rt", "check"], cwd=crate, capture_output=True, text=True, check=False)
+    good = result.returncode == 0 and "logic=proved" in result.stdout
     if not good:
         print((result.stdout + result.stderr)[-4000:])
     print(f"{len(tests) if good else 0} passed, {0 if good else len(tests)} failed")

@@ -187,15 +187,12 @@ class TreeOf(unittest.TestCase):
                 self.assertIn(b"not UTF-8", latin.stderr)
 
 
-# what stands in for rt: it proves two crates, or fails at the second
+# what stands in for rt: it proves each crate in its folder, or fails at the crate parts
 PROVES = """#!/bin/sh
-case $1 in
-check) echo "rt: definitions proved (5 s)"; echo "rt: parts proved (20 s)"; [ "$2" = definitions ] ;;
-staticlib) [ "$2" = exports ] ;;
-esac
+[ "$*" = lib ] && [ "${PWD%/crates/*}" != "$PWD" ] && echo "logic=proved functions=1"
 """
 FAILS = """#!/bin/sh
-echo "rt: definitions proved (5 s)"; echo "rt: parts NOT PROVED (exit 1, 3 s)"; exit 1
+[ "${PWD##*/}" != parts ] || { echo "fn parts::ask: not proved"; exit 1; }
 """
 # what stands in for cargo: it builds a command that says its words
 BUILDS = """#!/bin/sh
@@ -215,7 +212,8 @@ class Build(unittest.TestCase):
         shutil.copytree(ROOT / "tools", self.root / "tools", ignore=shutil.ignore_patterns("__pycache__"))
         for name in ("crates.txt", "README.md"):
             shutil.copy(ROOT / name, self.root)
-        for name in ("rust/rulketoos", "bin"):
+        self.crates = re.findall("^([a-z0-9_]+)(?: staticlib)?:", (ROOT / "crates.txt").read_text(), re.MULTILINE)
+        for name in ("rust/rulketoos", "bin", *(f"crates/{crate}" for crate in self.crates)):
             (self.root / name).mkdir(parents=True)
         for name in "awk bash cat chmod cut dirname env grep mkdir mktemp python3 readlink rm sed sh sort tail".split():
             (self.root / "bin" / name).symlink_to(shutil.which(name))
@@ -236,9 +234,10 @@ class Build(unittest.TestCase):
         first = self.run_tool("show", "spine.py")
         self.assertEqual((first.returncode, first.stdout), (0, "words: show spine.py\n"), first.stderr)
         total = first.stderr.split()[1]
-        second = re.findall("^([a-z0-9_]+):", (ROOT / "crates.txt").read_text(), re.MULTILINE)[1]
-        self.assertRegex(first.stderr, f"(?m)^1 of {total}: definitions proved \\(5 s\\); [0-9]+ s so far; next: {second}$")
-        self.assertIn(f"2 of {total}: parts proved (20 s); ", first.stderr)
+        second = self.crates[1]
+        self.assertRegex(first.stderr, f"(?m)^1 of {total}: definitions proved \\([0-9]+ s\\); [0-9]+ s so far; next: {second}$")
+        self.assertIn(f"2 of {total}: {second} proved (", first.stderr)
+        self.assertRegex(first.stderr, f"(?m)^{total} of {total}: exports proved \\(.*; next: the command$")
         self.assertIn("rulketoos is built; ", first.stderr)
         again = self.run_tool("rulketoos", "check", "a b")
         self.assertEqual((again.stdout, again.stderr), ("words: check a b\n", ""))
@@ -255,7 +254,7 @@ class Build(unittest.TestCase):
             self.has(name, text)
         failed = self.run_tool("build")
         self.assertEqual(failed.returncode, 1)
-        self.assertIn("rt: parts NOT PROVED (exit 1, 3 s)\nrt check ", failed.stderr)
+        self.assertIn("fn parts::ask: not proved\nrt lib in crates/parts failed", failed.stderr)
 
 
 if __name__ == "__main__":

@@ -1,8 +1,7 @@
 -- The number of a made name, and the instruction with it.
 use Prim.Native.Nat.{ℕ, ◌<◌, ◌≤◌}
-use mathlib.Core.Path.{◌≡◌, sym, ◌∙◌}
+use mathlib.Core.Path.{sym, ◌∙◌}
 use mathlib.Core.List.{List}
-use native.Mathlib.Omega.{arith}
 use lib.ListN.{get_or}
 use Rattle.definitions.specs.Bytes.{Name}
 use Rattle.definitions.specs.Instruction.{Instr, CallMethod}
@@ -15,7 +14,7 @@ use Rattle.names.specs.Made.{made_name}
 use Rattle.names.specs.declared.Made.TheVariants.{Iter, HasNext, Next}
 use Rattle.lower_names.proofs.Naming.{symbol-over, symbol-sound, symbol-put}
 use Rattle.lower_loops.proofs.Calling.{make-emits, ask-emits, take-is}
-use Rattle.lower_emit.specs.Numbers.{counts_of, limits_in, answered, numbered, SoundIn, LowersIn}
+use Rattle.lower_emit.specs.Numbers.{counts_of, limits_in, answered, SoundIn, LowersIn}
 use Rattle.lower_emit.proofs.Counts.{numbered-at, numbered-over}
 use Rattle.lower_emit.proofs.Steps.{lowers-full, lowers-state}
 use Rattle.lower_names.specs.Naming.{InternsMade}

@@ -1,12 +1,12 @@
 -- An iterator stored, in a slot or in a global, and the word that loads it.
 use Prim.Native.Nat.{ℕ, ◌+◌, ◌-◌, ◌<◌, ◌≤◌}
-use mathlib.Core.Path.{◌≡◌, refl, sym, ap, subst, ◌∙◌}
+use mathlib.Core.Path.{◌≡◌, refl, sym, ap, subst}
 use mathlib.Core.List.{List}
 use native.Mathlib.Omega.{arith}
 use lib.ListN.{length, get_or}
 use Rattle.definitions.specs.Instruction.{Instr, instr}
 use Rattle.definitions.specs.Tables.{one}
-use Rattle.definitions.specs.Slots.{Keeping, in_globals, in_slots}
+use Rattle.definitions.specs.Slots.{Keeping, in_globals}
 use Rattle.definitions.specs.Lower.{Keeper, global, local, store_iter, load_iter, iter_name}
 use Rattle.state.specs.Words.{word}
 use Rattle.state.specs.State.{State, state_of, emit_at, Left, Emits, Numbers, symbol_number, with_symbol, with_tables}

@@ -5,7 +5,7 @@ use Rattle.definitions.specs.Tables.{one}
 use Rattle.definitions.specs.Slots.{Keeping}
 use Rattle.definitions.specs.Lower.{Keeper, global, local, store_iter, load_iter}
 use Rattle.state.specs.Words.{word, op_of, first_of, instr_of}
-use Rattle.state.specs.State.{State, state_of, emit_at}
+use Rattle.state.specs.State.{state_of, emit_at}
 use Rattle.state.specs.Kept.{keeper_at, kept_at}
 use Rattle.lower_emit.specs.Numbers.{counts_of, SoundIn}
 use Rattle.lower_emit.specs.Places.{base_in}

@@ -14,7 +14,7 @@ use Rattle.definitions.specs.Tables.{Tables}
 use Rattle.definitions.specs.Reader.{instruction, read_module}
 use Rattle.definitions.specs.Calls.{function_of, zeros}
 use Rattle.definitions.specs.Sheet.{is_question, tally}
-use Rattle.definitions.specs.Reach.{wide_area, room_asked, place_asked, sought, Finds, found_answer, buffer_after, area_left, Reaching, reach_call}
+use Rattle.definitions.specs.Reach.{wide_area, room_asked, place_asked, sought, Finds, found_answer, buffer_after, area_left, reach_call}
 use Rattle.reader.specs.View.{function_in, CodeAt, instructions_of}
 use Rattle.reader.proofs.Encoding.{Small}
 use Rattle.run.proofs.Calling.{part-code, part_count, part-coded, when-refused, when-accepted, function-known}

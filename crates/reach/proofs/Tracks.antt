@@ -10,7 +10,7 @@ use lib.ListN.{length, get_or, set, take, drop, take-append-drop, length-append,
 use lib.Seq.{length-take-le, take-suc, set-append_seam, append_snoc, get_or-take, get_or-drop}
 use borrow.Author.Tests.{eq-eqb, ne_eqb, leb-true, leb-false}
 use Rattle.definitions.specs.Instruction.{Instr, Return}
-use Rattle.definitions.specs.Run.{Flow, straight, jump, question, flow}
+use Rattle.definitions.specs.Run.{Flow, straight, jump, question, returns, flow}
 use Rattle.definitions.specs.Calls.{written}
 use Rattle.definitions.specs.Search.{Next, straight_on, jumps_to, on_no, on_yes, Step, answers_of, Chain, begins, goes, link_mark, by_link}
 use Rattle.search.specs.View.{marks_of}
@@ -23,6 +23,7 @@ tag_small straight p a k q straight_on = omega arith
 tag_small jump p a k q jumps_to = omega arith
 tag_small (question b) p a k q on_no = omega arith
 tag_small (question b) p a k q on_yes = omega arith
+tag_small returns p a k q x = elim x [ ]
 
 -- what a link tells
 record Link (p k m : ℕ) : Type 0 where

@@ -140,7 +140,7 @@ module _ {c table area : List ℕ} {tail p : ℕ} {m : Marks} where
       met T.found.can (jump_goes T e f) M ∙ ap (λ (r : ℕ). meet m.on r (seen c area tail)) (f ∙ ap (landing p) T.operand) ∙ sym (by T.found jump (flow-jump o e))
 
   asks : {at o a : ℕ} → Turning c table area tail p m at o a → (o ≡ 28 → ⊥) → flow o ≡ question (eqb o 30)
-  asks {o = o} T j = let w = stop-jumps o T.stops T.goes_on in flow-question o w.0 w.1 j
+  asks {o = o} T j = let w = stop-jumps o T.stops T.goes-on in flow-question o w.0 w.1 j
 
   pub no-goes : {at o a q : ℕ} → Turning c table area tail p m at o a → (o ≡ 28 → ⊥) → q ≡ way (eqb o 30) (eqb 0 1) p a → Step (instructions_of c) p 1 q
   no-goes {o = o} T j f =

@@ -1,8 +1,6 @@
 use native.Mathlib.Omega.{arith}
-use mathlib.Core.Path.{◌≡◌, refl, ◌∙◌}
-use Prim.Native.Nat.{◌-◌, ◌≤◌}
-use lib.ListN.{length, length-set, replicate}
-use Rattle.definitions.specs.Calls.{written}
+use mathlib.Core.Path.{refl, ◌∙◌}
+use lib.ListN.{length-set}
 use Rattle.areas.proofs.Clearing.{none-cleared, one-cleared, all-cleared}
 use Rattle.areas.proofs.clear.Goals as goal
 

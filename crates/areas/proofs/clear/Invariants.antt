@@ -1,9 +1,7 @@
-use native.Mathlib.Omega.{arith}
-use mathlib.Core.Path.{◌≡◌, refl, ◌∙◌}
+use mathlib.Core.Path.{◌≡◌}
 use Prim.Native.Nat.{◌-◌, ◌≤◌}
-use lib.ListN.{length, length-set, replicate}
+use lib.ListN.{length, replicate}
 use Rattle.definitions.specs.Calls.{written}
-use Rattle.areas.proofs.Clearing.{none-cleared, one-cleared, all-cleared}
 use Rattle.areas.proofs.clear.Given as goal
 
 abbrev pub invariant-loop-i : goal.invariant-loop-i

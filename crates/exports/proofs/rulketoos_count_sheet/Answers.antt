@@ -7,7 +7,7 @@ use Rattle.exports.proofs.rulketoos_count_sheet.Goals as goal
 
 pub tell_text-requires : goal.tell_text-requires
 unfolding sheet_call
-tell_text-requires c = text-few 32 sheet _ _ _ _ c.count_sheet-answer.ensures (omega (arith, c.well-formed))
+tell_text-requires c = text-few 32 sheet _ _ _ _ c.count_sheet-answer.ensures (omega (arith, c.well_formed))
 
 pub returns : goal.returns
 unfolding sheet_call

@@ -7,7 +7,7 @@ use Rattle.exports.proofs.rulketoos_list.Goals as goal
 
 pub tell_text-requires : goal.tell_text-requires
 unfolding list_call
-tell_text-requires c = text-few 31 listing _ _ _ _ c.list-answer.ensures (omega (arith, c.well-formed))
+tell_text-requires c = text-few 31 listing _ _ _ _ c.list-answer.ensures (omega (arith, c.well_formed))
 
 pub returns : goal.returns
 unfolding list_call

@@ -4,7 +4,7 @@ use borrow.Author.Rules.{rules}
 use Rattle.exports.proofs.rulketoos_lower.Goals as goal
 
 pub overflow_add-result : goal.overflow_add-result
-overflow_add-result c = let h = c.well-formed.1.1.1.1.1 in omega (arith, lowered-fits _ _ _ c.limits_by.ensures _ _ _ c.args.out.now _ _ _ c.lower-answer.ensures _ c.in-Wrote.is)
+overflow_add-result c = let h = c.well_formed.1.1.1.1.1 in omega (arith, lowered-fits _ _ _ c.limits_by.ensures _ _ _ c.args.out.now _ _ _ c.lower-answer.ensures _ c.in-Wrote.is)
 
 pub returns-in-Wrote : goal.returns-in-Wrote
 returns-in-Wrote c = lowered-yes _ _ _ c.limits_by.ensures _ _ _ _ _ _ _ c.lower-answer.ensures _ c.in-Wrote.is

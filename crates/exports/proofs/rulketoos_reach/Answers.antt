@@ -4,7 +4,7 @@ use borrow.Author.Rules.{rules}
 use Rattle.exports.proofs.rulketoos_reach.Goals as goal
 
 pub overflow_add-result : goal.overflow_add-result
-overflow_add-result c = let h = c.well-formed.1.1.1.1.1 in let f = reached-fits _ c.reach-reached.ensures _ c.in-Answers.is c.reach-reached.auto.out in omega arith
+overflow_add-result c = let h = c.well_formed.1.1.1.1.1 in let f = reached-fits _ c.reach-reached.ensures _ c.in-Answers.is c.reach-reached.auto.out in omega arith
 
 pub returns-in-Answers : goal.returns-in-Answers
 returns-in-Answers c = reached-list _ c.reach-reached.ensures _ c.in-Answers.is

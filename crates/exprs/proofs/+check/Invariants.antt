@@ -1,12 +1,7 @@
-use Rattle.parts.proofs.LeafLaws.{operator-inside, guard-yes, guard-no}
-use Rattle.exprs.proofs.ExprLaws.{many-stand, at_none, at-false, at_true, at-int, at-float, at-string, at-var, at-unary, at-binary, at_call, at-attribute, at-list, at-dict, at-tuple, at_set, at-tree-set, at-index, at-lambda, tuple-role, expr-none, expr-end, expr-unknown, many-none, many_more}
-use mathlib.Core.Path.{◌≡◌, refl, sym, ◌∙◌}
-use borrow.Author.Rules.{rules}
-use native.Mathlib.Omega.{arith}
-use Prim.Native.Nat.{ℕ, ◌+◌, ◌*◌, ◌≤◌, ◌<◌}
+use mathlib.Core.Path.{◌≡◌}
+use Prim.Native.Nat.{◌+◌, ◌*◌, ◌≤◌}
 use lib.ListN.{length}
-use Rattle.parts.proofs.Laws.{up, then_next, then-refused, with-number, with-unread, judged-within, number-within}
-use Rattle.parts.specs.Judge.{judge_two, judge_call, judge_args, judge_display, judge_pairs, judge_attribute, judge_lambda, judge_unary, judge_binary, judge_many}
+use Rattle.parts.specs.Judge.{judge_many}
 use Rattle.exprs.proofs.+check.Given as goal
 
 abbrev pub decreases-check_attribute : goal.decreases-check_attribute

@@ -1,4 +1,3 @@
-use borrow.Author.Rules.{rules}
 use Rattle.lower_classes.proofs.Nested.{adds_constant}
 use Rattle.lower_classes.proofs.add_constant.Goals as goal
 

@@ -1,5 +1,4 @@
 use native.Mathlib.Omega.{arith}
-use borrow.Author.Rules.{rules}
 use lib.ListN.{length-set}
 use Rattle.lower_classes.proofs.Nested.{begins-class-over, begins-class}
 use Rattle.lower_classes.proofs.begin_class.Goals as goal

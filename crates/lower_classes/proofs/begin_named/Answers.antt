@@ -1,6 +1,5 @@
 use mathlib.Core.Path.{◌∙◌}
 use native.Mathlib.Omega.{arith}
-use borrow.Author.Rules.{rules}
 use Rattle.names.proofs.Spelling.{spelled-tree}
 use Rattle.lower_classes.proofs.Nested.{named-over, named-begins}
 use Rattle.lower_classes.proofs.begin_named.Goals as goal

@@ -1,5 +1,4 @@
 use native.Mathlib.Omega.{arith}
-use borrow.Author.Rules.{rules}
 use lib.ListN.{length-set}
 use Rattle.lower_classes.proofs.Nested.{ends-class}
 use Rattle.lower_classes.proofs.end_class.Goals as goal

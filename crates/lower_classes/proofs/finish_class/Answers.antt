@@ -1,6 +1,5 @@
 use mathlib.Core.Path.{◌∙◌}
 use native.Mathlib.Omega.{arith}
-use borrow.Author.Rules.{rules}
 use Rattle.lower_emit.proofs.Steps.{room-sound}
 use Rattle.names.proofs.Spelling.{spelled-tree}
 use Rattle.lower_names.proofs.Symbols.{naming-sound}

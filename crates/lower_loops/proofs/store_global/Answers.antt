@@ -1,5 +1,4 @@
 use native.Mathlib.Omega.{arith}
-use borrow.Author.Rules.{rules}
 use Rattle.lower_emit.proofs.Packing.{plain-below}
 use Rattle.lower_emit.proofs.Steps.{room-sound}
 use Rattle.lower_names.proofs.Symbols.{naming-sound}

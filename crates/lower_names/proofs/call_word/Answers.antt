@@ -1,5 +1,4 @@
 use Rattle.lower_names.proofs.Callees.{word-builtin, word-function, word_value}
-use borrow.Author.Rules.{rules}
 use Rattle.lower_names.proofs.call_word.Goals as goal
 
 pub returns-then-op-eq-CALL_BUILTIN : goal.returns-then-op-eq-CALL_BUILTIN

@@ -4,7 +4,6 @@ use Rattle.state.specs.Words.{name_at}
 use Rattle.state.specs.State.{slot_names}
 use Rattle.lower_names.proofs.Naming.{at_store}
 use Rattle.lower_emit.proofs.Steps.{lowers-state}
-use borrow.Author.Rules.{rules}
 use Rattle.lower_names.proofs.emit_store.Goals as goal
 
 pub shape_of-code : goal.shape_of-code

@@ -3,7 +3,6 @@ use Rattle.definitions.specs.Instruction.{ConstStr}
 use Rattle.lower_emit.proofs.Packing.{instr-plain, plain-below}
 use Rattle.lower_emit.proofs.Steps.{put-lifts}
 use Rattle.lower_names.proofs.Strings.{room-adds, string1-over, string1-sound, string1-put}
-use borrow.Author.Rules.{rules}
 use Rattle.lower_names.proofs.emit_string.Goals as goal
 
 pub shape_of-tables-then-i-ge-OVER : goal.shape_of-tables-then-i-ge-OVER

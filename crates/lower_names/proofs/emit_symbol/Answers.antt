@@ -7,7 +7,6 @@ use Rattle.names.proofs.Spelling.{spelled-tree}
 use Rattle.lower_names.proofs.Naming.{plain-with}
 use Rattle.lower_emit.proofs.Steps.{room-sound, put-lifts}
 use Rattle.lower_names.proofs.Symbols.{naming-sound, symbol1-over, symbol1-sound, symbol1-put}
-use borrow.Author.Rules.{rules}
 use Rattle.lower_names.proofs.emit_symbol.Goals as goal
 
 pub intern-i-requires : goal.intern-i-requires

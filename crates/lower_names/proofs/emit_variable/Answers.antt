@@ -9,7 +9,6 @@ use Rattle.lower_emit.proofs.Packing.{instr-plain}
 use Rattle.names.proofs.Finding.{names-length}
 use Rattle.lower_names.proofs.Naming.{plain_op, at_slot, at-global}
 use Rattle.lower_emit.proofs.Steps.{room-sound, put-lifts, lowers-state}
-use borrow.Author.Rules.{rules}
 use Rattle.lower_names.proofs.emit_variable.Goals as goal
 
 pub put_op-requires : goal.put_op-requires

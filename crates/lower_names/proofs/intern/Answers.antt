@@ -4,7 +4,6 @@ use Rattle.state.specs.Words.{region}
 use Rattle.state.specs.State.{symbol_index_from, symbol_buckets}
 use Rattle.names.proofs.TableIndex.{bucket-is}
 use Rattle.lower_names.proofs.Symbols.{renewed-noted, interned-le, interned-found, interns-old, interns-over, interns-new}
-use borrow.Author.Rules.{rules}
 use Rattle.lower_names.proofs.intern.Goals as goal
 
 pub overflow_cast-i : goal.overflow_cast-i

@@ -1,6 +1,5 @@
 use mathlib.Core.Path.{◌∙◌}
 use Rattle.lower_names.proofs.Symbols.{made-spelt}
-use borrow.Author.Rules.{rules}
 use Rattle.lower_names.proofs.intern_at.Goals as goal
 
 pub intern-requires : goal.intern-requires

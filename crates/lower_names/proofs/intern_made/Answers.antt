@@ -1,7 +1,6 @@
 use native.Mathlib.Omega.{arith}
 use mathlib.Core.Path.{refl}
 use Rattle.lower_names.proofs.Symbols.{naming-made, made-within, interns-made}
-use borrow.Author.Rules.{rules}
 use Rattle.lower_names.proofs.intern_made.Goals as goal
 
 pub write_made-grow-requires : goal.write_made-grow-requires

@@ -1,7 +1,6 @@
 use mathlib.Core.Path.{refl}
 use Rattle.lower_emit.proofs.Steps.{lowers-by, lowers-nothing}
 use Rattle.lower_names.proofs.Callees.{load-builtin, load-function, load_value}
-use borrow.Author.Rules.{rules}
 use Rattle.lower_names.proofs.load_callee.Goals as goal
 
 pub returns-then-callee-eq-CALL_BUILTIN : goal.returns-then-callee-eq-CALL_BUILTIN

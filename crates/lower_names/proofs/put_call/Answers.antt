@@ -1,5 +1,4 @@
 use Rattle.lower_emit.proofs.Steps.{put_as}
-use borrow.Author.Rules.{rules}
 use Rattle.lower_names.proofs.put_call.Goals as goal
 
 pub returns : goal.returns

@@ -11,7 +11,6 @@ use Rattle.names.proofs.Finding.{sought}
 use Rattle.names.proofs.Calling.{calls-builtin, calls-class, calls-other}
 use Rattle.lower_emit.specs.Numbers.{counts_of, limits_in}
 use Rattle.lower_names.proofs.Callees.{value_in, builtin-in}
-use borrow.Author.Rules.{rules}
 use Rattle.lower_names.proofs.resolve.Goals as goal
 
 pub returns-then-id-lt15 : goal.returns-then-id-lt15

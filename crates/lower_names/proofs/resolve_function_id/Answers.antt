@@ -7,7 +7,6 @@ use Rattle.names.proofs.Finding.{sought-word}
 use Rattle.names.proofs.Calling.{calls-unknown, calls-value, calls-function}
 use Rattle.lower_emit.specs.Numbers.{counts_of, limits_in}
 use Rattle.lower_names.proofs.Callees.{value_in, function-in}
-use borrow.Author.Rules.{rules}
 use Rattle.lower_names.proofs.resolve_function_id.Goals as goal
 
 pub returns-then-n-i : goal.returns-then-n-i

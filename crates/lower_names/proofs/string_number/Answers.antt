@@ -6,7 +6,6 @@ use Rattle.state.specs.State.{strings_from, string_index_from, string_buckets}
 use Rattle.names.proofs.TableIndex.{bucket-is}
 use Rattle.lower_names.proofs.Symbols.{renewed-noted}
 use Rattle.lower_names.proofs.Strings.{added-le, added-found, adds-old, adds-over, adds-new}
-use borrow.Author.Rules.{rules}
 use Rattle.lower_names.proofs.string_number.Goals as goal
 
 pub overflow_cast-i : goal.overflow_cast-i

@@ -1,4 +1,3 @@
-use borrow.Author.Rules.{rules}
 use Rattle.reach.proofs.Asking.{call-short, call_long}
 use Rattle.reach.proofs.reach.Goals as goal
 

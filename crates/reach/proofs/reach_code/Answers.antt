@@ -1,5 +1,4 @@
 use native.Mathlib.Omega.{arith}
-use borrow.Author.Rules.{rules}
 use lib.ListN.{length-replicate}
 use Rattle.reach.proofs.Seeking.{ready, no_way, marked}
 use Rattle.reach.proofs.reach_code.Goals as goal

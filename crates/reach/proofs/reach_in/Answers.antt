@@ -1,5 +1,4 @@
 use mathlib.Core.Path.{sym, ◌∙◌}
-use borrow.Author.Rules.{rules}
 use Rattle.reader.proofs.Deciding.{located-inside, located-code, located-not, part-code}
 use Rattle.reach.proofs.Asking.{says-refused, says-34, says-35, says, code-values, questions-are, seekable}
 use Rattle.reach.proofs.reach_in.Goals as goal

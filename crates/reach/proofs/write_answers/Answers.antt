@@ -1,6 +1,5 @@
 use mathlib.Core.Path.{refl, sym, ◌∙◌}
 use native.Mathlib.Omega.{arith}
-use borrow.Author.Rules.{rules}
 use Rattle.reach.proofs.Seeking.{place_at, op-at, traceable, count_fits, marked-in, no_own, own_room, own-written}
 use Rattle.reach.proofs.write_answers.Goals as goal
 

@@ -1,5 +1,4 @@
 use native.Mathlib.Omega.{arith}
-use borrow.Author.Rules.{rules}
 use Rattle.run.proofs.Flows.{on-true, on-false}
 use Rattle.search.proofs.Expanding.{place-small, in_table, begins-in, found, meetable, again, at_return, straight-goes, at-straight, operand_in, turning, jump_goes, at-jump, no-goes, yes-goes, at-question}
 use Rattle.search.proofs.expand.Goals as goal

@@ -1,5 +1,4 @@
 use native.Mathlib.Omega.{arith}
-use borrow.Author.Rules.{rules}
 use lib.ListN.{length-set}
 use Rattle.search.proofs.Viewing.{met-before, met-now}
 use Rattle.search.proofs.meet.Goals as goal

@@ -1,4 +1,3 @@
-use borrow.Author.Rules.{rules}
 use Rattle.tally.proofs.Calling.{closed, opened}
 use Rattle.sheet.proofs.Answering.{sheet-closed}
 use Rattle.sheet.proofs.count_sheet.Goals as goal

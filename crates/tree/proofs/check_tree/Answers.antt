@@ -1,6 +1,5 @@
 use mathlib.Core.Path.{sym, ◌∙◌}
 use Rattle.tree.proofs.TreeLaws.{head-refuses, head-zero, tree-refused, tree_over, tree-no, tree-yes}
-use borrow.Author.Rules.{rules}
 use Rattle.tree.proofs.check_tree.Goals as goal
 
 pub returns-then-head-ne0 : goal.returns-then-head-ne0

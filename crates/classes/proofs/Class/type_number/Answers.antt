@@ -1,4 +1,3 @@
-use borrow.Author.Rules.{rules}
 use mathlib.Core.Path.{refl}
 use Rattle.definitions.specs.Tables.{type_number}
 use Rattle.classes.proofs.Class.type_number.Goals as goal

@@ -1,8 +1,5 @@
 use Prim.Native.Nat.{◌-◌}
-use native.Mathlib.Omega.{arith}
-use borrow.Author.Rules.{rules}
 use Rattle.exprs.specs.Constants.{Constants}
-use Rattle.exprs.proofs.ConstantLaws.{constants-none, constants-more}
 use Rattle.exprs.proofs.constants.leading_constants.Given as goal
 
 abbrev pub invariant-loop-k : goal.invariant-loop-k

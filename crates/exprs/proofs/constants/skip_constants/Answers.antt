@@ -1,4 +1,3 @@
-use borrow.Author.Rules.{rules}
 use native.Mathlib.Omega.{arith}
 use Rattle.exprs.proofs.ConstantLaws.{pass-none, pass-constants}
 use Rattle.exprs.proofs.constants.skip_constants.Goals as goal

@@ -1,5 +1,4 @@
 use Rattle.exprs.proofs.LiteralLaws.{eight_is}
-use borrow.Author.Rules.{rules}
 use Rattle.exprs.proofs.literals.eight_at.Goals as goal
 
 pub returns : goal.returns

@@ -4,7 +4,6 @@ use mir.ValLaws.{of_z-to_z}
 use Rattle.definitions.specs.Tree.{int_l}
 use Rattle.exprs.specs.Literals.{literal_of, Plain}
 use Rattle.exprs.proofs.Signed.{upper_fits, upper-bits}
-use borrow.Author.Rules.{rules}
 use Rattle.exprs.proofs.literals.int_literal.Goals as goal
 
 pub overflow_add-result : goal.overflow_add-result

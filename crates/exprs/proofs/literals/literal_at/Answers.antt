@@ -1,5 +1,4 @@
 use Rattle.exprs.proofs.LiteralLaws.{literal-inside, eight-of-int, eight-of-float, text-counted, is_none, is_false, is_true, is-int, is-float, is-text}
-use borrow.Author.Rules.{rules}
 use Rattle.exprs.proofs.literals.literal_at.Goals as goal
 
 pub bounds-tree-at : goal.bounds-tree-at

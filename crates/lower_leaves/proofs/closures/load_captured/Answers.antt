@@ -28,7 +28,7 @@ pub returns-then-p-eq0 : goal.returns-then-p-eq0
 returns-then-p-eq0 c = loading-over c.loop-i.invariant c.loop-i-test.true (held_at _ _ _ c.loop-i.i c.loop-i-test.true c.requires.2) c.requires.1 c.find_slot-s.ensures c.requires.3 c.if-p-eq0.true c.put_op-p.ensures
 
 pub overflow_add-i : goal.overflow_add-i
-overflow_add-i c = omega (arith, c.loop-i-test.true, c.well-formed.1.1.0.0)
+overflow_add-i c = omega (arith, c.loop-i-test.true, c.well_formed.1.1.0.0)
 
 pub loop-i-smaller : goal.loop-i-smaller
 loop-i-smaller c = omega (arith, c.loop-i-test.true)

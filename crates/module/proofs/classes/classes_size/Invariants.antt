@@ -1,11 +1,8 @@
-use borrow.Author.Rules.{rules}
-use native.Mathlib.Omega.{arith}
-use mathlib.Core.List.{◌∷◌}
-use Prim.Native.Nat.{◌+◌, ◌-◌, ◌≤◌}
-use lib.ListN.{length, get_or}
+use Prim.Native.Nat.{◌-◌, ◌≤◌}
+use lib.ListN.{length}
 use Rattle.module.specs.Sections.{classes_bytes}
-use Rattle.module.proofs.Pieces.{pairs_from, pairs_next, pairs-none, Measured, measured-count, measured-as, measured-fits, measured-next, measured-done}
-use Rattle.module.proofs.CodeLengths.{class_piece, classes-listed, classes-room}
+use Rattle.module.proofs.Pieces.{pairs_from, Measured}
+use Rattle.module.proofs.CodeLengths.{class_piece}
 use Rattle.module.proofs.classes.classes_size.Given as goal
 
 abbrev pub invariant-loop-i : goal.invariant-loop-i

@@ -1,12 +1,8 @@
-use borrow.Author.Rules.{rules}
-use native.Mathlib.Omega.{arith}
-use mathlib.Core.Path.{◌≡◌}
-use mathlib.Core.List.{◌∷◌}
-use Prim.Native.Nat.{◌+◌, ◌-◌, ◌^◌, ◌≤◌, ◌<◌}
-use lib.ListN.{length, get_or}
+use Prim.Native.Nat.{◌-◌, ◌≤◌}
+use lib.ListN.{length}
 use Rattle.module.specs.Sections.{methods_bytes}
-use Rattle.module.proofs.Pieces.{pieces, pieces-next, pieces_none, Measured, measured-count, measured-as, measured-fits, measured-next, measured-done}
-use Rattle.module.proofs.CodeLengths.{method_piece, methods-listed, methods-room, method-size}
+use Rattle.module.proofs.Pieces.{pieces, Measured}
+use Rattle.module.proofs.CodeLengths.{method_piece}
 use Rattle.module.proofs.classes.methods_size.Given as goal
 
 abbrev pub invariant-loop-i : goal.invariant-loop-i

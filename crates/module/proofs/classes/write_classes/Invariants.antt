@@ -1,13 +1,9 @@
-use borrow.Author.Rules.{rules}
-use native.Mathlib.Omega.{arith}
-use mathlib.Core.Path.{◌∙◌}
-use mathlib.Core.List.{◌∷◌}
-use Prim.Native.Nat.{◌+◌, ◌-◌, ◌^◌, ◌≤◌, ◌<◌}
-use lib.ListN.{length, get_or}
+use Prim.Native.Nat.{◌-◌, ◌≤◌}
+use lib.ListN.{length}
 use Rattle.module.specs.Sections.{classes_bytes}
-use Rattle.writing.proofs.Begun.{Begun, begun_first, begun-now, begun-back, begun-as, begun-length, begun-fits, begun-piece, begun-next, begun-done}
-use Rattle.module.proofs.Pieces.{pairs_from, pairs_next, pairs-none}
-use Rattle.module.proofs.CodeLengths.{class_piece, classes-listed, classes-two}
+use Rattle.writing.proofs.Begun.{Begun}
+use Rattle.module.proofs.Pieces.{pairs_from}
+use Rattle.module.proofs.CodeLengths.{class_piece}
 use Rattle.module.proofs.classes.write_classes.Given as goal
 
 abbrev pub invariant-loop-i : goal.invariant-loop-i

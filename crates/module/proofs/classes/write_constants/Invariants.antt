@@ -1,14 +1,9 @@
-use borrow.Author.Rules.{rules}
-use native.Mathlib.Omega.{arith}
-use mathlib.Core.Path.{◌∙◌}
-use mathlib.Core.List.{◌∷◌}
-use Prim.Native.Nat.{◌+◌, ◌-◌, ◌^◌, ◌≤◌, ◌<◌}
-use lib.ListN.{length, get_or}
+use Prim.Native.Nat.{◌-◌, ◌≤◌}
+use lib.ListN.{length}
 use Rattle.definitions.specs.Bytes.{be}
 use Rattle.module.specs.Sections.{constant_bytes}
-use Rattle.writing.proofs.Begun.{Begun, begun_first, begun-now, begun-back, begun-as, begun-length, begun-fits, begun-number, begun-next, begun-done}
-use Rattle.module.proofs.Pieces.{pieces, pieces-next, pieces_none}
-use Rattle.module.proofs.CodeLengths.{constants-listed, length-constants}
+use Rattle.writing.proofs.Begun.{Begun}
+use Rattle.module.proofs.Pieces.{pieces}
 use Rattle.module.proofs.classes.write_constants.Given as goal
 
 abbrev pub invariant-loop-i : goal.invariant-loop-i

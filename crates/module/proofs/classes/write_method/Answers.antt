@@ -1,5 +1,4 @@
 -- the name is written
-use borrow.Author.Rules.{rules}
 use native.Mathlib.Omega.{arith}
 use mathlib.Core.List.{[], ◌∷◌}
 use Prim.Native.Nat.{◌%◌, ◌/◌, ◌≤◌}
@@ -12,32 +11,43 @@ use Rattle.module.proofs.Lengths.{name-short, length-name, name-room, name-wrote
 use Rattle.module.proofs.CodeLengths.{method_piece, method-pieces, length-method}
 use Rattle.module.proofs.classes.write_method.Goals as goal
 
-named : (c : tie.After-slice-known2) → let s = c.before.before.before.before.before.before.before.args in
-    Begun (method_piece s.tree.now s.w) s.out.now c.before.before.write-counted.result c.before.before.write-counted.new.1.1.0 (be 2 (s.w % 256) ∷ [])
-named c =
-    let p = c.before.before in
-    let s = p.before.before.before.before.before in
-    begun_first (method-pieces _ _) s.requires (name-wrote p.before.before.name-part.ensures.0 p.write-counted.ensures)
-
 pub write_counted-at-requires : goal.write_counted-at-requires
 write_counted-at-requires c =
     let t = c.args.tree.now in let w = c.args.w in name-room c.name_part-name.ensures.result_value (name-short t (w / 256) (λ j. (c.shared_slice_known-1.given j).fits))
     (let h : length (name_bytes (name_at t (w / 256))) ≤ length c.args.out.now = omega (arith, c.requires, length-method t w, length-name (name_at t (w / 256))) in h)
 
 pub slice_bounds-write_number-count : goal.slice_bounds-write_number-count
-slice_bounds-write_number-count c = omega (arith, begun-fits (named c))
+slice_bounds-write_number-count c =
+    let named : Begun (method_piece c.args.tree.now c.args.w) c.args.out.now c.write_counted-at.result c.write_counted-at.new.out (be 2 (c.args.w % 256) ∷ []) =
+    begun_first (method-pieces _ _) c.requires (name-wrote c.name_part-name.ensures.result_value c.write_counted-at.ensures) in
+    omega (arith, begun-fits named)
 
 pub slice_bounds-write_number-start : goal.slice_bounds-write_number-start
-slice_bounds-write_number-start c = omega (arith, begun-fits (named c))
+slice_bounds-write_number-start c =
+    let named : Begun (method_piece c.args.tree.now c.args.w) c.args.out.now c.write_counted-at.result c.write_counted-at.new.out (be 2 (c.args.w % 256) ∷ []) =
+    begun_first (method-pieces _ _) c.requires (name-wrote c.name_part-name.ensures.result_value c.write_counted-at.ensures) in
+    omega (arith, begun-fits named)
 
 pub write_number-requires : goal.write_number-requires
-write_number-requires c = begun-number _ _ (named c)
+write_number-requires c =
+    let named : Begun (method_piece c.args.tree.now c.args.w) c.args.out.now c.write_counted-at.result c.write_counted-at.new.out (be 2 (c.args.w % 256) ∷ []) =
+    begun_first (method-pieces _ _) c.requires (name-wrote c.name_part-name.ensures.result_value c.write_counted-at.ensures) in
+    begun-number _ _ named
 
 pub overflow_add-result : goal.overflow_add-result
-overflow_add-result c = let b = named c in omega (arith, begun-fits b, begun-length b, c.write_number.ensures.count, c.well-formed)
+overflow_add-result c =
+    let named : Begun (method_piece c.args.tree.now c.args.w) c.args.out.now c.write_counted-at.result c.write_counted-at.new.out (be 2 (c.args.w % 256) ∷ []) =
+    begun_first (method-pieces _ _) c.requires (name-wrote c.name_part-name.ensures.result_value c.write_counted-at.ensures) in
+    let b = named in omega (arith, begun-fits b, begun-length b, c.write_number.ensures.count, c.well_formed)
 
 pub shape_of-out : goal.shape_of-out
-shape_of-out c = begun-length (begun-next (named c) c.write_number.ensures)
+shape_of-out c =
+    let named : Begun (method_piece c.args.tree.now c.args.w) c.args.out.now c.write_counted-at.result c.write_counted-at.new.out (be 2 (c.args.w % 256) ∷ []) =
+    begun_first (method-pieces _ _) c.requires (name-wrote c.name_part-name.ensures.result_value c.write_counted-at.ensures) in
+    begun-length (begun-next named c.write_number.ensures)
 
 pub returns : goal.returns
-returns c = begun-done (begun-next (named c) c.write_number.ensures)
+returns c =
+    let named : Begun (method_piece c.args.tree.now c.args.w) c.args.out.now c.write_counted-at.result c.write_counted-at.new.out (be 2 (c.args.w % 256) ∷ []) =
+    begun_first (method-pieces _ _) c.requires (name-wrote c.name_part-name.ensures.result_value c.write_counted-at.ensures) in
+    begun-done (begun-next named c.write_number.ensures)

@@ -1,11 +1,9 @@
-use borrow.Author.Rules.{rules}
-use native.Mathlib.Omega.{arith}
-use mathlib.Core.List.{List, [], ◌∷◌}
-use Prim.Native.Nat.{ℕ, ◌+◌, ◌-◌, ◌≤◌}
-use lib.ListN.{length, get_or}
+use mathlib.Core.List.{List}
+use Prim.Native.Nat.{ℕ, ◌-◌, ◌≤◌}
+use lib.ListN.{length}
 use Rattle.module.specs.Sections.{code_bytes}
-use Rattle.module.proofs.Pieces.{pieces, pieces-next, pieces_none, Measured, measured-count, measured-as, measured-fits, measured-next, measured-done}
-use Rattle.module.proofs.CodeLengths.{code_piece, code-listed, code-room}
+use Rattle.module.proofs.Pieces.{pieces, Measured}
+use Rattle.module.proofs.CodeLengths.{code_piece}
 use Rattle.module.proofs.functions.code_size.Given as goal
 
 abbrev pub invariant-loop-i : goal.invariant-loop-i

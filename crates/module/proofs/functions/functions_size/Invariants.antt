@@ -1,12 +1,10 @@
-use borrow.Author.Rules.{rules}
-use native.Mathlib.Omega.{arith}
-use mathlib.Core.Path.{◌≡◌, refl}
-use mathlib.Core.List.{List, [], ◌∷◌}
-use Prim.Native.Nat.{ℕ, ◌+◌, ◌-◌, ◌≤◌}
-use lib.ListN.{length, get_or}
+use mathlib.Core.Path.{◌≡◌}
+use mathlib.Core.List.{List}
+use Prim.Native.Nat.{ℕ, ◌-◌, ◌≤◌}
+use lib.ListN.{length}
 use Rattle.module.specs.Sections.{functions_bytes}
-use Rattle.module.proofs.Pieces.{pairs_from, pairs_next, pairs-none, Measured, measured-count, measured-as, measured-fits, measured-next, measured-done}
-use Rattle.module.proofs.CodeLengths.{function_piece, functions-listed, functions-room}
+use Rattle.module.proofs.Pieces.{pairs_from, Measured}
+use Rattle.module.proofs.CodeLengths.{function_piece}
 use Rattle.module.proofs.functions.functions_size.Given as goal
 
 abbrev pub invariant-loop-i : goal.invariant-loop-i

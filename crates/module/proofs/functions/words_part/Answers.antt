@@ -1,4 +1,3 @@
-use borrow.Author.Rules.{rules}
 use native.Mathlib.Omega.{arith}
 use Rattle.names.proofs.Spelling.{past_end, cut-end, whole_part}
 use Rattle.state.specs.Words.{region}

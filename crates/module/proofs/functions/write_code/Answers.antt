@@ -1,8 +1,7 @@
-use borrow.Author.Rules.{rules}
 use native.Mathlib.Omega.{arith}
 use mathlib.Core.Path.{◌∙◌}
 use mathlib.Core.List.{◌∷◌}
-use Prim.Native.Nat.{◌+◌, ◌-◌, ◌^◌, ◌≤◌, ◌<◌}
+use Prim.Native.Nat.{◌+◌, ◌^◌, ◌<◌}
 use lib.ListN.{length, get_or}
 use Rattle.module.specs.Sections.{code_bytes}
 use Rattle.writing.proofs.Begun.{Begun, begun_first, begun-now, begun-back, begun-as, begun-length, begun-fits, begun-piece, begun-next, begun-done}
@@ -10,44 +9,57 @@ use Rattle.module.proofs.Pieces.{pieces, pieces-next, pieces_none}
 use Rattle.module.proofs.CodeLengths.{code_piece, code-listed, code-two}
 use Rattle.module.proofs.functions.write_code.Goals as goal
 
--- the count is written
-
-counted : (c : tie.After-slice-known2 invariant-loop decreases-loop) → let s = c.before.before.before.before.before.before.before.args in
-    Begun (code_bytes s.tree.now s.words.now) s.out.now c.before.before.write-number.result c.before.before.write-number.new.1.1.0 (pieces (code_piece s.tree.now) 0 s.words.now)
-counted c = let s = c.before.before.before.before.before.before.before in begun_first (code-listed _ _) s.requires.1 c.before.before.write-number.ensures
-
--- the word in hand is next
-
-here : (c : tie.In-loop invariant-loop decreases-loop) → let l = c.before.loop in let k = c.before.before.before.before in let s = k.before.before.before.before.before.args in
-    Begun (code_bytes s.tree.now s.words.now) k.write-number.new.1.1.0 l.at l.out (code_piece s.tree.now (get_or s.words.now l.i 0) ∷ pieces (code_piece s.tree.now) (l.i + 1) s.words.now)
-here c = begun-as c.before.loop.invariant.1 _ (pieces-next _ c.before.loop.i _ c.loop-test.true)
-
-fits : (c : tie.In-loop invariant-loop decreases-loop) → let l = c.before.loop in let s = c.before.before.before.before.before.before.before.before.before.args in l.at + length (code_piece s.tree.now (get_or s.words.now l.i 0)) < 2 ^ 64
-fits c = let b = c.before.before in let s = b.before.before.before.before.before.before.before in omega (arith, begun-fits (here c), begun-length (here c), begun-length (counted b), s.well-formed)
-
 pub write_number-at-requires : goal.write_number-at-requires
 write_number-at-requires c = omega (arith, c.requires.1, code-two c.args.tree.now c.args.words.now)
 
 pub loop-i-init : goal.loop-i-init
-loop-i-init c = (omega arith, begun-now (counted c))
+loop-i-init c =
+    let counted : Begun (code_bytes c.args.tree.now c.args.words.now) c.args.out.now c.write_number-at.result c.write_number-at.new.out (pieces (code_piece c.args.tree.now) 0 c.args.words.now) =
+    begun_first (code-listed _ _) c.requires.1 c.write_number-at.ensures in
+    (omega arith, begun-now counted)
 
 pub slice_bounds-write_instruction-count : goal.slice_bounds-write_instruction-count
-slice_bounds-write_instruction-count c = omega (arith, begun-fits (here c))
+slice_bounds-write_instruction-count c =
+    let here : Begun (code_bytes c.args.tree.now c.args.words.now) c.write_number-at.new.out c.loop-i.at c.loop-i.out (code_piece c.args.tree.now (get_or c.args.words.now c.loop-i.i 0) ∷ pieces (code_piece c.args.tree.now) (c.loop-i.i + 1) c.args.words.now) =
+    begun-as c.loop-i.invariant.1 _ (pieces-next _ c.loop-i.i _ c.loop-i-test.true) in
+    omega (arith, begun-fits here)
 
 pub slice_bounds-write_instruction-start : goal.slice_bounds-write_instruction-start
-slice_bounds-write_instruction-start c = omega (arith, begun-fits (here c))
+slice_bounds-write_instruction-start c =
+    let here : Begun (code_bytes c.args.tree.now c.args.words.now) c.write_number-at.new.out c.loop-i.at c.loop-i.out (code_piece c.args.tree.now (get_or c.args.words.now c.loop-i.i 0) ∷ pieces (code_piece c.args.tree.now) (c.loop-i.i + 1) c.args.words.now) =
+    begun-as c.loop-i.invariant.1 _ (pieces-next _ c.loop-i.i _ c.loop-i-test.true) in
+    omega (arith, begun-fits here)
 
 pub write_instruction-at-requires : goal.write_instruction-at-requires
-write_instruction-at-requires c = begun-piece (here c)
+write_instruction-at-requires c =
+    let here : Begun (code_bytes c.args.tree.now c.args.words.now) c.write_number-at.new.out c.loop-i.at c.loop-i.out (code_piece c.args.tree.now (get_or c.args.words.now c.loop-i.i 0) ∷ pieces (code_piece c.args.tree.now) (c.loop-i.i + 1) c.args.words.now) =
+    begun-as c.loop-i.invariant.1 _ (pieces-next _ c.loop-i.i _ c.loop-i-test.true) in
+    begun-piece here
 
 pub overflow_add-at : goal.overflow_add-at
-overflow_add-at c = omega (arith, c.write_instruction-at.ensures.count, fits c)
+overflow_add-at c =
+    let counted : Begun (code_bytes c.args.tree.now c.args.words.now) c.args.out.now c.write_number-at.result c.write_number-at.new.out (pieces (code_piece c.args.tree.now) 0 c.args.words.now) =
+    begun_first (code-listed _ _) c.requires.1 c.write_number-at.ensures in
+    let here : Begun (code_bytes c.args.tree.now c.args.words.now) c.write_number-at.new.out c.loop-i.at c.loop-i.out (code_piece c.args.tree.now (get_or c.args.words.now c.loop-i.i 0) ∷ pieces (code_piece c.args.tree.now) (c.loop-i.i + 1) c.args.words.now) =
+    begun-as c.loop-i.invariant.1 _ (pieces-next _ c.loop-i.i _ c.loop-i-test.true) in
+    let fits : c.loop-i.at + length (code_piece c.args.tree.now (get_or c.args.words.now c.loop-i.i 0)) < 2 ^ 64 =
+    omega (arith, begun-fits here, begun-length here, begun-length counted, c.well_formed) in
+    omega (arith, c.write_instruction-at.ensures.count, fits)
 
 pub loop-i-preserved : goal.loop-i-preserved
-loop-i-preserved c = (omega arith, begun-next (here c) c.write_instruction-at.ensures)
+loop-i-preserved c =
+    let here : Begun (code_bytes c.args.tree.now c.args.words.now) c.write_number-at.new.out c.loop-i.at c.loop-i.out (code_piece c.args.tree.now (get_or c.args.words.now c.loop-i.i 0) ∷ pieces (code_piece c.args.tree.now) (c.loop-i.i + 1) c.args.words.now) =
+    begun-as c.loop-i.invariant.1 _ (pieces-next _ c.loop-i.i _ c.loop-i-test.true) in
+    (omega arith, begun-next here c.write_instruction-at.ensures)
 
 pub shape_of-out : goal.shape_of-out
-shape_of-out c = begun-length c.loop-i.invariant.1 ∙ begun-length (counted c)
+shape_of-out c =
+    let counted : Begun (code_bytes c.args.tree.now c.args.words.now) c.args.out.now c.write_number-at.result c.write_number-at.new.out (pieces (code_piece c.args.tree.now) 0 c.args.words.now) =
+    begun_first (code-listed _ _) c.requires.1 c.write_number-at.ensures in
+    begun-length c.loop-i.invariant.1 ∙ begun-length counted
 
 pub returns : goal.returns
-returns c = begun-back (counted c) (begun-done (begun-as c.loop-i.invariant.1 _ (pieces_none _ c.loop-i.i _ c.loop-i-test.false)))
+returns c =
+    let counted : Begun (code_bytes c.args.tree.now c.args.words.now) c.args.out.now c.write_number-at.result c.write_number-at.new.out (pieces (code_piece c.args.tree.now) 0 c.args.words.now) =
+    begun_first (code-listed _ _) c.requires.1 c.write_number-at.ensures in
+    begun-back counted (begun-done (begun-as c.loop-i.invariant.1 _ (pieces_none _ c.loop-i.i _ c.loop-i-test.false)))

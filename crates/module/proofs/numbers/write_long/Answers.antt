@@ -1,9 +1,9 @@
 use native.Mathlib.Omega.{arith}
-use mathlib.Core.Path.{◌≡◌, ap, ◌∙◌}
+use mathlib.Core.Path.{ap, ◌∙◌}
 use mathlib.Core.List.{List}
-use Prim.Native.Nat.{ℕ, ◌-◌, ◌/◌, ◌%◌, ◌^◌, ◌≤◌}
+use Prim.Native.Nat.{ℕ, ◌-◌, ◌%◌}
 use lib.ListN.{length, set}
-use Rattle.module.proofs.Filled.{filled, filled-start, length-filled, filled_next, rest-next, rest-start, filled-whole}
+use Rattle.module.proofs.Filled.{filled-start, length-filled, filled_next, rest-next, rest-start, filled-whole}
 use Rattle.module.proofs.numbers.write_long.Goals as goal
 
 pub loop-i-init : goal.loop-i-init

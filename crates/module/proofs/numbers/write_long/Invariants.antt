@@ -1,9 +1,6 @@
-use native.Mathlib.Omega.{arith}
-use mathlib.Core.Path.{◌≡◌, ap, ◌∙◌}
-use mathlib.Core.List.{List}
-use Prim.Native.Nat.{ℕ, ◌-◌, ◌/◌, ◌%◌, ◌^◌, ◌≤◌}
-use lib.ListN.{length, set}
-use Rattle.module.proofs.Filled.{filled, filled-start, length-filled, filled_next, rest-next, rest-start, filled-whole}
+use mathlib.Core.Path.{◌≡◌}
+use Prim.Native.Nat.{◌-◌, ◌/◌, ◌^◌, ◌≤◌}
+use Rattle.module.proofs.Filled.{filled}
 use Rattle.module.proofs.numbers.write_long.Given as goal
 
 abbrev pub invariant-loop-i : goal.invariant-loop-i

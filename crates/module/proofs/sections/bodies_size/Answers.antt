@@ -1,5 +1,4 @@
 -- functions and classes are measured
-use borrow.Author.Rules.{rules}
 use native.Mathlib.Omega.{arith}
 use mathlib.Core.Path.{◌≡◌, refl, ap₂, ◌∙◌}
 use Prim.Native.Nat.{ℕ, ◌+◌, ◌*◌, ◌<◌, ◌^◌}
@@ -8,28 +7,6 @@ use Rattle.state.specs.State.{codes_from, class_names_from}
 use Rattle.module.specs.Sections.{bodies_bytes}
 use Rattle.module.proofs.Whole.{few, finished-are, same-functions, same-classes, length-bodies, bodies-room}
 use Rattle.module.proofs.sections.bodies_size.Goals as goal
-
-module _ (c : tie.After-classes-size) where
-  sized : let s = c.before.before.before.before.before.before.before.before.before.before.before.before.before.args in
-      c.before.functions-size.result + c.classes-size.result + 2 + 2 * s.c.constants ≡ length (bodies_bytes s.tree.now s.code.now s.tables.now s.c)
-  sized =
-      let w = c.before.before.before in
-      let s = w.before.before.before.before.before.before.before.before.before.before in
-      let a = s.args in
-      let ks = w.before.before.before.before.before.words-part.ensures in
-      let xs = w.before.before.before.words-part2.ensures in
-      let ps = w.before.words-part3.ensures in
-      ap₂ (λ (x y : ℕ). x + y + 2 + 2 * a.c.constants)
-      (c.before.functions-size.ensures a.tree.now _ (same-functions a.tree.now a.code.now a.tables.now a.c (finished-are a.code.now) refl ks w.words-part4.ensures xs ps s.requires))
-      c.classes-size.ensures
-      ∙ length-bodies a.tree.now a.code.now a.tables.now a.c (finished-are a.code.now) refl ks w.words-part4.ensures xs ps s.requires
-
-  room : let s = c.before.before.before.before.before.before.before.before.before.before.before.before.before.args in
-      length (bodies_bytes s.tree.now s.code.now s.tables.now s.c) < 2 ^ 31
-  room =
-      let k = c.before.before.before.before.before.before.before.before.before.before.before.before in
-      let a = k.before.args in
-      bodies-room a.tree.now a.code.now a.tables.now a.c refl refl refl refl refl refl (λ j. (k.shared-slice-known.given j).fits) k.before.requires
 
 pub functions_size-functions-requires : goal.functions_size-functions-requires
 functions_size-functions-requires c = omega (arith, few codes_from 256 c.args.tables.now c.words_part-codes.ensures c.requires.functions)
@@ -42,13 +19,57 @@ classes_size-classes-requires c =
     )
 
 pub overflow_add-result : goal.overflow_add-result
-overflow_add-result c = omega (arith, sized c, room c)
+overflow_add-result c =
+    let sized : c.functions_size-functions.result + c.classes_size-classes.result + 2 + 2 * c.args.c.constants ≡ length (bodies_bytes c.args.tree.now c.args.code.now c.args.tables.now c.args.c) =
+    let ks = c.words_part-codes.ensures in
+    let xs = c.words_part-names.ensures in
+    let ps = c.words_part-places.ensures in
+    ap₂ (λ (x y : ℕ). x + y + 2 + 2 * c.args.c.constants)
+    (c.functions_size-functions.ensures c.args.tree.now _ (same-functions c.args.tree.now c.args.code.now c.args.tables.now c.args.c (finished-are c.args.code.now) refl ks c.words_part-methods.ensures xs ps c.requires))
+    c.classes_size-classes.ensures
+    ∙ length-bodies c.args.tree.now c.args.code.now c.args.tables.now c.args.c (finished-are c.args.code.now) refl ks c.words_part-methods.ensures xs ps c.requires in
+    let room : length (bodies_bytes c.args.tree.now c.args.code.now c.args.tables.now c.args.c) < 2 ^ 31 =
+    bodies-room c.args.tree.now c.args.code.now c.args.tables.now c.args.c refl refl refl refl refl refl (λ j. (c.shared_slice_known-1.given j).fits) c.requires in
+    omega (arith, sized, room)
 
 pub overflow_add-result-2 : goal.overflow_add-result-2
-overflow_add-result-2 c = omega (arith, sized c, room c)
+overflow_add-result-2 c =
+    let sized : c.functions_size-functions.result + c.classes_size-classes.result + 2 + 2 * c.args.c.constants ≡ length (bodies_bytes c.args.tree.now c.args.code.now c.args.tables.now c.args.c) =
+    let ks = c.words_part-codes.ensures in
+    let xs = c.words_part-names.ensures in
+    let ps = c.words_part-places.ensures in
+    ap₂ (λ (x y : ℕ). x + y + 2 + 2 * c.args.c.constants)
+    (c.functions_size-functions.ensures c.args.tree.now _ (same-functions c.args.tree.now c.args.code.now c.args.tables.now c.args.c (finished-are c.args.code.now) refl ks c.words_part-methods.ensures xs ps c.requires))
+    c.classes_size-classes.ensures
+    ∙ length-bodies c.args.tree.now c.args.code.now c.args.tables.now c.args.c (finished-are c.args.code.now) refl ks c.words_part-methods.ensures xs ps c.requires in
+    let room : length (bodies_bytes c.args.tree.now c.args.code.now c.args.tables.now c.args.c) < 2 ^ 31 =
+    bodies-room c.args.tree.now c.args.code.now c.args.tables.now c.args.c refl refl refl refl refl refl (λ j. (c.shared_slice_known-1.given j).fits) c.requires in
+    omega (arith, sized, room)
 
 pub overflow_add-result-3 : goal.overflow_add-result-3
-overflow_add-result-3 c = omega (arith, sized c, room c)
+overflow_add-result-3 c =
+    let sized : c.functions_size-functions.result + c.classes_size-classes.result + 2 + 2 * c.args.c.constants ≡ length (bodies_bytes c.args.tree.now c.args.code.now c.args.tables.now c.args.c) =
+    let ks = c.words_part-codes.ensures in
+    let xs = c.words_part-names.ensures in
+    let ps = c.words_part-places.ensures in
+    ap₂ (λ (x y : ℕ). x + y + 2 + 2 * c.args.c.constants)
+    (c.functions_size-functions.ensures c.args.tree.now _ (same-functions c.args.tree.now c.args.code.now c.args.tables.now c.args.c (finished-are c.args.code.now) refl ks c.words_part-methods.ensures xs ps c.requires))
+    c.classes_size-classes.ensures
+    ∙ length-bodies c.args.tree.now c.args.code.now c.args.tables.now c.args.c (finished-are c.args.code.now) refl ks c.words_part-methods.ensures xs ps c.requires in
+    let room : length (bodies_bytes c.args.tree.now c.args.code.now c.args.tables.now c.args.c) < 2 ^ 31 =
+    bodies-room c.args.tree.now c.args.code.now c.args.tables.now c.args.c refl refl refl refl refl refl (λ j. (c.shared_slice_known-1.given j).fits) c.requires in
+    omega (arith, sized, room)
 
 pub returns : goal.returns
-returns c = (sized c, omega (arith, sized c, room c))
+returns c =
+    let sized : c.functions_size-functions.result + c.classes_size-classes.result + 2 + 2 * c.args.c.constants ≡ length (bodies_bytes c.args.tree.now c.args.code.now c.args.tables.now c.args.c) =
+    let ks = c.words_part-codes.ensures in
+    let xs = c.words_part-names.ensures in
+    let ps = c.words_part-places.ensures in
+    ap₂ (λ (x y : ℕ). x + y + 2 + 2 * c.args.c.constants)
+    (c.functions_size-functions.ensures c.args.tree.now _ (same-functions c.args.tree.now c.args.code.now c.args.tables.now c.args.c (finished-are c.args.code.now) refl ks c.words_part-methods.ensures xs ps c.requires))
+    c.classes_size-classes.ensures
+    ∙ length-bodies c.args.tree.now c.args.code.now c.args.tables.now c.args.c (finished-are c.args.code.now) refl ks c.words_part-methods.ensures xs ps c.requires in
+    let room : length (bodies_bytes c.args.tree.now c.args.code.now c.args.tables.now c.args.c) < 2 ^ 31 =
+    bodies-room c.args.tree.now c.args.code.now c.args.tables.now c.args.c refl refl refl refl refl refl (λ j. (c.shared_slice_known-1.given j).fits) c.requires in
+    (sized, omega (arith, sized, room))

@@ -1,5 +1,4 @@
 -- what the tables' parts are
-use borrow.Author.Rules.{rules}
 use native.Mathlib.Omega.{arith}
 use mathlib.Core.Path.{◌≡◌, refl}
 use mathlib.Core.List.{[], ◌∷◌, ◌++◌}
@@ -11,53 +10,6 @@ use Rattle.writing.proofs.Begun.{joined, Begun, begun_first, begun-length, begun
 use Rattle.module.proofs.Whole.{few, finished-are, same-functions, same-classes, bodies-pieces, length-bodies}
 use Rattle.module.proofs.sections.write_bodies.Goals as goal
 
-module _ (c : tie.After-words-part6) where
-  pieces : let a = c.before.before.before.before.before.before.before.before.before.before.before.before.before.before.before.args in
-      bodies_bytes a.tree.now a.code.now a.tables.now a.c
-      ≡ functions_bytes a.tree.now (take (length a.code.now - 8192) (drop 8192 a.code.now)) c.before.before.before.before.before.before.before.before.before.words-part.result.now
-      c.before.before.before.before.before.before.before.words-part2.result.now
-      ++ joined (classes_bytes a.tree.now c.before.before.words-part5.result.now c.before.before.before.before.before.words-part3.result.now c.before.before.before.words-part4.result.now
-      ∷ constant_bytes c.words-part6.result.now ∷ [])
-  pieces =
-      let a = c.before.before.before.before.before.before.before.before.before.before.before.before.before.before.before.args in
-      bodies-pieces a.tree.now a.code.now a.tables.now a.c (finished-are a.code.now) c.before.before.before.before.before.before.before.before.before.words-part.ensures
-      c.before.before.before.before.before.before.before.words-part2.ensures c.before.before.words-part5.ensures c.before.before.before.before.before.words-part3.ensures
-      c.before.before.before.words-part4.ensures c.words-part6.ensures
-
-  functions-fit : let a = c.before.before.before.before.before.before.before.before.before.before.before.before.before.before.before.args in
-      length (functions_bytes a.tree.now (take (length a.code.now - 8192) (drop 8192 a.code.now)) c.before.before.before.before.before.before.before.before.before.words-part.result.now
-      c.before.before.before.before.before.before.before.words-part2.result.now) ≤ length a.out.now
-  functions-fit =
-      let s = c.before.before.before.before.before.before.before.before.before.before.before.before.before.before.before in
-      let a = s.args in
-      let h = length-bodies a.tree.now a.code.now a.tables.now a.c (finished-are a.code.now) c.before.before.before.before.before.before.before.before.before.words-part.ensures
-      c.before.before.before.before.before.before.before.words-part2.ensures refl refl refl s.requires.0 in
-      omega (arith, s.requires.1)
-
-  functions-alike : length c.before.before.before.before.before.before.before.before.before.words-part.result.now ≡ length c.before.before.before.before.before.before.before.words-part2.result.now
-  functions-alike =
-      let s = c.before.before.before.before.before.before.before.before.before.before.before.before.before.before.before in
-      let a = s.args in
-      same-functions a.tree.now a.code.now a.tables.now a.c refl c.before.before.before.before.before.before.before.before.before.words-part.ensures
-      c.before.before.before.before.before.before.before.words-part2.ensures refl refl refl s.requires.0
-
-  classes-alike : length c.before.before.before.before.before.words-part3.result.now ≡ length c.before.before.before.words-part4.result.now
-  classes-alike =
-      let s = c.before.before.before.before.before.before.before.before.before.before.before.before.before.before.before in
-      let a = s.args in
-      same-classes a.tree.now a.code.now a.tables.now a.c refl refl refl refl c.before.before.before.before.before.words-part3.ensures c.before.before.before.words-part4.ensures s.requires.0
-
--- the functions are written
-
-begun : (c : tie.After-slice-known2) → let w = c.before.before.before.before.before in let a = w.before.before.before.before.before.before.before.before.before.before.before.before.before.before.before.args in
-    Begun (bodies_bytes a.tree.now a.code.now a.tables.now a.c) a.out.now c.before.before.write-functions.result c.before.before.write-functions.new.1.1.1.1.0
-    (classes_bytes a.tree.now w.before.before.words-part5.result.now w.before.before.before.before.before.words-part3.result.now w.before.before.before.words-part4.result.now
-    ∷ constant_bytes w.words-part6.result.now ∷ [])
-begun c =
-    let w = c.before.before.before.before.before in
-    let s = w.before.before.before.before.before.before.before.before.before.before.before.before.before.before.before in
-    begun_first (pieces w) s.requires.1 c.before.before.write-functions.ensures
-
 pub slice_bounds-write_functions-count : goal.slice_bounds-write_functions-count
 slice_bounds-write_functions-count c = omega (arith, c.requires.0.code-room)
 
@@ -65,40 +17,179 @@ pub slice_bounds-write_functions-start : goal.slice_bounds-write_functions-start
 slice_bounds-write_functions-start c = omega (arith, c.requires.0.code-room)
 
 pub write_functions-at-requires : goal.write_functions-at-requires
-write_functions-at-requires c = (
-  omega (arith, few heads_from 256 c.args.tables.now c.words_part-heads.ensures c.requires.0.functions),
-  functions-alike c,
-  functions-fit c,
-)
+write_functions-at-requires c =
+    let functions-fit : length (functions_bytes c.args.tree.now (take (length c.args.code.now - 8192) (drop 8192 c.args.code.now)) c.words_part-heads.result.now
+    c.words_part-codes.result.now) ≤ length c.args.out.now =
+    let h = length-bodies c.args.tree.now c.args.code.now c.args.tables.now c.args.c (finished-are c.args.code.now) c.words_part-heads.ensures
+    c.words_part-codes.ensures refl refl refl c.requires.0 in
+    omega (arith, c.requires.1) in
+    let functions-alike : length c.words_part-heads.result.now ≡ length c.words_part-codes.result.now =
+    same-functions c.args.tree.now c.args.code.now c.args.tables.now c.args.c refl c.words_part-heads.ensures
+    c.words_part-codes.ensures refl refl refl c.requires.0 in (
+      omega (arith, few heads_from 256 c.args.tables.now c.words_part-heads.ensures c.requires.0.functions),
+      functions-alike,
+      functions-fit,
+    )
 
 pub slice_bounds-write_classes-count : goal.slice_bounds-write_classes-count
-slice_bounds-write_classes-count c = omega (arith, begun-fits (begun c))
+slice_bounds-write_classes-count c =
+    let pieces : bodies_bytes c.args.tree.now c.args.code.now c.args.tables.now c.args.c
+    ≡ functions_bytes c.args.tree.now (take (length c.args.code.now - 8192) (drop 8192 c.args.code.now)) c.words_part-heads.result.now
+    c.words_part-codes.result.now
+    ++ joined (classes_bytes c.args.tree.now c.words_part-methods.result.now c.words_part-names.result.now c.words_part-places.result.now
+    ∷ constant_bytes c.words_part-constants.result.now ∷ []) =
+    bodies-pieces c.args.tree.now c.args.code.now c.args.tables.now c.args.c (finished-are c.args.code.now) c.words_part-heads.ensures
+    c.words_part-codes.ensures c.words_part-methods.ensures c.words_part-names.ensures
+    c.words_part-places.ensures c.words_part-constants.ensures in
+    let begun : Begun (bodies_bytes c.args.tree.now c.args.code.now c.args.tables.now c.args.c) c.args.out.now c.write_functions-at.result c.write_functions-at.new.out
+    (classes_bytes c.args.tree.now c.words_part-methods.result.now c.words_part-names.result.now c.words_part-places.result.now
+    ∷ constant_bytes c.words_part-constants.result.now ∷ []) =
+    begun_first pieces c.requires.1 c.write_functions-at.ensures in
+    omega (arith, begun-fits begun)
 
 pub slice_bounds-write_classes-start : goal.slice_bounds-write_classes-start
-slice_bounds-write_classes-start c = omega (arith, begun-fits (begun c))
+slice_bounds-write_classes-start c =
+    let pieces : bodies_bytes c.args.tree.now c.args.code.now c.args.tables.now c.args.c
+    ≡ functions_bytes c.args.tree.now (take (length c.args.code.now - 8192) (drop 8192 c.args.code.now)) c.words_part-heads.result.now
+    c.words_part-codes.result.now
+    ++ joined (classes_bytes c.args.tree.now c.words_part-methods.result.now c.words_part-names.result.now c.words_part-places.result.now
+    ∷ constant_bytes c.words_part-constants.result.now ∷ []) =
+    bodies-pieces c.args.tree.now c.args.code.now c.args.tables.now c.args.c (finished-are c.args.code.now) c.words_part-heads.ensures
+    c.words_part-codes.ensures c.words_part-methods.ensures c.words_part-names.ensures
+    c.words_part-places.ensures c.words_part-constants.ensures in
+    let begun : Begun (bodies_bytes c.args.tree.now c.args.code.now c.args.tables.now c.args.c) c.args.out.now c.write_functions-at.result c.write_functions-at.new.out
+    (classes_bytes c.args.tree.now c.words_part-methods.result.now c.words_part-names.result.now c.words_part-places.result.now
+    ∷ constant_bytes c.words_part-constants.result.now ∷ []) =
+    begun_first pieces c.requires.1 c.write_functions-at.ensures in
+    omega (arith, begun-fits begun)
 
 pub write_classes-at-requires : goal.write_classes-at-requires
-write_classes-at-requires c = (omega (arith, few class_names_from 64 c.args.tables.now c.words_part-names.ensures c.requires.0.classes), classes-alike c, begun-piece (begun c))
+write_classes-at-requires c =
+    let classes-alike : length c.words_part-names.result.now ≡ length c.words_part-places.result.now =
+    same-classes c.args.tree.now c.args.code.now c.args.tables.now c.args.c refl refl refl refl c.words_part-names.ensures c.words_part-places.ensures c.requires.0 in
+    let pieces : bodies_bytes c.args.tree.now c.args.code.now c.args.tables.now c.args.c
+    ≡ functions_bytes c.args.tree.now (take (length c.args.code.now - 8192) (drop 8192 c.args.code.now)) c.words_part-heads.result.now
+    c.words_part-codes.result.now
+    ++ joined (classes_bytes c.args.tree.now c.words_part-methods.result.now c.words_part-names.result.now c.words_part-places.result.now
+    ∷ constant_bytes c.words_part-constants.result.now ∷ []) =
+    bodies-pieces c.args.tree.now c.args.code.now c.args.tables.now c.args.c (finished-are c.args.code.now) c.words_part-heads.ensures
+    c.words_part-codes.ensures c.words_part-methods.ensures c.words_part-names.ensures
+    c.words_part-places.ensures c.words_part-constants.ensures in
+    let begun : Begun (bodies_bytes c.args.tree.now c.args.code.now c.args.tables.now c.args.c) c.args.out.now c.write_functions-at.result c.write_functions-at.new.out
+    (classes_bytes c.args.tree.now c.words_part-methods.result.now c.words_part-names.result.now c.words_part-places.result.now
+    ∷ constant_bytes c.words_part-constants.result.now ∷ []) =
+    begun_first pieces c.requires.1 c.write_functions-at.ensures in
+    (omega (arith, few class_names_from 64 c.args.tables.now c.words_part-names.ensures c.requires.0.classes), classes-alike, begun-piece begun)
 
 pub overflow_add-at : goal.overflow_add-at
-overflow_add-at c = let b = begun c in omega (arith, begun-fits b, begun-length b, c.write_classes-at.ensures.count, c.well-formed)
+overflow_add-at c =
+    let pieces : bodies_bytes c.args.tree.now c.args.code.now c.args.tables.now c.args.c
+    ≡ functions_bytes c.args.tree.now (take (length c.args.code.now - 8192) (drop 8192 c.args.code.now)) c.words_part-heads.result.now
+    c.words_part-codes.result.now
+    ++ joined (classes_bytes c.args.tree.now c.words_part-methods.result.now c.words_part-names.result.now c.words_part-places.result.now
+    ∷ constant_bytes c.words_part-constants.result.now ∷ []) =
+    bodies-pieces c.args.tree.now c.args.code.now c.args.tables.now c.args.c (finished-are c.args.code.now) c.words_part-heads.ensures
+    c.words_part-codes.ensures c.words_part-methods.ensures c.words_part-names.ensures
+    c.words_part-places.ensures c.words_part-constants.ensures in
+    let begun : Begun (bodies_bytes c.args.tree.now c.args.code.now c.args.tables.now c.args.c) c.args.out.now c.write_functions-at.result c.write_functions-at.new.out
+    (classes_bytes c.args.tree.now c.words_part-methods.result.now c.words_part-names.result.now c.words_part-places.result.now
+    ∷ constant_bytes c.words_part-constants.result.now ∷ []) =
+    begun_first pieces c.requires.1 c.write_functions-at.ensures in
+    let b = begun in omega (arith, begun-fits b, begun-length b, c.write_classes-at.ensures.count, c.well_formed)
 
 pub slice_bounds-write_constants-count : goal.slice_bounds-write_constants-count
-slice_bounds-write_constants-count c = omega (arith, begun-fits (begun-next (begun c) c.write_classes-at.ensures))
+slice_bounds-write_constants-count c =
+    let pieces : bodies_bytes c.args.tree.now c.args.code.now c.args.tables.now c.args.c
+    ≡ functions_bytes c.args.tree.now (take (length c.args.code.now - 8192) (drop 8192 c.args.code.now)) c.words_part-heads.result.now
+    c.words_part-codes.result.now
+    ++ joined (classes_bytes c.args.tree.now c.words_part-methods.result.now c.words_part-names.result.now c.words_part-places.result.now
+    ∷ constant_bytes c.words_part-constants.result.now ∷ []) =
+    bodies-pieces c.args.tree.now c.args.code.now c.args.tables.now c.args.c (finished-are c.args.code.now) c.words_part-heads.ensures
+    c.words_part-codes.ensures c.words_part-methods.ensures c.words_part-names.ensures
+    c.words_part-places.ensures c.words_part-constants.ensures in
+    let begun : Begun (bodies_bytes c.args.tree.now c.args.code.now c.args.tables.now c.args.c) c.args.out.now c.write_functions-at.result c.write_functions-at.new.out
+    (classes_bytes c.args.tree.now c.words_part-methods.result.now c.words_part-names.result.now c.words_part-places.result.now
+    ∷ constant_bytes c.words_part-constants.result.now ∷ []) =
+    begun_first pieces c.requires.1 c.write_functions-at.ensures in
+    omega (arith, begun-fits (begun-next begun c.write_classes-at.ensures))
 
 pub slice_bounds-write_constants-start : goal.slice_bounds-write_constants-start
-slice_bounds-write_constants-start c = omega (arith, begun-fits (begun-next (begun c) c.write_classes-at.ensures))
+slice_bounds-write_constants-start c =
+    let pieces : bodies_bytes c.args.tree.now c.args.code.now c.args.tables.now c.args.c
+    ≡ functions_bytes c.args.tree.now (take (length c.args.code.now - 8192) (drop 8192 c.args.code.now)) c.words_part-heads.result.now
+    c.words_part-codes.result.now
+    ++ joined (classes_bytes c.args.tree.now c.words_part-methods.result.now c.words_part-names.result.now c.words_part-places.result.now
+    ∷ constant_bytes c.words_part-constants.result.now ∷ []) =
+    bodies-pieces c.args.tree.now c.args.code.now c.args.tables.now c.args.c (finished-are c.args.code.now) c.words_part-heads.ensures
+    c.words_part-codes.ensures c.words_part-methods.ensures c.words_part-names.ensures
+    c.words_part-places.ensures c.words_part-constants.ensures in
+    let begun : Begun (bodies_bytes c.args.tree.now c.args.code.now c.args.tables.now c.args.c) c.args.out.now c.write_functions-at.result c.write_functions-at.new.out
+    (classes_bytes c.args.tree.now c.words_part-methods.result.now c.words_part-names.result.now c.words_part-places.result.now
+    ∷ constant_bytes c.words_part-constants.result.now ∷ []) =
+    begun_first pieces c.requires.1 c.write_functions-at.ensures in
+    omega (arith, begun-fits (begun-next begun c.write_classes-at.ensures))
 
 pub write_constants-requires : goal.write_constants-requires
-write_constants-requires c = (omega (arith, few constants_from 64 c.args.tables.now c.words_part-constants.ensures c.requires.0.constants), begun-piece (begun-next (begun c) c.write_classes-at.ensures))
+write_constants-requires c =
+    let pieces : bodies_bytes c.args.tree.now c.args.code.now c.args.tables.now c.args.c
+    ≡ functions_bytes c.args.tree.now (take (length c.args.code.now - 8192) (drop 8192 c.args.code.now)) c.words_part-heads.result.now
+    c.words_part-codes.result.now
+    ++ joined (classes_bytes c.args.tree.now c.words_part-methods.result.now c.words_part-names.result.now c.words_part-places.result.now
+    ∷ constant_bytes c.words_part-constants.result.now ∷ []) =
+    bodies-pieces c.args.tree.now c.args.code.now c.args.tables.now c.args.c (finished-are c.args.code.now) c.words_part-heads.ensures
+    c.words_part-codes.ensures c.words_part-methods.ensures c.words_part-names.ensures
+    c.words_part-places.ensures c.words_part-constants.ensures in
+    let begun : Begun (bodies_bytes c.args.tree.now c.args.code.now c.args.tables.now c.args.c) c.args.out.now c.write_functions-at.result c.write_functions-at.new.out
+    (classes_bytes c.args.tree.now c.words_part-methods.result.now c.words_part-names.result.now c.words_part-places.result.now
+    ∷ constant_bytes c.words_part-constants.result.now ∷ []) =
+    begun_first pieces c.requires.1 c.write_functions-at.ensures in
+    (omega (arith, few constants_from 64 c.args.tables.now c.words_part-constants.ensures c.requires.0.constants), begun-piece (begun-next begun c.write_classes-at.ensures))
 
 pub overflow_add-result : goal.overflow_add-result
 overflow_add-result c =
-    let b = begun-next (begun c) c.write_classes-at.ensures in
-    omega (arith, begun-fits b, begun-length b, c.write_constants.ensures.count, c.well-formed)
+    let pieces : bodies_bytes c.args.tree.now c.args.code.now c.args.tables.now c.args.c
+    ≡ functions_bytes c.args.tree.now (take (length c.args.code.now - 8192) (drop 8192 c.args.code.now)) c.words_part-heads.result.now
+    c.words_part-codes.result.now
+    ++ joined (classes_bytes c.args.tree.now c.words_part-methods.result.now c.words_part-names.result.now c.words_part-places.result.now
+    ∷ constant_bytes c.words_part-constants.result.now ∷ []) =
+    bodies-pieces c.args.tree.now c.args.code.now c.args.tables.now c.args.c (finished-are c.args.code.now) c.words_part-heads.ensures
+    c.words_part-codes.ensures c.words_part-methods.ensures c.words_part-names.ensures
+    c.words_part-places.ensures c.words_part-constants.ensures in
+    let begun : Begun (bodies_bytes c.args.tree.now c.args.code.now c.args.tables.now c.args.c) c.args.out.now c.write_functions-at.result c.write_functions-at.new.out
+    (classes_bytes c.args.tree.now c.words_part-methods.result.now c.words_part-names.result.now c.words_part-places.result.now
+    ∷ constant_bytes c.words_part-constants.result.now ∷ []) =
+    begun_first pieces c.requires.1 c.write_functions-at.ensures in
+    let b = begun-next begun c.write_classes-at.ensures in
+    omega (arith, begun-fits b, begun-length b, c.write_constants.ensures.count, c.well_formed)
 
 pub shape_of-out : goal.shape_of-out
-shape_of-out c = begun-length (begun-next (begun-next (begun c) c.write_classes-at.ensures) c.write_constants.ensures)
+shape_of-out c =
+    let pieces : bodies_bytes c.args.tree.now c.args.code.now c.args.tables.now c.args.c
+    ≡ functions_bytes c.args.tree.now (take (length c.args.code.now - 8192) (drop 8192 c.args.code.now)) c.words_part-heads.result.now
+    c.words_part-codes.result.now
+    ++ joined (classes_bytes c.args.tree.now c.words_part-methods.result.now c.words_part-names.result.now c.words_part-places.result.now
+    ∷ constant_bytes c.words_part-constants.result.now ∷ []) =
+    bodies-pieces c.args.tree.now c.args.code.now c.args.tables.now c.args.c (finished-are c.args.code.now) c.words_part-heads.ensures
+    c.words_part-codes.ensures c.words_part-methods.ensures c.words_part-names.ensures
+    c.words_part-places.ensures c.words_part-constants.ensures in
+    let begun : Begun (bodies_bytes c.args.tree.now c.args.code.now c.args.tables.now c.args.c) c.args.out.now c.write_functions-at.result c.write_functions-at.new.out
+    (classes_bytes c.args.tree.now c.words_part-methods.result.now c.words_part-names.result.now c.words_part-places.result.now
+    ∷ constant_bytes c.words_part-constants.result.now ∷ []) =
+    begun_first pieces c.requires.1 c.write_functions-at.ensures in
+    begun-length (begun-next (begun-next begun c.write_classes-at.ensures) c.write_constants.ensures)
 
 pub returns : goal.returns
-returns c = begun-done (begun-next (begun-next (begun c) c.write_classes-at.ensures) c.write_constants.ensures)
+returns c =
+    let pieces : bodies_bytes c.args.tree.now c.args.code.now c.args.tables.now c.args.c
+    ≡ functions_bytes c.args.tree.now (take (length c.args.code.now - 8192) (drop 8192 c.args.code.now)) c.words_part-heads.result.now
+    c.words_part-codes.result.now
+    ++ joined (classes_bytes c.args.tree.now c.words_part-methods.result.now c.words_part-names.result.now c.words_part-places.result.now
+    ∷ constant_bytes c.words_part-constants.result.now ∷ []) =
+    bodies-pieces c.args.tree.now c.args.code.now c.args.tables.now c.args.c (finished-are c.args.code.now) c.words_part-heads.ensures
+    c.words_part-codes.ensures c.words_part-methods.ensures c.words_part-names.ensures
+    c.words_part-places.ensures c.words_part-constants.ensures in
+    let begun : Begun (bodies_bytes c.args.tree.now c.args.code.now c.args.tables.now c.args.c) c.args.out.now c.write_functions-at.result c.write_functions-at.new.out
+    (classes_bytes c.args.tree.now c.words_part-methods.result.now c.words_part-names.result.now c.words_part-places.result.now
+    ∷ constant_bytes c.words_part-constants.result.now ∷ []) =
+    begun_first pieces c.requires.1 c.write_functions-at.ensures in
+    begun-done (begun-next (begun-next begun c.write_classes-at.ensures) c.write_constants.ensures)

@@ -1,11 +1,8 @@
-use borrow.Author.Rules.{rules}
-use native.Mathlib.Omega.{arith}
-use mathlib.Core.List.{◌∷◌}
-use Prim.Native.Nat.{◌+◌, ◌-◌, ◌^◌, ◌≤◌, ◌<◌}
-use lib.ListN.{length, get_or}
+use Prim.Native.Nat.{◌-◌, ◌≤◌}
+use lib.ListN.{length}
 use Rattle.module.specs.Sections.{string_bytes}
-use Rattle.module.proofs.Pieces.{pieces, pieces-next, pieces_none, Measured, measured-count, measured-as, measured-fits, measured-next, measured-done}
-use Rattle.module.proofs.Lengths.{text-size, string_piece, strings-listed, strings-room}
+use Rattle.module.proofs.Pieces.{pieces, Measured}
+use Rattle.module.proofs.Lengths.{string_piece}
 use Rattle.module.proofs.symbols.strings_size.Given as goal
 
 abbrev pub invariant-loop-i : goal.invariant-loop-i

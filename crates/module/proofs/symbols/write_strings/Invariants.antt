@@ -1,13 +1,9 @@
-use borrow.Author.Rules.{rules}
-use native.Mathlib.Omega.{arith}
-use mathlib.Core.Path.{◌∙◌}
-use mathlib.Core.List.{◌∷◌}
-use Prim.Native.Nat.{◌+◌, ◌-◌, ◌^◌, ◌≤◌, ◌<◌}
-use lib.ListN.{length, get_or}
+use Prim.Native.Nat.{◌-◌, ◌≤◌}
+use lib.ListN.{length}
 use Rattle.module.specs.Sections.{string_bytes}
-use Rattle.writing.proofs.Begun.{Begun, begun_first, begun-now, begun-back, begun-as, begun-length, begun-fits, begun-piece, begun-next, begun-done}
-use Rattle.module.proofs.Pieces.{pieces, pieces-next, pieces_none}
-use Rattle.module.proofs.Lengths.{text-short, text-room, text-wrote, string_piece, strings-listed, strings-two}
+use Rattle.writing.proofs.Begun.{Begun}
+use Rattle.module.proofs.Pieces.{pieces}
+use Rattle.module.proofs.Lengths.{string_piece}
 use Rattle.module.proofs.symbols.write_strings.Given as goal
 
 abbrev pub invariant-loop-i : goal.invariant-loop-i

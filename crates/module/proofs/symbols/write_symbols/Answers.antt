@@ -1,8 +1,7 @@
-use borrow.Author.Rules.{rules}
 use native.Mathlib.Omega.{arith}
 use mathlib.Core.Path.{◌∙◌}
 use mathlib.Core.List.{◌∷◌}
-use Prim.Native.Nat.{◌+◌, ◌-◌, ◌^◌, ◌≤◌, ◌<◌}
+use Prim.Native.Nat.{◌+◌, ◌^◌, ◌<◌}
 use lib.ListN.{length, get_or}
 use Rattle.module.specs.Sections.{symbol_bytes}
 use Rattle.writing.proofs.Begun.{Begun, begun_first, begun-now, begun-back, begun-as, begun-length, begun-fits, begun-piece, begun-next, begun-done}
@@ -10,50 +9,66 @@ use Rattle.module.proofs.Pieces.{pieces, pieces-next, pieces_none}
 use Rattle.module.proofs.Lengths.{spelled-short, name-room, name-wrote, symbol_piece, symbols-listed, symbols-two}
 use Rattle.module.proofs.symbols.write_symbols.Goals as goal
 
--- the count is written
-
-counted : (c : tie.After-slice-known2 invariant-loop decreases-loop) → let s = c.before.before.before.before.before.before.before.before.args in
-    Begun (symbol_bytes s.tree.now s.made.now s.entries.now) s.out.now c.before.before.write-number.result c.before.before.write-number.new.1.1.0
-    (pieces (symbol_piece s.tree.now s.made.now) 0 s.entries.now)
-counted c = let s = c.before.before.before.before.before.before.before.before in begun_first (symbols-listed _ _ _) s.requires.1 c.before.before.write-number.ensures
-
--- the symbol in hand is next
-
-here : (c : tie.In-loop invariant-loop decreases-loop) → let l = c.before.loop in let k = c.before.before.before.before in let s = k.before.before.before.before.before.before.args in
-    Begun (symbol_bytes s.tree.now s.made.now s.entries.now) k.write-number.new.1.1.0 l.at l.out
-    (symbol_piece s.tree.now s.made.now (get_or s.entries.now l.i 0) ∷ pieces (symbol_piece s.tree.now s.made.now) (l.i + 1) s.entries.now)
-here c = begun-as c.before.loop.invariant.1 _ (pieces-next _ c.before.loop.i _ c.loop-test.true)
-
-fits : (c : tie.In-loop invariant-loop decreases-loop) → let l = c.before.loop in let s = c.before.before.before.before.before.before.before.before.before.before.args in
-    l.at + length (symbol_piece s.tree.now s.made.now (get_or s.entries.now l.i 0)) < 2 ^ 64
-fits c =
-    let b = c.before.before in
-    let s = b.before.before.before.before.before.before.before.before in
-    omega (arith, begun-fits (here c), begun-length (here c), begun-length (counted b), s.well-formed)
-
 pub write_number-at-requires : goal.write_number-at-requires
 write_number-at-requires c = omega (arith, c.requires.1, symbols-two c.args.tree.now c.args.made.now c.args.entries.now)
 
 pub loop-i-init : goal.loop-i-init
-loop-i-init c = (omega arith, begun-now (counted c))
+loop-i-init c =
+    let counted : Begun (symbol_bytes c.args.tree.now c.args.made.now c.args.entries.now) c.args.out.now c.write_number-at.result c.write_number-at.new.out
+    (pieces (symbol_piece c.args.tree.now c.args.made.now) 0 c.args.entries.now) =
+    begun_first (symbols-listed _ _ _) c.requires.1 c.write_number-at.ensures in
+    (omega arith, begun-now counted)
 
 pub slice_bounds-write_counted-count : goal.slice_bounds-write_counted-count
-slice_bounds-write_counted-count c = omega (arith, begun-fits (here c))
+slice_bounds-write_counted-count c =
+    let here : Begun (symbol_bytes c.args.tree.now c.args.made.now c.args.entries.now) c.write_number-at.new.out c.loop-i.at c.loop-i.out
+    (symbol_piece c.args.tree.now c.args.made.now (get_or c.args.entries.now c.loop-i.i 0) ∷ pieces (symbol_piece c.args.tree.now c.args.made.now) (c.loop-i.i + 1) c.args.entries.now) =
+    begun-as c.loop-i.invariant.1 _ (pieces-next _ c.loop-i.i _ c.loop-i-test.true) in
+    omega (arith, begun-fits here)
 
 pub slice_bounds-write_counted-start : goal.slice_bounds-write_counted-start
-slice_bounds-write_counted-start c = omega (arith, begun-fits (here c))
+slice_bounds-write_counted-start c =
+    let here : Begun (symbol_bytes c.args.tree.now c.args.made.now c.args.entries.now) c.write_number-at.new.out c.loop-i.at c.loop-i.out
+    (symbol_piece c.args.tree.now c.args.made.now (get_or c.args.entries.now c.loop-i.i 0) ∷ pieces (symbol_piece c.args.tree.now c.args.made.now) (c.loop-i.i + 1) c.args.entries.now) =
+    begun-as c.loop-i.invariant.1 _ (pieces-next _ c.loop-i.i _ c.loop-i-test.true) in
+    omega (arith, begun-fits here)
 
 pub write_counted-at-requires : goal.write_counted-at-requires
-write_counted-at-requires c = name-room c.spelling-name.ensures.result_value (spelled-short _ _ _ (λ j. (c.shared_slice_known-1.given j).fits) (λ j. (c.shared_slice_known-2-1.given j).fits)) (begun-piece (here c))
+write_counted-at-requires c =
+    let here : Begun (symbol_bytes c.args.tree.now c.args.made.now c.args.entries.now) c.write_number-at.new.out c.loop-i.at c.loop-i.out
+    (symbol_piece c.args.tree.now c.args.made.now (get_or c.args.entries.now c.loop-i.i 0) ∷ pieces (symbol_piece c.args.tree.now c.args.made.now) (c.loop-i.i + 1) c.args.entries.now) =
+    begun-as c.loop-i.invariant.1 _ (pieces-next _ c.loop-i.i _ c.loop-i-test.true) in
+    name-room c.spelling-name.ensures.result_value (spelled-short _ _ _ (λ j. (c.shared_slice_known-1.given j).fits) (λ j. (c.shared_slice_known-2-1.given j).fits)) (begun-piece here)
 
 pub overflow_add-at : goal.overflow_add-at
-overflow_add-at c = omega (arith, (name-wrote c.spelling-name.ensures.result_value c.write_counted-at.ensures).count, fits c)
+overflow_add-at c =
+    let counted : Begun (symbol_bytes c.args.tree.now c.args.made.now c.args.entries.now) c.args.out.now c.write_number-at.result c.write_number-at.new.out
+    (pieces (symbol_piece c.args.tree.now c.args.made.now) 0 c.args.entries.now) =
+    begun_first (symbols-listed _ _ _) c.requires.1 c.write_number-at.ensures in
+    let here : Begun (symbol_bytes c.args.tree.now c.args.made.now c.args.entries.now) c.write_number-at.new.out c.loop-i.at c.loop-i.out
+    (symbol_piece c.args.tree.now c.args.made.now (get_or c.args.entries.now c.loop-i.i 0) ∷ pieces (symbol_piece c.args.tree.now c.args.made.now) (c.loop-i.i + 1) c.args.entries.now) =
+    begun-as c.loop-i.invariant.1 _ (pieces-next _ c.loop-i.i _ c.loop-i-test.true) in
+    let fits : c.loop-i.at + length (symbol_piece c.args.tree.now c.args.made.now (get_or c.args.entries.now c.loop-i.i 0)) < 2 ^ 64 =
+    omega (arith, begun-fits here, begun-length here, begun-length counted, c.well_formed) in
+    omega (arith, (name-wrote c.spelling-name.ensures.result_value c.write_counted-at.ensures).count, fits)
 
 pub loop-i-preserved : goal.loop-i-preserved
-loop-i-preserved c = (omega arith, begun-next (here c) (name-wrote c.spelling-name.ensures.result_value c.write_counted-at.ensures))
+loop-i-preserved c =
+    let here : Begun (symbol_bytes c.args.tree.now c.args.made.now c.args.entries.now) c.write_number-at.new.out c.loop-i.at c.loop-i.out
+    (symbol_piece c.args.tree.now c.args.made.now (get_or c.args.entries.now c.loop-i.i 0) ∷ pieces (symbol_piece c.args.tree.now c.args.made.now) (c.loop-i.i + 1) c.args.entries.now) =
+    begun-as c.loop-i.invariant.1 _ (pieces-next _ c.loop-i.i _ c.loop-i-test.true) in
+    (omega arith, begun-next here (name-wrote c.spelling-name.ensures.result_value c.write_counted-at.ensures))
 
 pub shape_of-out : goal.shape_of-out
-shape_of-out c = begun-length c.loop-i.invariant.1 ∙ begun-length (counted c)
+shape_of-out c =
+    let counted : Begun (symbol_bytes c.args.tree.now c.args.made.now c.args.entries.now) c.args.out.now c.write_number-at.result c.write_number-at.new.out
+    (pieces (symbol_piece c.args.tree.now c.args.made.now) 0 c.args.entries.now) =
+    begun_first (symbols-listed _ _ _) c.requires.1 c.write_number-at.ensures in
+    begun-length c.loop-i.invariant.1 ∙ begun-length counted
 
 pub returns : goal.returns
-returns c = begun-back (counted c) (begun-done (begun-as c.loop-i.invariant.1 _ (pieces_none _ c.loop-i.i _ c.loop-i-test.false)))
+returns c =
+    let counted : Begun (symbol_bytes c.args.tree.now c.args.made.now c.args.entries.now) c.args.out.now c.write_number-at.result c.write_number-at.new.out
+    (pieces (symbol_piece c.args.tree.now c.args.made.now) 0 c.args.entries.now) =
+    begun_first (symbols-listed _ _ _) c.requires.1 c.write_number-at.ensures in
+    begun-back counted (begun-done (begun-as c.loop-i.invariant.1 _ (pieces_none _ c.loop-i.i _ c.loop-i-test.false)))

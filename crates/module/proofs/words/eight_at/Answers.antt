@@ -1,33 +1,33 @@
-use borrow.Author.Rules.{rules}
 use native.Mathlib.Omega.{arith}
-use mathlib.Core.Path.{◌≡◌, sym, ap, ◌∙◌}
-use Prim.Native.Nat.{ℕ, ◌+◌, ◌*◌, ◌-◌, ◌^◌, ◌<◌, ◌≤◌}
+use mathlib.Core.Path.{sym, ap, ◌∙◌}
+use Prim.Native.Nat.{ℕ, ◌+◌, ◌*◌, ◌-◌, ◌^◌, ◌<◌}
 use Rattle.state.specs.Words.{number_at}
 use Rattle.module.proofs.Encoding.{horner, grows, small_one, number-start, number-all}
 use Rattle.module.proofs.words.eight_at.Goals as goal
-
--- a number so far has room for a byte more
-
-room : (c : tie.In-loop invariant-loop decreases-loop) → c.before.loop.n < 2 ^ 56
-room c = let l = c.before.loop in small_one l.n l.i c.loop-test.true l.invariant.1
 
 pub loop-i-init : goal.loop-i-init
 loop-i-init c = (omega arith, omega arith, number-start c.args.bytes.now c.args.at)
 
 pub overflow_mul-n : goal.overflow_mul-n
-overflow_mul-n c = omega (arith, room c)
+overflow_mul-n c =
+    let room : c.loop-i.n < 2 ^ 56 =
+    small_one c.loop-i.n c.loop-i.i c.loop-i-test.true c.loop-i.invariant.1 in
+    omega (arith, room)
 
 pub overflow_add-at : goal.overflow_add-at
 overflow_add-at c = omega (arith, c.requires)
 
 pub overflow_add-n : goal.overflow_add-n
-overflow_add-n c = omega (arith, room c, c.byte.type-inv)
+overflow_add-n c =
+    let room : c.loop-i.n < 2 ^ 56 =
+    small_one c.loop-i.n c.loop-i.i c.loop-i-test.true c.loop-i.invariant.1 in
+    omega (arith, room, c.byte.type_inv)
 
 pub loop-i-preserved : goal.loop-i-preserved
 loop-i-preserved c =
     let l = c.loop-i in let t = c.args.bytes.now in let at = c.args.at in (
       omega arith,
-      grows l.n _ l.i l.invariant.1 (omega (arith, c.byte.type-inv)),
+      grows l.n _ l.i l.invariant.1 (omega (arith, c.byte.type_inv)),
       l.invariant.2 ∙ horner t at 8 l.i l.n c.loop-i-test.true
           ∙ ap (λ (b : ℕ). (l.n * 256 + b) * 256 ^ (8 - (l.i + 1)) + number_at (8 - (l.i + 1)) t (at + (l.i + 1))) (sym c.byte.ensures),
     )

@@ -1,9 +1,6 @@
-use borrow.Author.Rules.{rules}
-use native.Mathlib.Omega.{arith}
-use mathlib.Core.Path.{◌≡◌, sym, ap, ◌∙◌}
-use Prim.Native.Nat.{ℕ, ◌+◌, ◌*◌, ◌-◌, ◌^◌, ◌<◌, ◌≤◌}
+use mathlib.Core.Path.{◌≡◌}
+use Prim.Native.Nat.{◌+◌, ◌*◌, ◌-◌, ◌^◌, ◌<◌, ◌≤◌}
 use Rattle.state.specs.Words.{number_at}
-use Rattle.module.proofs.Encoding.{horner, grows, small_one, number-start, number-all}
 use Rattle.module.proofs.words.eight_at.Given as goal
 
 abbrev pub invariant-loop-i : goal.invariant-loop-i

@@ -1,4 +1,3 @@
-use borrow.Author.Rules.{rules}
 use mathlib.Core.Path.{sym, ◌∙◌}
 use Rattle.module.proofs.Encoding.{first-low, first-high, first-jump}
 use Rattle.module.proofs.words.first_operand.Goals as goal

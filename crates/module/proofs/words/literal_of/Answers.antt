@@ -1,7 +1,5 @@
-use native.Mathlib.Omega.{arith}
 use mathlib.Core.Path.{◌∙◌}
 use mathlib.Core.List.{[]}
-use borrow.Author.Rules.{rules}
 use Rattle.exprs.proofs.LiteralLaws.{int-bits, float-bits}
 use Rattle.module.proofs.words.literal_of.Goals as goal
 

@@ -1,4 +1,3 @@
-use borrow.Author.Rules.{rules}
 use mathlib.Core.Path.{sym, ap}
 use Rattle.definitions.specs.Instruction.{Instr}
 use Rattle.module.proofs.Encoding.{of-small, of_other}

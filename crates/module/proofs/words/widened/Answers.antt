@@ -1,5 +1,4 @@
 use Rattle.module.proofs.Encoding.{widened-low, widened-high}
-use borrow.Author.Rules.{rules}
 use Rattle.module.proofs.words.widened.Goals as goal
 
 pub returns-then-a-lt32768 : goal.returns-then-a-lt32768

@@ -1,5 +1,4 @@
 use mathlib.Core.Path.{◌∙◌}
-use borrow.Author.Rules.{rules}
 use Rattle.module.proofs.Encoding.{wrote-eight}
 use Rattle.module.proofs.words.write_literal.Goals as goal
 

@@ -1,7 +1,4 @@
-use mathlib.Core.Path.{◌≡◌, refl, sym, ◌∙◌}
-use native.Mathlib.Omega.{arith}
-use Rattle.parts.specs.Places.{names_from, AllThere}
-use Rattle.definitions.specs.Wellformed.{distinct}
+use mathlib.Core.Path.{refl, sym, ◌∙◌}
 use Rattle.parts.proofs.NameLaws.{there-first, there-next, distinct-stop, distinct-go, distinct_none}
 use Rattle.parts.proofs.distinct.distinct_few.Goals as goal
 

@@ -1,8 +1,6 @@
-use mathlib.Core.Path.{◌≡◌, refl, sym, ◌∙◌}
-use native.Mathlib.Omega.{arith}
+use mathlib.Core.Path.{◌≡◌}
 use Rattle.parts.specs.Places.{names_from, AllThere}
 use Rattle.definitions.specs.Wellformed.{distinct}
-use Rattle.parts.proofs.NameLaws.{there-first, there-next, distinct-stop, distinct-go, distinct_none}
 use Rattle.parts.proofs.distinct.distinct_few.Given as goal
 
 abbrev pub invariant-loop-left : goal.invariant-loop-left

@@ -1,8 +1,5 @@
 use Prim.Native.Nat.{◌-◌}
-use native.Mathlib.Omega.{arith}
-use borrow.Author.Rules.{rules}
-use Rattle.parts.proofs.NameLaws.{there-first}
-use Rattle.parts.proofs.SearchLaws.{Sifting, sift-start, sift-asks, sift-there, sift-next, sift-twice, sift-end, puts-new, puts-twice}
+use Rattle.parts.proofs.SearchLaws.{Sifting}
 use Rattle.parts.proofs.distinct.distinct_many.Given as goal
 
 abbrev pub invariant-loop-count : goal.invariant-loop-count

@@ -1,9 +1,5 @@
 use Rattle.parts.proofs.NameLaws.{same-as, occurs-again, there-first, member-found, member-none}
-use mathlib.Core.Path.{◌≡◌, refl, sym, ◌∙◌}
-use native.Mathlib.Omega.{arith}
-use borrow.Author.Rules.{rules}
-use Rattle.parts.specs.Places.{name_bytes, names_from, AllThere}
-use Rattle.definitions.specs.Bytes.{member}
+use mathlib.Core.Path.{refl, sym, ◌∙◌}
 use Rattle.parts.proofs.distinct.occurs.Goals as goal
 
 pub loop-left-init : goal.loop-left-init

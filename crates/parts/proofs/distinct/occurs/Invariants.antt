@@ -1,7 +1,4 @@
-use Rattle.parts.proofs.NameLaws.{same-as, occurs-again, there-first, member-found, member-none}
-use mathlib.Core.Path.{◌≡◌, refl, sym, ◌∙◌}
-use native.Mathlib.Omega.{arith}
-use borrow.Author.Rules.{rules}
+use mathlib.Core.Path.{◌≡◌}
 use Rattle.parts.specs.Places.{name_bytes, names_from, AllThere}
 use Rattle.definitions.specs.Bytes.{member}
 use Rattle.parts.proofs.distinct.occurs.Given as goal

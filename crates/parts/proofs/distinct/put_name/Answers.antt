@@ -1,11 +1,9 @@
 use mathlib.Core.Path.{refl}
-use Prim.Native.Nat.{◌+◌, ◌-◌}
+use Prim.Native.Nat.{◌+◌}
 use native.Mathlib.Omega.{arith}
-use borrow.Author.Rules.{rules}
-use Rattle.parts.specs.Places.{name_bytes, names_from}
-use Rattle.parts.specs.Search.{Searches, Puts}
+use Rattle.parts.specs.Search.{Puts}
 use Rattle.parts.proofs.NameLaws.{same-as}
-use Rattle.parts.proofs.SearchLaws.{Seeking, seek-start, put-twice, put_next, put-here, entry-low}
+use Rattle.parts.proofs.SearchLaws.{seek-start, put-twice, put_next, put-here, entry-low}
 use Rattle.parts.proofs.distinct.put_name.Goals as goal
 
 pub loop-k-init : goal.loop-k-init

@@ -1,11 +1,7 @@
-use mathlib.Core.Path.{refl}
-use Prim.Native.Nat.{◌+◌, ◌-◌}
-use native.Mathlib.Omega.{arith}
-use borrow.Author.Rules.{rules}
+use Prim.Native.Nat.{◌-◌}
 use Rattle.parts.specs.Places.{name_bytes, names_from}
-use Rattle.parts.specs.Search.{Searches, Puts}
-use Rattle.parts.proofs.NameLaws.{same-as}
-use Rattle.parts.proofs.SearchLaws.{Seeking, seek-start, put-twice, put_next, put-here, entry-low}
+use Rattle.parts.specs.Search.{Searches}
+use Rattle.parts.proofs.SearchLaws.{Seeking}
 use Rattle.parts.proofs.distinct.put_name.Given as goal
 
 abbrev pub invariant-loop-k : goal.invariant-loop-k

@@ -1,5 +1,4 @@
 use Rattle.parts.proofs.SearchLaws.{turn-past, turn_in}
-use borrow.Author.Rules.{rules}
 use Rattle.parts.proofs.distinct.turn.Goals as goal
 
 pub returns-then-name-i : goal.returns-then-name-i

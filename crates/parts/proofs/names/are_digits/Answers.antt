@@ -1,9 +1,4 @@
-use native.Mathlib.Omega.{arith}
-use mathlib.Core.Path.{◌≡◌, refl, sym, ◌∙◌}
-use lib.ListN.{length, drop}
-use Prim.Native.Nat.{◌-◌}
-use Rattle.definitions.specs.Bytes.{all}
-use Rattle.definitions.specs.Wellformed.{digit}
+use mathlib.Core.Path.{sym, ◌∙◌}
 use Rattle.byte_tests.proofs.Names.{all_go, all-stop, all_none}
 use Rattle.parts.proofs.LeafLaws.{digit_low, digit-high, digit-is}
 use Rattle.parts.proofs.names.are_digits.Goals as goal

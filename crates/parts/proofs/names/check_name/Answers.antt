@@ -1,7 +1,6 @@
 use native.Mathlib.Omega.{arith}
 use mathlib.Core.Path.{refl, sym}
 use Rattle.parts.proofs.LeafLaws.{name-at-none, name-at-short, name-whole}
-use borrow.Author.Rules.{rules}
 use Rattle.parts.proofs.names.check_name.Goals as goal
 
 pub returns-then-tree-at : goal.returns-then-tree-at

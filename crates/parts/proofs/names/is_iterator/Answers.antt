@@ -1,5 +1,3 @@
-use borrow.Author.Tests.{not-true, not-false}
-use borrow.Author.Rules.{rules}
 use Rattle.parts.proofs.IteratorLaws.{iterator-short, iterator-begins, iterator-digits, iterator-ends}
 use Rattle.parts.proofs.names.is_iterator.Goals as goal
 

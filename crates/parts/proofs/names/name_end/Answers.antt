@@ -1,6 +1,5 @@
 use mathlib.Core.Path.{refl}
 use Rattle.parts.specs.Places.{name_end}
-use borrow.Author.Rules.{rules}
 use Rattle.parts.proofs.names.name_end.Goals as goal
 
 pub returns : goal.returns

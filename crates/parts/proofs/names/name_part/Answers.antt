@@ -1,7 +1,6 @@
 use mathlib.Core.Path.{refl}
 use native.Mathlib.Omega.{arith}
 use Rattle.parts.proofs.NameLaws.{part_of}
-use borrow.Author.Rules.{rules}
 use Rattle.parts.proofs.names.name_part.Goals as goal
 
 pub returns : goal.returns

@@ -1,7 +1,6 @@
 use Rattle.parts.proofs.LeafLaws.{number_short, number-whole}
 use mathlib.Core.Path.{sym}
 use Rattle.parts.specs.Places.{count_at}
-use borrow.Author.Rules.{rules}
 use Rattle.parts.proofs.numbers.number_at.Goals as goal
 
 pub returns-then-tree-at-lt2 : goal.returns-then-tree-at-lt2

@@ -1,5 +1,4 @@
 use Rattle.parts.proofs.LeafLaws.{operator-end, operator-in}
-use borrow.Author.Rules.{rules}
 use Rattle.parts.proofs.numbers.operator_at.Goals as goal
 
 pub returns-then-tree-at : goal.returns-then-tree-at

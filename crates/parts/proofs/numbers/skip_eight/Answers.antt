@@ -1,6 +1,5 @@
 use mathlib.Core.Path.{sym}
 use Rattle.parts.proofs.LeafLaws.{eight-short, eight-long}
-use borrow.Author.Rules.{rules}
 use Rattle.parts.proofs.numbers.skip_eight.Goals as goal
 
 pub returns-then-tree-at-lt8 : goal.returns-then-tree-at-lt8

@@ -2,7 +2,6 @@ use native.Mathlib.Omega.{arith}
 use mathlib.Core.Path.{refl}
 use Prim.Native.Nat.{◌+◌}
 use Rattle.parts.specs.Places.{count_at}
-use borrow.Author.Rules.{rules}
 use Rattle.parts.proofs.numbers.u16_at.Goals as goal
 
 pub overflow_cast-result : goal.overflow_cast-result

@@ -2,7 +2,6 @@ use mathlib.Core.Path.{sym, ◌∙◌}
 use Rattle.parts.specs.Judge.{judge_head}
 use Rattle.parts.proofs.Laws.{with-unread, with-number, then_next, then-refused, judged-within}
 use Rattle.parts.proofs.NameLaws.{name-at-is, head-close}
-use borrow.Author.Rules.{rules}
 use Rattle.parts.proofs.params.check_head.Goals as goal
 
 pub returns-in_default : goal.returns-in_default

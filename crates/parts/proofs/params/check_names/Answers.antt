@@ -1,9 +1,5 @@
-use mathlib.Core.Path.{◌≡◌, refl, sym, ◌∙◌}
-use Prim.Native.Nat.{◌≤◌}
+use mathlib.Core.Path.{refl, sym, ◌∙◌}
 use native.Mathlib.Omega.{arith}
-use borrow.Author.Rules.{rules}
-use lib.ListN.{length}
-use Rattle.parts.specs.Judge.{judge_names}
 use Rattle.parts.proofs.NameLaws.{names-none, names_more}
 use Rattle.parts.proofs.Laws.{then_next, then-refused, judged-within}
 use Rattle.parts.proofs.params.check_names.Goals as goal

@@ -1,7 +1,6 @@
 use mathlib.Core.Path.{sym, ◌∙◌}
 use Rattle.parts.proofs.NameLaws.{params-law, params-close, names-there}
 use Rattle.parts.proofs.Laws.{with-unread, with-number, then_next, then-refused, number-within}
-use borrow.Author.Rules.{rules}
 use Rattle.parts.proofs.params.check_params.Goals as goal
 
 pub check_names-names-requires : goal.check_names-names-requires

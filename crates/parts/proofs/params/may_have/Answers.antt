@@ -1,5 +1,4 @@
 use Rattle.parts.proofs.NameLaws.{may_none, may-init}
-use borrow.Author.Rules.{rules}
 use Rattle.parts.proofs.params.may_have.Goals as goal
 
 pub returns-then-same_bytes : goal.returns-then-same_bytes

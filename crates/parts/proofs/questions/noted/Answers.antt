@@ -1,5 +1,4 @@
 use Rattle.parts.proofs.LeafLaws.{noted-yes, noted-low, noted-no}
-use borrow.Author.Rules.{rules}
 use Rattle.parts.proofs.questions.noted.Goals as goal
 
 pub returns-then-ok : goal.returns-then-ok

@@ -1,6 +1,5 @@
 use Rattle.parts.specs.declared.Role.TheVariants.{Target, Element}
 use Rattle.parts.proofs.LeafLaws.{suits-value, suits-other}
-use borrow.Author.Rules.{rules}
 use Rattle.parts.proofs.questions.suits.Goals as goal
 
 pub returns-in-Value : goal.returns-in-Value

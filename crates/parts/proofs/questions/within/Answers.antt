@@ -1,6 +1,5 @@
 use mathlib.Core.Path.{sym, ap}
 use Rattle.parts.specs.Judge.{inner}
-use borrow.Author.Rules.{rules}
 use Rattle.parts.proofs.questions.within.Goals as goal
 
 pub returns-in-Value : goal.returns-in-Value

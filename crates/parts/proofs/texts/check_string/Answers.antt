@@ -2,7 +2,6 @@ use native.Mathlib.Omega.{arith}
 use mathlib.Core.Path.{sym, ◌∙◌}
 use Rattle.parts.proofs.LeafLaws.{text-unread, text-short, text-whole}
 use Rattle.parts.proofs.Laws.{number-within}
-use borrow.Author.Rules.{rules}
 use Rattle.parts.proofs.texts.check_string.Goals as goal
 
 pub overflow_sub-tree : goal.overflow_sub-tree

@@ -1,4 +1,3 @@
-use borrow.Author.Rules.{rules}
 use Rattle.reach.proofs.Tracks.{before-is}
 use Rattle.reach.proofs.trace.before_of.Goals as goal
 

@@ -1,5 +1,4 @@
 use native.Mathlib.Omega.{arith}
-use borrow.Author.Rules.{rules}
 use Rattle.reach.proofs.Tracks.{put-none, put_one, put-room}
 use Rattle.reach.proofs.trace.put_back.Goals as goal
 

@@ -1,4 +1,3 @@
-use borrow.Author.Rules.{rules}
 use Rattle.reach.proofs.Tracks.{tag_is}
 use Rattle.reach.proofs.trace.tag_of.Goals as goal
 

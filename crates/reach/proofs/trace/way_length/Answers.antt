@@ -1,7 +1,6 @@
 use mathlib.Core.Path.{refl}
 use native.Mathlib.Omega.{arith}
-use borrow.Author.Rules.{rules}
-use Rattle.reach.proofs.Tracks.{steps_to, Counting, counting-start, place_in, mark-in, some, one_less, counted, counting-on}
+use Rattle.reach.proofs.Tracks.{counting-start, place_in, mark-in, some, one_less, counted, counting-on}
 use Rattle.reach.proofs.trace.way_length.Goals as goal
 
 pub loop-place-init : goal.loop-place-init

@@ -1,6 +1,6 @@
 use mathlib.Core.Path.{refl}
 use native.Mathlib.Omega.{arith}
-use Rattle.reach.proofs.Tracks.{steps_to, place_in, mark-in, some, one_less, Written, written_none, written_all, put-fits, written-more}
+use Rattle.reach.proofs.Tracks.{place_in, mark-in, some, one_less, written_none, written_all, put-fits, written-more}
 use Rattle.reach.proofs.trace.write_way.Goals as goal
 
 pub loop-place-init : goal.loop-place-init

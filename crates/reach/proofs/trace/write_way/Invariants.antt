@@ -1,6 +1,4 @@
-use mathlib.Core.Path.{refl}
-use native.Mathlib.Omega.{arith}
-use Rattle.reach.proofs.Tracks.{steps_to, place_in, mark-in, some, one_less, Written, written_none, written_all, put-fits, written-more}
+use Rattle.reach.proofs.Tracks.{steps_to, Written}
 use Rattle.reach.proofs.trace.write_way.Given as goal
 
 abbrev pub invariant-loop-place : goal.invariant-loop-place

@@ -1,4 +1,3 @@
-use borrow.Author.Rules.{rules}
 use mathlib.Core.Path.{refl}
 use Rattle.definitions.proofs.Sheet.{total-word}
 use Rattle.sheet.proofs.RowLaws.{line-written}

@@ -157,20 +157,20 @@ gather_for-returns-in_default t c = (over-more _ _ _ _ _ _ _ _ c.gather_name-fir
 
 pub gather_for-gather_branch-requires : goal.gather_for-gather_branch-requires
 gather_for-gather_branch-requires t c =
-    let at-gather-name = at_first.before.before.before.before in let at-name-end = at-gather-name.before.before in let at-one-more = at-name-end.before in let start = at-one-more.before.before.before.before in let z = gathers-next _ _ _ _ _ _ _ at-gather-name.gather-name.ensures at_first.first.given.1 in (
+    let z = gathers-next _ _ _ _ _ _ _ c.gather_name-first.ensures c.in-Next.is in (
       omega arith,
       (
-        room-again _ _ _ _ _ start.requires.1.0 at-gather-name.gather-name.auto.1.1.1.0 z.few z.indexed,
-        branch-there _ _ _ _ (z.end ∙ at-name-end.name-end.ensures)
-            start.requires.1.1.loop,
-        omega (arith, at-one-more.one_more.ensures),
+        room-again _ _ _ _ _ c.requires.0 c.gather_name-first.auto.slots z.few z.indexed,
+        branch-there _ _ _ _ (z.end ∙ c.name_end-p.ensures)
+            c.requires.1.loop,
+        omega (arith, c.one_more.ensures),
       ),
     )
 
 pub gather_for-returns : goal.gather_for-returns
 gather_for-returns t c =
-    let at-gather-name = at_first.before.before.before.before in let at-name-end = at-gather-name.before.before in let at-one-more = at-name-end.before in let z = gathers-next _ _ _ _ _ _ _ at-gather-name.gather-name.ensures at_first.first.given.1 in let e = z.end ∙ at-name-end.name-end.ensures in
-    (for-done _ _ _ _ _ _ _ _ e z.names c.gather_branch.ensures.0, for-count _ _ e at-one-more.one_more.ensures c.gather_branch.ensures.1)
+    let z = gathers-next _ _ _ _ _ _ _ c.gather_name-first.ensures c.in-Next.is in let e = z.end ∙ c.name_end-p.ensures in
+    (for-done _ _ _ _ _ _ _ _ e z.names c.gather_branch.ensures.0, for-count _ _ e c.one_more.ensures c.gather_branch.ensures.1)
 
 pub gather_if-gather_branch-first-requires : goal.gather_if-gather_branch-first-requires
 gather_if-gather_branch-first-requires t c = (omega arith, (c.requires.0, c.requires.1.first, c.requires.2))
@@ -179,27 +179,27 @@ pub gather_if-returns-in_default : goal.gather_if-returns-in_default
 gather_if-returns-in_default t c = (over-more _ _ _ _ _ _ _ _ c.gather_branch-first.ensures.0 c.in_default.is (branches-grow _ _), tallies-over)
 
 pub gather_if-u16_at-count-requires : goal.gather_if-u16_at-count-requires
-gather_if-u16_at-count-requires t c = let at-gather-branch = at_first.before.before.before.before in let start = at-gather-branch.before.before.before.before.before in let z = gathers-next _ _ _ _ _ _ _ at-gather-branch.gather-branch.ensures.0 at_first.first.given.1 in let h = elifs-counted _ _ _ _ 0 z.end start.requires.1.1 in omega arith
+gather_if-u16_at-count-requires t c = let z = gathers-next _ _ _ _ _ _ _ c.gather_branch-first.ensures.0 c.in-Next.is in let h = elifs-counted _ _ _ _ 0 z.end c.requires.1 in omega arith
 
 pub gather_if-overflow_add-p : goal.gather_if-overflow_add-p
-gather_if-overflow_add-p t c = let at-gather-branch = at_first.before.before.before.before in let start = at-gather-branch.before.before.before.before.before in let z = gathers-next _ _ _ _ _ _ _ at-gather-branch.gather-branch.ensures.0 at_first.first.given.1 in let h = elifs-counted _ _ _ _ 0 z.end start.requires.1.1 in omega arith
+gather_if-overflow_add-p t c = let z = gathers-next _ _ _ _ _ _ _ c.gather_branch-first.ensures.0 c.in-Next.is in let h = elifs-counted _ _ _ _ 0 z.end c.requires.1 in omega arith
 
 pub gather_if-gather_elifs-requires : goal.gather_if-gather_elifs-requires
 gather_if-gather_elifs-requires t c =
-    let at-gather-branch = at_first.before.before.before.before in let start = at-gather-branch.before.before.before.before.before in let z = gathers-next _ _ _ _ _ _ _ at-gather-branch.gather-branch.ensures.0 at_first.first.given.1 in (
+    let z = gathers-next _ _ _ _ _ _ _ c.gather_branch-first.ensures.0 c.in-Next.is in (
       omega arith,
       (
-        room-again _ _ _ _ _ start.requires.1.0 at-gather-branch.gather-branch.auto.1.1.1.0 z.few z.indexed,
+        room-again _ _ _ _ _ c.requires.0 c.gather_branch-first.auto.slots z.few z.indexed,
         elifs-read _ _ _ _ _ z.end c.u16_at-count.ensures.0
-            start.requires.1.1,
-        omega (arith, at-gather-branch.gather-branch.ensures.1.counted _ _ at_first.first.given.1),
+            c.requires.1,
+        omega (arith, c.gather_branch-first.ensures.1.counted _ _ c.in-Next.is),
       ),
     )
 
 pub gather_if-returns : goal.gather_if-returns
 gather_if-returns t c =
-    let at-gather-branch = at_first.before.before.before.before in let z = gathers-next _ _ _ _ _ _ _ at-gather-branch.gather-branch.ensures.0 at_first.first.given.1 in
-    let m = at-gather-branch.gather-branch.ensures.1.counted _ _ at_first.first.given.1 in (
+    let z = gathers-next _ _ _ _ _ _ _ c.gather_branch-first.ensures.0 c.in-Next.is in
+    let m = c.gather_branch-first.ensures.1.counted _ _ c.in-Next.is in (
       if-done _ _ _ _ _ z.end c.u16_at-count.ensures.0 _ _ _ _ z.names c.gather_elifs.ensures.0,
       if-count _ _ _ _ _
           (elifs-are _ _ _ _ _ z.end c.u16_at-count.ensures.0) m c.gather_elifs.ensures.1,

@@ -1,11 +1,8 @@
-use mathlib.Core.Path.{◌≡◌, refl, sym, ◌∙◌}
-use borrow.Author.Rules.{rules}
+use mathlib.Core.Path.{refl, sym, ◌∙◌}
 use native.Mathlib.Omega.{arith}
-use Prim.Native.Nat.{ℕ, ◌+◌, ◌*◌, ◌≤◌, ◌<◌}
-use lib.ListN.{length}
 use Rattle.parts.proofs.Laws.{up, then_next, then-refused, with-number, with-unread, judged-within, number-within}
 use Rattle.tree.proofs.StmtLaws.{at-break, at-continue, at-pass, at-expr, at_return, at-assign, at-if, at-while, at-for, at-def, at-class, stmt-none, stmt-end, stmt-unknown, block-law, stmts-none, stmts-more, branches-none, branches-more, else-end, else-none, else-block, else-unknown, methods-none, methods-more, branch-within, method-within, head-within, stand-next}
-use Rattle.parts.specs.Judge.{judge_stmts, judge_branches, judge_methods, judge_branch, judge_if, judge_for, judge_def, judge_method, judge_class}
+use Rattle.parts.specs.Judge.{judge_branch, judge_if, judge_for, judge_def, judge_method, judge_class}
 use Rattle.tree.proofs.stmts.+check.Goals as goal
 
 pub check_block-number_at-count-requires : goal.check_block-number_at-count-requires

@@ -1,4 +1,3 @@
-use borrow.Author.Rules.{rules}
 use Rattle.exprs.proofs.ConstantLaws.{constant-value}
 use Rattle.tree.proofs.stmts.check_assigned.Goals as goal
 

@@ -1,7 +1,6 @@
 use mathlib.Core.Path.{sym, ◌∙◌}
 use Rattle.parts.proofs.Laws.{with-number, with-unread, number-within}
 use Rattle.tree.proofs.StmtLaws.{attributes-law}
-use borrow.Author.Rules.{rules}
 use Rattle.tree.proofs.stmts.check_attributes.Goals as goal
 
 pub check_values-requires : goal.check_values-requires

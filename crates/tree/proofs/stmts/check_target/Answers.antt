@@ -1,5 +1,4 @@
 use mathlib.Core.Path.{◌∙◌}
-use borrow.Author.Rules.{rules}
 use Rattle.exprs.proofs.ConstantLaws.{variable-target}
 use Rattle.tree.proofs.stmts.check_target.Goals as goal
 

@@ -1,7 +1,6 @@
 use mathlib.Core.Path.{sym, ◌∙◌}
 use Rattle.parts.proofs.Laws.{then_next, then-refused, judged-within}
 use Rattle.parts.specs.Judge.{judge_attribute_value}
-use borrow.Author.Rules.{rules}
 use Rattle.tree.proofs.stmts.check_value.Goals as goal
 
 pub returns-in_default : goal.returns-in_default

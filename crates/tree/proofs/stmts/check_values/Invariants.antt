@@ -1,11 +1,7 @@
-use mathlib.Core.Path.{◌≡◌, refl, sym, ◌∙◌}
+use mathlib.Core.Path.{◌≡◌}
 use Prim.Native.Nat.{◌≤◌}
-use native.Mathlib.Omega.{arith}
-use borrow.Author.Rules.{rules}
 use lib.ListN.{length}
 use Rattle.parts.specs.Judge.{judge_attributes}
-use Rattle.tree.proofs.StmtLaws.{attributes-none, attributes-more, value-within}
-use Rattle.parts.proofs.Laws.{then_next, then-refused}
 use Rattle.tree.proofs.stmts.check_values.Given as goal
 
 abbrev pub invariant-loop-left : goal.invariant-loop-left
