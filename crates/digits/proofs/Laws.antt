@@ -1,5 +1,5 @@
--- Decimal numbers: a law for each way out. Assumes nothing.
-use Prim.Native.Nat.{ℕ, ◌+◌, ◌*◌, ◌^◌, ◌<◌, ◌≤◌}
+-- Digits and decimal numbers: a law for each way out. Assumes nothing.
+use Prim.Native.Nat.{ℕ, ◌+◌, ◌*◌, ◌-◌, ◌^◌, ◌<◌, ◌≤◌}
 use mathlib.Core.Path.{◌≡◌, refl, sym, ap, ◌∙◌}
 use mathlib.Core.Bool.{Bool, true, false, ◌&&◌}
 use mathlib.Core.List.{List, [], ◌∷◌}
@@ -8,8 +8,33 @@ use native.Mathlib.Omega.{arith}
 use native.Mathlib.Numerals.{add-one}
 use lib.ListN.{length, drop, get_or, drop_of_length-le}
 use lib.Seq.{drop-cons}
-use borrow.Author.Tests.{lt-ltb, le-ltb}
+use borrow.Author.Tests.{le-leb, lt-leb, lt-ltb, le-ltb}
 use Rattle.digits.specs.Text.{digit_value, all_decimal, value_from, decimal_from, decimal}
+
+-- ---- a digit
+
+module _ (c : ℕ) where
+  pub digit_low : c < 48 → 16 ≡ digit_value c
+  unfolding digit_value
+  digit_low h = simp (lt-leb 48 c h, lt-leb 97 c (omega arith))
+
+  pub digit-decimal : 48 ≤ c → c < 58 → c - 48 ≡ digit_value c
+  unfolding digit_value
+  digit-decimal h l = simp (le-leb 48 c h, lt-ltb c 58 l)
+
+  pub digit-gap : 58 ≤ c → c < 97 → 16 ≡ digit_value c
+  unfolding digit_value
+  digit-gap h l = simp (le-leb 48 c (omega arith), le-ltb c 58 h, lt-leb 97 c l)
+
+  pub digit-letter : 97 ≤ c → c < 103 → c - 87 ≡ digit_value c
+  unfolding digit_value
+  digit-letter h l = simp (le-leb 48 c (omega arith), le-ltb c 58 (omega arith), le-leb 97 c h, lt-ltb c 103 l)
+
+  pub digit-high : 103 ≤ c → 16 ≡ digit_value c
+  unfolding digit_value
+  digit-high h = simp (le-leb 48 c (omega arith), le-ltb c 58 (omega arith), le-leb 97 c (omega arith), le-ltb c 103 h)
+
+-- ---- a decimal number
 
 and-false : (x : Bool) → (x && false) ≡ false
 and-false true = refl
