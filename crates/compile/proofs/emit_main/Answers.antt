@@ -2,7 +2,6 @@ use Rattle.state.specs.State.{names_at}
 use Rattle.state.specs.Kept.{keeping_of}
 use mathlib.Core.Path.{refl, ◌∙◌}
 use native.Mathlib.Omega.{arith}
-use borrow.Author.Rules.{rules}
 use Rattle.state.proofs.Growth.{lengthens-one}
 use Rattle.lower_emit.proofs.Packing.{instr-plain}
 use Rattle.lower_emit.proofs.Steps.{room-sound, put-lifts, sound-next, lowers-stopped, lowers-next}
