@@ -6,7 +6,7 @@ use Rattle.definitions.proofs.Narrower.{sets_under}
 use Rattle.follows.proofs.lower_and_run.Goals as goal
 
 pub slice_bounds-run-end : goal.slice_bounds-run-end
-slice_bounds-run-end c = let l = c.lower-lowered in part-fits _ _ _ _ _ _ _ _ _ l.ensures _ c.in-Wrote.is l.auto.1.1.1.1.0
+slice_bounds-run-end c = let l = c.lower-lowered in part-fits _ _ _ _ _ _ _ _ _ l.ensures _ c.in-Wrote.is l.auto.out
 
 pub returns-in-Wrote : goal.returns-in-Wrote
 returns-in-Wrote c =
