@@ -6,53 +6,47 @@ use Prim.Native.Nat.{ℕ, ◌-◌}
 use lib.ListN.{length-append}
 use Rattle.definitions.specs.Bytes.{be}
 use Rattle.definitions.proofs.BytesWritten.{length-be}
-use Rattle.writing.proofs.Begun.{Begun, joined-one, begun_first, begun-length, begun-fits, begun-number, begun-next, begun-done}
+use Rattle.writing.proofs.Begun.{joined-one, begun_first, begun-length, begun-fits, begun-number, begun-next, begun-done}
 use Rattle.module.proofs.write_head.Goals as goal
 
 pub slice_bounds-write_number-count : goal.slice_bounds-write_number-count
 unfolding be
 slice_bounds-write_number-count c =
-    let counted : Begun (be 4 (c.args.size - 4) ++ (1 ∷ [])) c.args.out.now c.write_number-at.result c.write_number-at.new.out (be 1 1 ∷ []) =
-    let d = be 4 (c.args.size - 4) in
+    let counted = let d = be 4 (c.args.size - 4) in
     begun_first (ap (λ (z : List ℕ). d ++ z) (joined-one (1 ∷ []))) (let l = length-append d (1 ∷ []) in let k = length-be 4 (c.args.size - 4) in omega (arith, c.requires.0)) c.write_number-at.ensures in
     omega (arith, begun-fits counted)
 
 pub slice_bounds-write_number-start : goal.slice_bounds-write_number-start
 unfolding be
 slice_bounds-write_number-start c =
-    let counted : Begun (be 4 (c.args.size - 4) ++ (1 ∷ [])) c.args.out.now c.write_number-at.result c.write_number-at.new.out (be 1 1 ∷ []) =
-    let d = be 4 (c.args.size - 4) in
+    let counted = let d = be 4 (c.args.size - 4) in
     begun_first (ap (λ (z : List ℕ). d ++ z) (joined-one (1 ∷ []))) (let l = length-append d (1 ∷ []) in let k = length-be 4 (c.args.size - 4) in omega (arith, c.requires.0)) c.write_number-at.ensures in
     omega (arith, begun-fits counted)
 
 pub write_number-requires : goal.write_number-requires
 unfolding be
 write_number-requires c =
-    let counted : Begun (be 4 (c.args.size - 4) ++ (1 ∷ [])) c.args.out.now c.write_number-at.result c.write_number-at.new.out (be 1 1 ∷ []) =
-    let d = be 4 (c.args.size - 4) in
+    let counted = let d = be 4 (c.args.size - 4) in
     begun_first (ap (λ (z : List ℕ). d ++ z) (joined-one (1 ∷ []))) (let l = length-append d (1 ∷ []) in let k = length-be 4 (c.args.size - 4) in omega (arith, c.requires.0)) c.write_number-at.ensures in
     begun-number 1 1 counted
 
 pub overflow_add-result : goal.overflow_add-result
 unfolding be
 overflow_add-result c =
-    let counted : Begun (be 4 (c.args.size - 4) ++ (1 ∷ [])) c.args.out.now c.write_number-at.result c.write_number-at.new.out (be 1 1 ∷ []) =
-    let d = be 4 (c.args.size - 4) in
+    let counted = let d = be 4 (c.args.size - 4) in
     begun_first (ap (λ (z : List ℕ). d ++ z) (joined-one (1 ∷ []))) (let l = length-append d (1 ∷ []) in let k = length-be 4 (c.args.size - 4) in omega (arith, c.requires.0)) c.write_number-at.ensures in
     let b = counted in omega (arith, begun-fits b, begun-length b, c.write_number.ensures.count, c.well_formed)
 
 pub shape_of-out : goal.shape_of-out
 unfolding be
 shape_of-out c =
-    let counted : Begun (be 4 (c.args.size - 4) ++ (1 ∷ [])) c.args.out.now c.write_number-at.result c.write_number-at.new.out (be 1 1 ∷ []) =
-    let d = be 4 (c.args.size - 4) in
+    let counted = let d = be 4 (c.args.size - 4) in
     begun_first (ap (λ (z : List ℕ). d ++ z) (joined-one (1 ∷ []))) (let l = length-append d (1 ∷ []) in let k = length-be 4 (c.args.size - 4) in omega (arith, c.requires.0)) c.write_number-at.ensures in
     begun-length (begun-next counted c.write_number.ensures)
 
 pub returns : goal.returns
 unfolding be
 returns c =
-    let counted : Begun (be 4 (c.args.size - 4) ++ (1 ∷ [])) c.args.out.now c.write_number-at.result c.write_number-at.new.out (be 1 1 ∷ []) =
-    let d = be 4 (c.args.size - 4) in
+    let counted = let d = be 4 (c.args.size - 4) in
     begun_first (ap (λ (z : List ℕ). d ++ z) (joined-one (1 ∷ []))) (let l = length-append d (1 ∷ []) in let k = length-be 4 (c.args.size - 4) in omega (arith, c.requires.0)) c.write_number-at.ensures in
     begun-done (begun-next counted c.write_number.ensures)

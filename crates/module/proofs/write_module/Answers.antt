@@ -1,10 +1,6 @@
 -- the head is written
 use native.Mathlib.Omega.{arith}
-use mathlib.Core.List.{[], ◌∷◌}
-use Rattle.definitions.specs.Module.{module_bytes}
-use Rattle.state.specs.State.{tables_of}
-use Rattle.module.specs.Sections.{texts_bytes, bodies_bytes}
-use Rattle.writing.proofs.Begun.{Begun, begun_first, begun-length, begun-fits, begun-piece, begun-next, begun-done}
+use Rattle.writing.proofs.Begun.{begun_first, begun-length, begun-fits, begun-piece, begun-next, begun-done}
 use Rattle.module.proofs.Whole.{length-module, module-pieces}
 use Rattle.module.proofs.write_module.Goals as goal
 
@@ -15,71 +11,51 @@ write_head-at-requires c =
 
 pub slice_bounds-write_texts-count : goal.slice_bounds-write_texts-count
 slice_bounds-write_texts-count c =
-    let begun : Begun (module_bytes (tables_of c.args.tree.now c.args.made.now c.args.code.now c.args.tables.now c.args.c)) c.args.out.now c.write_head-at.result c.write_head-at.new.out
-    (texts_bytes c.args.tree.now c.args.made.now c.args.tables.now c.args.c ∷ bodies_bytes c.args.tree.now c.args.code.now c.args.tables.now c.args.c ∷ []) =
-    begun_first (module-pieces c.args.tree.now c.args.made.now c.args.code.now c.args.tables.now c.args.c c.args.size c.requires.1) (omega (arith, c.requires.1, c.requires.3)) c.write_head-at.ensures in
+    let begun = begun_first (module-pieces c.args.tree.now c.args.made.now c.args.code.now c.args.tables.now c.args.c c.args.size c.requires.1) (omega (arith, c.requires.1, c.requires.3)) c.write_head-at.ensures in
     omega (arith, begun-fits begun)
 
 pub slice_bounds-write_texts-start : goal.slice_bounds-write_texts-start
 slice_bounds-write_texts-start c =
-    let begun : Begun (module_bytes (tables_of c.args.tree.now c.args.made.now c.args.code.now c.args.tables.now c.args.c)) c.args.out.now c.write_head-at.result c.write_head-at.new.out
-    (texts_bytes c.args.tree.now c.args.made.now c.args.tables.now c.args.c ∷ bodies_bytes c.args.tree.now c.args.code.now c.args.tables.now c.args.c ∷ []) =
-    begun_first (module-pieces c.args.tree.now c.args.made.now c.args.code.now c.args.tables.now c.args.c c.args.size c.requires.1) (omega (arith, c.requires.1, c.requires.3)) c.write_head-at.ensures in
+    let begun = begun_first (module-pieces c.args.tree.now c.args.made.now c.args.code.now c.args.tables.now c.args.c c.args.size c.requires.1) (omega (arith, c.requires.1, c.requires.3)) c.write_head-at.ensures in
     omega (arith, begun-fits begun)
 
 pub write_texts-at-requires : goal.write_texts-at-requires
 write_texts-at-requires c =
-    let begun : Begun (module_bytes (tables_of c.args.tree.now c.args.made.now c.args.code.now c.args.tables.now c.args.c)) c.args.out.now c.write_head-at.result c.write_head-at.new.out
-    (texts_bytes c.args.tree.now c.args.made.now c.args.tables.now c.args.c ∷ bodies_bytes c.args.tree.now c.args.code.now c.args.tables.now c.args.c ∷ []) =
-    begun_first (module-pieces c.args.tree.now c.args.made.now c.args.code.now c.args.tables.now c.args.c c.args.size c.requires.1) (omega (arith, c.requires.1, c.requires.3)) c.write_head-at.ensures in
+    let begun = begun_first (module-pieces c.args.tree.now c.args.made.now c.args.code.now c.args.tables.now c.args.c c.args.size c.requires.1) (omega (arith, c.requires.1, c.requires.3)) c.write_head-at.ensures in
     (c.requires.0.symbols, c.requires.0.strings, begun-piece begun)
 
 pub overflow_add-at : goal.overflow_add-at
 overflow_add-at c =
-    let begun : Begun (module_bytes (tables_of c.args.tree.now c.args.made.now c.args.code.now c.args.tables.now c.args.c)) c.args.out.now c.write_head-at.result c.write_head-at.new.out
-    (texts_bytes c.args.tree.now c.args.made.now c.args.tables.now c.args.c ∷ bodies_bytes c.args.tree.now c.args.code.now c.args.tables.now c.args.c ∷ []) =
-    begun_first (module-pieces c.args.tree.now c.args.made.now c.args.code.now c.args.tables.now c.args.c c.args.size c.requires.1) (omega (arith, c.requires.1, c.requires.3)) c.write_head-at.ensures in
+    let begun = begun_first (module-pieces c.args.tree.now c.args.made.now c.args.code.now c.args.tables.now c.args.c c.args.size c.requires.1) (omega (arith, c.requires.1, c.requires.3)) c.write_head-at.ensures in
     let b = begun in omega (arith, begun-fits b, begun-length b, c.write_texts-at.ensures.count, c.well_formed)
 
 pub slice_bounds-write_bodies-count : goal.slice_bounds-write_bodies-count
 slice_bounds-write_bodies-count c =
-    let begun : Begun (module_bytes (tables_of c.args.tree.now c.args.made.now c.args.code.now c.args.tables.now c.args.c)) c.args.out.now c.write_head-at.result c.write_head-at.new.out
-    (texts_bytes c.args.tree.now c.args.made.now c.args.tables.now c.args.c ∷ bodies_bytes c.args.tree.now c.args.code.now c.args.tables.now c.args.c ∷ []) =
-    begun_first (module-pieces c.args.tree.now c.args.made.now c.args.code.now c.args.tables.now c.args.c c.args.size c.requires.1) (omega (arith, c.requires.1, c.requires.3)) c.write_head-at.ensures in
+    let begun = begun_first (module-pieces c.args.tree.now c.args.made.now c.args.code.now c.args.tables.now c.args.c c.args.size c.requires.1) (omega (arith, c.requires.1, c.requires.3)) c.write_head-at.ensures in
     omega (arith, begun-fits (begun-next begun c.write_texts-at.ensures))
 
 pub slice_bounds-write_bodies-start : goal.slice_bounds-write_bodies-start
 slice_bounds-write_bodies-start c =
-    let begun : Begun (module_bytes (tables_of c.args.tree.now c.args.made.now c.args.code.now c.args.tables.now c.args.c)) c.args.out.now c.write_head-at.result c.write_head-at.new.out
-    (texts_bytes c.args.tree.now c.args.made.now c.args.tables.now c.args.c ∷ bodies_bytes c.args.tree.now c.args.code.now c.args.tables.now c.args.c ∷ []) =
-    begun_first (module-pieces c.args.tree.now c.args.made.now c.args.code.now c.args.tables.now c.args.c c.args.size c.requires.1) (omega (arith, c.requires.1, c.requires.3)) c.write_head-at.ensures in
+    let begun = begun_first (module-pieces c.args.tree.now c.args.made.now c.args.code.now c.args.tables.now c.args.c c.args.size c.requires.1) (omega (arith, c.requires.1, c.requires.3)) c.write_head-at.ensures in
     omega (arith, begun-fits (begun-next begun c.write_texts-at.ensures))
 
 pub write_bodies-requires : goal.write_bodies-requires
 write_bodies-requires c =
-    let begun : Begun (module_bytes (tables_of c.args.tree.now c.args.made.now c.args.code.now c.args.tables.now c.args.c)) c.args.out.now c.write_head-at.result c.write_head-at.new.out
-    (texts_bytes c.args.tree.now c.args.made.now c.args.tables.now c.args.c ∷ bodies_bytes c.args.tree.now c.args.code.now c.args.tables.now c.args.c ∷ []) =
-    begun_first (module-pieces c.args.tree.now c.args.made.now c.args.code.now c.args.tables.now c.args.c c.args.size c.requires.1) (omega (arith, c.requires.1, c.requires.3)) c.write_head-at.ensures in
+    let begun = begun_first (module-pieces c.args.tree.now c.args.made.now c.args.code.now c.args.tables.now c.args.c c.args.size c.requires.1) (omega (arith, c.requires.1, c.requires.3)) c.write_head-at.ensures in
     (c.requires.0, begun-piece (begun-next begun c.write_texts-at.ensures))
 
 pub overflow_add-result : goal.overflow_add-result
 overflow_add-result c =
-    let begun : Begun (module_bytes (tables_of c.args.tree.now c.args.made.now c.args.code.now c.args.tables.now c.args.c)) c.args.out.now c.write_head-at.result c.write_head-at.new.out
-    (texts_bytes c.args.tree.now c.args.made.now c.args.tables.now c.args.c ∷ bodies_bytes c.args.tree.now c.args.code.now c.args.tables.now c.args.c ∷ []) =
-    begun_first (module-pieces c.args.tree.now c.args.made.now c.args.code.now c.args.tables.now c.args.c c.args.size c.requires.1) (omega (arith, c.requires.1, c.requires.3)) c.write_head-at.ensures in
+    let begun = begun_first (module-pieces c.args.tree.now c.args.made.now c.args.code.now c.args.tables.now c.args.c c.args.size c.requires.1) (omega (arith, c.requires.1, c.requires.3)) c.write_head-at.ensures in
     let b = begun-next begun c.write_texts-at.ensures in
     omega (arith, begun-fits b, begun-length b, c.write_bodies.ensures.count, c.well_formed)
 
 pub shape_of-out : goal.shape_of-out
 shape_of-out c =
-    let begun : Begun (module_bytes (tables_of c.args.tree.now c.args.made.now c.args.code.now c.args.tables.now c.args.c)) c.args.out.now c.write_head-at.result c.write_head-at.new.out
-    (texts_bytes c.args.tree.now c.args.made.now c.args.tables.now c.args.c ∷ bodies_bytes c.args.tree.now c.args.code.now c.args.tables.now c.args.c ∷ []) =
-    begun_first (module-pieces c.args.tree.now c.args.made.now c.args.code.now c.args.tables.now c.args.c c.args.size c.requires.1) (omega (arith, c.requires.1, c.requires.3)) c.write_head-at.ensures in
+    let begun = begun_first (module-pieces c.args.tree.now c.args.made.now c.args.code.now c.args.tables.now c.args.c c.args.size c.requires.1) (omega (arith, c.requires.1, c.requires.3)) c.write_head-at.ensures in
     begun-length (begun-next (begun-next begun c.write_texts-at.ensures) c.write_bodies.ensures)
 
 pub returns : goal.returns
 returns c =
-    let begun : Begun (module_bytes (tables_of c.args.tree.now c.args.made.now c.args.code.now c.args.tables.now c.args.c)) c.args.out.now c.write_head-at.result c.write_head-at.new.out
-    (texts_bytes c.args.tree.now c.args.made.now c.args.tables.now c.args.c ∷ bodies_bytes c.args.tree.now c.args.code.now c.args.tables.now c.args.c ∷ []) =
-    begun_first (module-pieces c.args.tree.now c.args.made.now c.args.code.now c.args.tables.now c.args.c c.args.size c.requires.1) (omega (arith, c.requires.1, c.requires.3)) c.write_head-at.ensures in
+    let begun = begun_first (module-pieces c.args.tree.now c.args.made.now c.args.code.now c.args.tables.now c.args.c c.args.size c.requires.1) (omega (arith, c.requires.1, c.requires.3)) c.write_head-at.ensures in
     begun-done (begun-next (begun-next begun c.write_texts-at.ensures) c.write_bodies.ensures)

@@ -1,10 +1,7 @@
 use native.Mathlib.Omega.{arith}
-use mathlib.Core.List.{◌∷◌}
-use Prim.Native.Nat.{◌+◌}
-use lib.ListN.{length, get_or}
-use Rattle.module.specs.Sections.{classes_bytes}
-use Rattle.module.proofs.Pieces.{pairs_from, pairs_next, pairs-none, Measured, measured-count, measured-as, measured-fits, measured-next, measured-done}
-use Rattle.module.proofs.CodeLengths.{class_piece, classes-listed, classes-room}
+use lib.ListN.{length}
+use Rattle.module.proofs.Pieces.{pairs_next, pairs-none, measured-count, measured-as, measured-fits, measured-next, measured-done}
+use Rattle.module.proofs.CodeLengths.{classes-listed, classes-room}
 use Rattle.module.proofs.classes.classes_size.Goals as goal
 
 pub loop-i-init : goal.loop-i-init
@@ -15,16 +12,12 @@ bounds-places-i c = omega (arith, c.requires.1)
 
 pub overflow_add-size : goal.overflow_add-size
 overflow_add-size c =
-    let here : Measured (classes_bytes c.args.tree.now c.args.methods.now c.args.names.now c.args.places.now) c.loop-i.size
-    (class_piece c.args.tree.now c.args.methods.now (get_or c.args.names.now c.loop-i.i 0) (get_or c.args.places.now c.loop-i.i 0) ∷ pairs_from (class_piece c.args.tree.now c.args.methods.now) (c.loop-i.i + 1) c.args.names.now c.args.places.now) =
-    measured-as c.loop-i.invariant.1 (pairs_next _ c.loop-i.i _ _ c.loop-i-test.true (omega (arith, c.requires.1))) in
+    let here = measured-as c.loop-i.invariant.1 (pairs_next _ c.loop-i.i _ _ c.loop-i-test.true (omega (arith, c.requires.1))) in
     let a = c.args in omega (arith, c.class_size-size.ensures.0, measured-fits here, classes-room a.tree.now a.methods.now a.names.now a.places.now (λ j. (c.shared_slice_known-1.given j).fits) c.requires.1, c.requires.0)
 
 pub loop-i-preserved : goal.loop-i-preserved
 loop-i-preserved c =
-    let here : Measured (classes_bytes c.args.tree.now c.args.methods.now c.args.names.now c.args.places.now) c.loop-i.size
-    (class_piece c.args.tree.now c.args.methods.now (get_or c.args.names.now c.loop-i.i 0) (get_or c.args.places.now c.loop-i.i 0) ∷ pairs_from (class_piece c.args.tree.now c.args.methods.now) (c.loop-i.i + 1) c.args.names.now c.args.places.now) =
-    measured-as c.loop-i.invariant.1 (pairs_next _ c.loop-i.i _ _ c.loop-i-test.true (omega (arith, c.requires.1))) in
+    let here = measured-as c.loop-i.invariant.1 (pairs_next _ c.loop-i.i _ _ c.loop-i-test.true (omega (arith, c.requires.1))) in
     (omega arith, measured-next here _ c.class_size-size.ensures.0)
 
 pub returns : goal.returns

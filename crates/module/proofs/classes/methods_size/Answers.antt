@@ -1,10 +1,7 @@
 use native.Mathlib.Omega.{arith}
-use mathlib.Core.Path.{◌≡◌}
-use mathlib.Core.List.{◌∷◌}
 use Prim.Native.Nat.{◌+◌, ◌^◌, ◌<◌}
 use lib.ListN.{length, get_or}
-use Rattle.module.specs.Sections.{methods_bytes}
-use Rattle.module.proofs.Pieces.{pieces, pieces-next, pieces_none, Measured, measured-count, measured-as, measured-fits, measured-next, measured-done}
+use Rattle.module.proofs.Pieces.{pieces-next, pieces_none, measured-count, measured-as, measured-fits, measured-next, measured-done}
 use Rattle.module.proofs.CodeLengths.{method_piece, methods-listed, methods-room, method-size}
 use Rattle.module.proofs.classes.methods_size.Goals as goal
 
@@ -16,32 +13,26 @@ overflow_cast-words c = omega (arith, c.shared_slice_known-in-loop-i-1.given c.l
 
 pub overflow_add-size : goal.overflow_add-size
 overflow_add-size c =
-    let here : Measured (methods_bytes c.args.tree.now c.args.words.now) c.loop-i.size (method_piece c.args.tree.now (get_or c.args.words.now c.loop-i.i 0) ∷ pieces (method_piece c.args.tree.now) (c.loop-i.i + 1) c.args.words.now) =
-    measured-as c.loop-i.invariant.1 (pieces-next _ c.loop-i.i _ c.loop-i-test.true) in
+    let here = measured-as c.loop-i.invariant.1 (pieces-next _ c.loop-i.i _ c.loop-i-test.true) in
     let fits : c.loop-i.size + length (method_piece c.args.tree.now (get_or c.args.words.now c.loop-i.i 0)) < 2 ^ 64 =
     let h = methods-room c.args.tree.now c.args.words.now (λ j. (c.shared_slice_known-1.given j).fits) in
     omega (arith, measured-fits here, c.requires) in
-    let size : 3 + length c.name_part-name.result.now ≡ length (method_piece c.args.tree.now (get_or c.args.words.now c.loop-i.i 0)) =
-    method-size c.args.tree.now (get_or c.args.words.now c.loop-i.i 0) c.name_part-name.result.now c.name_part-name.ensures.result_value in
+    let size = method-size c.args.tree.now (get_or c.args.words.now c.loop-i.i 0) c.name_part-name.result.now c.name_part-name.ensures.result_value in
     omega (arith, size, fits)
 
 pub overflow_add-size-in-loop-i : goal.overflow_add-size-in-loop-i
 overflow_add-size-in-loop-i c =
-    let here : Measured (methods_bytes c.args.tree.now c.args.words.now) c.loop-i.size (method_piece c.args.tree.now (get_or c.args.words.now c.loop-i.i 0) ∷ pieces (method_piece c.args.tree.now) (c.loop-i.i + 1) c.args.words.now) =
-    measured-as c.loop-i.invariant.1 (pieces-next _ c.loop-i.i _ c.loop-i-test.true) in
+    let here = measured-as c.loop-i.invariant.1 (pieces-next _ c.loop-i.i _ c.loop-i-test.true) in
     let fits : c.loop-i.size + length (method_piece c.args.tree.now (get_or c.args.words.now c.loop-i.i 0)) < 2 ^ 64 =
     let h = methods-room c.args.tree.now c.args.words.now (λ j. (c.shared_slice_known-1.given j).fits) in
     omega (arith, measured-fits here, c.requires) in
-    let size : 3 + length c.name_part-name.result.now ≡ length (method_piece c.args.tree.now (get_or c.args.words.now c.loop-i.i 0)) =
-    method-size c.args.tree.now (get_or c.args.words.now c.loop-i.i 0) c.name_part-name.result.now c.name_part-name.ensures.result_value in
+    let size = method-size c.args.tree.now (get_or c.args.words.now c.loop-i.i 0) c.name_part-name.result.now c.name_part-name.ensures.result_value in
     omega (arith, size, fits)
 
 pub loop-i-preserved : goal.loop-i-preserved
 loop-i-preserved c =
-    let here : Measured (methods_bytes c.args.tree.now c.args.words.now) c.loop-i.size (method_piece c.args.tree.now (get_or c.args.words.now c.loop-i.i 0) ∷ pieces (method_piece c.args.tree.now) (c.loop-i.i + 1) c.args.words.now) =
-    measured-as c.loop-i.invariant.1 (pieces-next _ c.loop-i.i _ c.loop-i-test.true) in
-    let size : 3 + length c.name_part-name.result.now ≡ length (method_piece c.args.tree.now (get_or c.args.words.now c.loop-i.i 0)) =
-    method-size c.args.tree.now (get_or c.args.words.now c.loop-i.i 0) c.name_part-name.result.now c.name_part-name.ensures.result_value in
+    let here = measured-as c.loop-i.invariant.1 (pieces-next _ c.loop-i.i _ c.loop-i-test.true) in
+    let size = method-size c.args.tree.now (get_or c.args.words.now c.loop-i.i 0) c.name_part-name.result.now c.name_part-name.ensures.result_value in
     (omega arith, measured-next here _ size)
 
 pub returns : goal.returns

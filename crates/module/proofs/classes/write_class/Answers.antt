@@ -1,14 +1,12 @@
 -- the name is written
 use native.Mathlib.Omega.{arith}
-use mathlib.Core.List.{[], ◌∷◌}
 use Prim.Native.Nat.{◌≤◌}
 use lib.ListN.{length}
 use Rattle.definitions.specs.Module.{name_bytes}
 use Rattle.state.specs.Words.{name_at}
-use Rattle.module.specs.Sections.{methods_bytes}
-use Rattle.writing.proofs.Begun.{Begun, begun_first, begun-length, begun-fits, begun-piece, begun-next, begun-done}
+use Rattle.writing.proofs.Begun.{begun_first, begun-length, begun-fits, begun-piece, begun-next, begun-done}
 use Rattle.module.proofs.Lengths.{name-short, length-name, name-room, name-wrote}
-use Rattle.module.proofs.CodeLengths.{part-short, class_piece, class-pieces, length-class}
+use Rattle.module.proofs.CodeLengths.{part-short, class-pieces, length-class}
 use Rattle.module.proofs.classes.write_class.Goals as goal
 
 pub write_counted-at-requires : goal.write_counted-at-requires
@@ -19,42 +17,30 @@ write_counted-at-requires c =
 
 pub slice_bounds-write_methods-count : goal.slice_bounds-write_methods-count
 slice_bounds-write_methods-count c =
-    let named : Begun (class_piece c.args.tree.now c.args.methods.now c.args.x c.args.place) c.args.out.now c.write_counted-at.result c.write_counted-at.new.out
-    (methods_bytes c.args.tree.now c.words_part-own.result.now ∷ []) =
-    begun_first (class-pieces _ _ _ _ c.words_part-own.result.now c.words_part-own.ensures) c.requires (name-wrote c.name_part-name.ensures.result_value c.write_counted-at.ensures) in
+    let named = begun_first (class-pieces _ _ _ _ c.words_part-own.result.now c.words_part-own.ensures) c.requires (name-wrote c.name_part-name.ensures.result_value c.write_counted-at.ensures) in
     omega (arith, begun-fits named)
 
 pub slice_bounds-write_methods-start : goal.slice_bounds-write_methods-start
 slice_bounds-write_methods-start c =
-    let named : Begun (class_piece c.args.tree.now c.args.methods.now c.args.x c.args.place) c.args.out.now c.write_counted-at.result c.write_counted-at.new.out
-    (methods_bytes c.args.tree.now c.words_part-own.result.now ∷ []) =
-    begun_first (class-pieces _ _ _ _ c.words_part-own.result.now c.words_part-own.ensures) c.requires (name-wrote c.name_part-name.ensures.result_value c.write_counted-at.ensures) in
+    let named = begun_first (class-pieces _ _ _ _ c.words_part-own.result.now c.words_part-own.ensures) c.requires (name-wrote c.name_part-name.ensures.result_value c.write_counted-at.ensures) in
     omega (arith, begun-fits named)
 
 pub write_methods-requires : goal.write_methods-requires
 write_methods-requires c =
-    let named : Begun (class_piece c.args.tree.now c.args.methods.now c.args.x c.args.place) c.args.out.now c.write_counted-at.result c.write_counted-at.new.out
-    (methods_bytes c.args.tree.now c.words_part-own.result.now ∷ []) =
-    begun_first (class-pieces _ _ _ _ c.words_part-own.result.now c.words_part-own.ensures) c.requires (name-wrote c.name_part-name.ensures.result_value c.write_counted-at.ensures) in
+    let named = begun_first (class-pieces _ _ _ _ c.words_part-own.result.now c.words_part-own.ensures) c.requires (name-wrote c.name_part-name.ensures.result_value c.write_counted-at.ensures) in
     let a = c.args in (part-short a.place a.methods.now _ c.words_part-own.ensures, begun-piece named)
 
 pub overflow_add-result : goal.overflow_add-result
 overflow_add-result c =
-    let named : Begun (class_piece c.args.tree.now c.args.methods.now c.args.x c.args.place) c.args.out.now c.write_counted-at.result c.write_counted-at.new.out
-    (methods_bytes c.args.tree.now c.words_part-own.result.now ∷ []) =
-    begun_first (class-pieces _ _ _ _ c.words_part-own.result.now c.words_part-own.ensures) c.requires (name-wrote c.name_part-name.ensures.result_value c.write_counted-at.ensures) in
+    let named = begun_first (class-pieces _ _ _ _ c.words_part-own.result.now c.words_part-own.ensures) c.requires (name-wrote c.name_part-name.ensures.result_value c.write_counted-at.ensures) in
     let b = named in omega (arith, begun-fits b, begun-length b, c.write_methods.ensures.count, c.well_formed)
 
 pub shape_of-out : goal.shape_of-out
 shape_of-out c =
-    let named : Begun (class_piece c.args.tree.now c.args.methods.now c.args.x c.args.place) c.args.out.now c.write_counted-at.result c.write_counted-at.new.out
-    (methods_bytes c.args.tree.now c.words_part-own.result.now ∷ []) =
-    begun_first (class-pieces _ _ _ _ c.words_part-own.result.now c.words_part-own.ensures) c.requires (name-wrote c.name_part-name.ensures.result_value c.write_counted-at.ensures) in
+    let named = begun_first (class-pieces _ _ _ _ c.words_part-own.result.now c.words_part-own.ensures) c.requires (name-wrote c.name_part-name.ensures.result_value c.write_counted-at.ensures) in
     begun-length (begun-next named c.write_methods.ensures)
 
 pub returns : goal.returns
 returns c =
-    let named : Begun (class_piece c.args.tree.now c.args.methods.now c.args.x c.args.place) c.args.out.now c.write_counted-at.result c.write_counted-at.new.out
-    (methods_bytes c.args.tree.now c.words_part-own.result.now ∷ []) =
-    begun_first (class-pieces _ _ _ _ c.words_part-own.result.now c.words_part-own.ensures) c.requires (name-wrote c.name_part-name.ensures.result_value c.write_counted-at.ensures) in
+    let named = begun_first (class-pieces _ _ _ _ c.words_part-own.result.now c.words_part-own.ensures) c.requires (name-wrote c.name_part-name.ensures.result_value c.write_counted-at.ensures) in
     begun-done (begun-next named c.write_methods.ensures)

@@ -1,11 +1,9 @@
 use native.Mathlib.Omega.{arith}
 use mathlib.Core.Path.{◌∙◌}
-use mathlib.Core.List.{◌∷◌}
 use Prim.Native.Nat.{◌+◌, ◌^◌, ◌<◌}
 use lib.ListN.{length, get_or}
-use Rattle.module.specs.Sections.{methods_bytes}
-use Rattle.writing.proofs.Begun.{Begun, begun_first, begun-now, begun-back, begun-as, begun-length, begun-fits, begun-piece, begun-next, begun-done}
-use Rattle.module.proofs.Pieces.{pieces, pieces-next, pieces_none}
+use Rattle.writing.proofs.Begun.{begun_first, begun-now, begun-back, begun-as, begun-length, begun-fits, begun-piece, begun-next, begun-done}
+use Rattle.module.proofs.Pieces.{pieces-next, pieces_none}
 use Rattle.module.proofs.CodeLengths.{method_piece, methods-listed, methods-two}
 use Rattle.module.proofs.classes.write_methods.Goals as goal
 
@@ -14,52 +12,43 @@ write_number-at-requires c = omega (arith, c.requires.1, methods-two c.args.tree
 
 pub loop-i-init : goal.loop-i-init
 loop-i-init c =
-    let counted : Begun (methods_bytes c.args.tree.now c.args.words.now) c.args.out.now c.write_number-at.result c.write_number-at.new.out (pieces (method_piece c.args.tree.now) 0 c.args.words.now) =
-    begun_first (methods-listed _ _) c.requires.1 c.write_number-at.ensures in
+    let counted = begun_first (methods-listed _ _) c.requires.1 c.write_number-at.ensures in
     (omega arith, begun-now counted)
 
 pub slice_bounds-write_method-count : goal.slice_bounds-write_method-count
 slice_bounds-write_method-count c =
-    let here : Begun (methods_bytes c.args.tree.now c.args.words.now) c.write_number-at.new.out c.loop-i.at c.loop-i.out (method_piece c.args.tree.now (get_or c.args.words.now c.loop-i.i 0) ∷ pieces (method_piece c.args.tree.now) (c.loop-i.i + 1) c.args.words.now) =
-    begun-as c.loop-i.invariant.1 _ (pieces-next _ c.loop-i.i _ c.loop-i-test.true) in
+    let here = begun-as c.loop-i.invariant.1 _ (pieces-next _ c.loop-i.i _ c.loop-i-test.true) in
     omega (arith, begun-fits here)
 
 pub slice_bounds-write_method-start : goal.slice_bounds-write_method-start
 slice_bounds-write_method-start c =
-    let here : Begun (methods_bytes c.args.tree.now c.args.words.now) c.write_number-at.new.out c.loop-i.at c.loop-i.out (method_piece c.args.tree.now (get_or c.args.words.now c.loop-i.i 0) ∷ pieces (method_piece c.args.tree.now) (c.loop-i.i + 1) c.args.words.now) =
-    begun-as c.loop-i.invariant.1 _ (pieces-next _ c.loop-i.i _ c.loop-i-test.true) in
+    let here = begun-as c.loop-i.invariant.1 _ (pieces-next _ c.loop-i.i _ c.loop-i-test.true) in
     omega (arith, begun-fits here)
 
 pub write_method-at-requires : goal.write_method-at-requires
 write_method-at-requires c =
-    let here : Begun (methods_bytes c.args.tree.now c.args.words.now) c.write_number-at.new.out c.loop-i.at c.loop-i.out (method_piece c.args.tree.now (get_or c.args.words.now c.loop-i.i 0) ∷ pieces (method_piece c.args.tree.now) (c.loop-i.i + 1) c.args.words.now) =
-    begun-as c.loop-i.invariant.1 _ (pieces-next _ c.loop-i.i _ c.loop-i-test.true) in
+    let here = begun-as c.loop-i.invariant.1 _ (pieces-next _ c.loop-i.i _ c.loop-i-test.true) in
     begun-piece here
 
 pub overflow_add-at : goal.overflow_add-at
 overflow_add-at c =
-    let counted : Begun (methods_bytes c.args.tree.now c.args.words.now) c.args.out.now c.write_number-at.result c.write_number-at.new.out (pieces (method_piece c.args.tree.now) 0 c.args.words.now) =
-    begun_first (methods-listed _ _) c.requires.1 c.write_number-at.ensures in
-    let here : Begun (methods_bytes c.args.tree.now c.args.words.now) c.write_number-at.new.out c.loop-i.at c.loop-i.out (method_piece c.args.tree.now (get_or c.args.words.now c.loop-i.i 0) ∷ pieces (method_piece c.args.tree.now) (c.loop-i.i + 1) c.args.words.now) =
-    begun-as c.loop-i.invariant.1 _ (pieces-next _ c.loop-i.i _ c.loop-i-test.true) in
+    let counted = begun_first (methods-listed _ _) c.requires.1 c.write_number-at.ensures in
+    let here = begun-as c.loop-i.invariant.1 _ (pieces-next _ c.loop-i.i _ c.loop-i-test.true) in
     let fits : c.loop-i.at + length (method_piece c.args.tree.now (get_or c.args.words.now c.loop-i.i 0)) < 2 ^ 64 =
     omega (arith, begun-fits here, begun-length here, begun-length counted, c.well_formed) in
     omega (arith, c.write_method-at.ensures.count, fits)
 
 pub loop-i-preserved : goal.loop-i-preserved
 loop-i-preserved c =
-    let here : Begun (methods_bytes c.args.tree.now c.args.words.now) c.write_number-at.new.out c.loop-i.at c.loop-i.out (method_piece c.args.tree.now (get_or c.args.words.now c.loop-i.i 0) ∷ pieces (method_piece c.args.tree.now) (c.loop-i.i + 1) c.args.words.now) =
-    begun-as c.loop-i.invariant.1 _ (pieces-next _ c.loop-i.i _ c.loop-i-test.true) in
+    let here = begun-as c.loop-i.invariant.1 _ (pieces-next _ c.loop-i.i _ c.loop-i-test.true) in
     (omega arith, begun-next here c.write_method-at.ensures)
 
 pub shape_of-out : goal.shape_of-out
 shape_of-out c =
-    let counted : Begun (methods_bytes c.args.tree.now c.args.words.now) c.args.out.now c.write_number-at.result c.write_number-at.new.out (pieces (method_piece c.args.tree.now) 0 c.args.words.now) =
-    begun_first (methods-listed _ _) c.requires.1 c.write_number-at.ensures in
+    let counted = begun_first (methods-listed _ _) c.requires.1 c.write_number-at.ensures in
     begun-length c.loop-i.invariant.1 ∙ begun-length counted
 
 pub returns : goal.returns
 returns c =
-    let counted : Begun (methods_bytes c.args.tree.now c.args.words.now) c.args.out.now c.write_number-at.result c.write_number-at.new.out (pieces (method_piece c.args.tree.now) 0 c.args.words.now) =
-    begun_first (methods-listed _ _) c.requires.1 c.write_number-at.ensures in
+    let counted = begun_first (methods-listed _ _) c.requires.1 c.write_number-at.ensures in
     begun-back counted (begun-done (begun-as c.loop-i.invariant.1 _ (pieces_none _ c.loop-i.i _ c.loop-i-test.false)))

@@ -1,10 +1,8 @@
 -- functions and classes are measured
 use native.Mathlib.Omega.{arith}
-use mathlib.Core.Path.{◌≡◌, refl, ap₂, ◌∙◌}
-use Prim.Native.Nat.{ℕ, ◌+◌, ◌*◌, ◌<◌, ◌^◌}
-use lib.ListN.{length}
+use mathlib.Core.Path.{refl, ap₂, ◌∙◌}
+use Prim.Native.Nat.{ℕ, ◌+◌, ◌*◌}
 use Rattle.state.specs.State.{codes_from, class_names_from}
-use Rattle.module.specs.Sections.{bodies_bytes}
 use Rattle.module.proofs.Whole.{few, finished-are, same-functions, same-classes, length-bodies, bodies-room}
 use Rattle.module.proofs.sections.bodies_size.Goals as goal
 
@@ -20,56 +18,48 @@ classes_size-classes-requires c =
 
 pub overflow_add-result : goal.overflow_add-result
 overflow_add-result c =
-    let sized : c.functions_size-functions.result + c.classes_size-classes.result + 2 + 2 * c.args.c.constants ≡ length (bodies_bytes c.args.tree.now c.args.code.now c.args.tables.now c.args.c) =
-    let ks = c.words_part-codes.ensures in
+    let sized = let ks = c.words_part-codes.ensures in
     let xs = c.words_part-names.ensures in
     let ps = c.words_part-places.ensures in
     ap₂ (λ (x y : ℕ). x + y + 2 + 2 * c.args.c.constants)
     (c.functions_size-functions.ensures c.args.tree.now _ (same-functions c.args.tree.now c.args.code.now c.args.tables.now c.args.c (finished-are c.args.code.now) refl ks c.words_part-methods.ensures xs ps c.requires))
     c.classes_size-classes.ensures
     ∙ length-bodies c.args.tree.now c.args.code.now c.args.tables.now c.args.c (finished-are c.args.code.now) refl ks c.words_part-methods.ensures xs ps c.requires in
-    let room : length (bodies_bytes c.args.tree.now c.args.code.now c.args.tables.now c.args.c) < 2 ^ 31 =
-    bodies-room c.args.tree.now c.args.code.now c.args.tables.now c.args.c refl refl refl refl refl refl (λ j. (c.shared_slice_known-1.given j).fits) c.requires in
+    let room = bodies-room c.args.tree.now c.args.code.now c.args.tables.now c.args.c refl refl refl refl refl refl (λ j. (c.shared_slice_known-1.given j).fits) c.requires in
     omega (arith, sized, room)
 
 pub overflow_add-result-2 : goal.overflow_add-result-2
 overflow_add-result-2 c =
-    let sized : c.functions_size-functions.result + c.classes_size-classes.result + 2 + 2 * c.args.c.constants ≡ length (bodies_bytes c.args.tree.now c.args.code.now c.args.tables.now c.args.c) =
-    let ks = c.words_part-codes.ensures in
+    let sized = let ks = c.words_part-codes.ensures in
     let xs = c.words_part-names.ensures in
     let ps = c.words_part-places.ensures in
     ap₂ (λ (x y : ℕ). x + y + 2 + 2 * c.args.c.constants)
     (c.functions_size-functions.ensures c.args.tree.now _ (same-functions c.args.tree.now c.args.code.now c.args.tables.now c.args.c (finished-are c.args.code.now) refl ks c.words_part-methods.ensures xs ps c.requires))
     c.classes_size-classes.ensures
     ∙ length-bodies c.args.tree.now c.args.code.now c.args.tables.now c.args.c (finished-are c.args.code.now) refl ks c.words_part-methods.ensures xs ps c.requires in
-    let room : length (bodies_bytes c.args.tree.now c.args.code.now c.args.tables.now c.args.c) < 2 ^ 31 =
-    bodies-room c.args.tree.now c.args.code.now c.args.tables.now c.args.c refl refl refl refl refl refl (λ j. (c.shared_slice_known-1.given j).fits) c.requires in
+    let room = bodies-room c.args.tree.now c.args.code.now c.args.tables.now c.args.c refl refl refl refl refl refl (λ j. (c.shared_slice_known-1.given j).fits) c.requires in
     omega (arith, sized, room)
 
 pub overflow_add-result-3 : goal.overflow_add-result-3
 overflow_add-result-3 c =
-    let sized : c.functions_size-functions.result + c.classes_size-classes.result + 2 + 2 * c.args.c.constants ≡ length (bodies_bytes c.args.tree.now c.args.code.now c.args.tables.now c.args.c) =
-    let ks = c.words_part-codes.ensures in
+    let sized = let ks = c.words_part-codes.ensures in
     let xs = c.words_part-names.ensures in
     let ps = c.words_part-places.ensures in
     ap₂ (λ (x y : ℕ). x + y + 2 + 2 * c.args.c.constants)
     (c.functions_size-functions.ensures c.args.tree.now _ (same-functions c.args.tree.now c.args.code.now c.args.tables.now c.args.c (finished-are c.args.code.now) refl ks c.words_part-methods.ensures xs ps c.requires))
     c.classes_size-classes.ensures
     ∙ length-bodies c.args.tree.now c.args.code.now c.args.tables.now c.args.c (finished-are c.args.code.now) refl ks c.words_part-methods.ensures xs ps c.requires in
-    let room : length (bodies_bytes c.args.tree.now c.args.code.now c.args.tables.now c.args.c) < 2 ^ 31 =
-    bodies-room c.args.tree.now c.args.code.now c.args.tables.now c.args.c refl refl refl refl refl refl (λ j. (c.shared_slice_known-1.given j).fits) c.requires in
+    let room = bodies-room c.args.tree.now c.args.code.now c.args.tables.now c.args.c refl refl refl refl refl refl (λ j. (c.shared_slice_known-1.given j).fits) c.requires in
     omega (arith, sized, room)
 
 pub returns : goal.returns
 returns c =
-    let sized : c.functions_size-functions.result + c.classes_size-classes.result + 2 + 2 * c.args.c.constants ≡ length (bodies_bytes c.args.tree.now c.args.code.now c.args.tables.now c.args.c) =
-    let ks = c.words_part-codes.ensures in
+    let sized = let ks = c.words_part-codes.ensures in
     let xs = c.words_part-names.ensures in
     let ps = c.words_part-places.ensures in
     ap₂ (λ (x y : ℕ). x + y + 2 + 2 * c.args.c.constants)
     (c.functions_size-functions.ensures c.args.tree.now _ (same-functions c.args.tree.now c.args.code.now c.args.tables.now c.args.c (finished-are c.args.code.now) refl ks c.words_part-methods.ensures xs ps c.requires))
     c.classes_size-classes.ensures
     ∙ length-bodies c.args.tree.now c.args.code.now c.args.tables.now c.args.c (finished-are c.args.code.now) refl ks c.words_part-methods.ensures xs ps c.requires in
-    let room : length (bodies_bytes c.args.tree.now c.args.code.now c.args.tables.now c.args.c) < 2 ^ 31 =
-    bodies-room c.args.tree.now c.args.code.now c.args.tables.now c.args.c refl refl refl refl refl refl (λ j. (c.shared_slice_known-1.given j).fits) c.requires in
+    let room = bodies-room c.args.tree.now c.args.code.now c.args.tables.now c.args.c refl refl refl refl refl refl (λ j. (c.shared_slice_known-1.given j).fits) c.requires in
     (sized, omega (arith, sized, room))

@@ -1,9 +1,7 @@
 use native.Mathlib.Omega.{arith}
 use mathlib.Core.Path.{ap₂, ◌∙◌}
-use Prim.Native.Nat.{ℕ, ◌+◌, ◌<◌, ◌^◌}
-use lib.ListN.{length}
+use Prim.Native.Nat.{ℕ, ◌+◌}
 use Rattle.state.specs.State.{strings_from}
-use Rattle.module.specs.Sections.{symbol_bytes, string_bytes}
 use Rattle.module.proofs.Whole.{few, length-texts, texts-room}
 use Rattle.module.proofs.sections.texts_size.Goals as goal
 
@@ -15,15 +13,13 @@ strings_size-requires c = omega (arith, few strings_from 512 c.args.tables.now c
 
 pub overflow_add-result : goal.overflow_add-result
 overflow_add-result c =
-    let room : length (symbol_bytes c.args.tree.now c.args.made.now c.words_part-symbols.result.now) + length (string_bytes c.args.tree.now c.words_part-strings.result.now) < 2 ^ 30 =
-    texts-room c.args.tree.now c.args.made.now c.args.tables.now c.args.c c.words_part-symbols.ensures c.words_part-strings.ensures
+    let room = texts-room c.args.tree.now c.args.made.now c.args.tables.now c.args.c c.words_part-symbols.ensures c.words_part-strings.ensures
     (λ j. (c.shared_slice_known-1.given j).fits) (λ j. (c.shared_slice_known-2-1.given j).fits) c.requires.0 c.requires.1 in
     omega (arith, room, c.strings_size.ensures, c.symbols_size.ensures)
 
 pub returns : goal.returns
 returns c =
-    let room : length (symbol_bytes c.args.tree.now c.args.made.now c.words_part-symbols.result.now) + length (string_bytes c.args.tree.now c.words_part-strings.result.now) < 2 ^ 30 =
-    texts-room c.args.tree.now c.args.made.now c.args.tables.now c.args.c c.words_part-symbols.ensures c.words_part-strings.ensures
+    let room = texts-room c.args.tree.now c.args.made.now c.args.tables.now c.args.c c.words_part-symbols.ensures c.words_part-strings.ensures
     (λ j. (c.shared_slice_known-1.given j).fits) (λ j. (c.shared_slice_known-2-1.given j).fits) c.requires.0 c.requires.1 in
     let a = c.args in (
       ap₂ (λ (x y : ℕ). x + y) c.symbols_size.ensures c.strings_size.ensures

@@ -1,9 +1,7 @@
 use native.Mathlib.Omega.{arith}
-use mathlib.Core.List.{◌∷◌}
 use Prim.Native.Nat.{◌+◌, ◌^◌, ◌<◌}
 use lib.ListN.{length, get_or}
-use Rattle.module.specs.Sections.{string_bytes}
-use Rattle.module.proofs.Pieces.{pieces, pieces-next, pieces_none, Measured, measured-count, measured-as, measured-fits, measured-next, measured-done}
+use Rattle.module.proofs.Pieces.{pieces-next, pieces_none, measured-count, measured-as, measured-fits, measured-next, measured-done}
 use Rattle.module.proofs.Lengths.{text-size, string_piece, strings-listed, strings-room}
 use Rattle.module.proofs.symbols.strings_size.Goals as goal
 
@@ -15,8 +13,7 @@ overflow_cast-entries c = omega (arith, c.shared_slice_known-in-loop-i-1.given c
 
 pub overflow_add-size : goal.overflow_add-size
 overflow_add-size c =
-    let here : Measured (string_bytes c.args.tree.now c.args.entries.now) c.loop-i.size (string_piece c.args.tree.now (get_or c.args.entries.now c.loop-i.i 0) ∷ pieces (string_piece c.args.tree.now) (c.loop-i.i + 1) c.args.entries.now) =
-    measured-as c.loop-i.invariant.1 (pieces-next _ c.loop-i.i _ c.loop-i-test.true) in
+    let here = measured-as c.loop-i.invariant.1 (pieces-next _ c.loop-i.i _ c.loop-i-test.true) in
     let fits : c.loop-i.size + length (string_piece c.args.tree.now (get_or c.args.entries.now c.loop-i.i 0)) < 2 ^ 64 =
     let h = strings-room c.args.tree.now c.args.entries.now (λ j. (c.shared_slice_known-1.given j).fits) in
     omega (arith, measured-fits here, c.requires) in
@@ -24,8 +21,7 @@ overflow_add-size c =
 
 pub overflow_add-size-in-loop-i : goal.overflow_add-size-in-loop-i
 overflow_add-size-in-loop-i c =
-    let here : Measured (string_bytes c.args.tree.now c.args.entries.now) c.loop-i.size (string_piece c.args.tree.now (get_or c.args.entries.now c.loop-i.i 0) ∷ pieces (string_piece c.args.tree.now) (c.loop-i.i + 1) c.args.entries.now) =
-    measured-as c.loop-i.invariant.1 (pieces-next _ c.loop-i.i _ c.loop-i-test.true) in
+    let here = measured-as c.loop-i.invariant.1 (pieces-next _ c.loop-i.i _ c.loop-i-test.true) in
     let fits : c.loop-i.size + length (string_piece c.args.tree.now (get_or c.args.entries.now c.loop-i.i 0)) < 2 ^ 64 =
     let h = strings-room c.args.tree.now c.args.entries.now (λ j. (c.shared_slice_known-1.given j).fits) in
     omega (arith, measured-fits here, c.requires) in
@@ -33,8 +29,7 @@ overflow_add-size-in-loop-i c =
 
 pub loop-i-preserved : goal.loop-i-preserved
 loop-i-preserved c =
-    let here : Measured (string_bytes c.args.tree.now c.args.entries.now) c.loop-i.size (string_piece c.args.tree.now (get_or c.args.entries.now c.loop-i.i 0) ∷ pieces (string_piece c.args.tree.now) (c.loop-i.i + 1) c.args.entries.now) =
-    measured-as c.loop-i.invariant.1 (pieces-next _ c.loop-i.i _ c.loop-i-test.true) in
+    let here = measured-as c.loop-i.invariant.1 (pieces-next _ c.loop-i.i _ c.loop-i-test.true) in
     (omega arith, measured-next here _ (text-size c.text_part-text.ensures.result_value))
 
 pub returns : goal.returns

@@ -1,9 +1,7 @@
 use native.Mathlib.Omega.{arith}
-use mathlib.Core.List.{◌∷◌}
 use Prim.Native.Nat.{◌+◌, ◌^◌, ◌<◌}
 use lib.ListN.{length, get_or}
-use Rattle.module.specs.Sections.{symbol_bytes}
-use Rattle.module.proofs.Pieces.{pieces, pieces-next, pieces_none, Measured, measured-count, measured-as, measured-fits, measured-next, measured-done}
+use Rattle.module.proofs.Pieces.{pieces-next, pieces_none, measured-count, measured-as, measured-fits, measured-next, measured-done}
 use Rattle.module.proofs.Lengths.{name-size, symbol_piece, symbols-listed, symbols-room}
 use Rattle.module.proofs.symbols.symbols_size.Goals as goal
 
@@ -12,9 +10,7 @@ loop-i-init c = (omega arith, measured-count (length c.args.entries.now) (symbol
 
 pub overflow_add-size : goal.overflow_add-size
 overflow_add-size c =
-    let here : Measured (symbol_bytes c.args.tree.now c.args.made.now c.args.entries.now) c.loop-i.size
-    (symbol_piece c.args.tree.now c.args.made.now (get_or c.args.entries.now c.loop-i.i 0) ∷ pieces (symbol_piece c.args.tree.now c.args.made.now) (c.loop-i.i + 1) c.args.entries.now) =
-    measured-as c.loop-i.invariant.1 (pieces-next _ c.loop-i.i _ c.loop-i-test.true) in
+    let here = measured-as c.loop-i.invariant.1 (pieces-next _ c.loop-i.i _ c.loop-i-test.true) in
     let fits : c.loop-i.size + length (symbol_piece c.args.tree.now c.args.made.now (get_or c.args.entries.now c.loop-i.i 0)) < 2 ^ 64 =
     let h = symbols-room c.args.tree.now c.args.made.now c.args.entries.now (λ j. (c.shared_slice_known-1.given j).fits) (λ j. (c.shared_slice_known-2-1.given j).fits) in
     omega (arith, measured-fits here, c.requires) in
@@ -22,9 +18,7 @@ overflow_add-size c =
 
 pub overflow_add-size-in-loop-i : goal.overflow_add-size-in-loop-i
 overflow_add-size-in-loop-i c =
-    let here : Measured (symbol_bytes c.args.tree.now c.args.made.now c.args.entries.now) c.loop-i.size
-    (symbol_piece c.args.tree.now c.args.made.now (get_or c.args.entries.now c.loop-i.i 0) ∷ pieces (symbol_piece c.args.tree.now c.args.made.now) (c.loop-i.i + 1) c.args.entries.now) =
-    measured-as c.loop-i.invariant.1 (pieces-next _ c.loop-i.i _ c.loop-i-test.true) in
+    let here = measured-as c.loop-i.invariant.1 (pieces-next _ c.loop-i.i _ c.loop-i-test.true) in
     let fits : c.loop-i.size + length (symbol_piece c.args.tree.now c.args.made.now (get_or c.args.entries.now c.loop-i.i 0)) < 2 ^ 64 =
     let h = symbols-room c.args.tree.now c.args.made.now c.args.entries.now (λ j. (c.shared_slice_known-1.given j).fits) (λ j. (c.shared_slice_known-2-1.given j).fits) in
     omega (arith, measured-fits here, c.requires) in
@@ -32,9 +26,7 @@ overflow_add-size-in-loop-i c =
 
 pub loop-i-preserved : goal.loop-i-preserved
 loop-i-preserved c =
-    let here : Measured (symbol_bytes c.args.tree.now c.args.made.now c.args.entries.now) c.loop-i.size
-    (symbol_piece c.args.tree.now c.args.made.now (get_or c.args.entries.now c.loop-i.i 0) ∷ pieces (symbol_piece c.args.tree.now c.args.made.now) (c.loop-i.i + 1) c.args.entries.now) =
-    measured-as c.loop-i.invariant.1 (pieces-next _ c.loop-i.i _ c.loop-i-test.true) in
+    let here = measured-as c.loop-i.invariant.1 (pieces-next _ c.loop-i.i _ c.loop-i-test.true) in
     (omega arith, measured-next here _ (name-size c.spelling-name.ensures.result_value))
 
 pub returns : goal.returns

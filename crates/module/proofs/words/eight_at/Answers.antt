@@ -1,6 +1,6 @@
 use native.Mathlib.Omega.{arith}
 use mathlib.Core.Path.{sym, ap, ◌∙◌}
-use Prim.Native.Nat.{ℕ, ◌+◌, ◌*◌, ◌-◌, ◌^◌, ◌<◌}
+use Prim.Native.Nat.{ℕ, ◌+◌, ◌*◌, ◌-◌, ◌^◌}
 use Rattle.state.specs.Words.{number_at}
 use Rattle.module.proofs.Encoding.{horner, grows, small_one, number-start, number-all}
 use Rattle.module.proofs.words.eight_at.Goals as goal
@@ -10,8 +10,7 @@ loop-i-init c = (omega arith, omega arith, number-start c.args.bytes.now c.args.
 
 pub overflow_mul-n : goal.overflow_mul-n
 overflow_mul-n c =
-    let room : c.loop-i.n < 2 ^ 56 =
-    small_one c.loop-i.n c.loop-i.i c.loop-i-test.true c.loop-i.invariant.1 in
+    let room = small_one c.loop-i.n c.loop-i.i c.loop-i-test.true c.loop-i.invariant.1 in
     omega (arith, room)
 
 pub overflow_add-at : goal.overflow_add-at
@@ -19,8 +18,7 @@ overflow_add-at c = omega (arith, c.requires)
 
 pub overflow_add-n : goal.overflow_add-n
 overflow_add-n c =
-    let room : c.loop-i.n < 2 ^ 56 =
-    small_one c.loop-i.n c.loop-i.i c.loop-i-test.true c.loop-i.invariant.1 in
+    let room = small_one c.loop-i.n c.loop-i.i c.loop-i-test.true c.loop-i.invariant.1 in
     omega (arith, room, c.byte.type_inv)
 
 pub loop-i-preserved : goal.loop-i-preserved

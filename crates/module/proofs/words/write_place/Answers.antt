@@ -1,53 +1,40 @@
 -- the opcode is written
 use native.Mathlib.Omega.{arith}
-use Prim.Native.Nat.{◌/◌, ◌%◌}
-use mathlib.Core.List.{[], ◌∷◌}
-use lib.ListN.{set}
-use Rattle.definitions.specs.Bytes.{be}
-use Rattle.definitions.specs.Instruction.{encode}
-use Rattle.state.specs.Words.{number_at, instr_of}
-use Rattle.writing.proofs.Begun.{Begun, begun-length, begun-fits, begun-number, begun-next, begun-done}
+use Rattle.writing.proofs.Begun.{begun-length, begun-fits, begun-number, begun-next, begun-done}
 use Rattle.module.proofs.Encoding.{begun-place}
 use Rattle.module.proofs.words.write_place.Goals as goal
 
 pub bounds-out-0 : goal.bounds-out-0
 bounds-out-0 c =
-    let begun : Begun (encode (instr_of c.args.tree.now c.args.w)) c.args.out.now 1 (set c.args.out.now 0 (c.args.w / 16777216)) (be 8 (number_at 8 c.args.tree.now (c.args.w / 256 % 65536)) ∷ []) =
-    begun-place c.args.tree.now c.args.out.now c.args.w c.requires.0 c.requires.1 in
+    let begun = begun-place c.args.tree.now c.args.out.now c.args.w c.requires.0 c.requires.1 in
     omega (arith, begun-fits begun, begun-length begun)
 
 pub slice_bounds-write_literal-count : goal.slice_bounds-write_literal-count
 slice_bounds-write_literal-count c =
-    let begun : Begun (encode (instr_of c.args.tree.now c.args.w)) c.args.out.now 1 (set c.args.out.now 0 (c.args.w / 16777216)) (be 8 (number_at 8 c.args.tree.now (c.args.w / 256 % 65536)) ∷ []) =
-    begun-place c.args.tree.now c.args.out.now c.args.w c.requires.0 c.requires.1 in
+    let begun = begun-place c.args.tree.now c.args.out.now c.args.w c.requires.0 c.requires.1 in
     omega (arith, begun-fits begun)
 
 pub slice_bounds-write_literal-start : goal.slice_bounds-write_literal-start
 slice_bounds-write_literal-start c =
-    let begun : Begun (encode (instr_of c.args.tree.now c.args.w)) c.args.out.now 1 (set c.args.out.now 0 (c.args.w / 16777216)) (be 8 (number_at 8 c.args.tree.now (c.args.w / 256 % 65536)) ∷ []) =
-    begun-place c.args.tree.now c.args.out.now c.args.w c.requires.0 c.requires.1 in
+    let begun = begun-place c.args.tree.now c.args.out.now c.args.w c.requires.0 c.requires.1 in
     omega (arith, begun-fits begun)
 
 pub write_literal-requires : goal.write_literal-requires
 write_literal-requires c =
-    let begun : Begun (encode (instr_of c.args.tree.now c.args.w)) c.args.out.now 1 (set c.args.out.now 0 (c.args.w / 16777216)) (be 8 (number_at 8 c.args.tree.now (c.args.w / 256 % 65536)) ∷ []) =
-    begun-place c.args.tree.now c.args.out.now c.args.w c.requires.0 c.requires.1 in
+    let begun = begun-place c.args.tree.now c.args.out.now c.args.w c.requires.0 c.requires.1 in
     begun-number _ _ begun
 
 pub overflow_add-result : goal.overflow_add-result
 overflow_add-result c =
-    let begun : Begun (encode (instr_of c.args.tree.now c.args.w)) c.args.out.now 1 (set c.args.out.now 0 (c.args.w / 16777216)) (be 8 (number_at 8 c.args.tree.now (c.args.w / 256 % 65536)) ∷ []) =
-    begun-place c.args.tree.now c.args.out.now c.args.w c.requires.0 c.requires.1 in
+    let begun = begun-place c.args.tree.now c.args.out.now c.args.w c.requires.0 c.requires.1 in
     omega (arith, (begun-done (begun-next begun c.write_literal.ensures)).count, c.requires.1, c.well_formed)
 
 pub shape_of-out : goal.shape_of-out
 shape_of-out c =
-    let begun : Begun (encode (instr_of c.args.tree.now c.args.w)) c.args.out.now 1 (set c.args.out.now 0 (c.args.w / 16777216)) (be 8 (number_at 8 c.args.tree.now (c.args.w / 256 % 65536)) ∷ []) =
-    begun-place c.args.tree.now c.args.out.now c.args.w c.requires.0 c.requires.1 in
+    let begun = begun-place c.args.tree.now c.args.out.now c.args.w c.requires.0 c.requires.1 in
     begun-length (begun-next begun c.write_literal.ensures)
 
 pub returns : goal.returns
 returns c =
-    let begun : Begun (encode (instr_of c.args.tree.now c.args.w)) c.args.out.now 1 (set c.args.out.now 0 (c.args.w / 16777216)) (be 8 (number_at 8 c.args.tree.now (c.args.w / 256 % 65536)) ∷ []) =
-    begun-place c.args.tree.now c.args.out.now c.args.w c.requires.0 c.requires.1 in
+    let begun = begun-place c.args.tree.now c.args.out.now c.args.w c.requires.0 c.requires.1 in
     begun-done (begun-next begun c.write_literal.ensures)
