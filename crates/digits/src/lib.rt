@@ -26,6 +26,7 @@ pub fn narrow(c: u32) -> u8
 }
 
 // The value of a hexadecimal digit in lower case; 16 of any other character.
+#[tactic(auto, unfolding(crate::specs::Text::digit_value))]
 pub fn digit_of(c: u32) -> u32
     ensures { result ≡ digit_value c }
 {

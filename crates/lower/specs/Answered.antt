@@ -1,6 +1,6 @@
 -- What stands at the start of a buffer.
 use Rattle.std.specs.Prelude.{ℕ, ◌≡◌, List, take}
-use Rattle.io.specs.Counts.{IsPrefixLen}
+use Rattle.input.specs.Counts.{IsPrefixLen}
 
 -- the first n bytes are these
 pub record Answered (n : ℕ) (out bs : List ℕ) : Type 0 where

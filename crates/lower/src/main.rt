@@ -6,10 +6,11 @@ ghost use Rattle.definitions.specs.Bytes.{ascii, decimal};
 ghost use Rattle.definitions.specs.Calls.{lower_program};
 ghost use Rattle.lower.specs.Answered.{Answered};
 
-use libc::{STDERR_FILENO, STDIN_FILENO, STDOUT_FILENO};
+use input::read_full;
 use limits::Limits;
 use lowering::Lowered;
 use names::making::{paste, paste_decimal};
+use std::io;
 
 // The line of a refusal at the output's start, and how many bytes it has.
 fn refusal(q: u32, out: &mut [u8]) -> usize
@@ -37,12 +38,13 @@ fn answer(input: &[u8], out: &mut [u8]) -> usize
 
 // One byte more than the longest tree, so that a longer one is refused. An output that takes only a part of a module can't pass for one: a module's
 // first bytes count the rest.
-fn main() {
+fn main(rt: HostRuntime) -> io::Result<()> {
     let mut input = [0u8; 32769];
-    let size = io::read_full(STDIN_FILENO, &mut input);
+    let size = read_full(&mut rt.stdin(), &mut input);
     let mut out = [0u8; 65536];
     let n = answer(&input[..size], &mut out);
-    if !io::write_all(STDOUT_FILENO, &out[..n]) {
-        io::write_all(STDERR_FILENO, b"lower: standard output can't be written\n");
+    if rt.write_all(&out[..n]).is_err() {
+        rt.eprintln("lower: standard output can't be written")?;
     }
+    Ok(())
 }

@@ -1,20 +1,20 @@
 // Answers on standard output.
 #![tactic(auto)]
 
-use libc::STDOUT_FILENO;
+use std::io;
 
-pub fn text(bytes: &[u8]) {
-    io::write_all(STDOUT_FILENO, bytes);
+pub fn text(rt: &impl Print, bytes: &[u8]) -> io::Result<()> {
+    rt.write_all(bytes)
 }
 
-pub fn number(n: u64) {
-    io::print_decimal(STDOUT_FILENO, n);
+pub fn number(rt: &impl Print, n: u64) -> io::Result<()> {
+    rt.print(n)
 }
 
 // `refused` and the question's number.
-pub fn refused(q: u64) {
-    text(b"refused ");
-    number(q);
+pub fn refused(rt: &impl Print, q: u64) -> io::Result<()> {
+    text(rt, b"refused ")?;
+    number(rt, q)
 }
 
 fn wide(x: u8) -> u64 {
@@ -22,16 +22,18 @@ fn wide(x: u8) -> u64 {
 }
 
 // The first `n` bytes in hexadecimal; `-` where there are none.
-pub fn hex(bytes: &[u8], n: usize) {
+pub fn hex(rt: &impl Print, bytes: &[u8], n: usize) -> io::Result<()> {
     if n == 0 {
-        text(b"-");
+        text(rt, b"-")?;
     }
     let mut i = 0usize;
     while i < n {
         if bytes.len() <= i {
-            return;
+            return Ok(());
         }
-        io::print_hex(STDOUT_FILENO, wide(bytes[i]), 2);
+        let byte = wide(bytes[i]);
+        print!(rt; "{byte:02x}")?;
         i += 1;
     }
+    Ok(())
 }

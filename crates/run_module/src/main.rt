@@ -4,8 +4,11 @@
 ghost use Rattle.std.specs.Prelude.{length, ◌≡◌};
 
 use digits::Decimal;
-use libc::{STDERR_FILENO, STDIN_FILENO};
+use input::{arg, arg_count, read_full};
 use run::Outcome;
+use std::io;
+use std::io::Read;
+use std::rt::Env;
 
 // The answers of a word in its place, and whether each character is one.
 fn to_answers(word: &mut [u8]) -> bool {
@@ -30,36 +33,36 @@ fn is_dash(word: &[u8]) -> bool {
 }
 
 // An argument that is a number.
-fn number_argument(i: usize) -> Decimal {
+fn number_argument(rt: &impl Env, i: usize) -> Decimal {
     let mut text = [0u8; 20];
-    let n = os::arg(i, &mut text);
+    let n = arg(rt, i, &mut text);
     digits::decimal_of(&text[..n])
 }
 
-fn ending_name(ending: u8) {
+fn ending_name(rt: &impl Print, ending: u8) -> io::Result<()> {
     match ending {
-        1 => report::text(b" (returned)\n"),
-        2 => report::text(b" (no answer left)\n"),
-        _ => report::text(b" (budget spent)\n"),
+        1 => report::text(rt, b" (returned)\n"),
+        2 => report::text(rt, b" (no answer left)\n"),
+        _ => report::text(rt, b" (budget spent)\n"),
     }
 }
 
-fn answer(outcome: Outcome, events: &[u8]) {
+fn answer(rt: &impl Print, outcome: Outcome, events: &[u8]) -> io::Result<()> {
     match outcome {
         Outcome::Finished(ending, steps, used, written) => {
-            report::text(b"ending: ");
-            report::number(ending as u64);
-            ending_name(ending);
-            report::text(b"steps: ");
-            report::number(steps);
-            report::text(b"\nanswers used: ");
-            report::number(used as u64);
-            report::text(b"\nevents: ");
-            report::hex(events, written);
+            report::text(rt, b"ending: ")?;
+            report::number(rt, ending as u64)?;
+            ending_name(rt, ending)?;
+            report::text(rt, b"steps: ")?;
+            report::number(rt, steps)?;
+            report::text(rt, b"\nanswers used: ")?;
+            report::number(rt, used as u64)?;
+            report::text(rt, b"\nevents: ")?;
+            report::hex(rt, events, written)?;
         }
-        Outcome::Refused(q) => report::refused(q as u64),
+        Outcome::Refused(q) => report::refused(rt, q as u64)?,
     }
-    report::text(b"\n");
+    report::text(rt, b"\n")
 }
 
 fn event_buffer() -> [u8; 524288]
@@ -68,68 +71,79 @@ fn event_buffer() -> [u8; 524288]
     [0; 524288]
 }
 
-fn run_bytes(module: &[u8], f: u64, answers: &[u8], budget: u64) {
+fn run_bytes(
+    rt: &impl Print,
+    module: &[u8],
+    f: u64,
+    answers: &[u8],
+    budget: u64,
+) -> io::Result<()> {
     let mut events = event_buffer();
     let outcome = run::run(module, f, answers, budget, &mut events);
-    answer(outcome, &events);
+    answer(rt, outcome, &events)
 }
 
 // One byte more than the longest module, so that a longer one is refused.
-fn run_input(f: u64, answers: &[u8], budget: u64) {
-    let mut module = [0u8; 524289];
-    let n = io::read_full(STDIN_FILENO, &mut module);
-    run_bytes(&module[..n], f, answers, budget);
+fn module_buffer() -> [u8; 524289]
+    ensures { 524289 ≡ length result }
+{
+    [0; 524289]
 }
 
-fn run_word(f: u64, word: &mut [u8], budget: u64) {
+fn run_input<P: Print, R: Read>(
+    rt: &P,
+    input: &mut R,
+    f: u64,
+    answers: &[u8],
+    budget: u64,
+) -> io::Result<()> {
+    let mut module = module_buffer();
+    let n = read_full(input, &mut module);
+    run_bytes(rt, &module[..n], f, answers, budget)
+}
+
+fn run_word<P: Print + Eprint, R: Read>(
+    rt: &P,
+    input: &mut R,
+    f: u64,
+    word: &mut [u8],
+    budget: u64,
+) -> io::Result<()> {
     if is_dash(word) {
-        run_input(f, b"", budget);
-        return;
+        return run_input(rt, input, f, b"", budget);
     }
     if to_answers(word) {
-        run_input(f, word, budget);
-        return;
+        return run_input(rt, input, f, word, budget);
     }
-    io::write_all(STDERR_FILENO, b"run_module: each answer is 0 or 1\n");
+    rt.eprintln("run_module: each answer is 0 or 1")
 }
 
 // The answers of the second argument.
-fn run_with(f: u64, budget: u64) {
-    let mut word = io::large_buffer();
-    let n = os::arg(2, &mut word);
+fn run_with<P: Env + Print + Eprint, R: Read>(
+    rt: &P,
+    input: &mut R,
+    f: u64,
+    budget: u64,
+) -> io::Result<()> {
+    let mut word = [0u8; 65536];
+    let n = arg(rt, 2, &mut word);
     if n == 0 {
-        io::write_all(
-            STDERR_FILENO,
-            b"run_module: the answers are a word of at most 65,536 characters, or -\n",
-        );
-        return;
+        return rt.eprintln("run_module: the answers are a word of at most 65,536 characters, or -");
     }
-    run_word(f, &mut word[..n], budget);
+    run_word(rt, input, f, &mut word[..n], budget)
 }
 
-fn main() {
-    if os::arg_count() != 4 {
-        io::write_all(
-            STDERR_FILENO,
-            b"usage: run_module FUNCTION ANSWERS BUDGET < MODULE\n",
-        );
-        return;
+fn main(rt: HostRuntime) -> io::Result<()> {
+    if arg_count(&rt) != 4 {
+        return rt.eprintln("usage: run_module FUNCTION ANSWERS BUDGET < MODULE");
     }
-    let function = number_argument(1);
-    let budget = number_argument(3);
+    let function = number_argument(&rt, 1);
+    let budget = number_argument(&rt, 3);
     let Decimal::Value(f) = function else {
-        io::write_all(
-            STDERR_FILENO,
-            b"run_module: the function is a number below 2^64\n",
-        );
-        return;
+        return rt.eprintln("run_module: the function is a number below 2^64");
     };
     let Decimal::Value(b) = budget else {
-        io::write_all(
-            STDERR_FILENO,
-            b"run_module: the budget is a number below 2^64\n",
-        );
-        return;
+        return rt.eprintln("run_module: the budget is a number below 2^64");
     };
-    run_with(f, b);
+    run_with(&rt, &mut rt.stdin(), f, b)
 }

@@ -2,6 +2,8 @@
 #![tactic(auto)]
 
 use run::Outcome;
+use std::io;
+use std::io::Read;
 use vectors::Reading;
 
 // What stands at a place before a call.
@@ -29,88 +31,109 @@ fn is_kept(events: &[u8], from: usize) -> bool {
     true
 }
 
-fn finished(ending: u8, steps: u64, used: usize) {
-    report::number(ending as u64);
-    report::text(b" ");
-    report::number(steps);
-    report::text(b" ");
-    report::number(used as u64);
-    report::text(b" ");
+fn finished(rt: &impl Print, ending: u8, steps: u64, used: usize) -> io::Result<()> {
+    report::number(rt, ending as u64)?;
+    report::text(rt, b" ")?;
+    report::number(rt, steps)?;
+    report::text(rt, b" ")?;
+    report::number(rt, used as u64)?;
+    report::text(rt, b" ")
 }
 
 // The answer, and `touched` where the events after those that it counts have changed.
-fn answer(outcome: Outcome, events: &[u8]) {
+fn answer(rt: &impl Print, outcome: Outcome, events: &[u8]) -> io::Result<()> {
     let mut count = 0usize;
     match outcome {
         Outcome::Finished(ending, steps, used, written) => {
-            finished(ending, steps, used);
-            report::hex(events, written);
+            finished(rt, ending, steps, used)?;
+            report::hex(rt, events, written)?;
             count = written;
         }
-        Outcome::Refused(q) => report::refused(q as u64),
+        Outcome::Refused(q) => report::refused(rt, q as u64)?,
     }
     if !is_kept(events, count) {
-        report::text(b" touched");
+        report::text(rt, b" touched")?;
     }
-    report::text(b"\n");
+    report::text(rt, b"\n")
 }
 
 // The run of one case in the first `room` bytes of `events`.
-fn run_case(module: &[u8], f: u64, answers: &[u8], budget: u64, room: u64, events: &mut [u8]) {
+fn run_case(
+    rt: &impl Print,
+    module: &[u8],
+    f: u64,
+    answers: &[u8],
+    budget: u64,
+    room: u64,
+    events: &mut [u8],
+) -> io::Result<()> {
     let size = room as usize;
     if events.len() < size {
-        report::text(b"not read\n");
-        return;
+        return report::text(rt, b"not read\n");
     }
     fill(events);
     let outcome = run::run(module, f, answers, budget, &mut events[..size]);
-    answer(outcome, events);
+    answer(rt, outcome, events)
 }
 
 // What is left of a line after the module.
-fn replay_module(piece: &mut [u8; 4096], r: Reading, module: &[u8]) -> Reading {
-    let function = vectors::decimal_field(piece, r);
+fn replay_module<P: Print, R: Read>(
+    rt: &P,
+    input: &mut R,
+    piece: &mut [u8; 4096],
+    r: Reading,
+    module: &[u8],
+) -> io::Result<Reading> {
+    let function = vectors::decimal_field(input, piece, r);
     let mut answers = [0u8; 64];
-    let word = vectors::hex_field(piece, function.next, &mut answers);
-    let budget = vectors::decimal_field(piece, word.next);
-    let room = vectors::decimal_field(piece, budget.next);
+    let word = vectors::hex_field(input, piece, function.next, &mut answers);
+    let budget = vectors::decimal_field(input, piece, word.next);
+    let room = vectors::decimal_field(input, piece, budget.next);
     let next = room.next;
     if next.is_good {
         let count = word.size;
         let mut events = [0u8; 65600];
         run_case(
+            rt,
             module,
             function.value,
             &answers[..count],
             budget.value,
             room.value,
             &mut events,
-        );
+        )?;
     } else {
-        report::text(b"not read\n");
+        report::text(rt, b"not read\n")?;
     }
-    vectors::skip_line(piece, next)
+    Ok(vectors::skip_line(input, piece, next))
 }
 
 // One line of the input.
-fn replay(piece: &mut [u8; 4096], r: Reading) -> Reading {
-    let name = vectors::skip_name(piece, r);
+fn replay<P: Print, R: Read>(
+    rt: &P,
+    input: &mut R,
+    piece: &mut [u8; 4096],
+    r: Reading,
+) -> io::Result<Reading> {
+    let name = vectors::skip_name(input, piece, r);
     if !vectors::has_field(name) {
-        return name;
+        return Ok(name);
     }
     let mut module = [0u8; 4096];
-    let bytes = vectors::hex_field(piece, name, &mut module);
+    let bytes = vectors::hex_field(input, piece, name, &mut module);
     let size = bytes.size;
-    replay_module(piece, bytes.next, &module[..size])
+    replay_module(rt, input, piece, bytes.next, &module[..size])
 }
 
 // The turns are counted down from a number that no input uses up.
-fn main() {
+fn main(rt: HostRuntime) -> io::Result<()> {
+    let mut input = rt.stdin();
     let mut piece = [0u8; 4096];
     let mut now = vectors::start();
     let mut turns = u64::MAX;
     while turns > 0 && !vectors::has_ended(now) {
-        now = replay(&mut piece, now);
+        now = replay(&rt, &mut input, &mut piece, now)?;
         turns -= 1;
     }
+    Ok(())
 }

@@ -1,12 +1,13 @@
-// Cases of tests/vectors from standard input: a case a line, its fields parted by tabs, its name first.
+// Cases of tests/vectors from an input: a case a line, its fields parted by tabs, its name first.
 #![tactic(auto)]
 
 ghost use Rattle.std.specs.Prelude.{◌≡◌, true, false, eqb};
-ghost use Rattle.io.specs.Counts.{IsPrefixLen};
+ghost use Rattle.input.specs.Counts.{IsPrefixLen};
 ghost use Rattle.vectors.specs.Lines.{is_end, spoilt_of, Skips, Finishes, Reads};
 
 use digits::{Decimal, decimal_of, digit_of, narrow, pair, wide};
-use libc::STDIN_FILENO;
+use input::read_full;
+use std::io::Read;
 
 const TAB: u32 = 9;
 
@@ -65,6 +66,7 @@ pub fn has_field(r: Reading) -> bool
     r.last == TAB
 }
 
+#[tactic(auto, unfolding(crate::specs::Lines::spoilt_of))]
 fn spoilt(r: Reading) -> Reading
     ensures { result ≡ spoilt_of r }
 {
@@ -77,7 +79,7 @@ fn spoilt(r: Reading) -> Reading
 }
 
 // The next byte, of the next piece where this one is used up.
-fn take(piece: &mut [u8; 4096], r: Reading) -> Reading
+fn take<R: Read>(input: &mut R, piece: &mut [u8; 4096], r: Reading) -> Reading
     ensures { result.is_good ≡ r.is_good }
 {
     let at = r.at;
@@ -92,7 +94,7 @@ fn take(piece: &mut [u8; 4096], r: Reading) -> Reading
             };
         }
     }
-    let n = io::read_full(STDIN_FILENO, piece);
+    let n = read_full(input, piece);
     if n == 0 {
         return Reading {
             at: 0,
@@ -110,6 +112,7 @@ fn take(piece: &mut [u8; 4096], r: Reading) -> Reading
 }
 
 // Whether a line ends here, or a field where `at_tab` is set.
+#[tactic(auto, unfolding(crate::specs::Lines::is_end))]
 fn ends(c: u32, at_tab: bool) -> bool
     ensures { result ≡ is_end at_tab c }
 {
@@ -124,7 +127,8 @@ fn ends(c: u32, at_tab: bool) -> bool
 
 // To the end of the field or of the line. Nothing says that there is one: the turns are counted down from a number that no input uses up, and
 // then the input counts as ended.
-fn skip(piece: &mut [u8; 4096], r: Reading, at_tab: bool) -> Reading
+#[tactic(auto, unfolding(crate::specs::Lines::is_end))]
+fn skip<R: Read>(input: &mut R, piece: &mut [u8; 4096], r: Reading, at_tab: bool) -> Reading
     ensures { Skips at_tab r result piece.old piece.new }
 {
     let mut now = r;
@@ -133,7 +137,7 @@ fn skip(piece: &mut [u8; 4096], r: Reading, at_tab: bool) -> Reading
         if ends(now.last, at_tab) {
             return now;
         }
-        now = take(piece, now);
+        now = take(input, piece, now);
         turns -= 1;
     }
     Reading {
@@ -145,14 +149,14 @@ fn skip(piece: &mut [u8; 4096], r: Reading, at_tab: bool) -> Reading
 }
 
 // To the end of the line.
-pub fn skip_line(piece: &mut [u8; 4096], r: Reading) -> Reading
+pub fn skip_line<R: Read>(input: &mut R, piece: &mut [u8; 4096], r: Reading) -> Reading
     ensures { Skips false r result piece.old piece.new }
 {
-    skip(piece, r, false)
+    skip(input, piece, r, false)
 }
 
 // From the end of a line past the name of the next.
-pub fn skip_name(piece: &mut [u8; 4096], r: Reading) -> Reading
+pub fn skip_name<R: Read>(input: &mut R, piece: &mut [u8; 4096], r: Reading) -> Reading
     ensures { (is_end true result.last ≡ true) × (result.is_good ≡ true) }
 {
     let line = Reading {
@@ -161,22 +165,23 @@ pub fn skip_name(piece: &mut [u8; 4096], r: Reading) -> Reading
         last: r.last,
         is_good: true,
     };
-    let first = take(piece, line);
-    skip(piece, first, true)
+    let first = take(input, piece, line);
+    skip(input, piece, first, true)
 }
 
 // To the end of a field that should end here.
-fn finish(piece: &mut [u8; 4096], r: Reading) -> Reading
+#[tactic(auto, unfolding(crate::specs::Lines::spoilt_of))]
+fn finish<R: Read>(input: &mut R, piece: &mut [u8; 4096], r: Reading) -> Reading
     ensures { Finishes r result }
 {
     if ends(r.last, true) {
         return r;
     }
-    skip(piece, spoilt(r), true)
+    skip(input, piece, spoilt(r), true)
 }
 
 // The characters of the rest of a field, of which the first is taken.
-fn text_bytes(piece: &mut [u8; 4096], r: Reading, out: &mut [u8]) -> Field
+fn text_bytes<R: Read>(input: &mut R, piece: &mut [u8; 4096], r: Reading, out: &mut [u8]) -> Field
     ensures prefix_len { IsPrefixLen result.size out.new }
     ensures read { Finishes r result.next }
 {
@@ -185,41 +190,48 @@ fn text_bytes(piece: &mut [u8; 4096], r: Reading, out: &mut [u8]) -> Field
     while n < out.len() && !ends(now.last, true) {
         out[n] = narrow(now.last);
         n += 1;
-        now = take(piece, now);
+        now = take(input, piece, now);
     }
     Field {
         size: n,
-        next: finish(piece, now),
+        next: finish(input, piece, now),
     }
 }
 
 // The bytes of the rest of a field in hexadecimal, of which the first character is taken.
-fn hex_bytes(piece: &mut [u8; 4096], r: Reading, out: &mut [u8]) -> Field
+#[tactic(auto, unfolding(crate::specs::Lines::spoilt_of))]
+fn hex_bytes<R: Read>(input: &mut R, piece: &mut [u8; 4096], r: Reading, out: &mut [u8]) -> Field
     ensures prefix_len { IsPrefixLen result.size out.new }
     ensures read { Finishes r result.next }
 {
     let mut now = r;
     let mut n = 0usize;
     while n < out.len() && digit_of(now.last) < 16 {
-        let low = take(piece, now);
+        let low = take(input, piece, now);
         if 15 < digit_of(low.last) {
             return Field {
                 size: n,
-                next: finish(piece, spoilt(low)),
+                next: finish(input, piece, spoilt(low)),
             };
         }
         out[n] = pair(digit_of(now.last), digit_of(low.last));
         n += 1;
-        now = take(piece, low);
+        now = take(input, piece, low);
     }
     Field {
         size: n,
-        next: finish(piece, now),
+        next: finish(input, piece, now),
     }
 }
 
 // The bytes of the field after a tab in hexadecimal; `-` has none. One of more bytes than `out` holds is skipped and not good.
-pub fn hex_field(piece: &mut [u8; 4096], r: Reading, out: &mut [u8]) -> Field
+#[tactic(auto, unfolding(crate::specs::Lines::spoilt_of))]
+pub fn hex_field<R: Read>(
+    input: &mut R,
+    piece: &mut [u8; 4096],
+    r: Reading,
+    out: &mut [u8],
+) -> Field
     ensures prefix_len { IsPrefixLen result.size out.new }
     ensures read { Reads r result.next piece.old piece.new }
 {
@@ -229,19 +241,20 @@ pub fn hex_field(piece: &mut [u8; 4096], r: Reading, out: &mut [u8]) -> Field
             next: spoilt(r),
         };
     }
-    let first = take(piece, r);
+    let first = take(input, piece, r);
     if first.last == DASH {
-        let end = take(piece, first);
+        let end = take(input, piece, first);
         return Field {
             size: 0,
-            next: finish(piece, end),
+            next: finish(input, piece, end),
         };
     }
-    hex_bytes(piece, first, out)
+    hex_bytes(input, piece, first, out)
 }
 
 // The number of the field after a tab, in decimal digits.
-pub fn decimal_field(piece: &mut [u8; 4096], r: Reading) -> Number
+#[tactic(auto, unfolding(crate::specs::Lines::is_end, crate::specs::Lines::spoilt_of))]
+pub fn decimal_field<R: Read>(input: &mut R, piece: &mut [u8; 4096], r: Reading) -> Number
     ensures { Reads r result.next piece.old piece.new }
 {
     if !has_field(r) {
@@ -250,9 +263,9 @@ pub fn decimal_field(piece: &mut [u8; 4096], r: Reading) -> Number
             next: spoilt(r),
         };
     }
-    let first = take(piece, r);
+    let first = take(input, piece, r);
     let mut text = [0u8; 20];
-    let field = text_bytes(piece, first, &mut text);
+    let field = text_bytes(input, piece, first, &mut text);
     let size = field.size;
     let number = decimal_of(&text[..size]);
     let next = field.next;

@@ -1,4 +1,4 @@
-use Prim.Native.Nat.{ℕ, ◌+◌, ◌*◌, ◌<◌}
+use Prim.Native.Nat.{ℕ, ◌+◌, ◌*◌}
 use mathlib.Core.Path.{refl, ap, ◌∙◌, sym}
 use native.Mathlib.Omega.{arith}
 use Rattle.definitions.specs.Tables.{one, intern, ◌⨟◌, expr_body}
@@ -9,7 +9,7 @@ use Rattle.lower_forms.proofs.ExprArms.{many-at, there-at, low-code, logical-cod
 use Rattle.lower_emit.proofs.Steps.{sound-of, room-sound, put-lifts, sound-next, lowers_then, lowers-stopped, done-of, lowers-by, ready-next, lowers-state, room_of, lowers-full}
 use Rattle.lower_names.specs.Naming.{callee_in}
 use Rattle.lower_names.proofs.Callees.{call-instr, callables-sound}
-use Rattle.lower_expr.proofs.Several.{many_by, name-ahead, value_same, value-small, ExprsRest, rest1-all, rest1-ready, rest1-next, rest1-over, rest1-done, rest1-constants}
+use Rattle.lower_expr.proofs.Several.{many_by, name-ahead, value_same, value-small, rest1-all, rest1-ready, rest1-next, rest1-over, rest1-done, rest1-constants}
 use Rattle.definitions.specs.Instruction.{LoadAttr, MakeClosure, Build, CallMethod, instr}
 use Rattle.state.specs.Words.{name_at}
 use Rattle.lower_emit.proofs.Packing.{plain-above, instr-plain}
@@ -18,7 +18,6 @@ use Rattle.exprs.specs.ExprAt.{expr_at, list_at}
 use Rattle.state.specs.State.{slot_names, names_at, slots_from}
 use Rattle.lower_forms.proofs.CallForms.{call-named, call-method, callee-short}
 use Rattle.lower_expr.proofs.Calls.{call-value, named-state, functions-few}
-use borrow.Author.Rules.{rules}
 use lib.ListN.{length, drop, get_or, length-drop}
 use Rattle.state.proofs.Views.{function-count}
 use Rattle.lower_leaves.proofs.LambdaState.{closure-state, captured-as, captured-held, captured-few, lambda-ready, lambda-lowers, lambda-over, slots-few, reads_at}
@@ -206,7 +205,7 @@ emit_call-shape_of-tables t c = c.emit_args.auto.tables ∙ c.emit_expr-next.aut
 pub emit_call-returns : goal.emit_call-returns
 emit_call-returns t c =
     let e = c.emit_expr-next.ensures in lowers-by (lowers_then (λ x. exprs_code c.args.depth (count_at c.args.tree.now x) c.args.tree.now (slot_names c.args.tree.now c.args.slots.now) (x + 2) ⨟ one (call_instr (callee_in (34 * 65536)) (count_at c.args.tree.now x))) (λ x. (list_at c.args.depth c.args.tree.now x).end) c.if-next-eq0.false (sound-of c.requires.0) e c.emit_args.ensures) (call-value _ _ _ c.requires.1 _ c.if-kind-eq-VARIABLE.false c.if-kind-eq-ATTRIBUTE.false
-    ∙ ap (λ (c : Callee). expr_code c.args.depth c.args.tree.now (slot_names c.args.tree.now c.args.slots.now) c.args.at ⨟ exprs_code c.args.depth (count_at c.args.tree.now (expr_at c.args.depth c.args.tree.now c.args.at).end) c.args.tree.now (slot_names c.args.tree.now c.args.slots.now) ((expr_at c.args.depth c.args.tree.now c.args.at).end + 2) ⨟ one (call_instr c (count_at c.args.tree.now (expr_at c.args.depth c.args.tree.now c.args.at).end))) value_same) refl
+    ∙ ap (λ (r : Callee). expr_code c.args.depth c.args.tree.now (slot_names c.args.tree.now c.args.slots.now) c.args.at ⨟ exprs_code c.args.depth (count_at c.args.tree.now (expr_at c.args.depth c.args.tree.now c.args.at).end) c.args.tree.now (slot_names c.args.tree.now c.args.slots.now) ((expr_at c.args.depth c.args.tree.now c.args.at).end + 2) ⨟ one (call_instr r (count_at c.args.tree.now (expr_at c.args.depth c.args.tree.now c.args.at).end))) value_same) refl
 
 pub emit_closure-emit_function-next-requires : goal.emit_closure-emit_function-next-requires
 emit_closure-emit_function-next-requires t c = (

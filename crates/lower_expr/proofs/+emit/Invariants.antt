@@ -1,39 +1,6 @@
-use Prim.Native.Nat.{ℕ, ◌+◌, ◌*◌, ◌<◌}
-use mathlib.Core.Path.{refl, ap, ◌∙◌, sym}
-use native.Mathlib.Omega.{arith}
-use Rattle.definitions.specs.Tables.{one, intern, ◌⨟◌, expr_body}
-use Rattle.parts.specs.Places.{count_at, name_end}
-use Rattle.state.proofs.Growth.{lengthens-one, lengthens-intern, lengthens-seq, lengthens-exprs, lengthens-loads, lengthens-expr, lengthens-shortcut}
-use Rattle.lower_forms.specs.Lowerable.{call_instr, expr_code, exprs_code}
-use Rattle.lower_forms.proofs.ExprArms.{many-at, there-at, low-code, logical-code, args_at, arm-inside, arm-deep, arm-literal, arm-variable, arm_unary, arm_binary, arm-call, arm-attribute, arm-index, arm-display, arm-lambda, lit-code, display-kinds, lowerable-at, counted-at}
-use Rattle.lower_emit.proofs.Steps.{sound-of, room-sound, put-lifts, sound-next, lowers_then, lowers-stopped, done-of, lowers-by, ready-next, lowers-state, room_of, lowers-full}
-use Rattle.lower_names.specs.Naming.{callee_in}
-use Rattle.lower_names.proofs.Callees.{call-instr, callables-sound}
-use Rattle.lower_expr.proofs.Several.{many_by, name-ahead, value_same, value-small, ExprsRest, rest1-all, rest1-ready, rest1-next, rest1-over, rest1-done, rest1-constants}
-use Rattle.definitions.specs.Instruction.{LoadAttr, MakeClosure, Build, CallMethod, instr}
-use Rattle.state.specs.Words.{name_at}
-use Rattle.lower_emit.proofs.Packing.{plain-above, instr-plain}
-use Rattle.definitions.specs.Lower.{Callee, loads, shortcut}
-use Rattle.exprs.specs.ExprAt.{expr_at, list_at}
-use Rattle.state.specs.State.{slot_names, names_at, slots_from}
-use Rattle.lower_forms.proofs.CallForms.{call-named, call-method, callee-short}
-use Rattle.lower_expr.proofs.Calls.{call-value, named-state, functions-few}
-use borrow.Author.Rules.{rules}
-use lib.ListN.{length, drop, get_or, length-drop}
-use Rattle.state.proofs.Views.{function-count}
-use Rattle.lower_leaves.proofs.LambdaState.{closure-state, captured-as, captured-held, captured-few, lambda-ready, lambda-lowers, lambda-over, slots-few, reads_at}
-use Rattle.opcodes.specs.Codes.{display_of, held_of}
-use Rattle.opcodes.proofs.Opcodes.{build-as}
-use Rattle.exprs.proofs.ExprViews.{expr-known}
-use Rattle.lower_names.proofs.Strings.{texts-sound}
-use Rattle.lower_forms.proofs.Elements.{more-view}
-use Rattle.lower_emit.proofs.Functions.{functions-sound, ending-sound}
-use Rattle.lower_names.proofs.Symbols.{naming-sound}
-use Rattle.lower_leaves.proofs.Lambdas.{begins-count, function1-over, function1-sound, function1-body, function1-few, function1-end}
-use lib.Seq.{length-take-le}
-use Rattle.lower_leaves.proofs.Collecting.{collected-count, collected-over}
-use lib.Dec.{eqb}
-use Rattle.lower_expr.proofs.Shortcut.{jump, shortcut1-full, shortcut1-right, shortcut1-before, shortcut1-end}
+use Prim.Native.Nat.{◌+◌, ◌*◌}
+use Rattle.lower_expr.proofs.Several.{ExprsRest}
+use Rattle.state.specs.State.{slot_names}
 use Rattle.lower_expr.proofs.+emit.Given as goal
 
 abbrev pub decreases-emit_args : goal.decreases-emit_args

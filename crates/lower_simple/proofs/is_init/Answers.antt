@@ -1,5 +1,4 @@
 use mathlib.Core.Path.{ap, ◌∙◌}
-use borrow.Author.Rules.{rules}
 use Rattle.definitions.specs.Bytes.{Name, same}
 use Rattle.definitions.specs.Wellformed.{init}
 use Rattle.lower_simple.proofs.is_init.Goals as goal

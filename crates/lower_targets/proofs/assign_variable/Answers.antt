@@ -1,6 +1,5 @@
 use mathlib.Core.Path.{◌∙◌}
 use native.Mathlib.Omega.{arith}
-use borrow.Author.Rules.{rules}
 use Rattle.exprs.proofs.ExprViews.{expr-inside}
 use Rattle.state.specs.State.{slot_names}
 use Rattle.state.proofs.Growth.{lengthens-store}

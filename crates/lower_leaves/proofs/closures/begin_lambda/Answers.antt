@@ -2,7 +2,6 @@ use native.Mathlib.Omega.{arith}
 use mathlib.Core.Path.{◌∙◌}
 use Rattle.names.proofs.Pasting.{lambda-short}
 use Rattle.lower_leaves.proofs.Lambdas.{begins-over, begins-lambda}
-use borrow.Author.Rules.{rules}
 use Rattle.lower_leaves.proofs.closures.begin_lambda.Goals as goal
 
 pub intern_made-symbol-requires : goal.intern_made-symbol-requires

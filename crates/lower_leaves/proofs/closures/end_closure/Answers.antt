@@ -3,7 +3,6 @@ use mathlib.Core.Path.{◌∙◌}
 use Rattle.state.proofs.Growth.{lengthens-one}
 use Rattle.lower_emit.proofs.Packing.{instr-plain, plain-above}
 use Rattle.lower_leaves.proofs.Lambdas.{closure-over, closure-done}
-use borrow.Author.Rules.{rules}
 use Rattle.lower_leaves.proofs.closures.end_closure.Goals as goal
 
 pub shape_of-code-then-p-eq0 : goal.shape_of-code-then-p-eq0

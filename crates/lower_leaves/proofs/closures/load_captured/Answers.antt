@@ -1,10 +1,7 @@
-use Prim.Native.Nat.{◌-◌}
 use native.Mathlib.Omega.{arith}
 use mathlib.Core.Path.{◌∙◌}
-use lib.ListN.{length}
 use Rattle.lower_leaves.proofs.LambdaState.{held_at}
-use Rattle.lower_leaves.proofs.Lambdas.{Loading, loading-start, loading-next, loading-over, loading-done, slot_small}
-use borrow.Author.Rules.{rules}
+use Rattle.lower_leaves.proofs.Lambdas.{loading-start, loading-next, loading-over, loading-done, slot_small}
 use Rattle.lower_leaves.proofs.closures.load_captured.Goals as goal
 
 pub loop-i-init : goal.loop-i-init

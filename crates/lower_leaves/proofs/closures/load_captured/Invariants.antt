@@ -1,10 +1,6 @@
 use Prim.Native.Nat.{◌-◌}
-use native.Mathlib.Omega.{arith}
-use mathlib.Core.Path.{◌∙◌}
 use lib.ListN.{length}
-use Rattle.lower_leaves.proofs.LambdaState.{held_at}
-use Rattle.lower_leaves.proofs.Lambdas.{Loading, loading-start, loading-next, loading-over, loading-done, slot_small}
-use borrow.Author.Rules.{rules}
+use Rattle.lower_leaves.proofs.Lambdas.{Loading}
 use Rattle.lower_leaves.proofs.closures.load_captured.Given as goal
 
 abbrev pub invariant-loop-i : goal.invariant-loop-i

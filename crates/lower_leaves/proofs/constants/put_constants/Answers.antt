@@ -1,6 +1,5 @@
 use native.Mathlib.Omega.{arith}
 use Rattle.lower_leaves.proofs.Runs.{constants-put}
-use borrow.Author.Rules.{rules}
 use Rattle.lower_leaves.proofs.constants.put_constants.Goals as goal
 
 pub overflow_sub-room : goal.overflow_sub-room

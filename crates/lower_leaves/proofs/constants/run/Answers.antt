@@ -1,7 +1,5 @@
-use Prim.Native.Nat.{◌-◌}
 use native.Mathlib.Omega.{arith}
-use Rattle.lower_leaves.proofs.Runs.{Running, running-start, running-inside, running-next}
-use borrow.Author.Rules.{rules}
+use Rattle.lower_leaves.proofs.Runs.{running-start, running-inside, running-next}
 use Rattle.lower_leaves.proofs.constants.run.Goals as goal
 
 pub loop-i-init : goal.loop-i-init

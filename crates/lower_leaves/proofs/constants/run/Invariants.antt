@@ -1,7 +1,5 @@
 use Prim.Native.Nat.{◌-◌}
-use native.Mathlib.Omega.{arith}
-use Rattle.lower_leaves.proofs.Runs.{Running, running-start, running-inside, running-next}
-use borrow.Author.Rules.{rules}
+use Rattle.lower_leaves.proofs.Runs.{Running}
 use Rattle.lower_leaves.proofs.constants.run.Given as goal
 
 abbrev pub invariant-loop-i : goal.invariant-loop-i

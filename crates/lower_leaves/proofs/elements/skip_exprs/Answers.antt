@@ -1,6 +1,4 @@
-use mathlib.Core.Path.{◌≡◌, refl, ◌∙◌}
-use native.Mathlib.Omega.{arith}
-use Rattle.lower_forms.specs.Elements.{ElementsRead, elements_end}
+use mathlib.Core.Path.{refl, ◌∙◌}
 use Rattle.lower_forms.proofs.Unpacking.{elements-more, end_none, step-again}
 use Rattle.lower_leaves.proofs.elements.skip_exprs.Goals as goal
 

@@ -1,7 +1,5 @@
-use mathlib.Core.Path.{◌≡◌, refl, ◌∙◌}
-use native.Mathlib.Omega.{arith}
+use mathlib.Core.Path.{◌≡◌}
 use Rattle.lower_forms.specs.Elements.{ElementsRead, elements_end}
-use Rattle.lower_forms.proofs.Unpacking.{elements-more, end_none, step-again}
 use Rattle.lower_leaves.proofs.elements.skip_exprs.Given as goal
 
 abbrev pub invariant-loop-left : goal.invariant-loop-left

@@ -5,7 +5,6 @@ use Rattle.lower_emit.proofs.Packing.{instr-plain, instr-place, instr-small, pla
 use Rattle.lower_leaves.proofs.LiteralForms.{none_is, bool_is, int_is, float_is, nan_is, text-is}
 use Rattle.lower_emit.proofs.Steps.{put-lifts, lowers-by}
 use Rattle.lower_leaves.proofs.Lambdas.{inside-place, small_is}
-use borrow.Author.Rules.{rules}
 use Rattle.lower_leaves.proofs.literals.emit_literal.Goals as goal
 
 pub overflow_add-at : goal.overflow_add-at

@@ -1,0 +1,14 @@
+-- The three parts of the line stand one after the other; a number of 32 bits has at most ten digits.
+use Rattle.std.proofs.Common.{arith}
+use Rattle.definitions.proofs.Decimals.{length-decimal}
+use Rattle.lower.proofs.Answering.{line-pasted}
+use Rattle.lower.proofs.refusal.Goals as goal
+
+pub paste_decimal-end-requires : goal.paste_decimal-end-requires
+paste_decimal-end-requires c = let d = length-decimal 9 c.args.q (omega arith) in omega arith
+
+pub paste-requires : goal.paste-requires
+paste-requires c = let d = length-decimal 9 c.args.q (omega arith) in omega arith
+
+pub returns : goal.returns
+returns c = line-pasted c.args.q _ _ _ c.args.out.now _ _ _ (omega arith) c.requires c.paste-number.ensures c.paste_decimal-end.ensures c.paste.ensures
