@@ -85,9 +85,9 @@ fn run_vectors_replay() {
     }
 }
 
-/// What the program of that name has to write: a line a case.
-fn stored_output(program: &str) -> String {
-    let path = folder().join("../../crates").join(program).join("stdout");
+/// What the program of that name reads, `stdin`, or has to write, `stdout`: a line a case.
+fn stored(program: &str, stream: &str) -> String {
+    let path = folder().join("../../crates").join(program).join(stream);
     std::fs::read_to_string(path).expect(program)
 }
 
@@ -98,12 +98,14 @@ fn stored_outputs_are_the_answers() {
         ("module_vectors", "modules.txt"),
         ("run_vectors", "runs.txt"),
     ] {
+        let text = committed(file);
+        assert!(stored(program, "stdin") == text, "{program}/stdin");
         let mut expected = String::new();
-        for fields in lines(&committed(file)) {
+        for fields in lines(&text) {
             expected += fields[fields.len() - 1];
             expected += "\n";
         }
-        assert!(stored_output(program) == expected, "{program}/stdout");
+        assert!(stored(program, "stdout") == expected, "{program}/stdout");
     }
 }
 
