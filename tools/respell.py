@@ -16,7 +16,7 @@ import sys
 BESIDE = (
     "at_first by_name code_is count_at goes_on laid_out left_after met_at no_byte no_stores one_class one_more second_at"
 ).split()
-TOKEN = re.compile(r"[^\s(){}.;,@\"«»\[\]\\λ`:]+")
+TOKEN = re.compile(r"[^\s(){}.;,@\"«»\[\]\\λ`:/]+")
 HUMP = re.compile(r"([a-z0-9])([A-Z])")
 
 

@@ -137,7 +137,7 @@ abbrev pub Refusals : Type 0
 Refusals =
     (l : Limits) (m n room : ℕ) (tree : List ℕ) → lower_answer l m n room tree ≡ first_refusal (lower_questions l m n room tree) (module_of tree)
 
--- ---- the same of the reader, of the hand-back of code, of the run, of texts about a module and of R-8's tool: proofs/Module_refusals
+-- ---- the same of the reader, of the hand-back of code, of the run, of texts about a module and of R-8's tool: proofs/ModuleRefusals
 
 -- what the bytes after a module's head read as
 unfoldable pub record_read : List ℕ → Parsed Tables
@@ -248,7 +248,7 @@ OfficeRefuses =
     (m n room : ℕ) (tree : List ℕ) (q : ℕ) → lower_answer office m n room tree ≡ refused q
     → (lower_answer console m n room tree ≡ refused q) ⊎ ((q ≡ 16) × (lower_answer console m n room tree ≡ refused 15))
 
--- ---- 7 and 33 are asked of the names of a tree, of each and of nothing else: proofs/Tree_names
+-- ---- 7 and 33 are asked of the names of a tree, of each and of nothing else: proofs/TreeNames
 
 pub record NamesAsked (b : Block) : Type 0 where
   pub formed : ask_block 7 false b ≡ all is_name (names_block b)
@@ -257,7 +257,7 @@ pub record NamesAsked (b : Block) : Type 0 where
 abbrev pub TreeNames : Type 0
 TreeNames = (b : Block) → NamesAsked b
 
--- ---- a loop's iterator is the loop's own: proofs/Iterators, proofs/Loop_globals
+-- ---- a loop's iterator is the loop's own: proofs/Iterators, proofs/LoopGlobals
 
 -- the lowering's name for an iterator has the form that 33 asks for, and the place in it can be told from it
 pub record IteratorNamed (n : ℕ) : Type 0 where
@@ -281,7 +281,7 @@ pub record LoopsApart (b : Block) (t : Tables) : Type 0 where
 abbrev pub LoopGlobals : Type 0
 LoopGlobals = (l : Limits) → Under l office → (b : Block) (t : Tables) → lower_block l b ≡ accepted t → LoopsApart b t
 
--- ---- the test of strings is the grammar of RFC 3629: proofs/Utf8_grammar
+-- ---- the test of strings is the grammar of RFC 3629: proofs/Utf8Grammar
 
 -- as many bytes as ranges, each in its own
 pub data Matches : List Range → List ℕ → Type 0 where
@@ -296,7 +296,7 @@ pub data Utf8Octets : List ℕ → Type 0 where
 abbrev pub Utf8Grammar : Type 0
 Utf8Grammar = (s : List ℕ) → (is_utf8 s ≡ true → Utf8Octets s) × (Utf8Octets s → is_utf8 s ≡ true)
 
--- ---- and what passes it are the encodings of the scalar values, one after the other: proofs/Utf8_scalars
+-- ---- and what passes it are the encodings of the scalar values, one after the other: proofs/Utf8Scalars
 
 pub record Utf8Scalars : Type 0 where
   pub decodes : (s : List ℕ) → is_utf8 s ≡ true → (cs : List ℕ) × (all is_scalar cs ≡ true) × (s ≡ concat encode_char cs)
@@ -362,7 +362,7 @@ Named = (ps : List Name) (b : Block) (x : Name) → member x (locals_block b ps)
 abbrev pub NamedOnce : Type 0
 NamedOnce = (ps : List Name) (b : Block) → distinct ps ≡ true → distinct (locals_block b ps) ≡ true
 
--- ---- what a def or method stores in globals: proofs/Global_stores
+-- ---- what a def or method stores in globals: proofs/GlobalStores
 
 -- a statement is one of a part's own: in its loops and branches too, not in a nested def or class
 mutual
@@ -449,7 +449,7 @@ pub record ReadsBack (l : Limits) (tree m : List ℕ) : Type 0 where
 abbrev pub LoweredReads : Type 0
 LoweredReads = (l : Limits) → Under l office → (tree m : List ℕ) → are_bytes tree ≡ true → lower_bytes l tree ≡ accepted m → ReadsBack l tree m
 
--- ---- the k-th source of a tree is that of function k, and its body is the tree's: proofs/Source_bodies, proofs/Demand3
+-- ---- the k-th source of a tree is that of function k, and its body is the tree's: proofs/SourceBodies, proofs/Demand3
 
 unfoldable pub body_of : Source → Body
 body_of s = s.body
@@ -469,7 +469,7 @@ Sources =
     → (k : ℕ) (f : Function) → get_elem? t.functions k ≡ some f
     → (s : Source) × (get_elem? (compile b).sources k ≡ some s) × (get_elem? (bodies b) k ≡ some s.body) × ComesFrom f s
 
--- ---- each loop of a def or method has a slot of its own: proofs/Loop_slots
+-- ---- each loop of a def or method has a slot of its own: proofs/LoopSlots
 
 unfoldable pub is_slot : Numbers → Bool
 is_slot nothing = false
@@ -514,7 +514,7 @@ LoopSlots =
     → (k : ℕ) (f : Function) → get_elem? t.functions k ≡ some f
     → (s : Source) × (get_elem? (compile b).sources k ≡ some s) × (get_elem? (bodies b) k ≡ some s.body) × OwnSlots f (length s.frame.names) (loops_of k s.body)
 
--- ---- demand 3: proofs/Demand3, proofs/Demand3_bytes
+-- ---- demand 3: proofs/Demand3, proofs/Demand3Bytes
 
 -- A run ends as a walk does: by a return (1) or for want of an answer (2), after as many answers, with the same events
 pub record Agrees (r : Ran) (w : Walked) (answers : List ℕ) : Type 0 where
@@ -570,7 +570,7 @@ pub record Budgeted (n : ℕ) (r : Ran) (more : ℕ → Ran) : Type 0 where
 abbrev pub Steps : Type 0
 Steps = (n : ℕ) (code : List Instr) (p : ℕ) (answers : List ℕ) → Budgeted n (run n code p answers) (λ m. run (n + m) code p answers)
 
--- ---- R-8: the places met are the steps counted: proofs/Places_met
+-- ---- R-8: the places met are the steps counted: proofs/PlacesMet
 
 -- the events of steps at these places, on these answers
 unfoldable pub events_by : Flow → Instr → List ℕ → (List ℕ → List ℕ) → List ℕ
