@@ -18,7 +18,6 @@ use Rattle.slots.specs.declared.Locals.TheVariants.{Count, TooMany}
 use Rattle.slots.specs.declared.collect.Gathered.{Gathered}
 use Rattle.slots.specs.declared.collect.Gathered.TheVariants.{Next, Over}
 use Rattle.slots.specs.declared.collect.Framed.{Framed}
-use Rattle.slots.specs.declared.collect.Framed.TheVariants as Framed
 use Rattle.slots.proofs.Adding.{leading-set, mid-front, first-length}
 use Rattle.slots.proofs.Reindexing.{reindexed-names}
 use Rattle.definitions.proofs.Named.{block-grows}

@@ -10,7 +10,6 @@ use Rattle.slots.specs.declared.Locals.TheVariants.{Count, TooMany}
 use Rattle.slots.specs.declared.collect.Gathered.{Gathered}
 use Rattle.slots.specs.declared.collect.Gathered.TheVariants.{Next, Over}
 use Rattle.slots.specs.declared.collect.Framed.{Framed}
-use Rattle.slots.specs.declared.collect.Framed.TheVariants as Framed
 
 -- the names at the first n of some places
 unfoldable pub leading : List ℕ → ℕ → List ℕ → List Name

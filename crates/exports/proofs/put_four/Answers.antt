@@ -1,7 +1,6 @@
 use native.Mathlib.Omega.{arith}
 use lib.ListN.{length-set}
 use Rattle.exports.proofs.Telling.{four-none, four-all}
-use borrow.Author.Rules.{rules}
 use Rattle.exports.proofs.put_four.Goals as goal
 
 pub returns-then-numbers-lt4 : goal.returns-then-numbers-lt4

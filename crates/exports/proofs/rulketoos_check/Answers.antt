@@ -1,5 +1,4 @@
 use Rattle.exports.proofs.Telling.{check-yes, check-no}
-use borrow.Author.Rules.{rules}
 use Rattle.exports.proofs.rulketoos_check.Goals as goal
 
 pub returns-in-Accepted : goal.returns-in-Accepted

@@ -1,6 +1,5 @@
 use native.Mathlib.Omega.{arith}
 use Rattle.exports.proofs.Telling.{code-known, code-short, code-yes, code-no}
-use borrow.Author.Rules.{rules}
 use Rattle.exports.proofs.rulketoos_code.Goals as goal
 
 pub overflow_mul-result : goal.overflow_mul-result

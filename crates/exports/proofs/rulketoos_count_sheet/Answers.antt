@@ -1,4 +1,3 @@
-use borrow.Author.Rules.{rules}
 use native.Mathlib.Omega.{arith}
 use Rattle.definitions.specs.Calls.{sheet_call}
 use Rattle.definitions.specs.Sheet.{sheet}

@@ -1,6 +1,5 @@
 use native.Mathlib.Omega.{arith}
 use Rattle.exports.proofs.Telling.{lowered-fits, lowered-yes, lowered-no}
-use borrow.Author.Rules.{rules}
 use Rattle.exports.proofs.rulketoos_lower.Goals as goal
 
 pub overflow_add-result : goal.overflow_add-result

@@ -1,6 +1,5 @@
 use native.Mathlib.Omega.{arith}
 use Rattle.exports.proofs.Telling.{reached-fits, reached-list, reached-none, reached-not}
-use borrow.Author.Rules.{rules}
 use Rattle.exports.proofs.rulketoos_reach.Goals as goal
 
 pub overflow_add-result : goal.overflow_add-result

@@ -1,5 +1,4 @@
 use Rattle.exports.proofs.Telling.{read-yes, read_no}
-use borrow.Author.Rules.{rules}
 use Rattle.exports.proofs.rulketoos_read.Goals as goal
 
 pub returns-in-Accepted : goal.returns-in-Accepted

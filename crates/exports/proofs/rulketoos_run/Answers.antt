@@ -1,5 +1,4 @@
 use Rattle.exports.proofs.Telling.{runs-yes, runs-no}
-use borrow.Author.Rules.{rules}
 use Rattle.exports.proofs.rulketoos_run.Goals as goal
 
 pub returns-in-Finished : goal.returns-in-Finished

@@ -1,4 +1,3 @@
-use borrow.Author.Rules.{rules}
 use native.Mathlib.Omega.{arith}
 use Rattle.exports.proofs.Telling.{tell-few, tell_yes, tell_no}
 use Rattle.exports.proofs.tell_text.Goals as goal

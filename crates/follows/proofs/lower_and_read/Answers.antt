@@ -2,7 +2,6 @@ use native.Mathlib.Omega.{arith}
 use Rattle.definitions.proofs.ReadFits.{small_bytes}
 use Rattle.follows.proofs.Made.{part-fits}
 use Rattle.follows.proofs.Reading.{reread-wrote, reread-refused}
-use borrow.Author.Rules.{rules}
 use Rattle.definitions.proofs.Narrower.{sets_under}
 use Rattle.follows.proofs.lower_and_read.Goals as goal
 

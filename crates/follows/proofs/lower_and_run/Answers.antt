@@ -1,7 +1,6 @@
 use Rattle.definitions.proofs.ReadFits.{small_bytes}
 use Rattle.follows.proofs.Made.{part-fits}
 use Rattle.follows.proofs.Walking.{follow-ran, follow-refused}
-use borrow.Author.Rules.{rules}
 use Rattle.definitions.proofs.Narrower.{sets_under}
 use Rattle.follows.proofs.lower_and_run.Goals as goal
 

@@ -1,4 +1,3 @@
-use borrow.Author.Rules.{rules}
 use Rattle.follows.proofs.Narrowing.{at_both}
 use Rattle.follows.proofs.lower_at_both.Goals as goal
 

@@ -1,4 +1,3 @@
-use borrow.Author.Rules.{rules}
 use Rattle.lowering.proofs.Answering.{set-limited, lowers-first, lowers-second, lowers-all}
 use Rattle.lowering.proofs.lower.Goals as goal
 

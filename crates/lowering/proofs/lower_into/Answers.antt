@@ -1,4 +1,3 @@
-use borrow.Author.Rules.{rules}
 use Rattle.tree.proofs.TreeViews.{answer-accepted}
 use Rattle.lowering.proofs.Answering.{answers-checked}
 use Rattle.lowering.proofs.lower_into.Goals as goal

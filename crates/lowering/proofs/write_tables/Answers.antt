@@ -1,4 +1,3 @@
-use borrow.Author.Rules.{rules}
 use Rattle.lowering.proofs.Answering.{roomy-as, room-refuses, room-writes}
 use Rattle.lowering.proofs.write_tables.Goals as goal
 

@@ -1,13 +1,6 @@
-use borrow.Author.Rules.{rules}
-use native.Mathlib.Omega.{arith}
-use mathlib.Core.Path.{refl}
-use Prim.Native.Nat.{ℕ, ◌+◌, ◌-◌, ◌*◌, ◌<◌}
-use Rattle.tree.proofs.StmtViews.{stmt-inside, stmt-deep, stmt-known, view-expr, view-return, view-assign, view-if, view-while, view-for, view-def, view-class, view-block, view-stmts-more, view-branches-more, view-methods-more, else-inside}
+use Prim.Native.Nat.{◌+◌, ◌-◌, ◌*◌}
 use Rattle.state.specs.State.{slot_names}
-use Rattle.slots.proofs.Gathering.{elifs-counted, elifs-read, elifs-are, else-reads}
-use Rattle.fits.proofs.Walking.{walks_next, first-over, second_walks, left-start, left-next, left_over, left-done, left_as, def-over, def-few, def-short}
-use Rattle.fits.proofs.ExprKinds.{long-enough}
-use Rattle.fits.proofs.StmtKinds.{fits-value, fits-return, fits-assign, fits-if, fits-while, fits-for, fits-def, fits-class, three-kinds, fits-pass, block-there, block-moved, fits-node, branch-there, branch-moved, StmtsLeft, stmts-step, stmts-end, stmts-ok, stmts-start, fits-block, BranchesLeft, branches-step, branches-last, branches-none, else-none, else-some, MethodsLeft, methods-step, methods-end, methods-ok, def-params, def-block, def_body, class-count, class-methods, class-over, class-done, def-framed}
+use Rattle.fits.proofs.StmtKinds.{StmtsLeft, BranchesLeft, MethodsLeft}
 use Rattle.fits.proofs.statements.+fits.Given as goal
 
 abbrev pub decreases-fits_block : goal.decreases-fits_block

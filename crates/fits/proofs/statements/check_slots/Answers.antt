@@ -2,7 +2,6 @@ use Rattle.fits.proofs.StmtKinds.{tree-fits, tree_over}
 use Rattle.slots.proofs.Adding.{none-slots}
 use mathlib.Core.Path.{refl}
 use lib.ListN.{replicate}
-use borrow.Author.Rules.{rules}
 use Rattle.fits.proofs.statements.check_slots.Goals as goal
 
 pub fits_block-whole-requires : goal.fits_block-whole-requires

@@ -1,6 +1,5 @@
 use Rattle.fits.proofs.ExprKinds.{second-there, second-moved}
 use Rattle.fits.proofs.Walking.{walks_next, first-over, second_walks}
-use borrow.Author.Rules.{rules}
 use Rattle.fits.proofs.statements.fits_assign.Goals as goal
 
 pub fits_target-target-requires : goal.fits_target-target-requires

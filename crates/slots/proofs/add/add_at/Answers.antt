@@ -1,4 +1,3 @@
-use borrow.Author.Rules.{rules}
 use Rattle.slots.proofs.Adding.{added-there, added_new}
 use Rattle.slots.proofs.add.add_at.Goals as goal
 

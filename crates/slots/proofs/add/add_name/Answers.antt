@@ -1,4 +1,3 @@
-use borrow.Author.Rules.{rules}
 use Rattle.slots.proofs.add.add_name.Goals as goal
 
 pub add_at-requires : goal.add_at-requires

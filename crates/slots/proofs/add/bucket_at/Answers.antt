@@ -1,5 +1,4 @@
 use mathlib.Core.Path.{ap, ◌∙◌}
-use borrow.Author.Rules.{rules}
 use Rattle.state.specs.Index.{bucket_of}
 use Rattle.state.specs.State.{slots_from}
 use Rattle.slots.proofs.add.bucket_at.Goals as goal

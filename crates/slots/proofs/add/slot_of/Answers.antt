@@ -1,5 +1,4 @@
 -- By the search from the name's bucket on.
-use borrow.Author.Rules.{rules}
 use Rattle.slots.proofs.Adding.{slot-told}
 use Rattle.slots.proofs.add.slot_of.Goals as goal
 

@@ -1,12 +1,6 @@
 -- The walk over a lambda's body: one function for each form of expression. The depth falls.
-use borrow.Author.Rules.{rules}
-use native.Mathlib.Omega.{arith}
-use mathlib.Core.Logic.{inl, inr}
-use mathlib.Core.Path.{refl}
-use Rattle.exprs.proofs.ExprViews.{expr-inside, expr-deep, expr-known, view-var, view-unary, view-binary, view-call, view-attribute, view-list, view-dict, view-tuple, view-set, view-tree-set, view-index, view-lambda}
-use Rattle.slots.proofs.Holding.{held-expr}
-use Rattle.slots.proofs.Referring.{keeping-again, literal-kinds, refs-var, refs-unary, refs-binary, refs-call, refs-attribute, refs-dict, refs-display, refs-index, refs-lambda, refs-literal, second-there, refs-second, list-there, refs-args, name-there, refs-object, refs-body, body-there, list-reads, list-is, dict-reads, dict-is, refs-list, ExprsLeft, exprs-start, exprs-head, exprs-next, exprs-done}
-use Prim.Native.Nat.{ℕ, ◌+◌, ◌*◌, ◌<◌}
+use Rattle.slots.proofs.Referring.{ExprsLeft}
+use Prim.Native.Nat.{◌+◌, ◌*◌}
 use Rattle.slots.proofs.captures.+refs.Given as goal
 
 abbrev pub decreases-refs_attribute : goal.decreases-refs_attribute

@@ -1,5 +1,4 @@
 -- A lambda's captures: its parameters are marked, its body is walked, what is kept is put in order.
-use borrow.Author.Rules.{rules}
 use Rattle.slots.proofs.Capturing.{keeping_start, captured}
 use Rattle.slots.proofs.captures.collect_free_vars.Goals as goal
 

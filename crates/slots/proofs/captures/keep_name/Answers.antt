@@ -1,6 +1,5 @@
 -- One name, kept or passed over.
 use mathlib.Core.Path.{refl}
-use borrow.Author.Rules.{rules}
 use Rattle.slots.proofs.Referring.{keeping-name, name-kept, name-left}
 use Rattle.slots.proofs.captures.keep_name.Goals as goal
 

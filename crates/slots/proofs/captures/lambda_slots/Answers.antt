@@ -1,7 +1,6 @@
 -- A lambda's slots: parameters, then captures.
 use native.Mathlib.Omega.{arith}
 use Rattle.slots.proofs.Capturing.{lambda-over, params-few, lambda-few, lambda-done, lambda-more, room-kept}
-use borrow.Author.Rules.{rules}
 use Rattle.slots.proofs.captures.lambda_slots.Goals as goal
 
 pub returns-in_default : goal.returns-in_default

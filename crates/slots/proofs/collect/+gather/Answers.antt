@@ -1,14 +1,10 @@
-use borrow.Author.Rules.{rules}
 use native.Mathlib.Omega.{arith}
 use mathlib.Core.Path.{refl, ◌∙◌}
-use Prim.Native.Nat.{ℕ, ◌+◌, ◌*◌, ◌<◌}
 use Rattle.tree.proofs.StmtViews.{stmt-inside, stmt-deep, view-block, view-if, view-while, view-for, else-inside}
 use Rattle.definitions.proofs.Named.{block-grows, branches-grow}
-use Rattle.slots.proofs.Gathering.{gathers-next, over-more, room-again, stmt-if, stmt-while, stmt-for, StmtsLeft, stmts-start, stmts-head, stmts-next, stmts-over, stmts-done, BranchesLeft, branches-start, branches-head, branches-next, branches-over, branches-last, branches-done, else-none, else-reads, else-some, elifs-counted, elifs-read, if-done, for-done, branch-done, block-there, branch-there, elifs-are}
-use Rattle.tree.specs.StmtAt.{stmts_at, branches_at}
+use Rattle.slots.proofs.Gathering.{gathers-next, over-more, room-again, stmt-if, stmt-while, stmt-for, stmts-start, stmts-head, stmts-next, stmts-over, stmts-done, branches-start, branches-head, branches-next, branches-over, branches-last, branches-done, else-none, else-reads, else-some, elifs-counted, elifs-read, if-done, for-done, branch-done, block-there, branch-there, elifs-are}
 use Rattle.tree.proofs.LoopsAt.{if-loops, while-loops, for-loops, other-loops, loops-at, no-else-loops, else-loops}
-use Rattle.definitions.specs.Slots.{loops_block, loops_branches}
-use Rattle.slots.proofs.Tallying.{tallies-over, tallies-as, tallies-none, LoopsLeft, loops-start, stmts-count, block-count, branches-count, branches-end, if-count, for-count}
+use Rattle.slots.proofs.Tallying.{tallies-over, tallies-as, tallies-none, loops-start, stmts-count, block-count, branches-count, branches-end, if-count, for-count}
 use Rattle.slots.proofs.collect.+gather.Goals as goal
 
 pub gather_block-u16_at-left-requires : goal.gather_block-u16_at-left-requires

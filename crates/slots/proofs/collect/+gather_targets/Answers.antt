@@ -1,13 +1,11 @@
 -- The walk over a target and the targets in it. The depth falls.
-use borrow.Author.Rules.{rules}
 use native.Mathlib.Omega.{arith}
 use mathlib.Core.Path.{◌∙◌}
 use Rattle.exprs.proofs.ExprViews.{expr-inside, expr-deep, view-var, view-tuple}
 use Rattle.slots.proofs.Skipping.{var-done}
 use Rattle.slots.proofs.Gathering.{gathers-as, next-gathers, room-again}
 use Rattle.slots.proofs.Referring.{list-reads}
-use Rattle.slots.proofs.Targeting.{target-var, target-other, tuple-gathers, TargetsLeft, targets-start, targets-head, targets_next, targets-over, targets-done}
-use Prim.Native.Nat.{ℕ, ◌+◌, ◌<◌}
+use Rattle.slots.proofs.Targeting.{target-var, target-other, tuple-gathers, targets-start, targets-head, targets_next, targets-over, targets-done}
 use Rattle.slots.proofs.collect.+gather_targets.Goals as goal
 
 pub gather_target-bounds-tree-at : goal.gather_target-bounds-tree-at

@@ -1,13 +1,6 @@
 -- The walk over a target and the targets in it. The depth falls.
-use borrow.Author.Rules.{rules}
-use native.Mathlib.Omega.{arith}
-use mathlib.Core.Path.{◌∙◌}
-use Rattle.exprs.proofs.ExprViews.{expr-inside, expr-deep, view-var, view-tuple}
-use Rattle.slots.proofs.Skipping.{var-done}
-use Rattle.slots.proofs.Gathering.{gathers-as, next-gathers, room-again}
-use Rattle.slots.proofs.Referring.{list-reads}
-use Rattle.slots.proofs.Targeting.{target-var, target-other, tuple-gathers, TargetsLeft, targets-start, targets-head, targets_next, targets-over, targets-done}
-use Prim.Native.Nat.{ℕ, ◌+◌, ◌<◌}
+use Rattle.slots.proofs.Targeting.{TargetsLeft}
+use Prim.Native.Nat.{◌+◌}
 use Rattle.slots.proofs.collect.+gather_targets.Given as goal
 
 abbrev pub decreases-gather_target : goal.decreases-gather_target

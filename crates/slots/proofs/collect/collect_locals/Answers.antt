@@ -1,6 +1,5 @@
 use native.Mathlib.Omega.{arith}
 use Rattle.slots.proofs.Params.{collected-count, frames-begun, frames-gathered, counts-few, frames-many, frames-all, room_of}
-use borrow.Author.Rules.{rules}
 use Rattle.slots.proofs.collect.collect_locals.Goals as goal
 
 pub returns-in_default : goal.returns-in_default

@@ -2,7 +2,6 @@
 use native.Mathlib.Omega.{arith}
 use Rattle.slots.proofs.Skipping.{moved-expr, expr-after}
 use Rattle.slots.proofs.Gathering.{gathers-next, next-gathers, over-more}
-use borrow.Author.Rules.{rules}
 use Rattle.slots.proofs.collect.gather_assign.Goals as goal
 
 pub returns-in_default : goal.returns-in_default

@@ -1,6 +1,5 @@
 use Rattle.slots.proofs.Gathering.{name-over, name-next}
 use native.Mathlib.Omega.{arith}
-use borrow.Author.Rules.{rules}
 use Rattle.slots.proofs.collect.gather_name.Goals as goal
 
 pub add_name-k-requires : goal.add_name-k-requires

@@ -2,7 +2,6 @@ use native.Mathlib.Omega.{arith}
 use Rattle.tree.proofs.StmtViews.{stmt-inside, stmt-deep, view-assign}
 use Rattle.slots.proofs.SkippingStmts.{short-done, value-reads, value-done, def-or-class, named-inside}
 use Rattle.slots.proofs.Gathering.{gathers-as, next-gathers, locals-simple, locals-named, stmt-assign}
-use borrow.Author.Rules.{rules}
 use Rattle.slots.proofs.collect.gather_plain.Goals as goal
 
 pub bounds-tree-at : goal.bounds-tree-at

@@ -1,7 +1,5 @@
-use Rattle.slots.proofs.Params.{ParamsLeft, params-start, params-head, params-next, params-done}
-use borrow.Author.Rules.{rules}
+use Rattle.slots.proofs.Params.{params-start, params-head, params-next, params-done}
 use native.Mathlib.Omega.{arith}
-use Prim.Native.Nat.{◌-◌}
 use Rattle.slots.proofs.collect.place_names.Goals as goal
 
 pub loop-i-init : goal.loop-i-init

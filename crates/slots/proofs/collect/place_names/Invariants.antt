@@ -1,6 +1,4 @@
-use Rattle.slots.proofs.Params.{ParamsLeft, params-start, params-head, params-next, params-done}
-use borrow.Author.Rules.{rules}
-use native.Mathlib.Omega.{arith}
+use Rattle.slots.proofs.Params.{ParamsLeft}
 use Prim.Native.Nat.{◌-◌}
 use Rattle.slots.proofs.collect.place_names.Given as goal
 

@@ -1,7 +1,6 @@
 use native.Mathlib.Omega.{arith}
 use Rattle.slots.proofs.Adding.{lent-room}
 use Rattle.slots.proofs.Params.{params-all, params-over, params-index, params-put}
-use borrow.Author.Rules.{rules}
 use Rattle.slots.proofs.collect.put_params.Goals as goal
 
 pub returns-then-count-gt-SLOTS_MOST : goal.returns-then-count-gt-SLOTS_MOST

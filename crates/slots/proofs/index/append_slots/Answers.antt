@@ -1,5 +1,4 @@
 use Rattle.slots.proofs.Reindexing.{appended}
-use borrow.Author.Rules.{rules}
 use Rattle.slots.proofs.index.append_slots.Goals as goal
 
 pub returns : goal.returns

@@ -1,8 +1,6 @@
-use native.Mathlib.Omega.{arith}
-use mathlib.Core.Path.{◌≡◌, refl}
+use mathlib.Core.Path.{◌≡◌}
 use Prim.Native.Nat.{◌-◌, ◌≤◌}
-use lib.ListN.{length, take, length-set}
-use Rattle.slots.proofs.Reindexing.{copy-next, copy_done}
+use lib.ListN.{length, take}
 use Rattle.slots.proofs.index.copy_places.Given as goal
 
 abbrev pub invariant-loop-i : goal.invariant-loop-i

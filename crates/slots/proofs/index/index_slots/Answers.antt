@@ -1,7 +1,6 @@
 use native.Mathlib.Omega.{arith}
 use Prim.Native.Nat.{◌+◌, ◌-◌}
-use borrow.Author.Rules.{rules}
-use Rattle.slots.proofs.Reindexing.{IndexLeft, index-start, index-next, index-done}
+use Rattle.slots.proofs.Reindexing.{index-start, index-next, index-done}
 use Rattle.slots.proofs.index.index_slots.Goals as goal
 
 pub loop-i-init : goal.loop-i-init

@@ -1,7 +1,4 @@
-use native.Mathlib.Omega.{arith}
-use Prim.Native.Nat.{◌+◌, ◌-◌}
-use borrow.Author.Rules.{rules}
-use Rattle.slots.proofs.Reindexing.{IndexLeft, index-start, index-next, index-done}
+use Rattle.slots.proofs.Reindexing.{IndexLeft}
 use Rattle.slots.proofs.index.index_slots.Given as goal
 
 abbrev pub invariant-loop-i : goal.invariant-loop-i

@@ -1,5 +1,4 @@
 -- By the number of the name's slot.
-use borrow.Author.Rules.{rules}
 use Rattle.names.proofs.Indexing.{slots-count}
 use Rattle.slots.proofs.Marking.{free-told, free-left}
 use Rattle.slots.proofs.marks.is_free.Goals as goal

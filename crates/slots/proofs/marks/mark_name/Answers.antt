@@ -1,5 +1,4 @@
 -- By the number of the name's slot.
-use borrow.Author.Rules.{rules}
 use Rattle.names.proofs.Indexing.{slots-count}
 use Rattle.slots.proofs.Marking.{mark-told, mark-left}
 use Rattle.slots.proofs.marks.mark_name.Goals as goal

@@ -1,13 +1,9 @@
 -- By the number of the name's slot.
 -- the names that are left mark what all mark
-use borrow.Author.Rules.{rules}
-use native.Mathlib.Omega.{arith}
-use mathlib.Core.Path.{◌≡◌, refl, sym, ◌∙◌}
+use mathlib.Core.Path.{◌≡◌}
 use Rattle.parts.specs.Places.{names_from, AllThere}
-use Rattle.parts.proofs.NameLaws.{there-first}
 use Rattle.state.specs.State.{slot_names}
 use Rattle.slots.specs.Held.{mark_all}
-use Rattle.slots.proofs.Marking.{mark-next, mark-done}
 use Rattle.slots.proofs.marks.mark_names.Given as goal
 
 abbrev pub invariant-loop-left : goal.invariant-loop-left

@@ -1,5 +1,4 @@
 -- A count, and so many names.
-use borrow.Author.Rules.{rules}
 use Rattle.slots.proofs.Params.{params-all}
 use Rattle.slots.proofs.Marking.{mark-list}
 use Rattle.slots.proofs.marks.mark_params.Goals as goal

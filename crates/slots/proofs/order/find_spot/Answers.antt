@@ -1,8 +1,7 @@
 use native.Mathlib.Omega.{arith}
 use mathlib.Core.Path.{refl, subst}
 use mathlib.Core.List.{List}
-use Prim.Native.Nat.{ℕ, ◌+◌, ◌-◌, ◌/◌}
-use borrow.Author.Rules.{rules}
+use Prim.Native.Nat.{ℕ, ◌+◌, ◌/◌}
 use Rattle.slots.proofs.Spotting.{Seeking, seek-start, seek-down, seek-up, seek-done}
 use Rattle.slots.proofs.order.find_spot.Goals as goal
 

@@ -1,9 +1,5 @@
-use native.Mathlib.Omega.{arith}
-use mathlib.Core.Path.{refl, subst}
-use mathlib.Core.List.{List}
-use Prim.Native.Nat.{ℕ, ◌+◌, ◌-◌, ◌/◌}
-use borrow.Author.Rules.{rules}
-use Rattle.slots.proofs.Spotting.{Seeking, seek-start, seek-down, seek-up, seek-done}
+use Prim.Native.Nat.{◌-◌}
+use Rattle.slots.proofs.Spotting.{Seeking}
 use Rattle.slots.proofs.order.find_spot.Given as goal
 
 abbrev pub invariant-loop-low : goal.invariant-loop-low

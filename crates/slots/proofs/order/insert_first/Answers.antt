@@ -1,8 +1,6 @@
 use native.Mathlib.Omega.{arith}
 use lib.ListN.{length-set}
-use Prim.Native.Nat.{◌-◌}
-use borrow.Author.Rules.{rules}
-use Rattle.slots.proofs.Spotting.{Moving, move_start, move_read, move-next, move-done}
+use Rattle.slots.proofs.Spotting.{move_start, move_read, move-next, move-done}
 use Rattle.slots.proofs.order.insert_first.Goals as goal
 
 pub loop-j-init : goal.loop-j-init

@@ -1,4 +1,4 @@
-use Rattle.slots.proofs.Ordering.{Sorting, sort-start, sort-first, sort-put, sort-done}
+use Rattle.slots.proofs.Ordering.{sort-start, sort-first, sort-put, sort-done}
 use Rattle.slots.proofs.Spotting.{sort-rest}
 use native.Mathlib.Omega.{arith}
 use mathlib.Core.Path.{refl}

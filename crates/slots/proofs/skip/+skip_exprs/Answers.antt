@@ -1,12 +1,11 @@
 use native.Mathlib.Omega.{arith}
 use mathlib.Core.Logic.{inl, inr}
 use mathlib.Core.Path.{refl, ap, ◌∙◌}
-use Prim.Native.Nat.{◌+◌, ◌*◌, ◌<◌, ℕ}
 use Rattle.definitions.specs.Tree.{Exprs}
 use Rattle.parts.specs.Places.{Node}
 use Rattle.exprs.proofs.ExprViews.{expr-inside, expr-deep, expr-known, view-int, view-float, view-string, view-var, view-unary, view-binary, view-call, view-attribute, view-list, view-dict, view-tuple, view-set, view-tree-set, view-index, view-lambda}
 use Rattle.slots.proofs.Referring.{list-reads, list-is, dict-reads, dict-is}
-use Rattle.slots.proofs.Skipping.{plain_done, number-done, plain-kinds, int-done, float-done, string-done, var-done, unary-done, binary-done, call-done, attribute-done, display-done, dict-done, index-done, lambda-done, moved-expr, expr-after, moved-list, list-after, moved-name, name-after, ExprsLeft, exprs-head, exprs-next, exprs-done}
+use Rattle.slots.proofs.Skipping.{plain_done, number-done, plain-kinds, int-done, float-done, string-done, var-done, unary-done, binary-done, call-done, attribute-done, display-done, dict-done, index-done, lambda-done, moved-expr, expr-after, moved-list, list-after, moved-name, name-after, exprs-head, exprs-next, exprs-done}
 use Rattle.slots.proofs.skip.+skip_exprs.Goals as goal
 
 pub skip_attribute-skip_value-p-requires : goal.skip_attribute-skip_value-p-requires

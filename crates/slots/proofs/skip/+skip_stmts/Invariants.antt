@@ -1,9 +1,5 @@
-use native.Mathlib.Omega.{arith}
-use mathlib.Core.Path.{refl}
-use Prim.Native.Nat.{◌+◌, ◌*◌, ◌<◌, ℕ}
-use Rattle.tree.proofs.StmtViews.{stmt-inside, stmt-deep, view-expr, view-return, view-assign, view-if, view-while, view-for, view-def, view-class, view-block, else-inside}
-use Rattle.slots.proofs.Skipping.{moved-params}
-use Rattle.slots.proofs.SkippingStmts.{simple-done, expr-done, return-done, assign-done, if-done, while-done, for-done, def-done, class-done, moved-block, block-after, moved-branch, branch-after, def-block, def-after, StmtsLeft, stmts-start, stmts-head, stmts-next, stmts-done, BranchesLeft, branches-head, branches-next, branches-last, branches-done, else-none, else-reads, else-done, elifs-counted, elifs-read, elifs-done, MethodsLeft, methods-head, methods-next, methods-done, methods-counted, methods-read, attributes-there, attributes-done}
+use Prim.Native.Nat.{◌+◌, ◌*◌}
+use Rattle.slots.proofs.SkippingStmts.{StmtsLeft, BranchesLeft, MethodsLeft}
 use Rattle.slots.proofs.skip.+skip_stmts.Given as goal
 
 abbrev pub decreases-skip_block : goal.decreases-skip_block

@@ -1,7 +1,7 @@
 use native.Mathlib.Omega.{arith}
 use mathlib.Core.Path.{refl}
 use Rattle.tree.proofs.StmtViews.{view-attributes}
-use Rattle.slots.proofs.SkippingStmts.{ValuesLeft, values-start, values-name, values-value, values-next, values-done}
+use Rattle.slots.proofs.SkippingStmts.{values-start, values-name, values-value, values-next, values-done}
 use Rattle.slots.proofs.skip.skip_attributes.Goals as goal
 
 pub u16_at-left-requires : goal.u16_at-left-requires

@@ -1,7 +1,4 @@
-use native.Mathlib.Omega.{arith}
-use mathlib.Core.Path.{refl}
-use Rattle.tree.proofs.StmtViews.{view-attributes}
-use Rattle.slots.proofs.SkippingStmts.{ValuesLeft, values-start, values-name, values-value, values-next, values-done}
+use Rattle.slots.proofs.SkippingStmts.{ValuesLeft}
 use Rattle.slots.proofs.skip.skip_attributes.Given as goal
 
 abbrev pub invariant-loop-left : goal.invariant-loop-left

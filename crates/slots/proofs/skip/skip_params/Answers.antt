@@ -1,6 +1,6 @@
 use native.Mathlib.Omega.{arith}
 use Rattle.parts.proofs.NameLaws.{there-first}
-use Rattle.slots.proofs.Skipping.{NamesLeft, names-left, names-next, names-done}
+use Rattle.slots.proofs.Skipping.{names-left, names-next, names-done}
 use Rattle.slots.proofs.skip.skip_params.Goals as goal
 
 pub overflow_add-p : goal.overflow_add-p

@@ -1,6 +1,4 @@
-use native.Mathlib.Omega.{arith}
-use Rattle.parts.proofs.NameLaws.{there-first}
-use Rattle.slots.proofs.Skipping.{NamesLeft, names-left, names-next, names-done}
+use Rattle.slots.proofs.Skipping.{NamesLeft}
 use Rattle.slots.proofs.skip.skip_params.Given as goal
 
 abbrev pub invariant-loop-left : goal.invariant-loop-left

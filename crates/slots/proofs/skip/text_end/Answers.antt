@@ -1,5 +1,4 @@
 use native.Mathlib.Omega.{arith}
-use borrow.Author.Rules.{rules}
 use Rattle.slots.proofs.Skipping.{text-done}
 use Rattle.slots.proofs.skip.text_end.Goals as goal
 
