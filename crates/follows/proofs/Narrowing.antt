@@ -6,7 +6,7 @@ use mathlib.Core.List.{List}
 use native.Mathlib.Omega.{arith}
 use lib.ListN.{length, replicate, length-replicate}
 use Rattle.definitions.specs.Bytes.{Answer, refused, accepted, when_accepted}
-use Rattle.definitions.specs.Module.{office, console, limits_by}
+use Rattle.definitions.specs.Module.{Limits, office, console, limits_by}
 use Rattle.definitions.specs.Calls.{output_after, count_answer, zeros, areas_fit, lower_answer, area_after, lower_call}
 use Rattle.definitions.specs.Statements.{Narrowed}
 use Rattle.definitions.proofs.Narrower.{narrower, sets_under}

@@ -20,6 +20,7 @@ use Rattle.lowering.specs.Lowered.{Lowers}
 use Rattle.lowering.specs.declared.Lowered.{Lowered}
 use Rattle.lowering.specs.declared.Lowered.TheVariants.{Wrote as Written, Refused as NotLowered}
 use Rattle.follows.specs.Rereading.{said, reread_call, Rereads}
+use Rattle.follows.specs.declared.Reread.{Reread}
 use Rattle.follows.specs.declared.Reread.TheVariants.{Wrote, Refused}
 use Rattle.follows.proofs.Made.{Made, made, part-is, then-accepted, then-refused}
 

@@ -22,6 +22,7 @@ use Rattle.lowering.specs.Lowered.{Lowers}
 use Rattle.lowering.specs.declared.Lowered.{Lowered}
 use Rattle.lowering.specs.declared.Lowered.TheVariants.{Wrote as Written, Refused as NotLowered}
 use Rattle.follows.specs.Following.{said, follow_call, FollowsAs, SameAsWalk, AsWalked, FollowsSource}
+use Rattle.follows.specs.declared.Followed.{Followed}
 use Rattle.follows.specs.declared.Followed.TheVariants.{Ran, Refused}
 use Rattle.follows.proofs.Made.{made, part-is, then-accepted, then-refused, left-accepted, left-refused}
 
