@@ -9,7 +9,8 @@ use Rattle.definitions.specs.Lower.{main, no_tables}
 use Rattle.state.specs.Words.{region, instrs_of}
 use Rattle.state.specs.State.{State, tables_of, state_of, functions_of, classes_of, with_tables, symbol_number, with_symbol, Within, Sound, Left, Numbers, total, no_every}
 use Rattle.state.specs.declared.Counts.{Counts}
-use Rattle.state.specs.Answered.{Limits, Numbered, At, Over}
+use Rattle.state.specs.declared.Limits.{Limits}
+use Rattle.state.specs.Answered.{Numbered, At, Over}
 use Rattle.state.proofs.Answers.{numbers-at, numbers-over, paced-more}
 use Rattle.state.proofs.Views.{stack-length}
 use Rattle.state.proofs.Enclosing.{symbol-functions}

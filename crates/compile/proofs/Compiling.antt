@@ -15,7 +15,8 @@ use Rattle.tree.specs.StmtAt.{TreeAt}
 use Rattle.state.specs.State.{State, state_of, emit_at, symbol_number, Within, Sound, Left, Emits}
 use Rattle.state.specs.Steps.{begun, ended}
 use Rattle.state.specs.declared.Counts.{Counts}
-use Rattle.state.specs.Answered.{Limits, Numbered, At, Over, Emitted, Done, Full}
+use Rattle.state.specs.declared.Limits.{Limits}
+use Rattle.state.specs.Answered.{Numbered, At, Over, Emitted, Done, Full}
 use Rattle.state.proofs.Answers.{emits-done, emits-full}
 use Rattle.state.proofs.Views.{function-count}
 use Rattle.state.proofs.Emission.{state-eq}

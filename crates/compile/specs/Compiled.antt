@@ -9,7 +9,8 @@ use Rattle.tree.specs.StmtAt.{block_at}
 use Rattle.state.specs.State.{State, tables_of, with_tables, symbol_number, with_symbol, Limited, Within, Sound}
 use Rattle.state.specs.Steps.{begun}
 use Rattle.state.specs.declared.Counts.{Counts}
-use Rattle.state.specs.Answered.{Limits, Emitted, Done, Full}
+use Rattle.state.specs.declared.Limits.{Limits}
+use Rattle.state.specs.Answered.{Emitted, Done, Full}
 use Rattle.lower_emit.specs.Nesting.{Begins}
 use Rattle.lower_emit.specs.Numbers.{counts_of, limits_in, answered, numbered}
 

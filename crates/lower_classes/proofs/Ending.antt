@@ -10,7 +10,8 @@ use Rattle.definitions.specs.Tables.{Method, one, with_classes, add_constant}
 use Rattle.definitions.specs.Lower.{class_object, end_class}
 use Rattle.state.specs.State.{State, state_of, emit_at, Sound, Within, Left, Emits, Numbers, symbol_number, with_symbol, with_tables}
 use Rattle.state.specs.declared.Counts.{Counts}
-use Rattle.state.specs.Answered.{Limits, Emitted, Done, Full, Numbered, At, Over}
+use Rattle.state.specs.declared.Limits.{Limits}
+use Rattle.state.specs.Answered.{Emitted, Done, Full, Numbered, At, Over}
 use Rattle.state.proofs.Views.{stack-length, constant-count}
 use Rattle.state.proofs.Enclosing.{symbol-functions, at-end_class, at-class_object}
 use Rattle.state.proofs.Answers.{emits-done, emits-full, emits-as, emits-after, numbers-at, numbers-over, paced-more}

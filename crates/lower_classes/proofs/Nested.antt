@@ -10,7 +10,8 @@ use Rattle.definitions.specs.Instruction.{instr}
 use Rattle.state.specs.Words.{name_at, word}
 use Rattle.state.specs.State.{State, method_of, state_of, Numbers, symbol_number, with_symbol, with_tables, class_names_from, class_methods_from, methods_from, constants_from}
 use Rattle.state.specs.declared.Counts.{Counts}
-use Rattle.state.specs.Answered.{Limits, Emitted, Full, At, Over}
+use Rattle.state.specs.declared.Limits.{Limits}
+use Rattle.state.specs.Answered.{Emitted, Full, At, Over}
 use Rattle.lower_emit.specs.Nesting.{Counted}
 use Rattle.lower_emit.proofs.Packing.{instr-plain, plain-below}
 use Rattle.lower_emit.proofs.ClassTables as class-tables

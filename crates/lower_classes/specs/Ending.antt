@@ -2,7 +2,8 @@
 use Rattle.std.specs.Prelude.{ℕ, ◌+◌, ◌≤◌, ◌≡◌, List}
 use Rattle.state.specs.State.{State, state_of, Within, Sound}
 use Rattle.state.specs.declared.Counts.{Counts}
-use Rattle.state.specs.Answered.{Limits, Emitted, Done, Full}
+use Rattle.state.specs.declared.Limits.{Limits}
+use Rattle.state.specs.Answered.{Emitted, Done, Full}
 
 -- the wanted state, with n methods more than functions, and one constant more than classes
 pub record Finished (k : Counts) (n : ℕ) (tree made code tables : List ℕ) (c : Counts) (l : Limits) (want : State) : Type 0 where

@@ -5,7 +5,6 @@ pub mod Setting
 pub mod Begun
 pub mod Ended
 pub mod ClassTables
-pub mod Counts
 pub mod Steps
 pub mod Functions
 pub mod ShortcutWords

@@ -15,7 +15,7 @@ use Rattle.definitions.specs.Lower.{patched, patch}
 use Rattle.state.specs.Words.{word, op_of, instr_of, instrs_of, small_int}
 use Rattle.state.specs.State.{state_of, done_from, Sound, Left}
 use Rattle.state.specs.declared.Counts.{Counts}
-use Rattle.state.specs.Answered.{Limits}
+use Rattle.state.specs.declared.Limits.{Limits}
 use Rattle.state.specs.Steps.{set_at, patch_at}
 use Rattle.lower_emit.specs.Patch.{patch_word, patch_words}
 use Rattle.lower_emit.proofs.Packing.{instr-jump, instr-back}

@@ -5,7 +5,8 @@ use mathlib.Core.List.{List, []}
 use Rattle.definitions.specs.Tables.{Emit, emits, ◌⨟◌}
 use Rattle.state.specs.State.{state_of, emit_at, Sound, Left}
 use Rattle.state.specs.declared.Counts.{Counts}
-use Rattle.state.specs.Answered.{Limits, Emitted, Done, Full}
+use Rattle.state.specs.declared.Limits.{Limits}
+use Rattle.state.specs.Answered.{Emitted, Done, Full}
 use Rattle.state.proofs.Answers.{emits-full, full-emits, done-emits, emits-as, emits-after, left-none, left_as, base-below}
 use Rattle.state.proofs.Emission.{at-seq, at-nothing}
 use Rattle.state.proofs.Growth.{Lengthens}

@@ -18,7 +18,7 @@ use Rattle.exprs.proofs.ExprViews.{view-tuple, view-set, view-tree-set, view-ind
 use Rattle.state.specs.Words.{name_at}
 use Rattle.state.specs.State.{State, state_of, emit_at, Sound}
 use Rattle.state.specs.declared.Counts.{Counts}
-use Rattle.state.specs.Answered.{Limits}
+use Rattle.state.specs.declared.Limits.{Limits}
 use Rattle.state.proofs.Views.{function-count}
 use Rattle.state.specs.Steps.{is_computed}
 use Rattle.lower_forms.specs.Lowerable.{expr_code, exprs_code, CallLowerable, NamedLowerable, load_callee, call_instr, Short}

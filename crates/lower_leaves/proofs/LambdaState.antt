@@ -21,7 +21,8 @@ use Rattle.state.specs.Words.{name_at}
 use Rattle.state.specs.State.{State, state_of, names_at, slots_from, Slots, emit_at, with_tables, symbol_number, with_symbol, Sound, Within, Left, found_or}
 use Rattle.state.specs.Steps.{begun, ended}
 use Rattle.state.specs.declared.Counts.{Counts}
-use Rattle.state.specs.Answered.{Limits, Emitted, Done, Full, Numbered, At, Over}
+use Rattle.state.specs.declared.Limits.{Limits}
+use Rattle.state.specs.Answered.{Emitted, Done, Full, Numbered, At, Over}
 use Rattle.state.proofs.Answers.{emits-full, full-emits, done-emits, paced-more, base-below}
 use Rattle.state.proofs.Views.{stack-length, function-count}
 use Rattle.state.proofs.Emission.{at-seq, at_one, at-by}

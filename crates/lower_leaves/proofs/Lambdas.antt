@@ -15,7 +15,8 @@ use Rattle.state.specs.Words.{word, instr_of, name_at}
 use Rattle.state.specs.State.{State, state_of, emit_at, names_at, slot_names, slots_from, Slots, symbol_number, with_symbol, with_tables, found_or}
 use Rattle.state.specs.Steps.{ended}
 use Rattle.state.specs.declared.Counts.{Counts}
-use Rattle.state.specs.Answered.{Limits, Emitted, Done, Full, Over}
+use Rattle.state.specs.declared.Limits.{Limits}
+use Rattle.state.specs.Answered.{Emitted, Done, Full, Over}
 use Rattle.state.proofs.Answers.{numbers-at, numbers-over, emits-full, full-emits, done-emits}
 use Rattle.state.proofs.Growth.{Lengthens, lengthens-loads}
 use Rattle.lower_emit.specs.Nesting.{begun_with, body_of, Moved}

@@ -10,7 +10,8 @@ use Rattle.definitions.specs.Tables.{one, ◌⨟◌, intern}
 use Rattle.definitions.specs.Lower.{Keeper, iter_name, make_iter, load_iter, ask_iter, take_iter, store}
 use Rattle.state.specs.State.{State, emit_at, Emits}
 use Rattle.state.specs.declared.Counts.{Counts}
-use Rattle.state.specs.Answered.{Limits, Emitted}
+use Rattle.state.specs.declared.Limits.{Limits}
+use Rattle.state.specs.Answered.{Emitted}
 use Rattle.state.proofs.Emission.{at-seq}
 use Rattle.state.proofs.StmtEmission.{at-take_iter}
 use Rattle.names.specs.declared.Made.TheVariants.{Iter, HasNext, Next, Iterator}

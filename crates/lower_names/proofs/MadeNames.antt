@@ -9,7 +9,8 @@ use Rattle.state.specs.Words.{region, name_at}
 use Rattle.state.specs.Index.{Covered}
 use Rattle.state.specs.State.{symbol_index_from, symbol_buckets, spelled, State, tables_of, state_of, Sound, Numbers, symbol_number, with_symbol, with_tables}
 use Rattle.state.specs.declared.Counts.{Counts}
-use Rattle.state.specs.Answered.{Limits, Numbered}
+use Rattle.state.specs.declared.Limits.{Limits}
+use Rattle.state.specs.Answered.{Numbered}
 use Rattle.state.proofs.Regions.{spelled_same, made-within-same, every_map}
 use Rattle.names.specs.Made.{Stands}
 use Rattle.names.proofs.Spelling.{spelled-made}

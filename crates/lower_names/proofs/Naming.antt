@@ -19,7 +19,8 @@ use Rattle.definitions.proofs.Resolve.{position-lt}
 use Rattle.state.specs.Words.{name_at, small_int}
 use Rattle.state.specs.State.{names_at, State, state_of, emit_at, Within, Sound, Left, Emits, Numbers, found_or, symbol_number, with_symbol, string_number, with_string, with_tables}
 use Rattle.state.specs.declared.Counts.{Counts}
-use Rattle.state.specs.Answered.{Limits, Emitted, Full, Numbered, At, Over}
+use Rattle.state.specs.declared.Limits.{Limits}
+use Rattle.state.specs.Answered.{Emitted, Full, Numbered, At, Over}
 use Rattle.state.proofs.Emission.{at-intern, at-string}
 use Rattle.state.proofs.Enclosing.{at-loads-none, at-loads-more}
 use Rattle.state.proofs.Within.{within-one}

@@ -8,7 +8,8 @@ use Rattle.definitions.specs.Tables.{Emit}
 use Rattle.tree.specs.StmtAt.{stmt_at, stmts_at}
 use Rattle.state.specs.State.{State, state_of, emit_at, Emits}
 use Rattle.state.specs.declared.Counts.{Counts}
-use Rattle.state.specs.Answered.{Limits, Emitted, Done, Full}
+use Rattle.state.specs.declared.Limits.{Limits}
+use Rattle.state.specs.Answered.{Emitted, Done, Full}
 use Rattle.state.proofs.Emission.{at-seq, at-nothing}
 use Rattle.state.proofs.Growth.{lengthens-block}
 use Rattle.state.proofs.Answers.{emits-done, emits-full, done-emits, full-emits}

@@ -16,7 +16,8 @@ use Rattle.state.specs.Words.{name_at}
 use Rattle.state.specs.State.{State, method_of, state_of, emit_at, Sound, Within, Paced, Left, Emits, with_tables}
 use Rattle.state.specs.Steps.{method_function, methods_at, methods_of}
 use Rattle.state.specs.declared.Counts.{Counts}
-use Rattle.state.specs.Answered.{Limits, Emitted, Done, Full}
+use Rattle.state.specs.declared.Limits.{Limits}
+use Rattle.state.specs.Answered.{Emitted, Done, Full}
 use Rattle.state.proofs.Views.{function-count, class-count, constant-count}
 use Rattle.state.proofs.Enclosing.{methods-none, methods-none-of, methods-more, methods-more-of, at-class}
 use Rattle.state.proofs.Growth.{methods-lengthened}

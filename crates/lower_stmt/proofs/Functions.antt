@@ -20,7 +20,8 @@ use Rattle.state.specs.Steps.{begun, ended, method_function}
 use Rattle.state.specs.Kept.{keeping_of, Spare}
 use Rattle.state.proofs.Kept.{keeping-slot}
 use Rattle.state.specs.declared.Counts.{Counts}
-use Rattle.state.specs.Answered.{Limits, Emitted, Done, Full, Numbered, At, Over}
+use Rattle.state.specs.declared.Limits.{Limits}
+use Rattle.state.specs.Answered.{Emitted, Done, Full, Numbered, At, Over}
 use Rattle.state.proofs.Views.{stack-length, function-count}
 use Rattle.state.proofs.Enclosing.{at-function, symbol-functions}
 use Rattle.state.proofs.Growth.{Lengthens, Lengthened, lengthens-seq, lengthens-emits, lengthens-block}

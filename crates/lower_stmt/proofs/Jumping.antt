@@ -16,7 +16,8 @@ use Rattle.state.specs.State.{State, state_of, emit_at, Sound, Within, Paced, Le
 use Rattle.state.specs.Steps.{set_at, patch_at, branch, chain_at}
 use Rattle.state.specs.Kept.{keeper_at, kept_at}
 use Rattle.state.specs.declared.Counts.{Counts}
-use Rattle.state.specs.Answered.{Limits, Emitted, Done, Full}
+use Rattle.state.specs.declared.Limits.{Limits}
+use Rattle.state.specs.Answered.{Emitted, Done, Full}
 use Rattle.state.proofs.Views.{stack-length}
 use Rattle.state.proofs.Emission.{at-seq, stack-grows, stack-after}
 use Rattle.state.proofs.Jumps.{at-loop, at-branch, chain-when, chain-else, chain-done}

@@ -3,7 +3,8 @@ use Rattle.std.specs.Prelude.{ℕ, ◌+◌, ◌≤◌, ◌<◌, ◌≡◌, List,
 use Rattle.definitions.specs.Tables.{Method}
 use Rattle.state.specs.State.{State, method_of, Within, Left}
 use Rattle.state.specs.declared.Counts.{Counts}
-use Rattle.state.specs.Answered.{Limits, Emitted, Done, Full}
+use Rattle.state.specs.declared.Limits.{Limits}
+use Rattle.state.specs.Answered.{Emitted, Done, Full}
 
 -- how many methods of a class there are, and the counts; or that the module is over the limits
 pub data Listed : Type 0 where

@@ -21,7 +21,8 @@ use Rattle.tree.proofs.TreeViews.{answer-refused}
 use Rattle.state.specs.Fits.{fits_block}
 use Rattle.state.specs.State.{State, tables_of, state_of, limits_of, Within, Sound, Limited}
 use Rattle.state.specs.declared.Counts.{Counts}
-use Rattle.state.specs.Answered.{Limits, Emitted, Done, Full}
+use Rattle.state.specs.declared.Limits.{Limits}
+use Rattle.state.specs.Answered.{Emitted, Done, Full}
 use Rattle.state.proofs.Views.{few-slots, within-sound}
 use Rattle.state.proofs.SlotsFit.{slots-fit, targets-asked}
 use Rattle.writing.specs.Wrote.{Wrote}

@@ -11,7 +11,7 @@ use Rattle.definitions.proofs.BytesWritten.{length-be}
 use Rattle.state.specs.Words.{region}
 use Rattle.state.specs.State.{strings_from, heads_from, codes_from, class_names_from, class_methods_from, methods_from, constants_from, done_from, tables_of, Sound}
 use Rattle.state.specs.declared.Counts.{Counts}
-use Rattle.state.specs.Answered.{Limits}
+use Rattle.state.specs.declared.Limits.{Limits}
 use Rattle.state.proofs.Regions.{region-length}
 use Rattle.module.specs.Sections.{symbol_bytes, string_bytes, functions_bytes, classes_bytes, constant_bytes, texts_bytes, bodies_bytes, Roomy}
 use Rattle.writing.proofs.Begun.{joined}

@@ -18,7 +18,7 @@ use Rattle.state.specs.Words.{region, name_at}
 use Rattle.state.specs.State.{heads_from, codes_from, class_names_from, class_methods_from, methods_from, done_from, spelled, names_at, functions_of, function_of, classes_of, class_of}
 use Rattle.state.specs.State.{tables_of, state_of, Sound, found_or}
 use Rattle.state.specs.declared.Counts.{Counts}
-use Rattle.state.specs.Answered.{Limits}
+use Rattle.state.specs.declared.Limits.{Limits}
 use Rattle.state.proofs.Regions.{region-length}
 use Rattle.state.proofs.Views.{symbols-length}
 use Rattle.names.proofs.Finding.{step, position-cons, names-length}

@@ -1,8 +1,18 @@
 // What the lowering keeps in the slices lent to it.
 #![tactic(auto)]
 
+// How many functions, symbols, strings, classes and instructions a module may have.
+#[derive(Clone, Copy)]
+pub struct Limits {
+    pub functions: u32,
+    pub symbols: u32,
+    pub strings: u32,
+    pub classes: u32,
+    pub instructions: u32,
+}
+
 // How much of each table is used, and of the two halves of the code area: `open` words of functions not done yet, of which the innermost begins at
-// `base`, and `done` words of finished ones. The emission keeps these in lent numbers; so the module's writer takes them.
+// `base`, and `done` words of finished ones. The module's writer takes these.
 #[derive(Clone, Copy)]
 pub struct Counts {
     pub symbols: u32,

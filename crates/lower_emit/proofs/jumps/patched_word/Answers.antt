@@ -1,11 +1,12 @@
+use native.Mathlib.Omega.{arith}
 use Rattle.lower_emit.proofs.Patching.{patch-break, patch-continue, patch-other}
 use Rattle.lower_emit.proofs.jumps.patched_word.Goals as goal
 
-pub returns-then-op-eq-BREAK : goal.returns-then-op-eq-BREAK
-returns-then-op-eq-BREAK c = patch-break _ _ _ _ _ c.if-op-eq-BREAK.true c.packed.ensures
+pub returns-in-46 : goal.returns-in-46
+returns-in-46 c = patch-break _ _ _ _ _ c.in-46.is c.packed.ensures
 
-pub returns-then-op-eq-CONTINUE : goal.returns-then-op-eq-CONTINUE
-returns-then-op-eq-CONTINUE c = patch-continue _ _ _ _ _ c.if-op-eq-BREAK.false c.if-op-eq-CONTINUE.true c.packed-then-op-eq-CONTINUE.ensures
+pub returns-in-47 : goal.returns-in-47
+returns-in-47 c = patch-continue _ _ _ _ _ (λ e. omega (arith, c.in-47.is)) c.in-47.is c.packed-in-47.ensures
 
-pub returns : goal.returns
-returns c = patch-other _ _ _ _ c.if-op-eq-BREAK.false c.if-op-eq-CONTINUE.false
+pub returns-in_default : goal.returns-in_default
+returns-in_default c = patch-other _ _ _ _ c.in_default.in_default-own.rest.0.1 c.in_default.in_default-own.rest.1
