@@ -67,6 +67,15 @@ pub record Reaches {A : Type 0} (r : Option A) (tree : List ℕ) (a b : Emitter)
 pub record LowersIn {A : Type 0} (r : Option A) (x : Emit) (tree : List ℕ) (a b : Emitter) : Type 0 where
   pub reaches : Reaches r tree a b (emit_at a.code.base x (state_in tree a))
 
+-- the next position in the tree, if it is answered
+abbrev pub NextIs : Option ℕ → ℕ → Type 0
+NextIs r next = (n : ℕ) → r ≡ Some n → n ≡ next
+
+-- the part with the code x is emitted; it ends at `next`
+pub record EmitsTo (r : Option ℕ) (x : Emit) (next : ℕ) (tree : List ℕ) (a b : Emitter) : Type 0 where
+  pub place : NextIs r next
+  pub lowers : LowersIn r x tree a b
+
 -- a number and the wanted state; or the same
 pub record NumbersIn (r : Option ℕ) (number : ℕ) (tree : List ℕ) (a b : Emitter) (want : State) : Type 0 where
   pub is : (n : ℕ) → r ≡ Some n → n ≡ number

@@ -1,5 +1,9 @@
-// What the lowering keeps in the slices lent to it.
+// What the lowering reads, and what it keeps in the slices lent to it.
 #![tactic(auto)]
+
+ghost use Rattle.std.specs.Prelude.{◌≤◌, length};
+ghost use Rattle.state.specs.State.{Slots};
+ghost use Rattle.state.specs.Props.{slots-prop};
 
 // How many functions, symbols, strings, classes and instructions a module may have.
 #[derive(Clone, Copy)]
@@ -25,4 +29,13 @@ pub struct Counts {
     pub base: u32,
     pub open: u32,
     pub done: u32,
+}
+
+// What a function's code is lowered in: the tree, and the function's slots.
+#[derive(Clone, Copy)]
+pub struct Scope<'a> {
+    pub tree: &'a [u8],
+    pub slots: &'a [u32],
+    pub ghost short: { length tree.now ≤ 32768 },
+    pub ghost slotted: { Slots tree.now slots.now } by { slots-prop _ _ },
 }
