@@ -3,7 +3,7 @@
 
 ghost use Rattle.std.specs.Prelude.{◌≡◌, ◌+◌, ◌<◌, ◌≤◌, ◌^◌, length};
 ghost use Rattle.definitions.specs.Instruction.{instr, ConstStr};
-ghost use Rattle.definitions.specs.Tables as Tables;
+ghost use Rattle.definitions.specs.Tables as Emission;
 ghost use Rattle.definitions.specs.Tables.{one, get_or_add_string};
 ghost use Rattle.definitions.specs.Lower as Lower;
 ghost use Rattle.definitions.specs.Lower.{load, store};
@@ -95,7 +95,8 @@ pub fn intern_made(tree: &[u8], tables: &mut Tables<'_>, m: Made) -> Option<u32>
     ensures { InternsMade result (made_name m) tree.now tables.old tables.new }
 {
     let at = tables.made_len;
-    let grow = write_made(&mut *tables.made, at as usize, m);
+    let made = &mut *tables.made;
+    let grow = write_made(made, at as usize, m);
     intern(tree, tables, MADE_FROM + at, grow)
 }
 
@@ -143,7 +144,7 @@ fn string_number(tree: &[u8], tables: &mut Tables<'_>, at: usize) -> Option<u32>
 // An instruction with the symbol of the name at `at`, and b.
 pub fn emit_symbol(tree: &[u8], e: &mut Emitter<'_>, at: usize, op: u32, b: u32) -> Option<()>
     requires { SoundIn tree.now e.old × (at < 32768) × Plain op 0 b }
-    ensures { LowersIn result (Tables.intern (name_at tree.now at) (λ k. one (instr op k b))) tree.now e.old e.new }
+    ensures { LowersIn result (Emission.intern (name_at tree.now at) (λ k. one (instr op k b))) tree.now e.old e.new }
 {
     let i = intern(tree, &mut e.tables, at as u32, 0)?;
     e.code.put_op(op, i, b)
