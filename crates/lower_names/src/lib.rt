@@ -160,13 +160,7 @@ pub fn emit_string(tree: &[u8], e: &mut Emitter<'_>, at: usize) -> Option<()>
 }
 
 // The variable at `at` by its slot with `op`, else by the global of its name, whose opcode is two more.
-fn emit_variable(
-    tree: &[u8],
-    slots: &[u32],
-    e: &mut Emitter<'_>,
-    at: usize,
-    op: u32,
-) -> Option<()>
+fn emit_variable(tree: &[u8], slots: &[u32], e: &mut Emitter<'_>, at: usize, op: u32) -> Option<()>
     requires { SoundIn tree.now e.old × Slots tree.now slots.now × (at < 32768) × (9 ≤ op) × (op ≤ 10) }
     ensures { LowersIn result (variable op (slot_names tree.now slots.now) (name_at tree.now at)) tree.now e.old e.new }
 {
