@@ -338,5 +338,5 @@ fn emit_class(tree: &[u8], e: &mut Emitter<'_>, at: usize, depth: u32) -> Option
     let start = name_end(tree, at);
     let n = u16_at(tree, start);
     let count = emit_methods(tree, e, start + 2, depth, n, &mut list)?;
-    finish_class(tree, e, at, &list, count, i)
+    finish_class(tree, e, at, i, &list[..count as usize])
 }
