@@ -1,23 +1,23 @@
 -- What functions, methods and classes ask and leave.
-use Rattle.std.specs.Prelude.{ℕ, ◌≡◌, true, false, List, ltb, length}
+use Rattle.std.specs.Prelude.{ℕ, ◌≤◌, ◌<◌, ◌≡◌, Option, Some, List, length}
 use Rattle.definitions.specs.Tables.{Method}
 use Rattle.state.specs.State.{State}
-use Rattle.lower_stmt.specs.Compiled.{Listed, All, Over, Compiles, Lists}
-use Rattle.lower_forms.specs.Lowering.{Sole}
-use Rattle.lower_emit.specs.Numbers.{counts_of, limits_in, answered}
+use Rattle.lower_emit.specs.declared.emitter.Emitter.{Emitter}
+use Rattle.lower_emit.specs.Emitting.{counts_of, SoundIn, NextIs, Reaches}
+use Rattle.lower_stmt.specs.Compiled.{Ahead, Methodical}
 
-pub record SoleIn (tree made code tables k l : List ℕ) : Type 0 where
-  pub numbers : 10 ≡ length k
-  pub sole : Sole tree made code tables (counts_of k) (limits_in l)
+pub record SoleIn (tree : List ℕ) (e : Emitter) : Type 0 where
+  pub tree-short : length tree ≤ 32768
+  pub sound : SoundIn tree e
 
-pub record CompilesIn (r next : ℕ) (want : State) (t k l made' code' tables' k' : List ℕ) : Type 0 where
-  pub compiles : Compiles (answered r k') t made' code' tables' (counts_of k) (limits_in l) next want
-  pub numbers : 10 ≡ length k'
+-- the next position and the wanted state, with a function more, and more than methods; or the wanted state is over the limits
+pub record CompilesIn (r : Option ℕ) (next : ℕ) (want : State) (tree : List ℕ) (a b : Emitter) : Type 0 where
+  pub place : NextIs r next
+  pub reaches : Reaches r tree a b want
+  pub ahead : (n : ℕ) → r ≡ Some n → Ahead 1 (counts_of a) (counts_of b)
+  pub more : (n : ℕ) → r ≡ Some n → a.tables.functions < b.tables.functions
 
--- a count and the counts, or 65,536
-unfoldable pub listed : ℕ → List ℕ → Listed
-listed r k = elim (ltb r 65536) [ true ↦ All r (counts_of k) | false ↦ Over ]
-
-pub record ListsIn (r : ℕ) (want : State) (methods : List Method) (t list k l made' code' tables' k' : List ℕ) : Type 0 where
-  pub lists : Lists (listed r k') t list made' code' tables' (counts_of k) (limits_in l) want methods
-  pub numbers : 10 ≡ length k'
+-- the wanted state and the class's methods, so many; or the wanted state is over the limits
+pub record ListsIn (r : Option ℕ) (want : State) (methods : List Method) (tree list : List ℕ) (a b : Emitter) : Type 0 where
+  pub reaches : Reaches r tree a b want
+  pub methods : (n : ℕ) → r ≡ Some n → Methodical n tree list (counts_of a) (counts_of b) methods
