@@ -1,21 +1,22 @@
 -- A lambda's function begun, its body, its end, and the values it captures, by the laws of the state.
 use Prim.Native.Nat.{ℕ, zero, suc, ◌+◌, ◌-◌, ◌<◌, ◌≤◌}
 use mathlib.Core.Path.{◌≡◌, refl, sym, ap, subst, ◌∙◌}
-use mathlib.Core.Bool.{true}
+use mathlib.Core.Option.{some}
 use mathlib.Core.List.{List, []}
 use native.Mathlib.Omega.{arith}
 use lib.ListN.{length, get_or, set, drop, length-set, length-drop}
 use lib.Seq.{get_or-set_same, get_or-set_other}
-use Rattle.definitions.specs.Bytes.{member, same, position}
+use Rattle.definitions.specs.Bytes.{same, position}
 use Rattle.definitions.specs.Instruction.{Instr, Return, ConstI64}
 use Rattle.definitions.specs.Slots.{names_only}
 use Rattle.definitions.specs.Tables.{Emit, Body, one, ◌⨟◌, function}
 use Rattle.definitions.specs.Lower.{lambda_name, load, loads, literal}
 use Rattle.state.specs.Words.{word, instr_of, name_at}
-use Rattle.state.specs.State.{State, state_of, emit_at, names_at, slot_names, slots_from, Slots, symbol_number, with_symbol, with_tables, found_or}
+use Rattle.state.specs.State.{State, state_of, emit_at, names_at, slot_names, slots_from, Slots, symbol_number, with_symbol, with_tables}
 use Rattle.state.specs.Steps.{ended}
 use Rattle.state.specs.declared.Counts.{Counts}
 use Rattle.state.specs.Answered.{Limits, Emitted, Done, Full, Over}
+use Rattle.definitions.proofs.Resolve.{position-lt}
 use Rattle.state.proofs.Answers.{numbers-at, numbers-over, emits-full, full-emits, done-emits}
 use Rattle.state.proofs.Growth.{Lengthens, lengthens-loads}
 use Rattle.lower_emit.specs.Nesting.{begun_with, body_of, Moved}
@@ -27,8 +28,7 @@ use Rattle.lower_names.proofs.Midway.{Midway, midway_start, midway-base, midway-
 use Rattle.lower_names.proofs.Naming.{numbers-name, loads-more, loads-end}
 use Rattle.lower_emit.specs.Step.{Lowers, Ends}
 use Rattle.lower_leaves.proofs.LambdaState.{lambda-name, begins-at, begin-over, begin-after, end-full, end_known, end_empty, end-done, function-over, function-body-over}
-use Rattle.names.proofs.Finding.{names-length}
-use Rattle.lower_leaves.proofs.LambdaState.{function-known, function-empty, function-base, function-end, slot-below, slot-load}
+use Rattle.lower_leaves.proofs.LambdaState.{function-known, function-empty, function-base, function-end, slot-load}
 use Rattle.lower_emit.specs.Numbers.{counts_of, limits_in, answered, numbered, Room, Put, Begun, Ending, Ended, SoundIn, LowersIn}
 use Rattle.lower_emit.proofs.Counts.{answered-full, answered-done, numbered-at, numbered-over}
 use Rattle.lower_emit.proofs.Steps.{room-put, put-lifts, done-of, sound-next, lowers-full, lowers-state, lowers-stopped, lowers_then}
@@ -186,16 +186,15 @@ module _ {t slots captured code₀ k₀ l code k : List ℕ} {i : ℕ} (G : Load
     room = λ z. G.room;
   }
 
-  module _ {s : ℕ} (more : i < length captured) (has : member (name_at t (get_or captured i 0)) (slot_names t slots) ≡ true) (Z : Slots t slots)
-      (slot : s ≡ found_or (length (drop slots_from slots)) (position (same (name_at t (get_or captured i 0))) (slot_names t slots))) where
+  module _ {s : ℕ} (more : i < length captured) (Z : Slots t slots) (slot : some s ≡ position (same (name_at t (get_or captured i 0))) (slot_names t slots)) where
     pub slot_small : s < 65536
-    slot_small = let b = slot-below (slot_names t slots) _ _ s has (sym (names-length t (drop slots_from slots))) slot in let z = slots-count t slots Z in omega (arith, b, z.0, z.1)
+    slot_small = let b = position-lt _ (slot_names t slots) s (sym slot) in let z = slots-count t slots Z in omega (arith, b, z.0, z.1)
 
     one-load : {code' k' : List ℕ} {p next : ℕ} → 0 < next → Put p code code' k k' l (word 9 s 0) next → (made tables : List ℕ) → SoundIn t made code₀ tables k₀ l → LowersIn p (load (slot_names t slots) (name_at t (get_or captured i 0))) next t made code tables k l made code' tables k'
     one-load {code'} {k'} {p} {next} n h made tables S =
         let here : SoundIn t made code tables k l = record { numbers = G.room.numbers; sound = (G.midway made tables S).sound } in
         lowers-state (put-lifts p here n (instr-plain t 9 s 0 (plain-below 9 s 0 (omega arith) (omega arith) slot_small (omega arith))) h)
-        (sym (slot-load (get_or k 7 0) t (drop slots_from slots) (name_at t (get_or captured i 0)) s (state_of t made code tables (counts_of k)) has slot))
+        (sym (slot-load (get_or k 7 0) t (drop slots_from slots) (name_at t (get_or captured i 0)) s (state_of t made code tables (counts_of k)) slot))
 
     abbrev rest : Emit
     rest = loads (slot_names t slots) (names_at t (drop (i + 1) captured))

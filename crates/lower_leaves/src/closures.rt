@@ -77,7 +77,9 @@ fn load_captured(
     let mut i = 0;
     while i < captured.len() {
         let at = captured[i] as usize;
-        let s = find_slot(tree, slots, at);
+        let Some(s) = find_slot(tree, slots, at) else {
+            unreachable!()
+        };
         let p = put_op(code, k, l, LOAD_LOCAL, s, 0, next);
         if p == 0 {
             return 0;

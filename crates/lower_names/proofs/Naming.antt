@@ -15,9 +15,8 @@ use Rattle.definitions.specs.Instruction.{Instr, instr}
 use Rattle.definitions.specs.Tables.{Emit, one, intern, get_or_add_string}
 use Rattle.definitions.specs.Lower.{load, store, loads}
 use Rattle.definitions.specs.Reader.{is_jump}
-use Rattle.definitions.proofs.Resolve.{position-lt}
 use Rattle.state.specs.Words.{name_at, small_int}
-use Rattle.state.specs.State.{names_at, State, state_of, emit_at, Within, Sound, Left, Emits, Numbers, found_or, symbol_number, with_symbol, string_number, with_string, with_tables}
+use Rattle.state.specs.State.{names_at, State, state_of, emit_at, Within, Sound, Left, Emits, Numbers, symbol_number, with_symbol, string_number, with_string, with_tables}
 use Rattle.state.specs.declared.Counts.{Counts}
 use Rattle.state.specs.Answered.{Limits, Emitted, Full, Numbered, At, Over}
 use Rattle.state.proofs.Emission.{at-intern, at-string}
@@ -105,23 +104,13 @@ pub plain_op : (op a : ℕ) → 9 ≤ op → op ≤ 12 → a < 65536 → Plain o
 plain_op op a h g k = record { op-byte = omega arith; op-plain = low-plain op h g; first_short = k; second-byte = omega arith }
 
 module _ (op base : ℕ) (slots : List Name) (x : Name) (s : State) where
-  by-slot : (o : Option ℕ) → found_or (length slots) o < length slots → variable_by op x o ≡ one (instr op (found_or (length slots) o) 0)
-  unfolding variable_by found_or
-  by-slot none h = absurd (omega arith)
-  by-slot (some i) h = refl
+  pub at_slot : (i : ℕ) → some i ≡ position (same x) slots → emit_at base (one (instr op i 0)) s ≡ emit_at base (variable op slots x) s
+  unfolding variable variable_by
+  at_slot i e = ap (λ (o : Option ℕ). emit_at base (variable_by op x o) s) e
 
-  by-name : (o : Option ℕ) → ((k : ℕ) → o ≡ some k → k < length slots) → length slots ≤ found_or (length slots) o → variable_by op x o ≡ intern x (λ k. one (instr (op + 2) k 0))
-  unfolding variable_by found_or
-  by-name none f h = refl
-  by-name (some i) f h = let z = f i refl in absurd (omega arith)
-
-  pub at_slot : (i : ℕ) → i ≡ found_or (length slots) (position (same x) slots) → i < length slots → emit_at base (one (instr op i 0)) s ≡ emit_at base (variable op slots x) s
-  unfolding variable
-  at_slot i e h = ap (λ (k : ℕ). emit_at base (one (instr op k 0)) s) e ∙ ap (λ (f : Emit). emit_at base f s) (sym (by-slot (position (same x) slots) (omega arith)))
-
-  pub at-global : (i : ℕ) → i ≡ found_or (length slots) (position (same x) slots) → length slots ≤ i → emit_at base (intern x (λ k. one (instr (op + 2) k 0))) s ≡ emit_at base (variable op slots x) s
-  unfolding variable
-  at-global i e h = ap (λ (f : Emit). emit_at base f s) (sym (by-name (position (same x) slots) (position-lt (same x) slots) (omega arith)))
+  pub at-global : none ≡ position (same x) slots → emit_at base (intern x (λ k. one (instr (op + 2) k 0))) s ≡ emit_at base (variable op slots x) s
+  unfolding variable variable_by
+  at-global e = ap (λ (o : Option ℕ). emit_at base (variable_by op x o) s) e
 
 -- a load and a store are such
 pub at_load : (base : ℕ) (slots : List Name) (x : Name) (s : State) → emit_at base (variable 9 slots x) s ≡ emit_at base (load slots x) s

@@ -2,6 +2,7 @@
 use Prim.Native.Nat.{ℕ, ◌+◌, ◌-◌, ◌%◌, ◌<◌, ◌≤◌}
 use mathlib.Core.Path.{◌≡◌, refl, sym, ap, subst, ◌∙◌}
 use mathlib.Core.List.{List, map}
+use mathlib.Core.Option.{Option, some}
 use native.Mathlib.Omega.{arith}
 use lib.ListN.{length, get_or, set, take, drop, length-set}
 use lib.Seq.{get_or-set_other}
@@ -13,7 +14,8 @@ use Rattle.state.specs.Words.{region, text_at}
 use Rattle.state.specs.State.{state_of, Numbers, strings_from, string_index_from, string_buckets, found_or, string_number, with_string, with_tables}
 use Rattle.state.specs.Answered.{Numbered, At}
 use Rattle.lower_names.proofs.Numbering.{one_string, Renewed, text-old, text-over, text-new}
-use Rattle.names.proofs.TableIndex.{bucket-is, indexed-found, indexed-le}
+use Rattle.names.specs.Sought.{shifted}
+use Rattle.names.proofs.TableIndex.{bucket-is, indexed-found, indexed-lt}
 use Rattle.lower_names.proofs.Naming.{string-over, string-sound, string-put}
 use Rattle.lower_emit.specs.Numbers.{counts_of, limits_in, answered, Room, SoundIn, LowersIn}
 use Rattle.lower_emit.proofs.Counts.{numbered-at, numbered-over, ten}
@@ -58,16 +60,17 @@ module _ {tree tables k l : List ℕ} {p i : ℕ} (T : Texts tree tables k l) (f
   }
 
 -- what the code finds from the first number on
-module _ {tree tables k l text : List ℕ} (p : ℕ) {h first r : ℕ} (T : Texts tree tables k l) (is : text ≡ text_at tree p) (hashed : h ≡ hash_of text)
+module _ {tree tables k l text : List ℕ} (p : ℕ) {h first : ℕ} (o : Option ℕ) (T : Texts tree tables k l) (is : text ≡ text_at tree p) (hashed : h ≡ hash_of text)
     (start : first ≡ start_of (get_or (region string_index_from string_buckets tables) (h % string_buckets) 0) (get_or k 1 0))
-    (found : r ≡ found_or (length (take (strings_from + get_or k 1 0 - (strings_from + first)) (drop (strings_from + first) tables))) (position (same text) (map (text_at tree) (take (strings_from + get_or k 1 0 - (strings_from + first)) (drop (strings_from + first) tables))))) where
-  pub added-le : first + r ≤ get_or k 1 0
-  added-le = indexed-le (text_at tree) tables (region string_index_from string_buckets tables) string_buckets strings_from (get_or k 1 0) text first (h % string_buckets) r (strings_from + first) (strings_from + get_or k 1 0 - (strings_from + first))
+    (found : o ≡ position (same text) (map (text_at tree) (take (strings_from + get_or k 1 0 - (strings_from + first)) (drop (strings_from + first) tables)))) where
+  pub added-lt : (r : ℕ) → o ≡ some r → first + r < get_or k 1 0
+  added-lt = indexed-lt (text_at tree) tables (region string_index_from string_buckets tables) string_buckets strings_from (get_or k 1 0) text first (h % string_buckets) (strings_from + first) (strings_from + get_or k 1 0 - (strings_from + first)) o
       (omega (arith, T.tables-room, T.strings, T.limit)) T.string-index (bucket-is string_buckets text text h hashed refl) start refl (omega arith) found
 
-  pub added-found : FoundText tree tables k p (first + r)
-  added-found = indexed-found (text_at tree) tables (region string_index_from string_buckets tables) string_buckets strings_from (get_or k 1 0) text first (h % string_buckets) r (strings_from + first) (strings_from + get_or k 1 0 - (strings_from + first))
-      (omega (arith, T.tables-room, T.strings, T.limit)) T.string-index (bucket-is string_buckets text text h hashed refl) start refl (omega arith) found
+  pub added-found : FoundText tree tables k p (found_or (get_or k 1 0) (shifted first o))
+  added-found =
+      ap (found_or (get_or k 1 0)) (indexed-found (text_at tree) tables (region string_index_from string_buckets tables) string_buckets strings_from (get_or k 1 0) text first (h % string_buckets) (strings_from + first) (strings_from + get_or k 1 0 - (strings_from + first)) o
+      (omega (arith, T.tables-room, T.strings, T.limit)) T.string-index (bucket-is string_buckets text text h hashed refl) start refl (omega arith) found)
       ∙ ap (λ (y : Text). found_or (get_or k 1 0) (position (same y) (map (text_at tree) (region strings_from (get_or k 1 0) tables)))) is
 
 pub room-adds : {tree code tables tables₁ k k₁ l : List ℕ} {i p : ℕ} → Room code k l → Adds i tree tables tables₁ k k₁ l p → Room code k₁ l

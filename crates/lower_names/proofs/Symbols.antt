@@ -2,6 +2,7 @@
 use Prim.Native.Nat.{ℕ, ◌+◌, ◌-◌, ◌%◌, ◌<◌, ◌≤◌}
 use mathlib.Core.Path.{◌≡◌, refl, sym, ap, subst, ◌∙◌}
 use mathlib.Core.List.{List, map}
+use mathlib.Core.Option.{Option, some}
 use native.Mathlib.Omega.{arith}
 use native.Mathlib.Nat.{zero-add}
 use lib.ListN.{length, get_or, set, take, drop, length-set}
@@ -14,7 +15,8 @@ use Rattle.state.specs.State.{state_of, Numbers, MadeWithin, symbol_index_from, 
 use Rattle.state.specs.Answered.{Numbered, At}
 use Rattle.state.proofs.Regions.{set_here, set_below, set-above, spelled_same, made-within-same, every_map}
 use Rattle.names.specs.Made.{Stands}
-use Rattle.names.proofs.TableIndex.{bucket-is, indexed-found, indexed-le}
+use Rattle.names.specs.Sought.{shifted}
+use Rattle.names.proofs.TableIndex.{bucket-is, indexed-found, indexed-lt}
 use Rattle.names.proofs.Spelling.{spelled-made}
 use Rattle.lower_names.proofs.MadeNames.{made-sound, made-numbers}
 use Rattle.lower_names.proofs.Numbering.{one_symbol, Renewed, intern-old, intern-over, intern-new}
@@ -84,16 +86,17 @@ module _ {tree made tables k l : List ℕ} {w i : ℕ} (N : Naming tree made tab
   }
 
 -- what the code finds from the first number on
-module _ {tree made tables k l name : List ℕ} (w : ℕ) {h first r : ℕ} (N : Naming tree made tables k l) (is : name ≡ spelled tree made w) (hashed : h ≡ hash_of name)
+module _ {tree made tables k l name : List ℕ} (w : ℕ) {h first : ℕ} (o : Option ℕ) (N : Naming tree made tables k l) (is : name ≡ spelled tree made w) (hashed : h ≡ hash_of name)
     (start : first ≡ start_of (get_or (region symbol_index_from symbol_buckets tables) (h % symbol_buckets) 0) (get_or k 0 0))
-    (found : r ≡ found_or (length (take (get_or k 0 0 - first) (drop first tables))) (position (same name) (map (spelled tree made) (take (get_or k 0 0 - first) (drop first tables))))) where
-  pub interned-le : first + r ≤ get_or k 0 0
-  interned-le = indexed-le (spelled tree made) tables (region symbol_index_from symbol_buckets tables) symbol_buckets 0 (get_or k 0 0) name first (h % symbol_buckets) r first (get_or k 0 0 - first)
+    (found : o ≡ position (same name) (map (spelled tree made) (take (get_or k 0 0 - first) (drop first tables)))) where
+  pub interned-lt : (r : ℕ) → o ≡ some r → first + r < get_or k 0 0
+  interned-lt = indexed-lt (spelled tree made) tables (region symbol_index_from symbol_buckets tables) symbol_buckets 0 (get_or k 0 0) name first (h % symbol_buckets) first (get_or k 0 0 - first) o
       (omega (arith, N.tables-room, N.symbols, N.limit)) N.symbol-index (bucket-is symbol_buckets name name h hashed refl) start (sym (zero-add first)) refl found
 
-  pub interned-found : Found tree made tables k w (first + r)
-  interned-found = indexed-found (spelled tree made) tables (region symbol_index_from symbol_buckets tables) symbol_buckets 0 (get_or k 0 0) name first (h % symbol_buckets) r first (get_or k 0 0 - first)
-      (omega (arith, N.tables-room, N.symbols, N.limit)) N.symbol-index (bucket-is symbol_buckets name name h hashed refl) start (sym (zero-add first)) refl found
+  pub interned-found : Found tree made tables k w (found_or (get_or k 0 0) (shifted first o))
+  interned-found =
+      ap (found_or (get_or k 0 0)) (indexed-found (spelled tree made) tables (region symbol_index_from symbol_buckets tables) symbol_buckets 0 (get_or k 0 0) name first (h % symbol_buckets) first (get_or k 0 0 - first) o
+      (omega (arith, N.tables-room, N.symbols, N.limit)) N.symbol-index (bucket-is symbol_buckets name name h hashed refl) start (sym (zero-add first)) refl found)
       ∙ ap (λ (y : Name). found_or (get_or k 0 0) (position (same y) (map (spelled tree made) (region 0 (get_or k 0 0) tables)))) is
 
 -- ---- a made name

@@ -28,9 +28,9 @@ use names::number::find_symbol;
 use names::spell::{name_part, text_part};
 use numerals::ops::{CALL, CALL_BUILTIN, CALL_VALUE, CONST_STR, LOAD_LOCAL, STORE_LOCAL};
 use numerals::places::{
-    CLASS_NAMES_FROM, CLASSES, FUNCTIONS, HEADS_FROM, MADE, MADE_FROM, OVER, SLOTS_FROM,
-    STRING_BUCKETS, STRING_INDEX_END, STRING_INDEX_FROM, STRING_LIMIT, STRINGS, STRINGS_FROM,
-    SYMBOL_BUCKETS, SYMBOL_INDEX_FROM, SYMBOL_LIMIT, SYMBOLS, UPPER,
+    CLASS_NAMES_FROM, CLASSES, FUNCTIONS, HEADS_FROM, MADE, MADE_FROM, OVER, STRING_BUCKETS,
+    STRING_INDEX_END, STRING_INDEX_FROM, STRING_LIMIT, STRINGS, STRINGS_FROM, SYMBOL_BUCKETS,
+    SYMBOL_INDEX_FROM, SYMBOL_LIMIT, SYMBOLS, UPPER,
 };
 use numerals::sizes::{COUNTS, LIMITS, MADE_ROOM};
 
@@ -54,9 +54,8 @@ pub fn intern(
     let first = first_number(&tables[SYMBOL_INDEX_FROM..STRING_INDEX_FROM], b, n);
     let from = first as usize;
     let end = n as usize;
-    let i = first + find_spelling(tree, made, &tables[from..end], name) as u32;
-    if i < n {
-        return i;
+    if let Some(i) = find_spelling(tree, made, &tables[from..end], name) {
+        return first + i as u32;
     }
     if l[SYMBOL_LIMIT] <= n {
         return OVER;
@@ -127,9 +126,8 @@ fn string_number(
     let first = first_number(&tables[STRING_INDEX_FROM..STRING_INDEX_END], b, n);
     let from = STRINGS_FROM + first as usize;
     let end = STRINGS_FROM + n as usize;
-    let i = first + find_text(tree, &tables[from..end], text) as u32;
-    if i < n {
-        return i;
+    if let Some(i) = find_text(tree, &tables[from..end], text) {
+        return first + i as u32;
     }
     if l[STRING_LIMIT] <= n {
         return OVER;
@@ -202,8 +200,7 @@ fn emit_variable(
     ensures { LowersIn result (variable op (slot_names tree.now slots.now) (name_at tree.now at)) next
         tree.now made.now code.old tables.old k.old l.now made.now code.new tables.new k.new }
 {
-    let i = find_slot(tree, slots, at);
-    if (i as usize) < slots.len() - SLOTS_FROM {
+    if let Some(i) = find_slot(tree, slots, at) {
         return put_op(code, k, l, op, i, 0, next);
     }
     emit_symbol(tree, made, code, tables, k, l, at, op + 2, 0, next)
@@ -258,17 +255,13 @@ fn resolve_function_id(
     requires { Callables tree.now made.now tables.now k.now }
     ensures { (code l : List ℕ) → SoundIn tree.now made.now code tables.now k.now l → callee_in result ≡ Lower.resolve_function name.now (state_of tree.now made.now code tables.now (counts_of k.now)).tables }
 {
-    let n = k[SYMBOLS];
-    let i = find_symbol(tree, made, tables, n, name);
-    if n <= i {
+    let Some(symbol) = find_symbol(tree, made, tables, k[SYMBOLS], name) else {
         return CALL_VALUE * UPPER;
-    }
-    let m = k[FUNCTIONS];
-    let end = HEADS_FROM + m as usize;
-    let f = find_head(&tables[HEADS_FROM..end], i);
-    if m as usize <= f {
+    };
+    let end = HEADS_FROM + k[FUNCTIONS] as usize;
+    let Some(f) = find_head(&tables[HEADS_FROM..end], symbol) else {
         return CALL_VALUE * UPPER;
-    }
+    };
     CALL * UPPER + f as u32
 }
 
@@ -284,13 +277,11 @@ pub fn resolve(
     ensures { (code l : List ℕ) → SoundIn tree.now made.now code tables.now k.now l → callee_in result ≡ Lower.resolve (name_at tree.now at) (state_of tree.now made.now code tables.now (counts_of k.now)).tables }
 {
     let name = name_part(tree, at);
-    let id = find_builtin(name);
-    if id < 15 {
+    if let Some(id) = find_builtin(name) {
         return CALL_BUILTIN * UPPER + id;
     }
-    let m = k[CLASSES];
-    let end = CLASS_NAMES_FROM + m as usize;
-    if find_place(tree, &tables[CLASS_NAMES_FROM..end], name) < m as usize {
+    let end = CLASS_NAMES_FROM + k[CLASSES] as usize;
+    if let Some(_) = find_place(tree, &tables[CLASS_NAMES_FROM..end], name) {
         return CALL_VALUE * UPPER;
     }
     resolve_function_id(tree, made, tables, k, name)

@@ -13,7 +13,6 @@ use Rattle.definitions.specs.Bytes.{Name, same, position, member}
 use Rattle.definitions.proofs.MethodOrder.{same-eq}
 use Rattle.definitions.proofs.Resolve.{position-lt}
 use Rattle.definitions.proofs.Captured.{or_swap, member-cons, member-nil, member-append}
-use Rattle.state.specs.State.{found_or}
 use Rattle.parts.specs.Places.{count_at, name_bytes, name_end, names_from, AllThere, params_at}
 use Rattle.parts.proofs.NameLaws.{there-next, from_more, from-none}
 use Rattle.names.proofs.Finding.{step, position-cons}
@@ -107,38 +106,22 @@ module _ (slots : List Name) where
 
 -- ---- by the number of a slot
 
-module _ (slots : List Name) (x : Name) (ms : List ℕ) (n i : ℕ) (e : i ≡ found_or n (position (same x) slots)) (w : length slots ≡ n) where
-  at_slot : i < n → position (same x) slots ≡ some i
-  unfolding found_or
-  at_slot h = go (position (same x) slots) refl e
-    where
-      go : (o : Option ℕ) → position (same x) slots ≡ o → i ≡ found_or n o → position (same x) slots ≡ some i
-      go none f g = absurd (omega arith)
-      go (some k) f g = f ∙ ap some (sym g)
-
-  at_none : n ≤ i → position (same x) slots ≡ none
-  unfolding found_or
-  at_none h = go (position (same x) slots) refl e
-    where
-      go : (o : Option ℕ) → position (same x) slots ≡ o → i ≡ found_or n o → position (same x) slots ≡ none
-      go none f g = f
-      go (some k) f g = let b = position-lt (same x) slots k f in absurd (omega arith)
-
-  pub mark-told : i < n → set ms i 1 ≡ mark slots x ms
+module _ (slots : List Name) (x : Name) (ms : List ℕ) where
+  pub mark-told : (i : ℕ) → some i ≡ position (same x) slots → set ms i 1 ≡ mark slots x ms
   unfolding mark
-  mark-told h = rw (at_slot h, mark)
+  mark-told i e = ap (λ (o : Option ℕ). elim o as (λ _. List ℕ) [ none ↦ ms | some i ↦ set ms i 1 ]) e
 
-  pub mark-left : n ≤ i → ms ≡ mark slots x ms
+  pub mark-left : none ≡ position (same x) slots → ms ≡ mark slots x ms
   unfolding mark
-  mark-left h = rw (at_none h, mark)
+  mark-left e = ap (λ (o : Option ℕ). elim o as (λ _. List ℕ) [ none ↦ ms | some i ↦ set ms i 1 ]) e
 
-  pub free-told : i < n → eqb (get_or ms i 0) 0 ≡ is_free slots ms x
+  pub free-told : (i : ℕ) → some i ≡ position (same x) slots → eqb (get_or ms i 0) 0 ≡ is_free slots ms x
   unfolding is_free
-  free-told h = rw (at_slot h, is_free)
+  free-told i e = ap (λ (o : Option ℕ). elim o as (λ _. Bool) [ none ↦ false | some i ↦ eqb (get_or ms i 0) 0 ]) e
 
-  pub free-left : n ≤ i → false ≡ is_free slots ms x
+  pub free-left : none ≡ position (same x) slots → false ≡ is_free slots ms x
   unfolding is_free
-  free-left h = rw (at_none h, is_free)
+  free-left e = ap (λ (o : Option ℕ). elim o as (λ _. Bool) [ none ↦ false | some i ↦ eqb (get_or ms i 0) 0 ]) e
 
 -- ---- parameters, one at a time
 

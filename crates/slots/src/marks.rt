@@ -6,7 +6,6 @@ ghost use Rattle.slots.specs.Slotted.{IsBucket};
 ghost use Rattle.slots.specs.Held.{mark, mark_all, is_free};
 
 use crate::add::{bucket_at, slot_of};
-use numerals::places::SLOTS_FROM;
 use parts::names::name_end;
 use parts::numbers::u16_at;
 
@@ -16,8 +15,7 @@ fn mark_name(tree: &[u8], at: usize, parent: &[u32], marks: &mut [u8; 256])
     ensures { marks.new ≡ mark (slot_names tree.now parent.now) (name_bytes tree.now at) marks.old }
 {
     let b = bucket_at(tree, at);
-    let i = slot_of(tree, parent, at, b);
-    if i < parent.len() - SLOTS_FROM {
+    if let Some(i) = slot_of(tree, parent, at, b) {
         marks[i] = 1;
     }
 }
@@ -50,9 +48,8 @@ pub(crate) fn is_free(tree: &[u8], at: usize, b: usize, parent: &[u32], marks: &
     requires { Slots tree.now parent.now × IsBucket b tree.now at }
     ensures { result ≡ is_free (slot_names tree.now parent.now) marks.now (name_bytes tree.now at) }
 {
-    let i = slot_of(tree, parent, at, b);
-    if i < parent.len() - SLOTS_FROM {
-        return marks[i] == 0;
+    match slot_of(tree, parent, at, b) {
+        Some(i) => marks[i] == 0,
+        None => false,
     }
-    false
 }
