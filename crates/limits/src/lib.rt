@@ -12,17 +12,19 @@ pub enum Limits {
     Console,
 }
 
-// The set that a number names: 0 the office's, every other number the console's.
+// The set that a number names: 0 the office's, every other number the console's. It is no From, as only C's callers name a set by a number.
+#[tactic(auto, unfolding(crate::specs::Sets::said, definitions::specs::Module::limits_by))]
 pub fn limits_by(number: u32) -> Limits
     ensures { limits_for result ≡ limits_by number }
 {
-    if number == 0 {
-        return Limits::Office;
+    match number {
+        0 => Limits::Office,
+        _ => Limits::Console,
     }
-    Limits::Console
 }
 
 // How many functions, symbols, strings, classes and instructions a module may have.
+#[tactic(auto, unfolding(crate::specs::Sets::said, definitions::specs::Module::limits_by, definitions::specs::Module::office, definitions::specs::Module::console))]
 pub fn limit_numbers(limits: Limits) -> [u32; 5]
     ensures { result ≡ as_numbers (limits_for limits) }
 {

@@ -13,12 +13,11 @@ use Rattle.definitions.specs.Tree.{Expr}
 use Rattle.definitions.specs.Instruction.{Return, MakeClosure, LoadLocal}
 use Rattle.definitions.specs.Tables.{Function, Body, expr_body, Emit, one, ◌⨟◌, function}
 use Rattle.definitions.specs.Slots.{in_globals, Frame, names_only, within, insert, sort, captures}
-use Rattle.definitions.proofs.Resolve.{position-lt}
 use Rattle.definitions.specs.Lower.{lambda_name, load, loads, closure, emit_expr}
 use Rattle.parts.specs.Places.{params_at, count_at}
 use Rattle.exprs.specs.ExprAt.{expr_at, ExprReads}
 use Rattle.state.specs.Words.{name_at}
-use Rattle.state.specs.State.{State, state_of, names_at, slots_from, Slots, emit_at, with_tables, symbol_number, with_symbol, Sound, Within, Left, found_or}
+use Rattle.state.specs.State.{State, state_of, names_at, slots_from, Slots, emit_at, with_tables, symbol_number, with_symbol, Sound, Within, Left}
 use Rattle.state.specs.Steps.{begun, ended}
 use Rattle.state.specs.declared.Counts.{Counts}
 use Rattle.state.specs.declared.Limits.{Limits}
@@ -277,25 +276,13 @@ module _ (names : List Name) where
   held_at t (w ∷ ws) zero h k = (and_both (member (name_at t w) names) (all (λ z. member z names) (map (name_at t) ws)) k).0
   held_at t (w ∷ ws) (suc i) h k = held_at t ws i (omega arith) (and_both (member (name_at t w) names) (all (λ z. member z names) (map (name_at t) ws)) k).1
 
--- the slot of a name that has one
-slot_of : (n : ℕ) (o : Option ℕ) → ((k : ℕ) → o ≡ some k → k < n) → ◌≡◌ {A = Bool} (elim o as (λ z. Bool) [ none ↦ false | some i ↦ true ]) true → found_or n o < n
-unfolding found_or
-slot_of n none f h = absurd (true≢false (sym h))
-slot_of n (some k) f h = f k refl
-
-pub slot-below : (names : List Name) (x : Name) (n i : ℕ) → member x names ≡ true → n ≡ length names → i ≡ found_or n (position (same x) names) → i < length names
+-- a name that is held has a slot
+pub slot-held : (names : List Name) (x : Name) → member x names ≡ true → none ≡ position (same x) names → ⊥
 unfolding member
-slot-below names x n i h e f =
-    let k = slot_of (length names) (position (same x) names) (position-lt (same x) names) h in
-    let z : i ≡ found_or (length names) (position (same x) names) = f ∙ ap (λ (m : ℕ). found_or m (position (same x) names)) e in
-    omega arith
+slot-held names x h e = true≢false (sym h ∙ ap (λ (o : Option ℕ). elim o as (λ z. Bool) [ none ↦ false | some i ↦ true ]) (sym e))
 
-pub slot-load : (base : ℕ) (t slots : List ℕ) (x : Name) (i : ℕ) (s : State) → member x (names_at t slots) ≡ true → i ≡ found_or (length slots) (position (same x) (names_at t slots))
-    → emit_at base (one (LoadLocal i)) s ≡ emit_at base (load (names_at t slots) x) s
-slot-load base t slots x i s h e =
-    let n = names-length t slots in
-    at_slot 9 base (names_at t slots) x s i (e ∙ ap (λ (m : ℕ). found_or m (position (same x) (names_at t slots))) (sym n)) (slot-below (names_at t slots) x (length slots) i h (sym n) e)
-    ∙ at_load base (names_at t slots) x s
+pub slot-load : (base : ℕ) (t slots : List ℕ) (x : Name) (i : ℕ) (s : State) → some i ≡ position (same x) (names_at t slots) → emit_at base (one (LoadLocal i)) s ≡ emit_at base (load (names_at t slots) x) s
+slot-load base t slots x i s e = at_slot 9 base (names_at t slots) x s i e ∙ at_load base (names_at t slots) x s
 
 -- a lambda's slots, in places
 module _ (d : ℕ) (t : List ℕ) (names : List Name) (p : ℕ) (r : LambdaLowerable d t p) (inner : List ℕ) (e : names_at t inner ≡ lambda_names d t names p) where
