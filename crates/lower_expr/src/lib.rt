@@ -48,7 +48,7 @@ pub fn emit_expr(s: Scope<'_>, e: &mut Emitter<'_>, at: usize, depth: u32) -> Op
     let a = at + 1;
     match kind {
         expr::VARIABLE => {
-            emit_load(s.tree, s.slots, e, a)?;
+            emit_load(s, e, a)?;
             Some(name_end(s.tree, a))
         }
         expr::UNARY => emit_unary(s, e, a, depth - 1),
@@ -179,7 +179,7 @@ fn emit_named(s: Scope<'_>, e: &mut Emitter<'_>, at: usize, depth: u32) -> Optio
         s.tree.now e.old e.new }
 {
     let callee = resolve(s.tree, &e.tables, at);
-    load_callee(s.tree, s.slots, e, at, callee)?;
+    load_callee(s, e, at, callee)?;
     emit_args(s, e, name_end(s.tree, at), depth, callee)
 }
 

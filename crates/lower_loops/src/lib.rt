@@ -98,5 +98,5 @@ pub fn take_iterator(s: Scope<'_>, e: &mut Emitter<'_>, at: usize, load: u32) ->
     ensures { LowersIn result (take_iter (slot_names s.tree.now s.slots.now) (name_at s.tree.now at) (keeper_of load)) s.tree.now e.old e.new }
 {
     call_iterator(s.tree, e, load, Made::Next)?;
-    emit_store(s.tree, s.slots, e, at)
+    emit_store(s, e, at)
 }

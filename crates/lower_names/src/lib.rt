@@ -8,7 +8,7 @@ ghost use Rattle.definitions.specs.Tables.{one, get_or_add_string};
 ghost use Rattle.definitions.specs.Lower as Lower;
 ghost use Rattle.definitions.specs.Lower.{load, store};
 ghost use Rattle.state.specs.Words.{name_at, text_at};
-ghost use Rattle.state.specs.State.{MadeWithin, SymbolIndex, StringIndex, slot_names, Slots};
+ghost use Rattle.state.specs.State.{MadeWithin, SymbolIndex, StringIndex, slot_names};
 ghost use Rattle.names.specs.Made.{made_name};
 ghost use Rattle.lower_emit.specs.Ops.{Plain};
 ghost use Rattle.lower_emit.specs.Emitting.{Puts, SoundIn, LowersIn};
@@ -31,6 +31,7 @@ use numerals::places::{
     CLASS_NAMES_FROM, HEADS_FROM, MADE_FROM, STRING_BUCKETS, STRING_INDEX_END, STRING_INDEX_FROM,
     STRINGS_FROM, SYMBOL_BUCKETS, SYMBOL_INDEX_FROM,
 };
+use state::Scope;
 
 // What a call of a name calls.
 #[derive(Clone, Copy)]
@@ -160,30 +161,30 @@ pub fn emit_string(tree: &[u8], e: &mut Emitter<'_>, at: usize) -> Option<()>
 }
 
 // The variable at `at` by its slot with `op`, else by the global of its name, whose opcode is two more.
-fn emit_variable(tree: &[u8], slots: &[u32], e: &mut Emitter<'_>, at: usize, op: u32) -> Option<()>
-    requires { SoundIn tree.now e.old × Slots tree.now slots.now × (at < 32768) × (9 ≤ op) × (op ≤ 10) }
-    ensures { LowersIn result (variable op (slot_names tree.now slots.now) (name_at tree.now at)) tree.now e.old e.new }
+fn emit_variable(s: Scope<'_>, e: &mut Emitter<'_>, at: usize, op: u32) -> Option<()>
+    requires { SoundIn s.tree.now e.old × (at < 32768) × (9 ≤ op) × (op ≤ 10) }
+    ensures { LowersIn result (variable op (slot_names s.entry.tree.now s.entry.slots.now) (name_at s.entry.tree.now at)) s.entry.tree.now e.old e.new }
 {
-    if let Some(slot) = find_slot(tree, slots, at) {
+    if let Some(slot) = find_slot(s.tree, s.slots, at) {
         return e.code.put_op(op, slot, 0);
     }
-    emit_symbol(tree, e, at, op + 2, 0)
+    emit_symbol(s.tree, e, at, op + 2, 0)
 }
 
 // The value of the variable at `at`.
-pub fn emit_load(tree: &[u8], slots: &[u32], e: &mut Emitter<'_>, at: usize) -> Option<()>
-    requires { SoundIn tree.now e.old × Slots tree.now slots.now × (at < 32768) }
-    ensures { LowersIn result (load (slot_names tree.now slots.now) (name_at tree.now at)) tree.now e.old e.new }
+pub fn emit_load(s: Scope<'_>, e: &mut Emitter<'_>, at: usize) -> Option<()>
+    requires { SoundIn s.tree.now e.old × (at < 32768) }
+    ensures { LowersIn result (load (slot_names s.entry.tree.now s.entry.slots.now) (name_at s.entry.tree.now at)) s.entry.tree.now e.old e.new }
 {
-    emit_variable(tree, slots, e, at, LOAD_LOCAL)
+    emit_variable(s, e, at, LOAD_LOCAL)
 }
 
 // The value on the stack goes to the variable at `at`.
-pub fn emit_store(tree: &[u8], slots: &[u32], e: &mut Emitter<'_>, at: usize) -> Option<()>
-    requires { SoundIn tree.now e.old × Slots tree.now slots.now × (at < 32768) }
-    ensures { LowersIn result (store (slot_names tree.now slots.now) (name_at tree.now at)) tree.now e.old e.new }
+pub fn emit_store(s: Scope<'_>, e: &mut Emitter<'_>, at: usize) -> Option<()>
+    requires { SoundIn s.tree.now e.old × (at < 32768) }
+    ensures { LowersIn result (store (slot_names s.entry.tree.now s.entry.slots.now) (name_at s.entry.tree.now at)) s.entry.tree.now e.old e.new }
 {
-    emit_variable(tree, slots, e, at, STORE_LOCAL)
+    emit_variable(s, e, at, STORE_LOCAL)
 }
 
 // The function so far whose name is the one given, else a value.
@@ -218,18 +219,12 @@ pub fn resolve(tree: &[u8], tables: &Tables<'_>, at: usize) -> Callee
 }
 
 // A callee that is a value is loaded.
-pub fn load_callee(
-    tree: &[u8],
-    slots: &[u32],
-    e: &mut Emitter<'_>,
-    at: usize,
-    callee: Callee,
-) -> Option<()>
-    requires { SoundIn tree.now e.old × Slots tree.now slots.now × (at < 32768) }
-    ensures { LowersIn result (load_callee (callee_of callee) (slot_names tree.now slots.now) (name_at tree.now at)) tree.now e.old e.new }
+pub fn load_callee(s: Scope<'_>, e: &mut Emitter<'_>, at: usize, callee: Callee) -> Option<()>
+    requires { SoundIn s.tree.now e.old × (at < 32768) }
+    ensures { LowersIn result (load_callee (callee_of callee) (slot_names s.entry.tree.now s.entry.slots.now) (name_at s.entry.tree.now at)) s.entry.tree.now e.old e.new }
 {
     match callee {
-        Callee::Value => emit_load(tree, slots, e, at),
+        Callee::Value => emit_load(s, e, at),
         Callee::Builtin(_) | Callee::Function(_) => Some(()),
     }
 }

@@ -32,7 +32,7 @@ fn emit_assign_target(s: Scope<'_>, e: &mut Emitter<'_>, at: usize, depth: u32) 
     ensures { LowersIn result (emit_target (slot_names s.tree.now s.slots.now) (expr_at depth s.tree.now at).value) s.tree.now e.old e.new }
 {
     match s.tree[at] {
-        expr::VARIABLE => emit_store(s.tree, s.slots, e, at + 1),
+        expr::VARIABLE => emit_store(s, e, at + 1),
         expr::TUPLE => emit_elements(s, e, at + 3, depth - 1, u16_at(s.tree, at + 1), 0),
         _ => Some(()),
     }
@@ -75,11 +75,11 @@ fn assign_variable(s: Scope<'_>, e: &mut Emitter<'_>, at: usize, depth: u32) -> 
     let kind = s.tree[start];
     if kind < expr::INT {
         e.code.put_op(NONE - kind as u32, 0, 0)?;
-        emit_store(s.tree, s.slots, e, at)?;
+        emit_store(s, e, at)?;
         return Some(start + 1);
     }
     let next = emit_expr(s, e, start, depth)?;
-    emit_store(s.tree, s.slots, e, at)?;
+    emit_store(s, e, at)?;
     Some(next)
 }
 
