@@ -14,3 +14,4 @@ pub mod Answering
 pub mod SetJumps
 pub mod Writing
 pub mod Ends
+pub mod Parts

@@ -28,6 +28,9 @@ use Rattle.lower_emit.proofs.Putting.{put-more, put_full, emits-instr}
 use Rattle.lower_emit.proofs.Patching.{jump-set}
 use Rattle.lower_emit.proofs.Shortcuts.{end_at, end-done}
 
+pub some-is : {m n : ℕ} → Some m ≡ Some n → m ≡ n
+some-is {m} e = ap (λ (o : Option ℕ). elim o [ Some k ↦ k | None ↦ m ]) e
+
 -- ---- an answer of an emitter as one of the state's laws
 
 unfoldable pub answered : {A : Type 0} → Option A → ℕ → Counts → Emitted

@@ -19,10 +19,11 @@ use Rattle.names.specs.Sought.{place_in, shifted}
 use Rattle.names.proofs.TableIndex.{bucket-is, indexed-found, indexed-lt}
 use Rattle.lower_emit.specs.declared.emitter.Tables.{Tables}
 use Rattle.lower_emit.specs.Emitting.{counts_of, limits_in, beside}
+use Rattle.lower_emit.proofs.Steps.{some-is}
 use Rattle.lower_names.specs.declared.Sought.{Sought}
 use Rattle.lower_names.specs.Naming.{SeeksText, Adds}
 use Rattle.lower_names.proofs.Numbering.{one_string, text-old, text-over, text-new}
-use Rattle.lower_names.proofs.Symbols.{some-is, numbers-some, numbers-none, Renews, left-renewed, renewed-noted}
+use Rattle.lower_names.proofs.Symbols.{numbers-some, numbers-none, Renews, left-renewed, renewed-noted}
 
 -- what the code finds from the first number on
 module _ (tree : List ℕ) {text : List ℕ} (a : Tables) (p : ℕ) {h first : ℕ} (o : definitions.Option ℕ) (N : StringIndex tree a.entries.now a.strings) (is : text ≡ text_at tree p) (hashed : h ≡ hash_of text)

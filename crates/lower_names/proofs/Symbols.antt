@@ -24,6 +24,7 @@ use Rattle.lower_emit.specs.declared.emitter.Code.{Code}
 use Rattle.lower_emit.specs.declared.emitter.Tables.{Tables}
 use Rattle.lower_emit.specs.declared.emitter.Emitter.{Emitter}
 use Rattle.lower_emit.specs.Emitting.{counts_of, limits_in, state_in, SoundIn, beside, NumbersIn}
+use Rattle.lower_emit.proofs.Steps.{some-is}
 use Rattle.lower_names.specs.declared.Sought.{Sought}
 use Rattle.lower_names.specs.Naming.{Naming, SeeksSymbol, Interns, InternsMade, named}
 use Rattle.lower_names.proofs.MadeNames.{made-sound, made-state, made-spelled}
@@ -33,9 +34,6 @@ pub naming-sound : {tree : List ℕ} {e : Emitter} → SoundIn tree e → Naming
 naming-sound S = record { names = S.sound.names; symbol-index = S.sound.symbol-index }
 
 -- ---- an answer of a step of the tables
-
-pub some-is : {m n : ℕ} → Some m ≡ Some n → m ≡ n
-some-is {m} {n} e = ap (λ (o : Option ℕ). elim o [ Some k ↦ k | None ↦ m ]) e
 
 module _ {tree : List ℕ} {a b : Emitter} {number : ℕ} {want : State} (m : limits_in b ≡ limits_in a) where
   pub numbers-some : {i : ℕ} → (i ≡ number) × Left (counts_of b) tree b.tables.made.now b.code.words.now b.tables.entries.now (counts_of a) (limits_in a) want → NumbersIn (Some i) number tree a b want
