@@ -11,6 +11,7 @@ use numerals::ops::{BREAK, CONTINUE, JUMP, JUMP_IF_FALSE};
 use numerals::places::WORD_OP;
 
 // The word at place i of a loop's inside of n words, after h of the loop: a pending break or continue is made a jump.
+#[tactic(auto, unfolding(crate::specs::Patch::patch_word))]
 fn patched_word(w: u32, i: usize, n: usize, h: usize) -> u32
     requires { (i < n) × (h + n < 32768) }
     ensures { result ≡ patch_word h n i w }

@@ -230,6 +230,7 @@ pub fn load_callee(s: Scope<'_>, e: &mut Emitter<'_>, at: usize, callee: Callee)
 }
 
 // The word of a call with n arguments.
+#[tactic(auto, unfolding(crate::specs::Naming::call_word))]
 fn call_word(callee: Callee, n: u32) -> u32
     requires { n ≤ 255 }
     ensures { result ≡ call_word callee n }
