@@ -25,7 +25,6 @@ use Rattle.lower_emit.specs.Emitting.{counts_of, limits_in, state_in, SoundIn, b
 use Rattle.lower_emit.proofs.Packing.{op-word, first_word, instr-plain, plain-below}
 use Rattle.lower_emit.proofs.Steps.{reaches_as, reaches-after, sound-next, lowers-some, lowers-none}
 use Rattle.lower_names.specs.Naming.{InternsMade, named}
-use Rattle.lower_names.proofs.Symbols.{some-is}
 use Rattle.lower_loops.specs.Iterators.{load_word, keeper_of, Loads, StoresKept, StoresIterator}
 
 -- ---- the word
@@ -55,7 +54,7 @@ module _ {A : Type 0} {r : Option A} {i : Instr} {a b : Code} (h : Writes r (one
   kept_full w z n = record { is = λ m e. absurd (none-some m (sym n ∙ e)); writes = record { lowers = λ t ts S. lowers-none z n (h.lowers t ts S) } }
 
   pub kept-done : {x : A} {v w : ℕ} → r ≡ Some x → v ≡ w → StoresKept (Some v) w i a b
-  kept-done z e = record { is = λ m q. sym (some-is q) ∙ e; writes = record { lowers = λ t ts S. lowers-some z (h.lowers t ts S) } }
+  kept-done {v = v} z e = record { is = λ m q. (let p : m ≡ v = cc in p) ∙ e; writes = record { lowers = λ t ts S. lowers-some z (h.lowers t ts S) } }
 
 -- ---- in a slot
 
