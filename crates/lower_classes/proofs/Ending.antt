@@ -28,7 +28,7 @@ use Rattle.lower_emit.proofs.Packing.{instr-plain, plain-below}
 use Rattle.lower_emit.proofs.Steps.{put-lifts, sound-next, reaches-after}
 use Rattle.lower_names.specs.Naming.{Interns, named}
 use Rattle.lower_names.proofs.Symbols.{interned}
-use Rattle.lower_classes.specs.Ending.{FinishedIn, Finishes}
+use Rattle.lower_classes.specs.Ending.{Finishes}
 use Rattle.lower_classes.specs.Classes.{CountedIn, EndsClass, AddsConstant, StoresClass, FinishesClass}
 
 -- sound slices after a step that is counted

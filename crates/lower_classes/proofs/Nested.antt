@@ -1,9 +1,9 @@
 -- Functions begun under their names, classes begun and ended, constants: by the laws of the state.
 use Prim.Native.Nat.{ℕ, ◌+◌, ◌*◌, ◌<◌, ◌≤◌}
-use mathlib.Core.Path.{◌≡◌, refl, sym, ap, subst, ◌∙◌}
+use mathlib.Core.Path.{◌≡◌, refl, sym, subst, ◌∙◌}
 use mathlib.Core.List.{List, map}
 use native.Mathlib.Omega.{arith}
-use lib.ListN.{length, set, take}
+use lib.ListN.{length, set}
 use lib.Seq.{paste, take_all}
 use Rattle.std.specs.Prelude.{Option, Some, None}
 use Rattle.std.proofs.lemmas.Option.{none-some}
@@ -12,7 +12,6 @@ use Rattle.names.proofs.Spelling.{spelled-tree}
 use Rattle.state.specs.Words.{name_at}
 use Rattle.state.specs.State.{State, method_of, symbol_number, with_tables, class_names_from, class_methods_from, methods_from, constants_from}
 use Rattle.state.specs.declared.Counts.{Counts}
-use Rattle.state.specs.declared.Limits.{Limits}
 use Rattle.state.specs.Answered.{At, Over}
 use Rattle.state.proofs.Answers.{numbers-at, numbers-over}
 use Rattle.lower_emit.specs.Nesting.{with_methods, with_constants, Counted}

@@ -4,3 +4,4 @@ pub mod Collecting
 pub mod Runs
 pub mod LambdaState
 pub mod Lambdas
+pub mod Quoting

@@ -1,6 +1,6 @@
 -- An iterator stored, in a slot or in a global, and the word that loads it.
 use Prim.Native.Nat.{ℕ, ◌+◌, ◌-◌, ◌<◌, ◌≤◌}
-use mathlib.Core.Path.{◌≡◌, refl, sym, ap, subst, ◌∙◌}
+use mathlib.Core.Path.{◌≡◌, sym, ap, subst, ◌∙◌}
 use mathlib.Core.List.{List}
 use native.Mathlib.Omega.{arith}
 use lib.ListN.{length}
@@ -11,7 +11,7 @@ use Rattle.definitions.specs.Tables.{one}
 use Rattle.definitions.specs.Slots.{Keeping, in_globals}
 use Rattle.definitions.specs.Lower.{Keeper, global, local, store_iter, load_iter, iter_name}
 use Rattle.state.specs.Words.{word}
-use Rattle.state.specs.State.{State, emit_at, symbol_number}
+use Rattle.state.specs.State.{emit_at, symbol_number}
 use Rattle.state.specs.Kept.{keeping_of, after_loops, keeper_at, kept_at}
 use Rattle.state.proofs.Views.{stack-length}
 use Rattle.state.proofs.Within.{within-one}

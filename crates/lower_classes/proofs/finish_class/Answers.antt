@@ -1,6 +1,6 @@
 use native.Mathlib.Omega.{arith}
 use Rattle.lower_names.proofs.Symbols.{naming-sound}
-use Rattle.lower_classes.proofs.Ending.{ended-sound, finish-over, finish-sound, finish-constants, finish-done}
+use Rattle.lower_classes.proofs.Ending.{ended-sound, finish-over, finish-constants, finish-done}
 use Rattle.lower_classes.proofs.finish_class.Goals as goal
 
 pub end_class-requires : goal.end_class-requires
