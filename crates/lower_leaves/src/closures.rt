@@ -39,7 +39,7 @@ pub fn end_lambda(e: &mut Emitter<'_>, f: u32, base: u32) -> Option<()>
 // The values of captured variables, which have slots.
 fn load_captured(s: Scope<'_>, code: &mut Code<'_>, captured: &[u32]) -> Option<()>
     requires { Held (slot_names s.tree.now s.slots.now) (names_at s.tree.now captured.now) }
-    ensures { Writes result (loads (slot_names s.tree.now s.slots.now) (names_at s.tree.now captured.now)) code.old code.new }
+    ensures { Writes result (loads (slot_names s.entry.tree.now s.entry.slots.now) (names_at s.entry.tree.now captured.now)) code.old code.new }
 {
     for &at in captured {
         let slot = find_slot(s.tree, s.slots, at as usize)?;
@@ -51,7 +51,7 @@ fn load_captured(s: Scope<'_>, code: &mut Code<'_>, captured: &[u32]) -> Option<
 // The captured values, and the closure of function f with them.
 pub fn end_closure(s: Scope<'_>, code: &mut Code<'_>, captured: &[u32], f: u32) -> Option<()>
     requires { Held (slot_names s.tree.now s.slots.now) (names_at s.tree.now captured.now) × (length captured.now ≤ 255) × (f < 65536) }
-    ensures { Writes result (loads (slot_names s.tree.now s.slots.now) (names_at s.tree.now captured.now) ⨟ one (MakeClosure f (length captured.now)))
+    ensures { Writes result (loads (slot_names s.entry.tree.now s.entry.slots.now) (names_at s.entry.tree.now captured.now) ⨟ one (MakeClosure f (length captured.now)))
         code.old code.new }
 {
     load_captured(s, code, captured)?;

@@ -29,6 +29,9 @@ pub fn emit_literal(tree: &[u8], e: &mut Emitter<'_>, at: usize, x: Literal) -> 
             Err(_) => e.code.put_op(CONST_I64, place, 0).map(|_| at + 9),
         },
         Literal::Float(_) | Literal::Nan(_) => e.code.put_op(CONST_F64, place, 0).map(|_| at + 9),
-        Literal::Text { start, len } => emit_string(tree, e, start - 2).map(|_| start + len),
+        Literal::Text { start, len } => {
+            emit_string(tree, e, start - 2)?;
+            Some(start + len)
+        }
     }
 }

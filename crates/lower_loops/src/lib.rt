@@ -95,7 +95,7 @@ pub fn ask_iterator(tree: &[u8], e: &mut Emitter<'_>, load: u32) -> Option<()>
 // The next value goes to the variable at `at`.
 pub fn take_iterator(s: Scope<'_>, e: &mut Emitter<'_>, at: usize, load: u32) -> Option<()>
     requires { SoundIn s.tree.now e.old × (at < 32768) × Loads load (keeper_of load) }
-    ensures { LowersIn result (take_iter (slot_names s.tree.now s.slots.now) (name_at s.tree.now at) (keeper_of load)) s.tree.now e.old e.new }
+    ensures { LowersIn result (take_iter (slot_names s.entry.tree.now s.entry.slots.now) (name_at s.entry.tree.now at) (keeper_of load)) s.entry.tree.now e.old e.new }
 {
     call_iterator(s.tree, e, load, Made::Next)?;
     emit_store(s, e, at)
