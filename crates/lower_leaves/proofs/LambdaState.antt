@@ -12,7 +12,7 @@ use Rattle.definitions.specs.Bytes.{Name, all, member, position, same, below}
 use Rattle.definitions.specs.Tree.{Expr}
 use Rattle.definitions.specs.Instruction.{Return, MakeClosure, LoadLocal}
 use Rattle.definitions.specs.Tables.{Function, Body, expr_body, Emit, one, ◌⨟◌, function}
-use Rattle.definitions.specs.Slots.{in_globals, Frame, names_only, within, insert, sort, captures}
+use Rattle.definitions.specs.Slots.{names_only, within, insert, sort, captures}
 use Rattle.definitions.specs.Lower.{lambda_name, load, loads, closure, emit_expr}
 use Rattle.parts.specs.Places.{params_at, count_at}
 use Rattle.exprs.specs.ExprAt.{expr_at, ExprReads}
@@ -26,7 +26,7 @@ use Rattle.state.proofs.Views.{stack-length, function-count}
 use Rattle.state.proofs.Emission.{at-seq, at_one, at-by}
 use Rattle.state.proofs.Enclosing.{at-function, symbol-functions}
 use Rattle.state.proofs.Growth.{Lengthened, Lengthens, lengthens-one, lengthens-seq, lengthens-expr, functions-longer}
-use Rattle.state.proofs.Within.{within-one, within-down, within-begun, within-function, closure-slots}
+use Rattle.state.proofs.Within.{within-one, within-down, within-function, closure-slots}
 use Rattle.lower_emit.specs.Nesting.{begun_with, body_of, Moved}
 use Rattle.lower_emit.proofs.Begun.{begun-frame, begun-body}
 use Rattle.lower_emit.proofs.Setting.{map-drop}

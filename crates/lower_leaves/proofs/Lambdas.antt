@@ -1,15 +1,15 @@
 -- A lambda's function begun, its body, its end, and the values it captures, by the laws of the state.
-use Prim.Native.Nat.{ℕ, ◌+◌, ◌-◌, ◌<◌, ◌≤◌}
+use Prim.Native.Nat.{ℕ, ◌+◌, ◌<◌, ◌≤◌}
 use mathlib.Core.Path.{◌≡◌, refl, sym, ap, subst, ◌∙◌}
 use mathlib.Core.Option.{some}
 use mathlib.Core.List.{List, []}
 use native.Mathlib.Omega.{arith}
 use lib.IntN.{ℤ}
-use lib.ListN.{length, get_or, drop, length-drop}
+use lib.ListN.{length, get_or, drop}
 use Rattle.std.specs.Prelude.{Option, Some, None}
 use Rattle.std.proofs.lemmas.Option.{none-some}
 use Rattle.definitions.specs.Bytes.{same, position}
-use Rattle.definitions.specs.Instruction.{Instr, Return, ConstI64}
+use Rattle.definitions.specs.Instruction.{Return, ConstI64}
 use Rattle.definitions.specs.Slots.{names_only}
 use Rattle.definitions.specs.Tables.{Emit, Body, one, ◌⨟◌, function}
 use Rattle.definitions.specs.Tree.{lit}
@@ -21,7 +21,7 @@ use Rattle.exprs.specs.declared.literals.Literal.{Literal}
 use Rattle.exprs.specs.declared.literals.Literal.TheVariants.{Int}
 use Rattle.exprs.proofs.ExprViews.{expr-inside}
 use Rattle.state.specs.Words.{word, name_at}
-use Rattle.state.specs.State.{State, emit_at, Sound, Left, Within, names_at, slot_names, slots_from, Slots, symbol_number}
+use Rattle.state.specs.State.{emit_at, Sound, Left, Within, names_at, slot_names, slots_from, Slots, symbol_number}
 use Rattle.state.specs.Steps.{ended}
 use Rattle.state.specs.declared.Limits.{Limits}
 use Rattle.state.proofs.Answers.{paced-more}
@@ -34,7 +34,7 @@ use Rattle.lower_emit.specs.Nesting.{begun_with, body_of, Moved}
 use Rattle.lower_emit.specs.declared.emitter.Code.{Code}
 use Rattle.lower_emit.specs.declared.emitter.Tables.{Tables}
 use Rattle.lower_emit.specs.declared.emitter.Emitter.{Emitter}
-use Rattle.lower_emit.specs.Emitting.{counts_of, limits_in, state_in, SoundIn, beside, LowersIn, CodeKept, NumbersIn, MovedIn, BeginsIn, Puts, Writes, Begun, Ended}
+use Rattle.lower_emit.specs.Emitting.{counts_of, limits_in, state_in, SoundIn, beside, LowersIn, CodeKept, NumbersIn, BeginsIn, Puts, Writes, Begun}
 use Rattle.lower_emit.proofs.Packing.{instr-plain, plain-above, plain-below}
 use Rattle.lower_emit.proofs.Steps.{limits-code, put-lifts, sound-next, lowers-state}
 use Rattle.lower_emit.proofs.Functions.{begun-lifts, ended-lifts}

@@ -15,7 +15,7 @@ use Rattle.lower_forms.specs.Lowerable.{Lowerable, LowerableMany}
 use Rattle.lower_forms.proofs.ExprArms.{arm-inside, many-at}
 use Rattle.lower_forms.proofs.Constants.{arm-constant}
 use Rattle.lower_forms.proofs.Elements.{more-view}
-use Rattle.lower_leaves.specs.Constants.{Several, Ahead, constants_put, Run}
+use Rattle.lower_leaves.specs.Constants.{Ahead, constants_put, Run}
 
 -- r constants are put in the place of the first r words
 pub record Running (r : ℕ) (t : List ℕ) (p : ℕ) (ws ws' : List ℕ) : Type 0 where

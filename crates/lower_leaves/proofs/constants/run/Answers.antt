@@ -1,5 +1,5 @@
 use native.Mathlib.Omega.{arith}
-use Rattle.lower_leaves.proofs.Runs.{running-start, running-inside, running-next, running-done}
+use Rattle.lower_leaves.proofs.Runs.{running-start, running-inside, running-next}
 use Rattle.lower_leaves.proofs.constants.run.Goals as goal
 
 pub loop-i-init : goal.loop-i-init
