@@ -1,8 +1,10 @@
 -- A literal's word, by the laws of the state.
 use Prim.Native.Nat.{ℕ}
-use mathlib.Core.Path.{◌≡◌, refl, sym, ◌∙◌}
+use mathlib.Core.Path.{◌≡◌, refl}
 use mathlib.Core.List.{List}
 use Rattle.std.specs.Prelude.{Option, Some, None}
+use Rattle.std.specs.Option.{is_some}
+use Rattle.std.proofs.Common.{rules}
 use Rattle.definitions.specs.Instruction.{Instr}
 use Rattle.definitions.specs.Tables.{Emit, one}
 use Rattle.state.specs.Words.{instr_of}
@@ -12,18 +14,20 @@ use Rattle.lower_emit.specs.Emitting.{beside, Puts}
 use Rattle.lower_emit.proofs.Steps.{put-lifts, lowers-by}
 use Rattle.lower_leaves.specs.Literals.{QuotesTo}
 
--- an answer with v in the place of the value
-pub record Mapped (r : Option (Unit {0})) (q : Option ℕ) (v : ℕ) : Type 0 where
-  pub none : q ≡ None → r ≡ None
-  pub some : (n : ℕ) → q ≡ Some n → (n ≡ v) × (r ≡ Some tt)
+-- an answer with another value in the place of (), as is_some tells
+pub mapped-some : {r : Option (Unit {0})} {q : Option ℕ} {n : ℕ} → is_some q ≡ is_some r → q ≡ Some n → r ≡ Some tt
+mapped-some e z = search rules
 
-pub word-quotes : {r : Option (Unit {0})} {q : Option ℕ} {w v next : ℕ} {i : Instr} {x : Emit} {t : List ℕ} {a : Emitter} {c : Code} → Mapped r q v → instr_of t w ≡ i → Puts r w a.code c → (x ≡ one i) × (next ≡ v)
+pub mapped-none : {r : Option (Unit {0})} {q : Option ℕ} → is_some q ≡ is_some r → q ≡ None → r ≡ None
+mapped-none e z = search rules
+
+pub word-quotes : {r : Option (Unit {0})} {q : Option ℕ} {w next : ℕ} {i : Instr} {x : Emit} {t : List ℕ} {a : Emitter} {c : Code} → is_some q ≡ is_some r → ((n : ℕ) → q ≡ Some n → n ≡ next) → instr_of t w ≡ i → Puts r w a.code c → x ≡ one i
     → QuotesTo q x next t a (beside c a.tables)
-word-quotes M is h e = record {
-  place = λ n z. (M.some n z).0 ∙ sym e.1;
+word-quotes same value is h e = record {
+  place = value;
   quotes = record {
     lowers = λ S.
         let p = (put-lifts S refl is h).reaches in
-        lowers-by (record { reaches = record { done = λ n z. p.done tt (M.some n z).1; full = λ z. p.full (M.none z); limits = p.limits } }) e.0;
+        lowers-by (record { reaches = record { done = λ n z. p.done tt (mapped-some same z); full = λ z. p.full (mapped-none same z); limits = p.limits } }) e;
   };
 }

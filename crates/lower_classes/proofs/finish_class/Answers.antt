@@ -3,11 +3,6 @@ use Rattle.lower_names.proofs.Symbols.{naming-sound}
 use Rattle.lower_classes.proofs.Ending.{ended-sound, finish-over, finish-constants, finish-done}
 use Rattle.lower_classes.proofs.finish_class.Goals as goal
 
-pub end_class-requires : goal.end_class-requires
-end_class-requires c =
-    let t = c.args.e.now.tables in
-    (omega (arith, c.requires.2, t.classes_size, t.classes_most), omega (arith, c.requires.1), omega (arith, c.requires.3, t.functions_size, t.functions_most))
-
 pub intern-requires : goal.intern-requires
 intern-requires c = (naming-sound (ended-sound c.requires.0 c.requires.1 c.requires.2 c.requires.3 c.end_class.ensures), (λ z. absurd (omega (arith, c.requires.1))), omega arith)
 

@@ -1,9 +1,5 @@
-use native.Mathlib.Omega.{arith}
 use Rattle.lower_classes.proofs.Ending.{object-full, object-done}
 use Rattle.lower_classes.proofs.store_class.Goals as goal
-
-pub put_op-requires : goal.put_op-requires
-put_op-requires c = (omega arith, omega (arith, c.add_constant-constant.ensures.number, c.requires.0), omega arith)
 
 pub returns-in_err-put_op : goal.returns-in_err-put_op
 returns-in_err-put_op c = record { finishes = λ t S more. object-full c.args.symbol S c.requires.0 more c.add_constant-constant.ensures c.put_op.ensures c.in_err-put_op.was c.from_residual.ensures }

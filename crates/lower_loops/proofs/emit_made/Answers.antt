@@ -4,17 +4,10 @@ use Rattle.definitions.specs.Instruction.{instr}
 use Rattle.lower_emit.proofs.Packing.{instr-plain}
 use Rattle.lower_emit.proofs.Steps.{put-lifts, sound-next}
 use Rattle.lower_names.proofs.Naming.{plain-with, symbol-put, symbol-over}
-use Rattle.lower_names.proofs.Symbols.{naming-sound}
 use Rattle.lower_loops.proofs.emit_made.Goals as goal
-
-pub intern_made-requires : goal.intern_made-requires
-intern_made-requires c = (naming-sound c.requires.0, c.requires.1)
 
 pub returns-in_err-symbol : goal.returns-in_err-symbol
 returns-in_err-symbol c = symbol-over (λ n. instr c.args.op n c.args.b) _ (c.intern_made.ensures.numbers c.args.e.now.code c.requires.0) c.in_err-symbol.was c.from_residual.ensures
-
-pub put_op-requires : goal.put_op-requires
-put_op-requires c = (c.requires.2.op-byte, omega (arith, c.intern_made.ensures.below _ c.in_ok-symbol.was), c.requires.2.second-byte)
 
 pub returns : goal.returns
 returns c =

@@ -5,9 +5,6 @@ use Rattle.lower_loops.proofs.Calling.{short-iterator}
 use Rattle.lower_loops.proofs.Storing.{global-over, global-stored}
 use Rattle.lower_loops.proofs.store_global.Goals as goal
 
-pub overflow_sub-place : goal.overflow_sub-place
-overflow_sub-place c = c.requires.sound.base
-
 pub intern_made-requires : goal.intern_made-requires
 intern_made-requires c = (naming-sound c.requires, short-iterator _ (let k = c.args.e.now.code in omega (arith, k.code_size, k.code_limit)))
 

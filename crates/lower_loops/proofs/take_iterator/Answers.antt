@@ -3,7 +3,7 @@ use Rattle.state.specs.State.{slot_names}
 use Rattle.state.proofs.Answers.{base-below}
 use Rattle.state.proofs.Growth.{lengthens-store}
 use Rattle.lower_emit.specs.Emitting.{counts_of, limits_in, state_in}
-use Rattle.lower_emit.proofs.Steps.{sound-next, lowers-state, lowers_then, lowers-stopped}
+use Rattle.lower_emit.proofs.Steps.{lowers-state, lowers_then, lowers-stopped}
 use Rattle.lower_loops.specs.Iterators.{keeper_of}
 use Rattle.lower_loops.proofs.Calling.{short-next, take-is}
 use Rattle.lower_loops.proofs.take_iterator.Goals as goal
@@ -17,9 +17,6 @@ returns-in_err-call_iterator c =
     let t = c.args.s.tree.now in
     lowers-state (lowers-stopped c.in_err-call_iterator.was c.from_residual.ensures c.requires.0 (lengthens-store _ _) c.call_iterator.ensures)
     (take-is e.code.base (slot_names t c.args.s.slots.now) (name_at t c.args.at) (keeper_of c.args.load) (state_in t e) (base-below t e.tables.made.now e.code.words.now e.tables.entries.now (counts_of e) (limits_in e) c.requires.0.sound))
-
-pub emit_store-requires : goal.emit_store-requires
-emit_store-requires c = (sound-next c.in_ok-call_iterator.was c.call_iterator.ensures.reaches, c.requires.1)
 
 pub returns : goal.returns
 returns c =

@@ -1,4 +1,4 @@
-use Prim.Native.Nat.{◌+◌, ◌<◌}
+use Prim.Native.Nat.{◌+◌}
 use native.Mathlib.Omega.{arith}
 use mathlib.Core.Path.{◌≡◌, sym, ap, ◌∙◌}
 use mathlib.Core.Bool.{Bool, cond}
@@ -13,34 +13,33 @@ use Rattle.lower_leaves.proofs.literals.emit_literal.Goals as goal
 
 pub returns-in-None : goal.returns-in-None
 returns-in-None c =
-    word-quotes (record { none = search rules; some = λ n e. (search rules, search rules) }) (instr-plain _ 5 0 0 (plain-below 5 0 0 (omega arith) (omega arith) (omega arith) (omega arith))) c.put_op.ensures
-    (none_is _ _ _ c.requires.2 c.requires.3 c.in-None.is)
+    let v = none_is _ _ _ c.requires.2 c.requires.3 c.in-None.is in
+    word-quotes c.map.ensures.variant (λ n e. (let p : n ≡ c.args.at + 1 = search rules in p) ∙ sym v.1) (instr-plain _ 5 0 0 (plain-below 5 0 0 (omega arith) (omega arith) (omega arith) (omega arith))) c.put_op.ensures v.0
 
 pub returns-in-Bool-true : goal.returns-in-Bool-true
 returns-in-Bool-true c =
-    word-quotes (record { none = search rules; some = λ n e. (search rules, search rules) }) (instr-plain _ 3 0 0 (plain-below 3 0 0 (omega arith) (omega arith) (omega arith) (omega arith))) c.put_op-in-Bool-true.ensures
-    (bool_is _ _ _ c.requires.2 c.requires.3 _ 3 c.in-Bool-true.is (ap (λ (b : Bool). cond b 3 4) (sym c.in-Bool-true.field-0-test)))
+    let v = bool_is _ _ _ c.requires.2 c.requires.3 _ 3 c.in-Bool-true.is (ap (λ (b : Bool). cond b 3 4) (sym c.in-Bool-true.field-0-test)) in
+    word-quotes c.map-in-Bool-true.ensures.variant (λ n e. (let p : n ≡ c.args.at + 1 = search rules in p) ∙ sym v.1) (instr-plain _ 3 0 0 (plain-below 3 0 0 (omega arith) (omega arith) (omega arith) (omega arith))) c.put_op-in-Bool-true.ensures v.0
 
 pub returns-in-Bool-false : goal.returns-in-Bool-false
 returns-in-Bool-false c =
-    word-quotes (record { none = search rules; some = λ n e. (search rules, search rules) }) (instr-plain _ 4 0 0 (plain-below 4 0 0 (omega arith) (omega arith) (omega arith) (omega arith))) c.put_op-in-Bool-false.ensures
-    (bool_is _ _ _ c.requires.2 c.requires.3 _ 4 c.in-Bool-false.is (ap (λ (b : Bool). cond b 3 4) (sym c.in-Bool-false.field-0-test)))
+    let v = bool_is _ _ _ c.requires.2 c.requires.3 _ 4 c.in-Bool-false.is (ap (λ (b : Bool). cond b 3 4) (sym c.in-Bool-false.field-0-test)) in
+    word-quotes c.map-in-Bool-false.ensures.variant (λ n e. (let p : n ≡ c.args.at + 1 = search rules in p) ∙ sym v.1) (instr-plain _ 4 0 0 (plain-below 4 0 0 (omega arith) (omega arith) (omega arith) (omega arith))) c.put_op-in-Bool-false.ensures v.0
 
 pub returns-in-Ok : goal.returns-in-Ok
 returns-in-Ok c =
-    let s : c.in-Ok.small < 65536 = omega (arith, c.in-Ok.ensures) in
-    word-quotes (record { none = search rules; some = λ n e. (search rules, search rules) }) (instr-small _ _ s) c.put_op-in-Ok.ensures
-    (small_is _ _ _ _ _ c.requires.2 c.requires.3 c.in-Int.is (c.in-Ok.ensures.1 ∙ c.literal_bits.ensures))
+    let v = small_is _ _ _ _ _ c.requires.2 c.requires.3 c.in-Int.is (c.in-Ok.ensures.1 ∙ c.literal_bits.ensures) in
+    word-quotes c.map-in-Ok.ensures.variant (λ n e. (let p : n ≡ c.args.at + 9 = search rules in p) ∙ sym v.1) (instr-small _ _ (omega (arith, c.in-Ok.ensures))) c.put_op-in-Ok.ensures v.0
 
 pub returns-in-Err : goal.returns-in-Err
 returns-in-Err c =
-    word-quotes (record { none = search rules; some = λ n e. (search rules, search rules) }) (instr-place _ 0 _ (omega arith) (inside-place c.requires.2 c.requires.1)) c.put_op-in-Err.ensures
-    (int_is _ _ _ c.requires.2 c.requires.3 _ c.in-Int.is)
+    let v = int_is _ _ _ c.requires.2 c.requires.3 _ c.in-Int.is in
+    word-quotes c.map-in-Err.ensures.variant (λ n e. (let p : n ≡ c.args.at + 9 = search rules in p) ∙ sym v.1) (instr-place _ 0 _ (omega arith) (inside-place c.requires.2 c.requires.1)) c.put_op-in-Err.ensures v.0
 
 pub returns-in-Float : goal.returns-in-Float
 returns-in-Float c =
-    word-quotes (record { none = search rules; some = λ n e. (search rules, search rules) }) (instr-place _ 1 _ (omega arith) (inside-place c.requires.2 c.requires.1)) c.put_op-in-Float.ensures
-    (double_is _ _ _ c.requires.2 c.requires.3 c.in-Float.is)
+    let v = double_is _ _ _ c.requires.2 c.requires.3 c.in-Float.is in
+    word-quotes c.map-in-Float.ensures.variant (λ n e. (let p : n ≡ c.args.at + 9 = search rules in p) ∙ sym v.1) (instr-place _ 1 _ (omega arith) (inside-place c.requires.2 c.requires.1)) c.put_op-in-Float.ensures v.0
 
 pub overflow_sub-start : goal.overflow_sub-start
 overflow_sub-start c = let v = text-is _ _ _ c.requires.2 c.requires.3 _ _ c.in-Text.is c.requires.5 in omega (arith, v.0)
