@@ -1,11 +1,11 @@
 -- A lambda's function begun, its body, its end, and the values it captures, by the laws of the state.
-use Prim.Native.Nat.{ℕ, ◌+◌, ◌<◌, ◌≤◌}
+use Prim.Native.Nat.{ℕ, ◌+◌, ◌-◌, ◌<◌, ◌≤◌}
 use mathlib.Core.Path.{◌≡◌, refl, sym, ap, subst, ◌∙◌}
 use mathlib.Core.Option.{some}
 use mathlib.Core.List.{List, []}
 use native.Mathlib.Omega.{arith}
 use lib.IntN.{ℤ}
-use lib.ListN.{length, get_or, drop}
+use lib.ListN.{length, get_or, drop, length-drop}
 use Rattle.std.specs.Prelude.{Option, Some, None}
 use Rattle.std.proofs.lemmas.Option.{none-some}
 use Rattle.definitions.specs.Bytes.{same, position}
@@ -65,6 +65,10 @@ module _ {tree : List ℕ} {a : Emitter} {ts : Tables} {i : Option ℕ} (arity l
         subst (λ (n : ℕ). BeginsIn r n tree a c want) k
         (named-begins (lambda_name a.tables.functions) S N z arity locals (begun-lifts (named-sound (lambda_name a.tables.functions) S N z) (omega (arith, h.below j z)) x y g));
   }
+
+-- so many slots as come after the index
+pub begins-count : {tree : List ℕ} {a b : Emitter} {r : Option ℕ} {arity : ℕ} (slots : List ℕ) → BeginsLambda r arity (length slots - slots_from) tree a b → BeginsLambda r arity (length (drop slots_from slots)) tree a b
+begins-count {tree} {a} {b} {r} {arity} slots h = subst (λ (n : ℕ). BeginsLambda r arity n tree a b) (sym (length-drop slots_from slots)) h
 
 -- ---- the end
 
