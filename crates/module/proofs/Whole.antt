@@ -12,11 +12,10 @@ use Rattle.state.specs.Words.{region}
 use Rattle.state.specs.State.{strings_from, heads_from, codes_from, class_names_from, class_methods_from, methods_from, constants_from, done_from, tables_of, Sound}
 use Rattle.state.specs.declared.Counts.{Counts}
 use Rattle.state.specs.Answered.{Limits}
-use Rattle.state.proofs.Regions.{region-length}
 use Rattle.module.specs.Sections.{symbol_bytes, string_bytes, functions_bytes, classes_bytes, constant_bytes, texts_bytes, bodies_bytes, Roomy}
 use Rattle.writing.proofs.Begun.{joined}
-use Rattle.module.proofs.Lengths.{Small, symbols-room, strings-room}
-use Rattle.module.proofs.CodeLengths.{region-short, functions-room, classes-room, length-constants}
+use Rattle.module.proofs.Lengths.{Small}
+use Rattle.module.proofs.CodeLengths.{region-short, symbols-room, strings-room, functions-room, classes-room, length-constants, symbols-are, strings-are, functions-are, classes-are, constants-are}
 
 -- sound slices have what the writer asks
 pub sound-roomy : {tree made code tables : List ℕ} {c : Counts} {l : Limits} → Sound tree made code tables c l → Roomy code tables c
@@ -30,30 +29,28 @@ sound-roomy s = record {
   constants = omega (arith, s.limited);
 }
 
--- the words that the code has found are few
-pub few : {ws : List ℕ} {n : ℕ} (a k : ℕ) (xs : List ℕ) → ws ≡ region a n xs → n ≤ k → length ws ≤ k
-few {n = n} a k xs e h = let l = ap length e in let s = region-short a n xs in omega arith
-
--- as many in two tables
-pub alike : {ws vs : List ℕ} (n a b : ℕ) (xs : List ℕ) → ws ≡ region a n xs → vs ≡ region b n xs → a + n ≤ length xs → b + n ≤ length xs → length ws ≡ length vs
-alike n a b xs e f h k = ap length e ∙ region-length a n xs h ∙ sym (region-length b n xs k) ∙ sym (ap length f)
-
 -- ---- symbols and strings
 
-module _ (tree made tables : List ℕ) (c : Counts) {sy st : List ℕ} (e : sy ≡ region 0 c.symbols tables) (f : st ≡ region strings_from c.strings tables) where
-  pub texts-are : symbol_bytes tree made sy ++ string_bytes tree st ≡ texts_bytes tree made tables c
-  unfolding texts_bytes
-  texts-are = ap₂ (λ (x y : List ℕ). symbol_bytes tree made x ++ string_bytes tree y) e f
+module _ (tree made tables : List ℕ) (c : Counts) where
+  pub symbols-fit : Small tree → Small made → c.symbols ≤ 1024 → length (symbol_bytes tree made (region 0 c.symbols tables)) ≤ 262146
+  symbols-fit b d h =
+      let ws = region 0 c.symbols tables in
+      let r = symbols-room tree made ws b d in let s = region-short 0 c.symbols tables in let e = ap length (symbols-are tree ws refl refl made refl) in omega arith
 
-  pub texts-pieces : texts_bytes tree made tables c ≡ symbol_bytes tree made sy ++ joined (string_bytes tree st ∷ [])
-  unfolding joined
-  texts-pieces = sym texts-are ∙ ap (λ (z : List ℕ). symbol_bytes tree made sy ++ z) (sym (append-nil (string_bytes tree st)))
+  pub strings-fit : Small tree → c.strings ≤ 512 → length (string_bytes tree (region strings_from c.strings tables)) ≤ 33554946
+  strings-fit b h =
+      let ws = region strings_from c.strings tables in
+      let r = strings-room tree ws b in let s = region-short strings_from c.strings tables in let e = ap length (strings-are tree ws refl refl) in omega arith
 
-  pub length-texts : length (symbol_bytes tree made sy) + length (string_bytes tree st) ≡ length (texts_bytes tree made tables c)
-  length-texts = sym (length-append (symbol_bytes tree made sy) (string_bytes tree st)) ∙ ap length texts-are
+  -- with the lists that the code has made
+  module _ {a b : List ℕ} (e : a ≡ symbol_bytes tree made (region 0 c.symbols tables)) (f : b ≡ string_bytes tree (region strings_from c.strings tables)) where
+    pub texts-pieces : texts_bytes tree made tables c ≡ a ++ joined (b ∷ [])
+    unfolding texts_bytes joined
+    texts-pieces = sym (ap₂ (λ (x y : List ℕ). x ++ y) e f) ∙ ap (λ (z : List ℕ). a ++ z) (sym (append-nil b))
 
-  pub texts-room : Small tree → Small made → c.symbols ≤ 1024 → c.strings ≤ 512 → length (symbol_bytes tree made sy) + length (string_bytes tree st) < 2 ^ 30
-  texts-room b d h k = let x = symbols-room tree made sy b d in let y = strings-room tree st b in let m = few 0 1024 tables e h in let n = few strings_from 512 tables f k in omega arith
+    pub length-texts : length a + length b ≡ length (texts_bytes tree made tables c)
+    unfolding texts_bytes
+    length-texts = sym (length-append a b) ∙ ap length (ap₂ (λ (x y : List ℕ). x ++ y) e f)
 
 -- ---- functions, classes and constants
 
@@ -61,41 +58,38 @@ module _ (tree made tables : List ℕ) (c : Counts) {sy st : List ℕ} (e : sy �
 pub finished-are : (code : List ℕ) → take (length code - 8192) (drop 8192 code) ≡ drop done_from code
 finished-are code = take_all (length code - 8192) (drop 8192 code) (let l = length-drop 8192 code in omega arith)
 
-module _ (tree code tables : List ℕ) (c : Counts) {fin hs ks ms xs ps : List ℕ} (d : fin ≡ drop done_from code) (e : hs ≡ region heads_from c.functions tables) (f : ks ≡ region codes_from c.functions tables)
-    (g : ms ≡ region methods_from 256 tables) (h : xs ≡ region class_names_from c.classes tables) (i : ps ≡ region class_methods_from c.classes tables) where
-  pub bodies-are : {cs : List ℕ} → cs ≡ region constants_from c.constants tables →
-      functions_bytes tree fin hs ks ++ (classes_bytes tree ms xs ps ++ constant_bytes cs) ≡ bodies_bytes tree code tables c
-  unfolding bodies_bytes
-  bodies-are j z = functions_bytes tree (d z) (e z) (f z) ++ (classes_bytes tree (g z) (h z) (i z) ++ constant_bytes (j z))
+module _ (tree code tables : List ℕ) (c : Counts) where
+  pub functions-fit : Roomy code tables c → length (functions_bytes tree (drop done_from code) (region heads_from c.functions tables) (region codes_from c.functions tables)) ≤ 167771394
+  functions-fit r =
+      let hs = region heads_from c.functions tables in let ks = region codes_from c.functions tables in
+      let n = functions-room tree (drop done_from code) hs ks in let s = region-short heads_from c.functions tables in
+      let e = ap length (functions-are tree (drop done_from code) hs ks refl refl refl refl) in omega (arith, r.functions)
 
-  pub bodies-pieces : {cs : List ℕ} → cs ≡ region constants_from c.constants tables →
-      bodies_bytes tree code tables c ≡ functions_bytes tree fin hs ks ++ joined (classes_bytes tree ms xs ps ∷ constant_bytes cs ∷ [])
-  unfolding joined
-  bodies-pieces {cs} j = sym (bodies-are j) ∙ ap (λ (z : List ℕ). functions_bytes tree fin hs ks ++ (classes_bytes tree ms xs ps ++ z)) (sym (append-nil (constant_bytes cs)))
+  pub classes-fit : Small tree → Roomy code tables c → length (classes_bytes tree (region methods_from 256 tables) (region class_names_from c.classes tables) (region class_methods_from c.classes tables)) ≤ 1082130434
+  classes-fit b r =
+      let xs = region class_names_from c.classes tables in let ks = region class_methods_from c.classes tables in
+      let n = classes-room tree (region methods_from 256 tables) b xs ks in let s = region-short class_names_from c.classes tables in
+      let e = ap length (classes-are tree (region methods_from 256 tables) xs ks refl refl refl refl) in omega (arith, r.classes)
 
-  pub length-bodies : Roomy code tables c → length (functions_bytes tree fin hs ks) + length (classes_bytes tree ms xs ps) + 2 + 2 * c.constants ≡ length (bodies_bytes tree code tables c)
-  length-bodies r =
+  pub constants-fit : Roomy code tables c → length (constant_bytes (region constants_from c.constants tables)) ≤ 130
+  constants-fit r =
       let cs = region constants_from c.constants tables in
-      let a = ap length (bodies-are {cs = cs} refl) in
-      let b = length-append (functions_bytes tree fin hs ks) (classes_bytes tree ms xs ps ++ constant_bytes cs) in
-      let k = length-append (classes_bytes tree ms xs ps) (constant_bytes cs) in
-      let l = length-constants cs in
-      let m = region-length constants_from c.constants tables (omega (arith, r.tables-room, r.constants)) in
-      omega arith
+      let n = length-constants cs in let s = region-short constants_from c.constants tables in let e = ap length (constants-are cs refl) in omega (arith, r.constants)
 
-  pub same-functions : Roomy code tables c → length hs ≡ length ks
-  same-functions r = alike c.functions heads_from codes_from tables e f (omega (arith, r.tables-room, r.functions)) (omega (arith, r.tables-room, r.functions))
+  -- with the lists that the code has made
+  module _ {x y z : List ℕ} (e : x ≡ functions_bytes tree (drop done_from code) (region heads_from c.functions tables) (region codes_from c.functions tables))
+      (f : y ≡ classes_bytes tree (region methods_from 256 tables) (region class_names_from c.classes tables) (region class_methods_from c.classes tables))
+      (g : z ≡ constant_bytes (region constants_from c.constants tables)) where
+    bodies-are : x ++ (y ++ z) ≡ bodies_bytes tree code tables c
+    unfolding bodies_bytes
+    bodies-are = ap₂ (λ (a b : List ℕ). a ++ b) e (ap₂ (λ (a b : List ℕ). a ++ b) f g)
 
-  pub same-classes : Roomy code tables c → length xs ≡ length ps
-  same-classes r = alike c.classes class_names_from class_methods_from tables h i (omega (arith, r.tables-room, r.classes)) (omega (arith, r.tables-room, r.classes))
+    pub bodies-pieces : bodies_bytes tree code tables c ≡ x ++ joined (y ∷ z ∷ [])
+    unfolding joined
+    bodies-pieces = sym bodies-are ∙ ap (λ (a : List ℕ). x ++ (y ++ a)) (sym (append-nil z))
 
-  pub bodies-room : Small tree → Roomy code tables c → length (bodies_bytes tree code tables c) < 2 ^ 31
-  bodies-room b r =
-      let x = functions-room tree fin hs ks (same-functions r) in
-      let y = classes-room tree ms xs ps b (same-classes r) in
-      let m = few heads_from 256 tables e r.functions in
-      let n = few class_names_from 64 tables h r.classes in
-      omega (arith, r.constants, length-bodies r)
+    pub length-bodies : length x + length y + length z ≡ length (bodies_bytes tree code tables c)
+    length-bodies = let a = ap length bodies-are in let b = length-append x (y ++ z) in let k = length-append y z in omega arith
 
 -- ---- the module
 

@@ -31,10 +31,8 @@ fn eight_at(bytes: &[u8], at: usize) -> u64
     ensures { result ≡ number_at 8 bytes.now at }
 {
     let mut n = 0u64;
-    let mut i = 0usize;
-    while i < 8 {
+    for i in 0..8 {
         n = n * 256 + byte(bytes, at + i) as u64;
-        i += 1;
     }
     n
 }

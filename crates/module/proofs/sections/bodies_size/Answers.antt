@@ -1,65 +1,45 @@
--- functions and classes are measured
+-- how long the lists are
 use native.Mathlib.Omega.{arith}
-use mathlib.Core.Path.{refl, ap₂, ◌∙◌}
-use Prim.Native.Nat.{ℕ, ◌+◌, ◌*◌}
-use Rattle.state.specs.State.{codes_from, class_names_from}
-use Rattle.module.proofs.Whole.{few, finished-are, same-functions, same-classes, length-bodies, bodies-room}
+use mathlib.Core.Path.{ap}
+use lib.ListN.{length}
+use Rattle.module.proofs.CodeLengths.{functions-are, classes-are, constants-are}
+use Rattle.module.proofs.Whole.{functions-fit, classes-fit, constants-fit, length-bodies}
 use Rattle.module.proofs.sections.bodies_size.Goals as goal
 
-pub functions_size-functions-requires : goal.functions_size-functions-requires
-functions_size-functions-requires c = omega (arith, few codes_from 256 c.args.tables.now c.words_part-codes.ensures c.requires.functions)
+pub list_size-requires : goal.list_size-requires
+list_size-requires c =
+    let x = ap length (functions-are _ _ _ _ c.functions-functions.ensures.tree c.functions-functions.ensures.finished c.functions-functions.ensures.heads c.functions-functions.ensures.places) in
+    omega (arith, x, functions-fit c.args.tree.now c.args.code.now c.args.tables.now c.args.c c.requires)
 
-pub classes_size-classes-requires : goal.classes_size-classes-requires
-classes_size-classes-requires c =
-    let a = c.args in (
-      omega (arith, few class_names_from 64 a.tables.now c.words_part-names.ensures c.requires.classes),
-      same-classes a.tree.now a.code.now a.tables.now a.c refl refl refl refl c.words_part-names.ensures c.words_part-places.ensures c.requires,
-    )
+pub list_size-requires-2 : goal.list_size-requires-2
+list_size-requires-2 c =
+    let y = ap length (classes-are _ _ _ _ c.classes-classes.ensures.tree c.classes-classes.ensures.methods c.classes-classes.ensures.names c.classes-classes.ensures.places) in
+    omega (arith, y, classes-fit c.args.tree.now c.args.code.now c.args.tables.now c.args.c (λ j. (c.shared_slice_known-1.given j).fits) c.requires)
 
 pub overflow_add-result : goal.overflow_add-result
 overflow_add-result c =
-    let sized = let ks = c.words_part-codes.ensures in
-    let xs = c.words_part-names.ensures in
-    let ps = c.words_part-places.ensures in
-    ap₂ (λ (x y : ℕ). x + y + 2 + 2 * c.args.c.constants)
-    (c.functions_size-functions.ensures c.args.tree.now _ (same-functions c.args.tree.now c.args.code.now c.args.tables.now c.args.c (finished-are c.args.code.now) refl ks c.words_part-methods.ensures xs ps c.requires))
-    c.classes_size-classes.ensures
-    ∙ length-bodies c.args.tree.now c.args.code.now c.args.tables.now c.args.c (finished-are c.args.code.now) refl ks c.words_part-methods.ensures xs ps c.requires in
-    let room = bodies-room c.args.tree.now c.args.code.now c.args.tables.now c.args.c refl refl refl refl refl refl (λ j. (c.shared_slice_known-1.given j).fits) c.requires in
-    omega (arith, sized, room)
+    let x = ap length (functions-are _ _ _ _ c.functions-functions.ensures.tree c.functions-functions.ensures.finished c.functions-functions.ensures.heads c.functions-functions.ensures.places) in
+    let y = ap length (classes-are _ _ _ _ c.classes-classes.ensures.tree c.classes-classes.ensures.methods c.classes-classes.ensures.names c.classes-classes.ensures.places) in
+    omega (arith, x, y, functions-fit c.args.tree.now c.args.code.now c.args.tables.now c.args.c c.requires, classes-fit c.args.tree.now c.args.code.now c.args.tables.now c.args.c (λ j. (c.shared_slice_known-1.given j).fits) c.requires, constants-fit c.args.tree.now c.args.code.now c.args.tables.now c.args.c c.requires, c.list_size.ensures, c.list_size-2.ensures)
+
+pub list_size-requires-3 : goal.list_size-requires-3
+list_size-requires-3 c =
+    let z = ap length (constants-are _ c.constants-constants.ensures) in
+    omega (arith, z, constants-fit c.args.tree.now c.args.code.now c.args.tables.now c.args.c c.requires)
 
 pub overflow_add-result-2 : goal.overflow_add-result-2
 overflow_add-result-2 c =
-    let sized = let ks = c.words_part-codes.ensures in
-    let xs = c.words_part-names.ensures in
-    let ps = c.words_part-places.ensures in
-    ap₂ (λ (x y : ℕ). x + y + 2 + 2 * c.args.c.constants)
-    (c.functions_size-functions.ensures c.args.tree.now _ (same-functions c.args.tree.now c.args.code.now c.args.tables.now c.args.c (finished-are c.args.code.now) refl ks c.words_part-methods.ensures xs ps c.requires))
-    c.classes_size-classes.ensures
-    ∙ length-bodies c.args.tree.now c.args.code.now c.args.tables.now c.args.c (finished-are c.args.code.now) refl ks c.words_part-methods.ensures xs ps c.requires in
-    let room = bodies-room c.args.tree.now c.args.code.now c.args.tables.now c.args.c refl refl refl refl refl refl (λ j. (c.shared_slice_known-1.given j).fits) c.requires in
-    omega (arith, sized, room)
-
-pub overflow_add-result-3 : goal.overflow_add-result-3
-overflow_add-result-3 c =
-    let sized = let ks = c.words_part-codes.ensures in
-    let xs = c.words_part-names.ensures in
-    let ps = c.words_part-places.ensures in
-    ap₂ (λ (x y : ℕ). x + y + 2 + 2 * c.args.c.constants)
-    (c.functions_size-functions.ensures c.args.tree.now _ (same-functions c.args.tree.now c.args.code.now c.args.tables.now c.args.c (finished-are c.args.code.now) refl ks c.words_part-methods.ensures xs ps c.requires))
-    c.classes_size-classes.ensures
-    ∙ length-bodies c.args.tree.now c.args.code.now c.args.tables.now c.args.c (finished-are c.args.code.now) refl ks c.words_part-methods.ensures xs ps c.requires in
-    let room = bodies-room c.args.tree.now c.args.code.now c.args.tables.now c.args.c refl refl refl refl refl refl (λ j. (c.shared_slice_known-1.given j).fits) c.requires in
-    omega (arith, sized, room)
+    let x = ap length (functions-are _ _ _ _ c.functions-functions.ensures.tree c.functions-functions.ensures.finished c.functions-functions.ensures.heads c.functions-functions.ensures.places) in
+    let y = ap length (classes-are _ _ _ _ c.classes-classes.ensures.tree c.classes-classes.ensures.methods c.classes-classes.ensures.names c.classes-classes.ensures.places) in
+    let z = ap length (constants-are _ c.constants-constants.ensures) in
+    omega (arith, x, y, z, functions-fit c.args.tree.now c.args.code.now c.args.tables.now c.args.c c.requires, classes-fit c.args.tree.now c.args.code.now c.args.tables.now c.args.c (λ j. (c.shared_slice_known-1.given j).fits) c.requires, constants-fit c.args.tree.now c.args.code.now c.args.tables.now c.args.c c.requires, c.list_size.ensures, c.list_size-2.ensures, c.list_size-3.ensures)
 
 pub returns : goal.returns
 returns c =
-    let sized = let ks = c.words_part-codes.ensures in
-    let xs = c.words_part-names.ensures in
-    let ps = c.words_part-places.ensures in
-    ap₂ (λ (x y : ℕ). x + y + 2 + 2 * c.args.c.constants)
-    (c.functions_size-functions.ensures c.args.tree.now _ (same-functions c.args.tree.now c.args.code.now c.args.tables.now c.args.c (finished-are c.args.code.now) refl ks c.words_part-methods.ensures xs ps c.requires))
-    c.classes_size-classes.ensures
-    ∙ length-bodies c.args.tree.now c.args.code.now c.args.tables.now c.args.c (finished-are c.args.code.now) refl ks c.words_part-methods.ensures xs ps c.requires in
-    let room = bodies-room c.args.tree.now c.args.code.now c.args.tables.now c.args.c refl refl refl refl refl refl (λ j. (c.shared_slice_known-1.given j).fits) c.requires in
-    (sized, omega (arith, sized, room))
+    let x = ap length (functions-are _ _ _ _ c.functions-functions.ensures.tree c.functions-functions.ensures.finished c.functions-functions.ensures.heads c.functions-functions.ensures.places) in
+    let y = ap length (classes-are _ _ _ _ c.classes-classes.ensures.tree c.classes-classes.ensures.methods c.classes-classes.ensures.names c.classes-classes.ensures.places) in
+    let z = ap length (constants-are _ c.constants-constants.ensures) in
+    let n = length-bodies c.args.tree.now c.args.code.now c.args.tables.now c.args.c (functions-are _ _ _ _ c.functions-functions.ensures.tree c.functions-functions.ensures.finished c.functions-functions.ensures.heads c.functions-functions.ensures.places)
+    (classes-are _ _ _ _ c.classes-classes.ensures.tree c.classes-classes.ensures.methods c.classes-classes.ensures.names c.classes-classes.ensures.places)
+    (constants-are _ c.constants-constants.ensures) in
+    (omega (arith, n, c.list_size.ensures, c.list_size-2.ensures, c.list_size-3.ensures), omega (arith, x, y, z, functions-fit c.args.tree.now c.args.code.now c.args.tables.now c.args.c c.requires, classes-fit c.args.tree.now c.args.code.now c.args.tables.now c.args.c (λ j. (c.shared_slice_known-1.given j).fits) c.requires, constants-fit c.args.tree.now c.args.code.now c.args.tables.now c.args.c c.requires, c.list_size.ensures, c.list_size-2.ensures, c.list_size-3.ensures))

@@ -1,28 +1,30 @@
+-- how long the lists are
 use native.Mathlib.Omega.{arith}
-use mathlib.Core.Path.{ap₂, ◌∙◌}
-use Prim.Native.Nat.{ℕ, ◌+◌}
-use Rattle.state.specs.State.{strings_from}
-use Rattle.module.proofs.Whole.{few, length-texts, texts-room}
+use mathlib.Core.Path.{ap}
+use lib.ListN.{length}
+use Rattle.module.proofs.CodeLengths.{symbols-are, strings-are}
+use Rattle.module.proofs.Whole.{symbols-fit, strings-fit, length-texts}
 use Rattle.module.proofs.sections.texts_size.Goals as goal
 
-pub symbols_size-requires : goal.symbols_size-requires
-symbols_size-requires c = omega (arith, few 0 1024 c.args.tables.now c.words_part-symbols.ensures c.requires.0)
+pub list_size-requires : goal.list_size-requires
+list_size-requires c =
+    let e = ap length (symbols-are _ _ c.symbols-symbols.ensures.tree c.symbols-symbols.ensures.entries _ c.symbols-symbols.ensures.made) in
+    omega (arith, e, symbols-fit c.args.tree.now c.args.made.now c.args.tables.now c.args.c (λ j. (c.shared_slice_known-1.given j).fits) (λ j. (c.shared_slice_known-2-1.given j).fits) c.requires.0)
 
-pub strings_size-requires : goal.strings_size-requires
-strings_size-requires c = omega (arith, few strings_from 512 c.args.tables.now c.words_part-strings.ensures c.requires.1)
+pub list_size-requires-2 : goal.list_size-requires-2
+list_size-requires-2 c =
+    let e = ap length (strings-are _ _ c.strings-strings.ensures.tree c.strings-strings.ensures.entries) in
+    omega (arith, e, strings-fit c.args.tree.now c.args.made.now c.args.tables.now c.args.c (λ j. (c.shared_slice_known-1.given j).fits) c.requires.1)
 
 pub overflow_add-result : goal.overflow_add-result
 overflow_add-result c =
-    let room = texts-room c.args.tree.now c.args.made.now c.args.tables.now c.args.c c.words_part-symbols.ensures c.words_part-strings.ensures
-    (λ j. (c.shared_slice_known-1.given j).fits) (λ j. (c.shared_slice_known-2-1.given j).fits) c.requires.0 c.requires.1 in
-    omega (arith, room, c.strings_size.ensures, c.symbols_size.ensures)
+    let d = ap length (symbols-are _ _ c.symbols-symbols.ensures.tree c.symbols-symbols.ensures.entries _ c.symbols-symbols.ensures.made) in
+    let e = ap length (strings-are _ _ c.strings-strings.ensures.tree c.strings-strings.ensures.entries) in
+    omega (arith, d, e, symbols-fit c.args.tree.now c.args.made.now c.args.tables.now c.args.c (λ j. (c.shared_slice_known-1.given j).fits) (λ j. (c.shared_slice_known-2-1.given j).fits) c.requires.0, strings-fit c.args.tree.now c.args.made.now c.args.tables.now c.args.c (λ j. (c.shared_slice_known-1.given j).fits) c.requires.1, c.list_size.ensures, c.list_size-2.ensures)
 
 pub returns : goal.returns
 returns c =
-    let room = texts-room c.args.tree.now c.args.made.now c.args.tables.now c.args.c c.words_part-symbols.ensures c.words_part-strings.ensures
-    (λ j. (c.shared_slice_known-1.given j).fits) (λ j. (c.shared_slice_known-2-1.given j).fits) c.requires.0 c.requires.1 in
-    let a = c.args in (
-      ap₂ (λ (x y : ℕ). x + y) c.symbols_size.ensures c.strings_size.ensures
-          ∙ length-texts a.tree.now a.made.now a.tables.now a.c c.words_part-symbols.ensures c.words_part-strings.ensures,
-      omega (arith, room, c.strings_size.ensures, c.symbols_size.ensures),
-    )
+    let d = ap length (symbols-are _ _ c.symbols-symbols.ensures.tree c.symbols-symbols.ensures.entries _ c.symbols-symbols.ensures.made) in
+    let e = ap length (strings-are _ _ c.strings-strings.ensures.tree c.strings-strings.ensures.entries) in
+    let n = length-texts c.args.tree.now c.args.made.now c.args.tables.now c.args.c (symbols-are _ _ c.symbols-symbols.ensures.tree c.symbols-symbols.ensures.entries _ c.symbols-symbols.ensures.made) (strings-are _ _ c.strings-strings.ensures.tree c.strings-strings.ensures.entries) in
+    (omega (arith, n, c.list_size.ensures, c.list_size-2.ensures), omega (arith, d, e, symbols-fit c.args.tree.now c.args.made.now c.args.tables.now c.args.c (λ j. (c.shared_slice_known-1.given j).fits) (λ j. (c.shared_slice_known-2-1.given j).fits) c.requires.0, strings-fit c.args.tree.now c.args.made.now c.args.tables.now c.args.c (λ j. (c.shared_slice_known-1.given j).fits) c.requires.1, c.list_size.ensures, c.list_size-2.ensures))

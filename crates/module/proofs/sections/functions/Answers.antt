@@ -1,0 +1,5 @@
+use Rattle.module.proofs.Whole.{finished-are}
+use Rattle.module.proofs.sections.functions.Goals as goal
+
+pub returns-clause-finished : goal.returns-clause-finished
+returns-clause-finished c = finished-are c.args.code.now
