@@ -4,7 +4,7 @@ use mathlib.Core.List.{List, [], ◌∷◌, ◌++◌, map, append-nil}
 use Prim.Native.Nat.{ℕ, zero, suc, min, ◌+◌, ◌*◌, ◌/◌, ◌%◌, ◌≤◌, ◌<◌}
 use native.Mathlib.Omega.{arith}
 use native.Mathlib.Nat.{mul-suc}
-use lib.ListN.{length, get_or, length-append, length-take, length-map}
+use lib.ListN.{length, get_or, length-append, length-take}
 use native.Mathlib.Nat.{zero-min, min-zero, suc-min-suc}
 use Rattle.definitions.specs.Bytes.{be, list_bytes}
 use Rattle.definitions.specs.Instruction.{encode}

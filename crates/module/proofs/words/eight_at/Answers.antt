@@ -2,7 +2,7 @@ use native.Mathlib.Omega.{arith}
 use mathlib.Core.Path.{sym, ap, ◌∙◌}
 use Prim.Native.Nat.{ℕ, ◌+◌, ◌*◌, ◌-◌, ◌^◌}
 use Rattle.state.specs.Words.{number_at}
-use Rattle.module.proofs.Encoding.{horner, grows, small_one, number-start, number-all}
+use Rattle.module.proofs.Encoding.{horner, grows, small_one, number-all}
 use Rattle.module.proofs.words.eight_at.Goals as goal
 
 pub overflow_mul-n : goal.overflow_mul-n

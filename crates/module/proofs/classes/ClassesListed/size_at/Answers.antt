@@ -3,7 +3,6 @@ use native.Mathlib.Omega.{arith}
 use mathlib.Core.Path.{ap}
 use Prim.Native.Nat.{◌/◌, ◌%◌}
 use lib.ListN.{length, get_or}
-use Rattle.module.proofs.Lengths.{name-short}
 use Rattle.module.proofs.CodeLengths.{region-short, methods-room, classes-fewer, length-class}
 use Rattle.module.proofs.classes.ClassesListed.size_at.Goals as goal
 
