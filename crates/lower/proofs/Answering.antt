@@ -1,4 +1,4 @@
--- What the program's buffer shows, by the lowering's answer.
+-- What the program writes, by the lowering's answer.
 use Prim.Native.Nat.{ℕ, ◌+◌, ◌≤◌, ◌<◌}
 use mathlib.Core.Path.{◌≡◌, refl, sym, ap, ◌∙◌}
 use mathlib.Core.List.{List, [], ◌∷◌, ◌++◌}
@@ -16,7 +16,11 @@ use Rattle.names.proofs.Pasting.{three-length, paste-three}
 use Rattle.lowering.specs.Lowered.{said, Lowers}
 use Rattle.lowering.specs.declared.Lowered.{Lowered}
 use Rattle.lowering.specs.declared.Lowered.TheVariants.{Wrote, Refused}
-use Rattle.lower.specs.Answered.{Answered}
+
+-- the first n bytes are these
+pub record Answered (n : ℕ) (out bs : List ℕ) : Type 0 where
+  pub counts : (n ≤ length out) × (n ≡ length (take n out))
+  pub bytes : take n out ≡ bs
 
 -- ---- the line of a refusal
 
@@ -73,8 +77,8 @@ module _ (r : Lowered) (input area₁ area₂ out area₁' area₂' out' : List 
       let w = wrote whole n out out' (sym (ap said e) ∙ L.answer) L.output in
       rw (program-wrote input w.0 (same_answer _ _ _ input _ first second room short w.1)) w.2
 
-  pub answered-refused : (q n : ℕ) (line : List ℕ) → r ≡ Refused q → Answered n line (ascii "refused " ++ (decimal q ++ 10 ∷ [])) → Answered n line (lower_program input)
+  pub refused-line : (q : ℕ) (line : List ℕ) → r ≡ Refused q → line ≡ ascii "refused " ++ (decimal q ++ 10 ∷ []) → line ≡ lower_program input
   unfolding said lower_call limits_by set_number
-  answered-refused q n line e A =
+  refused-line q line e A =
       let w = refuses whole q (sym (ap said e) ∙ L.answer) in
-      rw (program-refused input q (same_answer _ _ _ input _ first second room short w)) A
+      A ∙ sym (program-refused input q (same_answer _ _ _ input _ first second room short w))

@@ -7,8 +7,13 @@ use Rattle.lower.proofs.refusal.Goals as goal
 pub paste_decimal-end-requires : goal.paste_decimal-end-requires
 paste_decimal-end-requires c = let d = length-decimal 9 c.args.q (omega arith) in omega arith
 
-pub paste-requires : goal.paste-requires
-paste-requires c = let d = length-decimal 9 c.args.q (omega arith) in omega arith
+pub paste-n-requires : goal.paste-n-requires
+paste-n-requires c = let d = length-decimal 9 c.args.q (omega arith) in omega arith
+
+pub slice_bounds-result-end : goal.slice_bounds-result-end
+slice_bounds-result-end c =
+    (line-pasted c.args.q _ _ _ c.args.out.now _ _ _ (omega arith) c.requires c.paste-number.ensures c.paste_decimal-end.ensures c.paste-n.ensures).counts.1
 
 pub returns : goal.returns
-returns c = line-pasted c.args.q _ _ _ c.args.out.now _ _ _ (omega arith) c.requires c.paste-number.ensures c.paste_decimal-end.ensures c.paste.ensures
+returns c =
+    (line-pasted c.args.q _ _ _ c.args.out.now _ _ _ (omega arith) c.requires c.paste-number.ensures c.paste_decimal-end.ensures c.paste-n.ensures).bytes
