@@ -23,10 +23,6 @@ module _ (w v : ℕ) (xs : List ℕ) (room : w ≤ length xs) where
   unfolding filled be
   filled-start = sym (ap (λ (k : ℕ). take w xs ++ (be k v ++ drop w xs)) (let z : w - w ≡ 0 = omega arith in z) ∙ take-append-drop w xs)
 
-  pub length-filled : (i : ℕ) → i ≤ w → length (filled w v i xs) ≡ length xs
-  unfolding filled
-  length-filled i h = simp (length-append, length-be, length-take, length-drop) (omega arith)
-
   filled-suc : (j : ℕ) → suc j ≤ w → set (filled w v (suc j) xs) j (v / 256 ^ (w - suc j) % 256) ≡ filled w v j xs
   unfolding filled be
   filled-suc j h =
