@@ -97,7 +97,7 @@ module _ (tree fin : List ℕ) where
     function-pieces =
         let h = get_or hs i 0 in
         let c : list_bytes 2 encode (instrs_of tree (placed (get_or ks i 0) fin)) ≡ counted (map (code_piece t) ws) =
-            counted-words encode (instr_of tree) (placed (get_or ks i 0) fin) ∙ sym (ap₂ (λ (x y : List ℕ). counted (map (code_piece x) y)) e f) in
+        counted-words encode (instr_of tree) (placed (get_or ks i 0) fin) ∙ sym (ap₂ (λ (x y : List ℕ). counted (map (code_piece x) y)) e f) in
         function-element hs ks i l
         ∙ ap (λ (z : List ℕ). be 2 (h / 65536) ++ (be 1 (h / 256 % 256) ++ (be 2 (h % 256) ++ z))) (c ∙ sym (append-nil (counted (map (code_piece t) ws))))
 
@@ -105,7 +105,7 @@ module _ (tree fin : List ℕ) where
     unfolding joined
     length-function =
         let r : length (be 2 (get_or hs i 0 / 65536) ++ joined (be 1 (get_or hs i 0 / 256 % 256) ∷ be 2 (get_or hs i 0 % 256) ∷ counted (map (code_piece t) ws) ∷ [])) ≡ 5 + length (counted (map (code_piece t) ws)) =
-            simp (length-append, length-be) (omega arith) in
+        simp (length-append, length-be) (omega arith) in
         sym (ap length function-pieces ∙ r)
 
   pub functions-room : (hs ks : List ℕ) → length (counted (function_elements hs ks)) ≤ 2 + 655357 * length hs
@@ -120,6 +120,7 @@ module _ (tree fin : List ℕ) where
       one h k =
           let e = length-function (h ∷ []) (k ∷ []) 0 refl refl (omega arith) in
           let r = code-room tree (placed k fin) in let s = region-short (k / 65536) (k % 65536) fin in omega arith
+
       go : (hs ks : List ℕ) → length (joined (function_elements hs ks)) ≤ 655357 * length hs
       go [] ks = omega arith
       go (h ∷ hs) [] = omega arith
@@ -153,7 +154,7 @@ module _ (tree ms : List ℕ) where
     unfolding class_bytes class_of name_bytes joined
     class-pieces =
         let c : list_bytes 2 method_bytes (map (method_of tree) (placed (get_or ks i 0) ms)) ≡ counted (map (method_piece t) ws) =
-            counted-words method_bytes (method_of tree) (placed (get_or ks i 0) ms) ∙ sym (ap₂ (λ (x y : List ℕ). counted (map (method_piece x) y)) e f) in
+        counted-words method_bytes (method_of tree) (placed (get_or ks i 0) ms) ∙ sym (ap₂ (λ (x y : List ℕ). counted (map (method_piece x) y)) e f) in
         class-element xs ks i l
         ∙ ap₂ (λ (y z : List ℕ). (be 1 (length y) ++ y) ++ z) (sym d) (c ∙ sym (append-nil (counted (map (method_piece t) ws))))
 
@@ -161,7 +162,7 @@ module _ (tree ms : List ℕ) where
     unfolding joined
     length-class =
         let r : length ((be 1 (length n) ++ n) ++ joined (counted (map (method_piece t) ws) ∷ [])) ≡ 1 + length n + length (counted (map (method_piece t) ws)) =
-            simp (length-append, length-be) (omega arith) in
+        simp (length-append, length-be) (omega arith) in
         sym (ap length class-pieces ∙ r)
 
   pub classes-room : Small tree → (xs ks : List ℕ) → length (counted (class_elements xs ks)) ≤ 2 + 16908288 * length xs
@@ -176,6 +177,7 @@ module _ (tree ms : List ℕ) where
       one x k =
           let e = length-class (x ∷ []) (k ∷ []) 0 refl refl refl (omega arith) in
           let n = name-short tree x b in let r = methods-room tree (placed k ms) b in let s = region-short (k / 65536) (k % 65536) ms in omega arith
+
       go : (xs ks : List ℕ) → length (joined (class_elements xs ks)) ≤ 16908288 * length xs
       go [] ks = omega arith
       go (x ∷ xs) [] = omega arith

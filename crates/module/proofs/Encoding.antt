@@ -2,14 +2,13 @@
 use mathlib.Core.Path.{◌≡◌, refl, sym, ap, ◌∙◌, subst}
 use mathlib.Core.Bool.{Bool, true, false, ◌&&◌}
 use mathlib.Core.List.{List, [], ◌∷◌, ◌++◌, map, append-nil}
-use Prim.Native.Nat.{ℕ, zero, suc, ◌+◌, ◌*◌, ◌-◌, ◌/◌, ◌%◌, ◌^◌, ◌≤◌, ◌<◌}
+use Prim.Native.Nat.{ℕ, zero, suc, ◌+◌, ◌/◌, ◌%◌, ◌^◌, ◌≤◌, ◌<◌}
 use native.Mathlib.Omega.{arith}
-use native.Mathlib.Nat.{pow-succ', pow-le-pow_right, add-mul, mul_assoc}
-use lib.Dec.{eqb, leb, ltb, lit<}
+use lib.Dec.{eqb, leb, ltb}
 use mir.Syntax.{w16, w32}
 use mir.Val.{of_z, to_z}
 use lib.ListN.{length, get_or, set, length-append, get_or-map}
-use borrow.Author.Tests.{eqb-true, eqb-false, eq-eqb, ne_eqb, lt-ltb, le-ltb, le-leb, lt-leb}
+use borrow.Author.Tests.{eqb-true, eqb-false, eq-eqb, ne_eqb, le-leb, lt-leb}
 use Rattle.definitions.specs.Bytes.{be}
 use Rattle.definitions.specs.Instruction.{Instr, instr, ConstI64, Row, row, nothing, instruction_table, row_of, first_width, second_width, encode}
 use Rattle.definitions.specs.Reader.{is_jump}
@@ -115,12 +114,6 @@ widened-is a h = go (ltb a 32768) refl
     go : (b : Bool) → ltb a 32768 ≡ b → of_z w32 (to_z w16 a) ≡ widened a
     go true e = rw (e, widened)
     go false e = rw (e, widened) (omega arith)
-
--- ---- eight bytes
-
--- a number by another name
-pub wrote-eight : {r n m : ℕ} {xs ys : List ℕ} → n ≡ m → Wrote r (be 8 n) xs ys → Wrote r (be 8 m) xs ys
-wrote-eight {r} {n} {m} {xs} {ys} e w = subst (λ (k : ℕ). Wrote r (be 8 k) xs ys) e w
 
 -- ---- an instruction's bytes
 

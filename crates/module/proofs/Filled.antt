@@ -4,7 +4,7 @@ use mathlib.Core.List.{List, ◌++◌}
 use Prim.Native.Nat.{ℕ, zero, suc, ◌-◌, ◌/◌, ◌%◌, ◌^◌, ◌≤◌, ◌<◌}
 use native.Mathlib.Omega.{arith}
 use native.Mathlib.Nat.{pow-suc, div-div-eq-div-mul, div-one}
-use lib.ListN.{length, get_or, take, drop, set, length-append, length-take, length-drop, take-append-drop}
+use lib.ListN.{length, get_or, take, drop, set, take-append-drop}
 use lib.Seq.{take-suc, set_at, append_snoc, length-take-le}
 use Rattle.definitions.specs.Bytes.{be}
 use Rattle.definitions.specs.Calls.{written}

@@ -54,7 +54,10 @@ impl<'a> Classes<'a> {
         ensures tree { result.tree.now ≡ self.now.tree.now }
         ensures words { let k = get_or self.now.places.now i 0 in result.words.now ≡ region (k / 65536) (k % 65536) self.now.methods.now }
     {
-        Methods { tree: self.tree, words: placed(self.methods, self.places[i]) }
+        Methods {
+            tree: self.tree,
+            words: placed(self.methods, self.places[i]),
+        }
     }
 }
 

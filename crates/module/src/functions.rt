@@ -10,7 +10,8 @@ use crate::numbers::write_number;
 use crate::words::{instruction_size, write_instruction};
 use numerals::places::UPPER;
 
-// n words from `from` on, cut at the end.
+// n words from `from` on, cut at the end. names::spell::part is the same of bytes, and no one function serves both: it also says at which address
+// its bytes begin, which a function over any type cannot.
 pub fn words_part<'a>(words: &'a [u32], from: usize, n: usize) -> &'a [u32]
     ensures { result.now ≡ region from n words.now }
 {
@@ -70,7 +71,10 @@ impl<'a> Functions<'a> {
         ensures tree { result.tree.now ≡ self.now.tree.now }
         ensures words { let k = get_or self.now.places.now i 0 in result.words.now ≡ region (k / 65536) (k % 65536) self.now.finished.now }
     {
-        Code { tree: self.tree, words: placed(self.finished, self.places[i]) }
+        Code {
+            tree: self.tree,
+            words: placed(self.finished, self.places[i]),
+        }
     }
 }
 

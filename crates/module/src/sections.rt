@@ -22,7 +22,11 @@ fn symbols<'a>(tree: &'a [u8], made: &'a [u8], tables: &'a [u32], c: Counts) -> 
     ensures entries { result.entries.now ≡ region 0 c.symbols tables.now }
 {
     let entries = words_part(tables, 0, c.symbols as usize);
-    Symbols { tree, made, entries }
+    Symbols {
+        tree,
+        made,
+        entries,
+    }
 }
 
 fn strings<'a>(tree: &'a [u8], tables: &'a [u32], c: Counts) -> Strings<'a>
@@ -43,7 +47,12 @@ fn functions<'a>(tree: &'a [u8], code: &'a [u32], tables: &'a [u32], c: Counts) 
     let finished = &code[FINISHED_FROM..];
     let heads = words_part(tables, HEADS_FROM, c.functions as usize);
     let places = words_part(tables, CODES_FROM, c.functions as usize);
-    Functions { tree, finished, heads, places }
+    Functions {
+        tree,
+        finished,
+        heads,
+        places,
+    }
 }
 
 fn classes<'a>(tree: &'a [u8], tables: &'a [u32], c: Counts) -> Classes<'a>
@@ -55,7 +64,12 @@ fn classes<'a>(tree: &'a [u8], tables: &'a [u32], c: Counts) -> Classes<'a>
     let methods = words_part(tables, METHODS_FROM, METHODS_ROOM);
     let names = words_part(tables, CLASS_NAMES_FROM, c.classes as usize);
     let places = words_part(tables, CLASS_METHODS_FROM, c.classes as usize);
-    Classes { tree, methods, names, places }
+    Classes {
+        tree,
+        methods,
+        names,
+        places,
+    }
 }
 
 fn constants<'a>(tables: &'a [u32], c: Counts) -> Constants<'a>

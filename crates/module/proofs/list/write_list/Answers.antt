@@ -1,6 +1,5 @@
 -- element by element
 use native.Mathlib.Omega.{arith}
-use mathlib.Core.Path.{◌∙◌}
 use Rattle.writing.proofs.Begun.{begun_first, begun-now, begun-back, begun-as, begun-length, begun-fits, begun-piece, begun-next, begun-done}
 use Rattle.module.proofs.Pieces.{counted-first, counted-two, elements_next, elements-none}
 use Rattle.module.proofs.list.write_list.Goals as goal
@@ -12,16 +11,6 @@ pub loop-i-init : goal.loop-i-init
 loop-i-init g c =
     let begun = begun_first (counted-first _ c.count-n.ensures) c.requires c.write_number-at.ensures in
     (omega arith, begun-now begun)
-
-pub slice_bounds-write_at-count : goal.slice_bounds-write_at-count
-slice_bounds-write_at-count g c =
-    let here = begun-as c.loop-i.invariant.1 _ (elements_next _ c.loop-i.i (omega arith)) in
-    omega (arith, begun-fits here)
-
-pub slice_bounds-write_at-start : goal.slice_bounds-write_at-start
-slice_bounds-write_at-start g c =
-    let here = begun-as c.loop-i.invariant.1 _ (elements_next _ c.loop-i.i (omega arith)) in
-    omega (arith, begun-fits here)
 
 pub write_at-at-requires : goal.write_at-at-requires
 write_at-at-requires g c =
@@ -38,11 +27,6 @@ pub loop-i-preserved : goal.loop-i-preserved
 loop-i-preserved g c =
     let here = begun-as c.loop-i.invariant.1 _ (elements_next _ c.loop-i.i (omega arith)) in
     (omega arith, begun-next here c.write_at-at.ensures)
-
-pub shape_of-out : goal.shape_of-out
-shape_of-out g c =
-    let begun = begun_first (counted-first _ c.count-n.ensures) c.requires c.write_number-at.ensures in
-    begun-length c.loop-i.invariant.1 ∙ begun-length begun
 
 pub returns : goal.returns
 returns g c =

@@ -1,3 +1,4 @@
+-- all but the elements from i on are written
 use Prim.Native.Nat.{◌≤◌}
 use lib.ListN.{length, drop}
 use Rattle.module.specs.Sections.{counted}

@@ -1,3 +1,4 @@
+-- byte by byte, from the last
 use native.Mathlib.Omega.{arith}
 use mathlib.Core.Path.{ap, ◌∙◌}
 use mathlib.Core.List.{List}

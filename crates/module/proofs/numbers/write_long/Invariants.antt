@@ -1,3 +1,4 @@
+-- the bytes from i on are written
 use mathlib.Core.Path.{◌≡◌}
 use Prim.Native.Nat.{◌-◌, ◌/◌, ◌^◌, ◌≤◌}
 use Rattle.module.proofs.Filled.{filled}

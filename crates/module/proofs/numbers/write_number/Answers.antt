@@ -1,3 +1,4 @@
+-- no byte, one, two
 use Rattle.writing.proofs.Begun.{wrote_none, wrote_one, wrote-two}
 use Rattle.module.proofs.numbers.write_number.Goals as goal
 

@@ -1,3 +1,4 @@
+-- the finished words are the rest of the code area
 use Rattle.module.proofs.Whole.{finished-are}
 use Rattle.module.proofs.sections.functions.Goals as goal
 

@@ -77,14 +77,6 @@ overflow_add-result c =
     let b = begun-next begun c.write_list-at-2.ensures in
     omega (arith, begun-fits b, begun-length b, c.write_list.ensures.count, c.well_formed)
 
-pub shape_of-out : goal.shape_of-out
-shape_of-out c =
-    let pieces = bodies-pieces _ _ _ _ (functions-are _ _ _ _ c.functions-functions.ensures.tree c.functions-functions.ensures.finished c.functions-functions.ensures.heads c.functions-functions.ensures.places)
-    (classes-are _ _ _ _ c.classes-classes.ensures.tree c.classes-classes.ensures.methods c.classes-classes.ensures.names c.classes-classes.ensures.places)
-    (constants-are _ c.constants-constants.ensures) in
-    let begun = begun_first pieces c.requires.1 c.write_list-at.ensures in
-    begun-length (begun-next (begun-next begun c.write_list-at-2.ensures) c.write_list.ensures)
-
 pub returns : goal.returns
 returns c =
     let pieces = bodies-pieces _ _ _ _ (functions-are _ _ _ _ c.functions-functions.ensures.tree c.functions-functions.ensures.finished c.functions-functions.ensures.heads c.functions-functions.ensures.places)

@@ -30,11 +30,6 @@ overflow_add-result c =
     let begun = begun_first (texts-pieces _ _ _ _ (symbols-are _ _ c.symbols-symbols.ensures.tree c.symbols-symbols.ensures.entries _ c.symbols-symbols.ensures.made) (strings-are _ _ c.strings-strings.ensures.tree c.strings-strings.ensures.entries)) c.requires.2 c.write_list-at.ensures in
     omega (arith, begun-fits begun, begun-length begun, c.write_list.ensures.count, c.well_formed)
 
-pub shape_of-out : goal.shape_of-out
-shape_of-out c =
-    let begun = begun_first (texts-pieces _ _ _ _ (symbols-are _ _ c.symbols-symbols.ensures.tree c.symbols-symbols.ensures.entries _ c.symbols-symbols.ensures.made) (strings-are _ _ c.strings-strings.ensures.tree c.strings-strings.ensures.entries)) c.requires.2 c.write_list-at.ensures in
-    begun-length (begun-next begun c.write_list.ensures)
-
 pub returns : goal.returns
 returns c =
     let begun = begun_first (texts-pieces _ _ _ _ (symbols-are _ _ c.symbols-symbols.ensures.tree c.symbols-symbols.ensures.entries _ c.symbols-symbols.ensures.made) (strings-are _ _ c.strings-strings.ensures.tree c.strings-strings.ensures.entries)) c.requires.2 c.write_list-at.ensures in

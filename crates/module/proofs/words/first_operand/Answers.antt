@@ -1,3 +1,4 @@
+-- below the jumps, a jump, and above them
 use native.Mathlib.Omega.{arith}
 use mathlib.Core.Path.{sym, ◌∙◌}
 use Rattle.module.proofs.Encoding.{first-low, first-high, first-jump}

@@ -1,3 +1,4 @@
+-- an integer or a float keeps its bits
 use mathlib.Core.Path.{◌∙◌}
 use mathlib.Core.List.{[]}
 use Rattle.exprs.proofs.LiteralLaws.{int-bits, float-bits}

@@ -1,3 +1,4 @@
+-- a small integer, and any other word
 use native.Mathlib.Omega.{arith}
 use mathlib.Core.Path.{sym, ap}
 use Rattle.definitions.specs.Instruction.{Instr}

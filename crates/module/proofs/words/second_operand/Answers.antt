@@ -1,3 +1,4 @@
+-- a small integer has none
 use native.Mathlib.Omega.{arith}
 use mathlib.Core.Path.{sym, ap}
 use Rattle.definitions.specs.Instruction.{Instr}

@@ -1,3 +1,4 @@
+-- the number that the casts pass on is the one before
 use Rattle.std.proofs.Common.{rules}
 use mathlib.Core.Path.{ap, ◌∙◌}
 use mir.Syntax.{w16, w32}

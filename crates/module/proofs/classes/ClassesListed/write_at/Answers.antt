@@ -43,11 +43,6 @@ overflow_add-result c =
     let named = begun_first (class-pieces _ _ _ _ _ c.name_part-name.ensures.result_value c.methods_at-methods.ensures.tree c.methods_at-methods.ensures.words c.requires.0) c.requires.1 c.write_counted-at.ensures in
     omega (arith, begun-fits named, begun-length named, c.write_list.ensures.count, c.well_formed)
 
-pub shape_of-out : goal.shape_of-out
-shape_of-out c =
-    let named = begun_first (class-pieces _ _ _ _ _ c.name_part-name.ensures.result_value c.methods_at-methods.ensures.tree c.methods_at-methods.ensures.words c.requires.0) c.requires.1 c.write_counted-at.ensures in
-    begun-length (begun-next named c.write_list.ensures)
-
 pub returns : goal.returns
 returns c =
     let named = begun_first (class-pieces _ _ _ _ _ c.name_part-name.ensures.result_value c.methods_at-methods.ensures.tree c.methods_at-methods.ensures.words c.requires.0) c.requires.1 c.write_counted-at.ensures in

@@ -1,3 +1,4 @@
+-- a number of two bytes
 use mathlib.Core.Path.{◌∙◌, sym, ap}
 use lib.ListN.{length}
 use Rattle.definitions.specs.Bytes.{be}

@@ -1,3 +1,4 @@
+-- the name, its count and a number of two bytes
 use Rattle.module.proofs.Lengths.{length-method}
 use Rattle.module.proofs.classes.MethodsListed.size_at.Goals as goal
 

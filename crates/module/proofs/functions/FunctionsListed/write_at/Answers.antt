@@ -80,11 +80,6 @@ overflow_add-result c =
     let b = begun-next (begun-next begun c.write_number-at-2.ensures) c.write_number-at-3.ensures in
     omega (arith, begun-fits b, begun-length b, c.write_list.ensures.count, c.well_formed)
 
-pub shape_of-out : goal.shape_of-out
-shape_of-out c =
-    let begun = begun_first (function-pieces _ _ _ _ _ c.code_at-code.ensures.tree c.code_at-code.ensures.words c.requires.0) c.requires.1 c.write_number-at.ensures in
-    begun-length (begun-next (begun-next (begun-next begun c.write_number-at-2.ensures) c.write_number-at-3.ensures) c.write_list.ensures)
-
 pub returns : goal.returns
 returns c =
     let begun = begun_first (function-pieces _ _ _ _ _ c.code_at-code.ensures.tree c.code_at-code.ensures.words c.requires.0) c.requires.1 c.write_number-at.ensures in

@@ -1,3 +1,4 @@
+-- the string and its count
 use mathlib.Core.Path.{◌∙◌, sym, ap}
 use lib.ListN.{length}
 use Rattle.module.proofs.Lengths.{worded, length-counted}

@@ -1,3 +1,4 @@
+-- two bytes count the string's
 use native.Mathlib.Omega.{arith}
 use mathlib.Core.Path.{◌∙◌, sym, ap, subst}
 use mathlib.Core.List.{List}

@@ -1,3 +1,4 @@
+-- the name and its count
 use mathlib.Core.Path.{◌∙◌, sym, ap}
 use lib.ListN.{length}
 use Rattle.module.proofs.Lengths.{named, length-counted}

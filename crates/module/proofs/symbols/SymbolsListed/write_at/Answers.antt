@@ -1,3 +1,4 @@
+-- a byte counts the name's bytes
 use native.Mathlib.Omega.{arith}
 use mathlib.Core.Path.{◌∙◌, sym, ap, subst}
 use mathlib.Core.List.{List}
