@@ -1,6 +1,6 @@
 -- The sections of the areas as the module's bytes.
-use mathlib.Core.Path.{◌≡◌, refl, sym, ap, ap₂, ◌∙◌}
-use mathlib.Core.List.{List, [], ◌∷◌, ◌++◌, append-nil, append_assoc}
+use mathlib.Core.Path.{◌≡◌, sym, ap, ap₂, ◌∙◌}
+use mathlib.Core.List.{List, [], ◌∷◌, ◌++◌, map, append-nil, append_assoc}
 use Prim.Native.Nat.{ℕ, suc, ◌+◌, ◌-◌, ◌≤◌}
 use native.Mathlib.Omega.{arith}
 use lib.ListN.{length, take, drop, length-append, length-drop}
@@ -12,10 +12,11 @@ use Rattle.state.specs.Words.{region}
 use Rattle.state.specs.State.{strings_from, heads_from, codes_from, class_names_from, class_methods_from, methods_from, constants_from, done_from, tables_of, Sound}
 use Rattle.state.specs.declared.Counts.{Counts}
 use Rattle.state.specs.Answered.{Limits}
-use Rattle.module.specs.Sections.{symbol_bytes, string_bytes, functions_bytes, classes_bytes, constant_bytes, texts_bytes, bodies_bytes, Roomy}
+use Rattle.module.specs.Sections.{counted, symbol_bytes, string_bytes, functions_bytes, classes_bytes, constant_bytes, texts_bytes, bodies_bytes, Roomy}
 use Rattle.writing.proofs.Begun.{joined}
 use Rattle.module.proofs.Lengths.{Small}
-use Rattle.module.proofs.CodeLengths.{region-short, symbols-room, strings-room, functions-room, classes-room, length-constants, symbols-are, strings-are, functions-are, classes-are, constants-are}
+use Rattle.module.proofs.CodeLengths.{symbol_piece, string_piece, function_elements, class_elements, region-short, symbols-room}
+use Rattle.module.proofs.CodeLengths.{strings-room, functions-room, classes-room, length-constants, symbols-are, strings-are, functions-are, classes-are, constants-are}
 
 -- sound slices have what the writer asks
 pub sound-roomy : {tree made code tables : List ℕ} {c : Counts} {l : Limits} → Sound tree made code tables c l → Roomy code tables c
@@ -29,67 +30,69 @@ sound-roomy s = record {
   constants = omega (arith, s.limited);
 }
 
--- ---- symbols and strings
+-- ---- symbols and strings, by the lists that the code has made
 
-module _ (tree made tables : List ℕ) (c : Counts) where
-  pub symbols-fit : Small tree → Small made → c.symbols ≤ 1024 → length (symbol_bytes tree made (region 0 c.symbols tables)) ≤ 262146
-  symbols-fit b d h =
-      let ws = region 0 c.symbols tables in
-      let r = symbols-room tree made ws b d in let s = region-short 0 c.symbols tables in let e = ap length (symbols-are tree ws refl refl made refl) in omega arith
+module _ (tree made tables : List ℕ) (c : Counts) {t m es u fs : List ℕ}
+    (a : t ≡ tree) (b : m ≡ made) (d : es ≡ region 0 c.symbols tables) (e : u ≡ tree) (f : fs ≡ region strings_from c.strings tables) where
+  texts-are : counted (map (symbol_piece t m) es) ++ counted (map (string_piece u) fs) ≡ texts_bytes tree made tables c
+  unfolding texts_bytes
+  texts-are = ap₂ (λ (x y : List ℕ). x ++ y) (symbols-are tree (region 0 c.symbols tables) a d made b) (strings-are tree (region strings_from c.strings tables) e f)
 
-  pub strings-fit : Small tree → c.strings ≤ 512 → length (string_bytes tree (region strings_from c.strings tables)) ≤ 33554946
-  strings-fit b h =
-      let ws = region strings_from c.strings tables in
-      let r = strings-room tree ws b in let s = region-short strings_from c.strings tables in let e = ap length (strings-are tree ws refl refl) in omega arith
+  pub texts-pieces : texts_bytes tree made tables c ≡ counted (map (symbol_piece t m) es) ++ joined (counted (map (string_piece u) fs) ∷ [])
+  unfolding joined
+  texts-pieces = sym texts-are ∙ ap (λ (z : List ℕ). counted (map (symbol_piece t m) es) ++ z) (sym (append-nil (counted (map (string_piece u) fs))))
 
-  -- with the lists that the code has made
-  module _ {a b : List ℕ} (e : a ≡ symbol_bytes tree made (region 0 c.symbols tables)) (f : b ≡ string_bytes tree (region strings_from c.strings tables)) where
-    pub texts-pieces : texts_bytes tree made tables c ≡ a ++ joined (b ∷ [])
-    unfolding texts_bytes joined
-    texts-pieces = sym (ap₂ (λ (x y : List ℕ). x ++ y) e f) ∙ ap (λ (z : List ℕ). a ++ z) (sym (append-nil b))
+  pub length-texts : length (counted (map (symbol_piece t m) es)) + length (counted (map (string_piece u) fs)) ≡ length (texts_bytes tree made tables c)
+  length-texts = sym (length-append (counted (map (symbol_piece t m) es)) (counted (map (string_piece u) fs))) ∙ ap length texts-are
 
-    pub length-texts : length a + length b ≡ length (texts_bytes tree made tables c)
-    unfolding texts_bytes
-    length-texts = sym (length-append a b) ∙ ap length (ap₂ (λ (x y : List ℕ). x ++ y) e f)
+  -- how long they can be, and how long they are together
+  pub texts-fit : Small t → Small m → Small u → c.symbols ≤ 1024 → c.strings ≤ 512 →
+      (length (counted (map (symbol_piece t m) es)) ≤ 262146) × (length (counted (map (string_piece u) fs)) ≤ 33554946)
+      × (length (counted (map (symbol_piece t m) es)) + length (counted (map (string_piece u) fs)) ≡ length (texts_bytes tree made tables c))
+  texts-fit g h k l n =
+      let r = symbols-room t m es g h in let o = region-short 0 c.symbols tables in let v = ap length d in
+      let q = strings-room u fs k in let p = region-short strings_from c.strings tables in let w = ap length f in
+      (omega arith, omega arith, length-texts)
 
--- ---- functions, classes and constants
+-- ---- functions, classes and constants, likewise
 
 -- the finished words, as they are lent
 pub finished-are : (code : List ℕ) → take (length code - 8192) (drop 8192 code) ≡ drop done_from code
 finished-are code = take_all (length code - 8192) (drop 8192 code) (let l = length-drop 8192 code in omega arith)
 
-module _ (tree code tables : List ℕ) (c : Counts) where
-  pub functions-fit : Roomy code tables c → length (functions_bytes tree (drop done_from code) (region heads_from c.functions tables) (region codes_from c.functions tables)) ≤ 167771394
-  functions-fit r =
-      let hs = region heads_from c.functions tables in let ks = region codes_from c.functions tables in
-      let n = functions-room tree (drop done_from code) hs ks in let s = region-short heads_from c.functions tables in
-      let e = ap length (functions-are tree (drop done_from code) hs ks refl refl refl refl) in omega (arith, r.functions)
+module _ (tree code tables : List ℕ) (c : Counts) {t fin hs ks u ms xs ps cs : List ℕ}
+    (a : t ≡ tree) (b : fin ≡ drop done_from code) (d : hs ≡ region heads_from c.functions tables) (e : ks ≡ region codes_from c.functions tables)
+    (f : u ≡ tree) (g : ms ≡ region methods_from 256 tables) (h : xs ≡ region class_names_from c.classes tables) (i : ps ≡ region class_methods_from c.classes tables)
+    (j : cs ≡ region constants_from c.constants tables) where
+  bodies-are : counted (function_elements t fin hs ks) ++ (counted (class_elements u ms xs ps) ++ counted (map (be 2) cs)) ≡ bodies_bytes tree code tables c
+  unfolding bodies_bytes
+  bodies-are =
+      ap₂ (λ (x y : List ℕ). x ++ y) (functions-are tree (drop done_from code) (region heads_from c.functions tables) (region codes_from c.functions tables) a b d e)
+      (ap₂ (λ (x y : List ℕ). x ++ y)
+      (classes-are tree (region methods_from 256 tables) (region class_names_from c.classes tables) (region class_methods_from c.classes tables) f g h i)
+      (constants-are (region constants_from c.constants tables) j))
 
-  pub classes-fit : Small tree → Roomy code tables c → length (classes_bytes tree (region methods_from 256 tables) (region class_names_from c.classes tables) (region class_methods_from c.classes tables)) ≤ 1082130434
-  classes-fit b r =
-      let xs = region class_names_from c.classes tables in let ks = region class_methods_from c.classes tables in
-      let n = classes-room tree (region methods_from 256 tables) b xs ks in let s = region-short class_names_from c.classes tables in
-      let e = ap length (classes-are tree (region methods_from 256 tables) xs ks refl refl refl refl) in omega (arith, r.classes)
+  pub bodies-pieces : bodies_bytes tree code tables c ≡ counted (function_elements t fin hs ks) ++ joined (counted (class_elements u ms xs ps) ∷ counted (map (be 2) cs) ∷ [])
+  unfolding joined
+  bodies-pieces =
+      sym bodies-are
+      ∙ ap (λ (z : List ℕ). counted (function_elements t fin hs ks) ++ (counted (class_elements u ms xs ps) ++ z)) (sym (append-nil (counted (map (be 2) cs))))
 
-  pub constants-fit : Roomy code tables c → length (constant_bytes (region constants_from c.constants tables)) ≤ 130
-  constants-fit r =
-      let cs = region constants_from c.constants tables in
-      let n = length-constants cs in let s = region-short constants_from c.constants tables in let e = ap length (constants-are cs refl) in omega (arith, r.constants)
+  pub length-bodies : length (counted (function_elements t fin hs ks)) + length (counted (class_elements u ms xs ps)) + length (counted (map (be 2) cs)) ≡ length (bodies_bytes tree code tables c)
+  length-bodies =
+      let k = ap length bodies-are in
+      let l = length-append (counted (function_elements t fin hs ks)) (counted (class_elements u ms xs ps) ++ counted (map (be 2) cs)) in
+      let m = length-append (counted (class_elements u ms xs ps)) (counted (map (be 2) cs)) in
+      omega arith
 
-  -- with the lists that the code has made
-  module _ {x y z : List ℕ} (e : x ≡ functions_bytes tree (drop done_from code) (region heads_from c.functions tables) (region codes_from c.functions tables))
-      (f : y ≡ classes_bytes tree (region methods_from 256 tables) (region class_names_from c.classes tables) (region class_methods_from c.classes tables))
-      (g : z ≡ constant_bytes (region constants_from c.constants tables)) where
-    bodies-are : x ++ (y ++ z) ≡ bodies_bytes tree code tables c
-    unfolding bodies_bytes
-    bodies-are = ap₂ (λ (a b : List ℕ). a ++ b) e (ap₂ (λ (a b : List ℕ). a ++ b) f g)
-
-    pub bodies-pieces : bodies_bytes tree code tables c ≡ x ++ joined (y ∷ z ∷ [])
-    unfolding joined
-    bodies-pieces = sym bodies-are ∙ ap (λ (a : List ℕ). x ++ (y ++ a)) (sym (append-nil z))
-
-    pub length-bodies : length x + length y + length z ≡ length (bodies_bytes tree code tables c)
-    length-bodies = let a = ap length bodies-are in let b = length-append x (y ++ z) in let k = length-append y z in omega arith
+  pub bodies-fit : Small u → Roomy code tables c →
+      (length (counted (function_elements t fin hs ks)) ≤ 167771394) × (length (counted (class_elements u ms xs ps)) ≤ 1082130434) × (length (counted (map (be 2) cs)) ≤ 130)
+      × (length (counted (function_elements t fin hs ks)) + length (counted (class_elements u ms xs ps)) + length (counted (map (be 2) cs)) ≡ length (bodies_bytes tree code tables c))
+  bodies-fit s r =
+      let k = functions-room t fin hs ks in let l = region-short heads_from c.functions tables in let m = ap length d in
+      let n = classes-room u ms s xs ps in let o = region-short class_names_from c.classes tables in let p = ap length h in
+      let q = length-constants cs in let v = region-short constants_from c.constants tables in let w = ap length j in
+      (omega (arith, r.functions), omega (arith, r.classes), omega (arith, r.constants), length-bodies)
 
 -- ---- the module
 

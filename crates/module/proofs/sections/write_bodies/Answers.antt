@@ -1,86 +1,66 @@
 -- the functions are written, and then the classes
 use native.Mathlib.Omega.{arith}
 use Rattle.writing.proofs.Begun.{begun_first, begun-length, begun-fits, begun-piece, begun-next, begun-done}
-use Rattle.module.proofs.CodeLengths.{functions-are, classes-are, constants-are}
 use Rattle.module.proofs.Whole.{bodies-pieces, length-bodies}
 use Rattle.module.proofs.sections.write_bodies.Goals as goal
 
 pub write_list-at-requires : goal.write_list-at-requires
 write_list-at-requires c =
-    let n = length-bodies c.args.tree.now c.args.code.now c.args.tables.now c.args.c (functions-are _ _ _ _ c.functions-functions.ensures.tree c.functions-functions.ensures.finished c.functions-functions.ensures.heads c.functions-functions.ensures.places)
-    (classes-are _ _ _ _ c.classes-classes.ensures.tree c.classes-classes.ensures.methods c.classes-classes.ensures.names c.classes-classes.ensures.places)
-    (constants-are _ c.constants-constants.ensures) in
+    let f = c.functions-functions.ensures in let k = c.classes-classes.ensures in
+    let n = length-bodies c.args.tree.now c.args.code.now c.args.tables.now c.args.c f.tree f.finished f.heads f.places k.tree k.methods k.names k.places c.constants-constants.ensures in
     omega (arith, n, c.requires.1)
 
 pub slice_bounds-write_list-count : goal.slice_bounds-write_list-count
 slice_bounds-write_list-count c =
-    let pieces = bodies-pieces _ _ _ _ (functions-are _ _ _ _ c.functions-functions.ensures.tree c.functions-functions.ensures.finished c.functions-functions.ensures.heads c.functions-functions.ensures.places)
-    (classes-are _ _ _ _ c.classes-classes.ensures.tree c.classes-classes.ensures.methods c.classes-classes.ensures.names c.classes-classes.ensures.places)
-    (constants-are _ c.constants-constants.ensures) in
-    let begun = begun_first pieces c.requires.1 c.write_list-at.ensures in
+    let f = c.functions-functions.ensures in let k = c.classes-classes.ensures in
+    let begun = begun_first (bodies-pieces _ _ _ _ f.tree f.finished f.heads f.places k.tree k.methods k.names k.places c.constants-constants.ensures) c.requires.1 c.write_list-at.ensures in
     omega (arith, begun-fits begun)
 
 pub slice_bounds-write_list-start : goal.slice_bounds-write_list-start
 slice_bounds-write_list-start c =
-    let pieces = bodies-pieces _ _ _ _ (functions-are _ _ _ _ c.functions-functions.ensures.tree c.functions-functions.ensures.finished c.functions-functions.ensures.heads c.functions-functions.ensures.places)
-    (classes-are _ _ _ _ c.classes-classes.ensures.tree c.classes-classes.ensures.methods c.classes-classes.ensures.names c.classes-classes.ensures.places)
-    (constants-are _ c.constants-constants.ensures) in
-    let begun = begun_first pieces c.requires.1 c.write_list-at.ensures in
+    let f = c.functions-functions.ensures in let k = c.classes-classes.ensures in
+    let begun = begun_first (bodies-pieces _ _ _ _ f.tree f.finished f.heads f.places k.tree k.methods k.names k.places c.constants-constants.ensures) c.requires.1 c.write_list-at.ensures in
     omega (arith, begun-fits begun)
 
 pub write_list-at-requires-2 : goal.write_list-at-requires-2
 write_list-at-requires-2 c =
-    let pieces = bodies-pieces _ _ _ _ (functions-are _ _ _ _ c.functions-functions.ensures.tree c.functions-functions.ensures.finished c.functions-functions.ensures.heads c.functions-functions.ensures.places)
-    (classes-are _ _ _ _ c.classes-classes.ensures.tree c.classes-classes.ensures.methods c.classes-classes.ensures.names c.classes-classes.ensures.places)
-    (constants-are _ c.constants-constants.ensures) in
-    let begun = begun_first pieces c.requires.1 c.write_list-at.ensures in
+    let f = c.functions-functions.ensures in let k = c.classes-classes.ensures in
+    let begun = begun_first (bodies-pieces _ _ _ _ f.tree f.finished f.heads f.places k.tree k.methods k.names k.places c.constants-constants.ensures) c.requires.1 c.write_list-at.ensures in
     begun-piece begun
 
 pub overflow_add-at : goal.overflow_add-at
 overflow_add-at c =
-    let pieces = bodies-pieces _ _ _ _ (functions-are _ _ _ _ c.functions-functions.ensures.tree c.functions-functions.ensures.finished c.functions-functions.ensures.heads c.functions-functions.ensures.places)
-    (classes-are _ _ _ _ c.classes-classes.ensures.tree c.classes-classes.ensures.methods c.classes-classes.ensures.names c.classes-classes.ensures.places)
-    (constants-are _ c.constants-constants.ensures) in
-    let begun = begun_first pieces c.requires.1 c.write_list-at.ensures in
+    let f = c.functions-functions.ensures in let k = c.classes-classes.ensures in
+    let begun = begun_first (bodies-pieces _ _ _ _ f.tree f.finished f.heads f.places k.tree k.methods k.names k.places c.constants-constants.ensures) c.requires.1 c.write_list-at.ensures in
     omega (arith, begun-fits begun, begun-length begun, c.write_list-at-2.ensures.count, c.well_formed)
 
 pub slice_bounds-write_list-count-2 : goal.slice_bounds-write_list-count-2
 slice_bounds-write_list-count-2 c =
-    let pieces = bodies-pieces _ _ _ _ (functions-are _ _ _ _ c.functions-functions.ensures.tree c.functions-functions.ensures.finished c.functions-functions.ensures.heads c.functions-functions.ensures.places)
-    (classes-are _ _ _ _ c.classes-classes.ensures.tree c.classes-classes.ensures.methods c.classes-classes.ensures.names c.classes-classes.ensures.places)
-    (constants-are _ c.constants-constants.ensures) in
-    let begun = begun_first pieces c.requires.1 c.write_list-at.ensures in
+    let f = c.functions-functions.ensures in let k = c.classes-classes.ensures in
+    let begun = begun_first (bodies-pieces _ _ _ _ f.tree f.finished f.heads f.places k.tree k.methods k.names k.places c.constants-constants.ensures) c.requires.1 c.write_list-at.ensures in
     omega (arith, begun-fits (begun-next begun c.write_list-at-2.ensures))
 
 pub slice_bounds-write_list-start-2 : goal.slice_bounds-write_list-start-2
 slice_bounds-write_list-start-2 c =
-    let pieces = bodies-pieces _ _ _ _ (functions-are _ _ _ _ c.functions-functions.ensures.tree c.functions-functions.ensures.finished c.functions-functions.ensures.heads c.functions-functions.ensures.places)
-    (classes-are _ _ _ _ c.classes-classes.ensures.tree c.classes-classes.ensures.methods c.classes-classes.ensures.names c.classes-classes.ensures.places)
-    (constants-are _ c.constants-constants.ensures) in
-    let begun = begun_first pieces c.requires.1 c.write_list-at.ensures in
+    let f = c.functions-functions.ensures in let k = c.classes-classes.ensures in
+    let begun = begun_first (bodies-pieces _ _ _ _ f.tree f.finished f.heads f.places k.tree k.methods k.names k.places c.constants-constants.ensures) c.requires.1 c.write_list-at.ensures in
     omega (arith, begun-fits (begun-next begun c.write_list-at-2.ensures))
 
 pub write_list-requires : goal.write_list-requires
 write_list-requires c =
-    let pieces = bodies-pieces _ _ _ _ (functions-are _ _ _ _ c.functions-functions.ensures.tree c.functions-functions.ensures.finished c.functions-functions.ensures.heads c.functions-functions.ensures.places)
-    (classes-are _ _ _ _ c.classes-classes.ensures.tree c.classes-classes.ensures.methods c.classes-classes.ensures.names c.classes-classes.ensures.places)
-    (constants-are _ c.constants-constants.ensures) in
-    let begun = begun_first pieces c.requires.1 c.write_list-at.ensures in
+    let f = c.functions-functions.ensures in let k = c.classes-classes.ensures in
+    let begun = begun_first (bodies-pieces _ _ _ _ f.tree f.finished f.heads f.places k.tree k.methods k.names k.places c.constants-constants.ensures) c.requires.1 c.write_list-at.ensures in
     begun-piece (begun-next begun c.write_list-at-2.ensures)
 
 pub overflow_add-result : goal.overflow_add-result
 overflow_add-result c =
-    let pieces = bodies-pieces _ _ _ _ (functions-are _ _ _ _ c.functions-functions.ensures.tree c.functions-functions.ensures.finished c.functions-functions.ensures.heads c.functions-functions.ensures.places)
-    (classes-are _ _ _ _ c.classes-classes.ensures.tree c.classes-classes.ensures.methods c.classes-classes.ensures.names c.classes-classes.ensures.places)
-    (constants-are _ c.constants-constants.ensures) in
-    let begun = begun_first pieces c.requires.1 c.write_list-at.ensures in
+    let f = c.functions-functions.ensures in let k = c.classes-classes.ensures in
+    let begun = begun_first (bodies-pieces _ _ _ _ f.tree f.finished f.heads f.places k.tree k.methods k.names k.places c.constants-constants.ensures) c.requires.1 c.write_list-at.ensures in
     let b = begun-next begun c.write_list-at-2.ensures in
     omega (arith, begun-fits b, begun-length b, c.write_list.ensures.count, c.well_formed)
 
 pub returns : goal.returns
 returns c =
-    let pieces = bodies-pieces _ _ _ _ (functions-are _ _ _ _ c.functions-functions.ensures.tree c.functions-functions.ensures.finished c.functions-functions.ensures.heads c.functions-functions.ensures.places)
-    (classes-are _ _ _ _ c.classes-classes.ensures.tree c.classes-classes.ensures.methods c.classes-classes.ensures.names c.classes-classes.ensures.places)
-    (constants-are _ c.constants-constants.ensures) in
-    let begun = begun_first pieces c.requires.1 c.write_list-at.ensures in
+    let f = c.functions-functions.ensures in let k = c.classes-classes.ensures in
+    let begun = begun_first (bodies-pieces _ _ _ _ f.tree f.finished f.heads f.places k.tree k.methods k.names k.places c.constants-constants.ensures) c.requires.1 c.write_list-at.ensures in
     begun-done (begun-next (begun-next begun c.write_list-at-2.ensures) c.write_list.ensures)
