@@ -6,7 +6,6 @@ use lowering::Lowered;
 use numerals::sizes::AREA;
 use report::Hex;
 use std::io;
-use std::io::Read;
 use vectors::Lines;
 
 // Room for a tree, so long a one too that it is refused, and for a module.
@@ -25,14 +24,10 @@ fn answer(rt: &impl Print, tree: &[u8]) -> io::Result<()> {
     }
 }
 
-// The answer to the tree of a case.
-fn replay<R: Read>(rt: &impl Print, case: &mut Lines<R>) -> io::Result<()> {
-    match case.hex_field(&mut [0; TREE_ROOM]) {
-        Some(tree) => answer(rt, tree),
-        None => rt.println("not read"),
-    }
-}
-
 fn main(rt: HostRuntime) -> io::Result<()> {
-    Lines::new(rt.stdin()).each_case(|case| replay(&rt, case))
+    Lines::new(rt.stdin()).each_case(|case| case.replay(
+        &rt,
+        &mut [0; TREE_ROOM],
+        |tree| answer(&rt, tree),
+    ))
 }

@@ -3,7 +3,6 @@
 
 use reader::Verdict;
 use std::io;
-use std::io::Read;
 use vectors::Lines;
 
 const MODULE_ROOM: usize = 32768;
@@ -16,14 +15,10 @@ fn answer(rt: &impl Print, module: &[u8]) -> io::Result<()> {
     }
 }
 
-// The answer to the module of a case.
-fn replay<R: Read>(rt: &impl Print, case: &mut Lines<R>) -> io::Result<()> {
-    match case.hex_field(&mut [0; MODULE_ROOM]) {
-        Some(module) => answer(rt, module),
-        None => rt.println("not read"),
-    }
-}
-
 fn main(rt: HostRuntime) -> io::Result<()> {
-    Lines::new(rt.stdin()).each_case(|case| replay(&rt, case))
+    Lines::new(rt.stdin()).each_case(|case| case.replay(
+        &rt,
+        &mut [0; MODULE_ROOM],
+        |module| answer(&rt, module),
+    ))
 }

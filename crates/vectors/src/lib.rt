@@ -6,6 +6,7 @@ ghost use Rattle.vectors.specs.Lines.{is_end, is_tab};
 
 use digits::{decimal_of, digit_of, pair};
 use input::read_full;
+use std::io;
 use std::io::Read;
 
 // How many bytes are read at once, and how many digits a number has at the most.
@@ -207,5 +208,20 @@ impl<R: Read> Lines<R> {
             }
         }
         Ok(())
+    }
+
+    // The answer to a case whose first field is in hexadecimal, by the bytes of the field.
+    pub fn replay<P: Print, F: FnOnce(&[u8]) -> io::Result<()>>(
+        &mut self,
+        rt: &P,
+        out: &mut [u8],
+        answer: F,
+    ) -> io::Result<()>
+        requires { F.IsAlwaysCallable answer }
+    {
+        match self.hex_field(out) {
+            Some(bytes) => answer(bytes),
+            None => rt.println("not read"),
+        }
     }
 }
