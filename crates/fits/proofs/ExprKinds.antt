@@ -18,8 +18,6 @@ use Rattle.exprs.specs.ExprAt.{expr_at, exprs_at, ExprReads, ExprsRead, var_at, 
 use Rattle.parts.proofs.Laws.{le-or-gt, up}
 use Rattle.exprs.proofs.ExprViews.{view-var, view-unary, view-binary, view-call, view-attribute, view-dict, view-index, view-lambda, view-exprs-none, view-exprs-more}
 use Rattle.slots.specs.Slotted.{Collected}
-use Rattle.slots.specs.declared.Locals.{Locals}
-use Rattle.slots.specs.declared.Locals.TheVariants.{Count}
 use Rattle.slots.proofs.Skipping.{plain_done}
 use Rattle.slots.proofs.Kinded.{unary-each, binary-each, seen-literal, seen-display, form-var, form-attribute, form-tuple, form-index, form-other}
 use Rattle.fits.specs.Walk.{Walks, lambda_fits}
@@ -170,12 +168,12 @@ module _ (d : ℕ) (t : List ℕ) (slots : List Name) (n p : ℕ) (r : ExprsRead
 
 -- ---- a lambda, whose body stands where its parameters end
 
-pub collected-at : (r : Locals) (t ps : List ℕ) (a : ℕ) (parent : List ℕ) (d p q : ℕ) → p ≡ q →
+pub collected-at : (r : Option ℕ) (t ps : List ℕ) (a : ℕ) (parent : List ℕ) (d p q : ℕ) → p ≡ q →
     Collected r t ps ((params_at t a).value ++ captures (slot_names t parent) (params_at t a).value (expr_at d t p).value) →
     Collected r t ps ((params_at t a).value ++ captures (slot_names t parent) (params_at t a).value (expr_at d t q).value)
 collected-at r t ps a parent d p q e c = subst (λ (m : ℕ). Collected r t ps ((params_at t a).value ++ captures (slot_names t parent) (params_at t a).value (expr_at d t m).value)) e c
 
-pub lambda-body : (r : Locals) (t ps : List ℕ) (inner : List Name) (d p q n : ℕ) (o : Option ℕ) → p ≡ q → Collected r t ps inner → r ≡ Count n → slots_from + 255 ≤ length ps →
+pub lambda-body : (r : Option ℕ) (t ps : List ℕ) (inner : List Name) (d p q n : ℕ) (o : Option ℕ) → p ≡ q → Collected r t ps inner → r ≡ Some n → slots_from + 255 ≤ length ps →
     Walks o (expr_at d t p).end (fits_expr (slot_names t (take (slots_from + n - 0) (drop 0 ps))) (expr_at d t p).value) → Walks o (expr_at d t q).end (lambda_fits inner (expr_at d t q).value)
 lambda-body r t ps inner d p q n o e c h g w = lambda-inside r t ps inner c n h g o _ _ _ _ (ap (λ (m : ℕ). (expr_at d t m).end) e) (ap (λ (m : ℕ). (expr_at d t m).value) e) w
 

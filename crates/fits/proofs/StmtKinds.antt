@@ -18,7 +18,6 @@ use Rattle.parts.proofs.Laws.{le-or-gt, up}
 use Rattle.tree.proofs.StmtViews.{view-break, view-continue, view-pass, view-expr, view-return, view-assign, view-if, view-while, view-for, view-def, view-class, view-block, view-stmts-none, view-stmts-more, view-branches-more, else-known, view-done, view-else, view-methods-none, view-methods-more}
 use Rattle.slots.specs.Slotted.{Frames}
 use Rattle.slots.specs.declared.collect.Framed.{Framed}
-use Rattle.slots.specs.declared.collect.Framed.TheVariants.{Slots}
 use Rattle.slots.proofs.Adding.{none-names}
 use Rattle.fits.specs.Walk.{Walks, def_fits}
 use Rattle.std.specs.Prelude.{Option, Some, None, is_some}
@@ -191,11 +190,11 @@ module _ (d : ℕ) (t : List ℕ) (p a q : ℕ) (e : a ≡ name_end t p) (f : q 
   pub def-block : BlockReads d t q
   def-block = subst (λ (m : ℕ). BlockReads d t m) (sym block-at) h.block
 
-  pub def-framed : {r : Framed} {ps : List ℕ} → Frames r t ps (with_loops (params_at t a).value (block_at d t q).value) → Frames r t ps (with_loops (params_at t (name_end t p)).value (def_block_at d t p).value)
+  pub def-framed : {r : Option Framed} {ps : List ℕ} → Frames r t ps (with_loops (params_at t a).value (block_at d t q).value) → Frames r t ps (with_loops (params_at t (name_end t p)).value (def_block_at d t p).value)
   def-framed {r} {ps} c = subst (Frames r t ps) (ap₂ (λ (m k : ℕ). with_loops (params_at t k).value (block_at d t m).value) block-at e) c
 
-  pub def_body : {r : Framed} {ps : List ℕ} {n m : ℕ} (o : Option ℕ) → Frames r t ps (with_loops (params_at t a).value (block_at d t q).value) → r ≡ Slots n m → slots_from + 255 ≤ length ps →
-      Walks o (block_at d t q).end (fits_block (slot_names t (take (slots_from + n - 0) (drop 0 ps))) (block_at d t q).value) → Walks o (def_block_at d t p).end (method_fits d t p)
+  pub def_body : {r : Option Framed} {ps : List ℕ} {g₀ : Framed} (o : Option ℕ) → Frames r t ps (with_loops (params_at t a).value (block_at d t q).value) → r ≡ Some g₀ → slots_from + 255 ≤ length ps →
+      Walks o (block_at d t q).end (fits_block (slot_names t (take (slots_from + g₀.named - 0) (drop 0 ps))) (block_at d t q).value) → Walks o (def_block_at d t p).end (method_fits d t p)
   def_body o c k g w = def-inside (def-framed c) k g o (ap (λ (m : ℕ). (block_at d t m).end) block-at) (ap (λ (m : ℕ). (block_at d t m).value) block-at) w
 
 -- ---- classes

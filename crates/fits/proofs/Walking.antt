@@ -13,8 +13,6 @@ use Rattle.state.specs.State.{slots_from, slot_names, Slots}
 use Rattle.state.specs.Fits.{fits_expr, fits_block}
 use Rattle.slots.specs.Slotted.{Collected, first_names, Indexed, Frames}
 use Rattle.definitions.specs.Slots.{Frame}
-use Rattle.slots.specs.declared.Locals.{Locals}
-use Rattle.slots.specs.declared.Locals.TheVariants.{Count, TooMany}
 use Rattle.slots.specs.declared.collect.Framed.{Framed}
 use Rattle.slots.proofs.Adding.{first-length, part-before, front-names, front-slots}
 use Rattle.slots.proofs.Params.{collected-count, collected-over}
@@ -102,12 +100,12 @@ module _ (t ps : List ℕ) (inner : List Name) (n : ℕ) (few : n ≤ 255) (name
   inner-slots k = record { tree = k; slotted = subst (Slots t) (sym (part-before (slots_from + n) ps)) (front-slots t ps n inner_room few indexed) }
 
 -- of a lambda
-module _ (r : Locals) (t ps : List ℕ) (inner : List Name) (c : Collected r t ps inner) where
-  pub lambda-over : (e : ℕ) (b : Expr) → r ≡ TooMany → Walks None e (lambda_fits inner b)
+module _ (r : Option ℕ) (t ps : List ℕ) (inner : List Name) (c : Collected r t ps inner) where
+  pub lambda-over : (e : ℕ) (b : Expr) → r ≡ None → Walks None e (lambda_fits inner b)
   unfolding lambda_fits
   lambda-over e b h = over-walks e _ (ap (λ (x : Bool). x && fits_expr inner b) (lt-leb (length inner) 255 (collected-over r t ps inner c h)))
 
-  module _ (n : ℕ) (h : r ≡ Count n) where
+  module _ (n : ℕ) (h : r ≡ Some n) where
     pub slots-few : n ≤ 255
     slots-few = (collected-count r t ps inner n c h).0
 
@@ -126,22 +124,22 @@ module _ (r : Locals) (t ps : List ℕ) (inner : List Name) (c : Collected r t p
           walks-as o e e' _ _ w i (ap₂ fits_expr (inner-names t ps inner n slots-few (collected-count r t ps inner n c h).1 (collected-count r t ps inner n c h).2 g) j ∙ sym (ap (λ (x : Bool). x && fits_expr inner b') few-names))
 
 -- of a def or method
-module _ {r : Framed} {t ps : List ℕ} {inner : Frame} (c : Frames r t ps inner) where
-  pub def-over : (e : ℕ) (b : Block) → r ≡ Framed.TooMany → Walks None e (def_fits inner b)
+module _ {r : Option Framed} {t ps : List ℕ} {inner : Frame} (c : Frames r t ps inner) where
+  pub def-over : (e : ℕ) (b : Block) → r ≡ None → Walks None e (def_fits inner b)
   unfolding def_fits
   def-over e b h = over-walks e _ (ap (λ (x : Bool). x && fits_block inner.names b) (lt-leb inner.locals 255 (c.over h)))
 
-  module _ {n m : ℕ} (h : r ≡ Framed.Slots n m) where
-    pub def-few : n ≤ 255
-    def-few = let F = c.framing _ _ h in omega (arith, F.named, F.few)
+  module _ {g₀ : Framed} (h : r ≡ Some g₀) where
+    pub def-few : g₀.named ≤ 255
+    def-few = let F = c.framing _ h in omega (arith, F.named, F.few)
 
     module _ (g : slots_from + 255 ≤ length ps) where
-      pub def-short : length t ≤ 32768 → Short t (take (slots_from + n - 0) (drop 0 ps))
-      def-short k = let F = c.framing _ _ h in inner-slots t ps inner.names n def-few F.names F.indexed g k
+      pub def-short : length t ≤ 32768 → Short t (take (slots_from + g₀.named - 0) (drop 0 ps))
+      def-short k = let F = c.framing _ h in inner-slots t ps inner.names g₀.named def-few F.names F.indexed g k
 
-      pub def-inside : {e e' : ℕ} {b b' : Block} (o : Option ℕ) → e ≡ e' → b ≡ b' → Walks o e (fits_block (slot_names t (take (slots_from + n - 0) (drop 0 ps))) b) → Walks o e' (def_fits inner b')
+      pub def-inside : {e e' : ℕ} {b b' : Block} (o : Option ℕ) → e ≡ e' → b ≡ b' → Walks o e (fits_block (slot_names t (take (slots_from + g₀.named - 0) (drop 0 ps))) b) → Walks o e' (def_fits inner b')
       unfolding def_fits
       def-inside {e} {e'} {b} {b'} o i j w =
-          let F = c.framing _ _ h in
-          walks-as o e e' _ _ w i (ap₂ fits_block (inner-names t ps inner.names n def-few F.names F.indexed g) j
+          let F = c.framing _ h in
+          walks-as o e e' _ _ w i (ap₂ fits_block (inner-names t ps inner.names g₀.named def-few F.names F.indexed g) j
           ∙ sym (ap (λ (x : Bool). x && fits_block inner.names b') (le-leb inner.locals 255 (omega (arith, F.locals, F.few)))))

@@ -12,7 +12,6 @@ use numerals::places::SLOTS_FROM;
 use numerals::sizes::SLOTS_ROOM;
 use parts::names::name_end;
 use parts::numbers::u16_at;
-use slots::Locals;
 use slots::captures::lambda_slots;
 use slots::skip::{skip_expr, skip_params};
 
@@ -118,9 +117,7 @@ fn fits_lambda(tree: &[u8], at: usize, depth: u32, slots: &[u32]) -> Option<usiz
 {
     let mut inner = [0u32; SLOTS_ROOM];
     let p = skip_params(tree, at);
-    let Locals::Count(n) = lambda_slots(tree, at, p, depth, slots, &mut inner) else {
-        return None;
-    };
+    let n = lambda_slots(tree, at, p, depth, slots, &mut inner)?;
     let end = SLOTS_FROM + n as usize;
     fits_expr(tree, p, depth, &inner[0..end])
 }

@@ -14,7 +14,7 @@ use numerals::sizes::{DEPTH, HEAD, SLOTS_ROOM};
 use numerals::stmt;
 use parts::names::name_end;
 use parts::numbers::u16_at;
-use slots::collect::{Framed, collect_locals};
+use slots::collect::collect_locals;
 use slots::skip::{skip_params, skip_stmt};
 
 // A target and a value.
@@ -131,10 +131,8 @@ fn fits_def(tree: &[u8], at: usize, depth: u32) -> Option<usize>
     let mut inner = [0u32; SLOTS_ROOM];
     let params = name_end(tree, at);
     let p = skip_params(tree, params);
-    let Framed::Slots(n, _) = collect_locals(tree, params, p, depth, &mut inner) else {
-        return None;
-    };
-    let end = SLOTS_FROM + n as usize;
+    let frame = collect_locals(tree, params, p, depth, &mut inner)?;
+    let end = SLOTS_FROM + frame.named as usize;
     fits_block(tree, p, depth, &inner[0..end])
 }
 

@@ -30,7 +30,6 @@ use numerals::sizes::{COUNTS, LIMITS, MADE_ROOM, SLOTS_ROOM};
 use opcodes::{binary_code, build_code, held, unary_code};
 use parts::names::name_end;
 use parts::numbers::u16_at;
-use slots::Locals;
 use slots::captures::lambda_slots;
 use slots::skip::skip_params;
 
@@ -509,7 +508,7 @@ fn emit_lambda(
     let arity = u16_at(tree, at);
     let body = skip_params(tree, at);
     let all = lambda_slots(tree, at, body, depth, slots, &mut places);
-    let Locals::Count(n) = all else {
+    let Some(n) = all else {
         return 0;
     };
     let end = SLOTS_FROM + n as usize;

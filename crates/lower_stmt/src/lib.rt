@@ -35,7 +35,7 @@ use numerals::sizes::{COUNTS, LIMITS, MADE_ROOM, SLOTS_ROOM};
 use numerals::stmt;
 use parts::names::name_end;
 use parts::numbers::u16_at;
-use slots::collect::{Framed, collect_locals};
+use slots::collect::collect_locals;
 use slots::skip::{skip_params, skip_stmt};
 
 // The statement at `at`, with `depth` levels left.
@@ -461,21 +461,21 @@ fn compile_function(
     let arity = u16_at(tree, params);
     let block = skip_params(tree, params);
     let collected = collect_locals(tree, params, block, depth, &mut slots);
-    let Framed::Slots(n, locals) = collected else {
+    let Some(frame) = collected else {
         return 0;
     };
     let base = k[BASE];
-    let f = begin_named(tree, made, tables, k, l, at, arity, locals);
+    let f = begin_named(tree, made, tables, k, l, at, arity, frame.locals);
     if OVER <= f {
         return 0;
     }
-    let end = SLOTS_FROM + n as usize;
+    let end = SLOTS_FROM + frame.named as usize;
     let next = emit_body(
         tree,
         block,
         depth,
         init,
-        n,
+        frame.named,
         &slots[0..end],
         made,
         code,

@@ -6,7 +6,7 @@ use Rattle.definitions.specs.Tree.{Expr, lit, var, unary, binary, logical, call,
 use Rattle.definitions.specs.Slots.{add}
 use Rattle.state.specs.State.{slots_from, slot_names, Slots}
 use Rattle.slots.specs.Slotted.{first_names, Indexed}
-use Rattle.slots.specs.declared.captures.Refs.{Refs}
+use Rattle.slots.specs.declared.Walked.{Walked}
 
 -- ---- marks: a number for each slot, not 0 where a lambda around has its name as a parameter
 
@@ -66,7 +66,7 @@ pub record Keeping (t parent ps : List ℕ) (n : ℕ) : Type 0 where
   pub indexed : Indexed t n ps
 
 -- and what it leaves: the next position, and places of the wanted names
-pub record Referred (r : Refs) (t ps : List ℕ) (end : ℕ) (want : List Name) : Type 0 where
+pub record Referred (r : Walked) (t ps : List ℕ) (end : ℕ) (want : List Name) : Type 0 where
   pub next-is : r.next ≡ end
   pub most : slots_from + r.n ≤ length ps
   pub names : first_names t r.n ps ≡ want

@@ -7,7 +7,7 @@ ghost use Rattle.exprs.specs.ExprAt.{expr_at, exprs_at, ExprReads, ExprsRead, Tw
 ghost use Rattle.slots.specs.Slotted.{first_names, Collected};
 ghost use Rattle.slots.specs.Held.{mark_all, add_held, held_expr, held_exprs, Keeping, Referred, CapturesAt};
 
-use crate::Locals;
+use crate::Walked;
 use crate::add::{add_at, bucket_at};
 use crate::collect::put_params;
 use crate::index::append_slots;
@@ -20,13 +20,6 @@ use numerals::sizes::{SLOTS_MOST, SLOTS_ROOM};
 use parts::names::name_end;
 use parts::numbers::u16_at;
 
-// The next position in the tree, and how many names are kept.
-#[derive(Clone, Copy)]
-pub struct Refs {
-    pub next: usize,
-    pub n: u32,
-}
-
 // The name at `at`, kept if it has a slot that is not marked.
 fn keep_name(
     tree: &[u8],
@@ -35,7 +28,7 @@ fn keep_name(
     marks: &[u8; 256],
     places: &mut [u32],
     n: u32,
-) -> Refs
+) -> Walked
     requires { Keeping tree.now parent.now places.old n × There tree.now at }
     ensures { Referred result tree.now places.new (name_end tree.now at) (add_held (slot_names tree.now parent.now) marks.now (name_bytes tree.now at) (first_names tree.now n places.old)) }
 {
@@ -43,9 +36,9 @@ fn keep_name(
     let b = bucket_at(tree, at);
     if is_free(tree, at, b, parent, marks) {
         let k = add_at(tree, places, n, at, b);
-        return Refs { next: next, n: k };
+        return Walked { next, n: k };
     }
-    Refs { next: next, n: n }
+    Walked { next, n: n }
 }
 
 // The names that an expression references.
@@ -58,7 +51,7 @@ fn collect_referenced_vars(
     marks: &[u8; 256],
     places: &mut [u32],
     n: u32,
-) -> Refs
+) -> Walked
     requires { Keeping tree.now parent.now places.old n × ExprReads depth tree.now at }
     ensures { Referred result tree.now places.new (expr_at depth tree.now at).end (held_expr (slot_names tree.now parent.now) marks.now (expr_at depth tree.now at).value (first_names tree.now n places.old)) }
 {
@@ -77,7 +70,7 @@ fn collect_referenced_vars(
         expr::TREE_SET => refs_list(tree, a, depth - 1, parent, marks, places, n),
         expr::INDEX => refs_two(tree, a, depth - 1, parent, marks, places, n),
         expr::LAMBDA => refs_lambda(tree, a, depth - 1, parent, marks, places, n),
-        _ => Refs {
+        _ => Walked {
             next: skip_expr(tree, at, depth),
             n: n,
         },
@@ -94,7 +87,7 @@ fn refs_two(
     marks: &[u8; 256],
     places: &mut [u32],
     n: u32,
-) -> Refs
+) -> Walked
     requires { Keeping tree.now parent.now places.old n × TwoAt depth tree.now at }
     ensures { Referred result tree.now places.new (second_at depth tree.now at).end
         (held_expr (slot_names tree.now parent.now) marks.now (second_at depth tree.now at).value (held_expr (slot_names tree.now parent.now) marks.now (expr_at depth tree.now at).value (first_names tree.now n places.old))) }
@@ -113,7 +106,7 @@ fn refs_call(
     marks: &[u8; 256],
     places: &mut [u32],
     n: u32,
-) -> Refs
+) -> Walked
     requires { Keeping tree.now parent.now places.old n × CallAt depth tree.now at }
     ensures { Referred result tree.now places.new (list_at depth tree.now (expr_at depth tree.now at).end).end
         (held_exprs (slot_names tree.now parent.now) marks.now (list_at depth tree.now (expr_at depth tree.now at).end).value (held_expr (slot_names tree.now parent.now) marks.now (expr_at depth tree.now at).value (first_names tree.now n places.old))) }
@@ -132,12 +125,12 @@ fn refs_attribute(
     marks: &[u8; 256],
     places: &mut [u32],
     n: u32,
-) -> Refs
+) -> Walked
     requires { Keeping tree.now parent.now places.old n × AttributeAt depth tree.now at }
     ensures { Referred result tree.now places.new (name_end tree.now (expr_at depth tree.now at).end) (held_expr (slot_names tree.now parent.now) marks.now (expr_at depth tree.now at).value (first_names tree.now n places.old)) }
 {
     let object = collect_referenced_vars(tree, at, depth, parent, marks, places, n);
-    Refs {
+    Walked {
         next: name_end(tree, object.next),
         n: object.n,
     }
@@ -153,7 +146,7 @@ fn refs_list(
     marks: &[u8; 256],
     places: &mut [u32],
     n: u32,
-) -> Refs
+) -> Walked
     requires { Keeping tree.now parent.now places.old n × ListAt depth tree.now at }
     ensures { Referred result tree.now places.new (list_at depth tree.now at).end (held_exprs (slot_names tree.now parent.now) marks.now (list_at depth tree.now at).value (first_names tree.now n places.old)) }
 {
@@ -171,7 +164,7 @@ fn refs_dict(
     marks: &[u8; 256],
     places: &mut [u32],
     n: u32,
-) -> Refs
+) -> Walked
     requires { Keeping tree.now parent.now places.old n × DictAt depth tree.now at }
     ensures { Referred result tree.now places.new (pairs_at depth tree.now at).end (held_exprs (slot_names tree.now parent.now) marks.now (pairs_at depth tree.now at).value (first_names tree.now n places.old)) }
 {
@@ -190,20 +183,18 @@ fn refs_many(
     marks: &[u8; 256],
     places: &mut [u32],
     n: u32,
-) -> Refs
+) -> Walked
     requires { Keeping tree.now parent.now places.old n × ExprsRead depth count tree.now at }
     ensures { Referred result tree.now places.new (exprs_at depth count tree.now at).end (held_exprs (slot_names tree.now parent.now) marks.now (exprs_at depth count tree.now at).value (first_names tree.now n places.old)) }
 {
     let mut p = at;
-    let mut left = count;
     let mut k = n;
-    while 0 < left {
+    for _ in 0..count {
         let one = collect_referenced_vars(tree, p, depth, parent, marks, places, k);
         p = one.next;
         k = one.n;
-        left -= 1;
     }
-    Refs { next: p, n: k }
+    Walked { next: p, n: k }
 }
 
 // Those of a lambda: in its body its parameters are marked, too.
@@ -216,7 +207,7 @@ fn refs_lambda(
     marks: &[u8; 256],
     places: &mut [u32],
     n: u32,
-) -> Refs
+) -> Walked
     requires { Keeping tree.now parent.now places.old n × LambdaAt depth tree.now at }
     ensures { Referred result tree.now places.new (expr_at depth tree.now (params_at tree.now at).end).end
         (held_expr (slot_names tree.now parent.now) (mark_all (slot_names tree.now parent.now) (params_at tree.now at).value marks.now)
@@ -248,7 +239,7 @@ pub(crate) fn collect_free_vars(
     all.n
 }
 
-// The slots of a lambda: its parameters, then its captures.
+// The slots of a lambda: its parameters, then its captures; none where there are more than 255.
 pub fn lambda_slots(
     tree: &[u8],
     params: usize,
@@ -256,20 +247,17 @@ pub fn lambda_slots(
     depth: u32,
     parent: &[u32],
     slots: &mut [u32],
-) -> Locals
+) -> Option<u32>
     requires { (length tree.now ≤ 32768) × Slots tree.now parent.now × (slots_from + 256 ≤ length slots.old) × ParamsAt tree.now params × ExprReads depth tree.now body }
     ensures { Collected result tree.now slots.new ((params_at tree.now params).value ++ captures (slot_names tree.now parent.now) (params_at tree.now params).value (expr_at depth tree.now body).value) }
 {
-    let begun = put_params(tree, params, slots);
-    let Locals::Count(k) = begun else {
-        return Locals::TooMany;
-    };
+    let k = put_params(tree, params, slots)?;
     let mut kept = [0u32; SLOTS_ROOM];
     let n = collect_free_vars(tree, params, body, depth, parent, &mut kept);
     if SLOTS_MOST < k + n {
-        return Locals::TooMany;
+        return None;
     }
     let end = SLOTS_FROM + n as usize;
     append_slots(tree, slots, k, &kept[SLOTS_FROM..end]);
-    Locals::Count(k + n)
+    Some(k + n)
 }

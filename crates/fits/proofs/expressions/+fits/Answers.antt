@@ -54,20 +54,20 @@ fits_lambda-skip_params-p-requires t c = c.requires.1.params
 pub fits_lambda-lambda_slots-requires : goal.fits_lambda-lambda_slots-requires
 fits_lambda-lambda_slots-requires t c = (c.requires.0.tree, c.requires.0.slotted, omega arith, c.requires.1.params, body-there _ _ _ _ c.skip_params-p.ensures c.requires.1)
 
-pub fits_lambda-returns-in_default : goal.fits_lambda-returns-in_default
-fits_lambda-returns-in_default t c = lambda-over _ _ _ _ (collected-at _ _ _ c.args.at c.args.slots.now c.args.depth _ _ c.skip_params-p.ensures c.lambda_slots.ensures) _ _ c.in_default.is
+pub fits_lambda-returns-in_err-n : goal.fits_lambda-returns-in_err-n
+fits_lambda-returns-in_err-n t c = stopped _ _ _ c.from_residual.ensures (lambda-over _ _ _ _ (collected-at _ _ _ c.args.at c.args.slots.now c.args.depth _ _ c.skip_params-p.ensures c.lambda_slots.ensures) _ _ c.in_err-n.was)
 
 pub fits_lambda-overflow_add-end : goal.fits_lambda-overflow_add-end
-fits_lambda-overflow_add-end t c = let h = slots-few _ _ _ _ (collected-at _ _ _ c.args.at c.args.slots.now c.args.depth _ _ c.skip_params-p.ensures c.lambda_slots.ensures) _ c.in-Count.is in let k = c.lambda_slots.auto.slots in omega arith
+fits_lambda-overflow_add-end t c = let h = slots-few _ _ _ _ (collected-at _ _ _ c.args.at c.args.slots.now c.args.depth _ _ c.skip_params-p.ensures c.lambda_slots.ensures) _ c.in_ok-n.was in let k = c.lambda_slots.auto.slots in omega arith
 
 pub fits_lambda-slice_bounds-fits_expr-end : goal.fits_lambda-slice_bounds-fits_expr-end
-fits_lambda-slice_bounds-fits_expr-end t c = let h = slots-few _ _ _ _ (collected-at _ _ _ c.args.at c.args.slots.now c.args.depth _ _ c.skip_params-p.ensures c.lambda_slots.ensures) _ c.in-Count.is in let k = c.lambda_slots.auto.slots in omega arith
+fits_lambda-slice_bounds-fits_expr-end t c = let h = slots-few _ _ _ _ (collected-at _ _ _ c.args.at c.args.slots.now c.args.depth _ _ c.skip_params-p.ensures c.lambda_slots.ensures) _ c.in_ok-n.was in let k = c.lambda_slots.auto.slots in omega arith
 
 pub fits_lambda-fits_expr-requires : goal.fits_lambda-fits_expr-requires
-fits_lambda-fits_expr-requires t c = (omega arith, (inner-short _ _ _ _ (collected-at _ _ _ c.args.at c.args.slots.now c.args.depth _ _ c.skip_params-p.ensures c.lambda_slots.ensures) _ c.in-Count.is (long-enough c.lambda_slots.new.slots c.lambda_slots.auto.slots) c.requires.0.tree, body-there _ _ _ _ c.skip_params-p.ensures c.requires.1))
+fits_lambda-fits_expr-requires t c = (omega arith, (inner-short _ _ _ _ (collected-at _ _ _ c.args.at c.args.slots.now c.args.depth _ _ c.skip_params-p.ensures c.lambda_slots.ensures) _ c.in_ok-n.was (long-enough c.lambda_slots.new.slots c.lambda_slots.auto.slots) c.requires.0.tree, body-there _ _ _ _ c.skip_params-p.ensures c.requires.1))
 
 pub fits_lambda-returns : goal.fits_lambda-returns
-fits_lambda-returns t c = lambda-body _ _ _ _ _ _ _ _ _ c.skip_params-p.ensures (collected-at _ _ _ c.args.at c.args.slots.now c.args.depth _ _ c.skip_params-p.ensures c.lambda_slots.ensures) c.in-Count.is (long-enough c.lambda_slots.new.slots c.lambda_slots.auto.slots) c.fits_expr.ensures
+fits_lambda-returns t c = lambda-body _ _ _ _ _ _ _ _ _ c.skip_params-p.ensures (collected-at _ _ _ c.args.at c.args.slots.now c.args.depth _ _ c.skip_params-p.ensures c.lambda_slots.ensures) c.in_ok-n.was (long-enough c.lambda_slots.new.slots c.lambda_slots.auto.slots) c.fits_expr.ensures
 
 pub fits_list-u16_at-count-requires : goal.fits_list-u16_at-count-requires
 fits_list-u16_at-count-requires t c = let h = c.requires.1.count.bytes in omega arith

@@ -77,24 +77,23 @@ fits_def-skip_params-p-requires t c = def-params _ _ _ _ _ c.name_end-params.ens
 pub fits_def-collect_locals-requires : goal.fits_def-collect_locals-requires
 fits_def-collect_locals-requires t c = (c.requires.0, omega arith, def-params _ _ _ _ _ c.name_end-params.ensures c.skip_params-p.ensures c.requires.1, def-block _ _ _ _ _ c.name_end-params.ensures c.skip_params-p.ensures c.requires.1)
 
-pub fits_def-returns-in_default : goal.fits_def-returns-in_default
-fits_def-returns-in_default t c =
-    def-over (def-framed _ _ _ _ _ c.name_end-params.ensures c.skip_params-p.ensures
-    c.requires.1 c.collect_locals.ensures) _ _ c.in_default.is
+pub fits_def-returns-in_err-frame : goal.fits_def-returns-in_err-frame
+fits_def-returns-in_err-frame t c = stopped _ _ _ c.from_residual.ensures (def-over (def-framed _ _ _ _ _ c.name_end-params.ensures c.skip_params-p.ensures
+    c.requires.1 c.collect_locals.ensures) _ _ c.in_err-frame.was)
 
 pub fits_def-overflow_add-end : goal.fits_def-overflow_add-end
-fits_def-overflow_add-end t c = let h = def-few c.collect_locals.ensures c.in-Slots.is in let k = c.collect_locals.auto.slots in omega arith
+fits_def-overflow_add-end t c = let h = def-few c.collect_locals.ensures c.in_ok-frame.was in let k = c.collect_locals.auto.slots in omega arith
 
 pub fits_def-slice_bounds-fits_block-end : goal.fits_def-slice_bounds-fits_block-end
 fits_def-slice_bounds-fits_block-end t c =
-    let h = def-few c.collect_locals.ensures c.in-Slots.is in
+    let h = def-few c.collect_locals.ensures c.in_ok-frame.was in
     let k = c.collect_locals.auto.slots in omega arith
 
 pub fits_def-fits_block-requires : goal.fits_def-fits_block-requires
 fits_def-fits_block-requires t c = (
   omega arith,
   (
-    def-short c.collect_locals.ensures c.in-Slots.is
+    def-short c.collect_locals.ensures c.in_ok-frame.was
         (long-enough c.collect_locals.new.slots c.collect_locals.auto.slots)
         c.requires.0,
     def-block _ _ _ _ _
@@ -108,7 +107,7 @@ fits_def-returns t c =
     def_body _ _ _ _ _ c.name_end-params.ensures
     c.skip_params-p.ensures
     c.requires.1 _
-    c.collect_locals.ensures c.in-Slots.is
+    c.collect_locals.ensures c.in_ok-frame.was
     (long-enough c.collect_locals.new.slots
     c.collect_locals.auto.slots) c.fits_block.ensures
 
