@@ -1,6 +1,6 @@
 -- Marks of slots: which of their names a lambda around has as parameters. Assumes nothing.
 use Prim.Native.Nat.{ℕ, zero, suc, ◌+◌, ◌-◌, ◌<◌, ◌≤◌}
-use mathlib.Core.Path.{◌≡◌, refl, sym, ap, ◌∙◌}
+use mathlib.Core.Path.{◌≡◌, refl, sym, ap, subst, ◌∙◌}
 use mathlib.Core.Bool.{Bool, true, false, not, ◌&&◌, ◌||◌}
 use mathlib.Core.Option.{Option, none, some}
 use mathlib.Core.List.{List, [], ◌∷◌, ◌++◌}
@@ -125,10 +125,13 @@ module _ (slots : List Name) (x : Name) (ms : List ℕ) where
 
 -- ---- parameters, one at a time
 
+pub mark-begun : (slots : List Name) (t : List ℕ) (n p : ℕ) (ms : List ℕ) → AllThere t n p → (j : ℕ) → n ≡ j → (mark_all slots (names_from t n p) ms ≡ mark_all slots (names_from t j p) ms) × AllThere t j p
+mark-begun slots t n p ms a j i = subst (λ (x : ℕ). (mark_all slots (names_from t n p) ms ≡ mark_all slots (names_from t x p) ms) × AllThere t x p) i (refl, a)
+
 pub mark-next : (slots : List Name) (t : List ℕ) (n p e : ℕ) (ms ms' : List ℕ) → e ≡ name_end t p → 0 < n → AllThere t n p → ms' ≡ mark slots (name_bytes t p) ms →
-    (mark_all slots (names_from t n p) ms ≡ mark_all slots (names_from t (n - 1) e) ms') × AllThere t (n - 1) e
+    (j : ℕ) → n - 1 ≡ j → (mark_all slots (names_from t n p) ms ≡ mark_all slots (names_from t j e) ms') × AllThere t j e
 unfolding mark_all
-mark-next slots t n p e ms ms' h g a m = (
+mark-next slots t n p e ms ms' h g a m j i = subst (λ (x : ℕ). (mark_all slots (names_from t n p) ms ≡ mark_all slots (names_from t x e) ms') × AllThere t x e) i (
   ap (λ (q : List Name). mark_all slots q ms) (from_more t n p g) ∙ ap (mark_all slots (names_from t (n - 1) (name_end t p))) (sym m) ∙ ap (λ (k : ℕ). mark_all slots (names_from t (n - 1) k) ms') (sym h),
   there-next t n p e h g a,
 )

@@ -26,11 +26,8 @@ fn copy_places(places: &[u32], to: &mut [u32])
     requires { length places.now ≤ length to.old }
     ensures { take (length places.now) to.new ≡ places.now }
 {
-    let mut i = 0;
-    while i < places.len() {
-        to[i] = places[i];
-        i += 1;
-    }
+    let end = places.len();
+    to[0..end].copy_from_slice(places);
 }
 
 // More slots after the first k, and the index of all.

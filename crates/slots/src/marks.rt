@@ -26,11 +26,9 @@ fn mark_names(tree: &[u8], from: usize, count: u32, parent: &[u32], marks: &mut 
     ensures { marks.new ≡ mark_all (slot_names tree.now parent.now) (names_from tree.now count from) marks.old }
 {
     let mut p = from;
-    let mut left = count;
-    while 0 < left {
+    for _ in 0..count {
         mark_name(tree, p, parent, marks);
         p = name_end(tree, p);
-        left -= 1;
     }
 }
 
