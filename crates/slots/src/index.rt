@@ -11,13 +11,10 @@ pub(crate) fn index_slots(tree: &[u8], slots: &mut [u32], n: u32)
     requires { slots_from + n ≤ length slots.old }
     ensures { Reindexed tree.now n slots.old slots.new }
 {
-    let mut i = n;
-    while 0 < i {
-        let j = i - 1;
+    for j in (0..n).rev() {
         let at = slots[SLOTS_FROM + j as usize] as usize;
         let b = bucket_at(tree, at);
-        slots[b] = i;
-        i = j;
+        slots[b] = j + 1;
     }
 }
 
