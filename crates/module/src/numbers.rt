@@ -5,7 +5,7 @@ ghost use Rattle.writing.specs.Wrote.{Wrote};
 
 use writing::write_bytes;
 
-// The low w bytes of v, from the last to the first.
+// The low w bytes of v, from the last to the first; not by to_be_bytes, since w may be above 8.
 fn write_long(w: usize, v: u64, out: &mut [u8]) -> usize
     requires { w ≤ length out.old }
     ensures { Wrote result (be w v) out.old out.new }
