@@ -23,13 +23,11 @@ use Rattle.lowering.specs.Lowered.{said as lowered, Lowers as Lowered'}
 use Rattle.lowering.specs.declared.Lowered.{Lowered}
 use Rattle.lowering.specs.declared.Lowered.TheVariants.{Wrote, Refused as NotLowered}
 use Rattle.reader.specs.View.{said as read_said, said_part, CodeAt, Known, Locates}
-use Rattle.reader.specs.declared.Verdict.{Verdict}
-use Rattle.reader.specs.declared.Verdict.TheVariants.{Accepted as Taken, Refused as NotTaken}
-use Rattle.reader.specs.declared.Located.{Located}
-use Rattle.reader.specs.declared.Located.TheVariants.{Code, NoCode}
+use Rattle.std.specs.Prelude.{Result, Ok, Err}
+use Rattle.questions.specs.declared.Question.{Question}
+use Rattle.questions.specs.Numbers.{number}
+use Rattle.reader.specs.declared.Part.{Part}
 use Rattle.tally.specs.Listed.{said as text_said, Printed}
-use Rattle.tally.specs.declared.Listed.{Listed}
-use Rattle.tally.specs.declared.Listed.TheVariants.{Written, Refused as NotWritten}
 use Rattle.run.specs.Pass.{said as ran_said, Called}
 use Rattle.run.specs.declared.Outcome.{Outcome}
 use Rattle.run.specs.declared.Outcome.TheVariants.{Finished, Refused as NotRun}
@@ -89,48 +87,48 @@ module _ (r : Lowered) (k l : Limits) (e : k ≡ l) (tree area₁ area₂ out ar
 
 -- ---- a module
 
-pub read-yes : (r : Verdict) (a : Answer (Unit {0})) → read_said r ≡ a → r ≡ Taken → 0 ≡ told a
+pub read-yes : {A : Type 0} (x : A) (r : Result A Question) (a : Answer (Unit {0})) → read_said r ≡ a → r ≡ Ok x → 0 ≡ told a
 unfolding told read_said
-read-yes r a e f = ap told (sym (ap read_said f) ∙ e)
+read-yes x r a e f = ap told (sym (ap read_said f) ∙ e)
 
-pub read_no : (r : Verdict) (a : Answer (Unit {0})) (q : ℕ) → read_said r ≡ a → r ≡ NotTaken q → q ≡ told a
+pub read_no : {A : Type 0} (r : Result A Question) (a : Answer (Unit {0})) (q : Question) → read_said r ≡ a → r ≡ Err q → number q ≡ told a
 unfolding told read_said
 read_no r a q e f = ap told (sym (ap read_said f) ∙ e)
 
 -- ---- a function's code
 
-pub code-known : (r : Located) (t : List ℕ) (f p s n : ℕ) → Locates r t f → r ≡ Code p s n → CodeAt t f p s n
+pub code-known : (r : Result Part Question) (t : List ℕ) (f : ℕ) (p : Part) → Locates r t f → r ≡ Ok p → CodeAt t f p.start p.size p.count
 unfolding Known
-code-known r t f p s n L e = rw e at L.known
+code-known r t f p L e = rw e at L.known
 
 -- it lies within the module, which is short
 pub code-short : (t : List ℕ) (f p s n : ℕ) → CodeAt t f p s n → p + s ≤ 524288
 code-short t f p s n C = omega (arith, C.read.to, module-short t C.tables C.module-is)
 
-pub code-yes : (r : Located) (t : List ℕ) (f p s n : ℕ) → Locates r t f → r ≡ Code p s n → p * 4294967296 + s ≡ told_part (code_call t f)
+pub code-yes : (r : Result Part Question) (t : List ℕ) (f : ℕ) (p : Part) → Locates r t f → r ≡ Ok p → p.start * 4294967296 + p.size ≡ told_part (code_call t f)
 unfolding told_part said_part
-code-yes r t f p s n L e = ap told_part (sym (ap said_part e) ∙ L.is)
+code-yes r t f p L e = ap told_part (sym (ap said_part e) ∙ L.is)
 
-pub code-no : (r : Located) (t : List ℕ) (f q : ℕ) → Locates r t f → r ≡ NoCode q → q ≡ told_part (code_call t f)
+pub code-no : (r : Result Part Question) (t : List ℕ) (f : ℕ) (q : Question) → Locates r t f → r ≡ Err q → number q ≡ told_part (code_call t f)
 unfolding told_part said_part
 code-no r t f q L e = ap told_part (sym (ap said_part e) ∙ L.is)
 
 -- ---- a text about a module
 
-pub tell-few : (r : Listed) (n : ℕ) → Tellable (text_said r) → r ≡ Written n → n < 2 ^ 63
+pub tell-few : (r : Result ℕ Question) (n : ℕ) → Tellable (text_said r) → r ≡ Ok n → n < 2 ^ 63
 unfolding text_said
 tell-few r n h e = h n (ap text_said e)
 
-pub tell_yes : (r : Listed) (n : ℕ) → r ≡ Written n → 4294967296 + n ≡ told_count (text_said r)
+pub tell_yes : (r : Result ℕ Question) (n : ℕ) → r ≡ Ok n → 4294967296 + n ≡ told_count (text_said r)
 unfolding text_said told_count
-tell_yes r n e = sym (ap (λ (x : Listed). told_count (text_said x)) e)
+tell_yes r n e = sym (ap (λ (x : Result ℕ Question). told_count (text_said x)) e)
 
-pub tell_no : (r : Listed) (q : ℕ) → r ≡ NotWritten q → q ≡ told_count (text_said r)
+pub tell_no : (r : Result ℕ Question) (q : Question) → r ≡ Err q → number q ≡ told_count (text_said r)
 unfolding text_said told_count
-tell_no r q e = sym (ap (λ (x : Listed). told_count (text_said x)) e)
+tell_no r q e = sym (ap (λ (x : Result ℕ Question). told_count (text_said x)) e)
 
 -- what is written fits the output
-module _ (q : ℕ) (f : Tables → List ℕ) (r : Listed) (t out out' : List ℕ) (L : Printed r (text_call q f t out) out') where
+module _ (q : ℕ) (f : Tables → List ℕ) (r : Result ℕ Question) (t out out' : List ℕ) (L : Printed r (text_call q f t out) out') where
   text-fits : (n : ℕ) → text_said r ≡ accepted n → n ≤ length out
   unfolding text_call text_answer text_fits count_answer when_accepted
   text-fits n e = go (read_module t) (sym L.answer ∙ e)

@@ -1,11 +1,11 @@
 -- What the call that lowers and reads answers and leaves; and that the reader accepts what was lowered.
-use Rattle.std.specs.Prelude.{ℕ, ◌≡◌, List}
+use Rattle.std.specs.Prelude.{ℕ, ◌≡◌, List, Result, IsOk}
 use Rattle.definitions.specs.Bytes.{Answer, refused, accepted}
 use Rattle.definitions.specs.Module.{Limits}
 use Rattle.definitions.specs.Calls.{lower_call, read_call}
 use Rattle.reader.specs.View.{said as read_said}
-use Rattle.reader.specs.declared.Verdict.{Verdict}
-use Rattle.reader.specs.declared.Verdict.TheVariants.{Accepted}
+use Rattle.questions.specs.declared.Question.{Question}
+use Rattle.reader.specs.declared.Sections.{Sections}
 use Rattle.follows.specs.Thereafter.{Thereafter, thereafter}
 use Rattle.follows.specs.declared.Reread.{Reread}
 use Rattle.follows.specs.declared.Reread.TheVariants.{Wrote, Refused}
@@ -37,4 +37,4 @@ pub record RereadsAs (r : Reread) (area₁' area₂' output' : List ℕ) (w : Re
 -- the answer and all that is left are those of `reread_call`; and whenever the lowering accepts, the reader accepts the bytes written
 pub record Rereads (r : Reread) (area₁' area₂' output' : List ℕ) (l : Limits) (tree area₁ area₂ output : List ℕ) : Type 0 where
   pub equation : RereadsAs r area₁' area₂' output' (reread_call l tree area₁ area₂ output)
-  pub reads : (n : ℕ) (v : Verdict) → r ≡ Wrote n v → v ≡ Accepted
+  pub reads : (n : ℕ) (v : Result Sections Question) → r ≡ Wrote n v → IsOk v

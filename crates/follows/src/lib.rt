@@ -9,13 +9,14 @@ ghost use Rattle.follows.specs.Following.{FollowsSource};
 
 use limits::Limits;
 use lowering::{Lowered, lower};
-use reader::{Verdict, read_module};
+use questions::Question;
+use reader::{Sections, read_module};
 use run::{Outcome, run};
 
 // How many bytes of the output are the module, and what the reader says of them; or the number of the first of questions 1 to 16 and 33 that is answered no.
 #[derive(Clone, Copy)]
 pub enum Reread {
-    Wrote(usize, Verdict),
+    Wrote(usize, Result<Sections, Question>),
     Refused(u32),
 }
 

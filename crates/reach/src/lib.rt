@@ -11,7 +11,7 @@ ghost use Rattle.reach.specs.Reaching.{Seekable, Tracked, Says, Gives};
 
 use crate::trace::{way_length, write_way};
 use areas::clear;
-use reader::{Located, locate, part_of};
+use reader::{locate, part_of};
 use run::{fill_places, wide};
 use search::{MARKS, sweep};
 use tally::{count_code, question};
@@ -64,16 +64,16 @@ fn reach_in(bytes: &[u8], function: u64, place: u64, area: &mut [u32], out: &mut
     let found = locate(bytes, function);
     let code = part_of(bytes, found);
     match found {
-        Located::NoCode(q) => Reached::Refused(q),
-        Located::Code(start, _, n) => {
-            if n <= place {
+        Err(q) => Reached::Refused(q.number() as u8),
+        Ok(part) => {
+            if part.count <= place {
                 return Reached::Refused(34);
             }
-            let counted = count_code(bytes, start, n);
+            let counted = count_code(bytes, part.start, part.count);
             if (out.len() as u64) < counted.questions {
                 return Reached::Refused(35);
             }
-            reach_code(code, n as usize, place as usize, area, out)
+            reach_code(code, part.count as usize, place as usize, area, out)
         }
     }
 }

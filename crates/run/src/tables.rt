@@ -5,7 +5,7 @@ ghost use Rattle.reader.specs.View.{instructions_of};
 ghost use Rattle.run.specs.Pass.{Coded, Places, Stops, GoesOn, Nearer};
 
 use numerals::op_bytes;
-use reader::{Cursor, Met, next_instruction};
+use reader::Instructions;
 
 pub fn wide(x: u32) -> usize
     ensures { result ≡ x }
@@ -18,15 +18,8 @@ pub fn fill_places(code: &[u8], places: &mut [u32])
     requires { Coded code.now × (length (instructions_of code.now) ≤ length places.old) }
     ensures { Places code.now places.new }
 {
-    let mut c = Cursor { place: 0, at: 0 };
-    loop {
-        let met = next_instruction(code, c);
-        let Met::At(_, _, _, next) = met else {
-            return;
-        };
-        let k = c.place as usize;
-        places[k] = c.at as u32;
-        c = next;
+    for placed in Instructions::of(code) {
+        places[placed.place as usize] = placed.at as u32;
     }
 }
 

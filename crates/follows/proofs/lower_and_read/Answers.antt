@@ -11,7 +11,7 @@ slice_bounds-read_module-end c = let l = c.lower-lowered in omega (arith, part-f
 pub returns-in-Wrote : goal.returns-in-Wrote
 returns-in-Wrote c =
     reread-wrote _ _ _ _ _ _ _ _ _ c.lower-lowered.ensures (sets_under _) (small_bytes c.args.tree.now (λ i. (c.shared_slice_known-1.given i).fits)) _
-    c.in-Wrote.is _ c.read_module-verdict.ensures
+    c.in-Wrote.is _ c.read_module-verdict.ensures.answer
 
 pub returns-in-Refused : goal.returns-in-Refused
 returns-in-Refused c = reread-refused _ _ _ _ _ _ _ _ _ c.lower-lowered.ensures _ c.in-Refused.is

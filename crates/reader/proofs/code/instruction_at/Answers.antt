@@ -1,6 +1,6 @@
 use mathlib.Core.Path.{refl, sym}
 use Rattle.reader.proofs.InstructionLaws.{no-byte, no-opcode, no-operands, yes-instruction}
-use Rattle.reader.proofs.instructions.instruction_at.Goals as goal
+use Rattle.reader.proofs.code.instruction_at.Goals as goal
 
 pub returns-then-bytes-at : goal.returns-then-bytes-at
 returns-then-bytes-at c = sym (no-byte _ _ c.if-bytes-at.true)
