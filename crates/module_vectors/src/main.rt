@@ -1,7 +1,6 @@
 // Questions 17 to 21 of each module of tests/vectors/modules.txt.
 #![tactic(auto)]
 
-use reader::Verdict;
 use std::io;
 use vectors::Lines;
 
@@ -10,8 +9,8 @@ const MODULE_ROOM: usize = 32768;
 // The answer to a module, in a line.
 fn answer(rt: &impl Print, module: &[u8]) -> io::Result<()> {
     match reader::read_module(module) {
-        Verdict::Accepted => rt.println("accepted"),
-        Verdict::Refused(q) => println!(rt; "refused {q}"),
+        Ok(_) => rt.println("accepted"),
+        Err(q) => println!(rt; "refused {q}"),
     }
 }
 

@@ -6,7 +6,6 @@ ghost use Rattle.std.specs.Prelude.{length, ◌≡◌};
 
 use classes::Class;
 use input::{arg, arg_count, read_full};
-use reader::{Opened, Verdict};
 use report::Hex;
 use std::io;
 use std::rt::Env;
@@ -20,12 +19,9 @@ fn constant(rt: &impl Print, k: usize, class: u16) -> io::Result<()> {
     println!(rt; "constant {k}: class {class}, type {number}")
 }
 
-// The constants: two bytes each from `at` to the module's end, after two bytes with their count.
-fn constants(rt: &impl Print, module: &[u8], at: usize) -> io::Result<()> {
-    let Some(classes) = module.get(at..).and_then(|list| list.get(2..)) else {
-        return Ok(());
-    };
-    for (k, class) in classes.chunks_exact(2).enumerate() {
+// The constants: two bytes each, after two bytes with their count.
+fn constants(rt: &impl Print, list: &[u8]) -> io::Result<()> {
+    for (k, class) in list.chunks_exact(2).skip(1).enumerate() {
         constant(rt, k, u16::from_be_bytes([class[0], class[1]]))?;
     }
     Ok(())
@@ -33,13 +29,13 @@ fn constants(rt: &impl Print, module: &[u8], at: usize) -> io::Result<()> {
 
 // The answer to a module, and whether it is accepted.
 fn answer(rt: &impl Print, module: &[u8]) -> io::Result<bool> {
-    match reader::open_module(module) {
-        Opened::Module(_, _, _, at) => {
+    match reader::read_module(module) {
+        Ok(sections) => {
             rt.println("accepted")?;
-            constants(rt, module, at)?;
+            constants(rt, reader::part_of(module, Ok(sections.constants)))?;
             Ok(true)
         }
-        Opened::Closed(q) => {
+        Err(q) => {
             println!(rt; "refused {q}")?;
             Ok(false)
         }
@@ -49,8 +45,8 @@ fn answer(rt: &impl Print, module: &[u8]) -> io::Result<bool> {
 // The code of the function f.
 fn code(rt: &impl Print, module: &[u8], f: u64) -> io::Result<()> {
     match reader::check_code(module, f) {
-        Verdict::Accepted => { println!(rt; "code: {}", Hex(reader::function_code(module, f))) }
-        Verdict::Refused(q) => println!(rt; "refused {q}"),
+        Ok(()) => println!(rt; "code: {}", Hex(reader::function_code(module, f))),
+        Err(q) => println!(rt; "refused {q}"),
     }
 }
 
