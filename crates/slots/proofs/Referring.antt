@@ -49,7 +49,7 @@ referred-as r t ps e e' w w' f h k = record { next-is = f.next-is ∙ h; most = 
 
 -- ---- a name
 
-module _ (t parent ms : List ℕ) (p : ℕ) (b : Bool) (e : b ≡ is_free (slot_names t parent) ms (name_bytes t p)) (ps : List ℕ) (n : ℕ) (a : Keeping t parent ps n) where
+module _ (t parent : List ℕ) (ms : List Bool) (p : ℕ) (b : Bool) (e : b ≡ is_free (slot_names t parent) ms (name_bytes t p)) (ps : List ℕ) (n : ℕ) (a : Keeping t parent ps n) where
   pub name-kept : (r : Walked) (ps' : List ℕ) → b ≡ true → r.next ≡ name_end t p → Added r.n t ps' n (add (name_bytes t p) (first_names t n ps)) → length ps' ≡ length ps →
       Referred r t ps' (name_end t p) (add_held (slot_names t parent) ms (name_bytes t p) (first_names t n ps))
   unfolding add_held
@@ -63,7 +63,7 @@ module _ (t parent ms : List ℕ) (p : ℕ) (b : Bool) (e : b ≡ is_free (slot_
 
 -- ---- the kinds of expression
 
-module _ (d : ℕ) (t : List ℕ) (p : ℕ) (r : ExprReads d t p) (slots : List Name) (ms : List ℕ) (o : Walked) (ps : List ℕ) (xs : List Name) where
+module _ (d : ℕ) (t : List ℕ) (p : ℕ) (r : ExprReads d t p) (slots : List Name) (ms : List Bool) (o : Walked) (ps : List ℕ) (xs : List Name) where
   abbrev x : Node Expr
   x = expr_at d t p
 
@@ -125,7 +125,7 @@ literal-kinds k h a b c d e f g i j l m n = ⊎_elim
     (λ (z : k < 6). z)
     (le-or-gt 6 k)
 
-pub refs-literal : (d : ℕ) (t : List ℕ) (p : ℕ) (r : ExprReads d t p) (slots : List Name) (ms : List ℕ) (o : Walked) (ps : List ℕ) (n : ℕ) → get_or t p 0 < 6 → o.next ≡ (expr_at d t p).end → o.n ≡ n → slots_from + n ≤ length ps → Indexed t n ps →
+pub refs-literal : (d : ℕ) (t : List ℕ) (p : ℕ) (r : ExprReads d t p) (slots : List Name) (ms : List Bool) (o : Walked) (ps : List ℕ) (n : ℕ) → get_or t p 0 < 6 → o.next ≡ (expr_at d t p).end → o.n ≡ n → slots_from + n ≤ length ps → Indexed t n ps →
     Referred o t ps (expr_at d t p).end (held_expr slots ms (expr_at d t p).value (first_names t n ps))
 unfolding held_expr
 refs-literal d t p r slots ms o ps n h e f g v = let l = seen-literal d t p r h in
@@ -133,7 +133,7 @@ refs-literal d t p r slots ms o ps n h e f g v = let l = seen-literal d t p r h 
 
 -- ---- one part after another
 
-module _ (d : ℕ) (t : List ℕ) (p : ℕ) (slots : List Name) (ms : List ℕ) (a : Walked) (ps : List ℕ) (xs : List Name) (f : Referred a t ps (expr_at d t p).end (held_expr slots ms (expr_at d t p).value xs)) where
+module _ (d : ℕ) (t : List ℕ) (p : ℕ) (slots : List Name) (ms : List Bool) (a : Walked) (ps : List ℕ) (xs : List Name) (f : Referred a t ps (expr_at d t p).end (held_expr slots ms (expr_at d t p).value xs)) where
   pub second-there : TwoAt d t p → ExprReads d t a.next
   second-there h = subst (λ (m : ℕ). ExprReads d t m) (sym f.next-is) h.second
 
@@ -155,11 +155,11 @@ module _ (d : ℕ) (t : List ℕ) (p : ℕ) (slots : List Name) (ms : List ℕ) 
   refs-object o e g = let m = f.most in record { next-is = e ∙ ap (name_end t) f.next-is; most = omega arith; names = ap (λ (k : ℕ). first_names t k ps) g ∙ f.names; indexed = subst (λ (k : ℕ). Indexed t k ps) (sym g) f.indexed }
 
 -- a lambda's body at q, where its parameters end, under marks that are those of its parameters, too
-pub refs-body : (d : ℕ) (t : List ℕ) (p q : ℕ) (slots : List Name) (ms ms' : List ℕ) (o : Walked) (ps : List ℕ) (xs : List Name) → q ≡ (params_at t p).end → ms' ≡ mark_all slots (params_at t p).value ms →
+pub refs-body : (d : ℕ) (t : List ℕ) (p q : ℕ) (slots : List Name) (ms ms' : List Bool) (o : Walked) (ps : List ℕ) (xs : List Name) → q ≡ (params_at t p).end → ms' ≡ mark_all slots (params_at t p).value ms →
     Referred o t ps (expr_at d t q).end (held_expr slots ms' (expr_at d t q).value xs) →
     Referred o t ps (expr_at d t (params_at t p).end).end (held_expr slots (mark_all slots (params_at t p).value ms) (expr_at d t (params_at t p).end).value xs)
 refs-body d t p q slots ms ms' o ps xs e f g =
-    referred-as o t ps _ _ _ _ g (ap (λ (m : ℕ). (expr_at d t m).end) e) (ap₂ (λ (m : ℕ) (k : List ℕ). held_expr slots k (expr_at d t m).value xs) e f)
+    referred-as o t ps _ _ _ _ g (ap (λ (m : ℕ). (expr_at d t m).end) e) (ap₂ (λ (m : ℕ) (k : List Bool). held_expr slots k (expr_at d t m).value xs) e f)
 
 pub body-there : (d : ℕ) (t : List ℕ) (p q : ℕ) → q ≡ (params_at t p).end → LambdaAt d t p → ExprReads d t q
 body-there d t p q e h = subst (λ (m : ℕ). ExprReads d t m) (sym e) h.body
@@ -179,22 +179,22 @@ module _ (d : ℕ) (t : List ℕ) (a n : ℕ) (e : n ≡ count_at t a) where
   pub dict-is : exprs_at d (2 * n) t (a + 2) ≡ pairs_at d t a
   dict-is = ap (λ (m : ℕ). exprs_at d (2 * m) t (a + 2)) e
 
-pub refs-list : (slots : List Name) (ms t : List ℕ) (x y : Node Exprs) (o : Walked) (ps : List ℕ) (xs : List Name) → x ≡ y → Referred o t ps x.end (held_exprs slots ms x.value xs) → Referred o t ps y.end (held_exprs slots ms y.value xs)
+pub refs-list : (slots : List Name) (ms : List Bool) (t : List ℕ) (x y : Node Exprs) (o : Walked) (ps : List ℕ) (xs : List Name) → x ≡ y → Referred o t ps x.end (held_exprs slots ms x.value xs) → Referred o t ps y.end (held_exprs slots ms y.value xs)
 refs-list slots ms t x y o ps xs e g = referred-as o t ps _ _ _ _ g (ap (λ (z : Node Exprs). z.end) e) (ap (λ (z : Node Exprs). held_exprs slots ms z.value xs) e)
 
 -- ---- expressions, one at a time
 
-pub record ExprsLeft (d : ℕ) (t parent ms ps₀ : List ℕ) (n₀ p₀ k₀ : ℕ) (ps : List ℕ) (n p k : ℕ) : Type 0 where
+pub record ExprsLeft (d : ℕ) (t parent : List ℕ) (ms : List Bool) (ps₀ : List ℕ) (n₀ p₀ k₀ : ℕ) (ps : List ℕ) (n p k : ℕ) : Type 0 where
   pub reads : ExprsRead d n t p
   pub end : (exprs_at d n₀ t p₀).end ≡ (exprs_at d n t p).end
   pub names : held_exprs (slot_names t parent) ms (exprs_at d n₀ t p₀).value (first_names t k₀ ps₀) ≡ held_exprs (slot_names t parent) ms (exprs_at d n t p).value (first_names t k ps)
   pub keeping : Keeping t parent ps k
   pub kept : length ps ≡ length ps₀
 
-pub exprs-start : (d : ℕ) (t parent ms ps : List ℕ) (n p k j : ℕ) → n ≡ j → Keeping t parent ps k → ExprsRead d n t p → ExprsLeft d t parent ms ps n p k ps j p k
+pub exprs-start : (d : ℕ) (t parent : List ℕ) (ms : List Bool) (ps : List ℕ) (n p k j : ℕ) → n ≡ j → Keeping t parent ps k → ExprsRead d n t p → ExprsLeft d t parent ms ps n p k ps j p k
 exprs-start d t parent ms ps n p k j i a r = subst (λ (x : ℕ). ExprsLeft d t parent ms ps n p k ps x p k) i (record { reads = r; end = refl; names = refl; keeping = a; kept = refl })
 
-module _ (d : ℕ) (t parent ms ps₀ : List ℕ) (n₀ p₀ k₀ : ℕ) (ps : List ℕ) (n p k : ℕ) (l : ExprsLeft d t parent ms ps₀ n₀ p₀ k₀ ps n p k) where
+module _ (d : ℕ) (t parent : List ℕ) (ms : List Bool) (ps₀ : List ℕ) (n₀ p₀ k₀ : ℕ) (ps : List ℕ) (n p k : ℕ) (l : ExprsLeft d t parent ms ps₀ n₀ p₀ k₀ ps n p k) where
   module _ (h : 0 < n) where
     pub exprs-head : ExprReads d t p
     exprs-head = (view-exprs-more d n t p h l.reads).parts.head

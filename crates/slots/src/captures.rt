@@ -16,7 +16,7 @@ use crate::order::sort_names;
 use crate::skip::{skip_expr, skip_params};
 use numerals::expr;
 use numerals::places::SLOTS_FROM;
-use numerals::sizes::{SLOTS_MOST, SLOTS_ROOM};
+use numerals::sizes::{SLOTS_MARKED, SLOTS_MOST, SLOTS_ROOM};
 use parts::names::name_end;
 use parts::numbers::u16_at;
 
@@ -25,7 +25,7 @@ fn keep_name(
     tree: &[u8],
     at: usize,
     parent: &[u32],
-    marks: &[u8; 256],
+    marks: &[bool; SLOTS_MARKED],
     places: &mut [u32],
     n: u32,
 ) -> Walked
@@ -48,7 +48,7 @@ fn collect_referenced_vars(
     at: usize,
     depth: u32,
     parent: &[u32],
-    marks: &[u8; 256],
+    marks: &[bool; SLOTS_MARKED],
     places: &mut [u32],
     n: u32,
 ) -> Walked
@@ -84,7 +84,7 @@ fn refs_two(
     at: usize,
     depth: u32,
     parent: &[u32],
-    marks: &[u8; 256],
+    marks: &[bool; SLOTS_MARKED],
     places: &mut [u32],
     n: u32,
 ) -> Walked
@@ -103,7 +103,7 @@ fn refs_call(
     at: usize,
     depth: u32,
     parent: &[u32],
-    marks: &[u8; 256],
+    marks: &[bool; SLOTS_MARKED],
     places: &mut [u32],
     n: u32,
 ) -> Walked
@@ -122,7 +122,7 @@ fn refs_attribute(
     at: usize,
     depth: u32,
     parent: &[u32],
-    marks: &[u8; 256],
+    marks: &[bool; SLOTS_MARKED],
     places: &mut [u32],
     n: u32,
 ) -> Walked
@@ -143,7 +143,7 @@ fn refs_list(
     at: usize,
     depth: u32,
     parent: &[u32],
-    marks: &[u8; 256],
+    marks: &[bool; SLOTS_MARKED],
     places: &mut [u32],
     n: u32,
 ) -> Walked
@@ -161,7 +161,7 @@ fn refs_dict(
     at: usize,
     depth: u32,
     parent: &[u32],
-    marks: &[u8; 256],
+    marks: &[bool; SLOTS_MARKED],
     places: &mut [u32],
     n: u32,
 ) -> Walked
@@ -180,7 +180,7 @@ fn refs_many(
     depth: u32,
     count: u32,
     parent: &[u32],
-    marks: &[u8; 256],
+    marks: &[bool; SLOTS_MARKED],
     places: &mut [u32],
     n: u32,
 ) -> Walked
@@ -204,7 +204,7 @@ fn refs_lambda(
     at: usize,
     depth: u32,
     parent: &[u32],
-    marks: &[u8; 256],
+    marks: &[bool; SLOTS_MARKED],
     places: &mut [u32],
     n: u32,
 ) -> Walked
@@ -231,7 +231,7 @@ pub(crate) fn collect_free_vars(
     requires { (length tree.now ≤ 32768) × Slots tree.now parent.now × (slots_from + 256 ≤ length places.old) × ParamsAt tree.now params × ExprReads depth tree.now body }
     ensures { CapturesAt result tree.now parent.now places.new (captures (slot_names tree.now parent.now) (params_at tree.now params).value (expr_at depth tree.now body).value) }
 {
-    let mut marks = [0u8; 256];
+    let mut marks = [false; SLOTS_MARKED];
     mark_params(tree, params, parent, &mut marks);
     let all = collect_referenced_vars(tree, body, depth, parent, &marks, places, 0);
     let end = SLOTS_FROM + all.n as usize;
