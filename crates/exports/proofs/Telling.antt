@@ -17,15 +17,11 @@ use Rattle.definitions.specs.Calls.{Counts, Running, fits_room, areas_fit, lower
 use Rattle.definitions.proofs.ReadFits.{module-short}
 use Rattle.definitions.specs.Reach.{sought, count_found, found_answer, buffer_after, Reaching, reach_call}
 use Rattle.tree.specs.Settled.{said, settled}
-use Rattle.tree.specs.declared.Checked.{Checked}
-use Rattle.tree.specs.declared.Checked.TheVariants.{Accepted, Refused}
-use Rattle.lowering.specs.Lowered.{said as lowered, Lowers as Lowered'}
-use Rattle.lowering.specs.declared.Lowered.{Lowered}
-use Rattle.lowering.specs.declared.Lowered.TheVariants.{Wrote, Refused as NotLowered}
-use Rattle.reader.specs.View.{said as read_said, said_part, CodeAt, Known, Locates}
 use Rattle.std.specs.Prelude.{Result, Ok, Err}
 use Rattle.questions.specs.declared.Question.{Question}
 use Rattle.questions.specs.Numbers.{number}
+use Rattle.lowering.specs.Lowered.{said as lowered, Lowers as Lowered'}
+use Rattle.reader.specs.View.{said as read_said, said_part, CodeAt, Known, Locates}
 use Rattle.reader.specs.declared.Part.{Part}
 use Rattle.tally.specs.Listed.{said as text_said, Printed}
 use Rattle.run.specs.Pass.{said as ran_said, Called}
@@ -38,11 +34,11 @@ use Rattle.reach.specs.declared.Reached.TheVariants.{Answers, Nowhere, Refused a
 
 -- ---- a tree
 
-pub check-yes : (r : Checked) (t : List ℕ) → said r ≡ settled t → r ≡ Accepted → 0 ≡ told (settled t)
+pub check-yes : (r : Result (Unit {0}) Question) (t : List ℕ) (u : Unit {0}) → said r ≡ settled t → r ≡ Ok u → 0 ≡ told (settled t)
 unfolding told said
-check-yes r t e f = ap told (sym (ap said f) ∙ e)
+check-yes r t u e f = ap told (sym (ap said f) ∙ e)
 
-pub check-no : (r : Checked) (t : List ℕ) (q : ℕ) → said r ≡ settled t → r ≡ Refused q → q ≡ told (settled t)
+pub check-no : (r : Result (Unit {0}) Question) (t : List ℕ) (q : Question) → said r ≡ settled t → r ≡ Err q → number q ≡ told (settled t)
 unfolding told said
 check-no r t q e f = ap told (sym (ap said f) ∙ e)
 
@@ -64,8 +60,8 @@ unfolding count_answer when_accepted
 answer-count l room n tree true e = bytes_count room n (lower_bytes l tree) e
 answer-count l room n tree false e = let z : ◌≡◌ {A = ℕ} 0 1 = cc in absurd (omega arith)
 
-module _ (r : Lowered) (k l : Limits) (e : k ≡ l) (tree area₁ area₂ out area₁' area₂' out' : List ℕ) (L : Lowered' r area₁' area₂' out' (lower_call k tree area₁ area₂ out)) where
-  pub lowered-fits : (n : ℕ) → r ≡ Wrote n → n ≤ length out
+module _ (r : Result ℕ Question) (k l : Limits) (e : k ≡ l) (tree area₁ area₂ out area₁' area₂' out' : List ℕ) (L : Lowered' r area₁' area₂' out' (lower_call k tree area₁ area₂ out)) where
+  pub lowered-fits : (n : ℕ) → r ≡ Ok n → n ≤ length out
   unfolding lowered lower_call lower_answer
   lowered-fits n h = answer-count k (length out) n tree (areas_fit (length area₁) (length area₂)) (sym L.answer ∙ ap lowered h)
 
@@ -77,13 +73,13 @@ module _ (r : Lowered) (k l : Limits) (e : k ≡ l) (tree area₁ area₂ out ar
       let w : lower_call k tree area₁ area₂ out ≡ want = ap (λ (m : Limits). lower_call m tree area₁ area₂ out) e in
       subst (λ (v : Lowering). Lowers x v area₁' area₂' out') w (record { answer = h ∙ ap told_count L.answer; first = L.first; second = L.second; output = L.output })
 
-  pub lowered-yes : (n : ℕ) → r ≡ Wrote n → Lowers (4294967296 + n) want area₁' area₂' out'
+  pub lowered-yes : (n : ℕ) → r ≡ Ok n → Lowers (4294967296 + n) want area₁' area₂' out'
   unfolding lowered told_count
-  lowered-yes n h = lowers-as (4294967296 + n) (ap (λ (x : Lowered). told_count (lowered x)) (sym h))
+  lowered-yes n h = lowers-as (4294967296 + n) (ap (λ (x : Result ℕ Question). told_count (lowered x)) (sym h))
 
-  pub lowered-no : (q : ℕ) → r ≡ NotLowered q → Lowers q want area₁' area₂' out'
+  pub lowered-no : (q : Question) → r ≡ Err q → (n : ℕ) → n ≡ number q → Lowers n want area₁' area₂' out'
   unfolding lowered told_count
-  lowered-no q h = lowers-as q (ap (λ (x : Lowered). told_count (lowered x)) (sym h))
+  lowered-no q h n e = lowers-as n (e ∙ ap (λ (x : Result ℕ Question). told_count (lowered x)) (sym h))
 
 -- ---- a module
 

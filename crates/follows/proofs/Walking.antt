@@ -19,11 +19,10 @@ use Rattle.run.proofs.Calling.{says-refused, says-finished}
 use Rattle.run.specs.declared.Outcome.{Outcome}
 use Rattle.run.specs.declared.Outcome.TheVariants.{Finished, Refused as NotRun}
 use Rattle.lowering.specs.Lowered.{Lowers}
-use Rattle.lowering.specs.declared.Lowered.{Lowered}
-use Rattle.lowering.specs.declared.Lowered.TheVariants.{Wrote as Written, Refused as NotLowered}
+use Rattle.std.specs.Prelude.{Result, Ok, Err}
+use Rattle.questions.specs.declared.Question.{Question}
 use Rattle.follows.specs.Following.{said, follow_call, FollowsAs, SameAsWalk, AsWalked, FollowsSource}
 use Rattle.follows.specs.declared.Followed.{Followed}
-use Rattle.follows.specs.declared.Followed.TheVariants.{Ran, Refused}
 use Rattle.follows.proofs.Made.{made, part-is, then-accepted, then-refused, left-accepted, left-refused}
 
 -- ---- what a run's answer shows
@@ -62,9 +61,9 @@ module _ (a : Answer RunAnswer) (o : Outcome) (events events' : List ℕ) (says 
 
 -- ---- the call
 
-module _ (r : Lowered) (l : Limits) (tree area₁ area₂ bytes area₁' area₂' bytes' : List ℕ) (L : Lowers r area₁' area₂' bytes' (lower_call l tree area₁ area₂ bytes))
+module _ (r : Result ℕ Question) (l : Limits) (tree area₁ area₂ bytes area₁' area₂' bytes' : List ℕ) (L : Lowers r area₁' area₂' bytes' (lower_call l tree area₁ area₂ bytes))
     (function : ℕ) (answers : List ℕ) (budget : ℕ) (events : List ℕ) where
-  module _ (n : ℕ) (e : r ≡ Written n) (o : Outcome) (events' : List ℕ) (C : Called o (run_call (take n bytes') function answers budget events) events') where
+  module _ (n : ℕ) (e : r ≡ Ok n) (o : Outcome) (events' : List ℕ) (C : Called o (run_call (take n bytes') function answers budget events) events') where
     run-walks : Under l office → are_bytes tree ≡ true → are_answers answers ≡ true → (length answers + 1) * instructions_in (take n bytes') function ≤ budget →
         AsWalked o (walk_tree tree function answers) answers events events'
     unfolding run_call ran_call
@@ -74,7 +73,7 @@ module _ (r : Lowered) (l : Limits) (tree area₁ area₂ bytes area₁' area₂
         shows-walk (run_answer (take n bytes') function answers budget (length events)) o events events' C.says C.leaves answers (walk_tree tree function answers)
         (subst (λ (m : List ℕ). Follows answers (length events) (walk_tree tree function answers) (run_answer m function answers budget (length events))) (sym M.front) D)
 
-    run-equation : FollowsAs (Ran n o) area₁' area₂' bytes' events' (follow_call l tree function answers budget area₁ area₂ bytes events)
+    run-equation : FollowsAs (Ok (record { written = n; outcome = o })) area₁' area₂' bytes' events' (follow_call l tree function answers budget area₁ area₂ bytes events)
     unfolding follow_call said
     run-equation = record {
       answer =
@@ -86,23 +85,22 @@ module _ (r : Lowered) (l : Limits) (tree area₁ area₂ bytes area₁' area₂
       events = C.leaves ∙ left-accepted (lower_call l tree area₁ area₂ bytes) r bytes' L.answer L.output (λ m. (run_call m function answers budget events).events) events n e;
     }
 
-    ran-follows : Under l office → are_bytes tree ≡ true → FollowsSource (Ran n o) area₁' area₂' bytes' events' l tree function answers budget area₁ area₂ bytes events
+    ran-follows : Under l office → are_bytes tree ≡ true → FollowsSource (Ok (record { written = n; outcome = o })) area₁' area₂' bytes' events' l tree function answers budget area₁ area₂ bytes events
     ran-follows u small = record {
       equation = run-equation;
-      walk = λ k p x bits enough.
-          let same : o ≡ p = cc x in
-          let count : k ≡ n = cc x in
-          subst (λ (y : Outcome). AsWalked y (walk_tree tree function answers) answers events events') same
-          (run-walks u small bits (subst (λ (j : ℕ). (length answers + 1) * instructions_in (take j bytes') function ≤ budget) count enough));
+      walk = λ y x bits enough.
+          let same : record { written = n; outcome = o } ≡ y = cc x in
+          subst (λ (z : Followed). AsWalked z.outcome (walk_tree tree function answers) answers events events') same
+          (run-walks u small bits (subst (λ (z : Followed). (length answers + 1) * instructions_in (take z.written bytes') function ≤ budget) (sym same) enough));
     }
 
-  pub follow-ran : (n : ℕ) → r ≡ Written n → (o : Outcome) (events' : List ℕ) → Called o (run_call (take (n - 0) bytes') function answers budget events) events' → Under l office → are_bytes tree ≡ true →
-      FollowsSource (Ran n o) area₁' area₂' bytes' events' l tree function answers budget area₁ area₂ bytes events
+  pub follow-ran : (n : ℕ) → r ≡ Ok n → (o : Outcome) (events' : List ℕ) → Called o (run_call (take (n - 0) bytes') function answers budget events) events' → Under l office → are_bytes tree ≡ true →
+      FollowsSource (Ok (record { written = n; outcome = o })) area₁' area₂' bytes' events' l tree function answers budget area₁ area₂ bytes events
   follow-ran n e o events' C = ran-follows n e o events' (subst (λ (m : List ℕ). Called o (run_call m function answers budget events) events') (part-is n bytes') C)
 
-  pub follow-refused : (q : ℕ) → r ≡ NotLowered q → FollowsSource (Refused q) area₁' area₂' bytes' events l tree function answers budget area₁ area₂ bytes events
+  follow-no : (q : Question) → r ≡ Err q → FollowsSource (Err q) area₁' area₂' bytes' events l tree function answers budget area₁ area₂ bytes events
   unfolding follow_call said
-  follow-refused q e = record {
+  follow-no q e = record {
     equation = record {
       answer = then-refused (lower_call l tree area₁ area₂ bytes) r bytes' L.answer L.output (λ m. (run_call m function answers budget events).answer) q e;
       first = L.first;
@@ -110,5 +108,9 @@ module _ (r : Lowered) (l : Limits) (tree area₁ area₂ bytes area₁' area₂
       bytes = L.output;
       events = left-refused (lower_call l tree area₁ area₂ bytes) r bytes' L.answer L.output (λ m. (run_call m function answers budget events).events) events q e;
     };
-    walk = λ k p x bits enough. let z : ◌≡◌ {A = ℕ} 0 1 = cc in absurd (omega arith);
+    walk = λ p x bits enough. let z : ◌≡◌ {A = ℕ} 0 1 = cc in absurd (omega arith);
   }
+
+  pub follow-refused : (q : Question) → r ≡ Err q → {o : Result Followed Question} → o ≡ Err q →
+      FollowsSource o area₁' area₂' bytes' events l tree function answers budget area₁ area₂ bytes events
+  follow-refused q e f = rw f (follow-no q e)

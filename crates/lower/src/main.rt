@@ -4,12 +4,13 @@
 ghost use Rattle.std.specs.Prelude.{◌≤◌, ◌≡◌, ◌∷◌, [], ◌++◌, length};
 ghost use Rattle.definitions.specs.Bytes.{ascii, decimal};
 ghost use Rattle.definitions.specs.Calls.{lower_program};
+ghost use Rattle.questions.specs.Numbers.{number};
 
 use input::read_full;
 use limits::Limits;
-use lowering::Lowered;
 use names::making::{paste, paste_decimal};
 use numerals::sizes::AREA;
+use questions::Question;
 use std::io;
 
 // One byte more than the longest tree, so that a longer one is refused; and the room for a module.
@@ -18,12 +19,12 @@ const INPUT_ROOM: usize = 32769;
 const MODULE_ROOM: usize = 65536;
 
 // The line of a refusal, at the start of out.
-fn refusal<'a>(q: u32, out: &'a mut [u8]) -> &'a [u8]
+fn refusal<'a>(question: Question, out: &'a mut [u8]) -> &'a [u8]
     requires { 65536 ≡ length out.old }
-    ensures { result.now ≡ ascii "refused " ++ (decimal q ++ 10 ∷ []) }
+    ensures { result.now ≡ ascii "refused " ++ (decimal (number question) ++ 10 ∷ []) }
 {
     let number = paste(out, 0, b"refused ");
-    let end = paste_decimal(out, number, q);
+    let end = paste_decimal(out, number, question.number());
     let n = paste(out, end, b"\n");
     &out[..n]
 }
@@ -36,8 +37,8 @@ fn answer<'a>(input: &[u8], out: &'a mut [u8]) -> &'a [u8]
     let mut area1 = [0u32; AREA];
     let mut area2 = [0u32; AREA];
     match lowering::lower(input, Limits::Office, &mut area1, &mut area2, out) {
-        Lowered::Wrote(n) => &out[..n],
-        Lowered::Refused(q) => refusal(q, out),
+        Ok(n) => &out[..n],
+        Err(question) => refusal(question, out),
     }
 }
 

@@ -2,7 +2,6 @@
 #![tactic(auto)]
 
 use limits::Limits;
-use lowering::Lowered;
 use numerals::sizes::AREA;
 use report::Hex;
 use std::io;
@@ -19,8 +18,8 @@ fn answer(rt: &impl Print, tree: &[u8]) -> io::Result<()> {
     let mut area2 = [0u32; AREA];
     let mut module = [0u8; MODULE_ROOM];
     match lowering::lower(tree, Limits::Office, &mut area1, &mut area2, &mut module) {
-        Lowered::Wrote(n) => println!(rt; "{}", Hex(&module[..n.min(MODULE_ROOM)])),
-        Lowered::Refused(q) => println!(rt; "refused {q}"),
+        Ok(n) => println!(rt; "{}", Hex(&module[..n.min(MODULE_ROOM)])),
+        Err(question) => println!(rt; "refused {question}"),
     }
 }
 

@@ -5,12 +5,12 @@ use Rattle.lower.proofs.answer.Goals as goal
 
 pub slice_bounds-result-end : goal.slice_bounds-result-end
 slice_bounds-result-end c =
-    (answered-wrote _ c.args.input.now _ _ c.args.out.now _ _ _ c.lower.ensures (search rules) (search rules) c.requires.1 c.requires.0 _ c.in-Wrote.is).counts.1
+    (answered-wrote _ c.args.input.now _ _ c.args.out.now _ _ _ c.lower.ensures (search rules) (search rules) c.requires.1 c.requires.0 _ c.in-Ok.is).counts.1
 
-pub returns-in-Wrote : goal.returns-in-Wrote
-returns-in-Wrote c =
-    (answered-wrote _ c.args.input.now _ _ c.args.out.now _ _ _ c.lower.ensures (search rules) (search rules) c.requires.1 c.requires.0 _ c.in-Wrote.is).bytes
+pub returns-in-Ok : goal.returns-in-Ok
+returns-in-Ok c =
+    (answered-wrote _ c.args.input.now _ _ c.args.out.now _ _ _ c.lower.ensures (search rules) (search rules) c.requires.1 c.requires.0 _ c.in-Ok.is).bytes
 
-pub returns-in-Refused : goal.returns-in-Refused
-returns-in-Refused c =
-    refused-line _ c.args.input.now _ _ c.args.out.now _ _ _ c.lower.ensures (search rules) (search rules) c.requires.1 c.requires.0 _ _ c.in-Refused.is c.refusal.ensures
+pub returns-in-Err : goal.returns-in-Err
+returns-in-Err c =
+    refused-line _ c.args.input.now _ _ c.args.out.now _ _ _ c.lower.ensures (search rules) (search rules) c.requires.1 c.requires.0 _ _ c.in-Err.is c.refusal.ensures
