@@ -2,9 +2,9 @@
 ghost use Rattle.std.specs.Prelude.{◌≡◌, ◌≤◌, ◌<◌, length};
 ghost use Rattle.definitions.specs.Run.{straight};
 ghost use Rattle.reader.specs.View.{instructions_of};
-ghost use Rattle.run.specs.Pass.{Coded, Places, Stops, GoesOn, Nearer};
+ghost use Rattle.run.specs.Tables.{Coded, Places, Stops, GoesOn, Nearer};
 
-use numerals::op_bytes;
+use numerals::op_bytes::{JUMP, JUMP_IF_FALSE, JUMP_IF_TRUE, RETURN};
 use reader::Instructions;
 
 pub fn wide(x: u32) -> usize
@@ -27,16 +27,10 @@ pub fn fill_places(code: &[u8], places: &mut [u32])
 pub fn goes_on(op: u8) -> bool
     ensures { GoesOn result op }
 {
-    if op == op_bytes::JUMP {
-        return false;
+    match op {
+        JUMP | JUMP_IF_FALSE | JUMP_IF_TRUE | RETURN => false,
+        _ => true,
     }
-    if op == op_bytes::JUMP_IF_FALSE {
-        return false;
-    }
-    if op == op_bytes::JUMP_IF_TRUE {
-        return false;
-    }
-    op != op_bytes::RETURN
 }
 
 // Of the stop after place k, and k: the first that is a stop.
@@ -51,12 +45,9 @@ pub(crate) fn fill_stops(code: &[u8], places: &[u32], n: usize, stops: &mut [u32
     requires { Coded code.now × Places code.now places.now × (n ≡ length (instructions_of code.now)) × (n ≤ length stops.old) }
     ensures { Stops code.now stops.new }
 {
-    let mut k = n;
-    let mut stop = 0usize;
-    while 0 < k {
-        k -= 1;
-        let at = wide(places[k]);
-        stop = nearer(code[at], k, stop);
+    let mut stop = 0;
+    for k in (0..n).rev() {
+        stop = nearer(code[places[k] as usize], k, stop);
         stops[k] = stop as u32;
     }
 }
