@@ -5,8 +5,9 @@ ghost use Rattle.std.specs.Prelude.{length, ◌≡◌};
 
 use digits::decimal_of;
 use input::{arg, arg_count, read_full};
+use questions::Question;
 use report::Hex;
-use run::Outcome;
+use run::{Ending, Ran};
 use std::io;
 use std::io::Read;
 use std::rt::Env;
@@ -36,23 +37,23 @@ fn number_argument(rt: &impl Env, i: usize) -> Option<u64> {
     arg(rt, i, &mut [0; DIGITS]).and_then(decimal_of)
 }
 
-fn ending_name(ending: u8) -> &'static str {
+fn ending_name(ending: Ending) -> &'static str {
     match ending {
-        1 => "returned",
-        2 => "no answer left",
-        _ => "budget spent",
+        Ending::Returned => "returned",
+        Ending::NoAnswer => "no answer left",
+        Ending::BudgetSpent => "budget spent",
     }
 }
 
-fn answer(rt: &impl Print, outcome: Outcome, events: &[u8]) -> io::Result<()> {
+fn answer(rt: &impl Print, outcome: Result<Ran, Question>, events: &[u8]) -> io::Result<()> {
     match outcome {
-        Outcome::Finished(ending, steps, used, written) => {
-            println!(rt; "ending: {ending} ({})", ending_name(ending))?;
-            println!(rt; "steps: {steps}")?;
-            println!(rt; "answers used: {used}")?;
-            println!(rt; "events: {}", Hex(&events[..written.min(events.len())]))
+        Ok(ran) => {
+            println!(rt; "ending: {} ({})", ran.ending.number(), ending_name(ran.ending))?;
+            println!(rt; "steps: {}", ran.steps)?;
+            println!(rt; "answers used: {}", ran.used)?;
+            println!(rt; "events: {}", Hex(&events[..ran.written.min(events.len())]))
         }
-        Outcome::Refused(q) => println!(rt; "refused {q}"),
+        Err(question) => println!(rt; "refused {question}"),
     }
 }
 

@@ -1,8 +1,9 @@
 // The run of each case of tests/vectors/runs.txt. The event buffer is a part of a longer one, and each has its pattern before the call.
 #![tactic(auto)]
 
+use questions::Question;
 use report::Hex;
-use run::Outcome;
+use run::Ran;
 use std::io;
 use std::io::Read;
 use vectors::Lines;
@@ -37,17 +38,20 @@ fn is_kept(events: &[u8], from: usize) -> bool {
 }
 
 // The answer, and `touched` where the events after those that it counts have changed.
-fn answer(rt: &impl Print, outcome: Outcome, events: &[u8]) -> io::Result<()> {
+fn answer(rt: &impl Print, outcome: Result<Ran, Question>, events: &[u8]) -> io::Result<()> {
     let count = match outcome {
-        Outcome::Finished(ending, steps, used, written) => {
+        Ok(ran) => {
             print!(rt;
-                "{ending} {steps} {used} {}",
-                Hex(&events[..written.min(events.len())])
+                "{} {} {} {}",
+                ran.ending.number(),
+                ran.steps,
+                ran.used,
+                Hex(&events[..ran.written.min(events.len())])
             )?;
-            written
+            ran.written
         }
-        Outcome::Refused(q) => {
-            print!(rt; "refused {q}")?;
+        Err(question) => {
+            print!(rt; "refused {question}")?;
             0
         }
     };
