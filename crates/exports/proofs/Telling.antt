@@ -17,20 +17,18 @@ use Rattle.definitions.specs.Calls.{Counts, Running, fits_room, areas_fit, lower
 use Rattle.definitions.proofs.ReadFits.{module-short}
 use Rattle.definitions.specs.Reach.{sought, count_found, found_answer, buffer_after, Reaching, reach_call}
 use Rattle.tree.specs.Settled.{said, settled}
-use Rattle.std.specs.Prelude.{Result, Ok, Err}
+use Rattle.std.specs.Prelude.{Result, Ok, Err, Some, None}
+use Rattle.std.specs.Prelude.{Option as Opt}
 use Rattle.questions.specs.declared.Question.{Question}
 use Rattle.questions.specs.Numbers.{number}
 use Rattle.lowering.specs.Lowered.{said as lowered, Lowers as Lowered'}
 use Rattle.reader.specs.View.{said as read_said, said_part, CodeAt, Known, Locates}
 use Rattle.reader.specs.declared.Part.{Part}
 use Rattle.tally.specs.Listed.{said as text_said, Printed}
-use Rattle.run.specs.Pass.{said as ran_said, Called}
-use Rattle.run.specs.declared.Outcome.{Outcome}
-use Rattle.run.specs.declared.Outcome.TheVariants.{Finished, Refused as NotRun}
+use Rattle.run.specs.Pass.{said as ran_said, Called, ending_number, counts as ran_counts}
+use Rattle.run.specs.declared.Ran.{Ran as RanSo}
 use Rattle.exports.specs.Told.{told, told_count, told_part, four_in, counts_in, Tellable, Lowers, Prints, Runs, told_found, Seeks}
 use Rattle.reach.specs.Reaching.{said as reach_said, Gives}
-use Rattle.reach.specs.declared.Reached.{Reached}
-use Rattle.reach.specs.declared.Reached.TheVariants.{Answers, Nowhere, Refused as NotSought}
 
 -- ---- a tree
 
@@ -149,17 +147,19 @@ pub four-all : (a b c d : ℕ) (xs : List ℕ) → 4 ≤ length xs → set (set 
 unfolding four_in
 four-all a b c d xs h = rw (le-leb 4 (length xs) h, four_in)
 
-pub runs-yes : (r : Outcome) (want : Running) (left numbers numbers' : List ℕ) (e s u b : ℕ) → Called r want left → r ≡ Finished e s u b → numbers' ≡ four_in e s u b numbers → Runs 0 want left numbers numbers'
+pub runs-yes : (r : Result RanSo Question) (want : Running) (left numbers numbers' : List ℕ) (n : RanSo) → Called r want left → r ≡ Ok n → {e : ℕ} → e ≡ ending_number n.ending
+    → numbers' ≡ four_in e n.steps n.used n.written numbers → Runs 0 want left numbers numbers'
 unfolding ran_said told counts_in
-runs-yes r want left numbers numbers' e s u b C f n =
-    let k : accepted (record { ending = e; steps = s; used = u; bytes = b }) ≡ want.answer = sym (ap ran_said f) ∙ C.says in
-    record { answer = ap told k; buffer = C.leaves; counts = n ∙ ap (λ (a : Answer Counts). counts_in a numbers) k }
+runs-yes r want left numbers numbers' n C f g h =
+    let k : accepted (ran_counts n) ≡ want.answer = sym (ap ran_said f) ∙ C.says in
+    record { answer = ap told k; buffer = C.leaves; counts = h ∙ ap (λ (x : ℕ). four_in x n.steps n.used n.written numbers) g ∙ ap (λ (a : Answer Counts). counts_in a numbers) k }
 
-pub runs-no : (r : Outcome) (want : Running) (left numbers numbers' : List ℕ) (q : ℕ) → Called r want left → r ≡ NotRun q → numbers' ≡ four_in 0 0 0 0 numbers → Runs q want left numbers numbers'
+pub runs-no : (r : Result RanSo Question) (want : Running) (left numbers numbers' : List ℕ) (q : Question) → Called r want left → r ≡ Err q → {a : ℕ} → a ≡ number q
+    → numbers' ≡ four_in 0 0 0 0 numbers → Runs a want left numbers numbers'
 unfolding ran_said told counts_in
-runs-no r want left numbers numbers' q C f n =
-    let k : refused q ≡ want.answer = sym (ap ran_said f) ∙ C.says in
-    record { answer = ap told k; buffer = C.leaves; counts = n ∙ ap (λ (a : Answer Counts). counts_in a numbers) k }
+runs-no r want left numbers numbers' q C f g n =
+    let k : refused (number q) ≡ want.answer = sym (ap ran_said f) ∙ C.says in
+    record { answer = g ∙ ap told k; buffer = C.leaves; counts = n ∙ ap (λ (a : Answer Counts). counts_in a numbers) k }
 
 -- ---- a place
 
@@ -171,8 +171,8 @@ found-fits (accepted code) none n out out' e f l = let z : ◌≡◌ {A = ℕ} 0
 found-fits (accepted code) (some ys) n out out' e f l =
     let x : n ≡ length ys = cc in let y = ap length f ∙ length-append ys (drop (length ys) out) in omega arith
 
-module _ (r : Reached) {bytes : List ℕ} {function place : ℕ} {area area' out out' : List ℕ} (R : Gives r bytes function place area area' out out') where
-  pub reached-fits : (n : ℕ) → r ≡ Answers n → length out' ≡ length out → n ≤ length out
+module _ (r : Result (Opt ℕ) Question) {bytes : List ℕ} {function place : ℕ} {area area' out out' : List ℕ} (R : Gives r bytes function place area area' out out') where
+  pub reached-fits : (n : ℕ) → r ≡ Ok (Some n) → length out' ≡ length out → n ≤ length out
   unfolding reach_said reach_call
   reached-fits n e l =
       found-fits (sought (length area) bytes function place (length out)) R.found n out out' (sym (ap reach_said e) ∙ ap (λ (x : Reaching). x.answer) R.is) (ap (λ (x : Reaching). x.buffer) R.is) l
@@ -180,14 +180,14 @@ module _ (r : Reached) {bytes : List ℕ} {function place : ℕ} {area area' out
   seeks-as : (m : ℕ) → m ≡ told_found (reach_said r) → Seeks m bytes function place area area' out out'
   seeks-as m e = record { given = record { answer = reach_said r; area = area'; buffer = out' }; call = R; answer = e; left = refl; buffer = refl }
 
-  pub reached-list : (n : ℕ) → r ≡ Answers n → Seeks (4294967296 + n) bytes function place area area' out out'
+  pub reached-list : (n : ℕ) → r ≡ Ok (Some n) → Seeks (4294967296 + n) bytes function place area area' out out'
   unfolding reach_said told_found
-  reached-list n e = seeks-as (4294967296 + n) (ap (λ (x : Reached). told_found (reach_said x)) (sym e))
+  reached-list n e = seeks-as (4294967296 + n) (ap (λ (x : Result (Opt ℕ) Question). told_found (reach_said x)) (sym e))
 
-  pub reached-none : r ≡ Nowhere → Seeks 8589934592 bytes function place area area' out out'
+  pub reached-none : r ≡ Ok None → Seeks 8589934592 bytes function place area area' out out'
   unfolding reach_said told_found
-  reached-none e = seeks-as 8589934592 (ap (λ (x : Reached). told_found (reach_said x)) (sym e))
+  reached-none e = seeks-as 8589934592 (ap (λ (x : Result (Opt ℕ) Question). told_found (reach_said x)) (sym e))
 
-  pub reached-not : (q : ℕ) → r ≡ NotSought q → Seeks q bytes function place area area' out out'
+  pub reached-not : (q : Question) → r ≡ Err q → {a : ℕ} → a ≡ number q → Seeks a bytes function place area area' out out'
   unfolding reach_said told_found
-  reached-not q e = seeks-as q (ap (λ (x : Reached). told_found (reach_said x)) (sym e))
+  reached-not q e {a} f = seeks-as a (f ∙ ap (λ (x : Result (Opt ℕ) Question). told_found (reach_said x)) (sym e))

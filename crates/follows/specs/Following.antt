@@ -6,12 +6,12 @@ use Rattle.definitions.specs.Module.{Limits}
 use Rattle.definitions.specs.Walk.{Walked, ending_number}
 use Rattle.definitions.specs.Calls.{written, are_answers, lower_call, Counts, run_call, walk_tree}
 use Rattle.definitions.specs.Statements.{instructions_in}
-use Rattle.run.specs.Pass.{said as ran_said}
-use Rattle.run.specs.declared.Outcome.{Outcome}
-use Rattle.run.specs.declared.Outcome.TheVariants.{Finished, Refused as NotRun}
+use Rattle.run.specs.Pass.{said as ran_said, ending_number as number_of_ending}
+use Rattle.run.specs.declared.Ran.{Ran as RanSo}
 use Rattle.follows.specs.Thereafter.{Thereafter, thereafter, left_after}
 use Rattle.follows.specs.declared.Followed.{Followed}
 use Rattle.questions.specs.declared.Question.{Question}
+use Rattle.questions.specs.declared.Question.TheVariants.{Function, EventRoom}
 use Rattle.questions.specs.Numbers.{number}
 
 -- ---- the call
@@ -51,19 +51,20 @@ pub record FollowsAs (r : Result Followed Question) (area₁' area₂' bytes' ev
 -- ---- the walk
 
 -- The run ended as the walk does, by a return (1) or for want of an answer (2), after as many answers; its events, from the buffer's start, are the walk's
-pub record SameAsWalk (o : Outcome) (w : Walked) (answers events events' : List ℕ) : Type 0 where
-  pub steps : ℕ
-  pub used : ℕ
-  pub says : o ≡ Finished (ending_number w.ending) steps used (length w.events)
+pub record SameAsWalk (o : Result RanSo Question) (w : Walked) (answers events events' : List ℕ) : Type 0 where
+  pub ran : RanSo
+  pub says : o ≡ Ok ran
+  pub ending : number_of_ending ran.ending ≡ ending_number w.ending
+  pub bytes : ran.written ≡ length w.events
   pub ends : (1 ≤ ending_number w.ending) × (ending_number w.ending ≤ 2)
-  pub uses : used + length w.left ≡ length answers
+  pub uses : ran.used + length w.left ≡ length answers
   pub leaves : events' ≡ written w.events events
 
 -- How the run went, by what the walk gives: no such function, refusal 22; events that fit the buffer, the same as the walk; events that do not, refusal 24
-unfoldable pub AsWalked : Outcome → Option Walked → List ℕ → List ℕ → List ℕ → Type 0
-AsWalked o none answers events events' = (o ≡ NotRun 22) × (events' ≡ events)
+unfoldable pub AsWalked : Result RanSo Question → Option Walked → List ℕ → List ℕ → List ℕ → Type 0
+AsWalked o none answers events events' = (o ≡ Err Function) × (events' ≡ events)
 AsWalked o (some w) answers events events' =
-    (length w.events ≤ length events → SameAsWalk o w answers events events') × (length events < length w.events → (o ≡ NotRun 24) × (events' ≡ events))
+    (length w.events ≤ length events → SameAsWalk o w answers events events') × (length events < length w.events → (o ≡ Err EventRoom) × (events' ≡ events))
 
 -- The answer and all that is left are those of `follow_call`. And of every accepted tree, on answers that are 0 or 1, with a budget of at least
 -- (answers + 1) × the function's instructions, the run goes as the walk of the tree's function does

@@ -11,7 +11,7 @@ use limits::Limits;
 use lowering::lower;
 use questions::Question;
 use reader::{Sections, read_module};
-use run::{Outcome, run};
+use run::{Ran, run};
 
 // How many bytes of the output are the module, and what the reader says of them.
 #[derive(Clone, Copy)]
@@ -24,7 +24,7 @@ pub struct Reread {
 #[derive(Clone, Copy)]
 pub struct Followed {
     pub written: usize,
-    pub outcome: Outcome,
+    pub outcome: Result<Ran, Question>,
 }
 
 // What the two sets of limits give.
