@@ -48,7 +48,11 @@ fn ending_name(ending: Ending) -> &'static str {
 fn answer(rt: &impl Print, outcome: Result<Ran, Question>, events: &[u8]) -> io::Result<()> {
     match outcome {
         Ok(ran) => {
-            println!(rt; "ending: {} ({})", ran.ending.number(), ending_name(ran.ending))?;
+            println!(rt;
+                "ending: {} ({})",
+                ran.ending.number(),
+                ending_name(ran.ending)
+            )?;
             println!(rt; "steps: {}", ran.steps)?;
             println!(rt; "answers used: {}", ran.used)?;
             println!(rt; "events: {}", Hex(&events[..ran.written.min(events.len())]))
