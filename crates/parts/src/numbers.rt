@@ -7,5 +7,5 @@ pub fn u16_at(tree: &[u8], at: usize) -> u32
     requires { Counted tree.now at }
     ensures { (result ≡ count_at tree.now at) × (result < 65536) }
 {
-    (tree[at] as u32) * 256 + tree[at + 1] as u32
+    u32::from(u16::from_be_bytes([tree[at], tree[at + 1]]))
 }

@@ -10,6 +10,9 @@ use crate::names::name_part;
 use crate::numbers::u16_at;
 use questions::Question;
 
+// How many names or arguments a list may have (13).
+pub const LIST_MOST: u32 = 255;
+
 // 12: whether a method of this name may have so many parameters.
 fn may_have(name: &[u8], n: u32) -> bool
     ensures { result ≡ (not (same name.now init) || ltb 0 n) }
@@ -40,7 +43,7 @@ impl<'a> Checker<'a> {
         self.names(n)?;
         let distinct = distinct_names(self.tree, from, n);
         self.note(BlockQuestion::Parameters, distinct);
-        self.note(BlockQuestion::ListLengths, n <= 255);
+        self.note(BlockQuestion::ListLengths, n <= LIST_MOST);
         Ok(())
     }
 
