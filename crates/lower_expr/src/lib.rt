@@ -29,7 +29,6 @@ use numerals::sizes::SLOTS_ROOM;
 use opcodes::{binary_code, build_code, held, unary_code};
 use parts::names::name_end;
 use parts::numbers::u16_at;
-use slots::Locals;
 use slots::captures::lambda_slots;
 use slots::skip::skip_params;
 use state::Scope;
@@ -255,9 +254,7 @@ fn emit_lambda(s: Scope<'_>, e: &mut Emitter<'_>, at: usize, depth: u32) -> Opti
     let mut places = [0u32; SLOTS_ROOM];
     let arity = u16_at(s.tree, at);
     let body = skip_params(s.tree, at);
-    let Locals::Count(n) = lambda_slots(s.tree, at, body, depth, s.slots, &mut places) else {
-        return None;
-    };
+    let n = lambda_slots(s.tree, at, body, depth, s.slots, &mut places)?;
     let inner = Scope {
         tree: s.tree,
         slots: &places[..SLOTS_FROM + n as usize],

@@ -29,6 +29,7 @@ use Rattle.state.proofs.Within.{within-down, within-function, function-slots}
 use Rattle.state.proofs.Answers.{paced-more}
 use Rattle.lower_emit.specs.Nesting.{begun_with, body_of, Moved, Begins}
 use Rattle.slots.specs.declared.collect.Framed.{Framed}
+use Rattle.std.specs.Prelude.{Option}
 use Rattle.slots.specs.Slotted.{first_names, Indexed, Framing, Frames}
 use Rattle.slots.proofs.Adding.{first-length, part-before, front-names, front-slots}
 use Rattle.lower_forms.specs.Lowering.{Sole, frame_at, end_of, function_code}
@@ -76,7 +77,7 @@ compiles-as r t made code tables c l n want want' e h = subst (Compiles r t made
 pub names-length : (t ps : List ℕ) (n : ℕ) (want : List Name) → slots_from + n ≤ length ps → first_names t n ps ≡ want → n ≡ length want
 names-length t ps n want h e = sym (ap length (sym e) ∙ first-length t n ps h)
 
-pub framed_at : {r : Framed} {t ps : List ℕ} {params block : ℕ} (d at : ℕ) → params ≡ name_end t at → block ≡ (params_at t (name_end t at)).end
+pub framed_at : {r : Option Framed} {t ps : List ℕ} {params block : ℕ} (d at : ℕ) → params ≡ name_end t at → block ≡ (params_at t (name_end t at)).end
     → Frames r t ps (with_loops (params_at t params).value (block_at d t block).value) → Frames r t ps (frame_at d t at)
 framed_at {r} {t} {ps} d at e f h = subst (Frames r t ps) (λ j. with_loops (params_at t (e j)).value (block_at d t (f j)).value) h
 

@@ -32,7 +32,7 @@ use numerals::sizes::SLOTS_ROOM;
 use numerals::stmt;
 use parts::names::name_end;
 use parts::numbers::u16_at;
-use slots::collect::{Framed, collect_locals};
+use slots::collect::collect_locals;
 use slots::skip::{skip_params, skip_stmt};
 use state::Scope;
 
@@ -289,16 +289,14 @@ fn compile_function(
     let params = name_end(tree, at);
     let arity = u16_at(tree, params);
     let block = skip_params(tree, params);
-    let Framed::Slots(n, locals) = collect_locals(tree, params, block, depth, &mut slots) else {
-        return None;
-    };
+    let frame = collect_locals(tree, params, block, depth, &mut slots)?;
     let base = e.code.base;
-    let f = begin_named(tree, e, at, arity, locals)?;
+    let f = begin_named(tree, e, at, arity, frame.locals)?;
     let s = Scope {
         tree,
-        slots: &slots[..SLOTS_FROM + n as usize],
+        slots: &slots[..SLOTS_FROM + frame.named as usize],
     };
-    let next = emit_body(s, e, block, depth, init, n)?;
+    let next = emit_body(s, e, block, depth, init, frame.named)?;
     e.end_function(f, base);
     Some(next)
 }

@@ -17,16 +17,10 @@ use fits::statements::check_slots;
 use limits::{Limits, limit_numbers};
 use module::{module_size, write_module};
 use numerals::sizes::{AREA, COUNTS, LIMITS, MADE_ROOM};
-use tree::{Checked, check_tree};
+use questions::Question;
+use tree::check_tree;
 
-// How many bytes of the output are the module; or the number of the first question answered no.
-#[derive(Clone, Copy)]
-pub enum Lowered {
-    Wrote(usize),
-    Refused(u32),
-}
-
-// Question 16: the module of the tables where the output has room for it.
+// Question 16: the module of the tables where the output has room for it; how many bytes of the output it is.
 fn write_tables<'a>(
     tree: &'a [u8],
     made: &'a [u8; MADE_ROOM],
@@ -34,17 +28,17 @@ fn write_tables<'a>(
     tables: &[u32],
     k: &[u32; COUNTS],
     out: &mut [u8],
-) -> Lowered
+) -> Result<usize, Question>
     requires { Roomy code.now tables.now (counts_of k.now) }
     ensures { Answers result (fits_room (length out.old) (module_bytes (tables_of tree.now made.now code.now tables.now (counts_of k.now)))) out.old out.new }
 {
     let c = counts(k);
     let size = module_size(tree, made, code, tables, c);
     if out.len() < size {
-        return Lowered::Refused(16);
+        return Err(Question::ModuleRoom);
     }
     let n = write_module(tree, made, code, tables, c, size, out);
-    Lowered::Wrote(n)
+    Ok(n)
 }
 
 // Questions 14 to 16, and the module; the slices keep what was worked out. A tree that is lowered has at most 255 slots a function, so question 14
@@ -55,7 +49,7 @@ fn lower_checked(
     tables: &mut [u32],
     out: &mut [u8],
     l: &[u32; LIMITS],
-) -> Lowered
+) -> Result<usize, Question>
     requires { (16384 ≤ length code.old) × (16384 ≤ length tables.old) × Limited (limits_in l.now) × TreeAt tree.now }
     ensures { Answers result (lower_answer (limits_of (limits_in l.now)) (length code.old) (length tables.old) (length out.old) tree.now) out.old out.new }
 {
@@ -64,9 +58,9 @@ fn lower_checked(
     let next = compile(tree, &mut made, code, tables, &mut k, l);
     if next == 0 {
         if check_slots(tree) {
-            return Lowered::Refused(15);
+            return Err(Question::Limits);
         }
-        return Lowered::Refused(14);
+        return Err(Question::Slots);
     }
     write_tables(tree, &made, code, tables, &k, out)
 }
@@ -78,14 +72,11 @@ fn lower_into(
     tables: &mut [u32],
     out: &mut [u8],
     l: &[u32; LIMITS],
-) -> Lowered
+) -> Result<usize, Question>
     requires { (16384 ≤ length code.old) × (16384 ≤ length tables.old) × Limited (limits_in l.now) }
     ensures { Answers result (lower_answer (limits_of (limits_in l.now)) (length code.old) (length tables.old) (length out.old) tree.now) out.old out.new }
 {
-    let checked = check_tree(tree);
-    if let Checked::Refused(q) = checked {
-        return Lowered::Refused(q);
-    }
+    check_tree(tree)?;
     lower_checked(tree, code, tables, out, l)
 }
 
@@ -97,14 +88,14 @@ pub fn lower(
     area1: &mut [u32],
     area2: &mut [u32],
     out: &mut [u8],
-) -> Lowered
+) -> Result<usize, Question>
     ensures { Lowers result area1.new area2.new out.new (lower_call (limits_for limits) tree.now area1.old area2.old out.old) }
 {
     if area1.len() < AREA {
-        return Lowered::Refused(1);
+        return Err(Question::WorkAreas);
     }
     if area2.len() < AREA {
-        return Lowered::Refused(1);
+        return Err(Question::WorkAreas);
     }
     let l = limit_numbers(limits);
     let r = lower_into(tree, area1, area2, out, &l);

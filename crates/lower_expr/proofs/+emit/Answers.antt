@@ -786,20 +786,20 @@ pub emit_lambda-returns-in_default : goal.emit_lambda-returns-in_default
 emit_lambda-returns-in_default t c = lowers-full c.requires.0.numbers (lambda-over _ _ _ _ _ _ _ _ _ _ _ _ _ _ c.requires.0.ready.sound c.skip_params-body.ensures (collected-over _ _ _ _ c.in_default.is c.lambda_slots-all.ensures))
 
 pub emit_lambda-overflow_cast-end : goal.emit_lambda-overflow_cast-end
-emit_lambda-overflow_cast-end t c = let w = c.lambda_slots-all.auto.slots in let q = collected-count _ _ _ _ _ c.in-Count.is c.lambda_slots-all.ensures w in omega (arith, q.0, w)
+emit_lambda-overflow_cast-end t c = let w = c.lambda_slots-all.auto.slots in let q = collected-count _ _ _ _ _ c.in-Some.is c.lambda_slots-all.ensures w in omega (arith, q.0, w)
 
 pub emit_lambda-overflow_add-end : goal.emit_lambda-overflow_add-end
-emit_lambda-overflow_add-end t c = let w = c.lambda_slots-all.auto.slots in let q = collected-count _ _ _ _ _ c.in-Count.is c.lambda_slots-all.ensures w in omega (arith, q.0, w)
+emit_lambda-overflow_add-end t c = let w = c.lambda_slots-all.auto.slots in let q = collected-count _ _ _ _ _ c.in-Some.is c.lambda_slots-all.ensures w in omega (arith, q.0, w)
 
 pub emit_lambda-slice_bounds-places-end : goal.emit_lambda-slice_bounds-places-end
-emit_lambda-slice_bounds-places-end t c = let w = c.lambda_slots-all.auto.slots in let q = collected-count _ _ _ _ _ c.in-Count.is c.lambda_slots-all.ensures w in omega (arith, q.0, w)
+emit_lambda-slice_bounds-places-end t c = let w = c.lambda_slots-all.auto.slots in let q = collected-count _ _ _ _ _ c.in-Some.is c.lambda_slots-all.ensures w in omega (arith, q.0, w)
 
 pub emit_lambda-slice_bounds-emit_closure-end : goal.emit_lambda-slice_bounds-emit_closure-end
-emit_lambda-slice_bounds-emit_closure-end t c = let w = c.lambda_slots-all.auto.slots in let q = collected-count _ _ _ _ _ c.in-Count.is c.lambda_slots-all.ensures w in sym (length-take-le _ _ (omega (arith, q.0, w)))
+emit_lambda-slice_bounds-emit_closure-end t c = let w = c.lambda_slots-all.auto.slots in let q = collected-count _ _ _ _ _ c.in-Some.is c.lambda_slots-all.ensures w in sym (length-take-le _ _ (omega (arith, q.0, w)))
 
 pub emit_lambda-emit_closure-requires : goal.emit_lambda-emit_closure-requires
 emit_lambda-emit_closure-requires t c =
-    let w = c.lambda_slots-all.auto.slots in let q = collected-count _ _ _ _ _ c.in-Count.is c.lambda_slots-all.ensures w in
+    let w = c.lambda_slots-all.auto.slots in let q = collected-count _ _ _ _ _ c.in-Some.is c.lambda_slots-all.ensures w in
     let v = lambda-ready _ _ _ _ c.requires.1 _ _ _ c.u16_at-arity.ensures.0 c.skip_params-body.ensures q.1 (slots-few _ _ q.2) in
     (omega (arith, c.decreases), (c.requires.0, v.0, v.1, q.2))
 
@@ -811,7 +811,7 @@ emit_lambda-shape_of-tables t c = c.emit_closure.auto.tables
 
 pub emit_lambda-returns : goal.emit_lambda-returns
 emit_lambda-returns t c =
-    let w = c.lambda_slots-all.auto.slots in let q = collected-count _ _ _ _ _ c.in-Count.is c.lambda_slots-all.ensures w in
+    let w = c.lambda_slots-all.auto.slots in let q = collected-count _ _ _ _ _ c.in-Some.is c.lambda_slots-all.ensures w in
     record { emits = lambda-lowers _ _ _ _ c.requires.1 _ _ _ c.u16_at-arity.ensures.0 c.skip_params-body.ensures q.1 _ _ _ _ _ _ _ _ _ c.emit_closure.ensures.emits; numbers = c.emit_closure.ensures.numbers }
 
 -- ---- emit_closure

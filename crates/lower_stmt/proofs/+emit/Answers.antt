@@ -843,7 +843,7 @@ compile_function-returns-in_default t c =
 pub compile_function-begin_named-f-requires : goal.compile_function-begin_named-f-requires
 compile_function-begin_named-f-requires t c =
     let e = c.name_end-params.ensures in let pb = c.skip_params-block.ensures ∙ ap (λ (x : ℕ). (params_at c.args.tree.now x).end) e in
-    let ca = framed_at _ _ e pb c.collect_locals-collected.ensures in let cc = ca.framing _ _ c.in-Slots.is in
+    let ca = framed_at _ _ e pb c.collect_locals-collected.ensures in let cc = ca.framing _ c.in-Some.is in
     let ea = c.u16_at-arity.ensures.0 ∙ ap (count_at c.args.tree.now) e ∙ sym (params-count c.args.tree.now (name_end c.args.tree.now c.args.at)) in (
       naming-sound (sound-sole c.requires.0),
       functions-sound (sound-sole c.requires.0),
@@ -858,7 +858,7 @@ compile_function-shape_of-tables-then-f-ge-OVER t c = c.begin_named-f.auto.table
 pub compile_function-returns-then-f-ge-OVER : goal.compile_function-returns-then-f-ge-OVER
 compile_function-returns-then-f-ge-OVER t c =
     let e = c.name_end-params.ensures in let pb = c.skip_params-block.ensures ∙ ap (λ (x : ℕ). (params_at c.args.tree.now x).end) e in
-    let ca = framed_at _ _ e pb c.collect_locals-collected.ensures in let cc = ca.framing _ _ c.in-Slots.is in
+    let ca = framed_at _ _ e pb c.collect_locals-collected.ensures in let cc = ca.framing _ c.in-Some.is in
     let ea = c.u16_at-arity.ensures.0 ∙ ap (count_at c.args.tree.now) e ∙ sym (params-count c.args.tree.now (name_end c.args.tree.now c.args.at)) in
     let en = cc.locals in function-over c.args.depth c.args.init (sound-sole c.requires.0) ea en c.begin_named-f.ensures c.if-f-ge-OVER.true
 
@@ -866,24 +866,24 @@ pub compile_function-overflow_cast-end : goal.compile_function-overflow_cast-end
 compile_function-overflow_cast-end t c =
     let e = c.name_end-params.ensures in let pb = c.skip_params-block.ensures ∙ ap (λ (x : ℕ). (params_at c.args.tree.now x).end) e in
     let ca = framed_at _ _ e pb c.collect_locals-collected.ensures in
-    let cc = ca.framing _ _ c.in-Slots.is in omega (arith, cc.named, cc.few)
+    let cc = ca.framing _ c.in-Some.is in omega (arith, cc.named, cc.few)
 
 pub compile_function-overflow_add-end : goal.compile_function-overflow_add-end
 compile_function-overflow_add-end t c =
     let e = c.name_end-params.ensures in let pb = c.skip_params-block.ensures ∙ ap (λ (x : ℕ). (params_at c.args.tree.now x).end) e in
     let ca = framed_at _ _ e pb c.collect_locals-collected.ensures in
-    let cc = ca.framing _ _ c.in-Slots.is in omega (arith, cc.named, cc.few)
+    let cc = ca.framing _ c.in-Some.is in omega (arith, cc.named, cc.few)
 
 pub compile_function-slice_bounds-emit_body-end : goal.compile_function-slice_bounds-emit_body-end
 compile_function-slice_bounds-emit_body-end t c =
     let e = c.name_end-params.ensures in let pb = c.skip_params-block.ensures ∙ ap (λ (x : ℕ). (params_at c.args.tree.now x).end) e in
     let ca = framed_at _ _ e pb c.collect_locals-collected.ensures in
-    let cc = ca.framing _ _ c.in-Slots.is in omega (arith, cc.named, cc.few, c.collect_locals-collected.auto.slots)
+    let cc = ca.framing _ c.in-Some.is in omega (arith, cc.named, cc.few, c.collect_locals-collected.auto.slots)
 
 pub compile_function-emit_body-next-requires : goal.compile_function-emit_body-next-requires
 compile_function-emit_body-next-requires t c =
     let e = c.name_end-params.ensures in let pb = c.skip_params-block.ensures ∙ ap (λ (x : ℕ). (params_at c.args.tree.now x).end) e in
-    let ca = framed_at _ _ e pb c.collect_locals-collected.ensures in let cc = ca.framing _ _ c.in-Slots.is in
+    let ca = framed_at _ _ e pb c.collect_locals-collected.ensures in let cc = ca.framing _ c.in-Some.is in
     let ea = c.u16_at-arity.ensures.0 ∙ ap (count_at c.args.tree.now) e ∙ sym (params-count c.args.tree.now (name_end c.args.tree.now c.args.at)) in
     let en = cc.locals in (
       omega (arith, c.decreases),
@@ -908,7 +908,7 @@ compile_function-shape_of-tables-then-next-eq0 t c = c.emit_body-next.auto.table
 pub compile_function-returns-then-next-eq0 : goal.compile_function-returns-then-next-eq0
 compile_function-returns-then-next-eq0 t c =
     let e = c.name_end-params.ensures in let pb = c.skip_params-block.ensures ∙ ap (λ (x : ℕ). (params_at c.args.tree.now x).end) e in
-    let ca = framed_at _ _ e pb c.collect_locals-collected.ensures in let cc = ca.framing _ _ c.in-Slots.is in
+    let ca = framed_at _ _ e pb c.collect_locals-collected.ensures in let cc = ca.framing _ c.in-Some.is in
     let ea = c.u16_at-arity.ensures.0 ∙ ap (count_at c.args.tree.now) e ∙ sym (params-count c.args.tree.now (name_end c.args.tree.now c.args.at)) in
     let en = cc.locals in let b = body-by c.args.depth c.args.tree.now _ _ (end_of c.args.init) _ _ pb c.emit_body-next.ensures in
     let nm = part-names _ _ _ _ cc.names (omega (arith, cc.named, cc.few, c.collect_locals-collected.auto.slots)) in
@@ -918,7 +918,7 @@ compile_function-returns-then-next-eq0 t c =
 pub compile_function-end_function-requires : goal.compile_function-end_function-requires
 compile_function-end_function-requires t c =
     let e = c.name_end-params.ensures in let pb = c.skip_params-block.ensures ∙ ap (λ (x : ℕ). (params_at c.args.tree.now x).end) e in
-    let ca = framed_at _ _ e pb c.collect_locals-collected.ensures in let cc = ca.framing _ _ c.in-Slots.is in
+    let ca = framed_at _ _ e pb c.collect_locals-collected.ensures in let cc = ca.framing _ c.in-Some.is in
     let ea = c.u16_at-arity.ensures.0 ∙ ap (count_at c.args.tree.now) e ∙ sym (params-count c.args.tree.now (name_end c.args.tree.now c.args.at)) in
     let en = cc.locals in let b = body-by c.args.depth c.args.tree.now _ _ (end_of c.args.init) _ _ pb c.emit_body-next.ensures in
     let nm = part-names _ _ _ _ cc.names (omega (arith, cc.named, cc.few, c.collect_locals-collected.auto.slots)) in
@@ -936,7 +936,7 @@ compile_function-shape_of-tables t c = c.end_function.auto.tables ∙ c.emit_bod
 pub compile_function-returns : goal.compile_function-returns
 compile_function-returns t c =
     let e = c.name_end-params.ensures in let pb = c.skip_params-block.ensures ∙ ap (λ (x : ℕ). (params_at c.args.tree.now x).end) e in
-    let ca = framed_at _ _ e pb c.collect_locals-collected.ensures in let cc = ca.framing _ _ c.in-Slots.is in
+    let ca = framed_at _ _ e pb c.collect_locals-collected.ensures in let cc = ca.framing _ c.in-Some.is in
     let ea = c.u16_at-arity.ensures.0 ∙ ap (count_at c.args.tree.now) e ∙ sym (params-count c.args.tree.now (name_end c.args.tree.now c.args.at)) in
     let en = cc.locals in let b = body-by c.args.depth c.args.tree.now _ _ (end_of c.args.init) _ _ pb c.emit_body-next.ensures in
     let nm = part-names _ _ _ _ cc.names (omega (arith, cc.named, cc.few, c.collect_locals-collected.auto.slots)) in
