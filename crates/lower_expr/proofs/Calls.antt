@@ -16,12 +16,14 @@ use Rattle.exprs.specs.ExprAt.{expr_at, list_at, ExprReads, binary_of, int_at, f
 use Rattle.exprs.proofs.ExprViews.{expr-known, view-none, view-false, view-true, view-int, view-float, view-string, view-unary, view-binary, view-call, view-list, view-dict}
 use Rattle.exprs.proofs.ExprViews.{view-tuple, view-set, view-tree-set, view-index, view-lambda, unary-of, binary-of, and-of, or-of}
 use Rattle.state.specs.Words.{name_at}
-use Rattle.state.specs.State.{State, state_of, emit_at, Sound}
-use Rattle.state.specs.declared.Counts.{Counts}
-use Rattle.state.specs.declared.Limits.{Limits}
+use Rattle.state.specs.State.{State, emit_at}
 use Rattle.state.proofs.Views.{function-count}
 use Rattle.state.specs.Steps.{is_computed}
 use Rattle.lower_forms.specs.Lowerable.{expr_code, exprs_code, CallLowerable, NamedLowerable, load_callee, call_instr, Short}
+use Rattle.lower_emit.specs.declared.emitter.Emitter.{Emitter}
+use Rattle.lower_emit.specs.Emitting.{counts_of, limits_in, state_in, SoundIn}
+use Rattle.lower_names.specs.declared.Callee.TheVariants.{Value}
+use Rattle.lower_names.specs.Naming.{callee_of}
 use Rattle.lower_forms.proofs.ExprArms.{exprs-count}
 use Rattle.lower_forms.proofs.CallForms.{call_expr, named-args}
 
@@ -92,7 +94,7 @@ module _ (d : ℕ) (t : List ℕ) (p : ℕ) (r : ExprReads d t p) where
 
 module _ (d : ℕ) (t : List ℕ) (p : ℕ) (r : CallLowerable d t p) where
   pub call-value : (names : List Name) → (get_or t p 0 ≡ 6 → ⊥) → (get_or t p 0 ≡ 10 → ⊥) → emit_expr names (call_expr d t p)
-      ≡ expr_code d t names p ⨟ exprs_code d (count_at t (expr_at d t p).end) t names ((expr_at d t p).end + 2) ⨟ one (call_instr (value_callee) (count_at t (expr_at d t p).end))
+      ≡ expr_code d t names p ⨟ exprs_code d (count_at t (expr_at d t p).end) t names ((expr_at d t p).end + 2) ⨟ one (call_instr value_callee (count_at t (expr_at d t p).end))
   unfolding emit_expr
   call-value names a b =
       let q = (expr_at d t p).end in
@@ -101,9 +103,15 @@ module _ (d : ℕ) (t : List ℕ) (p : ℕ) (r : CallLowerable d t p) where
 
 -- ---- numbers of callees are short
 
-pub value-short : Short (value_callee)
-unfolding Short
+pub value-callee : value_callee ≡ callee_of Value
+unfolding callee_of
+value-callee = refl
+
+pub value-short : Short (callee_of Value)
+unfolding callee_of Short
 value-short = tt
 
-pub functions-few : (t made code tables : List ℕ) (c : Counts) (l : Limits) → Sound t made code tables c l → length (state_of t made code tables c).tables.functions ≤ 256
-functions-few t made code tables c l s = omega (arith, function-count t made code tables c l s, s.functions, s.limited.functions)
+pub functions-few : (t : List ℕ) (e : Emitter) → SoundIn t e → length (state_in t e).tables.functions ≤ 256
+functions-few t e S =
+    let k = function-count t e.tables.made.now e.code.words.now e.tables.entries.now (counts_of e) (limits_in e) S.sound in
+    omega (arith, k, S.sound.functions, S.sound.limited.functions)

@@ -37,8 +37,8 @@ use state::Scope;
 #[cycle(emit)]
 pub fn emit_expr(s: Scope<'_>, e: &mut Emitter<'_>, at: usize, depth: u32) -> Option<usize>
     requires { SoundIn s.tree.now e.old × Lowerable depth s.tree.now at }
-    ensures { EmitsTo result (expr_code depth s.tree.now (slot_names s.tree.now s.slots.now) at) (expr_at depth s.tree.now at).end
-        s.tree.now e.old e.new }
+    ensures { let t = s.entry.tree.now in let names = slot_names t s.entry.slots.now in
+        EmitsTo result (expr_code depth t names at) (expr_at depth t at).end t e.old e.new }
 {
     let kind = s.tree[at];
     if kind < expr::VARIABLE {
@@ -64,8 +64,8 @@ pub fn emit_expr(s: Scope<'_>, e: &mut Emitter<'_>, at: usize, depth: u32) -> Op
 #[cycle(emit)]
 fn emit_exprs(s: Scope<'_>, e: &mut Emitter<'_>, at: usize, depth: u32, n: u32) -> Option<usize>
     requires { SoundIn s.tree.now e.old × LowerableMany depth n s.tree.now at }
-    ensures { EmitsTo result (exprs_code depth n s.tree.now (slot_names s.tree.now s.slots.now) at) (exprs_at depth n s.tree.now at).end
-        s.tree.now e.old e.new }
+    ensures { let t = s.entry.tree.now in let names = slot_names t s.entry.slots.now in
+        EmitsTo result (exprs_code depth n t names at) (exprs_at depth n t at).end t e.old e.new }
 {
     let mut left = n;
     let mut p = at;
@@ -86,8 +86,8 @@ fn emit_exprs(s: Scope<'_>, e: &mut Emitter<'_>, at: usize, depth: u32, n: u32) 
 #[cycle(emit)]
 fn emit_unary(s: Scope<'_>, e: &mut Emitter<'_>, at: usize, depth: u32) -> Option<usize>
     requires { SoundIn s.tree.now e.old × UnaryLowerable depth s.tree.now at }
-    ensures { EmitsTo result (expr_code depth s.tree.now (slot_names s.tree.now s.slots.now) (at + 1) ⨟ one (instr (unary_opcode (get_or s.tree.now at 0)) 0 0)) (expr_at depth s.tree.now (at + 1)).end
-        s.tree.now e.old e.new }
+    ensures { let t = s.entry.tree.now in let names = slot_names t s.entry.slots.now in
+        EmitsTo result (expr_code depth t names (at + 1) ⨟ one (instr (unary_opcode (get_or t at 0)) 0 0)) (expr_at depth t (at + 1)).end t e.old e.new }
 {
     let op = unary_code(s.tree[at]);
     let next = emit_expr(s, e, at + 1, depth)?;
@@ -99,9 +99,8 @@ fn emit_unary(s: Scope<'_>, e: &mut Emitter<'_>, at: usize, depth: u32) -> Optio
 #[cycle(emit)]
 fn emit_two(s: Scope<'_>, e: &mut Emitter<'_>, at: usize, depth: u32, op: u32) -> Option<usize>
     requires { SoundIn s.tree.now e.old × TwoLowerable depth s.tree.now at × Plain op 0 0 }
-    ensures { EmitsTo result (expr_code depth s.tree.now (slot_names s.tree.now s.slots.now) at ⨟ expr_code depth s.tree.now (slot_names s.tree.now s.slots.now) (expr_at depth s.tree.now at).end ⨟ one (instr op 0 0))
-        (second_at depth s.tree.now at).end
-        s.tree.now e.old e.new }
+    ensures { let t = s.entry.tree.now in let names = slot_names t s.entry.slots.now in
+        EmitsTo result (expr_code depth t names at ⨟ expr_code depth t names (expr_at depth t at).end ⨟ one (instr op 0 0)) (second_at depth t at).end t e.old e.new }
 {
     let middle = emit_expr(s, e, at, depth)?;
     let next = emit_expr(s, e, middle, depth)?;
@@ -113,9 +112,9 @@ fn emit_two(s: Scope<'_>, e: &mut Emitter<'_>, at: usize, depth: u32, op: u32) -
 #[cycle(emit)]
 fn emit_binary(s: Scope<'_>, e: &mut Emitter<'_>, at: usize, depth: u32) -> Option<usize>
     requires { SoundIn s.tree.now e.old × BinaryLowerable depth s.tree.now at }
-    ensures { EmitsTo result (emit_expr (slot_names s.tree.now s.slots.now) (binary_of (get_or s.tree.now at 0) (expr_at depth s.tree.now (at + 1)).value (second_at depth s.tree.now (at + 1)).value))
-        (second_at depth s.tree.now (at + 1)).end
-        s.tree.now e.old e.new }
+    ensures { let t = s.entry.tree.now in let names = slot_names t s.entry.slots.now in
+        EmitsTo result (emit_expr names (binary_of (get_or t at 0) (expr_at depth t (at + 1)).value (second_at depth t (at + 1)).value))
+        (second_at depth t (at + 1)).end t e.old e.new }
 {
     let operator = s.tree[at];
     if operator < expr::AND {
@@ -128,9 +127,8 @@ fn emit_binary(s: Scope<'_>, e: &mut Emitter<'_>, at: usize, depth: u32) -> Opti
 #[cycle(emit)]
 fn emit_logical(s: Scope<'_>, e: &mut Emitter<'_>, at: usize, depth: u32, op: u32) -> Option<usize>
     requires { SoundIn s.tree.now e.old × TwoLowerable depth s.tree.now at × (29 ≤ op) × (op ≤ 30) }
-    ensures { EmitsTo result (expr_code depth s.tree.now (slot_names s.tree.now s.slots.now) at ⨟ shortcut (eqb op 30) (expr_code depth s.tree.now (slot_names s.tree.now s.slots.now) (expr_at depth s.tree.now at).end))
-        (second_at depth s.tree.now at).end
-        s.tree.now e.old e.new }
+    ensures { let t = s.entry.tree.now in let names = slot_names t s.entry.slots.now in
+        EmitsTo result (expr_code depth t names at ⨟ shortcut (eqb op 30) (expr_code depth t names (expr_at depth t at).end)) (second_at depth t at).end t e.old e.new }
 {
     let middle = emit_expr(s, e, at, depth)?;
     emit_shortcut(s, e, middle, depth, op)
@@ -140,8 +138,8 @@ fn emit_logical(s: Scope<'_>, e: &mut Emitter<'_>, at: usize, depth: u32, op: u3
 #[cycle(emit)]
 fn emit_shortcut(s: Scope<'_>, e: &mut Emitter<'_>, at: usize, depth: u32, op: u32) -> Option<usize>
     requires { SoundIn s.tree.now e.old × Lowerable depth s.tree.now at × (29 ≤ op) × (op ≤ 30) }
-    ensures { EmitsTo result (shortcut (eqb op 30) (expr_code depth s.tree.now (slot_names s.tree.now s.slots.now) at)) (expr_at depth s.tree.now at).end
-        s.tree.now e.old e.new }
+    ensures { let t = s.entry.tree.now in let names = slot_names t s.entry.slots.now in
+        EmitsTo result (shortcut (eqb op 30) (expr_code depth t names at)) (expr_at depth t at).end t e.old e.new }
 {
     let from = e.code.open;
     e.code.put_op(op, 0, 0)?;
@@ -154,9 +152,9 @@ fn emit_shortcut(s: Scope<'_>, e: &mut Emitter<'_>, at: usize, depth: u32, op: u
 #[cycle(emit)]
 fn emit_call(s: Scope<'_>, e: &mut Emitter<'_>, at: usize, depth: u32) -> Option<usize>
     requires { SoundIn s.tree.now e.old × CallLowerable depth s.tree.now at }
-    ensures { EmitsTo result (emit_expr (slot_names s.tree.now s.slots.now) (call (expr_at depth s.tree.now at).value (list_at depth s.tree.now (expr_at depth s.tree.now at).end).value))
-        (list_at depth s.tree.now (expr_at depth s.tree.now at).end).end
-        s.tree.now e.old e.new }
+    ensures { let t = s.entry.tree.now in let names = slot_names t s.entry.slots.now in
+        EmitsTo result (emit_expr names (call (expr_at depth t at).value (list_at depth t (expr_at depth t at).end).value))
+        (list_at depth t (expr_at depth t at).end).end t e.old e.new }
 {
     let kind = s.tree[at];
     if kind == expr::VARIABLE {
@@ -173,9 +171,8 @@ fn emit_call(s: Scope<'_>, e: &mut Emitter<'_>, at: usize, depth: u32) -> Option
 #[cycle(emit)]
 fn emit_named(s: Scope<'_>, e: &mut Emitter<'_>, at: usize, depth: u32) -> Option<usize>
     requires { SoundIn s.tree.now e.old × NamedLowerable depth s.tree.now at }
-    ensures { EmitsTo result (emit_expr (slot_names s.tree.now s.slots.now) (call (var (name_at s.tree.now at)) (list_at depth s.tree.now (name_end s.tree.now at)).value))
-        (list_at depth s.tree.now (name_end s.tree.now at)).end
-        s.tree.now e.old e.new }
+    ensures { let t = s.entry.tree.now in let names = slot_names t s.entry.slots.now in
+        EmitsTo result (emit_expr names (call (var (name_at t at)) (list_at depth t (name_end t at)).value)) (list_at depth t (name_end t at)).end t e.old e.new }
 {
     let callee = resolve(s.tree, &e.tables, at);
     load_callee(s, e, at, callee)?;
@@ -186,8 +183,8 @@ fn emit_named(s: Scope<'_>, e: &mut Emitter<'_>, at: usize, depth: u32) -> Optio
 #[cycle(emit)]
 fn emit_method(s: Scope<'_>, e: &mut Emitter<'_>, at: usize, depth: u32) -> Option<usize>
     requires { SoundIn s.tree.now e.old × MethodLowerable depth s.tree.now at }
-    ensures { EmitsTo result (method_code depth s.tree.now (slot_names s.tree.now s.slots.now) at) (list_at depth s.tree.now (name_end s.tree.now (expr_at (depth - 1) s.tree.now at).end)).end
-        s.tree.now e.old e.new }
+    ensures { let t = s.entry.tree.now in let names = slot_names t s.entry.slots.now in
+        EmitsTo result (method_code depth t names at) (list_at depth t (name_end t (expr_at (depth - 1) t at).end)).end t e.old e.new }
 {
     let name = emit_expr(s, e, at, depth - 1)?;
     let start = name_end(s.tree, name);
@@ -207,9 +204,8 @@ fn emit_args(
     callee: Callee,
 ) -> Option<usize>
     requires { SoundIn s.tree.now e.old × ArgsLowerable depth s.tree.now at × Short (callee_of callee) }
-    ensures { EmitsTo result (exprs_code depth (count_at s.tree.now at) s.tree.now (slot_names s.tree.now s.slots.now) (at + 2) ⨟ one (call_instr (callee_of callee) (count_at s.tree.now at)))
-        (list_at depth s.tree.now at).end
-        s.tree.now e.old e.new }
+    ensures { let t = s.entry.tree.now in let names = slot_names t s.entry.slots.now in
+        EmitsTo result (exprs_code depth (count_at t at) t names (at + 2) ⨟ one (call_instr (callee_of callee) (count_at t at))) (list_at depth t at).end t e.old e.new }
 {
     let n = u16_at(s.tree, at);
     let next = emit_exprs(s, e, at + 2, depth, n)?;
@@ -221,9 +217,9 @@ fn emit_args(
 #[cycle(emit)]
 fn emit_attribute(s: Scope<'_>, e: &mut Emitter<'_>, at: usize, depth: u32) -> Option<usize>
     requires { SoundIn s.tree.now e.old × AttributeLowerable depth s.tree.now at }
-    ensures { EmitsTo result (expr_code depth s.tree.now (slot_names s.tree.now s.slots.now) at ⨟ intern (name_at s.tree.now (expr_at depth s.tree.now at).end) (λ k. one (LoadAttr k)))
-        (name_end s.tree.now (expr_at depth s.tree.now at).end)
-        s.tree.now e.old e.new }
+    ensures { let t = s.entry.tree.now in let names = slot_names t s.entry.slots.now in
+        EmitsTo result (expr_code depth t names at ⨟ intern (name_at t (expr_at depth t at).end) (λ k. one (LoadAttr k)))
+        (name_end t (expr_at depth t at).end) t e.old e.new }
 {
     let name = emit_expr(s, e, at, depth)?;
     emit_symbol(s.tree, e, name, LOAD_ATTR, 0)?;
@@ -234,9 +230,9 @@ fn emit_attribute(s: Scope<'_>, e: &mut Emitter<'_>, at: usize, depth: u32) -> O
 #[cycle(emit)]
 fn emit_display(s: Scope<'_>, e: &mut Emitter<'_>, at: usize, depth: u32, kind: u8) -> Option<usize>
     requires { SoundIn s.tree.now e.old × DisplayLowerable kind depth s.tree.now at }
-    ensures { EmitsTo result (exprs_code depth (held_of kind (count_at s.tree.now at)) s.tree.now (slot_names s.tree.now s.slots.now) (at + 2) ⨟ one (Build (display_of kind) (count_at s.tree.now at)))
-        (exprs_at depth (held_of kind (count_at s.tree.now at)) s.tree.now (at + 2)).end
-        s.tree.now e.old e.new }
+    ensures { let t = s.entry.tree.now in let names = slot_names t s.entry.slots.now in
+        EmitsTo result (exprs_code depth (held_of kind (count_at t at)) t names (at + 2) ⨟ one (Build (display_of kind) (count_at t at)))
+        (exprs_at depth (held_of kind (count_at t at)) t (at + 2)).end t e.old e.new }
 {
     let n = u16_at(s.tree, at);
     let next = emit_exprs(s, e, at + 2, depth, held(kind, n))?;
@@ -248,8 +244,8 @@ fn emit_display(s: Scope<'_>, e: &mut Emitter<'_>, at: usize, depth: u32, kind: 
 #[cycle(emit)]
 fn emit_lambda(s: Scope<'_>, e: &mut Emitter<'_>, at: usize, depth: u32) -> Option<usize>
     requires { SoundIn s.tree.now e.old × LambdaLowerable depth s.tree.now at }
-    ensures { EmitsTo result (lambda_code depth s.tree.now (slot_names s.tree.now s.slots.now) at) (expr_at depth s.tree.now (params_at s.tree.now at).end).end
-        s.tree.now e.old e.new }
+    ensures { let t = s.entry.tree.now in let names = slot_names t s.entry.slots.now in
+        EmitsTo result (lambda_code depth t names at) (expr_at depth t (params_at t at).end).end t e.old e.new }
 {
     let mut places = [0u32; SLOTS_ROOM];
     let arity = u16_at(s.tree, at);
@@ -274,8 +270,8 @@ fn emit_closure(
 ) -> Option<usize>
     requires { SoundIn s.tree.now e.old × (inner.tree.now ≡ s.tree.now) × ClosureLowerable depth s.tree.now arity (drop slots_from inner.slots.now) at
         × CapturesHeld s.tree.now (slot_names s.tree.now s.slots.now) arity (drop slots_from inner.slots.now) }
-    ensures { EmitsTo result (closure_code depth s.tree.now (slot_names s.tree.now s.slots.now) arity (drop slots_from inner.slots.now) at) (expr_at depth s.tree.now at).end
-        s.tree.now e.old e.new }
+    ensures { let t = s.entry.tree.now in let names = slot_names t s.entry.slots.now in
+        EmitsTo result (closure_code depth t names arity (drop slots_from inner.entry.slots.now) at) (expr_at depth t at).end t e.old e.new }
 {
     let f = e.tables.functions;
     let next = emit_function(inner, e, at, depth, arity)?;
@@ -298,8 +294,8 @@ fn emit_function(
     arity: u32,
 ) -> Option<usize>
     requires { SoundIn s.tree.now e.old × ClosureLowerable depth s.tree.now arity (drop slots_from s.slots.now) at }
-    ensures { EmitsTo result (function_code depth s.tree.now e.old.tables.functions arity (drop slots_from s.slots.now) at) (expr_at depth s.tree.now at).end
-        s.tree.now e.old e.new }
+    ensures { let t = s.entry.tree.now in
+        EmitsTo result (function_code depth t e.old.tables.functions arity (drop slots_from s.entry.slots.now) at) (expr_at depth t at).end t e.old e.new }
 {
     let base = e.code.base;
     let locals = (s.slots.len() - SLOTS_FROM) as u32;

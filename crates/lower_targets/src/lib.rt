@@ -29,7 +29,8 @@ use state::Scope;
 #[cycle(emit)]
 fn emit_assign_target(s: Scope<'_>, e: &mut Emitter<'_>, at: usize, depth: u32) -> Option<()>
     requires { SoundIn s.tree.now e.old × ExprReads depth s.tree.now at }
-    ensures { LowersIn result (emit_target (slot_names s.tree.now s.slots.now) (expr_at depth s.tree.now at).value) s.tree.now e.old e.new }
+    ensures { let t = s.entry.tree.now in let names = slot_names t s.entry.slots.now in
+        LowersIn result (emit_target names (expr_at depth t at).value) t e.old e.new }
 {
     match s.tree[at] {
         expr::VARIABLE => emit_store(s, e, at + 1),
@@ -49,7 +50,8 @@ fn emit_elements(
     i: u32,
 ) -> Option<()>
     requires { SoundIn s.tree.now e.old × ElementsRead depth s.tree.now n at × (i + n ≤ 65536) }
-    ensures { LowersIn result (unpack (slot_names s.tree.now s.slots.now) (elements_at depth s.tree.now n at) i) s.tree.now e.old e.new }
+    ensures { let t = s.entry.tree.now in let names = slot_names t s.entry.slots.now in
+        LowersIn result (unpack names (elements_at depth t n at) i) t e.old e.new }
 {
     if n == 0 {
         return Some(());
@@ -67,9 +69,8 @@ fn emit_elements(
 // To the variable whose name is at `at`; None, False or True by a word alone.
 fn assign_variable(s: Scope<'_>, e: &mut Emitter<'_>, at: usize, depth: u32) -> Option<usize>
     requires { SoundIn s.tree.now e.old × VariableAssigned depth s.tree.now at }
-    ensures { EmitsTo result (expr_code depth s.tree.now (slot_names s.tree.now s.slots.now) (name_end s.tree.now at) ⨟ store (slot_names s.tree.now s.slots.now) (name_at s.tree.now at))
-        (expr_at depth s.tree.now (name_end s.tree.now at)).end
-        s.tree.now e.old e.new }
+    ensures { let t = s.entry.tree.now in let names = slot_names t s.entry.slots.now in
+        EmitsTo result (expr_code depth t names (name_end t at) ⨟ store names (name_at t at)) (expr_at depth t (name_end t at)).end t e.old e.new }
 {
     let start = name_end(s.tree, at);
     let kind = s.tree[start];
@@ -86,11 +87,9 @@ fn assign_variable(s: Scope<'_>, e: &mut Emitter<'_>, at: usize, depth: u32) -> 
 // To the attribute whose object is at `at`, a level deeper.
 fn assign_attribute(s: Scope<'_>, e: &mut Emitter<'_>, at: usize, depth: u32) -> Option<usize>
     requires { SoundIn s.tree.now e.old × AttributeAssigned depth s.tree.now at }
-    ensures { EmitsTo result (expr_code (depth - 1) s.tree.now (slot_names s.tree.now s.slots.now) at ⨟
-        expr_code depth s.tree.now (slot_names s.tree.now s.slots.now) (name_end s.tree.now (expr_at (depth - 1) s.tree.now at).end) ⨟
-        intern (name_at s.tree.now (expr_at (depth - 1) s.tree.now at).end) (λ k. one (StoreAttr k)))
-        (expr_at depth s.tree.now (name_end s.tree.now (expr_at (depth - 1) s.tree.now at).end)).end
-        s.tree.now e.old e.new }
+    ensures { let t = s.entry.tree.now in let names = slot_names t s.entry.slots.now in
+        EmitsTo result (expr_code (depth - 1) t names at ⨟ expr_code depth t names (name_end t (expr_at (depth - 1) t at).end) ⨟ intern (name_at t (expr_at (depth - 1) t at).end) (λ k. one (StoreAttr k)))
+        (expr_at depth t (name_end t (expr_at (depth - 1) t at).end)).end t e.old e.new }
 {
     let name = emit_expr(s, e, at, depth - 1)?;
     let start = name_end(s.tree, name);
@@ -102,12 +101,9 @@ fn assign_attribute(s: Scope<'_>, e: &mut Emitter<'_>, at: usize, depth: u32) ->
 // To the index whose object is at `at`, a level deeper.
 fn assign_index(s: Scope<'_>, e: &mut Emitter<'_>, at: usize, depth: u32) -> Option<usize>
     requires { SoundIn s.tree.now e.old × IndexAssigned depth s.tree.now at }
-    ensures { EmitsTo result (expr_code (depth - 1) s.tree.now (slot_names s.tree.now s.slots.now) at ⨟
-        expr_code (depth - 1) s.tree.now (slot_names s.tree.now s.slots.now) (expr_at (depth - 1) s.tree.now at).end ⨟
-        expr_code depth s.tree.now (slot_names s.tree.now s.slots.now) (second_at (depth - 1) s.tree.now at).end ⨟
-        one StoreIndex)
-        (expr_at depth s.tree.now (second_at (depth - 1) s.tree.now at).end).end
-        s.tree.now e.old e.new }
+    ensures { let t = s.entry.tree.now in let names = slot_names t s.entry.slots.now in
+        EmitsTo result (expr_code (depth - 1) t names at ⨟ expr_code (depth - 1) t names (expr_at (depth - 1) t at).end ⨟ expr_code depth t names (second_at (depth - 1) t at).end ⨟ one StoreIndex)
+        (expr_at depth t (second_at (depth - 1) t at).end).end t e.old e.new }
 {
     let middle = emit_expr(s, e, at, depth - 1)?;
     let start = emit_expr(s, e, middle, depth - 1)?;
@@ -119,10 +115,9 @@ fn assign_index(s: Scope<'_>, e: &mut Emitter<'_>, at: usize, depth: u32) -> Opt
 // To the tuple at `at`.
 fn assign_tuple(s: Scope<'_>, e: &mut Emitter<'_>, at: usize, depth: u32) -> Option<usize>
     requires { SoundIn s.tree.now e.old × TupleAssigned depth s.tree.now at }
-    ensures { EmitsTo result (expr_code depth s.tree.now (slot_names s.tree.now s.slots.now) (expr_at depth s.tree.now at).end ⨟
-        unpack (slot_names s.tree.now s.slots.now) (elements_at (depth - 1) s.tree.now (count_at s.tree.now (at + 1)) (at + 3)) 0)
-        (second_at depth s.tree.now at).end
-        s.tree.now e.old e.new }
+    ensures { let t = s.entry.tree.now in let names = slot_names t s.entry.slots.now in
+        EmitsTo result (expr_code depth t names (expr_at depth t at).end ⨟ unpack names (elements_at (depth - 1) t (count_at t (at + 1)) (at + 3)) 0)
+        (second_at depth t at).end t e.old e.new }
 {
     let n = u16_at(s.tree, at + 1);
     let start = skip_expr(s.tree, at, depth);
@@ -134,8 +129,8 @@ fn assign_tuple(s: Scope<'_>, e: &mut Emitter<'_>, at: usize, depth: u32) -> Opt
 // The target at `at` and the value after it. What question 10 refuses emits nothing.
 pub fn emit_assign(s: Scope<'_>, e: &mut Emitter<'_>, at: usize, depth: u32) -> Option<usize>
     requires { SoundIn s.tree.now e.old × AssignLowerable depth s.tree.now at }
-    ensures { EmitsTo result (assign_code depth s.tree.now (slot_names s.tree.now s.slots.now) at) (second_at depth s.tree.now at).end
-        s.tree.now e.old e.new }
+    ensures { let t = s.entry.tree.now in let names = slot_names t s.entry.slots.now in
+        EmitsTo result (assign_code depth t names at) (second_at depth t at).end t e.old e.new }
 {
     match s.tree[at] {
         expr::VARIABLE => assign_variable(s, e, at + 1, depth),
