@@ -46,9 +46,9 @@ fn emit_stmt(
     it: &mut u32,
 ) -> Option<usize>
     requires { SoundIn s.tree.now e.old × StmtLowerable depth s.tree.now at × Spare it.old (loops_stmt (stmt_at depth s.tree.now at).value) }
-    ensures { EmitsTo result (stmt_code depth s.tree.now (slot_names s.tree.now s.slots.now) (keeping_of it.old) at) (stmt_at depth s.tree.now at).end
-        s.tree.now e.old e.new
-        × Passes result it.old it.new (loops_stmt (stmt_at depth s.tree.now at).value) }
+    ensures { EmitsTo result (stmt_code depth s.entry.tree.now (slot_names s.entry.tree.now s.entry.slots.now) (keeping_of it.old) at) (stmt_at depth s.entry.tree.now at).end
+        s.entry.tree.now e.old e.new
+        × Passes result it.old it.new (loops_stmt (stmt_at depth s.entry.tree.now at).value) }
 {
     match s.tree[at] {
         stmt::IF => emit_if(s, e, at + 1, depth - 1, it),
@@ -74,9 +74,9 @@ fn emit_stmts(
     it: &mut u32,
 ) -> Option<usize>
     requires { SoundIn s.tree.now e.old × StmtsLowerable depth count s.tree.now at × Spare it.old (loops_block (stmts_at depth count s.tree.now at).value) }
-    ensures { EmitsTo result (stmts_code depth count s.tree.now (slot_names s.tree.now s.slots.now) (keeping_of it.old) at) (stmts_at depth count s.tree.now at).end
-        s.tree.now e.old e.new
-        × Passes result it.old it.new (loops_block (stmts_at depth count s.tree.now at).value) }
+    ensures { EmitsTo result (stmts_code depth count s.entry.tree.now (slot_names s.entry.tree.now s.entry.slots.now) (keeping_of it.old) at) (stmts_at depth count s.entry.tree.now at).end
+        s.entry.tree.now e.old e.new
+        × Passes result it.old it.new (loops_block (stmts_at depth count s.entry.tree.now at).value) }
 {
     let mut p = at;
     for _ in 0..count {
@@ -95,9 +95,9 @@ pub fn emit_block(
     it: &mut u32,
 ) -> Option<usize>
     requires { SoundIn s.tree.now e.old × BlockLowerable depth s.tree.now at × Spare it.old (loops_block (block_at depth s.tree.now at).value) }
-    ensures { EmitsTo result (block_code depth s.tree.now (slot_names s.tree.now s.slots.now) (keeping_of it.old) at) (block_at depth s.tree.now at).end
-        s.tree.now e.old e.new
-        × Passes result it.old it.new (loops_block (block_at depth s.tree.now at).value) }
+    ensures { EmitsTo result (block_code depth s.entry.tree.now (slot_names s.entry.tree.now s.entry.slots.now) (keeping_of it.old) at) (block_at depth s.entry.tree.now at).end
+        s.entry.tree.now e.old e.new
+        × Passes result it.old it.new (loops_block (block_at depth s.entry.tree.now at).value) }
 {
     let count = u16_at(s.tree, at);
     emit_stmts(s, e, at + 2, depth, count, it)
@@ -113,9 +113,9 @@ fn emit_branch(
     it: &mut u32,
 ) -> Option<usize>
     requires { SoundIn s.tree.now e.old × BranchLowerable depth s.tree.now at × Spare it.old (loops_block (body_at depth s.tree.now at).value) }
-    ensures { EmitsTo result (branch (slot_names s.tree.now s.slots.now) (keeping_of it.old) (expr_at depth s.tree.now at).value (body_at depth s.tree.now at).value) (body_at depth s.tree.now at).end
-        s.tree.now e.old e.new
-        × Passes result it.old it.new (loops_block (body_at depth s.tree.now at).value) }
+    ensures { EmitsTo result (branch (slot_names s.entry.tree.now s.entry.slots.now) (keeping_of it.old) (expr_at depth s.entry.tree.now at).value (body_at depth s.entry.tree.now at).value) (body_at depth s.entry.tree.now at).end
+        s.entry.tree.now e.old e.new
+        × Passes result it.old it.new (loops_block (body_at depth s.entry.tree.now at).value) }
 {
     let block = emit_value(s, e, at, depth, JUMP_IF_FALSE)?;
     let from = e.code.open;
@@ -128,10 +128,10 @@ fn emit_branch(
 #[cycle(emit)]
 fn emit_if(s: Scope<'_>, e: &mut Emitter<'_>, at: usize, depth: u32, it: &mut u32) -> Option<usize>
     requires { SoundIn s.tree.now e.old × IfLowerable depth s.tree.now at × Spare it.old (loops_block (body_at depth s.tree.now at).value + loops_branches (elifs_at depth s.tree.now at).value) }
-    ensures { EmitsTo result (emit_stmt (slot_names s.tree.now s.slots.now) (keeping_of it.old) (if (when (expr_at depth s.tree.now at).value (body_at depth s.tree.now at).value (elifs_at depth s.tree.now at).value)))
-        (elifs_at depth s.tree.now at).end
-        s.tree.now e.old e.new
-        × Passes result it.old it.new (loops_block (body_at depth s.tree.now at).value + loops_branches (elifs_at depth s.tree.now at).value) }
+    ensures { EmitsTo result (emit_stmt (slot_names s.entry.tree.now s.entry.slots.now) (keeping_of it.old) (if (when (expr_at depth s.entry.tree.now at).value (body_at depth s.entry.tree.now at).value (elifs_at depth s.entry.tree.now at).value)))
+        (elifs_at depth s.entry.tree.now at).end
+        s.entry.tree.now e.old e.new
+        × Passes result it.old it.new (loops_block (body_at depth s.entry.tree.now at).value + loops_branches (elifs_at depth s.entry.tree.now at).value) }
 {
     let p = emit_branch(s, e, at, depth, it)?;
     let n = u16_at(s.tree, p);
@@ -149,9 +149,9 @@ fn emit_elifs(
     it: &mut u32,
 ) -> Option<usize>
     requires { SoundIn s.tree.now e.old × BranchesLowerable depth n s.tree.now at × (0 < e.old.code.open) × Spare it.old (loops_branches (branches_at depth n s.tree.now at).value) }
-    ensures { NextIs result (branches_at depth n s.tree.now at).end
-        × Reaches result s.tree.now e.old e.new (chain_at e.old.code.base (slot_names s.tree.now s.slots.now) (keeping_of it.old) (branches_at depth n s.tree.now at).value (e.old.code.open - 1) (state_in s.tree.now e.old))
-        × Passes result it.old it.new (loops_branches (branches_at depth n s.tree.now at).value) }
+    ensures { NextIs result (branches_at depth n s.entry.tree.now at).end
+        × Reaches result s.entry.tree.now e.old e.new (chain_at e.old.code.base (slot_names s.entry.tree.now s.entry.slots.now) (keeping_of it.old) (branches_at depth n s.entry.tree.now at).value (e.old.code.open - 1) (state_in s.entry.tree.now e.old))
+        × Passes result it.old it.new (loops_branches (branches_at depth n s.entry.tree.now at).value) }
 {
     let mut p = at;
     for _ in 0..n {
@@ -173,9 +173,9 @@ fn emit_else(
     it: &mut u32,
 ) -> Option<usize>
     requires { SoundIn s.tree.now e.old × BranchesLowerable depth 0 s.tree.now at × (0 < e.old.code.open) × Spare it.old (loops_branches (branches_at depth 0 s.tree.now at).value) }
-    ensures { NextIs result (branches_at depth 0 s.tree.now at).end
-        × Reaches result s.tree.now e.old e.new (chain_at e.old.code.base (slot_names s.tree.now s.slots.now) (keeping_of it.old) (branches_at depth 0 s.tree.now at).value (e.old.code.open - 1) (state_in s.tree.now e.old))
-        × Passes result it.old it.new (loops_branches (branches_at depth 0 s.tree.now at).value) }
+    ensures { NextIs result (branches_at depth 0 s.entry.tree.now at).end
+        × Reaches result s.entry.tree.now e.old e.new (chain_at e.old.code.base (slot_names s.entry.tree.now s.entry.slots.now) (keeping_of it.old) (branches_at depth 0 s.entry.tree.now at).value (e.old.code.open - 1) (state_in s.entry.tree.now e.old))
+        × Passes result it.old it.new (loops_branches (branches_at depth 0 s.entry.tree.now at).value) }
 {
     let from = e.code.open;
     if s.tree[at] == 0 {
@@ -198,10 +198,10 @@ fn emit_while(
     it: &mut u32,
 ) -> Option<usize>
     requires { SoundIn s.tree.now e.old × BranchLowerable depth s.tree.now at × Spare it.old (loops_block (body_at depth s.tree.now at).value) }
-    ensures { EmitsTo result (loop (expr_code depth s.tree.now (slot_names s.tree.now s.slots.now) at) (block_code depth s.tree.now (slot_names s.tree.now s.slots.now) (keeping_of it.old) (expr_at depth s.tree.now at).end))
-        (body_at depth s.tree.now at).end
-        s.tree.now e.old e.new
-        × Passes result it.old it.new (loops_block (body_at depth s.tree.now at).value) }
+    ensures { EmitsTo result (loop (expr_code depth s.entry.tree.now (slot_names s.entry.tree.now s.entry.slots.now) at) (block_code depth s.entry.tree.now (slot_names s.entry.tree.now s.entry.slots.now) (keeping_of it.old) (expr_at depth s.entry.tree.now at).end))
+        (body_at depth s.entry.tree.now at).end
+        s.entry.tree.now e.old e.new
+        × Passes result it.old it.new (loops_block (body_at depth s.entry.tree.now at).value) }
 {
     let start = e.code.open;
     let block = emit_value(s, e, at, depth, JUMP_IF_FALSE)?;
@@ -215,10 +215,10 @@ fn emit_while(
 #[cycle(emit)]
 fn emit_for(s: Scope<'_>, e: &mut Emitter<'_>, at: usize, depth: u32, it: &mut u32) -> Option<usize>
     requires { SoundIn s.tree.now e.old × ForLowerable depth s.tree.now at × Spare it.old (1 + loops_block (body_at depth s.tree.now (name_end s.tree.now at)).value) }
-    ensures { EmitsTo result (emit_stmt (slot_names s.tree.now s.slots.now) (keeping_of it.old) (for (name_at s.tree.now at) (expr_at depth s.tree.now (name_end s.tree.now at)).value (body_at depth s.tree.now (name_end s.tree.now at)).value))
-        (body_at depth s.tree.now (name_end s.tree.now at)).end
-        s.tree.now e.old e.new
-        × Passes result it.old it.new (1 + loops_block (body_at depth s.tree.now (name_end s.tree.now at)).value) }
+    ensures { EmitsTo result (emit_stmt (slot_names s.entry.tree.now s.entry.slots.now) (keeping_of it.old) (for (name_at s.entry.tree.now at) (expr_at depth s.entry.tree.now (name_end s.entry.tree.now at)).value (body_at depth s.entry.tree.now (name_end s.entry.tree.now at)).value))
+        (body_at depth s.entry.tree.now (name_end s.entry.tree.now at)).end
+        s.entry.tree.now e.old e.new
+        × Passes result it.old it.new (1 + loops_block (body_at depth s.entry.tree.now (name_end s.entry.tree.now at)).value) }
 {
     let start = name_end(s.tree, at);
     let block = emit_iterable(s, e, start, depth)?;
@@ -238,10 +238,10 @@ fn emit_rounds(
     it: &mut u32,
 ) -> Option<usize>
     requires { SoundIn s.tree.now e.old × There s.tree.now at × BlockLowerable depth s.tree.now block × Loads load (keeper_of load) × Spare it.old (loops_block (block_at depth s.tree.now block).value) }
-    ensures { EmitsTo result (loop (ask_iter (keeper_of load)) (take_iter (slot_names s.tree.now s.slots.now) (name_at s.tree.now at) (keeper_of load) ⨟ block_code depth s.tree.now (slot_names s.tree.now s.slots.now) (keeping_of it.old) block))
-        (block_at depth s.tree.now block).end
-        s.tree.now e.old e.new
-        × Passes result it.old it.new (loops_block (block_at depth s.tree.now block).value) }
+    ensures { EmitsTo result (loop (ask_iter (keeper_of load)) (take_iter (slot_names s.entry.tree.now s.entry.slots.now) (name_at s.entry.tree.now at) (keeper_of load) ⨟ block_code depth s.entry.tree.now (slot_names s.entry.tree.now s.entry.slots.now) (keeping_of it.old) block))
+        (block_at depth s.entry.tree.now block).end
+        s.entry.tree.now e.old e.new
+        × Passes result it.old it.new (loops_block (block_at depth s.entry.tree.now block).value) }
 {
     let start = e.code.open;
     ask_iterator(s.tree, e, load)?;
@@ -263,8 +263,8 @@ fn emit_body(
     first: u32,
 ) -> Option<usize>
     requires { SoundIn s.tree.now e.old × BlockLowerable depth s.tree.now at × Spare first (loops_block (block_at depth s.tree.now at).value) }
-    ensures { EmitsTo result (block_code depth s.tree.now (slot_names s.tree.now s.slots.now) (keeping_of first) at ⨟ emits (end_of init)) (block_at depth s.tree.now at).end
-        s.tree.now e.old e.new }
+    ensures { EmitsTo result (block_code depth s.entry.tree.now (slot_names s.entry.tree.now s.entry.slots.now) (keeping_of first) at ⨟ emits (end_of init)) (block_at depth s.entry.tree.now at).end
+        s.entry.tree.now e.old e.new }
 {
     let mut it = first;
     let next = emit_block(s, e, at, depth, &mut it)?;
