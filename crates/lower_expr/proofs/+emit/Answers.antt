@@ -433,27 +433,27 @@ emit_display-returns t c =
 
 -- ---- emit_lambda
 
-pub emit_lambda-returns-in_err-lambda_slots : goal.emit_lambda-returns-in_err-lambda_slots
-emit_lambda-returns-in_err-lambda_slots t c = lambda-over _ _ _ c.requires.0 c.skip_params-body.ensures (collected-over _ _ _ _ c.in_err-lambda_slots.was c.lambda_slots.ensures) c.from_residual.ensures
+pub emit_lambda-returns-in_err-n : goal.emit_lambda-returns-in_err-n
+emit_lambda-returns-in_err-n t c = lambda-over _ _ _ c.requires.0 c.skip_params-body.ensures (collected-over _ _ _ _ c.in_err-n.was c.lambda_slots.ensures) c.from_residual.ensures
 
 pub emit_lambda-slice_bounds-places-end : goal.emit_lambda-slice_bounds-places-end
-emit_lambda-slice_bounds-places-end t c = let w = c.lambda_slots.auto.slots in let q = collected-count _ _ _ _ _ c.in_ok-lambda_slots.was c.lambda_slots.ensures w in omega (arith, q.0, w)
+emit_lambda-slice_bounds-places-end t c = let w = c.lambda_slots.auto.slots in let q = collected-count _ _ _ _ _ c.in_ok-n.was c.lambda_slots.ensures w in omega (arith, q.0, w)
 
 pub emit_lambda-slice_bounds-inner-end : goal.emit_lambda-slice_bounds-inner-end
-emit_lambda-slice_bounds-inner-end t c = let w = c.lambda_slots.auto.slots in let q = collected-count _ _ _ _ _ c.in_ok-lambda_slots.was c.lambda_slots.ensures w in sym (length-take-le _ _ (omega (arith, q.0, w)))
+emit_lambda-slice_bounds-inner-end t c = let w = c.lambda_slots.auto.slots in let q = collected-count _ _ _ _ _ c.in_ok-n.was c.lambda_slots.ensures w in sym (length-take-le _ _ (omega (arith, q.0, w)))
 
 pub emit_lambda-invariant_of-inner-clause-slotted : goal.emit_lambda-invariant_of-inner-clause-slotted
-emit_lambda-invariant_of-inner-clause-slotted t c = let w = c.lambda_slots.auto.slots in let q = collected-count _ _ _ _ _ c.in_ok-lambda_slots.was c.lambda_slots.ensures w in q.2
+emit_lambda-invariant_of-inner-clause-slotted t c = let w = c.lambda_slots.auto.slots in let q = collected-count _ _ _ _ _ c.in_ok-n.was c.lambda_slots.ensures w in q.2
 
 pub emit_lambda-emit_closure-requires : goal.emit_lambda-emit_closure-requires
 emit_lambda-emit_closure-requires t c =
-    let w = c.lambda_slots.auto.slots in let q = collected-count _ _ _ _ _ c.in_ok-lambda_slots.was c.lambda_slots.ensures w in
+    let w = c.lambda_slots.auto.slots in let q = collected-count _ _ _ _ _ c.in_ok-n.was c.lambda_slots.ensures w in
     let v = lambda-ready _ _ _ _ c.requires.1 _ _ _ c.u16_at-arity.ensures.0 c.skip_params-body.ensures q.1 (slots-few _ _ q.2) in
     (omega (arith, c.decreases), (c.requires.0, refl, v.0, v.1))
 
 pub emit_lambda-returns : goal.emit_lambda-returns
 emit_lambda-returns t c =
-    let w = c.lambda_slots.auto.slots in let q = collected-count _ _ _ _ _ c.in_ok-lambda_slots.was c.lambda_slots.ensures w in
+    let w = c.lambda_slots.auto.slots in let q = collected-count _ _ _ _ _ c.in_ok-n.was c.lambda_slots.ensures w in
     emits-by c.emit_closure.ensures (lambda-is _ _ _ _ c.requires.1 _ _ _ c.u16_at-arity.ensures.0 c.skip_params-body.ensures q.1) (ap (λ (p : ℕ). (expr_at c.args.depth c.args.s.tree.now p).end) c.skip_params-body.ensures)
 
 -- ---- emit_closure
