@@ -10,12 +10,12 @@ use Rattle.std.specs.Prelude.{Option, Some, None}
 use Rattle.std.proofs.lemmas.Option.{none-some}
 use Rattle.definitions.specs.Bytes.{Name, same}
 use Rattle.definitions.specs.Wellformed.{init}
-use Rattle.definitions.specs.Tree.{Block, Methods, []ᵐ, method}
+use Rattle.definitions.specs.Tree.{Methods, []ᵐ, method}
 use Rattle.definitions.specs.Tables.{Method}
 use Rattle.definitions.specs.Lower.{insert_method, begin_class, end_class}
-use Rattle.parts.specs.Places.{Node, name_end, name_bytes, params_at}
+use Rattle.parts.specs.Places.{Node, count_at, name_end, name_bytes, params_at}
 use Rattle.tree.specs.StmtAt as StmtAt
-use Rattle.tree.specs.StmtAt.{def_block_at, method_at}
+use Rattle.tree.specs.StmtAt.{def_block_at, class_methods_at, method_at}
 use Rattle.tree.proofs.StmtViews.{view-methods-none, view-methods-more}
 use Rattle.state.specs.Words.{name_at}
 use Rattle.state.specs.State.{State, method_of, emit_at, Sound, Within, with_tables}
@@ -26,7 +26,6 @@ use Rattle.state.proofs.Enclosing.{methods-none, methods-none-of, methods-more, 
 use Rattle.state.proofs.Growth.{methods-lengthened}
 use Rattle.state.proofs.Within.{within-method, within-methods, within-class}
 use Rattle.methods.specs.Order.{Inserted}
-use Rattle.lower_emit.specs.declared.emitter.Code.{Code}
 use Rattle.lower_emit.specs.declared.emitter.Tables.{Tables}
 use Rattle.lower_emit.specs.declared.emitter.Emitter.{Emitter}
 use Rattle.lower_emit.specs.Emitting.{counts_of, limits_in, state_in, SoundIn, beside, LeftIn, Reaches}
@@ -50,7 +49,7 @@ module _ (d : ℕ) (t : List ℕ) where
   methods-over : (n p : ℕ) → n ≤ 0 → MethodsLowerable d n t p → (StmtAt.methods_at d n t p).value ≡ []ᵐ
   methods-over n p h r = ap (λ (x : Node Methods). x.value) (view-methods-none d t p n h r.reads.start)
 
-  pub methods-at : (n m p q : ℕ) → m ≡ n → q ≡ p → MethodsLowerable d n t p → MethodsLowerable d m t q
+  methods-at : (n m p q : ℕ) → m ≡ n → q ≡ p → MethodsLowerable d n t p → MethodsLowerable d m t q
   methods-at n m p q e f r = subst (λ (x : ℕ). MethodsLowerable d x t q) (sym e) (subst (MethodsLowerable d n t) (sym f) r)
 
 -- a is the emitter before the methods, of which n from p on are left; the words of those so far are the first of a list
@@ -161,11 +160,20 @@ module _ {d : ℕ} {t : List ℕ} {a : Emitter} {n₀ p₀ : ℕ} {b : Emitter} 
             room = omega (arith, inv.room, same-length);
           })
 
--- by other words for the count and the position
-pub lists-by : {r : Option ℕ} {list : List ℕ} {a b : Emitter} (t : List ℕ) (s : State) (d : ℕ) {n m p q : ℕ} → m ≡ n → q ≡ p
-    → ListsIn r (methods_at (StmtAt.methods_at d m t q).value [] s) (methods_of (StmtAt.methods_at d m t q).value [] s) t list a b
-    → ListsIn r (methods_at (StmtAt.methods_at d n t p).value [] s) (methods_of (StmtAt.methods_at d n t p).value [] s) t list a b
-lists-by {r} {list} {a} {b} t s d e f h = subst (λ (x : Methods). ListsIn r (methods_at x [] s) (methods_of x [] s) t list a b) (λ i. (StmtAt.methods_at d (e i) t (f i)).value) h
+-- the methods of a class, with their count and their place by other words
+module _ (d : ℕ) (t : List ℕ) (at : ℕ) {start n : ℕ} (e : start ≡ name_end t at) (f : n ≡ count_at t start) where
+  count : n ≡ count_at t (name_end t at)
+  count = f ∙ ap (count_at t) e
+
+  place : start + 2 ≡ name_end t at + 2
+  place = ap (λ (x : ℕ). x + 2) e
+
+  pub class-methods : MethodsLowerable d (count_at t (name_end t at)) t (name_end t at + 2) → MethodsLowerable d n t (start + 2)
+  class-methods r = methods-at d t (count_at t (name_end t at)) n (name_end t at + 2) (start + 2) count place r
+
+  pub class-lists : {r : Option ℕ} {list : List ℕ} {a b : Emitter} (s : State) → ListsIn r (methods_at (StmtAt.methods_at d n t (start + 2)).value [] s) (methods_of (StmtAt.methods_at d n t (start + 2)).value [] s) t list a b
+      → ListsIn r (methods_at (class_methods_at d t at).value [] s) (methods_of (class_methods_at d t at).value [] s) t list a b
+  class-lists {r} {list} {a} {b} s h = subst (λ (x : Methods). ListsIn r (methods_at x [] s) (methods_of x [] s) t list a b) (λ i. (StmtAt.methods_at d (count i) t (place i)).value) h
 
 -- ---- a class
 

@@ -13,7 +13,7 @@ use Rattle.definitions.specs.Tree.{Block}
 use Rattle.definitions.specs.Instruction.{Instr}
 use Rattle.definitions.specs.Tables.{Function, Tables, Emit, emits, ◌⨟◌, begin, block_body, set_code, function}
 use Rattle.definitions.specs.Lower.{emit_block}
-use Rattle.parts.specs.Places.{name_end, params_at}
+use Rattle.parts.specs.Places.{count_at, name_end, params_at}
 use Rattle.definitions.specs.Slots.{Keeping, in_slots, Frame, with_loops, loops_block}
 use Rattle.tree.specs.StmtAt.{block_at, def_block_at}
 use Rattle.state.specs.Words.{name_at}
@@ -37,7 +37,8 @@ use Rattle.lower_emit.specs.Emitting.{counts_of, limits_in, state_in, SoundIn, L
 use Rattle.lower_emit.proofs.Steps.{sound-next}
 use Rattle.lower_emit.proofs.Functions.{ended-lifts}
 use Rattle.lower_emit.proofs.Parts.{emits-by}
-use Rattle.lower_forms.specs.Lowering.{block_code, frame_at, end_of, function_code}
+use Rattle.lower_forms.specs.Lowering.{FunctionLowerable, block_code, frame_at, end_of, function_code}
+use Rattle.lower_forms.proofs.ExprArms.{params-count}
 use Rattle.lower_forms.proofs.Sequences.{method-end}
 use Rattle.lower_classes.specs.Classes.{BeginsNamed}
 use Rattle.lower_stmt.specs.Blocks.{Ahead, CompilesIn}
@@ -45,10 +46,10 @@ use Rattle.lower_stmt.proofs.Between.{stack-long, reached_by, next-none, reaches
 
 -- ---- slots
 
-pub names-length : (t ps : List ℕ) (n : ℕ) (want : List Name) → slots_from + n ≤ length ps → first_names t n ps ≡ want → n ≡ length want
+names-length : (t ps : List ℕ) (n : ℕ) (want : List Name) → slots_from + n ≤ length ps → first_names t n ps ≡ want → n ≡ length want
 names-length t ps n want h e = sym (ap length (sym e) ∙ first-length t n ps h)
 
-pub framed_at : {r : Option Framed} {t ps : List ℕ} {params block : ℕ} (d at : ℕ) → params ≡ name_end t at → block ≡ (params_at t (name_end t at)).end
+framed_at : {r : Option Framed} {t ps : List ℕ} {params block : ℕ} (d at : ℕ) → params ≡ name_end t at → block ≡ (params_at t (name_end t at)).end
     → Frames r t ps (with_loops (params_at t params).value (block_at d t block).value) → Frames r t ps (frame_at d t at)
 framed_at {r} {t} {ps} d at e f h = subst (Frames r t ps) (λ j. with_loops (params_at t (e j)).value (block_at d t (f j)).value) h
 
@@ -57,18 +58,49 @@ module _ {n m : ℕ} {t ps : List ℕ} (xs : List Name) (b : Block) (F : Framing
   how-many : n ≡ length (with_loops xs b).names
   how-many = names-length t ps n _ (omega (arith, F.named, F.few)) F.names
 
-  pub frame-keeping : keeping_of n ≡ (with_loops xs b).keep
+  frame-keeping : keeping_of n ≡ (with_loops xs b).keep
   frame-keeping = keeping-slot n (omega (arith, F.named, F.few)) ∙ ap in_slots how-many
 
-  pub frame-spare : Spare n (loops_block b)
+  frame-spare : Spare n (loops_block b)
   frame-spare = record { at = λ h. omega (arith, how-many, F.locals, F.few) }
 
 -- the slots that are used
-pub part-names : (t ps : List ℕ) (n : ℕ) (want : List Name) → first_names t n ps ≡ want → slots_from + n ≤ length ps → slot_names t (take (slots_from + n) ps) ≡ want
+part-names : (t ps : List ℕ) (n : ℕ) (want : List Name) → first_names t n ps ≡ want → slots_from + n ≤ length ps → slot_names t (take (slots_from + n) ps) ≡ want
 part-names t ps n want e h = front-names t ps n h ∙ e
 
-pub part-slots : (t ps : List ℕ) (n : ℕ) → n ≤ 255 → Indexed t n ps → slots_from + n ≤ length ps → Slots t (take (slots_from + n) ps)
+part-slots : (t ps : List ℕ) (n : ℕ) → n ≤ 255 → Indexed t n ps → slots_from + n ≤ length ps → Slots t (take (slots_from + n) ps)
 part-slots t ps n h v g = front-slots t ps n g h v
+
+-- what is known of a function's parts once its slots are collected
+pub record FunctionParts (d : ℕ) (t : List ℕ) (at arity block : ℕ) (g : Framed) (ps : List ℕ) : Type 0 where
+  pub arity-is : arity ≡ length (params_at t (name_end t at)).value
+  pub arity-few : arity < 256
+  pub block-is : block ≡ (params_at t (name_end t at)).end
+  pub framing : Framing g.named g.locals t ps (frame_at d t at)
+  pub room : slots_from + g.named ≤ length ps
+  pub names : slot_names t (take (slots_from + g.named) ps) ≡ (frame_at d t at).names
+  pub keep : keeping_of g.named ≡ (frame_at d t at).keep
+  pub spare : Spare g.named (loops_block (def_block_at d t at).value)
+  pub slotted : Slots t (take (slots_from + g.named) ps)
+
+pub function-parts : {d : ℕ} {t : List ℕ} {at arity params block : ℕ} {r : Option Framed} {g : Framed} {ps : List ℕ} → FunctionLowerable d t at → params ≡ name_end t at → arity ≡ count_at t params → block ≡ (params_at t params).end
+    → Frames r t ps (with_loops (params_at t params).value (block_at d t block).value) → r ≡ Some g → slots_from + 255 ≤ length ps → FunctionParts d t at arity block g ps
+function-parts {d} {t} {at} {arity} {params} {block} {r} {g} {ps} low e a b f z enough =
+    let place = b ∙ ap (λ (x : ℕ). (params_at t x).end) e in
+    let count = a ∙ ap (count_at t) e in
+    let F = (framed_at d at e place f).framing g z in
+    let fits : slots_from + g.named ≤ length ps = omega (arith, F.named, F.few, enough) in
+    record {
+      arity-is = count ∙ sym (params-count t (name_end t at));
+      arity-few = omega (arith, count, low.few);
+      block-is = place;
+      framing = F;
+      room = fits;
+      names = part-names t ps g.named _ F.names fits;
+      keep = frame-keeping _ _ F enough;
+      spare = frame-spare _ _ F enough;
+      slotted = part-slots t ps g.named (omega (arith, F.named, F.few)) F.indexed fits;
+    }
 
 -- ---- the functions' codes
 
@@ -192,7 +224,7 @@ module _ {t : List ℕ} {a : Emitter} (S : SoundIn t a) (x : Name) (arity n : �
         )
 
 -- a function with more than 255 slots is over the limits
-pub slots-over : (d : ℕ) (t : List ℕ) (p : ℕ) (b : Bool) (base : ℕ) (l : Limits) (s : State) → 255 < (frame_at d t p).locals → Within l (emit_at base (function_code d t p b) s) → ⊥
+slots-over : (d : ℕ) (t : List ℕ) (p : ℕ) (b : Bool) (base : ℕ) (l : Limits) (s : State) → 255 < (frame_at d t p).locals → Within l (emit_at base (function_code d t p b) s) → ⊥
 slots-over d t p b base l s h w =
     let k = function-slots base _ _ (frame_at d t p) _ s (lengthens-seq (lengthens-block (frame_at d t p).names (frame_at d t p).keep (def_block_at d t p).value) (lengthens-emits (end_of b))) w in
     omega arith
@@ -217,9 +249,10 @@ compiles-stopped n h l = record {
   more = λ x p. absurd (none-some x (sym n ∙ p));
 }
 
-pub slots-stopped : {q : Option ℕ} {next : ℕ} {t : List ℕ} {a : Emitter} (d : ℕ) (init : Bool) (at : ℕ) → q ≡ None → 255 < (frame_at d t at).locals
-    → CompilesIn q next (emit_at a.code.base (function_code d t at init) (state_in t a)) t a a
-slots-stopped {t = t} {a = a} d init at n h = compiles-stopped n (slots-over d t at init a.code.base (limits_in a) (state_in t a) h) refl
+pub slots-stopped : {q : Option ℕ} {next params block : ℕ} {r : Option Framed} {t ps : List ℕ} {a : Emitter} (d at : ℕ) (init : Bool) → r ≡ None → q ≡ None → params ≡ name_end t at → block ≡ (params_at t params).end
+    → Frames r t ps (with_loops (params_at t params).value (block_at d t block).value) → CompilesIn q next (emit_at a.code.base (function_code d t at init) (state_in t a)) t a a
+slots-stopped {t = t} {a = a} d at init z n e b f =
+    compiles-stopped n (slots-over d t at init a.code.base (limits_in a) (state_in t a) ((framed_at d at e (b ∙ ap (λ (x : ℕ). (params_at t x).end) e) f).over z)) refl
 
 module _ {t : List ℕ} {a a₁ : Emitter} {p : Option ℕ} {at arity n : ℕ} (d : ℕ) (init : Bool) (S : SoundIn t a) (ea : arity ≡ length (params_at t (name_end t at)).value) (en : n ≡ (frame_at d t at).locals) (B : BeginsNamed p at arity n t a a₁) where
   abbrev function-want : State
@@ -257,9 +290,6 @@ module _ {t : List ℕ} {a a₁ : Emitter} {p : Option ℕ} {at arity n : ℕ} (
       module _ {k : ℕ} (y : r ≡ Some k) where
         number : f < a₂.tables.functions
         number = ended-number S x arity n params inner ea en body (end_of init) ((B.begins S).is f z) ((B.begins S).done f z) ((B.begins S).more f z) (B.begins S).limits names keep en' ek (h.lowers.reaches.done k y)
-
-        pub function-few : (a₂.code.base ≤ a₂.code.open) × (f < 256)
-        function-few = let S₂ = (sound-next y h.lowers.reaches).sound in (S₂.base, omega (arith, number, S₂.functions, S₂.limited.functions))
 
         pub function-done : {a₃ : Emitter} → Ended f a.code.base a₂ a₃ → CompilesIn (Some k) next function-want t a a₃
         function-done {a₃} e =

@@ -16,15 +16,16 @@ ghost use Rattle.state.specs.State.{emit_at, slot_names};
 ghost use Rattle.state.specs.Steps.{branch, chain_at, methods_at, methods_of};
 ghost use Rattle.state.specs.Kept.{keeping_of, Spare, Passes};
 ghost use Rattle.lower_forms.specs.Lowerable.{expr_code};
-ghost use Rattle.lower_forms.specs.Lowering.{StmtLowerable, BlockLowerable, StmtsLowerable, stmt_code, block_code, stmts_code, BranchLowerable, BranchesLowerable, IfLowerable, ForLowerable, FunctionLowerable, function_code, end_of, MethodsLowerable, ClassLowerable, class_code};
+ghost use Rattle.lower_forms.specs.Lowering.{StmtLowerable, BlockLowerable, StmtsLowerable, BranchLowerable, BranchesLowerable, IfLowerable, ForLowerable};
+ghost use Rattle.lower_forms.specs.Lowering.{FunctionLowerable, MethodsLowerable, ClassLowerable, stmt_code, block_code, stmts_code, function_code, end_of, class_code};
 ghost use Rattle.lower_emit.specs.Emitting.{state_in, SoundIn, NextIs, EmitsTo, Reaches};
 ghost use Rattle.lower_loops.specs.Iterators.{keeper_of, Loads};
 ghost use Rattle.lower_stmt.specs.Blocks.{SoleIn, CompilesIn, ListsIn};
 
+use lower_simple::{emit_iterable, emit_simple, emit_value, is_init, put_end};
 use lower_classes::{begin_class, begin_named, finish_class};
 use lower_emit::emitter::Emitter;
 use lower_loops::{ask_iterator, store_iterator, take_iterator};
-use lower_simple::{emit_iterable, emit_simple, emit_value, is_init, put_end};
 use methods::insert_method;
 use numerals::ops::{JUMP, JUMP_IF_FALSE};
 use numerals::places::{METHODS_ROOM, SLOTS_FROM};
@@ -46,9 +47,9 @@ fn emit_stmt(
     it: &mut u32,
 ) -> Option<usize>
     requires { SoundIn s.tree.now e.old × StmtLowerable depth s.tree.now at × Spare it.old (loops_stmt (stmt_at depth s.tree.now at).value) }
-    ensures { EmitsTo result (stmt_code depth s.entry.tree.now (slot_names s.entry.tree.now s.entry.slots.now) (keeping_of it.old) at) (stmt_at depth s.entry.tree.now at).end
-        s.entry.tree.now e.old e.new
-        × Passes result it.old it.new (loops_stmt (stmt_at depth s.entry.tree.now at).value) }
+    ensures { let t = s.entry.tree.now in let names = slot_names t s.entry.slots.now in
+        EmitsTo result (stmt_code depth t names (keeping_of it.old) at) (stmt_at depth t at).end t e.old e.new
+        × Passes result it.old it.new (loops_stmt (stmt_at depth t at).value) }
 {
     match s.tree[at] {
         stmt::IF => emit_if(s, e, at + 1, depth - 1, it),
@@ -74,9 +75,9 @@ fn emit_stmts(
     it: &mut u32,
 ) -> Option<usize>
     requires { SoundIn s.tree.now e.old × StmtsLowerable depth count s.tree.now at × Spare it.old (loops_block (stmts_at depth count s.tree.now at).value) }
-    ensures { EmitsTo result (stmts_code depth count s.entry.tree.now (slot_names s.entry.tree.now s.entry.slots.now) (keeping_of it.old) at) (stmts_at depth count s.entry.tree.now at).end
-        s.entry.tree.now e.old e.new
-        × Passes result it.old it.new (loops_block (stmts_at depth count s.entry.tree.now at).value) }
+    ensures { let t = s.entry.tree.now in let names = slot_names t s.entry.slots.now in
+        EmitsTo result (stmts_code depth count t names (keeping_of it.old) at) (stmts_at depth count t at).end t e.old e.new
+        × Passes result it.old it.new (loops_block (stmts_at depth count t at).value) }
 {
     let mut p = at;
     for _ in 0..count {
@@ -95,9 +96,9 @@ pub fn emit_block(
     it: &mut u32,
 ) -> Option<usize>
     requires { SoundIn s.tree.now e.old × BlockLowerable depth s.tree.now at × Spare it.old (loops_block (block_at depth s.tree.now at).value) }
-    ensures { EmitsTo result (block_code depth s.entry.tree.now (slot_names s.entry.tree.now s.entry.slots.now) (keeping_of it.old) at) (block_at depth s.entry.tree.now at).end
-        s.entry.tree.now e.old e.new
-        × Passes result it.old it.new (loops_block (block_at depth s.entry.tree.now at).value) }
+    ensures { let t = s.entry.tree.now in let names = slot_names t s.entry.slots.now in
+        EmitsTo result (block_code depth t names (keeping_of it.old) at) (block_at depth t at).end t e.old e.new
+        × Passes result it.old it.new (loops_block (block_at depth t at).value) }
 {
     let count = u16_at(s.tree, at);
     emit_stmts(s, e, at + 2, depth, count, it)
@@ -113,9 +114,9 @@ fn emit_branch(
     it: &mut u32,
 ) -> Option<usize>
     requires { SoundIn s.tree.now e.old × BranchLowerable depth s.tree.now at × Spare it.old (loops_block (body_at depth s.tree.now at).value) }
-    ensures { EmitsTo result (branch (slot_names s.entry.tree.now s.entry.slots.now) (keeping_of it.old) (expr_at depth s.entry.tree.now at).value (body_at depth s.entry.tree.now at).value) (body_at depth s.entry.tree.now at).end
-        s.entry.tree.now e.old e.new
-        × Passes result it.old it.new (loops_block (body_at depth s.entry.tree.now at).value) }
+    ensures { let t = s.entry.tree.now in let names = slot_names t s.entry.slots.now in
+        EmitsTo result (branch names (keeping_of it.old) (expr_at depth t at).value (body_at depth t at).value) (body_at depth t at).end t e.old e.new
+        × Passes result it.old it.new (loops_block (body_at depth t at).value) }
 {
     let block = emit_value(s, e, at, depth, JUMP_IF_FALSE)?;
     let from = e.code.open;
@@ -128,10 +129,10 @@ fn emit_branch(
 #[cycle(emit)]
 fn emit_if(s: Scope<'_>, e: &mut Emitter<'_>, at: usize, depth: u32, it: &mut u32) -> Option<usize>
     requires { SoundIn s.tree.now e.old × IfLowerable depth s.tree.now at × Spare it.old (loops_block (body_at depth s.tree.now at).value + loops_branches (elifs_at depth s.tree.now at).value) }
-    ensures { EmitsTo result (emit_stmt (slot_names s.entry.tree.now s.entry.slots.now) (keeping_of it.old) (if (when (expr_at depth s.entry.tree.now at).value (body_at depth s.entry.tree.now at).value (elifs_at depth s.entry.tree.now at).value)))
-        (elifs_at depth s.entry.tree.now at).end
-        s.entry.tree.now e.old e.new
-        × Passes result it.old it.new (loops_block (body_at depth s.entry.tree.now at).value + loops_branches (elifs_at depth s.entry.tree.now at).value) }
+    ensures { let t = s.entry.tree.now in let names = slot_names t s.entry.slots.now in
+        EmitsTo result (emit_stmt names (keeping_of it.old) (if (when (expr_at depth t at).value (body_at depth t at).value (elifs_at depth t at).value)))
+        (elifs_at depth t at).end t e.old e.new
+        × Passes result it.old it.new (loops_block (body_at depth t at).value + loops_branches (elifs_at depth t at).value) }
 {
     let p = emit_branch(s, e, at, depth, it)?;
     let n = u16_at(s.tree, p);
@@ -149,9 +150,10 @@ fn emit_elifs(
     it: &mut u32,
 ) -> Option<usize>
     requires { SoundIn s.tree.now e.old × BranchesLowerable depth n s.tree.now at × (0 < e.old.code.open) × Spare it.old (loops_branches (branches_at depth n s.tree.now at).value) }
-    ensures { NextIs result (branches_at depth n s.entry.tree.now at).end
-        × Reaches result s.entry.tree.now e.old e.new (chain_at e.old.code.base (slot_names s.entry.tree.now s.entry.slots.now) (keeping_of it.old) (branches_at depth n s.entry.tree.now at).value (e.old.code.open - 1) (state_in s.entry.tree.now e.old))
-        × Passes result it.old it.new (loops_branches (branches_at depth n s.entry.tree.now at).value) }
+    ensures { let t = s.entry.tree.now in let names = slot_names t s.entry.slots.now in
+        NextIs result (branches_at depth n t at).end
+        × Reaches result t e.old e.new (chain_at e.old.code.base names (keeping_of it.old) (branches_at depth n t at).value (e.old.code.open - 1) (state_in t e.old))
+        × Passes result it.old it.new (loops_branches (branches_at depth n t at).value) }
 {
     let mut p = at;
     for _ in 0..n {
@@ -173,9 +175,10 @@ fn emit_else(
     it: &mut u32,
 ) -> Option<usize>
     requires { SoundIn s.tree.now e.old × BranchesLowerable depth 0 s.tree.now at × (0 < e.old.code.open) × Spare it.old (loops_branches (branches_at depth 0 s.tree.now at).value) }
-    ensures { NextIs result (branches_at depth 0 s.entry.tree.now at).end
-        × Reaches result s.entry.tree.now e.old e.new (chain_at e.old.code.base (slot_names s.entry.tree.now s.entry.slots.now) (keeping_of it.old) (branches_at depth 0 s.entry.tree.now at).value (e.old.code.open - 1) (state_in s.entry.tree.now e.old))
-        × Passes result it.old it.new (loops_branches (branches_at depth 0 s.entry.tree.now at).value) }
+    ensures { let t = s.entry.tree.now in let names = slot_names t s.entry.slots.now in
+        NextIs result (branches_at depth 0 t at).end
+        × Reaches result t e.old e.new (chain_at e.old.code.base names (keeping_of it.old) (branches_at depth 0 t at).value (e.old.code.open - 1) (state_in t e.old))
+        × Passes result it.old it.new (loops_branches (branches_at depth 0 t at).value) }
 {
     let from = e.code.open;
     if s.tree[at] == 0 {
@@ -198,10 +201,10 @@ fn emit_while(
     it: &mut u32,
 ) -> Option<usize>
     requires { SoundIn s.tree.now e.old × BranchLowerable depth s.tree.now at × Spare it.old (loops_block (body_at depth s.tree.now at).value) }
-    ensures { EmitsTo result (loop (expr_code depth s.entry.tree.now (slot_names s.entry.tree.now s.entry.slots.now) at) (block_code depth s.entry.tree.now (slot_names s.entry.tree.now s.entry.slots.now) (keeping_of it.old) (expr_at depth s.entry.tree.now at).end))
-        (body_at depth s.entry.tree.now at).end
-        s.entry.tree.now e.old e.new
-        × Passes result it.old it.new (loops_block (body_at depth s.entry.tree.now at).value) }
+    ensures { let t = s.entry.tree.now in let names = slot_names t s.entry.slots.now in
+        EmitsTo result (loop (expr_code depth t names at) (block_code depth t names (keeping_of it.old) (expr_at depth t at).end))
+        (body_at depth t at).end t e.old e.new
+        × Passes result it.old it.new (loops_block (body_at depth t at).value) }
 {
     let start = e.code.open;
     let block = emit_value(s, e, at, depth, JUMP_IF_FALSE)?;
@@ -215,10 +218,10 @@ fn emit_while(
 #[cycle(emit)]
 fn emit_for(s: Scope<'_>, e: &mut Emitter<'_>, at: usize, depth: u32, it: &mut u32) -> Option<usize>
     requires { SoundIn s.tree.now e.old × ForLowerable depth s.tree.now at × Spare it.old (1 + loops_block (body_at depth s.tree.now (name_end s.tree.now at)).value) }
-    ensures { EmitsTo result (emit_stmt (slot_names s.entry.tree.now s.entry.slots.now) (keeping_of it.old) (for (name_at s.entry.tree.now at) (expr_at depth s.entry.tree.now (name_end s.entry.tree.now at)).value (body_at depth s.entry.tree.now (name_end s.entry.tree.now at)).value))
-        (body_at depth s.entry.tree.now (name_end s.entry.tree.now at)).end
-        s.entry.tree.now e.old e.new
-        × Passes result it.old it.new (1 + loops_block (body_at depth s.entry.tree.now (name_end s.entry.tree.now at)).value) }
+    ensures { let t = s.entry.tree.now in let names = slot_names t s.entry.slots.now in
+        EmitsTo result (emit_stmt names (keeping_of it.old) (for (name_at t at) (expr_at depth t (name_end t at)).value (body_at depth t (name_end t at)).value))
+        (body_at depth t (name_end t at)).end t e.old e.new
+        × Passes result it.old it.new (1 + loops_block (body_at depth t (name_end t at)).value) }
 {
     let start = name_end(s.tree, at);
     let block = emit_iterable(s, e, start, depth)?;
@@ -238,10 +241,10 @@ fn emit_rounds(
     it: &mut u32,
 ) -> Option<usize>
     requires { SoundIn s.tree.now e.old × There s.tree.now at × BlockLowerable depth s.tree.now block × Loads load (keeper_of load) × Spare it.old (loops_block (block_at depth s.tree.now block).value) }
-    ensures { EmitsTo result (loop (ask_iter (keeper_of load)) (take_iter (slot_names s.entry.tree.now s.entry.slots.now) (name_at s.entry.tree.now at) (keeper_of load) ⨟ block_code depth s.entry.tree.now (slot_names s.entry.tree.now s.entry.slots.now) (keeping_of it.old) block))
-        (block_at depth s.entry.tree.now block).end
-        s.entry.tree.now e.old e.new
-        × Passes result it.old it.new (loops_block (block_at depth s.entry.tree.now block).value) }
+    ensures { let t = s.entry.tree.now in let names = slot_names t s.entry.slots.now in
+        EmitsTo result (loop (ask_iter (keeper_of load)) (take_iter names (name_at t at) (keeper_of load) ⨟ block_code depth t names (keeping_of it.old) block))
+        (block_at depth t block).end t e.old e.new
+        × Passes result it.old it.new (loops_block (block_at depth t block).value) }
 {
     let start = e.code.open;
     ask_iterator(s.tree, e, load)?;
@@ -263,8 +266,8 @@ fn emit_body(
     first: u32,
 ) -> Option<usize>
     requires { SoundIn s.tree.now e.old × BlockLowerable depth s.tree.now at × Spare first (loops_block (block_at depth s.tree.now at).value) }
-    ensures { EmitsTo result (block_code depth s.entry.tree.now (slot_names s.entry.tree.now s.entry.slots.now) (keeping_of first) at ⨟ emits (end_of init)) (block_at depth s.entry.tree.now at).end
-        s.entry.tree.now e.old e.new }
+    ensures { let t = s.entry.tree.now in let names = slot_names t s.entry.slots.now in
+        EmitsTo result (block_code depth t names (keeping_of first) at ⨟ emits (end_of init)) (block_at depth t at).end t e.old e.new }
 {
     let mut it = first;
     let next = emit_block(s, e, at, depth, &mut it)?;

@@ -7,7 +7,7 @@ use lib.Seq.{length-take-le}
 use Rattle.definitions.specs.Instruction.{instr}
 use Rattle.definitions.specs.Slots.{loops_branches}
 use Rattle.definitions.specs.Lower.{ask_iter}
-use Rattle.parts.specs.Places.{count_at, name_end, params_at}
+use Rattle.parts.specs.Places.{count_at, name_end}
 use Rattle.exprs.specs.ExprAt.{expr_at}
 use Rattle.tree.specs.StmtAt.{body_at, class_methods_at, block_at, branches_at}
 use Rattle.tree.proofs.LoopsAt.{block-loops, loops-at, no-else-loops, else-loops, if-loops, while-loops, for-loops, other-loops}
@@ -22,7 +22,6 @@ use Rattle.lower_emit.proofs.Parts.{emits-by, emits-stopped, emits-words, emits-
 use Rattle.lower_names.proofs.Symbols.{naming-sound}
 use Rattle.lower_forms.specs.Lowerable.{expr_code}
 use Rattle.lower_forms.specs.Lowering.{end_of, function_code, class_code}
-use Rattle.lower_forms.proofs.ExprArms.{params-count}
 use Rattle.lower_forms.proofs.Sequences.{block-at, elifs-at}
 use Rattle.lower_forms.proofs.StmtArms.{block-parts, elifs-more, elifs-none, else-parts, else-in, else-one, methods-parts, stmts-more}
 use Rattle.lower_forms.proofs.StmtArms.{arm-deep, arm-inside, arm-known, arm-if, arm-while, arm-for, arm-def, arm-class}
@@ -32,9 +31,8 @@ use Rattle.lower_stmt.proofs.Sequence.{passes-by, stmts-all, stmts-sound, stmts-
 use Rattle.lower_stmt.proofs.Branches.{loop-stopped, loop-over, inside-above, end-above, loop-ends, branch-stopped, branch-over, branch-ends, if-stopped, if-open, if-done}
 use Rattle.lower_stmt.proofs.Branches.{chain-all, chain-sound, chain-spare, chain-over, chain-longer, chain_next, chain-rest, chain-last, else-none, else-over, else-longer, else-done}
 use Rattle.lower_stmt.proofs.Branches.{iterable-by, for-stopped, for-over, for-sound, for-loads, for-spare, for-passes, for-done}
-use Rattle.lower_stmt.proofs.Functions.{framed_at, frame-keeping, frame-spare, part-names, part-slots, slots-stopped, function-over, function-sound, function-stopped, function-done}
-use Rattle.lower_stmt.proofs.Functions.{body-by, compiles-emits, reaches-lowers}
-use Rattle.lower_stmt.proofs.Classes.{methods-at, methods-all, methods-sole, methods-done, methods-stopped, methods-number, methods-room, methods-next, lists-by}
+use Rattle.lower_stmt.proofs.Functions.{function-parts, slots-stopped, function-over, function-sound, function-stopped, function-done, body-by, compiles-emits, reaches-lowers}
+use Rattle.lower_stmt.proofs.Classes.{class-methods, methods-all, methods-sole, methods-done, methods-stopped, methods-number, methods-room, methods-next, class-lists}
 use Rattle.lower_stmt.proofs.Classes.{class-over, class-sound, class-stopped, class-asks, class-many, class-done}
 use Rattle.lower_stmt.proofs.+emit.Goals as goal
 
@@ -257,9 +255,6 @@ emit_elifs-overflow_sub-over t c = omega (arith, chain-longer c.loop.invariant (
 pub emit_elifs-overflow_sub-over-in-loop : goal.emit_elifs-overflow_sub-over-in-loop
 emit_elifs-overflow_sub-over-in-loop t c = omega (arith, chain-longer c.loop.invariant (omega (arith, c.loop-test.true)) c.emit_branch.ensures.0 c.in_ok-p.was)
 
-pub emit_elifs-overflow_sub-from : goal.emit_elifs-overflow_sub-from
-emit_elifs-overflow_sub-from t c = omega (arith, c.loop.invariant.some)
-
 pub emit_elifs-loop-preserved : goal.emit_elifs-loop-preserved
 emit_elifs-loop-preserved t c = chain_next c.loop.invariant (omega (arith, c.loop-test.true)) c.emit_branch.ensures.0 c.in_ok-p.was _ (omega arith) c.emit_branch.ensures.1 c.set_jump.ensures
 
@@ -450,88 +445,51 @@ emit_body-returns t c =
 -- ---- compile_function
 
 pub compile_function-returns-in_err-frame : goal.compile_function-returns-in_err-frame
-compile_function-returns-in_err-frame t c =
-    let e = c.name_end-params.ensures in
-    let pb = c.skip_params-block.ensures ∙ ap (λ (x : ℕ). (params_at c.args.tree.now x).end) e in
-    slots-stopped c.args.depth c.args.init c.args.at c.from_residual.ensures ((framed_at _ _ e pb c.collect_locals.ensures).over c.in_err-frame.was)
+compile_function-returns-in_err-frame t c = slots-stopped c.args.depth c.args.at c.args.init c.in_err-frame.was c.from_residual.ensures c.name_end-params.ensures c.skip_params-block.ensures c.collect_locals.ensures
 
 pub compile_function-begin_named-requires : goal.compile_function-begin_named-requires
 compile_function-begin_named-requires t c =
-    let e = c.name_end-params.ensures in
-    let pb = c.skip_params-block.ensures ∙ ap (λ (x : ℕ). (params_at c.args.tree.now x).end) e in
-    let cc = (framed_at _ _ e pb c.collect_locals.ensures).framing _ c.in_ok-frame.was in
-    let ea = c.u16_at-arity.ensures.0 ∙ ap (count_at c.args.tree.now) e ∙ sym (params-count c.args.tree.now (name_end c.args.tree.now c.args.at)) in (
-      naming-sound c.requires.0.sound,
-      omega (arith, c.requires.1.name.byte, c.requires.0.tree-short),
-      omega (arith, ea, params-count c.args.tree.now (name_end c.args.tree.now c.args.at), c.requires.1.few),
-      omega (arith, cc.few),
-    )
+    let k = function-parts c.requires.1 c.name_end-params.ensures c.u16_at-arity.ensures.0 c.skip_params-block.ensures c.collect_locals.ensures c.in_ok-frame.was (omega (arith, c.collect_locals.auto.slots)) in
+    (naming-sound c.requires.0.sound, omega (arith, c.requires.1.name.byte, c.requires.0.tree-short), k.arity-few, omega (arith, k.framing.few))
 
 pub compile_function-returns-in_err-f : goal.compile_function-returns-in_err-f
 compile_function-returns-in_err-f t c =
-    let e = c.name_end-params.ensures in
-    let pb = c.skip_params-block.ensures ∙ ap (λ (x : ℕ). (params_at c.args.tree.now x).end) e in
-    let cc = (framed_at _ _ e pb c.collect_locals.ensures).framing _ c.in_ok-frame.was in
-    let ea = c.u16_at-arity.ensures.0 ∙ ap (count_at c.args.tree.now) e ∙ sym (params-count c.args.tree.now (name_end c.args.tree.now c.args.at)) in
-    function-over c.args.depth c.args.init c.requires.0.sound ea cc.locals c.begin_named.ensures c.in_err-f.was c.from_residual-in_err-f.ensures
+    let k = function-parts c.requires.1 c.name_end-params.ensures c.u16_at-arity.ensures.0 c.skip_params-block.ensures c.collect_locals.ensures c.in_ok-frame.was (omega (arith, c.collect_locals.auto.slots)) in
+    function-over c.args.depth c.args.init c.requires.0.sound k.arity-is k.framing.locals c.begin_named.ensures c.in_err-f.was c.from_residual-in_err-f.ensures
 
 pub compile_function-slice_bounds-slots-end : goal.compile_function-slice_bounds-slots-end
 compile_function-slice_bounds-slots-end t c =
-    let e = c.name_end-params.ensures in
-    let pb = c.skip_params-block.ensures ∙ ap (λ (x : ℕ). (params_at c.args.tree.now x).end) e in
-    let cc = (framed_at _ _ e pb c.collect_locals.ensures).framing _ c.in_ok-frame.was in
-    omega (arith, cc.named, cc.few, c.collect_locals.auto.slots)
+    let k = function-parts c.requires.1 c.name_end-params.ensures c.u16_at-arity.ensures.0 c.skip_params-block.ensures c.collect_locals.ensures c.in_ok-frame.was (omega (arith, c.collect_locals.auto.slots)) in
+    omega (arith, k.room)
 
 pub compile_function-slice_bounds-s-end : goal.compile_function-slice_bounds-s-end
 compile_function-slice_bounds-s-end t c =
-    let e = c.name_end-params.ensures in
-    let pb = c.skip_params-block.ensures ∙ ap (λ (x : ℕ). (params_at c.args.tree.now x).end) e in
-    let cc = (framed_at _ _ e pb c.collect_locals.ensures).framing _ c.in_ok-frame.was in
-    let k = length-take-le (slots_from + c.in_ok-frame.frame.named) c.collect_locals.new.slots (omega (arith, cc.named, cc.few, c.collect_locals.auto.slots)) in
-    omega (arith, k, cc.named, cc.few)
+    let k = function-parts c.requires.1 c.name_end-params.ensures c.u16_at-arity.ensures.0 c.skip_params-block.ensures c.collect_locals.ensures c.in_ok-frame.was (omega (arith, c.collect_locals.auto.slots)) in
+    omega (arith, length-take-le (slots_from + c.in_ok-frame.frame.named) c.collect_locals.new.slots k.room)
 
 pub compile_function-invariant_of-s : goal.compile_function-invariant_of-s
 compile_function-invariant_of-s t c =
-    let e = c.name_end-params.ensures in
-    let pb = c.skip_params-block.ensures ∙ ap (λ (x : ℕ). (params_at c.args.tree.now x).end) e in
-    let cc = (framed_at _ _ e pb c.collect_locals.ensures).framing _ c.in_ok-frame.was in
-    record { short = c.requires.0.tree-short; slotted = part-slots _ _ _ (omega (arith, cc.named, cc.few)) cc.indexed (omega (arith, cc.named, cc.few, c.collect_locals.auto.slots)) }
+    let k = function-parts c.requires.1 c.name_end-params.ensures c.u16_at-arity.ensures.0 c.skip_params-block.ensures c.collect_locals.ensures c.in_ok-frame.was (omega (arith, c.collect_locals.auto.slots)) in
+    record { short = c.requires.0.tree-short; slotted = k.slotted }
 
 pub compile_function-emit_body-requires : goal.compile_function-emit_body-requires
 compile_function-emit_body-requires t c =
-    let e = c.name_end-params.ensures in
-    let pb = c.skip_params-block.ensures ∙ ap (λ (x : ℕ). (params_at c.args.tree.now x).end) e in
-    let cc = (framed_at _ _ e pb c.collect_locals.ensures).framing _ c.in_ok-frame.was in
-    let ea = c.u16_at-arity.ensures.0 ∙ ap (count_at c.args.tree.now) e ∙ sym (params-count c.args.tree.now (name_end c.args.tree.now c.args.at)) in (
+    let k = function-parts c.requires.1 c.name_end-params.ensures c.u16_at-arity.ensures.0 c.skip_params-block.ensures c.collect_locals.ensures c.in_ok-frame.was (omega (arith, c.collect_locals.auto.slots)) in (
       omega (arith, c.decreases),
-      (
-        function-sound c.args.depth c.args.init c.requires.0.sound ea cc.locals c.begin_named.ensures c.in_ok-f.was,
-        block-at _ _ _ _ pb c.requires.1.block,
-        spare-at _ _ pb (frame-spare _ _ cc (omega (arith, c.collect_locals.auto.slots))),
-      ),
+      (function-sound c.args.depth c.args.init c.requires.0.sound k.arity-is k.framing.locals c.begin_named.ensures c.in_ok-f.was, block-at _ _ _ _ k.block-is c.requires.1.block, spare-at _ _ k.block-is k.spare),
     )
 
 pub compile_function-returns-in_err-next : goal.compile_function-returns-in_err-next
 compile_function-returns-in_err-next t c =
-    let e = c.name_end-params.ensures in
-    let pb = c.skip_params-block.ensures ∙ ap (λ (x : ℕ). (params_at c.args.tree.now x).end) e in
-    let cc = (framed_at _ _ e pb c.collect_locals.ensures).framing _ c.in_ok-frame.was in
-    let ea = c.u16_at-arity.ensures.0 ∙ ap (count_at c.args.tree.now) e ∙ sym (params-count c.args.tree.now (name_end c.args.tree.now c.args.at)) in
-    let b = body-by c.args.depth c.args.tree.now _ _ (end_of c.args.init) pb c.emit_body.ensures in
-    let nm = part-names _ _ _ _ cc.names (omega (arith, cc.named, cc.few, c.collect_locals.auto.slots)) in
-    let ek = frame-keeping _ _ cc (omega (arith, c.collect_locals.auto.slots)) in
-    function-stopped c.args.depth c.args.init c.requires.0.sound ea cc.locals c.begin_named.ensures c.in_ok-f.was nm ek b c.in_err-next.was c.from_residual-in_err-next.ensures
+    let k = function-parts c.requires.1 c.name_end-params.ensures c.u16_at-arity.ensures.0 c.skip_params-block.ensures c.collect_locals.ensures c.in_ok-frame.was (omega (arith, c.collect_locals.auto.slots)) in
+    let b = body-by c.args.depth c.args.tree.now _ _ (end_of c.args.init) k.block-is c.emit_body.ensures in
+    function-stopped c.args.depth c.args.init c.requires.0.sound k.arity-is k.framing.locals c.begin_named.ensures c.in_ok-f.was k.names k.keep b c.in_err-next.was c.from_residual-in_err-next.ensures
 
 pub compile_function-returns : goal.compile_function-returns
 compile_function-returns t c =
-    let e = c.name_end-params.ensures in
-    let pb = c.skip_params-block.ensures ∙ ap (λ (x : ℕ). (params_at c.args.tree.now x).end) e in
-    let cc = (framed_at _ _ e pb c.collect_locals.ensures).framing _ c.in_ok-frame.was in
-    let ea = c.u16_at-arity.ensures.0 ∙ ap (count_at c.args.tree.now) e ∙ sym (params-count c.args.tree.now (name_end c.args.tree.now c.args.at)) in
-    let b = body-by c.args.depth c.args.tree.now _ _ (end_of c.args.init) pb c.emit_body.ensures in
-    let nm = part-names _ _ _ _ cc.names (omega (arith, cc.named, cc.few, c.collect_locals.auto.slots)) in
-    let ek = frame-keeping _ _ cc (omega (arith, c.collect_locals.auto.slots)) in
-    function-done c.args.depth c.args.init c.requires.0.sound ea cc.locals c.begin_named.ensures c.in_ok-f.was nm ek b c.in_ok-next.was c.end_function.ensures
+    let k = function-parts c.requires.1 c.name_end-params.ensures c.u16_at-arity.ensures.0 c.skip_params-block.ensures c.collect_locals.ensures c.in_ok-frame.was (omega (arith, c.collect_locals.auto.slots)) in
+    let b = body-by c.args.depth c.args.tree.now _ _ (end_of c.args.init) k.block-is c.emit_body.ensures in
+    function-done c.args.depth c.args.init c.requires.0.sound k.arity-is k.framing.locals c.begin_named.ensures c.in_ok-f.was k.names k.keep b c.in_ok-next.was c.end_function.ensures
 
 -- ---- emit_methods
 
@@ -567,58 +525,36 @@ emit_methods-returns t c = methods-done c.loop.invariant c.requires.0 (omega (ar
 -- ---- emit_class
 
 pub emit_class-returns-in_err-i : goal.emit_class-returns-in_err-i
-emit_class-returns-in_err-i t c =
-    let ms = (class_methods_at c.args.depth c.args.tree.now c.args.at).value in
-    class-over ms c.requires.0.sound c.begin_class.ensures c.in_err-i.was c.from_residual.ensures
+emit_class-returns-in_err-i t c = class-over (class_methods_at c.args.depth c.args.tree.now c.args.at).value c.requires.0.sound c.begin_class.ensures c.in_err-i.was c.from_residual.ensures
 
 pub emit_class-emit_methods-requires : goal.emit_class-emit_methods-requires
-emit_class-emit_methods-requires t c =
-    let ms = (class_methods_at c.args.depth c.args.tree.now c.args.at).value in
-    let e = c.name_end-start.ensures in
-    let n = c.u16_at-n.ensures.0 ∙ ap (count_at c.args.tree.now) e in
-    let p = ap (λ (x : ℕ). x + 2) e in (
-      omega (arith, c.decreases),
-      (
-        record { tree-short = c.requires.0.tree-short; sound = class-sound ms c.requires.0.sound c.begin_class.ensures c.in_ok-i.was },
-        methods-at _ _ _ _ _ _ n p c.requires.1.methods,
-        omega arith,
-      ),
-    )
+emit_class-emit_methods-requires t c = (
+  omega (arith, c.decreases),
+  (
+    record { tree-short = c.requires.0.tree-short; sound = class-sound (class_methods_at c.args.depth c.args.tree.now c.args.at).value c.requires.0.sound c.begin_class.ensures c.in_ok-i.was },
+    class-methods _ _ _ c.name_end-start.ensures c.u16_at-n.ensures.0 c.requires.1.methods,
+    omega arith,
+  ),
+)
 
 pub emit_class-returns-in_err-count : goal.emit_class-returns-in_err-count
 emit_class-returns-in_err-count t c =
-    let ms = (class_methods_at c.args.depth c.args.tree.now c.args.at).value in
-    let e = c.name_end-start.ensures in
-    let n = c.u16_at-n.ensures.0 ∙ ap (count_at c.args.tree.now) e in
-    let p = ap (λ (x : ℕ). x + 2) e in
-    let b = lists-by c.args.tree.now _ c.args.depth n p c.emit_methods.ensures in
-    class-stopped ms c.requires.0.sound c.begin_class.ensures c.in_ok-i.was b c.in_err-count.was c.from_residual-in_err-count.ensures
+    let b = class-lists c.args.depth c.args.tree.now c.args.at c.name_end-start.ensures c.u16_at-n.ensures.0 _ c.emit_methods.ensures in
+    class-stopped (class_methods_at c.args.depth c.args.tree.now c.args.at).value c.requires.0.sound c.begin_class.ensures c.in_ok-i.was b c.in_err-count.was c.from_residual-in_err-count.ensures
 
 pub emit_class-slice_bounds-list-end : goal.emit_class-slice_bounds-list-end
 emit_class-slice_bounds-list-end t c =
-    let ms = (class_methods_at c.args.depth c.args.tree.now c.args.at).value in
-    let e = c.name_end-start.ensures in
-    let n = c.u16_at-n.ensures.0 ∙ ap (count_at c.args.tree.now) e in
-    let p = ap (λ (x : ℕ). x + 2) e in
-    let b = lists-by c.args.tree.now _ c.args.depth n p c.emit_methods.ensures in
-    (class-asks ms c.requires.0.sound c.begin_class.ensures c.in_ok-i.was b c.in_ok-count.was).2
+    let b = class-lists c.args.depth c.args.tree.now c.args.at c.name_end-start.ensures c.u16_at-n.ensures.0 _ c.emit_methods.ensures in
+    (class-asks (class_methods_at c.args.depth c.args.tree.now c.args.at).value c.requires.0.sound c.begin_class.ensures c.in_ok-i.was b c.in_ok-count.was).2
 
 pub emit_class-finish_class-requires : goal.emit_class-finish_class-requires
 emit_class-finish_class-requires t c =
-    let ms = (class_methods_at c.args.depth c.args.tree.now c.args.at).value in
-    let e = c.name_end-start.ensures in
-    let n = c.u16_at-n.ensures.0 ∙ ap (count_at c.args.tree.now) e in
-    let p = ap (λ (x : ℕ). x + 2) e in
-    let b = lists-by c.args.tree.now _ c.args.depth n p c.emit_methods.ensures in
-    let q = class-asks ms c.requires.0.sound c.begin_class.ensures c.in_ok-i.was b c.in_ok-count.was in
-    let many = class-many ms c.requires.0.sound c.begin_class.ensures c.in_ok-i.was b c.in_ok-count.was in
+    let b = class-lists c.args.depth c.args.tree.now c.args.at c.name_end-start.ensures c.u16_at-n.ensures.0 _ c.emit_methods.ensures in
+    let q = class-asks (class_methods_at c.args.depth c.args.tree.now c.args.at).value c.requires.0.sound c.begin_class.ensures c.in_ok-i.was b c.in_ok-count.was in
+    let many = class-many (class_methods_at c.args.depth c.args.tree.now c.args.at).value c.requires.0.sound c.begin_class.ensures c.in_ok-i.was b c.in_ok-count.was in
     (q.0, omega (arith, c.requires.1.name.byte, c.requires.0.tree-short), q.1, omega (arith, many, q.3), q.4)
 
 pub emit_class-returns : goal.emit_class-returns
 emit_class-returns t c =
-    let ms = (class_methods_at c.args.depth c.args.tree.now c.args.at).value in
-    let e = c.name_end-start.ensures in
-    let n = c.u16_at-n.ensures.0 ∙ ap (count_at c.args.tree.now) e in
-    let p = ap (λ (x : ℕ). x + 2) e in
-    let b = lists-by c.args.tree.now _ c.args.depth n p c.emit_methods.ensures in
-    class-done ms c.requires.0.sound c.begin_class.ensures c.in_ok-i.was b c.in_ok-count.was c.finish_class.ensures
+    let b = class-lists c.args.depth c.args.tree.now c.args.at c.name_end-start.ensures c.u16_at-n.ensures.0 _ c.emit_methods.ensures in
+    class-done (class_methods_at c.args.depth c.args.tree.now c.args.at).value c.requires.0.sound c.begin_class.ensures c.in_ok-i.was b c.in_ok-count.was c.finish_class.ensures

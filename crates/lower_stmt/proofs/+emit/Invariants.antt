@@ -1,3 +1,4 @@
+-- How deep each function may still go, and what its loop keeps.
 use Prim.Native.Nat.{◌+◌, ◌*◌, ◌-◌}
 use Rattle.state.specs.State.{slot_names}
 use Rattle.lower_stmt.proofs.Sequence.{StmtsRest}
