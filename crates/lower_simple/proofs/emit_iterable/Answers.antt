@@ -1,6 +1,5 @@
 use Rattle.state.proofs.Growth.{lengthens-make_iter}
 use Rattle.lower_emit.proofs.Parts.{emits-stopped, emits-words, emits-no-words}
-use Rattle.lower_expr.proofs.Words.{sound-after}
 use Rattle.lower_simple.proofs.emit_iterable.Goals as goal
 
 pub returns-in_err-next : goal.returns-in_err-next

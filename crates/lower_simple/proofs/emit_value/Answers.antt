@@ -1,4 +1,3 @@
-use native.Mathlib.Omega.{arith}
 use Rattle.state.proofs.Growth.{lengthens-one}
 use Rattle.lower_emit.proofs.Parts.{emits-stopped}
 use Rattle.lower_expr.proofs.Words.{word-ends, word-over}
