@@ -22,10 +22,10 @@ ghost use Rattle.lower_emit.specs.Emitting.{state_in, SoundIn, NextIs, EmitsTo, 
 ghost use Rattle.lower_loops.specs.Iterators.{keeper_of, Loads};
 ghost use Rattle.lower_stmt.specs.Blocks.{SoleIn, CompilesIn, ListsIn};
 
-use lower_simple::{emit_iterable, emit_simple, emit_value, is_init, put_end};
 use lower_classes::{begin_class, begin_named, finish_class};
 use lower_emit::emitter::Emitter;
 use lower_loops::{ask_iterator, store_iterator, take_iterator};
+use lower_simple::{emit_iterable, emit_simple, emit_value, is_init, put_end};
 use methods::insert_method;
 use numerals::ops::{JUMP, JUMP_IF_FALSE};
 use numerals::places::{METHODS_ROOM, SLOTS_FROM};
@@ -304,7 +304,8 @@ fn compile_function(
     Some(next)
 }
 
-// n methods of a class, each a function; the list is of those so far, by rising names. None where there is no room.
+// n methods of a class, each a function; the list is of those so far, by rising names, in fixed memory (no heap) with their count beside it. None where
+// there is no room.
 #[cycle(emit)]
 fn emit_methods(
     tree: &[u8],

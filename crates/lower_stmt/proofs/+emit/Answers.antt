@@ -115,13 +115,10 @@ emit_stmt-returns-in_ok-emit_class-in-10 t c =
     (words-end c.in_ok-emit_class-in-10.was c.skip_stmt.ensures h, passes-by (other-loops _ _ _ c.requires.1.reads (λ h. omega (arith, c.in-10.is))) passes_none)
 
 pub emit_stmt-emit_simple-requires : goal.emit_stmt-emit_simple-requires
-emit_stmt-emit_simple-requires t c = (c.requires.0, c.requires.1, (let n = c.in_default.in_default-own.rest in omega (arith, arm-known _ _ _ c.requires.1, n.1, n.0.1, n.0.0.1, n.0.0.0.1, n.0.0.0.0.1)))
+emit_stmt-emit_simple-requires t c = (c.requires.0, c.requires.1, omega (arith, arm-known _ _ _ c.requires.1))
 
 pub emit_stmt-returns-in_default : goal.emit_stmt-returns-in_default
-emit_stmt-returns-in_default t c = (
-  c.emit_simple.ensures (keeping_of c.args.it.now),
-  passes-by (other-loops _ _ _ c.requires.1.reads (λ h. (let n = c.in_default.in_default-own.rest in omega (arith, n.0.0.1, n.0.0.0.1, n.0.0.0.0.1)))) passes_none,
-)
+emit_stmt-returns-in_default t c = (c.emit_simple.ensures (keeping_of c.args.it.now), passes-by (other-loops _ _ _ c.requires.1.reads (λ h. omega arith)) passes_none)
 
 -- ---- emit_stmts
 
