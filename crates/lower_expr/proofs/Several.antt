@@ -141,7 +141,8 @@ module _ {d : ℕ} {t : List ℕ} {names : List Name} {a : Emitter} {n₀ p₀ :
         let room : o + i + b.code.done < (limits_in a).instructions = omega (arith, ap (λ (l : Limits). l.instructions) same, C.run.inside) in
         let L = put-left t b.tables.made.now ws b.tables.entries.now w _ k (limits_in a) G.midway.sound
         (instr-plain t (5 - kind) 0 0 (plain-below (5 - kind) 0 0 (omega arith) (omega arith) (omega arith) (omega arith))) room in
-        let N = over-next G few (subst (λ (x : Emit). Left (with_open (o + i + 1) (counts_of b)) t b.tables.made.now (set ws (o + i) w) b.tables.entries.now k (limits_in a) (emit_at k.base x (state_of t b.tables.made.now ws b.tables.entries.now k))) (sym (m.code names)) L) in
+        let P = λ (x : Emit). Left (with_open (o + i + 1) (counts_of b)) t b.tables.made.now (set ws (o + i) w) b.tables.entries.now k (limits_in a) (emit_at k.base x (state_of t b.tables.made.now ws b.tables.entries.now k)) in
+        let N = over-next G few (subst P (sym (m.code names)) L) in
         let x : o + i + 1 ≡ o + suc i = omega arith in
         let y : n - i - 1 ≡ n - suc i = omega arith in
         let z : (expr_at d t (p + i)).end ≡ p + suc i = m.end ∙ omega arith in

@@ -15,7 +15,8 @@ use Rattle.lower_emit.proofs.Parts.{emits-words, emits-no-words}
 pub sound-after : {r : Option ℕ} {n m : ℕ} {t : List ℕ} {a b : Emitter} {e : Emit} → r ≡ Some n → EmitsTo r e m t a b → SoundIn t b
 sound-after z h = sound-next z h.lowers.reaches
 
-module _ {A : Type 0} {r : Option ℕ} {u : Option A} {n m w : ℕ} {t : List ℕ} {a b : Emitter} {e : Emit} {i : Instr} {c : Code} (z : r ≡ Some n) (S : SoundIn t a) (h : EmitsTo r e m t a b) (is : instr_of t w ≡ i) (g : Puts u w b.code c) where
+module _ {A : Type 0} {r : Option ℕ} {u : Option A} {n m w : ℕ} {t : List ℕ} {a b : Emitter} {e : Emit} {i : Instr} {c : Code}
+    (z : r ≡ Some n) (S : SoundIn t a) (h : EmitsTo r e m t a b) (is : instr_of t w ≡ i) (g : Puts u w b.code c) where
   pub word-ends : {y : A} → u ≡ Some y → EmitsTo (Some n) (e ⨟ one i) m t a (beside c b.tables)
   word-ends y = emits-words z y S h (put-lifts (sound-after z h) refl is g)
 

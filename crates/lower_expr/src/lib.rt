@@ -11,7 +11,9 @@ ghost use Rattle.exprs.specs.ExprAt.{expr_at, exprs_at, second_at, list_at, bina
 ghost use Rattle.state.specs.Words.{name_at};
 ghost use Rattle.state.specs.State.{slot_names, slots_from};
 ghost use Rattle.lower_emit.specs.Ops.{Plain};
-ghost use Rattle.lower_forms.specs.Lowerable.{Lowerable, LowerableMany, expr_code, exprs_code, UnaryLowerable, TwoLowerable, BinaryLowerable, ArgsLowerable, CallLowerable, NamedLowerable, AttributeLowerable, MethodLowerable, method_code, call_instr, DisplayLowerable, Short, LambdaLowerable, lambda_code, ClosureLowerable, CapturesHeld, closure_code, function_code};
+ghost use Rattle.lower_forms.specs.Lowerable.{expr_code, exprs_code, method_code, call_instr, lambda_code, closure_code, function_code, Short, CapturesHeld};
+ghost use Rattle.lower_forms.specs.Lowerable.{Lowerable, LowerableMany, UnaryLowerable, TwoLowerable, BinaryLowerable, ArgsLowerable, CallLowerable, NamedLowerable};
+ghost use Rattle.lower_forms.specs.Lowerable.{AttributeLowerable, MethodLowerable, DisplayLowerable, LambdaLowerable, ClosureLowerable};
 ghost use Rattle.opcodes.specs.Codes.{unary_opcode, display_of, held_of};
 ghost use Rattle.lower_emit.specs.Emitting.{SoundIn, EmitsTo};
 ghost use Rattle.lower_names.specs.Naming.{callee_of};

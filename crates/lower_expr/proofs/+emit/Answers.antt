@@ -17,7 +17,8 @@ use Rattle.state.proofs.Views.{function-count}
 use Rattle.state.proofs.Growth.{lengthens-one, lengthens-intern, lengthens-seq, lengthens-exprs, lengthens-loads, lengthens-expr, lengthens-shortcut}
 use Rattle.opcodes.specs.Codes.{held_of}
 use Rattle.lower_forms.specs.Lowerable.{call_instr, expr_code, exprs_code}
-use Rattle.lower_forms.proofs.ExprArms.{many-at, there-at, low-code, logical-code, args_at, arm-inside, arm-deep, arm-literal, arm-variable, arm_unary, arm_binary, arm-call, arm-attribute, arm-index, arm-display, arm-lambda, lit-code, display-kinds, lowerable-at, counted-at}
+use Rattle.lower_forms.proofs.ExprArms.{many-at, there-at, low-code, logical-code, args_at, lit-code, display-kinds, lowerable-at, counted-at}
+use Rattle.lower_forms.proofs.ExprArms.{arm-inside, arm-deep, arm-literal, arm-variable, arm_unary, arm_binary, arm-call, arm-attribute, arm-index, arm-display, arm-lambda}
 use Rattle.lower_forms.proofs.CallForms.{call-named, call-method, callee-short}
 use Rattle.lower_forms.proofs.Elements.{more-view}
 use Rattle.lower_emit.proofs.Packing.{plain-above, instr-plain}

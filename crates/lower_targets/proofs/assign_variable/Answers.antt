@@ -12,8 +12,9 @@ bounds-s-start c = expr-inside _ _ _ (lowerable-at _ _ _ _ c.name_end-start.ensu
 
 pub returns-in_err-put_op : goal.returns-in_err-put_op
 returns-in_err-put_op c =
-    let s = c.args.s in let v = lowerable-at _ _ _ _ c.name_end-start.ensures c.requires.1.value in
-    words-stopped c.in_err-put_op.was c.from_residual.ensures c.requires.0 (lengthens-store _ _) (constant-lowers c.name_end-start.ensures c.requires.1.value c.if-kind-lt-INT.true (slot_names s.tree.now s.slots.now) c.requires.0 c.put_op.ensures)
+    let s = c.args.s in
+    let h = constant-lowers c.name_end-start.ensures c.requires.1.value c.if-kind-lt-INT.true (slot_names s.tree.now s.slots.now) c.requires.0 c.put_op.ensures in
+    words-stopped c.in_err-put_op.was c.from_residual.ensures c.requires.0 (lengthens-store _ _) h
 
 pub returns-in_err-emit_store : goal.returns-in_err-emit_store
 returns-in_err-emit_store c =
