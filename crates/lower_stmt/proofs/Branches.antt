@@ -319,7 +319,9 @@ module _ {t : List ℕ} {a a₁ : Emitter} {p : Option ℕ} {n : ℕ} (names : L
         for-done {b' = b'} u v f = record {
           place = λ j q. f.place j q ∙ v;
           lowers = record {
-            reaches = reaches_as (for-is S names keep x e b (g.lowers.reaches.done k y) (keeper_of w) b' (keeping_of i₁) (h.0.loads w z).keeper (h.0.reaches.reaches.done w z) u (ap keeping_of h.1 ∙ keeping-past i 1 (spare-first i 1 (loops_block b) s)))
+            reaches = reaches_as
+                (for-is S names keep x e b (g.lowers.reaches.done k y) (keeper_of w) b' (keeping_of i₁) (h.0.loads w z).keeper (h.0.reaches.reaches.done w z) u
+                (ap keeping_of h.1 ∙ keeping-past i 1 (spare-first i 1 (loops_block b) s)))
                 (reaches-after y g.lowers.reaches (reaches-after z h.0.reaches.reaches f.lowers.reaches));
           };
         }

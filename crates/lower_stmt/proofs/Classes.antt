@@ -134,7 +134,8 @@ module _ {d : ℕ} {t : List ℕ} {a : Emitter} {n₀ p₀ : ℕ} {b : Emitter} 
       methods-room = omega (arith, inv.ahead, x.ahead q z, R.sound.sound.methods, S₁.sound.functions, S₁.sound.limited.functions)
 
       -- the count by other words
-      pub methods-next : {list₁ : List ℕ} {count₁ : ℕ} (k : ℕ) → n - 1 ≡ k → Inserted count₁ t list₁ list count (p * 256 + b.tables.functions) → length list₁ ≡ length list → MethodsRest d t a n₀ p₀ c list₁ k q count₁
+      pub methods-next : {list₁ : List ℕ} {count₁ : ℕ} (k : ℕ) → n - 1 ≡ k
+          → Inserted count₁ t list₁ list count (p * 256 + b.tables.functions) → length list₁ ≡ length list → MethodsRest d t a n₀ p₀ c list₁ k q count₁
       methods-next {list₁} {count₁} k f I same-length =
           let there = x.place q z in
           let done = x.reaches.done q z in

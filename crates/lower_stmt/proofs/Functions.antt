@@ -83,7 +83,8 @@ pub record FunctionParts (d : ℕ) (t : List ℕ) (at arity block : ℕ) (g : Fr
   pub spare : Spare g.named (loops_block (def_block_at d t at).value)
   pub slotted : Slots t (take (slots_from + g.named) ps)
 
-pub function-parts : {d : ℕ} {t : List ℕ} {at arity params block : ℕ} {r : Option Framed} {g : Framed} {ps : List ℕ} → FunctionLowerable d t at → params ≡ name_end t at → arity ≡ count_at t params → block ≡ (params_at t params).end
+pub function-parts : {d : ℕ} {t : List ℕ} {at arity params block : ℕ} {r : Option Framed} {g : Framed} {ps : List ℕ}
+    → FunctionLowerable d t at → params ≡ name_end t at → arity ≡ count_at t params → block ≡ (params_at t params).end
     → Frames r t ps (with_loops (params_at t params).value (block_at d t block).value) → r ≡ Some g → slots_from + 255 ≤ length ps → FunctionParts d t at arity block g ps
 function-parts {d} {t} {at} {arity} {params} {block} {r} {g} {ps} low e a b f z enough =
     let place = b ∙ ap (λ (x : ℕ). (params_at t x).end) e in
@@ -150,7 +151,8 @@ module _ {t : List ℕ} {a : Emitter} (S : SoundIn t a) (x : Name) (arity n : �
   begun-within {l} w = subst (Within l) (sym began-is) (within-down (length s.stack) _ E (within-body w))
 
   -- it has begun
-  module _ {f : ℕ} {a₁ : Emitter} (is : f ≡ length s.tables.functions) (B : MovedIn a.code.open t a a₁ began) (more : a₁.tables.methods + a.tables.functions < a.tables.methods + a₁.tables.functions) (same : limits_in a₁ ≡ limits_in a)
+  module _ {f : ℕ} {a₁ : Emitter} (is : f ≡ length s.tables.functions) (B : MovedIn a.code.open t a a₁ began)
+      (more : a₁.tables.methods + a.tables.functions < a.tables.methods + a₁.tables.functions) (same : limits_in a₁ ≡ limits_in a)
       (names : List Name) (keep : Keeping) (en' : names ≡ inner.names) (ek : keep ≡ inner.keep) where
     first-base : a₁.code.base ≡ length s.stack
     first-base = B.moved.base ∙ sym (stack-long S)
@@ -254,7 +256,8 @@ pub slots-stopped : {q : Option ℕ} {next params block : ℕ} {r : Option Frame
 slots-stopped {t = t} {a = a} d at init z n e b f =
     compiles-stopped n (slots-over d t at init a.code.base (limits_in a) (state_in t a) ((framed_at d at e (b ∙ ap (λ (x : ℕ). (params_at t x).end) e) f).over z)) refl
 
-module _ {t : List ℕ} {a a₁ : Emitter} {p : Option ℕ} {at arity n : ℕ} (d : ℕ) (init : Bool) (S : SoundIn t a) (ea : arity ≡ length (params_at t (name_end t at)).value) (en : n ≡ (frame_at d t at).locals) (B : BeginsNamed p at arity n t a a₁) where
+module _ {t : List ℕ} {a a₁ : Emitter} {p : Option ℕ} {at arity n : ℕ} (d : ℕ) (init : Bool) (S : SoundIn t a)
+    (ea : arity ≡ length (params_at t (name_end t at)).value) (en : n ≡ (frame_at d t at).locals) (B : BeginsNamed p at arity n t a a₁) where
   abbrev function-want : State
   function-want = emit_at a.code.base (function_code d t at init) (state_in t a)
 

@@ -71,7 +71,8 @@ module _ {t : List ℕ} {a a₁ : Emitter} (S : SoundIn t a) (head : Emit) (i : 
     last-above = omega (arith, first-open, last-open, stack-grows a.code.base inside s₂)
 
     -- a loop
-    pub loop-is : set_at (a₁.code.open - 1) (instr 29 (a₂.code.open - a₁.code.open + 1) 0) (patch_at (a₁.code.open - a.code.open) a₁.code.open (a₂.code.open - a₁.code.open) (emit_at a₂.code.base (one (Jump (minus (a₂.code.open - a.code.open + 1)))) (state_in t a₂)))
+    pub loop-is : set_at (a₁.code.open - 1) (instr 29 (a₂.code.open - a₁.code.open + 1) 0)
+        (patch_at (a₁.code.open - a.code.open) a₁.code.open (a₂.code.open - a₁.code.open) (emit_at a₂.code.base (one (Jump (minus (a₂.code.open - a.code.open + 1)))) (state_in t a₂)))
         ≡ emit_at a.code.base (loop head inside) s
     loop-is =
         let n = stack-long S in
@@ -95,7 +96,8 @@ module _ {t : List ℕ} {a a₁ : Emitter} (S : SoundIn t a) (head : Emit) (i : 
   inside-within {l} inside w = subst (Within l) (sym (λ j. emit_at (A.left.base j) inside (first-state j))) (within-loop-inside a.code.base head inside i s (stack-low S) w)
 
 -- the head and its jump are over the limits
-pub head-within : {l : Limits} {inside : Emit} (head : Emit) (i : Instr) (base : ℕ) (s : State) → base ≤ length s.stack → Lengthens inside → Within l (emit_at base (loop head inside) s) → Within l (emit_at base (head ⨟ one i) s)
+pub head-within : {l : Limits} {inside : Emit} (head : Emit) (i : Instr) (base : ℕ) (s : State) → base ≤ length s.stack → Lengthens inside
+    → Within l (emit_at base (loop head inside) s) → Within l (emit_at base (head ⨟ one i) s)
 head-within head i base s h E w = rw (at-seq base head (one i) s h) (within-loop-jump base head i s h E w)
 
 -- ---- a branch
@@ -108,7 +110,8 @@ pub question-within : {l : Limits} (names : List Name) (keep : Keeping) (x : Exp
     → Within l (emit_at base (branch names keep x b) s) → Within l (emit_at base (emit_expr names x ⨟ one i) s)
 question-within names keep x b i base s h w = rw (at-seq base (emit_expr names x) (one i) s h) (within-down base _ (lengthens-block names keep b) (branch-inside names keep x b i base s h w))
 
-pub block_within : {t : List ℕ} {a a₁ : Emitter} {l : Limits} → SoundIn t a → (names : List Name) (keep : Keeping) (x : Expr) (b : Block) (i : Instr) → LeftIn t a a₁ (emit_at a.code.base (emit_expr names x ⨟ one i) (state_in t a))
+pub block_within : {t : List ℕ} {a a₁ : Emitter} {l : Limits} → SoundIn t a → (names : List Name) (keep : Keeping) (x : Expr) (b : Block) (i : Instr)
+    → LeftIn t a a₁ (emit_at a.code.base (emit_expr names x ⨟ one i) (state_in t a))
     → Within l (emit_at a.code.base (branch names keep x b) (state_in t a)) → Within l (emit_at a₁.code.base (emit_block names keep b) (state_in t a₁))
 block_within {t} {a} {a₁} {l} S names keep x b i A w =
     let e = first-state S (emit_expr names x) i A in

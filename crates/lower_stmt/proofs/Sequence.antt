@@ -39,7 +39,8 @@ pub record StmtsRest (d : ℕ) (t : List ℕ) (names : List Name) (a : Emitter) 
   pub loops : after_loops i (loops_block (stmts_at d n t p).value) ≡ after_loops i₀ (loops_block (stmts_at d n₀ t p₀).value)
 
 -- none is done yet; the count by other words
-pub stmts-all : {d : ℕ} {t : List ℕ} {a : Emitter} {i n p : ℕ} (names : List Name) (m : ℕ) → n ≡ m → SoundIn t a → StmtsLowerable d n t p → Spare i (loops_block (stmts_at d n t p).value) → StmtsRest d t names a i n p a i m p
+pub stmts-all : {d : ℕ} {t : List ℕ} {a : Emitter} {i n p : ℕ} (names : List Name) (m : ℕ) → n ≡ m → SoundIn t a → StmtsLowerable d n t p
+    → Spare i (loops_block (stmts_at d n t p).value) → StmtsRest d t names a i n p a i m p
 stmts-all {d} {t} {a} {i} {n} {p} names m e S r s = subst (λ (k : ℕ). StmtsRest d t names a i n p a i k p) e (record {
   stmts = r;
   next = refl;

@@ -105,13 +105,15 @@ emit_stmt-emit_class-requires t c = (omega (arith, c.decreases, arm-deep _ _ _ c
 pub emit_stmt-returns-in_err-emit_class-in-10 : goal.emit_stmt-returns-in_err-emit_class-in-10
 emit_stmt-returns-in_err-emit_class-in-10 t c =
     let m = arm-class _ _ _ c.requires.1 c.in-10.is in
-    let h = lowers-by (reaches-lowers (class_code (name_at c.args.s.tree.now (c.args.at + 1)) (class_methods_at (c.args.depth - 1) c.args.s.tree.now (c.args.at + 1)).value) c.emit_class.ensures) (sym (m.code _ (keeping_of c.args.it.now))) in
+    let code = class_code (name_at c.args.s.tree.now (c.args.at + 1)) (class_methods_at (c.args.depth - 1) c.args.s.tree.now (c.args.at + 1)).value in
+    let h = lowers-by (reaches-lowers code c.emit_class.ensures) (sym (m.code _ (keeping_of c.args.it.now))) in
     (words-none c.in_err-emit_class-in-10.was c.from_residual.ensures h, passes_over c.from_residual.ensures)
 
 pub emit_stmt-returns-in_ok-emit_class-in-10 : goal.emit_stmt-returns-in_ok-emit_class-in-10
 emit_stmt-returns-in_ok-emit_class-in-10 t c =
     let m = arm-class _ _ _ c.requires.1 c.in-10.is in
-    let h = lowers-by (reaches-lowers (class_code (name_at c.args.s.tree.now (c.args.at + 1)) (class_methods_at (c.args.depth - 1) c.args.s.tree.now (c.args.at + 1)).value) c.emit_class.ensures) (sym (m.code _ (keeping_of c.args.it.now))) in
+    let code = class_code (name_at c.args.s.tree.now (c.args.at + 1)) (class_methods_at (c.args.depth - 1) c.args.s.tree.now (c.args.at + 1)).value in
+    let h = lowers-by (reaches-lowers code c.emit_class.ensures) (sym (m.code _ (keeping_of c.args.it.now))) in
     (words-end c.in_ok-emit_class-in-10.was c.skip_stmt.ensures h, passes-by (other-loops _ _ _ c.requires.1.reads (λ h. omega (arith, c.in-10.is))) passes_none)
 
 pub emit_stmt-emit_simple-requires : goal.emit_stmt-emit_simple-requires
@@ -152,10 +154,12 @@ emit_block-emit_stmts-requires t c = (
 )
 
 pub emit_block-returns : goal.emit_block-returns
-emit_block-returns t c = (
-  block-is c.args.depth c.args.s.tree.now (slot_names c.args.s.tree.now c.args.s.slots.now) (keeping_of c.args.it.now) c.args.at _ c.requires.1 c.u16_at-count.ensures.0 c.emit_stmts.ensures.0,
-  passes-by (block-loops _ _ c.requires.1.reads c.u16_at-count.ensures.0 refl) c.emit_stmts.ensures.1,
-)
+emit_block-returns t c =
+    let tree = c.args.s.tree.now in
+    let names = slot_names tree c.args.s.slots.now in (
+      block-is c.args.depth tree names (keeping_of c.args.it.now) c.args.at _ c.requires.1 c.u16_at-count.ensures.0 c.emit_stmts.ensures.0,
+      passes-by (block-loops _ _ c.requires.1.reads c.u16_at-count.ensures.0 refl) c.emit_stmts.ensures.1,
+    )
 
 -- ---- emit_branch
 
@@ -164,37 +168,56 @@ emit_branch-emit_value-requires t c = (c.requires.0, c.requires.1.condition, ome
 
 pub emit_branch-returns-in_err-block : goal.emit_branch-returns-in_err-block
 emit_branch-returns-in_err-block t c =
+    let tree = c.args.s.tree.now in
+    let names = slot_names tree c.args.s.slots.now in
+    let expr = (expr_at c.args.depth tree c.args.at).value in
+    let body = (body_at c.args.depth tree c.args.at).value in
     let v = c.emit_value.ensures in
-    (branch-stopped (slot_names c.args.s.tree.now c.args.s.slots.now) (keeping_of c.args.it.now) (expr_at c.args.depth c.args.s.tree.now c.args.at).value (body_at c.args.depth c.args.s.tree.now c.args.at).value (instr 29 0 0) c.requires.0 v c.in_err-block.was c.from_residual.ensures, passes_over c.from_residual.ensures)
+    (branch-stopped names (keeping_of c.args.it.now) expr body (instr 29 0 0) c.requires.0 v c.in_err-block.was c.from_residual.ensures, passes_over c.from_residual.ensures)
 
 pub emit_branch-returns-in_err-next : goal.emit_branch-returns-in_err-next
 emit_branch-returns-in_err-next t c =
+    let tree = c.args.s.tree.now in
+    let names = slot_names tree c.args.s.slots.now in
+    let expr = (expr_at c.args.depth tree c.args.at).value in
+    let body = (body_at c.args.depth tree c.args.at).value in
     let v = c.emit_value.ensures in
     let place = v.place _ c.in_ok-block.was in
-    let b = block-by c.args.depth c.args.s.tree.now (slot_names c.args.s.tree.now c.args.s.slots.now) (keeping_of c.args.it.now) place c.emit_block.ensures.0 in
-    (branch-over (slot_names c.args.s.tree.now c.args.s.slots.now) (keeping_of c.args.it.now) (expr_at c.args.depth c.args.s.tree.now c.args.at).value (body_at c.args.depth c.args.s.tree.now c.args.at).value (instr 29 0 0) c.requires.0 v c.in_ok-block.was b c.in_err-next.was c.from_residual-in_err-next.ensures, passes_over c.from_residual-in_err-next.ensures)
+    let b = block-by c.args.depth tree names (keeping_of c.args.it.now) place c.emit_block.ensures.0 in
+    (branch-over names (keeping_of c.args.it.now) expr body (instr 29 0 0) c.requires.0 v c.in_ok-block.was b c.in_err-next.was c.from_residual-in_err-next.ensures, passes_over c.from_residual-in_err-next.ensures)
 
 pub emit_branch-end_branch-requires : goal.emit_branch-end_branch-requires
 emit_branch-end_branch-requires t c =
-    let question = expr_code c.args.depth c.args.s.tree.now (slot_names c.args.s.tree.now c.args.s.slots.now) c.args.at in
+    let tree = c.args.s.tree.now in
+    let names = slot_names tree c.args.s.slots.now in
+    let question = expr_code c.args.depth tree names c.args.at in
     let v = c.emit_value.ensures in
     let place = v.place _ c.in_ok-block.was in
-    let b = block-by c.args.depth c.args.s.tree.now (slot_names c.args.s.tree.now c.args.s.slots.now) (keeping_of c.args.it.now) place c.emit_block.ensures.0 in
+    let b = block-by c.args.depth tree names (keeping_of c.args.it.now) place c.emit_block.ensures.0 in
     (omega (arith, inside-above question (instr 29 0 0) c.requires.0 v.lowers c.in_ok-block.was b.lowers), end-above question (instr 29 0 0) c.requires.0 v.lowers c.in_ok-block.was b.lowers c.in_ok-next.was)
 
 pub emit_branch-returns-in_err-end_branch : goal.emit_branch-returns-in_err-end_branch
 emit_branch-returns-in_err-end_branch t c =
+    let tree = c.args.s.tree.now in
+    let names = slot_names tree c.args.s.slots.now in
+    let expr = (expr_at c.args.depth tree c.args.at).value in
+    let body = (body_at c.args.depth tree c.args.at).value in
     let v = c.emit_value.ensures in
     let place = v.place _ c.in_ok-block.was in
-    let b = block-by c.args.depth c.args.s.tree.now (slot_names c.args.s.tree.now c.args.s.slots.now) (keeping_of c.args.it.now) place c.emit_block.ensures.0 in
-    (words-none c.in_err-end_branch.was c.from_residual-in_err-end_branch.ensures (branch-ends (slot_names c.args.s.tree.now c.args.s.slots.now) (keeping_of c.args.it.now) (expr_at c.args.depth c.args.s.tree.now c.args.at).value (body_at c.args.depth c.args.s.tree.now c.args.at).value (instr 29 0 0) c.requires.0 v c.in_ok-block.was b c.in_ok-next.was c.end_branch.ensures), passes_over c.from_residual-in_err-end_branch.ensures)
+    let b = block-by c.args.depth tree names (keeping_of c.args.it.now) place c.emit_block.ensures.0 in
+    let h = branch-ends names (keeping_of c.args.it.now) expr body (instr 29 0 0) c.requires.0 v c.in_ok-block.was b c.in_ok-next.was c.end_branch.ensures in
+    (words-none c.in_err-end_branch.was c.from_residual-in_err-end_branch.ensures h, passes_over c.from_residual-in_err-end_branch.ensures)
 
 pub emit_branch-returns : goal.emit_branch-returns
 emit_branch-returns t c =
+    let tree = c.args.s.tree.now in
+    let names = slot_names tree c.args.s.slots.now in
+    let expr = (expr_at c.args.depth tree c.args.at).value in
+    let body = (body_at c.args.depth tree c.args.at).value in
     let v = c.emit_value.ensures in
     let place = v.place _ c.in_ok-block.was in
-    let b = block-by c.args.depth c.args.s.tree.now (slot_names c.args.s.tree.now c.args.s.slots.now) (keeping_of c.args.it.now) place c.emit_block.ensures.0 in (
-      words-end c.in_ok-end_branch.was (b.place _ c.in_ok-next.was) (branch-ends (slot_names c.args.s.tree.now c.args.s.slots.now) (keeping_of c.args.it.now) (expr_at c.args.depth c.args.s.tree.now c.args.at).value (body_at c.args.depth c.args.s.tree.now c.args.at).value (instr 29 0 0) c.requires.0 v c.in_ok-block.was b c.in_ok-next.was c.end_branch.ensures),
+    let b = block-by c.args.depth tree names (keeping_of c.args.it.now) place c.emit_block.ensures.0 in (
+      words-end c.in_ok-end_branch.was (b.place _ c.in_ok-next.was) (branch-ends names (keeping_of c.args.it.now) expr body (instr 29 0 0) c.requires.0 v c.in_ok-block.was b c.in_ok-next.was c.end_branch.ensures),
       passes-done c.in_ok-next.was (loops-at _ _ place) c.emit_block.ensures.1,
     )
 
@@ -202,34 +225,46 @@ emit_branch-returns t c =
 
 pub emit_if-returns-in_err-p : goal.emit_if-returns-in_err-p
 emit_if-returns-in_err-p t c =
+    let tree = c.args.s.tree.now in
+    let names = slot_names tree c.args.s.slots.now in
+    let expr = (expr_at c.args.depth tree c.args.at).value in
+    let body = (body_at c.args.depth tree c.args.at).value in
     let g = c.emit_branch.ensures.0 in
-    (if-stopped (slot_names c.args.s.tree.now c.args.s.slots.now) (keeping_of c.args.it.now) (expr_at c.args.depth c.args.s.tree.now c.args.at).value (body_at c.args.depth c.args.s.tree.now c.args.at).value c.requires.0 g _ c.in_err-p.was c.from_residual.ensures, passes_over c.from_residual.ensures)
+    (if-stopped names (keeping_of c.args.it.now) expr body c.requires.0 g _ c.in_err-p.was c.from_residual.ensures, passes_over c.from_residual.ensures)
 
 pub emit_if-emit_elifs-requires : goal.emit_if-emit_elifs-requires
 emit_if-emit_elifs-requires t c =
+    let tree = c.args.s.tree.now in
+    let names = slot_names tree c.args.s.slots.now in
+    let expr = (expr_at c.args.depth tree c.args.at).value in
+    let body = (body_at c.args.depth tree c.args.at).value in
     let g = c.emit_branch.ensures.0 in
     let place = g.place _ c.in_ok-p.was in
-    let n = c.u16_at-n.ensures.0 ∙ ap (count_at c.args.s.tree.now) place in
+    let n = c.u16_at-n.ensures.0 ∙ ap (count_at tree) place in
     let p = ap (λ (x : ℕ). x + 2) place in (
       omega (arith, c.decreases),
       (
         sound-next c.in_ok-p.was g.lowers.reaches,
         elifs-at _ _ _ _ _ _ n p c.requires.1.rest,
-        if-open (slot_names c.args.s.tree.now c.args.s.slots.now) (keeping_of c.args.it.now) (expr_at c.args.depth c.args.s.tree.now c.args.at).value (body_at c.args.depth c.args.s.tree.now c.args.at).value c.requires.0 g c.in_ok-p.was,
-        spare-then c.in_ok-p.was c.emit_branch.ensures.1 c.requires.2 (sym (λ i. loops_branches (branches_at c.args.depth (n i) c.args.s.tree.now (p i)).value)),
+        if-open names (keeping_of c.args.it.now) expr body c.requires.0 g c.in_ok-p.was,
+        spare-then c.in_ok-p.was c.emit_branch.ensures.1 c.requires.2 (sym (λ i. loops_branches (branches_at c.args.depth (n i) tree (p i)).value)),
       ),
     )
 
 pub emit_if-returns : goal.emit_if-returns
 emit_if-returns t c =
+    let tree = c.args.s.tree.now in
+    let names = slot_names tree c.args.s.slots.now in
+    let expr = (expr_at c.args.depth tree c.args.at).value in
+    let body = (body_at c.args.depth tree c.args.at).value in
     let g = c.emit_branch.ensures.0 in
     let place = g.place _ c.in_ok-p.was in
-    let n = c.u16_at-n.ensures.0 ∙ ap (count_at c.args.s.tree.now) place in
+    let n = c.u16_at-n.ensures.0 ∙ ap (count_at tree) place in
     let p = ap (λ (x : ℕ). x + 2) place in
     let passed = c.emit_branch.ensures.1 in (
-      if-done (slot_names c.args.s.tree.now c.args.s.slots.now) (keeping_of c.args.it.now) (expr_at c.args.depth c.args.s.tree.now c.args.at).value (body_at c.args.depth c.args.s.tree.now c.args.at).value c.requires.0 g c.in_ok-p.was (keeping-then c.in_ok-p.was passed (spare-first _ _ _ c.requires.2)) (λ i. (branches_at c.args.depth (n i) c.args.s.tree.now (p i)).value)
-          (λ i. (branches_at c.args.depth (n i) c.args.s.tree.now (p i)).end) c.emit_elifs.ensures.0 c.emit_elifs.ensures.1,
-      passes_then c.requires.2 c.in_ok-p.was passed (passes-by (λ i. loops_branches (branches_at c.args.depth (n i) c.args.s.tree.now (p i)).value) c.emit_elifs.ensures.2),
+      if-done names (keeping_of c.args.it.now) expr body c.requires.0 g c.in_ok-p.was (keeping-then c.in_ok-p.was passed (spare-first _ _ _ c.requires.2)) (λ i. (branches_at c.args.depth (n i) tree (p i)).value)
+          (λ i. (branches_at c.args.depth (n i) tree (p i)).end) c.emit_elifs.ensures.0 c.emit_elifs.ensures.1,
+      passes_then c.requires.2 c.in_ok-p.was passed (passes-by (λ i. loops_branches (branches_at c.args.depth (n i) tree (p i)).value) c.emit_elifs.ensures.2),
     )
 
 -- ---- emit_elifs
@@ -285,7 +320,9 @@ emit_else-emit_block-requires t c = (
 )
 
 pub emit_else-returns-in_err-next : goal.emit_else-returns-in_err-next
-emit_else-returns-in_err-next t c = (next-none c.from_residual.ensures, else-over (slot_names c.args.s.tree.now c.args.s.slots.now) (keeping_of c.args.it.now) c.requires.0 c.requires.2 c.requires.1 c.if-s-at-eq0.false c.emit_block.ensures.0 c.in_err-next.was c.from_residual.ensures, passes_over c.from_residual.ensures)
+emit_else-returns-in_err-next t c =
+    let w = else-over (slot_names c.args.s.tree.now c.args.s.slots.now) (keeping_of c.args.it.now) c.requires.0 c.requires.2 c.requires.1 c.if-s-at-eq0.false c.emit_block.ensures.0 c.in_err-next.was c.from_residual.ensures in
+    (next-none c.from_residual.ensures, w, passes_over c.from_residual.ensures)
 
 pub emit_else-overflow_sub-over : goal.emit_else-overflow_sub-over
 emit_else-overflow_sub-over t c = else-longer (slot_names c.args.s.tree.now c.args.s.slots.now) (keeping_of c.args.it.now) c.requires.0 c.requires.2 c.requires.1 c.if-s-at-eq0.false c.emit_block.ensures.0 c.in_ok-next.was
@@ -302,40 +339,51 @@ emit_while-emit_value-requires t c = (c.requires.0, c.requires.1.condition, omeg
 
 pub emit_while-returns-in_err-block : goal.emit_while-returns-in_err-block
 emit_while-returns-in_err-block t c =
-    let question = expr_code c.args.depth c.args.s.tree.now (slot_names c.args.s.tree.now c.args.s.slots.now) c.args.at in
+    let tree = c.args.s.tree.now in
+    let names = slot_names tree c.args.s.slots.now in
+    let question = expr_code c.args.depth tree names c.args.at in
     let v = c.emit_value.ensures in
     (loop-stopped question (instr 29 0 0) c.requires.0 v.lowers (lengthens-block _ _ _) c.in_err-block.was c.from_residual.ensures, passes_over c.from_residual.ensures)
 
 pub emit_while-returns-in_err-next : goal.emit_while-returns-in_err-next
 emit_while-returns-in_err-next t c =
-    let question = expr_code c.args.depth c.args.s.tree.now (slot_names c.args.s.tree.now c.args.s.slots.now) c.args.at in
+    let tree = c.args.s.tree.now in
+    let names = slot_names tree c.args.s.slots.now in
+    let question = expr_code c.args.depth tree names c.args.at in
     let v = c.emit_value.ensures in
     let place = v.place _ c.in_ok-block.was in
-    let b = block-by c.args.depth c.args.s.tree.now (slot_names c.args.s.tree.now c.args.s.slots.now) (keeping_of c.args.it.now) place c.emit_block.ensures.0 in
+    let b = block-by c.args.depth tree names (keeping_of c.args.it.now) place c.emit_block.ensures.0 in
     (loop-over question (instr 29 0 0) c.requires.0 v.lowers c.in_ok-block.was b.lowers c.in_err-next.was c.from_residual-in_err-next.ensures, passes_over c.from_residual-in_err-next.ensures)
 
 pub emit_while-end_loop-requires : goal.emit_while-end_loop-requires
 emit_while-end_loop-requires t c =
-    let question = expr_code c.args.depth c.args.s.tree.now (slot_names c.args.s.tree.now c.args.s.slots.now) c.args.at in
+    let tree = c.args.s.tree.now in
+    let names = slot_names tree c.args.s.slots.now in
+    let question = expr_code c.args.depth tree names c.args.at in
     let v = c.emit_value.ensures in
     let place = v.place _ c.in_ok-block.was in
-    let b = block-by c.args.depth c.args.s.tree.now (slot_names c.args.s.tree.now c.args.s.slots.now) (keeping_of c.args.it.now) place c.emit_block.ensures.0 in
+    let b = block-by c.args.depth tree names (keeping_of c.args.it.now) place c.emit_block.ensures.0 in
     (inside-above question (instr 29 0 0) c.requires.0 v.lowers c.in_ok-block.was b.lowers, end-above question (instr 29 0 0) c.requires.0 v.lowers c.in_ok-block.was b.lowers c.in_ok-next.was)
 
 pub emit_while-returns-in_err-end_loop : goal.emit_while-returns-in_err-end_loop
 emit_while-returns-in_err-end_loop t c =
-    let question = expr_code c.args.depth c.args.s.tree.now (slot_names c.args.s.tree.now c.args.s.slots.now) c.args.at in
+    let tree = c.args.s.tree.now in
+    let names = slot_names tree c.args.s.slots.now in
+    let question = expr_code c.args.depth tree names c.args.at in
     let v = c.emit_value.ensures in
     let place = v.place _ c.in_ok-block.was in
-    let b = block-by c.args.depth c.args.s.tree.now (slot_names c.args.s.tree.now c.args.s.slots.now) (keeping_of c.args.it.now) place c.emit_block.ensures.0 in
-    (words-none c.in_err-end_loop.was c.from_residual-in_err-end_loop.ensures (loop-ends question (instr 29 0 0) c.requires.0 v.lowers c.in_ok-block.was b.lowers c.in_ok-next.was c.end_loop.ensures), passes_over c.from_residual-in_err-end_loop.ensures)
+    let b = block-by c.args.depth tree names (keeping_of c.args.it.now) place c.emit_block.ensures.0 in
+    let h = loop-ends question (instr 29 0 0) c.requires.0 v.lowers c.in_ok-block.was b.lowers c.in_ok-next.was c.end_loop.ensures in
+    (words-none c.in_err-end_loop.was c.from_residual-in_err-end_loop.ensures h, passes_over c.from_residual-in_err-end_loop.ensures)
 
 pub emit_while-returns : goal.emit_while-returns
 emit_while-returns t c =
-    let question = expr_code c.args.depth c.args.s.tree.now (slot_names c.args.s.tree.now c.args.s.slots.now) c.args.at in
+    let tree = c.args.s.tree.now in
+    let names = slot_names tree c.args.s.slots.now in
+    let question = expr_code c.args.depth tree names c.args.at in
     let v = c.emit_value.ensures in
     let place = v.place _ c.in_ok-block.was in
-    let b = block-by c.args.depth c.args.s.tree.now (slot_names c.args.s.tree.now c.args.s.slots.now) (keeping_of c.args.it.now) place c.emit_block.ensures.0 in (
+    let b = block-by c.args.depth tree names (keeping_of c.args.it.now) place c.emit_block.ensures.0 in (
       words-end c.in_ok-end_loop.was (b.place _ c.in_ok-next.was) (loop-ends question (instr 29 0 0) c.requires.0 v.lowers c.in_ok-block.was b.lowers c.in_ok-next.was c.end_loop.ensures),
       passes-done c.in_ok-next.was (loops-at _ _ place) c.emit_block.ensures.1,
     )
@@ -344,34 +392,52 @@ emit_while-returns t c =
 
 pub emit_for-returns-in_err-block : goal.emit_for-returns-in_err-block
 emit_for-returns-in_err-block t c =
-    let g = iterable-by c.args.depth c.args.s.tree.now (slot_names c.args.s.tree.now c.args.s.slots.now) c.name_end-start.ensures c.emit_iterable.ensures in
-    (for-stopped (slot_names c.args.s.tree.now c.args.s.slots.now) c.args.it.now (expr_at c.args.depth c.args.s.tree.now (name_end c.args.s.tree.now c.args.at)).value (name_at c.args.s.tree.now c.args.at) (body_at c.args.depth c.args.s.tree.now (name_end c.args.s.tree.now c.args.at)).value c.requires.0 g c.in_err-block.was c.from_residual.ensures, passes_over c.from_residual.ensures)
+    let tree = c.args.s.tree.now in
+    let names = slot_names tree c.args.s.slots.now in
+    let expr = (expr_at c.args.depth tree (name_end tree c.args.at)).value in
+    let body = (body_at c.args.depth tree (name_end tree c.args.at)).value in
+    let g = iterable-by c.args.depth tree names c.name_end-start.ensures c.emit_iterable.ensures in
+    (for-stopped names c.args.it.now expr (name_at tree c.args.at) body c.requires.0 g c.in_err-block.was c.from_residual.ensures, passes_over c.from_residual.ensures)
 
 pub emit_for-returns-in_err-load : goal.emit_for-returns-in_err-load
 emit_for-returns-in_err-load t c =
-    let g = iterable-by c.args.depth c.args.s.tree.now (slot_names c.args.s.tree.now c.args.s.slots.now) c.name_end-start.ensures c.emit_iterable.ensures in
-    (for-over (slot_names c.args.s.tree.now c.args.s.slots.now) c.args.it.now (expr_at c.args.depth c.args.s.tree.now (name_end c.args.s.tree.now c.args.at)).value (name_at c.args.s.tree.now c.args.at) (body_at c.args.depth c.args.s.tree.now (name_end c.args.s.tree.now c.args.at)).value c.requires.0 g c.in_ok-block.was c.store_iterator.ensures c.in_err-load.was c.from_residual-in_err-load.ensures, passes_over c.from_residual-in_err-load.ensures)
+    let tree = c.args.s.tree.now in
+    let names = slot_names tree c.args.s.slots.now in
+    let expr = (expr_at c.args.depth tree (name_end tree c.args.at)).value in
+    let body = (body_at c.args.depth tree (name_end tree c.args.at)).value in
+    let g = iterable-by c.args.depth tree names c.name_end-start.ensures c.emit_iterable.ensures in
+    (for-over names c.args.it.now expr (name_at tree c.args.at) body c.requires.0 g c.in_ok-block.was c.store_iterator.ensures c.in_err-load.was c.from_residual-in_err-load.ensures, passes_over c.from_residual-in_err-load.ensures)
 
 pub emit_for-emit_rounds-requires : goal.emit_for-emit_rounds-requires
 emit_for-emit_rounds-requires t c =
-    let g = iterable-by c.args.depth c.args.s.tree.now (slot_names c.args.s.tree.now c.args.s.slots.now) c.name_end-start.ensures c.emit_iterable.ensures in
+    let tree = c.args.s.tree.now in
+    let names = slot_names tree c.args.s.slots.now in
+    let expr = (expr_at c.args.depth tree (name_end tree c.args.at)).value in
+    let body = (body_at c.args.depth tree (name_end tree c.args.at)).value in
+    let g = iterable-by c.args.depth tree names c.name_end-start.ensures c.emit_iterable.ensures in
     let place = g.place _ c.in_ok-block.was in (
       omega (arith, c.decreases),
       (
-        for-sound (slot_names c.args.s.tree.now c.args.s.slots.now) c.args.it.now (expr_at c.args.depth c.args.s.tree.now (name_end c.args.s.tree.now c.args.at)).value (name_at c.args.s.tree.now c.args.at) (body_at c.args.depth c.args.s.tree.now (name_end c.args.s.tree.now c.args.at)).value c.requires.0 g c.in_ok-block.was c.store_iterator.ensures c.in_ok-load.was,
+        for-sound names c.args.it.now expr (name_at tree c.args.at) body c.requires.0 g c.in_ok-block.was c.store_iterator.ensures c.in_ok-load.was,
         c.requires.1.name,
         block-at _ _ _ _ place c.requires.1.loop.block,
-        for-loads (slot_names c.args.s.tree.now c.args.s.slots.now) c.args.it.now (expr_at c.args.depth c.args.s.tree.now (name_end c.args.s.tree.now c.args.at)).value (name_at c.args.s.tree.now c.args.at) (body_at c.args.depth c.args.s.tree.now (name_end c.args.s.tree.now c.args.at)).value c.requires.0 g c.in_ok-block.was c.store_iterator.ensures c.in_ok-load.was,
-        spare-at _ _ place (for-spare (slot_names c.args.s.tree.now c.args.s.slots.now) c.args.it.now (expr_at c.args.depth c.args.s.tree.now (name_end c.args.s.tree.now c.args.at)).value (name_at c.args.s.tree.now c.args.at) (body_at c.args.depth c.args.s.tree.now (name_end c.args.s.tree.now c.args.at)).value c.requires.0 g c.in_ok-block.was c.store_iterator.ensures c.in_ok-load.was c.requires.2),
+        for-loads names c.args.it.now expr (name_at tree c.args.at) body c.requires.0 g c.in_ok-block.was c.store_iterator.ensures c.in_ok-load.was,
+        spare-at _ _ place (for-spare names c.args.it.now expr (name_at tree c.args.at) body c.requires.0 g c.in_ok-block.was c.store_iterator.ensures c.in_ok-load.was c.requires.2),
       ),
     )
 
 pub emit_for-returns : goal.emit_for-returns
 emit_for-returns t c =
-    let g = iterable-by c.args.depth c.args.s.tree.now (slot_names c.args.s.tree.now c.args.s.slots.now) c.name_end-start.ensures c.emit_iterable.ensures in
+    let tree = c.args.s.tree.now in
+    let names = slot_names tree c.args.s.slots.now in
+    let expr = (expr_at c.args.depth tree (name_end tree c.args.at)).value in
+    let body = (body_at c.args.depth tree (name_end tree c.args.at)).value in
+    let g = iterable-by c.args.depth tree names c.name_end-start.ensures c.emit_iterable.ensures in
     let place = g.place _ c.in_ok-block.was in (
-      for-done (slot_names c.args.s.tree.now c.args.s.slots.now) c.args.it.now (expr_at c.args.depth c.args.s.tree.now (name_end c.args.s.tree.now c.args.at)).value (name_at c.args.s.tree.now c.args.at) (body_at c.args.depth c.args.s.tree.now (name_end c.args.s.tree.now c.args.at)).value c.requires.0 g c.in_ok-block.was c.store_iterator.ensures c.in_ok-load.was c.requires.2 (λ i. (block_at c.args.depth c.args.s.tree.now (place i)).value) (λ i. (block_at c.args.depth c.args.s.tree.now (place i)).end) c.emit_rounds.ensures.0,
-      for-passes (slot_names c.args.s.tree.now c.args.s.slots.now) c.args.it.now (expr_at c.args.depth c.args.s.tree.now (name_end c.args.s.tree.now c.args.at)).value (name_at c.args.s.tree.now c.args.at) (body_at c.args.depth c.args.s.tree.now (name_end c.args.s.tree.now c.args.at)).value c.requires.0 g c.in_ok-block.was c.store_iterator.ensures c.in_ok-load.was c.requires.2 (passes-by (loops-at _ _ place) c.emit_rounds.ensures.1),
+      for-done names c.args.it.now expr (name_at tree c.args.at) body c.requires.0 g c.in_ok-block.was c.store_iterator.ensures c.in_ok-load.was c.requires.2
+          (λ i. (block_at c.args.depth tree (place i)).value) (λ i. (block_at c.args.depth tree (place i)).end)
+          c.emit_rounds.ensures.0,
+      for-passes names c.args.it.now expr (name_at tree c.args.at) body c.requires.0 g c.in_ok-block.was c.store_iterator.ensures c.in_ok-load.was c.requires.2 (passes-by (loops-at _ _ place) c.emit_rounds.ensures.1),
     )
 
 -- ---- emit_rounds
@@ -383,11 +449,13 @@ emit_rounds-returns-in_err-ask_iterator t c =
 
 pub emit_rounds-returns-in_err-take_iterator : goal.emit_rounds-returns-in_err-take_iterator
 emit_rounds-returns-in_err-take_iterator t c =
+    let tree = c.args.s.tree.now in
+    let names = slot_names tree c.args.s.slots.now in
     let a = c.ask_iterator.ensures in
     let u = c.take_iterator.ensures in
     let s = sound-next c.in_ok-ask_iterator.was a.reaches in
     let z = c.in_err-take_iterator.was in
-    let w = lowers-stopped z z s (lengthens-block (slot_names c.args.s.tree.now c.args.s.slots.now) (keeping_of c.args.it.now) (block_at c.args.depth c.args.s.tree.now c.args.block).value) u in
+    let w = lowers-stopped z z s (lengthens-block names (keeping_of c.args.it.now) (block_at c.args.depth tree c.args.block).value) u in
     (loop-over (ask_iter (keeper_of c.args.load)) (instr 29 0 0) c.requires.0 a c.in_ok-ask_iterator.was w z c.from_residual-in_err-take_iterator.ensures, passes_over c.from_residual-in_err-take_iterator.ensures)
 
 pub emit_rounds-returns-in_err-next : goal.emit_rounds-returns-in_err-next
@@ -412,7 +480,8 @@ emit_rounds-returns-in_err-end_loop t c =
     let u = c.take_iterator.ensures in
     let s = sound-next c.in_ok-ask_iterator.was a.reaches in
     let w = lowers_then c.in_ok-take_iterator.was s u c.emit_block.ensures.0.lowers in
-    (words-none c.in_err-end_loop.was c.from_residual-in_err-end_loop.ensures (loop-ends (ask_iter (keeper_of c.args.load)) (instr 29 0 0) c.requires.0 a c.in_ok-ask_iterator.was w c.in_ok-next.was c.end_loop.ensures), passes_over c.from_residual-in_err-end_loop.ensures)
+    let h = loop-ends (ask_iter (keeper_of c.args.load)) (instr 29 0 0) c.requires.0 a c.in_ok-ask_iterator.was w c.in_ok-next.was c.end_loop.ensures in
+    (words-none c.in_err-end_loop.was c.from_residual-in_err-end_loop.ensures h, passes_over c.from_residual-in_err-end_loop.ensures)
 
 pub emit_rounds-returns : goal.emit_rounds-returns
 emit_rounds-returns t c =
@@ -506,7 +575,9 @@ pub emit_methods-overflow_mul-p : goal.emit_methods-overflow_mul-p
 emit_methods-overflow_mul-p t c = omega (arith, (methods-parts _ _ _ _ (omega (arith, c.loop-test.true)) c.loop.invariant.methods).0.name.byte, c.requires.0.tree-short)
 
 pub emit_methods-overflow_add-p : goal.emit_methods-overflow_add-p
-emit_methods-overflow_add-p t c = omega (arith, (methods-parts _ _ _ _ (omega (arith, c.loop-test.true)) c.loop.invariant.methods).0.name.byte, c.requires.0.tree-short, methods-number c.loop.invariant c.requires.0 (omega (arith, c.loop-test.true)) c.is_init.ensures c.compile_function.ensures c.in_ok-next.was)
+emit_methods-overflow_add-p t c =
+    let number = methods-number c.loop.invariant c.requires.0 (omega (arith, c.loop-test.true)) c.is_init.ensures c.compile_function.ensures c.in_ok-next.was in
+    omega (arith, (methods-parts _ _ _ _ (omega (arith, c.loop-test.true)) c.loop.invariant.methods).0.name.byte, c.requires.0.tree-short, number)
 
 pub emit_methods-insert_method-count-requires : goal.emit_methods-insert_method-count-requires
 emit_methods-insert_method-count-requires t c =
@@ -514,7 +585,9 @@ emit_methods-insert_method-count-requires t c =
     (omega (arith, m, c.loop.invariant.room), omega (arith, m))
 
 pub emit_methods-loop-preserved : goal.emit_methods-loop-preserved
-emit_methods-loop-preserved t c = methods-next c.loop.invariant c.requires.0 (omega (arith, c.loop-test.true)) c.is_init.ensures c.compile_function.ensures c.in_ok-next.was _ (omega arith) c.insert_method-count.ensures c.insert_method-count.auto.list
+emit_methods-loop-preserved t c =
+    methods-next c.loop.invariant c.requires.0 (omega (arith, c.loop-test.true)) c.is_init.ensures c.compile_function.ensures c.in_ok-next.was _ (omega arith) c.insert_method-count.ensures
+    c.insert_method-count.auto.list
 
 pub emit_methods-returns : goal.emit_methods-returns
 emit_methods-returns t c = methods-done c.loop.invariant c.requires.0 (omega (arith, c.loop-test.false))
