@@ -35,8 +35,8 @@ pub fn emit_value(
     op: u32,
 ) -> Option<usize>
     requires { SoundIn s.tree.now e.old × Lowerable depth s.tree.now at × (op < 256) × ((t : List ℕ) → instr_of t (word op 0 0) ≡ instr op 0 0) }
-    ensures { EmitsTo result (expr_code depth s.tree.now (slot_names s.tree.now s.slots.now) at ⨟ one (instr op 0 0)) (expr_at depth s.tree.now at).end
-        s.tree.now e.old e.new }
+    ensures { let t = s.entry.tree.now in let names = slot_names t s.entry.slots.now in
+        EmitsTo result (expr_code depth t names at ⨟ one (instr op 0 0)) (expr_at depth t at).end t e.old e.new }
 {
     let next = emit_expr(s, e, at, depth)?;
     e.code.put_op(op, 0, 0)?;
@@ -46,8 +46,8 @@ pub fn emit_value(
 // What a for loop goes through, and its iterator.
 pub fn emit_iterable(s: Scope<'_>, e: &mut Emitter<'_>, at: usize, depth: u32) -> Option<usize>
     requires { SoundIn s.tree.now e.old × Lowerable depth s.tree.now at }
-    ensures { EmitsTo result (expr_code depth s.tree.now (slot_names s.tree.now s.slots.now) at ⨟ make_iter) (expr_at depth s.tree.now at).end
-        s.tree.now e.old e.new }
+    ensures { let t = s.entry.tree.now in let names = slot_names t s.entry.slots.now in
+        EmitsTo result (expr_code depth t names at ⨟ make_iter) (expr_at depth t at).end t e.old e.new }
 {
     let next = emit_expr(s, e, at, depth)?;
     make_iterator(s.tree, e)?;
@@ -57,8 +57,8 @@ pub fn emit_iterable(s: Scope<'_>, e: &mut Emitter<'_>, at: usize, depth: u32) -
 // A statement that holds no block: Break, Continue, Pass, Expr, Return or Assign. It has no loops, wherever these keep their iterators.
 pub fn emit_simple(s: Scope<'_>, e: &mut Emitter<'_>, at: usize, depth: u32) -> Option<usize>
     requires { SoundIn s.tree.now e.old × StmtLowerable depth s.tree.now at × (get_or s.tree.now at 0 < 6) }
-    ensures { (keep : Keeping) → EmitsTo result (stmt_code depth s.tree.now (slot_names s.tree.now s.slots.now) keep at) (stmt_at depth s.tree.now at).end
-        s.tree.now e.old e.new }
+    ensures { let t = s.entry.tree.now in let names = slot_names t s.entry.slots.now in
+        (keep : Keeping) → EmitsTo result (stmt_code depth t names keep at) (stmt_at depth t at).end t e.old e.new }
 {
     let a = at + 1;
     match s.tree[at] {
