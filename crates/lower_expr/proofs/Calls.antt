@@ -1,6 +1,6 @@
--- Calls by the form of their callee: one by name as a step, and one by a value.
+-- Calls by the form of their callee: by name as a step, by a value, and by a method.
 use Prim.Native.Nat.{ℕ, zero, suc, ◌+◌, ◌-◌, ◌<◌, ◌≤◌}
-use mathlib.Core.Path.{◌≡◌, refl, ap, ◌∙◌}
+use mathlib.Core.Path.{◌≡◌, refl, sym, ap, ◌∙◌}
 use mathlib.Core.Bool.{Bool, true, false}
 use mathlib.Core.List.{List, ◌++◌}
 use native.Mathlib.Omega.{arith}
@@ -9,7 +9,8 @@ use lib.ListN.{length, get_or}
 use borrow.Author.Tests.{ltb-true, ltb-false}
 use Rattle.definitions.specs.Bytes.{Name}
 use Rattle.definitions.specs.Tree.{Expr, var, call, View, as_var, as_attr, as_index, as_tuple, as_other, view, view_display}
-use Rattle.definitions.specs.Tables.{Out, Emit, one, ◌⨟◌}
+use Rattle.definitions.specs.Instruction.{instr, CallMethod}
+use Rattle.definitions.specs.Tables.{Out, Emit, one, intern, ◌⨟◌}
 use Rattle.definitions.specs.Lower.{Callee, value_callee, resolve, call_by, emit_expr}
 use Rattle.parts.specs.Places.{Node, count_at, name_end}
 use Rattle.exprs.specs.ExprAt.{expr_at, list_at, ExprReads, binary_of, int_at, float_at, string_at, unary_at, binary_at, call_at, display_at, dict_at, index_at, lambda_at}
@@ -20,8 +21,11 @@ use Rattle.state.specs.State.{State, emit_at}
 use Rattle.state.proofs.Views.{function-count}
 use Rattle.state.specs.Steps.{is_computed}
 use Rattle.lower_forms.specs.Lowerable.{expr_code, exprs_code, CallLowerable, NamedLowerable, load_callee, call_instr, Short}
+use Rattle.std.specs.Prelude.{Option, Some}
 use Rattle.lower_emit.specs.declared.emitter.Emitter.{Emitter}
-use Rattle.lower_emit.specs.Emitting.{counts_of, limits_in, state_in, SoundIn}
+use Rattle.lower_emit.specs.Emitting.{counts_of, limits_in, state_in, SoundIn, LowersIn, EmitsTo}
+use Rattle.lower_emit.proofs.Steps.{lowers-by}
+use Rattle.lower_emit.proofs.Parts.{emits_then}
 use Rattle.lower_names.specs.declared.Callee.TheVariants.{Value}
 use Rattle.lower_names.specs.Naming.{callee_of}
 use Rattle.lower_forms.proofs.ExprArms.{exprs-count}
@@ -115,3 +119,17 @@ pub functions-few : (t : List ℕ) (e : Emitter) → SoundIn t e → length (sta
 functions-few t e S =
     let k = function-count t e.tables.made.now e.code.words.now e.tables.entries.now (counts_of e) (limits_in e) S.sound in
     omega (arith, k, S.sound.functions, S.sound.limited.functions)
+
+-- ---- by a method
+
+-- what follows a method's object, which ends at x
+abbrev pub method_rest : ℕ → List ℕ → List Name → ℕ → Emit
+method_rest d t names x = exprs_code d (count_at t (name_end t x)) t names (name_end t x + 2) ⨟ intern (name_at t x) (λ k. one (CallMethod k (count_at t (name_end t x))))
+
+pub method_then : {r q : Option ℕ} {n m : ℕ} {t : List ℕ} {a b c : Emitter} {e : Emit} (d : ℕ) (names : List Name) → r ≡ Some n → SoundIn t a → EmitsTo r e m t a b
+    → EmitsTo q (method_rest d t names n) (list_at d t (name_end t n)).end t b c → EmitsTo q (e ⨟ method_rest d t names m) (list_at d t (name_end t m)).end t a c
+method_then {t = t} d names z S h g = emits_then (λ x. method_rest d t names x) (λ x. (list_at d t (name_end t x)).end) z S h g
+
+-- the method's symbol, whose count is n
+pub method-symbol : {A : Type 0} {u : Option A} {t : List ℕ} {a b : Emitter} (x : Name) {n k : ℕ} → n ≡ k → LowersIn u (intern x (λ i. one (instr 35 i n))) t a b → LowersIn u (intern x (λ i. one (CallMethod i k))) t a b
+method-symbol x e h = lowers-by h (ap (λ (m : ℕ). intern x (λ i. one (CallMethod i m))) (sym e))

@@ -47,22 +47,23 @@ pub fn emit_expr(s: Scope<'_>, e: &mut Emitter<'_>, at: usize, depth: u32) -> Op
         return emit_literal(s.tree, e, at, literal_at(s.tree, at));
     }
     let a = at + 1;
+    let below = depth - 1;
     match kind {
         expr::VARIABLE => {
             emit_load(s, e, a)?;
             Some(name_end(s.tree, a))
         }
-        expr::UNARY => emit_unary(s, e, a, depth - 1),
-        expr::BINARY => emit_binary(s, e, a, depth - 1),
-        expr::CALL => emit_call(s, e, a, depth - 1),
-        expr::ATTRIBUTE => emit_attribute(s, e, a, depth - 1),
-        expr::INDEX => emit_two(s, e, a, depth - 1, LOAD_INDEX),
-        expr::LAMBDA => emit_lambda(s, e, a, depth - 1),
-        _ => emit_display(s, e, a, depth - 1, kind),
+        expr::UNARY => emit_unary(s, e, a, below),
+        expr::BINARY => emit_binary(s, e, a, below),
+        expr::CALL => emit_call(s, e, a, below),
+        expr::ATTRIBUTE => emit_attribute(s, e, a, below),
+        expr::INDEX => emit_two(s, e, a, below, LOAD_INDEX),
+        expr::LAMBDA => emit_lambda(s, e, a, below),
+        _ => emit_display(s, e, a, below, kind),
     }
 }
 
-// So many expressions, one after the other; runs of None, False and True by words alone.
+// So many expressions, one after the other; runs of None, False and True by words alone, so no range goes over the places.
 #[cycle(emit)]
 fn emit_exprs(s: Scope<'_>, e: &mut Emitter<'_>, at: usize, depth: u32, n: u32) -> Option<usize>
     requires { SoundIn s.tree.now e.old × LowerableMany depth n s.tree.now at }

@@ -61,6 +61,7 @@ pub fn emit_simple(s: Scope<'_>, e: &mut Emitter<'_>, at: usize, depth: u32) -> 
         (keep : Keeping) → EmitsTo result (stmt_code depth t names keep at) (stmt_at depth t at).end t e.old e.new }
 {
     let a = at + 1;
+    let below = depth - 1;
     match s.tree[at] {
         stmt::BREAK => {
             e.code.put_op(BREAK, 0, 0)?;
@@ -71,9 +72,9 @@ pub fn emit_simple(s: Scope<'_>, e: &mut Emitter<'_>, at: usize, depth: u32) -> 
             Some(a)
         }
         stmt::PASS => Some(a),
-        stmt::EXPR => emit_value(s, e, a, depth - 1, POP),
-        stmt::RETURN => emit_value(s, e, a, depth - 1, RETURN),
-        _ => emit_assign(s, e, a, depth - 1),
+        stmt::EXPR => emit_value(s, e, a, below, POP),
+        stmt::RETURN => emit_value(s, e, a, below, RETURN),
+        _ => emit_assign(s, e, a, below),
     }
 }
 

@@ -1,16 +1,17 @@
--- Assignments by the laws of the state: elements of a tuple target, and constants.
+-- Assignments by the laws of the state: elements of a tuple target, values after an object, and constants.
 use Prim.Native.Nat.{ℕ, ◌+◌, ◌-◌, ◌<◌, ◌≤◌}
 use mathlib.Core.Path.{◌≡◌, refl, sym, ap, ◌∙◌}
 use mathlib.Core.List.{List, []}
 use native.Mathlib.Omega.{arith}
 use lib.ListN.{length, get_or}
-use Rattle.std.specs.Prelude.{Option}
+use Rattle.std.specs.Prelude.{Option, Some}
 use Rattle.definitions.specs.Bytes.{Name}
-use Rattle.definitions.specs.Instruction.{ConstI64, LoadIndex}
-use Rattle.definitions.specs.Tables.{Emit, emits, one, ◌⨟◌}
+use Rattle.definitions.specs.Instruction.{ConstI64, LoadIndex, StoreAttr, StoreIndex}
+use Rattle.definitions.specs.Tables.{Emit, emits, one, intern, ◌⨟◌}
 use Rattle.definitions.specs.Lower.{copy, emit_target, unpack}
+use Rattle.parts.specs.Places.{name_end}
 use Rattle.exprs.specs.ExprAt.{expr_at, ExprReads}
-use Rattle.state.specs.Words.{word}
+use Rattle.state.specs.Words.{word, name_at}
 use Rattle.state.specs.State.{State, emit_at}
 use Rattle.state.proofs.Answers.{base-below}
 use Rattle.state.proofs.Emission.{at-nothing, at-seq}
@@ -24,6 +25,7 @@ use Rattle.lower_emit.specs.declared.emitter.Emitter.{Emitter}
 use Rattle.lower_emit.specs.Emitting.{counts_of, limits_in, state_in, SoundIn, beside, LowersIn, EmitsTo, Puts}
 use Rattle.lower_emit.proofs.Packing.{instr-plain, plain-below}
 use Rattle.lower_emit.proofs.Steps.{put-lifts, lowers-by}
+use Rattle.lower_emit.proofs.Parts.{emits_then}
 use Rattle.lower_expr.proofs.Words.{emits_at}
 
 module _ {t : List ℕ} {a : Emitter} (S : SoundIn t a) (d : ℕ) (names : List Name) where
@@ -56,6 +58,23 @@ module _ {t : List ℕ} {a : Emitter} (S : SoundIn t a) (d : ℕ) (names : List 
 -- the answer for the expression at p, with the position by other words
 pub expr-by : {t : List ℕ} {p q : ℕ} {r : Option ℕ} {a b : Emitter} (d : ℕ) (names : List Name) → p ≡ q → EmitsTo r (expr_code d t names p) (expr_at d t p).end t a b → EmitsTo r (expr_code d t names q) (expr_at d t q).end t a b
 expr-by {t} d names e h = emits_at (λ x. expr_code d t names x) (λ x. (expr_at d t x).end) e h
+
+-- ---- what follows an object that ends at x
+
+abbrev pub attribute_rest : ℕ → List ℕ → List Name → ℕ → Emit
+attribute_rest d t names x = expr_code d t names (name_end t x) ⨟ intern (name_at t x) (λ k. one (StoreAttr k))
+
+abbrev pub index_rest : ℕ → List ℕ → List Name → ℕ → Emit
+index_rest d t names x = expr_code (d - 1) t names x ⨟ expr_code d t names (expr_at (d - 1) t x).end ⨟ one StoreIndex
+
+module _ {r q : Option ℕ} {n m : ℕ} {t : List ℕ} {a b c : Emitter} {e : Emit} (d : ℕ) (names : List Name) (z : r ≡ Some n) (S : SoundIn t a) (h : EmitsTo r e m t a b) where
+  pub attribute_then : EmitsTo q (attribute_rest d t names n) (expr_at d t (name_end t n)).end t b c → EmitsTo q (e ⨟ attribute_rest d t names m) (expr_at d t (name_end t m)).end t a c
+  attribute_then g = emits_then (λ x. attribute_rest d t names x) (λ x. (expr_at d t (name_end t x)).end) z S h g
+
+  pub index_then : EmitsTo q (index_rest d t names n) (expr_at d t (expr_at (d - 1) t n).end).end t b c → EmitsTo q (e ⨟ index_rest d t names m) (expr_at d t (expr_at (d - 1) t m).end).end t a c
+  index_then g = emits_then (λ x. index_rest d t names x) (λ x. (expr_at d t (expr_at (d - 1) t x).end).end) z S h g
+
+-- ---- constants
 
 -- None, False or True at p, which is q
 module _ {t : List ℕ} {d p q : ℕ} (e : p ≡ q) (v : Lowerable d t q) (h : get_or t p 0 < 3) where

@@ -3,9 +3,9 @@ use Prim.Native.Nat.{ℕ, ◌+◌}
 use mathlib.Core.Path.{refl, sym, ap, ◌∙◌}
 use native.Mathlib.Omega.{arith}
 use lib.Dec.{eqb}
-use lib.ListN.{drop, length-drop}
+use lib.ListN.{length-drop}
 use lib.Seq.{length-take-le}
-use Rattle.definitions.specs.Instruction.{LoadAttr, CallMethod, instr}
+use Rattle.definitions.specs.Instruction.{LoadAttr, instr}
 use Rattle.definitions.specs.Tables.{one, intern, ◌⨟◌}
 use Rattle.definitions.specs.Lower.{Callee, shortcut}
 use Rattle.parts.specs.Places.{count_at, name_end}
@@ -13,7 +13,6 @@ use Rattle.exprs.specs.ExprAt.{expr_at, list_at}
 use Rattle.exprs.proofs.ExprViews.{expr-known}
 use Rattle.state.specs.Words.{name_at}
 use Rattle.state.specs.State.{slot_names, slots_from}
-use Rattle.state.proofs.Views.{function-count}
 use Rattle.state.proofs.Growth.{lengthens-one, lengthens-intern, lengthens-seq, lengthens-exprs, lengthens-loads, lengthens-expr, lengthens-shortcut}
 use Rattle.opcodes.specs.Codes.{held_of}
 use Rattle.lower_forms.specs.Lowerable.{call_instr, expr_code, exprs_code}
@@ -28,13 +27,12 @@ use Rattle.lower_names.specs.declared.Callee.TheVariants.{Value}
 use Rattle.lower_names.specs.Naming.{callee_of}
 use Rattle.lower_names.proofs.Callees.{call-instr}
 use Rattle.lower_leaves.proofs.Collecting.{collected-count, collected-over}
-use Rattle.lower_leaves.proofs.LambdaState.{closure-state, captured-is, captured-held, captured-few, lambda-ready, lambda-is, slots-few}
-use Rattle.lower_leaves.proofs.Lambdas.{function-full, function-body, function-end}
-use Rattle.lower_expr.proofs.Bodies.{begins-slots, body-ready, body-in, lambda-over}
-use Rattle.lower_expr.proofs.Calls.{call-value, named-state, functions-few, value-short, value-callee}
+use Rattle.lower_leaves.proofs.LambdaState.{captured-is, captured-held, captured-few, lambda-ready, lambda-is, slots-few}
+use Rattle.lower_expr.proofs.Bodies.{body-ready, body-in, lambda-over, closure_by, body-full, body-stopped, body-ends}
+use Rattle.lower_expr.proofs.Calls.{call-value, named-state, functions-few, value-short, value-callee, method_then, method-symbol}
 use Rattle.lower_expr.proofs.Several.{many_by, rest-all, rest-sound, rest-next, rest-over, rest-done, rest-constants}
 use Rattle.lower_expr.proofs.Shortcut.{jump, shortcut-none, shortcut-stopped, shortcut-before, shortcut-ends}
-use Rattle.lower_expr.proofs.Words.{sound-after, word-ends, word-over, emits_at}
+use Rattle.lower_expr.proofs.Words.{sound-after, word-ends, word-over, expr_then, emits_at}
 use Rattle.lower_expr.proofs.+emit.Goals as goal
 
 -- ---- emit_expr
@@ -61,6 +59,9 @@ emit_expr-returns-then-kind-lt-VARIABLE t c =
     let q = c.emit_literal.ensures in
     emits-by (record { place = q.place; lowers = q.quotes.lowers c.requires.0 }) (v.code _ ∙ lit-code _ _ _ c.literal_at.ensures.0) (sym v.end)
 
+pub emit_expr-overflow_sub-below : goal.emit_expr-overflow_sub-below
+emit_expr-overflow_sub-below t c = omega (arith, arm-deep _ _ _ c.requires.1)
+
 pub emit_expr-emit_load-requires : goal.emit_expr-emit_load-requires
 emit_expr-emit_load-requires t c = (c.requires.0, omega (arith, (arm-variable _ _ _ c.requires.1 c.in-6.is).parts.byte, c.args.s.short))
 
@@ -73,17 +74,11 @@ emit_expr-name_end-requires t c = (arm-variable _ _ _ c.requires.1 c.in-6.is).pa
 pub emit_expr-returns-in_ok-emit_load-in-6 : goal.emit_expr-returns-in_ok-emit_load-in-6
 emit_expr-returns-in_ok-emit_load-in-6 t c = let v = arm-variable _ _ _ c.requires.1 c.in-6.is in emits-by (words-end c.in_ok-emit_load-in-6.was c.name_end.ensures c.emit_load.ensures) (v.code _) (sym v.end)
 
-pub emit_expr-overflow_sub-depth : goal.emit_expr-overflow_sub-depth
-emit_expr-overflow_sub-depth t c = omega (arith, arm-deep _ _ _ c.requires.1)
-
 pub emit_expr-emit_unary-requires : goal.emit_expr-emit_unary-requires
 emit_expr-emit_unary-requires t c = (omega (arith, c.decreases, arm-deep _ _ _ c.requires.1), (c.requires.0, (arm_unary _ _ _ c.requires.1 c.in-7.is).parts))
 
 pub emit_expr-returns-in-7 : goal.emit_expr-returns-in-7
 emit_expr-returns-in-7 t c = let v = arm_unary _ _ _ c.requires.1 c.in-7.is in emits-by c.emit_unary.ensures (v.code _) (sym v.end)
-
-pub emit_expr-overflow_sub-depth-in-8 : goal.emit_expr-overflow_sub-depth-in-8
-emit_expr-overflow_sub-depth-in-8 t c = omega (arith, arm-deep _ _ _ c.requires.1)
 
 pub emit_expr-emit_binary-requires : goal.emit_expr-emit_binary-requires
 emit_expr-emit_binary-requires t c = (omega (arith, c.decreases, arm-deep _ _ _ c.requires.1), (c.requires.0, (arm_binary _ _ _ c.requires.1 c.in-8.is).parts))
@@ -91,17 +86,11 @@ emit_expr-emit_binary-requires t c = (omega (arith, c.decreases, arm-deep _ _ _ 
 pub emit_expr-returns-in-8 : goal.emit_expr-returns-in-8
 emit_expr-returns-in-8 t c = let v = arm_binary _ _ _ c.requires.1 c.in-8.is in emits-by c.emit_binary.ensures (v.code _) (sym v.end)
 
-pub emit_expr-overflow_sub-depth-in-9 : goal.emit_expr-overflow_sub-depth-in-9
-emit_expr-overflow_sub-depth-in-9 t c = omega (arith, arm-deep _ _ _ c.requires.1)
-
 pub emit_expr-emit_call-requires : goal.emit_expr-emit_call-requires
 emit_expr-emit_call-requires t c = (omega (arith, c.decreases, arm-deep _ _ _ c.requires.1), (c.requires.0, (arm-call _ _ _ c.requires.1 c.in-9.is).parts))
 
 pub emit_expr-returns-in-9 : goal.emit_expr-returns-in-9
 emit_expr-returns-in-9 t c = let v = arm-call _ _ _ c.requires.1 c.in-9.is in emits-by c.emit_call.ensures (v.code _) (sym v.end)
-
-pub emit_expr-overflow_sub-depth-in-10 : goal.emit_expr-overflow_sub-depth-in-10
-emit_expr-overflow_sub-depth-in-10 t c = omega (arith, arm-deep _ _ _ c.requires.1)
 
 pub emit_expr-emit_attribute-requires : goal.emit_expr-emit_attribute-requires
 emit_expr-emit_attribute-requires t c = (omega (arith, c.decreases, arm-deep _ _ _ c.requires.1), (c.requires.0, (arm-attribute _ _ _ c.requires.1 c.in-10.is).parts))
@@ -109,26 +98,17 @@ emit_expr-emit_attribute-requires t c = (omega (arith, c.decreases, arm-deep _ _
 pub emit_expr-returns-in-10 : goal.emit_expr-returns-in-10
 emit_expr-returns-in-10 t c = let v = arm-attribute _ _ _ c.requires.1 c.in-10.is in emits-by c.emit_attribute.ensures (v.code _) (sym v.end)
 
-pub emit_expr-overflow_sub-depth-in-16 : goal.emit_expr-overflow_sub-depth-in-16
-emit_expr-overflow_sub-depth-in-16 t c = omega (arith, arm-deep _ _ _ c.requires.1)
-
 pub emit_expr-emit_two-requires : goal.emit_expr-emit_two-requires
 emit_expr-emit_two-requires t c = (omega (arith, c.decreases, arm-deep _ _ _ c.requires.1), (c.requires.0, (arm-index _ _ _ c.requires.1 c.in-16.is).parts, plain-above 43 0 0 (omega arith) (omega arith) (omega arith) (omega arith)))
 
 pub emit_expr-returns-in-16 : goal.emit_expr-returns-in-16
 emit_expr-returns-in-16 t c = let v = arm-index _ _ _ c.requires.1 c.in-16.is in emits-by c.emit_two.ensures (v.code _) (sym v.end)
 
-pub emit_expr-overflow_sub-depth-in-17 : goal.emit_expr-overflow_sub-depth-in-17
-emit_expr-overflow_sub-depth-in-17 t c = omega (arith, arm-deep _ _ _ c.requires.1)
-
 pub emit_expr-emit_lambda-requires : goal.emit_expr-emit_lambda-requires
 emit_expr-emit_lambda-requires t c = (omega (arith, c.decreases, arm-deep _ _ _ c.requires.1), (c.requires.0, (arm-lambda _ _ _ c.requires.1 c.in-17.is).parts))
 
 pub emit_expr-returns-in-17 : goal.emit_expr-returns-in-17
 emit_expr-returns-in-17 t c = let v = arm-lambda _ _ _ c.requires.1 c.in-17.is in emits-by c.emit_lambda.ensures (v.code _) (sym v.end)
-
-pub emit_expr-overflow_sub-depth-in_default : goal.emit_expr-overflow_sub-depth-in_default
-emit_expr-overflow_sub-depth-in_default t c = omega (arith, arm-deep _ _ _ c.requires.1)
 
 pub emit_expr-emit_display-requires : goal.emit_expr-emit_display-requires
 emit_expr-emit_display-requires t c =
@@ -187,8 +167,8 @@ emit_two-returns-in_err-middle t c = emits-stopped c.in_err-middle.was c.from_re
 
 pub emit_two-returns-in_err-next : goal.emit_two-returns-in_err-next
 emit_two-returns-in_err-next t c =
-    let d = c.args.depth in let s = c.args.s in let e = c.emit_expr.ensures in
-    emits_then (λ x. expr_code d s.tree.now (slot_names s.tree.now s.slots.now) x ⨟ one (instr c.args.op 0 0)) (λ x. (expr_at d s.tree.now x).end) c.in_ok-middle.was c.requires.0 e
+    let s = c.args.s in let e = c.emit_expr.ensures in
+    expr_then c.args.depth (slot_names s.tree.now s.slots.now) (one (instr c.args.op 0 0)) c.in_ok-middle.was c.requires.0 e
     (emits-stopped c.in_err-next.was c.from_residual-in_err-next.ensures (sound-after c.in_ok-middle.was e) (lengthens-one _) c.emit_expr-2.ensures)
 
 pub emit_two-put_op-requires : goal.emit_two-put_op-requires
@@ -196,14 +176,14 @@ emit_two-put_op-requires t c = (c.requires.2.op-byte, omega arith, omega arith)
 
 pub emit_two-returns-in_err-put_op : goal.emit_two-returns-in_err-put_op
 emit_two-returns-in_err-put_op t c =
-    let d = c.args.depth in let s = c.args.s in let e = c.emit_expr.ensures in
-    emits_then (λ x. expr_code d s.tree.now (slot_names s.tree.now s.slots.now) x ⨟ one (instr c.args.op 0 0)) (λ x. (expr_at d s.tree.now x).end) c.in_ok-middle.was c.requires.0 e
+    let s = c.args.s in let e = c.emit_expr.ensures in
+    expr_then c.args.depth (slot_names s.tree.now s.slots.now) (one (instr c.args.op 0 0)) c.in_ok-middle.was c.requires.0 e
     (word-over c.in_ok-next.was (sound-after c.in_ok-middle.was e) c.emit_expr-2.ensures (instr-plain _ _ _ _ c.requires.2) c.put_op.ensures c.in_err-put_op.was c.from_residual-in_err-put_op.ensures)
 
 pub emit_two-returns : goal.emit_two-returns
 emit_two-returns t c =
-    let d = c.args.depth in let s = c.args.s in let e = c.emit_expr.ensures in
-    emits_then (λ x. expr_code d s.tree.now (slot_names s.tree.now s.slots.now) x ⨟ one (instr c.args.op 0 0)) (λ x. (expr_at d s.tree.now x).end) c.in_ok-middle.was c.requires.0 e
+    let s = c.args.s in let e = c.emit_expr.ensures in
+    expr_then c.args.depth (slot_names s.tree.now s.slots.now) (one (instr c.args.op 0 0)) c.in_ok-middle.was c.requires.0 e
     (word-ends c.in_ok-next.was (sound-after c.in_ok-middle.was e) c.emit_expr-2.ensures (instr-plain _ _ _ _ c.requires.2) c.put_op.ensures c.in_ok-put_op.was)
 
 -- ---- emit_binary
@@ -335,12 +315,10 @@ emit_method-emit_exprs-requires t c =
 
 pub emit_method-returns-in_err-next : goal.emit_method-returns-in_err-next
 emit_method-returns-in_err-next t c =
-    let d = c.args.depth in let tree = c.args.s.tree.now in let names = slot_names tree c.args.s.slots.now in
-    let s = c.name_end-start.ensures in let u = c.u16_at-n.ensures.0 ∙ ap (count_at tree) s in
-    let y = many_by _ _ _ u (ap (λ (x : ℕ). x + 2) s) c.emit_exprs.ensures in
-    emits_then (λ x. exprs_code d (count_at tree (name_end tree x)) tree names (name_end tree x + 2) ⨟ intern (name_at tree x) (λ k. one (CallMethod k (count_at tree (name_end tree x))))) (λ x. (list_at d tree (name_end tree x)).end)
-    c.in_ok-name.was c.requires.0 c.emit_expr.ensures
-    (emits-stopped c.in_err-next.was c.from_residual-in_err-next.ensures (sound-after c.in_ok-name.was c.emit_expr.ensures) (lengthens-intern _ (λ k. lengthens-one _)) y)
+    let tree = c.args.s.tree.now in let e = c.emit_expr.ensures in let u = c.u16_at-n.ensures.0 ∙ ap (count_at tree) c.name_end-start.ensures in
+    let y = many_by _ _ _ u (ap (λ (x : ℕ). x + 2) c.name_end-start.ensures) c.emit_exprs.ensures in
+    method_then c.args.depth (slot_names tree c.args.s.slots.now) c.in_ok-name.was c.requires.0 e
+    (emits-stopped c.in_err-next.was c.from_residual-in_err-next.ensures (sound-after c.in_ok-name.was e) (lengthens-intern _ (λ k. lengthens-one _)) y)
 
 pub emit_method-emit_symbol-requires : goal.emit_method-emit_symbol-requires
 emit_method-emit_symbol-requires t c =
@@ -353,23 +331,17 @@ emit_method-emit_symbol-requires t c =
 
 pub emit_method-returns-in_err-emit_symbol : goal.emit_method-returns-in_err-emit_symbol
 emit_method-returns-in_err-emit_symbol t c =
-    let d = c.args.depth in let tree = c.args.s.tree.now in let names = slot_names tree c.args.s.slots.now in
-    let s = c.name_end-start.ensures in let u = c.u16_at-n.ensures.0 ∙ ap (count_at tree) s in
-    let y = many_by _ _ _ u (ap (λ (x : ℕ). x + 2) s) c.emit_exprs.ensures in
-    emits_then (λ x. exprs_code d (count_at tree (name_end tree x)) tree names (name_end tree x + 2) ⨟ intern (name_at tree x) (λ k. one (CallMethod k (count_at tree (name_end tree x))))) (λ x. (list_at d tree (name_end tree x)).end)
-    c.in_ok-name.was c.requires.0 c.emit_expr.ensures
-    (emits-no-words c.in_ok-next.was c.in_err-emit_symbol.was c.from_residual-in_err-emit_symbol.ensures (sound-after c.in_ok-name.was c.emit_expr.ensures) y
-    (lowers-by c.emit_symbol.ensures (ap (λ (m : ℕ). intern (name_at tree c.in_ok-name.name) (λ k. one (CallMethod k m))) (sym u))))
+    let tree = c.args.s.tree.now in let e = c.emit_expr.ensures in let u = c.u16_at-n.ensures.0 ∙ ap (count_at tree) c.name_end-start.ensures in
+    let y = many_by _ _ _ u (ap (λ (x : ℕ). x + 2) c.name_end-start.ensures) c.emit_exprs.ensures in
+    method_then c.args.depth (slot_names tree c.args.s.slots.now) c.in_ok-name.was c.requires.0 e
+    (emits-no-words c.in_ok-next.was c.in_err-emit_symbol.was c.from_residual-in_err-emit_symbol.ensures (sound-after c.in_ok-name.was e) y (method-symbol _ u c.emit_symbol.ensures))
 
 pub emit_method-returns : goal.emit_method-returns
 emit_method-returns t c =
-    let d = c.args.depth in let tree = c.args.s.tree.now in let names = slot_names tree c.args.s.slots.now in
-    let s = c.name_end-start.ensures in let u = c.u16_at-n.ensures.0 ∙ ap (count_at tree) s in
-    let y = many_by _ _ _ u (ap (λ (x : ℕ). x + 2) s) c.emit_exprs.ensures in
-    emits_then (λ x. exprs_code d (count_at tree (name_end tree x)) tree names (name_end tree x + 2) ⨟ intern (name_at tree x) (λ k. one (CallMethod k (count_at tree (name_end tree x))))) (λ x. (list_at d tree (name_end tree x)).end)
-    c.in_ok-name.was c.requires.0 c.emit_expr.ensures
-    (emits-words c.in_ok-next.was c.in_ok-emit_symbol.was (sound-after c.in_ok-name.was c.emit_expr.ensures) y
-    (lowers-by c.emit_symbol.ensures (ap (λ (m : ℕ). intern (name_at tree c.in_ok-name.name) (λ k. one (CallMethod k m))) (sym u))))
+    let tree = c.args.s.tree.now in let e = c.emit_expr.ensures in let u = c.u16_at-n.ensures.0 ∙ ap (count_at tree) c.name_end-start.ensures in
+    let y = many_by _ _ _ u (ap (λ (x : ℕ). x + 2) c.name_end-start.ensures) c.emit_exprs.ensures in
+    method_then c.args.depth (slot_names tree c.args.s.slots.now) c.in_ok-name.was c.requires.0 e
+    (emits-words c.in_ok-next.was c.in_ok-emit_symbol.was (sound-after c.in_ok-name.was e) y (method-symbol _ u c.emit_symbol.ensures))
 
 -- ---- emit_args
 
@@ -464,8 +436,8 @@ emit_closure-emit_function-requires t c = (omega (arith, c.decreases), body-read
 
 pub emit_closure-returns-in_err-next : goal.emit_closure-returns-in_err-next
 emit_closure-returns-in_err-next t c =
-    emits-state (emits-stopped c.in_err-next.was c.from_residual.ensures c.requires.0 (lengthens-seq (lengthens-loads _ _) (lengthens-one _)) (body-in _ _ _ _ _ c.requires.1 c.emit_function.ensures))
-    (closure-state _ _ _ _ _ _ _ _ _ (sym (function-count _ _ _ _ _ _ c.requires.0.sound))) refl
+    closure_by _ _ _ _ _ c.requires.0
+    (emits-stopped c.in_err-next.was c.from_residual.ensures c.requires.0 (lengthens-seq (lengthens-loads _ _) (lengthens-one _)) (body-in _ _ _ _ _ c.requires.1 c.emit_function.ensures))
 
 pub emit_closure-slice_bounds-end_closure-count : goal.emit_closure-slice_bounds-end_closure-count
 emit_closure-slice_bounds-end_closure-count t c = omega (arith, c.requires.2.params, c.requires.2.few, length-drop slots_from c.args.inner.slots.now, c.args.inner.slotted.room)
@@ -482,39 +454,30 @@ emit_closure-end_closure-requires t c = (
 
 pub emit_closure-returns-in_err-end_closure : goal.emit_closure-returns-in_err-end_closure
 emit_closure-returns-in_err-end_closure t c =
-    let h = body-in _ _ _ _ _ c.requires.1 c.emit_function.ensures in let S = sound-after c.in_ok-next.was h in
-    emits-state (emits-no-words c.in_ok-next.was c.in_err-end_closure.was c.from_residual-in_err-end_closure.ensures c.requires.0 h
-    (lowers-by (writes-in S refl c.end_closure.ensures) (captured-is c.args.arity c.args.inner.slots.now _ _ _)))
-    (closure-state _ _ _ _ _ _ _ _ _ (sym (function-count _ _ _ _ _ _ c.requires.0.sound))) refl
+    let h = body-in _ _ _ _ _ c.requires.1 c.emit_function.ensures in
+    closure_by _ _ _ _ _ c.requires.0 (emits-no-words c.in_ok-next.was c.in_err-end_closure.was c.from_residual-in_err-end_closure.ensures c.requires.0 h
+    (lowers-by (writes-in (sound-after c.in_ok-next.was h) refl c.end_closure.ensures) (captured-is c.args.arity c.args.inner.slots.now _ _ _)))
 
 pub emit_closure-returns : goal.emit_closure-returns
 emit_closure-returns t c =
-    let h = body-in _ _ _ _ _ c.requires.1 c.emit_function.ensures in let S = sound-after c.in_ok-next.was h in
-    emits-state (emits-words c.in_ok-next.was c.in_ok-end_closure.was c.requires.0 h
-    (lowers-by (writes-in S refl c.end_closure.ensures) (captured-is c.args.arity c.args.inner.slots.now _ _ _)))
-    (closure-state _ _ _ _ _ _ _ _ _ (sym (function-count _ _ _ _ _ _ c.requires.0.sound))) refl
+    let h = body-in _ _ _ _ _ c.requires.1 c.emit_function.ensures in
+    closure_by _ _ _ _ _ c.requires.0 (emits-words c.in_ok-next.was c.in_ok-end_closure.was c.requires.0 h
+    (lowers-by (writes-in (sound-after c.in_ok-next.was h) refl c.end_closure.ensures) (captured-is c.args.arity c.args.inner.slots.now _ _ _)))
 
 -- ---- emit_function
 
 pub emit_function-returns-in_err-f : goal.emit_function-returns-in_err-f
-emit_function-returns-in_err-f t c =
-    let e = lengthens-expr (slot_names c.args.s.tree.now c.args.s.slots.now) (expr_at c.args.depth c.args.s.tree.now c.args.at).value in
-    words-none c.in_err-f.was c.from_residual.ensures (function-full c.requires.0 (drop slots_from c.args.s.slots.now) _ e _ (begins-slots c.args.s.slots.now c.begin_lambda.ensures) c.in_err-f.was c.in_err-f.was)
+emit_function-returns-in_err-f t c = body-full c.requires.0 c.args.s.slots.now c.args.depth c.args.at c.begin_lambda.ensures c.in_err-f.was c.from_residual.ensures
 
 pub emit_function-returns-in_err-next : goal.emit_function-returns-in_err-next
-emit_function-returns-in_err-next t c =
-    let e = lengthens-expr (slot_names c.args.s.tree.now c.args.s.slots.now) (expr_at c.args.depth c.args.s.tree.now c.args.at).value in
-    words-none c.in_err-next.was c.from_residual-in_err-next.ensures
-    (function-body c.requires.0 (drop slots_from c.args.s.slots.now) _ e _ (begins-slots c.args.s.slots.now c.begin_lambda.ensures) c.in_ok-f.was c.emit_expr.ensures.lowers c.in_err-next.was c.in_err-next.was)
+emit_function-returns-in_err-next t c = body-stopped c.requires.0 c.args.s.slots.now c.args.depth c.args.at c.begin_lambda.ensures c.in_ok-f.was c.emit_expr.ensures c.in_err-next.was c.from_residual-in_err-next.ensures
 
 pub emit_function-returns-in_err-end_lambda : goal.emit_function-returns-in_err-end_lambda
 emit_function-returns-in_err-end_lambda t c =
-    let e = lengthens-expr (slot_names c.args.s.tree.now c.args.s.slots.now) (expr_at c.args.depth c.args.s.tree.now c.args.at).value in
     words-none c.in_err-end_lambda.was c.from_residual-in_err-end_lambda.ensures
-    (function-end c.requires.0 (drop slots_from c.args.s.slots.now) _ e _ (begins-slots c.args.s.slots.now c.begin_lambda.ensures) c.in_ok-f.was c.emit_expr.ensures.lowers c.in_ok-next.was c.end_lambda.ensures)
+    (body-ends c.requires.0 c.args.s.slots.now c.args.depth c.args.at c.begin_lambda.ensures c.in_ok-f.was c.emit_expr.ensures c.in_ok-next.was c.end_lambda.ensures)
 
 pub emit_function-returns : goal.emit_function-returns
 emit_function-returns t c =
-    let e = lengthens-expr (slot_names c.args.s.tree.now c.args.s.slots.now) (expr_at c.args.depth c.args.s.tree.now c.args.at).value in
     words-end c.in_ok-end_lambda.was (c.emit_expr.ensures.place _ c.in_ok-next.was)
-    (function-end c.requires.0 (drop slots_from c.args.s.slots.now) _ e _ (begins-slots c.args.s.slots.now c.begin_lambda.ensures) c.in_ok-f.was c.emit_expr.ensures.lowers c.in_ok-next.was c.end_lambda.ensures)
+    (body-ends c.requires.0 c.args.s.slots.now c.args.depth c.args.at c.begin_lambda.ensures c.in_ok-f.was c.emit_expr.ensures c.in_ok-next.was c.end_lambda.ensures)

@@ -1,17 +1,11 @@
 use native.Mathlib.Omega.{arith}
-use Rattle.definitions.specs.Instruction.{StoreAttr}
-use Rattle.definitions.specs.Tables.{one, ◌⨟◌, intern}
-use Rattle.parts.specs.Places.{name_end}
-use Rattle.exprs.specs.ExprAt.{expr_at}
-use Rattle.state.specs.Words.{name_at}
 use Rattle.state.specs.State.{slot_names}
 use Rattle.state.proofs.Growth.{lengthens-one, lengthens-seq, lengthens-expr, lengthens-intern}
 use Rattle.lower_emit.proofs.Packing.{plain-above}
-use Rattle.lower_emit.proofs.Parts.{emits_then, emits-stopped, emits-words, emits-no-words}
-use Rattle.lower_forms.specs.Lowerable.{expr_code}
+use Rattle.lower_emit.proofs.Parts.{emits-stopped, emits-words, emits-no-words}
 use Rattle.lower_forms.proofs.ExprArms.{there-at}
 use Rattle.lower_expr.proofs.Words.{sound-after}
-use Rattle.lower_targets.proofs.Assigned.{expr-by}
+use Rattle.lower_targets.proofs.Assigned.{expr-by, attribute_then}
 use Rattle.lower_targets.proofs.assign_attribute.Goals as goal
 
 pub returns-in_err-name : goal.returns-in_err-name
@@ -19,8 +13,8 @@ returns-in_err-name c = emits-stopped c.in_err-name.was c.from_residual.ensures 
 
 pub returns-in_err-next : goal.returns-in_err-next
 returns-in_err-next c =
-    let d = c.args.depth in let t = c.args.s.tree.now in let names = slot_names t c.args.s.slots.now in let e = c.emit_expr.ensures in
-    emits_then (λ x. expr_code d t names (name_end t x) ⨟ intern (name_at t x) (λ k. one (StoreAttr k))) (λ x. (expr_at d t (name_end t x)).end) c.in_ok-name.was c.requires.0 e
+    let d = c.args.depth in let names = slot_names c.args.s.tree.now c.args.s.slots.now in let e = c.emit_expr.ensures in
+    attribute_then d names c.in_ok-name.was c.requires.0 e
     (emits-stopped c.in_err-next.was c.from_residual-in_err-next.ensures (sound-after c.in_ok-name.was e) (lengthens-intern _ (λ k. lengthens-one _)) (expr-by d names c.name_end-start.ensures c.emit_expr-2.ensures))
 
 pub emit_symbol-requires : goal.emit_symbol-requires
@@ -32,12 +26,12 @@ emit_symbol-requires c = (
 
 pub returns-in_err-emit_symbol : goal.returns-in_err-emit_symbol
 returns-in_err-emit_symbol c =
-    let d = c.args.depth in let t = c.args.s.tree.now in let names = slot_names t c.args.s.slots.now in let e = c.emit_expr.ensures in
-    emits_then (λ x. expr_code d t names (name_end t x) ⨟ intern (name_at t x) (λ k. one (StoreAttr k))) (λ x. (expr_at d t (name_end t x)).end) c.in_ok-name.was c.requires.0 e
+    let d = c.args.depth in let names = slot_names c.args.s.tree.now c.args.s.slots.now in let e = c.emit_expr.ensures in
+    attribute_then d names c.in_ok-name.was c.requires.0 e
     (emits-no-words c.in_ok-next.was c.in_err-emit_symbol.was c.from_residual-in_err-emit_symbol.ensures (sound-after c.in_ok-name.was e) (expr-by d names c.name_end-start.ensures c.emit_expr-2.ensures) c.emit_symbol.ensures)
 
 pub returns : goal.returns
 returns c =
-    let d = c.args.depth in let t = c.args.s.tree.now in let names = slot_names t c.args.s.slots.now in let e = c.emit_expr.ensures in
-    emits_then (λ x. expr_code d t names (name_end t x) ⨟ intern (name_at t x) (λ k. one (StoreAttr k))) (λ x. (expr_at d t (name_end t x)).end) c.in_ok-name.was c.requires.0 e
+    let d = c.args.depth in let names = slot_names c.args.s.tree.now c.args.s.slots.now in let e = c.emit_expr.ensures in
+    attribute_then d names c.in_ok-name.was c.requires.0 e
     (emits-words c.in_ok-next.was c.in_ok-emit_symbol.was (sound-after c.in_ok-name.was e) (expr-by d names c.name_end-start.ensures c.emit_expr-2.ensures) c.emit_symbol.ensures)
