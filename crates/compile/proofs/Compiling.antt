@@ -1,5 +1,5 @@
 -- The code of `__main__`, and its end: the tables of the tree.
-use Prim.Native.Nat.{ℕ, ◌+◌, ◌-◌, ◌<◌, ◌≤◌}
+use Prim.Native.Nat.{ℕ, ◌+◌, ◌-◌, ◌<◌}
 use mathlib.Core.Path.{◌≡◌, refl, sym, ap, ◌∙◌, subst}
 use mathlib.Core.Bool.{false}
 use mathlib.Core.List.{List, [], ◌∷◌}
@@ -113,8 +113,14 @@ module _ {tree : List ℕ} {a b : Emitter} {f : Option ℕ} (F : Fresh a) (B : B
 
         main-there : i < m.tables.functions
         main-there =
-            omega (arith, B.is i z, begun-count, functions-longer (longer t), ap (λ (s : State). length s.tables.functions) after,
-            function-count tree m.tables.made.now m.code.words.now m.tables.entries.now (counts_of m) (limits_in m) body-sound.sound)
+            omega (
+              arith,
+              B.is i z,
+              begun-count,
+              functions-longer (longer t),
+              ap (λ (s : State). length s.tables.functions) after,
+              function-count tree m.tables.made.now m.code.words.now m.tables.entries.now (counts_of m) (limits_in m) body-sound.sound,
+            )
 
         main-empty : body_of (state_in tree m).tables.functions i ≡ []
         unfolding main_begun

@@ -30,7 +30,15 @@ fn write_tables(tree: &[u8], e: &Emitter<'_>, out: &mut [u8]) -> Result<usize, Q
     if out.len() < size {
         return Err(Question::ModuleRoom);
     }
-    let n = write_module(tree, e.tables.made, e.code.words, e.tables.entries, c, size, out);
+    let n = write_module(
+        tree,
+        e.tables.made,
+        e.code.words,
+        e.tables.entries,
+        c,
+        size,
+        out,
+    );
     Ok(n)
 }
 

@@ -1,5 +1,5 @@
 use Rattle.compile.specs.Compiled.{tree_block}
-use Rattle.compile.proofs.Compiling.{begun-sound, compiles-none, compiles-stopped, compiles-done}
+use Rattle.compile.proofs.Compiling.{compiles-none, compiles-stopped, compiles-done}
 use Rattle.compile.proofs.compile.Goals as goal
 
 pub returns-in_err-f : goal.returns-in_err-f
