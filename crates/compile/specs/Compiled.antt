@@ -6,11 +6,9 @@ use Rattle.definitions.specs.Slots.{in_globals, names_only}
 use Rattle.definitions.specs.Tables.{Tables, Emit, one, ◌⨟◌}
 use Rattle.definitions.specs.Lower.{emit_block, main, no_tables}
 use Rattle.tree.specs.StmtAt.{block_at}
-use Rattle.state.specs.State.{State, tables_of, with_tables, symbol_number, with_symbol, Limited, Within, Sound}
+use Rattle.state.specs.State.{State, tables_of, with_tables, symbol_number, with_symbol, Within}
 use Rattle.state.specs.Steps.{begun}
 use Rattle.state.specs.declared.Counts.{Counts}
-use Rattle.state.specs.declared.Limits.{Limits}
-use Rattle.state.specs.Answered.{Emitted, Done, Full}
 use Rattle.lower_emit.specs.declared.emitter.Emitter.{Emitter}
 use Rattle.lower_emit.specs.Emitting.{counts_of, limits_in, SoundIn}
 
@@ -29,16 +27,10 @@ no_counts = record {
   done = 0;
 }
 
--- nothing is counted yet
+-- nothing is counted yet; the made names have their room
 pub record Fresh (e : Emitter) : Type 0 where
   pub none : counts_of e ≡ no_counts
-
--- the slices are long enough, the limits within the tables
-pub record Roomed (made code tables : List ℕ) (l : Limits) : Type 0 where
-  pub code-room : 16384 ≤ length code
-  pub tables-room : 16384 ≤ length tables
-  pub made-room : 20500 ≤ length made
-  pub limited : Limited l
+  pub made-room : 20500 ≤ length e.tables.made.now
 
 -- the tree's block
 abbrev pub tree_block : List ℕ → Block
@@ -59,12 +51,7 @@ main_begun = begun (symbol_number main no_tables) 0 (names_only []) main_named
 abbrev pub main_code : Block → Emit
 main_code b = emit_block [] in_globals b ⨟ one Return
 
--- the slices hold the tables; or the tables are over the limits, or have a function of more than 255 slots
-unfoldable pub Compiles : Emitted → List ℕ → List ℕ → List ℕ → List ℕ → Limits → Tables → Type 0
-Compiles (Done n k) tree made code tables l want = (tables_of tree made code tables k ≡ want) × Sound tree made code tables k l
-Compiles Full tree made code tables l want = Within l (record { stack = []; tables = want }) → ⊥
-
--- the slices hold the tables; or the tables are over the limits, or have a function of more than 255 slots
+-- the emitter shows the tables; or the tables are over the limits, or have a function of more than 255 slots
 pub record CompilesTree {A : Type 0} (r : Option A) (tree : List ℕ) (a b : Emitter) (want : Tables) : Type 0 where
   pub tables : (x : A) → r ≡ Some x → tables_of tree b.tables.made.now b.code.words.now b.tables.entries.now (counts_of b) ≡ want
   pub sound : (x : A) → r ≡ Some x → SoundIn tree b
