@@ -5,12 +5,9 @@ ghost use Rattle.std.specs.Prelude.{◌≡◌};
 ghost use Rattle.definitions.specs.Calls.{zeros};
 
 // Every word 0.
+#[tactic(auto, unfolding(definitions::specs::Calls::zeros))]
 pub fn clear(area: &mut [u32])
     ensures { area.new ≡ zeros area.old }
 {
-    let mut i = 0usize;
-    while i < area.len() {
-        area[i] = 0;
-        i += 1;
-    }
+    area.fill(0);
 }

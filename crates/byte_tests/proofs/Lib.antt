@@ -1,3 +1,3 @@
-pub mod Same
 pub mod Below
+pub mod Same
 pub mod Names

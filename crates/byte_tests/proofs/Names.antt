@@ -1,17 +1,24 @@
--- Letters, and the form of a name.
-use Prim.Native.Nat.{ℕ, ◌+◌, ◌<◌, ◌≤◌}
-use mathlib.Core.Path.{◌≡◌, refl, sym, ap, ◌∙◌}
+-- A test of each byte, and the form of a name.
+use Prim.Native.Nat.{ℕ, ◌+◌, ◌-◌, ◌<◌, ◌≤◌}
+use mathlib.Core.Path.{◌≡◌, refl, ap, ◌∙◌}
 use mathlib.Core.Bool.{Bool, true, false, ◌&&◌, ◌||◌}
 use mathlib.Core.List.{List, [], ◌∷◌}
 use native.Mathlib.Omega.{arith}
 use native.Mathlib.Numerals.{add-one}
-use lib.Dec.{eqb, leb}
-use lib.ListN.{length, drop, get_or, length-drop, drop_of_length-le}
-use lib.Seq.{drop-cons}
-use borrow.Author.Tests.{le-leb, lt-leb, eq-eqb, ne_eqb}
+use lib.ListN.{length, take, drop, get_or, drop_of_length-le}
+use lib.Seq.{take_all, drop-cons}
+use borrow.Author.Tests.{le-leb, lt-leb}
+use Rattle.std.specs.List.{list_all}
+use Rattle.std.proofs.lemmas.List.Recursion.{same_from_clauses}
 use Rattle.definitions.specs.Bytes.{all}
 use Rattle.definitions.specs.Wellformed.{letter, digit, is_name}
 use Rattle.byte_tests.proofs.Same.{and_no}
+
+-- ---- what `all` of the library answers
+
+pub all_listed : (f : ℕ → Bool) (bs : List ℕ) → list_all f bs ≡ all f bs
+unfolding all
+all_listed f = same_from_clauses (list_all f) (all f) (λ x b. f x && b) refl (λ x xs. refl) (λ x xs. refl)
 
 -- ---- a test of each byte from i on
 
@@ -30,67 +37,43 @@ module _ (f : ℕ → Bool) (bs : List ℕ) (i : ℕ) where
   pub all-stop : i < length bs → f (get_or bs i 0) ≡ false → all f (drop i bs) ≡ false
   all-stop h e = all_more h ∙ ap (λ (b : Bool). b && all f (drop (i + 1) bs)) e
 
--- ---- letters
-
-letter-by : (c : ℕ) (a b d e f : Bool) → leb 65 c ≡ a → leb c 90 ≡ b → leb 97 c ≡ d → leb c 122 ≡ e → eqb c 95 ≡ f → letter c ≡ (a && b || d && e || f)
-unfolding letter
-letter-by c a b d e f p q r s t = rw (p, q, r, s, t)
-
-pub letter-1 : (c : ℕ) → c < 65 → false ≡ letter c
-letter-1 c h = sym (letter-by c _ _ _ _ _ (lt-leb 65 c h) refl (lt-leb 97 c (omega arith)) refl (ne_eqb c 95 (λ e. omega arith)))
-
-pub letter-2 : (c : ℕ) → 65 ≤ c → c ≤ 90 → true ≡ letter c
-letter-2 c h g = sym (letter-by c _ _ _ _ _ (le-leb 65 c h) (le-leb c 90 g) refl refl refl)
-
-pub letter-3 : (c : ℕ) → c ≡ 95 → true ≡ letter c
-letter-3 c h = sym (letter-by c _ _ _ _ _ (le-leb 65 c (omega arith)) (lt-leb c 90 (omega arith)) (lt-leb 97 c (omega arith)) refl (eq-eqb c 95 h))
-
-pub letter-4 : (c : ℕ) → 90 < c → (c ≡ 95 → ⊥) → c < 97 → false ≡ letter c
-letter-4 c h f g = sym (letter-by c _ _ _ _ _ refl (lt-leb c 90 h) (lt-leb 97 c g) refl (ne_eqb c 95 f) ∙ go (leb 65 c))
-  where
-    go : (x : Bool) → (x && false || false && leb c 122 || false) ≡ false
-    go true = refl
-    go false = refl
-
-pub letter-5 : (c : ℕ) → 90 < c → (c ≡ 95 → ⊥) → 97 ≤ c → leb c 122 ≡ letter c
-letter-5 c h f g = sym (letter-by c _ _ _ _ _ (le-leb 65 c (omega arith)) (lt-leb c 90 h) (le-leb 97 c g) refl (ne_eqb c 95 f) ∙ go (leb c 122))
-  where
-    go : (x : Bool) → (true && false || true && x || false) ≡ x
-    go true = refl
-    go false = refl
-
-pub inner-yes : (c : ℕ) (b : Bool) → b ≡ letter c → b ≡ true → true ≡ (letter c || digit c)
-inner-yes c b e h = rw (sym e ∙ h)
-
-pub inner-low : (c : ℕ) (b : Bool) → b ≡ letter c → b ≡ false → c < 48 → false ≡ (letter c || digit c)
-unfolding digit
-inner-low c b e h g = rw (sym e ∙ h, lt-leb 48 c g)
-
-pub inner-rest : (c : ℕ) (b : Bool) → b ≡ letter c → b ≡ false → 48 ≤ c → leb c 57 ≡ (letter c || digit c)
-unfolding digit
-inner-rest c b e h g = rw (sym e ∙ h, le-leb 48 c g)
-
 -- ---- names
 
-name-first : (bs : List ℕ) → 0 < length bs → is_name bs ≡ (letter (get_or bs 0 0) && all (λ d. letter d || digit d) (drop 1 bs) && leb (length (drop 1 bs)) 63)
+abbrev pub inner : ℕ → Bool
+inner d = letter d || digit d
+
+and_yes : (x : Bool) → x ≡ (x && true)
+and_yes true = refl
+and_yes false = refl
+
+-- the bytes after the first
+abbrev pub after_first : List ℕ → List ℕ
+after_first bs = take (length bs - 1) (drop 1 bs)
+
+after_first-is : (c : ℕ) (cs : List ℕ) → after_first (c ∷ cs) ≡ cs
+after_first-is c cs = take_all (length (c ∷ cs) - 1) cs (omega arith)
+
+pub name_by_rest : (bs : List ℕ) (b : Bool) → 1 ≤ length bs → length (after_first bs) < 64 → letter (get_or bs 0 0) ≡ true → b ≡ list_all inner (after_first bs) → b ≡ is_name bs
 unfolding is_name
-name-first [] h = absurd (omega arith)
-name-first (b ∷ bs) h = refl
+name_by_rest [] b h g e a = absurd (omega arith)
+name_by_rest (c ∷ cs) b h g e a =
+    let t = after_first-is c cs in
+    let n : length cs ≤ 63 = omega (arith, ap length t) in
+    a ∙ ap (list_all inner) t ∙ all_listed inner cs ∙ rw (e, le-leb (length cs) 63 n) (and_yes (all inner cs))
 
-pub name-empty : (bs : List ℕ) → length bs ≡ 0 → false ≡ is_name bs
+pub name_empty : (bs : List ℕ) → length bs < 1 → false ≡ is_name bs
 unfolding is_name
-name-empty [] h = refl
-name-empty (b ∷ bs) h = absurd (omega arith)
+name_empty [] h = refl
+name_empty (c ∷ cs) h = absurd (omega arith)
 
-pub name-long : (bs : List ℕ) → 64 < length bs → false ≡ is_name bs
-name-long bs h = rw (name-first bs (omega arith), lt-leb (length (drop 1 bs)) 63 (omega (arith, length-drop 1 bs))) (and_no (letter (get_or bs 0 0) && all (λ d. letter d || digit d) (drop 1 bs)))
+pub name_long : (bs : List ℕ) → 1 ≤ length bs → 64 ≤ length (after_first bs) → false ≡ is_name bs
+unfolding is_name
+name_long [] h g = absurd (omega arith)
+name_long (c ∷ cs) h g =
+    let n : 63 < length cs = omega (arith, ap length (after_first-is c cs)) in
+    rw (lt-leb (length cs) 63 n) (and_no (letter c && all inner cs))
 
-pub name-bad-first : (bs : List ℕ) → 0 < length bs → letter (get_or bs 0 0) ≡ false → false ≡ is_name bs
-name-bad-first bs h e = rw (name-first bs h, e)
-
-pub name-rest : (bs : List ℕ) (b : Bool) → 0 < length bs → length bs ≤ 64 → letter (get_or bs 0 0) ≡ true → all (λ d. letter d || digit d) (drop 1 bs) ≡ b → b ≡ is_name bs
-name-rest bs b h g e a = rw (name-first bs h, e, a, le-leb (length (drop 1 bs)) 63 (omega (arith, length-drop 1 bs))) (go b)
-  where
-    go : (x : Bool) → x ≡ (x && true)
-    go true = refl
-    go false = refl
+pub name_bad_first : (bs : List ℕ) → 1 ≤ length bs → letter (get_or bs 0 0) ≡ false → false ≡ is_name bs
+unfolding is_name
+name_bad_first [] h e = absurd (omega arith)
+name_bad_first (c ∷ cs) h e = rw e

@@ -5,91 +5,47 @@ ghost use Rattle.std.specs.Prelude.{◌≡◌, ◌||◌};
 ghost use Rattle.definitions.specs.Bytes.{same, below};
 ghost use Rattle.definitions.specs.Wellformed.{letter, digit, is_name};
 
+// A name's greatest length.
+const MOST_BYTES: usize = 64;
+
 // Whether the two are the same bytes.
 pub fn same_bytes(a: &[u8], b: &[u8]) -> bool
     ensures { result ≡ same a.now b.now }
 {
-    if a.len() != b.len() {
-        return false;
-    }
-    let mut i = 0;
-    while i < a.len() {
-        if a[i] != b[i] {
-            return false;
-        }
-        i += 1;
-    }
-    true
+    a == b
 }
 
 // Whether the bytes a are below b: byte by byte, a proper beginning first.
 pub fn below_bytes(a: &[u8], b: &[u8]) -> bool
     ensures { result ≡ below a.now b.now }
 {
-    let mut i = 0;
-    while i < a.len() {
-        if b.len() <= i {
-            return false;
-        }
-        if a[i] != b[i] {
-            return a[i] < b[i];
-        }
-        i += 1;
-    }
-    i < b.len()
+    a < b
 }
 
 // A letter or `_`.
+#[tactic(auto, unfolding(definitions::specs::Wellformed::letter))]
 fn is_letter(c: u8) -> bool
     ensures { result ≡ letter c }
 {
-    if c < 65 {
-        return false;
-    }
-    if c <= 90 {
-        return true;
-    }
-    if c == 95 {
-        return true;
-    }
-    if c < 97 {
-        return false;
-    }
-    c <= 122
+    matches!(c, b'A'..=b'Z' | b'a'..=b'z' | b'_')
 }
 
 // A letter, a digit or `_`.
+#[tactic(auto, unfolding(definitions::specs::Wellformed::digit))]
 fn is_inner(c: u8) -> bool
     ensures { result ≡ (letter c || digit c) }
 {
-    if is_letter(c) {
-        return true;
-    }
-    if c < 48 {
-        return false;
-    }
-    c <= 57
+    is_letter(c) || matches!(c, b'0'..=b'9')
 }
 
 // Whether the bytes are a name (7, 19).
 pub fn is_name(bytes: &[u8]) -> bool
     ensures { result ≡ is_name bytes.now }
 {
-    if bytes.len() == 0 {
-        return false;
+    match bytes {
+        [first, inner @ ..] if is_letter(*first) && inner.len() < MOST_BYTES => inner
+            .iter()
+            .all(|c| is_inner(*c)),
+        _ => false,
     }
-    if 64 < bytes.len() {
-        return false;
-    }
-    if !is_letter(bytes[0]) {
-        return false;
-    }
-    let mut i = 1;
-    while i < bytes.len() {
-        if !is_inner(bytes[i]) {
-            return false;
-        }
-        i += 1;
-    }
-    true
 }

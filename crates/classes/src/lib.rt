@@ -13,9 +13,10 @@ pub struct Class {
 impl Class {
     pub const FIRST: u32 = 100;
 
+    #[tactic(auto, unfolding(definitions::specs::Tables::type_number))]
     pub fn type_number(class: u16) -> u32
         ensures { result ≡ type_number class }
     {
-        Self::FIRST + class as u32
+        Self::FIRST + u32::from(class)
     }
 }

@@ -23,72 +23,34 @@ pub struct Last {
     pub rest: Field,
 }
 
-const SPACE: u8 = 32;
-
-const MINUS: u8 = 45;
-
 // An upper-case hexadecimal digit.
+#[tactic(auto, unfolding(definitions::specs::Columns::hex_digit))]
 fn hex_digit(d: u64) -> u8
     requires { d < 16 }
     ensures { result ≡ hex_digit d }
 {
     if d < 10 {
-        return (48 + d) as u8;
+        b'0' + d as u8
+    } else {
+        b'A' + (d - 10) as u8
     }
-    (55 + d) as u8
 }
 
 // The last byte of a field, and what it shows before that.
 fn last_of(f: Field) -> Last
     ensures { Splits f result }
 {
-    match f {
-        Field::Blank => Last {
-            byte: SPACE,
-            rest: Field::Blank,
-        },
-        Field::Digits(n) => {
-            if n < 10 {
-                return Last {
-                    byte: (48 + n) as u8,
-                    rest: Field::Blank,
-                };
-            }
-            Last {
-                byte: (48 + n % 10) as u8,
-                rest: Field::Digits(n / 10),
-            }
-        }
-        Field::Negative(n) => {
-            if n < 10 {
-                return Last {
-                    byte: (48 + n) as u8,
-                    rest: Field::Minus,
-                };
-            }
-            Last {
-                byte: (48 + n % 10) as u8,
-                rest: Field::Negative(n / 10),
-            }
-        }
-        Field::Minus => Last {
-            byte: MINUS,
-            rest: Field::Blank,
-        },
-        Field::Bits(w, n) => {
-            if w == 0 {
-                return Last {
-                    byte: SPACE,
-                    rest: Field::Blank,
-                };
-            }
-            let d = hex_digit(n % 16);
-            Last {
-                byte: d,
-                rest: Field::Bits(w - 1, n / 16),
-            }
-        }
-    }
+    let (byte, rest) = match f {
+        Field::Blank => (b' ', Field::Blank),
+        Field::Minus => (b'-', Field::Blank),
+        Field::Digits(n) if n < 10 => (b'0' + n as u8, Field::Blank),
+        Field::Digits(n) => (b'0' + (n % 10) as u8, Field::Digits(n / 10)),
+        Field::Negative(n) if n < 10 => (b'0' + n as u8, Field::Minus),
+        Field::Negative(n) => (b'0' + (n % 10) as u8, Field::Negative(n / 10)),
+        Field::Bits(0, _) => (b' ', Field::Blank),
+        Field::Bits(w, n) => (hex_digit(n % 16), Field::Bits(w - 1, n / 16)),
+    };
+    Last { byte, rest }
 }
 
 // A field of w columns, from its last byte to its first.
@@ -96,10 +58,8 @@ pub fn put_field(w: usize, f: Field, out: &mut [u8])
     requires { (length (field_text f) ≤ w) × (w ≤ length out.old) }
     ensures { out.new ≡ written (right_in w (field_text f)) out.old }
 {
-    let mut i = w;
     let mut rest = f;
-    while 0 < i {
-        i -= 1;
+    for i in (0..w).rev() {
         let last = last_of(rest);
         out[i] = last.byte;
         rest = last.rest;

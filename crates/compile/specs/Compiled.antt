@@ -1,17 +1,16 @@
 -- What the lowering of an accepted tree asks and leaves.
-use Rattle.std.specs.Prelude.{ℕ, ◌≤◌, ◌≡◌, List, [], length}
+use Rattle.std.specs.Prelude.{ℕ, ◌≤◌, ◌≡◌, Option, Some, None, List, [], length}
 use Rattle.definitions.specs.Tree.{Block}
 use Rattle.definitions.specs.Instruction.{Return}
 use Rattle.definitions.specs.Slots.{in_globals, names_only}
 use Rattle.definitions.specs.Tables.{Tables, Emit, one, ◌⨟◌}
 use Rattle.definitions.specs.Lower.{emit_block, main, no_tables}
 use Rattle.tree.specs.StmtAt.{block_at}
-use Rattle.state.specs.State.{State, tables_of, with_tables, symbol_number, with_symbol, Limited, Within, Sound}
+use Rattle.state.specs.State.{State, tables_of, with_tables, symbol_number, with_symbol, Within}
 use Rattle.state.specs.Steps.{begun}
 use Rattle.state.specs.declared.Counts.{Counts}
-use Rattle.state.specs.Answered.{Limits, Emitted, Done, Full}
-use Rattle.lower_emit.specs.Nesting.{Begins}
-use Rattle.lower_emit.specs.Numbers.{counts_of, limits_in, answered, numbered}
+use Rattle.lower_emit.specs.declared.emitter.Emitter.{Emitter}
+use Rattle.lower_emit.specs.Emitting.{counts_of, limits_in, SoundIn}
 
 -- nothing is counted
 abbrev pub no_counts : Counts
@@ -28,20 +27,10 @@ no_counts = record {
   done = 0;
 }
 
--- the slices are long enough, the limits within the tables, and nothing is counted; whatever the code is
-pub record Fresh (made tables k l : List ℕ) : Type 0 where
-  pub tables-room : 16384 ≤ length tables
-  pub made-room : 20500 ≤ length made
-  pub limited : Limited (limits_in l)
-  pub numbers : 10 ≡ length k
-  pub none : counts_of k ≡ no_counts
-
--- the same with the code
-pub record Roomed (made code tables : List ℕ) (l : Limits) : Type 0 where
-  pub code-room : 16384 ≤ length code
-  pub tables-room : 16384 ≤ length tables
-  pub made-room : 20500 ≤ length made
-  pub limited : Limited l
+-- nothing is counted yet; the made names have their room
+pub record Fresh (e : Emitter) : Type 0 where
+  pub none : counts_of e ≡ no_counts
+  pub made-room : 20500 ≤ length e.tables.made.now
 
 -- the tree's block
 abbrev pub tree_block : List ℕ → Block
@@ -62,16 +51,9 @@ main_begun = begun (symbol_number main no_tables) 0 (names_only []) main_named
 abbrev pub main_code : Block → Emit
 main_code b = emit_block [] in_globals b ⨟ one Return
 
--- the slices hold the tables; or the tables are over the limits, or have a function of more than 255 slots
-unfoldable pub Compiles : Emitted → List ℕ → List ℕ → List ℕ → List ℕ → Limits → Tables → Type 0
-Compiles (Done n k) tree made code tables l want = (tables_of tree made code tables k ≡ want) × Sound tree made code tables k l
-Compiles Full tree made code tables l want = Within l (record { stack = []; tables = want }) → ⊥
-
--- `__main__` has begun, whatever the code is; or there is no room
-pub record BeginsMain (r : ℕ) (tree made' tables' k' l : List ℕ) : Type 0 where
-  pub begins : (code : List ℕ) → 16384 ≤ length code → Begins (numbered r k') tree made' code tables' no_counts (limits_in l) 0 main_begun
-  pub numbers : 10 ≡ length k'
-
-pub record CompilesTree (r : ℕ) (tree made' code' tables' k' l : List ℕ) (want : Tables) : Type 0 where
-  pub compiles : Compiles (answered r k') tree made' code' tables' (limits_in l) want
-  pub numbers : 10 ≡ length k'
+-- the emitter shows the tables; or the tables are over the limits, or have a function of more than 255 slots
+pub record CompilesTree {A : Type 0} (r : Option A) (tree : List ℕ) (a b : Emitter) (want : Tables) : Type 0 where
+  pub tables : (x : A) → r ≡ Some x → tables_of tree b.tables.made.now b.code.words.now b.tables.entries.now (counts_of b) ≡ want
+  pub sound : (x : A) → r ≡ Some x → SoundIn tree b
+  pub full : r ≡ None → Within (limits_in a) (record { stack = []; tables = want }) → ⊥
+  pub limits : limits_in b ≡ limits_in a

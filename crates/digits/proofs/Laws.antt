@@ -1,99 +1,94 @@
--- Digits and decimal numbers: a law for each way out. Assumes nothing.
-use Prim.Native.Nat.{ℕ, ◌+◌, ◌*◌, ◌-◌, ◌^◌, ◌<◌, ◌≤◌}
-use mathlib.Core.Path.{◌≡◌, refl, sym, ap, ◌∙◌}
-use mathlib.Core.Bool.{Bool, true, false, ◌&&◌}
+-- The library's numerals, in the words of the definitions. Assumes nothing.
+use Prim.Native.Nat.{ℕ, ◌-◌, ◌^◌, ◌<◌, zero, suc}
+use mathlib.Core.Path.{◌≡◌, refl, sym, ap, subst}
+use mathlib.Core.Bool.{Bool, true, false, cond, ◌&&◌}
 use mathlib.Core.List.{List, [], ◌∷◌}
-use mathlib.Core.Option.{none, some}
 use native.Mathlib.Omega.{arith}
-use native.Mathlib.Numerals.{add-one}
-use lib.ListN.{length, drop, get_or, drop_of_length-le}
-use lib.Seq.{drop-cons}
-use borrow.Author.Tests.{le-leb, lt-leb, lt-ltb, le-ltb}
+use lib.ListN.{length, get_or}
+use lib.Dec.{ltb}
+use borrow.Author.Tests.{leb-true, ltb-true, le-leb, lt-ltb, lt-leb, le-ltb}
+use Rattle.std.specs.Prelude.{Some, None, Result, Ok, Err, MatchResult}
+use Rattle.std.specs.Result.{result_ok, OkIff}
+use Rattle.std.specs.Int.{IsInRange}
+use Rattle.std.specs.Str.{IsUtf8}
+use Rattle.std.specs.Str.Parse.{ParsesUnsigned}
+use Rattle.std.proofs.lemmas.Str.{IsUtf8-from_ascii}
+use Rattle.std.proofs.lemmas.Str.Parse.{IsDigitsTest, FoldsDigits, IsNumeralModel, numerals_by_fold, parse_plain}
 use Rattle.digits.specs.Text.{digit_value, all_decimal, value_from, decimal_from, decimal}
 
--- ---- a digit
+-- ---- decimal digits
 
-module _ (c : ℕ) where
-  pub digit_low : c < 48 → 16 ≡ digit_value c
-  unfolding digit_value
-  digit_low h = simp (lt-leb 48 c h, lt-leb 97 c (omega arith))
+both : (a b : Bool) → (a && b) ≡ true → (a ≡ true) × (b ≡ true)
+both true true e = (refl, refl)
+both true false e = cc
+both false b e = cc
 
-  pub digit-decimal : 48 ≤ c → c < 58 → c - 48 ≡ digit_value c
-  unfolding digit_value
-  digit-decimal h l = simp (le-leb 48 c h, lt-ltb c 58 l)
+ten : (c : ℕ) → ltb (digit_value c) 10 ≡ true → IsInRange 48 57 c
+unfolding digit_value
+ten c e = grind (arith, ltb-true, leb-true, le-leb, lt-ltb, lt-leb, le-ltb)
 
-  pub digit-gap : 58 ≤ c → c < 97 → 16 ≡ digit_value c
-  unfolding digit_value
-  digit-gap h l = simp (le-leb 48 c (omega arith), le-ltb c 58 h, lt-leb 97 c l)
+is_ten : (c : ℕ) → IsInRange 48 57 c → digit_value c ≡ c - 48
+unfolding digit_value
+is_ten c h = simp (le-leb 48 c (omega arith), lt-ltb c 58 (omega arith))
 
-  pub digit-letter : 97 ≤ c → c < 103 → c - 87 ≡ digit_value c
-  unfolding digit_value
-  digit-letter h l = simp (le-leb 48 c (omega arith), le-ltb c 58 (omega arith), le-leb 97 c h, lt-ltb c 103 l)
+tells : IsDigitsTest (λ ds. all_decimal ds ≡ true)
+unfolding all_decimal
+tells = record {
+  empty = refl;
+  parts = λ c cs e. let m = both (ltb (digit_value c) 10) (all_decimal cs) e in (ten c m.0, m.1);
+  more = λ c cs k e. rw (is_ten c k, lt-ltb (c - 48) 10 (omega arith)) e;
+}
 
-  pub digit-high : 103 ≤ c → 16 ≡ digit_value c
-  unfolding digit_value
-  digit-high h = simp (le-leb 48 c (omega arith), le-ltb c 58 (omega arith), le-leb 97 c (omega arith), le-ltb c 103 h)
+folds : FoldsDigits value_from
+unfolding value_from
+folds = record { empty = λ n. refl; more = λ n c cs k. rw (is_ten c k) }
+
+own : IsNumeralModel (λ ds. all_decimal ds ≡ true) (value_from 0)
+own = numerals_by_fold _ tells value_from folds
+
+-- decimal digits are ASCII
+ascii : (ds : List ℕ) → all_decimal ds ≡ true → (i : ℕ) → get_or ds i 0 < 128
+ascii [] e i = omega arith
+ascii (c ∷ cs) e zero = omega (arith, (tells.parts c cs e).0)
+ascii (c ∷ cs) e (suc i) = ascii cs (tells.parts c cs e).1 i
 
 -- ---- a decimal number
 
-and-false : (x : Bool) → (x && false) ≡ false
-and-false true = refl
-and-false false = refl
+no_value : (a b : Bool) (v : ℕ) → (a ≡ true → b ≡ true → ⊥) → cond (a && b) (Some v) None ≡ None
+no_value true true v h = absurd (h refl refl)
+no_value true false v h = refl
+no_value false b v h = refl
 
--- digits only make a number larger
-grows : (v : ℕ) (cs : List ℕ) → v ≤ value_from v cs
-unfolding value_from
-grows v [] = omega arith
-grows v (c ∷ cs) = let h = grows (v * 10 + digit_value c) cs in omega arith
+-- a text of other bytes too spells none
+spells_none : (t : List ℕ) → (all_decimal t ≡ true → ⊥) → None ≡ decimal t
+unfolding decimal decimal_from
+spells_none [] h = refl
+spells_none (c ∷ cs) h = sym (no_value _ _ _ (λ a b. h b))
 
-module _ (v c : ℕ) (cs : List ℕ) where
-  from_next : digit_value c ≤ 9 → decimal_from v (c ∷ cs) ≡ decimal_from (v * 10 + digit_value c) cs
-  unfolding decimal_from all_decimal value_from
-  from_next h = simp (lt-ltb (digit_value c) 10 (omega arith))
+pub not_utf8-none : (t : List ℕ) → ¬ (IsUtf8 t) → None ≡ decimal t
+not_utf8-none t h = spells_none t (λ e. h (IsUtf8-from_ascii t (ascii t e)))
 
-  from-bad : 9 < digit_value c → decimal_from v (c ∷ cs) ≡ none
-  unfolding decimal_from all_decimal value_from
-  from-bad h = simp (le-ltb (digit_value c) 10 (omega arith), and-false)
+pub plus-none : (t : List ℕ) → get_or t 0 0 ≡ 43 → None ≡ decimal t
+plus-none [] e = absurd (omega arith)
+plus-none (c ∷ cs) e = spells_none (c ∷ cs) (λ h. omega (arith, (tells.parts c cs h).0))
 
-  from-over : 2 ^ 64 ≤ v * 10 + digit_value c → decimal_from v (c ∷ cs) ≡ none
-  unfolding decimal_from all_decimal value_from
-  from-over h = let g = grows (v * 10 + digit_value c) cs in simp (le-ltb (value_from (v * 10 + digit_value c) cs) (2 ^ 64) (omega arith))
+module _ {E : Type 0} where
+  from_parsed : (t : List ℕ) (r : Result ℕ E) → OkIff r ((all_decimal t ≡ true) × (0 < length t) × (value_from 0 t < 2 ^ 64)) (value_from 0 t) → result_ok r ≡ decimal t
+  unfolding decimal decimal_from
+  from_parsed [] (Ok x) p = absurd (omega arith)
+  from_parsed [] (Err e) p = refl
+  from_parsed (c ∷ cs) (Ok x) p = rw (lt-ltb (value_from 0 (c ∷ cs)) (2 ^ 64) p.0.2, p.0.0) (ap Some p.1)
+  from_parsed (c ∷ cs) (Err e) p = sym (no_value _ _ _ (λ a b. p (b, omega arith, ltb-true _ _ a)))
 
-from_end : (v : ℕ) → v < 2 ^ 64 → decimal_from v [] ≡ some v
-unfolding decimal_from all_decimal value_from
-from_end v h = simp (lt-ltb v (2 ^ 64) h)
+  pub parsed : (t : List ℕ) (r : Result ℕ E) → ParsesUnsigned 64 10 t r → (get_or t 0 0 ≡ 43 → ⊥) → result_ok r ≡ decimal t
+  parsed t r h n = from_parsed t r (parse_plain own 64 t r h n)
 
-module _ (t : List ℕ) where
-  pub decimal-empty : length t ≡ 0 → none ≡ decimal t
-  unfolding decimal
-  decimal-empty e = go t e
-    where
-      go : (l : List ℕ) → length l ≡ 0 → none ≡ decimal l
-      go [] e = refl
-      go (c ∷ cs) e = absurd (omega arith)
+-- what is no text, and what is one
+module _ {A E : Type 0} (P : A → Type 0) (Q : E → Type 0) where
+  pub no_text : (r : Result A E) → result_ok r ≡ None → MatchResult r P Q → (e : E) × Q e
+  no_text (Ok x) e h = cc
+  no_text (Err x) e h = (x, h)
 
-  pub decimal-start : (length t ≡ 0 → ⊥) → decimal t ≡ decimal_from 0 (drop 0 t)
-  unfolding decimal
-  decimal-start f = go t f
-    where
-      go : (l : List ℕ) → (length l ≡ 0 → ⊥) → decimal l ≡ decimal_from 0 l
-      go [] f = absurd (f refl)
-      go (c ∷ cs) f = refl
-
-  -- the character at i has the value d
-  module _ (v i d : ℕ) (h : i < length t) (e : d ≡ digit_value (get_or t i 0)) where
-    one_left : drop i t ≡ get_or t i 0 ∷ drop (i + 1) t
-    one_left = drop-cons t i 0 h ∙ ap (λ (k : ℕ). get_or t i 0 ∷ drop k t) (sym (add-one i))
-
-    pub rest-next : d ≤ 9 → decimal_from v (drop i t) ≡ decimal_from (v * 10 + d) (drop (i + 1) t)
-    rest-next l = ap (decimal_from v) one_left ∙ from_next v (get_or t i 0) (drop (i + 1) t) (omega arith)
-        ∙ ap (λ (k : ℕ). decimal_from (v * 10 + k) (drop (i + 1) t)) (sym e)
-
-    pub rest-bad : 9 < d → decimal_from v (drop i t) ≡ none
-    rest-bad l = ap (decimal_from v) one_left ∙ from-bad v (get_or t i 0) (drop (i + 1) t) (omega arith)
-
-    pub rest_over : 2 ^ 64 ≤ v * 10 + d → decimal_from v (drop i t) ≡ none
-    rest_over l = ap (decimal_from v) one_left ∙ from-over v (get_or t i 0) (drop (i + 1) t) (omega arith)
-
-  pub rest_end : (v i : ℕ) → length t ≤ i → v < 2 ^ 64 → decimal_from v (drop i t) ≡ some v
-  rest_end v i l b = ap (decimal_from v) (drop_of_length-le t l) ∙ from_end v b
+  pub some_text : (r : Result A E) (x : A) → result_ok r ≡ Some x → MatchResult r P Q → P x
+  some_text (Ok y) x e h = let k : y ≡ x = cc in subst P k h
+  some_text (Err y) x e h = cc

@@ -1,8 +1,5 @@
 -- What text spells: digits and decimal numbers. Assumes nothing: these are definitions.
-use Rattle.std.specs.Prelude.{ℕ, ◌+◌, ◌*◌, ◌-◌, ◌^◌, Bool, true, ◌&&◌, cond, List, [], ◌∷◌, leb, ltb}
-use Rattle.std.proofs.Math.Option.{Option, none, some}
-use Rattle.digits.specs.declared.Decimal.{Decimal}
-use Rattle.digits.specs.declared.Decimal.TheVariants.{Value, NotDecimal}
+use Rattle.std.specs.Prelude.{ℕ, ◌+◌, ◌*◌, ◌-◌, ◌^◌, Bool, true, ◌&&◌, cond, List, [], ◌∷◌, leb, ltb, Option, Some, None}
 
 -- the value of a hexadecimal digit in lower case; 16 of any other character
 unfoldable pub digit_value : ℕ → ℕ
@@ -20,14 +17,9 @@ value_from v (c ∷ cs) = value_from (v * 10 + digit_value c) cs
 
 -- the same, where all are decimal digits and the number is below 2^64
 unfoldable pub decimal_from : ℕ → List ℕ → Option ℕ
-decimal_from v cs = cond (ltb (value_from v cs) (2 ^ 64) && all_decimal cs) (some (value_from v cs)) none
+decimal_from v cs = cond (ltb (value_from v cs) (2 ^ 64) && all_decimal cs) (Some (value_from v cs)) None
 
 -- the number that a text spells: at least one character, all of them decimal digits, below 2^64
 unfoldable pub decimal : List ℕ → Option ℕ
-decimal [] = none
+decimal [] = None
 decimal (c ∷ cs) = decimal_from 0 (c ∷ cs)
-
--- the number, or none, for each case of the code's answer
-unfoldable pub said : Decimal → Option ℕ
-said (Value n) = some n
-said NotDecimal = none

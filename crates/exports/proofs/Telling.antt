@@ -17,34 +17,26 @@ use Rattle.definitions.specs.Calls.{Counts, Running, fits_room, areas_fit, lower
 use Rattle.definitions.proofs.ReadFits.{module-short}
 use Rattle.definitions.specs.Reach.{sought, count_found, found_answer, buffer_after, Reaching, reach_call}
 use Rattle.tree.specs.Settled.{said, settled}
-use Rattle.tree.specs.declared.Checked.{Checked}
-use Rattle.tree.specs.declared.Checked.TheVariants.{Accepted, Refused}
+use Rattle.std.specs.Prelude.{Result, Ok, Err, Some, None}
+use Rattle.std.specs.Prelude.{Option as Opt}
+use Rattle.questions.specs.declared.Question.{Question}
+use Rattle.questions.specs.Numbers.{number}
 use Rattle.lowering.specs.Lowered.{said as lowered, Lowers as Lowered'}
-use Rattle.lowering.specs.declared.Lowered.{Lowered}
-use Rattle.lowering.specs.declared.Lowered.TheVariants.{Wrote, Refused as NotLowered}
 use Rattle.reader.specs.View.{said as read_said, said_part, CodeAt, Known, Locates}
-use Rattle.reader.specs.declared.Verdict.{Verdict}
-use Rattle.reader.specs.declared.Verdict.TheVariants.{Accepted as Taken, Refused as NotTaken}
-use Rattle.reader.specs.declared.Located.{Located}
-use Rattle.reader.specs.declared.Located.TheVariants.{Code, NoCode}
+use Rattle.reader.specs.declared.Part.{Part}
 use Rattle.tally.specs.Listed.{said as text_said, Printed}
-use Rattle.tally.specs.declared.Listed.{Listed}
-use Rattle.tally.specs.declared.Listed.TheVariants.{Written, Refused as NotWritten}
-use Rattle.run.specs.Pass.{said as ran_said, Called}
-use Rattle.run.specs.declared.Outcome.{Outcome}
-use Rattle.run.specs.declared.Outcome.TheVariants.{Finished, Refused as NotRun}
+use Rattle.run.specs.Pass.{said as ran_said, Called, ending_number, counts as ran_counts}
+use Rattle.run.specs.declared.Ran.{Ran as RanSo}
 use Rattle.exports.specs.Told.{told, told_count, told_part, four_in, counts_in, Tellable, Lowers, Prints, Runs, told_found, Seeks}
 use Rattle.reach.specs.Reaching.{said as reach_said, Gives}
-use Rattle.reach.specs.declared.Reached.{Reached}
-use Rattle.reach.specs.declared.Reached.TheVariants.{Answers, Nowhere, Refused as NotSought}
 
 -- ---- a tree
 
-pub check-yes : (r : Checked) (t : List ℕ) → said r ≡ settled t → r ≡ Accepted → 0 ≡ told (settled t)
+pub check-yes : (r : Result (Unit {0}) Question) (t : List ℕ) (u : Unit {0}) → said r ≡ settled t → r ≡ Ok u → 0 ≡ told (settled t)
 unfolding told said
-check-yes r t e f = ap told (sym (ap said f) ∙ e)
+check-yes r t u e f = ap told (sym (ap said f) ∙ e)
 
-pub check-no : (r : Checked) (t : List ℕ) (q : ℕ) → said r ≡ settled t → r ≡ Refused q → q ≡ told (settled t)
+pub check-no : (r : Result (Unit {0}) Question) (t : List ℕ) (q : Question) → said r ≡ settled t → r ≡ Err q → number q ≡ told (settled t)
 unfolding told said
 check-no r t q e f = ap told (sym (ap said f) ∙ e)
 
@@ -66,8 +58,8 @@ unfolding count_answer when_accepted
 answer-count l room n tree true e = bytes_count room n (lower_bytes l tree) e
 answer-count l room n tree false e = let z : ◌≡◌ {A = ℕ} 0 1 = cc in absurd (omega arith)
 
-module _ (r : Lowered) (k l : Limits) (e : k ≡ l) (tree area₁ area₂ out area₁' area₂' out' : List ℕ) (L : Lowered' r area₁' area₂' out' (lower_call k tree area₁ area₂ out)) where
-  pub lowered-fits : (n : ℕ) → r ≡ Wrote n → n ≤ length out
+module _ (r : Result ℕ Question) (k l : Limits) (e : k ≡ l) (tree area₁ area₂ out area₁' area₂' out' : List ℕ) (L : Lowered' r area₁' area₂' out' (lower_call k tree area₁ area₂ out)) where
+  pub lowered-fits : (n : ℕ) → r ≡ Ok n → n ≤ length out
   unfolding lowered lower_call lower_answer
   lowered-fits n h = answer-count k (length out) n tree (areas_fit (length area₁) (length area₂)) (sym L.answer ∙ ap lowered h)
 
@@ -79,58 +71,58 @@ module _ (r : Lowered) (k l : Limits) (e : k ≡ l) (tree area₁ area₂ out ar
       let w : lower_call k tree area₁ area₂ out ≡ want = ap (λ (m : Limits). lower_call m tree area₁ area₂ out) e in
       subst (λ (v : Lowering). Lowers x v area₁' area₂' out') w (record { answer = h ∙ ap told_count L.answer; first = L.first; second = L.second; output = L.output })
 
-  pub lowered-yes : (n : ℕ) → r ≡ Wrote n → Lowers (4294967296 + n) want area₁' area₂' out'
+  pub lowered-yes : (n : ℕ) → r ≡ Ok n → Lowers (4294967296 + n) want area₁' area₂' out'
   unfolding lowered told_count
-  lowered-yes n h = lowers-as (4294967296 + n) (ap (λ (x : Lowered). told_count (lowered x)) (sym h))
+  lowered-yes n h = lowers-as (4294967296 + n) (ap (λ (x : Result ℕ Question). told_count (lowered x)) (sym h))
 
-  pub lowered-no : (q : ℕ) → r ≡ NotLowered q → Lowers q want area₁' area₂' out'
+  pub lowered-no : (q : Question) → r ≡ Err q → (n : ℕ) → n ≡ number q → Lowers n want area₁' area₂' out'
   unfolding lowered told_count
-  lowered-no q h = lowers-as q (ap (λ (x : Lowered). told_count (lowered x)) (sym h))
+  lowered-no q h n e = lowers-as n (e ∙ ap (λ (x : Result ℕ Question). told_count (lowered x)) (sym h))
 
 -- ---- a module
 
-pub read-yes : (r : Verdict) (a : Answer (Unit {0})) → read_said r ≡ a → r ≡ Taken → 0 ≡ told a
+pub read-yes : {A : Type 0} (x : A) (r : Result A Question) (a : Answer (Unit {0})) → read_said r ≡ a → r ≡ Ok x → 0 ≡ told a
 unfolding told read_said
-read-yes r a e f = ap told (sym (ap read_said f) ∙ e)
+read-yes x r a e f = ap told (sym (ap read_said f) ∙ e)
 
-pub read_no : (r : Verdict) (a : Answer (Unit {0})) (q : ℕ) → read_said r ≡ a → r ≡ NotTaken q → q ≡ told a
+pub read_no : {A : Type 0} (r : Result A Question) (a : Answer (Unit {0})) (q : Question) → read_said r ≡ a → r ≡ Err q → number q ≡ told a
 unfolding told read_said
 read_no r a q e f = ap told (sym (ap read_said f) ∙ e)
 
 -- ---- a function's code
 
-pub code-known : (r : Located) (t : List ℕ) (f p s n : ℕ) → Locates r t f → r ≡ Code p s n → CodeAt t f p s n
+pub code-known : (r : Result Part Question) (t : List ℕ) (f : ℕ) (p : Part) → Locates r t f → r ≡ Ok p → CodeAt t f p.start p.size p.count
 unfolding Known
-code-known r t f p s n L e = rw e at L.known
+code-known r t f p L e = rw e at L.known
 
 -- it lies within the module, which is short
 pub code-short : (t : List ℕ) (f p s n : ℕ) → CodeAt t f p s n → p + s ≤ 524288
 code-short t f p s n C = omega (arith, C.read.to, module-short t C.tables C.module-is)
 
-pub code-yes : (r : Located) (t : List ℕ) (f p s n : ℕ) → Locates r t f → r ≡ Code p s n → p * 4294967296 + s ≡ told_part (code_call t f)
+pub code-yes : (r : Result Part Question) (t : List ℕ) (f : ℕ) (p : Part) → Locates r t f → r ≡ Ok p → p.start * 4294967296 + p.size ≡ told_part (code_call t f)
 unfolding told_part said_part
-code-yes r t f p s n L e = ap told_part (sym (ap said_part e) ∙ L.is)
+code-yes r t f p L e = ap told_part (sym (ap said_part e) ∙ L.is)
 
-pub code-no : (r : Located) (t : List ℕ) (f q : ℕ) → Locates r t f → r ≡ NoCode q → q ≡ told_part (code_call t f)
+pub code-no : (r : Result Part Question) (t : List ℕ) (f : ℕ) (q : Question) → Locates r t f → r ≡ Err q → number q ≡ told_part (code_call t f)
 unfolding told_part said_part
 code-no r t f q L e = ap told_part (sym (ap said_part e) ∙ L.is)
 
 -- ---- a text about a module
 
-pub tell-few : (r : Listed) (n : ℕ) → Tellable (text_said r) → r ≡ Written n → n < 2 ^ 63
+pub tell-few : (r : Result ℕ Question) (n : ℕ) → Tellable (text_said r) → r ≡ Ok n → n < 2 ^ 63
 unfolding text_said
 tell-few r n h e = h n (ap text_said e)
 
-pub tell_yes : (r : Listed) (n : ℕ) → r ≡ Written n → 4294967296 + n ≡ told_count (text_said r)
+pub tell_yes : (r : Result ℕ Question) (n : ℕ) → r ≡ Ok n → 4294967296 + n ≡ told_count (text_said r)
 unfolding text_said told_count
-tell_yes r n e = sym (ap (λ (x : Listed). told_count (text_said x)) e)
+tell_yes r n e = sym (ap (λ (x : Result ℕ Question). told_count (text_said x)) e)
 
-pub tell_no : (r : Listed) (q : ℕ) → r ≡ NotWritten q → q ≡ told_count (text_said r)
+pub tell_no : (r : Result ℕ Question) (q : Question) → r ≡ Err q → number q ≡ told_count (text_said r)
 unfolding text_said told_count
-tell_no r q e = sym (ap (λ (x : Listed). told_count (text_said x)) e)
+tell_no r q e = sym (ap (λ (x : Result ℕ Question). told_count (text_said x)) e)
 
 -- what is written fits the output
-module _ (q : ℕ) (f : Tables → List ℕ) (r : Listed) (t out out' : List ℕ) (L : Printed r (text_call q f t out) out') where
+module _ (q : ℕ) (f : Tables → List ℕ) (r : Result ℕ Question) (t out out' : List ℕ) (L : Printed r (text_call q f t out) out') where
   text-fits : (n : ℕ) → text_said r ≡ accepted n → n ≤ length out
   unfolding text_call text_answer text_fits count_answer when_accepted
   text-fits n e = go (read_module t) (sym L.answer ∙ e)
@@ -155,17 +147,19 @@ pub four-all : (a b c d : ℕ) (xs : List ℕ) → 4 ≤ length xs → set (set 
 unfolding four_in
 four-all a b c d xs h = rw (le-leb 4 (length xs) h, four_in)
 
-pub runs-yes : (r : Outcome) (want : Running) (left numbers numbers' : List ℕ) (e s u b : ℕ) → Called r want left → r ≡ Finished e s u b → numbers' ≡ four_in e s u b numbers → Runs 0 want left numbers numbers'
+pub runs-yes : (r : Result RanSo Question) (want : Running) (left numbers numbers' : List ℕ) (n : RanSo) → Called r want left → r ≡ Ok n → {e : ℕ} → e ≡ ending_number n.ending
+    → numbers' ≡ four_in e n.steps n.used n.written numbers → Runs 0 want left numbers numbers'
 unfolding ran_said told counts_in
-runs-yes r want left numbers numbers' e s u b C f n =
-    let k : accepted (record { ending = e; steps = s; used = u; bytes = b }) ≡ want.answer = sym (ap ran_said f) ∙ C.says in
-    record { answer = ap told k; buffer = C.leaves; counts = n ∙ ap (λ (a : Answer Counts). counts_in a numbers) k }
+runs-yes r want left numbers numbers' n C f g h =
+    let k : accepted (ran_counts n) ≡ want.answer = sym (ap ran_said f) ∙ C.says in
+    record { answer = ap told k; buffer = C.leaves; counts = h ∙ ap (λ (x : ℕ). four_in x n.steps n.used n.written numbers) g ∙ ap (λ (a : Answer Counts). counts_in a numbers) k }
 
-pub runs-no : (r : Outcome) (want : Running) (left numbers numbers' : List ℕ) (q : ℕ) → Called r want left → r ≡ NotRun q → numbers' ≡ four_in 0 0 0 0 numbers → Runs q want left numbers numbers'
+pub runs-no : (r : Result RanSo Question) (want : Running) (left numbers numbers' : List ℕ) (q : Question) → Called r want left → r ≡ Err q → {a : ℕ} → a ≡ number q
+    → numbers' ≡ four_in 0 0 0 0 numbers → Runs a want left numbers numbers'
 unfolding ran_said told counts_in
-runs-no r want left numbers numbers' q C f n =
-    let k : refused q ≡ want.answer = sym (ap ran_said f) ∙ C.says in
-    record { answer = ap told k; buffer = C.leaves; counts = n ∙ ap (λ (a : Answer Counts). counts_in a numbers) k }
+runs-no r want left numbers numbers' q C f g n =
+    let k : refused (number q) ≡ want.answer = sym (ap ran_said f) ∙ C.says in
+    record { answer = g ∙ ap told k; buffer = C.leaves; counts = n ∙ ap (λ (a : Answer Counts). counts_in a numbers) k }
 
 -- ---- a place
 
@@ -177,8 +171,8 @@ found-fits (accepted code) none n out out' e f l = let z : ◌≡◌ {A = ℕ} 0
 found-fits (accepted code) (some ys) n out out' e f l =
     let x : n ≡ length ys = cc in let y = ap length f ∙ length-append ys (drop (length ys) out) in omega arith
 
-module _ (r : Reached) {bytes : List ℕ} {function place : ℕ} {area area' out out' : List ℕ} (R : Gives r bytes function place area area' out out') where
-  pub reached-fits : (n : ℕ) → r ≡ Answers n → length out' ≡ length out → n ≤ length out
+module _ (r : Result (Opt ℕ) Question) {bytes : List ℕ} {function place : ℕ} {area area' out out' : List ℕ} (R : Gives r bytes function place area area' out out') where
+  pub reached-fits : (n : ℕ) → r ≡ Ok (Some n) → length out' ≡ length out → n ≤ length out
   unfolding reach_said reach_call
   reached-fits n e l =
       found-fits (sought (length area) bytes function place (length out)) R.found n out out' (sym (ap reach_said e) ∙ ap (λ (x : Reaching). x.answer) R.is) (ap (λ (x : Reaching). x.buffer) R.is) l
@@ -186,14 +180,14 @@ module _ (r : Reached) {bytes : List ℕ} {function place : ℕ} {area area' out
   seeks-as : (m : ℕ) → m ≡ told_found (reach_said r) → Seeks m bytes function place area area' out out'
   seeks-as m e = record { given = record { answer = reach_said r; area = area'; buffer = out' }; call = R; answer = e; left = refl; buffer = refl }
 
-  pub reached-list : (n : ℕ) → r ≡ Answers n → Seeks (4294967296 + n) bytes function place area area' out out'
+  pub reached-list : (n : ℕ) → r ≡ Ok (Some n) → Seeks (4294967296 + n) bytes function place area area' out out'
   unfolding reach_said told_found
-  reached-list n e = seeks-as (4294967296 + n) (ap (λ (x : Reached). told_found (reach_said x)) (sym e))
+  reached-list n e = seeks-as (4294967296 + n) (ap (λ (x : Result (Opt ℕ) Question). told_found (reach_said x)) (sym e))
 
-  pub reached-none : r ≡ Nowhere → Seeks 8589934592 bytes function place area area' out out'
+  pub reached-none : r ≡ Ok None → Seeks 8589934592 bytes function place area area' out out'
   unfolding reach_said told_found
-  reached-none e = seeks-as 8589934592 (ap (λ (x : Reached). told_found (reach_said x)) (sym e))
+  reached-none e = seeks-as 8589934592 (ap (λ (x : Result (Opt ℕ) Question). told_found (reach_said x)) (sym e))
 
-  pub reached-not : (q : ℕ) → r ≡ NotSought q → Seeks q bytes function place area area' out out'
+  pub reached-not : (q : Question) → r ≡ Err q → {a : ℕ} → a ≡ number q → Seeks a bytes function place area area' out out'
   unfolding reach_said told_found
-  reached-not q e = seeks-as q (ap (λ (x : Reached). told_found (reach_said x)) (sym e))
+  reached-not q e {a} f = seeks-as a (f ∙ ap (λ (x : Result (Opt ℕ) Question). told_found (reach_said x)) (sym e))

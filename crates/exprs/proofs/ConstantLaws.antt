@@ -4,15 +4,16 @@ use mathlib.Core.Path.{◌≡◌, refl, sym, ap, ◌∙◌}
 use mathlib.Core.Bool.{true}
 use mathlib.Core.List.{List}
 use native.Mathlib.Omega.{arith}
-use borrow.Author.Count.{below_more}
 use lib.ListN.{length, get_or}
 use Rattle.parts.specs.Judge.{fits, suited, judge_name, judge_expr, judge_many}
-use Rattle.parts.specs.declared.Passed.TheVariants.{Next}
-use Rattle.parts.specs.declared.Role.{Role}
-use Rattle.parts.specs.declared.Role.TheVariants.{Value, Target as as_target}
+use Rattle.parts.specs.Judge.{Next}
+use Rattle.parts.specs.declared.roles.Role.{Role}
+use Rattle.parts.specs.declared.roles.Role.TheVariants.{Value, Target as as_target}
 use Rattle.parts.proofs.Laws.{then_next}
 use Rattle.parts.proofs.LeafLaws.{noted-yes, suits-value, suits-other}
-use Rattle.exprs.specs.Constants.{Constants, Passes}
+use Rattle.parts.specs.Judged.{Skips}
+use Rattle.parts.specs.declared.checker.Checker.{Checker}
+use Rattle.exprs.specs.Constants.{Passes, Skipped}
 use Rattle.exprs.proofs.ExprLaws.{at_none, at-false, at_true, at-var, many_more}
 
 -- a constant as a value: one byte, of which nothing is asked
@@ -42,7 +43,7 @@ many-at : (r : Role) (d : ℕ) (t : List ℕ) (n m p q w : ℕ) → n ≡ m → 
 many-at r d t n m p q w e g = rw (e, g)
 
 -- nothing is passed over
-pub pass-none : (r : Role) (d : ℕ) (t : List ℕ) (n p : ℕ) → p ≤ length t → Passes r d t n p 0
+pass-none : (r : Role) (d : ℕ) (t : List ℕ) (n p : ℕ) → p ≤ length t → Passes r d t n p 0
 pass-none r d t n p h = record { few = omega arith; inside = omega arith; same = λ w. many-at r d t _ _ _ _ w (omega arith) (omega arith) }
 
 -- constants in a list of values are passed over
@@ -54,12 +55,13 @@ same-past d t n p (suc k) f a b c w =
     ∙ many-constant d t (n - k) (p + k) w f (omega arith) (omega arith) (c k (omega arith))
     ∙ many-at Value d t _ _ _ _ w (omega arith) (omega arith)
 
-pub pass-constants : (r : Role) (d : ℕ) (t : List ℕ) (n p k : ℕ) → r ≡ Value → (d ≡ 0 → ⊥) → Constants t n p k → Passes r d t n p k
-pass-constants r d t n p k e f c = rw e (record { few = c.few; inside = c.inside; same = same-past d t n p k f c.few c.inside c.each })
+pub skip-constants : (r : Role) (d n k : ℕ) {c c₁ : Checker} → r ≡ Value → 0 < d → Skips 3 n k c c₁ → Skipped r d n k c c₁
+skip-constants r d n k {c = c} e f s = record {
+  passes = rw e (let h = s.went.room in record { few = s.few; inside = h; same = same-past d c.tree.now n c.at k (λ z. absurd (omega arith)) s.few h s.each });
+  tree = s.went.tree;
+  at = s.went.at;
+  first = s.went.first;
+}
 
--- no constant, and one more
-pub constants-none : (t : List ℕ) (n p : ℕ) → p ≤ length t → Constants t n p 0
-constants-none t n p h = record { few = omega arith; inside = omega arith; each = λ i l. absurd (omega arith) }
-
-pub constants-more : (t : List ℕ) (n p k : ℕ) → Constants t n p k → k < n → p + k < length t → get_or t (p + k) 0 ≤ 2 → Constants t n p (k + 1)
-constants-more t n p k c a b l = record { few = omega arith; inside = omega arith; each = below_more (λ (i : ℕ). get_or t (p + i) 0 < 3) k c.each (omega arith) }
+pub skip-none : (r : Role) (d n : ℕ) (c : Checker) → Skipped r d n 0 c c
+skip-none r d n c = record { passes = pass-none r d c.tree.now n c.at c.inside; tree = refl; at = omega arith; first = refl }

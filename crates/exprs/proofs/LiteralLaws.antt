@@ -1,14 +1,16 @@
 -- Literals by their kind bytes, and numbers of eight bytes. Assumes nothing.
 use Prim.Native.Nat.{ℕ, zero, suc, ◌+◌, ◌*◌, ◌-◌, ◌%◌, ◌<◌, ◌≤◌}
 use mathlib.Core.Path.{◌≡◌, refl, sym, ap, ◌∙◌}
-use mathlib.Core.Bool.{true, false, not}
-use mathlib.Core.List.{List, ◌∷◌}
+use mathlib.Core.Bool.{Bool, true, false, not}
+use mathlib.Core.List.{List, [], ◌∷◌}
+use mathlib.Core.Logic.{◌⊎◌, inl, inr}
 use native.Mathlib.Omega.{arith}
 use lib.Dec.{T}
 use lib.Ieee.{binary64, is_nan, of_bits}
 use lib.ListN.{length, take, drop, get_or}
 use borrow.Author.Rules.{const_no_nan}
 use borrow.Author.Tests.{le-ltb}
+use Rattle.std.specs.Int.{w64, from_be_bytes}
 use Rattle.definitions.specs.Bytes.{Parser, got, give, unread, byte, field, ◌>>=◌}
 use Rattle.definitions.specs.Parse.{by_kind, expr_kinds, parse_expr}
 use Rattle.definitions.specs.Tree.{none_l, int_l, float_l, string_l, Expr, lit}
@@ -43,16 +45,24 @@ eight-bytes t p h =
     ∙ ap (λ (x : List ℕ). get_or t (p + 4) 0 ∷ x) (byte_at t p 5 (omega arith) ∙ ap (λ (x : List ℕ). get_or t (p + 5) 0 ∷ x) (byte_at t p 6 (omega arith)
     ∙ ap (λ (x : List ℕ). get_or t (p + 6) 0 ∷ x) (byte_at t p 7 (omega arith))))))))
 
-two : (t : List ℕ) (p k : ℕ) → count_at t (p + k) ≡ get_or t (p + k) 0 * 256 + get_or t (p + (k + 1)) 0
-unfolding count_at
-two t p k = ap (λ (m : ℕ). get_or t (p + k) 0 * 256 + get_or t m 0) (next p k)
+-- eight bytes, the greatest first
+big : (a b c d e f g h : ℕ) → from_be_bytes w64 (a ∷ b ∷ c ∷ d ∷ e ∷ f ∷ g ∷ h ∷ []) ≡ (((a * 256 + b) * 65536 + (c * 256 + d)) * 65536 + (e * 256 + f)) * 65536 + (g * 256 + h)
+big a b c d e f g h = omega arith
 
-pub eight_is : (t : List ℕ) (p a b c d : ℕ) → p + 8 ≤ length t → a ≡ count_at t p → b ≡ count_at t (p + 2) → c ≡ count_at t (p + 4) → d ≡ count_at t (p + 6) →
-    ((a * 65536 + b) * 65536 + c) * 65536 + d ≡ eight_at t p
-unfolding eight_at count_at
-eight_is t p a b c d h e f g i =
-    rw (e, f, g, i, two t p 2, two t p 4, two t p 6)
-    (sym (ap (λ (x : Node ℕ). x.value) (got-node 0 (field 8) t p _ (p + 8) h (ap (field 8) (eight-bytes t p h) ∙ field-eight _ _ _ _ _ _ _ _ (drop (p + 8) t)))))
+pub eight_is : (t xs : List ℕ) (p n : ℕ) → p + 8 ≤ length t → xs ≡ take (p + 8 - p) (drop p t) → n ≡ from_be_bytes w64 xs → n ≡ eight_at t p
+unfolding eight_at
+eight_is t xs p n h e f =
+    let part : xs ≡ get_or t p 0 ∷ get_or t (p + 1) 0 ∷ get_or t (p + 2) 0 ∷ get_or t (p + 3) 0 ∷ get_or t (p + 4) 0 ∷ get_or t (p + 5) 0 ∷ get_or t (p + 6) 0 ∷ get_or t (p + 7) 0 ∷ [] =
+    e ∙ ap (λ (k : ℕ). take k (drop p t)) (let z : p + 8 - p ≡ 8 = omega arith in z) ∙ ap (take 8) (eight-bytes t p h) in
+    f ∙ ap (from_be_bytes w64) part ∙ big _ _ _ _ _ _ _ _
+    ∙ sym (ap (λ (x : Node ℕ). x.value) (got-node 0 (field 8) t p _ (p + 8) h (ap (field 8) (eight-bytes t p h) ∙ field-eight _ _ _ _ _ _ _ _ (drop (p + 8) t))))
+
+-- no number's bits
+pub no-bits : (x : Literal) → (x ≡ None) ⊎ (((b : Bool) × (x ≡ Truth b)) ⊎ ((s : ℕ) × (n : ℕ) × (x ≡ Text s n))) → 0 ≡ bits_of x
+unfolding bits_of
+no-bits x (inl e) = sym (ap bits_of e)
+no-bits x (inr (inl e)) = sym (ap bits_of e.1)
+no-bits x (inr (inr e)) = sym (ap bits_of e.2)
 
 -- ---- a pattern whose bits but the sign's are not above an infinity's is no NaN's
 

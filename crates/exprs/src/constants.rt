@@ -1,46 +1,16 @@
 // Constants in a list of expressions: None, False and True, one byte each.
-ghost use Rattle.std.specs.Prelude.{◌≤◌, length};
-ghost use Rattle.exprs.specs.Constants.{Constants, Passes};
+ghost use Rattle.exprs.specs.Constants.{Skipped};
 
 use numerals::expr;
-use parts::Role;
+use parts::checker::Checker;
+use parts::roles::Role;
 
-// The smaller of two numbers.
-fn smaller(a: usize, b: usize) -> usize
-    ensures { (result ≤ a) × (result ≤ b) }
+// Passes over the constants that come next of n expressions, where they may stand there; how many these are.
+pub(crate) fn skip_constants(c: &mut Checker<'_>, depth: u32, role: Role, n: usize) -> usize
+    ensures { Skipped role depth n result c.old c.new }
 {
-    if a < b {
-        return a;
+    match role {
+        Role::Value if 0 < depth => c.skip_below(expr::INT, n),
+        _ => 0,
     }
-    b
-}
-
-// How many of the first n bytes from `at` on, one after the other, are constants.
-fn leading_constants(tree: &[u8], at: usize, n: usize) -> usize
-    requires { at ≤ length tree.now }
-    ensures { Constants tree.now n at result }
-{
-    let end = smaller(tree.len() - at, n);
-    let mut k = 0usize;
-    while k < end {
-        if expr::TRUE < tree[at + k] {
-            return k;
-        }
-        k += 1;
-    }
-    k
-}
-
-// How many of n expressions from `at` on, one after the other, are constants that may stand there.
-pub(crate) fn skip_constants(tree: &[u8], at: usize, n: usize, depth: u32, role: Role) -> usize
-    requires { at ≤ length tree.now }
-    ensures { Passes role depth tree.now n at result }
-{
-    if depth == 0 {
-        return 0;
-    }
-    if let Role::Value = role {
-        return leading_constants(tree, at, n);
-    }
-    0
 }

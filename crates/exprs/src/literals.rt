@@ -8,6 +8,11 @@ ghost use Rattle.exprs.specs.Literals.{literal_of, Plain, TextPlace, bits_of, Li
 use numerals::expr;
 use parts::numbers::u16_at;
 
+// The bit of a float's sign, and the bits of infinity: a NaN's are above these, but for the sign.
+const SIGN: u64 = 0x8000_0000_0000_0000;
+
+const INFINITY: u64 = 0x7ff0_0000_0000_0000;
+
 // A literal of the tree. The string is its place in the tree's bytes; a NaN is its bits, for no f64 keeps them all.
 #[derive(Clone, Copy)]
 pub enum Literal {
@@ -24,29 +29,23 @@ fn eight_at(tree: &[u8], at: usize) -> u64
     requires { at + 8 ≤ length tree.now }
     ensures { result ≡ eight_at tree.now at }
 {
-    let a = u16_at(tree, at) as u64;
-    let b = u16_at(tree, at + 2) as u64;
-    let c = u16_at(tree, at + 4) as u64;
-    let d = u16_at(tree, at + 6) as u64;
-    ((a * 65536 + b) * 65536 + c) * 65536 + d
+    let mut bytes = [0; 8];
+    bytes.copy_from_slice(&tree[at..at + 8]);
+    u64::from_be_bytes(bytes)
 }
 
 // The integer whose two's complement is `bits`.
 pub fn int_literal(bits: u64) -> Literal
     ensures { (t : List ℕ) → Stands t result (int_l bits) }
 {
-    if bits < 0x8000_0000_0000_0000 {
-        Literal::Int(bits as i64)
-    } else {
-        Literal::Int((bits - 0x8000_0000_0000_0000) as i64 + (-9223372036854775808))
-    }
+    Literal::Int(bits.cast_signed())
 }
 
 // The float of these bits.
 pub fn float_literal(bits: u64) -> Literal
     ensures { (t : List ℕ) → Stands t result (float_l bits) }
 {
-    if 0x7ff0_0000_0000_0000 < bits % 0x8000_0000_0000_0000 {
+    if INFINITY < bits % SIGN {
         Literal::Nan(bits)
     } else {
         Literal::Float(f64::from_bits(bits))
@@ -77,17 +76,9 @@ pub fn literal_bits(literal: Literal) -> u64
     ensures { result ≡ bits_of literal }
 {
     match literal {
-        Literal::None => 0,
-        Literal::Bool(_) => 0,
-        Literal::Int(z) => {
-            if z < 0 {
-                (z - (-9223372036854775808)) as u64 + 0x8000_0000_0000_0000
-            } else {
-                z as u64
-            }
-        }
+        Literal::None | Literal::Bool(_) | Literal::Text { .. } => 0,
+        Literal::Int(z) => z.cast_unsigned(),
         Literal::Float(x) => f64::to_bits(x),
         Literal::Nan(bits) => bits,
-        Literal::Text { start: _, len: _ } => 0,
     }
 }

@@ -18,13 +18,10 @@ use Rattle.exprs.specs.ExprAt.{expr_at, exprs_at, ExprReads, ExprsRead, var_at, 
 use Rattle.parts.proofs.Laws.{le-or-gt, up}
 use Rattle.exprs.proofs.ExprViews.{view-var, view-unary, view-binary, view-call, view-attribute, view-dict, view-index, view-lambda, view-exprs-none, view-exprs-more}
 use Rattle.slots.specs.Slotted.{Collected}
-use Rattle.slots.specs.declared.Locals.{Locals}
-use Rattle.slots.specs.declared.Locals.TheVariants.{Count}
 use Rattle.slots.proofs.Skipping.{plain_done}
 use Rattle.slots.proofs.Kinded.{unary-each, binary-each, seen-literal, seen-display, form-var, form-attribute, form-tuple, form-index, form-other}
 use Rattle.fits.specs.Walk.{Walks, lambda_fits}
-use Rattle.fits.specs.declared.Fit.{Fit}
-use Rattle.fits.specs.declared.Fit.TheVariants.{Next}
+use Rattle.std.specs.Prelude.{Option, Some}
 use Rattle.fits.proofs.Walking.{walks-as, next-walks, Left, Step, lambda-inside}
 
 module _ (d : ℕ) (t : List ℕ) (p : ℕ) (r : ExprReads d t p) (slots : List Name) where
@@ -38,7 +35,7 @@ module _ (d : ℕ) (t : List ℕ) (p : ℕ) (r : ExprReads d t p) (slots : List 
   unfolding fits_target view_of
   target_is v e = ap view_of e
 
-  module _ (o : Fit) where
+  module _ (o : Option ℕ) where
     abbrev Whole : Type 0
     Whole = Walks o (expr_at d t p).end (fits_expr slots (expr_at d t p).value)
 
@@ -103,11 +100,11 @@ module _ (d : ℕ) (t : List ℕ) (p : ℕ) (r : ExprReads d t p) (slots : List 
   unfolding fits_expr var_at
   var-fits e = ap (λ (z : Node Expr). fits_expr slots z.value) (view-var d t p r e).is
 
-  pub fits-simple : (q : ℕ) → get_or t p 0 < 7 → q ≡ (expr_at d t p).end → Walks (Next q) (expr_at d t p).end (fits_expr slots (expr_at d t p).value)
+  pub fits-simple : (q : ℕ) → get_or t p 0 < 7 → q ≡ (expr_at d t p).end → Walks (Some q) (expr_at d t p).end (fits_expr slots (expr_at d t p).value)
   fits-simple q h e = next-walks q _ _ e (⊎_elim (λ (k : 6 ≤ get_or t p 0). var-fits (omega arith)) (λ (k : get_or t p 0 < 6). lit-fits k) (le-or-gt 6 (get_or t p 0)))
 
   -- None, False and True
-  pub fits-plain : get_or t p 0 < 3 → Walks (Next (p + 1)) (expr_at d t p).end (fits_expr slots (expr_at d t p).value)
+  pub fits-plain : get_or t p 0 < 3 → Walks (Some (p + 1)) (expr_at d t p).end (fits_expr slots (expr_at d t p).value)
   fits-plain h = fits-simple (p + 1) (omega arith) (plain_done d t p r h)
 
   -- a target that is a variable, a tuple or another form holds nothing that is lowered
@@ -120,7 +117,7 @@ module _ (d : ℕ) (t : List ℕ) (p : ℕ) (r : ExprReads d t p) (slots : List 
       by false true h i = target_is _ (form-tuple d t p r (eqb-true _ _ i))
       by false false h i = target_is _ (form-other d t p r (eqb-false _ _ h) f (eqb-false _ _ i) g)
 
-  pub target-other : (q : ℕ) → (get_or t p 0 ≡ 10 → ⊥) → (get_or t p 0 ≡ 16 → ⊥) → q ≡ (expr_at d t p).end → Walks (Next q) (expr_at d t p).end (fits_target slots (expr_at d t p).value)
+  pub target-other : (q : ℕ) → (get_or t p 0 ≡ 10 → ⊥) → (get_or t p 0 ≡ 16 → ⊥) → q ≡ (expr_at d t p).end → Walks (Some q) (expr_at d t p).end (fits_target slots (expr_at d t p).value)
   target-other q f g e = next-walks q _ _ e (target-simple f g)
 
 pub simple-kinds : (k : ℕ) → k < 18 → (k ≡ 7 → ⊥) → (k ≡ 8 → ⊥) → (k ≡ 9 → ⊥) → (k ≡ 10 → ⊥) → (k ≡ 11 → ⊥) → (k ≡ 12 → ⊥) → (k ≡ 13 → ⊥) → (k ≡ 14 → ⊥) → (k ≡ 15 → ⊥) →
@@ -142,13 +139,13 @@ module _ (d : ℕ) (t : List ℕ) (p q : ℕ) (e : q ≡ (expr_at d t p).end) wh
   pub name-there : AttributeAt d t p → There t q
   name-there h = subst (λ (m : ℕ). There t m) (sym e) h.name
 
-  pub second-moved : (slots : List Name) (o : Fit) → Walks o (expr_at d t q).end (fits_expr slots (expr_at d t q).value) → Walks o (second_at d t p).end (fits_expr slots (second_at d t p).value)
+  pub second-moved : (slots : List Name) (o : Option ℕ) → Walks o (expr_at d t q).end (fits_expr slots (expr_at d t q).value) → Walks o (second_at d t p).end (fits_expr slots (second_at d t p).value)
   second-moved slots o w = walks-as o _ _ _ _ w (ap (λ (m : ℕ). (expr_at d t m).end) e) (ap (λ (m : ℕ). fits_expr slots (expr_at d t m).value) e)
 
-  pub list-moved : (slots : List Name) (o : Fit) → Walks o (list_at d t q).end (fits_exprs slots (list_at d t q).value) → Walks o (list_at d t (expr_at d t p).end).end (fits_exprs slots (list_at d t (expr_at d t p).end).value)
+  pub list-moved : (slots : List Name) (o : Option ℕ) → Walks o (list_at d t q).end (fits_exprs slots (list_at d t q).value) → Walks o (list_at d t (expr_at d t p).end).end (fits_exprs slots (list_at d t (expr_at d t p).end).value)
   list-moved slots o w = walks-as o _ _ _ _ w (ap (λ (m : ℕ). (list_at d t m).end) e) (ap (λ (m : ℕ). fits_exprs slots (list_at d t m).value) e)
 
-pub fits-list : (slots : List Name) (x y : Node Exprs) (o : Fit) → x ≡ y → Walks o x.end (fits_exprs slots x.value) → Walks o y.end (fits_exprs slots y.value)
+pub fits-list : (slots : List Name) (x y : Node Exprs) (o : Option ℕ) → x ≡ y → Walks o x.end (fits_exprs slots x.value) → Walks o y.end (fits_exprs slots y.value)
 fits-list slots x y o e w = walks-as o _ _ _ _ w (ap (λ (z : Node Exprs). z.end) e) (ap (λ (z : Node Exprs). fits_exprs slots z.value) e)
 
 -- ---- expressions, one at a time
@@ -171,12 +168,12 @@ module _ (d : ℕ) (t : List ℕ) (slots : List Name) (n p : ℕ) (r : ExprsRead
 
 -- ---- a lambda, whose body stands where its parameters end
 
-pub collected-at : (r : Locals) (t ps : List ℕ) (a : ℕ) (parent : List ℕ) (d p q : ℕ) → p ≡ q →
+pub collected-at : (r : Option ℕ) (t ps : List ℕ) (a : ℕ) (parent : List ℕ) (d p q : ℕ) → p ≡ q →
     Collected r t ps ((params_at t a).value ++ captures (slot_names t parent) (params_at t a).value (expr_at d t p).value) →
     Collected r t ps ((params_at t a).value ++ captures (slot_names t parent) (params_at t a).value (expr_at d t q).value)
 collected-at r t ps a parent d p q e c = subst (λ (m : ℕ). Collected r t ps ((params_at t a).value ++ captures (slot_names t parent) (params_at t a).value (expr_at d t m).value)) e c
 
-pub lambda-body : (r : Locals) (t ps : List ℕ) (inner : List Name) (d p q n : ℕ) (o : Fit) → p ≡ q → Collected r t ps inner → r ≡ Count n → slots_from + 255 ≤ length ps →
+pub lambda-body : (r : Option ℕ) (t ps : List ℕ) (inner : List Name) (d p q n : ℕ) (o : Option ℕ) → p ≡ q → Collected r t ps inner → r ≡ Some n → slots_from + 255 ≤ length ps →
     Walks o (expr_at d t p).end (fits_expr (slot_names t (take (slots_from + n - 0) (drop 0 ps))) (expr_at d t p).value) → Walks o (expr_at d t q).end (lambda_fits inner (expr_at d t q).value)
 lambda-body r t ps inner d p q n o e c h g w = lambda-inside r t ps inner c n h g o _ _ _ _ (ap (λ (m : ℕ). (expr_at d t m).end) e) (ap (λ (m : ℕ). (expr_at d t m).value) e) w
 

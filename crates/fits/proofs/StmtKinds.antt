@@ -18,18 +18,16 @@ use Rattle.parts.proofs.Laws.{le-or-gt, up}
 use Rattle.tree.proofs.StmtViews.{view-break, view-continue, view-pass, view-expr, view-return, view-assign, view-if, view-while, view-for, view-def, view-class, view-block, view-stmts-none, view-stmts-more, view-branches-more, else-known, view-done, view-else, view-methods-none, view-methods-more}
 use Rattle.slots.specs.Slotted.{Frames}
 use Rattle.slots.specs.declared.collect.Framed.{Framed}
-use Rattle.slots.specs.declared.collect.Framed.TheVariants.{Slots}
 use Rattle.slots.proofs.Adding.{none-names}
 use Rattle.fits.specs.Walk.{Walks, def_fits}
-use Rattle.fits.specs.declared.Fit.{Fit}
-use Rattle.fits.specs.declared.Fit.TheVariants.{Next, Over}
+use Rattle.std.specs.Prelude.{Option, Some, None, is_some}
 use Rattle.fits.proofs.Walking.{walks-as, walks_next, walks-over, next-walks, over-walks, Left, Step, left-start, def-inside}
 
 module _ (d : ℕ) (t : List ℕ) (p : ℕ) (r : StmtReads d t p) (slots : List Name) where
   abbrev x : Node Stmt
   x = stmt_at d t p
 
-  module _ (o : Fit) where
+  module _ (o : Option ℕ) where
     abbrev Whole : Type 0
     Whole = Walks o (stmt_at d t p).end (fits_stmt slots (stmt_at d t p).value)
 
@@ -70,11 +68,11 @@ module _ (d : ℕ) (t : List ℕ) (p : ℕ) (r : StmtReads d t p) (slots : List 
     unfolding fits_stmt class_at
     fits-class e g = walks-as o _ _ _ _ g refl (sym (ap (λ (z : Node Stmt). fits_stmt slots z.value) (view-class d t p r e).is))
 
-  pass-kind : (k : ℕ) → get_or t p 0 ≡ k → k < 3 → Walks (Next (p + 1)) (stmt_at d t p).end (fits_stmt slots (stmt_at d t p).value)
+  pass-kind : (k : ℕ) → get_or t p 0 ≡ k → k < 3 → Walks (Some (p + 1)) (stmt_at d t p).end (fits_stmt slots (stmt_at d t p).value)
   unfolding fits_stmt
-  pass-kind zero e h = made_of (Next (p + 1)) _ (view-break d t p r e) (next-walks _ _ _ refl refl)
-  pass-kind (suc zero) e h = made_of (Next (p + 1)) _ (view-continue d t p r e) (next-walks _ _ _ refl refl)
-  pass-kind (suc (suc zero)) e h = made_of (Next (p + 1)) _ (view-pass d t p r e) (next-walks _ _ _ refl refl)
+  pass-kind zero e h = made_of (Some (p + 1)) _ (view-break d t p r e) (next-walks _ _ _ refl refl)
+  pass-kind (suc zero) e h = made_of (Some (p + 1)) _ (view-continue d t p r e) (next-walks _ _ _ refl refl)
+  pass-kind (suc (suc zero)) e h = made_of (Some (p + 1)) _ (view-pass d t p r e) (next-walks _ _ _ refl refl)
   pass-kind (suc (suc (suc k))) e h = absurd (omega arith)
 
 pub three-kinds : (k : ℕ) → k < 11 → (k ≡ 3 → ⊥) → (k ≡ 4 → ⊥) → (k ≡ 5 → ⊥) → (k ≡ 6 → ⊥) → (k ≡ 7 → ⊥) → (k ≡ 8 → ⊥) → (k ≡ 9 → ⊥) → (k ≡ 10 → ⊥) → k < 3
@@ -83,7 +81,7 @@ three-kinds k h a b c d e f g i = ⊎_elim
     (λ (z : k < 3). z)
     (le-or-gt 3 k)
 
-pub fits-pass : (d : ℕ) (t : List ℕ) (p : ℕ) (r : StmtReads d t p) (slots : List Name) → get_or t p 0 < 3 → Walks (Next (p + 1)) (stmt_at d t p).end (fits_stmt slots (stmt_at d t p).value)
+pub fits-pass : (d : ℕ) (t : List ℕ) (p : ℕ) (r : StmtReads d t p) (slots : List Name) → get_or t p 0 < 3 → Walks (Some (p + 1)) (stmt_at d t p).end (fits_stmt slots (stmt_at d t p).value)
 fits-pass d t p r slots h = pass-kind d t p r slots (get_or t p 0) refl h
 
 -- ---- one part after another
@@ -92,16 +90,16 @@ module _ (d : ℕ) (t : List ℕ) (p q : ℕ) (e : q ≡ (expr_at d t p).end) wh
   pub block-there : BranchAt d t p → BlockReads d t q
   block-there h = subst (λ (m : ℕ). BlockReads d t m) (sym e) h.block
 
-  pub block-moved : (slots : List Name) (o : Fit) → Walks o (block_at d t q).end (fits_block slots (block_at d t q).value) → Walks o (body_at d t p).end (fits_block slots (body_at d t p).value)
+  pub block-moved : (slots : List Name) (o : Option ℕ) → Walks o (block_at d t q).end (fits_block slots (block_at d t q).value) → Walks o (body_at d t p).end (fits_block slots (body_at d t p).value)
   block-moved slots o w = walks-as o _ _ _ _ w (ap (λ (m : ℕ). (block_at d t m).end) e) (ap (λ (m : ℕ). fits_block slots (block_at d t m).value) e)
 
-pub fits-node : (slots : List Name) (x y : Node Branches) (o : Fit) → x ≡ y → Walks o x.end (fits_branches slots x.value) → Walks o y.end (fits_branches slots y.value)
+pub fits-node : (slots : List Name) (x y : Node Branches) (o : Option ℕ) → x ≡ y → Walks o x.end (fits_branches slots x.value) → Walks o y.end (fits_branches slots y.value)
 fits-node slots x y o e w = walks-as o _ _ _ _ w (ap (λ (z : Node Branches). z.end) e) (ap (λ (z : Node Branches). fits_branches slots z.value) e)
 
 pub branch-there : (d : ℕ) (t : List ℕ) (p q : ℕ) → q ≡ p → BranchAt d t p → BranchAt d t q
 branch-there d t p q e h = subst (λ (m : ℕ). BranchAt d t m) (sym e) h
 
-pub branch-moved : (d : ℕ) (t : List ℕ) (p q : ℕ) → q ≡ p → (slots : List Name) (o : Fit) → Walks o (body_at d t q).end (fits_expr slots (expr_at d t q).value && fits_block slots (body_at d t q).value) →
+pub branch-moved : (d : ℕ) (t : List ℕ) (p q : ℕ) → q ≡ p → (slots : List Name) (o : Option ℕ) → Walks o (body_at d t q).end (fits_expr slots (expr_at d t q).value && fits_block slots (body_at d t q).value) →
     Walks o (body_at d t p).end (fits_expr slots (expr_at d t p).value && fits_block slots (body_at d t p).value)
 branch-moved d t p q e slots o w = walks-as o _ _ _ _ w (ap (λ (m : ℕ). (body_at d t m).end) e) (ap (λ (m : ℕ). fits_expr slots (expr_at d t m).value && fits_block slots (body_at d t m).value) e)
 
@@ -123,13 +121,13 @@ module _ (d : ℕ) (t : List ℕ) (slots : List Name) (n p : ℕ) (r : StmtsRead
   stmts-ok h = ap (λ (z : Node Block). fits_block slots z.value) (view-stmts-none d n t p h r.start)
 
 module _ (d : ℕ) (t : List ℕ) (a n : ℕ) (r : BlockReads d t a) (e : n ≡ count_at t a) where
-  pub stmts-start : (slots : List Name) → StmtsLeft d t slots n (a + 2) n (a + 2)
-  stmts-start slots = left-start _ _ _ n (a + 2) (subst (λ (m : ℕ). StmtsRead d m t (a + 2)) (sym e) (view-block d t a r).parts.statements)
+  pub stmts-start : (slots : List Name) (k : ℕ) → n ≡ k → StmtsLeft d t slots n (a + 2) k (a + 2)
+  stmts-start slots k f = left-start _ _ _ n (a + 2) k f (subst (λ (m : ℕ). StmtsRead d m t (a + 2)) (sym e) (view-block d t a r).parts.statements)
 
   block-is : stmts_at d n t (a + 2) ≡ block_at d t a
   block-is = ap (λ (m : ℕ). stmts_at d m t (a + 2)) e ∙ sym (view-block d t a r).is
 
-  pub fits-block : (slots : List Name) (o : Fit) → Walks o (stmts_at d n t (a + 2)).end (fits_block slots (stmts_at d n t (a + 2)).value) → Walks o (block_at d t a).end (fits_block slots (block_at d t a).value)
+  pub fits-block : (slots : List Name) (o : Option ℕ) → Walks o (stmts_at d n t (a + 2)).end (fits_block slots (stmts_at d n t (a + 2)).value) → Walks o (block_at d t a).end (fits_block slots (block_at d t a).value)
   fits-block slots o w = walks-as o _ _ _ _ w (ap (λ (z : Node Block). z.end) block-is) (ap (λ (z : Node Block). fits_block slots z.value) block-is)
 
 -- ---- branches, one at a time
@@ -146,11 +144,11 @@ module _ (d : ℕ) (t : List ℕ) (slots : List Name) (n p : ℕ) (r : BranchesR
   pub branches-last : n ≤ 0 → BranchesRead d 0 t p
   branches-last h = subst (λ (m : ℕ). BranchesRead d m t p) (let e : n ≡ 0 = omega arith in e) r
 
-  pub branches-none : (o : Fit) → n ≤ 0 → Walks o (branches_at d 0 t p).end (fits_branches slots (branches_at d 0 t p).value) → Walks o (branches_at d n t p).end (fits_branches slots (branches_at d n t p).value)
+  pub branches-none : (o : Option ℕ) → n ≤ 0 → Walks o (branches_at d 0 t p).end (fits_branches slots (branches_at d 0 t p).value) → Walks o (branches_at d n t p).end (fits_branches slots (branches_at d n t p).value)
   branches-none o h w = let e : 0 ≡ n = omega arith in walks-as o _ _ _ _ w (ap (λ (m : ℕ). (branches_at d m t p).end) e) (ap (λ (m : ℕ). fits_branches slots (branches_at d m t p).value) e)
 
 module _ (d : ℕ) (t : List ℕ) (p : ℕ) (r : BranchesRead d 0 t p) (slots : List Name) where
-  pub else-none : get_or t p 0 ≡ 0 → Walks (Next (p + 1)) (branches_at d 0 t p).end (fits_branches slots (branches_at d 0 t p).value)
+  pub else-none : get_or t p 0 ≡ 0 → Walks (Some (p + 1)) (branches_at d 0 t p).end (fits_branches slots (branches_at d 0 t p).value)
   unfolding fits_branches
   else-none e = let v = view-done d t p 0 (omega arith) r e in next-walks _ _ _ (sym (ap (λ (z : Node Branches). z.end) v)) (ap (λ (z : Node Branches). fits_branches slots z.value) v)
 
@@ -158,7 +156,7 @@ module _ (d : ℕ) (t : List ℕ) (p : ℕ) (r : BranchesRead d 0 t p) (slots : 
     is_one : get_or t p 0 ≡ 1
     is_one = let k = else-known d t p 0 (omega arith) r in omega arith
 
-    pub else-some : (o : Fit) → Walks o (block_at d t (p + 1)).end (fits_block slots (block_at d t (p + 1)).value) → Walks o (branches_at d 0 t p).end (fits_branches slots (branches_at d 0 t p).value)
+    pub else-some : (o : Option ℕ) → Walks o (block_at d t (p + 1)).end (fits_block slots (block_at d t (p + 1)).value) → Walks o (branches_at d 0 t p).end (fits_branches slots (branches_at d 0 t p).value)
     unfolding else_at fits_branches
     else-some o w = let v = (view-else d t p 0 (omega arith) r is_one).is in walks-as o _ _ _ _ w (sym (ap (λ (z : Node Branches). z.end) v)) (sym (ap (λ (z : Node Branches). fits_branches slots z.value) v))
 
@@ -192,11 +190,11 @@ module _ (d : ℕ) (t : List ℕ) (p a q : ℕ) (e : a ≡ name_end t p) (f : q 
   pub def-block : BlockReads d t q
   def-block = subst (λ (m : ℕ). BlockReads d t m) (sym block-at) h.block
 
-  pub def-framed : {r : Framed} {ps : List ℕ} → Frames r t ps (with_loops (params_at t a).value (block_at d t q).value) → Frames r t ps (with_loops (params_at t (name_end t p)).value (def_block_at d t p).value)
+  pub def-framed : {r : Option Framed} {ps : List ℕ} → Frames r t ps (with_loops (params_at t a).value (block_at d t q).value) → Frames r t ps (with_loops (params_at t (name_end t p)).value (def_block_at d t p).value)
   def-framed {r} {ps} c = subst (Frames r t ps) (ap₂ (λ (m k : ℕ). with_loops (params_at t k).value (block_at d t m).value) block-at e) c
 
-  pub def_body : {r : Framed} {ps : List ℕ} {n m : ℕ} (o : Fit) → Frames r t ps (with_loops (params_at t a).value (block_at d t q).value) → r ≡ Slots n m → slots_from + 255 ≤ length ps →
-      Walks o (block_at d t q).end (fits_block (slot_names t (take (slots_from + n - 0) (drop 0 ps))) (block_at d t q).value) → Walks o (def_block_at d t p).end (method_fits d t p)
+  pub def_body : {r : Option Framed} {ps : List ℕ} {g₀ : Framed} (o : Option ℕ) → Frames r t ps (with_loops (params_at t a).value (block_at d t q).value) → r ≡ Some g₀ → slots_from + 255 ≤ length ps →
+      Walks o (block_at d t q).end (fits_block (slot_names t (take (slots_from + g₀.named - 0) (drop 0 ps))) (block_at d t q).value) → Walks o (def_block_at d t p).end (method_fits d t p)
   def_body o c k g w = def-inside (def-framed c) k g o (ap (λ (m : ℕ). (block_at d t m).end) block-at) (ap (λ (m : ℕ). (block_at d t m).value) block-at) w
 
 -- ---- classes
@@ -215,20 +213,27 @@ module _ (d : ℕ) (t : List ℕ) (p a n : ℕ) (h : ClassAt d t p) (e : a ≡ n
     methods-are : methods_at d n t (a + 2) ≡ class_methods_at d t p
     methods-are = ap₂ (λ (m k : ℕ). methods_at d m t (k + 2)) same_count e
 
-    pub class-over : (r : Fit) (end : ℕ) → Walks r (methods_at d n t (a + 2)).end (fits_methods (methods_at d n t (a + 2)).value) → r ≡ Over → Walks Over end (fits_methods (class_methods_at d t p).value)
+    pub class-over : (r : Option ℕ) (end : ℕ) → Walks r (methods_at d n t (a + 2)).end (fits_methods (methods_at d n t (a + 2)).value) → r ≡ None → Walks None end (fits_methods (class_methods_at d t p).value)
     class-over r end w g = over-walks end _ (sym (ap (λ (z : Node Methods). fits_methods z.value) methods-are) ∙ walks-over r _ _ w g)
 
-    pub class-done : (r : Fit) (m q end : ℕ) → Walks r (methods_at d n t (a + 2)).end (fits_methods (methods_at d n t (a + 2)).value) → r ≡ Next m → q ≡ end → Walks (Next q) end (fits_methods (class_methods_at d t p).value)
+    pub class-done : (r : Option ℕ) (m q end : ℕ) → Walks r (methods_at d n t (a + 2)).end (fits_methods (methods_at d n t (a + 2)).value) → r ≡ Some m → q ≡ end → Walks (Some q) end (fits_methods (class_methods_at d t p).value)
     class-done r m q end w g i = next-walks q end _ i (sym (ap (λ (z : Node Methods). fits_methods z.value) methods-are) ∙ (walks_next r _ _ m w g).1)
 
 -- ---- a whole tree: main has no slots
 
-module _ (r : Fit) (t ps : List ℕ) (e : ℕ) (b : Block) (f : length ps ≡ slots_from) (w : Walks r e (fits_block (slot_names t ps) b)) where
+module _ (r : Option ℕ) (t ps : List ℕ) (e : ℕ) (b : Block) (f : length ps ≡ slots_from) (w : Walks r e (fits_block (slot_names t ps) b)) where
   no-slots : fits_block (slot_names t ps) b ≡ fits_block [] b
   no-slots = ap (λ (xs : List Name). fits_block xs b) (none-names t ps f)
 
-  pub tree-fits : (p : ℕ) → r ≡ Next p → true ≡ fits_block [] b
+  pub tree-fits : (p : ℕ) → r ≡ Some p → true ≡ fits_block [] b
   tree-fits p h = sym (sym no-slots ∙ (walks_next r e _ p w h).1)
 
-  pub tree_over : r ≡ Over → false ≡ fits_block [] b
+  pub tree_over : r ≡ None → false ≡ fits_block [] b
   tree_over h = sym (sym no-slots ∙ walks-over r e _ w h)
+
+  pub tree-told : (b' : Bool) → b' ≡ is_some r → b' ≡ fits_block [] b
+  tree-told b' h = h ∙ go r refl
+    where
+      go : (o : Option ℕ) → r ≡ o → is_some o ≡ fits_block [] b
+      go (Some p) e = tree-fits p e
+      go None e = tree_over e

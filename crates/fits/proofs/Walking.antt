@@ -13,42 +13,42 @@ use Rattle.state.specs.State.{slots_from, slot_names, Slots}
 use Rattle.state.specs.Fits.{fits_expr, fits_block}
 use Rattle.slots.specs.Slotted.{Collected, first_names, Indexed, Frames}
 use Rattle.definitions.specs.Slots.{Frame}
-use Rattle.slots.specs.declared.Locals.{Locals}
-use Rattle.slots.specs.declared.Locals.TheVariants.{Count, TooMany}
 use Rattle.slots.specs.declared.collect.Framed.{Framed}
-use Rattle.slots.specs.declared.collect.Framed.TheVariants as Framed
 use Rattle.slots.proofs.Adding.{first-length, part-before, front-names, front-slots}
 use Rattle.slots.proofs.Params.{collected-count, collected-over}
 use Rattle.fits.specs.Walk.{Short, Walks, lambda_fits, def_fits}
-use Rattle.fits.specs.declared.Fit.{Fit}
-use Rattle.fits.specs.declared.Fit.TheVariants.{Next, Over}
+use Rattle.std.specs.Prelude.{Option, Some, None}
 
 -- ---- the two answers
 
-pub walks-as : (r : Fit) (e e' : ℕ) (b b' : Bool) → Walks r e b → e ≡ e' → b ≡ b' → Walks r e' b'
+pub walks-as : (r : Option ℕ) (e e' : ℕ) (b b' : Bool) → Walks r e b → e ≡ e' → b ≡ b' → Walks r e' b'
 walks-as r e e' b b' w h k = subst (λ (x : ℕ). Walks r x b') h (subst (λ (x : Bool). Walks r e x) k w)
 
-pub walks_next : (r : Fit) (e : ℕ) (b : Bool) (p : ℕ) → Walks r e b → r ≡ Next p → (p ≡ e) × (b ≡ true)
+pub walks_next : (r : Option ℕ) (e : ℕ) (b : Bool) (p : ℕ) → Walks r e b → r ≡ Some p → (p ≡ e) × (b ≡ true)
 unfolding Walks
-walks_next r e b p w h = subst (λ (s : Fit). Walks s e b) h w
+walks_next r e b p w h = subst (λ (s : Option ℕ). Walks s e b) h w
 
-pub walks-over : (r : Fit) (e : ℕ) (b : Bool) → Walks r e b → r ≡ Over → b ≡ false
+pub walks-over : (r : Option ℕ) (e : ℕ) (b : Bool) → Walks r e b → r ≡ None → b ≡ false
 unfolding Walks
-walks-over r e b w h = subst (λ (s : Fit). Walks s e b) h w
+walks-over r e b w h = subst (λ (s : Option ℕ). Walks s e b) h w
 
-pub next-walks : (p e : ℕ) (b : Bool) → p ≡ e → b ≡ true → Walks (Next p) e b
+pub next-walks : (p e : ℕ) (b : Bool) → p ≡ e → b ≡ true → Walks (Some p) e b
 unfolding Walks
 next-walks p e b h k = (h, k)
 
-pub over-walks : (e : ℕ) (b : Bool) → b ≡ false → Walks Over e b
+pub over-walks : (e : ℕ) (b : Bool) → b ≡ false → Walks None e b
 unfolding Walks
 over-walks e b h = h
 
+-- what a call that stops hands on
+pub stopped : (r : Option ℕ) (e : ℕ) (b : Bool) → r ≡ None → Walks None e b → Walks r e b
+stopped r e b h w = subst (λ (x : Option ℕ). Walks x e b) (sym h) w
+
 -- a question of two parts
-pub first-over : (r : Fit) (e e' : ℕ) (b c : Bool) → Walks r e b → r ≡ Over → Walks Over e' (b && c)
+pub first-over : (r : Option ℕ) (e e' : ℕ) (b c : Bool) → Walks r e b → r ≡ None → Walks None e' (b && c)
 first-over r e e' b c w h = over-walks e' (b && c) (ap (λ (x : Bool). x && c) (walks-over r e b w h))
 
-pub second_walks : (r o : Fit) (e p e' : ℕ) (b c : Bool) → Walks r e b → r ≡ Next p → Walks o e' c → Walks o e' (b && c)
+pub second_walks : (r o : Option ℕ) (e p e' : ℕ) (b c : Bool) → Walks r e b → r ≡ Some p → Walks o e' c → Walks o e' (b && c)
 second_walks r o e p e' b c w h g = walks-as o e' e' c (b && c) g refl (sym (ap (λ (x : Bool). x && c) (walks_next r e b p w h).1))
 
 -- ---- lists: what is left of n₀ elements answers as all do
@@ -65,26 +65,26 @@ pub record Step (R : ℕ → ℕ → Type 0) (E : ℕ → ℕ → ℕ) (B : ℕ 
   pub ok : B n p ≡ (b && B (n - 1) m)
 
 module _ (R : ℕ → ℕ → Type 0) (E : ℕ → ℕ → ℕ) (B : ℕ → ℕ → Bool) (n₀ p₀ n p : ℕ) (l : Left R E B n₀ p₀ n p) where
-  pub left-next : (m : ℕ) (b : Bool) (r : Fit) (e : ℕ) → Step R E B n p m b → Walks r m b → r ≡ Next e → Left R E B n₀ p₀ (n - 1) e
-  left-next m b r e s w h =
+  pub left-next : (m : ℕ) (b : Bool) (r : Option ℕ) (e k : ℕ) → Step R E B n p m b → Walks r m b → r ≡ Some e → n - 1 ≡ k → Left R E B n₀ p₀ k e
+  left-next m b r e k s w h f =
       let z = walks_next r m b e w h in
-      record {
+      subst (λ (j : ℕ). Left R E B n₀ p₀ j e) f (record {
         reads = subst (R (n - 1)) (sym z.0) s.rest;
         end = l.end ∙ s.end ∙ ap (E (n - 1)) (sym z.0);
         ok = l.ok ∙ s.ok ∙ ap (λ (x : Bool). x && B (n - 1) m) z.1 ∙ ap (B (n - 1)) (sym z.0);
-      }
+      })
 
-  pub left_over : (m : ℕ) (b : Bool) (r : Fit) → Step R E B n p m b → Walks r m b → r ≡ Over → Walks Over (E n₀ p₀) (B n₀ p₀)
+  pub left_over : (m : ℕ) (b : Bool) (r : Option ℕ) → Step R E B n p m b → Walks r m b → r ≡ None → Walks None (E n₀ p₀) (B n₀ p₀)
   left_over m b r s w h = over-walks (E n₀ p₀) (B n₀ p₀) (l.ok ∙ s.ok ∙ ap (λ (x : Bool). x && B (n - 1) m) (walks-over r m b w h))
 
-  pub left-done : E n p ≡ p → B n p ≡ true → Walks (Next p) (E n₀ p₀) (B n₀ p₀)
+  pub left-done : E n p ≡ p → B n p ≡ true → Walks (Some p) (E n₀ p₀) (B n₀ p₀)
   left-done h k = next-walks p (E n₀ p₀) (B n₀ p₀) (sym (l.end ∙ h)) (l.ok ∙ k)
 
-  pub left_as : (r : Fit) → Walks r (E n p) (B n p) → Walks r (E n₀ p₀) (B n₀ p₀)
+  pub left_as : (r : Option ℕ) → Walks r (E n p) (B n p) → Walks r (E n₀ p₀) (B n₀ p₀)
   left_as r w = walks-as r _ _ _ _ w (sym l.end) (sym l.ok)
 
-pub left-start : (R : ℕ → ℕ → Type 0) (E : ℕ → ℕ → ℕ) (B : ℕ → ℕ → Bool) (n p : ℕ) → R n p → Left R E B n p n p
-left-start R E B n p r = record { reads = r; end = refl; ok = refl }
+pub left-start : (R : ℕ → ℕ → Type 0) (E : ℕ → ℕ → ℕ) (B : ℕ → ℕ → Bool) (n p k : ℕ) → n ≡ k → R n p → Left R E B n p k p
+left-start R E B n p k e r = subst (λ (j : ℕ). Left R E B n p j p) e (record { reads = r; end = refl; ok = refl })
 
 -- ---- the slots of a function inside
 
@@ -100,12 +100,12 @@ module _ (t ps : List ℕ) (inner : List Name) (n : ℕ) (few : n ≤ 255) (name
   inner-slots k = record { tree = k; slotted = subst (Slots t) (sym (part-before (slots_from + n) ps)) (front-slots t ps n inner_room few indexed) }
 
 -- of a lambda
-module _ (r : Locals) (t ps : List ℕ) (inner : List Name) (c : Collected r t ps inner) where
-  pub lambda-over : (e : ℕ) (b : Expr) → r ≡ TooMany → Walks Over e (lambda_fits inner b)
+module _ (r : Option ℕ) (t ps : List ℕ) (inner : List Name) (c : Collected r t ps inner) where
+  pub lambda-over : (e : ℕ) (b : Expr) → r ≡ None → Walks None e (lambda_fits inner b)
   unfolding lambda_fits
   lambda-over e b h = over-walks e _ (ap (λ (x : Bool). x && fits_expr inner b) (lt-leb (length inner) 255 (collected-over r t ps inner c h)))
 
-  module _ (n : ℕ) (h : r ≡ Count n) where
+  module _ (n : ℕ) (h : r ≡ Some n) where
     pub slots-few : n ≤ 255
     slots-few = (collected-count r t ps inner n c h).0
 
@@ -118,28 +118,28 @@ module _ (r : Locals) (t ps : List ℕ) (inner : List Name) (c : Collected r t p
       pub inner-short : length t ≤ 32768 → Short t (take (slots_from + n - 0) (drop 0 ps))
       inner-short k = inner-slots t ps inner n slots-few (collected-count r t ps inner n c h).1 (collected-count r t ps inner n c h).2 g k
 
-      pub lambda-inside : (o : Fit) (e e' : ℕ) (b b' : Expr) → e ≡ e' → b ≡ b' → Walks o e (fits_expr (slot_names t (take (slots_from + n - 0) (drop 0 ps))) b) → Walks o e' (lambda_fits inner b')
+      pub lambda-inside : (o : Option ℕ) (e e' : ℕ) (b b' : Expr) → e ≡ e' → b ≡ b' → Walks o e (fits_expr (slot_names t (take (slots_from + n - 0) (drop 0 ps))) b) → Walks o e' (lambda_fits inner b')
       unfolding lambda_fits
       lambda-inside o e e' b b' i j w =
           walks-as o e e' _ _ w i (ap₂ fits_expr (inner-names t ps inner n slots-few (collected-count r t ps inner n c h).1 (collected-count r t ps inner n c h).2 g) j ∙ sym (ap (λ (x : Bool). x && fits_expr inner b') few-names))
 
 -- of a def or method
-module _ {r : Framed} {t ps : List ℕ} {inner : Frame} (c : Frames r t ps inner) where
-  pub def-over : (e : ℕ) (b : Block) → r ≡ Framed.TooMany → Walks Over e (def_fits inner b)
+module _ {r : Option Framed} {t ps : List ℕ} {inner : Frame} (c : Frames r t ps inner) where
+  pub def-over : (e : ℕ) (b : Block) → r ≡ None → Walks None e (def_fits inner b)
   unfolding def_fits
   def-over e b h = over-walks e _ (ap (λ (x : Bool). x && fits_block inner.names b) (lt-leb inner.locals 255 (c.over h)))
 
-  module _ {n m : ℕ} (h : r ≡ Framed.Slots n m) where
-    pub def-few : n ≤ 255
-    def-few = let F = c.framing _ _ h in omega (arith, F.named, F.few)
+  module _ {g₀ : Framed} (h : r ≡ Some g₀) where
+    pub def-few : g₀.named ≤ 255
+    def-few = let F = c.framing _ h in omega (arith, F.named, F.few)
 
     module _ (g : slots_from + 255 ≤ length ps) where
-      pub def-short : length t ≤ 32768 → Short t (take (slots_from + n - 0) (drop 0 ps))
-      def-short k = let F = c.framing _ _ h in inner-slots t ps inner.names n def-few F.names F.indexed g k
+      pub def-short : length t ≤ 32768 → Short t (take (slots_from + g₀.named - 0) (drop 0 ps))
+      def-short k = let F = c.framing _ h in inner-slots t ps inner.names g₀.named def-few F.names F.indexed g k
 
-      pub def-inside : {e e' : ℕ} {b b' : Block} (o : Fit) → e ≡ e' → b ≡ b' → Walks o e (fits_block (slot_names t (take (slots_from + n - 0) (drop 0 ps))) b) → Walks o e' (def_fits inner b')
+      pub def-inside : {e e' : ℕ} {b b' : Block} (o : Option ℕ) → e ≡ e' → b ≡ b' → Walks o e (fits_block (slot_names t (take (slots_from + g₀.named - 0) (drop 0 ps))) b) → Walks o e' (def_fits inner b')
       unfolding def_fits
       def-inside {e} {e'} {b} {b'} o i j w =
-          let F = c.framing _ _ h in
-          walks-as o e e' _ _ w i (ap₂ fits_block (inner-names t ps inner.names n def-few F.names F.indexed g) j
+          let F = c.framing _ h in
+          walks-as o e e' _ _ w i (ap₂ fits_block (inner-names t ps inner.names g₀.named def-few F.names F.indexed g) j
           ∙ sym (ap (λ (x : Bool). x && fits_block inner.names b') (le-leb inner.locals 255 (omega (arith, F.locals, F.few)))))

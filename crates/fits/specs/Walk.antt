@@ -1,12 +1,10 @@
 -- Question 14 by a walk over the tree's bytes: what it asks and what it answers.
-use Rattle.std.specs.Prelude.{ℕ, ◌≤◌, ◌≡◌, Bool, true, false, ◌&&◌, List, length, leb}
+use Rattle.std.specs.Prelude.{ℕ, ◌≤◌, ◌≡◌, Bool, true, false, ◌&&◌, List, length, leb, Option, Some, None}
 use Rattle.definitions.specs.Bytes.{Name}
 use Rattle.definitions.specs.Tree.{Expr, Block}
 use Rattle.definitions.specs.Slots.{Frame}
 use Rattle.state.specs.State.{Slots}
 use Rattle.state.specs.Fits.{fits_expr, fits_block}
-use Rattle.fits.specs.declared.Fit.{Fit}
-use Rattle.fits.specs.declared.Fit.TheVariants.{Next, Over}
 
 -- a short tree, and slots
 pub record Short (t slots : List ℕ) : Type 0 where
@@ -14,9 +12,9 @@ pub record Short (t slots : List ℕ) : Type 0 where
   pub slotted : Slots t slots
 
 -- the next position where the question is answered yes; else that it is not
-unfoldable pub Walks : Fit → ℕ → Bool → Type 0
-Walks (Next e) end ok = (e ≡ end) × (ok ≡ true)
-Walks Over end ok = ok ≡ false
+unfoldable pub Walks : Option ℕ → ℕ → Bool → Type 0
+Walks (Some e) end ok = (e ≡ end) × (ok ≡ true)
+Walks None end ok = ok ≡ false
 
 -- a lambda and its body, a def and its block, by the slots of the function
 unfoldable pub lambda_fits : List Name → Expr → Bool

@@ -7,19 +7,17 @@ ghost use Rattle.parts.specs.Places.{name_end, params_at};
 ghost use Rattle.exprs.specs.ExprAt.{expr_at, exprs_at, ExprReads, ExprsRead, TwoAt, second_at, CallAt, ListAt, list_at, DictAt, pairs_at, AttributeAt, LambdaAt};
 ghost use Rattle.fits.specs.Walk.{Short, Walks, lambda_fits};
 
-use crate::Fit;
 use numerals::expr;
 use numerals::places::SLOTS_FROM;
 use numerals::sizes::SLOTS_ROOM;
 use parts::names::name_end;
 use parts::numbers::u16_at;
-use slots::Locals;
 use slots::captures::lambda_slots;
 use slots::skip::{skip_expr, skip_params};
 
 // An expression of a function with these slots.
 #[cycle(fits)]
-pub(crate) fn fits_expr(tree: &[u8], at: usize, depth: u32, slots: &[u32]) -> Fit
+pub(crate) fn fits_expr(tree: &[u8], at: usize, depth: u32, slots: &[u32]) -> Option<usize>
     requires { Short tree.now slots.now × ExprReads depth tree.now at }
     ensures { Walks result (expr_at depth tree.now at).end (fits_expr (slot_names tree.now slots.now) (expr_at depth tree.now at).value) }
 {
@@ -37,54 +35,45 @@ pub(crate) fn fits_expr(tree: &[u8], at: usize, depth: u32, slots: &[u32]) -> Fi
         expr::TREE_SET => fits_list(tree, a, depth - 1, slots),
         expr::INDEX => fits_two(tree, a, depth - 1, slots),
         expr::LAMBDA => fits_lambda(tree, a, depth - 1, slots),
-        _ => Fit::Next(skip_expr(tree, at, depth)),
+        _ => Some(skip_expr(tree, at, depth)),
     }
 }
 
 // Two expressions.
 #[cycle(fits)]
-fn fits_two(tree: &[u8], at: usize, depth: u32, slots: &[u32]) -> Fit
+fn fits_two(tree: &[u8], at: usize, depth: u32, slots: &[u32]) -> Option<usize>
     requires { Short tree.now slots.now × TwoAt depth tree.now at }
     ensures { Walks result (second_at depth tree.now at).end
         (fits_expr (slot_names tree.now slots.now) (expr_at depth tree.now at).value && fits_expr (slot_names tree.now slots.now) (second_at depth tree.now at).value) }
 {
-    let left = fits_expr(tree, at, depth, slots);
-    let Fit::Next(p) = left else {
-        return Fit::Over;
-    };
+    let p = fits_expr(tree, at, depth, slots)?;
     fits_expr(tree, p, depth, slots)
 }
 
 // A callee and its arguments.
 #[cycle(fits)]
-fn fits_call(tree: &[u8], at: usize, depth: u32, slots: &[u32]) -> Fit
+fn fits_call(tree: &[u8], at: usize, depth: u32, slots: &[u32]) -> Option<usize>
     requires { Short tree.now slots.now × CallAt depth tree.now at }
     ensures { Walks result (list_at depth tree.now (expr_at depth tree.now at).end).end
         (fits_expr (slot_names tree.now slots.now) (expr_at depth tree.now at).value && fits_exprs (slot_names tree.now slots.now) (list_at depth tree.now (expr_at depth tree.now at).end).value) }
 {
-    let callee = fits_expr(tree, at, depth, slots);
-    let Fit::Next(p) = callee else {
-        return Fit::Over;
-    };
+    let p = fits_expr(tree, at, depth, slots)?;
     fits_list(tree, p, depth, slots)
 }
 
 // An object and an attribute's name.
 #[cycle(fits)]
-fn fits_attribute(tree: &[u8], at: usize, depth: u32, slots: &[u32]) -> Fit
+fn fits_attribute(tree: &[u8], at: usize, depth: u32, slots: &[u32]) -> Option<usize>
     requires { Short tree.now slots.now × AttributeAt depth tree.now at }
     ensures { Walks result (name_end tree.now (expr_at depth tree.now at).end) (fits_expr (slot_names tree.now slots.now) (expr_at depth tree.now at).value) }
 {
-    let object = fits_expr(tree, at, depth, slots);
-    let Fit::Next(p) = object else {
-        return Fit::Over;
-    };
-    Fit::Next(name_end(tree, p))
+    let p = fits_expr(tree, at, depth, slots)?;
+    Some(name_end(tree, p))
 }
 
 // A count of expressions.
 #[cycle(fits)]
-fn fits_list(tree: &[u8], at: usize, depth: u32, slots: &[u32]) -> Fit
+fn fits_list(tree: &[u8], at: usize, depth: u32, slots: &[u32]) -> Option<usize>
     requires { Short tree.now slots.now × ListAt depth tree.now at }
     ensures { Walks result (list_at depth tree.now at).end (fits_exprs (slot_names tree.now slots.now) (list_at depth tree.now at).value) }
 {
@@ -94,7 +83,7 @@ fn fits_list(tree: &[u8], at: usize, depth: u32, slots: &[u32]) -> Fit
 
 // A count of keys and values.
 #[cycle(fits)]
-fn fits_dict(tree: &[u8], at: usize, depth: u32, slots: &[u32]) -> Fit
+fn fits_dict(tree: &[u8], at: usize, depth: u32, slots: &[u32]) -> Option<usize>
     requires { Short tree.now slots.now × DictAt depth tree.now at }
     ensures { Walks result (pairs_at depth tree.now at).end (fits_exprs (slot_names tree.now slots.now) (pairs_at depth tree.now at).value) }
 {
@@ -104,53 +93,43 @@ fn fits_dict(tree: &[u8], at: usize, depth: u32, slots: &[u32]) -> Fit
 
 // So many expressions; None, False and True are one byte each.
 #[cycle(fits)]
-fn fits_many(tree: &[u8], at: usize, depth: u32, count: u32, slots: &[u32]) -> Fit
+fn fits_many(tree: &[u8], at: usize, depth: u32, count: u32, slots: &[u32]) -> Option<usize>
     requires { Short tree.now slots.now × ExprsRead depth count tree.now at }
     ensures { Walks result (exprs_at depth count tree.now at).end (fits_exprs (slot_names tree.now slots.now) (exprs_at depth count tree.now at).value) }
 {
     let mut p = at;
-    let mut left = count;
-    while 0 < left {
-        left -= 1;
+    for _ in 0..count {
         if tree[p] < expr::INT {
             p += 1;
-        } else {
-            let one = fits_expr(tree, p, depth, slots);
-            let Fit::Next(next) = one else {
-                return Fit::Over;
-            };
-            p = next;
+            continue;
         }
+        p = fits_expr(tree, p, depth, slots)?;
     }
-    Fit::Next(p)
+    Some(p)
 }
 
 // A lambda: its own slots, and its body with these.
 #[cycle(fits)]
-fn fits_lambda(tree: &[u8], at: usize, depth: u32, slots: &[u32]) -> Fit
+fn fits_lambda(tree: &[u8], at: usize, depth: u32, slots: &[u32]) -> Option<usize>
     requires { Short tree.now slots.now × LambdaAt depth tree.now at }
     ensures { Walks result (expr_at depth tree.now (params_at tree.now at).end).end
         (lambda_fits ((params_at tree.now at).value ++ captures (slot_names tree.now slots.now) (params_at tree.now at).value (expr_at depth tree.now (params_at tree.now at).end).value) (expr_at depth tree.now (params_at tree.now at).end).value) }
 {
     let mut inner = [0u32; SLOTS_ROOM];
     let p = skip_params(tree, at);
-    let found = lambda_slots(tree, at, p, depth, slots, &mut inner);
-    let Locals::Count(n) = found else {
-        return Fit::Over;
-    };
+    let n = lambda_slots(tree, at, p, depth, slots, &mut inner)?;
     let end = SLOTS_FROM + n as usize;
     fits_expr(tree, p, depth, &inner[0..end])
 }
 
 // An assignment's target: the expressions of an attribute or an index; a tuple's names are none.
-pub(crate) fn fits_target(tree: &[u8], at: usize, depth: u32, slots: &[u32]) -> Fit
+pub(crate) fn fits_target(tree: &[u8], at: usize, depth: u32, slots: &[u32]) -> Option<usize>
     requires { Short tree.now slots.now × ExprReads depth tree.now at }
     ensures { Walks result (expr_at depth tree.now at).end (fits_target (slot_names tree.now slots.now) (expr_at depth tree.now at).value) }
 {
     let kind = tree[at];
     match kind {
-        expr::ATTRIBUTE => fits_expr(tree, at, depth, slots),
-        expr::INDEX => fits_expr(tree, at, depth, slots),
-        _ => Fit::Next(skip_expr(tree, at, depth)),
+        expr::ATTRIBUTE | expr::INDEX => fits_expr(tree, at, depth, slots),
+        _ => Some(skip_expr(tree, at, depth)),
     }
 }

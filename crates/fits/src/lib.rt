@@ -3,10 +3,3 @@
 
 pub mod expressions; // expressions.rt: expressions
 pub mod statements; // statements.rt: statements and trees
-
-// The next position in the tree; or that a function has more than 255 slots.
-#[derive(Clone, Copy)]
-pub enum Fit {
-    Next(usize),
-    Over,
-}

@@ -13,8 +13,9 @@ use Rattle.definitions.specs.Module.{Limits, lower_bytes}
 use Rattle.definitions.specs.Calls.{written, output_after, count_answer, areas_fit, fits_room, lower_answer, Lowering, lower_call}
 use Rattle.definitions.proofs.Lowered.{when-accepted}
 use Rattle.lowering.specs.Lowered.{said, Lowers}
-use Rattle.lowering.specs.declared.Lowered.{Lowered}
-use Rattle.lowering.specs.declared.Lowered.TheVariants.{Wrote, Refused}
+use Rattle.std.specs.Prelude.{Result, Ok, Err}
+use Rattle.questions.specs.declared.Question.{Question}
+use Rattle.questions.specs.Numbers.{number}
 use Rattle.follows.specs.Thereafter.{Thereafter, thereafter, left_after}
 
 -- ---- the module that was written
@@ -46,7 +47,7 @@ answer-gives l a b room tree m = go (areas_fit a b)
         (W.1 ∙ ap accepted F.0, subst (λ (x : List ℕ). length x ≤ room) F.0 F.1)
 
 -- an answer that is a count
-counted : (r : Lowered) (n : ℕ) (a : Answer (List ℕ)) (output output' : List ℕ) → said r ≡ count_answer a → output' ≡ output_after a output → r ≡ Wrote n →
+counted : (r : Result ℕ Question) (n : ℕ) (a : Answer (List ℕ)) (output output' : List ℕ) → said r ≡ count_answer a → output' ≡ output_after a output → r ≡ Ok n →
     (m : List ℕ) × (a ≡ accepted m) × (n ≡ length m) × (output' ≡ written m output)
 unfolding said count_answer output_after when_accepted
 counted r n (refused q) output output' t o e = let x : accepted n ≡ refused q = sym (ap said e) ∙ t in let z : ◌≡◌ {A = ℕ} 0 1 = cc in absurd (omega arith)
@@ -56,7 +57,7 @@ pub front-is : (n : ℕ) (m output output' : List ℕ) → n ≡ length m → ou
 unfolding written
 front-is n m output output' c o = ap₂ take c o ∙ take-append_seam m (drop (length m) output)
 
-module _ (r : Lowered) (l : Limits) (tree area₁ area₂ output area₁' area₂' output' : List ℕ) (L : Lowers r area₁' area₂' output' (lower_call l tree area₁ area₂ output)) (n : ℕ) (e : r ≡ Wrote n) where
+module _ (r : Result ℕ Question) (l : Limits) (tree area₁ area₂ output area₁' area₂' output' : List ℕ) (L : Lowers r area₁' area₂' output' (lower_call l tree area₁ area₂ output)) (n : ℕ) (e : r ≡ Ok n) where
   pub made : Made l tree output output' n
   unfolding lower_call
   made =
@@ -77,30 +78,30 @@ part-is n xs = let e : n - 0 ≡ n = omega arith in ap (λ (k : ℕ). take k xs)
 abbrev both : {A : Type 0} → ℕ → Answer A → Answer (Thereafter A)
 both n x = accepted (record { count = n; next = x })
 
-module _ (w : Lowering) (r : Lowered) (output' : List ℕ) (answer : said r ≡ w.answer) (output : output' ≡ w.output) where
-  answer-wrote : (n : ℕ) → r ≡ Wrote n → w.answer ≡ accepted n
+module _ (w : Lowering) (r : Result ℕ Question) (output' : List ℕ) (answer : said r ≡ w.answer) (output : output' ≡ w.output) where
+  answer-wrote : (n : ℕ) → r ≡ Ok n → w.answer ≡ accepted n
   unfolding said
   answer-wrote n e = sym answer ∙ ap said e
 
-  answer-refused : (q : ℕ) → r ≡ Refused q → w.answer ≡ refused q
+  answer-refused : (q : Question) → r ≡ Err q → w.answer ≡ refused (number q)
   unfolding said
   answer-refused q e = sym answer ∙ ap said e
 
-  pub then-accepted : {A : Type 0} (call : List ℕ → Answer A) (n : ℕ) → r ≡ Wrote n → (next : Answer A) → next ≡ call (take n output') →
+  pub then-accepted : {A : Type 0} (call : List ℕ → Answer A) (n : ℕ) → r ≡ Ok n → (next : Answer A) → next ≡ call (take n output') →
       both n next ≡ thereafter w.answer w.output call
   unfolding thereafter
   then-accepted {A} call n e next h =
       ap (λ (x : Answer A). both n x) h
       ∙ ap₂ (λ (a : Answer ℕ) (o : List ℕ). thereafter a o call) (sym (answer-wrote n e)) output
 
-  pub then-refused : {A : Type 0} (call : List ℕ → Answer A) (q : ℕ) → r ≡ Refused q → refused q ≡ thereafter w.answer w.output call
+  pub then-refused : {A : Type 0} (call : List ℕ → Answer A) (q : Question) → r ≡ Err q → refused (number q) ≡ thereafter w.answer w.output call
   unfolding thereafter
   then-refused call q e = ap (λ (a : Answer ℕ). thereafter a w.output call) (sym (answer-refused q e))
 
-  pub left-accepted : (call : List ℕ → List ℕ) (buffer : List ℕ) (n : ℕ) → r ≡ Wrote n → call (take n output') ≡ left_after w.answer w.output call buffer
+  pub left-accepted : (call : List ℕ → List ℕ) (buffer : List ℕ) (n : ℕ) → r ≡ Ok n → call (take n output') ≡ left_after w.answer w.output call buffer
   unfolding left_after
   left-accepted call buffer n e = ap₂ (λ (a : Answer ℕ) (o : List ℕ). left_after a o call buffer) (sym (answer-wrote n e)) output
 
-  pub left-refused : (call : List ℕ → List ℕ) (buffer : List ℕ) (q : ℕ) → r ≡ Refused q → buffer ≡ left_after w.answer w.output call buffer
+  pub left-refused : (call : List ℕ → List ℕ) (buffer : List ℕ) (q : Question) → r ≡ Err q → buffer ≡ left_after w.answer w.output call buffer
   unfolding left_after
   left-refused call buffer q e = ap (λ (a : Answer ℕ). left_after a w.output call buffer) (sym (answer-refused q e))

@@ -6,25 +6,25 @@ use mathlib.Core.List.{List}
 use native.Mathlib.Omega.{arith}
 use lib.ListN.{length, replicate, length-replicate}
 use Rattle.definitions.specs.Bytes.{Answer, refused, accepted, when_accepted}
-use Rattle.definitions.specs.Module.{Limits, office, console, limits_by}
+use Rattle.definitions.specs.Module.{office, console, limits_by}
 use Rattle.definitions.specs.Calls.{output_after, count_answer, zeros, areas_fit, lower_answer, area_after, lower_call}
 use Rattle.definitions.specs.Statements.{Narrowed}
 use Rattle.definitions.proofs.Narrower.{narrower, sets_under}
 use Rattle.limits.specs.Sets.{said as set_number, limits_for}
 use Rattle.limits.specs.declared.Limits.TheVariants.{Office, Console}
 use Rattle.lowering.specs.Lowered.{said, Lowers}
-use Rattle.lowering.specs.declared.Lowered.{Lowered}
-use Rattle.lowering.specs.declared.Lowered.TheVariants.{Wrote, Refused}
+use Rattle.std.specs.Prelude.{Result, Ok, Err}
+use Rattle.questions.specs.declared.Question.{Question}
 use Rattle.follows.specs.Both.{said_bytes, LowersAtBoth}
 use Rattle.follows.proofs.Made.{front-is}
 
 -- what is said and written is the whole answer
-bytes-said : (r : Lowered) (a : Answer (List ℕ)) (output output' : List ℕ) → said r ≡ count_answer a → output' ≡ output_after a output → said_bytes r output' ≡ a
+bytes-said : (r : Result ℕ Question) (a : Answer (List ℕ)) (output output' : List ℕ) → said r ≡ count_answer a → output' ≡ output_after a output → said_bytes r output' ≡ a
 unfolding said said_bytes count_answer output_after when_accepted
-bytes-said (Wrote n) (accepted m) output output' e f = let c : n ≡ length m = cc in ap accepted (front-is n m output output' c f)
-bytes-said (Wrote n) (refused q) output output' e f = let z : ◌≡◌ {A = ℕ} 0 1 = cc in absurd (omega arith)
-bytes-said (Refused q) (refused p) output output' e f = cc
-bytes-said (Refused q) (accepted m) output output' e f = let z : ◌≡◌ {A = ℕ} 0 1 = cc in absurd (omega arith)
+bytes-said (Ok n) (accepted m) output output' e f = let c : n ≡ length m = cc in ap accepted (front-is n m output output' c f)
+bytes-said (Ok n) (refused q) output output' e f = let z : ◌≡◌ {A = ℕ} 0 1 = cc in absurd (omega arith)
+bytes-said (Err q) (refused p) output output' e f = cc
+bytes-said (Err q) (accepted m) output output' e f = let z : ◌≡◌ {A = ℕ} 0 1 = cc in absurd (omega arith)
 
 -- an area after two calls is as after one
 abbrev area_by : Bool → List ℕ → List ℕ
@@ -38,7 +38,7 @@ after-twice m n xs = go (areas_fit m n)
     go false = refl
     go true = ap (λ (n : ℕ). replicate {A = ℕ} n 0) (length-replicate {A = ℕ} (length xs) 0)
 
-module _ (r s : Lowered) (tree area₁ area₂ there here mid₁ mid₂ there' area₁' area₂' here' : List ℕ)
+module _ (r s : Result ℕ Question) (tree area₁ area₂ there here mid₁ mid₂ there' area₁' area₂' here' : List ℕ)
     (L : Lowers r mid₁ mid₂ there' (lower_call (limits_for Console) tree area₁ area₂ there)) (M : Lowers s area₁' area₂' here' (lower_call (limits_for Office) tree mid₁ mid₂ here))
     (first : length mid₁ ≡ length area₁) (second : length mid₂ ≡ length area₂) where
   abbrev at_console : Answer (List ℕ)

@@ -1,6 +1,6 @@
 -- The reader accepts what was lowered.
 use Prim.Native.Nat.{ℕ, ◌-◌}
-use mathlib.Core.Path.{◌≡◌, ap, ◌∙◌}
+use mathlib.Core.Path.{◌≡◌, sym, ap, ◌∙◌, subst}
 use mathlib.Core.Bool.{true}
 use mathlib.Core.List.{List}
 use native.Mathlib.Omega.{arith}
@@ -14,14 +14,13 @@ use Rattle.definitions.specs.Calls.{lower_call, read_call}
 use Rattle.definitions.specs.Statements.{Under}
 use Rattle.definitions.proofs.Lowered.{lowered_reads}
 use Rattle.reader.specs.View.{said as read_said}
-use Rattle.reader.proofs.Deciding.{says-accepted}
-use Rattle.reader.specs.declared.Verdict.{Verdict}
+use Rattle.reader.proofs.Deciding.{says-ok}
+use Rattle.questions.specs.declared.Question.{Question}
+use Rattle.reader.specs.declared.Sections.{Sections}
 use Rattle.lowering.specs.Lowered.{Lowers}
-use Rattle.lowering.specs.declared.Lowered.{Lowered}
-use Rattle.lowering.specs.declared.Lowered.TheVariants.{Wrote as Written, Refused as NotLowered}
+use Rattle.std.specs.Prelude.{Result, Ok, Err, IsOk}
 use Rattle.follows.specs.Rereading.{said, reread_call, Rereads}
 use Rattle.follows.specs.declared.Reread.{Reread}
-use Rattle.follows.specs.declared.Reread.TheVariants.{Wrote, Refused}
 use Rattle.follows.proofs.Made.{Made, made, part-is, then-accepted, then-refused}
 
 -- a module that is read is accepted
@@ -34,9 +33,9 @@ made_reads l u tree output output' n o M =
     let R = lowered_reads l u tree M.bytes o M.lowers in
     ap read_call M.front ∙ read-accepted M.bytes R.tables R.reads
 
-module _ (r : Lowered) (l : Limits) (tree area₁ area₂ output area₁' area₂' output' : List ℕ) (L : Lowers r area₁' area₂' output' (lower_call l tree area₁ area₂ output)) where
-  pub reread-wrote : Under l office → are_bytes tree ≡ true → (n : ℕ) → r ≡ Written n → (v : Verdict) → read_said v ≡ read_call (take (n - 0) output') →
-      Rereads (Wrote n v) area₁' area₂' output' l tree area₁ area₂ output
+module _ (r : Result ℕ Question) (l : Limits) (tree area₁ area₂ output area₁' area₂' output' : List ℕ) (L : Lowers r area₁' area₂' output' (lower_call l tree area₁ area₂ output)) where
+  pub reread-wrote : Under l office → are_bytes tree ≡ true → (n : ℕ) → r ≡ Ok n → (v : Result Sections Question) → read_said v ≡ read_call (take (n - 0) output') →
+      Rereads (Ok (record { written = n; verdict = v })) area₁' area₂' output' l tree area₁ area₂ output
   unfolding reread_call said
   reread-wrote u o n e v g = let h : read_said v ≡ read_call (take n output') = g ∙ ap read_call (part-is n output') in record {
     equation = record {
@@ -45,17 +44,21 @@ module _ (r : Lowered) (l : Limits) (tree area₁ area₂ output area₁' area�
       second = L.second;
       output = L.output;
     };
-    reads = λ k y x. let same : y ≡ v = cc x in same ∙ says-accepted v (h ∙ made_reads l u tree output output' n o (made r l tree area₁ area₂ output area₁' area₂' output' L n e));
+    reads = λ y x. subst (λ (z : Reread). IsOk z.verdict) (let same : record { written = n; verdict = v } ≡ y = cc x in same)
+        (says-ok v (h ∙ made_reads l u tree output output' n o (made r l tree area₁ area₂ output area₁' area₂' output' L n e)));
   }
 
-  pub reread-refused : (q : ℕ) → r ≡ NotLowered q → Rereads (Refused q) area₁' area₂' output' l tree area₁ area₂ output
+  reread-no : (q : Question) → r ≡ Err q → Rereads (Err q) area₁' area₂' output' l tree area₁ area₂ output
   unfolding reread_call said
-  reread-refused q e = record {
+  reread-no q e = record {
     equation = record {
       answer = then-refused (lower_call l tree area₁ area₂ output) r output' L.answer L.output read_call q e;
       first = L.first;
       second = L.second;
       output = L.output;
     };
-    reads = λ k u x. let z : ◌≡◌ {A = ℕ} 0 1 = cc in absurd (omega arith);
+    reads = λ k x. let z : ◌≡◌ {A = ℕ} 0 1 = cc in absurd (omega arith);
   }
+
+  pub reread-refused : (q : Question) → r ≡ Err q → {o : Result Reread Question} → o ≡ Err q → Rereads o area₁' area₂' output' l tree area₁ area₂ output
+  reread-refused q e f = rw f (reread-no q e)

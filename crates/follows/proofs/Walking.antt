@@ -11,60 +11,59 @@ use Rattle.definitions.specs.Bytes.{Answer, refused, accepted, when_accepted}
 use Rattle.definitions.specs.Module.{Limits, office}
 use Rattle.definitions.specs.Run.{Ran as RunAnswer}
 use Rattle.definitions.specs.Walk.{Walked}
-use Rattle.definitions.specs.Calls.{written, output_after, are_answers, lower_call, ran_counts, ran_call, run_answer, run_call, walk_tree}
+use Rattle.definitions.specs.Calls.{written, output_after, are_answers, lower_call, Counts, ran_counts, ran_call, run_answer, run_call, walk_tree}
 use Rattle.definitions.specs.Statements.{Under, Agrees, Follows, instructions_in}
 use Rattle.definitions.proofs.Demand3Bytes.{demand3_bytes}
+use Rattle.questions.specs.declared.Question.TheVariants.{Function, EventRoom}
+use Rattle.questions.specs.Numbers.{number}
+use Rattle.questions.proofs.Named.{number-same}
 use Rattle.run.specs.Pass.{said as ran_said, Called}
 use Rattle.run.proofs.Calling.{says-refused, says-finished}
-use Rattle.run.specs.declared.Outcome.{Outcome}
-use Rattle.run.specs.declared.Outcome.TheVariants.{Finished, Refused as NotRun}
+use Rattle.run.specs.declared.Ran.{Ran as RanSo}
 use Rattle.lowering.specs.Lowered.{Lowers}
-use Rattle.lowering.specs.declared.Lowered.{Lowered}
-use Rattle.lowering.specs.declared.Lowered.TheVariants.{Wrote as Written, Refused as NotLowered}
+use Rattle.std.specs.Prelude.{Result, Ok, Err}
+use Rattle.questions.specs.declared.Question.{Question}
 use Rattle.follows.specs.Following.{said, follow_call, FollowsAs, SameAsWalk, AsWalked, FollowsSource}
 use Rattle.follows.specs.declared.Followed.{Followed}
-use Rattle.follows.specs.declared.Followed.TheVariants.{Ran, Refused}
 use Rattle.follows.proofs.Made.{made, part-is, then-accepted, then-refused, left-accepted, left-refused}
 
 -- ---- what a run's answer shows
 
-module _ (a : Answer RunAnswer) (o : Outcome) (events events' : List ℕ) (says : ran_said o ≡ when_accepted a ran_counts) (leaves : events' ≡ output_after (when_accepted a (λ (r : RunAnswer). accepted r.events)) events) where
-  shows-refused : (q : ℕ) → a ≡ refused q → (o ≡ NotRun q) × (events' ≡ events)
+module _ (a : Answer RunAnswer) (o : Result RanSo Question) (events events' : List ℕ) (says : ran_said o ≡ when_accepted a ran_counts) (leaves : events' ≡ output_after (when_accepted a (λ (r : RunAnswer). accepted r.events)) events) where
+  shows-refused : (q : Question) → a ≡ refused (number q) → (o ≡ Err q) × (events' ≡ events)
   unfolding when_accepted output_after
   shows-refused q e =
-      (says-refused o q (says ∙ ap (λ (x : Answer RunAnswer). when_accepted x ran_counts) e), leaves ∙ ap (λ (x : Answer RunAnswer). output_after (when_accepted x (λ (r : RunAnswer). accepted r.events)) events) e)
-
-  shows-ran : (r : RunAnswer) → a ≡ accepted r → (o ≡ Finished r.ending r.steps r.used (length r.events)) × (events' ≡ written r.events events)
-  unfolding when_accepted output_after ran_counts
-  shows-ran r e = (
-    says-finished o (record { ending = r.ending; steps = r.steps; used = r.used; bytes = length r.events }) (says ∙ ap (λ (x : Answer RunAnswer). when_accepted x ran_counts) e),
-    leaves ∙ ap (λ (x : Answer RunAnswer). output_after (when_accepted x (λ (r : RunAnswer). accepted r.events)) events) e,
-  )
+      let k = says-refused o (number q) (says ∙ ap (λ (x : Answer RunAnswer). when_accepted x ran_counts) e) in
+      (k.1 ∙ ap (λ (p : Question). Err p) (number-same k.0 q k.2), leaves ∙ ap (λ (x : Answer RunAnswer). output_after (when_accepted x (λ (r : RunAnswer). accepted r.events)) events) e)
 
   shows_same : (answers : List ℕ) (w : Walked) (r : RunAnswer) → a ≡ accepted r → Agrees r w answers → SameAsWalk o w answers events events'
+  unfolding when_accepted output_after ran_counts
   shows_same answers w r e A =
-      let S = shows-ran r e in
       let g = A.ending in
       let h = A.events in
+      let u = A.used in
+      let k = says-finished o (record { ending = r.ending; steps = r.steps; used = r.used; bytes = length r.events }) (says ∙ ap (λ (x : Answer RunAnswer). when_accepted x ran_counts) e) in
+      let n = ap (λ (z : Counts). z.used) k.2 in
       record {
-        steps = r.steps;
-        used = r.used;
-        says = S.0 ∙ (λ z. Finished (g z) r.steps r.used (length (h z)));
+        ran = k.0;
+        says = k.1;
+        ending = ap (λ (z : Counts). z.ending) k.2 ∙ g;
+        bytes = ap (λ (z : Counts). z.bytes) k.2 ∙ ap length h;
         ends = (omega (arith, g, A.ends.0), omega (arith, g, A.ends.1));
-        uses = A.used;
-        leaves = S.1 ∙ ap (λ (xs : List ℕ). written xs events) h;
+        uses = omega arith;
+        leaves = leaves ∙ ap (λ (x : Answer RunAnswer). output_after (when_accepted x (λ (r : RunAnswer). accepted r.events)) events) e ∙ ap (λ (xs : List ℕ). written xs events) h;
       }
 
   shows-walk : (answers : List ℕ) (v : Option Walked) → Follows answers (length events) v a → AsWalked o v answers events events'
-  unfolding AsWalked
-  shows-walk answers none F = shows-refused 22 F
-  shows-walk answers (some w) F = (λ fits. let D = F.0 fits in shows_same answers w D.0 D.1 D.2, λ late. shows-refused 24 (F.1 late))
+  unfolding AsWalked number
+  shows-walk answers none F = shows-refused Function F
+  shows-walk answers (some w) F = (λ fits. let D = F.0 fits in shows_same answers w D.0 D.1 D.2, λ late. shows-refused EventRoom (F.1 late))
 
 -- ---- the call
 
-module _ (r : Lowered) (l : Limits) (tree area₁ area₂ bytes area₁' area₂' bytes' : List ℕ) (L : Lowers r area₁' area₂' bytes' (lower_call l tree area₁ area₂ bytes))
+module _ (r : Result ℕ Question) (l : Limits) (tree area₁ area₂ bytes area₁' area₂' bytes' : List ℕ) (L : Lowers r area₁' area₂' bytes' (lower_call l tree area₁ area₂ bytes))
     (function : ℕ) (answers : List ℕ) (budget : ℕ) (events : List ℕ) where
-  module _ (n : ℕ) (e : r ≡ Written n) (o : Outcome) (events' : List ℕ) (C : Called o (run_call (take n bytes') function answers budget events) events') where
+  module _ (n : ℕ) (e : r ≡ Ok n) (o : Result RanSo Question) (events' : List ℕ) (C : Called o (run_call (take n bytes') function answers budget events) events') where
     run-walks : Under l office → are_bytes tree ≡ true → are_answers answers ≡ true → (length answers + 1) * instructions_in (take n bytes') function ≤ budget →
         AsWalked o (walk_tree tree function answers) answers events events'
     unfolding run_call ran_call
@@ -74,7 +73,7 @@ module _ (r : Lowered) (l : Limits) (tree area₁ area₂ bytes area₁' area₂
         shows-walk (run_answer (take n bytes') function answers budget (length events)) o events events' C.says C.leaves answers (walk_tree tree function answers)
         (subst (λ (m : List ℕ). Follows answers (length events) (walk_tree tree function answers) (run_answer m function answers budget (length events))) (sym M.front) D)
 
-    run-equation : FollowsAs (Ran n o) area₁' area₂' bytes' events' (follow_call l tree function answers budget area₁ area₂ bytes events)
+    run-equation : FollowsAs (Ok (record { written = n; outcome = o })) area₁' area₂' bytes' events' (follow_call l tree function answers budget area₁ area₂ bytes events)
     unfolding follow_call said
     run-equation = record {
       answer =
@@ -86,23 +85,22 @@ module _ (r : Lowered) (l : Limits) (tree area₁ area₂ bytes area₁' area₂
       events = C.leaves ∙ left-accepted (lower_call l tree area₁ area₂ bytes) r bytes' L.answer L.output (λ m. (run_call m function answers budget events).events) events n e;
     }
 
-    ran-follows : Under l office → are_bytes tree ≡ true → FollowsSource (Ran n o) area₁' area₂' bytes' events' l tree function answers budget area₁ area₂ bytes events
+    ran-follows : Under l office → are_bytes tree ≡ true → FollowsSource (Ok (record { written = n; outcome = o })) area₁' area₂' bytes' events' l tree function answers budget area₁ area₂ bytes events
     ran-follows u small = record {
       equation = run-equation;
-      walk = λ k p x bits enough.
-          let same : o ≡ p = cc x in
-          let count : k ≡ n = cc x in
-          subst (λ (y : Outcome). AsWalked y (walk_tree tree function answers) answers events events') same
-          (run-walks u small bits (subst (λ (j : ℕ). (length answers + 1) * instructions_in (take j bytes') function ≤ budget) count enough));
+      walk = λ y x bits enough.
+          let same : record { written = n; outcome = o } ≡ y = cc x in
+          subst (λ (z : Followed). AsWalked z.outcome (walk_tree tree function answers) answers events events') same
+          (run-walks u small bits (subst (λ (z : Followed). (length answers + 1) * instructions_in (take z.written bytes') function ≤ budget) (sym same) enough));
     }
 
-  pub follow-ran : (n : ℕ) → r ≡ Written n → (o : Outcome) (events' : List ℕ) → Called o (run_call (take (n - 0) bytes') function answers budget events) events' → Under l office → are_bytes tree ≡ true →
-      FollowsSource (Ran n o) area₁' area₂' bytes' events' l tree function answers budget area₁ area₂ bytes events
+  pub follow-ran : (n : ℕ) → r ≡ Ok n → (o : Result RanSo Question) (events' : List ℕ) → Called o (run_call (take (n - 0) bytes') function answers budget events) events' → Under l office → are_bytes tree ≡ true →
+      FollowsSource (Ok (record { written = n; outcome = o })) area₁' area₂' bytes' events' l tree function answers budget area₁ area₂ bytes events
   follow-ran n e o events' C = ran-follows n e o events' (subst (λ (m : List ℕ). Called o (run_call m function answers budget events) events') (part-is n bytes') C)
 
-  pub follow-refused : (q : ℕ) → r ≡ NotLowered q → FollowsSource (Refused q) area₁' area₂' bytes' events l tree function answers budget area₁ area₂ bytes events
+  follow-no : (q : Question) → r ≡ Err q → FollowsSource (Err q) area₁' area₂' bytes' events l tree function answers budget area₁ area₂ bytes events
   unfolding follow_call said
-  follow-refused q e = record {
+  follow-no q e = record {
     equation = record {
       answer = then-refused (lower_call l tree area₁ area₂ bytes) r bytes' L.answer L.output (λ m. (run_call m function answers budget events).answer) q e;
       first = L.first;
@@ -110,5 +108,9 @@ module _ (r : Lowered) (l : Limits) (tree area₁ area₂ bytes area₁' area₂
       bytes = L.output;
       events = left-refused (lower_call l tree area₁ area₂ bytes) r bytes' L.answer L.output (λ m. (run_call m function answers budget events).events) events q e;
     };
-    walk = λ k p x bits enough. let z : ◌≡◌ {A = ℕ} 0 1 = cc in absurd (omega arith);
+    walk = λ p x bits enough. let z : ◌≡◌ {A = ℕ} 0 1 = cc in absurd (omega arith);
   }
+
+  pub follow-refused : (q : Question) → r ≡ Err q → {o : Result Followed Question} → o ≡ Err q →
+      FollowsSource o area₁' area₂' bytes' events l tree function answers budget area₁ area₂ bytes events
+  follow-refused q e f = rw f (follow-no q e)

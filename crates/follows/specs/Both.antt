@@ -1,18 +1,18 @@
 -- What the call that lowers at the console and at the office answers and leaves; and how the two answers stand to each other.
-use Rattle.std.specs.Prelude.{ℕ, ◌≡◌, List, length, take}
+use Rattle.std.specs.Prelude.{ℕ, ◌≡◌, List, length, take, Result, Ok, Err}
 use Rattle.definitions.specs.Bytes.{Answer, refused, accepted}
 use Rattle.definitions.specs.Module.{office, console}
 use Rattle.definitions.specs.Calls.{lower_call}
 use Rattle.definitions.specs.Statements.{Narrowed}
 use Rattle.lowering.specs.Lowered.{Lowers}
-use Rattle.lowering.specs.declared.Lowered.{Lowered}
-use Rattle.lowering.specs.declared.Lowered.TheVariants.{Wrote, Refused}
+use Rattle.questions.specs.declared.Question.{Question}
+use Rattle.questions.specs.Numbers.{number}
 use Rattle.follows.specs.declared.Both.{Both}
 
 -- what a lowering answers, with the bytes that it wrote
-unfoldable pub said_bytes : Lowered → List ℕ → Answer (List ℕ)
-said_bytes (Wrote n) out = accepted (take n out)
-said_bytes (Refused q) out = refused q
+unfoldable pub said_bytes : Result ℕ Question → List ℕ → Answer (List ℕ)
+said_bytes (Ok n) out = accepted (take n out)
+said_bytes (Err q) out = refused (number q)
 
 -- Each answer, both areas and both outputs are those of `lower_call`. And where the outputs are of one length, the console's answer and bytes are the
 -- office's; or it says 15, where the office accepts or says 16

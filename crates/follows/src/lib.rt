@@ -8,52 +8,48 @@ ghost use Rattle.follows.specs.Rereading.{Rereads};
 ghost use Rattle.follows.specs.Following.{FollowsSource};
 
 use limits::Limits;
-use lowering::{Lowered, lower};
-use reader::{Verdict, read_module};
-use run::{Outcome, run};
+use lowering::lower;
+use questions::Question;
+use reader::{Sections, read_module};
+use run::{Ran, run};
 
-// How many bytes of the output are the module, and what the reader says of them; or the number of the first of questions 1 to 16 and 33 that is answered no.
+// How many bytes of the output are the module, and what the reader says of them.
 #[derive(Clone, Copy)]
-pub enum Reread {
-    Wrote(usize, Verdict),
-    Refused(u32),
+pub struct Reread {
+    pub written: usize,
+    pub verdict: Result<Sections, Question>,
 }
 
-// How many bytes are the module, and how the run of its function went; or the number of the first of questions 1 to 16 and 33 that is answered no.
+// How many bytes are the module, and how the run of its function went.
 #[derive(Clone, Copy)]
-pub enum Followed {
-    Ran(usize, Outcome),
-    Refused(u32),
+pub struct Followed {
+    pub written: usize,
+    pub outcome: Result<Ran, Question>,
 }
 
 // What the two sets of limits give.
 #[derive(Clone, Copy)]
 pub struct Both {
-    pub console: Lowered,
-    pub office: Lowered,
+    pub console: Result<usize, Question>,
+    pub office: Result<usize, Question>,
 }
 
-// The module of a tree, read as soon as it is written: whenever the lowering accepts, the reader accepts.
+// The module of a tree, read as soon as it is written: whenever the lowering accepts, the reader accepts. A refusal is one of questions 1 to 16 and 33.
 pub fn lower_and_read(
     tree: &[u8],
     limits: Limits,
     area1: &mut [u32],
     area2: &mut [u32],
     out: &mut [u8],
-) -> Reread
+) -> Result<Reread, Question>
     ensures { Rereads result area1.new area2.new out.new (limits_for limits) tree.now area1.old area2.old out.old }
 {
-    let lowered = lower(tree, limits, area1, area2, out);
-    match lowered {
-        Lowered::Wrote(n) => {
-            let verdict = read_module(&out[0..n]);
-            Reread::Wrote(n, verdict)
-        }
-        Lowered::Refused(q) => Reread::Refused(q),
-    }
+    let written = lower(tree, limits, area1, area2, out)?;
+    let verdict = read_module(&out[0..written]);
+    Ok(Reread { written, verdict })
 }
 
-// The run of a function of a tree's module: it does what the walk of the tree does.
+// The run of a function of a tree's module: it does what the walk of the tree does. A refusal is one of questions 1 to 16 and 33.
 pub fn lower_and_run(
     tree: &[u8],
     limits: Limits,
@@ -64,17 +60,12 @@ pub fn lower_and_run(
     area2: &mut [u32],
     bytes: &mut [u8],
     events: &mut [u8],
-) -> Followed
+) -> Result<Followed, Question>
     ensures { FollowsSource result area1.new area2.new bytes.new events.new (limits_for limits) tree.now function answers.now budget area1.old area2.old bytes.old events.old }
 {
-    let lowered = lower(tree, limits, area1, area2, bytes);
-    match lowered {
-        Lowered::Wrote(n) => {
-            let outcome = run(&bytes[0..n], function, answers, budget, events);
-            Followed::Ran(n, outcome)
-        }
-        Lowered::Refused(q) => Followed::Refused(q),
-    }
+    let written = lower(tree, limits, area1, area2, bytes)?;
+    let outcome = run(&bytes[0..written], function, answers, budget, events);
+    Ok(Followed { written, outcome })
 }
 
 // The module of a tree by the console's limits, and by the office's, with the same areas: in outputs of one length what the console takes gives the

@@ -1,42 +1,40 @@
 // An input's bytes and the program's arguments, as many as a buffer has room for.
 #![tactic(auto)]
 
-ghost use Rattle.input.specs.Counts.{IsPrefixLen};
+ghost use Rattle.std.specs.Prelude.{◌≤◌, length, IfSome};
 
 use std::env::FillError;
 use std::io::Read;
 use std::rt::Env;
 
-// Reads until buf is full, the input ends or a read fails, and returns how many bytes it put at the start of buf. On an empty buf it makes no call.
-pub fn read_full<R: Read>(input: &mut R, buf: &mut [u8]) -> usize
-    ensures { IsPrefixLen result buf.new }
+// Reads until buf is full, the input ends or a read fails, and returns what it read. On an empty buf it makes no call. The library's read_exact says
+// too little of an input that ends before.
+pub fn read_full<'a, R: Read>(input: &mut R, buf: &'a mut [u8]) -> &'a [u8]
+    ensures { length result.now ≤ length buf.old }
 {
     let mut done = 0usize;
     while done < buf.len() {
-        let n = input.read(&mut buf[done..]).unwrap_or(0);
-        if n == 0 {
-            break;
+        match input.read(&mut buf[done..]) {
+            Ok(n @ 1..) => done += n,
+            _ => break,
         }
-        done += n;
     }
-    done
+    &buf[..done]
+}
+
+fn has_arg(rt: &impl Env, i: usize) -> bool {
+    !matches!(rt.arg(i, &mut [0; 1]), Err(FillError::NotPresent))
 }
 
 // How many arguments the program has, its own name included.
 pub fn arg_count(rt: &impl Env) -> usize {
-    for i in 0..usize::MAX {
-        let mut first = [0u8; 1];
-        match rt.arg(i, &mut first) {
-            Err(FillError::NotPresent) => return i,
-            _ => {}
-        }
-    }
-    usize::MAX
+    (0..usize::MAX).take_while(|i| has_arg(rt, *i)).count()
 }
 
-// Puts argument i at the start of buf and returns its length, or 0 where it is missing or longer than buf.
-pub fn arg(rt: &impl Env, i: usize, buf: &mut [u8]) -> usize
-    ensures { IsPrefixLen result buf.new }
+// Argument i, where it is there and no longer than buf.
+pub fn arg<'a>(rt: &impl Env, i: usize, buf: &'a mut [u8]) -> Option<&'a [u8]>
+    ensures { IfSome result (λ text. length text.now ≤ length buf.old) }
 {
-    rt.arg(i, buf).unwrap_or(0)
+    let n = rt.arg(i, buf).ok()?;
+    Some(&buf[..n])
 }

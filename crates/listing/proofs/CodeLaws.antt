@@ -9,82 +9,81 @@ use Rattle.definitions.specs.Module.{instructions}
 use Rattle.definitions.specs.Reader.{instruction, function_record}
 use Rattle.definitions.specs.Listing.{heading, code_line, code_lines, function_lines}
 use Rattle.definitions.proofs.Lengths.{length-encode}
-use Rattle.reader.specs.View.{number_at, instructions_of, met_at, part_at}
-use Rattle.reader.specs.declared.Cursor.{Cursor}
-use Rattle.reader.specs.declared.Met.TheVariants.{At, End}
-use Rattle.reader.specs.declared.Located.TheVariants.{Code}
+use Rattle.std.specs.Prelude.{Some, None, Ok}
+use Rattle.reader.specs.View.{Walks, shown, number_at, instructions_of, part_at}
+use Rattle.reader.specs.declared.Placed.{Placed}
+use Rattle.reader.specs.declared.iteration.Instructions.{Instructions}
 use Rattle.reader.proofs.Encoding.{Small}
-use Rattle.reader.proofs.Iterated.{met-at, met-end}
+use Rattle.reader.proofs.Iterated.{walked, walked-out}
 use Rattle.writing.specs.Wrote.{Wrote}
 use Rattle.writing.proofs.Begun.{over, from, Begun, begun-start, begun-split, begun-rest, begun-next}
 use Rattle.tally.specs.Walk.{Values, values_end, code_from, functions_from}
 use Rattle.tally.proofs.Walking.{reads_none, Function-here, function-head, function-here}
 use Rattle.listing.specs.Lines.{Operands, Lined}
 use Rattle.listing.specs.declared.Next.{Next}
-use Rattle.listing.proofs.PartLaws.{part-code, code-count, met-operands}
+use Rattle.listing.proofs.PartLaws.{part_from, part-code, code-count, walked-operands}
 
 -- ---- the lines of a function's code
 
 -- the lines so far, and the code that is left
-pub record Lining (t : List ℕ) (f k : ℕ) (xs out : List ℕ) (c : Cursor) (put : ℕ) : Type 0 where
-  pub inside : c.at ≤ length t
-  pub behind : c.place ≤ c.at
-  pub count : length (instructions_of t) ≡ c.place + length (instructions_of (drop c.at t))
-  pub begun : Begun (code_lines f 0 k (instructions_of t)) xs put out (code_lines f c.place (k + c.place) (instructions_of (drop c.at t)) ∷ [])
+pub record Lining (t : List ℕ) (f k : ℕ) (xs out : List ℕ) (s : Instructions) (put : ℕ) : Type 0 where
+  pub code : s.code.now ≡ t
+  pub inside : s.at ≤ length t
+  pub count : length (instructions_of t) ≡ s.place + length (instructions_of (drop s.at t))
+  pub begun : Begun (code_lines f 0 k (instructions_of t)) xs put out (code_lines f s.place (k + s.place) (instructions_of (drop s.at t)) ∷ [])
 
-pub lining-start : (t : List ℕ) (f k : ℕ) (xs : List ℕ) → length (code_lines f 0 k (instructions_of t)) ≤ length xs → Lining t f k xs xs (record { place = 0; at = 0 }) 0
-lining-start t f k xs h = record {
+pub lining-start : (t : List ℕ) (f k : ℕ) (xs : List ℕ) (s : Instructions) → s.code.now ≡ t → s.place ≡ 0 → s.at ≡ 0 → length (code_lines f 0 k (instructions_of t)) ≤ length xs → Lining t f k xs xs s 0
+lining-start t f k xs s c p a h = record {
+  code = c;
   inside = omega arith;
-  behind = omega arith;
-  count = omega arith;
-  begun = subst (λ (j : ℕ). Begun (code_lines f 0 k (instructions_of t)) xs 0 xs (code_lines f 0 j (instructions_of t) ∷ [])) (let y : k ≡ k + 0 = omega arith in y)
+  count = let e = ap (λ (j : ℕ). length (instructions_of (drop j t))) a in omega arith;
+  begun = subst (λ (is : List ℕ). Begun (code_lines f 0 k (instructions_of t)) xs 0 xs (is ∷ []))
+      (ap₂ (λ (i j : ℕ). code_lines f i j (instructions_of t)) (sym p) (let y : k ≡ k + s.place = omega arith in y) ∙ ap (λ (j : ℕ). code_lines f s.place (k + s.place) (instructions_of (drop j t))) (sym a))
       (begun-start (code_lines f 0 k (instructions_of t)) xs h);
 }
 
-module _ {t : List ℕ} {f k : ℕ} {xs out : List ℕ} {c : Cursor} {put : ℕ} (l : Lining t f k xs out c put) where
-  module _ {op a b : ℕ} {n : Cursor} (e : met_at t c ≡ At op a b n) where
-    more : (instructions_of (drop c.at t) ≡ instr op a b ∷ instructions_of (drop n.at t)) × (n.place ≡ c.place + 1) × (n.at ≤ length t) × (n.at ≡ c.at + length (encode (instr op a b)))
-    more = met-at t c op a b n l.inside e
+module _ {t : List ℕ} {f k : ℕ} {xs out : List ℕ} {s : Instructions} {put : ℕ} (l : Lining t f k xs out s put) where
+  module _ {p : Placed} (u : Instructions) (e : Walks s (Some p) u) where
+    more : (instructions_of (drop s.at t) ≡ shown p ∷ instructions_of (drop u.at t)) × (u.place ≡ s.place + 1) × (u.at ≤ length t) × (u.at ≡ s.at + length (encode (shown p))) × (u.code.now ≡ t)
+    more = walked t s u p l.code e
 
-    pub lining-operands : Small t → Operands op a b
-    lining-operands small = met-operands t small c op a b n l.inside e
+    pub lining-operands : Small t → Operands p
+    lining-operands small = walked-operands t small s u p l.code l.inside e
 
     -- the place is one of the code's
-    pub lining-in : c.place < length (instructions_of t)
-    lining-in = let h = l.count in let m = ap length more.0 in omega arith
-
-    pub lining-less : length t - n.at < length t - c.at
-    lining-less = let q = more.3 in let d = length-encode (instr op a b) in let g = more.2 in omega arith
+    pub lining-in : p.place < length (instructions_of t)
+    lining-in = let h = l.count in let m = ap length more.0 in let i = e.1.0 in omega arith
 
     -- the line in hand is next
     pub lining-piece : Begun (code_lines f 0 k (instructions_of t)) xs put out
-        ((heading (k + c.place) ++ code_line f c.place (instr op a b)) ∷ code_lines f (suc c.place) (suc (k + c.place)) (instructions_of (drop n.at t)) ∷ [])
+        ((heading (k + p.place) ++ code_line f p.place (shown p)) ∷ code_lines f (suc s.place) (suc (k + s.place)) (instructions_of (drop u.at t)) ∷ [])
     unfolding code_lines
     lining-piece =
-        begun-split (heading (k + c.place) ++ code_line f c.place (instr op a b)) (code_lines f (suc c.place) (suc (k + c.place)) (instructions_of (drop n.at t)))
-        (ap (code_lines f c.place (k + c.place)) more.0
-        ∙ sym (append_assoc (heading (k + c.place)) (code_line f c.place (instr op a b)) (code_lines f (suc c.place) (suc (k + c.place)) (instructions_of (drop n.at t)))))
+        begun-split (heading (k + p.place) ++ code_line f p.place (shown p)) (code_lines f (suc s.place) (suc (k + s.place)) (instructions_of (drop u.at t)))
+        (ap (code_lines f s.place (k + s.place)) more.0
+        ∙ ap (λ (j : ℕ). heading (k + j) ++ (code_line f j (shown p) ++ code_lines f (suc s.place) (suc (k + s.place)) (instructions_of (drop u.at t)))) (sym e.1.0)
+        ∙ sym (append_assoc (heading (k + p.place)) (code_line f p.place (shown p)) (code_lines f (suc s.place) (suc (k + s.place)) (instructions_of (drop u.at t)))))
         l.begun
 
-    pub lining-more : {r : ℕ} {zs : List ℕ} → Wrote r (heading (k + c.place) ++ code_line f c.place (instr op a b)) (from put out) zs → Lining t f k xs (over put out zs) n (put + r)
+    pub lining-more : {r : ℕ} {zs : List ℕ} → Wrote r (heading (k + p.place) ++ code_line f p.place (shown p)) (from put out) zs → Lining t f k xs (over put out zs) u (put + r)
     lining-more {r} {zs} w =
-        let p = more.1 in let q = more.3 in let d = length-encode (instr op a b) in let g = l.behind in let h = l.count in let m = ap length more.0 in
+        let q = more.1 in let h = l.count in let m = ap length more.0 in
         record {
+          code = more.4;
           inside = more.2;
-          behind = omega arith;
           count = omega arith;
           begun = subst (λ (y : List ℕ). Begun (code_lines f 0 k (instructions_of t)) xs (put + r) (over put out zs) (y ∷ []))
-              (ap₂ (λ (i j : ℕ). code_lines f i j (instructions_of (drop n.at t))) (let y : suc c.place ≡ n.place = omega arith in y) (let y : suc (k + c.place) ≡ k + n.place = omega arith in y))
+              (ap₂ (λ (i j : ℕ). code_lines f i j (instructions_of (drop u.at t))) (let y : suc s.place ≡ u.place = omega arith in y) (let y : suc (k + s.place) ≡ k + u.place = omega arith in y))
               (begun-next lining-piece w);
         }
 
-  pub lining-done : met_at t c ≡ End → Wrote put (code_lines f 0 k (instructions_of t)) xs out
+  pub lining-done : (u : Instructions) → Walks s None u → Wrote put (code_lines f 0 k (instructions_of t)) xs out
   unfolding code_lines
-  lining-done e = begun-rest l.begun (ap (code_lines f c.place (k + c.place)) (met-end t c e))
+  lining-done u e = begun-rest l.begun (ap (code_lines f s.place (k + s.place)) (walked-out t s u l.code e))
 
 -- ---- a function's code, as a part of the module
 
-module _ {t : List ℕ} {n at end : ℕ} {part : List ℕ} (v : Values instruction n t at) (e : end ≡ values_end instruction n t at) (p : part ≡ part_at (Code at (end - at) n) t) where
+module _ {t : List ℕ} {n at end : ℕ} {part : List ℕ} (v : Values instruction n t at) (e : end ≡ values_end instruction n t at) (p : part ≡ part_at (Ok (part_from at end n)) t) where
   code_of : instructions_of part ≡ code_from n t at
   code_of = ap instructions_of p ∙ part-code v e
 

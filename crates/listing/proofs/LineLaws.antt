@@ -16,6 +16,8 @@ use Rattle.columns.specs.declared.Field.{Field}
 use Rattle.columns.specs.declared.Field.TheVariants.{Blank, Digits}
 use Rattle.columns.specs.Fields.{field_text}
 use Rattle.writing.proofs.Begun.{over, from, length-written, put_first, put_next, put_last}
+use Rattle.reader.specs.View.{shown}
+use Rattle.reader.specs.declared.Placed.{Placed}
 use Rattle.listing.specs.Lines.{Operands}
 use Rattle.listing.proofs.Fields.{line-pieces, page-pieces}
 
@@ -23,14 +25,14 @@ use Rattle.listing.proofs.Fields.{line-pieces, page-pieces}
 shown-written : (f : Field) {s z : List ℕ} (w : ℕ) (x : List ℕ) → field_text f ≡ s → z ≡ written (right_in w (field_text f)) x → z ≡ written (right_in w s) x
 shown-written f w x h e = e ∙ ap (λ (l : List ℕ). written (right_in w l) x) h
 
-pub first-room : {op a b : ℕ} (f : Field) → Operands op a b → field_text f ≡ first_text op a → length (field_text f) ≤ 21
-first-room {op} {a} f O e = let l = ap length e in let h = first_fits op a O.first in omega arith
+pub first-room : {p : Placed} (f : Field) → Operands p → field_text f ≡ first_text p.instruction.op p.instruction.a → length (field_text f) ≤ 21
+first-room {p} f O e = let l = ap length e in let h = first_fits p.instruction.op p.instruction.a O.first in omega arith
 
-pub second-room : {op a b : ℕ} (f : Field) → Operands op a b → field_text f ≡ second_text op b → length (field_text f) ≤ 4
-second-room {op} {a} {b} f O e = let l = ap length e in let h = second_fits op b O.second in omega arith
+pub second-room : {p : Placed} (f : Field) → Operands p → field_text f ≡ second_text p.instruction.op p.instruction.b → length (field_text f) ≤ 4
+second-room {p} f O e = let l = ap length e in let h = second_fits p.instruction.op p.instruction.b O.second in omega arith
 
-pub line-in : (f p op a b : ℕ) → f < 65536 → p < 65536 → Operands op a b → LineFits f p (instr op a b)
-line-in f p op a b hf hp O = line-fits f p (instr op a b) hf hp O.first O.second
+pub line-in : (f : ℕ) (p : Placed) → f < 65536 → p.place < 65536 → Operands p → LineFits f p.place (shown p)
+line-in f p hf hp O = line-fits f p.place (shown p) hf hp O.first O.second
 
 module _ {f p op a b : ℕ} (first second : Field) (F : LineFits f p (instr op a b)) (sa : field_text first ≡ first_text op a) (sb : field_text second ≡ second_text op b)
     (xs x z₂ z₃ z₄ z₅ : List ℕ) (room : 53 ≤ length xs)

@@ -5,13 +5,14 @@ use Rattle.definitions.specs.Listing.{code_lines}
 use Rattle.definitions.specs.Reader.{instruction}
 use Rattle.writing.specs.Wrote.{Wrote}
 use Rattle.tally.specs.Walk.{values_end, code_from}
+use Rattle.reader.specs.declared.Placed.{Placed}
 use Rattle.listing.specs.declared.Next.{Next}
 
 -- an opcode, and operands that fit their bytes
-pub record Operands (op a b : ℕ) : Type 0 where
-  pub opcode : op < 46
-  pub first : a < 256 ^ first_width op
-  pub second : b < 256 ^ second_width op
+pub record Operands (p : Placed) : Type 0 where
+  pub opcode : p.instruction.op < 46
+  pub first : p.instruction.a < 256 ^ first_width p.instruction.op
+  pub second : p.instruction.b < 256 ^ second_width p.instruction.op
 
 -- the lines of n instructions, and where the code after them begins
 pub record Lined (r : Next) (n : ℕ) (t : List ℕ) (at f k : ℕ) (before after : List ℕ) : Type 0 where

@@ -1,30 +1,29 @@
 // The lines of functions, in pages.
 ghost use Rattle.std.specs.Prelude.{◌++◌, ◌+◌, ◌≤◌, ◌<◌, length};
-ghost use Rattle.definitions.specs.Instruction.{instr};
 ghost use Rattle.definitions.specs.Module.{instructions};
 ghost use Rattle.definitions.specs.Reader.{function_record, instruction};
 ghost use Rattle.definitions.specs.Listing.{heading, code_line, code_lines, function_lines};
-ghost use Rattle.reader.specs.View.{instructions_of};
+ghost use Rattle.reader.specs.View.{instructions_of, shown};
 ghost use Rattle.writing.specs.Wrote.{Wrote};
 ghost use Rattle.tally.specs.Walk.{Values, code_from, functions_from};
 ghost use Rattle.listing.specs.Lines.{Operands, Lined};
 
 use crate::lines::{write_line, write_page};
 use crate::{LINE, Next, PAGE};
-use reader::{Cursor, Located, Met, next_instruction, number_at, part_of};
+use reader::{Instructions, Part, Placed, number_at, part_of};
 use tally::{CODE, COUNT, count_code};
 
 // Code line k, after a page's first line where it begins a page.
-fn write_entry(k: u64, f: u64, place: u64, op: u8, a: u64, b: u64, out: &mut [u8]) -> usize
-    requires { (k < 1000000) × (f < 65536) × (place < 65536) × Operands op a b × (length (heading k ++ code_line f place (instr op a b)) ≤ length out.old) }
-    ensures { Wrote result (heading k ++ code_line f place (instr op a b)) out.old out.new }
+fn write_entry(k: u64, f: u64, placed: Placed, out: &mut [u8]) -> usize
+    requires { (k < 1000000) × (f < 65536) × (placed.place < 65536) × Operands placed × (length (heading k ++ code_line f placed.place (shown placed)) ≤ length out.old) }
+    ensures { Wrote result (heading k ++ code_line f placed.place (shown placed)) out.old out.new }
 {
     if k % PAGE == 0 {
         write_page(k / PAGE + 1, out);
-        write_line(f, place, op, a, b, &mut out[LINE..]);
+        write_line(f, placed, &mut out[LINE..]);
         return LINE + LINE;
     }
-    write_line(f, place, op, a, b, out);
+    write_line(f, placed, out);
     LINE
 }
 
@@ -33,16 +32,11 @@ fn write_code(code: &[u8], f: u64, k: u64, out: &mut [u8]) -> usize
     requires { (length (instructions_of code.now) < 65536) × (f < 65536) × (k + length (instructions_of code.now) < 1000000) × (length (code_lines f 0 k (instructions_of code.now)) ≤ length out.old) }
     ensures { Wrote result (code_lines f 0 k (instructions_of code.now)) out.old out.new }
 {
-    let mut c = Cursor { place: 0, at: 0 };
     let mut put = 0usize;
-    loop {
-        let met = next_instruction(code, c);
-        let Met::At(op, a, b, next) = met else {
-            return put;
-        };
-        put += write_entry(k + c.place, f, c.place, op, a, b, &mut out[put..]);
-        c = next;
+    for placed in Instructions::of(code) {
+        put += write_entry(k + placed.place, f, placed, &mut out[put..]);
     }
+    put
 }
 
 // The lines of the function f, whose n instructions begin at `at`, from code line k on: its code is handed back as a part of the module.
@@ -51,9 +45,13 @@ fn write_function(bytes: &[u8], at: usize, n: u64, f: u64, k: u64, out: &mut [u8
     ensures { Lined result n bytes.now at f k out.old out.new }
 {
     let end = count_code(bytes, at, n).at;
-    let code = part_of(bytes, Located::Code(at, end - at, n));
-    let put = write_code(code, f, k, out);
-    Next { at: end, put: put }
+    let code = Part {
+        start: at,
+        size: end - at,
+        count: n,
+    };
+    let put = write_code(part_of(bytes, Ok(code)), f, k, out);
+    Next { at: end, put }
 }
 
 // The lines of `count` functions from `at` on.
@@ -63,15 +61,13 @@ pub(crate) fn write_functions(bytes: &[u8], at: usize, count: u64, out: &mut [u8
 {
     let mut p = at;
     let mut put = 0usize;
-    let mut f = 0u64;
     let mut k = 0u64;
-    while f < count {
+    for f in 0..count {
         let n = number_at(bytes, p + COUNT, 2);
         let lines = write_function(bytes, p + CODE, n, f, k, &mut out[put..]);
         put += lines.put;
         p = lines.at;
         k += n;
-        f += 1;
     }
     put
 }

@@ -11,8 +11,9 @@ ghost use Rattle.tally.specs.Walk.{FunctionsAt};
 ghost use Rattle.tally.specs.Listed.{Printed};
 
 use code::write_functions;
-use reader::{Opened, number_at, open_module};
-use tally::{Listed, count_functions};
+use questions::Question;
+use reader::{Part, read_module};
+use tally::count_functions;
 
 // The bytes of a line, and the code lines of a page.
 pub const LINE: usize = 53;
@@ -34,27 +35,23 @@ fn listing_size(lines: u64) -> u64
     LINE as u64 * (lines + (lines + PAGE - 1) / PAGE)
 }
 
-// The listing of a module whose functions begin at `at`.
-fn list_functions(bytes: &[u8], at: usize, out: &mut [u8]) -> Listed
-    requires { FunctionsAt bytes.now at }
+// The listing of a module with those functions.
+fn list_functions(bytes: &[u8], functions: Part, out: &mut [u8]) -> Result<usize, Question>
+    requires { FunctionsAt bytes.now functions }
     ensures { Printed result (list_call bytes.now out.old) out.new }
 {
-    let count = number_at(bytes, at, 2);
-    let lines = count_functions(bytes, at + 2, count);
+    let first = functions.start + 2;
+    let lines = count_functions(bytes, first, functions.count);
     if (out.len() as u64) < listing_size(lines) {
-        return Listed::Refused(31);
+        return Err(Question::ListingRoom);
     }
-    let put = write_functions(bytes, at + 2, count, out);
-    Listed::Written(put)
+    Ok(write_functions(bytes, first, functions.count, out))
 }
 
 // The listing of a module, written only where it fits.
-pub fn list(bytes: &[u8], out: &mut [u8]) -> Listed
+pub fn list(bytes: &[u8], out: &mut [u8]) -> Result<usize, Question>
     ensures { Printed result (list_call bytes.now out.old) out.new }
 {
-    let opened = open_module(bytes);
-    match opened {
-        Opened::Closed(q) => Listed::Refused(q),
-        Opened::Module(_, functions, _, _) => list_functions(bytes, functions, out),
-    }
+    let sections = read_module(bytes)?;
+    list_functions(bytes, sections.functions, out)
 }

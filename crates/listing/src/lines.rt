@@ -1,14 +1,16 @@
 // The lines of a listing, 52 columns and a line feed each.
 ghost use Rattle.std.specs.Prelude.{◌≡◌, ◌^◌, ◌≤◌, ◌<◌, length};
 ghost use Rattle.definitions.specs.Calls.{written};
-ghost use Rattle.definitions.specs.Instruction.{instr, first_width};
+ghost use Rattle.definitions.specs.Instruction.{first_width};
 ghost use Rattle.definitions.specs.Columns.{signed};
 ghost use Rattle.definitions.specs.Listing.{first_text, second_text, code_line, page_line};
 ghost use Rattle.columns.specs.Fields.{field_text};
+ghost use Rattle.reader.specs.View.{shown};
 ghost use Rattle.listing.specs.Lines.{Operands};
 
 use crate::names::put_name;
 use columns::{Field, put_field};
+use reader::Placed;
 use widths::{first_width, second_width};
 use writing::write_bytes;
 
@@ -77,15 +79,16 @@ fn second_shown(op: u8, b: u64) -> Field
 }
 
 // The line of an instruction at a place of the function f.
-pub(crate) fn write_line(f: u64, place: u64, op: u8, a: u64, b: u64, out: &mut [u8])
-    requires { (f < 65536) × (place < 65536) × Operands op a b × (53 ≤ length out.old) }
-    ensures { out.new ≡ written (code_line f place (instr op a b)) out.old }
+pub(crate) fn write_line(f: u64, placed: Placed, out: &mut [u8])
+    requires { (f < 65536) × (placed.place < 65536) × Operands placed × (53 ≤ length out.old) }
+    ensures { out.new ≡ written (code_line f placed.place (shown placed)) out.old }
 {
-    let first = first_shown(op, a);
-    let second = second_shown(op, b);
+    let instruction = placed.instruction;
+    let first = first_shown(instruction.op, instruction.a);
+    let second = second_shown(instruction.op, instruction.b);
     put_field(5, Field::Digits(f), out);
-    put_field(6, Field::Digits(place), &mut out[5..]);
-    put_name(op, &mut out[11..]);
+    put_field(6, Field::Digits(placed.place), &mut out[5..]);
+    put_name(instruction.op, &mut out[11..]);
     put_field(21, first, &mut out[27..]);
     put_field(4, second, &mut out[48..]);
     out[52] = LINE_FEED;

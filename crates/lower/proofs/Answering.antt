@@ -1,4 +1,4 @@
--- What the program's buffer shows, by the lowering's answer.
+-- What the program writes, by the lowering's answer.
 use Prim.Native.Nat.{ℕ, ◌+◌, ◌≤◌, ◌<◌}
 use mathlib.Core.Path.{◌≡◌, refl, sym, ap, ◌∙◌}
 use mathlib.Core.List.{List, [], ◌∷◌, ◌++◌}
@@ -14,9 +14,14 @@ use Rattle.names.specs.Made.{pasted}
 use Rattle.definitions.proofs.Decimals.{length-decimal}
 use Rattle.names.proofs.Pasting.{three-length, paste-three}
 use Rattle.lowering.specs.Lowered.{said, Lowers}
-use Rattle.lowering.specs.declared.Lowered.{Lowered}
-use Rattle.lowering.specs.declared.Lowered.TheVariants.{Wrote, Refused}
-use Rattle.lower.specs.Answered.{Answered}
+use Rattle.std.specs.Prelude.{Result, Ok, Err}
+use Rattle.questions.specs.declared.Question.{Question}
+use Rattle.questions.specs.Numbers.{number}
+
+-- the first n bytes are these
+pub record Answered (n : ℕ) (out bs : List ℕ) : Type 0 where
+  pub counts : (n ≤ length out) × (n ≡ length (take n out))
+  pub bytes : take n out ≡ bs
 
 -- ---- the line of a refusal
 
@@ -62,19 +67,19 @@ unfolding count_answer when_accepted
 refuses (refused p) q e = cc
 refuses (accepted bs) q e = let z : ◌≡◌ {A = ℕ} 0 1 = cc in absurd (omega arith)
 
-module _ (r : Lowered) (input area₁ area₂ out area₁' area₂' out' : List ℕ) (L : Lowers r area₁' area₂' out' (lower_call (limits_for Office) input area₁ area₂ out))
+module _ (r : Result ℕ Question) (input area₁ area₂ out area₁' area₂' out' : List ℕ) (L : Lowers r area₁' area₂' out' (lower_call (limits_for Office) input area₁ area₂ out))
     (first : 16384 ≡ length area₁) (second : 16384 ≡ length area₂) (room : 65536 ≡ length out) (short : length input ≤ 32769) where
   abbrev whole : Answer (List ℕ)
   whole = lower_answer office (length area₁) (length area₂) (length out) input
 
-  pub answered-wrote : (n : ℕ) → r ≡ Wrote n → Answered n out' (lower_program input)
+  pub answered-wrote : (n : ℕ) → r ≡ Ok n → Answered n out' (lower_program input)
   unfolding said lower_call limits_by set_number
   answered-wrote n e =
       let w = wrote whole n out out' (sym (ap said e) ∙ L.answer) L.output in
       rw (program-wrote input w.0 (same_answer _ _ _ input _ first second room short w.1)) w.2
 
-  pub answered-refused : (q n : ℕ) (line : List ℕ) → r ≡ Refused q → Answered n line (ascii "refused " ++ (decimal q ++ 10 ∷ [])) → Answered n line (lower_program input)
+  pub refused-line : (q : Question) (line : List ℕ) → r ≡ Err q → line ≡ ascii "refused " ++ (decimal (number q) ++ 10 ∷ []) → line ≡ lower_program input
   unfolding said lower_call limits_by set_number
-  answered-refused q n line e A =
-      let w = refuses whole q (sym (ap said e) ∙ L.answer) in
-      rw (program-refused input q (same_answer _ _ _ input _ first second room short w)) A
+  refused-line q line e A =
+      let w = refuses whole (number q) (sym (ap said e) ∙ L.answer) in
+      A ∙ sym (program-refused input (number q) (same_answer _ _ _ input _ first second room short w))

@@ -1,186 +1,188 @@
--- A function begun under its name; a class that has its methods, and its object.
+-- The object of a class; a class that has its methods, its symbol, and then its object.
 use Prim.Native.Nat.{ℕ, ◌+◌, ◌≤◌, ◌<◌}
-use mathlib.Core.Path.{◌≡◌, refl, sym, ap, ◌∙◌, subst}
-use mathlib.Core.List.{List, [], ◌∷◌}
+use mathlib.Core.Path.{◌≡◌, refl, sym, ap, subst, ◌∙◌}
+use mathlib.Core.List.{List, map}
 use native.Mathlib.Omega.{arith}
 use lib.ListN.{length, set}
+use Rattle.std.specs.Prelude.{Option, Some, None}
+use Rattle.std.proofs.lemmas.Option.{none-some}
 use Rattle.definitions.specs.Bytes.{Name}
 use Rattle.definitions.specs.Instruction.{instr, LoadConst}
 use Rattle.definitions.specs.Tables.{Method, one, with_classes, add_constant}
 use Rattle.definitions.specs.Lower.{class_object, end_class}
-use Rattle.state.specs.State.{State, state_of, emit_at, Sound, Within, Left, Emits, Numbers, symbol_number, with_symbol, with_tables}
+use Rattle.names.proofs.Spelling.{spelled-tree}
+use Rattle.state.specs.Words.{name_at, word}
+use Rattle.state.specs.State.{State, emit_at, method_of, Sound, Within, Left, symbol_number, with_symbol, with_tables}
 use Rattle.state.specs.declared.Counts.{Counts}
-use Rattle.state.specs.Answered.{Limits, Emitted, Done, Full, Numbered, At, Over}
-use Rattle.state.proofs.Views.{stack-length, constant-count}
-use Rattle.state.proofs.Enclosing.{symbol-functions, at-end_class, at-class_object}
-use Rattle.state.proofs.Answers.{emits-done, emits-full, emits-as, emits-after, numbers-at, numbers-over, paced-more}
-use Rattle.state.proofs.Within.{within-tables, within-down, within-end_class, within-class_object}
+use Rattle.state.specs.declared.Limits.{Limits}
+use Rattle.state.proofs.Views.{constant-count}
+use Rattle.state.proofs.Enclosing.{at-end_class, at-class_object}
+use Rattle.state.proofs.Within.{within-down, within-end_class, within-class_object}
 use Rattle.state.proofs.Growth.{lengthens-class_object}
-use Rattle.lower_emit.specs.Nesting.{begun_with, Begins, with_methods, with_constants, Counted}
+use Rattle.lower_emit.specs.Nesting.{with_methods, with_constants}
+use Rattle.lower_emit.specs.declared.emitter.Code.{Code}
+use Rattle.lower_emit.specs.declared.emitter.Tables.{Tables}
+use Rattle.lower_emit.specs.declared.emitter.Emitter.{Emitter}
+use Rattle.lower_emit.specs.Emitting.{counts_of, limits_in, state_in, SoundIn, beside, Reaches, LowersIn, NumbersIn, Puts}
+use Rattle.lower_emit.proofs.Packing.{instr-plain, plain-below}
+use Rattle.lower_emit.proofs.Steps.{put-lifts, sound-next, reaches-after}
+use Rattle.lower_names.specs.Naming.{Interns, named}
+use Rattle.lower_names.proofs.Symbols.{interned}
 use Rattle.lower_classes.specs.Ending.{Finishes}
-use Rattle.lower_emit.proofs.Answering.{open_after}
+use Rattle.lower_classes.specs.Classes.{CountedIn, EndsClass, AddsConstant, StoresClass, FinishesClass}
 
--- ---- a function's name, and its beginning
+-- sound slices after a step that is counted
+pub counted-sound : {k : Counts} {t : List ℕ} {a b : Emitter} {want : State} → CountedIn k t a b want → SoundIn t b
+counted-sound {k} {t} {a} {b} C = record {
+  sound = subst (λ (l : Limits). Sound t b.tables.made.now b.code.words.now b.tables.entries.now (counts_of b) l) (sym C.limits) C.counted.sound;
+}
 
-within-begun_with : {l : Limits} (k arity n : ℕ) (s : State) → Within l (begun_with k arity n s) → Within l s
-unfolding begun_with
-within-begun_with k arity n s w =
-    within-tables s _ (record { new = record { symbol = k; arity = arity; locals = n; code = [] } ∷ []; functions = refl; symbols = omega arith; strings = omega arith; classes = omega arith }) w
-
-module _ (t made code tables tables₁ : List ℕ) (c : Counts) (l : Limits) (x : Name) (arity locals : ℕ) (sound : Sound t made code tables c l) (n : Numbered)
-    (h : Numbers n t made code tables₁ c l (symbol_number x (state_of t made code tables c).tables) (with_tables (with_symbol x (state_of t made code tables c).tables) (state_of t made code tables c))) where
-  abbrev s : State
-  s = state_of t made code tables c
-
-  abbrev named : State
-  named = with_tables (with_symbol x s.tables) s
-
-  abbrev begun_now : State
-  begun_now = begun_with (symbol_number x s.tables) arity locals named
-
-  pub name-over : (tables' : List ℕ) → n ≡ Over → Begins Over t made code tables' c l (length s.tables.functions) begun_now
-  unfolding Begins
-  name-over tables' e = λ w. numbers-over t made code tables₁ c l _ _ n e h (within-begun_with _ _ _ _ w)
-
-  module _ (i : ℕ) (k : Counts) (e : n ≡ At i k) where
-    got : (i ≡ symbol_number x s.tables) × Left k t made code tables₁ c l named
-    got = numbers-at t made code tables₁ c l _ _ n i k e h
-
-    pub name-sound : Sound t made code tables₁ k l
-    name-sound = got.1.sound
-
-    begun-is : begun_with i arity locals (state_of t made code tables₁ k) ≡ begun_now
-    begun-is = λ j. begun_with (got.0 j) arity locals (got.1.state j)
-
-    same-open : k.open ≡ c.open
-    same-open = open_after t made code tables₁ c k l named got.1 ∙ stack-length t made code tables c l sound
-
-    pub name-begins : (r : Numbered) (tables₂ : List ℕ) → Begins r t made code tables₂ k l (length (state_of t made code tables₁ k).tables.functions) (begun_with i arity locals (state_of t made code tables₁ k))
-        → Begins r t made code tables₂ c l (length s.tables.functions) begun_now
-    unfolding Begins
-    name-begins (At f m) tables₂ b =
-        let p = got.1.paced in
-        let q = b.1.paced in (
-          b.0 ∙ ap (λ (u : State). length u.tables.functions) got.1.state ∙ ap length (symbol-functions x s.tables),
-          record { state = b.1.state ∙ begun-is; base = b.1.base ∙ same-open; paced = paced-more p q; sound = b.1.sound },
-          omega (arith, b.2, p.methods),
-        )
-    name-begins Over tables₂ b = λ w. b (rw begun-is w)
-
--- ---- the end of a class
-
-finishes-by : (r : Emitted) (n : ℕ) (t made code tables : List ℕ) (c k : Counts) (l : Limits) (q : ℕ) (want want' : State) → k.base ≡ c.base → k.methods + c.functions ≤ c.methods + n + k.functions
-    → k.constants + c.classes ≤ c.constants + 1 + k.classes → want ≡ want' → Emits r t made code tables k l q want → Finishes r n t made code tables c l q want'
-unfolding Emits Finishes
-finishes-by (Done p m) n t made code tables c k l q want want' b x y e h =
-    let A = h.1 in (
-      h.0,
+-- a step to the wanted state, after one that changes counts
+finishes-by : {A : Type 0} {r : Option A} (n : ℕ) {t : List ℕ} {a m b : Emitter} {want want' : State} → m.code.base ≡ a.code.base
+    → m.tables.methods + a.tables.functions ≤ a.tables.methods + n + m.tables.functions → m.tables.constants + a.tables.classes ≤ a.tables.constants + 1 + m.tables.classes
+    → limits_in m ≡ limits_in a → want ≡ want' → Reaches r t m b want → Finishes r n t a b want'
+finishes-by n {t} {a} {m} {b} e x y l q h = record {
+  done = λ v z.
+      let A = (h.done v z).left in
       record {
-        state = A.state ∙ e;
-        base = A.base ∙ b;
-        methods = omega (arith, A.paced.methods);
-        constants = omega (arith, A.paced.constants);
-        sound = A.sound;
-      },
-    )
-finishes-by Full n t made code tables c k l q want want' b x y e h = λ w. h (rw e w)
+        finished = record {
+          state = A.state ∙ q;
+          base = A.base ∙ e;
+          methods = omega (arith, A.paced.methods);
+          constants = omega (arith, A.paced.constants);
+          sound = subst (λ (k : Limits). Sound t b.tables.made.now b.code.words.now b.tables.entries.now (counts_of b) k) l A.sound;
+        };
+      };
+  full = λ z w. h.full z (subst (λ (k : Type 0). k) (λ i. Within (sym l i) (sym q i)) w);
+  limits = h.limits ∙ l;
+}
 
--- the class's object: a constant, the two instructions
-module _ (t made code tables tables₁ : List ℕ) (c k : Counts) (l : Limits) (i symbol : ℕ) (sound : Sound t made code tables c l)
-    (h : Counted k (with_constants (c.constants + 1) c) t made code tables₁ l (with_tables (add_constant i (state_of t made code tables c).tables) (state_of t made code tables c))) where
-  abbrev s₀ : State
-  s₀ = state_of t made code tables c
+-- ---- the class's object: a constant, the two instructions
 
-  abbrev objected : State
-  objected = emit_at c.base (class_object i symbol) s₀
+module _ {t : List ℕ} {a : Emitter} {ts : Tables} {c i : ℕ} (symbol : ℕ) (S : SoundIn t a) (few : a.tables.constants < 64) (more : a.tables.constants < a.tables.classes) (A : AddsConstant c i a.tables ts) where
+  abbrev m : Emitter
+  m = beside a.code ts
 
   abbrev added : State
-  added = with_tables (add_constant i s₀.tables) s₀
+  added = with_tables (add_constant i (state_in t a).tables) (state_in t a)
 
-  same_base : k.base ≡ c.base
-  same_base = ap (λ (d : Counts). d.base) h.counts
+  counted : CountedIn (with_constants (a.tables.constants + 1) (counts_of a)) t a m added
+  counted = A.counted t a.code S more
 
-  loaded-is : emit_at k.base (one (instr 6 c.constants 0)) (state_of t made code tables₁ k) ≡ emit_at c.base (one (LoadConst (length s₀.tables.constants))) added
-  loaded-is = λ j. emit_at (same_base j) (one (instr 6 (sym (constant-count t made code tables c l sound) j) 0)) (h.state j)
+  loaded-is : emit_at a.code.base (one (instr 6 c 0)) (state_in t m) ≡ emit_at a.code.base (one (LoadConst (length (state_in t a).tables.constants))) added
+  loaded-is =
+      let n = constant-count t a.tables.made.now a.code.words.now a.tables.entries.now (counts_of a) (limits_in a) S.sound in
+      λ j. emit_at a.code.base (one (instr 6 ((A.number ∙ sym n) j) 0)) (counted.counted.state j)
 
-  module _ (q : ℕ) (r : Emitted) (code₁ : List ℕ) (a : Emits r t made code₁ tables₁ k l q (emit_at k.base (one (instr 6 c.constants 0)) (state_of t made code tables₁ k))) where
-    pub object-full : (code' tables' : List ℕ) (q' : ℕ) → r ≡ Full → Finishes Full 0 t made code' tables' c l q' objected
-    unfolding Finishes
-    object-full code' tables' q' e = λ w. emits-full t made code₁ tables₁ k l q _ r e a (rw loaded-is (within-class_object c.base i symbol s₀ w))
+  module _ {B : Type 0} {r : Option B} {d : Code} (g : Puts r (word 6 c 0) a.code d) where
+    loaded : LowersIn r (one (instr 6 c 0)) t m (beside d ts)
+    loaded = put-lifts (counted-sound counted) refl (instr-plain t 6 c 0 (plain-below 6 c 0 (omega arith) (omega arith) (omega (arith, A.number)) (omega arith))) g
 
-    module _ (p : ℕ) (m : Counts) (e : r ≡ Done p m) where
-      put : (p ≡ q) × Left m t made code₁ tables₁ k l (emit_at k.base (one (instr 6 c.constants 0)) (state_of t made code tables₁ k))
-      put = emits-done t made code₁ tables₁ k l q _ r p m e a
+    pub object-full : {C : Type 0} {q : Option C} → r ≡ None → q ≡ None → Finishes q 0 t a (beside d ts) (emit_at a.code.base (class_object i symbol) (state_in t a))
+    object-full z n = record {
+      done = λ v e. absurd (none-some v (sym n ∙ e));
+      full = λ e w. loaded.reaches.full z
+          (subst (λ (k : Type 0). k) (λ j. Within (sym counted.limits j) (sym loaded-is j)) (within-class_object a.code.base i symbol (state_in t a) w));
+      limits = loaded.reaches.limits ∙ counted.limits;
+    }
 
-      pub object-finishes : (r' : Emitted) (code₂ : List ℕ) → Emits r' t made code₂ tables₁ m l p (emit_at m.base (one (instr 12 symbol 0)) (state_of t made code₁ tables₁ m)) → Finishes r' 0 t made code₂ tables₁ c l q objected
-      object-finishes r' code₂ b =
-          let u = h.counts in
-          finishes-by r' 0 t made code₂ tables₁ c k l q _ objected same_base
-          (let x = ap (λ (d : Counts). d.methods) u in let y = ap (λ (d : Counts). d.functions) u in omega arith)
-          (let x = ap (λ (d : Counts). d.constants) u in let y = ap (λ (d : Counts). d.classes) u in omega arith)
-          ((λ j. emit_at ((put.1.base ∙ same_base) j) (one (instr 12 symbol 0)) ((put.1.state ∙ loaded-is) j)) ∙ sym (at-class_object c.base i symbol s₀))
-          (emits-after r' made code₂ tables₁ q _ put.1 (emits-as r' t made code₂ tables₁ m l p q _ _ put.0 refl b))
+    pub object-done : {x : B} {C : Type 0} {q : Option C} {f : Code} → r ≡ Some x → symbol < 65536 → Puts q (word 12 symbol 0) d f → Finishes q 0 t a (beside f ts) (emit_at a.code.base (class_object i symbol) (state_in t a))
+    object-done {x = x} {f = f} z small h =
+        let k = (loaded.reaches.done x z).left in
+        let u = counted.counted.counts in
+        let stored = put-lifts (sound-next z loaded.reaches) refl (instr-plain t 12 symbol 0 (plain-below 12 symbol 0 (omega arith) (omega arith) small (omega arith))) h in
+        let methods = ap (λ (n : Counts). n.methods) u in
+        let functions = ap (λ (n : Counts). n.functions) u in
+        let constants = ap (λ (n : Counts). n.constants) u in
+        let classes = ap (λ (n : Counts). n.classes) u in
+        finishes-by 0 {m = m} refl (omega arith) (omega arith) counted.limits
+        ((λ j. emit_at (k.base j) (one (instr 12 symbol 0)) ((k.state ∙ loaded-is) j)) ∙ sym (at-class_object a.code.base i symbol (state_in t a)))
+        (reaches-after z loaded.reaches stored.reaches)
 
--- a class that has its methods: its symbol, and then its object
-module _ (t made code tables tables₁ : List ℕ) (c k : Counts) (l : Limits) (x : Name) (i n : ℕ) (ms : List Method)
-    (h : Counted k (with_methods (c.methods + n) c) t made code tables₁ l (with_tables (with_classes (set (state_of t made code tables c).tables.classes i (record { name = x; methods = ms })) (state_of t made code tables c).tables) (state_of t made code tables c))) where
-  abbrev s₂ : State
-  s₂ = state_of t made code tables c
+-- ---- a class that has its methods: its symbol, and then its object
+
+module _ {t methods : List ℕ} {a : Emitter} {ts : Tables} {i at : ℕ} (S : SoundIn t a) (short : at < 32768) (number : i < a.tables.classes) (fits : a.tables.methods + length methods ≤ a.tables.functions)
+    (E : EndsClass i at methods a.tables ts) where
+  abbrev x : Name
+  x = name_at t at
+
+  abbrev ms : List Method
+  ms = map (method_of t) methods
 
   abbrev listed : State
-  listed = with_tables (with_classes (set s₂.tables.classes i (record { name = x; methods = ms })) s₂.tables) s₂
+  listed = with_tables (with_classes (set (state_in t a).tables.classes i (record { name = x; methods = ms })) (state_in t a).tables) (state_in t a)
 
-  abbrev ended : State
-  ended = emit_at c.base (end_class x i ms) s₂
+  abbrev e : Emitter
+  e = beside a.code ts
 
-  module _ (tables₂ : List ℕ) (r : Numbered)
-      (a : Numbers r t made code tables₂ k l (symbol_number x (state_of t made code tables₁ k).tables) (with_tables (with_symbol x (state_of t made code tables₁ k).tables) (state_of t made code tables₁ k))) where
-    pub class-over : (code' tables' : List ℕ) (q : ℕ) → r ≡ Over → Finishes Full n t made code' tables' c l q ended
-    unfolding Finishes symbol_number
-    class-over code' tables' q e = λ w.
-        numbers-over t made code tables₂ k l _ _ r e a
-        (subst (λ (u : State). Within l (with_tables (with_symbol x u.tables) u)) (sym h.state)
-        (within-down c.base _ (lengthens-class_object i (symbol_number x s₂.tables)) (within-end_class c.base x i ms s₂ listed refl w)))
+  ends : CountedIn (with_methods (a.tables.methods + length methods) (counts_of a)) t a e listed
+  ends = E.counted t a.code S number fits
 
-    module _ (g : ℕ) (m : Counts) (e : r ≡ At g m) where
-      gotten : (g ≡ symbol_number x (state_of t made code tables₁ k).tables) × Left m t made code tables₂ k l (with_tables (with_symbol x (state_of t made code tables₁ k).tables) (state_of t made code tables₁ k))
-      gotten = numbers-at t made code tables₂ k l _ _ r g m e a
+  pub ended-sound : SoundIn t e
+  ended-sound = counted-sound ends
 
-      pub class-sound : Sound t made code tables₂ m l
-      class-sound = gotten.1.sound
+  module _ {ts₂ : Tables} {s : Option ℕ} (h : Interns s t ts ts₂ at) where
+    numbered : NumbersIn s (symbol_number x (state_in t e).tables) t e (beside a.code ts₂) (named x (state_in t e))
+    numbered = interned ended-sound h (sym (spelled-tree t ts.made.now at short))
 
-      pub class-constants : c.constants < c.classes → m.constants < m.classes
-      class-constants z =
-          let u = h.counts in
-          let v = ap (λ (d : Counts). d.constants) u in
-          let w = ap (λ (d : Counts). d.classes) u in
-          omega (arith, gotten.1.paced.constants)
+    pub finish-over : {C : Type 0} {q : Option C} → s ≡ None → q ≡ None → FinishesClass q at i methods t a (beside a.code ts₂)
+    unfolding symbol_number
+    finish-over z n = record {
+      finishes = record {
+        done = λ v g. absurd (none-some v (sym n ∙ g));
+        full = λ g w.
+            let k = within-down a.code.base _ (lengthens-class_object i (symbol_number x (state_in t a).tables)) (within-end_class a.code.base x i ms (state_in t a) listed refl w) in
+            numbered.reaches.full z (subst (λ (k : Type 0). k) (λ j. Within (sym ends.limits j) (named x (sym ends.counted.state j))) k);
+        limits = numbered.reaches.limits ∙ ends.limits;
+      };
+    }
 
-      class-is : emit_at m.base (class_object i g) (state_of t made code tables₂ m) ≡ ended
+    module _ {g : ℕ} (z : s ≡ Some g) where
+      abbrev p : Emitter
+      p = beside a.code ts₂
+
+      got : Left (counts_of p) t ts₂.made.now a.code.words.now ts₂.entries.now (counts_of e) (limits_in e) (named x (state_in t e))
+      got = (numbered.reaches.done g z).left
+
+      pub finish-sound : SoundIn t p
+      finish-sound = sound-next z numbered.reaches
+
+      pub finish-constants : a.tables.constants < a.tables.classes → ts₂.constants < ts₂.classes
+      finish-constants y =
+          let constants = ap (λ (n : Counts). n.constants) ends.counted.counts in
+          let classes = ap (λ (n : Counts). n.classes) ends.counted.counts in
+          omega (arith, got.paced.constants)
+
+      class-is : emit_at a.code.base (class_object i g) (state_in t p) ≡ emit_at a.code.base (end_class x i ms) (state_in t a)
       unfolding symbol_number
       class-is =
-          (λ j. emit_at ((gotten.1.base ∙ ap (λ (d : Counts). d.base) h.counts) j) (class_object i (gotten.0 j)) (gotten.1.state j))
-          ∙ ap (λ (u : State). emit_at c.base (class_object i (symbol_number x u.tables)) (with_tables (with_symbol x u.tables) u)) h.state
-          ∙ sym (at-end_class c.base x i ms s₂ listed refl)
+          (λ j. emit_at a.code.base (class_object i (numbered.is g z j)) (got.state j))
+          ∙ ap (λ (u : State). emit_at a.code.base (class_object i (symbol_number x u.tables)) (with_tables (with_symbol x u.tables) u)) ends.counted.state
+          ∙ sym (at-end_class a.code.base x i ms (state_in t a) listed refl)
 
-      pub class-finishes : (r' : Emitted) (code₂ tables₃ : List ℕ) (q : ℕ) → Finishes r' 0 t made code₂ tables₃ m l q (emit_at m.base (class_object i g) (state_of t made code tables₂ m))
-          → Finishes r' n t made code₂ tables₃ c l q ended
-      unfolding Finishes
-      class-finishes (Done p d) code₂ tables₃ q b =
-          let u = h.counts in
-          let A = b.1 in
-          let v = gotten.1.paced in
-          let f1 = ap (λ (d : Counts). d.methods) u in
-          let f2 = ap (λ (d : Counts). d.functions) u in
-          let f3 = ap (λ (d : Counts). d.constants) u in
-          let f4 = ap (λ (d : Counts). d.classes) u in (
-            b.0,
-            record {
-              state = A.state ∙ class-is;
-              base = A.base ∙ gotten.1.base ∙ ap (λ (d : Counts). d.base) u;
-              methods = omega (arith, A.methods, v.methods);
-              constants = omega (arith, A.constants, v.constants);
-              sound = A.sound;
-            },
-          )
-      class-finishes Full code₂ tables₃ q b = λ w. b (rw class-is w)
+      pub finish-done : {C : Type 0} {q : Option C} {b : Emitter} → a.tables.constants < a.tables.classes → StoresClass q i g p b → FinishesClass q at i methods t a b
+      finish-done {b = b} y X =
+          let F = X.finishes t finish-sound (finish-constants y) in
+          let same = numbered.reaches.limits ∙ ends.limits in
+          let u = ends.counted.counts in
+          let methods = ap (λ (n : Counts). n.methods) u in
+          let functions = ap (λ (n : Counts). n.functions) u in
+          let constants = ap (λ (n : Counts). n.constants) u in
+          let classes = ap (λ (n : Counts). n.classes) u in
+          record {
+            finishes = record {
+              done = λ v k.
+                  let A = (F.done v k).finished in
+                  record {
+                    finished = record {
+                      state = A.state ∙ class-is;
+                      base = A.base;
+                      methods = omega (arith, A.methods, got.paced.methods);
+                      constants = omega (arith, A.constants, got.paced.constants);
+                      sound = subst (λ (l : Limits). Sound t b.tables.made.now b.code.words.now b.tables.entries.now (counts_of b) l) same A.sound;
+                    };
+                  };
+              full = λ k w. F.full k (subst (λ (k : Type 0). k) (λ j. Within (sym same j) (sym class-is j)) w);
+              limits = F.limits ∙ same;
+            };
+          }

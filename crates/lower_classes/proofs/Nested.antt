@@ -1,160 +1,90 @@
--- Functions begun under their names, classes and their objects, by the laws of the state.
+-- Functions begun under their names, classes begun and ended, constants: by the laws of the state.
 use Prim.Native.Nat.{ℕ, ◌+◌, ◌*◌, ◌<◌, ◌≤◌}
-use mathlib.Core.Path.{◌≡◌, refl, sym, ap, subst, ◌∙◌}
+use mathlib.Core.Path.{◌≡◌, refl, sym, subst, ◌∙◌}
 use mathlib.Core.List.{List, map}
 use native.Mathlib.Omega.{arith}
-use lib.ListN.{length, get_or, set, take, length-set}
-use lib.Seq.{paste, get_or-set_other}
-use Rattle.definitions.specs.Tables.{one}
-use Rattle.definitions.specs.Instruction.{instr}
-use Rattle.state.specs.Words.{name_at, word}
-use Rattle.state.specs.State.{State, method_of, state_of, Numbers, symbol_number, with_symbol, with_tables, class_names_from, class_methods_from, methods_from, constants_from}
-use Rattle.state.specs.declared.Counts.{Counts}
-use Rattle.state.specs.Answered.{Limits, Emitted, Full, At, Over}
-use Rattle.lower_emit.specs.Nesting.{Counted}
-use Rattle.lower_emit.proofs.Packing.{instr-plain, plain-below}
-use Rattle.lower_emit.proofs.ClassTables as class-tables
-use Rattle.lower_emit.proofs.ClassTables.{one_class, class-begun, constant-added, class-ended}
-use Rattle.lower_names.proofs.Naming.{numbers-name}
+use lib.ListN.{length, set}
+use lib.Seq.{paste, take_all}
+use Rattle.std.specs.Prelude.{Option, Some, None}
+use Rattle.std.proofs.lemmas.Option.{none-some}
+use Rattle.definitions.specs.Tables.{with_classes}
 use Rattle.names.proofs.Spelling.{spelled-tree}
-use Rattle.lower_classes.specs.Ending.{Finishes}
-use Rattle.lower_classes.proofs.Ending.{name-over, name-sound, name-begins, object-full, object-finishes, class-over, class-sound, class-constants, class-finishes}
-use Rattle.lower_emit.specs.Numbers.{counts_of, limits_in, answered, numbered, Room, Put, Begun, SoundIn, LowersIn}
-use Rattle.lower_emit.proofs.Counts.{answered-full, answered-done, numbered-at, numbered-over, counts-class, counts-methods, counts-constants}
-use Rattle.lower_emit.proofs.Steps.{put-lifts, sound-next}
-use Rattle.lower_emit.proofs.Functions.{begun-lifts, numbers_as, begins-as}
-use Rattle.lower_names.specs.Naming.{Interns}
-use Rattle.lower_classes.specs.Classes.{Classes, BeginsClass, EndsClass, AddsConstant, BeginsNamed, StoresClass, FinishesClass}
+use Rattle.state.specs.Words.{name_at}
+use Rattle.state.specs.State.{State, method_of, symbol_number, with_tables, class_names_from, class_methods_from, methods_from, constants_from}
+use Rattle.state.specs.declared.Counts.{Counts}
+use Rattle.state.specs.Answered.{At, Over}
+use Rattle.state.proofs.Answers.{numbers-at, numbers-over}
+use Rattle.lower_emit.specs.Nesting.{with_methods, with_constants, Counted}
+use Rattle.lower_emit.specs.declared.emitter.Code.{Code}
+use Rattle.lower_emit.specs.declared.emitter.Tables.{Tables}
+use Rattle.lower_emit.specs.declared.emitter.Emitter.{Emitter}
+use Rattle.lower_emit.specs.Emitting.{counts_of, limits_in, state_in, SoundIn, beside, NumbersIn, Begun}
+use Rattle.lower_emit.proofs.ClassTables.{one_class, class-begun, class-over, constant-added, class-ended}
+use Rattle.lower_emit.proofs.Functions.{begun-lifts}
+use Rattle.lower_names.specs.Naming.{Interns, named}
+use Rattle.lower_names.proofs.Symbols.{Renews, left-renewed, numbers-some, numbers-none, interned}
+use Rattle.lower_names.proofs.Beginnings.{named-none, named-sound, named-begins}
+use Rattle.lower_classes.specs.Classes.{BeginsClass, CountedIn, EndsClass, AddsConstant, BeginsNamed}
 
 -- ---- classes
 
-pub classes-sound : {t made code tables k l : List ℕ} → SoundIn t made code tables k l → Classes tables k l
-classes-sound S = record { tables-room = S.sound.tables-room; numbers = S.numbers; limit = S.sound.limited.classes }
+module _ {a : Tables} (at : ℕ) where
+  pub begins-class-over : a.limits.classes ≤ a.classes → BeginsClass None at a a
+  begins-class-over h = record {
+    numbers = λ t code S.
+        let c = counts_of (beside code a) in
+        let l = limits_in (beside code a) in
+        let n = length (state_in t (beside code a)).tables.classes in
+        numbers-none refl (numbers-over t a.made.now code.words.now a.entries.now c l n _ Over refl (class-over t a.made.now code.words.now a.entries.now a.entries.now at n c l S.sound h));
+  }
 
-pub begins-class-over : {tables k l : List ℕ} (at : ℕ) → Classes tables k l → get_or l 3 0 ≤ get_or k 3 0 → BeginsClass 65536 at tables tables k k l
-begins-class-over {tables} {k} {l} at C h = record {
-  numbers = λ t made code S. numbers_as Over (numbered 65536 k) t made code tables k l _ _ (numbered-over 65536 k (omega arith)) (class-tables.class-over t made code tables tables at _ (counts_of k) (limits_in l) S.sound h);
-  kept = C.numbers;
+  pub begins-class : {b : Tables} → a.classes < a.limits.classes → Renews (set (set a.entries.now (class_names_from + a.classes) at) (class_methods_from + a.classes) 0) one_class a b → BeginsClass (Some a.classes) at a b
+  begins-class room R = record {
+    numbers = λ t code S.
+        let c = counts_of (beside code a) in
+        let l = limits_in (beside code a) in
+        let h = numbers-at t a.made.now code.words.now _ c l _ _ (At a.classes (one_class c)) a.classes (one_class c) refl (class-begun t a.made.now code.words.now a.entries.now at c l S.sound room) in
+        numbers-some (R.limits code) (h.0, left-renewed R code h.1);
+  }
+
+-- counts and a wanted state, as a law of the state leaves them
+counted-renewed : {zs t : List ℕ} {k : Counts → Counts} {a b : Tables} {want : State} (R : Renews zs k a b) (code : Code)
+    → Counted (k (counts_of (beside code a))) (k (counts_of (beside code a))) t a.made.now code.words.now zs (limits_in (beside code a)) want
+    → CountedIn (k (counts_of (beside code a))) t (beside code a) (beside code b) want
+counted-renewed {zs} {t} {k} {a} {b} {want} R code h = record {
+  counted = subst (λ (z : Type 0). z) (λ i. Counted (sym (R.counts code) i) (k (counts_of (beside code a))) t (sym R.made i) code.words.now (sym R.entries i) (limits_in (beside code a)) want) h;
+  limits = R.limits code;
 }
 
-pub begins-class : {tables k l : List ℕ} (at : ℕ) → Classes tables k l → get_or k 3 0 < get_or l 3 0
-    → BeginsClass (get_or k 3 0) at tables (set (set tables (class_names_from + get_or k 3 0) at) (class_methods_from + get_or k 3 0) 0) k (set k 3 (get_or k 3 0 + 1)) l
-begins-class {tables} {k} {l} at C h = record {
-  numbers = λ t made code S.
-      let k' = set k 3 (get_or k 3 0 + 1) in
-      numbers_as (At (get_or k 3 0) (one_class (counts_of k))) (numbered (get_or k 3 0) k') t made code _ k l _ _ (numbered-at (get_or k 3 0) k' (omega (arith, C.limit)) ∙ ap (At (get_or k 3 0)) (counts-class k C.numbers))
-      (class-begun t made code tables at (counts_of k) (limits_in l) S.sound h);
-  kept = C.numbers ∙ sym (length-set k 3 (get_or k 3 0 + 1));
+pub ends-class : {a b : Tables} {methods ws : List ℕ} (i at : ℕ) → ws ≡ paste a.entries.now (methods_from + a.methods) methods (length methods)
+    → Renews (set (set ws (class_names_from + i) at) (class_methods_from + i) (a.methods * 65536 + length methods)) (λ c. with_methods (c.methods + length methods) c) a b → EndsClass i at methods a b
+ends-class {a} {b} {methods} {ws} i at e R = record {
+  counted = λ t code S number fits.
+      let c = counts_of (beside code a) in
+      let l = limits_in (beside code a) in
+      let s = state_in t (beside code a) in
+      let h = class-ended t a.made.now code.words.now a.entries.now methods i at (length methods) (a.methods * 65536 + length methods) c l S.sound number (omega arith) fits refl ws e in
+      subst (λ (xs : List ℕ). CountedIn (with_methods (a.methods + length methods) c) t (beside code a) (beside code b)
+      (with_tables (with_classes (set s.tables.classes i (record { name = name_at t at; methods = map (method_of t) xs })) s.tables) s)) (take_all (length methods) methods (omega arith)) (counted-renewed R code h);
 }
 
-counted-as : (a b c : Counts) (t made code tables : List ℕ) (l : Limits) (want : State) → a ≡ b → Counted b c t made code tables l want → Counted a c t made code tables l want
-counted-as a b c t made code tables l want e h = subst (λ (z : Counts). Counted z c t made code tables l want) (sym e) h
-
-pub ends-class : {tables tables₁ k list : List ℕ} (i at n : ℕ) → 10 ≡ length k → n ≤ length list → tables₁ ≡ paste tables (methods_from + get_or k 4 0) list n
-    → EndsClass i at n list tables (set (set tables₁ (class_names_from + i) at) (class_methods_from + i) (get_or k 4 0 * 65536 + n)) k (set k 4 (get_or k 4 0 + n))
-ends-class {tables} {tables₁} {k} {list} i at n K enough e = record {
-  counted = λ t made code l S number fits. counted-as _ _ _ t made code _ (limits_in l) _ (counts-methods k (get_or k 4 0 + n) K)
-      (class-ended t made code tables list i at n (get_or k 4 0 * 65536 + n) (counts_of k) (limits_in l) S.sound number enough fits refl tables₁ e);
-  kept = K ∙ sym (length-set k 4 (get_or k 4 0 + n));
-}
-
-pub adds_constant : {tables k : List ℕ} (i : ℕ) → 10 ≡ length k → AddsConstant (get_or k 5 0) i tables (set tables (constants_from + get_or k 5 0) i) k (set k 5 (get_or k 5 0 + 1))
-adds_constant {tables} {k} i K = record {
+pub adds_constant : {a b : Tables} (i : ℕ) → Renews (set a.entries.now (constants_from + a.constants) i) (λ c. with_constants (c.constants + 1) c) a b → AddsConstant a.constants i a b
+adds_constant {a} {b} i R = record {
   number = refl;
-  counted = λ t made code l S more. counted-as _ _ _ t made code _ (limits_in l) _ (counts-constants k (get_or k 5 0 + 1) K) (constant-added t made code tables i (counts_of k) (limits_in l) S.sound more);
-  kept = K ∙ sym (length-set k 5 (get_or k 5 0 + 1));
-  words = (get_or-set_other k 5 8 (get_or k 5 0 + 1) 0 (λ z. omega arith), get_or-set_other k 5 9 (get_or k 5 0 + 1) 0 (λ z. omega arith));
+  counted = λ t code S more. counted-renewed R code (constant-added t a.made.now code.words.now a.entries.now i (counts_of (beside code a)) (limits_in (beside code a)) S.sound more);
 }
 
 -- ---- a function's name
 
-module _ {tree made tables tables₁ k k₁ l : List ℕ} {s at : ℕ} (short : at < 32768) (arity locals : ℕ) (h : Interns s tree made tables tables₁ k k₁ l at) where
-  answer : (code : List ℕ) → SoundIn tree made code tables k l → Numbers (numbered s k₁) tree made code tables₁ (counts_of k) (limits_in l) (symbol_number (name_at tree at) (state_of tree made code tables (counts_of k)).tables)
-      (with_tables (with_symbol (name_at tree at) (state_of tree made code tables (counts_of k)).tables) (state_of tree made code tables (counts_of k)))
-  answer code S = numbers-name _ tree made code tables₁ (counts_of k) (limits_in l) _ _ (name_at tree at) (sym (spelled-tree tree made at short)) (h.numbers code S)
+module _ {t : List ℕ} {a : Emitter} {ts : Tables} {s : Option ℕ} {at : ℕ} (short : at < 32768) (arity locals : ℕ) (h : Interns s t a.tables ts at) where
+  numbered : SoundIn t a → NumbersIn s (symbol_number (name_at t at) (state_in t a).tables) t a (beside a.code ts) (named (name_at t at) (state_in t a))
+  numbered S = interned S h (sym (spelled-tree t a.tables.made.now at short))
 
-  pub named-over : 65536 ≤ s → BeginsNamed 65536 at arity locals tree made tables tables₁ k k₁ l
-  named-over z = record {
-    begins = λ code S. begins-as Over (numbered 65536 k₁) tree made code tables₁ (counts_of k) (limits_in l) _ _ (numbered-over 65536 k₁ (omega arith))
-        (name-over tree made code tables tables₁ (counts_of k) (limits_in l) (name_at tree at) arity locals S.sound (numbered s k₁) (answer code S) tables₁ (numbered-over s k₁ z));
-    numbers = h.kept;
+  pub begins-none : {r : Option ℕ} → s ≡ None → r ≡ None → BeginsNamed r at arity locals t a (beside a.code ts)
+  begins-none z e = record { below = λ n q. absurd (none-some n (sym e ∙ q)); begins = λ S. named-none (name_at t at) S (numbered S) _ arity locals z e }
+
+  pub begins-named : {j : ℕ} {r : Option ℕ} {b : Emitter} → s ≡ Some j → arity < 256 → locals < 256 → Begun r j arity locals (beside a.code ts) b → BeginsNamed r at arity locals t a b
+  begins-named {j} z x y g = record {
+    below = λ n q. omega (arith, g.number n q, g.room n q, ts.functions_most);
+    begins = λ S. let N = numbered S in named-begins (name_at t at) S N z arity locals (begun-lifts (named-sound (name_at t at) S N z) (omega (arith, h.below j z)) x y g);
   }
-
-  pub named-begins : {tables₂ k₂ : List ℕ} {r : ℕ} → s < 65536 → arity < 256 → locals < 256 → Begun r tables₁ tables₂ k₁ k₂ l s arity locals → BeginsNamed r at arity locals tree made tables tables₂ k k₂ l
-  named-begins {tables₂} {k₂} {r} z a b g = record {
-    begins = λ code S.
-        let e = numbered-at s k₁ z in
-        let n = answer code S in
-        let S₁ : SoundIn tree made code tables₁ k₁ l = record { numbers = h.kept; sound = name-sound tree made code tables tables₁ (counts_of k) (limits_in l) (name_at tree at) arity locals S.sound (numbered s k₁) n s (counts_of k₁) e } in
-        name-begins tree made code tables tables₁ (counts_of k) (limits_in l) (name_at tree at) arity locals S.sound (numbered s k₁) n s (counts_of k₁) e (numbered r k₂) tables₂ (begun-lifts S₁ z a b g);
-    numbers = g.numbers;
-  }
-
--- ---- a class's object
-
-finishes-as : (x y : Emitted) (n : ℕ) (t made code tables : List ℕ) (c : Counts) (l : Limits) (q : ℕ) (want : State) → y ≡ x → Finishes x n t made code tables c l q want → Finishes y n t made code tables c l q want
-finishes-as x y n t made code tables c l q want e h = subst (λ (z : Emitted). Finishes z n t made code tables c l q want) (sym e) h
-
-pub room-added : {code k k₁ l tables tables₁ : List ℕ} {r i : ℕ} → Room code k l → AddsConstant r i tables tables₁ k k₁ → Room code k₁ l
-room-added R A = record { code-room = R.code-room; numbers = A.kept; limit = R.limit; words = omega (arith, R.words, A.words.0, A.words.1) }
-
-module _ {code tables tables₁ k k₁ l code₂ k₂ : List ℕ} {i c p next : ℕ} (symbol : ℕ) (small : get_or k 5 0 < 64) (n : 0 < next) (A : AddsConstant c i tables tables₁ k k₁) (g : Put p code code₂ k₁ k₂ l (word 6 c 0) next) where
-  sound₁ : (t made : List ℕ) → SoundIn t made code tables k l → get_or k 5 0 < get_or k 3 0 → SoundIn t made code tables₁ k₁ l
-  sound₁ t made S more = record { numbers = A.kept; sound = (A.counted t made code l S more).sound }
-
-  loaded : (t made : List ℕ) → SoundIn t made code tables k l → get_or k 5 0 < get_or k 3 0 → LowersIn p (one (instr 6 (get_or k 5 0) 0)) next t made code tables₁ k₁ l made code₂ tables₁ k₂
-  loaded t made S more = put-lifts p (sound₁ t made S more) n (instr-plain t 6 (get_or k 5 0) 0 (plain-below 6 (get_or k 5 0) 0 (omega arith) (omega arith) (omega arith) (omega arith)))
-      (subst (λ (x : ℕ). Put p code code₂ k₁ k₂ l (word 6 x 0) next) A.number g)
-
-  pub stores-full : p ≡ 0 → StoresClass 0 i symbol next code tables k l code₂ tables₁ k₂
-  stores-full z = record {
-    finishes = λ t made S more. finishes-as Full (answered 0 k₂) 0 t made code₂ tables₁ (counts_of k) (limits_in l) next _ (answered-full 0 k₂ refl)
-        (object-full t made code tables tables₁ (counts_of k) (counts_of k₁) (limits_in l) i symbol S.sound (A.counted t made code l S more) next (answered p k₂) code₂ (loaded t made S more).emits code₂ tables₁ next (answered-full p k₂ z));
-    numbers = g.numbers;
-  }
-
-  pub stores-class : {code₃ k₃ : List ℕ} {r : ℕ} → (p ≡ 0 → ⊥) → symbol < 65536 → Put r code₂ code₃ k₂ k₃ l (word 12 symbol 0) p → StoresClass r i symbol next code tables k l code₃ tables₁ k₃
-  stores-class {code₃} {k₃} {r} z b x = record {
-    finishes = λ t made S more.
-        let e = loaded t made S more in
-        let y = put-lifts r (sound-next z e) (omega arith) (instr-plain t 12 symbol 0 (plain-below 12 symbol 0 (omega arith) (omega arith) b (omega arith))) x in
-        object-finishes t made code tables tables₁ (counts_of k) (counts_of k₁) (limits_in l) i symbol S.sound (A.counted t made code l S more) next (answered p k₂) code₂ e.emits p (counts_of k₂) (answered-done p k₂ z) (answered r k₃) code₃ y.emits;
-    numbers = x.numbers;
-  }
-
--- ---- the end of a class
-
-module _ {tree made code tables tables₁ k k₁ l list : List ℕ} {i at n : ℕ} (S : SoundIn tree made code tables k l) (number : i < get_or k 3 0) (short : at < 32768) (fits : get_or k 4 0 + n ≤ get_or k 2 0)
-    (C : EndsClass i at n list tables tables₁ k k₁) where
-  pub ended-sound : SoundIn tree made code tables₁ k₁ l
-  ended-sound = record { numbers = C.kept; sound = (C.counted tree made code l S number fits).sound }
-
-  module _ {tables₂ k₂ : List ℕ} {s : ℕ} (h : Interns s tree made tables₁ tables₂ k₁ k₂ l at) where
-    named : Numbers (numbered s k₂) tree made code tables₂ (counts_of k₁) (limits_in l) (symbol_number (name_at tree at) (state_of tree made code tables₁ (counts_of k₁)).tables)
-        (with_tables (with_symbol (name_at tree at) (state_of tree made code tables₁ (counts_of k₁)).tables) (state_of tree made code tables₁ (counts_of k₁)))
-    named = answer short 0 0 h code ended-sound
-
-    pub finish-over : {next : ℕ} → 65536 ≤ s → FinishesClass 0 at n i next list tree made code tables k l code tables₂ k₂
-    finish-over {next} z = record {
-      finishes = finishes-as Full (answered 0 k₂) n tree made code tables₂ (counts_of k) (limits_in l) next _ (answered-full 0 k₂ refl)
-          (class-over tree made code tables tables₁ (counts_of k) (counts_of k₁) (limits_in l) (name_at tree at) i n (map (method_of tree) (take n list)) (C.counted tree made code l S number fits) tables₂ (numbered s k₂) named code tables₂ next (numbered-over s k₂ z));
-      numbers = h.kept;
-    }
-
-    module _ (z : s < 65536) where
-      pub finish-sound : SoundIn tree made code tables₂ k₂ l
-      finish-sound = record {
-        numbers = h.kept;
-        sound = class-sound tree made code tables tables₁ (counts_of k) (counts_of k₁) (limits_in l) (name_at tree at) i n (map (method_of tree) (take n list)) (C.counted tree made code l S number fits) tables₂ (numbered s k₂) named s (counts_of k₂) (numbered-at s k₂ z);
-      }
-
-      pub finish-constants : get_or k 5 0 < get_or k 3 0 → get_or k₂ 5 0 < get_or k₂ 3 0
-      finish-constants =
-          class-constants tree made code tables tables₁ (counts_of k) (counts_of k₁) (limits_in l) (name_at tree at) i n (map (method_of tree) (take n list)) (C.counted tree made code l S number fits) tables₂ (numbered s k₂) named s (counts_of k₂) (numbered-at s k₂ z)
-
-      pub finish-class-is : {code₃ tables₃ k₃ : List ℕ} {r next : ℕ} → get_or k 5 0 < get_or k 3 0 → StoresClass r i s next code tables₂ k₂ l code₃ tables₃ k₃ → FinishesClass r at n i next list tree made code tables k l code₃ tables₃ k₃
-      finish-class-is {code₃} {tables₃} {k₃} {r} {next} more x = record {
-        finishes = class-finishes tree made code tables tables₁ (counts_of k) (counts_of k₁) (limits_in l) (name_at tree at) i n (map (method_of tree) (take n list)) (C.counted tree made code l S number fits) tables₂ (numbered s k₂) named s (counts_of k₂) (numbered-at s k₂ z)
-            (answered r k₃) code₃ tables₃ next (x.finishes tree made finish-sound (finish-constants more));
-        numbers = x.numbers;
-      }

@@ -1,50 +1,49 @@
 -- What the beginnings and ends of functions and classes leave, whatever they don't touch is.
-use Rattle.std.specs.Prelude.{ℕ, ◌+◌, ◌<◌, ◌≤◌, ◌≡◌, List, map, length, set, take}
+use Rattle.std.specs.Prelude.{ℕ, ◌+◌, ◌<◌, ◌≤◌, ◌≡◌, Option, Some, List, map, length, set}
 use Rattle.definitions.specs.Tables.{with_classes, add_constant}
 use Rattle.definitions.specs.Lower.{begin_class, class_object, end_class}
 use Rattle.state.specs.Words.{name_at}
-use Rattle.state.specs.State.{method_of, state_of, emit_at, Numbers, symbol_number, with_symbol, with_tables}
-use Rattle.lower_emit.specs.Nesting.{begun_with, Begins, with_methods, with_constants, Counted}
+use Rattle.state.specs.State.{State, method_of, emit_at, symbol_number, with_tables}
+use Rattle.state.specs.declared.Counts.{Counts}
+use Rattle.lower_emit.specs.Nesting.{begun_with, with_methods, with_constants, Counted}
+use Rattle.lower_emit.specs.declared.emitter.Code.{Code}
+use Rattle.lower_emit.specs.declared.emitter.Tables.{Tables}
+use Rattle.lower_emit.specs.declared.emitter.Emitter.{Emitter}
+use Rattle.lower_emit.specs.Emitting.{counts_of, limits_in, state_in, SoundIn, beside, NumbersIn, BeginsIn}
+use Rattle.lower_names.specs.Naming.{named}
 use Rattle.lower_classes.specs.Ending.{Finishes}
-use Rattle.lower_emit.specs.Numbers.{counts_of, limits_in, answered, numbered, SoundIn}
-use Rattle.lower_emit.specs.Places.{functions_in, classes_in, methods_in, constants_in, base_in, open_in, done_in, class_limit}
 
-pub record Classes (tables k l : List ℕ) : Type 0 where
-  pub tables-room : 16384 ≤ length tables
-  pub numbers : 10 ≡ length k
-  pub limit : class_limit l ≤ 64
+-- whatever the tree and the code are
+pub record BeginsClass (r : Option ℕ) (at : ℕ) (a b : Tables) : Type 0 where
+  pub numbers : (tree : List ℕ) (code : Code) → SoundIn tree (beside code a)
+      → NumbersIn r (length (state_in tree (beside code a)).tables.classes) tree (beside code a) (beside code b)
+      (with_tables (begin_class (name_at tree at) (state_in tree (beside code a)).tables) (state_in tree (beside code a)))
 
-pub record BeginsClass (r at : ℕ) (tables tables' k k' l : List ℕ) : Type 0 where
-  pub numbers : (t made code : List ℕ) → SoundIn t made code tables k l → Numbers (numbered r k') t made code tables' (counts_of k) (limits_in l) (length (state_of t made code tables (counts_of k)).tables.classes)
-      (with_tables (begin_class (name_at t at) (state_of t made code tables (counts_of k)).tables) (state_of t made code tables (counts_of k)))
-  pub kept : 10 ≡ length k'
+-- the counts k and the wanted state, and the limits as they were
+pub record CountedIn (k : Counts) (tree : List ℕ) (a b : Emitter) (want : State) : Type 0 where
+  pub counted : Counted (counts_of b) k tree b.tables.made.now b.code.words.now b.tables.entries.now (limits_in a) want
+  pub limits : limits_in b ≡ limits_in a
 
-pub record EndsClass (i at n : ℕ) (list tables tables' k k' : List ℕ) : Type 0 where
-  pub counted : (t made code l : List ℕ) → SoundIn t made code tables k l → i < classes_in k → methods_in k + n ≤ functions_in k
-      → Counted (counts_of k') (with_methods (methods_in k + n) (counts_of k)) t made code tables' (limits_in l)
-      (with_tables (with_classes (set (state_of t made code tables (counts_of k)).tables.classes i (record { name = name_at t at; methods = map (method_of t) (take n list) })) (state_of t made code tables (counts_of k)).tables) (state_of t made code tables (counts_of k)))
-  pub kept : 10 ≡ length k'
+pub record EndsClass (i at : ℕ) (methods : List ℕ) (a b : Tables) : Type 0 where
+  pub counted : (tree : List ℕ) (code : Code) → SoundIn tree (beside code a) → i < a.classes → a.methods + length methods ≤ a.functions
+      → CountedIn (with_methods (a.methods + length methods) (counts_of (beside code a))) tree (beside code a) (beside code b)
+      (with_tables (with_classes (set (state_in tree (beside code a)).tables.classes i (record { name = name_at tree at; methods = map (method_of tree) methods })) (state_in tree (beside code a)).tables) (state_in tree (beside code a)))
 
-pub record AddsConstant (r i : ℕ) (tables tables' k k' : List ℕ) : Type 0 where
-  pub number : r ≡ constants_in k
-  pub counted : (t made code l : List ℕ) → SoundIn t made code tables k l → constants_in k < classes_in k
-      → Counted (counts_of k') (with_constants (constants_in k + 1) (counts_of k)) t made code tables' (limits_in l)
-      (with_tables (add_constant i (state_of t made code tables (counts_of k)).tables) (state_of t made code tables (counts_of k)))
-  pub kept : 10 ≡ length k'
-  pub words : (open_in k' ≡ open_in k) × (done_in k' ≡ done_in k)
+pub record AddsConstant (r i : ℕ) (a b : Tables) : Type 0 where
+  pub number : r ≡ a.constants
+  pub counted : (tree : List ℕ) (code : Code) → SoundIn tree (beside code a) → a.constants < a.classes
+      → CountedIn (with_constants (a.constants + 1) (counts_of (beside code a))) tree (beside code a) (beside code b)
+      (with_tables (add_constant i (state_in tree (beside code a)).tables) (state_in tree (beside code a)))
 
-pub record BeginsNamed (r at arity locals : ℕ) (tree made tables tables' k k' l : List ℕ) : Type 0 where
-  pub begins : (code : List ℕ) → SoundIn tree made code tables k l → Begins (numbered r k') tree made code tables' (counts_of k) (limits_in l) (length (state_of tree made code tables (counts_of k)).tables.functions)
-      (begun_with (symbol_number (name_at tree at) (state_of tree made code tables (counts_of k)).tables) arity locals
-      (with_tables (with_symbol (name_at tree at) (state_of tree made code tables (counts_of k)).tables) (state_of tree made code tables (counts_of k))))
-  pub numbers : 10 ≡ length k'
+-- the function with the name at `at` begins; it has so many parameters and slots
+pub record BeginsNamed (r : Option ℕ) (at arity locals : ℕ) (tree : List ℕ) (a b : Emitter) : Type 0 where
+  pub below : (n : ℕ) → r ≡ Some n → n < 256
+  pub begins : SoundIn tree a → BeginsIn r (length (state_in tree a).tables.functions) tree a b
+      (begun_with (symbol_number (name_at tree at) (state_in tree a).tables) arity locals (named (name_at tree at) (state_in tree a)))
 
-pub record StoresClass (r i symbol next : ℕ) (code tables k l code' tables' k' : List ℕ) : Type 0 where
-  pub finishes : (t made : List ℕ) → SoundIn t made code tables k l → constants_in k < classes_in k → Finishes (answered r k') 0 t made code' tables' (counts_of k) (limits_in l) next
-      (emit_at (base_in k) (class_object i symbol) (state_of t made code tables (counts_of k)))
-  pub numbers : 10 ≡ length k'
+-- whatever the tree is
+pub record StoresClass {A : Type 0} (r : Option A) (i symbol : ℕ) (a b : Emitter) : Type 0 where
+  pub finishes : (tree : List ℕ) → SoundIn tree a → a.tables.constants < a.tables.classes → Finishes r 0 tree a b (emit_at a.code.base (class_object i symbol) (state_in tree a))
 
-pub record FinishesClass (r at n i next : ℕ) (list tree made code tables k l code' tables' k' : List ℕ) : Type 0 where
-  pub finishes : Finishes (answered r k') n tree made code' tables' (counts_of k) (limits_in l) next
-      (emit_at (base_in k) (end_class (name_at tree at) i (map (method_of tree) (take n list))) (state_of tree made code tables (counts_of k)))
-  pub numbers : 10 ≡ length k'
+pub record FinishesClass {A : Type 0} (r : Option A) (at i : ℕ) (methods : List ℕ) (tree : List ℕ) (a b : Emitter) : Type 0 where
+  pub finishes : Finishes r (length methods) tree a b (emit_at a.code.base (end_class (name_at tree at) i (map (method_of tree) methods)) (state_in tree a))

@@ -7,7 +7,8 @@ use Rattle.definitions.specs.Instruction.{Instr}
 use Rattle.definitions.specs.Tables.{one}
 use Rattle.state.specs.State.{State, emit_at, Within, Left, Emits}
 use Rattle.state.specs.declared.Counts.{Counts}
-use Rattle.state.specs.Answered.{Limits, Emitted, Full}
+use Rattle.state.specs.declared.Limits.{Limits}
+use Rattle.state.specs.Answered.{Emitted, Full}
 use Rattle.state.proofs.Views.{stack-length}
 use Rattle.state.proofs.Emission.{at_one}
 use Rattle.state.proofs.Answers.{emits-full, full-emits, emits-as, emits-after}

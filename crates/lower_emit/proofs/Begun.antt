@@ -12,12 +12,13 @@ use Rattle.state.specs.State.{strings_from, heads_from, codes_from, class_names_
 use Rattle.state.specs.State.{classes_of, State, tables_of, state_of, Every, EndsWithin, MadeWithin, total, Sound, symbol_index_from, symbol_buckets, string_index_from, string_buckets}
 use Rattle.state.specs.Steps.{begun}
 use Rattle.state.specs.declared.Counts.{Counts}
-use Rattle.state.specs.Answered.{Limits, At, Over}
+use Rattle.state.specs.declared.Limits.{Limits}
+use Rattle.state.specs.Answered.{At, Over}
 use Rattle.state.proofs.Index.{symbols-indexed, strings-indexed}
 use Rattle.state.proofs.Regions.{region-length, every-snoc, functions-snoc, total-snoc}
 use Rattle.state.proofs.Views.{function-count}
 use Rattle.state.proofs.Emission.{state-eq}
-use Rattle.lower_emit.specs.Nesting.{begun_with, body_of, Begins}
+use Rattle.lower_emit.specs.Nesting.{one_more, begun_with, body_of, Begins}
 use Rattle.lower_emit.proofs.Setting.{grown-length, grown-below, grown-above, grown-first, grown-second}
 
 -- for any frame of so many slots
@@ -48,21 +49,6 @@ head-function t fin sy ar lo h a b c e =
     let q : h / 2 ^ 8 % 2 ^ 8 ≡ ar = omega arith in
     let r : h % 2 ^ 8 ≡ lo = omega arith in
     λ i. record { symbol = p i; arity = q i; locals = r i; code = [] }
-
--- the counts with one function more, which is the innermost
-abbrev pub one_more : Counts → Counts
-one_more c = record {
-  symbols = c.symbols;
-  strings = c.strings;
-  functions = c.functions + 1;
-  classes = c.classes;
-  methods = c.methods;
-  constants = c.constants;
-  made = c.made;
-  «open» = c.open;
-  base = c.open;
-  done = c.done;
-}
 
 module _ (t made code tables : List ℕ) (sy ar lo h : ℕ) (c : Counts) (l : Limits) (s : Sound t made code tables c l) (more : c.functions < l.functions) where
   abbrev after : List ℕ

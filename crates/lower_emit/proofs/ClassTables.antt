@@ -13,7 +13,8 @@ use Rattle.state.specs.State.{strings_from, heads_from, codes_from, class_names_
 use Rattle.state.specs.State.{method_of, class_of, classes_of, tables_of, state_of, with_tables, Every, EndsWithin, MadeWithin, total, Sound, Numbers, symbol_index_from, symbol_buckets}
 use Rattle.state.specs.State.{string_index_from, string_buckets}
 use Rattle.state.specs.declared.Counts.{Counts}
-use Rattle.state.specs.Answered.{Limits, At, Over}
+use Rattle.state.specs.declared.Limits.{Limits}
+use Rattle.state.specs.Answered.{At, Over}
 use Rattle.state.proofs.Index.{symbols-indexed, strings-indexed}
 use Rattle.state.proofs.Regions.{region-same, region-same-end, region-length, region-take, region-region, set_here, set_below, set-above, set_next, every_map, every_set}
 use Rattle.state.proofs.Regions.{every-snoc, ends-within-more, classes-snoc, classes-same}

@@ -13,11 +13,11 @@ use Rattle.state.specs.State.{functions_of, classes_of, tables_of, state_of, Eve
 use Rattle.state.specs.State.{string_buckets}
 use Rattle.state.specs.Steps.{ended}
 use Rattle.state.specs.declared.Counts.{Counts}
-use Rattle.state.specs.Answered.{Limits}
+use Rattle.state.specs.declared.Limits.{Limits}
 use Rattle.state.proofs.Index.{symbols-indexed, strings-indexed}
 use Rattle.state.proofs.Regions.{region-same, region-length, region-drop, set_here, set_below, set-above, every_map, every_set, ends-within-more, functions-set, functions-same, total-set}
 use Rattle.state.proofs.Emission.{state-eq}
-use Rattle.lower_emit.specs.Nesting.{body_of, Moved}
+use Rattle.lower_emit.specs.Nesting.{without, body_of, Moved}
 use Rattle.lower_emit.proofs.Setting.{map-take, map-drop, drop-take, paste-take, paste-here}
 use Rattle.lower_emit.proofs.Begun.{tables-eq}
 
@@ -28,21 +28,6 @@ body-count t fin hs [] n f e w h g = absurd (omega arith)
 body-count t fin [] (k ∷ ks) n f e w h g = absurd (omega arith)
 body-count t fin (x ∷ hs) (k ∷ ks) n zero e (every p w) h g = length-map (region (place_of k) (count_of k) fin) (instr_of t) ∙ region-length (place_of k) (count_of k) fin (omega arith)
 body-count t fin (x ∷ hs) (k ∷ ks) n (suc f) e (every p w) h g = body-count t fin hs ks n f (omega arith) w h (omega arith)
-
--- the counts without the innermost function, whose words are finished; the one around it begins at b
-abbrev pub without : ℕ → Counts → Counts
-without b c = record {
-  symbols = c.symbols;
-  strings = c.strings;
-  functions = c.functions;
-  classes = c.classes;
-  methods = c.methods;
-  constants = c.constants;
-  made = c.made;
-  «open» = c.base;
-  base = b;
-  done = c.done + (c.open - c.base);
-}
 
 module _ (t made code tables : List ℕ) (f b w : ℕ) (c : Counts) (l : Limits) (s : Sound t made code tables c l) (number : f < c.functions)
     (place : w ≡ c.done * 65536 + (c.open - c.base)) where

@@ -1,86 +1,97 @@
 -- The ends of branches and loops, by the laws of the state.
 use Prim.Native.Nat.{ℕ, ◌+◌, ◌-◌, ◌<◌, ◌≤◌}
-use mathlib.Core.Path.{◌≡◌, refl, sym, ap, subst, ◌∙◌}
+use mathlib.Core.Path.{◌≡◌, refl, sym, ◌∙◌}
 use mathlib.Core.List.{List}
 use native.Mathlib.Omega.{arith}
 use borrow.Rule.Slice.PartMut.{put_mid, mid_of}
-use lib.ListN.{length, get_or, set}
+use lib.ListN.{length, set}
+use Rattle.std.specs.Prelude.{Option, Some, None}
+use Rattle.std.proofs.lemmas.Option.{none-some}
 use Rattle.definitions.specs.Instruction.{Instr, instr, Jump, minus}
 use Rattle.definitions.specs.Tables.{one}
 use Rattle.state.specs.Words.{word}
-use Rattle.state.specs.State.{State, state_of, emit_at, Emits}
+use Rattle.state.specs.State.{emit_at}
 use Rattle.state.specs.Steps.{set_at, patch_at}
-use Rattle.state.specs.Answered.{Emitted, Done, Full}
 use Rattle.state.proofs.Within.{within-set}
 use Rattle.lower_emit.specs.Patch.{patch_words}
+use Rattle.lower_emit.specs.declared.emitter.Code.{Code}
+use Rattle.lower_emit.specs.declared.emitter.Tables.{Tables}
+use Rattle.lower_emit.specs.Emitting.{counts_of, limits_in, state_in, SoundIn, beside, LeftIn, Writes, CodeKept, SetsJump}
+use Rattle.lower_emit.specs.Ends.{EndsBranch, EndsLoop}
 use Rattle.lower_emit.proofs.Patching.{jump-set, loop-patched}
-use Rattle.lower_emit.proofs.Answering.{full_by}
-use Rattle.lower_emit.proofs.SetJumps.{put-sound, put-open, set-emits, patched-emits, loop-within}
-use Rattle.lower_emit.specs.Writes.{Writes}
-use Rattle.lower_emit.specs.Numbers.{counts_of, limits_in, answered}
-use Rattle.lower_emit.proofs.Counts.{answered-full, answered-done}
-use Rattle.lower_emit.specs.Ends.{Reaches, EndsBranch, EndsLoop}
+use Rattle.lower_emit.proofs.SetJumps.{put-open, jump-left, patched-left, loop-within}
+use Rattle.lower_emit.proofs.Steps.{words-left, limits-code}
 
-pub reaches-full : {t k l made' code' tables' k' : List ℕ} {r next : ℕ} {want : State} → r ≡ 0 → 10 ≡ length k' → Emits Full t made' code' tables' (counts_of k) (limits_in l) next want → Reaches r next want t k l made' code' tables' k'
-reaches-full {t} {k} {l} {made'} {code'} {tables'} {k'} {r} {next} {want} z n h = record {
-  emits = subst (λ (x : Emitted). Emits x t made' code' tables' (counts_of k) (limits_in l) next want) (sym (answered-full r k' z)) h;
-  numbers = n;
-}
-
-pub reaches-done : {t k l made' code' tables' k' : List ℕ} {r next : ℕ} {want : State} → (r ≡ 0 → ⊥) → 10 ≡ length k' → Emits (Done r (counts_of k')) t made' code' tables' (counts_of k) (limits_in l) next want → Reaches r next want t k l made' code' tables' k'
-reaches-done {t} {k} {l} {made'} {code'} {tables'} {k'} {r} {next} {want} z n h = record {
-  emits = subst (λ (x : Emitted). Emits x t made' code' tables' (counts_of k) (limits_in l) next want) (sym (answered-done r k' z)) h;
-  numbers = n;
-}
-
-module _ {code k l code₁ k₁ : List ℕ} {p next : ℕ} where
-  module _ (from : ℕ) (h : Writes p (one (Jump 0)) next code k l code₁ k₁) where
-    pub branch-full : p ≡ 0 → EndsBranch 0 from next code k l code₁ k₁
-    branch-full z = record {
-      ends = λ t made tables S.
-          let a = h.lowers t made tables S in
-          reaches-full refl a.numbers (full_by t made code₁ tables (counts_of k) (limits_in l) next _ (answered p k₁) made code₁ tables (counts_of k) next _ (answered-full p k₁ z) a.emits (λ w. within-set _ _ _ w));
+module _ {A : Type 0} {p : Option A} {a b : Code} where
+  module _ (from : ℕ) (h : Writes p (one (Jump 0)) a b) where
+    pub branch-full : {B : Type 0} {q : Option B} → p ≡ None → q ≡ None → EndsBranch q from a b
+    branch-full z n = record {
+      ends = λ t ts S.
+          let k = (h.lowers t ts S).reaches in
+          record { done = λ y q. absurd (none-some y (sym n ∙ q)); full = λ q w. k.full z (within-set _ _ _ w); limits = k.limits };
     }
 
-    pub branch-done : {code₂ : List ℕ} → (p ≡ 0 → ⊥) → 0 < from → from ≤ get_or k 8 0 → code₂ ≡ set code₁ (from - 1) (word 29 (get_or k 8 0 - from + 1) 0) → EndsBranch p from next code k l code₂ k₁
-    branch-done {code₂} n x y e = record {
-      ends = λ t made tables S.
-          let a = h.lowers t made tables S in
-          let d = answered-done p k₁ n in
-          let c = counts_of k in let c₁ = counts_of k₁ in let m = limits_in l in
-          let s₁ = put-sound t made code code₁ tables c c₁ m p next (get_or k 7 0) (Jump 0) S.sound (answered p k₁) d a.emits in
-          let o = put-open t made code code₁ tables c c₁ m p next (get_or k 7 0) (Jump 0) S.sound (answered p k₁) d a.emits in
-          let j = jump-set t made code₁ tables (from - 1) 29 (get_or k 8 0 - from + 1) (word 29 (get_or k 8 0 - from + 1) 0) c₁ m s₁ (omega (arith, o)) (omega arith) (omega arith) (omega (arith, S.sound.words, S.sound.limited.instructions)) refl in
-          subst (λ (z : List ℕ). Reaches p next (set_at (from - 1) (instr 29 (get_or k 8 0 - from + 1) 0) (emit_at (get_or k 7 0) (one (Jump 0)) (state_of t made code tables c))) t k l made z tables k₁) (sym e)
-          (reaches-done n a.numbers (set-emits t made code code₁ tables c c₁ m p next (get_or k 7 0) (Jump 0) S.sound (answered p k₁) d a.emits (from - 1) (instr 29 (get_or k 8 0 - from + 1) 0) _ j));
+    branch-left : {x : A} {c : Code} (t : List ℕ) (ts : Tables) → SoundIn t (beside a ts) → p ≡ Some x → 0 < from → from ≤ a.open → SetsJump (from - 1) 29 (a.open - from + 1) b c
+        → LeftIn t (beside a ts) (beside c ts) (set_at (from - 1) (instr 29 (a.open - from + 1) 0) (emit_at a.base (one (Jump 0)) (state_in t (beside a ts))))
+    branch-left {x} {c} t ts S z l g j =
+        let got = ((h.lowers t ts S).reaches.done x z).left in
+        let d = a.open - from + 1 in
+        let o = put-open t ts.made.now a.words.now b.words.now ts.entries.now (counts_of (beside a ts)) (counts_of (beside b ts)) (limits_in (beside a ts)) a.base (Jump 0) S.sound got in
+        let s = jump-set t ts.made.now b.words.now ts.entries.now (from - 1) 29 d (word 29 d 0) (counts_of (beside b ts)) (limits_in (beside a ts)) got.sound (omega (arith, o)) (omega arith) (omega arith)
+        (omega (arith, S.sound.words, S.sound.limited.instructions)) refl in
+        record {
+          left = words-left ts j.kept j.size j.words
+              (jump-left t ts.made.now a.words.now b.words.now ts.entries.now (counts_of (beside a ts)) (counts_of (beside b ts)) (limits_in (beside a ts)) a.base (Jump 0) S.sound got (from - 1) (instr 29 d 0) _ s);
+        }
+
+    pub branch-done : {B : Type 0} {x : A} {y : B} {c : Code} → p ≡ Some x → 0 < from → from ≤ a.open → SetsJump (from - 1) 29 (a.open - from + 1) b c → EndsBranch (Some y) from a c
+    branch-done {y = y} z l g j = record {
+      ends = λ t ts S. record {
+        done = λ u q. branch-left t ts S z l g j;
+        full = λ q. absurd (none-some y (sym q));
+        limits = limits-code ts j.kept ∙ (h.lowers t ts S).reaches.limits;
+      };
     }
 
-  module _ (start inside : ℕ) (low : start < inside) (high : inside ≤ get_or k 8 0) (h : Writes p (one (Jump (minus (get_or k 8 0 - start + 1)))) next code k l code₁ k₁) where
+  module _ (start inside : ℕ) (low : start < inside) (high : inside ≤ a.open) (h : Writes p (one (Jump (minus (a.open - start + 1)))) a b) where
     abbrev back : Instr
-    back = Jump (minus (get_or k 8 0 - start + 1))
+    back = Jump (minus (a.open - start + 1))
 
-    pub loop-full : p ≡ 0 → EndsLoop 0 start inside next code k l code₁ k₁
-    loop-full z = record {
-      ends = λ t made tables S.
-          let a = h.lowers t made tables S in
-          reaches-full refl a.numbers (full_by t made code₁ tables (counts_of k) (limits_in l) next _ (answered p k₁) made code₁ tables (counts_of k) next _ (answered-full p k₁ z) a.emits
-          (loop-within t made code tables (counts_of k) (limits_in l) (get_or k 7 0) back (inside - start) inside (inside - 1) (instr 29 (get_or k 8 0 - inside + 1) 0) S.sound high));
+    pub loop-full : {B : Type 0} {q : Option B} → p ≡ None → q ≡ None → EndsLoop q start inside a b
+    loop-full z n = record {
+      ends = λ t ts S.
+          let k = (h.lowers t ts S).reaches in
+          record {
+            done = λ y q. absurd (none-some y (sym n ∙ q));
+            full = λ q w. k.full z (loop-within t ts.made.now a.words.now ts.entries.now (counts_of (beside a ts)) (limits_in (beside a ts)) a.base back (inside - start) inside (inside - 1) (instr 29 (a.open - inside + 1) 0) S.sound high w);
+            limits = k.limits;
+          };
     }
 
-    pub loop-done : {code₂ code₃ : List ℕ} → (p ≡ 0 → ⊥)
-        → code₂ ≡ put_mid inside (get_or k 8 0 - inside) code₁ (patch_words (inside - start) (length (mid_of inside (get_or k 8 0 - inside) code₁)) 0 (mid_of inside (get_or k 8 0 - inside) code₁))
-        → code₃ ≡ set code₂ (inside - 1) (word 29 (get_or k 8 0 - inside + 1) 0) → EndsLoop p start inside next code k l code₃ k₁
-    loop-done {code₂} {code₃} n e f = record {
-      ends = λ t made tables S.
-          let a = h.lowers t made tables S in
-          let d = answered-done p k₁ n in
-          let c = counts_of k in let c₁ = counts_of k₁ in let m = limits_in l in
-          let open₀ = get_or k 8 0 in
-          let s₁ = put-sound t made code code₁ tables c c₁ m p next (get_or k 7 0) back S.sound (answered p k₁) d a.emits in
-          let o = put-open t made code code₁ tables c c₁ m p next (get_or k 7 0) back S.sound (answered p k₁) d a.emits in
-          let q = loop-patched t made code₁ tables _ (inside - start) inside (open₀ - inside) open₀ c₁ m s₁ (omega arith) (omega (arith, o)) (omega arith) refl in
-          let j = jump-set t made _ tables (inside - 1) 29 (open₀ - inside + 1) (word 29 (open₀ - inside + 1) 0) c₁ m q.sound (omega (arith, o)) (omega arith) (omega arith) (omega (arith, S.sound.words, S.sound.limited.instructions)) refl in
-          subst (λ (z : List ℕ). Reaches p next (set_at (inside - 1) (instr 29 (open₀ - inside + 1) 0) (patch_at (inside - start) inside (open₀ - inside) (emit_at (get_or k 7 0) (one back) (state_of t made code tables c)))) t k l made z tables k₁)
-          (sym (f ∙ ap (λ (z : List ℕ). set z (inside - 1) (word 29 (open₀ - inside + 1) 0)) e))
-          (reaches-done n a.numbers (patched-emits t made code code₁ tables c c₁ m p next (get_or k 7 0) back S.sound (answered p k₁) d a.emits (inside - start) inside (open₀ - inside) (inside - 1) (instr 29 (open₀ - inside + 1) 0) _ _ q j));
+    -- the words with the inside's jumps made
+    abbrev pub patched : List ℕ
+    patched = put_mid inside (a.open - inside) b.words.now (patch_words (inside - start) (length (mid_of inside (a.open - inside) b.words.now)) 0 (mid_of inside (a.open - inside) b.words.now))
+
+    loop-left : {x : A} {c : Code} (t : List ℕ) (ts : Tables) → SoundIn t (beside a ts) → p ≡ Some x → CodeKept b c → c.open ≡ b.open → c.words.now ≡ set patched (inside - 1) (word 29 (a.open - inside + 1) 0)
+        → LeftIn t (beside a ts) (beside c ts) (set_at (inside - 1) (instr 29 (a.open - inside + 1) 0) (patch_at (inside - start) inside (a.open - inside) (emit_at a.base (one back) (state_in t (beside a ts)))))
+    loop-left {x} {c} t ts S z k e w =
+        let got = ((h.lowers t ts S).reaches.done x z).left in
+        let d = a.open - inside + 1 in
+        let m = limits_in (beside a ts) in
+        let c₁ = counts_of (beside b ts) in
+        let o = put-open t ts.made.now a.words.now b.words.now ts.entries.now (counts_of (beside a ts)) c₁ m a.base back S.sound got in
+        let q = loop-patched t ts.made.now b.words.now ts.entries.now _ (inside - start) inside (a.open - inside) a.open c₁ m got.sound (omega arith) (omega (arith, o)) (omega arith) refl in
+        let s = jump-set t ts.made.now _ ts.entries.now (inside - 1) 29 d (word 29 d 0) c₁ m q.sound (omega (arith, o)) (omega arith) (omega arith) (omega (arith, S.sound.words, S.sound.limited.instructions)) refl in
+        record {
+          left = words-left ts k e w
+              (patched-left t ts.made.now a.words.now b.words.now ts.entries.now (counts_of (beside a ts)) c₁ m a.base back S.sound got (inside - start) inside (a.open - inside) (inside - 1) (instr 29 d 0) _ _ q s);
+        }
+
+    pub loop-done : {B : Type 0} {x : A} {y : B} {c : Code} → p ≡ Some x → CodeKept b c → c.open ≡ b.open → c.words.now ≡ set patched (inside - 1) (word 29 (a.open - inside + 1) 0) → EndsLoop (Some y) start inside a c
+    loop-done {y = y} z k e w = record {
+      ends = λ t ts S. record {
+        done = λ u q. loop-left t ts S z k e w;
+        full = λ q. absurd (none-some y (sym q));
+        limits = limits-code ts k ∙ (h.lowers t ts S).reaches.limits;
+      };
     }

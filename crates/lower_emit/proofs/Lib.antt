@@ -5,7 +5,6 @@ pub mod Setting
 pub mod Begun
 pub mod Ended
 pub mod ClassTables
-pub mod Counts
 pub mod Steps
 pub mod Functions
 pub mod ShortcutWords
@@ -15,3 +14,4 @@ pub mod Answering
 pub mod SetJumps
 pub mod Writing
 pub mod Ends
+pub mod Parts

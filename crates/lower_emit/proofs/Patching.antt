@@ -9,13 +9,13 @@ use borrow.Rule.Slice.PartMut.{put_mid, mid_of, post_of, mid_len, same_len_mid, 
 use lib.Dec.{eqb}
 use lib.ListN.{length, take, drop, set, get_or, length-set, length-append}
 use lib.Seq.{take-set-lt, drop-set-lt, take-take, take-append-add, length-take-le}
-use borrow.Author.Tests.{eqb-true, eq-eqb, ne_eqb}
+use borrow.Author.Tests.{eqb-true, ne_eqb}
 use Rattle.definitions.specs.Instruction.{Instr, instr}
 use Rattle.definitions.specs.Lower.{patched, patch}
 use Rattle.state.specs.Words.{word, op_of, instr_of, instrs_of, small_int}
 use Rattle.state.specs.State.{state_of, done_from, Sound, Left}
 use Rattle.state.specs.declared.Counts.{Counts}
-use Rattle.state.specs.Answered.{Limits}
+use Rattle.state.specs.declared.Limits.{Limits}
 use Rattle.state.specs.Steps.{set_at, patch_at}
 use Rattle.lower_emit.specs.Patch.{patch_word, patch_words}
 use Rattle.lower_emit.proofs.Packing.{instr-jump, instr-back}
@@ -89,19 +89,6 @@ unfolding patch_words
 patched-at h n i j [] l = absurd (omega arith)
 patched-at h n i zero (w ∷ ws) l = ap (λ (k : ℕ). patch_word h n k w) (sym (add-zero i))
 patched-at h n i (suc j) (w ∷ ws) l = patched-at h n (suc i) j ws (omega arith) ∙ ap (λ (k : ℕ). patch_word h n k (get_or ws j 0)) (omega arith)
-
--- the three ways of a word
-pub patch-break : (h n i w v : ℕ) → op_of w ≡ 46 → v ≡ word 28 (n - i) 0 → v ≡ patch_word h n i w
-unfolding patch_word
-patch-break h n i w v e f = rw (eq-eqb (op_of w) 46 e, patch_word) f
-
-pub patch-continue : (h n i w v : ℕ) → (op_of w ≡ 46 → ⊥) → op_of w ≡ 47 → v ≡ word 28 (65535 - (h + i)) 0 → v ≡ patch_word h n i w
-unfolding patch_word
-patch-continue h n i w v a b f = rw (ne_eqb (op_of w) 46 a, patch_word, eq-eqb (op_of w) 47 b) (f ∙ ap (λ (k : ℕ). word 28 k 0) (omega arith))
-
-pub patch-other : (h n i w : ℕ) → (op_of w ≡ 46 → ⊥) → (op_of w ≡ 47 → ⊥) → w ≡ patch_word h n i w
-unfolding patch_word
-patch-other h n i w a b = rw (ne_eqb (op_of w) 46 a, patch_word, ne_eqb (op_of w) 47 b)
 
 -- one word more of an inside ys that is patched in place
 pub patch-step : (h i v : ℕ) (xs ys : List ℕ) → i < length xs → ys ≡ mixed i (patch_words h (length xs) 0 xs) xs → v ≡ patch_word h (length xs) i (get_or ys i 0) →

@@ -11,7 +11,8 @@ use Rattle.definitions.specs.Tables.{emits, one}
 use Rattle.state.specs.Words.{instr_of, instrs_of}
 use Rattle.state.specs.State.{State, state_of, tables_of, emit_at, done_from, Sound, Emits}
 use Rattle.state.specs.declared.Counts.{Counts}
-use Rattle.state.specs.Answered.{Limits, Emitted, Done, Full}
+use Rattle.state.specs.declared.Limits.{Limits}
+use Rattle.state.specs.Answered.{Emitted, Done, Full}
 use Rattle.definitions.specs.Instruction.{Instr}
 use Rattle.lower_emit.specs.Nesting.{with_open}
 use Rattle.state.proofs.Views.{stack-length, instruction-count}

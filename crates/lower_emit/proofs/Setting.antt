@@ -4,8 +4,8 @@ use mathlib.Core.Path.{◌≡◌, refl, sym, ap, ◌∙◌}
 use mathlib.Core.List.{List, [], ◌∷◌, ◌++◌, map, append-nil, append_assoc}
 use native.Mathlib.Omega.{arith}
 use native.Mathlib.Numerals.{add-one}
-use lib.ListN.{length, take, drop, set, get_or, length-drop, length-set, drop_of_length-le, get_or-append}
-use lib.Seq.{paste, paste-suc, get_or-take, get_or-drop, take-take, take_all, take_at, drop_at, take-add, drop-nil, drop-drop, length-take-le}
+use lib.ListN.{length, take, drop, set, get_or, length-set, drop_of_length-le}
+use lib.Seq.{paste, paste-suc, take-take, take_all, take_at, drop_at, take-add, drop-nil, drop-drop, length-take-le}
 use Rattle.state.specs.Words.{region}
 use Rattle.state.proofs.Regions.{set_below, set-above, set_next}
 
@@ -65,20 +65,6 @@ drop-take a b xs h k =
 -- one word more of a list is copied
 pub paste-step : (d s xs : List ℕ) (at i v : ℕ) → at + i < length d → i < length s → xs ≡ paste d at s i → v ≡ get_or s i 0 → set xs (at + i) v ≡ paste d at s (i + 1)
 paste-step d s xs at i v h k e f = rw (e, f, add-one) (paste-suc d at s i 0 h k)
-
--- what is before the copy is as it was
-pub paste-before : (d s : List ℕ) (at n i : ℕ) → at ≤ length d → i < at → get_or (paste d at s n) i 0 ≡ get_or d i 0
-paste-before d s at n i h k =
-    let m = length-take-le at d h in
-    ap (λ (z : List ℕ). get_or z i 0) (append_assoc (take at d) (take n s) (drop (at + n) d))
-    ∙ get_or-append (take at d) (take n s ++ drop (at + n) d) 0 i (omega arith) ∙ get_or-take at d i 0 k
-
--- one word more of the list itself, from an earlier place
-pub move_step : (d xs : List ℕ) (from to n i : ℕ) → from + n ≤ to → to + n ≤ length d → i < n → xs ≡ paste d to (drop from d) i →
-    set xs (to + i) (get_or xs (from + i) 0) ≡ paste d to (drop from d) (i + 1)
-move_step d xs from to n i h k l e =
-    paste-step d (drop from d) xs to i _ (omega arith) (simp length-drop (omega arith)) e
-    (ap (λ (z : List ℕ). get_or z (from + i) 0) e ∙ paste-before d (drop from d) to i (from + i) (omega arith) (omega arith) ∙ sym (get_or-drop from d i 0))
 
 -- an area after a copy: before it, and at it
 module _ (d s : List ℕ) (at n : ℕ) (room : at + n ≤ length d) (enough : n ≤ length s) where

@@ -11,7 +11,8 @@ use Rattle.definitions.specs.Lower.{jump_on, shortcut}
 use Rattle.state.specs.State.{State, state_of, emit_at, Sound, Left, Emits}
 use Rattle.state.specs.Steps.{set_at}
 use Rattle.state.specs.declared.Counts.{Counts}
-use Rattle.state.specs.Answered.{Limits, Emitted, Done, Full}
+use Rattle.state.specs.declared.Limits.{Limits}
+use Rattle.state.specs.Answered.{Emitted, Done, Full}
 use Rattle.state.proofs.Views.{stack-length}
 use Rattle.state.proofs.Answers.{emits-full, full-emits, done-emits, emits-as, emits-after, left-after, left_as, base-below}
 use Rattle.state.proofs.Emission.{at_one, stack-grows}

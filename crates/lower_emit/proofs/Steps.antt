@@ -1,194 +1,237 @@
--- Steps, by the laws of `Emits`: a word, the end of a shortcut, and one part after another.
-use Prim.Native.Nat.{ℕ, zero, suc, ◌+◌, ◌-◌, ◌<◌, ◌≤◌}
+-- Steps of an emitter, by the laws of the state: a word, the end of a shortcut, and one part after another.
+use Prim.Native.Nat.{ℕ, ◌+◌, ◌-◌, ◌<◌, ◌≤◌}
 use mathlib.Core.Path.{◌≡◌, refl, sym, ap, subst, ◌∙◌}
 use mathlib.Core.List.{List, [], ◌∷◌, ◌++◌}
 use native.Mathlib.Omega.{arith}
-use lib.ListN.{length, get_or, set, length-append, length-set}
-use lib.Seq.{get_or-set_same, get_or-set_other}
+use lib.ListN.{set, length-append}
+use Rattle.std.specs.Prelude.{Option, Some, None}
+use Rattle.std.proofs.lemmas.Option.{none-some}
 use Rattle.definitions.specs.Instruction.{Instr, instr}
 use Rattle.definitions.specs.Tables.{Emit, emits, one, ◌⨟◌}
 use Rattle.state.specs.Words.{instr_of, word}
-use Rattle.state.specs.State.{State, state_of, emit_at, Sound, Left, Emits, Within}
+use Rattle.state.specs.State.{State, emit_at, state_of, Within, Sound, Left, Emits}
 use Rattle.state.specs.declared.Counts.{Counts}
-use Rattle.state.specs.Answered.{Limits, Emitted, Done, Full}
-use Rattle.state.proofs.Answers.{emits-done, full-emits, ready-again}
+use Rattle.state.specs.declared.Limits.{Limits}
+use Rattle.state.specs.Answered.{Emitted, Done, Full}
+use Rattle.state.proofs.Answers.{emits-done, emits-full, full-emits, done-emits, left-after, left-none, left_as, base-below}
 use Rattle.state.proofs.Views.{stack-length, instruction-count}
-use Rattle.state.proofs.Emission.{at_one}
+use Rattle.state.proofs.Emission.{at_one, at-seq, at-nothing}
 use Rattle.state.proofs.Growth.{Lengthens}
-use Rattle.state.proofs.Within.{within-set}
+use Rattle.state.proofs.Within.{within-set, within_first}
 use Rattle.lower_emit.specs.Nesting.{with_open}
+use Rattle.lower_emit.specs.declared.emitter.Code.{Code}
+use Rattle.lower_emit.specs.declared.emitter.Tables.{Tables}
+use Rattle.lower_emit.specs.declared.emitter.Emitter.{Emitter}
+use Rattle.lower_emit.specs.Emitting.{counts_of, limits_in, state_in, SoundIn, ReadyIn, beside, LeftIn, Reaches, LowersIn, CodeKept, Puts, ShortcutEnd, Writes}
 use Rattle.lower_emit.proofs.Packing.{instr-jump, instr-plain, plain-below}
 use Rattle.lower_emit.proofs.Putting.{put-more, put_full, emits-instr}
 use Rattle.lower_emit.proofs.Patching.{jump-set}
-use Rattle.lower_emit.specs.Step.{Lowers}
-use Rattle.lower_emit.proofs.Sequence.{then-lowers, full-lowers, nothing-lowers}
 use Rattle.lower_emit.proofs.Shortcuts.{end_at, end-done}
-use Rattle.lower_emit.specs.Numbers.{counts_of, limits_in, answered, Room, Put, ShortcutEnd, SoundIn, ReadyIn, LowersIn}
-use Rattle.lower_emit.proofs.Counts.{answered-full, answered-done, counts-open}
 
-pub sound-of : {tree slots made code tables k l : List ℕ} → ReadyIn tree slots made code tables k l → SoundIn tree made code tables k l
-sound-of R = record { numbers = R.numbers; sound = R.ready.sound }
+pub some-is : {m n : ℕ} → Some m ≡ Some n → m ≡ n
+some-is {m} e = ap (λ (o : Option ℕ). elim o [ Some k ↦ k | None ↦ m ]) e
 
-pub room-sound : {tree made code tables k l : List ℕ} → SoundIn tree made code tables k l → Room code k l
-room-sound S = let s = S.sound in record { code-room = s.code-room; numbers = S.numbers; limit = s.limited.instructions; words = s.words }
+-- ---- an answer of an emitter as one of the state's laws
 
-pub room_of : {tree slots made code tables k l : List ℕ} → ReadyIn tree slots made code tables k l → Room code k l
-room_of R = room-sound (sound-of R)
+unfoldable pub answered : {A : Type 0} → Option A → ℕ → Counts → Emitted
+answered None q k = Full
+answered (Some x) q k = Done q k
+
+module _ {A : Type 0} {tree : List ℕ} {a b : Emitter} {want : State} where
+  pub emits-in : {r : Option A} → Reaches r tree a b want → (q : ℕ) → Emits (answered r q (counts_of b)) tree b.tables.made.now b.code.words.now b.tables.entries.now (counts_of a) (limits_in a) q want
+  unfolding answered
+  emits-in {r = None} h q = full-emits _ _ _ _ _ _ q want (h.full refl)
+  emits-in {r = Some x} h q = done-emits _ _ _ _ _ _ q want q _ refl (h.done x refl).left
+
+  pub reaches-in : (r : Option A) (q : ℕ) → limits_in b ≡ limits_in a → Emits (answered r q (counts_of b)) tree b.tables.made.now b.code.words.now b.tables.entries.now (counts_of a) (limits_in a) q want → Reaches r tree a b want
+  unfolding answered
+  reaches-in None q m h = record { done = λ x e. absurd (none-some x e); full = λ e. emits-full _ _ _ _ _ _ q want _ refl h; limits = m }
+  reaches-in (Some x) q m h = record { done = λ y e. record { left = (emits-done _ _ _ _ _ _ q want _ q _ refl h).1 }; full = λ e. absurd (none-some x (sym e)); limits = m }
+
+-- ---- the wanted state by other words
+
+pub reaches_as : {A : Type 0} {r : Option A} {tree : List ℕ} {a b : Emitter} {w w' : State} → w ≡ w' → Reaches r tree a b w → Reaches r tree a b w'
+reaches_as {A} {r} {tree} {a} {b} e h = subst (λ (w : State). Reaches r tree a b w) e h
+
+-- ---- the code alone: counts and limits after it
+
+-- the counts with other open words
+counts-code : (ts : Tables) {a b : Code} {n : ℕ} → CodeKept a b → b.open ≡ n → with_open n (counts_of (beside a ts)) ≡ counts_of (beside b ts)
+counts-code ts {a} {b} k e = λ i. record {
+  symbols = ts.symbols;
+  strings = ts.strings;
+  functions = ts.functions;
+  classes = ts.classes;
+  methods = ts.methods;
+  constants = ts.constants;
+  made = ts.made_len;
+  base = sym k.base i;
+  «open» = sym e i;
+  done = sym k.done i;
+}
+
+pub limits-code : (ts : Tables) {a b : Code} → CodeKept a b → limits_in (beside b ts) ≡ limits_in (beside a ts)
+limits-code ts {a} {b} k = λ i. record {
+  functions = ts.limits.functions;
+  symbols = ts.limits.symbols;
+  strings = ts.limits.strings;
+  classes = ts.limits.classes;
+  instructions = k.limit i;
+}
+
+-- words and open words of the code, as a law of the state leaves them
+pub words-left : (ts : Tables) {a b : Code} {tree : List ℕ} {c : Counts} {l : Limits} {want : State} {words : List ℕ} {n : ℕ} → CodeKept a b → b.open ≡ n → b.words.now ≡ words
+    → Left (with_open n (counts_of (beside a ts))) tree ts.made.now words ts.entries.now c l want → Left (counts_of (beside b ts)) tree ts.made.now b.words.now ts.entries.now c l want
+words-left ts {a} {b} {tree} {c} {l} {want} k e w h = subst (λ (z : Type 0). z) (λ i. Left (counts-code ts k e i) tree ts.made.now (sym w i) ts.entries.now c l want) h
+
+left-code : {a b : Code} {ts : Tables} {tree : List ℕ} {want : State} {words : List ℕ} {n : ℕ} → CodeKept a b → b.open ≡ n → b.words.now ≡ words
+    → Left (with_open n (counts_of (beside a ts))) tree ts.made.now words ts.entries.now (counts_of (beside a ts)) (limits_in (beside a ts)) want → LeftIn tree (beside a ts) (beside b ts) want
+left-code {ts = ts} k e w h = record { left = words-left ts k e w h }
 
 -- ---- a word
-
-pub put-none : {code k l : List ℕ} {w next : ℕ} → Room code k l → get_or l 4 0 ≤ get_or k 8 0 + get_or k 9 0 → Put 0 code code k k l w next
-put-none R h = record { full = λ e n. h; more = λ n. absurd (n refl); numbers = R.numbers }
-
-pub put_as : {code code' k k' l : List ℕ} {r w w' next : ℕ} → w ≡ w' → Put r code code' k k' l w next → Put r code code' k k' l w' next
-put_as {code} {code'} {k} {k'} {l} {r} {w} {w'} {next} e h = subst (λ (x : ℕ). Put r code code' k k' l x next) e h
 
 pub put-left : (tree made code tables : List ℕ) (w : ℕ) (i : Instr) (c : Counts) (l : Limits) → Sound tree made code tables c l → instr_of tree w ≡ i → c.open + c.done < l.instructions
     → Left (with_open (c.open + 1) c) tree made (set code c.open w) tables c l (emit_at c.base (one i) (state_of tree made code tables c))
 put-left tree made code tables w i c l s e h = (emits-done tree made _ tables c l 0 _ _ 0 _ refl (emits-instr _ tree made _ tables c l 0 _ w i e (put-more tree made code tables w c l s 0 h))).1
 
--- the law that lifts a word to the state
-pub put-lifts : {tree made code tables k l code' k' : List ℕ} {w next : ℕ} {i : Instr} (r : ℕ) → SoundIn tree made code tables k l → 0 < next → instr_of tree w ≡ i
-    → Put r code code' k k' l w next → LowersIn r (one i) next tree made code tables k l made code' tables k'
-put-lifts {tree} {made} {code} {tables} {k} {l} {code'} {k'} {w} {next} {i} zero S n e h = record {
-  emits = emits-instr _ tree made code' tables (counts_of k) (limits_in l) next _ w i e
-      (subst (λ (x : Emitted). Emits x tree made code' tables (counts_of k) (limits_in l) next (emit_at (get_or k 7 0) (one (instr_of tree w)) (state_of tree made code tables (counts_of k)))) (sym (answered-full 0 k' refl))
-      (put_full tree made code tables w (counts_of k) (limits_in l) S.sound code' next (h.full refl n)));
-  numbers = h.numbers;
-}
-put-lifts {tree} {made} {code} {tables} {k} {l} {code'} {k'} {w} {next} {i} (suc r) S n e h =
-    let nz : suc r ≡ 0 → ⊥ = λ z. omega arith in
-    let p = h.more nz in
-    let a : answered (suc r) k' ≡ Done next (with_open (get_or k 8 0 + 1) (counts_of k)) =
-    answered-done (suc r) k' nz ∙ (λ j. Done (p.0 j) (counts_of (p.3 j))) ∙ ap (Done next) (counts-open k (get_or k 8 0 + 1) S.numbers) in
-    record {
-      emits = emits-instr _ tree made code' tables (counts_of k) (limits_in l) next _ w i e
-          (subst (λ (z : Type 0). z) (λ j. Emits (sym a j) tree made (sym p.2 j) tables (counts_of k) (limits_in l) next (emit_at (get_or k 7 0) (one (instr_of tree w)) (state_of tree made code tables (counts_of k))))
-          (put-more tree made code tables w (counts_of k) (limits_in l) S.sound next p.1));
-      numbers = h.numbers;
-    }
+put-over : (tree made code tables : List ℕ) (w : ℕ) (i : Instr) (c : Counts) (l : Limits) → Sound tree made code tables c l → instr_of tree w ≡ i → l.instructions ≤ c.open + c.done
+    → Within l (emit_at c.base (one i) (state_of tree made code tables c)) → ⊥
+put-over tree made code tables w i c l s e h = emits-full tree made code tables c l 0 _ _ refl (emits-instr _ tree made code tables c l 0 _ w i e (put_full tree made code tables w c l s code 0 h))
 
--- the room after a word
-pub room-put : {code code' k k' l : List ℕ} {r w next : ℕ} → Room code k l → (r ≡ 0 → ⊥) → Put r code code' k k' l w next → Room code' k' l
-room-put {code} {code'} {k} {k'} {l} {r} {w} R n p =
-    let m = p.more n in
-    let a = get_or-set_same k 8 (get_or k 8 0 + 1) 0 (omega (arith, R.numbers)) in
-    let b = get_or-set_other k 8 9 (get_or k 8 0 + 1) 0 (λ e. omega arith) in
-    let c = ap (λ (z : List ℕ). get_or z 8 0) m.3 in
-    let d = ap (λ (z : List ℕ). get_or z 9 0) m.3 in
-    record { code-room = omega (arith, R.code-room, ap length m.2, length-set code (get_or k 8 0) w); numbers = p.numbers; limit = R.limit; words = omega (arith, m.1) }
+-- the law that lifts a word to the state
+put-beside : {A : Type 0} (r : Option A) {tree : List ℕ} {w : ℕ} {i : Instr} {a b : Code} {ts : Tables} → SoundIn tree (beside a ts) → instr_of tree w ≡ i → Puts r w a b → LowersIn r (one i) tree (beside a ts) (beside b ts)
+put-beside r {tree} {w} {i} {a} {b} {ts} S e h = record {
+  reaches = record {
+    done = λ x z. left-code h.kept (h.size x z) (h.words x z) (put-left tree ts.made.now a.words.now ts.entries.now w i (counts_of (beside a ts)) (limits_in (beside a ts)) S.sound e (h.room x z));
+    full = λ z. put-over tree ts.made.now a.words.now ts.entries.now w i (counts_of (beside a ts)) (limits_in (beside a ts)) S.sound e (h.full z);
+    limits = limits-code ts h.kept;
+  };
+}
+
+-- what holds of the code after a step beside the tables before it, where the tables are the same
+by-tables : (P : Emitter → Type 0) (a b : Emitter) → b.tables ≡ a.tables → P (beside b.code a.tables) → P b
+by-tables P a b e h = subst (λ (ts : Tables). P (beside b.code ts)) (sym e) h
+
+module _ {tree : List ℕ} {a b : Emitter} (S : SoundIn tree a) (same : b.tables ≡ a.tables) where
+  pub put-lifts : {A : Type 0} {r : Option A} {w : ℕ} {i : Instr} → instr_of tree w ≡ i → Puts r w a.code b.code → LowersIn r (one i) tree a b
+  put-lifts {A} {r} {w} {i} e h = by-tables (λ (z : Emitter). LowersIn r (one i) tree a z) a b same (put-beside r S e h)
+
+  pub writes-in : {A : Type 0} {r : Option A} {x : Emit} → Writes r x a.code b.code → LowersIn r x tree a b
+  writes-in {A} {r} {x} h = by-tables (λ (z : Emitter). LowersIn r x tree a z) a b same (h.lowers tree a.tables S)
 
 -- ---- the end of `and` and `or`
 
-pub shortcut-none : {code k l : List ℕ} {op from next : ℕ} → Room code k l → get_or l 4 0 ≤ get_or k 8 0 + 1 + get_or k 9 0 → ShortcutEnd 0 code code k k l op from next
-shortcut-none R h = record { full = λ e n. h; more = λ n. absurd (n refl); numbers = R.numbers }
-
-pub shortcut-more : {code k l : List ℕ} {op from next a b j : ℕ} → Room code k l → get_or k 8 0 + 1 + get_or k 9 0 < get_or l 4 0 → a ≡ word 28 1 0 → b ≡ word (33 - op) 0 0 → j ≡ word op (get_or k 8 0 - from) 0
-    → ShortcutEnd next code (set (set (set code (get_or k 8 0) a) (get_or k 8 0 + 1) b) from j) k (set k 8 (get_or k 8 0 + 1 + 1)) l op from next
-shortcut-more {code} {k} {l} {op} {from} R h x y z = record {
-  full = λ e n. absurd (omega arith);
-  more = λ n. (refl, h, (λ i. set (set (set code (get_or k 8 0) (x i)) (get_or k 8 0 + 1) (y i)) from (z i)), refl);
-  numbers = R.numbers ∙ sym (length-set k 8 (get_or k 8 0 + 1 + 1));
-}
-
-pub record EndsShortcut (r : ℕ) (op from next : ℕ) (t made code tables k l code' k' : List ℕ) : Type 0 where
-  pub emits : Emits (answered r k') t made code' tables (counts_of k) (limits_in l) next (end_at (get_or k 7 0) from op (get_or k 8 0 - from) (state_of t made code tables (counts_of k)))
-  pub numbers : 10 ≡ length k'
-
-module _ (t made code tables k l : List ℕ) (op from next : ℕ) (S : SoundIn t made code tables k l) (n : 0 < next) (before : from < get_or k 8 0) (lo : 29 ≤ op) (hi : op ≤ 30) where
+module _ {tree : List ℕ} (a : Code) (ts : Tables) (op from : ℕ) (S : SoundIn tree (beside a ts)) (before : from < a.open) (lo : 29 ≤ op) (hi : op ≤ 30) where
   abbrev c : Counts
-  c = counts_of k
+  c = counts_of (beside a ts)
+
+  abbrev l : Limits
+  l = limits_in (beside a ts)
 
   abbrev s : State
-  s = state_of t made code tables c
+  s = state_in tree (beside a ts)
 
-  too_long : get_or l 4 0 ≤ get_or k 8 0 + 1 + get_or k 9 0 → Within (limits_in l) (end_at (get_or k 7 0) from op (get_or k 8 0 - from) s) → ⊥
+  too_long : a.limit ≤ a.open + 1 + a.done → Within l (end_at a.base from op (a.open - from) s) → ⊥
   too_long h w =
       let i : Instr = instr 28 1 0 in
       let j : Instr = instr (33 - op) 0 0 in
-      let two = subst (Within (limits_in l)) (at_one (get_or k 7 0) j _ ∙ ap (λ (u : State). record { stack = u.stack ++ j ∷ []; tables = u.tables }) (at_one (get_or k 7 0) i s)) (within-set from (instr op (get_or k 8 0 - from) 0) _ w) in
-      let a = stack-length t made code tables c (limits_in l) S.sound in
-      let b = instruction-count t made code tables c (limits_in l) S.sound in
+      let two = subst (Within l) (at_one a.base j _ ∙ ap (λ (u : State). record { stack = u.stack ++ j ∷ []; tables = u.tables }) (at_one a.base i s)) (within-set from (instr op (a.open - from) 0) _ w) in
+      let n = stack-length tree ts.made.now a.words.now ts.entries.now c l S.sound in
+      let m = instruction-count tree ts.made.now a.words.now ts.entries.now c l S.sound in
       omega (arith, two.instructions, length-append (s.stack ++ i ∷ []) (j ∷ []), length-append s.stack (i ∷ []))
 
-  pub shortcut-lifts : {code' k' : List ℕ} (r : ℕ) → ShortcutEnd r code code' k k' l op from next → EndsShortcut r op from next t made code tables k l code' k'
-  shortcut-lifts {code'} {k'} zero h = record {
-    emits = subst (λ (x : Emitted). Emits x t made code' tables c (limits_in l) next (end_at (get_or k 7 0) from op (get_or k 8 0 - from) s)) (sym (answered-full 0 k' refl))
-        (full-emits t made code' tables c (limits_in l) next _ (too_long (h.full refl n)));
-    numbers = h.numbers;
+  shortcut-left : a.open + 1 + a.done < a.limit
+      → Left (with_open (a.open + 1 + 1) c) tree ts.made.now (set (set (set a.words.now a.open (word 28 1 0)) (a.open + 1) (word (33 - op) 0 0)) from (word op (a.open - from) 0)) ts.entries.now c l (end_at a.base from op (a.open - from) s)
+  shortcut-left room =
+      let t = ts.made.now in
+      let f = put-left tree t a.words.now ts.entries.now (word 28 1 0) (instr 28 1 0) c l S.sound (instr-jump tree 28 1 (omega arith) (omega arith) (omega arith)) (omega (arith, room)) in
+      let g = put-left tree t _ ts.entries.now (word (33 - op) 0 0) (instr (33 - op) 0 0) _ l f.sound (instr-plain tree (33 - op) 0 0 (plain-below (33 - op) 0 0 (omega arith) (omega arith) (omega arith) (omega arith))) (omega (arith, room)) in
+      let j = jump-set tree t _ ts.entries.now from op (a.open - from) (word op (a.open - from) 0) _ l g.sound (omega arith) (omega arith) hi (omega (arith, S.sound.words, S.sound.limited.instructions)) refl in
+      (emits-done tree t _ ts.entries.now c l 0 _ _ 0 _ refl (end-done tree t a.words.now ts.entries.now c l from op 0 _ _ f 0 (a.open - from) _ _ _ g j refl)).1
+
+  pub shortcut-beside : {A : Type 0} {b : Code} (r : Option A) → ShortcutEnd r op from a b → Reaches r tree (beside a ts) (beside b ts) (end_at a.base from op (a.open - from) s)
+  shortcut-beside r h = record {
+    done = λ x z. left-code h.kept (h.size x z ∙ omega arith) (h.words x z) (shortcut-left (h.room x z));
+    full = λ z. too_long (h.full z);
+    limits = limits-code ts h.kept;
   }
-  shortcut-lifts {code'} {k'} (suc r) h =
-      let nz : suc r ≡ 0 → ⊥ = λ z. omega arith in
-      let p = h.more nz in
-      let o = get_or k 8 0 in
-      let a : answered (suc r) k' ≡ Done next (with_open (o + 1 + 1) c) = answered-done (suc r) k' nz ∙ (λ j. Done (p.0 j) (counts_of (p.3 j))) ∙ ap (Done next) (counts-open k (o + 1 + 1) S.numbers) in
-      let f = put-left t made code tables (word 28 1 0) (instr 28 1 0) c (limits_in l) S.sound (instr-jump t 28 1 (omega arith) (omega arith) (omega arith)) (omega (arith, p.1)) in
-      let g = put-left t made _ tables (word (33 - op) 0 0) (instr (33 - op) 0 0) _ (limits_in l) f.sound (instr-plain t (33 - op) 0 0 (plain-below (33 - op) 0 0 (omega arith) (omega arith) (omega arith) (omega arith))) (omega (arith, p.1)) in
-      let j = jump-set t made _ tables from op (o - from) (word op (o - from) 0) _ (limits_in l) g.sound (omega arith) (omega arith) hi (omega (arith, S.sound.words, S.sound.limited.instructions)) refl in
-      record {
-        emits = subst (λ (z : Type 0). z) (λ i. Emits (sym a i) t made (sym p.2 i) tables c (limits_in l) next (end_at (get_or k 7 0) from op (o - from) s))
-            (end-done t made code tables c (limits_in l) from op next _ _ f next (o - from) _ _ _ g j refl);
-        numbers = h.numbers;
-      }
+
+pub shortcut-lifts : {A : Type 0} {r : Option A} {tree : List ℕ} {a b : Emitter} (op from : ℕ) → SoundIn tree a → b.tables ≡ a.tables → from < a.code.open → 29 ≤ op → op ≤ 30
+    → ShortcutEnd r op from a.code b.code → Reaches r tree a b (end_at a.code.base from op (a.code.open - from) (state_in tree a))
+shortcut-lifts {A} {r} {tree} {a} {b} op from S same before lo hi h =
+    by-tables (λ (z : Emitter). Reaches r tree a z (end_at a.code.base from op (a.code.open - from) (state_in tree a))) a b same (shortcut-beside a.code a.tables op from S before lo hi r h)
 
 -- ---- one part after another
 
-module _ {tree made code tables k l made₁ code₁ tables₁ k₁ : List ℕ} {r next : ℕ} {e : Emit} where
-  -- what a part that is not 0 leaves
-  pub done-of : (r ≡ 0 → ⊥) → LowersIn r e next tree made code tables k l made₁ code₁ tables₁ k₁
-      → (r ≡ next) × Left (counts_of k₁) tree made₁ code₁ tables₁ (counts_of k) (limits_in l) (emit_at (get_or k 7 0) e (state_of tree made code tables (counts_of k)))
-  done-of n h = emits-done _ _ _ _ _ _ _ _ _ _ _ (answered-done r k₁ n) h.emits
-
-  pub sound-next : (r ≡ 0 → ⊥) → LowersIn r e next tree made code tables k l made₁ code₁ tables₁ k₁ → SoundIn tree made₁ code₁ tables₁ k₁ l
-  sound-next n h = record { numbers = h.numbers; sound = (done-of n h).1.sound }
-
-  pub ready-next : {slots : List ℕ} → (r ≡ 0 → ⊥) → ReadyIn tree slots made code tables k l → LowersIn r e next tree made code tables k l made₁ code₁ tables₁ k₁ → ReadyIn tree slots made₁ code₁ tables₁ k₁ l
-  ready-next n R h = record { numbers = h.numbers; ready = ready-again R.ready (done-of n h).1 }
-
-  pub lowers_then : {made₂ code₂ tables₂ k₂ : List ℕ} {r₂ : ℕ} (f : ℕ → Emit) (g : ℕ → ℕ) → (r ≡ 0 → ⊥) → SoundIn tree made code tables k l
-      → LowersIn r e next tree made code tables k l made₁ code₁ tables₁ k₁ → LowersIn r₂ (f r) (g r) tree made₁ code₁ tables₁ k₁ l made₂ code₂ tables₂ k₂
-      → LowersIn r₂ (e ⨟ f next) (g next) tree made code tables k l made₂ code₂ tables₂ k₂
-  lowers_then {made₂} {code₂} {tables₂} {k₂} {r₂} f g n S h x = record {
-    emits = then-lowers tree made code tables (counts_of k) (limits_in l) S.sound e f g (answered r₂ k₂) r next made₁ code₁ tables₁ made₂ code₂ tables₂ (counts_of k₁) (done-of n h) x.emits;
-    numbers = x.numbers;
-  }
-
-  -- the first part is over the limits
-  pub lowers-stopped : {q : ℕ} {f : Emit} → r ≡ 0 → SoundIn tree made code tables k l → Lengthens f
-      → LowersIn r e next tree made code tables k l made₁ code₁ tables₁ k₁ → LowersIn 0 (e ⨟ f) q tree made code tables k l made₁ code₁ tables₁ k₁
-  lowers-stopped {q} {f} z S g h = record {
-    emits = subst (λ (x : Emitted). Lowers x (e ⨟ f) q tree made code tables made₁ code₁ tables₁ (counts_of k) (limits_in l)) (sym (answered-full 0 k₁ refl))
-        (full-lowers tree made code tables (counts_of k) (limits_in l) S.sound e f (answered r k₁) next q made₁ code₁ tables₁ g (answered-full r k₁ z) h.emits);
-    numbers = h.numbers;
-  }
-
-  pub lowers-by : {e' : Emit} {q : ℕ} → LowersIn r e next tree made code tables k l made₁ code₁ tables₁ k₁ → e' ≡ e → q ≡ next → LowersIn r e' q tree made code tables k l made₁ code₁ tables₁ k₁
-  lowers-by h p q = subst (λ (z : Type 0). z) (λ i. LowersIn r (sym p i) (sym q i) tree made code tables k l made₁ code₁ tables₁ k₁) h
-
-  -- by the state alone
-  pub lowers-state : {e' : Emit} → LowersIn r e next tree made code tables k l made₁ code₁ tables₁ k₁
-      → emit_at (get_or k 7 0) e' (state_of tree made code tables (counts_of k)) ≡ emit_at (get_or k 7 0) e (state_of tree made code tables (counts_of k)) → LowersIn r e' next tree made code tables k l made₁ code₁ tables₁ k₁
-  lowers-state h p = record { emits = subst (λ (u : State). Emits (answered r k₁) tree made₁ code₁ tables₁ (counts_of k) (limits_in l) next u) (sym p) h.emits; numbers = h.numbers }
-
--- an answer of the state's laws
-pub lowers-full : {tree made code tables k l made₁ code₁ tables₁ k₁ : List ℕ} {e : Emit} {next : ℕ} → 10 ≡ length k₁ → Lowers Full e next tree made code tables made₁ code₁ tables₁ (counts_of k) (limits_in l)
-    → LowersIn 0 e next tree made code tables k l made₁ code₁ tables₁ k₁
-lowers-full {tree} {made} {code} {tables} {k} {l} {made₁} {code₁} {tables₁} {k₁} {e} {next} n h =
-    record { emits = subst (λ (x : Emitted). Lowers x e next tree made code tables made₁ code₁ tables₁ (counts_of k) (limits_in l)) (sym (answered-full 0 k₁ refl)) h; numbers = n }
-
-pub lowers-nothing : {tree made code tables k l : List ℕ} {next : ℕ} → 0 < next → SoundIn tree made code tables k l → LowersIn next (emits []) next tree made code tables k l made code tables k
-lowers-nothing {tree} {made} {code} {tables} {k} {l} {next} h S = record {
-  emits = subst (λ (x : Emitted). Lowers x (emits []) next tree made code tables made code tables (counts_of k) (limits_in l)) (sym (answered-done next k (λ z. omega arith)))
-      (nothing-lowers tree made code tables (counts_of k) (limits_in l) next S.sound);
-  numbers = S.numbers;
+pub sound-next : {A : Type 0} {r : Option A} {x : A} {tree : List ℕ} {a b : Emitter} {want : State} → r ≡ Some x → Reaches r tree a b want → SoundIn tree b
+sound-next {A} {r} {x} {tree} {a} {b} {want} z h = record {
+  sound = subst (λ (l : Limits). Sound tree b.tables.made.now b.code.words.now b.tables.entries.now (counts_of b) l) (sym h.limits) (h.done x z).left.sound;
 }
 
-pub lowers-done : {tree made code tables k l made₁ code₁ tables₁ k₁ : List ℕ} {r next : ℕ} {e : Emit} → (r ≡ 0 → ⊥) → 10 ≡ length k₁ → Lowers (Done r (counts_of k₁)) e next tree made code tables made₁ code₁ tables₁ (counts_of k) (limits_in l)
-    → LowersIn r e next tree made code tables k l made₁ code₁ tables₁ k₁
-lowers-done {tree} {made} {code} {tables} {k} {l} {made₁} {code₁} {tables₁} {k₁} {r} {next} {e} n K h =
-    record { emits = subst (λ (x : Emitted). Lowers x e next tree made code tables made₁ code₁ tables₁ (counts_of k) (limits_in l)) (sym (answered-done r k₁ n)) h; numbers = K }
+pub sound-of : {tree slots : List ℕ} {e : Emitter} → ReadyIn tree slots e → SoundIn tree e
+sound-of R = record { sound = R.ready.sound }
 
--- a step and another one at the position that it answers
-pub lowers-next : {tree made code tables k l made₁ code₁ tables₁ k₁ made₂ code₂ tables₂ k₂ : List ℕ} {r next r₂ : ℕ} {e f : Emit} → (r ≡ 0 → ⊥) → SoundIn tree made code tables k l
-    → LowersIn r e next tree made code tables k l made₁ code₁ tables₁ k₁ → LowersIn r₂ f r tree made₁ code₁ tables₁ k₁ l made₂ code₂ tables₂ k₂ → LowersIn r₂ (e ⨟ f) next tree made code tables k l made₂ code₂ tables₂ k₂
-lowers-next {f = f} n S h x = lowers_then (λ y. f) (λ y. y) n S h x
+pub ready-next : {A : Type 0} {r : Option A} {x : A} {tree slots : List ℕ} {a b : Emitter} {want : State} → r ≡ Some x → ReadyIn tree slots a → Reaches r tree a b want → ReadyIn tree slots b
+ready-next z R h = record { ready = record { tree-short = R.ready.tree-short; slotted = R.ready.slotted; sound = (sound-next z h).sound } }
+
+-- a step to a state, after one that is done
+pub left-next : {tree : List ℕ} {a b c : Emitter} {w₁ w : State} → limits_in b ≡ limits_in a → LeftIn tree a b w₁ → LeftIn tree b c w → LeftIn tree a c w
+left-next {tree} {a} {b} {c} {w₁} {w} e h g = record {
+  left = left-after h.left (subst (λ (l : Limits). Left (counts_of c) tree c.tables.made.now c.code.words.now c.tables.entries.now (counts_of b) l w) e g.left);
+}
+
+pub reaches-after : {A B : Type 0} {r : Option A} {x : A} {r₂ : Option B} {tree : List ℕ} {a b c : Emitter} {w₁ w : State} → r ≡ Some x → Reaches r tree a b w₁ → Reaches r₂ tree b c w → Reaches r₂ tree a c w
+reaches-after {x = x} {w = w} z h g = record {
+  done = λ y q. left-next h.limits (h.done x z) (g.done y q);
+  full = λ q v. g.full q (subst (λ (l : Limits). Within l w) (sym h.limits) v);
+  limits = g.limits ∙ h.limits;
+}
+
+-- the same answer by other words
+pub reaches-some : {A B : Type 0} {r : Option A} {x : A} {y : B} {tree : List ℕ} {a b : Emitter} {w : State} → r ≡ Some x → Reaches r tree a b w → Reaches (Some y) tree a b w
+reaches-some {x = x} {y = y} z h = record { done = λ u q. h.done x z; full = λ q. absurd (none-some y (sym q)); limits = h.limits }
+
+pub reaches-none : {A B : Type 0} {r : Option A} {q : Option B} {tree : List ℕ} {a b : Emitter} {w : State} → r ≡ None → q ≡ None → Reaches r tree a b w → Reaches q tree a b w
+reaches-none z n h = record { done = λ u q. absurd (none-some u (sym n ∙ q)); full = λ q. h.full z; limits = h.limits }
+
+module _ {A B : Type 0} {r : Option A} {tree : List ℕ} {a b : Emitter} {e : Emit} where
+  pub lowers-some : {x : A} {y : B} → r ≡ Some x → LowersIn r e tree a b → LowersIn (Some y) e tree a b
+  lowers-some z h = record { reaches = reaches-some z h.reaches }
+
+  pub lowers-none : {q : Option B} → r ≡ None → q ≡ None → LowersIn r e tree a b → LowersIn q e tree a b
+  lowers-none z n h = record { reaches = reaches-none z n h.reaches }
+
+  pub lowers_then : {f : Emit} {x : A} {r₂ : Option B} {c : Emitter} → r ≡ Some x → SoundIn tree a → LowersIn r e tree a b → LowersIn r₂ f tree b c → LowersIn r₂ (e ⨟ f) tree a c
+  lowers_then {f} {x} {r₂} {c} z S h g =
+      let k = (h.reaches.done x z).left in
+      record {
+        reaches = reaches_as ((λ i. emit_at (k.base i) f (k.state i)) ∙ sym (at-seq a.code.base e f (state_in tree a) (base-below tree a.tables.made.now a.code.words.now a.tables.entries.now (counts_of a) (limits_in a) S.sound)))
+            (reaches-after z h.reaches g.reaches);
+      }
+
+  -- the first part is over the limits
+  pub lowers-stopped : {f : Emit} {q : Option B} → r ≡ None → q ≡ None → SoundIn tree a → Lengthens f → LowersIn r e tree a b → LowersIn q (e ⨟ f) tree a b
+  lowers-stopped z n S g h = record {
+    reaches = record {
+      done = λ y q. absurd (none-some y (sym n ∙ q));
+      full = λ q w. h.reaches.full z (within_first a.code.base e (state_in tree a) (base-below tree a.tables.made.now a.code.words.now a.tables.entries.now (counts_of a) (limits_in a) S.sound) g w);
+      limits = h.reaches.limits;
+    };
+  }
+
+module _ {A : Type 0} {r : Option A} {tree : List ℕ} {a b : Emitter} {e e' : Emit} where
+  pub lowers-by : LowersIn r e tree a b → e' ≡ e → LowersIn r e' tree a b
+  lowers-by h p = subst (λ (x : Emit). LowersIn r x tree a b) (sym p) h
+
+  -- by the state alone
+  pub lowers-state : LowersIn r e tree a b → emit_at a.code.base e' (state_in tree a) ≡ emit_at a.code.base e (state_in tree a) → LowersIn r e' tree a b
+  lowers-state h p = record { reaches = reaches_as (sym p) h.reaches }
+
+pub lowers-nothing : {A : Type 0} {x : A} {tree : List ℕ} {a : Emitter} → SoundIn tree a → LowersIn (Some x) (emits []) tree a a
+lowers-nothing {A} {x} {tree} {a} S = record {
+  reaches = record {
+    done = λ y q. record { left = left_as (sym (at-nothing a.code.base (state_in tree a))) (left-none tree S.sound) };
+    full = λ q. absurd (none-some x (sym q));
+    limits = refl;
+  };
+}

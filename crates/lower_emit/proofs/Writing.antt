@@ -1,31 +1,32 @@
 -- Words one after the other, by the laws of the state.
 use Prim.Native.Nat.{ℕ, ◌<◌}
-use mathlib.Core.Path.{◌≡◌}
+use mathlib.Core.Path.{◌≡◌, refl}
 use mathlib.Core.List.{List}
+use Rattle.std.specs.Prelude.{Option, Some, None}
 use Rattle.definitions.specs.Instruction.{Instr, instr, ConstI64}
 use Rattle.definitions.specs.Tables.{Emit, one, ◌⨟◌}
 use Rattle.state.specs.Words.{word, instr_of}
 use Rattle.state.proofs.Growth.{Lengthens}
 use Rattle.lower_emit.specs.Ops.{Plain}
+use Rattle.lower_emit.specs.declared.emitter.Code.{Code}
+use Rattle.lower_emit.specs.Emitting.{Puts, Writes}
 use Rattle.lower_emit.proofs.Packing.{instr-plain, instr-small}
-use Rattle.lower_emit.specs.Numbers.{Put}
 use Rattle.lower_emit.proofs.Steps.{put-lifts, sound-next, lowers_then, lowers-stopped}
-use Rattle.lower_emit.specs.Writes.{Writes}
 
 -- one word, whose instruction doesn't depend on the tree
-pub word-writes : {code code' k k' l : List ℕ} {r w next : ℕ} {i : Instr} → 0 < next → ((t : List ℕ) → instr_of t w ≡ i) → Put r code code' k k' l w next → Writes r (one i) next code k l code' k'
-word-writes n e h = record { lowers = λ t made tables S. put-lifts _ S n (e t) h }
+pub word-writes : {A : Type 0} {r : Option A} {w : ℕ} {i : Instr} {a b : Code} → ((t : List ℕ) → instr_of t w ≡ i) → Puts r w a b → Writes r (one i) a b
+word-writes e h = record { lowers = λ t ts S. put-lifts S refl (e t) h }
 
-module _ {code code₁ k k₁ l : List ℕ} {r next : ℕ} {e : Emit} (h : Writes r e next code k l code₁ k₁) where
-  pub writes_then : {code₂ k₂ : List ℕ} {r₂ : ℕ} {f : Emit} → (r ≡ 0 → ⊥) → Writes r₂ f r code₁ k₁ l code₂ k₂ → Writes r₂ (e ⨟ f) next code k l code₂ k₂
-  writes_then {f = f} n g = record { lowers = λ t made tables S. let a = h.lowers t made tables S in lowers_then (λ x. f) (λ x. x) n S a (g.lowers t made tables (sound-next n a)) }
+module _ {A B : Type 0} {r : Option A} {a b : Code} {e : Emit} (h : Writes r e a b) where
+  pub writes_then : {f : Emit} {x : A} {r₂ : Option B} {c : Code} → r ≡ Some x → Writes r₂ f b c → Writes r₂ (e ⨟ f) a c
+  writes_then z g = record { lowers = λ t ts S. let k = h.lowers t ts S in lowers_then z S k (g.lowers t ts (sound-next z k.reaches)) }
 
-  pub writes-stopped : {f : Emit} → r ≡ 0 → Lengthens f → Writes 0 (e ⨟ f) next code k l code₁ k₁
-  writes-stopped z g = record { lowers = λ t made tables S. lowers-stopped z S g (h.lowers t made tables S) }
+  pub writes-stopped : {f : Emit} {q : Option B} → r ≡ None → q ≡ None → Lengthens f → Writes q (e ⨟ f) a b
+  writes-stopped z n g = record { lowers = λ t ts S. lowers-stopped z n S g (h.lowers t ts S) }
 
 -- the number i
-pub small-writes : {code code' k k' l : List ℕ} {r i next : ℕ} → 0 < next → i < 65536 → Put r code code' k k' l (word 48 i 0) next → Writes r (one (ConstI64 i)) next code k l code' k'
-small-writes {i = i} n b h = word-writes n (λ t. instr-small t i b) h
+pub small-writes : {A : Type 0} {r : Option A} {i : ℕ} {a b : Code} → i < 65536 → Puts r (word 48 i 0) a b → Writes r (one (ConstI64 i)) a b
+small-writes {i = i} b h = word-writes (λ t. instr-small t i b) h
 
-pub plain-writes : {code code' k k' l : List ℕ} {r op a b next : ℕ} → 0 < next → Plain op a b → Put r code code' k k' l (word op a b) next → Writes r (one (instr op a b)) next code k l code' k'
-plain-writes {op = op} {a = a} {b = b} n p h = word-writes n (λ t. instr-plain t op a b p) h
+pub plain-writes : {A : Type 0} {r : Option A} {op m n : ℕ} {a b : Code} → Plain op m n → Puts r (word op m n) a b → Writes r (one (instr op m n)) a b
+plain-writes {op = op} {m = m} {n = n} p h = word-writes (λ t. instr-plain t op m n p) h

@@ -1,9 +1,7 @@
 pub mod Ops
 pub mod Patch
 pub mod Nesting
-pub mod Places
-pub mod Numbers
 pub mod Shortcut
 pub mod Step
-pub mod Writes
+pub mod Emitting
 pub mod Ends

@@ -1,10 +1,11 @@
 -- What the beginning and the end of a function leave, and of a class.
-use Rattle.std.specs.Prelude.{ℕ, zero, suc, ◌+◌, ◌<◌, ◌≡◌, List, [], ◌∷◌, ◌++◌}
+use Rattle.std.specs.Prelude.{ℕ, zero, suc, ◌+◌, ◌-◌, ◌<◌, ◌≡◌, List, [], ◌∷◌, ◌++◌}
 use Rattle.definitions.specs.Instruction.{Instr}
 use Rattle.definitions.specs.Tables.{Function, with_functions}
 use Rattle.state.specs.State.{State, state_of, with_tables, Within, Sound, Paced}
 use Rattle.state.specs.declared.Counts.{Counts}
-use Rattle.state.specs.Answered.{Limits, Numbered, At, Over}
+use Rattle.state.specs.declared.Limits.{Limits}
+use Rattle.state.specs.Answered.{Numbered, At, Over}
 
 -- a function of n slots has begun: `begun`, where the rest of its frame doesn't matter
 unfoldable pub begun_with : ℕ → ℕ → ℕ → State → State
@@ -72,6 +73,36 @@ with_constants n c = record {
   «open» = c.open;
   base = c.base;
   done = c.done;
+}
+
+-- the counts with one function more, which is the innermost
+abbrev pub one_more : Counts → Counts
+one_more c = record {
+  symbols = c.symbols;
+  strings = c.strings;
+  functions = c.functions + 1;
+  classes = c.classes;
+  methods = c.methods;
+  constants = c.constants;
+  made = c.made;
+  «open» = c.open;
+  base = c.open;
+  done = c.done;
+}
+
+-- the counts without the innermost function, whose words are finished; the one around it begins at b
+abbrev pub without : ℕ → Counts → Counts
+without b c = record {
+  symbols = c.symbols;
+  strings = c.strings;
+  functions = c.functions;
+  classes = c.classes;
+  methods = c.methods;
+  constants = c.constants;
+  made = c.made;
+  «open» = c.base;
+  base = b;
+  done = c.done + (c.open - c.base);
 }
 
 -- the counts k and the wanted state

@@ -3,7 +3,8 @@ use Rattle.std.specs.Prelude.{ℕ, List, ◌≡◌}
 use Rattle.definitions.specs.Tables.{Emit}
 use Rattle.state.specs.State.{State, state_of, emit_at, Within, Emits}
 use Rattle.state.specs.declared.Counts.{Counts}
-use Rattle.state.specs.Answered.{Limits, Emitted, Done, Full}
+use Rattle.state.specs.declared.Limits.{Limits}
+use Rattle.state.specs.Answered.{Emitted, Done, Full}
 use Rattle.lower_emit.specs.Nesting.{Moved}
 
 -- the part with the code e is emitted, and what is next in the tree

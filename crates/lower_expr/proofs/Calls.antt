@@ -1,6 +1,6 @@
--- Calls by the form of their callee: one by name as a step, and one by a value.
+-- Calls by the form of their callee: by name as a step, by a value, and by a method.
 use Prim.Native.Nat.{ℕ, zero, suc, ◌+◌, ◌-◌, ◌<◌, ◌≤◌}
-use mathlib.Core.Path.{◌≡◌, refl, ap, ◌∙◌}
+use mathlib.Core.Path.{◌≡◌, refl, sym, ap, ◌∙◌}
 use mathlib.Core.Bool.{Bool, true, false}
 use mathlib.Core.List.{List, ◌++◌}
 use native.Mathlib.Omega.{arith}
@@ -9,19 +9,25 @@ use lib.ListN.{length, get_or}
 use borrow.Author.Tests.{ltb-true, ltb-false}
 use Rattle.definitions.specs.Bytes.{Name}
 use Rattle.definitions.specs.Tree.{Expr, var, call, View, as_var, as_attr, as_index, as_tuple, as_other, view, view_display}
-use Rattle.definitions.specs.Tables.{Out, Emit, one, ◌⨟◌}
+use Rattle.definitions.specs.Instruction.{instr, CallMethod}
+use Rattle.definitions.specs.Tables.{Out, Emit, one, intern, ◌⨟◌}
 use Rattle.definitions.specs.Lower.{Callee, value_callee, resolve, call_by, emit_expr}
 use Rattle.parts.specs.Places.{Node, count_at, name_end}
 use Rattle.exprs.specs.ExprAt.{expr_at, list_at, ExprReads, binary_of, int_at, float_at, string_at, unary_at, binary_at, call_at, display_at, dict_at, index_at, lambda_at}
 use Rattle.exprs.proofs.ExprViews.{expr-known, view-none, view-false, view-true, view-int, view-float, view-string, view-unary, view-binary, view-call, view-list, view-dict}
 use Rattle.exprs.proofs.ExprViews.{view-tuple, view-set, view-tree-set, view-index, view-lambda, unary-of, binary-of, and-of, or-of}
 use Rattle.state.specs.Words.{name_at}
-use Rattle.state.specs.State.{State, state_of, emit_at, Sound}
-use Rattle.state.specs.declared.Counts.{Counts}
-use Rattle.state.specs.Answered.{Limits}
+use Rattle.state.specs.State.{State, emit_at}
 use Rattle.state.proofs.Views.{function-count}
 use Rattle.state.specs.Steps.{is_computed}
 use Rattle.lower_forms.specs.Lowerable.{expr_code, exprs_code, CallLowerable, NamedLowerable, load_callee, call_instr, Short}
+use Rattle.std.specs.Prelude.{Option, Some}
+use Rattle.lower_emit.specs.declared.emitter.Emitter.{Emitter}
+use Rattle.lower_emit.specs.Emitting.{counts_of, limits_in, state_in, SoundIn, LowersIn, EmitsTo}
+use Rattle.lower_emit.proofs.Steps.{lowers-by}
+use Rattle.lower_emit.proofs.Parts.{emits_then}
+use Rattle.lower_names.specs.declared.Callee.TheVariants.{Value}
+use Rattle.lower_names.specs.Naming.{callee_of}
 use Rattle.lower_forms.proofs.ExprArms.{exprs-count}
 use Rattle.lower_forms.proofs.CallForms.{call_expr, named-args}
 
@@ -92,7 +98,7 @@ module _ (d : ℕ) (t : List ℕ) (p : ℕ) (r : ExprReads d t p) where
 
 module _ (d : ℕ) (t : List ℕ) (p : ℕ) (r : CallLowerable d t p) where
   pub call-value : (names : List Name) → (get_or t p 0 ≡ 6 → ⊥) → (get_or t p 0 ≡ 10 → ⊥) → emit_expr names (call_expr d t p)
-      ≡ expr_code d t names p ⨟ exprs_code d (count_at t (expr_at d t p).end) t names ((expr_at d t p).end + 2) ⨟ one (call_instr (value_callee) (count_at t (expr_at d t p).end))
+      ≡ expr_code d t names p ⨟ exprs_code d (count_at t (expr_at d t p).end) t names ((expr_at d t p).end + 2) ⨟ one (call_instr value_callee (count_at t (expr_at d t p).end))
   unfolding emit_expr
   call-value names a b =
       let q = (expr_at d t p).end in
@@ -101,9 +107,29 @@ module _ (d : ℕ) (t : List ℕ) (p : ℕ) (r : CallLowerable d t p) where
 
 -- ---- numbers of callees are short
 
-pub value-short : Short (value_callee)
-unfolding Short
+pub value-callee : value_callee ≡ callee_of Value
+unfolding callee_of
+value-callee = refl
+
+pub value-short : Short (callee_of Value)
+unfolding callee_of Short
 value-short = tt
 
-pub functions-few : (t made code tables : List ℕ) (c : Counts) (l : Limits) → Sound t made code tables c l → length (state_of t made code tables c).tables.functions ≤ 256
-functions-few t made code tables c l s = omega (arith, function-count t made code tables c l s, s.functions, s.limited.functions)
+pub functions-few : (t : List ℕ) (e : Emitter) → SoundIn t e → length (state_in t e).tables.functions ≤ 256
+functions-few t e S =
+    let k = function-count t e.tables.made.now e.code.words.now e.tables.entries.now (counts_of e) (limits_in e) S.sound in
+    omega (arith, k, S.sound.functions, S.sound.limited.functions)
+
+-- ---- by a method
+
+-- what follows a method's object, which ends at x
+abbrev pub method_rest : ℕ → List ℕ → List Name → ℕ → Emit
+method_rest d t names x = exprs_code d (count_at t (name_end t x)) t names (name_end t x + 2) ⨟ intern (name_at t x) (λ k. one (CallMethod k (count_at t (name_end t x))))
+
+pub method_then : {r q : Option ℕ} {n m : ℕ} {t : List ℕ} {a b c : Emitter} {e : Emit} (d : ℕ) (names : List Name) → r ≡ Some n → SoundIn t a → EmitsTo r e m t a b
+    → EmitsTo q (method_rest d t names n) (list_at d t (name_end t n)).end t b c → EmitsTo q (e ⨟ method_rest d t names m) (list_at d t (name_end t m)).end t a c
+method_then {t = t} d names z S h g = emits_then (λ x. method_rest d t names x) (λ x. (list_at d t (name_end t x)).end) z S h g
+
+-- the method's symbol, whose count is n
+pub method-symbol : {A : Type 0} {u : Option A} {t : List ℕ} {a b : Emitter} (x : Name) {n k : ℕ} → n ≡ k → LowersIn u (intern x (λ i. one (instr 35 i n))) t a b → LowersIn u (intern x (λ i. one (CallMethod i k))) t a b
+method-symbol x e h = lowers-by h (ap (λ (m : ℕ). intern x (λ i. one (CallMethod i m))) (sym e))

@@ -1,3 +1,5 @@
 pub mod Calls
 pub mod Several
 pub mod Shortcut
+pub mod Words
+pub mod Bodies

@@ -1,162 +1,182 @@
 -- Expressions one after the other: what is left to emit at the loop's head gives what the whole gives.
-use Prim.Native.Nat.{ℕ, zero, suc, ◌+◌, ◌*◌, ◌-◌, ◌≤◌, ◌<◌}
+use Prim.Native.Nat.{ℕ, zero, suc, ◌+◌, ◌-◌, ◌≤◌, ◌<◌}
 use mathlib.Core.Path.{◌≡◌, refl, sym, ap, subst, ◌∙◌}
 use mathlib.Core.List.{List}
 use native.Mathlib.Omega.{arith}
-use lib.ListN.{length, get_or, set, length-set}
-use lib.Seq.{get_or-set_same, get_or-set_other}
+use lib.ListN.{get_or, set}
+use Rattle.std.specs.Prelude.{Option, Some, None}
+use Rattle.std.proofs.lemmas.Option.{none-some}
 use Rattle.definitions.specs.Bytes.{Name}
 use Rattle.definitions.specs.Tables.{Emit}
-use Rattle.parts.specs.Places.{name_end}
 use Rattle.exprs.specs.ExprAt.{expr_at, exprs_at}
-use Rattle.state.specs.State.{state_of, emit_at}
-use Rattle.state.specs.Answered.{Emitted}
-use Rattle.state.proofs.Answers.{emits-full, full-emits, done-emits}
+use Rattle.state.specs.Words.{word}
+use Rattle.state.specs.State.{State, state_of, emit_at, Sound, Left, Within}
+use Rattle.state.specs.declared.Counts.{Counts}
+use Rattle.state.specs.declared.Limits.{Limits}
 use Rattle.state.proofs.Emission.{at-seq, at-nothing}
 use Rattle.state.proofs.Growth.{lengthens-exprs}
-use Rattle.lower_names.proofs.Midway.{Midway, midway_start, midway-base, midway-next, midway_end, midway-full}
-use Rattle.lower_forms.specs.Lowerable.{LowerableMany, expr_code, exprs_code, Short}
-use Rattle.definitions.specs.Lower.{value_callee}
-use Rattle.lower_expr.proofs.Calls.{value-short}
-use Rattle.lower_names.specs.Naming.{callee_in}
-use Rattle.lower_forms.proofs.Elements.{more-view, none-code}
-use Rattle.lower_emit.specs.Step.{Lowers}
-use Rattle.state.specs.Words.{word}
-use Rattle.lower_emit.proofs.Packing.{instr-plain, plain-below}
+use Rattle.lower_forms.specs.Lowerable.{LowerableMany, expr_code, exprs_code}
 use Rattle.lower_forms.proofs.Constants.{arm-constant}
+use Rattle.lower_forms.proofs.Elements.{more-view, none-code}
+use Rattle.lower_emit.specs.Nesting.{with_open}
+use Rattle.lower_emit.specs.declared.emitter.Code.{Code}
+use Rattle.lower_emit.specs.declared.emitter.Emitter.{Emitter}
+use Rattle.lower_emit.specs.Emitting.{counts_of, limits_in, state_in, SoundIn, beside, EmitsTo}
+use Rattle.lower_emit.proofs.Packing.{instr-plain, plain-below}
+use Rattle.lower_emit.proofs.Steps.{limits-code, put-left, some-is}
+use Rattle.lower_names.proofs.Midway.{Midway, midway_start, midway-base, midway-next, midway_end, midway-full}
 use Rattle.lower_leaves.specs.Constants.{constants_put, Constants}
-use Rattle.lower_leaves.proofs.Runs.{set-again, set_own}
-use Rattle.lower_emit.specs.Numbers.{counts_of, limits_in, answered, Put, SoundIn, ReadyIn, LowersIn}
-use Rattle.lower_emit.proofs.Counts.{answered-full, answered-done}
-use Rattle.lower_emit.proofs.Steps.{done-of, lowers-full, lowers-by, put-lifts}
 
-pub record ExprsRest (d : ℕ) (t : List ℕ) (names : List Name) (made₀ code₀ tables₀ k₀ l : List ℕ) (n₀ p₀ : ℕ) (made code tables k : List ℕ) (n p : ℕ) : Type 0 where
+-- n expressions from p on are left, in slices with the counts k; the wanted state and the end are those of the whole
+pub record Left_over (d : ℕ) (t : List ℕ) (names : List Name) (c : Counts) (l : Limits) (want : State) (end : ℕ) (k : Counts) (made code tables : List ℕ) (n p : ℕ) : Type 0 where
   pub elements : LowerableMany d n t p
-  pub next : (exprs_at d n t p).end ≡ (exprs_at d n₀ t p₀).end
-  pub ahead : 0 < p
-  pub numbers : 10 ≡ length k
-  pub midway : Midway (counts_of k) t made code tables (counts_of k₀) (limits_in l) (exprs_code d n t names p) (emit_at (get_or k₀ 7 0) (exprs_code d n₀ t names p₀) (state_of t made₀ code₀ tables₀ (counts_of k₀)))
-  pub code-kept : length code ≡ length code₀
-  pub tables-kept : length tables ≡ length tables₀
+  pub next : (exprs_at d n t p).end ≡ end
+  pub midway : Midway k t made code tables c l (exprs_code d n t names p) want
 
-pub rest1-all : {d : ℕ} {t slots : List ℕ} {made code tables k l : List ℕ} {n p : ℕ} (names : List Name) → ReadyIn t slots made code tables k l → LowerableMany d n t p → 0 < p → ExprsRest d t names made code tables k l n p made code tables k n p
-rest1-all {d} {t} {slots} {made} {code} {tables} {k} {l} {n} {p} names R r h = record {
-  elements = r;
-  next = refl;
-  ahead = h;
-  numbers = R.numbers;
-  midway = midway_start t made code tables (counts_of k) (limits_in l) (exprs_code d n t names p) R.ready.sound;
-  code-kept = refl;
-  tables-kept = refl;
-}
+module _ {d : ℕ} {t : List ℕ} {names : List Name} {c : Counts} {l : Limits} {want : State} {end : ℕ} {k : Counts} {made code tables : List ℕ} {n p : ℕ} (R : Left_over d t names c l want end k made code tables n p) (more : 0 < n) where
+  split : emit_at c.base (exprs_code d n t names p) (state_of t made code tables k)
+      ≡ emit_at c.base (exprs_code d (n - 1) t names (expr_at d t p).end) (emit_at c.base (expr_code d t names p) (state_of t made code tables k))
+  split =
+      ap (λ (e : Emit). emit_at c.base e (state_of t made code tables k)) ((more-view d n t p more R.elements).code names)
+      ∙ at-seq c.base (expr_code d t names p) (exprs_code d (n - 1) t names (expr_at d t p).end) (state_of t made code tables k) (midway-base k t made code tables c l _ _ R.midway)
 
-module _ {d : ℕ} {t : List ℕ} {names : List Name} {made₀ code₀ tables₀ k₀ l : List ℕ} {n₀ p₀ : ℕ} {made code tables k : List ℕ} {n p : ℕ} (inv : ExprsRest d t names made₀ code₀ tables₀ k₀ l n₀ p₀ made code tables k n p) where
-  pub rest1-ready : {slots : List ℕ} → ReadyIn t slots made₀ code₀ tables₀ k₀ l → ReadyIn t slots made code tables k l
-  rest1-ready R = record { numbers = inv.numbers; ready = record { tree-short = R.ready.tree-short; slotted = R.ready.slotted; sound = inv.midway.sound } }
-
-  split : 0 < n → emit_at (get_or k₀ 7 0) (exprs_code d n t names p) (state_of t made code tables (counts_of k))
-      ≡ emit_at (get_or k₀ 7 0) (exprs_code d (n - 1) t names (expr_at d t p).end) (emit_at (get_or k₀ 7 0) (expr_code d t names p) (state_of t made code tables (counts_of k)))
-  split h =
-      ap (λ (e : Emit). emit_at (get_or k₀ 7 0) e (state_of t made code tables (counts_of k))) ((more-view d n t p h inv.elements).code names)
-      ∙ at-seq (get_or k₀ 7 0) (expr_code d t names p) (exprs_code d (n - 1) t names (expr_at d t p).end) (state_of t made code tables (counts_of k)) (midway-base (counts_of k) t made code tables (counts_of k₀) (limits_in l) _ _ inv.midway)
-
-  pub rest1-next : {made' code' tables' k' : List ℕ} {q : ℕ} → 0 < n → (q ≡ 0 → ⊥) → LowersIn q (expr_code d t names p) (expr_at d t p).end t made code tables k l made' code' tables' k'
-      → length code' ≡ length code → length tables' ≡ length tables → ExprsRest d t names made₀ code₀ tables₀ k₀ l n₀ p₀ made' code' tables' k' (n - 1) q
-  rest1-next {made'} {code'} {tables'} {k'} {q} h z e b c =
-      let v = more-view d n t p h inv.elements in
-      let f = done-of z e in
-      subst (λ (x : ℕ). ExprsRest d t names made₀ code₀ tables₀ k₀ l n₀ p₀ made' code' tables' k' (n - 1) x) (sym f.0) (record {
-        elements = v.rest;
-        next = sym v.end ∙ inv.next;
-        ahead = omega (arith, f.0);
-        numbers = e.numbers;
-        midway = midway-next (counts_of k) t made code tables (counts_of k₀) (limits_in l) _ _ inv.midway (counts_of k') made' code' tables' (expr_code d t names p) (exprs_code d (n - 1) t names (expr_at d t p).end) f.1 (split h);
-        code-kept = b ∙ inv.code-kept;
-        tables-kept = c ∙ inv.tables-kept;
-      })
-
-  pub rest1-over : {made' code' tables' k' : List ℕ} {r q q' : ℕ} → 0 < n → r ≡ 0 → LowersIn r (expr_code d t names p) q t made code tables k l made' code' tables' k'
-      → LowersIn 0 (exprs_code d n₀ t names p₀) q' t made₀ code₀ tables₀ k₀ l made' code' tables' k'
-  rest1-over {made'} {code'} {tables'} {k'} {r} {q} {q'} h z e = lowers-full e.numbers (full-emits t made' code' tables' (counts_of k₀) (limits_in l) q' _
-      (midway-full (counts_of k) t made code tables (counts_of k₀) (limits_in l) _ _ inv.midway (expr_code d t names p) (exprs_code d (n - 1) t names (expr_at d t p).end) (lengthens-exprs names _)
-      (emits-full t made' code' tables' (counts_of k) (limits_in l) q _ (answered r k') (answered-full r k' z) e.emits) (split h)))
-
-  pub rest1-done : n ≤ 0 → LowersIn p (exprs_code d n₀ t names p₀) (exprs_at d n₀ t p₀).end t made₀ code₀ tables₀ k₀ l made code tables k
-  rest1-done h =
-      let z = none-code d n t names p h inv.elements in
+  over-next : {k' : Counts} {made' code' tables' : List ℕ} → Left k' t made' code' tables' k l (emit_at k.base (expr_code d t names p) (state_of t made code tables k))
+      → Left_over d t names c l want end k' made' code' tables' (n - 1) (expr_at d t p).end
+  over-next {k'} {made'} {code'} {tables'} h =
+      let v = more-view d n t p more R.elements in
       record {
-        emits = subst (λ (x : Emitted). Lowers x (exprs_code d n₀ t names p₀) (exprs_at d n₀ t p₀).end t made₀ code₀ tables₀ made code tables (counts_of k₀) (limits_in l)) (sym (answered-done p k (λ e. omega (arith, inv.ahead))))
-            (done-emits t made code tables (counts_of k₀) (limits_in l) _ _ p (counts_of k) (sym z.1 ∙ inv.next)
-            (midway_end (counts_of k) t made code tables (counts_of k₀) (limits_in l) _ _ inv.midway
-            (ap (λ (e : Emit). emit_at (get_or k₀ 7 0) e (state_of t made code tables (counts_of k))) z.0 ∙ at-nothing (get_or k₀ 7 0) (state_of t made code tables (counts_of k)))));
-        numbers = inv.numbers;
+        elements = v.rest;
+        next = sym v.end ∙ R.next;
+        midway = midway-next k t made code tables c l _ _ R.midway k' made' code' tables' (expr_code d t names p) (exprs_code d (n - 1) t names (expr_at d t p).end) h split;
       }
 
+  over-full : (Within l (emit_at k.base (expr_code d t names p) (state_of t made code tables k)) → ⊥) → Within l want → ⊥
+  over-full h = midway-full k t made code tables c l _ _ R.midway (expr_code d t names p) (exprs_code d (n - 1) t names (expr_at d t p).end) (lengthens-exprs names _) h split
+
+-- at the loop's head: a is the emitter before the loop
+pub record ExprsRest (d : ℕ) (t : List ℕ) (names : List Name) (a : Emitter) (n₀ p₀ : ℕ) (b : Emitter) (n p : ℕ) : Type 0 where
+  pub limits : limits_in b ≡ limits_in a
+  pub rest : Left_over d t names (counts_of a) (limits_in a) (emit_at a.code.base (exprs_code d n₀ t names p₀) (state_in t a)) (exprs_at d n₀ t p₀).end
+      (counts_of b) b.tables.made.now b.code.words.now b.tables.entries.now n p
+
+pub rest-all : {d : ℕ} {t : List ℕ} {a : Emitter} {n p : ℕ} (names : List Name) → SoundIn t a → LowerableMany d n t p → ExprsRest d t names a n p a n p
+rest-all {d} {t} {a} {n} {p} names S r = record {
+  limits = refl;
+  rest = record {
+    elements = r;
+    next = refl;
+    midway = midway_start t a.tables.made.now a.code.words.now a.tables.entries.now (counts_of a) (limits_in a) (exprs_code d n t names p) S.sound;
+  };
+}
+
+module _ {d : ℕ} {t : List ℕ} {names : List Name} {a : Emitter} {n₀ p₀ : ℕ} {b : Emitter} {n p : ℕ} (R : ExprsRest d t names a n₀ p₀ b n p) where
+  pub rest-sound : SoundIn t b
+  rest-sound = record { sound = subst (λ (l : Limits). Sound t b.tables.made.now b.code.words.now b.tables.entries.now (counts_of b) l) (sym R.limits) R.rest.midway.sound }
+
+  pub rest-next : {r : Option ℕ} {q : ℕ} {e : Emitter} → 0 < n → r ≡ Some q → EmitsTo r (expr_code d t names p) (expr_at d t p).end t b e → ExprsRest d t names a n₀ p₀ e (n - 1) q
+  rest-next {q = q} {e = e} more z h =
+      let L = (h.lowers.reaches.done q z).left in
+      let g = subst (λ (l : Limits). Left (counts_of e) t e.tables.made.now e.code.words.now e.tables.entries.now (counts_of b) l (emit_at b.code.base (expr_code d t names p) (state_in t b))) R.limits L in
+      subst (λ (x : ℕ). ExprsRest d t names a n₀ p₀ e (n - 1) x) (sym (h.place q z)) (record { limits = h.lowers.reaches.limits ∙ R.limits; rest = over-next R.rest more g })
+
+  pub rest-over : {r q : Option ℕ} {m next : ℕ} {e : Emitter} → 0 < n → r ≡ None → q ≡ None → EmitsTo r (expr_code d t names p) m t b e → EmitsTo q (exprs_code d n₀ t names p₀) next t a e
+  rest-over more z y h = record {
+    place = λ k e. absurd (none-some k (sym y ∙ e));
+    lowers = record {
+      reaches = record {
+        done = λ k e. absurd (none-some k (sym y ∙ e));
+        full = λ e. over-full R.rest more (λ w. h.lowers.reaches.full z (subst (λ (l : Limits). Within l (emit_at b.code.base (expr_code d t names p) (state_in t b))) (sym R.limits) w));
+        limits = h.lowers.reaches.limits ∙ R.limits;
+      };
+    };
+  }
+
+  pub rest-done : n ≤ 0 → EmitsTo (Some p) (exprs_code d n₀ t names p₀) (exprs_at d n₀ t p₀).end t a b
+  rest-done h =
+      let z = none-code d n t names p h R.rest.elements in
+      record {
+        place = λ k e. sym (some-is e) ∙ sym z.1 ∙ R.rest.next;
+        lowers = record {
+          reaches = record {
+            done = λ k e. record {
+              left = midway_end (counts_of b) t b.tables.made.now b.code.words.now b.tables.entries.now (counts_of a) (limits_in a) _ _ R.rest.midway
+                  (ap (λ (x : Emit). emit_at a.code.base x (state_in t b)) z.0 ∙ at-nothing a.code.base (state_in t b));
+            };
+            full = λ e. absurd (none-some p (sym e));
+            limits = R.limits;
+          };
+        };
+      }
+
+  -- a run of constants
+  module _ {r : ℕ} {c : Code} (C : Constants r n t p b.code c) where
+    abbrev o : ℕ
+    o = b.code.open
+
+    abbrev At : ℕ → Type 0
+    At i = Left_over d t names (counts_of a) (limits_in a) (emit_at a.code.base (exprs_code d n₀ t names p₀) (state_in t a)) (exprs_at d n₀ t p₀).end
+        (with_open (o + i) (counts_of b)) b.tables.made.now (constants_put b.code.words.now o t p i) b.tables.entries.now (n - i) (p + i)
+
+    first : At 0
+    unfolding constants_put
+    first =
+        let x : o ≡ o + 0 = omega arith in
+        let y : n ≡ n - 0 = omega arith in
+        let z : p ≡ p + 0 = omega arith in
+        subst (λ (w : Type 0). w)
+        (λ j. Left_over d t names (counts_of a) (limits_in a) (emit_at a.code.base (exprs_code d n₀ t names p₀) (state_in t a)) (exprs_at d n₀ t p₀).end
+        (with_open (x j) (counts_of b)) b.tables.made.now b.code.words.now b.tables.entries.now (y j) (z j)) R.rest
+
+    grows : (i : ℕ) → i < r → At i → At (suc i)
+    unfolding constants_put
+    grows i h G =
+        let kind = get_or t (p + i) 0 in
+        let few : 0 < n - i = omega (arith, C.run.few) in
+        let low : kind < 3 = C.run.small i h in
+        let w = word (5 - kind) 0 0 in
+        let k = with_open (o + i) (counts_of b) in
+        let ws = constants_put b.code.words.now o t p i in
+        let m = arm-constant d t (p + i) (more-view d (n - i) t (p + i) few G.elements).head kind refl low in
+        let same : limits_in b ≡ limits_in a = R.limits in
+        let room : o + i + b.code.done < (limits_in a).instructions = omega (arith, ap (λ (l : Limits). l.instructions) same, C.run.inside) in
+        let L = put-left t b.tables.made.now ws b.tables.entries.now w _ k (limits_in a) G.midway.sound
+        (instr-plain t (5 - kind) 0 0 (plain-below (5 - kind) 0 0 (omega arith) (omega arith) (omega arith) (omega arith))) room in
+        let P = λ (x : Emit). Left (with_open (o + i + 1) (counts_of b)) t b.tables.made.now (set ws (o + i) w) b.tables.entries.now k (limits_in a) (emit_at k.base x (state_of t b.tables.made.now ws b.tables.entries.now k)) in
+        let N = over-next G few (subst P (sym (m.code names)) L) in
+        let x : o + i + 1 ≡ o + suc i = omega arith in
+        let y : n - i - 1 ≡ n - suc i = omega arith in
+        let z : (expr_at d t (p + i)).end ≡ p + suc i = m.end ∙ omega arith in
+        subst (λ (w : Type 0). w)
+        (λ j. Left_over d t names (counts_of a) (limits_in a) (emit_at a.code.base (exprs_code d n₀ t names p₀) (state_in t a)) (exprs_at d n₀ t p₀).end
+        (with_open (x j) (counts_of b)) b.tables.made.now (set ws (o + i) w) b.tables.entries.now (y j) (z j)) N
+
+    all : (i : ℕ) → i ≤ r → At i
+    all zero h = first
+    all (suc i) h = grows i (omega arith) (all i (omega arith))
+
+    after : with_open (o + r) (counts_of b) ≡ counts_of (beside c b.tables)
+    after = λ i. record {
+      symbols = b.tables.symbols;
+      strings = b.tables.strings;
+      functions = b.tables.functions;
+      classes = b.tables.classes;
+      methods = b.tables.methods;
+      constants = b.tables.constants;
+      made = b.tables.made_len;
+      base = sym C.kept.base i;
+      «open» = sym C.size i;
+      done = sym C.kept.done i;
+    }
+
+    pub rest-constants : ExprsRest d t names a n₀ p₀ (beside c b.tables) (n - r) (p + r)
+    rest-constants = record {
+      limits = limits-code b.tables C.kept ∙ R.limits;
+      rest = subst (λ (w : Type 0). w)
+          (λ j. Left_over d t names (counts_of a) (limits_in a) (emit_at a.code.base (exprs_code d n₀ t names p₀) (state_in t a)) (exprs_at d n₀ t p₀).end
+          (after j) b.tables.made.now (sym C.run.words j) b.tables.entries.now (n - r) (p + r)) (all r (omega arith));
+    }
+
 -- the answer for n expressions from p on, with the count and the position by other words
-pub many_by : (d n m : ℕ) (t : List ℕ) (names : List Name) (p q : ℕ) {r : ℕ} {made code tables k l made' code' tables' k' : List ℕ} → n ≡ m → p ≡ q
-    → LowersIn r (exprs_code d n t names p) (exprs_at d n t p).end t made code tables k l made' code' tables' k' → LowersIn r (exprs_code d m t names q) (exprs_at d m t q).end t made code tables k l made' code' tables' k'
-many_by d n m t names p q {r} {made} {code} {tables} {k} {l} {made'} {code'} {tables'} {k'} e f h =
-    subst (λ (z : Type 0). z) (λ i. LowersIn r (exprs_code d (e i) t names (f i)) (exprs_at d (e i) t (f i)).end t made code tables k l made' code' tables' k') h
-
--- a value in one number
-pub value_same : value_callee ≡ callee_in (34 * 65536)
-unfolding callee_in
-value_same = refl
-
-pub value-small : Short (callee_in (34 * 65536))
-value-small = subst Short value_same value-short
-
--- the end of a name is after its start
-pub name-ahead : (t : List ℕ) (p q : ℕ) → q ≡ name_end t p → 0 < q
-unfolding name_end
-name-ahead t p q e = omega arith
-
--- a run of constants
-module _ {d : ℕ} {t : List ℕ} {names : List Name} {made₀ code₀ tables₀ k₀ l : List ℕ} {n₀ p₀ : ℕ} {made code tables k : List ℕ} {n p : ℕ} (inv : ExprsRest d t names made₀ code₀ tables₀ k₀ l n₀ p₀ made code tables k n p)
-    {r : ℕ} {code' k' : List ℕ} (C : Constants r n t p code code' k k' l) where
-  abbrev o : ℕ
-  o = get_or k 8 0
-
-  abbrev At : ℕ → Type 0
-  At i = ExprsRest d t names made₀ code₀ tables₀ k₀ l n₀ p₀ made (constants_put code o t p i) tables (set k 8 (o + i)) (n - i) (p + i)
-
-  first : At 0
-  unfolding constants_put
-  first =
-      let a : k ≡ set k 8 (o + 0) = sym (set_own k 8) ∙ ap (set k 8) (omega arith) in
-      let b : n ≡ n - 0 = omega arith in
-      let c : p ≡ p + 0 = omega arith in
-      subst (λ (z : Type 0). z) (λ j. ExprsRest d t names made₀ code₀ tables₀ k₀ l n₀ p₀ made code tables (a j) (b j) (c j)) inv
-
-  grows : (i : ℕ) → i < r → At i → At (suc i)
-  unfolding constants_put
-  grows i h R =
-      let kind = get_or t (p + i) 0 in
-      let few : i < n = omega (arith, C.run.few) in
-      let low : kind < 3 = C.run.small i h in
-      let q = p + i + 1 in
-      let w = word (5 - kind) 0 0 in
-      let kᵢ = set k 8 (o + i) in
-      let codeᵢ = constants_put code o t p i in
-      let a = arm-constant d t (p + i) (more-view d (n - i) t (p + i) (omega arith) R.elements).head kind refl low in
-      let S : SoundIn t made codeᵢ tables kᵢ l = record { numbers = R.numbers; sound = R.midway.sound } in
-      let x : get_or kᵢ 8 0 ≡ o + i = get_or-set_same k 8 (o + i) 0 (omega (arith, inv.numbers)) in
-      let y : get_or kᵢ 9 0 ≡ get_or k 9 0 = get_or-set_other k 8 9 (o + i) 0 (λ e. omega arith) in
-      let f : o + suc i ≡ get_or kᵢ 8 0 + 1 = omega arith in
-      let P : Put q codeᵢ (set codeᵢ (o + i) w) kᵢ (set k 8 (o + suc i)) l w q = record {
-        full = λ e z. absurd (omega arith);
-        more = λ z. (refl, omega (arith, C.run.inside), ap (λ (m : ℕ). set codeᵢ m w) (sym x), ap (set k 8) f ∙ sym (set-again k 8 (o + i) (get_or kᵢ 8 0 + 1)));
-        numbers = inv.numbers ∙ sym (length-set k 8 (o + suc i));
-      } in
-      let L = lowers-by (put-lifts q S (omega arith) (instr-plain t (5 - kind) 0 0 (plain-below (5 - kind) 0 0 (omega arith) (omega arith) (omega arith) (omega arith))) P) (a.code names) a.end in
-      let N = rest1-next R (omega arith) (λ e. omega arith) L (length-set codeᵢ (o + i) w) refl in
-      let b : n - i - 1 ≡ n - suc i = omega arith in
-      let c : q ≡ p + suc i = omega arith in
-      subst (λ (z : Type 0). z) (λ j. ExprsRest d t names made₀ code₀ tables₀ k₀ l n₀ p₀ made (set codeᵢ (o + i) w) tables (set k 8 (o + suc i)) (b j) (c j)) N
-
-  all : (i : ℕ) → i ≤ r → At i
-  all zero h = first
-  all (suc i) h = grows i (omega arith) (all i (omega arith))
-
-  pub rest1-constants : ExprsRest d t names made₀ code₀ tables₀ k₀ l n₀ p₀ made code' tables k' (n - r) (p + r)
-  rest1-constants = subst (λ (z : Type 0). z) (λ j. ExprsRest d t names made₀ code₀ tables₀ k₀ l n₀ p₀ made (sym C.run.words j) tables (sym C.counts j) (n - r) (p + r)) (all r (omega arith))
+pub many_by : (d : ℕ) {n m : ℕ} (t : List ℕ) (names : List Name) {p q : ℕ} {r : Option ℕ} {a b : Emitter} → n ≡ m → p ≡ q
+    → EmitsTo r (exprs_code d n t names p) (exprs_at d n t p).end t a b → EmitsTo r (exprs_code d m t names q) (exprs_at d m t q).end t a b
+many_by d t names {r = r} {a = a} {b = b} e f h = subst (λ (z : Type 0). z) (λ i. EmitsTo r (exprs_code d (e i) t names (f i)) (exprs_at d (e i) t (f i)).end t a b) h

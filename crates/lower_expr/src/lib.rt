@@ -1,7 +1,7 @@
-// The lowering of an expression in one path: every answer is the next position in the tree, or 0 where the module is over the limits.
+// The lowering of an expression in one path: every answer is the next position in the tree, none where the module is over the limits.
 #![tactic(auto)]
 
-ghost use Rattle.std.specs.Prelude.{◌+◌, ◌-◌, ◌<◌, ◌≤◌, eqb, get_or, drop};
+ghost use Rattle.std.specs.Prelude.{◌≡◌, ◌+◌, ◌-◌, ◌≤◌, eqb, get_or, drop};
 ghost use Rattle.definitions.specs.Instruction.{instr, Build, LoadAttr};
 ghost use Rattle.definitions.specs.Tables.{one, ◌⨟◌, intern};
 ghost use Rattle.definitions.specs.Lower.{emit_expr, shortcut};
@@ -9,587 +9,301 @@ ghost use Rattle.definitions.specs.Tree.{call, var};
 ghost use Rattle.parts.specs.Places.{count_at, name_end, params_at};
 ghost use Rattle.exprs.specs.ExprAt.{expr_at, exprs_at, second_at, list_at, binary_of};
 ghost use Rattle.state.specs.Words.{name_at};
-ghost use Rattle.state.specs.State.{slot_names, slots_from, Slots};
+ghost use Rattle.state.specs.State.{slot_names, slots_from};
 ghost use Rattle.lower_emit.specs.Ops.{Plain};
-ghost use Rattle.lower_forms.specs.Lowerable.{Lowerable, LowerableMany, expr_code, exprs_code, UnaryLowerable, TwoLowerable, BinaryLowerable, ArgsLowerable, CallLowerable, NamedLowerable, AttributeLowerable, MethodLowerable, method_code, call_instr, DisplayLowerable, Short, LambdaLowerable, lambda_code, ClosureLowerable, CapturesHeld, closure_code, function_code};
+ghost use Rattle.lower_forms.specs.Lowerable.{expr_code, exprs_code, method_code, call_instr, lambda_code, closure_code, function_code, Short, CapturesHeld};
+ghost use Rattle.lower_forms.specs.Lowerable.{Lowerable, LowerableMany, UnaryLowerable, TwoLowerable, BinaryLowerable, ArgsLowerable, CallLowerable, NamedLowerable};
+ghost use Rattle.lower_forms.specs.Lowerable.{AttributeLowerable, MethodLowerable, DisplayLowerable, LambdaLowerable, ClosureLowerable};
 ghost use Rattle.opcodes.specs.Codes.{unary_opcode, display_of, held_of};
-ghost use Rattle.lower_emit.specs.Numbers.{ReadyIn, LowersIn};
-ghost use Rattle.lower_names.specs.Naming.{callee_in};
-ghost use Rattle.lower_emit.specs.Places.{functions_in};
+ghost use Rattle.lower_emit.specs.Emitting.{SoundIn, EmitsTo};
+ghost use Rattle.lower_names.specs.Naming.{callee_of};
 
 use exprs::literals::literal_at;
-use lower_emit::{end_shortcut, put_op};
+use lower_emit::emitter::Emitter;
 use lower_leaves::closures::{begin_lambda, end_closure, end_lambda};
 use lower_leaves::constants::put_constants;
 use lower_leaves::literals::emit_literal;
-use lower_names::{emit_load, emit_symbol, load_callee, put_call, resolve};
+use lower_names::{Callee, emit_load, emit_symbol, load_callee, put_call, resolve};
 use numerals::expr;
-use numerals::ops::{CALL_METHOD, CALL_VALUE, LOAD_ATTR, LOAD_INDEX, LOGICAL};
-use numerals::places::{BASE, FUNCTIONS, OPEN, OVER, SLOTS_FROM, UPPER};
-use numerals::sizes::{COUNTS, LIMITS, MADE_ROOM, SLOTS_ROOM};
+use numerals::ops::{CALL_METHOD, LOAD_ATTR, LOAD_INDEX, LOGICAL};
+use numerals::places::SLOTS_FROM;
+use numerals::sizes::SLOTS_ROOM;
 use opcodes::{binary_code, build_code, held, unary_code};
 use parts::names::name_end;
 use parts::numbers::u16_at;
-use slots::Locals;
 use slots::captures::lambda_slots;
 use slots::skip::skip_params;
+use state::Scope;
 
 // The expression at `at`, with `depth` levels left.
 #[cycle(emit)]
-pub fn emit_expr(
-    tree: &[u8],
-    at: usize,
-    depth: u32,
-    slots: &[u32],
-    made: &mut [u8; MADE_ROOM],
-    code: &mut [u32],
-    tables: &mut [u32],
-    k: &mut [u32; COUNTS],
-    l: &[u32; LIMITS],
-) -> usize
-    requires { ReadyIn tree.now slots.now made.old code.old tables.old k.old l.now × Lowerable depth tree.now at }
-    ensures { LowersIn result (expr_code depth tree.now (slot_names tree.now slots.now) at) (expr_at depth tree.now at).end
-        tree.now made.old code.old tables.old k.old l.now made.new code.new tables.new k.new }
+pub fn emit_expr(s: Scope<'_>, e: &mut Emitter<'_>, at: usize, depth: u32) -> Option<usize>
+    requires { SoundIn s.tree.now e.old × Lowerable depth s.tree.now at }
+    ensures { let t = s.entry.tree.now in let names = slot_names t s.entry.slots.now in
+        EmitsTo result (expr_code depth t names at) (expr_at depth t at).end t e.old e.new }
 {
-    let kind = tree[at];
+    let kind = s.tree[at];
     if kind < expr::VARIABLE {
-        let x = literal_at(tree, at);
-        return emit_literal(tree, at, x, code, tables, k, l);
+        return emit_literal(s.tree, e, at, literal_at(s.tree, at));
     }
     let a = at + 1;
+    let below = depth - 1;
     match kind {
-        expr::VARIABLE => return emit_load(
-            tree,
-            slots,
-            made,
-            code,
-            tables,
-            k,
-            l,
-            a,
-            name_end(tree, a),
-        ),
-        expr::UNARY => return emit_unary(tree, a, depth - 1, slots, made, code, tables, k, l),
-        expr::BINARY => return emit_binary(tree, a, depth - 1, slots, made, code, tables, k, l),
-        expr::CALL => return emit_call(tree, a, depth - 1, slots, made, code, tables, k, l),
-        expr::ATTRIBUTE => return emit_attribute(
-            tree,
-            a,
-            depth - 1,
-            slots,
-            made,
-            code,
-            tables,
-            k,
-            l,
-        ),
-        expr::INDEX => return emit_two(
-            tree,
-            a,
-            depth - 1,
-            LOAD_INDEX,
-            slots,
-            made,
-            code,
-            tables,
-            k,
-            l,
-        ),
-        expr::LAMBDA => return emit_lambda(tree, a, depth - 1, slots, made, code, tables, k, l),
-        _ => return emit_display(tree, a, depth - 1, kind, slots, made, code, tables, k, l),
+        expr::VARIABLE => {
+            emit_load(s, e, a)?;
+            Some(name_end(s.tree, a))
+        }
+        expr::UNARY => emit_unary(s, e, a, below),
+        expr::BINARY => emit_binary(s, e, a, below),
+        expr::CALL => emit_call(s, e, a, below),
+        expr::ATTRIBUTE => emit_attribute(s, e, a, below),
+        expr::INDEX => emit_two(s, e, a, below, LOAD_INDEX),
+        expr::LAMBDA => emit_lambda(s, e, a, below),
+        _ => emit_display(s, e, a, below, kind),
     }
 }
 
-// So many expressions, one after the other; runs of None, False and True by words alone.
+// So many expressions, one after the other; runs of None, False and True by words alone, so no range goes over the places.
 #[cycle(emit)]
-fn emit_exprs(
-    tree: &[u8],
-    at: usize,
-    depth: u32,
-    n: u32,
-    slots: &[u32],
-    made: &mut [u8; MADE_ROOM],
-    code: &mut [u32],
-    tables: &mut [u32],
-    k: &mut [u32; COUNTS],
-    l: &[u32; LIMITS],
-) -> usize
-    requires { ReadyIn tree.now slots.now made.old code.old tables.old k.old l.now × LowerableMany depth n tree.now at × (0 < at) }
-    ensures { LowersIn result (exprs_code depth n tree.now (slot_names tree.now slots.now) at) (exprs_at depth n tree.now at).end
-        tree.now made.old code.old tables.old k.old l.now made.new code.new tables.new k.new }
+fn emit_exprs(s: Scope<'_>, e: &mut Emitter<'_>, at: usize, depth: u32, n: u32) -> Option<usize>
+    requires { SoundIn s.tree.now e.old × LowerableMany depth n s.tree.now at }
+    ensures { let t = s.entry.tree.now in let names = slot_names t s.entry.slots.now in
+        EmitsTo result (exprs_code depth n t names at) (exprs_at depth n t at).end t e.old e.new }
 {
     let mut left = n;
     let mut p = at;
     while 0 < left {
-        let c = put_constants(tree, p, left, code, k, l);
+        let c = put_constants(s.tree, &mut e.code, p, left);
         p += c as usize;
         left -= c;
         if left == 0 {
-            return p;
+            return Some(p);
         }
-        let next = emit_expr(tree, p, depth, slots, made, code, tables, k, l);
-        if next == 0 {
-            return 0;
-        }
-        p = next;
+        p = emit_expr(s, e, p, depth)?;
         left -= 1;
     }
-    p
+    Some(p)
 }
 
 // An operator byte and its operand.
 #[cycle(emit)]
-fn emit_unary(
-    tree: &[u8],
-    at: usize,
-    depth: u32,
-    slots: &[u32],
-    made: &mut [u8; MADE_ROOM],
-    code: &mut [u32],
-    tables: &mut [u32],
-    k: &mut [u32; COUNTS],
-    l: &[u32; LIMITS],
-) -> usize
-    requires { ReadyIn tree.now slots.now made.old code.old tables.old k.old l.now × UnaryLowerable depth tree.now at }
-    ensures { LowersIn result (expr_code depth tree.now (slot_names tree.now slots.now) (at + 1) ⨟ one (instr (unary_opcode (get_or tree.now at 0)) 0 0)) (expr_at depth tree.now (at + 1)).end
-        tree.now made.old code.old tables.old k.old l.now made.new code.new tables.new k.new }
+fn emit_unary(s: Scope<'_>, e: &mut Emitter<'_>, at: usize, depth: u32) -> Option<usize>
+    requires { SoundIn s.tree.now e.old × UnaryLowerable depth s.tree.now at }
+    ensures { let t = s.entry.tree.now in let names = slot_names t s.entry.slots.now in
+        EmitsTo result (expr_code depth t names (at + 1) ⨟ one (instr (unary_opcode (get_or t at 0)) 0 0)) (expr_at depth t (at + 1)).end t e.old e.new }
 {
-    let op = unary_code(tree[at]);
-    let next = emit_expr(tree, at + 1, depth, slots, made, code, tables, k, l);
-    if next == 0 {
-        return 0;
-    }
-    put_op(code, k, l, op, 0, 0, next)
+    let op = unary_code(s.tree[at]);
+    let next = emit_expr(s, e, at + 1, depth)?;
+    e.code.put_op(op, 0, 0)?;
+    Some(next)
 }
 
 // Two expressions and the instruction after them.
 #[cycle(emit)]
-fn emit_two(
-    tree: &[u8],
-    at: usize,
-    depth: u32,
-    op: u32,
-    slots: &[u32],
-    made: &mut [u8; MADE_ROOM],
-    code: &mut [u32],
-    tables: &mut [u32],
-    k: &mut [u32; COUNTS],
-    l: &[u32; LIMITS],
-) -> usize
-    requires { ReadyIn tree.now slots.now made.old code.old tables.old k.old l.now × TwoLowerable depth tree.now at × Plain op 0 0 }
-    ensures { LowersIn result (expr_code depth tree.now (slot_names tree.now slots.now) at ⨟ expr_code depth tree.now (slot_names tree.now slots.now) (expr_at depth tree.now at).end ⨟ one (instr op 0 0)) (second_at depth tree.now at).end
-        tree.now made.old code.old tables.old k.old l.now made.new code.new tables.new k.new }
+fn emit_two(s: Scope<'_>, e: &mut Emitter<'_>, at: usize, depth: u32, op: u32) -> Option<usize>
+    requires { SoundIn s.tree.now e.old × TwoLowerable depth s.tree.now at × Plain op 0 0 }
+    ensures { let t = s.entry.tree.now in let names = slot_names t s.entry.slots.now in
+        EmitsTo result (expr_code depth t names at ⨟ expr_code depth t names (expr_at depth t at).end ⨟ one (instr op 0 0)) (second_at depth t at).end t e.old e.new }
 {
-    let middle = emit_expr(tree, at, depth, slots, made, code, tables, k, l);
-    if middle == 0 {
-        return 0;
-    }
-    let next = emit_expr(tree, middle, depth, slots, made, code, tables, k, l);
-    if next == 0 {
-        return 0;
-    }
-    put_op(code, k, l, op, 0, 0, next)
+    let middle = emit_expr(s, e, at, depth)?;
+    let next = emit_expr(s, e, middle, depth)?;
+    e.code.put_op(op, 0, 0)?;
+    Some(next)
 }
 
 // An operator byte and its two operands.
 #[cycle(emit)]
-fn emit_binary(
-    tree: &[u8],
-    at: usize,
-    depth: u32,
-    slots: &[u32],
-    made: &mut [u8; MADE_ROOM],
-    code: &mut [u32],
-    tables: &mut [u32],
-    k: &mut [u32; COUNTS],
-    l: &[u32; LIMITS],
-) -> usize
-    requires { ReadyIn tree.now slots.now made.old code.old tables.old k.old l.now × BinaryLowerable depth tree.now at }
-    ensures { LowersIn result (emit_expr (slot_names tree.now slots.now) (binary_of (get_or tree.now at 0) (expr_at depth tree.now (at + 1)).value (second_at depth tree.now (at + 1)).value)) (second_at depth tree.now (at + 1)).end
-        tree.now made.old code.old tables.old k.old l.now made.new code.new tables.new k.new }
+fn emit_binary(s: Scope<'_>, e: &mut Emitter<'_>, at: usize, depth: u32) -> Option<usize>
+    requires { SoundIn s.tree.now e.old × BinaryLowerable depth s.tree.now at }
+    ensures { let t = s.entry.tree.now in let names = slot_names t s.entry.slots.now in
+        EmitsTo result (emit_expr names (binary_of (get_or t at 0) (expr_at depth t (at + 1)).value (second_at depth t (at + 1)).value))
+        (second_at depth t (at + 1)).end t e.old e.new }
 {
-    let operator = tree[at];
+    let operator = s.tree[at];
     if operator < expr::AND {
-        return emit_two(
-            tree,
-            at + 1,
-            depth,
-            binary_code(operator),
-            slots,
-            made,
-            code,
-            tables,
-            k,
-            l,
-        );
+        return emit_two(s, e, at + 1, depth, binary_code(operator));
     }
-    emit_logical(
-        tree,
-        at + 1,
-        depth,
-        LOGICAL + operator as u32,
-        slots,
-        made,
-        code,
-        tables,
-        k,
-        l,
-    )
+    emit_logical(s, e, at + 1, depth, LOGICAL + operator as u32)
 }
 
 // `and` (JumpIfFalse) or `or` (JumpIfTrue).
 #[cycle(emit)]
-fn emit_logical(
-    tree: &[u8],
-    at: usize,
-    depth: u32,
-    op: u32,
-    slots: &[u32],
-    made: &mut [u8; MADE_ROOM],
-    code: &mut [u32],
-    tables: &mut [u32],
-    k: &mut [u32; COUNTS],
-    l: &[u32; LIMITS],
-) -> usize
-    requires { ReadyIn tree.now slots.now made.old code.old tables.old k.old l.now × TwoLowerable depth tree.now at × (29 ≤ op) × (op ≤ 30) }
-    ensures { LowersIn result (expr_code depth tree.now (slot_names tree.now slots.now) at ⨟ shortcut (eqb op 30) (expr_code depth tree.now (slot_names tree.now slots.now) (expr_at depth tree.now at).end)) (second_at depth tree.now at).end
-        tree.now made.old code.old tables.old k.old l.now made.new code.new tables.new k.new }
+fn emit_logical(s: Scope<'_>, e: &mut Emitter<'_>, at: usize, depth: u32, op: u32) -> Option<usize>
+    requires { SoundIn s.tree.now e.old × TwoLowerable depth s.tree.now at × (29 ≤ op) × (op ≤ 30) }
+    ensures { let t = s.entry.tree.now in let names = slot_names t s.entry.slots.now in
+        EmitsTo result (expr_code depth t names at ⨟ shortcut (eqb op 30) (expr_code depth t names (expr_at depth t at).end)) (second_at depth t at).end t e.old e.new }
 {
-    let middle = emit_expr(tree, at, depth, slots, made, code, tables, k, l);
-    if middle == 0 {
-        return 0;
-    }
-    emit_shortcut(tree, middle, depth, op, slots, made, code, tables, k, l)
+    let middle = emit_expr(s, e, at, depth)?;
+    emit_shortcut(s, e, middle, depth, op)
 }
 
 // The right side of `and` or `or`, which a jump passes on the short way.
 #[cycle(emit)]
-fn emit_shortcut(
-    tree: &[u8],
-    at: usize,
-    depth: u32,
-    op: u32,
-    slots: &[u32],
-    made: &mut [u8; MADE_ROOM],
-    code: &mut [u32],
-    tables: &mut [u32],
-    k: &mut [u32; COUNTS],
-    l: &[u32; LIMITS],
-) -> usize
-    requires { ReadyIn tree.now slots.now made.old code.old tables.old k.old l.now × Lowerable depth tree.now at × (29 ≤ op) × (op ≤ 30) × (0 < at) }
-    ensures { LowersIn result (shortcut (eqb op 30) (expr_code depth tree.now (slot_names tree.now slots.now) at)) (expr_at depth tree.now at).end
-        tree.now made.old code.old tables.old k.old l.now made.new code.new tables.new k.new }
+fn emit_shortcut(s: Scope<'_>, e: &mut Emitter<'_>, at: usize, depth: u32, op: u32) -> Option<usize>
+    requires { SoundIn s.tree.now e.old × Lowerable depth s.tree.now at × (29 ≤ op) × (op ≤ 30) }
+    ensures { let t = s.entry.tree.now in let names = slot_names t s.entry.slots.now in
+        EmitsTo result (shortcut (eqb op 30) (expr_code depth t names at)) (expr_at depth t at).end t e.old e.new }
 {
-    let from = k[OPEN];
-    let p = put_op(code, k, l, op, 0, 0, at);
-    if p == 0 {
-        return 0;
-    }
-    let next = emit_expr(tree, p, depth, slots, made, code, tables, k, l);
-    if next == 0 {
-        return 0;
-    }
-    end_shortcut(code, k, l, from, op, next)
+    let from = e.code.open;
+    e.code.put_op(op, 0, 0)?;
+    let next = emit_expr(s, e, at, depth)?;
+    e.code.end_shortcut(from, op)?;
+    Some(next)
 }
 
 // A call: its callee and its arguments.
 #[cycle(emit)]
-fn emit_call(
-    tree: &[u8],
-    at: usize,
-    depth: u32,
-    slots: &[u32],
-    made: &mut [u8; MADE_ROOM],
-    code: &mut [u32],
-    tables: &mut [u32],
-    k: &mut [u32; COUNTS],
-    l: &[u32; LIMITS],
-) -> usize
-    requires { ReadyIn tree.now slots.now made.old code.old tables.old k.old l.now × CallLowerable depth tree.now at }
-    ensures { LowersIn result (emit_expr (slot_names tree.now slots.now) (call (expr_at depth tree.now at).value (list_at depth tree.now (expr_at depth tree.now at).end).value)) (list_at depth tree.now (expr_at depth tree.now at).end).end
-        tree.now made.old code.old tables.old k.old l.now made.new code.new tables.new k.new }
+fn emit_call(s: Scope<'_>, e: &mut Emitter<'_>, at: usize, depth: u32) -> Option<usize>
+    requires { SoundIn s.tree.now e.old × CallLowerable depth s.tree.now at }
+    ensures { let t = s.entry.tree.now in let names = slot_names t s.entry.slots.now in
+        EmitsTo result (emit_expr names (call (expr_at depth t at).value (list_at depth t (expr_at depth t at).end).value))
+        (list_at depth t (expr_at depth t at).end).end t e.old e.new }
 {
-    let kind = tree[at];
+    let kind = s.tree[at];
     if kind == expr::VARIABLE {
-        return emit_named(tree, at + 1, depth, slots, made, code, tables, k, l);
+        return emit_named(s, e, at + 1, depth);
     }
     if kind == expr::ATTRIBUTE {
-        return emit_method(tree, at + 1, depth, slots, made, code, tables, k, l);
+        return emit_method(s, e, at + 1, depth);
     }
-    let next = emit_expr(tree, at, depth, slots, made, code, tables, k, l);
-    if next == 0 {
-        return 0;
-    }
-    emit_args(
-        tree,
-        next,
-        depth,
-        CALL_VALUE * UPPER,
-        slots,
-        made,
-        code,
-        tables,
-        k,
-        l,
-    )
+    let next = emit_expr(s, e, at, depth)?;
+    emit_args(s, e, next, depth, Callee::Value)
 }
 
 // A call by name.
 #[cycle(emit)]
-fn emit_named(
-    tree: &[u8],
-    at: usize,
-    depth: u32,
-    slots: &[u32],
-    made: &mut [u8; MADE_ROOM],
-    code: &mut [u32],
-    tables: &mut [u32],
-    k: &mut [u32; COUNTS],
-    l: &[u32; LIMITS],
-) -> usize
-    requires { ReadyIn tree.now slots.now made.old code.old tables.old k.old l.now × NamedLowerable depth tree.now at }
-    ensures { LowersIn result (emit_expr (slot_names tree.now slots.now) (call (var (name_at tree.now at)) (list_at depth tree.now (name_end tree.now at)).value)) (list_at depth tree.now (name_end tree.now at)).end
-        tree.now made.old code.old tables.old k.old l.now made.new code.new tables.new k.new }
+fn emit_named(s: Scope<'_>, e: &mut Emitter<'_>, at: usize, depth: u32) -> Option<usize>
+    requires { SoundIn s.tree.now e.old × NamedLowerable depth s.tree.now at }
+    ensures { let t = s.entry.tree.now in let names = slot_names t s.entry.slots.now in
+        EmitsTo result (emit_expr names (call (var (name_at t at)) (list_at depth t (name_end t at)).value)) (list_at depth t (name_end t at)).end t e.old e.new }
 {
-    let start = name_end(tree, at);
-    let callee = resolve(tree, made, tables, k, at);
-    let next = load_callee(tree, slots, made, code, tables, k, l, at, callee, start);
-    if next == 0 {
-        return 0;
-    }
-    emit_args(tree, next, depth, callee, slots, made, code, tables, k, l)
+    let callee = resolve(s.tree, &e.tables, at);
+    load_callee(s, e, at, callee)?;
+    emit_args(s, e, name_end(s.tree, at), depth, callee)
 }
 
 // A call of an attribute; the method's symbol comes after the arguments.
 #[cycle(emit)]
-fn emit_method(
-    tree: &[u8],
-    at: usize,
-    depth: u32,
-    slots: &[u32],
-    made: &mut [u8; MADE_ROOM],
-    code: &mut [u32],
-    tables: &mut [u32],
-    k: &mut [u32; COUNTS],
-    l: &[u32; LIMITS],
-) -> usize
-    requires { ReadyIn tree.now slots.now made.old code.old tables.old k.old l.now × MethodLowerable depth tree.now at }
-    ensures { LowersIn result (method_code depth tree.now (slot_names tree.now slots.now) at) (list_at depth tree.now (name_end tree.now (expr_at (depth - 1) tree.now at).end)).end
-        tree.now made.old code.old tables.old k.old l.now made.new code.new tables.new k.new }
+fn emit_method(s: Scope<'_>, e: &mut Emitter<'_>, at: usize, depth: u32) -> Option<usize>
+    requires { SoundIn s.tree.now e.old × MethodLowerable depth s.tree.now at }
+    ensures { let t = s.entry.tree.now in let names = slot_names t s.entry.slots.now in
+        EmitsTo result (method_code depth t names at) (list_at depth t (name_end t (expr_at (depth - 1) t at).end)).end t e.old e.new }
 {
-    let name = emit_expr(tree, at, depth - 1, slots, made, code, tables, k, l);
-    if name == 0 {
-        return 0;
-    }
-    let start = name_end(tree, name);
-    let n = u16_at(tree, start);
-    let next = emit_exprs(tree, start + 2, depth, n, slots, made, code, tables, k, l);
-    if next == 0 {
-        return 0;
-    }
-    emit_symbol(tree, made, code, tables, k, l, name, CALL_METHOD, n, next)
+    let name = emit_expr(s, e, at, depth - 1)?;
+    let start = name_end(s.tree, name);
+    let n = u16_at(s.tree, start);
+    let next = emit_exprs(s, e, start + 2, depth, n)?;
+    emit_symbol(s.tree, e, name, CALL_METHOD, n)?;
+    Some(next)
 }
 
 // The arguments and the instruction that calls.
 #[cycle(emit)]
 fn emit_args(
-    tree: &[u8],
+    s: Scope<'_>,
+    e: &mut Emitter<'_>,
     at: usize,
     depth: u32,
-    callee: u32,
-    slots: &[u32],
-    made: &mut [u8; MADE_ROOM],
-    code: &mut [u32],
-    tables: &mut [u32],
-    k: &mut [u32; COUNTS],
-    l: &[u32; LIMITS],
-) -> usize
-    requires { ReadyIn tree.now slots.now made.old code.old tables.old k.old l.now × ArgsLowerable depth tree.now at × Short (callee_in callee) }
-    ensures { LowersIn result (exprs_code depth (count_at tree.now at) tree.now (slot_names tree.now slots.now) (at + 2) ⨟ one (call_instr (callee_in callee) (count_at tree.now at))) (list_at depth tree.now at).end
-        tree.now made.old code.old tables.old k.old l.now made.new code.new tables.new k.new }
+    callee: Callee,
+) -> Option<usize>
+    requires { SoundIn s.tree.now e.old × ArgsLowerable depth s.tree.now at × Short (callee_of callee) }
+    ensures { let t = s.entry.tree.now in let names = slot_names t s.entry.slots.now in
+        EmitsTo result (exprs_code depth (count_at t at) t names (at + 2) ⨟ one (call_instr (callee_of callee) (count_at t at))) (list_at depth t at).end t e.old e.new }
 {
-    let n = u16_at(tree, at);
-    let next = emit_exprs(tree, at + 2, depth, n, slots, made, code, tables, k, l);
-    if next == 0 {
-        return 0;
-    }
-    put_call(code, k, l, callee, n, next)
+    let n = u16_at(s.tree, at);
+    let next = emit_exprs(s, e, at + 2, depth, n)?;
+    put_call(&mut e.code, callee, n)?;
+    Some(next)
 }
 
 // An object and the name of its attribute.
 #[cycle(emit)]
-fn emit_attribute(
-    tree: &[u8],
-    at: usize,
-    depth: u32,
-    slots: &[u32],
-    made: &mut [u8; MADE_ROOM],
-    code: &mut [u32],
-    tables: &mut [u32],
-    k: &mut [u32; COUNTS],
-    l: &[u32; LIMITS],
-) -> usize
-    requires { ReadyIn tree.now slots.now made.old code.old tables.old k.old l.now × AttributeLowerable depth tree.now at }
-    ensures { LowersIn result (expr_code depth tree.now (slot_names tree.now slots.now) at ⨟ intern (name_at tree.now (expr_at depth tree.now at).end) (λ k. one (LoadAttr k))) (name_end tree.now (expr_at depth tree.now at).end)
-        tree.now made.old code.old tables.old k.entry.now l.now made.new code.new tables.new k.exit.now }
+fn emit_attribute(s: Scope<'_>, e: &mut Emitter<'_>, at: usize, depth: u32) -> Option<usize>
+    requires { SoundIn s.tree.now e.old × AttributeLowerable depth s.tree.now at }
+    ensures { let t = s.entry.tree.now in let names = slot_names t s.entry.slots.now in
+        EmitsTo result (expr_code depth t names at ⨟ intern (name_at t (expr_at depth t at).end) (λ k. one (LoadAttr k)))
+        (name_end t (expr_at depth t at).end) t e.old e.new }
 {
-    let name = emit_expr(tree, at, depth, slots, made, code, tables, k, l);
-    if name == 0 {
-        return 0;
-    }
-    emit_symbol(
-        tree,
-        made,
-        code,
-        tables,
-        k,
-        l,
-        name,
-        LOAD_ATTR,
-        0,
-        name_end(tree, name),
-    )
+    let name = emit_expr(s, e, at, depth)?;
+    emit_symbol(s.tree, e, name, LOAD_ATTR, 0)?;
+    Some(name_end(s.tree, name))
 }
 
 // A list, dict, tuple, set or tree set.
 #[cycle(emit)]
-fn emit_display(
-    tree: &[u8],
-    at: usize,
-    depth: u32,
-    kind: u8,
-    slots: &[u32],
-    made: &mut [u8; MADE_ROOM],
-    code: &mut [u32],
-    tables: &mut [u32],
-    k: &mut [u32; COUNTS],
-    l: &[u32; LIMITS],
-) -> usize
-    requires { ReadyIn tree.now slots.now made.old code.old tables.old k.old l.now × DisplayLowerable kind depth tree.now at }
-    ensures { LowersIn result (exprs_code depth (held_of kind (count_at tree.now at)) tree.now (slot_names tree.now slots.now) (at + 2) ⨟ one (Build (display_of kind) (count_at tree.now at))) (exprs_at depth (held_of kind (count_at tree.now at)) tree.now (at + 2)).end
-        tree.now made.old code.old tables.old k.old l.now made.new code.new tables.new k.new }
+fn emit_display(s: Scope<'_>, e: &mut Emitter<'_>, at: usize, depth: u32, kind: u8) -> Option<usize>
+    requires { SoundIn s.tree.now e.old × DisplayLowerable kind depth s.tree.now at }
+    ensures { let t = s.entry.tree.now in let names = slot_names t s.entry.slots.now in
+        EmitsTo result (exprs_code depth (held_of kind (count_at t at)) t names (at + 2) ⨟ one (Build (display_of kind) (count_at t at)))
+        (exprs_at depth (held_of kind (count_at t at)) t (at + 2)).end t e.old e.new }
 {
-    let n = u16_at(tree, at);
-    let next = emit_exprs(
-        tree,
-        at + 2,
-        depth,
-        held(kind, n),
-        slots,
-        made,
-        code,
-        tables,
-        k,
-        l,
-    );
-    if next == 0 {
-        return 0;
-    }
-    put_op(code, k, l, build_code(kind), n, 0, next)
+    let n = u16_at(s.tree, at);
+    let next = emit_exprs(s, e, at + 2, depth, held(kind, n))?;
+    e.code.put_op(build_code(kind), n, 0)?;
+    Some(next)
 }
 
 // A lambda: its parameters and its body. Its slots are the parameters, then the captures.
 #[cycle(emit)]
-fn emit_lambda(
-    tree: &[u8],
-    at: usize,
-    depth: u32,
-    slots: &[u32],
-    made: &mut [u8; MADE_ROOM],
-    code: &mut [u32],
-    tables: &mut [u32],
-    k: &mut [u32; COUNTS],
-    l: &[u32; LIMITS],
-) -> usize
-    requires { ReadyIn tree.now slots.now made.old code.old tables.old k.old l.now × LambdaLowerable depth tree.now at }
-    ensures { LowersIn result (lambda_code depth tree.now (slot_names tree.now slots.now) at) (expr_at depth tree.now (params_at tree.now at).end).end
-        tree.now made.old code.old tables.old k.old l.now made.new code.new tables.new k.new }
+fn emit_lambda(s: Scope<'_>, e: &mut Emitter<'_>, at: usize, depth: u32) -> Option<usize>
+    requires { SoundIn s.tree.now e.old × LambdaLowerable depth s.tree.now at }
+    ensures { let t = s.entry.tree.now in let names = slot_names t s.entry.slots.now in
+        EmitsTo result (lambda_code depth t names at) (expr_at depth t (params_at t at).end).end t e.old e.new }
 {
     let mut places = [0u32; SLOTS_ROOM];
-    let arity = u16_at(tree, at);
-    let body = skip_params(tree, at);
-    let all = lambda_slots(tree, at, body, depth, slots, &mut places);
-    let Locals::Count(n) = all else {
-        return 0;
+    let arity = u16_at(s.tree, at);
+    let body = skip_params(s.tree, at);
+    let n = lambda_slots(s.tree, at, body, depth, s.slots, &mut places)?;
+    let inner = Scope {
+        tree: s.tree,
+        slots: &places[..SLOTS_FROM + n as usize],
     };
-    let end = SLOTS_FROM + n as usize;
-    emit_closure(
-        tree,
-        body,
-        depth,
-        arity,
-        slots,
-        &places[..end],
-        made,
-        code,
-        tables,
-        k,
-        l,
-    )
+    emit_closure(s, inner, e, body, depth, arity)
 }
 
 // The function of a lambda with the slots `inner`, and its closure.
 #[cycle(emit)]
 fn emit_closure(
-    tree: &[u8],
+    s: Scope<'_>,
+    inner: Scope<'_>,
+    e: &mut Emitter<'_>,
     at: usize,
     depth: u32,
     arity: u32,
-    slots: &[u32],
-    inner: &[u32],
-    made: &mut [u8; MADE_ROOM],
-    code: &mut [u32],
-    tables: &mut [u32],
-    k: &mut [u32; COUNTS],
-    l: &[u32; LIMITS],
-) -> usize
-    requires { ReadyIn tree.now slots.now made.old code.old tables.old k.old l.now × ClosureLowerable depth tree.now arity (drop slots_from inner.now) at × CapturesHeld tree.now (slot_names tree.now slots.now) arity (drop slots_from inner.now) × Slots tree.now inner.now }
-    ensures { LowersIn result (closure_code depth tree.now (slot_names tree.now slots.now) arity (drop slots_from inner.now) at) (expr_at depth tree.now at).end
-        tree.now made.old code.old tables.old k.old l.now made.new code.new tables.new k.new }
+) -> Option<usize>
+    requires { SoundIn s.tree.now e.old × (inner.tree.now ≡ s.tree.now) × ClosureLowerable depth s.tree.now arity (drop slots_from inner.slots.now) at
+        × CapturesHeld s.tree.now (slot_names s.tree.now s.slots.now) arity (drop slots_from inner.slots.now) }
+    ensures { let t = s.entry.tree.now in let names = slot_names t s.entry.slots.now in
+        EmitsTo result (closure_code depth t names arity (drop slots_from inner.entry.slots.now) at) (expr_at depth t at).end t e.old e.new }
 {
-    let f = k[FUNCTIONS];
-    let next = emit_function(tree, at, depth, arity, inner, made, code, tables, k, l);
-    if next == 0 {
-        return 0;
-    }
-    let a = SLOTS_FROM + arity as usize;
-    end_closure(tree, slots, &inner[a..], f, code, k, l, next)
+    let f = e.tables.functions;
+    let next = emit_function(inner, e, at, depth, arity)?;
+    end_closure(
+        s,
+        &mut e.code,
+        &inner.slots[SLOTS_FROM + arity as usize..],
+        f,
+    )?;
+    Some(next)
 }
 
 // The function of a lambda.
 #[cycle(emit)]
 fn emit_function(
-    tree: &[u8],
+    s: Scope<'_>,
+    e: &mut Emitter<'_>,
     at: usize,
     depth: u32,
     arity: u32,
-    slots: &[u32],
-    made: &mut [u8; MADE_ROOM],
-    code: &mut [u32],
-    tables: &mut [u32],
-    k: &mut [u32; COUNTS],
-    l: &[u32; LIMITS],
-) -> usize
-    requires { ReadyIn tree.now slots.now made.old code.old tables.old k.old l.now × ClosureLowerable depth tree.now arity (drop slots_from slots.now) at }
-    ensures { LowersIn result (function_code depth tree.now (functions_in k.old) arity (drop slots_from slots.now) at) (expr_at depth tree.now at).end
-        tree.now made.old code.old tables.old k.old l.now made.new code.new tables.new k.new }
+) -> Option<usize>
+    requires { SoundIn s.tree.now e.old × ClosureLowerable depth s.tree.now arity (drop slots_from s.slots.now) at }
+    ensures { let t = s.entry.tree.now in
+        EmitsTo result (function_code depth t e.old.tables.functions arity (drop slots_from s.entry.slots.now) at) (expr_at depth t at).end t e.old e.new }
 {
-    let base = k[BASE];
-    let f = begin_lambda(
-        tree,
-        made,
-        tables,
-        k,
-        l,
-        arity,
-        (slots.len() - SLOTS_FROM) as u32,
-    );
-    if OVER <= f {
-        return 0;
-    }
-    let next = emit_expr(tree, at, depth, slots, made, code, tables, k, l);
-    if next == 0 {
-        return 0;
-    }
-    end_lambda(code, tables, k, l, f, base, next)
+    let base = e.code.base;
+    let locals = (s.slots.len() - SLOTS_FROM) as u32;
+    let f = begin_lambda(s.tree, e, arity, locals)?;
+    let next = emit_expr(s, e, at, depth)?;
+    end_lambda(e, f, base)?;
+    Some(next)
 }

@@ -1,15 +1,17 @@
 -- Literals by their kind bytes: their code, and where they end.
-use Prim.Native.Nat.{ℕ, zero, suc, ◌+◌, ◌*◌, ◌-◌, ◌<◌, ◌≤◌}
+use Prim.Native.Nat.{ℕ, zero, suc, ◌+◌, ◌-◌, ◌<◌, ◌≤◌}
 use mathlib.Core.Path.{◌≡◌, refl, sym, ap, ◌∙◌}
-use mathlib.Core.List.{List}
+use mathlib.Core.List.{List, [], ◌∷◌}
 use native.Mathlib.Omega.{arith}
 use lib.ListN.{length, take, drop, get_or}
+use Rattle.std.specs.Int.{w64, from_be_bytes}
 use Rattle.definitions.specs.Tree.{Expr}
 use Rattle.definitions.specs.Instruction.{instr}
 use Rattle.definitions.specs.Tables.{one}
 use Rattle.definitions.specs.Lower.{literal, emit_expr}
 use Rattle.parts.specs.Places as Places
 use Rattle.parts.specs.Places.{Node, count_at, eight_at}
+use Rattle.parts.proofs.Laws.{at_byte}
 use Rattle.exprs.proofs.ExprViews.{view-none, view-false, view-true}
 use Rattle.exprs.proofs.LiteralLaws.{eight_is}
 use Rattle.state.specs.Words.{number_at, text_at}
@@ -26,16 +28,24 @@ pub text_same : (t : List ℕ) (p : ℕ) → (Places.text_at t p).value ≡ text
 unfolding Places.text_at text_at
 text_same t p = ap (λ (n : ℕ). take n (drop (p + 2) t)) (sym (count_same t p))
 
-eight-of : (t : List ℕ) (p : ℕ) → number_at 8 t p ≡ ((count_at t p * 65536 + count_at t (p + 1 + 1)) * 65536 + count_at t (p + 1 + 1 + 1 + 1)) * 65536 + count_at t (p + 1 + 1 + 1 + 1 + 1 + 1)
-unfolding number_at count_at
+-- so many bytes from p on
+unfoldable bytes_from : ℕ → List ℕ → ℕ → List ℕ
+bytes_from zero t p = []
+bytes_from (suc n) t p = get_or t p 0 ∷ bytes_from n t (p + 1)
+
+bytes-taken : (n : ℕ) (t : List ℕ) (p : ℕ) → p + n ≤ length t → take n (drop p t) ≡ bytes_from n t p
+unfolding bytes_from
+bytes-taken zero t p h = refl
+bytes-taken (suc n) t p h = ap (take (suc n)) (at_byte t p (omega arith)) ∙ ap (λ (bs : List ℕ). get_or t p 0 ∷ bs) (bytes-taken n t (p + 1) (omega arith))
+
+eight-of : (t : List ℕ) (p : ℕ) → from_be_bytes w64 (bytes_from 8 t p) ≡ number_at 8 t p
+unfolding number_at bytes_from
 eight-of t p = omega arith
 
 pub eight-same : (t : List ℕ) (p : ℕ) → p + 8 ≤ length t → eight_at t p ≡ number_at 8 t p
 eight-same t p h =
-    let a : p + 2 ≡ p + 1 + 1 = omega arith in
-    let b : p + 4 ≡ p + 1 + 1 + 1 + 1 = omega arith in
-    let c : p + 6 ≡ p + 1 + 1 + 1 + 1 + 1 + 1 = omega arith in
-    sym (eight-of t p ∙ eight_is t p _ _ _ _ h refl (ap (count_at t) (sym a)) (ap (count_at t) (sym b)) (ap (count_at t) (sym c)))
+    let size : p + 8 - p ≡ 8 = omega arith in
+    sym (sym (eight-of t p) ∙ eight_is t _ p _ h (sym (ap (λ (n : ℕ). take n (drop p t)) size ∙ bytes-taken 8 t p h)) refl)
 
 -- ---- by the kind byte
 

@@ -15,7 +15,8 @@ use Rattle.definitions.specs.Tree.{Branches, else}
 use Rattle.tree.specs.StmtAt.{block_at, branches_at, else_at}
 use Rattle.state.specs.State.{State, emit_at, Emits}
 use Rattle.state.specs.declared.Counts.{Counts}
-use Rattle.state.specs.Answered.{Limits, Emitted}
+use Rattle.state.specs.declared.Limits.{Limits}
+use Rattle.state.specs.Answered.{Emitted}
 use Rattle.state.proofs.Emission.{at_more}
 use Rattle.state.proofs.Answers.{emits-as}
 use Rattle.lower_emit.specs.Ops.{special, Plain}

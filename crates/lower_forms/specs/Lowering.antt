@@ -14,7 +14,7 @@ use Rattle.tree.specs.StmtAt.{stmt_at, block_at, stmts_at, branches_at, methods_
 use Rattle.state.specs.Words.{name_at}
 use Rattle.state.specs.State.{Sound}
 use Rattle.state.specs.declared.Counts.{Counts}
-use Rattle.state.specs.Answered.{Limits}
+use Rattle.state.specs.declared.Limits.{Limits}
 use Rattle.lower_forms.specs.Lowerable.{Lowerable}
 
 -- what a step without slots asks: a short tree, sound slices

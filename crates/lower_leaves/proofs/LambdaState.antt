@@ -12,118 +12,49 @@ use Rattle.definitions.specs.Bytes.{Name, all, member, position, same, below}
 use Rattle.definitions.specs.Tree.{Expr}
 use Rattle.definitions.specs.Instruction.{Return, MakeClosure, LoadLocal}
 use Rattle.definitions.specs.Tables.{Function, Body, expr_body, Emit, one, ◌⨟◌, function}
-use Rattle.definitions.specs.Slots.{in_globals, Frame, names_only, within, insert, sort, captures}
-use Rattle.definitions.proofs.Resolve.{position-lt}
+use Rattle.definitions.specs.Slots.{names_only, within, insert, sort, captures}
 use Rattle.definitions.specs.Lower.{lambda_name, load, loads, closure, emit_expr}
 use Rattle.parts.specs.Places.{params_at, count_at}
 use Rattle.exprs.specs.ExprAt.{expr_at, ExprReads}
 use Rattle.state.specs.Words.{name_at}
-use Rattle.state.specs.State.{State, state_of, names_at, slots_from, Slots, emit_at, with_tables, symbol_number, with_symbol, Sound, Within, Left, found_or}
+use Rattle.state.specs.State.{State, state_of, names_at, slots_from, Slots, emit_at, with_tables, symbol_number, with_symbol, Sound, Within, Left}
 use Rattle.state.specs.Steps.{begun, ended}
 use Rattle.state.specs.declared.Counts.{Counts}
-use Rattle.state.specs.Answered.{Limits, Emitted, Done, Full, Numbered, At, Over}
-use Rattle.state.proofs.Answers.{emits-full, full-emits, done-emits, paced-more, base-below}
+use Rattle.state.specs.declared.Limits.{Limits}
+use Rattle.state.proofs.Answers.{base-below}
 use Rattle.state.proofs.Views.{stack-length, function-count}
 use Rattle.state.proofs.Emission.{at-seq, at_one, at-by}
 use Rattle.state.proofs.Enclosing.{at-function, symbol-functions}
 use Rattle.state.proofs.Growth.{Lengthened, Lengthens, lengthens-one, lengthens-seq, lengthens-expr, functions-longer}
-use Rattle.state.proofs.Within.{within-one, within-down, within-begun, within-function, closure-slots}
-use Rattle.lower_emit.specs.Nesting.{begun_with, body_of, Moved, Begins}
+use Rattle.state.proofs.Within.{within-one, within-down, within-function, closure-slots}
+use Rattle.lower_emit.specs.Nesting.{begun_with, body_of, Moved}
 use Rattle.lower_emit.proofs.Begun.{begun-frame, begun-body}
 use Rattle.lower_emit.proofs.Setting.{map-drop}
 use Rattle.lower_names.proofs.Naming.{at_slot, at_load}
 use Rattle.names.specs.Made.{made_name}
 use Rattle.names.specs.declared.Made.TheVariants.{Lambda}
-use Rattle.lower_emit.specs.Step.{Lowers, Ends}
 use Rattle.lower_forms.specs.Lowerable.{lambda_names, lambda_code, LambdaLowerable, closure_code, function_code, ClosureLowerable, Held, CapturesHeld}
-use Rattle.lower_emit.proofs.Sequence.{lowers-as}
 use Rattle.lower_forms.proofs.ExprArms.{and_both, params-count}
 
 pub lambda-name : (n : ℕ) → made_name (Lambda n) ≡ lambda_name n
 unfolding made_name
 lambda-name n = refl
 
--- ---- answers, once they are matched on
-
-pub begins-at : (r : Numbered) (i : ℕ) (k : Counts) (t made code tables : List ℕ) (c : Counts) (l : Limits) (n : ℕ) (want : State) → r ≡ At i k
-    → Begins r t made code tables c l n want → (i ≡ n) × Moved c.open k t made code tables c l want
-unfolding Begins
-begins-at r i k t made code tables c l n want e h = let g = rw e at h in (g.0, g.1)
-
-pub begins-over : (r : Numbered) (t made code tables : List ℕ) (c : Counts) (l : Limits) (n : ℕ) (want : State) → r ≡ Over → Begins r t made code tables c l n want → Within l want → ⊥
-unfolding Begins
-begins-over r t made code tables c l n want e h = rw e at h
-
--- ---- the beginning
-
--- the function's name has its symbol: k is what is left then
-module _ (t made code tables made₁ tables₁ : List ℕ) (c k : Counts) (l : Limits) (x : Name) (s : Sound t made code tables c l) where
-  abbrev named : State
-  named = with_tables (with_symbol x (state_of t made code tables c).tables) (state_of t made code tables c)
-
-  pub begin-over : (n sy arity locals : ℕ) (tables₂ : List ℕ) → (Within l named → ⊥) → Begins Over t made₁ code tables₂ c l n (begun_with sy arity locals named)
-  unfolding Begins begun_with
-  begin-over n sy arity locals tables₂ h =
-      let f : Frame = record { locals = locals; names = []; keep = in_globals } in
-      λ w. h (within-begun sy arity f named (subst (Within l) (begun-frame sy arity locals f named refl) w))
-
-  same-open : Left k t made₁ code tables₁ c l named → k.open ≡ c.open
-  same-open f = sym (stack-length t made₁ code tables₁ k l f.sound) ∙ ap (λ (u : State). length u.stack) f.state ∙ stack-length t made code tables c l s
-
-  same-functions : Left k t made₁ code tables₁ c l named → length (state_of t made₁ code tables₁ k).tables.functions ≡ c.functions
-  same-functions f =
-      ap (λ (u : State). length u.tables.functions) f.state ∙ ap length (symbol-functions x (state_of t made code tables c).tables) ∙ function-count t made code tables c l s
-
-  pub begin-after : (r : Numbered) (i sy arity locals : ℕ) (tables₂ : List ℕ) → (i ≡ sy) × Left k t made₁ code tables₁ c l named
-      → Begins r t made₁ code tables₂ k l (length (state_of t made₁ code tables₁ k).tables.functions) (begun_with i arity locals (state_of t made₁ code tables₁ k))
-      → Begins r t made₁ code tables₂ c l c.functions (begun_with sy arity locals named)
-  unfolding Begins
-  begin-after (At j m) i sy arity locals tables₂ f h = (
-    h.0 ∙ same-functions f.1,
-    record {
-      state = h.1.state ∙ (λ z. begun_with (f.0 z) arity locals (f.1.state z));
-      base = h.1.base ∙ same-open f.1;
-      paced = paced-more f.1.paced h.1.paced;
-      sound = h.1.sound;
-    },
-    omega (arith, f.1.paced.methods, h.2),
-  )
-  begin-after Over i sy arity locals tables₂ f h = λ w. h (subst (Within l) (sym (λ z. begun_with (f.0 z) arity locals (f.1.state z))) w)
-
 -- ---- the end
 
-module _ (t made code tables code₁ : List ℕ) (c k : Counts) (l : Limits) (f b next : ℕ) where
-  pub end-full : (r : Emitted) (q : ℕ) (code' tables' : List ℕ) (want : State) → r ≡ Full → Lowers r (one Return) q t made code tables made code₁ tables c l
-      → Ends Full b t made code' tables' c l next (emit_at c.base (one Return) (state_of t made code tables c)) want
-  unfolding Ends
-  end-full r q code' tables' want z h = emits-full t made code₁ tables c l q _ r z h
+module _ (t made code tables code₁ : List ℕ) (c k : Counts) (l : Limits) (f : ℕ) (g : Left k t made code₁ tables c l (emit_at c.base (one Return) (state_of t made code tables c))) where
+  last-functions : (state_of t made code₁ tables k).tables.functions ≡ (state_of t made code tables c).tables.functions
+  last-functions = ap (λ (u : State). u.tables.functions) (g.state ∙ at_one c.base Return (state_of t made code tables c))
 
-  module _ (g : Left k t made code₁ tables c l (emit_at c.base (one Return) (state_of t made code tables c))) where
-    last-functions : (state_of t made code₁ tables k).tables.functions ≡ (state_of t made code tables c).tables.functions
-    last-functions = ap (λ (u : State). u.tables.functions) (g.state ∙ at_one c.base Return (state_of t made code tables c))
+  pub end_known : Sound t made code tables c l → f < c.functions → f < k.functions
+  end_known s h =
+      let a = function-count t made code tables c l s in
+      let d = function-count t made code₁ tables k l g.sound in
+      let e = ap length last-functions in
+      omega arith
 
-    pub end_known : Sound t made code tables c l → f < c.functions → f < k.functions
-    end_known s h =
-        let a = function-count t made code tables c l s in
-        let d = function-count t made code₁ tables k l g.sound in
-        let e = ap length last-functions in
-        omega arith
-
-    pub end_empty : body_of (state_of t made code tables c).tables.functions f ≡ [] → body_of (state_of t made code₁ tables k).tables.functions f ≡ []
-    end_empty h = ap (λ (fs : List Function). body_of fs f) last-functions ∙ h
-
-    pub end-done : (q : ℕ) (m : Counts) (code₂ tables₂ : List ℕ) → q ≡ next → Moved b m t made code₂ tables₂ k l (ended k.base f (state_of t made code₁ tables k))
-        → Ends (Done q m) b t made code₂ tables₂ c l next (emit_at c.base (one Return) (state_of t made code tables c)) (ended c.base f (emit_at c.base (one Return) (state_of t made code tables c)))
-    unfolding Ends
-    end-done q m code₂ tables₂ e h = (
-      e,
-      record {
-        state = h.state ∙ (λ z. ended (g.base z) f (g.state z));
-        base = h.base;
-        paced = paced-more g.paced h.paced;
-        sound = h.sound;
-      },
-    )
+  pub end_empty : body_of (state_of t made code tables c).tables.functions f ≡ [] → body_of (state_of t made code₁ tables k).tables.functions f ≡ []
+  end_empty h = ap (λ (fs : List Function). body_of fs f) last-functions ∙ h
 
 -- ---- a whole function
 
@@ -145,17 +76,15 @@ module _ (t made code tables : List ℕ) (c : Counts) (l : Limits) (s : Sound t 
       subst (λ (u : State). Within l (emit_at (length before.stack) (e ⨟ one Return) u)) (sym started)
       (within-function c.base x arity (names_only (names_at t inner)) body before _ refl (lengthens-seq E (lengthens-one Return)) w)
 
-  pub function-over : (r : Numbered) (next i : ℕ) (made' code' tables' : List ℕ) → r ≡ Over → Begins r t made' code tables' c l i start
-      → Lowers Full (function x arity (names_only (names_at t inner)) body (e ⨟ one Return)) next t made code tables made' code' tables' c l
-  function-over r next i made' code' tables' z h =
-      full-emits t made' code' tables' c l next _ (λ w. begins-over r t made' code tables' c l i start z h (within-down (length before.stack) start (lengthens-seq E (lengthens-one Return)) (over w)))
+  pub function-within : Within l (emit_at c.base (function x arity (names_only (names_at t inner)) body (e ⨟ one Return)) before) → Within l start
+  function-within w = within-down (length before.stack) start (lengthens-seq E (lengthens-one Return)) (over w)
 
-  module _ (made₁ tables₁ : List ℕ) (f : ℕ) (k : Counts) (b : (f ≡ c.functions) × Moved c.open k t made₁ code tables₁ c l start) where
+  module _ (made₁ code₁ tables₁ : List ℕ) (f : ℕ) (k : Counts) (b : (f ≡ c.functions) × Moved c.open k t made₁ code₁ tables₁ c l start) where
     stack_same : c.open ≡ length before.stack
     stack_same = sym (stack-length t made code tables c l s)
 
     -- the body from the beginning
-    from_start : emit_at k.base e (state_of t made₁ code tables₁ k) ≡ emit_at (length before.stack) e start
+    from_start : emit_at k.base e (state_of t made₁ code₁ tables₁ k) ≡ emit_at (length before.stack) e start
     from_start = (λ i. emit_at (b.1.base i) e (b.1.state i)) ∙ ap (λ (n : ℕ). emit_at n e start) stack_same
 
     start-below : length before.stack ≤ length start.stack
@@ -165,13 +94,10 @@ module _ (t made code tables : List ℕ) (c : Counts) (l : Limits) (s : Sound t 
     two_steps : emit_at (length before.stack) (e ⨟ one Return) start ≡ emit_at (length before.stack) (one Return) (emit_at (length before.stack) e start)
     two_steps = at-seq (length before.stack) e (one Return) start start-below
 
-    pub function-body-over : (r : Emitted) (q next : ℕ) (made' code' tables' : List ℕ) → r ≡ Full → Lowers r e q t made₁ code tables₁ made' code' tables' k l
-        → Lowers Full (function x arity (names_only (names_at t inner)) body (e ⨟ one Return)) next t made code tables made' code' tables' c l
-    function-body-over r q next made' code' tables' z h =
-        full-emits t made' code' tables' c l next _ (λ w. emits-full t made' code' tables' k l q _ r z h
-        (subst (Within l) (sym from_start) (within-one (length before.stack) Return _ (subst (Within l) two_steps (over w)))))
+    pub body-within : Within l (emit_at c.base (function x arity (names_only (names_at t inner)) body (e ⨟ one Return)) before) → Within l (emit_at k.base e (state_of t made₁ code₁ tables₁ k))
+    body-within w = subst (Within l) (sym from_start) (within-one (length before.stack) Return _ (subst (Within l) two_steps (over w)))
 
-    module _ (made₂ code₂ tables₂ : List ℕ) (m : Counts) (g : Left m t made₂ code₂ tables₂ k l (emit_at k.base e (state_of t made₁ code tables₁ k))) where
+    module _ (made₂ code₂ tables₂ : List ℕ) (m : Counts) (g : Left m t made₂ code₂ tables₂ k l (emit_at k.base e (state_of t made₁ code₁ tables₁ k))) where
       at_base : m.base ≡ length before.stack
       at_base = g.base ∙ b.1.base ∙ stack_same
 
@@ -205,25 +131,15 @@ module _ (t made code tables : List ℕ) (c : Counts) (l : Limits) (s : Sound t 
       last-state : emit_at m.base (one Return) (state_of t made₂ code₂ tables₂ m) ≡ emit_at (length before.stack) (e ⨟ one Return) start
       last-state = (λ i. emit_at (at_base i) (one Return) (after-body i)) ∙ sym two_steps
 
-      ended-state : ended m.base f (emit_at m.base (one Return) (state_of t made₂ code₂ tables₂ m)) ≡ emit_at c.base (function x arity (names_only (names_at t inner)) body (e ⨟ one Return)) before
-      ended-state =
+      pub function-state : ended m.base f (emit_at m.base (one Return) (state_of t made₂ code₂ tables₂ m)) ≡ emit_at c.base (function x arity (names_only (names_at t inner)) body (e ⨟ one Return)) before
+      function-state =
           (λ i. ended (at_base i) f (last-state i))
           ∙ ap (λ (n : ℕ). ended (length before.stack) n (emit_at (length before.stack) (e ⨟ one Return) start)) (sym number ∙ ap length (symbol-functions x before.tables))
           ∙ ap (λ (u : State). ended (length before.stack) (length before.tables.functions) (emit_at (length before.stack) (e ⨟ one Return) u)) started
           ∙ sym (at-function c.base x arity (names_only (names_at t inner)) body (e ⨟ one Return) before _ refl)
 
-      pub function-end : (r : Emitted) (q next : ℕ) (code₃ tables₃ : List ℕ) → q ≡ next
-          → Ends r c.base t made₂ code₃ tables₃ m l q (emit_at m.base (one Return) (state_of t made₂ code₂ tables₂ m)) (ended m.base f (emit_at m.base (one Return) (state_of t made₂ code₂ tables₂ m)))
-          → Lowers r (function x arity (names_only (names_at t inner)) body (e ⨟ one Return)) next t made code tables made₂ code₃ tables₃ c l
-      unfolding Ends
-      function-end (Done n j) q next code₃ tables₃ z h =
-          done-emits t made₂ code₃ tables₃ c l next _ n j (h.0 ∙ z) (record {
-            state = h.1.state ∙ ended-state;
-            base = h.1.base;
-            paced = paced-more b.1.paced (paced-more g.paced h.1.paced);
-            sound = h.1.sound;
-          })
-      function-end Full q next code₃ tables₃ z h = full-emits t made₂ code₃ tables₃ c l next _ (λ w. h (subst (Within l) (sym last-state) (over w)))
+      pub last-within : Within l (emit_at c.base (function x arity (names_only (names_at t inner)) body (e ⨟ one Return)) before) → Within l (emit_at m.base (one Return) (state_of t made₂ code₂ tables₂ m))
+      last-within w = subst (Within l) (sym last-state) (over w)
 
 -- ---- closures
 
@@ -276,25 +192,13 @@ module _ (names : List Name) where
   held_at t (w ∷ ws) zero h k = (and_both (member (name_at t w) names) (all (λ z. member z names) (map (name_at t) ws)) k).0
   held_at t (w ∷ ws) (suc i) h k = held_at t ws i (omega arith) (and_both (member (name_at t w) names) (all (λ z. member z names) (map (name_at t) ws)) k).1
 
--- the slot of a name that has one
-slot_of : (n : ℕ) (o : Option ℕ) → ((k : ℕ) → o ≡ some k → k < n) → ◌≡◌ {A = Bool} (elim o as (λ z. Bool) [ none ↦ false | some i ↦ true ]) true → found_or n o < n
-unfolding found_or
-slot_of n none f h = absurd (true≢false (sym h))
-slot_of n (some k) f h = f k refl
-
-pub slot-below : (names : List Name) (x : Name) (n i : ℕ) → member x names ≡ true → n ≡ length names → i ≡ found_or n (position (same x) names) → i < length names
+-- a name that is held has a slot
+pub slot-held : (names : List Name) (x : Name) → member x names ≡ true → none ≡ position (same x) names → ⊥
 unfolding member
-slot-below names x n i h e f =
-    let k = slot_of (length names) (position (same x) names) (position-lt (same x) names) h in
-    let z : i ≡ found_or (length names) (position (same x) names) = f ∙ ap (λ (m : ℕ). found_or m (position (same x) names)) e in
-    omega arith
+slot-held names x h e = true≢false (sym h ∙ ap (λ (o : Option ℕ). elim o as (λ z. Bool) [ none ↦ false | some i ↦ true ]) (sym e))
 
-pub slot-load : (base : ℕ) (t slots : List ℕ) (x : Name) (i : ℕ) (s : State) → member x (names_at t slots) ≡ true → i ≡ found_or (length slots) (position (same x) (names_at t slots))
-    → emit_at base (one (LoadLocal i)) s ≡ emit_at base (load (names_at t slots) x) s
-slot-load base t slots x i s h e =
-    let n = names-length t slots in
-    at_slot 9 base (names_at t slots) x s i (e ∙ ap (λ (m : ℕ). found_or m (position (same x) (names_at t slots))) (sym n)) (slot-below (names_at t slots) x (length slots) i h (sym n) e)
-    ∙ at_load base (names_at t slots) x s
+pub slot-load : (base : ℕ) (t slots : List ℕ) (x : Name) (i : ℕ) (s : State) → some i ≡ position (same x) (names_at t slots) → emit_at base (one (LoadLocal i)) s ≡ emit_at base (load (names_at t slots) x) s
+slot-load base t slots x i s e = at_slot 9 base (names_at t slots) x s i e ∙ at_load base (names_at t slots) x s
 
 -- a lambda's slots, in places
 module _ (d : ℕ) (t : List ℕ) (names : List Name) (p : ℕ) (r : LambdaLowerable d t p) (inner : List ℕ) (e : names_at t inner ≡ lambda_names d t names p) where
@@ -333,26 +237,21 @@ module _ (d : ℕ) (t : List ℕ) (names : List Name) (p : ℕ) (r : LambdaLower
   pub lambda-ready : length inner ≤ 255 → ClosureLowerable d t arity inner body × CapturesHeld t names arity inner
   lambda-ready h = (rw (a, b) (lambda-parts d t names p r inner slots-are h), rw a (lambda-held d t names p r inner slots-are))
 
-  pub lambda-lowers : (x : Emitted) (made code tables made' code' tables' : List ℕ) (c : Counts) (l : Limits)
-      → Lowers x (closure_code d t names arity inner body) (expr_at d t body).end t made code tables made' code' tables' c l
-      → Lowers x (lambda_code d t names p) (expr_at d t (params_at t p).end).end t made code tables made' code' tables' c l
-  lambda-lowers x made code tables made' code' tables' c l h =
-      lowers-as x _ _ _ _ t made code tables made' code' tables' c l h
-      (lambda-closure d t names p r inner slots-are ∙ (λ i. closure_code d t names (sym a i) inner (sym b i))) (ap (λ (q : ℕ). (expr_at d t q).end) (sym b))
+  pub lambda-is : lambda_code d t names p ≡ closure_code d t names arity inner body
+  lambda-is = lambda-closure d t names p r inner slots-are ∙ (λ i. closure_code d t names (sym a i) inner (sym b i))
 
 -- slots after the index are few
 pub slots-few : (t slots : List ℕ) → Slots t slots → length (drop slots_from slots) ≤ 255
 slots-few t slots s = omega (arith, length-drop slots_from slots, s.few)
 
 -- a lambda with more than 255 slots is over the limits
-pub lambda-over : (d : ℕ) (t : List ℕ) (names : List Name) (p body : ℕ) (made code tables made' code' tables' : List ℕ) (c : Counts) (l : Limits) (next : ℕ) → Sound t made code tables c l → body ≡ (params_at t p).end
-    → 255 < length ((params_at t p).value ++ captures names (params_at t p).value (expr_at d t body).value) → Lowers Full (lambda_code d t names p) next t made code tables made' code' tables' c l
+pub lambda-wide : (d : ℕ) (t : List ℕ) (names : List Name) (p body : ℕ) (made code tables : List ℕ) (c : Counts) (l : Limits) → Sound t made code tables c l → body ≡ (params_at t p).end
+    → 255 < length ((params_at t p).value ++ captures names (params_at t p).value (expr_at d t body).value) → Within l (emit_at c.base (lambda_code d t names p) (state_of t made code tables c)) → ⊥
 unfolding emit_expr
-lambda-over d t names p body made code tables made' code' tables' c l next s b h =
-    full-emits t made' code' tables' c l next _ (λ w.
+lambda-wide d t names p body made code tables c l s b h w =
     let e = ap (λ (q : ℕ). length ((params_at t p).value ++ captures names (params_at t p).value (expr_at d t q).value)) b in
     let k = closure-slots c.base names (length (params_at t p).value) (lambda_names d t names p) _ _ (state_of t made code tables c) (base-below t made code tables c l s) (lengthens-expr _ (expr_at d t (params_at t p).end).value) w in
-    omega arith)
+    omega arith
 
 pub reads_at : (d : ℕ) (t : List ℕ) (p q : ℕ) → q ≡ p → ExprReads d t p → ExprReads d t q
 reads_at d t p q e r = subst (ExprReads d t) (sym e) r
@@ -362,11 +261,10 @@ pub rest-is : (n : ℕ) (xs : List ℕ) → take (length xs - (slots_from + n)) 
 rest-is n xs = take_all (length xs - (slots_from + n)) (drop (slots_from + n) xs) (omega (arith, length-drop (slots_from + n) xs)) ∙ sym (drop-drop n slots_from xs)
 
 -- the closure's end, for the captures as a part of the slots
-pub captured-as : (n : ℕ) (inner : List ℕ) (r : Emitted) (names : List Name) (f q : ℕ) (t made code tables made' code' tables' : List ℕ) (c : Counts) (l : Limits)
-    → Lowers r (loads names (names_at t (take (length inner - (slots_from + n)) (drop (slots_from + n) inner))) ⨟ one (MakeClosure f (length (take (length inner - (slots_from + n)) (drop (slots_from + n) inner))))) q t made code tables made' code' tables' c l
-    → Lowers r (loads names (names_at t (drop n (drop slots_from inner))) ⨟ one (MakeClosure f (length (drop n (drop slots_from inner))))) q t made code tables made' code' tables' c l
-captured-as n inner r names f q t made code tables made' code' tables' c l h =
-    lowers-as r _ _ q q t made code tables made' code' tables' c l h (ap (λ (xs : List ℕ). loads names (names_at t xs) ⨟ one (MakeClosure f (length xs))) (sym (rest-is n inner))) refl
+pub captured-is : (n : ℕ) (inner : List ℕ) (names : List Name) (f : ℕ) (t : List ℕ)
+    → loads names (names_at t (drop n (drop slots_from inner))) ⨟ one (MakeClosure f (length (drop n (drop slots_from inner))))
+    ≡ loads names (names_at t (take (length inner - (slots_from + n)) (drop (slots_from + n) inner))) ⨟ one (MakeClosure f (length (take (length inner - (slots_from + n)) (drop (slots_from + n) inner))))
+captured-is n inner names f t = ap (λ (xs : List ℕ). loads names (names_at t xs) ⨟ one (MakeClosure f (length xs))) (sym (rest-is n inner))
 
 pub captured-held : (names : List Name) (t : List ℕ) (n : ℕ) (inner : List ℕ) → CapturesHeld t names n (drop slots_from inner) → Held names (names_at t (take (length inner - (slots_from + n)) (drop (slots_from + n) inner)))
 captured-held names t n inner h = subst (λ (xs : List ℕ). Held names (names_at t xs)) (sym (rest-is n inner)) h.held

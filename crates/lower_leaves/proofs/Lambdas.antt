@@ -1,246 +1,256 @@
 -- A lambda's function begun, its body, its end, and the values it captures, by the laws of the state.
-use Prim.Native.Nat.{ℕ, zero, suc, ◌+◌, ◌-◌, ◌<◌, ◌≤◌}
+use Prim.Native.Nat.{ℕ, ◌+◌, ◌-◌, ◌<◌, ◌≤◌}
 use mathlib.Core.Path.{◌≡◌, refl, sym, ap, subst, ◌∙◌}
-use mathlib.Core.Bool.{true}
+use mathlib.Core.Option.{some}
 use mathlib.Core.List.{List, []}
 use native.Mathlib.Omega.{arith}
-use lib.ListN.{length, get_or, set, drop, length-set, length-drop}
-use lib.Seq.{get_or-set_same, get_or-set_other}
-use Rattle.definitions.specs.Bytes.{member, same, position}
-use Rattle.definitions.specs.Instruction.{Instr, Return, ConstI64}
+use lib.IntN.{ℤ}
+use lib.ListN.{length, get_or, drop, length-drop}
+use Rattle.std.specs.Prelude.{Option, Some, None}
+use Rattle.std.proofs.lemmas.Option.{none-some}
+use Rattle.definitions.specs.Bytes.{same, position}
+use Rattle.definitions.specs.Instruction.{Return, ConstI64}
 use Rattle.definitions.specs.Slots.{names_only}
 use Rattle.definitions.specs.Tables.{Emit, Body, one, ◌⨟◌, function}
+use Rattle.definitions.specs.Tree.{lit}
 use Rattle.definitions.specs.Lower.{lambda_name, load, loads, literal}
-use Rattle.state.specs.Words.{word, instr_of, name_at}
-use Rattle.state.specs.State.{State, state_of, emit_at, names_at, slot_names, slots_from, Slots, symbol_number, with_symbol, with_tables, found_or}
-use Rattle.state.specs.Steps.{ended}
-use Rattle.state.specs.declared.Counts.{Counts}
-use Rattle.state.specs.Answered.{Limits, Emitted, Done, Full, Over}
-use Rattle.state.proofs.Answers.{numbers-at, numbers-over, emits-full, full-emits, done-emits}
-use Rattle.state.proofs.Growth.{Lengthens, lengthens-loads}
-use Rattle.lower_emit.specs.Nesting.{begun_with, body_of, Moved}
-use Rattle.lower_emit.proofs.Packing.{instr-plain, plain-above, plain-below}
-use Rattle.names.specs.Made.{made_name}
-use Rattle.names.specs.declared.Made.TheVariants.{Lambda}
-use Rattle.names.proofs.Indexing.{slots-count}
-use Rattle.lower_names.proofs.Midway.{Midway, midway_start, midway-base, midway-next, midway_end, midway-full}
-use Rattle.lower_names.proofs.Naming.{numbers-name, loads-more, loads-end}
-use Rattle.lower_emit.specs.Step.{Lowers, Ends}
-use Rattle.lower_leaves.proofs.LambdaState.{lambda-name, begins-at, begin-over, begin-after, end-full, end_known, end_empty, end-done, function-over, function-body-over}
-use Rattle.names.proofs.Finding.{names-length}
-use Rattle.lower_leaves.proofs.LambdaState.{function-known, function-empty, function-base, function-end, slot-below, slot-load}
-use Rattle.lower_emit.specs.Numbers.{counts_of, limits_in, answered, numbered, Room, Put, Begun, Ending, Ended, SoundIn, LowersIn}
-use Rattle.lower_emit.proofs.Counts.{answered-full, answered-done, numbered-at, numbered-over}
-use Rattle.lower_emit.proofs.Steps.{room-put, put-lifts, done-of, sound-next, lowers-full, lowers-state, lowers-stopped, lowers_then}
-use Rattle.lower_emit.proofs.Functions.{begun-lifts, ended-lifts, begins-as}
+use Rattle.definitions.proofs.Resolve.{position-lt}
+use Rattle.exprs.specs.ExprAt.{expr_at}
 use Rattle.exprs.specs.Literals.{literal_of, bits_of, LiteralAt}
 use Rattle.exprs.specs.declared.literals.Literal.{Literal}
 use Rattle.exprs.specs.declared.literals.Literal.TheVariants.{Int}
-use Rattle.exprs.specs.ExprAt.{expr_at}
-use Rattle.definitions.specs.Tree.{lit}
-use Rattle.lower_leaves.proofs.LiteralForms.{int_is}
-use lib.IntN.{ℤ}
 use Rattle.exprs.proofs.ExprViews.{expr-inside}
-use Rattle.lower_names.specs.Naming.{InternsMade}
-use Rattle.lower_leaves.specs.Closures.{BeginsLambda, EndsLambda, Loads}
-
-ends_as : (x y : Emitted) (b : ℕ) (t made code tables : List ℕ) (c : Counts) (l : Limits) (next : ℕ) (last want : State) → y ≡ x → Ends x b t made code tables c l next last want → Ends y b t made code tables c l next last want
-ends_as x y b t made code tables c l next last want e h = subst (λ (z : Emitted). Ends z b t made code tables c l next last want) (sym e) h
+use Rattle.state.specs.Words.{word, name_at}
+use Rattle.state.specs.State.{emit_at, Sound, Left, Within, names_at, slot_names, slots_from, Slots, symbol_number}
+use Rattle.state.specs.Steps.{ended}
+use Rattle.state.specs.declared.Limits.{Limits}
+use Rattle.state.proofs.Answers.{paced-more}
+use Rattle.state.proofs.Views.{function-count}
+use Rattle.state.proofs.Growth.{Lengthens, lengthens-loads}
+use Rattle.names.specs.Made.{made_name}
+use Rattle.names.specs.declared.Made.TheVariants.{Lambda}
+use Rattle.names.proofs.Indexing.{slots-count}
+use Rattle.lower_emit.specs.Nesting.{begun_with, body_of, Moved}
+use Rattle.lower_emit.specs.declared.emitter.Code.{Code}
+use Rattle.lower_emit.specs.declared.emitter.Tables.{Tables}
+use Rattle.lower_emit.specs.declared.emitter.Emitter.{Emitter}
+use Rattle.lower_emit.specs.Emitting.{counts_of, limits_in, state_in, SoundIn, beside, LowersIn, CodeKept, NumbersIn, BeginsIn, Puts, Writes, Begun}
+use Rattle.lower_emit.proofs.Packing.{instr-plain, plain-above, plain-below}
+use Rattle.lower_emit.proofs.Steps.{limits-code, put-lifts, sound-next, lowers-state}
+use Rattle.lower_emit.proofs.Functions.{begun-lifts, ended-lifts}
+use Rattle.lower_names.specs.Naming.{InternsMade, named}
+use Rattle.lower_names.proofs.Beginnings.{named-none, named-sound, named-begins}
+use Rattle.lower_names.proofs.Midway.{Midway, midway_start, midway-base, midway-next, midway_end, midway-full}
+use Rattle.lower_names.proofs.Naming.{loads-more, loads-end}
+use Rattle.lower_leaves.specs.Closures.{BeginsLambda, EndsLambda}
+use Rattle.lower_leaves.proofs.LambdaState.{lambda-name, end_known, end_empty, function-within, body-within, function-base, function-known, function-empty, function-state, last-within, slot-load}
+use Rattle.lower_leaves.proofs.LiteralForms.{int_is}
 
 -- ---- the beginning
 
-module _ {tree made made₁ tables tables₁ k k₁ l : List ℕ} {i : ℕ} (arity locals : ℕ) (h : InternsMade i (made_name (Lambda (get_or k 2 0))) tree made made₁ tables tables₁ k k₁ l) where
-  pub begins-over : 65536 ≤ i → BeginsLambda 65536 arity locals tree made made₁ tables tables₁ k k₁ l
-  begins-over z = record {
-    begins = λ code S. begins-as Over (numbered 65536 k₁) tree made₁ code tables₁ (counts_of k) (limits_in l) (get_or k 2 0) _ (numbered-over 65536 k₁ (omega arith))
-        (begin-over tree made code tables made₁ tables₁ (counts_of k) (counts_of k₁) (limits_in l) (lambda_name (get_or k 2 0)) S.sound (get_or k 2 0) _ arity locals tables₁
-        (numbers-over tree made₁ code tables₁ (counts_of k) (limits_in l) _ _ _ (numbered-over i k₁ z) (numbers-name _ tree made₁ code tables₁ (counts_of k) (limits_in l) _ _ _ (lambda-name (get_or k 2 0)) (h.numbers code S))));
-    numbers = h.kept;
+module _ {tree : List ℕ} {a : Emitter} {ts : Tables} {i : Option ℕ} (arity locals : ℕ) (h : InternsMade i (made_name (Lambda a.tables.functions)) tree a.tables ts) where
+  interned : SoundIn tree a → NumbersIn i (symbol_number (lambda_name a.tables.functions) (state_in tree a).tables) tree a (beside a.code ts) (named (lambda_name a.tables.functions) (state_in tree a))
+  interned S = (subst (λ x. InternsMade i x tree a.tables ts) (lambda-name a.tables.functions) h).numbers a.code S
+
+  pub begins-none : {r : Option ℕ} → i ≡ None → r ≡ None → BeginsLambda r arity locals tree a (beside a.code ts)
+  begins-none z e = record { below = λ n q. absurd (none-some n (sym e ∙ q)); begins = λ S. named-none (lambda_name a.tables.functions) S (interned S) a.tables.functions arity locals z e }
+
+  pub begins-lambda : {j : ℕ} {r : Option ℕ} {c : Emitter} → i ≡ Some j → arity < 256 → locals < 256 → Begun r j arity locals (beside a.code ts) c → BeginsLambda r arity locals tree a c
+  begins-lambda {j} {r} {c} z x y g = record {
+    below = λ n q. omega (arith, g.number n q, g.room n q, ts.functions_most);
+    begins = λ S.
+        let N = interned S in
+        let k = function-count tree a.tables.made.now a.code.words.now a.tables.entries.now (counts_of a) (limits_in a) S.sound in
+        let want = begun_with (symbol_number (lambda_name a.tables.functions) (state_in tree a).tables) arity locals (named (lambda_name a.tables.functions) (state_in tree a)) in
+        subst (λ (n : ℕ). BeginsIn r n tree a c want) k
+        (named-begins (lambda_name a.tables.functions) S N z arity locals (begun-lifts (named-sound (lambda_name a.tables.functions) S N z) (omega (arith, h.below j z)) x y g));
   }
 
-  pub begins-lambda : {tables₂ k₂ : List ℕ} {r : ℕ} → i < 65536 → arity < 256 → locals < 256 → Begun r tables₁ tables₂ k₁ k₂ l i arity locals → BeginsLambda r arity locals tree made made₁ tables tables₂ k k₂ l
-  begins-lambda {tables₂} {k₂} {r} z a b g = record {
-    begins = λ code S.
-        let q = numbers-at tree made₁ code tables₁ (counts_of k) (limits_in l) _ _ _ i (counts_of k₁) (numbered-at i k₁ z) (numbers-name _ tree made₁ code tables₁ (counts_of k) (limits_in l) _ _ _ (lambda-name (get_or k 2 0)) (h.numbers code S)) in
-        begin-after tree made code tables made₁ tables₁ (counts_of k) (counts_of k₁) (limits_in l) (lambda_name (get_or k 2 0)) S.sound (numbered r k₂) i _ arity locals tables₂ q
-        (begun-lifts (record { numbers = h.kept; sound = q.1.sound }) z a b g);
-    numbers = g.numbers;
-  }
-
-pub begins-count : {tree made made₁ tables tables₁ k k₁ l : List ℕ} {r arity : ℕ} (slots : List ℕ) → BeginsLambda r arity (length slots - slots_from) tree made made₁ tables tables₁ k k₁ l
-    → BeginsLambda r arity (length (drop slots_from slots)) tree made made₁ tables tables₁ k k₁ l
-begins-count {tree} {made} {made₁} {tables} {tables₁} {k} {k₁} {l} {r} {arity} slots h = subst (λ (n : ℕ). BeginsLambda r arity n tree made made₁ tables tables₁ k k₁ l) (sym (length-drop slots_from slots)) h
+-- so many slots as come after the index
+pub begins-count : {tree : List ℕ} {a b : Emitter} {r : Option ℕ} {arity : ℕ} (slots : List ℕ) → BeginsLambda r arity (length slots - slots_from) tree a b → BeginsLambda r arity (length (drop slots_from slots)) tree a b
+begins-count {tree} {a} {b} {r} {arity} slots h = subst (λ (n : ℕ). BeginsLambda r arity n tree a b) (sym (length-drop slots_from slots)) h
 
 -- ---- the end
 
-pub ends-none : {code code' tables k k' l : List ℕ} {r f base next : ℕ} → r ≡ 0 → Put r code code' k k' l (word 33 0 0) next → EndsLambda 0 f base next code code' tables tables k k' l
-ends-none z p = record { full = λ e n. p.full z n; more = λ n. absurd (n refl); numbers = p.numbers }
+module _ {tree : List ℕ} {a c : Emitter} {f n : ℕ} {A : Type 0} {r : Option A} (S : SoundIn tree a) (x : EndsLambda r f n a c) where
+  returned : LowersIn r (one Return) tree a (beside x.last a.tables)
+  returned = put-lifts S refl (instr-plain tree 33 0 0 (plain-above 33 0 0 (omega arith) (omega arith) (omega arith) (omega arith))) x.puts
 
-pub ends_more : {code code₁ code' tables tables' k k₁ k' l : List ℕ} {r f base next : ℕ} → (r ≡ 0 → ⊥) → Put r code code₁ k k₁ l (word 33 0 0) next → Ended code₁ code' tables tables' k₁ k' f base
-    → EndsLambda r f base next code code' tables tables' k k' l
-ends_more {code} {code₁} {code'} {tables} {tables'} {k} {k₁} {k'} {l} {r} {f} {base} {next} n p e =
-    let m = p.more n in
-    record {
-      full = λ z. absurd (n z);
-      more = λ z. (m.0, m.1, subst (λ (q : Type 0). q) (λ i. Ended (m.2 i) code' tables tables' (m.3 i) k' f base) e);
-      numbers = e.numbers;
-    }
+  pub return-over : r ≡ None → Within (limits_in a) (emit_at a.code.base (one Return) (state_in tree a)) → ⊥
+  return-over z = returned.reaches.full z
 
-module _ {t made code tables k l code' tables' k' : List ℕ} {f base next : ℕ} (S : SoundIn t made code tables k l) (n : 0 < next) (known : f < get_or k 2 0)
-    (empty : body_of (state_of t made code tables (counts_of k)).tables.functions f ≡ []) (around : base ≤ get_or k 7 0) where
-  pub ends-lifts : (r : ℕ) → EndsLambda r f base next code code' tables tables' k k' l
-      → Ends (answered r k') base t made code' tables' (counts_of k) (limits_in l) next (emit_at (get_or k 7 0) (one Return) (state_of t made code tables (counts_of k)))
-      (ended (get_or k 7 0) f (emit_at (get_or k 7 0) (one Return) (state_of t made code tables (counts_of k))))
-  ends-lifts zero h =
-      let is = instr-plain t 33 0 0 (plain-above 33 0 0 (omega arith) (omega arith) (omega arith) (omega arith)) in
-      let p = put-lifts {code' = code} {k' = k} 0 S n is (record { full = λ e m. h.full refl n; more = λ z. absurd (z refl); numbers = S.numbers }) in
-      ends_as Full (answered 0 k') base t made code' tables' (counts_of k) (limits_in l) next _ _ (answered-full 0 k' refl)
-      (end-full t made code tables code (counts_of k) (counts_of k) (limits_in l) f base next (answered 0 k) next code' tables' _ (answered-full 0 k refl) p.emits)
-  ends-lifts (suc r) h =
-      let nz : suc r ≡ 0 → ⊥ = λ z. omega arith in
-      let m = h.more nz in
-      let is = instr-plain t 33 0 0 (plain-above 33 0 0 (omega arith) (omega arith) (omega arith) (omega arith)) in
-      let k₁ = set k 8 (get_or k 8 0 + 1) in
-      let p = put-lifts next S n is (record { full = λ e z. absurd (omega arith); more = λ z. (refl, m.1, refl, refl); numbers = S.numbers ∙ sym (length-set k 8 (get_or k 8 0 + 1)) }) in
-      let pz : next ≡ 0 → ⊥ = λ z. omega arith in
-      let g = (done-of pz p).1 in
-      let S₁ = sound-next pz p in
-      let a = end_known t made code tables (set code (get_or k 8 0) (word 33 0 0)) (counts_of k) (counts_of k₁) (limits_in l) f base next g S.sound known in
-      let b = end_empty t made code tables (set code (get_or k 8 0) (word 33 0 0)) (counts_of k) (counts_of k₁) (limits_in l) f base next g empty in
-      let moved = ended-lifts S₁ a b (omega (arith, g.base)) m.2 in
-      ends_as (Done next (counts_of k')) (answered (suc r) k') base t made code' tables' (counts_of k) (limits_in l) next _ _ (answered-done (suc r) k' nz ∙ ap (λ (q : ℕ). Done q (counts_of k')) m.0)
-      (end-done t made code tables (set code (get_or k 8 0) (word 33 0 0)) (counts_of k) (counts_of k₁) (limits_in l) f base next g next (counts_of k') code' tables' refl moved)
+  module _ {y : A} (z : r ≡ Some y) (known : f < a.tables.functions) (empty : body_of (state_in tree a).tables.functions f ≡ []) (around : n ≤ a.code.base) where
+    pub return-ended : Moved n (counts_of c) tree c.tables.made.now c.code.words.now c.tables.entries.now (counts_of a) (limits_in a) (ended a.code.base f (emit_at a.code.base (one Return) (state_in tree a)))
+    return-ended =
+        let b = beside x.last a.tables in
+        let g = (returned.reaches.done y z).left in
+        let k = end_known tree a.tables.made.now a.code.words.now a.tables.entries.now b.code.words.now (counts_of a) (counts_of b) (limits_in a) f g S.sound known in
+        let e = end_empty tree a.tables.made.now a.code.words.now a.tables.entries.now b.code.words.now (counts_of a) (counts_of b) (limits_in a) f g empty in
+        let m = (ended-lifts (sound-next z returned.reaches) k e (omega (arith, g.base)) (x.ends y z)).moved in
+        record {
+          state = m.state ∙ (λ i. ended (g.base i) f (g.state i));
+          base = m.base;
+          paced = paced-more g.paced m.paced;
+          sound = subst (λ (l : Limits). Sound tree c.tables.made.now c.code.words.now c.tables.entries.now (counts_of c) l) returned.reaches.limits m.sound;
+        }
 
 -- ---- a whole function
 
-module _ {t made code tables k l made₁ tables₁ k₁ : List ℕ} {f arity : ℕ} (S : SoundIn t made code tables k l) (inner : List ℕ) (e : Emit) (E : Lengthens e) (body : Body)
-    (b : BeginsLambda f arity (length inner) t made made₁ tables tables₁ k k₁ l) where
+module _ {t : List ℕ} {a b : Emitter} {f : Option ℕ} {arity : ℕ} (S : SoundIn t a) (inner : List ℕ) (e : Emit) (E : Lengthens e) (body : Body) (B : BeginsLambda f arity (length inner) t a b) where
   abbrev whole : Emit
-  whole = function (lambda_name (get_or k 2 0)) arity (names_only (names_at t inner)) body (e ⨟ one Return)
+  whole = function (lambda_name a.tables.functions) arity (names_only (names_at t inner)) body (e ⨟ one Return)
 
-  pub function1-over : {next : ℕ} → 65536 ≤ f → LowersIn 0 whole next t made code tables k l made₁ code tables₁ k₁
-  function1-over {next} z = lowers-full b.numbers
-      (function-over t made code tables (counts_of k) (limits_in l) S.sound arity inner e E body (numbered f k₁) next (get_or k 2 0) made₁ code tables₁ (numbered-over f k₁ z) (b.begins code S))
+  pub function-full : {A : Type 0} {q : Option A} → f ≡ None → q ≡ None → LowersIn q whole t a b
+  function-full z n = record {
+    reaches = record {
+      done = λ y g. absurd (none-some y (sym n ∙ g));
+      full = λ g w. (B.begins S).full z (function-within t a.tables.made.now a.code.words.now a.tables.entries.now (counts_of a) (limits_in a) S.sound arity inner e E body w);
+      limits = (B.begins S).limits;
+    };
+  }
 
-  module _ (z : f < 65536) where
-    abbrev start : State
-    start = begun_with (symbol_number (lambda_name (get_or k 2 0)) (state_of t made code tables (counts_of k)).tables) arity (length inner)
-        (with_tables (with_symbol (lambda_name (get_or k 2 0)) (state_of t made code tables (counts_of k)).tables) (state_of t made code tables (counts_of k)))
+  module _ {i : ℕ} (z : f ≡ Some i) where
+    begun : (i ≡ a.tables.functions) × Moved a.code.open (counts_of b) t b.tables.made.now b.code.words.now b.tables.entries.now (counts_of a) (limits_in a)
+        (begun_with (symbol_number (lambda_name a.tables.functions) (state_in t a).tables) arity (length inner) (named (lambda_name a.tables.functions) (state_in t a)))
+    begun = ((B.begins S).is i z, ((B.begins S).done i z).moved)
 
-    begun : (f ≡ get_or k 2 0) × Moved (get_or k 8 0) (counts_of k₁) t made₁ code tables₁ (counts_of k) (limits_in l) start
-    begun = begins-at (numbered f k₁) f (counts_of k₁) t made₁ code tables₁ (counts_of k) (limits_in l) (get_or k 2 0) start (numbered-at f k₁ z) (b.begins code S)
+    pub function-sound : SoundIn t b
+    function-sound = record {
+      sound = subst (λ (l : Limits). Sound t b.tables.made.now b.code.words.now b.tables.entries.now (counts_of b) l) (sym (B.begins S).limits) begun.1.sound;
+    }
 
-    pub function1-sound : SoundIn t made₁ code tables₁ k₁ l
-    function1-sound = record { numbers = b.numbers; sound = begun.1.sound }
+    module _ {A : Type 0} {r : Option A} {m : Emitter} (h : LowersIn r e t b m) where
+      pub function-body : {C : Type 0} {q : Option C} → r ≡ None → q ≡ None → LowersIn q whole t a m
+      function-body y n = record {
+        reaches = record {
+          done = λ u g. absurd (none-some u (sym n ∙ g));
+          full = λ g w.
+              let v = body-within t a.tables.made.now a.code.words.now a.tables.entries.now (counts_of a) (limits_in a) S.sound arity inner e E body b.tables.made.now b.code.words.now b.tables.entries.now i (counts_of b) begun w in
+              h.reaches.full y (subst (λ (l : Limits). Within l (emit_at b.code.base e (state_in t b))) (sym (B.begins S).limits) v);
+          limits = h.reaches.limits ∙ (B.begins S).limits;
+        };
+      }
 
-    module _ {made₂ code₂ tables₂ k₂ : List ℕ} {r q : ℕ} (h : LowersIn r e q t made₁ code tables₁ k₁ l made₂ code₂ tables₂ k₂) where
-      pub function1-body : {next : ℕ} → r ≡ 0 → LowersIn 0 whole next t made code tables k l made₂ code₂ tables₂ k₂
-      function1-body {next} y = lowers-full h.numbers
-          (function-body-over t made code tables (counts_of k) (limits_in l) S.sound arity inner e E body made₁ tables₁ f (counts_of k₁) begun (answered r k₂) q next made₂ code₂ tables₂ (answered-full r k₂ y) h.emits)
+      module _ {y : A} (w : r ≡ Some y) where
+        left_body : Left (counts_of m) t m.tables.made.now m.code.words.now m.tables.entries.now (counts_of b) (limits_in a) (emit_at b.code.base e (state_in t b))
+        left_body =
+            subst (λ (l : Limits). Left (counts_of m) t m.tables.made.now m.code.words.now m.tables.entries.now (counts_of b) l (emit_at b.code.base e (state_in t b))) (B.begins S).limits (h.reaches.done y w).left
 
-      module _ (y : r ≡ 0 → ⊥) where
-        pub function1-known : f < get_or k₂ 2 0
-        function1-known = function-known t made code tables (counts_of k) (limits_in l) S.sound arity inner e E body made₁ tables₁ f (counts_of k₁) begun made₂ code₂ tables₂ (counts_of k₂) (done-of y h).1
-
-        pub function1-few : f < 256
-        function1-few = let s = (sound-next y h).sound in omega (arith, function1-known, s.functions, s.limited.functions)
-
-        pub function1-end : {code₃ tables₃ k₃ : List ℕ} (r₃ : ℕ) → EndsLambda r₃ f (get_or k 7 0) r code₂ code₃ tables₂ tables₃ k₂ k₃ l → LowersIn r₃ whole q t made code tables k l made₂ code₃ tables₃ k₃
-        function1-end {code₃} {tables₃} {k₃} r₃ x =
-            let g = done-of y h in
-            let empty = function-empty t made code tables (counts_of k) (limits_in l) S.sound arity inner e E body made₁ tables₁ f (counts_of k₁) begun made₂ code₂ tables₂ (counts_of k₂) g.1 in
-            let around = function-base t made code tables (counts_of k) (limits_in l) S.sound arity inner e E body made₁ tables₁ f (counts_of k₁) begun made₂ code₂ tables₂ (counts_of k₂) g.1 in
+        pub function-end : {C : Type 0} {q : Option C} {c : Emitter} → EndsLambda q i a.code.base m c → LowersIn q whole t a c
+        function-end {q = q} {c = c} x =
+            let g = left_body in
+            let Sm = sound-next w h.reaches in
+            let same = h.reaches.limits ∙ (B.begins S).limits in
+            let known = function-known t a.tables.made.now a.code.words.now a.tables.entries.now (counts_of a) (limits_in a) S.sound arity inner e E body b.tables.made.now b.code.words.now b.tables.entries.now i (counts_of b) begun m.tables.made.now m.code.words.now m.tables.entries.now (counts_of m) g in
+            let empty = function-empty t a.tables.made.now a.code.words.now a.tables.entries.now (counts_of a) (limits_in a) S.sound arity inner e E body b.tables.made.now b.code.words.now b.tables.entries.now i (counts_of b) begun m.tables.made.now m.code.words.now m.tables.entries.now (counts_of m) g in
+            let around = function-base t a.tables.made.now a.code.words.now a.tables.entries.now (counts_of a) (limits_in a) S.sound arity inner e E body b.tables.made.now b.code.words.now b.tables.entries.now i (counts_of b) begun m.tables.made.now m.code.words.now m.tables.entries.now (counts_of m) g in
+            let state = function-state t a.tables.made.now a.code.words.now a.tables.entries.now (counts_of a) (limits_in a) S.sound arity inner e E body b.tables.made.now b.code.words.now b.tables.entries.now i (counts_of b) begun m.tables.made.now m.code.words.now m.tables.entries.now (counts_of m) g in
             record {
-              emits = function-end t made code tables (counts_of k) (limits_in l) S.sound arity inner e E body made₁ tables₁ f (counts_of k₁) begun made₂ code₂ tables₂ (counts_of k₂) g.1 (answered r₃ k₃) r q code₃ tables₃ g.0
-                  (ends-lifts (sound-next y h) (omega arith) function1-known empty around r₃ x);
-              numbers = x.numbers;
+              reaches = record {
+                done = λ u p.
+                    let k = return-ended Sm x p known empty around in
+                    record {
+                      left = record {
+                        state = k.state ∙ state;
+                        base = k.base;
+                        paced = paced-more begun.1.paced (paced-more g.paced k.paced);
+                        sound = subst (λ (l : Limits). Sound t c.tables.made.now c.code.words.now c.tables.entries.now (counts_of c) l) same k.sound;
+                      };
+                    };
+                full = λ p v.
+                    let u = last-within t a.tables.made.now a.code.words.now a.tables.entries.now (counts_of a) (limits_in a) S.sound arity inner e E body b.tables.made.now b.code.words.now b.tables.entries.now i (counts_of b) begun m.tables.made.now m.code.words.now m.tables.entries.now (counts_of m) g v in
+                    return-over Sm x p (subst (λ (l : Limits). Within l (emit_at m.code.base (one Return) (state_in t m))) (sym same) u);
+                limits = x.limits ∙ same;
+              };
             }
 
 -- ---- captured values
 
 -- i of the captured values are loaded
-pub record Loading (t slots captured code₀ k₀ l code k : List ℕ) (i : ℕ) : Type 0 where
+pub record Loading (t slots captured : List ℕ) (a b : Code) (i : ℕ) : Type 0 where
   pub inside : i ≤ length captured
-  pub kept : length code ≡ length code₀
-  pub room : Room code k l
-  pub midway : (made tables : List ℕ) → SoundIn t made code₀ tables k₀ l → Midway (counts_of k) t made code tables (counts_of k₀) (limits_in l) (loads (slot_names t slots) (names_at t (drop i captured)))
-      (emit_at (get_or k₀ 7 0) (loads (slot_names t slots) (names_at t captured)) (state_of t made code₀ tables (counts_of k₀)))
+  pub kept : CodeKept a b
+  pub midway : (tree : List ℕ) (ts : Tables) → SoundIn tree (beside a ts)
+      → Midway (counts_of (beside b ts)) tree ts.made.now b.words.now ts.entries.now (counts_of (beside a ts)) (limits_in (beside a ts)) (loads (slot_names t slots) (names_at t (drop i captured)))
+      (emit_at a.base (loads (slot_names t slots) (names_at t captured)) (state_in tree (beside a ts)))
 
-pub loading-start : {t slots captured code k l : List ℕ} → Room code k l → Loading t slots captured code k l code k 0
-loading-start {t} {slots} {captured} {code} {k} {l} R = record {
+pub loading-start : {t slots captured : List ℕ} {a : Code} → Loading t slots captured a a 0
+loading-start {t} {slots} {captured} {a} = record {
   inside = omega arith;
-  kept = refl;
-  room = R;
-  midway = λ made tables S. midway_start t made code tables (counts_of k) (limits_in l) (loads (slot_names t slots) (names_at t captured)) S.sound;
+  kept = record { base = refl; done = refl; limit = refl };
+  midway = λ tree ts S. midway_start tree ts.made.now a.words.now ts.entries.now (counts_of (beside a ts)) (limits_in (beside a ts)) (loads (slot_names t slots) (names_at t captured)) S.sound;
 }
 
-module _ {t slots captured code₀ k₀ l code k : List ℕ} {i : ℕ} (G : Loading t slots captured code₀ k₀ l code k i) where
-  pub loading-done : {next : ℕ} → length captured ≤ i → 0 < next → Loads next (loads (slot_names t slots) (names_at t captured)) next t code₀ k₀ l code k
-  loading-done {next} h n = record {
-    lowers = λ made tables S. record {
-      emits = subst (λ (x : Emitted). Lowers x (loads (slot_names t slots) (names_at t captured)) next t made code₀ tables made code tables (counts_of k₀) (limits_in l)) (sym (answered-done next k (λ z. omega arith)))
-          (done-emits t made code tables (counts_of k₀) (limits_in l) next _ next (counts_of k) refl
-          (midway_end (counts_of k) t made code tables (counts_of k₀) (limits_in l) _ _ (G.midway made tables S) (loads-end (get_or k₀ 7 0) (slot_names t slots) t captured (state_of t made code tables (counts_of k)) i h)));
-      numbers = G.room.numbers;
+module _ {t slots captured : List ℕ} {a b : Code} {i : ℕ} (G : Loading t slots captured a b i) where
+  abbrev all : Emit
+  all = loads (slot_names t slots) (names_at t captured)
+
+  pub loading-done : {A : Type 0} {x : A} → length captured ≤ i → Writes (Some x) all a b
+  loading-done {x = x} h = record {
+    lowers = λ tree ts S. record {
+      reaches = record {
+        done = λ y q. record {
+          left = midway_end (counts_of (beside b ts)) tree ts.made.now b.words.now ts.entries.now (counts_of (beside a ts)) (limits_in (beside a ts)) _ _ (G.midway tree ts S) (loads-end a.base (slot_names t slots) t captured (state_in tree (beside b ts)) i h);
+        };
+        full = λ q. absurd (none-some x (sym q));
+        limits = limits-code ts G.kept;
+      };
     };
-    room = λ z. G.room;
   }
 
-  module _ {s : ℕ} (more : i < length captured) (has : member (name_at t (get_or captured i 0)) (slot_names t slots) ≡ true) (Z : Slots t slots)
-      (slot : s ≡ found_or (length (drop slots_from slots)) (position (same (name_at t (get_or captured i 0))) (slot_names t slots))) where
+  module _ {s : ℕ} (more : i < length captured) (Z : Slots t slots) (slot : some s ≡ position (same (name_at t (get_or captured i 0))) (slot_names t slots)) where
     pub slot_small : s < 65536
-    slot_small = let b = slot-below (slot_names t slots) _ _ s has (sym (names-length t (drop slots_from slots))) slot in let z = slots-count t slots Z in omega (arith, b, z.0, z.1)
+    slot_small = let b = position-lt _ (slot_names t slots) s (sym slot) in let z = slots-count t slots Z in omega (arith, b, z.0, z.1)
 
-    one-load : {code' k' : List ℕ} {p next : ℕ} → 0 < next → Put p code code' k k' l (word 9 s 0) next → (made tables : List ℕ) → SoundIn t made code₀ tables k₀ l → LowersIn p (load (slot_names t slots) (name_at t (get_or captured i 0))) next t made code tables k l made code' tables k'
-    one-load {code'} {k'} {p} {next} n h made tables S =
-        let here : SoundIn t made code tables k l = record { numbers = G.room.numbers; sound = (G.midway made tables S).sound } in
-        lowers-state (put-lifts p here n (instr-plain t 9 s 0 (plain-below 9 s 0 (omega arith) (omega arith) slot_small (omega arith))) h)
-        (sym (slot-load (get_or k 7 0) t (drop slots_from slots) (name_at t (get_or captured i 0)) s (state_of t made code tables (counts_of k)) has slot))
+    here : (tree : List ℕ) (ts : Tables) → SoundIn tree (beside a ts) → SoundIn tree (beside b ts)
+    here tree ts S = record {
+      sound = subst (λ (l : Limits). Sound tree ts.made.now b.words.now ts.entries.now (counts_of (beside b ts)) l) (sym (limits-code ts G.kept)) (G.midway tree ts S).sound;
+    }
+
+    abbrev load_one : Emit
+    load_one = load (slot_names t slots) (name_at t (get_or captured i 0))
+
+    one-load : {A : Type 0} {r : Option A} {c : Code} → Puts r (word 9 s 0) b c → (tree : List ℕ) (ts : Tables) → SoundIn tree (beside a ts) → LowersIn r load_one tree (beside b ts) (beside c ts)
+    one-load h tree ts S =
+        lowers-state (put-lifts (here tree ts S) refl (instr-plain tree 9 s 0 (plain-below 9 s 0 (omega arith) (omega arith) slot_small (omega arith))) h)
+        (sym (slot-load b.base t (drop slots_from slots) (name_at t (get_or captured i 0)) s (state_in tree (beside b ts)) slot))
 
     abbrev rest : Emit
     rest = loads (slot_names t slots) (names_at t (drop (i + 1) captured))
 
-    split : (made tables : List ℕ) → SoundIn t made code₀ tables k₀ l → emit_at (get_or k₀ 7 0) (loads (slot_names t slots) (names_at t (drop i captured))) (state_of t made code tables (counts_of k))
-        ≡ emit_at (get_or k₀ 7 0) rest (emit_at (get_or k₀ 7 0) (load (slot_names t slots) (name_at t (get_or captured i 0))) (state_of t made code tables (counts_of k)))
-    split made tables S = loads-more (get_or k₀ 7 0) (slot_names t slots) t captured (state_of t made code tables (counts_of k)) i more (midway-base (counts_of k) t made code tables (counts_of k₀) (limits_in l) _ _ (G.midway made tables S))
+    split : (tree : List ℕ) (ts : Tables) → SoundIn tree (beside a ts) → emit_at a.base (loads (slot_names t slots) (names_at t (drop i captured))) (state_in tree (beside b ts))
+        ≡ emit_at a.base rest (emit_at a.base load_one (state_in tree (beside b ts)))
+    split tree ts S =
+        loads-more a.base (slot_names t slots) t captured (state_in tree (beside b ts)) i more
+        (midway-base (counts_of (beside b ts)) tree ts.made.now b.words.now ts.entries.now (counts_of (beside a ts)) (limits_in (beside a ts)) _ _ (G.midway tree ts S))
 
-    pub loading-next : {code' k' : List ℕ} {p next : ℕ} → 0 < next → (p ≡ 0 → ⊥) → length code' ≡ length code → Put p code code' k k' l (word 9 s 0) next → Loading t slots captured code₀ k₀ l code' k' (i + 1)
-    loading-next {code'} {k'} n z e h = record {
+    kept-after : {A : Type 0} {r : Option A} {c : Code} → Puts r (word 9 s 0) b c → CodeKept a c
+    kept-after h = record { base = h.kept.base ∙ G.kept.base; done = h.kept.done ∙ G.kept.done; limit = h.kept.limit ∙ G.kept.limit }
+
+    pub loading-next : {A : Type 0} {r : Option A} {x : A} {c : Code} → r ≡ Some x → Puts r (word 9 s 0) b c → Loading t slots captured a c (i + 1)
+    loading-next {x = x} {c = c} z h = record {
       inside = omega arith;
-      kept = e ∙ G.kept;
-      room = room-put G.room z h;
-      midway = λ made tables S. midway-next (counts_of k) t made code tables (counts_of k₀) (limits_in l) _ _ (G.midway made tables S) (counts_of k') made code' tables _ rest (done-of z (one-load n h made tables S)).1 (split made tables S);
+      kept = kept-after h;
+      midway = λ tree ts S.
+          let g = ((one-load h tree ts S).reaches.done x z).left in
+          let g' = subst (λ (l : Limits). Left (counts_of (beside c ts)) tree ts.made.now c.words.now ts.entries.now (counts_of (beside b ts)) l (emit_at b.base load_one (state_in tree (beside b ts)))) (limits-code ts G.kept) g in
+          midway-next (counts_of (beside b ts)) tree ts.made.now b.words.now ts.entries.now (counts_of (beside a ts)) (limits_in (beside a ts)) _ _ (G.midway tree ts S) (counts_of (beside c ts)) ts.made.now c.words.now ts.entries.now load_one rest g' (split tree ts S);
     }
 
-    pub loading-over : {code' k' : List ℕ} {p next : ℕ} → 0 < next → p ≡ 0 → Put p code code' k k' l (word 9 s 0) next → Loads 0 (loads (slot_names t slots) (names_at t captured)) next t code₀ k₀ l code' k'
-    loading-over {code'} {k'} {p} {next} n z h = record {
-      lowers = λ made tables S. lowers-full h.numbers (full-emits t made code' tables (counts_of k₀) (limits_in l) next _
-          (midway-full (counts_of k) t made code tables (counts_of k₀) (limits_in l) _ _ (G.midway made tables S) _ rest (lengthens-loads _ _)
-          (emits-full t made code' tables (counts_of k) (limits_in l) next _ (answered p k') (answered-full p k' z) (one-load n h made tables S).emits) (split made tables S)));
-      room = λ y. absurd (y refl);
+    pub loading-over : {A B : Type 0} {r : Option A} {q : Option B} {c : Code} → r ≡ None → q ≡ None → Puts r (word 9 s 0) b c → Writes q all a c
+    loading-over {c = c} z n h = record {
+      lowers = λ tree ts S. record {
+        reaches = record {
+          done = λ y e. absurd (none-some y (sym n ∙ e));
+          full = λ e v.
+              midway-full (counts_of (beside b ts)) tree ts.made.now b.words.now ts.entries.now (counts_of (beside a ts)) (limits_in (beside a ts)) _ _ (G.midway tree ts S) load_one rest (lengthens-loads _ _)
+              (λ w. (one-load h tree ts S).reaches.full z (subst (λ (l : Limits). Within l (emit_at b.base load_one (state_in tree (beside b ts)))) (sym (limits-code ts G.kept)) w)) (split tree ts S) v;
+          limits = limits-code ts (kept-after h);
+        };
+      };
     }
 
--- the closure after them
-pub closure-over : {t code₀ k₀ l code k : List ℕ} {p next q : ℕ} {e f : Emit} → p ≡ 0 → Lengthens f → Loads p e next t code₀ k₀ l code k → Loads 0 (e ⨟ f) q t code₀ k₀ l code k
-closure-over z F h = record { lowers = λ made tables S. lowers-stopped z S F (h.lowers made tables S); room = λ y. absurd (y refl) }
-
-pub closure-done : {t code₀ k₀ l code k code' k' : List ℕ} {p next r w : ℕ} {e : Emit} {i : Instr} → (p ≡ 0 → ⊥) → 0 < p → instr_of t w ≡ i → Loads p e next t code₀ k₀ l code k → Put r code code' k k' l w p
-    → Loads r (e ⨟ one i) next t code₀ k₀ l code' k'
-closure-done {t} {code₀} {k₀} {l} {code} {k} {code'} {k'} {p} {next} {r} {w} {e} {i} z n is h g = record {
-  lowers = λ made tables S. let a = h.lowers made tables S in lowers_then (λ x. one i) (λ x. x) z S a (put-lifts r (sound-next z a) n is g);
-  room = λ y. room-put (h.room z) y g;
-}
-
--- the numbers after a word, for the end of a function
-pub ending-put : {code code' tables k k' l : List ℕ} {r w next : ℕ} → Room code k l → Ending code tables k → (r ≡ 0 → ⊥) → Put r code code' k k' l w next → Ending code' tables k'
-ending-put {code} {code'} {tables} {k} {k'} R E n p =
-    let S = room-put R n p in
-    let m = p.more n in
-    let a = get_or-set_same k 8 (get_or k 8 0 + 1) 0 (omega (arith, R.numbers)) in
-    let b = get_or-set_other k 8 7 (get_or k 8 0 + 1) 0 (λ e. omega arith) in
-    let c = ap (λ (z : List ℕ). get_or z 8 0) m.3 in
-    let d = ap (λ (z : List ℕ). get_or z 7 0) m.3 in
-    record { code-room = S.code-room; tables-room = E.tables-room; numbers = S.numbers; words = omega (arith, S.words, S.limit); base = omega (arith, E.base) }
+-- ---- literals
 
 -- a literal's place
 pub inside-place : {t : List ℕ} {p : ℕ} → LiteralAt t p → length t ≤ 32768 → p + 1 < 65536

@@ -2,6 +2,7 @@
 use Prim.Native.Nat.{ℕ, zero, suc, ◌+◌, ◌-◌, ◌<◌, ◌≤◌}
 use mathlib.Core.Path.{◌≡◌, refl, sym, ap, ◌∙◌, subst}
 use mathlib.Core.Bool.{Bool, cond}
+use mathlib.Core.Logic.{◌⊎◌, inl, inr}
 use mathlib.Core.List.{List}
 use native.Mathlib.Omega.{arith}
 use lib.ListN.{length, get_or}
@@ -89,17 +90,22 @@ module _ (t : List ℕ) (p : ℕ) (x : Literal) (h : LiteralAt t p) (e : lit (li
       let b = subst (λ (y : Literal). Bytes t p (literal_of t y)) w bytes in
       (ap (λ (y : Literal). literal (literal_of t y)) w ∙ ap (λ (n : ℕ). one (instr 0 n 0)) b.1, b.0)
 
-  pub float_is : (z : Float) → x ≡ Double z → Is (one (instr 1 (number_at 8 t (p + 1)) 0)) (p + 9)
+  float_is : (z : Float) → x ≡ Double z → Is (one (instr 1 (number_at 8 t (p + 1)) 0)) (p + 9)
   unfolding literal_of literal Bytes
   float_is z w =
       let b = subst (λ (y : Literal). Bytes t p (literal_of t y)) w bytes in
       (ap (λ (y : Literal). literal (literal_of t y)) w ∙ ap (λ (n : ℕ). one (instr 1 n 0)) b.1, b.0)
 
-  pub nan_is : (n : ℕ) → x ≡ Nan n → Is (one (instr 1 (number_at 8 t (p + 1)) 0)) (p + 9)
+  nan_is : (n : ℕ) → x ≡ Nan n → Is (one (instr 1 (number_at 8 t (p + 1)) 0)) (p + 9)
   unfolding literal_of literal Bytes
   nan_is n w =
       let b = subst (λ (y : Literal). Bytes t p (literal_of t y)) w bytes in
       (ap (λ (y : Literal). literal (literal_of t y)) w ∙ ap (λ (n : ℕ). one (instr 1 n 0)) b.1, b.0)
+
+  -- a float that is a NaN or not
+  pub double_is : ((z : Float) × (x ≡ Double z)) ⊎ ((n : ℕ) × (x ≡ Nan n)) → Is (one (instr 1 (number_at 8 t (p + 1)) 0)) (p + 9)
+  double_is (inl h) = float_is h.0 h.1
+  double_is (inr h) = nan_is h.0 h.1
 
   pub text-is : (a n : ℕ) → x ≡ Bytestring a n → TextPlace t p x → (a ≡ p + 3) × (a + n ≤ length t) × Is (get_or_add_string (text_at t (a - 2)) (λ k. one (ConstStr k))) (a + n)
   unfolding literal_of literal Bytes TextPlace

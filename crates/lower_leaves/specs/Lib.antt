@@ -1,2 +1,3 @@
 pub mod Constants
+pub mod Literals
 pub mod Closures

@@ -4,12 +4,10 @@ ghost use Rattle.definitions.specs.Instruction.{ConstI64, LoadIndex};
 ghost use Rattle.definitions.specs.Tables.{one, ◌⨟◌};
 ghost use Rattle.definitions.specs.Lower.{copy};
 ghost use Rattle.lower_forms.specs.Elements.{ElementsRead, elements_end};
-ghost use Rattle.lower_emit.specs.Numbers.{Room};
-ghost use Rattle.lower_emit.specs.Writes.{Writes};
+ghost use Rattle.lower_emit.specs.Emitting.{Writes};
 
-use lower_emit::put_op;
+use lower_emit::emitter::Code;
 use numerals::ops::{DUP, LOAD_INDEX, SMALL_INT};
-use numerals::sizes::{COUNTS, LIMITS};
 use slots::skip::skip_expr;
 
 // Where n expressions from `at` on end.
@@ -18,49 +16,29 @@ pub fn skip_exprs(tree: &[u8], at: usize, depth: u32, n: u32) -> usize
     ensures { result ≡ elements_end depth tree.now n at }
 {
     let mut p = at;
-    let mut left = n;
-    while 0 < left {
+    for _ in 0..n {
         p = skip_expr(tree, p, depth);
-        left -= 1;
     }
     p
 }
 
 // The number i, and the element there of the value below it.
-fn put_index(
-    code: &mut [u32],
-    k: &mut [u32; COUNTS],
-    l: &[u32; LIMITS],
-    i: u32,
-    next: usize,
-) -> usize
-    requires { Room code.old k.old l.now × (i < 65536) × (0 < next) }
-    ensures { Writes result (one (ConstI64 i) ⨟ one LoadIndex) next code.old k.old l.now code.new k.new }
+fn put_index(code: &mut Code<'_>, i: u32) -> Option<()>
+    requires { i < 65536 }
+    ensures { Writes result (one (ConstI64 i) ⨟ one LoadIndex) code.old code.new }
 {
-    let p = put_op(code, k, l, SMALL_INT, i, 0, next);
-    if p == 0 {
-        return 0;
-    }
-    put_op(code, k, l, LOAD_INDEX, 0, 0, p)
+    code.put_op(SMALL_INT, i, 0)?;
+    code.put_op(LOAD_INDEX, 0, 0)
 }
 
 // The element i of the value on the stack, which is copied but for the last element taken.
-pub fn put_element(
-    code: &mut [u32],
-    k: &mut [u32; COUNTS],
-    l: &[u32; LIMITS],
-    i: u32,
-    next: usize,
-) -> usize
-    requires { Room code.old k.old l.now × (i < 65536) × (0 < next) }
-    ensures { Writes result (copy i ⨟ one (ConstI64 i) ⨟ one LoadIndex) next code.old k.old l.now code.new k.new }
+pub fn put_element(code: &mut Code<'_>, i: u32) -> Option<()>
+    requires { i < 65536 }
+    ensures { Writes result (copy i ⨟ one (ConstI64 i) ⨟ one LoadIndex) code.old code.new }
 {
     if i == 0 {
-        return put_index(code, k, l, i, next);
+        return put_index(code, i);
     }
-    let p = put_op(code, k, l, DUP, 0, 0, next);
-    if p == 0 {
-        return 0;
-    }
-    put_index(code, k, l, i, p)
+    code.put_op(DUP, 0, 0)?;
+    put_index(code, i)
 }

@@ -8,16 +8,14 @@ use Rattle.definitions.specs.Bytes.{Name, ascii, decimal}
 use Rattle.definitions.specs.Instruction.{CallMethod}
 use Rattle.definitions.specs.Tables.{one, ◌⨟◌, intern}
 use Rattle.definitions.specs.Lower.{Keeper, iter_name, make_iter, load_iter, ask_iter, take_iter, store}
-use Rattle.state.specs.State.{State, emit_at, Emits}
-use Rattle.state.specs.declared.Counts.{Counts}
-use Rattle.state.specs.Answered.{Limits, Emitted}
+use Rattle.definitions.specs.Reader.{is_jump}
+use Rattle.definitions.proofs.Decimals.{length-decimal}
+use Rattle.state.specs.State.{State, emit_at}
 use Rattle.state.proofs.Emission.{at-seq}
 use Rattle.state.proofs.StmtEmission.{at-take_iter}
-use Rattle.names.specs.declared.Made.TheVariants.{Iter, HasNext, Next, Iterator}
 use Rattle.names.specs.Made.{made_name}
-use Rattle.definitions.specs.Reader.{is_jump}
+use Rattle.names.specs.declared.Made.TheVariants.{Iter, HasNext, Next, Iterator}
 use Rattle.lower_emit.specs.Ops.{special, Plain}
-use Rattle.definitions.proofs.Decimals.{length-decimal}
 
 -- ---- made names are short
 
@@ -40,21 +38,20 @@ short-iterator n h = omega (arith, length-decimal 3 n (omega arith), length-appe
 
 -- ---- the code of an iterator's calls
 
-module _ (r : Emitted) (t made code tables : List ℕ) (c : Counts) (l : Limits) (q base : ℕ) (s : State) where
-  pub make-emits : Emits r t made code tables c l q (emit_at base (intern (made_name Iter) (λ k. one (CallMethod k 0))) s) → Emits r t made code tables c l q (emit_at base make_iter s)
-  unfolding make_iter made_name
-  make-emits h = h
+pub make-is : make_iter ≡ intern (made_name Iter) (λ k. one (CallMethod k 0))
+unfolding make_iter made_name
+make-is = refl
 
-  pub ask-emits : (g : Keeper) → Emits r t made code tables c l q (emit_at base (one (load_iter g) ⨟ intern (made_name HasNext) (λ k. one (CallMethod k 0))) s)
-      → Emits r t made code tables c l q (emit_at base (ask_iter g) s)
-  unfolding ask_iter made_name
-  ask-emits g h = h
+pub ask-is : (g : Keeper) → ask_iter g ≡ one (load_iter g) ⨟ intern (made_name HasNext) (λ k. one (CallMethod k 0))
+unfolding ask_iter made_name
+ask-is g = refl
 
 pub take-is : (base : ℕ) (slots : List Name) (x : Name) (g : Keeper) (s : State) → base ≤ length s.stack
-    → emit_at base (store slots x) (emit_at base (one (load_iter g) ⨟ intern (made_name Next) (λ k. one (CallMethod k 0))) s) ≡ emit_at base (take_iter slots x g) s
+    → emit_at base (take_iter slots x g) s ≡ emit_at base ((one (load_iter g) ⨟ intern (made_name Next) (λ k. one (CallMethod k 0))) ⨟ store slots x) s
 unfolding made_name
 take-is base slots x g s h =
-    ap (emit_at base (store slots x)) (at-seq base (one (load_iter g)) (intern (ascii "__next__") (λ k. one (CallMethod k 0))) s h) ∙ sym (at-take_iter base slots x g s h)
+    let next = one (load_iter g) ⨟ intern (ascii "__next__") (λ k. one (CallMethod k 0)) in
+    at-take_iter base slots x g s h ∙ sym (ap (emit_at base (store slots x)) (at-seq base (one (load_iter g)) (intern (ascii "__next__") (λ k. one (CallMethod k 0))) s h)) ∙ sym (at-seq base next (store slots x) s h)
 
 -- ---- the opcodes
 

@@ -1,3 +1,2 @@
-pub mod Made
-pub mod Storing
 pub mod Calling
+pub mod Storing

@@ -5,3 +5,4 @@ pub mod Naming
 pub mod Numbering
 pub mod MadeNames
 pub mod Midway
+pub mod Beginnings

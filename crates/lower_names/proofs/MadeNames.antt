@@ -7,9 +7,9 @@ use lib.ListN.{length, take}
 use Rattle.definitions.specs.Bytes.{Name}
 use Rattle.state.specs.Words.{region, name_at}
 use Rattle.state.specs.Index.{Covered}
-use Rattle.state.specs.State.{symbol_index_from, symbol_buckets, spelled, State, tables_of, state_of, Sound, Numbers, symbol_number, with_symbol, with_tables}
+use Rattle.state.specs.State.{symbol_index_from, symbol_buckets, spelled, tables_of, state_of, Sound}
 use Rattle.state.specs.declared.Counts.{Counts}
-use Rattle.state.specs.Answered.{Limits, Numbered}
+use Rattle.state.specs.declared.Limits.{Limits}
 use Rattle.state.proofs.Regions.{spelled_same, made-within-same, every_map}
 use Rattle.names.specs.Made.{Stands}
 use Rattle.names.proofs.Spelling.{spelled-made}
@@ -42,7 +42,7 @@ module _ (tree made made' code tables : List ℕ) (c : Counts) (l : Limits) (s :
     string-index = s.string-index;
   }
 
-  made-state : state_of tree made' code tables c ≡ state_of tree made code tables c
+  pub made-state : state_of tree made' code tables c ≡ state_of tree made code tables c
   unfolding state_of tables_of
   made-state =
       let e = sym (spelled_same tree made made' c.made (region 0 c.symbols tables) s.names kept) in
@@ -52,17 +52,7 @@ module _ (tree made made' code tables : List ℕ) (c : Counts) (l : Limits) (s :
         tables = record { symbols = e j; strings = t.strings; functions = t.functions; classes = t.classes; constants = t.constants };
       }
 
-  made-spelled : spelled tree made' (32768 + at) ≡ x
+  pub made-spelled : spelled tree made' (32768 + at) ≡ x
   made-spelled =
       let e : 32768 + at - 32768 ≡ at = omega arith in
       sym (spelled-made tree made' (32768 + at) (omega arith)) ∙ ap (name_at made') e ∙ w.name
-
-  -- the number of the made name, among the symbols as they were
-  pub made-numbers : (r : Numbered) (tables' : List ℕ) →
-      Numbers r tree made' code tables' c l (symbol_number (spelled tree made' (32768 + at)) (state_of tree made' code tables c).tables)
-      (with_tables (with_symbol (spelled tree made' (32768 + at)) (state_of tree made' code tables c).tables) (state_of tree made' code tables c))
-      → Numbers r tree made' code tables' c l (symbol_number x (state_of tree made code tables c).tables)
-      (with_tables (with_symbol x (state_of tree made code tables c).tables) (state_of tree made code tables c))
-  made-numbers r tables' h =
-      let f : Name → State → Type 0 = λ y u. Numbers r tree made' code tables' c l (symbol_number y u.tables) (with_tables (with_symbol y u.tables) u) in
-      subst (λ (u : State). f x u) made-state (subst (λ (y : Name). f y (state_of tree made' code tables c)) made-spelled h)

@@ -7,7 +7,7 @@ use lib.ListN.{length}
 use Rattle.definitions.specs.Tables.{Emit}
 use Rattle.state.specs.State.{State, state_of, emit_at, Within, Sound, Paced, Left}
 use Rattle.state.specs.declared.Counts.{Counts}
-use Rattle.state.specs.Answered.{Limits}
+use Rattle.state.specs.declared.Limits.{Limits}
 use Rattle.state.proofs.Views.{stack-length}
 use Rattle.state.proofs.Growth.{Lengthens}
 use Rattle.state.proofs.Within.{within-down}

@@ -1,8 +1,9 @@
--- Instructions that name a symbol or a string.
+-- Instructions that name a symbol or a string, by the laws of the state.
 use Prim.Native.Nat.{ℕ, ◌+◌, ◌≤◌, ◌<◌}
 use mathlib.Core.Path.{◌≡◌, refl, sym, ap, subst, ◌∙◌}
 use mathlib.Core.Bool.{false, ◌&&◌, ◌||◌}
-use mathlib.Core.Option.{Option, none, some}
+use mathlib.Core.Option as definitions
+use mathlib.Core.Option.{none, some}
 use mathlib.Core.List.{List, ◌∷◌, map}
 use native.Mathlib.Omega.{arith}
 use lib.Dec.{leb}
@@ -10,81 +11,58 @@ use lib.ListN.{length, drop, get_or, drop_of_length-le}
 use lib.Seq.{drop-cons}
 use native.Mathlib.Numerals.{add-one}
 use borrow.Author.Tests.{ne_eqb, lt-leb}
+use Rattle.std.specs.Prelude.{Option, Some, None}
+use Rattle.std.proofs.lemmas.Option.{none-some}
 use Rattle.definitions.specs.Bytes.{Name, Text, same, position}
 use Rattle.definitions.specs.Instruction.{Instr, instr}
 use Rattle.definitions.specs.Tables.{Emit, one, intern, get_or_add_string}
 use Rattle.definitions.specs.Lower.{load, store, loads}
 use Rattle.definitions.specs.Reader.{is_jump}
-use Rattle.definitions.proofs.Resolve.{position-lt}
 use Rattle.state.specs.Words.{name_at, small_int}
-use Rattle.state.specs.State.{names_at, State, state_of, emit_at, Within, Sound, Left, Emits, Numbers, found_or, symbol_number, with_symbol, string_number, with_string, with_tables}
-use Rattle.state.specs.declared.Counts.{Counts}
-use Rattle.state.specs.Answered.{Limits, Emitted, Full, Numbered, At, Over}
+use Rattle.state.specs.State.{names_at, State, emit_at, Within, symbol_number, string_number}
 use Rattle.state.proofs.Emission.{at-intern, at-string}
 use Rattle.state.proofs.Enclosing.{at-loads-none, at-loads-more}
 use Rattle.state.proofs.Within.{within-one}
-use Rattle.state.proofs.Answers.{emits-as, emits-after, full-emits, numbers-at, numbers-over}
 use Rattle.lower_emit.specs.Ops.{special, Plain}
+use Rattle.lower_emit.specs.declared.emitter.Emitter.{Emitter}
+use Rattle.lower_emit.specs.Emitting.{limits_in, state_in, NumbersIn, LowersIn}
+use Rattle.lower_emit.proofs.Steps.{reaches_as, reaches-after}
+use Rattle.lower_names.specs.Naming.{named, quoted}
 use Rattle.lower_names.specs.Variable.{variable_by, variable}
 
--- an instruction with a number, put after the step that gave the number: base is where the innermost function begins
-module _ (tree made code code' tables : List ℕ) (c d : Counts) (l : Limits) (i number : ℕ) (mid : State) (f : ℕ → Instr) (is : i ≡ number)
-    (left : Left d tree made code tables c l mid) where
-  pub put-numbered : (r : Emitted) (next : ℕ) (want : State) → want ≡ emit_at c.base (one (f number)) mid
-      → Emits r tree made code' tables d l next (emit_at d.base (one (f i)) (state_of tree made code tables d)) → Emits r tree made code' tables c l next want
-  put-numbered r next want e h =
-      emits-after r made code' tables next want left
-      (emits-as r tree made code' tables d l next next _ want refl ((λ j. emit_at (left.base j) (one (f (is j))) (left.state j)) ∙ sym e) h)
+-- an instruction with a number, put after the step that gave the number; x is the code of both
+module _ {tree : List ℕ} {a m : Emitter} {i : Option ℕ} {number : ℕ} {mid : State} {x : Emit} (f : ℕ → Instr) (h : NumbersIn i number tree a m mid)
+    (at : emit_at a.code.base x (state_in tree a) ≡ emit_at a.code.base (one (f number)) mid) where
+  put-numbered : {A : Type 0} {n : ℕ} {r : Option A} {b : Emitter} → i ≡ Some n → LowersIn r (one (f n)) tree m b → LowersIn r x tree a b
+  put-numbered {n = n} z p =
+      let k = (h.reaches.done n z).left in
+      record { reaches = reaches_as ((λ j. emit_at (k.base j) (one (f (h.is n z j))) (k.state j)) ∙ sym at) (reaches-after z h.reaches p.reaches) }
 
--- no room for the symbol or the string, so none for the instruction with it
-module _ (l : Limits) (base : ℕ) (s : State) (f : ℕ → Instr) where
-  pub symbol-full : (x : Name) → (Within l (with_tables (with_symbol x s.tables) s) → ⊥) → Within l (emit_at base (intern x (λ k. one (f k))) s) → ⊥
-  symbol-full x h w = h (within-one base (f (symbol_number x s.tables)) _ (rw (at-intern base x (λ k. one (f k)) s) at w))
+  -- no room for the number, so none for the instruction with it
+  over-numbered : {B : Type 0} {q : Option B} → i ≡ None → q ≡ None → LowersIn q x tree a m
+  over-numbered z n = record {
+    reaches = record {
+      done = λ y e. absurd (none-some y (sym n ∙ e));
+      full = λ e w. h.reaches.full z (within-one a.code.base (f number) mid (subst (Within (limits_in a)) at w));
+      limits = h.reaches.limits;
+    };
+  }
 
-  pub string-full : (x : Text) → (Within l (with_tables (with_string x s.tables) s) → ⊥) → Within l (emit_at base (get_or_add_string x (λ k. one (f k))) s) → ⊥
-  string-full x h w = h (within-one base (f (string_number x s.tables)) _ (rw (at-string base x (λ k. one (f k)) s) at w))
+module _ {tree : List ℕ} {a m : Emitter} {i : Option ℕ} (f : ℕ → Instr) (x : Name) where
+  module _ (h : NumbersIn i (symbol_number x (state_in tree a).tables) tree a m (named x (state_in tree a))) where
+    pub symbol-put : {A : Type 0} {n : ℕ} {r : Option A} {b : Emitter} → i ≡ Some n → LowersIn r (one (f n)) tree m b → LowersIn r (intern x (λ k. one (f k))) tree a b
+    symbol-put z p = put-numbered f h (at-intern a.code.base x (λ k. one (f k)) (state_in tree a)) z p
 
--- ---- a symbol's number and then its instruction
+    pub symbol-over : {B : Type 0} {q : Option B} → i ≡ None → q ≡ None → LowersIn q (intern x (λ k. one (f k))) tree a m
+    symbol-over z n = over-numbered f h (at-intern a.code.base x (λ k. one (f k)) (state_in tree a)) z n
 
-pub numbers-name : (r : Numbered) (tree made code tables : List ℕ) (c : Counts) (l : Limits) (s : State) (x y : Name) → x ≡ y
-    → Numbers r tree made code tables c l (symbol_number x s.tables) (with_tables (with_symbol x s.tables) s)
-    → Numbers r tree made code tables c l (symbol_number y s.tables) (with_tables (with_symbol y s.tables) s)
-numbers-name r tree made code tables c l s x y e h =
-    subst (λ (z : Name). Numbers r tree made code tables c l (symbol_number z s.tables) (with_tables (with_symbol z s.tables) s)) e h
+module _ {tree : List ℕ} {a m : Emitter} {i : Option ℕ} (f : ℕ → Instr) (x : Text) where
+  module _ (h : NumbersIn i (string_number x (state_in tree a).tables) tree a m (quoted x (state_in tree a))) where
+    pub string-put : {A : Type 0} {n : ℕ} {r : Option A} {b : Emitter} → i ≡ Some n → LowersIn r (one (f n)) tree m b → LowersIn r (get_or_add_string x (λ k. one (f k))) tree a b
+    string-put z p = put-numbered f h (at-string a.code.base x (λ k. one (f k)) (state_in tree a)) z p
 
-module _ (tree made code tables : List ℕ) (c : Counts) (l : Limits) (s : State) (x : Name) (n : Numbered)
-    (answer : Numbers n tree made code tables c l (symbol_number x s.tables) (with_tables (with_symbol x s.tables) s)) where
-  pub symbol-over : (f : ℕ → Instr) (next : ℕ) → n ≡ Over → Emits Full tree made code tables c l next (emit_at c.base (intern x (λ k. one (f k))) s)
-  symbol-over f next e = full-emits tree made code tables c l next _ (symbol-full l c.base s f x (numbers-over tree made code tables c l _ _ n e answer))
-
-  module _ (i : ℕ) (d : Counts) (e : n ≡ At i d) where
-    got : (i ≡ symbol_number x s.tables) × Left d tree made code tables c l (with_tables (with_symbol x s.tables) s)
-    got = numbers-at tree made code tables c l _ _ n i d e answer
-
-    pub symbol-sound : Sound tree made code tables d l
-    symbol-sound = got.1.sound
-
-    pub symbol-put : (f : ℕ → Instr) (code' : List ℕ) (next : ℕ) (r : Emitted) → Emits r tree made code' tables d l next (emit_at d.base (one (f i)) (state_of tree made code tables d))
-        → Emits r tree made code' tables c l next (emit_at c.base (intern x (λ k. one (f k))) s)
-    symbol-put f code' next r h = put-numbered tree made code code' tables c d l i _ _ f got.0 got.1 r next _ (at-intern c.base x (λ k. one (f k)) s) h
-
--- ---- a string's number and then its instruction
-
-module _ (tree made code tables : List ℕ) (c : Counts) (l : Limits) (s : State) (x : Text) (n : Numbered)
-    (answer : Numbers n tree made code tables c l (string_number x s.tables) (with_tables (with_string x s.tables) s)) where
-  pub string-over : (f : ℕ → Instr) (next : ℕ) → n ≡ Over → Emits Full tree made code tables c l next (emit_at c.base (get_or_add_string x (λ k. one (f k))) s)
-  string-over f next e = full-emits tree made code tables c l next _ (string-full l c.base s f x (numbers-over tree made code tables c l _ _ n e answer))
-
-  module _ (i : ℕ) (d : Counts) (e : n ≡ At i d) where
-    got-string : (i ≡ string_number x s.tables) × Left d tree made code tables c l (with_tables (with_string x s.tables) s)
-    got-string = numbers-at tree made code tables c l _ _ n i d e answer
-
-    pub string-sound : Sound tree made code tables d l
-    string-sound = got-string.1.sound
-
-    pub string-put : (f : ℕ → Instr) (code' : List ℕ) (next : ℕ) (r : Emitted) → Emits r tree made code' tables d l next (emit_at d.base (one (f i)) (state_of tree made code tables d))
-        → Emits r tree made code' tables c l next (emit_at c.base (get_or_add_string x (λ k. one (f k))) s)
-    string-put f code' next r h = put-numbered tree made code code' tables c d l i _ _ f got-string.0 got-string.1 r next _ (at-string c.base x (λ k. one (f k)) s) h
+    pub string-over : {B : Type 0} {q : Option B} → i ≡ None → q ≡ None → LowersIn q (get_or_add_string x (λ k. one (f k))) tree a m
+    string-over z n = over-numbered f h (at-string a.code.base x (λ k. one (f k)) (state_in tree a)) z n
 
 -- ---- a variable
 
@@ -105,30 +83,20 @@ pub plain_op : (op a : ℕ) → 9 ≤ op → op ≤ 12 → a < 65536 → Plain o
 plain_op op a h g k = record { op-byte = omega arith; op-plain = low-plain op h g; first_short = k; second-byte = omega arith }
 
 module _ (op base : ℕ) (slots : List Name) (x : Name) (s : State) where
-  by-slot : (o : Option ℕ) → found_or (length slots) o < length slots → variable_by op x o ≡ one (instr op (found_or (length slots) o) 0)
-  unfolding variable_by found_or
-  by-slot none h = absurd (omega arith)
-  by-slot (some i) h = refl
+  pub at_slot : (i : ℕ) → some i ≡ position (same x) slots → emit_at base (one (instr op i 0)) s ≡ emit_at base (variable op slots x) s
+  unfolding variable variable_by
+  at_slot i e = ap (λ (o : definitions.Option ℕ). emit_at base (variable_by op x o) s) e
 
-  by-name : (o : Option ℕ) → ((k : ℕ) → o ≡ some k → k < length slots) → length slots ≤ found_or (length slots) o → variable_by op x o ≡ intern x (λ k. one (instr (op + 2) k 0))
-  unfolding variable_by found_or
-  by-name none f h = refl
-  by-name (some i) f h = let z = f i refl in absurd (omega arith)
-
-  pub at_slot : (i : ℕ) → i ≡ found_or (length slots) (position (same x) slots) → i < length slots → emit_at base (one (instr op i 0)) s ≡ emit_at base (variable op slots x) s
-  unfolding variable
-  at_slot i e h = ap (λ (k : ℕ). emit_at base (one (instr op k 0)) s) e ∙ ap (λ (f : Emit). emit_at base f s) (sym (by-slot (position (same x) slots) (omega arith)))
-
-  pub at-global : (i : ℕ) → i ≡ found_or (length slots) (position (same x) slots) → length slots ≤ i → emit_at base (intern x (λ k. one (instr (op + 2) k 0))) s ≡ emit_at base (variable op slots x) s
-  unfolding variable
-  at-global i e h = ap (λ (f : Emit). emit_at base f s) (sym (by-name (position (same x) slots) (position-lt (same x) slots) (omega arith)))
+  pub at-global : none ≡ position (same x) slots → emit_at base (intern x (λ k. one (instr (op + 2) k 0))) s ≡ emit_at base (variable op slots x) s
+  unfolding variable variable_by
+  at-global e = ap (λ (o : definitions.Option ℕ). emit_at base (variable_by op x o) s) e
 
 -- a load and a store are such
 pub at_load : (base : ℕ) (slots : List Name) (x : Name) (s : State) → emit_at base (variable 9 slots x) s ≡ emit_at base (load slots x) s
 unfolding variable variable_by load
 at_load base slots x s = go (position (same x) slots)
   where
-    go : (o : Option ℕ) → emit_at base (variable_by 9 x o) s ≡ emit_at base (elim o as (λ z. Emit) [ some i ↦ one (instr 9 i 0) | none ↦ intern x (λ k. one (instr 11 k 0)) ]) s
+    go : (o : definitions.Option ℕ) → emit_at base (variable_by 9 x o) s ≡ emit_at base (elim o as (λ z. Emit) [ some i ↦ one (instr 9 i 0) | none ↦ intern x (λ k. one (instr 11 k 0)) ]) s
     go none = refl
     go (some i) = refl
 
@@ -136,7 +104,7 @@ pub at_store : (base : ℕ) (slots : List Name) (x : Name) (s : State) → emit_
 unfolding variable variable_by store
 at_store base slots x s = go (position (same x) slots)
   where
-    go : (o : Option ℕ) → emit_at base (variable_by 10 x o) s ≡ emit_at base (elim o as (λ z. Emit) [ some i ↦ one (instr 10 i 0) | none ↦ intern x (λ k. one (instr 12 k 0)) ]) s
+    go : (o : definitions.Option ℕ) → emit_at base (variable_by 10 x o) s ≡ emit_at base (elim o as (λ z. Emit) [ some i ↦ one (instr 10 i 0) | none ↦ intern x (λ k. one (instr 12 k 0)) ]) s
     go none = refl
     go (some i) = refl
 

@@ -14,7 +14,8 @@ use Rattle.state.specs.State.{symbol_index_from, symbol_buckets, string_index_fr
 use Rattle.state.specs.State.{class_methods_from, methods_from, constants_from, done_from, spelled, functions_of, classes_of, State, tables_of, state_of, Sound, MadeWithin, total, Numbers}
 use Rattle.state.specs.State.{found_or, symbol_number, with_symbol, string_number, with_string, with_tables}
 use Rattle.state.specs.declared.Counts.{Counts}
-use Rattle.state.specs.Answered.{Limits, At, Over}
+use Rattle.state.specs.declared.Limits.{Limits}
+use Rattle.state.specs.Answered.{At, Over}
 use Rattle.state.proofs.Index.{bucket-below, covered-snoc, symbols-indexed, strings-indexed}
 use Rattle.state.proofs.Regions.{region-length, set_first, set_next, set-above, set_below, every-snoc, every_map, made-within-more}
 use Rattle.state.proofs.Views.{symbols-length, strings-length}

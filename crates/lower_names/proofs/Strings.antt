@@ -1,90 +1,107 @@
--- A string's number, by the laws of the state, and the instruction with it.
+-- A string's number, by the laws of the state.
 use Prim.Native.Nat.{ℕ, ◌+◌, ◌-◌, ◌%◌, ◌<◌, ◌≤◌}
-use mathlib.Core.Path.{◌≡◌, refl, sym, ap, subst, ◌∙◌}
+use mathlib.Core.Path.{◌≡◌, refl, sym, ap, ◌∙◌}
 use mathlib.Core.List.{List, map}
+use mathlib.Core.Option as definitions
+use mathlib.Core.Option.{none, some}
 use native.Mathlib.Omega.{arith}
-use lib.ListN.{length, get_or, set, take, drop, length-set}
-use lib.Seq.{get_or-set_other}
+use native.Mathlib.Nat.{le_refl}
+use lib.ListN.{get_or, set, take, drop}
+use Rattle.std.specs.Prelude.{Some, None}
+use Rattle.std.proofs.lemmas.Option.{none-some}
 use Rattle.definitions.specs.Bytes.{Text, same, position}
-use Rattle.definitions.specs.Instruction.{Instr}
-use Rattle.definitions.specs.Tables.{one, get_or_add_string}
-use Rattle.state.specs.Index.{bucket_of, hash_of, start_of, noted}
+use Rattle.state.specs.Index.{hash_of, start_of}
 use Rattle.state.specs.Words.{region, text_at}
-use Rattle.state.specs.State.{state_of, Numbers, strings_from, string_index_from, string_buckets, found_or, string_number, with_string, with_tables}
-use Rattle.state.specs.Answered.{Numbered, At}
-use Rattle.lower_names.proofs.Numbering.{one_string, Renewed, text-old, text-over, text-new}
-use Rattle.names.proofs.TableIndex.{bucket-is, indexed-found, indexed-le}
-use Rattle.lower_names.proofs.Naming.{string-over, string-sound, string-put}
-use Rattle.lower_emit.specs.Numbers.{counts_of, limits_in, answered, Room, SoundIn, LowersIn}
-use Rattle.lower_emit.proofs.Counts.{numbered-at, numbered-over, ten}
-use Rattle.lower_emit.proofs.Steps.{lowers-full}
-use Rattle.lower_names.specs.Naming.{Texts, Adds}
-
--- the counts after a string more
-pub counts-string : (k : List ℕ) → 10 ≡ length k → counts_of (set k 1 (get_or k 1 0 + 1)) ≡ one_string (counts_of k)
-counts-string k h = subst (λ (z : List ℕ). counts_of (set z 1 (get_or z 1 0 + 1)) ≡ one_string (counts_of z)) (ten k h).is refl
-
-pub texts-sound : {tree made code tables k l : List ℕ} → SoundIn tree made code tables k l → Texts tree tables k l
-texts-sound S = let s = S.sound in record { tables-room = s.tables-room; numbers = S.numbers; strings = s.strings; limit = s.limited.strings; string-index = s.string-index }
-
-abbrev pub FoundText : List ℕ → List ℕ → List ℕ → ℕ → ℕ → Type 0
-FoundText tree tables k p i = i ≡ found_or (get_or k 1 0) (position (same (text_at tree p)) (map (text_at tree) (region strings_from (get_or k 1 0) tables)))
-
-module _ {tree tables k l : List ℕ} {p i : ℕ} (T : Texts tree tables k l) (f : FoundText tree tables k p i) where
-  pub adds-old : i < get_or k 1 0 → Adds i tree tables tables k k l p
-  adds-old h = record {
-    numbers = λ made code S. rw (numbered-at i k (omega (arith, T.strings, T.limit))) (text-old tree made code tables (counts_of k) (limits_in l) S.sound p i f h);
-    kept = T.numbers;
-    words = (refl, refl);
-  }
-
-  pub adds-over : get_or k 1 0 ≤ i → get_or l 2 0 ≤ get_or k 1 0 → Adds 65536 tree tables tables k k l p
-  adds-over h full = record {
-    numbers = λ made code S. rw (numbered-over 65536 k (omega arith)) (text-over tree made code tables (counts_of k) (limits_in l) S.sound p i f h full);
-    kept = T.numbers;
-    words = (refl, refl);
-  }
-
-  pub adds-new : (zs : List ℕ) → Renewed string_index_from string_buckets (set tables (strings_from + get_or k 1 0) p) zs (noted (region string_index_from string_buckets (set tables (strings_from + get_or k 1 0) p)) (bucket_of string_buckets (text_at tree p)) (get_or k 1 0))
-      → get_or k 1 0 < get_or l 2 0 → get_or k 1 0 ≤ i → Adds (get_or k 1 0) tree tables zs k (set k 1 (get_or k 1 0 + 1)) l p
-  adds-new zs r room h = record {
-    numbers = λ made code S.
-        let a = numbered-at (get_or k 1 0) (set k 1 (get_or k 1 0 + 1)) (omega (arith, T.limit)) ∙ ap (At (get_or k 1 0)) (counts-string k T.numbers) in
-        subst (λ (x : Numbered). Numbers x tree made code zs (counts_of k) (limits_in l) (string_number (text_at tree p) (state_of tree made code tables (counts_of k)).tables)
-        (with_tables (with_string (text_at tree p) (state_of tree made code tables (counts_of k)).tables) (state_of tree made code tables (counts_of k)))) (sym a)
-        (text-new tree made code tables (counts_of k) (limits_in l) S.sound p i zs r room f h);
-    kept = T.numbers ∙ sym (length-set k 1 (get_or k 1 0 + 1));
-    words = (get_or-set_other k 1 8 (get_or k 1 0 + 1) 0 (λ e. omega arith), get_or-set_other k 1 9 (get_or k 1 0 + 1) 0 (λ e. omega arith));
-  }
+use Rattle.state.specs.State.{StringIndex, strings_from, string_index_from, string_buckets, found_or}
+use Rattle.state.specs.Answered.{At, Over}
+use Rattle.state.proofs.Answers.{numbers-at, numbers-over}
+use Rattle.names.specs.Sought.{place_in, shifted}
+use Rattle.names.proofs.TableIndex.{bucket-is, indexed-found, indexed-lt}
+use Rattle.lower_emit.specs.declared.emitter.Tables.{Tables}
+use Rattle.lower_emit.specs.Emitting.{counts_of, limits_in, beside}
+use Rattle.lower_emit.proofs.Steps.{some-is}
+use Rattle.lower_names.specs.declared.Sought.{Sought}
+use Rattle.lower_names.specs.Naming.{SeeksText, Adds}
+use Rattle.lower_names.proofs.Numbering.{one_string, text-old, text-over, text-new}
+use Rattle.lower_names.proofs.Symbols.{numbers-some, numbers-none, Renews, left-renewed, renewed-noted}
 
 -- what the code finds from the first number on
-module _ {tree tables k l text : List ℕ} (p : ℕ) {h first r : ℕ} (T : Texts tree tables k l) (is : text ≡ text_at tree p) (hashed : h ≡ hash_of text)
-    (start : first ≡ start_of (get_or (region string_index_from string_buckets tables) (h % string_buckets) 0) (get_or k 1 0))
-    (found : r ≡ found_or (length (take (strings_from + get_or k 1 0 - (strings_from + first)) (drop (strings_from + first) tables))) (position (same text) (map (text_at tree) (take (strings_from + get_or k 1 0 - (strings_from + first)) (drop (strings_from + first) tables))))) where
-  pub added-le : first + r ≤ get_or k 1 0
-  added-le = indexed-le (text_at tree) tables (region string_index_from string_buckets tables) string_buckets strings_from (get_or k 1 0) text first (h % string_buckets) r (strings_from + first) (strings_from + get_or k 1 0 - (strings_from + first))
-      (omega (arith, T.tables-room, T.strings, T.limit)) T.string-index (bucket-is string_buckets text text h hashed refl) start refl (omega arith) found
+module _ (tree : List ℕ) {text : List ℕ} (a : Tables) (p : ℕ) {h first : ℕ} (o : definitions.Option ℕ) (N : StringIndex tree a.entries.now a.strings) (is : text ≡ text_at tree p) (hashed : h ≡ hash_of text)
+    (start : first ≡ start_of (get_or (region string_index_from string_buckets a.entries.now) (h % string_buckets) 0) a.strings)
+    (found : o ≡ position (same text) (map (text_at tree) (take (strings_from + a.strings - (strings_from + first)) (drop (strings_from + first) a.entries.now)))) where
+  pub text-lt : (r : ℕ) → o ≡ some r → first + r < a.strings
+  text-lt = indexed-lt (text_at tree) a.entries.now (region string_index_from string_buckets a.entries.now) string_buckets strings_from a.strings text first (h % string_buckets) (strings_from + first) (strings_from + a.strings - (strings_from + first)) o
+      (omega (arith, a.tables_room, a.strings_size, a.strings_most)) N (bucket-is string_buckets text text h hashed refl) start refl (omega arith) found
 
-  pub added-found : FoundText tree tables k p (first + r)
-  added-found = indexed-found (text_at tree) tables (region string_index_from string_buckets tables) string_buckets strings_from (get_or k 1 0) text first (h % string_buckets) r (strings_from + first) (strings_from + get_or k 1 0 - (strings_from + first))
-      (omega (arith, T.tables-room, T.strings, T.limit)) T.string-index (bucket-is string_buckets text text h hashed refl) start refl (omega arith) found
-      ∙ ap (λ (y : Text). found_or (get_or k 1 0) (position (same y) (map (text_at tree) (region strings_from (get_or k 1 0) tables)))) is
+  text-found : shifted first o ≡ position (same (text_at tree p)) (map (text_at tree) (region strings_from a.strings a.entries.now))
+  text-found =
+      indexed-found (text_at tree) a.entries.now (region string_index_from string_buckets a.entries.now) string_buckets strings_from a.strings text first (h % string_buckets) (strings_from + first) (strings_from + a.strings - (strings_from + first)) o
+      (omega (arith, a.tables_room, a.strings_size, a.strings_most)) N (bucket-is string_buckets text text h hashed refl) start refl (omega arith) found
+      ∙ ap (λ (y : Text). position (same y) (map (text_at tree) (region strings_from a.strings a.entries.now))) is
 
-pub room-adds : {tree code tables tables₁ k k₁ l : List ℕ} {i p : ℕ} → Room code k l → Adds i tree tables tables₁ k k₁ l p → Room code k₁ l
-room-adds R h = record { code-room = R.code-room; numbers = h.kept; limit = R.limit; words = omega (arith, R.words, h.words.0, h.words.1) }
+  module _ (least : first ≤ a.strings) where
+    pub seeks-some : (r : ℕ) → o ≡ some r → SeeksText (record { bucket = h % string_buckets; first = first; found = Some (first + r) }) tree a p
+    unfolding shifted
+    seeks-some r e = record {
+      bucket = bucket-is string_buckets _ text h hashed is;
+      small = omega arith;
+      first = start;
+      least = least;
+      found = ap (shifted first) (sym e) ∙ text-found;
+      below = λ i q. let z = some-is q in omega (arith, text-lt r e);
+    }
 
--- ---- the instruction with the number
+    pub seeks-none : o ≡ none → SeeksText (record { bucket = h % string_buckets; first = first; found = None }) tree a p
+    unfolding shifted
+    seeks-none e = record {
+      bucket = bucket-is string_buckets _ text h hashed is;
+      small = omega arith;
+      first = start;
+      least = least;
+      found = ap (shifted first) (sym e) ∙ text-found;
+      below = λ i q. absurd (none-some i q);
+    }
 
-module _ {tree made code tables tables₁ k k₁ l : List ℕ} {p i : ℕ} (S : SoundIn tree made code tables k l) (h : Adds i tree tables tables₁ k k₁ l p) where
-  pub string1-over : {next : ℕ} (f : ℕ → Instr) → 65536 ≤ i → LowersIn 0 (get_or_add_string (text_at tree p) (λ n. one (f n))) next tree made code tables k l made code tables₁ k₁
-  string1-over {next} f z = lowers-full h.kept (string-over tree made code tables₁ (counts_of k) (limits_in l) _ (text_at tree p) _ (h.numbers made code S) f next (numbered-over i k₁ z))
+module _ {tree : List ℕ} {a : Tables} {p : ℕ} {s : Sought} (H : SeeksText s tree a p) where
+  abbrev texts : List Text
+  texts = map (text_at tree) (region strings_from a.strings a.entries.now)
 
-  pub string1-sound : i < 65536 → SoundIn tree made code tables₁ k₁ l
-  string1-sound z = record { numbers = h.kept; sound = string-sound tree made code tables₁ (counts_of k) (limits_in l) _ (text_at tree p) _ (h.numbers made code S) i (counts_of k₁) (numbered-at i k₁ z) }
+  found-old : {i : ℕ} → s.found ≡ Some i → i ≡ found_or a.strings (position (same (text_at tree p)) texts)
+  unfolding found_or
+  found-old {i} e = ap (found_or a.strings) (sym (ap place_in e) ∙ H.found)
 
-  pub string1-put : {code₂ k₂ : List ℕ} {r next : ℕ} (f : ℕ → Instr) → i < 65536 → LowersIn r (one (f i)) next tree made code tables₁ k₁ l made code₂ tables₁ k₂
-      → LowersIn r (get_or_add_string (text_at tree p) (λ n. one (f n))) next tree made code tables k l made code₂ tables₁ k₂
-  string1-put {code₂} {k₂} {r} {next} f z q = record {
-    emits = string-put tree made code tables₁ (counts_of k) (limits_in l) _ (text_at tree p) _ (h.numbers made code S) i (counts_of k₁) (numbered-at i k₁ z) f code₂ next (answered r k₂) q.emits;
-    numbers = q.numbers;
+  found-new : s.found ≡ None → a.strings ≡ found_or a.strings (position (same (text_at tree p)) texts)
+  unfolding found_or
+  found-new e = ap (found_or a.strings) (sym (ap place_in e) ∙ H.found)
+
+  pub adds-old : {i : ℕ} → s.found ≡ Some i → Adds (Some i) tree a a p
+  adds-old {i} e = record {
+    below = λ n q. let z = some-is q in omega (arith, H.below i e, a.strings_size, a.strings_most);
+    numbers = λ code S.
+        let c = counts_of (beside code a) in
+        let l = limits_in (beside code a) in
+        numbers-some refl (numbers-at tree a.made.now code.words.now a.entries.now c l _ _ (At i c) i c refl (text-old tree a.made.now code.words.now a.entries.now c l S.sound p i (found-old e) (H.below i e)));
+  }
+
+  pub adds-over : s.found ≡ None → a.limits.strings ≤ a.strings → Adds None tree a a p
+  adds-over e full = record {
+    below = λ n q. absurd (none-some n q);
+    numbers = λ code S.
+        let c = counts_of (beside code a) in
+        let l = limits_in (beside code a) in
+        numbers-none refl (numbers-over tree a.made.now code.words.now a.entries.now c l _ _ Over refl (text-over tree a.made.now code.words.now a.entries.now c l S.sound p a.strings (found-new e) (le_refl _) full));
+  }
+
+  pub adds-new : {b : Tables} → s.found ≡ None → a.strings < a.limits.strings → Renews (set (set a.entries.now (strings_from + a.strings) p) (string_index_from + s.bucket) (s.first + 1)) one_string a b
+      → Adds (Some a.strings) tree a b p
+  adds-new {b} e room R = record {
+    below = λ n q. let z = some-is q in omega (arith, a.strings_most);
+    numbers = λ code S.
+        let c = counts_of (beside code a) in
+        let l = limits_in (beside code a) in
+        let zs = set (set a.entries.now (strings_from + a.strings) p) (string_index_from + s.bucket) (s.first + 1) in
+        let r = renewed-noted string_index_from string_buckets (strings_from + a.strings) p a.strings s.bucket s.first (text_at tree p) a.entries.now (omega (arith, a.strings_size, a.strings_most)) H.bucket H.small H.first in
+        let h = numbers-at tree a.made.now code.words.now zs c l _ _ (At a.strings (one_string c)) a.strings (one_string c) refl
+        (text-new tree a.made.now code.words.now a.entries.now c l S.sound p a.strings zs r room (found-new e) (le_refl _)) in
+        numbers-some (R.limits code) (h.0, left-renewed R code h.1);
   }

@@ -1,44 +1,64 @@
--- A symbol's number, by the laws of the state, and the instruction with it.
+-- A symbol's number, by the laws of the state.
 use Prim.Native.Nat.{ℕ, ◌+◌, ◌-◌, ◌%◌, ◌<◌, ◌≤◌}
 use mathlib.Core.Path.{◌≡◌, refl, sym, ap, subst, ◌∙◌}
 use mathlib.Core.List.{List, map}
+use mathlib.Core.Option as definitions
+use mathlib.Core.Option.{none, some}
 use native.Mathlib.Omega.{arith}
-use native.Mathlib.Nat.{zero-add}
+use native.Mathlib.Nat.{le_refl, zero-add}
 use lib.ListN.{length, get_or, set, take, drop, length-set}
+use Rattle.std.specs.Prelude.{Option, Some, None}
+use Rattle.std.proofs.lemmas.Option.{none-some}
 use Rattle.definitions.specs.Bytes.{Name, same, position}
-use Rattle.definitions.specs.Instruction.{Instr}
-use Rattle.definitions.specs.Tables.{one, intern}
-use Rattle.state.specs.Index.{bucket_of, hash_of, noted, start_of, Covered}
-use Rattle.state.specs.Words.{region, name_at}
-use Rattle.state.specs.State.{state_of, Numbers, MadeWithin, symbol_index_from, symbol_buckets, spelled, found_or, symbol_number, with_symbol, with_tables}
-use Rattle.state.specs.Answered.{Numbered, At}
+use Rattle.state.specs.Index.{hash_of, bucket_of, noted, start_of, Covered}
+use Rattle.state.specs.Words.{region}
+use Rattle.state.specs.State.{State, state_of, Sound, Left, Within, Every, MadeWithin, SymbolIndex, symbol_index_from, symbol_buckets, spelled, found_or, symbol_number}
+use Rattle.state.specs.declared.Counts.{Counts}
+use Rattle.state.specs.Answered.{At, Over}
+use Rattle.state.proofs.Answers.{numbers-at, numbers-over}
 use Rattle.state.proofs.Regions.{set_here, set_below, set-above, spelled_same, made-within-same, every_map}
 use Rattle.names.specs.Made.{Stands}
-use Rattle.names.proofs.TableIndex.{bucket-is, indexed-found, indexed-le}
-use Rattle.names.proofs.Spelling.{spelled-made}
-use Rattle.lower_names.proofs.MadeNames.{made-sound, made-numbers}
+use Rattle.names.specs.Sought.{place_in, shifted}
+use Rattle.names.proofs.TableIndex.{bucket-is, indexed-found, indexed-lt}
+use Rattle.lower_emit.specs.declared.emitter.Code.{Code}
+use Rattle.lower_emit.specs.declared.emitter.Tables.{Tables}
+use Rattle.lower_emit.specs.declared.emitter.Emitter.{Emitter}
+use Rattle.lower_emit.specs.Emitting.{counts_of, limits_in, state_in, SoundIn, beside, NumbersIn}
+use Rattle.lower_emit.proofs.Steps.{some-is}
+use Rattle.lower_names.specs.declared.Sought.{Sought}
+use Rattle.lower_names.specs.Naming.{Naming, SeeksSymbol, Interns, InternsMade, named}
+use Rattle.lower_names.proofs.MadeNames.{made-sound, made-state, made-spelled}
 use Rattle.lower_names.proofs.Numbering.{one_symbol, Renewed, intern-old, intern-over, intern-new}
-use Rattle.lower_names.proofs.Naming.{numbers-name, symbol-over, symbol-sound, symbol-put}
-use Rattle.lower_emit.specs.Numbers.{counts_of, limits_in, answered, numbered, SoundIn, LowersIn}
-use Rattle.lower_emit.proofs.Counts.{numbered-at, numbered-over, ten}
-use Rattle.lower_emit.proofs.Steps.{lowers-full}
-use Rattle.lower_names.specs.Naming.{Naming, Interns, InternsMade}
 
--- the counts after a symbol more
-pub counts-symbol : (k : List ℕ) (grow : ℕ) → 10 ≡ length k → counts_of (set (set k 0 (get_or k 0 0 + 1)) 6 (get_or k 6 0 + grow)) ≡ one_symbol grow (counts_of k)
-counts-symbol k grow h = subst (λ (z : List ℕ). counts_of (set (set z 0 (get_or z 0 0 + 1)) 6 (get_or z 6 0 + grow)) ≡ one_symbol grow (counts_of z)) (ten k h).is refl
+pub naming-sound : {tree : List ℕ} {e : Emitter} → SoundIn tree e → Naming tree e.tables
+naming-sound S = record { names = S.sound.names; symbol-index = S.sound.symbol-index }
 
-pub naming-sound : {tree made code tables k l : List ℕ} → SoundIn tree made code tables k l → Naming tree made tables k l
-naming-sound S = let s = S.sound in record {
-  tables-room = s.tables-room;
-  made-room = s.made-room;
-  numbers = S.numbers;
-  symbols = s.symbols;
-  limit = s.limited.symbols;
-  made-count = s.made-count;
-  names = s.names;
-  symbol-index = s.symbol-index;
-}
+-- ---- an answer of a step of the tables
+
+module _ {tree : List ℕ} {a b : Emitter} {number : ℕ} {want : State} (m : limits_in b ≡ limits_in a) where
+  pub numbers-some : {i : ℕ} → (i ≡ number) × Left (counts_of b) tree b.tables.made.now b.code.words.now b.tables.entries.now (counts_of a) (limits_in a) want → NumbersIn (Some i) number tree a b want
+  numbers-some {i} h = record {
+    is = λ n e. sym (some-is e) ∙ h.0;
+    reaches = record { done = λ n e. record { left = h.1 }; full = λ e. absurd (none-some i (sym e)); limits = m };
+  }
+
+  pub numbers-none : (Within (limits_in a) want → ⊥) → NumbersIn None number tree a b want
+  numbers-none h = record {
+    is = λ n e. absurd (none-some n e);
+    reaches = record { done = λ n e. absurd (none-some n e); full = λ e. h; limits = m };
+  }
+
+-- what the tables and their counts are after a step that changes entries and counts
+pub record Renews (zs : List ℕ) (k : Counts → Counts) (a b : Tables) : Type 0 where
+  pub made : b.made.now ≡ a.made.now
+  pub entries : b.entries.now ≡ zs
+  pub counts : (code : Code) → counts_of (beside code b) ≡ k (counts_of (beside code a))
+  pub limits : (code : Code) → limits_in (beside code b) ≡ limits_in (beside code a)
+
+module _ {zs tree : List ℕ} {k : Counts → Counts} {a b : Tables} (R : Renews zs k a b) (code : Code) where
+  pub left-renewed : {want : State} → Left (k (counts_of (beside code a))) tree a.made.now code.words.now zs (counts_of (beside code a)) (limits_in (beside code a)) want
+      → Left (counts_of (beside code b)) tree b.made.now code.words.now b.entries.now (counts_of (beside code a)) (limits_in (beside code a)) want
+  left-renewed {want} h = subst (λ (z : Type 0). z) (λ i. Left (sym (R.counts code) i) tree (sym R.made i) code.words.now (sym R.entries i) (counts_of (beside code a)) (limits_in (beside code a)) want) h
 
 -- a word at p, before an index, and its bucket noted by the number that was read in the index before
 pub renewed-noted : (a size p w n b first : ℕ) (x : Name) (ts : List ℕ) → p < a → b ≡ bucket_of size x → b < size → first ≡ start_of (get_or (region a size ts) b 0) n
@@ -55,97 +75,145 @@ renewed-noted a size p w n b first x ts h bucket inside start =
       above = λ c k g. set-above c k (a + b) (first + 1) xs (omega arith);
     }
 
-abbrev pub Found : List ℕ → List ℕ → List ℕ → List ℕ → ℕ → ℕ → Type 0
-Found tree made tables k w i = i ≡ found_or (get_or k 0 0) (position (same (spelled tree made w)) (map (spelled tree made) (region 0 (get_or k 0 0) tables)))
-
-module _ {tree made tables k l : List ℕ} {w i : ℕ} (N : Naming tree made tables k l) (f : Found tree made tables k w i) where
-  pub interns-old : i < get_or k 0 0 → Interns i tree made tables tables k k l w
-  interns-old h = record {
-    numbers = λ code S. rw (numbered-at i k (omega (arith, N.symbols, N.limit))) (intern-old tree made code tables (counts_of k) (limits_in l) S.sound w i f h);
-    kept = N.numbers;
-  }
-
-  pub interns-over : get_or k 0 0 ≤ i → get_or l 1 0 ≤ get_or k 0 0 → Interns 65536 tree made tables tables k k l w
-  interns-over h full = record {
-    numbers = λ code S. rw (numbered-over 65536 k (omega arith)) (intern-over tree made code tables (counts_of k) (limits_in l) S.sound w i f h full);
-    kept = N.numbers;
-  }
-
-  pub interns-new : (zs : List ℕ) (grow : ℕ) → Renewed symbol_index_from symbol_buckets (set tables (get_or k 0 0) w) zs (noted (region symbol_index_from symbol_buckets (set tables (get_or k 0 0) w)) (bucket_of symbol_buckets (spelled tree made w)) (get_or k 0 0))
-      → get_or k 0 0 < get_or l 1 0 → grow ≤ 20 → MadeWithin made (get_or k 6 0 + grow) w → get_or k 0 0 ≤ i → Interns (get_or k 0 0) tree made tables zs k (set (set k 0 (get_or k 0 0 + 1)) 6 (get_or k 6 0 + grow)) l w
-  interns-new zs grow r room small within h = record {
-    numbers = λ code S.
-        let k' = set (set k 0 (get_or k 0 0 + 1)) 6 (get_or k 6 0 + grow) in
-        let a = numbered-at (get_or k 0 0) k' (omega (arith, N.limit)) ∙ ap (At (get_or k 0 0)) (counts-symbol k grow N.numbers) in
-        subst (λ (x : Numbered). Numbers x tree made code zs (counts_of k) (limits_in l) (symbol_number (spelled tree made w) (state_of tree made code tables (counts_of k)).tables)
-        (with_tables (with_symbol (spelled tree made w) (state_of tree made code tables (counts_of k)).tables) (state_of tree made code tables (counts_of k)))) (sym a)
-        (intern-new tree made code tables (counts_of k) (limits_in l) S.sound w i zs r room grow small within f h);
-    kept = N.numbers ∙ sym (length-set k 0 (get_or k 0 0 + 1)) ∙ sym (length-set (set k 0 (get_or k 0 0 + 1)) 6 (get_or k 6 0 + grow));
-  }
+-- ---- a symbol
 
 -- what the code finds from the first number on
-module _ {tree made tables k l name : List ℕ} (w : ℕ) {h first r : ℕ} (N : Naming tree made tables k l) (is : name ≡ spelled tree made w) (hashed : h ≡ hash_of name)
-    (start : first ≡ start_of (get_or (region symbol_index_from symbol_buckets tables) (h % symbol_buckets) 0) (get_or k 0 0))
-    (found : r ≡ found_or (length (take (get_or k 0 0 - first) (drop first tables))) (position (same name) (map (spelled tree made) (take (get_or k 0 0 - first) (drop first tables))))) where
-  pub interned-le : first + r ≤ get_or k 0 0
-  interned-le = indexed-le (spelled tree made) tables (region symbol_index_from symbol_buckets tables) symbol_buckets 0 (get_or k 0 0) name first (h % symbol_buckets) r first (get_or k 0 0 - first)
-      (omega (arith, N.tables-room, N.symbols, N.limit)) N.symbol-index (bucket-is symbol_buckets name name h hashed refl) start (sym (zero-add first)) refl found
+module _ (tree : List ℕ) {name : List ℕ} (a : Tables) (w : ℕ) {h first : ℕ} (o : definitions.Option ℕ) (N : SymbolIndex tree a.made.now a.entries.now a.symbols) (is : name ≡ spelled tree a.made.now w) (hashed : h ≡ hash_of name)
+    (start : first ≡ start_of (get_or (region symbol_index_from symbol_buckets a.entries.now) (h % symbol_buckets) 0) a.symbols)
+    (found : o ≡ position (same name) (map (spelled tree a.made.now) (take (a.symbols - first) (drop first a.entries.now)))) where
+  pub symbol-lt : (r : ℕ) → o ≡ some r → first + r < a.symbols
+  symbol-lt = indexed-lt (spelled tree a.made.now) a.entries.now (region symbol_index_from symbol_buckets a.entries.now) symbol_buckets 0 a.symbols name first (h % symbol_buckets) first (a.symbols - first) o
+      (omega (arith, a.tables_room, a.symbols_size, a.symbols_most)) N (bucket-is symbol_buckets name name h hashed refl) start (sym (zero-add first)) refl found
 
-  pub interned-found : Found tree made tables k w (first + r)
-  interned-found = indexed-found (spelled tree made) tables (region symbol_index_from symbol_buckets tables) symbol_buckets 0 (get_or k 0 0) name first (h % symbol_buckets) r first (get_or k 0 0 - first)
-      (omega (arith, N.tables-room, N.symbols, N.limit)) N.symbol-index (bucket-is symbol_buckets name name h hashed refl) start (sym (zero-add first)) refl found
-      ∙ ap (λ (y : Name). found_or (get_or k 0 0) (position (same y) (map (spelled tree made) (region 0 (get_or k 0 0) tables)))) is
+  symbol-found : shifted first o ≡ position (same (spelled tree a.made.now w)) (map (spelled tree a.made.now) (region 0 a.symbols a.entries.now))
+  symbol-found =
+      indexed-found (spelled tree a.made.now) a.entries.now (region symbol_index_from symbol_buckets a.entries.now) symbol_buckets 0 a.symbols name first (h % symbol_buckets) first (a.symbols - first) o
+      (omega (arith, a.tables_room, a.symbols_size, a.symbols_most)) N (bucket-is symbol_buckets name name h hashed refl) start (sym (zero-add first)) refl found
+      ∙ ap (λ (y : Name). position (same y) (map (spelled tree a.made.now) (region 0 a.symbols a.entries.now))) is
+
+  module _ (least : first ≤ a.symbols) where
+    pub seeks-some : (r : ℕ) → o ≡ some r → SeeksSymbol (record { bucket = h % symbol_buckets; first = first; found = Some (first + r) }) tree a w
+    unfolding shifted
+    seeks-some r e = record {
+      bucket = bucket-is symbol_buckets _ name h hashed is;
+      small = omega arith;
+      first = start;
+      least = least;
+      found = ap (shifted first) (sym e) ∙ symbol-found;
+      below = λ i q. let z = some-is q in omega (arith, symbol-lt r e);
+    }
+
+    pub seeks-none : o ≡ none → SeeksSymbol (record { bucket = h % symbol_buckets; first = first; found = None }) tree a w
+    unfolding shifted
+    seeks-none e = record {
+      bucket = bucket-is symbol_buckets _ name h hashed is;
+      small = omega arith;
+      first = start;
+      least = least;
+      found = ap (shifted first) (sym e) ∙ symbol-found;
+      below = λ i q. absurd (none-some i q);
+    }
+
+module _ {tree : List ℕ} {a : Tables} {w : ℕ} {s : Sought} (H : SeeksSymbol s tree a w) where
+  abbrev name : Name
+  name = spelled tree a.made.now w
+
+  abbrev numbers : List Name
+  numbers = map (spelled tree a.made.now) (region 0 a.symbols a.entries.now)
+
+  found-old : {i : ℕ} → s.found ≡ Some i → i ≡ found_or a.symbols (position (same name) numbers)
+  unfolding found_or
+  found-old {i} e = ap (found_or a.symbols) (sym (ap place_in e) ∙ H.found)
+
+  found-new : s.found ≡ None → a.symbols ≡ found_or a.symbols (position (same name) numbers)
+  unfolding found_or
+  found-new e = ap (found_or a.symbols) (sym (ap place_in e) ∙ H.found)
+
+  pub interns-old : {i : ℕ} → s.found ≡ Some i → Interns (Some i) tree a a w
+  interns-old {i} e = record {
+    below = λ n q. let z = some-is q in omega (arith, H.below i e, a.symbols_size, a.symbols_most);
+    numbers = λ code S.
+        let c = counts_of (beside code a) in
+        let l = limits_in (beside code a) in
+        numbers-some refl (numbers-at tree a.made.now code.words.now a.entries.now c l _ _ (At i c) i c refl (intern-old tree a.made.now code.words.now a.entries.now c l S.sound w i (found-old e) (H.below i e)));
+  }
+
+  pub interns-over : s.found ≡ None → a.limits.symbols ≤ a.symbols → Interns None tree a a w
+  interns-over e full = record {
+    below = λ n q. absurd (none-some n q);
+    numbers = λ code S.
+        let c = counts_of (beside code a) in
+        let l = limits_in (beside code a) in
+        numbers-none refl (numbers-over tree a.made.now code.words.now a.entries.now c l _ _ Over refl (intern-over tree a.made.now code.words.now a.entries.now c l S.sound w a.symbols (found-new e) (le_refl _) full));
+  }
+
+  pub interns-new : {b : Tables} (grow : ℕ) → s.found ≡ None → a.symbols < a.limits.symbols → grow ≤ 20 → MadeWithin a.made.now (a.made_len + grow) w
+      → Renews (set (set a.entries.now a.symbols w) (symbol_index_from + s.bucket) (s.first + 1)) (one_symbol grow) a b → Interns (Some a.symbols) tree a b w
+  interns-new {b} grow e room small within R = record {
+    below = λ n q. let z = some-is q in omega (arith, a.symbols_most);
+    numbers = λ code S.
+        let c = counts_of (beside code a) in
+        let l = limits_in (beside code a) in
+        let zs = set (set a.entries.now a.symbols w) (symbol_index_from + s.bucket) (s.first + 1) in
+        let r = renewed-noted symbol_index_from symbol_buckets a.symbols w a.symbols s.bucket s.first name a.entries.now (omega (arith, a.symbols_size, a.symbols_most)) H.bucket H.small H.first in
+        let h = numbers-at tree a.made.now code.words.now zs c l _ _ (At a.symbols (one_symbol grow c)) a.symbols (one_symbol grow c) refl
+        (intern-new tree a.made.now code.words.now a.entries.now c l S.sound w a.symbols zs r room grow small within (found-new e) (le_refl _)) in
+        numbers-some (R.limits code) (h.0, left-renewed R code h.1);
+  }
 
 -- ---- a made name
 
-pub made-spelt : (tree made : List ℕ) (at : ℕ) → name_at made at ≡ spelled tree made (32768 + at)
-made-spelt tree made at = let e : 32768 + at - 32768 ≡ at = omega arith in ap (name_at made) (sym e) ∙ spelled-made tree made (32768 + at) (omega arith)
+-- the made names are others; the name x stands at their end
+pub record Makes (x : Name) (a b : Tables) : Type 0 where
+  pub stands : Stands x a.made_len a.made.now b.made.now
+  pub size : length b.made.now ≡ length a.made.now
+  pub entries : b.entries.now ≡ a.entries.now
+  pub symbols : b.symbols ≡ a.symbols
+  pub len : b.made_len ≡ a.made_len
+  pub counts : (code : Code) → counts_of (beside code b) ≡ counts_of (beside code a)
+  pub limits : (code : Code) → limits_in (beside code b) ≡ limits_in (beside code a)
 
-module _ {tree made made' tables k l : List ℕ} {x : Name} {at : ℕ} (N : Naming tree made tables k l) (here : at ≡ get_or k 6 0) (size : length made' ≡ length made) (w : Stands x at made made') where
-  kept : take (get_or k 6 0) made ≡ take (get_or k 6 0) made'
-  kept = rw here at (sym w.before)
+pub made-within : {made made' : List ℕ} {x : Name} {at n : ℕ} → Stands x at made made' → n ≡ at → (grow : ℕ) → grow ≡ 1 + length x → MadeWithin made' (n + grow) (32768 + at)
+made-within {made} {made'} {x} {at} {n} w e grow f h =
+    let g : 32768 + at - 32768 ≡ at = omega arith in
+    let k = ap (λ (k : ℕ). get_or made' k 0) g in
+    omega (arith, w.size)
 
-  pub naming-made : Naming tree made' tables k l
-  naming-made = record {
-    tables-room = N.tables-room;
-    made-room = omega (arith, N.made-room);
-    numbers = N.numbers;
-    symbols = N.symbols;
-    limit = N.limit;
-    made-count = N.made-count;
-    names = every_map (λ a. made-within-same made made' (get_or k 6 0) a kept) N.names;
-    symbol-index = subst (Covered symbol_buckets (region symbol_index_from symbol_buckets tables) 0) (spelled_same tree made made' (get_or k 6 0) (region 0 (get_or k 0 0) tables) N.names kept) N.symbol-index;
+module _ {tree : List ℕ} {a b : Tables} {x : Name} (M : Makes x a b) where
+  pub naming-made : Naming tree a → Naming tree b
+  naming-made N =
+      let kept = sym M.stands.before in
+      record {
+        names = subst (λ (z : Type 0). z) (λ i. Every (MadeWithin b.made.now (sym M.len i)) (region 0 (sym M.symbols i) (sym M.entries i)))
+            (every_map (λ k. made-within-same a.made.now b.made.now a.made_len k kept) N.names);
+        symbol-index = subst (λ (z : Type 0). z) (λ i. SymbolIndex tree b.made.now (sym M.entries i) (sym M.symbols i))
+            (subst (Covered symbol_buckets (region symbol_index_from symbol_buckets a.entries.now) 0) (spelled_same tree a.made.now b.made.now a.made_len (region 0 a.symbols a.entries.now) N.names kept) N.symbol-index);
+      }
+
+  pub interns-made : {d : Tables} {r : Option ℕ} → Interns r tree b d (32768 + a.made_len) → InternsMade r x tree a d
+  interns-made {d} {r} H = record {
+    below = H.below;
+    numbers = λ code S.
+        let c = counts_of (beside code a) in
+        let l = limits_in (beside code a) in
+        let sound = made-sound tree a.made.now b.made.now code.words.now a.entries.now c l S.sound x a.made_len refl M.size M.stands in
+        let h = H.numbers code (record { sound = subst (λ (z : Type 0). z) (λ i. Sound tree b.made.now code.words.now (sym M.entries i) (sym (M.counts code) i) (sym (M.limits code) i)) sound }) in
+        let u : state_in tree (beside code b) ≡ state_in tree (beside code a) = (λ i. state_of tree b.made.now code.words.now (M.entries i) (M.counts code i))
+        ∙ made-state tree a.made.now b.made.now code.words.now a.entries.now c l S.sound x a.made_len refl M.size M.stands in
+        let y = made-spelled tree a.made.now b.made.now code.words.now a.entries.now c l S.sound x a.made_len refl M.size M.stands in
+        record {
+          is = λ n e. h.is n e ∙ (λ i. symbol_number (y i) (u i).tables);
+          reaches = record {
+            done = λ n e. record {
+              left = subst (λ (z : Type 0). z) (λ i. Left (counts_of (beside code d)) tree d.made.now code.words.now d.entries.now (M.counts code i) (M.limits code i) (named (y i) (u i))) (h.reaches.done n e).left;
+            };
+            full = λ e v. h.reaches.full e (subst (λ (z : Type 0). z) (λ i. Within (sym (M.limits code) i) (named (sym y i) (sym u i))) v);
+            limits = h.reaches.limits ∙ M.limits code;
+          };
+        };
   }
 
-  pub made-within : (grow : ℕ) → grow ≡ 1 + length x → MadeWithin made' (get_or k 6 0 + grow) (32768 + at)
-  made-within grow e h =
-      let f : 32768 + at - 32768 ≡ at = omega arith in
-      let g = ap (λ (k : ℕ). get_or made' k 0) f in
-      omega (arith, w.size)
-
-  pub interns-made : {tables' k' : List ℕ} {r : ℕ} → Interns r tree made' tables tables' k k' l (32768 + at) → InternsMade r x tree made made' tables tables' k k' l
-  interns-made {tables'} {k'} {r} h = record {
-    numbers = λ code S. made-numbers tree made made' code tables (counts_of k) (limits_in l) S.sound x at here size w (numbered r k') tables'
-        (h.numbers code (record { numbers = S.numbers; sound = made-sound tree made made' code tables (counts_of k) (limits_in l) S.sound x at here size w }));
-    kept = h.kept;
-  }
-
--- ---- the instruction with the number
-
-module _ {tree made code tables tables₁ k k₁ l : List ℕ} {w i : ℕ} (S : SoundIn tree made code tables k l) (h : Interns i tree made tables tables₁ k k₁ l w) (x : Name) (is : spelled tree made w ≡ x) where
-  answer : Numbers (numbered i k₁) tree made code tables₁ (counts_of k) (limits_in l) (symbol_number x (state_of tree made code tables (counts_of k)).tables)
-      (with_tables (with_symbol x (state_of tree made code tables (counts_of k)).tables) (state_of tree made code tables (counts_of k)))
-  answer = numbers-name _ tree made code tables₁ (counts_of k) (limits_in l) _ _ x is (h.numbers code S)
-
-  pub symbol1-over : {next : ℕ} (f : ℕ → Instr) → 65536 ≤ i → LowersIn 0 (intern x (λ n. one (f n))) next tree made code tables k l made code tables₁ k₁
-  symbol1-over {next} f z = lowers-full h.kept (symbol-over tree made code tables₁ (counts_of k) (limits_in l) _ x _ answer f next (numbered-over i k₁ z))
-
-  pub symbol1-sound : i < 65536 → SoundIn tree made code tables₁ k₁ l
-  symbol1-sound z = record { numbers = h.kept; sound = symbol-sound tree made code tables₁ (counts_of k) (limits_in l) _ x _ answer i (counts_of k₁) (numbered-at i k₁ z) }
-
-  pub symbol1-put : {code₂ k₂ : List ℕ} {r next : ℕ} (f : ℕ → Instr) → i < 65536 → LowersIn r (one (f i)) next tree made code tables₁ k₁ l made code₂ tables₁ k₂
-      → LowersIn r (intern x (λ n. one (f n))) next tree made code tables k l made code₂ tables₁ k₂
-  symbol1-put {code₂} {k₂} {r} {next} f z p = record {
-    emits = symbol-put tree made code tables₁ (counts_of k) (limits_in l) _ x _ answer i (counts_of k₁) (numbered-at i k₁ z) f code₂ next (answered r k₂) p.emits;
-    numbers = p.numbers;
-  }
+-- the number of a name by its word
+pub interned : {tree : List ℕ} {e : Emitter} {b : Tables} {r : Option ℕ} {w : ℕ} {x : Name} → SoundIn tree e → Interns r tree e.tables b w → spelled tree e.tables.made.now w ≡ x
+    → NumbersIn r (symbol_number x (state_in tree e).tables) tree e (beside e.code b) (named x (state_in tree e))
+interned {tree} {e} {b} {r} S h q = subst (λ (y : Name). NumbersIn r (symbol_number y (state_in tree e).tables) tree e (beside e.code b) (named y (state_in tree e))) q (h.numbers e.code S)

@@ -1,81 +1,91 @@
--- What the numbers of names and strings ask and leave, and a callee in one number.
-use Rattle.std.specs.Prelude.{ℕ, ◌*◌, ◌/◌, ◌%◌, ◌≤◌, ◌≡◌, true, false, List, length, eqb}
-use Rattle.definitions.specs.Bytes.{Name}
+-- What the numbers of names and strings ask and leave, and what a call calls.
+use Rattle.std.specs.Prelude.{ℕ, ◌<◌, ◌≤◌, ◌≡◌, Option, Some, List, map, get_or}
+use Rattle.definitions.specs.Bytes.{Name, Text, same, position}
 use Rattle.definitions.specs.Tables.{Emit}
-use Rattle.definitions.specs.Lower.{Callee, builtin_callee, function_callee, value_callee}
+use Rattle.definitions.specs.Lower as Lower
+use Rattle.definitions.specs.Lower.{builtin_callee, function_callee, value_callee}
 use Rattle.state.specs.Words.{region, text_at, word}
-use Rattle.state.specs.State.{state_of, Numbers, SymbolIndex, StringIndex, Every, MadeWithin, spelled, symbol_number, with_symbol, string_number, with_string, with_tables}
-use Rattle.lower_emit.specs.Numbers.{counts_of, limits_in, numbered, SoundIn, LowersIn}
-use Rattle.lower_emit.specs.Places.{symbols_in, strings_in, functions_in, classes_in, made_in, open_in, done_in, symbol_limit, string_limit}
+use Rattle.state.specs.Index.{bucket_of, start_of}
+use Rattle.state.specs.State.{State, SymbolIndex, Every, MadeWithin, spelled, symbol_number, with_symbol, string_number, with_string, with_tables}
+use Rattle.state.specs.State.{symbol_index_from, symbol_buckets, strings_from, string_index_from, string_buckets}
+use Rattle.names.specs.Sought.{place_in}
+use Rattle.lower_emit.specs.declared.emitter.Code.{Code}
+use Rattle.lower_emit.specs.declared.emitter.Tables.{Tables}
+use Rattle.lower_emit.specs.declared.emitter.Emitter.{Emitter}
+use Rattle.lower_emit.specs.Emitting.{state_in, SoundIn, beside, LowersIn, NumbersIn}
+use Rattle.lower_names.specs.declared.Callee.{Callee}
+use Rattle.lower_names.specs.declared.Callee.TheVariants.{Builtin, Function, Value}
+use Rattle.lower_names.specs.declared.Sought.{Sought}
 
--- ---- symbols: of the names, the tables and the numbers
+-- ---- symbols
 
-pub record Naming (tree made tables k l : List ℕ) : Type 0 where
-  pub tables-room : 16384 ≤ length tables
-  pub made-room : 20500 ≤ length made
-  pub numbers : 10 ≡ length k
-  pub symbols : symbols_in k ≤ symbol_limit l
-  pub limit : symbol_limit l ≤ 1024
-  pub made-count : made_in k ≤ symbols_in k * 20
-  pub names : Every (MadeWithin made (made_in k)) (region 0 (symbols_in k) tables)
-  pub symbol-index : SymbolIndex tree made tables (symbols_in k)
+pub record Naming (tree : List ℕ) (t : Tables) : Type 0 where
+  pub names : Every (MadeWithin t.made.now t.made_len) (region 0 t.symbols t.entries.now)
+  pub symbol-index : SymbolIndex tree t.made.now t.entries.now t.symbols
+
+-- where the symbol of the word w is sought: its bucket, the number there, and its own number
+pub record SeeksSymbol (s : Sought) (tree : List ℕ) (t : Tables) (w : ℕ) : Type 0 where
+  pub bucket : s.bucket ≡ bucket_of symbol_buckets (spelled tree t.made.now w)
+  pub small : s.bucket < symbol_buckets
+  pub first : s.first ≡ start_of (get_or (region symbol_index_from symbol_buckets t.entries.now) s.bucket 0) t.symbols
+  pub least : s.first ≤ t.symbols
+  pub found : place_in s.found ≡ position (same (spelled tree t.made.now w)) (map (spelled tree t.made.now) (region 0 t.symbols t.entries.now))
+  pub below : (i : ℕ) → s.found ≡ Some i → i < t.symbols
+
+-- the state with a symbol x
+abbrev pub named : Name → State → State
+named x s = with_tables (with_symbol x s.tables) s
 
 -- whatever the code is
-pub record Interns (r : ℕ) (tree made tables tables' k k' l : List ℕ) (w : ℕ) : Type 0 where
-  pub numbers : (code : List ℕ) → SoundIn tree made code tables k l → Numbers (numbered r k') tree made code tables' (counts_of k) (limits_in l)
-      (symbol_number (spelled tree made w) (state_of tree made code tables (counts_of k)).tables)
-      (with_tables (with_symbol (spelled tree made w) (state_of tree made code tables (counts_of k)).tables) (state_of tree made code tables (counts_of k)))
-  pub kept : 10 ≡ length k'
+pub record Interns (r : Option ℕ) (tree : List ℕ) (a b : Tables) (w : ℕ) : Type 0 where
+  pub below : (n : ℕ) → r ≡ Some n → n < 1024
+  pub numbers : (code : Code) → SoundIn tree (beside code a) → NumbersIn r (symbol_number (spelled tree a.made.now w) (state_in tree (beside code a)).tables) tree (beside code a) (beside code b)
+      (named (spelled tree a.made.now w) (state_in tree (beside code a)))
 
-pub record InternsMade (r : ℕ) (x : Name) (tree made made' tables tables' k k' l : List ℕ) : Type 0 where
-  pub numbers : (code : List ℕ) → SoundIn tree made code tables k l → Numbers (numbered r k') tree made' code tables' (counts_of k) (limits_in l)
-      (symbol_number x (state_of tree made code tables (counts_of k)).tables)
-      (with_tables (with_symbol x (state_of tree made code tables (counts_of k)).tables) (state_of tree made code tables (counts_of k)))
-  pub kept : 10 ≡ length k'
+pub record InternsMade (r : Option ℕ) (x : Name) (tree : List ℕ) (a b : Tables) : Type 0 where
+  pub below : (n : ℕ) → r ≡ Some n → n < 1024
+  pub numbers : (code : Code) → SoundIn tree (beside code a) → NumbersIn r (symbol_number x (state_in tree (beside code a)).tables) tree (beside code a) (beside code b) (named x (state_in tree (beside code a)))
 
--- ---- strings: of the tables and the numbers
+-- ---- strings
 
-pub record Texts (tree tables k l : List ℕ) : Type 0 where
-  pub tables-room : 16384 ≤ length tables
-  pub numbers : 10 ≡ length k
-  pub strings : strings_in k ≤ string_limit l
-  pub limit : string_limit l ≤ 512
-  pub string-index : StringIndex tree tables (strings_in k)
+-- where the string at `at` is sought
+pub record SeeksText (s : Sought) (tree : List ℕ) (t : Tables) (at : ℕ) : Type 0 where
+  pub bucket : s.bucket ≡ bucket_of string_buckets (text_at tree at)
+  pub small : s.bucket < string_buckets
+  pub first : s.first ≡ start_of (get_or (region string_index_from string_buckets t.entries.now) s.bucket 0) t.strings
+  pub least : s.first ≤ t.strings
+  pub found : place_in s.found ≡ position (same (text_at tree at)) (map (text_at tree) (region strings_from t.strings t.entries.now))
+  pub below : (i : ℕ) → s.found ≡ Some i → i < t.strings
 
--- whatever the made names and the code are
-pub record Adds (r : ℕ) (tree tables tables' k k' l : List ℕ) (at : ℕ) : Type 0 where
-  pub numbers : (made code : List ℕ) → SoundIn tree made code tables k l → Numbers (numbered r k') tree made code tables' (counts_of k) (limits_in l)
-      (string_number (text_at tree at) (state_of tree made code tables (counts_of k)).tables)
-      (with_tables (with_string (text_at tree at) (state_of tree made code tables (counts_of k)).tables) (state_of tree made code tables (counts_of k)))
-  pub kept : 10 ≡ length k'
-  pub words : (open_in k' ≡ open_in k) × (done_in k' ≡ done_in k)
+-- the state with a string x
+abbrev pub quoted : Text → State → State
+quoted x s = with_tables (with_string x s.tables) s
 
--- a step that leaves the made names alone, whatever they are
-pub record Quotes (r : ℕ) (e : Emit) (next : ℕ) (t code tables k l code' tables' k' : List ℕ) : Type 0 where
-  pub lowers : (made : List ℕ) → SoundIn t made code tables k l → LowersIn r e next t made code tables k l made code' tables' k'
+-- whatever the code is
+pub record Adds (r : Option ℕ) (tree : List ℕ) (a b : Tables) (at : ℕ) : Type 0 where
+  pub below : (n : ℕ) → r ≡ Some n → n < 512
+  pub numbers : (code : Code) → SoundIn tree (beside code a) → NumbersIn r (string_number (text_at tree at) (state_in tree (beside code a)).tables) tree (beside code a) (beside code b)
+      (quoted (text_at tree at) (state_in tree (beside code a)))
+
+-- a step that asks only for the index of strings, in sound slices
+pub record Quotes {A : Type 0} (r : Option A) (x : Emit) (tree : List ℕ) (a b : Emitter) : Type 0 where
+  pub lowers : SoundIn tree a → LowersIn r x tree a b
 
 -- ---- a callee
 
-pub record Callables (tree made tables k : List ℕ) : Type 0 where
-  pub tables-room : 16384 ≤ length tables
-  pub symbols : symbols_in k ≤ 1024
-  pub functions : functions_in k ≤ 256
-  pub classes : classes_in k ≤ 64
-  pub symbol-index : SymbolIndex tree made tables (symbols_in k)
+unfoldable pub callee_of : Callee → Lower.Callee
+callee_of (Builtin i) = builtin_callee i
+callee_of (Function f) = function_callee f
+callee_of Value = value_callee
 
--- the opcode of the call times 65,536, and the number of the built-in or the function
-unfoldable pub callee_in : ℕ → Callee
-callee_in c =
-    elim (eqb (c / 65536) 32) [
-      | true ↦ builtin_callee (c % 65536)
-      | false ↦
-          elim (eqb (c / 65536) 31) [ true ↦ function_callee (c % 65536) | false ↦ value_callee ]
-    ]
+unfoldable pub call_word : Callee → ℕ → ℕ
+call_word (Builtin i) n = word 32 i n
+call_word (Function f) n = word 31 f n
+call_word Value n = word 34 n 0
 
-unfoldable pub call_word : ℕ → ℕ → ℕ
-call_word c n =
-    elim (eqb (c / 65536) 32) [
-      | true ↦ word 32 (c % 65536) n
-      | false ↦
-          elim (eqb (c / 65536) 31) [ true ↦ word 31 (c % 65536) n | false ↦ word 34 n 0 ]
-    ]
+-- whatever the code is
+pub record ResolvesFunction (c : Callee) (x : Name) (tree : List ℕ) (t : Tables) : Type 0 where
+  pub callee : (code : Code) → SoundIn tree (beside code t) → callee_of c ≡ Lower.resolve_function x (state_in tree (beside code t)).tables
+
+pub record Resolves (c : Callee) (x : Name) (tree : List ℕ) (t : Tables) : Type 0 where
+  pub callee : (code : Code) → SoundIn tree (beside code t) → callee_of c ≡ Lower.resolve x (state_in tree (beside code t)).tables

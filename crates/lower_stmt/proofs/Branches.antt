@@ -3,201 +3,214 @@ use Prim.Native.Nat.{ℕ, ◌+◌, ◌-◌, ◌≤◌, ◌<◌}
 use mathlib.Core.Path.{◌≡◌, refl, sym, ap, subst, ◌∙◌}
 use mathlib.Core.List.{List}
 use native.Mathlib.Omega.{arith}
-use lib.ListN.{length, get_or, set}
+use lib.ListN.{length, get_or}
+use Rattle.std.specs.Prelude.{Option, Some, None}
 use Rattle.definitions.specs.Bytes.{Name}
 use Rattle.definitions.specs.Tree.{Expr, Block, Branches, else, if, when, for}
-use Rattle.definitions.specs.Instruction.{Instr}
+use Rattle.definitions.specs.Instruction.{Instr, instr, Jump}
 use Rattle.definitions.specs.Tables.{Emit, one, ◌⨟◌}
 use Rattle.definitions.specs.Slots.{Keeping, past, loops_block, loops_branches}
-use Rattle.definitions.specs.Lower.{loop, make_iter, store_iter, ask_iter, take_iter, emit_expr, emit_stmt, emit_block}
+use Rattle.definitions.specs.Lower.{loop, make_iter, ask_iter, take_iter, emit_expr, emit_stmt, emit_block}
 use Rattle.exprs.specs.ExprAt.{expr_at}
 use Rattle.parts.specs.Places.{Node}
 use Rattle.tree.specs.StmtAt.{body_at, block_at, branches_at}
 use Rattle.tree.proofs.LoopsAt.{elifs-loops}
-use Rattle.state.specs.Words.{word}
-use Rattle.state.specs.State.{State, state_of, emit_at, Left}
-use Rattle.state.specs.Steps.{branch, chain_at}
-use Rattle.state.specs.Kept.{keeping_of, after_loops, Spare, Passes, keeper_at, kept_at}
-use Rattle.state.proofs.Kept.{after-sum, spare-first, spare-rest, keeping-past}
-use Rattle.state.proofs.Answers.{base-below, emits-done}
+use Rattle.state.specs.State.{State, emit_at, Within}
+use Rattle.state.specs.Steps.{set_at, branch, chain_at}
+use Rattle.state.specs.Kept.{keeping_of, after_loops, Spare, Passes}
+use Rattle.state.proofs.Kept.{after-sum, spare-first, spare-rest, keeping-past, passes_over}
 use Rattle.state.proofs.Growth.{Lengthens}
+use Rattle.state.proofs.Emission.{stack-grows}
+use Rattle.state.proofs.Jumps.{chain-when, chain-else, chain-done}
+use Rattle.state.proofs.Within.{within-chain-when, within-chain-else}
 use Rattle.state.proofs.WithinParts.{within-if}
-use Rattle.lower_emit.proofs.Patching.{jump-set}
-use Rattle.lower_emit.proofs.Answering.{full_by}
 use Rattle.lower_forms.specs.Lowerable.{expr_code}
 use Rattle.lower_forms.specs.Lowering.{BranchesLowerable, block_code}
 use Rattle.lower_forms.proofs.StmtArms.{elifs-more, elifs-is, elifs-zero, else-parts, else-one, none_is}
-use Rattle.lower_forms.proofs.Sequences.{position-emits, elifs-at, elifs-end, else-value, else-ends}
-use Rattle.lower_stmt.proofs.Jumping.{k-above, m-above, loop-emits, branch-emits, inside-within, head-within, question-within, block_within, Chained, chained-start}
-use Rattle.lower_stmt.proofs.Jumping.{chained-at, chained-full, chained-longer, chained-next, chained-last, none-emits, else-within, else-above, else-emits, if_some}
-use Rattle.lower_stmt.proofs.Jumping.{if-emits, for-within, for-emits, iterable-within}
-use Rattle.lower_emit.specs.Numbers.{counts_of, limits_in, answered, SoundIn, ReadyIn, LowersIn}
-use Rattle.lower_emit.proofs.Counts.{answered-full, answered-done}
-use Rattle.lower_emit.proofs.Steps.{done-of, sound-next, lowers-full, lowers-by}
-use Rattle.lower_emit.specs.Ends.{Reaches, EndsBranch, EndsLoop}
-use Rattle.lower_loops.specs.Iterators.{load_word, keeper_of, Loads, StoresIterator}
+use Rattle.lower_forms.proofs.Sequences.{elifs-at, elifs-end, else-value, else-ends}
+use Rattle.lower_emit.specs.declared.emitter.Code.{Code}
+use Rattle.lower_emit.specs.declared.emitter.Emitter.{Emitter}
+use Rattle.lower_emit.specs.Emitting.{limits_in, state_in, SoundIn, beside, LeftIn, Reaches, LowersIn, NextIs, EmitsTo, SetsJump}
+use Rattle.lower_emit.specs.Ends.{EndsBranch, EndsLoop}
+use Rattle.lower_emit.proofs.Steps.{sound-next, left-next, reaches_as, reaches-after, some-is}
+use Rattle.lower_emit.proofs.Parts.{emits-by}
+use Rattle.lower_loops.specs.Iterators.{keeper_of, Loads, StoresIterator}
 use Rattle.lower_loops.proofs.Storing.{loads-self}
-use Rattle.lower_emit.proofs.Ends.{reaches-full, reaches-done}
+use Rattle.lower_stmt.proofs.Between.{stack-long, stack-low, left-itself, open-left, left-own, left-by, left-sound, reached_by, jump-in, jump-limits, next-none, reaches-full, emits-full}
+use Rattle.lower_stmt.proofs.Jumping.{first-above, last-above, loop-is, branch-is, inside-within, head-within, question-within, block_within, branch-long}
+use Rattle.lower_stmt.proofs.Jumping.{if_some, if-is, for-within, for-is, iterable-within}
 
 -- ---- a head, the jump past what follows, and what follows
 
-module _ {t made code tables k l made₁ code₁ tables₁ k₁ : List ℕ} {p q : ℕ} (head : Emit) (i : Instr) (S : SoundIn t made code tables k l) (g : LowersIn p (head ⨟ one i) q t made code tables k l made₁ code₁ tables₁ k₁) where
-  pub loop-stopped : {inside : Emit} {next : ℕ} → Lengthens inside → p ≡ 0 → LowersIn 0 (loop head inside) next t made code tables k l made₁ code₁ tables₁ k₁
-  loop-stopped {inside} {next} E z = lowers-full g.numbers
-      (full_by t made₁ code₁ tables₁ (counts_of k) (limits_in l) q _ (answered p k₁) made₁ code₁ tables₁ (counts_of k) next _ (answered-full p k₁ z) g.emits
-      (head-within head i (get_or k 7 0) _ (base-below t made code tables (counts_of k) (limits_in l) S.sound) E))
+module _ {A : Type 0} {t : List ℕ} {a a₁ : Emitter} {p : Option A} (head : Emit) (i : Instr) (S : SoundIn t a) (g : LowersIn p (head ⨟ one i) t a a₁) where
+  pub loop-stopped : {q : Option ℕ} {inside : Emit} {next : ℕ} → Lengthens inside → p ≡ None → q ≡ None → EmitsTo q (loop head inside) next t a a₁
+  loop-stopped E z n = emits-full refl z n g.reaches (head-within head i a.code.base (state_in t a) (stack-low S) E)
 
-  module _ (y : p ≡ 0 → ⊥) {made₂ code₂ tables₂ k₂ : List ℕ} {r next : ℕ} {inside : Emit} (h : LowersIn r inside next t made₁ code₁ tables₁ k₁ l made₂ code₂ tables₂ k₂) where
-    pub loop-over : {q' : ℕ} → r ≡ 0 → LowersIn 0 (loop head inside) q' t made code tables k l made₂ code₂ tables₂ k₂
-    loop-over {q'} z = lowers-full h.numbers
-        (full_by t made₂ code₂ tables₂ (counts_of k₁) (limits_in l) next _ (answered r k₂) made₂ code₂ tables₂ (counts_of k) q' _ (answered-full r k₂ z) h.emits
-        (inside-within t made code tables made₁ code₁ tables₁ (counts_of k) (counts_of k₁) (limits_in l) S.sound head i (done-of y g).1 inside))
+  module _ {x : A} (y : p ≡ Some x) {B : Type 0} {a₂ : Emitter} {r : Option B} {inside : Emit} (h : LowersIn r inside t a₁ a₂) where
+    pub loop-over : {q : Option ℕ} {next : ℕ} → r ≡ None → q ≡ None → EmitsTo q (loop head inside) next t a a₂
+    loop-over z n = emits-full g.reaches.limits z n h.reaches (inside-within S head i (g.reaches.done x y) inside)
 
-    module _ (z : r ≡ 0 → ⊥) where
-      pub inside-above : get_or k 8 0 < get_or k₁ 8 0
-      inside-above = k-above t made code tables made₁ code₁ tables₁ (counts_of k) (counts_of k₁) (limits_in l) S.sound head i (done-of y g).1
+    pub inside-above : a.code.open < a₁.code.open
+    inside-above = first-above S head i (g.reaches.done x y)
 
-      pub end-above : get_or k₁ 8 0 ≤ get_or k₂ 8 0
-      end-above = m-above t made code tables made₁ code₁ tables₁ (counts_of k) (counts_of k₁) (limits_in l) S.sound head i (done-of y g).1 made₂ code₂ tables₂ (counts_of k₂) inside (done-of z h).1
+    module _ {w : B} (z : r ≡ Some w) where
+      pub end-above : a₁.code.open ≤ a₂.code.open
+      end-above = last-above S head i (g.reaches.done x y) inside (h.reaches.done w z)
 
-      pub loop-done : {code₃ k₃ : List ℕ} {r₃ : ℕ} → EndsLoop r₃ (get_or k 8 0) (get_or k₁ 8 0) r code₂ k₂ l code₃ k₃ → LowersIn r₃ (loop head inside) next t made code tables k l made₂ code₃ tables₂ k₃
-      loop-done {code₃} {k₃} {r₃} x =
-          let e = x.ends t made₂ tables₂ (sound-next z h) in
-          record {
-            emits = position-emits (answered r₃ k₃) t made₂ code₃ tables₂ (counts_of k) (limits_in l) r next _ (done-of z h).0
-                (loop-emits t made code tables made₁ code₁ tables₁ (counts_of k) (counts_of k₁) (limits_in l) S.sound head i (done-of y g).1 made₂ code₂ tables₂ (counts_of k₂) inside (done-of z h).1 code₃ r (answered r₃ k₃) e.emits);
-            numbers = e.numbers;
-          }
+      pub loop-ends : {C : Type 0} {q : Option C} {code : Code} → EndsLoop q a.code.open a₁.code.open a₂.code code → LowersIn q (loop head inside) t a (beside code a₂.tables)
+      loop-ends e = record {
+        reaches = reaches_as (loop-is S head i (g.reaches.done x y) inside (h.reaches.done w z)) (reaches-after y g.reaches (reaches-after z h.reaches (e.ends t a₂.tables (sound-next z h.reaches))));
+      }
 
 -- ---- a branch
 
-module _ {t made code tables k l made₁ code₁ tables₁ k₁ : List ℕ} {p q : ℕ} (names : List Name) (keep : Keeping) (x : Expr) (i : Instr) (S : SoundIn t made code tables k l)
-    (g : LowersIn p (emit_expr names x ⨟ one i) q t made code tables k l made₁ code₁ tables₁ k₁) where
-  pub branch-stopped : {next : ℕ} (b : Block) → p ≡ 0 → LowersIn 0 (branch names keep x b) next t made code tables k l made₁ code₁ tables₁ k₁
-  branch-stopped {next} b z = lowers-full g.numbers
-      (full_by t made₁ code₁ tables₁ (counts_of k) (limits_in l) q _ (answered p k₁) made₁ code₁ tables₁ (counts_of k) next _ (answered-full p k₁ z) g.emits
-      (question-within names keep x b i (get_or k 7 0) _ (base-below t made code tables (counts_of k) (limits_in l) S.sound)))
+module _ {t : List ℕ} {a a₁ : Emitter} {p : Option ℕ} {n : ℕ} (names : List Name) (keep : Keeping) (x : Expr) (b : Block) (i : Instr) (S : SoundIn t a) (g : EmitsTo p (emit_expr names x ⨟ one i) n t a a₁) where
+  pub branch-stopped : {q : Option ℕ} {next : ℕ} → p ≡ None → q ≡ None → EmitsTo q (branch names keep x b) next t a a₁
+  branch-stopped z e = emits-full refl z e g.lowers.reaches (question-within names keep x b i a.code.base (state_in t a) (stack-low S))
 
-  module _ (y : p ≡ 0 → ⊥) {made₂ code₂ tables₂ k₂ : List ℕ} {r next : ℕ} (b : Block) (h : LowersIn r (emit_block names keep b) next t made₁ code₁ tables₁ k₁ l made₂ code₂ tables₂ k₂) where
-    pub branch-over : {q' : ℕ} → r ≡ 0 → LowersIn 0 (branch names keep x b) q' t made code tables k l made₂ code₂ tables₂ k₂
-    branch-over {q'} z = lowers-full h.numbers
-        (full_by t made₂ code₂ tables₂ (counts_of k₁) (limits_in l) next _ (answered r k₂) made₂ code₂ tables₂ (counts_of k) q' _ (answered-full r k₂ z) h.emits
-        (block_within t made code tables made₁ code₁ tables₁ (counts_of k) (counts_of k₁) (limits_in l) S.sound names keep x b i (done-of y g).1))
+  module _ {k : ℕ} (y : p ≡ Some k) {a₂ : Emitter} {r : Option ℕ} {m : ℕ} (h : EmitsTo r (emit_block names keep b) m t a₁ a₂) where
+    pub branch-over : {q : Option ℕ} {next : ℕ} → r ≡ None → q ≡ None → EmitsTo q (branch names keep x b) next t a a₂
+    branch-over z e = emits-full g.lowers.reaches.limits z e h.lowers.reaches (block_within S names keep x b i (g.lowers.reaches.done k y))
 
-    pub branch-done : {code₃ k₃ : List ℕ} {r₃ : ℕ} → (r ≡ 0 → ⊥) → EndsBranch r₃ (get_or k₁ 8 0) r code₂ k₂ l code₃ k₃ → LowersIn r₃ (branch names keep x b) next t made code tables k l made₂ code₃ tables₂ k₃
-    branch-done {code₃} {k₃} {r₃} z u =
-        let e = u.ends t made₂ tables₂ (sound-next z h) in
-        record {
-          emits = position-emits (answered r₃ k₃) t made₂ code₃ tables₂ (counts_of k) (limits_in l) r next _ (done-of z h).0
-              (branch-emits t made code tables made₁ code₁ tables₁ (counts_of k) (counts_of k₁) (limits_in l) S.sound (emit_expr names x) i (done-of y g).1 made₂ code₂ tables₂ (counts_of k₂) (emit_block names keep b) (done-of z h).1
-              names keep x b refl refl code₃ r (answered r₃ k₃) e.emits);
-          numbers = e.numbers;
-        }
+    pub branch-ends : {C : Type 0} {q : Option C} {code : Code} {u : ℕ} → r ≡ Some u → EndsBranch q a₁.code.open a₂.code code → LowersIn q (branch names keep x b) t a (beside code a₂.tables)
+    branch-ends {u = u} z e = record {
+      reaches = reaches_as (branch-is S (emit_expr names x) i (g.lowers.reaches.done k y) (emit_block names keep b) (h.lowers.reaches.done u z) names keep x b refl refl)
+          (reaches-after y g.lowers.reaches (reaches-after z h.lowers.reaches (e.ends t a₂.tables (sound-next z h.lowers.reaches))));
+    }
 
 -- ---- an if
 
-module _ {t made code tables k l made₁ code₁ tables₁ k₁ : List ℕ} {p q : ℕ} (names : List Name) (keep : Keeping) (x : Expr) (b : Block) (S : SoundIn t made code tables k l)
-    (g : LowersIn p (branch names keep x b) q t made code tables k l made₁ code₁ tables₁ k₁) where
-  pub if-stopped : {next : ℕ} (rest : Branches) → p ≡ 0 → LowersIn 0 (emit_stmt names keep (if (when x b rest))) next t made code tables k l made₁ code₁ tables₁ k₁
-  if-stopped {next} rest z = lowers-full g.numbers
-      (full_by t made₁ code₁ tables₁ (counts_of k) (limits_in l) q _ (answered p k₁) made₁ code₁ tables₁ (counts_of k) next _ (answered-full p k₁ z) g.emits
-      (within-if (get_or k 7 0) names keep _ (base-below t made code tables (counts_of k) (limits_in l) S.sound) x b rest))
+module _ {t : List ℕ} {a a₁ : Emitter} {p : Option ℕ} {n : ℕ} (names : List Name) (keep : Keeping) (x : Expr) (b : Block) (S : SoundIn t a) (g : EmitsTo p (branch names keep x b) n t a a₁) where
+  pub if-stopped : {q : Option ℕ} {next : ℕ} (rest : Branches) → p ≡ None → q ≡ None → EmitsTo q (emit_stmt names keep (if (when x b rest))) next t a a₁
+  if-stopped rest z e = emits-full refl z e g.lowers.reaches (within-if a.code.base names keep (state_in t a) (stack-low S) x b rest)
 
-  module _ (y : p ≡ 0 → ⊥) where
-    pub if-open : 0 < get_or k₁ 8 0
-    if-open = if_some t made code tables made₁ code₁ tables₁ (counts_of k) (counts_of k₁) (limits_in l) S.sound names keep x b (done-of y g).1
+  module _ {k : ℕ} (y : p ≡ Some k) where
+    pub if-open : 0 < a₁.code.open
+    if-open = if_some S names keep x b (g.lowers.reaches.done k y)
 
-    pub if-done : {made₂ code₂ tables₂ k₂ : List ℕ} {r q₂ next : ℕ} {keep₁ : Keeping} {rest rest' : Branches} → keep₁ ≡ past (loops_block b) keep → rest ≡ rest' → q₂ ≡ next
-        → Reaches r q₂ (chain_at (get_or k₁ 7 0) names keep₁ rest (get_or k₁ 8 0 - 1) (state_of t made₁ code₁ tables₁ (counts_of k₁))) t k₁ l made₂ code₂ tables₂ k₂
-        → LowersIn r (emit_stmt names keep (if (when x b rest'))) next t made code tables k l made₂ code₂ tables₂ k₂
-    if-done {made₂} {code₂} {tables₂} {k₂} {r} {q₂} {next} {keep₁} {rest} {rest'} u e f h = record {
-      emits = if-emits t made code tables made₁ code₁ tables₁ (counts_of k) (counts_of k₁) (limits_in l) S.sound names keep x b (done-of y g).1 made₂ code₂ tables₂ q₂ next (answered r k₂) keep₁ rest rest' u e f h.emits;
-      numbers = h.numbers;
+    pub if-done : {a₂ : Emitter} {r : Option ℕ} {m next : ℕ} {keep₁ : Keeping} {rest rest' : Branches} → keep₁ ≡ past (loops_block b) keep → rest ≡ rest' → m ≡ next
+        → NextIs r m → Reaches r t a₁ a₂ (chain_at a₁.code.base names keep₁ rest (a₁.code.open - 1) (state_in t a₁)) → EmitsTo r (emit_stmt names keep (if (when x b rest'))) next t a a₂
+    if-done {keep₁ = keep₁} {rest = rest} {rest' = rest'} u e f place h = record {
+      place = λ j q. place j q ∙ f;
+      lowers = record { reaches = reaches_as (if-is S names keep x b (g.lowers.reaches.done k y) keep₁ rest rest' u e) (reaches-after y g.lowers.reaches h) };
     }
 
 -- ---- elifs: those that are left lead to the wanted state
 
-pub record ChainRest (d : ℕ) (t : List ℕ) (names : List Name) (made₀ code₀ tables₀ k₀ l : List ℕ) (i₀ n₀ p₀ : ℕ) (made code tables k : List ℕ) (i n p : ℕ) : Type 0 where
+-- a is the emitter before them
+pub record ChainRest (d : ℕ) (t : List ℕ) (names : List Name) (a : Emitter) (i₀ n₀ p₀ : ℕ) (b : Emitter) (i n p : ℕ) : Type 0 where
   pub branches : BranchesLowerable d n t p
   pub next : (branches_at d n t p).end ≡ (branches_at d n₀ t p₀).end
-  pub numbers : 10 ≡ length k
-  pub chained : Chained (counts_of k) t made code tables (counts_of k₀) (limits_in l) names (keeping_of i) (branches_at d n t p).value
-      (chain_at (get_or k₀ 7 0) names (keeping_of i₀) (branches_at d n₀ t p₀).value (get_or k₀ 8 0 - 1) (state_of t made₀ code₀ tables₀ (counts_of k₀)))
+  pub limits : limits_in b ≡ limits_in a
+  pub left : LeftIn t a b (state_in t b)
+  pub some : 0 < b.code.open
+  pub chain : chain_at a.code.base names (keeping_of i) (branches_at d n t p).value (b.code.open - 1) (state_in t b)
+      ≡ chain_at a.code.base names (keeping_of i₀) (branches_at d n₀ t p₀).value (a.code.open - 1) (state_in t a)
   pub spare : Spare i (loops_branches (branches_at d n t p).value)
   pub loops : after_loops i (loops_branches (branches_at d n t p).value) ≡ after_loops i₀ (loops_branches (branches_at d n₀ t p₀).value)
-  pub code-kept : length code ≡ length code₀
-  pub tables-kept : length tables ≡ length tables₀
 
-pub chain-all : {d : ℕ} {t slots : List ℕ} {made code tables k l : List ℕ} {i n p : ℕ} (names : List Name) → ReadyIn t slots made code tables k l → BranchesLowerable d n t p → 0 < get_or k 8 0
-    → Spare i (loops_branches (branches_at d n t p).value) → ChainRest d t names made code tables k l i n p made code tables k i n p
-chain-all {d} {t} {slots} {made} {code} {tables} {k} {l} {i} {n} {p} names R r h s = record {
+-- none is done yet; the count by other words
+pub chain-all : {d : ℕ} {t : List ℕ} {a : Emitter} {i n p : ℕ} (names : List Name) (m : ℕ) → n ≡ m → SoundIn t a → BranchesLowerable d n t p → 0 < a.code.open
+    → Spare i (loops_branches (branches_at d n t p).value) → ChainRest d t names a i n p a i m p
+chain-all {d} {t} {a} {i} {n} {p} names m e S r h s = subst (λ (k : ℕ). ChainRest d t names a i n p a i k p) e (record {
   branches = r;
   next = refl;
-  numbers = R.numbers;
-  chained = chained-start t made code tables (counts_of k) (limits_in l) names (keeping_of i) (branches_at d n t p).value R.ready.sound h;
+  limits = refl;
+  left = left-itself S;
+  some = h;
+  chain = refl;
   spare = s;
   loops = refl;
-  code-kept = refl;
-  tables-kept = refl;
-}
+})
 
-module _ {d : ℕ} {t : List ℕ} {names : List Name} {made₀ code₀ tables₀ k₀ l : List ℕ} {i₀ n₀ p₀ : ℕ} {made code tables k : List ℕ} {i n p : ℕ} (inv : ChainRest d t names made₀ code₀ tables₀ k₀ l i₀ n₀ p₀ made code tables k i n p) where
+module _ {d : ℕ} {t : List ℕ} {names : List Name} {a : Emitter} {i₀ n₀ p₀ : ℕ} {b : Emitter} {i n p : ℕ} (inv : ChainRest d t names a i₀ n₀ p₀ b i n p) where
   abbrev whole : State
-  whole = chain_at (get_or k₀ 7 0) names (keeping_of i₀) (branches_at d n₀ t p₀).value (get_or k₀ 8 0 - 1) (state_of t made₀ code₀ tables₀ (counts_of k₀))
+  whole = chain_at a.code.base names (keeping_of i₀) (branches_at d n₀ t p₀).value (a.code.open - 1) (state_in t a)
 
-  pub chain-ready : {slots : List ℕ} → ReadyIn t slots made₀ code₀ tables₀ k₀ l → ReadyIn t slots made code tables k l
-  chain-ready R = record { numbers = inv.numbers; ready = record { tree-short = R.ready.tree-short; slotted = R.ready.slotted; sound = inv.chained.sound } }
+  pub chain-sound : SoundIn t b
+  chain-sound = left-sound inv.left inv.limits
+
+  last-in : b.code.open - 1 < length (state_in t b).stack
+  last-in = omega (arith, stack-long chain-sound, inv.some)
+
+  low : a.code.base ≤ length (state_in t b).stack
+  low = subst (λ (k : ℕ). k ≤ length (state_in t b).stack) inv.left.left.base (stack-low chain-sound)
 
   module _ (h : 0 < n) where
+    abbrev x : Expr
+    x = (expr_at d t p).value
+
+    abbrev body : Block
+    body = (body_at d t p).value
+
     abbrev m : ℕ
-    m = loops_block (body_at d t p).value
+    m = loops_block body
 
-    abbrev rest : ℕ
-    rest = loops_branches (branches_at d (n - 1) t (body_at d t p).end).value
+    abbrev others : Branches
+    others = (branches_at d (n - 1) t (body_at d t p).end).value
 
-    more : loops_branches (branches_at d n t p).value ≡ m + rest
+    more : loops_branches (branches_at d n t p).value ≡ m + loops_branches others
     more = elifs-loops d t h inv.branches.reads
 
-    both : Spare i (m + rest)
+    both : Spare i (m + loops_branches others)
     both = subst (Spare i) more inv.spare
 
     pub chain-spare : Spare i m
-    chain-spare = spare-first i m rest both
+    chain-spare = spare-first i m (loops_branches others) both
 
-    module _ {made₁ code₁ tables₁ k₁ : List ℕ} {q : ℕ} (e : LowersIn q (branch names (keeping_of i) (expr_at d t p).value (body_at d t p).value) (body_at d t p).end t made code tables k l made₁ code₁ tables₁ k₁) where
-      pub chain-over : {q' : ℕ} → q ≡ 0 → Reaches 0 q' whole t k₀ l made₁ code₁ tables₁ k₁
-      chain-over {q'} z = reaches-full refl e.numbers
-          (full_by t made₁ code₁ tables₁ (counts_of k) (limits_in l) _ _ (answered q k₁) made₁ code₁ tables₁ (counts_of k₀) q' _ (answered-full q k₁ z) e.emits
-          (chained-full (counts_of k) t made code tables (counts_of k₀) (limits_in l) names (keeping_of i) _ _ inv.chained _ _ _ (elifs-is d t n p h inv.branches).0))
+    split : chain_at a.code.base names (keeping_of i) (when x body others) (b.code.open - 1) (state_in t b) ≡ whole
+    split = ap (λ (y : Branches). chain_at a.code.base names (keeping_of i) y (b.code.open - 1) (state_in t b)) (sym (elifs-is d t n p h inv.branches).0) ∙ inv.chain
 
-      module _ (z : q ≡ 0 → ⊥) where
-        pub chain-longer : get_or k 8 0 < get_or k₁ 8 0
-        chain-longer = chained-longer (counts_of k) t made code tables (counts_of k₀) (limits_in l) names (keeping_of i) _ _ inv.chained _ _ _ (elifs-is d t n p h inv.branches).0 (counts_of k₁) made₁ code₁ tables₁ (done-of z e).1
+    -- the state with the branch
+    abbrev v : State
+    v = emit_at a.code.base (branch names (keeping_of i) x body) (state_in t b)
 
-        pub chain_next : {code₂ : List ℕ} {i' : ℕ} → Passes q i i' m → code₂ ≡ set code₁ (get_or k 8 0 - 1) (word 28 (get_or k₁ 8 0 - 1 - get_or k 8 0) 0) → length code₂ ≡ length code → length tables₁ ≡ length tables
-            → ChainRest d t names made₀ code₀ tables₀ k₀ l i₀ n₀ p₀ made₁ code₂ tables₁ k₁ i' (n - 1) q
-        chain_next {code₂} {i'} y x b c =
-            let a = done-of z e in
-            let s = (sound-next z e).sound in
-            let j = jump-set t made₁ code₁ tables₁ (get_or k 8 0 - 1) 28 (get_or k₁ 8 0 - 1 - get_or k 8 0) _ (counts_of k₁) (limits_in l) s (omega (
-              arith,
-              chain-longer,
-            )) (omega arith) (omega arith) (omega (arith, s.words, s.limited.instructions)) refl in
-            let moved = y.at z in
+    based : emit_at b.code.base (branch names (keeping_of i) x body) (state_in t b) ≡ v
+    based = ap (λ (k : ℕ). emit_at k (branch names (keeping_of i) x body) (state_in t b)) inv.left.left.base
+
+    module _ {r : Option ℕ} {c : Emitter} (e : EmitsTo r (branch names (keeping_of i) x body) (body_at d t p).end t b c) where
+      pub chain-over : {r' : Option ℕ} {next i' : ℕ} → r ≡ None → r' ≡ None → NextIs r' next × Reaches r' t a c whole × Passes r' i₀ i' (loops_branches (branches_at d n₀ t p₀).value)
+      chain-over z y = (
+        next-none y,
+        reaches-full inv.limits z y e.lowers.reaches
+            (λ w. subst (Within (limits_in a)) (sym based) (within-chain-when a.code.base names (keeping_of i) x body others (b.code.open - 1) (state_in t b) low last-in (subst (Within (limits_in a)) (sym split) w))),
+        passes_over y,
+      )
+
+      module _ {q : ℕ} (z : r ≡ Some q) where
+        c-open : c.code.open ≡ length v.stack
+        c-open = open-left (e.lowers.reaches.done q z) ∙ ap (λ (u : State). length u.stack) based
+
+        -- there is the jump to set, and one more
+        pub chain-longer : b.code.open < c.code.open
+        chain-longer = omega (arith, c-open, stack-long chain-sound, branch-long names (keeping_of i) x body a.code.base (state_in t b))
+
+        -- the count by other words
+        pub chain_next : {code : Code} {i' : ℕ} (k : ℕ) → n - 1 ≡ k → Passes r i i' m → SetsJump (b.code.open - 1) 28 (c.code.open - 1 - b.code.open) c.code code
+            → ChainRest d t names a i₀ n₀ p₀ (beside code c.tables) i' k q
+        chain_next {code} {i'} k f passed j =
+            let there = e.place q z in
+            let done = e.lowers.reaches.done q z in
+            let S = sound-next z e.lowers.reaches in
+            let jump = jump-in (b.code.open - 1) S (omega (arith, chain-longer)) (omega (arith, S.sound.words, S.sound.limited.instructions)) j in
+            let long = stack-long chain-sound in
+            let moved = passed.at q z in
             let keeping : past m (keeping_of i) ≡ keeping_of i' = sym (ap keeping_of moved ∙ keeping-past i m chain-spare) in
-            let left : rest ≡ loops_branches (branches_at d (n - 1) t q).value = ap (λ (u : ℕ). loops_branches (branches_at d (n - 1) t u).value) (sym a.0) in
-            subst (λ (y : List ℕ). ChainRest d t names made₀ code₀ tables₀ k₀ l i₀ n₀ p₀ made₁ y tables₁ k₁ i' (n - 1) q) (sym x) (record {
-              branches = elifs-at d (n - 1) (n - 1) t (body_at d t p).end q refl a.0 (elifs-more d t n p h inv.branches).1;
-              next = elifs-end d (n - 1) t (body_at d t p).end q a.0 ∙ sym (elifs-is d t n p h inv.branches).1 ∙ inv.next;
-              numbers = e.numbers;
-              chained = chained-at (counts_of k₁) t made₁ _ tables₁ (counts_of k₀) (limits_in l) names (keeping_of i') _ d (n - 1) (body_at d t p).end q a.0
-                  (subst (λ (u : Keeping). Chained (counts_of k₁) t made₁ (set code₁ (get_or k 8 0 - 1) (word 28 (get_or k₁ 8 0 - 1 - get_or k 8 0) 0)) tables₁ (counts_of k₀) (limits_in l) names u
-                  (branches_at d (n - 1) t (body_at d t p).end).value whole) keeping
-                  (chained-next (counts_of k) t made code tables (counts_of k₀) (limits_in l) names (keeping_of i) _ _ inv.chained _ _ _ (elifs-is d t n p h inv.branches).0 (counts_of k₁) made₁ code₁ tables₁ a.1 _ j));
-              spare = subst (λ (u : ℕ). Spare u (loops_branches (branches_at d (n - 1) t q).value)) (sym moved) (subst (Spare (after_loops i m)) left (spare-rest i m rest both));
-              loops = (λ u. after_loops (moved u) (sym left u)) ∙ after-sum i m rest both ∙ ap (after_loops i) (sym more) ∙ inv.loops;
-              code-kept = ap length (sym x) ∙ b ∙ inv.code-kept;
-              tables-kept = c ∙ inv.tables-kept;
+            let left : loops_branches others ≡ loops_branches (branches_at d (n - 1) t q).value = ap (λ (u : ℕ). loops_branches (branches_at d (n - 1) t u).value) (sym there) in
+            let over : c.code.open - 1 - b.code.open ≡ length v.stack - 1 - length (state_in t b).stack = omega (arith, c-open, long) in
+            let last : code.open - 1 ≡ length v.stack - 1 = omega (arith, j.size, c-open) in
+            let state : state_in t (beside code c.tables) ≡ set_at (b.code.open - 1) (Jump (length v.stack - 1 - length (state_in t b).stack)) v =
+            jump.left.state ∙ (λ u. set_at (b.code.open - 1) (instr 28 (over u) 0) ((done.left.state ∙ based) u)) in
+            subst (λ (u : ℕ). ChainRest d t names a i₀ n₀ p₀ (beside code c.tables) i' u q) f (record {
+              branches = elifs-at d (n - 1) (n - 1) t (body_at d t p).end q refl there (elifs-more d t n p h inv.branches).1;
+              next = elifs-end d (n - 1) t (body_at d t p).end q there ∙ sym (elifs-is d t n p h inv.branches).1 ∙ inv.next;
+              limits = jump-limits c j ∙ e.lowers.reaches.limits ∙ inv.limits;
+              left = left-own (left-next (e.lowers.reaches.limits ∙ inv.limits) (left-next inv.limits inv.left done) jump);
+              some = omega (arith, j.size, chain-longer);
+              chain = (λ u. chain_at a.code.base names (sym keeping u) (branches_at d (n - 1) t (there u)).value (last u) (state u))
+                  ∙ sym (chain-when a.code.base names (keeping_of i) x body (state_in t b) low others (b.code.open - 1) v last-in refl) ∙ split;
+              spare = subst (λ (u : ℕ). Spare u (loops_branches (branches_at d (n - 1) t q).value)) (sym moved) (subst (Spare (after_loops i m)) left (spare-rest i m (loops_branches others) both));
+              loops = (λ u. after_loops (moved u) (sym left u)) ∙ after-sum i m (loops_branches others) both ∙ ap (after_loops i) (sym more) ∙ inv.loops;
             })
 
   module _ (h : n ≤ 0) where
@@ -205,106 +218,110 @@ module _ {d : ℕ} {t : List ℕ} {names : List Name} {made₀ code₀ tables₀
     none = elifs-zero d t n p h
 
     pub chain-rest : Spare i (loops_branches (branches_at d 0 t p).value)
-    chain-rest = subst (λ (x : Node Branches). Spare i (loops_branches x.value)) (sym none) inv.spare
+    chain-rest = subst (λ (y : Node Branches). Spare i (loops_branches y.value)) (sym none) inv.spare
 
-    pub chain-last : {made₁ code₁ tables₁ k₁ : List ℕ} {i₁ r : ℕ}
-        → Reaches r (branches_at d 0 t p).end (chain_at (get_or k 7 0) names (keeping_of i) (branches_at d 0 t p).value (get_or k 8 0 - 1) (state_of t made code tables (counts_of k))) t k l made₁ code₁ tables₁ k₁
-        × Passes r i i₁ (loops_branches (branches_at d 0 t p).value)
-        → Reaches r (branches_at d n₀ t p₀).end whole t k₀ l made₁ code₁ tables₁ k₁ × Passes r i₀ i₁ (loops_branches (branches_at d n₀ t p₀).value)
-    chain-last {made₁} {code₁} {tables₁} {k₁} {i₁} {r} x = (
-      record {
-        emits = chained-last (counts_of k) t made code tables (counts_of k₀) (limits_in l) names (keeping_of i) _ _ inv.chained made₁ code₁ tables₁ _ _ (answered r k₁) _ (λ j. (none j).value) ((λ j. (none j).end) ∙ inv.next) x.0.emits;
-        numbers = x.0.numbers;
-      },
-      record { at = λ z. x.1.at z ∙ (λ j. after_loops i (loops_branches (none j).value)) ∙ inv.loops },
-    )
+    pub chain-last : {r : Option ℕ} {c : Emitter} {i' : ℕ}
+        → NextIs r (branches_at d 0 t p).end × Reaches r t b c (chain_at b.code.base names (keeping_of i) (branches_at d 0 t p).value (b.code.open - 1) (state_in t b)) × Passes r i i' (loops_branches (branches_at d 0 t p).value)
+        → NextIs r (branches_at d n₀ t p₀).end × Reaches r t a c whole × Passes r i₀ i' (loops_branches (branches_at d n₀ t p₀).value)
+    chain-last y =
+        let here : Reaches (Some p) t a b (state_in t b) = reached_by p inv.limits inv.left in (
+          (λ k z. y.0 k z ∙ (λ j. (none j).end) ∙ inv.next),
+          reaches-after {x = p} refl here
+              (reaches_as ((λ j. chain_at (inv.left.left.base j) names (keeping_of i) (none j).value (b.code.open - 1) (state_in t b)) ∙ inv.chain) y.1),
+          record { at = λ k z. y.2.at k z ∙ (λ j. after_loops i (loops_branches (none j).value)) ∙ inv.loops },
+        )
 
 -- ---- the else block, or none
 
-module _ {t made code tables k l : List ℕ} {d at : ℕ} (names : List Name) (keep : Keeping) (S : SoundIn t made code tables k l) (some : 0 < get_or k 8 0) (low : BranchesLowerable d 0 t at) where
+module _ {t : List ℕ} {a : Emitter} {d at : ℕ} (names : List Name) (keep : Keeping) (S : SoundIn t a) (some : 0 < a.code.open) (low : BranchesLowerable d 0 t at) where
   abbrev else-want : State
-  else-want = chain_at (get_or k 7 0) names keep (branches_at d 0 t at).value (get_or k 8 0 - 1) (state_of t made code tables (counts_of k))
+  else-want = chain_at a.code.base names keep (branches_at d 0 t at).value (a.code.open - 1) (state_in t a)
 
-  pub else-none : {code₁ : List ℕ} → get_or t at 0 ≡ 0 → code₁ ≡ set code (get_or k 8 0 - 1) (word 28 0 0) → Reaches (at + 1) (branches_at d 0 t at).end else-want t k l made code₁ tables k
-  else-none {code₁} z e =
+  to-jump : a.code.open - 1 < length (state_in t a).stack
+  to-jump = omega (arith, stack-long S, some)
+
+  pub else-none : {code : Code} → get_or t at 0 ≡ 0 → SetsJump (a.code.open - 1) 28 0 a.code code → NextIs (Some (at + 1)) (branches_at d 0 t at).end × Reaches (Some (at + 1)) t a (beside code a.tables) else-want
+  else-none z j =
       let n = none_is d t at low z in
-      let s = S.sound in
-      let j = jump-set t made code tables (get_or k 8 0 - 1) 28 0 _ (counts_of k) (limits_in l) s (omega (arith, some)) (omega arith) (omega arith) (omega arith) refl in
-      subst (λ (y : List ℕ). Reaches (at + 1) (branches_at d 0 t at).end else-want t k l made y tables k) (sym e)
-      (reaches-done (λ y. omega arith) S.numbers (none-emits t made code tables (counts_of k) (limits_in l) names keep s some (at + 1) (branches_at d 0 t at) (λ i. (n i).value) (sym (λ i. (n i).end)) _ j))
+      let b = a.code.base in (
+        (λ k q. sym (some-is q) ∙ sym (λ i. (n i).end)),
+        reached_by (at + 1) (jump-limits a j)
+            (left-by (jump-in (a.code.open - 1) S (omega (arith, some)) (omega arith) j)
+            (sym ((λ i. chain_at b names keep (n i).value (a.code.open - 1) (state_in t a)) ∙ chain-done b names keep (a.code.open - 1) (state_in t a)))),
+      )
 
-  module _ {made₁ code₁ tables₁ k₁ : List ℕ} {r : ℕ} (o : get_or t at 0 ≡ 0 → ⊥) (h : LowersIn r (block_code d t names keep (at + 1)) (block_at d t (at + 1)).end t made code tables k l made₁ code₁ tables₁ k₁) where
+  module _ {b : Emitter} {r : Option ℕ} (o : get_or t at 0 ≡ 0 → ⊥) (h : EmitsTo r (block_code d t names keep (at + 1)) (block_at d t (at + 1)).end t a b) where
     is : (branches_at d 0 t at).value ≡ else (block_at d t (at + 1)).value
     is = else-value d t (branches_at d 0 t at) (at + 1) (else-parts d t at low (else-one d t at low o)).1
 
-    pub else-over : r ≡ 0 → Reaches 0 (branches_at d 0 t at).end else-want t k l made₁ code₁ tables₁ k₁
-    else-over z = reaches-full refl h.numbers
-        (full_by t made₁ code₁ tables₁ (counts_of k) (limits_in l) _ _ (answered r k₁) made₁ code₁ tables₁ (counts_of k) _ _ (answered-full r k₁ z) h.emits
-        (else-within t made code tables (counts_of k) (limits_in l) names keep S.sound some _ (branches_at d 0 t at) is))
+    wanted : else-want ≡ chain_at a.code.base names keep (else (block_at d t (at + 1)).value) (a.code.open - 1) (state_in t a)
+    wanted = ap (λ (y : Branches). chain_at a.code.base names keep y (a.code.open - 1) (state_in t a)) is
 
-    module _ (z : r ≡ 0 → ⊥) where
-      pub else-longer : get_or k 8 0 ≤ get_or k₁ 8 0
-      else-longer = else-above t made code tables (counts_of k) (limits_in l) names keep S.sound some _ (branches_at d 0 t at) is (counts_of k₁) made₁ code₁ tables₁ (done-of z h).1
+    pub else-over : {q : Option ℕ} → r ≡ None → q ≡ None → Reaches q t a b else-want
+    else-over z n = reaches-full refl z n h.lowers.reaches (λ w. within-chain-else a.code.base names keep (block_at d t (at + 1)).value (a.code.open - 1) (state_in t a) to-jump (subst (Within (limits_in a)) wanted w))
 
-      pub else-done : {code₂ : List ℕ} → code₂ ≡ set code₁ (get_or k 8 0 - 1) (word 28 (get_or k₁ 8 0 - get_or k 8 0) 0) → Reaches r (branches_at d 0 t at).end else-want t k l made₁ code₂ tables₁ k₁
-      else-done {code₂} e =
-          let s = (sound-next z h).sound in
-          let j = jump-set t made₁ code₁ tables₁ (get_or k 8 0 - 1) 28 (get_or k₁ 8 0 - get_or k 8 0) _ (counts_of k₁) (limits_in l) s (omega (
-            arith,
-            else-longer,
-            some,
-          )) (omega arith) (omega arith) (omega (arith, s.words, s.limited.instructions)) refl in
-          subst (λ (y : List ℕ). Reaches r (branches_at d 0 t at).end else-want t k l made₁ y tables₁ k₁) (sym e)
-          (reaches-done z h.numbers (else-emits t made code tables (counts_of k) (limits_in l) names keep S.sound some _ (branches_at d 0 t at) is (counts_of k₁) made₁ code₁ tables₁ (done-of z h).1 r _
-          ((done-of z h).0 ∙ sym (else-ends d t (branches_at d 0 t at) (at + 1) (else-parts d t at low (else-one d t at low o)).1)) j))
+    module _ {n : ℕ} (z : r ≡ Some n) where
+      abbrev elsewhere : State
+      elsewhere = emit_at a.code.base (block_code d t names keep (at + 1)) (state_in t a)
+
+      b-open : b.code.open ≡ length elsewhere.stack
+      b-open = open-left (h.lowers.reaches.done n z)
+
+      pub else-longer : a.code.open ≤ b.code.open
+      else-longer = omega (arith, b-open, stack-grows a.code.base (block_code d t names keep (at + 1)) (state_in t a), stack-long S)
+
+      pub else-done : {code : Code} → SetsJump (a.code.open - 1) 28 (b.code.open - a.code.open) b.code code → NextIs (Some n) (branches_at d 0 t at).end × Reaches (Some n) t a (beside code b.tables) else-want
+      else-done {code} j =
+          let S₁ = sound-next z h.lowers.reaches in
+          let done = h.lowers.reaches.done n z in
+          let over : b.code.open - a.code.open ≡ length elsewhere.stack - length (state_in t a).stack = omega (arith, b-open, stack-long S) in (
+            (λ k q. sym (some-is q) ∙ h.place n z ∙ sym (else-ends d t (branches_at d 0 t at) (at + 1) (else-parts d t at low (else-one d t at low o)).1)),
+            reached_by n (jump-limits b j ∙ h.lowers.reaches.limits)
+                (left-by (left-next h.lowers.reaches.limits done (jump-in (a.code.open - 1) S₁ (omega (arith, else-longer, some)) (omega (arith, S₁.sound.words, S₁.sound.limited.instructions)) j))
+                ((λ i. set_at (a.code.open - 1) (instr 28 (over i) 0) (done.left.state i))
+                ∙ sym (wanted ∙ chain-else a.code.base names keep (block_at d t (at + 1)).value (a.code.open - 1) (state_in t a) elsewhere to-jump refl))),
+          )
 
 -- ---- a for
 
 -- by another word for the position
-pub iterable-by : {made code tables k l made' code' tables' k' : List ℕ} {r : ℕ} (d : ℕ) (t : List ℕ) (names : List Name) (p q : ℕ) → q ≡ p
-    → LowersIn r (expr_code d t names q ⨟ make_iter) (expr_at d t q).end t made code tables k l made' code' tables' k' → LowersIn r (expr_code d t names p ⨟ make_iter) (expr_at d t p).end t made code tables k l made' code' tables' k'
-iterable-by d t names p q e h = lowers-by h (ap (λ (x : ℕ). expr_code d t names x ⨟ make_iter) (sym e)) (ap (λ (x : ℕ). (expr_at d t x).end) (sym e))
+pub iterable-by : {r : Option ℕ} {a b : Emitter} (d : ℕ) (t : List ℕ) (names : List Name) {p q : ℕ} → q ≡ p
+    → EmitsTo r (expr_code d t names q ⨟ make_iter) (expr_at d t q).end t a b → EmitsTo r (expr_code d t names p ⨟ make_iter) (expr_at d t p).end t a b
+iterable-by d t names e h = emits-by h (ap (λ (x : ℕ). expr_code d t names x ⨟ make_iter) (sym e)) (ap (λ (x : ℕ). (expr_at d t x).end) e)
 
-module _ {t made code tables k l made₁ code₁ tables₁ k₁ : List ℕ} {p q : ℕ} (names : List Name) (i : ℕ) (e : Expr) (x : Name) (b : Block) (S : SoundIn t made code tables k l)
-    (g : LowersIn p (emit_expr names e ⨟ make_iter) q t made code tables k l made₁ code₁ tables₁ k₁) where
+module _ {t : List ℕ} {a a₁ : Emitter} {p : Option ℕ} {n : ℕ} (names : List Name) (i : ℕ) (e : Expr) (x : Name) (b : Block) (S : SoundIn t a) (g : EmitsTo p (emit_expr names e ⨟ make_iter) n t a a₁) where
   abbrev keep : Keeping
   keep = keeping_of i
 
-  pub for-stopped : {next : ℕ} → p ≡ 0 → LowersIn 0 (emit_stmt names keep (for x e b)) next t made code tables k l made₁ code₁ tables₁ k₁
-  for-stopped {next} z = lowers-full g.numbers
-      (full_by t made₁ code₁ tables₁ (counts_of k) (limits_in l) q _ (answered p k₁) made₁ code₁ tables₁ (counts_of k) next _ (answered-full p k₁ z) g.emits
-      (iterable-within names keep x e b (get_or k 7 0) _ (base-below t made code tables (counts_of k) (limits_in l) S.sound)))
+  pub for-stopped : {q : Option ℕ} {next : ℕ} → p ≡ None → q ≡ None → EmitsTo q (emit_stmt names keep (for x e b)) next t a a₁
+  for-stopped z y = emits-full refl z y g.lowers.reaches (iterable-within names keep x e b a.code.base (state_in t a) (stack-low S))
 
-  module _ (y : p ≡ 0 → ⊥) {made₂ code₂ tables₂ k₂ : List ℕ} {i₁ r : ℕ} (h : StoresIterator r keep t made₁ code₁ tables₁ k₁ l made₂ code₂ tables₂ k₂ × (i₁ ≡ after_loops i 1)) where
-    pub for-over : {next : ℕ} → r ≡ 0 → LowersIn 0 (emit_stmt names keep (for x e b)) next t made code tables k l made₂ code₂ tables₂ k₂
-    for-over {next} z = lowers-full h.0.reaches.numbers
-        (full_by t made₂ code₂ tables₂ (counts_of k₁) (limits_in l) _ _ (answered r k₂) made₂ code₂ tables₂ (counts_of k) next _ (answered-full r k₂ z) h.0.reaches.emits
-        (for-within t made code tables made₁ code₁ tables₁ (counts_of k) (counts_of k₁) (limits_in l) S.sound names keep x e b (done-of y g).1))
+  module _ {k : ℕ} (y : p ≡ Some k) {a₂ : Emitter} {i₁ : ℕ} {r : Option ℕ} (h : StoresIterator r keep t a₁ a₂ × (i₁ ≡ after_loops i 1)) where
+    pub for-over : {q : Option ℕ} {next : ℕ} → r ≡ None → q ≡ None → EmitsTo q (emit_stmt names keep (for x e b)) next t a a₂
+    for-over z u = emits-full g.lowers.reaches.limits z u h.0.reaches.reaches (for-within S names keep x e b (g.lowers.reaches.done k y))
 
-    module _ (z : r ≡ 0 → ⊥) where
-      kept : (r ≡ load_word (keeper_at (get_or k₁ 7 0) keep (state_of t made₁ code₁ tables₁ (counts_of k₁))))
-          × Left (counts_of k₂) t made₂ code₂ tables₂ (counts_of k₁) (limits_in l)
-          (emit_at (get_or k₁ 7 0) (one (store_iter (keeper_at (get_or k₁ 7 0) keep (state_of t made₁ code₁ tables₁ (counts_of k₁))))) (kept_at (get_or k₁ 7 0) keep (state_of t made₁ code₁ tables₁ (counts_of k₁))))
-      kept = emits-done t made₂ code₂ tables₂ (counts_of k₁) (limits_in l) _ _ (answered r k₂) r (counts_of k₂) (answered-done r k₂ z) h.0.reaches.emits
+    module _ {w : ℕ} (z : r ≡ Some w) where
+      pub for-sound : SoundIn t a₂
+      for-sound = sound-next z h.0.reaches.reaches
 
-      pub for-sound : SoundIn t made₂ code₂ tables₂ k₂ l
-      for-sound = record { numbers = h.0.reaches.numbers; sound = kept.1.sound }
-
-      pub for-loads : Loads r (keeper_of r)
-      for-loads = loads-self (h.0.loads z)
+      pub for-loads : Loads w (keeper_of w)
+      for-loads = loads-self (h.0.loads w z)
 
       module _ (s : Spare i (1 + loops_block b)) where
         pub for-spare : Spare i₁ (loops_block b)
-        for-spare = subst (λ (n : ℕ). Spare n (loops_block b)) (sym h.1) (spare-rest i 1 (loops_block b) s)
+        for-spare = subst (λ (m : ℕ). Spare m (loops_block b)) (sym h.1) (spare-rest i 1 (loops_block b) s)
 
-        pub for-passes : {i₂ r₃ : ℕ} → Passes r₃ i₁ i₂ (loops_block b) → Passes r₃ i i₂ (1 + loops_block b)
-        for-passes w = record { at = λ u. w.at u ∙ ap (λ (n : ℕ). after_loops n (loops_block b)) h.1 ∙ after-sum i 1 (loops_block b) s }
+        pub for-passes : {i₂ : ℕ} {r₃ : Option ℕ} → Passes r₃ i₁ i₂ (loops_block b) → Passes r₃ i i₂ (1 + loops_block b)
+        for-passes u = record { at = λ m q. u.at m q ∙ ap (λ (m : ℕ). after_loops m (loops_block b)) h.1 ∙ after-sum i 1 (loops_block b) s }
 
-        pub for-done : {made₃ code₃ tables₃ k₃ : List ℕ} {r₃ q₃ next : ℕ} {b' : Block} → b' ≡ b → q₃ ≡ next
-            → LowersIn r₃ (loop (ask_iter (keeper_of r)) (take_iter names x (keeper_of r) ⨟ emit_block names (keeping_of i₁) b')) q₃ t made₂ code₂ tables₂ k₂ l made₃ code₃ tables₃ k₃
-            → LowersIn r₃ (emit_stmt names keep (for x e b)) next t made code tables k l made₃ code₃ tables₃ k₃
-        for-done {made₃} {code₃} {tables₃} {k₃} {r₃} {q₃} {next} {b'} u v w = record {
-          emits = for-emits t made code tables made₁ code₁ tables₁ (counts_of k) (counts_of k₁) (limits_in l) S.sound names keep x e b (done-of y g).1 (keeper_of r) (counts_of k₂) made₂ code₂ tables₂ (h.0.loads z).keeper kept.1
-              made₃ code₃ tables₃ q₃ next (answered r₃ k₃) b' (keeping_of i₁) u (ap keeping_of h.1 ∙ keeping-past i 1 (spare-first i 1 (loops_block b) s)) v w.emits;
-          numbers = w.numbers;
+        pub for-done : {a₃ : Emitter} {r₃ : Option ℕ} {m next : ℕ} {b' : Block} → b' ≡ b → m ≡ next
+            → EmitsTo r₃ (loop (ask_iter (keeper_of w)) (take_iter names x (keeper_of w) ⨟ emit_block names (keeping_of i₁) b')) m t a₂ a₃ → EmitsTo r₃ (emit_stmt names keep (for x e b)) next t a a₃
+        for-done {b' = b'} u v f = record {
+          place = λ j q. f.place j q ∙ v;
+          lowers = record {
+            reaches = reaches_as
+                (for-is S names keep x e b (g.lowers.reaches.done k y) (keeper_of w) b' (keeping_of i₁) (h.0.loads w z).keeper (h.0.reaches.reaches.done w z) u
+                (ap keeping_of h.1 ∙ keeping-past i 1 (spare-first i 1 (loops_block b) s)))
+                (reaches-after y g.lowers.reaches (reaches-after z h.0.reaches.reaches f.lowers.reaches));
+          };
         }

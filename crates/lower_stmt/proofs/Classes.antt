@@ -1,216 +1,304 @@
 -- Classes: methods one after the other, and the class around them.
 use Prim.Native.Nat.{ℕ, ◌+◌, ◌*◌, ◌-◌, ◌/◌, ◌%◌, ◌^◌, ◌<◌, ◌≤◌}
 use mathlib.Core.Path.{◌≡◌, refl, sym, ap, ◌∙◌, subst}
+use mathlib.Core.Bool.{Bool}
 use mathlib.Core.List.{List, [], map}
 use native.Mathlib.Omega.{arith}
 use lib.ListN.{length, take, length-append}
-use Rattle.definitions.specs.Bytes.{Name}
-use Rattle.definitions.specs.Tree.{Block, Methods, []ᵐ, method}
+use lib.Seq.{length-take-le}
+use Rattle.std.specs.Prelude.{Option, Some, None}
+use Rattle.std.proofs.lemmas.Option.{none-some}
+use Rattle.definitions.specs.Bytes.{Name, same}
+use Rattle.definitions.specs.Wellformed.{init}
+use Rattle.definitions.specs.Tree.{Methods, []ᵐ, method}
 use Rattle.definitions.specs.Tables.{Method}
 use Rattle.definitions.specs.Lower.{insert_method, begin_class, end_class}
-use Rattle.parts.specs.Places.{Node, name_end, name_bytes, params_at}
+use Rattle.parts.specs.Places.{Node, count_at, name_end, name_bytes, params_at}
 use Rattle.tree.specs.StmtAt as StmtAt
-use Rattle.tree.specs.StmtAt.{def_block_at, method_at}
+use Rattle.tree.specs.StmtAt.{def_block_at, class_methods_at, method_at}
 use Rattle.tree.proofs.StmtViews.{view-methods-none, view-methods-more}
 use Rattle.state.specs.Words.{name_at}
-use Rattle.state.specs.State.{State, method_of, state_of, emit_at, Sound, Within, Paced, Left, Emits, with_tables}
+use Rattle.state.specs.State.{State, method_of, emit_at, Sound, Within, with_tables}
 use Rattle.state.specs.Steps.{method_function, methods_at, methods_of}
-use Rattle.state.specs.declared.Counts.{Counts}
-use Rattle.state.specs.Answered.{Limits, Emitted, Done, Full}
+use Rattle.state.specs.declared.Limits.{Limits}
 use Rattle.state.proofs.Views.{function-count, class-count, constant-count}
 use Rattle.state.proofs.Enclosing.{methods-none, methods-none-of, methods-more, methods-more-of, at-class}
 use Rattle.state.proofs.Growth.{methods-lengthened}
 use Rattle.state.proofs.Within.{within-method, within-methods, within-class}
-use Rattle.state.proofs.Answers.{paced-none, paced-more}
 use Rattle.methods.specs.Order.{Inserted}
-use Rattle.lower_classes.specs.Ending.{Finishes}
-use Rattle.lower_stmt.specs.Compiled.{Listed, All, Over, Ahead, Methodical, Lists}
-use Rattle.lower_forms.specs.Lowering.{MethodsLowerable, class_code}
-
--- ---- answers, once they are matched on
-
-module _ (t list made code tables : List ℕ) (c : Counts) (l : Limits) (want : State) (methods : List Method) where
-  pub lists-all : (r : Listed) (n : ℕ) (k : Counts) → r ≡ All n k → Lists r t list made code tables c l want methods → Left k t made code tables c l want × Methodical n t list c k methods
-  unfolding Lists
-  lists-all r n k e h = rw e at h
-
-  pub lists-over : (r : Listed) → r ≡ Over → Lists r t list made code tables c l want methods → Within l want → ⊥
-  unfolding Lists
-  lists-over r e h = rw e at h
-
-  pub over-lists : (Within l want → ⊥) → Lists Over t list made code tables c l want methods
-  unfolding Lists
-  over-lists h = h
-
-  pub all-lists : (n : ℕ) (k : Counts) → Left k t made code tables c l want → Methodical n t list c k methods → Lists (All n k) t list made code tables c l want methods
-  unfolding Lists
-  all-lists n k A M = (A, M)
-
--- by other words for the count and the position
-pub lists_at : (r : Listed) (t list made code tables : List ℕ) (c : Counts) (l : Limits) (s : State) (d n m p q : ℕ) → m ≡ n → q ≡ p
-    → Lists r t list made code tables c l (methods_at (StmtAt.methods_at d m t q).value [] s) (methods_of (StmtAt.methods_at d m t q).value [] s)
-    → Lists r t list made code tables c l (methods_at (StmtAt.methods_at d n t p).value [] s) (methods_of (StmtAt.methods_at d n t p).value [] s)
-lists_at r t list made code tables c l s d n m p q e f h =
-    subst (λ (x : Methods). Lists r t list made code tables c l (methods_at x [] s) (methods_of x [] s)) (λ i. (StmtAt.methods_at d (e i) t (f i)).value) h
+use Rattle.lower_emit.specs.declared.emitter.Tables.{Tables}
+use Rattle.lower_emit.specs.declared.emitter.Emitter.{Emitter}
+use Rattle.lower_emit.specs.Emitting.{counts_of, limits_in, state_in, SoundIn, beside, LeftIn, Reaches}
+use Rattle.lower_emit.proofs.Steps.{sound-next, left-next, some-is}
+use Rattle.lower_forms.specs.Lowering.{function_code, MethodsLowerable, class_code}
+use Rattle.lower_forms.proofs.StmtArms.{methods-parts}
+use Rattle.lower_classes.specs.Classes.{BeginsClass, FinishesClass}
+use Rattle.lower_stmt.specs.Blocks.{Ahead, Methodical, SoleIn, CompilesIn, ListsIn}
+use Rattle.lower_stmt.proofs.Between.{left-itself, left-own, left-by, left-sound, reached_by, reaches-full}
+use Rattle.lower_stmt.proofs.Functions.{method-is}
 
 -- ---- methods
 
--- in the middle of methods: those that are left lead to the wanted state and the wanted methods
-pub record Listing (k : Counts) (t list made code tables : List ℕ) (c : Counts) (l : Limits) (n : ℕ) (rest : Methods) (want : State) (methods : List Method) : Type 0 where
-  pub state : methods_at rest (map (method_of t) (take n list)) (state_of t made code tables k) ≡ want
-  pub listed : methods_of rest (map (method_of t) (take n list)) (state_of t made code tables k) ≡ methods
-  pub base : k.base ≡ c.base
-  pub paced : Paced c k
-  pub sound : Sound t made code tables k l
-  pub ahead : Ahead n c k
-
-pub listing_start : (t list made code tables : List ℕ) (c : Counts) (l : Limits) (rest : Methods) → Sound t made code tables c l
-    → Listing c t list made code tables c l 0 rest (methods_at rest [] (state_of t made code tables c)) (methods_of rest [] (state_of t made code tables c))
-listing_start t list made code tables c l rest s = record { state = refl; listed = refl; base = refl; paced = paced-none c; sound = s; ahead = omega arith }
-
-pub listing-at : (k : Counts) (t list made code tables : List ℕ) (c : Counts) (l : Limits) (n : ℕ) (want : State) (methods : List Method) (d j p q : ℕ) → q ≡ p
-    → Listing k t list made code tables c l n (StmtAt.methods_at d j t p).value want methods → Listing k t list made code tables c l n (StmtAt.methods_at d j t q).value want methods
-listing-at k t list made code tables c l n want methods d j p q e h = subst (λ (x : ℕ). Listing k t list made code tables c l n (StmtAt.methods_at d j t x).value want methods) (sym e) h
-
-module _ (k : Counts) (t list made code tables : List ℕ) (c : Counts) (l : Limits) (n : ℕ) (rest : Methods) (want : State) (methods : List Method)
-    (m : Listing k t list made code tables c l n rest want methods) (low : c.methods ≤ c.functions) where
-  abbrev u : State
-  u = state_of t made code tables k
-
-  abbrev acc : List Method
-  acc = map (method_of t) (take n list)
-
-  -- as many as there are functions at most
-  pub listing-few : n ≤ 256
-  listing-few = omega (arith, m.ahead, low, m.sound.functions, m.sound.limited.functions)
-
-  -- none is left
-  pub listing_none : rest ≡ []ᵐ → 256 ≤ length list → Lists (All n k) t list made code tables c l want methods
-  listing_none e h =
-      all-lists t list made code tables c l want methods n k
-      (record { state = sym (ap (λ (x : Methods). methods_at x acc u) e ∙ methods-none acc u) ∙ m.state; base = m.base; paced = m.paced; sound = m.sound })
-      (record { few = omega (arith, listing-few); ahead = m.ahead; methods = sym (ap (λ (x : Methods). methods_of x acc u) e ∙ methods-none-of acc u) ∙ m.listed })
-
-  module _ (x : Name) (ps : List Name) (b : Block) (r : Methods) (is : rest ≡ method x ps b r) where
-    pub listing_full : Within l want → Within l (emit_at k.base (method_function x ps b) u)
-    listing_full w = within-method k.base x ps b r acc u (subst (Within l) (sym (ap (λ (y : Methods). methods_at y acc u) (sym is) ∙ m.state)) w)
-
-    module _ (d : Counts) (made₁ code₁ tables₁ : List ℕ) (A : Left d t made₁ code₁ tables₁ k l (emit_at k.base (method_function x ps b) u)) (ahead : Ahead 1 k d) (more : k.functions < d.functions) where
-      pub number_small : k.functions < 256
-      number_small = omega (arith, more, A.sound.functions, A.sound.limited.functions)
-
-      pub listing-room : n < 256
-      listing-room = omega (arith, m.ahead, ahead, low, A.sound.functions, A.sound.limited.functions)
-
-      pub listing-next : (count : ℕ) (list' : List ℕ) (p : ℕ) → name_at t p ≡ x → Inserted count t list' list n (p * 256 + k.functions) → Listing d t list' made₁ code₁ tables₁ c l count r want methods
-      listing-next count list' p y I =
-          let q : (p * 256 + k.functions) / 2 ^ 8 ≡ p = omega (arith, number_small) in
-          let f : (p * 256 + k.functions) % 2 ^ 8 ≡ k.functions = omega (arith, number_small) in
-          let g : k.functions ≡ length u.tables.functions = sym (function-count t made code tables k l m.sound) in
-          let acc-is : map (method_of t) (take count list') ≡ insert_method x (length u.tables.functions) acc =
-          I.methods ∙ (λ j. insert_method ((ap (name_at t) q ∙ y) j) ((f ∙ g) j) acc) in
-          record {
-            state = (λ j. methods_at r (acc-is j) (A.state j)) ∙ sym (methods-more k.base x ps b r acc u _ refl) ∙ ap (λ (y : Methods). methods_at y acc u) (sym is) ∙ m.state;
-            listed = (λ j. methods_of r (acc-is j) (A.state j)) ∙ sym (methods-more-of k.base x ps b r acc u _ refl) ∙ ap (λ (y : Methods). methods_of y acc u) (sym is) ∙ m.listed;
-            base = A.base ∙ m.base;
-            paced = paced-more m.paced A.paced;
-            sound = A.sound;
-            ahead = omega (arith, m.ahead, ahead, I.few);
-          }
-
 -- the methods at p, of which there is a first
 module _ (d : ℕ) (t : List ℕ) where
-  pub methods-is : (n p : ℕ) → 0 < n → MethodsLowerable d n t p
+  methods-is : (n p : ℕ) → 0 < n → MethodsLowerable d n t p
       → (StmtAt.methods_at d n t p).value ≡ method (name_at t p) (params_at t (name_end t p)).value (def_block_at d t p).value (StmtAt.methods_at d (n - 1) t (def_block_at d t p).end).value
   unfolding method_at name_bytes name_at
   methods-is n p h r = ap (λ (x : Node Methods). x.value) (view-methods-more d t p n h r.reads).is
 
-  pub methods-over : (n p : ℕ) → n ≤ 0 → MethodsLowerable d n t p → (StmtAt.methods_at d n t p).value ≡ []ᵐ
+  methods-over : (n p : ℕ) → n ≤ 0 → MethodsLowerable d n t p → (StmtAt.methods_at d n t p).value ≡ []ᵐ
   methods-over n p h r = ap (λ (x : Node Methods). x.value) (view-methods-none d t p n h r.reads.start)
 
-  pub methods-at : (n m p q : ℕ) → m ≡ n → q ≡ p → MethodsLowerable d n t p → MethodsLowerable d m t q
+  methods-at : (n m p q : ℕ) → m ≡ n → q ≡ p → MethodsLowerable d n t p → MethodsLowerable d m t q
   methods-at n m p q e f r = subst (λ (x : ℕ). MethodsLowerable d x t q) (sym e) (subst (MethodsLowerable d n t) (sym f) r)
+
+-- a is the emitter before the methods, of which n from p on are left; the words of those so far are the first of a list
+pub record MethodsRest (d : ℕ) (t : List ℕ) (a : Emitter) (n₀ p₀ : ℕ) (b : Emitter) (list : List ℕ) (n p count : ℕ) : Type 0 where
+  pub methods : MethodsLowerable d n t p
+  pub limits : limits_in b ≡ limits_in a
+  pub left : LeftIn t a b (state_in t b)
+  pub state : methods_at (StmtAt.methods_at d n t p).value (map (method_of t) (take count list)) (state_in t b) ≡ methods_at (StmtAt.methods_at d n₀ t p₀).value [] (state_in t a)
+  pub listed : methods_of (StmtAt.methods_at d n t p).value (map (method_of t) (take count list)) (state_in t b) ≡ methods_of (StmtAt.methods_at d n₀ t p₀).value [] (state_in t a)
+  pub ahead : Ahead count (counts_of a) (counts_of b)
+  pub room : 256 ≤ length list
+
+-- none is done yet; the count by other words
+pub methods-all : {d : ℕ} {t : List ℕ} {a : Emitter} {list : List ℕ} {n p : ℕ} (m : ℕ) → n ≡ m → SoleIn t a → MethodsLowerable d n t p → 256 ≤ length list → MethodsRest d t a n p a list m p 0
+methods-all {d} {t} {a} {list} {n} {p} m e R r h = subst (λ (k : ℕ). MethodsRest d t a n p a list k p 0) e (record {
+  methods = r;
+  limits = refl;
+  left = left-itself R.sound;
+  state = refl;
+  listed = refl;
+  ahead = omega arith;
+  room = h;
+})
+
+module _ {d : ℕ} {t : List ℕ} {a : Emitter} {n₀ p₀ : ℕ} {b : Emitter} {list : List ℕ} {n p count : ℕ} (inv : MethodsRest d t a n₀ p₀ b list n p count) (R : SoleIn t a) where
+  abbrev want : State
+  want = methods_at (StmtAt.methods_at d n₀ t p₀).value [] (state_in t a)
+
+  abbrev wanted : List Method
+  wanted = methods_of (StmtAt.methods_at d n₀ t p₀).value [] (state_in t a)
+
+  abbrev acc : List Method
+  acc = map (method_of t) (take count list)
+
+  pub methods-sole : SoleIn t b
+  methods-sole = record { tree-short = R.tree-short; sound = left-sound inv.left inv.limits }
+
+  -- as many as there are functions at most
+  few : count ≤ 256
+  few = omega (arith, inv.ahead, R.sound.sound.methods, inv.left.left.sound.functions, inv.left.left.sound.limited.functions)
+
+  pub methods-done : n ≤ 0 → ListsIn (Some count) want wanted t list a b
+  methods-done h =
+      let e = methods-over d t n p h inv.methods in
+      let u = state_in t b in
+      record {
+        reaches = reached_by count inv.limits (left-by inv.left (sym (ap (λ (x : Methods). methods_at x acc u) e ∙ methods-none acc u) ∙ inv.state));
+        listed = λ k z. subst (λ (m : ℕ). Methodical m t list (counts_of a) (counts_of b) wanted) (some-is z)
+            (record { few = omega (arith, few, inv.room); ahead = inv.ahead; methods = sym (ap (λ (x : Methods). methods_of x acc u) e ∙ methods-none-of acc u) ∙ inv.listed });
+      }
+
+  module _ {c : Emitter} {r : Option ℕ} {ends-init : Bool} (h : 0 < n) (e : ends-init ≡ same (name_at t p) init)
+      (x : CompilesIn r (def_block_at d t p).end (emit_at b.code.base (function_code d t p ends-init) (state_in t b)) t b c) where
+    abbrev one : State
+    one = emit_at b.code.base (method_function (name_at t p) (params_at t (name_end t p)).value (def_block_at d t p).value) (state_in t b)
+
+    one-is : emit_at b.code.base (function_code d t p ends-init) (state_in t b) ≡ one
+    one-is = method-is d t p ends-init b.code.base (state_in t b) e
+
+    abbrev others : Methods
+    others = (StmtAt.methods_at d (n - 1) t (def_block_at d t p).end).value
+
+    is : (StmtAt.methods_at d n t p).value ≡ method (name_at t p) (params_at t (name_end t p)).value (def_block_at d t p).value others
+    is = methods-is d t n p h inv.methods
+
+    pub methods-stopped : {q : Option ℕ} → r ≡ None → q ≡ None → ListsIn q want wanted t list a c
+    methods-stopped z y = record {
+      reaches = reaches-full inv.limits z y x.reaches
+          (λ w. subst (Within (limits_in a)) (sym one-is) (within-method b.code.base (name_at t p) (params_at t (name_end t p)).value (def_block_at d t p).value others acc (state_in t b)
+          (subst (Within (limits_in a)) (sym (ap (λ (y : Methods). methods_at y acc (state_in t b)) (sym is) ∙ inv.state)) w)));
+      listed = λ k q. absurd (none-some k (sym y ∙ q));
+    }
+
+    module _ {q : ℕ} (z : r ≡ Some q) where
+      S₁ : SoundIn t c
+      S₁ = sound-next z x.reaches
+
+      pub methods-number : b.tables.functions < 256
+      methods-number = omega (arith, x.more q z, S₁.sound.functions, S₁.sound.limited.functions)
+
+      pub methods-room : count < 256
+      methods-room = omega (arith, inv.ahead, x.ahead q z, R.sound.sound.methods, S₁.sound.functions, S₁.sound.limited.functions)
+
+      -- the count by other words
+      pub methods-next : {list₁ : List ℕ} {count₁ : ℕ} (k : ℕ) → n - 1 ≡ k
+          → Inserted count₁ t list₁ list count (p * 256 + b.tables.functions) → length list₁ ≡ length list → MethodsRest d t a n₀ p₀ c list₁ k q count₁
+      methods-next {list₁} {count₁} k f I same-length =
+          let there = x.place q z in
+          let done = x.reaches.done q z in
+          let now = state_in t b in
+          let at : (p * 256 + b.tables.functions) / 2 ^ 8 ≡ p = omega (arith, methods-number) in
+          let number : (p * 256 + b.tables.functions) % 2 ^ 8 ≡ b.tables.functions = omega (arith, methods-number) in
+          let functions : b.tables.functions ≡ length now.tables.functions =
+          sym (function-count t b.tables.made.now b.code.words.now b.tables.entries.now (counts_of b) (limits_in a) inv.left.left.sound) in
+          let listed-now : map (method_of t) (take count₁ list₁) ≡ insert_method (name_at t p) (length now.tables.functions) acc =
+          I.methods ∙ (λ j. insert_method (name_at t (at j)) ((number ∙ functions) j) acc) in
+          let state : state_in t c ≡ one = done.left.state ∙ one-is in
+          let ps = (params_at t (name_end t p)).value in
+          let body = (def_block_at d t p).value in
+          subst (λ (m : ℕ). MethodsRest d t a n₀ p₀ c list₁ m q count₁) f (record {
+            methods = methods-at d t (n - 1) (n - 1) (def_block_at d t p).end q refl there (methods-parts d t n p h inv.methods).1;
+            limits = x.reaches.limits ∙ inv.limits;
+            left = left-own (left-next inv.limits inv.left done);
+            state = (λ j. methods_at (StmtAt.methods_at d (n - 1) t (there j)).value (listed-now j) (state j)) ∙ sym (methods-more b.code.base (name_at t p) ps body others acc now _ refl)
+                ∙ ap (λ (y : Methods). methods_at y acc now) (sym is) ∙ inv.state;
+            listed = (λ j. methods_of (StmtAt.methods_at d (n - 1) t (there j)).value (listed-now j) (state j)) ∙ sym (methods-more-of b.code.base (name_at t p) ps body others acc now _ refl)
+                ∙ ap (λ (y : Methods). methods_of y acc now) (sym is) ∙ inv.listed;
+            ahead = omega (arith, inv.ahead, x.ahead q z, I.few);
+            room = omega (arith, inv.room, same-length);
+          })
+
+-- the methods of a class, with their count and their place by other words
+module _ (d : ℕ) (t : List ℕ) (at : ℕ) {start n : ℕ} (e : start ≡ name_end t at) (f : n ≡ count_at t start) where
+  count : n ≡ count_at t (name_end t at)
+  count = f ∙ ap (count_at t) e
+
+  place : start + 2 ≡ name_end t at + 2
+  place = ap (λ (x : ℕ). x + 2) e
+
+  pub class-methods : MethodsLowerable d (count_at t (name_end t at)) t (name_end t at + 2) → MethodsLowerable d n t (start + 2)
+  class-methods r = methods-at d t (count_at t (name_end t at)) n (name_end t at + 2) (start + 2) count place r
+
+  pub class-lists : {r : Option ℕ} {list : List ℕ} {a b : Emitter} (s : State) → ListsIn r (methods_at (StmtAt.methods_at d n t (start + 2)).value [] s) (methods_of (StmtAt.methods_at d n t (start + 2)).value [] s) t list a b
+      → ListsIn r (methods_at (class_methods_at d t at).value [] s) (methods_of (class_methods_at d t at).value [] s) t list a b
+  class-lists {r} {list} {a} {b} s h = subst (λ (x : Methods). ListsIn r (methods_at x [] s) (methods_of x [] s) t list a b) (λ i. (StmtAt.methods_at d (count i) t (place i)).value) h
 
 -- ---- a class
 
--- its number is taken
-module _ (t made code tables tables₁ : List ℕ) (c k : Counts) (l : Limits) (sound : Sound t made code tables c l) (x : Name) (ms : Methods) (i : ℕ)
-    (B : (i ≡ length (state_of t made code tables c).tables.classes) × Left k t made code tables₁ c l (with_tables (begin_class x (state_of t made code tables c).tables) (state_of t made code tables c))) where
+class-begin-within : {l : Limits} (x : Name) (ms : Methods) (base : ℕ) (s : State) → Within l (emit_at base (class_code x ms) s) → Within l (with_tables (begin_class x s.tables) s)
+unfolding class_code
+class-begin-within x ms base s w = within-methods ms [] _ (within-class base x ms s _ (methods_at ms [] (with_tables (begin_class x s.tables) s)) refl refl w)
+
+module _ {t : List ℕ} {a : Emitter} {ts : Tables} {p : Option ℕ} {at : ℕ} (ms : Methods) (S : SoundIn t a) (B : BeginsClass p at a.tables ts) where
+  abbrev a₁ : Emitter
+  a₁ = beside a.code ts
+
+  abbrev x : Name
+  x = name_at t at
+
   abbrev s : State
-  s = state_of t made code tables c
+  s = state_in t a
 
   abbrev s₁ : State
   s₁ = with_tables (begin_class x s.tables) s
 
   abbrev whole : State
-  whole = emit_at c.base (class_code x ms) s
+  whole = emit_at a.code.base (class_code x ms) s
 
-  class-is : (s₂ : State) → s₂ ≡ methods_at ms [] s₁ → whole ≡ emit_at c.base (end_class x (length s.tables.classes) (methods_of ms [] s₁)) s₂
-  unfolding class_code
-  class-is s₂ e = at-class c.base x ms s s₁ s₂ refl e
+  pub class-over : {A : Type 0} {q : Option A} → p ≡ None → q ≡ None → Reaches q t a a₁ whole
+  class-over z y = reaches-full refl z y (B.numbers t a.code S).reaches (class-begin-within x ms a.code.base s)
 
-  pub class-methods-within : Within l whole → Within l (methods_at ms [] (state_of t made code tables₁ k))
-  unfolding class_code
-  class-methods-within w = subst (λ (u : State). Within l (methods_at ms [] u)) (sym B.1.state) (within-class c.base x ms s s₁ _ refl refl w)
+  module _ {i : ℕ} (z : p ≡ Some i) where
+    number : i ≡ length s.tables.classes
+    number = (B.numbers t a.code S).is i z
 
-  one-class : k.classes ≡ c.classes + 1
-  unfolding begin_class
-  one-class =
-      sym (class-count t made code tables₁ k l B.1.sound) ∙ ap (λ (u : State). length u.tables.classes) B.1.state ∙ length-append s.tables.classes _
-      ∙ ap (λ (n : ℕ). n + 1) (class-count t made code tables c l sound)
+    first : LeftIn t a a₁ s₁
+    first = (B.numbers t a.code S).reaches.done i z
 
-  same-constants : k.constants ≡ c.constants
-  unfolding begin_class
-  same-constants =
-      sym (constant-count t made code tables₁ k l B.1.sound) ∙ ap (λ (u : State). length u.tables.constants) B.1.state ∙ constant-count t made code tables c l sound
+    pub class-sound : SoundIn t a₁
+    class-sound = sound-next z (B.numbers t a.code S).reaches
 
-  -- its methods are there
-  module _ (n : ℕ) (m : Counts) (list made₂ code₂ tables₂ : List ℕ)
-      (A : Left m t made₂ code₂ tables₂ k l (methods_at ms [] (state_of t made code tables₁ k)) × Methodical n t list k m (methods_of ms [] (state_of t made code tables₁ k))) where
-    pub class-number : i < m.classes
-    unfolding methods_at
-    class-number =
-        let L = methods-lengthened ms [] (state_of t made code tables₁ k).tables in
-        omega (
-          arith,
-          B.0,
-          class-count t made code tables c l sound,
-          one-class,
-          class-count t made code tables₁ k l B.1.sound,
-          sym (class-count t made₂ code₂ tables₂ m l A.0.sound) ∙ ap (λ (u : State). length u.tables.classes) A.0.state,
-          L.classes,
+    class-is : whole ≡ emit_at a.code.base (end_class x (length s.tables.classes) (methods_of ms [] s₁)) (methods_at ms [] s₁)
+    unfolding class_code
+    class-is = at-class a.code.base x ms s s₁ (methods_at ms [] s₁) refl refl
+
+    methods-within : Within (limits_in a) whole → Within (limits_in a) (methods_at ms [] (state_in t a₁))
+    unfolding class_code
+    methods-within w = subst (λ (u : State). Within (limits_in a) (methods_at ms [] u)) (sym first.left.state) (within-class a.code.base x ms s s₁ _ refl refl w)
+
+    classes-now : length (state_in t a₁).tables.classes ≡ ts.classes
+    classes-now = class-count t ts.made.now a.code.words.now ts.entries.now (counts_of a₁) (limits_in a₁) class-sound.sound
+
+    classes-then : length s.tables.classes ≡ a.tables.classes
+    classes-then = class-count t a.tables.made.now a.code.words.now a.tables.entries.now (counts_of a) (limits_in a) S.sound
+
+    one-class : ts.classes ≡ a.tables.classes + 1
+    unfolding begin_class
+    one-class = sym classes-now ∙ ap (λ (u : State). length u.tables.classes) first.left.state ∙ length-append s.tables.classes _ ∙ ap (λ (n : ℕ). n + 1) classes-then
+
+    same-constants : ts.constants ≡ a.tables.constants
+    unfolding begin_class
+    same-constants =
+        sym (constant-count t ts.made.now a.code.words.now ts.entries.now (counts_of a₁) (limits_in a₁) class-sound.sound) ∙ ap (λ (u : State). length u.tables.constants) first.left.state
+        ∙ constant-count t a.tables.made.now a.code.words.now a.tables.entries.now (counts_of a) (limits_in a) S.sound
+
+    module _ {a₂ : Emitter} {list : List ℕ} {r : Option ℕ} (h : ListsIn r (methods_at ms [] (state_in t a₁)) (methods_of ms [] (state_in t a₁)) t list a₁ a₂) where
+      pub class-stopped : {A : Type 0} {q : Option A} → r ≡ None → q ≡ None → Reaches q t a a₂ whole
+      class-stopped y u = reaches-full (B.numbers t a.code S).reaches.limits y u h.reaches methods-within
+
+      module _ {k : ℕ} (y : r ≡ Some k) where
+        second : LeftIn t a₁ a₂ (methods_at ms [] (state_in t a₁))
+        second = h.reaches.done k y
+
+        listed : Methodical k t list (counts_of a₁) (counts_of a₂) (methods_of ms [] (state_in t a₁))
+        listed = h.listed k y
+
+        S₂ : SoundIn t a₂
+        S₂ = sound-next y h.reaches
+
+        number-in : i < a₂.tables.classes
+        unfolding methods_at
+        number-in =
+            let L = methods-lengthened ms [] (state_in t a₁).tables in
+            omega (
+              arith,
+              number,
+              classes-then,
+              one-class,
+              classes-now,
+              sym (class-count t a₂.tables.made.now a₂.code.words.now a₂.tables.entries.now (counts_of a₂) (limits_in a₂) S₂.sound) ∙ ap (λ (u : State). length u.tables.classes) second.left.state,
+              L.classes,
+            )
+
+        -- what the end of the class asks
+        pub class-asks : SoundIn t a₂ × (i < a₂.tables.classes) × (k ≤ length list) × (a₂.tables.methods + k ≤ a₂.tables.functions) × (a₂.tables.constants < a₂.tables.classes)
+        class-asks = (
+          S₂,
+          number-in,
+          listed.few,
+          omega (arith, listed.ahead, class-sound.sound.methods),
+          omega (arith, second.left.paced.constants, one-class, same-constants, S.sound.constants),
         )
 
-    pub class-room : m.methods + n ≤ m.functions
-    class-room = omega (arith, A.1.ahead, B.1.sound.methods)
+        ended_is : emit_at a₂.code.base (end_class x i (map (method_of t) (take k list))) (state_in t a₂) ≡ whole
+        ended_is =
+            let e : methods_of ms [] (state_in t a₁) ≡ methods_of ms [] s₁ = ap (methods_of ms []) first.left.state in
+            let f : state_in t a₂ ≡ methods_at ms [] s₁ = second.left.state ∙ ap (methods_at ms []) first.left.state in
+            (λ j. emit_at ((second.left.base ∙ first.left.base) j) (end_class x (number j) ((listed.methods ∙ e) j)) (f j)) ∙ sym class-is
 
-    pub class-constants : m.constants < m.classes
-    class-constants = omega (arith, A.0.paced.constants, one-class, same-constants, sound.constants)
+        pub class-many : length (take k list) ≡ k
+        class-many = length-take-le k list listed.few
 
-    ended_is : emit_at m.base (end_class x i (map (method_of t) (take n list))) (state_of t made₂ code₂ tables₂ m) ≡ whole
-    ended_is =
-        let e : methods_of ms [] (state_of t made code tables₁ k) ≡ methods_of ms [] s₁ = ap (methods_of ms []) B.1.state in
-        let f : state_of t made₂ code₂ tables₂ m ≡ methods_at ms [] s₁ = A.0.state ∙ ap (methods_at ms []) B.1.state in
-        (λ j. emit_at ((A.0.base ∙ B.1.base) j) (end_class x (B.0 j) ((A.1.methods ∙ e) j)) (f j)) ∙ sym (class-is (methods_at ms [] s₁) refl)
-
-    pub class-emits : (r : Emitted) (made₃ code₃ tables₃ : List ℕ) (q : ℕ) → Finishes r n t made₃ code₃ tables₃ m l q (emit_at m.base (end_class x i (map (method_of t) (take n list))) (state_of t made₂ code₂ tables₂ m))
-        → Emits r t made₃ code₃ tables₃ c l q whole
-    unfolding Finishes Emits
-    class-emits (Done p d) made₃ code₃ tables₃ q h =
-        let F = h.1 in (
-          h.0,
-          record {
-            state = F.state ∙ ended_is;
-            base = F.base ∙ A.0.base ∙ B.1.base;
-            paced = record {
-              methods = omega (arith, F.methods, A.1.ahead, B.1.paced.methods);
-              constants = omega (arith, F.constants, A.0.paced.constants, one-class, same-constants);
-            };
-            sound = F.sound;
-          },
-        )
-    class-emits Full made₃ code₃ tables₃ q h = λ w. h (subst (Within l) (sym ended_is) w)
-
-pub class-begin-within : {l : Limits} (x : Name) (ms : Methods) (base : ℕ) (s : State) → Within l (emit_at base (class_code x ms) s) → Within l (with_tables (begin_class x s.tables) s)
-unfolding class_code
-class-begin-within x ms base s w = within-methods ms [] _ (within-class base x ms s _ (methods_at ms [] (with_tables (begin_class x s.tables) s)) refl refl w)
+        pub class-done : {A : Type 0} {q : Option A} {a₃ : Emitter} → FinishesClass q at i (take k list) t a₂ a₃ → Reaches q t a a₃ whole
+        class-done {a₃ = a₃} f =
+            let limits : limits_in a₂ ≡ limits_in a = h.reaches.limits ∙ (B.numbers t a.code S).reaches.limits in
+            record {
+              done = λ v z.
+                  let F = (f.finishes.done v z).finished in
+                  record {
+                    left = record {
+                      state = F.state ∙ ended_is;
+                      base = F.base ∙ second.left.base ∙ first.left.base;
+                      paced = record {
+                        methods = omega (arith, F.methods, class-many, listed.ahead, first.left.paced.methods);
+                        constants = omega (arith, F.constants, second.left.paced.constants, one-class, same-constants);
+                      };
+                      sound = subst (λ (l : Limits). Sound t a₃.tables.made.now a₃.code.words.now a₃.tables.entries.now (counts_of a₃) l) limits F.sound;
+                    };
+                  };
+              full = λ z w. f.finishes.full z (subst (λ (l : Type 0). l) (λ j. Within (sym limits j) (sym ended_is j)) w);
+              limits = f.finishes.limits ∙ limits;
+            }

@@ -1,7 +1,6 @@
-pub mod Blocks
+pub mod Between
 pub mod Jumping
-pub mod Functions
-pub mod Classes
 pub mod Sequence
 pub mod Branches
-pub mod Nested
+pub mod Functions
+pub mod Classes

@@ -1,23 +1,33 @@
 -- What functions, methods and classes ask and leave.
-use Rattle.std.specs.Prelude.{ℕ, ◌≡◌, true, false, List, ltb, length}
+use Rattle.std.specs.Prelude.{ℕ, ◌+◌, ◌≤◌, ◌<◌, ◌≡◌, Option, Some, List, map, length, take}
 use Rattle.definitions.specs.Tables.{Method}
-use Rattle.state.specs.State.{State}
-use Rattle.lower_stmt.specs.Compiled.{Listed, All, Over, Compiles, Lists}
-use Rattle.lower_forms.specs.Lowering.{Sole}
-use Rattle.lower_emit.specs.Numbers.{counts_of, limits_in, answered}
+use Rattle.state.specs.State.{State, method_of}
+use Rattle.state.specs.declared.Counts.{Counts}
+use Rattle.lower_emit.specs.declared.emitter.Emitter.{Emitter}
+use Rattle.lower_emit.specs.Emitting.{counts_of, SoundIn, NextIs, Reaches}
 
-pub record SoleIn (tree made code tables k l : List ℕ) : Type 0 where
-  pub numbers : 10 ≡ length k
-  pub sole : Sole tree made code tables (counts_of k) (limits_in l)
+pub record SoleIn (tree : List ℕ) (e : Emitter) : Type 0 where
+  pub tree-short : length tree ≤ 32768
+  pub sound : SoundIn tree e
 
-pub record CompilesIn (r next : ℕ) (want : State) (t k l made' code' tables' k' : List ℕ) : Type 0 where
-  pub compiles : Compiles (answered r k') t made' code' tables' (counts_of k) (limits_in l) next want
-  pub numbers : 10 ≡ length k'
+-- a function more than methods
+abbrev pub Ahead : ℕ → Counts → Counts → Type 0
+Ahead n c k = k.methods + c.functions + n ≤ c.methods + k.functions
 
--- a count and the counts, or 65,536
-unfoldable pub listed : ℕ → List ℕ → Listed
-listed r k = elim (ltb r 65536) [ true ↦ All r (counts_of k) | false ↦ Over ]
+-- the next position and the wanted state, with a function more, and more than methods; or the wanted state is over the limits
+pub record CompilesIn (r : Option ℕ) (next : ℕ) (want : State) (tree : List ℕ) (a b : Emitter) : Type 0 where
+  pub place : NextIs r next
+  pub reaches : Reaches r tree a b want
+  pub ahead : (n : ℕ) → r ≡ Some n → Ahead 1 (counts_of a) (counts_of b)
+  pub more : (n : ℕ) → r ≡ Some n → a.tables.functions < b.tables.functions
 
-pub record ListsIn (r : ℕ) (want : State) (methods : List Method) (t list k l made' code' tables' k' : List ℕ) : Type 0 where
-  pub lists : Lists (listed r k') t list made' code' tables' (counts_of k) (limits_in l) want methods
-  pub numbers : 10 ≡ length k'
+-- the methods so far of a class: the first n words of the list
+pub record Methodical (n : ℕ) (tree list : List ℕ) (c k : Counts) (want : List Method) : Type 0 where
+  pub few : n ≤ length list
+  pub ahead : Ahead n c k
+  pub methods : map (method_of tree) (take n list) ≡ want
+
+-- the wanted state and the class's methods, so many; or the wanted state is over the limits
+pub record ListsIn (r : Option ℕ) (want : State) (methods : List Method) (tree list : List ℕ) (a b : Emitter) : Type 0 where
+  pub reaches : Reaches r tree a b want
+  pub listed : (n : ℕ) → r ≡ Some n → Methodical n tree list (counts_of a) (counts_of b) methods

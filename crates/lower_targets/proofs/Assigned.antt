@@ -1,39 +1,42 @@
--- Assignments by the laws of the state: elements of a tuple target, a value by other words for its position, and constants.
+-- Assignments by the laws of the state: elements of a tuple target, values after an object, and constants.
 use Prim.Native.Nat.{ℕ, ◌+◌, ◌-◌, ◌<◌, ◌≤◌}
-use mathlib.Core.Path.{◌≡◌, refl, sym, ap, subst, ◌∙◌}
+use mathlib.Core.Path.{◌≡◌, refl, sym, ap, ◌∙◌}
 use mathlib.Core.List.{List, []}
 use native.Mathlib.Omega.{arith}
 use lib.ListN.{length, get_or}
+use Rattle.std.specs.Prelude.{Option, Some}
 use Rattle.definitions.specs.Bytes.{Name}
-use Rattle.definitions.specs.Instruction.{ConstI64, LoadIndex}
-use Rattle.definitions.specs.Tables.{Emit, emits, one, ◌⨟◌}
+use Rattle.definitions.specs.Instruction.{ConstI64, LoadIndex, StoreAttr, StoreIndex}
+use Rattle.definitions.specs.Tables.{Emit, emits, one, intern, ◌⨟◌}
 use Rattle.definitions.specs.Lower.{copy, emit_target, unpack}
-use Rattle.definitions.specs.Tree.{lit, none_l}
-use Rattle.definitions.specs.Parse.{parse_expr}
-use Rattle.lower_forms.proofs.Ahead.{node-after}
-use Rattle.exprs.specs.ExprAt.{expr_at, second_at, ExprReads}
-use Rattle.exprs.proofs.ExprLaws.{steady-E}
-use Rattle.state.specs.Words.{word}
-use Rattle.state.specs.State.{State, state_of, emit_at}
+use Rattle.parts.specs.Places.{name_end}
+use Rattle.exprs.specs.ExprAt.{expr_at, ExprReads}
+use Rattle.state.specs.Words.{word, name_at}
+use Rattle.state.specs.State.{State, emit_at}
 use Rattle.state.proofs.Answers.{base-below}
 use Rattle.state.proofs.Emission.{at-nothing, at-seq}
-use Rattle.lower_emit.proofs.Packing.{instr-plain, plain-below}
 use Rattle.lower_forms.specs.Lowerable.{Lowerable, expr_code}
-use Rattle.lower_forms.proofs.Constants.{arm-constant}
 use Rattle.lower_forms.specs.Elements.{elements_at, elements_end}
+use Rattle.lower_forms.proofs.Constants.{arm-constant}
+use Rattle.lower_forms.proofs.ExprArms.{lowerable-at}
 use Rattle.lower_forms.proofs.Unpacking.{later_first, none-unpacked, one-unpacked, element-is, target-nothing}
-use Rattle.lower_emit.specs.Numbers.{counts_of, limits_in, Put, SoundIn, LowersIn}
+use Rattle.lower_emit.specs.declared.emitter.Code.{Code}
+use Rattle.lower_emit.specs.declared.emitter.Emitter.{Emitter}
+use Rattle.lower_emit.specs.Emitting.{counts_of, limits_in, state_in, SoundIn, beside, LowersIn, EmitsTo, Puts}
+use Rattle.lower_emit.proofs.Packing.{instr-plain, plain-below}
 use Rattle.lower_emit.proofs.Steps.{put-lifts, lowers-by}
+use Rattle.lower_emit.proofs.Parts.{emits_then}
+use Rattle.lower_expr.proofs.Words.{emits_at}
 
-module _ {t made code tables k l : List ℕ} (S : SoundIn t made code tables k l) (d : ℕ) (names : List Name) where
+module _ {t : List ℕ} {a : Emitter} (S : SoundIn t a) (d : ℕ) (names : List Name) where
   abbrev b : ℕ
-  b = get_or k 7 0
+  b = a.code.base
 
   abbrev s : State
-  s = state_of t made code tables (counts_of k)
+  s = state_in t a
 
   low : b ≤ length s.stack
-  low = base-below t made code tables (counts_of k) (limits_in l) S.sound
+  low = base-below t a.tables.made.now a.code.words.now a.tables.entries.now (counts_of a) (limits_in a) S.sound
 
   pub none-state : (n p i : ℕ) → n ≡ 0 → emit_at b (unpack names (elements_at d t n p) i) s ≡ emit_at b (emits []) s
   none-state n p i e = none-unpacked d t names n p i b s e ∙ sym (at-nothing b s)
@@ -53,19 +56,36 @@ module _ {t made code tables k l : List ℕ} (S : SoundIn t made code tables k l
   target-state p r f g = target-nothing d t names p r b s f g ∙ sym (at-nothing b s)
 
 -- the answer for the expression at p, with the position by other words
-pub expr-by : (d : ℕ) (t : List ℕ) (names : List Name) (p q : ℕ) {r : ℕ} {made code tables k l made' code' tables' k' : List ℕ} → p ≡ q
-    → LowersIn r (expr_code d t names p) (expr_at d t p).end t made code tables k l made' code' tables' k' → LowersIn r (expr_code d t names q) (expr_at d t q).end t made code tables k l made' code' tables' k'
-expr-by d t names p q {r} {made} {code} {tables} {k} {l} {made'} {code'} {tables'} {k'} e h =
-    subst (λ (x : ℕ). LowersIn r (expr_code d t names x) (expr_at d t x).end t made code tables k l made' code' tables' k') e h
+pub expr-by : {t : List ℕ} {p q : ℕ} {r : Option ℕ} {a b : Emitter} (d : ℕ) (names : List Name) → p ≡ q → EmitsTo r (expr_code d t names p) (expr_at d t p).end t a b → EmitsTo r (expr_code d t names q) (expr_at d t q).end t a b
+expr-by {t} d names e h = emits_at (λ x. expr_code d t names x) (λ x. (expr_at d t x).end) e h
 
--- None, False or True
-pub constant-lowers : {t made code tables k l code' k' : List ℕ} {r : ℕ} (d : ℕ) (names : List Name) (p : ℕ) → SoundIn t made code tables k l → Lowerable d t p → get_or t p 0 < 3
-    → Put r code code' k k' l (word (5 - get_or t p 0) 0 0) (p + 1) → LowersIn r (expr_code d t names p) (expr_at d t p).end t made code tables k l made code' tables k'
-constant-lowers {t} {r = r} d names p S v h g =
-    let kind = get_or t p 0 in
-    let a = arm-constant d t p v kind refl h in
-    lowers-by (put-lifts r S (omega arith) (instr-plain t (5 - kind) 0 0 (plain-below (5 - kind) 0 0 (omega arith) (omega arith) (omega arith) (omega arith))) g) (a.code names) a.end
+-- ---- what follows an object that ends at x
 
--- an expression doesn't end before its start
-pub second-ahead : (d : ℕ) (t : List ℕ) (p r : ℕ) → 0 < p → ExprReads d t p → ExprReads d t (expr_at d t p).end → r ≡ (second_at d t p).end → 0 < r
-second-ahead d t p r h a b e = omega (arith, e, node-after (lit none_l) (parse_expr d) t p (steady-E d) a, node-after (lit none_l) (parse_expr d) t (expr_at d t p).end (steady-E d) b)
+abbrev pub attribute_rest : ℕ → List ℕ → List Name → ℕ → Emit
+attribute_rest d t names x = expr_code d t names (name_end t x) ⨟ intern (name_at t x) (λ k. one (StoreAttr k))
+
+abbrev pub index_rest : ℕ → List ℕ → List Name → ℕ → Emit
+index_rest d t names x = expr_code (d - 1) t names x ⨟ expr_code d t names (expr_at (d - 1) t x).end ⨟ one StoreIndex
+
+module _ {r q : Option ℕ} {n m : ℕ} {t : List ℕ} {a b c : Emitter} {e : Emit} (d : ℕ) (names : List Name) (z : r ≡ Some n) (S : SoundIn t a) (h : EmitsTo r e m t a b) where
+  pub attribute_then : EmitsTo q (attribute_rest d t names n) (expr_at d t (name_end t n)).end t b c → EmitsTo q (e ⨟ attribute_rest d t names m) (expr_at d t (name_end t m)).end t a c
+  attribute_then g = emits_then (λ x. attribute_rest d t names x) (λ x. (expr_at d t (name_end t x)).end) z S h g
+
+  pub index_then : EmitsTo q (index_rest d t names n) (expr_at d t (expr_at (d - 1) t n).end).end t b c → EmitsTo q (e ⨟ index_rest d t names m) (expr_at d t (expr_at (d - 1) t m).end).end t a c
+  index_then g = emits_then (λ x. index_rest d t names x) (λ x. (expr_at d t (expr_at (d - 1) t x).end).end) z S h g
+
+-- ---- constants
+
+-- None, False or True at p, which is q
+module _ {t : List ℕ} {d p q : ℕ} (e : p ≡ q) (v : Lowerable d t q) (h : get_or t p 0 < 3) where
+  here : Lowerable d t p
+  here = lowerable-at d t q p e v
+
+  pub constant-lowers : {A : Type 0} {r : Option A} {a : Emitter} {c : Code} (names : List Name) → SoundIn t a → Puts r (word (5 - get_or t p 0) 0 0) a.code c → LowersIn r (expr_code d t names q) t a (beside c a.tables)
+  constant-lowers names S g =
+      let kind = get_or t p 0 in
+      lowers-by (put-lifts S refl (instr-plain t (5 - kind) 0 0 (plain-below (5 - kind) 0 0 (omega arith) (omega arith) (omega arith) (omega arith))) g)
+      (ap (λ (x : ℕ). expr_code d t names x) (sym e) ∙ (arm-constant d t p here kind refl h).code names)
+
+  pub constant-end : p + 1 ≡ (expr_at d t q).end
+  constant-end = sym (arm-constant d t p here (get_or t p 0) refl h).end ∙ ap (λ (x : ℕ). (expr_at d t x).end) e

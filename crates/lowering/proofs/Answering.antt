@@ -15,33 +15,33 @@ use Rattle.definitions.proofs.Accepted.{within, within-fits}
 use Rattle.definitions.proofs.Narrower.{sets_under}
 use Rattle.tree.specs.Settled.{said as tree_said, settled}
 use Rattle.tree.specs.StmtAt.{TreeAt}
-use Rattle.tree.specs.declared.Checked.{Checked}
-use Rattle.tree.specs.declared.Checked.TheVariants.{Refused as No}
 use Rattle.tree.proofs.TreeViews.{answer-refused}
 use Rattle.state.specs.Fits.{fits_block}
 use Rattle.state.specs.State.{State, tables_of, state_of, limits_of, Within, Sound, Limited}
-use Rattle.state.specs.declared.Counts.{Counts}
-use Rattle.state.specs.Answered.{Limits, Emitted, Done, Full}
+use Rattle.state.specs.declared.Limits.{Limits}
 use Rattle.state.proofs.Views.{few-slots, within-sound}
 use Rattle.state.proofs.SlotsFit.{slots-fit, targets-asked}
 use Rattle.writing.specs.Wrote.{Wrote}
-use Rattle.module.specs.Sections.{Roomy}
-use Rattle.lower_emit.specs.Numbers.{counts_of, limits_in}
-use Rattle.compile.specs.Compiled.{tree_block, Compiles}
-use Rattle.limits.specs.Sets.{said as set_number, limits_for, as_numbers}
+use Rattle.lower_emit.specs.declared.emitter.Emitter.{Emitter}
+use Rattle.lower_emit.specs.Emitting.{counts_of, limits_in, state_in}
+use Rattle.compile.specs.Compiled.{tree_block, CompilesTree}
+use Rattle.limits.specs.Sets.{said as set_number, limits_for}
 use Rattle.limits.specs.declared.Limits.{Limits as Set}
 use Rattle.lowering.specs.Lowered.{said, Answers, Lowers}
-use Rattle.lowering.specs.declared.Lowered.{Lowered}
-use Rattle.lowering.specs.declared.Lowered.TheVariants.{Wrote as Written, Refused}
+use Rattle.questions.specs.declared.Question.{Question}
+use Rattle.questions.specs.declared.Question.TheVariants.{WorkAreas, Slots, Limits as LimitsKept, ModuleRoom}
+use Rattle.questions.specs.Numbers.{number}
+use Rattle.state.specs.declared.Counts.{Counts}
+use Rattle.std.specs.Prelude.{Option, Some, None, Result, Ok, Err}
 use Rattle.lowering.proofs.Outcome.{answer-areas, Checks, check-gives, answer-checked, answer-slots, answer-over, answer-fits, room-over, room-enough}
 
 -- ---- the answer and the output
 
-pub refuses : (a : Answer (List ℕ)) (q : ℕ) (out : List ℕ) → a ≡ refused q → Answers (Refused q) a out out
+pub refuses : (a : Answer (List ℕ)) (q : Question) (out : List ℕ) → a ≡ refused (number q) → Answers (Err q) a out out
 unfolding said count_answer output_after when_accepted
 refuses a q out e = rw e (record { answer = refl; output = refl })
 
-writes : (a : Answer (List ℕ)) (bs : List ℕ) (n : ℕ) (out out' : List ℕ) → a ≡ accepted bs → n ≡ length bs → out' ≡ written bs out → Answers (Written n) a out out'
+writes : (a : Answer (List ℕ)) (bs : List ℕ) (n : ℕ) (out out' : List ℕ) → a ≡ accepted bs → n ≡ length bs → out' ≡ written bs out → Answers (Ok n) a out out'
 unfolding said count_answer output_after when_accepted
 writes a bs n out out' e c w = rw e (record { answer = ap accepted c; output = w })
 
@@ -78,8 +78,9 @@ module _ (l : Limits) (m n room : ℕ) (tree out : List ℕ) (first : 16384 ≤ 
   answer = lower_answer (limits_of l) m n room tree
 
   -- 2 to 13
-  pub answers-checked : (r : Checked) (q : ℕ) → tree_said r ≡ settled tree → r ≡ No q → Answers (Refused q) answer out out
-  answers-checked r q h e = refuses answer q out (answer-checked (limits_of l) m n room tree (areas-fit m n first second) q (answer-refused r tree q h e))
+  pub answers-checked : (q : Question) {r : Result ℕ Question} → r ≡ Err q → tree_said (Err q) ≡ settled tree → Answers r answer out out
+  answers-checked q e h =
+      rw e (refuses answer q out (answer-checked (limits_of l) m n room tree (areas-fit m n first second) (number q) (answer-refused tree q h)))
 
   module _ (T : TreeAt tree) where
     checks : Checks tree (tree_block tree)
@@ -89,73 +90,70 @@ module _ (l : Limits) (m n room : ℕ) (tree out : List ℕ) (first : 16384 ≤ 
     slots-are = slots-fit (tree_block tree) (targets-asked (tree_block tree) (tree_block tree) checks.formed)
 
     -- 14
-    pub answers-slots : fits_block [] (tree_block tree) ≡ false → Answers (Refused 14) answer out out
-    answers-slots e = refuses answer 14 out (answer-slots (limits_of l) m n room tree (areas-fit m n first second) (tree_block tree) checks (slots-are ∙ e))
+    pub answers-slots : fits_block [] (tree_block tree) ≡ false → Answers (Err Slots) answer out out
+    unfolding number
+    answers-slots e = refuses answer Slots out (answer-slots (limits_of l) m n room tree (areas-fit m n first second) (tree_block tree) checks (slots-are ∙ e))
 
-  module _ (T : TreeAt tree) (made code tables : List ℕ) (r : Emitted) (h : Compiles r tree made code tables l (compile (tree_block tree)).tables) where
+  module _ (T : TreeAt tree) {A : Type 0} {r : Option A} {a b : Emitter} (p : a.tables.limits ≡ l) (q : a.code.limit ≡ l.instructions) (h : CompilesTree r tree a b (compile (tree_block tree)).tables) where
+    same : limits_in a ≡ l
+    same = λ i. record { functions = (p i).functions; symbols = (p i).symbols; strings = (p i).strings; classes = (p i).classes; instructions = q i }
+
     -- 15
-    pub answers-over : r ≡ Full → fits_block [] (tree_block tree) ≡ true → Answers (Refused 15) answer out out
-    unfolding Compiles
-    answers-over e f =
-        let g : Compiles Full tree made code tables l (compile (tree_block tree)).tables = subst (λ (x : Emitted). Compiles x tree made code tables l (compile (tree_block tree)).tables) e h in
-        refuses answer 15 out
-        (answer-over (limits_of l) m n room tree (areas-fit m n first second) (tree_block tree) (checks T) (slots-are T ∙ f) (tables-over l (compile (tree_block tree)).tables (slots-are T ∙ f) g))
+    pub answers-over : r ≡ None → fits_block [] (tree_block tree) ≡ true → Answers (Err LimitsKept) answer out out
+    unfolding number
+    answers-over e f = refuses answer LimitsKept out
+        (answer-over (limits_of l) m n room tree (areas-fit m n first second) (tree_block tree) (checks T) (slots-are T ∙ f)
+        (tables-over l (compile (tree_block tree)).tables (slots-are T ∙ f) (λ w. h.full e (subst (λ (k : Limits). Within k (record { stack = []; tables = (compile (tree_block tree)).tables })) (sym same) w))))
 
-    module _ (p : ℕ) (k : Counts) (e : r ≡ Done p k) where
-      compiled : (tables_of tree made code tables k ≡ (compile (tree_block tree)).tables) × Sound tree made code tables k l
-      unfolding Compiles
-      compiled = subst (λ (x : Emitted). Compiles x tree made code tables l (compile (tree_block tree)).tables) e h
-
-      pub compiled-sound : Sound tree made code tables k l
-      compiled-sound = compiled.1
+    module _ {x : A} (e : r ≡ Some x) where
+      sound : Sound tree b.tables.made.now b.code.words.now b.tables.entries.now (counts_of b) l
+      sound = subst (λ (k : Limits). Sound tree b.tables.made.now b.code.words.now b.tables.entries.now (counts_of b) k) (h.limits ∙ same) (h.sound x e).sound
 
       -- 14 and 15
       slots-yes : slots_fit (compile (tree_block tree)).tables ≡ true
       unfolding state_of
-      slots-yes = ap slots_fit (sym compiled.0) ∙ few-slots tree made code tables k l compiled.1
+      slots-yes = ap slots_fit (sym (h.tables x e)) ∙ few-slots tree b.tables.made.now b.code.words.now b.tables.entries.now (counts_of b) l sound
 
       tables-yes : tables_fit (limits_of l) (compile (tree_block tree)).tables ≡ true
       unfolding state_of
       tables-yes =
-          ap (tables_fit (limits_of l)) (sym compiled.0) ∙ tables-within l (state_of tree made code tables k) (within-sound tree made code tables k l compiled.1)
+          ap (tables_fit (limits_of l)) (sym (h.tables x e))
+          ∙ tables-within l (state_in tree b) (within-sound tree b.tables.made.now b.code.words.now b.tables.entries.now (counts_of b) l sound)
 
       -- 16
-      pub answers-fits : (r' : Lowered) (out' : List ℕ) → Answers r' (fits_room room (module_bytes (tables_of tree made code tables k))) out out' → Answers r' answer out out'
-      answers-fits r' out' A = subst (λ (a : Answer (List ℕ)). Answers r' a out out')
-          (ap (λ (t : Tables). fits_room room (module_bytes t)) compiled.0
+      pub answers-fits : {r' : Result ℕ Question} {out' : List ℕ}
+          → Answers r' (fits_room room (module_bytes (tables_of tree b.tables.made.now b.code.words.now b.tables.entries.now (counts_of b)))) out out' → Answers r' answer out out'
+      answers-fits {r'} {out'} A = subst (λ (z : Answer (List ℕ)). Answers r' z out out')
+          (ap (λ (t : Tables). fits_room room (module_bytes t)) (h.tables x e)
           ∙ sym (answer-fits (limits_of l) m n room tree (areas-fit m n first second) (tree_block tree) (checks T) slots-yes tables-yes)) A
 
 -- ---- question 16
 
-pub roomy-as : (code tables k : List ℕ) (c : Counts) → c ≡ counts_of k → Roomy code tables (counts_of k) → Roomy code tables c
-roomy-as code tables k c e R = subst (Roomy code tables) (sym e) R
-
-module _ (tree made code tables k out : List ℕ) (room size : ℕ) (c : Counts) (e : c ≡ counts_of k) (sized : size ≡ length (module_bytes (tables_of tree made code tables c))) where
+module _ (tree made code entries out : List ℕ) (room : ℕ) {c k : Counts} {size : ℕ} (e : c ≡ k) (sized : size ≡ length (module_bytes (tables_of tree made code entries c))) where
   abbrev bytes : List ℕ
-  bytes = module_bytes (tables_of tree made code tables (counts_of k))
+  bytes = module_bytes (tables_of tree made code entries k)
 
-  size_is : size ≡ length bytes
-  size_is = sized ∙ ap (λ (x : Counts). length (module_bytes (tables_of tree made code tables x))) e
+  same-bytes : module_bytes (tables_of tree made code entries c) ≡ bytes
+  same-bytes = ap (λ (x : Counts). module_bytes (tables_of tree made code entries x)) e
 
-  pub room-refuses : room < size → Answers (Refused 16) (fits_room room bytes) out out
-  room-refuses h = refuses (fits_room room bytes) 16 out (room-over room bytes (omega (arith, size_is)))
+  pub room-refuses : room < size → Answers (Err ModuleRoom) (fits_room room bytes) out out
+  unfolding number
+  room-refuses h = refuses (fits_room room bytes) ModuleRoom out (room-over room bytes (omega (arith, sized, ap length same-bytes)))
 
-  pub room-writes : size ≤ room → (w : ℕ) (out' : List ℕ) → Wrote w (module_bytes (tables_of tree made code tables c)) out out' → Answers (Written w) (fits_room room bytes) out out'
-  room-writes h w out' W = writes (fits_room room bytes) bytes w out out' (room-enough room bytes (omega (arith, size_is)))
-      (W.count ∙ ap (λ (x : Counts). length (module_bytes (tables_of tree made code tables x))) e) (W.out ∙ ap (λ (x : Counts). written (module_bytes (tables_of tree made code tables x)) out) e)
+  pub room-writes : size ≤ room → {w : ℕ} {out' : List ℕ} → Wrote w (module_bytes (tables_of tree made code entries c)) out out' → Answers (Ok w) (fits_room room bytes) out out'
+  room-writes h {w} {out'} W =
+      writes (fits_room room bytes) bytes w out out' (room-enough room bytes (omega (arith, sized, ap length same-bytes)))
+      (W.count ∙ ap length same-bytes) (W.out ∙ ap (λ (x : List ℕ). written x out) same-bytes)
 
--- ---- the limits of a set, as the code has them
+-- ---- the limits of a set
 
-module _ (s : Set) (l : List ℕ) (e : l ≡ as_numbers (limits_for s)) where
-  pub set-limited : Limited (limits_in l)
-  unfolding office
-  set-limited =
-      let u = sets_under (set_number s) in
-      rw e (record { functions = u.functions; symbols = u.symbols; strings = u.strings; classes = u.classes; instructions = u.instructions })
-
-  set_is : limits_of (limits_in l) ≡ limits_for s
-  unfolding limits_of
-  set_is = rw e
+pub set-limited : (s : Set) {l : Limits} → limits_of l ≡ limits_for s → Limited l
+unfolding limits_of office
+set-limited s {l} e =
+    let u = sets_under (set_number s) in
+    let v : DefinedLimits → Type 0 = λ k. (k.functions ≤ 256) × (k.symbols ≤ 1024) × (k.strings ≤ 512) × (k.classes ≤ 64) × (k.instructions ≤ 8192) in
+    let w : v (limits_of l) = subst v (sym e) (u.functions, u.symbols, u.strings, u.classes, u.instructions) in
+    record { functions = w.0; symbols = w.1; strings = w.2; classes = w.3; instructions = w.4 }
 
 -- ---- the whole call
 
@@ -163,28 +161,28 @@ module _ (s : Set) (tree area₁ area₂ out : List ℕ) where
   abbrev whole : Lowering
   whole = lower_call (limits_for s) tree area₁ area₂ out
 
-  areas-no : (areas_fit (length area₁) (length area₂) ≡ false) → Lowers (Refused 1) area₁ area₂ out whole
-  unfolding lower_call area_after
+  areas-no : (areas_fit (length area₁) (length area₂) ≡ false) → Lowers (Err WorkAreas) area₁ area₂ out whole
+  unfolding lower_call area_after number
   areas-no e =
-      let a = refuses (lower_answer (limits_for s) (length area₁) (length area₂) (length out) tree) 1 out (answer-areas (limits_for s) (length area₁) (length area₂) (length out) tree e) in
+      let a = refuses (lower_answer (limits_for s) (length area₁) (length area₂) (length out) tree) WorkAreas out (answer-areas (limits_for s) (length area₁) (length area₂) (length out) tree e) in
       record { answer = a.answer; first = rw (e, area_after) refl; second = rw (e, area_after) refl; output = a.output }
 
-  pub lowers-first : length area₁ < 16384 → Lowers (Refused 1) area₁ area₂ out whole
+  pub lowers-first : length area₁ < 16384 → Lowers (Err WorkAreas) area₁ area₂ out whole
   unfolding areas_fit
   lowers-first h = areas-no (rw (lt-leb 16384 (length area₁) h) refl)
 
-  pub lowers-second : 16384 ≤ length area₁ → length area₂ < 16384 → Lowers (Refused 1) area₁ area₂ out whole
+  pub lowers-second : 16384 ≤ length area₁ → length area₂ < 16384 → Lowers (Err WorkAreas) area₁ area₂ out whole
   unfolding areas_fit
   lowers-second g h = areas-no (rw (le-leb 16384 (length area₁) g) (lt-leb 16384 (length area₂) h))
 
-  pub lowers-all : (l : List ℕ) → l ≡ as_numbers (limits_for s) → 16384 ≤ length area₁ → 16384 ≤ length area₂ → (r : Lowered) (out' mid₁ mid₂ end₁ end₂ : List ℕ)
-      → Answers r (lower_answer (limits_of (limits_in l)) (length area₁) (length area₂) (length out) tree) out out'
+  pub lowers-all : {l : DefinedLimits} → l ≡ limits_for s → 16384 ≤ length area₁ → 16384 ≤ length area₂ → {r : Result ℕ Question} {out' end₁ end₂ : List ℕ} (mid₁ mid₂ : List ℕ)
+      → Answers r (lower_answer l (length area₁) (length area₂) (length out) tree) out out'
       → length mid₁ ≡ length area₁ → length mid₂ ≡ length area₂ → end₁ ≡ zeros mid₁ → end₂ ≡ zeros mid₂
       → Lowers r end₁ end₂ out' whole
   unfolding lower_call area_after zeros
-  lowers-all l n g h r out' mid₁ mid₂ end₁ end₂ B p q x y =
+  lowers-all {l} z g h {r} {out'} mid₁ mid₂ B p q x y =
       let e = areas-fit (length area₁) (length area₂) g h in
-      let A = subst (λ (k : DefinedLimits). Answers r (lower_answer k (length area₁) (length area₂) (length out) tree) out out') (set_is s l n) B in
+      let A = subst (λ (k : DefinedLimits). Answers r (lower_answer k (length area₁) (length area₂) (length out) tree) out out') z B in
       record {
         answer = A.answer;
         first = rw (e, area_after) (x ∙ ap (λ (n : ℕ). replicate {A = ℕ} n 0) p);

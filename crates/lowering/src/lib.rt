@@ -4,89 +4,69 @@
 ghost use Rattle.std.specs.Prelude.{◌≤◌, length};
 ghost use Rattle.definitions.specs.Module.{module_bytes};
 ghost use Rattle.definitions.specs.Calls.{fits_room, lower_answer, lower_call};
-ghost use Rattle.tree.specs.StmtAt.{TreeAt};
 ghost use Rattle.state.specs.State.{tables_of, limits_of, Limited};
 ghost use Rattle.module.specs.Sections.{Roomy};
-ghost use Rattle.lower_emit.specs.Numbers.{counts_of, limits_in};
+ghost use Rattle.lower_emit.specs.Emitting.{counts_of};
 ghost use Rattle.limits.specs.Sets.{limits_for};
 ghost use Rattle.lowering.specs.Lowered.{Answers, Lowers};
 
 use areas::clear;
-use compile::{compile, counts};
+use compile::compile;
 use fits::statements::check_slots;
 use limits::{Limits, limit_numbers};
+use lower_emit::emitter::Emitter;
 use module::{module_size, write_module};
-use numerals::sizes::{AREA, COUNTS, LIMITS, MADE_ROOM};
-use tree::{Checked, check_tree};
+use numerals::sizes::{AREA, MADE_ROOM};
+use questions::Question;
+use tree::check_tree;
 
-// How many bytes of the output are the module; or the number of the first question answered no.
-#[derive(Clone, Copy)]
-pub enum Lowered {
-    Wrote(usize),
-    Refused(u32),
-}
-
-// Question 16: the module of the tables where the output has room for it.
-fn write_tables<'a>(
-    tree: &'a [u8],
-    made: &'a [u8; MADE_ROOM],
-    code: &[u32],
-    tables: &[u32],
-    k: &[u32; COUNTS],
-    out: &mut [u8],
-) -> Lowered
-    requires { Roomy code.now tables.now (counts_of k.now) }
-    ensures { Answers result (fits_room (length out.old) (module_bytes (tables_of tree.now made.now code.now tables.now (counts_of k.now)))) out.old out.new }
+// Question 16: the module of the emitter's tables where the output has room for it; how many bytes of the output it is.
+fn write_tables(tree: &[u8], e: &Emitter<'_>, out: &mut [u8]) -> Result<usize, Question>
+    requires { Roomy e.now.code.words.now e.now.tables.entries.now (counts_of e.now) }
+    ensures { Answers result (fits_room (length out.old) (module_bytes (tables_of tree.now e.now.tables.made.now e.now.code.words.now e.now.tables.entries.now (counts_of e.now)))) out.old out.new }
 {
-    let c = counts(k);
-    let size = module_size(tree, made, code, tables, c);
+    let c = e.counts();
+    let size = module_size(tree, e.tables.made, e.code.words, e.tables.entries, c);
     if out.len() < size {
-        return Lowered::Refused(16);
+        return Err(Question::ModuleRoom);
     }
-    let n = write_module(tree, made, code, tables, c, size, out);
-    Lowered::Wrote(n)
+    let n = write_module(
+        tree,
+        e.tables.made,
+        e.code.words,
+        e.tables.entries,
+        c,
+        size,
+        out,
+    );
+    Ok(n)
 }
 
-// Questions 14 to 16, and the module; the slices keep what was worked out. A tree that is lowered has at most 255 slots a function, so question 14
-// is asked only where the lowering is full.
-fn lower_checked(
-    tree: &[u8],
-    code: &mut [u32],
-    tables: &mut [u32],
-    out: &mut [u8],
-    l: &[u32; LIMITS],
-) -> Lowered
-    requires { (16384 ≤ length code.old) × (16384 ≤ length tables.old) × Limited (limits_in l.now) × TreeAt tree.now }
-    ensures { Answers result (lower_answer (limits_of (limits_in l.now)) (length code.old) (length tables.old) (length out.old) tree.now) out.old out.new }
-{
-    let mut made = [0u8; MADE_ROOM];
-    let mut k = [0u32; COUNTS];
-    let next = compile(tree, &mut made, code, tables, &mut k, l);
-    if next == 0 {
-        if check_slots(tree) {
-            return Lowered::Refused(15);
-        }
-        return Lowered::Refused(14);
-    }
-    write_tables(tree, &made, code, tables, &k, out)
-}
-
-// Questions 2 to 16, and the module.
+// Questions 2 to 16, and the module; the slices keep what was worked out. A tree that is lowered has at most 255 slots a function, so question 14 is
+// asked only where the lowering is full.
 fn lower_into(
     tree: &[u8],
     code: &mut [u32],
     tables: &mut [u32],
     out: &mut [u8],
-    l: &[u32; LIMITS],
-) -> Lowered
-    requires { (16384 ≤ length code.old) × (16384 ≤ length tables.old) × Limited (limits_in l.now) }
-    ensures { Answers result (lower_answer (limits_of (limits_in l.now)) (length code.old) (length tables.old) (length out.old) tree.now) out.old out.new }
+    limits: state::Limits,
+) -> Result<usize, Question>
+    requires { (16384 ≤ length code.old) × (16384 ≤ length tables.old) × Limited limits }
+    ensures { Answers result (lower_answer (limits_of limits) (length code.old) (length tables.old) (length out.old) tree.now) out.old out.new }
 {
-    let checked = check_tree(tree);
-    if let Checked::Refused(q) = checked {
-        return Lowered::Refused(q);
+    check_tree(tree)?;
+    let mut made = [0u8; MADE_ROOM];
+    let mut e = Emitter::new(code, &mut made, tables, limits);
+    match compile(tree, &mut e) {
+        Some(()) => write_tables(tree, &e, out),
+        None => {
+            if check_slots(tree) {
+                Err(Question::Limits)
+            } else {
+                Err(Question::Slots)
+            }
+        }
     }
-    lower_checked(tree, code, tables, out, l)
 }
 
 // The module of a tree within a set of limits, from the output's first byte on. Both work areas are zero afterwards, but after refusal 1, which leaves
@@ -97,17 +77,14 @@ pub fn lower(
     area1: &mut [u32],
     area2: &mut [u32],
     out: &mut [u8],
-) -> Lowered
+) -> Result<usize, Question>
     ensures { Lowers result area1.new area2.new out.new (lower_call (limits_for limits) tree.now area1.old area2.old out.old) }
 {
-    if area1.len() < AREA {
-        return Lowered::Refused(1);
-    }
-    if area2.len() < AREA {
-        return Lowered::Refused(1);
+    if area1.len() < AREA || area2.len() < AREA {
+        return Err(Question::WorkAreas);
     }
     let l = limit_numbers(limits);
-    let r = lower_into(tree, area1, area2, out, &l);
+    let r = lower_into(tree, area1, area2, out, l);
     clear(area1);
     clear(area2);
     r

@@ -1,185 +1,210 @@
--- Functions, classes and constants as pieces, and how long they can be.
+-- Functions and classes as elements of lists, and how long lists can be.
 use mathlib.Core.Path.{◌≡◌, refl, sym, ap, ap₂, ◌∙◌}
 use mathlib.Core.List.{List, [], ◌∷◌, ◌++◌, map, append-nil}
-use Prim.Native.Nat.{ℕ, ◌+◌, ◌*◌, ◌/◌, ◌%◌, ◌≤◌, ◌<◌}
+use Prim.Native.Nat.{ℕ, zero, suc, min, ◌+◌, ◌*◌, ◌/◌, ◌%◌, ◌≤◌, ◌<◌}
 use native.Mathlib.Omega.{arith}
-use lib.ListN.{length, length-append, length-take}
-use Rattle.definitions.specs.Bytes.{be, concat, list_bytes}
+use native.Mathlib.Nat.{mul-suc}
+use lib.ListN.{length, get_or, length-append, length-take}
+use native.Mathlib.Nat.{zero-min, min-zero, suc-min-suc}
+use Rattle.definitions.specs.Bytes.{be, list_bytes}
 use Rattle.definitions.specs.Instruction.{encode}
-use Rattle.definitions.specs.Module.{name_bytes, function_bytes, method_bytes, class_bytes}
-use Rattle.definitions.proofs.BytesWritten.{length-be, length-list}
-use Rattle.state.specs.Words.{region, name_at, instr_of, instrs_of}
-use Rattle.state.specs.State.{function_of, functions_of, method_of, class_of, classes_of}
-use Rattle.state.proofs.Regions.{functions-length, classes-length}
-use Rattle.module.specs.Sections.{code_bytes, functions_bytes, methods_bytes, classes_bytes, constant_bytes}
-use Rattle.writing.proofs.Begun.{joined, joined-list}
-use Rattle.module.proofs.Pieces.{pieces, listed, pieces_room, pairs, pairs_from, pairs-room}
+use Rattle.definitions.specs.Module.{name_bytes, text_bytes, function_bytes, method_bytes, class_bytes}
+use Rattle.definitions.proofs.BytesWritten.{length-be}
+use Rattle.state.specs.Words.{region, name_at, text_at, instr_of, instrs_of}
+use Rattle.state.specs.State.{spelled, function_of, functions_of, method_of, class_of, classes_of}
+use Rattle.module.specs.Sections.{counted, symbol_bytes, string_bytes, functions_bytes, classes_bytes, constant_bytes}
+use Rattle.writing.proofs.Begun.{joined}
+use Rattle.module.proofs.Pieces.{counted-pieces, counted-words, counted-map, counted-room}
 use Rattle.module.proofs.Encoding.{first-is, first_small, second_is, second-small, length-encode}
-use Rattle.module.proofs.Lengths.{Small, name-short, length-name}
+use Rattle.module.proofs.Lengths.{Small, name-short, text-short, spelled-short, length-name, length-text}
 
 pub region-short : (a n : ℕ) (xs : List ℕ) → length (region a n xs) ≤ n
 unfolding region
 region-short a n xs = simp length-take (omega arith)
 
--- a part of some words is short
-pub part-short : (k : ℕ) (xs ws : List ℕ) → ws ≡ region (k / 65536) (k % 65536) xs → length ws < 65536
-part-short k xs ws e = let l = ap length e in let s = region-short (k / 65536) (k % 65536) xs in omega arith
+abbrev placed : ℕ → List ℕ → List ℕ
+placed k xs = region (k / 65536) (k % 65536) xs
 
--- ---- code
+-- ---- what a word stands for
+
+abbrev pub symbol_piece : List ℕ → List ℕ → ℕ → List ℕ
+symbol_piece tree made w = name_bytes (spelled tree made w)
+
+abbrev pub string_piece : List ℕ → ℕ → List ℕ
+string_piece tree w = text_bytes (text_at tree w)
 
 abbrev pub code_piece : List ℕ → ℕ → List ℕ
 code_piece tree w = encode (instr_of tree w)
 
-module _ (tree ws : List ℕ) where
-  pub code-listed : code_bytes tree ws ≡ be 2 (length ws) ++ joined (pieces (code_piece tree) 0 ws)
-  unfolding code_bytes instrs_of
-  code-listed = listed 2 encode (instr_of tree) ws
-
-  pub code-two : 2 ≤ length (code_bytes tree ws)
-  unfolding code_bytes
-  code-two = let h = length-list 2 encode (instrs_of tree ws) in omega arith
-
-  pub code-room : length (code_bytes tree ws) ≤ 2 + 10 * length ws
-  code-room =
-      let e = ap length code-listed ∙ length-append (be 2 (length ws)) (joined (pieces (code_piece tree) 0 ws)) in
-      let l = length-be 2 (length ws) in
-      let r = pieces_room 10 (code_piece tree) ws (λ x. let o = (instr_of tree x).op in let n = length-encode (instr_of tree x) in
-      omega (arith, first-is o, first_small o, second_is o, second-small o)) in
-      omega arith
-
--- ---- functions
-
-abbrev pub function_piece : List ℕ → List ℕ → ℕ → ℕ → List ℕ
-function_piece tree fin h k = function_bytes (function_of tree fin h k)
-
-module _ (tree fin : List ℕ) where
-  module _ (h k : ℕ) where
-    -- with the words that the code has found
-    module _ (ws : List ℕ) (e : ws ≡ region (k / 65536) (k % 65536) fin) where
-      pub function-pieces : function_piece tree fin h k ≡ be 2 (h / 65536) ++ joined (be 1 (h / 256 % 256) ∷ be 2 (h % 256) ∷ code_bytes tree ws ∷ [])
-      unfolding function_bytes function_of code_bytes joined
-      function-pieces = ap (λ (z : List ℕ). be 2 (h / 65536) ++ (be 1 (h / 256 % 256) ++ (be 2 (h % 256) ++ z))) (ap (code_bytes tree) (sym e) ∙ sym (append-nil (code_bytes tree ws)))
-
-      pub length-function : length (function_piece tree fin h k) ≡ 5 + length (code_bytes tree ws)
-      unfolding function_bytes function_of code_bytes
-      length-function =
-          let n : length (function_piece tree fin h k) ≡ 5 + length (code_bytes tree (region (k / 65536) (k % 65536) fin)) = simp (length-append, length-be) (omega arith) in
-          n ∙ ap (λ (z : List ℕ). 5 + length (code_bytes tree z)) (sym e)
-
-    pub function-room : length (function_piece tree fin h k) ≤ 655357
-    function-room = let e = length-function (region (k / 65536) (k % 65536) fin) refl in let r = code-room tree (region (k / 65536) (k % 65536) fin) in let s = region-short (k / 65536) (k % 65536) fin in omega arith
-
-  functions-joined : (hs ks : List ℕ) → concat function_bytes (functions_of tree fin hs ks) ≡ joined (pairs (function_piece tree fin) hs ks)
-  unfolding functions_of concat joined pairs
-  functions-joined [] ks = refl
-  functions-joined (h ∷ hs) [] = refl
-  functions-joined (h ∷ hs) (k ∷ ks) = ap (λ (z : List ℕ). function_piece tree fin h k ++ z) (functions-joined hs ks)
-
-  module _ (hs ks : List ℕ) where
-    pub functions-listed : length hs ≡ length ks → functions_bytes tree fin hs ks ≡ be 2 (length hs) ++ joined (pairs_from (function_piece tree fin) 0 hs ks)
-    unfolding functions_bytes list_bytes pairs_from
-    functions-listed e = ap₂ (λ (n : ℕ) (z : List ℕ). be 2 n ++ z) (functions-length tree fin hs ks e) (functions-joined hs ks)
-
-    pub functions-two : 2 ≤ length (functions_bytes tree fin hs ks)
-    unfolding functions_bytes
-    functions-two = let h = length-list 2 function_bytes (functions_of tree fin hs ks) in omega arith
-
-    pub functions-room : length hs ≡ length ks → length (functions_bytes tree fin hs ks) ≤ 2 + 655357 * length hs
-    functions-room q =
-        let e = ap length (functions-listed q) ∙ length-append (be 2 (length hs)) (joined (pairs_from (function_piece tree fin) 0 hs ks)) in
-        let l = length-be 2 (length hs) in
-        let r = pairs-room 655357 (function_piece tree fin) hs ks function-room in
-        omega arith
-
--- ---- methods
-
 abbrev pub method_piece : List ℕ → ℕ → List ℕ
 method_piece tree w = method_bytes (method_of tree w)
 
-module _ (tree : List ℕ) where
-  pub method-pieces : (w : ℕ) → method_piece tree w ≡ name_bytes (name_at tree (w / 256)) ++ joined (be 2 (w % 256) ∷ [])
-  unfolding method_bytes method_of joined
-  method-pieces w = ap (λ (z : List ℕ). name_bytes (name_at tree (w / 256)) ++ z) (sym (append-nil (be 2 (w % 256))))
+pub symbols-room : (tree made ws : List ℕ) → Small tree → Small made → length (counted (map (symbol_piece tree made) ws)) ≤ 2 + 256 * length ws
+symbols-room tree made ws b d = counted-room 256 (symbol_piece tree made) ws (λ x. let n = length-name (spelled tree made x) in let s = spelled-short tree made x b d in omega arith)
 
-  pub length-method : (w : ℕ) → length (method_piece tree w) ≡ 3 + length (name_at tree (w / 256))
-  unfolding method_bytes method_of
-  length-method w = simp (length-append, length-be, length-name) (omega arith)
+pub strings-room : (tree ws : List ℕ) → Small tree → length (counted (map (string_piece tree) ws)) ≤ 2 + 65537 * length ws
+strings-room tree ws b = counted-room 65537 (string_piece tree) ws (λ x. let n = length-text (text_at tree x) in let s = text-short tree x b in omega arith)
 
-  -- in the code's own numbers
-  pub method-size : (w : ℕ) (x : List ℕ) → x ≡ name_at tree (w / 256) → 3 + length x ≡ length (method_piece tree w)
-  method-size w x e = ap (λ (y : List ℕ). 3 + length y) e ∙ sym (length-method w)
+pub code-room : (tree ws : List ℕ) → length (counted (map (code_piece tree) ws)) ≤ 2 + 10 * length ws
+code-room tree ws =
+    counted-room 10 (code_piece tree) ws
+    (λ x. let o = (instr_of tree x).op in let n = length-encode (instr_of tree x) in omega (arith, first-is o, first_small o, second_is o, second-small o))
 
-  module _ (ws : List ℕ) where
-    pub methods-listed : methods_bytes tree ws ≡ be 2 (length ws) ++ joined (pieces (method_piece tree) 0 ws)
-    unfolding methods_bytes
-    methods-listed = listed 2 method_bytes (method_of tree) ws
+pub methods-room : (tree ws : List ℕ) → Small tree → length (counted (map (method_piece tree) ws)) ≤ 2 + 258 * length ws
+unfolding method_bytes method_of
+methods-room tree ws b = counted-room 258 (method_piece tree) ws (λ x. let n = length-method x in let s = name-short tree (x / 256) b in omega arith)
+  where
+    length-method : (w : ℕ) → length (method_piece tree w) ≡ 3 + length (name_at tree (w / 256))
+    length-method w = simp (length-append, length-be, length-name) (omega arith)
 
-    pub methods-two : 2 ≤ length (methods_bytes tree ws)
-    unfolding methods_bytes
-    methods-two = let h = length-list 2 method_bytes (map (method_of tree) ws) in omega arith
+pub length-constants : (ws : List ℕ) → length (counted (map (be 2) ws)) ≡ 2 + 2 * length ws
+unfolding joined
+length-constants ws =
+    ap length (counted-pieces (map (be 2) ws)) ∙ length-append (be 2 (length (map (be 2) ws))) (joined (map (be 2) ws))
+    ∙ (let l = length-be 2 (length (map (be 2) ws)) in let r = go ws in omega arith)
+  where
+    go : (ks : List ℕ) → length (joined (map (be 2) ks)) ≡ 2 * length ks
+    go [] = refl
+    go (k ∷ ks) = simp (length-append, length-be) (omega (arith, go ks))
 
-    pub methods-room : Small tree → length (methods_bytes tree ws) ≤ 2 + 258 * length ws
-    methods-room b =
-        let e = ap length methods-listed ∙ length-append (be 2 (length ws)) (joined (pieces (method_piece tree) 0 ws)) in
-        let l = length-be 2 (length ws) in
-        let r = pieces_room 258 (method_piece tree) ws (λ x. let n = length-method x in let s = name-short tree (x / 256) b in omega arith) in
-        omega arith
+-- ---- functions
+
+module _ (tree fin : List ℕ) where
+  abbrev pub function_elements : List ℕ → List ℕ → List (List ℕ)
+  function_elements hs ks = map function_bytes (functions_of tree fin hs ks)
+
+  pub functions-count : (hs ks : List ℕ) → min (length hs) (length ks) ≡ length (function_elements hs ks)
+  unfolding functions_of
+  functions-count [] ks = zero-min (length ks)
+  functions-count (h ∷ hs) [] = min-zero (suc (length hs))
+  functions-count (h ∷ hs) (k ∷ ks) = suc-min-suc (length hs) (length ks) ∙ ap suc (functions-count hs ks)
+
+  pub functions-fewer : (hs ks : List ℕ) → (length (function_elements hs ks) ≤ length hs) × (length (function_elements hs ks) ≤ length ks)
+  functions-fewer hs ks = let e = functions-count hs ks in (omega arith, omega arith)
+
+  pub function-element : (hs ks : List ℕ) (i : ℕ) → i < length (function_elements hs ks) → get_or (function_elements hs ks) i [] ≡ function_bytes (function_of tree fin (get_or hs i 0) (get_or ks i 0))
+  unfolding functions_of
+  function-element [] ks i l = absurd (omega arith)
+  function-element (h ∷ hs) [] i l = absurd (omega arith)
+  function-element (h ∷ hs) (k ∷ ks) zero l = refl
+  function-element (h ∷ hs) (k ∷ ks) (suc i) l = function-element hs ks i (omega arith)
+
+  -- with the code that was found for it
+  module _ {t ws : List ℕ} (hs ks : List ℕ) (i : ℕ) (e : t ≡ tree) (f : ws ≡ placed (get_or ks i 0) fin) (l : i < length (function_elements hs ks)) where
+    pub function-pieces : let h = get_or hs i 0 in
+        get_or (function_elements hs ks) i [] ≡ be 2 (h / 65536) ++ joined (be 1 (h / 256 % 256) ∷ be 2 (h % 256) ∷ counted (map (code_piece t) ws) ∷ [])
+    unfolding function_bytes function_of instrs_of joined
+    function-pieces =
+        let h = get_or hs i 0 in
+        let c : list_bytes 2 encode (instrs_of tree (placed (get_or ks i 0) fin)) ≡ counted (map (code_piece t) ws) =
+        counted-words encode (instr_of tree) (placed (get_or ks i 0) fin) ∙ sym (ap₂ (λ (x y : List ℕ). counted (map (code_piece x) y)) e f) in
+        function-element hs ks i l
+        ∙ ap (λ (z : List ℕ). be 2 (h / 65536) ++ (be 1 (h / 256 % 256) ++ (be 2 (h % 256) ++ z))) (c ∙ sym (append-nil (counted (map (code_piece t) ws))))
+
+    pub length-function : 5 + length (counted (map (code_piece t) ws)) ≡ length (get_or (function_elements hs ks) i [])
+    unfolding joined
+    length-function =
+        let r : length (be 2 (get_or hs i 0 / 65536) ++ joined (be 1 (get_or hs i 0 / 256 % 256) ∷ be 2 (get_or hs i 0 % 256) ∷ counted (map (code_piece t) ws) ∷ [])) ≡ 5 + length (counted (map (code_piece t) ws)) =
+        simp (length-append, length-be) (omega arith) in
+        sym (ap length function-pieces ∙ r)
+
+  pub functions-room : (hs ks : List ℕ) → length (counted (function_elements hs ks)) ≤ 2 + 655357 * length hs
+  unfolding functions_of joined
+  functions-room hs ks =
+      let e = ap length (counted-pieces (function_elements hs ks)) ∙ length-append (be 2 (length (function_elements hs ks))) (joined (function_elements hs ks)) in
+      let l = length-be 2 (length (function_elements hs ks)) in
+      let r = go hs ks in
+      omega arith
+    where
+      one : (h k : ℕ) → length (function_bytes (function_of tree fin h k)) ≤ 655357
+      one h k =
+          let e = length-function (h ∷ []) (k ∷ []) 0 refl refl (omega arith) in
+          let r = code-room tree (placed k fin) in let s = region-short (k / 65536) (k % 65536) fin in omega arith
+
+      go : (hs ks : List ℕ) → length (joined (function_elements hs ks)) ≤ 655357 * length hs
+      go [] ks = omega arith
+      go (h ∷ hs) [] = omega arith
+      go (h ∷ hs) (k ∷ ks) = let r = go hs ks in let l = length-append (function_bytes (function_of tree fin h k)) (joined (function_elements hs ks)) in let m = mul-suc 655357 (length hs) in omega (arith, one h k)
 
 -- ---- classes
 
-abbrev pub class_piece : List ℕ → List ℕ → ℕ → ℕ → List ℕ
-class_piece tree ms x k = class_bytes (class_of tree ms x k)
-
 module _ (tree ms : List ℕ) where
-  module _ (x k : ℕ) where
-    -- with the words that the code has found
-    module _ (ws : List ℕ) (e : ws ≡ region (k / 65536) (k % 65536) ms) where
-      pub class-pieces : class_piece tree ms x k ≡ name_bytes (name_at tree x) ++ joined (methods_bytes tree ws ∷ [])
-      unfolding class_bytes class_of methods_bytes joined
-      class-pieces = ap (λ (z : List ℕ). name_bytes (name_at tree x) ++ z) (ap (methods_bytes tree) (sym e) ∙ sym (append-nil (methods_bytes tree ws)))
+  abbrev pub class_elements : List ℕ → List ℕ → List (List ℕ)
+  class_elements xs ks = map class_bytes (classes_of tree ms xs ks)
 
-      pub length-class : length (class_piece tree ms x k) ≡ 1 + length (name_at tree x) + length (methods_bytes tree ws)
-      unfolding class_bytes class_of methods_bytes
-      length-class =
-          let n : length (class_piece tree ms x k) ≡ 1 + length (name_at tree x) + length (methods_bytes tree (region (k / 65536) (k % 65536) ms)) = simp (length-append, length-name) in
-          n ∙ ap (λ (z : List ℕ). 1 + length (name_at tree x) + length (methods_bytes tree z)) (sym e)
+  pub classes-count : (xs ks : List ℕ) → min (length xs) (length ks) ≡ length (class_elements xs ks)
+  unfolding classes_of
+  classes-count [] ks = zero-min (length ks)
+  classes-count (x ∷ xs) [] = min-zero (suc (length xs))
+  classes-count (x ∷ xs) (k ∷ ks) = suc-min-suc (length xs) (length ks) ∙ ap suc (classes-count xs ks)
 
-    pub class-room : Small tree → length (class_piece tree ms x k) ≤ 16908288
-    class-room b = let e = length-class (region (k / 65536) (k % 65536) ms) refl in let n = name-short tree x b in let r = methods-room tree (region (k / 65536) (k % 65536) ms) b in let s = region-short (k / 65536) (k % 65536) ms in omega arith
+  pub classes-fewer : (xs ks : List ℕ) → (length (class_elements xs ks) ≤ length xs) × (length (class_elements xs ks) ≤ length ks)
+  classes-fewer xs ks = let e = classes-count xs ks in (omega arith, omega arith)
 
-  classes-joined : (xs ks : List ℕ) → concat class_bytes (classes_of tree ms xs ks) ≡ joined (pairs (class_piece tree ms) xs ks)
-  unfolding classes_of concat joined pairs
-  classes-joined [] ks = refl
-  classes-joined (x ∷ xs) [] = refl
-  classes-joined (x ∷ xs) (k ∷ ks) = ap (λ (z : List ℕ). class_piece tree ms x k ++ z) (classes-joined xs ks)
+  pub class-element : (xs ks : List ℕ) (i : ℕ) → i < length (class_elements xs ks) → get_or (class_elements xs ks) i [] ≡ class_bytes (class_of tree ms (get_or xs i 0) (get_or ks i 0))
+  unfolding classes_of
+  class-element [] ks i l = absurd (omega arith)
+  class-element (x ∷ xs) [] i l = absurd (omega arith)
+  class-element (x ∷ xs) (k ∷ ks) zero l = refl
+  class-element (x ∷ xs) (k ∷ ks) (suc i) l = class-element xs ks i (omega arith)
 
-  module _ (xs ks : List ℕ) where
-    pub classes-listed : length xs ≡ length ks → classes_bytes tree ms xs ks ≡ be 2 (length xs) ++ joined (pairs_from (class_piece tree ms) 0 xs ks)
-    unfolding classes_bytes list_bytes pairs_from
-    classes-listed e = ap₂ (λ (n : ℕ) (z : List ℕ). be 2 n ++ z) (classes-length tree ms xs ks e) (classes-joined xs ks)
+  -- with the name and the methods that were found for it
+  module _ {n t ws : List ℕ} (xs ks : List ℕ) (i : ℕ) (d : n ≡ name_at tree (get_or xs i 0)) (e : t ≡ tree) (f : ws ≡ placed (get_or ks i 0) ms) (l : i < length (class_elements xs ks)) where
+    pub class-pieces : get_or (class_elements xs ks) i [] ≡ (be 1 (length n) ++ n) ++ joined (counted (map (method_piece t) ws) ∷ [])
+    unfolding class_bytes class_of name_bytes joined
+    class-pieces =
+        let c : list_bytes 2 method_bytes (map (method_of tree) (placed (get_or ks i 0) ms)) ≡ counted (map (method_piece t) ws) =
+        counted-words method_bytes (method_of tree) (placed (get_or ks i 0) ms) ∙ sym (ap₂ (λ (x y : List ℕ). counted (map (method_piece x) y)) e f) in
+        class-element xs ks i l
+        ∙ ap₂ (λ (y z : List ℕ). (be 1 (length y) ++ y) ++ z) (sym d) (c ∙ sym (append-nil (counted (map (method_piece t) ws))))
 
-    pub classes-two : 2 ≤ length (classes_bytes tree ms xs ks)
-    unfolding classes_bytes
-    classes-two = let h = length-list 2 class_bytes (classes_of tree ms xs ks) in omega arith
+    pub length-class : 1 + length n + length (counted (map (method_piece t) ws)) ≡ length (get_or (class_elements xs ks) i [])
+    unfolding joined
+    length-class =
+        let r : length ((be 1 (length n) ++ n) ++ joined (counted (map (method_piece t) ws) ∷ [])) ≡ 1 + length n + length (counted (map (method_piece t) ws)) =
+        simp (length-append, length-be) (omega arith) in
+        sym (ap length class-pieces ∙ r)
 
-    pub classes-room : Small tree → length xs ≡ length ks → length (classes_bytes tree ms xs ks) ≤ 2 + 16908288 * length xs
-    classes-room b q =
-        let e = ap length (classes-listed q) ∙ length-append (be 2 (length xs)) (joined (pairs_from (class_piece tree ms) 0 xs ks)) in
-        let l = length-be 2 (length xs) in
-        let r = pairs-room 16908288 (class_piece tree ms) xs ks (λ x k. class-room x k b) in
-        omega arith
-
--- ---- constants
-
-module _ (ws : List ℕ) where
-  pub constants-listed : constant_bytes ws ≡ be 2 (length ws) ++ joined (pieces (be 2) 0 ws)
-  unfolding constant_bytes pieces
-  constants-listed = joined-list 2 (be 2) ws
-
-  pub length-constants : length (constant_bytes ws) ≡ 2 + 2 * length ws
-  unfolding constant_bytes concat
-  length-constants = length-list 2 (be 2) ws ∙ ap (λ (n : ℕ). 2 + n) (go ws)
+  pub classes-room : Small tree → (xs ks : List ℕ) → length (counted (class_elements xs ks)) ≤ 2 + 16908288 * length xs
+  unfolding classes_of joined
+  classes-room b xs ks =
+      let e = ap length (counted-pieces (class_elements xs ks)) ∙ length-append (be 2 (length (class_elements xs ks))) (joined (class_elements xs ks)) in
+      let l = length-be 2 (length (class_elements xs ks)) in
+      let r = go xs ks in
+      omega arith
     where
-      go : (ks : List ℕ) → length (concat (be 2) ks) ≡ 2 * length ks
-      go [] = refl
-      go (k ∷ ks) = simp (length-append, length-be) (omega (arith, go ks))
+      one : (x k : ℕ) → length (class_bytes (class_of tree ms x k)) ≤ 16908288
+      one x k =
+          let e = length-class (x ∷ []) (k ∷ []) 0 refl refl refl (omega arith) in
+          let n = name-short tree x b in let r = methods-room tree (placed k ms) b in let s = region-short (k / 65536) (k % 65536) ms in omega arith
+
+      go : (xs ks : List ℕ) → length (joined (class_elements xs ks)) ≤ 16908288 * length xs
+      go [] ks = omega arith
+      go (x ∷ xs) [] = omega arith
+      go (x ∷ xs) (k ∷ ks) = let r = go xs ks in let l = length-append (class_bytes (class_of tree ms x k)) (joined (class_elements xs ks)) in let m = mul-suc 16908288 (length xs) in omega (arith, one x k)
+
+-- ---- the sections as lists, of the words that the code has found
+
+module _ {t ws : List ℕ} (tree rs : List ℕ) (e : t ≡ tree) (f : ws ≡ rs) where
+  pub symbols-are : {m : List ℕ} (made : List ℕ) → m ≡ made → counted (map (symbol_piece t m) ws) ≡ symbol_bytes tree made rs
+  unfolding symbol_bytes
+  symbols-are made g =
+      ap₂ (λ (x y : List ℕ). counted (map (symbol_piece x y) ws)) e g ∙ ap (λ (y : List ℕ). counted (map (symbol_piece tree made) y)) f
+      ∙ sym (counted-words name_bytes (spelled tree made) rs)
+
+  pub strings-are : counted (map (string_piece t) ws) ≡ string_bytes tree rs
+  unfolding string_bytes
+  strings-are = ap₂ (λ (x y : List ℕ). counted (map (string_piece x) y)) e f ∙ sym (counted-words text_bytes (text_at tree) rs)
+
+module _ {t a hs ks : List ℕ} (tree b rs qs : List ℕ) (e : t ≡ tree) (f : a ≡ b) (g : hs ≡ rs) (h : ks ≡ qs) where
+  pub functions-are : counted (function_elements t a hs ks) ≡ functions_bytes tree b rs qs
+  unfolding functions_bytes
+  functions-are = ap₂ (λ (x y : List ℕ). counted (function_elements x y hs ks)) e f ∙ ap₂ (λ (x y : List ℕ). counted (function_elements tree b x y)) g h ∙ sym (counted-map function_bytes (functions_of tree b rs qs))
+
+  pub classes-are : counted (class_elements t a hs ks) ≡ classes_bytes tree b rs qs
+  unfolding classes_bytes
+  classes-are = ap₂ (λ (x y : List ℕ). counted (class_elements x y hs ks)) e f ∙ ap₂ (λ (x y : List ℕ). counted (class_elements tree b x y)) g h ∙ sym (counted-map class_bytes (classes_of tree b rs qs))
+
+pub constants-are : {ws : List ℕ} (rs : List ℕ) → ws ≡ rs → counted (map (be 2) ws) ≡ constant_bytes rs
+unfolding constant_bytes
+constants-are rs f = ap (λ (y : List ℕ). counted (map (be 2) y)) f ∙ sym (counted-map (be 2) rs)

@@ -2,12 +2,13 @@
 use mathlib.Core.Path.{◌≡◌, refl, sym, ap, ◌∙◌, subst}
 use mathlib.Core.Bool.{Bool, true, false, ◌&&◌}
 use mathlib.Core.List.{List, [], ◌∷◌, ◌++◌, map, append-nil}
-use Prim.Native.Nat.{ℕ, zero, suc, ◌+◌, ◌*◌, ◌-◌, ◌/◌, ◌%◌, ◌^◌, ◌≤◌, ◌<◌}
+use Prim.Native.Nat.{ℕ, zero, suc, ◌+◌, ◌/◌, ◌%◌, ◌^◌, ◌≤◌, ◌<◌}
 use native.Mathlib.Omega.{arith}
-use native.Mathlib.Nat.{pow-succ', pow-le-pow_right, add-mul, mul_assoc}
-use lib.Dec.{eqb, leb, lit<}
+use lib.Dec.{eqb, leb, ltb}
+use mir.Syntax.{w16, w32}
+use mir.Val.{of_z, to_z}
 use lib.ListN.{length, get_or, set, length-append, get_or-map}
-use borrow.Author.Tests.{eqb-true, eqb-false, eq-eqb, ne_eqb, lt-ltb, le-ltb, le-leb, lt-leb}
+use borrow.Author.Tests.{eqb-true, eqb-false, eq-eqb, ne_eqb, le-leb, lt-leb}
 use Rattle.definitions.specs.Bytes.{be}
 use Rattle.definitions.specs.Instruction.{Instr, instr, ConstI64, Row, row, nothing, instruction_table, row_of, first_width, second_width, encode}
 use Rattle.definitions.specs.Reader.{is_jump}
@@ -105,46 +106,14 @@ module _ (t : List ℕ) (w : ℕ) where
   pub first-jump : 28 ≤ w / 16777216 → w / 16777216 ≤ 30 → (instr_of t w).a ≡ widened (w / 256 % 65536)
   first-jump h k = first-of (widened (first_of w)) (λ e. omega arith) (operand-jump t (op_of w) (first_of w) h k)
 
-pub widened-low : (a : ℕ) → a < 32768 → a ≡ widened a
+-- the casts of the code
+pub widened-is : (a : ℕ) → a < 65536 → of_z w32 (to_z w16 a) ≡ widened a
 unfolding widened
-widened-low a h = rw (lt-ltb a 32768 h, widened)
-
-pub widened-high : (a : ℕ) → 32768 ≤ a → a + 4294901760 ≡ widened a
-unfolding widened
-widened-high a h = rw (le-ltb a 32768 h, widened)
-
--- ---- eight bytes
-
--- one byte more of a number
-pub horner : (t : List ℕ) (at w i n : ℕ) → i < w →
-    n * 256 ^ (w - i) + number_at (w - i) t (at + i) ≡ (n * 256 + get_or t (at + i) 0) * 256 ^ (w - (i + 1)) + number_at (w - (i + 1)) t (at + (i + 1))
-unfolding number_at
-horner t at w i n h = go (w - (i + 1)) (w - i) (omega arith)
+widened-is a h = go (ltb a 32768) refl
   where
-    go : (k m : ℕ) → m ≡ suc k → n * 256 ^ m + number_at m t (at + i) ≡ (n * 256 + get_or t (at + i) 0) * 256 ^ k + number_at k t (at + (i + 1))
-    go k m e = ap (λ (x : ℕ). n * 256 ^ x + number_at x t (at + i)) e
-        ∙ (let a : n * 256 ^ suc k ≡ n * 256 * 256 ^ k = ap (λ (x : ℕ). n * x) (pow-succ' 256 k) ∙ sym (mul_assoc n 256 (256 ^ k)) in
-        let b = add-mul (n * 256) (get_or t (at + i) 0) (256 ^ k) in
-        let c : at + i + 1 ≡ at + (i + 1) = omega arith in
-        ap (λ (x : ℕ). n * 256 ^ suc k + (get_or t (at + i) 0 * 256 ^ k + number_at k t x)) c
-        ∙ (let z : n * 256 ^ suc k + (get_or t (at + i) 0 * 256 ^ k + number_at k t (at + (i + 1))) ≡ (n * 256 + get_or t (at + i) 0) * 256 ^ k + number_at k t (at + (i + 1)) = omega arith in z))
-
-pub grows : (n b i : ℕ) → n < 256 ^ i → b < 256 → n * 256 + b < 256 ^ (i + 1)
-grows n b i h l = subst (λ (x : ℕ). n * 256 + b < x) (sym (ap (λ (k : ℕ). 256 ^ k) (let z : i + 1 ≡ suc i = omega arith in z) ∙ pow-succ' 256 i)) (omega arith)
-
-pub small_one : (n i : ℕ) → i < 8 → n < 256 ^ i → n < 2 ^ 56
-small_one n i h b = let p : 256 ^ i ≤ 256 ^ 7 = pow-le-pow_right (lit< tt) (let z : i ≤ 7 = omega arith in z) in omega arith
-
-pub number-start : (t : List ℕ) (at : ℕ) → number_at 8 t at ≡ 0 * 256 ^ (8 - 0) + number_at (8 - 0) t (at + 0)
-number-start t at = ap (number_at 8 t) (let f : at ≡ at + 0 = omega arith in f) ∙ (let k : number_at 8 t (at + 0) ≡ 0 + number_at 8 t (at + 0) = omega arith in k)
-
-pub number-all : (t : List ℕ) (at i n : ℕ) → i ≤ 8 → 8 ≤ i → n * 256 ^ (8 - i) + number_at (8 - i) t (at + i) ≡ n
-unfolding number_at
-number-all t at i n h l = ap (λ (k : ℕ). n * 256 ^ k + number_at k t (at + i)) (let z : 8 - i ≡ 0 = omega arith in z) ∙ (let z : n * 256 ^ 0 + 0 ≡ n = omega arith in z)
-
--- a number by another name
-pub wrote-eight : {r n m : ℕ} {xs ys : List ℕ} → n ≡ m → Wrote r (be 8 n) xs ys → Wrote r (be 8 m) xs ys
-wrote-eight {r} {n} {m} {xs} {ys} e w = subst (λ (k : ℕ). Wrote r (be 8 k) xs ys) e w
+    go : (b : Bool) → ltb a 32768 ≡ b → of_z w32 (to_z w16 a) ≡ widened a
+    go true e = rw (e, widened)
+    go false e = rw (e, widened) (omega arith)
 
 -- ---- an instruction's bytes
 

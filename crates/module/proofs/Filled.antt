@@ -4,7 +4,7 @@ use mathlib.Core.List.{List, ◌++◌}
 use Prim.Native.Nat.{ℕ, zero, suc, ◌-◌, ◌/◌, ◌%◌, ◌^◌, ◌≤◌, ◌<◌}
 use native.Mathlib.Omega.{arith}
 use native.Mathlib.Nat.{pow-suc, div-div-eq-div-mul, div-one}
-use lib.ListN.{length, get_or, take, drop, set, length-append, length-take, length-drop, take-append-drop}
+use lib.ListN.{length, get_or, take, drop, set, take-append-drop}
 use lib.Seq.{take-suc, set_at, append_snoc, length-take-le}
 use Rattle.definitions.specs.Bytes.{be}
 use Rattle.definitions.specs.Calls.{written}
@@ -22,10 +22,6 @@ module _ (w v : ℕ) (xs : List ℕ) (room : w ≤ length xs) where
   pub filled-start : xs ≡ filled w v w xs
   unfolding filled be
   filled-start = sym (ap (λ (k : ℕ). take w xs ++ (be k v ++ drop w xs)) (let z : w - w ≡ 0 = omega arith in z) ∙ take-append-drop w xs)
-
-  pub length-filled : (i : ℕ) → i ≤ w → length (filled w v i xs) ≡ length xs
-  unfolding filled
-  length-filled i h = simp (length-append, length-be, length-take, length-drop) (omega arith)
 
   filled-suc : (j : ℕ) → suc j ≤ w → set (filled w v (suc j) xs) j (v / 256 ^ (w - suc j) % 256) ≡ filled w v j xs
   unfolding filled be

@@ -1,20 +1,18 @@
--- How long names, strings and what is made of words can be; and each section as pieces.
-use mathlib.Core.Path.{◌≡◌, sym, ap, ◌∙◌, subst}
+-- How long names and strings are; and what an element of a list of words is.
+use mathlib.Core.Path.{◌≡◌, sym, ap, ◌∙◌}
 use mathlib.Core.Bool.{Bool, true, false}
-use mathlib.Core.List.{List, ◌++◌, map}
-use Prim.Native.Nat.{ℕ, ◌+◌, ◌*◌, ◌-◌, ◌^◌, ◌≤◌, ◌<◌}
+use mathlib.Core.List.{List, [], ◌∷◌, ◌++◌, map, append-nil}
+use Prim.Native.Nat.{ℕ, ◌+◌, ◌-◌, ◌/◌, ◌%◌, ◌≤◌, ◌<◌}
 use native.Mathlib.Omega.{arith}
 use lib.Dec.{ltb}
-use lib.ListN.{length, get_or, length-append, length-take}
-use Rattle.definitions.specs.Bytes.{Name, Text, be, list_bytes}
-use Rattle.definitions.specs.Module.{name_bytes, text_bytes}
-use Rattle.definitions.proofs.BytesWritten.{length-be, length-list}
+use lib.ListN.{length, get_or, length-append, length-take, length-map}
+use Rattle.std.proofs.lemmas.List.{get_or-map}
+use Rattle.definitions.specs.Bytes.{Name, Text, be}
+use Rattle.definitions.specs.Module.{name_bytes, text_bytes, method_bytes}
+use Rattle.definitions.proofs.BytesWritten.{length-be}
 use Rattle.state.specs.Words.{name_at, text_at, number_at}
-use Rattle.state.specs.State.{spelled}
-use Rattle.writing.specs.Wrote.{Wrote}
-use Rattle.module.specs.Sections.{symbol_bytes, string_bytes}
+use Rattle.state.specs.State.{spelled, method_of}
 use Rattle.writing.proofs.Begun.{joined}
-use Rattle.module.proofs.Pieces.{pieces, listed, pieces_room}
 
 -- each element is a byte
 abbrev pub Small : List ℕ → Type 0
@@ -45,66 +43,37 @@ pub length-text : (x : Text) → length (text_bytes x) ≡ 2 + length x
 unfolding text_bytes
 length-text x = simp (length-append, length-be)
 
--- what the writer of counted bytes asks and leaves, of a name and of a string that the code has found
-module _ {x y : List ℕ} (e : x ≡ y) where
-  pub name-room : {k : ℕ} → length y ≤ 255 → length (name_bytes y) ≤ k → (length x < 256 ^ 1) × (1 + length x ≤ k)
-  name-room s r = let l = length-name y in let n = ap length e in (omega arith, omega arith)
+-- bytes after their count
+pub length-counted : (w : ℕ) (x : List ℕ) → length (be w (length x) ++ x) ≡ w + length x
+length-counted w x = simp (length-append, length-be)
 
-  pub name-wrote : {n : ℕ} {before after : List ℕ} → Wrote n (be 1 (length x) ++ x) before after → Wrote n (name_bytes y) before after
-  unfolding name_bytes
-  name-wrote {n} {before} {after} w = subst (λ (z : List ℕ). Wrote n (be 1 (length z) ++ z) before after) e w
+-- ---- an element of a list, by its word
 
-  pub text-room : {k : ℕ} → length y ≤ 65535 → length (text_bytes y) ≤ k → (length x < 256 ^ 2) × (2 + length x ≤ k)
-  text-room s r = let l = length-text y in let n = ap length e in (omega arith, omega arith)
+pub element : (h : ℕ → List ℕ) (ws : List ℕ) (i : ℕ) → i < length (map h ws) → get_or (map h ws) i [] ≡ h (get_or ws i 0)
+element h ws i l = get_or-map h ws i 0 [] (let n = length-map ws h in omega arith)
 
-  pub text-wrote : {n : ℕ} {before after : List ℕ} → Wrote n (be 2 (length x) ++ x) before after → Wrote n (text_bytes y) before after
-  unfolding text_bytes
-  text-wrote {n} {before} {after} w = subst (λ (z : List ℕ). Wrote n (be 2 (length z) ++ z) before after) e w
+-- with the bytes that the code has found for it
+module _ {x : List ℕ} (ws : List ℕ) (i : ℕ) where
+  module _ (g : ℕ → List ℕ) (e : x ≡ g (get_or ws i 0)) where
+    pub named : i < length (map (λ (w : ℕ). name_bytes (g w)) ws) → get_or (map (λ (w : ℕ). name_bytes (g w)) ws) i [] ≡ be 1 (length x) ++ x
+    unfolding name_bytes
+    named l = element (λ (w : ℕ). name_bytes (g w)) ws i l ∙ ap (λ (z : List ℕ). be 1 (length z) ++ z) (sym e)
 
-  pub name-size : 1 + length x ≡ length (name_bytes y)
-  name-size = ap (λ (n : ℕ). 1 + n) (ap length e) ∙ sym (length-name y)
+    pub worded : i < length (map (λ (w : ℕ). text_bytes (g w)) ws) → get_or (map (λ (w : ℕ). text_bytes (g w)) ws) i [] ≡ be 2 (length x) ++ x
+    unfolding text_bytes
+    worded l = element (λ (w : ℕ). text_bytes (g w)) ws i l ∙ ap (λ (z : List ℕ). be 2 (length z) ++ z) (sym e)
 
-  pub text-size : 2 + length x ≡ length (text_bytes y)
-  text-size = ap (λ (n : ℕ). 2 + n) (ap length e) ∙ sym (length-text y)
+  pub method-pieces : (tree : List ℕ) → x ≡ name_at tree (get_or ws i 0 / 256) → i < length (map (λ (w : ℕ). method_bytes (method_of tree w)) ws) →
+      get_or (map (λ (w : ℕ). method_bytes (method_of tree w)) ws) i [] ≡ (be 1 (length x) ++ x) ++ joined (be 2 (get_or ws i 0 % 256) ∷ [])
+  unfolding method_bytes method_of name_bytes joined
+  method-pieces tree e l =
+      element (λ (w : ℕ). method_bytes (method_of tree w)) ws i l
+      ∙ ap (λ (z : List ℕ). (be 1 (length z) ++ z) ++ be 2 (get_or ws i 0 % 256)) (sym e)
+      ∙ ap (λ (z : List ℕ). (be 1 (length x) ++ x) ++ z) (sym (append-nil (be 2 (get_or ws i 0 % 256))))
 
--- a list has room for its count
-two : {A : Type 0} (f : A → List ℕ) (xs : List A) → 2 ≤ length (list_bytes 2 f xs)
-two f xs = let h = length-list 2 f xs in omega arith
-
--- ---- symbols and strings
-
-abbrev pub symbol_piece : List ℕ → List ℕ → ℕ → List ℕ
-symbol_piece tree made w = name_bytes (spelled tree made w)
-
-pub symbols-listed : (tree made ws : List ℕ) → symbol_bytes tree made ws ≡ be 2 (length ws) ++ joined (pieces (symbol_piece tree made) 0 ws)
-unfolding symbol_bytes
-symbols-listed tree made ws = listed 2 name_bytes (spelled tree made) ws
-
-pub symbols-two : (tree made ws : List ℕ) → 2 ≤ length (symbol_bytes tree made ws)
-unfolding symbol_bytes
-symbols-two tree made ws = two name_bytes (map (spelled tree made) ws)
-
-pub symbols-room : (tree made ws : List ℕ) → Small tree → Small made → length (symbol_bytes tree made ws) ≤ 2 + 256 * length ws
-symbols-room tree made ws b d =
-    let e = ap length (symbols-listed tree made ws) ∙ length-append (be 2 (length ws)) (joined (pieces (symbol_piece tree made) 0 ws)) in
-    let l = length-be 2 (length ws) in
-    let r = pieces_room 256 (symbol_piece tree made) ws (λ x. let n = length-name (spelled tree made x) in let s = spelled-short tree made x b d in omega arith) in
-    omega arith
-
-abbrev pub string_piece : List ℕ → ℕ → List ℕ
-string_piece tree w = text_bytes (text_at tree w)
-
-pub strings-listed : (tree ws : List ℕ) → string_bytes tree ws ≡ be 2 (length ws) ++ joined (pieces (string_piece tree) 0 ws)
-unfolding string_bytes
-strings-listed tree ws = listed 2 text_bytes (text_at tree) ws
-
-pub strings-two : (tree ws : List ℕ) → 2 ≤ length (string_bytes tree ws)
-unfolding string_bytes
-strings-two tree ws = two text_bytes (map (text_at tree) ws)
-
-pub strings-room : (tree ws : List ℕ) → Small tree → length (string_bytes tree ws) ≤ 2 + 65537 * length ws
-strings-room tree ws b =
-    let e = ap length (strings-listed tree ws) ∙ length-append (be 2 (length ws)) (joined (pieces (string_piece tree) 0 ws)) in
-    let l = length-be 2 (length ws) in
-    let r = pieces_room 65537 (string_piece tree) ws (λ x. let n = length-text (text_at tree x) in let s = text-short tree x b in omega arith) in
-    omega arith
+  pub length-method : (tree : List ℕ) → x ≡ name_at tree (get_or ws i 0 / 256) → i < length (map (λ (w : ℕ). method_bytes (method_of tree w)) ws) →
+      3 + length x ≡ length (get_or (map (λ (w : ℕ). method_bytes (method_of tree w)) ws) i [])
+  unfolding joined
+  length-method tree e l =
+      let r : length ((be 1 (length x) ++ x) ++ joined (be 2 (get_or ws i 0 % 256) ∷ [])) ≡ 3 + length x = simp (length-append, length-be) (omega arith) in
+      sym (ap length (method-pieces tree e l) ∙ r)

@@ -1,4 +1,4 @@
--- Lists of words as pieces of bytes: their count, then a piece for each word, or for each pair of words; and how long they are.
+-- Lists as pieces of bytes: their count, then each element's; and how long they are.
 use mathlib.Core.Path.{◌≡◌, refl, sym, ap, ap₂, ◌∙◌, subst}
 use mathlib.Core.List.{List, [], ◌∷◌, ◌++◌, map}
 use Prim.Native.Nat.{ℕ, ◌+◌, ◌*◌, ◌≤◌, ◌<◌}
@@ -9,72 +9,71 @@ use lib.ListN.{length, get_or, drop, length-append, length-map, drop_of_length-l
 use lib.Seq.{drop-cons}
 use Rattle.definitions.specs.Bytes.{be, concat, list_bytes}
 use Rattle.definitions.proofs.BytesWritten.{length-be}
+use Rattle.module.specs.Sections.{counted}
 use Rattle.writing.proofs.Begun.{joined}
 
--- ---- a piece for each word, from the i-th on
+-- ---- the elements of a list, from the i-th on
 
-unfoldable pub pieces : (ℕ → List ℕ) → ℕ → List ℕ → List (List ℕ)
-pieces h i ws = map h (drop i ws)
+module _ (ps : List (List ℕ)) where
+  pub counted-pieces : counted ps ≡ be 2 (length ps) ++ joined ps
+  unfolding counted list_bytes concat joined
+  counted-pieces = ap (λ (z : List ℕ). be 2 (length ps) ++ z) (go ps)
+    where
+      go : (qs : List (List ℕ)) → concat (λ (p : List ℕ). p) qs ≡ joined qs
+      go [] = refl
+      go (q ∷ qs) = ap (λ (z : List ℕ). q ++ z) (go qs)
 
-pub pieces-next : (h : ℕ → List ℕ) (i : ℕ) (ws : List ℕ) → i < length ws → pieces h i ws ≡ h (get_or ws i 0) ∷ pieces h (i + 1) ws
-unfolding pieces
-pieces-next h i ws l = ap (map h) (drop-cons ws i 0 l) ∙ ap (λ (n : ℕ). h (get_or ws i 0) ∷ map h (drop n ws)) (sym (add-one i))
+  pub counted-two : 2 ≤ length (counted ps)
+  counted-two = let e = ap length counted-pieces ∙ length-append (be 2 (length ps)) (joined ps) in let l = length-be 2 (length ps) in omega arith
 
-pub pieces_none : (h : ℕ → List ℕ) (i : ℕ) (ws : List ℕ) → length ws ≤ i → pieces h i ws ≡ []
-unfolding pieces
-pieces_none h i ws l = ap (map h) (drop_of_length-le ws l)
+  -- with the count that the code has found
+  pub counted-first : {n : ℕ} → n ≡ length ps → counted ps ≡ be 2 n ++ joined ps
+  counted-first e = counted-pieces ∙ ap (λ (n : ℕ). be 2 n ++ joined ps) (sym e)
+
+  module _ (i : ℕ) where
+    pub elements_next : i < length ps → drop i ps ≡ get_or ps i [] ∷ drop (i + 1) ps
+    elements_next h = drop-cons ps i [] h ∙ ap (λ (n : ℕ). get_or ps i [] ∷ drop n ps) (sym (add-one i))
+
+    pub elements-none : length ps ≤ i → drop i ps ≡ []
+    elements-none h = drop_of_length-le ps h
+
+-- a list of what is written by f
+pub counted-map : {A : Type 0} (f : A → List ℕ) (xs : List A) → list_bytes 2 f xs ≡ counted (map f xs)
+unfolding counted list_bytes concat
+counted-map {A} f xs = ap₂ (λ (n : ℕ) (z : List ℕ). be 2 n ++ z) (sym (length-map xs f)) (go xs)
+  where
+    go : (ys : List A) → concat f ys ≡ concat (λ (p : List ℕ). p) (map f ys)
+    go [] = refl
+    go (y ∷ ys) = ap (λ (z : List ℕ). f y ++ z) (go ys)
 
 -- a list of what words stand for
-pub listed : {A : Type 0} (w : ℕ) (f : A → List ℕ) (g : ℕ → A) (ws : List ℕ) → list_bytes w f (map g ws) ≡ be w (length ws) ++ joined (pieces (λ (x : ℕ). f (g x)) 0 ws)
-unfolding list_bytes pieces concat joined
-listed {A} w f g ws = ap₂ (λ (n : ℕ) (z : List ℕ). be w n ++ z) (length-map ws g) (go ws)
+pub counted-words : {A : Type 0} (f : A → List ℕ) (g : ℕ → A) (ws : List ℕ) → list_bytes 2 f (map g ws) ≡ counted (map (λ (w : ℕ). f (g w)) ws)
+counted-words f g ws = counted-map f (map g ws) ∙ ap counted (go ws)
   where
-    go : (ws : List ℕ) → concat f (map g ws) ≡ joined (map (λ (x : ℕ). f (g x)) ws)
+    go : (vs : List ℕ) → map f (map g vs) ≡ map (λ (w : ℕ). f (g w)) vs
     go [] = refl
-    go (x ∷ ws) = ap (λ (z : List ℕ). f (g x) ++ z) (go ws)
+    go (v ∷ vs) = ap (λ (z : List (List ℕ)). f (g v) ∷ z) (go vs)
 
--- at most k bytes a piece
-pub pieces_room : (k : ℕ) (h : ℕ → List ℕ) (ws : List ℕ) → ((x : ℕ) → length (h x) ≤ k) → length (joined (pieces h 0 ws)) ≤ k * length ws
-unfolding pieces joined
-pieces_room k h [] b = omega arith
-pieces_room k h (x ∷ ws) b = let r = pieces_room k h ws b in let l = length-append (h x) (joined (map h ws)) in let m = mul-suc k (length ws) in omega (arith, b x)
-
--- ---- a piece for each pair of words
-
-unfoldable pub pairs : (ℕ → ℕ → List ℕ) → List ℕ → List ℕ → List (List ℕ)
-pairs h [] ks = []
-pairs h (x ∷ xs) [] = []
-pairs h (x ∷ xs) (k ∷ ks) = h x k ∷ pairs h xs ks
-
-unfoldable pub pairs_from : (ℕ → ℕ → List ℕ) → ℕ → List ℕ → List ℕ → List (List ℕ)
-pairs_from h i xs ks = pairs h (drop i xs) (drop i ks)
-
-pub pairs_next : (h : ℕ → ℕ → List ℕ) (i : ℕ) (xs ks : List ℕ) → i < length xs → i < length ks → pairs_from h i xs ks ≡ h (get_or xs i 0) (get_or ks i 0) ∷ pairs_from h (i + 1) xs ks
-unfolding pairs_from pairs
-pairs_next h i xs ks l m =
-    ap₂ (λ (a b : List ℕ). pairs h a b) (drop-cons xs i 0 l) (drop-cons ks i 0 m) ∙ ap (λ (n : ℕ). h (get_or xs i 0) (get_or ks i 0) ∷ pairs h (drop n xs) (drop n ks)) (sym (add-one i))
-
-pub pairs-none : (h : ℕ → ℕ → List ℕ) (i : ℕ) (xs ks : List ℕ) → length xs ≤ i → pairs_from h i xs ks ≡ []
-unfolding pairs_from pairs
-pairs-none h i xs ks l = ap (λ (a : List ℕ). pairs h a (drop i ks)) (drop_of_length-le xs l)
-
-pub pairs-room : (k : ℕ) (h : ℕ → ℕ → List ℕ) (xs ks : List ℕ) → ((x y : ℕ) → length (h x y) ≤ k) → length (joined (pairs_from h 0 xs ks)) ≤ k * length xs
-unfolding pairs_from pairs joined
-pairs-room k h [] ks b = omega arith
-pairs-room k h (x ∷ xs) [] b = omega arith
-pairs-room k h (x ∷ xs) (y ∷ ks) b = let r = pairs-room k h xs ks b in let l = length-append (h x y) (joined (pairs h xs ks)) in let m = mul-suc k (length xs) in omega (arith, b x y)
+-- at most k bytes an element
+pub counted-room : (k : ℕ) (h : ℕ → List ℕ) (ws : List ℕ) → ((w : ℕ) → length (h w) ≤ k) → length (counted (map h ws)) ≤ 2 + k * length ws
+unfolding joined
+counted-room k h ws b =
+    let e = ap length (counted-pieces (map h ws)) ∙ length-append (be 2 (length (map h ws))) (joined (map h ws)) in
+    let l = length-be 2 (length (map h ws)) in
+    let r = go ws in
+    omega arith
+  where
+    go : (vs : List ℕ) → length (joined (map h vs)) ≤ k * length vs
+    go [] = omega arith
+    go (v ∷ vs) = let r = go vs in let l = length-append (h v) (joined (map h vs)) in let m = mul-suc k (length vs) in omega (arith, b v)
 
 -- ---- bytes s of which all but some pieces are measured
 
 pub record Measured (s : List ℕ) (size : ℕ) (ps : List (List ℕ)) : Type 0 where
   pub left : length s ≡ size + length (joined ps)
 
-pub measured-first : {s : List ℕ} {ps : List (List ℕ)} {n : ℕ} (p : List ℕ) → s ≡ p ++ joined ps → n ≡ length p → Measured s n ps
-measured-first {ps = ps} p e k = record { left = ap length e ∙ length-append p (joined ps) ∙ ap (λ (n : ℕ). n + length (joined ps)) (sym k) }
-
--- the count of a list, in two bytes
-pub measured-count : {s : List ℕ} {ps : List (List ℕ)} (n : ℕ) → s ≡ be 2 n ++ joined ps → Measured s 2 ps
-measured-count n e = measured-first (be 2 n) e (sym (length-be 2 n))
+pub measured-count : (ps : List (List ℕ)) → Measured (counted ps) 2 ps
+measured-count ps = record { left = ap length (counted-pieces ps) ∙ length-append (be 2 (length ps)) (joined ps) ∙ ap (λ (n : ℕ). n + length (joined ps)) (length-be 2 (length ps)) }
 
 pub measured-as : {s : List ℕ} {size : ℕ} {ps qs : List (List ℕ)} → Measured s size ps → ps ≡ qs → Measured s size qs
 measured-as {s} {size} m e = subst (λ (r : List (List ℕ)). Measured s size r) e m

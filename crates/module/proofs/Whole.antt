@@ -1,7 +1,7 @@
 -- The sections of the areas as the module's bytes.
-use mathlib.Core.Path.{◌≡◌, refl, sym, ap, ap₂, ◌∙◌}
-use mathlib.Core.List.{List, [], ◌∷◌, ◌++◌, append-nil, append_assoc}
-use Prim.Native.Nat.{ℕ, suc, ◌+◌, ◌*◌, ◌-◌, ◌≤◌, ◌<◌, ◌^◌}
+use mathlib.Core.Path.{◌≡◌, sym, ap, ap₂, ◌∙◌}
+use mathlib.Core.List.{List, [], ◌∷◌, ◌++◌, map, append-nil, append_assoc}
+use Prim.Native.Nat.{ℕ, suc, ◌+◌, ◌-◌, ◌≤◌}
 use native.Mathlib.Omega.{arith}
 use lib.ListN.{length, take, drop, length-append, length-drop}
 use lib.Seq.{take_all}
@@ -11,12 +11,12 @@ use Rattle.definitions.proofs.BytesWritten.{length-be}
 use Rattle.state.specs.Words.{region}
 use Rattle.state.specs.State.{strings_from, heads_from, codes_from, class_names_from, class_methods_from, methods_from, constants_from, done_from, tables_of, Sound}
 use Rattle.state.specs.declared.Counts.{Counts}
-use Rattle.state.specs.Answered.{Limits}
-use Rattle.state.proofs.Regions.{region-length}
-use Rattle.module.specs.Sections.{symbol_bytes, string_bytes, functions_bytes, classes_bytes, constant_bytes, texts_bytes, bodies_bytes, Roomy}
+use Rattle.state.specs.declared.Limits.{Limits}
+use Rattle.module.specs.Sections.{counted, symbol_bytes, string_bytes, functions_bytes, classes_bytes, constant_bytes, texts_bytes, bodies_bytes, Roomy}
 use Rattle.writing.proofs.Begun.{joined}
-use Rattle.module.proofs.Lengths.{Small, symbols-room, strings-room}
-use Rattle.module.proofs.CodeLengths.{region-short, functions-room, classes-room, length-constants}
+use Rattle.module.proofs.Lengths.{Small}
+use Rattle.module.proofs.CodeLengths.{symbol_piece, string_piece, function_elements, class_elements, region-short, symbols-room}
+use Rattle.module.proofs.CodeLengths.{strings-room, functions-room, classes-room, length-constants, symbols-are, strings-are, functions-are, classes-are, constants-are}
 
 -- sound slices have what the writer asks
 pub sound-roomy : {tree made code tables : List ℕ} {c : Counts} {l : Limits} → Sound tree made code tables c l → Roomy code tables c
@@ -30,72 +30,69 @@ sound-roomy s = record {
   constants = omega (arith, s.limited);
 }
 
--- the words that the code has found are few
-pub few : {ws : List ℕ} {n : ℕ} (a k : ℕ) (xs : List ℕ) → ws ≡ region a n xs → n ≤ k → length ws ≤ k
-few {n = n} a k xs e h = let l = ap length e in let s = region-short a n xs in omega arith
+-- ---- symbols and strings, by the lists that the code has made
 
--- as many in two tables
-pub alike : {ws vs : List ℕ} (n a b : ℕ) (xs : List ℕ) → ws ≡ region a n xs → vs ≡ region b n xs → a + n ≤ length xs → b + n ≤ length xs → length ws ≡ length vs
-alike n a b xs e f h k = ap length e ∙ region-length a n xs h ∙ sym (region-length b n xs k) ∙ sym (ap length f)
-
--- ---- symbols and strings
-
-module _ (tree made tables : List ℕ) (c : Counts) {sy st : List ℕ} (e : sy ≡ region 0 c.symbols tables) (f : st ≡ region strings_from c.strings tables) where
-  pub texts-are : symbol_bytes tree made sy ++ string_bytes tree st ≡ texts_bytes tree made tables c
+module _ (tree made tables : List ℕ) (c : Counts) {t m es u fs : List ℕ}
+    (a : t ≡ tree) (b : m ≡ made) (d : es ≡ region 0 c.symbols tables) (e : u ≡ tree) (f : fs ≡ region strings_from c.strings tables) where
+  texts-are : counted (map (symbol_piece t m) es) ++ counted (map (string_piece u) fs) ≡ texts_bytes tree made tables c
   unfolding texts_bytes
-  texts-are = ap₂ (λ (x y : List ℕ). symbol_bytes tree made x ++ string_bytes tree y) e f
+  texts-are = ap₂ (λ (x y : List ℕ). x ++ y) (symbols-are tree (region 0 c.symbols tables) a d made b) (strings-are tree (region strings_from c.strings tables) e f)
 
-  pub texts-pieces : texts_bytes tree made tables c ≡ symbol_bytes tree made sy ++ joined (string_bytes tree st ∷ [])
+  pub texts-pieces : texts_bytes tree made tables c ≡ counted (map (symbol_piece t m) es) ++ joined (counted (map (string_piece u) fs) ∷ [])
   unfolding joined
-  texts-pieces = sym texts-are ∙ ap (λ (z : List ℕ). symbol_bytes tree made sy ++ z) (sym (append-nil (string_bytes tree st)))
+  texts-pieces = sym texts-are ∙ ap (λ (z : List ℕ). counted (map (symbol_piece t m) es) ++ z) (sym (append-nil (counted (map (string_piece u) fs))))
 
-  pub length-texts : length (symbol_bytes tree made sy) + length (string_bytes tree st) ≡ length (texts_bytes tree made tables c)
-  length-texts = sym (length-append (symbol_bytes tree made sy) (string_bytes tree st)) ∙ ap length texts-are
+  pub length-texts : length (counted (map (symbol_piece t m) es)) + length (counted (map (string_piece u) fs)) ≡ length (texts_bytes tree made tables c)
+  length-texts = sym (length-append (counted (map (symbol_piece t m) es)) (counted (map (string_piece u) fs))) ∙ ap length texts-are
 
-  pub texts-room : Small tree → Small made → c.symbols ≤ 1024 → c.strings ≤ 512 → length (symbol_bytes tree made sy) + length (string_bytes tree st) < 2 ^ 30
-  texts-room b d h k = let x = symbols-room tree made sy b d in let y = strings-room tree st b in let m = few 0 1024 tables e h in let n = few strings_from 512 tables f k in omega arith
+  -- how long they can be, and how long they are together
+  pub texts-fit : Small t → Small m → Small u → c.symbols ≤ 1024 → c.strings ≤ 512 →
+      (length (counted (map (symbol_piece t m) es)) ≤ 262146) × (length (counted (map (string_piece u) fs)) ≤ 33554946)
+      × (length (counted (map (symbol_piece t m) es)) + length (counted (map (string_piece u) fs)) ≡ length (texts_bytes tree made tables c))
+  texts-fit g h k l n =
+      let r = symbols-room t m es g h in let o = region-short 0 c.symbols tables in let v = ap length d in
+      let q = strings-room u fs k in let p = region-short strings_from c.strings tables in let w = ap length f in
+      (omega arith, omega arith, length-texts)
 
--- ---- functions, classes and constants
+-- ---- functions, classes and constants, likewise
 
 -- the finished words, as they are lent
 pub finished-are : (code : List ℕ) → take (length code - 8192) (drop 8192 code) ≡ drop done_from code
 finished-are code = take_all (length code - 8192) (drop 8192 code) (let l = length-drop 8192 code in omega arith)
 
-module _ (tree code tables : List ℕ) (c : Counts) {fin hs ks ms xs ps : List ℕ} (d : fin ≡ drop done_from code) (e : hs ≡ region heads_from c.functions tables) (f : ks ≡ region codes_from c.functions tables)
-    (g : ms ≡ region methods_from 256 tables) (h : xs ≡ region class_names_from c.classes tables) (i : ps ≡ region class_methods_from c.classes tables) where
-  pub bodies-are : {cs : List ℕ} → cs ≡ region constants_from c.constants tables →
-      functions_bytes tree fin hs ks ++ (classes_bytes tree ms xs ps ++ constant_bytes cs) ≡ bodies_bytes tree code tables c
+module _ (tree code tables : List ℕ) (c : Counts) {t fin hs ks u ms xs ps cs : List ℕ}
+    (a : t ≡ tree) (b : fin ≡ drop done_from code) (d : hs ≡ region heads_from c.functions tables) (e : ks ≡ region codes_from c.functions tables)
+    (f : u ≡ tree) (g : ms ≡ region methods_from 256 tables) (h : xs ≡ region class_names_from c.classes tables) (i : ps ≡ region class_methods_from c.classes tables)
+    (j : cs ≡ region constants_from c.constants tables) where
+  bodies-are : counted (function_elements t fin hs ks) ++ (counted (class_elements u ms xs ps) ++ counted (map (be 2) cs)) ≡ bodies_bytes tree code tables c
   unfolding bodies_bytes
-  bodies-are j z = functions_bytes tree (d z) (e z) (f z) ++ (classes_bytes tree (g z) (h z) (i z) ++ constant_bytes (j z))
+  bodies-are =
+      ap₂ (λ (x y : List ℕ). x ++ y) (functions-are tree (drop done_from code) (region heads_from c.functions tables) (region codes_from c.functions tables) a b d e)
+      (ap₂ (λ (x y : List ℕ). x ++ y)
+      (classes-are tree (region methods_from 256 tables) (region class_names_from c.classes tables) (region class_methods_from c.classes tables) f g h i)
+      (constants-are (region constants_from c.constants tables) j))
 
-  pub bodies-pieces : {cs : List ℕ} → cs ≡ region constants_from c.constants tables →
-      bodies_bytes tree code tables c ≡ functions_bytes tree fin hs ks ++ joined (classes_bytes tree ms xs ps ∷ constant_bytes cs ∷ [])
+  pub bodies-pieces : bodies_bytes tree code tables c ≡ counted (function_elements t fin hs ks) ++ joined (counted (class_elements u ms xs ps) ∷ counted (map (be 2) cs) ∷ [])
   unfolding joined
-  bodies-pieces {cs} j = sym (bodies-are j) ∙ ap (λ (z : List ℕ). functions_bytes tree fin hs ks ++ (classes_bytes tree ms xs ps ++ z)) (sym (append-nil (constant_bytes cs)))
+  bodies-pieces =
+      sym bodies-are
+      ∙ ap (λ (z : List ℕ). counted (function_elements t fin hs ks) ++ (counted (class_elements u ms xs ps) ++ z)) (sym (append-nil (counted (map (be 2) cs))))
 
-  pub length-bodies : Roomy code tables c → length (functions_bytes tree fin hs ks) + length (classes_bytes tree ms xs ps) + 2 + 2 * c.constants ≡ length (bodies_bytes tree code tables c)
-  length-bodies r =
-      let cs = region constants_from c.constants tables in
-      let a = ap length (bodies-are {cs = cs} refl) in
-      let b = length-append (functions_bytes tree fin hs ks) (classes_bytes tree ms xs ps ++ constant_bytes cs) in
-      let k = length-append (classes_bytes tree ms xs ps) (constant_bytes cs) in
-      let l = length-constants cs in
-      let m = region-length constants_from c.constants tables (omega (arith, r.tables-room, r.constants)) in
+  pub length-bodies : length (counted (function_elements t fin hs ks)) + length (counted (class_elements u ms xs ps)) + length (counted (map (be 2) cs)) ≡ length (bodies_bytes tree code tables c)
+  length-bodies =
+      let k = ap length bodies-are in
+      let l = length-append (counted (function_elements t fin hs ks)) (counted (class_elements u ms xs ps) ++ counted (map (be 2) cs)) in
+      let m = length-append (counted (class_elements u ms xs ps)) (counted (map (be 2) cs)) in
       omega arith
 
-  pub same-functions : Roomy code tables c → length hs ≡ length ks
-  same-functions r = alike c.functions heads_from codes_from tables e f (omega (arith, r.tables-room, r.functions)) (omega (arith, r.tables-room, r.functions))
-
-  pub same-classes : Roomy code tables c → length xs ≡ length ps
-  same-classes r = alike c.classes class_names_from class_methods_from tables h i (omega (arith, r.tables-room, r.classes)) (omega (arith, r.tables-room, r.classes))
-
-  pub bodies-room : Small tree → Roomy code tables c → length (bodies_bytes tree code tables c) < 2 ^ 31
-  bodies-room b r =
-      let x = functions-room tree fin hs ks (same-functions r) in
-      let y = classes-room tree ms xs ps b (same-classes r) in
-      let m = few heads_from 256 tables e r.functions in
-      let n = few class_names_from 64 tables h r.classes in
-      omega (arith, r.constants, length-bodies r)
+  pub bodies-fit : Small u → Roomy code tables c →
+      (length (counted (function_elements t fin hs ks)) ≤ 167771394) × (length (counted (class_elements u ms xs ps)) ≤ 1082130434) × (length (counted (map (be 2) cs)) ≤ 130)
+      × (length (counted (function_elements t fin hs ks)) + length (counted (class_elements u ms xs ps)) + length (counted (map (be 2) cs)) ≡ length (bodies_bytes tree code tables c))
+  bodies-fit s r =
+      let k = functions-room t fin hs ks in let l = region-short heads_from c.functions tables in let m = ap length d in
+      let n = classes-room u ms s xs ps in let o = region-short class_names_from c.classes tables in let p = ap length h in
+      let q = length-constants cs in let v = region-short constants_from c.constants tables in let w = ap length j in
+      (omega (arith, r.functions), omega (arith, r.classes), omega (arith, r.constants), length-bodies)
 
 -- ---- the module
 

@@ -1,12 +1,15 @@
 -- The bytes of each section of the module, from the words that the lowering keeps.
 use Rattle.std.specs.Prelude.{ℕ, ◌≤◌, List, ◌++◌, map, length, drop}
 use Rattle.definitions.specs.Bytes.{be, list_bytes}
-use Rattle.definitions.specs.Instruction.{encode}
-use Rattle.definitions.specs.Module.{name_bytes, text_bytes, function_bytes, method_bytes, class_bytes}
-use Rattle.state.specs.Words.{region, text_at, instrs_of}
-use Rattle.state.specs.State.{spelled, functions_of, method_of, classes_of}
+use Rattle.definitions.specs.Module.{name_bytes, text_bytes, function_bytes, class_bytes}
+use Rattle.state.specs.Words.{region, text_at}
+use Rattle.state.specs.State.{spelled, functions_of, classes_of}
 use Rattle.state.specs.State.{strings_from, heads_from, codes_from, class_names_from, class_methods_from, methods_from, constants_from, done_from}
 use Rattle.state.specs.declared.Counts.{Counts}
+
+-- a list whose elements have these bytes: their count in two bytes, then each one's
+unfoldable pub counted : List (List ℕ) → List ℕ
+counted ps = list_bytes 2 (λ (p : List ℕ). p) ps
 
 -- symbols and strings, by their entries
 unfoldable pub symbol_bytes : List ℕ → List ℕ → List ℕ → List ℕ
@@ -15,18 +18,11 @@ symbol_bytes tree made ws = list_bytes 2 name_bytes (map (spelled tree made) ws)
 unfoldable pub string_bytes : List ℕ → List ℕ → List ℕ
 string_bytes tree ws = list_bytes 2 text_bytes (map (text_at tree) ws)
 
--- a function's instructions, by their words
-unfoldable pub code_bytes : List ℕ → List ℕ → List ℕ
-code_bytes tree ws = list_bytes 2 encode (instrs_of tree ws)
-
 -- functions, by their heads and the places of their code among the finished words
 unfoldable pub functions_bytes : List ℕ → List ℕ → List ℕ → List ℕ → List ℕ
 functions_bytes tree finished hs ks = list_bytes 2 function_bytes (functions_of tree finished hs ks)
 
--- a class's methods, by their words; classes, by their names and the places of their methods
-unfoldable pub methods_bytes : List ℕ → List ℕ → List ℕ
-methods_bytes tree ws = list_bytes 2 method_bytes (map (method_of tree) ws)
-
+-- classes, by their names and the places of their methods
 unfoldable pub classes_bytes : List ℕ → List ℕ → List ℕ → List ℕ → List ℕ
 classes_bytes tree methods xs ks = list_bytes 2 class_bytes (classes_of tree methods xs ks)
 

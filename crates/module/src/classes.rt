@@ -1,116 +1,105 @@
 // Classes with their methods, and the constants.
-ghost use Rattle.std.specs.Prelude.{◌≡◌, ◌≤◌, ◌<◌, length};
+ghost use Rattle.std.specs.Prelude.{ℕ, ◌≡◌, ◌/◌, ◌%◌, ◌<◌, length, map, get_or};
+ghost use Rattle.definitions.specs.Bytes.{be};
 ghost use Rattle.definitions.specs.Module.{method_bytes, class_bytes};
-ghost use Rattle.state.specs.State.{method_of, class_of};
-ghost use Rattle.writing.specs.Wrote.{Wrote};
-ghost use Rattle.module.specs.Sections.{methods_bytes, classes_bytes, constant_bytes};
+ghost use Rattle.state.specs.Words.{region};
+ghost use Rattle.state.specs.State.{method_of, classes_of};
 
-use crate::functions::words_part;
+use crate::functions::placed;
+use crate::list::{Listed, list_size, write_list};
 use crate::numbers::{write_counted, write_number};
 use names::spell::name_part;
-use numerals::places::UPPER;
 
-// The bytes of some methods and their count.
-fn methods_size(tree: &[u8], words: &[u32]) -> usize
-    requires { length words.now < 65536 }
-    ensures { result ≡ length (methods_bytes tree.now words.now) }
-{
-    let mut size = 2usize;
-    let mut i = 0usize;
-    while i < words.len() {
-        let name = name_part(tree, (words[i] / 256) as usize);
-        size += 3 + name.len();
-        i += 1;
+// Methods, by their words: the place of the name and the function's number.
+#[derive(Clone, Copy)]
+pub(crate) struct Methods<'a> {
+    pub tree: &'a [u8],
+    pub words: &'a [u32],
+    ghost tree_bytes: { (i : ℕ) → get_or tree.now i 0 < 256 },
+}
+
+impl Listed for Methods<'_> {
+    ghost elements = { λ s. map (λ w. method_bytes (method_of s.tree.now w)) s.words.now };
+
+    fn count(&self) -> usize {
+        self.words.len()
     }
-    size
-}
 
-// A method: its name and its function's number.
-fn write_method(tree: &[u8], w: u32, out: &mut [u8]) -> usize
-    requires { length (method_bytes (method_of tree.now w)) ≤ length out.old }
-    ensures { Wrote result (method_bytes (method_of tree.now w)) out.old out.new }
-{
-    let name = name_part(tree, (w / 256) as usize);
-    let at = write_counted(1, name, out);
-    at + write_number(2, (w % 256) as u64, &mut out[at..])
-}
-
-fn write_methods(tree: &[u8], words: &[u32], out: &mut [u8]) -> usize
-    requires { (length words.now < 65536) × (length (methods_bytes tree.now words.now) ≤ length out.old) }
-    ensures { Wrote result (methods_bytes tree.now words.now) out.old out.new }
-{
-    let mut at = write_number(2, words.len() as u64, out);
-    let mut i = 0usize;
-    while i < words.len() {
-        at += write_method(tree, words[i], &mut out[at..]);
-        i += 1;
+    fn size_at(&self, i: usize) -> usize {
+        3 + name_part(self.tree, (self.words[i] / 256) as usize).len()
     }
-    at
-}
 
-// The bytes of a class, by the places of its name and of its methods.
-fn class_size(tree: &[u8], methods: &[u32], x: u32, place: u32) -> usize
-    ensures { (result ≡ length (class_bytes (class_of tree.now methods.now x place))) × (result < 33554432) }
-{
-    let name = name_part(tree, x as usize);
-    let own = words_part(methods, (place / UPPER) as usize, (place % UPPER) as usize);
-    1 + name.len() + methods_size(tree, own)
-}
-
-// A class: its name and its methods.
-fn write_class(tree: &[u8], methods: &[u32], x: u32, place: u32, out: &mut [u8]) -> usize
-    requires { length (class_bytes (class_of tree.now methods.now x place)) ≤ length out.old }
-    ensures { Wrote result (class_bytes (class_of tree.now methods.now x place)) out.old out.new }
-{
-    let name = name_part(tree, x as usize);
-    let own = words_part(methods, (place / UPPER) as usize, (place % UPPER) as usize);
-    let at = write_counted(1, name, out);
-    at + write_methods(tree, own, &mut out[at..])
-}
-
-// The bytes of the classes.
-pub(crate) fn classes_size(tree: &[u8], methods: &[u32], names: &[u32], places: &[u32]) -> usize
-    requires { (length names.now < 65536) × (length names.now ≡ length places.now) }
-    ensures { result ≡ length (classes_bytes tree.now methods.now names.now places.now) }
-{
-    let mut size = 2usize;
-    let mut i = 0usize;
-    while i < names.len() {
-        size += class_size(tree, methods, names[i], places[i]);
-        i += 1;
+    fn write_at(&self, i: usize, out: &mut [u8]) -> usize {
+        let word = self.words[i];
+        let name = name_part(self.tree, (word / 256) as usize);
+        let at = write_counted(1, name, out);
+        at + write_number(2, (word % 256) as u64, &mut out[at..])
     }
-    size
 }
 
-pub(crate) fn write_classes(
-    tree: &[u8],
-    methods: &[u32],
-    names: &[u32],
-    places: &[u32],
-    out: &mut [u8],
-) -> usize
-    requires { (length names.now < 65536) × (length names.now ≡ length places.now) × (length (classes_bytes tree.now methods.now names.now places.now) ≤ length out.old) }
-    ensures { Wrote result (classes_bytes tree.now methods.now names.now places.now) out.old out.new }
-{
-    let mut at = write_number(2, names.len() as u64, out);
-    let mut i = 0usize;
-    while i < names.len() {
-        at += write_class(tree, methods, names[i], places[i], &mut out[at..]);
-        i += 1;
+// Classes, by the places of their names and of their methods.
+#[derive(Clone, Copy)]
+pub(crate) struct Classes<'a> {
+    pub tree: &'a [u8],
+    pub methods: &'a [u32],
+    pub names: &'a [u32],
+    pub places: &'a [u32],
+    ghost tree_bytes: { (i : ℕ) → get_or tree.now i 0 < 256 },
+}
+
+impl<'a> Classes<'a> {
+    // The methods of one class.
+    fn methods_at(&self, i: usize) -> Methods<'a>
+        requires { i < length self.now.places.now }
+        ensures tree { result.tree.now ≡ self.now.tree.now }
+        ensures words { let k = get_or self.now.places.now i 0 in result.words.now ≡ region (k / 65536) (k % 65536) self.now.methods.now }
+    {
+        Methods {
+            tree: self.tree,
+            words: placed(self.methods, self.places[i]),
+        }
     }
-    at
+}
+
+impl Listed for Classes<'_> {
+    ghost elements = { λ s. map class_bytes (classes_of s.tree.now s.methods.now s.names.now s.places.now) };
+
+    fn count(&self) -> usize {
+        self.names.len().min(self.places.len())
+    }
+
+    fn size_at(&self, i: usize) -> usize {
+        let name = name_part(self.tree, self.names[i] as usize);
+        let methods = self.methods_at(i);
+        1 + name.len() + list_size(&methods)
+    }
+
+    fn write_at(&self, i: usize, out: &mut [u8]) -> usize {
+        let name = name_part(self.tree, self.names[i] as usize);
+        let methods = self.methods_at(i);
+        let at = write_counted(1, name, out);
+        at + write_list(&methods, &mut out[at..])
+    }
 }
 
 // The constants: the class number of each.
-pub(crate) fn write_constants(entries: &[u32], out: &mut [u8]) -> usize
-    requires { (length entries.now < 65536) × (length (constant_bytes entries.now) ≤ length out.old) }
-    ensures { Wrote result (constant_bytes entries.now) out.old out.new }
-{
-    let mut at = write_number(2, entries.len() as u64, out);
-    let mut i = 0usize;
-    while i < entries.len() {
-        at += write_number(2, entries[i] as u64, &mut out[at..]);
-        i += 1;
+#[derive(Clone, Copy)]
+pub(crate) struct Constants<'a> {
+    pub entries: &'a [u32],
+}
+
+impl Listed for Constants<'_> {
+    ghost elements = { λ s. map (be 2) s.entries.now };
+
+    fn count(&self) -> usize {
+        self.entries.len()
     }
-    at
+
+    fn size_at(&self, _i: usize) -> usize {
+        2
+    }
+
+    fn write_at(&self, i: usize, out: &mut [u8]) -> usize {
+        write_number(2, self.entries[i] as u64, out)
+    }
 }

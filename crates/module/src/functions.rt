@@ -1,16 +1,17 @@
 // Functions with their instructions.
-ghost use Rattle.std.specs.Prelude.{◌≡◌, List, ℕ, ◌+◌, ◌≤◌, ◌<◌, length};
+ghost use Rattle.std.specs.Prelude.{◌≡◌, ◌/◌, ◌%◌, ◌<◌, length, map, get_or};
+ghost use Rattle.definitions.specs.Instruction.{encode};
 ghost use Rattle.definitions.specs.Module.{function_bytes};
-ghost use Rattle.state.specs.Words.{region};
-ghost use Rattle.state.specs.State.{function_of};
-ghost use Rattle.writing.specs.Wrote.{Wrote};
-ghost use Rattle.module.specs.Sections.{code_bytes, functions_bytes};
+ghost use Rattle.state.specs.Words.{region, instr_of};
+ghost use Rattle.state.specs.State.{functions_of};
 
+use crate::list::{Listed, list_size, write_list};
 use crate::numbers::write_number;
 use crate::words::{instruction_size, write_instruction};
 use numerals::places::UPPER;
 
-// n words from `from` on, cut at the end.
+// n words from `from` on, cut at the end. names::spell::part is the same of bytes, and no one function serves both: it also says at which address
+// its bytes begin, which a function over any type cannot.
 pub fn words_part<'a>(words: &'a [u32], from: usize, n: usize) -> &'a [u32]
     ensures { result.now ≡ region from n words.now }
 {
@@ -24,82 +25,78 @@ pub fn words_part<'a>(words: &'a [u32], from: usize, n: usize) -> &'a [u32]
     &words[from..end]
 }
 
-// The bytes of some instructions and their count, whatever the tree.
-fn code_size(words: &[u32]) -> usize
-    requires { length words.now < 65536 }
-    ensures { (t : List ℕ) → result ≡ length (code_bytes t words.now) }
+// The words whose place and count one number has.
+pub(crate) fn placed<'a>(words: &'a [u32], place: u32) -> &'a [u32]
+    ensures { result.now ≡ region (place / 65536) (place % 65536) words.now }
 {
-    let mut size = 2usize;
-    let mut i = 0usize;
-    while i < words.len() {
-        size += instruction_size(words[i]);
-        i += 1;
+    words_part(words, (place / UPPER) as usize, (place % UPPER) as usize)
+}
+
+// Instructions, by their words.
+#[derive(Clone, Copy)]
+pub(crate) struct Code<'a> {
+    pub tree: &'a [u8],
+    pub words: &'a [u32],
+}
+
+impl Listed for Code<'_> {
+    ghost elements = { λ s. map (λ w. encode (instr_of s.tree.now w)) s.words.now };
+
+    fn count(&self) -> usize {
+        self.words.len()
     }
-    size
-}
 
-fn write_code(tree: &[u8], words: &[u32], out: &mut [u8]) -> usize
-    requires { (length words.now < 65536) × (length (code_bytes tree.now words.now) ≤ length out.old) }
-    ensures { Wrote result (code_bytes tree.now words.now) out.old out.new }
-{
-    let mut at = write_number(2, words.len() as u64, out);
-    let mut i = 0usize;
-    while i < words.len() {
-        at += write_instruction(tree, words[i], &mut out[at..]);
-        i += 1;
+    fn size_at(&self, i: usize) -> usize {
+        instruction_size(self.words[i])
     }
-    at
-}
 
-// The bytes of a function whose code stands at a place among the finished words, whatever its head and the tree.
-fn function_size(finished: &[u32], place: u32) -> usize
-    ensures { ((t : List ℕ) (h : ℕ) → result ≡ length (function_bytes (function_of t finished.now h place))) × (result < 1048576) }
-{
-    let code = words_part(finished, (place / UPPER) as usize, (place % UPPER) as usize);
-    5 + code_size(code)
-}
-
-// A function: its name's symbol, arity, slots, count of instructions, instructions.
-fn write_function(tree: &[u8], finished: &[u32], head: u32, place: u32, out: &mut [u8]) -> usize
-    requires { length (function_bytes (function_of tree.now finished.now head place)) ≤ length out.old }
-    ensures { Wrote result (function_bytes (function_of tree.now finished.now head place)) out.old out.new }
-{
-    let code = words_part(finished, (place / UPPER) as usize, (place % UPPER) as usize);
-    let mut at = write_number(2, (head / UPPER) as u64, out);
-    at += write_number(1, (head / 256 % 256) as u64, &mut out[at..]);
-    at += write_number(2, (head % 256) as u64, &mut out[at..]);
-    at + write_code(tree, code, &mut out[at..])
-}
-
-// The bytes of the functions, by the places of their code.
-pub(crate) fn functions_size(finished: &[u32], places: &[u32]) -> usize
-    requires { length places.now < 65536 }
-    ensures { (t hs : List ℕ) → length hs ≡ length places.now → result ≡ length (functions_bytes t finished.now hs places.now) }
-{
-    let mut size = 2usize;
-    let mut i = 0usize;
-    while i < places.len() {
-        size += function_size(finished, places[i]);
-        i += 1;
+    fn write_at(&self, i: usize, out: &mut [u8]) -> usize {
+        write_instruction(self.tree, self.words[i], out)
     }
-    size
 }
 
-pub(crate) fn write_functions(
-    tree: &[u8],
-    finished: &[u32],
-    heads: &[u32],
-    places: &[u32],
-    out: &mut [u8],
-) -> usize
-    requires { (length heads.now < 65536) × (length heads.now ≡ length places.now) × (length (functions_bytes tree.now finished.now heads.now places.now) ≤ length out.old) }
-    ensures { Wrote result (functions_bytes tree.now finished.now heads.now places.now) out.old out.new }
-{
-    let mut at = write_number(2, heads.len() as u64, out);
-    let mut i = 0usize;
-    while i < heads.len() {
-        at += write_function(tree, finished, heads[i], places[i], &mut out[at..]);
-        i += 1;
+// Functions, by their heads and the places of their code among the finished words.
+#[derive(Clone, Copy)]
+pub(crate) struct Functions<'a> {
+    pub tree: &'a [u8],
+    pub finished: &'a [u32],
+    pub heads: &'a [u32],
+    pub places: &'a [u32],
+}
+
+impl<'a> Functions<'a> {
+    // The instructions of one function.
+    fn code_at(&self, i: usize) -> Code<'a>
+        requires { i < length self.now.places.now }
+        ensures tree { result.tree.now ≡ self.now.tree.now }
+        ensures words { let k = get_or self.now.places.now i 0 in result.words.now ≡ region (k / 65536) (k % 65536) self.now.finished.now }
+    {
+        Code {
+            tree: self.tree,
+            words: placed(self.finished, self.places[i]),
+        }
     }
-    at
+}
+
+impl Listed for Functions<'_> {
+    ghost elements = { λ s. map function_bytes (functions_of s.tree.now s.finished.now s.heads.now s.places.now) };
+
+    fn count(&self) -> usize {
+        self.heads.len().min(self.places.len())
+    }
+
+    // The name's symbol, arity, slots, and the instructions.
+    fn size_at(&self, i: usize) -> usize {
+        let code = self.code_at(i);
+        5 + list_size(&code)
+    }
+
+    fn write_at(&self, i: usize, out: &mut [u8]) -> usize {
+        let head = self.heads[i];
+        let code = self.code_at(i);
+        let mut at = write_number(2, (head / UPPER) as u64, out);
+        at += write_number(1, (head / 256 % 256) as u64, &mut out[at..]);
+        at += write_number(2, (head % 256) as u64, &mut out[at..]);
+        at + write_list(&code, &mut out[at..])
+    }
 }

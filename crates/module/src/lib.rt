@@ -3,6 +3,7 @@
 #![tactic(auto)]
 
 mod numbers; // numbers.rt: numbers of several bytes, bytes with their count
+mod list; // list.rt: lists of any elements
 pub mod words; // words.rt: instructions from their words
 mod symbols; // symbols.rt: symbols and strings
 mod functions; // functions.rt: functions with their instructions

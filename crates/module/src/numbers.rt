@@ -5,17 +5,15 @@ ghost use Rattle.writing.specs.Wrote.{Wrote};
 
 use writing::write_bytes;
 
-// The low w bytes of v, from the last to the first.
+// The low w bytes of v, from the last to the first; not by to_be_bytes, since w may be above 8.
 fn write_long(w: usize, v: u64, out: &mut [u8]) -> usize
     requires { w ≤ length out.old }
     ensures { Wrote result (be w v) out.old out.new }
 {
-    let mut i = w;
     let mut rest = v;
-    while 0 < i {
-        i -= 1;
+    for i in (0..w).rev() {
         out[i] = (rest % 256) as u8;
-        rest = rest / 256;
+        rest /= 256;
     }
     w
 }
@@ -25,19 +23,19 @@ pub(crate) fn write_number(w: usize, v: u64, out: &mut [u8]) -> usize
     requires { w ≤ length out.old }
     ensures { Wrote result (be w v) out.old out.new }
 {
-    if w == 0 {
-        return 0;
+    match w {
+        0 => 0,
+        1 => {
+            out[0] = (v % 256) as u8;
+            1
+        }
+        2 => {
+            out[0] = (v / 256 % 256) as u8;
+            out[1] = (v % 256) as u8;
+            2
+        }
+        _ => write_long(w, v, out),
     }
-    if w == 1 {
-        out[0] = (v % 256) as u8;
-        return 1;
-    }
-    if w == 2 {
-        out[0] = (v / 256 % 256) as u8;
-        out[1] = (v % 256) as u8;
-        return 2;
-    }
-    write_long(w, v, out)
 }
 
 // Some bytes after their count, which fits in w bytes: a name or a string.

@@ -1,65 +1,59 @@
-// Symbols and strings: a count, and each with its own count before it.
-ghost use Rattle.std.specs.Prelude.{◌≡◌, ◌≤◌, ◌<◌, length};
-ghost use Rattle.writing.specs.Wrote.{Wrote};
-ghost use Rattle.module.specs.Sections.{symbol_bytes, string_bytes};
+// Symbols and strings, each with its own count before it.
+ghost use Rattle.std.specs.Prelude.{ℕ, ◌<◌, map, get_or};
+ghost use Rattle.definitions.specs.Module.{name_bytes, text_bytes};
+ghost use Rattle.state.specs.Words.{text_at};
+ghost use Rattle.state.specs.State.{spelled};
 
-use crate::numbers::{write_counted, write_number};
+use crate::list::Listed;
+use crate::numbers::write_counted;
 use names::spell::{spelling, text_part};
 
-// The bytes of the symbols.
-pub fn symbols_size<'a>(tree: &'a [u8], made: &'a [u8], entries: &[u32]) -> usize
-    requires { length entries.now < 65536 }
-    ensures { result ≡ length (symbol_bytes tree.now made.now entries.now) }
-{
-    let mut size = 2usize;
-    let mut i = 0usize;
-    while i < entries.len() {
-        let name = spelling(tree, made, entries[i]);
-        size += 1 + name.len();
-        i += 1;
-    }
-    size
+// Symbols, by where each was first made.
+#[derive(Clone, Copy)]
+pub(crate) struct Symbols<'a> {
+    pub tree: &'a [u8],
+    pub made: &'a [u8],
+    pub entries: &'a [u32],
+    ghost tree_bytes: { (i : ℕ) → get_or tree.now i 0 < 256 },
+    ghost made_bytes: { (i : ℕ) → get_or made.now i 0 < 256 },
 }
 
-pub fn write_symbols<'a>(tree: &'a [u8], made: &'a [u8], entries: &[u32], out: &mut [u8]) -> usize
-    requires { (length entries.now < 65536) × (length (symbol_bytes tree.now made.now entries.now) ≤ length out.old) }
-    ensures { Wrote result (symbol_bytes tree.now made.now entries.now) out.old out.new }
-{
-    let mut at = write_number(2, entries.len() as u64, out);
-    let mut i = 0usize;
-    while i < entries.len() {
-        let name = spelling(tree, made, entries[i]);
-        at += write_counted(1, name, &mut out[at..]);
-        i += 1;
+impl Listed for Symbols<'_> {
+    ghost elements = { λ s. map (λ w. name_bytes (spelled s.tree.now s.made.now w)) s.entries.now };
+
+    fn count(&self) -> usize {
+        self.entries.len()
     }
-    at
+
+    fn size_at(&self, i: usize) -> usize {
+        1 + spelling(self.tree, self.made, self.entries[i]).len()
+    }
+
+    fn write_at(&self, i: usize, out: &mut [u8]) -> usize {
+        write_counted(1, spelling(self.tree, self.made, self.entries[i]), out)
+    }
 }
 
-// The bytes of the strings.
-pub(crate) fn strings_size(tree: &[u8], entries: &[u32]) -> usize
-    requires { length entries.now < 65536 }
-    ensures { result ≡ length (string_bytes tree.now entries.now) }
-{
-    let mut size = 2usize;
-    let mut i = 0usize;
-    while i < entries.len() {
-        let text = text_part(tree, entries[i] as usize);
-        size += 2 + text.len();
-        i += 1;
-    }
-    size
+// Strings, by their places in the tree.
+#[derive(Clone, Copy)]
+pub(crate) struct Strings<'a> {
+    pub tree: &'a [u8],
+    pub entries: &'a [u32],
+    ghost tree_bytes: { (i : ℕ) → get_or tree.now i 0 < 256 },
 }
 
-pub(crate) fn write_strings(tree: &[u8], entries: &[u32], out: &mut [u8]) -> usize
-    requires { (length entries.now < 65536) × (length (string_bytes tree.now entries.now) ≤ length out.old) }
-    ensures { Wrote result (string_bytes tree.now entries.now) out.old out.new }
-{
-    let mut at = write_number(2, entries.len() as u64, out);
-    let mut i = 0usize;
-    while i < entries.len() {
-        let text = text_part(tree, entries[i] as usize);
-        at += write_counted(2, text, &mut out[at..]);
-        i += 1;
+impl Listed for Strings<'_> {
+    ghost elements = { λ s. map (λ w. text_bytes (text_at s.tree.now w)) s.entries.now };
+
+    fn count(&self) -> usize {
+        self.entries.len()
     }
-    at
+
+    fn size_at(&self, i: usize) -> usize {
+        2 + text_part(self.tree, self.entries[i] as usize).len()
+    }
+
+    fn write_at(&self, i: usize, out: &mut [u8]) -> usize {
+        write_counted(2, text_part(self.tree, self.entries[i] as usize), out)
+    }
 }

@@ -10,7 +10,7 @@ ghost use Rattle.writing.specs.Wrote.{Wrote};
 use crate::numbers::write_number;
 use exprs::literals::{Literal, float_literal, int_literal, literal_bits};
 use names::spell::byte;
-use numerals::ops::{JUMP, JUMP_IF_TRUE, SMALL_INT};
+use numerals::ops::{CONST_I64, JUMP, JUMP_IF_TRUE, SMALL_INT};
 use numerals::places::{PLACED_END, UPPER, WORD_FIRST, WORD_OP};
 use widths::{first_width, second_width, whole_width};
 
@@ -18,11 +18,10 @@ use widths::{first_width, second_width, whole_width};
 fn opcode(w: u32) -> usize
     ensures { ((t : List ℕ) → result ≡ (instr_of t w).op) × (result < 256) }
 {
-    let op = w / WORD_OP;
-    if op == SMALL_INT {
-        return 0;
+    match w / WORD_OP {
+        SMALL_INT => CONST_I64 as usize,
+        op => op as usize,
     }
-    op as usize
 }
 
 // The big-endian number of eight bytes at `at`, 0 for those past the end.
@@ -30,13 +29,16 @@ fn eight_at(bytes: &[u8], at: usize) -> u64
     requires { at < 2 ^ 32 }
     ensures { result ≡ number_at 8 bytes.now at }
 {
-    let mut n = 0u64;
-    let mut i = 0usize;
-    while i < 8 {
-        n = n * 256 + byte(bytes, at + i) as u64;
-        i += 1;
-    }
-    n
+    u64::from_be_bytes([
+        byte(bytes, at),
+        byte(bytes, at + 1),
+        byte(bytes, at + 2),
+        byte(bytes, at + 3),
+        byte(bytes, at + 4),
+        byte(bytes, at + 5),
+        byte(bytes, at + 6),
+        byte(bytes, at + 7),
+    ])
 }
 
 // The literal whose eight bytes stand at the place that the word has: of the opcode 0 an integer, else a float.
@@ -45,9 +47,10 @@ fn literal_of(tree: &[u8], w: u32) -> Literal
 {
     let bits = eight_at(tree, (w / WORD_FIRST % UPPER) as usize);
     if w < WORD_OP {
-        return int_literal(bits);
+        int_literal(bits)
+    } else {
+        float_literal(bits)
     }
-    float_literal(bits)
 }
 
 // The bytes of that literal's value.
@@ -64,7 +67,7 @@ fn widened(a: u32) -> u32
     requires { a < 65536 }
     ensures { result ≡ Words.widened a }
 {
-    if a < 32768 { a } else { a + 4294901760 }
+    i32::from((a as u16).cast_signed()).cast_unsigned()
 }
 
 // A word's first operand where it is no place in the tree: of a jump signed.
@@ -72,24 +75,20 @@ fn first_operand(w: u32) -> u64
     requires { 33554432 ≤ w }
     ensures { (t : List ℕ) → result ≡ (instr_of t w).a }
 {
-    let op = w / WORD_OP;
     let a = w / WORD_FIRST % UPPER;
-    if op < JUMP {
-        return a as u64;
+    match w / WORD_OP {
+        JUMP..=JUMP_IF_TRUE => widened(a) as u64,
+        _ => a as u64,
     }
-    if JUMP_IF_TRUE < op {
-        return a as u64;
-    }
-    widened(a) as u64
 }
 
 fn second_operand(w: u32) -> u64
     ensures { (t : List ℕ) → result ≡ (instr_of t w).b }
 {
-    if w / WORD_OP == SMALL_INT {
-        return 0;
+    match w / WORD_OP {
+        SMALL_INT => 0,
+        _ => (w % WORD_FIRST) as u64,
     }
-    (w % WORD_FIRST) as u64
 }
 
 // How many bytes the instruction of a word has, whatever the tree.

@@ -1,61 +1,58 @@
 -- Built-ins by their names, classes and functions by theirs, and what a call by name calls.
-use Prim.Native.Nat.{ℕ, suc, ◌/◌, ◌^◌, ◌≤◌, ◌<◌}
+use Prim.Native.Nat.{ℕ, ◌/◌, ◌^◌, ◌<◌}
+use denote.Ref.{Bor}
 use mathlib.Core.Path.{◌≡◌, refl, sym, ap, ◌∙◌}
-use mathlib.Core.Bool.{Bool, true, false, ◌&&◌}
+use mathlib.Core.Bool.{Bool, true, false, cond, ◌&&◌}
 use mathlib.Core.Option.{Option, none, some}
 use mathlib.Core.List.{List, [], ◌∷◌, map}
 use native.Mathlib.Omega.{arith}
 use lib.Dec.{eqb, ltb}
-use lib.ListN.{length, drop, get_or}
-use lib.Seq.{drop-cons}
+use lib.ListN.{length, drop}
 use borrow.Author.Tests.{ltb-true}
+use Rattle.std.specs.Prelude as Found
+use Rattle.std.specs.Option.{option_map}
+use Rattle.std.specs.List.{find}
 use Rattle.definitions.specs.Bytes.{Name, all, same, position}
 use Rattle.definitions.specs.Tables.{Function, Class, Tables}
 use Rattle.definitions.specs.Builtins.{Builtin, registry, builtin_in, builtin}
 use Rattle.definitions.specs.Lower.{Callee, builtin_callee, function_callee, value_callee, resolve_function, resolve}
-use Rattle.definitions.proofs.Resolve.{position-lt}
 use Rattle.state.specs.Words.{region, name_at}
 use Rattle.state.specs.State.{heads_from, codes_from, class_names_from, class_methods_from, methods_from, done_from, spelled, names_at, functions_of, function_of, classes_of, class_of}
-use Rattle.state.specs.State.{tables_of, state_of, Sound, found_or}
+use Rattle.state.specs.State.{tables_of, state_of, Sound}
 use Rattle.state.specs.declared.Counts.{Counts}
-use Rattle.state.specs.Answered.{Limits}
+use Rattle.state.specs.declared.Limits.{Limits}
 use Rattle.state.proofs.Regions.{region-length}
-use Rattle.state.proofs.Views.{symbols-length}
-use Rattle.names.proofs.Finding.{step, position-cons, names-length}
+use Rattle.names.specs.Sought.{place_in}
+use Rattle.names.proofs.Finding.{step, position-cons}
 
 -- ---- built-ins
-
--- row k; past the end one without a name
-abbrev pub row_at : ℕ → Builtin
-row_at k = get_or registry k (record { name = []; id = 15 })
-
--- none of the first k built-ins has the name
-abbrev pub Skipped : ℕ → Name → Type 0
-Skipped k x = builtin x ≡ builtin_in (drop k registry) x
 
 builtin-by : (b : Builtin) (bs : List Builtin) (x : Name) (t : Bool) → same b.name x ≡ t → builtin_in (b ∷ bs) x ≡ elim t as (λ z. Option ℕ) [ true ↦ some b.id | false ↦ builtin_in bs x ]
 unfolding builtin_in
 builtin-by b bs x t e = ap (λ (t : Bool). elim t as (λ z. Option ℕ) [ true ↦ some b.id | false ↦ builtin_in bs x ]) e
 
-row_cons : (k : ℕ) → k < 13 → drop k registry ≡ row_at k ∷ drop (suc k) registry
-unfolding registry
-row_cons k h = drop-cons registry k _ h
+-- a built-in of the code's table
+abbrev pub row : Bor (List ℕ) × ℕ → Builtin
+row b = record { name = b.0.now; id = b.1 }
 
-pub skipped-none : (x : Name) → Skipped 0 x
+found-row : (x : Name) (bs : List (Bor (List ℕ) × ℕ)) → place_in (option_map (λ (b : Bor (List ℕ) × ℕ). b.1) (find (λ (b : Bor (List ℕ) × ℕ). same b.0.now x) bs)) ≡ builtin_in (map row bs) x
+unfolding builtin_in
+found-row x [] = refl
+found-row x (b ∷ bs) = go (same b.0.now x) (found-row x bs)
+  where
+    go : (t : Bool) → place_in (option_map (λ (b : Bor (List ℕ) × ℕ). b.1) (find (λ (b : Bor (List ℕ) × ℕ). same b.0.now x) bs)) ≡ builtin_in (map row bs) x
+        → place_in (option_map (λ (b : Bor (List ℕ) × ℕ). b.1) (cond t (Found.Some b) (find (λ (b : Bor (List ℕ) × ℕ). same b.0.now x) bs))) ≡ elim t as (λ z. Option ℕ) [ true ↦ some b.1 | false ↦ builtin_in (map row bs) x ]
+    go true e = refl
+    go false e = e
+
+pub found-builtin : (x : Name) (bs : List (Bor (List ℕ) × ℕ)) (r : Found.Option (Bor (Bor (List ℕ) × ℕ))) → map row bs ≡ registry → option_map (λ (b : Bor (Bor (List ℕ) × ℕ)). b.now) r ≡ find (λ (b : Bor (List ℕ) × ℕ). same b.0.now x) bs
+    → place_in (option_map (λ (b : Bor (Bor (List ℕ) × ℕ)). b.now.1) r) ≡ builtin x
 unfolding builtin
-skipped-none x = refl
-
-module _ (k : ℕ) (x : Name) (inside : k < 13) (p : Skipped k x) where
-  pub skip : same (row_at k).name x ≡ false → Skipped (suc k) x
-  skip e = p ∙ ap (λ (bs : List Builtin). builtin_in bs x) (row_cons k inside) ∙ builtin-by (row_at k) (drop (suc k) registry) x false e
-
-  pub here : same (row_at k).name x ≡ true → (row_at k).id ≡ found_or 15 (builtin x)
-  unfolding found_or
-  here e = sym (ap (found_or 15) (p ∙ ap (λ (bs : List Builtin). builtin_in bs x) (row_cons k inside) ∙ builtin-by (row_at k) (drop (suc k) registry) x true e))
-
-pub skipped-all : (x : Name) → Skipped 13 x → 15 ≡ found_or 15 (builtin x)
-unfolding found_or registry builtin_in
-skipped-all x p = sym (ap (found_or 15) p)
+found-builtin x bs r e f = by_row r ∙ ap (λ (o : Found.Option (Bor (List ℕ) × ℕ)). place_in (option_map (λ (b : Bor (List ℕ) × ℕ). b.1) o)) f ∙ found-row x bs ∙ ap (λ (bs : List Builtin). builtin_in bs x) e
+  where
+    by_row : (r : Found.Option (Bor (Bor (List ℕ) × ℕ))) → place_in (option_map (λ (b : Bor (Bor (List ℕ) × ℕ)). b.now.1) r) ≡ place_in (option_map (λ (b : Bor (List ℕ) × ℕ). b.1) (option_map (λ (b : Bor (Bor (List ℕ) × ℕ)). b.now) r))
+    by_row Found.None = refl
+    by_row (Found.Some b) = refl
 
 -- each id is below 15
 ids-below : (bs : List Builtin) (x : Name) (i : ℕ) → all (λ (b : Builtin). ltb b.id 15) bs ≡ true → builtin_in bs x ≡ some i → i < 15
@@ -99,21 +96,6 @@ functions-place k tree fin (h ∷ hs) (w ∷ ks) e =
     position-cons (λ (f : Function). eqb k f.symbol) (function_of tree fin h w) (functions_of tree fin hs ks)
     ∙ ap (step (eqb k (h / 2 ^ 16))) (functions-place k tree fin hs ks (omega arith)) ∙ sym (position-cons (λ h. eqb k (h / 2 ^ 16)) h hs)
 
--- ---- a place that is found, or not
-
-pub found_some : (n : ℕ) (o : Option ℕ) (i : ℕ) → i ≡ found_or n o → i < n → o ≡ some i
-unfolding found_or
-found_some n none i e h = absurd (omega arith)
-found_some n (some k) i e h = ap (λ (j : ℕ). some j) (sym e)
-
-pub found_none : (n : ℕ) (o : Option ℕ) (i : ℕ) → ((k : ℕ) → o ≡ some k → k < n) → i ≡ found_or n o → n ≤ i → o ≡ none
-unfolding found_or
-found_none n none i f e h = refl
-found_none n (some k) i f e h = let z = f k refl in absurd (omega arith)
-
-pub below : {A : Type 0} (test : A → Bool) (ys : List A) (n : ℕ) → length ys ≡ n → (k : ℕ) → position test ys ≡ some k → k < n
-below test ys n e k h = let z = position-lt test ys k h in omega arith
-
 -- ---- what a call by name calls
 
 module _ (x : Name) (t : Tables) where
@@ -138,17 +120,17 @@ module _ (tree made code tables : List ℕ) (c : Counts) (l : Limits) (s : Sound
   abbrev t : Tables
   t = (state_of tree made code tables c).tables
 
-  -- where the name is found among the words of the classes, and of the symbols; and the symbol k among the heads
-  abbrev ClassAt : ℕ → Type 0
-  ClassAt j = j ≡ found_or c.classes (position (same x) (names_at tree (region class_names_from c.classes tables)))
+  -- the place of the name among the words of the classes, and of the symbols; and that of the symbol k among the heads
+  abbrev class-of : Option ℕ
+  class-of = position (same x) (names_at tree (region class_names_from c.classes tables))
 
-  abbrev SymbolAt : ℕ → Type 0
-  SymbolAt k = k ≡ found_or c.symbols (position (same x) (map (spelled tree made) (region 0 c.symbols tables)))
+  abbrev symbol-of : Option ℕ
+  symbol-of = position (same x) (map (spelled tree made) (region 0 c.symbols tables))
 
-  abbrev FunctionAt : ℕ → ℕ → Type 0
-  FunctionAt k f = f ≡ found_or c.functions (position (λ h. eqb k (h / 2 ^ 16)) (region heads_from c.functions tables))
+  abbrev head-of : ℕ → Option ℕ
+  head-of k = position (λ h. eqb k (h / 2 ^ 16)) (region heads_from c.functions tables)
 
-  class-place : position (λ (c : Class). same x c.name) t.classes ≡ position (same x) (names_at tree (region class_names_from c.classes tables))
+  class-place : position (λ (c : Class). same x c.name) t.classes ≡ class-of
   unfolding state_of tables_of
   class-place = classes-place x tree (region methods_from 256 tables) (region class_names_from c.classes tables) (region class_methods_from c.classes tables)
       (region-length class_names_from c.classes tables (omega (arith, s.limited)) ∙ sym (region-length class_methods_from c.classes tables (omega (arith, s.limited))))
@@ -158,39 +140,34 @@ module _ (tree made code tables : List ℕ) (c : Counts) (l : Limits) (s : Sound
   function-place k = functions-place k tree (drop done_from code) (region heads_from c.functions tables) (region codes_from c.functions tables)
       (region-length heads_from c.functions tables (omega (arith, s.limited)) ∙ sym (region-length codes_from c.functions tables (omega (arith, s.limited))))
 
-  symbols-are : t.symbols ≡ map (spelled tree made) (region 0 c.symbols tables)
+  symbol-place : position (same x) t.symbols ≡ symbol-of
   unfolding state_of tables_of
-  symbols-are = refl
+  symbol-place = refl
 
-  pub calls-builtin : (i : ℕ) → i ≡ found_or 15 (builtin x) → i < 15 → builtin_callee i ≡ resolve x t
+  pub calls-builtin : (i : ℕ) → builtin x ≡ some i → builtin_callee i ≡ resolve x t
   unfolding by-builtin
-  calls-builtin i e h = sym (is-by x t (some i) _ (found_some 15 (builtin x) i e h) refl)
+  calls-builtin i e = sym (is-by x t (some i) _ e refl)
 
-  pub calls-class : (i j : ℕ) → i ≡ found_or 15 (builtin x) → 15 ≤ i → ClassAt j → j < c.classes → value_callee ≡ resolve x t
+  pub calls-class : (j : ℕ) → builtin x ≡ none → class-of ≡ some j → value_callee ≡ resolve x t
   unfolding by-builtin
-  calls-class i j e h f g = sym (is-by x t none (some j) (found_none 15 (builtin x) i (builtin-below x) e h) (class-place ∙ found_some c.classes _ j f g))
+  calls-class j e f = sym (is-by x t none (some j) e (class-place ∙ f))
 
-  pub calls-other : (i j : ℕ) → i ≡ found_or 15 (builtin x) → 15 ≤ i → ClassAt j → c.classes ≤ j → resolve_function x t ≡ resolve x t
+  pub calls-other : builtin x ≡ none → class-of ≡ none → resolve_function x t ≡ resolve x t
   unfolding by-builtin
-  calls-other i j e h f g =
-      let n = names-length tree (region class_names_from c.classes tables) ∙ region-length class_names_from c.classes tables (omega (arith, s.limited)) in
-      sym (is-by x t none none (found_none 15 (builtin x) i (builtin-below x) e h)
-      (class-place ∙ found_none c.classes _ j (below (same x) (names_at tree (region class_names_from c.classes tables)) c.classes n) f g))
+  calls-other e f = sym (is-by x t none none e (class-place ∙ f))
 
-  pub calls-unknown : (k : ℕ) → SymbolAt k → c.symbols ≤ k → value_callee ≡ resolve_function x t
+  pub calls-unknown : symbol-of ≡ none → value_callee ≡ resolve_function x t
   unfolding by-symbol
-  calls-unknown k e h =
-      sym (is-function x t none (ap (position (same x)) symbols-are ∙ found_none c.symbols _ k (below (same x) _ c.symbols (ap length (sym symbols-are) ∙ symbols-length tree made code tables c l s)) e h))
+  calls-unknown e = sym (is-function x t none (symbol-place ∙ e))
 
-  by-head : (k : ℕ) → SymbolAt k → k < c.symbols → (o : Option ℕ) → position (λ h. eqb k (h / 2 ^ 16)) (region heads_from c.functions tables) ≡ o → resolve_function x t ≡ by-function x t o
+  by-head : (k : ℕ) → symbol-of ≡ some k → (o : Option ℕ) → head-of k ≡ o → resolve_function x t ≡ by-function x t o
   unfolding by-symbol
-  by-head k e h o f = is-function x t (some k) (ap (position (same x)) symbols-are ∙ found_some c.symbols _ k e h) ∙ ap (by-function x t) (function-place k ∙ f)
+  by-head k e o f = is-function x t (some k) (symbol-place ∙ e) ∙ ap (by-function x t) (function-place k ∙ f)
 
-  pub calls-value : (k f : ℕ) → SymbolAt k → k < c.symbols → FunctionAt k f → c.functions ≤ f → value_callee ≡ resolve_function x t
+  pub calls-value : (k : ℕ) → symbol-of ≡ some k → head-of k ≡ none → value_callee ≡ resolve_function x t
   unfolding by-function
-  calls-value k f e h g u =
-      sym (by-head k e h none (found_none c.functions _ f (below (λ h. eqb k (h / 2 ^ 16)) (region heads_from c.functions tables) c.functions (region-length heads_from c.functions tables (omega (arith, s.limited)))) g u))
+  calls-value k e f = sym (by-head k e none f)
 
-  pub calls-function : (k f : ℕ) → SymbolAt k → k < c.symbols → FunctionAt k f → f < c.functions → function_callee f ≡ resolve_function x t
+  pub calls-function : (k f : ℕ) → symbol-of ≡ some k → head-of k ≡ some f → function_callee f ≡ resolve_function x t
   unfolding by-function
-  calls-function k f e h g u = sym (by-head k e h (some f) (found_some c.functions _ f g u))
+  calls-function k f e g = sym (by-head k e (some f) g)

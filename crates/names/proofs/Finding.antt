@@ -1,25 +1,25 @@
--- The first word of a list that passes a test, found from its beginning.
+-- The first element of a list that passes a test: by the definitions' word for its place, and by std's.
 use Prim.Native.Nat.{ℕ, suc, ◌+◌, ◌≤◌, ◌<◌}
 use mathlib.Core.Path.{◌≡◌, refl, sym, ap, ◌∙◌}
 use mathlib.Core.Bool.{Bool, true, false}
 use mathlib.Core.Option.{Option, none, some}
 use mathlib.Core.List.{List, [], ◌∷◌, map}
 use native.Mathlib.Omega.{arith}
-use native.Mathlib.Nat.{zero-add}
-use native.Mathlib.Numerals.{add-one}
-use lib.ListN.{length, take, drop, get_or, length-map, length-drop, drop_of_length-le}
-use lib.Seq.{drop-cons, length-take-le}
+use native.Mathlib.Nat.{zero-add, add-zero}
+use lib.ListN.{length, take, drop, length-map}
+use Rattle.std.specs.Prelude as Found
+use Rattle.std.specs.Prelude.{cond, Some, None}
+use Rattle.std.specs.Option.{unwrap_or}
+use Rattle.std.specs.List as std
+use Rattle.std.specs.List.{position_from}
+use Rattle.std.proofs.lemmas.Iterator.Adapters.{position_from-zero}
 use Rattle.definitions.specs.Bytes.{Name, same, position}
 use Rattle.definitions.proofs.Resolve.{position-lt}
 use Rattle.state.specs.Words.{region, name_at}
 use Rattle.state.specs.State.{names_at, found_or}
+use Rattle.names.specs.Sought.{place_in, shifted}
 
--- a place among the words from i on, as a place among all
-unfoldable pub shifted : ℕ → Option ℕ → Option ℕ
-shifted i none = none
-shifted i (some k) = some (i + k)
-
-shifted-zero : (o : Option ℕ) → o ≡ shifted 0 o
+pub shifted-zero : (o : Option ℕ) → o ≡ shifted 0 o
 unfolding shifted
 shifted-zero none = refl
 shifted-zero (some k) = ap (λ (n : ℕ). some n) (sym (zero-add k))
@@ -37,37 +37,37 @@ position-cons test x xs = go (test x)
     go true = refl
     go false = refl
 
+pub step_shifted : (i : ℕ) (o : Option ℕ) → step false (shifted i o) ≡ shifted (suc i) o
+unfolding shifted step
+step_shifted i none = refl
+step_shifted i (some k) = let e : suc (i + k) ≡ suc i + k = omega arith in ap (λ (n : ℕ). some n) e
+
 shifted_next : (i : ℕ) (o : Option ℕ) → shifted i (step false o) ≡ shifted (i + 1) o
 unfolding shifted step
 shifted_next i none = refl
 shifted_next i (some k) = let e : i + suc k ≡ i + 1 + k = omega arith in ap (λ (n : ℕ). some n) e
 
--- among the words ws none before i passes the test
-unfoldable pub Passed : (ℕ → Bool) → List ℕ → ℕ → Type 0
-Passed test ws i = position test ws ≡ shifted i (position test (drop i ws))
+-- ---- a place that code hands back
 
-module _ (test : ℕ → Bool) (ws : List ℕ) where
-  pub seek-start : Passed test ws 0
-  unfolding Passed
-  seek-start = shifted-zero (position test ws)
+-- std's search from a number on
+place-from : {A : Type 0} (test : A → Bool) (i : ℕ) (xs : List A) → place_in (position_from test i xs) ≡ shifted i (position test xs)
+unfolding position shifted step
+place-from test i [] = refl
+place-from test i (x ∷ xs) = go (test x) (place-from test (i + 1) xs) ∙ ap (shifted i) (sym (position-cons test x xs))
+  where
+    go : (b : Bool) → place_in (position_from test (i + 1) xs) ≡ shifted (i + 1) (position test xs) → place_in (cond b (Some i) (position_from test (i + 1) xs)) ≡ shifted i (step b (position test xs))
+    go true e = ap (λ (n : ℕ). some n) (sym (add-zero i))
+    go false e = e ∙ sym (shifted_next i (position test xs))
 
-  pub seek-here : (n i : ℕ) → i < length ws → test (get_or ws i 0) ≡ true → Passed test ws i → i ≡ found_or n (position test ws)
-  unfolding Passed step found_or shifted
-  seek-here n i h e p =
-      let f : position test (drop i ws) ≡ some 0 = rw (drop-cons ws i 0 h, position-cons, e) in
-      let g : i ≡ i + 0 = omega arith in
-      g ∙ sym (ap (found_or n) (p ∙ ap (shifted i) f))
+-- what `position` answers, as the definitions say it
+pub place-is : {A : Type 0} (test : A → Bool) (xs : List A) (r : Found.Option ℕ) → r ≡ std.position test xs → place_in r ≡ position test xs
+place-is test xs r e = ap place_in (e ∙ position_from-zero test xs) ∙ place-from test 0 xs ∙ sym (shifted-zero (position test xs))
 
-  pub seek-next : (i : ℕ) → i < length ws → test (get_or ws i 0) ≡ false → Passed test ws i → Passed test ws (i + 1)
-  unfolding Passed
-  seek-next i h e p =
-      p ∙ ap (shifted i) (rw (drop-cons ws i 0 h, position-cons, e)) ∙ shifted_next i (position test (drop (suc i) ws)) ∙ ap (λ (k : ℕ). shifted (i + 1) (position test (drop k ws))) (sym (add-one i))
-
-  pub seek-end : (i : ℕ) → i ≤ length ws → length ws ≤ i → Passed test ws i → i ≡ found_or (length ws) (position test ws)
-  unfolding Passed position found_or shifted
-  seek-end i l h p =
-      let e : i ≡ length ws = omega arith in
-      e ∙ sym (ap (found_or (length ws)) (p ∙ ap (λ (l : List ℕ). shifted i (position test l)) (drop_of_length-le ws h)))
+-- the same with another answer where there is none
+pub found-by : (n : ℕ) (r : Found.Option ℕ) (o : Option ℕ) → place_in r ≡ o → unwrap_or r n ≡ found_or n o
+unfolding found_or
+found-by n None o e = ap (found_or n) e
+found-by n (Some k) o e = ap (found_or n) e
 
 -- ---- where it is found
 
@@ -84,28 +84,15 @@ unfolding position
 position-map test f [] = refl
 position-map test f (w ∷ ws) = position-cons test (f w) (map f ws) ∙ ap (step (test (f w))) (position-map test f ws) ∙ sym (position-cons (λ w. test (f w)) w ws)
 
-pub found_map : {A : Type 0} (test : A → Bool) (f : ℕ → A) (n : ℕ) (ws : List ℕ) → found_or n (position (λ w. test (f w)) ws) ≡ found_or n (position test (map f ws))
-found_map test f n ws = ap (found_or n) (sym (position-map test f ws))
-
--- a name that is found among the m words of a part of an area, where m is n
-module _ (f : ℕ → Name) (ts : List ℕ) (a m n : ℕ) (x y : Name) (r : ℕ) (inside : a + n ≤ length ts) (size : m ≡ n) where
-  abbrev Sought : Type 0
-  Sought = r ≡ found_or (length (take m (drop a ts))) (position (same x) (map f (take m (drop a ts))))
-
-  part_length : length (take m (drop a ts)) ≡ n
-  part_length = length-take-le m (drop a ts) (let e = length-drop a ts in omega arith) ∙ size
-
-  pub sought : x ≡ y → Sought → r ≡ found_or n (position (same y) (map f (region a n ts)))
-  unfolding region
-  sought e k = k ∙ (λ j. found_or (part_length j) (position (same (e j)) (map f (take (size j) (drop a ts)))))
+-- the names of the m words of a part of an area, where m is n
+pub sought : (f : ℕ → Name) (ts : List ℕ) (a m n : ℕ) (x y : Name) (o : Option ℕ) → m ≡ n → x ≡ y → o ≡ position (same x) (map f (take m (drop a ts))) → o ≡ position (same y) (map f (region a n ts))
+unfolding region
+sought f ts a m n x y o size e k = k ∙ (λ j. position (same (e j)) (map f (take (size j) (drop a ts))))
 
 -- a word that is found by a test
-pub sought-word : (test : ℕ → Bool) (ts : List ℕ) (a m n r : ℕ) → a + n ≤ length ts → m ≡ n → r ≡ found_or (length (take m (drop a ts))) (position test (take m (drop a ts)))
-    → r ≡ found_or n (position test (region a n ts))
+pub sought-word : (test : ℕ → Bool) (ts : List ℕ) (a m n : ℕ) (o : Option ℕ) → m ≡ n → o ≡ position test (take m (drop a ts)) → o ≡ position test (region a n ts)
 unfolding region
-sought-word test ts a m n r inside size k =
-    let e : length (take m (drop a ts)) ≡ n = length-take-le m (drop a ts) (let d = length-drop a ts in omega arith) ∙ size in
-    k ∙ (λ j. found_or (e j) (position test (take (size j) (drop a ts))))
+sought-word test ts a m n o size k = k ∙ (λ j. position test (take (size j) (drop a ts)))
 
 -- ---- names at places
 

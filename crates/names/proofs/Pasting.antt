@@ -1,13 +1,13 @@
 -- Bytes that are pasted into others, decimal digits, and names with their length before them.
-use Prim.Native.Nat.{ℕ, suc, ◌+◌, ◌/◌, ◌%◌, ◌≤◌, ◌<◌}
+use Prim.Native.Nat.{ℕ, suc, ◌+◌, ◌-◌, ◌/◌, ◌%◌, ◌≤◌, ◌<◌}
 use mathlib.Core.Path.{◌≡◌, refl, sym, ap, ◌∙◌}
 use mathlib.Core.List.{List, [], ◌∷◌, ◌++◌, append_assoc}
 use native.Mathlib.Omega.{arith}
 use native.Mathlib.Nat.{add-zero}
-use native.Mathlib.Numerals.{add-one}
 use lib.Dec.{lit<}
+use borrow.Rule.Slice.PartMut.{put_mid, Post-is}
 use lib.ListN.{length, take, drop, get_or, set, length-append, length-drop, take-append-drop}
-use lib.Seq.{drop-cons, set_at, take_at, drop_at, take-suc, take_all, take-take, take-append-le, length-take-le, drop-drop, drop-append-add, get_or-set_same, drop-set-lt, take-set-le}
+use lib.Seq.{drop-cons, set_at, take_at, drop_at, take-take, take-append-le, length-take-le, drop-drop, drop-append-add, get_or-set_same, drop-set-lt, take-set-le}
 use Rattle.definitions.specs.Bytes.{Name, ascii, decimal}
 use Rattle.definitions.specs.Lower.{lambda_name}
 use Rattle.definitions.proofs.Decimals.{decimal_digit, decimal-more, length-decimal, one-digit, more-digits}
@@ -51,17 +51,10 @@ module _ (s : List ℕ) (p : ℕ) (xs : List ℕ) (inside : p + length s ≤ len
       ∙ set_at (take p xs ++ s) (get_or xs (p + length s) 0) (drop (suc (p + length s)) xs) v (p + length s) head-length
       ∙ ap (λ (k : ℕ). (take p xs ++ s) ++ v ∷ drop k xs) n ∙ simp append_assoc
 
--- one byte more of the bytes that are pasted
-pub paste-step : (part : List ℕ) (p i : ℕ) (xs ys : List ℕ) → i < length part → p + length part ≤ length xs → ys ≡ pasted (take i part) p xs
-    → set ys (p + i) (get_or part i 0) ≡ pasted (take (i + 1) part) p xs
-paste-step part p i xs ys h inside e =
-    let k = length-take-le i part (omega arith) in
-    ap (λ (l : List ℕ). set l (p + i) (get_or part i 0)) e ∙ ap (λ (n : ℕ). set (pasted (take i part) p xs) (p + n) (get_or part i 0)) (sym k)
-    ∙ pasted-next (take i part) p xs (omega arith) (get_or part i 0) (omega arith)
-    ∙ ap (λ (l : List ℕ). pasted l p xs) (sym (take-suc part i 0 h) ∙ ap (λ (n : ℕ). take n part) (sym (add-one i)))
-
-pub paste_all : (part : List ℕ) (p i : ℕ) (xs ys : List ℕ) → length part ≤ i → ys ≡ pasted (take i part) p xs → ys ≡ pasted part p xs
-paste_all part p i xs ys h e = e ∙ ap (λ (l : List ℕ). pasted l p xs) (take_all i part h)
+-- the bytes are copied to their part
+pub pasted-put : (part : List ℕ) (p : ℕ) (xs ys : List ℕ) → ys ≡ part → put_mid p (p + length part - p) xs ys ≡ pasted part p xs
+unfolding pasted
+pasted-put part p xs ys e = (λ j. put_mid p (p + length part - p) xs (e j)) ∙ ap (λ (l : List ℕ). take p xs ++ (part ++ l)) (Post-is p (p + length part) xs (omega arith))
 
 -- three parts, one after the other
 pub three-length : (a d b : List ℕ) → length (a ++ (d ++ b)) ≡ length a + (length d + length b)

@@ -1,11 +1,21 @@
--- A name sought by the word in its bucket.
-use Rattle.std.specs.Prelude.{ℕ, ◌+◌, List, length, drop}
+-- A name sought by the word in its bucket; and a place that code hands back.
+use Rattle.std.specs.Prelude.{ℕ, ◌+◌, List, length, drop, Option, Some, None}
+use Rattle.std.proofs.Math.Option as definitions
 use Rattle.definitions.specs.Bytes.{Name, same, position}
 use Rattle.state.specs.Index.{start_of}
-use Rattle.state.specs.State.{found_or}
 
--- its number among the names, or how many they are; those before the start are passed over
-unfoldable pub sought_from : ℕ → Name → List Name → ℕ
+-- a place that code hands back, an `Option` of Rattle, as one of the definitions
+abbrev pub place_in : Option ℕ → definitions.Option ℕ
+place_in (Some k) = definitions.some k
+place_in None = definitions.none
+
+-- a place among the elements from i on, as a place among all
+unfoldable pub shifted : ℕ → definitions.Option ℕ → definitions.Option ℕ
+shifted i definitions.none = definitions.none
+shifted i (definitions.some k) = definitions.some (i + k)
+
+-- its place among the names; those before the start are passed over
+unfoldable pub sought_from : ℕ → Name → List Name → definitions.Option ℕ
 sought_from k x xs =
     let s = start_of k (length xs) in
-    s + found_or (length (drop s xs)) (position (same x) (drop s xs))
+    shifted s (position (same x) (drop s xs))

@@ -1,52 +1,31 @@
 // The built-ins, by their names.
 ghost use Rattle.std.specs.Prelude.{◌≡◌};
 ghost use Rattle.definitions.specs.Builtins.{builtin};
-ghost use Rattle.state.specs.State.{found_or};
+ghost use Rattle.names.specs.Sought.{place_in};
 
 use byte_tests::same_bytes;
 
-// The id of the built-in with the name, 15 where there is none; ids 8 and 9 are unused.
-pub fn find_builtin(name: &[u8]) -> u32
-    ensures { result ≡ found_or 15 (builtin name.now) }
+// Each built-in's name and id; ids 8 and 9 are unused.
+const BUILTINS: [(&[u8], u32); 13] = [
+    (b"print", 0),
+    (b"input", 1),
+    (b"int", 2),
+    (b"bool", 3),
+    (b"str", 4),
+    (b"len", 5),
+    (b"range", 6),
+    (b"float", 7),
+    (b"assert", 10),
+    (b"map", 11),
+    (b"filter", 12),
+    (b"set", 13),
+    (b"treeset", 14),
+];
+
+// The id of the built-in with the name.
+pub fn find_builtin(name: &[u8]) -> Option<u32>
+    ensures { place_in result ≡ builtin name.now }
 {
-    if same_bytes(b"print", name) {
-        return 0;
-    }
-    if same_bytes(b"input", name) {
-        return 1;
-    }
-    if same_bytes(b"int", name) {
-        return 2;
-    }
-    if same_bytes(b"bool", name) {
-        return 3;
-    }
-    if same_bytes(b"str", name) {
-        return 4;
-    }
-    if same_bytes(b"len", name) {
-        return 5;
-    }
-    if same_bytes(b"range", name) {
-        return 6;
-    }
-    if same_bytes(b"float", name) {
-        return 7;
-    }
-    if same_bytes(b"assert", name) {
-        return 10;
-    }
-    if same_bytes(b"map", name) {
-        return 11;
-    }
-    if same_bytes(b"filter", name) {
-        return 12;
-    }
-    if same_bytes(b"set", name) {
-        return 13;
-    }
-    if same_bytes(b"treeset", name) {
-        return 14;
-    }
-    15
+    let found = BUILTINS.iter().find(|b| same_bytes(b.0, name))?;
+    Some(found.1)
 }

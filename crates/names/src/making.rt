@@ -10,12 +10,9 @@ pub fn paste(bytes: &mut [u8], at: usize, part: &[u8]) -> usize
     requires { at + length part.now ≤ length bytes.old }
     ensures { (result ≡ at + length part.now) × (bytes.new ≡ pasted part.now at bytes.old) }
 {
-    let mut i = 0;
-    while i < part.len() {
-        bytes[at + i] = part[i];
-        i += 1;
-    }
-    at + i
+    let end = at + part.len();
+    bytes[at..end].copy_from_slice(part);
+    end
 }
 
 // The decimal digits of n from `at` on, and where they end.

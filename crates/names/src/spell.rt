@@ -10,7 +10,7 @@ use numerals::places::{MADE_FROM, MADE_START};
 pub fn byte(bytes: &[u8], at: usize) -> u8
     ensures { result ≡ get_or bytes.now at 0 }
 {
-    if at < bytes.len() { bytes[at] } else { 0 }
+    bytes.get(at).copied().unwrap_or(0)
 }
 
 // n bytes from `from` on, cut at the end.

@@ -41,4 +41,15 @@ pub const UNARY_OPERATORS: u8 = 3;
 
 pub const BINARY_OPERATORS: u8 = 14;
 
+// The bytes of operators: the unary ones but `+`; of the binary ones `/`, `//`, the first that compares, and `and`.
+pub const NOT: u8 = 0;
+
+pub const NEGATE: u8 = 1;
+
+pub const DIVIDE: u8 = 3;
+
+pub const FLOOR_DIVIDE: u8 = 4;
+
+pub const FIRST_COMPARISON: u8 = 6;
+
 pub const AND: u8 = 12;

@@ -1,6 +1,7 @@
 // Numbers by name: kinds of a tree, opcodes, sizes of records, places in what is lent to the lowering, limits.
 #![tactic(auto)]
 
+pub mod kinds; // kinds.rt: kinds of a tree's expressions and statements
 pub mod stmt; // stmt.rt: kinds of a tree's statements
 pub mod expr; // expr.rt: kinds of its expressions
 pub mod ops; // ops.rt: opcodes, as words of code hold them

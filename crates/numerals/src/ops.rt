@@ -80,6 +80,11 @@ pub const MAKE_CLOSURE: u32 = 45;
 // A display's instruction is its kind plus this, but that tuple and dict are exchanged.
 pub const BUILD: u32 = BUILD_LIST - expr::LIST as u32;
 
+// The opcode of a binary operator before the comparisons is the operator plus this, but that `/` and `//` are exchanged; that of a comparison is the operator plus that.
+pub const ARITHMETIC: u32 = ADD;
+
+pub const COMPARISON: u32 = EQ - expr::FIRST_COMPARISON as u32;
+
 // The jump of `and` or `or` is the operator plus this; the constant on its short way is the other minus the jump.
 pub const LOGICAL: u32 = JUMP_IF_FALSE - expr::AND as u32;
 

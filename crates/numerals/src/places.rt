@@ -70,6 +70,11 @@ pub const SYMBOL_BUCKETS: u32 = 8192;
 
 pub const STRING_BUCKETS: u32 = 4096;
 
+// A name's hash is below HASHES: each byte is added to what the bytes before it make, times HASH_FACTOR.
+pub const HASH_FACTOR: u32 = 30011;
+
+pub const HASHES: u32 = 65536;
+
 // A symbol is the place of its name in the tree, or from here on that in the made names.
 pub const MADE_FROM: u32 = 32768;
 

@@ -31,3 +31,6 @@ pub const LIMITS: usize = 5;
 pub const SLOTS_MOST: u32 = 255;
 
 pub const SLOTS_ROOM: usize = 2304;
+
+// Marks of slots: one for each.
+pub const SLOTS_MARKED: usize = 256;

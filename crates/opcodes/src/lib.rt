@@ -7,7 +7,9 @@ ghost use Rattle.lower_emit.specs.Ops.{Plain};
 ghost use Rattle.opcodes.specs.Codes.{unary_opcode, display_of, held_of};
 
 use numerals::expr;
-use numerals::ops::{BUILD, BUILD_DICT, BUILD_TUPLE, NEG, NOT, POS};
+use numerals::ops::{
+    ARITHMETIC, BUILD, BUILD_DICT, BUILD_TUPLE, COMPARISON, DIV, NEG, NOT, POS, TRUE_DIV,
+};
 
 // Not, Neg, Pos.
 pub fn unary_code(operator: u8) -> u32
@@ -15,8 +17,8 @@ pub fn unary_code(operator: u8) -> u32
     ensures { (result ≡ unary_opcode operator) × Plain result 0 0 }
 {
     match operator {
-        0 => NOT,
-        1 => NEG,
+        expr::NOT => NOT,
+        expr::NEGATE => NEG,
         _ => POS,
     }
 }
@@ -26,16 +28,12 @@ pub fn binary_code(operator: u8) -> u32
     requires { operator < 12 }
     ensures { (result ≡ operator_code operator) × Plain result 0 0 }
 {
-    if operator == 3 {
-        return 17;
+    match operator {
+        expr::DIVIDE => TRUE_DIV,
+        expr::FLOOR_DIVIDE => DIV,
+        _ if operator < expr::FIRST_COMPARISON => ARITHMETIC + operator as u32,
+        _ => COMPARISON + operator as u32,
     }
-    if operator == 4 {
-        return 16;
-    }
-    if operator < 6 {
-        return 13 + operator as u32;
-    }
-    15 + operator as u32
 }
 
 // BuildList to BuildTreeSet.
@@ -43,13 +41,11 @@ pub fn build_code(kind: u8) -> u32
     requires { (11 ≤ kind) × (kind ≤ 15) }
     ensures { (result ≡ build_code (display_of kind)) × (30 < result) × (result < 48) }
 {
-    if kind == expr::DICT {
-        return BUILD_DICT;
+    match kind {
+        expr::DICT => BUILD_DICT,
+        expr::TUPLE => BUILD_TUPLE,
+        _ => BUILD + kind as u32,
     }
-    if kind == expr::TUPLE {
-        return BUILD_TUPLE;
-    }
-    BUILD + kind as u32
 }
 
 // How many expressions a display with the count n holds.
@@ -57,8 +53,8 @@ pub fn held(kind: u8, n: u32) -> u32
     requires { n < 65536 }
     ensures { result ≡ held_of kind n }
 {
-    if kind == expr::DICT {
-        return 2 * n;
+    match kind {
+        expr::DICT => 2 * n,
+        _ => n,
     }
-    n
 }

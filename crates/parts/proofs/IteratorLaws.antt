@@ -1,32 +1,34 @@
--- The name of a loop's iterator, by its three parts. Assumes nothing.
+-- The name of a loop's iterator, by its three parts; equal bytes. Assumes nothing.
 use Prim.Native.Nat.{ℕ, ◌+◌, ◌-◌, ◌<◌, ◌≤◌}
 use mathlib.Core.Path.{◌≡◌, refl, sym, ap, ◌∙◌}
-use mathlib.Core.Bool.{Bool, true, false, ◌&&◌}
+use mathlib.Core.Bool.{Bool, true, false, ◌&&◌, not, ◌||◌}
+use mathlib.Core.List.{List, [], ◌∷◌}
 use native.Mathlib.Omega.{arith}
-use lib.Dec.{ltb}
+use lib.Dec.{eqb, ltb}
 use lib.ListN.{length, take, drop, length-drop}
-use lib.Seq.{take_all, drop-drop}
+use lib.Pointwise.{pointwise}
 use borrow.Author.Tests.{lt-ltb, le-ltb}
+use Rattle.std.specs.List.{list_all}
 use Rattle.definitions.specs.Bytes.{Name, ascii, all, same}
-use Rattle.definitions.specs.Wellformed.{digit, is_iterator}
+use Rattle.definitions.specs.Wellformed.{digit, is_iterator, init}
 
--- the parts as the code cuts them
-abbrev front : Name → Name
-front x = take (11 - 0) (drop 0 x)
+pub pointwise-same : (a b : List ℕ) → pointwise eqb a b ≡ same a b
+unfolding same
+pointwise-same [] [] = refl
+pointwise-same [] (y ∷ b) = refl
+pointwise-same (x ∷ a) [] = refl
+pointwise-same (x ∷ a) (y ∷ b) = ap (λ (r : Bool). eqb x y && r) (pointwise-same a b)
 
-abbrev middle : Name → Name
-middle x = take (length x - 2 - 11) (drop 11 x)
+pub all-digits : (xs : List ℕ) → list_all digit xs ≡ all digit xs
+unfolding all
+all-digits [] = refl
+all-digits (x ∷ xs) = ap (λ (b : Bool). digit x && b) (all-digits xs)
 
-abbrev back : Name → Name
-back x = take (length x - (length x - 2)) (drop (length x - 2) x)
+pub digits-none : (xs : List ℕ) (b : Bool) → b ≡ false → length xs ≤ 0 → b ≡ (ltb 0 (length xs) && all digit xs)
+digits-none xs b e h = rw (e, le-ltb 0 (length xs) h)
 
-middle-is : (x : Name) → middle x ≡ take (length x - 13) (drop 11 x)
-middle-is x = ap (λ (n : ℕ). take n (drop 11 x)) (let e : length x - 2 - 11 ≡ length x - 13 = omega arith in e)
-
-back_is : (x : Name) → 14 ≤ length x → back x ≡ drop (length x - 13) (drop 11 x)
-back_is x h =
-    take_all (length x - (length x - 2)) (drop (length x - 2) x) (omega (arith, length-drop (length x - 2) x))
-    ∙ sym (drop-drop (length x - 13) 11 x ∙ ap (λ (n : ℕ). drop n x) (let e : 11 + (length x - 13) ≡ length x - 2 = omega arith in e))
+pub digits-some : (xs : List ℕ) (b : Bool) → 0 < length xs → b ≡ list_all digit xs → b ≡ (ltb 0 (length xs) && all digit xs)
+digits-some xs b h e = rw (lt-ltb 0 (length xs) h) (e ∙ all-digits xs)
 
 -- the tests of the definition
 abbrev begins : Name → Bool
@@ -42,29 +44,41 @@ by_parts : (x : Name) → is_iterator x ≡ (begins x && ltb 0 (length x - 13) &
 unfolding is_iterator
 by_parts x = refl
 
-no_length : (a c d : Bool) → false ≡ (a && false && c && d)
-no_length true c d = refl
-no_length false c d = refl
+and_no : (a : Bool) → false ≡ (a && false)
+and_no true = refl
+and_no false = refl
 
-no-digits : (a b d : Bool) → false ≡ (a && b && false && d)
-no-digits true true d = refl
-no-digits true false d = refl
-no-digits false b d = refl
+and_yes : (a : Bool) → a ≡ (a && true)
+and_yes true = refl
+and_yes false = refl
 
-pub iterator-short : (x : Name) → length x < 14 → false ≡ is_iterator x
-iterator-short x h = rw (by_parts x, le-ltb 0 (length x - 13) (omega arith)) (no_length (begins x) (counts x) (ends x))
+pub iterator-begins : (x : Name) → pointwise eqb (take 11 x) (ascii "__for_iter_") ≡ false → false ≡ is_iterator x
+iterator-begins x e = let n : begins x ≡ false = sym (pointwise-same _ _) ∙ e in rw (by_parts x, n)
 
-pub iterator-begins : (x : Name) (b : Bool) → b ≡ same (front x) (ascii "__for_iter_") → b ≡ false → false ≡ is_iterator x
-iterator-begins x b e f = let n : begins x ≡ false = sym e ∙ f in rw (by_parts x, n)
+rest-size : (x rest : Name) → rest ≡ drop 11 x → length rest - 2 ≡ length x - 13
+rest-size x rest e = let l : length rest ≡ length (drop 11 x) = ap length e in omega (arith, length-drop 11 x)
 
-pub iterator-digits : (x : Name) (b : Bool) → b ≡ all digit (middle x) → b ≡ false → false ≡ is_iterator x
-iterator-digits x b e f =
-    let n : counts x ≡ false = ap (all digit) (sym (middle-is x)) ∙ sym e ∙ f in
-    rw (by_parts x, n) (no-digits (begins x) (ltb 0 (length x - 13)) (ends x))
+end-same : (x rest : Name) (b : Bool) → rest ≡ drop 11 x → pointwise eqb (drop (length rest - 2) rest) (ascii "__") ≡ b → ends x ≡ b
+end-same x rest b e f =
+    ap (λ (n : ℕ). same (drop n (drop 11 x)) (ascii "__")) (sym (rest-size x rest e)) ∙ ap (λ (r : Name). same (drop (length rest - 2) r) (ascii "__")) (sym e)
+    ∙ sym (pointwise-same (drop (length rest - 2) rest) (ascii "__")) ∙ f
 
-pub iterator-ends : (x : Name) (a b c : Bool) → 14 ≤ length x → a ≡ same (front x) (ascii "__for_iter_") → a ≡ true → b ≡ all digit (middle x) → b ≡ true
-    → c ≡ same (back x) (ascii "__") → c ≡ is_iterator x
-iterator-ends x a b c h e₁ t₁ e₂ t₂ e₃ =
-    let y₁ : begins x ≡ true = sym e₁ ∙ t₁ in
-    let y₂ : counts x ≡ true = ap (all digit) (sym (middle-is x)) ∙ sym e₂ ∙ t₂ in
-    rw (by_parts x, y₁, lt-ltb 0 (length x - 13) (omega arith), y₂) (e₃ ∙ ap (λ (y : Name). same y (ascii "__")) (back_is x h))
+pub iterator-ends : (x rest : Name) → rest ≡ drop 11 x → pointwise eqb (drop (length rest - 2) rest) (ascii "__") ≡ false → false ≡ is_iterator x
+iterator-ends x rest e f = rw (by_parts x, end-same x rest false e f) (and_no (begins x && ltb 0 (length x - 13) && counts x))
+
+pub iterator-digits : (x rest part : Name) (b : Bool) → pointwise eqb (take 11 x) (ascii "__for_iter_") ≡ true → rest ≡ drop 11 x → pointwise eqb (drop (length rest - 2) rest) (ascii "__") ≡ true
+    → part ≡ take (length rest - 2) rest → length part + 2 ≡ length rest → b ≡ (ltb 0 (length part) && all digit part) → b ≡ is_iterator x
+iterator-digits x rest part b e f g h l d =
+    let n : begins x ≡ true = sym (pointwise-same _ _) ∙ e in
+    let z = rest-size x rest f in
+    let k : length part ≡ length x - 13 = omega arith in
+    let p : part ≡ take (length x - 13) (drop 11 x) = h ∙ ap (λ (m : ℕ). take m rest) z ∙ ap (take (length x - 13)) f in
+    rw (by_parts x, n, end-same x rest true f g)
+    (d ∙ ap (λ (m : ℕ). ltb 0 m && all digit part) k ∙ ap (λ (y : Name). ltb 0 (length x - 13) && all digit y) p ∙ and_yes (ltb 0 (length x - 13) && counts x))
+
+-- 12, of a method's name that is or isn't `__init__`
+pub other-name : (x y : Name) (n : ℕ) (b : Bool) → b ≡ not (pointwise eqb x y) → y ≡ init → b ≡ true → b ≡ (not (same x init) || ltb 0 n)
+other-name x y n b e f g = let z : true ≡ not (same x init) = sym g ∙ e ∙ ap not (pointwise-same x y) ∙ ap (λ (y : Name). not (same x y)) f in rw (g, sym z)
+
+pub init-name : (x y : Name) (n : ℕ) (b : Bool) → b ≡ not (pointwise eqb x y) → y ≡ init → b ≡ false → ltb 0 n ≡ (not (same x init) || ltb 0 n)
+init-name x y n b e f g = let z : false ≡ not (same x init) = sym g ∙ e ∙ ap not (pointwise-same x y) ∙ ap (λ (y : Name). not (same x y)) f in rw (sym z)

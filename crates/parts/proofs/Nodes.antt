@@ -11,7 +11,7 @@ use Rattle.definitions.specs.Bytes.{Parsed, got, failed, Parser, ◌>>=◌, give
 use Rattle.definitions.specs.Parse.{by_kind, choice}
 use Rattle.parts.specs.Judge.{passed, judged, least}
 use Rattle.parts.specs.Places.{Node, node, node_of, node_at, is_got, Reads}
-use Rattle.parts.specs.declared.Passed.TheVariants.{Next}
+use Rattle.parts.specs.Judge.{Next}
 use Rattle.parts.proofs.Laws.{Went, went, lost, Steady, follow, bind_is, at_byte, at-end, le-or-gt, kind-of, kind-none, rest-place, steady-counted}
 
 -- P at p goes on as Q at q

@@ -9,6 +9,9 @@ use crate::names::{name_end, name_part};
 use byte_tests::same_bytes;
 use numerals::sizes::TREE_MOST;
 
+// So many names are compared each with each.
+const FEW: u32 = 32;
+
 // What putting a name into the search tree of the names before it gives.
 #[derive(Clone, Copy)]
 enum Put {
@@ -23,13 +26,11 @@ fn occurs(tree: &[u8], at: usize, from: usize, n: u32) -> bool
     ensures { result ≡ member (name_bytes tree.now at) (names_from tree.now n from) }
 {
     let mut p = from;
-    let mut left = n;
-    while 0 < left {
+    for _ in 0..n {
         if same_bytes(name_part(tree, at), name_part(tree, p)) {
             return true;
         }
         p = name_end(tree, p);
-        left -= 1;
     }
     false
 }
@@ -40,22 +41,14 @@ fn distinct_few(tree: &[u8], at: usize, n: u32) -> bool
     ensures { result ≡ distinct (names_from tree.now n at) }
 {
     let mut p = at;
-    let mut left = n;
-    while 0 < left {
+    for after in (0..n).rev() {
         let next = name_end(tree, p);
-        if occurs(tree, p, next, left - 1) {
+        if occurs(tree, p, next, after) {
             return false;
         }
         p = next;
-        left -= 1;
     }
     true
-}
-
-fn wide(x: u8) -> usize
-    ensures { (result ≡ x) × (result < 256) }
-{
-    x as usize
 }
 
 // The turn of the name at `at` at depth `k`.
@@ -68,7 +61,7 @@ fn turn(tree: &[u8], at: usize, k: usize) -> usize
     if name.len() <= i {
         return 0;
     }
-    (wide(name[i]) >> (k % 8)) % 2
+    (usize::from(name[i]) >> (k % 8)) % 2
 }
 
 // Puts the name at `at` into the table, which has the `count` names from `root` on: at most so many are met.
@@ -76,10 +69,8 @@ fn put_name(tree: &[u8], table: &mut [u16; 32769], root: usize, count: u32, at: 
     requires { Searches tree.now table.old root (names_from tree.now count root) × There tree.now at × (at < 32768) × (0 < at) }
     ensures { Puts result tree.now table.new root (names_from tree.now count root) (name_bytes tree.now at) }
 {
-    let most = count as usize;
     let mut p = root;
-    let mut k = 0;
-    while k < most {
+    for k in 0..count as usize {
         if same_bytes(name_part(tree, p), name_part(tree, at)) {
             return Put::Twice;
         }
@@ -90,7 +81,6 @@ fn put_name(tree: &[u8], table: &mut [u16; 32769], root: usize, count: u32, at: 
             return Put::New;
         }
         p = next;
-        k += 1;
     }
     Put::Lost
 }
@@ -102,14 +92,9 @@ fn distinct_many(tree: &[u8], at: usize, n: u32) -> bool
 {
     let mut table = [0u16; 32769];
     let mut p = name_end(tree, at);
-    let mut count: u32 = 1;
-    while count < n {
-        let put = put_name(tree, &mut table, at, count, p);
-        match put {
-            Put::New => {
-                p = name_end(tree, p);
-                count += 1;
-            }
+    for count in 1..n {
+        match put_name(tree, &mut table, at, count, p) {
+            Put::New => p = name_end(tree, p),
             Put::Twice => return false,
             Put::Lost => return distinct_few(tree, at, n),
         }
@@ -122,13 +107,7 @@ pub(crate) fn distinct_names(tree: &[u8], at: usize, n: u32) -> bool
     requires { AllThere tree.now n at }
     ensures { result ≡ distinct (names_from tree.now n at) }
 {
-    if n <= 32 {
-        return distinct_few(tree, at, n);
-    }
-    if at == 0 {
-        return distinct_few(tree, at, n);
-    }
-    if TREE_MOST < tree.len() {
+    if n <= FEW || at == 0 || TREE_MOST < tree.len() {
         return distinct_few(tree, at, n);
     }
     distinct_many(tree, at, n)

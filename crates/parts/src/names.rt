@@ -1,65 +1,49 @@
 // Names: a length byte and its bytes (7, 33).
-ghost use Rattle.std.specs.Prelude.{◌≡◌, ◌+◌, ◌≤◌, length};
+ghost use Rattle.std.specs.Prelude.{◌≡◌, ◌+◌, ◌&&◌, ltb, length};
 ghost use Rattle.definitions.specs.Bytes.{all};
 ghost use Rattle.definitions.specs.Wellformed.{digit, is_iterator};
-ghost use Rattle.parts.specs.Judge.{judge_name};
 ghost use Rattle.parts.specs.Places.{name_bytes, name_end, There};
 
-use crate::Passed;
-use crate::questions::noted;
-use byte_tests::{is_name, same_bytes};
+use crate::asked::BlockQuestion;
+use crate::checker::Checker;
+use byte_tests::is_name;
+use questions::Question;
 
-// Whether each byte is a digit.
+// Whether the bytes are a digit or more.
+#[tactic(auto, unfolding(definitions::specs::Wellformed::digit))]
 fn are_digits(bytes: &[u8]) -> bool
-    ensures { result ≡ all digit bytes.now }
+    ensures { result ≡ (ltb 0 (length bytes.now) && all digit bytes.now) }
 {
-    let mut i = 0;
-    while i < bytes.len() {
-        if bytes[i] < 48 {
-            return false;
-        }
-        if 57 < bytes[i] {
-            return false;
-        }
-        i += 1;
-    }
-    true
+    !bytes.is_empty() && bytes.iter().all(|byte| matches!(byte, b'0'..=b'9'))
 }
 
 // 33: whether the bytes are the name of a loop's iterator: its beginning, a digit or more, its end.
 fn is_iterator(bytes: &[u8]) -> bool
     ensures { result ≡ is_iterator bytes.now }
 {
-    if bytes.len() < 14 {
+    let Some(rest) = bytes.strip_prefix(b"__for_iter_") else {
         return false;
-    }
-    if !same_bytes(&bytes[0..11], b"__for_iter_") {
+    };
+    let Some(digits) = rest.strip_suffix(b"__") else {
         return false;
-    }
-    let end = bytes.len() - 2;
-    if !are_digits(&bytes[11..end]) {
-        return false;
-    }
-    same_bytes(&bytes[end..bytes.len()], b"__")
+    };
+    are_digits(digits)
 }
 
-// A name.
-pub fn check_name(tree: &[u8], at: usize, stand: u32) -> Passed
-    requires { at ≤ length tree.now }
-    ensures { result ≡ judge_name tree.now at stand }
-{
-    if tree.len() <= at {
-        return Passed::Refused(5);
+impl<'a> Checker<'a> {
+    ghost use Rattle.parts.specs.Judge.{judge_name};
+    ghost use Rattle.parts.specs.Judged.{Judged};
+
+    // A name.
+    pub fn name(&mut self) -> Result<(), Question>
+        ensures { Judged result self.old self.new judge_name }
+    {
+        let n = self.byte()?;
+        let name = self.take(n as usize)?;
+        self.note(BlockQuestion::IteratorNames, !is_iterator(name));
+        self.note(BlockQuestion::Names, is_name(name));
+        Ok(())
     }
-    let n = tree[at] as usize;
-    let from = at + 1;
-    if tree.len() - from < n {
-        return Passed::Refused(5);
-    }
-    let end = from + n;
-    let ours = is_iterator(&tree[from..end]);
-    let ok = is_name(&tree[from..end]);
-    Passed::Next(end, noted(noted(stand, 33, !ours), 7, ok))
 }
 
 // The bytes of the name at `at`.

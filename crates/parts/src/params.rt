@@ -1,81 +1,62 @@
 // Parameter lists, and the head of a method (11 to 13).
-ghost use Rattle.std.specs.Prelude.{◌≡◌, not, ◌||◌, ◌≤◌, length, ltb};
+ghost use Rattle.std.specs.Prelude.{◌≡◌, not, ◌||◌, ltb};
 ghost use Rattle.definitions.specs.Bytes.{same};
 ghost use Rattle.definitions.specs.Wellformed.{init};
-ghost use Rattle.parts.specs.Judge.{judge_names, judge_params, judge_head};
 
+use crate::asked::BlockQuestion;
+use crate::checker::Checker;
 use crate::distinct::distinct_names;
-use crate::names::{check_name, name_part};
-use crate::numbers::number_at;
-use crate::questions::noted;
-use crate::{Number, Passed};
-use byte_tests::same_bytes;
+use crate::names::name_part;
+use crate::numbers::u16_at;
+use questions::Question;
 
-// n names.
-fn check_names(tree: &[u8], at: usize, n: u32, stand: u32) -> Passed
-    requires { at ≤ length tree.now }
-    ensures { result ≡ judge_names tree.now n at stand }
-{
-    let mut p = at;
-    let mut left = n;
-    let mut w = stand;
-    while 0 < left {
-        let one = check_name(tree, p, w);
-        let Passed::Next(next, v) = one else {
-            return one;
-        };
-        p = next;
-        w = v;
-        left -= 1;
-    }
-    Passed::Next(p, w)
-}
-
-// A parameter list.
-pub fn check_params(tree: &[u8], at: usize, stand: u32) -> Passed
-    requires { at ≤ length tree.now }
-    ensures { result ≡ judge_params tree.now at stand }
-{
-    let count = number_at(tree, at);
-    match count {
-        Number::Unread(q) => Passed::Refused(q),
-        Number::Is(n, from) => {
-            let names = check_names(tree, from, n, stand);
-            let Passed::Next(end, v) = names else {
-                return names;
-            };
-            let w = noted(v, 11, distinct_names(tree, from, n));
-            Passed::Next(end, noted(w, 13, n <= 255))
-        }
-    }
-}
+// How many names or arguments a list may have (13).
+pub const LIST_MOST: u32 = 255;
 
 // 12: whether a method of this name may have so many parameters.
 fn may_have(name: &[u8], n: u32) -> bool
     ensures { result ≡ (not (same name.now init) || ltb 0 n) }
 {
-    if same_bytes(name, b"__init__") {
-        return 0 < n;
-    }
-    true
+    name != b"__init__".as_slice() || 0 < n
 }
 
-// A method's name and parameters.
-pub fn check_head(tree: &[u8], at: usize, stand: u32) -> Passed
-    requires { at ≤ length tree.now }
-    ensures { result ≡ judge_head tree.now at stand }
-{
-    let first = check_name(tree, at, stand);
-    let Passed::Next(from, v) = first else {
-        return first;
-    };
-    let second = check_params(tree, from, v);
-    let Passed::Next(end, u) = second else {
-        return second;
-    };
-    let count = number_at(tree, from);
-    match count {
-        Number::Unread(q) => Passed::Refused(q),
-        Number::Is(n, _) => Passed::Next(end, noted(u, 12, may_have(name_part(tree, at), n))),
+impl<'a> Checker<'a> {
+    ghost use Rattle.parts.specs.Judge.{judge_names, judge_params, judge_head};
+    ghost use Rattle.parts.specs.Judged.{Judged};
+
+    // n names.
+    fn names(&mut self, n: u32) -> Result<(), Question>
+        ensures { Judged result self.old self.new (λ t p w. judge_names t n p w) }
+    {
+        for _ in 0..n {
+            self.name()?;
+        }
+        Ok(())
+    }
+
+    // A parameter list.
+    pub fn params(&mut self) -> Result<(), Question>
+        ensures { Judged result self.old self.new judge_params }
+    {
+        let n = self.number()?;
+        let from = self.at;
+        self.names(n)?;
+        let distinct = distinct_names(self.tree, from, n);
+        self.note(BlockQuestion::Parameters, distinct);
+        self.note(BlockQuestion::ListLengths, n <= LIST_MOST);
+        Ok(())
+    }
+
+    // A method's name and parameters.
+    pub fn head(&mut self) -> Result<(), Question>
+        ensures { Judged result self.old self.new judge_head }
+    {
+        let at = self.at;
+        self.name()?;
+        let list = self.at;
+        self.params()?;
+        let ok = may_have(name_part(self.tree, at), u16_at(self.tree, list));
+        self.note(BlockQuestion::Init, ok);
+        Ok(())
     }
 }

@@ -15,6 +15,11 @@ use Rattle.definitions.specs.Reader.{instruction, read_module}
 use Rattle.definitions.specs.Calls.{function_of, zeros}
 use Rattle.definitions.specs.Sheet.{is_question, tally}
 use Rattle.definitions.specs.Reach.{wide_area, room_asked, place_asked, sought, Finds, found_answer, buffer_after, area_left, reach_call}
+use Rattle.std.proofs.Common.{Result, Err}
+use Rattle.std.proofs.Common.{Option as Opt}
+use Rattle.questions.specs.declared.Question.{Question}
+use Rattle.questions.specs.declared.Question.TheVariants.{WorkAreas, Place, AnswerRoom}
+use Rattle.questions.specs.Numbers.{number}
 use Rattle.reader.specs.View.{function_in, CodeAt, instructions_of}
 use Rattle.reader.proofs.Encoding.{Small}
 use Rattle.run.proofs.Calling.{part-code, part_count, part-coded, when-refused, when-accepted, function-known}
@@ -23,13 +28,11 @@ use Rattle.tally.specs.Counts.{Tallies}
 use Rattle.tally.specs.declared.Tallied.{Tallied}
 use Rattle.tally.proofs.Walking.{reads-list, reads-are}
 use Rattle.reach.specs.Reaching.{said, Says, Gives, Seekable}
-use Rattle.reach.specs.declared.Reached.{Reached}
-use Rattle.reach.specs.declared.Reached.TheVariants.{Refused}
 
 -- a refusal leaves the buffer
-refuses : {s : Answer (List Instr)} {q place : ℕ} {out : List ℕ} → s ≡ refused q → Says (Refused q) s place out out
+refuses : {s : Answer (List Instr)} {q : Question} {place : ℕ} {out : List ℕ} → s ≡ refused (number q) → Says (Err q) s place out out
 unfolding Finds said found_answer buffer_after when_accepted
-refuses {s} {q} {place} {out} e = subst (λ (a : Answer (List Instr)). Says (Refused q) a place out out) (sym e) (record { found = none; finds = tt; answer = refl; leaves = refl })
+refuses {s} {q} {place} {out} e = subst (λ (a : Answer (List Instr)). Says (Err q) a place out out) (sym e) (record { found = none; finds = tt; answer = refl; leaves = refl })
 
 -- ---- 17 to 22, 34 and 35
 
@@ -45,8 +48,8 @@ module _ (area place f : ℕ) (t out : List ℕ) (long : 131072 ≤ area) where
       go (refused q) = refl
 
   -- no such function, or no module
-  pub says-refused : {q : ℕ} → function_in t f ≡ refused q → Says (Refused q) (sought area t f place (length out)) place out out
-  says-refused {q} e = refuses (by-function ∙ when-refused (function_in t f) _ q e)
+  pub says-refused : {q : Question} → function_in t f ≡ refused (number q) → Says (Err q) (sought area t f place (length out)) place out out
+  says-refused {q} e = refuses (by-function ∙ when-refused (function_in t f) _ (number q) e)
 
   module _ {p s n : ℕ} (c : CodeAt t f p s n) where
     asked : (b : Bool) → ltb place (length c.function.code) ≡ b
@@ -56,7 +59,8 @@ module _ (area place f : ℕ) (t out : List ℕ) (long : 131072 ≤ area) where
         ∙ ap (λ (u : Bool). elim u as (λ z. Answer (List Instr)) [ false ↦ refused 34 | true ↦ room_asked (length out) c.function.code ]) x
 
     -- the place is not in the function
-    pub says-34 : n ≤ place → Says (Refused 34) (sought area t f place (length out)) place out out
+    pub says-34 : n ≤ place → Says (Err Place) (sought area t f place (length out)) place out out
+    unfolding number
     says-34 h = let k = c.count in refuses (asked false (le-ltb place (length c.function.code) (omega arith)))
 
     module _ {questions : ℕ} (q : questions ≡ tally is_question c.function.code) (h : place < n) where
@@ -69,11 +73,12 @@ module _ (area place f : ℕ) (t out : List ℕ) (long : 131072 ≤ area) where
           ∙ ap (λ (u : Bool). elim u as (λ z. Answer (List Instr)) [ false ↦ refused 35 | true ↦ accepted c.function.code ]) x
 
       -- the buffer is too short
-      pub says-35 : length out < questions → Says (Refused 35) (sought area t f place (length out)) place out out
+      pub says-35 : length out < questions → Says (Err AnswerRoom) (sought area t f place (length out)) place out out
+      unfolding number
       says-35 l = refuses (roomed false (lt-leb (tally is_question c.function.code) (length out) (omega arith)))
 
       -- no question is answered no
-      pub says : questions ≤ length out → {part : List ℕ} → part ≡ take s (drop p t) → {r : Reached} {left : List ℕ}
+      pub says : questions ≤ length out → {part : List ℕ} → part ≡ take s (drop p t) → {r : Result (Opt ℕ) Question} {left : List ℕ}
           → Says r (accepted (instructions_of part)) place out left → Says r (sought area t f place (length out)) place out left
       says l {part} e {r} {left} w =
           let a = roomed true (le-leb (tally is_question c.function.code) (length out) (omega arith)) ∙ ap accepted (sym (part-code t f p s n c part e)) in
@@ -102,8 +107,8 @@ module _ {t : List ℕ} {f p s n : ℕ} (c : CodeAt t f p s n) where
 -- ---- the call
 
 module _ (t : List ℕ) (f place : ℕ) (area out : List ℕ) where
-  pub call-short : length area < 131072 → Gives (Refused 1) t f place area area out out
-  unfolding sought wide_area area_left reach_call Finds said found_answer buffer_after when_accepted
+  pub call-short : length area < 131072 → Gives (Err WorkAreas) t f place area area out out
+  unfolding number sought wide_area area_left reach_call Finds said found_answer buffer_after when_accepted
   call-short h =
       let w = lt-leb 131072 (length area) h in
       let s : sought (length area) t f place (length out) ≡ refused 1 =
@@ -115,7 +120,7 @@ module _ (t : List ℕ) (f place : ℕ) (area out : List ℕ) where
         is = λ i. record { answer = found_answer (sym s i) none; area = sym a i; buffer = buffer_after (sym s i) none out };
       }
 
-  pub call_long : 131072 ≤ length area → {r : Reached} {area' out' : List ℕ} (mid : List ℕ) → length mid ≡ length area → area' ≡ zeros mid
+  pub call_long : 131072 ≤ length area → {r : Result (Opt ℕ) Question} {area' out' : List ℕ} (mid : List ℕ) → length mid ≡ length area → area' ≡ zeros mid
       → Says r (sought (length area) t f place (length out)) place out out' → Gives r t f place area area' out out'
   unfolding wide_area area_left zeros reach_call
   call_long h {r} {area'} {out'} mid l e s =

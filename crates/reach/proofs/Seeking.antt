@@ -14,14 +14,14 @@ use Rattle.definitions.specs.Sheet.{is_question, one_if}
 use Rattle.definitions.specs.Reach.{Brings, Finds, count_found, found_answer, buffer_after}
 use Rattle.definitions.specs.Search.{asks, Way, Swept, by_link}
 use Rattle.definitions.proofs.Trails.{own, own_answers, brings, nowhere}
+use Rattle.std.proofs.Common.{Ok, Some, None}
 use Rattle.reader.specs.View.{instructions_of, start_of}
-use Rattle.run.specs.Pass.{Coded, Places}
+use Rattle.run.specs.Tables.{Coded, Places}
 use Rattle.run.proofs.Coding.{op-here}
 use Rattle.search.specs.View.{marks_of, Searchable}
 use Rattle.search.proofs.Viewing.{mark-at}
 use Rattle.reach.specs.Tracing.{way_to, Traceable}
 use Rattle.reach.specs.Reaching.{said, Says, Seekable, Tracked}
-use Rattle.reach.specs.declared.Reached.TheVariants.{Answers, Nowhere}
 use Rattle.reach.proofs.Tracks.{way-is, traced-in}
 
 -- the opcode at a place
@@ -38,7 +38,7 @@ module _ {c table : List ℕ} (h : Coded c) (P : Places c table) {k : ℕ} (l : 
 -- ---- what is said of code in which a place is sought
 
 -- answers that bring a run to the place
-says-answers : {code : List Instr} {place : ℕ} {out out' : List ℕ} (ys : List ℕ) → Brings code place ys → (k : ℕ) → k ≡ length ys → out' ≡ written ys out → Says (Answers k) (accepted code) place out out'
+says-answers : {code : List Instr} {place : ℕ} {out out' : List ℕ} (ys : List ℕ) → Brings code place ys → (k : ℕ) → k ≡ length ys → out' ≡ written ys out → Says (Ok (Some k)) (accepted code) place out out'
 unfolding Finds said found_answer count_found buffer_after when_accepted
 says-answers ys B k e f = record { found = some ys; finds = B; answer = ap (λ (j : ℕ). accepted (some j)) e; leaves = f }
 
@@ -83,7 +83,7 @@ module _ {c table area out : List ℕ} {place : ℕ} (M : Tracked c table place 
     here = ap (λ (x : ℕ). one_if (is_question x)) eo
 
     -- no question
-    pub no_own : one_if (is_question op) ≡ 0 → Says (Answers count) (accepted (instructions_of c)) place out mid
+    pub no_own : one_if (is_question op) ≡ 0 → Says (Ok (Some count)) (accepted (instructions_of c)) place out mid
     unfolding own_answers
     no_own z =
         let o = own-none (is_question (get_or (instructions_of c) place Return).op) (sym here ∙ z) in
@@ -117,7 +117,7 @@ module _ {c table area out : List ℕ} {place : ℕ} (M : Tracked c table place 
           ∙ sym (append_assoc ys (0 ∷ []) (drop (suc (length ys)) out))
           ∙ ap (λ (j : ℕ). (ys ++ (0 ∷ [])) ++ drop j out) (let y : suc (length ys) ≡ length (ys ++ (0 ∷ [])) = omega arith in y)
 
-      pub own-written : {left : List ℕ} → left ≡ set mid count 0 → Says (Answers (count + 1)) (accepted (instructions_of c)) place out left
+      pub own-written : {left : List ℕ} → left ≡ set mid count 0 → Says (Ok (Some (count + 1))) (accepted (instructions_of c)) place out left
       unfolding own_answers
       own-written e =
           let ys = M.way.answers in
@@ -132,7 +132,7 @@ module _ {c area out : List ℕ} {n place : ℕ} (S : Seekable c area n place ou
   ready P = record { coded = S.coded; starts = P; count = S.count; long = S.long }
 
   module _ (area' : List ℕ) (l : length area' ≡ length area) (W : Swept by_link (instructions_of c) (marks_of n area')) where
-    pub no_way : get_or area' (65536 + place) 0 ≡ 0 → Says Nowhere (accepted (instructions_of c)) place out out
+    pub no_way : get_or area' (65536 + place) 0 ≡ 0 → Says (Ok None) (accepted (instructions_of c)) place out out
     unfolding Finds said found_answer count_found buffer_after when_accepted
     no_way e = record {
       found = none;

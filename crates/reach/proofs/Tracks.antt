@@ -9,12 +9,13 @@ use lib.Dec.{eqb, leb}
 use lib.ListN.{length, get_or, set, take, drop, take-append-drop, length-append, length-take, get_or-eq_default}
 use lib.Seq.{length-take-le, take-suc, set-append_seam, append_snoc, get_or-take, get_or-drop}
 use borrow.Author.Tests.{eq-eqb, ne_eqb, leb-true, leb-false}
+use Rattle.std.proofs.Common.{Some, None}
 use Rattle.definitions.specs.Instruction.{Instr, Return}
 use Rattle.definitions.specs.Run.{Flow, straight, jump, question, returns, flow}
 use Rattle.definitions.specs.Calls.{written}
 use Rattle.definitions.specs.Search.{Next, straight_on, jumps_to, on_no, on_yes, Step, answers_of, Chain, begins, goes, link_mark, by_link}
 use Rattle.search.specs.View.{marks_of}
-use Rattle.reach.specs.Tracing.{before_of, tag_of, trace, way_to, Traceable, put_back}
+use Rattle.reach.specs.Tracing.{before_of, tag_of, answer_by, listed, trace, way_to, Traceable, put_by, put_back}
 
 -- ---- marks
 
@@ -209,34 +210,25 @@ traced-in T = place_in (going_start T)
 
 -- ---- the answers, from last to first
 
-tag-none : (t : ℕ) → t ≡ 0 → length (answers_of t) ≡ 0
-unfolding answers_of
-tag-none zero e = refl
-tag-none (suc t) e = absurd (omega arith)
+pub answer_none : (t : ℕ) → t ≡ 0 → None ≡ answer_by t
+unfolding answer_by
+answer_none zero e = refl
+answer_none (suc t) e = absurd (omega arith)
 
-tag-some : (t : ℕ) → (t ≡ 0 → ⊥) → length (answers_of t) ≡ 1
-unfolding answers_of
-tag-some zero e = absurd (e refl)
-tag-some (suc t) e = refl
+pub answer_some : (t : ℕ) → (t ≡ 0 → ⊥) → Some (t - 1) ≡ answer_by t
+unfolding answer_by
+answer_some zero e = absurd (e refl)
+answer_some (suc t) e = ap Some (let z : suc t - 1 ≡ t = omega arith in z)
 
-pub taken_none : (t : ℕ) → t ≡ 0 → (0 ≡ length (answers_of t)) × (0 ≤ 1)
-taken_none t e = (sym (tag-none t e), omega arith)
+pub listed-by : (t : ℕ) → listed (answer_by t) ≡ answers_of t
+unfolding listed answer_by answers_of
+listed-by zero = refl
+listed-by (suc t) = refl
 
-pub taken-one : (t : ℕ) → (t ≡ 0 → ⊥) → (1 ≡ length (answers_of t)) × (1 ≤ 1)
-taken-one t e = (sym (tag-some t e), omega arith)
-
-pub put-none : (t at : ℕ) (out : List ℕ) → t ≡ 0 → (at + length (answers_of t) ≡ at) × (out ≡ put_back t at out)
-unfolding put_back answers_of
-put-none zero at out e = (omega arith, refl)
-put-none (suc t) at out e = absurd (omega arith)
-
-pub put_one : (t at : ℕ) (out : List ℕ) → (t ≡ 0 → ⊥) → length (answers_of t) ≤ at → (at - 1 + length (answers_of t) ≡ at) × (set out (at - 1) (t - 1) ≡ put_back t at out)
-unfolding put_back answers_of
-put_one zero at out e h = absurd (e refl)
-put_one (suc t) at out e h = (omega arith, ap (λ (v : ℕ). set out (at - 1) v) (let z : suc t - 1 ≡ t = omega arith in z))
-
-pub put-room : (t at : ℕ) → (t ≡ 0 → ⊥) → length (answers_of t) ≤ at → 1 ≤ at
-put-room t at e h = let z = tag-some t e in omega arith
+pub put-by : (t at : ℕ) (out : List ℕ) → put_by (answer_by t) at out ≡ put_back t at out
+unfolding put_by answer_by put_back
+put-by zero at out = refl
+put-by (suc t) at out = refl
 
 -- what is written so far: the answers from `at` to the end
 pub record Written (area : List ℕ) (place end p at : ℕ) (out₀ out : List ℕ) : Type 0 where
@@ -334,7 +326,3 @@ module _ {area : List ℕ} {place p count : ℕ} (C : Counting area place p coun
 pub before-is : (m : ℕ) → (m - 1) / 4 ≡ before_of m
 unfolding before_of
 before-is m = refl
-
-pub tag_is : (m : ℕ) → ((m - 1) % 4 ≡ tag_of m) × ((m - 1) % 4 < 4)
-unfolding tag_of
-tag_is m = (refl, omega arith)

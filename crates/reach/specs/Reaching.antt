@@ -1,5 +1,8 @@
 -- What the call of R-8 answers and leaves. Assumes nothing: these are definitions.
-use Rattle.std.specs.Prelude.{ℕ, ◌≤◌, ◌<◌, ◌≡◌, List, length}
+use Rattle.std.specs.Prelude.{ℕ, ◌≤◌, ◌<◌, ◌≡◌, List, length, Result, Ok, Err, Some, None}
+use Rattle.std.specs.Prelude.{Option as Opt}
+use Rattle.questions.specs.declared.Question.{Question}
+use Rattle.questions.specs.Numbers.{number}
 use Rattle.std.proofs.Math.Option.{Option, none, some}
 use Rattle.definitions.specs.Bytes.{Answer, refused, accepted}
 use Rattle.definitions.specs.Instruction.{Instr}
@@ -7,26 +10,24 @@ use Rattle.definitions.specs.Sheet.{tally, is_question}
 use Rattle.definitions.specs.Reach.{Finds, found_answer, buffer_after, ReachCall}
 use Rattle.definitions.specs.Search.{Way, by_link}
 use Rattle.reader.specs.View.{instructions_of}
-use Rattle.run.specs.Pass.{Coded, Places}
+use Rattle.run.specs.Tables.{Coded, Places}
 use Rattle.search.specs.View.{marks_of}
-use Rattle.reach.specs.declared.Reached.{Reached}
-use Rattle.reach.specs.declared.Reached.TheVariants.{Answers, Nowhere, Refused}
 
 -- the paper's answer for each case of the code's: the count of answers, none, or the number of the first question answered no
-unfoldable pub said : Reached → Answer (Option ℕ)
-said (Answers n) = accepted (some n)
-said Nowhere = accepted none
-said (Refused q) = refused q
+unfoldable pub said : Result (Opt ℕ) Question → Answer (Option ℕ)
+said (Ok (Some n)) = accepted (some n)
+said (Ok None) = accepted none
+said (Err q) = refused (number q)
 
 -- what is answered and left in the buffer, by the questions' answer s; `found` is the free part
-pub record Says (r : Reached) (s : Answer (List Instr)) (place : ℕ) (out out' : List ℕ) : Type 0 where
+pub record Says (r : Result (Opt ℕ) Question) (s : Answer (List Instr)) (place : ℕ) (out out' : List ℕ) : Type 0 where
   pub found : Option (List ℕ)
   pub finds : Finds s place found
   pub answer : said r ≡ found_answer s found
   pub leaves : out' ≡ buffer_after s found out
 
 -- the call
-abbrev pub Gives : Reached → List ℕ → ℕ → ℕ → List ℕ → List ℕ → List ℕ → List ℕ → Type 0
+abbrev pub Gives : Result (Opt ℕ) Question → List ℕ → ℕ → ℕ → List ℕ → List ℕ → List ℕ → List ℕ → Type 0
 Gives r bytes function place area area' out out' = ReachCall bytes function place area out (record { answer = said r; area = area'; buffer = out' })
 
 -- ---- what is asked of the code

@@ -1,5 +1,7 @@
 -- The way that the marks of a search show, back from a place. Assumes nothing: these are definitions.
-use Rattle.std.specs.Prelude.{ℕ, zero, suc, ◌-◌, ◌/◌, ◌%◌, ◌≤◌, ◌<◌, true, false, List, [], ◌++◌, length, get_or, set, drop, eqb}
+use Rattle.std.specs.Prelude.{ℕ, zero, suc, ◌-◌, ◌/◌, ◌%◌, ◌≤◌, ◌<◌, true, false, List, [], ◌∷◌, ◌++◌, length, get_or, set, drop, eqb}
+use Rattle.std.specs.Prelude.{Some, None}
+use Rattle.std.specs.Prelude.{Option as Opt}
 use Rattle.definitions.specs.Instruction.{Instr}
 use Rattle.definitions.specs.Search.{answers_of, Way, by_link}
 use Rattle.search.specs.View.{marks_of}
@@ -10,6 +12,15 @@ before_of m = (m - 1) / 4
 
 unfoldable pub tag_of : ℕ → ℕ
 tag_of m = (m - 1) % 4
+
+-- the answer of a tag, and an answer as a list
+unfoldable pub answer_by : ℕ → Opt ℕ
+answer_by zero = None
+answer_by (suc k) = Some k
+
+unfoldable pub listed : Opt ℕ → List ℕ
+listed None = []
+listed (Some a) = a ∷ []
 
 -- the answers on the way to a place, of fewer than n steps
 unfoldable pub trace : ℕ → List ℕ → ℕ → List ℕ
@@ -28,7 +39,11 @@ pub record Traceable (area : List ℕ) (place : ℕ) : Type 0 where
   pub long : 131072 ≤ length area
   pub way : Way by_link code (marks_of (length code) area) place
 
--- an answer before `at`, if the tag has one
+-- an answer before `at`, if there is one; and by its tag
+unfoldable pub put_by : Opt ℕ → ℕ → List ℕ → List ℕ
+put_by None at out = out
+put_by (Some a) at out = set out (at - 1) a
+
 unfoldable pub put_back : ℕ → ℕ → List ℕ → List ℕ
 put_back zero at out = out
 put_back (suc k) at out = set out (at - 1) k

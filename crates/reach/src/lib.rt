@@ -11,82 +11,92 @@ ghost use Rattle.reach.specs.Reaching.{Seekable, Tracked, Says, Gives};
 
 use crate::trace::{way_length, write_way};
 use areas::clear;
-use reader::{Located, locate, part_of};
-use run::{fill_places, wide};
+use questions::Question;
+use reader::{locate, part_of};
+use run::fill_places;
 use search::{MARKS, sweep};
 use tally::{count_code, question};
+
+// A function has fewer instructions.
+const MOST_PLACES: usize = 65536;
 
 // How long the work area is at least: question 1.
 pub const AREA: usize = 131072;
 
-// So many answers in the buffer bring a run to the place; none do; or the number of the first question answered no.
-#[derive(Clone, Copy)]
-pub enum Reached {
-    Answers(usize),
-    Nowhere,
-    Refused(u8),
-}
-
 // The answers on the way to a marked place, and one of its own where it is a question.
-fn write_answers(code: &[u8], places: &[u32], place: usize, area: &[u32], out: &mut [u8]) -> Reached
+fn write_answers(code: &[u8], places: &[u32], place: usize, area: &[u32], out: &mut [u8]) -> usize
     requires { Tracked code.now places.now place area.now out.old }
-    ensures { Says result (accepted (instructions_of code.now)) place out.old out.new }
+    ensures { Says (Ok (Some result)) (accepted (instructions_of code.now)) place out.old out.new }
 {
     let count = way_length(area, place);
     write_way(area, place, count, out);
-    let at = wide(places[place]);
+    let at = places[place] as usize;
     if question(code[at]) == 0 {
-        return Reached::Answers(count);
+        return count;
     }
     out[count] = 0;
-    Reached::Answers(count + 1)
+    count + 1
 }
 
-// The search in a function's code of n instructions, and the answers; the area keeps its table.
-fn reach_code(code: &[u8], n: usize, place: usize, area: &mut [u32], out: &mut [u8]) -> Reached
+// The search in a function's code of n instructions, and the count of answers; or nothing, where none bring a run to the place. The area keeps its table.
+fn reach_code(
+    code: &[u8],
+    n: usize,
+    place: usize,
+    area: &mut [u32],
+    out: &mut [u8],
+) -> Option<usize>
     requires { Seekable code.now area.old n place out.old }
-    ensures { Says result (accepted (instructions_of code.now)) place out.old out.new }
+    ensures { Says (Ok result) (accepted (instructions_of code.now)) place out.old out.new }
 {
-    let mut places = [0u32; 65536];
+    let mut places = [0u32; MOST_PLACES];
     fill_places(code, &mut places);
     sweep(code, &places, area, n);
     if area[MARKS + place] == 0 {
-        return Reached::Nowhere;
+        return None;
     }
-    write_answers(code, &places, place, area, out)
+    Some(write_answers(code, &places, place, area, out))
 }
 
 // Questions 17 to 22, 34 and 35, and the search; the area keeps its table.
-fn reach_in(bytes: &[u8], function: u64, place: u64, area: &mut [u32], out: &mut [u8]) -> Reached
+fn reach_in(
+    bytes: &[u8],
+    function: u64,
+    place: u64,
+    area: &mut [u32],
+    out: &mut [u8],
+) -> Result<Option<usize>, Question>
     requires { 131072 ≤ length area.old }
     ensures { Says result (sought (length area.old) bytes.now function place (length out.old)) place out.old out.new }
 {
     let found = locate(bytes, function);
     let code = part_of(bytes, found);
-    match found {
-        Located::NoCode(q) => Reached::Refused(q),
-        Located::Code(start, _, n) => {
-            if n <= place {
-                return Reached::Refused(34);
-            }
-            let counted = count_code(bytes, start, n);
-            if (out.len() as u64) < counted.questions {
-                return Reached::Refused(35);
-            }
-            reach_code(code, n as usize, place as usize, area, out)
-        }
+    let part = found?;
+    if part.count <= place {
+        return Err(Question::Place);
     }
+    let counted = count_code(bytes, part.start, part.count);
+    if (out.len() as u64) < counted.questions {
+        return Err(Question::AnswerRoom);
+    }
+    Ok(reach_code(code, part.count as usize, place as usize, area, out))
 }
 
-// An answer list with which a run of the function meets the place, from the buffer's start on; or that none does. The area is zero afterwards, but
-// after refusal 1, which leaves it.
-pub fn reach(bytes: &[u8], function: u64, place: u64, area: &mut [u32], out: &mut [u8]) -> Reached
+// How many answers, from the buffer's start on, bring a run of the function to the place; none where no list does. The area is zero afterwards, but
+// after the question of its length, which leaves it.
+pub fn reach(
+    bytes: &[u8],
+    function: u64,
+    place: u64,
+    area: &mut [u32],
+    out: &mut [u8],
+) -> Result<Option<usize>, Question>
     ensures { Gives result bytes.now function place area.old area.new out.old out.new }
 {
     if area.len() < AREA {
-        return Reached::Refused(1);
+        return Err(Question::WorkAreas);
     }
-    let r = reach_in(bytes, function, place, area, out);
+    let reached = reach_in(bytes, function, place, area, out);
     clear(area);
-    r
+    reached
 }

@@ -1,8 +1,7 @@
 // The way that the marks of a search show, back from a place.
 ghost use Rattle.std.specs.Prelude.{◌≡◌, ◌+◌, ◌≤◌, ◌<◌, length};
 ghost use Rattle.definitions.specs.Calls.{written};
-ghost use Rattle.definitions.specs.Search.{answers_of};
-ghost use Rattle.reach.specs.Tracing.{before_of, tag_of, way_to, Traceable, put_back};
+ghost use Rattle.reach.specs.Tracing.{before_of, tag_of, answer_by, listed, way_to, Traceable, put_by};
 
 use search::{MARKS, ROOT};
 
@@ -14,22 +13,26 @@ fn before_of(m: u32) -> usize
     ((m - 1) / 4) as usize
 }
 
-// The tag of a mark: 0 no answer, 1 a no, 2 a yes.
-fn tag_of(m: u32) -> u32
+// The answer that a mark tells: none, or a no (0) or a yes (1).
+fn answer_of(m: u32) -> Option<u8>
     requires { 1 ≤ m }
-    ensures { (result ≡ tag_of m) × (result < 4) }
+    ensures { result ≡ answer_by (tag_of m) }
 {
-    (m - 1) % 4
+    match (m - 1) % 4 {
+        0 => None,
+        tag => Some((tag - 1) as u8),
+    }
 }
 
-// How many answers a tag has.
-fn taken(tag: u32) -> usize
-    ensures { (result ≡ length (answers_of tag)) × (result ≤ 1) }
+// How many answers that is.
+#[tactic(auto, unfolding(crate::specs::Tracing::listed))]
+fn taken(answer: Option<u8>) -> usize
+    ensures { (result ≡ length (listed answer)) × (result ≤ 1) }
 {
-    if tag == 0 {
-        return 0;
+    match answer {
+        None => 0,
+        Some(_) => 1,
     }
-    1
 }
 
 // How many answers there are on the way to a place.
@@ -44,21 +47,24 @@ pub(crate) fn way_length(area: &[u32], place: usize) -> usize
         if m == ROOT {
             return count;
         }
-        count += taken(tag_of(m));
+        count += taken(answer_of(m));
         p = before_of(m);
     }
 }
 
-// An answer before `at`, if the tag has one: where it stands.
-fn put_back(out: &mut [u8], at: usize, tag: u32) -> usize
-    requires { (length (answers_of tag) ≤ at) × (at ≤ length out.old) × (tag < 4) }
-    ensures { (result + length (answers_of tag) ≡ at) × (out.new ≡ put_back tag at out.old) }
+// An answer before `at`, if there is one: where it stands.
+#[tactic(auto, unfolding(crate::specs::Tracing::listed, crate::specs::Tracing::put_by))]
+fn put_back(out: &mut [u8], at: usize, answer: Option<u8>) -> usize
+    requires { (length (listed answer) ≤ at) × (at ≤ length out.old) }
+    ensures { (result + length (listed answer) ≡ at) × (out.new ≡ put_by answer at out.old) }
 {
-    if tag == 0 {
-        return at;
+    match answer {
+        None => at,
+        Some(answer) => {
+            out[at - 1] = answer;
+            at - 1
+        }
     }
-    out[at - 1] = (tag - 1) as u8;
-    at - 1
 }
 
 // The answers on the way to a place, of which there are `end`, at the buffer's start.
@@ -73,7 +79,7 @@ pub(crate) fn write_way(area: &[u32], place: usize, end: usize, out: &mut [u8])
         if m == ROOT {
             return;
         }
-        at = put_back(out, at, tag_of(m));
+        at = put_back(out, at, answer_of(m));
         p = before_of(m);
     }
 }

@@ -1,22 +1,19 @@
 -- Well formed names, methods and classes that are read and tested, by position. Assumes nothing.
 use Prim.Native.Nat.{ℕ, zero, suc, ◌+◌, ◌-◌, ◌<◌, ◌≤◌}
-use mathlib.Core.Path.{◌≡◌, refl, sym, ap, ap₂, ◌∙◌, subst}
+use mathlib.Core.Path.{◌≡◌, refl, sym, ap, ◌∙◌, subst}
 use mathlib.Core.Bool.{Bool, true, false, ◌&&◌}
 use mathlib.Core.List.{List, [], ◌∷◌}
 use native.Mathlib.Omega.{arith}
-use lib.Dec.{ltb}
 use lib.ListN.{length, take, drop}
 use lib.Seq.{slice}
-use borrow.Author.Tests.{ne_eqb}
 use Rattle.definitions.specs.Bytes.{Name, give, field, counted, list_of, name, checked, all, below}
-use Rattle.definitions.specs.Wellformed.{is_name, if_asked}
+use Rattle.definitions.specs.Wellformed.{is_name}
 use Rattle.definitions.specs.Tables.{Method}
 use Rattle.definitions.specs.Reader.{method_record, rising, class_record}
 use Rattle.reader.specs.View.{skip_at, number_at, Got}
-use Rattle.reader.specs.Asks.{ask_next, ask_methods, ask_method, ask_class}
-use Rattle.reader.specs.declared.Counts.{Counts}
-use Rattle.reader.specs.declared.Skipped.{Skipped}
-use Rattle.reader.specs.declared.Skipped.TheVariants.{Next, Cut}
+use Rattle.reader.specs.Asks.{has_function, ask_next, ask_methods, ask_method, ask_class}
+use Rattle.reader.specs.declared.Asked.{Asked}
+use Rattle.std.specs.Prelude.{Option, Some, None}
 use Rattle.reader.proofs.Taken.{skip-cut, skip-next, skip-field, got-field, got-bind, got-give, skipped-got, got-at}
 use Rattle.reader.proofs.InstructionLaws.{got-checked, cut-checked, cut-unchecked}
 use Rattle.reader.proofs.NameLaws.{part_slice, name-view}
@@ -25,10 +22,10 @@ use Rattle.definitions.proofs.Begins.{takes-checked, takes-name}
 
 -- ---- a well formed name
 
-pub proper-cut : (t : List ℕ) (at : ℕ) → skip_at name t at ≡ Cut → skip_at (checked is_name name) t at ≡ Cut
+pub proper-cut : (t : List ℕ) (at : ℕ) → skip_at name t at ≡ None → skip_at (checked is_name name) t at ≡ None
 proper-cut t at e = cut-unchecked is_name name t at e
 
-module _ (t : List ℕ) (at m : ℕ) (h : at ≤ length t) (r : skip_at name t at ≡ Next m) where
+module _ (t : List ℕ) (at m : ℕ) (h : at ≤ length t) (r : skip_at name t at ≡ Some m) where
   pub proper-range : (at + 1 ≤ m) × (m ≤ length t)
   proper-range = let g = got-at name takes-name t at m h r in let v = name-view t at g.0 m h g.1 in let e = v.1 in (omega arith, g.1.to)
 
@@ -39,19 +36,19 @@ module _ (t : List ℕ) (at m : ℕ) (h : at ≤ length t) (r : skip_at name t a
   part-is : (b : Bool) → is_name (take (m - (at + 1)) (drop (at + 1) t)) ≡ b → is_name (slice (at + 1) m t) ≡ b
   part-is b e = sym (ap is_name (part_slice t (at + 1) m)) ∙ e
 
-  pub proper-yes : is_name (take (m - (at + 1)) (drop (at + 1) t)) ≡ true → skip_at (checked is_name name) t at ≡ Next m
+  pub proper-yes : is_name (take (m - (at + 1)) (drop (at + 1) t)) ≡ true → skip_at (checked is_name name) t at ≡ Some m
   proper-yes e = skipped-got (checked is_name name) t at (slice (at + 1) m t) m (got-checked is_name name t at (slice (at + 1) m t) m proper-is (part-is true e))
 
-  pub proper-no : is_name (take (m - (at + 1)) (drop (at + 1) t)) ≡ false → skip_at (checked is_name name) t at ≡ Cut
+  pub proper-no : is_name (take (m - (at + 1)) (drop (at + 1) t)) ≡ false → skip_at (checked is_name name) t at ≡ None
   proper-no e = cut-checked is_name name t at (slice (at + 1) m t) m proper-is (part-is false e)
 
-pub proper-got : (t : List ℕ) (at m : ℕ) → at ≤ length t → skip_at (checked is_name name) t at ≡ Next m → Got (checked is_name name) t at (slice (at + 1) m t) m
+pub proper-got : (t : List ℕ) (at m : ℕ) → at ≤ length t → skip_at (checked is_name name) t at ≡ Some m → Got (checked is_name name) t at (slice (at + 1) m t) m
 proper-got t at m h r =
     let g = got-at (checked is_name name) (takes-checked is_name name takes-name) t at m h r in
     let k = got-tested is_name name t at g.0 m g.1 in
     subst (λ (x : Name). Got (checked is_name name) t at x m) (name-view t at g.0 m h k.0).2 g.1
 
-pub proper-bounds : (t : List ℕ) (at m : ℕ) → at ≤ length t → skip_at (checked is_name name) t at ≡ Next m → (at + 1 ≤ m) × (m ≤ length t)
+pub proper-bounds : (t : List ℕ) (at m : ℕ) → at ≤ length t → skip_at (checked is_name name) t at ≡ Some m → (at + 1 ≤ m) × (m ≤ length t)
 proper-bounds t at m h r =
     let g = got-at (checked is_name name) (takes-checked is_name name takes-name) t at m h r in
     let k = got-tested is_name name t at g.0 m g.1 in
@@ -59,44 +56,31 @@ proper-bounds t at m h r =
 
 -- ---- methods
 
-module _ (c : Counts) (x y : Name) (f : ℕ) where
-  pub next-above : (q : ℕ) → below x y ≡ true → q ≡ 20 → ask_next q c x y f ≡ ltb f c.functions
-  unfolding ask_next if_asked
-  next-above q e k = ap₂ (λ (b : Bool) (j : ℕ). b && if_asked 20 j (ltb f c.functions)) e k
-
-  pub next-only : (q : ℕ) → below x y ≡ true → (q ≡ 20 → ⊥) → ask_next q c x y f ≡ true
-  unfolding ask_next if_asked
-  next-only q e k = simp (e, ne_eqb q 20 k)
-
-  pub next-not : (q : ℕ) → below x y ≡ false → ask_next q c x y f ≡ false
-  unfolding ask_next
-  next-not q e = simp e
-
-module _ (t : List ℕ) (q : ℕ) (c : Counts) where
+module _ (t : List ℕ) (q : Asked) where
   -- n methods from `at` on, after one of the name x
-  unfoldable pub methods_from : Name → ℕ → ℕ → Skipped
-  methods_from x n at = skip_at (checked (ask_methods q c x) (counted [] ◌∷◌ method_record n)) t at
+  unfoldable pub methods_from : Name → ℕ → ℕ → Option ℕ
+  methods_from x n at = skip_at (checked (ask_methods q x) (counted [] ◌∷◌ method_record n)) t at
 
-  pub methods-short : (at : ℕ) → at ≤ length t → length t - at < 2 → skip_at (checked (ask_methods q c []) (list_of 2 method_record)) t at ≡ Cut
-  methods-short at h l = pass-no-count method_record t (ask_methods q c []) at h l
+  pub methods-short : (at : ℕ) → at ≤ length t → length t - at < 2 → skip_at (checked (ask_methods q []) (list_of 2 method_record)) t at ≡ None
+  methods-short at h l = pass-no-count method_record t (ask_methods q []) at h l
 
-  pub methods-begin : (at n : ℕ) → 2 ≤ length t - at → n ≡ number_at 2 t at → skip_at (checked (ask_methods q c []) (list_of 2 method_record)) t at ≡ methods_from (slice 0 0 t) n (at + 2)
+  pub methods-begin : (at n : ℕ) → 2 ≤ length t - at → n ≡ number_at 2 t at → skip_at (checked (ask_methods q []) (list_of 2 method_record)) t at ≡ methods_from [] n (at + 2)
   unfolding methods_from
-  methods-begin at n h k = pass-count method_record t (ask_methods q c []) at h ∙ sym (ap (λ (j : ℕ). skip_at (checked (ask_methods q c []) (counted [] ◌∷◌ method_record j)) t (at + 2)) k)
+  methods-begin at n h k = pass-count method_record t (ask_methods q []) at h ∙ sym (ap (λ (j : ℕ). skip_at (checked (ask_methods q []) (counted [] ◌∷◌ method_record j)) t (at + 2)) k)
 
-  pub methods-end : (x : Name) (n at : ℕ) → n ≤ 0 → at ≤ length t → methods_from x n at ≡ Next at
+  pub methods-end : (x : Name) (n at : ℕ) → n ≤ 0 → at ≤ length t → methods_from x n at ≡ Some at
   unfolding methods_from ask_methods
-  methods-end x n at h l = pass-end method_record t (ask_methods q c x) n at h l refl
+  methods-end x n at h l = pass-end method_record t (ask_methods q x) n at h l refl
 
   module _ (x : Name) (n p : ℕ) (h : 0 < n) (l : p ≤ length t) where
-    pub methods-cut : skip_at (checked is_name name) t p ≡ Cut → methods_from x n p ≡ Cut
+    pub methods-cut : skip_at (checked is_name name) t p ≡ None → methods_from x n p ≡ None
     unfolding methods_from method_record
-    methods-cut r = pass-cut method_record t (ask_methods q c x) n p h (skip-cut (checked is_name name) _ t p r)
+    methods-cut r = pass-cut method_record t (ask_methods q x) n p h (skip-cut (checked is_name name) _ t p r)
 
-    module _ (e : ℕ) (r : skip_at (checked is_name name) t p ≡ Next e) where
-      pub methods-no-number : length t - e < 2 → methods_from x n p ≡ Cut
+    module _ (e : ℕ) (r : skip_at (checked is_name name) t p ≡ Some e) where
+      pub methods-no-number : length t - e < 2 → methods_from x n p ≡ None
       unfolding methods_from method_record
-      methods-no-number s = let b = proper-bounds t p e l r in pass-cut method_record t (ask_methods q c x) n p h
+      methods-no-number s = let b = proper-bounds t p e l r in pass-cut method_record t (ask_methods q x) n p h
           (skip-next (checked is_name name) _ t p (slice (p + 1) e t) e (proper-got t p e l r) ∙ skip-cut (field 2) _ t e (skip-field 2 t e b.1 (omega arith)))
 
       module _ (s : 2 ≤ length t - e) (f : ℕ) (k : f ≡ number_at 2 t e) where
@@ -107,14 +91,14 @@ module _ (t : List ℕ) (q : ℕ) (c : Counts) where
             (got-bind (field 2) _ t e f (e + 2) _ (e + 2) (subst (λ (j : ℕ). Got (field 2) t e j (e + 2)) (sym k) (got-field 2 t e (omega arith)))
             (got-give (record { name = slice (p + 1) e t; function = f }) t (e + 2) (omega arith)))
 
-        pub methods-next : ask_next q c x (slice (p + 1) e t) f ≡ true → methods_from x n p ≡ methods_from (slice (p + 1) e t) (n - 1) (e + 2)
+        pub methods-next : ask_next q x (slice (p + 1) e t) f ≡ true → methods_from x n p ≡ methods_from (slice (p + 1) e t) (n - 1) (e + 2)
         unfolding methods_from ask_methods
-        methods-next a = pass-next method_record t (ask_methods q c x) (ask_methods q c (slice (p + 1) e t)) n p _ (e + 2) h method-got
-            (λ ms. ap (λ (b : Bool). b && ask_methods q c (slice (p + 1) e t) ms) a)
+        methods-next a = pass-next method_record t (ask_methods q x) (ask_methods q (slice (p + 1) e t)) n p _ (e + 2) h method-got
+            (λ ms. ap (λ (b : Bool). b && ask_methods q (slice (p + 1) e t) ms) a)
 
-        pub methods-fail : ask_next q c x (slice (p + 1) e t) f ≡ false → methods_from x n p ≡ Cut
+        pub methods-fail : ask_next q x (slice (p + 1) e t) f ≡ false → methods_from x n p ≡ None
         unfolding methods_from ask_methods
-        methods-fail a = pass-fail method_record t (ask_methods q c x) n p _ (e + 2) h method-got (λ ms. ap (λ (b : Bool). b && ask_methods q c (slice (p + 1) e t) ms) a)
+        methods-fail a = pass-fail method_record t (ask_methods q x) n p _ (e + 2) h method-got (λ ms. ap (λ (b : Bool). b && ask_methods q (slice (p + 1) e t) ms) a)
 
 -- ---- classes
 
@@ -130,14 +114,14 @@ regroup : (b m a : Bool) → (b && (m && a)) ≡ ((b && m) && a)
 regroup true m a = refl
 regroup false m a = refl
 
-module _ (q : ℕ) (c : Counts) where
-  rises : (m : Method) (ms : List Method) → (rising (m ∷ ms) && all (ask_method q c) (m ∷ ms)) ≡ (ask_method q c m && ask_methods q c m.name ms)
+module _ (q : Asked) where
+  rises : (m : Method) (ms : List Method) → (rising (m ∷ ms) && all (ask_method q) (m ∷ ms)) ≡ (ask_method q m && ask_methods q m.name ms)
   unfolding rising all ask_methods ask_next ask_method
   rises m [] = refl
   rises m (n ∷ ms) =
-      shuffle (below m.name n.name) (rising (n ∷ ms)) (ask_method q c m) (all (ask_method q c) (n ∷ ms))
-      ∙ ap (λ (b : Bool). ask_method q c m && (below m.name n.name && b)) (rises n ms)
-      ∙ ap (λ (b : Bool). ask_method q c m && b) (regroup (below m.name n.name) (ask_method q c n) (ask_methods q c n.name ms))
+      shuffle (below m.name n.name) (rising (n ∷ ms)) (ask_method q m) (all (ask_method q) (n ∷ ms))
+      ∙ ap (λ (b : Bool). ask_method q m && (below m.name n.name && b)) (rises n ms)
+      ∙ ap (λ (b : Bool). ask_method q m && b) (regroup (below m.name n.name) (ask_method q n) (ask_methods q n.name ms))
 
   -- the first method's name is well formed
   FirstNamed : List Method → Type 0
@@ -149,10 +133,10 @@ module _ (q : ℕ) (c : Counts) where
   above-none [] e = e
   above-none (y ∷ ys) e = refl
 
-  rises-first : (ms : List Method) → FirstNamed ms → (rising ms && all (ask_method q c) ms) ≡ ask_methods q c [] ms
+  rises-first : (ms : List Method) → FirstNamed ms → (rising ms && all (ask_method q) ms) ≡ ask_methods q [] ms
   unfolding rising all ask_methods ask_next ask_method FirstNamed
   rises-first [] f = refl
-  rises-first (m ∷ ms) f = rises m ms ∙ sym (ap (λ (b : Bool). b && if_asked 20 q (ltb m.function c.functions) && ask_methods q c m.name ms) (above-none m.name f))
+  rises-first (m ∷ ms) f = rises m ms ∙ sym (ap (λ (b : Bool). b && has_function q m.function && ask_methods q m.name ms) (above-none m.name f))
 
   method-named : (bs : List ℕ) → Sat (λ (m : Method). is_name m.name ≡ true) (method_record bs)
   unfolding method_record give
@@ -170,15 +154,15 @@ module _ (q : ℕ) (c : Counts) where
   list-named bs = sat-bind (λ n. Unit {0}) FirstNamed (field 2) _ bs (sat-any (field 2 bs)) (λ n rest u. first-named n rest)
 
   module _ (t : List ℕ) (at : ℕ) where
-    pub class-cut : skip_at (checked is_name name) t at ≡ Cut → skip_at (checked (ask_class q c) class_record) t at ≡ Cut
+    pub class-cut : skip_at (checked is_name name) t at ≡ None → skip_at (checked (ask_class q) class_record) t at ≡ None
     unfolding class_record
-    class-cut r = checked-cut (ask_class q c) (checked is_name name) _ t at r
+    class-cut r = checked-cut (ask_class q) (checked is_name name) _ t at r
 
-    pub class-next : (m : ℕ) → at ≤ length t → skip_at (checked is_name name) t at ≡ Next m →
-        skip_at (checked (ask_class q c) class_record) t at ≡ skip_at (checked (ask_methods q c []) (list_of 2 method_record)) t m
+    pub class-next : (m : ℕ) → at ≤ length t → skip_at (checked is_name name) t at ≡ Some m →
+        skip_at (checked (ask_class q) class_record) t at ≡ skip_at (checked (ask_methods q []) (list_of 2 method_record)) t m
     unfolding class_record ask_class
     class-next m h r =
-        checked-next (ask_class q c) (checked is_name name) _ t at (slice (at + 1) m t) m (proper-got t at m h r)
-        ∙ checked-give (ask_class q c) (checked rising (list_of 2 method_record)) (λ ms. record { name = slice (at + 1) m t; methods = ms }) t m
-        ∙ checked-twice (λ ms. all (ask_method q c) ms) rising (list_of 2 method_record) t m
-        ∙ checked-same FirstNamed (λ ms. rising ms && all (ask_method q c) ms) (ask_methods q c []) (list_of 2 method_record) t m (list-named (drop m t)) rises-first
+        checked-next (ask_class q) (checked is_name name) _ t at (slice (at + 1) m t) m (proper-got t at m h r)
+        ∙ checked-give (ask_class q) (checked rising (list_of 2 method_record)) (λ ms. record { name = slice (at + 1) m t; methods = ms }) t m
+        ∙ checked-twice (λ ms. all (ask_method q) ms) rising (list_of 2 method_record) t m
+        ∙ checked-same FirstNamed (λ ms. rising ms && all (ask_method q) ms) (ask_methods q []) (list_of 2 method_record) t m (list-named (drop m t)) rises-first

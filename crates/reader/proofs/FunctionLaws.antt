@@ -1,13 +1,12 @@
 -- Functions that are read and tested, by position. Assumes nothing.
 use Prim.Native.Nat.{ℕ, ◌+◌, ◌-◌, ◌<◌, ◌≤◌}
-use mathlib.Core.Path.{◌≡◌, refl, sym, ap, ap₂, ◌∙◌, subst}
+use mathlib.Core.Path.{◌≡◌, refl, sym, ap, ◌∙◌, subst}
 use mathlib.Core.Bool.{Bool, true, false, ◌&&◌}
 use mathlib.Core.List.{List, [], ◌∷◌}
 use mathlib.Core.Logic.{◌⊎◌, inl, inr, ⊎_elim}
 use native.Mathlib.Omega.{arith}
 use lib.Dec.{leb}
-use borrow.Author.Tests.{leb-true, lt-ltb, le-ltb, ne_eqb}
-use Rattle.definitions.specs.Wellformed.{if_asked}
+use borrow.Author.Tests.{leb-true}
 use lib.ListN.{length, drop}
 use Rattle.definitions.specs.Bytes.{Parsed, ◌>>=◌, give, byte, field, counted, list_of, checked}
 use Rattle.definitions.specs.Instruction.{Instr, instr, first_width, second_width}
@@ -15,12 +14,10 @@ use Rattle.definitions.specs.Tables.{Function}
 use Rattle.definitions.specs.Reader.{instruction, function_record}
 use Rattle.reader.specs.View.{skip_at, found_at, number_at}
 use Rattle.reader.specs.Asks.{ask_op, ask_code, ask_head, ask_function, ask_constant}
-use Rattle.reader.specs.declared.Counts.{Counts}
-use Rattle.reader.specs.declared.Skipped.{Skipped}
-use Rattle.reader.specs.declared.Skipped.TheVariants.{Next, Cut}
-use Rattle.reader.specs.declared.Found.TheVariants.{Instruction, Nothing}
+use Rattle.reader.specs.declared.Asked.{Asked}
+use Rattle.std.specs.Prelude.{Option, Some, None}
 use Rattle.reader.proofs.Taken.{skip-cut, skip-field, got-field, skipped-got}
-use Rattle.reader.proofs.InstructionLaws.{found-is, cut-found, got-checked, cut-checked, cut-unchecked}
+use Rattle.reader.proofs.InstructionLaws.{found_as, found-is, cut-found, got-checked, cut-checked, cut-unchecked}
 use Rattle.reader.proofs.Checked.{Sat, sat-bind, sat-any, sat-checked, counted-length, checked-next, checked-cut, checked-give, checked-same, checked-none, pass-next, pass-fail, pass-cut, pass-end, pass-count}
 use Rattle.definitions.proofs.Begins.{le-or-gt}
 
@@ -31,45 +28,45 @@ opcode-small bs = sat-bind (λ op. leb op 45 ≡ true) (λ i. i.op ≤ 45) (chec
     (λ op rest e. sat-bind (λ a. Unit {0}) (λ i. i.op ≤ 45) (field (first_width op)) _ rest (sat-any (field (first_width op) rest))
     (λ a r u. sat-bind (λ b. Unit {0}) (λ i. i.op ≤ 45) (field (second_width op)) _ r (sat-any (field (second_width op) r)) (λ b s v. leb-true op 45 e)))
 
-pub op-small : (t : List ℕ) (at op a b m : ℕ) → at ≤ length t → found_at t at ≡ Instruction op a b m → op < 46
+pub op-small : (t : List ℕ) (at op a b m : ℕ) → at ≤ length t → found_at t at ≡ found_as op a b m → op < 46
 op-small t at op a b m h e =
     let k : op ≤ 45 = subst (λ (r : Parsed Instr). Sat (λ (i : Instr). i.op ≤ 45) r) (found-is t at op a b m h e).is (opcode-small (drop at t)) in omega arith
 
 -- ---- code
 
-module _ (t : List ℕ) (q : ℕ) (c : Counts) (n slots : ℕ) where
+module _ (t : List ℕ) (q : Asked) (n slots : ℕ) where
   -- the instructions from place k on, at p
-  unfoldable pub code_from : ℕ → ℕ → Skipped
-  code_from k p = skip_at (checked (ask_code q c n slots k) (counted [] ◌∷◌ instruction (n - k))) t p
+  unfoldable pub code_from : ℕ → ℕ → Option ℕ
+  code_from k p = skip_at (checked (ask_code q n slots k) (counted [] ◌∷◌ instruction (n - k))) t p
 
-  pub code-all : (p : ℕ) → skip_at (checked (ask_code q c n slots 0) (counted [] ◌∷◌ instruction n)) t p ≡ code_from 0 p
+  pub code-all : (p : ℕ) → skip_at (checked (ask_code q n slots 0) (counted [] ◌∷◌ instruction n)) t p ≡ code_from 0 p
   unfolding code_from
-  code-all p = ap (λ (j : ℕ). skip_at (checked (ask_code q c n slots 0) (counted [] ◌∷◌ instruction j)) t p) (let z : n ≡ n - 0 = omega arith in z)
+  code-all p = ap (λ (j : ℕ). skip_at (checked (ask_code q n slots 0) (counted [] ◌∷◌ instruction j)) t p) (let z : n ≡ n - 0 = omega arith in z)
 
   module _ (k p : ℕ) (h : k < n) (l : p ≤ length t) where
-    pub code-next : (op a b m : ℕ) → found_at t p ≡ Instruction op a b m → ask_op q c n slots k op a ≡ true → code_from k p ≡ code_from (k + 1) m
+    pub code-next : (op a b m : ℕ) → found_at t p ≡ found_as op a b m → ask_op q n slots k op a ≡ true → code_from k p ≡ code_from (k + 1) m
     unfolding code_from ask_code
     code-next op a b m e f =
-        pass-next instruction t (ask_code q c n slots k) (ask_code q c n slots (k + 1)) (n - k) p (instr op a b) m (omega arith) (found-is t p op a b m l e)
-        (λ is. ap (λ (x : Bool). x && ask_code q c n slots (k + 1) is) f)
-        ∙ ap (λ (j : ℕ). skip_at (checked (ask_code q c n slots (k + 1)) (counted [] ◌∷◌ instruction j)) t m) (let z : n - k - 1 ≡ n - (k + 1) = omega arith in z)
+        pass-next instruction t (ask_code q n slots k) (ask_code q n slots (k + 1)) (n - k) p (instr op a b) m (omega arith) (found-is t p op a b m l e)
+        (λ is. ap (λ (x : Bool). x && ask_code q n slots (k + 1) is) f)
+        ∙ ap (λ (j : ℕ). skip_at (checked (ask_code q n slots (k + 1)) (counted [] ◌∷◌ instruction j)) t m) (let z : n - k - 1 ≡ n - (k + 1) = omega arith in z)
 
-    pub code-fail : (op a b m : ℕ) → found_at t p ≡ Instruction op a b m → ask_op q c n slots k op a ≡ false → code_from k p ≡ Cut
+    pub code-fail : (op a b m : ℕ) → found_at t p ≡ found_as op a b m → ask_op q n slots k op a ≡ false → code_from k p ≡ None
     unfolding code_from ask_code
     code-fail op a b m e f =
-        pass-fail instruction t (ask_code q c n slots k) (n - k) p (instr op a b) m (omega arith) (found-is t p op a b m l e)
-        (λ is. ap (λ (x : Bool). x && ask_code q c n slots (k + 1) is) f)
+        pass-fail instruction t (ask_code q n slots k) (n - k) p (instr op a b) m (omega arith) (found-is t p op a b m l e)
+        (λ is. ap (λ (x : Bool). x && ask_code q n slots (k + 1) is) f)
 
-    pub code-cut : found_at t p ≡ Nothing → code_from k p ≡ Cut
+    pub code-cut : found_at t p ≡ None → code_from k p ≡ None
     unfolding code_from
-    code-cut e = pass-cut instruction t (ask_code q c n slots k) (n - k) p (omega arith) (cut-found t p e)
+    code-cut e = pass-cut instruction t (ask_code q n slots k) (n - k) p (omega arith) (cut-found t p e)
 
-  pub code-end : (k p : ℕ) → n ≤ k → p ≤ length t → code_from k p ≡ Next p
+  pub code-end : (k p : ℕ) → n ≤ k → p ≤ length t → code_from k p ≡ Some p
   unfolding code_from ask_code
-  code-end k p h l = pass-end instruction t (ask_code q c n slots k) (n - k) p (omega arith) l refl
+  code-end k p h l = pass-end instruction t (ask_code q n slots k) (n - k) p (omega arith) l refl
 
 -- where the next instruction begins
-pub found-next : (t : List ℕ) (at op a b m : ℕ) → at ≤ length t → found_at t at ≡ Instruction op a b m → m ≤ length t
+pub found-next : (t : List ℕ) (at op a b m : ℕ) → at ≤ length t → found_at t at ≡ found_as op a b m → m ≤ length t
 found-next t at op a b m h e = (found-is t at op a b m h e).to
 
 or-le : (k n : ℕ) → (n < k) ⊎ (k ≤ n)
@@ -77,90 +74,84 @@ or-le k n = ⊎_elim (λ (h : k ≤ n). inr h) (λ (h : n < k). inl h) (le-or-gt
 
 -- ---- a function
 
-module _ (t : List ℕ) (at q : ℕ) (c : Counts) where
+module _ (t : List ℕ) (at : ℕ) (q : Asked) where
   made : ℕ → ℕ → ℕ → List Instr → Function
   made k n l is = record { symbol = k; arity = n; locals = l; code = is }
 
-  pub short-function : at ≤ length t → length t - at < 7 → skip_at (checked (ask_function q c) function_record) t at ≡ Cut
+  pub short-function : at ≤ length t → length t - at < 7 → skip_at (checked (ask_function q) function_record) t at ≡ None
   unfolding function_record list_of
   short-function h l = ⊎_elim
-      (λ (a : length t - at < 2). checked-cut (ask_function q c) (field 2) _ t at (skip-field 2 t at h (omega arith)))
+      (λ (a : length t - at < 2). checked-cut (ask_function q) (field 2) _ t at (skip-field 2 t at h (omega arith)))
       (λ (a : 2 ≤ length t - at).
-      checked-next (ask_function q c) (field 2) _ t at (number_at 2 t at) (at + 2) (got-field 2 t at (omega arith))
+      checked-next (ask_function q) (field 2) _ t at (number_at 2 t at) (at + 2) (got-field 2 t at (omega arith))
       ∙ ⊎_elim
-      (λ (b : length t - at < 3). checked-cut (ask_function q c) (field 1) _ t (at + 2) (skip-field 1 t (at + 2) (omega arith) (omega arith)))
+      (λ (b : length t - at < 3). checked-cut (ask_function q) (field 1) _ t (at + 2) (skip-field 1 t (at + 2) (omega arith) (omega arith)))
       (λ (b : 3 ≤ length t - at).
-      checked-next (ask_function q c) (field 1) _ t (at + 2) (number_at 1 t (at + 2)) (at + 2 + 1) (got-field 1 t (at + 2) (omega arith))
+      checked-next (ask_function q) (field 1) _ t (at + 2) (number_at 1 t (at + 2)) (at + 2 + 1) (got-field 1 t (at + 2) (omega arith))
       ∙ ⊎_elim
-      (λ (d : length t - at < 5). checked-cut (ask_function q c) (field 2) _ t (at + 2 + 1) (skip-field 2 t (at + 2 + 1) (omega arith) (omega arith)))
+      (λ (d : length t - at < 5). checked-cut (ask_function q) (field 2) _ t (at + 2 + 1) (skip-field 2 t (at + 2 + 1) (omega arith) (omega arith)))
       (λ (d : 5 ≤ length t - at).
-      checked-next (ask_function q c) (field 2) _ t (at + 2 + 1) (number_at 2 t (at + 2 + 1)) (at + 2 + 1 + 2) (got-field 2 t (at + 2 + 1) (omega arith))
-      ∙ checked-cut (ask_function q c) (field 2 >>= λ j. counted [] ◌∷◌ instruction j) _ t (at + 2 + 1 + 2)
+      checked-next (ask_function q) (field 2) _ t (at + 2 + 1) (number_at 2 t (at + 2 + 1)) (at + 2 + 1 + 2) (got-field 2 t (at + 2 + 1) (omega arith))
+      ∙ checked-cut (ask_function q) (field 2 >>= λ j. counted [] ◌∷◌ instruction j) _ t (at + 2 + 1 + 2)
       (skip-cut (field 2) _ t (at + 2 + 1 + 2) (skip-field 2 t (at + 2 + 1 + 2) (omega arith) (omega arith))))
       (or-le 5 (length t - at)))
       (or-le 3 (length t - at)))
       (or-le 2 (length t - at))
 
   -- the code at z, its count at y, the slots at x
-  code_as : ℕ → ℕ → ℕ → Skipped
-  code_as x y z = skip_at (checked (λ is. ask_head q c (number_at 2 t at) (number_at 2 t y) && ask_code q c (number_at 2 t y) (number_at 2 t x) 0 is) (counted [] ◌∷◌ instruction (number_at 2 t y))) t z
+  code_as : ℕ → ℕ → ℕ → Option ℕ
+  code_as x y z = skip_at (checked (λ is. ask_head q (number_at 2 t at) (number_at 2 t y) && ask_code q (number_at 2 t y) (number_at 2 t x) 0 is) (counted [] ◌∷◌ instruction (number_at 2 t y))) t z
 
   module _ (h : 7 ≤ length t - at) where
-    function-code : skip_at (checked (ask_function q c) function_record) t at
+    function-code : skip_at (checked (ask_function q) function_record) t at
         ≡ code_as (at + 3) (at + 5) (at + 7)
     unfolding function_record ask_function code_as
     function-code =
-        checked-next (ask_function q c) (field 2) _ t at (number_at 2 t at) (at + 2) (got-field 2 t at (omega arith))
-        ∙ checked-next (ask_function q c) (field 1) _ t (at + 2) (number_at 1 t (at + 2)) (at + 2 + 1) (got-field 1 t (at + 2) (omega arith))
-        ∙ checked-next (ask_function q c) (field 2) _ t (at + 2 + 1) (number_at 2 t (at + 2 + 1)) (at + 2 + 1 + 2) (got-field 2 t (at + 2 + 1) (omega arith))
-        ∙ checked-give (ask_function q c) (list_of 2 instruction) (λ is. record { symbol = number_at 2 t at; arity = number_at 1 t (at + 2); locals = number_at 2 t (at + 2 + 1); code = is }) t (at + 2 + 1 + 2)
+        checked-next (ask_function q) (field 2) _ t at (number_at 2 t at) (at + 2) (got-field 2 t at (omega arith))
+        ∙ checked-next (ask_function q) (field 1) _ t (at + 2) (number_at 1 t (at + 2)) (at + 2 + 1) (got-field 1 t (at + 2) (omega arith))
+        ∙ checked-next (ask_function q) (field 2) _ t (at + 2 + 1) (number_at 2 t (at + 2 + 1)) (at + 2 + 1 + 2) (got-field 2 t (at + 2 + 1) (omega arith))
+        ∙ checked-give (ask_function q) (list_of 2 instruction) (λ is. record { symbol = number_at 2 t at; arity = number_at 1 t (at + 2); locals = number_at 2 t (at + 2 + 1); code = is }) t (at + 2 + 1 + 2)
         ∙ pass-count instruction t _ (at + 2 + 1 + 2) (omega arith)
         ∙ checked-same (λ is. length is ≡ number_at 2 t (at + 2 + 1 + 2)) _
-        (λ is. ask_head q c (number_at 2 t at) (number_at 2 t (at + 2 + 1 + 2)) && ask_code q c (number_at 2 t (at + 2 + 1 + 2)) (number_at 2 t (at + 2 + 1)) 0 is)
+        (λ is. ask_head q (number_at 2 t at) (number_at 2 t (at + 2 + 1 + 2)) && ask_code q (number_at 2 t (at + 2 + 1 + 2)) (number_at 2 t (at + 2 + 1)) 0 is)
         (counted [] ◌∷◌ instruction (number_at 2 t (at + 2 + 1 + 2))) t (at + 2 + 1 + 2 + 2)
         (counted-length instruction (number_at 2 t (at + 2 + 1 + 2)) (drop (at + 2 + 1 + 2 + 2) t))
-        (λ is e. ap (λ (j : ℕ). ask_head q c (number_at 2 t at) j && ask_code q c j (number_at 2 t (at + 2 + 1)) 0 is) e)
+        (λ is e. ap (λ (j : ℕ). ask_head q (number_at 2 t at) j && ask_code q j (number_at 2 t (at + 2 + 1)) 0 is) e)
         ∙ ap (λ (x : ℕ). code_as x (at + 2 + 1 + 2) (at + 2 + 1 + 2 + 2)) (let z : at + 2 + 1 ≡ at + 3 = omega arith in z)
         ∙ ap (λ (x : ℕ). code_as (at + 3) x (at + 2 + 1 + 2 + 2)) (let z : at + 2 + 1 + 2 ≡ at + 5 = omega arith in z)
         ∙ ap (λ (x : ℕ). code_as (at + 3) (at + 5) x) (let z : at + 2 + 1 + 2 + 2 ≡ at + 7 = omega arith in z)
 
     module _ (k l n : ℕ) (ek : k ≡ number_at 2 t at) (el : l ≡ number_at 2 t (at + 3)) (en : n ≡ number_at 2 t (at + 5)) where
-      to-code : code_as (at + 3) (at + 5) (at + 7) ≡ skip_at (checked (λ is. ask_head q c k n && ask_code q c n l 0 is) (counted [] ◌∷◌ instruction n)) t (at + 7)
+      to-code : code_as (at + 3) (at + 5) (at + 7) ≡ skip_at (checked (λ is. ask_head q k n && ask_code q n l 0 is) (counted [] ◌∷◌ instruction n)) t (at + 7)
       unfolding code_as
-      to-code = sym (ap (λ (x : ℕ). skip_at (checked (λ is. ask_head q c x n && ask_code q c n l 0 is) (counted [] ◌∷◌ instruction n)) t (at + 7)) ek
-          ∙ ap (λ (x : ℕ). skip_at (checked (λ is. ask_head q c (number_at 2 t at) n && ask_code q c n x 0 is) (counted [] ◌∷◌ instruction n)) t (at + 7)) el
-          ∙ ap (λ (x : ℕ). skip_at (checked (λ is. ask_head q c (number_at 2 t at) x && ask_code q c x (number_at 2 t (at + 3)) 0 is) (counted [] ◌∷◌ instruction x)) t (at + 7)) en)
+      to-code = sym (ap (λ (x : ℕ). skip_at (checked (λ is. ask_head q x n && ask_code q n l 0 is) (counted [] ◌∷◌ instruction n)) t (at + 7)) ek
+          ∙ ap (λ (x : ℕ). skip_at (checked (λ is. ask_head q (number_at 2 t at) n && ask_code q n x 0 is) (counted [] ◌∷◌ instruction n)) t (at + 7)) el
+          ∙ ap (λ (x : ℕ). skip_at (checked (λ is. ask_head q (number_at 2 t at) x && ask_code q x (number_at 2 t (at + 3)) 0 is) (counted [] ◌∷◌ instruction x)) t (at + 7)) en)
 
-      pub function-head : ask_head q c k n ≡ true →
-          skip_at (checked (ask_function q c) function_record) t at ≡ skip_at (checked (ask_code q c n l 0) (counted [] ◌∷◌ instruction n)) t (at + 7)
+      pub function-head : ask_head q k n ≡ true →
+          skip_at (checked (ask_function q) function_record) t at ≡ skip_at (checked (ask_code q n l 0) (counted [] ◌∷◌ instruction n)) t (at + 7)
       function-head e = function-code ∙ to-code
-          ∙ checked-same (λ is. Unit {0}) _ (ask_code q c n l 0) (counted [] ◌∷◌ instruction n) t (at + 7) (sat-any (counted [] ◌∷◌ instruction n (drop (at + 7) t)))
-          (λ is u. ap (λ (b : Bool). b && ask_code q c n l 0 is) e)
+          ∙ checked-same (λ is. Unit {0}) _ (ask_code q n l 0) (counted [] ◌∷◌ instruction n) t (at + 7) (sat-any (counted [] ◌∷◌ instruction n (drop (at + 7) t)))
+          (λ is u. ap (λ (b : Bool). b && ask_code q n l 0 is) e)
 
-      pub function-fails : ask_head q c k n ≡ false → skip_at (checked (ask_function q c) function_record) t at ≡ Cut
+      pub function-fails : ask_head q k n ≡ false → skip_at (checked (ask_function q) function_record) t at ≡ None
       function-fails e = function-code ∙ to-code
           ∙ checked-none (λ is. Unit {0}) _ (counted [] ◌∷◌ instruction n) t (at + 7) (sat-any (counted [] ◌∷◌ instruction n (drop (at + 7) t)))
-          (λ is u. ap (λ (b : Bool). b && ask_code q c n l 0 is) e)
+          (λ is u. ap (λ (b : Bool). b && ask_code q n l 0 is) e)
 
 -- ---- a constant
 
-module _ (t : List ℕ) (at q : ℕ) (c : Counts) (h : at ≤ length t) where
-  pub short-constant : length t - at < 2 → skip_at (checked (ask_constant q c) (field 2)) t at ≡ Cut
-  short-constant l = cut-unchecked (ask_constant q c) (field 2) t at (skip-field 2 t at h (omega arith))
+module _ (t : List ℕ) (at : ℕ) (q : Asked) (h : at ≤ length t) where
+  pub short-constant : length t - at < 2 → skip_at (checked (ask_constant q) (field 2)) t at ≡ None
+  short-constant l = cut-unchecked (ask_constant q) (field 2) t at (skip-field 2 t at h (omega arith))
 
   module _ (l : 2 ≤ length t - at) where
-    constant-says : (b : Bool) → ask_constant q c (number_at 2 t at) ≡ b → skip_at (checked (ask_constant q c) (field 2)) t at ≡ elim b [ true ↦ Next (at + 2) | false ↦ Cut ]
-    constant-says true e = skipped-got (checked (ask_constant q c) (field 2)) t at (number_at 2 t at) (at + 2) (got-checked (ask_constant q c) (field 2) t at (number_at 2 t at) (at + 2) (got-field 2 t at (omega arith)) e)
-    constant-says false e = cut-checked (ask_constant q c) (field 2) t at (number_at 2 t at) (at + 2) (got-field 2 t at (omega arith)) e
+    constant-says : (b : Bool) → ask_constant q (number_at 2 t at) ≡ b → skip_at (checked (ask_constant q) (field 2)) t at ≡ elim b [ true ↦ Some (at + 2) | false ↦ None ]
+    constant-says true e = skipped-got (checked (ask_constant q) (field 2)) t at (number_at 2 t at) (at + 2) (got-checked (ask_constant q) (field 2) t at (number_at 2 t at) (at + 2) (got-field 2 t at (omega arith)) e)
+    constant-says false e = cut-checked (ask_constant q) (field 2) t at (number_at 2 t at) (at + 2) (got-field 2 t at (omega arith)) e
 
-    pub constant-exists : (k : ℕ) → k ≡ number_at 2 t at → q ≡ 20 → k < c.classes → skip_at (checked (ask_constant q c) (field 2)) t at ≡ Next (at + 2)
-    unfolding ask_constant if_asked
-    constant-exists k e f b = constant-says true (ap₂ (λ (x y : ℕ). ask_constant x c y) f (sym e) ∙ lt-ltb k c.classes b)
+    pub constant-stands : (k : ℕ) → k ≡ number_at 2 t at → ask_constant q k ≡ true → skip_at (checked (ask_constant q) (field 2)) t at ≡ Some (at + 2)
+    constant-stands k e f = constant-says true (ap (ask_constant q) (sym e) ∙ f)
 
-    pub constant-fails : (k : ℕ) → k ≡ number_at 2 t at → q ≡ 20 → c.classes ≤ k → skip_at (checked (ask_constant q c) (field 2)) t at ≡ Cut
-    unfolding ask_constant if_asked
-    constant-fails k e f b = constant-says false (ap₂ (λ (x y : ℕ). ask_constant x c y) f (sym e) ∙ le-ltb k c.classes b)
-
-    pub constant-reads : (q ≡ 20 → ⊥) → skip_at (checked (ask_constant q c) (field 2)) t at ≡ Next (at + 2)
-    unfolding ask_constant if_asked
-    constant-reads f = constant-says true (simp (ne_eqb q 20 f))
+    pub constant-fails : (k : ℕ) → k ≡ number_at 2 t at → ask_constant q k ≡ false → skip_at (checked (ask_constant q) (field 2)) t at ≡ None
+    constant-fails k e f = constant-says false (ap (ask_constant q) (sym e) ∙ f)

@@ -1,6 +1,6 @@
 -- A function's instructions in order: what one call of the iteration says of what is left. Assumes nothing.
 use Prim.Native.Nat.{ℕ, zero, suc, ◌+◌, ◌-◌, ◌<◌, ◌≤◌}
-use mathlib.Core.Path.{◌≡◌, refl, sym, ap, ap₂, ◌∙◌, subst}
+use mathlib.Core.Path.{◌≡◌, refl, sym, ap, ◌∙◌, subst}
 use mathlib.Core.List.{List, [], ◌∷◌}
 use native.Mathlib.Omega.{arith}
 use lib.ListN.{length, take, drop, get_or, length-append, length-drop, drop_of_length-le}
@@ -9,39 +9,24 @@ use Rattle.definitions.specs.Bytes.{Parsed, got, failed, Parser, ◌>>=◌, give
 use Rattle.definitions.specs.Instruction.{Instr, instr, Return, encode, encodes}
 use Rattle.definitions.specs.Reader.{instruction}
 use Rattle.definitions.proofs.Lengths.{length-encode, spans-instruction}
-use Rattle.reader.specs.View.{found, found_at, instructions_in, instructions_of, met, met_at, start_of}
-use Rattle.reader.specs.declared.Found.TheVariants.{Instruction, Nothing}
-use Rattle.reader.specs.declared.Cursor.{Cursor}
-use Rattle.reader.specs.declared.Met.TheVariants.{At, End}
+use denote.Ref.{Bor}
+use Rattle.reader.specs.declared.Placed.{Placed}
+use Rattle.reader.specs.declared.iteration.Instructions.{Instructions}
+use Rattle.reader.specs.View.{Walks, shown, found, found_at, instructions_in, instructions_of, start_of}
+use Rattle.std.specs.Prelude.{Some, None}
+use Rattle.reader.specs.declared.Instruction.{Instruction}
+use Rattle.reader.proofs.InstructionLaws.{found_as, found-is}
 use Rattle.reader.proofs.Encoding.{Small, encodes-read}
 use Rattle.definitions.proofs.Begins.{Rest, takes-instruction}
 
 -- ---- the call
 
-pub met-found : (t : List ℕ) (c : Cursor) (op a b m : ℕ) → found_at t c.at ≡ Instruction op a b m → At op a b (record { place = c.place + 1; at = m }) ≡ met_at t c
-unfolding found_at found met_at met
-met-found t c op a b m e = go (instruction (drop c.at t)) e
-  where
-    go : (r : Parsed Instr) → found (length t) r ≡ Instruction op a b m → At op a b (record { place = c.place + 1; at = m }) ≡ met (length t) c.place r
-    go (got i rest) e =
-        let e1 : i.op ≡ op = cc in let e2 : i.a ≡ a = cc in let e3 : i.b ≡ b = cc in let e4 : length t - length rest ≡ m = cc in
-        sym (λ z. At (e1 z) (e2 z) (e3 z) (record { place = c.place + 1; at = e4 z }))
-    go (failed q) e = let z : ◌≡◌ {A = ℕ} 0 1 = cc in absurd (omega arith)
-
-pub met-nothing : (t : List ℕ) (c : Cursor) → found_at t c.at ≡ Nothing → End ≡ met_at t c
-unfolding found_at found met_at met
-met-nothing t c e = go (instruction (drop c.at t)) e
-  where
-    go : (r : Parsed Instr) → found (length t) r ≡ Nothing → End ≡ met (length t) c.place r
-    go (got i rest) e = let z : ◌≡◌ {A = ℕ} 0 1 = cc in absurd (omega arith)
-    go (failed q) e = refl
-
 -- an instruction begins before the end
-pub found_before : (t : List ℕ) (at op a b m : ℕ) → found_at t at ≡ Instruction op a b m → at < length t
+pub found_before : (t : List ℕ) (at op a b m : ℕ) → found_at t at ≡ found_as op a b m → at < length t
 unfolding found_at found
 found_before t at op a b m e = go (instruction (drop at t)) refl e
   where
-    go : (r : Parsed Instr) → instruction (drop at t) ≡ r → found (length t) r ≡ Instruction op a b m → at < length t
+    go : (r : Parsed Instr) → instruction (drop at t) ≡ r → found (length t) r ≡ found_as op a b m → at < length t
     go (got i rest) k e = let l = spans-instruction.at (drop at t) i rest k in let x = length-encode i in let y = length-drop at t in omega arith
     go (failed q) k e = let z : ◌≡◌ {A = ℕ} 0 1 = cc in absurd (omega arith)
 
@@ -92,37 +77,44 @@ unfolding instructions_of instructions_in
 instructions-none = refl
 
 -- the iteration: an instruction and what is left after it, or nothing left
-pub met-at : (t : List ℕ) (c : Cursor) (op a b : ℕ) (n : Cursor) → c.at ≤ length t → met_at t c ≡ At op a b n →
-    (instructions_of (drop c.at t) ≡ instr op a b ∷ instructions_of (drop n.at t)) × (n.place ≡ c.place + 1) × (n.at ≤ length t) × (n.at ≡ c.at + length (encode (instr op a b)))
-unfolding met_at met
-met-at t c op a b n h e = go (instruction (drop c.at t)) refl (takes-instruction.rest (drop c.at t)) e
-  where
-    go : (r : Parsed Instr) → instruction (drop c.at t) ≡ r → Rest instruction (drop c.at t) r → met (length t) c.place r ≡ At op a b n →
-        (instructions_of (drop c.at t) ≡ instr op a b ∷ instructions_of (drop n.at t)) × (n.place ≡ c.place + 1) × (n.at ≤ length t) × (n.at ≡ c.at + length (encode (instr op a b)))
-    go (got i rest) k w e =
-        let e1 : i.op ≡ op = cc in let e2 : i.a ≡ a = cc in let e3 : i.b ≡ b = cc in
-        let e4 : ◌≡◌ {A = Cursor} (record { place = c.place + 1; at = length t - length rest }) n = cc in
-        let same : i ≡ instr op a b = λ z. record { op = e1 z; a = e2 z; b = e3 z } in
-        let at_n : length t - length rest ≡ n.at = ap (λ (x : Cursor). x.at) e4 in
-        let d : rest ≡ drop (c.at + w.0) t = w.2 ∙ drop-drop w.0 c.at t in
-        let l : length rest ≡ length t - (c.at + w.0) = ap length d ∙ length-drop (c.at + w.0) t in
-        let u : w.0 ≤ length t - c.at = subst (λ (x : ℕ). w.0 ≤ x) (length-drop c.at t) w.1 in
-        let v : c.at + w.0 ≡ n.at = omega arith in
-        let s = spans-instruction.at (drop c.at t) i rest k in let x = length-drop c.at t in let y = ap (λ (j : Instr). length (encode j)) same in (
-          instructions-next (drop c.at t) i rest k ∙ ap₂ (λ (j : Instr) (bs : List ℕ). j ∷ instructions_of bs) same (d ∙ ap (λ (j : ℕ). drop j t) v),
-          sym (ap (λ (x : Cursor). x.place) e4),
-          omega arith,
-          omega arith,
-        )
-    go (failed q) k w e = let z : ◌≡◌ {A = ℕ} 0 1 = cc in absurd (omega arith)
+pub walk-at : (t : List ℕ) (at : ℕ) (i : Instruction) → found_at t at ≡ Some i →
+    (instructions_of (drop at t) ≡ instr i.op i.a i.b ∷ instructions_of (drop i.next t)) × (i.next ≤ length t) × (i.next ≡ at + length (encode (instr i.op i.a i.b)))
+walk-at t at i e =
+    let h = found_before t at i.op i.a i.b i.next e in
+    let g = found-is t at i.op i.a i.b i.next (omega arith) e in
+    let s = spans-instruction.at (drop at t) (instr i.op i.a i.b) (drop i.next t) g.is in
+    let x = length-drop at t in let y = length-drop i.next t in let m = g.to in
+    (instructions-next (drop at t) (instr i.op i.a i.b) (drop i.next t) g.is, m, omega arith)
 
-pub met-end : (t : List ℕ) (c : Cursor) → met_at t c ≡ End → instructions_of (drop c.at t) ≡ []
-unfolding met_at met
-met-end t c e = go (instruction (drop c.at t)) refl e
+-- the next one begins after it
+pub walk-on : (t : List ℕ) (at : ℕ) (i : Instruction) → found_at t at ≡ Some i → (at < length t) × (at < i.next)
+walk-on t at i e =
+    let h = found_before t at i.op i.a i.b i.next e in
+    let w = walk-at t at i e in let l = length-encode (instr i.op i.a i.b) in let x = w.2 in (h, omega arith)
+
+pub walk-end : (t : List ℕ) (at : ℕ) → found_at t at ≡ None → instructions_of (drop at t) ≡ []
+unfolding found_at found
+walk-end t at e = go (instruction (drop at t)) refl e
   where
-    go : (r : Parsed Instr) → instruction (drop c.at t) ≡ r → met (length t) c.place r ≡ End → instructions_of (drop c.at t) ≡ []
+    go : (r : Parsed Instr) → instruction (drop at t) ≡ r → found (length t) r ≡ None → instructions_of (drop at t) ≡ []
     go (got i rest) k e = let z : ◌≡◌ {A = ℕ} 0 1 = cc in absurd (omega arith)
-    go (failed q) k e = instructions-end (drop c.at t) q k
+    go (failed q) k e = instructions-end (drop at t) q k
+
+-- a call of the iteration over the code c: an instruction and what is left after it, or nothing left
+pub walked : (c : List ℕ) (s t : Instructions) (p : Placed) → s.code.now ≡ c → Walks s (Some p) t →
+    (instructions_of (drop s.at c) ≡ shown p ∷ instructions_of (drop t.at c)) × (t.place ≡ s.place + 1) × (t.at ≤ length c) × (t.at ≡ s.at + length (encode (shown p))) × (t.code.now ≡ c)
+walked c s t p k w =
+    let f : found_at c s.at ≡ Some p.instruction = ap (λ (x : List ℕ). found_at x s.at) (sym k) ∙ w.1.2 in
+    let m = walk-at c s.at p.instruction f in
+    let n = w.1.5 in let l = m.1 in let q = m.2 in
+    (m.0 ∙ ap (λ (j : ℕ). shown p ∷ instructions_of (drop j c)) (sym n), w.1.4, omega arith, n ∙ q, ap (λ (x : Bor (List ℕ)). x.now) w.1.3 ∙ k)
+
+pub walked-out : (c : List ℕ) (s t : Instructions) → s.code.now ≡ c → Walks s None t → instructions_of (drop s.at c) ≡ []
+walked-out c s t k w = ap (λ (x : List ℕ). instructions_of (drop s.at x)) (sym k) ∙ w.0.0
+
+-- its operands are what was read
+pub walked-found : (c : List ℕ) (s t : Instructions) (p : Placed) → s.code.now ≡ c → Walks s (Some p) t → found_at c s.at ≡ Some p.instruction
+walked-found c s t p k w = ap (λ (x : List ℕ). found_at x s.at) (sym k) ∙ w.1.2
 
 -- ---- code that was read
 

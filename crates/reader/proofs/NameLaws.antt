@@ -9,7 +9,7 @@ use lib.ListN.{length, drop, take, get_or, length-drop}
 use lib.Seq.{slice, slice_empty, slice-cons}
 use Rattle.definitions.specs.Bytes.{Name, got, Parser, ◌>>=◌, give, byte, field, counted, list_of, name, below}
 use Rattle.reader.specs.View.{skip_at, number_at, Got}
-use Rattle.reader.specs.declared.Skipped.TheVariants.{Cut}
+use Rattle.std.specs.Prelude.{None}
 use Rattle.reader.proofs.Taken.{skip-cut, skip-next, skip-field, got-field, got-bind, got-byte, got-give, bytes_cut, skipped-got}
 use Rattle.definitions.proofs.Begins.{le-or-gt}
 
@@ -41,7 +41,7 @@ pub number-one : (t : List ℕ) (p : ℕ) → number_at 1 t p ≡ get_or t p 0
 unfolding number_at
 number-one t p = omega arith
 
-pub read-not-cut : {A : Type 0} {B : Type 0} (p : Parser A) (t : List ℕ) (at : ℕ) (a : A) (m : ℕ) → Got p t at a m → skip_at p t at ≡ Cut → B
+pub read-not-cut : {A : Type 0} {B : Type 0} (p : Parser A) (t : List ℕ) (at : ℕ) (a : A) (m : ℕ) → Got p t at a m → skip_at p t at ≡ None → B
 read-not-cut p t at a m g e = let k = sym (skipped-got p t at a m g) ∙ e in let z : ◌≡◌ {A = ℕ} 0 1 = cc in absurd (omega arith)
 
 -- a reader reads one thing
@@ -83,5 +83,5 @@ name-view t at x m h g = ⊎_elim
     (le-or-gt (at + 1 + number_at 1 t at) (length t)))
     (le-or-gt (length t) at)
   where
-    never : skip_at (list_of 1 byte) t at ≡ Cut → (at < length t) × (m ≡ at + 1 + get_or t at 0) × (x ≡ slice (at + 1) m t)
+    never : skip_at (list_of 1 byte) t at ≡ None → (at < length t) × (m ≡ at + 1 + get_or t at 0) × (x ≡ slice (at + 1) m t)
     never e = read-not-cut name t at x m g e

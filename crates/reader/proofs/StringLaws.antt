@@ -11,7 +11,7 @@ use Rattle.definitions.specs.Bytes.{Text, byte, field, counted, list_of, text}
 use Rattle.definitions.specs.Utf8.{is_utf8}
 use Rattle.definitions.proofs.Begins.{Takes, le-or-gt, takes-checked, takes-text}
 use Rattle.reader.specs.View.{skip_at, number_at, string, Got}
-use Rattle.reader.specs.declared.Skipped.TheVariants.{Next, Cut}
+use Rattle.std.specs.Prelude.{Some, None}
 use Rattle.reader.proofs.Taken.{skip-cut, skip-next, skip-field, got-at, got-bind, got-field, bytes_cut, skipped-got}
 use Rattle.reader.proofs.NameLaws.{part_slice, read-not-cut, same_read, got-bytes}
 use Rattle.reader.proofs.InstructionLaws.{got-checked, cut-checked, cut-unchecked}
@@ -36,13 +36,13 @@ text-view t at x m h g = ⊎_elim
     (λ (l : length t < at + 2). never (skip-cut (field 2) (λ n. counted [] ◌∷◌ byte n) t at (skip-field 2 t at h (omega arith))))
     (le-or-gt (at + 2) (length t))
   where
-    never : skip_at (list_of 2 byte) t at ≡ Cut → (at + 2 ≤ m) × (x ≡ slice (at + 2) m t)
+    never : skip_at (list_of 2 byte) t at ≡ None → (at + 2 ≤ m) × (x ≡ slice (at + 2) m t)
     never e = read-not-cut text t at x m g e
 
-pub string-cut : (t : List ℕ) (at : ℕ) → skip_at text t at ≡ Cut → skip_at string t at ≡ Cut
+pub string-cut : (t : List ℕ) (at : ℕ) → skip_at text t at ≡ None → skip_at string t at ≡ None
 string-cut t at e = cut-unchecked is_utf8 text t at e
 
-module _ (t : List ℕ) (at m : ℕ) (h : at ≤ length t) (r : skip_at text t at ≡ Next m) where
+module _ (t : List ℕ) (at m : ℕ) (h : at ≤ length t) (r : skip_at text t at ≡ Some m) where
   string-read : (x : Text) × Got text t at x m
   string-read = got-at text takes-text t at m h r
 
@@ -54,8 +54,8 @@ module _ (t : List ℕ) (at m : ℕ) (h : at ≤ length t) (r : skip_at text t a
       let g = string-read in
       subst (λ (x : Text). Got text t at x m) ((text-view t at g.0 m h g.1).1 ∙ sym (part_slice t (at + 2) m)) g.1
 
-  pub string-yes : is_utf8 (take (m - (at + 2)) (drop (at + 2) t)) ≡ true → skip_at string t at ≡ Next m
+  pub string-yes : is_utf8 (take (m - (at + 2)) (drop (at + 2) t)) ≡ true → skip_at string t at ≡ Some m
   string-yes e = skipped-got string t at _ m (got-checked is_utf8 text t at _ m string-is e)
 
-  pub string-no : is_utf8 (take (m - (at + 2)) (drop (at + 2) t)) ≡ false → skip_at string t at ≡ Cut
+  pub string-no : is_utf8 (take (m - (at + 2)) (drop (at + 2) t)) ≡ false → skip_at string t at ≡ None
   string-no e = cut-checked is_utf8 text t at _ m string-is e

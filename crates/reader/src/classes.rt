@@ -1,139 +1,101 @@
 // Questions 19 and 20 of the classes and constants.
 ghost use Rattle.std.specs.Prelude.{◌≡◌, [], ◌≤◌, length};
 ghost use Rattle.definitions.specs.Bytes.{list_of, field, checked, all};
-ghost use Rattle.std.proofs.Math.Seq.{slice};
 ghost use Rattle.definitions.specs.Reader.{method_record, class_record};
-ghost use Rattle.reader.specs.Asks.{ask_constant, ask_next, ask_methods, ask_class};
+ghost use Rattle.reader.specs.Asks.{ask_constant, has_function, ask_next, ask_methods, ask_class};
 ghost use Rattle.reader.specs.View.{skip_at};
 
+use crate::Asked;
+use crate::lists::skip_list;
 use crate::names::skip_proper;
-use crate::numbers::number_at;
-use crate::{Counts, Skipped};
+use crate::numbers::read_number;
 use byte_tests::below_bytes;
 
 // A constant is the number of a class.
-fn ask_constant(bytes: &[u8], at: usize, question: u8, c: Counts) -> Skipped
-    requires { at ≤ length bytes.now }
-    ensures { result ≡ skip_at (checked (ask_constant question c) (field 2)) bytes.now at }
+#[tactic(auto, unfolding(crate::specs::Asks::ask_constant))]
+fn has_class(asked: Asked, class: u64) -> bool
+    ensures { result ≡ ask_constant asked class }
 {
-    if bytes.len() - at < 2 {
-        return Skipped::Cut;
+    match asked {
+        Asked::Numbers(counts) => class < counts.classes,
+        _ => true,
     }
-    if question == 20 {
-        if number_at(bytes, at, 2) < c.classes {
-            return Skipped::Next(at + 2);
-        }
-        return Skipped::Cut;
+}
+
+// A method is the number of a function.
+#[tactic(auto, unfolding(crate::specs::Asks::has_function))]
+fn has_function(asked: Asked, function: u64) -> bool
+    ensures { result ≡ has_function asked function }
+{
+    match asked {
+        Asked::Numbers(counts) => function < counts.functions,
+        _ => true,
     }
-    Skipped::Next(at + 2)
+}
+
+// A question of the constant at `at`.
+fn ask_constant(bytes: &[u8], at: usize, asked: Asked) -> Option<usize>
+    requires { at ≤ length bytes.now }
+    ensures { result ≡ skip_at (checked (ask_constant asked) (field 2)) bytes.now at }
+{
+    let class = read_number(bytes, at, 2)?;
+    if has_class(asked, class) {
+        Some(at + 2)
+    } else {
+        None
+    }
 }
 
 // A question of the counted constants at `at`.
-pub(crate) fn ask_constants(bytes: &[u8], at: usize, question: u8, c: Counts) -> Skipped
+pub(crate) fn ask_constants(bytes: &[u8], at: usize, asked: Asked) -> Option<usize>
     requires { at ≤ length bytes.now }
-    ensures { result ≡ skip_at (checked (all (ask_constant question c)) (list_of 2 (field 2))) bytes.now at }
+    ensures { result ≡ skip_at (checked (all (ask_constant asked)) (list_of 2 (field 2))) bytes.now at }
 {
-    if bytes.len() - at < 2 {
-        return Skipped::Cut;
-    }
-    let mut left = number_at(bytes, at, 2);
-    let mut p = at + 2;
-    while 0 < left {
-        let one = ask_constant(bytes, p, question, c);
-        let Skipped::Next(next) = one else {
-            return Skipped::Cut;
-        };
-        p = next;
-        left -= 1;
-    }
-    Skipped::Next(p)
+    skip_list(bytes, at, |p| ask_constant(bytes, p, asked))
 }
 
-// A question of a method's name, from `from2` to `to2`, after the one before it, and of its function.
-fn ask_next(
-    bytes: &[u8],
-    from: usize,
-    to: usize,
-    from2: usize,
-    to2: usize,
-    question: u8,
-    c: Counts,
-    function: u64,
-) -> bool
-    requires { (from ≤ to) × (to ≤ length bytes.now) × (from2 ≤ to2) × (to2 ≤ length bytes.now) }
-    ensures { result ≡ ask_next question c (slice from to bytes.now) (slice from2 to2 bytes.now) function }
+// A question of a method's name, after the one before it, and of its function.
+#[tactic(auto, unfolding(crate::specs::Asks::ask_next))]
+fn ask_next(before: &[u8], name: &[u8], asked: Asked, function: u64) -> bool
+    ensures { result ≡ ask_next asked before.now name.now function }
 {
-    if below_bytes(&bytes[from..to], &bytes[from2..to2]) {
-        if question == 20 {
-            return function < c.functions;
-        }
-        return true;
-    }
-    false
+    below_bytes(before, name) && has_function(asked, function)
 }
 
 // A question of the counted methods at `at`.
-fn ask_methods(bytes: &[u8], at: usize, question: u8, c: Counts) -> Skipped
+fn ask_methods(bytes: &[u8], at: usize, asked: Asked) -> Option<usize>
     requires { at ≤ length bytes.now }
-    ensures { result ≡ skip_at (checked (ask_methods question c []) (list_of 2 method_record)) bytes.now at }
+    ensures { result ≡ skip_at (checked (ask_methods asked []) (list_of 2 method_record)) bytes.now at }
 {
-    if bytes.len() - at < 2 {
-        return Skipped::Cut;
-    }
-    let mut left = number_at(bytes, at, 2);
+    let count = read_number(bytes, at, 2)?;
     let mut p = at + 2;
-    let mut from = 0usize;
-    let mut to = 0usize;
-    while 0 < left {
-        let named = skip_proper(bytes, p);
-        let Skipped::Next(end) = named else {
-            return Skipped::Cut;
-        };
-        if bytes.len() - end < 2 {
-            return Skipped::Cut;
+    let mut before = &bytes[0..0];
+    for _ in 0..count {
+        let end = skip_proper(bytes, p)?;
+        let function = read_number(bytes, end, 2)?;
+        let name = &bytes[p + 1..end];
+        if !ask_next(before, name, asked, function) {
+            return None;
         }
-        let function = number_at(bytes, end, 2);
-        if ask_next(bytes, from, to, p + 1, end, question, c, function) {
-            from = p + 1;
-            to = end;
-            p = end + 2;
-            left -= 1;
-        } else {
-            return Skipped::Cut;
-        }
+        before = name;
+        p = end + 2;
     }
-    Skipped::Next(p)
+    Some(p)
 }
 
 // A question of the class at `at`.
-fn ask_class(bytes: &[u8], at: usize, question: u8, c: Counts) -> Skipped
+fn ask_class(bytes: &[u8], at: usize, asked: Asked) -> Option<usize>
     requires { at ≤ length bytes.now }
-    ensures { result ≡ skip_at (checked (ask_class question c) class_record) bytes.now at }
+    ensures { result ≡ skip_at (checked (ask_class asked) class_record) bytes.now at }
 {
-    let named = skip_proper(bytes, at);
-    let Skipped::Next(next) = named else {
-        return Skipped::Cut;
-    };
-    ask_methods(bytes, next, question, c)
+    let next = skip_proper(bytes, at)?;
+    ask_methods(bytes, next, asked)
 }
 
 // A question of the counted classes at `at`.
-pub(crate) fn ask_classes(bytes: &[u8], at: usize, question: u8, c: Counts) -> Skipped
+pub(crate) fn ask_classes(bytes: &[u8], at: usize, asked: Asked) -> Option<usize>
     requires { at ≤ length bytes.now }
-    ensures { result ≡ skip_at (checked (all (ask_class question c)) (list_of 2 class_record)) bytes.now at }
+    ensures { result ≡ skip_at (checked (all (ask_class asked)) (list_of 2 class_record)) bytes.now at }
 {
-    if bytes.len() - at < 2 {
-        return Skipped::Cut;
-    }
-    let mut left = number_at(bytes, at, 2);
-    let mut p = at + 2;
-    while 0 < left {
-        let one = ask_class(bytes, p, question, c);
-        let Skipped::Next(next) = one else {
-            return Skipped::Cut;
-        };
-        p = next;
-        left -= 1;
-    }
-    Skipped::Next(p)
+    skip_list(bytes, at, |p| ask_class(bytes, p, asked))
 }

@@ -3,71 +3,63 @@ ghost use Rattle.std.specs.Prelude.{◌≡◌, [], ◌∷◌, ◌≤◌, ◌<◌
 ghost use Rattle.definitions.specs.Bytes.{list_of, counted, checked, all};
 ghost use Rattle.definitions.specs.Reader.{instruction, function_record};
 ghost use Rattle.reader.specs.Asks.{ask_code, ask_function};
-ghost use Rattle.reader.specs.View.{skip_at};
+ghost use Rattle.reader.specs.View.{skip_at, Headed};
 
-use crate::instructions::instruction_at;
+use crate::code::instruction_at;
+use crate::lists::skip_list;
 use crate::numbers::number_at;
 use crate::operands::{ask_head, ask_op};
-use crate::{Counts, Found, Skipped};
+use crate::{Asked, Head};
 use numerals::sizes::FUNCTION_HEAD;
 
-// A question of n instructions from `at` on.
-fn ask_code(bytes: &[u8], at: usize, question: u8, c: Counts, n: u64, slots: u64) -> Skipped
-    requires { (at ≤ length bytes.now) × (n < 65536) }
-    ensures { result ≡ skip_at (checked (ask_code question c n slots 0) (counted [] ◌∷◌ instruction n)) bytes.now at }
+// A question of the function's instructions, from `at` on.
+fn ask_code(bytes: &[u8], at: usize, asked: Asked, head: Head) -> Option<usize>
+    requires { (at ≤ length bytes.now) × (head.count < 65536) }
+    ensures { result ≡ skip_at (checked (ask_code asked head.count head.slots 0) (counted [] ◌∷◌ instruction head.count)) bytes.now at }
 {
     let mut p = at;
-    let mut place = 0u64;
-    while place < n {
-        let found = instruction_at(bytes, p);
-        let Found::Instruction(op, a, _, next) = found else {
-            return Skipped::Cut;
-        };
-        if ask_op(question, c, n, slots, place, op, a) {
-            p = next;
-            place += 1;
-        } else {
-            return Skipped::Cut;
+    for place in 0..head.count {
+        let instruction = instruction_at(bytes, p)?;
+        if !ask_op(asked, head, place, instruction) {
+            return None;
         }
+        p = instruction.next;
     }
-    Skipped::Next(p)
+    Some(p)
+}
+
+// The head of the function at `at`.
+fn read_head(bytes: &[u8], at: usize) -> Option<Head>
+    requires { at ≤ length bytes.now }
+    ensures { Headed result bytes.now at }
+{
+    if bytes.len() - at < FUNCTION_HEAD {
+        return None;
+    }
+    Some(Head {
+        name: number_at(bytes, at, 2),
+        slots: number_at(bytes, at + 3, 2),
+        count: number_at(bytes, at + 5, 2),
+    })
 }
 
 // A question of the function at `at`.
-pub(crate) fn ask_function(bytes: &[u8], at: usize, question: u8, c: Counts) -> Skipped
+pub(crate) fn ask_function(bytes: &[u8], at: usize, asked: Asked) -> Option<usize>
     requires { at ≤ length bytes.now }
-    ensures { result ≡ skip_at (checked (ask_function question c) function_record) bytes.now at }
+    ensures { result ≡ skip_at (checked (ask_function asked) function_record) bytes.now at }
 {
-    if bytes.len() - at < FUNCTION_HEAD {
-        return Skipped::Cut;
-    }
-    let name = number_at(bytes, at, 2);
-    let slots = number_at(bytes, at + 3, 2);
-    let n = number_at(bytes, at + 5, 2);
-    if ask_head(question, c, name, n) {
-        ask_code(bytes, at + FUNCTION_HEAD, question, c, n, slots)
+    let head = read_head(bytes, at)?;
+    if ask_head(asked, head) {
+        ask_code(bytes, at + FUNCTION_HEAD, asked, head)
     } else {
-        Skipped::Cut
+        None
     }
 }
 
 // A question of the counted functions at `at`.
-pub(crate) fn ask_functions(bytes: &[u8], at: usize, question: u8, c: Counts) -> Skipped
+pub(crate) fn ask_functions(bytes: &[u8], at: usize, asked: Asked) -> Option<usize>
     requires { at ≤ length bytes.now }
-    ensures { result ≡ skip_at (checked (all (ask_function question c)) (list_of 2 function_record)) bytes.now at }
+    ensures { result ≡ skip_at (checked (all (ask_function asked)) (list_of 2 function_record)) bytes.now at }
 {
-    if bytes.len() - at < 2 {
-        return Skipped::Cut;
-    }
-    let mut left = number_at(bytes, at, 2);
-    let mut p = at + 2;
-    while 0 < left {
-        let one = ask_function(bytes, p, question, c);
-        let Skipped::Next(next) = one else {
-            return Skipped::Cut;
-        };
-        p = next;
-        left -= 1;
-    }
-    Skipped::Next(p)
+    skip_list(bytes, at, |p| ask_function(bytes, p, asked))
 }

@@ -1,9 +1,7 @@
 // Numbers of several bytes, and bytes that are passed over.
 ghost use Rattle.std.specs.Prelude.{◌≡◌, [], ◌∷◌, ◌+◌, ◌^◌, ◌≤◌, ◌<◌, length};
 ghost use Rattle.definitions.specs.Bytes.{byte, counted};
-ghost use Rattle.reader.specs.View.{skip_at, number_at};
-
-use crate::Skipped;
+ghost use Rattle.reader.specs.View.{skip_at, number_at, Reads};
 
 // The big-endian number of `width` bytes at `at`, byte by byte.
 fn long_number(bytes: &[u8], at: usize, width: usize) -> u64
@@ -11,10 +9,8 @@ fn long_number(bytes: &[u8], at: usize, width: usize) -> u64
     ensures { (result ≡ number_at width bytes.now at) × (result < 256 ^ width) }
 {
     let mut n = 0u64;
-    let mut i = 0usize;
-    while i < width {
+    for i in 0..width {
         n = n * 256 + bytes[at + i] as u64;
-        i += 1;
     }
     n
 }
@@ -24,26 +20,33 @@ pub fn number_at(bytes: &[u8], at: usize, width: usize) -> u64
     requires { (at + width ≤ length bytes.now) × (width ≤ 8) }
     ensures { (result ≡ number_at width bytes.now at) × (result < 256 ^ width) }
 {
-    if width == 0 {
-        return 0;
+    match width {
+        0 => 0,
+        1 => bytes[at] as u64,
+        2 => bytes[at] as u64 * 256 + bytes[at + 1] as u64,
+        _ => long_number(bytes, at, width),
     }
-    if width == 1 {
-        return bytes[at] as u64;
+}
+
+// The same where the bytes have it.
+pub(crate) fn read_number(bytes: &[u8], at: usize, width: usize) -> Option<u64>
+    requires { (at ≤ length bytes.now) × (width ≤ 8) }
+    ensures { Reads result width bytes.now at }
+{
+    if bytes.len() - at < width {
+        return None;
     }
-    if width == 2 {
-        return bytes[at] as u64 * 256 + bytes[at + 1] as u64;
-    }
-    long_number(bytes, at, width)
+    Some(number_at(bytes, at, width))
 }
 
 // n bytes at `at`.
-pub(crate) fn skip_bytes(bytes: &[u8], at: usize, n: usize) -> Skipped
+pub(crate) fn skip_bytes(bytes: &[u8], at: usize, n: usize) -> Option<usize>
     requires { at ≤ length bytes.now }
     ensures { result ≡ skip_at (counted [] ◌∷◌ byte n) bytes.now at }
 {
     if n <= bytes.len() - at {
-        Skipped::Next(at + n)
+        Some(at + n)
     } else {
-        Skipped::Cut
+        None
     }
 }

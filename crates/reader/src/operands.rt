@@ -3,9 +3,9 @@ ghost use Rattle.std.specs.Prelude.{◌≡◌, ◌<◌};
 ghost use Rattle.definitions.specs.Instruction.{numbers_of};
 ghost use Rattle.definitions.specs.Builtins.{registry};
 ghost use Rattle.definitions.specs.Reader.{is_builtin, landing};
-ghost use Rattle.reader.specs.Asks.{kind_of, exists_in, op_stands, ask_op, ask_head};
+ghost use Rattle.reader.specs.Asks.{operand_of, exists_in, op_stands, ask_op, ask_head};
 
-use crate::Counts;
+use crate::{Asked, Counts, Head, Instruction, Operand};
 use numerals::{op_bytes, op_places};
 
 // A built-in has the id.
@@ -31,43 +31,44 @@ fn is_builtin(n: u64) -> bool
 }
 
 // What an instruction's first operand numbers.
-fn kind_of(op: usize) -> u8
-    ensures { result ≡ kind_of (numbers_of op) }
+fn operand_of(op: usize) -> Operand
+    ensures { result ≡ operand_of (numbers_of op) }
 {
     match op {
-        op_places::CONST_STR => 1,
-        op_places::LOAD_CONST => 2,
-        op_places::LOAD_LOCAL => 3,
-        op_places::STORE_LOCAL => 3,
-        op_places::LOAD_GLOBAL => 4,
-        op_places::STORE_GLOBAL => 4,
-        op_places::CALL => 5,
-        op_places::CALL_BUILTIN => 6,
-        op_places::CALL_METHOD => 4,
-        op_places::LOAD_ATTR => 4,
-        op_places::STORE_ATTR => 4,
-        op_places::MAKE_CLOSURE => 5,
-        _ => 0,
+        op_places::CONST_STR => Operand::Text,
+        op_places::LOAD_CONST => Operand::Constant,
+        op_places::LOAD_LOCAL => Operand::Slot,
+        op_places::STORE_LOCAL => Operand::Slot,
+        op_places::LOAD_GLOBAL => Operand::Symbol,
+        op_places::STORE_GLOBAL => Operand::Symbol,
+        op_places::CALL => Operand::Function,
+        op_places::CALL_BUILTIN => Operand::Builtin,
+        op_places::CALL_METHOD => Operand::Symbol,
+        op_places::LOAD_ATTR => Operand::Symbol,
+        op_places::STORE_ATTR => Operand::Symbol,
+        op_places::MAKE_CLOSURE => Operand::Function,
+        _ => Operand::Nothing,
     }
 }
 
-// A number of that kind exists.
-fn number_exists(c: Counts, slots: u64, kind: u8, n: u64) -> bool
-    ensures { result ≡ exists_in c slots kind n }
+// What the operand numbers exists.
+#[tactic(auto, unfolding(crate::specs::Asks::exists_in))]
+fn number_exists(counts: Counts, slots: u64, operand: Operand, n: u64) -> bool
+    ensures { result ≡ exists_in counts slots operand n }
 {
-    match kind {
-        0 => true,
-        1 => n < c.strings,
-        2 => n < c.constants,
-        3 => n < slots,
-        4 => n < c.symbols,
-        5 => n < c.functions,
-        6 => is_builtin(n),
-        _ => true,
+    match operand {
+        Operand::Nothing => true,
+        Operand::Text => n < counts.strings,
+        Operand::Constant => n < counts.constants,
+        Operand::Slot => n < slots,
+        Operand::Symbol => n < counts.symbols,
+        Operand::Function => n < counts.functions,
+        Operand::Builtin => is_builtin(n),
     }
 }
 
 // Where a jump at a place goes.
+#[tactic(auto, unfolding(definitions::specs::Reader::landing))]
 pub fn jump_target(place: u64, a: u64) -> u64
     requires { place < 4294967296 }
     ensures { result ≡ landing place a }
@@ -81,50 +82,40 @@ fn op_stands(n: u64, place: u64, op: u8, a: u64) -> bool
     ensures { result ≡ op_stands n place op a }
 {
     if place + 1 == n {
-        if op != op_bytes::RETURN {
-            return false;
-        }
+        return op == op_bytes::RETURN;
+    }
+    if op < op_bytes::JUMP {
         return true;
     }
-    if op_bytes::JUMP <= op {
-        if op <= op_bytes::JUMP_IF_TRUE {
-            return jump_target(place, a) < n;
-        }
+    if op_bytes::JUMP_IF_TRUE < op {
+        return true;
     }
-    true
+    jump_target(place, a) < n
 }
 
-// A question of one instruction: its opcode and first operand, at a place of a function of n instructions.
-pub(crate) fn ask_op(
-    question: u8,
-    c: Counts,
-    n: u64,
-    slots: u64,
-    place: u64,
-    op: u8,
-    a: u64,
-) -> bool
-    requires { (place < 4294967296) × (op < 46) }
-    ensures { result ≡ ask_op question c n slots place op a }
+// A question of an instruction at a place of a function.
+#[tactic(auto, unfolding(crate::specs::Asks::ask_op))]
+pub(crate) fn ask_op(asked: Asked, head: Head, place: u64, i: Instruction) -> bool
+    requires { (place < 4294967296) × (i.op < 46) }
+    ensures { result ≡ ask_op asked head.count head.slots place i.op i.a }
 {
-    if question == 20 {
-        return number_exists(c, slots, kind_of(op as usize), a);
+    match asked {
+        Asked::Layout => true,
+        Asked::Numbers(counts) => {
+            number_exists(counts, head.slots, operand_of(i.op as usize), i.a)
+        }
+        Asked::Jumps => op_stands(head.count, place, i.op, i.a),
     }
-    if question == 21 {
-        return op_stands(n, place, op, a);
-    }
-    true
 }
 
 // A question of a function's name and count of instructions.
-pub(crate) fn ask_head(question: u8, c: Counts, name: u64, n: u64) -> bool
-    ensures { result ≡ ask_head question c name n }
+#[tactic(auto, unfolding(crate::specs::Asks::ask_head))]
+pub(crate) fn ask_head(asked: Asked, head: Head) -> bool
+    ensures { result ≡ ask_head asked head.name head.count }
 {
-    if question == 20 {
-        return name < c.symbols;
+    match asked {
+        Asked::Layout => true,
+        Asked::Numbers(counts) => head.name < counts.symbols,
+        Asked::Jumps => 0 < head.count,
     }
-    if question == 21 {
-        return 0 < n;
-    }
-    true
 }

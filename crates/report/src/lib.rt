@@ -1,39 +1,25 @@
-// Answers on standard output.
+// What the programs print of bytes.
 #![tactic(auto)]
 
-use std::io;
+ghost use Rattle.std.specs.Prelude.{Some};
+ghost use Rattle.report.specs.Text.{hex_text};
 
-pub fn text(rt: &impl Print, bytes: &[u8]) -> io::Result<()> {
-    rt.write_all(bytes)
-}
+use std::fmt;
 
-pub fn number(rt: &impl Print, n: u64) -> io::Result<()> {
-    rt.print(n)
-}
+// Bytes in hexadecimal; `-` where there are none.
+#[derive(Clone, Copy)]
+pub struct Hex<'a>(pub &'a [u8]);
 
-// `refused` and the question's number.
-pub fn refused(rt: &impl Print, q: u64) -> io::Result<()> {
-    text(rt, b"refused ")?;
-    number(rt, q)
-}
+impl fmt::Display for Hex<'_> {
+    ghost output = { λ h. Some (hex_text h.0.now) };
 
-fn wide(x: u8) -> u64 {
-    x as u64
-}
-
-// The first `n` bytes in hexadecimal; `-` where there are none.
-pub fn hex(rt: &impl Print, bytes: &[u8], n: usize) -> io::Result<()> {
-    if n == 0 {
-        text(rt, b"-")?;
-    }
-    let mut i = 0usize;
-    while i < n {
-        if bytes.len() <= i {
-            return Ok(());
+    fn fmt<W: fmt::Write>(&self, f: &mut fmt::Formatter<W>) -> fmt::Result {
+        if self.0.is_empty() {
+            return write!(f, "-");
         }
-        let byte = wide(bytes[i]);
-        print!(rt; "{byte:02x}")?;
-        i += 1;
+        for &byte in self.0 {
+            write!(f, "{byte:02x}")?;
+        }
+        Ok(())
     }
-    Ok(())
 }

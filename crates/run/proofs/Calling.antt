@@ -4,11 +4,18 @@ use mathlib.Core.Path.{◌≡◌, refl, sym, ap, ap₂, ◌∙◌, subst}
 use mathlib.Core.Bool.{Bool, true, false, ◌&&◌}
 use mathlib.Core.List.{List, [], ◌∷◌, ◌++◌, append-nil}
 use native.Mathlib.Omega.{arith}
-use native.Mathlib.Numerals.{add-one}
 use lib.Dec.{leb}
-use lib.ListN.{length, take, drop, get_or, length-take, length-drop, drop_of_length-le, get_or-eq_default}
-use lib.Seq.{drop-cons, length-take-le, get_or-drop, get_or-take}
+use lib.ListN.{length, take, drop, get_or, length-take, length-drop, get_or-eq_default}
+use lib.Seq.{length-take-le, get_or-drop, get_or-take}
 use borrow.Author.Tests.{le-leb, lt-leb, leb-true, leb-false}
+use Rattle.std.proofs.Common.{Option, Some, None, Result, Ok, Err}
+use Rattle.std.specs.List.{list_all}
+use Rattle.std.specs.Option.{ok_or}
+use Rattle.std.proofs.lemmas.List.Recursion.{same_from_clauses}
+use Rattle.questions.specs.declared.Question.{Question}
+use Rattle.questions.specs.declared.Question.TheVariants.{Answers, EventRoom}
+use Rattle.questions.specs.Numbers.{number}
+use Rattle.run.specs.declared.Ran.{Ran as RanSo}
 use Rattle.definitions.specs.Bytes.{Parsed, got, counted, all, Answer, refused, accepted, when_accepted}
 use Rattle.definitions.specs.Instruction.{Instr}
 use Rattle.definitions.specs.Tables.{Tables}
@@ -18,45 +25,30 @@ use Rattle.definitions.specs.Calls.{Counts, function_of, are_answers, events_fit
 use Rattle.reader.specs.View.{function_in, CodeAt, instructions_of}
 use Rattle.reader.proofs.Encoding.{Small}
 use Rattle.reader.proofs.Iterated.{code-is, reads-code, bytes-are}
-use Rattle.run.specs.declared.Outcome.{Outcome}
-use Rattle.run.specs.declared.Outcome.TheVariants.{Finished, Refused}
-use Rattle.run.specs.declared.Stand.{Stand}
-use Rattle.run.specs.declared.Passed.{Passed}
-use Rattle.run.specs.declared.Passed.TheVariants.{Ended, TooMany}
-use Rattle.run.specs.Pass.{said, Called, Coded, Ending, Passes, start}
+use Rattle.run.specs.declared.course.Stand.{Stand}
+use Rattle.run.specs.Tables.{Coded}
+use Rattle.run.specs.Pass.{ending_number, counts, said, Called, Finishing, Passes, start, stood}
 use Rattle.run.proofs.Storing.{copied-written}
 use Rattle.definitions.proofs.ReadFits.{module-short}
 use Rattle.definitions.proofs.Begins.{Rest, takes-counted, takes-instruction}
 
 -- ---- question 23
 
-module _ (xs : List ℕ) (i : ℕ) (h : i < length xs) where
-  one-more : are_answers (drop i xs) ≡ (leb (get_or xs i 0) 1 && are_answers (drop (i + 1) xs))
-  unfolding are_answers all
-  one-more = ap are_answers (drop-cons xs i 0 h ∙ ap (λ (j : ℕ). get_or xs i 0 ∷ drop j xs) (sym (add-one i)))
-
-  pub answer-stands : get_or xs i 0 ≤ 1 → are_answers (drop i xs) ≡ are_answers (drop (i + 1) xs)
-  answer-stands l = one-more ∙ ap (λ (b : Bool). b && are_answers (drop (i + 1) xs)) (le-leb (get_or xs i 0) 1 l)
-
-  pub answer-falls : 1 < get_or xs i 0 → are_answers (drop i xs) ≡ false
-  answer-falls l = one-more ∙ ap (λ (b : Bool). b && are_answers (drop (i + 1) xs)) (lt-leb (get_or xs i 0) 1 l)
-
-pub answers-end : (xs : List ℕ) (i : ℕ) → length xs ≤ i → are_answers (drop i xs) ≡ true
+pub answers_listed : (xs : List ℕ) → list_all (λ x. leb x 1) xs ≡ are_answers xs
 unfolding are_answers all
-answers-end xs i h = ap are_answers (drop_of_length-le xs h)
+answers_listed = same_from_clauses (list_all (λ x. leb x 1)) are_answers (λ x b. leb x 1 && b) refl (λ x xs. refl) (λ x xs. refl)
 
--- ---- what an outcome says
+-- ---- what the answer says
 
-pub says-refused : (o : Outcome) (q : ℕ) → said o ≡ refused q → o ≡ Refused q
+pub says-refused : (o : Result RanSo Question) (q : ℕ) → said o ≡ refused q → (p : Question) × (o ≡ Err p) × (number p ≡ q)
 unfolding said
-says-refused (Refused p) q e = let z : p ≡ q = cc in ap Refused z
-says-refused (Finished e s u b) q f = let z : ◌≡◌ {A = ℕ} 0 1 = cc in absurd (omega arith)
+says-refused (Err p) q e = (p, refl, cc)
+says-refused (Ok r) q f = let z : ◌≡◌ {A = ℕ} 0 1 = cc in absurd (omega arith)
 
-pub says-finished : (o : Outcome) (n : Counts) → said o ≡ accepted n → o ≡ Finished n.ending n.steps n.used n.bytes
+pub says-finished : (o : Result RanSo Question) (n : Counts) → said o ≡ accepted n → (r : RanSo) × (o ≡ Ok r) × (counts r ≡ n)
 unfolding said
-says-finished (Refused p) n e = let z : ◌≡◌ {A = ℕ} 0 1 = cc in absurd (omega arith)
-says-finished (Finished e s u b) n f =
-    let k : record { ending = e; steps = s; used = u; bytes = b } ≡ n = cc in λ i. Finished (k i).ending (k i).steps (k i).used (k i).bytes
+says-finished (Err p) n e = let z : ◌≡◌ {A = ℕ} 0 1 = cc in absurd (omega arith)
+says-finished (Ok r) n f = (r, refl, cc)
 
 -- ---- measured, then written
 
@@ -64,22 +56,23 @@ fitted : (before : List ℕ) (v : Ran) (b : Bool) → leb (length v.events) (len
 unfolding events_fit
 fitted before v b k = ap (λ (x : Bool). (elim x as (λ z. Answer Ran) [ true ↦ accepted v | false ↦ refused 24 ])) k
 
-called : (a : Answer Ran) (want : Answer Ran) (before : List ℕ) (r : Outcome) (left : List ℕ) → want ≡ a → Called r (ran_call a before) left → Called r (ran_call want before) left
+called : (a : Answer Ran) (want : Answer Ran) (before : List ℕ) (r : Result RanSo Question) (left : List ℕ) → want ≡ a → Called r (ran_call a before) left → Called r (ran_call want before) left
 called a want before r left e c = subst (λ (x : Answer Ran). Called r (ran_call x before) left) (sym e) c
 
-refuses : (q : ℕ) (want : Answer Ran) (before left : List ℕ) → want ≡ refused q → left ≡ before → Called (Refused q) (ran_call want before) left
+refuses : (q : Question) (want : Answer Ran) (before left : List ℕ) → want ≡ refused (number q) → left ≡ before → Called (Err q) (ran_call want before) left
 unfolding ran_call said when_accepted output_after
-refuses q want before left e f = called (refused q) want before (Refused q) left e (record { says = refl; leaves = f })
+refuses q want before left e f = called (refused (number q)) want before (Err q) left e (record { says = refl; leaves = f })
 
-pub measured-full : (r : Passed) (v : Ran) (room : ℕ) (before left : List ℕ) → Passes r v room before left → r ≡ TooMany → room < length v.events
+pub measured-full : (r : Option RanSo) (v : Ran) (room : ℕ) (before left : List ℕ) → Passes r v room before left → r ≡ None → room < length v.events
 unfolding Passes
-measured-full r v room before left h e = subst (λ (x : Passed). Passes x v room before left) e h
+measured-full r v room before left h e = subst (λ (x : Option RanSo). Passes x v room before left) e h
 
-pub full-called : (v : Ran) (before left : List ℕ) → length before < length v.events → left ≡ before → Called (Refused 24) (ran_call (events_fit (length before) v) before) left
-full-called v before left l e = refuses 24 (events_fit (length before) v) before left (fitted before v false (lt-leb (length v.events) (length before) l)) e
+pub full-called : (v : Ran) (before left : List ℕ) → length before < length v.events → left ≡ before → Called (Err EventRoom) (ran_call (events_fit (length before) v) before) left
+unfolding number
+full-called v before left l e = refuses EventRoom (events_fit (length before) v) before left (fitted before v false (lt-leb (length v.events) (length before) l)) e
 
 -- the numbers of a pass that ended
-ending-is : (v : Ran) (e room : ℕ) (u : Stand) (before left : List ℕ) (g : Ending v e room start u before left) →
+ending-is : (v : Ran) (e room : ℕ) (u : Stand) (before left : List ℕ) (g : Finishing v e room start u before left) →
     (v.ending ≡ e) × (v.steps ≡ u.steps) × (v.used ≡ u.used) × (v.events ≡ g.leads.events) × (length v.events ≡ u.written)
 unfolding ended
 ending-is v e room u before left g =
@@ -93,24 +86,31 @@ ending-is v e room u before left g =
       omega arith,
     )
 
-pub measured-fits : (r : Passed) (v : Ran) (room : ℕ) (before left : List ℕ) (e : ℕ) (u : Stand) → Passes r v room before left → r ≡ Ended e u → length v.events ≤ room
+pub measured-fits : (r : Option RanSo) (v : Ran) (room : ℕ) (before left : List ℕ) (u : RanSo) → Passes r v room before left → r ≡ Some u → length v.events ≤ room
 unfolding Passes
-measured-fits r v room before left e u h k =
-    let g : Ending v e room start u before left = subst (λ (x : Passed). Passes x v room before left) k h in
-    let w = (ending-is v e room u before left g).4 in let f = g.fits in omega arith
+measured-fits r v room before left u h k =
+    let g : Finishing v (ending_number u.ending) room start (stood u) before left = subst (λ (x : Option RanSo). Passes x v room before left) k h in
+    let w = (ending-is v (ending_number u.ending) room (stood u) before left g).4 in let f = g.fits in omega arith
 
-pub ended-called : (r : Passed) (v : Ran) (before mid left : List ℕ) (e : ℕ) (u : Stand) → mid ≡ before → Passes r v (length before) mid left → r ≡ Ended e u
-    → Called (Finished e u.steps u.used u.written) (ran_call (events_fit (length before) v) before) left
+pub ended-called : (r : Option RanSo) (v : Ran) (before mid left : List ℕ) (u : RanSo) → mid ≡ before → Passes r v (length before) mid left → r ≡ Some u
+    → Called (Ok u) (ran_call (events_fit (length before) v) before) left
 unfolding Passes ran_call said when_accepted ran_counts output_after
-ended-called r v before mid left e u m h k =
-    let g : Ending v e (length before) start u before left = subst (λ (x : List ℕ). Ending v e (length before) start u x left) m (subst (λ (x : Passed). Passes x v (length before) mid left) k h) in
-    let n = ending-is v e (length before) u before left g in
+ended-called r v before mid left u m h k =
+    let e = ending_number u.ending in
+    let g : Finishing v e (length before) start (stood u) before left = subst (λ (x : List ℕ). Finishing v e (length before) start (stood u) x left) m (subst (λ (x : Option RanSo). Passes x v (length before) mid left) k h) in
+    let n = ending-is v e (length before) (stood u) before left g in
     let f = g.fits in let w = n.4 in let l = ap length n.3 in
-    called (accepted v) (events_fit (length before) v) before (Finished e u.steps u.used u.written) left (fitted before v true (le-leb (length v.events) (length before) (omega arith)))
+    called (accepted v) (events_fit (length before) v) before (Ok u) left (fitted before v true (le-leb (length v.events) (length before) (omega arith)))
     (record {
       says = (let e1 = sym n.0 in let e2 = sym n.1 in let e3 = sym n.2 in let e4 = sym n.4 in λ z. accepted (record { ending = e1 z; steps = e2 z; used = e3 z; bytes = e4 z }));
       leaves = copied-written before left g.leads.events g.leads.copied (omega arith) ∙ ap (λ (xs : List ℕ). written xs before) (sym n.3);
     })
+
+-- the run of both passes, the first of which ended
+pub twice : (r₁ r : Option RanSo) (u : RanSo) (v : Ran) (before start left₁ mid left : List ℕ) → r₁ ≡ Some u → Passes r₁ v (length before) start left₁ → mid ≡ before → Passes r v (length before) mid left
+    → Called (ok_or r EventRoom) (ran_call (events_fit (length before) v) before) left
+twice r₁ None u v before start left₁ mid left e h m k = let f = measured-fits r₁ v (length before) start left₁ u h e in let g = measured-full None v (length before) mid left k refl in absurd (omega arith)
+twice r₁ (Some w) u v before start left₁ mid left e h m k = ended-called (Some w) v before mid left w m k refl
 
 -- ---- the code as a part of the module
 
@@ -178,12 +178,12 @@ module _ (t : List ℕ) (f : ℕ) (answers : List ℕ) (budget : ℕ) (before : 
       go (accepted x) = refl
       go (refused q) = refl
 
-  as-run : (r : Outcome) (left : List ℕ) → Called r (ran_call (run_answer t f answers budget (length before)) before) left → Called r (run_call t f answers budget before) left
+  as-run : (r : Result RanSo Question) (left : List ℕ) → Called r (ran_call (run_answer t f answers budget (length before)) before) left → Called r (run_call t f answers budget before) left
   unfolding run_call
   as-run r left c = c
 
-  pub call-refused : (q : ℕ) → function_in t f ≡ refused q → Called (Refused q) (run_call t f answers budget before) before
-  call-refused q e = as-run (Refused q) before (refuses q (run_answer t f answers budget (length before)) before before (by-function ∙ when-refused (function_in t f) _ q e) refl)
+  pub call-refused : (q : Question) → function_in t f ≡ refused (number q) → Called (Err q) (run_call t f answers budget before) before
+  call-refused q e = as-run (Err q) before (refuses q (run_answer t f answers budget (length before)) before before (by-function ∙ when-refused (function_in t f) _ (number q) e) refl)
 
   module _ (p s n : ℕ) (c : CodeAt t f p s n) where
     asked : (b : Bool) → are_answers answers ≡ b → run_answer t f answers budget (length before) ≡ (elim b as (λ z. Answer Ran) [ false ↦ refused 23 | true ↦ events_fit (length before) (run budget c.function.code 0 answers) ])
@@ -191,10 +191,11 @@ module _ (t : List ℕ) (f : ℕ) (answers : List ℕ) (budget : ℕ) (before : 
     asked b e = by-function ∙ when-accepted (function_in t f) _ c.function (function-known c)
         ∙ ap (λ (x : Bool). (elim x as (λ z. Answer Ran) [ false ↦ refused 23 | true ↦ events_fit (length before) (run budget c.function.code 0 answers) ])) e
 
-    pub call-answers : are_answers answers ≡ false → Called (Refused 23) (run_call t f answers budget before) before
-    call-answers e = as-run (Refused 23) before (refuses 23 (run_answer t f answers budget (length before)) before before (asked false e) refl)
+    pub call-answers : are_answers answers ≡ false → Called (Err Answers) (run_call t f answers budget before) before
+    unfolding number
+    call-answers e = as-run (Err Answers) before (refuses Answers (run_answer t f answers budget (length before)) before before (asked false e) refl)
 
-    pub call-runs : (part : List ℕ) → part ≡ take s (drop p t) → are_answers answers ≡ true → (r : Outcome) (left : List ℕ)
+    pub call-runs : (part : List ℕ) → part ≡ take s (drop p t) → are_answers answers ≡ true → (r : Result RanSo Question) (left : List ℕ)
         → Called r (ran_call (events_fit (length before) (run budget (instructions_of part) 0 answers)) before) left → Called r (run_call t f answers budget before) left
     call-runs part e a r left k = as-run r left (called (events_fit (length before) (run budget (instructions_of part) 0 answers)) (run_answer t f answers budget (length before)) before r left
         (asked true a ∙ ap (λ (is : List Instr). events_fit (length before) (run budget is 0 answers)) (sym (part-code t f p s n c part e))) k)

@@ -12,7 +12,8 @@ use Rattle.definitions.specs.Reader.{instruction, is_jump, landing}
 use Rattle.definitions.proofs.Stays as Stays
 use Rattle.reader.specs.View.{Got, number_at, instructions_of, start_of}
 use Rattle.reader.proofs.Encoding.{instruction-view}
-use Rattle.run.specs.Pass.{Coded, between}
+use Rattle.run.specs.Tables.{Coded}
+use Rattle.run.specs.Pass.{between}
 
 -- ---- the bytes of instructions
 

@@ -1,18 +1,18 @@
 -- What the code tests of opcodes, and where a question goes. Assumes nothing.
-use Prim.Native.Nat.{ℕ, ◌+◌}
-use mathlib.Core.Path.{◌≡◌, refl, sym, ap, ap₂, ◌∙◌, subst}
-use mathlib.Core.Bool.{Bool, true, false, not}
+use Prim.Native.Nat.{ℕ, ◌+◌, ◌<◌, ◌≤◌}
+use mathlib.Core.Path.{◌≡◌, refl, sym, ap, ◌∙◌, subst}
+use mathlib.Core.Bool.{Bool, true, false, beq, true≢false}
 use mathlib.Core.List.{[], ◌∷◌}
+use mathlib.Core.Logic.{◌⊎◌, ⊎_elim}
 use native.Mathlib.Omega.{arith}
 use native.Mathlib.Numerals.{add-one}
-use lib.Dec.{eqb}
-use borrow.Author.Tests.{eq-eqb, ne_eqb, eqb-true}
 use Rattle.definitions.specs.Instruction.{Instr, instr, instruction_table, row_of, first_width, second_width, encode}
 use Rattle.definitions.specs.Bytes.{be}
 use Rattle.definitions.specs.Reader.{landing}
 use Rattle.definitions.specs.Run.{straight, flow, way}
 use Rattle.definitions.proofs.Flows.{jump-stops, false-stops, true-stops, return-stops, goes-straight}
-use Rattle.run.specs.Pass.{GoesOn, Nearer}
+use Rattle.definitions.proofs.Begins.{le-or-gt}
+use Rattle.run.specs.Tables.{GoesOn, Nearer}
 
 -- a Return has no operands
 pub return-bytes : (i : Instr) → i.op ≡ 33 → encode i ≡ i.op ∷ []
@@ -30,27 +30,17 @@ unfolding GoesOn
 goes-not op f = f
 
 module _ (op : ℕ) where
-  pub on-28 : op ≡ 28 → GoesOn false op
-  unfolding GoesOn
-  on-28 e = jump-stops op e
+  pub on_turn : 28 ≤ op → op ≤ 30 → GoesOn false op
+  on_turn h g = goes-not op (⊎_elim (λ (a : 29 ≤ op). ⊎_elim (λ (b : 30 ≤ op). true-stops op (omega arith)) (λ (b : op < 30). false-stops op (omega arith)) (le-or-gt 30 op)) (λ (a : op < 29). jump-stops op (omega arith)) (le-or-gt 29 op))
 
-  pub on-29 : op ≡ 29 → GoesOn false op
-  unfolding GoesOn
-  on-29 e = false-stops op e
+  pub on-return : op ≡ 33 → GoesOn false op
+  on-return e = goes-not op (return-stops op e)
 
-  pub on-30 : op ≡ 30 → GoesOn false op
-  unfolding GoesOn
-  on-30 e = true-stops op e
-
-  pub on-last : (op ≡ 28 → ⊥) → (op ≡ 29 → ⊥) → (op ≡ 30 → ⊥) → GoesOn (not (eqb op 33)) op
-  on-last a c d = go (eqb op 33) refl
+  pub on_straight : (op < 28) ⊎ (30 < op) → (op ≡ 33 → ⊥) → GoesOn true op
+  on_straight h d = goes-yes op (⊎_elim (λ (a : op < 28). go (omega arith) (omega arith) (omega arith)) (λ (a : 30 < op). go (omega arith) (omega arith) (omega arith)) h)
     where
-      go : (x : Bool) → eqb op 33 ≡ x → GoesOn (not x) op
-      go true e = goes-not op (return-stops op (eqb-true op 33 e))
-      go false e = goes-yes op (goes-straight op a c d (λ k. differ k e))
-        where
-          differ : op ≡ 33 → eqb op 33 ≡ false → ⊥
-          differ k e = let z = sym (eq-eqb op 33 k) ∙ e in let y : ◌≡◌ {A = ℕ} 0 1 = cc in omega arith
+      go : (op ≡ 28 → ⊥) → (op ≡ 29 → ⊥) → (op ≡ 30 → ⊥) → flow op ≡ straight
+      go a b c = goes-straight op a b c d
 
 -- what the test's answer says
 pub on-true : (b : Bool) (op : ℕ) → GoesOn b op → b ≡ true → flow op ≡ straight
@@ -69,19 +59,16 @@ nearer-stop b op k stop g e = record { on = λ f. absurd (on-false b op g e f); 
 
 -- ---- a question's way
 
-module _ (op x p a : ℕ) where
-  pub way-true-yes : op ≡ 30 → x ≡ 1 → landing p a ≡ way (eqb op 30) (eqb x 1) p a
-  unfolding way
-  way-true-yes e f = sym (ap₂ (λ (y z : Bool). way y z p a) (eq-eqb op 30 e) (eq-eqb x 1 f))
+pub way_same : (b y : Bool) (p a : ℕ) → beq b y ≡ true → landing p a ≡ way b y p a
+unfolding way
+way_same true true p a e = refl
+way_same false false p a e = refl
+way_same true false p a e = absurd (true≢false (sym e))
+way_same false true p a e = absurd (true≢false (sym e))
 
-  pub way-true-no : op ≡ 30 → (x ≡ 1 → ⊥) → p + 1 ≡ way (eqb op 30) (eqb x 1) p a
-  unfolding way
-  way-true-no e f = add-one p ∙ sym (ap₂ (λ (y z : Bool). way y z p a) (eq-eqb op 30 e) (ne_eqb x 1 f))
-
-  pub way-false-yes : (op ≡ 30 → ⊥) → x ≡ 1 → p + 1 ≡ way (eqb op 30) (eqb x 1) p a
-  unfolding way
-  way-false-yes e f = add-one p ∙ sym (ap₂ (λ (y z : Bool). way y z p a) (ne_eqb op 30 e) (eq-eqb x 1 f))
-
-  pub way-false-no : (op ≡ 30 → ⊥) → (x ≡ 1 → ⊥) → landing p a ≡ way (eqb op 30) (eqb x 1) p a
-  unfolding way
-  way-false-no e f = sym (ap₂ (λ (y z : Bool). way y z p a) (ne_eqb op 30 e) (ne_eqb x 1 f))
+pub way_other : (b y : Bool) (p a : ℕ) → beq b y ≡ false → p + 1 ≡ way b y p a
+unfolding way
+way_other true true p a e = absurd (true≢false e)
+way_other false false p a e = absurd (true≢false e)
+way_other true false p a e = add-one p
+way_other false true p a e = add-one p

@@ -9,8 +9,9 @@ use Rattle.definitions.specs.Bytes.{concat}
 use Rattle.definitions.specs.Instruction.{Instr, Return, encode, encodes}
 use Rattle.definitions.specs.Run.{Ran, after, Flow, straight, obey, run}
 use Rattle.reader.specs.View.{instructions_of}
-use Rattle.run.specs.declared.Stand.{Stand}
-use Rattle.run.specs.Pass.{Coded, between, flow_at, Stands, Went, NoFit, onward, Leads, start}
+use Rattle.run.specs.declared.course.Stand.{Stand}
+use Rattle.run.specs.Tables.{Coded, flow_at}
+use Rattle.run.specs.Pass.{between, Stands, Went, NoFit, onward, Leads, start}
 use Rattle.run.proofs.Coding.{between_is}
 use Rattle.run.proofs.Storing.{copied-then, copied_none}
 

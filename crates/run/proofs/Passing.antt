@@ -1,18 +1,19 @@
 -- A pass, one stretch and one turn after the other. Assumes nothing.
 use Prim.Native.Nat.{ℕ, ◌+◌, ◌-◌, ◌<◌, ◌≤◌}
-use mathlib.Core.Path.{◌≡◌, subst}
+use mathlib.Core.Path.{◌≡◌, sym, subst}
 use mathlib.Core.List.{List}
 use native.Mathlib.Omega.{arith}
 use lib.ListN.{length}
+use Rattle.std.proofs.Common.{Option, Some, None}
 use Rattle.definitions.specs.Run.{run}
 use Rattle.reader.specs.View.{instructions_of}
-use Rattle.run.specs.declared.Stand.{Stand}
-use Rattle.run.specs.declared.Stretched.{Stretched}
-use Rattle.run.specs.declared.Stretched.TheVariants.{To, NoRoom}
-use Rattle.run.specs.declared.Turned.{Turned}
-use Rattle.run.specs.declared.Turned.TheVariants.{On, Over, Full}
-use Rattle.run.specs.declared.Passed.TheVariants.{Ended, TooMany}
-use Rattle.run.specs.Pass.{Coded, Stands, AtStop, Went, NoFit, Goes, onward, Leads, Turning, Ending, Turns, start, Passes}
+use Rattle.run.specs.declared.Ending.{Ending}
+use Rattle.run.specs.declared.Ran.{Ran as RanSo}
+use Rattle.run.specs.declared.course.Stand.{Stand}
+use Rattle.run.specs.declared.course.Turned.{Turned}
+use Rattle.run.specs.declared.course.Turned.TheVariants.{On, Over}
+use Rattle.run.specs.Tables.{Coded}
+use Rattle.run.specs.Pass.{Stands, AtStop, Went, NoFit, Goes, onward, Leads, Turning, Finishing, Turns, start, Passes, ending_number}
 use Rattle.run.proofs.Coding.{nonempty}
 use Rattle.run.proofs.Leading.{leads-on, leads-start, too_many, went-leads, no-fit}
 
@@ -27,20 +28,20 @@ going_start c answers budget room before h = record { leads = leads-start c answ
 module _ (c answers : List ℕ) (h : Coded c) (budget room : ℕ) (s : Stand) (before events : List ℕ) (g : Going c answers budget room s before events) where
   -- further events do not fit
   overflows : (t : Stand) (left : List ℕ) → Leads (run budget (instructions_of c) 0 answers) (onward c answers budget t) start t before left → room < t.written + length (onward c answers budget t).events → (last : List ℕ)
-      → Passes TooMany (run budget (instructions_of c) 0 answers) room before last
+      → Passes None (run budget (instructions_of c) 0 answers) room before last
   unfolding Passes
   overflows t left a f last = let z = too_many (run budget (instructions_of c) 0 answers) (onward c answers budget t) start t before left room a f in omega arith
 
-  pub stretch-many : (w : Stretched) (left : List ℕ) → Goes w c budget room s events left → w ≡ NoRoom → Passes TooMany (run budget (instructions_of c) 0 answers) room before left
+  pub stretch-many : (w : Option Stand) (left : List ℕ) → Goes w c budget room s events left → w ≡ None → (o : Option RanSo) → o ≡ None → Passes o (run budget (instructions_of c) 0 answers) room before left
   unfolding Goes
-  stretch-many w left a e =
-      let n : NoFit c budget room s = subst (λ (x : Stretched). Goes x c budget room s events left) e a in
-      overflows s events g.leads (no-fit c h answers budget room s g.stands n) left
+  stretch-many w left a e o q =
+      let n : NoFit c budget room s = subst (λ (x : Option Stand). Goes x c budget room s events left) e a in
+      subst (λ (x : Option RanSo). Passes x (run budget (instructions_of c) 0 answers) room before left) (sym q) (overflows s events g.leads (no-fit c h answers budget room s g.stands n) left)
 
-  module _ (w : Stretched) (mid : List ℕ) (a : Goes w c budget room s events mid) (u : Stand) (e : w ≡ To u) where
+  module _ (w : Option Stand) (mid : List ℕ) (a : Goes w c budget room s events mid) (u : Stand) (e : w ≡ Some u) where
     went : Went c budget room s u events mid
     unfolding Goes
-    went = subst (λ (x : Stretched). Goes x c budget room s events mid) e a
+    went = subst (λ (x : Option Stand). Goes x c budget room s events mid) e a
 
     pub near-stands : Stands c budget room u × AtStop c budget u
     near-stands = (went.stands, went.stop)
@@ -51,23 +52,25 @@ module _ (c answers : List ℕ) (h : Coded c) (budget room : ℕ) (s : Stand) (b
     behind : s.steps ≤ u.steps
     behind = let z = went.steps in omega arith
 
-    module _ (r : Turned) (left : List ℕ) (b : Turns r c answers budget room u mid left) where
-      turning : (v : Stand) → r ≡ On v → Turning c answers budget room u v mid left
+    module _ (r : Option Turned) (left : List ℕ) (b : Turns r c answers budget room u mid left) where
+      turning : (v : Stand) → r ≡ Some (On v) → Turning c answers budget room u v mid left
       unfolding Turns
-      turning v f = subst (λ (x : Turned). Turns x c answers budget room u mid left) f b
+      turning v f = subst (λ (x : Option Turned). Turns x c answers budget room u mid left) f b
 
-      pub turn-less : (v : Stand) → r ≡ On v → budget - v.steps < budget - s.steps
+      pub turn-less : (v : Stand) → r ≡ Some (On v) → budget - v.steps < budget - s.steps
       turn-less v f = let t = turning v f in let x = t.less in let y = t.stands.steps in let z = behind in omega arith
 
-      pub turn_on : (v : Stand) → r ≡ On v → Going c answers budget room v before left
+      pub turn_on : (v : Stand) → r ≡ Some (On v) → Going c answers budget room v before left
       turn_on v f = let t = turning v f in record { leads = leads-on _ (onward c answers budget u) _ start u v before mid left near t.leads; stands = t.stands }
 
-      pub turn-over : (k : ℕ) (v : Stand) → r ≡ Over k v → Passes (Ended k v) (run budget (instructions_of c) 0 answers) room before left
+      pub turn-over : (k : Ending) (v : Stand) → r ≡ Some (Over k v) → Passes (Some (record { ending = k; steps = v.steps; used = v.used; written = v.written })) (run budget (instructions_of c) 0 answers) room before left
       unfolding Turns Passes
       turn-over k v f =
-          let t : Ending (onward c answers budget u) k room u v mid left = subst (λ (x : Turned). Turns x c answers budget room u mid left) f b in
-          record { leads = leads-on _ (onward c answers budget u) _ start u v before mid left near t.leads; fits = t.fits }
+          let t : Finishing (onward c answers budget u) (ending_number k) room u v mid left = subst (λ (x : Option Turned). Turns x c answers budget room u mid left) f b in
+          let l = leads-on _ (onward c answers budget u) _ start u v before mid left near t.leads in
+          record { leads = record { events = l.events; is = l.is; steps = l.steps; used = l.used; written = l.written; copied = l.copied }; fits = t.fits }
 
-      pub turn_many : r ≡ Full → Passes TooMany (run budget (instructions_of c) 0 answers) room before left
+      pub turn_many : r ≡ None → (o : Option RanSo) → o ≡ None → Passes o (run budget (instructions_of c) 0 answers) room before left
       unfolding Turns
-      turn_many f = overflows u mid near (subst (λ (x : Turned). Turns x c answers budget room u mid left) f b) left
+      turn_many f o q =
+          subst (λ (x : Option RanSo). Passes x (run budget (instructions_of c) 0 answers) room before left) (sym q) (overflows u mid near (subst (λ (x : Option Turned). Turns x c answers budget room u mid left) f b) left)

@@ -1,10 +1,11 @@
 -- Event bytes that are stored. Assumes nothing.
-use Prim.Native.Nat.{ℕ, suc, ◌+◌, ◌-◌, ◌<◌, ◌≤◌}
+use Prim.Native.Nat.{ℕ, suc, ◌+◌, ◌-◌, ◌≤◌}
 use mathlib.Core.Path.{◌≡◌, refl, sym, ap, ap₂, ◌∙◌}
-use mathlib.Core.List.{List, [], ◌∷◌, ◌++◌}
+use mathlib.Core.List.{List, [], ◌∷◌, ◌++◌, append_assoc}
 use native.Mathlib.Omega.{arith}
-use lib.ListN.{length, take, drop, get_or, set, length-append, length-drop}
-use lib.Seq.{sets, sets-eq, length-sets, drop-cons, length-take-le}
+use lib.ListN.{length, take, drop, set, length-append}
+use lib.Seq.{sets, sets-eq, length-sets, drop-drop}
+use borrow.Rule.Slice.PartMut.{put_mid}
 use Rattle.definitions.specs.Calls.{written}
 use Rattle.run.specs.Pass.{Copied}
 
@@ -32,24 +33,8 @@ copied-written before left bs c h = c.stored (omega arith) ∙ sets-eq bs before
 
 -- ---- the copy
 
-pub copy-next : (code events : List ℕ) (at p n i : ℕ) → i < n → p + n ≤ length code →
-    sets events (at + i) (take (n - i) (drop (p + i) code)) ≡ sets (set events (at + i) (get_or code (p + i) 0)) (at + (i + 1)) (take (n - (i + 1)) (drop (p + (i + 1)) code))
-copy-next code events at p n i h l =
-    ap₂ (λ (k : ℕ) (xs : List ℕ). sets events (at + i) (take k xs)) (let z : n - i ≡ suc (n - (i + 1)) = omega arith in z)
-    (drop-cons code (p + i) 0 (omega arith) ∙ ap (λ (j : ℕ). get_or code (p + i) 0 ∷ drop j code) (let z : suc (p + i) ≡ p + (i + 1) = omega arith in z))
-    ∙ ap (λ (k : ℕ). sets (set events (at + i) (get_or code (p + i) 0)) k (take (n - (i + 1)) (drop (p + (i + 1)) code))) (let z : suc (at + i) ≡ at + (i + 1) = omega arith in z)
-
-pub copy_start : (code events : List ℕ) (at p n : ℕ) → sets events at (take n (drop p code)) ≡ sets events (at + 0) (take (n - 0) (drop (p + 0) code))
-copy_start code events at p n =
-    let a : at ≡ at + 0 = omega arith in let b : n ≡ n - 0 = omega arith in let d : p ≡ p + 0 = omega arith in
-    λ z. sets events (a z) (take (b z) (drop (d z) code))
-
-pub copy-end : (code events : List ℕ) (at p n i : ℕ) → n ≤ i → sets events (at + i) (take (n - i) (drop (p + i) code)) ≡ events
-copy-end code events at p n i h = ap (λ (k : ℕ). sets events (at + i) (take k (drop (p + i) code))) (let z : n - i ≡ 0 = omega arith in z)
-
-part_length : (code : List ℕ) (p q : ℕ) → p ≤ q → q ≤ length code → length (take (q - p) (drop p code)) ≡ q - p
-part_length code p q h l = let d = length-drop p code in length-take-le (q - p) (drop p code) (omega arith)
-
--- no room: nothing is stored
-pub copied-not : (before code : List ℕ) (at p q : ℕ) → p ≤ q → q ≤ length code → length before < at + (q - p) → Copied before before at (take (q - p) (drop p code))
-copied-not before code at p q h l s = record { stored = λ k. (let e = part_length code p q h l in absurd (omega arith)); long = refl }
+pub copied_over : (before bs : List ℕ) (at : ℕ) → at + length bs ≤ length before → Copied before (put_mid at (at + length bs - at) before bs) at bs
+copied_over before bs at h =
+    let n : at + (at + length bs - at) ≡ at + length bs = omega arith in
+    stored_at before _ at bs (sym (sets-eq bs before at h ∙ append_assoc (take at before) bs (drop (at + length bs) before)
+    ∙ ap (λ (xs : List ℕ). take at before ++ (bs ++ xs)) (ap (λ (k : ℕ). drop k before) (sym n) ∙ sym (drop-drop (at + length bs - at) at before))))

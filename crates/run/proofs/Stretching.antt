@@ -5,11 +5,12 @@ use mathlib.Core.List.{List}
 use mathlib.Core.Logic.{inl, inr, ⊎_elim}
 use native.Mathlib.Omega.{arith}
 use lib.ListN.{length, take, drop, get_or}
+use Rattle.std.proofs.Common.{Some, None}
 use Rattle.definitions.specs.Run.{straight}
 use Rattle.reader.specs.View.{instructions_of, start_of}
-use Rattle.run.specs.declared.Stand.{Stand}
-use Rattle.run.specs.declared.Stretched.TheVariants.{To, NoRoom}
-use Rattle.run.specs.Pass.{Coded, Places, flow_at, Stop, Stops, Reaches, Copied, Stands, between, AtStop, Goes}
+use Rattle.run.specs.declared.course.Stand.{Stand}
+use Rattle.run.specs.Tables.{Coded, Places, flow_at, Stop, Stops}
+use Rattle.run.specs.Pass.{Reaches, Copied, Stands, between, AtStop, Goes}
 use Rattle.run.proofs.Coding.{start-in, start_up, between-length}
 
 module _ (c : List ℕ) (h : Coded c) (budget room : ℕ) (s : Stand) (st : Stands c budget room s) (stops : List ℕ) (sp : Stops c stops) (stop : ℕ) (es : stop ≡ get_or stops s.place 0) where
@@ -46,13 +47,13 @@ module _ (c : List ℕ) (h : Coded c) (budget room : ℕ) (s : Stand) (st : Stan
       goes : (j : ℕ) → s.place ≤ j → j < to → flow_at (instructions_of c) j ≡ straight
       goes j a b = let d = r.to in stop_is.goes j a (omega arith)
 
-      pub stretch-full : (before left : List ℕ) → room - s.written < q - p → Goes NoRoom c budget room s before left
+      pub stretch-full : (before left : List ℕ) → room - s.written < q - p → Goes None c budget room s before left
       unfolding Goes
       stretch-full before left f = let w = st.written in let z = size_is in
           record { to = to; from = r.from; inside = to_in; goes = goes; within = r.within; over = omega arith }
 
       pub stretch-on : (before left : List ℕ) → q - p ≤ room - s.written → Copied before left s.written (take (q - p) (drop p c)) →
-          Goes (To (record { steps = s.steps + (to - s.place); used = s.used; written = s.written + (q - p); place = to })) c budget room s before left
+          Goes (Some (record { steps = s.steps + (to - s.place); used = s.used; written = s.written + (q - p); place = to })) c budget room s before left
       unfolding Goes AtStop
       stretch-on before left f k =
           let w = st.written in let z = size_is in let x = r.within in let y = st.steps in record {

@@ -9,13 +9,14 @@ use lib.Dec.{eqb}
 use lib.ListN.{length, take, drop, get_or, set, length-drop, length-set}
 use lib.Seq.{get_or-set_same, get_or-set_other, drop-drop}
 use borrow.Author.Tests.{eqb-true, eq-eqb}
-use Rattle.definitions.specs.Instruction.{Instr, instr, Return, encode, encodes}
+use Rattle.definitions.specs.Instruction.{Instr, Return, encode, encodes}
 use Rattle.definitions.specs.Run.{Flow, straight, jump, question, returns, flow}
-use Rattle.reader.specs.View.{instructions_of, start_of, met_at}
-use Rattle.reader.specs.declared.Cursor.{Cursor}
-use Rattle.reader.specs.declared.Met.TheVariants.{At, End}
-use Rattle.reader.proofs.Iterated.{met-at, met-end}
-use Rattle.run.specs.Pass.{Coded, Places, flow_at, Stop, Stops, Nearer}
+use Rattle.reader.specs.View.{instructions_of, start_of, shown, Walks}
+use Rattle.std.proofs.Common.{Some, None}
+use Rattle.reader.specs.declared.Placed.{Placed}
+use Rattle.reader.specs.declared.iteration.Instructions.{Instructions}
+use Rattle.reader.proofs.Iterated.{walked, walked-out}
+use Rattle.run.specs.Tables.{Coded, Places, flow_at, Stop, Stops, Nearer}
 use Rattle.definitions.proofs.Flows.{return-stops}
 use Rattle.run.proofs.Coding.{op-here, not_last, start-add}
 use Rattle.definitions.specs.Bytes.{concat}
@@ -43,64 +44,70 @@ return-goes op e f = return-stops op e f
 
 -- ---- where instructions begin
 
-pub record Filling (c : List ℕ) (cur : Cursor) (before table : List ℕ) : Type 0 where
-  pub rest : instructions_of (drop cur.at c) ≡ drop cur.place (instructions_of c)
-  pub at : cur.at ≡ start_of (instructions_of c) cur.place
-  pub inside : cur.at ≤ length c
-  pub behind : cur.place ≤ cur.at
-  pub entries : (k : ℕ) → k < cur.place → get_or table k 0 ≡ start_of (instructions_of c) k
+pub record Filling (c : List ℕ) (s : Instructions) (before table : List ℕ) : Type 0 where
+  pub code : s.code.now ≡ c
+  pub rest : instructions_of (drop s.at c) ≡ drop s.place (instructions_of c)
+  pub at : s.at ≡ start_of (instructions_of c) s.place
+  pub inside : s.at ≤ length c
+  pub entries : (k : ℕ) → k < s.place → get_or table k 0 ≡ start_of (instructions_of c) k
   pub long : length table ≡ length before
 
-pub filling-start : (c table : List ℕ) → Filling c (record { place = 0; at = 0 }) table table
+pub filling-start : (c table : List ℕ) (s : Instructions) → s.code.now ≡ c → s.place ≡ 0 → s.at ≡ 0 → Filling c s table table
 unfolding start_of encodes concat
-filling-start c table = record { rest = refl; at = refl; inside = omega arith; behind = omega arith; entries = λ k h. absurd (omega arith); long = refl }
+filling-start c table s k p a = record {
+  code = k;
+  rest = ap₂ (λ (x y : ℕ). instructions_of (drop x c)) a p ∙ ap (λ (y : ℕ). drop y (instructions_of c)) (sym p);
+  at = a ∙ ap (λ (y : ℕ). start_of (instructions_of c) y) (sym p);
+  inside = omega arith;
+  entries = λ k h. absurd (omega arith);
+  long = refl;
+}
 
 drop-some : (xs : List Instr) (k : ℕ) (y : Instr) (ys : List Instr) → drop k xs ≡ y ∷ ys → k < length xs
 drop-some xs k y ys e = let l = ap length e in let m = length-drop k xs in omega arith
 
-module _ (c : List ℕ) (cur : Cursor) (before table : List ℕ) (f : Filling c cur before table) where
-  module _ (op a b : ℕ) (n : Cursor) (m : met_at c cur ≡ At op a b n) where
-    more : (instructions_of (drop cur.at c) ≡ instr op a b ∷ instructions_of (drop n.at c)) × (n.place ≡ cur.place + 1) × (n.at ≤ length c) × (n.at ≡ cur.at + length (encode (instr op a b)))
-    more = met-at c cur op a b n f.inside m
+module _ (c : List ℕ) (s : Instructions) (before table : List ℕ) (f : Filling c s before table) where
+  module _ (n : Instructions) (p : Placed) (w : Walks s (Some p) n) where
+    more : (instructions_of (drop s.at c) ≡ shown p ∷ instructions_of (drop n.at c)) × (n.place ≡ s.place + 1) × (n.at ≤ length c) × (n.at ≡ s.at + length (encode (shown p))) × (n.code.now ≡ c)
+    more = walked c s n p f.code w
 
-    here : drop cur.place (instructions_of c) ≡ instr op a b ∷ instructions_of (drop n.at c)
+    here : drop s.place (instructions_of c) ≡ shown p ∷ instructions_of (drop n.at c)
     here = sym f.rest ∙ more.0
 
-    pub fill-in : cur.place < length (instructions_of c)
-    fill-in = drop-some (instructions_of c) cur.place (instr op a b) (instructions_of (drop n.at c)) here
+    pub fill-in : p.place < length (instructions_of c)
+    fill-in = let d = drop-some (instructions_of c) s.place (shown p) (instructions_of (drop n.at c)) here in let e = w.1.0 in omega arith
 
-    pub fill-less : length c - n.at < length c - cur.at
-    fill-less = let q = more.3 in let d = length-encode (instr op a b) in let g = more.2 in omega arith
+    pub fill-at : p.at ≤ length c
+    fill-at = let i = f.inside in let e = w.1.1 in omega arith
 
-    pub filling-more : (left : List ℕ) → cur.place < length table → left ≡ set table cur.place cur.at → Filling c n before left
-    filling-more left h e =
-        let p = more.1 in let q = more.3 in let d = length-encode (instr op a b) in let g = f.behind in
-        let one : drop n.place (instructions_of c) ≡ instructions_of (drop n.at c) = ap (λ (k : ℕ). drop k (instructions_of c)) p ∙ sym (drop-drop 1 cur.place (instructions_of c)) ∙ ap (drop 1) here in
-        let s : start_of (instructions_of c) (cur.place + 1) ≡ start_of (instructions_of c) cur.place + length (encode (instr op a b)) =
-        start-add (instructions_of c) cur.place 1 ∙ ap (λ (js : List Instr). start_of (instructions_of c) cur.place + length (encodes (take 1 js))) here ∙ ap (λ (k : ℕ). start_of (instructions_of c) cur.place + k) (first_one (instr op a b)) in
-        let t = ap (start_of (instructions_of c)) p in let u = f.at in
+    pub filling-more : p.place < length table → Filling c n before (set table p.place p.at)
+    filling-more h =
+        let m = more in
+        let q = m.3 in let d = length-encode (shown p) in
+        let one : drop n.place (instructions_of c) ≡ instructions_of (drop n.at c) = ap (λ (k : ℕ). drop k (instructions_of c)) m.1 ∙ sym (drop-drop 1 s.place (instructions_of c)) ∙ ap (drop 1) here in
+        let b : start_of (instructions_of c) (s.place + 1) ≡ start_of (instructions_of c) s.place + length (encode (shown p)) =
+        start-add (instructions_of c) s.place 1 ∙ ap (λ (js : List Instr). start_of (instructions_of c) s.place + length (encodes (take 1 js))) here ∙ ap (λ (k : ℕ). start_of (instructions_of c) s.place + k) (one-encoded (shown p)) in
+        let t = ap (start_of (instructions_of c)) m.1 in let u = f.at in
         record {
+          code = m.4;
           rest = sym one;
           at = omega arith;
-          inside = more.2;
-          behind = omega arith;
-          entries = λ k l. entry left e k (omega arith);
-          long = ap length e ∙ length-set table cur.place cur.at ∙ f.long;
+          inside = m.2;
+          entries = λ k l. entry k (let x = m.1 in omega arith);
+          long = length-set table p.place p.at ∙ f.long;
         }
       where
-        first_one : (i : Instr) → length (encodes (i ∷ [])) ≡ length (encode i)
-        first_one i = one-encoded i
-
-        entry : (left : List ℕ) → left ≡ set table cur.place cur.at → (k : ℕ) → k < cur.place + 1 → get_or left k 0 ≡ start_of (instructions_of c) k
-        entry left e k l = go (eqb k cur.place) refl
+        entry : (k : ℕ) → k < s.place + 1 → get_or (set table p.place p.at) k 0 ≡ start_of (instructions_of c) k
+        entry k l = go (eqb k p.place) refl
           where
-            go : (b : Bool) → eqb k cur.place ≡ b → get_or left k 0 ≡ start_of (instructions_of c) k
-            go true x = let y = eqb-true k cur.place x in ap₂ (λ (xs : List ℕ) (j : ℕ). get_or xs j 0) e y ∙ get_or-set_same table cur.place cur.at 0 h ∙ f.at ∙ ap (start_of (instructions_of c)) (sym y)
-            go false x = let y = differs k cur.place x in ap (λ (xs : List ℕ). get_or xs k 0) e ∙ get_or-set_other table cur.place k cur.at 0 y ∙ f.entries k (below k cur.place l y)
+            go : (b : Bool) → eqb k p.place ≡ b → get_or (set table p.place p.at) k 0 ≡ start_of (instructions_of c) k
+            go true x = let y = eqb-true k p.place x in
+                ap (λ (j : ℕ). get_or (set table p.place p.at) j 0) y ∙ get_or-set_same table p.place p.at 0 h ∙ w.1.1 ∙ f.at ∙ ap (start_of (instructions_of c)) (sym (y ∙ w.1.0))
+            go false x = let y = differs k p.place x in get_or-set_other table p.place k p.at 0 y ∙ f.entries k (below k s.place l (λ z. y (z ∙ sym w.1.0)))
 
-  pub filled : length (instructions_of c) ≤ length before → met_at c cur ≡ End → Places c table
-  filled h e =
-      let d = ap length (sym f.rest ∙ met-end c cur e) in let m = length-drop cur.place (instructions_of c) in let l = f.long in
+  pub filled : (n : Instructions) → length (instructions_of c) ≤ length before → Walks s None n → Places c table
+  filled n h w =
+      let d = ap length (sym f.rest ∙ walked-out c s n f.code w) in let m = length-drop s.place (instructions_of c) in let l = f.long in
       record { long = omega arith; at = λ k j. f.entries k (omega arith) }
 
 -- ---- where going straight on stops

@@ -8,14 +8,18 @@ use native.Mathlib.Numerals.{add-one}
 use lib.Dec.{eqb}
 use lib.ListN.{length, drop, get_or, set, length-append, drop_of_length-le}
 use lib.Seq.{drop-cons}
+use Rattle.std.proofs.Common.{Option, Some, None}
 use Rattle.definitions.specs.Instruction.{Instr, Return}
 use Rattle.definitions.specs.Reader.{landing}
 use Rattle.definitions.specs.Run.{Ran, ended, after, Flow, straight, jump, question, returns, flow, way, obey, run}
 use Rattle.reader.specs.View.{number_at, instructions_of, start_of}
-use Rattle.run.specs.declared.Stand.{Stand}
-use Rattle.run.specs.declared.Turned.{Turned}
-use Rattle.run.specs.declared.Turned.TheVariants.{On, Over, Full}
-use Rattle.run.specs.Pass.{Coded, flow_at, Stands, AtStop, Reaches, Asked, Starved, Asks, onward, Turning, Ending, Turns}
+use Rattle.run.specs.declared.Ending.{Ending}
+use Rattle.run.specs.declared.Ending.TheVariants.{Returned, NoAnswer, BudgetSpent}
+use Rattle.run.specs.declared.course.Stand.{Stand}
+use Rattle.run.specs.declared.course.Turned.{Turned}
+use Rattle.run.specs.declared.course.Turned.TheVariants.{On, Over}
+use Rattle.run.specs.Tables.{Coded, flow_at}
+use Rattle.run.specs.Pass.{Stands, AtStop, Reaches, Asked, Starved, Asks, onward, Turning, Finishing, Turns, ending_number}
 use Rattle.definitions.proofs.Flows.{stop-jumps, jump-width, is-jump, flow-jump, flow-returns, flow-question, way-below}
 use Rattle.run.proofs.Flows.{return-bytes}
 use Rattle.run.proofs.Coding.{op-here, operand-here, not_last, jump-inside}
@@ -24,8 +28,8 @@ use Rattle.run.proofs.Leading.{after_none}
 
 module _ (c answers : List ℕ) (budget room : ℕ) (s : Stand) where
   -- no budget left
-  pub spent : s.written ≤ room → s.steps ≡ budget → (before : List ℕ) → Turns (Over 3 s) c answers budget room s before before
-  unfolding Turns onward run
+  pub spent : s.written ≤ room → s.steps ≡ budget → (before : List ℕ) → Turns (Some (Over BudgetSpent s)) c answers budget room s before before
+  unfolding Turns onward run ending_number
   spent f e before = record {
     leads = record {
       events = [];
@@ -70,15 +74,15 @@ module _ (c answers : List ℕ) (budget room : ℕ) (s : Stand) where
         unfolding obey
         one_byte = obeyed returns (flow-returns i.op (sym op-is ∙ e)) ∙ ap (λ (bs : List ℕ). after 1 0 bs (ended 1)) (return-bytes i (sym op-is ∙ e) ∙ ap (λ (k : ℕ). k ∷ []) (sym op-is))
 
-        pub return-full : (before left : List ℕ) → room - s.written < 1 → Turns Full c answers budget room s before left
+        pub return-full : (before left : List ℕ) → room ≤ s.written → Turns None c answers budget room s before left
         unfolding Turns ended
         return-full before left f =
             let w = st.written in
             let v : length (onward c answers budget s).events ≡ 1 = ap (λ (x : Ran). length x.events) one_byte in omega arith
 
-        pub returned : (before left : List ℕ) → 1 ≤ room - s.written → left ≡ set before s.written op
-            → Turns (Over 1 (record { steps = s.steps + 1; used = s.used; written = s.written + 1; place = s.place })) c answers budget room s before left
-        unfolding Turns
+        pub returned : (before left : List ℕ) → s.written < room → left ≡ set before s.written op
+            → Turns (Some (Over Returned (record { steps = s.steps + 1; used = s.used; written = s.written + 1; place = s.place }))) c answers budget room s before left
+        unfolding Turns ending_number
         returned before left f d = record {
           leads = record {
             events = op ∷ [];
@@ -116,7 +120,7 @@ module _ (c answers : List ℕ) (budget room : ℕ) (s : Stand) where
           a-is = ea ∙ operand.1
 
           pub jumped : (before : List ℕ) → op ≡ 28 → (t : ℕ) → t ≡ landing s.place a
-              → Turns (On (record { steps = s.steps + 1; used = s.used; written = s.written; place = t })) c answers budget room s before before
+              → Turns (Some (On (record { steps = s.steps + 1; used = s.used; written = s.written; place = t }))) c answers budget room s before before
           unfolding Turns onward obey go
           jumped before e t f =
               let z = less in
@@ -140,11 +144,11 @@ module _ (c answers : List ℕ) (budget room : ℕ) (s : Stand) where
             asks : onward c answers budget s ≡ obey (question (eqb op 30)) i s.place (drop s.used answers) go
             asks = obeyed (question (eqb op 30)) (flow-question i.op ranged.0 ranged.1 (λ z. n (op-is ∙ z)) ∙ ap (λ (k : ℕ). question (eqb k 30)) (sym op-is))
 
-            starves : (e : ℕ) (u : Stand) (before left : List ℕ) → Starved e answers s u before left → Turns (Over e u) c answers budget room s before left
-            unfolding Turns obey
+            starves : (e : Ending) (u : Stand) (before left : List ℕ) → Starved e answers s u before left → Turns (Some (Over e u)) c answers budget room s before left
+            unfolding Turns obey ending_number
             starves e u before left t =
                 let k : onward c answers budget s ≡ ended 2 = asks ∙ ap (λ (xs : List ℕ). obey (question (eqb op 30)) i s.place xs go) (drop_of_length-le answers t.none) in
-                let same : Ending (onward c answers budget s) 2 room s s before before = record {
+                let same : Finishing (onward c answers budget s) 2 room s s before before = record {
                   leads = record {
                     events = [];
                     is = k ∙ after_none (ended 2) ∙ ap₂ (λ (x y : ℕ). after x y [] (ended 2)) (let z : 0 ≡ s.steps - s.steps = omega arith in z) (let z : 0 ≡ s.used - s.used = omega arith in z);
@@ -156,9 +160,9 @@ module _ (c answers : List ℕ) (budget room : ℕ) (s : Stand) where
                   fits = st.written;
                 } in
                 let e1 = sym t.ending in let e2 = sym t.stays in let e3 = sym t.same in
-                subst (λ (x : ℕ). Ending (onward c answers budget s) x room s u before left) e1
-                (subst (λ (x : Stand). Ending (onward c answers budget s) 2 room s x before left) e2
-                (subst (λ (x : List ℕ). Ending (onward c answers budget s) 2 room s s before x) e3 same))
+                subst (λ (x : Ending). Finishing (onward c answers budget s) (ending_number x) room s u before left) e1
+                (subst (λ (x : Stand). Finishing (onward c answers budget s) 2 room s x before left) e2
+                (subst (λ (x : List ℕ). Finishing (onward c answers budget s) 2 room s s before x) e3 same))
 
             answered : s.used < length answers → onward c answers budget s
                 ≡ after 1 1 (op ∷ get_or answers s.used 0 ∷ []) (run (budget - (s.steps + 1)) (instructions_of c) (way (eqb op 30) (eqb (get_or answers s.used 0) 1) s.place a) (drop (s.used + 1) answers))
@@ -167,7 +171,7 @@ module _ (c answers : List ℕ) (budget room : ℕ) (s : Stand) where
                 ∙ ap (λ (xs : List ℕ). obey (question (eqb op 30)) i s.place xs go) (drop-cons answers s.used 0 u ∙ ap (λ (j : ℕ). get_or answers s.used 0 ∷ drop j answers) (sym (add-one s.used)))
                 ∙ ap₂ (λ (x y : ℕ). after 1 1 (x ∷ get_or answers s.used 0 ∷ []) (run (budget - (s.steps + 1)) (instructions_of c) (way (eqb op 30) (eqb (get_or answers s.used 0) 1) s.place y) (drop (s.used + 1) answers))) (sym op-is) (sym a-is)
 
-            goes : (u : Stand) (before left : List ℕ) → Asked op a answers room s u before left → Turns (On u) c answers budget room s before left
+            goes : (u : Stand) (before left : List ℕ) → Asked op a answers room s u before left → Turns (Some (On u)) c answers budget room s before left
             unfolding Turns onward i
             goes u before left q =
                 let z = less in let f = q.fits in
@@ -191,7 +195,7 @@ module _ (c answers : List ℕ) (budget room : ℕ) (s : Stand) where
                   less = omega arith;
                 })
 
-            no_room : (before left : List ℕ) → (s.used < length answers) × (room < s.written + 2) → Turns Full c answers budget room s before left
+            no_room : (before left : List ℕ) → (s.used < length answers) × (room < s.written + 2) → Turns None c answers budget room s before left
             unfolding Turns
             no_room before left f =
                 let x = f.1 in
@@ -199,26 +203,26 @@ module _ (c answers : List ℕ) (budget room : ℕ) (s : Stand) where
                 let v : length (onward c answers budget s).events ≡ 2 + length rest.events =
                 ap (λ (x : Ran). length x.events) (answered f.0) ∙ length-append (op ∷ get_or answers s.used 0 ∷ []) rest.events in omega arith
 
-            pub questioned : (r : Turned) (before left : List ℕ) → Asks r op a answers room s before left → Turns r c answers budget room s before left
+            pub questioned : (r : Option Turned) (before left : List ℕ) → Asks r op a answers room s before left → Turns r c answers budget room s before left
             unfolding Asks
-            questioned (On u) before left q = goes u before left q
-            questioned (Over e u) before left q = starves e u before left q
-            questioned Full before left q = no_room before left q
+            questioned (Some (On u)) before left q = goes u before left q
+            questioned (Some (Over e u)) before left q = starves e u before left q
+            questioned None before left q = no_room before left q
 
 -- ---- what the code asks
 
 module _ (op a : ℕ) (answers : List ℕ) (room : ℕ) (s : Stand) where
-  pub ask-starved : (before : List ℕ) → length answers ≤ s.used → Asks (Over 2 s) op a answers room s before before
+  pub ask-starved : (before : List ℕ) → length answers ≤ s.used → Asks (Some (Over NoAnswer s)) op a answers room s before before
   unfolding Asks
   ask-starved before h = record { none = h; ending = refl; stays = refl; same = refl }
 
-  pub ask-full : (before left : List ℕ) → s.used < length answers → s.written ≤ room → room - s.written < 2 → Asks Full op a answers room s before left
+  pub ask-full : (before left : List ℕ) → s.used < length answers → s.written ≤ room → room - s.written < 2 → Asks None op a answers room s before left
   unfolding Asks
   ask-full before left h w f = (h, omega arith)
 
   pub ask-on : (before mid left : List ℕ) (t : ℕ) → s.used < length answers → s.written ≤ room → 2 ≤ room - s.written → mid ≡ set before s.written op → left ≡ set mid (s.written + 1) (get_or answers s.used 0)
       → t ≡ way (eqb op 30) (eqb (get_or answers s.used 0) 1) s.place a
-      → Asks (On (record { steps = s.steps + 1; used = s.used + 1; written = s.written + 2; place = t })) op a answers room s before left
+      → Asks (Some (On (record { steps = s.steps + 1; used = s.used + 1; written = s.written + 2; place = t }))) op a answers room s before left
   unfolding Asks
   ask-on before mid left t h w f d e g = record {
     more = h;

@@ -1,119 +1,55 @@
-// A run's passes over a function's code: the events are measured first, and written where they fit.
+// A run's two passes over a function's code: the events are measured first, and written where they fit.
 ghost use Rattle.std.specs.Prelude.{◌≡◌, ◌≤◌, length};
 ghost use Rattle.definitions.specs.Run as Run;
 ghost use Rattle.definitions.specs.Calls.{events_fit, ran_call};
 ghost use Rattle.reader.specs.View.{instructions_of};
-ghost use Rattle.run.specs.Pass.{Coded, Places, Stops, Passes, Called};
+ghost use Rattle.run.specs.Tables.{Coded};
+ghost use Rattle.run.specs.Pass.{Called};
 
-use crate::steps::{stretch, turn};
+use crate::Ran;
+use crate::course::Course;
 use crate::tables::{fill_places, fill_stops};
-use crate::{Outcome, Passed, Stand, Stretched, Turned};
+use questions::Question;
 
-// One pass: all the steps, and those event bytes that the buffer has room for.
-pub(crate) fn pass(
-    code: &[u8],
-    places: &[u32],
-    stops: &[u32],
-    answers: &[u8],
-    budget: u64,
-    room: usize,
-    events: &mut [u8],
-) -> Passed
-    requires { Coded code.now × Places code.now places.now × Stops code.now stops.now }
-    ensures { Passes result (Run.run budget (instructions_of code.now) 0 answers.now) room events.old events.new }
+// How many instructions a lowered module has at most: the tables of most functions.
+const SMALL: usize = 8192;
+
+// How many instructions a function has at most.
+const LARGE: usize = 65536;
+
+// The run on a course that allows as many event bytes as the buffer has.
+fn run_on(course: &Course<'_>, events: &mut [u8]) -> Result<Ran, Question>
+    requires { course.now.room ≡ length events.old }
+    ensures { Called result (ran_call (events_fit (length events.old) (Run.run course.now.budget (instructions_of course.now.code.now) 0 course.now.answers.now)) events.old) events.new }
 {
-    let mut s = Stand {
-        steps: 0,
-        used: 0,
-        written: 0,
-        place: 0,
-    };
-    loop {
-        let went = stretch(code, places, stops, budget, room, s, events);
-        let Stretched::To(near) = went else {
-            return Passed::TooMany;
-        };
-        let turned = turn(code, places, answers, budget, room, near, events);
-        match turned {
-            Turned::On(next) => {
-                s = next;
-            }
-            Turned::Over(ending, last) => {
-                return Passed::Ended(ending, last);
-            }
-            Turned::Full => {
-                return Passed::TooMany;
-            }
-        }
-    }
+    course.pass(&mut events[..0]).ok_or(Question::EventRoom)?;
+    course.pass(events).ok_or(Question::EventRoom)
 }
 
-// The run, by tables of the code.
-pub(crate) fn run_tables(
+// The run of a function of n instructions, with tables of N.
+fn run_sized<const N: usize>(
     code: &[u8],
-    places: &[u32],
-    stops: &[u32],
+    n: usize,
     answers: &[u8],
     budget: u64,
     events: &mut [u8],
-) -> Outcome
-    requires { Coded code.now × Places code.now places.now × Stops code.now stops.now }
+) -> Result<Ran, Question>
+    requires { Coded code.now × (n ≡ length (instructions_of code.now)) × (n ≤ N) × (N ≤ 65536) }
     ensures { Called result (ran_call (events_fit (length events.old) (Run.run budget (instructions_of code.now) 0 answers.now)) events.old) events.new }
 {
-    let room = events.len();
-    let measured = pass(
+    let mut places = [0u32; N];
+    fill_places(code, &mut places);
+    let mut stops = [0u32; N];
+    fill_stops(code, &places, n, &mut stops);
+    let course = Course {
         code,
-        places,
-        stops,
+        places: &places,
+        stops: &stops,
         answers,
         budget,
-        room,
-        &mut events[0..0],
-    );
-    let Passed::Ended(_, _) = measured else {
-        return Outcome::Refused(24);
+        room: events.len(),
     };
-    let ran = pass(code, places, stops, answers, budget, room, events);
-    let Passed::Ended(ending, last) = ran else {
-        return Outcome::Refused(24);
-    };
-    Outcome::Finished(ending, last.steps, last.used, last.written)
-}
-
-// The run of a function of n instructions, at most 8,192, as many as a lowered module may have.
-pub(crate) fn run_small(
-    code: &[u8],
-    n: usize,
-    answers: &[u8],
-    budget: u64,
-    events: &mut [u8],
-) -> Outcome
-    requires { Coded code.now × (n ≡ length (instructions_of code.now)) × (n ≤ 8192) }
-    ensures { Called result (ran_call (events_fit (length events.old) (Run.run budget (instructions_of code.now) 0 answers.now)) events.old) events.new }
-{
-    let mut places = [0u32; 8192];
-    fill_places(code, &mut places);
-    let mut stops = [0u32; 8192];
-    fill_stops(code, &places, n, &mut stops);
-    run_tables(code, &places, &stops, answers, budget, events)
-}
-
-// The same of at most 65,536.
-pub(crate) fn run_large(
-    code: &[u8],
-    n: usize,
-    answers: &[u8],
-    budget: u64,
-    events: &mut [u8],
-) -> Outcome
-    requires { Coded code.now × (n ≡ length (instructions_of code.now)) × (n ≤ 65536) }
-    ensures { Called result (ran_call (events_fit (length events.old) (Run.run budget (instructions_of code.now) 0 answers.now)) events.old) events.new }
-{
-    let mut places = [0u32; 65536];
-    fill_places(code, &mut places);
-    let mut stops = [0u32; 65536];
-    fill_stops(code, &places, n, &mut stops);
-    run_tables(code, &places, &stops, answers, budget, events)
+    run_on(&course, events)
 }
 
 // The run of a function's code, with tables that are large enough.
@@ -123,12 +59,13 @@ pub(crate) fn run_code(
     answers: &[u8],
     budget: u64,
     events: &mut [u8],
-) -> Outcome
+) -> Result<Ran, Question>
     requires { Coded code.now × (n ≡ length (instructions_of code.now)) }
     ensures { Called result (ran_call (events_fit (length events.old) (Run.run budget (instructions_of code.now) 0 answers.now)) events.old) events.new }
 {
-    if n <= 8192 {
-        return run_small(code, n, answers, budget, events);
+    if n <= SMALL {
+        run_sized::<SMALL>(code, n, answers, budget, events)
+    } else {
+        run_sized::<LARGE>(code, n, answers, budget, events)
     }
-    run_large(code, n, answers, budget, events)
 }

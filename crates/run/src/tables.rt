@@ -2,10 +2,10 @@
 ghost use Rattle.std.specs.Prelude.{◌≡◌, ◌≤◌, ◌<◌, length};
 ghost use Rattle.definitions.specs.Run.{straight};
 ghost use Rattle.reader.specs.View.{instructions_of};
-ghost use Rattle.run.specs.Pass.{Coded, Places, Stops, GoesOn, Nearer};
+ghost use Rattle.run.specs.Tables.{Coded, Places, Stops, GoesOn, Nearer};
 
-use numerals::op_bytes;
-use reader::{Cursor, Met, next_instruction};
+use numerals::op_bytes::{JUMP, JUMP_IF_FALSE, JUMP_IF_TRUE, RETURN};
+use reader::Instructions;
 
 pub fn wide(x: u32) -> usize
     ensures { result ≡ x }
@@ -18,15 +18,8 @@ pub fn fill_places(code: &[u8], places: &mut [u32])
     requires { Coded code.now × (length (instructions_of code.now) ≤ length places.old) }
     ensures { Places code.now places.new }
 {
-    let mut c = Cursor { place: 0, at: 0 };
-    loop {
-        let met = next_instruction(code, c);
-        let Met::At(_, _, _, next) = met else {
-            return;
-        };
-        let k = c.place as usize;
-        places[k] = c.at as u32;
-        c = next;
+    for placed in Instructions::of(code) {
+        places[placed.place as usize] = placed.at as u32;
     }
 }
 
@@ -34,16 +27,10 @@ pub fn fill_places(code: &[u8], places: &mut [u32])
 pub fn goes_on(op: u8) -> bool
     ensures { GoesOn result op }
 {
-    if op == op_bytes::JUMP {
-        return false;
+    match op {
+        JUMP | JUMP_IF_FALSE | JUMP_IF_TRUE | RETURN => false,
+        _ => true,
     }
-    if op == op_bytes::JUMP_IF_FALSE {
-        return false;
-    }
-    if op == op_bytes::JUMP_IF_TRUE {
-        return false;
-    }
-    op != op_bytes::RETURN
 }
 
 // Of the stop after place k, and k: the first that is a stop.
@@ -58,12 +45,9 @@ pub(crate) fn fill_stops(code: &[u8], places: &[u32], n: usize, stops: &mut [u32
     requires { Coded code.now × Places code.now places.now × (n ≡ length (instructions_of code.now)) × (n ≤ length stops.old) }
     ensures { Stops code.now stops.new }
 {
-    let mut k = n;
-    let mut stop = 0usize;
-    while 0 < k {
-        k -= 1;
-        let at = wide(places[k]);
-        stop = nearer(code[at], k, stop);
+    let mut stop = 0;
+    for k in (0..n).rev() {
+        stop = nearer(code[places[k] as usize], k, stop);
         stops[k] = stop as u32;
     }
 }

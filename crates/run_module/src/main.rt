@@ -3,84 +3,68 @@
 
 ghost use Rattle.std.specs.Prelude.{length, ◌≡◌};
 
-use digits::Decimal;
+use digits::decimal_of;
 use input::{arg, arg_count, read_full};
-use run::Outcome;
+use questions::Question;
+use report::Hex;
+use run::{Ending, Ran};
 use std::io;
 use std::io::Read;
 use std::rt::Env;
 
-// The answers of a word in its place, and whether each character is one.
-fn to_answers(word: &mut [u8]) -> bool {
-    let mut i = 0usize;
-    while i < word.len() {
-        if word[i] != b'0' {
-            if word[i] != b'1' {
-                return false;
-            }
-        }
-        word[i] = word[i] % 2;
-        i += 1;
-    }
-    true
-}
+// The bytes of an argument that is a number, and of the answers, at the most.
+const DIGITS: usize = 20;
 
-fn is_dash(word: &[u8]) -> bool {
-    if word.len() != 1 {
-        return false;
+const WORD: usize = 65536;
+
+// The answers of a word of 0 and 1, or of `-`, which has none.
+fn answers_of<'a>(word: &[u8], answers: &'a mut [u8]) -> Option<&'a [u8]> {
+    if matches!(word, b"-") {
+        return Some(b"");
     }
-    word[0] == b'-'
+    for (answer, character) in answers.iter_mut().zip(word) {
+        *answer = match character {
+            b'0' => 0,
+            b'1' => 1,
+            _ => return None,
+        };
+    }
+    answers.get(..word.len())
 }
 
 // An argument that is a number.
-fn number_argument(rt: &impl Env, i: usize) -> Decimal {
-    let mut text = [0u8; 20];
-    let n = arg(rt, i, &mut text);
-    digits::decimal_of(&text[..n])
+fn number_argument(rt: &impl Env, i: usize) -> Option<u64> {
+    arg(rt, i, &mut [0; DIGITS]).and_then(decimal_of)
 }
 
-fn ending_name(rt: &impl Print, ending: u8) -> io::Result<()> {
+fn ending_name(ending: Ending) -> &'static str {
     match ending {
-        1 => report::text(rt, b" (returned)\n"),
-        2 => report::text(rt, b" (no answer left)\n"),
-        _ => report::text(rt, b" (budget spent)\n"),
+        Ending::Returned => "returned",
+        Ending::NoAnswer => "no answer left",
+        Ending::BudgetSpent => "budget spent",
     }
 }
 
-fn answer(rt: &impl Print, outcome: Outcome, events: &[u8]) -> io::Result<()> {
+fn answer(rt: &impl Print, outcome: Result<Ran, Question>, events: &[u8]) -> io::Result<()> {
     match outcome {
-        Outcome::Finished(ending, steps, used, written) => {
-            report::text(rt, b"ending: ")?;
-            report::number(rt, ending as u64)?;
-            ending_name(rt, ending)?;
-            report::text(rt, b"steps: ")?;
-            report::number(rt, steps)?;
-            report::text(rt, b"\nanswers used: ")?;
-            report::number(rt, used as u64)?;
-            report::text(rt, b"\nevents: ")?;
-            report::hex(rt, events, written)?;
+        Ok(ran) => {
+            println!(rt;
+                "ending: {} ({})",
+                ran.ending.number(),
+                ending_name(ran.ending)
+            )?;
+            println!(rt; "steps: {}", ran.steps)?;
+            println!(rt; "answers used: {}", ran.used)?;
+            println!(rt; "events: {}", Hex(&events[..ran.written.min(events.len())]))
         }
-        Outcome::Refused(q) => report::refused(rt, q as u64)?,
+        Err(question) => println!(rt; "refused {question}"),
     }
-    report::text(rt, b"\n")
 }
 
 fn event_buffer() -> [u8; 524288]
     ensures { 524288 ≡ length result }
 {
     [0; 524288]
-}
-
-fn run_bytes(
-    rt: &impl Print,
-    module: &[u8],
-    f: u64,
-    answers: &[u8],
-    budget: u64,
-) -> io::Result<()> {
-    let mut events = event_buffer();
-    let outcome = run::run(module, f, answers, budget, &mut events);
-    answer(rt, outcome, &events)
 }
 
 // One byte more than the longest module, so that a longer one is refused.
@@ -90,60 +74,57 @@ fn module_buffer() -> [u8; 524289]
     [0; 524289]
 }
 
-fn run_input<P: Print, R: Read>(
-    rt: &P,
+// The run of the function f of the module on the input.
+fn run_input<R: Read>(
+    rt: &impl Print,
     input: &mut R,
     f: u64,
     answers: &[u8],
     budget: u64,
 ) -> io::Result<()> {
     let mut module = module_buffer();
-    let n = read_full(input, &mut module);
-    run_bytes(rt, &module[..n], f, answers, budget)
+    let mut events = event_buffer();
+    let outcome = run::run(
+        read_full(input, &mut module),
+        f,
+        answers,
+        budget,
+        &mut events,
+    );
+    answer(rt, outcome, &events)
 }
 
-fn run_word<P: Print + Eprint, R: Read>(
-    rt: &P,
-    input: &mut R,
-    f: u64,
-    word: &mut [u8],
-    budget: u64,
-) -> io::Result<()> {
-    if is_dash(word) {
-        return run_input(rt, input, f, b"", budget);
-    }
-    if to_answers(word) {
-        return run_input(rt, input, f, word, budget);
-    }
-    rt.eprintln("run_module: each answer is 0 or 1")
-}
-
-// The answers of the second argument.
+// The run on the answers of the second argument.
 fn run_with<P: Env + Print + Eprint, R: Read>(
     rt: &P,
     input: &mut R,
     f: u64,
     budget: u64,
 ) -> io::Result<()> {
-    let mut word = [0u8; 65536];
-    let n = arg(rt, 2, &mut word);
-    if n == 0 {
-        return rt.eprintln("run_module: the answers are a word of at most 65,536 characters, or -");
+    let mut buffer = [0u8; WORD];
+    let word = match arg(rt, 2, &mut buffer) {
+        None | Some([]) => {
+            return rt.eprintln(
+                "run_module: the answers are a word of at most 65,536 characters, or -",
+            );
+        }
+        Some(word) => word,
+    };
+    match answers_of(word, &mut [0; WORD]) {
+        Some(answers) => run_input(rt, input, f, answers, budget),
+        None => rt.eprintln("run_module: each answer is 0 or 1"),
     }
-    run_word(rt, input, f, &mut word[..n], budget)
 }
 
 fn main(rt: HostRuntime) -> io::Result<()> {
     if arg_count(&rt) != 4 {
         return rt.eprintln("usage: run_module FUNCTION ANSWERS BUDGET < MODULE");
     }
-    let function = number_argument(&rt, 1);
-    let budget = number_argument(&rt, 3);
-    let Decimal::Value(f) = function else {
+    let Some(f) = number_argument(&rt, 1) else {
         return rt.eprintln("run_module: the function is a number below 2^64");
     };
-    let Decimal::Value(b) = budget else {
+    let Some(budget) = number_argument(&rt, 3) else {
         return rt.eprintln("run_module: the budget is a number below 2^64");
     };
-    run_with(&rt, &mut rt.stdin(), f, b)
+    run_with(&rt, &mut rt.stdin(), f, budget)
 }

@@ -15,7 +15,7 @@ use Rattle.definitions.proofs.Flows.{stop-jumps, jump-width, flow-jump, flow-ret
 use Rattle.definitions.proofs.Stays.{Lands, code-lands}
 use Rattle.definitions.proofs.Sweeping.{tabled-room, tabled-meet}
 use Rattle.reader.specs.View.{number_at, instructions_of, start_of}
-use Rattle.run.specs.Pass.{Coded}
+use Rattle.run.specs.Tables.{Coded}
 use Rattle.run.proofs.Coding.{op-here, operand-here}
 use Rattle.search.specs.View.{table_in, Meetable, Meets, Expandable}
 use Rattle.search.proofs.Viewing.{mark-at}

@@ -1,6 +1,6 @@
 -- The loop of a search. Assumes nothing.
 use Prim.Native.Nat.{ℕ, ◌+◌, ◌<◌, ◌≤◌}
-use mathlib.Core.Path.{◌≡◌, refl, sym, ap, ◌∙◌, subst}
+use mathlib.Core.Path.{◌≡◌, sym, ap, ◌∙◌, subst}
 use mathlib.Core.List.{List}
 use native.Mathlib.Omega.{arith}
 use lib.ListN.{length, take, get_or, replicate, length-replicate}
@@ -27,12 +27,12 @@ module _ {c table start : List ℕ} {n : ℕ} (S : Searchable c table start n) w
 
   module _ (R : Rule) where
     -- place 0
-    pub going_start : (area : List ℕ) → length area ≡ length start → table_in n area 1 ≡ at_start n R.root start → Going R c n area area 0 1
+    pub going_start : (area : List ℕ) → length area ≡ length start → table_in n area 1 ≡ at_start n R.root start → Going R c n start area 0 1
     unfolding at_start
     going_start area same e =
         let k = S.count in let f = S.coded.few in let l = S.long in
         record {
-          long = refl;
+          long = same;
           wide = omega arith;
           sweeping = subst (λ (t : Table). Sweeping R (instructions_of c) 0 t) (sym e)
               (sweep-start R (instructions_of c) (take n start) (replicate {A = ℕ} n 0) (length-take-le n start (omega arith) ∙ k) (length-replicate {A = ℕ} n 0 ∙ k) (nonempty c S.coded) (zeros-at n));

@@ -2,7 +2,7 @@
 use Rattle.std.specs.Prelude.{ℕ, ◌+◌, ◌<◌, ◌≤◌, ◌≡◌, List, length, take, drop, get_or, set, replicate}
 use Rattle.definitions.specs.Search.{Table, Marks, Tabled, meet, expand}
 use Rattle.reader.specs.View.{instructions_of}
-use Rattle.run.specs.Pass.{Coded, Places}
+use Rattle.run.specs.Tables.{Coded, Places}
 
 -- of n places each
 unfoldable pub marks_of : ℕ → List ℕ → List ℕ

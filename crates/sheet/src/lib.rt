@@ -13,8 +13,9 @@ ghost use Rattle.tally.specs.Walk.{Values, functions_from, FunctionsAt};
 ghost use Rattle.tally.specs.Listed.{Printed};
 
 use lines::{write_count, write_total};
-use reader::{Opened, number_at, open_module};
-use tally::{CODE, COUNT, Listed, count_code};
+use questions::Question;
+use reader::{Part, number_at, read_module};
+use tally::{CODE, COUNT, count_code};
 
 // The bytes of a line.
 const LINE: usize = 41;
@@ -26,11 +27,10 @@ fn write_sheet(bytes: &[u8], at: usize, count: u64, out: &mut [u8]) -> usize
 {
     let mut p = at;
     let mut put = 0usize;
-    let mut f = 0u64;
     let mut total = 0u64;
     let mut questions = 0u64;
     let mut calls = 0u64;
-    while f < count {
+    for f in 0..count {
         let n = number_at(bytes, p + COUNT, 2);
         let code = count_code(bytes, p + CODE, n);
         write_count(f, n, code.questions, code.calls, &mut out[put..]);
@@ -39,32 +39,26 @@ fn write_sheet(bytes: &[u8], at: usize, count: u64, out: &mut [u8]) -> usize
         questions += code.questions;
         calls += code.calls;
         p = code.at;
-        f += 1;
     }
     write_total(total, questions, calls, &mut out[put..]);
     put + LINE
 }
 
-// The count sheet of a module whose functions begin at `at`.
-fn sheet_functions(bytes: &[u8], at: usize, out: &mut [u8]) -> Listed
-    requires { FunctionsAt bytes.now at }
+// The count sheet of a module with those functions.
+fn sheet_functions(bytes: &[u8], functions: Part, out: &mut [u8]) -> Result<usize, Question>
+    requires { FunctionsAt bytes.now functions }
     ensures { Printed result (sheet_call bytes.now out.old) out.new }
 {
-    let count = number_at(bytes, at, 2);
-    if (out.len() as u64) < LINE as u64 * (count + 1) {
-        return Listed::Refused(32);
+    if (out.len() as u64) < LINE as u64 * (functions.count + 1) {
+        return Err(Question::SheetRoom);
     }
-    let put = write_sheet(bytes, at + 2, count, out);
-    Listed::Written(put)
+    Ok(write_sheet(bytes, functions.start + 2, functions.count, out))
 }
 
 // The count sheet of a module, written only where it fits.
-pub fn count_sheet(bytes: &[u8], out: &mut [u8]) -> Listed
+pub fn count_sheet(bytes: &[u8], out: &mut [u8]) -> Result<usize, Question>
     ensures { Printed result (sheet_call bytes.now out.old) out.new }
 {
-    let opened = open_module(bytes);
-    match opened {
-        Opened::Closed(q) => Listed::Refused(q),
-        Opened::Module(_, functions, _, _) => sheet_functions(bytes, functions, out),
-    }
+    let sections = read_module(bytes)?;
+    sheet_functions(bytes, sections.functions, out)
 }

@@ -6,18 +6,15 @@ use mathlib.Core.Option.{Option, none, some}
 use mathlib.Core.List.{List, [], ◌∷◌, ◌++◌, map}
 use native.Mathlib.Omega.{arith}
 use native.Mathlib.Numerals.{add-one}
-use lib.Dec.{ltb}
-use lib.ListN.{length, take, drop, get_or, set, length-drop, length-map, length-set, drop_of_length-le}
+use lib.ListN.{length, take, drop, get_or, set, length-drop, length-set, drop_of_length-le}
 use lib.Seq.{take-suc-set, length-take-le, drop-set-add, drop-set-lt, drop_at, take-add, take-append-le}
 use borrow.Rule.Slice.PartMut.{put_mid, post_of}
-use borrow.Author.Tests.{lt-ltb, le-ltb}
 use Rattle.names.proofs.Finding.{names-length}
 use Rattle.definitions.specs.Bytes.{Name, same, position, member}
 use Rattle.definitions.specs.Slots.{add}
-use Rattle.definitions.proofs.Resolve.{position-lt}
 use Rattle.state.specs.Words.{name_at}
 use Rattle.state.specs.Index.{bucket_of, Covered, none_covered, start_of}
-use Rattle.state.specs.State.{names_at, slots_from, slot_names, Slots, found_or}
+use Rattle.state.specs.State.{names_at, slots_from, slot_names, Slots}
 use Rattle.parts.specs.Places.{name_bytes}
 use Rattle.names.specs.Sought.{sought_from}
 use Rattle.names.proofs.Indexing.{place_found, slot-found, covered_out, covered-part, covered-snoc}
@@ -27,22 +24,6 @@ use Rattle.slots.specs.Slotted.{leading, first_names, Indexed, IsBucket, Added}
 pub name-bytes : (t : List ℕ) (p : ℕ) → name_at t p ≡ name_bytes t p
 unfolding name_at name_bytes
 name-bytes t p = refl
-
--- ---- a name among names
-
-pub found-member : (x : Name) (xs : List Name) (n : ℕ) → n ≡ length xs → ltb (found_or n (position (same x) xs)) n ≡ member x xs
-unfolding member found_or
-found-member x xs n e = go (position (same x) xs) refl
-  where
-    go : (o : Option ℕ) → position (same x) xs ≡ o → ltb (found_or n o) n ≡ elim o as (λ _. Bool) [ none ↦ false | some i ↦ true ]
-    go none h = le-ltb n n (omega arith)
-    go (some k) h = let i = position-lt (same x) xs k h in lt-ltb k n (omega arith)
-
-pub found-slot : (t ps : List ℕ) (p : ℕ) (x : Name) (k : ℕ) → x ≡ name_at t p → k ≡ found_or (length ps) (position (same x) (names_at t ps)) → ltb k (length ps) ≡ member (name_bytes t p) (names_at t ps)
-unfolding names_at
-found-slot t ps p x k e f =
-    ap (λ (i : ℕ). ltb i (length ps)) f ∙ found-member x (map (name_at t) ps) (length ps) (sym (length-map ps (name_at t)))
-    ∙ ap (λ (y : Name). member y (map (name_at t) ps)) (e ∙ name-bytes t p)
 
 -- ---- the names of the first slots
 
@@ -103,42 +84,36 @@ pub part-before : (n : ℕ) (ps : List ℕ) → take (n - 0) (drop 0 ps) ≡ tak
 part-before n ps = ap (λ (k : ℕ). take k ps) (let e : n - 0 ≡ n = omega arith in e)
 
 -- the number of the slot that has the name, by the search of the code
-pub slot-told : (t slots : List ℕ) (p b r : ℕ) (y : Name) → Slots t slots → IsBucket b t p → y ≡ name_at t p → r ≡ sought_from (get_or slots b 0) y (names_at t (take (length slots - slots_from) (drop slots_from slots)))
-    → r ≡ found_or (length slots - slots_from) (position (same (name_bytes t p)) (slot_names t slots))
-slot-told t slots p b r y s q e f =
-    slot-found t slots (name_at t p) y b r s e (q.is ∙ ap (bucket_of slots_from) (sym e)) f
-    ∙ ap (λ (n : ℕ). found_or n (position (same (name_at t p)) (slot_names t slots))) (places-length slots) ∙ ap (λ (x : Name). found_or (length slots - slots_from) (position (same x) (slot_names t slots))) (name-bytes t p)
+pub slot-told : (t slots : List ℕ) (p b : ℕ) (o : Option ℕ) (y : Name) → Slots t slots → IsBucket b t p → y ≡ name_at t p → o ≡ sought_from (get_or slots b 0) y (names_at t (take (length slots - slots_from) (drop slots_from slots)))
+    → o ≡ position (same (name_bytes t p)) (slot_names t slots)
+slot-told t slots p b o y s q e f = slot-found t slots (name_at t p) y b o s e (q.is ∙ ap (bucket_of slots_from) (sym e)) f ∙ ap (λ (x : Name). position (same x) (slot_names t slots)) (name-bytes t p)
 
--- whether one of the first n slots has the name, by the search of the code
-module _ (t ps : List ℕ) (n p b r : ℕ) (y : Name) (v : Indexed t n ps) (room : slots_from + n ≤ length ps) (q : IsBucket b t p) (e : y ≡ name_at t p)
-    (f : r ≡ sought_from (get_or ps b 0) y (names_at t (take (slots_from + n - slots_from) (drop slots_from ps)))) where
-  abbrev places : List ℕ
-  places = take n (drop slots_from ps)
-
-  part : take (slots_from + n - slots_from) (drop slots_from ps) ≡ places
+-- the slot among the first n that has the name, by the search of the code
+module _ (t ps : List ℕ) (n p b : ℕ) (o : Option ℕ) (y : Name) (v : Indexed t n ps) (room : slots_from + n ≤ length ps) (q : IsBucket b t p) (e : y ≡ name_at t p)
+    (f : o ≡ sought_from (get_or ps b 0) y (names_at t (take (slots_from + n - slots_from) (drop slots_from ps)))) where
+  part : take (slots_from + n - slots_from) (drop slots_from ps) ≡ take n (drop slots_from ps)
   part = ap (λ (k : ℕ). take k (drop slots_from ps)) (let z : slots_from + n - slots_from ≡ n = omega arith in z)
 
-  part_length : length places ≡ n
-  part_length = length-take-le n (drop slots_from ps) (let z = places-length ps in omega arith)
-
-  place : r ≡ found_or (length places) (position (same (name_at t p)) (names_at t places))
+  kept-told : o ≡ position (same (name_bytes t p)) (first_names t n ps)
   unfolding first_names
-  place = place_found t ps places (name_at t p) y b r v.at e (q.is ∙ ap (bucket_of slots_from) (sym e)) (f ∙ ap (λ (l : List ℕ). sought_from (get_or ps b 0) y (names_at t l)) part)
+  kept-told = place_found t ps (take n (drop slots_from ps)) (name_at t p) y b o v.at e (q.is ∙ ap (bucket_of slots_from) (sym e)) (f ∙ ap (λ (l : List ℕ). sought_from (get_or ps b 0) y (names_at t l)) part)
+      ∙ ap (λ (x : Name). position (same x) (first_names t n ps)) (name-bytes t p)
 
-  kept-told : ltb r n ≡ member (name_bytes t p) (first_names t n ps)
-  unfolding first_names
-  kept-told = ap (ltb r) (sym part_length) ∙ found-slot t places p (name_at t p) r refl place
+  told-there : (i : ℕ) → o ≡ some i → member (name_bytes t p) (first_names t n ps) ≡ true
+  unfolding member
+  told-there i h = ap (λ (o : Option ℕ). elim o as (λ _. Bool) [ none ↦ false | some i ↦ true ]) (sym kept-told ∙ h)
 
-module _ (t ps : List ℕ) (n p b r : ℕ) (y : Name) (v : Indexed t n ps) (room : slots_from + n < length ps) (q : IsBucket b t p) (e : y ≡ name_at t p)
-    (f : r ≡ sought_from (get_or ps b 0) y (names_at t (take (slots_from + n - slots_from) (drop slots_from ps)))) where
+  told-new : o ≡ none → member (name_bytes t p) (first_names t n ps) ≡ false
+  unfolding member
+  told-new h = ap (λ (o : Option ℕ). elim o as (λ _. Bool) [ none ↦ false | some i ↦ true ]) (sym kept-told ∙ h)
+
+module _ (t ps : List ℕ) (n p b : ℕ) (o : Option ℕ) (y : Name) (v : Indexed t n ps) (room : slots_from + n < length ps) (q : IsBucket b t p) (e : y ≡ name_at t p)
+    (f : o ≡ sought_from (get_or ps b 0) y (names_at t (take (slots_from + n - slots_from) (drop slots_from ps)))) where
   abbrev x : Name
   x = name_bytes t p
 
-  told : ltb r n ≡ member (name_bytes t p) (first_names t n ps)
-  told = kept-told t ps n p b r y v (omega arith) q e f
-
-  pub added-there : r < n → Added n t ps n (add (name_bytes t p) (first_names t n ps))
-  added-there h = record { names = sym (add-there x (first_names t n ps) (sym told ∙ lt-ltb r n h)); most = omega arith; indexed = v }
+  pub added-there : (i : ℕ) → o ≡ some i → Added n t ps n (add (name_bytes t p) (first_names t n ps))
+  added-there i h = record { names = sym (add-there x (first_names t n ps) (told-there t ps n p b o y v (omega arith) q e f i h)); most = omega arith; indexed = v }
 
   module _ (s : ℕ) (g : s ≡ start_of (get_or ps b 0) n) (l : s ≤ n) where
     abbrev noted : List ℕ
@@ -156,9 +131,9 @@ module _ (t ps : List ℕ) (n p b r : ℕ) (y : Name) (v : Indexed t n ps) (room
         covered_out slots_from noted (slots_from + n) p (first_names t n ps ++ x ∷ []) (omega arith) (omega arith)
         (covered-snoc slots_from ps b (omega arith) x n s 0 (first_names t n ps) (sym (q.is ∙ ap (bucket_of slots_from) (name-bytes t p))) g l (let w = first-length t n ps (omega arith) in omega arith) v.at)
 
-    pub added_new : n ≤ r → Added (n + 1) t (set (set ps b (s + 1)) (slots_from + n) p) n (add (name_bytes t p) (first_names t n ps))
+    pub added_new : o ≡ none → Added (n + 1) t (set (set ps b (s + 1)) (slots_from + n) p) n (add (name_bytes t p) (first_names t n ps))
     added_new h = record {
-      names = more-names ∙ sym (add-new x (first_names t n ps) (sym told ∙ le-ltb r n h));
+      names = more-names ∙ sym (add-new x (first_names t n ps) (told-new t ps n p b o y v (omega arith) q e f h));
       most = omega arith;
       indexed = record { at = subst (Covered slots_from more 0) (sym more-names) more-indexed };
     }

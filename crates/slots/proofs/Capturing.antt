@@ -16,11 +16,10 @@ use Rattle.parts.specs.Places.{params_at}
 use Rattle.names.proofs.Indexing.{slots-count}
 use Rattle.state.specs.Index.{Covered, none_covered}
 use Rattle.state.specs.State.{names_at, slots_from, slot_names, Slots}
+use Rattle.std.specs.Prelude.{Option, Some, None}
 use Rattle.slots.specs.Slotted.{first_names, Indexed, Appended, Collected}
 use Rattle.slots.specs.Held.{mark_all, is_free, Marked, add_held, held_expr, held_exprs, Held, no_held, Keeping, Referred, CapturesAt}
-use Rattle.slots.specs.declared.Locals.{Locals}
-use Rattle.slots.specs.declared.Locals.TheVariants.{Count, TooMany}
-use Rattle.slots.specs.declared.captures.Refs.{Refs}
+use Rattle.slots.specs.declared.Walked.{Walked}
 use Rattle.slots.proofs.Adding.{first-length, mid-front}
 use Rattle.slots.proofs.Holding.{bool-or, within_none, within-add, within-other, held_in, held_out, held-expr, held-few}
 use Rattle.slots.proofs.Marking.{marked-none, marked_all, free-is}
@@ -43,7 +42,7 @@ keeping_start t parent ps h k g = record {
 -- ---- names gathered among those that have a free slot are those referenced that have a slot
 
 module _ (slots : List Name) where
-  held-var : (bound : List Name) (ms : List ℕ) → Marked slots bound ms → (x : Name) (xs : List Name) (b : Bool) → member x bound ≡ b →
+  held-var : (bound : List Name) (ms : List Bool) → Marked slots bound ms → (x : Name) (xs : List Name) (b : Bool) → member x bound ≡ b →
       within slots (elim b as (λ _. List Name) [ true ↦ xs | false ↦ add x xs ]) ≡ add_held slots ms x (within slots xs)
   held-var bound ms k x xs true e = sym (held_out slots ms x (within slots xs) (free-is slots bound ms k x ∙ ap (λ (b : Bool). member x slots && not b) e ∙ and-false (member x slots)))
   held-var bound ms k x xs false e =
@@ -56,7 +55,7 @@ module _ (slots : List Name) where
   mutual
     unfolding referenced_expr referenced_exprs held_expr held_exprs
 
-    held-referenced : (bound : List Name) (ms : List ℕ) → Marked slots bound ms → (e : Expr) (xs : List Name) → within slots (referenced_expr bound e xs) ≡ held_expr slots ms e (within slots xs)
+    held-referenced : (bound : List Name) (ms : List Bool) → Marked slots bound ms → (e : Expr) (xs : List Name) → within slots (referenced_expr bound e xs) ≡ held_expr slots ms e (within slots xs)
     held-referenced bound ms k (lit l) xs = refl
     held-referenced bound ms k (var x) xs = held-var bound ms k x xs (member x bound) refl
     held-referenced bound ms k (unary op e) xs = held-referenced bound ms k e xs
@@ -68,19 +67,19 @@ module _ (slots : List Name) where
     held-referenced bound ms k (index o i) xs = held-referenced bound ms k i (referenced_expr bound o xs) ∙ ap (held_expr slots ms i) (held-referenced bound ms k o xs)
     held-referenced bound ms k (lambda ps b) xs = held-referenced (ps ++ bound) (mark_all slots ps ms) (marked_all slots ps bound ms k) b xs
 
-    all-referenced : (bound : List Name) (ms : List ℕ) → Marked slots bound ms → (es : Exprs) (xs : List Name) → within slots (referenced_exprs bound es xs) ≡ held_exprs slots ms es (within slots xs)
+    all-referenced : (bound : List Name) (ms : List Bool) → Marked slots bound ms → (es : Exprs) (xs : List Name) → within slots (referenced_exprs bound es xs) ≡ held_exprs slots ms es (within slots xs)
     all-referenced bound ms k []ᵉ xs = refl
     all-referenced bound ms k (e ∷ᵉ es) xs = all-referenced bound ms k es (referenced_expr bound e xs) ∙ ap (held_exprs slots ms es) (held-referenced bound ms k e xs)
 
   -- the captures of a lambda: its own parameters are marked from the start
-  captures-held : (ps : List Name) (b : Expr) → length slots ≤ 256 → captures slots ps b ≡ sort (held_expr slots (mark_all slots ps (replicate 256 0)) b [])
+  captures-held : (ps : List Name) (b : Expr) → length slots ≤ 256 → captures slots ps b ≡ sort (held_expr slots (mark_all slots ps (replicate 256 false)) b [])
   unfolding captures
   captures-held ps b h =
-      let k = marked_all slots ps [] (replicate 256 0) (marked-none slots 256 h) in
+      let k = marked_all slots ps [] (replicate 256 false) (marked-none slots 256 h) in
       ap (λ (qs : List Name). sort (within slots (referenced_expr qs b []))) (sym (append-nil ps))
-      ∙ ap sort (held-referenced (ps ++ []) (mark_all slots ps (replicate 256 0)) k b [] ∙ ap (held_expr slots (mark_all slots ps (replicate 256 0)) b) (within_none slots))
+      ∙ ap sort (held-referenced (ps ++ []) (mark_all slots ps (replicate 256 false)) k b [] ∙ ap (held_expr slots (mark_all slots ps (replicate 256 false)) b) (within_none slots))
 
-module _ (t parent ps₀ ps₁ ms : List ℕ) (a : Refs) (end p : ℕ) (b : Expr) (s : Slots t parent) (m : ms ≡ mark_all (slot_names t parent) (params_at t p).value (replicate 256 0))
+module _ (t parent ps₀ ps₁ : List ℕ) (ms : List Bool) (a : Walked) (end p : ℕ) (b : Expr) (s : Slots t parent) (m : ms ≡ mark_all (slot_names t parent) (params_at t p).value (replicate 256 false))
     (f : Referred a t ps₁ end (held_expr (slot_names t parent) ms b (first_names t 0 ps₀))) where
   abbrev n : ℕ
   n = a.n
@@ -114,17 +113,17 @@ module _ (t parent ps₀ ps₁ ms : List ℕ) (a : Refs) (end p : ℕ) (b : Expr
         record {
           few = few-kept;
           names = ap (names_at t) (mid-front slots_from (slots_from + n - slots_from) n ps₁ part (omega arith) (omega (arith, part-long)) ∙ take_all n part (omega (arith, part-long)))
-              ∙ o ∙ ap (λ (l : List ℕ). sort (names_at t l)) lent-part ∙ ap sort (kept-names ∙ ap (λ (k : List ℕ). held_expr (slot_names t parent) k b []) m) ∙ sym (captures-held (slot_names t parent) qs b held-few-slots);
+              ∙ o ∙ ap (λ (l : List ℕ). sort (names_at t l)) lent-part ∙ ap sort (kept-names ∙ ap (λ (k : List Bool). held_expr (slot_names t parent) k b []) m) ∙ sym (captures-held (slot_names t parent) qs b held-few-slots);
         }
 
 -- ---- parameters, then captures
 
-module _ (r : Locals) (t ps₁ : List ℕ) (qs : List Name) (c : Collected r t ps₁ qs) where
-  pub lambda-over : (ps : List ℕ) (cs : List Name) → r ≡ TooMany → Collected TooMany t ps (qs ++ cs)
+module _ (r : Option ℕ) (t ps₁ : List ℕ) (qs : List Name) (c : Collected r t ps₁ qs) where
+  pub lambda-over : (ps : List ℕ) (cs : List Name) → r ≡ None → Collected None t ps (qs ++ cs)
   unfolding Collected
   lambda-over ps cs e = let h = collected-over r t ps₁ qs c e in omega (arith, length-append qs cs)
 
-  module _ (k : ℕ) (e : r ≡ Count k) (room : slots_from + 256 ≤ length ps₁) where
+  module _ (k : ℕ) (e : r ≡ Some k) (room : slots_from + 256 ≤ length ps₁) where
     pub params-few : k ≤ 255
     params-few = (collected-count r t ps₁ qs k c e).0
 
@@ -138,7 +137,7 @@ module _ (r : Locals) (t ps₁ : List ℕ) (qs : List Name) (c : Collected r t p
       pub lent_length : length (take (slots_from + n - slots_from) (drop slots_from kept)) ≡ n
       lent_length = ap length lent ∙ length-take-le n (drop slots_from kept) (let x = lambda-few in let z = length-drop slots_from kept in omega arith)
 
-      pub lambda-done : (ps₂ : List ℕ) → k + n ≤ 255 → Appended t k (take (slots_from + n - slots_from) (drop slots_from kept)) ps₁ ps₂ → Collected (Count (k + n)) t ps₂ (qs ++ cs)
+      pub lambda-done : (ps₂ : List ℕ) → k + n ≤ 255 → Appended t k (take (slots_from + n - slots_from) (drop slots_from kept)) ps₁ ps₂ → Collected (Some (k + n)) t ps₂ (qs ++ cs)
       unfolding Collected first_names
       lambda-done ps₂ h a = (
         h,
@@ -146,7 +145,7 @@ module _ (r : Locals) (t ps₁ : List ℕ) (qs : List Name) (c : Collected r t p
         subst (λ (m : ℕ). Indexed t (k + m) ps₂) lent_length a.indexed,
       )
 
-      pub lambda-more : (ps₂ : List ℕ) → 255 < k + n → Collected TooMany t ps₂ (qs ++ cs)
+      pub lambda-more : (ps₂ : List ℕ) → 255 < k + n → Collected None t ps₂ (qs ++ cs)
       unfolding Collected
       lambda-more ps₂ h = let m = params-few in let x = lambda-few in
           omega (arith, length-append qs cs, ap length (collected-count r t ps₁ qs k c e).1, first-length t k ps₁ (omega arith), ap length g.names, first-length t n kept (omega arith))

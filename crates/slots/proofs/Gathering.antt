@@ -13,9 +13,9 @@ use Rattle.parts.specs.Places.{Node, count_at, name_bytes, name_end}
 use Rattle.exprs.specs.ExprAt.{expr_at, second_at}
 use Rattle.tree.specs.StmtAt.{stmt_at, block_at, stmts_at, branches_at, StmtReads, BlockReads, StmtsRead, BranchesRead, BranchAt, body_at, IfAt, if_at, elifs_at, while_at, for_at, when_at, else_at, cons_at, assign_at, expr_stmt_at, return_at, def_at, class_at}
 use Rattle.tree.proofs.StmtViews.{view-block, view-stmts-none, view-stmts-more, view-branches-more, else-known, view-done, view-else, view-break, view-continue, view-pass, view-expr, view-return, view-assign, view-if, view-while, view-for, view-def, view-class}
+use Rattle.std.specs.Prelude.{Option, Some, None}
 use Rattle.slots.specs.Slotted.{first_names, Indexed, Added, Room, Gathers}
-use Rattle.slots.specs.declared.collect.Gathered.{Gathered}
-use Rattle.slots.specs.declared.collect.Gathered.TheVariants.{Next, Over}
+use Rattle.slots.specs.declared.Walked.{Walked}
 use Rattle.slots.proofs.Adding.{first-length}
 use Rattle.definitions.proofs.Named.{block-grows, branches-grow}
 
@@ -27,27 +27,31 @@ pub record Stands (e n : ℕ) (t ps : List ℕ) (stop : ℕ) (want : List Name) 
   pub names : first_names t n ps ≡ want
   pub indexed : Indexed t n ps
 
-pub gathers-as : (r : Gathered) (t ps : List ℕ) (e e' : ℕ) (w w' : List Name) → Gathers r t ps e w → e ≡ e' → w ≡ w' → Gathers r t ps e' w'
+pub gathers-as : (r : Option Walked) (t ps : List ℕ) (e e' : ℕ) (w w' : List Name) → Gathers r t ps e w → e ≡ e' → w ≡ w' → Gathers r t ps e' w'
 gathers-as r t ps e e' w w' g h k = subst (λ (x : ℕ). Gathers r t ps x w') h (subst (λ (x : List Name). Gathers r t ps e x) k g)
 
-pub gathers-next : (r : Gathered) (t ps : List ℕ) (end : ℕ) (want : List Name) (e n : ℕ) → Gathers r t ps end want → r ≡ Next e n → Stands e n t ps end want
+pub gathers-next : (r : Option Walked) (t ps : List ℕ) (end : ℕ) (want : List Name) (e n : ℕ) → Gathers r t ps end want → r ≡ Some (record { next = e; n = n }) → Stands e n t ps end want
 unfolding Gathers
-gathers-next r t ps end want e n g h = let x = subst (λ (s : Gathered). Gathers s t ps end want) h g in record { end = x.0; few = x.1; names = x.2; indexed = x.3 }
+gathers-next r t ps end want e n g h = let x = subst (λ (s : Option Walked). Gathers s t ps end want) h g in record { end = x.0; few = x.1; names = x.2; indexed = x.3 }
 
-pub next-gathers : (t ps : List ℕ) (end : ℕ) (want : List Name) (e n : ℕ) → e ≡ end → n ≤ 255 → first_names t n ps ≡ want → Indexed t n ps → Gathers (Next e n) t ps end want
+pub next-gathers : (t ps : List ℕ) (end : ℕ) (want : List Name) (e n : ℕ) → e ≡ end → n ≤ 255 → first_names t n ps ≡ want → Indexed t n ps → Gathers (Some (record { next = e; n = n })) t ps end want
 unfolding Gathers
 next-gathers t ps end want e n h k g v = (h, k, g, v)
 
-pub gathers-over : (r : Gathered) (t ps : List ℕ) (end : ℕ) (want : List Name) → Gathers r t ps end want → r ≡ Over → 255 < length want
+pub gathers-over : (r : Option Walked) (t ps : List ℕ) (end : ℕ) (want : List Name) → Gathers r t ps end want → r ≡ None → 255 < length want
 unfolding Gathers
-gathers-over r t ps end want g h = subst (λ (s : Gathered). Gathers s t ps end want) h g
+gathers-over r t ps end want g h = subst (λ (s : Option Walked). Gathers s t ps end want) h g
 
-pub over-gathers : (t ps : List ℕ) (end : ℕ) (want : List Name) → 255 < length want → Gathers Over t ps end want
+pub over-gathers : (t ps : List ℕ) (end : ℕ) (want : List Name) → 255 < length want → Gathers None t ps end want
 unfolding Gathers
 over-gathers t ps end want h = h
 
 -- more names are still too many
-pub over-more : (r : Gathered) (t ps qs : List ℕ) (e e' : ℕ) (w w' : List Name) → Gathers r t ps e w → r ≡ Over → length w ≤ length w' → Gathers Over t qs e' w'
+-- what a call that stops hands on
+pub gathers-stopped : (r : Option Walked) (t ps : List ℕ) (e : ℕ) (w : List Name) → r ≡ None → Gathers None t ps e w → Gathers r t ps e w
+gathers-stopped r t ps e w h g = subst (λ (x : Option Walked). Gathers x t ps e w) (sym h) g
+
+pub over-more : (r : Option Walked) (t ps qs : List ℕ) (e e' : ℕ) (w w' : List Name) → Gathers r t ps e w → r ≡ None → length w ≤ length w' → Gathers None t qs e' w'
 over-more r t ps qs e e' w w' g h k = over-gathers t qs e' w' (let x = gathers-over r t ps e w g h in omega arith)
 
 pub room-again : (t ps ps' : List ℕ) (n k : ℕ) → Room t ps n → length ps' ≡ length ps → k ≤ 255 → Indexed t k ps' → Room t ps' k
@@ -56,12 +60,12 @@ room-again t ps ps' n k r h g v = record { short = r.short; room = let x = r.roo
 -- ---- a name
 
 module _ (t qs : List ℕ) (n k next : ℕ) (want : List Name) (a : Added k t qs n want) where
-  pub name-over : (ps : List ℕ) → Room t ps n → length qs ≡ length ps → 255 < k → Gathers Over t qs next want
+  pub name-over : (ps : List ℕ) → Room t ps n → length qs ≡ length ps → 255 < k → Gathers None t qs next want
   name-over ps r h g =
       let m = a.most in let x = r.room in let y = r.few in
       over-gathers t qs next want (omega (arith, first-length t k qs (omega arith), ap length a.names))
 
-  pub name-next : k ≤ 255 → Gathers (Next next k) t qs next want
+  pub name-next : k ≤ 255 → Gathers (Some (record { next = next; n = k })) t qs next want
   name-next h = next-gathers t qs next want next k refl h a.names a.indexed
 
 -- ---- statements that hold no block of the function
@@ -98,7 +102,7 @@ module _ (d : ℕ) (t : List ℕ) (p : ℕ) (r : StmtReads d t p) (xs : List Nam
 
   -- ---- assignments, and those that hold blocks
 
-  module _ (o : Gathered) (ps : List ℕ) where
+  module _ (o : Option Walked) (ps : List ℕ) where
     made_of : (y : Node Stmt) → s ≡ y → Gathers o t ps y.end (locals_stmt y.value xs) → Gathers o t ps (stmt_at d t p).end (locals_stmt (stmt_at d t p).value xs)
     made_of y e g = gathers-as o t ps _ _ _ _ g (sym (ap (λ (z : Node Stmt). z.end) e)) (sym (ap (λ (z : Node Stmt). locals_stmt z.value xs) e))
 
@@ -133,15 +137,15 @@ pub record StmtsLeft (d : ℕ) (t ps₀ : List ℕ) (n₀ p₀ k₀ : ℕ) (ps :
   pub indexed : Indexed t k ps
   pub kept : length ps ≡ length ps₀
 
-pub stmts-start : (d : ℕ) (t ps : List ℕ) (a n k : ℕ) → BlockReads d t a → n ≡ count_at t a → k ≤ 255 → Indexed t k ps → StmtsLeft d t ps n (a + 2) k ps n (a + 2) k
-stmts-start d t ps a n k r e h v = record {
+pub stmts-start : (d : ℕ) (t ps : List ℕ) (a n k : ℕ) → BlockReads d t a → n ≡ count_at t a → k ≤ 255 → Indexed t k ps → (j : ℕ) → n ≡ j → StmtsLeft d t ps n (a + 2) k ps j (a + 2) k
+stmts-start d t ps a n k r e h v j i = subst (λ (x : ℕ). StmtsLeft d t ps n (a + 2) k ps x (a + 2) k) i (record {
   reads = subst (λ (m : ℕ). StmtsRead d m t (a + 2)) (sym e) (view-block d t a r).parts.statements;
   end = refl;
   names = refl;
   few = h;
   indexed = v;
   kept = refl;
-}
+})
 
 module _ (d : ℕ) (t ps₀ : List ℕ) (n₀ p₀ k₀ : ℕ) (ps : List ℕ) (n p k : ℕ) (l : StmtsLeft d t ps₀ n₀ p₀ k₀ ps n p k) where
   whole : (a : ℕ) → BlockReads d t a → n₀ ≡ count_at t a → p₀ ≡ a + 2 → block_at d t a ≡ stmts_at d n₀ t p₀
@@ -162,11 +166,11 @@ module _ (d : ℕ) (t ps₀ : List ℕ) (n₀ p₀ k₀ : ℕ) (ps : List ℕ) (
     unfolding cons_at
     all_end = l.end ∙ ap (λ (z : Node Block). z.end) is-cons
 
-    pub stmts-next : (r : Gathered) (ps' : List ℕ) (e m : ℕ) → Gathers r t ps' (stmt_at d t p).end (locals_stmt (stmt_at d t p).value (first_names t k ps)) → r ≡ Next e m →
-        length ps' ≡ length ps → StmtsLeft d t ps₀ n₀ p₀ k₀ ps' (n - 1) e m
-    stmts-next r ps' e m g q w =
+    pub stmts-next : (r : Option Walked) (ps' : List ℕ) (e m : ℕ) → Gathers r t ps' (stmt_at d t p).end (locals_stmt (stmt_at d t p).value (first_names t k ps)) → r ≡ Some (record { next = e; n = m }) →
+        length ps' ≡ length ps → (j : ℕ) → n - 1 ≡ j → StmtsLeft d t ps₀ n₀ p₀ k₀ ps' j e m
+    stmts-next r ps' e m g q w j i =
         let z = gathers-next r t ps' _ _ e m g q in
-        record {
+        subst (λ (x : ℕ). StmtsLeft d t ps₀ n₀ p₀ k₀ ps' x e m) i (record {
           reads = subst (λ (x : ℕ). StmtsRead d (n - 1) t x) (sym z.end) (view-stmts-more d n t p h l.reads).parts.rest;
           end = all_end ∙ ap (λ (x : ℕ). (stmts_at d (n - 1) t x).end) (sym z.end);
           names = all-names ∙ ap (λ (x : List Name). locals_block (stmts_at d (n - 1) t (stmt_at d t p).end).value x) (sym z.names)
@@ -174,17 +178,17 @@ module _ (d : ℕ) (t ps₀ : List ℕ) (n₀ p₀ k₀ : ℕ) (ps : List ℕ) (
           few = z.few;
           indexed = z.indexed;
           kept = w ∙ l.kept;
-        }
+        })
 
-    pub stmts-over : (a : ℕ) → BlockReads d t a → n₀ ≡ count_at t a → p₀ ≡ a + 2 → (r : Gathered) (ps' : List ℕ) →
-        Gathers r t ps' (stmt_at d t p).end (locals_stmt (stmt_at d t p).value (first_names t k ps)) → r ≡ Over →
-        Gathers Over t ps' (block_at d t a).end (locals_block (block_at d t a).value (first_names t k₀ ps₀))
+    pub stmts-over : (a : ℕ) → BlockReads d t a → n₀ ≡ count_at t a → p₀ ≡ a + 2 → (r : Option Walked) (ps' : List ℕ) →
+        Gathers r t ps' (stmt_at d t p).end (locals_stmt (stmt_at d t p).value (first_names t k ps)) → r ≡ None →
+        Gathers None t ps' (block_at d t a).end (locals_block (block_at d t a).value (first_names t k₀ ps₀))
     stmts-over a b c f r ps' g q =
         let w = ap (λ (x : Node Block). locals_block x.value (first_names t k₀ ps₀)) (whole a b c f) ∙ all-names in
         over-more r t ps' ps' _ _ _ _ g q (omega (arith, ap length w, block-grows (stmts_at d (n - 1) t (stmt_at d t p).end).value (locals_stmt (stmt_at d t p).value (first_names t k ps))))
 
   pub stmts-done : (a : ℕ) → BlockReads d t a → n₀ ≡ count_at t a → p₀ ≡ a + 2 → n ≤ 0 →
-      Gathers (Next p k) t ps (block_at d t a).end (locals_block (block_at d t a).value (first_names t k₀ ps₀))
+      Gathers (Some (record { next = p; n = k })) t ps (block_at d t a).end (locals_block (block_at d t a).value (first_names t k₀ ps₀))
   unfolding locals_block
   stmts-done a b c f h =
       let e = view-stmts-none d n t p h l.reads.start in
@@ -204,8 +208,8 @@ pub record BranchesLeft (d : ℕ) (t ps₀ : List ℕ) (n₀ p₀ k₀ : ℕ) (p
   pub indexed : Indexed t k ps
   pub kept : length ps ≡ length ps₀
 
-pub branches-start : (d : ℕ) (t ps : List ℕ) (n p k : ℕ) → BranchesRead d n t p → k ≤ 255 → Indexed t k ps → BranchesLeft d t ps n p k ps n p k
-branches-start d t ps n p k r h v = record { reads = r; end = refl; names = refl; few = h; indexed = v; kept = refl }
+pub branches-start : (d : ℕ) (t ps : List ℕ) (n p k j : ℕ) → n ≡ j → BranchesRead d n t p → k ≤ 255 → Indexed t k ps → BranchesLeft d t ps n p k ps j p k
+branches-start d t ps n p k j i r h v = subst (λ (x : ℕ). BranchesLeft d t ps n p k ps x p k) i (record { reads = r; end = refl; names = refl; few = h; indexed = v; kept = refl })
 
 module _ (d : ℕ) (t ps₀ : List ℕ) (n₀ p₀ k₀ : ℕ) (ps : List ℕ) (n p k : ℕ) (l : BranchesLeft d t ps₀ n₀ p₀ k₀ ps n p k) where
   module _ (h : 0 < n) where
@@ -223,11 +227,11 @@ module _ (d : ℕ) (t ps₀ : List ℕ) (n₀ p₀ k₀ : ℕ) (ps : List ℕ) (
     unfolding when_at
     branches-end = l.end ∙ ap (λ (z : Node Branches). z.end) is-when
 
-    pub branches-next : (r : Gathered) (ps' : List ℕ) (e m : ℕ) → Gathers r t ps' (body_at d t p).end (locals_block (body_at d t p).value (first_names t k ps)) → r ≡ Next e m →
-        length ps' ≡ length ps → BranchesLeft d t ps₀ n₀ p₀ k₀ ps' (n - 1) e m
-    branches-next r ps' e m g q w =
+    pub branches-next : (r : Option Walked) (ps' : List ℕ) (e m : ℕ) → Gathers r t ps' (body_at d t p).end (locals_block (body_at d t p).value (first_names t k ps)) → r ≡ Some (record { next = e; n = m }) →
+        length ps' ≡ length ps → (j : ℕ) → n - 1 ≡ j → BranchesLeft d t ps₀ n₀ p₀ k₀ ps' j e m
+    branches-next r ps' e m g q w j i =
         let z = gathers-next r t ps' _ _ e m g q in
-        record {
+        subst (λ (x : ℕ). BranchesLeft d t ps₀ n₀ p₀ k₀ ps' x e m) i (record {
           reads = subst (λ (x : ℕ). BranchesRead d (n - 1) t x) (sym z.end) (view-branches-more d t p n h l.reads).parts.rest;
           end = branches-end ∙ ap (λ (x : ℕ). (branches_at d (n - 1) t x).end) (sym z.end);
           names = all-branches ∙ ap (λ (x : List Name). locals_branches (branches_at d (n - 1) t (body_at d t p).end).value x) (sym z.names)
@@ -235,10 +239,10 @@ module _ (d : ℕ) (t ps₀ : List ℕ) (n₀ p₀ k₀ : ℕ) (ps : List ℕ) (
           few = z.few;
           indexed = z.indexed;
           kept = w ∙ l.kept;
-        }
+        })
 
-    pub branches-over : (r : Gathered) (ps' : List ℕ) → Gathers r t ps' (body_at d t p).end (locals_block (body_at d t p).value (first_names t k ps)) → r ≡ Over →
-        Gathers Over t ps' (branches_at d n₀ t p₀).end (locals_branches (branches_at d n₀ t p₀).value (first_names t k₀ ps₀))
+    pub branches-over : (r : Option Walked) (ps' : List ℕ) → Gathers r t ps' (body_at d t p).end (locals_block (body_at d t p).value (first_names t k ps)) → r ≡ None →
+        Gathers None t ps' (branches_at d n₀ t p₀).end (locals_branches (branches_at d n₀ t p₀).value (first_names t k₀ ps₀))
     branches-over r ps' g q =
         over-more r t ps' ps' _ _ _ _ g q (omega (arith, ap length all-branches, branches-grow (branches_at d (n - 1) t (body_at d t p).end).value (locals_block (body_at d t p).value (first_names t k ps))))
 
@@ -249,14 +253,14 @@ module _ (d : ℕ) (t ps₀ : List ℕ) (n₀ p₀ k₀ : ℕ) (ps : List ℕ) (
     pub branches-last : BranchesRead d 0 t p
     branches-last = subst (λ (m : ℕ). BranchesRead d m t p) is_none l.reads
 
-    pub branches-done : (r : Gathered) (ps' : List ℕ) → Gathers r t ps' (branches_at d 0 t p).end (locals_branches (branches_at d 0 t p).value (first_names t k ps)) →
+    pub branches-done : (r : Option Walked) (ps' : List ℕ) → Gathers r t ps' (branches_at d 0 t p).end (locals_branches (branches_at d 0 t p).value (first_names t k ps)) →
         Gathers r t ps' (branches_at d n₀ t p₀).end (locals_branches (branches_at d n₀ t p₀).value (first_names t k₀ ps₀))
     branches-done r ps' g = gathers-as r t ps' _ _ _ _ g
         (sym (l.end ∙ ap (λ (m : ℕ). (branches_at d m t p).end) is_none))
         (sym (l.names ∙ ap (λ (m : ℕ). locals_branches (branches_at d m t p).value (first_names t k ps)) is_none))
 
 module _ (d : ℕ) (t : List ℕ) (p : ℕ) (r : BranchesRead d 0 t p) where
-  pub else-none : (ps : List ℕ) (n : ℕ) → n ≤ 255 → Indexed t n ps → get_or t p 0 ≡ 0 → Gathers (Next (p + 1) n) t ps (branches_at d 0 t p).end (locals_branches (branches_at d 0 t p).value (first_names t n ps))
+  pub else-none : (ps : List ℕ) (n : ℕ) → n ≤ 255 → Indexed t n ps → get_or t p 0 ≡ 0 → Gathers (Some (record { next = (p + 1); n = n })) t ps (branches_at d 0 t p).end (locals_branches (branches_at d 0 t p).value (first_names t n ps))
   unfolding locals_branches
   else-none ps n h i e = let v = view-done d t p 0 (omega arith) r e in
       next-gathers t ps _ _ (p + 1) n (sym (ap (λ (z : Node Branches). z.end) v)) h (sym (ap (λ (z : Node Branches). locals_branches z.value (first_names t n ps)) v)) i
@@ -268,7 +272,7 @@ module _ (d : ℕ) (t : List ℕ) (p : ℕ) (r : BranchesRead d 0 t p) where
     pub else-reads : BlockReads d t (p + 1)
     else-reads = (view-else d t p 0 (omega arith) r is_one).parts
 
-    pub else-some : (o : Gathered) (ps : List ℕ) (xs : List Name) → Gathers o t ps (block_at d t (p + 1)).end (locals_block (block_at d t (p + 1)).value xs) →
+    pub else-some : (o : Option Walked) (ps : List ℕ) (xs : List Name) → Gathers o t ps (block_at d t (p + 1)).end (locals_block (block_at d t (p + 1)).value xs) →
         Gathers o t ps (branches_at d 0 t p).end (locals_branches (branches_at d 0 t p).value xs)
     unfolding else_at locals_branches
     else-some o ps xs g = let v = (view-else d t p 0 (omega arith) r is_one).is in
@@ -290,17 +294,17 @@ module _ (d : ℕ) (t : List ℕ) (a : ℕ) (p n : ℕ) (e : p ≡ (body_at d t 
     pub elifs-are : branches_at d n t (p + 2) ≡ elifs_at d t a
     elifs-are = ap (λ (m : ℕ). branches_at d m t (p + 2)) same_count ∙ ap (λ (m : ℕ). branches_at d (count_at t (body_at d t a).end) t (m + 2)) e
 
-    pub if-done : (r : Gathered) (ps : List ℕ) (xs ys : List Name) → xs ≡ ys → Gathers r t ps (branches_at d n t (p + 2)).end (locals_branches (branches_at d n t (p + 2)).value xs) →
+    pub if-done : (r : Option Walked) (ps : List ℕ) (xs ys : List Name) → xs ≡ ys → Gathers r t ps (branches_at d n t (p + 2)).end (locals_branches (branches_at d n t (p + 2)).value xs) →
         Gathers r t ps (elifs_at d t a).end (locals_branches (elifs_at d t a).value ys)
     if-done r ps xs ys q g = gathers-as r t ps _ _ _ _ g (ap (λ (z : Node Branches). z.end) elifs-are)
         (ap (λ (z : Node Branches). locals_branches z.value xs) elifs-are ∙ ap (λ (y : List Name). locals_branches (elifs_at d t a).value y) q)
 
 -- a For's loop
-pub for-done : (d : ℕ) (t : List ℕ) (p q : ℕ) (r : Gathered) (ps : List ℕ) (xs ys : List Name) → p ≡ q → xs ≡ ys →
+pub for-done : (d : ℕ) (t : List ℕ) (p q : ℕ) (r : Option Walked) (ps : List ℕ) (xs ys : List Name) → p ≡ q → xs ≡ ys →
     Gathers r t ps (body_at d t p).end (locals_block (body_at d t p).value xs) → Gathers r t ps (body_at d t q).end (locals_block (body_at d t q).value ys)
 for-done d t p q r ps xs ys e f g = gathers-as r t ps _ _ _ _ g (ap (λ (m : ℕ). (body_at d t m).end) e) (ap (λ (m : ℕ). locals_block (body_at d t m).value xs) e ∙ ap (locals_block (body_at d t q).value) f)
 
-pub branch-done : (d : ℕ) (t : List ℕ) (p q : ℕ) (r : Gathered) (ps : List ℕ) (xs : List Name) → p ≡ q →
+pub branch-done : (d : ℕ) (t : List ℕ) (p q : ℕ) (r : Option Walked) (ps : List ℕ) (xs : List Name) → p ≡ q →
     Gathers r t ps (block_at d t p).end (locals_block (block_at d t p).value xs) → Gathers r t ps (block_at d t q).end (locals_block (block_at d t q).value xs)
 branch-done d t p q r ps xs e g = gathers-as r t ps _ _ _ _ g (ap (λ (m : ℕ). (block_at d t m).end) e) (ap (λ (m : ℕ). locals_block (block_at d t m).value xs) e)
 

@@ -1,12 +1,11 @@
 -- Names that have slots: gathering among these alone gives the same captures, and they are no more than the slots. Assumes nothing.
 use Prim.Native.Nat.{ℕ, ◌<◌, ◌≤◌}
 use mathlib.Core.Path.{◌≡◌, refl, sym, ap, ◌∙◌, subst}
-use mathlib.Core.Bool.{Bool, true, false, ◌||◌}
+use mathlib.Core.Bool.{Bool, true, false, ◌||◌, not}
 use mathlib.Core.Option.{Option, none, some}
 use mathlib.Core.List.{List, [], ◌∷◌, ◌++◌, append-nil}
 use mathlib.Core.Logic.{◌⊎◌, inl, inr, ⊎_elim}
 use native.Mathlib.Omega.{arith}
-use lib.Dec.{eqb}
 use lib.ListN.{length, get_or}
 use Rattle.definitions.specs.Bytes.{Name, same, position, member}
 use Rattle.definitions.specs.Tree.{Expr, lit, var, unary, binary, logical, call, attr, display, index, lambda, Exprs, []ᵉ, ◌∷ᵉ◌}
@@ -114,7 +113,7 @@ module _ (slots : List Name) where
       ap (within slots) (add-new x xs f) ∙ within-snoc x xs ∙ ap (λ (l : List Name). within slots xs ++ l) (within-out slots x [] e ∙ within_none slots) ∙ append-nil (within slots xs))
       (bool-or (member x xs))
 
-  module _ (ms : List ℕ) (x : Name) (ys : List Name) where
+  module _ (ms : List Bool) (x : Name) (ys : List Name) where
     pub held_in : is_free slots ms x ≡ true → add_held slots ms x ys ≡ add x ys
     unfolding add_held
     held_in e = rw (e, add_held)
@@ -129,15 +128,15 @@ module _ (slots : List Name) where
   held-snoc x [] h k a = one_held h k no_held
   held-snoc x (y ∷ ys) h k (one_held p q a) = one_held p (member-snoc y x ys (differ x y (not_first x y ys k)) ∙ q) (held-snoc x ys h (not-rest x y ys k) a)
 
-  free-slot : (ms : List ℕ) (x : Name) → is_free slots ms x ≡ true → member x slots ≡ true
+  free-slot : (ms : List Bool) (x : Name) → is_free slots ms x ≡ true → member x slots ≡ true
   unfolding is_free member
   free-slot ms x h = go (position (same x) slots) h
     where
-      go : (o : Option ℕ) → elim o as (λ _. Bool) [ none ↦ false | some i ↦ eqb (get_or ms i 0) 0 ] ≡ true → elim o as (λ _. Bool) [ none ↦ false | some i ↦ true ] ≡ true
+      go : (o : Option ℕ) → elim o as (λ _. Bool) [ none ↦ false | some i ↦ not (get_or ms i false) ] ≡ true → elim o as (λ _. Bool) [ none ↦ false | some i ↦ true ] ≡ true
       go none e = e
       go (some i) e = refl
 
-  pub held-add : (ms : List ℕ) (x : Name) (ys : List Name) → Held slots ys → Held slots (add_held slots ms x ys)
+  pub held-add : (ms : List Bool) (x : Name) (ys : List Name) → Held slots ys → Held slots (add_held slots ms x ys)
   held-add ms x ys a = ⊎_elim
       (λ (e : is_free slots ms x ≡ true). ⊎_elim
       (λ (f : member x ys ≡ true). subst (Held slots) (sym (held_in ms x ys e ∙ add-there x ys f)) a)
@@ -149,7 +148,7 @@ module _ (slots : List Name) where
   mutual
     unfolding held_expr held_exprs
 
-    pub held-expr : (ms : List ℕ) (e : Expr) (ys : List Name) → Held slots ys → Held slots (held_expr slots ms e ys)
+    pub held-expr : (ms : List Bool) (e : Expr) (ys : List Name) → Held slots ys → Held slots (held_expr slots ms e ys)
     held-expr ms (lit l) ys a = a
     held-expr ms (var x) ys a = held-add ms x ys a
     held-expr ms (unary op e) ys a = held-expr ms e ys a
@@ -161,7 +160,7 @@ module _ (slots : List Name) where
     held-expr ms (index o i) ys a = held-expr ms i (held_expr slots ms o ys) (held-expr ms o ys a)
     held-expr ms (lambda ps b) ys a = held-expr (mark_all slots ps ms) b ys a
 
-    pub held-exprs : (ms : List ℕ) (es : Exprs) (ys : List Name) → Held slots ys → Held slots (held_exprs slots ms es ys)
+    pub held-exprs : (ms : List Bool) (es : Exprs) (ys : List Name) → Held slots ys → Held slots (held_exprs slots ms es ys)
     held-exprs ms []ᵉ ys a = a
     held-exprs ms (e ∷ᵉ es) ys a = held-exprs ms es (held_expr slots ms e ys) (held-expr ms e ys a)
 

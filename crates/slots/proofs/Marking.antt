@@ -1,19 +1,17 @@
 -- Marks of slots: which of their names a lambda around has as parameters. Assumes nothing.
 use Prim.Native.Nat.{ℕ, zero, suc, ◌+◌, ◌-◌, ◌<◌, ◌≤◌}
-use mathlib.Core.Path.{◌≡◌, refl, sym, ap, ◌∙◌}
+use mathlib.Core.Path.{◌≡◌, refl, sym, ap, subst, ◌∙◌}
 use mathlib.Core.Bool.{Bool, true, false, not, ◌&&◌, ◌||◌}
 use mathlib.Core.Option.{Option, none, some}
 use mathlib.Core.List.{List, [], ◌∷◌, ◌++◌}
 use mathlib.Core.Logic.{⊎_elim}
 use native.Mathlib.Omega.{arith}
-use lib.Dec.{eqb}
 use lib.ListN.{length, get_or, set, replicate, length-set, length-replicate}
 use lib.Seq.{get_or-set_same, get_or-set_other}
 use Rattle.definitions.specs.Bytes.{Name, same, position, member}
 use Rattle.definitions.proofs.MethodOrder.{same-eq}
 use Rattle.definitions.proofs.Resolve.{position-lt}
 use Rattle.definitions.proofs.Captured.{or_swap, member-cons, member-nil, member-append}
-use Rattle.state.specs.State.{found_or}
 use Rattle.parts.specs.Places.{count_at, name_bytes, name_end, names_from, AllThere, params_at}
 use Rattle.parts.proofs.NameLaws.{there-next, from_more, from-none}
 use Rattle.names.proofs.Finding.{step, position-cons}
@@ -40,36 +38,36 @@ found-one x y xs i e f = same-eq x (get_or xs i []) (found-same x xs i e) ∙ sy
 
 -- ---- marks of names
 
-zero-there : (n i : ℕ) → ◌≡◌ {A = ℕ} (get_or (replicate n 0) i 0) 0
-zero-there zero i = refl
-zero-there (suc n) zero = refl
-zero-there (suc n) (suc i) = zero-there n i
+none-there : (n i : ℕ) → get_or (replicate n false) i false ≡ false
+none-there zero i = refl
+none-there (suc n) zero = refl
+none-there (suc n) (suc i) = none-there n i
 
 module _ (slots : List Name) where
-  pub marked-none : (n : ℕ) → length slots ≤ n → Marked slots [] (replicate n 0)
-  marked-none n h = record { room = omega (arith, length-replicate {A = ℕ} n 0); at = λ x i e. ap (λ (m : ℕ). eqb m 0) (zero-there n i) ∙ ap not (sym (member-nil x)) }
+  pub marked-none : (n : ℕ) → length slots ≤ n → Marked slots [] (replicate n false)
+  marked-none n h = record { room = omega (arith, length-replicate n false); at = λ x i e. ap not (none-there n i) ∙ ap not (sym (member-nil x)) }
 
-  module _ (x : Name) (bound : List Name) (ms : List ℕ) (k : Marked slots bound ms) where
+  module _ (x : Name) (bound : List Name) (ms : List Bool) (k : Marked slots bound ms) where
     -- a name without a slot
-    unslotted : position (same x) slots ≡ none → (y : Name) (j : ℕ) → position (same y) slots ≡ some j → eqb (get_or ms j 0) 0 ≡ not (member y (x ∷ bound))
+    unslotted : position (same x) slots ≡ none → (y : Name) (j : ℕ) → position (same y) slots ≡ some j → not (get_or ms j false) ≡ not (member y (x ∷ bound))
     unslotted h y j e = k.at y j e ∙ ap not (sym (member-next y x bound (⊎_elim
         (λ (q : same y x ≡ true). let f = sym e ∙ ap (λ (z : Name). position (same z) slots) (same-eq y x q) ∙ h in let z : ◌≡◌ {A = ℕ} 0 1 = cc in absurd (omega arith))
         (λ (q : same y x ≡ false). q)
         (bool-or (same y x)))))
 
-    slotted : (i : ℕ) → position (same x) slots ≡ some i → (y : Name) (j : ℕ) → position (same y) slots ≡ some j → eqb (get_or (set ms i 1) j 0) 0 ≡ not (member y (x ∷ bound))
+    slotted : (i : ℕ) → position (same x) slots ≡ some i → (y : Name) (j : ℕ) → position (same y) slots ≡ some j → not (get_or (set ms i true) j false) ≡ not (member y (x ∷ bound))
     slotted i h y j e = ⊎_elim here other (bool-or (same y x))
       where
-        here : same y x ≡ true → eqb (get_or (set ms i 1) j 0) 0 ≡ not (member y (x ∷ bound))
+        here : same y x ≡ true → not (get_or (set ms i true) j false) ≡ not (member y (x ∷ bound))
         here q =
             let f = sym e ∙ ap (λ (z : Name). position (same z) slots) (same-eq y x q) ∙ h in
             let z : j ≡ i = cc in
             let w = position-lt (same x) slots i h in
             let r = k.room in
-            ap (λ (m : ℕ). eqb (get_or (set ms i 1) m 0) 0) z ∙ ap (λ (m : ℕ). eqb m 0) (get_or-set_same ms i 1 0 (omega arith)) ∙ ap not (sym (member-cons y x bound ∙ ap (λ (b : Bool). b || member y bound) q))
+            ap (λ (m : ℕ). not (get_or (set ms i true) m false)) z ∙ ap not (get_or-set_same ms i true false (omega arith)) ∙ ap not (sym (member-cons y x bound ∙ ap (λ (b : Bool). b || member y bound) q))
 
-        other : same y x ≡ false → eqb (get_or (set ms i 1) j 0) 0 ≡ not (member y (x ∷ bound))
-        other q = ap (λ (m : ℕ). eqb m 0) (get_or-set_other ms i j 1 0 apart) ∙ k.at y j e ∙ ap not (sym (member-next y x bound q))
+        other : same y x ≡ false → not (get_or (set ms i true) j false) ≡ not (member y (x ∷ bound))
+        other q = ap not (get_or-set_other ms i j true false apart) ∙ k.at y j e ∙ ap not (sym (member-next y x bound q))
           where
             apart : j ≡ i → ⊥
             apart z = clash (same y x) (ap (same y) (sym (found-one y x slots j e (h ∙ ap some (sym z)))) ∙ alike) q
@@ -81,11 +79,11 @@ module _ (slots : List Name) where
     unfolding mark
     marked-one = go (position (same x) slots) refl
       where
-        go : (o : Option ℕ) → position (same x) slots ≡ o → Marked slots (x ∷ bound) (elim o as (λ _. List ℕ) [ none ↦ ms | some i ↦ set ms i 1 ])
+        go : (o : Option ℕ) → position (same x) slots ≡ o → Marked slots (x ∷ bound) (elim o as (λ _. List Bool) [ none ↦ ms | some i ↦ set ms i true ])
         go none h = record { room = k.room; at = unslotted h }
-        go (some i) h = record { room = let r = k.room in omega (arith, length-set ms i 1); at = slotted i h }
+        go (some i) h = record { room = let r = k.room in omega (arith, length-set ms i true); at = slotted i h }
 
-  pub marked_all : (ps bound : List Name) (ms : List ℕ) → Marked slots bound ms → Marked slots (ps ++ bound) (mark_all slots ps ms)
+  pub marked_all : (ps bound : List Name) (ms : List Bool) → Marked slots bound ms → Marked slots (ps ++ bound) (mark_all slots ps ms)
   unfolding mark_all
   marked_all [] bound ms k = k
   marked_all (p ∷ ps) bound ms k = let m = marked_all ps (p ∷ bound) (mark slots p ms) (marked-one p bound ms k) in
@@ -96,63 +94,50 @@ module _ (slots : List Name) where
           ∙ ap (λ (b : Bool). same x p || b) (sym (member-append x ps bound)) ∙ sym (member-cons x p (ps ++ bound))
 
   -- a free slot's name has a slot and is not bound
-  pub free-is : (bound : List Name) (ms : List ℕ) → Marked slots bound ms → (x : Name) → is_free slots ms x ≡ (member x slots && not (member x bound))
+  pub free-is : (bound : List Name) (ms : List Bool) → Marked slots bound ms → (x : Name) → is_free slots ms x ≡ (member x slots && not (member x bound))
   unfolding is_free member
   free-is bound ms k x = go (position (same x) slots) refl
     where
       go : (o : Option ℕ) → position (same x) slots ≡ o →
-          elim o as (λ _. Bool) [ none ↦ false | some i ↦ eqb (get_or ms i 0) 0 ] ≡ (elim o as (λ _. Bool) [ none ↦ false | some i ↦ true ] && not (member x bound))
+          elim o as (λ _. Bool) [ none ↦ false | some i ↦ not (get_or ms i false) ] ≡ (elim o as (λ _. Bool) [ none ↦ false | some i ↦ true ] && not (member x bound))
       go none h = refl
       go (some i) h = k.at x i h
 
 -- ---- by the number of a slot
 
-module _ (slots : List Name) (x : Name) (ms : List ℕ) (n i : ℕ) (e : i ≡ found_or n (position (same x) slots)) (w : length slots ≡ n) where
-  at_slot : i < n → position (same x) slots ≡ some i
-  unfolding found_or
-  at_slot h = go (position (same x) slots) refl e
-    where
-      go : (o : Option ℕ) → position (same x) slots ≡ o → i ≡ found_or n o → position (same x) slots ≡ some i
-      go none f g = absurd (omega arith)
-      go (some k) f g = f ∙ ap some (sym g)
-
-  at_none : n ≤ i → position (same x) slots ≡ none
-  unfolding found_or
-  at_none h = go (position (same x) slots) refl e
-    where
-      go : (o : Option ℕ) → position (same x) slots ≡ o → i ≡ found_or n o → position (same x) slots ≡ none
-      go none f g = f
-      go (some k) f g = let b = position-lt (same x) slots k f in absurd (omega arith)
-
-  pub mark-told : i < n → set ms i 1 ≡ mark slots x ms
+module _ (slots : List Name) (x : Name) (ms : List Bool) where
+  pub mark-told : (i : ℕ) → some i ≡ position (same x) slots → set ms i true ≡ mark slots x ms
   unfolding mark
-  mark-told h = rw (at_slot h, mark)
+  mark-told i e = ap (λ (o : Option ℕ). elim o as (λ _. List Bool) [ none ↦ ms | some i ↦ set ms i true ]) e
 
-  pub mark-left : n ≤ i → ms ≡ mark slots x ms
+  pub mark-left : none ≡ position (same x) slots → ms ≡ mark slots x ms
   unfolding mark
-  mark-left h = rw (at_none h, mark)
+  mark-left e = ap (λ (o : Option ℕ). elim o as (λ _. List Bool) [ none ↦ ms | some i ↦ set ms i true ]) e
 
-  pub free-told : i < n → eqb (get_or ms i 0) 0 ≡ is_free slots ms x
+  pub free-told : (i : ℕ) → some i ≡ position (same x) slots → not (get_or ms i false) ≡ is_free slots ms x
   unfolding is_free
-  free-told h = rw (at_slot h, is_free)
+  free-told i e = ap (λ (o : Option ℕ). elim o as (λ _. Bool) [ none ↦ false | some i ↦ not (get_or ms i false) ]) e
 
-  pub free-left : n ≤ i → false ≡ is_free slots ms x
+  pub free-left : none ≡ position (same x) slots → false ≡ is_free slots ms x
   unfolding is_free
-  free-left h = rw (at_none h, is_free)
+  free-left e = ap (λ (o : Option ℕ). elim o as (λ _. Bool) [ none ↦ false | some i ↦ not (get_or ms i false) ]) e
 
 -- ---- parameters, one at a time
 
-pub mark-next : (slots : List Name) (t : List ℕ) (n p e : ℕ) (ms ms' : List ℕ) → e ≡ name_end t p → 0 < n → AllThere t n p → ms' ≡ mark slots (name_bytes t p) ms →
-    (mark_all slots (names_from t n p) ms ≡ mark_all slots (names_from t (n - 1) e) ms') × AllThere t (n - 1) e
+pub mark-begun : (slots : List Name) (t : List ℕ) (n p : ℕ) (ms : List Bool) → AllThere t n p → (j : ℕ) → n ≡ j → (mark_all slots (names_from t n p) ms ≡ mark_all slots (names_from t j p) ms) × AllThere t j p
+mark-begun slots t n p ms a j i = subst (λ (x : ℕ). (mark_all slots (names_from t n p) ms ≡ mark_all slots (names_from t x p) ms) × AllThere t x p) i (refl, a)
+
+pub mark-next : (slots : List Name) (t : List ℕ) (n p e : ℕ) (ms ms' : List Bool) → e ≡ name_end t p → 0 < n → AllThere t n p → ms' ≡ mark slots (name_bytes t p) ms →
+    (j : ℕ) → n - 1 ≡ j → (mark_all slots (names_from t n p) ms ≡ mark_all slots (names_from t j e) ms') × AllThere t j e
 unfolding mark_all
-mark-next slots t n p e ms ms' h g a m = (
+mark-next slots t n p e ms ms' h g a m j i = subst (λ (x : ℕ). (mark_all slots (names_from t n p) ms ≡ mark_all slots (names_from t x e) ms') × AllThere t x e) i (
   ap (λ (q : List Name). mark_all slots q ms) (from_more t n p g) ∙ ap (mark_all slots (names_from t (n - 1) (name_end t p))) (sym m) ∙ ap (λ (k : ℕ). mark_all slots (names_from t (n - 1) k) ms') (sym h),
   there-next t n p e h g a,
 )
 
-pub mark-done : (slots : List Name) (t : List ℕ) (n p : ℕ) (ms : List ℕ) → n ≤ 0 → mark_all slots (names_from t n p) ms ≡ ms
+pub mark-done : (slots : List Name) (t : List ℕ) (n p : ℕ) (ms : List Bool) → n ≤ 0 → mark_all slots (names_from t n p) ms ≡ ms
 unfolding mark_all
 mark-done slots t n p ms h = ap (λ (q : List Name). mark_all slots q ms) (from-none t n p h)
 
-pub mark-list : (slots : List Name) (t : List ℕ) (a n : ℕ) (ms ms' : List ℕ) → n ≡ count_at t a → ms' ≡ mark_all slots (names_from t n (a + 2)) ms → ms' ≡ mark_all slots (params_at t a).value ms
+pub mark-list : (slots : List Name) (t : List ℕ) (a n : ℕ) (ms ms' : List Bool) → n ≡ count_at t a → ms' ≡ mark_all slots (names_from t n (a + 2)) ms → ms' ≡ mark_all slots (params_at t a).value ms
 mark-list slots t a n ms ms' e f = f ∙ ap (λ (qs : List Name). mark_all slots qs ms) (params-names t a n e)

@@ -12,11 +12,9 @@ use Rattle.state.specs.State.{names_at, slots_from}
 use Rattle.definitions.specs.Slots.{locals_block, loops_block, Frame, with_loops}
 use Rattle.parts.specs.Places.{count_at, name_bytes, name_end, There, names_from, AllThere, ParamsAt, params_at}
 use Rattle.parts.proofs.NameLaws.{there-first, there-next}
+use Rattle.std.specs.Prelude.{Option, Some, None}
 use Rattle.slots.specs.Slotted.{leading, first_names, Indexed, Reindexed, Collected, Room, Gathers, up_to256, Framing, Frames}
-use Rattle.slots.specs.declared.Locals.{Locals}
-use Rattle.slots.specs.declared.Locals.TheVariants.{Count, TooMany}
-use Rattle.slots.specs.declared.collect.Gathered.{Gathered}
-use Rattle.slots.specs.declared.collect.Gathered.TheVariants.{Next, Over}
+use Rattle.slots.specs.declared.Walked.{Walked}
 use Rattle.slots.specs.declared.collect.Framed.{Framed}
 use Rattle.slots.proofs.Adding.{leading-set, mid-front, first-length}
 use Rattle.slots.proofs.Reindexing.{reindexed-names}
@@ -92,7 +90,7 @@ module _ (t ps part : List ℕ) (n a : ℕ) (few : n ≤ 255) (room : slots_from
   pub params-index : slots_from + n ≤ length (put_mid slots_from (length ps - slots_from) ps part)
   params-index = let z = same_len_mid slots_from (length ps - slots_from) ps part w in omega arith
 
-  pub params-put : (ps' : List ℕ) → leading t n part ≡ names_from t n (a + 2) → Reindexed t n (put_mid slots_from (length ps - slots_from) ps part) ps' → n ≡ count_at t a → Collected (Count n) t ps' (params_at t a).value
+  pub params-put : (ps' : List ℕ) → leading t n part ≡ names_from t n (a + 2) → Reindexed t n (put_mid slots_from (length ps - slots_from) ps part) ps' → n ≡ count_at t a → Collected (Some n) t ps' (params_at t a).value
   unfolding Collected params_at first_names leading
   params-put ps' e r f = (
     few,
@@ -100,42 +98,49 @@ module _ (t ps part : List ℕ) (n a : ℕ) (few : n ≤ 255) (room : slots_from
     r.indexed,
   )
 
-pub params-over : (t ps : List ℕ) (n a : ℕ) → n ≡ count_at t a → 255 < n → Collected TooMany t ps (params_at t a).value
+pub params-over : (t ps : List ℕ) (n a : ℕ) → n ≡ count_at t a → 255 < n → Collected None t ps (params_at t a).value
 unfolding Collected params_at
 params-over t ps n a e h = let z = e in omega (arith, names-count t (count_at t a) (a + 2))
 
 -- ---- locals after parameters
 
-pub collected-count : (r : Locals) (t ps : List ℕ) (want : List Name) (n : ℕ) → Collected r t ps want → r ≡ Count n → (n ≤ 255) × (first_names t n ps ≡ want) × Indexed t n ps
+pub collected-count : (r : Option ℕ) (t ps : List ℕ) (want : List Name) (n : ℕ) → Collected r t ps want → r ≡ Some n → (n ≤ 255) × (first_names t n ps ≡ want) × Indexed t n ps
 unfolding Collected
-collected-count r t ps want n c e = subst (λ (s : Locals). Collected s t ps want) e c
+collected-count r t ps want n c e = subst (λ (s : Option ℕ). Collected s t ps want) e c
 
-pub collected-over : (r : Locals) (t ps : List ℕ) (want : List Name) → Collected r t ps want → r ≡ TooMany → 255 < length want
+pub collected-over : (r : Option ℕ) (t ps : List ℕ) (want : List Name) → Collected r t ps want → r ≡ None → 255 < length want
 unfolding Collected
-collected-over r t ps want c e = subst (λ (s : Locals). Collected s t ps want) e c
+collected-over r t ps want c e = subst (λ (s : Option ℕ). Collected s t ps want) e c
 
 -- ---- the slots of a def or method
 
-frames-over : {t ps : List ℕ} {f : Frame} → 255 < f.locals → Frames Framed.TooMany t ps f
-frames-over h = record { framing = λ n m e. (let z : ◌≡◌ {A = ℕ} 0 1 = cc in absurd (omega arith)); over = λ e. h }
+-- what a call that stops hands on
+pub frames-stopped : (r : Option Framed) (t ps : List ℕ) (f : Frame) → r ≡ None → Frames None t ps f → Frames r t ps f
+frames-stopped r t ps f h g = subst (λ (x : Option Framed). Frames x t ps f) (sym h) g
 
-frames-slots : {n m : ℕ} {t ps : List ℕ} {f : Frame} → Framing n m t ps f → Frames (Framed.Slots n m) t ps f
+pub collected-stopped : (r : Option ℕ) (t ps : List ℕ) (w : List Name) → r ≡ None → Collected None t ps w → Collected r t ps w
+collected-stopped r t ps w h g = subst (λ (x : Option ℕ). Collected x t ps w) (sym h) g
+
+frames-over : {t ps : List ℕ} {f : Frame} → 255 < f.locals → Frames None t ps f
+frames-over h = record { framing = λ g e. (let z : ◌≡◌ {A = ℕ} 0 1 = cc in absurd (omega arith)); over = λ e. h }
+
+frames-slots : {n m : ℕ} {t ps : List ℕ} {f : Frame} → Framing n m t ps f → Frames (Some (record { named = n; locals = m })) t ps f
 frames-slots {n} {m} {t} {ps} {f} F = record {
-  framing = λ n' m' e. (let p : n ≡ n' = cc in let q : m ≡ m' = cc in subst (λ (x : ℕ). Framing n' x t ps f) q (subst (λ (x : ℕ). Framing x m t ps f) p F));
+  framing = λ g e. (let p : n ≡ g.named = cc in let q : m ≡ g.locals = cc in subst (λ (x : ℕ). Framing g.named x t ps f) q (subst (λ (x : ℕ). Framing x m t ps f) p F));
   over = λ e. (let z : ◌≡◌ {A = ℕ} 0 1 = cc in absurd (omega arith));
 }
 
-pub frames-begun : (r : Locals) (t ps qs : List ℕ) (xs : List Name) (b : Block) → Collected r t ps xs → r ≡ TooMany → Frames Framed.TooMany t qs (with_loops xs b)
+pub frames-begun : (r : Option ℕ) (t ps qs : List ℕ) (xs : List Name) (b : Block) → Collected r t ps xs → r ≡ None → Frames None t qs (with_loops xs b)
 frames-begun r t ps qs xs b c e = let h = collected-over r t ps xs c e in let g = block-grows b xs in frames-over (omega arith)
 
-module _ (r : Locals) (o : Gathered) (t ps qs : List ℕ) (xs : List Name) (k end : ℕ) (b : Block) (c : Collected r t ps xs) (e : r ≡ Count k) (g : Gathers o t qs end (locals_block b (first_names t k ps))) where
+module _ (r : Option ℕ) (o : Option Walked) (t ps qs : List ℕ) (xs : List Name) (k end : ℕ) (b : Block) (c : Collected r t ps xs) (e : r ≡ Some k) (g : Gathers o t qs end (locals_block b (first_names t k ps))) where
   same_names : locals_block b (first_names t k ps) ≡ locals_block b xs
   same_names = ap (locals_block b) (collected-count r t ps xs k c e).1
 
-  pub frames-gathered : o ≡ Over → Frames Framed.TooMany t qs (with_loops xs b)
+  pub frames-gathered : o ≡ None → Frames None t qs (with_loops xs b)
   frames-gathered h = let y = gathers-over o t qs end _ g h in frames-over (omega (arith, ap length same_names))
 
-  module _ (m p n : ℕ) (h : o ≡ Next p n) (room : slots_from + 256 ≤ length qs) (l : m ≡ up_to256 (0 + loops_block b)) where
+  module _ (m p n : ℕ) (h : o ≡ Some (record { next = p; n = n })) (room : slots_from + 256 ≤ length qs) (l : m ≡ up_to256 (0 + loops_block b)) where
     stands : Stands p n t qs end (locals_block b (first_names t k ps))
     stands = gathers-next o t qs end _ p n g h
 
@@ -148,10 +153,10 @@ module _ (r : Locals) (o : Gathered) (t ps qs : List ℕ) (xs : List Name) (k en
     pub counts-few : n + m ≤ 511
     counts-few = let f = stands.few in omega arith
 
-    pub frames-many : 255 < n + m → Frames Framed.TooMany t qs (with_loops xs b)
+    pub frames-many : 255 < n + m → Frames None t qs (with_loops xs b)
     frames-many w = frames-over (omega (arith, names-many))
 
-    pub frames-all : n + m ≤ 255 → Frames (Framed.Slots n (n + m)) t qs (with_loops xs b)
+    pub frames-all : n + m ≤ 255 → Frames (Some (record { named = n; locals = n + m })) t qs (with_loops xs b)
     frames-all w = frames-slots (record { named = omega arith; few = w; names = names-are; locals = omega (arith, names-many); indexed = stands.indexed })
 
 pub room_of : (t ps qs : List ℕ) (n : ℕ) → length t ≤ 32768 → slots_from + 256 ≤ length ps → length qs ≡ length ps → n ≤ 255 → Indexed t n qs → Room t qs n

@@ -16,7 +16,7 @@ use Rattle.parts.proofs.Laws.{le-or-gt, up}
 use Rattle.exprs.proofs.ExprViews.{view-var, view-unary, view-binary, view-call, view-attribute, view-dict, view-index, view-lambda, view-exprs-none, view-exprs-more}
 use Rattle.slots.specs.Slotted.{first_names, Indexed, Added}
 use Rattle.slots.specs.Held.{mark_all, is_free, add_held, held_expr, held_exprs, Held, Keeping, Referred}
-use Rattle.slots.specs.declared.captures.Refs.{Refs}
+use Rattle.slots.specs.declared.Walked.{Walked}
 use Rattle.names.proofs.Indexing.{slots-count}
 use Rattle.slots.proofs.Adding.{first-length}
 use Rattle.slots.proofs.Holding.{held-few, held-expr}
@@ -33,7 +33,7 @@ keeping-few t parent ps n k =
 pub keeping-name : (t parent ps : List ℕ) (n p : ℕ) → Keeping t parent ps n → There t p → (slots_from + n < length ps) × (n ≤ 255) × (p < 2 ^ 32)
 keeping-name t parent ps n p k h = let a = keeping-few t parent ps n k in let c = k.room in let d = k.short in let e = h.byte in (omega arith, omega arith, omega arith)
 
-pub keeping-again : (t parent ps ps' : List ℕ) (n end : ℕ) (r : Refs) (want : List Name) → Keeping t parent ps n → Referred r t ps' end want → length ps' ≡ length ps → Held (slot_names t parent) want →
+pub keeping-again : (t parent ps ps' : List ℕ) (n end : ℕ) (r : Walked) (want : List Name) → Keeping t parent ps n → Referred r t ps' end want → length ps' ≡ length ps → Held (slot_names t parent) want →
     Keeping t parent ps' r.n
 keeping-again t parent ps ps' n end r want k f e h = record {
   short = k.short;
@@ -44,26 +44,26 @@ keeping-again t parent ps ps' n end r want k f e h = record {
   indexed = f.indexed;
 }
 
-pub referred-as : (r : Refs) (t ps : List ℕ) (e e' : ℕ) (w w' : List Name) → Referred r t ps e w → e ≡ e' → w ≡ w' → Referred r t ps e' w'
+pub referred-as : (r : Walked) (t ps : List ℕ) (e e' : ℕ) (w w' : List Name) → Referred r t ps e w → e ≡ e' → w ≡ w' → Referred r t ps e' w'
 referred-as r t ps e e' w w' f h k = record { next-is = f.next-is ∙ h; most = f.most; names = f.names ∙ k; indexed = f.indexed }
 
 -- ---- a name
 
-module _ (t parent ms : List ℕ) (p : ℕ) (b : Bool) (e : b ≡ is_free (slot_names t parent) ms (name_bytes t p)) (ps : List ℕ) (n : ℕ) (a : Keeping t parent ps n) where
-  pub name-kept : (r : Refs) (ps' : List ℕ) → b ≡ true → r.next ≡ name_end t p → Added r.n t ps' n (add (name_bytes t p) (first_names t n ps)) → length ps' ≡ length ps →
+module _ (t parent : List ℕ) (ms : List Bool) (p : ℕ) (b : Bool) (e : b ≡ is_free (slot_names t parent) ms (name_bytes t p)) (ps : List ℕ) (n : ℕ) (a : Keeping t parent ps n) where
+  pub name-kept : (r : Walked) (ps' : List ℕ) → b ≡ true → r.next ≡ name_end t p → Added r.n t ps' n (add (name_bytes t p) (first_names t n ps)) → length ps' ≡ length ps →
       Referred r t ps' (name_end t p) (add_held (slot_names t parent) ms (name_bytes t p) (first_names t n ps))
   unfolding add_held
   name-kept r ps' h f g m =
       let i = keeping-few t parent ps n a in let j = a.room in let q = g.most in
       record { next-is = f; most = omega arith; names = g.names ∙ sym (let z = sym e ∙ h in rw (z, add_held)); indexed = g.indexed }
 
-  pub name-left : (r : Refs) → b ≡ false → r.next ≡ name_end t p → r.n ≡ n → Referred r t ps (name_end t p) (add_held (slot_names t parent) ms (name_bytes t p) (first_names t n ps))
+  pub name-left : (r : Walked) → b ≡ false → r.next ≡ name_end t p → r.n ≡ n → Referred r t ps (name_end t p) (add_held (slot_names t parent) ms (name_bytes t p) (first_names t n ps))
   unfolding add_held
   name-left r h f g = let i = a.most in record { next-is = f; most = omega arith; names = ap (λ (k : ℕ). first_names t k ps) g ∙ sym (let z = sym e ∙ h in rw (z, add_held)); indexed = subst (λ (k : ℕ). Indexed t k ps) (sym g) a.indexed }
 
 -- ---- the kinds of expression
 
-module _ (d : ℕ) (t : List ℕ) (p : ℕ) (r : ExprReads d t p) (slots : List Name) (ms : List ℕ) (o : Refs) (ps : List ℕ) (xs : List Name) where
+module _ (d : ℕ) (t : List ℕ) (p : ℕ) (r : ExprReads d t p) (slots : List Name) (ms : List Bool) (o : Walked) (ps : List ℕ) (xs : List Name) where
   abbrev x : Node Expr
   x = expr_at d t p
 
@@ -125,7 +125,7 @@ literal-kinds k h a b c d e f g i j l m n = ⊎_elim
     (λ (z : k < 6). z)
     (le-or-gt 6 k)
 
-pub refs-literal : (d : ℕ) (t : List ℕ) (p : ℕ) (r : ExprReads d t p) (slots : List Name) (ms : List ℕ) (o : Refs) (ps : List ℕ) (n : ℕ) → get_or t p 0 < 6 → o.next ≡ (expr_at d t p).end → o.n ≡ n → slots_from + n ≤ length ps → Indexed t n ps →
+pub refs-literal : (d : ℕ) (t : List ℕ) (p : ℕ) (r : ExprReads d t p) (slots : List Name) (ms : List Bool) (o : Walked) (ps : List ℕ) (n : ℕ) → get_or t p 0 < 6 → o.next ≡ (expr_at d t p).end → o.n ≡ n → slots_from + n ≤ length ps → Indexed t n ps →
     Referred o t ps (expr_at d t p).end (held_expr slots ms (expr_at d t p).value (first_names t n ps))
 unfolding held_expr
 refs-literal d t p r slots ms o ps n h e f g v = let l = seen-literal d t p r h in
@@ -133,33 +133,33 @@ refs-literal d t p r slots ms o ps n h e f g v = let l = seen-literal d t p r h 
 
 -- ---- one part after another
 
-module _ (d : ℕ) (t : List ℕ) (p : ℕ) (slots : List Name) (ms : List ℕ) (a : Refs) (ps : List ℕ) (xs : List Name) (f : Referred a t ps (expr_at d t p).end (held_expr slots ms (expr_at d t p).value xs)) where
+module _ (d : ℕ) (t : List ℕ) (p : ℕ) (slots : List Name) (ms : List Bool) (a : Walked) (ps : List ℕ) (xs : List Name) (f : Referred a t ps (expr_at d t p).end (held_expr slots ms (expr_at d t p).value xs)) where
   pub second-there : TwoAt d t p → ExprReads d t a.next
   second-there h = subst (λ (m : ℕ). ExprReads d t m) (sym f.next-is) h.second
 
-  pub refs-second : (o : Refs) (ps' : List ℕ) → Referred o t ps' (expr_at d t a.next).end (held_expr slots ms (expr_at d t a.next).value (first_names t a.n ps)) →
+  pub refs-second : (o : Walked) (ps' : List ℕ) → Referred o t ps' (expr_at d t a.next).end (held_expr slots ms (expr_at d t a.next).value (first_names t a.n ps)) →
       Referred o t ps' (second_at d t p).end (held_expr slots ms (second_at d t p).value (held_expr slots ms (expr_at d t p).value xs))
   refs-second o ps' g = referred-as o t ps' _ _ _ _ g (ap (λ (m : ℕ). (expr_at d t m).end) f.next-is) (ap₂ (λ (m : ℕ) (w : List Name). held_expr slots ms (expr_at d t m).value w) f.next-is f.names)
 
   pub list-there : CallAt d t p → ListAt d t a.next
   list-there h = subst (λ (m : ℕ). ListAt d t m) (sym f.next-is) h.args
 
-  pub refs-args : (o : Refs) (ps' : List ℕ) → Referred o t ps' (list_at d t a.next).end (held_exprs slots ms (list_at d t a.next).value (first_names t a.n ps)) →
+  pub refs-args : (o : Walked) (ps' : List ℕ) → Referred o t ps' (list_at d t a.next).end (held_exprs slots ms (list_at d t a.next).value (first_names t a.n ps)) →
       Referred o t ps' (list_at d t (expr_at d t p).end).end (held_exprs slots ms (list_at d t (expr_at d t p).end).value (held_expr slots ms (expr_at d t p).value xs))
   refs-args o ps' g = referred-as o t ps' _ _ _ _ g (ap (λ (m : ℕ). (list_at d t m).end) f.next-is) (ap₂ (λ (m : ℕ) (w : List Name). held_exprs slots ms (list_at d t m).value w) f.next-is f.names)
 
   pub name-there : AttributeAt d t p → There t a.next
   name-there h = subst (λ (m : ℕ). There t m) (sym f.next-is) h.name
 
-  pub refs-object : (o : Refs) → o.next ≡ name_end t a.next → o.n ≡ a.n → Referred o t ps (name_end t (expr_at d t p).end) (held_expr slots ms (expr_at d t p).value xs)
+  pub refs-object : (o : Walked) → o.next ≡ name_end t a.next → o.n ≡ a.n → Referred o t ps (name_end t (expr_at d t p).end) (held_expr slots ms (expr_at d t p).value xs)
   refs-object o e g = let m = f.most in record { next-is = e ∙ ap (name_end t) f.next-is; most = omega arith; names = ap (λ (k : ℕ). first_names t k ps) g ∙ f.names; indexed = subst (λ (k : ℕ). Indexed t k ps) (sym g) f.indexed }
 
 -- a lambda's body at q, where its parameters end, under marks that are those of its parameters, too
-pub refs-body : (d : ℕ) (t : List ℕ) (p q : ℕ) (slots : List Name) (ms ms' : List ℕ) (o : Refs) (ps : List ℕ) (xs : List Name) → q ≡ (params_at t p).end → ms' ≡ mark_all slots (params_at t p).value ms →
+pub refs-body : (d : ℕ) (t : List ℕ) (p q : ℕ) (slots : List Name) (ms ms' : List Bool) (o : Walked) (ps : List ℕ) (xs : List Name) → q ≡ (params_at t p).end → ms' ≡ mark_all slots (params_at t p).value ms →
     Referred o t ps (expr_at d t q).end (held_expr slots ms' (expr_at d t q).value xs) →
     Referred o t ps (expr_at d t (params_at t p).end).end (held_expr slots (mark_all slots (params_at t p).value ms) (expr_at d t (params_at t p).end).value xs)
 refs-body d t p q slots ms ms' o ps xs e f g =
-    referred-as o t ps _ _ _ _ g (ap (λ (m : ℕ). (expr_at d t m).end) e) (ap₂ (λ (m : ℕ) (k : List ℕ). held_expr slots k (expr_at d t m).value xs) e f)
+    referred-as o t ps _ _ _ _ g (ap (λ (m : ℕ). (expr_at d t m).end) e) (ap₂ (λ (m : ℕ) (k : List Bool). held_expr slots k (expr_at d t m).value xs) e f)
 
 pub body-there : (d : ℕ) (t : List ℕ) (p q : ℕ) → q ≡ (params_at t p).end → LambdaAt d t p → ExprReads d t q
 body-there d t p q e h = subst (λ (m : ℕ). ExprReads d t m) (sym e) h.body
@@ -179,22 +179,22 @@ module _ (d : ℕ) (t : List ℕ) (a n : ℕ) (e : n ≡ count_at t a) where
   pub dict-is : exprs_at d (2 * n) t (a + 2) ≡ pairs_at d t a
   dict-is = ap (λ (m : ℕ). exprs_at d (2 * m) t (a + 2)) e
 
-pub refs-list : (slots : List Name) (ms t : List ℕ) (x y : Node Exprs) (o : Refs) (ps : List ℕ) (xs : List Name) → x ≡ y → Referred o t ps x.end (held_exprs slots ms x.value xs) → Referred o t ps y.end (held_exprs slots ms y.value xs)
+pub refs-list : (slots : List Name) (ms : List Bool) (t : List ℕ) (x y : Node Exprs) (o : Walked) (ps : List ℕ) (xs : List Name) → x ≡ y → Referred o t ps x.end (held_exprs slots ms x.value xs) → Referred o t ps y.end (held_exprs slots ms y.value xs)
 refs-list slots ms t x y o ps xs e g = referred-as o t ps _ _ _ _ g (ap (λ (z : Node Exprs). z.end) e) (ap (λ (z : Node Exprs). held_exprs slots ms z.value xs) e)
 
 -- ---- expressions, one at a time
 
-pub record ExprsLeft (d : ℕ) (t parent ms ps₀ : List ℕ) (n₀ p₀ k₀ : ℕ) (ps : List ℕ) (n p k : ℕ) : Type 0 where
+pub record ExprsLeft (d : ℕ) (t parent : List ℕ) (ms : List Bool) (ps₀ : List ℕ) (n₀ p₀ k₀ : ℕ) (ps : List ℕ) (n p k : ℕ) : Type 0 where
   pub reads : ExprsRead d n t p
   pub end : (exprs_at d n₀ t p₀).end ≡ (exprs_at d n t p).end
   pub names : held_exprs (slot_names t parent) ms (exprs_at d n₀ t p₀).value (first_names t k₀ ps₀) ≡ held_exprs (slot_names t parent) ms (exprs_at d n t p).value (first_names t k ps)
   pub keeping : Keeping t parent ps k
   pub kept : length ps ≡ length ps₀
 
-pub exprs-start : (d : ℕ) (t parent ms ps : List ℕ) (n p k : ℕ) → Keeping t parent ps k → ExprsRead d n t p → ExprsLeft d t parent ms ps n p k ps n p k
-exprs-start d t parent ms ps n p k a r = record { reads = r; end = refl; names = refl; keeping = a; kept = refl }
+pub exprs-start : (d : ℕ) (t parent : List ℕ) (ms : List Bool) (ps : List ℕ) (n p k j : ℕ) → n ≡ j → Keeping t parent ps k → ExprsRead d n t p → ExprsLeft d t parent ms ps n p k ps j p k
+exprs-start d t parent ms ps n p k j i a r = subst (λ (x : ℕ). ExprsLeft d t parent ms ps n p k ps x p k) i (record { reads = r; end = refl; names = refl; keeping = a; kept = refl })
 
-module _ (d : ℕ) (t parent ms ps₀ : List ℕ) (n₀ p₀ k₀ : ℕ) (ps : List ℕ) (n p k : ℕ) (l : ExprsLeft d t parent ms ps₀ n₀ p₀ k₀ ps n p k) where
+module _ (d : ℕ) (t parent : List ℕ) (ms : List Bool) (ps₀ : List ℕ) (n₀ p₀ k₀ : ℕ) (ps : List ℕ) (n p k : ℕ) (l : ExprsLeft d t parent ms ps₀ n₀ p₀ k₀ ps n p k) where
   module _ (h : 0 < n) where
     pub exprs-head : ExprReads d t p
     exprs-head = (view-exprs-more d n t p h l.reads).parts.head
@@ -211,17 +211,17 @@ module _ (d : ℕ) (t parent ms ps₀ : List ℕ) (n₀ p₀ k₀ : ℕ) (ps : L
     unfolding cons_at
     all_end = l.end ∙ ap (λ (z : Node Exprs). z.end) is-cons
 
-    pub exprs-next : (o : Refs) (ps' : List ℕ) → Referred o t ps' (expr_at d t p).end (held_expr (slot_names t parent) ms (expr_at d t p).value (first_names t k ps)) → length ps' ≡ length ps →
-        ExprsLeft d t parent ms ps₀ n₀ p₀ k₀ ps' (n - 1) o.next o.n
-    exprs-next o ps' g w = record {
+    pub exprs-next : (o : Walked) (ps' : List ℕ) → Referred o t ps' (expr_at d t p).end (held_expr (slot_names t parent) ms (expr_at d t p).value (first_names t k ps)) → length ps' ≡ length ps → (j : ℕ) → n - 1 ≡ j →
+        ExprsLeft d t parent ms ps₀ n₀ p₀ k₀ ps' j o.next o.n
+    exprs-next o ps' g w j i = subst (λ (x : ℕ). ExprsLeft d t parent ms ps₀ n₀ p₀ k₀ ps' x o.next o.n) i (record {
       reads = subst (λ (m : ℕ). ExprsRead d (n - 1) t m) (sym g.next-is) (view-exprs-more d n t p h l.reads).parts.rest;
       end = all_end ∙ ap (λ (m : ℕ). (exprs_at d (n - 1) t m).end) (sym g.next-is);
       names = all-names ∙ ap₂ (λ (m : ℕ) (x : List Name). held_exprs (slot_names t parent) ms (exprs_at d (n - 1) t m).value x) (sym g.next-is) (sym g.names);
       keeping = keeping-again t parent ps ps' k _ o _ l.keeping g w (held-expr (slot_names t parent) ms (expr_at d t p).value (first_names t k ps) l.keeping.held);
       kept = w ∙ l.kept;
-    }
+    })
 
-  pub exprs-done : (o : Refs) → o.next ≡ p → o.n ≡ k → n ≤ 0 → Referred o t ps (exprs_at d n₀ t p₀).end (held_exprs (slot_names t parent) ms (exprs_at d n₀ t p₀).value (first_names t k₀ ps₀))
+  pub exprs-done : (o : Walked) → o.next ≡ p → o.n ≡ k → n ≤ 0 → Referred o t ps (exprs_at d n₀ t p₀).end (held_exprs (slot_names t parent) ms (exprs_at d n₀ t p₀).value (first_names t k₀ ps₀))
   unfolding held_exprs
   exprs-done o a b h = let m = l.keeping.most in let e = view-exprs-none d n t p h l.reads.start in record {
     next-is = a ∙ sym (l.end ∙ ap (λ (z : Node Exprs). z.end) e);

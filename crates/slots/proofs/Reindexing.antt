@@ -3,9 +3,8 @@ use Prim.Native.Nat.{ℕ, suc, ◌+◌, ◌-◌, ◌<◌, ◌≤◌}
 use mathlib.Core.Path.{◌≡◌, refl, sym, ap, ◌∙◌, subst, ap₂}
 use mathlib.Core.List.{List, [], ◌∷◌, ◌++◌}
 use native.Mathlib.Omega.{arith}
-use native.Mathlib.Numerals.{add-one}
 use lib.ListN.{length, take, drop, get_or, set, length-set, length-drop, drop_of_length-le}
-use lib.Seq.{drop-cons, drop-set-lt, get_or-take, get_or-drop, length-take-le, take-suc, take-suc-set, take_all, take-append-add, take-append-le, drop-append-le}
+use lib.Seq.{drop-cons, drop-set-lt, get_or-take, get_or-drop, length-take-le, take-append-add, take-append-le, drop-append-le}
 use borrow.Rule.Slice.PartMut.{put_mid, post_of, same_len_mid}
 use Rattle.definitions.specs.Bytes.{Name}
 use Rattle.state.specs.Words.{name_at}
@@ -55,8 +54,8 @@ module _ (t ps₀ : List ℕ) (n : ℕ) (ps : List ℕ) (i : ℕ) (l : IndexLeft
         ap (names_at t) (drop-cons places (i - 1) 0 (let z = length-take-le n (drop slots_from ps₀) (let y = length-drop slots_from ps₀ in omega arith) in omega arith))
         ∙ ap₂ (λ (w j : ℕ). name_at t w ∷ names_at t (drop j places)) place e
 
-    pub index-next : (b : ℕ) → IsBucket b t (get_or ps (slots_from + (i - 1)) 0) → IndexLeft t ps₀ n (set ps b i) (i - 1)
-    index-next b q =
+    index-before : (b : ℕ) → IsBucket b t (get_or ps (slots_from + (i - 1)) 0) → IndexLeft t ps₀ n (set ps b i) (i - 1)
+    index-before b q =
         let m = l.most in
         let k = l.kept in
         let z = q.below in
@@ -71,6 +70,9 @@ module _ (t ps₀ : List ℕ) (n : ℕ) (ps : List ℕ) (i : ℕ) (l : IndexLeft
               (subst (λ (j : ℕ). Covered slots_from (set ps b j) (i - 1) (name_at t (get_or ps (slots_from + (i - 1)) 0) ∷ names_at t (drop i places))) (sym e) w);
         }
 
+    pub index-next : (b : ℕ) → IsBucket b t (get_or ps (slots_from + (i - 1)) 0) → IndexLeft t ps₀ n (set ps b (i - 1 + 1)) (i - 1)
+    index-next b q = let whole : i ≡ i - 1 + 1 = omega arith in subst (λ (j : ℕ). IndexLeft t ps₀ n (set ps b j) (i - 1)) whole (index-before b q)
+
   pub index-done : i ≤ 0 → Reindexed t n ps₀ ps
   unfolding first_names
   index-done h =
@@ -84,16 +86,6 @@ module _ (t ps₀ : List ℕ) (n : ℕ) (ps : List ℕ) (i : ℕ) (l : IndexLeft
 pub reindexed-names : (t : List ℕ) (n : ℕ) (ps ps' : List ℕ) → Reindexed t n ps ps' → first_names t n ps' ≡ first_names t n ps
 unfolding first_names
 reindexed-names t n ps ps' r = ap (λ (q : List ℕ). names_at t (take n q)) r.same-places
-
--- ---- places copied
-
-pub copy-next : (ps to : List ℕ) (i : ℕ) → i < length ps → length ps ≤ length to → take i to ≡ take i ps → take (i + 1) (set to i (get_or ps i 0)) ≡ take (i + 1) ps
-copy-next ps to i h k e =
-    let w = get_or ps i 0 in
-    ap (λ (j : ℕ). take j (set to i w)) (add-one i) ∙ take-suc-set to i w (omega arith) ∙ ap (λ (l : List ℕ). l ++ (w ∷ [])) e ∙ sym (take-suc ps i 0 h) ∙ ap (λ (j : ℕ). take j ps) (sym (add-one i))
-
-pub copy_done : (ps to : List ℕ) (i : ℕ) → i ≤ length ps → length ps ≤ i → take i to ≡ take i ps → take (length ps) to ≡ ps
-copy_done ps to i h k e = let z : length ps ≡ i = omega arith in ap (λ (j : ℕ). take j to) z ∙ e ∙ take_all i ps k
 
 -- ---- slots appended
 

@@ -35,11 +35,11 @@ pub record NamesLeft (t : List ℕ) (n₀ p₀ n p : ℕ) : Type 0 where
   pub there : AllThere t n p
   pub end : names_end t n₀ p₀ ≡ names_end t n p
 
-pub names-left : (t : List ℕ) (p n : ℕ) → ParamsAt t p → n ≡ count_at t p → NamesLeft t n (p + 2) n (p + 2)
-names-left t p n h e = record { there = rw e h.names; end = refl }
+pub names-left : (t : List ℕ) (p n : ℕ) → ParamsAt t p → n ≡ count_at t p → (j : ℕ) → n ≡ j → NamesLeft t n (p + 2) j (p + 2)
+names-left t p n h e j i = subst (λ (x : ℕ). NamesLeft t n (p + 2) x (p + 2)) i (record { there = rw e h.names; end = refl })
 
-pub names-next : (t : List ℕ) (n₀ p₀ n p e : ℕ) → NamesLeft t n₀ p₀ n p → 0 < n → e ≡ name_end t p → NamesLeft t n₀ p₀ (n - 1) e
-names-next t n₀ p₀ n p e l h k = record { there = there-next t n p e k h l.there; end = l.end ∙ ends_more t n p e k h }
+pub names-next : (t : List ℕ) (n₀ p₀ n p e : ℕ) → NamesLeft t n₀ p₀ n p → 0 < n → e ≡ name_end t p → (j : ℕ) → n - 1 ≡ j → NamesLeft t n₀ p₀ j e
+names-next t n₀ p₀ n p e l h k j i = subst (λ (x : ℕ). NamesLeft t n₀ p₀ x e) i (record { there = there-next t n p e k h l.there; end = l.end ∙ ends_more t n p e k h })
 
 pub names-done : (t : List ℕ) (a n₀ n p : ℕ) → NamesLeft t n₀ (a + 2) n p → n ≤ 0 → n₀ ≡ count_at t a → p ≡ (params_at t a).end
 unfolding params_at
@@ -153,17 +153,20 @@ pub record ExprsLeft (d : ℕ) (t : List ℕ) (n₀ p₀ n p : ℕ) : Type 0 whe
   pub reads : ExprsRead d n t p
   pub end : (exprs_at d n₀ t p₀).end ≡ (exprs_at d n t p).end
 
+pub exprs-begun : (d : ℕ) (t : List ℕ) (n p j : ℕ) → n ≡ j → ExprsRead d n t p → ExprsLeft d t n p j p
+exprs-begun d t n p j i r = subst (λ (x : ℕ). ExprsLeft d t n p x p) i (record { reads = r; end = refl })
+
 module _ (d : ℕ) (t : List ℕ) (n₀ p₀ n p : ℕ) (l : ExprsLeft d t n₀ p₀ n p) where
   module _ (h : 0 < n) where
     pub exprs-head : ExprReads d t p
     exprs-head = (view-exprs-more d n t p h l.reads).parts.head
 
-    pub exprs-next : (e : ℕ) → e ≡ (expr_at d t p).end → ExprsLeft d t n₀ p₀ (n - 1) e
+    pub exprs-next : (e : ℕ) → e ≡ (expr_at d t p).end → (m : ℕ) → n - 1 ≡ m → ExprsLeft d t n₀ p₀ m e
     unfolding cons_at
-    exprs-next e k = let v = view-exprs-more d n t p h l.reads in record {
+    exprs-next e k m i = let v = view-exprs-more d n t p h l.reads in subst (λ (x : ℕ). ExprsLeft d t n₀ p₀ x e) i (record {
       reads = subst (λ (m : ℕ). ExprsRead d (n - 1) t m) (sym k) v.parts.rest;
       end = l.end ∙ ap (λ (z : Node Exprs). z.end) v.is ∙ ap (λ (m : ℕ). (exprs_at d (n - 1) t m).end) (sym k);
-    }
+    })
 
   pub exprs-done : n ≤ 0 → p ≡ (exprs_at d n₀ t p₀).end
   exprs-done h = sym (l.end ∙ ap (λ (z : Node Exprs). z.end) (view-exprs-none d n t p h l.reads.start))

@@ -123,20 +123,20 @@ pub record StmtsLeft (d : ℕ) (t : List ℕ) (n₀ p₀ n p : ℕ) : Type 0 whe
   pub reads : StmtsRead d n t p
   pub end : (stmts_at d n₀ t p₀).end ≡ (stmts_at d n t p).end
 
-pub stmts-start : (d : ℕ) (t : List ℕ) (a n : ℕ) → BlockReads d t a → n ≡ count_at t a → StmtsLeft d t n (a + 2) n (a + 2)
-stmts-start d t a n r e = record { reads = subst (λ (m : ℕ). StmtsRead d m t (a + 2)) (sym e) (view-block d t a r).parts.statements; end = refl }
+pub stmts-start : (d : ℕ) (t : List ℕ) (a n : ℕ) → BlockReads d t a → n ≡ count_at t a → (j : ℕ) → n ≡ j → StmtsLeft d t n (a + 2) j (a + 2)
+stmts-start d t a n r e j i = subst (λ (x : ℕ). StmtsLeft d t n (a + 2) x (a + 2)) i (record { reads = subst (λ (m : ℕ). StmtsRead d m t (a + 2)) (sym e) (view-block d t a r).parts.statements; end = refl })
 
 module _ (d : ℕ) (t : List ℕ) (n₀ p₀ n p : ℕ) (l : StmtsLeft d t n₀ p₀ n p) where
   module _ (h : 0 < n) where
     pub stmts-head : StmtReads d t p
     stmts-head = (view-stmts-more d n t p h l.reads).parts.head
 
-    pub stmts-next : (e : ℕ) → e ≡ (stmt_at d t p).end → StmtsLeft d t n₀ p₀ (n - 1) e
+    pub stmts-next : (e : ℕ) → e ≡ (stmt_at d t p).end → (m : ℕ) → n - 1 ≡ m → StmtsLeft d t n₀ p₀ m e
     unfolding cons_at
-    stmts-next e k = let v = view-stmts-more d n t p h l.reads in record {
+    stmts-next e k m i = let v = view-stmts-more d n t p h l.reads in subst (λ (x : ℕ). StmtsLeft d t n₀ p₀ x e) i (record {
       reads = subst (λ (m : ℕ). StmtsRead d (n - 1) t m) (sym k) v.parts.rest;
       end = l.end ∙ ap (λ (z : Node Block). z.end) v.is ∙ ap (λ (m : ℕ). (stmts_at d (n - 1) t m).end) (sym k);
-    }
+    })
 
   pub stmts-done : (a : ℕ) → BlockReads d t a → n₀ ≡ count_at t a → p₀ ≡ a + 2 → n ≤ 0 → p ≡ (block_at d t a).end
   stmts-done a r e f h =
@@ -150,17 +150,20 @@ pub record BranchesLeft (d : ℕ) (t : List ℕ) (n₀ p₀ n p : ℕ) : Type 0 
   pub reads : BranchesRead d n t p
   pub end : (branches_at d n₀ t p₀).end ≡ (branches_at d n t p).end
 
+pub branches-begun : (d : ℕ) (t : List ℕ) (n p j : ℕ) → n ≡ j → BranchesRead d n t p → BranchesLeft d t n p j p
+branches-begun d t n p j i r = subst (λ (x : ℕ). BranchesLeft d t n p x p) i (record { reads = r; end = refl })
+
 module _ (d : ℕ) (t : List ℕ) (n₀ p₀ n p : ℕ) (l : BranchesLeft d t n₀ p₀ n p) where
   module _ (h : 0 < n) where
     pub branches-head : BranchAt d t p
     branches-head = (view-branches-more d t p n h l.reads).parts.first
 
-    pub branches-next : (e : ℕ) → e ≡ (body_at d t p).end → BranchesLeft d t n₀ p₀ (n - 1) e
+    pub branches-next : (e : ℕ) → e ≡ (body_at d t p).end → (m : ℕ) → n - 1 ≡ m → BranchesLeft d t n₀ p₀ m e
     unfolding when_at
-    branches-next e k = let v = view-branches-more d t p n h l.reads in record {
+    branches-next e k m i = let v = view-branches-more d t p n h l.reads in subst (λ (x : ℕ). BranchesLeft d t n₀ p₀ x e) i (record {
       reads = subst (λ (m : ℕ). BranchesRead d (n - 1) t m) (sym k) v.parts.rest;
       end = l.end ∙ ap (λ (z : Node Branches). z.end) v.is ∙ ap (λ (m : ℕ). (branches_at d (n - 1) t m).end) (sym k);
-    }
+    })
 
   module _ (h : n ≤ 0) where
     is_none : n ≡ 0
@@ -208,17 +211,20 @@ pub record MethodsLeft (d : ℕ) (t : List ℕ) (n₀ p₀ n p : ℕ) : Type 0 w
   pub reads : MethodsRead d n t p
   pub end : (methods_at d n₀ t p₀).end ≡ (methods_at d n t p).end
 
+pub methods-begun : (d : ℕ) (t : List ℕ) (n p j : ℕ) → n ≡ j → MethodsRead d n t p → MethodsLeft d t n p j p
+methods-begun d t n p j i r = subst (λ (x : ℕ). MethodsLeft d t n p x p) i (record { reads = r; end = refl })
+
 module _ (d : ℕ) (t : List ℕ) (n₀ p₀ n p : ℕ) (l : MethodsLeft d t n₀ p₀ n p) where
   module _ (h : 0 < n) where
     pub methods-head : DefAt d t p
     methods-head = (view-methods-more d t p n h l.reads).parts.first
 
-    pub methods-next : (e : ℕ) → e ≡ (def_block_at d t p).end → MethodsLeft d t n₀ p₀ (n - 1) e
+    pub methods-next : (e : ℕ) → e ≡ (def_block_at d t p).end → (m : ℕ) → n - 1 ≡ m → MethodsLeft d t n₀ p₀ m e
     unfolding method_at
-    methods-next e k = let v = view-methods-more d t p n h l.reads in record {
+    methods-next e k m i = let v = view-methods-more d t p n h l.reads in subst (λ (x : ℕ). MethodsLeft d t n₀ p₀ x e) i (record {
       reads = subst (λ (m : ℕ). MethodsRead d (n - 1) t m) (sym k) v.parts.rest;
       end = l.end ∙ ap (λ (z : Node Methods). z.end) v.is ∙ ap (λ (m : ℕ). (methods_at d (n - 1) t m).end) (sym k);
-    }
+    })
 
   pub methods-done : n ≤ 0 → p ≡ (methods_at d n₀ t p₀).end
   methods-done h = sym (l.end ∙ ap (λ (z : Node Methods). z.end) (view-methods-none d t p n h l.reads.start))
@@ -229,8 +235,8 @@ pub record ValuesLeft (d : ℕ) (t : List ℕ) (n₀ p₀ n p : ℕ) : Type 0 wh
   pub reads : ValuesRead d n t p
   pub end : (values_at d n₀ t p₀).end ≡ (values_at d n t p).end
 
-pub values-start : (d : ℕ) (t : List ℕ) (a n : ℕ) → AttributesRead d t a → n ≡ count_at t a → ValuesLeft d t n (a + 2) n (a + 2)
-values-start d t a n r e = record { reads = subst (λ (m : ℕ). ValuesRead d m t (a + 2)) (sym e) (view-attributes d t a r).parts.values; end = refl }
+pub values-start : (d : ℕ) (t : List ℕ) (a n : ℕ) → AttributesRead d t a → n ≡ count_at t a → (j : ℕ) → n ≡ j → ValuesLeft d t n (a + 2) j (a + 2)
+values-start d t a n r e j i = subst (λ (x : ℕ). ValuesLeft d t n (a + 2) x (a + 2)) i (record { reads = subst (λ (m : ℕ). ValuesRead d m t (a + 2)) (sym e) (view-attributes d t a r).parts.values; end = refl })
 
 module _ (d : ℕ) (t : List ℕ) (n₀ p₀ n p : ℕ) (l : ValuesLeft d t n₀ p₀ n p) where
   module _ (h : 0 < n) where
@@ -240,12 +246,12 @@ module _ (d : ℕ) (t : List ℕ) (n₀ p₀ n p : ℕ) (l : ValuesLeft d t n₀
     pub values-value : (q : ℕ) → q ≡ name_end t p → ExprReads d t q
     values-value q k = subst (λ (m : ℕ). ExprReads d t m) (sym k) (view-values-more d t p n h l.reads).parts.value
 
-    pub values-next : (q e : ℕ) → q ≡ name_end t p → e ≡ (expr_at d t q).end → ValuesLeft d t n₀ p₀ (n - 1) e
+    pub values-next : (q e : ℕ) → q ≡ name_end t p → e ≡ (expr_at d t q).end → (m : ℕ) → n - 1 ≡ m → ValuesLeft d t n₀ p₀ m e
     unfolding value_at
-    values-next q e j k = let v = view-values-more d t p n h l.reads in let x : e ≡ (expr_at d t (name_end t p)).end = k ∙ ap (λ (m : ℕ). (expr_at d t m).end) j in record {
+    values-next q e j k m i = let v = view-values-more d t p n h l.reads in let x : e ≡ (expr_at d t (name_end t p)).end = k ∙ ap (λ (m : ℕ). (expr_at d t m).end) j in subst (λ (x : ℕ). ValuesLeft d t n₀ p₀ x e) i (record {
       reads = subst (λ (m : ℕ). ValuesRead d (n - 1) t m) (sym x) v.parts.rest;
       end = l.end ∙ ap (λ (z : Node (List Attribute)). z.end) v.is ∙ ap (λ (m : ℕ). (values_at d (n - 1) t m).end) (sym x);
-    }
+    })
 
   pub values-done : (a : ℕ) → AttributesRead d t a → n₀ ≡ count_at t a → p₀ ≡ a + 2 → n ≤ 0 → p ≡ (attributes_at d t a).end
   values-done a r e f h =

@@ -1,12 +1,14 @@
 -- Byte order: names in order stay so, and where a name belongs among them is found by halving. Assumes nothing.
 use Prim.Native.Nat.{ℕ, zero, suc, ◌+◌, ◌-◌, ◌<◌, ◌≤◌}
 use mathlib.Core.Path.{◌≡◌, refl, sym, ap, ◌∙◌, subst}
-use mathlib.Core.Bool.{Bool, true, false}
+use mathlib.Core.Bool.{Bool, true, false, not, true≢false}
 use mathlib.Core.List.{List, [], ◌∷◌}
 use mathlib.Core.Logic.{⊎_elim}
 use native.Mathlib.Omega.{arith}
 use lib.ListN.{length, take, drop, get_or, set, length-drop}
 use lib.Seq.{get_or-drop, drop-drop, drop-set-lt, take_all}
+use Rattle.std.specs.List.Sorted.{IsPartitionedBy, IsPartitionPoint}
+use Rattle.std.proofs.lemmas.List.{get_or_default}
 use Rattle.definitions.specs.Bytes.{Name, below}
 use Rattle.definitions.specs.Slots.{insert, sort}
 use Rattle.state.specs.Words.{name_at}
@@ -94,52 +96,52 @@ rising x t (q ∷ qs) (in_order n o) zero (suc j) h k e = below-past x (name_at 
 rising x t (q ∷ qs) (in_order n o) (suc i) zero h k e = absurd (omega arith)
 rising x t (q ∷ qs) (in_order n o) (suc i) (suc j) h k e = rising x t qs o i j (omega arith) (omega arith) e
 
--- ---- halving
+-- ---- the spot
 
--- the name x comes before none of the first `low`, and before all from `high` on
-pub record Seeking (t : List ℕ) (x : Name) (ps : List ℕ) (low high : ℕ) : Type 0 where
-  pub order : low ≤ high
-  pub most : high < length ps
-  pub before : (i : ℕ) → i < low → below x (name_at t (get_or ps (i + 1) 0)) ≡ false
-  pub after : (i : ℕ) → high ≤ i → i + 1 < length ps → below x (name_at t (get_or ps (i + 1) 0)) ≡ true
+not-true : (b : Bool) → not b ≡ true → b ≡ false
+not-true true e = absurd (true≢false (sym e))
+not-true false e = refl
 
-pub seek-start : (t : List ℕ) (x : Name) (ps : List ℕ) → 0 < length ps → Seeking t x ps 0 (length ps - 1)
-seek-start t x ps h = record { order = omega arith; most = omega arith; before = λ i k. absurd (omega arith); after = λ i k m. absurd (omega arith) }
+not-false : (b : Bool) → not b ≡ false → b ≡ true
+not-false true e = refl
+not-false false e = absurd (true≢false e)
 
-module _ (t : List ℕ) (x : Name) (ps : List ℕ) (o : InOrder (names_at t (drop 1 ps))) where
+module _ (t : List ℕ) (x : Name) (ps : List ℕ) where
+  -- the places after the first, lent
+  abbrev others : List ℕ
+  others = take (length ps - 1) (drop 1 ps)
+
+  others-are : others ≡ drop 1 ps
+  others-are = take_all (length ps - 1) (drop 1 ps) (let z = length-drop 1 ps in omega arith)
+
+  abbrev after : ℕ → Bool
+  after w = not (below x (name_at t w))
+
+  -- those that x does not come before are the first
+  pub parted : InOrder (names_at t (drop 1 ps)) → IsPartitionedBy after others
+  parted o = subst (IsPartitionedBy after) (sym others-are) (λ i j d h l e. go i j d h l e (below x (name_at t (get_or (drop 1 ps) i d))) refl)
+    where
+      go : (i j d : ℕ) → i ≤ j → j < length (drop 1 ps) → not (below x (name_at t (get_or (drop 1 ps) j d))) ≡ true → (b : Bool) → below x (name_at t (get_or (drop 1 ps) i d)) ≡ b
+          → not (below x (name_at t (get_or (drop 1 ps) i d))) ≡ true
+      go i j d h l e false f = ap not f
+      go i j d h l e true f =
+          let u = ap (λ (w : ℕ). below x (name_at t w)) (get_or_default (drop 1 ps) i 0 d (omega arith)) ∙ f in
+          let v = ap (λ (w : ℕ). below x (name_at t w)) (get_or_default (drop 1 ps) j d 0 l) ∙ rising x t (drop 1 ps) o i j h l u in
+          absurd (true≢false (sym e ∙ ap not v))
+
   after_first : (i : ℕ) → get_or (drop 1 ps) i 0 ≡ get_or ps (i + 1) 0
   after_first i = get_or-drop 1 ps i 0 ∙ ap (λ (k : ℕ). get_or ps k 0) (let e : 1 + i ≡ i + 1 = omega arith in e)
 
-  rises : (i j : ℕ) → i ≤ j → j + 1 < length ps → below x (name_at t (get_or ps (i + 1) 0)) ≡ true → below x (name_at t (get_or ps (j + 1) 0)) ≡ true
-  rises i j h k e =
-      ap (λ (w : ℕ). below x (name_at t w)) (sym (after_first j))
-      ∙ rising x t (drop 1 ps) o i j h (let z = length-drop 1 ps in omega arith) (ap (λ (w : ℕ). below x (name_at t w)) (after_first i) ∙ e)
-
-  module _ (low high m : ℕ) (s : Seeking t x ps low high) (a : low ≤ m) (b : m < high) (k : Bool) (u v : Name) (eu : u ≡ x) (ev : v ≡ name_at t (get_or ps (m + 1) 0)) (ek : k ≡ below u v) where
-    told : (q : Bool) → k ≡ q → below x (name_at t (get_or ps (m + 1) 0)) ≡ q
-    told q h = (λ i. below (sym eu i) (sym ev i)) ∙ sym ek ∙ h
-
-    pub seek-down : k ≡ true → Seeking t x ps low m
-    seek-down h = let z = s.most in record {
-      order = a;
-      most = omega arith;
-      before = s.before;
-      after = λ i g w. rises m i g w (told true h);
-    }
-
-    pub seek-up : k ≡ false → Seeking t x ps (m + 1) high
-    seek-up h = let z = s.most in record {
-      order = omega arith;
-      most = z;
-      before = λ i g. ⊎_elim
-          (λ (w : below x (name_at t (get_or ps (i + 1) 0)) ≡ true). clash (below x (name_at t (get_or ps (m + 1) 0))) (rises i m (omega arith) (omega arith) w) (told false h))
-          (λ (w : below x (name_at t (get_or ps (i + 1) 0)) ≡ false). w)
-          (bool-or (below x (name_at t (get_or ps (i + 1) 0))));
-      after = s.after;
-    }
-
-pub seek-done : (t : List ℕ) (x : ℕ) (ps : List ℕ) (low high : ℕ) → Seeking t (name_at t x) ps low high → high ≤ low → Spot t x ps low
-seek-done t x ps low high s h = let a = s.order in let b = s.most in record { inside = omega arith; before = s.before; after = λ k. s.after low h k }
+  pub spotted : (w r : ℕ) → x ≡ name_at t w → 0 < length ps → r ≤ length others → IsPartitionPoint (λ y. after y ≡ true) (λ y. after y ≡ false) others r → Spot t w ps r
+  spotted w r e h l q =
+      let n = length-drop 1 ps in
+      let k = ap length others-are in
+      let p = subst (λ (ys : List ℕ). IsPartitionPoint (λ y. after y ≡ true) (λ y. after y ≡ false) ys r) others-are q in
+      record {
+        inside = omega arith;
+        before = λ i g. (λ j. below (sym e j) (name_at t (sym (after_first i) j))) ∙ not-true _ (p.0 i 0 (omega arith) g);
+        after = λ g. (λ j. below (sym e j) (name_at t (sym (after_first r) j))) ∙ not-false _ (p.1 r 0 (omega arith) (omega arith));
+      }
 
 -- ---- the names before the spot moved down
 
@@ -168,7 +170,7 @@ module _ (t ps₀ : List ℕ) (x r : ℕ) (ps : List ℕ) (j : ℕ) (s : Spot t 
     most = omega arith;
   }
 
-  pub move-done : r ≤ j → names_at t (set ps j x) ≡ insert (name_at t x) (names_at t (drop 1 ps₀))
+  move-done : r ≤ j → names_at t (set ps j x) ≡ insert (name_at t x) (names_at t (drop 1 ps₀))
   move-done h = ⊎_elim
       (λ (k : length ps ≤ j + 1). insert-end t ps₀ x ps j l.inserting k)
       (λ (k : j + 1 < length ps). insert-stop t ps₀ x ps j l.inserting k true (name_at t x) (name_at t (get_or ps (j + 1) 0)) refl refl (sym (here k)) refl)
@@ -180,6 +182,9 @@ module _ (t ps₀ : List ℕ) (x r : ℕ) (ps : List ℕ) (j : ℕ) (s : Spot t 
           let e : j ≡ r = omega arith in
           let w = l.inserting.kept in
           ap (λ (w : ℕ). below (name_at t x) (name_at t w)) (next_place ∙ ap (λ (i : ℕ). get_or ps₀ (i + 1) 0) e) ∙ s.after (omega arith)
+
+  pub move-last : r ≤ j → names_at t (set ps r x) ≡ insert (name_at t x) (names_at t (drop 1 ps₀))
+  move-last h = let m = l.most in let e : j ≡ r = omega arith in subst (λ (k : ℕ). names_at t (set ps k x) ≡ insert (name_at t x) (names_at t (drop 1 ps₀))) e (move-done h)
 
 -- the names after the j-th are in order
 pub sort-rest : (t ps₀ ps : List ℕ) (i j : ℕ) → Sorting t ps₀ ps i → 0 < i → j ≡ i - 1 → InOrder (names_at t (drop 1 (take (length ps - j) (drop j ps))))

@@ -14,9 +14,9 @@ use Rattle.definitions.proofs.Named.{add_form, target-form, targets-grow}
 use Rattle.parts.specs.Places.{Node, count_at, name_bytes}
 use Rattle.exprs.specs.ExprAt.{expr_at, exprs_at, ExprReads, ExprsRead, list_at, display_at, cons_at}
 use Rattle.exprs.proofs.ExprViews.{view-tuple, view-exprs-none, view-exprs-more}
+use Rattle.std.specs.Prelude.{Option, Some, None}
 use Rattle.slots.specs.Slotted.{first_names, Indexed, Gathers}
-use Rattle.slots.specs.declared.collect.Gathered.{Gathered}
-use Rattle.slots.specs.declared.collect.Gathered.TheVariants.{Next, Over}
+use Rattle.slots.specs.declared.Walked.{Walked}
 use Rattle.slots.proofs.Gathering.{gathers-as, gathers-next, next-gathers, over-more}
 use Rattle.slots.proofs.Referring.{list-is}
 use Rattle.slots.proofs.Kinded.{form-var, form-attribute, form-tuple, form-index, form-other}
@@ -41,7 +41,7 @@ module _ (d : ℕ) (t : List ℕ) (p : ℕ) (r : ExprReads d t p) (xs : List Nam
       by false true h i = by_form _ (form-index d t p r (eqb-true _ _ i))
       by false false h i = by_form _ (form-other d t p r f (eqb-false _ _ h) g (eqb-false _ _ i))
 
-  pub tuple-gathers : get_or t p 0 ≡ 13 → (o : Gathered) (ps : List ℕ) (n : ℕ) → n ≡ count_at t (p + 1) →
+  pub tuple-gathers : get_or t p 0 ≡ 13 → (o : Option Walked) (ps : List ℕ) (n : ℕ) → n ≡ count_at t (p + 1) →
       Gathers o t ps (exprs_at (d - 1) n t (p + 1 + 2)).end (add_targets (exprs_at (d - 1) n t (p + 1 + 2)).value xs) → Gathers o t ps (expr_at d t p).end (add_target (expr_at d t p).value xs)
   unfolding display_at
   tuple-gathers f o ps n e g =
@@ -58,8 +58,8 @@ pub record TargetsLeft (d : ℕ) (t ps₀ : List ℕ) (n₀ p₀ k₀ : ℕ) (ps
   pub indexed : Indexed t k ps
   pub kept : length ps ≡ length ps₀
 
-pub targets-start : (d : ℕ) (t ps : List ℕ) (n p k : ℕ) → ExprsRead d n t p → k ≤ 255 → Indexed t k ps → TargetsLeft d t ps n p k ps n p k
-targets-start d t ps n p k r h v = record { reads = r; end = refl; names = refl; few = h; indexed = v; kept = refl }
+pub targets-start : (d : ℕ) (t ps : List ℕ) (n p k j : ℕ) → n ≡ j → ExprsRead d n t p → k ≤ 255 → Indexed t k ps → TargetsLeft d t ps n p k ps j p k
+targets-start d t ps n p k j i r h v = subst (λ (x : ℕ). TargetsLeft d t ps n p k ps x p k) i (record { reads = r; end = refl; names = refl; few = h; indexed = v; kept = refl })
 
 module _ (d : ℕ) (t ps₀ : List ℕ) (n₀ p₀ k₀ : ℕ) (ps : List ℕ) (n p k : ℕ) (l : TargetsLeft d t ps₀ n₀ p₀ k₀ ps n p k) where
   module _ (h : 0 < n) where
@@ -77,11 +77,11 @@ module _ (d : ℕ) (t ps₀ : List ℕ) (n₀ p₀ k₀ : ℕ) (ps : List ℕ) (
     unfolding cons_at
     all_end = l.end ∙ ap (λ (z : Node Exprs). z.end) is-cons
 
-    pub targets_next : (r : Gathered) (ps' : List ℕ) (e m : ℕ) → Gathers r t ps' (expr_at d t p).end (add_target (expr_at d t p).value (first_names t k ps)) → r ≡ Next e m →
-        length ps' ≡ length ps → TargetsLeft d t ps₀ n₀ p₀ k₀ ps' (n - 1) e m
-    targets_next r ps' e m g q w =
+    pub targets_next : (r : Option Walked) (ps' : List ℕ) (e m : ℕ) → Gathers r t ps' (expr_at d t p).end (add_target (expr_at d t p).value (first_names t k ps)) → r ≡ Some (record { next = e; n = m }) →
+        length ps' ≡ length ps → (j : ℕ) → n - 1 ≡ j → TargetsLeft d t ps₀ n₀ p₀ k₀ ps' j e m
+    targets_next r ps' e m g q w j i =
         let z = gathers-next r t ps' _ _ e m g q in
-        record {
+        subst (λ (x : ℕ). TargetsLeft d t ps₀ n₀ p₀ k₀ ps' x e m) i (record {
           reads = subst (λ (x : ℕ). ExprsRead d (n - 1) t x) (sym z.end) (view-exprs-more d n t p h l.reads).parts.rest;
           end = all_end ∙ ap (λ (x : ℕ). (exprs_at d (n - 1) t x).end) (sym z.end);
           names = all-names ∙ ap (λ (x : List Name). add_targets (exprs_at d (n - 1) t (expr_at d t p).end).value x) (sym z.names)
@@ -89,14 +89,14 @@ module _ (d : ℕ) (t ps₀ : List ℕ) (n₀ p₀ k₀ : ℕ) (ps : List ℕ) (
           few = z.few;
           indexed = z.indexed;
           kept = w ∙ l.kept;
-        }
+        })
 
-    pub targets-over : (r : Gathered) (ps' : List ℕ) → Gathers r t ps' (expr_at d t p).end (add_target (expr_at d t p).value (first_names t k ps)) → r ≡ Over →
-        Gathers Over t ps' (exprs_at d n₀ t p₀).end (add_targets (exprs_at d n₀ t p₀).value (first_names t k₀ ps₀))
+    pub targets-over : (r : Option Walked) (ps' : List ℕ) → Gathers r t ps' (expr_at d t p).end (add_target (expr_at d t p).value (first_names t k ps)) → r ≡ None →
+        Gathers None t ps' (exprs_at d n₀ t p₀).end (add_targets (exprs_at d n₀ t p₀).value (first_names t k₀ ps₀))
     targets-over r ps' g q =
         over-more r t ps' ps' _ _ _ _ g q (omega (arith, ap length all-names, targets-grow (exprs_at d (n - 1) t (expr_at d t p).end).value (add_target (expr_at d t p).value (first_names t k ps))))
 
-  pub targets-done : n ≤ 0 → Gathers (Next p k) t ps (exprs_at d n₀ t p₀).end (add_targets (exprs_at d n₀ t p₀).value (first_names t k₀ ps₀))
+  pub targets-done : n ≤ 0 → Gathers (Some (record { next = p; n = k })) t ps (exprs_at d n₀ t p₀).end (add_targets (exprs_at d n₀ t p₀).value (first_names t k₀ ps₀))
   unfolding add_targets
   targets-done h =
       let e = view-exprs-none d n t p h l.reads.start in

@@ -1,41 +1,41 @@
 -- The names that an expression references and that have a slot in the parent, but for those that a lambda around binds: what a lambda captures.
-use Rattle.std.specs.Prelude.{ℕ, ◌+◌, ◌≤◌, ◌≡◌, Bool, true, false, not, List, [], ◌∷◌, eqb, length, get_or, set}
+use Rattle.std.specs.Prelude.{ℕ, ◌+◌, ◌≤◌, ◌≡◌, Bool, true, false, not, List, [], ◌∷◌, length, get_or, set}
 use Rattle.std.proofs.Math.Option.{none, some}
 use Rattle.definitions.specs.Bytes.{Name, same, position, member}
 use Rattle.definitions.specs.Tree.{Expr, lit, var, unary, binary, logical, call, attr, display, index, lambda, Exprs, []ᵉ, ◌∷ᵉ◌}
 use Rattle.definitions.specs.Slots.{add}
 use Rattle.state.specs.State.{slots_from, slot_names, Slots}
 use Rattle.slots.specs.Slotted.{first_names, Indexed}
-use Rattle.slots.specs.declared.captures.Refs.{Refs}
+use Rattle.slots.specs.declared.Walked.{Walked}
 
--- ---- marks: a number for each slot, not 0 where a lambda around has its name as a parameter
+-- ---- marks: for each slot, whether a lambda around has its name as a parameter
 
 -- the name's slot is marked, if it has one
-unfoldable pub mark : List Name → Name → List ℕ → List ℕ
-mark slots x ms = elim (position (same x) slots) [ none ↦ ms | some i ↦ set ms i 1 ]
+unfoldable pub mark : List Name → Name → List Bool → List Bool
+mark slots x ms = elim (position (same x) slots) [ none ↦ ms | some i ↦ set ms i true ]
 
-unfoldable pub mark_all : List Name → List Name → List ℕ → List ℕ
+unfoldable pub mark_all : List Name → List Name → List Bool → List Bool
 mark_all slots [] ms = ms
 mark_all slots (x ∷ xs) ms = mark_all slots xs (mark slots x ms)
 
 -- the name has a slot that is not marked
-unfoldable pub is_free : List Name → List ℕ → Name → Bool
-is_free slots ms x = elim (position (same x) slots) [ none ↦ false | some i ↦ eqb (get_or ms i 0) 0 ]
+unfoldable pub is_free : List Name → List Bool → Name → Bool
+is_free slots ms x = elim (position (same x) slots) [ none ↦ false | some i ↦ not (get_or ms i false) ]
 
 -- the marks are those of the names in bound
-pub record Marked (slots bound : List Name) (ms : List ℕ) : Type 0 where
+pub record Marked (slots bound : List Name) (ms : List Bool) : Type 0 where
   pub room : length slots ≤ length ms
-  pub at : (x : Name) (i : ℕ) → position (same x) slots ≡ some i → eqb (get_or ms i 0) 0 ≡ not (member x bound)
+  pub at : (x : Name) (i : ℕ) → position (same x) slots ≡ some i → not (get_or ms i false) ≡ not (member x bound)
 
 -- ---- names that have a slot
 
 -- the name is added if its slot is free
-unfoldable pub add_held : List Name → List ℕ → Name → List Name → List Name
+unfoldable pub add_held : List Name → List Bool → Name → List Name → List Name
 add_held slots ms x ys = elim (is_free slots ms x) [ true ↦ add x ys | false ↦ ys ]
 
 -- `referenced_expr` among names that have a slot
 unfoldable mutual
-  pub held_expr : List Name → List ℕ → Expr → List Name → List Name
+  pub held_expr : List Name → List Bool → Expr → List Name → List Name
   held_expr slots ms (lit l) ys = ys
   held_expr slots ms (var x) ys = add_held slots ms x ys
   held_expr slots ms (unary op e) ys = held_expr slots ms e ys
@@ -47,7 +47,7 @@ unfoldable mutual
   held_expr slots ms (index o i) ys = held_expr slots ms i (held_expr slots ms o ys)
   held_expr slots ms (lambda ps b) ys = held_expr slots (mark_all slots ps ms) b ys
 
-  pub held_exprs : List Name → List ℕ → Exprs → List Name → List Name
+  pub held_exprs : List Name → List Bool → Exprs → List Name → List Name
   held_exprs slots ms []ᵉ ys = ys
   held_exprs slots ms (e ∷ᵉ es) ys = held_exprs slots ms es (held_expr slots ms e ys)
 
@@ -66,7 +66,7 @@ pub record Keeping (t parent ps : List ℕ) (n : ℕ) : Type 0 where
   pub indexed : Indexed t n ps
 
 -- and what it leaves: the next position, and places of the wanted names
-pub record Referred (r : Refs) (t ps : List ℕ) (end : ℕ) (want : List Name) : Type 0 where
+pub record Referred (r : Walked) (t ps : List ℕ) (end : ℕ) (want : List Name) : Type 0 where
   pub next-is : r.next ≡ end
   pub most : slots_from + r.n ≤ length ps
   pub names : first_names t r.n ps ≡ want

@@ -1,14 +1,11 @@
 -- Names in slots: what the places in a slice stand for, and what a step leaves in them.
-use Rattle.std.specs.Prelude.{ℕ, ◌+◌, ◌-◌, ◌≤◌, ◌<◌, ◌≡◌, List, ◌++◌, length, take, drop}
+use Rattle.std.specs.Prelude.{ℕ, ◌+◌, ◌-◌, ◌≤◌, ◌<◌, ◌≡◌, List, ◌++◌, length, take, drop, Option, Some, None}
 use Rattle.definitions.specs.Bytes.{Name}
 use Rattle.definitions.specs.Slots.{Frame}
 use Rattle.state.specs.Words.{name_at}
 use Rattle.state.specs.Index.{bucket_of, Covered}
 use Rattle.state.specs.State.{names_at, slots_from}
-use Rattle.slots.specs.declared.Locals.{Locals}
-use Rattle.slots.specs.declared.Locals.TheVariants.{Count, TooMany}
-use Rattle.slots.specs.declared.collect.Gathered.{Gathered}
-use Rattle.slots.specs.declared.collect.Gathered.TheVariants.{Next, Over}
+use Rattle.slots.specs.declared.Walked.{Walked}
 use Rattle.slots.specs.declared.collect.Framed.{Framed}
 
 -- the names at the first n of some places
@@ -45,9 +42,9 @@ pub record Appended (t : List ℕ) (k : ℕ) (more ps ps' : List ℕ) : Type 0 w
   pub indexed : Indexed t (k + length more) ps'
 
 -- the slots have the wanted names; or these are more than 255 (parameters, and the slots of a lambda)
-unfoldable pub Collected : Locals → List ℕ → List ℕ → List Name → Type 0
-Collected (Count n) t ps want = (n ≤ 255) × (first_names t n ps ≡ want) × Indexed t n ps
-Collected TooMany t ps want = 255 < length want
+unfoldable pub Collected : Option ℕ → List ℕ → List ℕ → List Name → Type 0
+Collected (Some n) t ps want = (n ≤ 255) × (first_names t n ps ≡ want) × Indexed t n ps
+Collected None t ps want = 255 < length want
 
 -- what a walk over statements asks: a short tree, room for 256 slots, of which at most 255 are used
 pub record Room (t ps : List ℕ) (n : ℕ) : Type 0 where
@@ -57,9 +54,9 @@ pub record Room (t ps : List ℕ) (n : ℕ) : Type 0 where
   pub indexed : Indexed t n ps
 
 -- and what it leaves: the next position, and slots with the wanted names; or these are more than 255
-unfoldable pub Gathers : Gathered → List ℕ → List ℕ → ℕ → List Name → Type 0
-Gathers (Next e n) t ps end want = (e ≡ end) × (n ≤ 255) × (first_names t n ps ≡ want) × Indexed t n ps
-Gathers Over t ps end want = 255 < length want
+unfoldable pub Gathers : Option Walked → List ℕ → List ℕ → ℕ → List Name → Type 0
+Gathers (Some g) t ps end want = (g.next ≡ end) × (g.n ≤ 255) × (first_names t g.n ps ≡ want) × Indexed t g.n ps
+Gathers None t ps end want = 255 < length want
 
 -- ---- loops
 
@@ -68,8 +65,8 @@ abbrev pub up_to256 : ℕ → ℕ
 up_to256 n = n - (n - 256)
 
 -- a walk that goes on has counted its loops too
-pub record Tallies (r : Gathered) (m m' loops : ℕ) : Type 0 where
-  pub counted : (e n : ℕ) → r ≡ Next e n → m' ≡ up_to256 (m + loops)
+pub record Tallies (r : Option Walked) (m m' loops : ℕ) : Type 0 where
+  pub counted : (g : Walked) → r ≡ Some g → m' ≡ up_to256 (m + loops)
 
 -- of the m slots of a frame the first n have its names
 pub record Framing (n m : ℕ) (t ps : List ℕ) (f : Frame) : Type 0 where
@@ -80,6 +77,6 @@ pub record Framing (n m : ℕ) (t ps : List ℕ) (f : Frame) : Type 0 where
   pub indexed : Indexed t n ps
 
 -- so it is; or there are more than 255
-pub record Frames (r : Framed) (t ps : List ℕ) (f : Frame) : Type 0 where
-  pub framing : (n m : ℕ) → r ≡ Framed.Slots n m → Framing n m t ps f
-  pub over : r ≡ Framed.TooMany → 255 < f.locals
+pub record Frames (r : Option Framed) (t ps : List ℕ) (f : Frame) : Type 0 where
+  pub framing : (g : Framed) → r ≡ Some g → Framing g.named g.locals t ps f
+  pub over : r ≡ None → 255 < f.locals

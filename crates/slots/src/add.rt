@@ -1,8 +1,9 @@
 // Names added to slots.
-ghost use Rattle.std.specs.Prelude.{◌≡◌, ◌+◌, ◌-◌, ◌≤◌, ◌<◌, ◌^◌, length};
+ghost use Rattle.std.specs.Prelude.{◌≡◌, ◌+◌, ◌≤◌, ◌<◌, ◌^◌, length};
 ghost use Rattle.definitions.specs.Bytes.{same, position};
 ghost use Rattle.definitions.specs.Slots.{add};
-ghost use Rattle.state.specs.State.{slots_from, slot_names, Slots, found_or};
+ghost use Rattle.state.specs.State.{slots_from, slot_names, Slots};
+ghost use Rattle.names.specs.Sought.{place_in};
 ghost use Rattle.parts.specs.Places.{name_bytes};
 ghost use Rattle.slots.specs.Slotted.{first_names, Indexed, IsBucket, Added};
 
@@ -17,10 +18,10 @@ pub(crate) fn bucket_at(tree: &[u8], at: usize) -> usize
     slot_bucket(name_part(tree, at))
 }
 
-// The number of the slot that has the name at `at`, whose bucket is b; as many as there are where none has it.
-pub(crate) fn slot_of(tree: &[u8], slots: &[u32], at: usize, b: usize) -> usize
+// The number of the slot that has the name at `at`, whose bucket is b.
+pub(crate) fn slot_of(tree: &[u8], slots: &[u32], at: usize, b: usize) -> Option<usize>
     requires { Slots tree.now slots.now × IsBucket b tree.now at }
-    ensures { result ≡ found_or (length slots.now - slots_from) (position (same (name_bytes tree.now at)) (slot_names tree.now slots.now)) }
+    ensures { place_in result ≡ position (same (name_bytes tree.now at)) (slot_names tree.now slots.now) }
 {
     let k = slots[b];
     find_from(tree, &slots[SLOTS_FROM..], k, name_part(tree, at))
@@ -33,8 +34,7 @@ pub(crate) fn add_at(tree: &[u8], slots: &mut [u32], n: u32, at: usize, b: usize
 {
     let k = slots[b];
     let end = SLOTS_FROM + n as usize;
-    let i = find_from(tree, &slots[SLOTS_FROM..end], k, name_part(tree, at));
-    if i < n as usize {
+    if let Some(_) = find_from(tree, &slots[SLOTS_FROM..end], k, name_part(tree, at)) {
         return n;
     }
     let first = start(k, n as usize) as u32;

@@ -7,7 +7,7 @@ ghost use Rattle.exprs.specs.ExprAt.{expr_at, exprs_at, ExprReads, ExprsRead, Tw
 ghost use Rattle.slots.specs.Slotted.{first_names, Collected};
 ghost use Rattle.slots.specs.Held.{mark_all, add_held, held_expr, held_exprs, Keeping, Referred, CapturesAt};
 
-use crate::Locals;
+use crate::Walked;
 use crate::add::{add_at, bucket_at};
 use crate::collect::put_params;
 use crate::index::append_slots;
@@ -16,26 +16,19 @@ use crate::order::sort_names;
 use crate::skip::{skip_expr, skip_params};
 use numerals::expr;
 use numerals::places::SLOTS_FROM;
-use numerals::sizes::{SLOTS_MOST, SLOTS_ROOM};
+use numerals::sizes::{SLOTS_MARKED, SLOTS_MOST, SLOTS_ROOM};
 use parts::names::name_end;
 use parts::numbers::u16_at;
-
-// The next position in the tree, and how many names are kept.
-#[derive(Clone, Copy)]
-pub struct Refs {
-    pub next: usize,
-    pub n: u32,
-}
 
 // The name at `at`, kept if it has a slot that is not marked.
 fn keep_name(
     tree: &[u8],
     at: usize,
     parent: &[u32],
-    marks: &[u8; 256],
+    marks: &[bool; SLOTS_MARKED],
     places: &mut [u32],
     n: u32,
-) -> Refs
+) -> Walked
     requires { Keeping tree.now parent.now places.old n × There tree.now at }
     ensures { Referred result tree.now places.new (name_end tree.now at) (add_held (slot_names tree.now parent.now) marks.now (name_bytes tree.now at) (first_names tree.now n places.old)) }
 {
@@ -43,9 +36,9 @@ fn keep_name(
     let b = bucket_at(tree, at);
     if is_free(tree, at, b, parent, marks) {
         let k = add_at(tree, places, n, at, b);
-        return Refs { next: next, n: k };
+        return Walked { next, n: k };
     }
-    Refs { next: next, n: n }
+    Walked { next, n: n }
 }
 
 // The names that an expression references.
@@ -55,10 +48,10 @@ fn collect_referenced_vars(
     at: usize,
     depth: u32,
     parent: &[u32],
-    marks: &[u8; 256],
+    marks: &[bool; SLOTS_MARKED],
     places: &mut [u32],
     n: u32,
-) -> Refs
+) -> Walked
     requires { Keeping tree.now parent.now places.old n × ExprReads depth tree.now at }
     ensures { Referred result tree.now places.new (expr_at depth tree.now at).end (held_expr (slot_names tree.now parent.now) marks.now (expr_at depth tree.now at).value (first_names tree.now n places.old)) }
 {
@@ -77,7 +70,7 @@ fn collect_referenced_vars(
         expr::TREE_SET => refs_list(tree, a, depth - 1, parent, marks, places, n),
         expr::INDEX => refs_two(tree, a, depth - 1, parent, marks, places, n),
         expr::LAMBDA => refs_lambda(tree, a, depth - 1, parent, marks, places, n),
-        _ => Refs {
+        _ => Walked {
             next: skip_expr(tree, at, depth),
             n: n,
         },
@@ -91,10 +84,10 @@ fn refs_two(
     at: usize,
     depth: u32,
     parent: &[u32],
-    marks: &[u8; 256],
+    marks: &[bool; SLOTS_MARKED],
     places: &mut [u32],
     n: u32,
-) -> Refs
+) -> Walked
     requires { Keeping tree.now parent.now places.old n × TwoAt depth tree.now at }
     ensures { Referred result tree.now places.new (second_at depth tree.now at).end
         (held_expr (slot_names tree.now parent.now) marks.now (second_at depth tree.now at).value (held_expr (slot_names tree.now parent.now) marks.now (expr_at depth tree.now at).value (first_names tree.now n places.old))) }
@@ -110,10 +103,10 @@ fn refs_call(
     at: usize,
     depth: u32,
     parent: &[u32],
-    marks: &[u8; 256],
+    marks: &[bool; SLOTS_MARKED],
     places: &mut [u32],
     n: u32,
-) -> Refs
+) -> Walked
     requires { Keeping tree.now parent.now places.old n × CallAt depth tree.now at }
     ensures { Referred result tree.now places.new (list_at depth tree.now (expr_at depth tree.now at).end).end
         (held_exprs (slot_names tree.now parent.now) marks.now (list_at depth tree.now (expr_at depth tree.now at).end).value (held_expr (slot_names tree.now parent.now) marks.now (expr_at depth tree.now at).value (first_names tree.now n places.old))) }
@@ -129,15 +122,15 @@ fn refs_attribute(
     at: usize,
     depth: u32,
     parent: &[u32],
-    marks: &[u8; 256],
+    marks: &[bool; SLOTS_MARKED],
     places: &mut [u32],
     n: u32,
-) -> Refs
+) -> Walked
     requires { Keeping tree.now parent.now places.old n × AttributeAt depth tree.now at }
     ensures { Referred result tree.now places.new (name_end tree.now (expr_at depth tree.now at).end) (held_expr (slot_names tree.now parent.now) marks.now (expr_at depth tree.now at).value (first_names tree.now n places.old)) }
 {
     let object = collect_referenced_vars(tree, at, depth, parent, marks, places, n);
-    Refs {
+    Walked {
         next: name_end(tree, object.next),
         n: object.n,
     }
@@ -150,10 +143,10 @@ fn refs_list(
     at: usize,
     depth: u32,
     parent: &[u32],
-    marks: &[u8; 256],
+    marks: &[bool; SLOTS_MARKED],
     places: &mut [u32],
     n: u32,
-) -> Refs
+) -> Walked
     requires { Keeping tree.now parent.now places.old n × ListAt depth tree.now at }
     ensures { Referred result tree.now places.new (list_at depth tree.now at).end (held_exprs (slot_names tree.now parent.now) marks.now (list_at depth tree.now at).value (first_names tree.now n places.old)) }
 {
@@ -168,10 +161,10 @@ fn refs_dict(
     at: usize,
     depth: u32,
     parent: &[u32],
-    marks: &[u8; 256],
+    marks: &[bool; SLOTS_MARKED],
     places: &mut [u32],
     n: u32,
-) -> Refs
+) -> Walked
     requires { Keeping tree.now parent.now places.old n × DictAt depth tree.now at }
     ensures { Referred result tree.now places.new (pairs_at depth tree.now at).end (held_exprs (slot_names tree.now parent.now) marks.now (pairs_at depth tree.now at).value (first_names tree.now n places.old)) }
 {
@@ -187,23 +180,21 @@ fn refs_many(
     depth: u32,
     count: u32,
     parent: &[u32],
-    marks: &[u8; 256],
+    marks: &[bool; SLOTS_MARKED],
     places: &mut [u32],
     n: u32,
-) -> Refs
+) -> Walked
     requires { Keeping tree.now parent.now places.old n × ExprsRead depth count tree.now at }
     ensures { Referred result tree.now places.new (exprs_at depth count tree.now at).end (held_exprs (slot_names tree.now parent.now) marks.now (exprs_at depth count tree.now at).value (first_names tree.now n places.old)) }
 {
     let mut p = at;
-    let mut left = count;
     let mut k = n;
-    while 0 < left {
+    for _ in 0..count {
         let one = collect_referenced_vars(tree, p, depth, parent, marks, places, k);
         p = one.next;
         k = one.n;
-        left -= 1;
     }
-    Refs { next: p, n: k }
+    Walked { next: p, n: k }
 }
 
 // Those of a lambda: in its body its parameters are marked, too.
@@ -213,10 +204,10 @@ fn refs_lambda(
     at: usize,
     depth: u32,
     parent: &[u32],
-    marks: &[u8; 256],
+    marks: &[bool; SLOTS_MARKED],
     places: &mut [u32],
     n: u32,
-) -> Refs
+) -> Walked
     requires { Keeping tree.now parent.now places.old n × LambdaAt depth tree.now at }
     ensures { Referred result tree.now places.new (expr_at depth tree.now (params_at tree.now at).end).end
         (held_expr (slot_names tree.now parent.now) (mark_all (slot_names tree.now parent.now) (params_at tree.now at).value marks.now)
@@ -240,7 +231,7 @@ pub(crate) fn collect_free_vars(
     requires { (length tree.now ≤ 32768) × Slots tree.now parent.now × (slots_from + 256 ≤ length places.old) × ParamsAt tree.now params × ExprReads depth tree.now body }
     ensures { CapturesAt result tree.now parent.now places.new (captures (slot_names tree.now parent.now) (params_at tree.now params).value (expr_at depth tree.now body).value) }
 {
-    let mut marks = [0u8; 256];
+    let mut marks = [false; SLOTS_MARKED];
     mark_params(tree, params, parent, &mut marks);
     let all = collect_referenced_vars(tree, body, depth, parent, &marks, places, 0);
     let end = SLOTS_FROM + all.n as usize;
@@ -248,7 +239,7 @@ pub(crate) fn collect_free_vars(
     all.n
 }
 
-// The slots of a lambda: its parameters, then its captures.
+// The slots of a lambda: its parameters, then its captures; none where there are more than 255.
 pub fn lambda_slots(
     tree: &[u8],
     params: usize,
@@ -256,20 +247,17 @@ pub fn lambda_slots(
     depth: u32,
     parent: &[u32],
     slots: &mut [u32],
-) -> Locals
+) -> Option<u32>
     requires { (length tree.now ≤ 32768) × Slots tree.now parent.now × (slots_from + 256 ≤ length slots.old) × ParamsAt tree.now params × ExprReads depth tree.now body }
     ensures { Collected result tree.now slots.new ((params_at tree.now params).value ++ captures (slot_names tree.now parent.now) (params_at tree.now params).value (expr_at depth tree.now body).value) }
 {
-    let begun = put_params(tree, params, slots);
-    let Locals::Count(k) = begun else {
-        return Locals::TooMany;
-    };
+    let k = put_params(tree, params, slots)?;
     let mut kept = [0u32; SLOTS_ROOM];
     let n = collect_free_vars(tree, params, body, depth, parent, &mut kept);
     if SLOTS_MOST < k + n {
-        return Locals::TooMany;
+        return None;
     }
     let end = SLOTS_FROM + n as usize;
     append_slots(tree, slots, k, &kept[SLOTS_FROM..end]);
-    Locals::Count(k + n)
+    Some(k + n)
 }

@@ -7,7 +7,7 @@ ghost use Rattle.exprs.specs.ExprAt.{expr_at, exprs_at, ExprReads, ExprsRead, Tw
 ghost use Rattle.tree.specs.StmtAt.{stmt_at, block_at, branches_at, StmtReads, BlockReads, BranchesRead, BranchAt, body_at, IfAt, if_at, elifs_at, ForAt, for_at};
 ghost use Rattle.slots.specs.Slotted.{leading, first_names, Collected, Room, Gathers, up_to256, Tallies, Frames};
 
-use crate::Locals;
+use crate::Walked;
 use crate::add::add_name;
 use crate::index::index_slots;
 use crate::skip::{skip_expr, skip_stmt, skip_value};
@@ -17,28 +17,21 @@ use numerals::{expr, stmt};
 use parts::names::name_end;
 use parts::numbers::u16_at;
 
-// The next position in the tree and how many slots have a name; or that more than 255 have one.
-#[derive(Clone, Copy)]
-pub enum Gathered {
-    Next(usize, u32),
-    Over,
-}
-
 // The slots with the name at `at`.
-fn gather_name(tree: &[u8], at: usize, next: usize, slots: &mut [u32], n: u32) -> Gathered
+fn gather_name(tree: &[u8], at: usize, next: usize, slots: &mut [u32], n: u32) -> Option<Walked>
     requires { Room tree.now slots.old n × (at < length tree.now) }
     ensures { Gathers result tree.now slots.new next (add (name_bytes tree.now at) (first_names tree.now n slots.old)) }
 {
     let k = add_name(tree, slots, n, at);
     if SLOTS_MOST < k {
-        return Gathered::Over;
+        return None;
     }
-    Gathered::Next(next, k)
+    Some(Walked { next, n: k })
 }
 
 // A target: a variable gives its name a slot, a tuple its elements, from left to right.
 #[cycle(gather_targets)]
-fn gather_target(tree: &[u8], at: usize, depth: u32, slots: &mut [u32], n: u32) -> Gathered
+fn gather_target(tree: &[u8], at: usize, depth: u32, slots: &mut [u32], n: u32) -> Option<Walked>
     requires { Room tree.now slots.old n × ExprReads depth tree.now at }
     ensures { Gathers result tree.now slots.new (expr_at depth tree.now at).end (add_target (expr_at depth tree.now at).value (first_names tree.now n slots.old)) }
 {
@@ -52,7 +45,10 @@ fn gather_target(tree: &[u8], at: usize, depth: u32, slots: &mut [u32], n: u32) 
         let count = u16_at(tree, a);
         return gather_targets(tree, a + 2, depth - 1, count, slots, n);
     }
-    Gathered::Next(skip_expr(tree, at, depth), n)
+    Some(Walked {
+        next: skip_expr(tree, at, depth),
+        n: n,
+    })
 }
 
 // So many targets.
@@ -64,51 +60,46 @@ fn gather_targets(
     count: u32,
     slots: &mut [u32],
     n: u32,
-) -> Gathered
+) -> Option<Walked>
     requires { Room tree.now slots.old n × ExprsRead depth count tree.now at }
     ensures { Gathers result tree.now slots.new (exprs_at depth count tree.now at).end (add_targets (exprs_at depth count tree.now at).value (first_names tree.now n slots.old)) }
 {
     let mut p = at;
-    let mut left = count;
     let mut k = n;
-    while 0 < left {
-        let one = gather_target(tree, p, depth, slots, k);
-        let Gathered::Next(next, m) = one else {
-            return Gathered::Over;
-        };
-        p = next;
-        k = m;
-        left -= 1;
+    for _ in 0..count {
+        let one = gather_target(tree, p, depth, slots, k)?;
+        p = one.next;
+        k = one.n;
     }
-    Gathered::Next(p, k)
+    Some(Walked { next: p, n: k })
 }
 
 // A target and a value.
-fn gather_assign(tree: &[u8], at: usize, depth: u32, slots: &mut [u32], n: u32) -> Gathered
+fn gather_assign(tree: &[u8], at: usize, depth: u32, slots: &mut [u32], n: u32) -> Option<Walked>
     requires { Room tree.now slots.old n × TwoAt depth tree.now at }
     ensures { Gathers result tree.now slots.new (second_at depth tree.now at).end (add_target (expr_at depth tree.now at).value (first_names tree.now n slots.old)) }
 {
-    let target = gather_target(tree, at, depth, slots, n);
-    let Gathered::Next(value, k) = target else {
-        return Gathered::Over;
-    };
-    let end = skip_value(tree, value, depth);
-    Gathered::Next(end, k)
+    let target = gather_target(tree, at, depth, slots, n)?;
+    let end = skip_value(tree, target.next, depth);
+    Some(Walked {
+        next: end,
+        n: target.n,
+    })
 }
 
 // A statement that holds no block of this function: below 3 one byte, 3 and 4 an expression, 5 an assignment, 9 and 10 a def or class.
-fn gather_plain(tree: &[u8], at: usize, depth: u32, slots: &mut [u32], n: u32) -> Gathered
+fn gather_plain(tree: &[u8], at: usize, depth: u32, slots: &mut [u32], n: u32) -> Option<Walked>
     requires { Room tree.now slots.old n × StmtReads depth tree.now at × (get_or tree.now at 0 ≡ 6 → ⊥) × (get_or tree.now at 0 ≡ 7 → ⊥) × (get_or tree.now at 0 ≡ 8 → ⊥) }
     ensures { Gathers result tree.now slots.new (stmt_at depth tree.now at).end (locals_stmt (stmt_at depth tree.now at).value (first_names tree.now n slots.old)) }
 {
     let kind = tree[at];
     let a = at + 1;
     if kind < stmt::EXPR {
-        return Gathered::Next(a, n);
+        return Some(Walked { next: a, n: n });
     }
     if kind < stmt::ASSIGN {
         let end = skip_value(tree, a, depth - 1);
-        return Gathered::Next(end, n);
+        return Some(Walked { next: end, n: n });
     }
     if kind == stmt::ASSIGN {
         return gather_assign(tree, a, depth - 1, slots, n);
@@ -126,7 +117,7 @@ fn gather_stmt(
     slots: &mut [u32],
     n: u32,
     loops: &mut u32,
-) -> Gathered
+) -> Option<Walked>
     requires { Room tree.now slots.old n × StmtReads depth tree.now at × (loops.old ≤ 256) }
     ensures { Gathers result tree.now slots.new (stmt_at depth tree.now at).end (locals_stmt (stmt_at depth tree.now at).value (first_names tree.now n slots.old))
         × Tallies result loops.old loops.new (loops_stmt (stmt_at depth tree.now at).value) }
@@ -149,24 +140,20 @@ fn gather_block(
     slots: &mut [u32],
     n: u32,
     loops: &mut u32,
-) -> Gathered
+) -> Option<Walked>
     requires { Room tree.now slots.old n × BlockReads depth tree.now at × (loops.old ≤ 256) }
     ensures { Gathers result tree.now slots.new (block_at depth tree.now at).end (locals_block (block_at depth tree.now at).value (first_names tree.now n slots.old))
         × Tallies result loops.old loops.new (loops_block (block_at depth tree.now at).value) }
 {
-    let mut left = u16_at(tree, at);
+    let count = u16_at(tree, at);
     let mut p = at + 2;
     let mut k = n;
-    while 0 < left {
-        let one = gather_stmt(tree, p, depth, slots, k, loops);
-        let Gathered::Next(next, m) = one else {
-            return Gathered::Over;
-        };
-        p = next;
-        k = m;
-        left -= 1;
+    for _ in 0..count {
+        let one = gather_stmt(tree, p, depth, slots, k, loops)?;
+        p = one.next;
+        k = one.n;
     }
-    Gathered::Next(p, k)
+    Some(Walked { next: p, n: k })
 }
 
 // A condition and a block.
@@ -178,7 +165,7 @@ fn gather_branch(
     slots: &mut [u32],
     n: u32,
     loops: &mut u32,
-) -> Gathered
+) -> Option<Walked>
     requires { Room tree.now slots.old n × BranchAt depth tree.now at × (loops.old ≤ 256) }
     ensures { Gathers result tree.now slots.new (body_at depth tree.now at).end (locals_block (body_at depth tree.now at).value (first_names tree.now n slots.old))
         × Tallies result loops.old loops.new (loops_block (body_at depth tree.now at).value) }
@@ -196,18 +183,15 @@ fn gather_if(
     slots: &mut [u32],
     n: u32,
     loops: &mut u32,
-) -> Gathered
+) -> Option<Walked>
     requires { Room tree.now slots.old n × IfAt depth tree.now at × (loops.old ≤ 256) }
     ensures { Gathers result tree.now slots.new (elifs_at depth tree.now at).end
         (locals_branches (elifs_at depth tree.now at).value (locals_block (body_at depth tree.now at).value (first_names tree.now n slots.old)))
         × Tallies result loops.old loops.new (loops_block (body_at depth tree.now at).value + loops_branches (elifs_at depth tree.now at).value) }
 {
-    let first = gather_branch(tree, at, depth, slots, n, loops);
-    let Gathered::Next(p, k) = first else {
-        return Gathered::Over;
-    };
-    let count = u16_at(tree, p);
-    gather_elifs(tree, p + 2, depth, count, slots, k, loops)
+    let first = gather_branch(tree, at, depth, slots, n, loops)?;
+    let count = u16_at(tree, first.next);
+    gather_elifs(tree, first.next + 2, depth, count, slots, first.n, loops)
 }
 
 // So many elifs, and an else block or none.
@@ -220,22 +204,17 @@ fn gather_elifs(
     slots: &mut [u32],
     n: u32,
     loops: &mut u32,
-) -> Gathered
+) -> Option<Walked>
     requires { Room tree.now slots.old n × BranchesRead depth count tree.now at × (loops.old ≤ 256) }
     ensures { Gathers result tree.now slots.new (branches_at depth count tree.now at).end (locals_branches (branches_at depth count tree.now at).value (first_names tree.now n slots.old))
         × Tallies result loops.old loops.new (loops_branches (branches_at depth count tree.now at).value) }
 {
     let mut p = at;
-    let mut left = count;
     let mut k = n;
-    while 0 < left {
-        let one = gather_branch(tree, p, depth, slots, k, loops);
-        let Gathered::Next(next, m) = one else {
-            return Gathered::Over;
-        };
-        p = next;
-        k = m;
-        left -= 1;
+    for _ in 0..count {
+        let one = gather_branch(tree, p, depth, slots, k, loops)?;
+        p = one.next;
+        k = one.n;
     }
     gather_else(tree, p, depth, slots, k, loops)
 }
@@ -249,13 +228,13 @@ fn gather_else(
     slots: &mut [u32],
     n: u32,
     loops: &mut u32,
-) -> Gathered
+) -> Option<Walked>
     requires { Room tree.now slots.old n × BranchesRead depth 0 tree.now at × (loops.old ≤ 256) }
     ensures { Gathers result tree.now slots.new (branches_at depth 0 tree.now at).end (locals_branches (branches_at depth 0 tree.now at).value (first_names tree.now n slots.old))
         × Tallies result loops.old loops.new (loops_branches (branches_at depth 0 tree.now at).value) }
 {
     if tree[at] == 0 {
-        return Gathered::Next(at + 1, n);
+        return Some(Walked { next: at + 1, n: n });
     }
     gather_block(tree, at + 1, depth, slots, n, loops)
 }
@@ -280,7 +259,7 @@ fn gather_for(
     slots: &mut [u32],
     n: u32,
     loops: &mut u32,
-) -> Gathered
+) -> Option<Walked>
     requires { Room tree.now slots.old n × ForAt depth tree.now at × (loops.old ≤ 256) }
     ensures { Gathers result tree.now slots.new (body_at depth tree.now (name_end tree.now at)).end
         (locals_block (body_at depth tree.now (name_end tree.now at)).value (add (name_bytes tree.now at) (first_names tree.now n slots.old)))
@@ -288,11 +267,8 @@ fn gather_for(
 {
     *loops = one_more(*loops);
     let p = name_end(tree, at);
-    let first = gather_name(tree, at, p, slots, n);
-    let Gathered::Next(q, k) = first else {
-        return Gathered::Over;
-    };
-    gather_branch(tree, q, depth, slots, k, loops)
+    let first = gather_name(tree, at, p, slots, n)?;
+    gather_branch(tree, first.next, depth, slots, first.n, loops)
 }
 
 // The places of so many names from `at` on.
@@ -301,57 +277,53 @@ fn place_names(tree: &[u8], at: usize, count: u32, places: &mut [u32])
     ensures { leading tree.now count places.new ≡ names_from tree.now count at }
 {
     let mut p = at;
-    let mut i: u32 = 0;
-    while i < count {
+    for i in 0..count {
         places[i as usize] = p as u32;
         p = name_end(tree, p);
-        i += 1;
     }
 }
 
 // The slots of the parameters at `at`.
-pub(crate) fn put_params(tree: &[u8], at: usize, slots: &mut [u32]) -> Locals
+pub(crate) fn put_params(tree: &[u8], at: usize, slots: &mut [u32]) -> Option<u32>
     requires { (length tree.now ≤ 32768) × (slots_from + 256 ≤ length slots.old) × ParamsAt tree.now at }
     ensures { Collected result tree.now slots.new (params_at tree.now at).value }
 {
     let count = u16_at(tree, at);
     if SLOTS_MOST < count {
-        return Locals::TooMany;
+        return None;
     }
     place_names(tree, at + 2, count, &mut slots[SLOTS_FROM..]);
     index_slots(tree, slots, count);
-    Locals::Count(count)
+    Some(count)
 }
 
-// How many slots of a def or method have a name, and how many there are with those of its loops; or that there are more than 255.
+// How many slots of a def or method have a name, and how many there are with those of its loops.
 #[derive(Clone, Copy)]
-pub enum Framed {
-    Slots(u32, u32),
-    TooMany,
+pub struct Framed {
+    pub named: u32,
+    pub locals: u32,
 }
 
-// The slots of a def or method, by its parameters and its block.
+// The slots of a def or method, by its parameters and its block; none where there are more than 255.
 pub fn collect_locals(
     tree: &[u8],
     params: usize,
     block: usize,
     depth: u32,
     slots: &mut [u32],
-) -> Framed
+) -> Option<Framed>
     requires { (length tree.now ≤ 32768) × (slots_from + 256 ≤ length slots.old) × ParamsAt tree.now params × BlockReads depth tree.now block }
     ensures { Frames result tree.now slots.new (with_loops (params_at tree.now params).value (block_at depth tree.now block).value) }
 {
-    let begun = put_params(tree, params, slots);
-    let Locals::Count(k) = begun else {
-        return Framed::TooMany;
-    };
+    let params_count = put_params(tree, params, slots)?;
     let mut loops = 0u32;
-    let all = gather_block(tree, block, depth, slots, k, &mut loops);
-    let Gathered::Next(_, n) = all else {
-        return Framed::TooMany;
-    };
-    if 255 < n + loops {
-        return Framed::TooMany;
+    let all = gather_block(tree, block, depth, slots, params_count, &mut loops)?;
+    let locals = all.n + loops;
+    if SLOTS_MOST < locals {
+        return None;
     }
-    Framed::Slots(n, n + loops)
+    Some(Framed {
+        named: all.n,
+        locals,
+    })
 }

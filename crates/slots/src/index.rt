@@ -11,13 +11,10 @@ pub(crate) fn index_slots(tree: &[u8], slots: &mut [u32], n: u32)
     requires { slots_from + n ≤ length slots.old }
     ensures { Reindexed tree.now n slots.old slots.new }
 {
-    let mut i = n;
-    while 0 < i {
-        let j = i - 1;
+    for j in (0..n).rev() {
         let at = slots[SLOTS_FROM + j as usize] as usize;
         let b = bucket_at(tree, at);
-        slots[b] = i;
-        i = j;
+        slots[b] = j + 1;
     }
 }
 
@@ -26,11 +23,8 @@ fn copy_places(places: &[u32], to: &mut [u32])
     requires { length places.now ≤ length to.old }
     ensures { take (length places.now) to.new ≡ places.now }
 {
-    let mut i = 0;
-    while i < places.len() {
-        to[i] = places[i];
-        i += 1;
-    }
+    let end = places.len();
+    to[0..end].copy_from_slice(places);
 }
 
 // More slots after the first k, and the index of all.

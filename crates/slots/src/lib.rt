@@ -10,9 +10,9 @@ pub mod order; // order.rt: names in byte order
 pub mod marks; // marks.rt: slots whose names a lambda around has as parameters
 pub mod captures; // captures.rt: the slots of a lambda
 
-// How many slots there are; or that there are more than 255.
+// A walk over a part of the tree: the next position, and how many names it leaves.
 #[derive(Clone, Copy)]
-pub enum Locals {
-    Count(u32),
-    TooMany,
+pub struct Walked {
+    pub next: usize,
+    pub n: u32,
 }

@@ -14,17 +14,7 @@ fn find_spot(tree: &[u8], places: &[u32]) -> usize
     ensures { Spot tree.now (get_or places.now 0 0) places.now result }
 {
     let name = name_part(tree, places[0] as usize);
-    let mut low = 0;
-    let mut high = places.len() - 1;
-    while low < high {
-        let middle = (low + high) / 2;
-        if below_bytes(name, name_part(tree, places[middle + 1] as usize)) {
-            high = middle;
-        } else {
-            low = middle + 1;
-        }
-    }
-    low
+    places[1..].partition_point(|w| !below_bytes(name, name_part(tree, *w as usize)))
 }
 
 // The first name is put where it belongs among the others, which are in order.
@@ -34,21 +24,17 @@ fn insert_first(tree: &[u8], places: &mut [u32])
 {
     let x = places[0];
     let spot = find_spot(tree, places);
-    let mut j = 0;
-    while j < spot {
+    for j in 0..spot {
         places[j] = places[j + 1];
-        j += 1;
     }
-    places[j] = x;
+    places[spot] = x;
 }
 
 // The names are put in order.
 pub(crate) fn sort_names(tree: &[u8], places: &mut [u32])
     ensures { names_at tree.now places.new ≡ sort (names_at tree.now places.old) }
 {
-    let mut i = places.len();
-    while 0 < i {
-        i -= 1;
+    for i in (0..places.len()).rev() {
         insert_first(tree, &mut places[i..]);
     }
 }

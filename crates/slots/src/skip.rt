@@ -21,11 +21,10 @@ pub fn skip_params(tree: &[u8], at: usize) -> usize
     requires { ParamsAt tree.now at }
     ensures { result ≡ (params_at tree.now at).end }
 {
+    let count = u16_at(tree, at);
     let mut p = at + 2;
-    let mut left = u16_at(tree, at);
-    while 0 < left {
+    for _ in 0..count {
         p = name_end(tree, p);
-        left -= 1;
     }
     p
 }
@@ -134,10 +133,8 @@ fn skip_many(tree: &[u8], at: usize, depth: u32, count: u32) -> usize
     ensures { result ≡ (exprs_at depth count tree.now at).end }
 {
     let mut p = at;
-    let mut left = count;
-    while 0 < left {
+    for _ in 0..count {
         p = skip_value(tree, p, depth);
-        left -= 1;
     }
     p
 }
@@ -179,11 +176,10 @@ fn skip_block(tree: &[u8], at: usize, depth: u32) -> usize
     requires { BlockReads depth tree.now at }
     ensures { result ≡ (block_at depth tree.now at).end }
 {
-    let mut left = u16_at(tree, at);
+    let count = u16_at(tree, at);
     let mut p = at + 2;
-    while 0 < left {
+    for _ in 0..count {
         p = skip_stmt(tree, p, depth);
-        left -= 1;
     }
     p
 }
@@ -216,10 +212,8 @@ fn skip_elifs(tree: &[u8], at: usize, depth: u32, count: u32) -> usize
     ensures { result ≡ (branches_at depth count tree.now at).end }
 {
     let mut p = at;
-    let mut left = count;
-    while 0 < left {
+    for _ in 0..count {
         p = skip_branch(tree, p, depth);
-        left -= 1;
     }
     skip_else(tree, p, depth)
 }
@@ -264,10 +258,8 @@ fn skip_methods(tree: &[u8], at: usize, depth: u32, count: u32) -> usize
     ensures { result ≡ (methods_at depth count tree.now at).end }
 {
     let mut p = at;
-    let mut left = count;
-    while 0 < left {
+    for _ in 0..count {
         p = skip_def(tree, p, depth);
-        left -= 1;
     }
     p
 }
@@ -277,12 +269,11 @@ fn skip_attributes(tree: &[u8], at: usize, depth: u32) -> usize
     requires { AttributesRead depth tree.now at }
     ensures { result ≡ (attributes_at depth tree.now at).end }
 {
-    let mut left = u16_at(tree, at);
+    let count = u16_at(tree, at);
     let mut p = at + 2;
-    while 0 < left {
+    for _ in 0..count {
         let value = name_end(tree, p);
         p = skip_expr(tree, value, depth);
-        left -= 1;
     }
     p
 }

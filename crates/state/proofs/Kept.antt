@@ -1,6 +1,8 @@
 -- The number that tells where loops keep their iterators.
 use Prim.Native.Nat.{ℕ, ◌+◌, ◌≤◌, ◌<◌}
 use mathlib.Core.Path.{◌≡◌, refl, sym, ap, ◌∙◌, subst}
+use Rattle.std.specs.Prelude.{Option, Some, None}
+use Rattle.std.proofs.lemmas.Option.{none-some}
 use mathlib.Core.Bool.{Bool, true, false}
 use native.Mathlib.Omega.{arith}
 use lib.Dec.{ltb}
@@ -62,29 +64,25 @@ keeping-past i n s = either i
 
 -- ---- parts
 
-pub passes_none : {r i : ℕ} → Passes r i i 0
-passes_none {i} = record { at = λ z. sym (after_none i) }
+pub passes_none : {A : Type 0} {r : Option A} {i : ℕ} → Passes r i i 0
+passes_none {i = i} = record { at = λ x z. sym (after_none i) }
 
 -- over the limits
-pub passes_over : {i i' n : ℕ} → Passes 0 i i' n
-passes_over = record { at = λ z. absurd (z refl) }
+pub passes_over : {A : Type 0} {r : Option A} {i i' n : ℕ} → r ≡ None → Passes r i i' n
+passes_over e = record { at = λ x z. absurd (none-some x (sym e ∙ z)) }
 
 -- one part after another
-pub passes_then : {r r' i i₁ i₂ m n : ℕ} → Spare i (m + n) → (r ≡ 0 → ⊥) → Passes r i i₁ m → Passes r' i₁ i₂ n → Passes r' i i₂ (m + n)
-passes_then {i} {m} {n} s z p q = record { at = λ y. q.at y ∙ ap (λ (j : ℕ). after_loops j n) (p.at z) ∙ after-sum i m n s }
-
--- by other words for the answer and the loops
-pub passes-by : {r r' i i' m n : ℕ} → ((r' ≡ 0 → ⊥) → r ≡ 0 → ⊥) → m ≡ n → Passes r i i' m → Passes r' i i' n
-passes-by {i} f e p = record { at = λ z. p.at (f z) ∙ ap (after_loops i) e }
+pub passes_then : {A B : Type 0} {r : Option A} {x : A} {r' : Option B} {i i₁ i₂ m n : ℕ} → Spare i (m + n) → r ≡ Some x → Passes r i i₁ m → Passes r' i₁ i₂ n → Passes r' i i₂ (m + n)
+passes_then {x = x} {i = i} {m = m} {n = n} s z p q = record { at = λ y e. q.at y e ∙ ap (λ (j : ℕ). after_loops j n) (p.at x z) ∙ after-sum i m n s }
 
 -- the same of a later answer, once the first is known not to be over the limits
-pub passes-done : {r r' i i' m n : ℕ} → (r ≡ 0 → ⊥) → m ≡ n → Passes r i i' m → Passes r' i i' n
-passes-done z e p = passes-by (λ y. z) e p
+pub passes-done : {A B : Type 0} {r : Option A} {x : A} {r' : Option B} {i i' m n : ℕ} → r ≡ Some x → m ≡ n → Passes r i i' m → Passes r' i i' n
+passes-done {x = x} {i = i} z e p = record { at = λ y q. p.at x z ∙ ap (after_loops i) e }
 
 -- what follows a part
-module _ {r i i' m : ℕ} (z : r ≡ 0 → ⊥) (p : Passes r i i' m) where
+module _ {A : Type 0} {r : Option A} {x : A} {i i' m : ℕ} (z : r ≡ Some x) (p : Passes r i i' m) where
   pub keeping-then : Spare i m → keeping_of i' ≡ past m (keeping_of i)
-  keeping-then s = ap keeping_of (p.at z) ∙ keeping-past i m s
+  keeping-then s = ap keeping_of (p.at x z) ∙ keeping-past i m s
 
   pub spare-then : {n n' : ℕ} → Spare i (m + n) → n ≡ n' → Spare i' n'
-  spare-then {n} s e = subst (Spare i') e (subst (λ (j : ℕ). Spare j n) (sym (p.at z)) (spare-rest i m n s))
+  spare-then {n} s e = subst (Spare i') e (subst (λ (j : ℕ). Spare j n) (sym (p.at x z)) (spare-rest i m n s))

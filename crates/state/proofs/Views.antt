@@ -10,7 +10,7 @@ use Rattle.definitions.specs.Module.{instructions, slots_fit}
 use Rattle.state.specs.Words.{region, text_at, instr_of, instrs_of}
 use Rattle.state.specs.State.{strings_from, heads_from, codes_from, class_names_from, class_methods_from, methods_from, constants_from, done_from, spelled, tables_of, state_of, Within, Sound}
 use Rattle.state.specs.declared.Counts.{Counts}
-use Rattle.state.specs.Answered.{Limits}
+use Rattle.state.specs.declared.Limits.{Limits}
 use Rattle.state.proofs.Regions.{region-length, functions-length, functions-slots, classes-length, instructions-total}
 
 module _ (tree made code tables : List ℕ) (c : Counts) (l : Limits) (s : Sound tree made code tables c l) where

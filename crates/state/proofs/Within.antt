@@ -17,7 +17,7 @@ use Rattle.definitions.specs.Lower.{shortcut, jump_on, loop, loads, lambda_name,
 use Rattle.definitions.proofs.Truth.{right, at_most}
 use Rattle.state.specs.State.{State, emit_at, Within, symbol_number, with_symbol, with_tables}
 use Rattle.state.specs.Steps.{set_at, patch_at, begun, ended, branch, chain_at, method_function, methods_at, methods_of}
-use Rattle.state.specs.Answered.{Limits}
+use Rattle.state.specs.declared.Limits.{Limits}
 use Rattle.state.proofs.Emission.{stack-grows, base_kept, at-seq}
 use Rattle.state.proofs.Jumps.{set-length, patch-length, at-shortcut, at-loop, at-branch, at-when, chain-when, chain-else}
 use Rattle.state.proofs.Enclosing.{symbol-functions, at-function, at-closure, at-end_class, at-class_object, at-class, methods-more}

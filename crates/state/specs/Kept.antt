@@ -1,5 +1,5 @@
 -- Where loops keep their iterators: by a number that the emission carries, and by the state.
-use Rattle.std.specs.Prelude.{ℕ, ◌+◌, ◌-◌, ◌<◌, ◌≡◌, true, false, length, ltb}
+use Rattle.std.specs.Prelude.{ℕ, ◌+◌, ◌-◌, ◌<◌, ◌≡◌, true, false, length, ltb, Option, Some}
 use Rattle.definitions.specs.Slots.{Keeping, in_globals, in_slots}
 use Rattle.definitions.specs.Lower.{Keeper, global, local, iter_name}
 use Rattle.state.specs.State.{State, symbol_number, with_symbol, with_tables}
@@ -17,9 +17,9 @@ after_loops i n = elim (ltb i 256) [ true ↦ i + n | false ↦ i ]
 pub record Spare (i n : ℕ) : Type 0 where
   pub at : i < 256 → i + n < 256
 
--- a part of n loops that answers r has moved the number on, unless it is over the limits
-pub record Passes (r i i' n : ℕ) : Type 0 where
-  pub at : (r ≡ 0 → ⊥) → i' ≡ after_loops i n
+-- a part of n loops with the answer r has moved the number on, unless it is over the limits
+pub record Passes {A : Type 0} (r : Option A) (i i' n : ℕ) : Type 0 where
+  pub at : (x : A) → r ≡ Some x → i' ≡ after_loops i n
 
 -- ---- the next loop's iterator, by the state before its store
 

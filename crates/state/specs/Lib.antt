@@ -5,3 +5,4 @@ pub mod Index
 pub mod State
 pub mod Steps
 pub mod Kept
+pub mod Props

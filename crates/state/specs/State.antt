@@ -9,7 +9,8 @@ use Rattle.definitions.specs.Module.{instructions, slots_fit}
 use Rattle.state.specs.Words.{region, name_at, text_at, instrs_of}
 use Rattle.state.specs.Index.{Covered}
 use Rattle.state.specs.declared.Counts.{Counts}
-use Rattle.state.specs.Answered.{Limits, Emitted, Done, Full, Numbered, At, Over}
+use Rattle.state.specs.declared.Limits.{Limits}
+use Rattle.state.specs.Answered.{Emitted, Done, Full, Numbered, At, Over}
 
 -- ---- the tables of the second area: where each begins
 -- symbols 1024, strings 512, heads of functions 256, places of their code 256, names of classes 64, places of their methods 64, methods 256, constants 64, the index of symbols 8192, that of strings 4096

@@ -12,7 +12,7 @@ use Rattle.definitions.specs.Module.{instructions}
 use Rattle.definitions.specs.Reader.{instruction, function_record}
 use Rattle.definitions.proofs.Sheet.{tally-more}
 use Rattle.reader.specs.View.{found_at}
-use Rattle.reader.specs.declared.Found.TheVariants.{Instruction}
+use Rattle.reader.proofs.InstructionLaws.{found_as}
 use Rattle.tally.specs.Walk.{functions_from, values_end, Values, code_from}
 use Rattle.tally.specs.Counts.{Tallies}
 use Rattle.tally.specs.declared.Tallied.{Tallied}
@@ -45,7 +45,7 @@ pub record Counting (n : ℕ) (t : List ℕ) (at left p questions calls : ℕ) :
 pub counting-start : (n : ℕ) (t : List ℕ) (at : ℕ) → Values instruction n t at → Counting n t at n at 0 0
 counting-start n t at r = record { rest = r; ends = refl; few = omega arith; few-calls = omega arith; questions-so = omega arith; calls-so = omega arith }
 
-pub counting-next : (n : ℕ) (t : List ℕ) (at left p qs cs : ℕ) → 0 < left → Counting n t at left p qs cs → (op a b m x y : ℕ) → found_at t p ≡ Instruction op a b m → x ≡ one_if (is_question op) → x ≤ 1 → y ≡ one_if (is_call op) → y ≤ 1 →
+pub counting-next : (n : ℕ) (t : List ℕ) (at left p qs cs : ℕ) → 0 < left → Counting n t at left p qs cs → (op a b m x y : ℕ) → found_at t p ≡ found_as op a b m → x ≡ one_if (is_question op) → x ≤ 1 → y ≡ one_if (is_call op) → y ≤ 1 →
     Counting n t at (left - 1) m (qs + x) (cs + y)
 counting-next n t at left p qs cs h k op a b m x y e ex hx ey hy =
     let s = stepped t left p h k.rest op a b m e in

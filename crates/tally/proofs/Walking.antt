@@ -10,11 +10,11 @@ use Rattle.definitions.specs.Reader.{instruction, function_record}
 use Rattle.definitions.specs.Tables.{Function}
 use Rattle.definitions.proofs.Begins.{Takes, takes-instruction, takes-function}
 use Rattle.reader.specs.View.{Got, found_at, number_at}
-use Rattle.reader.specs.declared.Found.{Found}
-use Rattle.reader.specs.declared.Found.TheVariants.{Instruction, Nothing}
+use Rattle.std.specs.Prelude.{Option, Some, None}
+use Rattle.reader.specs.declared.Instruction.{Instruction}
 use Rattle.reader.proofs.Finding.{counted-view, function-view, give-view}
 use Rattle.reader.proofs.Questions.{list-view}
-use Rattle.reader.proofs.InstructionLaws.{found-got}
+use Rattle.reader.proofs.InstructionLaws.{found_as, found-got}
 use Rattle.reader.proofs.Encoding.{instruction-view}
 use Rattle.tally.specs.Walk.{read_list, read_end, values_from, values_end, Values, code_from, functions_from}
 
@@ -66,9 +66,11 @@ module _ {A : Type 0} (p : Parser A) (t : List ℕ) where
 
 -- ---- instructions
 
-found-same : (o : Found) (op a b m : ℕ) (i : Instr) (q : ℕ) → o ≡ Instruction op a b m → o ≡ Instruction i.op i.a i.b q → (i ≡ instr op a b) × (q ≡ m)
+found-same : (o : Option Instruction) (op a b m : ℕ) (i : Instr) (q : ℕ) → o ≡ found_as op a b m → o ≡ found_as i.op i.a i.b q → (i ≡ instr op a b) × (q ≡ m)
 found-same o op a b m i q e f =
-    let x : i.op ≡ op = cc in let y : i.a ≡ a = cc in let z : i.b ≡ b = cc in let w : q ≡ m = cc in
+    let r : ◌≡◌ {A = Instruction} (record { op = i.op; a = i.a; b = i.b; next = q }) (record { op = op; a = a; b = b; next = m }) = cc in
+    let x : i.op ≡ op = ap (λ (j : Instruction). j.op) r in let y : i.a ≡ a = ap (λ (j : Instruction). j.a) r in
+    let z : i.b ≡ b = ap (λ (j : Instruction). j.b) r in let w : q ≡ m = ap (λ (j : Instruction). j.next) r in
     (ap (λ (n : ℕ). instr n i.a i.b) x ∙ ap₂ (λ (n k : ℕ). instr op n k) y z, w)
 
 -- the instruction that was found, and the rest
@@ -80,7 +82,7 @@ pub record Stepped (t : List ℕ) (n at op a b m : ℕ) : Type 0 where
   pub further : at < m
 
 module _ (t : List ℕ) (n at : ℕ) (h : 0 < n) (r : Values instruction n t at) where
-  pub stepped : (op a b m : ℕ) → found_at t at ≡ Instruction op a b m → Stepped t n at op a b m
+  pub stepped : (op a b m : ℕ) → found_at t at ≡ found_as op a b m → Stepped t n at op a b m
   stepped op a b m e =
       let f = reads_first instruction t takes-instruction n at h r in
       let s = found-same (found_at t at) op a b m f.value f.next e (found-got t at f.value f.next f.one) in
@@ -95,7 +97,7 @@ module _ (t : List ℕ) (n at : ℕ) (h : 0 < n) (r : Values instruction n t at)
         further = omega arith;
       }
 
-  pub not-nothing : found_at t at ≡ Nothing → ⊥
+  pub not-nothing : found_at t at ≡ None → ⊥
   not-nothing e =
       let f = reads_first instruction t takes-instruction n at h r in
       let g = found-got t at f.value f.next f.one in

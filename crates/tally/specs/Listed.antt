@@ -1,16 +1,16 @@
 -- What a call that writes a text about a module answers and leaves.
-use Rattle.std.specs.Prelude.{ℕ, ◌≡◌, List}
+use Rattle.std.specs.Prelude.{ℕ, ◌≡◌, List, Result, Ok, Err}
 use Rattle.definitions.specs.Bytes.{Answer, accepted, refused}
 use Rattle.definitions.specs.Calls.{Writing}
-use Rattle.tally.specs.declared.Listed.{Listed}
-use Rattle.tally.specs.declared.Listed.TheVariants.{Written, Refused}
+use Rattle.questions.specs.declared.Question.{Question}
+use Rattle.questions.specs.Numbers.{number}
 
 -- the paper's answer for each case of the code's: the count of bytes written, or the number of the first question answered no
-unfoldable pub said : Listed → Answer ℕ
-said (Written n) = accepted n
-said (Refused q) = refused q
+unfoldable pub said : Result ℕ Question → Answer ℕ
+said (Ok n) = accepted n
+said (Err q) = refused (number q)
 
 -- the answer, and the output after it
-pub record Printed (r : Listed) (want : Writing) (left : List ℕ) : Type 0 where
+pub record Printed (r : Result ℕ Question) (want : Writing) (left : List ℕ) : Type 0 where
   pub answer : said r ≡ want.answer
   pub output : left ≡ want.output

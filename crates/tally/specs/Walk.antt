@@ -5,6 +5,7 @@ use Rattle.definitions.specs.Instruction.{Instr}
 use Rattle.definitions.specs.Reader.{instruction, function_record, read_module}
 use Rattle.definitions.specs.Tables.{Function}
 use Rattle.reader.specs.View.{Got, tables_of}
+use Rattle.reader.specs.declared.Part.{Part}
 
 -- the values that were read, and where the bytes after them begin, of n
 unfoldable pub read_list : {A : Type 0} → Parsed (List A) → List A
@@ -34,9 +35,10 @@ code_from n t at = values_from instruction n t at
 abbrev pub functions_from : ℕ → List ℕ → ℕ → List Function
 functions_from n t at = values_from function_record n t at
 
--- an accepted module, whose functions begin at `at`, with their count
-pub record FunctionsAt (t : List ℕ) (at : ℕ) : Type 0 where
+-- an accepted module, and the part that its functions are, with their count
+pub record FunctionsAt (t : List ℕ) (p : Part) : Type 0 where
   pub module-is : read_module t ≡ accepted (tables_of t)
-  pub here : at ≤ length t
+  pub here : p.start ≤ length t
   pub ends : ℕ
-  pub read : Got (list_of 2 function_record) t at (tables_of t).functions ends
+  pub read : Got (list_of 2 function_record) t p.start (tables_of t).functions ends
+  pub count : p.count ≡ length (tables_of t).functions

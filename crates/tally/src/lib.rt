@@ -8,14 +8,7 @@ ghost use Rattle.definitions.specs.Sheet.{is_question, is_call, one_if};
 ghost use Rattle.tally.specs.Walk.{Values, functions_from};
 ghost use Rattle.tally.specs.Counts.{Tallies};
 
-use reader::{Found, instruction_at, number_at};
-
-// The count of bytes of a text about a module, or a refusal.
-#[derive(Clone, Copy)]
-pub enum Listed {
-    Written(usize),
-    Refused(u8),
-}
+use reader::{instruction_at, number_at};
 
 // Where the code after some instructions begins, and the conditional jumps and calls among these.
 #[derive(Clone, Copy)]
@@ -80,29 +73,20 @@ pub fn count_code(bytes: &[u8], at: usize, n: u64) -> Tallied
     requires { Values instruction n bytes.now at }
     ensures { Tallies result n bytes.now at }
 {
-    let mut p = at;
-    let mut left = n;
-    let mut questions = 0u64;
-    let mut calls = 0u64;
-    while 0 < left {
-        let found = instruction_at(bytes, p);
-        let Found::Instruction(op, _, _, next) = found else {
-            return Tallied {
-                at: p,
-                questions: questions,
-                calls: calls,
-            };
+    let mut tallied = Tallied {
+        at,
+        questions: 0,
+        calls: 0,
+    };
+    for _ in 0..n {
+        let Some(instruction) = instruction_at(bytes, tallied.at) else {
+            return tallied;
         };
-        questions += question(op);
-        calls += call(op);
-        p = next;
-        left -= 1;
+        tallied.at = instruction.next;
+        tallied.questions += question(instruction.op);
+        tallied.calls += call(instruction.op);
     }
-    Tallied {
-        at: p,
-        questions: questions,
-        calls: calls,
-    }
+    tallied
 }
 
 // The instructions of `count` functions from `at` on.
@@ -111,14 +95,11 @@ pub fn count_functions(bytes: &[u8], at: usize, count: u64) -> u64
     ensures { (result ≡ instructions (functions_from count bytes.now at)) × (result ≤ length bytes.now) }
 {
     let mut p = at;
-    let mut left = count;
     let mut total = 0u64;
-    while 0 < left {
+    for _ in 0..count {
         let n = number_at(bytes, p + COUNT, 2);
-        let code = count_code(bytes, p + CODE, n);
-        p = code.at;
+        p = count_code(bytes, p + CODE, n).at;
         total += n;
-        left -= 1;
     }
     total
 }

@@ -19,8 +19,9 @@ use Rattle.parts.proofs.Laws.{le-or-gt}
 use Rattle.parts.proofs.Nodes.{got-node, got-reads}
 use Rattle.tree.specs.Settled.{said, without_block, settled, Headed}
 use Rattle.tree.specs.StmtAt.{block_at, TreeAt}
-use Rattle.tree.specs.declared.Checked.{Checked}
-use Rattle.tree.specs.declared.Checked.TheVariants.{Accepted, Refused}
+use Rattle.std.specs.Prelude.{Ok, Err}
+use Rattle.questions.specs.declared.Question.{Question}
+use Rattle.questions.specs.Numbers.{number}
 use Rattle.tree.proofs.TreeLaws.{head-two, head_three, head-count, head-four, head-version, head-fine}
 
 never : {A C : Type 0} {q : ℕ} {a : A} → refused q ≡ accepted a → C
@@ -73,7 +74,7 @@ module _ (t : List ℕ) (b : Block) (e : read_tree t ≡ accepted b) where
 
   body-got : block_of (parse_stmt 32) (drop 5 t) ≡ got b (drop (length t) t)
   unfolding Headed
-  body-got = whole_is (block_of (parse_stmt 32) (drop 5 t)) (sym (head-fine t high low small four refl refl counts five version).1 ∙ e) ∙ ap (got b) (sym (drop-length t))
+  body-got = whole_is (block_of (parse_stmt 32) (drop 5 t)) (sym (head-fine t high low tt small four refl refl counts five version).1 ∙ e) ∙ ap (got b) (sym (drop-length t))
 
 -- ---- questions 7 to 13
 
@@ -126,10 +127,10 @@ unfolding without_block when_accepted
 settled-refused (refused n) q e = ap refused (let z : n ≡ q = cc in z)
 settled-refused (accepted b) q e = never (sym e)
 
-pub answer-accepted : (r : Checked) (t : List ℕ) → said r ≡ settled t → r ≡ Accepted → TreeAt t
+pub answer-accepted : (t : List ℕ) (u : Unit {0}) → said (Ok u) ≡ settled t → TreeAt t
 unfolding said settled
-answer-accepted r t h e = let a = settled-accepted (check_tree t) (sym h ∙ ap said e) in view-tree t a.0 a.1
+answer-accepted t u h = let a = settled-accepted (check_tree t) (sym h) in view-tree t a.0 a.1
 
-pub answer-refused : (r : Checked) (t : List ℕ) (q : ℕ) → said r ≡ settled t → r ≡ Refused q → check_tree t ≡ refused q
+pub answer-refused : (t : List ℕ) (q : Question) → said (Err q) ≡ settled t → check_tree t ≡ refused (number q)
 unfolding said settled
-answer-refused r t q h e = settled-refused (check_tree t) q (sym h ∙ ap said e)
+answer-refused t q h = settled-refused (check_tree t) (number q) (sym h)

@@ -1,308 +1,214 @@
 // Statements by position: questions 5 to 13.
-ghost use Rattle.std.specs.Prelude.{◌≡◌, ◌≤◌, length};
-ghost use Rattle.parts.specs.Judge.{judge_expr, judge_assign, judge_attribute_list, judge_attributes, judge_attribute_value, judge_stmt, judge_block, judge_branch, judge_branches, judge_if, judge_for, judge_def, judge_method, judge_methods, judge_class};
+ghost use Rattle.parts.specs.Judge.{judge_assign, judge_attribute_list, judge_attributes, judge_attribute_value, judge_stmt, judge_block, judge_branch, judge_branches, judge_if, judge_for, judge_def, judge_method, judge_methods, judge_class};
+ghost use Rattle.parts.specs.Judged.{Judged};
 
 use exprs::check_expr;
-use numerals::{expr, stmt};
-use parts::names::check_name;
-use parts::numbers::number_at;
-use parts::params::{check_head, check_params};
-use parts::questions::noted;
-use parts::{Number, Passed, Role};
+use numerals::kinds::StmtKind;
+use parts::asked::BlockQuestion;
+use parts::checker::Checker;
+use parts::roles::Role;
+use questions::Question;
 
-// An assignment's target. A variable, of kind 6, needs no call of check_expr.
-fn check_target(tree: &[u8], at: usize, depth: u32, stand: u32) -> Passed
-    requires { at ≤ length tree.now }
-    ensures { result ≡ judge_expr Role.Target depth tree.now at stand }
-{
-    if depth != 0 {
-        if at < tree.len() {
-            if tree[at] == expr::VARIABLE {
-                return check_name(tree, at + 1, stand);
-            }
-        }
-    }
-    check_expr(tree, at, depth, Role::Target, stand)
-}
-
-// An assignment's value. None, False and True, of one byte each, need no call of check_expr.
-fn check_assigned(tree: &[u8], at: usize, depth: u32, stand: u32) -> Passed
-    requires { at ≤ length tree.now }
-    ensures { result ≡ judge_expr Role.Value depth tree.now at stand }
-{
-    if depth != 0 {
-        if at < tree.len() {
-            if tree[at] < expr::INT {
-                return Passed::Next(at + 1, stand);
-            }
-        }
-    }
-    check_expr(tree, at, depth, Role::Value, stand)
+// Where a statement stands: how many levels are left, and whether a loop of the same function is around.
+#[derive(Clone, Copy)]
+pub(crate) struct Context {
+    pub(crate) depth: u32,
+    pub(crate) looped: bool,
 }
 
 // A target and a value.
-fn check_assign(tree: &[u8], at: usize, depth: u32, stand: u32) -> Passed
-    requires { at ≤ length tree.now }
-    ensures { result ≡ judge_assign depth tree.now at stand }
+fn check_assign(c: &mut Checker<'_>, depth: u32) -> Result<(), Question>
+    ensures { Judged result c.old c.new (judge_assign depth) }
 {
-    let target = check_target(tree, at, depth, stand);
-    let Passed::Next(p, w) = target else {
-        return target;
-    };
-    check_assigned(tree, p, depth, w)
+    check_expr(c, depth, Role::Target)?;
+    check_expr(c, depth, Role::Value)
 }
 
 // A class attribute: a name and a value.
-fn check_value(tree: &[u8], at: usize, depth: u32, stand: u32) -> Passed
-    requires { at ≤ length tree.now }
-    ensures { result ≡ judge_attribute_value depth tree.now at stand }
+fn check_value(c: &mut Checker<'_>, depth: u32) -> Result<(), Question>
+    ensures { Judged result c.old c.new (judge_attribute_value depth) }
 {
-    let name = check_name(tree, at, stand);
-    let Passed::Next(p, w) = name else {
-        return name;
-    };
-    check_expr(tree, p, depth, Role::Value, w)
+    c.name()?;
+    check_expr(c, depth, Role::Value)
 }
 
 // n class attributes.
-fn check_values(tree: &[u8], at: usize, depth: u32, n: u32, stand: u32) -> Passed
-    requires { at ≤ length tree.now }
-    ensures { result ≡ judge_attributes depth tree.now n at stand }
+fn check_values(c: &mut Checker<'_>, depth: u32, n: u32) -> Result<(), Question>
+    ensures { Judged result c.old c.new (λ t p w. judge_attributes depth t n p w) }
 {
-    let mut p = at;
-    let mut left = n;
-    let mut w = stand;
-    while 0 < left {
-        let one = check_value(tree, p, depth, w);
-        let Passed::Next(next, v) = one else {
-            return one;
-        };
-        p = next;
-        w = v;
-        left -= 1;
+    for _ in 0..n {
+        check_value(c, depth)?;
     }
-    Passed::Next(p, w)
+    Ok(())
 }
 
 // A count of class attributes, and these.
-pub(crate) fn check_attributes(tree: &[u8], at: usize, depth: u32, stand: u32) -> Passed
-    requires { at ≤ length tree.now }
-    ensures { result ≡ judge_attribute_list depth tree.now at stand }
+pub(crate) fn check_attributes(c: &mut Checker<'_>, depth: u32) -> Result<(), Question>
+    ensures { Judged result c.old c.new (judge_attribute_list depth) }
 {
-    let count = number_at(tree, at);
-    match count {
-        Number::Unread(q) => Passed::Refused(q),
-        Number::Is(n, from) => check_values(tree, from, depth, n, stand),
-    }
+    let n = c.number()?;
+    check_values(c, depth, n)
 }
 
-// A statement with `depth` levels left; `looped` says whether a loop of the same function is around.
+// A statement.
 #[cycle(check)]
-pub(crate) fn check_stmt(tree: &[u8], at: usize, depth: u32, looped: bool, stand: u32) -> Passed
-    requires { at ≤ length tree.now }
-    ensures { result ≡ judge_stmt looped depth tree.now at stand }
+pub(crate) fn check_stmt(c: &mut Checker<'_>, context: Context) -> Result<(), Question>
+    ensures { Judged result c.old c.new (judge_stmt context.looped context.depth) }
 {
-    if tree.len() <= at {
-        return Passed::Refused(5);
-    }
+    let byte = c.byte()?;
+    let Context { depth, looped } = context;
     if depth == 0 {
-        return Passed::Refused(6);
+        return Err(Question::Depth);
     }
-    let kind = tree[at];
+    let Ok(kind) = StmtKind::try_from(byte) else {
+        return Err(Question::TreeLayout);
+    };
     match kind {
-        stmt::BREAK => return Passed::Next(at + 1, noted(stand, 9, looped)),
-        stmt::CONTINUE => return Passed::Next(at + 1, noted(stand, 9, looped)),
-        stmt::PASS => return Passed::Next(at + 1, stand),
-        stmt::EXPR => return check_expr(tree, at + 1, depth - 1, Role::Value, stand),
-        stmt::RETURN => return check_expr(tree, at + 1, depth - 1, Role::Value, stand),
-        stmt::ASSIGN => return check_assign(tree, at + 1, depth - 1, stand),
-        stmt::IF => return check_if(tree, at + 1, depth - 1, looped, stand),
-        stmt::WHILE => return check_branch(tree, at + 1, depth - 1, true, stand),
-        stmt::FOR => return check_for(tree, at + 1, depth - 1, stand),
-        stmt::DEF => return check_def(tree, at + 1, depth - 1, stand),
-        stmt::CLASS => return check_class(tree, at + 1, depth - 1, stand),
-        _ => return Passed::Refused(5),
+        StmtKind::Break | StmtKind::Continue => {
+            c.note(BlockQuestion::Loops, looped);
+            Ok(())
+        }
+        StmtKind::Pass => Ok(()),
+        StmtKind::Expr | StmtKind::Return => check_expr(c, depth - 1, Role::Value),
+        StmtKind::Assign => check_assign(c, depth - 1),
+        StmtKind::If => check_if(
+            c,
+            Context {
+                depth: depth - 1,
+                looped,
+            },
+        ),
+        StmtKind::While => check_branch(
+            c,
+            Context {
+                depth: depth - 1,
+                looped: true,
+            },
+        ),
+        StmtKind::For => check_for(c, depth - 1),
+        StmtKind::Def => check_def(c, depth - 1),
+        StmtKind::Class => check_class(c, depth - 1),
     }
 }
 
 // A block.
 #[cycle(check)]
-pub(crate) fn check_block(tree: &[u8], at: usize, depth: u32, looped: bool, stand: u32) -> Passed
-    requires { at ≤ length tree.now }
-    ensures { result ≡ judge_block looped depth tree.now at stand }
+pub(crate) fn check_block(c: &mut Checker<'_>, context: Context) -> Result<(), Question>
+    ensures { Judged result c.old c.new (judge_block context.looped context.depth) }
 {
-    let count = number_at(tree, at);
-    match count {
-        Number::Unread(q) => Passed::Refused(q),
-        Number::Is(n, from) => {
-            let mut p = from;
-            let mut left = n;
-            let mut w = stand;
-            while 0 < left {
-                let one = check_stmt(tree, p, depth, looped, w);
-                let Passed::Next(next, v) = one else {
-                    return one;
-                };
-                p = next;
-                w = v;
-                left -= 1;
-            }
-            Passed::Next(p, w)
-        }
+    let n = c.number()?;
+    for _ in 0..n {
+        check_stmt(c, context)?;
     }
+    Ok(())
 }
 
 // A condition and a block.
 #[cycle(check)]
-fn check_branch(tree: &[u8], at: usize, depth: u32, looped: bool, stand: u32) -> Passed
-    requires { at ≤ length tree.now }
-    ensures { result ≡ judge_branch looped depth tree.now at stand }
+fn check_branch(c: &mut Checker<'_>, context: Context) -> Result<(), Question>
+    ensures { Judged result c.old c.new (judge_branch context.looped context.depth) }
 {
-    let condition = check_expr(tree, at, depth, Role::Value, stand);
-    let Passed::Next(p, w) = condition else {
-        return condition;
-    };
-    check_block(tree, p, depth, looped, w)
+    check_expr(c, context.depth, Role::Value)?;
+    check_block(c, context)
 }
 
 // A first branch, a count of elifs, these, and an else block or none.
 #[cycle(check)]
-fn check_if(tree: &[u8], at: usize, depth: u32, looped: bool, stand: u32) -> Passed
-    requires { at ≤ length tree.now }
-    ensures { result ≡ judge_if looped depth tree.now at stand }
+fn check_if(c: &mut Checker<'_>, context: Context) -> Result<(), Question>
+    ensures { Judged result c.old c.new (judge_if context.looped context.depth) }
 {
-    let first = check_branch(tree, at, depth, looped, stand);
-    let Passed::Next(p, w) = first else {
-        return first;
-    };
-    let count = number_at(tree, p);
-    match count {
-        Number::Unread(q) => Passed::Refused(q),
-        Number::Is(n, from) => check_elifs(tree, from, depth, looped, n, w),
-    }
+    check_branch(c, context)?;
+    let n = c.number()?;
+    check_elifs(c, context, n)
 }
 
 // n elifs, and an else block or none.
 #[cycle(check)]
-fn check_elifs(tree: &[u8], at: usize, depth: u32, looped: bool, n: u32, stand: u32) -> Passed
-    requires { at ≤ length tree.now }
-    ensures { result ≡ judge_branches looped depth tree.now n at stand }
+fn check_elifs(c: &mut Checker<'_>, context: Context, n: u32) -> Result<(), Question>
+    ensures { Judged result c.old c.new (λ t p w. judge_branches context.looped context.depth t n p w) }
 {
-    let mut p = at;
-    let mut left = n;
-    let mut w = stand;
-    while 0 < left {
-        let one = check_branch(tree, p, depth, looped, w);
-        let Passed::Next(next, v) = one else {
-            return one;
-        };
-        p = next;
-        w = v;
-        left -= 1;
+    for _ in 0..n {
+        check_branch(c, context)?;
     }
-    check_else(tree, p, depth, looped, w)
+    check_else(c, context)
 }
 
 // The byte 0; or 1, and an else block.
 #[cycle(check)]
-fn check_else(tree: &[u8], at: usize, depth: u32, looped: bool, stand: u32) -> Passed
-    requires { at ≤ length tree.now }
-    ensures { result ≡ judge_branches looped depth tree.now 0 at stand }
+fn check_else(c: &mut Checker<'_>, context: Context) -> Result<(), Question>
+    ensures { Judged result c.old c.new (λ t p w. judge_branches context.looped context.depth t 0 p w) }
 {
-    if tree.len() <= at {
-        return Passed::Refused(5);
-    }
-    let kind = tree[at];
-    match kind {
-        0 => Passed::Next(at + 1, stand),
-        1 => check_block(tree, at + 1, depth, looped, stand),
-        _ => Passed::Refused(5),
+    match c.byte()? {
+        0 => Ok(()),
+        1 => check_block(c, context),
+        _ => Err(Question::TreeLayout),
     }
 }
 
 // A variable's name, an expression and a block.
 #[cycle(check)]
-fn check_for(tree: &[u8], at: usize, depth: u32, stand: u32) -> Passed
-    requires { at ≤ length tree.now }
-    ensures { result ≡ judge_for depth tree.now at stand }
+fn check_for(c: &mut Checker<'_>, depth: u32) -> Result<(), Question>
+    ensures { Judged result c.old c.new (judge_for depth) }
 {
-    let name = check_name(tree, at, stand);
-    let Passed::Next(p, w) = name else {
-        return name;
-    };
-    check_branch(tree, p, depth, true, w)
+    c.name()?;
+    check_branch(
+        c,
+        Context {
+            depth,
+            looped: true,
+        },
+    )
 }
 
 // A name, parameters and a block.
 #[cycle(check)]
-fn check_def(tree: &[u8], at: usize, depth: u32, stand: u32) -> Passed
-    requires { at ≤ length tree.now }
-    ensures { result ≡ judge_def depth tree.now at stand }
+fn check_def(c: &mut Checker<'_>, depth: u32) -> Result<(), Question>
+    ensures { Judged result c.old c.new (judge_def depth) }
 {
-    let name = check_name(tree, at, stand);
-    let Passed::Next(p, w) = name else {
-        return name;
-    };
-    let params = check_params(tree, p, w);
-    let Passed::Next(q, v) = params else {
-        return params;
-    };
-    check_block(tree, q, depth, false, v)
+    c.name()?;
+    c.params()?;
+    check_block(
+        c,
+        Context {
+            depth,
+            looped: false,
+        },
+    )
 }
 
 // A method.
 #[cycle(check)]
-fn check_method(tree: &[u8], at: usize, depth: u32, stand: u32) -> Passed
-    requires { at ≤ length tree.now }
-    ensures { result ≡ judge_method depth tree.now at stand }
+fn check_method(c: &mut Checker<'_>, depth: u32) -> Result<(), Question>
+    ensures { Judged result c.old c.new (judge_method depth) }
 {
-    let head = check_head(tree, at, stand);
-    let Passed::Next(p, w) = head else {
-        return head;
-    };
-    check_block(tree, p, depth, false, w)
+    c.head()?;
+    check_block(
+        c,
+        Context {
+            depth,
+            looped: false,
+        },
+    )
 }
 
 // n methods.
 #[cycle(check)]
-fn check_methods(tree: &[u8], at: usize, depth: u32, n: u32, stand: u32) -> Passed
-    requires { at ≤ length tree.now }
-    ensures { result ≡ judge_methods depth tree.now n at stand }
+fn check_methods(c: &mut Checker<'_>, depth: u32, n: u32) -> Result<(), Question>
+    ensures { Judged result c.old c.new (λ t p w. judge_methods depth t n p w) }
 {
-    let mut p = at;
-    let mut left = n;
-    let mut w = stand;
-    while 0 < left {
-        let one = check_method(tree, p, depth, w);
-        let Passed::Next(next, v) = one else {
-            return one;
-        };
-        p = next;
-        w = v;
-        left -= 1;
+    for _ in 0..n {
+        check_method(c, depth)?;
     }
-    Passed::Next(p, w)
+    Ok(())
 }
 
 // A name, a count of methods, these, and the attributes.
 #[cycle(check)]
-fn check_class(tree: &[u8], at: usize, depth: u32, stand: u32) -> Passed
-    requires { at ≤ length tree.now }
-    ensures { result ≡ judge_class depth tree.now at stand }
+fn check_class(c: &mut Checker<'_>, depth: u32) -> Result<(), Question>
+    ensures { Judged result c.old c.new (judge_class depth) }
 {
-    let name = check_name(tree, at, stand);
-    let Passed::Next(p, w) = name else {
-        return name;
-    };
-    let count = number_at(tree, p);
-    match count {
-        Number::Unread(q) => Passed::Refused(q),
-        Number::Is(n, from) => {
-            let methods = check_methods(tree, from, depth, n, w);
-            let Passed::Next(end, v) = methods else {
-                return methods;
-            };
-            check_attributes(tree, end, depth, v)
-        }
-    }
+    c.name()?;
+    let n = c.number()?;
+    check_methods(c, depth, n)?;
+    check_attributes(c, depth)
 }

@@ -1,16 +1,10 @@
-use native.Mathlib.Omega.{arith}
-use mathlib.Core.Path.{sym, ◌∙◌}
-use Rattle.byte_tests.proofs.Below.{below-ended, below-differ, below-go, below_all}
+use mathlib.Core.Path.{refl}
+use Rattle.std.specs.Ordering.{is_lt, nat_cmp}
+use Rattle.std.proofs.lemmas.Cmp.{same_from_slice_cmp_tested}
+use Rattle.definitions.specs.Bytes.{below}
+use Rattle.byte_tests.proofs.Below.{below_heads}
 use Rattle.byte_tests.proofs.below_bytes.Goals as goal
 
-pub returns-then-b-i : goal.returns-then-b-i
-returns-then-b-i c = sym (c.loop-i.invariant ∙ below-ended _ _ _ c.if-b-i.true)
-
-pub returns-then-a-i : goal.returns-then-a-i
-returns-then-a-i c = sym (c.loop-i.invariant ∙ below-differ _ _ _ c.loop-i-test.true (omega arith) c.if-a-i.true)
-
-pub loop-i-preserved : goal.loop-i-preserved
-loop-i-preserved c = c.loop-i.invariant ∙ below-go _ _ _ c.loop-i-test.true (omega arith) c.if-a-i.false
-
 pub returns : goal.returns
-returns c = sym (c.loop-i.invariant ∙ below_all _ _ _ c.loop-i-test.false)
+unfolding below
+returns c = same_from_slice_cmp_tested nat_cmp is_lt below refl (λ _ _. refl) (λ _ _. refl) below_heads c.args.a.now c.args.b.now c.lt.result c.lt.ensures

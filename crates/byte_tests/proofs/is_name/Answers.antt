@@ -1,25 +1,20 @@
-use native.Mathlib.Omega.{arith}
-use mathlib.Core.Path.{refl, sym, ◌∙◌}
-use Rattle.byte_tests.proofs.Names.{name-empty, name-long, name-bad-first, name-rest, all_go, all-stop, all_none}
+use mathlib.Core.Path.{sym, ◌∙◌}
+use Rattle.std.proofs.Common.{rules, tests}
+use Rattle.std.proofs.lemmas.Iterator.{YieldsList-from_slice}
+use Rattle.std.proofs.lemmas.Iterator.Search.{all_from_yields_List}
+use Rattle.byte_tests.proofs.Names.{inner, name_by_rest, name_empty, name_long, name_bad_first}
 use Rattle.byte_tests.proofs.is_name.Goals as goal
 
-pub returns-then-bytes-eq0 : goal.returns-then-bytes-eq0
-returns-then-bytes-eq0 c = name-empty _ c.if-bytes-eq0.true
+pub returns-in-len1-up : goal.returns-in-len1-up
+returns-in-len1-up c =
+    name_by_rest c.args.bytes.now _ c.in-len1-up.len_at_least c.if-inner-lt-MOST_BYTES.true (sym c.is_letter.ensures ∙ c.if-is_letter.true)
+    (all_from_yields_List inner _ _ _ c.all.ensures.ran (YieldsList-from_slice _ cc) (λ x b q k. search (rules, tests)))
 
-pub returns-then-bytes-gt64 : goal.returns-then-bytes-gt64
-returns-then-bytes-gt64 c = name-long _ c.if-bytes-gt64.true
+pub returns-in_default : goal.returns-in_default
+returns-in_default c = name_empty _ c.in_default.len_below
 
-pub returns-then-not-is_letter : goal.returns-then-not-is_letter
-returns-then-not-is_letter c = name-bad-first _ (omega arith) (sym c.is_letter.ensures ∙ c.if-not-is_letter.true)
+pub returns-in_default-2 : goal.returns-in_default-2
+returns-in_default-2 c = name_long _ c.in-len1-up.len_at_least c.if-inner-lt-MOST_BYTES.false
 
-pub loop-i-init : goal.loop-i-init
-loop-i-init c = (refl, omega arith)
-
-pub returns-then-not-is_inner : goal.returns-then-not-is_inner
-returns-then-not-is_inner c = name-rest _ _ (omega arith) (omega arith) (sym c.is_letter.ensures ∙ c.if-not-is_letter.false) (c.loop-i.invariant.0 ∙ all-stop _ _ _ c.loop-i-test.true (sym c.is_inner.ensures ∙ c.if-not-is_inner.true))
-
-pub loop-i-preserved : goal.loop-i-preserved
-loop-i-preserved c = (c.loop-i.invariant.0 ∙ all_go _ _ _ c.loop-i-test.true (sym c.is_inner.ensures ∙ c.if-not-is_inner.false), omega arith)
-
-pub returns : goal.returns
-returns c = name-rest _ _ (omega arith) (omega arith) (sym c.is_letter.ensures ∙ c.if-not-is_letter.false) (c.loop-i.invariant.0 ∙ all_none _ _ _ c.loop-i-test.false)
+pub returns-in_default-3 : goal.returns-in_default-3
+returns-in_default-3 c = name_bad_first _ c.in-len1-up.len_at_least (sym c.is_letter.ensures ∙ c.if-is_letter.false)

@@ -7,6 +7,3 @@ use Rattle.columns.proofs.put_field.Given as goal
 
 abbrev pub invariant-loop-i : goal.invariant-loop-i
 invariant-loop-i l = (l.i ≤ l.w) × (length (field_text l.rest) ≤ l.i) × Ended (right_in l.w (field_text l.initial.rest)) l.initial.out l.out (right_in l.i (field_text l.rest))
-
-abbrev pub decreases-loop-i : goal.decreases-loop-i
-decreases-loop-i l = l.i

@@ -1,47 +1,36 @@
+use mathlib.Core.Path.{refl}
+use native.Mathlib.Omega.{arith}
 use Rattle.state.specs.State.{names_at}
 use Rattle.state.specs.Kept.{keeping_of}
-use mathlib.Core.Path.{refl, ◌∙◌}
-use native.Mathlib.Omega.{arith}
 use Rattle.state.proofs.Growth.{lengthens-one}
 use Rattle.lower_emit.proofs.Packing.{instr-plain}
-use Rattle.lower_emit.proofs.Steps.{room-sound, put-lifts, sound-next, lowers-stopped, lowers-next}
-use Rattle.slots.proofs.Adding.{none-slots}
+use Rattle.lower_emit.proofs.Steps.{put-lifts, sound-next}
+use Rattle.lower_emit.proofs.Parts.{emits-stopped, emits-words, emits-no-words}
 use Rattle.lower_forms.proofs.Sequences.{plain-return}
+use Rattle.slots.proofs.Adding.{none-slots}
 use Rattle.compile.proofs.Compiling.{block-lowerable}
 use Rattle.compile.proofs.emit_main.Goals as goal
 
-pub emit_block-next-requires : goal.emit_block-next-requires
-unfolding names_at keeping_of
-emit_block-next-requires c = (
-  record { numbers = c.requires.0.numbers; ready = record { tree-short = c.requires.1.small; slotted = none-slots _ _ refl; sound = c.requires.0.sound } },
-  block-lowerable _ c.requires.1,
-  record { at = λ h. absurd (omega arith) },
-)
+pub invariant_of-s : goal.invariant_of-s
+invariant_of-s c = record { short = c.requires.1.small; slotted = none-slots _ _ refl }
 
-pub shape_of-code-then-next-eq0 : goal.shape_of-code-then-next-eq0
-unfolding names_at keeping_of
-shape_of-code-then-next-eq0 c = c.emit_block-next.auto.code
+pub emit_block-requires : goal.emit_block-requires
+emit_block-requires c = (c.requires.0, block-lowerable _ c.requires.1, record { at = λ h. absurd (omega arith) })
 
-pub shape_of-tables-then-next-eq0 : goal.shape_of-tables-then-next-eq0
+pub returns-in_err-next : goal.returns-in_err-next
 unfolding names_at keeping_of
-shape_of-tables-then-next-eq0 c = c.emit_block-next.auto.tables
+returns-in_err-next c = emits-stopped c.in_err-next.was c.from_residual.ensures c.requires.0 (lengthens-one _) c.emit_block.ensures.0
 
-pub returns-then-next-eq0 : goal.returns-then-next-eq0
+pub returns-in_err-put_op : goal.returns-in_err-put_op
 unfolding names_at keeping_of
-returns-then-next-eq0 c = let e = c.emit_block-next.ensures.0 in lowers-stopped c.if-next-eq0.true c.requires.0 (lengthens-one _) e
-
-pub put_op-requires : goal.put_op-requires
-unfolding names_at keeping_of
-put_op-requires c = let e = c.emit_block-next.ensures.0 in (room-sound (sound-next c.if-next-eq0.false e), omega arith, omega arith, omega arith)
-
-pub shape_of-code : goal.shape_of-code
-unfolding names_at keeping_of
-shape_of-code c = c.put_op.auto.code ∙ c.emit_block-next.auto.code
-
-pub shape_of-tables : goal.shape_of-tables
-unfolding names_at keeping_of
-shape_of-tables c = c.emit_block-next.auto.tables
+returns-in_err-put_op c =
+    let h = c.emit_block.ensures.0 in
+    let z = c.in_ok-next.was in
+    emits-no-words z c.in_err-put_op.was c.from_residual-in_err-put_op.ensures c.requires.0 h (put-lifts (sound-next z h.lowers.reaches) refl (instr-plain _ 33 0 0 plain-return) c.put_op.ensures)
 
 pub returns : goal.returns
 unfolding names_at keeping_of
-returns c = let e = c.emit_block-next.ensures.0 in lowers-next c.if-next-eq0.false c.requires.0 e (put-lifts _ (sound-next c.if-next-eq0.false e) (omega (arith, c.if-next-eq0.false)) (instr-plain _ 33 0 0 plain-return) c.put_op.ensures)
+returns c =
+    let h = c.emit_block.ensures.0 in
+    let z = c.in_ok-next.was in
+    emits-words z c.in_ok-put_op.was c.requires.0 h (put-lifts (sound-next z h.lowers.reaches) refl (instr-plain _ 33 0 0 plain-return) c.put_op.ensures)

@@ -1,33 +1,25 @@
--- Each way out, by what is left of the text.
-use Rattle.std.proofs.Common.{arith, sym, ap, ◌∙◌}
-use Rattle.digits.specs.Text.{digit_value, said}
-use Rattle.digits.proofs.Laws.{decimal-empty, decimal-start, rest-next, rest-bad, rest_over, rest_end}
+-- The library's number, where no plus stands in front; none for what is no text.
+use Rattle.std.proofs.Common.{◌≡◌, arith, sym, ap, get_or, ◌∙◌}
+use Rattle.std.proofs.lemmas.Bool.Decides.{nat_tests}
+use Rattle.digits.specs.Text.{decimal}
+use Rattle.digits.proofs.Laws.{not_utf8-none, plus-none, parsed, no_text, some_text}
 use Rattle.digits.proofs.decimal_of.Goals as goal
 
-pub returns-then-text-eq0 : goal.returns-then-text-eq0
-unfolding said
-returns-then-text-eq0 c = decimal-empty _ c.if-text-eq0.true
+pub returns-in_err-number : goal.returns-in_err-number
+returns-in_err-number c =
+    let n = no_text _ _ c.from_utf8.result (sym c.ok.ensures.value ∙ c.in_err-number.was) c.from_utf8.ensures.cases in
+    c.from_residual.ensures ∙ not_utf8-none c.args.text.now n.1.0
 
-pub loop-i-init : goal.loop-i-init
-loop-i-init c = (omega arith, decimal-start _ c.if-text-eq0.false)
-
-pub returns-then-digit-gt9 : goal.returns-then-digit-gt9
-unfolding said
-returns-then-digit-gt9 c =
-    let l = c.loop-i in let e = c.digit_of-digit.ensures ∙ ap digit_value c.wide.ensures.0 in
-    sym (l.invariant.1 ∙ rest-bad c.args.text.now l.value l.i _ c.loop-i-test.true e c.if-digit-gt9.true)
-
-pub returns-then-digit-value : goal.returns-then-digit-value
-unfolding said
-returns-then-digit-value c =
-    let l = c.loop-i in let e = c.digit_of-digit.ensures ∙ ap digit_value c.wide.ensures.0 in
-    sym (l.invariant.1 ∙ rest_over c.args.text.now l.value l.i _ c.loop-i-test.true e (omega arith))
-
-pub loop-i-preserved : goal.loop-i-preserved
-loop-i-preserved c =
-    let l = c.loop-i in let e = c.digit_of-digit.ensures ∙ ap digit_value c.wide.ensures.0 in
-    (omega arith, l.invariant.1 ∙ rest-next c.args.text.now l.value l.i _ c.loop-i-test.true e c.if-digit-gt9.false)
+pub returns-then-starts_with : goal.returns-then-starts_with
+returns-then-starts_with c =
+    let n = some_text _ _ c.from_utf8.result _ (sym c.ok.ensures.value ∙ c.in_ok-number.was) c.from_utf8.ensures.cases in
+    let b = c.if-starts_with.ensures.byte (omega arith) (omega arith) (λ w o h. h) in
+    let e : get_or c.in_ok-number.number.now 0 0 ≡ 43 = grind (arith, nat_tests, b) in
+    plus-none c.args.text.now (rw (← n.0) e)
 
 pub returns : goal.returns
-unfolding said
-returns c = let l = c.loop-i in sym (l.invariant.1 ∙ rest_end _ l.value l.i c.loop-i-test.false l.invariant.0)
+returns c =
+    let n = some_text _ _ c.from_utf8.result _ (sym c.ok.ensures.value ∙ c.in_ok-number.was) c.from_utf8.ensures.cases in
+    let b = c.if-starts_with.ensures.byte (omega arith) (omega arith) (λ w o h. h) in
+    let e : get_or c.in_ok-number.number.now 0 0 ≡ 43 → ⊥ = λ z. grind (arith, nat_tests, b) in
+    c.ok-2.ensures.value ∙ parsed c.in_ok-number.number.now _ c.from_str_radix.ensures.value e ∙ ap decimal n.0

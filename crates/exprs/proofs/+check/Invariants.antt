@@ -1,7 +1,6 @@
-use mathlib.Core.Path.{◌≡◌}
-use Prim.Native.Nat.{◌+◌, ◌*◌, ◌≤◌}
-use lib.ListN.{length}
-use Rattle.parts.specs.Judge.{judge_many}
+use Prim.Native.Nat.{◌+◌, ◌*◌}
+use Rattle.parts.proofs.Steps.{Along}
+use Rattle.exprs.proofs.Checking.{many}
 use Rattle.exprs.proofs.+check.Given as goal
 
 abbrev pub decreases-check_attribute : goal.decreases-check_attribute
@@ -35,7 +34,7 @@ abbrev pub decreases-check_unary : goal.decreases-check_unary
 decreases-check_unary l = 4 * l.depth + 1
 
 abbrev pub invariant-check_many-loop-left : goal.invariant-check_many-loop-left
-invariant-check_many-loop-left l = (judge_many l.role l.depth l.tree l.initial.left l.initial.p l.initial.w ≡ judge_many l.role l.depth l.tree l.left l.p l.w) × (l.p ≤ length l.tree)
+invariant-check_many-loop-left l = Along (many l.role l.depth) l.n l.left l.initial.c l.c
 
 abbrev pub decreases-check_many-loop-left : goal.decreases-check_many-loop-left
 decreases-check_many-loop-left l = l.left

@@ -1,6 +1,6 @@
 use Prim.Native.Nat.{◌+◌, ◌*◌}
-use Rattle.lower_expr.proofs.Several.{ExprsRest}
 use Rattle.state.specs.State.{slot_names}
+use Rattle.lower_expr.proofs.Several.{ExprsRest}
 use Rattle.lower_expr.proofs.+emit.Given as goal
 
 abbrev pub decreases-emit_args : goal.decreases-emit_args
@@ -52,7 +52,7 @@ abbrev pub decreases-emit_unary : goal.decreases-emit_unary
 decreases-emit_unary l = 8 * l.depth + 1
 
 abbrev pub invariant-emit_exprs-loop-left : goal.invariant-emit_exprs-loop-left
-invariant-emit_exprs-loop-left l = ExprsRest l.depth l.tree (slot_names l.tree l.slots) l.initial.made l.initial.code l.initial.tables l.initial.k l.l l.initial.left l.initial.p l.made l.code l.tables l.k l.left l.p
+invariant-emit_exprs-loop-left l = ExprsRest l.depth l.s.tree.now (slot_names l.s.tree.now l.s.slots.now) l.initial.e l.initial.left l.initial.p l.e l.left l.p
 
 abbrev pub decreases-emit_exprs-loop-left : goal.decreases-emit_exprs-loop-left
 decreases-emit_exprs-loop-left l = l.left

@@ -1,19 +1,19 @@
-use mathlib.Core.Path.{refl}
+use mathlib.Core.Path.{ap}
+use mathlib.Core.Logic.{inl, inr}
+use Rattle.state.specs.Words.{name_at}
+use Rattle.state.specs.State.{slot_names}
+use Rattle.lower_forms.specs.Lowerable.{load_callee}
 use Rattle.lower_emit.proofs.Steps.{lowers-by, lowers-nothing}
-use Rattle.lower_names.proofs.Callees.{load-builtin, load-function, load_value}
+use Rattle.lower_names.specs.declared.Callee.{Callee}
+use Rattle.lower_names.specs.Naming.{callee_of}
 use Rattle.lower_names.proofs.load_callee.Goals as goal
 
-pub returns-then-callee-eq-CALL_BUILTIN : goal.returns-then-callee-eq-CALL_BUILTIN
-returns-then-callee-eq-CALL_BUILTIN c = lowers-by (lowers-nothing c.requires.3 c.requires.0) (load-builtin _ _ _ c.if-callee-eq-CALL_BUILTIN.true) refl
+pub returns-in-Value : goal.returns-in-Value
+unfolding load_callee callee_of
+returns-in-Value c = let a = c.args in lowers-by c.emit_load.ensures (ap (λ (k : Callee). load_callee (callee_of k) (slot_names a.s.tree.now a.s.slots.now) (name_at a.s.tree.now a.at)) c.in-Value.is)
 
-pub returns-then-callee-eq-CALL : goal.returns-then-callee-eq-CALL
-returns-then-callee-eq-CALL c = lowers-by (lowers-nothing c.requires.3 c.requires.0) (load-function _ _ _ c.if-callee-eq-CALL_BUILTIN.false c.if-callee-eq-CALL.true) refl
-
-pub shape_of-code : goal.shape_of-code
-shape_of-code c = c.emit_load.auto.code
-
-pub shape_of-tables : goal.shape_of-tables
-shape_of-tables c = c.emit_load.auto.tables
-
-pub returns : goal.returns
-returns c = lowers-by c.emit_load.ensures (load_value _ _ _ c.if-callee-eq-CALL_BUILTIN.false c.if-callee-eq-CALL.false) refl
+pub returns-in-Builtin : goal.returns-in-Builtin
+unfolding load_callee callee_of
+returns-in-Builtin c = let a = c.args in
+    let by = λ (k : Callee). load_callee (callee_of k) (slot_names a.s.tree.now a.s.slots.now) (name_at a.s.tree.now a.at) in
+    elim c.in-Builtin.is [ inl h ↦ lowers-by (lowers-nothing c.requires.0) (ap by h.1) | inr h ↦ lowers-by (lowers-nothing c.requires.0) (ap by h.1) ]

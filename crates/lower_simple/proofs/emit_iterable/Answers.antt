@@ -1,29 +1,12 @@
-use mathlib.Core.Path.{◌∙◌}
-use native.Mathlib.Omega.{arith}
-use Rattle.lower_emit.proofs.Steps.{sound-of, sound-next, lowers-stopped, lowers-next}
 use Rattle.state.proofs.Growth.{lengthens-make_iter}
+use Rattle.lower_emit.proofs.Parts.{emits-stopped, emits-words, emits-no-words}
 use Rattle.lower_simple.proofs.emit_iterable.Goals as goal
 
-pub emit_expr-next-requires : goal.emit_expr-next-requires
-emit_expr-next-requires c = (c.requires.0, c.requires.1)
+pub returns-in_err-next : goal.returns-in_err-next
+returns-in_err-next c = emits-stopped c.in_err-next.was c.from_residual.ensures c.requires.0 lengthens-make_iter c.emit_expr.ensures
 
-pub shape_of-code-then-next-eq0 : goal.shape_of-code-then-next-eq0
-shape_of-code-then-next-eq0 c = c.emit_expr-next.auto.code
-
-pub shape_of-tables-then-next-eq0 : goal.shape_of-tables-then-next-eq0
-shape_of-tables-then-next-eq0 c = c.emit_expr-next.auto.tables
-
-pub returns-then-next-eq0 : goal.returns-then-next-eq0
-returns-then-next-eq0 c = lowers-stopped c.if-next-eq0.true (sound-of c.requires.0) lengthens-make_iter c.emit_expr-next.ensures
-
-pub make_iterator-requires : goal.make_iterator-requires
-make_iterator-requires c = let e = c.emit_expr-next.ensures in (sound-next c.if-next-eq0.false e, omega (arith, c.if-next-eq0.false))
-
-pub shape_of-code : goal.shape_of-code
-shape_of-code c = c.make_iterator.auto.code ∙ c.emit_expr-next.auto.code
-
-pub shape_of-tables : goal.shape_of-tables
-shape_of-tables c = c.make_iterator.auto.tables ∙ c.emit_expr-next.auto.tables
+pub returns-in_err-make_iterator : goal.returns-in_err-make_iterator
+returns-in_err-make_iterator c = emits-no-words c.in_ok-next.was c.in_err-make_iterator.was c.from_residual-in_err-make_iterator.ensures c.requires.0 c.emit_expr.ensures c.make_iterator.ensures
 
 pub returns : goal.returns
-returns c = let e = c.emit_expr-next.ensures in lowers-next c.if-next-eq0.false (sound-of c.requires.0) e c.make_iterator.ensures
+returns c = emits-words c.in_ok-next.was c.in_ok-make_iterator.was c.requires.0 c.emit_expr.ensures c.make_iterator.ensures

@@ -1,29 +1,13 @@
-use mathlib.Core.Path.{◌∙◌}
-use native.Mathlib.Omega.{arith}
 use Rattle.state.proofs.Growth.{lengthens-one}
-use Rattle.lower_emit.proofs.Steps.{sound-of, room-sound, put-lifts, sound-next, lowers-stopped, lowers-next}
+use Rattle.lower_emit.proofs.Parts.{emits-stopped}
+use Rattle.lower_expr.proofs.Words.{word-ends, word-over}
 use Rattle.lower_simple.proofs.emit_value.Goals as goal
 
-pub emit_expr-next-requires : goal.emit_expr-next-requires
-emit_expr-next-requires c = (c.requires.0, c.requires.1)
+pub returns-in_err-next : goal.returns-in_err-next
+returns-in_err-next c = emits-stopped c.in_err-next.was c.from_residual.ensures c.requires.0 (lengthens-one _) c.emit_expr.ensures
 
-pub shape_of-code-then-next-eq0 : goal.shape_of-code-then-next-eq0
-shape_of-code-then-next-eq0 c = c.emit_expr-next.auto.code
-
-pub shape_of-tables-then-next-eq0 : goal.shape_of-tables-then-next-eq0
-shape_of-tables-then-next-eq0 c = c.emit_expr-next.auto.tables
-
-pub returns-then-next-eq0 : goal.returns-then-next-eq0
-returns-then-next-eq0 c = lowers-stopped c.if-next-eq0.true (sound-of c.requires.0) (lengthens-one _) c.emit_expr-next.ensures
-
-pub put_op-requires : goal.put_op-requires
-put_op-requires c = let e = c.emit_expr-next.ensures in (room-sound (sound-next c.if-next-eq0.false e), c.requires.2, omega arith, omega arith)
-
-pub shape_of-code : goal.shape_of-code
-shape_of-code c = c.put_op.auto.code ∙ c.emit_expr-next.auto.code
-
-pub shape_of-tables : goal.shape_of-tables
-shape_of-tables c = c.emit_expr-next.auto.tables
+pub returns-in_err-put_op : goal.returns-in_err-put_op
+returns-in_err-put_op c = word-over c.in_ok-next.was c.requires.0 c.emit_expr.ensures (c.requires.3 _) c.put_op.ensures c.in_err-put_op.was c.from_residual-in_err-put_op.ensures
 
 pub returns : goal.returns
-returns c = let e = c.emit_expr-next.ensures in lowers-next c.if-next-eq0.false (sound-of c.requires.0) e (put-lifts _ (sound-next c.if-next-eq0.false e) (omega (arith, c.if-next-eq0.false)) (c.requires.3 _) c.put_op.ensures)
+returns c = word-ends c.in_ok-next.was c.requires.0 c.emit_expr.ensures (c.requires.3 _) c.put_op.ensures c.in_ok-put_op.was

@@ -1,8 +1,9 @@
-use Prim.Native.Nat.{◌+◌, ◌*◌}
-use Rattle.lower_stmt.proofs.Sequence.{StmtsRest}
-use Rattle.lower_stmt.proofs.Nested.{MethodsRest}
+-- How deep each function may still go, and what its loop keeps.
+use Prim.Native.Nat.{◌+◌, ◌*◌, ◌-◌}
 use Rattle.state.specs.State.{slot_names}
+use Rattle.lower_stmt.proofs.Sequence.{StmtsRest}
 use Rattle.lower_stmt.proofs.Branches.{ChainRest}
+use Rattle.lower_stmt.proofs.Classes.{MethodsRest}
 use Rattle.lower_stmt.proofs.+emit.Given as goal
 
 abbrev pub decreases-compile_function : goal.decreases-compile_function
@@ -39,7 +40,7 @@ abbrev pub decreases-emit_rounds : goal.decreases-emit_rounds
 decreases-emit_rounds l = 8 * l.depth + 3
 
 abbrev pub decreases-emit_stmt : goal.decreases-emit_stmt
-decreases-emit_stmt l = 8 * l.depth + 0
+decreases-emit_stmt l = 8 * l.depth
 
 abbrev pub decreases-emit_stmts : goal.decreases-emit_stmts
 decreases-emit_stmts l = 8 * l.depth + 1
@@ -47,23 +48,11 @@ decreases-emit_stmts l = 8 * l.depth + 1
 abbrev pub decreases-emit_while : goal.decreases-emit_while
 decreases-emit_while l = 8 * l.depth + 3
 
-abbrev pub invariant-emit_elifs-loop-left : goal.invariant-emit_elifs-loop-left
-invariant-emit_elifs-loop-left l =
-    ChainRest l.depth l.tree (slot_names l.tree l.slots) l.initial.made l.initial.code l.initial.tables l.initial.k l.l l.initial.it l.initial.left l.initial.p l.made l.code l.tables l.k l.it l.left l.p
+abbrev pub invariant-emit_elifs-loop : goal.invariant-emit_elifs-loop
+invariant-emit_elifs-loop l = ChainRest l.depth l.s.tree.now (slot_names l.s.tree.now l.s.slots.now) l.initial.e l.initial.it l.n l.at l.e l.it (l.n - l.counter) l.p
 
-abbrev pub decreases-emit_elifs-loop-left : goal.decreases-emit_elifs-loop-left
-decreases-emit_elifs-loop-left l = l.left
+abbrev pub invariant-emit_methods-loop : goal.invariant-emit_methods-loop
+invariant-emit_methods-loop l = MethodsRest l.depth l.tree l.initial.e l.n l.at l.e l.list (l.n - l.counter) l.p l.count
 
-abbrev pub invariant-emit_methods-loop-left : goal.invariant-emit_methods-loop-left
-invariant-emit_methods-loop-left l =
-    MethodsRest l.depth l.tree l.initial.made l.initial.code l.initial.tables l.initial.k l.l l.initial.list l.initial.left l.initial.p l.made l.code l.tables l.k l.list l.left l.p l.count
-
-abbrev pub decreases-emit_methods-loop-left : goal.decreases-emit_methods-loop-left
-decreases-emit_methods-loop-left l = l.left
-
-abbrev pub invariant-emit_stmts-loop-left : goal.invariant-emit_stmts-loop-left
-invariant-emit_stmts-loop-left l =
-    StmtsRest l.depth l.tree (slot_names l.tree l.slots) l.initial.made l.initial.code l.initial.tables l.initial.k l.l l.initial.it l.initial.left l.initial.p l.made l.code l.tables l.k l.it l.left l.p
-
-abbrev pub decreases-emit_stmts-loop-left : goal.decreases-emit_stmts-loop-left
-decreases-emit_stmts-loop-left l = l.left
+abbrev pub invariant-emit_stmts-loop : goal.invariant-emit_stmts-loop
+invariant-emit_stmts-loop l = StmtsRest l.depth l.s.tree.now (slot_names l.s.tree.now l.s.slots.now) l.initial.e l.initial.it l.count l.at l.e l.it (l.count - l.counter) l.p

@@ -1,57 +1,31 @@
 use Prim.Native.Nat.{ℕ, ◌+◌, ◌-◌}
-use mathlib.Core.Path.{refl, sym, ap, ◌∙◌}
+use mathlib.Core.Path.{sym, ap}
 use native.Mathlib.Omega.{arith}
 use Rattle.definitions.specs.Lower.{unpack}
 use Rattle.state.specs.State.{slot_names}
 use Rattle.state.proofs.Growth.{lengthens-unpack}
-use Rattle.lower_forms.proofs.ExprArms.{lowerable-at}
+use Rattle.lower_emit.proofs.Steps.{lowers-by}
+use Rattle.lower_emit.proofs.Parts.{emits-stopped, emits-words, emits-no-words}
 use Rattle.lower_forms.specs.Elements.{elements_at}
 use Rattle.lower_forms.proofs.Unpacking.{tuple-read}
-use Rattle.lower_emit.proofs.Steps.{sound-of, ready-next, lowers-stopped, lowers-by, lowers-next}
+use Rattle.lower_expr.proofs.Words.{sound-after}
 use Rattle.lower_targets.proofs.Assigned.{expr-by}
 use Rattle.lower_targets.proofs.assign_tuple.Goals as goal
 
-pub overflow_add-at : goal.overflow_add-at
-overflow_add-at c = omega (arith, c.requires.1.elements.count.bytes, c.requires.0.ready.tree-short)
-
-pub u16_at-n-requires : goal.u16_at-n-requires
-u16_at-n-requires c = c.requires.1.elements.count
-
-pub skip_expr-start-requires : goal.skip_expr-start-requires
-skip_expr-start-requires c = c.requires.1.target
-
-pub emit_expr-next-requires : goal.emit_expr-next-requires
-emit_expr-next-requires c = (c.requires.0, lowerable-at _ _ _ _ c.skip_expr-start.ensures c.requires.1.value)
-
-pub shape_of-code-then-next-eq0 : goal.shape_of-code-then-next-eq0
-shape_of-code-then-next-eq0 c = c.emit_expr-next.auto.code
-
-pub shape_of-tables-then-next-eq0 : goal.shape_of-tables-then-next-eq0
-shape_of-tables-then-next-eq0 c = c.emit_expr-next.auto.tables
-
-pub returns-then-next-eq0 : goal.returns-then-next-eq0
-returns-then-next-eq0 c =
-    let y = expr-by c.args.depth c.args.tree.now (slot_names c.args.tree.now c.args.slots.now) _ _ c.skip_expr-start.ensures c.emit_expr-next.ensures in
-    lowers-stopped c.if-next-eq0.true (sound-of c.requires.0) (lengthens-unpack _ _ _) y
-
-pub overflow_add-at-2 : goal.overflow_add-at-2
-overflow_add-at-2 c = omega (arith, c.requires.1.elements.count.bytes, c.requires.0.ready.tree-short)
-
-pub overflow_sub-depth : goal.overflow_sub-depth
-overflow_sub-depth c = c.requires.1.deep
+pub returns-in_err-next : goal.returns-in_err-next
+returns-in_err-next c = emits-stopped c.in_err-next.was c.from_residual.ensures c.requires.0 (lengthens-unpack _ _ _) (expr-by _ _ c.skip_expr-start.ensures c.emit_expr.ensures)
 
 pub emit_elements-requires : goal.emit_elements-requires
-emit_elements-requires c =
-    let y = expr-by c.args.depth c.args.tree.now (slot_names c.args.tree.now c.args.slots.now) _ _ c.skip_expr-start.ensures c.emit_expr-next.ensures in
-    let u = c.u16_at-n.ensures in (ready-next c.if-next-eq0.false c.requires.0 y, tuple-read _ _ _ _ u.0 c.requires.1.elements, omega (arith, u.1), omega (arith, c.if-next-eq0.false))
+emit_elements-requires c = let u = c.u16_at-n.ensures in (sound-after c.in_ok-next.was c.emit_expr.ensures, tuple-read _ _ _ _ u.0 c.requires.1.elements, omega (arith, u.1))
 
-pub shape_of-code : goal.shape_of-code
-shape_of-code c = c.emit_elements.auto.code ∙ c.emit_expr-next.auto.code
-
-pub shape_of-tables : goal.shape_of-tables
-shape_of-tables c = c.emit_elements.auto.tables ∙ c.emit_expr-next.auto.tables
+pub returns-in_err-emit_elements : goal.returns-in_err-emit_elements
+returns-in_err-emit_elements c =
+    let s = c.args.s in
+    emits-no-words c.in_ok-next.was c.in_err-emit_elements.was c.from_residual-in_err-emit_elements.ensures c.requires.0 (expr-by _ _ c.skip_expr-start.ensures c.emit_expr.ensures)
+    (lowers-by c.emit_elements.ensures (ap (λ (m : ℕ). unpack (slot_names s.tree.now s.slots.now) (elements_at (c.args.depth - 1) s.tree.now m (c.args.at + 3)) 0) (sym c.u16_at-n.ensures.0)))
 
 pub returns : goal.returns
 returns c =
-    let y = expr-by c.args.depth c.args.tree.now (slot_names c.args.tree.now c.args.slots.now) _ _ c.skip_expr-start.ensures c.emit_expr-next.ensures in
-    lowers-next c.if-next-eq0.false (sound-of c.requires.0) y (lowers-by c.emit_elements.ensures (ap (λ (m : ℕ). unpack (slot_names c.args.tree.now c.args.slots.now) (elements_at (c.args.depth - 1) c.args.tree.now m (c.args.at + 3)) 0) (sym c.u16_at-n.ensures.0)) refl)
+    let s = c.args.s in
+    emits-words c.in_ok-next.was c.in_ok-emit_elements.was c.requires.0 (expr-by _ _ c.skip_expr-start.ensures c.emit_expr.ensures)
+    (lowers-by c.emit_elements.ensures (ap (λ (m : ℕ). unpack (slot_names s.tree.now s.slots.now) (elements_at (c.args.depth - 1) s.tree.now m (c.args.at + 3)) 0) (sym c.u16_at-n.ensures.0)))

@@ -1,81 +1,39 @@
-use mathlib.Core.Path.{◌∙◌}
-use native.Mathlib.Omega.{arith}
 use Rattle.exprs.proofs.ExprViews.{expr-inside}
 use Rattle.state.specs.State.{slot_names}
 use Rattle.state.proofs.Growth.{lengthens-store}
+use Rattle.lower_emit.proofs.Steps.{lowers_then}
+use Rattle.lower_emit.proofs.Parts.{emits-stopped, emits-words, emits-no-words, words-stopped, words-end, words-none}
 use Rattle.lower_forms.proofs.ExprArms.{lowerable-at}
-use Rattle.lower_emit.proofs.Steps.{sound-of, room_of, sound-next, lowers-stopped, lowers-next}
-use Rattle.lower_targets.proofs.Assigned.{expr-by, constant-lowers}
+use Rattle.lower_targets.proofs.Assigned.{expr-by, constant-lowers, constant-end}
 use Rattle.lower_targets.proofs.assign_variable.Goals as goal
 
-pub name_end-start-requires : goal.name_end-start-requires
-name_end-start-requires c = c.requires.1.name
+pub bounds-s-start : goal.bounds-s-start
+bounds-s-start c = expr-inside _ _ _ (lowerable-at _ _ _ _ c.name_end-start.ensures c.requires.1.value).reads
 
-pub bounds-tree-start : goal.bounds-tree-start
-bounds-tree-start c = let v = lowerable-at _ _ _ _ c.name_end-start.ensures c.requires.1.value in expr-inside _ _ _ v.reads
+pub returns-in_err-put_op : goal.returns-in_err-put_op
+returns-in_err-put_op c =
+    let s = c.args.s in
+    let h = constant-lowers c.name_end-start.ensures c.requires.1.value c.if-kind-lt-INT.true (slot_names s.tree.now s.slots.now) c.requires.0 c.put_op.ensures in
+    words-stopped c.in_err-put_op.was c.from_residual.ensures c.requires.0 (lengthens-store _ _) h
 
-pub overflow_sub-kind : goal.overflow_sub-kind
-overflow_sub-kind c = omega (arith, c.if-kind-lt-INT.true)
-
-pub overflow_add-start : goal.overflow_add-start
-overflow_add-start c = let v = lowerable-at _ _ _ _ c.name_end-start.ensures c.requires.1.value in omega (arith, expr-inside _ _ _ v.reads, c.requires.0.ready.tree-short)
-
-pub put_op-p-requires : goal.put_op-p-requires
-put_op-p-requires c = (room_of c.requires.0, omega arith, omega arith, omega arith)
-
-pub shape_of-code-then-p-eq0 : goal.shape_of-code-then-p-eq0
-shape_of-code-then-p-eq0 c = c.put_op-p.auto.code
-
-pub returns-then-p-eq0 : goal.returns-then-p-eq0
-returns-then-p-eq0 c =
-    let v = lowerable-at _ _ _ _ c.name_end-start.ensures c.requires.1.value in
-    lowers-stopped c.if-p-eq0.true (sound-of c.requires.0) (lengthens-store _ _) (expr-by c.args.depth c.args.tree.now (slot_names c.args.tree.now c.args.slots.now) _ _ c.name_end-start.ensures (constant-lowers c.args.depth (slot_names c.args.tree.now c.args.slots.now) _ (sound-of c.requires.0) v c.if-kind-lt-INT.true c.put_op-p.ensures))
-
-pub emit_store-requires : goal.emit_store-requires
-emit_store-requires c =
-    let v = lowerable-at _ _ _ _ c.name_end-start.ensures c.requires.1.value in (
-      sound-next c.if-p-eq0.false (expr-by c.args.depth c.args.tree.now (slot_names c.args.tree.now c.args.slots.now) _ _ c.name_end-start.ensures (constant-lowers c.args.depth (slot_names c.args.tree.now c.args.slots.now) _ (sound-of c.requires.0) v c.if-kind-lt-INT.true c.put_op-p.ensures)),
-      c.requires.0.ready.slotted,
-      omega (arith, c.requires.1.name.byte, c.requires.0.ready.tree-short),
-      omega (arith, c.if-p-eq0.false),
-    )
-
-pub shape_of-code-then-kind-lt-INT : goal.shape_of-code-then-kind-lt-INT
-shape_of-code-then-kind-lt-INT c = c.emit_store.auto.code ∙ c.put_op-p.auto.code
-
-pub shape_of-tables-then-kind-lt-INT : goal.shape_of-tables-then-kind-lt-INT
-shape_of-tables-then-kind-lt-INT c = c.emit_store.auto.tables
+pub returns-in_err-emit_store : goal.returns-in_err-emit_store
+returns-in_err-emit_store c =
+    let s = c.args.s in
+    let h = constant-lowers c.name_end-start.ensures c.requires.1.value c.if-kind-lt-INT.true (slot_names s.tree.now s.slots.now) c.requires.0 c.put_op.ensures in
+    words-none c.in_err-emit_store.was c.from_residual-in_err-emit_store.ensures (lowers_then c.in_ok-put_op.was c.requires.0 h c.emit_store.ensures)
 
 pub returns-then-kind-lt-INT : goal.returns-then-kind-lt-INT
 returns-then-kind-lt-INT c =
-    let v = lowerable-at _ _ _ _ c.name_end-start.ensures c.requires.1.value in
-    lowers-next c.if-p-eq0.false (sound-of c.requires.0) (expr-by c.args.depth c.args.tree.now (slot_names c.args.tree.now c.args.slots.now) _ _ c.name_end-start.ensures (constant-lowers c.args.depth (slot_names c.args.tree.now c.args.slots.now) _ (sound-of c.requires.0) v c.if-kind-lt-INT.true c.put_op-p.ensures)) c.emit_store.ensures
+    let s = c.args.s in
+    let h = constant-lowers c.name_end-start.ensures c.requires.1.value c.if-kind-lt-INT.true (slot_names s.tree.now s.slots.now) c.requires.0 c.put_op.ensures in
+    words-end c.in_ok-emit_store.was (constant-end c.name_end-start.ensures c.requires.1.value c.if-kind-lt-INT.true) (lowers_then c.in_ok-put_op.was c.requires.0 h c.emit_store.ensures)
 
-pub emit_expr-next-requires : goal.emit_expr-next-requires
-emit_expr-next-requires c = let v = lowerable-at _ _ _ _ c.name_end-start.ensures c.requires.1.value in (c.requires.0, v)
+pub returns-in_err-next : goal.returns-in_err-next
+returns-in_err-next c = emits-stopped c.in_err-next.was c.from_residual-in_err-next.ensures c.requires.0 (lengthens-store _ _) (expr-by _ _ c.name_end-start.ensures c.emit_expr.ensures)
 
-pub shape_of-code-then-next-eq0 : goal.shape_of-code-then-next-eq0
-shape_of-code-then-next-eq0 c = c.emit_expr-next.auto.code
-
-pub shape_of-tables-then-next-eq0 : goal.shape_of-tables-then-next-eq0
-shape_of-tables-then-next-eq0 c = c.emit_expr-next.auto.tables
-
-pub returns-then-next-eq0 : goal.returns-then-next-eq0
-returns-then-next-eq0 c = lowers-stopped c.if-next-eq0.true (sound-of c.requires.0) (lengthens-store _ _) (expr-by c.args.depth c.args.tree.now (slot_names c.args.tree.now c.args.slots.now) _ _ c.name_end-start.ensures c.emit_expr-next.ensures)
-
-pub emit_store-requires-2 : goal.emit_store-requires-2
-emit_store-requires-2 c = (
-  sound-next c.if-next-eq0.false (expr-by c.args.depth c.args.tree.now (slot_names c.args.tree.now c.args.slots.now) _ _ c.name_end-start.ensures c.emit_expr-next.ensures),
-  c.requires.0.ready.slotted,
-  omega (arith, c.requires.1.name.byte, c.requires.0.ready.tree-short),
-  omega (arith, c.if-next-eq0.false),
-)
-
-pub shape_of-code : goal.shape_of-code
-shape_of-code c = c.emit_store-2.auto.code ∙ c.emit_expr-next.auto.code
-
-pub shape_of-tables : goal.shape_of-tables
-shape_of-tables c = c.emit_store-2.auto.tables ∙ c.emit_expr-next.auto.tables
+pub returns-in_err-emit_store-2 : goal.returns-in_err-emit_store-2
+returns-in_err-emit_store-2 c =
+    emits-no-words c.in_ok-next.was c.in_err-emit_store-2.was c.from_residual-in_err-emit_store-2.ensures c.requires.0 (expr-by _ _ c.name_end-start.ensures c.emit_expr.ensures) c.emit_store-2.ensures
 
 pub returns : goal.returns
-returns c = lowers-next c.if-next-eq0.false (sound-of c.requires.0) (expr-by c.args.depth c.args.tree.now (slot_names c.args.tree.now c.args.slots.now) _ _ c.name_end-start.ensures c.emit_expr-next.ensures) c.emit_store-2.ensures
+returns c = emits-words c.in_ok-next.was c.in_ok-emit_store-2.was c.requires.0 (expr-by _ _ c.name_end-start.ensures c.emit_expr.ensures) c.emit_store-2.ensures

@@ -37,13 +37,6 @@ overflow_add-result c =
     begun_first (ap (λ (z : List ℕ). d ++ z) (joined-one (1 ∷ []))) (let l = length-append d (1 ∷ []) in let k = length-be 4 (c.args.size - 4) in omega (arith, c.requires.0)) c.write_number-at.ensures in
     let b = counted in omega (arith, begun-fits b, begun-length b, c.write_number.ensures.count, c.well_formed)
 
-pub shape_of-out : goal.shape_of-out
-unfolding be
-shape_of-out c =
-    let counted = let d = be 4 (c.args.size - 4) in
-    begun_first (ap (λ (z : List ℕ). d ++ z) (joined-one (1 ∷ []))) (let l = length-append d (1 ∷ []) in let k = length-be 4 (c.args.size - 4) in omega (arith, c.requires.0)) c.write_number-at.ensures in
-    begun-length (begun-next counted c.write_number.ensures)
-
 pub returns : goal.returns
 unfolding be
 returns c =

@@ -50,11 +50,6 @@ overflow_add-result c =
     let b = begun-next begun c.write_texts-at.ensures in
     omega (arith, begun-fits b, begun-length b, c.write_bodies.ensures.count, c.well_formed)
 
-pub shape_of-out : goal.shape_of-out
-shape_of-out c =
-    let begun = begun_first (module-pieces c.args.tree.now c.args.made.now c.args.code.now c.args.tables.now c.args.c c.args.size c.requires.1) (omega (arith, c.requires.1, c.requires.3)) c.write_head-at.ensures in
-    begun-length (begun-next (begun-next begun c.write_texts-at.ensures) c.write_bodies.ensures)
-
 pub returns : goal.returns
 returns c =
     let begun = begun_first (module-pieces c.args.tree.now c.args.made.now c.args.code.now c.args.tables.now c.args.c c.args.size c.requires.1) (omega (arith, c.requires.1, c.requires.3)) c.write_head-at.ensures in

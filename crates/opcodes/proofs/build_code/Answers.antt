@@ -1,12 +1,13 @@
+-- Tuple and dict apart, a display's opcode is its kind plus 27.
 use native.Mathlib.Omega.{arith}
 use Rattle.opcodes.proofs.Opcodes.{build-dict, build-tuple, build-other}
 use Rattle.opcodes.proofs.build_code.Goals as goal
 
-pub returns-then-kind-eq-DICT : goal.returns-then-kind-eq-DICT
-returns-then-kind-eq-DICT c = (build-dict _ c.if-kind-eq-DICT.true, omega arith, omega arith)
+pub returns-in-12 : goal.returns-in-12
+returns-in-12 c = (build-dict _ c.in-12.is, omega arith, omega arith)
 
-pub returns-then-kind-eq-TUPLE : goal.returns-then-kind-eq-TUPLE
-returns-then-kind-eq-TUPLE c = (build-tuple _ c.if-kind-eq-TUPLE.true, omega arith, omega arith)
+pub returns-in-13 : goal.returns-in-13
+returns-in-13 c = (build-tuple _ c.in-13.is, omega arith, omega arith)
 
-pub returns : goal.returns
-returns c = (build-other _ c.requires.0 c.requires.1 c.if-kind-eq-DICT.false c.if-kind-eq-TUPLE.false, omega arith, omega arith)
+pub returns-in_default : goal.returns-in_default
+returns-in_default c = (build-other _ c.requires.0 c.requires.1 (λ z. omega arith) (λ z. omega arith), omega arith, omega arith)

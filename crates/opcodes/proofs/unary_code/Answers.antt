@@ -1,3 +1,5 @@
+-- The opcode of each byte, by its law.
+use native.Mathlib.Omega.{arith}
 use Rattle.opcodes.proofs.Opcodes.{unary-not, unary-negate, unary-pos}
 use Rattle.opcodes.proofs.unary_code.Goals as goal
 
@@ -8,4 +10,4 @@ pub returns-in-1 : goal.returns-in-1
 returns-in-1 c = unary-negate _ c.in-1.is
 
 pub returns-in_default : goal.returns-in_default
-returns-in_default c = let n = c.in_default.in_default-own.rest in unary-pos _ c.requires n.0.1 n.1
+returns-in_default c = unary-pos _ c.requires (λ z. omega arith) (λ z. omega arith)

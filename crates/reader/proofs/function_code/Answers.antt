@@ -4,10 +4,10 @@ use Rattle.reader.proofs.Deciding.{located-inside, located-part, located-start}
 use Rattle.reader.proofs.function_code.Goals as goal
 
 pub part_of-requires : goal.part_of-requires
-part_of-requires c = located-inside _ _ _ c.locate-place.ensures
+part_of-requires c = located-inside _ _ _ c.locate.ensures
 
-pub returns : goal.returns
-returns c = let p = c.part_of.ensures in let l = c.locate-place.ensures in record {
-  result_value = p.result_value ∙ located-part _ _ _ l;
-  begins = (p.begins.0, let b = p.begins.1 in let e = located-start _ _ _ l in omega arith);
-}
+pub returns-clause-result_value : goal.returns-clause-result_value
+returns-clause-result_value c = c.part_of.ensures.result_value ∙ located-part _ _ _ c.locate.ensures
+
+pub returns-clause-begins : goal.returns-clause-begins
+returns-clause-begins c = let b = c.part_of.ensures.begins in let k = b.1 in let e = located-start _ _ _ c.locate.ensures in (b.0, omega arith)

@@ -1,16 +1,13 @@
-use mathlib.Core.Path.{refl, sym, ◌∙◌}
-use native.Mathlib.Omega.{arith}
-use Rattle.run.proofs.Calling.{answer-stands, answer-falls, answers-end}
+use mathlib.Core.Path.{◌∙◌}
+use Prim.Native.Nat.{ℕ}
+use lib.Dec.{leb}
+use Rattle.std.proofs.Common.{rules, tests}
+use Rattle.std.proofs.lemmas.Iterator.{YieldsList-from_slice}
+use Rattle.std.proofs.lemmas.Iterator.Search.{all_from_yields_List}
+use Rattle.run.proofs.Calling.{answers_listed}
 use Rattle.run.proofs.are_answers.Goals as goal
 
-pub loop-i-init : goal.loop-i-init
-loop-i-init c = (omega arith, refl)
-
-pub returns-then-answers-i-gt1 : goal.returns-then-answers-i-gt1
-returns-then-answers-i-gt1 c = let l = c.loop-i in sym (l.invariant.1 ∙ answer-falls c.args.answers.now l.i c.loop-i-test.true c.if-answers-i-gt1.true)
-
-pub loop-i-preserved : goal.loop-i-preserved
-loop-i-preserved c = let l = c.loop-i in (omega arith, l.invariant.1 ∙ answer-stands c.args.answers.now l.i c.loop-i-test.true c.if-answers-i-gt1.false)
-
 pub returns : goal.returns
-returns c = let l = c.loop-i in sym (l.invariant.1 ∙ answers-end c.args.answers.now l.i c.loop-i-test.false)
+returns c =
+    all_from_yields_List (λ (x : ℕ). leb x 1) _ _ _ c.all.ensures.ran (YieldsList-from_slice c.args.answers.now cc) (λ x b q k. search (rules, tests))
+    ∙ answers_listed c.args.answers.now

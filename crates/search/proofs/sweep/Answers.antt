@@ -1,7 +1,11 @@
-use mathlib.Core.Path.{◌∙◌}
+use Prim.Native.Nat.{ℕ}
+use mathlib.Core.Path.{refl, sym, ◌∙◌, subst}
+use mathlib.Core.List.{List}
 use native.Mathlib.Omega.{arith}
-use Rattle.definitions.specs.Search.{by_link}
+use Rattle.definitions.specs.Search.{by_link, Swept}
 use Rattle.definitions.proofs.Reached.{links_from, links-given}
+use Rattle.reader.specs.View.{instructions_of}
+use Rattle.search.specs.View.{marks_of}
 use Rattle.search.proofs.Looping.{beginning, going_start, head_few, place-few, expandable, going_on, going_end}
 use Rattle.search.proofs.sweep.Goals as goal
 
@@ -9,43 +13,30 @@ pub begin-requires : goal.begin-requires
 begin-requires c = beginning c.requires
 
 pub loop-head-init : goal.loop-head-init
-loop-head-init c = going_start c.requires by_link _ c.begin.auto.area c.begin.ensures
+loop-head-init c = record { going = going_start c.requires by_link _ c.begin.auto.area c.begin.ensures; same_area = refl }
 
-pub offset_bounds-area-head : goal.offset_bounds-area-head
-offset_bounds-area-head c = let h = head_few c.requires by_link c.loop-head.invariant c.loop-head-test.true in let f = c.requires.coded.few in let k = c.requires.count in omega arith
-
-pub bounds-area-head : goal.bounds-area-head
-bounds-area-head c = let h = head_few c.requires by_link c.loop-head.invariant c.loop-head-test.true in let f = c.requires.coded.few in let k = c.requires.count in let l = c.loop-head.invariant.wide in omega arith
-
-pub overflow_cast-mark : goal.overflow_cast-mark
-overflow_cast-mark c = let h = place-few c.requires by_link c.loop-head.invariant c.loop-head-test.true _ c.wide-p.ensures in let f = c.requires.coded.few in let k = c.requires.count in omega arith
-
-pub overflow_mul-mark : goal.overflow_mul-mark
-overflow_mul-mark c = let h = place-few c.requires by_link c.loop-head.invariant c.loop-head-test.true _ c.wide-p.ensures in let f = c.requires.coded.few in let k = c.requires.count in omega arith
-
-pub overflow_add-mark : goal.overflow_add-mark
-overflow_add-mark c = let h = place-few c.requires by_link c.loop-head.invariant c.loop-head-test.true _ c.wide-p.ensures in let f = c.requires.coded.few in let k = c.requires.count in omega arith
-
-pub overflow_add-mark-in-loop-head : goal.overflow_add-mark-in-loop-head
-overflow_add-mark-in-loop-head c = let h = place-few c.requires by_link c.loop-head.invariant c.loop-head-test.true _ c.wide-p.ensures in let f = c.requires.coded.few in let k = c.requires.count in omega arith
-
-pub overflow_add-mark-in-loop-head-2 : goal.overflow_add-mark-in-loop-head-2
-overflow_add-mark-in-loop-head-2 c = let h = place-few c.requires by_link c.loop-head.invariant c.loop-head-test.true _ c.wide-p.ensures in let f = c.requires.coded.few in let k = c.requires.count in omega arith
-
-pub expand-tail-requires : goal.expand-tail-requires
-expand-tail-requires c = expandable c.requires by_link c.loop-head.invariant c.loop-head-test.true _ c.wide-p.ensures (links_from _) (λ z. omega arith)
-
-pub overflow_add-head : goal.overflow_add-head
-overflow_add-head c = let h = head_few c.requires by_link c.loop-head.invariant c.loop-head-test.true in let f = c.requires.coded.few in let k = c.requires.count in omega arith
+pub expand-requires : goal.expand-requires
+expand-requires c = expandable c.requires by_link c.loop-head.invariant.going c.loop-head-test.true _ refl (links_from _) (λ z. omega arith)
 
 pub loop-head-smaller : goal.loop-head-smaller
-loop-head-smaller c = let h = head_few c.requires by_link c.loop-head.invariant c.loop-head-test.true in let f = c.requires.coded.few in let k = c.requires.count in omega arith
+loop-head-smaller c = let h = head_few c.requires by_link c.loop-head.invariant.going c.loop-head-test.true in let f = c.requires.coded.few in let k = c.requires.count in omega arith
 
 pub loop-head-preserved : goal.loop-head-preserved
-loop-head-preserved c = going_on c.requires by_link c.loop-head.invariant c.loop-head-test.true _ c.wide-p.ensures (links_from _) (links-given _ _ _) c.expand-tail.auto.area c.expand-tail.ensures
-
-pub shape_of-area : goal.shape_of-area
-shape_of-area c = c.loop-head.invariant.long ∙ c.begin.auto.area
+loop-head-preserved c = record { going = going_on c.requires by_link c.loop-head.invariant.going c.loop-head-test.true _ refl (links_from _) (links-given _ _ _) c.expand.ensures.long c.expand.ensures.expands; same_area = c.expand.ensures.same_area ∙ c.loop-head.invariant.same_area }
 
 pub returns : goal.returns
-returns c = going_end c.requires by_link c.loop-head.invariant c.loop-head-test.false
+returns c =
+    let i = c.loop-head.invariant in let e = c.area-in-loop-head-1.given.1.1 (sym i.same_area) in
+    subst (λ (xs : List ℕ). Swept by_link (instructions_of c.args.code.now) (marks_of c.args.n xs)) (sym e) (going_end c.requires by_link i.going c.loop-head-test.false)
+
+pub overflow_mul-mark : goal.overflow_mul-mark
+overflow_mul-mark c = let h = place-few c.requires by_link c.loop-head.invariant.going c.loop-head-test.true _ refl in let f = c.requires.coded.few in let k = c.requires.count in omega arith
+
+pub overflow_add-mark : goal.overflow_add-mark
+overflow_add-mark c = let h = place-few c.requires by_link c.loop-head.invariant.going c.loop-head-test.true _ refl in let f = c.requires.coded.few in let k = c.requires.count in omega arith
+
+pub overflow_add-marks : goal.overflow_add-marks
+overflow_add-marks c = let h = place-few c.requires by_link c.loop-head.invariant.going c.loop-head-test.true _ refl in let f = c.requires.coded.few in let k = c.requires.count in omega arith
+
+pub overflow_add-marks-in-loop-head : goal.overflow_add-marks-in-loop-head
+overflow_add-marks-in-loop-head c = let h = place-few c.requires by_link c.loop-head.invariant.going c.loop-head-test.true _ refl in let f = c.requires.coded.few in let k = c.requires.count in omega arith

@@ -1,10 +1,11 @@
+use mathlib.Core.Path.{◌≡◌}
 use Prim.Native.Nat.{◌-◌}
 use Rattle.definitions.specs.Search.{by_link}
 use Rattle.search.proofs.Looping.{Going}
 use Rattle.search.proofs.sweep.Given as goal
 
 abbrev pub invariant-loop-head : goal.invariant-loop-head
-invariant-loop-head l = Going by_link l.code l.n l.initial.area l.area l.head l.tail
+invariant-loop-head l = record { going : Going by_link l.code l.n l.fn.area l.table.area.now l.head l.table.tail; same_area : l.table.area.ghost_name ≡ l.initial.table.area.ghost_name }
 
 abbrev pub decreases-loop-head : goal.decreases-loop-head
 decreases-loop-head l = l.n - l.head

@@ -1,9 +1,5 @@
-use Prim.Native.Nat.{◌-◌}
 use Rattle.sheet.proofs.SheetLaws.{Sheeting}
 use Rattle.sheet.proofs.write_sheet.Given as goal
 
 abbrev pub invariant-loop-f : goal.invariant-loop-f
 invariant-loop-f l = Sheeting l.bytes l.at l.count l.initial.out l.out l.p l.put l.f l.total l.questions l.calls
-
-abbrev pub decreases-loop-f : goal.decreases-loop-f
-decreases-loop-f l = l.count - l.f

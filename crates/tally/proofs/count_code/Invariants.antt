@@ -1,8 +1,6 @@
+use Prim.Native.Nat.{◌-◌}
 use Rattle.tally.proofs.Counting.{Counting}
 use Rattle.tally.proofs.count_code.Given as goal
 
-abbrev pub invariant-loop-left : goal.invariant-loop-left
-invariant-loop-left l = Counting l.n l.bytes l.at l.left l.p l.questions l.calls
-
-abbrev pub decreases-loop-left : goal.decreases-loop-left
-decreases-loop-left l = l.left
+abbrev pub invariant-loop : goal.invariant-loop
+invariant-loop l = Counting l.n l.bytes l.at (l.n - l.counter) l.tallied.at l.tallied.questions l.tallied.calls

@@ -1,12 +1,6 @@
-use mathlib.Core.Path.{sym, ◌∙◌}
-use Rattle.utf8.proofs.Laws.{from-begin, from_more, from_last}
+use mathlib.Core.Path.{◌∙◌}
+use Rattle.utf8.proofs.Agree.{read_passes}
 use Rattle.utf8.proofs.is_utf8.Goals as goal
 
-pub loop-i-init : goal.loop-i-init
-loop-i-init c = c.ascii_end-i.ensures.same ∙ from-begin _
-
-pub loop-i-preserved : goal.loop-i-preserved
-loop-i-preserved c = c.loop-i.invariant ∙ from_more _ _ _ _ c.loop-i-test.true c.step-due.ensures
-
 pub returns : goal.returns
-returns c = sym (c.loop-i.invariant ∙ from_last _ _ _ c.loop-i-test.false)
+returns c = c.is_ok.ensures.value ∙ read_passes _ _ c.args.bytes.now (λ a m. m.1) (λ e m. m.0) _ c.from_utf8.ensures.cases

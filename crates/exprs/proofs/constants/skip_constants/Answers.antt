@@ -1,12 +1,8 @@
-use native.Mathlib.Omega.{arith}
-use Rattle.exprs.proofs.ConstantLaws.{pass-none, pass-constants}
+use Rattle.exprs.proofs.ConstantLaws.{skip-constants, skip-none}
 use Rattle.exprs.proofs.constants.skip_constants.Goals as goal
 
-pub returns-then-depth-eq0 : goal.returns-then-depth-eq0
-returns-then-depth-eq0 c = pass-none _ _ _ _ _ (omega arith)
-
 pub returns-in-Value : goal.returns-in-Value
-returns-in-Value c = pass-constants _ _ _ _ _ _ c.in-Value.is c.if-depth-eq0.false c.leading_constants.ensures
+returns-in-Value c = skip-constants _ _ _ _ c.in-Value.is c.if-depth-gt0.true c.skip_below.ensures
 
-pub returns : goal.returns
-returns c = pass-none _ _ _ _ _ (omega arith)
+pub returns-in_default : goal.returns-in_default
+returns-in_default c = skip-none _ _ _ _

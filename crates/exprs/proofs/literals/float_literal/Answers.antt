@@ -8,12 +8,12 @@ use Rattle.exprs.proofs.literals.float_literal.Goals as goal
 
 pub float_from_bits-result : goal.float_from_bits-result
 unfolding literal_of Plain
-float_from_bits-result c = rw nan_bits_is (no_nan _ c.if-bits-gt9218868437227405312.false)
+float_from_bits-result c = rw nan_bits_is (no_nan _ c.if-bits-gt-INFINITY.false)
 
-pub returns-then-bits-gt9218868437227405312 : goal.returns-then-bits-gt9218868437227405312
+pub returns-then-bits-gt-INFINITY : goal.returns-then-bits-gt-INFINITY
 unfolding literal_of Plain
-returns-then-bits-gt9218868437227405312 c = λ t. record { is = refl; plain = c.if-bits-gt9218868437227405312.true }
+returns-then-bits-gt-INFINITY c = λ t. record { is = refl; plain = c.if-bits-gt-INFINITY.true }
 
-pub returns-else-bits-gt9218868437227405312 : goal.returns-else-bits-gt9218868437227405312
+pub returns-else-bits-gt-INFINITY : goal.returns-else-bits-gt-INFINITY
 unfolding literal_of Plain
-returns-else-bits-gt9218868437227405312 c = λ t. record { is = ap float_l (to_bits-of_bits binary64 _ c.ranges.bits.fits (no_nan _ c.if-bits-gt9218868437227405312.false)); plain = no_nan _ c.if-bits-gt9218868437227405312.false }
+returns-else-bits-gt-INFINITY c = λ t. record { is = ap float_l (to_bits-of_bits binary64 _ c.ranges.bits.fits (no_nan _ c.if-bits-gt-INFINITY.false)); plain = no_nan _ c.if-bits-gt-INFINITY.false }

@@ -5,33 +5,33 @@ use mathlib.Core.Path.{refl, ap, ◌∙◌}
 use Rattle.exprs.proofs.ExprViews.{expr-inside, expr-deep, expr-known, view-unary, view-binary, view-call, view-attribute, view-list, view-dict, view-tuple, view-set, view-tree-set, view-index, view-lambda, view-exprs-more}
 use Rattle.state.specs.State.{slot_names}
 use Rattle.slots.proofs.Referring.{list-reads, list-is, dict-reads, dict-is, body-there}
-use Rattle.fits.proofs.Walking.{walks_next, walks-over, next-walks, over-walks, first-over, second_walks, left-start, left-next, left_over, left-done, lambda-over, slots-few, inner-short}
+use Rattle.fits.proofs.Walking.{stopped, walks_next, walks-over, next-walks, over-walks, first-over, second_walks, left-start, left-next, left_over, left-done, lambda-over, slots-few, inner-short}
 use Rattle.fits.proofs.ExprKinds.{fits-unary, fits-binary, fits-call, fits-attribute, fits-dict, fits-display, fits-index, fits-lambda, fits-simple, fits-plain, simple-kinds, second-there, list-there, name-there, second-moved, list-moved, fits-list, exprs-step, exprs-end, exprs-ok, collected-at, lambda-body, long-enough}
 use Rattle.fits.proofs.expressions.+fits.Goals as goal
 
-pub fits_attribute-fits_expr-object-requires : goal.fits_attribute-fits_expr-object-requires
-fits_attribute-fits_expr-object-requires t c = (omega arith, (c.requires.0, c.requires.1.object))
+pub fits_attribute-fits_expr-requires : goal.fits_attribute-fits_expr-requires
+fits_attribute-fits_expr-requires t c = (omega arith, (c.requires.0, c.requires.1.object))
 
-pub fits_attribute-returns-in_default : goal.fits_attribute-returns-in_default
-fits_attribute-returns-in_default t c = over-walks _ _ (walks-over _ _ _ c.fits_expr-object.ensures c.in_default.is)
+pub fits_attribute-returns-in_err-p : goal.fits_attribute-returns-in_err-p
+fits_attribute-returns-in_err-p t c = stopped _ _ _ c.from_residual.ensures (over-walks _ _ (walks-over _ _ _ c.fits_expr.ensures c.in_err-p.was))
 
 pub fits_attribute-name_end-requires : goal.fits_attribute-name_end-requires
-fits_attribute-name_end-requires t c = name-there _ _ _ _ (walks_next _ _ _ _ c.fits_expr-object.ensures c.in-Next.is).0 c.requires.1
+fits_attribute-name_end-requires t c = name-there _ _ _ _ (walks_next _ _ _ _ c.fits_expr.ensures c.in_ok-p.was).0 c.requires.1
 
 pub fits_attribute-returns : goal.fits_attribute-returns
-fits_attribute-returns t c = let z = walks_next _ _ _ _ c.fits_expr-object.ensures c.in-Next.is in next-walks _ _ _ (c.name_end.ensures ∙ ap (name_end _) z.0) z.1
+fits_attribute-returns t c = let z = walks_next _ _ _ _ c.fits_expr.ensures c.in_ok-p.was in next-walks _ _ _ (c.name_end.ensures ∙ ap (name_end _) z.0) z.1
 
-pub fits_call-fits_expr-callee-requires : goal.fits_call-fits_expr-callee-requires
-fits_call-fits_expr-callee-requires t c = (omega arith, (c.requires.0, c.requires.1.callee))
+pub fits_call-fits_expr-requires : goal.fits_call-fits_expr-requires
+fits_call-fits_expr-requires t c = (omega arith, (c.requires.0, c.requires.1.callee))
 
-pub fits_call-returns-in_default : goal.fits_call-returns-in_default
-fits_call-returns-in_default t c = first-over _ _ _ _ _ c.fits_expr-callee.ensures c.in_default.is
+pub fits_call-returns-in_err-p : goal.fits_call-returns-in_err-p
+fits_call-returns-in_err-p t c = stopped _ _ _ c.from_residual.ensures (first-over _ _ _ _ _ c.fits_expr.ensures c.in_err-p.was)
 
 pub fits_call-fits_list-requires : goal.fits_call-fits_list-requires
-fits_call-fits_list-requires t c = (omega arith, (c.requires.0, list-there _ _ _ _ (walks_next _ _ _ _ c.fits_expr-callee.ensures c.in-Next.is).0 c.requires.1))
+fits_call-fits_list-requires t c = (omega arith, (c.requires.0, list-there _ _ _ _ (walks_next _ _ _ _ c.fits_expr.ensures c.in_ok-p.was).0 c.requires.1))
 
 pub fits_call-returns : goal.fits_call-returns
-fits_call-returns t c = second_walks _ _ _ _ _ _ _ c.fits_expr-callee.ensures c.in-Next.is (list-moved _ _ _ _ (walks_next _ _ _ _ c.fits_expr-callee.ensures c.in-Next.is).0 _ _ c.fits_list.ensures)
+fits_call-returns t c = second_walks _ _ _ _ _ _ _ c.fits_expr.ensures c.in_ok-p.was (list-moved _ _ _ _ (walks_next _ _ _ _ c.fits_expr.ensures c.in_ok-p.was).0 _ _ c.fits_list.ensures)
 
 pub fits_dict-u16_at-count-requires : goal.fits_dict-u16_at-count-requires
 fits_dict-u16_at-count-requires t c = let h = c.requires.1.count.bytes in omega arith
@@ -47,6 +47,75 @@ fits_dict-fits_many-requires t c = (omega arith, (c.requires.0, dict-reads _ _ _
 
 pub fits_dict-returns : goal.fits_dict-returns
 fits_dict-returns t c = fits-list _ _ _ _ (dict-is _ _ _ _ c.u16_at-count.ensures.0) c.fits_many.ensures
+
+pub fits_lambda-skip_params-p-requires : goal.fits_lambda-skip_params-p-requires
+fits_lambda-skip_params-p-requires t c = c.requires.1.params
+
+pub fits_lambda-lambda_slots-requires : goal.fits_lambda-lambda_slots-requires
+fits_lambda-lambda_slots-requires t c = (c.requires.0.tree, c.requires.0.slotted, omega arith, c.requires.1.params, body-there _ _ _ _ c.skip_params-p.ensures c.requires.1)
+
+pub fits_lambda-returns-in_err-n : goal.fits_lambda-returns-in_err-n
+fits_lambda-returns-in_err-n t c = stopped _ _ _ c.from_residual.ensures (lambda-over _ _ _ _ (collected-at _ _ _ c.args.at c.args.slots.now c.args.depth _ _ c.skip_params-p.ensures c.lambda_slots.ensures) _ _ c.in_err-n.was)
+
+pub fits_lambda-overflow_add-end : goal.fits_lambda-overflow_add-end
+fits_lambda-overflow_add-end t c = let h = slots-few _ _ _ _ (collected-at _ _ _ c.args.at c.args.slots.now c.args.depth _ _ c.skip_params-p.ensures c.lambda_slots.ensures) _ c.in_ok-n.was in let k = c.lambda_slots.auto.slots in omega arith
+
+pub fits_lambda-slice_bounds-fits_expr-end : goal.fits_lambda-slice_bounds-fits_expr-end
+fits_lambda-slice_bounds-fits_expr-end t c = let h = slots-few _ _ _ _ (collected-at _ _ _ c.args.at c.args.slots.now c.args.depth _ _ c.skip_params-p.ensures c.lambda_slots.ensures) _ c.in_ok-n.was in let k = c.lambda_slots.auto.slots in omega arith
+
+pub fits_lambda-fits_expr-requires : goal.fits_lambda-fits_expr-requires
+fits_lambda-fits_expr-requires t c = (omega arith, (inner-short _ _ _ _ (collected-at _ _ _ c.args.at c.args.slots.now c.args.depth _ _ c.skip_params-p.ensures c.lambda_slots.ensures) _ c.in_ok-n.was (long-enough c.lambda_slots.new.slots c.lambda_slots.auto.slots) c.requires.0.tree, body-there _ _ _ _ c.skip_params-p.ensures c.requires.1))
+
+pub fits_lambda-returns : goal.fits_lambda-returns
+fits_lambda-returns t c = lambda-body _ _ _ _ _ _ _ _ _ c.skip_params-p.ensures (collected-at _ _ _ c.args.at c.args.slots.now c.args.depth _ _ c.skip_params-p.ensures c.lambda_slots.ensures) c.in_ok-n.was (long-enough c.lambda_slots.new.slots c.lambda_slots.auto.slots) c.fits_expr.ensures
+
+pub fits_list-u16_at-count-requires : goal.fits_list-u16_at-count-requires
+fits_list-u16_at-count-requires t c = let h = c.requires.1.count.bytes in omega arith
+
+pub fits_list-overflow_add-at : goal.fits_list-overflow_add-at
+fits_list-overflow_add-at t c = let h = c.requires.1.count.bytes in omega arith
+
+pub fits_list-fits_many-requires : goal.fits_list-fits_many-requires
+fits_list-fits_many-requires t c = (omega arith, (c.requires.0, list-reads _ _ _ _ c.u16_at-count.ensures.0 c.requires.1))
+
+pub fits_list-returns : goal.fits_list-returns
+fits_list-returns t c = fits-list _ _ _ _ (list-is _ _ _ _ c.u16_at-count.ensures.0) c.fits_many.ensures
+
+pub fits_many-loop-init : goal.fits_many-loop-init
+fits_many-loop-init t c = left-start _ _ _ _ _ _ (omega arith) c.requires.1
+
+pub fits_many-bounds-tree-p : goal.fits_many-bounds-tree-p
+fits_many-bounds-tree-p t c = let h = expr-inside _ _ _ (view-exprs-more _ _ _ _ (omega (arith, c.loop-test.true)) c.loop.invariant.reads).parts.head in omega arith
+
+pub fits_many-overflow_add-p : goal.fits_many-overflow_add-p
+fits_many-overflow_add-p t c = let h = expr-inside _ _ _ (view-exprs-more _ _ _ _ (omega (arith, c.loop-test.true)) c.loop.invariant.reads).parts.head in omega arith
+
+pub fits_many-loop-preserved-then-tree-p-lt-INT : goal.fits_many-loop-preserved-then-tree-p-lt-INT
+fits_many-loop-preserved-then-tree-p-lt-INT t c = left-next _ _ _ _ _ _ _ c.loop.invariant _ _ _ _ _ (exprs-step _ _ _ _ _ c.loop.invariant.reads (omega (arith, c.loop-test.true))) (fits-plain _ _ _ (view-exprs-more _ _ _ _ (omega (arith, c.loop-test.true)) c.loop.invariant.reads).parts.head _ c.if-tree-p-lt-INT.true) refl (omega arith)
+
+pub fits_many-fits_expr-requires : goal.fits_many-fits_expr-requires
+fits_many-fits_expr-requires t c = (omega arith, (c.requires.0, (view-exprs-more _ _ _ _ (omega (arith, c.loop-test.true)) c.loop.invariant.reads).parts.head))
+
+pub fits_many-returns-in_err-p : goal.fits_many-returns-in_err-p
+fits_many-returns-in_err-p t c = stopped _ _ _ c.from_residual.ensures (left_over _ _ _ _ _ _ _ c.loop.invariant _ _ _ (exprs-step _ _ _ _ _ c.loop.invariant.reads (omega (arith, c.loop-test.true))) c.fits_expr.ensures c.in_err-p.was)
+
+pub fits_many-loop-preserved : goal.fits_many-loop-preserved
+fits_many-loop-preserved t c = left-next _ _ _ _ _ _ _ c.loop.invariant _ _ _ _ _ (exprs-step _ _ _ _ _ c.loop.invariant.reads (omega (arith, c.loop-test.true))) c.fits_expr.ensures c.in_ok-p.was (omega arith)
+
+pub fits_many-returns : goal.fits_many-returns
+fits_many-returns t c = left-done _ _ _ _ _ _ _ c.loop.invariant (exprs-end _ _ (slot_names c.args.tree.now c.args.slots.now) _ _ c.loop.invariant.reads (omega (arith, c.loop-test.false))) (exprs-ok _ _ _ _ _ c.loop.invariant.reads (omega (arith, c.loop-test.false)))
+
+pub fits_two-fits_expr-requires : goal.fits_two-fits_expr-requires
+fits_two-fits_expr-requires t c = (omega arith, (c.requires.0, c.requires.1.first))
+
+pub fits_two-returns-in_err-p : goal.fits_two-returns-in_err-p
+fits_two-returns-in_err-p t c = stopped _ _ _ c.from_residual.ensures (first-over _ _ _ _ _ c.fits_expr.ensures c.in_err-p.was)
+
+pub fits_two-fits_expr-requires-2 : goal.fits_two-fits_expr-requires-2
+fits_two-fits_expr-requires-2 t c = (omega arith, (c.requires.0, second-there _ _ _ _ (walks_next _ _ _ _ c.fits_expr.ensures c.in_ok-p.was).0 c.requires.1))
+
+pub fits_two-returns : goal.fits_two-returns
+fits_two-returns t c = second_walks _ _ _ _ _ _ _ c.fits_expr.ensures c.in_ok-p.was (second-moved _ _ _ _ (walks_next _ _ _ _ c.fits_expr.ensures c.in_ok-p.was).0 _ _ c.fits_expr-2.ensures)
 
 pub fits_expr-bounds-tree-at : goal.fits_expr-bounds-tree-at
 fits_expr-bounds-tree-at t c = let h = expr-inside _ _ _ c.requires.1 in omega arith
@@ -164,72 +233,3 @@ fits_expr-returns-in-17 t c = fits-lambda _ _ _ c.requires.1 _ _ c.in-17.is c.fi
 
 pub fits_expr-returns-in_default : goal.fits_expr-returns-in_default
 fits_expr-returns-in_default t c = let n = c.in_default.in_default-own.rest in fits-simple _ _ _ c.requires.1 _ _ (simple-kinds _ (expr-known _ _ _ c.requires.1) n.0.0.0.0.0.0.0.0.0.0.1 n.0.0.0.0.0.0.0.0.0.1 n.0.0.0.0.0.0.0.0.1 n.0.0.0.0.0.0.0.1 n.0.0.0.0.0.0.1 n.0.0.0.0.0.1 n.0.0.0.0.1 n.0.0.0.1 n.0.0.1 n.0.1 n.1) c.skip_expr.ensures
-
-pub fits_lambda-skip_params-p-requires : goal.fits_lambda-skip_params-p-requires
-fits_lambda-skip_params-p-requires t c = c.requires.1.params
-
-pub fits_lambda-lambda_slots-found-requires : goal.fits_lambda-lambda_slots-found-requires
-fits_lambda-lambda_slots-found-requires t c = (c.requires.0.tree, c.requires.0.slotted, omega arith, c.requires.1.params, body-there _ _ _ _ c.skip_params-p.ensures c.requires.1)
-
-pub fits_lambda-returns-in_default : goal.fits_lambda-returns-in_default
-fits_lambda-returns-in_default t c = lambda-over _ _ _ _ (collected-at _ _ _ c.args.at c.args.slots.now c.args.depth _ _ c.skip_params-p.ensures c.lambda_slots-found.ensures) _ _ c.in_default.is
-
-pub fits_lambda-overflow_add-end : goal.fits_lambda-overflow_add-end
-fits_lambda-overflow_add-end t c = let h = slots-few _ _ _ _ (collected-at _ _ _ c.args.at c.args.slots.now c.args.depth _ _ c.skip_params-p.ensures c.lambda_slots-found.ensures) _ c.in-Count.is in let k = c.lambda_slots-found.auto.slots in omega arith
-
-pub fits_lambda-slice_bounds-fits_expr-end : goal.fits_lambda-slice_bounds-fits_expr-end
-fits_lambda-slice_bounds-fits_expr-end t c = let h = slots-few _ _ _ _ (collected-at _ _ _ c.args.at c.args.slots.now c.args.depth _ _ c.skip_params-p.ensures c.lambda_slots-found.ensures) _ c.in-Count.is in let k = c.lambda_slots-found.auto.slots in omega arith
-
-pub fits_lambda-fits_expr-requires : goal.fits_lambda-fits_expr-requires
-fits_lambda-fits_expr-requires t c = (omega arith, (inner-short _ _ _ _ (collected-at _ _ _ c.args.at c.args.slots.now c.args.depth _ _ c.skip_params-p.ensures c.lambda_slots-found.ensures) _ c.in-Count.is (long-enough c.lambda_slots-found.new.slots c.lambda_slots-found.auto.slots) c.requires.0.tree, body-there _ _ _ _ c.skip_params-p.ensures c.requires.1))
-
-pub fits_lambda-returns : goal.fits_lambda-returns
-fits_lambda-returns t c = lambda-body _ _ _ _ _ _ _ _ _ c.skip_params-p.ensures (collected-at _ _ _ c.args.at c.args.slots.now c.args.depth _ _ c.skip_params-p.ensures c.lambda_slots-found.ensures) c.in-Count.is (long-enough c.lambda_slots-found.new.slots c.lambda_slots-found.auto.slots) c.fits_expr.ensures
-
-pub fits_list-u16_at-count-requires : goal.fits_list-u16_at-count-requires
-fits_list-u16_at-count-requires t c = let h = c.requires.1.count.bytes in omega arith
-
-pub fits_list-overflow_add-at : goal.fits_list-overflow_add-at
-fits_list-overflow_add-at t c = let h = c.requires.1.count.bytes in omega arith
-
-pub fits_list-fits_many-requires : goal.fits_list-fits_many-requires
-fits_list-fits_many-requires t c = (omega arith, (c.requires.0, list-reads _ _ _ _ c.u16_at-count.ensures.0 c.requires.1))
-
-pub fits_list-returns : goal.fits_list-returns
-fits_list-returns t c = fits-list _ _ _ _ (list-is _ _ _ _ c.u16_at-count.ensures.0) c.fits_many.ensures
-
-pub fits_many-loop-left-init : goal.fits_many-loop-left-init
-fits_many-loop-left-init t c = left-start _ _ _ _ _ c.requires.1
-
-pub fits_many-bounds-tree-p : goal.fits_many-bounds-tree-p
-fits_many-bounds-tree-p t c = let h = expr-inside _ _ _ (view-exprs-more _ _ _ _ c.loop-left-test.true c.loop-left.invariant.reads).parts.head in omega arith
-
-pub fits_many-overflow_add-p : goal.fits_many-overflow_add-p
-fits_many-overflow_add-p t c = let h = expr-inside _ _ _ (view-exprs-more _ _ _ _ c.loop-left-test.true c.loop-left.invariant.reads).parts.head in omega arith
-
-pub fits_many-loop-left-preserved-then-tree-p-lt-INT : goal.fits_many-loop-left-preserved-then-tree-p-lt-INT
-fits_many-loop-left-preserved-then-tree-p-lt-INT t c = left-next _ _ _ _ _ _ _ c.loop-left.invariant _ _ _ _ (exprs-step _ _ _ _ _ c.loop-left.invariant.reads c.loop-left-test.true) (fits-plain _ _ _ (view-exprs-more _ _ _ _ c.loop-left-test.true c.loop-left.invariant.reads).parts.head _ c.if-tree-p-lt-INT.true) refl
-
-pub fits_many-fits_expr-one-requires : goal.fits_many-fits_expr-one-requires
-fits_many-fits_expr-one-requires t c = (omega arith, (c.requires.0, (view-exprs-more _ _ _ _ c.loop-left-test.true c.loop-left.invariant.reads).parts.head))
-
-pub fits_many-returns-in_default : goal.fits_many-returns-in_default
-fits_many-returns-in_default t c = left_over _ _ _ _ _ _ _ c.loop-left.invariant _ _ _ (exprs-step _ _ _ _ _ c.loop-left.invariant.reads c.loop-left-test.true) c.fits_expr-one.ensures c.in_default.is
-
-pub fits_many-loop-left-preserved : goal.fits_many-loop-left-preserved
-fits_many-loop-left-preserved t c = left-next _ _ _ _ _ _ _ c.loop-left.invariant _ _ _ _ (exprs-step _ _ _ _ _ c.loop-left.invariant.reads c.loop-left-test.true) c.fits_expr-one.ensures c.in-Next.is
-
-pub fits_many-returns : goal.fits_many-returns
-fits_many-returns t c = left-done _ _ _ _ _ _ _ c.loop-left.invariant (exprs-end _ _ (slot_names c.args.tree.now c.args.slots.now) _ _ c.loop-left.invariant.reads c.loop-left-test.false) (exprs-ok _ _ _ _ _ c.loop-left.invariant.reads c.loop-left-test.false)
-
-pub fits_two-fits_expr-left-requires : goal.fits_two-fits_expr-left-requires
-fits_two-fits_expr-left-requires t c = (omega arith, (c.requires.0, c.requires.1.first))
-
-pub fits_two-returns-in_default : goal.fits_two-returns-in_default
-fits_two-returns-in_default t c = first-over _ _ _ _ _ c.fits_expr-left.ensures c.in_default.is
-
-pub fits_two-fits_expr-requires : goal.fits_two-fits_expr-requires
-fits_two-fits_expr-requires t c = (omega arith, (c.requires.0, second-there _ _ _ _ (walks_next _ _ _ _ c.fits_expr-left.ensures c.in-Next.is).0 c.requires.1))
-
-pub fits_two-returns : goal.fits_two-returns
-fits_two-returns t c = second_walks _ _ _ _ _ _ _ c.fits_expr-left.ensures c.in-Next.is (second-moved _ _ _ _ (walks_next _ _ _ _ c.fits_expr-left.ensures c.in-Next.is).0 _ _ c.fits_expr.ensures)

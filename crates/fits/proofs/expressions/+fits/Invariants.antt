@@ -1,4 +1,4 @@
-use Prim.Native.Nat.{◌+◌, ◌*◌}
+use Prim.Native.Nat.{◌+◌, ◌-◌, ◌*◌}
 use Rattle.state.specs.State.{slot_names}
 use Rattle.fits.proofs.ExprKinds.{ExprsLeft}
 use Rattle.fits.proofs.expressions.+fits.Given as goal
@@ -27,8 +27,5 @@ decreases-fits_many l = 4 * l.depth + 1
 abbrev pub decreases-fits_two : goal.decreases-fits_two
 decreases-fits_two l = 4 * l.depth + 1
 
-abbrev pub invariant-fits_many-loop-left : goal.invariant-fits_many-loop-left
-invariant-fits_many-loop-left l = ExprsLeft l.depth l.tree (slot_names l.tree l.slots) l.initial.left l.initial.p l.left l.p
-
-abbrev pub decreases-fits_many-loop-left : goal.decreases-fits_many-loop-left
-decreases-fits_many-loop-left l = l.left
+abbrev pub invariant-fits_many-loop : goal.invariant-fits_many-loop
+invariant-fits_many-loop l = ExprsLeft l.depth l.tree (slot_names l.tree l.slots) l.count l.initial.p (l.count - l.counter) l.p

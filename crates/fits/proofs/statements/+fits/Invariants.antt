@@ -33,20 +33,11 @@ decreases-fits_methods l = 10 * l.depth + 3
 abbrev pub decreases-fits_stmt : goal.decreases-fits_stmt
 decreases-fits_stmt l = 10 * l.depth
 
-abbrev pub invariant-fits_block-loop-left : goal.invariant-fits_block-loop-left
-invariant-fits_block-loop-left l = StmtsLeft l.depth l.tree (slot_names l.tree l.slots) l.initial.left l.initial.p l.left l.p
+abbrev pub invariant-fits_block-loop : goal.invariant-fits_block-loop
+invariant-fits_block-loop l = StmtsLeft l.depth l.tree (slot_names l.tree l.slots) l.count l.initial.p (l.count - l.counter) l.p
 
-abbrev pub decreases-fits_block-loop-left : goal.decreases-fits_block-loop-left
-decreases-fits_block-loop-left l = l.left
+abbrev pub invariant-fits_elifs-loop : goal.invariant-fits_elifs-loop
+invariant-fits_elifs-loop l = BranchesLeft l.depth l.tree (slot_names l.tree l.slots) l.count l.initial.p (l.count - l.counter) l.p
 
-abbrev pub invariant-fits_elifs-loop-left : goal.invariant-fits_elifs-loop-left
-invariant-fits_elifs-loop-left l = BranchesLeft l.depth l.tree (slot_names l.tree l.slots) l.initial.left l.initial.p l.left l.p
-
-abbrev pub decreases-fits_elifs-loop-left : goal.decreases-fits_elifs-loop-left
-decreases-fits_elifs-loop-left l = l.left
-
-abbrev pub invariant-fits_methods-loop-left : goal.invariant-fits_methods-loop-left
-invariant-fits_methods-loop-left l = MethodsLeft l.depth l.tree l.initial.left l.initial.p l.left l.p
-
-abbrev pub decreases-fits_methods-loop-left : goal.decreases-fits_methods-loop-left
-decreases-fits_methods-loop-left l = l.left
+abbrev pub invariant-fits_methods-loop : goal.invariant-fits_methods-loop
+invariant-fits_methods-loop l = MethodsLeft l.depth l.tree l.count l.initial.p (l.count - l.counter) l.p

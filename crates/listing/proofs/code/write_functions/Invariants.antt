@@ -1,9 +1,5 @@
-use Prim.Native.Nat.{◌-◌}
 use Rattle.listing.proofs.CodeLaws.{Listing}
 use Rattle.listing.proofs.code.write_functions.Given as goal
 
 abbrev pub invariant-loop-f : goal.invariant-loop-f
 invariant-loop-f l = Listing l.bytes l.at l.count l.initial.out l.out l.p l.put l.f l.k
-
-abbrev pub decreases-loop-f : goal.decreases-loop-f
-decreases-loop-f l = l.count - l.f

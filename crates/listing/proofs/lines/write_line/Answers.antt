@@ -32,11 +32,11 @@ put_field-requires-4 c = (second-room c.second_shown-second.result c.requires.2 
 pub shape_of-out : goal.shape_of-out
 unfolding field_text
 shape_of-out c =
-    line_same c.first_shown-first.result c.second_shown-second.result (line-in _ _ _ _ _ c.requires.0 c.requires.1 c.requires.2) c.first_shown-first.ensures c.second_shown-second.ensures
+    line_same c.first_shown-first.result c.second_shown-second.result (line-in _ _ c.requires.0 c.requires.1 c.requires.2) c.first_shown-first.ensures c.second_shown-second.ensures
     _ _ _ _ _ _ c.requires.3 c.put_field.ensures c.put_field-2.ensures c.put_name.ensures c.put_field-3.ensures c.put_field-4.ensures
 
 pub returns : goal.returns
 unfolding field_text
 returns c =
-    line-written c.first_shown-first.result c.second_shown-second.result (line-in _ _ _ _ _ c.requires.0 c.requires.1 c.requires.2) c.first_shown-first.ensures c.second_shown-second.ensures
+    line-written c.first_shown-first.result c.second_shown-second.result (line-in _ _ c.requires.0 c.requires.1 c.requires.2) c.first_shown-first.ensures c.second_shown-second.ensures
     _ _ _ _ _ _ c.requires.3 c.put_field.ensures c.put_field-2.ensures c.put_name.ensures c.put_field-3.ensures c.put_field-4.ensures

@@ -1,25 +1,26 @@
-use native.Mathlib.Omega.{arith}
-use mathlib.Core.Path.{◌∙◌}
-use Rattle.lower_leaves.proofs.Lambdas.{ends-none, ends_more, ending-put}
+use mathlib.Core.Path.{sym, subst, ◌∙◌}
+use Rattle.std.specs.Prelude.{Option}
+use Rattle.std.proofs.lemmas.Option.{none-some}
+use Rattle.state.specs.Words.{word}
+use Rattle.lower_emit.specs.Emitting.{Puts}
+use Rattle.lower_emit.proofs.Steps.{limits-code}
 use Rattle.lower_leaves.proofs.closures.end_lambda.Goals as goal
 
-pub put_op-p-requires : goal.put_op-p-requires
-put_op-p-requires c = (c.requires.0, omega arith, omega arith, omega arith)
-
-pub shape_of-code-then-p-eq0 : goal.shape_of-code-then-p-eq0
-shape_of-code-then-p-eq0 c = c.put_op-p.auto.code
-
-pub returns-then-p-eq0 : goal.returns-then-p-eq0
-returns-then-p-eq0 c = ends-none c.if-p-eq0.true c.put_op-p.ensures
-
-pub end_function-requires : goal.end_function-requires
-end_function-requires c = (ending-put c.requires.0 c.requires.1 c.if-p-eq0.false c.put_op-p.ensures, c.requires.2)
-
-pub shape_of-code : goal.shape_of-code
-shape_of-code c = c.end_function.auto.code ∙ c.put_op-p.auto.code
-
-pub shape_of-tables : goal.shape_of-tables
-shape_of-tables c = c.end_function.auto.tables
+pub returns-in_err-put_op : goal.returns-in_err-put_op
+returns-in_err-put_op c =
+    let e = c.from_residual.ensures in
+    let a = c.args.e.now in
+    record {
+      last = c.put_op.new.self;
+      puts = subst (λ (r : Option (Unit {0})). Puts r (word 33 0 0) a.code c.put_op.new.self) (c.in_err-put_op.was ∙ sym e) c.put_op.ensures;
+      ends = λ x q. absurd (none-some x (sym e ∙ q));
+      limits = limits-code a.tables c.put_op.ensures.kept;
+    }
 
 pub returns : goal.returns
-returns c = ends_more c.if-p-eq0.false c.put_op-p.ensures c.end_function.ensures
+returns c = record {
+  last = c.put_op.new.self;
+  puts = c.in_ok-put_op.ensures;
+  ends = λ x q. c.end_function.ensures;
+  limits = c.end_function.ensures.limits ∙ limits-code c.args.e.now.tables c.put_op.ensures.kept;
+}

@@ -1,40 +1,22 @@
 use native.Mathlib.Omega.{arith}
-use mathlib.Core.Path.{◌∙◌}
-use Rattle.lower_leaves.proofs.LambdaState.{held_at}
+use Rattle.lower_leaves.proofs.LambdaState.{held_at, slot-held}
 use Rattle.lower_leaves.proofs.Lambdas.{loading-start, loading-next, loading-over, loading-done, slot_small}
 use Rattle.lower_leaves.proofs.closures.load_captured.Goals as goal
 
-pub loop-i-init : goal.loop-i-init
-loop-i-init c = loading-start c.requires.0
+pub loop-at-init : goal.loop-at-init
+loop-at-init c = loading-start
 
-pub overflow_cast-at : goal.overflow_cast-at
-overflow_cast-at c = omega (arith, c.shared_slice_known-in-loop-i-1.given c.loop-i.i)
+pub returns-in_err-slot : goal.returns-in_err-slot
+returns-in_err-slot c = absurd (slot-held _ _ (held_at _ _ _ c.loop-at.at-index c.loop-at-test.true c.requires) c.in_err-slot.ensures)
 
-pub put_op-p-requires : goal.put_op-p-requires
-put_op-p-requires c = (
-  c.loop-i.invariant.room,
-  omega arith,
-  slot_small c.loop-i.invariant c.loop-i-test.true (held_at _ _ _ c.loop-i.i c.loop-i-test.true c.requires.2) c.requires.1 c.find_slot-s.ensures,
-  omega arith,
-)
+pub put_op-requires : goal.put_op-requires
+put_op-requires c = (omega arith, slot_small c.loop-at.invariant c.loop-at-test.true c.args.s.slotted c.in_ok-slot.ensures, omega arith)
 
-pub shape_of-code-then-p-eq0 : goal.shape_of-code-then-p-eq0
-shape_of-code-then-p-eq0 c = c.put_op-p.auto.code ∙ c.loop-i.invariant.kept
+pub returns-in_err-put_op : goal.returns-in_err-put_op
+returns-in_err-put_op c = loading-over c.loop-at.invariant c.loop-at-test.true c.args.s.slotted c.in_ok-slot.ensures c.in_err-put_op.was c.from_residual-in_err-put_op.ensures c.put_op.ensures
 
-pub returns-then-p-eq0 : goal.returns-then-p-eq0
-returns-then-p-eq0 c = loading-over c.loop-i.invariant c.loop-i-test.true (held_at _ _ _ c.loop-i.i c.loop-i-test.true c.requires.2) c.requires.1 c.find_slot-s.ensures c.requires.3 c.if-p-eq0.true c.put_op-p.ensures
-
-pub overflow_add-i : goal.overflow_add-i
-overflow_add-i c = omega (arith, c.loop-i-test.true, c.well_formed.1.1.0.0)
-
-pub loop-i-smaller : goal.loop-i-smaller
-loop-i-smaller c = omega (arith, c.loop-i-test.true)
-
-pub loop-i-preserved : goal.loop-i-preserved
-loop-i-preserved c = loading-next c.loop-i.invariant c.loop-i-test.true (held_at _ _ _ c.loop-i.i c.loop-i-test.true c.requires.2) c.requires.1 c.find_slot-s.ensures c.requires.3 c.if-p-eq0.false c.put_op-p.auto.code c.put_op-p.ensures
-
-pub shape_of-code : goal.shape_of-code
-shape_of-code c = c.loop-i.invariant.kept
+pub loop-at-preserved : goal.loop-at-preserved
+loop-at-preserved c = loading-next c.loop-at.invariant c.loop-at-test.true c.args.s.slotted c.in_ok-slot.ensures c.in_ok-put_op.was c.put_op.ensures
 
 pub returns : goal.returns
-returns c = loading-done c.loop-i.invariant c.loop-i-test.false c.requires.3
+returns c = loading-done c.loop-at.invariant c.loop-at-test.false

@@ -1,3 +1,4 @@
+-- past the end, cut at the end, whole
 use native.Mathlib.Omega.{arith}
 use Rattle.names.proofs.Spelling.{past_end, cut-end, whole_part}
 use Rattle.state.specs.Words.{region}

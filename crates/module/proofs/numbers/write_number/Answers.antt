@@ -1,16 +1,12 @@
-use native.Mathlib.Omega.{arith}
-use lib.ListN.{length-set}
+-- no byte, one, two
 use Rattle.writing.proofs.Begun.{wrote_none, wrote_one, wrote-two}
 use Rattle.module.proofs.numbers.write_number.Goals as goal
 
-pub returns-then-w-eq0 : goal.returns-then-w-eq0
-returns-then-w-eq0 c = let a = c.args in wrote_none a.w a.v a.out.now c.if-w-eq0.true
+pub returns-in-0 : goal.returns-in-0
+returns-in-0 c = let a = c.args in wrote_none a.w a.v a.out.now c.in-0.is
 
-pub returns-then-w-eq1 : goal.returns-then-w-eq1
-returns-then-w-eq1 c = let a = c.args in wrote_one a.w a.v a.out.now c.if-w-eq1.true c.requires
+pub returns-in-1 : goal.returns-in-1
+returns-in-1 c = let a = c.args in wrote_one a.w a.v a.out.now c.in-1.is c.requires
 
-pub bounds-out-1 : goal.bounds-out-1
-bounds-out-1 c = simp length-set (omega (arith, c.requires, c.if-w-eq2.true))
-
-pub returns-then-w-eq2 : goal.returns-then-w-eq2
-returns-then-w-eq2 c = let a = c.args in wrote-two a.w a.v a.out.now c.if-w-eq2.true c.requires
+pub returns-in-2 : goal.returns-in-2
+returns-in-2 c = let a = c.args in wrote-two a.w a.v a.out.now c.in-2.is c.requires

@@ -1,28 +1,32 @@
+-- how long the lists are
 use native.Mathlib.Omega.{arith}
-use mathlib.Core.Path.{ap₂, ◌∙◌}
-use Prim.Native.Nat.{ℕ, ◌+◌}
-use Rattle.state.specs.State.{strings_from}
-use Rattle.module.proofs.Whole.{few, length-texts, texts-room}
+use Rattle.module.proofs.Whole.{texts-fit}
 use Rattle.module.proofs.sections.texts_size.Goals as goal
 
-pub symbols_size-requires : goal.symbols_size-requires
-symbols_size-requires c = omega (arith, few 0 1024 c.args.tables.now c.words_part-symbols.ensures c.requires.0)
+pub list_size-requires : goal.list_size-requires
+list_size-requires c =
+    let s = c.symbols-symbols in let t = c.strings-strings in
+    let a = c.args in
+    let h = texts-fit a.tree.now a.made.now a.tables.now a.c s.ensures.tree s.ensures.made s.ensures.entries t.ensures.tree t.ensures.entries s.result.tree_bytes s.result.made_bytes t.result.tree_bytes c.requires.0 c.requires.1 in
+    omega (arith, h)
 
-pub strings_size-requires : goal.strings_size-requires
-strings_size-requires c = omega (arith, few strings_from 512 c.args.tables.now c.words_part-strings.ensures c.requires.1)
+pub list_size-requires-2 : goal.list_size-requires-2
+list_size-requires-2 c =
+    let s = c.symbols-symbols in let t = c.strings-strings in
+    let a = c.args in
+    let h = texts-fit a.tree.now a.made.now a.tables.now a.c s.ensures.tree s.ensures.made s.ensures.entries t.ensures.tree t.ensures.entries s.result.tree_bytes s.result.made_bytes t.result.tree_bytes c.requires.0 c.requires.1 in
+    omega (arith, h)
 
 pub overflow_add-result : goal.overflow_add-result
 overflow_add-result c =
-    let room = texts-room c.args.tree.now c.args.made.now c.args.tables.now c.args.c c.words_part-symbols.ensures c.words_part-strings.ensures
-    (λ j. (c.shared_slice_known-1.given j).fits) (λ j. (c.shared_slice_known-2-1.given j).fits) c.requires.0 c.requires.1 in
-    omega (arith, room, c.strings_size.ensures, c.symbols_size.ensures)
+    let s = c.symbols-symbols in let t = c.strings-strings in
+    let a = c.args in
+    let h = texts-fit a.tree.now a.made.now a.tables.now a.c s.ensures.tree s.ensures.made s.ensures.entries t.ensures.tree t.ensures.entries s.result.tree_bytes s.result.made_bytes t.result.tree_bytes c.requires.0 c.requires.1 in
+    omega (arith, h, c.list_size.ensures, c.list_size-2.ensures)
 
 pub returns : goal.returns
 returns c =
-    let room = texts-room c.args.tree.now c.args.made.now c.args.tables.now c.args.c c.words_part-symbols.ensures c.words_part-strings.ensures
-    (λ j. (c.shared_slice_known-1.given j).fits) (λ j. (c.shared_slice_known-2-1.given j).fits) c.requires.0 c.requires.1 in
-    let a = c.args in (
-      ap₂ (λ (x y : ℕ). x + y) c.symbols_size.ensures c.strings_size.ensures
-          ∙ length-texts a.tree.now a.made.now a.tables.now a.c c.words_part-symbols.ensures c.words_part-strings.ensures,
-      omega (arith, room, c.strings_size.ensures, c.symbols_size.ensures),
-    )
+    let s = c.symbols-symbols in let t = c.strings-strings in
+    let a = c.args in
+    let h = texts-fit a.tree.now a.made.now a.tables.now a.c s.ensures.tree s.ensures.made s.ensures.entries t.ensures.tree t.ensures.entries s.result.tree_bytes s.result.made_bytes t.result.tree_bytes c.requires.0 c.requires.1 in
+    (omega (arith, h, c.list_size.ensures, c.list_size-2.ensures), omega (arith, h, c.list_size.ensures, c.list_size-2.ensures))

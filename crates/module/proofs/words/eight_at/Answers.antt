@@ -1,34 +1,20 @@
+-- the number of eight bytes is their sum
 use native.Mathlib.Omega.{arith}
-use mathlib.Core.Path.{sym, ap, ◌∙◌}
-use Prim.Native.Nat.{ℕ, ◌+◌, ◌*◌, ◌-◌, ◌^◌}
+use native.Mathlib.Nat.{add_assoc}
 use Rattle.state.specs.Words.{number_at}
-use Rattle.module.proofs.Encoding.{horner, grows, small_one, number-start, number-all}
 use Rattle.module.proofs.words.eight_at.Goals as goal
 
-pub loop-i-init : goal.loop-i-init
-loop-i-init c = (omega arith, omega arith, number-start c.args.bytes.now c.args.at)
-
-pub overflow_mul-n : goal.overflow_mul-n
-overflow_mul-n c =
-    let room = small_one c.loop-i.n c.loop-i.i c.loop-i-test.true c.loop-i.invariant.1 in
-    omega (arith, room)
-
-pub overflow_add-at : goal.overflow_add-at
-overflow_add-at c = omega (arith, c.requires)
-
-pub overflow_add-n : goal.overflow_add-n
-overflow_add-n c =
-    let room = small_one c.loop-i.n c.loop-i.i c.loop-i-test.true c.loop-i.invariant.1 in
-    omega (arith, room, c.byte.type_inv)
-
-pub loop-i-preserved : goal.loop-i-preserved
-loop-i-preserved c =
-    let l = c.loop-i in let t = c.args.bytes.now in let at = c.args.at in (
-      omega arith,
-      grows l.n _ l.i l.invariant.1 (omega (arith, c.byte.type_inv)),
-      l.invariant.2 ∙ horner t at 8 l.i l.n c.loop-i-test.true
-          ∙ ap (λ (b : ℕ). (l.n * 256 + b) * 256 ^ (8 - (l.i + 1)) + number_at (8 - (l.i + 1)) t (at + (l.i + 1))) (sym c.byte.ensures),
-    )
-
 pub returns : goal.returns
-returns c = let l = c.loop-i in let a = c.args in sym (l.invariant.2 ∙ number-all a.bytes.now a.at l.i l.n l.invariant.0 c.loop-i-test.false)
+unfolding number_at
+returns c = simp add_assoc (omega (
+  arith,
+  c.from_be_bytes.ensures,
+  c.byte.ensures,
+  c.byte-2.ensures,
+  c.byte-3.ensures,
+  c.byte-4.ensures,
+  c.byte-5.ensures,
+  c.byte-6.ensures,
+  c.byte-7.ensures,
+  c.byte-8.ensures,
+))

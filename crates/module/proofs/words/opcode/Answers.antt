@@ -1,11 +1,12 @@
+-- a small integer, and any other word
 use native.Mathlib.Omega.{arith}
 use mathlib.Core.Path.{sym, ap}
 use Rattle.definitions.specs.Instruction.{Instr}
 use Rattle.module.proofs.Encoding.{of-small, of_other}
 use Rattle.module.proofs.words.opcode.Goals as goal
 
-pub returns-then-op-eq-SMALL_INT : goal.returns-then-op-eq-SMALL_INT
-returns-then-op-eq-SMALL_INT c = (λ t. sym (ap (λ (i : Instr). i.op) (of-small t _ c.if-op-eq-SMALL_INT.true)), omega arith)
+pub returns-in-48 : goal.returns-in-48
+returns-in-48 c = (λ t. sym (ap (λ (i : Instr). i.op) (of-small t _ c.in-48.is)), omega arith)
 
-pub returns : goal.returns
-returns c = (λ t. sym (ap (λ (i : Instr). i.op) (of_other t _ c.if-op-eq-SMALL_INT.false)), omega arith)
+pub returns-in_default : goal.returns-in_default
+returns-in_default c = (λ t. sym (ap (λ (i : Instr). i.op) (of_other t _ (λ e. omega arith))), omega arith)

@@ -74,13 +74,6 @@ overflow_add-result c =
     c.second_width-second.ensures.0 (c.first_operand-a.ensures t) (c.second_operand-b.ensures t) c.requires in
     let b = begun-next (begun-next begun c.write_number-n.ensures) c.write_number.ensures in omega (arith, (begun-done b).count, c.requires, c.well_formed)
 
-pub shape_of-out : goal.shape_of-out
-shape_of-out c =
-    let begun = let t = c.args.tree.now in
-    begun-word t c.args.out.now c.args.w (c.opcode-op.ensures.0 t) c.first_width-first.ensures.0
-    c.second_width-second.ensures.0 (c.first_operand-a.ensures t) (c.second_operand-b.ensures t) c.requires in
-    begun-length (begun-next (begun-next begun c.write_number-n.ensures) c.write_number.ensures)
-
 pub returns : goal.returns
 returns c =
     let begun = let t = c.args.tree.now in

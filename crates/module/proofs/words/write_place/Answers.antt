@@ -29,11 +29,6 @@ overflow_add-result c =
     let begun = begun-place c.args.tree.now c.args.out.now c.args.w c.requires.0 c.requires.1 in
     omega (arith, (begun-done (begun-next begun c.write_literal.ensures)).count, c.requires.1, c.well_formed)
 
-pub shape_of-out : goal.shape_of-out
-shape_of-out c =
-    let begun = begun-place c.args.tree.now c.args.out.now c.args.w c.requires.0 c.requires.1 in
-    begun-length (begun-next begun c.write_literal.ensures)
-
 pub returns : goal.returns
 returns c =
     let begun = begun-place c.args.tree.now c.args.out.now c.args.w c.requires.0 c.requires.1 in

@@ -1,12 +1,15 @@
+use Prim.Native.Nat.{ℕ}
 use native.Mathlib.Omega.{arith}
-use Rattle.names.proofs.Indexing.{start_none, start-at, start-past}
+use mathlib.Core.Path.{◌≡◌, sym, ap, ◌∙◌}
+use Rattle.state.specs.Index.{start_of}
+use Rattle.state.proofs.Index.{start-over, start-kept, start_none}
 use Rattle.names.proofs.index.start.Goals as goal
 
-pub returns-then-k-eq0 : goal.returns-then-k-eq0
-returns-then-k-eq0 c = (start_none _ _ c.if-k-eq0.true, omega arith)
+pub returns-in-Some : goal.returns-in-Some
+returns-in-Some c = let k = start-kept c.args.k c.args.n (omega arith) (omega arith) in (omega arith, omega arith)
 
-pub returns-then-first-n : goal.returns-then-first-n
-returns-then-first-n c = (start-at _ _ (omega arith) c.if-first-n.true, omega arith)
+pub returns-in_default : goal.returns-in_default
+returns-in_default c = (sym (start-over c.args.k c.args.n (omega arith)), omega arith)
 
-pub returns : goal.returns
-returns c = (start-past _ _ (omega arith) c.if-first-n.false, omega arith)
+pub returns-in_default-2 : goal.returns-in_default-2
+returns-in_default-2 c = let h = c.in_default.ensures in let e : c.args.k ≡ 0 = omega arith in (sym (ap (λ (k : ℕ). start_of k c.args.n) e ∙ start_none c.args.n), omega arith)

@@ -1,4 +1,3 @@
-use Prim.Native.Nat.{◌-◌}
 use Rattle.parts.specs.Places.{name_bytes, names_from}
 use Rattle.parts.specs.Search.{Searches}
 use Rattle.parts.proofs.SearchLaws.{Seeking}
@@ -6,6 +5,3 @@ use Rattle.parts.proofs.distinct.put_name.Given as goal
 
 abbrev pub invariant-loop-k : goal.invariant-loop-k
 invariant-loop-k l = Searches l.tree l.table l.root (names_from l.tree l.count l.root) × Seeking l.tree l.table l.root (names_from l.tree l.count l.root) (name_bytes l.tree l.at) l.k l.p
-
-abbrev pub decreases-loop-k : goal.decreases-loop-k
-decreases-loop-k l = l.most - l.k

@@ -1,16 +1,14 @@
-use mathlib.Core.Path.{sym, ◌∙◌}
-use Rattle.byte_tests.proofs.Names.{all_go, all-stop, all_none}
-use Rattle.parts.proofs.LeafLaws.{digit_low, digit-high, digit-is}
+use Rattle.std.proofs.Common.{rules, tests}
+use Rattle.std.proofs.lemmas.Iterator.{YieldsList-from_slice}
+use Rattle.std.proofs.lemmas.Iterator.Search.{all_from_yields_List}
+use Rattle.definitions.specs.Wellformed.{digit}
+use Rattle.parts.proofs.IteratorLaws.{digits-none, digits-some}
 use Rattle.parts.proofs.names.are_digits.Goals as goal
 
-pub returns-then-bytes-i-lt48 : goal.returns-then-bytes-i-lt48
-returns-then-bytes-i-lt48 c = sym (c.loop-i.invariant ∙ all-stop _ _ _ c.loop-i-test.true (digit_low _ c.if-bytes-i-lt48.true))
+pub returns-then-not-is_empty : goal.returns-then-not-is_empty
+unfolding digit
+returns-then-not-is_empty c =
+    digits-some _ _ (search rules) (all_from_yields_List {all = c.args.bytes.now} digit _ _ _ c.all.ensures.ran (YieldsList-from_slice _ cc) (λ x b q k. search (rules, tests)))
 
-pub returns-then-bytes-i-gt57 : goal.returns-then-bytes-i-gt57
-returns-then-bytes-i-gt57 c = sym (c.loop-i.invariant ∙ all-stop _ _ _ c.loop-i-test.true (digit-high _ c.if-bytes-i-gt57.true))
-
-pub loop-i-preserved : goal.loop-i-preserved
-loop-i-preserved c = c.loop-i.invariant ∙ all_go _ _ _ c.loop-i-test.true (digit-is _ c.if-bytes-i-lt48.false c.if-bytes-i-gt57.false)
-
-pub returns : goal.returns
-returns c = sym (c.loop-i.invariant ∙ all_none _ _ _ c.loop-i-test.false)
+pub returns-else-not-is_empty : goal.returns-else-not-is_empty
+returns-else-not-is_empty c = digits-none _ _ (search rules) (search rules)

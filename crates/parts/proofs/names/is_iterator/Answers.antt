@@ -1,16 +1,11 @@
-use Rattle.parts.proofs.IteratorLaws.{iterator-short, iterator-begins, iterator-digits, iterator-ends}
+use Rattle.parts.proofs.IteratorLaws.{iterator-begins, iterator-ends, iterator-digits}
 use Rattle.parts.proofs.names.is_iterator.Goals as goal
 
-pub returns-then-bytes-lt14 : goal.returns-then-bytes-lt14
-returns-then-bytes-lt14 c = iterator-short _ c.if-bytes-lt14.true
+pub returns-in_default : goal.returns-in_default
+returns-in_default c = iterator-begins _ c.in_default.ensures.cases
 
-pub returns-then-not-same_bytes : goal.returns-then-not-same_bytes
-returns-then-not-same_bytes c = iterator-begins _ _ c.same_bytes.ensures (c.if-not-same_bytes.true)
-
-pub returns-then-not-are_digits : goal.returns-then-not-are_digits
-returns-then-not-are_digits c = iterator-digits _ _ c.are_digits.ensures (c.if-not-are_digits.true)
+pub returns-in_default-strip_suffix : goal.returns-in_default-strip_suffix
+returns-in_default-strip_suffix c = iterator-ends _ _ c.in-Some.ensures.cases.1 c.in_default-strip_suffix.ensures.cases
 
 pub returns : goal.returns
-returns c =
-    iterator-ends _ _ _ _ c.if-bytes-lt14.false c.same_bytes.ensures (c.if-not-same_bytes.false)
-    c.are_digits.ensures (c.if-not-are_digits.false) c.same_bytes-2.ensures
+returns c = let h = c.in-Some.ensures.cases in let g = c.in-Some-strip_suffix.ensures.cases in iterator-digits _ _ _ _ h.0 h.1 g.0 g.1 g.2 c.are_digits.ensures

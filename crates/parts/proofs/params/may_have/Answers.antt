@@ -1,8 +1,8 @@
-use Rattle.parts.proofs.NameLaws.{may_none, may-init}
+use Rattle.parts.proofs.IteratorLaws.{other-name, init-name}
 use Rattle.parts.proofs.params.may_have.Goals as goal
 
-pub returns-then-same_bytes : goal.returns-then-same_bytes
-returns-then-same_bytes c = may-init _ c.args.n _ c.same_bytes.ensures c.if-same_bytes.true
+pub returns-then-ne : goal.returns-then-ne
+returns-then-ne c = other-name _ _ _ _ c.ne.ensures c.as_slice.ensures c.if-ne.true
 
-pub returns : goal.returns
-returns c = may_none _ c.args.n _ c.same_bytes.ensures c.if-same_bytes.false
+pub returns-else-ne : goal.returns-else-ne
+returns-else-ne c = init-name _ _ _ _ c.ne.ensures c.as_slice.ensures c.if-ne.false

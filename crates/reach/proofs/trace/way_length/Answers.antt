@@ -1,6 +1,10 @@
-use mathlib.Core.Path.{refl}
+use Prim.Native.Nat.{ℕ}
+use lib.ListN.{length}
+use mathlib.Core.Path.{refl, ap, ◌∙◌}
+use Rattle.std.proofs.Common.{Option}
+use Rattle.reach.specs.Tracing.{listed}
 use native.Mathlib.Omega.{arith}
-use Rattle.reach.proofs.Tracks.{counting-start, place_in, mark-in, some, one_less, counted, counting-on}
+use Rattle.reach.proofs.Tracks.{counting-start, place_in, mark-in, some, one_less, counted, counting-on, listed-by}
 use Rattle.reach.proofs.trace.way_length.Goals as goal
 
 pub loop-place-init : goal.loop-place-init
@@ -18,8 +22,8 @@ bounds-area-p c = mark-in c.loop-place.invariant.going
 pub returns-then-m-eq-ROOT : goal.returns-then-m-eq-ROOT
 returns-then-m-eq-ROOT c = counted c.loop-place.invariant refl c.if-m-eq-ROOT.true
 
-pub tag_of-requires : goal.tag_of-requires
-tag_of-requires c = some c.loop-place.invariant.going refl c.if-m-eq-ROOT.false
+pub answer_of-requires : goal.answer_of-requires
+answer_of-requires c = some c.loop-place.invariant.going refl c.if-m-eq-ROOT.false
 
 pub overflow_add-count : goal.overflow_add-count
 overflow_add-count c = let i = c.loop-place.invariant.few in let k = c.taken-count.ensures.1 in omega arith
@@ -31,4 +35,4 @@ pub loop-place-smaller : goal.loop-place-smaller
 loop-place-smaller c = let e = one_less c.loop-place.invariant.going refl c.if-m-eq-ROOT.false c.before_of-p.ensures in omega arith
 
 pub loop-place-preserved : goal.loop-place-preserved
-loop-place-preserved c = counting-on c.loop-place.invariant refl c.if-m-eq-ROOT.false c.before_of-p.ensures c.tag_of.ensures.0 c.taken-count.ensures.0 c.taken-count.ensures.1
+loop-place-preserved c = counting-on c.loop-place.invariant refl c.if-m-eq-ROOT.false c.before_of-p.ensures refl (c.taken-count.ensures.0 ∙ ap (λ (a : Option ℕ). length (listed a)) c.answer_of.ensures ∙ ap length (listed-by _)) c.taken-count.ensures.1

@@ -1,26 +1,16 @@
-use mathlib.Core.Path.{refl, sym, ◌∙◌}
-use native.Mathlib.Omega.{arith}
-use Rattle.reader.proofs.Checked.{list-short, list-begins, list-next, list-stops, list-ends, each-le}
+use Rattle.std.proofs.Common.{◌≡◌, Some, rules, sym, ◌∙◌}
+use Rattle.reader.specs.View.{skip_at}
+use Rattle.reader.proofs.Taken.{next_le}
+use Rattle.reader.proofs.ListLaws.{tested-list}
+use Rattle.definitions.specs.Bytes.{checked}
+use Rattle.definitions.proofs.Begins.{takes-checked}
+use Rattle.reader.specs.Asks.{ask_class}
+use Rattle.definitions.specs.Reader.{class_record}
 use Rattle.definitions.proofs.Begins.{takes-class}
 use Rattle.reader.proofs.classes.ask_classes.Goals as goal
 
-pub returns-then-bytes-at-lt2 : goal.returns-then-bytes-at-lt2
-returns-then-bytes-at-lt2 c = sym (list-short _ _ _ _ c.requires c.if-bytes-at-lt2.true)
-
-pub loop-left-init : goal.loop-left-init
-loop-left-init c = (omega arith, refl)
-
-pub returns-in_default : goal.returns-in_default
-returns-in_default c =
-    sym (list-begins _ _ _ _ _ c.if-bytes-at-lt2.false c.number_at-left.ensures.0 ∙ c.loop-left.invariant.1
-    ∙ list-stops _ _ _ takes-class _ c.loop-left.p c.loop-left-test.true c.loop-left.invariant.0 (sym c.ask_class-one.ensures ∙ c.in_default.is))
-
-pub loop-left-preserved : goal.loop-left-preserved
-loop-left-preserved c =
-    let r = sym c.ask_class-one.ensures ∙ c.in-Next.is in (
-      each-le _ _ _ takes-class c.loop-left.p _ c.loop-left.invariant.0 r,
-      c.loop-left.invariant.1 ∙ list-next _ _ _ takes-class _ c.loop-left.p _ c.loop-left-test.true c.loop-left.invariant.0 r,
-    )
+pub skip_list-requires-clause-stays : goal.skip_list-requires-clause-stays
+skip_list-requires-clause-stays c = λ p m h e. next_le (checked (ask_class c.args.asked) class_record) (takes-checked (ask_class c.args.asked) class_record takes-class) c.args.bytes.now p m h (let k : Some m ≡ skip_at (checked (ask_class c.args.asked) class_record) c.args.bytes.now p = search rules in sym k)
 
 pub returns : goal.returns
-returns c = sym (list-begins _ _ _ _ _ c.if-bytes-at-lt2.false c.number_at-left.ensures.0 ∙ c.loop-left.invariant.1 ∙ list-ends _ _ _ _ c.loop-left.p c.loop-left-test.false c.loop-left.invariant.0)
+returns c = c.skip_list.ensures (skip_at (checked (ask_class c.args.asked) class_record) c.args.bytes.now) (λ p r h e. search rules) ∙ sym (tested-list (ask_class c.args.asked) class_record takes-class c.args.bytes.now c.args.at c.requires)

@@ -1,15 +1,13 @@
-use mathlib.Core.Path.{sym}
-use Rattle.reader.proofs.FunctionLaws.{short-constant, constant-exists, constant-fails, constant-reads}
+use mathlib.Core.Path.{sym, ◌∙◌}
+use native.Mathlib.Omega.{arith}
+use Rattle.reader.proofs.FunctionLaws.{short-constant, constant-stands, constant-fails}
 use Rattle.reader.proofs.classes.ask_constant.Goals as goal
 
-pub returns-then-bytes-at-lt2 : goal.returns-then-bytes-at-lt2
-returns-then-bytes-at-lt2 c = sym (short-constant _ _ _ _ c.requires c.if-bytes-at-lt2.true)
+pub returns-in_err-class : goal.returns-in_err-class
+returns-in_err-class c = let k = c.in_err-class.ensures in let h = c.requires in c.from_residual.ensures ∙ sym (short-constant _ _ _ h (omega arith))
 
-pub returns-then-number_at-c : goal.returns-then-number_at-c
-returns-then-number_at-c c = sym (constant-exists _ _ _ _ c.requires c.if-bytes-at-lt2.false _ c.number_at.ensures.0 c.if-question-eq20.true c.if-number_at-c.true)
+pub returns-then-has_class : goal.returns-then-has_class
+returns-then-has_class c = let k = c.in_ok-class.ensures in let h = c.requires in let l = k.0 in sym (constant-stands _ _ _ h (omega arith) _ k.1 (sym c.if-has_class.ensures))
 
-pub returns-then-question-eq20 : goal.returns-then-question-eq20
-returns-then-question-eq20 c = sym (constant-fails _ _ _ _ c.requires c.if-bytes-at-lt2.false _ c.number_at.ensures.0 c.if-question-eq20.true c.if-number_at-c.false)
-
-pub returns : goal.returns
-returns c = sym (constant-reads _ _ _ _ c.requires c.if-bytes-at-lt2.false c.if-question-eq20.false)
+pub returns-else-has_class : goal.returns-else-has_class
+returns-else-has_class c = let k = c.in_ok-class.ensures in let h = c.requires in let l = k.0 in sym (constant-fails _ _ _ h (omega arith) _ k.1 (sym c.if-has_class.ensures))

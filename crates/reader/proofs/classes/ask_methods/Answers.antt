@@ -1,54 +1,36 @@
-use mathlib.Core.Path.{refl, sym, ◌∙◌}
+use mathlib.Core.Path.{◌≡◌, sym, ap, ◌∙◌}
 use native.Mathlib.Omega.{arith}
-use lib.Seq.{slice}
-use Rattle.reader.proofs.ClassLaws.{methods-short, methods-begin, methods-end, methods-cut, methods-no-number, methods-next, methods-fail, proper-bounds}
+use Prim.Native.Nat.{ℕ, ◌+◌, ◌-◌, ◌<◌}
+use mathlib.Core.List.{List}
+use lib.ListN.{take, drop}
+use Rattle.reader.specs.Asks.{ask_next}
+use Rattle.reader.proofs.NameLaws.{part_slice}
+use Rattle.reader.proofs.ClassLaws.{methods_from, methods-short, methods-begin, methods-end, methods-cut, methods-no-number, methods-next, methods-fail, proper-bounds}
 use Rattle.reader.proofs.classes.ask_methods.Goals as goal
 
-pub returns-then-bytes-at-lt2 : goal.returns-then-bytes-at-lt2
-returns-then-bytes-at-lt2 c = sym (methods-short _ _ _ _ c.requires c.if-bytes-at-lt2.true)
+pub returns-in_err-count : goal.returns-in_err-count
+returns-in_err-count c = let k = c.in_err-count.ensures in let h = c.requires in c.from_residual.ensures ∙ sym (methods-short _ _ _ h (omega arith))
 
-pub loop-left-init : goal.loop-left-init
-loop-left-init c = (omega arith, omega arith, omega arith, refl)
+pub returns-in_err-end : goal.returns-in_err-end
+returns-in_err-end c = let l = c.loop in let t = c.args.bytes.now in let h : 0 < c.in_ok-count.count - l.counter = (let m = c.loop-test.true in omega arith) in let k = c.in_ok-count.ensures in let k0 = k.0 in c.from_residual-in_err-end.ensures ∙ sym (methods-begin t c.args.asked _ _ (omega arith) k.1 ∙ l.invariant.1 ∙ methods-cut t _ l.before.now _ l.p h l.invariant.0 (sym c.in_err-end.ensures))
 
-pub returns-in_default : goal.returns-in_default
-returns-in_default c =
-    let l = c.loop-left in let t = c.args.bytes.now in let x = slice l.from l.to t in
-    sym (methods-begin t _ _ _ _ c.if-bytes-at-lt2.false c.number_at-left.ensures.0 ∙ l.invariant.3 ∙ methods-cut t _ _ x _ l.p c.loop-left-test.true l.invariant.0 (sym c.skip_proper-named.ensures ∙ c.in_default.is))
+pub read_number-requires-in-loop : goal.read_number-requires-in-loop
+read_number-requires-in-loop c = let l = c.loop in let t = c.args.bytes.now in let r = sym c.in_ok-end.ensures in let b = proper-bounds t l.p _ l.invariant.0 r in (b.1, omega arith)
 
-pub overflow_sub-bytes-in-loop-left : goal.overflow_sub-bytes-in-loop-left
-overflow_sub-bytes-in-loop-left c = let l = c.loop-left in let t = c.args.bytes.now in let x = slice l.from l.to t in let r = sym c.skip_proper-named.ensures ∙ c.in-Next.is in let b = proper-bounds t l.p _ l.invariant.0 r in omega arith
+pub returns-in_err-function : goal.returns-in_err-function
+returns-in_err-function c = let l = c.loop in let t = c.args.bytes.now in let h : 0 < c.in_ok-count.count - l.counter = (let m = c.loop-test.true in omega arith) in let k = c.in_ok-count.ensures in let k0 = k.0 in let r = sym c.in_ok-end.ensures in let b = proper-bounds t l.p _ l.invariant.0 r in let u = c.in_err-function.ensures in c.from_residual-in_err-function.ensures ∙ sym (methods-begin t c.args.asked _ _ (omega arith) k.1 ∙ l.invariant.1 ∙ methods-no-number t _ l.before.now _ l.p h l.invariant.0 _ r (omega arith))
 
-pub returns-then-bytes-end-lt2 : goal.returns-then-bytes-end-lt2
-returns-then-bytes-end-lt2 c =
-    let l = c.loop-left in let t = c.args.bytes.now in let x = slice l.from l.to t in let r = sym c.skip_proper-named.ensures ∙ c.in-Next.is in
-    sym (methods-begin t _ _ _ _ c.if-bytes-at-lt2.false c.number_at-left.ensures.0 ∙ l.invariant.3 ∙ methods-no-number t _ _ x _ l.p c.loop-left-test.true l.invariant.0 _ r c.if-bytes-end-lt2.true)
+pub slice_bounds-name-count : goal.slice_bounds-name-count
+slice_bounds-name-count c = let l = c.loop in let t = c.args.bytes.now in let r = sym c.in_ok-end.ensures in let b = proper-bounds t l.p _ l.invariant.0 r in b.0
 
-pub number_at-function-requires : goal.number_at-function-requires
-number_at-function-requires c = let l = c.loop-left in let t = c.args.bytes.now in let x = slice l.from l.to t in let r = sym c.skip_proper-named.ensures ∙ c.in-Next.is in let b = proper-bounds t l.p _ l.invariant.0 r in omega arith
+pub slice_bounds-name-start : goal.slice_bounds-name-start
+slice_bounds-name-start c = let l = c.loop in let t = c.args.bytes.now in let r = sym c.in_ok-end.ensures in let b = proper-bounds t l.p _ l.invariant.0 r in b.0
 
-pub overflow_add-p-in-loop-left : goal.overflow_add-p-in-loop-left
-overflow_add-p-in-loop-left c = let l = c.loop-left in let t = c.args.bytes.now in let x = slice l.from l.to t in let r = sym c.skip_proper-named.ensures ∙ c.in-Next.is in let b = proper-bounds t l.p _ l.invariant.0 r in omega arith
+pub returns-then-not-ask_next : goal.returns-then-not-ask_next
+returns-then-not-ask_next c = let l = c.loop in let t = c.args.bytes.now in let h : 0 < c.in_ok-count.count - l.counter = (let m = c.loop-test.true in omega arith) in let k = c.in_ok-count.ensures in let k0 = k.0 in let r = sym c.in_ok-end.ensures in let b = proper-bounds t l.p _ l.invariant.0 r in let u = c.in_ok-function.ensures in let u0 = u.0 in let y = part_slice t (l.p + 1) c.in_ok-end.end in sym (methods-begin t c.args.asked _ _ (omega arith) k.1 ∙ l.invariant.1 ∙ methods-fail t _ l.before.now _ l.p h l.invariant.0 _ r (omega arith) _ u.1 (ap (λ (x : List ℕ). ask_next c.args.asked l.before.now x c.in_ok-function.function) (sym y) ∙ sym c.if-not-ask_next.ensures))
 
-pub ask_next-requires : goal.ask_next-requires
-ask_next-requires c = let l = c.loop-left in let t = c.args.bytes.now in let x = slice l.from l.to t in let r = sym c.skip_proper-named.ensures ∙ c.in-Next.is in let b = proper-bounds t l.p _ l.invariant.0 r in (l.invariant.1, l.invariant.2, b.0, b.1)
-
-pub overflow_add-from : goal.overflow_add-from
-overflow_add-from c = let l = c.loop-left in let t = c.args.bytes.now in let x = slice l.from l.to t in let r = sym c.skip_proper-named.ensures ∙ c.in-Next.is in let b = proper-bounds t l.p _ l.invariant.0 r in omega arith
-
-pub overflow_add-p-then-ask_next : goal.overflow_add-p-then-ask_next
-overflow_add-p-then-ask_next c = let l = c.loop-left in let t = c.args.bytes.now in let x = slice l.from l.to t in let r = sym c.skip_proper-named.ensures ∙ c.in-Next.is in let b = proper-bounds t l.p _ l.invariant.0 r in omega arith
-
-pub loop-left-preserved : goal.loop-left-preserved
-loop-left-preserved c =
-    let l = c.loop-left in let t = c.args.bytes.now in let x = slice l.from l.to t in let r = sym c.skip_proper-named.ensures ∙ c.in-Next.is in let b = proper-bounds t l.p _ l.invariant.0 r in
-    (omega arith, b.0, b.1, l.invariant.3 ∙ methods-next t _ _ x _ l.p c.loop-left-test.true l.invariant.0 _ r c.if-bytes-end-lt2.false _ c.number_at-function.ensures.0 (sym c.ask_next.ensures ∙ c.if-ask_next.true))
-
-pub returns-else-ask_next : goal.returns-else-ask_next
-returns-else-ask_next c =
-    let l = c.loop-left in let t = c.args.bytes.now in let x = slice l.from l.to t in let r = sym c.skip_proper-named.ensures ∙ c.in-Next.is in
-    sym (methods-begin t _ _ _ _ c.if-bytes-at-lt2.false c.number_at-left.ensures.0 ∙ l.invariant.3 ∙ methods-fail t _ _ x _ l.p c.loop-left-test.true l.invariant.0 _ r c.if-bytes-end-lt2.false _ c.number_at-function.ensures.0 (sym c.ask_next.ensures ∙ c.if-ask_next.false))
+pub loop-preserved : goal.loop-preserved
+loop-preserved c = let l = c.loop in let t = c.args.bytes.now in let h : 0 < c.in_ok-count.count - l.counter = (let m = c.loop-test.true in omega arith) in let k = c.in_ok-count.ensures in let k0 = k.0 in let r = sym c.in_ok-end.ensures in let b = proper-bounds t l.p _ l.invariant.0 r in let u = c.in_ok-function.ensures in let u0 = u.0 in let y = part_slice t (l.p + 1) c.in_ok-end.end in (u0, l.invariant.1 ∙ methods-next t _ l.before.now _ l.p h l.invariant.0 _ r (omega arith) _ u.1 (ap (λ (x : List ℕ). ask_next c.args.asked l.before.now x c.in_ok-function.function) (sym y) ∙ sym c.if-not-ask_next.ensures) ∙ ap (λ (x : List ℕ). methods_from t c.args.asked x (c.in_ok-count.count - l.counter - 1) (c.in_ok-end.end + 2)) (sym y) ∙ ap (λ (n : ℕ). methods_from t c.args.asked (take (c.in_ok-end.end - (l.p + 1)) (drop (l.p + 1) t)) n (c.in_ok-end.end + 2)) (let z : c.in_ok-count.count - l.counter - 1 ≡ c.in_ok-count.count - (l.counter + 1) = omega arith in z))
 
 pub returns : goal.returns
-returns c =
-    let l = c.loop-left in let t = c.args.bytes.now in let x = slice l.from l.to t in
-    sym (methods-begin t _ _ _ _ c.if-bytes-at-lt2.false c.number_at-left.ensures.0 ∙ l.invariant.3 ∙ methods-end t _ _ x _ l.p c.loop-left-test.false l.invariant.0)
+returns c = let l = c.loop in let t = c.args.bytes.now in let k = c.in_ok-count.ensures in let k0 = k.0 in sym (methods-begin t c.args.asked _ _ (omega arith) k.1 ∙ l.invariant.1 ∙ methods-end t _ l.before.now _ l.p (let m = c.loop-test.false in omega arith) l.invariant.0)

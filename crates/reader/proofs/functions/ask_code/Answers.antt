@@ -4,26 +4,19 @@ use Rattle.reader.proofs.FunctionLaws.{code-all, code-next, code-fail, code-cut,
 use Rattle.reader.proofs.functions.ask_code.Goals as goal
 
 pub loop-place-init : goal.loop-place-init
-loop-place-init c = (omega arith, omega arith, refl)
+loop-place-init c = (c.requires.0, refl)
 
-pub returns-in_default : goal.returns-in_default
-returns-in_default c = sym (code-all _ _ _ _ _ _ ∙ c.loop-place.invariant.2 ∙ code-cut _ _ _ _ _ _ c.loop-place.p c.loop-place-test.true c.loop-place.invariant.0 (sym c.instruction_at-found.ensures ∙ c.in_default.is))
+pub returns-in_err-instruction : goal.returns-in_err-instruction
+returns-in_err-instruction c = let l = c.loop-place in let a = c.args in let h = c.loop-place-test.true in c.from_residual.ensures ∙ sym (code-all a.bytes.now a.asked a.head.count a.head.slots a.at ∙ l.invariant.1 ∙ code-cut _ _ _ _ _ l.p h l.invariant.0 (sym c.in_err-instruction.ensures))
 
 pub ask_op-requires : goal.ask_op-requires
-ask_op-requires c = let h = c.requires.1 in (omega arith, op-small _ c.loop-place.p _ _ _ _ c.loop-place.invariant.0 (sym c.instruction_at-found.ensures ∙ c.in-Instruction.is))
+ask_op-requires c = let l = c.loop-place in let a = c.args in let h = c.loop-place-test.true in let k = c.requires.1 in (omega arith, op-small _ l.p _ _ _ _ l.invariant.0 (sym c.in_ok-instruction.ensures))
+
+pub returns-then-not-ask_op : goal.returns-then-not-ask_op
+returns-then-not-ask_op c = let l = c.loop-place in let a = c.args in let h = c.loop-place-test.true in sym (code-all a.bytes.now a.asked a.head.count a.head.slots a.at ∙ l.invariant.1 ∙ code-fail _ _ _ _ _ l.p h l.invariant.0 _ _ _ _ (sym c.in_ok-instruction.ensures) (sym c.if-not-ask_op.ensures))
 
 pub loop-place-preserved : goal.loop-place-preserved
-loop-place-preserved c =
-    let e = sym c.instruction_at-found.ensures ∙ c.in-Instruction.is in (
-      found-next _ c.loop-place.p _ _ _ _ c.loop-place.invariant.0 e,
-      omega arith,
-      c.loop-place.invariant.2 ∙ code-next _ _ _ _ _ _ c.loop-place.p c.loop-place-test.true c.loop-place.invariant.0 _ _ _ _ e (sym c.ask_op.ensures ∙ c.if-ask_op.true),
-    )
-
-pub returns-else-ask_op : goal.returns-else-ask_op
-returns-else-ask_op c =
-    let e = sym c.instruction_at-found.ensures ∙ c.in-Instruction.is in
-    sym (code-all _ _ _ _ _ _ ∙ c.loop-place.invariant.2 ∙ code-fail _ _ _ _ _ _ c.loop-place.p c.loop-place-test.true c.loop-place.invariant.0 _ _ _ _ e (sym c.ask_op.ensures ∙ c.if-ask_op.false))
+loop-place-preserved c = let l = c.loop-place in let a = c.args in let h = c.loop-place-test.true in (found-next _ l.p _ _ _ _ l.invariant.0 (sym c.in_ok-instruction.ensures), l.invariant.1 ∙ code-next _ _ _ _ _ l.p h l.invariant.0 _ _ _ _ (sym c.in_ok-instruction.ensures) (sym c.if-not-ask_op.ensures))
 
 pub returns : goal.returns
-returns c = sym (code-all _ _ _ _ _ _ ∙ c.loop-place.invariant.2 ∙ code-end _ _ _ _ _ _ c.loop-place.p c.loop-place-test.false c.loop-place.invariant.0)
+returns c = let l = c.loop-place in let a = c.args in sym (code-all a.bytes.now a.asked a.head.count a.head.slots a.at ∙ l.invariant.1 ∙ code-end _ _ _ _ _ l.p c.loop-place-test.false l.invariant.0)

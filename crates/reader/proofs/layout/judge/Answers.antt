@@ -1,18 +1,16 @@
-use mathlib.Core.Path.{sym, ◌∙◌}
-use Rattle.reader.proofs.Questions.{functions-lack, classes-lack, constants-lack, code-falls, code-stands}
+use mathlib.Core.Path.{◌≡◌, sym, ap, ◌∙◌}
+use Rattle.std.specs.Prelude.{Err}
+use Rattle.std.proofs.Common.{rules}
+use Rattle.reader.specs.View.{said}
+use Rattle.reader.proofs.Answered.{refused-none, passed-some, none-so, some-so}
+use Rattle.reader.proofs.Questions.{numbers-lack, code-falls, code-stands}
 use Rattle.reader.proofs.layout.judge.Goals as goal
 
-pub returns-in_default : goal.returns-in_default
-returns-in_default c = sym (functions-lack _ _ _ _ _ c.requires _ c.counts_of-counts.ensures (sym c.ask_functions-functions.ensures ∙ c.in_default.is))
+pub returns-in_err-ok_or : goal.returns-in_err-ok_or
+returns-in_err-ok_or c = let e : c.from_residual.result ≡ Err c.in_err-ok_or.field-0.0 = search rules in let k = refused-none c.ask_numbers.result _ _ c.in_err-ok_or.ensures.value in ap said (e ∙ ap Err k.1) ∙ numbers-lack _ _ _ _ _ c.requires.laid (none-so c.ask_numbers.result _ _ c.ask_numbers.ensures k.0)
 
-pub returns-in_default-classes : goal.returns-in_default-classes
-returns-in_default-classes c = sym (classes-lack _ _ _ _ _ c.requires _ c.counts_of-counts.ensures _ (sym c.ask_functions-functions.ensures ∙ c.in-Next.is) (sym c.ask_classes-classes.ensures ∙ c.in_default-classes.is))
-
-pub returns-in_default-constants : goal.returns-in_default-constants
-returns-in_default-constants c = sym (constants-lack _ _ _ _ _ c.requires _ c.counts_of-counts.ensures _ (sym c.ask_functions-functions.ensures ∙ c.in-Next.is) _ (sym c.ask_classes-classes.ensures ∙ c.in-Next-classes.is) (sym c.ask_constants-constants.ensures ∙ c.in_default-constants.is))
-
-pub returns-in_default-code : goal.returns-in_default-code
-returns-in_default-code c = sym (code-falls _ _ _ _ _ c.requires _ c.counts_of-counts.ensures _ (sym c.ask_functions-functions.ensures ∙ c.in-Next.is) _ (sym c.ask_classes-classes.ensures ∙ c.in-Next-classes.is) _ (sym c.ask_constants-constants.ensures ∙ c.in-Next-constants.is) (sym c.ask_functions-code.ensures ∙ c.in_default-code.is))
+pub returns-in_err-ok_or-2 : goal.returns-in_err-ok_or-2
+returns-in_err-ok_or-2 c = let e : c.from_residual-in_err-ok_or-2.result ≡ Err c.in_err-ok_or-2.field-0.0 = search rules in let k = refused-none c.ask_functions.result _ _ c.in_err-ok_or-2.ensures.value in let s = passed-some c.ask_numbers.result _ _ c.in_ok-ok_or.ensures.value in ap said (e ∙ ap Err k.1) ∙ code-falls _ _ _ _ _ c.requires.laid (some-so c.ask_numbers.result _ _ _ c.ask_numbers.ensures s) (sym c.ask_functions.ensures ∙ k.0)
 
 pub returns : goal.returns
-returns c = sym (code-stands _ _ _ _ _ c.requires _ c.counts_of-counts.ensures _ (sym c.ask_functions-functions.ensures ∙ c.in-Next.is) _ (sym c.ask_classes-classes.ensures ∙ c.in-Next-classes.is) _ (sym c.ask_constants-constants.ensures ∙ c.in-Next-constants.is) _ (sym c.ask_functions-code.ensures ∙ c.in-Next-code.is))
+returns c = let k = passed-some c.ask_functions.result _ _ c.in_ok-ok_or-2.ensures.value in let s = passed-some c.ask_numbers.result _ _ c.in_ok-ok_or.ensures.value in code-stands _ _ _ _ _ c.requires.laid (some-so c.ask_numbers.result _ _ _ c.ask_numbers.ensures s) _ (sym c.ask_functions.ensures ∙ k)

@@ -1,21 +1,28 @@
 use mathlib.Core.Path.{sym, ◌∙◌}
+use Rattle.definitions.specs.Bytes.{text}
 use Rattle.reader.proofs.StringLaws.{string-cut, string-range, string-yes, string-no}
 use Rattle.reader.proofs.names.skip_string.Goals as goal
 
-pub returns-in_default : goal.returns-in_default
-returns-in_default c = sym (string-cut _ _ (sym c.skip_text-one.ensures ∙ c.in_default.is))
+pub returns-in_err-next : goal.returns-in_err-next
+unfolding text
+returns-in_err-next c = c.from_residual.ensures ∙ sym (string-cut _ _ (sym c.in_err-next.ensures))
 
 pub slice_bounds-is_utf8-count : goal.slice_bounds-is_utf8-count
-slice_bounds-is_utf8-count c = let h = string-range _ _ _ c.requires (sym c.skip_text-one.ensures ∙ c.in-Next.is) in h.0
+unfolding text
+slice_bounds-is_utf8-count c = (string-range _ _ _ c.requires (sym c.in_ok-next.ensures)).0
 
 pub slice_bounds-is_utf8-start : goal.slice_bounds-is_utf8-start
-slice_bounds-is_utf8-start c = let h = string-range _ _ _ c.requires (sym c.skip_text-one.ensures ∙ c.in-Next.is) in h.0
+unfolding text
+slice_bounds-is_utf8-start c = (string-range _ _ _ c.requires (sym c.in_ok-next.ensures)).0
 
 pub slice_bounds-is_utf8-end : goal.slice_bounds-is_utf8-end
-slice_bounds-is_utf8-end c = let h = string-range _ _ _ c.requires (sym c.skip_text-one.ensures ∙ c.in-Next.is) in h.1
+unfolding text
+slice_bounds-is_utf8-end c = (string-range _ _ _ c.requires (sym c.in_ok-next.ensures)).1
 
 pub returns-then-is_utf8 : goal.returns-then-is_utf8
-returns-then-is_utf8 c = sym (string-yes _ _ _ c.requires (sym c.skip_text-one.ensures ∙ c.in-Next.is) (sym c.is_utf8.ensures ∙ c.if-is_utf8.true))
+unfolding text
+returns-then-is_utf8 c = sym (string-yes _ _ _ c.requires (sym c.in_ok-next.ensures) (sym c.if-is_utf8.ensures))
 
 pub returns-else-is_utf8 : goal.returns-else-is_utf8
-returns-else-is_utf8 c = sym (string-no _ _ _ c.requires (sym c.skip_text-one.ensures ∙ c.in-Next.is) (sym c.is_utf8.ensures ∙ c.if-is_utf8.false))
+unfolding text
+returns-else-is_utf8 c = sym (string-no _ _ _ c.requires (sym c.in_ok-next.ensures) (sym c.if-is_utf8.ensures))

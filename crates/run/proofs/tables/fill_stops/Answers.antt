@@ -9,17 +9,17 @@ loop-k-init c = stopping-start _ _ _ _
 pub bounds-places-k : goal.bounds-places-k
 bounds-places-k c = let l = c.loop-k in let b = l.invariant.below in let h = c.requires.1.long in let e = c.requires.2 in omega arith
 
-pub bounds-code-at : goal.bounds-code-at
-bounds-code-at c = let l = c.loop-k in place_in _ c.requires.0 _ c.requires.2 _ _ _ _ l.invariant c.loop-k-test.true _ c.requires.1 _ c.wide-at.ensures
+pub bounds-code-places : goal.bounds-code-places
+bounds-code-places c = let l = c.loop-k in place_in _ c.requires.0 _ c.requires.2 _ _ _ _ l.invariant c.loop-k-test.true _ c.requires.1 _ refl
 
 pub overflow_cast-stops : goal.overflow_cast-stops
-overflow_cast-stops c = let l = c.loop-k in let z = stop-less _ c.requires.0 _ c.requires.2 _ _ _ _ l.invariant c.loop-k-test.true _ c.requires.1 _ c.wide-at.ensures _ c.nearer-stop.ensures in omega arith
+overflow_cast-stops c = let l = c.loop-k in let z = stop-less _ c.requires.0 _ c.requires.2 _ _ _ _ l.invariant c.loop-k-test.true _ c.requires.1 _ refl _ c.nearer-stop.ensures in omega arith
 
 pub bounds-stops-k : goal.bounds-stops-k
 bounds-stops-k c = let l = c.loop-k in let b = l.invariant.below in let m = l.invariant.long in let h = c.requires.3 in omega arith
 
 pub loop-k-preserved : goal.loop-k-preserved
-loop-k-preserved c = let l = c.loop-k in stopping-next _ c.requires.0 _ c.requires.2 _ _ _ _ l.invariant c.loop-k-test.true _ c.requires.1 _ c.wide-at.ensures _ c.nearer-stop.ensures c.requires.3 _ refl
+loop-k-preserved c = let l = c.loop-k in stopping-next _ c.requires.0 _ c.requires.2 _ _ _ _ l.invariant c.loop-k-test.true _ c.requires.1 _ refl _ c.nearer-stop.ensures c.requires.3 _ refl
 
 pub shape_of-stops : goal.shape_of-stops
 shape_of-stops c = c.loop-k.invariant.long

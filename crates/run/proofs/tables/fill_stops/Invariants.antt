@@ -3,6 +3,3 @@ use Rattle.run.proofs.tables.fill_stops.Given as goal
 
 abbrev pub invariant-loop-k : goal.invariant-loop-k
 invariant-loop-k l = Stopping l.code l.n l.k l.stop l.initial.stops l.stops
-
-abbrev pub decreases-loop-k : goal.decreases-loop-k
-decreases-loop-k l = l.k

@@ -1,14 +1,16 @@
-use Rattle.run.proofs.Flows.{on-28, on-29, on-30, on-last}
+use mathlib.Core.Logic.{inl, inr}
+use native.Mathlib.Omega.{arith}
+use Rattle.run.proofs.Flows.{on_turn, on-return, on_straight}
 use Rattle.run.proofs.tables.goes_on.Goals as goal
 
-pub returns-then-op-eq-JUMP : goal.returns-then-op-eq-JUMP
-returns-then-op-eq-JUMP c = on-28 _ c.if-op-eq-JUMP.true
+pub returns-in_default : goal.returns-in_default
+returns-in_default c = on_straight _ (inl (omega arith)) (λ e. omega arith)
 
-pub returns-then-op-eq-JUMP_IF_FALSE : goal.returns-then-op-eq-JUMP_IF_FALSE
-returns-then-op-eq-JUMP_IF_FALSE c = on-29 _ c.if-op-eq-JUMP_IF_FALSE.true
+pub returns-in_default-2 : goal.returns-in_default-2
+returns-in_default-2 c = on_straight _ (inr (omega arith)) (λ e. grind arith)
 
-pub returns-then-op-eq-JUMP_IF_TRUE : goal.returns-then-op-eq-JUMP_IF_TRUE
-returns-then-op-eq-JUMP_IF_TRUE c = on-30 _ c.if-op-eq-JUMP_IF_TRUE.true
+pub returns-in-28 : goal.returns-in-28
+returns-in-28 c = on-return _ c.in-28.is
 
-pub returns : goal.returns
-returns c = on-last _ c.if-op-eq-JUMP.false c.if-op-eq-JUMP_IF_FALSE.false c.if-op-eq-JUMP_IF_TRUE.false
+pub returns-in-28-2 : goal.returns-in-28-2
+returns-in-28-2 c = on_turn _ (omega arith) (omega arith)

@@ -257,22 +257,22 @@ refs_list-refs_many-requires t c = (omega arith, (c.requires.0, list-reads _ _ _
 pub refs_list-returns : goal.refs_list-returns
 refs_list-returns t c = refs-list _ _ _ _ _ _ _ _ (list-is _ _ _ _ c.u16_at-count.ensures.0) c.refs_many.ensures
 
-pub refs_many-loop-left-init : goal.refs_many-loop-left-init
-refs_many-loop-left-init t c = exprs-start _ _ _ _ _ _ _ _ c.requires.0 c.requires.1
+pub refs_many-loop-init : goal.refs_many-loop-init
+refs_many-loop-init t c = exprs-start _ _ _ _ _ _ _ _ _ (omega arith) c.requires.0 c.requires.1
 
 pub refs_many-collect_referenced_vars-one-requires : goal.refs_many-collect_referenced_vars-one-requires
-refs_many-collect_referenced_vars-one-requires t c = (omega arith, (c.loop-left.invariant.keeping, exprs-head _ _ _ _ _ _ _ _ _ _ _ _ c.loop-left.invariant c.loop-left-test.true))
+refs_many-collect_referenced_vars-one-requires t c = (omega arith, (c.loop.invariant.keeping, exprs-head _ _ _ _ _ _ _ _ _ _ _ _ c.loop.invariant (omega (arith, c.loop-test.true))))
 
-pub refs_many-loop-left-preserved : goal.refs_many-loop-left-preserved
-refs_many-loop-left-preserved t c =
-    exprs-next _ _ _ _ _ _ _ _ _ _ _ _ c.loop-left.invariant c.loop-left-test.true _ _
-    c.collect_referenced_vars-one.ensures c.collect_referenced_vars-one.auto.places
+pub refs_many-loop-preserved : goal.refs_many-loop-preserved
+refs_many-loop-preserved t c =
+    exprs-next _ _ _ _ _ _ _ _ _ _ _ _ c.loop.invariant (omega (arith, c.loop-test.true)) _ _
+    c.collect_referenced_vars-one.ensures c.collect_referenced_vars-one.auto.places _ (omega arith)
 
 pub refs_many-shape_of-places : goal.refs_many-shape_of-places
-refs_many-shape_of-places t c = c.loop-left.invariant.kept
+refs_many-shape_of-places t c = c.loop.invariant.kept
 
 pub refs_many-returns : goal.refs_many-returns
-refs_many-returns t c = exprs-done _ _ _ _ _ _ _ _ _ _ _ _ c.loop-left.invariant _ refl refl c.loop-left-test.false
+refs_many-returns t c = exprs-done _ _ _ _ _ _ _ _ _ _ _ _ c.loop.invariant _ refl refl (omega (arith, c.loop-test.false))
 
 pub refs_two-collect_referenced_vars-left-requires : goal.refs_two-collect_referenced_vars-left-requires
 refs_two-collect_referenced_vars-left-requires t c = (omega arith, (c.requires.0, c.requires.1.first))

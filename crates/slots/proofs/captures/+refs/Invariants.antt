@@ -1,6 +1,6 @@
 -- The walk over a lambda's body: one function for each form of expression. The depth falls.
 use Rattle.slots.proofs.Referring.{ExprsLeft}
-use Prim.Native.Nat.{◌+◌, ◌*◌}
+use Prim.Native.Nat.{◌+◌, ◌-◌, ◌*◌}
 use Rattle.slots.proofs.captures.+refs.Given as goal
 
 abbrev pub decreases-refs_attribute : goal.decreases-refs_attribute
@@ -27,8 +27,5 @@ decreases-refs_many l = 4 * l.depth + 1
 abbrev pub decreases-refs_two : goal.decreases-refs_two
 decreases-refs_two l = 4 * l.depth + 1
 
-abbrev pub invariant-refs_many-loop-left : goal.invariant-refs_many-loop-left
-invariant-refs_many-loop-left l = ExprsLeft l.depth l.tree l.parent l.marks l.initial.places l.initial.left l.initial.p l.initial.k l.places l.left l.p l.k
-
-abbrev pub decreases-refs_many-loop-left : goal.decreases-refs_many-loop-left
-decreases-refs_many-loop-left l = l.left
+abbrev pub invariant-refs_many-loop : goal.invariant-refs_many-loop
+invariant-refs_many-loop l = ExprsLeft l.depth l.tree l.parent l.marks l.initial.places l.count l.initial.p l.initial.k l.places (l.count - l.counter) l.p l.k

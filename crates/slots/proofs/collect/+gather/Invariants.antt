@@ -1,4 +1,4 @@
-use Prim.Native.Nat.{◌+◌, ◌*◌}
+use Prim.Native.Nat.{◌+◌, ◌-◌, ◌*◌}
 use Rattle.slots.proofs.Gathering.{StmtsLeft, BranchesLeft}
 use Rattle.tree.specs.StmtAt.{stmts_at, branches_at}
 use Rattle.definitions.specs.Slots.{loops_block, loops_branches}
@@ -26,16 +26,10 @@ decreases-gather_if l = 8 * l.depth + 4
 abbrev pub decreases-gather_stmt : goal.decreases-gather_stmt
 decreases-gather_stmt l = 8 * l.depth
 
-abbrev pub invariant-gather_block-loop-left : goal.invariant-gather_block-loop-left
-invariant-gather_block-loop-left l =
-    StmtsLeft l.depth l.tree l.initial.slots l.initial.left l.initial.p l.initial.k l.slots l.left l.p l.k × LoopsLeft l.initial.loops l.loops (loops_block (stmts_at l.depth l.initial.left l.tree l.initial.p).value) (loops_block (stmts_at l.depth l.left l.tree l.p).value)
+abbrev pub invariant-gather_block-loop : goal.invariant-gather_block-loop
+invariant-gather_block-loop l =
+    StmtsLeft l.depth l.tree l.initial.slots l.count l.initial.p l.initial.k l.slots (l.count - l.counter) l.p l.k × LoopsLeft l.initial.loops l.loops (loops_block (stmts_at l.depth l.count l.tree l.initial.p).value) (loops_block (stmts_at l.depth (l.count - l.counter) l.tree l.p).value)
 
-abbrev pub decreases-gather_block-loop-left : goal.decreases-gather_block-loop-left
-decreases-gather_block-loop-left l = l.left
-
-abbrev pub invariant-gather_elifs-loop-left : goal.invariant-gather_elifs-loop-left
-invariant-gather_elifs-loop-left l =
-    BranchesLeft l.depth l.tree l.initial.slots l.initial.left l.initial.p l.initial.k l.slots l.left l.p l.k × LoopsLeft l.initial.loops l.loops (loops_branches (branches_at l.depth l.initial.left l.tree l.initial.p).value) (loops_branches (branches_at l.depth l.left l.tree l.p).value)
-
-abbrev pub decreases-gather_elifs-loop-left : goal.decreases-gather_elifs-loop-left
-decreases-gather_elifs-loop-left l = l.left
+abbrev pub invariant-gather_elifs-loop : goal.invariant-gather_elifs-loop
+invariant-gather_elifs-loop l =
+    BranchesLeft l.depth l.tree l.initial.slots l.count l.initial.p l.initial.k l.slots (l.count - l.counter) l.p l.k × LoopsLeft l.initial.loops l.loops (loops_branches (branches_at l.depth l.count l.tree l.initial.p).value) (loops_branches (branches_at l.depth (l.count - l.counter) l.tree l.p).value)

@@ -3,7 +3,7 @@ use native.Mathlib.Omega.{arith}
 use mathlib.Core.Path.{◌∙◌}
 use Rattle.exprs.proofs.ExprViews.{expr-inside, expr-deep, view-var, view-tuple}
 use Rattle.slots.proofs.Skipping.{var-done}
-use Rattle.slots.proofs.Gathering.{gathers-as, next-gathers, room-again}
+use Rattle.slots.proofs.Gathering.{gathers-stopped, gathers-as, next-gathers, room-again}
 use Rattle.slots.proofs.Referring.{list-reads}
 use Rattle.slots.proofs.Targeting.{target-var, target-other, tuple-gathers, targets-start, targets-head, targets_next, targets-over, targets-done}
 use Rattle.slots.proofs.collect.+gather_targets.Goals as goal
@@ -58,35 +58,35 @@ gather_target-returns t c =
     next-gathers _ _ _ _ _ _ c.skip_expr.ensures c.requires.0.few (target-other _ _ _ c.requires.1 _
     c.if-kind-eq-VARIABLE.false c.if-kind-eq-TUPLE.false) c.requires.0.indexed
 
-pub gather_targets-loop-left-init : goal.gather_targets-loop-left-init
-gather_targets-loop-left-init t c = targets-start _ _ _ _ _ _ c.requires.1 c.requires.0.few c.requires.0.indexed
+pub gather_targets-loop-init : goal.gather_targets-loop-init
+gather_targets-loop-init t c = targets-start _ _ _ _ _ _ _ (omega arith) c.requires.1 c.requires.0.few c.requires.0.indexed
 
-pub gather_targets-gather_target-one-requires : goal.gather_targets-gather_target-one-requires
-gather_targets-gather_target-one-requires t c = (
+pub gather_targets-gather_target-requires : goal.gather_targets-gather_target-requires
+gather_targets-gather_target-requires t c = (
   omega arith,
   (
-    room-again _ _ _ _ _ c.requires.0 c.loop-left.invariant.kept c.loop-left.invariant.few
-        c.loop-left.invariant.indexed,
-    targets-head _ _ _ _ _ _ _ _ _ _ c.loop-left.invariant c.loop-left-test.true,
+    room-again _ _ _ _ _ c.requires.0 c.loop.invariant.kept c.loop.invariant.few
+        c.loop.invariant.indexed,
+    targets-head _ _ _ _ _ _ _ _ _ _ c.loop.invariant (omega (arith, c.loop-test.true)),
   ),
 )
 
-pub gather_targets-shape_of-slots-in_default : goal.gather_targets-shape_of-slots-in_default
-gather_targets-shape_of-slots-in_default t c = c.gather_target-one.auto.slots ∙ c.loop-left.invariant.kept
+pub gather_targets-shape_of-slots-in_err-one : goal.gather_targets-shape_of-slots-in_err-one
+gather_targets-shape_of-slots-in_err-one t c = c.gather_target.auto.slots ∙ c.loop.invariant.kept
 
-pub gather_targets-returns-in_default : goal.gather_targets-returns-in_default
-gather_targets-returns-in_default t c =
-    targets-over _ _ _ _ _ _ _ _ _ _ c.loop-left.invariant c.loop-left-test.true _ _
-    c.gather_target-one.ensures c.in_default.is
+pub gather_targets-returns-in_err-one : goal.gather_targets-returns-in_err-one
+gather_targets-returns-in_err-one t c =
+    gathers-stopped _ _ _ _ _ c.from_residual.ensures (targets-over _ _ _ _ _ _ _ _ _ _ c.loop.invariant (omega (arith, c.loop-test.true)) _ _
+    c.gather_target.ensures c.in_err-one.was)
 
-pub gather_targets-loop-left-preserved : goal.gather_targets-loop-left-preserved
-gather_targets-loop-left-preserved t c =
-    targets_next _ _ _ _ _ _ _ _ _ _ c.loop-left.invariant
-    c.loop-left-test.true _ _ _ _ c.gather_target-one.ensures c.in-Next.is
-    c.gather_target-one.auto.slots
+pub gather_targets-loop-preserved : goal.gather_targets-loop-preserved
+gather_targets-loop-preserved t c =
+    targets_next _ _ _ _ _ _ _ _ _ _ c.loop.invariant
+    (omega (arith, c.loop-test.true)) _ _ _ _ c.gather_target.ensures c.in_ok-one.was
+    c.gather_target.auto.slots _ (omega arith)
 
 pub gather_targets-shape_of-slots : goal.gather_targets-shape_of-slots
-gather_targets-shape_of-slots t c = c.loop-left.invariant.kept
+gather_targets-shape_of-slots t c = c.loop.invariant.kept
 
 pub gather_targets-returns : goal.gather_targets-returns
-gather_targets-returns t c = targets-done _ _ _ _ _ _ _ _ _ _ c.loop-left.invariant c.loop-left-test.false
+gather_targets-returns t c = targets-done _ _ _ _ _ _ _ _ _ _ c.loop.invariant (omega (arith, c.loop-test.false))

@@ -1,9 +1,5 @@
 use Rattle.slots.proofs.Params.{ParamsLeft}
-use Prim.Native.Nat.{◌-◌}
 use Rattle.slots.proofs.collect.place_names.Given as goal
 
 abbrev pub invariant-loop-i : goal.invariant-loop-i
 invariant-loop-i l = ParamsLeft l.tree l.initial.places l.count l.initial.p l.places l.p l.i
-
-abbrev pub decreases-loop-i : goal.decreases-loop-i
-decreases-loop-i l = l.count - l.i

@@ -1,6 +1,6 @@
 use native.Mathlib.Omega.{arith}
 use lib.ListN.{length-set}
-use Rattle.slots.proofs.Spotting.{move_start, move_read, move-next, move-done}
+use Rattle.slots.proofs.Spotting.{move_start, move_read, move-next, move-last}
 use Rattle.slots.proofs.order.insert_first.Goals as goal
 
 pub loop-j-init : goal.loop-j-init
@@ -21,23 +21,17 @@ offset_bounds-places-j-in-loop-j c = let h = move_read _ _ _ _ _ _ c.find_spot-s
 pub bounds-places-j-in-loop-j : goal.bounds-places-j-in-loop-j
 bounds-places-j-in-loop-j c = let h = move_read _ _ _ _ _ _ c.find_spot-spot.ensures c.loop-j.invariant c.loop-j-test.true in let k = c.loop-j.invariant.inserting.kept in omega arith
 
-pub overflow_add-j : goal.overflow_add-j
-overflow_add-j c = let h = move_read _ _ _ _ _ _ c.find_spot-spot.ensures c.loop-j.invariant c.loop-j-test.true in let k = c.loop-j.invariant.inserting.kept in omega arith
-
-pub loop-j-smaller : goal.loop-j-smaller
-loop-j-smaller c = omega (arith, c.loop-j-test.true)
-
 pub loop-j-preserved : goal.loop-j-preserved
 loop-j-preserved c = move-next _ _ _ _ _ _ c.find_spot-spot.ensures c.loop-j.invariant c.loop-j-test.true
 
-pub offset_bounds-places-j-2 : goal.offset_bounds-places-j-2
-offset_bounds-places-j-2 c = let v = c.loop-j.invariant.inserting in let h = v.inside in let k = v.kept in omega arith
+pub offset_bounds-places-spot : goal.offset_bounds-places-spot
+offset_bounds-places-spot c = let k = c.loop-j.invariant.inserting.kept in omega (arith, c.find_spot-spot.ensures.inside)
 
-pub bounds-places-j-2 : goal.bounds-places-j-2
-bounds-places-j-2 c = c.loop-j.invariant.inserting.inside
+pub bounds-places-spot : goal.bounds-places-spot
+bounds-places-spot c = let k = c.loop-j.invariant.inserting.kept in omega (arith, c.find_spot-spot.ensures.inside)
 
 pub shape_of-places : goal.shape_of-places
 shape_of-places c = simp length-set c.loop-j.invariant.inserting.kept
 
 pub returns : goal.returns
-returns c = move-done _ _ _ _ _ _ c.find_spot-spot.ensures c.loop-j.invariant c.loop-j-test.false
+returns c = move-last _ _ _ _ _ _ c.find_spot-spot.ensures c.loop-j.invariant c.loop-j-test.false

@@ -1,9 +1,5 @@
-use Prim.Native.Nat.{◌-◌}
 use Rattle.slots.proofs.Spotting.{Moving}
 use Rattle.slots.proofs.order.insert_first.Given as goal
 
 abbrev pub invariant-loop-j : goal.invariant-loop-j
 invariant-loop-j l = Moving l.tree l.initial.places l.x l.spot l.places l.j
-
-abbrev pub decreases-loop-j : goal.decreases-loop-j
-decreases-loop-j l = l.spot - l.j

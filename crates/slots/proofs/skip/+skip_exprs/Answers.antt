@@ -5,7 +5,7 @@ use Rattle.definitions.specs.Tree.{Exprs}
 use Rattle.parts.specs.Places.{Node}
 use Rattle.exprs.proofs.ExprViews.{expr-inside, expr-deep, expr-known, view-int, view-float, view-string, view-var, view-unary, view-binary, view-call, view-attribute, view-list, view-dict, view-tuple, view-set, view-tree-set, view-index, view-lambda}
 use Rattle.slots.proofs.Referring.{list-reads, list-is, dict-reads, dict-is}
-use Rattle.slots.proofs.Skipping.{plain_done, number-done, plain-kinds, int-done, float-done, string-done, var-done, unary-done, binary-done, call-done, attribute-done, display-done, dict-done, index-done, lambda-done, moved-expr, expr-after, moved-list, list-after, moved-name, name-after, exprs-head, exprs-next, exprs-done}
+use Rattle.slots.proofs.Skipping.{plain_done, number-done, plain-kinds, int-done, float-done, string-done, var-done, unary-done, binary-done, call-done, attribute-done, display-done, dict-done, index-done, lambda-done, moved-expr, expr-after, moved-list, list-after, moved-name, name-after, exprs-head, exprs-begun, exprs-next, exprs-done}
 use Rattle.slots.proofs.skip.+skip_exprs.Goals as goal
 
 pub skip_attribute-skip_value-p-requires : goal.skip_attribute-skip_value-p-requires
@@ -200,17 +200,17 @@ skip_list-skip_many-requires t c = (omega arith, list-reads _ _ _ _ c.u16_at-cou
 pub skip_list-returns : goal.skip_list-returns
 skip_list-returns t c = c.skip_many.ensures ∙ ap (λ (x : Node Exprs). x.end) (list-is _ _ _ _ c.u16_at-count.ensures.0)
 
-pub skip_many-loop-left-init : goal.skip_many-loop-left-init
-skip_many-loop-left-init t c = record { reads = c.requires; end = refl }
+pub skip_many-loop-init : goal.skip_many-loop-init
+skip_many-loop-init t c = exprs-begun _ _ _ _ _ (omega arith) c.requires
 
 pub skip_many-skip_value-p-requires : goal.skip_many-skip_value-p-requires
-skip_many-skip_value-p-requires t c = (omega arith, exprs-head _ _ _ _ _ _ c.loop-left.invariant c.loop-left-test.true)
+skip_many-skip_value-p-requires t c = (omega arith, exprs-head _ _ _ _ _ _ c.loop.invariant (omega (arith, c.loop-test.true)))
 
-pub skip_many-loop-left-preserved : goal.skip_many-loop-left-preserved
-skip_many-loop-left-preserved t c = exprs-next _ _ _ _ _ _ c.loop-left.invariant c.loop-left-test.true _ c.skip_value-p.ensures
+pub skip_many-loop-preserved : goal.skip_many-loop-preserved
+skip_many-loop-preserved t c = exprs-next _ _ _ _ _ _ c.loop.invariant (omega (arith, c.loop-test.true)) _ c.skip_value-p.ensures _ (omega arith)
 
 pub skip_many-returns : goal.skip_many-returns
-skip_many-returns t c = exprs-done _ _ _ _ _ _ c.loop-left.invariant c.loop-left-test.false
+skip_many-returns t c = exprs-done _ _ _ _ _ _ c.loop.invariant (omega (arith, c.loop-test.false))
 
 pub skip_two-skip_value-p-requires : goal.skip_two-skip_value-p-requires
 skip_two-skip_value-p-requires t c = (omega arith, c.requires.first)

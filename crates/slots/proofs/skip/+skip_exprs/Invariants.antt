@@ -1,4 +1,4 @@
-use Prim.Native.Nat.{◌+◌, ◌*◌}
+use Prim.Native.Nat.{◌-◌, ◌+◌, ◌*◌}
 use Rattle.slots.proofs.Skipping.{ExprsLeft}
 use Rattle.slots.proofs.skip.+skip_exprs.Given as goal
 
@@ -29,8 +29,5 @@ decreases-skip_two l = 5 * l.depth + 2
 abbrev pub decreases-skip_value : goal.decreases-skip_value
 decreases-skip_value l = 5 * l.depth + 1
 
-abbrev pub invariant-skip_many-loop-left : goal.invariant-skip_many-loop-left
-invariant-skip_many-loop-left l = ExprsLeft l.depth l.tree l.initial.left l.initial.p l.left l.p
-
-abbrev pub decreases-skip_many-loop-left : goal.decreases-skip_many-loop-left
-decreases-skip_many-loop-left l = l.left
+abbrev pub invariant-skip_many-loop : goal.invariant-skip_many-loop
+invariant-skip_many-loop l = ExprsLeft l.depth l.tree l.count l.initial.p (l.count - l.counter) l.p

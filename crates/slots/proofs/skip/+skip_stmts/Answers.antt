@@ -2,26 +2,26 @@ use native.Mathlib.Omega.{arith}
 use mathlib.Core.Path.{refl}
 use Rattle.tree.proofs.StmtViews.{stmt-inside, stmt-deep, view-expr, view-return, view-assign, view-if, view-while, view-for, view-def, view-class, view-block, else-inside}
 use Rattle.slots.proofs.Skipping.{moved-params}
-use Rattle.slots.proofs.SkippingStmts.{simple-done, expr-done, return-done, assign-done, if-done, while-done, for-done, def-done, class-done, moved-block, block-after, moved-branch, branch-after, def-block, def-after, stmts-start, stmts-head, stmts-next, stmts-done, branches-head, branches-next, branches-last, branches-done, else-none, else-reads, else-done, elifs-counted, elifs-read, elifs-done, methods-head, methods-next, methods-done, methods-counted, methods-read, attributes-there, attributes-done}
+use Rattle.slots.proofs.SkippingStmts.{simple-done, expr-done, return-done, assign-done, if-done, while-done, for-done, def-done, class-done, moved-block, block-after, moved-branch, branch-after, def-block, def-after, stmts-start, stmts-head, stmts-next, stmts-done, branches-head, branches-begun, branches-next, branches-last, branches-done, else-none, else-reads, else-done, elifs-counted, elifs-read, elifs-done, methods-head, methods-begun, methods-next, methods-done, methods-counted, methods-read, attributes-there, attributes-done}
 use Rattle.slots.proofs.skip.+skip_stmts.Goals as goal
 
-pub skip_block-u16_at-left-requires : goal.skip_block-u16_at-left-requires
-skip_block-u16_at-left-requires t c = let h = (view-block _ _ _ c.requires).parts.count.bytes in omega arith
+pub skip_block-u16_at-count-requires : goal.skip_block-u16_at-count-requires
+skip_block-u16_at-count-requires t c = let h = (view-block _ _ _ c.requires).parts.count.bytes in omega arith
 
 pub skip_block-overflow_add-p : goal.skip_block-overflow_add-p
 skip_block-overflow_add-p t c = let h = (view-block _ _ _ c.requires).parts.count.bytes in omega arith
 
-pub skip_block-loop-left-init : goal.skip_block-loop-left-init
-skip_block-loop-left-init t c = stmts-start _ _ _ _ c.requires c.u16_at-left.ensures.0
+pub skip_block-loop-init : goal.skip_block-loop-init
+skip_block-loop-init t c = stmts-start _ _ _ _ c.requires c.u16_at-count.ensures.0 _ (omega arith)
 
 pub skip_block-skip_stmt-p-requires : goal.skip_block-skip_stmt-p-requires
-skip_block-skip_stmt-p-requires t c = (omega arith, stmts-head _ _ _ _ _ _ c.loop-left.invariant c.loop-left-test.true)
+skip_block-skip_stmt-p-requires t c = (omega arith, stmts-head _ _ _ _ _ _ c.loop.invariant (omega (arith, c.loop-test.true)))
 
-pub skip_block-loop-left-preserved : goal.skip_block-loop-left-preserved
-skip_block-loop-left-preserved t c = stmts-next _ _ _ _ _ _ c.loop-left.invariant c.loop-left-test.true _ c.skip_stmt-p.ensures
+pub skip_block-loop-preserved : goal.skip_block-loop-preserved
+skip_block-loop-preserved t c = stmts-next _ _ _ _ _ _ c.loop.invariant (omega (arith, c.loop-test.true)) _ c.skip_stmt-p.ensures _ (omega arith)
 
 pub skip_block-returns : goal.skip_block-returns
-skip_block-returns t c = stmts-done _ _ _ _ _ _ c.loop-left.invariant _ c.requires c.u16_at-left.ensures.0 refl c.loop-left-test.false
+skip_block-returns t c = stmts-done _ _ _ _ _ _ c.loop.invariant _ c.requires c.u16_at-count.ensures.0 refl (omega (arith, c.loop-test.false))
 
 pub skip_branch-skip_expr-p-requires : goal.skip_branch-skip_expr-p-requires
 skip_branch-skip_expr-p-requires t c = c.requires.condition
@@ -62,20 +62,20 @@ skip_def-skip_block-requires t c = (omega arith, def-block _ _ _ _ _ c.name_end-
 pub skip_def-returns : goal.skip_def-returns
 skip_def-returns t c = def-after _ _ _ _ _ c.name_end-params.ensures c.skip_params-p.ensures _ c.skip_block.ensures
 
-pub skip_elifs-loop-left-init : goal.skip_elifs-loop-left-init
-skip_elifs-loop-left-init t c = record { reads = c.requires; end = refl }
+pub skip_elifs-loop-init : goal.skip_elifs-loop-init
+skip_elifs-loop-init t c = branches-begun _ _ _ _ _ (omega arith) c.requires
 
 pub skip_elifs-skip_branch-p-requires : goal.skip_elifs-skip_branch-p-requires
-skip_elifs-skip_branch-p-requires t c = (omega arith, branches-head _ _ _ _ _ _ c.loop-left.invariant c.loop-left-test.true)
+skip_elifs-skip_branch-p-requires t c = (omega arith, branches-head _ _ _ _ _ _ c.loop.invariant (omega (arith, c.loop-test.true)))
 
-pub skip_elifs-loop-left-preserved : goal.skip_elifs-loop-left-preserved
-skip_elifs-loop-left-preserved t c = branches-next _ _ _ _ _ _ c.loop-left.invariant c.loop-left-test.true _ c.skip_branch-p.ensures
+pub skip_elifs-loop-preserved : goal.skip_elifs-loop-preserved
+skip_elifs-loop-preserved t c = branches-next _ _ _ _ _ _ c.loop.invariant (omega (arith, c.loop-test.true)) _ c.skip_branch-p.ensures _ (omega arith)
 
 pub skip_elifs-skip_else-requires : goal.skip_elifs-skip_else-requires
-skip_elifs-skip_else-requires t c = (omega arith, branches-last _ _ _ _ _ _ c.loop-left.invariant c.loop-left-test.false)
+skip_elifs-skip_else-requires t c = (omega arith, branches-last _ _ _ _ _ _ c.loop.invariant (omega (arith, c.loop-test.false)))
 
 pub skip_elifs-returns : goal.skip_elifs-returns
-skip_elifs-returns t c = branches-done _ _ _ _ _ _ c.loop-left.invariant c.loop-left-test.false _ c.skip_else.ensures
+skip_elifs-returns t c = branches-done _ _ _ _ _ _ c.loop.invariant (omega (arith, c.loop-test.false)) _ c.skip_else.ensures
 
 pub skip_else-bounds-tree-at : goal.skip_else-bounds-tree-at
 skip_else-bounds-tree-at t c = let h = else-inside _ _ _ 0 (omega arith) c.requires in omega arith
@@ -119,17 +119,17 @@ skip_if-skip_elifs-requires t c = (omega arith, elifs-read _ _ _ _ c.skip_branch
 pub skip_if-returns : goal.skip_if-returns
 skip_if-returns t c = elifs-done _ _ _ _ c.skip_branch-p.ensures c.requires _ c.u16_at-count.ensures.0 _ c.skip_elifs.ensures
 
-pub skip_methods-loop-left-init : goal.skip_methods-loop-left-init
-skip_methods-loop-left-init t c = record { reads = c.requires; end = refl }
+pub skip_methods-loop-init : goal.skip_methods-loop-init
+skip_methods-loop-init t c = methods-begun _ _ _ _ _ (omega arith) c.requires
 
 pub skip_methods-skip_def-p-requires : goal.skip_methods-skip_def-p-requires
-skip_methods-skip_def-p-requires t c = (omega arith, methods-head _ _ _ _ _ _ c.loop-left.invariant c.loop-left-test.true)
+skip_methods-skip_def-p-requires t c = (omega arith, methods-head _ _ _ _ _ _ c.loop.invariant (omega (arith, c.loop-test.true)))
 
-pub skip_methods-loop-left-preserved : goal.skip_methods-loop-left-preserved
-skip_methods-loop-left-preserved t c = methods-next _ _ _ _ _ _ c.loop-left.invariant c.loop-left-test.true _ c.skip_def-p.ensures
+pub skip_methods-loop-preserved : goal.skip_methods-loop-preserved
+skip_methods-loop-preserved t c = methods-next _ _ _ _ _ _ c.loop.invariant (omega (arith, c.loop-test.true)) _ c.skip_def-p.ensures _ (omega arith)
 
 pub skip_methods-returns : goal.skip_methods-returns
-skip_methods-returns t c = methods-done _ _ _ _ _ _ c.loop-left.invariant c.loop-left-test.false
+skip_methods-returns t c = methods-done _ _ _ _ _ _ c.loop.invariant (omega (arith, c.loop-test.false))
 
 pub skip_stmt-bounds-tree-at : goal.skip_stmt-bounds-tree-at
 skip_stmt-bounds-tree-at t c = let h = stmt-inside _ _ _ c.requires in omega arith

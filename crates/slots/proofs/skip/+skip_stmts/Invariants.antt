@@ -1,4 +1,4 @@
-use Prim.Native.Nat.{◌+◌, ◌*◌}
+use Prim.Native.Nat.{◌-◌, ◌+◌, ◌*◌}
 use Rattle.slots.proofs.SkippingStmts.{StmtsLeft, BranchesLeft, MethodsLeft}
 use Rattle.slots.proofs.skip.+skip_stmts.Given as goal
 
@@ -32,20 +32,11 @@ decreases-skip_methods l = 8 * l.depth + 3
 abbrev pub decreases-skip_stmt : goal.decreases-skip_stmt
 decreases-skip_stmt l = 8 * l.depth
 
-abbrev pub invariant-skip_block-loop-left : goal.invariant-skip_block-loop-left
-invariant-skip_block-loop-left l = StmtsLeft l.depth l.tree l.initial.left l.initial.p l.left l.p
+abbrev pub invariant-skip_block-loop : goal.invariant-skip_block-loop
+invariant-skip_block-loop l = StmtsLeft l.depth l.tree l.count l.initial.p (l.count - l.counter) l.p
 
-abbrev pub decreases-skip_block-loop-left : goal.decreases-skip_block-loop-left
-decreases-skip_block-loop-left l = l.left
+abbrev pub invariant-skip_elifs-loop : goal.invariant-skip_elifs-loop
+invariant-skip_elifs-loop l = BranchesLeft l.depth l.tree l.count l.initial.p (l.count - l.counter) l.p
 
-abbrev pub invariant-skip_elifs-loop-left : goal.invariant-skip_elifs-loop-left
-invariant-skip_elifs-loop-left l = BranchesLeft l.depth l.tree l.initial.left l.initial.p l.left l.p
-
-abbrev pub decreases-skip_elifs-loop-left : goal.decreases-skip_elifs-loop-left
-decreases-skip_elifs-loop-left l = l.left
-
-abbrev pub invariant-skip_methods-loop-left : goal.invariant-skip_methods-loop-left
-invariant-skip_methods-loop-left l = MethodsLeft l.depth l.tree l.initial.left l.initial.p l.left l.p
-
-abbrev pub decreases-skip_methods-loop-left : goal.decreases-skip_methods-loop-left
-decreases-skip_methods-loop-left l = l.left
+abbrev pub invariant-skip_methods-loop : goal.invariant-skip_methods-loop
+invariant-skip_methods-loop l = MethodsLeft l.depth l.tree l.count l.initial.p (l.count - l.counter) l.p

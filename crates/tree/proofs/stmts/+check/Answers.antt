@@ -1,260 +1,166 @@
-use mathlib.Core.Path.{refl, sym, ◌∙◌}
-use native.Mathlib.Omega.{arith}
-use Rattle.parts.proofs.Laws.{up, then_next, then-refused, with-number, with-unread, judged-within, number-within}
-use Rattle.tree.proofs.StmtLaws.{at-break, at-continue, at-pass, at-expr, at_return, at-assign, at-if, at-while, at-for, at-def, at-class, stmt-none, stmt-end, stmt-unknown, block-law, stmts-none, stmts-more, branches-none, branches-more, else-end, else-none, else-block, else-unknown, methods-none, methods-more, branch-within, method-within, head-within, stand-next}
+use mathlib.Core.Path.{sym, ap, ◌∙◌}
+use Rattle.std.proofs.Common.{rules, arith}
+use Rattle.numerals.specs.Kinds.{stmt_byte}
 use Rattle.parts.specs.Judge.{judge_branch, judge_if, judge_for, judge_def, judge_method, judge_class}
+use Rattle.parts.proofs.Steps.{step, stop, count-step, count-stop, done, along-start, along-next, along-stop, along-end}
+use Rattle.tree.proofs.Checking.{stmt-stop, stmt-deep, stmt-no-kind, kind-step, stmt-leaves, stmt-value, stmts-turns, elifs-turns, methods-turns, stmts-end, elifs-end, methods-end, block-stop, block-step, else-stop, else-done, else-step, else-no-byte}
+use Rattle.tree.proofs.StmtLaws.{at-pass, at-assign, at-if, at-while, at-for, at-def, at-class}
 use Rattle.tree.proofs.stmts.+check.Goals as goal
 
-pub check_block-number_at-count-requires : goal.check_block-number_at-count-requires
-check_block-number_at-count-requires t c = c.requires
+pub check_block-returns-in_err-n : goal.check_block-returns-in_err-n
+check_block-returns-in_err-n t c = block-stop _ _ (search rules) c.in_err-n.ensures
 
-pub check_block-loop-left-init : goal.check_block-loop-left-init
-check_block-loop-left-init t c = (refl, number-within _ _ _ _ (sym c.number_at-count.ensures ∙ c.in-Is.is))
+pub check_block-loop-init : goal.check_block-loop-init
+check_block-loop-init t c = along-start _ _ _ _ (omega arith)
 
-pub check_block-check_stmt-one-requires : goal.check_block-check_stmt-one-requires
-check_block-check_stmt-one-requires t c = (omega arith, c.loop-left.invariant.1)
+pub check_block-returns-in_err-check_stmt : goal.check_block-returns-in_err-check_stmt
+check_block-returns-in_err-check_stmt t c = block-step _ _ c.in_ok-n.ensures (along-stop (stmts-turns _ _) (search rules) c.loop.invariant c.in_err-check_stmt.ensures (omega arith))
 
-pub check_block-returns-in_default : goal.check_block-returns-in_default
-check_block-returns-in_default t c = c.in_default.is ∙ sym (block-law _ _ _ _ _ c.requires ∙ with-number _ _ _ _ (sym c.number_at-count.ensures ∙ c.in-Is.is) ∙ c.loop-left.invariant.0 ∙ stmts-more _ _ _ _ _ _ c.loop-left.invariant.1 c.loop-left-test.true ∙ then-refused _ _ _ (sym c.check_stmt-one.ensures ∙ c.in_default.is))
+pub check_block-loop-preserved : goal.check_block-loop-preserved
+check_block-loop-preserved t c = along-next (stmts-turns _ _) c.loop.invariant c.in_ok-check_stmt.ensures (omega arith)
 
-pub check_block-loop-left-preserved : goal.check_block-loop-left-preserved
-check_block-loop-left-preserved t c = let e = sym c.check_stmt-one.ensures ∙ c.in-Next.is in (c.loop-left.invariant.0 ∙ stmts-more _ _ _ _ _ _ c.loop-left.invariant.1 c.loop-left-test.true ∙ then_next _ _ _ _ e, judged-within _ _ _ _ _ _ _ e)
+pub check_block-returns : goal.check_block-returns
+check_block-returns t c = block-step _ _ c.in_ok-n.ensures (along-end c.loop.invariant (stmts-end _ _ _ _ (omega arith)))
 
-pub check_block-returns-in-Unread : goal.check_block-returns-in-Unread
-check_block-returns-in-Unread t c = sym (block-law _ _ _ _ _ c.requires ∙ with-unread _ _ _ (sym c.number_at-count.ensures ∙ c.in-Unread.is))
-
-pub check_block-returns-after-loop-left : goal.check_block-returns-after-loop-left
-check_block-returns-after-loop-left t c = sym (block-law _ _ _ _ _ c.requires ∙ with-number _ _ _ _ (sym c.number_at-count.ensures ∙ c.in-Is.is) ∙ c.loop-left.invariant.0 ∙ stmts-none _ _ _ _ _ _ c.loop-left.invariant.1 c.loop-left-test.false)
-
-pub check_branch-check_expr-condition-requires : goal.check_branch-check_expr-condition-requires
+pub check_branch-returns-in_err-check_expr : goal.check_branch-returns-in_err-check_expr
 unfolding judge_branch
-check_branch-check_expr-condition-requires t c = c.requires
-
-pub check_branch-returns-in_default : goal.check_branch-returns-in_default
-unfolding judge_branch
-check_branch-returns-in_default t c = c.in_default.is ∙ sym (then-refused _ _ _ (sym c.check_expr-condition.ensures ∙ c.in_default.is))
-
-pub check_branch-check_block-requires : goal.check_branch-check_block-requires
-unfolding judge_branch
-check_branch-check_block-requires t c = (omega arith, judged-within _ _ _ _ _ _ _ (sym c.check_expr-condition.ensures ∙ c.in-Next.is))
+check_branch-returns-in_err-check_expr t c = stop _ (search rules) c.in_err-check_expr.ensures
 
 pub check_branch-returns : goal.check_branch-returns
 unfolding judge_branch
-check_branch-returns t c = c.check_block.ensures ∙ sym (then_next _ _ _ _ (sym c.check_expr-condition.ensures ∙ c.in-Next.is))
+check_branch-returns t c = step c.in_ok-check_expr.ensures c.check_block.ensures
 
-pub check_class-check_name-name-requires : goal.check_class-check_name-name-requires
+pub check_class-returns-in_err-name : goal.check_class-returns-in_err-name
 unfolding judge_class
-check_class-check_name-name-requires t c = c.requires
+check_class-returns-in_err-name t c = stop _ (search rules) c.in_err-name.ensures
 
-pub check_class-returns-in_default : goal.check_class-returns-in_default
+pub check_class-returns-in_err-n : goal.check_class-returns-in_err-n
 unfolding judge_class
-check_class-returns-in_default t c = c.in_default.is ∙ sym (then-refused _ _ _ (sym c.check_name-name.ensures ∙ c.in_default.is))
+check_class-returns-in_err-n t c = step c.in_ok-name.ensures (count-stop _ (search rules) c.in_err-n.ensures)
 
-pub check_class-number_at-count-requires : goal.check_class-number_at-count-requires
+pub check_class-returns-in_err-check_methods : goal.check_class-returns-in_err-check_methods
 unfolding judge_class
-check_class-number_at-count-requires t c = judged-within _ _ _ _ _ _ _ (sym c.check_name-name.ensures ∙ c.in-Next.is)
+check_class-returns-in_err-check_methods t c = step c.in_ok-name.ensures (count-step _ c.in_ok-n.ensures (stop _ (search rules) c.in_err-check_methods.ensures))
 
-pub check_class-check_methods-methods-requires : goal.check_class-check_methods-methods-requires
+pub check_class-returns : goal.check_class-returns
 unfolding judge_class
-check_class-check_methods-methods-requires t c = (omega arith, number-within _ _ _ _ (sym c.number_at-count.ensures ∙ c.in-Is.is))
+check_class-returns t c = step c.in_ok-name.ensures (count-step _ c.in_ok-n.ensures (step c.in_ok-check_methods.ensures c.check_attributes.ensures))
 
-pub check_class-returns-in_default-methods : goal.check_class-returns-in_default-methods
-unfolding judge_class
-check_class-returns-in_default-methods t c = c.in_default-methods.is ∙ sym (then_next _ _ _ _ (sym c.check_name-name.ensures ∙ c.in-Next.is) ∙ with-number _ _ _ _ (sym c.number_at-count.ensures ∙ c.in-Is.is) ∙ then-refused _ _ _ (sym c.check_methods-methods.ensures ∙ c.in_default-methods.is))
-
-pub check_class-check_attributes-requires : goal.check_class-check_attributes-requires
-unfolding judge_class
-check_class-check_attributes-requires t c = judged-within _ _ _ _ _ _ _ (sym c.check_methods-methods.ensures ∙ c.in-Next-methods.is)
-
-pub check_class-returns-in-Unread : goal.check_class-returns-in-Unread
-unfolding judge_class
-check_class-returns-in-Unread t c = sym (then_next _ _ _ _ (sym c.check_name-name.ensures ∙ c.in-Next.is) ∙ with-unread _ _ _ (sym c.number_at-count.ensures ∙ c.in-Unread.is))
-
-pub check_class-returns-in-Next-methods : goal.check_class-returns-in-Next-methods
-unfolding judge_class
-check_class-returns-in-Next-methods t c = c.check_attributes.ensures ∙ sym (then_next _ _ _ _ (sym c.check_name-name.ensures ∙ c.in-Next.is) ∙ with-number _ _ _ _ (sym c.number_at-count.ensures ∙ c.in-Is.is) ∙ then_next _ _ _ _ (sym c.check_methods-methods.ensures ∙ c.in-Next-methods.is))
-
-pub check_def-check_name-name-requires : goal.check_def-check_name-name-requires
+pub check_def-returns-in_err-name : goal.check_def-returns-in_err-name
 unfolding judge_def
-check_def-check_name-name-requires t c = c.requires
+check_def-returns-in_err-name t c = stop _ (search rules) c.in_err-name.ensures
 
-pub check_def-returns-in_default : goal.check_def-returns-in_default
+pub check_def-returns-in_err-params : goal.check_def-returns-in_err-params
 unfolding judge_def
-check_def-returns-in_default t c = c.in_default.is ∙ sym (then-refused _ _ _ (sym c.check_name-name.ensures ∙ c.in_default.is))
-
-pub check_def-check_params-params-requires : goal.check_def-check_params-params-requires
-unfolding judge_def
-check_def-check_params-params-requires t c = judged-within _ _ _ _ _ _ _ (sym c.check_name-name.ensures ∙ c.in-Next.is)
-
-pub check_def-returns-in_default-params : goal.check_def-returns-in_default-params
-unfolding judge_def
-check_def-returns-in_default-params t c = c.in_default-params.is ∙ sym (then_next _ _ _ _ (sym c.check_name-name.ensures ∙ c.in-Next.is) ∙ then-refused _ _ _ (sym c.check_params-params.ensures ∙ c.in_default-params.is))
-
-pub check_def-check_block-requires : goal.check_def-check_block-requires
-unfolding judge_def
-check_def-check_block-requires t c = (omega arith, judged-within _ _ _ _ _ _ _ (sym c.check_params-params.ensures ∙ c.in-Next-params.is))
+check_def-returns-in_err-params t c = step c.in_ok-name.ensures (stop _ (search rules) c.in_err-params.ensures)
 
 pub check_def-returns : goal.check_def-returns
 unfolding judge_def
-check_def-returns t c = c.check_block.ensures ∙ sym (then_next _ _ _ _ (sym c.check_name-name.ensures ∙ c.in-Next.is) ∙ then_next _ _ _ _ (sym c.check_params-params.ensures ∙ c.in-Next-params.is))
+check_def-returns t c = step c.in_ok-name.ensures (step c.in_ok-params.ensures c.check_block.ensures)
 
-pub check_elifs-loop-left-init : goal.check_elifs-loop-left-init
-check_elifs-loop-left-init t c = (refl, c.requires)
+pub check_elifs-loop-init : goal.check_elifs-loop-init
+check_elifs-loop-init t c = along-start _ _ _ _ (omega arith)
 
-pub check_elifs-check_branch-one-requires : goal.check_elifs-check_branch-one-requires
-check_elifs-check_branch-one-requires t c = (omega arith, c.loop-left.invariant.1)
+pub check_elifs-returns-in_err-check_branch : goal.check_elifs-returns-in_err-check_branch
+check_elifs-returns-in_err-check_branch t c = along-stop (elifs-turns _ _) (search rules) c.loop.invariant c.in_err-check_branch.ensures (omega arith)
 
-pub check_elifs-returns-in_default : goal.check_elifs-returns-in_default
-check_elifs-returns-in_default t c = c.in_default.is ∙ sym (c.loop-left.invariant.0 ∙ branches-more _ _ _ _ _ _ c.loop-left.invariant.1 c.loop-left-test.true ∙ then-refused _ _ _ (sym c.check_branch-one.ensures ∙ c.in_default.is))
-
-pub check_elifs-loop-left-preserved : goal.check_elifs-loop-left-preserved
-check_elifs-loop-left-preserved t c = let e = sym c.check_branch-one.ensures ∙ c.in-Next.is in (c.loop-left.invariant.0 ∙ branches-more _ _ _ _ _ _ c.loop-left.invariant.1 c.loop-left-test.true ∙ then_next _ _ _ _ e, branch-within _ _ _ _ _ _ _ e)
-
-pub check_elifs-check_else-requires : goal.check_elifs-check_else-requires
-check_elifs-check_else-requires t c = (omega arith, c.loop-left.invariant.1)
+pub check_elifs-loop-preserved : goal.check_elifs-loop-preserved
+check_elifs-loop-preserved t c = along-next (elifs-turns _ _) c.loop.invariant c.in_ok-check_branch.ensures (omega arith)
 
 pub check_elifs-returns : goal.check_elifs-returns
-check_elifs-returns t c = c.check_else.ensures ∙ sym (c.loop-left.invariant.0 ∙ branches-none _ _ _ _ _ _ c.loop-left-test.false)
+check_elifs-returns t c = along-end c.loop.invariant (elifs-end _ _ _ (omega arith) c.check_else.ensures)
 
-pub check_else-returns-then-tree-at : goal.check_else-returns-then-tree-at
-check_else-returns-then-tree-at t c = sym (else-end _ _ _ _ _ c.if-tree-at.true)
-
-pub check_else-check_block-requires : goal.check_else-check_block-requires
-check_else-check_block-requires t c = (omega arith, omega arith)
+pub check_else-returns-in_err-byte : goal.check_else-returns-in_err-byte
+check_else-returns-in_err-byte t c = else-stop _ _ (search rules) c.in_err-byte.ensures
 
 pub check_else-returns-in-0 : goal.check_else-returns-in-0
-check_else-returns-in-0 t c = sym (else-none _ _ _ _ _ c.if-tree-at.false c.in-0.is)
+check_else-returns-in-0 t c = else-done _ _ c.in_ok-byte.ensures c.in-0.is
 
 pub check_else-returns-in-1 : goal.check_else-returns-in-1
-check_else-returns-in-1 t c = c.check_block.ensures ∙ sym (else-block _ _ _ _ _ c.if-tree-at.false c.in-1.is)
+check_else-returns-in-1 t c = else-step _ _ c.in_ok-byte.ensures c.in-1.is c.check_block.ensures
 
 pub check_else-returns-in_default : goal.check_else-returns-in_default
-check_else-returns-in_default t c = let n = c.in_default.in_default-own.rest in sym (else-unknown _ _ _ _ _ c.if-tree-at.false (up 1 _ (up 0 _ (omega arith) n.0.1) n.1))
+check_else-returns-in_default t c = else-no-byte _ _ c.in_ok-byte.ensures (search rules) (search rules)
 
-pub check_for-check_name-name-requires : goal.check_for-check_name-name-requires
+pub check_for-returns-in_err-name : goal.check_for-returns-in_err-name
 unfolding judge_for
-check_for-check_name-name-requires t c = c.requires
-
-pub check_for-returns-in_default : goal.check_for-returns-in_default
-unfolding judge_for
-check_for-returns-in_default t c = c.in_default.is ∙ sym (then-refused _ _ _ (sym c.check_name-name.ensures ∙ c.in_default.is))
-
-pub check_for-check_branch-requires : goal.check_for-check_branch-requires
-unfolding judge_for
-check_for-check_branch-requires t c = (omega arith, judged-within _ _ _ _ _ _ _ (sym c.check_name-name.ensures ∙ c.in-Next.is))
+check_for-returns-in_err-name t c = stop _ (search rules) c.in_err-name.ensures
 
 pub check_for-returns : goal.check_for-returns
 unfolding judge_for
-check_for-returns t c = c.check_branch.ensures ∙ sym (then_next _ _ _ _ (sym c.check_name-name.ensures ∙ c.in-Next.is))
+check_for-returns t c = step c.in_ok-name.ensures c.check_branch.ensures
 
-pub check_if-check_branch-first-requires : goal.check_if-check_branch-first-requires
+pub check_if-returns-in_err-check_branch : goal.check_if-returns-in_err-check_branch
 unfolding judge_if
-check_if-check_branch-first-requires t c = (omega arith, c.requires)
+check_if-returns-in_err-check_branch t c = stop _ (search rules) c.in_err-check_branch.ensures
 
-pub check_if-returns-in_default : goal.check_if-returns-in_default
+pub check_if-returns-in_err-n : goal.check_if-returns-in_err-n
 unfolding judge_if
-check_if-returns-in_default t c = c.in_default.is ∙ sym (then-refused _ _ _ (sym c.check_branch-first.ensures ∙ c.in_default.is))
+check_if-returns-in_err-n t c = step c.in_ok-check_branch.ensures (count-stop _ (search rules) c.in_err-n.ensures)
 
-pub check_if-number_at-count-requires : goal.check_if-number_at-count-requires
+pub check_if-returns : goal.check_if-returns
 unfolding judge_if
-check_if-number_at-count-requires t c = branch-within _ _ _ _ _ _ _ (sym c.check_branch-first.ensures ∙ c.in-Next.is)
+check_if-returns t c = step c.in_ok-check_branch.ensures (count-step _ c.in_ok-n.ensures c.check_elifs.ensures)
 
-pub check_if-check_elifs-requires : goal.check_if-check_elifs-requires
-unfolding judge_if
-check_if-check_elifs-requires t c = (omega arith, number-within _ _ _ _ (sym c.number_at-count.ensures ∙ c.in-Is.is))
-
-pub check_if-returns-in-Unread : goal.check_if-returns-in-Unread
-unfolding judge_if
-check_if-returns-in-Unread t c = sym (then_next _ _ _ _ (sym c.check_branch-first.ensures ∙ c.in-Next.is) ∙ with-unread _ _ _ (sym c.number_at-count.ensures ∙ c.in-Unread.is))
-
-pub check_if-returns-in-Is : goal.check_if-returns-in-Is
-unfolding judge_if
-check_if-returns-in-Is t c = c.check_elifs.ensures ∙ sym (then_next _ _ _ _ (sym c.check_branch-first.ensures ∙ c.in-Next.is) ∙ with-number _ _ _ _ (sym c.number_at-count.ensures ∙ c.in-Is.is))
-
-pub check_method-check_head-head-requires : goal.check_method-check_head-head-requires
+pub check_method-returns-in_err-head : goal.check_method-returns-in_err-head
 unfolding judge_method
-check_method-check_head-head-requires t c = c.requires
-
-pub check_method-returns-in_default : goal.check_method-returns-in_default
-unfolding judge_method
-check_method-returns-in_default t c = c.in_default.is ∙ sym (then-refused _ _ _ (sym c.check_head-head.ensures ∙ c.in_default.is))
-
-pub check_method-check_block-requires : goal.check_method-check_block-requires
-unfolding judge_method
-check_method-check_block-requires t c = (omega arith, head-within _ _ _ _ _ (sym c.check_head-head.ensures ∙ c.in-Next.is))
+check_method-returns-in_err-head t c = stop _ (search rules) c.in_err-head.ensures
 
 pub check_method-returns : goal.check_method-returns
 unfolding judge_method
-check_method-returns t c = c.check_block.ensures ∙ sym (then_next _ _ _ _ (sym c.check_head-head.ensures ∙ c.in-Next.is))
+check_method-returns t c = step c.in_ok-head.ensures c.check_block.ensures
 
-pub check_methods-loop-left-init : goal.check_methods-loop-left-init
-check_methods-loop-left-init t c = (refl, c.requires)
+pub check_methods-loop-init : goal.check_methods-loop-init
+check_methods-loop-init t c = along-start _ _ _ _ (omega arith)
 
-pub check_methods-check_method-one-requires : goal.check_methods-check_method-one-requires
-check_methods-check_method-one-requires t c = (omega arith, c.loop-left.invariant.1)
+pub check_methods-returns-in_err-check_method : goal.check_methods-returns-in_err-check_method
+check_methods-returns-in_err-check_method t c = along-stop (methods-turns _) (search rules) c.loop.invariant c.in_err-check_method.ensures (omega arith)
 
-pub check_methods-returns-in_default : goal.check_methods-returns-in_default
-check_methods-returns-in_default t c = c.in_default.is ∙ sym (c.loop-left.invariant.0 ∙ methods-more _ _ _ _ _ c.loop-left.invariant.1 c.loop-left-test.true ∙ then-refused _ _ _ (sym c.check_method-one.ensures ∙ c.in_default.is))
-
-pub check_methods-loop-left-preserved : goal.check_methods-loop-left-preserved
-check_methods-loop-left-preserved t c = let e = sym c.check_method-one.ensures ∙ c.in-Next.is in (c.loop-left.invariant.0 ∙ methods-more _ _ _ _ _ c.loop-left.invariant.1 c.loop-left-test.true ∙ then_next _ _ _ _ e, method-within _ _ _ _ _ _ e)
+pub check_methods-loop-preserved : goal.check_methods-loop-preserved
+check_methods-loop-preserved t c = along-next (methods-turns _) c.loop.invariant c.in_ok-check_method.ensures (omega arith)
 
 pub check_methods-returns : goal.check_methods-returns
-check_methods-returns t c = sym (c.loop-left.invariant.0 ∙ methods-none _ _ _ _ _ c.loop-left.invariant.1 c.loop-left-test.false)
+check_methods-returns t c = along-end c.loop.invariant (methods-end _ _ _ (omega arith))
 
-pub check_stmt-returns-then-tree-at : goal.check_stmt-returns-then-tree-at
-check_stmt-returns-then-tree-at t c = sym (stmt-end _ _ _ _ _ c.if-tree-at.true)
+pub check_stmt-returns-in_err-byte : goal.check_stmt-returns-in_err-byte
+check_stmt-returns-in_err-byte t c = stmt-stop _ _ (search rules) c.in_err-byte.ensures
 
 pub check_stmt-returns-then-depth-eq0 : goal.check_stmt-returns-then-depth-eq0
-check_stmt-returns-then-depth-eq0 t c = sym (stmt-none _ _ _ _ _ c.if-depth-eq0.true c.if-tree-at.false)
-
-pub check_stmt-returns-in-0 : goal.check_stmt-returns-in-0
-check_stmt-returns-in-0 t c = stand-next _ _ _ c.noted.ensures ∙ at-break _ _ _ _ _ c.if-depth-eq0.false c.if-tree-at.false c.in-0.is
-
-pub check_stmt-returns-in-1 : goal.check_stmt-returns-in-1
-check_stmt-returns-in-1 t c = stand-next _ _ _ c.noted-in-1.ensures ∙ at-continue _ _ _ _ _ c.if-depth-eq0.false c.if-tree-at.false c.in-1.is
-
-pub check_stmt-returns-in-2 : goal.check_stmt-returns-in-2
-check_stmt-returns-in-2 t c = at-pass _ _ _ _ _ c.if-depth-eq0.false c.if-tree-at.false c.in-2.is
-
-pub check_stmt-returns-in-3 : goal.check_stmt-returns-in-3
-check_stmt-returns-in-3 t c = c.check_expr.ensures ∙ at-expr _ _ _ _ _ c.if-depth-eq0.false c.if-tree-at.false c.in-3.is
-
-pub check_stmt-returns-in-4 : goal.check_stmt-returns-in-4
-check_stmt-returns-in-4 t c = c.check_expr-in-4.ensures ∙ at_return _ _ _ _ _ c.if-depth-eq0.false c.if-tree-at.false c.in-4.is
-
-pub check_stmt-returns-in-5 : goal.check_stmt-returns-in-5
-check_stmt-returns-in-5 t c = c.check_assign.ensures ∙ at-assign _ _ _ _ _ c.if-depth-eq0.false c.if-tree-at.false c.in-5.is
-
-pub check_stmt-check_if-requires : goal.check_stmt-check_if-requires
-check_stmt-check_if-requires t c = (omega arith, omega arith)
-
-pub check_stmt-returns-in-6 : goal.check_stmt-returns-in-6
-check_stmt-returns-in-6 t c = c.check_if.ensures ∙ at-if _ _ _ _ _ c.if-depth-eq0.false c.if-tree-at.false c.in-6.is
-
-pub check_stmt-check_branch-requires : goal.check_stmt-check_branch-requires
-check_stmt-check_branch-requires t c = (omega arith, omega arith)
-
-pub check_stmt-returns-in-7 : goal.check_stmt-returns-in-7
-check_stmt-returns-in-7 t c = c.check_branch.ensures ∙ at-while _ _ _ _ _ c.if-depth-eq0.false c.if-tree-at.false c.in-7.is
-
-pub check_stmt-check_for-requires : goal.check_stmt-check_for-requires
-check_stmt-check_for-requires t c = (omega arith, omega arith)
-
-pub check_stmt-returns-in-8 : goal.check_stmt-returns-in-8
-check_stmt-returns-in-8 t c = c.check_for.ensures ∙ at-for _ _ _ _ _ c.if-depth-eq0.false c.if-tree-at.false c.in-8.is
-
-pub check_stmt-check_def-requires : goal.check_stmt-check_def-requires
-check_stmt-check_def-requires t c = (omega arith, omega arith)
-
-pub check_stmt-returns-in-9 : goal.check_stmt-returns-in-9
-check_stmt-returns-in-9 t c = c.check_def.ensures ∙ at-def _ _ _ _ _ c.if-depth-eq0.false c.if-tree-at.false c.in-9.is
-
-pub check_stmt-check_class-requires : goal.check_stmt-check_class-requires
-check_stmt-check_class-requires t c = (omega arith, omega arith)
-
-pub check_stmt-returns-in-10 : goal.check_stmt-returns-in-10
-check_stmt-returns-in-10 t c = c.check_class.ensures ∙ at-class _ _ _ _ _ c.if-depth-eq0.false c.if-tree-at.false c.in-10.is
+check_stmt-returns-then-depth-eq0 t c = stmt-deep _ _ _ c.in_ok-byte.ensures c.if-depth-eq0.true
 
 pub check_stmt-returns-in_default : goal.check_stmt-returns-in_default
-check_stmt-returns-in_default t c = let n = c.in_default.in_default-own.rest in sym (stmt-unknown _ _ _ _ _ c.if-depth-eq0.false c.if-tree-at.false (up 10 _ (up 9 _ (up 8 _ (up 7 _ (up 6 _ (up 5 _ (up 4 _ (up 3 _ (up 2 _ (up 1 _ (up 0 _ (omega arith) n.0.0.0.0.0.0.0.0.0.0.1) n.0.0.0.0.0.0.0.0.0.1) n.0.0.0.0.0.0.0.0.1) n.0.0.0.0.0.0.0.1) n.0.0.0.0.0.0.1) n.0.0.0.0.0.1) n.0.0.0.0.1) n.0.0.0.1) n.0.0.1) n.0.1) n.1))
+check_stmt-returns-in_default t c = stmt-no-kind _ _ c.in_ok-byte.ensures c.if-depth-eq0.false (search rules)
+
+pub check_stmt-returns-in-Break : goal.check_stmt-returns-in-Break
+check_stmt-returns-in-Break t c = stmt-leaves _ _ c.in_ok-byte.ensures c.if-depth-eq0.false c.in-Ok.ensures c.in-Break.is c.note.ensures
+
+pub check_stmt-returns-in-Expr : goal.check_stmt-returns-in-Expr
+check_stmt-returns-in-Expr t c = stmt-value _ _ c.in_ok-byte.ensures c.if-depth-eq0.false c.in-Ok.ensures c.in-Expr.is c.check_expr.ensures
+
+pub check_stmt-returns-in-Pass : goal.check_stmt-returns-in-Pass
+unfolding stmt_byte
+check_stmt-returns-in-Pass t c = kind-step _ 2 c.in_ok-byte.ensures c.if-depth-eq0.false (sym c.in-Ok.ensures ∙ ap stmt_byte c.in-Pass.is) (λ t p w f h e. at-pass _ _ t p w f h e) done
+
+pub check_stmt-returns-in-Assign : goal.check_stmt-returns-in-Assign
+unfolding stmt_byte
+check_stmt-returns-in-Assign t c = kind-step _ 5 c.in_ok-byte.ensures c.if-depth-eq0.false (sym c.in-Ok.ensures ∙ ap stmt_byte c.in-Assign.is) (λ t p w f h e. at-assign _ _ t p w f h e) c.check_assign.ensures
+
+pub check_stmt-returns-in-If : goal.check_stmt-returns-in-If
+unfolding stmt_byte
+check_stmt-returns-in-If t c = kind-step _ 6 c.in_ok-byte.ensures c.if-depth-eq0.false (sym c.in-Ok.ensures ∙ ap stmt_byte c.in-If.is) (λ t p w f h e. at-if _ _ t p w f h e) c.check_if.ensures
+
+pub check_stmt-returns-in-While : goal.check_stmt-returns-in-While
+unfolding stmt_byte
+check_stmt-returns-in-While t c = kind-step _ 7 c.in_ok-byte.ensures c.if-depth-eq0.false (sym c.in-Ok.ensures ∙ ap stmt_byte c.in-While.is) (λ t p w f h e. at-while _ _ t p w f h e) c.check_branch.ensures
+
+pub check_stmt-returns-in-For : goal.check_stmt-returns-in-For
+unfolding stmt_byte
+check_stmt-returns-in-For t c = kind-step _ 8 c.in_ok-byte.ensures c.if-depth-eq0.false (sym c.in-Ok.ensures ∙ ap stmt_byte c.in-For.is) (λ t p w f h e. at-for _ _ t p w f h e) c.check_for.ensures
+
+pub check_stmt-returns-in-Def : goal.check_stmt-returns-in-Def
+unfolding stmt_byte
+check_stmt-returns-in-Def t c = kind-step _ 9 c.in_ok-byte.ensures c.if-depth-eq0.false (sym c.in-Ok.ensures ∙ ap stmt_byte c.in-Def.is) (λ t p w f h e. at-def _ _ t p w f h e) c.check_def.ensures
+
+pub check_stmt-returns-in-Class : goal.check_stmt-returns-in-Class
+unfolding stmt_byte
+check_stmt-returns-in-Class t c = kind-step _ 10 c.in_ok-byte.ensures c.if-depth-eq0.false (sym c.in-Ok.ensures ∙ ap stmt_byte c.in-Class.is) (λ t p w f h e. at-class _ _ t p w f h e) c.check_class.ensures

@@ -1,16 +1,12 @@
-use mathlib.Core.Path.{sym, ◌∙◌}
-use Rattle.parts.proofs.Laws.{then_next, then-refused, judged-within}
+use Rattle.std.proofs.Common.{rules}
 use Rattle.parts.specs.Judge.{judge_assign}
+use Rattle.parts.proofs.Steps.{step, stop}
 use Rattle.tree.proofs.stmts.check_assign.Goals as goal
 
-pub returns-in_default : goal.returns-in_default
+pub returns-in_err-check_expr : goal.returns-in_err-check_expr
 unfolding judge_assign
-returns-in_default c = c.in_default.is ∙ sym (then-refused _ _ _ (sym c.check_target-target.ensures ∙ c.in_default.is))
-
-pub check_assigned-requires : goal.check_assigned-requires
-unfolding judge_assign
-check_assigned-requires c = judged-within _ _ _ _ _ _ _ (sym c.check_target-target.ensures ∙ c.in-Next.is)
+returns-in_err-check_expr c = stop _ (search rules) c.in_err-check_expr.ensures
 
 pub returns : goal.returns
 unfolding judge_assign
-returns c = c.check_assigned.ensures ∙ sym (then_next _ _ _ _ (sym c.check_target-target.ensures ∙ c.in-Next.is))
+returns c = step c.in_ok-check_expr.ensures c.check_expr-2.ensures

@@ -1,16 +1,12 @@
-use mathlib.Core.Path.{sym, ◌∙◌}
-use Rattle.parts.proofs.Laws.{then_next, then-refused, judged-within}
+use Rattle.std.proofs.Common.{rules}
 use Rattle.parts.specs.Judge.{judge_attribute_value}
+use Rattle.parts.proofs.Steps.{step, stop}
 use Rattle.tree.proofs.stmts.check_value.Goals as goal
 
-pub returns-in_default : goal.returns-in_default
+pub returns-in_err-name : goal.returns-in_err-name
 unfolding judge_attribute_value
-returns-in_default c = c.in_default.is ∙ sym (then-refused _ _ _ (sym c.check_name-name.ensures ∙ c.in_default.is))
-
-pub check_expr-requires : goal.check_expr-requires
-unfolding judge_attribute_value
-check_expr-requires c = judged-within _ _ _ _ _ _ _ (sym c.check_name-name.ensures ∙ c.in-Next.is)
+returns-in_err-name c = stop _ (search rules) c.in_err-name.ensures
 
 pub returns : goal.returns
 unfolding judge_attribute_value
-returns c = c.check_expr.ensures ∙ sym (then_next _ _ _ _ (sym c.check_name-name.ensures ∙ c.in-Next.is))
+returns c = step c.in_ok-name.ensures c.check_expr.ensures

@@ -1,17 +1,16 @@
-use mathlib.Core.Path.{refl, sym, ◌∙◌}
-use native.Mathlib.Omega.{arith}
-use Rattle.tree.proofs.StmtLaws.{attributes-none, attributes-more, value-within}
-use Rattle.parts.proofs.Laws.{then_next, then-refused}
+use Rattle.std.proofs.Common.{rules, arith}
+use Rattle.parts.proofs.Steps.{along-start, along-next, along-stop, along-end}
+use Rattle.tree.proofs.Checking.{values-turns, values-end}
 use Rattle.tree.proofs.stmts.check_values.Goals as goal
 
-pub loop-left-init : goal.loop-left-init
-loop-left-init c = (refl, omega arith)
+pub loop-init : goal.loop-init
+loop-init c = along-start _ _ _ _ (omega arith)
 
-pub returns-in_default : goal.returns-in_default
-returns-in_default c = c.in_default.is ∙ sym (c.loop-left.invariant.0 ∙ attributes-more _ _ _ _ _ c.loop-left.invariant.1 c.loop-left-test.true ∙ then-refused _ _ _ (sym c.check_value-one.ensures ∙ c.in_default.is))
+pub returns-in_err-check_value : goal.returns-in_err-check_value
+returns-in_err-check_value c = along-stop (values-turns _) (search rules) c.loop.invariant c.in_err-check_value.ensures (omega arith)
 
-pub loop-left-preserved : goal.loop-left-preserved
-loop-left-preserved c = let e = sym c.check_value-one.ensures ∙ c.in-Next.is in (c.loop-left.invariant.0 ∙ attributes-more _ _ _ _ _ c.loop-left.invariant.1 c.loop-left-test.true ∙ then_next _ _ _ _ e, value-within _ _ _ _ _ _ c.loop-left.invariant.1 e)
+pub loop-preserved : goal.loop-preserved
+loop-preserved c = along-next (values-turns _) c.loop.invariant c.in_ok-check_value.ensures (omega arith)
 
 pub returns : goal.returns
-returns c = sym (c.loop-left.invariant.0 ∙ attributes-none _ _ _ _ _ c.loop-left.invariant.1 c.loop-left-test.false)
+returns c = along-end c.loop.invariant (values-end _ _ _ (omega arith))

@@ -1,11 +1,7 @@
-use mathlib.Core.Path.{◌≡◌}
-use Prim.Native.Nat.{◌≤◌}
-use lib.ListN.{length}
-use Rattle.parts.specs.Judge.{judge_attributes}
+use Rattle.std.proofs.Common.{◌-◌}
+use Rattle.parts.proofs.Steps.{Along}
+use Rattle.tree.proofs.Checking.{values}
 use Rattle.tree.proofs.stmts.check_values.Given as goal
 
-abbrev pub invariant-loop-left : goal.invariant-loop-left
-invariant-loop-left l = (judge_attributes l.depth l.tree l.initial.left l.initial.p l.initial.w ≡ judge_attributes l.depth l.tree l.left l.p l.w) × (l.p ≤ length l.tree)
-
-abbrev pub decreases-loop-left : goal.decreases-loop-left
-decreases-loop-left l = l.left
+abbrev pub invariant-loop : goal.invariant-loop
+invariant-loop l = Along (values l.depth) l.n (l.n - l.counter) l.initial.c l.c

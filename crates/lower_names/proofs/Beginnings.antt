@@ -1,0 +1,70 @@
+-- A function that begins once its name has a number.
+use Prim.Native.Nat.{ℕ, ◌+◌, ◌≤◌}
+use mathlib.Core.Path.{◌≡◌, refl, sym, ap, subst, ◌∙◌}
+use mathlib.Core.List.{List, [], ◌∷◌}
+use native.Mathlib.Omega.{arith}
+use lib.ListN.{length}
+use Rattle.std.specs.Prelude.{Option, Some, None}
+use Rattle.std.proofs.lemmas.Option.{none-some}
+use Rattle.definitions.specs.Bytes.{Name}
+use Rattle.state.specs.State.{State, Sound, Within, Left, symbol_number}
+use Rattle.state.specs.declared.Limits.{Limits}
+use Rattle.state.proofs.Answers.{paced-more}
+use Rattle.state.proofs.Enclosing.{symbol-functions}
+use Rattle.state.proofs.Views.{stack-length}
+use Rattle.state.proofs.Within.{within-tables}
+use Rattle.lower_emit.specs.Nesting.{begun_with}
+use Rattle.lower_emit.specs.declared.emitter.Emitter.{Emitter}
+use Rattle.lower_emit.specs.Emitting.{counts_of, limits_in, state_in, SoundIn, NumbersIn, BeginsIn}
+use Rattle.lower_emit.proofs.Answering.{open_after}
+use Rattle.lower_emit.proofs.Steps.{sound-next}
+use Rattle.lower_names.specs.Naming.{named}
+
+within-begun_with : {l : Limits} (k arity n : ℕ) (s : State) → Within l (begun_with k arity n s) → Within l s
+unfolding begun_with
+within-begun_with k arity n s w =
+    within-tables s _ (record { new = record { symbol = k; arity = arity; locals = n; code = [] } ∷ []; functions = refl; symbols = omega arith; strings = omega arith; classes = omega arith }) w
+
+module _ {tree : List ℕ} {a b : Emitter} {i : Option ℕ} (x : Name) (S : SoundIn tree a) (h : NumbersIn i (symbol_number x (state_in tree a).tables) tree a b (named x (state_in tree a))) where
+  -- no room for the name
+  pub named-none : {r : Option ℕ} (n arity locals : ℕ) → i ≡ None → r ≡ None → BeginsIn r n tree a b (begun_with (symbol_number x (state_in tree a).tables) arity locals (named x (state_in tree a)))
+  named-none n arity locals z e = record {
+    is = λ m q. absurd (none-some m (sym e ∙ q));
+    done = λ m q. absurd (none-some m (sym e ∙ q));
+    more = λ m q. absurd (none-some m (sym e ∙ q));
+    full = λ q w. h.reaches.full z (within-begun_with _ _ _ _ w);
+    limits = h.reaches.limits;
+  }
+
+  module _ {j : ℕ} (z : i ≡ Some j) where
+    pub named-sound : SoundIn tree b
+    named-sound = sound-next z h.reaches
+
+    got : Left (counts_of b) tree b.tables.made.now b.code.words.now b.tables.entries.now (counts_of a) (limits_in a) (named x (state_in tree a))
+    got = (h.reaches.done j z).left
+
+    same-open : b.code.open ≡ a.code.open
+    same-open =
+        open_after tree b.tables.made.now b.code.words.now b.tables.entries.now (counts_of a) (counts_of b) (limits_in a) (named x (state_in tree a)) got
+        ∙ stack-length tree a.tables.made.now a.code.words.now a.tables.entries.now (counts_of a) (limits_in a) S.sound
+
+    pub named-begins : {r : Option ℕ} {c : Emitter} (arity locals : ℕ) → BeginsIn r (length (state_in tree b).tables.functions) tree b c (begun_with j arity locals (state_in tree b))
+        → BeginsIn r (length (state_in tree a).tables.functions) tree a c (begun_with (symbol_number x (state_in tree a).tables) arity locals (named x (state_in tree a)))
+    named-begins {r} {c} arity locals g =
+        let begun-is : begun_with j arity locals (state_in tree b) ≡ begun_with (symbol_number x (state_in tree a).tables) arity locals (named x (state_in tree a)) = λ k. begun_with (h.is j z k) arity locals (got.state k) in
+        record {
+          is = λ n e. g.is n e ∙ ap (λ (u : State). length u.tables.functions) got.state ∙ ap length (symbol-functions x (state_in tree a).tables);
+          done = λ n e.
+              let m = (g.done n e).moved in
+              record {
+                moved = record {
+                  state = m.state ∙ begun-is;
+                  base = m.base ∙ same-open;
+                  paced = paced-more got.paced m.paced;
+                  sound = subst (λ (l : Limits). Sound tree c.tables.made.now c.code.words.now c.tables.entries.now (counts_of c) l) h.reaches.limits m.sound;
+                };
+              };
+          more = λ n e. omega (arith, g.more n e, got.paced.methods);
+          full = λ e w. g.full e (subst (λ (z : Type 0). z) (λ k. Within (sym h.reaches.limits k) (sym begun-is k)) w);
+          limits = g.limits ∙ h.reaches.limits;
+        }

@@ -1,0 +1,49 @@
+// The questions that are asked of a block's parts.
+ghost use Rattle.std.specs.Prelude.{◌≡◌};
+ghost use Rattle.parts.specs.Asked.{place, asks};
+ghost use Rattle.questions.specs.Numbers.{number};
+
+use questions::Question;
+
+// A question of a block, by its place in the order in which they are asked.
+#[derive(Clone, Copy)]
+pub enum BlockQuestion {
+    Names = 0,
+    IteratorNames = 1,
+    Strings = 2,
+    Loops = 3,
+    Targets = 4,
+    Parameters = 5,
+    Init = 6,
+    ListLengths = 7,
+}
+
+// How many questions are asked of a block.
+pub(crate) const QUESTIONS: u32 = 8;
+
+impl BlockQuestion {
+    // Its place in the order in which the questions are asked.
+    #[tactic(auto, unfolding(crate::specs::Asked::place))]
+    pub(crate) fn place(self) -> u32
+        ensures { result ≡ place self }
+    {
+        self as u32
+    }
+
+    // The question by its number.
+    #[tactic(auto, unfolding(crate::specs::Asked::asks, questions::specs::Numbers::number))]
+    pub fn question(self) -> Question
+        ensures { number result ≡ asks self }
+    {
+        match self {
+            BlockQuestion::Names => Question::Names,
+            BlockQuestion::IteratorNames => Question::IteratorNames,
+            BlockQuestion::Strings => Question::Strings,
+            BlockQuestion::Loops => Question::Loops,
+            BlockQuestion::Targets => Question::Targets,
+            BlockQuestion::Parameters => Question::Parameters,
+            BlockQuestion::Init => Question::Init,
+            BlockQuestion::ListLengths => Question::ListLengths,
+        }
+    }
+}

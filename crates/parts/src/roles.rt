@@ -1,0 +1,40 @@
+// The roles that an expression can have (10).
+ghost use Rattle.std.specs.Prelude.{◌≡◌};
+ghost use Rattle.parts.specs.Judge.{fits, inner};
+
+use numerals::expr;
+
+// What an expression stands for: a value, an assignment's target, an element of a tuple target.
+#[derive(Clone, Copy)]
+pub enum Role {
+    Value,
+    Target,
+    Element,
+}
+
+impl Role {
+    // 10: whether a kind of expression can stand in this role.
+    pub fn fits(self, kind: u8) -> bool
+        ensures { result ≡ fits self kind }
+    {
+        match self {
+            Role::Value => true,
+            Role::Target => matches!(
+                kind,
+                expr::VARIABLE | expr::ATTRIBUTE | expr::TUPLE | expr::INDEX
+            ),
+            Role::Element => matches!(kind, expr::VARIABLE | expr::TUPLE),
+        }
+    }
+
+    // The role of a tuple's elements.
+    #[tactic(auto, unfolding(crate::specs::Judge::inner))]
+    pub fn within(self) -> Role
+        ensures { result ≡ inner self }
+    {
+        match self {
+            Role::Value => Role::Value,
+            Role::Target | Role::Element => Role::Element,
+        }
+    }
+}
