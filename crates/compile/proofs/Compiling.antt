@@ -83,9 +83,6 @@ module _ {tree : List ℕ} {a b : Emitter} {f : Option ℕ} (F : Fresh a) (B : B
     begun-here : Moved 0 (counts_of b) tree b.tables.made.now b.code.words.now b.tables.entries.now (counts_of a) (limits_in a) main_begun
     begun-here = subst (λ (n : ℕ). Moved n (counts_of b) tree b.tables.made.now b.code.words.now b.tables.entries.now (counts_of a) (limits_in a) main_begun) (ap (λ (c : Counts). c.open) F.none) (B.done i z).moved
 
-    pub begun-sound : SoundIn tree b
-    begun-sound = record { sound = subst (λ (l : Limits). Sound tree b.tables.made.now b.code.words.now b.tables.entries.now (counts_of b) l) (sym B.limits) begun-here.sound }
-
     main-is : emit_at b.code.base (main_code t) (state_in tree b) ≡ emit_at 0 (main_code t) main_begun
     main-is = λ i. emit_at (begun-here.base i) (main_code t) (begun-here.state i)
 
@@ -98,7 +95,7 @@ module _ {tree : List ℕ} {a b : Emitter} {f : Option ℕ} (F : Fresh a) (B : B
           (λ w. h.lowers.reaches.full y (subst (λ (q : Type 0). q) (λ k. Within (sym B.limits k) (sym main-is k)) (whole-within (limits_in a) t w))) same-limits
 
       module _ {n : ℕ} (y : r ≡ Some n) where
-        pub body-sound : SoundIn tree m
+        body-sound : SoundIn tree m
         body-sound = sound-next y h.lowers.reaches
 
         left : Left (counts_of m) tree m.tables.made.now m.code.words.now m.tables.entries.now (counts_of b) (limits_in b) (emit_at b.code.base (main_code t) (state_in tree b))

@@ -1,40 +1,5 @@
-// Counts and limits by their places in the lent numbers, the tables by their places in the second area.
+// The tables by their places in the second area, and the parts of words.
 use crate::ops;
-
-// How many symbols, strings, functions, classes, methods of ended classes and constants there are.
-pub const SYMBOLS: usize = 0;
-
-pub const STRINGS: usize = 1;
-
-pub const FUNCTIONS: usize = 2;
-
-pub const CLASSES: usize = 3;
-
-pub const METHODS: usize = 4;
-
-pub const CONSTANTS: usize = 5;
-// How many bytes of made names; where the innermost function's words begin; how many words are open and how many finished.
-pub const MADE: usize = 6;
-
-pub const BASE: usize = 7;
-
-pub const OPEN: usize = 8;
-
-pub const DONE: usize = 9;
-
-// The limits of question 15.
-pub const FUNCTION_LIMIT: usize = 0;
-
-pub const SYMBOL_LIMIT: usize = 1;
-
-pub const STRING_LIMIT: usize = 2;
-
-pub const CLASS_LIMIT: usize = 3;
-
-pub const INSTRUCTION_LIMIT: usize = 4;
-
-// No number: there is no room.
-pub const OVER: u32 = 65536;
 
 // The slots of loops are below this number; main's loops, which keep their iterators in globals, have it in the place of a slot.
 pub const IN_GLOBALS: u32 = 256;

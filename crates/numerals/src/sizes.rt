@@ -22,11 +22,6 @@ pub const AREA: usize = 16384;
 // Bytes of made names: 20 for each symbol, and what one more takes.
 pub const MADE_ROOM: usize = 20500;
 
-// How many counts and limits there are.
-pub const COUNTS: usize = 10;
-
-pub const LIMITS: usize = 5;
-
 // How many slots a function may have, and the numbers that its slots take: an index of their names, and a place for one slot more.
 pub const SLOTS_MOST: u32 = 255;
 

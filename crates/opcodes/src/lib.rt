@@ -1,4 +1,5 @@
 // The opcodes of operators and displays, by their bytes in the tree.
+// Operators and kinds come as bytes: an enum would ask more of callers, who have them from a tree.
 #![tactic(auto)]
 
 ghost use Rattle.std.specs.Prelude.{◌≡◌, ◌<◌, ◌≤◌};

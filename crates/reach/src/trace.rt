@@ -36,6 +36,7 @@ fn taken(answer: Option<u8>) -> usize
 }
 
 // How many answers there are on the way to a place.
+// A loop, as each mark says whether another comes before it.
 pub(crate) fn way_length(area: &[u32], place: usize) -> usize
     requires { Traceable area.now place }
     ensures { result ≡ length (way_to area.now place) }
@@ -68,6 +69,7 @@ fn put_back(out: &mut [u8], at: usize, answer: Option<u8>) -> usize
 }
 
 // The answers on the way to a place, of which there are `end`, at the buffer's start.
+// A loop, as each mark says whether another comes before it.
 pub(crate) fn write_way(area: &[u32], place: usize, end: usize, out: &mut [u8])
     requires { Traceable area.now place × (end ≡ length (way_to area.now place)) × (end ≤ length out.old) }
     ensures { out.new ≡ written (way_to area.now place) out.old }

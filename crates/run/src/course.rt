@@ -163,6 +163,7 @@ impl Course<'_> {
     }
 
     // The whole run: all the steps, and those event bytes that the buffer has room for; or nothing, where they are more than the course allows.
+    // A loop, as each turn says whether there is another.
     pub(crate) fn pass(&self, events: &mut [u8]) -> Option<Ran>
         ensures { Passes result (Run.run self.now.budget (instructions_of self.now.code.now) 0 self.now.answers.now) self.now.room events.old events.new }
     {

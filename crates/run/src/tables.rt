@@ -7,12 +7,6 @@ ghost use Rattle.run.specs.Tables.{Coded, Places, Stops, GoesOn, Nearer};
 use numerals::op_bytes::{JUMP, JUMP_IF_FALSE, JUMP_IF_TRUE, RETURN};
 use reader::Instructions;
 
-pub fn wide(x: u32) -> usize
-    ensures { result ≡ x }
-{
-    x as usize
-}
-
 // Where each instruction begins.
 pub fn fill_places(code: &[u8], places: &mut [u32])
     requires { Coded code.now × (length (instructions_of code.now) ≤ length places.old) }
