@@ -139,9 +139,9 @@ def places(root):
                 found["1b"].append(at)
             if re.search(r"\b(Refused|Unread|Err|refused|noted|No|note)\((\w+, )?\d+\b|return (1[0-9]|2[0-4]|3[1-5]);", text) and crate != "questions":
                 found["1c"].append(at)
-            if crate == "numerals" and re.search(r"/(expr|stmt|ops|op_bytes|op_places)\.rt$", file) and re.search(r"\bpub const \w+: ", text):
+            if crate == "numerals" and re.search(r"/(expr|stmt|operators|ops|op_bytes|op_places)\.rt$", file) and re.search(r"\bpub const \w+: ", text):
                 found["1d"].append(at)
-            elif re.search(r"\b(expr|stmt|ops|op_bytes|op_places)::[A-Z_0-9]+\b", text) and not re.match(r"\s*(pub )?use ", text):
+            elif re.search(r"\b(expr|stmt|operators|ops|op_bytes|op_places)::[A-Z_0-9]+\b", text) and not re.match(r"\s*(pub )?use ", text):
                 found["1e"].append(at)
             if re.search(r"\bwhile\b|\bloop \{", text):
                 found["3"].append(at)

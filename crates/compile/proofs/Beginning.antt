@@ -15,9 +15,11 @@ use Rattle.state.specs.declared.Limits.{Limits}
 use Rattle.names.specs.Made.{made_name}
 use Rattle.names.specs.declared.Made.TheVariants.{Main}
 use Rattle.lower_emit.specs.Nesting.{begun_with}
+use Rattle.lower_emit.specs.declared.emitter.Names.{Names}
+use Rattle.lower_emit.specs.declared.emitter.Entries.{Entries}
 use Rattle.lower_emit.specs.declared.emitter.Tables.{Tables}
 use Rattle.lower_emit.specs.declared.emitter.Emitter.{Emitter}
-use Rattle.lower_emit.specs.Emitting.{limits_in, state_in, SoundIn, beside, NumbersIn, BeginsIn, Begun}
+use Rattle.lower_emit.specs.Emitting.{limits_in, state_in, SoundIn, beside, new_names, NumbersIn, BeginsIn, Begun}
 use Rattle.lower_emit.proofs.Begun.{begun-frame}
 use Rattle.lower_emit.proofs.Functions.{begun-lifts}
 use Rattle.lower_names.specs.Naming.{InternsMade, named}
@@ -51,15 +53,15 @@ sound-nothing c t m l = record {
 pub fresh-sound : {tree : List ℕ} {e : Emitter} → Fresh e → SoundIn tree e
 fresh-sound {tree} {e} F =
     let l : Limited (limits_in e) = record {
-      functions = e.tables.functions_most;
-      symbols = e.tables.symbols_most;
-      strings = e.tables.strings_most;
-      classes = e.tables.classes_most;
+      functions = e.tables.functions.most;
+      symbols = e.tables.names.symbols.most;
+      strings = e.tables.strings.most;
+      classes = e.tables.classes.most;
       instructions = e.code.code_limit;
     } in
     record {
-      sound = subst (λ (c : Counts). Sound tree e.tables.made.now e.code.words.now e.tables.entries.now c (limits_in e)) (sym F.none)
-          (sound-nothing e.code.code_room e.tables.tables_room F.made-room l);
+      sound = subst (λ (c : Counts). Sound tree e.tables.names.made.now e.code.words.now e.tables.entries.words.now c (limits_in e)) (sym F.none)
+          (sound-nothing e.code.code_room e.tables.entries.room F.made-room l);
     }
 
 nothing-is : (tree made code tables : List ℕ) → state_of tree made code tables no_counts ≡ nothing
@@ -72,7 +74,7 @@ begun_main s = begun_with (symbol_number (made_name Main) s.tables) 0 0 (named (
 
 module _ (tree : List ℕ) {a : Emitter} (F : Fresh a) where
   fresh-state : state_in tree a ≡ nothing
-  fresh-state = ap (λ (c : Counts). state_of tree a.tables.made.now a.code.words.now a.tables.entries.now c) F.none ∙ nothing-is tree a.tables.made.now a.code.words.now a.tables.entries.now
+  fresh-state = ap (λ (c : Counts). state_of tree a.tables.names.made.now a.code.words.now a.tables.entries.words.now c) F.none ∙ nothing-is tree a.tables.names.made.now a.code.words.now a.tables.entries.words.now
 
   functions-none : length (state_in tree a).tables.functions ≡ 0
   unfolding no_tables
@@ -82,9 +84,12 @@ module _ (tree : List ℕ) {a : Emitter} (F : Fresh a) where
   unfolding made_name main_named main_begun
   begun-is = ap begun_main fresh-state ∙ begun-frame (symbol_number main no_tables) 0 0 (names_only []) main_named refl
 
-module _ {tree : List ℕ} {a : Emitter} {ts : Tables} {i : Option ℕ} (F : Fresh a) (h : InternsMade i (made_name Main) tree a.tables ts) where
+module _ {tree : List ℕ} {a : Emitter} {names : Names} {entries : Entries} {i : Option ℕ} (F : Fresh a) (h : InternsMade i (made_name Main) tree a.tables.names names a.tables.entries entries) where
+  abbrev ts : Tables
+  ts = new_names names entries a.tables
+
   numbers : NumbersIn i (symbol_number (made_name Main) (state_in tree a).tables) tree a (beside a.code ts) (named (made_name Main) (state_in tree a))
-  numbers = h.numbers a.code (fresh-sound F)
+  numbers = (h.tables a.tables).numbers a.code (fresh-sound F)
 
   pub begins-none : {r : Option ℕ} → i ≡ None → r ≡ None → BeginsIn r 0 tree a (beside a.code ts) main_begun
   begins-none {r} z e = subst (λ (s : State). BeginsIn r 0 tree a (beside a.code ts) s) (begun-is tree F) (named-none (made_name Main) (fresh-sound F) numbers 0 0 0 z e)

@@ -25,9 +25,9 @@ use Rattle.state.proofs.Growth.{Lengthened, Lengthens, functions-longer, lengthe
 use Rattle.state.proofs.Within.{within-down, within-function}
 use Rattle.lower_emit.specs.Nesting.{body_of, Moved}
 use Rattle.lower_emit.specs.declared.emitter.Emitter.{Emitter}
-use Rattle.lower_emit.specs.Emitting.{counts_of, limits_in, state_in, SoundIn, EmitsTo, BeginsIn, Ended}
+use Rattle.lower_emit.specs.Emitting.{counts_of, limits_in, state_in, SoundIn, SameAreas, EmitsTo, BeginsIn, Ended}
 use Rattle.lower_emit.proofs.Begun.{begun-body}
-use Rattle.lower_emit.proofs.Steps.{sound-next}
+use Rattle.lower_emit.proofs.Steps.{areas-after, sound-next}
 use Rattle.lower_emit.proofs.Functions.{ended-lifts}
 use Rattle.lower_forms.specs.Lowering.{BlockLowerable}
 use Rattle.compile.specs.Compiled.{Fresh, nothing, main_named, main_begun, main_code, CompilesTree}
@@ -72,16 +72,16 @@ unfolding emit_at
 longer b = (main-lengthens b).at (length main_begun.stack - 0) main_begun.tables
 
 -- the answer without tables
-none-compiles : {A : Type 0} {r : Option A} {tree : List ℕ} {a c : Emitter} (b : Block) → r ≡ None → (Within (limits_in a) (whole b) → ⊥) → limits_in c ≡ limits_in a → CompilesTree r tree a c (compile b).tables
-none-compiles b e h l = record { tables = λ x q. absurd (none-some x (sym e ∙ q)); sound = λ x q. absurd (none-some x (sym e ∙ q)); full = λ q. h; limits = l }
+none-compiles : {A : Type 0} {r : Option A} {tree : List ℕ} {a c : Emitter} (b : Block) → r ≡ None → (Within (limits_in a) (whole b) → ⊥) → limits_in c ≡ limits_in a → SameAreas a c → CompilesTree r tree a c (compile b).tables
+none-compiles b e h l k = record { tables = λ x q. absurd (none-some x (sym e ∙ q)); sound = λ x q. absurd (none-some x (sym e ∙ q)); full = λ q. h; limits = l; areas = k }
 
 module _ {tree : List ℕ} {a b : Emitter} {f : Option ℕ} (F : Fresh a) (B : BeginsIn f 0 tree a b main_begun) (t : Block) where
   pub compiles-none : {A : Type 0} {r : Option A} → f ≡ None → r ≡ None → CompilesTree r tree a b (compile t).tables
-  compiles-none z e = none-compiles t e (λ w. B.full z (within-down 0 main_begun (main-lengthens t) (whole-within (limits_in a) t w))) B.limits
+  compiles-none z e = none-compiles t e (λ w. B.full z (within-down 0 main_begun (main-lengthens t) (whole-within (limits_in a) t w))) B.limits B.areas
 
   module _ {i : ℕ} (z : f ≡ Some i) where
-    begun-here : Moved 0 (counts_of b) tree b.tables.made.now b.code.words.now b.tables.entries.now (counts_of a) (limits_in a) main_begun
-    begun-here = subst (λ (n : ℕ). Moved n (counts_of b) tree b.tables.made.now b.code.words.now b.tables.entries.now (counts_of a) (limits_in a) main_begun) (ap (λ (c : Counts). c.open) F.none) (B.done i z).moved
+    begun-here : Moved 0 (counts_of b) tree b.tables.names.made.now b.code.words.now b.tables.entries.words.now (counts_of a) (limits_in a) main_begun
+    begun-here = subst (λ (n : ℕ). Moved n (counts_of b) tree b.tables.names.made.now b.code.words.now b.tables.entries.words.now (counts_of a) (limits_in a) main_begun) (ap (λ (c : Counts). c.open) F.none) (B.done i z).moved
 
     main-is : emit_at b.code.base (main_code t) (state_in tree b) ≡ emit_at 0 (main_code t) main_begun
     main-is = λ i. emit_at (begun-here.base i) (main_code t) (begun-here.state i)
@@ -90,15 +90,18 @@ module _ {tree : List ℕ} {a b : Emitter} {f : Option ℕ} (F : Fresh a) (B : B
       same-limits : limits_in m ≡ limits_in a
       same-limits = h.lowers.reaches.limits ∙ B.limits
 
+      same-areas : SameAreas a m
+      same-areas = areas-after B.areas h.lowers.reaches.areas
+
       pub compiles-stopped : {A : Type 0} {q : Option A} → r ≡ None → q ≡ None → CompilesTree q tree a m (compile t).tables
       compiles-stopped y e = none-compiles t e
-          (λ w. h.lowers.reaches.full y (subst (λ (q : Type 0). q) (λ k. Within (sym B.limits k) (sym main-is k)) (whole-within (limits_in a) t w))) same-limits
+          (λ w. h.lowers.reaches.full y (subst (λ (q : Type 0). q) (λ k. Within (sym B.limits k) (sym main-is k)) (whole-within (limits_in a) t w))) same-limits same-areas
 
       module _ {n : ℕ} (y : r ≡ Some n) where
         body-sound : SoundIn tree m
         body-sound = sound-next y h.lowers.reaches
 
-        left : Left (counts_of m) tree m.tables.made.now m.code.words.now m.tables.entries.now (counts_of b) (limits_in b) (emit_at b.code.base (main_code t) (state_in tree b))
+        left : Left (counts_of m) tree m.tables.names.made.now m.code.words.now m.tables.entries.words.now (counts_of b) (limits_in b) (emit_at b.code.base (main_code t) (state_in tree b))
         left = (h.lowers.reaches.done n y).left
 
         after : state_in tree m ≡ emit_at 0 (main_code t) main_begun
@@ -108,7 +111,7 @@ module _ {tree : List ℕ} {a b : Emitter} {f : Option ℕ} (F : Fresh a) (B : B
         unfolding main_begun begun begin
         begun-count = length-append main_named.tables.functions _
 
-        main-there : i < m.tables.functions
+        main-there : i < m.tables.functions.count
         main-there =
             omega (
               arith,
@@ -116,7 +119,7 @@ module _ {tree : List ℕ} {a b : Emitter} {f : Option ℕ} (F : Fresh a) (B : B
               begun-count,
               functions-longer (longer t),
               ap (λ (s : State). length s.tables.functions) after,
-              function-count tree m.tables.made.now m.code.words.now m.tables.entries.now (counts_of m) (limits_in m) body-sound.sound,
+              function-count tree m.tables.names.made.now m.code.words.now m.tables.entries.words.now (counts_of m) (limits_in m) body-sound.sound,
             )
 
         main-empty : body_of (state_in tree m).tables.functions i ≡ []
@@ -132,7 +135,8 @@ module _ {tree : List ℕ} {a b : Emitter} {f : Option ℕ} (F : Fresh a) (B : B
             let M = (ended-lifts body-sound main-there main-empty (omega arith) g).moved in
             record {
               tables = λ u q. ap (λ (s : State). s.tables) (M.state ∙ (λ k. ended ((left.base ∙ begun-here.base) k) (B.is i z k) (after k)) ∙ sym (whole-ended t));
-              sound = λ u q. record { sound = subst (λ (l : Limits). Sound tree c.tables.made.now c.code.words.now c.tables.entries.now (counts_of c) l) (sym g.limits) M.sound };
+              sound = λ u q. record { sound = subst (λ (l : Limits). Sound tree c.tables.names.made.now c.code.words.now c.tables.entries.words.now (counts_of c) l) (sym g.limits) M.sound };
               full = λ q. absurd (none-some x (sym q));
               limits = g.limits ∙ same-limits;
+              areas = areas-after same-areas g.areas;
             }

@@ -10,7 +10,7 @@ use Rattle.state.specs.State.{State, tables_of, with_tables, symbol_number, with
 use Rattle.state.specs.Steps.{begun}
 use Rattle.state.specs.declared.Counts.{Counts}
 use Rattle.lower_emit.specs.declared.emitter.Emitter.{Emitter}
-use Rattle.lower_emit.specs.Emitting.{counts_of, limits_in, SoundIn}
+use Rattle.lower_emit.specs.Emitting.{counts_of, limits_in, SoundIn, SameAreas}
 
 -- nothing is counted
 abbrev pub no_counts : Counts
@@ -30,7 +30,7 @@ no_counts = record {
 -- nothing is counted yet; the made names have their room
 pub record Fresh (e : Emitter) : Type 0 where
   pub none : counts_of e ≡ no_counts
-  pub made-room : 20500 ≤ length e.tables.made.now
+  pub made-room : 20500 ≤ length e.tables.names.made.now
 
 -- the tree's block
 abbrev pub tree_block : List ℕ → Block
@@ -53,7 +53,8 @@ main_code b = emit_block [] in_globals b ⨟ one Return
 
 -- the emitter shows the tables; or the tables are over the limits, or have a function of more than 255 slots
 pub record CompilesTree {A : Type 0} (r : Option A) (tree : List ℕ) (a b : Emitter) (want : Tables) : Type 0 where
-  pub tables : (x : A) → r ≡ Some x → tables_of tree b.tables.made.now b.code.words.now b.tables.entries.now (counts_of b) ≡ want
+  pub tables : (x : A) → r ≡ Some x → tables_of tree b.tables.names.made.now b.code.words.now b.tables.entries.words.now (counts_of b) ≡ want
   pub sound : (x : A) → r ≡ Some x → SoundIn tree b
   pub full : r ≡ None → Within (limits_in a) (record { stack = []; tables = want }) → ⊥
   pub limits : limits_in b ≡ limits_in a
+  pub areas : SameAreas a b

@@ -1,4 +1,5 @@
 // The tables of an accepted tree: function 0, `__main__`, is the tree's block, with no slots; its loops keep their iterators in globals.
+// That the tree is accepted (TreeAt) stays a clause: a struct with that fact would be made for one call and opened at once.
 #![tactic(auto)]
 
 ghost use Rattle.std.specs.Prelude.{◌≡◌};
@@ -21,7 +22,8 @@ fn begin_main(tree: &[u8], e: &mut Emitter<'_>) -> Option<u32>
     requires { Fresh e.old }
     ensures { BeginsIn result 0 tree.now e.old e.new main_begun }
 {
-    let symbol = intern_made(tree, &mut e.tables, Made::Main)?;
+    let tables = &mut e.tables;
+    let symbol = intern_made(tree, &mut tables.names, &mut tables.entries, Made::Main)?;
     e.begin_function(symbol, 0, 0)
 }
 

@@ -16,7 +16,7 @@ const LOWER_F: u32 = 'f' as u32;
 
 const DECIMAL: u32 = 10;
 
-// The value of a hexadecimal digit in lower case.
+// The value of a hexadecimal digit in lower case. Not by to_digit, which takes capitals too: leaving those out is no plainer.
 #[tactic(auto, unfolding(crate::specs::Text::digit_value))]
 pub fn digit_of(c: u32) -> Option<u32>
     ensures { SomeIff result (digit_value c < 16) (digit_value c) }

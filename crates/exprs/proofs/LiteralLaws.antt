@@ -14,6 +14,9 @@ use Rattle.std.specs.Int.{w64, from_be_bytes}
 use Rattle.definitions.specs.Bytes.{Parser, got, give, unread, byte, field, ◌>>=◌}
 use Rattle.definitions.specs.Parse.{by_kind, expr_kinds, parse_expr}
 use Rattle.definitions.specs.Tree.{none_l, int_l, float_l, string_l, Expr, lit}
+use Rattle.numerals.specs.Kinds.{expr_byte}
+use Rattle.numerals.specs.declared.kinds.ExprKind.{ExprKind}
+use Rattle.numerals.specs.declared.kinds.ExprKind.TheVariants.{NoneLiteral, False, True, Int as IntKind, Float as FloatKind}
 use Rattle.parts.specs.Places.{Node, node_of, node_at, is_got, count_at, Counted, eight_at, text_at}
 use Rattle.parts.proofs.Laws.{at_byte, kind-of}
 use Rattle.parts.proofs.Nodes.{Seen, got-node}
@@ -119,19 +122,20 @@ module _ (t : List ℕ) (p : ℕ) (h : LiteralAt t p) where
   unfolding float_at
   is-float l n e f s = (ap lit ((s t).is ∙ ap float_l f) ∙ sym (ap (λ (x : Node Expr). x.value) (view-float 1 t p h.reads e).is), (s t).plain, no-text-float l n (s t).is)
 
-  module _ (a : get_or t p 0 ≡ 0 → ⊥) (b : get_or t p 0 ≡ 1 → ⊥) (c : get_or t p 0 ≡ 2 → ⊥) (d : get_or t p 0 ≡ 3 → ⊥) (e : get_or t p 0 ≡ 4 → ⊥) where
-    text-kind : get_or t p 0 ≡ 5
-    text-kind = let k = h.kind in omega arith
+  pub text-kind : (k : ExprKind) → expr_byte k ≡ get_or t p 0 → (k ≡ NoneLiteral → ⊥) → (k ≡ False → ⊥) → (k ≡ True → ⊥) → (k ≡ IntKind → ⊥) → (k ≡ FloatKind → ⊥) → get_or t p 0 ≡ 5
+  unfolding expr_byte
+  text-kind k i a b c d e = let l = h.kind in grind arith
 
+  module _ (e : get_or t p 0 ≡ 5) where
     pub text-counted : Counted t (p + 1)
-    text-counted = (view-string 1 t p h.reads text-kind).parts.count
+    text-counted = (view-string 1 t p h.reads e).parts.count
 
     pub is-text : (n : ℕ) → n ≡ count_at t (p + 1) → (lit (literal_of t (Text (p + 3) n)) ≡ (expr_at 1 t p).value) × Plain (Text (p + 3) n) × TextPlace t p (Text (p + 3) n)
     unfolding literal_of Plain TextPlace string_at text_at
     is-text n f = (
       ap (λ (k : ℕ). lit (string_l (take k (drop (p + 3) t)))) f
           ∙ ap (λ (k : ℕ). lit (string_l (take (count_at t (p + 1)) (drop k t)))) (let z : p + 3 ≡ p + 1 + 2 = omega arith in z)
-          ∙ sym (ap (λ (x : Node Expr). x.value) (view-string 1 t p h.reads text-kind).is),
+          ∙ sym (ap (λ (x : Node Expr). x.value) (view-string 1 t p h.reads e).is),
       tt,
       (refl, f),
     )

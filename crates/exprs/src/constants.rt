@@ -1,7 +1,7 @@
 // Constants in a list of expressions: None, False and True, one byte each.
 ghost use Rattle.exprs.specs.Constants.{Skipped};
 
-use numerals::expr;
+use numerals::kinds::ExprKind;
 use parts::checker::Checker;
 use parts::roles::Role;
 
@@ -10,7 +10,7 @@ pub(crate) fn skip_constants(c: &mut Checker<'_>, depth: u32, role: Role, n: usi
     ensures { Skipped role depth n result c.old c.new }
 {
     match role {
-        Role::Value if 0 < depth => c.skip_below(expr::INT, n),
+        Role::Value if 0 < depth => c.skip_below(ExprKind::Int as u8, n),
         _ => 0,
     }
 }

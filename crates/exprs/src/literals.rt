@@ -5,7 +5,7 @@ ghost use Rattle.parts.specs.Places.{eight_at};
 ghost use Rattle.exprs.specs.ExprAt.{expr_at};
 ghost use Rattle.exprs.specs.Literals.{literal_of, Plain, TextPlace, bits_of, LiteralAt, Stands};
 
-use numerals::expr;
+use numerals::kinds::ExprKind;
 use parts::numbers::u16_at;
 
 // The bit of a float's sign, and the bits of infinity: a NaN's are above these, but for the sign.
@@ -57,12 +57,12 @@ pub fn literal_at(tree: &[u8], at: usize) -> Literal
     requires { LiteralAt tree.now at }
     ensures { (lit (literal_of tree.now result) ≡ (expr_at 1 tree.now at).value) × Plain result × TextPlace tree.now at result }
 {
-    match tree[at] {
-        expr::NONE => Literal::None,
-        expr::FALSE => Literal::Bool(false),
-        expr::TRUE => Literal::Bool(true),
-        expr::INT => int_literal(eight_at(tree, at + 1)),
-        expr::FLOAT => float_literal(eight_at(tree, at + 1)),
+    match ExprKind::of(tree[at]) {
+        ExprKind::NoneLiteral => Literal::None,
+        ExprKind::False => Literal::Bool(false),
+        ExprKind::True => Literal::Bool(true),
+        ExprKind::Int => int_literal(eight_at(tree, at + 1)),
+        ExprKind::Float => float_literal(eight_at(tree, at + 1)),
         _ => Literal::Text {
             start: at + 3,
             len: u16_at(tree, at + 1) as usize,

@@ -3,7 +3,7 @@ use Prim.Native.Nat.{ℕ, ◌+◌, ◌-◌, ◌<◌, ◌≤◌}
 use mathlib.Core.Path.{◌≡◌, refl, sym, ap, ◌∙◌, subst}
 use mathlib.Core.Bool.{Bool, true, false, ◌&&◌}
 use mathlib.Core.List.{List, ◌++◌}
-use mathlib.Core.Logic.{◌⊎◌, ⊎_elim}
+use mathlib.Core.Logic.{◌⊎◌, inl, inr, ⊎_elim}
 use native.Mathlib.Omega.{arith}
 use lib.Dec.{eqb}
 use lib.ListN.{length, take, drop, get_or}
@@ -11,11 +11,14 @@ use borrow.Author.Tests.{eqb-true, eqb-false}
 use Rattle.definitions.specs.Bytes.{Name}
 use Rattle.definitions.specs.Tree.{Expr, Exprs, View, as_var, as_attr, as_index, as_tuple, as_other, view}
 use Rattle.definitions.specs.Slots.{captures}
+use Rattle.numerals.specs.Kinds.{expr_byte}
+use Rattle.numerals.specs.declared.kinds.ExprKind.{ExprKind}
+use Rattle.numerals.specs.declared.kinds.ExprKind.TheVariants.{Unary, Binary, Call, Attribute, List as ListKind, Dict, Tuple, Set, TreeSet, Index, Lambda}
 use Rattle.state.specs.State.{slots_from, slot_names}
 use Rattle.state.specs.Fits.{fits_expr, fits_exprs, fits_target}
 use Rattle.parts.specs.Places.{Node, name_end, There, params_at}
 use Rattle.exprs.specs.ExprAt.{expr_at, exprs_at, ExprReads, ExprsRead, var_at, unary_at, TwoAt, second_at, binary_at, ListAt, list_at, CallAt, call_at, AttributeAt, attribute_at, display_at, pairs_at, dict_at, index_at, lambda_at, cons_at}
-use Rattle.parts.proofs.Laws.{le-or-gt, up}
+use Rattle.parts.proofs.Laws.{le-or-gt}
 use Rattle.exprs.proofs.ExprViews.{view-var, view-unary, view-binary, view-call, view-attribute, view-dict, view-index, view-lambda, view-exprs-none, view-exprs-more}
 use Rattle.slots.specs.Slotted.{Collected}
 use Rattle.slots.proofs.Skipping.{plain_done}
@@ -120,12 +123,27 @@ module _ (d : ℕ) (t : List ℕ) (p : ℕ) (r : ExprReads d t p) (slots : List 
   pub target-other : (q : ℕ) → (get_or t p 0 ≡ 10 → ⊥) → (get_or t p 0 ≡ 16 → ⊥) → q ≡ (expr_at d t p).end → Walks (Some q) (expr_at d t p).end (fits_target slots (expr_at d t p).value)
   target-other q f g e = next-walks q _ _ e (target-simple f g)
 
-pub simple-kinds : (k : ℕ) → k < 18 → (k ≡ 7 → ⊥) → (k ≡ 8 → ⊥) → (k ≡ 9 → ⊥) → (k ≡ 10 → ⊥) → (k ≡ 11 → ⊥) → (k ≡ 12 → ⊥) → (k ≡ 13 → ⊥) → (k ≡ 14 → ⊥) → (k ≡ 15 → ⊥) →
-    (k ≡ 16 → ⊥) → (k ≡ 17 → ⊥) → k < 7
-simple-kinds k h b c d e f g i j l m n = ⊎_elim
-    (λ (z : 7 ≤ k). absurd (let q : 18 ≤ k = up 17 k (up 16 k (up 15 k (up 14 k (up 13 k (up 12 k (up 11 k (up 10 k (up 9 k (up 8 k (up 7 k z b) c) d) e) f) g) i) j) l) m) n in omega arith))
-    (λ (z : k < 7). z)
-    (le-or-gt 7 k)
+-- a display's kind, and the kinds of literals and variables
+pub display-kind : (k : ExprKind) (b : ℕ) → expr_byte k ≡ b → (k ≡ ListKind) ⊎ ((k ≡ Tuple) ⊎ ((k ≡ Set) ⊎ (k ≡ TreeSet))) → (b ≡ 11) ⊎ ((b ≡ 13) ⊎ ((b ≡ 14) ⊎ (b ≡ 15)))
+unfolding expr_byte
+display-kind k b e h = ⊎_elim
+    (λ z. inl (sym e ∙ ap expr_byte z))
+    (λ h. inr (⊎_elim (λ z. inl (sym e ∙ ap expr_byte z)) (λ h. inr (⊎_elim (λ z. inl (sym e ∙ ap expr_byte z)) (λ z. inr (sym e ∙ ap expr_byte z)) h)) h))
+    h
+
+pub simple-kind : (k : ExprKind) (b : ℕ) → expr_byte k ≡ b → (k ≡ Unary → ⊥) → (k ≡ Binary → ⊥) → (k ≡ Call → ⊥) → (k ≡ Attribute → ⊥) → (k ≡ ListKind → ⊥) → (k ≡ Tuple → ⊥) → (k ≡ Set → ⊥) →
+    (k ≡ TreeSet → ⊥) → (k ≡ Dict → ⊥) → (k ≡ Index → ⊥) → (k ≡ Lambda → ⊥) → b < 7
+unfolding expr_byte
+simple-kind k b e = grind arith
+
+-- kinds that are not those of the targets whose expressions are lowered
+pub no-attribute : (k : ExprKind) (b : ℕ) → expr_byte k ≡ b → (k ≡ Attribute → ⊥) → b ≡ 10 → ⊥
+unfolding expr_byte
+no-attribute k b e = grind arith
+
+pub no-index : (k : ExprKind) (b : ℕ) → expr_byte k ≡ b → (k ≡ Index → ⊥) → b ≡ 16 → ⊥
+unfolding expr_byte
+no-index k b e = grind arith
 
 -- ---- one part after another
 
@@ -144,9 +162,6 @@ module _ (d : ℕ) (t : List ℕ) (p q : ℕ) (e : q ≡ (expr_at d t p).end) wh
 
   pub list-moved : (slots : List Name) (o : Option ℕ) → Walks o (list_at d t q).end (fits_exprs slots (list_at d t q).value) → Walks o (list_at d t (expr_at d t p).end).end (fits_exprs slots (list_at d t (expr_at d t p).end).value)
   list-moved slots o w = walks-as o _ _ _ _ w (ap (λ (m : ℕ). (list_at d t m).end) e) (ap (λ (m : ℕ). fits_exprs slots (list_at d t m).value) e)
-
-pub fits-list : (slots : List Name) (x y : Node Exprs) (o : Option ℕ) → x ≡ y → Walks o x.end (fits_exprs slots x.value) → Walks o y.end (fits_exprs slots y.value)
-fits-list slots x y o e w = walks-as o _ _ _ _ w (ap (λ (z : Node Exprs). z.end) e) (ap (λ (z : Node Exprs). fits_exprs slots z.value) e)
 
 -- ---- expressions, one at a time
 

@@ -3,18 +3,20 @@ use Prim.Native.Nat.{ℕ, zero, suc, ◌+◌, ◌-◌, ◌<◌, ◌≤◌}
 use mathlib.Core.Path.{◌≡◌, refl, sym, ap, ◌∙◌, subst, ap₂}
 use mathlib.Core.Bool.{Bool, true, false, ◌&&◌}
 use mathlib.Core.List.{List, []}
-use mathlib.Core.Logic.{⊎_elim}
+use mathlib.Core.Logic.{◌⊎◌, ⊎_elim}
 use native.Mathlib.Omega.{arith}
 use lib.ListN.{length, take, drop, get_or}
 use Rattle.definitions.specs.Bytes.{Name}
 use Rattle.definitions.specs.Tree.{Stmt, Block, Branches, Methods}
 use Rattle.definitions.specs.Slots.{with_loops}
+use Rattle.numerals.specs.Kinds.{stmt_byte}
+use Rattle.numerals.specs.declared.kinds.StmtKind.{StmtKind}
+use Rattle.numerals.specs.declared.kinds.StmtKind.TheVariants.{Break, Continue, Pass}
 use Rattle.state.specs.State.{slots_from, slot_names}
 use Rattle.state.specs.Fits.{fits_expr, fits_target, fits_stmt, fits_block, fits_branches, fits_methods}
-use Rattle.parts.specs.Places.{Node, count_at, name_end, ParamsAt, params_at}
+use Rattle.parts.specs.Places.{Node, count_at, name_end, params_at}
 use Rattle.exprs.specs.ExprAt.{expr_at, second_at}
 use Rattle.tree.specs.StmtAt.{stmt_at, block_at, stmts_at, branches_at, methods_at, StmtReads, BlockReads, StmtsRead, BranchesRead, MethodsRead, expr_stmt_at, return_at, assign_at, BranchAt, body_at, elifs_at, if_at, while_at, for_at, when_at, else_at, DefAt, def_block_at, def_at, method_at, ClassAt, class_methods_at, class_at, cons_at}
-use Rattle.parts.proofs.Laws.{le-or-gt, up}
 use Rattle.tree.proofs.StmtViews.{view-break, view-continue, view-pass, view-expr, view-return, view-assign, view-if, view-while, view-for, view-def, view-class, view-block, view-stmts-none, view-stmts-more, view-branches-more, else-known, view-done, view-else, view-methods-none, view-methods-more}
 use Rattle.slots.specs.Slotted.{Frames}
 use Rattle.slots.specs.declared.collect.Framed.{Framed}
@@ -75,11 +77,10 @@ module _ (d : ℕ) (t : List ℕ) (p : ℕ) (r : StmtReads d t p) (slots : List 
   pass-kind (suc (suc zero)) e h = made_of (Some (p + 1)) _ (view-pass d t p r e) (next-walks _ _ _ refl refl)
   pass-kind (suc (suc (suc k))) e h = absurd (omega arith)
 
-pub three-kinds : (k : ℕ) → k < 11 → (k ≡ 3 → ⊥) → (k ≡ 4 → ⊥) → (k ≡ 5 → ⊥) → (k ≡ 6 → ⊥) → (k ≡ 7 → ⊥) → (k ≡ 8 → ⊥) → (k ≡ 9 → ⊥) → (k ≡ 10 → ⊥) → k < 3
-three-kinds k h a b c d e f g i = ⊎_elim
-    (λ (z : 3 ≤ k). absurd (let q : 11 ≤ k = up 10 k (up 9 k (up 8 k (up 7 k (up 6 k (up 5 k (up 4 k (up 3 k z a) b) c) d) e) f) g) i in omega arith))
-    (λ (z : k < 3). z)
-    (le-or-gt 3 k)
+-- the kinds that hold nothing
+pub plain-kind : (k : StmtKind) (b : ℕ) → stmt_byte k ≡ b → (k ≡ Break) ⊎ ((k ≡ Continue) ⊎ (k ≡ Pass)) → b < 3
+unfolding stmt_byte
+plain-kind k b e h = ⊎_elim (λ z. omega (arith, ap stmt_byte z)) (λ h. ⊎_elim (λ z. omega (arith, ap stmt_byte z)) (λ z. omega (arith, ap stmt_byte z)) h) h
 
 pub fits-pass : (d : ℕ) (t : List ℕ) (p : ℕ) (r : StmtReads d t p) (slots : List Name) → get_or t p 0 < 3 → Walks (Some (p + 1)) (stmt_at d t p).end (fits_stmt slots (stmt_at d t p).value)
 fits-pass d t p r slots h = pass-kind d t p r slots (get_or t p 0) refl h
@@ -95,13 +96,6 @@ module _ (d : ℕ) (t : List ℕ) (p q : ℕ) (e : q ≡ (expr_at d t p).end) wh
 
 pub fits-node : (slots : List Name) (x y : Node Branches) (o : Option ℕ) → x ≡ y → Walks o x.end (fits_branches slots x.value) → Walks o y.end (fits_branches slots y.value)
 fits-node slots x y o e w = walks-as o _ _ _ _ w (ap (λ (z : Node Branches). z.end) e) (ap (λ (z : Node Branches). fits_branches slots z.value) e)
-
-pub branch-there : (d : ℕ) (t : List ℕ) (p q : ℕ) → q ≡ p → BranchAt d t p → BranchAt d t q
-branch-there d t p q e h = subst (λ (m : ℕ). BranchAt d t m) (sym e) h
-
-pub branch-moved : (d : ℕ) (t : List ℕ) (p q : ℕ) → q ≡ p → (slots : List Name) (o : Option ℕ) → Walks o (body_at d t q).end (fits_expr slots (expr_at d t q).value && fits_block slots (body_at d t q).value) →
-    Walks o (body_at d t p).end (fits_expr slots (expr_at d t p).value && fits_block slots (body_at d t p).value)
-branch-moved d t p q e slots o w = walks-as o _ _ _ _ w (ap (λ (m : ℕ). (body_at d t m).end) e) (ap (λ (m : ℕ). fits_expr slots (expr_at d t m).value && fits_block slots (body_at d t m).value) e)
 
 -- ---- statements of a block, one at a time
 
@@ -144,9 +138,6 @@ module _ (d : ℕ) (t : List ℕ) (slots : List Name) (n p : ℕ) (r : BranchesR
   pub branches-last : n ≤ 0 → BranchesRead d 0 t p
   branches-last h = subst (λ (m : ℕ). BranchesRead d m t p) (let e : n ≡ 0 = omega arith in e) r
 
-  pub branches-none : (o : Option ℕ) → n ≤ 0 → Walks o (branches_at d 0 t p).end (fits_branches slots (branches_at d 0 t p).value) → Walks o (branches_at d n t p).end (fits_branches slots (branches_at d n t p).value)
-  branches-none o h w = let e : 0 ≡ n = omega arith in walks-as o _ _ _ _ w (ap (λ (m : ℕ). (branches_at d m t p).end) e) (ap (λ (m : ℕ). fits_branches slots (branches_at d m t p).value) e)
-
 module _ (d : ℕ) (t : List ℕ) (p : ℕ) (r : BranchesRead d 0 t p) (slots : List Name) where
   pub else-none : get_or t p 0 ≡ 0 → Walks (Some (p + 1)) (branches_at d 0 t p).end (fits_branches slots (branches_at d 0 t p).value)
   unfolding fits_branches
@@ -181,14 +172,8 @@ module _ (d : ℕ) (t : List ℕ) (n p : ℕ) (r : MethodsRead d n t p) where
   methods-ok h = ap (λ (z : Node Methods). fits_methods z.value) (view-methods-none d t p n h r.start)
 
 module _ (d : ℕ) (t : List ℕ) (p a q : ℕ) (e : a ≡ name_end t p) (f : q ≡ (params_at t a).end) (h : DefAt d t p) where
-  pub def-params : ParamsAt t a
-  def-params = subst (λ (m : ℕ). ParamsAt t m) (sym e) h.params
-
   block-at : q ≡ (params_at t (name_end t p)).end
   block-at = f ∙ ap (λ (m : ℕ). (params_at t m).end) e
-
-  pub def-block : BlockReads d t q
-  def-block = subst (λ (m : ℕ). BlockReads d t m) (sym block-at) h.block
 
   pub def-framed : {r : Option Framed} {ps : List ℕ} → Frames r t ps (with_loops (params_at t a).value (block_at d t q).value) → Frames r t ps (with_loops (params_at t (name_end t p)).value (def_block_at d t p).value)
   def-framed {r} {ps} c = subst (Frames r t ps) (ap₂ (λ (m k : ℕ). with_loops (params_at t k).value (block_at d t m).value) block-at e) c

@@ -16,7 +16,7 @@ use Rattle.definitions.specs.Slots.{Frame}
 use Rattle.slots.specs.declared.collect.Framed.{Framed}
 use Rattle.slots.proofs.Adding.{first-length, part-before, front-names, front-slots}
 use Rattle.slots.proofs.Params.{collected-count, collected-over}
-use Rattle.fits.specs.Walk.{Short, Walks, lambda_fits, def_fits}
+use Rattle.fits.specs.Walk.{Walks, lambda_fits, def_fits}
 use Rattle.std.specs.Prelude.{Option, Some, None}
 
 -- ---- the two answers
@@ -80,9 +80,6 @@ module _ (R : ℕ → ℕ → Type 0) (E : ℕ → ℕ → ℕ) (B : ℕ → ℕ
   pub left-done : E n p ≡ p → B n p ≡ true → Walks (Some p) (E n₀ p₀) (B n₀ p₀)
   left-done h k = next-walks p (E n₀ p₀) (B n₀ p₀) (sym (l.end ∙ h)) (l.ok ∙ k)
 
-  pub left_as : (r : Option ℕ) → Walks r (E n p) (B n p) → Walks r (E n₀ p₀) (B n₀ p₀)
-  left_as r w = walks-as r _ _ _ _ w (sym l.end) (sym l.ok)
-
 pub left-start : (R : ℕ → ℕ → Type 0) (E : ℕ → ℕ → ℕ) (B : ℕ → ℕ → Bool) (n p k : ℕ) → n ≡ k → R n p → Left R E B n p k p
 left-start R E B n p k e r = subst (λ (j : ℕ). Left R E B n p j p) e (record { reads = r; end = refl; ok = refl })
 
@@ -96,8 +93,8 @@ module _ (t ps : List ℕ) (inner : List Name) (n : ℕ) (few : n ≤ 255) (name
   inner-names : slot_names t (take (slots_from + n - 0) (drop 0 ps)) ≡ inner
   inner-names = ap (slot_names t) (part-before (slots_from + n) ps) ∙ front-names t ps n inner_room ∙ names
 
-  inner-slots : length t ≤ 32768 → Short t (take (slots_from + n - 0) (drop 0 ps))
-  inner-slots k = record { tree = k; slotted = subst (Slots t) (sym (part-before (slots_from + n) ps)) (front-slots t ps n inner_room few indexed) }
+  inner-slots : Slots t (take (slots_from + n - 0) (drop 0 ps))
+  inner-slots = subst (Slots t) (sym (part-before (slots_from + n) ps)) (front-slots t ps n inner_room few indexed)
 
 -- of a lambda
 module _ (r : Option ℕ) (t ps : List ℕ) (inner : List Name) (c : Collected r t ps inner) where
@@ -115,8 +112,8 @@ module _ (r : Option ℕ) (t ps : List ℕ) (inner : List Name) (c : Collected r
           let a = slots-few in
           le-leb (length inner) 255 (omega (arith, ap length (collected-count r t ps inner n c h).1, first-length t n ps (inner_room t ps inner n a (collected-count r t ps inner n c h).1 (collected-count r t ps inner n c h).2 g)))
 
-      pub inner-short : length t ≤ 32768 → Short t (take (slots_from + n - 0) (drop 0 ps))
-      inner-short k = inner-slots t ps inner n slots-few (collected-count r t ps inner n c h).1 (collected-count r t ps inner n c h).2 g k
+      pub lambda-slotted : Slots t (take (slots_from + n - 0) (drop 0 ps))
+      lambda-slotted = inner-slots t ps inner n slots-few (collected-count r t ps inner n c h).1 (collected-count r t ps inner n c h).2 g
 
       pub lambda-inside : (o : Option ℕ) (e e' : ℕ) (b b' : Expr) → e ≡ e' → b ≡ b' → Walks o e (fits_expr (slot_names t (take (slots_from + n - 0) (drop 0 ps))) b) → Walks o e' (lambda_fits inner b')
       unfolding lambda_fits
@@ -134,8 +131,8 @@ module _ {r : Option Framed} {t ps : List ℕ} {inner : Frame} (c : Frames r t p
     def-few = let F = c.framing _ h in omega (arith, F.named, F.few)
 
     module _ (g : slots_from + 255 ≤ length ps) where
-      pub def-short : length t ≤ 32768 → Short t (take (slots_from + g₀.named - 0) (drop 0 ps))
-      def-short k = let F = c.framing _ h in inner-slots t ps inner.names g₀.named def-few F.names F.indexed g k
+      pub def-slotted : Slots t (take (slots_from + g₀.named - 0) (drop 0 ps))
+      def-slotted = let F = c.framing _ h in inner-slots t ps inner.names g₀.named def-few F.names F.indexed g
 
       pub def-inside : {e e' : ℕ} {b b' : Block} (o : Option ℕ) → e ≡ e' → b ≡ b' → Walks o e (fits_block (slot_names t (take (slots_from + g₀.named - 0) (drop 0 ps))) b) → Walks o e' (def_fits inner b')
       unfolding def_fits

@@ -1,15 +1,9 @@
--- Question 14 by a walk over the tree's bytes: what it asks and what it answers.
-use Rattle.std.specs.Prelude.{ℕ, ◌≤◌, ◌≡◌, Bool, true, false, ◌&&◌, List, length, leb, Option, Some, None}
+-- Question 14 by a walk over the tree's bytes: what it answers.
+use Rattle.std.specs.Prelude.{ℕ, ◌≡◌, Bool, true, false, ◌&&◌, List, length, leb, Option, Some, None}
 use Rattle.definitions.specs.Bytes.{Name}
 use Rattle.definitions.specs.Tree.{Expr, Block}
 use Rattle.definitions.specs.Slots.{Frame}
-use Rattle.state.specs.State.{Slots}
 use Rattle.state.specs.Fits.{fits_expr, fits_block}
-
--- a short tree, and slots
-pub record Short (t slots : List ℕ) : Type 0 where
-  pub tree : length t ≤ 32768
-  pub slotted : Slots t slots
 
 -- the next position where the question is answered yes; else that it is not
 unfoldable pub Walks : Option ℕ → ℕ → Bool → Type 0

@@ -1,171 +1,185 @@
-// Question 14 of statements and trees: the slots of their defs, methods and lambdas.
-ghost use Rattle.std.specs.Prelude.{◌≡◌, ◌&&◌, [], ◌+◌, ◌-◌, ◌≤◌, ◌<◌, length, get_or};
+// Question 14 of statements and trees: the slots of their defs, methods and lambdas. A position and the levels left there stay two numbers, as in expressions.
+ghost use Rattle.std.specs.Prelude.{◌≡◌, ◌&&◌, ◌+◌, ◌-◌, get_or, []};
 ghost use Rattle.definitions.specs.Slots.{with_loops};
 ghost use Rattle.state.specs.State.{slot_names};
 ghost use Rattle.state.specs.Fits.{fits_expr, fits_target, fits_stmt, fits_block, fits_branches, fits_methods};
 ghost use Rattle.parts.specs.Places.{name_end, params_at};
 ghost use Rattle.exprs.specs.ExprAt.{expr_at, TwoAt, second_at};
 ghost use Rattle.tree.specs.StmtAt.{stmt_at, block_at, branches_at, methods_at, StmtReads, BlockReads, BranchesRead, MethodsRead, BranchAt, body_at, IfAt, elifs_at, ForAt, DefAt, def_block_at, class_methods_at, TreeAt};
-ghost use Rattle.fits.specs.Walk.{Short, Walks, def_fits};
+ghost use Rattle.fits.specs.Walk.{Walks, def_fits};
 
-use crate::expressions::{fits_expr, fits_target};
+use crate::frame::Frame;
+use numerals::kinds::StmtKind;
 use numerals::places::SLOTS_FROM;
 use numerals::sizes::{DEPTH, HEAD, SLOTS_ROOM};
-use numerals::stmt;
 use parts::names::name_end;
 use parts::numbers::u16_at;
 use slots::collect::collect_locals;
 use slots::skip::{skip_params, skip_stmt};
 
-// A target and a value.
-fn fits_assign(tree: &[u8], at: usize, depth: u32, slots: &[u32]) -> Option<usize>
-    requires { Short tree.now slots.now × TwoAt depth tree.now at }
-    ensures { Walks result (second_at depth tree.now at).end
-        (fits_target (slot_names tree.now slots.now) (expr_at depth tree.now at).value && fits_expr (slot_names tree.now slots.now) (second_at depth tree.now at).value) }
-{
-    let p = fits_target(tree, at, depth, slots)?;
-    fits_expr(tree, p, depth, slots)
-}
-
-// A statement of a function with these slots.
-#[cycle(fits)]
-fn fits_stmt(tree: &[u8], at: usize, depth: u32, slots: &[u32]) -> Option<usize>
-    requires { Short tree.now slots.now × StmtReads depth tree.now at }
-    ensures { Walks result (stmt_at depth tree.now at).end (fits_stmt (slot_names tree.now slots.now) (stmt_at depth tree.now at).value) }
-{
-    let kind = tree[at];
-    let a = at + 1;
-    match kind {
-        stmt::EXPR => fits_expr(tree, a, depth - 1, slots),
-        stmt::RETURN => fits_expr(tree, a, depth - 1, slots),
-        stmt::ASSIGN => fits_assign(tree, a, depth - 1, slots),
-        stmt::IF => fits_if(tree, a, depth - 1, slots),
-        stmt::WHILE => fits_branch(tree, a, depth - 1, slots),
-        stmt::FOR => fits_for(tree, a, depth - 1, slots),
-        stmt::DEF => fits_def(tree, a, depth - 1),
-        stmt::CLASS => fits_class(tree, at, depth),
-        _ => Some(a),
+impl<'a> Frame<'a> {
+    // A target and a value.
+    fn assign(self, at: usize, depth: u32) -> Option<usize>
+        requires { TwoAt depth self.tree.now at }
+        ensures { let t = self.entry.tree.now in let names = slot_names t self.entry.slots.now in
+            Walks result (second_at depth t at).end (fits_target names (expr_at depth t at).value && fits_expr names (second_at depth t at).value) }
+    {
+        let p = self.target(at, depth)?;
+        self.expr(p, depth)
     }
-}
 
-// A block.
-#[cycle(fits)]
-fn fits_block(tree: &[u8], at: usize, depth: u32, slots: &[u32]) -> Option<usize>
-    requires { Short tree.now slots.now × BlockReads depth tree.now at }
-    ensures { Walks result (block_at depth tree.now at).end (fits_block (slot_names tree.now slots.now) (block_at depth tree.now at).value) }
-{
-    let count = u16_at(tree, at);
-    let mut p = at + 2;
-    for _ in 0..count {
-        p = fits_stmt(tree, p, depth, slots)?;
+    // A statement.
+    #[cycle(fits_stmts)]
+    fn stmt(self, at: usize, depth: u32) -> Option<usize>
+        requires { StmtReads depth self.tree.now at }
+        ensures { let t = self.entry.tree.now in let names = slot_names t self.entry.slots.now in
+            Walks result (stmt_at depth t at).end (fits_stmt names (stmt_at depth t at).value) }
+    {
+        let a = at + 1;
+        let below = depth - 1;
+        match StmtKind::of(self.tree[at]) {
+            StmtKind::Break | StmtKind::Continue | StmtKind::Pass => Some(a),
+            StmtKind::Expr | StmtKind::Return => self.expr(a, below),
+            StmtKind::Assign => self.assign(a, below),
+            StmtKind::If => self.branches(a, below),
+            StmtKind::While => self.branch(a, below),
+            StmtKind::For => self.loop_over(a, below),
+            StmtKind::Def => self.def(a, below),
+            StmtKind::Class => self.class(at, depth),
+        }
     }
-    Some(p)
-}
 
-// A condition and a block.
-#[cycle(fits)]
-fn fits_branch(tree: &[u8], at: usize, depth: u32, slots: &[u32]) -> Option<usize>
-    requires { Short tree.now slots.now × BranchAt depth tree.now at }
-    ensures { Walks result (body_at depth tree.now at).end
-        (fits_expr (slot_names tree.now slots.now) (expr_at depth tree.now at).value && fits_block (slot_names tree.now slots.now) (body_at depth tree.now at).value) }
-{
-    let p = fits_expr(tree, at, depth, slots)?;
-    fits_block(tree, p, depth, slots)
-}
-
-// A first branch, a count of elifs, these, and an else block or none.
-#[cycle(fits)]
-fn fits_if(tree: &[u8], at: usize, depth: u32, slots: &[u32]) -> Option<usize>
-    requires { Short tree.now slots.now × IfAt depth tree.now at }
-    ensures { Walks result (elifs_at depth tree.now at).end
-        (fits_expr (slot_names tree.now slots.now) (expr_at depth tree.now at).value && fits_block (slot_names tree.now slots.now) (body_at depth tree.now at).value
-        && fits_branches (slot_names tree.now slots.now) (elifs_at depth tree.now at).value) }
-{
-    let p = fits_branch(tree, at, depth, slots)?;
-    let count = u16_at(tree, p);
-    fits_elifs(tree, p + 2, depth, count, slots)
-}
-
-// So many elifs, and an else block or none.
-#[cycle(fits)]
-fn fits_elifs(tree: &[u8], at: usize, depth: u32, count: u32, slots: &[u32]) -> Option<usize>
-    requires { Short tree.now slots.now × BranchesRead depth count tree.now at }
-    ensures { Walks result (branches_at depth count tree.now at).end (fits_branches (slot_names tree.now slots.now) (branches_at depth count tree.now at).value) }
-{
-    let mut p = at;
-    for _ in 0..count {
-        p = fits_branch(tree, p, depth, slots)?;
+    // A block.
+    #[cycle(fits_stmts)]
+    fn block(self, at: usize, depth: u32) -> Option<usize>
+        requires { BlockReads depth self.tree.now at }
+        ensures { let t = self.entry.tree.now in let names = slot_names t self.entry.slots.now in
+            Walks result (block_at depth t at).end (fits_block names (block_at depth t at).value) }
+    {
+        let count = u16_at(self.tree, at);
+        let mut p = at + 2;
+        for _ in 0..count {
+            p = self.stmt(p, depth)?;
+        }
+        Some(p)
     }
-    fits_else(tree, p, depth, slots)
-}
 
-// The byte 0; or 1, and an else block.
-#[cycle(fits)]
-fn fits_else(tree: &[u8], at: usize, depth: u32, slots: &[u32]) -> Option<usize>
-    requires { Short tree.now slots.now × BranchesRead depth 0 tree.now at }
-    ensures { Walks result (branches_at depth 0 tree.now at).end (fits_branches (slot_names tree.now slots.now) (branches_at depth 0 tree.now at).value) }
-{
-    if tree[at] == 0 {
-        return Some(at + 1);
+    // A condition and a block.
+    #[cycle(fits_stmts)]
+    fn branch(self, at: usize, depth: u32) -> Option<usize>
+        requires { BranchAt depth self.tree.now at }
+        ensures { let t = self.entry.tree.now in let names = slot_names t self.entry.slots.now in
+            Walks result (body_at depth t at).end (fits_expr names (expr_at depth t at).value && fits_block names (body_at depth t at).value) }
+    {
+        let p = self.expr(at, depth)?;
+        self.block(p, depth)
     }
-    fits_block(tree, at + 1, depth, slots)
-}
 
-// A loop variable, an expression and a block.
-#[cycle(fits)]
-fn fits_for(tree: &[u8], at: usize, depth: u32, slots: &[u32]) -> Option<usize>
-    requires { Short tree.now slots.now × ForAt depth tree.now at }
-    ensures { Walks result (body_at depth tree.now (name_end tree.now at)).end
-        (fits_expr (slot_names tree.now slots.now) (expr_at depth tree.now (name_end tree.now at)).value && fits_block (slot_names tree.now slots.now) (body_at depth tree.now (name_end tree.now at)).value) }
-{
-    let p = name_end(tree, at);
-    fits_branch(tree, p, depth, slots)
-}
-
-// A def after its kind byte, or a method: its own slots, and its block with these.
-#[cycle(fits)]
-fn fits_def(tree: &[u8], at: usize, depth: u32) -> Option<usize>
-    requires { (length tree.now ≤ 32768) × DefAt depth tree.now at }
-    ensures { Walks result (def_block_at depth tree.now at).end (def_fits (with_loops (params_at tree.now (name_end tree.now at)).value (def_block_at depth tree.now at).value) (def_block_at depth tree.now at).value) }
-{
-    let mut inner = [0u32; SLOTS_ROOM];
-    let params = name_end(tree, at);
-    let p = skip_params(tree, params);
-    let frame = collect_locals(tree, params, p, depth, &mut inner)?;
-    let end = SLOTS_FROM + frame.named as usize;
-    fits_block(tree, p, depth, &inner[0..end])
-}
-
-// So many methods.
-#[cycle(fits)]
-fn fits_methods(tree: &[u8], at: usize, depth: u32, count: u32) -> Option<usize>
-    requires { (length tree.now ≤ 32768) × MethodsRead depth count tree.now at }
-    ensures { Walks result (methods_at depth count tree.now at).end (fits_methods (methods_at depth count tree.now at).value) }
-{
-    let mut p = at;
-    for _ in 0..count {
-        p = fits_def(tree, p, depth)?;
+    // A first branch, a count of elifs, these, and an else block or none.
+    #[cycle(fits_stmts)]
+    fn branches(self, at: usize, depth: u32) -> Option<usize>
+        requires { IfAt depth self.tree.now at }
+        ensures { let t = self.entry.tree.now in let names = slot_names t self.entry.slots.now in
+            Walks result (elifs_at depth t at).end
+            (fits_expr names (expr_at depth t at).value && fits_block names (body_at depth t at).value && fits_branches names (elifs_at depth t at).value) }
+    {
+        let p = self.branch(at, depth)?;
+        let count = u16_at(self.tree, p);
+        self.elifs(p + 2, depth, count)
     }
-    Some(p)
-}
 
-// A class with its kind byte at `at`: its methods; attributes are not lowered.
-#[cycle(fits)]
-fn fits_class(tree: &[u8], at: usize, depth: u32) -> Option<usize>
-    requires { (length tree.now ≤ 32768) × StmtReads depth tree.now at × (get_or tree.now at 0 ≡ 10) }
-    ensures { Walks result (stmt_at depth tree.now at).end (fits_methods (class_methods_at (depth - 1) tree.now (at + 1)).value) }
-{
-    let p = name_end(tree, at + 1);
-    let count = u16_at(tree, p);
-    fits_methods(tree, p + 2, depth - 1, count)?;
-    Some(skip_stmt(tree, at, depth))
+    // So many elifs, and an else block or none. A loop of its own, like those of `block` and `methods`: each closure in a cycle of calls states its
+    // own clauses, so one walk that takes a closure is no plainer.
+    #[cycle(fits_stmts)]
+    fn elifs(self, at: usize, depth: u32, count: u32) -> Option<usize>
+        requires { BranchesRead depth count self.tree.now at }
+        ensures { let t = self.entry.tree.now in let names = slot_names t self.entry.slots.now in
+            Walks result (branches_at depth count t at).end (fits_branches names (branches_at depth count t at).value) }
+    {
+        let mut p = at;
+        for _ in 0..count {
+            p = self.branch(p, depth)?;
+        }
+        self.else_block(p, depth)
+    }
+
+    // The byte 0; or 1, and an else block.
+    #[cycle(fits_stmts)]
+    fn else_block(self, at: usize, depth: u32) -> Option<usize>
+        requires { BranchesRead depth 0 self.tree.now at }
+        ensures { let t = self.entry.tree.now in let names = slot_names t self.entry.slots.now in
+            Walks result (branches_at depth 0 t at).end (fits_branches names (branches_at depth 0 t at).value) }
+    {
+        if self.tree[at] == 0 {
+            return Some(at + 1);
+        }
+        self.block(at + 1, depth)
+    }
+
+    // A loop variable, an expression and a block.
+    #[cycle(fits_stmts)]
+    fn loop_over(self, at: usize, depth: u32) -> Option<usize>
+        requires { ForAt depth self.tree.now at }
+        ensures { let t = self.entry.tree.now in let names = slot_names t self.entry.slots.now in let over = name_end t at in
+            Walks result (body_at depth t over).end (fits_expr names (expr_at depth t over).value && fits_block names (body_at depth t over).value) }
+    {
+        let p = name_end(self.tree, at);
+        self.branch(p, depth)
+    }
+
+    // A def after its kind byte, or a method: its own slots, and its block with these.
+    #[cycle(fits_stmts)]
+    fn def(self, at: usize, depth: u32) -> Option<usize>
+        requires { DefAt depth self.tree.now at }
+        ensures { let t = self.entry.tree.now in let block = def_block_at depth t at in
+            Walks result block.end (def_fits (with_loops (params_at t (name_end t at)).value block.value) block.value) }
+    {
+        let mut inner = [0u32; SLOTS_ROOM];
+        let params = name_end(self.tree, at);
+        let p = skip_params(self.tree, params);
+        let frame = collect_locals(self.tree, params, p, depth, &mut inner)?;
+        let end = SLOTS_FROM + frame.named as usize;
+        Frame {
+            tree: self.tree,
+            slots: &inner[0..end],
+        }
+        .block(p, depth)
+    }
+
+    // So many methods.
+    #[cycle(fits_stmts)]
+    fn methods(self, at: usize, depth: u32, count: u32) -> Option<usize>
+        requires { MethodsRead depth count self.tree.now at }
+        ensures { let t = self.entry.tree.now in
+            Walks result (methods_at depth count t at).end (fits_methods (methods_at depth count t at).value) }
+    {
+        let mut p = at;
+        for _ in 0..count {
+            p = self.def(p, depth)?;
+        }
+        Some(p)
+    }
+
+    // A class with its kind byte at `at`: its methods; attributes are not lowered.
+    #[cycle(fits_stmts)]
+    fn class(self, at: usize, depth: u32) -> Option<usize>
+        requires { StmtReads depth self.tree.now at × (get_or self.tree.now at 0 ≡ 10) }
+        ensures { let t = self.entry.tree.now in
+            Walks result (stmt_at depth t at).end (fits_methods (class_methods_at (depth - 1) t (at + 1)).value) }
+    {
+        let p = name_end(self.tree, at + 1);
+        let count = u16_at(self.tree, p);
+        self.methods(p + 2, depth - 1, count)?;
+        Some(skip_stmt(self.tree, at, depth))
+    }
 }
 
 // Question 14 of an accepted tree.
+// That it is accepted (TreeAt) stays a clause, as in compile: a struct with that fact would be made for one call.
 pub fn check_slots(tree: &[u8]) -> bool
     requires { TreeAt tree.now }
     ensures { result ≡ fits_block [] (block_at 32 tree.now 5).value }
 {
     let none = [0u32; SLOTS_FROM];
-    fits_block(tree, HEAD, DEPTH, &none).is_some()
+    Frame { tree, slots: &none }.block(HEAD, DEPTH).is_some()
 }

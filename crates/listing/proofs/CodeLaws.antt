@@ -4,11 +4,10 @@ use mathlib.Core.List.{List, [], ◌∷◌, ◌++◌, append_assoc}
 use Prim.Native.Nat.{ℕ, suc, ◌+◌, ◌-◌, ◌≤◌, ◌<◌}
 use native.Mathlib.Omega.{arith}
 use lib.ListN.{length, drop}
-use Rattle.definitions.specs.Instruction.{Instr, instr, encode}
+use Rattle.definitions.specs.Instruction.{Instr, encode}
 use Rattle.definitions.specs.Module.{instructions}
 use Rattle.definitions.specs.Reader.{instruction, function_record}
 use Rattle.definitions.specs.Listing.{heading, code_line, code_lines, function_lines}
-use Rattle.definitions.proofs.Lengths.{length-encode}
 use Rattle.std.specs.Prelude.{Some, None, Ok}
 use Rattle.reader.specs.View.{Walks, shown, number_at, instructions_of, part_at}
 use Rattle.reader.specs.declared.Placed.{Placed}

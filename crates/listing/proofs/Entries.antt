@@ -5,7 +5,7 @@ use Prim.Native.Nat.{ℕ, ◌+◌, ◌/◌, ◌%◌, ◌≤◌, ◌<◌}
 use native.Mathlib.Omega.{arith}
 use lib.ListN.{length}
 use Rattle.definitions.specs.Calls.{written}
-use Rattle.definitions.specs.Instruction.{instr, first_width, second_width}
+use Rattle.definitions.specs.Instruction.{first_width, second_width}
 use Rattle.definitions.specs.Reader.{instruction}
 use Rattle.definitions.specs.Listing.{heading, code_line, page_line}
 use Rattle.definitions.proofs.Listing as Text

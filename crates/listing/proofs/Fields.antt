@@ -2,7 +2,8 @@
 use mathlib.Core.Path.{◌≡◌, sym, ap, ap₂, ◌∙◌}
 use mathlib.Core.Bool.{false}
 use mathlib.Core.List.{List, [], ◌∷◌, ◌++◌, append-nil, append_assoc}
-use Prim.Native.Nat.{ℕ, ◌+◌, ◌-◌, ◌^◌, ◌≤◌, ◌<◌}
+use Prim.Native.Nat.{ℕ, suc, ◌+◌, ◌-◌, ◌^◌, ◌≤◌, ◌<◌}
+use mathlib.Core.Logic.{⊎_elim}
 use native.Mathlib.Omega.{arith}
 use borrow.Author.Tests.{eq-eqb, ne_eqb, le-leb, lt-leb}
 use lib.ListN.{length, length-append}
@@ -13,7 +14,8 @@ use Rattle.definitions.specs.Columns.{spaces, left_in, right_in, signed}
 use Rattle.definitions.specs.Statements.{LineFits}
 use Rattle.definitions.specs.Listing.{shown_as, shown, first_text, second_text, name_text, code_line, page_line}
 use Rattle.definitions.proofs.Columns.{length-right}
-use Rattle.definitions.proofs.Listing.{is-jump}
+use Rattle.definitions.proofs.Listing.{is-jump, jump-width}
+use Rattle.definitions.proofs.Begins.{le-or-gt}
 use Rattle.columns.specs.declared.Field.{Field}
 use Rattle.columns.specs.declared.Field.TheVariants.{Blank, Digits, Negative, Bits}
 use Rattle.columns.specs.Fields.{field_text}
@@ -23,13 +25,26 @@ use Rattle.writing.proofs.Begun.{joined}
 
 -- ---- what is no jump
 
-pub below-jump : (op : ℕ) → op < 28 → is_jump op ≡ false
+pub no-jump : (op : ℕ) → (op ≡ 28 → ⊥) → (op ≡ 29 → ⊥) → (op ≡ 30 → ⊥) → is_jump op ≡ false
 unfolding is_jump
-below-jump op h = rw (lt-leb 28 op h, is_jump)
+no-jump op a b c = ⊎_elim
+    (λ (h : 28 ≤ op). ⊎_elim
+    (λ (k : 31 ≤ op). rw (le-leb 28 op h, lt-leb op 30 (omega arith), is_jump))
+    (λ (k : op < 31). ⊎_elim
+    (λ (m : 30 ≤ op). absurd (c (omega arith)))
+    (λ (m : op < 30). ⊎_elim (λ (n : 29 ≤ op). absurd (b (omega arith))) (λ (n : op < 29). absurd (a (omega arith))) (le-or-gt 29 op))
+    (le-or-gt 30 op))
+    (le-or-gt 31 op))
+    (λ (h : op < 28). rw (lt-leb 28 op h, is_jump))
+    (le-or-gt 28 op)
 
-pub above-jump : (op : ℕ) → 28 ≤ op → 30 < op → is_jump op ≡ false
-unfolding is_jump
-above-jump op g h = rw (le-leb 28 op g, lt-leb op 30 h, is_jump)
+-- ---- opcodes that have a first operand
+
+pub wide-at : (op k w : ℕ) → op ≡ k → first_width k ≡ suc w → first_width op ≡ 0 → ⊥
+wide-at op k w e f z = let n = sym z ∙ ap first_width e ∙ f in omega arith
+
+pub wide-jump : (op : ℕ) → 28 ≤ op → op ≤ 30 → first_width op ≡ 0 → ⊥
+wide-jump op h k z = let n = jump-width op (is-jump op h k) in omega arith
 
 -- ---- numbers with a sign
 

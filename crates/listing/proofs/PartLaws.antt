@@ -1,10 +1,10 @@
 -- A function's code as a part of the module: its instructions are those of the module, and each one's operands fit.
 use mathlib.Core.Path.{◌≡◌, sym, ap, ◌∙◌, subst}
 use mathlib.Core.List.{List, [], ◌∷◌, append-nil}
-use Prim.Native.Nat.{ℕ, ◌+◌, ◌-◌, ◌≤◌}
+use Prim.Native.Nat.{ℕ, ◌-◌, ◌≤◌}
 use native.Mathlib.Omega.{arith}
 use lib.ListN.{length, take, drop, length-drop}
-use Rattle.definitions.specs.Bytes.{Parsed, got, failed, Parser, counted}
+use Rattle.definitions.specs.Bytes.{Parsed, got, Parser, counted}
 use Rattle.definitions.specs.Instruction.{Instr}
 use Rattle.definitions.specs.Reader.{instruction}
 use Rattle.definitions.proofs.Begins.{Rest, Takes, takes-counted, takes-instruction}

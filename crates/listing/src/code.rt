@@ -54,7 +54,7 @@ fn write_function(bytes: &[u8], at: usize, n: u64, f: u64, k: u64, out: &mut [u8
     Next { at: end, put }
 }
 
-// The lines of `count` functions from `at` on.
+// The lines of `count` functions from `at` on. That they stand there (Values) is said of a place that moves on, so no struct keeps it.
 pub(crate) fn write_functions(bytes: &[u8], at: usize, count: u64, out: &mut [u8]) -> usize
     requires { Values function_record count bytes.now at × (count < 65536) × (instructions (functions_from count bytes.now at) < 1000000) × (length (function_lines 0 0 (functions_from count bytes.now at)) ≤ length out.old) }
     ensures { Wrote result (function_lines 0 0 (functions_from count bytes.now at)) out.old out.new }

@@ -14,12 +14,14 @@ use reader::Placed;
 use widths::{first_width, second_width};
 use writing::write_bytes;
 
-// Opcodes by which a first operand is shown: an integer, a float, and the first and the last of the jumps.
+// Opcodes by which a first operand is shown: an integer, a float, and the jumps.
 const CONST_I64: u8 = 0;
 
 const CONST_F64: u8 = 1;
 
 const JUMP: u8 = 28;
+
+const JUMP_IF_FALSE: u8 = 29;
 
 const JUMP_IF_TRUE: u8 = 30;
 
@@ -51,21 +53,13 @@ fn first_shown(op: u8, a: u64) -> Field
     requires { a < 256 ^ first_width op }
     ensures { field_text result ≡ first_text op a }
 {
-    if first_width(op as usize) == 0 {
-        return Field::Blank;
+    match op {
+        CONST_I64 => signed_long(a),
+        CONST_F64 => Field::Bits(16, a),
+        JUMP | JUMP_IF_FALSE | JUMP_IF_TRUE => signed_short(a),
+        _ if first_width(op as usize) == 0 => Field::Blank,
+        _ => Field::Digits(a),
     }
-    if op == CONST_I64 {
-        return signed_long(a);
-    }
-    if op == CONST_F64 {
-        return Field::Bits(16, a);
-    }
-    if JUMP <= op {
-        if op <= JUMP_IF_TRUE {
-            return signed_short(a);
-        }
-    }
-    Field::Digits(a)
 }
 
 // The second operand.

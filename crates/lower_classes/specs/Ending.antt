@@ -4,7 +4,7 @@ use Rattle.state.specs.State.{State, state_of, Within, Sound}
 use Rattle.state.specs.declared.Counts.{Counts}
 use Rattle.state.specs.declared.Limits.{Limits}
 use Rattle.lower_emit.specs.declared.emitter.Emitter.{Emitter}
-use Rattle.lower_emit.specs.Emitting.{counts_of, limits_in}
+use Rattle.lower_emit.specs.Emitting.{counts_of, limits_in, SameAreas}
 
 -- the wanted state, with n methods more than functions, and one constant more than classes
 pub record Finished (k : Counts) (n : ℕ) (tree made code tables : List ℕ) (c : Counts) (l : Limits) (want : State) : Type 0 where
@@ -16,10 +16,11 @@ pub record Finished (k : Counts) (n : ℕ) (tree made code tables : List ℕ) (c
 
 -- b is left by a step from a
 pub record FinishedIn (n : ℕ) (tree : List ℕ) (a b : Emitter) (want : State) : Type 0 where
-  pub finished : Finished (counts_of b) n tree b.tables.made.now b.code.words.now b.tables.entries.now (counts_of a) (limits_in a) want
+  pub finished : Finished (counts_of b) n tree b.tables.names.made.now b.code.words.now b.tables.entries.words.now (counts_of a) (limits_in a) want
 
 -- an answer and the wanted state; or the wanted state is over the limits
 pub record Finishes {A : Type 0} (r : Option A) (n : ℕ) (tree : List ℕ) (a b : Emitter) (want : State) : Type 0 where
   pub done : (x : A) → r ≡ Some x → FinishedIn n tree a b want
   pub full : r ≡ None → Within (limits_in a) want → ⊥
   pub limits : limits_in b ≡ limits_in a
+  pub areas : SameAreas a b

@@ -20,15 +20,16 @@ use Rattle.lower_emit.specs.Emitting.{counts_of, limits_in, state_in, SoundIn, b
 use Rattle.lower_emit.specs.Ends.{EndsBranch, EndsLoop}
 use Rattle.lower_emit.proofs.Patching.{jump-set, loop-patched}
 use Rattle.lower_emit.proofs.SetJumps.{put-open, jump-left, patched-left, loop-within}
-use Rattle.lower_emit.proofs.Steps.{words-left, limits-code}
+use Rattle.lower_emit.proofs.Steps.{words-left, limits-code, areas-code, areas-after}
 
 module _ {A : Type 0} {p : Option A} {a b : Code} where
   module _ (from : ℕ) (h : Writes p (one (Jump 0)) a b) where
-    pub branch-full : {B : Type 0} {q : Option B} → p ≡ None → q ≡ None → EndsBranch q from a b
-    branch-full z n = record {
+    pub branch-full : {B : Type 0} {q : Option B} → p ≡ None → q ≡ None → b.words.ghost_name ≡ a.words.ghost_name → EndsBranch q from a b
+    branch-full z n same = record {
+      area = same;
       ends = λ t ts S.
           let k = (h.lowers t ts S).reaches in
-          record { done = λ y q. absurd (none-some y (sym n ∙ q)); full = λ q w. k.full z (within-set _ _ _ w); limits = k.limits };
+          record { done = λ y q. absurd (none-some y (sym n ∙ q)); full = λ q w. k.full z (within-set _ _ _ w); limits = k.limits; areas = k.areas };
     }
 
     branch-left : {x : A} {c : Code} (t : List ℕ) (ts : Tables) → SoundIn t (beside a ts) → p ≡ Some x → 0 < from → from ≤ a.open → SetsJump (from - 1) 29 (a.open - from + 1) b c
@@ -36,20 +37,23 @@ module _ {A : Type 0} {p : Option A} {a b : Code} where
     branch-left {x} {c} t ts S z l g j =
         let got = ((h.lowers t ts S).reaches.done x z).left in
         let d = a.open - from + 1 in
-        let o = put-open t ts.made.now a.words.now b.words.now ts.entries.now (counts_of (beside a ts)) (counts_of (beside b ts)) (limits_in (beside a ts)) a.base (Jump 0) S.sound got in
-        let s = jump-set t ts.made.now b.words.now ts.entries.now (from - 1) 29 d (word 29 d 0) (counts_of (beside b ts)) (limits_in (beside a ts)) got.sound (omega (arith, o)) (omega arith) (omega arith)
+        let o = put-open t ts.names.made.now a.words.now b.words.now ts.entries.words.now (counts_of (beside a ts)) (counts_of (beside b ts)) (limits_in (beside a ts)) a.base (Jump 0) S.sound got in
+        let s = jump-set t ts.names.made.now b.words.now ts.entries.words.now (from - 1) 29 d (word 29 d 0) (counts_of (beside b ts)) (limits_in (beside a ts)) got.sound (omega (arith, o)) (omega arith) (omega arith)
         (omega (arith, S.sound.words, S.sound.limited.instructions)) refl in
         record {
           left = words-left ts j.kept j.size j.words
-              (jump-left t ts.made.now a.words.now b.words.now ts.entries.now (counts_of (beside a ts)) (counts_of (beside b ts)) (limits_in (beside a ts)) a.base (Jump 0) S.sound got (from - 1) (instr 29 d 0) _ s);
+              (jump-left t ts.names.made.now a.words.now b.words.now ts.entries.words.now (counts_of (beside a ts)) (counts_of (beside b ts)) (limits_in (beside a ts)) a.base (Jump 0) S.sound got (from - 1) (instr 29 d 0) _ s);
         }
 
-    pub branch-done : {B : Type 0} {x : A} {y : B} {c : Code} → p ≡ Some x → 0 < from → from ≤ a.open → SetsJump (from - 1) 29 (a.open - from + 1) b c → EndsBranch (Some y) from a c
-    branch-done {y = y} z l g j = record {
+    pub branch-done : {B : Type 0} {x : A} {y : B} {c : Code} → p ≡ Some x → 0 < from → from ≤ a.open → SetsJump (from - 1) 29 (a.open - from + 1) b c
+        → b.words.ghost_name ≡ a.words.ghost_name → EndsBranch (Some y) from a c
+    branch-done {y = y} z l g j same = record {
+      area = j.kept.area ∙ same;
       ends = λ t ts S. record {
         done = λ u q. branch-left t ts S z l g j;
         full = λ q. absurd (none-some y (sym q));
         limits = limits-code ts j.kept ∙ (h.lowers t ts S).reaches.limits;
+        areas = areas-after (h.lowers t ts S).reaches.areas (areas-code ts j.kept);
       };
     }
 
@@ -57,14 +61,17 @@ module _ {A : Type 0} {p : Option A} {a b : Code} where
     abbrev back : Instr
     back = Jump (minus (a.open - start + 1))
 
-    pub loop-full : {B : Type 0} {q : Option B} → p ≡ None → q ≡ None → EndsLoop q start inside a b
-    loop-full z n = record {
+    pub loop-full : {B : Type 0} {q : Option B} → p ≡ None → q ≡ None → b.words.ghost_name ≡ a.words.ghost_name → EndsLoop q start inside a b
+    loop-full z n same = record {
+      area = same;
       ends = λ t ts S.
           let k = (h.lowers t ts S).reaches in
           record {
             done = λ y q. absurd (none-some y (sym n ∙ q));
-            full = λ q w. k.full z (loop-within t ts.made.now a.words.now ts.entries.now (counts_of (beside a ts)) (limits_in (beside a ts)) a.base back (inside - start) inside (inside - 1) (instr 29 (a.open - inside + 1) 0) S.sound high w);
+            full = λ q w. k.full z (loop-within t ts.names.made.now a.words.now ts.entries.words.now (counts_of (beside a ts)) (limits_in (beside a ts)) a.base back (inside - start) inside (inside - 1)
+                (instr 29 (a.open - inside + 1) 0) S.sound high w);
             limits = k.limits;
+            areas = k.areas;
           };
     }
 
@@ -79,19 +86,22 @@ module _ {A : Type 0} {p : Option A} {a b : Code} where
         let d = a.open - inside + 1 in
         let m = limits_in (beside a ts) in
         let c₁ = counts_of (beside b ts) in
-        let o = put-open t ts.made.now a.words.now b.words.now ts.entries.now (counts_of (beside a ts)) c₁ m a.base back S.sound got in
-        let q = loop-patched t ts.made.now b.words.now ts.entries.now _ (inside - start) inside (a.open - inside) a.open c₁ m got.sound (omega arith) (omega (arith, o)) (omega arith) refl in
-        let s = jump-set t ts.made.now _ ts.entries.now (inside - 1) 29 d (word 29 d 0) c₁ m q.sound (omega (arith, o)) (omega arith) (omega arith) (omega (arith, S.sound.words, S.sound.limited.instructions)) refl in
+        let o = put-open t ts.names.made.now a.words.now b.words.now ts.entries.words.now (counts_of (beside a ts)) c₁ m a.base back S.sound got in
+        let q = loop-patched t ts.names.made.now b.words.now ts.entries.words.now _ (inside - start) inside (a.open - inside) a.open c₁ m got.sound (omega arith) (omega (arith, o)) (omega arith) refl in
+        let s = jump-set t ts.names.made.now _ ts.entries.words.now (inside - 1) 29 d (word 29 d 0) c₁ m q.sound (omega (arith, o)) (omega arith) (omega arith) (omega (arith, S.sound.words, S.sound.limited.instructions)) refl in
         record {
           left = words-left ts k e w
-              (patched-left t ts.made.now a.words.now b.words.now ts.entries.now (counts_of (beside a ts)) c₁ m a.base back S.sound got (inside - start) inside (a.open - inside) (inside - 1) (instr 29 d 0) _ _ q s);
+              (patched-left t ts.names.made.now a.words.now b.words.now ts.entries.words.now (counts_of (beside a ts)) c₁ m a.base back S.sound got (inside - start) inside (a.open - inside) (inside - 1) (instr 29 d 0) _ _ q s);
         }
 
-    pub loop-done : {B : Type 0} {x : A} {y : B} {c : Code} → p ≡ Some x → CodeKept b c → c.open ≡ b.open → c.words.now ≡ set patched (inside - 1) (word 29 (a.open - inside + 1) 0) → EndsLoop (Some y) start inside a c
-    loop-done {y = y} z k e w = record {
+    pub loop-done : {B : Type 0} {x : A} {y : B} {c : Code} → p ≡ Some x → CodeKept b c → c.open ≡ b.open → c.words.now ≡ set patched (inside - 1) (word 29 (a.open - inside + 1) 0)
+        → b.words.ghost_name ≡ a.words.ghost_name → EndsLoop (Some y) start inside a c
+    loop-done {y = y} z k e w same = record {
+      area = k.area ∙ same;
       ends = λ t ts S. record {
         done = λ u q. loop-left t ts S z k e w;
         full = λ q. absurd (none-some y (sym q));
         limits = limits-code ts k ∙ (h.lowers t ts S).reaches.limits;
+        areas = areas-after (h.lowers t ts S).reaches.areas (areas-code ts k);
       };
     }

@@ -5,7 +5,7 @@ use mathlib.Core.List.{List, [], ◌∷◌, ◌++◌, map, append-nil, append_as
 use native.Mathlib.Omega.{arith}
 use native.Mathlib.Numerals.{add-one}
 use lib.ListN.{length, take, drop, set, get_or, length-set, drop_of_length-le}
-use lib.Seq.{paste, paste-suc, take-take, take_all, take_at, drop_at, take-add, drop-nil, drop-drop, length-take-le}
+use lib.Seq.{paste, take-take, take_all, take_at, drop_at, take-add, drop-nil, drop-drop, length-take-le}
 use Rattle.state.specs.Words.{region}
 use Rattle.state.proofs.Regions.{set_below, set-above, set_next}
 
@@ -61,10 +61,6 @@ pub drop-take : (a b : ℕ) (xs : List ℕ) → a ≤ b → a ≤ length xs → 
 drop-take a b xs h k =
     let s : b ≡ a + (b - a) = omega arith in
     ap (λ (n : ℕ). drop a (take n xs)) s ∙ ap (drop a) (take-add a (b - a) xs) ∙ drop_at (take a xs) (take (b - a) (drop a xs)) a (length-take-le a xs k)
-
--- one word more of a list is copied
-pub paste-step : (d s xs : List ℕ) (at i v : ℕ) → at + i < length d → i < length s → xs ≡ paste d at s i → v ≡ get_or s i 0 → set xs (at + i) v ≡ paste d at s (i + 1)
-paste-step d s xs at i v h k e f = rw (e, f, add-one) (paste-suc d at s i 0 h k)
 
 -- an area after a copy: before it, and at it
 module _ (d s : List ℕ) (at n : ℕ) (room : at + n ≤ length d) (enough : n ≤ length s) where

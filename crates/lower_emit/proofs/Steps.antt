@@ -22,7 +22,7 @@ use Rattle.lower_emit.specs.Nesting.{with_open}
 use Rattle.lower_emit.specs.declared.emitter.Code.{Code}
 use Rattle.lower_emit.specs.declared.emitter.Tables.{Tables}
 use Rattle.lower_emit.specs.declared.emitter.Emitter.{Emitter}
-use Rattle.lower_emit.specs.Emitting.{counts_of, limits_in, state_in, SoundIn, ReadyIn, beside, LeftIn, Reaches, LowersIn, CodeKept, Puts, ShortcutEnd, Writes}
+use Rattle.lower_emit.specs.Emitting.{counts_of, limits_in, state_in, SoundIn, beside, SameAreas, LeftIn, Reaches, LowersIn, CodeKept, Puts, ShortcutEnd, Writes}
 use Rattle.lower_emit.proofs.Packing.{instr-jump, instr-plain, plain-below}
 use Rattle.lower_emit.proofs.Putting.{put-more, put_full, emits-instr}
 use Rattle.lower_emit.proofs.Patching.{jump-set}
@@ -31,6 +31,17 @@ use Rattle.lower_emit.proofs.Shortcuts.{end_at, end-done}
 pub some-is : {m n : ℕ} → Some m ≡ Some n → m ≡ n
 some-is {m} e = ap (λ (o : Option ℕ). elim o [ Some k ↦ k | None ↦ m ]) e
 
+-- ---- the slices are those that were lent
+
+pub areas-none : {a : Emitter} → SameAreas a a
+areas-none = record { words = refl; made = refl; entries = refl }
+
+pub areas-after : {a b c : Emitter} → SameAreas a b → SameAreas b c → SameAreas a c
+areas-after h g = record { words = g.words ∙ h.words; made = g.made ∙ h.made; entries = g.entries ∙ h.entries }
+
+pub areas-code : (ts : Tables) {a b : Code} → CodeKept a b → SameAreas (beside a ts) (beside b ts)
+areas-code ts k = record { words = k.area; made = refl; entries = refl }
+
 -- ---- an answer of an emitter as one of the state's laws
 
 unfoldable pub answered : {A : Type 0} → Option A → ℕ → Counts → Emitted
@@ -38,15 +49,10 @@ answered None q k = Full
 answered (Some x) q k = Done q k
 
 module _ {A : Type 0} {tree : List ℕ} {a b : Emitter} {want : State} where
-  pub emits-in : {r : Option A} → Reaches r tree a b want → (q : ℕ) → Emits (answered r q (counts_of b)) tree b.tables.made.now b.code.words.now b.tables.entries.now (counts_of a) (limits_in a) q want
+  pub emits-in : {r : Option A} → Reaches r tree a b want → (q : ℕ) → Emits (answered r q (counts_of b)) tree b.tables.names.made.now b.code.words.now b.tables.entries.words.now (counts_of a) (limits_in a) q want
   unfolding answered
   emits-in {r = None} h q = full-emits _ _ _ _ _ _ q want (h.full refl)
   emits-in {r = Some x} h q = done-emits _ _ _ _ _ _ q want q _ refl (h.done x refl).left
-
-  pub reaches-in : (r : Option A) (q : ℕ) → limits_in b ≡ limits_in a → Emits (answered r q (counts_of b)) tree b.tables.made.now b.code.words.now b.tables.entries.now (counts_of a) (limits_in a) q want → Reaches r tree a b want
-  unfolding answered
-  reaches-in None q m h = record { done = λ x e. absurd (none-some x e); full = λ e. emits-full _ _ _ _ _ _ q want _ refl h; limits = m }
-  reaches-in (Some x) q m h = record { done = λ y e. record { left = (emits-done _ _ _ _ _ _ q want _ q _ refl h).1 }; full = λ e. absurd (none-some x (sym e)); limits = m }
 
 -- ---- the wanted state by other words
 
@@ -58,13 +64,13 @@ reaches_as {A} {r} {tree} {a} {b} e h = subst (λ (w : State). Reaches r tree a 
 -- the counts with other open words
 counts-code : (ts : Tables) {a b : Code} {n : ℕ} → CodeKept a b → b.open ≡ n → with_open n (counts_of (beside a ts)) ≡ counts_of (beside b ts)
 counts-code ts {a} {b} k e = λ i. record {
-  symbols = ts.symbols;
-  strings = ts.strings;
-  functions = ts.functions;
-  classes = ts.classes;
+  symbols = ts.names.symbols.count;
+  strings = ts.strings.count;
+  functions = ts.functions.count;
+  classes = ts.classes.count;
   methods = ts.methods;
   constants = ts.constants;
-  made = ts.made_len;
+  made = ts.names.made_len;
   base = sym k.base i;
   «open» = sym e i;
   done = sym k.done i;
@@ -72,20 +78,20 @@ counts-code ts {a} {b} k e = λ i. record {
 
 pub limits-code : (ts : Tables) {a b : Code} → CodeKept a b → limits_in (beside b ts) ≡ limits_in (beside a ts)
 limits-code ts {a} {b} k = λ i. record {
-  functions = ts.limits.functions;
-  symbols = ts.limits.symbols;
-  strings = ts.limits.strings;
-  classes = ts.limits.classes;
+  functions = ts.functions.limit;
+  symbols = ts.names.symbols.limit;
+  strings = ts.strings.limit;
+  classes = ts.classes.limit;
   instructions = k.limit i;
 }
 
 -- words and open words of the code, as a law of the state leaves them
 pub words-left : (ts : Tables) {a b : Code} {tree : List ℕ} {c : Counts} {l : Limits} {want : State} {words : List ℕ} {n : ℕ} → CodeKept a b → b.open ≡ n → b.words.now ≡ words
-    → Left (with_open n (counts_of (beside a ts))) tree ts.made.now words ts.entries.now c l want → Left (counts_of (beside b ts)) tree ts.made.now b.words.now ts.entries.now c l want
-words-left ts {a} {b} {tree} {c} {l} {want} k e w h = subst (λ (z : Type 0). z) (λ i. Left (counts-code ts k e i) tree ts.made.now (sym w i) ts.entries.now c l want) h
+    → Left (with_open n (counts_of (beside a ts))) tree ts.names.made.now words ts.entries.words.now c l want → Left (counts_of (beside b ts)) tree ts.names.made.now b.words.now ts.entries.words.now c l want
+words-left ts {a} {b} {tree} {c} {l} {want} k e w h = subst (λ (z : Type 0). z) (λ i. Left (counts-code ts k e i) tree ts.names.made.now (sym w i) ts.entries.words.now c l want) h
 
 left-code : {a b : Code} {ts : Tables} {tree : List ℕ} {want : State} {words : List ℕ} {n : ℕ} → CodeKept a b → b.open ≡ n → b.words.now ≡ words
-    → Left (with_open n (counts_of (beside a ts))) tree ts.made.now words ts.entries.now (counts_of (beside a ts)) (limits_in (beside a ts)) want → LeftIn tree (beside a ts) (beside b ts) want
+    → Left (with_open n (counts_of (beside a ts))) tree ts.names.made.now words ts.entries.words.now (counts_of (beside a ts)) (limits_in (beside a ts)) want → LeftIn tree (beside a ts) (beside b ts) want
 left-code {ts = ts} k e w h = record { left = words-left ts k e w h }
 
 -- ---- a word
@@ -102,9 +108,10 @@ put-over tree made code tables w i c l s e h = emits-full tree made code tables 
 put-beside : {A : Type 0} (r : Option A) {tree : List ℕ} {w : ℕ} {i : Instr} {a b : Code} {ts : Tables} → SoundIn tree (beside a ts) → instr_of tree w ≡ i → Puts r w a b → LowersIn r (one i) tree (beside a ts) (beside b ts)
 put-beside r {tree} {w} {i} {a} {b} {ts} S e h = record {
   reaches = record {
-    done = λ x z. left-code h.kept (h.size x z) (h.words x z) (put-left tree ts.made.now a.words.now ts.entries.now w i (counts_of (beside a ts)) (limits_in (beside a ts)) S.sound e (h.room x z));
-    full = λ z. put-over tree ts.made.now a.words.now ts.entries.now w i (counts_of (beside a ts)) (limits_in (beside a ts)) S.sound e (h.full z);
+    done = λ x z. left-code h.kept (h.size x z) (h.words x z) (put-left tree ts.names.made.now a.words.now ts.entries.words.now w i (counts_of (beside a ts)) (limits_in (beside a ts)) S.sound e (h.room x z));
+    full = λ z. put-over tree ts.names.made.now a.words.now ts.entries.words.now w i (counts_of (beside a ts)) (limits_in (beside a ts)) S.sound e (h.full z);
     limits = limits-code ts h.kept;
+    areas = areas-code ts h.kept;
   };
 }
 
@@ -136,24 +143,27 @@ module _ {tree : List ℕ} (a : Code) (ts : Tables) (op from : ℕ) (S : SoundIn
       let i : Instr = instr 28 1 0 in
       let j : Instr = instr (33 - op) 0 0 in
       let two = subst (Within l) (at_one a.base j _ ∙ ap (λ (u : State). record { stack = u.stack ++ j ∷ []; tables = u.tables }) (at_one a.base i s)) (within-set from (instr op (a.open - from) 0) _ w) in
-      let n = stack-length tree ts.made.now a.words.now ts.entries.now c l S.sound in
-      let m = instruction-count tree ts.made.now a.words.now ts.entries.now c l S.sound in
+      let n = stack-length tree ts.names.made.now a.words.now ts.entries.words.now c l S.sound in
+      let m = instruction-count tree ts.names.made.now a.words.now ts.entries.words.now c l S.sound in
       omega (arith, two.instructions, length-append (s.stack ++ i ∷ []) (j ∷ []), length-append s.stack (i ∷ []))
 
   shortcut-left : a.open + 1 + a.done < a.limit
-      → Left (with_open (a.open + 1 + 1) c) tree ts.made.now (set (set (set a.words.now a.open (word 28 1 0)) (a.open + 1) (word (33 - op) 0 0)) from (word op (a.open - from) 0)) ts.entries.now c l (end_at a.base from op (a.open - from) s)
+      → Left (with_open (a.open + 1 + 1) c) tree ts.names.made.now (set (set (set a.words.now a.open (word 28 1 0)) (a.open + 1) (word (33 - op) 0 0)) from (word op (a.open - from) 0)) ts.entries.words.now c l
+      (end_at a.base from op (a.open - from) s)
   shortcut-left room =
-      let t = ts.made.now in
-      let f = put-left tree t a.words.now ts.entries.now (word 28 1 0) (instr 28 1 0) c l S.sound (instr-jump tree 28 1 (omega arith) (omega arith) (omega arith)) (omega (arith, room)) in
-      let g = put-left tree t _ ts.entries.now (word (33 - op) 0 0) (instr (33 - op) 0 0) _ l f.sound (instr-plain tree (33 - op) 0 0 (plain-below (33 - op) 0 0 (omega arith) (omega arith) (omega arith) (omega arith))) (omega (arith, room)) in
-      let j = jump-set tree t _ ts.entries.now from op (a.open - from) (word op (a.open - from) 0) _ l g.sound (omega arith) (omega arith) hi (omega (arith, S.sound.words, S.sound.limited.instructions)) refl in
-      (emits-done tree t _ ts.entries.now c l 0 _ _ 0 _ refl (end-done tree t a.words.now ts.entries.now c l from op 0 _ _ f 0 (a.open - from) _ _ _ g j refl)).1
+      let t = ts.names.made.now in
+      let f = put-left tree t a.words.now ts.entries.words.now (word 28 1 0) (instr 28 1 0) c l S.sound (instr-jump tree 28 1 (omega arith) (omega arith) (omega arith)) (omega (arith, room)) in
+      let g = put-left tree t _ ts.entries.words.now (word (33 - op) 0 0) (instr (33 - op) 0 0) _ l f.sound (instr-plain tree (33 - op) 0 0 (plain-below (33 - op) 0 0 (omega arith) (omega arith) (omega arith) (omega arith)))
+      (omega (arith, room)) in
+      let j = jump-set tree t _ ts.entries.words.now from op (a.open - from) (word op (a.open - from) 0) _ l g.sound (omega arith) (omega arith) hi (omega (arith, S.sound.words, S.sound.limited.instructions)) refl in
+      (emits-done tree t _ ts.entries.words.now c l 0 _ _ 0 _ refl (end-done tree t a.words.now ts.entries.words.now c l from op 0 _ _ f 0 (a.open - from) _ _ _ g j refl)).1
 
   pub shortcut-beside : {A : Type 0} {b : Code} (r : Option A) → ShortcutEnd r op from a b → Reaches r tree (beside a ts) (beside b ts) (end_at a.base from op (a.open - from) s)
   shortcut-beside r h = record {
     done = λ x z. left-code h.kept (h.size x z ∙ omega arith) (h.words x z) (shortcut-left (h.room x z));
     full = λ z. too_long (h.full z);
     limits = limits-code ts h.kept;
+    areas = areas-code ts h.kept;
   }
 
 pub shortcut-lifts : {A : Type 0} {r : Option A} {tree : List ℕ} {a b : Emitter} (op from : ℕ) → SoundIn tree a → b.tables ≡ a.tables → from < a.code.open → 29 ≤ op → op ≤ 30
@@ -165,19 +175,13 @@ shortcut-lifts {A} {r} {tree} {a} {b} op from S same before lo hi h =
 
 pub sound-next : {A : Type 0} {r : Option A} {x : A} {tree : List ℕ} {a b : Emitter} {want : State} → r ≡ Some x → Reaches r tree a b want → SoundIn tree b
 sound-next {A} {r} {x} {tree} {a} {b} {want} z h = record {
-  sound = subst (λ (l : Limits). Sound tree b.tables.made.now b.code.words.now b.tables.entries.now (counts_of b) l) (sym h.limits) (h.done x z).left.sound;
+  sound = subst (λ (l : Limits). Sound tree b.tables.names.made.now b.code.words.now b.tables.entries.words.now (counts_of b) l) (sym h.limits) (h.done x z).left.sound;
 }
-
-pub sound-of : {tree slots : List ℕ} {e : Emitter} → ReadyIn tree slots e → SoundIn tree e
-sound-of R = record { sound = R.ready.sound }
-
-pub ready-next : {A : Type 0} {r : Option A} {x : A} {tree slots : List ℕ} {a b : Emitter} {want : State} → r ≡ Some x → ReadyIn tree slots a → Reaches r tree a b want → ReadyIn tree slots b
-ready-next z R h = record { ready = record { tree-short = R.ready.tree-short; slotted = R.ready.slotted; sound = (sound-next z h).sound } }
 
 -- a step to a state, after one that is done
 pub left-next : {tree : List ℕ} {a b c : Emitter} {w₁ w : State} → limits_in b ≡ limits_in a → LeftIn tree a b w₁ → LeftIn tree b c w → LeftIn tree a c w
 left-next {tree} {a} {b} {c} {w₁} {w} e h g = record {
-  left = left-after h.left (subst (λ (l : Limits). Left (counts_of c) tree c.tables.made.now c.code.words.now c.tables.entries.now (counts_of b) l w) e g.left);
+  left = left-after h.left (subst (λ (l : Limits). Left (counts_of c) tree c.tables.names.made.now c.code.words.now c.tables.entries.words.now (counts_of b) l w) e g.left);
 }
 
 pub reaches-after : {A B : Type 0} {r : Option A} {x : A} {r₂ : Option B} {tree : List ℕ} {a b c : Emitter} {w₁ w : State} → r ≡ Some x → Reaches r tree a b w₁ → Reaches r₂ tree b c w → Reaches r₂ tree a c w
@@ -185,14 +189,15 @@ reaches-after {x = x} {w = w} z h g = record {
   done = λ y q. left-next h.limits (h.done x z) (g.done y q);
   full = λ q v. g.full q (subst (λ (l : Limits). Within l w) (sym h.limits) v);
   limits = g.limits ∙ h.limits;
+  areas = areas-after h.areas g.areas;
 }
 
 -- the same answer by other words
 pub reaches-some : {A B : Type 0} {r : Option A} {x : A} {y : B} {tree : List ℕ} {a b : Emitter} {w : State} → r ≡ Some x → Reaches r tree a b w → Reaches (Some y) tree a b w
-reaches-some {x = x} {y = y} z h = record { done = λ u q. h.done x z; full = λ q. absurd (none-some y (sym q)); limits = h.limits }
+reaches-some {x = x} {y = y} z h = record { done = λ u q. h.done x z; full = λ q. absurd (none-some y (sym q)); limits = h.limits; areas = h.areas }
 
 pub reaches-none : {A B : Type 0} {r : Option A} {q : Option B} {tree : List ℕ} {a b : Emitter} {w : State} → r ≡ None → q ≡ None → Reaches r tree a b w → Reaches q tree a b w
-reaches-none z n h = record { done = λ u q. absurd (none-some u (sym n ∙ q)); full = λ q. h.full z; limits = h.limits }
+reaches-none z n h = record { done = λ u q. absurd (none-some u (sym n ∙ q)); full = λ q. h.full z; limits = h.limits; areas = h.areas }
 
 module _ {A B : Type 0} {r : Option A} {tree : List ℕ} {a b : Emitter} {e : Emit} where
   pub lowers-some : {x : A} {y : B} → r ≡ Some x → LowersIn r e tree a b → LowersIn (Some y) e tree a b
@@ -205,7 +210,8 @@ module _ {A B : Type 0} {r : Option A} {tree : List ℕ} {a b : Emitter} {e : Em
   lowers_then {f} {x} {r₂} {c} z S h g =
       let k = (h.reaches.done x z).left in
       record {
-        reaches = reaches_as ((λ i. emit_at (k.base i) f (k.state i)) ∙ sym (at-seq a.code.base e f (state_in tree a) (base-below tree a.tables.made.now a.code.words.now a.tables.entries.now (counts_of a) (limits_in a) S.sound)))
+        reaches = reaches_as ((λ i. emit_at (k.base i) f (k.state i)) ∙ sym (at-seq a.code.base e f (state_in tree a)
+            (base-below tree a.tables.names.made.now a.code.words.now a.tables.entries.words.now (counts_of a) (limits_in a) S.sound)))
             (reaches-after z h.reaches g.reaches);
       }
 
@@ -214,8 +220,9 @@ module _ {A B : Type 0} {r : Option A} {tree : List ℕ} {a b : Emitter} {e : Em
   lowers-stopped z n S g h = record {
     reaches = record {
       done = λ y q. absurd (none-some y (sym n ∙ q));
-      full = λ q w. h.reaches.full z (within_first a.code.base e (state_in tree a) (base-below tree a.tables.made.now a.code.words.now a.tables.entries.now (counts_of a) (limits_in a) S.sound) g w);
+      full = λ q w. h.reaches.full z (within_first a.code.base e (state_in tree a) (base-below tree a.tables.names.made.now a.code.words.now a.tables.entries.words.now (counts_of a) (limits_in a) S.sound) g w);
       limits = h.reaches.limits;
+      areas = h.reaches.areas;
     };
   }
 
@@ -233,5 +240,6 @@ lowers-nothing {A} {x} {tree} {a} S = record {
     done = λ y q. record { left = left_as (sym (at-nothing a.code.base (state_in tree a))) (left-none tree S.sound) };
     full = λ q. absurd (none-some x (sym q));
     limits = refl;
+    areas = areas-none;
   };
 }

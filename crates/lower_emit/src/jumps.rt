@@ -34,13 +34,21 @@ fn patch_words(inside: &mut [u32], h: usize)
     }
 }
 
+// The word at j becomes a jump over d instructions.
+pub fn set_jump(words: &mut [u32], j: usize, op: u32, d: u32)
+    requires { (j < length words.old) × (op < 256) × (d < 65536) }
+    ensures { words.new ≡ set words.old j (word op d 0) }
+{
+    words[j] = packed(op, d, 0);
+}
+
 impl<'a> Code<'a> {
     // The word at j becomes a jump over d instructions.
     pub fn set_jump(&mut self, j: usize, op: u32, d: u32)
         requires { (j < length self.old.words.now) × (op < 256) × (d < 65536) }
         ensures { SetsJump j op d self.old self.new }
     {
-        self.words[j] = packed(op, d, 0);
+        set_jump(self.words, j, op, d);
     }
 
     // The end of a branch whose block begins at place `from`: an end jump, not known yet, and the jump before the block over both.

@@ -117,7 +117,7 @@ value-short = tt
 
 pub functions-few : (t : List ℕ) (e : Emitter) → SoundIn t e → length (state_in t e).tables.functions ≤ 256
 functions-few t e S =
-    let k = function-count t e.tables.made.now e.code.words.now e.tables.entries.now (counts_of e) (limits_in e) S.sound in
+    let k = function-count t e.tables.names.made.now e.code.words.now e.tables.entries.words.now (counts_of e) (limits_in e) S.sound in
     omega (arith, k, S.sound.functions, S.sound.limited.functions)
 
 -- ---- by a method

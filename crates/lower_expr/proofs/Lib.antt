@@ -3,3 +3,4 @@ pub mod Several
 pub mod Shortcut
 pub mod Words
 pub mod Bodies
+pub mod KindBytes

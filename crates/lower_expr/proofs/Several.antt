@@ -21,9 +21,9 @@ use Rattle.lower_forms.proofs.Elements.{more-view, none-code}
 use Rattle.lower_emit.specs.Nesting.{with_open}
 use Rattle.lower_emit.specs.declared.emitter.Code.{Code}
 use Rattle.lower_emit.specs.declared.emitter.Emitter.{Emitter}
-use Rattle.lower_emit.specs.Emitting.{counts_of, limits_in, state_in, SoundIn, beside, EmitsTo}
+use Rattle.lower_emit.specs.Emitting.{counts_of, limits_in, state_in, SoundIn, beside, SameAreas, EmitsTo}
 use Rattle.lower_emit.proofs.Packing.{instr-plain, plain-below}
-use Rattle.lower_emit.proofs.Steps.{limits-code, put-left, some-is}
+use Rattle.lower_emit.proofs.Steps.{limits-code, areas-none, areas-after, areas-code, put-left, some-is}
 use Rattle.lower_names.proofs.Midway.{Midway, midway_start, midway-base, midway-next, midway_end, midway-full}
 use Rattle.lower_leaves.specs.Constants.{constants_put, Constants}
 
@@ -56,28 +56,30 @@ module _ {d : ℕ} {t : List ℕ} {names : List Name} {c : Counts} {l : Limits} 
 -- at the loop's head: a is the emitter before the loop
 pub record ExprsRest (d : ℕ) (t : List ℕ) (names : List Name) (a : Emitter) (n₀ p₀ : ℕ) (b : Emitter) (n p : ℕ) : Type 0 where
   pub limits : limits_in b ≡ limits_in a
+  pub areas : SameAreas a b
   pub rest : Left_over d t names (counts_of a) (limits_in a) (emit_at a.code.base (exprs_code d n₀ t names p₀) (state_in t a)) (exprs_at d n₀ t p₀).end
-      (counts_of b) b.tables.made.now b.code.words.now b.tables.entries.now n p
+      (counts_of b) b.tables.names.made.now b.code.words.now b.tables.entries.words.now n p
 
 pub rest-all : {d : ℕ} {t : List ℕ} {a : Emitter} {n p : ℕ} (names : List Name) → SoundIn t a → LowerableMany d n t p → ExprsRest d t names a n p a n p
 rest-all {d} {t} {a} {n} {p} names S r = record {
   limits = refl;
+  areas = areas-none;
   rest = record {
     elements = r;
     next = refl;
-    midway = midway_start t a.tables.made.now a.code.words.now a.tables.entries.now (counts_of a) (limits_in a) (exprs_code d n t names p) S.sound;
+    midway = midway_start t a.tables.names.made.now a.code.words.now a.tables.entries.words.now (counts_of a) (limits_in a) (exprs_code d n t names p) S.sound;
   };
 }
 
 module _ {d : ℕ} {t : List ℕ} {names : List Name} {a : Emitter} {n₀ p₀ : ℕ} {b : Emitter} {n p : ℕ} (R : ExprsRest d t names a n₀ p₀ b n p) where
   pub rest-sound : SoundIn t b
-  rest-sound = record { sound = subst (λ (l : Limits). Sound t b.tables.made.now b.code.words.now b.tables.entries.now (counts_of b) l) (sym R.limits) R.rest.midway.sound }
+  rest-sound = record { sound = subst (λ (l : Limits). Sound t b.tables.names.made.now b.code.words.now b.tables.entries.words.now (counts_of b) l) (sym R.limits) R.rest.midway.sound }
 
   pub rest-next : {r : Option ℕ} {q : ℕ} {e : Emitter} → 0 < n → r ≡ Some q → EmitsTo r (expr_code d t names p) (expr_at d t p).end t b e → ExprsRest d t names a n₀ p₀ e (n - 1) q
   rest-next {q = q} {e = e} more z h =
       let L = (h.lowers.reaches.done q z).left in
-      let g = subst (λ (l : Limits). Left (counts_of e) t e.tables.made.now e.code.words.now e.tables.entries.now (counts_of b) l (emit_at b.code.base (expr_code d t names p) (state_in t b))) R.limits L in
-      subst (λ (x : ℕ). ExprsRest d t names a n₀ p₀ e (n - 1) x) (sym (h.place q z)) (record { limits = h.lowers.reaches.limits ∙ R.limits; rest = over-next R.rest more g })
+      let g = subst (λ (l : Limits). Left (counts_of e) t e.tables.names.made.now e.code.words.now e.tables.entries.words.now (counts_of b) l (emit_at b.code.base (expr_code d t names p) (state_in t b))) R.limits L in
+      subst (λ (x : ℕ). ExprsRest d t names a n₀ p₀ e (n - 1) x) (sym (h.place q z)) (record { limits = h.lowers.reaches.limits ∙ R.limits; areas = areas-after R.areas h.lowers.reaches.areas; rest = over-next R.rest more g })
 
   pub rest-over : {r q : Option ℕ} {m next : ℕ} {e : Emitter} → 0 < n → r ≡ None → q ≡ None → EmitsTo r (expr_code d t names p) m t b e → EmitsTo q (exprs_code d n₀ t names p₀) next t a e
   rest-over more z y h = record {
@@ -87,6 +89,7 @@ module _ {d : ℕ} {t : List ℕ} {names : List Name} {a : Emitter} {n₀ p₀ :
         done = λ k e. absurd (none-some k (sym y ∙ e));
         full = λ e. over-full R.rest more (λ w. h.lowers.reaches.full z (subst (λ (l : Limits). Within l (emit_at b.code.base (expr_code d t names p) (state_in t b))) (sym R.limits) w));
         limits = h.lowers.reaches.limits ∙ R.limits;
+        areas = areas-after R.areas h.lowers.reaches.areas;
       };
     };
   }
@@ -99,11 +102,12 @@ module _ {d : ℕ} {t : List ℕ} {names : List Name} {a : Emitter} {n₀ p₀ :
         lowers = record {
           reaches = record {
             done = λ k e. record {
-              left = midway_end (counts_of b) t b.tables.made.now b.code.words.now b.tables.entries.now (counts_of a) (limits_in a) _ _ R.rest.midway
+              left = midway_end (counts_of b) t b.tables.names.made.now b.code.words.now b.tables.entries.words.now (counts_of a) (limits_in a) _ _ R.rest.midway
                   (ap (λ (x : Emit). emit_at a.code.base x (state_in t b)) z.0 ∙ at-nothing a.code.base (state_in t b));
             };
             full = λ e. absurd (none-some p (sym e));
             limits = R.limits;
+            areas = R.areas;
           };
         };
       }
@@ -115,7 +119,7 @@ module _ {d : ℕ} {t : List ℕ} {names : List Name} {a : Emitter} {n₀ p₀ :
 
     abbrev At : ℕ → Type 0
     At i = Left_over d t names (counts_of a) (limits_in a) (emit_at a.code.base (exprs_code d n₀ t names p₀) (state_in t a)) (exprs_at d n₀ t p₀).end
-        (with_open (o + i) (counts_of b)) b.tables.made.now (constants_put b.code.words.now o t p i) b.tables.entries.now (n - i) (p + i)
+        (with_open (o + i) (counts_of b)) b.tables.names.made.now (constants_put b.code.words.now o t p i) b.tables.entries.words.now (n - i) (p + i)
 
     first : At 0
     unfolding constants_put
@@ -125,7 +129,7 @@ module _ {d : ℕ} {t : List ℕ} {names : List Name} {a : Emitter} {n₀ p₀ :
         let z : p ≡ p + 0 = omega arith in
         subst (λ (w : Type 0). w)
         (λ j. Left_over d t names (counts_of a) (limits_in a) (emit_at a.code.base (exprs_code d n₀ t names p₀) (state_in t a)) (exprs_at d n₀ t p₀).end
-        (with_open (x j) (counts_of b)) b.tables.made.now b.code.words.now b.tables.entries.now (y j) (z j)) R.rest
+        (with_open (x j) (counts_of b)) b.tables.names.made.now b.code.words.now b.tables.entries.words.now (y j) (z j)) R.rest
 
     grows : (i : ℕ) → i < r → At i → At (suc i)
     unfolding constants_put
@@ -139,16 +143,16 @@ module _ {d : ℕ} {t : List ℕ} {names : List Name} {a : Emitter} {n₀ p₀ :
         let m = arm-constant d t (p + i) (more-view d (n - i) t (p + i) few G.elements).head kind refl low in
         let same : limits_in b ≡ limits_in a = R.limits in
         let room : o + i + b.code.done < (limits_in a).instructions = omega (arith, ap (λ (l : Limits). l.instructions) same, C.run.inside) in
-        let L = put-left t b.tables.made.now ws b.tables.entries.now w _ k (limits_in a) G.midway.sound
+        let L = put-left t b.tables.names.made.now ws b.tables.entries.words.now w _ k (limits_in a) G.midway.sound
         (instr-plain t (5 - kind) 0 0 (plain-below (5 - kind) 0 0 (omega arith) (omega arith) (omega arith) (omega arith))) room in
-        let P = λ (x : Emit). Left (with_open (o + i + 1) (counts_of b)) t b.tables.made.now (set ws (o + i) w) b.tables.entries.now k (limits_in a) (emit_at k.base x (state_of t b.tables.made.now ws b.tables.entries.now k)) in
+        let P = λ (x : Emit). Left (with_open (o + i + 1) (counts_of b)) t b.tables.names.made.now (set ws (o + i) w) b.tables.entries.words.now k (limits_in a) (emit_at k.base x (state_of t b.tables.names.made.now ws b.tables.entries.words.now k)) in
         let N = over-next G few (subst P (sym (m.code names)) L) in
         let x : o + i + 1 ≡ o + suc i = omega arith in
         let y : n - i - 1 ≡ n - suc i = omega arith in
         let z : (expr_at d t (p + i)).end ≡ p + suc i = m.end ∙ omega arith in
         subst (λ (w : Type 0). w)
         (λ j. Left_over d t names (counts_of a) (limits_in a) (emit_at a.code.base (exprs_code d n₀ t names p₀) (state_in t a)) (exprs_at d n₀ t p₀).end
-        (with_open (x j) (counts_of b)) b.tables.made.now (set ws (o + i) w) b.tables.entries.now (y j) (z j)) N
+        (with_open (x j) (counts_of b)) b.tables.names.made.now (set ws (o + i) w) b.tables.entries.words.now (y j) (z j)) N
 
     all : (i : ℕ) → i ≤ r → At i
     all zero h = first
@@ -156,13 +160,13 @@ module _ {d : ℕ} {t : List ℕ} {names : List Name} {a : Emitter} {n₀ p₀ :
 
     after : with_open (o + r) (counts_of b) ≡ counts_of (beside c b.tables)
     after = λ i. record {
-      symbols = b.tables.symbols;
-      strings = b.tables.strings;
-      functions = b.tables.functions;
-      classes = b.tables.classes;
+      symbols = b.tables.names.symbols.count;
+      strings = b.tables.strings.count;
+      functions = b.tables.functions.count;
+      classes = b.tables.classes.count;
       methods = b.tables.methods;
       constants = b.tables.constants;
-      made = b.tables.made_len;
+      made = b.tables.names.made_len;
       base = sym C.kept.base i;
       «open» = sym C.size i;
       done = sym C.kept.done i;
@@ -171,9 +175,10 @@ module _ {d : ℕ} {t : List ℕ} {names : List Name} {a : Emitter} {n₀ p₀ :
     pub rest-constants : ExprsRest d t names a n₀ p₀ (beside c b.tables) (n - r) (p + r)
     rest-constants = record {
       limits = limits-code b.tables C.kept ∙ R.limits;
+      areas = areas-after R.areas (areas-code b.tables C.kept);
       rest = subst (λ (w : Type 0). w)
           (λ j. Left_over d t names (counts_of a) (limits_in a) (emit_at a.code.base (exprs_code d n₀ t names p₀) (state_in t a)) (exprs_at d n₀ t p₀).end
-          (after j) b.tables.made.now (sym C.run.words j) b.tables.entries.now (n - r) (p + r)) (all r (omega arith));
+          (after j) b.tables.names.made.now (sym C.run.words j) b.tables.entries.words.now (n - r) (p + r)) (all r (omega arith));
     }
 
 -- the answer for n expressions from p on, with the count and the position by other words

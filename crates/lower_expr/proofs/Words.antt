@@ -8,7 +8,8 @@ use Rattle.definitions.specs.Tables.{Emit, emits, one, ◌⨟◌}
 use Rattle.definitions.specs.Bytes.{Name}
 use Rattle.exprs.specs.ExprAt.{expr_at}
 use Rattle.state.specs.Words.{instr_of}
-use Rattle.lower_forms.specs.Lowerable.{expr_code}
+use Rattle.lower_forms.specs.Lowerable.{SoleIn, expr_code}
+use Rattle.lower_forms.proofs.Sole.{sole-at}
 use Rattle.lower_emit.specs.declared.emitter.Code.{Code}
 use Rattle.lower_emit.specs.declared.emitter.Emitter.{Emitter}
 use Rattle.lower_emit.specs.Emitting.{SoundIn, beside, EmitsTo, Puts}
@@ -17,6 +18,9 @@ use Rattle.lower_emit.proofs.Parts.{emits_then, emits-words, emits-no-words}
 
 pub sound-after : {r : Option ℕ} {n m : ℕ} {t : List ℕ} {a b : Emitter} {e : Emit} → r ≡ Some n → EmitsTo r e m t a b → SoundIn t b
 sound-after z h = sound-next z h.lowers.reaches
+
+pub sole-after : {r : Option ℕ} {n m : ℕ} {t : List ℕ} {a b : Emitter} {e : Emit} → SoleIn t a → r ≡ Some n → EmitsTo r e m t a b → SoleIn t b
+sole-after R z h = sole-at R (sound-after z h)
 
 module _ {A : Type 0} {r : Option ℕ} {u : Option A} {n m w : ℕ} {t : List ℕ} {a b : Emitter} {e : Emit} {i : Instr} {c : Code}
     (z : r ≡ Some n) (S : SoundIn t a) (h : EmitsTo r e m t a b) (is : instr_of t w ≡ i) (g : Puts u w b.code c) where

@@ -1,30 +1,35 @@
 // The lowering of an expression in one path: every answer is the next position in the tree, none where the module is over the limits.
+// A position and the levels left there stay two numbers: each call gives both anew, so a struct of them would be made for each call; and what a clause asks
+// of the tree (Lowerable and the like) is said of the place that a call names, so it belongs to no value that lives on.
 #![tactic(auto)]
 
-ghost use Rattle.std.specs.Prelude.{◌≡◌, ◌+◌, ◌-◌, ◌≤◌, eqb, get_or, drop};
+ghost use Rattle.std.specs.Prelude.{List, ◌≡◌, ◌+◌, ◌-◌, ◌≤◌, eqb, get_or, drop};
+ghost use Rattle.definitions.specs.Bytes.{Name};
 ghost use Rattle.definitions.specs.Instruction.{instr, Build, LoadAttr};
 ghost use Rattle.definitions.specs.Tables.{one, ◌⨟◌, intern};
 ghost use Rattle.definitions.specs.Lower.{emit_expr, shortcut};
 ghost use Rattle.definitions.specs.Tree.{call, var};
 ghost use Rattle.parts.specs.Places.{count_at, name_end, params_at};
 ghost use Rattle.exprs.specs.ExprAt.{expr_at, exprs_at, second_at, list_at, binary_of};
+ghost use Rattle.exprs.specs.Literals.{LiteralAt};
 ghost use Rattle.state.specs.Words.{name_at};
 ghost use Rattle.state.specs.State.{slot_names, slots_from};
 ghost use Rattle.lower_emit.specs.Ops.{Plain};
 ghost use Rattle.lower_forms.specs.Lowerable.{expr_code, exprs_code, method_code, call_instr, lambda_code, closure_code, function_code, Short, CapturesHeld};
-ghost use Rattle.lower_forms.specs.Lowerable.{Lowerable, LowerableMany, UnaryLowerable, TwoLowerable, BinaryLowerable, ArgsLowerable, CallLowerable, NamedLowerable};
+ghost use Rattle.lower_forms.specs.Lowerable.{SoleIn, Lowerable, LowerableMany, UnaryLowerable, TwoLowerable, BinaryLowerable, ArgsLowerable, CallLowerable, NamedLowerable};
 ghost use Rattle.lower_forms.specs.Lowerable.{AttributeLowerable, MethodLowerable, DisplayLowerable, LambdaLowerable, ClosureLowerable};
 ghost use Rattle.opcodes.specs.Codes.{unary_opcode, display_of, held_of};
-ghost use Rattle.lower_emit.specs.Emitting.{SoundIn, EmitsTo};
+ghost use Rattle.lower_emit.specs.Emitting.{EmitsTo};
 ghost use Rattle.lower_names.specs.Naming.{callee_of};
 
 use exprs::literals::literal_at;
 use lower_emit::emitter::Emitter;
-use lower_leaves::closures::{begin_lambda, end_closure, end_lambda};
+use lower_leaves::closures::{end_closure, end_lambda, start_lambda};
 use lower_leaves::constants::put_constants;
 use lower_leaves::literals::emit_literal;
 use lower_names::{Callee, emit_load, emit_symbol, load_callee, put_call, resolve};
-use numerals::expr;
+use numerals::kinds::ExprKind;
+use numerals::operators;
 use numerals::ops::{CALL_METHOD, LOAD_ATTR, LOAD_INDEX, LOGICAL};
 use numerals::places::SLOTS_FROM;
 use numerals::sizes::SLOTS_ROOM;
@@ -35,38 +40,59 @@ use slots::captures::lambda_slots;
 use slots::skip::skip_params;
 use state::Scope;
 
+// The literal at `at`.
+fn emit_literal_at(tree: &[u8], e: &mut Emitter<'_>, at: usize) -> Option<usize>
+    requires { SoleIn tree.now e.old × LiteralAt tree.now at }
+    ensures { (names : List Name) → EmitsTo result (expr_code 1 tree.now names at) (expr_at 1 tree.now at).end tree.now e.old e.new }
+{
+    let x = literal_at(tree, at);
+    let tables = &mut e.tables;
+    emit_literal(
+        tree,
+        &mut tables.strings,
+        &mut tables.entries,
+        &mut e.code,
+        at,
+        x,
+    )
+}
+
 // The expression at `at`, with `depth` levels left.
 #[cycle(emit)]
 pub fn emit_expr(s: Scope<'_>, e: &mut Emitter<'_>, at: usize, depth: u32) -> Option<usize>
-    requires { SoundIn s.tree.now e.old × Lowerable depth s.tree.now at }
+    requires { SoleIn s.tree.now e.old × Lowerable depth s.tree.now at }
     ensures { let t = s.entry.tree.now in let names = slot_names t s.entry.slots.now in
         EmitsTo result (expr_code depth t names at) (expr_at depth t at).end t e.old e.new }
 {
-    let kind = s.tree[at];
-    if kind < expr::VARIABLE {
-        return emit_literal(s.tree, e, at, literal_at(s.tree, at));
-    }
+    let byte = s.tree[at];
     let a = at + 1;
     let below = depth - 1;
-    match kind {
-        expr::VARIABLE => {
+    match ExprKind::of(byte) {
+        ExprKind::NoneLiteral
+        | ExprKind::False
+        | ExprKind::True
+        | ExprKind::Int
+        | ExprKind::Float
+        | ExprKind::Text => emit_literal_at(s.tree, e, at),
+        ExprKind::Variable => {
             emit_load(s, e, a)?;
             Some(name_end(s.tree, a))
         }
-        expr::UNARY => emit_unary(s, e, a, below),
-        expr::BINARY => emit_binary(s, e, a, below),
-        expr::CALL => emit_call(s, e, a, below),
-        expr::ATTRIBUTE => emit_attribute(s, e, a, below),
-        expr::INDEX => emit_two(s, e, a, below, LOAD_INDEX),
-        expr::LAMBDA => emit_lambda(s, e, a, below),
-        _ => emit_display(s, e, a, below, kind),
+        ExprKind::Unary => emit_unary(s, e, a, below),
+        ExprKind::Binary => emit_binary(s, e, a, below),
+        ExprKind::Call => emit_call(s, e, a, below),
+        ExprKind::Attribute => emit_attribute(s, e, a, below),
+        ExprKind::List | ExprKind::Dict | ExprKind::Tuple | ExprKind::Set | ExprKind::TreeSet =>
+            emit_display(s, e, a, below, byte),
+        ExprKind::Index => emit_two(s, e, a, below, LOAD_INDEX),
+        ExprKind::Lambda => emit_lambda(s, e, a, below),
     }
 }
 
 // So many expressions, one after the other; runs of None, False and True by words alone, so no range goes over the places.
 #[cycle(emit)]
 fn emit_exprs(s: Scope<'_>, e: &mut Emitter<'_>, at: usize, depth: u32, n: u32) -> Option<usize>
-    requires { SoundIn s.tree.now e.old × LowerableMany depth n s.tree.now at }
+    requires { SoleIn s.tree.now e.old × LowerableMany depth n s.tree.now at }
     ensures { let t = s.entry.tree.now in let names = slot_names t s.entry.slots.now in
         EmitsTo result (exprs_code depth n t names at) (exprs_at depth n t at).end t e.old e.new }
 {
@@ -88,7 +114,7 @@ fn emit_exprs(s: Scope<'_>, e: &mut Emitter<'_>, at: usize, depth: u32, n: u32) 
 // An operator byte and its operand.
 #[cycle(emit)]
 fn emit_unary(s: Scope<'_>, e: &mut Emitter<'_>, at: usize, depth: u32) -> Option<usize>
-    requires { SoundIn s.tree.now e.old × UnaryLowerable depth s.tree.now at }
+    requires { SoleIn s.tree.now e.old × UnaryLowerable depth s.tree.now at }
     ensures { let t = s.entry.tree.now in let names = slot_names t s.entry.slots.now in
         EmitsTo result (expr_code depth t names (at + 1) ⨟ one (instr (unary_opcode (get_or t at 0)) 0 0)) (expr_at depth t (at + 1)).end t e.old e.new }
 {
@@ -101,7 +127,7 @@ fn emit_unary(s: Scope<'_>, e: &mut Emitter<'_>, at: usize, depth: u32) -> Optio
 // Two expressions and the instruction after them.
 #[cycle(emit)]
 fn emit_two(s: Scope<'_>, e: &mut Emitter<'_>, at: usize, depth: u32, op: u32) -> Option<usize>
-    requires { SoundIn s.tree.now e.old × TwoLowerable depth s.tree.now at × Plain op 0 0 }
+    requires { SoleIn s.tree.now e.old × TwoLowerable depth s.tree.now at × Plain op 0 0 }
     ensures { let t = s.entry.tree.now in let names = slot_names t s.entry.slots.now in
         EmitsTo result (expr_code depth t names at ⨟ expr_code depth t names (expr_at depth t at).end ⨟ one (instr op 0 0)) (second_at depth t at).end t e.old e.new }
 {
@@ -111,16 +137,16 @@ fn emit_two(s: Scope<'_>, e: &mut Emitter<'_>, at: usize, depth: u32, op: u32) -
     Some(next)
 }
 
-// An operator byte and its two operands.
+// An operator byte and its two operands. The last two operators, `and` and `or`, jump: an enum of operators would be made for this test alone.
 #[cycle(emit)]
 fn emit_binary(s: Scope<'_>, e: &mut Emitter<'_>, at: usize, depth: u32) -> Option<usize>
-    requires { SoundIn s.tree.now e.old × BinaryLowerable depth s.tree.now at }
+    requires { SoleIn s.tree.now e.old × BinaryLowerable depth s.tree.now at }
     ensures { let t = s.entry.tree.now in let names = slot_names t s.entry.slots.now in
         EmitsTo result (emit_expr names (binary_of (get_or t at 0) (expr_at depth t (at + 1)).value (second_at depth t (at + 1)).value))
         (second_at depth t (at + 1)).end t e.old e.new }
 {
     let operator = s.tree[at];
-    if operator < expr::AND {
+    if operator < operators::AND {
         return emit_two(s, e, at + 1, depth, binary_code(operator));
     }
     emit_logical(s, e, at + 1, depth, LOGICAL + operator as u32)
@@ -129,7 +155,7 @@ fn emit_binary(s: Scope<'_>, e: &mut Emitter<'_>, at: usize, depth: u32) -> Opti
 // `and` (JumpIfFalse) or `or` (JumpIfTrue).
 #[cycle(emit)]
 fn emit_logical(s: Scope<'_>, e: &mut Emitter<'_>, at: usize, depth: u32, op: u32) -> Option<usize>
-    requires { SoundIn s.tree.now e.old × TwoLowerable depth s.tree.now at × (29 ≤ op) × (op ≤ 30) }
+    requires { SoleIn s.tree.now e.old × TwoLowerable depth s.tree.now at × (29 ≤ op) × (op ≤ 30) }
     ensures { let t = s.entry.tree.now in let names = slot_names t s.entry.slots.now in
         EmitsTo result (expr_code depth t names at ⨟ shortcut (eqb op 30) (expr_code depth t names (expr_at depth t at).end)) (second_at depth t at).end t e.old e.new }
 {
@@ -140,7 +166,7 @@ fn emit_logical(s: Scope<'_>, e: &mut Emitter<'_>, at: usize, depth: u32, op: u3
 // The right side of `and` or `or`, which a jump passes on the short way.
 #[cycle(emit)]
 fn emit_shortcut(s: Scope<'_>, e: &mut Emitter<'_>, at: usize, depth: u32, op: u32) -> Option<usize>
-    requires { SoundIn s.tree.now e.old × Lowerable depth s.tree.now at × (29 ≤ op) × (op ≤ 30) }
+    requires { SoleIn s.tree.now e.old × Lowerable depth s.tree.now at × (29 ≤ op) × (op ≤ 30) }
     ensures { let t = s.entry.tree.now in let names = slot_names t s.entry.slots.now in
         EmitsTo result (shortcut (eqb op 30) (expr_code depth t names at)) (expr_at depth t at).end t e.old e.new }
 {
@@ -154,30 +180,37 @@ fn emit_shortcut(s: Scope<'_>, e: &mut Emitter<'_>, at: usize, depth: u32, op: u
 // A call: its callee and its arguments.
 #[cycle(emit)]
 fn emit_call(s: Scope<'_>, e: &mut Emitter<'_>, at: usize, depth: u32) -> Option<usize>
-    requires { SoundIn s.tree.now e.old × CallLowerable depth s.tree.now at }
+    requires { SoleIn s.tree.now e.old × CallLowerable depth s.tree.now at }
     ensures { let t = s.entry.tree.now in let names = slot_names t s.entry.slots.now in
         EmitsTo result (emit_expr names (call (expr_at depth t at).value (list_at depth t (expr_at depth t at).end).value))
         (list_at depth t (expr_at depth t at).end).end t e.old e.new }
 {
-    let kind = s.tree[at];
-    if kind == expr::VARIABLE {
-        return emit_named(s, e, at + 1, depth);
+    match ExprKind::of(s.tree[at]) {
+        ExprKind::Variable => emit_named(s, e, at + 1, depth),
+        ExprKind::Attribute => emit_method(s, e, at + 1, depth),
+        _ => {
+            let next = emit_expr(s, e, at, depth)?;
+            emit_args(s, e, next, depth, Callee::Value)
+        }
     }
-    if kind == expr::ATTRIBUTE {
-        return emit_method(s, e, at + 1, depth);
-    }
-    let next = emit_expr(s, e, at, depth)?;
-    emit_args(s, e, next, depth, Callee::Value)
 }
 
 // A call by name.
 #[cycle(emit)]
 fn emit_named(s: Scope<'_>, e: &mut Emitter<'_>, at: usize, depth: u32) -> Option<usize>
-    requires { SoundIn s.tree.now e.old × NamedLowerable depth s.tree.now at }
+    requires { SoleIn s.tree.now e.old × NamedLowerable depth s.tree.now at }
     ensures { let t = s.entry.tree.now in let names = slot_names t s.entry.slots.now in
         EmitsTo result (emit_expr names (call (var (name_at t at)) (list_at depth t (name_end t at)).value)) (list_at depth t (name_end t at)).end t e.old e.new }
 {
-    let callee = resolve(s.tree, &e.tables, at);
+    let tables = &e.tables;
+    let callee = resolve(
+        s.tree,
+        &tables.names,
+        &tables.entries,
+        tables.functions.count,
+        tables.classes.count,
+        at,
+    );
     load_callee(s, e, at, callee)?;
     emit_args(s, e, name_end(s.tree, at), depth, callee)
 }
@@ -185,7 +218,7 @@ fn emit_named(s: Scope<'_>, e: &mut Emitter<'_>, at: usize, depth: u32) -> Optio
 // A call of an attribute; the method's symbol comes after the arguments.
 #[cycle(emit)]
 fn emit_method(s: Scope<'_>, e: &mut Emitter<'_>, at: usize, depth: u32) -> Option<usize>
-    requires { SoundIn s.tree.now e.old × MethodLowerable depth s.tree.now at }
+    requires { SoleIn s.tree.now e.old × MethodLowerable depth s.tree.now at }
     ensures { let t = s.entry.tree.now in let names = slot_names t s.entry.slots.now in
         EmitsTo result (method_code depth t names at) (list_at depth t (name_end t (expr_at (depth - 1) t at).end)).end t e.old e.new }
 {
@@ -206,7 +239,7 @@ fn emit_args(
     depth: u32,
     callee: Callee,
 ) -> Option<usize>
-    requires { SoundIn s.tree.now e.old × ArgsLowerable depth s.tree.now at × Short (callee_of callee) }
+    requires { SoleIn s.tree.now e.old × ArgsLowerable depth s.tree.now at × Short (callee_of callee) }
     ensures { let t = s.entry.tree.now in let names = slot_names t s.entry.slots.now in
         EmitsTo result (exprs_code depth (count_at t at) t names (at + 2) ⨟ one (call_instr (callee_of callee) (count_at t at))) (list_at depth t at).end t e.old e.new }
 {
@@ -219,7 +252,7 @@ fn emit_args(
 // An object and the name of its attribute.
 #[cycle(emit)]
 fn emit_attribute(s: Scope<'_>, e: &mut Emitter<'_>, at: usize, depth: u32) -> Option<usize>
-    requires { SoundIn s.tree.now e.old × AttributeLowerable depth s.tree.now at }
+    requires { SoleIn s.tree.now e.old × AttributeLowerable depth s.tree.now at }
     ensures { let t = s.entry.tree.now in let names = slot_names t s.entry.slots.now in
         EmitsTo result (expr_code depth t names at ⨟ intern (name_at t (expr_at depth t at).end) (λ k. one (LoadAttr k)))
         (name_end t (expr_at depth t at).end) t e.old e.new }
@@ -232,7 +265,7 @@ fn emit_attribute(s: Scope<'_>, e: &mut Emitter<'_>, at: usize, depth: u32) -> O
 // A list, dict, tuple, set or tree set.
 #[cycle(emit)]
 fn emit_display(s: Scope<'_>, e: &mut Emitter<'_>, at: usize, depth: u32, kind: u8) -> Option<usize>
-    requires { SoundIn s.tree.now e.old × DisplayLowerable kind depth s.tree.now at }
+    requires { SoleIn s.tree.now e.old × DisplayLowerable kind depth s.tree.now at }
     ensures { let t = s.entry.tree.now in let names = slot_names t s.entry.slots.now in
         EmitsTo result (exprs_code depth (held_of kind (count_at t at)) t names (at + 2) ⨟ one (Build (display_of kind) (count_at t at)))
         (exprs_at depth (held_of kind (count_at t at)) t (at + 2)).end t e.old e.new }
@@ -246,7 +279,7 @@ fn emit_display(s: Scope<'_>, e: &mut Emitter<'_>, at: usize, depth: u32, kind: 
 // A lambda: its parameters and its body. Its slots are the parameters, then the captures.
 #[cycle(emit)]
 fn emit_lambda(s: Scope<'_>, e: &mut Emitter<'_>, at: usize, depth: u32) -> Option<usize>
-    requires { SoundIn s.tree.now e.old × LambdaLowerable depth s.tree.now at }
+    requires { SoleIn s.tree.now e.old × LambdaLowerable depth s.tree.now at }
     ensures { let t = s.entry.tree.now in let names = slot_names t s.entry.slots.now in
         EmitsTo result (lambda_code depth t names at) (expr_at depth t (params_at t at).end).end t e.old e.new }
 {
@@ -271,12 +304,12 @@ fn emit_closure(
     depth: u32,
     arity: u32,
 ) -> Option<usize>
-    requires { SoundIn s.tree.now e.old × (inner.tree.now ≡ s.tree.now) × ClosureLowerable depth s.tree.now arity (drop slots_from inner.slots.now) at
+    requires { SoleIn s.tree.now e.old × (inner.tree.now ≡ s.tree.now) × ClosureLowerable depth s.tree.now arity (drop slots_from inner.slots.now) at
         × CapturesHeld s.tree.now (slot_names s.tree.now s.slots.now) arity (drop slots_from inner.slots.now) }
     ensures { let t = s.entry.tree.now in let names = slot_names t s.entry.slots.now in
         EmitsTo result (closure_code depth t names arity (drop slots_from inner.entry.slots.now) at) (expr_at depth t at).end t e.old e.new }
 {
-    let f = e.tables.functions;
+    let f = e.tables.functions.count;
     let next = emit_function(inner, e, at, depth, arity)?;
     end_closure(
         s,
@@ -296,14 +329,14 @@ fn emit_function(
     depth: u32,
     arity: u32,
 ) -> Option<usize>
-    requires { SoundIn s.tree.now e.old × ClosureLowerable depth s.tree.now arity (drop slots_from s.slots.now) at }
+    requires { SoleIn s.tree.now e.old × ClosureLowerable depth s.tree.now arity (drop slots_from s.slots.now) at }
     ensures { let t = s.entry.tree.now in
-        EmitsTo result (function_code depth t e.old.tables.functions arity (drop slots_from s.entry.slots.now) at) (expr_at depth t at).end t e.old e.new }
+        EmitsTo result (function_code depth t e.old.tables.functions.count arity (drop slots_from s.entry.slots.now) at) (expr_at depth t at).end t e.old e.new }
 {
     let base = e.code.base;
     let locals = (s.slots.len() - SLOTS_FROM) as u32;
-    let f = begin_lambda(s.tree, e, arity, locals)?;
+    let f = start_lambda(s.tree, e, arity, locals)?;
     let next = emit_expr(s, e, at, depth)?;
-    end_lambda(e, f, base)?;
+    end_lambda(&mut e.code, &mut e.tables.entries, f, base)?;
     Some(next)
 }

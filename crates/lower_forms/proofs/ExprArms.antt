@@ -277,7 +277,7 @@ there-at t p q e r = subst (There t) (sym e) r
 pub counted-at : (t : List ℕ) (p q : ℕ) → q ≡ p → Counted t p → Counted t q
 counted-at t p q e r = subst (Counted t) (sym e) r
 
--- ---- codes of operators, literals; bounds of displays
+-- ---- codes of operators and literals
 
 pub lit-code : (names : List Name) (l : Literal) (e : Expr) → lit l ≡ e → emit_expr names e ≡ literal l
 unfolding emit_expr
@@ -298,12 +298,3 @@ logical-code names k x y lo hi = go (ltb k 13) refl
     go : (b : Bool) → ltb k 13 ≡ b → emit_expr names (binary_of k x y) ≡ emit_expr names x ⨟ shortcut (eqb (17 + k) 30) (emit_expr names y)
     go true e = let h = ltb-true k 13 e in by and_op false (and-of k (omega arith)) refl (ne_eqb (17 + k) 30 (λ z. omega arith))
     go false e = let h = ltb-false k 13 e in by or_op true (or-of k (omega arith)) refl (eq-eqb (17 + k) 30 (omega arith))
-
-pub display-kinds : (k : ℕ) → 6 ≤ k → k < 18 → (k ≡ 6 → ⊥) → (k ≡ 7 → ⊥) → (k ≡ 8 → ⊥) → (k ≡ 9 → ⊥) → (k ≡ 10 → ⊥) → (k ≡ 16 → ⊥) → (k ≡ 17 → ⊥) → (11 ≤ k) × (k ≤ 15)
-display-kinds k lo hi a b c d e f g = (above k lo a b c d e, below k hi f g)
-  where
-    above : (k : ℕ) → 6 ≤ k → (k ≡ 6 → ⊥) → (k ≡ 7 → ⊥) → (k ≡ 8 → ⊥) → (k ≡ 9 → ⊥) → (k ≡ 10 → ⊥) → 11 ≤ k
-    above k lo a b c d e = omega arith
-
-    below : (k : ℕ) → k < 18 → (k ≡ 16 → ⊥) → (k ≡ 17 → ⊥) → k ≤ 15
-    below k hi f g = omega arith

@@ -6,5 +6,5 @@ pub mod TargetForms
 pub mod Unpacking
 pub mod Assigning
 pub mod StmtArms
-pub mod Ahead
 pub mod Sequences
+pub mod Sole

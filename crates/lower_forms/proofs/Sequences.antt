@@ -10,15 +10,11 @@ use Rattle.definitions.specs.Tables.{emits, one}
 use Rattle.definitions.specs.Wellformed.{init}
 use Rattle.definitions.specs.Lower.{method_end}
 use Rattle.definitions.specs.Reader.{is_jump}
-use Rattle.parts.specs.Places.{Node, ParamsAt}
+use Rattle.parts.specs.Places.{Node}
 use Rattle.definitions.specs.Tree.{Branches, else}
 use Rattle.tree.specs.StmtAt.{block_at, branches_at, else_at}
-use Rattle.state.specs.State.{State, emit_at, Emits}
-use Rattle.state.specs.declared.Counts.{Counts}
-use Rattle.state.specs.declared.Limits.{Limits}
-use Rattle.state.specs.Answered.{Emitted}
+use Rattle.state.specs.State.{State, emit_at}
 use Rattle.state.proofs.Emission.{at_more}
-use Rattle.state.proofs.Answers.{emits-as}
 use Rattle.lower_emit.specs.Ops.{special, Plain}
 use Rattle.lower_forms.proofs.Unpacking.{plain_of}
 use Rattle.lower_forms.specs.Lowering.{end_of, BlockLowerable, BranchesLowerable}
@@ -69,13 +65,6 @@ block-at d t p q e r = subst (BlockLowerable d t) (sym e) r
 
 pub elifs-at : (d n m : ℕ) (t : List ℕ) (p q : ℕ) → m ≡ n → q ≡ p → BranchesLowerable d n t p → BranchesLowerable d m t q
 elifs-at d n m t p q e f r = subst (λ (x : ℕ). BranchesLowerable d x t q) (sym e) (subst (BranchesLowerable d n t) (sym f) r)
-
--- the next position by other words
-pub position-emits : (r : Emitted) (t made code tables : List ℕ) (c : Counts) (l : Limits) (q q' : ℕ) (want : State) → q ≡ q' → Emits r t made code tables c l q want → Emits r t made code tables c l q' want
-position-emits r t made code tables c l q q' want e h = emits-as r t made code tables c l q q' want want e refl h
-
-pub params-at : (t : List ℕ) (p q : ℕ) → q ≡ p → ParamsAt t p → ParamsAt t q
-params-at t p q e r = subst (ParamsAt t) (sym e) r
 
 pub elifs-end : (d n : ℕ) (t : List ℕ) (p q : ℕ) → q ≡ p → (branches_at d n t q).end ≡ (branches_at d n t p).end
 elifs-end d n t p q e = ap (λ (x : ℕ). (branches_at d n t x).end) e

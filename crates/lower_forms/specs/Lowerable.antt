@@ -13,7 +13,14 @@ use Rattle.parts.specs.Places.{count_at, Counted, name_end, There, ParamsAt, par
 use Rattle.exprs.specs.ExprAt.{expr_at, exprs_at, ExprReads, ExprsRead}
 use Rattle.state.specs.Words.{name_at}
 use Rattle.state.specs.State.{names_at}
+use Rattle.lower_emit.specs.declared.emitter.Emitter.{Emitter}
+use Rattle.lower_emit.specs.Emitting.{SoundIn}
 use Rattle.opcodes.specs.Codes.{held_of}
+
+-- what a step asks of the tree and the emitter alone: that the tree is short, and the slices sound
+pub record SoleIn (tree : List ℕ) (e : Emitter) : Type 0 where
+  pub tree-short : length tree ≤ 32768
+  pub sound : SoundIn tree e
 
 -- ---- expressions
 

@@ -12,15 +12,7 @@ use Rattle.parts.specs.Places.{count_at, Counted, name_end, There, ParamsAt, par
 use Rattle.exprs.specs.ExprAt.{expr_at}
 use Rattle.tree.specs.StmtAt.{stmt_at, block_at, stmts_at, branches_at, methods_at, StmtReads, BlockReads, StmtsRead, BranchesRead, MethodsRead, body_at, def_block_at}
 use Rattle.state.specs.Words.{name_at}
-use Rattle.state.specs.State.{Sound}
-use Rattle.state.specs.declared.Counts.{Counts}
-use Rattle.state.specs.declared.Limits.{Limits}
 use Rattle.lower_forms.specs.Lowerable.{Lowerable}
-
--- what a step without slots asks: a short tree, sound slices
-pub record Sole (tree made code tables : List ℕ) (c : Counts) (l : Limits) : Type 0 where
-  pub tree-short : length tree ≤ 32768
-  pub sound : Sound tree made code tables c l
 
 -- ---- statements and blocks
 

@@ -18,7 +18,7 @@ module _ {A : Type 0} {r : Option A} {a b : Code} (i : ℕ) (f : Emit) where
   uncopied z h = record {
     lowers = λ t ts S.
         let s = state_in t (beside a ts) in
-        let g = base-below t ts.made.now a.words.now ts.entries.now (counts_of (beside a ts)) (limits_in (beside a ts)) S.sound in
+        let g = base-below t ts.names.made.now a.words.now ts.entries.words.now (counts_of (beside a ts)) (limits_in (beside a ts)) S.sound in
         lowers-state (h.lowers t ts S) (at-seq a.base (copy i) f s g ∙ ap (emit_at a.base f) (copy-none i a.base s z));
   }
 
@@ -26,6 +26,6 @@ module _ {A : Type 0} {r : Option A} {a b : Code} (i : ℕ) (f : Emit) where
   copied n h = record {
     lowers = λ t ts S.
         let s = state_in t (beside a ts) in
-        let g = base-below t ts.made.now a.words.now ts.entries.now (counts_of (beside a ts)) (limits_in (beside a ts)) S.sound in
+        let g = base-below t ts.names.made.now a.words.now ts.entries.words.now (counts_of (beside a ts)) (limits_in (beside a ts)) S.sound in
         lowers-state (h.lowers t ts S) (at-seq a.base (copy i) f s g ∙ ap (emit_at a.base f) (sym (copy-one i a.base s n)) ∙ sym (at-seq a.base (one Dup) f s g));
   }

@@ -15,7 +15,7 @@ use Rattle.definitions.specs.Tables.{Function, Body, expr_body, Emit, one, ◌�
 use Rattle.definitions.specs.Slots.{names_only, within, insert, sort, captures}
 use Rattle.definitions.specs.Lower.{lambda_name, load, loads, closure, emit_expr}
 use Rattle.parts.specs.Places.{params_at, count_at}
-use Rattle.exprs.specs.ExprAt.{expr_at, ExprReads}
+use Rattle.exprs.specs.ExprAt.{expr_at}
 use Rattle.state.specs.Words.{name_at}
 use Rattle.state.specs.State.{State, state_of, names_at, slots_from, Slots, emit_at, with_tables, symbol_number, with_symbol, Sound, Within, Left}
 use Rattle.state.specs.Steps.{begun, ended}
@@ -252,9 +252,6 @@ lambda-wide d t names p body made code tables c l s b h w =
     let e = ap (λ (q : ℕ). length ((params_at t p).value ++ captures names (params_at t p).value (expr_at d t q).value)) b in
     let k = closure-slots c.base names (length (params_at t p).value) (lambda_names d t names p) _ _ (state_of t made code tables c) (base-below t made code tables c l s) (lengthens-expr _ (expr_at d t (params_at t p).end).value) w in
     omega arith
-
-pub reads_at : (d : ℕ) (t : List ℕ) (p q : ℕ) → q ≡ p → ExprReads d t p → ExprReads d t q
-reads_at d t p q e r = subst (ExprReads d t) (sym e) r
 
 -- the rest of the slots from the n-th on
 pub rest-is : (n : ℕ) (xs : List ℕ) → take (length xs - (slots_from + n)) (drop (slots_from + n) xs) ≡ drop n (drop slots_from xs)

@@ -32,91 +32,135 @@ use Rattle.names.specs.declared.Made.TheVariants.{Lambda}
 use Rattle.names.proofs.Indexing.{slots-count}
 use Rattle.lower_emit.specs.Nesting.{begun_with, body_of, Moved}
 use Rattle.lower_emit.specs.declared.emitter.Code.{Code}
+use Rattle.lower_emit.specs.declared.emitter.Used.{Used}
+use Rattle.lower_emit.specs.declared.emitter.Names.{Names}
+use Rattle.lower_emit.specs.declared.emitter.Entries.{Entries}
 use Rattle.lower_emit.specs.declared.emitter.Tables.{Tables}
 use Rattle.lower_emit.specs.declared.emitter.Emitter.{Emitter}
-use Rattle.lower_emit.specs.Emitting.{counts_of, limits_in, state_in, SoundIn, beside, LowersIn, CodeKept, NumbersIn, BeginsIn, Puts, Writes, Begun}
+use Rattle.lower_emit.specs.Emitting.{counts_of, limits_in, state_in, SoundIn, beside, innermost, new_names, new_functions, new_entries, LowersIn, CodeKept, NumbersIn, BeginsIn, Puts, Writes, Heads}
 use Rattle.lower_emit.proofs.Packing.{instr-plain, plain-above, plain-below}
-use Rattle.lower_emit.proofs.Steps.{limits-code, put-lifts, sound-next, lowers-state}
-use Rattle.lower_emit.proofs.Functions.{begun-lifts, ended-lifts}
+use Rattle.lower_emit.proofs.Steps.{limits-code, areas-after, areas-code, put-lifts, sound-next, lowers-state}
+use Rattle.lower_emit.proofs.Functions.{begun-lifts, ended-lifts, head-begun, innermost-as, begins-stopped, code-ended}
 use Rattle.lower_names.specs.Naming.{InternsMade, named}
 use Rattle.lower_names.proofs.Beginnings.{named-none, named-sound, named-begins}
 use Rattle.lower_names.proofs.Midway.{Midway, midway_start, midway-base, midway-next, midway_end, midway-full}
 use Rattle.lower_names.proofs.Naming.{loads-more, loads-end}
-use Rattle.lower_leaves.specs.Closures.{BeginsLambda, EndsLambda}
+use Rattle.lower_leaves.specs.Closures.{BeginsLambda, StartsLambda, EndsLambda, EndsFunction}
 use Rattle.lower_leaves.proofs.LambdaState.{lambda-name, end_known, end_empty, function-within, body-within, function-base, function-known, function-empty, function-state, last-within, slot-load}
 use Rattle.lower_leaves.proofs.LiteralForms.{int_is}
 
 -- ---- the beginning
 
-module _ {tree : List ℕ} {a : Emitter} {ts : Tables} {i : Option ℕ} (arity locals : ℕ) (h : InternsMade i (made_name (Lambda a.tables.functions)) tree a.tables ts) where
-  interned : SoundIn tree a → NumbersIn i (symbol_number (lambda_name a.tables.functions) (state_in tree a).tables) tree a (beside a.code ts) (named (lambda_name a.tables.functions) (state_in tree a))
-  interned S = (subst (λ x. InternsMade i x tree a.tables ts) (lambda-name a.tables.functions) h).numbers a.code S
+module _ {t : List ℕ} {m n : Names} {f : Used 256} {a b : Entries} {i : Option ℕ} (arity locals : ℕ) (h : InternsMade i (made_name (Lambda f.count)) t m n a b) where
+  interned : (code : Code) (ts : Tables) → SoundIn t (beside code (new_functions f a (new_names m a ts)))
+      → NumbersIn i (symbol_number (lambda_name f.count) (state_in t (beside code (new_functions f a (new_names m a ts)))).tables) t (beside code (new_functions f a (new_names m a ts)))
+      (beside code (new_functions f b (new_names n b ts))) (named (lambda_name f.count) (state_in t (beside code (new_functions f a (new_names m a ts)))))
+  interned code ts S = ((subst (λ x. InternsMade i x t m n a b) (lambda-name f.count) h).tables (new_functions f a (new_names m a ts))).numbers code S
 
-  pub begins-none : {r : Option ℕ} → i ≡ None → r ≡ None → BeginsLambda r arity locals tree a (beside a.code ts)
-  begins-none z e = record { below = λ n q. absurd (none-some n (sym e ∙ q)); begins = λ S. named-none (lambda_name a.tables.functions) S (interned S) a.tables.functions arity locals z e }
-
-  pub begins-lambda : {j : ℕ} {r : Option ℕ} {c : Emitter} → i ≡ Some j → arity < 256 → locals < 256 → Begun r j arity locals (beside a.code ts) c → BeginsLambda r arity locals tree a c
-  begins-lambda {j} {r} {c} z x y g = record {
-    below = λ n q. omega (arith, g.number n q, g.room n q, ts.functions_most);
-    begins = λ S.
-        let N = interned S in
-        let k = function-count tree a.tables.made.now a.code.words.now a.tables.entries.now (counts_of a) (limits_in a) S.sound in
-        let want = begun_with (symbol_number (lambda_name a.tables.functions) (state_in tree a).tables) arity locals (named (lambda_name a.tables.functions) (state_in tree a)) in
-        subst (λ (n : ℕ). BeginsIn r n tree a c want) k
-        (named-begins (lambda_name a.tables.functions) S N z arity locals (begun-lifts (named-sound (lambda_name a.tables.functions) S N z) (omega (arith, h.below j z)) x y g));
+  pub begins-none : {r : Option ℕ} → i ≡ None → r ≡ None → BeginsLambda r arity locals t m n f f a b
+  begins-none z e = record {
+    below = λ k q. absurd (none-some k (sym e ∙ q));
+    tables = λ ts. record { begins = λ code S. begins-stopped e e refl (record { words = refl; made = refl; entries = refl }) (named-none (lambda_name f.count) S (interned code ts S) f.count arity locals z e) };
+    area = h.area;
+    entries = h.entries;
   }
 
+  pub begins-lambda : {j : ℕ} {r : Option ℕ} {g : Used 256} {d : Entries} → i ≡ Some j → arity < 256 → locals < 256 → Heads r j arity locals f g b d → BeginsLambda r arity locals t m n f g a d
+  begins-lambda {j} {r} {g} {d} z x y H = record {
+    below = λ k q. omega (arith, H.number k q, H.room k q, f.most);
+    tables = λ ts. record {
+      begins = λ code S.
+          let e = beside code (new_functions f a (new_names m a ts)) in
+          let N = interned code ts S in
+          let k = function-count t m.made.now code.words.now a.words.now (counts_of e) (limits_in e) S.sound in
+          let want = begun_with (symbol_number (lambda_name f.count) (state_in t e).tables) arity locals (named (lambda_name f.count) (state_in t e)) in
+          subst (λ (l : ℕ). BeginsIn r l t e (beside (innermost code) (new_functions g d (new_names n d ts))) want) k
+          (named-begins (lambda_name f.count) S N z arity locals (begun-lifts (named-sound (lambda_name f.count) S N z) (omega (arith, h.below j z)) x y (head-begun code (new_names n b ts) H)));
+    };
+    area = h.area;
+    entries = H.area ∙ h.entries;
+  }
+
+-- in an emitter
+module _ {t : List ℕ} {e : Emitter} {n : Names} {g : Used 256} {b : Entries} {r : Option ℕ} {arity locals : ℕ} (h : BeginsLambda r arity locals t e.tables.names n e.tables.functions g e.tables.entries b) where
+  pub starts-none : {q : Option ℕ} → r ≡ None → q ≡ None → StartsLambda q arity locals t e (beside e.code (new_functions g b (new_names n b e.tables)))
+  starts-none z y = record {
+    below = λ i q. absurd (none-some i (sym y ∙ q));
+    begins = λ S. begins-stopped z y refl (record { words = refl; made = refl; entries = refl }) ((h.tables e.tables).begins e.code S);
+    words = refl;
+    areas = record { words = refl; made = h.area; entries = h.entries };
+  }
+
+  starts : StartsLambda r arity locals t e (beside (innermost e.code) (new_functions g b (new_names n b e.tables)))
+  starts = record { below = h.below; begins = λ S. (h.tables e.tables).begins e.code S; words = refl; areas = record { words = refl; made = h.area; entries = h.entries } }
+
+  pub starts-lambda : {i : ℕ} {room : 16384 ≤ length e.code.words.now} {most : e.code.limit ≤ 8192} {size : e.code.open + e.code.done ≤ e.code.limit} → r ≡ Some i
+      → StartsLambda (Some i) arity locals t e (beside (record { words = e.code.words; base = e.code.open; «open» = e.code.open; done = e.code.done; limit = e.code.limit; code_room = room; code_limit = most; code_size = size })
+      (new_functions g b (new_names n b e.tables)))
+  starts-lambda {room = room} {most = most} {size = size} z = subst (λ (z : Type 0). z) (λ k. StartsLambda (z k) arity locals t e (beside (innermost-as e.code room most size k) (new_functions g b (new_names n b e.tables)))) starts
+
 -- so many slots as come after the index
-pub begins-count : {tree : List ℕ} {a b : Emitter} {r : Option ℕ} {arity : ℕ} (slots : List ℕ) → BeginsLambda r arity (length slots - slots_from) tree a b → BeginsLambda r arity (length (drop slots_from slots)) tree a b
-begins-count {tree} {a} {b} {r} {arity} slots h = subst (λ (n : ℕ). BeginsLambda r arity n tree a b) (sym (length-drop slots_from slots)) h
+pub begins-count : {tree : List ℕ} {a b : Emitter} {r : Option ℕ} {arity : ℕ} (slots : List ℕ) → StartsLambda r arity (length slots - slots_from) tree a b → StartsLambda r arity (length (drop slots_from slots)) tree a b
+begins-count {tree} {a} {b} {r} {arity} slots h = subst (λ (n : ℕ). StartsLambda r arity n tree a b) (sym (length-drop slots_from slots)) h
 
 -- ---- the end
 
-module _ {tree : List ℕ} {a c : Emitter} {f n : ℕ} {A : Type 0} {r : Option A} (S : SoundIn tree a) (x : EndsLambda r f n a c) where
+-- beside the other tables
+pub ends-in : {A : Type 0} {r : Option A} {f n : ℕ} {c d : Code} {a b : Entries} (ts : Tables) → EndsLambda r f n c d a b → EndsFunction r f n (beside c (new_entries a ts)) (beside d (new_entries b ts))
+ends-in ts h = record {
+  last = h.last;
+  puts = h.puts;
+  ends = λ x z. code-ended ts (h.finishes x z) (h.codes x z);
+  limits = λ i. record { functions = ts.functions.limit; symbols = ts.names.symbols.limit; strings = ts.strings.limit; classes = ts.classes.limit; instructions = h.limit i };
+  areas = record { words = h.area; made = refl; entries = h.entries };
+}
+
+module _ {tree : List ℕ} {a c : Emitter} {f n : ℕ} {A : Type 0} {r : Option A} (S : SoundIn tree a) (x : EndsFunction r f n a c) where
   returned : LowersIn r (one Return) tree a (beside x.last a.tables)
   returned = put-lifts S refl (instr-plain tree 33 0 0 (plain-above 33 0 0 (omega arith) (omega arith) (omega arith) (omega arith))) x.puts
 
   pub return-over : r ≡ None → Within (limits_in a) (emit_at a.code.base (one Return) (state_in tree a)) → ⊥
   return-over z = returned.reaches.full z
 
-  module _ {y : A} (z : r ≡ Some y) (known : f < a.tables.functions) (empty : body_of (state_in tree a).tables.functions f ≡ []) (around : n ≤ a.code.base) where
-    pub return-ended : Moved n (counts_of c) tree c.tables.made.now c.code.words.now c.tables.entries.now (counts_of a) (limits_in a) (ended a.code.base f (emit_at a.code.base (one Return) (state_in tree a)))
+  module _ {y : A} (z : r ≡ Some y) (known : f < a.tables.functions.count) (empty : body_of (state_in tree a).tables.functions f ≡ []) (around : n ≤ a.code.base) where
+    pub return-ended : Moved n (counts_of c) tree c.tables.names.made.now c.code.words.now c.tables.entries.words.now (counts_of a) (limits_in a) (ended a.code.base f (emit_at a.code.base (one Return) (state_in tree a)))
     return-ended =
         let b = beside x.last a.tables in
         let g = (returned.reaches.done y z).left in
-        let k = end_known tree a.tables.made.now a.code.words.now a.tables.entries.now b.code.words.now (counts_of a) (counts_of b) (limits_in a) f g S.sound known in
-        let e = end_empty tree a.tables.made.now a.code.words.now a.tables.entries.now b.code.words.now (counts_of a) (counts_of b) (limits_in a) f g empty in
+        let k = end_known tree a.tables.names.made.now a.code.words.now a.tables.entries.words.now b.code.words.now (counts_of a) (counts_of b) (limits_in a) f g S.sound known in
+        let e = end_empty tree a.tables.names.made.now a.code.words.now a.tables.entries.words.now b.code.words.now (counts_of a) (counts_of b) (limits_in a) f g empty in
         let m = (ended-lifts (sound-next z returned.reaches) k e (omega (arith, g.base)) (x.ends y z)).moved in
         record {
           state = m.state ∙ (λ i. ended (g.base i) f (g.state i));
           base = m.base;
           paced = paced-more g.paced m.paced;
-          sound = subst (λ (l : Limits). Sound tree c.tables.made.now c.code.words.now c.tables.entries.now (counts_of c) l) returned.reaches.limits m.sound;
+          sound = subst (λ (l : Limits). Sound tree c.tables.names.made.now c.code.words.now c.tables.entries.words.now (counts_of c) l) returned.reaches.limits m.sound;
         }
 
 -- ---- a whole function
 
-module _ {t : List ℕ} {a b : Emitter} {f : Option ℕ} {arity : ℕ} (S : SoundIn t a) (inner : List ℕ) (e : Emit) (E : Lengthens e) (body : Body) (B : BeginsLambda f arity (length inner) t a b) where
+module _ {t : List ℕ} {a b : Emitter} {f : Option ℕ} {arity : ℕ} (S : SoundIn t a) (inner : List ℕ) (e : Emit) (E : Lengthens e) (body : Body) (B : StartsLambda f arity (length inner) t a b) where
   abbrev whole : Emit
-  whole = function (lambda_name a.tables.functions) arity (names_only (names_at t inner)) body (e ⨟ one Return)
+  whole = function (lambda_name a.tables.functions.count) arity (names_only (names_at t inner)) body (e ⨟ one Return)
 
   pub function-full : {A : Type 0} {q : Option A} → f ≡ None → q ≡ None → LowersIn q whole t a b
   function-full z n = record {
     reaches = record {
       done = λ y g. absurd (none-some y (sym n ∙ g));
-      full = λ g w. (B.begins S).full z (function-within t a.tables.made.now a.code.words.now a.tables.entries.now (counts_of a) (limits_in a) S.sound arity inner e E body w);
+      full = λ g w. (B.begins S).full z (function-within t a.tables.names.made.now a.code.words.now a.tables.entries.words.now (counts_of a) (limits_in a) S.sound arity inner e E body w);
       limits = (B.begins S).limits;
+      areas = (B.begins S).areas;
     };
   }
 
   module _ {i : ℕ} (z : f ≡ Some i) where
-    begun : (i ≡ a.tables.functions) × Moved a.code.open (counts_of b) t b.tables.made.now b.code.words.now b.tables.entries.now (counts_of a) (limits_in a)
-        (begun_with (symbol_number (lambda_name a.tables.functions) (state_in t a).tables) arity (length inner) (named (lambda_name a.tables.functions) (state_in t a)))
+    begun : (i ≡ a.tables.functions.count) × Moved a.code.open (counts_of b) t b.tables.names.made.now b.code.words.now b.tables.entries.words.now (counts_of a) (limits_in a)
+        (begun_with (symbol_number (lambda_name a.tables.functions.count) (state_in t a).tables) arity (length inner) (named (lambda_name a.tables.functions.count) (state_in t a)))
     begun = ((B.begins S).is i z, ((B.begins S).done i z).moved)
 
     pub function-sound : SoundIn t b
     function-sound = record {
-      sound = subst (λ (l : Limits). Sound t b.tables.made.now b.code.words.now b.tables.entries.now (counts_of b) l) (sym (B.begins S).limits) begun.1.sound;
+      sound = subst (λ (l : Limits). Sound t b.tables.names.made.now b.code.words.now b.tables.entries.words.now (counts_of b) l) (sym (B.begins S).limits) begun.1.sound;
     }
 
     module _ {A : Type 0} {r : Option A} {m : Emitter} (h : LowersIn r e t b m) where
@@ -125,26 +169,32 @@ module _ {t : List ℕ} {a b : Emitter} {f : Option ℕ} {arity : ℕ} (S : Soun
         reaches = record {
           done = λ u g. absurd (none-some u (sym n ∙ g));
           full = λ g w.
-              let v = body-within t a.tables.made.now a.code.words.now a.tables.entries.now (counts_of a) (limits_in a) S.sound arity inner e E body b.tables.made.now b.code.words.now b.tables.entries.now i (counts_of b) begun w in
+              let v = body-within t a.tables.names.made.now a.code.words.now a.tables.entries.words.now (counts_of a) (limits_in a) S.sound arity inner e E body b.tables.names.made.now b.code.words.now b.tables.entries.words.now i
+              (counts_of b) begun w in
               h.reaches.full y (subst (λ (l : Limits). Within l (emit_at b.code.base e (state_in t b))) (sym (B.begins S).limits) v);
           limits = h.reaches.limits ∙ (B.begins S).limits;
+          areas = areas-after (B.begins S).areas h.reaches.areas;
         };
       }
 
       module _ {y : A} (w : r ≡ Some y) where
-        left_body : Left (counts_of m) t m.tables.made.now m.code.words.now m.tables.entries.now (counts_of b) (limits_in a) (emit_at b.code.base e (state_in t b))
+        left_body : Left (counts_of m) t m.tables.names.made.now m.code.words.now m.tables.entries.words.now (counts_of b) (limits_in a) (emit_at b.code.base e (state_in t b))
         left_body =
-            subst (λ (l : Limits). Left (counts_of m) t m.tables.made.now m.code.words.now m.tables.entries.now (counts_of b) l (emit_at b.code.base e (state_in t b))) (B.begins S).limits (h.reaches.done y w).left
+            subst (λ (l : Limits). Left (counts_of m) t m.tables.names.made.now m.code.words.now m.tables.entries.words.now (counts_of b) l (emit_at b.code.base e (state_in t b))) (B.begins S).limits (h.reaches.done y w).left
 
-        pub function-end : {C : Type 0} {q : Option C} {c : Emitter} → EndsLambda q i a.code.base m c → LowersIn q whole t a c
+        pub function-end : {C : Type 0} {q : Option C} {c : Emitter} → EndsFunction q i a.code.base m c → LowersIn q whole t a c
         function-end {q = q} {c = c} x =
             let g = left_body in
             let Sm = sound-next w h.reaches in
             let same = h.reaches.limits ∙ (B.begins S).limits in
-            let known = function-known t a.tables.made.now a.code.words.now a.tables.entries.now (counts_of a) (limits_in a) S.sound arity inner e E body b.tables.made.now b.code.words.now b.tables.entries.now i (counts_of b) begun m.tables.made.now m.code.words.now m.tables.entries.now (counts_of m) g in
-            let empty = function-empty t a.tables.made.now a.code.words.now a.tables.entries.now (counts_of a) (limits_in a) S.sound arity inner e E body b.tables.made.now b.code.words.now b.tables.entries.now i (counts_of b) begun m.tables.made.now m.code.words.now m.tables.entries.now (counts_of m) g in
-            let around = function-base t a.tables.made.now a.code.words.now a.tables.entries.now (counts_of a) (limits_in a) S.sound arity inner e E body b.tables.made.now b.code.words.now b.tables.entries.now i (counts_of b) begun m.tables.made.now m.code.words.now m.tables.entries.now (counts_of m) g in
-            let state = function-state t a.tables.made.now a.code.words.now a.tables.entries.now (counts_of a) (limits_in a) S.sound arity inner e E body b.tables.made.now b.code.words.now b.tables.entries.now i (counts_of b) begun m.tables.made.now m.code.words.now m.tables.entries.now (counts_of m) g in
+            let known = function-known t a.tables.names.made.now a.code.words.now a.tables.entries.words.now (counts_of a) (limits_in a) S.sound arity inner e E body b.tables.names.made.now b.code.words.now b.tables.entries.words.now i
+            (counts_of b) begun m.tables.names.made.now m.code.words.now m.tables.entries.words.now (counts_of m) g in
+            let empty = function-empty t a.tables.names.made.now a.code.words.now a.tables.entries.words.now (counts_of a) (limits_in a) S.sound arity inner e E body b.tables.names.made.now b.code.words.now b.tables.entries.words.now i
+            (counts_of b) begun m.tables.names.made.now m.code.words.now m.tables.entries.words.now (counts_of m) g in
+            let around = function-base t a.tables.names.made.now a.code.words.now a.tables.entries.words.now (counts_of a) (limits_in a) S.sound arity inner e E body b.tables.names.made.now b.code.words.now b.tables.entries.words.now i
+            (counts_of b) begun m.tables.names.made.now m.code.words.now m.tables.entries.words.now (counts_of m) g in
+            let state = function-state t a.tables.names.made.now a.code.words.now a.tables.entries.words.now (counts_of a) (limits_in a) S.sound arity inner e E body b.tables.names.made.now b.code.words.now b.tables.entries.words.now i
+            (counts_of b) begun m.tables.names.made.now m.code.words.now m.tables.entries.words.now (counts_of m) g in
             record {
               reaches = record {
                 done = λ u p.
@@ -154,13 +204,15 @@ module _ {t : List ℕ} {a b : Emitter} {f : Option ℕ} {arity : ℕ} (S : Soun
                         state = k.state ∙ state;
                         base = k.base;
                         paced = paced-more begun.1.paced (paced-more g.paced k.paced);
-                        sound = subst (λ (l : Limits). Sound t c.tables.made.now c.code.words.now c.tables.entries.now (counts_of c) l) same k.sound;
+                        sound = subst (λ (l : Limits). Sound t c.tables.names.made.now c.code.words.now c.tables.entries.words.now (counts_of c) l) same k.sound;
                       };
                     };
                 full = λ p v.
-                    let u = last-within t a.tables.made.now a.code.words.now a.tables.entries.now (counts_of a) (limits_in a) S.sound arity inner e E body b.tables.made.now b.code.words.now b.tables.entries.now i (counts_of b) begun m.tables.made.now m.code.words.now m.tables.entries.now (counts_of m) g v in
+                    let u = last-within t a.tables.names.made.now a.code.words.now a.tables.entries.words.now (counts_of a) (limits_in a) S.sound arity inner e E body b.tables.names.made.now b.code.words.now b.tables.entries.words.now i
+                    (counts_of b) begun m.tables.names.made.now m.code.words.now m.tables.entries.words.now (counts_of m) g v in
                     return-over Sm x p (subst (λ (l : Limits). Within l (emit_at m.code.base (one Return) (state_in t m))) (sym same) u);
                 limits = x.limits ∙ same;
+                areas = areas-after (areas-after (B.begins S).areas h.reaches.areas) x.areas;
               };
             }
 
@@ -171,14 +223,14 @@ pub record Loading (t slots captured : List ℕ) (a b : Code) (i : ℕ) : Type 0
   pub inside : i ≤ length captured
   pub kept : CodeKept a b
   pub midway : (tree : List ℕ) (ts : Tables) → SoundIn tree (beside a ts)
-      → Midway (counts_of (beside b ts)) tree ts.made.now b.words.now ts.entries.now (counts_of (beside a ts)) (limits_in (beside a ts)) (loads (slot_names t slots) (names_at t (drop i captured)))
+      → Midway (counts_of (beside b ts)) tree ts.names.made.now b.words.now ts.entries.words.now (counts_of (beside a ts)) (limits_in (beside a ts)) (loads (slot_names t slots) (names_at t (drop i captured)))
       (emit_at a.base (loads (slot_names t slots) (names_at t captured)) (state_in tree (beside a ts)))
 
 pub loading-start : {t slots captured : List ℕ} {a : Code} → Loading t slots captured a a 0
 loading-start {t} {slots} {captured} {a} = record {
   inside = omega arith;
-  kept = record { base = refl; done = refl; limit = refl };
-  midway = λ tree ts S. midway_start tree ts.made.now a.words.now ts.entries.now (counts_of (beside a ts)) (limits_in (beside a ts)) (loads (slot_names t slots) (names_at t captured)) S.sound;
+  kept = record { base = refl; done = refl; limit = refl; area = refl };
+  midway = λ tree ts S. midway_start tree ts.names.made.now a.words.now ts.entries.words.now (counts_of (beside a ts)) (limits_in (beside a ts)) (loads (slot_names t slots) (names_at t captured)) S.sound;
 }
 
 module _ {t slots captured : List ℕ} {a b : Code} {i : ℕ} (G : Loading t slots captured a b i) where
@@ -190,10 +242,12 @@ module _ {t slots captured : List ℕ} {a b : Code} {i : ℕ} (G : Loading t slo
     lowers = λ tree ts S. record {
       reaches = record {
         done = λ y q. record {
-          left = midway_end (counts_of (beside b ts)) tree ts.made.now b.words.now ts.entries.now (counts_of (beside a ts)) (limits_in (beside a ts)) _ _ (G.midway tree ts S) (loads-end a.base (slot_names t slots) t captured (state_in tree (beside b ts)) i h);
+          left = midway_end (counts_of (beside b ts)) tree ts.names.made.now b.words.now ts.entries.words.now (counts_of (beside a ts)) (limits_in (beside a ts)) _ _ (G.midway tree ts S)
+              (loads-end a.base (slot_names t slots) t captured (state_in tree (beside b ts)) i h);
         };
         full = λ q. absurd (none-some x (sym q));
         limits = limits-code ts G.kept;
+        areas = areas-code ts G.kept;
       };
     };
   }
@@ -204,7 +258,7 @@ module _ {t slots captured : List ℕ} {a b : Code} {i : ℕ} (G : Loading t slo
 
     here : (tree : List ℕ) (ts : Tables) → SoundIn tree (beside a ts) → SoundIn tree (beside b ts)
     here tree ts S = record {
-      sound = subst (λ (l : Limits). Sound tree ts.made.now b.words.now ts.entries.now (counts_of (beside b ts)) l) (sym (limits-code ts G.kept)) (G.midway tree ts S).sound;
+      sound = subst (λ (l : Limits). Sound tree ts.names.made.now b.words.now ts.entries.words.now (counts_of (beside b ts)) l) (sym (limits-code ts G.kept)) (G.midway tree ts S).sound;
     }
 
     abbrev load_one : Emit
@@ -222,10 +276,10 @@ module _ {t slots captured : List ℕ} {a b : Code} {i : ℕ} (G : Loading t slo
         ≡ emit_at a.base rest (emit_at a.base load_one (state_in tree (beside b ts)))
     split tree ts S =
         loads-more a.base (slot_names t slots) t captured (state_in tree (beside b ts)) i more
-        (midway-base (counts_of (beside b ts)) tree ts.made.now b.words.now ts.entries.now (counts_of (beside a ts)) (limits_in (beside a ts)) _ _ (G.midway tree ts S))
+        (midway-base (counts_of (beside b ts)) tree ts.names.made.now b.words.now ts.entries.words.now (counts_of (beside a ts)) (limits_in (beside a ts)) _ _ (G.midway tree ts S))
 
     kept-after : {A : Type 0} {r : Option A} {c : Code} → Puts r (word 9 s 0) b c → CodeKept a c
-    kept-after h = record { base = h.kept.base ∙ G.kept.base; done = h.kept.done ∙ G.kept.done; limit = h.kept.limit ∙ G.kept.limit }
+    kept-after h = record { base = h.kept.base ∙ G.kept.base; done = h.kept.done ∙ G.kept.done; limit = h.kept.limit ∙ G.kept.limit; area = h.kept.area ∙ G.kept.area }
 
     pub loading-next : {A : Type 0} {r : Option A} {x : A} {c : Code} → r ≡ Some x → Puts r (word 9 s 0) b c → Loading t slots captured a c (i + 1)
     loading-next {x = x} {c = c} z h = record {
@@ -233,8 +287,10 @@ module _ {t slots captured : List ℕ} {a b : Code} {i : ℕ} (G : Loading t slo
       kept = kept-after h;
       midway = λ tree ts S.
           let g = ((one-load h tree ts S).reaches.done x z).left in
-          let g' = subst (λ (l : Limits). Left (counts_of (beside c ts)) tree ts.made.now c.words.now ts.entries.now (counts_of (beside b ts)) l (emit_at b.base load_one (state_in tree (beside b ts)))) (limits-code ts G.kept) g in
-          midway-next (counts_of (beside b ts)) tree ts.made.now b.words.now ts.entries.now (counts_of (beside a ts)) (limits_in (beside a ts)) _ _ (G.midway tree ts S) (counts_of (beside c ts)) ts.made.now c.words.now ts.entries.now load_one rest g' (split tree ts S);
+          let g' = subst (λ (l : Limits). Left (counts_of (beside c ts)) tree ts.names.made.now c.words.now ts.entries.words.now (counts_of (beside b ts)) l (emit_at b.base load_one (state_in tree (beside b ts))))
+          (limits-code ts G.kept) g in
+          midway-next (counts_of (beside b ts)) tree ts.names.made.now b.words.now ts.entries.words.now (counts_of (beside a ts)) (limits_in (beside a ts)) _ _ (G.midway tree ts S)
+          (counts_of (beside c ts)) ts.names.made.now c.words.now ts.entries.words.now load_one rest g' (split tree ts S);
     }
 
     pub loading-over : {A B : Type 0} {r : Option A} {q : Option B} {c : Code} → r ≡ None → q ≡ None → Puts r (word 9 s 0) b c → Writes q all a c
@@ -243,9 +299,10 @@ module _ {t slots captured : List ℕ} {a b : Code} {i : ℕ} (G : Loading t slo
         reaches = record {
           done = λ y e. absurd (none-some y (sym n ∙ e));
           full = λ e v.
-              midway-full (counts_of (beside b ts)) tree ts.made.now b.words.now ts.entries.now (counts_of (beside a ts)) (limits_in (beside a ts)) _ _ (G.midway tree ts S) load_one rest (lengthens-loads _ _)
+              midway-full (counts_of (beside b ts)) tree ts.names.made.now b.words.now ts.entries.words.now (counts_of (beside a ts)) (limits_in (beside a ts)) _ _ (G.midway tree ts S) load_one rest (lengthens-loads _ _)
               (λ w. (one-load h tree ts S).reaches.full z (subst (λ (l : Limits). Within l (emit_at b.base load_one (state_in tree (beside b ts)))) (sym (limits-code ts G.kept)) w)) (split tree ts S) v;
           limits = limits-code ts (kept-after h);
+          areas = areas-code ts (kept-after h);
         };
       };
     }

@@ -10,6 +10,7 @@ use lib.Seq.{length-take-le}
 use borrow.Rule.Slice.PartMut.{put_mid, mid_of, post_of, put_same}
 use Rattle.std.proofs.lemmas.List.{set-append_left, set-append_right}
 use Rattle.exprs.specs.ExprAt.{expr_at}
+use Rattle.exprs.proofs.ExprViews.{expr-known}
 use Rattle.state.specs.Words.{word}
 use Rattle.lower_forms.specs.Lowerable.{Lowerable, LowerableMany}
 use Rattle.lower_forms.proofs.ExprArms.{arm-inside, many-at}
@@ -52,6 +53,9 @@ module _ {r : ℕ} {t : List ℕ} {p : ℕ} {ws ws' : List ℕ} (G : Running r t
     pub running-inside : p + r < length t
     running-inside = arm-inside d t (p + r) running-head
 
+    pub running-known : get_or t (p + r) 0 < 18
+    running-known = expr-known d t (p + r) running-head.reads
+
     pub running-next : (w : ℕ) → get_or t (p + r) 0 < 3 → w ≡ word (5 - get_or t (p + r) 0) 0 0 → Running (r + 1) t p ws (set ws' r w)
     unfolding constants_put
     running-next w k e =
@@ -74,9 +78,6 @@ module _ {r : ℕ} {t : List ℕ} {p : ℕ} {ws ws' : List ℕ} (G : Running r t
             go : (m : ℕ) → r - i ≡ m → get_or t (p + i) 0 < 3
             go zero e = let q : i ≡ r = omega arith in subst (λ (j : ℕ). get_or t (p + j) 0 < 3) (sym q) k
             go (suc m) e = G.small i (omega arith)
-
-  pub running-done : Run r (length ws) t p ws ws' 0 (length ws)
-  running-done = record { few = G.inside; small = G.small; inside = omega (arith, G.inside); words = G.words }
 
 -- ---- a part put back
 

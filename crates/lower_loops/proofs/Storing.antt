@@ -19,9 +19,11 @@ use Rattle.state.proofs.Kept.{keeping-slot, keeping-global, after-slot, after-gl
 use Rattle.names.specs.Made.{made_name}
 use Rattle.names.specs.declared.Made.TheVariants.{Iterator}
 use Rattle.lower_emit.specs.declared.emitter.Code.{Code}
+use Rattle.lower_emit.specs.declared.emitter.Names.{Names}
+use Rattle.lower_emit.specs.declared.emitter.Entries.{Entries}
 use Rattle.lower_emit.specs.declared.emitter.Tables.{Tables}
 use Rattle.lower_emit.specs.declared.emitter.Emitter.{Emitter}
-use Rattle.lower_emit.specs.Emitting.{counts_of, limits_in, state_in, SoundIn, beside, NumbersIn, Writes}
+use Rattle.lower_emit.specs.Emitting.{counts_of, limits_in, state_in, SoundIn, beside, new_names, NumbersIn, Writes}
 use Rattle.lower_emit.proofs.Packing.{op-word, first_word, instr-plain, plain-below}
 use Rattle.lower_emit.proofs.Steps.{reaches_as, reaches-after, sound-next, lowers-some, lowers-none}
 use Rattle.lower_names.specs.Naming.{InternsMade, named}
@@ -75,14 +77,18 @@ slot-stored i {t} {a} S h s = (
 
 -- ---- in a global
 
-module _ {t : List ℕ} {a : Emitter} {ts : Tables} {g : Option ℕ} (S : SoundIn t a) (h : InternsMade g (made_name (Iterator (a.code.open - a.code.base))) t a.tables ts) where
+module _ {t : List ℕ} {a : Emitter} {names : Names} {entries : Entries} {g : Option ℕ} (S : SoundIn t a)
+    (h : InternsMade g (made_name (Iterator (a.code.open - a.code.base))) t a.tables.names names a.tables.entries entries) where
+  abbrev ts : Tables
+  ts = new_names names entries a.tables
+
   -- the place of the store
   place : a.code.open - a.code.base ≡ length (state_in t a).stack - a.code.base
-  place = ap (λ (n : ℕ). n - a.code.base) (sym (stack-length t a.tables.made.now a.code.words.now a.tables.entries.now (counts_of a) (limits_in a) S.sound))
+  place = ap (λ (n : ℕ). n - a.code.base) (sym (stack-length t a.tables.names.made.now a.code.words.now a.tables.entries.words.now (counts_of a) (limits_in a) S.sound))
 
   numbered : NumbersIn g (symbol_number (iter_name (length (state_in t a).stack - a.code.base)) (state_in t a).tables) t a (beside a.code ts) (named (iter_name (length (state_in t a).stack - a.code.base)) (state_in t a))
   unfolding made_name
-  numbered = subst (λ (n : ℕ). NumbersIn g (symbol_number (iter_name n) (state_in t a).tables) t a (beside a.code ts) (named (iter_name n) (state_in t a))) place (h.numbers a.code S)
+  numbered = subst (λ (n : ℕ). NumbersIn g (symbol_number (iter_name n) (state_in t a).tables) t a (beside a.code ts) (named (iter_name n) (state_in t a))) place ((h.tables a.tables).numbers a.code S)
 
   pub global-over : {q : Option ℕ} → g ≡ None → q ≡ None → StoresIterator q in_globals t a (beside a.code ts)
   unfolding kept_at
@@ -93,6 +99,7 @@ module _ {t : List ℕ} {a : Emitter} {ts : Tables} {g : Option ℕ} (S : SoundI
         done = λ m e. absurd (none-some m (sym n ∙ e));
         full = λ e w. numbered.reaches.full z (within-one a.code.base (store_iter (keeper_at a.code.base in_globals (state_in t a))) _ w);
         limits = numbered.reaches.limits;
+        areas = numbered.reaches.areas;
       };
     };
     loads = λ m e. absurd (none-some m (sym n ∙ e));

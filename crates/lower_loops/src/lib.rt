@@ -1,4 +1,5 @@
 // The iterator of a for loop.
+// That a word loads the keeper (Loads) is said of a number that the rounds pass on: a struct would hold that number alone.
 #![tactic(auto)]
 
 ghost use Rattle.std.specs.Prelude.{◌≡◌, ◌<◌, length};
@@ -30,7 +31,8 @@ pub(crate) fn emit_made(tree: &[u8], e: &mut Emitter<'_>, m: Made, op: u32, b: u
     requires { SoundIn tree.now e.old × (length (made_name m) < 20) × Plain op 0 b }
     ensures { LowersIn result (Emission.intern (made_name m) (λ k. one (instr op k b))) tree.now e.old e.new }
 {
-    let symbol = intern_made(tree, &mut e.tables, m)?;
+    let tables = &mut e.tables;
+    let symbol = intern_made(tree, &mut tables.names, &mut tables.entries, m)?;
     e.code.put_op(op, symbol, b)
 }
 
@@ -57,7 +59,9 @@ fn store_global(tree: &[u8], e: &mut Emitter<'_>) -> Option<u32>
     ensures { StoresIterator result in_globals tree.now e.old e.new }
 {
     let place = e.code.open - e.code.base;
-    let global = intern_made(tree, &mut e.tables, Made::Iterator(place))?;
+    let tables = &mut e.tables;
+    let m = Made::Iterator(place);
+    let global = intern_made(tree, &mut tables.names, &mut tables.entries, m)?;
     store_kept(&mut e.code, STORE_GLOBAL, LOAD_GLOBAL, global)
 }
 

@@ -1,5 +1,5 @@
 -- A function that begins once its name has a number.
-use Prim.Native.Nat.{ℕ, ◌+◌, ◌≤◌}
+use Prim.Native.Nat.{ℕ}
 use mathlib.Core.Path.{◌≡◌, refl, sym, ap, subst, ◌∙◌}
 use mathlib.Core.List.{List, [], ◌∷◌}
 use native.Mathlib.Omega.{arith}
@@ -17,7 +17,7 @@ use Rattle.lower_emit.specs.Nesting.{begun_with}
 use Rattle.lower_emit.specs.declared.emitter.Emitter.{Emitter}
 use Rattle.lower_emit.specs.Emitting.{counts_of, limits_in, state_in, SoundIn, NumbersIn, BeginsIn}
 use Rattle.lower_emit.proofs.Answering.{open_after}
-use Rattle.lower_emit.proofs.Steps.{sound-next}
+use Rattle.lower_emit.proofs.Steps.{sound-next, areas-after}
 use Rattle.lower_names.specs.Naming.{named}
 
 within-begun_with : {l : Limits} (k arity n : ℕ) (s : State) → Within l (begun_with k arity n s) → Within l s
@@ -34,19 +34,20 @@ module _ {tree : List ℕ} {a b : Emitter} {i : Option ℕ} (x : Name) (S : Soun
     more = λ m q. absurd (none-some m (sym e ∙ q));
     full = λ q w. h.reaches.full z (within-begun_with _ _ _ _ w);
     limits = h.reaches.limits;
+    areas = h.reaches.areas;
   }
 
   module _ {j : ℕ} (z : i ≡ Some j) where
     pub named-sound : SoundIn tree b
     named-sound = sound-next z h.reaches
 
-    got : Left (counts_of b) tree b.tables.made.now b.code.words.now b.tables.entries.now (counts_of a) (limits_in a) (named x (state_in tree a))
+    got : Left (counts_of b) tree b.tables.names.made.now b.code.words.now b.tables.entries.words.now (counts_of a) (limits_in a) (named x (state_in tree a))
     got = (h.reaches.done j z).left
 
     same-open : b.code.open ≡ a.code.open
     same-open =
-        open_after tree b.tables.made.now b.code.words.now b.tables.entries.now (counts_of a) (counts_of b) (limits_in a) (named x (state_in tree a)) got
-        ∙ stack-length tree a.tables.made.now a.code.words.now a.tables.entries.now (counts_of a) (limits_in a) S.sound
+        open_after tree b.tables.names.made.now b.code.words.now b.tables.entries.words.now (counts_of a) (counts_of b) (limits_in a) (named x (state_in tree a)) got
+        ∙ stack-length tree a.tables.names.made.now a.code.words.now a.tables.entries.words.now (counts_of a) (limits_in a) S.sound
 
     pub named-begins : {r : Option ℕ} {c : Emitter} (arity locals : ℕ) → BeginsIn r (length (state_in tree b).tables.functions) tree b c (begun_with j arity locals (state_in tree b))
         → BeginsIn r (length (state_in tree a).tables.functions) tree a c (begun_with (symbol_number x (state_in tree a).tables) arity locals (named x (state_in tree a)))
@@ -61,10 +62,11 @@ module _ {tree : List ℕ} {a b : Emitter} {i : Option ℕ} (x : Name) (S : Soun
                   state = m.state ∙ begun-is;
                   base = m.base ∙ same-open;
                   paced = paced-more got.paced m.paced;
-                  sound = subst (λ (l : Limits). Sound tree c.tables.made.now c.code.words.now c.tables.entries.now (counts_of c) l) h.reaches.limits m.sound;
+                  sound = subst (λ (l : Limits). Sound tree c.tables.names.made.now c.code.words.now c.tables.entries.words.now (counts_of c) l) h.reaches.limits m.sound;
                 };
               };
           more = λ n e. omega (arith, g.more n e, got.paced.methods);
           full = λ e w. g.full e (subst (λ (z : Type 0). z) (λ k. Within (sym h.reaches.limits k) (sym begun-is k)) w);
           limits = g.limits ∙ h.reaches.limits;
+          areas = areas-after h.reaches.areas g.areas;
         }

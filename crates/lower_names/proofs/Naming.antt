@@ -45,6 +45,7 @@ module _ {tree : List ℕ} {a m : Emitter} {i : Option ℕ} {number : ℕ} {mid 
       done = λ y e. absurd (none-some y (sym n ∙ e));
       full = λ e w. h.reaches.full z (within-one a.code.base (f number) mid (subst (Within (limits_in a)) at w));
       limits = h.reaches.limits;
+      areas = h.reaches.areas;
     };
   }
 

@@ -1,4 +1,6 @@
 // Names and strings numbered in the path of the emission: each part speaks of what it touches.
+// Naming and Texts speak of the tree and of tables that are lent apart, so that a step asks for those alone that it uses: one struct of them would ask for more.
+// The bound of a single number stays a clause: a type for it would be opened at each use.
 #![tactic(auto)]
 
 ghost use Rattle.std.specs.Prelude.{◌≡◌, ◌+◌, ◌<◌, ◌≤◌, ◌^◌, length};
@@ -8,15 +10,15 @@ ghost use Rattle.definitions.specs.Tables.{one, get_or_add_string};
 ghost use Rattle.definitions.specs.Lower as Lower;
 ghost use Rattle.definitions.specs.Lower.{load, store};
 ghost use Rattle.state.specs.Words.{name_at, text_at};
-ghost use Rattle.state.specs.State.{MadeWithin, SymbolIndex, StringIndex, slot_names};
+ghost use Rattle.state.specs.State.{MadeWithin, SymbolIndex, slot_names};
 ghost use Rattle.names.specs.Made.{made_name};
 ghost use Rattle.lower_emit.specs.Ops.{Plain};
 ghost use Rattle.lower_emit.specs.Emitting.{Puts, SoundIn, LowersIn};
 ghost use Rattle.lower_forms.specs.Lowerable.{load_callee};
 ghost use Rattle.lower_names.specs.Variable.{variable};
-ghost use Rattle.lower_names.specs.Naming.{Naming, SeeksSymbol, SeeksText, Interns, InternsMade, Adds, Quotes, Resolves, ResolvesFunction, callee_of, call_word};
+ghost use Rattle.lower_names.specs.Naming.{Naming, Texts, SeeksSymbol, SeeksText, Interns, InternsMade, Adds, Quotes, Resolves, ResolvesFunction, callee_of, call_word};
 
-use lower_emit::emitter::{Code, Emitter, Tables};
+use lower_emit::emitter::{Code, Emitter, Entries, Names, Used};
 use lower_emit::packed;
 use names::Made;
 use names::calls::find_builtin;
@@ -36,8 +38,8 @@ use state::Scope;
 // What a call of a name calls.
 #[derive(Clone, Copy)]
 pub enum Callee {
-    Builtin(u8),
-    Function(u8),
+    Builtin(u16),
+    Function(u16),
     Value,
 }
 
@@ -50,19 +52,17 @@ struct Sought {
 }
 
 // Where the symbol that the word w spells is sought.
-fn seek_symbol(tree: &[u8], tables: &Tables<'_>, w: u32) -> Sought
-    requires { SymbolIndex tree.now tables.now.made.now tables.now.entries.now tables.now.symbols }
-    ensures { SeeksSymbol result tree.now tables.now w }
+fn seek_symbol(tree: &[u8], names: &Names<'_>, entries: &Entries<'_>, w: u32) -> Sought
+    requires { Naming tree.now names.now entries.now }
+    ensures { SeeksSymbol result tree.now names.now entries.now w }
 {
-    let name = spelling(tree, tables.made, w);
+    let name = spelling(tree, names.made, w);
     let bucket = hash(name) % SYMBOL_BUCKETS;
-    let index = &tables.entries[SYMBOL_INDEX_FROM..STRING_INDEX_FROM];
-    let first = first_number(index, bucket, tables.symbols);
-    let rest = &tables.entries[first as usize..tables.symbols as usize];
-    let found = match find_spelling(tree, tables.made, rest, name) {
-        Some(i) => Some(first + i as u32),
-        None => None,
-    };
+    let index = &entries.words[SYMBOL_INDEX_FROM..STRING_INDEX_FROM];
+    let count = names.symbols.count;
+    let first = first_number(index, bucket, count);
+    let rest = &entries.words[first as usize..count as usize];
+    let found = find_spelling(tree, names.made, rest, name).map(|i| first + i as u32);
     Sought {
         bucket,
         first,
@@ -71,51 +71,59 @@ fn seek_symbol(tree: &[u8], tables: &Tables<'_>, w: u32) -> Sought
 }
 
 // The number of the symbol that the word w spells; none where there is no room. A made name takes `grow` bytes if it is new.
-pub fn intern(tree: &[u8], tables: &mut Tables<'_>, w: u32, grow: u32) -> Option<u32>
-    requires { Naming tree.now tables.old × MadeWithin tables.old.made.now (tables.old.made_len + grow) w × (grow ≤ 20) }
-    ensures { Interns result tree.now tables.old tables.new w }
+pub fn intern(
+    tree: &[u8],
+    names: &mut Names<'_>,
+    entries: &mut Entries<'_>,
+    w: u32,
+    grow: u32,
+) -> Option<u32>
+    requires { Naming tree.now names.old entries.old × MadeWithin names.old.made.now (names.old.made_len + grow) w × (grow ≤ 20) }
+    ensures { Interns result tree.now names.old names.new entries.old entries.new w }
 {
-    let sought = seek_symbol(tree, tables, w);
+    let sought = seek_symbol(tree, names, entries, w);
     if let Some(i) = sought.found {
         return Some(i);
     }
-    let n = tables.symbols;
-    if tables.limits.symbols <= n {
+    let n = names.symbols.count;
+    if names.symbols.limit <= n {
         return None;
     }
-    tables.entries[n as usize] = w;
-    tables.entries[SYMBOL_INDEX_FROM + sought.bucket as usize] = sought.first + 1;
-    tables.symbols = n + 1;
-    tables.made_len += grow;
+    entries.words[n as usize] = w;
+    entries.words[SYMBOL_INDEX_FROM + sought.bucket as usize] = sought.first + 1;
+    names.symbols.count = n + 1;
+    names.made_len += grow;
     Some(n)
 }
 
 // The number of the symbol with a made name.
-pub fn intern_made(tree: &[u8], tables: &mut Tables<'_>, m: Made) -> Option<u32>
-    requires { Naming tree.now tables.old × (length (made_name m) < 20) }
-    ensures { InternsMade result (made_name m) tree.now tables.old tables.new }
+pub fn intern_made(
+    tree: &[u8],
+    names: &mut Names<'_>,
+    entries: &mut Entries<'_>,
+    m: Made,
+) -> Option<u32>
+    requires { Naming tree.now names.old entries.old × (length (made_name m) < 20) }
+    ensures { InternsMade result (made_name m) tree.now names.old names.new entries.old entries.new }
 {
-    let at = tables.made_len;
-    let made = &mut *tables.made;
+    let at = names.made_len;
+    let made = &mut *names.made;
     let grow = write_made(made, at as usize, m);
-    intern(tree, tables, MADE_FROM + at, grow)
+    intern(tree, names, entries, MADE_FROM + at, grow)
 }
 
 // Where the string at `at` is sought.
-fn seek_text(tree: &[u8], tables: &Tables<'_>, at: usize) -> Sought
-    requires { StringIndex tree.now tables.now.entries.now tables.now.strings }
-    ensures { SeeksText result tree.now tables.now at }
+fn seek_text(tree: &[u8], strings: Used<512>, entries: &Entries<'_>, at: usize) -> Sought
+    requires { Texts tree.now strings entries.now }
+    ensures { SeeksText result tree.now strings entries.now at }
 {
     let text = text_part(tree, at);
     let bucket = hash(text) % STRING_BUCKETS;
-    let index = &tables.entries[STRING_INDEX_FROM..STRING_INDEX_END];
-    let first = first_number(index, bucket, tables.strings);
+    let index = &entries.words[STRING_INDEX_FROM..STRING_INDEX_END];
+    let first = first_number(index, bucket, strings.count);
     let from = STRINGS_FROM + first as usize;
-    let end = STRINGS_FROM + tables.strings as usize;
-    let found = match find_text(tree, &tables.entries[from..end], text) {
-        Some(i) => Some(first + i as u32),
-        None => None,
-    };
+    let end = STRINGS_FROM + strings.count as usize;
+    let found = find_text(tree, &entries.words[from..end], text).map(|i| first + i as u32);
     Sought {
         bucket,
         first,
@@ -124,46 +132,60 @@ fn seek_text(tree: &[u8], tables: &Tables<'_>, at: usize) -> Sought
 }
 
 // The number of the string at `at`; none where there is no room.
-fn string_number(tree: &[u8], tables: &mut Tables<'_>, at: usize) -> Option<u32>
-    requires { StringIndex tree.now tables.old.entries.now tables.old.strings × (at < 2 ^ 32) }
-    ensures { Adds result tree.now tables.old tables.new at }
+fn string_number(
+    tree: &[u8],
+    strings: &mut Used<512>,
+    entries: &mut Entries<'_>,
+    at: usize,
+) -> Option<u32>
+    requires { Texts tree.now strings.old entries.old × (at < 2 ^ 32) }
+    ensures { Adds result tree.now strings.old strings.new entries.old entries.new at }
 {
-    let sought = seek_text(tree, tables, at);
+    let sought = seek_text(tree, *strings, entries, at);
     if let Some(i) = sought.found {
         return Some(i);
     }
-    let n = tables.strings;
-    if tables.limits.strings <= n {
+    let n = strings.count;
+    if strings.limit <= n {
         return None;
     }
-    tables.entries[STRINGS_FROM + n as usize] = at as u32;
-    tables.entries[STRING_INDEX_FROM + sought.bucket as usize] = sought.first + 1;
-    tables.strings = n + 1;
+    entries.words[STRINGS_FROM + n as usize] = at as u32;
+    entries.words[STRING_INDEX_FROM + sought.bucket as usize] = sought.first + 1;
+    strings.count = n + 1;
     Some(n)
 }
 
 // An instruction with the symbol of the name at `at`, and b.
 pub fn emit_symbol(tree: &[u8], e: &mut Emitter<'_>, at: usize, op: u32, b: u32) -> Option<()>
     requires { SoundIn tree.now e.old × (at < 32768) × Plain op 0 b }
-    ensures { LowersIn result (Emission.intern (name_at tree.now at) (λ k. one (instr op k b))) tree.now e.old e.new }
+    ensures lowers { LowersIn result (Emission.intern (name_at tree.now at) (λ k. one (instr op k b))) tree.now e.old e.new }
+    ensures made { e.new.tables.names.made.now ≡ e.old.tables.names.made.now }
 {
-    let i = intern(tree, &mut e.tables, at as u32, 0)?;
+    let tables = &mut e.tables;
+    let i = intern(tree, &mut tables.names, &mut tables.entries, at as u32, 0)?;
     e.code.put_op(op, i, b)
 }
 
 // ConstStr of the string at `at`.
-pub fn emit_string(tree: &[u8], e: &mut Emitter<'_>, at: usize) -> Option<()>
-    requires { StringIndex tree.now e.old.tables.entries.now e.old.tables.strings × (at < 2 ^ 32) }
-    ensures { Quotes result (get_or_add_string (text_at tree.now at) (λ k. one (ConstStr k))) tree.now e.old e.new }
+pub fn emit_string(
+    tree: &[u8],
+    strings: &mut Used<512>,
+    entries: &mut Entries<'_>,
+    code: &mut Code<'_>,
+    at: usize,
+) -> Option<()>
+    requires { Texts tree.now strings.old entries.old × (at < 2 ^ 32) }
+    ensures { Quotes result (get_or_add_string (text_at tree.now at) (λ k. one (ConstStr k))) tree.now strings.old strings.new entries.old entries.new code.old code.new }
 {
-    let i = string_number(tree, &mut e.tables, at)?;
-    e.code.put_op(CONST_STR, i, 0)
+    let i = string_number(tree, strings, entries, at)?;
+    code.put_op(CONST_STR, i, 0)
 }
 
 // The variable at `at` by its slot with `op`, else by the global of its name, whose opcode is two more.
 fn emit_variable(s: Scope<'_>, e: &mut Emitter<'_>, at: usize, op: u32) -> Option<()>
     requires { SoundIn s.tree.now e.old × (at < 32768) × (9 ≤ op) × (op ≤ 10) }
-    ensures { LowersIn result (variable op (slot_names s.entry.tree.now s.entry.slots.now) (name_at s.entry.tree.now at)) s.entry.tree.now e.old e.new }
+    ensures lowers { LowersIn result (variable op (slot_names s.entry.tree.now s.entry.slots.now) (name_at s.entry.tree.now at)) s.entry.tree.now e.old e.new }
+    ensures made { e.new.tables.names.made.now ≡ e.old.tables.names.made.now }
 {
     if let Some(slot) = find_slot(s.tree, s.slots, at) {
         return e.code.put_op(op, slot, 0);
@@ -174,7 +196,8 @@ fn emit_variable(s: Scope<'_>, e: &mut Emitter<'_>, at: usize, op: u32) -> Optio
 // The value of the variable at `at`.
 pub fn emit_load(s: Scope<'_>, e: &mut Emitter<'_>, at: usize) -> Option<()>
     requires { SoundIn s.tree.now e.old × (at < 32768) }
-    ensures { LowersIn result (load (slot_names s.entry.tree.now s.entry.slots.now) (name_at s.entry.tree.now at)) s.entry.tree.now e.old e.new }
+    ensures lowers { LowersIn result (load (slot_names s.entry.tree.now s.entry.slots.now) (name_at s.entry.tree.now at)) s.entry.tree.now e.old e.new }
+    ensures made { e.new.tables.names.made.now ≡ e.old.tables.names.made.now }
 {
     emit_variable(s, e, at, LOAD_LOCAL)
 }
@@ -182,46 +205,62 @@ pub fn emit_load(s: Scope<'_>, e: &mut Emitter<'_>, at: usize) -> Option<()>
 // The value on the stack goes to the variable at `at`.
 pub fn emit_store(s: Scope<'_>, e: &mut Emitter<'_>, at: usize) -> Option<()>
     requires { SoundIn s.tree.now e.old × (at < 32768) }
-    ensures { LowersIn result (store (slot_names s.entry.tree.now s.entry.slots.now) (name_at s.entry.tree.now at)) s.entry.tree.now e.old e.new }
+    ensures lowers { LowersIn result (store (slot_names s.entry.tree.now s.entry.slots.now) (name_at s.entry.tree.now at)) s.entry.tree.now e.old e.new }
+    ensures made { e.new.tables.names.made.now ≡ e.old.tables.names.made.now }
 {
     emit_variable(s, e, at, STORE_LOCAL)
 }
 
 // The function so far whose name is the one given, else a value.
-fn resolve_function_id(tree: &[u8], tables: &Tables<'_>, name: &[u8]) -> Callee
-    requires { SymbolIndex tree.now tables.now.made.now tables.now.entries.now tables.now.symbols }
-    ensures { ResolvesFunction result name.now tree.now tables.now }
+fn resolve_function_id(
+    tree: &[u8],
+    names: &Names<'_>,
+    entries: &Entries<'_>,
+    functions: u32,
+    name: &[u8],
+) -> Callee
+    requires { SymbolIndex tree.now names.now.made.now entries.now.words.now names.now.symbols.count × (names.now.symbols.count ≤ 1024) × (functions ≤ 256) }
+    ensures { ResolvesFunction result name.now tree.now names.now entries.now functions }
 {
-    let Some(symbol) = find_symbol(tree, tables.made, tables.entries, tables.symbols, name) else {
+    let count = names.symbols.count;
+    let Some(symbol) = find_symbol(tree, names.made, entries.words, count, name) else {
         return Callee::Value;
     };
-    let end = HEADS_FROM + tables.functions as usize;
-    match find_head(&tables.entries[HEADS_FROM..end], symbol) {
-        Some(f) => Callee::Function(f as u8),
+    let end = HEADS_FROM + functions as usize;
+    match find_head(&entries.words[HEADS_FROM..end], symbol) {
+        Some(f) => Callee::Function(f as u16),
         None => Callee::Value,
     }
 }
 
 // What a call of the name at `at` calls.
-pub fn resolve(tree: &[u8], tables: &Tables<'_>, at: usize) -> Callee
-    requires { SymbolIndex tree.now tables.now.made.now tables.now.entries.now tables.now.symbols }
-    ensures { Resolves result (name_at tree.now at) tree.now tables.now }
+pub fn resolve(
+    tree: &[u8],
+    names: &Names<'_>,
+    entries: &Entries<'_>,
+    functions: u32,
+    classes: u32,
+    at: usize,
+) -> Callee
+    requires { SymbolIndex tree.now names.now.made.now entries.now.words.now names.now.symbols.count × (names.now.symbols.count ≤ 1024) × (functions ≤ 256) × (classes ≤ 64) }
+    ensures { Resolves result (name_at tree.now at) tree.now names.now entries.now functions classes }
 {
     let name = name_part(tree, at);
     if let Some(id) = find_builtin(name) {
-        return Callee::Builtin(id as u8);
+        return Callee::Builtin(id as u16);
     }
-    let end = CLASS_NAMES_FROM + tables.classes as usize;
-    if find_place(tree, &tables.entries[CLASS_NAMES_FROM..end], name).is_some() {
+    let end = CLASS_NAMES_FROM + classes as usize;
+    if find_place(tree, &entries.words[CLASS_NAMES_FROM..end], name).is_some() {
         return Callee::Value;
     }
-    resolve_function_id(tree, tables, name)
+    resolve_function_id(tree, names, entries, functions, name)
 }
 
 // A callee that is a value is loaded.
 pub fn load_callee(s: Scope<'_>, e: &mut Emitter<'_>, at: usize, callee: Callee) -> Option<()>
     requires { SoundIn s.tree.now e.old × (at < 32768) }
-    ensures { LowersIn result (load_callee (callee_of callee) (slot_names s.entry.tree.now s.entry.slots.now) (name_at s.entry.tree.now at)) s.entry.tree.now e.old e.new }
+    ensures lowers { LowersIn result (load_callee (callee_of callee) (slot_names s.entry.tree.now s.entry.slots.now) (name_at s.entry.tree.now at)) s.entry.tree.now e.old e.new }
+    ensures made { e.new.tables.names.made.now ≡ e.old.tables.names.made.now }
 {
     match callee {
         Callee::Value => emit_load(s, e, at),

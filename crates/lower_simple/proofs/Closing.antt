@@ -22,5 +22,5 @@ module _ {A : Type 0} {r : Option A} {a b : Code} (init : Bool) where
         let m = beside a ts in
         let s = state_in t m in
         lowers-state (h.lowers t ts S)
-        (sym (end-init init a.base s e) ∙ sym (at-seq a.base (one (instr 9 0 0)) (one (instr 33 0 0)) s (base-below t ts.made.now a.words.now ts.entries.now (counts_of m) (limits_in m) S.sound)));
+        (sym (end-init init a.base s e) ∙ sym (at-seq a.base (one (instr 9 0 0)) (one (instr 33 0 0)) s (base-below t ts.names.made.now a.words.now ts.entries.words.now (counts_of m) (limits_in m) S.sound)));
   }

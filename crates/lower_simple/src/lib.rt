@@ -1,4 +1,6 @@
 // Parts of statements that hold no block: a value and the instruction that takes it, the iterator of a for loop, simple statements, the end of a function.
+// A position and the levels left there stay two numbers: each call gives both anew, so a struct of them would be made for each call; and what a clause asks
+// of the tree (Lowerable, StmtLowerable) is said of the place that a call names, so it belongs to no value that lives on.
 #![tactic(auto)]
 
 ghost use Rattle.std.specs.Prelude.{◌≡◌, List, ℕ, ◌+◌, ◌-◌, ◌<◌, get_or};
@@ -12,9 +14,9 @@ ghost use Rattle.exprs.specs.ExprAt.{expr_at};
 ghost use Rattle.tree.specs.StmtAt.{stmt_at};
 ghost use Rattle.state.specs.Words.{word, instr_of, name_at};
 ghost use Rattle.state.specs.State.{slot_names};
-ghost use Rattle.lower_forms.specs.Lowerable.{Lowerable, expr_code};
+ghost use Rattle.lower_forms.specs.Lowerable.{SoleIn, Lowerable, expr_code};
 ghost use Rattle.lower_forms.specs.Lowering.{StmtLowerable, stmt_code, end_of};
-ghost use Rattle.lower_emit.specs.Emitting.{SoundIn, EmitsTo, Writes};
+ghost use Rattle.lower_emit.specs.Emitting.{EmitsTo, Writes};
 
 use byte_tests::same_bytes;
 use lower_emit::emitter::{Code, Emitter};
@@ -22,8 +24,8 @@ use lower_expr::emit_expr;
 use lower_loops::make_iterator;
 use lower_targets::emit_assign;
 use names::spell::name_part;
+use numerals::kinds::StmtKind;
 use numerals::ops::{BREAK, CONTINUE, LOAD_LOCAL, POP, RETURN};
-use numerals::stmt;
 use state::Scope;
 
 // An expression, and the instruction that takes its value: JumpIfFalse is the jump past what follows, which is not known yet.
@@ -34,7 +36,7 @@ pub fn emit_value(
     depth: u32,
     op: u32,
 ) -> Option<usize>
-    requires { SoundIn s.tree.now e.old × Lowerable depth s.tree.now at × (op < 256) × ((t : List ℕ) → instr_of t (word op 0 0) ≡ instr op 0 0) }
+    requires { SoleIn s.tree.now e.old × Lowerable depth s.tree.now at × (op < 256) × ((t : List ℕ) → instr_of t (word op 0 0) ≡ instr op 0 0) }
     ensures { let t = s.entry.tree.now in let names = slot_names t s.entry.slots.now in
         EmitsTo result (expr_code depth t names at ⨟ one (instr op 0 0)) (expr_at depth t at).end t e.old e.new }
 {
@@ -45,7 +47,7 @@ pub fn emit_value(
 
 // What a for loop goes through, and its iterator.
 pub fn emit_iterable(s: Scope<'_>, e: &mut Emitter<'_>, at: usize, depth: u32) -> Option<usize>
-    requires { SoundIn s.tree.now e.old × Lowerable depth s.tree.now at }
+    requires { SoleIn s.tree.now e.old × Lowerable depth s.tree.now at }
     ensures { let t = s.entry.tree.now in let names = slot_names t s.entry.slots.now in
         EmitsTo result (expr_code depth t names at ⨟ make_iter) (expr_at depth t at).end t e.old e.new }
 {
@@ -56,31 +58,32 @@ pub fn emit_iterable(s: Scope<'_>, e: &mut Emitter<'_>, at: usize, depth: u32) -
 
 // A statement that holds no block: Break, Continue, Pass, Expr, Return or Assign. It has no loops, wherever these keep their iterators.
 pub fn emit_simple(s: Scope<'_>, e: &mut Emitter<'_>, at: usize, depth: u32) -> Option<usize>
-    requires { SoundIn s.tree.now e.old × StmtLowerable depth s.tree.now at × (get_or s.tree.now at 0 < 6) }
+    requires { SoleIn s.tree.now e.old × StmtLowerable depth s.tree.now at × (get_or s.tree.now at 0 < 6) }
     ensures { let t = s.entry.tree.now in let names = slot_names t s.entry.slots.now in
         (keep : Keeping) → EmitsTo result (stmt_code depth t names keep at) (stmt_at depth t at).end t e.old e.new }
 {
     let a = at + 1;
     let below = depth - 1;
-    match s.tree[at] {
-        stmt::BREAK => {
+    match StmtKind::of(s.tree[at]) {
+        StmtKind::Break => {
             e.code.put_op(BREAK, 0, 0)?;
             Some(a)
         }
-        stmt::CONTINUE => {
+        StmtKind::Continue => {
             e.code.put_op(CONTINUE, 0, 0)?;
             Some(a)
         }
-        stmt::PASS => Some(a),
-        stmt::EXPR => emit_value(s, e, a, below, POP),
-        stmt::RETURN => emit_value(s, e, a, below, RETURN),
+        StmtKind::Pass => Some(a),
+        StmtKind::Expr => emit_value(s, e, a, below, POP),
+        StmtKind::Return => emit_value(s, e, a, below, RETURN),
         _ => emit_assign(s, e, a, below),
     }
 }
 
 // The end of a function; that of `__init__` returns its object.
 pub fn put_end(code: &mut Code<'_>, init: bool) -> Option<()>
-    ensures { Writes result (emits (end_of init)) code.old code.new }
+    ensures writes { Writes result (emits (end_of init)) code.old code.new }
+    ensures area { code.new.words.ghost_name ≡ code.old.words.ghost_name }
 {
     if init {
         code.put_op(LOAD_LOCAL, 0, 0)?;

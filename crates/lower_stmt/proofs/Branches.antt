@@ -30,13 +30,13 @@ use Rattle.lower_forms.proofs.StmtArms.{elifs-more, elifs-is, elifs-zero, else-p
 use Rattle.lower_forms.proofs.Sequences.{elifs-at, elifs-end, else-value, else-ends}
 use Rattle.lower_emit.specs.declared.emitter.Code.{Code}
 use Rattle.lower_emit.specs.declared.emitter.Emitter.{Emitter}
-use Rattle.lower_emit.specs.Emitting.{limits_in, state_in, SoundIn, beside, LeftIn, Reaches, LowersIn, NextIs, EmitsTo, SetsJump}
+use Rattle.lower_emit.specs.Emitting.{limits_in, state_in, SoundIn, beside, SameAreas, LeftIn, Reaches, LowersIn, NextIs, EmitsTo, SetsJump}
 use Rattle.lower_emit.specs.Ends.{EndsBranch, EndsLoop}
-use Rattle.lower_emit.proofs.Steps.{sound-next, left-next, reaches_as, reaches-after, some-is}
+use Rattle.lower_emit.proofs.Steps.{areas-none, areas-after, sound-next, left-next, reaches_as, reaches-after, some-is}
 use Rattle.lower_emit.proofs.Parts.{emits-by}
 use Rattle.lower_loops.specs.Iterators.{keeper_of, Loads, StoresIterator}
 use Rattle.lower_loops.proofs.Storing.{loads-self}
-use Rattle.lower_stmt.proofs.Between.{stack-long, stack-low, left-itself, open-left, left-own, left-by, left-sound, reached_by, jump-in, jump-limits, next-none, reaches-full, emits-full}
+use Rattle.lower_stmt.proofs.Between.{stack-long, stack-low, left-itself, open-left, left-own, left-by, left-sound, reached_by, jump-in, jump-limits, jump-areas, next-none, reaches-full, emits-full}
 use Rattle.lower_stmt.proofs.Jumping.{first-above, last-above, loop-is, branch-is, inside-within, head-within, question-within, block_within, branch-long}
 use Rattle.lower_stmt.proofs.Jumping.{if_some, if-is, for-within, for-is, iterable-within}
 
@@ -44,11 +44,11 @@ use Rattle.lower_stmt.proofs.Jumping.{if_some, if-is, for-within, for-is, iterab
 
 module _ {A : Type 0} {t : List ℕ} {a a₁ : Emitter} {p : Option A} (head : Emit) (i : Instr) (S : SoundIn t a) (g : LowersIn p (head ⨟ one i) t a a₁) where
   pub loop-stopped : {q : Option ℕ} {inside : Emit} {next : ℕ} → Lengthens inside → p ≡ None → q ≡ None → EmitsTo q (loop head inside) next t a a₁
-  loop-stopped E z n = emits-full refl z n g.reaches (head-within head i a.code.base (state_in t a) (stack-low S) E)
+  loop-stopped E z n = emits-full refl areas-none z n g.reaches (head-within head i a.code.base (state_in t a) (stack-low S) E)
 
   module _ {x : A} (y : p ≡ Some x) {B : Type 0} {a₂ : Emitter} {r : Option B} {inside : Emit} (h : LowersIn r inside t a₁ a₂) where
     pub loop-over : {q : Option ℕ} {next : ℕ} → r ≡ None → q ≡ None → EmitsTo q (loop head inside) next t a a₂
-    loop-over z n = emits-full g.reaches.limits z n h.reaches (inside-within S head i (g.reaches.done x y) inside)
+    loop-over z n = emits-full g.reaches.limits g.reaches.areas z n h.reaches (inside-within S head i (g.reaches.done x y) inside)
 
     pub inside-above : a.code.open < a₁.code.open
     inside-above = first-above S head i (g.reaches.done x y)
@@ -66,11 +66,11 @@ module _ {A : Type 0} {t : List ℕ} {a a₁ : Emitter} {p : Option A} (head : E
 
 module _ {t : List ℕ} {a a₁ : Emitter} {p : Option ℕ} {n : ℕ} (names : List Name) (keep : Keeping) (x : Expr) (b : Block) (i : Instr) (S : SoundIn t a) (g : EmitsTo p (emit_expr names x ⨟ one i) n t a a₁) where
   pub branch-stopped : {q : Option ℕ} {next : ℕ} → p ≡ None → q ≡ None → EmitsTo q (branch names keep x b) next t a a₁
-  branch-stopped z e = emits-full refl z e g.lowers.reaches (question-within names keep x b i a.code.base (state_in t a) (stack-low S))
+  branch-stopped z e = emits-full refl areas-none z e g.lowers.reaches (question-within names keep x b i a.code.base (state_in t a) (stack-low S))
 
   module _ {k : ℕ} (y : p ≡ Some k) {a₂ : Emitter} {r : Option ℕ} {m : ℕ} (h : EmitsTo r (emit_block names keep b) m t a₁ a₂) where
     pub branch-over : {q : Option ℕ} {next : ℕ} → r ≡ None → q ≡ None → EmitsTo q (branch names keep x b) next t a a₂
-    branch-over z e = emits-full g.lowers.reaches.limits z e h.lowers.reaches (block_within S names keep x b i (g.lowers.reaches.done k y))
+    branch-over z e = emits-full g.lowers.reaches.limits g.lowers.reaches.areas z e h.lowers.reaches (block_within S names keep x b i (g.lowers.reaches.done k y))
 
     pub branch-ends : {C : Type 0} {q : Option C} {code : Code} {u : ℕ} → r ≡ Some u → EndsBranch q a₁.code.open a₂.code code → LowersIn q (branch names keep x b) t a (beside code a₂.tables)
     branch-ends {u = u} z e = record {
@@ -82,7 +82,7 @@ module _ {t : List ℕ} {a a₁ : Emitter} {p : Option ℕ} {n : ℕ} (names : L
 
 module _ {t : List ℕ} {a a₁ : Emitter} {p : Option ℕ} {n : ℕ} (names : List Name) (keep : Keeping) (x : Expr) (b : Block) (S : SoundIn t a) (g : EmitsTo p (branch names keep x b) n t a a₁) where
   pub if-stopped : {q : Option ℕ} {next : ℕ} (rest : Branches) → p ≡ None → q ≡ None → EmitsTo q (emit_stmt names keep (if (when x b rest))) next t a a₁
-  if-stopped rest z e = emits-full refl z e g.lowers.reaches (within-if a.code.base names keep (state_in t a) (stack-low S) x b rest)
+  if-stopped rest z e = emits-full refl areas-none z e g.lowers.reaches (within-if a.code.base names keep (state_in t a) (stack-low S) x b rest)
 
   module _ {k : ℕ} (y : p ≡ Some k) where
     pub if-open : 0 < a₁.code.open
@@ -102,6 +102,7 @@ pub record ChainRest (d : ℕ) (t : List ℕ) (names : List Name) (a : Emitter) 
   pub branches : BranchesLowerable d n t p
   pub next : (branches_at d n t p).end ≡ (branches_at d n₀ t p₀).end
   pub limits : limits_in b ≡ limits_in a
+  pub areas : SameAreas a b
   pub left : LeftIn t a b (state_in t b)
   pub some : 0 < b.code.open
   pub chain : chain_at a.code.base names (keeping_of i) (branches_at d n t p).value (b.code.open - 1) (state_in t b)
@@ -116,6 +117,7 @@ chain-all {d} {t} {a} {i} {n} {p} names m e S r h s = subst (λ (k : ℕ). Chain
   branches = r;
   next = refl;
   limits = refl;
+  areas = areas-none;
   left = left-itself S;
   some = h;
   chain = refl;
@@ -172,7 +174,7 @@ module _ {d : ℕ} {t : List ℕ} {names : List Name} {a : Emitter} {i₀ n₀ p
       pub chain-over : {r' : Option ℕ} {next i' : ℕ} → r ≡ None → r' ≡ None → NextIs r' next × Reaches r' t a c whole × Passes r' i₀ i' (loops_branches (branches_at d n₀ t p₀).value)
       chain-over z y = (
         next-none y,
-        reaches-full inv.limits z y e.lowers.reaches
+        reaches-full inv.limits inv.areas z y e.lowers.reaches
             (λ w. subst (Within (limits_in a)) (sym based) (within-chain-when a.code.base names (keeping_of i) x body others (b.code.open - 1) (state_in t b) low last-in (subst (Within (limits_in a)) (sym split) w))),
         passes_over y,
       )
@@ -205,6 +207,7 @@ module _ {d : ℕ} {t : List ℕ} {names : List Name} {a : Emitter} {i₀ n₀ p
               branches = elifs-at d (n - 1) (n - 1) t (body_at d t p).end q refl there (elifs-more d t n p h inv.branches).1;
               next = elifs-end d (n - 1) t (body_at d t p).end q there ∙ sym (elifs-is d t n p h inv.branches).1 ∙ inv.next;
               limits = jump-limits c j ∙ e.lowers.reaches.limits ∙ inv.limits;
+              areas = areas-after (areas-after inv.areas e.lowers.reaches.areas) (jump-areas c j);
               left = left-own (left-next (e.lowers.reaches.limits ∙ inv.limits) (left-next inv.limits inv.left done) jump);
               some = omega (arith, j.size, chain-longer);
               chain = (λ u. chain_at a.code.base names (sym keeping u) (branches_at d (n - 1) t (there u)).value (last u) (state u))
@@ -224,7 +227,7 @@ module _ {d : ℕ} {t : List ℕ} {names : List Name} {a : Emitter} {i₀ n₀ p
         → NextIs r (branches_at d 0 t p).end × Reaches r t b c (chain_at b.code.base names (keeping_of i) (branches_at d 0 t p).value (b.code.open - 1) (state_in t b)) × Passes r i i' (loops_branches (branches_at d 0 t p).value)
         → NextIs r (branches_at d n₀ t p₀).end × Reaches r t a c whole × Passes r i₀ i' (loops_branches (branches_at d n₀ t p₀).value)
     chain-last y =
-        let here : Reaches (Some p) t a b (state_in t b) = reached_by p inv.limits inv.left in (
+        let here : Reaches (Some p) t a b (state_in t b) = reached_by p inv.limits inv.areas inv.left in (
           (λ k z. y.0 k z ∙ (λ j. (none j).end) ∙ inv.next),
           reaches-after {x = p} refl here
               (reaches_as ((λ j. chain_at (inv.left.left.base j) names (keeping_of i) (none j).value (b.code.open - 1) (state_in t b)) ∙ inv.chain) y.1),
@@ -245,7 +248,7 @@ module _ {t : List ℕ} {a : Emitter} {d at : ℕ} (names : List Name) (keep : K
       let n = none_is d t at low z in
       let b = a.code.base in (
         (λ k q. sym (some-is q) ∙ sym (λ i. (n i).end)),
-        reached_by (at + 1) (jump-limits a j)
+        reached_by (at + 1) (jump-limits a j) (jump-areas a j)
             (left-by (jump-in (a.code.open - 1) S (omega (arith, some)) (omega arith) j)
             (sym ((λ i. chain_at b names keep (n i).value (a.code.open - 1) (state_in t a)) ∙ chain-done b names keep (a.code.open - 1) (state_in t a)))),
       )
@@ -258,7 +261,7 @@ module _ {t : List ℕ} {a : Emitter} {d at : ℕ} (names : List Name) (keep : K
     wanted = ap (λ (y : Branches). chain_at a.code.base names keep y (a.code.open - 1) (state_in t a)) is
 
     pub else-over : {q : Option ℕ} → r ≡ None → q ≡ None → Reaches q t a b else-want
-    else-over z n = reaches-full refl z n h.lowers.reaches (λ w. within-chain-else a.code.base names keep (block_at d t (at + 1)).value (a.code.open - 1) (state_in t a) to-jump (subst (Within (limits_in a)) wanted w))
+    else-over z n = reaches-full refl areas-none z n h.lowers.reaches (λ w. within-chain-else a.code.base names keep (block_at d t (at + 1)).value (a.code.open - 1) (state_in t a) to-jump (subst (Within (limits_in a)) wanted w))
 
     module _ {n : ℕ} (z : r ≡ Some n) where
       abbrev elsewhere : State
@@ -276,7 +279,7 @@ module _ {t : List ℕ} {a : Emitter} {d at : ℕ} (names : List Name) (keep : K
           let done = h.lowers.reaches.done n z in
           let over : b.code.open - a.code.open ≡ length elsewhere.stack - length (state_in t a).stack = omega (arith, b-open, stack-long S) in (
             (λ k q. sym (some-is q) ∙ h.place n z ∙ sym (else-ends d t (branches_at d 0 t at) (at + 1) (else-parts d t at low (else-one d t at low o)).1)),
-            reached_by n (jump-limits b j ∙ h.lowers.reaches.limits)
+            reached_by n (jump-limits b j ∙ h.lowers.reaches.limits) (areas-after h.lowers.reaches.areas (jump-areas b j))
                 (left-by (left-next h.lowers.reaches.limits done (jump-in (a.code.open - 1) S₁ (omega (arith, else-longer, some)) (omega (arith, S₁.sound.words, S₁.sound.limited.instructions)) j))
                 ((λ i. set_at (a.code.open - 1) (instr 28 (over i) 0) (done.left.state i))
                 ∙ sym (wanted ∙ chain-else a.code.base names keep (block_at d t (at + 1)).value (a.code.open - 1) (state_in t a) elsewhere to-jump refl))),
@@ -294,11 +297,11 @@ module _ {t : List ℕ} {a a₁ : Emitter} {p : Option ℕ} {n : ℕ} (names : L
   keep = keeping_of i
 
   pub for-stopped : {q : Option ℕ} {next : ℕ} → p ≡ None → q ≡ None → EmitsTo q (emit_stmt names keep (for x e b)) next t a a₁
-  for-stopped z y = emits-full refl z y g.lowers.reaches (iterable-within names keep x e b a.code.base (state_in t a) (stack-low S))
+  for-stopped z y = emits-full refl areas-none z y g.lowers.reaches (iterable-within names keep x e b a.code.base (state_in t a) (stack-low S))
 
   module _ {k : ℕ} (y : p ≡ Some k) {a₂ : Emitter} {i₁ : ℕ} {r : Option ℕ} (h : StoresIterator r keep t a₁ a₂ × (i₁ ≡ after_loops i 1)) where
     pub for-over : {q : Option ℕ} {next : ℕ} → r ≡ None → q ≡ None → EmitsTo q (emit_stmt names keep (for x e b)) next t a a₂
-    for-over z u = emits-full g.lowers.reaches.limits z u h.0.reaches.reaches (for-within S names keep x e b (g.lowers.reaches.done k y))
+    for-over z u = emits-full g.lowers.reaches.limits g.lowers.reaches.areas z u h.0.reaches.reaches (for-within S names keep x e b (g.lowers.reaches.done k y))
 
     module _ {w : ℕ} (z : r ≡ Some w) where
       pub for-sound : SoundIn t a₂

@@ -26,14 +26,17 @@ use Rattle.state.proofs.Enclosing.{methods-none, methods-none-of, methods-more, 
 use Rattle.state.proofs.Growth.{methods-lengthened}
 use Rattle.state.proofs.Within.{within-method, within-methods, within-class}
 use Rattle.methods.specs.Order.{Inserted}
+use Rattle.lower_emit.specs.declared.emitter.Used.{Used}
+use Rattle.lower_emit.specs.declared.emitter.Entries.{Entries}
 use Rattle.lower_emit.specs.declared.emitter.Tables.{Tables}
 use Rattle.lower_emit.specs.declared.emitter.Emitter.{Emitter}
-use Rattle.lower_emit.specs.Emitting.{counts_of, limits_in, state_in, SoundIn, beside, LeftIn, Reaches}
-use Rattle.lower_emit.proofs.Steps.{sound-next, left-next, some-is}
+use Rattle.lower_emit.specs.Emitting.{counts_of, limits_in, state_in, SoundIn, beside, new_classes, SameAreas, LeftIn, Reaches, NumbersIn}
+use Rattle.lower_emit.proofs.Steps.{areas-none, areas-after, sound-next, left-next, some-is}
 use Rattle.lower_forms.specs.Lowering.{function_code, MethodsLowerable, class_code}
 use Rattle.lower_forms.proofs.StmtArms.{methods-parts}
 use Rattle.lower_classes.specs.Classes.{BeginsClass, FinishesClass}
-use Rattle.lower_stmt.specs.Blocks.{Ahead, Methodical, SoleIn, CompilesIn, ListsIn}
+use Rattle.lower_forms.specs.Lowerable.{SoleIn}
+use Rattle.lower_stmt.specs.Blocks.{Ahead, Methodical, CompilesIn, ListsIn}
 use Rattle.lower_stmt.proofs.Between.{left-itself, left-own, left-by, left-sound, reached_by, reaches-full}
 use Rattle.lower_stmt.proofs.Functions.{method-is}
 
@@ -56,6 +59,7 @@ module _ (d : ℕ) (t : List ℕ) where
 pub record MethodsRest (d : ℕ) (t : List ℕ) (a : Emitter) (n₀ p₀ : ℕ) (b : Emitter) (list : List ℕ) (n p count : ℕ) : Type 0 where
   pub methods : MethodsLowerable d n t p
   pub limits : limits_in b ≡ limits_in a
+  pub areas : SameAreas a b
   pub left : LeftIn t a b (state_in t b)
   pub state : methods_at (StmtAt.methods_at d n t p).value (map (method_of t) (take count list)) (state_in t b) ≡ methods_at (StmtAt.methods_at d n₀ t p₀).value [] (state_in t a)
   pub listed : methods_of (StmtAt.methods_at d n t p).value (map (method_of t) (take count list)) (state_in t b) ≡ methods_of (StmtAt.methods_at d n₀ t p₀).value [] (state_in t a)
@@ -67,6 +71,7 @@ pub methods-all : {d : ℕ} {t : List ℕ} {a : Emitter} {list : List ℕ} {n p 
 methods-all {d} {t} {a} {list} {n} {p} m e R r h = subst (λ (k : ℕ). MethodsRest d t a n p a list k p 0) e (record {
   methods = r;
   limits = refl;
+  areas = areas-none;
   left = left-itself R.sound;
   state = refl;
   listed = refl;
@@ -96,7 +101,7 @@ module _ {d : ℕ} {t : List ℕ} {a : Emitter} {n₀ p₀ : ℕ} {b : Emitter} 
       let e = methods-over d t n p h inv.methods in
       let u = state_in t b in
       record {
-        reaches = reached_by count inv.limits (left-by inv.left (sym (ap (λ (x : Methods). methods_at x acc u) e ∙ methods-none acc u) ∙ inv.state));
+        reaches = reached_by count inv.limits inv.areas (left-by inv.left (sym (ap (λ (x : Methods). methods_at x acc u) e ∙ methods-none acc u) ∙ inv.state));
         listed = λ k z. subst (λ (m : ℕ). Methodical m t list (counts_of a) (counts_of b) wanted) (some-is z)
             (record { few = omega (arith, few, inv.room); ahead = inv.ahead; methods = sym (ap (λ (x : Methods). methods_of x acc u) e ∙ methods-none-of acc u) ∙ inv.listed });
       }
@@ -117,7 +122,7 @@ module _ {d : ℕ} {t : List ℕ} {a : Emitter} {n₀ p₀ : ℕ} {b : Emitter} 
 
     pub methods-stopped : {q : Option ℕ} → r ≡ None → q ≡ None → ListsIn q want wanted t list a c
     methods-stopped z y = record {
-      reaches = reaches-full inv.limits z y x.reaches
+      reaches = reaches-full inv.limits inv.areas z y x.reaches
           (λ w. subst (Within (limits_in a)) (sym one-is) (within-method b.code.base (name_at t p) (params_at t (name_end t p)).value (def_block_at d t p).value others acc (state_in t b)
           (subst (Within (limits_in a)) (sym (ap (λ (y : Methods). methods_at y acc (state_in t b)) (sym is) ∙ inv.state)) w)));
       listed = λ k q. absurd (none-some k (sym y ∙ q));
@@ -127,7 +132,7 @@ module _ {d : ℕ} {t : List ℕ} {a : Emitter} {n₀ p₀ : ℕ} {b : Emitter} 
       S₁ : SoundIn t c
       S₁ = sound-next z x.reaches
 
-      pub methods-number : b.tables.functions < 256
+      pub methods-number : b.tables.functions.count < 256
       methods-number = omega (arith, x.more q z, S₁.sound.functions, S₁.sound.limited.functions)
 
       pub methods-room : count < 256
@@ -135,15 +140,15 @@ module _ {d : ℕ} {t : List ℕ} {a : Emitter} {n₀ p₀ : ℕ} {b : Emitter} 
 
       -- the count by other words
       pub methods-next : {list₁ : List ℕ} {count₁ : ℕ} (k : ℕ) → n - 1 ≡ k
-          → Inserted count₁ t list₁ list count (p * 256 + b.tables.functions) → length list₁ ≡ length list → MethodsRest d t a n₀ p₀ c list₁ k q count₁
+          → Inserted count₁ t list₁ list count (p * 256 + b.tables.functions.count) → length list₁ ≡ length list → MethodsRest d t a n₀ p₀ c list₁ k q count₁
       methods-next {list₁} {count₁} k f I same-length =
           let there = x.place q z in
           let done = x.reaches.done q z in
           let now = state_in t b in
-          let at : (p * 256 + b.tables.functions) / 2 ^ 8 ≡ p = omega (arith, methods-number) in
-          let number : (p * 256 + b.tables.functions) % 2 ^ 8 ≡ b.tables.functions = omega (arith, methods-number) in
-          let functions : b.tables.functions ≡ length now.tables.functions =
-          sym (function-count t b.tables.made.now b.code.words.now b.tables.entries.now (counts_of b) (limits_in a) inv.left.left.sound) in
+          let at : (p * 256 + b.tables.functions.count) / 2 ^ 8 ≡ p = omega (arith, methods-number) in
+          let number : (p * 256 + b.tables.functions.count) % 2 ^ 8 ≡ b.tables.functions.count = omega (arith, methods-number) in
+          let functions : b.tables.functions.count ≡ length now.tables.functions =
+          sym (function-count t b.tables.names.made.now b.code.words.now b.tables.entries.words.now (counts_of b) (limits_in a) inv.left.left.sound) in
           let listed-now : map (method_of t) (take count₁ list₁) ≡ insert_method (name_at t p) (length now.tables.functions) acc =
           I.methods ∙ (λ j. insert_method (name_at t (at j)) ((number ∙ functions) j) acc) in
           let state : state_in t c ≡ one = done.left.state ∙ one-is in
@@ -152,6 +157,7 @@ module _ {d : ℕ} {t : List ℕ} {a : Emitter} {n₀ p₀ : ℕ} {b : Emitter} 
           subst (λ (m : ℕ). MethodsRest d t a n₀ p₀ c list₁ m q count₁) f (record {
             methods = methods-at d t (n - 1) (n - 1) (def_block_at d t p).end q refl there (methods-parts d t n p h inv.methods).1;
             limits = x.reaches.limits ∙ inv.limits;
+            areas = areas-after inv.areas x.reaches.areas;
             left = left-own (left-next inv.limits inv.left done);
             state = (λ j. methods_at (StmtAt.methods_at d (n - 1) t (there j)).value (listed-now j) (state j)) ∙ sym (methods-more b.code.base (name_at t p) ps body others acc now _ refl)
                 ∙ ap (λ (y : Methods). methods_at y acc now) (sym is) ∙ inv.state;
@@ -182,7 +188,10 @@ class-begin-within : {l : Limits} (x : Name) (ms : Methods) (base : ℕ) (s : St
 unfolding class_code
 class-begin-within x ms base s w = within-methods ms [] _ (within-class base x ms s _ (methods_at ms [] (with_tables (begin_class x s.tables) s)) refl refl w)
 
-module _ {t : List ℕ} {a : Emitter} {ts : Tables} {p : Option ℕ} {at : ℕ} (ms : Methods) (S : SoundIn t a) (B : BeginsClass p at a.tables ts) where
+module _ {t : List ℕ} {a : Emitter} {used : Used 64} {entries : Entries} {p : Option ℕ} {at : ℕ} (ms : Methods) (S : SoundIn t a) (B : BeginsClass p at a.tables.classes used a.tables.entries entries) where
+  abbrev ts : Tables
+  ts = new_classes used entries a.tables
+
   abbrev a₁ : Emitter
   a₁ = beside a.code ts
 
@@ -198,18 +207,21 @@ module _ {t : List ℕ} {a : Emitter} {ts : Tables} {p : Option ℕ} {at : ℕ} 
   abbrev whole : State
   whole = emit_at a.code.base (class_code x ms) s
 
+  numbered : NumbersIn p (length s.tables.classes) t a a₁ s₁
+  numbered = (B.tables a.tables).numbers t a.code S
+
   pub class-over : {A : Type 0} {q : Option A} → p ≡ None → q ≡ None → Reaches q t a a₁ whole
-  class-over z y = reaches-full refl z y (B.numbers t a.code S).reaches (class-begin-within x ms a.code.base s)
+  class-over z y = reaches-full refl areas-none z y numbered.reaches (class-begin-within x ms a.code.base s)
 
   module _ {i : ℕ} (z : p ≡ Some i) where
     number : i ≡ length s.tables.classes
-    number = (B.numbers t a.code S).is i z
+    number = numbered.is i z
 
     first : LeftIn t a a₁ s₁
-    first = (B.numbers t a.code S).reaches.done i z
+    first = numbered.reaches.done i z
 
     pub class-sound : SoundIn t a₁
-    class-sound = sound-next z (B.numbers t a.code S).reaches
+    class-sound = sound-next z numbered.reaches
 
     class-is : whole ≡ emit_at a.code.base (end_class x (length s.tables.classes) (methods_of ms [] s₁)) (methods_at ms [] s₁)
     unfolding class_code
@@ -219,25 +231,25 @@ module _ {t : List ℕ} {a : Emitter} {ts : Tables} {p : Option ℕ} {at : ℕ} 
     unfolding class_code
     methods-within w = subst (λ (u : State). Within (limits_in a) (methods_at ms [] u)) (sym first.left.state) (within-class a.code.base x ms s s₁ _ refl refl w)
 
-    classes-now : length (state_in t a₁).tables.classes ≡ ts.classes
-    classes-now = class-count t ts.made.now a.code.words.now ts.entries.now (counts_of a₁) (limits_in a₁) class-sound.sound
+    classes-now : length (state_in t a₁).tables.classes ≡ ts.classes.count
+    classes-now = class-count t ts.names.made.now a.code.words.now ts.entries.words.now (counts_of a₁) (limits_in a₁) class-sound.sound
 
-    classes-then : length s.tables.classes ≡ a.tables.classes
-    classes-then = class-count t a.tables.made.now a.code.words.now a.tables.entries.now (counts_of a) (limits_in a) S.sound
+    classes-then : length s.tables.classes ≡ a.tables.classes.count
+    classes-then = class-count t a.tables.names.made.now a.code.words.now a.tables.entries.words.now (counts_of a) (limits_in a) S.sound
 
-    one-class : ts.classes ≡ a.tables.classes + 1
+    one-class : ts.classes.count ≡ a.tables.classes.count + 1
     unfolding begin_class
     one-class = sym classes-now ∙ ap (λ (u : State). length u.tables.classes) first.left.state ∙ length-append s.tables.classes _ ∙ ap (λ (n : ℕ). n + 1) classes-then
 
     same-constants : ts.constants ≡ a.tables.constants
     unfolding begin_class
     same-constants =
-        sym (constant-count t ts.made.now a.code.words.now ts.entries.now (counts_of a₁) (limits_in a₁) class-sound.sound) ∙ ap (λ (u : State). length u.tables.constants) first.left.state
-        ∙ constant-count t a.tables.made.now a.code.words.now a.tables.entries.now (counts_of a) (limits_in a) S.sound
+        sym (constant-count t ts.names.made.now a.code.words.now ts.entries.words.now (counts_of a₁) (limits_in a₁) class-sound.sound) ∙ ap (λ (u : State). length u.tables.constants) first.left.state
+        ∙ constant-count t a.tables.names.made.now a.code.words.now a.tables.entries.words.now (counts_of a) (limits_in a) S.sound
 
     module _ {a₂ : Emitter} {list : List ℕ} {r : Option ℕ} (h : ListsIn r (methods_at ms [] (state_in t a₁)) (methods_of ms [] (state_in t a₁)) t list a₁ a₂) where
       pub class-stopped : {A : Type 0} {q : Option A} → r ≡ None → q ≡ None → Reaches q t a a₂ whole
-      class-stopped y u = reaches-full (B.numbers t a.code S).reaches.limits y u h.reaches methods-within
+      class-stopped y u = reaches-full numbered.reaches.limits numbered.reaches.areas y u h.reaches methods-within
 
       module _ {k : ℕ} (y : r ≡ Some k) where
         second : LeftIn t a₁ a₂ (methods_at ms [] (state_in t a₁))
@@ -249,7 +261,7 @@ module _ {t : List ℕ} {a : Emitter} {ts : Tables} {p : Option ℕ} {at : ℕ} 
         S₂ : SoundIn t a₂
         S₂ = sound-next y h.reaches
 
-        number-in : i < a₂.tables.classes
+        number-in : i < a₂.tables.classes.count
         unfolding methods_at
         number-in =
             let L = methods-lengthened ms [] (state_in t a₁).tables in
@@ -259,12 +271,12 @@ module _ {t : List ℕ} {a : Emitter} {ts : Tables} {p : Option ℕ} {at : ℕ} 
               classes-then,
               one-class,
               classes-now,
-              sym (class-count t a₂.tables.made.now a₂.code.words.now a₂.tables.entries.now (counts_of a₂) (limits_in a₂) S₂.sound) ∙ ap (λ (u : State). length u.tables.classes) second.left.state,
+              sym (class-count t a₂.tables.names.made.now a₂.code.words.now a₂.tables.entries.words.now (counts_of a₂) (limits_in a₂) S₂.sound) ∙ ap (λ (u : State). length u.tables.classes) second.left.state,
               L.classes,
             )
 
         -- what the end of the class asks
-        pub class-asks : SoundIn t a₂ × (i < a₂.tables.classes) × (k ≤ length list) × (a₂.tables.methods + k ≤ a₂.tables.functions) × (a₂.tables.constants < a₂.tables.classes)
+        pub class-asks : SoundIn t a₂ × (i < a₂.tables.classes.count) × (k ≤ length list) × (a₂.tables.methods + k ≤ a₂.tables.functions.count) × (a₂.tables.constants < a₂.tables.classes.count)
         class-asks = (
           S₂,
           number-in,
@@ -284,7 +296,7 @@ module _ {t : List ℕ} {a : Emitter} {ts : Tables} {p : Option ℕ} {at : ℕ} 
 
         pub class-done : {A : Type 0} {q : Option A} {a₃ : Emitter} → FinishesClass q at i (take k list) t a₂ a₃ → Reaches q t a a₃ whole
         class-done {a₃ = a₃} f =
-            let limits : limits_in a₂ ≡ limits_in a = h.reaches.limits ∙ (B.numbers t a.code S).reaches.limits in
+            let limits : limits_in a₂ ≡ limits_in a = h.reaches.limits ∙ numbered.reaches.limits in
             record {
               done = λ v z.
                   let F = (f.finishes.done v z).finished in
@@ -296,9 +308,10 @@ module _ {t : List ℕ} {a : Emitter} {ts : Tables} {p : Option ℕ} {at : ℕ} 
                         methods = omega (arith, F.methods, class-many, listed.ahead, first.left.paced.methods);
                         constants = omega (arith, F.constants, second.left.paced.constants, one-class, same-constants);
                       };
-                      sound = subst (λ (l : Limits). Sound t a₃.tables.made.now a₃.code.words.now a₃.tables.entries.now (counts_of a₃) l) limits F.sound;
+                      sound = subst (λ (l : Limits). Sound t a₃.tables.names.made.now a₃.code.words.now a₃.tables.entries.words.now (counts_of a₃) l) limits F.sound;
                     };
                   };
               full = λ z w. f.finishes.full z (subst (λ (l : Type 0). l) (λ j. Within (sym limits j) (sym ended_is j)) w);
               limits = f.finishes.limits ∙ limits;
+              areas = areas-after (areas-after numbered.reaches.areas h.reaches.areas) f.finishes.areas;
             }

@@ -33,14 +33,14 @@ use Rattle.slots.specs.Slotted.{first_names, Indexed, Framing, Frames}
 use Rattle.slots.proofs.Adding.{first-length, front-names, front-slots}
 use Rattle.lower_emit.specs.Nesting.{begun_with, body_of}
 use Rattle.lower_emit.specs.declared.emitter.Emitter.{Emitter}
-use Rattle.lower_emit.specs.Emitting.{counts_of, limits_in, state_in, SoundIn, LeftIn, Reaches, MovedIn, EmitsTo, LowersIn, Ended}
-use Rattle.lower_emit.proofs.Steps.{sound-next}
+use Rattle.lower_emit.specs.Emitting.{counts_of, limits_in, state_in, SoundIn, SameAreas, LeftIn, Reaches, MovedIn, EmitsTo, LowersIn, Ended}
+use Rattle.lower_emit.proofs.Steps.{areas-none, areas-after, sound-next}
 use Rattle.lower_emit.proofs.Functions.{ended-lifts}
 use Rattle.lower_emit.proofs.Parts.{emits-by}
 use Rattle.lower_forms.specs.Lowering.{FunctionLowerable, block_code, frame_at, end_of, function_code}
 use Rattle.lower_forms.proofs.ExprArms.{params-count}
 use Rattle.lower_forms.proofs.Sequences.{method-end}
-use Rattle.lower_classes.specs.Classes.{BeginsNamed}
+use Rattle.lower_classes.specs.Classes.{StartsNamed}
 use Rattle.lower_stmt.specs.Blocks.{Ahead, CompilesIn}
 use Rattle.lower_stmt.proofs.Between.{stack-long, reached_by, next-none, reaches-full}
 
@@ -152,7 +152,7 @@ module _ {t : List ℕ} {a : Emitter} (S : SoundIn t a) (x : Name) (arity n : �
 
   -- it has begun
   module _ {f : ℕ} {a₁ : Emitter} (is : f ≡ length s.tables.functions) (B : MovedIn a.code.open t a a₁ began)
-      (more : a₁.tables.methods + a.tables.functions < a.tables.methods + a₁.tables.functions) (same : limits_in a₁ ≡ limits_in a)
+      (more : a₁.tables.methods + a.tables.functions.count < a.tables.methods + a₁.tables.functions.count) (same : limits_in a₁ ≡ limits_in a)
       (names : List Name) (keep : Keeping) (en' : names ≡ inner.names) (ek : keep ≡ inner.keep) where
     first-base : a₁.code.base ≡ length s.stack
     first-base = B.moved.base ∙ sym (stack-long S)
@@ -181,10 +181,10 @@ module _ {t : List ℕ} {a : Emitter} (S : SoundIn t a) (x : Name) (arity n : �
       last-base : a₂.code.base ≡ length s.stack
       last-base = A.left.base ∙ first-base
 
-      count : length (state_in t a₂).tables.functions ≡ a₂.tables.functions
-      count = function-count t a₂.tables.made.now a₂.code.words.now a₂.tables.entries.now (counts_of a₂) (limits_in a₁) A.left.sound
+      count : length (state_in t a₂).tables.functions ≡ a₂.tables.functions.count
+      count = function-count t a₂.tables.names.made.now a₂.code.words.now a₂.tables.entries.words.now (counts_of a₂) (limits_in a₁) A.left.sound
 
-      pub ended-number : f < a₂.tables.functions
+      pub ended-number : f < a₂.tables.functions.count
       ended-number =
           omega (
             arith,
@@ -205,24 +205,24 @@ module _ {t : List ℕ} {a : Emitter} (S : SoundIn t a) (x : Name) (arity n : �
             D.moved.state ∙ (λ j. ended (last-base j) (is j) ((A.left.state ∙ body_is) j))
             ∙ sym (at-function a.code.base x (length ps) inner (block_body b end) e s named refl)
 
-        same_count : a₃.tables.functions ≡ a₂.tables.functions
+        same_count : a₃.tables.functions.count ≡ a₂.tables.functions.count
         unfolding ended
         same_count =
-            sym (function-count t a₃.tables.made.now a₃.code.words.now a₃.tables.entries.now (counts_of a₃) (limits_in a₂) D.moved.sound) ∙ ap (λ (u : State). length u.tables.functions) D.moved.state
+            sym (function-count t a₃.tables.names.made.now a₃.code.words.now a₃.tables.entries.words.now (counts_of a₃) (limits_in a₂) D.moved.sound) ∙ ap (λ (u : State). length u.tables.functions) D.moved.state
             ∙ set-count (state_in t a₂).tables.functions f _ ∙ count
 
-        pub compiled : limits_in a₂ ≡ limits_in a → LeftIn t a a₃ whole × Ahead 1 (counts_of a) (counts_of a₃) × (a.tables.functions < a₃.tables.functions)
+        pub compiled : limits_in a₂ ≡ limits_in a → LeftIn t a a₃ whole × Ahead 1 (counts_of a) (counts_of a₃) × (a.tables.functions.count < a₃.tables.functions.count)
         compiled l = (
           record {
             left = record {
               state = state-is;
               base = D.moved.base;
               paced = paced-more B.moved.paced (paced-more A.left.paced D.moved.paced);
-              sound = subst (λ (k : Limits). Sound t a₃.tables.made.now a₃.code.words.now a₃.tables.entries.now (counts_of a₃) k) l D.moved.sound;
+              sound = subst (λ (k : Limits). Sound t a₃.tables.names.made.now a₃.code.words.now a₃.tables.entries.words.now (counts_of a₃) k) l D.moved.sound;
             };
           },
           omega (arith, more, A.left.paced.methods, D.moved.paced.methods),
-          omega (arith, same_count, ended-number, is, function-count t a.tables.made.now a.code.words.now a.tables.entries.now (counts_of a) (limits_in a) S.sound),
+          omega (arith, same_count, ended-number, is, function-count t a.tables.names.made.now a.code.words.now a.tables.entries.words.now (counts_of a) (limits_in a) S.sound),
         )
 
 -- a function with more than 255 slots is over the limits
@@ -243,10 +243,10 @@ method-is d t p b base s e =
 
 -- ---- by the emitter's steps
 
-compiles-stopped : {q : Option ℕ} {next : ℕ} {want : State} {t : List ℕ} {a b : Emitter} → q ≡ None → (Within (limits_in a) want → ⊥) → limits_in b ≡ limits_in a → CompilesIn q next want t a b
-compiles-stopped n h l = record {
+compiles-stopped : {q : Option ℕ} {next : ℕ} {want : State} {t : List ℕ} {a b : Emitter} → q ≡ None → (Within (limits_in a) want → ⊥) → limits_in b ≡ limits_in a → SameAreas a b → CompilesIn q next want t a b
+compiles-stopped n h l k = record {
   place = next-none n;
-  reaches = record { done = λ x p. absurd (none-some x (sym n ∙ p)); full = λ p. h; limits = l };
+  reaches = record { done = λ x p. absurd (none-some x (sym n ∙ p)); full = λ p. h; limits = l; areas = k };
   ahead = λ x p. absurd (none-some x (sym n ∙ p));
   more = λ x p. absurd (none-some x (sym n ∙ p));
 }
@@ -254,10 +254,10 @@ compiles-stopped n h l = record {
 pub slots-stopped : {q : Option ℕ} {next params block : ℕ} {r : Option Framed} {t ps : List ℕ} {a : Emitter} (d at : ℕ) (init : Bool) → r ≡ None → q ≡ None → params ≡ name_end t at → block ≡ (params_at t params).end
     → Frames r t ps (with_loops (params_at t params).value (block_at d t block).value) → CompilesIn q next (emit_at a.code.base (function_code d t at init) (state_in t a)) t a a
 slots-stopped {t = t} {a = a} d at init z n e b f =
-    compiles-stopped n (slots-over d t at init a.code.base (limits_in a) (state_in t a) ((framed_at d at e (b ∙ ap (λ (x : ℕ). (params_at t x).end) e) f).over z)) refl
+    compiles-stopped n (slots-over d t at init a.code.base (limits_in a) (state_in t a) ((framed_at d at e (b ∙ ap (λ (x : ℕ). (params_at t x).end) e) f).over z)) refl areas-none
 
 module _ {t : List ℕ} {a a₁ : Emitter} {p : Option ℕ} {at arity n : ℕ} (d : ℕ) (init : Bool) (S : SoundIn t a)
-    (ea : arity ≡ length (params_at t (name_end t at)).value) (en : n ≡ (frame_at d t at).locals) (B : BeginsNamed p at arity n t a a₁) where
+    (ea : arity ≡ length (params_at t (name_end t at)).value) (en : n ≡ (frame_at d t at).locals) (B : StartsNamed p at arity n t a a₁) where
   abbrev function-want : State
   function-want = emit_at a.code.base (function_code d t at init) (state_in t a)
 
@@ -274,11 +274,11 @@ module _ {t : List ℕ} {a a₁ : Emitter} {p : Option ℕ} {at arity n : ℕ} (
   body = (def_block_at d t at).value
 
   pub function-over : {q : Option ℕ} {next : ℕ} → p ≡ None → q ≡ None → CompilesIn q next function-want t a a₁
-  function-over z y = compiles-stopped y (λ w. (B.begins S).full z (begun-within S x arity n params inner ea en body (end_of init) w)) (B.begins S).limits
+  function-over z y = compiles-stopped y (λ w. (B.begins S).full z (begun-within S x arity n params inner ea en body (end_of init) w)) (B.begins S).limits (B.begins S).areas
 
   module _ {f : ℕ} (z : p ≡ Some f) where
     pub function-sound : SoundIn t a₁
-    function-sound = record { sound = subst (λ (l : Limits). Sound t a₁.tables.made.now a₁.code.words.now a₁.tables.entries.now (counts_of a₁) l) (sym (B.begins S).limits) ((B.begins S).done f z).moved.sound }
+    function-sound = record { sound = subst (λ (l : Limits). Sound t a₁.tables.names.made.now a₁.code.words.now a₁.tables.entries.words.now (counts_of a₁) l) (sym (B.begins S).limits) ((B.begins S).done f z).moved.sound }
 
     module _ {names : List Name} {keep : Keeping} (en' : names ≡ inner.names) (ek : keep ≡ inner.keep) {a₂ : Emitter} {r : Option ℕ} {next : ℕ}
         (h : EmitsTo r (emit_block names keep body ⨟ emits (end_of init)) next t a₁ a₂) where
@@ -287,11 +287,11 @@ module _ {t : List ℕ} {a a₁ : Emitter} {p : Option ℕ} {at arity n : ℕ} (
 
       pub function-stopped : {q : Option ℕ} {m : ℕ} → r ≡ None → q ≡ None → CompilesIn q m function-want t a a₂
       function-stopped {q} y u =
-          let R : Reaches q t a a₂ function-want = reaches-full (B.begins S).limits y u h.lowers.reaches within-it in
-          compiles-stopped u (R.full u) R.limits
+          let R : Reaches q t a a₂ function-want = reaches-full (B.begins S).limits (B.begins S).areas y u h.lowers.reaches within-it in
+          compiles-stopped u (R.full u) R.limits R.areas
 
       module _ {k : ℕ} (y : r ≡ Some k) where
-        number : f < a₂.tables.functions
+        number : f < a₂.tables.functions.count
         number = ended-number S x arity n params inner ea en body (end_of init) ((B.begins S).is f z) ((B.begins S).done f z) ((B.begins S).more f z) (B.begins S).limits names keep en' ek (h.lowers.reaches.done k y)
 
         pub function-done : {a₃ : Emitter} → Ended f a.code.base a₂ a₃ → CompilesIn (Some k) next function-want t a a₃
@@ -304,7 +304,7 @@ module _ {t : List ℕ} {a a₁ : Emitter} {p : Option ℕ} {at arity n : ℕ} (
             (ended-lifts (sound-next y h.lowers.reaches) number empty around e) same in
             record {
               place = λ m q. h.place m (y ∙ q);
-              reaches = reached_by k (e.limits ∙ same) c.0;
+              reaches = reached_by k (e.limits ∙ same) (areas-after (areas-after (B.begins S).areas h.lowers.reaches.areas) e.areas) c.0;
               ahead = λ m q. c.1;
               more = λ m q. c.2;
             }

@@ -19,8 +19,8 @@ use Rattle.state.proofs.Within.{within-down}
 use Rattle.lower_forms.specs.Lowering.{BlockLowerable, StmtsLowerable, stmt_code, block_code, stmts_code}
 use Rattle.lower_forms.proofs.StmtArms.{block-code, block-parts, stmts-more, stmts-code, stmts-none}
 use Rattle.lower_emit.specs.declared.emitter.Emitter.{Emitter}
-use Rattle.lower_emit.specs.Emitting.{limits_in, state_in, SoundIn, LeftIn, EmitsTo}
-use Rattle.lower_emit.proofs.Steps.{left-next, some-is}
+use Rattle.lower_emit.specs.Emitting.{limits_in, state_in, SoundIn, SameAreas, LeftIn, EmitsTo}
+use Rattle.lower_emit.proofs.Steps.{areas-none, areas-after, left-next, some-is}
 use Rattle.lower_emit.proofs.Parts.{emits-by}
 use Rattle.lower_stmt.proofs.Between.{stack-low, left-itself, left-own, left-by, left-sound, reached_by, emits-full}
 
@@ -33,6 +33,7 @@ pub record StmtsRest (d : ℕ) (t : List ℕ) (names : List Name) (a : Emitter) 
   pub stmts : StmtsLowerable d n t p
   pub next : (stmts_at d n t p).end ≡ (stmts_at d n₀ t p₀).end
   pub limits : limits_in b ≡ limits_in a
+  pub areas : SameAreas a b
   pub left : LeftIn t a b (state_in t b)
   pub code : emit_at a.code.base (stmts_code d n t names (keeping_of i) p) (state_in t b) ≡ emit_at a.code.base (stmts_code d n₀ t names (keeping_of i₀) p₀) (state_in t a)
   pub spare : Spare i (loops_block (stmts_at d n t p).value)
@@ -45,6 +46,7 @@ stmts-all {d} {t} {a} {i} {n} {p} names m e S r s = subst (λ (k : ℕ). StmtsRe
   stmts = r;
   next = refl;
   limits = refl;
+  areas = areas-none;
   left = left-itself S;
   code = refl;
   spare = s;
@@ -90,7 +92,7 @@ module _ {d : ℕ} {t : List ℕ} {names : List Name} {a : Emitter} {i₀ n₀ p
       pub stmts-over : {r' : Option ℕ} {next : ℕ} → r ≡ None → r' ≡ None
           → EmitsTo r' (stmts_code d n₀ t names (keeping_of i₀) p₀) next t a c × Passes r' i₀ i' (loops_block (stmts_at d n₀ t p₀).value)
       stmts-over z y = (
-        emits-full inv.limits z y e.lowers.reaches
+        emits-full inv.limits inv.areas z y e.lowers.reaches
             (λ w. subst (Within (limits_in a)) (sym based) (within-down a.code.base _ (lengthens-block names (past m (keeping_of i)) _) (subst (Within (limits_in a)) (sym split) w))),
         passes_over y,
       )
@@ -108,6 +110,7 @@ module _ {d : ℕ} {t : List ℕ} {names : List Name} {a : Emitter} {i₀ n₀ p
             stmts = subst (StmtsLowerable d (n - 1) t) (sym there) g.1;
             next = ap (λ (x : ℕ). (stmts_at d (n - 1) t x).end) there ∙ sym (stmts-code d t names (keeping_of i) n p h inv.stmts).1 ∙ inv.next;
             limits = e.lowers.reaches.limits ∙ inv.limits;
+            areas = areas-after inv.areas e.lowers.reaches.areas;
             left = left-own (left-next inv.limits inv.left done);
             code = (λ j. emit_at a.code.base (stmts_code d (n - 1) t names (sym keeping j) (there j)) ((done.left.state ∙ based) j)) ∙ split;
             spare = subst (λ (x : ℕ). Spare x (loops_block (stmts_at d (n - 1) t q).value)) (sym moved) (subst (Spare (after_loops i m)) left (spare-rest i m rest both));
@@ -120,7 +123,7 @@ module _ {d : ℕ} {t : List ℕ} {names : List Name} {a : Emitter} {i₀ n₀ p
       let ended : state_in t b ≡ whole = sym (ap (λ (e : Emit). emit_at a.code.base e (state_in t b)) g.0 ∙ at-nothing a.code.base (state_in t b)) ∙ inv.code in (
         record {
           place = λ k z. sym (some-is z) ∙ g.1 ∙ inv.next;
-          lowers = record { reaches = reached_by p inv.limits (left-by inv.left ended) };
+          lowers = record { reaches = reached_by p inv.limits inv.areas (left-by inv.left ended) };
         },
         record { at = λ x z. sym (after_none i) ∙ ap (after_loops i) (sym (none-loops d t h inv.stmts.reads)) ∙ inv.loops },
       )

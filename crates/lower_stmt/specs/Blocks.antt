@@ -4,11 +4,7 @@ use Rattle.definitions.specs.Tables.{Method}
 use Rattle.state.specs.State.{State, method_of}
 use Rattle.state.specs.declared.Counts.{Counts}
 use Rattle.lower_emit.specs.declared.emitter.Emitter.{Emitter}
-use Rattle.lower_emit.specs.Emitting.{counts_of, SoundIn, NextIs, Reaches}
-
-pub record SoleIn (tree : List ℕ) (e : Emitter) : Type 0 where
-  pub tree-short : length tree ≤ 32768
-  pub sound : SoundIn tree e
+use Rattle.lower_emit.specs.Emitting.{counts_of, NextIs, Reaches}
 
 -- a function more than methods
 abbrev pub Ahead : ℕ → Counts → Counts → Type 0
@@ -19,7 +15,7 @@ pub record CompilesIn (r : Option ℕ) (next : ℕ) (want : State) (tree : List 
   pub place : NextIs r next
   pub reaches : Reaches r tree a b want
   pub ahead : (n : ℕ) → r ≡ Some n → Ahead 1 (counts_of a) (counts_of b)
-  pub more : (n : ℕ) → r ≡ Some n → a.tables.functions < b.tables.functions
+  pub more : (n : ℕ) → r ≡ Some n → a.tables.functions.count < b.tables.functions.count
 
 -- the methods so far of a class: the first n words of the list
 pub record Methodical (n : ℕ) (tree list : List ℕ) (c k : Counts) (want : List Method) : Type 0 where

@@ -1,5 +1,7 @@
 // The lowering of statements and blocks in one path: a statement holds blocks and a block holds statements.
 // `it` tells where loops keep their iterators: it is the slot of the next loop's, or IN_GLOBALS.
+// A position and the levels left there stay two numbers: each call gives both anew, so a struct of them would be made for each call; and what a clause asks
+// of the tree (StmtLowerable and the like) is said of the place that a call names, so it belongs to no value that lives on.
 #![tactic(auto)]
 
 ghost use Rattle.std.specs.Prelude.{[], ◌+◌, ◌-◌, ◌<◌, ◌≤◌, length};
@@ -15,22 +17,22 @@ ghost use Rattle.state.specs.Words.{name_at};
 ghost use Rattle.state.specs.State.{emit_at, slot_names};
 ghost use Rattle.state.specs.Steps.{branch, chain_at, methods_at, methods_of};
 ghost use Rattle.state.specs.Kept.{keeping_of, Spare, Passes};
-ghost use Rattle.lower_forms.specs.Lowerable.{expr_code};
+ghost use Rattle.lower_forms.specs.Lowerable.{SoleIn, expr_code};
 ghost use Rattle.lower_forms.specs.Lowering.{StmtLowerable, BlockLowerable, StmtsLowerable, BranchLowerable, BranchesLowerable, IfLowerable, ForLowerable};
 ghost use Rattle.lower_forms.specs.Lowering.{FunctionLowerable, MethodsLowerable, ClassLowerable, stmt_code, block_code, stmts_code, function_code, end_of, class_code};
-ghost use Rattle.lower_emit.specs.Emitting.{state_in, SoundIn, NextIs, EmitsTo, Reaches};
+ghost use Rattle.lower_emit.specs.Emitting.{state_in, NextIs, EmitsTo, Reaches};
 ghost use Rattle.lower_loops.specs.Iterators.{keeper_of, Loads};
-ghost use Rattle.lower_stmt.specs.Blocks.{SoleIn, CompilesIn, ListsIn};
+ghost use Rattle.lower_stmt.specs.Blocks.{CompilesIn, ListsIn};
 
-use lower_classes::{begin_class, begin_named, finish_class};
+use lower_classes::{begin_class, finish_class, start_named};
 use lower_emit::emitter::Emitter;
 use lower_loops::{ask_iterator, store_iterator, take_iterator};
 use lower_simple::{emit_iterable, emit_simple, emit_value, is_init, put_end};
 use methods::insert_method;
+use numerals::kinds::StmtKind;
 use numerals::ops::{JUMP, JUMP_IF_FALSE};
 use numerals::places::{METHODS_ROOM, SLOTS_FROM};
 use numerals::sizes::SLOTS_ROOM;
-use numerals::stmt;
 use parts::names::name_end;
 use parts::numbers::u16_at;
 use slots::collect::collect_locals;
@@ -46,21 +48,26 @@ fn emit_stmt(
     depth: u32,
     it: &mut u32,
 ) -> Option<usize>
-    requires { SoundIn s.tree.now e.old × StmtLowerable depth s.tree.now at × Spare it.old (loops_stmt (stmt_at depth s.tree.now at).value) }
+    requires { SoleIn s.tree.now e.old × StmtLowerable depth s.tree.now at × Spare it.old (loops_stmt (stmt_at depth s.tree.now at).value) }
     ensures { let t = s.entry.tree.now in let names = slot_names t s.entry.slots.now in
         EmitsTo result (stmt_code depth t names (keeping_of it.old) at) (stmt_at depth t at).end t e.old e.new
         × Passes result it.old it.new (loops_stmt (stmt_at depth t at).value) }
 {
-    match s.tree[at] {
-        stmt::IF => emit_if(s, e, at + 1, depth - 1, it),
-        stmt::WHILE => emit_while(s, e, at + 1, depth - 1, it),
-        stmt::FOR => emit_for(s, e, at + 1, depth - 1, it),
-        stmt::DEF => compile_function(s.tree, e, at + 1, depth - 1, false),
-        stmt::CLASS => {
+    match StmtKind::of(s.tree[at]) {
+        StmtKind::If => emit_if(s, e, at + 1, depth - 1, it),
+        StmtKind::While => emit_while(s, e, at + 1, depth - 1, it),
+        StmtKind::For => emit_for(s, e, at + 1, depth - 1, it),
+        StmtKind::Def => compile_function(s.tree, e, at + 1, depth - 1, false),
+        StmtKind::Class => {
             emit_class(s.tree, e, at + 1, depth - 1)?;
             Some(skip_stmt(s.tree, at, depth))
         }
-        _ => emit_simple(s, e, at, depth),
+        StmtKind::Break
+        | StmtKind::Continue
+        | StmtKind::Pass
+        | StmtKind::Expr
+        | StmtKind::Return
+        | StmtKind::Assign => emit_simple(s, e, at, depth),
     }
 }
 
@@ -74,7 +81,7 @@ fn emit_stmts(
     count: u32,
     it: &mut u32,
 ) -> Option<usize>
-    requires { SoundIn s.tree.now e.old × StmtsLowerable depth count s.tree.now at × Spare it.old (loops_block (stmts_at depth count s.tree.now at).value) }
+    requires { SoleIn s.tree.now e.old × StmtsLowerable depth count s.tree.now at × Spare it.old (loops_block (stmts_at depth count s.tree.now at).value) }
     ensures { let t = s.entry.tree.now in let names = slot_names t s.entry.slots.now in
         EmitsTo result (stmts_code depth count t names (keeping_of it.old) at) (stmts_at depth count t at).end t e.old e.new
         × Passes result it.old it.new (loops_block (stmts_at depth count t at).value) }
@@ -95,7 +102,7 @@ pub fn emit_block(
     depth: u32,
     it: &mut u32,
 ) -> Option<usize>
-    requires { SoundIn s.tree.now e.old × BlockLowerable depth s.tree.now at × Spare it.old (loops_block (block_at depth s.tree.now at).value) }
+    requires { SoleIn s.tree.now e.old × BlockLowerable depth s.tree.now at × Spare it.old (loops_block (block_at depth s.tree.now at).value) }
     ensures { let t = s.entry.tree.now in let names = slot_names t s.entry.slots.now in
         EmitsTo result (block_code depth t names (keeping_of it.old) at) (block_at depth t at).end t e.old e.new
         × Passes result it.old it.new (loops_block (block_at depth t at).value) }
@@ -113,7 +120,7 @@ fn emit_branch(
     depth: u32,
     it: &mut u32,
 ) -> Option<usize>
-    requires { SoundIn s.tree.now e.old × BranchLowerable depth s.tree.now at × Spare it.old (loops_block (body_at depth s.tree.now at).value) }
+    requires { SoleIn s.tree.now e.old × BranchLowerable depth s.tree.now at × Spare it.old (loops_block (body_at depth s.tree.now at).value) }
     ensures { let t = s.entry.tree.now in let names = slot_names t s.entry.slots.now in
         EmitsTo result (branch names (keeping_of it.old) (expr_at depth t at).value (body_at depth t at).value) (body_at depth t at).end t e.old e.new
         × Passes result it.old it.new (loops_block (body_at depth t at).value) }
@@ -128,7 +135,7 @@ fn emit_branch(
 // A first branch, a count of elifs, these, and an else block or none.
 #[cycle(emit)]
 fn emit_if(s: Scope<'_>, e: &mut Emitter<'_>, at: usize, depth: u32, it: &mut u32) -> Option<usize>
-    requires { SoundIn s.tree.now e.old × IfLowerable depth s.tree.now at × Spare it.old (loops_block (body_at depth s.tree.now at).value + loops_branches (elifs_at depth s.tree.now at).value) }
+    requires { SoleIn s.tree.now e.old × IfLowerable depth s.tree.now at × Spare it.old (loops_block (body_at depth s.tree.now at).value + loops_branches (elifs_at depth s.tree.now at).value) }
     ensures { let t = s.entry.tree.now in let names = slot_names t s.entry.slots.now in
         EmitsTo result (emit_stmt names (keeping_of it.old) (if (when (expr_at depth t at).value (body_at depth t at).value (elifs_at depth t at).value)))
         (elifs_at depth t at).end t e.old e.new
@@ -149,7 +156,7 @@ fn emit_elifs(
     n: u32,
     it: &mut u32,
 ) -> Option<usize>
-    requires { SoundIn s.tree.now e.old × BranchesLowerable depth n s.tree.now at × (0 < e.old.code.open) × Spare it.old (loops_branches (branches_at depth n s.tree.now at).value) }
+    requires { SoleIn s.tree.now e.old × BranchesLowerable depth n s.tree.now at × (0 < e.old.code.open) × Spare it.old (loops_branches (branches_at depth n s.tree.now at).value) }
     ensures { let t = s.entry.tree.now in let names = slot_names t s.entry.slots.now in
         NextIs result (branches_at depth n t at).end
         × Reaches result t e.old e.new (chain_at e.old.code.base names (keeping_of it.old) (branches_at depth n t at).value (e.old.code.open - 1) (state_in t e.old))
@@ -174,7 +181,7 @@ fn emit_else(
     depth: u32,
     it: &mut u32,
 ) -> Option<usize>
-    requires { SoundIn s.tree.now e.old × BranchesLowerable depth 0 s.tree.now at × (0 < e.old.code.open) × Spare it.old (loops_branches (branches_at depth 0 s.tree.now at).value) }
+    requires { SoleIn s.tree.now e.old × BranchesLowerable depth 0 s.tree.now at × (0 < e.old.code.open) × Spare it.old (loops_branches (branches_at depth 0 s.tree.now at).value) }
     ensures { let t = s.entry.tree.now in let names = slot_names t s.entry.slots.now in
         NextIs result (branches_at depth 0 t at).end
         × Reaches result t e.old e.new (chain_at e.old.code.base names (keeping_of it.old) (branches_at depth 0 t at).value (e.old.code.open - 1) (state_in t e.old))
@@ -200,7 +207,7 @@ fn emit_while(
     depth: u32,
     it: &mut u32,
 ) -> Option<usize>
-    requires { SoundIn s.tree.now e.old × BranchLowerable depth s.tree.now at × Spare it.old (loops_block (body_at depth s.tree.now at).value) }
+    requires { SoleIn s.tree.now e.old × BranchLowerable depth s.tree.now at × Spare it.old (loops_block (body_at depth s.tree.now at).value) }
     ensures { let t = s.entry.tree.now in let names = slot_names t s.entry.slots.now in
         EmitsTo result (loop (expr_code depth t names at) (block_code depth t names (keeping_of it.old) (expr_at depth t at).end))
         (body_at depth t at).end t e.old e.new
@@ -217,7 +224,7 @@ fn emit_while(
 // A loop variable, what it goes through, and a block.
 #[cycle(emit)]
 fn emit_for(s: Scope<'_>, e: &mut Emitter<'_>, at: usize, depth: u32, it: &mut u32) -> Option<usize>
-    requires { SoundIn s.tree.now e.old × ForLowerable depth s.tree.now at × Spare it.old (1 + loops_block (body_at depth s.tree.now (name_end s.tree.now at)).value) }
+    requires { SoleIn s.tree.now e.old × ForLowerable depth s.tree.now at × Spare it.old (1 + loops_block (body_at depth s.tree.now (name_end s.tree.now at)).value) }
     ensures { let t = s.entry.tree.now in let names = slot_names t s.entry.slots.now in
         EmitsTo result (emit_stmt names (keeping_of it.old) (for (name_at t at) (expr_at depth t (name_end t at)).value (body_at depth t (name_end t at)).value))
         (body_at depth t (name_end t at)).end t e.old e.new
@@ -240,7 +247,7 @@ fn emit_rounds(
     load: u32,
     it: &mut u32,
 ) -> Option<usize>
-    requires { SoundIn s.tree.now e.old × There s.tree.now at × BlockLowerable depth s.tree.now block × Loads load (keeper_of load) × Spare it.old (loops_block (block_at depth s.tree.now block).value) }
+    requires { SoleIn s.tree.now e.old × There s.tree.now at × BlockLowerable depth s.tree.now block × Loads load (keeper_of load) × Spare it.old (loops_block (block_at depth s.tree.now block).value) }
     ensures { let t = s.entry.tree.now in let names = slot_names t s.entry.slots.now in
         EmitsTo result (loop (ask_iter (keeper_of load)) (take_iter names (name_at t at) (keeper_of load) ⨟ block_code depth t names (keeping_of it.old) block))
         (block_at depth t block).end t e.old e.new
@@ -265,7 +272,7 @@ fn emit_body(
     init: bool,
     first: u32,
 ) -> Option<usize>
-    requires { SoundIn s.tree.now e.old × BlockLowerable depth s.tree.now at × Spare first (loops_block (block_at depth s.tree.now at).value) }
+    requires { SoleIn s.tree.now e.old × BlockLowerable depth s.tree.now at × Spare first (loops_block (block_at depth s.tree.now at).value) }
     ensures { let t = s.entry.tree.now in let names = slot_names t s.entry.slots.now in
         EmitsTo result (block_code depth t names (keeping_of first) at ⨟ emits (end_of init)) (block_at depth t at).end t e.old e.new }
 {
@@ -294,7 +301,7 @@ fn compile_function(
     let block = skip_params(tree, params);
     let frame = collect_locals(tree, params, block, depth, &mut slots)?;
     let base = e.code.base;
-    let f = begin_named(tree, e, at, arity, frame.locals)?;
+    let f = start_named(tree, e, at, arity, frame.locals)?;
     let s = Scope {
         tree,
         slots: &slots[..SLOTS_FROM + frame.named as usize],
@@ -321,7 +328,7 @@ fn emit_methods(
     let mut p = at;
     let mut count = 0u32;
     for _ in 0..n {
-        let number = e.tables.functions;
+        let number = e.tables.functions.count;
         let next = compile_function(tree, e, p, depth, is_init(tree, p))?;
         count = insert_method(tree, list, count, p as u32 * 256 + number);
         p = next;
@@ -336,7 +343,8 @@ fn emit_class(tree: &[u8], e: &mut Emitter<'_>, at: usize, depth: u32) -> Option
     ensures { Reaches result tree.now e.old e.new (emit_at e.old.code.base (class_code (name_at tree.now at) (class_methods_at depth tree.now at).value) (state_in tree.now e.old)) }
 {
     let mut list = [0u32; METHODS_ROOM];
-    let i = begin_class(&mut e.tables, at)?;
+    let tables = &mut e.tables;
+    let i = begin_class(&mut tables.classes, &mut tables.entries, at)?;
     let start = name_end(tree, at);
     let n = u16_at(tree, start);
     let count = emit_methods(tree, e, start + 2, depth, n, &mut list)?;

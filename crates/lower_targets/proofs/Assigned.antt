@@ -1,6 +1,6 @@
 -- Assignments by the laws of the state: elements of a tuple target, values after an object, and constants.
 use Prim.Native.Nat.{ℕ, ◌+◌, ◌-◌, ◌<◌, ◌≤◌}
-use mathlib.Core.Path.{◌≡◌, refl, sym, ap, ◌∙◌}
+use mathlib.Core.Path.{◌≡◌, refl, sym, ap, subst, ◌∙◌}
 use mathlib.Core.List.{List, []}
 use native.Mathlib.Omega.{arith}
 use lib.ListN.{length, get_or}
@@ -25,7 +25,7 @@ use Rattle.lower_emit.specs.declared.emitter.Emitter.{Emitter}
 use Rattle.lower_emit.specs.Emitting.{counts_of, limits_in, state_in, SoundIn, beside, LowersIn, EmitsTo, Puts}
 use Rattle.lower_emit.proofs.Packing.{instr-plain, plain-below}
 use Rattle.lower_emit.proofs.Steps.{put-lifts, lowers-by}
-use Rattle.lower_emit.proofs.Parts.{emits_then}
+use Rattle.lower_emit.proofs.Parts.{emits_then, words-end}
 use Rattle.lower_expr.proofs.Words.{emits_at}
 
 module _ {t : List ℕ} {a : Emitter} (S : SoundIn t a) (d : ℕ) (names : List Name) where
@@ -36,7 +36,7 @@ module _ {t : List ℕ} {a : Emitter} (S : SoundIn t a) (d : ℕ) (names : List 
   s = state_in t a
 
   low : b ≤ length s.stack
-  low = base-below t a.tables.made.now a.code.words.now a.tables.entries.now (counts_of a) (limits_in a) S.sound
+  low = base-below t a.tables.names.made.now a.code.words.now a.tables.entries.words.now (counts_of a) (limits_in a) S.sound
 
   pub none-state : (n p i : ℕ) → n ≡ 0 → emit_at b (unpack names (elements_at d t n p) i) s ≡ emit_at b (emits []) s
   none-state n p i e = none-unpacked d t names n p i b s e ∙ sym (at-nothing b s)
@@ -89,3 +89,15 @@ module _ {t : List ℕ} {d p q : ℕ} (e : p ≡ q) (v : Lowerable d t q) (h : g
 
   pub constant-end : p + 1 ≡ (expr_at d t q).end
   constant-end = sym (arm-constant d t p here (get_or t p 0) refl h).end ∙ ap (λ (x : ℕ). (expr_at d t x).end) e
+
+  -- put as a word alone: the value, where it has room
+  pub constant-valued : {A : Type 0} {x : A} {r : Option A} {a b : Emitter} {c : Code} {n : ℕ} (names : List Name) → SoundIn t a → r ≡ Some x → Puts r (word (5 - get_or t p 0) 0 0) a.code c
+      → b ≡ beside c a.tables → n ≡ p + 1 → EmitsTo (Some n) (expr_code d t names q) (expr_at d t q).end t a b
+  constant-valued {a = a} {n = n} names S z g k f = subst (λ x. EmitsTo (Some n) (expr_code d t names q) (expr_at d t q).end t a x) (sym k) (words-end z (f ∙ constant-end) (constant-lowers names S g))
+
+-- any other value at p, which is q
+pub expr-valued : {t : List ℕ} {p q k n : ℕ} {r : Option ℕ} {a b m : Emitter} (d : ℕ) (names : List Name) → p ≡ q → r ≡ Some k → EmitsTo r (expr_code d t names p) (expr_at d t p).end t a b → m ≡ b → n ≡ k
+    → EmitsTo (Some n) (expr_code d t names q) (expr_at d t q).end t a m
+expr-valued {t} {p} {q} {k} {n} {r} {a} {b} {m} d names e z h f g =
+    let y : r ≡ Some n = z ∙ ap Some (sym g) in
+    subst (λ (w : Type 0). w) (λ i. EmitsTo (y i) (expr_code d t names q) (expr_at d t q).end t a (sym f i)) (expr-by d names e h)

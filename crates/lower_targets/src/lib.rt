@@ -1,4 +1,6 @@
 // Assignments by the form of the target, in the path of the emission: none where the module is over the limits.
+// A position and the levels left there stay two numbers: each call gives both anew, so a struct of them would be made for each call; and what a clause asks
+// of the tree (ExprReads, AssignLowerable) is said of the place that a call names, so it belongs to no value that lives on.
 #![tactic(auto)]
 
 ghost use Rattle.std.specs.Prelude.{◌+◌, ◌-◌, ◌≤◌};
@@ -9,16 +11,16 @@ ghost use Rattle.parts.specs.Places.{count_at, name_end};
 ghost use Rattle.exprs.specs.ExprAt.{expr_at, second_at, ExprReads};
 ghost use Rattle.state.specs.Words.{name_at};
 ghost use Rattle.state.specs.State.{slot_names};
-ghost use Rattle.lower_forms.specs.Lowerable.{expr_code};
+ghost use Rattle.lower_forms.specs.Lowerable.{SoleIn, expr_code};
 ghost use Rattle.lower_forms.specs.Elements.{ElementsRead, elements_at};
 ghost use Rattle.lower_forms.specs.Assigned.{AssignLowerable, assign_code, VariableAssigned, AttributeAssigned, IndexAssigned, TupleAssigned};
-ghost use Rattle.lower_emit.specs.Emitting.{SoundIn, LowersIn, EmitsTo};
+ghost use Rattle.lower_emit.specs.Emitting.{LowersIn, EmitsTo};
 
 use lower_emit::emitter::Emitter;
 use lower_expr::emit_expr;
 use lower_leaves::elements::{put_element, skip_exprs};
 use lower_names::{emit_store, emit_symbol};
-use numerals::expr;
+use numerals::kinds::ExprKind;
 use numerals::ops::{NONE, STORE_ATTR, STORE_INDEX};
 use parts::names::name_end;
 use parts::numbers::u16_at;
@@ -28,13 +30,13 @@ use state::Scope;
 // The value on the stack is stored in the target at `at`, an element of a tuple target. What question 10 refuses stores nothing.
 #[cycle(emit)]
 fn emit_assign_target(s: Scope<'_>, e: &mut Emitter<'_>, at: usize, depth: u32) -> Option<()>
-    requires { SoundIn s.tree.now e.old × ExprReads depth s.tree.now at }
+    requires { SoleIn s.tree.now e.old × ExprReads depth s.tree.now at }
     ensures { let t = s.entry.tree.now in let names = slot_names t s.entry.slots.now in
         LowersIn result (emit_target names (expr_at depth t at).value) t e.old e.new }
 {
-    match s.tree[at] {
-        expr::VARIABLE => emit_store(s, e, at + 1),
-        expr::TUPLE => emit_elements(s, e, at + 3, depth - 1, u16_at(s.tree, at + 1), 0),
+    match ExprKind::of(s.tree[at]) {
+        ExprKind::Variable => emit_store(s, e, at + 1),
+        ExprKind::Tuple => emit_elements(s, e, at + 3, depth - 1, u16_at(s.tree, at + 1), 0),
         _ => Some(()),
     }
 }
@@ -49,7 +51,7 @@ fn emit_elements(
     n: u32,
     i: u32,
 ) -> Option<()>
-    requires { SoundIn s.tree.now e.old × ElementsRead depth s.tree.now n at × (i + n ≤ 65536) }
+    requires { SoleIn s.tree.now e.old × ElementsRead depth s.tree.now n at × (i + n ≤ 65536) }
     ensures { let t = s.entry.tree.now in let names = slot_names t s.entry.slots.now in
         LowersIn result (unpack names (elements_at depth t n at) i) t e.old e.new }
 {
@@ -68,25 +70,26 @@ fn emit_elements(
 
 // To the variable whose name is at `at`; None, False or True by a word alone.
 fn assign_variable(s: Scope<'_>, e: &mut Emitter<'_>, at: usize, depth: u32) -> Option<usize>
-    requires { SoundIn s.tree.now e.old × VariableAssigned depth s.tree.now at }
+    requires { SoleIn s.tree.now e.old × VariableAssigned depth s.tree.now at }
     ensures { let t = s.entry.tree.now in let names = slot_names t s.entry.slots.now in
         EmitsTo result (expr_code depth t names (name_end t at) ⨟ store names (name_at t at)) (expr_at depth t (name_end t at)).end t e.old e.new }
 {
     let start = name_end(s.tree, at);
-    let kind = s.tree[start];
-    if kind < expr::INT {
-        e.code.put_op(NONE - kind as u32, 0, 0)?;
-        emit_store(s, e, at)?;
-        return Some(start + 1);
-    }
-    let next = emit_expr(s, e, start, depth)?;
+    let byte = s.tree[start];
+    let next = match ExprKind::of(byte) {
+        ExprKind::NoneLiteral | ExprKind::False | ExprKind::True => {
+            e.code.put_op(NONE - byte as u32, 0, 0)?;
+            start + 1
+        }
+        _ => emit_expr(s, e, start, depth)?,
+    };
     emit_store(s, e, at)?;
     Some(next)
 }
 
 // To the attribute whose object is at `at`, a level deeper.
 fn assign_attribute(s: Scope<'_>, e: &mut Emitter<'_>, at: usize, depth: u32) -> Option<usize>
-    requires { SoundIn s.tree.now e.old × AttributeAssigned depth s.tree.now at }
+    requires { SoleIn s.tree.now e.old × AttributeAssigned depth s.tree.now at }
     ensures { let t = s.entry.tree.now in let names = slot_names t s.entry.slots.now in
         EmitsTo result (expr_code (depth - 1) t names at ⨟ expr_code depth t names (name_end t (expr_at (depth - 1) t at).end) ⨟ intern (name_at t (expr_at (depth - 1) t at).end) (λ k. one (StoreAttr k)))
         (expr_at depth t (name_end t (expr_at (depth - 1) t at).end)).end t e.old e.new }
@@ -100,7 +103,7 @@ fn assign_attribute(s: Scope<'_>, e: &mut Emitter<'_>, at: usize, depth: u32) ->
 
 // To the index whose object is at `at`, a level deeper.
 fn assign_index(s: Scope<'_>, e: &mut Emitter<'_>, at: usize, depth: u32) -> Option<usize>
-    requires { SoundIn s.tree.now e.old × IndexAssigned depth s.tree.now at }
+    requires { SoleIn s.tree.now e.old × IndexAssigned depth s.tree.now at }
     ensures { let t = s.entry.tree.now in let names = slot_names t s.entry.slots.now in
         EmitsTo result (expr_code (depth - 1) t names at ⨟ expr_code (depth - 1) t names (expr_at (depth - 1) t at).end ⨟ expr_code depth t names (second_at (depth - 1) t at).end ⨟ one StoreIndex)
         (expr_at depth t (second_at (depth - 1) t at).end).end t e.old e.new }
@@ -114,7 +117,7 @@ fn assign_index(s: Scope<'_>, e: &mut Emitter<'_>, at: usize, depth: u32) -> Opt
 
 // To the tuple at `at`.
 fn assign_tuple(s: Scope<'_>, e: &mut Emitter<'_>, at: usize, depth: u32) -> Option<usize>
-    requires { SoundIn s.tree.now e.old × TupleAssigned depth s.tree.now at }
+    requires { SoleIn s.tree.now e.old × TupleAssigned depth s.tree.now at }
     ensures { let t = s.entry.tree.now in let names = slot_names t s.entry.slots.now in
         EmitsTo result (expr_code depth t names (expr_at depth t at).end ⨟ unpack names (elements_at (depth - 1) t (count_at t (at + 1)) (at + 3)) 0)
         (second_at depth t at).end t e.old e.new }
@@ -128,15 +131,15 @@ fn assign_tuple(s: Scope<'_>, e: &mut Emitter<'_>, at: usize, depth: u32) -> Opt
 
 // The target at `at` and the value after it. What question 10 refuses emits nothing.
 pub fn emit_assign(s: Scope<'_>, e: &mut Emitter<'_>, at: usize, depth: u32) -> Option<usize>
-    requires { SoundIn s.tree.now e.old × AssignLowerable depth s.tree.now at }
+    requires { SoleIn s.tree.now e.old × AssignLowerable depth s.tree.now at }
     ensures { let t = s.entry.tree.now in let names = slot_names t s.entry.slots.now in
         EmitsTo result (assign_code depth t names at) (second_at depth t at).end t e.old e.new }
 {
-    match s.tree[at] {
-        expr::VARIABLE => assign_variable(s, e, at + 1, depth),
-        expr::ATTRIBUTE => assign_attribute(s, e, at + 1, depth),
-        expr::TUPLE => assign_tuple(s, e, at, depth),
-        expr::INDEX => assign_index(s, e, at + 1, depth),
+    match ExprKind::of(s.tree[at]) {
+        ExprKind::Variable => assign_variable(s, e, at + 1, depth),
+        ExprKind::Attribute => assign_attribute(s, e, at + 1, depth),
+        ExprKind::Tuple => assign_tuple(s, e, at, depth),
+        ExprKind::Index => assign_index(s, e, at + 1, depth),
         _ => Some(skip_expr(s.tree, skip_expr(s.tree, at, depth), depth)),
     }
 }

@@ -23,10 +23,7 @@ fn answer(rt: &impl Print, tree: &[u8]) -> io::Result<()> {
     }
 }
 
+// What such replays share stands in `vectors`: the room and the answer alone are told here.
 fn main(rt: HostRuntime) -> io::Result<()> {
-    Lines::new(rt.stdin()).each_case(|case| case.replay(
-        &rt,
-        &mut [0; TREE_ROOM],
-        |tree| answer(&rt, tree),
-    ))
+    Lines::new(rt.stdin()).replay(&rt, &mut [0; TREE_ROOM], |tree| answer(&rt, tree))
 }

@@ -31,7 +31,6 @@ use Rattle.lowering.specs.Lowered.{said, Answers, Lowers}
 use Rattle.questions.specs.declared.Question.{Question}
 use Rattle.questions.specs.declared.Question.TheVariants.{WorkAreas, Slots, Limits as LimitsKept, ModuleRoom}
 use Rattle.questions.specs.Numbers.{number}
-use Rattle.state.specs.declared.Counts.{Counts}
 use Rattle.std.specs.Prelude.{Option, Some, None, Result, Ok, Err}
 use Rattle.lowering.proofs.Outcome.{answer-areas, Checks, check-gives, answer-checked, answer-slots, answer-over, answer-fits, room-over, room-enough}
 
@@ -94,10 +93,7 @@ module _ (l : Limits) (m n room : ℕ) (tree out : List ℕ) (first : 16384 ≤ 
     unfolding number
     answers-slots e = refuses answer Slots out (answer-slots (limits_of l) m n room tree (areas-fit m n first second) (tree_block tree) checks (slots-are ∙ e))
 
-  module _ (T : TreeAt tree) {A : Type 0} {r : Option A} {a b : Emitter} (p : a.tables.limits ≡ l) (q : a.code.limit ≡ l.instructions) (h : CompilesTree r tree a b (compile (tree_block tree)).tables) where
-    same : limits_in a ≡ l
-    same = λ i. record { functions = (p i).functions; symbols = (p i).symbols; strings = (p i).strings; classes = (p i).classes; instructions = q i }
-
+  module _ (T : TreeAt tree) {A : Type 0} {r : Option A} {a b : Emitter} (same : limits_in a ≡ l) (h : CompilesTree r tree a b (compile (tree_block tree)).tables) where
     -- 15
     pub answers-over : r ≡ None → fits_block [] (tree_block tree) ≡ true → Answers (Err LimitsKept) answer out out
     unfolding number
@@ -106,41 +102,41 @@ module _ (l : Limits) (m n room : ℕ) (tree out : List ℕ) (first : 16384 ≤ 
         (tables-over l (compile (tree_block tree)).tables (slots-are T ∙ f) (λ w. h.full e (subst (λ (k : Limits). Within k (record { stack = []; tables = (compile (tree_block tree)).tables })) (sym same) w))))
 
     module _ {x : A} (e : r ≡ Some x) where
-      sound : Sound tree b.tables.made.now b.code.words.now b.tables.entries.now (counts_of b) l
-      sound = subst (λ (k : Limits). Sound tree b.tables.made.now b.code.words.now b.tables.entries.now (counts_of b) k) (h.limits ∙ same) (h.sound x e).sound
+      sound : Sound tree b.tables.names.made.now b.code.words.now b.tables.entries.words.now (counts_of b) l
+      sound = subst (λ (k : Limits). Sound tree b.tables.names.made.now b.code.words.now b.tables.entries.words.now (counts_of b) k) (h.limits ∙ same) (h.sound x e).sound
 
       -- 14 and 15
       slots-yes : slots_fit (compile (tree_block tree)).tables ≡ true
       unfolding state_of
-      slots-yes = ap slots_fit (sym (h.tables x e)) ∙ few-slots tree b.tables.made.now b.code.words.now b.tables.entries.now (counts_of b) l sound
+      slots-yes = ap slots_fit (sym (h.tables x e)) ∙ few-slots tree b.tables.names.made.now b.code.words.now b.tables.entries.words.now (counts_of b) l sound
 
       tables-yes : tables_fit (limits_of l) (compile (tree_block tree)).tables ≡ true
       unfolding state_of
       tables-yes =
           ap (tables_fit (limits_of l)) (sym (h.tables x e))
-          ∙ tables-within l (state_in tree b) (within-sound tree b.tables.made.now b.code.words.now b.tables.entries.now (counts_of b) l sound)
+          ∙ tables-within l (state_in tree b) (within-sound tree b.tables.names.made.now b.code.words.now b.tables.entries.words.now (counts_of b) l sound)
 
       -- 16
       pub answers-fits : {r' : Result ℕ Question} {out' : List ℕ}
-          → Answers r' (fits_room room (module_bytes (tables_of tree b.tables.made.now b.code.words.now b.tables.entries.now (counts_of b)))) out out' → Answers r' answer out out'
+          → Answers r' (fits_room room (module_bytes (tables_of tree b.tables.names.made.now b.code.words.now b.tables.entries.words.now (counts_of b)))) out out' → Answers r' answer out out'
       answers-fits {r'} {out'} A = subst (λ (z : Answer (List ℕ)). Answers r' z out out')
           (ap (λ (t : Tables). fits_room room (module_bytes t)) (h.tables x e)
           ∙ sym (answer-fits (limits_of l) m n room tree (areas-fit m n first second) (tree_block tree) (checks T) slots-yes tables-yes)) A
 
 -- ---- question 16
 
-module _ (tree made code entries out : List ℕ) (room : ℕ) {c k : Counts} {size : ℕ} (e : c ≡ k) (sized : size ≡ length (module_bytes (tables_of tree made code entries c))) where
+module _ {t want : Tables} (out : List ℕ) (room : ℕ) {size : ℕ} (e : t ≡ want) (sized : size ≡ length (module_bytes t)) where
   abbrev bytes : List ℕ
-  bytes = module_bytes (tables_of tree made code entries k)
+  bytes = module_bytes want
 
-  same-bytes : module_bytes (tables_of tree made code entries c) ≡ bytes
-  same-bytes = ap (λ (x : Counts). module_bytes (tables_of tree made code entries x)) e
+  same-bytes : module_bytes t ≡ bytes
+  same-bytes = ap module_bytes e
 
   pub room-refuses : room < size → Answers (Err ModuleRoom) (fits_room room bytes) out out
   unfolding number
   room-refuses h = refuses (fits_room room bytes) ModuleRoom out (room-over room bytes (omega (arith, sized, ap length same-bytes)))
 
-  pub room-writes : size ≤ room → {w : ℕ} {out' : List ℕ} → Wrote w (module_bytes (tables_of tree made code entries c)) out out' → Answers (Ok w) (fits_room room bytes) out out'
+  pub room-writes : size ≤ room → {w : ℕ} {out' : List ℕ} → Wrote w (module_bytes t) out out' → Answers (Ok w) (fits_room room bytes) out out'
   room-writes h {w} {out'} W =
       writes (fits_room room bytes) bytes w out out' (room-enough room bytes (omega (arith, sized, ap length same-bytes)))
       (W.count ∙ ap length same-bytes) (W.out ∙ ap (λ (x : List ℕ). written x out) same-bytes)

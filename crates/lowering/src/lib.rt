@@ -15,30 +15,28 @@ use compile::compile;
 use fits::statements::check_slots;
 use limits::{Limits, limit_numbers};
 use lower_emit::emitter::Emitter;
-use module::{module_size, write_module};
+use module::Lowered;
 use numerals::sizes::{AREA, MADE_ROOM};
 use questions::Question;
 use tree::check_tree;
 
 // Question 16: the module of the emitter's tables where the output has room for it; how many bytes of the output it is.
 fn write_tables(tree: &[u8], e: &Emitter<'_>, out: &mut [u8]) -> Result<usize, Question>
-    requires { Roomy e.now.code.words.now e.now.tables.entries.now (counts_of e.now) }
-    ensures { Answers result (fits_room (length out.old) (module_bytes (tables_of tree.now e.now.tables.made.now e.now.code.words.now e.now.tables.entries.now (counts_of e.now)))) out.old out.new }
+    requires { Roomy e.now.code.words.now e.now.tables.entries.words.now (counts_of e.now) }
+    ensures { Answers result (fits_room (length out.old) (module_bytes (tables_of tree.now e.now.tables.names.made.now e.now.code.words.now e.now.tables.entries.words.now (counts_of e.now)))) out.old out.new }
 {
-    let c = e.counts();
-    let size = module_size(tree, e.tables.made, e.code.words, e.tables.entries, c);
+    let lowered = Lowered::new(
+        tree,
+        e.tables.names.made,
+        e.code.words,
+        e.tables.entries.words,
+        e.counts(),
+    );
+    let size = lowered.size();
     if out.len() < size {
         return Err(Question::ModuleRoom);
     }
-    let n = write_module(
-        tree,
-        e.tables.made,
-        e.code.words,
-        e.tables.entries,
-        c,
-        size,
-        out,
-    );
+    let n = lowered.write(size, out);
     Ok(n)
 }
 
@@ -54,8 +52,8 @@ fn lower_into(
     requires { (16384 ≤ length code.old) × (16384 ≤ length tables.old) × Limited limits }
     ensures { Answers result (lower_answer (limits_of limits) (length code.old) (length tables.old) (length out.old) tree.now) out.old out.new }
 {
-    check_tree(tree)?;
     let mut made = [0u8; MADE_ROOM];
+    check_tree(tree)?;
     let mut e = Emitter::new(code, &mut made, tables, limits);
     match compile(tree, &mut e) {
         Some(()) => write_tables(tree, &e, out),

@@ -1,6 +1,7 @@
-pub mod Filled
+pub mod HighFirst
 pub mod Encoding
 pub mod Pieces
 pub mod Lengths
 pub mod CodeLengths
 pub mod Whole
+pub mod Parts

@@ -15,14 +15,8 @@ use numerals::places::UPPER;
 pub fn words_part<'a>(words: &'a [u32], from: usize, n: usize) -> &'a [u32]
     ensures { result.now ≡ region from n words.now }
 {
-    if words.len() < from {
-        return &words[0..0];
-    }
-    if words.len() - from < n {
-        return &words[from..];
-    }
-    let end = from + n;
-    &words[from..end]
+    let rest = &words[from.min(words.len())..];
+    &rest[..n.min(rest.len())]
 }
 
 // The words whose place and count one number has.

@@ -15,26 +15,10 @@ ghost use Rattle.definitions.specs.Bytes.{be};
 ghost use Rattle.definitions.specs.Module.{module_bytes};
 ghost use Rattle.state.specs.State.{tables_of};
 ghost use Rattle.writing.specs.Wrote.{Wrote};
-ghost use Rattle.module.specs.Sections.{Roomy};
 
 use numbers::write_number;
 use numerals::sizes::{COUNT, HEAD};
-use sections::{bodies_size, texts_size, write_bodies, write_texts};
-use state::Counts;
-
-// The bytes of the module.
-pub fn module_size<'a>(
-    tree: &'a [u8],
-    made: &'a [u8],
-    code: &[u32],
-    tables: &[u32],
-    c: Counts,
-) -> usize
-    requires { Roomy code.now tables.now c }
-    ensures { (result ≡ length (module_bytes (tables_of tree.now made.now code.now tables.now c))) × (result < 2 ^ 32) }
-{
-    HEAD + texts_size(tree, made, tables, c) + bodies_size(tree, code, tables, c)
-}
+pub use sections::Lowered;
 
 // The head of a record of `size` bytes: four bytes with the count of those after them, and version 1.
 fn write_head(size: usize, out: &mut [u8]) -> usize
@@ -45,20 +29,21 @@ fn write_head(size: usize, out: &mut [u8]) -> usize
     at + write_number(1, 1, &mut out[at..])
 }
 
-// The module, whose size was asked before.
-pub fn write_module<'a>(
-    tree: &'a [u8],
-    made: &'a [u8],
-    code: &[u32],
-    tables: &[u32],
-    c: Counts,
-    size: usize,
-    out: &mut [u8],
-) -> usize
-    requires { Roomy code.now tables.now c × (size ≡ length (module_bytes (tables_of tree.now made.now code.now tables.now c))) × (size < 2 ^ 32) × (size ≤ length out.old) }
-    ensures { Wrote result (module_bytes (tables_of tree.now made.now code.now tables.now c)) out.old out.new }
-{
-    let mut at = write_head(size, out);
-    at += write_texts(tree, made, tables, c, &mut out[at..]);
-    at + write_bodies(tree, code, tables, c, &mut out[at..])
+impl Lowered<'_> {
+    // The bytes of the module.
+    pub fn size(&self) -> usize
+        ensures { let s = self.now in (result ≡ length (module_bytes (tables_of s.tree.now s.made.now s.code.now s.tables.now s.counts))) × (result < 2 ^ 32) }
+    {
+        HEAD + self.texts_size() + self.bodies_size()
+    }
+
+    // The module, whose size was asked before.
+    pub fn write(&self, size: usize, out: &mut [u8]) -> usize
+        requires { let s = self.now in (size ≡ length (module_bytes (tables_of s.tree.now s.made.now s.code.now s.tables.now s.counts))) × (size < 2 ^ 32) × (size ≤ length out.old) }
+        ensures { let s = self.now in Wrote result (module_bytes (tables_of s.tree.now s.made.now s.code.now s.tables.now s.counts)) out.old out.new }
+    {
+        let mut at = write_head(size, out);
+        at += self.write_texts(&mut out[at..]);
+        at + self.write_bodies(&mut out[at..])
+    }
 }

@@ -62,7 +62,7 @@ fn write_literal(tree: &[u8], w: u32, out: &mut [u8]) -> usize
     write_number(8, literal_bits(x), out)
 }
 
-// A signed number of 16 bits in 32 bits.
+// A signed number of 16 bits in 32 bits. A function of its own, since the definition's has a name too: first_operand is no plainer with its casts.
 fn widened(a: u32) -> u32
     requires { a < 65536 }
     ensures { result ≡ Words.widened a }

@@ -14,10 +14,7 @@ fn answer(rt: &impl Print, module: &[u8]) -> io::Result<()> {
     }
 }
 
+// What such replays share stands in `vectors`: the room and the answer alone are told here.
 fn main(rt: HostRuntime) -> io::Result<()> {
-    Lines::new(rt.stdin()).each_case(|case| case.replay(
-        &rt,
-        &mut [0; MODULE_ROOM],
-        |module| answer(&rt, module),
-    ))
+    Lines::new(rt.stdin()).replay(&rt, &mut [0; MODULE_ROOM], |module| answer(&rt, module))
 }

@@ -1,4 +1,5 @@
 // The first of some words that stands for a name, a string or a function.
+// Each search is one expression: a shared one would take a closure from each, and be no plainer.
 ghost use Rattle.std.specs.Prelude.{◌≡◌, map, ◌/◌, ◌^◌, eqb};
 ghost use Rattle.definitions.specs.Bytes.{same, position};
 ghost use Rattle.state.specs.Words.{text_at};

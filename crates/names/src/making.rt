@@ -1,11 +1,12 @@
 // Names that the lowering makes: each with its length before it, at the free end of the made bytes.
+// The bound of a single number stays a clause: a type for it would be opened at each use.
 ghost use Rattle.std.specs.Prelude.{◌≡◌, ◌++◌, ◌+◌, ◌≤◌, ◌<◌, length};
 ghost use Rattle.definitions.specs.Bytes.{decimal};
 ghost use Rattle.names.specs.Made.{made_name, pasted, Stands};
 
 use crate::Made;
 
-// The bytes `part` from `at` on, and where they end.
+// The bytes `part` from `at` on, and where they end: copy_from_slice does not tell that, and a name goes on from there.
 pub fn paste(bytes: &mut [u8], at: usize, part: &[u8]) -> usize
     requires { at + length part.now ≤ length bytes.old }
     ensures { (result ≡ at + length part.now) × (bytes.new ≡ pasted part.now at bytes.old) }
@@ -15,7 +16,7 @@ pub fn paste(bytes: &mut [u8], at: usize, part: &[u8]) -> usize
     end
 }
 
-// The decimal digits of n from `at` on, and where they end.
+// The decimal digits of n from `at` on, and where they end. Not by Display, which writes to a formatter: one over these bytes is no plainer.
 pub fn paste_decimal(bytes: &mut [u8], at: usize, n: u32) -> usize
     requires { at + length (decimal n) ≤ length bytes.old }
     ensures { (result ≡ at + length (decimal n)) × (bytes.new ≡ pasted (decimal n) at bytes.old) }

@@ -1,5 +1,6 @@
 // The kinds of a tree's expressions and statements, by name, and from their bytes.
-ghost use Rattle.numerals.specs.Kinds.{ReadsExpr, ReadsStmt};
+ghost use Rattle.std.specs.Prelude.{◌≡◌, ◌<◌};
+ghost use Rattle.numerals.specs.Kinds.{ReadsExpr, ReadsStmt, expr_byte, stmt_byte};
 
 // What an expression is. The discriminants are the kind bytes.
 #[derive(Clone, Copy, Debug, PartialEq, Eq)]
@@ -44,33 +45,69 @@ pub enum StmtKind {
 #[derive(Clone, Copy, Debug, PartialEq, Eq)]
 pub struct NoKind(pub u8);
 
+impl ExprKind {
+    // The kind of a byte that is one.
+    #[tactic(auto, unfolding(crate::specs::Kinds::expr_byte))]
+    pub fn of(byte: u8) -> Self
+        requires { byte < 18 }
+        ensures { expr_byte result ≡ byte }
+    {
+        match byte {
+            0 => ExprKind::NoneLiteral,
+            1 => ExprKind::False,
+            2 => ExprKind::True,
+            3 => ExprKind::Int,
+            4 => ExprKind::Float,
+            5 => ExprKind::Text,
+            6 => ExprKind::Variable,
+            7 => ExprKind::Unary,
+            8 => ExprKind::Binary,
+            9 => ExprKind::Call,
+            10 => ExprKind::Attribute,
+            11 => ExprKind::List,
+            12 => ExprKind::Dict,
+            13 => ExprKind::Tuple,
+            14 => ExprKind::Set,
+            15 => ExprKind::TreeSet,
+            16 => ExprKind::Index,
+            _ => ExprKind::Lambda,
+        }
+    }
+}
+
 impl TryFrom<u8> for ExprKind {
     type Error = NoKind;
 
     ghost try_from_gives = { ReadsExpr };
 
-    #[tactic(auto, unfolding(crate::specs::Kinds::expr_byte))]
     fn try_from(byte: u8) -> Result<Self, NoKind> {
+        if byte < 18 {
+            Ok(ExprKind::of(byte))
+        } else {
+            Err(NoKind(byte))
+        }
+    }
+}
+
+impl StmtKind {
+    // The kind of a byte that is one.
+    #[tactic(auto, unfolding(crate::specs::Kinds::stmt_byte))]
+    pub fn of(byte: u8) -> Self
+        requires { byte < 11 }
+        ensures { stmt_byte result ≡ byte }
+    {
         match byte {
-            0 => Ok(ExprKind::NoneLiteral),
-            1 => Ok(ExprKind::False),
-            2 => Ok(ExprKind::True),
-            3 => Ok(ExprKind::Int),
-            4 => Ok(ExprKind::Float),
-            5 => Ok(ExprKind::Text),
-            6 => Ok(ExprKind::Variable),
-            7 => Ok(ExprKind::Unary),
-            8 => Ok(ExprKind::Binary),
-            9 => Ok(ExprKind::Call),
-            10 => Ok(ExprKind::Attribute),
-            11 => Ok(ExprKind::List),
-            12 => Ok(ExprKind::Dict),
-            13 => Ok(ExprKind::Tuple),
-            14 => Ok(ExprKind::Set),
-            15 => Ok(ExprKind::TreeSet),
-            16 => Ok(ExprKind::Index),
-            17 => Ok(ExprKind::Lambda),
-            _ => Err(NoKind(byte)),
+            0 => StmtKind::Break,
+            1 => StmtKind::Continue,
+            2 => StmtKind::Pass,
+            3 => StmtKind::Expr,
+            4 => StmtKind::Return,
+            5 => StmtKind::Assign,
+            6 => StmtKind::If,
+            7 => StmtKind::While,
+            8 => StmtKind::For,
+            9 => StmtKind::Def,
+            _ => StmtKind::Class,
         }
     }
 }
@@ -80,21 +117,11 @@ impl TryFrom<u8> for StmtKind {
 
     ghost try_from_gives = { ReadsStmt };
 
-    #[tactic(auto, unfolding(crate::specs::Kinds::stmt_byte))]
     fn try_from(byte: u8) -> Result<Self, NoKind> {
-        match byte {
-            0 => Ok(StmtKind::Break),
-            1 => Ok(StmtKind::Continue),
-            2 => Ok(StmtKind::Pass),
-            3 => Ok(StmtKind::Expr),
-            4 => Ok(StmtKind::Return),
-            5 => Ok(StmtKind::Assign),
-            6 => Ok(StmtKind::If),
-            7 => Ok(StmtKind::While),
-            8 => Ok(StmtKind::For),
-            9 => Ok(StmtKind::Def),
-            10 => Ok(StmtKind::Class),
-            _ => Err(NoKind(byte)),
+        if byte < 11 {
+            Ok(StmtKind::of(byte))
+        } else {
+            Err(NoKind(byte))
         }
     }
 }

@@ -2,8 +2,7 @@
 #![tactic(auto)]
 
 pub mod kinds; // kinds.rt: kinds of a tree's expressions and statements
-pub mod stmt; // stmt.rt: kinds of a tree's statements
-pub mod expr; // expr.rt: kinds of its expressions
+pub mod operators; // operators.rt: operators of its expressions
 pub mod ops; // ops.rt: opcodes, as words of code hold them
 pub mod op_bytes; // op_bytes.rt: opcodes, as a module's bytes hold them
 pub mod op_places; // op_places.rt: opcodes as places in a table

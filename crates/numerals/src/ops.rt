@@ -1,5 +1,8 @@
 // Opcodes, and those of words that are no instruction yet: a break and a continue whose jump is not known, an integer that the word holds.
-use crate::expr;
+// Numbers and no enum: a word holds one beside its operands, operators and displays give theirs by sums, and public functions take them as numbers, of which an enum
+// would ask more.
+use crate::kinds::ExprKind;
+use crate::operators;
 
 pub const CONST_I64: u32 = 0;
 
@@ -78,15 +81,15 @@ pub const STORE_INDEX: u32 = 44;
 pub const MAKE_CLOSURE: u32 = 45;
 
 // A display's instruction is its kind plus this, but that tuple and dict are exchanged.
-pub const BUILD: u32 = BUILD_LIST - expr::LIST as u32;
+pub const BUILD: u32 = BUILD_LIST - ExprKind::List as u32;
 
 // The opcode of a binary operator before the comparisons is the operator plus this, but that `/` and `//` are exchanged; that of a comparison is the operator plus that.
 pub const ARITHMETIC: u32 = ADD;
 
-pub const COMPARISON: u32 = EQ - expr::FIRST_COMPARISON as u32;
+pub const COMPARISON: u32 = EQ - operators::FIRST_COMPARISON as u32;
 
 // The jump of `and` or `or` is the operator plus this; the constant on its short way is the other minus the jump.
-pub const LOGICAL: u32 = JUMP_IF_FALSE - expr::AND as u32;
+pub const LOGICAL: u32 = JUMP_IF_FALSE - operators::AND as u32;
 
 pub const SHORT: u32 = JUMP_IF_FALSE + FALSE;
 

@@ -1,1 +1,2 @@
 pub mod Opcodes
+pub mod KindBytes

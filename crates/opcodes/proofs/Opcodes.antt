@@ -1,12 +1,13 @@
 -- The opcodes of operators and displays by their bytes.
-use Prim.Native.Nat.{ℕ, zero, suc, ◌+◌, ◌*◌, ◌-◌, ◌≤◌, ◌<◌}
+use Prim.Native.Nat.{ℕ, zero, suc, ◌+◌, ◌*◌, ◌≤◌, ◌<◌}
 use mathlib.Core.Path.{◌≡◌, refl, sym, ap, ◌∙◌}
 use native.Mathlib.Omega.{arith}
 use borrow.Author.Tests.{ne_eqb, le-leb, lt-leb}
 use lib.ListN.{get_or}
 use Rattle.definitions.specs.Tree.{add_op, binary_number}
-use Rattle.definitions.specs.Instruction.{unary_code, operator_code, binary_code, build_code, instr, Build}
-use Rattle.definitions.specs.Tables.{one}
+use Rattle.definitions.specs.Instruction.{unary_code, operator_code, binary_code, build_code}
+use Rattle.numerals.specs.Kinds.{expr_byte}
+use Rattle.numerals.specs.declared.kinds.ExprKind.{ExprKind}
 use Rattle.exprs.specs.ExprAt.{unary_ops, binary_ops}
 use Rattle.lower_emit.specs.Ops.{Plain}
 use Rattle.lower_emit.proofs.Packing.{plain-below}
@@ -67,28 +68,13 @@ binary-high k h = let e : 15 + k ≡ k + 15 = omega arith in rw (le-leb 6 k h, o
 
 -- ---- displays
 
-build-from : (j : ℕ) → (j ≡ 1 → ⊥) → (j ≡ 2 → ⊥) → j < 5 → 38 + j ≡ build_code (display_of (11 + j))
-unfolding display_of build_code
-build-from zero a b h = refl
-build-from (suc zero) a b h = absurd (a refl)
-build-from (suc (suc zero)) a b h = absurd (b refl)
-build-from (suc (suc (suc zero))) a b h = refl
-build-from (suc (suc (suc (suc zero)))) a b h = refl
-build-from (suc (suc (suc (suc (suc j))))) a b h = absurd (omega arith)
+-- the instruction of a display, by its kind
+pub build-of : {k j : ExprKind} {b : ℕ} → expr_byte k ≡ b → k ≡ j → build_code (display_of (expr_byte j)) ≡ build_code (display_of b)
+build-of e h = ap (λ (n : ℕ). build_code (display_of n)) (ap expr_byte (sym h) ∙ e)
 
-pub build-dict : (k : ℕ) → k ≡ 12 → 40 ≡ build_code (display_of k)
+pub build-last : {b : ℕ} → b ≡ 15 → 42 ≡ build_code (display_of b)
 unfolding display_of build_code
-build-dict k e = ap (λ (j : ℕ). build_code (display_of j)) (sym e)
-
-pub build-tuple : (k : ℕ) → k ≡ 13 → 39 ≡ build_code (display_of k)
-unfolding display_of build_code
-build-tuple k e = ap (λ (j : ℕ). build_code (display_of j)) (sym e)
-
-pub build-other : (k : ℕ) → 11 ≤ k → k ≤ 15 → (k ≡ 12 → ⊥) → (k ≡ 13 → ⊥) → 27 + k ≡ build_code (display_of k)
-build-other k h i a b =
-    let e : 27 + k ≡ 38 + (k - 11) = omega arith in
-    let f : 11 + (k - 11) ≡ k = omega arith in
-    e ∙ build-from (k - 11) (λ z. a (omega arith)) (λ z. b (omega arith)) (omega arith) ∙ ap (λ (j : ℕ). build_code (display_of j)) f
+build-last e = ap (λ (n : ℕ). build_code (display_of n)) (sym e)
 
 pub held-dict : (k n : ℕ) → k ≡ 12 → 2 * n ≡ held_of k n
 unfolding held_of
@@ -97,7 +83,3 @@ held-dict k n e = rw e
 pub held-other : (k n : ℕ) → (k ≡ 12 → ⊥) → n ≡ held_of k n
 unfolding held_of
 held-other k n a = rw (ne_eqb k 12 a, held_of)
-
--- the instruction that builds, by its opcode and count
-pub build-as : (k op n m : ℕ) → op ≡ build_code (display_of k) → n ≡ m → one (Build (display_of k) m) ≡ one (instr op n 0)
-build-as k op n m e f = λ i. one (instr (sym e i) (sym f i) 0)

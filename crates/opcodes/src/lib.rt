@@ -1,5 +1,6 @@
 // The opcodes of operators and displays, by their bytes in the tree.
-// Operators and kinds come as bytes: an enum would ask more of callers, who have them from a tree.
+// Operators and kinds come as bytes: an enum would ask more of callers, who have them from a tree. An operator's byte is told here alone, by its name in
+// numerals: an enum of operators would be made for one match, so it is no plainer.
 #![tactic(auto)]
 
 ghost use Rattle.std.specs.Prelude.{◌≡◌, ◌<◌, ◌≤◌};
@@ -7,9 +8,11 @@ ghost use Rattle.definitions.specs.Instruction.{operator_code, build_code};
 ghost use Rattle.lower_emit.specs.Ops.{Plain};
 ghost use Rattle.opcodes.specs.Codes.{unary_opcode, display_of, held_of};
 
-use numerals::expr;
+use numerals::kinds::ExprKind;
+use numerals::operators;
 use numerals::ops::{
-    ARITHMETIC, BUILD, BUILD_DICT, BUILD_TUPLE, COMPARISON, DIV, NEG, NOT, POS, TRUE_DIV,
+    ARITHMETIC, BUILD_DICT, BUILD_LIST, BUILD_SET, BUILD_TREE_SET, BUILD_TUPLE, COMPARISON, DIV,
+    NEG, NOT, POS, TRUE_DIV,
 };
 
 // Not, Neg, Pos.
@@ -18,8 +21,8 @@ pub fn unary_code(operator: u8) -> u32
     ensures { (result ≡ unary_opcode operator) × Plain result 0 0 }
 {
     match operator {
-        expr::NOT => NOT,
-        expr::NEGATE => NEG,
+        operators::NOT => NOT,
+        operators::NEGATE => NEG,
         _ => POS,
     }
 }
@@ -30,9 +33,9 @@ pub fn binary_code(operator: u8) -> u32
     ensures { (result ≡ operator_code operator) × Plain result 0 0 }
 {
     match operator {
-        expr::DIVIDE => TRUE_DIV,
-        expr::FLOOR_DIVIDE => DIV,
-        _ if operator < expr::FIRST_COMPARISON => ARITHMETIC + operator as u32,
+        operators::DIVIDE => TRUE_DIV,
+        operators::FLOOR_DIVIDE => DIV,
+        _ if operator < operators::FIRST_COMPARISON => ARITHMETIC + operator as u32,
         _ => COMPARISON + operator as u32,
     }
 }
@@ -42,10 +45,12 @@ pub fn build_code(kind: u8) -> u32
     requires { (11 ≤ kind) × (kind ≤ 15) }
     ensures { (result ≡ build_code (display_of kind)) × (30 < result) × (result < 48) }
 {
-    match kind {
-        expr::DICT => BUILD_DICT,
-        expr::TUPLE => BUILD_TUPLE,
-        _ => BUILD + kind as u32,
+    match ExprKind::of(kind) {
+        ExprKind::List => BUILD_LIST,
+        ExprKind::Dict => BUILD_DICT,
+        ExprKind::Tuple => BUILD_TUPLE,
+        ExprKind::Set => BUILD_SET,
+        _ => BUILD_TREE_SET,
     }
 }
 
@@ -54,8 +59,9 @@ pub fn held(kind: u8, n: u32) -> u32
     requires { n < 65536 }
     ensures { result ≡ held_of kind n }
 {
-    match kind {
-        expr::DICT => 2 * n,
-        _ => n,
+    if kind == ExprKind::Dict as u8 {
+        2 * n
+    } else {
+        n
     }
 }

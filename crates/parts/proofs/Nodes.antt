@@ -1,7 +1,7 @@
 -- Nodes by position: how a read goes on part by part. The views of each kind are chains of these laws. Assumes nothing.
 use Prim.Native.Nat.{ℕ, zero, suc, ◌+◌, ◌-◌, ◌<◌, ◌≤◌}
 use mathlib.Core.Path.{◌≡◌, refl, sym, ap, ◌∙◌, subst}
-use mathlib.Core.Bool.{Bool, true, false, true≢false}
+use mathlib.Core.Bool.{true, false, true≢false}
 use mathlib.Core.List.{List, [], ◌∷◌, map}
 use mathlib.Core.Logic.{⊎_elim}
 use native.Mathlib.Omega.{arith}
@@ -9,9 +9,7 @@ use native.Mathlib.Numerals.{sub-one}
 use lib.ListN.{length, drop, get_or, length-drop, get_or-eq_default, length-map}
 use Rattle.definitions.specs.Bytes.{Parsed, got, failed, Parser, ◌>>=◌, give, unread, counted}
 use Rattle.definitions.specs.Parse.{by_kind, choice}
-use Rattle.parts.specs.Judge.{passed, judged, least}
 use Rattle.parts.specs.Places.{Node, node, node_of, node_at, is_got, Reads}
-use Rattle.parts.specs.Judge.{Next}
 use Rattle.parts.proofs.Laws.{Went, went, lost, Steady, follow, bind_is, at_byte, at-end, le-or-gt, kind-of, kind-none, rest-place, steady-counted}
 
 -- P at p goes on as Q at q
@@ -50,12 +48,6 @@ module _ {A : Type 0} (z : A) (P : Parser A) (t : List ℕ) (p : ℕ) (s : Stead
   pub node-got : P (drop p t) ≡ got (node_at z P t p).value (drop (node_at z P t p).end t)
   unfolding node_at
   node-got = (placed (P (drop p t)) (s.on (drop p t)) r.read).1
-
-  -- and what the code's check of it answers
-  pub node-passed : (ask : ℕ → A → Bool) (w : ℕ) → judged ask P t p w ≡ Next (node_at z P t p).end (least w (λ q. ask q (node_at z P t p).value))
-  unfolding judged passed
-  node-passed ask w = ap (passed ask t w) node-got
-      ∙ ap (λ (m : ℕ). Next m (least w (λ q. ask q (node_at z P t p).value))) (let h = node-within in let x : length t - length (drop (node_at z P t p).end t) ≡ (node_at z P t p).end = omega (arith, length-drop (node_at z P t p).end t) in x)
 
 -- ---- one part after another
 

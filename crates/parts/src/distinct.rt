@@ -1,4 +1,5 @@
 // Whether the names of a list are distinct (11).
+// There and AllThere are said of the place that a call names, so no struct keeps them.
 ghost use Rattle.std.specs.Prelude.{◌≡◌, ◌≤◌, ◌<◌, length};
 ghost use Rattle.definitions.specs.Bytes.{member};
 ghost use Rattle.definitions.specs.Wellformed.{distinct};
@@ -51,7 +52,7 @@ fn distinct_few(tree: &[u8], at: usize, n: u32) -> bool
     true
 }
 
-// The turn of the name at `at` at depth `k`.
+// The turn of the name at `at` at depth `k`: its bit `k`, 0 past its end.
 fn turn(tree: &[u8], at: usize, k: usize) -> usize
     requires { There tree.now at }
     ensures { (result ≡ turn_of (name_bytes tree.now at) k) × (result < 2) }
@@ -64,7 +65,8 @@ fn turn(tree: &[u8], at: usize, k: usize) -> usize
     (usize::from(name[i]) >> (k % 8)) % 2
 }
 
-// Puts the name at `at` into the table, which has the `count` names from `root` on: at most so many are met.
+// Puts the name at `at` into the table, which has the `count` names from `root` on: at most so many are met. An entry is a position in two bytes,
+// 0 for none: an Option would take four, and the table 128 KB of the stack in the place of 64.
 fn put_name(tree: &[u8], table: &mut [u16; 32769], root: usize, count: u32, at: usize) -> Put
     requires { Searches tree.now table.old root (names_from tree.now count root) × There tree.now at × (at < 32768) × (0 < at) }
     ensures { Puts result tree.now table.new root (names_from tree.now count root) (name_bytes tree.now at) }

@@ -1,4 +1,5 @@
 // Names: a length byte and its bytes (7, 33).
+// There is said of the place that a call names, so no struct keeps it.
 ghost use Rattle.std.specs.Prelude.{◌≡◌, ◌+◌, ◌&&◌, ltb, length};
 ghost use Rattle.definitions.specs.Bytes.{all};
 ghost use Rattle.definitions.specs.Wellformed.{digit, is_iterator};

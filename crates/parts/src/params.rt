@@ -13,7 +13,7 @@ use questions::Question;
 // How many names or arguments a list may have (13).
 pub const LIST_MOST: u32 = 255;
 
-// 12: whether a method of this name may have so many parameters.
+// 12: whether a method of this name may have n parameters. These are counted, not the name's bytes.
 fn may_have(name: &[u8], n: u32) -> bool
     ensures { result ≡ (not (same name.now init) || ltb 0 n) }
 {

@@ -2,7 +2,7 @@
 ghost use Rattle.std.specs.Prelude.{◌≡◌};
 ghost use Rattle.parts.specs.Judge.{fits, inner};
 
-use numerals::expr;
+use numerals::kinds::ExprKind;
 
 // What an expression stands for: a value, an assignment's target, an element of a tuple target.
 #[derive(Clone, Copy)]
@@ -14,16 +14,20 @@ pub enum Role {
 
 impl Role {
     // 10: whether a kind of expression can stand in this role.
-    pub fn fits(self, kind: u8) -> bool
+    #[tactic(auto, unfolding(crate::specs::Judge::fits, numerals::specs::Kinds::expr_byte))]
+    pub(crate) fn fits(self, kind: u8) -> bool
         ensures { result ≡ fits self kind }
     {
         match self {
             Role::Value => true,
             Role::Target => matches!(
-                kind,
-                expr::VARIABLE | expr::ATTRIBUTE | expr::TUPLE | expr::INDEX
+                ExprKind::try_from(kind),
+                Ok(ExprKind::Variable | ExprKind::Attribute | ExprKind::Tuple | ExprKind::Index)
             ),
-            Role::Element => matches!(kind, expr::VARIABLE | expr::TUPLE),
+            Role::Element => matches!(
+                ExprKind::try_from(kind),
+                Ok(ExprKind::Variable | ExprKind::Tuple)
+            ),
         }
     }
 

@@ -44,20 +44,19 @@ says-answers ys B k e f = record { found = some ys; finds = B; answer = ap (λ (
 
 -- ---- a marked place
 
-own-none : (b : Bool) → one_if b ≡ 0 → own b ≡ []
-unfolding own one_if
-own-none true e = absurd (omega arith)
+own-none : (b : Bool) → b ≡ false → own b ≡ []
+unfolding own
+own-none true e = let z : ◌≡◌ {A = ℕ} 0 1 = cc in absurd (omega arith)
 own-none false e = refl
 
-own-some : (b : Bool) → (one_if b ≡ 0 → ⊥) → own b ≡ 0 ∷ []
-unfolding own one_if
+own-some : (b : Bool) → b ≡ true → own b ≡ 0 ∷ []
+unfolding own
 own-some true e = refl
-own-some false e = absurd (e refl)
+own-some false e = let z : ◌≡◌ {A = ℕ} 0 1 = cc in absurd (omega arith)
 
-own-one : (b : Bool) → (one_if b ≡ 0 → ⊥) → one_if b ≡ 1
+own-one : (b : Bool) → b ≡ true → one_if b ≡ 1
 unfolding one_if
-own-one true e = refl
-own-one false e = absurd (e refl)
+own-one b e = ap one_if e
 
 module _ {c table area out : List ℕ} {place : ℕ} (M : Tracked c table place area out) where
   abbrev pub traceable : Traceable area place
@@ -79,11 +78,11 @@ module _ {c table area out : List ℕ} {place : ℕ} (M : Tracked c table place 
     stored : mid ≡ written M.way.answers out
     stored = em ∙ ap (λ (l : List ℕ). written l out) (way-is traceable)
 
-    here : one_if (is_question op) ≡ one_if (is_question (get_or (instructions_of c) place Return).op)
-    here = ap (λ (x : ℕ). one_if (is_question x)) eo
+    here : is_question op ≡ is_question (get_or (instructions_of c) place Return).op
+    here = ap is_question eo
 
     -- no question
-    pub no_own : one_if (is_question op) ≡ 0 → Says (Ok (Some count)) (accepted (instructions_of c)) place out mid
+    pub no_own : is_question op ≡ false → Says (Ok (Some count)) (accepted (instructions_of c)) place out mid
     unfolding own_answers
     no_own z =
         let o = own-none (is_question (get_or (instructions_of c) place Return).op) (sym here ∙ z) in
@@ -91,9 +90,9 @@ module _ {c table area out : List ℕ} {place : ℕ} (M : Tracked c table place 
         says-answers M.way.answers (subst (λ (l : List ℕ). Brings (instructions_of c) place l) a brought) count counted stored
 
     -- a question, with its own answer
-    module _ (z : one_if (is_question op) ≡ 0 → ⊥) where
-      asked : one_if (is_question (get_or (instructions_of c) place Return).op) ≡ 0 → ⊥
-      asked y = z (here ∙ y)
+    module _ (z : is_question op ≡ true) where
+      asked : is_question (get_or (instructions_of c) place Return).op ≡ true
+      asked = sym here ∙ z
 
       room : length M.way.answers < length out
       unfolding asks

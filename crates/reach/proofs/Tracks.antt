@@ -1,11 +1,11 @@
 -- Back along a way, mark by mark. Assumes nothing.
-use Prim.Native.Nat.{ℕ, zero, suc, ◌+◌, ◌-◌, ◌/◌, ◌%◌, ◌≤◌, ◌<◌}
+use Prim.Native.Nat.{ℕ, zero, suc, ◌+◌, ◌-◌, ◌/◌, ◌≤◌, ◌<◌}
 use mathlib.Core.Path.{◌≡◌, refl, sym, ap, ap₂, ◌∙◌, subst}
 use mathlib.Core.Bool.{Bool, true, false}
 use mathlib.Core.List.{List, [], ◌∷◌, ◌++◌, append_assoc, append-nil}
 use native.Mathlib.Omega.{arith}
 use native.Mathlib.Nat.{zero-add}
-use lib.Dec.{eqb, leb}
+use lib.Dec.{leb}
 use lib.ListN.{length, get_or, set, take, drop, take-append-drop, length-append, length-take, get_or-eq_default}
 use lib.Seq.{length-take-le, take-suc, set-append_seam, append_snoc, get_or-take, get_or-drop}
 use borrow.Author.Tests.{eq-eqb, ne_eqb, leb-true, leb-false}
@@ -15,7 +15,7 @@ use Rattle.definitions.specs.Run.{Flow, straight, jump, question, returns, flow}
 use Rattle.definitions.specs.Calls.{written}
 use Rattle.definitions.specs.Search.{Next, straight_on, jumps_to, on_no, on_yes, Step, answers_of, Chain, begins, goes, link_mark, by_link}
 use Rattle.search.specs.View.{marks_of}
-use Rattle.reach.specs.Tracing.{before_of, tag_of, answer_by, listed, trace, way_to, Traceable, put_by, put_back}
+use Rattle.reach.specs.Tracing.{before_of, tag_of, answer_by, listed, trace, way_to, Traceable, Onward, Going, hops, steps_to, put_by, put_back}
 
 -- ---- marks
 
@@ -53,10 +53,6 @@ unfolding trace
 trace-on n marks q e =
     ap (λ (b : Bool). elim b as (λ z. List ℕ) [ true ↦ [] | false ↦ trace n marks (before_of (get_or marks q 0)) ++ answers_of (tag_of (get_or marks q 0)) ]) (ne_eqb (get_or marks q 0) 4 e)
 
-unfoldable pub hops : ℕ → List ℕ → ℕ → ℕ
-hops zero marks q = 0
-hops (suc n) marks q = elim (eqb (get_or marks q 0) 4) [ true ↦ 0 | false ↦ suc (hops n marks (before_of (get_or marks q 0))) ]
-
 hops-root : (n : ℕ) (marks : List ℕ) (q : ℕ) → get_or marks q 0 ≡ 4 → hops n marks q ≡ 0
 unfolding hops
 hops-root zero marks q e = refl
@@ -65,10 +61,6 @@ hops-root (suc n) marks q e = ap (λ (b : Bool). elim b as (λ z. ℕ) [ true �
 hops-on : (n : ℕ) (marks : List ℕ) (q : ℕ) → (get_or marks q 0 ≡ 4 → ⊥) → hops (suc n) marks q ≡ suc (hops n marks (before_of (get_or marks q 0)))
 unfolding hops
 hops-on n marks q e = ap (λ (b : Bool). elim b as (λ z. ℕ) [ true ↦ 0 | false ↦ suc (hops n marks (before_of (get_or marks q 0))) ]) (ne_eqb (get_or marks q 0) 4 e)
-
--- the steps back from a place, by the marks in an area
-unfoldable pub steps_to : List ℕ → ℕ → ℕ
-steps_to area place = hops 65536 (drop 65536 area) place
 
 -- ---- a chain, seen in a longer list of marks
 
@@ -105,13 +97,6 @@ module _ (code : List Instr) (n : ℕ) (all : List ℕ) where
       let l = link-mark x e in
       hops-on fuel all q l.link ∙ ap (λ (r : ℕ). suc (hops fuel all r)) l.before ∙ ap suc (chain-hops c fuel (omega arith))
 
-  -- a place on a way
-  pub record Onward (p : ℕ) : Type 0 where
-    pub answers : List ℕ
-    pub steps : ℕ
-    pub chain : Chain by_link code (take n all) p answers steps
-    pub soon : steps < 65536
-
   chain-marked : {p k : ℕ} {ys : List ℕ} → Chain by_link code (take n all) p ys k → get_or (take n all) p 0 ≡ 0 → ⊥
   chain-marked (begins e) z = omega arith
   chain-marked (goes {p} {q} {k} {n = m} {ys} x e c) z = let s = (link_at code x e).some in omega arith
@@ -119,7 +104,7 @@ module _ (code : List Instr) (n : ℕ) (all : List ℕ) where
   -- not at the start: the place before
   record Back (p : ℕ) : Type 0 where
     some : 1 ≤ get_or all p 0
-    on : Onward (before_of (get_or all p 0))
+    on : Onward code n all (before_of (get_or all p 0))
     trace-is : trace 65536 all p ≡ trace 65536 all (before_of (get_or all p 0)) ++ answers_of (tag_of (get_or all p 0))
     hops-is : hops 65536 all p ≡ suc (hops 65536 all (before_of (get_or all p 0)))
 
@@ -131,19 +116,12 @@ module _ (code : List Instr) (n : ℕ) (all : List ℕ) where
       let far : hops 65536 all (before_of (get_or all q 0)) ≡ m = ap (hops 65536 all) l.before ∙ chain-hops c 65536 (omega arith) in
       record {
         some = l.some;
-        on = subst (λ (r : ℕ). Onward r) (sym l.before) (record { answers = ys; steps = m; chain = c; soon = omega arith });
+        on = subst (λ (r : ℕ). Onward code n all r) (sym l.before) (record { answers = ys; steps = m; chain = c; soon = omega arith });
         trace-is = chain-trace (goes x e c) 65536 h ∙ sym (ap₂ (λ (zs : List ℕ) (j : ℕ). zs ++ answers_of j) was l.tag);
         hops-is = chain-hops (goes x e c) 65536 h ∙ ap suc (sym far);
       }
 
 -- ---- in an area
-
--- a place on a way
-pub record Going (area : List ℕ) (p : ℕ) : Type 0 where
-  pub code : List Instr
-  pub few : length code < 65536
-  pub long : 131072 ≤ length area
-  pub on : Onward code (length code) (drop 65536 area) p
 
 pub going_start : {area : List ℕ} {place : ℕ} → Traceable area place → Going area place
 unfolding marks_of

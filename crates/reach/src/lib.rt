@@ -15,7 +15,7 @@ use questions::Question;
 use reader::{locate, part_of};
 use run::fill_places;
 use search::{MARKS, sweep};
-use tally::{count_code, question};
+use tally::{count_code, is_question};
 
 // A function has fewer instructions.
 const MOST_PLACES: usize = 65536;
@@ -31,7 +31,7 @@ fn write_answers(code: &[u8], places: &[u32], place: usize, area: &[u32], out: &
     let count = way_length(area, place);
     write_way(area, place, count, out);
     let at = places[place] as usize;
-    if question(code[at]) == 0 {
+    if !is_question(code[at]) {
         return count;
     }
     out[count] = 0;
@@ -39,6 +39,7 @@ fn write_answers(code: &[u8], places: &[u32], place: usize, area: &[u32], out: &
 }
 
 // The search in a function's code of n instructions, and the count of answers; or nothing, where none bring a run to the place. The area keeps its table.
+// n counts instructions: the code's length is in bytes.
 fn reach_code(
     code: &[u8],
     n: usize,

@@ -35,22 +35,54 @@ fn taken(answer: Option<u8>) -> usize
     }
 }
 
+// The steps of the way to a place, from the last one back: of each the answer that it takes, if it takes one.
+#[derive(Drop)]
+struct Steps<'a> {
+    area: &'a [u32],
+    place: usize,
+}
+
+impl<'a> Steps<'a> {
+    // Those of the way to a place.
+    fn to(area: &'a [u32], place: usize) -> Steps<'a>
+        ensures { (result.area ≡ area.entry) × (result.place ≡ place) }
+    {
+        Steps { area, place }
+    }
+}
+
+impl Iterator for Steps<'_> {
+    ghost use Rattle.std.specs.Iterator.{at_most};
+    ghost use Rattle.reach.specs.Tracing.{OnWay, Backs, steps_left};
+
+    type Item = Option<u8>;
+
+    ghost can_next = { OnWay };
+
+    ghost next_gives = { Backs };
+
+    ghost remaining = { λ s. at_most (steps_left s) };
+
+    fn next(&mut self) -> Option<Option<u8>> {
+        let mark = self.area[MARKS + self.place];
+        if mark == ROOT {
+            return None;
+        }
+        self.place = before_of(mark);
+        Some(answer_of(mark))
+    }
+}
+
 // How many answers there are on the way to a place.
-// A loop, as each mark says whether another comes before it.
 pub(crate) fn way_length(area: &[u32], place: usize) -> usize
     requires { Traceable area.now place }
     ensures { result ≡ length (way_to area.now place) }
 {
-    let mut p = place;
     let mut count = 0usize;
-    loop {
-        let m = area[MARKS + p];
-        if m == ROOT {
-            return count;
-        }
-        count += taken(answer_of(m));
-        p = before_of(m);
+    for answer in Steps::to(area, place) {
+        count += taken(answer);
     }
+    count
 }
 
 // An answer before `at`, if there is one: where it stands.
@@ -69,19 +101,12 @@ fn put_back(out: &mut [u8], at: usize, answer: Option<u8>) -> usize
 }
 
 // The answers on the way to a place, of which there are `end`, at the buffer's start.
-// A loop, as each mark says whether another comes before it.
 pub(crate) fn write_way(area: &[u32], place: usize, end: usize, out: &mut [u8])
     requires { Traceable area.now place × (end ≡ length (way_to area.now place)) × (end ≤ length out.old) }
     ensures { out.new ≡ written (way_to area.now place) out.old }
 {
-    let mut p = place;
     let mut at = end;
-    loop {
-        let m = area[MARKS + p];
-        if m == ROOT {
-            return;
-        }
-        at = put_back(out, at, answer_of(m));
-        p = before_of(m);
+    for answer in Steps::to(area, place) {
+        at = put_back(out, at, answer);
     }
 }

@@ -4,8 +4,7 @@ use mathlib.Core.Path.{◌≡◌, refl, sym, ap, ◌∙◌, subst}
 use mathlib.Core.Bool.{Bool, true, false, ◌&&◌}
 use mathlib.Core.List.{List, [], ◌∷◌}
 use native.Mathlib.Omega.{arith}
-use lib.ListN.{length, take, drop}
-use lib.Seq.{slice}
+use lib.ListN.{length, drop}
 use Rattle.definitions.specs.Bytes.{Name, give, field, counted, list_of, name, checked, all, below}
 use Rattle.definitions.specs.Wellformed.{is_name}
 use Rattle.definitions.specs.Tables.{Method}
@@ -14,45 +13,8 @@ use Rattle.reader.specs.View.{skip_at, number_at, Got}
 use Rattle.reader.specs.Asks.{has_function, ask_next, ask_methods, ask_method, ask_class}
 use Rattle.reader.specs.declared.Asked.{Asked}
 use Rattle.std.specs.Prelude.{Option, Some, None}
-use Rattle.reader.proofs.Taken.{skip-cut, skip-next, skip-field, got-field, got-bind, got-give, skipped-got, got-at}
-use Rattle.reader.proofs.InstructionLaws.{got-checked, cut-checked, cut-unchecked}
-use Rattle.reader.proofs.NameLaws.{part_slice, name-view}
-use Rattle.reader.proofs.Checked.{Sat, sat-bind, sat-any, sat-checked, got-tested, checked-next, checked-cut, checked-give, checked-same, checked-twice, pass-next, pass-fail, pass-cut, pass-end, pass-count, pass-no-count}
-use Rattle.definitions.proofs.Begins.{takes-checked, takes-name}
-
--- ---- a well formed name
-
-pub proper-cut : (t : List ℕ) (at : ℕ) → skip_at name t at ≡ None → skip_at (checked is_name name) t at ≡ None
-proper-cut t at e = cut-unchecked is_name name t at e
-
-module _ (t : List ℕ) (at m : ℕ) (h : at ≤ length t) (r : skip_at name t at ≡ Some m) where
-  pub proper-range : (at + 1 ≤ m) × (m ≤ length t)
-  proper-range = let g = got-at name takes-name t at m h r in let v = name-view t at g.0 m h g.1 in let e = v.1 in (omega arith, g.1.to)
-
-  proper-is : Got name t at (slice (at + 1) m t) m
-  proper-is = let g = got-at name takes-name t at m h r in subst (λ (x : Name). Got name t at x m) (name-view t at g.0 m h g.1).2 g.1
-
-  -- the test of the bytes after the length
-  part-is : (b : Bool) → is_name (take (m - (at + 1)) (drop (at + 1) t)) ≡ b → is_name (slice (at + 1) m t) ≡ b
-  part-is b e = sym (ap is_name (part_slice t (at + 1) m)) ∙ e
-
-  pub proper-yes : is_name (take (m - (at + 1)) (drop (at + 1) t)) ≡ true → skip_at (checked is_name name) t at ≡ Some m
-  proper-yes e = skipped-got (checked is_name name) t at (slice (at + 1) m t) m (got-checked is_name name t at (slice (at + 1) m t) m proper-is (part-is true e))
-
-  pub proper-no : is_name (take (m - (at + 1)) (drop (at + 1) t)) ≡ false → skip_at (checked is_name name) t at ≡ None
-  proper-no e = cut-checked is_name name t at (slice (at + 1) m t) m proper-is (part-is false e)
-
-pub proper-got : (t : List ℕ) (at m : ℕ) → at ≤ length t → skip_at (checked is_name name) t at ≡ Some m → Got (checked is_name name) t at (slice (at + 1) m t) m
-proper-got t at m h r =
-    let g = got-at (checked is_name name) (takes-checked is_name name takes-name) t at m h r in
-    let k = got-tested is_name name t at g.0 m g.1 in
-    subst (λ (x : Name). Got (checked is_name name) t at x m) (name-view t at g.0 m h k.0).2 g.1
-
-pub proper-bounds : (t : List ℕ) (at m : ℕ) → at ≤ length t → skip_at (checked is_name name) t at ≡ Some m → (at + 1 ≤ m) × (m ≤ length t)
-proper-bounds t at m h r =
-    let g = got-at (checked is_name name) (takes-checked is_name name takes-name) t at m h r in
-    let k = got-tested is_name name t at g.0 m g.1 in
-    let v = name-view t at g.0 m h k.0 in let e = v.1 in (omega arith, g.1.to)
+use Rattle.reader.proofs.Taken.{skip-cut, skip-next, skip-field, got-field, got-bind, got-give}
+use Rattle.reader.proofs.Checked.{Sat, sat-bind, sat-any, sat-checked, checked-next, checked-cut, checked-give, checked-same, checked-twice, pass-next, pass-fail, pass-cut, pass-end, pass-count, pass-no-count}
 
 -- ---- methods
 
@@ -61,44 +23,44 @@ module _ (t : List ℕ) (q : Asked) where
   unfoldable pub methods_from : Name → ℕ → ℕ → Option ℕ
   methods_from x n at = skip_at (checked (ask_methods q x) (counted [] ◌∷◌ method_record n)) t at
 
-  pub methods-short : (at : ℕ) → at ≤ length t → length t - at < 2 → skip_at (checked (ask_methods q []) (list_of 2 method_record)) t at ≡ None
-  methods-short at h l = pass-no-count method_record t (ask_methods q []) at h l
+  pub methods-short : (at : ℕ) → at ≤ length t → length t < at + 2 → skip_at (checked (ask_methods q []) (list_of 2 method_record)) t at ≡ None
+  methods-short at h l = pass-no-count method_record t (ask_methods q []) at h (omega arith)
 
-  pub methods-begin : (at n : ℕ) → 2 ≤ length t - at → n ≡ number_at 2 t at → skip_at (checked (ask_methods q []) (list_of 2 method_record)) t at ≡ methods_from [] n (at + 2)
+  pub methods-begin : (at n : ℕ) → at + 2 ≤ length t → n ≡ number_at 2 t at → skip_at (checked (ask_methods q []) (list_of 2 method_record)) t at ≡ methods_from [] n (at + 2)
   unfolding methods_from
-  methods-begin at n h k = pass-count method_record t (ask_methods q []) at h ∙ sym (ap (λ (j : ℕ). skip_at (checked (ask_methods q []) (counted [] ◌∷◌ method_record j)) t (at + 2)) k)
+  methods-begin at n h k = pass-count method_record t (ask_methods q []) at (omega arith) ∙ sym (ap (λ (j : ℕ). skip_at (checked (ask_methods q []) (counted [] ◌∷◌ method_record j)) t (at + 2)) k)
 
   pub methods-end : (x : Name) (n at : ℕ) → n ≤ 0 → at ≤ length t → methods_from x n at ≡ Some at
   unfolding methods_from ask_methods
   methods-end x n at h l = pass-end method_record t (ask_methods q x) n at h l refl
 
-  module _ (x : Name) (n p : ℕ) (h : 0 < n) (l : p ≤ length t) where
+  module _ (x : Name) (n p : ℕ) (h : 0 < n) where
     pub methods-cut : skip_at (checked is_name name) t p ≡ None → methods_from x n p ≡ None
     unfolding methods_from method_record
     methods-cut r = pass-cut method_record t (ask_methods q x) n p h (skip-cut (checked is_name name) _ t p r)
 
-    module _ (e : ℕ) (r : skip_at (checked is_name name) t p ≡ Some e) where
-      pub methods-no-number : length t - e < 2 → methods_from x n p ≡ None
+    module _ (y : Name) (e : ℕ) (r : Got (checked is_name name) t p y e) where
+      pub methods-no-number : length t < e + 2 → methods_from x n p ≡ None
       unfolding methods_from method_record
-      methods-no-number s = let b = proper-bounds t p e l r in pass-cut method_record t (ask_methods q x) n p h
-          (skip-next (checked is_name name) _ t p (slice (p + 1) e t) e (proper-got t p e l r) ∙ skip-cut (field 2) _ t e (skip-field 2 t e b.1 (omega arith)))
+      methods-no-number s = pass-cut method_record t (ask_methods q x) n p h
+          (skip-next (checked is_name name) _ t p y e r ∙ skip-cut (field 2) _ t e (skip-field 2 t e r.to s))
 
-      module _ (s : 2 ≤ length t - e) (f : ℕ) (k : f ≡ number_at 2 t e) where
-        method-got : Got method_record t p (record { name = slice (p + 1) e t; function = f }) (e + 2)
+      module _ (s : e + 2 ≤ length t) (f : ℕ) (k : f ≡ number_at 2 t e) where
+        method-got : Got method_record t p (record { name = y; function = f }) (e + 2)
         unfolding method_record
-        method-got = let b = proper-bounds t p e l r in
-            got-bind (checked is_name name) _ t p (slice (p + 1) e t) e _ (e + 2) (proper-got t p e l r)
-            (got-bind (field 2) _ t e f (e + 2) _ (e + 2) (subst (λ (j : ℕ). Got (field 2) t e j (e + 2)) (sym k) (got-field 2 t e (omega arith)))
-            (got-give (record { name = slice (p + 1) e t; function = f }) t (e + 2) (omega arith)))
+        method-got =
+            got-bind (checked is_name name) _ t p y e _ (e + 2) r
+            (got-bind (field 2) _ t e f (e + 2) _ (e + 2) (subst (λ (j : ℕ). Got (field 2) t e j (e + 2)) (sym k) (got-field 2 t e s))
+            (got-give (record { name = y; function = f }) t (e + 2) s))
 
-        pub methods-next : ask_next q x (slice (p + 1) e t) f ≡ true → methods_from x n p ≡ methods_from (slice (p + 1) e t) (n - 1) (e + 2)
+        pub methods-next : ask_next q x y f ≡ true → methods_from x n p ≡ methods_from y (n - 1) (e + 2)
         unfolding methods_from ask_methods
-        methods-next a = pass-next method_record t (ask_methods q x) (ask_methods q (slice (p + 1) e t)) n p _ (e + 2) h method-got
-            (λ ms. ap (λ (b : Bool). b && ask_methods q (slice (p + 1) e t) ms) a)
+        methods-next a = pass-next method_record t (ask_methods q x) (ask_methods q y) n p _ (e + 2) h method-got
+            (λ ms. ap (λ (b : Bool). b && ask_methods q y ms) a)
 
-        pub methods-fail : ask_next q x (slice (p + 1) e t) f ≡ false → methods_from x n p ≡ None
+        pub methods-fail : ask_next q x y f ≡ false → methods_from x n p ≡ None
         unfolding methods_from ask_methods
-        methods-fail a = pass-fail method_record t (ask_methods q x) n p _ (e + 2) h method-got (λ ms. ap (λ (b : Bool). b && ask_methods q (slice (p + 1) e t) ms) a)
+        methods-fail a = pass-fail method_record t (ask_methods q x) n p _ (e + 2) h method-got (λ ms. ap (λ (b : Bool). b && ask_methods q y ms) a)
 
 -- ---- classes
 
@@ -158,11 +120,11 @@ module _ (q : Asked) where
     unfolding class_record
     class-cut r = checked-cut (ask_class q) (checked is_name name) _ t at r
 
-    pub class-next : (m : ℕ) → at ≤ length t → skip_at (checked is_name name) t at ≡ Some m →
+    pub class-next : (x : Name) (m : ℕ) → Got (checked is_name name) t at x m →
         skip_at (checked (ask_class q) class_record) t at ≡ skip_at (checked (ask_methods q []) (list_of 2 method_record)) t m
     unfolding class_record ask_class
-    class-next m h r =
-        checked-next (ask_class q) (checked is_name name) _ t at (slice (at + 1) m t) m (proper-got t at m h r)
-        ∙ checked-give (ask_class q) (checked rising (list_of 2 method_record)) (λ ms. record { name = slice (at + 1) m t; methods = ms }) t m
+    class-next x m g =
+        checked-next (ask_class q) (checked is_name name) _ t at x m g
+        ∙ checked-give (ask_class q) (checked rising (list_of 2 method_record)) (λ ms. record { name = x; methods = ms }) t m
         ∙ checked-twice (λ ms. all (ask_method q) ms) rising (list_of 2 method_record) t m
         ∙ checked-same FirstNamed (λ ms. rising ms && all (ask_method q) ms) (ask_methods q []) (list_of 2 method_record) t m (list-named (drop m t)) rises-first

@@ -13,11 +13,11 @@ use Rattle.definitions.specs.Instruction.{Instr, instr, first_width, second_widt
 use Rattle.definitions.specs.Tables.{Function}
 use Rattle.definitions.specs.Reader.{instruction, function_record}
 use Rattle.reader.specs.View.{skip_at, found_at, number_at}
-use Rattle.reader.specs.Asks.{ask_op, ask_code, ask_head, ask_function, ask_constant}
+use Rattle.reader.specs.Asks.{ask_op, ask_code, ask_head, ask_function}
 use Rattle.reader.specs.declared.Asked.{Asked}
 use Rattle.std.specs.Prelude.{Option, Some, None}
-use Rattle.reader.proofs.Taken.{skip-cut, skip-field, got-field, skipped-got}
-use Rattle.reader.proofs.InstructionLaws.{found_as, found-is, cut-found, got-checked, cut-checked, cut-unchecked}
+use Rattle.reader.proofs.Taken.{skip-cut, skip-field, got-field}
+use Rattle.reader.proofs.InstructionLaws.{found_as, found-is, cut-found}
 use Rattle.reader.proofs.Checked.{Sat, sat-bind, sat-any, sat-checked, counted-length, checked-next, checked-cut, checked-give, checked-same, checked-none, pass-next, pass-fail, pass-cut, pass-end, pass-count}
 use Rattle.definitions.proofs.Begins.{le-or-gt}
 
@@ -138,20 +138,3 @@ module _ (t : List ℕ) (at : ℕ) (q : Asked) where
       function-fails e = function-code ∙ to-code
           ∙ checked-none (λ is. Unit {0}) _ (counted [] ◌∷◌ instruction n) t (at + 7) (sat-any (counted [] ◌∷◌ instruction n (drop (at + 7) t)))
           (λ is u. ap (λ (b : Bool). b && ask_code q n l 0 is) e)
-
--- ---- a constant
-
-module _ (t : List ℕ) (at : ℕ) (q : Asked) (h : at ≤ length t) where
-  pub short-constant : length t - at < 2 → skip_at (checked (ask_constant q) (field 2)) t at ≡ None
-  short-constant l = cut-unchecked (ask_constant q) (field 2) t at (skip-field 2 t at h (omega arith))
-
-  module _ (l : 2 ≤ length t - at) where
-    constant-says : (b : Bool) → ask_constant q (number_at 2 t at) ≡ b → skip_at (checked (ask_constant q) (field 2)) t at ≡ elim b [ true ↦ Some (at + 2) | false ↦ None ]
-    constant-says true e = skipped-got (checked (ask_constant q) (field 2)) t at (number_at 2 t at) (at + 2) (got-checked (ask_constant q) (field 2) t at (number_at 2 t at) (at + 2) (got-field 2 t at (omega arith)) e)
-    constant-says false e = cut-checked (ask_constant q) (field 2) t at (number_at 2 t at) (at + 2) (got-field 2 t at (omega arith)) e
-
-    pub constant-stands : (k : ℕ) → k ≡ number_at 2 t at → ask_constant q k ≡ true → skip_at (checked (ask_constant q) (field 2)) t at ≡ Some (at + 2)
-    constant-stands k e f = constant-says true (ap (ask_constant q) (sym e) ∙ f)
-
-    pub constant-fails : (k : ℕ) → k ≡ number_at 2 t at → ask_constant q k ≡ false → skip_at (checked (ask_constant q) (field 2)) t at ≡ None
-    constant-fails k e f = constant-says false (ap (ask_constant q) (sym e) ∙ f)

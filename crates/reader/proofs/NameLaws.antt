@@ -1,17 +1,15 @@
 -- Names in the module's bytes, as parts of them. Assumes nothing.
 use Prim.Native.Nat.{ℕ, zero, suc, ◌+◌, ◌-◌, ◌<◌, ◌≤◌}
-use mathlib.Core.Path.{◌≡◌, refl, sym, ap, ap₂, ◌∙◌, subst}
+use mathlib.Core.Path.{◌≡◌, refl, sym, ap, ◌∙◌, subst}
 use mathlib.Core.List.{List, [], ◌∷◌}
-use mathlib.Core.Logic.{⊎_elim}
 use native.Mathlib.Omega.{arith}
 use native.Mathlib.Numerals.{add-one}
 use lib.ListN.{length, drop, take, get_or, length-drop}
 use lib.Seq.{slice, slice_empty, slice-cons}
-use Rattle.definitions.specs.Bytes.{Name, got, Parser, ◌>>=◌, give, byte, field, counted, list_of, name, below}
+use Rattle.definitions.specs.Bytes.{got, Parser, ◌>>=◌, give, byte, counted}
 use Rattle.reader.specs.View.{skip_at, number_at, Got}
 use Rattle.std.specs.Prelude.{None}
-use Rattle.reader.proofs.Taken.{skip-cut, skip-next, skip-field, got-field, got-bind, got-byte, got-give, bytes_cut, skipped-got}
-use Rattle.definitions.proofs.Begins.{le-or-gt}
+use Rattle.reader.proofs.Taken.{got-bind, got-byte, got-give, skipped-got}
 
 -- ---- parts of the bytes
 
@@ -30,10 +28,6 @@ part_slice [] (suc i) zero = take-empty (0 - suc i)
 part_slice [] (suc i) (suc j) = take-empty (suc j - suc i)
 part_slice (x ∷ t) (suc i) zero = ap (λ (k : ℕ). take k (drop i t)) (let e : 0 - suc i ≡ 0 = omega arith in e)
 part_slice (x ∷ t) (suc i) (suc j) = ap (λ (k : ℕ). take k (drop i t)) (let e : suc j - suc i ≡ j - i = omega arith in e) ∙ part_slice t i j
-
--- the order of two parts
-pub parts_below : (t : List ℕ) (i j k l : ℕ) → below (take (j - i) (drop i t)) (take (l - k) (drop k t)) ≡ below (slice i j t) (slice k l t)
-parts_below t i j k l = ap₂ below (part_slice t i j) (part_slice t k l)
 
 -- ---- names that are read
 
@@ -63,25 +57,3 @@ got-bytes t (suc n) at h =
     (got-bind (counted [] ◌∷◌ byte n) (λ b. give (get_or t at 0 ∷ b)) t (at + 1) (slice (at + 1) (at + suc n) t) (at + suc n) (get_or t at 0 ∷ slice (at + 1) (at + suc n) t) (at + suc n)
     (subst (λ (k : ℕ). Got (counted [] ◌∷◌ byte n) t (at + 1) (slice (at + 1) k t) k) (let z : at + 1 + n ≡ at + suc n = omega arith in z) (got-bytes t n (at + 1) (omega arith)))
     (got-give (get_or t at 0 ∷ slice (at + 1) (at + suc n) t) t (at + suc n) h)))
-
--- what a name's read gives
-pub name-view : (t : List ℕ) (at : ℕ) (x : Name) (m : ℕ) → at ≤ length t → Got name t at x m → (at < length t) × (m ≡ at + 1 + get_or t at 0) × (x ≡ slice (at + 1) m t)
-unfolding name list_of
-name-view t at x m h g = ⊎_elim
-    (λ (l : length t ≤ at). never (skip-cut (field 1) (λ n. counted [] ◌∷◌ byte n) t at (skip-field 1 t at h (omega arith))))
-    (λ (l : at < length t).
-    let f = got-field 1 t at (omega arith) in
-    ⊎_elim
-    (λ (k : at + 1 + number_at 1 t at ≤ length t).
-    let r = got-bind (field 1) (λ n. counted [] ◌∷◌ byte n) t at (number_at 1 t at) (at + 1) _ (at + 1 + number_at 1 t at) f (got-bytes t (number_at 1 t at) (at + 1) k) in
-    let e = same_read (list_of 1 byte) t at x m _ (at + 1 + number_at 1 t at) g r in
-    let o = number-one t at in
-    let em : m ≡ at + 1 + get_or t at 0 = e.1 ∙ ap (λ (k : ℕ). at + 1 + k) o in
-    (l, em, e.0 ∙ ap (λ (k : ℕ). slice (at + 1) k t) (sym e.1)))
-    (λ (k : length t < at + 1 + number_at 1 t at).
-    never (skip-next (field 1) (λ n. counted [] ◌∷◌ byte n) t at (number_at 1 t at) (at + 1) f ∙ bytes_cut t (number_at 1 t at) (at + 1) (omega arith) (omega arith)))
-    (le-or-gt (at + 1 + number_at 1 t at) (length t)))
-    (le-or-gt (length t) at)
-  where
-    never : skip_at (list_of 1 byte) t at ≡ None → (at < length t) × (m ≡ at + 1 + get_or t at 0) × (x ≡ slice (at + 1) m t)
-    never e = read-not-cut name t at x m g e

@@ -1,57 +1,24 @@
 // Questions 19 and 20 of the classes and constants.
-ghost use Rattle.std.specs.Prelude.{◌≡◌, [], ◌≤◌, length};
-ghost use Rattle.definitions.specs.Bytes.{list_of, field, checked, all};
-ghost use Rattle.definitions.specs.Reader.{method_record, class_record};
-ghost use Rattle.reader.specs.Asks.{ask_constant, has_function, ask_next, ask_methods, ask_class};
-ghost use Rattle.reader.specs.View.{skip_at};
+ghost use Rattle.std.specs.Prelude.{◌≡◌};
+ghost use Rattle.reader.specs.Asks.{ask_next};
 
-use crate::Asked;
-use crate::lists::skip_list;
-use crate::names::skip_proper;
-use crate::numbers::read_number;
+use crate::cursor::Cursor;
+use crate::{Asked, Counts};
 use byte_tests::below_bytes;
 
-// A constant is the number of a class.
-#[tactic(auto, unfolding(crate::specs::Asks::ask_constant))]
-fn has_class(asked: Asked, class: u64) -> bool
-    ensures { result ≡ ask_constant asked class }
-{
-    match asked {
-        Asked::Numbers(counts) => class < counts.classes,
-        _ => true,
-    }
-}
+impl Asked {
+    ghost use Rattle.reader.specs.Asks.{counts_asked};
 
-// A method is the number of a function.
-#[tactic(auto, unfolding(crate::specs::Asks::has_function))]
-fn has_function(asked: Asked, function: u64) -> bool
-    ensures { result ≡ has_function asked function }
-{
-    match asked {
-        Asked::Numbers(counts) => function < counts.functions,
-        _ => true,
+    // The counts of what may be numbered, where that is asked.
+    #[tactic(auto, unfolding(crate::specs::Asks::counts_asked))]
+    fn numbers(self) -> Option<Counts>
+        ensures { result ≡ counts_asked self }
+    {
+        match self {
+            Asked::Numbers(counts) => Some(counts),
+            Asked::Layout | Asked::Jumps => None,
+        }
     }
-}
-
-// A question of the constant at `at`.
-fn ask_constant(bytes: &[u8], at: usize, asked: Asked) -> Option<usize>
-    requires { at ≤ length bytes.now }
-    ensures { result ≡ skip_at (checked (ask_constant asked) (field 2)) bytes.now at }
-{
-    let class = read_number(bytes, at, 2)?;
-    if has_class(asked, class) {
-        Some(at + 2)
-    } else {
-        None
-    }
-}
-
-// A question of the counted constants at `at`.
-pub(crate) fn ask_constants(bytes: &[u8], at: usize, asked: Asked) -> Option<usize>
-    requires { at ≤ length bytes.now }
-    ensures { result ≡ skip_at (checked (all (ask_constant asked)) (list_of 2 (field 2))) bytes.now at }
-{
-    skip_list(bytes, at, |p| ask_constant(bytes, p, asked))
 }
 
 // A question of a method's name, after the one before it, and of its function.
@@ -59,43 +26,67 @@ pub(crate) fn ask_constants(bytes: &[u8], at: usize, asked: Asked) -> Option<usi
 fn ask_next(before: &[u8], name: &[u8], asked: Asked, function: u64) -> bool
     ensures { result ≡ ask_next asked before.now name.now function }
 {
-    below_bytes(before, name) && has_function(asked, function)
+    below_bytes(before, name)
+        && asked
+            .numbers()
+            .is_none_or(|counts| function < counts.functions)
 }
 
-// A question of the counted methods at `at`.
-fn ask_methods(bytes: &[u8], at: usize, asked: Asked) -> Option<usize>
-    requires { at ≤ length bytes.now }
-    ensures { result ≡ skip_at (checked (ask_methods asked []) (list_of 2 method_record)) bytes.now at }
-{
-    let count = read_number(bytes, at, 2)?;
-    let mut p = at + 2;
-    let mut before = &bytes[0..0];
-    for _ in 0..count {
-        let end = skip_proper(bytes, p)?;
-        let function = read_number(bytes, end, 2)?;
-        let name = &bytes[p + 1..end];
-        if !ask_next(before, name, asked, function) {
-            return None;
+impl<'a> Cursor<'a> {
+    ghost use Rattle.std.specs.Prelude.{[]};
+    ghost use Rattle.definitions.specs.Bytes.{list_of, field, checked, all};
+    ghost use Rattle.definitions.specs.Reader.{method_record, class_record};
+    ghost use Rattle.reader.specs.Asks.{ask_constant, ask_methods, ask_class};
+    ghost use Rattle.reader.specs.Cursors.{Skips};
+
+    // A constant and its question: it is the number of a class.
+    fn constant(&mut self, asked: Asked) -> Option<()>
+        ensures { Skips (checked (ask_constant asked) (field 2)) result self.old self.new }
+    {
+        let class = self.number()?;
+        if asked.numbers().is_none_or(|counts| class < counts.classes) {
+            Some(())
+        } else {
+            None
         }
-        before = name;
-        p = end + 2;
     }
-    Some(p)
-}
 
-// A question of the class at `at`.
-fn ask_class(bytes: &[u8], at: usize, asked: Asked) -> Option<usize>
-    requires { at ≤ length bytes.now }
-    ensures { result ≡ skip_at (checked (ask_class asked) class_record) bytes.now at }
-{
-    let next = skip_proper(bytes, at)?;
-    ask_methods(bytes, next, asked)
-}
+    // The counted constants and their questions.
+    pub(crate) fn constants(&mut self, asked: Asked) -> Option<()>
+        ensures { Skips (checked (all (ask_constant asked)) (list_of 2 (field 2))) result self.old self.new }
+    {
+        self.list(|c| c.constant(asked))
+    }
 
-// A question of the counted classes at `at`.
-pub(crate) fn ask_classes(bytes: &[u8], at: usize, asked: Asked) -> Option<usize>
-    requires { at ≤ length bytes.now }
-    ensures { result ≡ skip_at (checked (all (ask_class asked)) (list_of 2 class_record)) bytes.now at }
-{
-    skip_list(bytes, at, |p| ask_class(bytes, p, asked))
+    // The counted methods and their questions.
+    fn methods(&mut self, asked: Asked) -> Option<()>
+        ensures { Skips (checked (ask_methods asked []) (list_of 2 method_record)) result self.old self.new }
+    {
+        let count = self.number()?;
+        let mut before: &[u8] = &[];
+        for _ in 0..count {
+            let name = self.proper()?;
+            let function = self.number()?;
+            if !ask_next(before, name, asked, function) {
+                return None;
+            }
+            before = name;
+        }
+        Some(())
+    }
+
+    // A class and its questions.
+    fn class(&mut self, asked: Asked) -> Option<()>
+        ensures { Skips (checked (ask_class asked) class_record) result self.old self.new }
+    {
+        self.proper()?;
+        self.methods(asked)
+    }
+
+    // The counted classes and their questions.
+    pub(crate) fn classes(&mut self, asked: Asked) -> Option<()>
+        ensures { Skips (checked (all (ask_class asked)) (list_of 2 class_record)) result self.old self.new }
+    {
+        self.list(|c| c.class(asked))
+    }
 }

@@ -15,6 +15,7 @@ pub fn instruction_at(bytes: &[u8], at: usize) -> Option<Instruction>
         return None;
     }
     let op = bytes[at];
+    // The opcodes have no gap, so one comparison tells them; a match would name all 46.
     if op_bytes::LAST < op {
         return None;
     }

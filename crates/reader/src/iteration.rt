@@ -19,11 +19,15 @@ impl<'a> Instructions<'a> {
     pub fn of(code: &'a [u8]) -> Instructions<'a>
         ensures { (result.code ≡ code.entry) × (result.place ≡ 0) × (result.at ≡ 0) }
     {
-        Instructions {
-            code,
-            place: 0,
-            at: 0,
-        }
+        Instructions::from(code, 0, 0)
+    }
+
+    // Those from the byte `at` on, of which the first has the number `place`.
+    pub fn from(code: &'a [u8], place: u64, at: usize) -> Instructions<'a>
+        requires { place ≤ at }
+        ensures { (result.code ≡ code.entry) × (result.place ≡ place) × (result.at ≡ at) }
+    {
+        Instructions { code, place, at }
     }
 }
 

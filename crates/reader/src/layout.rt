@@ -1,13 +1,12 @@
 // The whole module: the head, the five lists, and the questions of what they hold.
+// Where the lists are (Sectioned) is said of the bytes and the sections: these go to other crates without the bytes.
 ghost use Rattle.std.specs.Prelude.{◌≡◌, ◌+◌, ◌≤◌, length, drop, true, false, MatchOption};
 ghost use Rattle.definitions.specs.Calls.{read_call};
 ghost use Rattle.definitions.specs.Reader.{module_record, whole_module, numbers_exist};
 ghost use Rattle.reader.specs.Asks.{counts_of};
 ghost use Rattle.reader.specs.View.{Lays, Lists, Sectioned, tables_of, Heads, said, bare, Opens};
 
-use crate::classes::{ask_classes, ask_constants};
-use crate::functions::ask_functions;
-use crate::names::{skip_strings, skip_symbols};
+use crate::cursor::Cursor;
 use crate::numbers::number_at;
 use crate::{Asked, Counts, Part, Sections};
 use numerals::sizes::{COUNT, HEAD, MODULE_MOST};
@@ -52,19 +51,24 @@ fn lay(bytes: &[u8]) -> Option<Sections>
     requires { 5 ≤ length bytes.now }
     ensures { Lays result bytes.now }
 {
-    let strings = skip_symbols(bytes, HEAD)?;
-    let functions = skip_strings(bytes, strings)?;
-    let classes = ask_functions(bytes, functions, Asked::Layout)?;
-    let constants = ask_classes(bytes, classes, Asked::Layout)?;
-    let end = ask_constants(bytes, constants, Asked::Layout)?;
-    if end != bytes.len() {
+    let mut c = Cursor::new(bytes, HEAD);
+    c.symbols()?;
+    let strings = c.at;
+    c.strings()?;
+    let functions = c.at;
+    c.functions(Asked::Layout)?;
+    let classes = c.at;
+    c.classes(Asked::Layout)?;
+    let constants = c.at;
+    c.constants(Asked::Layout)?;
+    if c.at != bytes.len() {
         return None;
     }
     Some(Sections {
         strings: list_in(bytes, strings, functions),
         functions: list_in(bytes, functions, classes),
         classes: list_in(bytes, classes, constants),
-        constants: list_in(bytes, constants, end),
+        constants: list_in(bytes, constants, c.at),
     })
 }
 
@@ -87,11 +91,11 @@ fn ask_numbers(bytes: &[u8], sections: Sections) -> Option<()>
     requires { Sectioned bytes.now sections }
     ensures { MatchOption result (numbers_exist (tables_of bytes.now) ≡ false) (λ _. numbers_exist (tables_of bytes.now) ≡ true) }
 {
-    let counts = counts_of(bytes, sections);
-    ask_functions(bytes, sections.functions.start, Asked::Numbers(counts))?;
-    ask_classes(bytes, sections.classes.start, Asked::Numbers(counts))?;
-    ask_constants(bytes, sections.constants.start, Asked::Numbers(counts))?;
-    Some(())
+    let asked = Asked::Numbers(counts_of(bytes, sections));
+    let mut c = Cursor::new(bytes, sections.functions.start);
+    c.functions(asked)?;
+    c.classes(asked)?;
+    c.constants(asked)
 }
 
 // Questions 20 and 21, of a module that follows the layout.
@@ -100,7 +104,8 @@ fn judge(bytes: &[u8], sections: Sections) -> Result<(), Question>
     ensures { said result ≡ bare (whole_module (module_record (drop 5 bytes.now))) }
 {
     ask_numbers(bytes, sections).ok_or(Question::Numbers)?;
-    ask_functions(bytes, sections.functions.start, Asked::Jumps).ok_or(Question::Jumps)?;
+    let mut c = Cursor::new(bytes, sections.functions.start);
+    c.functions(Asked::Jumps).ok_or(Question::Jumps)?;
     Ok(())
 }
 

@@ -1,24 +1,20 @@
 // Counted lists: two bytes with the count, and as many records.
-ghost use Rattle.std.specs.Prelude.{◌≡◌, ℕ, Option, Some, ◌≤◌, length};
-ghost use Rattle.reader.specs.View.{list_by};
+use crate::cursor::Cursor;
 
-use crate::numbers::read_number;
+impl<'a> Cursor<'a> {
+    ghost use Rattle.std.specs.Prelude.{ℕ, List, Option};
+    ghost use Rattle.reader.specs.View.{list_by};
+    ghost use Rattle.reader.specs.Cursors.{Steps};
 
-// The counted list at `at`, each of whose records `each` passes over.
-pub(crate) fn skip_list<F: Fn(usize) -> Option<usize>>(
-    bytes: &[u8],
-    at: usize,
-    each: F,
-) -> Option<usize>
-    requires here { at ≤ length bytes.now }
-    requires may { (p : ℕ) → p ≤ length bytes.now → F.pre each p }
-    requires stays { (p m : ℕ) → p ≤ length bytes.now → F.post each p (Some m) → m ≤ length bytes.now }
-    ensures { (step : ℕ → Option ℕ) → ((p : ℕ) (r : Option ℕ) → p ≤ length bytes.now → F.post each p r → r ≡ step p) → result ≡ list_by step bytes.now at }
-{
-    let count = read_number(bytes, at, 2)?;
-    let mut p = at + 2;
-    for _ in 0..count {
-        p = each(p)?;
+    // The next counted list, each of whose records `each` passes over.
+    pub(crate) fn list<F: Fn(&mut Cursor<'a>) -> Option<()>>(&mut self, each: F) -> Option<()>
+        requires { F.IsAlwaysCallable each }
+        ensures { (step : List ℕ → ℕ → Option ℕ) → ((c : _) (r : _) (d : _) → F.post each c r d → Steps step r c.now d.now) → Steps (λ t. list_by (step t) t) result self.old self.new }
+    {
+        let count = self.number()?;
+        for _ in 0..count {
+            each(self)?;
+        }
+        Some(())
     }
-    Some(p)
 }

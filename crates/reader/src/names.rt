@@ -1,69 +1,66 @@
 // Names and strings: the first two lists of a module, and the names of classes and methods.
-ghost use Rattle.std.specs.Prelude.{◌≡◌, ◌≤◌, length};
-ghost use Rattle.definitions.specs.Bytes.{byte, name, list_of, checked};
-ghost use Rattle.definitions.specs.Wellformed.{is_name};
-ghost use Rattle.reader.specs.View.{skip_at, string};
-
-use crate::lists::skip_list;
-use crate::numbers::{read_number, skip_bytes};
+use crate::cursor::Cursor;
 use byte_tests::is_name;
 use utf8::is_utf8;
 
-// A count in `width` bytes and as many bytes.
-fn skip_text(bytes: &[u8], at: usize, width: usize) -> Option<usize>
-    requires { (at ≤ length bytes.now) × (width ≤ 2) }
-    ensures { result ≡ skip_at (list_of width byte) bytes.now at }
-{
-    let n = read_number(bytes, at, width)?;
-    skip_bytes(bytes, at + width, n as usize)
-}
+impl<'a> Cursor<'a> {
+    ghost use Rattle.std.specs.Prelude.{MatchOption};
+    ghost use Rattle.definitions.specs.Bytes.{name, text, list_of, checked};
+    ghost use Rattle.definitions.specs.Wellformed.{is_name};
+    ghost use Rattle.reader.specs.View.{string};
+    ghost use Rattle.reader.specs.Cursors.{Read, Cut, Skips};
 
-// A name: a length byte and as many bytes.
-fn skip_name(bytes: &[u8], at: usize) -> Option<usize>
-    requires { at ≤ length bytes.now }
-    ensures { result ≡ skip_at name bytes.now at }
-{
-    skip_text(bytes, at, 1)
-}
-
-// A string: a count in two bytes and as many bytes, well-formed UTF-8.
-fn skip_string(bytes: &[u8], at: usize) -> Option<usize>
-    requires { at ≤ length bytes.now }
-    ensures { result ≡ skip_at string bytes.now at }
-{
-    let next = skip_text(bytes, at, 2)?;
-    if is_utf8(&bytes[at + 2..next]) {
-        Some(next)
-    } else {
-        None
+    // A name: a length byte and as many bytes.
+    fn name(&mut self) -> Option<&'a [u8]>
+        ensures { MatchOption result (Cut name self.old) (λ x. Read name x.now self.old self.new) }
+    {
+        let n = self.byte()?;
+        self.take(n as usize)
     }
-}
 
-// The counted symbols at `at`.
-pub(crate) fn skip_symbols(bytes: &[u8], at: usize) -> Option<usize>
-    requires { at ≤ length bytes.now }
-    ensures { result ≡ skip_at (list_of 2 name) bytes.now at }
-{
-    skip_list(bytes, at, |p| skip_name(bytes, p))
-}
+    // A text: a count in two bytes and as many bytes.
+    fn text(&mut self) -> Option<&'a [u8]>
+        ensures { MatchOption result (Cut text self.old) (λ x. Read text x.now self.old self.new) }
+    {
+        let n = self.number()?;
+        self.take(n as usize)
+    }
 
-// The counted strings at `at`.
-pub(crate) fn skip_strings(bytes: &[u8], at: usize) -> Option<usize>
-    requires { at ≤ length bytes.now }
-    ensures { result ≡ skip_at (list_of 2 string) bytes.now at }
-{
-    skip_list(bytes, at, |p| skip_string(bytes, p))
-}
+    // A name that is well formed.
+    pub(crate) fn proper(&mut self) -> Option<&'a [u8]>
+        ensures { MatchOption result (Cut (checked is_name name) self.old) (λ x. Read (checked is_name name) x.now self.old self.new) }
+    {
+        let name = self.name()?;
+        if is_name(name) { Some(name) } else { None }
+    }
 
-// A well formed name.
-pub(crate) fn skip_proper(bytes: &[u8], at: usize) -> Option<usize>
-    requires { at ≤ length bytes.now }
-    ensures { result ≡ skip_at (checked is_name name) bytes.now at }
-{
-    let next = skip_name(bytes, at)?;
-    if is_name(&bytes[at + 1..next]) {
-        Some(next)
-    } else {
-        None
+    // A symbol: any name.
+    fn symbol(&mut self) -> Option<()>
+        ensures { Skips name result self.old self.new }
+    {
+        self.name()?;
+        Some(())
+    }
+
+    // A string: a text that is well-formed UTF-8.
+    fn string(&mut self) -> Option<()>
+        ensures { Skips string result self.old self.new }
+    {
+        let text = self.text()?;
+        if is_utf8(text) { Some(()) } else { None }
+    }
+
+    // The counted symbols.
+    pub(crate) fn symbols(&mut self) -> Option<()>
+        ensures { Skips (list_of 2 name) result self.old self.new }
+    {
+        self.list(|c| c.symbol())
+    }
+
+    // The counted strings.
+    pub(crate) fn strings(&mut self) -> Option<()>
+        ensures { Skips (list_of 2 string) result self.old self.new }
+    {
+        self.list(|c| c.string())
     }
 }

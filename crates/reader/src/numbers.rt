@@ -1,7 +1,6 @@
-// Numbers of several bytes, and bytes that are passed over.
-ghost use Rattle.std.specs.Prelude.{◌≡◌, [], ◌∷◌, ◌+◌, ◌^◌, ◌≤◌, ◌<◌, length};
-ghost use Rattle.definitions.specs.Bytes.{byte, counted};
-ghost use Rattle.reader.specs.View.{skip_at, number_at, Reads};
+// Numbers of several bytes.
+ghost use Rattle.std.specs.Prelude.{◌≡◌, ◌+◌, ◌^◌, ◌≤◌, ◌<◌, length};
+ghost use Rattle.reader.specs.View.{number_at};
 
 // The big-endian number of `width` bytes at `at`, byte by byte.
 fn long_number(bytes: &[u8], at: usize, width: usize) -> u64
@@ -25,28 +24,5 @@ pub fn number_at(bytes: &[u8], at: usize, width: usize) -> u64
         1 => bytes[at] as u64,
         2 => bytes[at] as u64 * 256 + bytes[at + 1] as u64,
         _ => long_number(bytes, at, width),
-    }
-}
-
-// The same where the bytes have it.
-pub(crate) fn read_number(bytes: &[u8], at: usize, width: usize) -> Option<u64>
-    requires { (at ≤ length bytes.now) × (width ≤ 8) }
-    ensures { Reads result width bytes.now at }
-{
-    if bytes.len() - at < width {
-        return None;
-    }
-    Some(number_at(bytes, at, width))
-}
-
-// n bytes at `at`.
-pub(crate) fn skip_bytes(bytes: &[u8], at: usize, n: usize) -> Option<usize>
-    requires { at ≤ length bytes.now }
-    ensures { result ≡ skip_at (counted [] ◌∷◌ byte n) bytes.now at }
-{
-    if n <= bytes.len() - at {
-        Some(at + n)
-    } else {
-        None
     }
 }

@@ -1,4 +1,5 @@
 // Questions 20 and 21 of one instruction.
+// The bound of a single number stays a clause: a type for it would be opened at each use.
 ghost use Rattle.std.specs.Prelude.{◌≡◌, ◌<◌};
 ghost use Rattle.definitions.specs.Instruction.{numbers_of};
 ghost use Rattle.definitions.specs.Builtins.{registry};
@@ -6,47 +7,31 @@ ghost use Rattle.definitions.specs.Reader.{is_builtin, landing};
 ghost use Rattle.reader.specs.Asks.{operand_of, exists_in, op_stands, ask_op, ask_head};
 
 use crate::{Asked, Counts, Head, Instruction, Operand};
-use numerals::{op_bytes, op_places};
+use numerals::op_bytes::{JUMP, JUMP_IF_TRUE, RETURN};
+use numerals::op_places::{
+    CALL, CALL_BUILTIN, CALL_METHOD, CONST_STR, LOAD_ATTR, LOAD_CONST, LOAD_GLOBAL, LOAD_LOCAL,
+    MAKE_CLOSURE, STORE_ATTR, STORE_GLOBAL, STORE_LOCAL,
+};
 
 // A built-in has the id.
 fn is_builtin(n: u64) -> bool
     ensures { result ≡ is_builtin registry n }
 {
-    match n {
-        0 => true,
-        1 => true,
-        2 => true,
-        3 => true,
-        4 => true,
-        5 => true,
-        6 => true,
-        7 => true,
-        10 => true,
-        11 => true,
-        12 => true,
-        13 => true,
-        14 => true,
-        _ => false,
-    }
+    matches!(n, 0..=7 | 10..=14)
 }
 
 // What an instruction's first operand numbers.
-fn operand_of(op: usize) -> Operand
+#[tactic(auto, unfolding(crate::specs::Asks::operand_of, definitions::specs::Instruction::numbers_of, definitions::specs::Instruction::row_of, definitions::specs::Instruction::instruction_table))]
+fn operand_of(op: u8) -> Operand
     ensures { result ≡ operand_of (numbers_of op) }
 {
-    match op {
-        op_places::CONST_STR => Operand::Text,
-        op_places::LOAD_CONST => Operand::Constant,
-        op_places::LOAD_LOCAL => Operand::Slot,
-        op_places::STORE_LOCAL => Operand::Slot,
-        op_places::LOAD_GLOBAL => Operand::Symbol,
-        op_places::STORE_GLOBAL => Operand::Symbol,
-        op_places::CALL => Operand::Function,
-        op_places::CALL_BUILTIN => Operand::Builtin,
-        op_places::CALL_METHOD => Operand::Symbol,
-        op_places::LOAD_ATTR => Operand::Symbol,
-        op_places::STORE_ATTR => Operand::Symbol,
-        op_places::MAKE_CLOSURE => Operand::Function,
+    match usize::from(op) {
+        CONST_STR => Operand::Text,
+        LOAD_CONST => Operand::Constant,
+        LOAD_LOCAL | STORE_LOCAL => Operand::Slot,
+        LOAD_GLOBAL | STORE_GLOBAL | CALL_METHOD | LOAD_ATTR | STORE_ATTR => Operand::Symbol,
+        CALL | MAKE_CLOSURE => Operand::Function,
+        CALL_BUILTIN => Operand::Builtin,
         _ => Operand::Nothing,
     }
 }
@@ -82,28 +67,23 @@ fn op_stands(n: u64, place: u64, op: u8, a: u64) -> bool
     ensures { result ≡ op_stands n place op a }
 {
     if place + 1 == n {
-        return op == op_bytes::RETURN;
+        return op == RETURN;
     }
-    if op < op_bytes::JUMP {
-        return true;
+    match op {
+        JUMP..=JUMP_IF_TRUE => jump_target(place, a) < n,
+        _ => true,
     }
-    if op_bytes::JUMP_IF_TRUE < op {
-        return true;
-    }
-    jump_target(place, a) < n
 }
 
 // A question of an instruction at a place of a function.
 #[tactic(auto, unfolding(crate::specs::Asks::ask_op))]
 pub(crate) fn ask_op(asked: Asked, head: Head, place: u64, i: Instruction) -> bool
-    requires { (place < 4294967296) × (i.op < 46) }
+    requires { place < 4294967296 }
     ensures { result ≡ ask_op asked head.count head.slots place i.op i.a }
 {
     match asked {
         Asked::Layout => true,
-        Asked::Numbers(counts) => {
-            number_exists(counts, head.slots, operand_of(i.op as usize), i.a)
-        }
+        Asked::Numbers(counts) => { number_exists(counts, head.slots, operand_of(i.op), i.a) }
         Asked::Jumps => op_stands(head.count, place, i.op, i.a),
     }
 }

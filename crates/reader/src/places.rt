@@ -1,7 +1,7 @@
 // Where a function's code is, in an accepted module.
 ghost use Rattle.reader.specs.View.{ListsFunctions, FoundAt, Ready, Locates};
 
-use crate::functions::ask_function;
+use crate::cursor::Cursor;
 use crate::numbers::number_at;
 use crate::{Asked, Part, Sections};
 use numerals::sizes::FUNCTION_HEAD;
@@ -15,11 +15,11 @@ fn find_function(bytes: &[u8], functions: Part, f: u64) -> Option<usize>
     if functions.count <= f {
         return None;
     }
-    let mut p = functions.start + 2;
+    let mut c = Cursor::new(bytes, functions.start + 2);
     for _ in 0..f {
-        p = ask_function(bytes, p, Asked::Layout)?;
+        c.function(Asked::Layout)?;
     }
-    Some(p)
+    Some(c.at)
 }
 
 // Where the code of the function f is, in an accepted module.
@@ -28,11 +28,12 @@ pub(crate) fn locate_in(bytes: &[u8], sections: Sections, f: u64) -> Result<Part
     ensures { Locates result bytes.now f }
 {
     let head = find_function(bytes, sections.functions, f).ok_or(Question::Function)?;
-    let end = ask_function(bytes, head, Asked::Layout).ok_or(Question::Function)?;
+    let mut c = Cursor::new(bytes, head);
+    c.function(Asked::Layout).ok_or(Question::Function)?;
     let start = head + FUNCTION_HEAD;
     Ok(Part {
         start,
-        size: end - start,
+        size: c.at - start,
         count: number_at(bytes, head + 5, 2),
     })
 }

@@ -1,7 +1,9 @@
 -- What the code tests of opcodes, and where a question goes. Assumes nothing.
 use Prim.Native.Nat.{ℕ, ◌+◌, ◌<◌, ◌≤◌}
-use mathlib.Core.Path.{◌≡◌, refl, sym, ap, ◌∙◌, subst}
-use mathlib.Core.Bool.{Bool, true, false, beq, true≢false}
+use mathlib.Core.Path.{◌≡◌, refl, sym, ap, ap₂, ◌∙◌, subst}
+use lib.Dec.{eqb}
+use borrow.Author.Tests.{eq-eqb, ne_eqb}
+use mathlib.Core.Bool.{Bool, true, false}
 use mathlib.Core.List.{[], ◌∷◌}
 use mathlib.Core.Logic.{◌⊎◌, ⊎_elim}
 use native.Mathlib.Omega.{arith}
@@ -59,16 +61,19 @@ nearer-stop b op k stop g e = record { on = λ f. absurd (on-false b op g e f); 
 
 -- ---- a question's way
 
-pub way_same : (b y : Bool) (p a : ℕ) → beq b y ≡ true → landing p a ≡ way b y p a
-unfolding way
-way_same true true p a e = refl
-way_same false false p a e = refl
-way_same true false p a e = absurd (true≢false (sym e))
-way_same false true p a e = absurd (true≢false (sym e))
+module _ (op x p a : ℕ) where
+  pub way-true-yes : op ≡ 30 → x ≡ 1 → landing p a ≡ way (eqb op 30) (eqb x 1) p a
+  unfolding way
+  way-true-yes e f = sym (ap₂ (λ (y z : Bool). way y z p a) (eq-eqb op 30 e) (eq-eqb x 1 f))
 
-pub way_other : (b y : Bool) (p a : ℕ) → beq b y ≡ false → p + 1 ≡ way b y p a
-unfolding way
-way_other true true p a e = absurd (true≢false e)
-way_other false false p a e = absurd (true≢false e)
-way_other true false p a e = add-one p
-way_other false true p a e = add-one p
+  pub way-true-no : op ≡ 30 → (x ≡ 1 → ⊥) → p + 1 ≡ way (eqb op 30) (eqb x 1) p a
+  unfolding way
+  way-true-no e f = add-one p ∙ sym (ap₂ (λ (y z : Bool). way y z p a) (eq-eqb op 30 e) (ne_eqb x 1 f))
+
+  pub way-false-yes : (op ≡ 30 → ⊥) → x ≡ 1 → p + 1 ≡ way (eqb op 30) (eqb x 1) p a
+  unfolding way
+  way-false-yes e f = add-one p ∙ sym (ap₂ (λ (y z : Bool). way y z p a) (ne_eqb op 30 e) (eq-eqb x 1 f))
+
+  pub way-false-no : (op ≡ 30 → ⊥) → (x ≡ 1 → ⊥) → landing p a ≡ way (eqb op 30) (eqb x 1) p a
+  unfolding way
+  way-false-no e f = sym (ap₂ (λ (y z : Bool). way y z p a) (ne_eqb op 30 e) (ne_eqb x 1 f))

@@ -1,11 +1,11 @@
 -- Event bytes that are stored. Assumes nothing.
-use Prim.Native.Nat.{ℕ, suc, ◌+◌, ◌-◌, ◌≤◌}
+use Prim.Native.Nat.{ℕ, suc, ◌+◌, ◌≤◌, ◌<◌}
 use mathlib.Core.Path.{◌≡◌, refl, sym, ap, ap₂, ◌∙◌}
-use mathlib.Core.List.{List, [], ◌∷◌, ◌++◌, append_assoc}
+use mathlib.Core.List.{List, [], ◌∷◌, ◌++◌}
 use native.Mathlib.Omega.{arith}
-use lib.ListN.{length, take, drop, set, length-append}
-use lib.Seq.{sets, sets-eq, length-sets, drop-drop}
-use borrow.Rule.Slice.PartMut.{put_mid}
+use lib.ListN.{length, drop, get_or, set, length-append}
+use lib.Seq.{sets, sets-eq, length-sets, drop-cons}
+use Rattle.std.proofs.lemmas.List.{drop_all}
 use Rattle.definitions.specs.Calls.{written}
 use Rattle.run.specs.Pass.{Copied}
 
@@ -33,8 +33,14 @@ copied-written before left bs c h = c.stored (omega arith) ∙ sets-eq bs before
 
 -- ---- the copy
 
-pub copied_over : (before bs : List ℕ) (at : ℕ) → at + length bs ≤ length before → Copied before (put_mid at (at + length bs - at) before bs) at bs
-copied_over before bs at h =
-    let n : at + (at + length bs - at) ≡ at + length bs = omega arith in
-    stored_at before _ at bs (sym (sets-eq bs before at h ∙ append_assoc (take at before) bs (drop (at + length bs) before)
-    ∙ ap (λ (xs : List ℕ). take at before ++ (bs ++ xs)) (ap (λ (k : ℕ). drop k before) (sym n) ∙ sym (drop-drop (at + length bs - at) at before))))
+pub copy-next : (events bs : List ℕ) (at i : ℕ) → i < length bs →
+    sets events (at + i) (drop i bs) ≡ sets (set events (at + i) (get_or bs i 0)) (at + (i + 1)) (drop (i + 1) bs)
+copy-next events bs at i h =
+    ap (λ (xs : List ℕ). sets events (at + i) xs) (drop-cons bs i 0 h ∙ ap (λ (j : ℕ). get_or bs i 0 ∷ drop j bs) (let z : suc i ≡ i + 1 = omega arith in z))
+    ∙ ap (λ (k : ℕ). sets (set events (at + i) (get_or bs i 0)) k (drop (i + 1) bs)) (let z : suc (at + i) ≡ at + (i + 1) = omega arith in z)
+
+pub copy_start : (events bs : List ℕ) (at : ℕ) → sets events at bs ≡ sets events (at + 0) (drop 0 bs)
+copy_start events bs at = ap (λ (k : ℕ). sets events k bs) (let z : at ≡ at + 0 = omega arith in z)
+
+pub copy-end : (events bs : List ℕ) (at i : ℕ) → length bs ≤ i → sets events (at + i) (drop i bs) ≡ events
+copy-end events bs at i h = ap (λ (xs : List ℕ). sets events (at + i) xs) (drop_all i bs h)

@@ -3,19 +3,12 @@ ghost use Rattle.std.specs.Prelude.{◌≡◌, ◌≤◌, length};
 ghost use Rattle.definitions.specs.Run as Run;
 ghost use Rattle.definitions.specs.Calls.{events_fit, ran_call};
 ghost use Rattle.reader.specs.View.{instructions_of};
-ghost use Rattle.run.specs.Tables.{Coded};
 ghost use Rattle.run.specs.Pass.{Called};
 
 use crate::Ran;
 use crate::course::Course;
-use crate::tables::{fill_places, fill_stops};
+use crate::tables::{Function, fill_places, fill_stops};
 use questions::Question;
-
-// How many instructions a lowered module has at most: the tables of most functions.
-const SMALL: usize = 8192;
-
-// How many instructions a function has at most.
-const LARGE: usize = 65536;
 
 // The run on a course that allows as many event bytes as the buffer has.
 fn run_on(course: &Course<'_>, events: &mut [u8]) -> Result<Ran, Question>
@@ -26,23 +19,22 @@ fn run_on(course: &Course<'_>, events: &mut [u8]) -> Result<Ran, Question>
     course.pass(events).ok_or(Question::EventRoom)
 }
 
-// The run of a function of n instructions, with tables of N.
-fn run_sized<const N: usize>(
-    code: &[u8],
-    n: usize,
+// The run of a function, with tables of N.
+pub(crate) fn run_sized<const N: usize>(
+    function: Function<'_>,
     answers: &[u8],
     budget: u64,
     events: &mut [u8],
 ) -> Result<Ran, Question>
-    requires { Coded code.now × (n ≡ length (instructions_of code.now)) × (n ≤ N) × (N ≤ 65536) }
-    ensures { Called result (ran_call (events_fit (length events.old) (Run.run budget (instructions_of code.now) 0 answers.now)) events.old) events.new }
+    requires { (function.n ≤ N) × (N ≤ 65536) }
+    ensures { Called result (ran_call (events_fit (length events.old) (Run.run budget (instructions_of function.entry.code.now) 0 answers.now)) events.old) events.new }
 {
     let mut places = [0u32; N];
-    fill_places(code, &mut places);
+    fill_places(function.code, &mut places);
     let mut stops = [0u32; N];
-    fill_stops(code, &places, n, &mut stops);
+    fill_stops(function, &places, &mut stops);
     let course = Course {
-        code,
+        code: function.code,
         places: &places,
         stops: &stops,
         answers,
@@ -50,22 +42,4 @@ fn run_sized<const N: usize>(
         room: events.len(),
     };
     run_on(&course, events)
-}
-
-// The run of a function's code, with tables that are large enough.
-pub(crate) fn run_code(
-    code: &[u8],
-    n: usize,
-    answers: &[u8],
-    budget: u64,
-    events: &mut [u8],
-) -> Result<Ran, Question>
-    requires { Coded code.now × (n ≡ length (instructions_of code.now)) }
-    ensures { Called result (ran_call (events_fit (length events.old) (Run.run budget (instructions_of code.now) 0 answers.now)) events.old) events.new }
-{
-    if n <= SMALL {
-        run_sized::<SMALL>(code, n, answers, budget, events)
-    } else {
-        run_sized::<LARGE>(code, n, answers, budget, events)
-    }
 }

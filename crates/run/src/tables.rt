@@ -7,6 +7,15 @@ ghost use Rattle.run.specs.Tables.{Coded, Places, Stops, GoesOn, Nearer};
 use numerals::op_bytes::{JUMP, JUMP_IF_FALSE, JUMP_IF_TRUE, RETURN};
 use reader::Instructions;
 
+// A function's code, and how many instructions it has.
+#[derive(Clone, Copy)]
+pub(crate) struct Function<'a> {
+    pub code: &'a [u8],
+    pub n: usize,
+    ghost coded: { Coded code.now },
+    ghost counted: { n ≡ length (instructions_of code.now) },
+}
+
 // Where each instruction begins.
 pub fn fill_places(code: &[u8], places: &mut [u32])
     requires { Coded code.now × (length (instructions_of code.now) ≤ length places.old) }
@@ -34,14 +43,14 @@ pub(crate) fn nearer(op: u8, k: usize, stop: usize) -> usize
     if goes_on(op) { stop } else { k }
 }
 
-// Where going straight on stops, from each of n instructions on.
-pub(crate) fn fill_stops(code: &[u8], places: &[u32], n: usize, stops: &mut [u32])
-    requires { Coded code.now × Places code.now places.now × (n ≡ length (instructions_of code.now)) × (n ≤ length stops.old) }
-    ensures { Stops code.now stops.new }
+// Where going straight on stops, from each of the function's instructions on.
+pub(crate) fn fill_stops(function: Function<'_>, places: &[u32], stops: &mut [u32])
+    requires { Places function.code.now places.now × (function.n ≤ length stops.old) }
+    ensures { Stops function.entry.code.now stops.new }
 {
     let mut stop = 0;
-    for k in (0..n).rev() {
-        stop = nearer(code[places[k] as usize], k, stop);
+    for k in (0..function.n).rev() {
+        stop = nearer(function.code[places[k] as usize], k, stop);
         stops[k] = stop as u32;
     }
 }

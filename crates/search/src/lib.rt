@@ -77,7 +77,7 @@ impl Table<'_> {
     }
 }
 
-// A search of n places begins: place 0 has the mark `root` and stands in the queue alone.
+// A search of n places begins: place 0 has the mark `root` and stands in the queue alone. n counts places: the area holds queue and marks, and may be longer.
 fn begin(area: &mut [u32], n: usize, root: u32)
     requires { Beginning area.old n }
     ensures { table_in n area.new 1 ≡ at_start n root area.old }
@@ -87,7 +87,8 @@ fn begin(area: &mut [u32], n: usize, root: u32)
     area[MARKS] = root;
 }
 
-// The search of n places with marks that tell the way: afterwards the marked places are those that some answers bring a run to.
+// The search of n places with marks that tell the way: afterwards the marked places are those that some answers bring a run to. n counts the code's
+// instructions: the table of places and the area have room for more.
 pub fn sweep(code: &[u8], places: &[u32], area: &mut [u32], n: usize)
     requires { Searchable code.now places.now area.old n }
     ensures { Swept by_link (instructions_of code.now) (marks_of n area.new) }

@@ -12,7 +12,7 @@ ghost use Rattle.writing.specs.Wrote.{Wrote};
 ghost use Rattle.tally.specs.Walk.{Values, functions_from, FunctionsAt};
 ghost use Rattle.tally.specs.Listed.{Printed};
 
-use lines::{write_count, write_total};
+use lines::{Row, write_count, write_total};
 use questions::Question;
 use reader::{Part, number_at, read_module};
 use tally::{CODE, COUNT, count_code};
@@ -27,20 +27,29 @@ fn write_sheet(bytes: &[u8], at: usize, count: u64, out: &mut [u8]) -> usize
 {
     let mut p = at;
     let mut put = 0usize;
-    let mut total = 0u64;
-    let mut questions = 0u64;
-    let mut calls = 0u64;
+    let mut totals = Row {
+        instructions: 0,
+        questions: 0,
+        calls: 0,
+    };
     for f in 0..count {
         let n = number_at(bytes, p + COUNT, 2);
         let code = count_code(bytes, p + CODE, n);
-        write_count(f, n, code.questions, code.calls, &mut out[put..]);
+        let row = Row {
+            instructions: n,
+            questions: code.questions,
+            calls: code.calls,
+        };
+        write_count(f, row, &mut out[put..]);
         put += LINE;
-        total += n;
-        questions += code.questions;
-        calls += code.calls;
+        totals = Row {
+            instructions: totals.instructions + n,
+            questions: totals.questions + code.questions,
+            calls: totals.calls + code.calls,
+        };
         p = code.at;
     }
-    write_total(total, questions, calls, &mut out[put..]);
+    write_total(totals, &mut out[put..]);
     put + LINE
 }
 

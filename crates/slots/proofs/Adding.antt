@@ -1,7 +1,7 @@
 -- A name among slots, and added to them. Assumes nothing.
 use Prim.Native.Nat.{ℕ, ◌+◌, ◌-◌, ◌<◌, ◌≤◌}
 use mathlib.Core.Path.{◌≡◌, refl, sym, ap, ◌∙◌, subst}
-use mathlib.Core.Bool.{Bool, true, false}
+use mathlib.Core.Bool.{Bool, true, false, true≢false}
 use mathlib.Core.Option.{Option, none, some}
 use mathlib.Core.List.{List, [], ◌∷◌, ◌++◌, map}
 use native.Mathlib.Omega.{arith}
@@ -11,12 +11,16 @@ use lib.Seq.{take-suc-set, length-take-le, drop-set-add, drop-set-lt, drop_at, t
 use borrow.Rule.Slice.PartMut.{put_mid, post_of}
 use Rattle.names.proofs.Finding.{names-length}
 use Rattle.definitions.specs.Bytes.{Name, same, position, member}
-use Rattle.definitions.specs.Slots.{add}
+use Rattle.definitions.specs.Tree.{def, []ᵇ}
+use Rattle.definitions.specs.Slots.{add, locals_stmt}
+use Rattle.definitions.proofs.Named.{stmt-grows}
 use Rattle.state.specs.Words.{name_at}
-use Rattle.state.specs.Index.{bucket_of, Covered, none_covered, start_of}
+use Rattle.state.specs.Index.{bucket_of, Covered, none_covered, covered, start_of}
 use Rattle.state.specs.State.{names_at, slots_from, slot_names, Slots}
 use Rattle.parts.specs.Places.{name_bytes}
-use Rattle.names.specs.Sought.{sought_from}
+use Rattle.std.specs.Prelude as std
+use Rattle.std.specs.Prelude.{Some, None, is_some}
+use Rattle.names.specs.Sought.{place_in, sought_from}
 use Rattle.names.proofs.Indexing.{place_found, slot-found, covered_out, covered-part, covered-snoc}
 use Rattle.slots.specs.Slotted.{leading, first_names, Indexed, IsBucket, Added}
 
@@ -69,6 +73,20 @@ pub first-bucket : (t : List ℕ) (n b v : ℕ) (ps : List ℕ) → b < slots_fr
 unfolding first_names
 first-bucket t n b v ps h = ap (λ (l : List ℕ). names_at t (take n l)) (drop-set-lt slots_from ps b v h)
 
+-- the first of indexed slots are indexed
+covered-first : (size : ℕ) (bs : List ℕ) (j : ℕ) (xs ys : List Name) → Covered size bs j (xs ++ ys) → Covered size bs j xs
+covered-first size bs j [] ys v = none_covered
+covered-first size bs j (x ∷ xs) ys (covered more most rest) = covered {j = j} {x = x} more most (covered-first size bs (j + 1) xs ys rest)
+
+pub indexed-fewer : (t : List ℕ) (k n : ℕ) (ps : List ℕ) → k ≤ n → Indexed t n ps → Indexed t k ps
+unfolding first_names
+indexed-fewer t k n ps h v =
+    let places = drop slots_from ps in
+    let e : k + (n - k) ≡ n = omega arith in
+    let split : first_names t n ps ≡ first_names t k ps ++ names_at t (take (n - k) (drop k places)) =
+    ap (λ (m : ℕ). names_at t (take m places)) (sym e) ∙ ap (names_at t) (take-add k (n - k) places) ∙ names-append t (take k places) (take (n - k) (drop k places)) in
+    record { at = covered-first slots_from ps 0 (first_names t k ps) _ (subst (Covered slots_from ps 0) split v.at) }
+
 -- ---- a name added
 
 pub add-there : (x : Name) (xs : List Name) → member x xs ≡ true → add x xs ≡ xs
@@ -78,6 +96,10 @@ add-there x xs e = rw (e, add)
 pub add-new : (x : Name) (xs : List Name) → member x xs ≡ false → add x xs ≡ xs ++ x ∷ []
 unfolding add
 add-new x xs e = rw (e, add)
+
+add-grows : (x : Name) (xs : List Name) → length xs ≤ length (add x xs)
+unfolding locals_stmt
+add-grows x xs = stmt-grows (def x [] []ᵇ) xs
 
 -- the part before n
 pub part-before : (n : ℕ) (ps : List ℕ) → take (n - 0) (drop 0 ps) ≡ take n ps
@@ -138,15 +160,30 @@ module _ (t ps : List ℕ) (n p b : ℕ) (o : Option ℕ) (y : Name) (v : Indexe
       indexed = record { at = subst (Covered slots_from more 0) (sym more-names) more-indexed };
     }
 
+-- whether the search of the code has found it
+pub place-found : (o : std.Option ℕ) → is_some o ≡ true → (i : ℕ) × (place_in o ≡ some i)
+place-found (Some i) e = (i, refl)
+place-found None e = absurd (true≢false (sym e))
+
+pub place-missed : (o : std.Option ℕ) → is_some o ≡ false → place_in o ≡ none
+place-missed (Some i) e = absurd (true≢false e)
+place-missed None e = refl
+
+-- ---- how many there are then
+
+module _ (t ps qs : List ℕ) (n k p : ℕ) (a : Added k t qs n (add (name_bytes t p) (first_names t n ps))) (room : slots_from + n < length ps) (kept : length qs ≡ length ps) where
+  pub added-most : length (add (name_bytes t p) (first_names t n ps)) ≡ k
+  added-most = let m = a.most in sym (ap length a.names) ∙ first-length t k qs (omega arith)
+
+  -- no fewer than before, and the first ones are indexed, too
+  pub added-first : Indexed t n qs
+  added-first = indexed-fewer t n k qs (omega (arith, added-most, add-grows (name_bytes t p) (first_names t n ps), first-length t n ps (omega arith))) a.indexed
+
 -- ---- parts of slots
 
 -- a part that is put back, from its start
 pub mid-front : (a m n : ℕ) (ps part : List ℕ) → a ≤ length ps → n ≤ length part → take n (drop a (put_mid a m ps part)) ≡ take n part
 mid-front a m n ps part h k = ap (take n) (drop_at (take a ps) (part ++ post_of a m ps) a (length-take-le a ps h)) ∙ take-append-le n part (post_of a m ps) k
-
--- the places, lent
-pub lent-room : (n : ℕ) (ps : List ℕ) → slots_from + n ≤ length ps → n ≤ length (take (length ps - slots_from) (drop slots_from ps))
-lent-room n ps h = let y = length-take-le (length ps - slots_from) (drop slots_from ps) (let z = places-length ps in omega arith) in omega arith
 
 -- the slots up to the n-th, as places
 pub front-places : (n : ℕ) (ps : List ℕ) → slots_from ≤ length ps → drop slots_from (take (slots_from + n) ps) ≡ take n (drop slots_from ps)

@@ -18,8 +18,7 @@ use Rattle.state.specs.Index.{Covered, none_covered}
 use Rattle.state.specs.State.{names_at, slots_from, slot_names, Slots}
 use Rattle.std.specs.Prelude.{Option, Some, None}
 use Rattle.slots.specs.Slotted.{first_names, Indexed, Appended, Collected}
-use Rattle.slots.specs.Held.{mark_all, is_free, Marked, add_held, held_expr, held_exprs, Held, no_held, Keeping, Referred, CapturesAt}
-use Rattle.slots.specs.declared.Walked.{Walked}
+use Rattle.slots.specs.Held.{mark_all, is_free, Marked, add_held, held_expr, held_exprs, Held, no_held, Keeping, CapturesAt}
 use Rattle.slots.proofs.Adding.{first-length, mid-front}
 use Rattle.slots.proofs.Holding.{bool-or, within_none, within-add, within-other, held_in, held_out, held-expr, held-few}
 use Rattle.slots.proofs.Marking.{marked-none, marked_all, free-is}
@@ -79,37 +78,33 @@ module _ (slots : List Name) where
       ap (λ (qs : List Name). sort (within slots (referenced_expr qs b []))) (sym (append-nil ps))
       ∙ ap sort (held-referenced (ps ++ []) (mark_all slots ps (replicate 256 false)) k b [] ∙ ap (held_expr slots (mark_all slots ps (replicate 256 false)) b) (within_none slots))
 
-module _ (t parent ps₀ ps₁ : List ℕ) (ms : List Bool) (a : Walked) (end p : ℕ) (b : Expr) (s : Slots t parent) (m : ms ≡ mark_all (slot_names t parent) (params_at t p).value (replicate 256 false))
-    (f : Referred a t ps₁ end (held_expr (slot_names t parent) ms b (first_names t 0 ps₀))) where
-  abbrev n : ℕ
-  n = a.n
-
+module _ (t parent ps₀ ps₁ : List ℕ) (ms : List Bool) (n p : ℕ) (b : Expr) (s : Slots t parent) (m : ms ≡ mark_all (slot_names t parent) (params_at t p).value (replicate 256 false))
+    (most : slots_from + n ≤ length ps₁) (f : first_names t n ps₁ ≡ held_expr (slot_names t parent) ms b (first_names t 0 ps₀)) where
   abbrev qs : List Name
   qs = (params_at t p).value
 
-  kept-names : first_names t a.n ps₁ ≡ held_expr (slot_names t parent) ms b []
-  kept-names = f.names ∙ ap (held_expr (slot_names t parent) ms b) (first-none t ps₀)
+  kept-names : first_names t n ps₁ ≡ held_expr (slot_names t parent) ms b []
+  kept-names = f ∙ ap (held_expr (slot_names t parent) ms b) (first-none t ps₀)
 
-  few-kept : slots_from + a.n ≤ length parent
+  few-kept : slots_from + n ≤ length parent
   few-kept =
       let r = s.room in
       let c = slots-count t parent s in
-      omega (arith, held-few _ (slot_names t parent) (held-expr (slot_names t parent) ms b [] no_held), ap length kept-names, first-length t n ps₁ f.most, c.0)
+      omega (arith, held-few _ (slot_names t parent) (held-expr (slot_names t parent) ms b [] no_held), ap length kept-names, first-length t n ps₁ most, c.0)
 
-  module _ (part : List ℕ) (h : length part ≡ length (take (slots_from + a.n - slots_from) (drop slots_from ps₁))) (o : names_at t part ≡ sort (names_at t (take (slots_from + a.n - slots_from) (drop slots_from ps₁)))) where
+  module _ (part : List ℕ) (h : length part ≡ length (take (slots_from + n - slots_from) (drop slots_from ps₁))) (o : names_at t part ≡ sort (names_at t (take (slots_from + n - slots_from) (drop slots_from ps₁)))) where
     lent-part : take (slots_from + n - slots_from) (drop slots_from ps₁) ≡ take n (drop slots_from ps₁)
     lent-part = ap (λ (m : ℕ). take m (drop slots_from ps₁)) (let z : slots_from + n - slots_from ≡ n = omega arith in z)
 
     part-long : length part ≡ n
-    part-long = h ∙ ap length lent-part ∙ length-take-le n (drop slots_from ps₁) (let x = f.most in let z = length-drop slots_from ps₁ in omega arith)
+    part-long = h ∙ ap length lent-part ∙ length-take-le n (drop slots_from ps₁) (let z = length-drop slots_from ps₁ in omega arith)
 
     held-few-slots : length (slot_names t parent) ≤ 256
     held-few-slots = let c = slots-count t parent s in omega (arith, c.0, c.1)
 
-    pub captured : CapturesAt a.n t parent (put_mid slots_from (slots_from + a.n - slots_from) ps₁ part) (captures (slot_names t parent) (params_at t p).value b)
+    pub captured : CapturesAt n t parent (put_mid slots_from (slots_from + n - slots_from) ps₁ part) (captures (slot_names t parent) (params_at t p).value b)
     unfolding first_names
     captured =
-        let x = f.most in
         record {
           few = few-kept;
           names = ap (names_at t) (mid-front slots_from (slots_from + n - slots_from) n ps₁ part (omega arith) (omega (arith, part-long)) ∙ take_all n part (omega (arith, part-long)))

@@ -1,282 +1,150 @@
--- Names gathered by a walk over statements, one way out at a time. Assumes nothing.
-use Prim.Native.Nat.{ℕ, zero, suc, ◌+◌, ◌-◌, ◌<◌, ◌≤◌}
+-- Statements gathered, by their kinds and their parts. Assumes nothing.
+use Prim.Native.Nat.{ℕ, ◌+◌, ◌-◌, ◌<◌, ◌≤◌}
 use mathlib.Core.Path.{◌≡◌, refl, sym, ap, ◌∙◌, subst}
 use mathlib.Core.List.{List}
-use mathlib.Core.Logic.{◌⊎◌, ⊎_elim}
+use mathlib.Core.Logic.{◌⊎◌, inl, inr}
 use native.Mathlib.Omega.{arith}
 use lib.ListN.{length, get_or}
 use Rattle.definitions.specs.Bytes.{Name}
-use Rattle.definitions.specs.Tree.{Stmt}
-use Rattle.definitions.specs.Tree.{Block, Branches}
-use Rattle.definitions.specs.Slots.{add, add_target, locals_stmt, locals_block, locals_branches}
-use Rattle.parts.specs.Places.{Node, count_at, name_bytes, name_end}
-use Rattle.exprs.specs.ExprAt.{expr_at, second_at}
-use Rattle.tree.specs.StmtAt.{stmt_at, block_at, stmts_at, branches_at, StmtReads, BlockReads, StmtsRead, BranchesRead, BranchAt, body_at, IfAt, if_at, elifs_at, while_at, for_at, when_at, else_at, cons_at, assign_at, expr_stmt_at, return_at, def_at, class_at}
-use Rattle.tree.proofs.StmtViews.{view-block, view-stmts-none, view-stmts-more, view-branches-more, else-known, view-done, view-else, view-break, view-continue, view-pass, view-expr, view-return, view-assign, view-if, view-while, view-for, view-def, view-class}
-use Rattle.std.specs.Prelude.{Option, Some, None}
-use Rattle.slots.specs.Slotted.{first_names, Indexed, Added, Room, Gathers}
-use Rattle.slots.specs.declared.Walked.{Walked}
-use Rattle.slots.proofs.Adding.{first-length}
+use Rattle.definitions.specs.Tree.{Stmt, break, continue, pass, expr, return, Block, Branches}
+use Rattle.definitions.specs.Slots.{add, add_target, locals_stmt, locals_block, locals_branches, loops_stmt, loops_block, loops_branches}
 use Rattle.definitions.proofs.Named.{block-grows, branches-grow}
+use Rattle.numerals.specs.Kinds.{stmt_byte}
+use Rattle.numerals.specs.declared.kinds.StmtKind.{StmtKind}
+use Rattle.numerals.specs.declared.kinds.StmtKind.TheVariants.{Break, Continue, Pass, Expr, Return, Assign, If, While, For, Def, Class}
+use Rattle.parts.specs.Places.{Node, node, count_at, Counted, name_bytes, name_end, There}
+use Rattle.parts.proofs.Nodes.{Seen}
+use Rattle.exprs.specs.ExprAt.{expr_at, ExprReads, TwoAt}
+use Rattle.tree.specs.StmtAt.{stmt_at, block_at, stmts_at, branches_at, StmtReads, BlockReads, StmtsRead, BranchesRead, BranchAt, body_at, IfAt, elifs_at, ForAt}
+use Rattle.tree.specs.StmtAt.{expr_stmt_at, return_at, assign_at, if_at, while_at, for_at, when_at, else_at, cons_at, def_at, class_at}
+use Rattle.tree.proofs.StmtViews.{view-block, view-stmts-none, view-stmts-more, view-branches-more, else-known, view-done, view-else}
+use Rattle.tree.proofs.StmtViews.{view-break, view-continue, view-pass, view-expr, view-return, view-assign, view-if, view-while, view-for, view-def, view-class}
+use Rattle.std.specs.Prelude.{Option, Some, None}
+use Rattle.slots.specs.Gathered.{names_in, Adds, Gathers, no_loops}
+use Rattle.slots.specs.declared.walk.Gathering.{Gathering}
+use Rattle.slots.proofs.Steps.{adds-on, adds-as, adds-then, gathers-as, gathers-to, gathers-stopped, gathers-none, Splits, parts-done, parts-stopped, Left, left-start, left-next, left-stopped}
 
--- ---- the two answers
+here : {y : Node Stmt} {e : ℕ} (x : Stmt) (a : Gathering) → y ≡ node x e → names_in a ≡ locals_stmt x (names_in a) → 0 ≡ loops_stmt x → {q : ℕ} → q ≡ e → Gathers (Some q) y locals_stmt loops_stmt a a
+here x a f g h i = gathers-as (λ (z : Node Stmt). z) (sym f) (gathers-none a i g h)
 
-pub record Stands (e n : ℕ) (t ps : List ℕ) (stop : ℕ) (want : List Name) : Type 0 where
-  pub end : e ≡ stop
-  pub few : n ≤ 255
-  pub names : first_names t n ps ≡ want
-  pub indexed : Indexed t n ps
+-- ---- statements by their kind bytes
 
-pub gathers-as : (r : Option Walked) (t ps : List ℕ) (e e' : ℕ) (w w' : List Name) → Gathers r t ps e w → e ≡ e' → w ≡ w' → Gathers r t ps e' w'
-gathers-as r t ps e e' w w' g h k = subst (λ (x : ℕ). Gathers r t ps x w') h (subst (λ (x : List Name). Gathers r t ps e x) k g)
+module _ (d : ℕ) (t : List ℕ) (p : ℕ) (r : StmtReads d t p) {k : StmtKind} (byte : stmt_byte k ≡ get_or t p 0) where
+  kind-is : {j : StmtKind} → k ≡ j → get_or t p 0 ≡ stmt_byte j
+  kind-is e = sym byte ∙ ap stmt_byte e
 
-pub gathers-next : (r : Option Walked) (t ps : List ℕ) (end : ℕ) (want : List Name) (e n : ℕ) → Gathers r t ps end want → r ≡ Some (record { next = e; n = n }) → Stands e n t ps end want
-unfolding Gathers
-gathers-next r t ps end want e n g h = let x = subst (λ (s : Option Walked). Gathers s t ps end want) h g in record { end = x.0; few = x.1; names = x.2; indexed = x.3 }
+  pub assign-seen : k ≡ Assign → Seen (TwoAt (d - 1) t (p + 1)) (stmt_at d t p) (assign_at (d - 1) t (p + 1))
+  unfolding stmt_byte
+  assign-seen e = view-assign d t p r (kind-is e)
 
-pub next-gathers : (t ps : List ℕ) (end : ℕ) (want : List Name) (e n : ℕ) → e ≡ end → n ≤ 255 → first_names t n ps ≡ want → Indexed t n ps → Gathers (Some (record { next = e; n = n })) t ps end want
-unfolding Gathers
-next-gathers t ps end want e n h k g v = (h, k, g, v)
+  pub if-seen : k ≡ If → Seen (IfAt (d - 1) t (p + 1)) (stmt_at d t p) (if_at (d - 1) t (p + 1))
+  unfolding stmt_byte
+  if-seen e = view-if d t p r (kind-is e)
 
-pub gathers-over : (r : Option Walked) (t ps : List ℕ) (end : ℕ) (want : List Name) → Gathers r t ps end want → r ≡ None → 255 < length want
-unfolding Gathers
-gathers-over r t ps end want g h = subst (λ (s : Option Walked). Gathers s t ps end want) h g
+  pub while-seen : k ≡ While → Seen (BranchAt (d - 1) t (p + 1)) (stmt_at d t p) (while_at (d - 1) t (p + 1))
+  unfolding stmt_byte
+  while-seen e = view-while d t p r (kind-is e)
 
-pub over-gathers : (t ps : List ℕ) (end : ℕ) (want : List Name) → 255 < length want → Gathers None t ps end want
-unfolding Gathers
-over-gathers t ps end want h = h
+  pub for-seen : k ≡ For → Seen (ForAt (d - 1) t (p + 1)) (stmt_at d t p) (for_at (d - 1) t (p + 1))
+  unfolding stmt_byte
+  for-seen e = view-for d t p r (kind-is e)
 
--- more names are still too many
--- what a call that stops hands on
-pub gathers-stopped : (r : Option Walked) (t ps : List ℕ) (e : ℕ) (w : List Name) → r ≡ None → Gathers None t ps e w → Gathers r t ps e w
-gathers-stopped r t ps e w h g = subst (λ (x : Option Walked). Gathers x t ps e w) (sym h) g
+  -- ---- those that hold no block of the function
 
-pub over-more : (r : Option Walked) (t ps qs : List ℕ) (e e' : ℕ) (w w' : List Name) → Gathers r t ps e w → r ≡ None → length w ≤ length w' → Gathers None t qs e' w'
-over-more r t ps qs e e' w w' g h k = over-gathers t qs e' w' (let x = gathers-over r t ps e w g h in omega arith)
+  pub plain-gathered : (k ≡ Break) ⊎ ((k ≡ Continue) ⊎ (k ≡ Pass)) → (a : Gathering) → Gathers (Some (p + 1)) (stmt_at d t p) locals_stmt loops_stmt a a
+  unfolding stmt_byte locals_stmt loops_stmt
+  plain-gathered (inl e) a = here break a (view-break d t p r (kind-is e)) refl refl refl
+  plain-gathered (inr (inl e)) a = here continue a (view-continue d t p r (kind-is e)) refl refl refl
+  plain-gathered (inr (inr e)) a = here pass a (view-pass d t p r (kind-is e)) refl refl refl
 
-pub room-again : (t ps ps' : List ℕ) (n k : ℕ) → Room t ps n → length ps' ≡ length ps → k ≤ 255 → Indexed t k ps' → Room t ps' k
-room-again t ps ps' n k r h g v = record { short = r.short; room = let x = r.room in omega arith; few = g; indexed = v }
+  pub value-reads : (k ≡ Expr) ⊎ (k ≡ Return) → ExprReads (d - 1) t (p + 1)
+  unfolding stmt_byte
+  value-reads (inl e) = (view-expr d t p r (kind-is e)).parts
+  value-reads (inr e) = (view-return d t p r (kind-is e)).parts
 
--- ---- a name
+  pub value-gathered : (k ≡ Expr) ⊎ (k ≡ Return) → (a : Gathering) {q : ℕ} → q ≡ (expr_at (d - 1) t (p + 1)).end → Gathers (Some q) (stmt_at d t p) locals_stmt loops_stmt a a
+  unfolding stmt_byte expr_stmt_at return_at locals_stmt loops_stmt
+  value-gathered (inl e) a h = here (expr (expr_at (d - 1) t (p + 1)).value) a (view-expr d t p r (kind-is e)).is refl refl h
+  value-gathered (inr e) a h = here (return (expr_at (d - 1) t (p + 1)).value) a (view-return d t p r (kind-is e)).is refl refl h
 
-module _ (t qs : List ℕ) (n k next : ℕ) (want : List Name) (a : Added k t qs n want) where
-  pub name-over : (ps : List ℕ) → Room t ps n → length qs ≡ length ps → 255 < k → Gathers None t qs next want
-  name-over ps r h g =
-      let m = a.most in let x = r.room in let y = r.few in
-      over-gathers t qs next want (omega (arith, first-length t k qs (omega arith), ap length a.names))
+  -- ---- a def or class: its name
 
-  pub name-next : k ≤ 255 → Gathers (Some (record { next = next; n = k })) t qs next want
-  name-next h = next-gathers t qs next want next k refl h a.names a.indexed
+  pub named-there : (k ≡ Def) ⊎ (k ≡ Class) → There t (p + 1)
+  unfolding stmt_byte
+  named-there (inl e) = (view-def d t p r (kind-is e)).parts.name
+  named-there (inr e) = (view-class d t p r (kind-is e)).parts.name
 
--- ---- statements that hold no block of the function
+  named-names : (k ≡ Def) ⊎ (k ≡ Class) → (xs : List Name) → add (name_bytes t (p + 1)) xs ≡ locals_stmt (stmt_at d t p).value xs
+  unfolding stmt_byte def_at class_at locals_stmt
+  named-names (inl e) xs = ap (λ (x : Node Stmt). locals_stmt x.value xs) (sym (view-def d t p r (kind-is e)).is)
+  named-names (inr e) xs = ap (λ (x : Node Stmt). locals_stmt x.value xs) (sym (view-class d t p r (kind-is e)).is)
 
-module _ (d : ℕ) (t : List ℕ) (p : ℕ) (r : StmtReads d t p) (xs : List Name) where
-  abbrev s : Node Stmt
-  s = stmt_at d t p
+  named-loops : (k ≡ Def) ⊎ (k ≡ Class) → 0 ≡ loops_stmt (stmt_at d t p).value
+  unfolding stmt_byte def_at class_at loops_stmt
+  named-loops (inl e) = ap (λ (x : Node Stmt). loops_stmt x.value) (sym (view-def d t p r (kind-is e)).is)
+  named-loops (inr e) = ap (λ (x : Node Stmt). loops_stmt x.value) (sym (view-class d t p r (kind-is e)).is)
 
-  locals-as : (y : Node Stmt) (w : List Name) → s ≡ y → locals_stmt y.value xs ≡ w → locals_stmt (stmt_at d t p).value xs ≡ w
-  locals-as y w e f = ap (λ (z : Node Stmt). locals_stmt z.value xs) e ∙ f
+  module _ {o : Option (Unit {0})} {a b : Gathering} (e : (k ≡ Def) ⊎ (k ≡ Class)) (s : Adds o (add (name_bytes t (p + 1)) (names_in a)) 0 a b) where
+    pub named-stopped : {q : Option ℕ} → o ≡ None → q ≡ None → Gathers q (stmt_at d t p) locals_stmt loops_stmt a b
+    named-stopped f g = gathers-stopped f g (omega (arith, ap length (named-names e (names_in a)))) s
 
-  locals-def : get_or t p 0 ≡ 9 → add (name_bytes t (p + 1)) xs ≡ locals_stmt (stmt_at d t p).value xs
-  unfolding locals_stmt def_at
-  locals-def e = sym (locals-as _ _ (view-def d t p r e).is refl)
+    pub named-gathered : {x : Unit {0}} {q : ℕ} → o ≡ Some x → q ≡ (stmt_at d t p).end → Gathers (Some q) (stmt_at d t p) locals_stmt loops_stmt a b
+    named-gathered f g = gathers-to g (named-names e (names_in a)) (named-loops e) (adds-on f s)
 
-  locals-class : get_or t p 0 ≡ 10 → add (name_bytes t (p + 1)) xs ≡ locals_stmt (stmt_at d t p).value xs
-  unfolding locals_stmt class_at
-  locals-class e = sym (locals-as _ _ (view-class d t p r e).is refl)
+-- ---- what parts of the statements leave
 
-  simple-kind : (k : ℕ) → get_or t p 0 ≡ k → k < 5 → xs ≡ locals_stmt (stmt_at d t p).value xs
-  unfolding locals_stmt expr_stmt_at return_at
-  simple-kind zero e h = sym (locals-as _ _ (view-break d t p r e) refl)
-  simple-kind (suc zero) e h = sym (locals-as _ _ (view-continue d t p r e) refl)
-  simple-kind (suc (suc zero)) e h = sym (locals-as _ _ (view-pass d t p r e) refl)
-  simple-kind (suc (suc (suc zero))) e h = sym (locals-as _ _ (view-expr d t p r e).is refl)
-  simple-kind (suc (suc (suc (suc zero)))) e h = sym (locals-as _ _ (view-return d t p r e).is refl)
-  simple-kind (suc (suc (suc (suc (suc k))))) e h = absurd (omega arith)
+module _ (d : ℕ) (t : List ℕ) (p : ℕ) {o : Option ℕ} {a b : Gathering} where
+  pub while-done : Gathers o (body_at d t p) locals_block loops_block a b → Gathers o (while_at d t p) locals_stmt loops_stmt a b
+  unfolding while_at locals_stmt loops_stmt
+  while-done g = record { next = g.next; adds = g.adds }
 
-  pub locals-simple : get_or t p 0 < 5 → xs ≡ locals_stmt (stmt_at d t p).value xs
-  locals-simple h = simple-kind (get_or t p 0) refl h
+  else-done : Gathers o (block_at d t p) locals_block loops_block a b → Gathers o (else_at d t p) locals_branches loops_branches a b
+  unfolding else_at locals_branches loops_branches
+  else-done g = record { next = g.next; adds = g.adds }
 
-  pub locals-named : (get_or t p 0 ≡ 9) ⊎ (get_or t p 0 ≡ 10) → add (name_bytes t (p + 1)) xs ≡ locals_stmt (stmt_at d t p).value xs
-  locals-named = ⊎_elim locals-def locals-class
+-- a target, after which the value stands
+module _ (d : ℕ) (p : ℕ) {r : Option ℕ} {a b : Gathering} (g : Gathers r (expr_at d a.tree.now p) add_target no_loops a b) where
+  pub assign-stopped : {o : Option ℕ} → r ≡ None → o ≡ None → Gathers o (assign_at d a.tree.now p) locals_stmt loops_stmt a b
+  unfolding assign_at locals_stmt
+  assign-stopped e i = gathers-stopped e i (omega arith) g.adds
 
-  -- ---- assignments, and those that hold blocks
+  module _ {q : ℕ} (f : r ≡ Some q) where
+    pub second-reads : TwoAt d a.tree.now p → ExprReads d b.tree.now q
+    second-reads i = subst (λ (s : List ℕ). ExprReads d s q) (sym g.adds.same_tree) (subst (λ (m : ℕ). ExprReads d a.tree.now m) (sym (g.next q f)) i.second)
 
-  module _ (o : Option Walked) (ps : List ℕ) where
-    made_of : (y : Node Stmt) → s ≡ y → Gathers o t ps y.end (locals_stmt y.value xs) → Gathers o t ps (stmt_at d t p).end (locals_stmt (stmt_at d t p).value xs)
-    made_of y e g = gathers-as o t ps _ _ _ _ g (sym (ap (λ (z : Node Stmt). z.end) e)) (sym (ap (λ (z : Node Stmt). locals_stmt z.value xs) e))
+    pub assign-done : {e : ℕ} → e ≡ (expr_at d b.tree.now q).end → Gathers (Some e) (assign_at d a.tree.now p) locals_stmt loops_stmt a b
+    unfolding assign_at locals_stmt loops_stmt
+    assign-done h = gathers-to (h ∙ ap (λ (s : List ℕ). (expr_at d s q).end) g.adds.same_tree ∙ ap (λ (m : ℕ). (expr_at d a.tree.now m).end) (g.next q f)) refl refl (adds-on f g.adds)
 
-    pub stmt-assign : get_or t p 0 ≡ 5 → Gathers o t ps (second_at (d - 1) t (p + 1)).end (add_target (expr_at (d - 1) t (p + 1)).value xs) →
-        Gathers o t ps (stmt_at d t p).end (locals_stmt (stmt_at d t p).value xs)
-    unfolding locals_stmt assign_at
-    stmt-assign e g = made_of _ (view-assign d t p r e).is g
+module _ (d : ℕ) (t : List ℕ) (p : ℕ) where
+  pub if-splits : Splits (if_at d t p) locals_stmt loops_stmt (body_at d t p) locals_block loops_block (elifs_at d t p) locals_branches loops_branches
+  unfolding if_at locals_stmt locals_branches loops_stmt loops_branches
+  if-splits = record { end = refl; names = λ xs. refl; loops = refl; grows = λ xs. branches-grow (elifs_at d t p).value xs }
 
-    pub stmt-if : get_or t p 0 ≡ 6 → Gathers o t ps (elifs_at (d - 1) t (p + 1)).end (locals_branches (elifs_at (d - 1) t (p + 1)).value (locals_block (body_at (d - 1) t (p + 1)).value xs)) →
-        Gathers o t ps (stmt_at d t p).end (locals_stmt (stmt_at d t p).value xs)
-    unfolding locals_stmt if_at locals_branches
-    stmt-if e g = made_of _ (view-if d t p r e).is g
+  module _ (r : BranchesRead d 0 t p) where
+    pub else-none : get_or t p 0 ≡ 0 → (a : Gathering) → Gathers (Some (p + 1)) (branches_at d 0 t p) locals_branches loops_branches a a
+    unfolding locals_branches loops_branches
+    else-none e a = gathers-as (λ (x : Node Branches). x) (sym (view-done d t p 0 (omega arith) r e)) (gathers-none a refl refl refl)
 
-    pub stmt-while : get_or t p 0 ≡ 7 → Gathers o t ps (body_at (d - 1) t (p + 1)).end (locals_block (body_at (d - 1) t (p + 1)).value xs) →
-        Gathers o t ps (stmt_at d t p).end (locals_stmt (stmt_at d t p).value xs)
-    unfolding locals_stmt while_at
-    stmt-while e g = made_of _ (view-while d t p r e).is g
+    else-seen : (get_or t p 0 ≡ 0 → ⊥) → Seen (BlockReads d t (p + 1)) (branches_at d 0 t p) (else_at d t (p + 1))
+    else-seen h = view-else d t p 0 (omega arith) r (let k = else-known d t p 0 (omega arith) r in omega arith)
 
-    pub stmt-for : get_or t p 0 ≡ 8 → Gathers o t ps (body_at (d - 1) t (name_end t (p + 1))).end (locals_block (body_at (d - 1) t (name_end t (p + 1))).value (add (name_bytes t (p + 1)) xs)) →
-        Gathers o t ps (stmt_at d t p).end (locals_stmt (stmt_at d t p).value xs)
-    unfolding locals_stmt for_at
-    stmt-for e g = made_of _ (view-for d t p r e).is g
+    pub else-reads : (get_or t p 0 ≡ 0 → ⊥) → BlockReads d t (p + 1)
+    else-reads h = (else-seen h).parts
 
--- ---- blocks, one statement at a time
+    pub else-some : {o : Option ℕ} {a b : Gathering} → (get_or t p 0 ≡ 0 → ⊥) → Gathers o (block_at d t (p + 1)) locals_block loops_block a b → Gathers o (branches_at d 0 t p) locals_branches loops_branches a b
+    else-some h g = gathers-as (λ (x : Node Branches). x) (sym (else-seen h).is) (else-done d t (p + 1) g)
 
--- what is left of n₀ statements gives what they all give
-pub record StmtsLeft (d : ℕ) (t ps₀ : List ℕ) (n₀ p₀ k₀ : ℕ) (ps : List ℕ) (n p k : ℕ) : Type 0 where
-  pub reads : StmtsRead d n t p
-  pub end : (stmts_at d n₀ t p₀).end ≡ (stmts_at d n t p).end
-  pub names : locals_block (stmts_at d n₀ t p₀).value (first_names t k₀ ps₀) ≡ locals_block (stmts_at d n t p).value (first_names t k ps)
-  pub few : k ≤ 255
-  pub indexed : Indexed t k ps
-  pub kept : length ps ≡ length ps₀
+-- ---- a block, a condition and a block
 
-pub stmts-start : (d : ℕ) (t ps : List ℕ) (a n k : ℕ) → BlockReads d t a → n ≡ count_at t a → k ≤ 255 → Indexed t k ps → (j : ℕ) → n ≡ j → StmtsLeft d t ps n (a + 2) k ps j (a + 2) k
-stmts-start d t ps a n k r e h v j i = subst (λ (x : ℕ). StmtsLeft d t ps n (a + 2) k ps x (a + 2) k) i (record {
-  reads = subst (λ (m : ℕ). StmtsRead d m t (a + 2)) (sym e) (view-block d t a r).parts.statements;
-  end = refl;
-  names = refl;
-  few = h;
-  indexed = v;
-  kept = refl;
-})
+pub block-reads : (d : ℕ) (t : List ℕ) (p q : ℕ) → q ≡ (expr_at d t p).end → BranchAt d t p → BlockReads d t q
+block-reads d t p q e i = subst (λ (m : ℕ). BlockReads d t m) (sym e) i.block
 
-module _ (d : ℕ) (t ps₀ : List ℕ) (n₀ p₀ k₀ : ℕ) (ps : List ℕ) (n p k : ℕ) (l : StmtsLeft d t ps₀ n₀ p₀ k₀ ps n p k) where
-  whole : (a : ℕ) → BlockReads d t a → n₀ ≡ count_at t a → p₀ ≡ a + 2 → block_at d t a ≡ stmts_at d n₀ t p₀
-  whole a r e f = (view-block d t a r).is ∙ ap (λ (m : ℕ). stmts_at d m t (a + 2)) (sym e) ∙ ap (λ (m : ℕ). stmts_at d n₀ t m) (sym f)
-
-  module _ (h : 0 < n) where
-    pub stmts-head : StmtReads d t p
-    stmts-head = (view-stmts-more d n t p h l.reads).parts.head
-
-    is-cons : stmts_at d n t p ≡ cons_at d n t p
-    is-cons = (view-stmts-more d n t p h l.reads).is
-
-    all-names : locals_block (stmts_at d n₀ t p₀).value (first_names t k₀ ps₀) ≡ locals_block (stmts_at d (n - 1) t (stmt_at d t p).end).value (locals_stmt (stmt_at d t p).value (first_names t k ps))
-    unfolding cons_at locals_block
-    all-names = l.names ∙ ap (λ (z : Node Block). locals_block z.value (first_names t k ps)) is-cons
-
-    all_end : (stmts_at d n₀ t p₀).end ≡ (stmts_at d (n - 1) t (stmt_at d t p).end).end
-    unfolding cons_at
-    all_end = l.end ∙ ap (λ (z : Node Block). z.end) is-cons
-
-    pub stmts-next : (r : Option Walked) (ps' : List ℕ) (e m : ℕ) → Gathers r t ps' (stmt_at d t p).end (locals_stmt (stmt_at d t p).value (first_names t k ps)) → r ≡ Some (record { next = e; n = m }) →
-        length ps' ≡ length ps → (j : ℕ) → n - 1 ≡ j → StmtsLeft d t ps₀ n₀ p₀ k₀ ps' j e m
-    stmts-next r ps' e m g q w j i =
-        let z = gathers-next r t ps' _ _ e m g q in
-        subst (λ (x : ℕ). StmtsLeft d t ps₀ n₀ p₀ k₀ ps' x e m) i (record {
-          reads = subst (λ (x : ℕ). StmtsRead d (n - 1) t x) (sym z.end) (view-stmts-more d n t p h l.reads).parts.rest;
-          end = all_end ∙ ap (λ (x : ℕ). (stmts_at d (n - 1) t x).end) (sym z.end);
-          names = all-names ∙ ap (λ (x : List Name). locals_block (stmts_at d (n - 1) t (stmt_at d t p).end).value x) (sym z.names)
-              ∙ ap (λ (x : ℕ). locals_block (stmts_at d (n - 1) t x).value (first_names t m ps')) (sym z.end);
-          few = z.few;
-          indexed = z.indexed;
-          kept = w ∙ l.kept;
-        })
-
-    pub stmts-over : (a : ℕ) → BlockReads d t a → n₀ ≡ count_at t a → p₀ ≡ a + 2 → (r : Option Walked) (ps' : List ℕ) →
-        Gathers r t ps' (stmt_at d t p).end (locals_stmt (stmt_at d t p).value (first_names t k ps)) → r ≡ None →
-        Gathers None t ps' (block_at d t a).end (locals_block (block_at d t a).value (first_names t k₀ ps₀))
-    stmts-over a b c f r ps' g q =
-        let w = ap (λ (x : Node Block). locals_block x.value (first_names t k₀ ps₀)) (whole a b c f) ∙ all-names in
-        over-more r t ps' ps' _ _ _ _ g q (omega (arith, ap length w, block-grows (stmts_at d (n - 1) t (stmt_at d t p).end).value (locals_stmt (stmt_at d t p).value (first_names t k ps))))
-
-  pub stmts-done : (a : ℕ) → BlockReads d t a → n₀ ≡ count_at t a → p₀ ≡ a + 2 → n ≤ 0 →
-      Gathers (Some (record { next = p; n = k })) t ps (block_at d t a).end (locals_block (block_at d t a).value (first_names t k₀ ps₀))
-  unfolding locals_block
-  stmts-done a b c f h =
-      let e = view-stmts-none d n t p h l.reads.start in
-      next-gathers t ps _ _ p k
-      (sym (ap (λ (x : Node Block). x.end) (whole a b c f) ∙ l.end ∙ ap (λ (x : Node Block). x.end) e))
-      l.few
-      (sym (ap (λ (x : Node Block). locals_block x.value (first_names t k₀ ps₀)) (whole a b c f) ∙ l.names ∙ ap (λ (x : Node Block). locals_block x.value (first_names t k ps)) e))
-      l.indexed
-
--- ---- branches, one at a time
-
-pub record BranchesLeft (d : ℕ) (t ps₀ : List ℕ) (n₀ p₀ k₀ : ℕ) (ps : List ℕ) (n p k : ℕ) : Type 0 where
-  pub reads : BranchesRead d n t p
-  pub end : (branches_at d n₀ t p₀).end ≡ (branches_at d n t p).end
-  pub names : locals_branches (branches_at d n₀ t p₀).value (first_names t k₀ ps₀) ≡ locals_branches (branches_at d n t p).value (first_names t k ps)
-  pub few : k ≤ 255
-  pub indexed : Indexed t k ps
-  pub kept : length ps ≡ length ps₀
-
-pub branches-start : (d : ℕ) (t ps : List ℕ) (n p k j : ℕ) → n ≡ j → BranchesRead d n t p → k ≤ 255 → Indexed t k ps → BranchesLeft d t ps n p k ps j p k
-branches-start d t ps n p k j i r h v = subst (λ (x : ℕ). BranchesLeft d t ps n p k ps x p k) i (record { reads = r; end = refl; names = refl; few = h; indexed = v; kept = refl })
-
-module _ (d : ℕ) (t ps₀ : List ℕ) (n₀ p₀ k₀ : ℕ) (ps : List ℕ) (n p k : ℕ) (l : BranchesLeft d t ps₀ n₀ p₀ k₀ ps n p k) where
-  module _ (h : 0 < n) where
-    pub branches-head : BranchAt d t p
-    branches-head = (view-branches-more d t p n h l.reads).parts.first
-
-    is-when : branches_at d n t p ≡ when_at d n t p
-    is-when = (view-branches-more d t p n h l.reads).is
-
-    all-branches : locals_branches (branches_at d n₀ t p₀).value (first_names t k₀ ps₀) ≡ locals_branches (branches_at d (n - 1) t (body_at d t p).end).value (locals_block (body_at d t p).value (first_names t k ps))
-    unfolding when_at locals_branches
-    all-branches = l.names ∙ ap (λ (z : Node Branches). locals_branches z.value (first_names t k ps)) is-when
-
-    branches-end : (branches_at d n₀ t p₀).end ≡ (branches_at d (n - 1) t (body_at d t p).end).end
-    unfolding when_at
-    branches-end = l.end ∙ ap (λ (z : Node Branches). z.end) is-when
-
-    pub branches-next : (r : Option Walked) (ps' : List ℕ) (e m : ℕ) → Gathers r t ps' (body_at d t p).end (locals_block (body_at d t p).value (first_names t k ps)) → r ≡ Some (record { next = e; n = m }) →
-        length ps' ≡ length ps → (j : ℕ) → n - 1 ≡ j → BranchesLeft d t ps₀ n₀ p₀ k₀ ps' j e m
-    branches-next r ps' e m g q w j i =
-        let z = gathers-next r t ps' _ _ e m g q in
-        subst (λ (x : ℕ). BranchesLeft d t ps₀ n₀ p₀ k₀ ps' x e m) i (record {
-          reads = subst (λ (x : ℕ). BranchesRead d (n - 1) t x) (sym z.end) (view-branches-more d t p n h l.reads).parts.rest;
-          end = branches-end ∙ ap (λ (x : ℕ). (branches_at d (n - 1) t x).end) (sym z.end);
-          names = all-branches ∙ ap (λ (x : List Name). locals_branches (branches_at d (n - 1) t (body_at d t p).end).value x) (sym z.names)
-              ∙ ap (λ (x : ℕ). locals_branches (branches_at d (n - 1) t x).value (first_names t m ps')) (sym z.end);
-          few = z.few;
-          indexed = z.indexed;
-          kept = w ∙ l.kept;
-        })
-
-    pub branches-over : (r : Option Walked) (ps' : List ℕ) → Gathers r t ps' (body_at d t p).end (locals_block (body_at d t p).value (first_names t k ps)) → r ≡ None →
-        Gathers None t ps' (branches_at d n₀ t p₀).end (locals_branches (branches_at d n₀ t p₀).value (first_names t k₀ ps₀))
-    branches-over r ps' g q =
-        over-more r t ps' ps' _ _ _ _ g q (omega (arith, ap length all-branches, branches-grow (branches_at d (n - 1) t (body_at d t p).end).value (locals_block (body_at d t p).value (first_names t k ps))))
-
-  module _ (h : n ≤ 0) where
-    is_none : n ≡ 0
-    is_none = omega arith
-
-    pub branches-last : BranchesRead d 0 t p
-    branches-last = subst (λ (m : ℕ). BranchesRead d m t p) is_none l.reads
-
-    pub branches-done : (r : Option Walked) (ps' : List ℕ) → Gathers r t ps' (branches_at d 0 t p).end (locals_branches (branches_at d 0 t p).value (first_names t k ps)) →
-        Gathers r t ps' (branches_at d n₀ t p₀).end (locals_branches (branches_at d n₀ t p₀).value (first_names t k₀ ps₀))
-    branches-done r ps' g = gathers-as r t ps' _ _ _ _ g
-        (sym (l.end ∙ ap (λ (m : ℕ). (branches_at d m t p).end) is_none))
-        (sym (l.names ∙ ap (λ (m : ℕ). locals_branches (branches_at d m t p).value (first_names t k ps)) is_none))
-
-module _ (d : ℕ) (t : List ℕ) (p : ℕ) (r : BranchesRead d 0 t p) where
-  pub else-none : (ps : List ℕ) (n : ℕ) → n ≤ 255 → Indexed t n ps → get_or t p 0 ≡ 0 → Gathers (Some (record { next = (p + 1); n = n })) t ps (branches_at d 0 t p).end (locals_branches (branches_at d 0 t p).value (first_names t n ps))
-  unfolding locals_branches
-  else-none ps n h i e = let v = view-done d t p 0 (omega arith) r e in
-      next-gathers t ps _ _ (p + 1) n (sym (ap (λ (z : Node Branches). z.end) v)) h (sym (ap (λ (z : Node Branches). locals_branches z.value (first_names t n ps)) v)) i
-
-  module _ (h : get_or t p 0 ≡ 0 → ⊥) where
-    is_one : get_or t p 0 ≡ 1
-    is_one = let k = else-known d t p 0 (omega arith) r in omega arith
-
-    pub else-reads : BlockReads d t (p + 1)
-    else-reads = (view-else d t p 0 (omega arith) r is_one).parts
-
-    pub else-some : (o : Option Walked) (ps : List ℕ) (xs : List Name) → Gathers o t ps (block_at d t (p + 1)).end (locals_block (block_at d t (p + 1)).value xs) →
-        Gathers o t ps (branches_at d 0 t p).end (locals_branches (branches_at d 0 t p).value xs)
-    unfolding else_at locals_branches
-    else-some o ps xs g = let v = (view-else d t p 0 (omega arith) r is_one).is in
-        gathers-as o t ps _ _ _ _ g (sym (ap (λ (z : Node Branches). z.end) v)) (sym (ap (λ (z : Node Branches). locals_branches z.value xs) v))
+module _ (d p : ℕ) (a : Gathering) (reads : BlockReads d a.tree.now p) {n : ℕ} (e : n ≡ count_at a.tree.now p) where
+  pub stmts-start : (j : ℕ) → n ≡ j → StmtsRead d j a.tree.now (p + 2) × Left (block_at d a.tree.now p) (stmts_at d j a.tree.now (p + 2)) locals_block loops_block a a
+  stmts-start j i =
+      let v = view-block d a.tree.now p reads in
+      subst (λ (m : ℕ). StmtsRead d m a.tree.now (p + 2) × Left (block_at d a.tree.now p) (stmts_at d m a.tree.now (p + 2)) locals_block loops_block a a) (sym e ∙ i) (v.parts.statements, left-start a (sym v.is))
 
 -- ---- an If's elifs
 
@@ -294,23 +162,117 @@ module _ (d : ℕ) (t : List ℕ) (a : ℕ) (p n : ℕ) (e : p ≡ (body_at d t 
     pub elifs-are : branches_at d n t (p + 2) ≡ elifs_at d t a
     elifs-are = ap (λ (m : ℕ). branches_at d m t (p + 2)) same_count ∙ ap (λ (m : ℕ). branches_at d (count_at t (body_at d t a).end) t (m + 2)) e
 
-    pub if-done : (r : Option Walked) (ps : List ℕ) (xs ys : List Name) → xs ≡ ys → Gathers r t ps (branches_at d n t (p + 2)).end (locals_branches (branches_at d n t (p + 2)).value xs) →
-        Gathers r t ps (elifs_at d t a).end (locals_branches (elifs_at d t a).value ys)
-    if-done r ps xs ys q g = gathers-as r t ps _ _ _ _ g (ap (λ (z : Node Branches). z.end) elifs-are)
-        (ap (λ (z : Node Branches). locals_branches z.value xs) elifs-are ∙ ap (λ (y : List Name). locals_branches (elifs_at d t a).value y) q)
+-- ---- an If, after its first block
 
--- a For's loop
-pub for-done : (d : ℕ) (t : List ℕ) (p q : ℕ) (r : Option Walked) (ps : List ℕ) (xs ys : List Name) → p ≡ q → xs ≡ ys →
-    Gathers r t ps (body_at d t p).end (locals_block (body_at d t p).value xs) → Gathers r t ps (body_at d t q).end (locals_block (body_at d t q).value ys)
-for-done d t p q r ps xs ys e f g = gathers-as r t ps _ _ _ _ g (ap (λ (m : ℕ). (body_at d t m).end) e) (ap (λ (m : ℕ). locals_block (body_at d t m).value xs) e ∙ ap (locals_block (body_at d t q).value) f)
+module _ (d p : ℕ) {r : Option ℕ} {a b : Gathering} (g : Gathers r (body_at d a.tree.now p) locals_block loops_block a b) where
+  pub if-stopped : {o : Option ℕ} → r ≡ None → o ≡ None → Gathers o (if_at d a.tree.now p) locals_stmt loops_stmt a b
+  if-stopped e i = parts-stopped (if-splits d a.tree.now p) g e i
 
-pub branch-done : (d : ℕ) (t : List ℕ) (p q : ℕ) (r : Option Walked) (ps : List ℕ) (xs : List Name) → p ≡ q →
-    Gathers r t ps (block_at d t p).end (locals_block (block_at d t p).value xs) → Gathers r t ps (block_at d t q).end (locals_block (block_at d t q).value xs)
-branch-done d t p q r ps xs e g = gathers-as r t ps _ _ _ _ g (ap (λ (m : ℕ). (block_at d t m).end) e) (ap (λ (m : ℕ). locals_block (block_at d t m).value xs) e)
+  module _ {q : ℕ} (f : r ≡ Some q) where
+    pub if-counted : IfAt d a.tree.now p → Counted b.tree.now q
+    if-counted i = subst (λ (s : List ℕ). Counted s q) (sym g.adds.same_tree) (subst (λ (m : ℕ). Counted a.tree.now m) (sym (g.next q f)) i.count)
 
--- a part at the position where the one before it ended
-pub block-there : (d : ℕ) (t : List ℕ) (p q : ℕ) → p ≡ q → BlockReads d t q → BlockReads d t p
-block-there d t p q e r = subst (λ (m : ℕ). BlockReads d t m) (sym e) r
+    module _ {n : ℕ} (h : n ≡ count_at b.tree.now q) where
+      count : n ≡ count_at a.tree.now q
+      count = h ∙ ap (λ (s : List ℕ). count_at s q) g.adds.same_tree
 
-pub branch-there : (d : ℕ) (t : List ℕ) (p q : ℕ) → p ≡ q → BranchAt d t q → BranchAt d t p
-branch-there d t p q e r = subst (λ (m : ℕ). BranchAt d t m) (sym e) r
+      pub if-elifs : IfAt d a.tree.now p → BranchesRead d n b.tree.now (q + 2)
+      if-elifs i = subst (λ (s : List ℕ). BranchesRead d n s (q + 2)) (sym g.adds.same_tree) (elifs-read d a.tree.now p q n (g.next q f) count i)
+
+      pub if-done : {o : Option ℕ} {c : Gathering} → Gathers o (branches_at d n b.tree.now (q + 2)) locals_branches loops_branches b c → Gathers o (if_at d a.tree.now p) locals_stmt loops_stmt a c
+      if-done k =
+          parts-done (if-splits d a.tree.now p) g f
+          (gathers-as (λ (x : Node Branches). x) (elifs-are d a.tree.now p q n (g.next q f) count) (gathers-as (λ (s : List ℕ). branches_at d n s (q + 2)) g.adds.same_tree k))
+
+-- ---- a For, after its name
+
+module _ (d p : ℕ) {r : Option (Unit {0})} {a b : Gathering} (s : Adds r (add (name_bytes a.tree.now p) (names_in a)) 1 a b) where
+  pub for-stopped : {o : Option ℕ} → r ≡ None → o ≡ None → Gathers o (for_at d a.tree.now p) locals_stmt loops_stmt a b
+  unfolding for_at locals_stmt
+  for-stopped e i = gathers-stopped e i (block-grows (body_at d a.tree.now (name_end a.tree.now p)).value (add (name_bytes a.tree.now p) (names_in a))) s
+
+  module _ {q : ℕ} (h : q ≡ name_end b.tree.now p) where
+    place : q ≡ name_end a.tree.now p
+    place = h ∙ ap (λ (t : List ℕ). name_end t p) s.same_tree
+
+    pub for-done : {x : Unit {0}} → r ≡ Some x → {o : Option ℕ} {c : Gathering} → Gathers o (body_at d b.tree.now q) locals_block loops_block b c → Gathers o (for_at d a.tree.now p) locals_stmt loops_stmt a c
+    unfolding for_at locals_stmt loops_stmt
+    for-done {x} e {o} {c} g =
+        let k : Gathers o (body_at d a.tree.now (name_end a.tree.now p)) locals_block loops_block b c = gathers-as (body_at d a.tree.now) place (gathers-as (λ (t : List ℕ). body_at d t q) s.same_tree g) in
+        record {
+          next = k.next;
+          adds = adds-as (ap (locals_block (body_at d a.tree.now (name_end a.tree.now p)).value) (s.names x e)) refl (adds-then e s k.adds);
+        }
+
+-- ---- statements, one at a time
+
+module _ (d n p : ℕ) {whole : Node Block} {a b : Gathering} (reads : StmtsRead d n a.tree.now p) (left : Left whole (stmts_at d n a.tree.now p) locals_block loops_block a b) where
+  abbrev t : List ℕ
+  t = a.tree.now
+
+  pub stmts-done : n ≤ 0 → Gathers (Some p) whole locals_block loops_block a b
+  unfolding locals_block loops_block
+  stmts-done h = left.rest _ b (gathers-as (λ (x : Node Block). x) (sym (view-stmts-none d n t p h reads.start)) (gathers-none b refl refl refl))
+
+  module _ (h : 0 < n) where
+    pub stmts-head : StmtReads d b.tree.now p
+    stmts-head = subst (λ (s : List ℕ). StmtReads d s p) (sym left.same_tree) (view-stmts-more d n t p h reads).parts.head
+
+    stmts-split : Splits (stmts_at d n t p) locals_block loops_block (stmt_at d t p) locals_stmt loops_stmt (stmts_at d (n - 1) t (stmt_at d t p).end) locals_block loops_block
+    unfolding cons_at locals_block loops_block
+    stmts-split =
+        subst (λ (x : Node Block). Splits x locals_block loops_block (stmt_at d t p) locals_stmt loops_stmt (stmts_at d (n - 1) t (stmt_at d t p).end) locals_block loops_block) (sym (view-stmts-more d n t p h reads).is)
+        (record { end = refl; names = λ xs. refl; loops = refl; grows = λ xs. block-grows (stmts_at d (n - 1) t (stmt_at d t p).end).value xs })
+
+    module _ {r : Option ℕ} {c : Gathering} (g : Gathers r (stmt_at d b.tree.now p) locals_stmt loops_stmt b c) where
+      first-stmt : Gathers r (stmt_at d t p) locals_stmt loops_stmt b c
+      first-stmt = gathers-as (λ (s : List ℕ). stmt_at d s p) left.same_tree g
+
+      pub stmts-stopped : {o : Option ℕ} → r ≡ None → o ≡ None → Gathers o whole locals_block loops_block a c
+      stmts-stopped e i = left-stopped left stmts-split first-stmt e i
+
+      pub stmts-next : {e : ℕ} → r ≡ Some e → (j : ℕ) → n - 1 ≡ j → StmtsRead d j t e × Left whole (stmts_at d j t e) locals_block loops_block a c
+      stmts-next {e} f j i =
+          let q = first-stmt.next e f in
+          subst (λ (m : ℕ). StmtsRead d m t e × Left whole (stmts_at d m t e) locals_block loops_block a c) i
+          (subst (λ (m : ℕ). StmtsRead d (n - 1) t m × Left whole (stmts_at d (n - 1) t m) locals_block loops_block a c) (sym q) ((view-stmts-more d n t p h reads).parts.rest, left-next left stmts-split first-stmt f))
+
+-- ---- elifs, one at a time
+
+module _ (d n p : ℕ) {whole : Node Branches} {a b : Gathering} (reads : BranchesRead d n a.tree.now p) (left : Left whole (branches_at d n a.tree.now p) locals_branches loops_branches a b) where
+  abbrev u : List ℕ
+  u = a.tree.now
+
+  module _ (h : n ≤ 0) where
+    none : n ≡ 0
+    none = omega arith
+
+    pub branches-last : BranchesRead d 0 b.tree.now p
+    branches-last = subst (λ (s : List ℕ). BranchesRead d 0 s p) (sym left.same_tree) (subst (λ (m : ℕ). BranchesRead d m u p) none reads)
+
+    pub branches-done : {o : Option ℕ} {c : Gathering} → Gathers o (branches_at d 0 b.tree.now p) locals_branches loops_branches b c → Gathers o whole locals_branches loops_branches a c
+    branches-done {o} {c} g = left.rest o c (gathers-as (λ (m : ℕ). branches_at d m u p) (sym none) (gathers-as (λ (s : List ℕ). branches_at d 0 s p) left.same_tree g))
+
+  module _ (h : 0 < n) where
+    pub branches-head : BranchAt d b.tree.now p
+    branches-head = subst (λ (s : List ℕ). BranchAt d s p) (sym left.same_tree) (view-branches-more d u p n h reads).parts.first
+
+    branches-split : Splits (branches_at d n u p) locals_branches loops_branches (body_at d u p) locals_block loops_block (branches_at d (n - 1) u (body_at d u p).end) locals_branches loops_branches
+    unfolding when_at locals_branches loops_branches
+    branches-split =
+        subst (λ (x : Node Branches). Splits x locals_branches loops_branches (body_at d u p) locals_block loops_block (branches_at d (n - 1) u (body_at d u p).end) locals_branches loops_branches)
+        (sym (view-branches-more d u p n h reads).is)
+        (record { end = refl; names = λ xs. refl; loops = refl; grows = λ xs. branches-grow (branches_at d (n - 1) u (body_at d u p).end).value xs })
+
+    module _ {r : Option ℕ} {c : Gathering} (g : Gathers r (body_at d b.tree.now p) locals_block loops_block b c) where
+      first-branch : Gathers r (body_at d u p) locals_block loops_block b c
+      first-branch = gathers-as (λ (s : List ℕ). body_at d s p) left.same_tree g
+
+      pub branches-stopped : {o : Option ℕ} → r ≡ None → o ≡ None → Gathers o whole locals_branches loops_branches a c
+      branches-stopped e i = left-stopped left branches-split first-branch e i
+
+      pub branches-next : {e : ℕ} → r ≡ Some e → (j : ℕ) → n - 1 ≡ j → BranchesRead d j u e × Left whole (branches_at d j u e) locals_branches loops_branches a c
+      branches-next {e} f j i =
+          let q = first-branch.next e f in
+          subst (λ (m : ℕ). BranchesRead d m u e × Left whole (branches_at d m u e) locals_branches loops_branches a c) i
+          (subst (λ (m : ℕ). BranchesRead d (n - 1) u m × Left whole (branches_at d (n - 1) u m) locals_branches loops_branches a c) (sym q) ((view-branches-more d u p n h reads).parts.rest, left-next left branches-split first-branch f))

@@ -9,10 +9,12 @@ use Rattle.definitions.specs.Tree.{Literal, UnaryOp, BinaryOp, LogicalOp, and_op
 use Rattle.definitions.specs.Tree.{View, as_var, as_attr, as_index, as_tuple, as_other, view, view_display}
 use Rattle.definitions.specs.Tree.{Expr, lit, unary, binary, logical}
 use Rattle.parts.specs.Places.{Node, node, name_bytes}
-use Rattle.exprs.specs.ExprAt.{expr_at, ExprReads, int_at, float_at, string_at, var_at, unary_of, binary_of, unary_at, binary_at, ListAt, list_at, second_at, call_at, attribute_at, display_at, dict_at, index_at, lambda_at, unary_ops, binary_ops}
+use Rattle.exprs.specs.ExprAt.{expr_at, ExprReads, int_at, float_at, string_at, var_at, unary_of, binary_of, unary_at, binary_at}
+use Rattle.exprs.specs.ExprAt.{ListAt, list_at, second_at, call_at, attribute_at, display_at, dict_at, index_at, lambda_at, unary_ops, binary_ops}
 use Rattle.parts.proofs.Laws.{le-or-gt}
 use Rattle.parts.proofs.Nodes.{Seen}
-use Rattle.exprs.proofs.ExprViews.{expr-known, view-none, view-false, view-true, view-int, view-float, view-string, view-var, view-unary, view-binary, view-call, view-attribute, view-list, view-dict, view-tuple, view-set, view-tree-set, view-index, view-lambda, unary-of, binary-of, and-of, or-of}
+use Rattle.exprs.proofs.ExprViews.{expr-known, view-none, view-false, view-true, view-int, view-float, view-string, view-var, view-unary, view-binary, view-call}
+use Rattle.exprs.proofs.ExprViews.{view-attribute, view-list, view-dict, view-tuple, view-set, view-tree-set, view-index, view-lambda, unary-of, binary-of, and-of, or-of}
 
 -- what holds of every operator holds of the one of a byte
 pub unary-each : (P : (Expr → Expr) → Type 0) → ((op : UnaryOp) → P (unary op)) → (k : ℕ) → k < 3 → P (unary_of k)

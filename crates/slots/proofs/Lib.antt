@@ -1,10 +1,13 @@
+pub mod Walks
+pub mod KindGroups
 pub mod Adding
 pub mod Reindexing
 pub mod Skipping
 pub mod SkippingStmts
 pub mod Kinded
+pub mod KindBytes
 pub mod Targeting
-pub mod Tallying
+pub mod Steps
 pub mod Gathering
 pub mod Params
 pub mod Holding

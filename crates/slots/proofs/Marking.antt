@@ -1,6 +1,6 @@
 -- Marks of slots: which of their names a lambda around has as parameters. Assumes nothing.
 use Prim.Native.Nat.{ℕ, zero, suc, ◌+◌, ◌-◌, ◌<◌, ◌≤◌}
-use mathlib.Core.Path.{◌≡◌, refl, sym, ap, subst, ◌∙◌}
+use mathlib.Core.Path.{◌≡◌, refl, sym, ap, ap₂, subst, ◌∙◌}
 use mathlib.Core.Bool.{Bool, true, false, not, ◌&&◌, ◌||◌}
 use mathlib.Core.Option.{Option, none, some}
 use mathlib.Core.List.{List, [], ◌∷◌, ◌++◌}
@@ -12,12 +12,15 @@ use Rattle.definitions.specs.Bytes.{Name, same, position, member}
 use Rattle.definitions.proofs.MethodOrder.{same-eq}
 use Rattle.definitions.proofs.Resolve.{position-lt}
 use Rattle.definitions.proofs.Captured.{or_swap, member-cons, member-nil, member-append}
-use Rattle.parts.specs.Places.{count_at, name_bytes, name_end, names_from, AllThere, params_at}
-use Rattle.parts.proofs.NameLaws.{there-next, from_more, from-none}
+use Rattle.parts.specs.Places.{count_at, name_bytes, name_end, names_from, There, AllThere, ParamsAt, params_at}
+use Rattle.parts.proofs.NameLaws.{there-first, there-next, from_more, from-none}
 use Rattle.names.proofs.Finding.{step, position-cons}
+use Rattle.state.specs.declared.Scope.{Scope}
 use Rattle.slots.specs.Held.{mark, mark_all, is_free, Marked}
+use Rattle.slots.specs.Captured.{names_around, Marks}
+use Rattle.slots.specs.declared.captures.Captures.{Captures}
 use Rattle.slots.proofs.Holding.{bool-or, clash, member-next}
-use Rattle.slots.proofs.Params.{params-names}
+use Rattle.slots.proofs.Params.{params-all, params-names}
 
 -- ---- a name's slot
 
@@ -124,20 +127,43 @@ module _ (slots : List Name) (x : Name) (ms : List Bool) where
 
 -- ---- parameters, one at a time
 
-pub mark-begun : (slots : List Name) (t : List ℕ) (n p : ℕ) (ms : List Bool) → AllThere t n p → (j : ℕ) → n ≡ j → (mark_all slots (names_from t n p) ms ≡ mark_all slots (names_from t j p) ms) × AllThere t j p
-mark-begun slots t n p ms a j i = subst (λ (x : ℕ). (mark_all slots (names_from t n p) ms ≡ mark_all slots (names_from t x p) ms) × AllThere t x p) i (refl, a)
+-- the names left from p on, by what is left of the step from a
+pub record NamesLeft (a : Captures) (n₀ p₀ n p : ℕ) (b : Captures) : Type 0 where
+  pub there : AllThere a.around.tree.now n p
+  pub marked : mark_all (names_around a.around) (names_from a.around.tree.now n₀ p₀) a.marked ≡ mark_all (names_around a.around) (names_from a.around.tree.now n p) b.marked
+  pub same_around : b.around ≡ a.around
+  pub same_n : b.n ≡ a.n
+  pub same_kept : b.kept ≡ a.kept
 
-pub mark-next : (slots : List Name) (t : List ℕ) (n p e : ℕ) (ms ms' : List Bool) → e ≡ name_end t p → 0 < n → AllThere t n p → ms' ≡ mark slots (name_bytes t p) ms →
-    (j : ℕ) → n - 1 ≡ j → (mark_all slots (names_from t n p) ms ≡ mark_all slots (names_from t j e) ms') × AllThere t j e
-unfolding mark_all
-mark-next slots t n p e ms ms' h g a m j i = subst (λ (x : ℕ). (mark_all slots (names_from t n p) ms ≡ mark_all slots (names_from t x e) ms') × AllThere t x e) i (
-  ap (λ (q : List Name). mark_all slots q ms) (from_more t n p g) ∙ ap (mark_all slots (names_from t (n - 1) (name_end t p))) (sym m) ∙ ap (λ (k : ℕ). mark_all slots (names_from t (n - 1) k) ms') (sym h),
-  there-next t n p e h g a,
-)
+pub mark-start : (a : Captures) (p n : ℕ) → ParamsAt a.around.tree.now p → n ≡ count_at a.around.tree.now p → (j : ℕ) → n ≡ j → NamesLeft a n (p + 2) j (p + 2) a
+mark-start a p n h e j i = subst (λ (x : ℕ). NamesLeft a n (p + 2) x (p + 2) a) i (record { there = params-all _ _ _ h e; marked = refl; same_around = refl; same_n = refl; same_kept = refl })
 
-pub mark-done : (slots : List Name) (t : List ℕ) (n p : ℕ) (ms : List Bool) → n ≤ 0 → mark_all slots (names_from t n p) ms ≡ ms
-unfolding mark_all
-mark-done slots t n p ms h = ap (λ (q : List Name). mark_all slots q ms) (from-none t n p h)
+module _ (a : Captures) (n₀ p₀ n p : ℕ) (b : Captures) (l : NamesLeft a n₀ p₀ n p b) where
+  module _ (h : 0 < n) where
+    pub mark-there : (want : List Bool) (c : Captures) → Marks want b c → There c.around.tree.now p
+    mark-there want c m = subst (λ (s : Scope). There s.tree.now p) (sym (m.same_around ∙ l.same_around)) (there-first _ n p h l.there)
 
-pub mark-list : (slots : List Name) (t : List ℕ) (a n : ℕ) (ms ms' : List Bool) → n ≡ count_at t a → ms' ≡ mark_all slots (names_from t n (a + 2)) ms → ms' ≡ mark_all slots (params_at t a).value ms
-mark-list slots t a n ms ms' e f = f ∙ ap (λ (qs : List Name). mark_all slots qs ms) (params-names t a n e)
+    pub mark-next : (c : Captures) (q : ℕ) → Marks (mark (names_around b.around) (name_bytes b.around.tree.now p) b.marked) b c → q ≡ name_end c.around.tree.now p → (j : ℕ) → n - 1 ≡ j → NamesLeft a n₀ p₀ j q c
+    unfolding mark_all
+    mark-next c q m e j i =
+        let k : q ≡ name_end a.around.tree.now p = e ∙ ap (λ (s : Scope). name_end s.tree.now p) (m.same_around ∙ l.same_around) in
+        let g : c.marked ≡ mark (names_around a.around) (name_bytes a.around.tree.now p) b.marked = m.marked ∙ ap (λ (s : Scope). mark (names_around s) (name_bytes s.tree.now p) b.marked) l.same_around in
+        subst (λ (x : ℕ). NamesLeft a n₀ p₀ x q c) i (record {
+          there = there-next _ n p q k h l.there;
+          marked = l.marked ∙ ap (λ (xs : List Name). mark_all (names_around a.around) xs b.marked) (from_more _ n p h)
+              ∙ sym (ap₂ (λ (ms : List Bool) (x : ℕ). mark_all (names_around a.around) (names_from a.around.tree.now (n - 1) x) ms) g k);
+          same_around = m.same_around ∙ l.same_around;
+          same_n = m.same_n ∙ l.same_n;
+          same_kept = m.same_kept ∙ l.same_kept;
+        })
+
+  pub mark-done : (r : ℕ) → n ≤ 0 → p₀ ≡ r + 2 → n₀ ≡ count_at a.around.tree.now r → Marks (mark_all (names_around a.around) (params_at a.around.tree.now r).value a.marked) a b
+  unfolding mark_all
+  mark-done r h f e = record {
+    marked = sym (sym (ap (λ (xs : List Name). mark_all (names_around a.around) xs a.marked) (params-names _ r n₀ e))
+        ∙ ap (λ (x : ℕ). mark_all (names_around a.around) (names_from a.around.tree.now n₀ x) a.marked) (sym f)
+        ∙ l.marked ∙ ap (λ (xs : List Name). mark_all (names_around a.around) xs b.marked) (from-none _ n p h));
+    same_around = l.same_around;
+    same_n = l.same_n;
+    same_kept = l.same_kept;
+  }

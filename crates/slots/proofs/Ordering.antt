@@ -1,18 +1,18 @@
 -- Names compared and put in byte order, step by step. Assumes nothing.
-use Prim.Native.Nat.{ℕ, suc, ◌+◌, ◌-◌, ◌<◌, ◌≤◌}
+use Prim.Native.Nat.{ℕ, zero, suc, ◌+◌, ◌-◌, ◌<◌, ◌≤◌}
 use mathlib.Core.Path.{◌≡◌, refl, sym, ap, ◌∙◌, subst, ap₂}
-use mathlib.Core.Bool.{Bool, true, false}
-use mathlib.Core.List.{List, [], ◌∷◌, ◌++◌, append_assoc, append-nil}
+use mathlib.Core.Bool.{true, false}
+use mathlib.Core.List.{List, [], ◌∷◌, ◌++◌, append-nil}
 use native.Mathlib.Omega.{arith}
 use native.Mathlib.Numerals.{add-one}
-use lib.ListN.{length, take, drop, get_or, set, length-set, length-drop, length-append, drop_of_length-le}
-use lib.Seq.{take_all, drop-length, drop-cons, set_split, take-suc-set, drop-set-lt, drop-drop, get_or-drop, get_or-take, take-take, length-take-le, take_at, drop_at}
+use lib.ListN.{length, take, drop, get_or, length-drop, length-append, drop_of_length-le}
+use lib.Seq.{take_all, drop-length, drop-cons, drop-drop, get_or-drop, get_or-take, take-take, length-take-le, take_at, drop_at}
 use borrow.Rule.Slice.PartMut.{put_mid, post_of}
 use Rattle.definitions.specs.Bytes.{Name, below}
 use Rattle.definitions.specs.Slots.{insert, sort}
 use Rattle.state.specs.Words.{name_at}
 use Rattle.state.specs.State.{names_at}
-use Rattle.slots.proofs.Adding.{names-append}
+use Rattle.slots.specs.Order.{Spot}
 
 -- ---- insertion
 
@@ -35,55 +35,34 @@ names-none t = refl
 names-from : (t ps : List ℕ) (j : ℕ) → j < length ps → names_at t (drop j ps) ≡ name_at t (get_or ps j 0) ∷ names_at t (drop (j + 1) ps)
 names-from t ps j h = ap (names_at t) (drop-cons ps j 0 h) ∙ names-cons t (get_or ps j 0) (drop (suc j) ps) ∙ ap (λ (k : ℕ). name_at t (get_or ps j 0) ∷ names_at t (drop k ps)) (sym (add-one j))
 
--- the names after set, around its place
-names-set : (t ps : List ℕ) (j w : ℕ) → j < length ps → names_at t (set ps j w) ≡ names_at t (take j ps) ++ (name_at t w ∷ names_at t (drop (j + 1) ps))
-names-set t ps j w h =
-    ap (names_at t) (set_split ps j w h) ∙ names-append t (take j ps) (w ∷ drop (suc j) ps)
-    ∙ ap (λ (l : List Name). names_at t (take j ps) ++ l) (names-cons t w (drop (suc j) ps) ∙ ap (λ (k : ℕ). name_at t w ∷ names_at t (drop k ps)) (sym (add-one j)))
+-- x comes after the first r, which it does not come before, and before the next
+inserted : (t : List ℕ) (x : ℕ) (qs : List ℕ) (r : ℕ) → r ≤ length qs → ((i : ℕ) → i < r → below (name_at t x) (name_at t (get_or qs i 0)) ≡ false) → (r < length qs → below (name_at t x) (name_at t (get_or qs r 0)) ≡ true)
+    → names_at t ((take r qs ++ x ∷ []) ++ drop r qs) ≡ insert (name_at t x) (names_at t qs)
+unfolding insert names_at
+inserted t x [] zero h f g = refl
+inserted t x (q ∷ qs) zero h f g = sym (insert-here (name_at t x) (name_at t q) (names_at t qs) (g (omega arith)))
+inserted t x [] (suc r) h f g = absurd (omega arith)
+inserted t x (q ∷ qs) (suc r) h f g =
+    ap (λ (l : List Name). name_at t q ∷ l) (inserted t x qs r (omega arith) (λ i e. f (suc i) (omega arith)) (λ e. g (omega arith)))
+    ∙ sym (insert-after (name_at t x) (name_at t q) (names_at t qs) (f 0 (omega arith)))
 
--- the name x is to come after those before j
-pub record Inserting (t ps₀ : List ℕ) (x : ℕ) (ps : List ℕ) (j : ℕ) : Type 0 where
-  pub names : names_at t (take j ps) ++ insert (name_at t x) (names_at t (drop (j + 1) ps)) ≡ insert (name_at t x) (names_at t (drop 1 ps₀))
-  pub inside : j < length ps
-  pub kept : length ps ≡ length ps₀
+rotated : (ps : List ℕ) (r : ℕ) → 0 < length ps → (drop 1 (take (r + 1) ps) ++ take 1 (take (r + 1) ps)) ++ drop (r + 1) ps ≡ (take r (drop 1 ps) ++ get_or ps 0 0 ∷ []) ++ drop r (drop 1 ps)
+rotated [] r h = absurd (omega arith)
+rotated (p ∷ ps) r h = ap (λ (k : ℕ). (drop 1 (take k (p ∷ ps)) ++ take 1 (take k (p ∷ ps))) ++ drop k (p ∷ ps)) (add-one r)
 
-pub insert-start : (t ps : List ℕ) (x : ℕ) → 0 < length ps → Inserting t ps x ps 0
-insert-start t ps x h = record { names = ap (λ (l : List Name). l ++ insert (name_at t x) (names_at t (drop 1 ps))) (names-none t); inside = h; kept = refl }
+after_first : (ps : List ℕ) (i : ℕ) → get_or (drop 1 ps) i 0 ≡ get_or ps (i + 1) 0
+after_first ps i = get_or-drop 1 ps i 0 ∙ ap (λ (k : ℕ). get_or ps k 0) (let e : 1 + i ≡ i + 1 = omega arith in e)
 
-module _ (t ps₀ : List ℕ) (x : ℕ) (ps : List ℕ) (j : ℕ) (l : Inserting t ps₀ x ps j) where
-  pub insert-end : length ps ≤ j + 1 → names_at t (set ps j x) ≡ insert (name_at t x) (names_at t (drop 1 ps₀))
-  unfolding insert
-  insert-end h =
-      let e : names_at t (drop (j + 1) ps) ≡ [] = ap (names_at t) (drop_of_length-le ps h) ∙ names-none t in
-      names-set t ps j x l.inside ∙ ap (λ (z : List Name). names_at t (take j ps) ++ (name_at t x ∷ z)) e
-      ∙ sym (ap (λ (z : List Name). names_at t (take j ps) ++ insert (name_at t x) z) e) ∙ l.names
-
-  module _ (h : j + 1 < length ps) where
-    abbrev y : ℕ
-    y = get_or ps (j + 1) 0
-
-    rest : names_at t (drop (j + 1) ps) ≡ name_at t y ∷ names_at t (drop (j + 1 + 1) ps)
-    rest = names-from t ps (j + 1) h
-
-    pub insert-stop : (b : Bool) (u v : Name) → u ≡ name_at t x → v ≡ name_at t (get_or ps (j + 1) 0) → b ≡ below u v → b ≡ true → names_at t (set ps j x) ≡ insert (name_at t x) (names_at t (drop 1 ps₀))
-    insert-stop b u v e f g k =
-        let c : below (name_at t x) (name_at t y) ≡ true = cc in
-        names-set t ps j x l.inside ∙ ap (λ (z : List Name). names_at t (take j ps) ++ z)
-        (ap (λ (z : List Name). name_at t x ∷ z) rest ∙ sym (insert-here (name_at t x) (name_at t y) (names_at t (drop (j + 1 + 1) ps)) c) ∙ ap (insert (name_at t x)) (sym rest)) ∙ l.names
-
-    pub insert-next : (b : Bool) (u v : Name) → u ≡ name_at t x → v ≡ name_at t (get_or ps (j + 1) 0) → b ≡ below u v → b ≡ false → Inserting t ps₀ x (set ps j (get_or ps (j + 1) 0)) (j + 1)
-    insert-next b u v e f g k =
-        let c : below (name_at t x) (name_at t y) ≡ false = cc in
-        let q = set ps j y in
-        let front : names_at t (take (j + 1) q) ≡ names_at t (take j ps) ++ (name_at t y ∷ []) =
-        ap (λ (i : ℕ). names_at t (take i q)) (add-one j) ∙ ap (names_at t) (take-suc-set ps j y l.inside) ∙ names-append t (take j ps) (y ∷ []) ∙ ap (λ (z : List Name). names_at t (take j ps) ++ z) (names-cons t y [] ∙ ap (λ (z : List Name). name_at t y ∷ z) (names-none t)) in
-        let back : names_at t (drop (j + 1 + 1) q) ≡ names_at t (drop (j + 1 + 1) ps) = ap (names_at t) (drop-set-lt (j + 1 + 1) ps j y (omega arith)) in
-        record {
-          names = ap₂ (λ (a b : List Name). a ++ insert (name_at t x) b) front back ∙ append_assoc (names_at t (take j ps)) (name_at t y ∷ []) (insert (name_at t x) (names_at t (drop (j + 1 + 1) ps)))
-              ∙ ap (λ (z : List Name). names_at t (take j ps) ++ z) (sym (insert-after (name_at t x) (name_at t y) (names_at t (drop (j + 1 + 1) ps)) c) ∙ ap (insert (name_at t x)) (sym rest)) ∙ l.names;
-          inside = omega (arith, length-set ps j y);
-          kept = length-set ps j y ∙ l.kept;
-        }
+-- the first place at its spot
+pub insert-first : (t ps : List ℕ) (r : ℕ) → Spot t (get_or ps 0 0) ps r → names_at t ((drop 1 (take (r + 1) ps) ++ take 1 (take (r + 1) ps)) ++ drop (r + 1) ps) ≡ insert (name_at t (get_or ps 0 0)) (names_at t (drop 1 ps))
+insert-first t ps r s =
+    let h = s.inside in
+    let n = length-drop 1 ps in
+    let x = name_at t (get_or ps 0 0) in
+    ap (names_at t) (rotated ps r (omega arith))
+    ∙ inserted t (get_or ps 0 0) (drop 1 ps) r (omega arith)
+    (λ i e. ap (λ (w : ℕ). below x (name_at t w)) (after_first ps i) ∙ s.before i e)
+    (λ e. ap (λ (w : ℕ). below x (name_at t w)) (after_first ps r) ∙ s.after (omega arith))
 
 -- ---- sorting: from i on the names are in order
 

@@ -3,23 +3,23 @@ use Prim.Native.Nat.{ℕ, zero, suc, ◌+◌, ◌-◌, ◌<◌, ◌≤◌}
 use mathlib.Core.Path.{◌≡◌, refl, sym, ap, ◌∙◌, subst}
 use mathlib.Core.List.{List, [], ◌∷◌, ◌++◌, append_assoc, append-nil}
 use native.Mathlib.Omega.{arith}
-use lib.ListN.{length, set, take, drop, length-set, length-drop}
-use lib.Seq.{length-take-le}
-use borrow.Rule.Slice.PartMut.{put_mid, same_len_mid}
+use lib.ListN.{length, set}
+use lib.Seq.{take_all}
 use Rattle.definitions.specs.Bytes.{Name}
 use Rattle.definitions.specs.Tree.{Block}
+use Rattle.state.specs.Index.{Covered}
 use Rattle.state.specs.State.{names_at, slots_from}
 use Rattle.definitions.specs.Slots.{locals_block, loops_block, Frame, with_loops}
-use Rattle.parts.specs.Places.{count_at, name_bytes, name_end, There, names_from, AllThere, ParamsAt, params_at}
+use Rattle.parts.specs.Places.{Node, count_at, name_bytes, name_end, There, names_from, AllThere, ParamsAt, params_at}
 use Rattle.parts.proofs.NameLaws.{there-first, there-next}
 use Rattle.std.specs.Prelude.{Option, Some, None}
-use Rattle.slots.specs.Slotted.{leading, first_names, Indexed, Reindexed, Collected, Room, Gathers, up_to256, Framing, Frames}
-use Rattle.slots.specs.declared.Walked.{Walked}
+use Rattle.slots.specs.Slotted.{leading, first_names, Indexed, Collected, up_to256, Framing, Frames}
+use Rattle.slots.specs.Gathered.{names_in, Gathers}
+use Rattle.slots.specs.declared.walk.Gathering.{Gathering}
 use Rattle.slots.specs.declared.collect.Framed.{Framed}
-use Rattle.slots.proofs.Adding.{leading-set, mid-front, first-length}
-use Rattle.slots.proofs.Reindexing.{reindexed-names}
+use Rattle.slots.proofs.Adding.{leading-set, first-length}
+use Rattle.slots.proofs.Reindexing.{placed-names, placed, front-all}
 use Rattle.definitions.proofs.Named.{block-grows}
-use Rattle.slots.proofs.Gathering.{Stands, gathers-next, gathers-over}
 
 pub names-count : (t : List ℕ) (n p : ℕ) → length (names_from t n p) ≡ n
 unfolding names_from
@@ -38,14 +38,13 @@ pub params-all : (t : List ℕ) (a n : ℕ) → ParamsAt t a → n ≡ count_at 
 params-all t a n h e = subst (λ (m : ℕ). AllThere t m (a + 2)) (sym e) h.names
 
 -- the names put so far and those that follow from p on
-pub record ParamsLeft (t ps₀ : List ℕ) (n a : ℕ) (ps : List ℕ) (p i : ℕ) : Type 0 where
+pub record ParamsLeft (t : List ℕ) (n a : ℕ) (ps : List ℕ) (p i : ℕ) : Type 0 where
   pub names : leading t i ps ++ names_from t (n - i) p ≡ names_from t n a
   pub there : AllThere t (n - i) p
   pub most : i ≤ n
-  pub kept : length ps ≡ length ps₀
 
 module _ (t ps : List ℕ) (n a : ℕ) where
-  pub params-start : AllThere t n a → ParamsLeft t ps n a ps a 0
+  pub params-start : AllThere t n a → ParamsLeft t n a ps a 0
   unfolding leading names_at
   params-start h =
       let z : n - 0 ≡ n = omega arith in
@@ -53,50 +52,42 @@ module _ (t ps : List ℕ) (n a : ℕ) where
         names = ap (λ (m : ℕ). names_from t m a) z;
         there = subst (λ (m : ℕ). AllThere t m a) (sym z) h;
         most = omega arith;
-        kept = refl;
       }
 
-module _ (t ps₀ : List ℕ) (n a : ℕ) (ps : List ℕ) (p i : ℕ) (l : ParamsLeft t ps₀ n a ps p i) where
+module _ (t : List ℕ) (n a : ℕ) (ps : List ℕ) (p i : ℕ) (l : ParamsLeft t n a ps p i) where
   pub params-head : i < n → There t p
   params-head h = there-first t (n - i) p (omega arith) l.there
 
-  pub params-next : (e : ℕ) → i < n → n ≤ length ps₀ → e ≡ name_end t p → ParamsLeft t ps₀ n a (set ps i p) e (i + 1)
+  pub params-next : (e : ℕ) → i < n → n ≤ length ps → e ≡ name_end t p → ParamsLeft t n a (set ps i p) e (i + 1)
   params-next e h m k =
       let z : n - (i + 1) ≡ n - i - 1 = omega arith in
       let y : n - i ≡ suc (n - i - 1) = omega arith in
-      let w = l.kept in
       record {
         names = ap (λ (xs : List Name). xs ++ names_from t (n - (i + 1)) e) (leading-set t i p ps (omega arith)) ∙ append_assoc (leading t i ps) (name_bytes t p ∷ []) (names_from t (n - (i + 1)) e)
             ∙ ap (λ (m : ℕ). leading t i ps ++ (name_bytes t p ∷ names_from t m e)) z ∙ ap (λ (m : ℕ). leading t i ps ++ (name_bytes t p ∷ names_from t (n - i - 1) m)) k
             ∙ ap (λ (xs : List Name). leading t i ps ++ xs) (sym (names-first t (n - i) (n - i - 1) p y)) ∙ l.names;
         there = subst (λ (m : ℕ). AllThere t m e) (sym z) (there-next t (n - i) p e k (omega arith) l.there);
         most = omega arith;
-        kept = length-set ps i p ∙ l.kept;
       }
 
-  pub params-done : n ≤ i → leading t n ps ≡ names_from t n a
-  unfolding names_from
-  params-done h =
+  pub params-done : n ≤ i → length ps ≡ n → names_at t ps ≡ names_from t n a
+  unfolding names_from leading
+  params-done h w =
       let m = l.most in
       let y : i ≡ n = omega arith in
       let z : n - i ≡ 0 = omega arith in
-      ap (λ (j : ℕ). leading t j ps) (sym y) ∙ sym (append-nil (leading t i ps)) ∙ ap (λ (j : ℕ). leading t i ps ++ names_from t j p) (sym z) ∙ l.names
+      ap (names_at t) (sym (take_all i ps (omega arith))) ∙ sym (append-nil (leading t i ps)) ∙ ap (λ (j : ℕ). leading t i ps ++ names_from t j p) (sym z) ∙ l.names
 
 -- the places of parameters put into slots, and these indexed
-module _ (t ps part : List ℕ) (n a : ℕ) (few : n ≤ 255) (room : slots_from + 256 ≤ length ps) (w : length part ≡ length (take (length ps - slots_from) (drop slots_from ps))) where
-  params-room : n ≤ length part
-  params-room = let y = length-take-le (length ps - slots_from) (drop slots_from ps) (let z = length-drop slots_from ps in omega arith) in omega arith
-
-  pub params-index : slots_from + n ≤ length (put_mid slots_from (length ps - slots_from) ps part)
-  params-index = let z = same_len_mid slots_from (length ps - slots_from) ps part w in omega arith
-
-  pub params-put : (ps' : List ℕ) → leading t n part ≡ names_from t n (a + 2) → Reindexed t n (put_mid slots_from (length ps - slots_from) ps part) ps' → n ≡ count_at t a → Collected (Some n) t ps' (params_at t a).value
-  unfolding Collected params_at first_names leading
-  params-put ps' e r f = (
-    few,
-    reindexed-names t n _ ps' r ∙ ap (names_at t) (mid-front slots_from (length ps - slots_from) n ps part (omega arith) params-room) ∙ e ∙ ap (λ (j : ℕ). names_from t j (a + 2)) f,
-    r.indexed,
-  )
+pub params-put : (t index part rest : List ℕ) (n m a : ℕ) → n ≤ 255 → length index ≡ slots_from → m ≡ n → length part ≡ m → Covered slots_from index 0 (names_at t part) → names_at t part ≡ names_from t m (a + 2) → n ≡ count_at t a
+    → Collected (Some n) t (index ++ (part ++ rest)) (params_at t a).value
+unfolding Collected params_at
+params-put t index part rest n m a h k e w v f g =
+    let q = ap (names_at t) (front-all n part rest (w ∙ e)) in (
+      h,
+      placed-names t index (part ++ rest) k n ∙ q ∙ f ∙ ap (λ (j : ℕ). names_from t j (a + 2)) (e ∙ g),
+      placed t index (part ++ rest) k n (subst (Covered slots_from index 0) (sym q) v),
+    )
 
 pub params-over : (t ps : List ℕ) (n a : ℕ) → n ≡ count_at t a → 255 < n → Collected None t ps (params_at t a).value
 unfolding Collected params_at
@@ -133,31 +124,33 @@ frames-slots {n} {m} {t} {ps} {f} F = record {
 pub frames-begun : (r : Option ℕ) (t ps qs : List ℕ) (xs : List Name) (b : Block) → Collected r t ps xs → r ≡ None → Frames None t qs (with_loops xs b)
 frames-begun r t ps qs xs b c e = let h = collected-over r t ps xs c e in let g = block-grows b xs in frames-over (omega arith)
 
-module _ (r : Option ℕ) (o : Option Walked) (t ps qs : List ℕ) (xs : List Name) (k end : ℕ) (b : Block) (c : Collected r t ps xs) (e : r ≡ Some k) (g : Gathers o t qs end (locals_block b (first_names t k ps))) where
-  same_names : locals_block b (first_names t k ps) ≡ locals_block b xs
-  same_names = ap (locals_block b) (collected-count r t ps xs k c e).1
+-- the block's names gathered, from a to b, in slots that were ps and are qs
+module _ (r : Option ℕ) (t ps : List ℕ) (xs : List Name) (k : ℕ) {o : Option ℕ} {x : Node Block} {a b : Gathering}
+    (c : Collected r t ps xs) (e : r ≡ Some k) (f : names_in a ≡ first_names t k ps) (g : Gathers o x locals_block loops_block a b) where
+  same_names : locals_block x.value (names_in a) ≡ locals_block x.value xs
+  same_names = ap (locals_block x.value) (f ∙ (collected-count r t ps xs k c e).1)
 
-  pub frames-gathered : o ≡ None → Frames None t qs (with_loops xs b)
-  frames-gathered h = let y = gathers-over o t qs end _ g h in frames-over (omega (arith, ap length same_names))
+  pub frames-gathered : {qs : List ℕ} → o ≡ None → Frames None t qs (with_loops xs x.value)
+  frames-gathered h = let y = g.adds.over h in frames-over (omega (arith, ap length same_names))
 
-  module _ (m p n : ℕ) (h : o ≡ Some (record { next = p; n = n })) (room : slots_from + 256 ≤ length qs) (l : m ≡ up_to256 (0 + loops_block b)) where
-    stands : Stands p n t qs end (locals_block b (first_names t k ps))
-    stands = gathers-next o t qs end _ p n g h
+  module _ {p : ℕ} {qs : List ℕ} (h : o ≡ Some p) (u : a.loops ≡ 0) (v : a.tree.now ≡ t) (w : qs ≡ b.slots.now) where
+    names-are : first_names t b.n qs ≡ locals_block x.value xs
+    names-are = (λ i. first_names ((sym v ∙ sym g.adds.same_tree) i) b.n (w i)) ∙ g.adds.names p h ∙ same_names
 
-    names-are : first_names t n qs ≡ locals_block b xs
-    names-are = stands.names ∙ same_names
+    names-many : b.n ≡ length (locals_block x.value xs)
+    names-many = sym (first-length b.tree.now b.n b.slots.now (omega (arith, b.few, b.room))) ∙ ap length (g.adds.names p h ∙ same_names)
 
-    names-many : n ≡ length (locals_block b xs)
-    names-many = let f = stands.few in sym (first-length t n qs (omega arith)) ∙ ap length names-are
+    loops-many : b.loops ≡ up_to256 (loops_block x.value)
+    loops-many = omega (arith, u, g.adds.counted p h)
 
-    pub counts-few : n + m ≤ 511
-    counts-few = let f = stands.few in omega arith
+    pub frames-many : 255 < b.n + b.loops → Frames None t qs (with_loops xs x.value)
+    frames-many l = frames-over (omega (arith, names-many, loops-many))
 
-    pub frames-many : 255 < n + m → Frames None t qs (with_loops xs b)
-    frames-many w = frames-over (omega (arith, names-many))
-
-    pub frames-all : n + m ≤ 255 → Frames (Some (record { named = n; locals = n + m })) t qs (with_loops xs b)
-    frames-all w = frames-slots (record { named = omega arith; few = w; names = names-are; locals = omega (arith, names-many); indexed = stands.indexed })
-
-pub room_of : (t ps qs : List ℕ) (n : ℕ) → length t ≤ 32768 → slots_from + 256 ≤ length ps → length qs ≡ length ps → n ≤ 255 → Indexed t n qs → Room t qs n
-room_of t ps qs n h k e g v = record { short = h; room = omega arith; few = g; indexed = v }
+    pub frames-all : b.n + b.loops ≤ 255 → Frames (Some (record { named = b.n; locals = b.n + b.loops })) t qs (with_loops xs x.value)
+    frames-all l = frames-slots (record {
+      named = omega arith;
+      few = l;
+      names = names-are;
+      locals = omega (arith, names-many, loops-many);
+      indexed = subst (λ (s : List ℕ). Indexed s b.n qs) (g.adds.same_tree ∙ v) (subst (λ (s : List ℕ). Indexed b.tree.now b.n s) (sym w) b.indexed);
+    })

@@ -3,26 +3,31 @@ use Prim.Native.Nat.{ℕ, ◌+◌, ◌*◌, ◌-◌, ◌<◌, ◌≤◌, ◌^◌
 use mathlib.Core.Path.{◌≡◌, refl, sym, ap, ◌∙◌, subst, ap₂}
 use mathlib.Core.Bool.{Bool, true, false}
 use mathlib.Core.List.{List}
-use mathlib.Core.Logic.{◌⊎◌, ⊎_elim}
 use native.Mathlib.Omega.{arith}
 use lib.ListN.{length, get_or}
 use Rattle.definitions.specs.Bytes.{Name}
-use Rattle.definitions.specs.Tree.{Expr, Exprs}
+use Rattle.definitions.specs.Tree.{Expr, Exprs, Display}
 use Rattle.definitions.specs.Slots.{add}
 use Rattle.state.specs.State.{slots_from, slot_names}
+use Rattle.state.specs.declared.Scope.{Scope}
 use Rattle.parts.specs.Places.{Node, count_at, name_bytes, name_end, There, params_at}
-use Rattle.exprs.specs.ExprAt.{expr_at, exprs_at, ExprReads, ExprsRead, var_at, unary_at, TwoAt, second_at, binary_at, ListAt, list_at, CallAt, call_at, AttributeAt, attribute_at, display_at, DictAt, pairs_at, dict_at, index_at, LambdaAt, lambda_at, cons_at}
-use Rattle.parts.proofs.Laws.{le-or-gt, up}
-use Rattle.exprs.proofs.ExprViews.{view-var, view-unary, view-binary, view-call, view-attribute, view-dict, view-index, view-lambda, view-exprs-none, view-exprs-more}
-use Rattle.slots.specs.Slotted.{first_names, Indexed, Added}
-use Rattle.slots.specs.Held.{mark_all, is_free, add_held, held_expr, held_exprs, Held, Keeping, Referred}
-use Rattle.slots.specs.declared.Walked.{Walked}
+use Rattle.exprs.specs.ExprAt.{expr_at, exprs_at, var_at, unary_at, second_at, binary_at, list_at, call_at, attribute_at, display_at, pairs_at, dict_at, index_at, lambda_at, cons_at}
+use Rattle.exprs.specs.ExprAt.{ExprReads, ExprsRead, TwoAt, ListAt, CallAt, AttributeAt, DictAt, LambdaAt}
+use Rattle.exprs.proofs.ExprViews.{view-exprs-none, view-exprs-more}
+use Rattle.slots.specs.Slotted.{first_names, Added}
+use Rattle.slots.specs.Held.{mark_all, is_free, add_held, held_expr, held_exprs, Held, Keeping}
+use Rattle.std.specs.Borrow.{MutBor}
+use Rattle.slots.specs.Captured.{names_around, names_kept, Marks, Keeps, Refers}
+use Rattle.slots.specs.declared.captures.Captures.{Captures}
 use Rattle.names.proofs.Indexing.{slots-count}
 use Rattle.slots.proofs.Adding.{first-length}
-use Rattle.slots.proofs.Holding.{held-few, held-expr}
-use Rattle.slots.proofs.Kinded.{unary-each, binary-each, seen-literal, seen-display}
+use Rattle.slots.proofs.Holding.{held-few, held-add, held_in, held_out}
+use Rattle.slots.proofs.Kinded.{unary-each, binary-each, seen-literal}
 
--- ---- what is asked, and what is left
+abbrev tree_of : Captures → List ℕ
+tree_of c = c.around.tree.now
+
+-- ---- what is kept to
 
 pub keeping-few : (t parent ps : List ℕ) (n : ℕ) → Keeping t parent ps n → n ≤ 255
 keeping-few t parent ps n k =
@@ -33,136 +38,122 @@ keeping-few t parent ps n k =
 pub keeping-name : (t parent ps : List ℕ) (n p : ℕ) → Keeping t parent ps n → There t p → (slots_from + n < length ps) × (n ≤ 255) × (p < 2 ^ 32)
 keeping-name t parent ps n p k h = let a = keeping-few t parent ps n k in let c = k.room in let d = k.short in let e = h.byte in (omega arith, omega arith, omega arith)
 
-pub keeping-again : (t parent ps ps' : List ℕ) (n end : ℕ) (r : Walked) (want : List Name) → Keeping t parent ps n → Referred r t ps' end want → length ps' ≡ length ps → Held (slot_names t parent) want →
-    Keeping t parent ps' r.n
-keeping-again t parent ps ps' n end r want k f e h = record {
-  short = k.short;
-  slots = k.slots;
-  room = let a = k.room in omega arith;
-  most = f.most;
-  held = subst (Held (slot_names t parent)) (sym f.names) h;
-  indexed = f.indexed;
-}
-
-pub referred-as : (r : Walked) (t ps : List ℕ) (e e' : ℕ) (w w' : List Name) → Referred r t ps e w → e ≡ e' → w ≡ w' → Referred r t ps e' w'
-referred-as r t ps e e' w w' f h k = record { next-is = f.next-is ∙ h; most = f.most; names = f.names ∙ k; indexed = f.indexed }
-
 -- ---- a name
 
-module _ (t parent : List ℕ) (ms : List Bool) (p : ℕ) (b : Bool) (e : b ≡ is_free (slot_names t parent) ms (name_bytes t p)) (ps : List ℕ) (n : ℕ) (a : Keeping t parent ps n) where
-  pub name-kept : (r : Walked) (ps' : List ℕ) → b ≡ true → r.next ≡ name_end t p → Added r.n t ps' n (add (name_bytes t p) (first_names t n ps)) → length ps' ≡ length ps →
-      Referred r t ps' (name_end t p) (add_held (slot_names t parent) ms (name_bytes t p) (first_names t n ps))
-  unfolding add_held
-  name-kept r ps' h f g m =
-      let i = keeping-few t parent ps n a in let j = a.room in let q = g.most in
-      record { next-is = f; most = omega arith; names = g.names ∙ sym (let z = sym e ∙ h in rw (z, add_held)); indexed = g.indexed }
+module _ (t parent : List ℕ) (ms : List Bool) (p : ℕ) (b : Bool) (e : b ≡ is_free (slot_names t parent) ms (name_bytes t p)) (ps : List ℕ) (n : ℕ) where
+  pub name-left : b ≡ false → first_names t n ps ≡ add_held (slot_names t parent) ms (name_bytes t p) (first_names t n ps)
+  name-left h = sym (held_out (slot_names t parent) ms (name_bytes t p) (first_names t n ps) (sym e ∙ h))
 
-  pub name-left : (r : Walked) → b ≡ false → r.next ≡ name_end t p → r.n ≡ n → Referred r t ps (name_end t p) (add_held (slot_names t parent) ms (name_bytes t p) (first_names t n ps))
-  unfolding add_held
-  name-left r h f g = let i = a.most in record { next-is = f; most = omega arith; names = ap (λ (k : ℕ). first_names t k ps) g ∙ sym (let z = sym e ∙ h in rw (z, add_held)); indexed = subst (λ (k : ℕ). Indexed t k ps) (sym g) a.indexed }
+  module _ (h : b ≡ true) (m : ℕ) (ps' : List ℕ) (g : Added m t ps' n (add (name_bytes t p) (first_names t n ps))) where
+    pub name-kept : first_names t m ps' ≡ add_held (slot_names t parent) ms (name_bytes t p) (first_names t n ps)
+    name-kept = g.names ∙ sym (held_in (slot_names t parent) ms (name_bytes t p) (first_names t n ps) (sym e ∙ h))
+
+    pub keeping-kept : Keeping t parent ps n → length ps' ≡ length ps → Keeping t parent ps' m
+    keeping-kept k l = record {
+      short = k.short;
+      slots = k.slots;
+      room = let a = k.room in omega arith;
+      most = let a = keeping-few t parent ps n k in let j = k.room in let q = g.most in omega arith;
+      held = subst (Held (slot_names t parent)) (sym name-kept) (held-add (slot_names t parent) ms (name_bytes t p) (first_names t n ps) k.held);
+      indexed = g.indexed;
+    }
 
 -- ---- the kinds of expression
 
-module _ (d : ℕ) (t : List ℕ) (p : ℕ) (r : ExprReads d t p) (slots : List Name) (ms : List Bool) (o : Walked) (ps : List ℕ) (xs : List Name) where
-  abbrev x : Node Expr
-  x = expr_at d t p
+module _ (a b : Captures) (o : ℕ) where
+  pub refers-as : {A : Type 0} {held : List Name → List Bool → A → List Name → List Name} (x y : Node A) → x ≡ y → Refers o y held a b → Refers o x held a b
+  refers-as {held = held} x y e r = subst (λ (z : Node _). Refers o z held a b) (sym e) r
 
-  Kept : ℕ → List Name → Type 0
-  Kept e w = Referred o t ps e w
-
-  abbrev Whole : Type 0
-  Whole = Referred o t ps (expr_at d t p).end (held_expr slots ms (expr_at d t p).value xs)
-
-  made_of : (y : Node Expr) → x ≡ y → Referred o t ps y.end (held_expr slots ms y.value xs) → Whole
-  made_of y e g = referred-as o t ps _ _ _ _ g (sym (ap (λ (z : Node Expr). z.end) e)) (sym (ap (λ (z : Node Expr). held_expr slots ms z.value xs) e))
-
-  pub refs-var : get_or t p 0 ≡ 6 → Referred o t ps (name_end t (p + 1)) (add_held slots ms (name_bytes t (p + 1)) xs) → Whole
+  pub refers-var : (t : List ℕ) (p : ℕ) → o ≡ name_end t p → Keeps (add_held (names_around a.around) a.marked (name_bytes t p) (names_kept a)) a b → Refers o (var_at t p) held_expr a b
   unfolding held_expr var_at
-  refs-var e g = made_of _ (view-var d t p r e).is g
+  refers-var t p e k = record { next-is = e; keeps = k }
 
-  pub refs-unary : get_or t p 0 ≡ 7 → Referred o t ps (expr_at (d - 1) t (p + 1 + 1)).end (held_expr slots ms (expr_at (d - 1) t (p + 1 + 1)).value xs) → Whole
-  unfolding held_expr unary_at
-  refs-unary e g = let v = view-unary d t p r e in made_of _ v.is (subst (λ (w : List Name). Referred o t ps (expr_at (d - 1) t (p + 1 + 1)).end w)
-      (sym (unary-each (λ (f : Expr → Expr). held_expr slots ms (f (expr_at (d - 1) t (p + 1 + 1)).value) xs ≡ held_expr slots ms (expr_at (d - 1) t (p + 1 + 1)).value xs) (λ op. refl) _ v.parts.operator)) g)
+  module _ (d : ℕ) (t : List ℕ) (p : ℕ) where
+    pub refers-unary : get_or t p 0 < 3 → Refers o (expr_at d t (p + 1)) held_expr a b → Refers o (unary_at d t p) held_expr a b
+    unfolding held_expr unary_at
+    refers-unary h r = record {
+      next-is = r.next-is;
+      keeps = subst (λ (w : List Name). Keeps w a b)
+          (sym (unary-each (λ (f : Expr → Expr). held_expr (names_around a.around) a.marked (f (expr_at d t (p + 1)).value) (names_kept a)
+          ≡ held_expr (names_around a.around) a.marked (expr_at d t (p + 1)).value (names_kept a)) (λ op. refl) _ h)) r.keeps;
+    }
 
-  pub refs-binary : get_or t p 0 ≡ 8 →
-      Referred o t ps (second_at (d - 1) t (p + 1 + 1)).end (held_expr slots ms (second_at (d - 1) t (p + 1 + 1)).value (held_expr slots ms (expr_at (d - 1) t (p + 1 + 1)).value xs)) → Whole
-  unfolding held_expr binary_at
-  refs-binary e g = let v = view-binary d t p r e in made_of _ v.is (subst (λ (w : List Name). Referred o t ps (second_at (d - 1) t (p + 1 + 1)).end w)
-      (sym (binary-each (λ (f : Expr → Expr → Expr). held_expr slots ms (f (expr_at (d - 1) t (p + 1 + 1)).value (second_at (d - 1) t (p + 1 + 1)).value) xs
-      ≡ held_expr slots ms (second_at (d - 1) t (p + 1 + 1)).value (held_expr slots ms (expr_at (d - 1) t (p + 1 + 1)).value xs)) (λ op. refl) (λ op. refl) _ v.parts.operator)) g)
+    pub refers-binary : get_or t p 0 < 14 → Refers o (index_at d t (p + 1)) held_expr a b → Refers o (binary_at d t p) held_expr a b
+    unfolding held_expr binary_at index_at
+    refers-binary h r = record {
+      next-is = r.next-is;
+      keeps = subst (λ (w : List Name). Keeps w a b)
+          (sym (binary-each (λ (f : Expr → Expr → Expr). held_expr (names_around a.around) a.marked (f (expr_at d t (p + 1)).value (second_at d t (p + 1)).value) (names_kept a)
+          ≡ held_expr (names_around a.around) a.marked (second_at d t (p + 1)).value (held_expr (names_around a.around) a.marked (expr_at d t (p + 1)).value (names_kept a)))
+          (λ op. refl) (λ op. refl) _ h)) r.keeps;
+    }
 
-  pub refs-call : get_or t p 0 ≡ 9 →
-      Referred o t ps (list_at (d - 1) t (expr_at (d - 1) t (p + 1)).end).end (held_exprs slots ms (list_at (d - 1) t (expr_at (d - 1) t (p + 1)).end).value (held_expr slots ms (expr_at (d - 1) t (p + 1)).value xs)) → Whole
-  unfolding held_expr call_at
-  refs-call e g = made_of _ (view-call d t p r e).is g
+    pub refers-display : (k : Display) → Refers o (list_at d t p) held_exprs a b → Refers o (display_at k d t p) held_expr a b
+    unfolding held_expr display_at
+    refers-display k r = record { next-is = r.next-is; keeps = r.keeps }
 
-  pub refs-attribute : get_or t p 0 ≡ 10 → Referred o t ps (name_end t (expr_at (d - 1) t (p + 1)).end) (held_expr slots ms (expr_at (d - 1) t (p + 1)).value xs) → Whole
-  unfolding held_expr attribute_at
-  refs-attribute e g = made_of _ (view-attribute d t p r e).is g
+    pub refers-dict : Refers o (pairs_at d t p) held_exprs a b → Refers o (dict_at d t p) held_expr a b
+    unfolding held_expr dict_at
+    refers-dict r = record { next-is = r.next-is; keeps = r.keeps }
 
-  pub refs-dict : get_or t p 0 ≡ 12 → Referred o t ps (pairs_at (d - 1) t (p + 1)).end (held_exprs slots ms (pairs_at (d - 1) t (p + 1)).value xs) → Whole
-  unfolding held_expr dict_at
-  refs-dict e g = made_of _ (view-dict d t p r e).is g
-
-  pub refs-display : (get_or t p 0 ≡ 11) ⊎ ((get_or t p 0 ≡ 13) ⊎ ((get_or t p 0 ≡ 14) ⊎ (get_or t p 0 ≡ 15))) → Referred o t ps (list_at (d - 1) t (p + 1)).end (held_exprs slots ms (list_at (d - 1) t (p + 1)).value xs) → Whole
-  unfolding held_expr display_at
-  refs-display e g = let v = seen-display d t p r e in made_of _ v.1.is g
-
-  pub refs-index : get_or t p 0 ≡ 16 → Referred o t ps (second_at (d - 1) t (p + 1)).end (held_expr slots ms (second_at (d - 1) t (p + 1)).value (held_expr slots ms (expr_at (d - 1) t (p + 1)).value xs)) → Whole
-  unfolding held_expr index_at
-  refs-index e g = made_of _ (view-index d t p r e).is g
-
-  pub refs-lambda : get_or t p 0 ≡ 17 →
-      Referred o t ps (expr_at (d - 1) t (params_at t (p + 1)).end).end (held_expr slots (mark_all slots (params_at t (p + 1)).value ms) (expr_at (d - 1) t (params_at t (p + 1)).end).value xs) → Whole
-  unfolding held_expr lambda_at
-  refs-lambda e g = made_of _ (view-lambda d t p r e).is g
-
-pub literal-kinds : (k : ℕ) → k < 18 → (k ≡ 6 → ⊥) → (k ≡ 7 → ⊥) → (k ≡ 8 → ⊥) → (k ≡ 9 → ⊥) → (k ≡ 10 → ⊥) → (k ≡ 11 → ⊥) → (k ≡ 12 → ⊥) → (k ≡ 13 → ⊥) → (k ≡ 14 → ⊥) →
-    (k ≡ 15 → ⊥) → (k ≡ 16 → ⊥) → (k ≡ 17 → ⊥) → k < 6
-literal-kinds k h a b c d e f g i j l m n = ⊎_elim
-    (λ (z : 6 ≤ k). absurd (let q : 18 ≤ k = up 17 k (up 16 k (up 15 k (up 14 k (up 13 k (up 12 k (up 11 k (up 10 k (up 9 k (up 8 k (up 7 k (up 6 k z a) b) c) d) e) f) g) i) j) l) m) n in omega arith))
-    (λ (z : k < 6). z)
-    (le-or-gt 6 k)
-
-pub refs-literal : (d : ℕ) (t : List ℕ) (p : ℕ) (r : ExprReads d t p) (slots : List Name) (ms : List Bool) (o : Walked) (ps : List ℕ) (n : ℕ) → get_or t p 0 < 6 → o.next ≡ (expr_at d t p).end → o.n ≡ n → slots_from + n ≤ length ps → Indexed t n ps →
-    Referred o t ps (expr_at d t p).end (held_expr slots ms (expr_at d t p).value (first_names t n ps))
+pub refers-literal : (a : Captures) (o d : ℕ) (t : List ℕ) (p : ℕ) (r : ExprReads d t p) → get_or t p 0 < 6 → o ≡ (expr_at d t p).end → Refers o (expr_at d t p) held_expr a a
 unfolding held_expr
-refs-literal d t p r slots ms o ps n h e f g v = let l = seen-literal d t p r h in
-    record { next-is = e; most = omega arith; names = ap (λ (k : ℕ). first_names t k ps) f ∙ sym (ap (λ (x : Expr). held_expr slots ms x (first_names t n ps)) l.1); indexed = subst (λ (k : ℕ). Indexed t k ps) (sym f) v }
+refers-literal a o d t p r h e = let l = seen-literal d t p r h in record {
+  next-is = e;
+  keeps = record { names = sym (ap (λ (x : Expr). held_expr (names_around a.around) a.marked x (names_kept a)) l.1); same_around = refl; same_marks = refl; same_kept = refl };
+}
 
 -- ---- one part after another
 
-module _ (d : ℕ) (t : List ℕ) (p : ℕ) (slots : List Name) (ms : List Bool) (a : Walked) (ps : List ℕ) (xs : List Name) (f : Referred a t ps (expr_at d t p).end (held_expr slots ms (expr_at d t p).value xs)) where
-  pub second-there : TwoAt d t p → ExprReads d t a.next
-  second-there h = subst (λ (m : ℕ). ExprReads d t m) (sym f.next-is) h.second
+-- what a step keeps, by the marks before the steps before it
+step-names : {A : Type 0} (held : List Name → List Bool → A → List Name → List Name) (F : List ℕ → Node A) (a b c : Captures) (ys : List Name) → b.around ≡ a.around → b.marked ≡ a.marked →
+    Keeps (held (names_around b.around) b.marked (F (tree_of b)).value ys) b c → names_kept c ≡ held (names_around a.around) a.marked (F (tree_of a)).value ys
+step-names held F a b c ys e f k = k.names ∙ ap₂ (λ (s : Scope) (ms : List Bool). held (names_around s) ms (F s.tree.now).value ys) e f
 
-  pub refs-second : (o : Walked) (ps' : List ℕ) → Referred o t ps' (expr_at d t a.next).end (held_expr slots ms (expr_at d t a.next).value (first_names t a.n ps)) →
-      Referred o t ps' (second_at d t p).end (held_expr slots ms (second_at d t p).value (held_expr slots ms (expr_at d t p).value xs))
-  refs-second o ps' g = referred-as o t ps' _ _ _ _ g (ap (λ (m : ℕ). (expr_at d t m).end) f.next-is) (ap₂ (λ (m : ℕ) (w : List Name). held_expr slots ms (expr_at d t m).value w) f.next-is f.names)
+module _ {A : Type 0} (held : List Name → List Bool → A → List Name → List Name) (F : List ℕ → ℕ → Node A) (a b c : Captures) (p q o : ℕ) (ys : List Name) (k : Keeps ys a b) (e : p ≡ q) (g : Refers o (F (tree_of b) p) held b c) where
+  then-end : o ≡ (F (tree_of a) q).end
+  then-end = g.next-is ∙ ap₂ (λ (s : Scope) (x : ℕ). (F s.tree.now x).end) k.same_around e
 
-  pub list-there : CallAt d t p → ListAt d t a.next
-  list-there h = subst (λ (m : ℕ). ListAt d t m) (sym f.next-is) h.args
+  then-keeps : Keeps (held (names_around a.around) a.marked (F (tree_of a) q).value ys) a c
+  then-keeps = record {
+    names = step-names held (λ (t : List ℕ). F t p) a b c (names_kept b) k.same_around k.same_marks g.keeps
+        ∙ ap₂ (λ (x : ℕ) (zs : List Name). held (names_around a.around) a.marked (F (tree_of a) x).value zs) e k.names;
+    same_around = g.keeps.same_around ∙ k.same_around;
+    same_marks = g.keeps.same_marks ∙ k.same_marks;
+    same_kept = g.keeps.same_kept ∙ k.same_kept;
+  }
 
-  pub refs-args : (o : Walked) (ps' : List ℕ) → Referred o t ps' (list_at d t a.next).end (held_exprs slots ms (list_at d t a.next).value (first_names t a.n ps)) →
-      Referred o t ps' (list_at d t (expr_at d t p).end).end (held_exprs slots ms (list_at d t (expr_at d t p).end).value (held_expr slots ms (expr_at d t p).value xs))
-  refs-args o ps' g = referred-as o t ps' _ _ _ _ g (ap (λ (m : ℕ). (list_at d t m).end) f.next-is) (ap₂ (λ (m : ℕ) (w : List Name). held_exprs slots ms (list_at d t m).value w) f.next-is f.names)
+module _ (d : ℕ) (a b : Captures) (p q : ℕ) (f : Refers q (expr_at d (tree_of a) p) held_expr a b) where
+  -- where the first part ended
+  there : (P : List ℕ → ℕ → Type 0) → P (tree_of a) (expr_at d (tree_of a) p).end → P (tree_of b) q
+  there P h = subst (λ (s : Scope). P s.tree.now q) (sym f.keeps.same_around) (subst (P (tree_of a)) (sym f.next-is) h)
 
-  pub name-there : AttributeAt d t p → There t a.next
-  name-there h = subst (λ (m : ℕ). There t m) (sym f.next-is) h.name
+  pub second-there : TwoAt d (tree_of a) p → ExprReads d (tree_of b) q
+  second-there h = there (ExprReads d) h.second
 
-  pub refs-object : (o : Walked) → o.next ≡ name_end t a.next → o.n ≡ a.n → Referred o t ps (name_end t (expr_at d t p).end) (held_expr slots ms (expr_at d t p).value xs)
-  refs-object o e g = let m = f.most in record { next-is = e ∙ ap (name_end t) f.next-is; most = omega arith; names = ap (λ (k : ℕ). first_names t k ps) g ∙ f.names; indexed = subst (λ (k : ℕ). Indexed t k ps) (sym g) f.indexed }
+  pub list-there : CallAt d (tree_of a) p → ListAt d (tree_of b) q
+  list-there h = there (ListAt d) h.args
 
--- a lambda's body at q, where its parameters end, under marks that are those of its parameters, too
-pub refs-body : (d : ℕ) (t : List ℕ) (p q : ℕ) (slots : List Name) (ms ms' : List Bool) (o : Walked) (ps : List ℕ) (xs : List Name) → q ≡ (params_at t p).end → ms' ≡ mark_all slots (params_at t p).value ms →
-    Referred o t ps (expr_at d t q).end (held_expr slots ms' (expr_at d t q).value xs) →
-    Referred o t ps (expr_at d t (params_at t p).end).end (held_expr slots (mark_all slots (params_at t p).value ms) (expr_at d t (params_at t p).end).value xs)
-refs-body d t p q slots ms ms' o ps xs e f g =
-    referred-as o t ps _ _ _ _ g (ap (λ (m : ℕ). (expr_at d t m).end) e) (ap₂ (λ (m : ℕ) (k : List Bool). held_expr slots k (expr_at d t m).value xs) e f)
+  pub name-there : AttributeAt d (tree_of a) p → There (tree_of b) q
+  name-there h = there There h.name
 
-pub body-there : (d : ℕ) (t : List ℕ) (p q : ℕ) → q ≡ (params_at t p).end → LambdaAt d t p → ExprReads d t q
-body-there d t p q e h = subst (λ (m : ℕ). ExprReads d t m) (sym e) h.body
+  pub refers-two : (c : Captures) (o : ℕ) → Refers o (expr_at d (tree_of b) q) held_expr b c → Refers o (index_at d (tree_of a) p) held_expr a c
+  unfolding held_expr index_at
+  refers-two c o g = record {
+    next-is = then-end held_expr (expr_at d) a b c q _ o _ f.keeps f.next-is g;
+    keeps = then-keeps held_expr (expr_at d) a b c q _ o _ f.keeps f.next-is g;
+  }
+
+  pub refers-call : (c : Captures) (o : ℕ) → Refers o (list_at d (tree_of b) q) held_exprs b c → Refers o (call_at d (tree_of a) p) held_expr a c
+  unfolding held_expr call_at
+  refers-call c o g = record {
+    next-is = then-end held_exprs (list_at d) a b c q _ o _ f.keeps f.next-is g;
+    keeps = then-keeps held_exprs (list_at d) a b c q _ o _ f.keeps f.next-is g;
+  }
+
+  pub refers-attribute : (o : ℕ) → o ≡ name_end (tree_of b) q → Refers o (attribute_at d (tree_of a) p) held_expr a b
+  unfolding held_expr attribute_at
+  refers-attribute o e = record { next-is = e ∙ ap₂ (λ (s : Scope) (x : ℕ). name_end s.tree.now x) f.keeps.same_around f.next-is; keeps = f.keeps }
 
 -- ---- counts
 
@@ -179,53 +170,83 @@ module _ (d : ℕ) (t : List ℕ) (a n : ℕ) (e : n ≡ count_at t a) where
   pub dict-is : exprs_at d (2 * n) t (a + 2) ≡ pairs_at d t a
   dict-is = ap (λ (m : ℕ). exprs_at d (2 * m) t (a + 2)) e
 
-pub refs-list : (slots : List Name) (ms : List Bool) (t : List ℕ) (x y : Node Exprs) (o : Walked) (ps : List ℕ) (xs : List Name) → x ≡ y → Referred o t ps x.end (held_exprs slots ms x.value xs) → Referred o t ps y.end (held_exprs slots ms y.value xs)
-refs-list slots ms t x y o ps xs e g = referred-as o t ps _ _ _ _ g (ap (λ (z : Node Exprs). z.end) e) (ap (λ (z : Node Exprs). held_exprs slots ms z.value xs) e)
+-- ---- a lambda: its parameters are marked, its body begins at q, where they end, and is walked from a' to b, and c has the marks of a again
+
+pub body-there : (d : ℕ) (t : List ℕ) (p q : ℕ) → q ≡ (params_at t p).end → LambdaAt d t p → ExprReads d t q
+body-there d t p q e h = subst (λ (m : ℕ). ExprReads d t m) (sym e) h.body
+
+module _ (d : ℕ) (a a' b : Captures) (p q o : ℕ) (m : Marks (mark_all (names_around a.around) (params_at (tree_of a) p).value a.marked) a a') (e : q ≡ (params_at (tree_of a') p).end) where
+  params-end : q ≡ (params_at (tree_of a) p).end
+  params-end = e ∙ ap (λ (s : Scope). (params_at s.tree.now p).end) m.same_around
+
+  pub lambda-body : LambdaAt d (tree_of a) p → ExprReads d (tree_of a') q
+  lambda-body h = subst (λ (s : Scope). ExprReads d s.tree.now q) (sym m.same_around) (body-there d (tree_of a) p q params-end h)
+
+  pub refers-lambda : Refers o (expr_at d (tree_of a') q) held_expr a' b → (c : Captures) → c.around ≡ b.around → c.marked ≡ a.marked → c.n ≡ b.n → c.kept ≡ b.kept → Refers o (lambda_at d (tree_of a) p) held_expr a c
+  unfolding held_expr lambda_at
+  refers-lambda r c f g h k = record {
+    next-is = r.next-is ∙ ap₂ (λ (s : Scope) (x : ℕ). (expr_at d s.tree.now x).end) m.same_around params-end;
+    keeps = record {
+      names = ap₂ (λ (s : Scope) (x : MutBor (List ℕ)). first_names s.tree.now c.n x.now) f k ∙ ap (λ (i : ℕ). first_names (tree_of b) i b.kept.now) h
+          ∙ r.keeps.names
+          ∙ ap₂ (λ (s : Scope) (x : ℕ). held_expr (names_around s) a'.marked (expr_at d s.tree.now x).value (first_names s.tree.now a'.n a'.kept.now)) m.same_around params-end
+          ∙ ap₂ (λ (i : ℕ) (x : MutBor (List ℕ)). held_expr (names_around a.around) a'.marked (expr_at d (tree_of a) (params_at (tree_of a) p).end).value (first_names (tree_of a) i x.now)) m.same_n m.same_kept
+          ∙ ap (λ (ms : List Bool). held_expr (names_around a.around) ms (expr_at d (tree_of a) (params_at (tree_of a) p).end).value (names_kept a)) m.marked;
+      same_around = f ∙ r.keeps.same_around ∙ m.same_around;
+      same_marks = g;
+      same_kept = ap (λ (x : MutBor (List ℕ)). x.ghost_name) k ∙ r.keeps.same_kept ∙ ap (λ (x : MutBor (List ℕ)). x.ghost_name) m.same_kept;
+    };
+  }
+
+-- the body of the lambda from which a walk begins, where the parameters are marked, too: what is kept from a on stands in ps
+module _ (a a' b : Captures) (ms : List Bool) (m : Marks ms a a') (d q o : ℕ) (r : Refers o (expr_at d (tree_of a') q) held_expr a' b) (ps : List ℕ) (e : ps ≡ b.kept.now) where
+  pub body-most : slots_from + b.n ≤ length ps
+  body-most = let k = b.keeping.most in omega (arith, ap length e)
+
+  pub body-names : first_names (tree_of a) b.n ps ≡ held_expr (names_around a.around) a'.marked (expr_at d (tree_of a) q).value (names_kept a)
+  body-names =
+      ap₂ (λ (s : Scope) (x : List ℕ). first_names s.tree.now b.n x) (sym (r.keeps.same_around ∙ m.same_around)) e
+      ∙ r.keeps.names
+      ∙ ap (λ (s : Scope). held_expr (names_around s) a'.marked (expr_at d s.tree.now q).value (first_names s.tree.now a'.n a'.kept.now)) m.same_around
+      ∙ ap₂ (λ (i : ℕ) (x : MutBor (List ℕ)). held_expr (names_around a.around) a'.marked (expr_at d (tree_of a) q).value (first_names (tree_of a) i x.now)) m.same_n m.same_kept
 
 -- ---- expressions, one at a time
 
-pub record ExprsLeft (d : ℕ) (t parent : List ℕ) (ms : List Bool) (ps₀ : List ℕ) (n₀ p₀ k₀ : ℕ) (ps : List ℕ) (n p k : ℕ) : Type 0 where
-  pub reads : ExprsRead d n t p
-  pub end : (exprs_at d n₀ t p₀).end ≡ (exprs_at d n t p).end
-  pub names : held_exprs (slot_names t parent) ms (exprs_at d n₀ t p₀).value (first_names t k₀ ps₀) ≡ held_exprs (slot_names t parent) ms (exprs_at d n t p).value (first_names t k ps)
-  pub keeping : Keeping t parent ps k
-  pub kept : length ps ≡ length ps₀
+pub record ExprsLeft (d n₀ p₀ : ℕ) (a : Captures) (n p : ℕ) (b : Captures) : Type 0 where
+  pub reads : ExprsRead d n (tree_of a) p
+  pub end : (exprs_at d n₀ (tree_of a) p₀).end ≡ (exprs_at d n (tree_of a) p).end
+  pub names : held_exprs (names_around a.around) a.marked (exprs_at d n₀ (tree_of a) p₀).value (names_kept a) ≡ held_exprs (names_around a.around) a.marked (exprs_at d n (tree_of a) p).value (names_kept b)
+  pub same_around : b.around ≡ a.around
+  pub same_marks : b.marked ≡ a.marked
+  pub same_kept : b.kept.ghost_name ≡ a.kept.ghost_name
 
-pub exprs-start : (d : ℕ) (t parent : List ℕ) (ms : List Bool) (ps : List ℕ) (n p k j : ℕ) → n ≡ j → Keeping t parent ps k → ExprsRead d n t p → ExprsLeft d t parent ms ps n p k ps j p k
-exprs-start d t parent ms ps n p k j i a r = subst (λ (x : ℕ). ExprsLeft d t parent ms ps n p k ps x p k) i (record { reads = r; end = refl; names = refl; keeping = a; kept = refl })
+pub exprs-start : (d : ℕ) (a : Captures) (n p j : ℕ) → n ≡ j → ExprsRead d n (tree_of a) p → ExprsLeft d n p a j p a
+exprs-start d a n p j i r = subst (λ (x : ℕ). ExprsLeft d n p a x p a) i (record { reads = r; end = refl; names = refl; same_around = refl; same_marks = refl; same_kept = refl })
 
-module _ (d : ℕ) (t parent : List ℕ) (ms : List Bool) (ps₀ : List ℕ) (n₀ p₀ k₀ : ℕ) (ps : List ℕ) (n p k : ℕ) (l : ExprsLeft d t parent ms ps₀ n₀ p₀ k₀ ps n p k) where
+module _ (d n₀ p₀ : ℕ) (a : Captures) (n p : ℕ) (b : Captures) (l : ExprsLeft d n₀ p₀ a n p b) where
   module _ (h : 0 < n) where
-    pub exprs-head : ExprReads d t p
-    exprs-head = (view-exprs-more d n t p h l.reads).parts.head
+    pub exprs-head : ExprReads d (tree_of b) p
+    exprs-head = subst (λ (s : Scope). ExprReads d s.tree.now p) (sym l.same_around) (view-exprs-more d n (tree_of a) p h l.reads).parts.head
 
-    is-cons : exprs_at d n t p ≡ cons_at d n t p
-    is-cons = (view-exprs-more d n t p h l.reads).is
+    pub exprs-next : (q : ℕ) (c : Captures) → Refers q (expr_at d (tree_of b) p) held_expr b c → (j : ℕ) → n - 1 ≡ j → ExprsLeft d n₀ p₀ a j q c
+    unfolding held_exprs cons_at
+    exprs-next q c r j i =
+        let v = view-exprs-more d n (tree_of a) p h l.reads in
+        let e : q ≡ (expr_at d (tree_of a) p).end = r.next-is ∙ ap (λ (s : Scope). (expr_at d s.tree.now p).end) l.same_around in
+        let k : names_kept c ≡ held_expr (names_around a.around) a.marked (expr_at d (tree_of a) p).value (names_kept b) = step-names held_expr (λ (t : List ℕ). expr_at d t p) a b c (names_kept b) l.same_around l.same_marks r.keeps in
+        subst (λ (x : ℕ). ExprsLeft d n₀ p₀ a x q c) i (record {
+          reads = subst (λ (m : ℕ). ExprsRead d (n - 1) (tree_of a) m) (sym e) v.parts.rest;
+          end = l.end ∙ ap (λ (z : Node Exprs). z.end) v.is ∙ ap (λ (m : ℕ). (exprs_at d (n - 1) (tree_of a) m).end) (sym e);
+          names = l.names ∙ ap (λ (z : Node Exprs). held_exprs (names_around a.around) a.marked z.value (names_kept b)) v.is
+              ∙ sym (ap₂ (λ (m : ℕ) (zs : List Name). held_exprs (names_around a.around) a.marked (exprs_at d (n - 1) (tree_of a) m).value zs) e k);
+          same_around = r.keeps.same_around ∙ l.same_around;
+          same_marks = r.keeps.same_marks ∙ l.same_marks;
+          same_kept = r.keeps.same_kept ∙ l.same_kept;
+        })
 
-    all-names : held_exprs (slot_names t parent) ms (exprs_at d n₀ t p₀).value (first_names t k₀ ps₀)
-        ≡ held_exprs (slot_names t parent) ms (exprs_at d (n - 1) t (expr_at d t p).end).value (held_expr (slot_names t parent) ms (expr_at d t p).value (first_names t k ps))
-    unfolding cons_at held_exprs
-    all-names = l.names ∙ ap (λ (z : Node Exprs). held_exprs (slot_names t parent) ms z.value (first_names t k ps)) is-cons
-
-    all_end : (exprs_at d n₀ t p₀).end ≡ (exprs_at d (n - 1) t (expr_at d t p).end).end
-    unfolding cons_at
-    all_end = l.end ∙ ap (λ (z : Node Exprs). z.end) is-cons
-
-    pub exprs-next : (o : Walked) (ps' : List ℕ) → Referred o t ps' (expr_at d t p).end (held_expr (slot_names t parent) ms (expr_at d t p).value (first_names t k ps)) → length ps' ≡ length ps → (j : ℕ) → n - 1 ≡ j →
-        ExprsLeft d t parent ms ps₀ n₀ p₀ k₀ ps' j o.next o.n
-    exprs-next o ps' g w j i = subst (λ (x : ℕ). ExprsLeft d t parent ms ps₀ n₀ p₀ k₀ ps' x o.next o.n) i (record {
-      reads = subst (λ (m : ℕ). ExprsRead d (n - 1) t m) (sym g.next-is) (view-exprs-more d n t p h l.reads).parts.rest;
-      end = all_end ∙ ap (λ (m : ℕ). (exprs_at d (n - 1) t m).end) (sym g.next-is);
-      names = all-names ∙ ap₂ (λ (m : ℕ) (x : List Name). held_exprs (slot_names t parent) ms (exprs_at d (n - 1) t m).value x) (sym g.next-is) (sym g.names);
-      keeping = keeping-again t parent ps ps' k _ o _ l.keeping g w (held-expr (slot_names t parent) ms (expr_at d t p).value (first_names t k ps) l.keeping.held);
-      kept = w ∙ l.kept;
-    })
-
-  pub exprs-done : (o : Walked) → o.next ≡ p → o.n ≡ k → n ≤ 0 → Referred o t ps (exprs_at d n₀ t p₀).end (held_exprs (slot_names t parent) ms (exprs_at d n₀ t p₀).value (first_names t k₀ ps₀))
+  pub exprs-done : n ≤ 0 → Refers p (exprs_at d n₀ (tree_of a) p₀) held_exprs a b
   unfolding held_exprs
-  exprs-done o a b h = let m = l.keeping.most in let e = view-exprs-none d n t p h l.reads.start in record {
-    next-is = a ∙ sym (l.end ∙ ap (λ (z : Node Exprs). z.end) e);
-    most = omega arith;
-    names = ap (λ (j : ℕ). first_names t j ps) b ∙ sym (l.names ∙ ap (λ (z : Node Exprs). held_exprs (slot_names t parent) ms z.value (first_names t k ps)) e);
-    indexed = subst (λ (j : ℕ). Indexed t j ps) (sym b) l.keeping.indexed;
+  exprs-done h = let v = view-exprs-none d n (tree_of a) p h l.reads.start in record {
+    next-is = sym (l.end ∙ ap (λ (z : Node Exprs). z.end) v);
+    keeps = record { names = sym (l.names ∙ ap (λ (z : Node Exprs). held_exprs (names_around a.around) a.marked z.value (names_kept b)) v); same_around = l.same_around; same_marks = l.same_marks; same_kept = l.same_kept };
   }

@@ -8,11 +8,12 @@ use native.Mathlib.Numerals.{sub-one}
 use lib.ListN.{get_or}
 use Rattle.definitions.specs.Tree.{Expr, Exprs}
 use Rattle.parts.specs.Places.{Node, count_at, name_end, There, names_end, AllThere, ParamsAt, params_at, text_at}
-use Rattle.exprs.specs.ExprAt.{expr_at, exprs_at, ExprReads, ExprsRead, int_at, float_at, string_at, var_at, unary_at, second_at, binary_at, ListAt, list_at, call_at, attribute_at, display_at, pairs_at, dict_at, index_at, lambda_at, cons_at}
-use Rattle.parts.proofs.Laws.{le-or-gt, up}
-use Rattle.parts.proofs.NameLaws.{there-next}
+use Rattle.exprs.specs.ExprAt.{expr_at, exprs_at, ExprReads, ExprsRead, int_at, float_at, string_at, var_at, unary_at, second_at, binary_at, list_at, call_at, attribute_at, display_at, pairs_at, dict_at, index_at, lambda_at, cons_at}
+use Rattle.parts.proofs.NameLaws.{there-first, there-next}
 use Rattle.exprs.proofs.ExprViews.{view-none, view-false, view-true, view-int, view-float, view-string, view-var, view-unary, view-binary, view-call, view-attribute, view-dict, view-index, view-lambda, view-exprs-none, view-exprs-more}
+use Rattle.slots.specs.Steps.{Leads}
 use Rattle.slots.proofs.Kinded.{seen-display}
+use Rattle.slots.proofs.Walks.{along}
 
 pub text-done : (t : List ℕ) (p n : ℕ) → n ≡ count_at t p → p + 2 + n ≡ (text_at t p).end
 unfolding text_at
@@ -31,19 +32,21 @@ ends-none t zero p h = refl
 ends-none t (suc n) p h = absurd (omega arith)
 
 -- the names left from p on end where those from p₀ on do
-pub record NamesLeft (t : List ℕ) (n₀ p₀ n p : ℕ) : Type 0 where
-  pub there : AllThere t n p
-  pub end : names_end t n₀ p₀ ≡ names_end t n p
+record NamesLeft (t : List ℕ) (n₀ p₀ n p : ℕ) : Type 0 where
+  there : AllThere t n p
+  end : names_end t n₀ p₀ ≡ names_end t n p
 
-pub names-left : (t : List ℕ) (p n : ℕ) → ParamsAt t p → n ≡ count_at t p → (j : ℕ) → n ≡ j → NamesLeft t n (p + 2) j (p + 2)
-names-left t p n h e j i = subst (λ (x : ℕ). NamesLeft t n (p + 2) x (p + 2)) i (record { there = rw e h.names; end = refl })
+module _ (t : List ℕ) (a n : ℕ) (h : ParamsAt t a) (e : n ≡ count_at t a) {step : ℕ → ℕ → Type 0} (f : (q o : ℕ) → step q o → o ≡ name_end t q) where
+  names-left : (m q : ℕ) → m ≤ n → Leads step m (a + 2) q → NamesLeft t n (a + 2) (n - m) q
+  names-left = along (NamesLeft t n (a + 2)) n (a + 2) (record { there = rw e h.names; end = refl })
+      (λ m q r i l s. record { there = there-next t m q r (f q r s) i l.there; end = l.end ∙ ends_more t m q r (f q r s) i })
 
-pub names-next : (t : List ℕ) (n₀ p₀ n p e : ℕ) → NamesLeft t n₀ p₀ n p → 0 < n → e ≡ name_end t p → (j : ℕ) → n - 1 ≡ j → NamesLeft t n₀ p₀ j e
-names-next t n₀ p₀ n p e l h k j i = subst (λ (x : ℕ). NamesLeft t n₀ p₀ x e) i (record { there = there-next t n p e k h l.there; end = l.end ∙ ends_more t n p e k h })
+  pub names-head : (m q : ℕ) → m < n → Leads step m (a + 2) q → There t q
+  names-head m q i w = there-first t _ q (omega arith) (names-left m q (omega arith) w).there
 
-pub names-done : (t : List ℕ) (a n₀ n p : ℕ) → NamesLeft t n₀ (a + 2) n p → n ≤ 0 → n₀ ≡ count_at t a → p ≡ (params_at t a).end
-unfolding params_at
-names-done t a n₀ n p l h e = sym (ends-none t n p h) ∙ sym l.end ∙ ap (λ (m : ℕ). names_end t m (a + 2)) e
+  pub names-done : (q : ℕ) → Leads step n (a + 2) q → q ≡ (params_at t a).end
+  unfolding params_at
+  names-done q w = sym (ends-none t (n - n) q (omega arith)) ∙ sym (names-left n q (omega arith) w).end ∙ ap (λ (m : ℕ). names_end t m (a + 2)) e
 
 -- ---- the kinds of expression
 
@@ -62,13 +65,17 @@ module _ (d : ℕ) (t : List ℕ) (p : ℕ) (r : ExprReads d t p) where
     made_of : (y : Node Expr) → expr_at d t p ≡ y → o ≡ y.end → o ≡ (expr_at d t p).end
     made_of y e g = g ∙ sym (ap (λ (z : Node Expr). z.end) e)
 
-    pub int-done : get_or t p 0 ≡ 3 → o ≡ p + 1 + 8 → o ≡ (expr_at d t p).end
+    int-done : get_or t p 0 ≡ 3 → o ≡ p + 1 + 8 → o ≡ (expr_at d t p).end
     unfolding int_at
     int-done e g = made_of _ (view-int d t p r e).is g
 
-    pub float-done : get_or t p 0 ≡ 4 → o ≡ p + 1 + 8 → o ≡ (expr_at d t p).end
+    float-done : get_or t p 0 ≡ 4 → o ≡ p + 1 + 8 → o ≡ (expr_at d t p).end
     unfolding float_at
     float-done e g = made_of _ (view-float d t p r e).is g
+
+    -- an integer or a float
+    pub number-done : (get_or t p 0 ≡ 3) ⊎ (get_or t p 0 ≡ 4) → o ≡ p + 1 + 8 → o ≡ (expr_at d t p).end
+    number-done e g = ⊎_elim (λ (h : get_or t p 0 ≡ 3). int-done h g) (λ (h : get_or t p 0 ≡ 4). float-done h g) e
 
     pub string-done : get_or t p 0 ≡ 5 → o ≡ (text_at t (p + 1)).end → o ≡ (expr_at d t p).end
     unfolding string_at
@@ -110,63 +117,26 @@ module _ (d : ℕ) (t : List ℕ) (p : ℕ) (r : ExprReads d t p) where
     unfolding lambda_at
     lambda-done e g = made_of _ (view-lambda d t p r e).is g
 
-  -- an integer or a float, by the bounds of its kind
-  pub number-done : 3 ≤ get_or t p 0 → get_or t p 0 < 5 → p + 9 ≡ (expr_at d t p).end
-  number-done low high = ⊎_elim (λ (z : 4 ≤ get_or t p 0). float-done (p + 9) (omega arith) (omega arith)) (λ (z : get_or t p 0 < 4). int-done (p + 9) (omega arith) (omega arith)) (le-or-gt 4 (get_or t p 0))
-
--- a kind that is none of the others is one of the first three
-pub plain-kinds : (k : ℕ) → k < 18 → (k ≡ 3 → ⊥) → (k ≡ 4 → ⊥) → (k ≡ 5 → ⊥) → (k ≡ 6 → ⊥) → (k ≡ 7 → ⊥) → (k ≡ 8 → ⊥) → (k ≡ 9 → ⊥) → (k ≡ 10 → ⊥) → (k ≡ 11 → ⊥) → (k ≡ 12 → ⊥) → (k ≡ 13 → ⊥) →
-    (k ≡ 14 → ⊥) → (k ≡ 15 → ⊥) → (k ≡ 16 → ⊥) → (k ≡ 17 → ⊥) → k < 3
-plain-kinds k h a b c d e f g i j l m n o q s = ⊎_elim
-    (λ (z : 3 ≤ k). absurd (let x : 18 ≤ k = up 17 k (up 16 k (up 15 k (up 14 k (up 13 k (up 12 k (up 11 k (up 10 k (up 9 k (up 8 k (up 7 k (up 6 k (up 5 k (up 4 k (up 3 k z a) b) c) d) e) f) g) i) j) l) m) n) o) q) s in omega arith))
-    (λ (z : k < 3). z)
-    (le-or-gt 3 k)
-
--- a part at the position where the one before it ended
-module _ (t : List ℕ) (p q : ℕ) (e : p ≡ q) where
-  pub moved-name : There t q → There t p
-  moved-name h = subst (λ (m : ℕ). There t m) (sym e) h
-
-  pub name-after : (o : ℕ) → o ≡ name_end t p → o ≡ name_end t q
-  name-after o g = g ∙ ap (name_end t) e
-
-  pub moved-params : ParamsAt t q → ParamsAt t p
-  moved-params h = subst (λ (m : ℕ). ParamsAt t m) (sym e) h
-
-module _ (d : ℕ) (t : List ℕ) (p q : ℕ) (e : p ≡ q) where
-  pub moved-expr : ExprReads d t q → ExprReads d t p
-  moved-expr h = subst (λ (m : ℕ). ExprReads d t m) (sym e) h
-
-  pub expr-after : (o : ℕ) → o ≡ (expr_at d t p).end → o ≡ (expr_at d t q).end
-  expr-after o g = g ∙ ap (λ (m : ℕ). (expr_at d t m).end) e
-
-  pub list-after : (o : ℕ) → o ≡ (list_at d t p).end → o ≡ (list_at d t q).end
-  list-after o g = g ∙ ap (λ (m : ℕ). (list_at d t m).end) e
-
-  pub moved-list : ListAt d t q → ListAt d t p
-  moved-list h = subst (λ (m : ℕ). ListAt d t m) (sym e) h
-
 -- ---- expressions, one at a time
 
 -- those left from p on end where those from p₀ on do
-pub record ExprsLeft (d : ℕ) (t : List ℕ) (n₀ p₀ n p : ℕ) : Type 0 where
-  pub reads : ExprsRead d n t p
-  pub end : (exprs_at d n₀ t p₀).end ≡ (exprs_at d n t p).end
+record ExprsLeft (d : ℕ) (t : List ℕ) (n₀ p₀ n p : ℕ) : Type 0 where
+  reads : ExprsRead d n t p
+  end : (exprs_at d n₀ t p₀).end ≡ (exprs_at d n t p).end
 
-pub exprs-begun : (d : ℕ) (t : List ℕ) (n p j : ℕ) → n ≡ j → ExprsRead d n t p → ExprsLeft d t n p j p
-exprs-begun d t n p j i r = subst (λ (x : ℕ). ExprsLeft d t n p x p) i (record { reads = r; end = refl })
+exprs-next : (d : ℕ) (t : List ℕ) (n₀ p₀ n p e : ℕ) → 0 < n → ExprsLeft d t n₀ p₀ n p → e ≡ (expr_at d t p).end → ExprsLeft d t n₀ p₀ (n - 1) e
+unfolding cons_at
+exprs-next d t n₀ p₀ n p e h l k = let v = view-exprs-more d n t p h l.reads in record {
+  reads = subst (λ (m : ℕ). ExprsRead d (n - 1) t m) (sym k) v.parts.rest;
+  end = l.end ∙ ap (λ (z : Node Exprs). z.end) v.is ∙ ap (λ (m : ℕ). (exprs_at d (n - 1) t m).end) (sym k);
+}
 
-module _ (d : ℕ) (t : List ℕ) (n₀ p₀ n p : ℕ) (l : ExprsLeft d t n₀ p₀ n p) where
-  module _ (h : 0 < n) where
-    pub exprs-head : ExprReads d t p
-    exprs-head = (view-exprs-more d n t p h l.reads).parts.head
+module _ (d : ℕ) (t : List ℕ) (n p : ℕ) (r : ExprsRead d n t p) {step : ℕ → ℕ → Type 0} (f : (q o : ℕ) → step q o → o ≡ (expr_at d t q).end) where
+  exprs-left : (m q : ℕ) → m ≤ n → Leads step m p q → ExprsLeft d t n p (n - m) q
+  exprs-left = along (ExprsLeft d t n p) n p (record { reads = r; end = refl }) (λ m q o i l s. exprs-next d t n p m q o i l (f q o s))
 
-    pub exprs-next : (e : ℕ) → e ≡ (expr_at d t p).end → (m : ℕ) → n - 1 ≡ m → ExprsLeft d t n₀ p₀ m e
-    unfolding cons_at
-    exprs-next e k m i = let v = view-exprs-more d n t p h l.reads in subst (λ (x : ℕ). ExprsLeft d t n₀ p₀ x e) i (record {
-      reads = subst (λ (m : ℕ). ExprsRead d (n - 1) t m) (sym k) v.parts.rest;
-      end = l.end ∙ ap (λ (z : Node Exprs). z.end) v.is ∙ ap (λ (m : ℕ). (exprs_at d (n - 1) t m).end) (sym k);
-    })
+  pub exprs-head : (m q : ℕ) → m < n → Leads step m p q → ExprReads d t q
+  exprs-head m q i w = (view-exprs-more d (n - m) t q (omega arith) (exprs-left m q (omega arith) w).reads).parts.head
 
-  pub exprs-done : n ≤ 0 → p ≡ (exprs_at d n₀ t p₀).end
-  exprs-done h = sym (l.end ∙ ap (λ (z : Node Exprs). z.end) (view-exprs-none d n t p h l.reads.start))
+  pub exprs-done : (q : ℕ) → Leads step n p q → q ≡ (exprs_at d n t p).end
+  exprs-done q w = let l = exprs-left n q (omega arith) w in sym (l.end ∙ ap (λ (z : Node Exprs). z.end) (view-exprs-none d (n - n) t q (omega arith) l.reads.start))

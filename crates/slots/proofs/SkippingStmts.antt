@@ -2,17 +2,18 @@
 use Prim.Native.Nat.{ℕ, zero, suc, ◌+◌, ◌-◌, ◌<◌, ◌≤◌}
 use mathlib.Core.Path.{◌≡◌, refl, sym, ap, ◌∙◌, subst}
 use mathlib.Core.List.{List}
-use mathlib.Core.Logic.{◌⊎◌, inl, inr, ⊎_elim}
+use mathlib.Core.Logic.{◌⊎◌, ⊎_elim}
 use native.Mathlib.Omega.{arith}
 use lib.ListN.{length, get_or}
 use Rattle.definitions.specs.Tree.{Stmt, Block, Branches, Methods, Attribute}
-use Rattle.parts.specs.Places.{Node, count_at, name_end, There, params_at}
+use Rattle.parts.specs.Places.{Node, count_at, name_end, There}
 use Rattle.exprs.specs.ExprAt.{expr_at, ExprReads, second_at}
 use Rattle.tree.specs.StmtAt.{stmt_at, block_at, stmts_at, branches_at, methods_at, attributes_at, values_at, StmtReads, BlockReads, StmtsRead, BranchesRead, MethodsRead, AttributesRead, ValuesRead}
 use Rattle.tree.specs.StmtAt.{expr_stmt_at, return_at, assign_at, BranchAt, body_at, IfAt, elifs_at, if_at, while_at, for_at, when_at, else_at, DefAt, def_block_at, def_at, method_at, ClassAt, class_methods_at, class_at, value_at, cons_at}
-use Rattle.parts.proofs.Laws.{le-or-gt, up}
-use Rattle.tree.proofs.StmtViews.{stmt-known, view-break, view-continue, view-pass, view-expr, view-return, view-assign, view-if, view-while, view-for, view-def, view-class}
+use Rattle.tree.proofs.StmtViews.{view-break, view-continue, view-pass, view-expr, view-return, view-assign, view-if, view-while, view-for, view-def, view-class}
 use Rattle.tree.proofs.StmtViews.{view-block, view-stmts-none, view-stmts-more, view-branches-more, else-known, view-done, view-else, view-methods-none, view-methods-more, view-attributes, view-values-none, view-values-more}
+use Rattle.slots.specs.Steps.{Leads}
+use Rattle.slots.proofs.Walks.{along}
 
 -- ---- the kinds of statement
 
@@ -24,16 +25,6 @@ module _ (d : ℕ) (t : List ℕ) (p : ℕ) (r : StmtReads d t p) where
   simple-kind (suc (suc (suc k))) e h = absurd (omega arith)
 
   -- Break, Continue and Pass
-  pub simple-done : (get_or t p 0 ≡ 3 → ⊥) → (get_or t p 0 ≡ 4 → ⊥) → (get_or t p 0 ≡ 5 → ⊥) → (get_or t p 0 ≡ 6 → ⊥) → (get_or t p 0 ≡ 7 → ⊥) → (get_or t p 0 ≡ 8 → ⊥) → (get_or t p 0 ≡ 9 → ⊥) → (get_or t p 0 ≡ 10 → ⊥) →
-      p + 1 ≡ (stmt_at d t p).end
-  simple-done a b c f g h i j = simple-kind (get_or t p 0) refl (below (get_or t p 0) (stmt-known d t p r) a b c f g h i j)
-    where
-      below : (k : ℕ) → k < 11 → (k ≡ 3 → ⊥) → (k ≡ 4 → ⊥) → (k ≡ 5 → ⊥) → (k ≡ 6 → ⊥) → (k ≡ 7 → ⊥) → (k ≡ 8 → ⊥) → (k ≡ 9 → ⊥) → (k ≡ 10 → ⊥) → k < 3
-      below k x a b c f g h i j = ⊎_elim
-          (λ (z : 3 ≤ k). absurd (let y : 11 ≤ k = up 10 k (up 9 k (up 8 k (up 7 k (up 6 k (up 5 k (up 4 k (up 3 k z a) b) c) f) g) h) i) j in omega arith))
-          (λ (z : k < 3). z)
-          (le-or-gt 3 k)
-
   pub short-done : get_or t p 0 < 3 → p + 1 ≡ (stmt_at d t p).end
   short-done h = simple-kind (get_or t p 0) refl h
 
@@ -41,13 +32,16 @@ module _ (d : ℕ) (t : List ℕ) (p : ℕ) (r : StmtReads d t p) where
     made_of : (y : Node Stmt) → stmt_at d t p ≡ y → o ≡ y.end → o ≡ (stmt_at d t p).end
     made_of y e g = g ∙ sym (ap (λ (z : Node Stmt). z.end) e)
 
-    pub expr-done : get_or t p 0 ≡ 3 → o ≡ (expr_at (d - 1) t (p + 1)).end → o ≡ (stmt_at d t p).end
+    expr-done : get_or t p 0 ≡ 3 → o ≡ (expr_at (d - 1) t (p + 1)).end → o ≡ (stmt_at d t p).end
     unfolding expr_stmt_at
     expr-done e g = made_of _ (view-expr d t p r e).is g
 
-    pub return-done : get_or t p 0 ≡ 4 → o ≡ (expr_at (d - 1) t (p + 1)).end → o ≡ (stmt_at d t p).end
+    return-done : get_or t p 0 ≡ 4 → o ≡ (expr_at (d - 1) t (p + 1)).end → o ≡ (stmt_at d t p).end
     unfolding return_at
     return-done e g = made_of _ (view-return d t p r e).is g
+
+    pub value-done : (get_or t p 0 ≡ 3) ⊎ (get_or t p 0 ≡ 4) → o ≡ (expr_at (d - 1) t (p + 1)).end → o ≡ (stmt_at d t p).end
+    value-done e g = ⊎_elim (λ (h : get_or t p 0 ≡ 3). expr-done h g) (λ (h : get_or t p 0 ≡ 4). return-done h g) e
 
     pub assign-done : get_or t p 0 ≡ 5 → o ≡ (second_at (d - 1) t (p + 1)).end → o ≡ (stmt_at d t p).end
     unfolding assign_at
@@ -73,107 +67,65 @@ module _ (d : ℕ) (t : List ℕ) (p : ℕ) (r : StmtReads d t p) where
     unfolding class_at
     class-done e g = made_of _ (view-class d t p r e).is g
 
-  -- an expression or a return, by the bounds of its kind
-  module _ (low : 3 ≤ get_or t p 0) (high : get_or t p 0 < 5) where
-    expr-or-return : (get_or t p 0 ≡ 3) ⊎ (get_or t p 0 ≡ 4)
-    expr-or-return = ⊎_elim (λ (z : 4 ≤ get_or t p 0). inr (omega arith)) (λ (z : get_or t p 0 < 4). inl (omega arith)) (le-or-gt 4 (get_or t p 0))
-
-    pub value-reads : ExprReads (d - 1) t (p + 1)
-    value-reads = ⊎_elim (λ (e : get_or t p 0 ≡ 3). (view-expr d t p r e).parts) (λ (e : get_or t p 0 ≡ 4). (view-return d t p r e).parts) expr-or-return
-
-    pub value-done : (o : ℕ) → o ≡ (expr_at (d - 1) t (p + 1)).end → o ≡ (stmt_at d t p).end
-    value-done o g = ⊎_elim (λ (e : get_or t p 0 ≡ 3). expr-done o e g) (λ (e : get_or t p 0 ≡ 4). return-done o e g) expr-or-return
-
-  -- a kind from 5 on that is no assignment and holds no block of the function
-  pub def-or-class : 5 ≤ get_or t p 0 → (get_or t p 0 ≡ 5 → ⊥) → (get_or t p 0 ≡ 6 → ⊥) → (get_or t p 0 ≡ 7 → ⊥) → (get_or t p 0 ≡ 8 → ⊥) → (get_or t p 0 ≡ 9) ⊎ (get_or t p 0 ≡ 10)
-  def-or-class low a b c f = let k = stmt-known d t p r in
-      ⊎_elim (λ (z : 10 ≤ get_or t p 0). inr (omega arith)) (λ (z : get_or t p 0 < 10). inl (omega arith)) (le-or-gt 10 (get_or t p 0))
-
-  pub named-inside : (get_or t p 0 ≡ 9) ⊎ (get_or t p 0 ≡ 10) → p + 1 < length t
-  named-inside = ⊎_elim (λ (e : get_or t p 0 ≡ 9). (view-def d t p r e).parts.name.byte) (λ (e : get_or t p 0 ≡ 10). (view-class d t p r e).parts.name.byte)
-
--- a block or branch at the position where the part before it ended
-module _ (d : ℕ) (t : List ℕ) (p q : ℕ) (e : p ≡ q) where
-  pub moved-block : BlockReads d t q → BlockReads d t p
-  moved-block h = subst (λ (m : ℕ). BlockReads d t m) (sym e) h
-
-  pub block-after : (o : ℕ) → o ≡ (block_at d t p).end → o ≡ (block_at d t q).end
-  block-after o g = g ∙ ap (λ (m : ℕ). (block_at d t m).end) e
-
-  pub moved-branch : BranchAt d t q → BranchAt d t p
-  moved-branch h = subst (λ (m : ℕ). BranchAt d t m) (sym e) h
-
-  pub branch-after : (o : ℕ) → o ≡ (body_at d t p).end → o ≡ (body_at d t q).end
-  branch-after o g = g ∙ ap (λ (m : ℕ). (body_at d t m).end) e
-
--- a def's block, after its name and its parameters
-module _ (d : ℕ) (t : List ℕ) (a p q : ℕ) (e : p ≡ name_end t a) (f : q ≡ (params_at t p).end) where
-  def-start : q ≡ (params_at t (name_end t a)).end
-  def-start = f ∙ ap (λ (m : ℕ). (params_at t m).end) e
-
-  pub def-block : DefAt d t a → BlockReads d t q
-  def-block h = moved-block d t _ _ def-start h.block
-
-  pub def-after : (o : ℕ) → o ≡ (block_at d t q).end → o ≡ (def_block_at d t a).end
-  def-after o g = block-after d t _ _ def-start o g
+  pub value-reads : (get_or t p 0 ≡ 3) ⊎ (get_or t p 0 ≡ 4) → ExprReads (d - 1) t (p + 1)
+  value-reads = ⊎_elim (λ (e : get_or t p 0 ≡ 3). (view-expr d t p r e).parts) (λ (e : get_or t p 0 ≡ 4). (view-return d t p r e).parts)
 
 -- ---- blocks, one statement at a time
 
-pub record StmtsLeft (d : ℕ) (t : List ℕ) (n₀ p₀ n p : ℕ) : Type 0 where
-  pub reads : StmtsRead d n t p
-  pub end : (stmts_at d n₀ t p₀).end ≡ (stmts_at d n t p).end
+record StmtsLeft (d : ℕ) (t : List ℕ) (n₀ p₀ n p : ℕ) : Type 0 where
+  reads : StmtsRead d n t p
+  end : (stmts_at d n₀ t p₀).end ≡ (stmts_at d n t p).end
 
-pub stmts-start : (d : ℕ) (t : List ℕ) (a n : ℕ) → BlockReads d t a → n ≡ count_at t a → (j : ℕ) → n ≡ j → StmtsLeft d t n (a + 2) j (a + 2)
-stmts-start d t a n r e j i = subst (λ (x : ℕ). StmtsLeft d t n (a + 2) x (a + 2)) i (record { reads = subst (λ (m : ℕ). StmtsRead d m t (a + 2)) (sym e) (view-block d t a r).parts.statements; end = refl })
+stmts-next : (d : ℕ) (t : List ℕ) (n₀ p₀ n p e : ℕ) → 0 < n → StmtsLeft d t n₀ p₀ n p → e ≡ (stmt_at d t p).end → StmtsLeft d t n₀ p₀ (n - 1) e
+unfolding cons_at
+stmts-next d t n₀ p₀ n p e h l k = let v = view-stmts-more d n t p h l.reads in record {
+  reads = subst (λ (m : ℕ). StmtsRead d (n - 1) t m) (sym k) v.parts.rest;
+  end = l.end ∙ ap (λ (z : Node Block). z.end) v.is ∙ ap (λ (m : ℕ). (stmts_at d (n - 1) t m).end) (sym k);
+}
 
-module _ (d : ℕ) (t : List ℕ) (n₀ p₀ n p : ℕ) (l : StmtsLeft d t n₀ p₀ n p) where
-  module _ (h : 0 < n) where
-    pub stmts-head : StmtReads d t p
-    stmts-head = (view-stmts-more d n t p h l.reads).parts.head
+module _ (d : ℕ) (t : List ℕ) (a n : ℕ) (r : BlockReads d t a) (e : n ≡ count_at t a) {step : ℕ → ℕ → Type 0} (f : (q o : ℕ) → step q o → o ≡ (stmt_at d t q).end) where
+  stmts-left : (m q : ℕ) → m ≤ n → Leads step m (a + 2) q → StmtsLeft d t n (a + 2) (n - m) q
+  stmts-left = along (StmtsLeft d t n (a + 2)) n (a + 2)
+      (record { reads = subst (λ (m : ℕ). StmtsRead d m t (a + 2)) (sym e) (view-block d t a r).parts.statements; end = refl })
+      (λ m q o i l s. stmts-next d t n (a + 2) m q o i l (f q o s))
 
-    pub stmts-next : (e : ℕ) → e ≡ (stmt_at d t p).end → (m : ℕ) → n - 1 ≡ m → StmtsLeft d t n₀ p₀ m e
-    unfolding cons_at
-    stmts-next e k m i = let v = view-stmts-more d n t p h l.reads in subst (λ (x : ℕ). StmtsLeft d t n₀ p₀ x e) i (record {
-      reads = subst (λ (m : ℕ). StmtsRead d (n - 1) t m) (sym k) v.parts.rest;
-      end = l.end ∙ ap (λ (z : Node Block). z.end) v.is ∙ ap (λ (m : ℕ). (stmts_at d (n - 1) t m).end) (sym k);
-    })
+  pub stmts-head : (m q : ℕ) → m < n → Leads step m (a + 2) q → StmtReads d t q
+  stmts-head m q i w = (view-stmts-more d (n - m) t q (omega arith) (stmts-left m q (omega arith) w).reads).parts.head
 
-  pub stmts-done : (a : ℕ) → BlockReads d t a → n₀ ≡ count_at t a → p₀ ≡ a + 2 → n ≤ 0 → p ≡ (block_at d t a).end
-  stmts-done a r e f h =
-      sym (l.end ∙ ap (λ (z : Node Block). z.end) (view-stmts-none d n t p h l.reads.start))
-      ∙ ap (λ (m : ℕ). (stmts_at d m t p₀).end) e ∙ ap (λ (m : ℕ). (stmts_at d (count_at t a) t m).end) f
+  pub stmts-done : (q : ℕ) → Leads step n (a + 2) q → q ≡ (block_at d t a).end
+  stmts-done q w = let l = stmts-left n q (omega arith) w in
+      sym (l.end ∙ ap (λ (z : Node Block). z.end) (view-stmts-none d (n - n) t q (omega arith) l.reads.start))
+      ∙ ap (λ (m : ℕ). (stmts_at d m t (a + 2)).end) e
       ∙ sym (ap (λ (z : Node Block). z.end) (view-block d t a r).is)
 
 -- ---- branches, one at a time
 
-pub record BranchesLeft (d : ℕ) (t : List ℕ) (n₀ p₀ n p : ℕ) : Type 0 where
-  pub reads : BranchesRead d n t p
-  pub end : (branches_at d n₀ t p₀).end ≡ (branches_at d n t p).end
+record BranchesLeft (d : ℕ) (t : List ℕ) (n₀ p₀ n p : ℕ) : Type 0 where
+  reads : BranchesRead d n t p
+  end : (branches_at d n₀ t p₀).end ≡ (branches_at d n t p).end
 
-pub branches-begun : (d : ℕ) (t : List ℕ) (n p j : ℕ) → n ≡ j → BranchesRead d n t p → BranchesLeft d t n p j p
-branches-begun d t n p j i r = subst (λ (x : ℕ). BranchesLeft d t n p x p) i (record { reads = r; end = refl })
+branches-next : (d : ℕ) (t : List ℕ) (n₀ p₀ n p e : ℕ) → 0 < n → BranchesLeft d t n₀ p₀ n p → e ≡ (body_at d t p).end → BranchesLeft d t n₀ p₀ (n - 1) e
+unfolding when_at
+branches-next d t n₀ p₀ n p e h l k = let v = view-branches-more d t p n h l.reads in record {
+  reads = subst (λ (m : ℕ). BranchesRead d (n - 1) t m) (sym k) v.parts.rest;
+  end = l.end ∙ ap (λ (z : Node Branches). z.end) v.is ∙ ap (λ (m : ℕ). (branches_at d (n - 1) t m).end) (sym k);
+}
 
-module _ (d : ℕ) (t : List ℕ) (n₀ p₀ n p : ℕ) (l : BranchesLeft d t n₀ p₀ n p) where
-  module _ (h : 0 < n) where
-    pub branches-head : BranchAt d t p
-    branches-head = (view-branches-more d t p n h l.reads).parts.first
+module _ (d : ℕ) (t : List ℕ) (n p : ℕ) (r : BranchesRead d n t p) {step : ℕ → ℕ → Type 0} (f : (q o : ℕ) → step q o → o ≡ (body_at d t q).end) where
+  branches-left : (m q : ℕ) → m ≤ n → Leads step m p q → BranchesLeft d t n p (n - m) q
+  branches-left = along (BranchesLeft d t n p) n p (record { reads = r; end = refl }) (λ m q o i l s. branches-next d t n p m q o i l (f q o s))
 
-    pub branches-next : (e : ℕ) → e ≡ (body_at d t p).end → (m : ℕ) → n - 1 ≡ m → BranchesLeft d t n₀ p₀ m e
-    unfolding when_at
-    branches-next e k m i = let v = view-branches-more d t p n h l.reads in subst (λ (x : ℕ). BranchesLeft d t n₀ p₀ x e) i (record {
-      reads = subst (λ (m : ℕ). BranchesRead d (n - 1) t m) (sym k) v.parts.rest;
-      end = l.end ∙ ap (λ (z : Node Branches). z.end) v.is ∙ ap (λ (m : ℕ). (branches_at d (n - 1) t m).end) (sym k);
-    })
+  pub branches-head : (m q : ℕ) → m < n → Leads step m p q → BranchAt d t q
+  branches-head m q i w = (view-branches-more d t q (n - m) (omega arith) (branches-left m q (omega arith) w).reads).parts.first
 
-  module _ (h : n ≤ 0) where
-    is_none : n ≡ 0
-    is_none = omega arith
+  none-left : n - n ≡ 0
+  none-left = omega arith
 
-    pub branches-last : BranchesRead d 0 t p
-    branches-last = subst (λ (m : ℕ). BranchesRead d m t p) is_none l.reads
+  pub branches-last : (q : ℕ) → Leads step n p q → BranchesRead d 0 t q
+  branches-last q w = subst (λ (m : ℕ). BranchesRead d m t q) none-left (branches-left n q (omega arith) w).reads
 
-    pub branches-done : (o : ℕ) → o ≡ (branches_at d 0 t p).end → o ≡ (branches_at d n₀ t p₀).end
-    branches-done o g = g ∙ sym (l.end ∙ ap (λ (m : ℕ). (branches_at d m t p).end) is_none)
+  pub branches-done : (q o : ℕ) → Leads step n p q → o ≡ (branches_at d 0 t q).end → o ≡ (branches_at d n t p).end
+  branches-done q o w g = g ∙ sym ((branches-left n q (omega arith) w).end ∙ ap (λ (m : ℕ). (branches_at d m t q).end) none-left)
 
 module _ (d : ℕ) (t : List ℕ) (p : ℕ) (r : BranchesRead d 0 t p) where
   pub else-none : get_or t p 0 ≡ 0 → p + 1 ≡ (branches_at d 0 t p).end
@@ -207,64 +159,62 @@ module _ (d : ℕ) (t : List ℕ) (a p : ℕ) (e : p ≡ (body_at d t a).end) (i
 
 -- ---- methods, one at a time
 
-pub record MethodsLeft (d : ℕ) (t : List ℕ) (n₀ p₀ n p : ℕ) : Type 0 where
-  pub reads : MethodsRead d n t p
-  pub end : (methods_at d n₀ t p₀).end ≡ (methods_at d n t p).end
+record MethodsLeft (d : ℕ) (t : List ℕ) (n₀ p₀ n p : ℕ) : Type 0 where
+  reads : MethodsRead d n t p
+  end : (methods_at d n₀ t p₀).end ≡ (methods_at d n t p).end
 
-pub methods-begun : (d : ℕ) (t : List ℕ) (n p j : ℕ) → n ≡ j → MethodsRead d n t p → MethodsLeft d t n p j p
-methods-begun d t n p j i r = subst (λ (x : ℕ). MethodsLeft d t n p x p) i (record { reads = r; end = refl })
+methods-next : (d : ℕ) (t : List ℕ) (n₀ p₀ n p e : ℕ) → 0 < n → MethodsLeft d t n₀ p₀ n p → e ≡ (def_block_at d t p).end → MethodsLeft d t n₀ p₀ (n - 1) e
+unfolding method_at
+methods-next d t n₀ p₀ n p e h l k = let v = view-methods-more d t p n h l.reads in record {
+  reads = subst (λ (m : ℕ). MethodsRead d (n - 1) t m) (sym k) v.parts.rest;
+  end = l.end ∙ ap (λ (z : Node Methods). z.end) v.is ∙ ap (λ (m : ℕ). (methods_at d (n - 1) t m).end) (sym k);
+}
 
-module _ (d : ℕ) (t : List ℕ) (n₀ p₀ n p : ℕ) (l : MethodsLeft d t n₀ p₀ n p) where
-  module _ (h : 0 < n) where
-    pub methods-head : DefAt d t p
-    methods-head = (view-methods-more d t p n h l.reads).parts.first
+module _ (d : ℕ) (t : List ℕ) (n p : ℕ) (r : MethodsRead d n t p) {step : ℕ → ℕ → Type 0} (f : (q o : ℕ) → step q o → o ≡ (def_block_at d t q).end) where
+  methods-left : (m q : ℕ) → m ≤ n → Leads step m p q → MethodsLeft d t n p (n - m) q
+  methods-left = along (MethodsLeft d t n p) n p (record { reads = r; end = refl }) (λ m q o i l s. methods-next d t n p m q o i l (f q o s))
 
-    pub methods-next : (e : ℕ) → e ≡ (def_block_at d t p).end → (m : ℕ) → n - 1 ≡ m → MethodsLeft d t n₀ p₀ m e
-    unfolding method_at
-    methods-next e k m i = let v = view-methods-more d t p n h l.reads in subst (λ (x : ℕ). MethodsLeft d t n₀ p₀ x e) i (record {
-      reads = subst (λ (m : ℕ). MethodsRead d (n - 1) t m) (sym k) v.parts.rest;
-      end = l.end ∙ ap (λ (z : Node Methods). z.end) v.is ∙ ap (λ (m : ℕ). (methods_at d (n - 1) t m).end) (sym k);
-    })
+  pub methods-head : (m q : ℕ) → m < n → Leads step m p q → DefAt d t q
+  methods-head m q i w = (view-methods-more d t q (n - m) (omega arith) (methods-left m q (omega arith) w).reads).parts.first
 
-  pub methods-done : n ≤ 0 → p ≡ (methods_at d n₀ t p₀).end
-  methods-done h = sym (l.end ∙ ap (λ (z : Node Methods). z.end) (view-methods-none d t p n h l.reads.start))
+  pub methods-done : (q : ℕ) → Leads step n p q → q ≡ (methods_at d n t p).end
+  methods-done q w = let l = methods-left n q (omega arith) w in sym (l.end ∙ ap (λ (z : Node Methods). z.end) (view-methods-none d t q (n - n) (omega arith) l.reads.start))
 
--- ---- attributes, one at a time
+-- ---- attributes, one at a time: a name, and a value where it ends
 
-pub record ValuesLeft (d : ℕ) (t : List ℕ) (n₀ p₀ n p : ℕ) : Type 0 where
-  pub reads : ValuesRead d n t p
-  pub end : (values_at d n₀ t p₀).end ≡ (values_at d n t p).end
+record ValuesLeft (d : ℕ) (t : List ℕ) (n₀ p₀ n p : ℕ) : Type 0 where
+  reads : ValuesRead d n t p
+  end : (values_at d n₀ t p₀).end ≡ (values_at d n t p).end
 
-pub values-start : (d : ℕ) (t : List ℕ) (a n : ℕ) → AttributesRead d t a → n ≡ count_at t a → (j : ℕ) → n ≡ j → ValuesLeft d t n (a + 2) j (a + 2)
-values-start d t a n r e j i = subst (λ (x : ℕ). ValuesLeft d t n (a + 2) x (a + 2)) i (record { reads = subst (λ (m : ℕ). ValuesRead d m t (a + 2)) (sym e) (view-attributes d t a r).parts.values; end = refl })
+values-next : (d : ℕ) (t : List ℕ) (n₀ p₀ n p e : ℕ) → 0 < n → ValuesLeft d t n₀ p₀ n p → e ≡ (expr_at d t (name_end t p)).end → ValuesLeft d t n₀ p₀ (n - 1) e
+unfolding value_at
+values-next d t n₀ p₀ n p e h l k = let v = view-values-more d t p n h l.reads in record {
+  reads = subst (λ (m : ℕ). ValuesRead d (n - 1) t m) (sym k) v.parts.rest;
+  end = l.end ∙ ap (λ (z : Node (List Attribute)). z.end) v.is ∙ ap (λ (m : ℕ). (values_at d (n - 1) t m).end) (sym k);
+}
 
-module _ (d : ℕ) (t : List ℕ) (n₀ p₀ n p : ℕ) (l : ValuesLeft d t n₀ p₀ n p) where
-  module _ (h : 0 < n) where
-    pub values-name : There t p
-    values-name = (view-values-more d t p n h l.reads).parts.name
+module _ (d : ℕ) (t : List ℕ) (a n : ℕ) (r : AttributesRead d t a) (e : n ≡ count_at t a) {step : ℕ → ℕ → Type 0} (f : (q o : ℕ) → step q o → o ≡ (expr_at d t (name_end t q)).end) where
+  values-left : (m q : ℕ) → m ≤ n → Leads step m (a + 2) q → ValuesLeft d t n (a + 2) (n - m) q
+  values-left = along (ValuesLeft d t n (a + 2)) n (a + 2)
+      (record { reads = subst (λ (m : ℕ). ValuesRead d m t (a + 2)) (sym e) (view-attributes d t a r).parts.values; end = refl })
+      (λ m q o i l s. values-next d t n (a + 2) m q o i l (f q o s))
 
-    pub values-value : (q : ℕ) → q ≡ name_end t p → ExprReads d t q
-    values-value q k = subst (λ (m : ℕ). ExprReads d t m) (sym k) (view-values-more d t p n h l.reads).parts.value
+  module _ (m q : ℕ) (i : m < n) (w : Leads step m (a + 2) q) where
+    pub values-name : There t q
+    values-name = (view-values-more d t q (n - m) (omega arith) (values-left m q (omega arith) w).reads).parts.name
 
-    pub values-next : (q e : ℕ) → q ≡ name_end t p → e ≡ (expr_at d t q).end → (m : ℕ) → n - 1 ≡ m → ValuesLeft d t n₀ p₀ m e
-    unfolding value_at
-    values-next q e j k m i = let v = view-values-more d t p n h l.reads in let x : e ≡ (expr_at d t (name_end t p)).end = k ∙ ap (λ (m : ℕ). (expr_at d t m).end) j in subst (λ (x : ℕ). ValuesLeft d t n₀ p₀ x e) i (record {
-      reads = subst (λ (m : ℕ). ValuesRead d (n - 1) t m) (sym x) v.parts.rest;
-      end = l.end ∙ ap (λ (z : Node (List Attribute)). z.end) v.is ∙ ap (λ (m : ℕ). (values_at d (n - 1) t m).end) (sym x);
-    })
+    pub values-value : ExprReads d t (name_end t q)
+    values-value = (view-values-more d t q (n - m) (omega arith) (values-left m q (omega arith) w).reads).parts.value
 
-  pub values-done : (a : ℕ) → AttributesRead d t a → n₀ ≡ count_at t a → p₀ ≡ a + 2 → n ≤ 0 → p ≡ (attributes_at d t a).end
-  values-done a r e f h =
-      sym (l.end ∙ ap (λ (z : Node (List Attribute)). z.end) (view-values-none d t p n h l.reads.start))
-      ∙ ap (λ (m : ℕ). (values_at d m t p₀).end) e ∙ ap (λ (m : ℕ). (values_at d (count_at t a) t m).end) f
+  pub values-done : (q : ℕ) → Leads step n (a + 2) q → q ≡ (attributes_at d t a).end
+  values-done q w = let l = values-left n q (omega arith) w in
+      sym (l.end ∙ ap (λ (z : Node (List Attribute)). z.end) (view-values-none d t q (n - n) (omega arith) l.reads.start))
+      ∙ ap (λ (m : ℕ). (values_at d m t (a + 2)).end) e
       ∙ sym (ap (λ (z : Node (List Attribute)). z.end) (view-attributes d t a r).is)
 
 -- ---- a class, whose name ends at p and whose n methods at q
 
 module _ (d : ℕ) (t : List ℕ) (a p : ℕ) (e : p ≡ name_end t a) (i : ClassAt d t a) where
-  pub methods-counted : p + 2 ≤ length t
-  methods-counted = let h = i.count.bytes in omega arith
-
   module _ (n : ℕ) (f : n ≡ count_at t p) where
     method-count : n ≡ count_at t (name_end t a)
     method-count = f ∙ ap (count_at t) e

@@ -5,8 +5,8 @@ use mathlib.Core.Bool.{Bool, true, false, not, true≢false}
 use mathlib.Core.List.{List, [], ◌∷◌}
 use mathlib.Core.Logic.{⊎_elim}
 use native.Mathlib.Omega.{arith}
-use lib.ListN.{length, take, drop, get_or, set, length-drop}
-use lib.Seq.{get_or-drop, drop-drop, drop-set-lt, take_all}
+use lib.ListN.{length, take, drop, get_or, length-drop}
+use lib.Seq.{get_or-drop, drop-drop, take_all}
 use Rattle.std.specs.List.Sorted.{IsPartitionedBy, IsPartitionPoint}
 use Rattle.std.proofs.lemmas.List.{get_or_default}
 use Rattle.definitions.specs.Bytes.{Name, below}
@@ -17,7 +17,7 @@ use Rattle.parts.proofs.Laws.{le-or-gt}
 use Rattle.slots.specs.Order.{NoneBelow, no_names, one_more, InOrder, no_order, in_order, Spot}
 use Rattle.slots.proofs.Holding.{bool-or, clash}
 use Rattle.byte_tests.proofs.Below.{below_none, below_less, below_more, below-same}
-use Rattle.slots.proofs.Ordering.{insert-here, insert-after, Inserting, insert-start, insert-end, insert-stop, insert-next, Sorting}
+use Rattle.slots.proofs.Ordering.{insert-here, insert-after, Sorting}
 
 -- ---- laws of the order
 
@@ -142,49 +142,6 @@ module _ (t : List ℕ) (x : Name) (ps : List ℕ) where
         before = λ i g. (λ j. below (sym e j) (name_at t (sym (after_first i) j))) ∙ not-true _ (p.0 i 0 (omega arith) g);
         after = λ g. (λ j. below (sym e j) (name_at t (sym (after_first r) j))) ∙ not-false _ (p.1 r 0 (omega arith) (omega arith));
       }
-
--- ---- the names before the spot moved down
-
-pub record Moving (t ps₀ : List ℕ) (x r : ℕ) (ps : List ℕ) (j : ℕ) : Type 0 where
-  pub inserting : Inserting t ps₀ x ps j
-  pub rest : drop (j + 1) ps ≡ drop (j + 1) ps₀
-  pub most : j ≤ r
-
-pub move_start : (t ps : List ℕ) (x r : ℕ) → 0 < length ps → Moving t ps x r ps 0
-move_start t ps x r h = record { inserting = insert-start t ps x h; rest = refl; most = omega arith }
-
-module _ (t ps₀ : List ℕ) (x r : ℕ) (ps : List ℕ) (j : ℕ) (s : Spot t x ps₀ r) (l : Moving t ps₀ x r ps j) where
-  next_place : get_or ps (j + 1) 0 ≡ get_or ps₀ (j + 1) 0
-  next_place =
-      let e : j + 1 + 0 ≡ j + 1 = omega arith in
-      sym (get_or-drop (j + 1) ps 0 0 ∙ ap (λ (k : ℕ). get_or ps k 0) e) ∙ ap (λ (q : List ℕ). get_or q 0 0) l.rest ∙ get_or-drop (j + 1) ps₀ 0 0 ∙ ap (λ (k : ℕ). get_or ps₀ k 0) e
-
-  pub move_read : j < r → j + 1 < length ps
-  move_read h = let a = s.inside in let k = l.inserting.kept in omega arith
-
-  pub move-next : j < r → Moving t ps₀ x r (set ps j (get_or ps (j + 1) 0)) (j + 1)
-  move-next h = record {
-    inserting = insert-next t ps₀ x ps j l.inserting (move_read h) false (name_at t x) (name_at t (get_or ps (j + 1) 0)) refl refl
-        (sym (ap (λ (w : ℕ). below (name_at t x) (name_at t w)) next_place ∙ s.before j h)) refl;
-    rest = drop-set-lt (j + 1 + 1) ps j (get_or ps (j + 1) 0) (omega arith) ∙ sym (drop-drop 1 (j + 1) ps) ∙ ap (drop 1) l.rest ∙ drop-drop 1 (j + 1) ps₀;
-    most = omega arith;
-  }
-
-  move-done : r ≤ j → names_at t (set ps j x) ≡ insert (name_at t x) (names_at t (drop 1 ps₀))
-  move-done h = ⊎_elim
-      (λ (k : length ps ≤ j + 1). insert-end t ps₀ x ps j l.inserting k)
-      (λ (k : j + 1 < length ps). insert-stop t ps₀ x ps j l.inserting k true (name_at t x) (name_at t (get_or ps (j + 1) 0)) refl refl (sym (here k)) refl)
-      (le-or-gt (length ps) (j + 1))
-    where
-      here : j + 1 < length ps → below (name_at t x) (name_at t (get_or ps (j + 1) 0)) ≡ true
-      here k =
-          let m = l.most in
-          let e : j ≡ r = omega arith in
-          let w = l.inserting.kept in
-          ap (λ (w : ℕ). below (name_at t x) (name_at t w)) (next_place ∙ ap (λ (i : ℕ). get_or ps₀ (i + 1) 0) e) ∙ s.after (omega arith)
-
-  pub move-last : r ≤ j → names_at t (set ps r x) ≡ insert (name_at t x) (names_at t (drop 1 ps₀))
-  move-last h = let m = l.most in let e : j ≡ r = omega arith in subst (λ (k : ℕ). names_at t (set ps k x) ≡ insert (name_at t x) (names_at t (drop 1 ps₀))) e (move-done h)
 
 -- the names after the j-th are in order
 pub sort-rest : (t ps₀ ps : List ℕ) (i j : ℕ) → Sorting t ps₀ ps i → 0 < i → j ≡ i - 1 → InOrder (names_at t (drop 1 (take (length ps - j) (drop j ps))))

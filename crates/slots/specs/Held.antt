@@ -6,7 +6,6 @@ use Rattle.definitions.specs.Tree.{Expr, lit, var, unary, binary, logical, call,
 use Rattle.definitions.specs.Slots.{add}
 use Rattle.state.specs.State.{slots_from, slot_names, Slots}
 use Rattle.slots.specs.Slotted.{first_names, Indexed}
-use Rattle.slots.specs.declared.Walked.{Walked}
 
 -- ---- marks: for each slot, whether a lambda around has its name as a parameter
 
@@ -56,7 +55,7 @@ pub data Held (slots : List Name) : List Name → Type 0 where
   no_held : Held slots []
   one_held : {x : Name} {ys : List Name} → member x slots ≡ true → member x ys ≡ false → Held slots ys → Held slots (x ∷ ys)
 
--- what a walk over expressions asks: a short tree, the parent's slots, room for as many and one more, names that have slots
+-- what a walk over expressions keeps to: a short tree, the parent's slots, room for as many and one more, names that have slots
 pub record Keeping (t parent ps : List ℕ) (n : ℕ) : Type 0 where
   pub short : length t ≤ 32768
   pub slots : Slots t parent
@@ -64,13 +63,6 @@ pub record Keeping (t parent ps : List ℕ) (n : ℕ) : Type 0 where
   pub most : slots_from + n ≤ length ps
   pub held : Held (slot_names t parent) (first_names t n ps)
   pub indexed : Indexed t n ps
-
--- and what it leaves: the next position, and places of the wanted names
-pub record Referred (r : Walked) (t ps : List ℕ) (end : ℕ) (want : List Name) : Type 0 where
-  pub next-is : r.next ≡ end
-  pub most : slots_from + r.n ≤ length ps
-  pub names : first_names t r.n ps ≡ want
-  pub indexed : Indexed t r.n ps
 
 -- the places of the captures, no more than the parent's slots
 pub record CapturesAt (r : ℕ) (t parent ps : List ℕ) (want : List Name) : Type 0 where

@@ -1,3 +1,8 @@
 pub mod Slotted
+pub mod Props
+pub mod Gathered
 pub mod Held
+pub mod HeldProps
+pub mod Captured
 pub mod Order
+pub mod Steps

@@ -5,7 +5,6 @@ use Rattle.definitions.specs.Slots.{Frame}
 use Rattle.state.specs.Words.{name_at}
 use Rattle.state.specs.Index.{bucket_of, Covered}
 use Rattle.state.specs.State.{names_at, slots_from}
-use Rattle.slots.specs.declared.Walked.{Walked}
 use Rattle.slots.specs.declared.collect.Framed.{Framed}
 
 -- the names at the first n of some places
@@ -25,11 +24,6 @@ pub record IsBucket (b : ℕ) (t : List ℕ) (p : ℕ) : Type 0 where
   pub is : b ≡ bucket_of slots_from (name_at t p)
   pub below : b < slots_from
 
--- the slots have an index made anew for the first n
-pub record Reindexed (t : List ℕ) (n : ℕ) (ps ps' : List ℕ) : Type 0 where
-  pub same-places : drop slots_from ps' ≡ drop slots_from ps
-  pub indexed : Indexed t n ps'
-
 -- r slots, at most one more than n, have the wanted names
 pub record Added (r : ℕ) (t ps : List ℕ) (n : ℕ) (want : List Name) : Type 0 where
   pub names : first_names t r ps ≡ want
@@ -46,27 +40,11 @@ unfoldable pub Collected : Option ℕ → List ℕ → List ℕ → List Name �
 Collected (Some n) t ps want = (n ≤ 255) × (first_names t n ps ≡ want) × Indexed t n ps
 Collected None t ps want = 255 < length want
 
--- what a walk over statements asks: a short tree, room for 256 slots, of which at most 255 are used
-pub record Room (t ps : List ℕ) (n : ℕ) : Type 0 where
-  pub short : length t ≤ 32768
-  pub room : slots_from + 256 ≤ length ps
-  pub few : n ≤ 255
-  pub indexed : Indexed t n ps
-
--- and what it leaves: the next position, and slots with the wanted names; or these are more than 255
-unfoldable pub Gathers : Option Walked → List ℕ → List ℕ → ℕ → List Name → Type 0
-Gathers (Some g) t ps end want = (g.next ≡ end) × (g.n ≤ 255) × (first_names t g.n ps ≡ want) × Indexed t g.n ps
-Gathers None t ps end want = 255 < length want
-
 -- ---- loops
 
 -- a count up to 256, which is too many
 abbrev pub up_to256 : ℕ → ℕ
 up_to256 n = n - (n - 256)
-
--- a walk that goes on has counted its loops too
-pub record Tallies (r : Option Walked) (m m' loops : ℕ) : Type 0 where
-  pub counted : (g : Walked) → r ≡ Some g → m' ≡ up_to256 (m + loops)
 
 -- of the m slots of a frame the first n have its names
 pub record Framing (n m : ℕ) (t ps : List ℕ) (f : Frame) : Type 0 where

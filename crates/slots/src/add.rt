@@ -28,26 +28,18 @@ pub(crate) fn slot_of(tree: &[u8], slots: &[u32], at: usize, b: usize) -> Option
 }
 
 // The first n slots with the name at `at`, whose bucket is b, unless they have it: how many they are then.
+// Two walks lend slots and n, which they hold: a struct of these inside each walk's is no plainer.
 pub(crate) fn add_at(tree: &[u8], slots: &mut [u32], n: u32, at: usize, b: usize) -> u32
     requires { Indexed tree.now n slots.old × (slots_from + n < length slots.old) × (n ≤ 255) × (at < 2 ^ 32) × IsBucket b tree.now at }
     ensures { Added result tree.now slots.new n (add (name_bytes tree.now at) (first_names tree.now n slots.old)) }
 {
     let k = slots[b];
     let end = SLOTS_FROM + n as usize;
-    if let Some(_) = find_from(tree, &slots[SLOTS_FROM..end], k, name_part(tree, at)) {
+    if find_from(tree, &slots[SLOTS_FROM..end], k, name_part(tree, at)).is_some() {
         return n;
     }
     let first = start(k, n as usize) as u32;
     slots[b] = first + 1;
     slots[end] = at as u32;
     n + 1
-}
-
-// The first n slots with the name at `at`, unless they have it: how many they are then.
-pub(crate) fn add_name(tree: &[u8], slots: &mut [u32], n: u32, at: usize) -> u32
-    requires { Indexed tree.now n slots.old × (slots_from + n < length slots.old) × (n ≤ 255) × (at < 2 ^ 32) }
-    ensures { Added result tree.now slots.new n (add (name_bytes tree.now at) (first_names tree.now n slots.old)) }
-{
-    let b = bucket_at(tree, at);
-    add_at(tree, slots, n, at, b)
 }

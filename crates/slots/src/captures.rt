@@ -1,242 +1,226 @@
 // What a lambda captures, and its slots: its parameters, then its captures.
-ghost use Rattle.std.specs.Prelude.{◌++◌, ◌+◌, ◌*◌, ◌≤◌, ◌<◌, length};
+// A short tree and the room of the slots stay clauses of lambda_slots, as in collect.
+ghost use Rattle.std.specs.Prelude.{◌++◌, ◌+◌, ◌≤◌, length};
 ghost use Rattle.definitions.specs.Slots.{captures};
 ghost use Rattle.state.specs.State.{slots_from, slot_names, Slots};
-ghost use Rattle.parts.specs.Places.{name_bytes, name_end, There, ParamsAt, params_at};
-ghost use Rattle.exprs.specs.ExprAt.{expr_at, exprs_at, ExprReads, ExprsRead, TwoAt, second_at, CallAt, ListAt, list_at, DictAt, pairs_at, AttributeAt, LambdaAt};
-ghost use Rattle.slots.specs.Slotted.{first_names, Collected};
-ghost use Rattle.slots.specs.Held.{mark_all, add_held, held_expr, held_exprs, Keeping, Referred, CapturesAt};
+ghost use Rattle.parts.specs.Places.{ParamsAt, params_at};
+ghost use Rattle.exprs.specs.ExprAt.{expr_at, ExprReads};
+ghost use Rattle.slots.specs.Slotted.{Collected};
+ghost use Rattle.slots.specs.Held.{Keeping, CapturesAt};
+ghost use Rattle.slots.specs.HeldProps.{keeping-prop};
 
-use crate::Walked;
-use crate::add::{add_at, bucket_at};
+use crate::add::{add_at, bucket_at, slot_of};
 use crate::collect::put_params;
 use crate::index::append_slots;
-use crate::marks::{is_free, mark_params};
 use crate::order::sort_names;
 use crate::skip::{skip_expr, skip_params};
-use numerals::expr;
+use numerals::kinds::ExprKind;
 use numerals::places::SLOTS_FROM;
 use numerals::sizes::{SLOTS_MARKED, SLOTS_MOST, SLOTS_ROOM};
 use parts::names::name_end;
 use parts::numbers::u16_at;
+use state::Scope;
 
-// The name at `at`, kept if it has a slot that is not marked.
-fn keep_name(
-    tree: &[u8],
-    at: usize,
-    parent: &[u32],
-    marks: &[bool; SLOTS_MARKED],
-    places: &mut [u32],
+// A walk over a lambda's body: the first n of `kept` are the names met that have a slot around that is not marked. Marked are those of the parameters of
+// the lambda, and of those in it that the walk stands in.
+#[derive(Drop)]
+struct Captures<'a, 'k> {
+    around: Scope<'a>,
+    marked: [bool; SLOTS_MARKED],
+    kept: &'k mut [u32],
     n: u32,
-) -> Walked
-    requires { Keeping tree.now parent.now places.old n × There tree.now at }
-    ensures { Referred result tree.now places.new (name_end tree.now at) (add_held (slot_names tree.now parent.now) marks.now (name_bytes tree.now at) (first_names tree.now n places.old)) }
-{
-    let next = name_end(tree, at);
-    let b = bucket_at(tree, at);
-    if is_free(tree, at, b, parent, marks) {
-        let k = add_at(tree, places, n, at, b);
-        return Walked { next, n: k };
+    ghost keeping: { Keeping around.tree.now around.slots.now kept.now n } by { keeping-prop _ _ _ _ },
+}
+
+impl Captures<'_, '_> {
+    ghost use Rattle.std.specs.Prelude.{◌≡◌};
+    ghost use Rattle.parts.specs.Places.{name_bytes, There};
+    ghost use Rattle.exprs.specs.ExprAt.{exprs_at, ExprsRead, TwoAt, index_at, CallAt, call_at, ListAt, list_at, DictAt, pairs_at, AttributeAt, attribute_at, LambdaAt, lambda_at};
+    ghost use Rattle.slots.specs.Held.{mark, mark_all, is_free, add_held, held_expr, held_exprs};
+    ghost use Rattle.slots.specs.Slotted.{IsBucket};
+    ghost use Rattle.slots.specs.Captured.{names_around, names_kept, Marks, Keeps, Refers};
+
+    // The name at `at` is a parameter: its slot, if it has one, is marked.
+    fn mark(&mut self, at: usize)
+        ensures { Marks (mark (names_around self.old.around) (name_bytes self.old.around.tree.now at) self.old.marked) self.old self.new }
+    {
+        let b = bucket_at(self.around.tree, at);
+        if let Some(i) = slot_of(self.around.tree, self.around.slots, at, b) {
+            self.marked[i] = true;
+        }
     }
-    Walked { next, n: n }
-}
 
-// The names that an expression references.
-#[cycle(refs)]
-fn collect_referenced_vars(
-    tree: &[u8],
-    at: usize,
-    depth: u32,
-    parent: &[u32],
-    marks: &[bool; SLOTS_MARKED],
-    places: &mut [u32],
-    n: u32,
-) -> Walked
-    requires { Keeping tree.now parent.now places.old n × ExprReads depth tree.now at }
-    ensures { Referred result tree.now places.new (expr_at depth tree.now at).end (held_expr (slot_names tree.now parent.now) marks.now (expr_at depth tree.now at).value (first_names tree.now n places.old)) }
-{
-    let kind = tree[at];
-    let a = at + 1;
-    match kind {
-        expr::VARIABLE => keep_name(tree, a, parent, marks, places, n),
-        expr::UNARY => collect_referenced_vars(tree, a + 1, depth - 1, parent, marks, places, n),
-        expr::BINARY => refs_two(tree, a + 1, depth - 1, parent, marks, places, n),
-        expr::CALL => refs_call(tree, a, depth - 1, parent, marks, places, n),
-        expr::ATTRIBUTE => refs_attribute(tree, a, depth - 1, parent, marks, places, n),
-        expr::LIST => refs_list(tree, a, depth - 1, parent, marks, places, n),
-        expr::DICT => refs_dict(tree, a, depth - 1, parent, marks, places, n),
-        expr::TUPLE => refs_list(tree, a, depth - 1, parent, marks, places, n),
-        expr::SET => refs_list(tree, a, depth - 1, parent, marks, places, n),
-        expr::TREE_SET => refs_list(tree, a, depth - 1, parent, marks, places, n),
-        expr::INDEX => refs_two(tree, a, depth - 1, parent, marks, places, n),
-        expr::LAMBDA => refs_lambda(tree, a, depth - 1, parent, marks, places, n),
-        _ => Walked {
-            next: skip_expr(tree, at, depth),
-            n: n,
-        },
+    // The parameters at `params` are marked.
+    fn mark_params(&mut self, params: usize)
+        requires { ParamsAt self.old.around.tree.now params }
+        ensures { Marks (mark_all (names_around self.old.around) (params_at self.old.around.tree.now params).value self.old.marked) self.old self.new }
+    {
+        let count = u16_at(self.around.tree, params);
+        let mut p = params + 2;
+        for _ in 0..count {
+            self.mark(p);
+            p = name_end(self.around.tree, p);
+        }
     }
-}
 
-// Those of two expressions.
-#[cycle(refs)]
-fn refs_two(
-    tree: &[u8],
-    at: usize,
-    depth: u32,
-    parent: &[u32],
-    marks: &[bool; SLOTS_MARKED],
-    places: &mut [u32],
-    n: u32,
-) -> Walked
-    requires { Keeping tree.now parent.now places.old n × TwoAt depth tree.now at }
-    ensures { Referred result tree.now places.new (second_at depth tree.now at).end
-        (held_expr (slot_names tree.now parent.now) marks.now (second_at depth tree.now at).value (held_expr (slot_names tree.now parent.now) marks.now (expr_at depth tree.now at).value (first_names tree.now n places.old))) }
-{
-    let left = collect_referenced_vars(tree, at, depth, parent, marks, places, n);
-    collect_referenced_vars(tree, left.next, depth, parent, marks, places, left.n)
-}
-
-// Those of a callee and its arguments.
-#[cycle(refs)]
-fn refs_call(
-    tree: &[u8],
-    at: usize,
-    depth: u32,
-    parent: &[u32],
-    marks: &[bool; SLOTS_MARKED],
-    places: &mut [u32],
-    n: u32,
-) -> Walked
-    requires { Keeping tree.now parent.now places.old n × CallAt depth tree.now at }
-    ensures { Referred result tree.now places.new (list_at depth tree.now (expr_at depth tree.now at).end).end
-        (held_exprs (slot_names tree.now parent.now) marks.now (list_at depth tree.now (expr_at depth tree.now at).end).value (held_expr (slot_names tree.now parent.now) marks.now (expr_at depth tree.now at).value (first_names tree.now n places.old))) }
-{
-    let callee = collect_referenced_vars(tree, at, depth, parent, marks, places, n);
-    refs_list(tree, callee.next, depth, parent, marks, places, callee.n)
-}
-
-// Those of an attribute's object.
-#[cycle(refs)]
-fn refs_attribute(
-    tree: &[u8],
-    at: usize,
-    depth: u32,
-    parent: &[u32],
-    marks: &[bool; SLOTS_MARKED],
-    places: &mut [u32],
-    n: u32,
-) -> Walked
-    requires { Keeping tree.now parent.now places.old n × AttributeAt depth tree.now at }
-    ensures { Referred result tree.now places.new (name_end tree.now (expr_at depth tree.now at).end) (held_expr (slot_names tree.now parent.now) marks.now (expr_at depth tree.now at).value (first_names tree.now n places.old)) }
-{
-    let object = collect_referenced_vars(tree, at, depth, parent, marks, places, n);
-    Walked {
-        next: name_end(tree, object.next),
-        n: object.n,
+    // Whether the name at `at`, whose bucket is b, has a slot that is not marked.
+    fn is_free(&self, at: usize, b: usize) -> bool
+        requires { IsBucket b self.now.around.tree.now at }
+        ensures { result ≡ is_free (names_around self.now.around) self.now.marked (name_bytes self.now.around.tree.now at) }
+    {
+        match slot_of(self.around.tree, self.around.slots, at, b) {
+            Some(i) => !self.marked[i],
+            None => false,
+        }
     }
-}
 
-// Those of a count of expressions.
-#[cycle(refs)]
-fn refs_list(
-    tree: &[u8],
-    at: usize,
-    depth: u32,
-    parent: &[u32],
-    marks: &[bool; SLOTS_MARKED],
-    places: &mut [u32],
-    n: u32,
-) -> Walked
-    requires { Keeping tree.now parent.now places.old n × ListAt depth tree.now at }
-    ensures { Referred result tree.now places.new (list_at depth tree.now at).end (held_exprs (slot_names tree.now parent.now) marks.now (list_at depth tree.now at).value (first_names tree.now n places.old)) }
-{
-    let count = u16_at(tree, at);
-    refs_many(tree, at + 2, depth, count, parent, marks, places, n)
-}
-
-// Those of a count of keys and values.
-#[cycle(refs)]
-fn refs_dict(
-    tree: &[u8],
-    at: usize,
-    depth: u32,
-    parent: &[u32],
-    marks: &[bool; SLOTS_MARKED],
-    places: &mut [u32],
-    n: u32,
-) -> Walked
-    requires { Keeping tree.now parent.now places.old n × DictAt depth tree.now at }
-    ensures { Referred result tree.now places.new (pairs_at depth tree.now at).end (held_exprs (slot_names tree.now parent.now) marks.now (pairs_at depth tree.now at).value (first_names tree.now n places.old)) }
-{
-    let count = u16_at(tree, at);
-    refs_many(tree, at + 2, depth, 2 * count, parent, marks, places, n)
-}
-
-// Those of so many expressions.
-#[cycle(refs)]
-fn refs_many(
-    tree: &[u8],
-    at: usize,
-    depth: u32,
-    count: u32,
-    parent: &[u32],
-    marks: &[bool; SLOTS_MARKED],
-    places: &mut [u32],
-    n: u32,
-) -> Walked
-    requires { Keeping tree.now parent.now places.old n × ExprsRead depth count tree.now at }
-    ensures { Referred result tree.now places.new (exprs_at depth count tree.now at).end (held_exprs (slot_names tree.now parent.now) marks.now (exprs_at depth count tree.now at).value (first_names tree.now n places.old)) }
-{
-    let mut p = at;
-    let mut k = n;
-    for _ in 0..count {
-        let one = collect_referenced_vars(tree, p, depth, parent, marks, places, k);
-        p = one.next;
-        k = one.n;
+    // The name at `at`.
+    fn name(&mut self, at: usize)
+        requires { There self.old.around.tree.now at }
+        ensures { Keeps (add_held (names_around self.old.around) self.old.marked (name_bytes self.old.around.tree.now at) (names_kept self.old)) self.old self.new }
+    {
+        let tree = self.around.tree;
+        let b = bucket_at(tree, at);
+        if self.is_free(at, b) {
+            self.n = add_at(tree, self.kept, self.n, at, b);
+        }
     }
-    Walked { next: p, n: k }
-}
 
-// Those of a lambda: in its body its parameters are marked, too.
-#[cycle(refs)]
-fn refs_lambda(
-    tree: &[u8],
-    at: usize,
-    depth: u32,
-    parent: &[u32],
-    marks: &[bool; SLOTS_MARKED],
-    places: &mut [u32],
-    n: u32,
-) -> Walked
-    requires { Keeping tree.now parent.now places.old n × LambdaAt depth tree.now at }
-    ensures { Referred result tree.now places.new (expr_at depth tree.now (params_at tree.now at).end).end
-        (held_expr (slot_names tree.now parent.now) (mark_all (slot_names tree.now parent.now) (params_at tree.now at).value marks.now)
-        (expr_at depth tree.now (params_at tree.now at).end).value (first_names tree.now n places.old)) }
-{
-    let mut inner = *marks;
-    mark_params(tree, at, parent, &mut inner);
-    let p = skip_params(tree, at);
-    collect_referenced_vars(tree, p, depth, parent, &inner, places, n)
+    // The names of an expression.
+    #[cycle(refs)]
+    fn expr(&mut self, at: usize, depth: u32) -> usize
+        requires { ExprReads depth self.old.around.tree.now at }
+        ensures { Refers result (expr_at depth self.old.around.tree.now at) held_expr self.old self.new }
+    {
+        let tree = self.around.tree;
+        let a = at + 1;
+        match ExprKind::of(tree[at]) {
+            ExprKind::NoneLiteral
+            | ExprKind::False
+            | ExprKind::True
+            | ExprKind::Int
+            | ExprKind::Float
+            | ExprKind::Text => skip_expr(tree, at, depth),
+            ExprKind::Variable => {
+                self.name(a);
+                name_end(tree, a)
+            }
+            ExprKind::Unary => self.expr(a + 1, depth - 1),
+            ExprKind::Binary => self.two(a + 1, depth - 1),
+            ExprKind::Call => self.call(a, depth - 1),
+            ExprKind::Attribute => self.attribute(a, depth - 1),
+            ExprKind::List | ExprKind::Tuple | ExprKind::Set | ExprKind::TreeSet => self.list(
+                a,
+                depth - 1,
+            ),
+            ExprKind::Dict => self.dict(a, depth - 1),
+            ExprKind::Index => self.two(a, depth - 1),
+            ExprKind::Lambda => self.lambda(a, depth - 1),
+        }
+    }
+
+    // Two expressions.
+    #[cycle(refs)]
+    fn two(&mut self, at: usize, depth: u32) -> usize
+        requires { TwoAt depth self.old.around.tree.now at }
+        ensures { Refers result (index_at depth self.old.around.tree.now at) held_expr self.old self.new }
+    {
+        let p = self.expr(at, depth);
+        self.expr(p, depth)
+    }
+
+    // A callee and its arguments.
+    #[cycle(refs)]
+    fn call(&mut self, at: usize, depth: u32) -> usize
+        requires { CallAt depth self.old.around.tree.now at }
+        ensures { Refers result (call_at depth self.old.around.tree.now at) held_expr self.old self.new }
+    {
+        let p = self.expr(at, depth);
+        self.list(p, depth)
+    }
+
+    // An object and an attribute's name.
+    #[cycle(refs)]
+    fn attribute(&mut self, at: usize, depth: u32) -> usize
+        requires { AttributeAt depth self.old.around.tree.now at }
+        ensures { Refers result (attribute_at depth self.old.around.tree.now at) held_expr self.old self.new }
+    {
+        let p = self.expr(at, depth);
+        name_end(self.around.tree, p)
+    }
+
+    // A count of expressions.
+    #[cycle(refs)]
+    fn list(&mut self, at: usize, depth: u32) -> usize
+        requires { ListAt depth self.old.around.tree.now at }
+        ensures { Refers result (list_at depth self.old.around.tree.now at) held_exprs self.old self.new }
+    {
+        let count = u16_at(self.around.tree, at);
+        self.many(at + 2, depth, count)
+    }
+
+    // A count of keys and values.
+    #[cycle(refs)]
+    fn dict(&mut self, at: usize, depth: u32) -> usize
+        requires { DictAt depth self.old.around.tree.now at }
+        ensures { Refers result (pairs_at depth self.old.around.tree.now at) held_exprs self.old self.new }
+    {
+        let count = u16_at(self.around.tree, at);
+        self.many(at + 2, depth, 2 * count)
+    }
+
+    // So many expressions.
+    #[cycle(refs)]
+    fn many(&mut self, at: usize, depth: u32, count: u32) -> usize
+        requires { ExprsRead depth count self.old.around.tree.now at }
+        ensures { Refers result (exprs_at depth count self.old.around.tree.now at) held_exprs self.old self.new }
+    {
+        let mut p = at;
+        for _ in 0..count {
+            p = self.expr(p, depth);
+        }
+        p
+    }
+
+    // A lambda: in its body its parameters are marked, too.
+    #[cycle(refs)]
+    fn lambda(&mut self, at: usize, depth: u32) -> usize
+        requires { LambdaAt depth self.old.around.tree.now at }
+        ensures { Refers result (lambda_at depth self.old.around.tree.now at) held_expr self.old self.new }
+    {
+        let outer = self.marked;
+        self.mark_params(at);
+        let body = skip_params(self.around.tree, at);
+        let end = self.expr(body, depth);
+        self.marked = outer;
+        end
+    }
 }
 
 // The captures of a lambda, by its parameters and its body.
-pub(crate) fn collect_free_vars(
-    tree: &[u8],
+fn collect_free_vars(
+    around: Scope<'_>,
     params: usize,
     body: usize,
     depth: u32,
-    parent: &[u32],
     places: &mut [u32],
 ) -> u32
-    requires { (length tree.now ≤ 32768) × Slots tree.now parent.now × (slots_from + 256 ≤ length places.old) × ParamsAt tree.now params × ExprReads depth tree.now body }
-    ensures { CapturesAt result tree.now parent.now places.new (captures (slot_names tree.now parent.now) (params_at tree.now params).value (expr_at depth tree.now body).value) }
+    requires room { (length around.tree.now ≤ 32768) × (slots_from + 256 ≤ length places.old) }
+    requires there { ParamsAt around.tree.now params × ExprReads depth around.tree.now body }
+    ensures { let t = around.entry.tree.now in let s = around.entry.slots.now in CapturesAt result t s places.new (captures (slot_names t s) (params_at t params).value (expr_at depth t body).value) }
 {
-    let mut marks = [false; SLOTS_MARKED];
-    mark_params(tree, params, parent, &mut marks);
-    let all = collect_referenced_vars(tree, body, depth, parent, &marks, places, 0);
-    let end = SLOTS_FROM + all.n as usize;
-    sort_names(tree, &mut places[SLOTS_FROM..end]);
-    all.n
+    let mut all = Captures {
+        around,
+        marked: [false; SLOTS_MARKED],
+        kept: places,
+        n: 0,
+    };
+    all.mark_params(params);
+    all.expr(body, depth);
+    let n = all.n;
+    let end = SLOTS_FROM + n as usize;
+    sort_names(around.tree, &mut places[SLOTS_FROM..end]);
+    n
 }
 
 // The slots of a lambda: its parameters, then its captures; none where there are more than 255.
@@ -253,7 +237,11 @@ pub fn lambda_slots(
 {
     let k = put_params(tree, params, slots)?;
     let mut kept = [0u32; SLOTS_ROOM];
-    let n = collect_free_vars(tree, params, body, depth, parent, &mut kept);
+    let around = Scope {
+        tree,
+        slots: parent,
+    };
+    let n = collect_free_vars(around, params, body, depth, &mut kept);
     if SLOTS_MOST < k + n {
         return None;
     }

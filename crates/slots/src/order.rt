@@ -22,12 +22,8 @@ fn insert_first(tree: &[u8], places: &mut [u32])
     requires { (0 < length places.old) × InOrder (names_at tree.now (drop 1 places.old)) }
     ensures { names_at tree.now places.new ≡ insert (name_at tree.now (get_or places.old 0 0)) (names_at tree.now (drop 1 places.old)) }
 {
-    let x = places[0];
     let spot = find_spot(tree, places);
-    for j in 0..spot {
-        places[j] = places[j + 1];
-    }
-    places[spot] = x;
+    places[..=spot].rotate_left(1);
 }
 
 // The names are put in order.

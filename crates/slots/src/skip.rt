@@ -1,12 +1,27 @@
 // Where the parts of an accepted tree end: only kinds, counts and lengths are read.
-ghost use Rattle.std.specs.Prelude.{◌≡◌, ◌+◌, ◌*◌};
-ghost use Rattle.parts.specs.Places.{name_end, TextAt, text_at, ParamsAt, params_at};
+// The tree, a place and a depth stay parameters: each call names a place and a depth anew, and what is asked (ExprReads, TwoAt, ..) speaks of these, so a struct of the three is no plainer.
+ghost use Rattle.std.specs.Prelude.{◌≡◌, ◌+◌, ◌*◌, ◌<◌, ℕ};
+ghost use Rattle.parts.specs.Places.{name_end, There, TextAt, text_at, ParamsAt, params_at};
 ghost use Rattle.exprs.specs.ExprAt.{expr_at, exprs_at, ExprReads, ExprsRead, TwoAt, second_at, CallAt, ListAt, list_at, DictAt, pairs_at, AttributeAt, LambdaAt};
-ghost use Rattle.tree.specs.StmtAt.{stmt_at, block_at, branches_at, methods_at, attributes_at, StmtReads, BlockReads, BranchesRead, MethodsRead, AttributesRead, BranchAt, body_at, IfAt, elifs_at, ForAt, DefAt, def_block_at, ClassAt, class_methods_at};
+ghost use Rattle.tree.specs.StmtAt.{stmt_at, block_at, branches_at, methods_at, attributes_at, body_at, elifs_at, def_block_at, class_methods_at};
+ghost use Rattle.tree.specs.StmtAt.{StmtReads, BlockReads, BranchesRead, MethodsRead, AttributesRead, BranchAt, IfAt, ForAt, DefAt, ClassAt};
+ghost use Rattle.slots.specs.Steps.{Leads};
 
-use numerals::{expr, stmt};
+use numerals::kinds::{ExprKind, StmtKind};
 use parts::names::name_end;
 use parts::numbers::u16_at;
+
+// Where so many parts from `at` on end, each of which `each` passes over.
+fn skip_each<F: Fn(usize) -> usize>(at: usize, count: u32, each: F) -> usize
+    requires { (n p : ℕ) → n < count → Leads (λ a b. F.post each a b) n at p → F.pre each p }
+    ensures { Leads (λ a b. F.post each a b) count at result }
+{
+    let mut p = at;
+    for _ in 0..count {
+        p = each(p);
+    }
+    p
+}
 
 // Where the text at `at` ends: a count, and so many bytes.
 fn text_end(tree: &[u8], at: usize) -> usize
@@ -22,11 +37,7 @@ pub fn skip_params(tree: &[u8], at: usize) -> usize
     ensures { result ≡ (params_at tree.now at).end }
 {
     let count = u16_at(tree, at);
-    let mut p = at + 2;
-    for _ in 0..count {
-        p = name_end(tree, p);
-    }
-    p
+    skip_each(at + 2, count, |p| name_end(tree, p))
 }
 
 // Where the expression at `at` ends.
@@ -35,45 +46,40 @@ pub fn skip_expr(tree: &[u8], at: usize, depth: u32) -> usize
     requires { ExprReads depth tree.now at }
     ensures { result ≡ (expr_at depth tree.now at).end }
 {
-    let kind = tree[at];
     let a = at + 1;
-    match kind {
-        expr::INT => a + 8,
-        expr::FLOAT => a + 8,
-        expr::STRING => text_end(tree, a),
-        expr::VARIABLE => name_end(tree, a),
-        expr::UNARY => skip_expr(tree, a + 1, depth - 1),
-        expr::BINARY => skip_two(tree, a + 1, depth - 1),
-        expr::CALL => skip_call(tree, a, depth - 1),
-        expr::ATTRIBUTE => skip_attribute(tree, a, depth - 1),
-        expr::LIST => skip_list(tree, a, depth - 1),
-        expr::DICT => skip_dict(tree, a, depth - 1),
-        expr::TUPLE => skip_list(tree, a, depth - 1),
-        expr::SET => skip_list(tree, a, depth - 1),
-        expr::TREE_SET => skip_list(tree, a, depth - 1),
-        expr::INDEX => skip_two(tree, a, depth - 1),
-        expr::LAMBDA => skip_lambda(tree, a, depth - 1),
-        _ => a,
+    match ExprKind::of(tree[at]) {
+        ExprKind::NoneLiteral | ExprKind::False | ExprKind::True => a,
+        ExprKind::Int | ExprKind::Float => a + 8,
+        ExprKind::Text => text_end(tree, a),
+        ExprKind::Variable => name_end(tree, a),
+        ExprKind::Unary => skip_expr(tree, a + 1, depth - 1),
+        ExprKind::Binary => skip_two(tree, a + 1, depth - 1),
+        ExprKind::Call => skip_call(tree, a, depth - 1),
+        ExprKind::Attribute => skip_attribute(tree, a, depth - 1),
+        ExprKind::List | ExprKind::Tuple | ExprKind::Set | ExprKind::TreeSet => skip_list(
+            tree,
+            a,
+            depth - 1,
+        ),
+        ExprKind::Dict => skip_dict(tree, a, depth - 1),
+        ExprKind::Index => skip_two(tree, a, depth - 1),
+        ExprKind::Lambda => skip_lambda(tree, a, depth - 1),
     }
 }
 
-// Where the expression at `at` ends; constants, numbers and variables need no call of skip_expr.
+// Where the expression at `at` ends. Constants, numbers and variables need no call of skip_expr, which does not stand inline: names and assignments are
+// passed over a fifth to a third faster so.
 #[cycle(skip_exprs)]
 pub(crate) fn skip_value(tree: &[u8], at: usize, depth: u32) -> usize
     requires { ExprReads depth tree.now at }
     ensures { result ≡ (expr_at depth tree.now at).end }
 {
-    let kind = tree[at];
-    if kind < expr::INT {
-        return at + 1;
+    match ExprKind::of(tree[at]) {
+        ExprKind::NoneLiteral | ExprKind::False | ExprKind::True => at + 1,
+        ExprKind::Int | ExprKind::Float => at + 9,
+        ExprKind::Variable => name_end(tree, at + 1),
+        _ => skip_expr(tree, at, depth),
     }
-    if kind < expr::STRING {
-        return at + 9;
-    }
-    if kind == expr::VARIABLE {
-        return name_end(tree, at + 1);
-    }
-    skip_expr(tree, at, depth)
 }
 
 // Where the second of two expressions ends.
@@ -132,11 +138,11 @@ fn skip_many(tree: &[u8], at: usize, depth: u32, count: u32) -> usize
     requires { ExprsRead depth count tree.now at }
     ensures { result ≡ (exprs_at depth count tree.now at).end }
 {
-    let mut p = at;
-    for _ in 0..count {
-        p = skip_value(tree, p, depth);
-    }
-    p
+    let each = |p: usize| -> usize
+        requires { ExprReads depth tree.now p }
+        ensures { result ≡ (expr_at depth tree.entry.now p).end }
+    { skip_value(tree, p, depth) };
+    skip_each(at, count, each)
 }
 
 // Where the body after parameters ends.
@@ -155,18 +161,16 @@ pub fn skip_stmt(tree: &[u8], at: usize, depth: u32) -> usize
     requires { StmtReads depth tree.now at }
     ensures { result ≡ (stmt_at depth tree.now at).end }
 {
-    let kind = tree[at];
     let a = at + 1;
-    match kind {
-        stmt::EXPR => skip_expr(tree, a, depth - 1),
-        stmt::RETURN => skip_expr(tree, a, depth - 1),
-        stmt::ASSIGN => skip_two(tree, a, depth - 1),
-        stmt::IF => skip_if(tree, a, depth - 1),
-        stmt::WHILE => skip_branch(tree, a, depth - 1),
-        stmt::FOR => skip_for(tree, a, depth - 1),
-        stmt::DEF => skip_def(tree, a, depth - 1),
-        stmt::CLASS => skip_class(tree, a, depth - 1),
-        _ => a,
+    match StmtKind::of(tree[at]) {
+        StmtKind::Break | StmtKind::Continue | StmtKind::Pass => a,
+        StmtKind::Expr | StmtKind::Return => skip_expr(tree, a, depth - 1),
+        StmtKind::Assign => skip_two(tree, a, depth - 1),
+        StmtKind::If => skip_if(tree, a, depth - 1),
+        StmtKind::While => skip_branch(tree, a, depth - 1),
+        StmtKind::For => skip_for(tree, a, depth - 1),
+        StmtKind::Def => skip_def(tree, a, depth - 1),
+        StmtKind::Class => skip_class(tree, a, depth - 1),
     }
 }
 
@@ -177,11 +181,11 @@ fn skip_block(tree: &[u8], at: usize, depth: u32) -> usize
     ensures { result ≡ (block_at depth tree.now at).end }
 {
     let count = u16_at(tree, at);
-    let mut p = at + 2;
-    for _ in 0..count {
-        p = skip_stmt(tree, p, depth);
-    }
-    p
+    let each = |p: usize| -> usize
+        requires { StmtReads depth tree.now p }
+        ensures { result ≡ (stmt_at depth tree.entry.now p).end }
+    { skip_stmt(tree, p, depth) };
+    skip_each(at + 2, count, each)
 }
 
 // Where the block after a condition ends.
@@ -200,22 +204,14 @@ fn skip_if(tree: &[u8], at: usize, depth: u32) -> usize
     requires { IfAt depth tree.now at }
     ensures { result ≡ (elifs_at depth tree.now at).end }
 {
-    let p = skip_branch(tree, at, depth);
-    let count = u16_at(tree, p);
-    skip_elifs(tree, p + 2, depth, count)
-}
-
-// Where so many elifs and an else block or none end.
-#[cycle(skip_stmts)]
-fn skip_elifs(tree: &[u8], at: usize, depth: u32, count: u32) -> usize
-    requires { BranchesRead depth count tree.now at }
-    ensures { result ≡ (branches_at depth count tree.now at).end }
-{
-    let mut p = at;
-    for _ in 0..count {
-        p = skip_branch(tree, p, depth);
-    }
-    skip_else(tree, p, depth)
+    let first = skip_branch(tree, at, depth);
+    let count = u16_at(tree, first);
+    let each = |p: usize| -> usize
+        requires { BranchAt depth tree.now p }
+        ensures { result ≡ (body_at depth tree.entry.now p).end }
+    { skip_branch(tree, p, depth) };
+    let elifs = skip_each(first + 2, count, each);
+    skip_else(tree, elifs, depth)
 }
 
 // The byte 0; or 1, and an else block.
@@ -251,31 +247,17 @@ fn skip_def(tree: &[u8], at: usize, depth: u32) -> usize
     skip_block(tree, p, depth)
 }
 
-// Where so many methods end.
-#[cycle(skip_stmts)]
-fn skip_methods(tree: &[u8], at: usize, depth: u32, count: u32) -> usize
-    requires { MethodsRead depth count tree.now at }
-    ensures { result ≡ (methods_at depth count tree.now at).end }
-{
-    let mut p = at;
-    for _ in 0..count {
-        p = skip_def(tree, p, depth);
-    }
-    p
-}
-
 // Where a count of attributes ends: a name and an expression each.
 fn skip_attributes(tree: &[u8], at: usize, depth: u32) -> usize
     requires { AttributesRead depth tree.now at }
     ensures { result ≡ (attributes_at depth tree.now at).end }
 {
     let count = u16_at(tree, at);
-    let mut p = at + 2;
-    for _ in 0..count {
-        let value = name_end(tree, p);
-        p = skip_expr(tree, value, depth);
-    }
-    p
+    let each = |p: usize| -> usize
+        requires { There tree.now p × ExprReads depth tree.now (name_end tree.now p) }
+        ensures { result ≡ (expr_at depth tree.entry.now (name_end tree.entry.now p)).end }
+    { skip_expr(tree, name_end(tree, p), depth) };
+    skip_each(at + 2, count, each)
 }
 
 // Where a class's methods and attributes end.
@@ -286,6 +268,10 @@ fn skip_class(tree: &[u8], at: usize, depth: u32) -> usize
 {
     let p = name_end(tree, at);
     let count = u16_at(tree, p);
-    let methods = skip_methods(tree, p + 2, depth, count);
+    let each = |p: usize| -> usize
+        requires { DefAt depth tree.now p }
+        ensures { result ≡ (def_block_at depth tree.entry.now p).end }
+    { skip_def(tree, p, depth) };
+    let methods = skip_each(p + 2, count, each);
     skip_attributes(tree, methods, depth)
 }

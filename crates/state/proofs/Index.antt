@@ -1,87 +1,22 @@
--- An index of names: what its buckets tell of a name, and what one more name leaves.
+-- An index of names: from where on a name is sought, and what one more name leaves.
 use Prim.Native.Nat.{ℕ, zero, suc, ◌+◌, ◌*◌, ◌%◌, ◌≤◌, ◌<◌}
-use mathlib.Core.Path.{◌≡◌, refl, sym, ap, subst, ◌∙◌}
+use mathlib.Core.Path.{◌≡◌, refl, sym, ap, ◌∙◌}
 use mathlib.Core.Bool.{Bool, true, false}
-use mathlib.Core.Option.{Option, none, some}
 use mathlib.Core.List.{List, [], ◌∷◌, ◌++◌}
 use native.Mathlib.Omega.{arith}
-use native.Mathlib.Nat.{zero-add, add-zero, suc-add, mod-lt}
+use native.Mathlib.Nat.{zero-add, mod-lt}
 use native.Mathlib.Numerals.{add-one}
 use lib.ListN.{length, drop, get_or, drop_of_length-le}
 use lib.Seq.{get_or-set_same, get_or-set_other, drop-cons}
 use lib.Dec.{ltb, eqb, eqb→eq}
-use Rattle.definitions.specs.Bytes.{Name, same, position}
+use Rattle.definitions.specs.Bytes.{Name}
 use Rattle.state.specs.Index.{hash_from, hash_of, bucket_of, Covered, none_covered, covered, start_of, noted}
 use borrow.Author.Tests.{ltb-true, ltb-false}
-use Rattle.definitions.proofs.Truth.{left, right, holds, not_equal}
+use Rattle.definitions.proofs.Truth.{holds, not_equal}
 use Rattle.state.specs.Words.{region}
-use Rattle.state.specs.State.{found_or, strings_from, symbol_index_from, symbol_buckets, string_index_from, string_buckets, SymbolIndex, StringIndex}
+use Rattle.state.specs.State.{strings_from, symbol_index_from, symbol_buckets, string_index_from, string_buckets, SymbolIndex, StringIndex}
 
--- the same bytes
-pub same-equal : (x y : Name) → same x y ≡ true → x ≡ y
-unfolding same
-same-equal [] [] e = refl
-same-equal [] (d ∷ y) e = let z : ◌≡◌ {A = ℕ} 0 1 = cc in absurd (omega arith)
-same-equal (c ∷ x) [] e = let z : ◌≡◌ {A = ℕ} 0 1 = cc in absurd (omega arith)
-same-equal (c ∷ x) (d ∷ y) e = rw (eqb→eq c d (holds (eqb c d) (left (eqb c d) (same x y) e)), same-equal x y (right (eqb c d) (same x y) e))
-
--- ---- where a name is found among others
-
--- its number, or how many they are
-abbrev pub found_in : Name → List Name → ℕ
-found_in x xs = found_or (length xs) (position (same x) xs)
-
-found-other : (x y : Name) (ys : List Name) → same x y ≡ false → found_in x (y ∷ ys) ≡ suc (found_in x ys)
-unfolding found_or position
-found-other x y ys e = go (same x y) e (position (same x) ys)
-  where
-    go : (b : Bool) → b ≡ false → (o : Option ℕ) →
-        found_or (suc (length ys)) (elim b as (λ z. Option ℕ) [ true ↦ some 0 | false ↦ elim o as (λ z. Option ℕ) [ none ↦ none | some i ↦ some (suc i) ] ]) ≡ suc (found_or (length ys) o)
-    go true e o = let z : ◌≡◌ {A = ℕ} 0 1 = cc in absurd (omega arith)
-    go false e none = refl
-    go false e (some i) = refl
-
-module _ (size : ℕ) (buckets : List ℕ) (x : Name) where
-  abbrev bucket : ℕ
-  bucket = get_or buckets (bucket_of size x) 0
-
-  -- a name whose bucket is empty is not among them
-  found_none : (j : ℕ) (xs : List Name) → Covered size buckets j xs → bucket ≡ 0 → found_in x xs ≡ length xs
-  unfolding found_or position
-  found_none j [] none_covered e = refl
-  found_none j (y ∷ ys) (covered more most rest) e = go (found_none (j + 1) ys rest e) (same x y) refl
-    where
-      go : found_in x ys ≡ length ys → (b : Bool) → same x y ≡ b → found_in x (y ∷ ys) ≡ suc (length ys)
-      go r true f = let h : 0 < bucket = subst (λ (z : Name). 0 < get_or buckets (bucket_of size z) 0) (sym (same-equal x y f)) more in absurd (omega arith)
-      go r false f = found-other x y ys f ∙ ap suc r
-
-  -- nor is it among those before the number in its bucket
-  found-later : (s j : ℕ) (xs : List Name) → Covered size buckets j xs → j + s < bucket → s ≤ length xs → found_in x xs ≡ s + found_in x (drop s xs)
-  found-later zero j xs v h l = sym (zero-add (found_in x xs))
-  found-later (suc s) j [] v h l = absurd (omega arith)
-  found-later (suc s) j (y ∷ ys) (covered more most rest) h l = go (found-later s (j + 1) ys rest (omega arith) (omega arith)) (same x y) refl
-    where
-      go : found_in x ys ≡ s + found_in x (drop s ys) → (b : Bool) → same x y ≡ b → found_in x (y ∷ ys) ≡ suc s + found_in x (drop s ys)
-      go r true f = let k : bucket ≤ j + 1 = subst (λ (z : Name). get_or buckets (bucket_of size z) 0 ≤ j + 1) (sym (same-equal x y f)) most in absurd (omega arith)
-      go r false f = found-other x y ys f ∙ ap suc r ∙ sym (suc-add s (found_in x (drop s ys)))
-
-  found-end : (xs : List Name) → found_in x xs ≡ length xs → found_in x xs ≡ length xs + found_in x (drop (length xs) xs)
-  unfolding found_or position
-  found-end xs e = let h : length xs ≤ length xs = omega arith in e ∙ sym (ap (λ (ys : List Name). length xs + found_in x ys) (drop_of_length-le xs h) ∙ add-zero (length xs))
-
-  found_at : (k : ℕ) (xs : List Name) → bucket ≡ k → Covered size buckets 0 xs → found_in x xs ≡ start_of k (length xs) + found_in x (drop (start_of k (length xs)) xs)
-  unfolding start_of
-  found_at zero xs e v = found-end xs (found_none 0 xs v e)
-  found_at (suc k) xs e v = go (ltb k (length xs)) refl
-    where
-      go : (b : Bool) → ltb k (length xs) ≡ b → found_in x xs ≡ (elim b as (λ z. ℕ) [ true ↦ k | false ↦ length xs ]) + found_in x (drop (elim b as (λ z. ℕ) [ true ↦ k | false ↦ length xs ]) xs)
-      go true f = let h = ltb-true k (length xs) f in found-later k 0 xs v (omega arith) (omega arith)
-      go false f = let h = ltb-false k (length xs) f in found-later (length xs) 0 xs v (omega arith) (omega arith)
-
--- a name is sought from the number in its bucket on
-pub found_from : (size : ℕ) (buckets : List ℕ) (x : Name) (xs : List Name) → Covered size buckets 0 xs →
-    found_in x xs ≡ start_of (get_or buckets (bucket_of size x) 0) (length xs) + found_in x (drop (start_of (get_or buckets (bucket_of size x) 0) (length xs)) xs)
-found_from size buckets x xs v = found_at size buckets x (get_or buckets (bucket_of size x) 0) xs refl v
+-- ---- the number from which on a name is sought
 
 pub start-le : (k n : ℕ) → start_of k n ≤ n
 unfolding start_of

@@ -21,7 +21,7 @@ use Rattle.state.specs.declared.Limits.{Limits}
 use Rattle.state.proofs.Emission.{stack-grows, base_kept, at-seq}
 use Rattle.state.proofs.Jumps.{set-length, patch-length, at-shortcut, at-loop, at-branch, at-when, chain-when, chain-else}
 use Rattle.state.proofs.Enclosing.{symbol-functions, at-function, at-closure, at-end_class, at-class_object, at-class, methods-more}
-use Rattle.state.proofs.Growth.{Lengthened, Lengthens, lengthened-none, functions-longer, instructions-longer, slots-fewer, begin-lengthened, set_code-count}
+use Rattle.state.proofs.Growth.{Lengthened, Lengthens, lengthened-none, functions-longer, instructions-longer, slots-fewer, set_code-count}
 use Rattle.state.proofs.Growth.{set_code-instructions, lengthens-one, lengthens-seq, branches-lengthened, methods-lengthened, lengthens-end_class, lengthens-loads}
 use Rattle.state.proofs.SlotsFit.{all_snoc, all-set_code}
 
@@ -120,10 +120,6 @@ pub within-chain-else : {l : Limits} (base : ℕ) (slots : List Name) (keep : Ke
 within-chain-else base slots keep b k s m w = within-set k _ (emit_at base (emit_block slots keep b) s) (rw (chain-else base slots keep b k s (emit_at base (emit_block slots keep b) s) m refl) at w)
 
 -- ---- functions
-
-pub within-begun : {l : Limits} (k arity : ℕ) (frame : Frame) (s : State) → Within l (begun k arity frame s) → Within l s
-unfolding begun
-within-begun k arity frame s w = within-tables s (begin k arity frame s.tables) (begin-lengthened k arity frame s.tables) w
 
 -- a function that has begun has at most 255 slots
 pub begun-slots : {l : Limits} (k arity : ℕ) (frame : Frame) (s : State) → Within l (begun k arity frame s) → frame.locals ≤ 255

@@ -6,7 +6,7 @@ use Rattle.definitions.specs.Bytes.{Name}
 use Rattle.state.specs.Index.{Covered, none_covered, covered}
 use Rattle.state.specs.State.{Slots}
 
-covered-prop : {size : ℕ} {buckets : List ℕ} {j : ℕ} {xs : List Name} → (c d : Covered size buckets j xs) → c ≡ d
+pub covered-prop : {size : ℕ} {buckets : List ℕ} {j : ℕ} {xs : List Name} → (c d : Covered size buckets j xs) → c ≡ d
 covered-prop none_covered none_covered = refl
 covered-prop (covered a b c) (covered d e f) = λ i. covered (le_prop a d i) (le_prop b e i) (covered-prop c f i)
 

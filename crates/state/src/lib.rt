@@ -1,7 +1,6 @@
 // What the lowering reads, and what it keeps in the slices lent to it.
 #![tactic(auto)]
 
-ghost use Rattle.std.specs.Prelude.{◌≤◌, length};
 ghost use Rattle.state.specs.State.{Slots};
 ghost use Rattle.state.specs.Props.{slots-prop};
 
@@ -36,6 +35,5 @@ pub struct Counts {
 pub struct Scope<'a> {
     pub tree: &'a [u8],
     pub slots: &'a [u32],
-    pub ghost short: { length tree.now ≤ 32768 },
     pub ghost slotted: { Slots tree.now slots.now } by { slots-prop _ _ },
 }

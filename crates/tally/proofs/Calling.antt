@@ -11,7 +11,7 @@ use Rattle.definitions.specs.Reader.{function_record, read_module}
 use Rattle.definitions.specs.Tables.{Tables}
 use Rattle.definitions.proofs.ReadFits.{module-short}
 use Rattle.reader.specs.View.{tables_of, Opens, number_at}
-use Rattle.std.specs.Prelude.{Result, Ok, Err}
+use Rattle.std.specs.Prelude.{Ok, Err}
 use Rattle.questions.specs.declared.Question.{Question}
 use Rattle.questions.specs.Numbers.{number}
 use Rattle.reader.specs.declared.Sections.{Sections}

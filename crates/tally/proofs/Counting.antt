@@ -1,10 +1,10 @@
 -- What is counted of instructions and of functions that stand one after the other.
 use mathlib.Core.Path.{◌≡◌, refl, sym, ap, ◌∙◌, subst}
-use mathlib.Core.Bool.{Bool}
+use mathlib.Core.Bool.{Bool, true, false}
+use Rattle.std.specs.Int.{from_bool}
 use mathlib.Core.List.{List}
 use Prim.Native.Nat.{ℕ, ◌+◌, ◌-◌, ◌≤◌, ◌<◌}
 use native.Mathlib.Omega.{arith}
-use borrow.Author.Tests.{ne_eqb}
 use lib.ListN.{length}
 use Rattle.definitions.specs.Instruction.{instr}
 use Rattle.definitions.specs.Sheet.{is_question, is_call, one_if, tally}
@@ -20,16 +20,11 @@ use Rattle.tally.proofs.Walking.{stepped, reads_none, Function-here, code-many}
 
 -- ---- an opcode's kind
 
-pub kind-is : (p : ℕ → Bool) (op k v : ℕ) → op ≡ k → one_if (p k) ≡ v → v ≡ one_if (p op)
-kind-is p op k v e f = sym f ∙ ap (λ (n : ℕ). one_if (p n)) (sym e)
-
-pub no-question : (op : ℕ) → (op ≡ 29 → ⊥) → (op ≡ 30 → ⊥) → 0 ≡ one_if (is_question op)
-unfolding is_question one_if
-no-question op a b = simp (ne_eqb op 29 a, ne_eqb op 30 b)
-
-pub no_call : (op : ℕ) → (op ≡ 31 → ⊥) → (op ≡ 32 → ⊥) → (op ≡ 34 → ⊥) → (op ≡ 35 → ⊥) → 0 ≡ one_if (is_call op)
-unfolding is_call one_if
-no_call op a b c d = simp (ne_eqb op 31 a, ne_eqb op 32 b, ne_eqb op 34 c, ne_eqb op 35 d)
+-- what is added for an instruction of the kind, or not of it
+pub one-more : (p : ℕ → Bool) (op : ℕ) (b : Bool) (x : ℕ) → b ≡ p op → x ≡ from_bool b → (x ≡ one_if (p op)) × (x ≤ 1)
+unfolding one_if
+one-more p op true x e f = (f ∙ ap one_if e, omega arith)
+one-more p op false x e f = (f ∙ ap one_if e, omega arith)
 
 -- ---- instructions
 

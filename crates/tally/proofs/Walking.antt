@@ -10,7 +10,7 @@ use Rattle.definitions.specs.Reader.{instruction, function_record}
 use Rattle.definitions.specs.Tables.{Function}
 use Rattle.definitions.proofs.Begins.{Takes, takes-instruction, takes-function}
 use Rattle.reader.specs.View.{Got, found_at, number_at}
-use Rattle.std.specs.Prelude.{Option, Some, None}
+use Rattle.std.specs.Prelude.{Option, None}
 use Rattle.reader.specs.declared.Instruction.{Instruction}
 use Rattle.reader.proofs.Finding.{counted-view, function-view, give-view}
 use Rattle.reader.proofs.Questions.{list-view}

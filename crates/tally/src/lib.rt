@@ -4,7 +4,7 @@
 ghost use Rattle.std.specs.Prelude.{◌≡◌, ◌≤◌, length};
 ghost use Rattle.definitions.specs.Module.{instructions};
 ghost use Rattle.definitions.specs.Reader.{function_record, instruction};
-ghost use Rattle.definitions.specs.Sheet.{is_question, is_call, one_if};
+ghost use Rattle.definitions.specs.Sheet.{is_question, is_call};
 ghost use Rattle.tally.specs.Walk.{Values, functions_from};
 ghost use Rattle.tally.specs.Counts.{Tallies};
 
@@ -36,36 +36,20 @@ pub const COUNT: usize = 5;
 
 pub const CODE: usize = 7;
 
-// 1 for a conditional jump, 0 for any other.
-pub fn question(op: u8) -> u64
-    ensures { (result ≡ one_if (is_question op)) × (result ≤ 1) }
+// A conditional jump.
+#[tactic(auto, unfolding(definitions::specs::Sheet::is_question))]
+pub fn is_question(op: u8) -> bool
+    ensures { result ≡ is_question op }
 {
-    if op == JUMP_IF_FALSE {
-        return 1;
-    }
-    if op == JUMP_IF_TRUE {
-        return 1;
-    }
-    0
+    matches!(op, JUMP_IF_FALSE | JUMP_IF_TRUE)
 }
 
-// 1 for a call, 0 for any other.
-fn call(op: u8) -> u64
-    ensures { (result ≡ one_if (is_call op)) × (result ≤ 1) }
+// A call.
+#[tactic(auto, unfolding(definitions::specs::Sheet::is_call))]
+fn is_call(op: u8) -> bool
+    ensures { result ≡ is_call op }
 {
-    if op == CALL {
-        return 1;
-    }
-    if op == CALL_BUILTIN {
-        return 1;
-    }
-    if op == CALL_VALUE {
-        return 1;
-    }
-    if op == CALL_METHOD {
-        return 1;
-    }
-    0
+    matches!(op, CALL | CALL_BUILTIN | CALL_VALUE | CALL_METHOD)
 }
 
 // n instructions from `at` on.
@@ -83,13 +67,13 @@ pub fn count_code(bytes: &[u8], at: usize, n: u64) -> Tallied
             return tallied;
         };
         tallied.at = instruction.next;
-        tallied.questions += question(instruction.op);
-        tallied.calls += call(instruction.op);
+        tallied.questions += u64::from(is_question(instruction.op));
+        tallied.calls += u64::from(is_call(instruction.op));
     }
     tallied
 }
 
-// The instructions of `count` functions from `at` on.
+// The instructions of `count` functions from `at` on. That they stand there (Values) is said of a place that moves on, so no struct keeps it.
 pub fn count_functions(bytes: &[u8], at: usize, count: u64) -> u64
     requires { Values function_record count bytes.now at }
     ensures { (result ≡ instructions (functions_from count bytes.now at)) × (result ≤ length bytes.now) }

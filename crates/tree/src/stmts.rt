@@ -32,7 +32,7 @@ fn check_value(c: &mut Checker<'_>, depth: u32) -> Result<(), Question>
     check_expr(c, depth, Role::Value)
 }
 
-// n class attributes.
+// n class attributes. `check_methods` has this shape: one walk for both would take a closure, and each closure its own clauses, in more lines.
 fn check_values(c: &mut Checker<'_>, depth: u32, n: u32) -> Result<(), Question>
     ensures { Judged result c.old c.new (λ t p w. judge_attributes depth t n p w) }
 {
@@ -145,7 +145,7 @@ fn check_else(c: &mut Checker<'_>, context: Context) -> Result<(), Question>
     }
 }
 
-// A variable's name, an expression and a block.
+// A variable's name, an expression and a block. Two calls one after the other, as in `check_method`: nothing is left to share.
 #[cycle(check)]
 fn check_for(c: &mut Checker<'_>, depth: u32) -> Result<(), Question>
     ensures { Judged result c.old c.new (judge_for depth) }

@@ -1,8 +1,8 @@
 // Cases of tests/vectors from an input: a case a line, its fields parted by tabs, its name first.
 #![tactic(auto)]
 
-ghost use Rattle.std.specs.Prelude.{◌≡◌, ◌≤◌, length, true, false, is_none, is_some, IfSome, Some};
-ghost use Rattle.vectors.specs.Lines.{is_end, is_tab};
+ghost use Rattle.std.specs.Prelude.{◌≡◌, ◌≤◌, length, true, false, is_none, is_some, IfOk, IfSome, Some};
+ghost use Rattle.vectors.specs.Lines.{is_end, is_tab, Cases};
 
 use digits::{decimal_of, digit_of, pair};
 use input::read_full;
@@ -53,7 +53,7 @@ impl<R: Read> Lines<R> {
     }
 
     // Whether the input has ended.
-    pub fn has_ended(&self) -> bool
+    fn has_ended(&self) -> bool
         ensures { result ≡ is_none self.now.last }
     {
         self.last.is_none()
@@ -61,7 +61,7 @@ impl<R: Read> Lines<R> {
 
     // Whether another field follows in the line.
     #[tactic(auto, unfolding(crate::specs::Lines::is_tab))]
-    pub fn has_field(&self) -> bool
+    fn has_field(&self) -> bool
         ensures { result ≡ is_tab self.now.last }
     {
         matches!(self.last, Some(b'\t'))
@@ -98,7 +98,7 @@ impl<R: Read> Lines<R> {
     }
 
     // To the end of the line.
-    pub fn skip_line(&mut self)
+    fn skip_line(&mut self)
         ensures ends { is_end false self.new.last ≡ true }
         ensures stays { is_end false self.old.last ≡ true → self.new ≡ self.old }
     {
@@ -106,7 +106,7 @@ impl<R: Read> Lines<R> {
     }
 
     // From the end of a line past the name of the next.
-    pub fn skip_name(&mut self)
+    fn skip_name(&mut self)
         ensures { is_end true self.new.last ≡ true }
     {
         self.take();
@@ -125,9 +125,9 @@ impl<R: Read> Lines<R> {
 
     // The characters of the rest of a field, of which the first is taken.
     fn text<'a>(&mut self, out: &'a mut [u8]) -> &'a [u8] {
-        for n in 0..out.len() {
+        for (n, byte) in out.iter_mut().enumerate() {
             match self.last {
-                Some(c) if !is_end(self.last, true) => out[n] = c,
+                Some(c) if !is_end(self.last, true) => *byte = c,
                 _ => return &out[..n],
             }
             self.take();
@@ -135,27 +135,28 @@ impl<R: Read> Lines<R> {
         out
     }
 
-    // The digit that was taken last.
+    // The digit that was taken last. A field comes byte by byte from an input in pieces, so the library, which reads whole texts, serves its number alone.
     fn digit(&self) -> Option<u32> {
         digit_of(u32::from(self.last?))
     }
 
     // The bytes of the rest of a field in hexadecimal, of which the first character is taken; none where a digit has no second; `-` has no byte.
     fn bytes<'a>(&mut self, out: &'a mut [u8]) -> Option<&'a [u8]>
-        ensures { IfSome result (λ bytes. length bytes.now ≤ length out.old) }
+        ensures size { IfSome result (λ bytes. length bytes.now ≤ length out.old) }
+        ensures begins { IfSome result (λ bytes. (bytes.ref_ptr.0 ≡ out.entry.ref_ptr.0) × (bytes.ref_ptr.1 ≡ out.entry.ref_ptr.1)) }
     {
         if self.last == Some(b'-') {
             self.take();
             return Some(&out[..0]);
         }
-        for n in 0..out.len() {
+        for (n, byte) in out.iter_mut().enumerate() {
             let Some(high) = self.digit() else {
                 return Some(&out[..n]);
             };
             self.take();
             let low = self.digit()?;
             self.take();
-            out[n] = pair(high, low);
+            *byte = pair(high, low);
         }
         Some(out)
     }
@@ -163,6 +164,7 @@ impl<R: Read> Lines<R> {
     // The bytes of the field after a tab in hexadecimal; `-` has none. A field of more bytes than `out` holds is skipped, and there are none.
     pub fn hex_field<'a>(&mut self, out: &'a mut [u8]) -> Option<&'a [u8]>
         ensures size { IfSome result (λ bytes. length bytes.now ≤ length out.old) }
+        ensures begins { IfSome result (λ bytes. (bytes.ref_ptr.0 ≡ out.entry.ref_ptr.0) × (bytes.ref_ptr.1 ≡ out.entry.ref_ptr.1)) }
         ensures ends { is_tab self.old.last ≡ true → is_end true self.new.last ≡ true }
         ensures some { is_some result ≡ true → is_tab self.old.last ≡ true }
         ensures none { is_tab self.old.last ≡ false → self.new ≡ self.old }
@@ -190,16 +192,18 @@ impl<R: Read> Lines<R> {
         if self.finish() { number } else { None }
     }
 
-    // Each case in turn: `read` takes the fields after its name, and the rest of its line is skipped.
+    // Each case in turn, up to an error: `read` takes the fields after its name, and the rest of its line is skipped.
     pub fn each_case<E, F: FnMut(&mut Lines<R>) -> Result<(), E>>(
         &mut self,
         mut read: F,
     ) -> Result<(), E>
         requires { F.IsAlwaysCallable read }
+        ensures ends { IfOk result (λ _. is_none self.new.last ≡ true) }
+        ensures cases { Cases (λ lines. lines.last) F.FnMut read self.old result self.new }
     {
         for _ in 0..u64::MAX {
             if self.has_ended() {
-                break;
+                return Ok(());
             }
             self.skip_name();
             if self.has_field() {
@@ -207,21 +211,23 @@ impl<R: Read> Lines<R> {
                 self.skip_line();
             }
         }
+        self.last = None;
         Ok(())
     }
 
-    // The answer to a case whose first field is in hexadecimal, by the bytes of the field.
-    pub fn replay<P: Print, F: FnOnce(&[u8]) -> io::Result<()>>(
+    // The answer to each case, whose first field is in hexadecimal, by the bytes of the field, for which `out` has room.
+    pub fn replay<P: Print, F: Fn(&[u8]) -> io::Result<()>>(
         &mut self,
         rt: &P,
         out: &mut [u8],
         answer: F,
     ) -> io::Result<()>
         requires { F.IsAlwaysCallable answer }
+        ensures { IfOk result (λ _. is_none self.new.last ≡ true) }
     {
-        match self.hex_field(out) {
+        self.each_case(|case| match case.hex_field(out) {
             Some(bytes) => answer(bytes),
             None => rt.println("not read"),
-        }
+        })
     }
 }

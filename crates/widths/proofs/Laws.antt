@@ -23,13 +23,33 @@ row_past : (op : ℕ) → 46 ≤ op → row_of op ≡ row "" 0 0 nothing
 unfolding row_of instruction_table
 row_past op h = get_or-eq_default instruction_table (row "" 0 0 nothing) h
 
--- the last opcodes without a first operand
-pub first_none : (op : ℕ) → 43 ≤ op → (op ≡ 45 → ⊥) → 0 ≡ first_width op
-unfolding first_width row_of instruction_table
-first_none op h n = ⊎_elim
-    (λ (k : 46 ≤ op). sym (ap (λ (r : Row). r.first) (row_past op k)))
-    (λ (k : op < 46). run first_width 0 43 2 op tt h (omega arith))
-    (le-or-gt 46 op)
+-- the opcodes with a first operand
+unfoldable pub has_first : ℕ → Bool
+has_first k = eqb k 0 || (eqb k 1 || (eqb k 2 || (eqb k 6 || (eqb k 9 || (eqb k 10 || (eqb k 11 || (eqb k 12 || (eqb k 28 || (eqb k 29 || (eqb k 30 || (eqb k 31 || (eqb k 32 || (eqb k 34 || (eqb k 35 || (eqb k 36 || (eqb k 37 || (eqb k 38 || (eqb k 39 || (eqb k 40 || (eqb k 41 || (eqb k 42 || (eqb k 45))))))))))))))))))))))
+
+first-column : List ℕ
+first-column = map (λ (r : Row). r.first) instruction_table
+
+first-is : (op : ℕ) → get_or first-column op 0 ≡ first_width op
+unfolding first-column first_width row_of
+first-is op = get_or-map (λ (r : Row). r.first) instruction_table op (row "" 0 0 nothing)
+
+first-rule : ℕ → ℕ → Bool
+first-rule k x = eqb x 0 || has_first k
+
+first-within : (op : ℕ) → op < 46 → T (eqb (get_or first-column op 0) 0 || has_first op)
+unfolding first-column first-rule has_first instruction_table
+first-within op h = at first-rule first-column tt op h
+
+first_past : (op : ℕ) → 46 ≤ op → 0 ≡ get_or first-column op 0
+unfolding first-column instruction_table
+first_past op h = sym (get_or-eq_default first-column 0 h)
+
+pub first-none : (op : ℕ) → has_first op ≡ false → 0 ≡ first_width op
+first-none op e = ⊎_elim
+    (λ (h : 46 ≤ op). first_past op h)
+    (λ (h : op < 46). no_key (get_or first-column op 0) (has_first op) (first-within op h) e)
+    (le-or-gt 46 op) ∙ first-is op
 
 -- the last opcodes without a second operand
 pub second_none : (op : ℕ) → 33 ≤ op → (op ≡ 35 → ⊥) → (op ≡ 45 → ⊥) → 0 ≡ second_width op

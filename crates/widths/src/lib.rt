@@ -6,18 +6,36 @@ ghost use Rattle.definitions.specs.Instruction.{first_width, second_width};
 
 use numerals::op_places::*;
 
-// Bytes of an instruction's first operand.
+// Bytes of an instruction's first operand. An opcode an arm: tried by or-patterns, which become tests one after the other, and reading a module takes
+// a fifth longer.
 #[tactic(auto, unfolding(definitions::specs::Instruction::first_width, definitions::specs::Instruction::row_of, definitions::specs::Instruction::instruction_table))]
 pub fn first_width(op: usize) -> u8
     ensures { (result ≡ first_width op) × (result ≤ 8) }
 {
     match op {
-        CONST_I64 | CONST_F64 => 8,
-        CONST_STR | LOAD_CONST | JUMP | JUMP_IF_FALSE | JUMP_IF_TRUE => 4,
-        LOAD_LOCAL | STORE_LOCAL | LOAD_GLOBAL | STORE_GLOBAL | LOAD_ATTR | STORE_ATTR => 2,
-        BUILD_LIST | BUILD_TUPLE | BUILD_DICT | BUILD_SET | BUILD_TREE_SET => 2,
-        CALL | CALL_METHOD | MAKE_CLOSURE => 2,
-        CALL_BUILTIN | CALL_VALUE => 1,
+        CONST_I64 => 8,
+        CONST_F64 => 8,
+        CONST_STR => 4,
+        LOAD_CONST => 4,
+        LOAD_LOCAL => 2,
+        STORE_LOCAL => 2,
+        LOAD_GLOBAL => 2,
+        STORE_GLOBAL => 2,
+        JUMP => 4,
+        JUMP_IF_FALSE => 4,
+        JUMP_IF_TRUE => 4,
+        CALL => 2,
+        CALL_BUILTIN => 1,
+        CALL_VALUE => 1,
+        CALL_METHOD => 2,
+        LOAD_ATTR => 2,
+        STORE_ATTR => 2,
+        BUILD_LIST => 2,
+        BUILD_TUPLE => 2,
+        BUILD_DICT => 2,
+        BUILD_SET => 2,
+        BUILD_TREE_SET => 2,
+        MAKE_CLOSURE => 2,
         _ => 0,
     }
 }

@@ -12,10 +12,10 @@ use Rattle.compile.proofs.Compiling.{block-lowerable}
 use Rattle.compile.proofs.emit_main.Goals as goal
 
 pub invariant_of-s : goal.invariant_of-s
-invariant_of-s c = record { short = c.requires.1.small; slotted = none-slots _ _ refl }
+invariant_of-s c = record { slotted = none-slots _ _ refl }
 
 pub emit_block-requires : goal.emit_block-requires
-emit_block-requires c = (c.requires.0, block-lowerable _ c.requires.1, record { at = λ h. absurd (omega arith) })
+emit_block-requires c = (record { tree-short = c.requires.1.small; sound = c.requires.0 }, block-lowerable _ c.requires.1, record { at = λ h. absurd (omega arith) })
 
 pub returns-in_err-next : goal.returns-in_err-next
 unfolding names_at keeping_of

@@ -9,8 +9,8 @@ use Rattle.lower_classes.proofs.end_class.Goals as goal
 
 pub returns : goal.returns
 returns c =
-    let t = c.args.tables.now in
-    let from = methods_from + t.methods in
-    let n = length c.args.methods.now in
-    ends-class c.args.i c.args.at (put_mid-paste from (from + n - from) t.entries.now c.copy_from_slice.new.self c.args.methods.now n c.copy_from_slice.ensures.after (omega arith) refl)
-    (record { made = refl; entries = refl; counts = λ code. refl; limits = λ code. refl })
+    let a = c.args in
+    let from = methods_from + a.before.now in
+    let n = length a.methods.now in
+    ends-class a.i a.at (put_mid-paste from (from + n - from) a.entries.now.words.now c.copy_from_slice.new.self a.methods.now n c.copy_from_slice.ensures.after (omega arith) refl)
+    (λ ts. record { made = refl; entries = refl; counts = λ code. refl; limits = λ code. refl; areas = λ code. record { words = refl; made = refl; entries = refl } })

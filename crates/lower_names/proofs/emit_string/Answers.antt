@@ -9,14 +9,20 @@ use Rattle.lower_names.proofs.emit_string.Goals as goal
 
 pub returns-in_err-i : goal.returns-in_err-i
 returns-in_err-i c = let a = c.args in
-    record { lowers = λ S. string-over (λ n. ConstStr n) (text_at a.tree.now a.at) (c.string_number.ensures.numbers a.e.now.code S) c.in_err-i.was c.from_residual.ensures }
+    record {
+      lowers = λ ts S. string-over (λ n. ConstStr n) (text_at a.tree.now a.at) ((c.string_number.ensures.tables ts).numbers a.code.now S) c.in_err-i.was c.from_residual.ensures;
+      area = refl;
+      entries = c.string_number.ensures.entries;
+    }
 
 pub returns : goal.returns
 returns c = let a = c.args in
     record {
-      lowers = λ S.
-          let h = c.string_number.ensures.numbers a.e.now.code S in
+      lowers = λ ts S.
+          let h = (c.string_number.ensures.tables ts).numbers a.code.now S in
           let b = c.string_number.ensures.below _ c.in_ok-i.was in
           string-put (λ n. ConstStr n) (text_at a.tree.now a.at) h c.in_ok-i.was
           (put-lifts (sound-next c.in_ok-i.was h.reaches) refl (instr-plain _ 2 _ 0 (plain-below 2 _ 0 (omega arith) (omega arith) (omega (arith, b)) (omega arith))) c.put_op.ensures);
+      area = c.put_op.ensures.kept.area;
+      entries = c.string_number.ensures.entries;
     }

@@ -1,26 +1,46 @@
+use Prim.Native.Nat.{ℕ, ◌+◌, ◌%◌, ◌<◌}
 use native.Mathlib.Omega.{arith}
-use mathlib.Core.Path.{refl}
-use mathlib.Core.Option.{none, some}
+use mathlib.Core.Path.{◌≡◌, refl, sym, ap, subst, ◌∙◌}
+use mathlib.Core.Option.{some, none}
+use Rattle.std.specs.Prelude.{Option, Some, None}
+use Rattle.std.proofs.Common.{rules}
+use Rattle.names.specs.Sought.{place_in}
 use Rattle.state.specs.Words.{region}
+use Rattle.state.specs.State.{string_buckets}
+use Rattle.lower_names.specs.Naming.{SeeksText}
 use Rattle.lower_names.proofs.Strings.{text-lt, seeks-some, seeks-none}
+use Rattle.lower_names.proofs.seek_text.Goals.{After-first-1, After-map-found}
 use Rattle.lower_names.proofs.seek_text.Goals as goal
 
-pub overflow_cast-found : goal.overflow_cast-found
+small : (c : After-first-1) (x : ℕ) → c.find_text.result ≡ Some x → c.first_number-first.result + x < 4294967296
 unfolding region
-overflow_cast-found c =
-    let t = c.args.tables.now in
-    omega (arith, text-lt c.args.tree.now t c.args.at (some c.in-Some.i) c.requires c.text_part-text.ensures.result_value c.hash-bucket.ensures.0 c.first_number-first.ensures.0 c.in-Some.ensures c.in-Some.i refl, t.strings_size, t.strings_most)
+small c x e = let a = c.args in let n = c.args.strings in
+    let found = sym (ap place_in e) ∙ c.find_text.ensures in
+    let below = text-lt a.tree.now n a.entries.now a.at (some x) c.requires c.text_part-text.ensures.result_value c.hash-bucket.ensures.0 c.first_number-first.ensures.0 found x refl in
+    omega (arith, below, c.requires.size, n.most)
 
-pub overflow_add-found : goal.overflow_add-found
-unfolding region
-overflow_add-found c =
-    let t = c.args.tables.now in
-    omega (arith, text-lt c.args.tree.now t c.args.at (some c.in-Some.i) c.requires c.text_part-text.ensures.result_value c.hash-bucket.ensures.0 c.first_number-first.ensures.0 c.in-Some.ensures c.in-Some.i refl, t.strings_size, t.strings_most)
+pub map-found-requires : goal.map-found-requires
+map-found-requires c x e = let f = small c x e in ((λ κs l s r z. omega arith), (λ κs l s r z. omega arith))
 
-pub returns-in-Some : goal.returns-in-Some
-unfolding region
-returns-in-Some c = seeks-some c.args.tree.now c.args.tables.now c.args.at (some c.in-Some.i) c.requires c.text_part-text.ensures.result_value c.hash-bucket.ensures.0 c.first_number-first.ensures.0 c.in-Some.ensures c.first_number-first.ensures.1 c.in-Some.i refl
+moved : (c : After-map-found) (x : ℕ) → c.find_text.result ≡ Some x → c.map-found.result ≡ Some (c.first_number-first.result + x)
+moved c x e = search rules
 
-pub returns-in-None : goal.returns-in-None
+missed : (c : After-map-found) → c.find_text.result ≡ None → c.map-found.result ≡ None
+missed c e = search rules
+
+pub returns : goal.returns
 unfolding region
-returns-in-None c = seeks-none c.args.tree.now c.args.tables.now c.args.at none c.requires c.text_part-text.ensures.result_value c.hash-bucket.ensures.0 c.first_number-first.ensures.0 c.in-None.ensures c.first_number-first.ensures.1 refl
+returns c = go c.find_text.result refl
+  where
+    Sought-by : Option ℕ → Type 0
+    Sought-by f = let a = c.args in SeeksText (record { bucket = c.hash-bucket.result % string_buckets; first = c.first_number-first.result; found = f }) a.tree.now a.strings a.entries.now a.at
+
+    go : (o : Option ℕ) → c.find_text.result ≡ o → Sought-by c.map-found.result
+    go (Some x) e = let a = c.args in
+        subst Sought-by (sym (moved c x e))
+        (seeks-some a.tree.now a.strings a.entries.now a.at (some x) c.requires c.text_part-text.ensures.result_value c.hash-bucket.ensures.0 c.first_number-first.ensures.0 (sym (ap place_in e) ∙ c.find_text.ensures)
+        c.first_number-first.ensures.1 x refl)
+    go None e = let a = c.args in
+        subst Sought-by (sym (missed c e))
+        (seeks-none a.tree.now a.strings a.entries.now a.at none c.requires c.text_part-text.ensures.result_value c.hash-bucket.ensures.0 c.first_number-first.ensures.0 (sym (ap place_in e) ∙ c.find_text.ensures)
+        c.first_number-first.ensures.1 refl)

@@ -7,6 +7,8 @@ use lib.Seq.{length-take-le}
 use Rattle.definitions.specs.Instruction.{instr}
 use Rattle.definitions.specs.Slots.{loops_branches}
 use Rattle.definitions.specs.Lower.{ask_iter}
+use Rattle.numerals.specs.Kinds.{stmt_byte}
+use Rattle.numerals.specs.declared.kinds.StmtKind.TheVariants.{If, While, For, Def, Class}
 use Rattle.parts.specs.Places.{count_at, name_end}
 use Rattle.exprs.specs.ExprAt.{expr_at}
 use Rattle.tree.specs.StmtAt.{body_at, class_methods_at, block_at, branches_at}
@@ -16,6 +18,7 @@ use Rattle.state.specs.State.{slots_from, slot_names}
 use Rattle.state.specs.Kept.{keeping_of, Spare}
 use Rattle.state.proofs.Kept.{passes_over, passes-done, passes_none, spare-first, spare-then, keeping-then, passes_then}
 use Rattle.state.proofs.Growth.{lengthens-emits, lengthens-seq, lengthens-block, lengthens-take_iter}
+use Rattle.lower_forms.proofs.Sole.{sole-at}
 use Rattle.lower_emit.proofs.Packing.{instr-jump}
 use Rattle.lower_emit.proofs.Steps.{sound-next, lowers-by, lowers_then, lowers-stopped, writes-in}
 use Rattle.lower_emit.proofs.Parts.{emits-by, emits-stopped, emits-words, emits-no-words, words-end, words-none}
@@ -26,6 +29,7 @@ use Rattle.lower_forms.proofs.Sequences.{block-at, elifs-at}
 use Rattle.lower_forms.proofs.StmtArms.{block-parts, elifs-more, elifs-none, else-parts, else-in, else-one, methods-parts, stmts-more}
 use Rattle.lower_forms.proofs.StmtArms.{arm-deep, arm-inside, arm-known, arm-if, arm-while, arm-for, arm-def, arm-class}
 use Rattle.lower_loops.specs.Iterators.{keeper_of}
+use Rattle.lower_simple.proofs.KindBytes.{byte-is, simple-kinds}
 use Rattle.lower_stmt.proofs.Between.{next-none}
 use Rattle.lower_stmt.proofs.Sequence.{passes-by, stmts-all, stmts-sound, stmts-spare, stmts-over, stmts-next, stmts-done, block-is, block-by, spare-at, block-stmts}
 use Rattle.lower_stmt.proofs.Branches.{loop-stopped, loop-over, inside-above, end-above, loop-ends, branch-stopped, branch-over, branch-ends, if-stopped, if-open, if-done}
@@ -41,96 +45,110 @@ use Rattle.lower_stmt.proofs.+emit.Goals as goal
 pub emit_stmt-bounds-s-at : goal.emit_stmt-bounds-s-at
 emit_stmt-bounds-s-at t c = arm-inside _ _ _ c.requires.1
 
+pub emit_stmt-of-requires : goal.emit_stmt-of-requires
+emit_stmt-of-requires t c = arm-known _ _ _ c.requires.1
+
 pub emit_stmt-overflow_sub-depth : goal.emit_stmt-overflow_sub-depth
 emit_stmt-overflow_sub-depth t c = omega (arith, arm-deep _ _ _ c.requires.1)
 
 pub emit_stmt-emit_if-requires : goal.emit_stmt-emit_if-requires
+unfolding stmt_byte
 emit_stmt-emit_if-requires t c = (
   omega (arith, c.decreases, arm-deep _ _ _ c.requires.1),
-  (c.requires.0, (arm-if _ _ _ c.requires.1 c.in-6.is).parts, subst (Spare c.args.it.now) (sym (if-loops _ _ _ c.requires.1.reads c.in-6.is)) c.requires.2),
+  (c.requires.0, (arm-if _ _ _ c.requires.1 (byte-is If c.of.ensures c.in-If.is)).parts, subst (Spare c.args.it.now) (sym (if-loops _ _ _ c.requires.1.reads (byte-is If c.of.ensures c.in-If.is))) c.requires.2),
 )
 
-pub emit_stmt-returns-in-6 : goal.emit_stmt-returns-in-6
-emit_stmt-returns-in-6 t c =
-    let m = arm-if _ _ _ c.requires.1 c.in-6.is in
-    (emits-by c.emit_if.ensures.0 (sym (m.code _ _)) m.end, passes-by (if-loops _ _ _ c.requires.1.reads c.in-6.is) c.emit_if.ensures.1)
+pub emit_stmt-returns-in-If : goal.emit_stmt-returns-in-If
+unfolding stmt_byte
+emit_stmt-returns-in-If t c =
+    let m = arm-if _ _ _ c.requires.1 (byte-is If c.of.ensures c.in-If.is) in
+    (emits-by c.emit_if.ensures.0 (sym (m.code _ _)) m.end, passes-by (if-loops _ _ _ c.requires.1.reads (byte-is If c.of.ensures c.in-If.is)) c.emit_if.ensures.1)
 
-pub emit_stmt-overflow_sub-depth-in-7 : goal.emit_stmt-overflow_sub-depth-in-7
-emit_stmt-overflow_sub-depth-in-7 t c = omega (arith, arm-deep _ _ _ c.requires.1)
+pub emit_stmt-overflow_sub-depth-in-While : goal.emit_stmt-overflow_sub-depth-in-While
+emit_stmt-overflow_sub-depth-in-While t c = omega (arith, arm-deep _ _ _ c.requires.1)
 
 pub emit_stmt-emit_while-requires : goal.emit_stmt-emit_while-requires
+unfolding stmt_byte
 emit_stmt-emit_while-requires t c = (
   omega (arith, c.decreases, arm-deep _ _ _ c.requires.1),
-  (c.requires.0, (arm-while _ _ _ c.requires.1 c.in-7.is).parts, subst (Spare c.args.it.now) (sym (while-loops _ _ _ c.requires.1.reads c.in-7.is)) c.requires.2),
+  (c.requires.0, (arm-while _ _ _ c.requires.1 (byte-is While c.of.ensures c.in-While.is)).parts, subst (Spare c.args.it.now) (sym (while-loops _ _ _ c.requires.1.reads (byte-is While c.of.ensures c.in-While.is))) c.requires.2),
 )
 
-pub emit_stmt-returns-in-7 : goal.emit_stmt-returns-in-7
-emit_stmt-returns-in-7 t c =
-    let m = arm-while _ _ _ c.requires.1 c.in-7.is in
-    (emits-by c.emit_while.ensures.0 (sym (m.code _ _)) m.end, passes-by (while-loops _ _ _ c.requires.1.reads c.in-7.is) c.emit_while.ensures.1)
+pub emit_stmt-returns-in-While : goal.emit_stmt-returns-in-While
+unfolding stmt_byte
+emit_stmt-returns-in-While t c =
+    let m = arm-while _ _ _ c.requires.1 (byte-is While c.of.ensures c.in-While.is) in
+    (emits-by c.emit_while.ensures.0 (sym (m.code _ _)) m.end, passes-by (while-loops _ _ _ c.requires.1.reads (byte-is While c.of.ensures c.in-While.is)) c.emit_while.ensures.1)
 
-pub emit_stmt-overflow_sub-depth-in-8 : goal.emit_stmt-overflow_sub-depth-in-8
-emit_stmt-overflow_sub-depth-in-8 t c = omega (arith, arm-deep _ _ _ c.requires.1)
+pub emit_stmt-overflow_sub-depth-in-For : goal.emit_stmt-overflow_sub-depth-in-For
+emit_stmt-overflow_sub-depth-in-For t c = omega (arith, arm-deep _ _ _ c.requires.1)
 
 pub emit_stmt-emit_for-requires : goal.emit_stmt-emit_for-requires
+unfolding stmt_byte
 emit_stmt-emit_for-requires t c = (
   omega (arith, c.decreases, arm-deep _ _ _ c.requires.1),
-  (c.requires.0, (arm-for _ _ _ c.requires.1 c.in-8.is).parts, subst (Spare c.args.it.now) (sym (for-loops _ _ _ c.requires.1.reads c.in-8.is)) c.requires.2),
+  (c.requires.0, (arm-for _ _ _ c.requires.1 (byte-is For c.of.ensures c.in-For.is)).parts, subst (Spare c.args.it.now) (sym (for-loops _ _ _ c.requires.1.reads (byte-is For c.of.ensures c.in-For.is))) c.requires.2),
 )
 
-pub emit_stmt-returns-in-8 : goal.emit_stmt-returns-in-8
-emit_stmt-returns-in-8 t c =
-    let m = arm-for _ _ _ c.requires.1 c.in-8.is in
-    (emits-by c.emit_for.ensures.0 (sym (m.code _ _)) m.end, passes-by (for-loops _ _ _ c.requires.1.reads c.in-8.is) c.emit_for.ensures.1)
+pub emit_stmt-returns-in-For : goal.emit_stmt-returns-in-For
+unfolding stmt_byte
+emit_stmt-returns-in-For t c =
+    let m = arm-for _ _ _ c.requires.1 (byte-is For c.of.ensures c.in-For.is) in
+    (emits-by c.emit_for.ensures.0 (sym (m.code _ _)) m.end, passes-by (for-loops _ _ _ c.requires.1.reads (byte-is For c.of.ensures c.in-For.is)) c.emit_for.ensures.1)
 
-pub emit_stmt-overflow_sub-depth-in-9 : goal.emit_stmt-overflow_sub-depth-in-9
-emit_stmt-overflow_sub-depth-in-9 t c = omega (arith, arm-deep _ _ _ c.requires.1)
+pub emit_stmt-overflow_sub-depth-in-Def : goal.emit_stmt-overflow_sub-depth-in-Def
+emit_stmt-overflow_sub-depth-in-Def t c = omega (arith, arm-deep _ _ _ c.requires.1)
 
 pub emit_stmt-compile_function-requires : goal.emit_stmt-compile_function-requires
-emit_stmt-compile_function-requires t c = (omega (arith, c.decreases, arm-deep _ _ _ c.requires.1), (record { tree-short = c.args.s.short; sound = c.requires.0 }, (arm-def _ _ _ c.requires.1 c.in-9.is).parts))
+unfolding stmt_byte
+emit_stmt-compile_function-requires t c = (omega (arith, c.decreases, arm-deep _ _ _ c.requires.1), (c.requires.0, (arm-def _ _ _ c.requires.1 (byte-is Def c.of.ensures c.in-Def.is)).parts))
 
-pub emit_stmt-returns-in-9 : goal.emit_stmt-returns-in-9
-emit_stmt-returns-in-9 t c =
-    let m = arm-def _ _ _ c.requires.1 c.in-9.is in (
+pub emit_stmt-returns-in-Def : goal.emit_stmt-returns-in-Def
+unfolding stmt_byte
+emit_stmt-returns-in-Def t c =
+    let m = arm-def _ _ _ c.requires.1 (byte-is Def c.of.ensures c.in-Def.is) in (
       emits-by (compiles-emits (function_code (c.args.depth - 1) c.args.s.tree.now (c.args.at + 1) false) c.compile_function.ensures) (sym (m.code _ (keeping_of c.args.it.now))) m.end,
-      passes-by (other-loops _ _ _ c.requires.1.reads (λ h. omega (arith, c.in-9.is))) passes_none,
+      passes-by (other-loops _ _ _ c.requires.1.reads (λ h. omega (arith, (byte-is Def c.of.ensures c.in-Def.is)))) passes_none,
     )
 
-pub emit_stmt-overflow_sub-depth-in-10 : goal.emit_stmt-overflow_sub-depth-in-10
-emit_stmt-overflow_sub-depth-in-10 t c = omega (arith, arm-deep _ _ _ c.requires.1)
+pub emit_stmt-overflow_sub-depth-in-Class : goal.emit_stmt-overflow_sub-depth-in-Class
+emit_stmt-overflow_sub-depth-in-Class t c = omega (arith, arm-deep _ _ _ c.requires.1)
 
 pub emit_stmt-emit_class-requires : goal.emit_stmt-emit_class-requires
-emit_stmt-emit_class-requires t c = (omega (arith, c.decreases, arm-deep _ _ _ c.requires.1), (record { tree-short = c.args.s.short; sound = c.requires.0 }, (arm-class _ _ _ c.requires.1 c.in-10.is).parts))
+unfolding stmt_byte
+emit_stmt-emit_class-requires t c = (omega (arith, c.decreases, arm-deep _ _ _ c.requires.1), (c.requires.0, (arm-class _ _ _ c.requires.1 (byte-is Class c.of.ensures c.in-Class.is)).parts))
 
-pub emit_stmt-returns-in_err-emit_class-in-10 : goal.emit_stmt-returns-in_err-emit_class-in-10
-emit_stmt-returns-in_err-emit_class-in-10 t c =
-    let m = arm-class _ _ _ c.requires.1 c.in-10.is in
+pub emit_stmt-returns-in_err-emit_class-in-Class : goal.emit_stmt-returns-in_err-emit_class-in-Class
+unfolding stmt_byte
+emit_stmt-returns-in_err-emit_class-in-Class t c =
+    let m = arm-class _ _ _ c.requires.1 (byte-is Class c.of.ensures c.in-Class.is) in
     let code = class_code (name_at c.args.s.tree.now (c.args.at + 1)) (class_methods_at (c.args.depth - 1) c.args.s.tree.now (c.args.at + 1)).value in
     let h = lowers-by (reaches-lowers code c.emit_class.ensures) (sym (m.code _ (keeping_of c.args.it.now))) in
-    (words-none c.in_err-emit_class-in-10.was c.from_residual.ensures h, passes_over c.from_residual.ensures)
+    (words-none c.in_err-emit_class-in-Class.was c.from_residual.ensures h, passes_over c.from_residual.ensures)
 
-pub emit_stmt-returns-in_ok-emit_class-in-10 : goal.emit_stmt-returns-in_ok-emit_class-in-10
-emit_stmt-returns-in_ok-emit_class-in-10 t c =
-    let m = arm-class _ _ _ c.requires.1 c.in-10.is in
+pub emit_stmt-returns-in_ok-emit_class-in-Class : goal.emit_stmt-returns-in_ok-emit_class-in-Class
+unfolding stmt_byte
+emit_stmt-returns-in_ok-emit_class-in-Class t c =
+    let m = arm-class _ _ _ c.requires.1 (byte-is Class c.of.ensures c.in-Class.is) in
     let code = class_code (name_at c.args.s.tree.now (c.args.at + 1)) (class_methods_at (c.args.depth - 1) c.args.s.tree.now (c.args.at + 1)).value in
     let h = lowers-by (reaches-lowers code c.emit_class.ensures) (sym (m.code _ (keeping_of c.args.it.now))) in
-    (words-end c.in_ok-emit_class-in-10.was c.skip_stmt.ensures h, passes-by (other-loops _ _ _ c.requires.1.reads (λ h. omega (arith, c.in-10.is))) passes_none)
+    (words-end c.in_ok-emit_class-in-Class.was c.skip_stmt.ensures h, passes-by (other-loops _ _ _ c.requires.1.reads (λ h. omega (arith, (byte-is Class c.of.ensures c.in-Class.is)))) passes_none)
 
 pub emit_stmt-emit_simple-requires : goal.emit_stmt-emit_simple-requires
-emit_stmt-emit_simple-requires t c = (c.requires.0, c.requires.1, omega (arith, arm-known _ _ _ c.requires.1))
+emit_stmt-emit_simple-requires t c = (c.requires.0, c.requires.1, simple-kinds c.of.ensures c.in-Break.is)
 
-pub emit_stmt-returns-in_default : goal.emit_stmt-returns-in_default
-emit_stmt-returns-in_default t c = (c.emit_simple.ensures (keeping_of c.args.it.now), passes-by (other-loops _ _ _ c.requires.1.reads (λ h. omega arith)) passes_none)
+pub emit_stmt-returns-in-Break : goal.emit_stmt-returns-in-Break
+emit_stmt-returns-in-Break t c = (c.emit_simple.ensures (keeping_of c.args.it.now), passes-by (other-loops _ _ _ c.requires.1.reads (λ h. omega (arith, simple-kinds c.of.ensures c.in-Break.is))) passes_none)
 
 -- ---- emit_stmts
 
 pub emit_stmts-loop-init : goal.emit_stmts-loop-init
-emit_stmts-loop-init t c = stmts-all (slot_names c.args.s.tree.now c.args.s.slots.now) _ (omega arith) c.requires.0 c.requires.1 c.requires.2
+emit_stmts-loop-init t c = stmts-all (slot_names c.args.s.tree.now c.args.s.slots.now) _ (omega arith) c.requires.0.sound c.requires.1 c.requires.2
 
 pub emit_stmts-emit_stmt-requires : goal.emit_stmts-emit_stmt-requires
 emit_stmts-emit_stmt-requires t c = (
   omega (arith, c.decreases),
-  (stmts-sound c.loop.invariant, (stmts-more _ _ _ _ (omega (arith, c.loop-test.true)) c.loop.invariant.stmts).0, stmts-spare c.loop.invariant (omega (arith, c.loop-test.true))),
+  (sole-at c.requires.0 (stmts-sound c.loop.invariant), (stmts-more _ _ _ _ (omega (arith, c.loop-test.true)) c.loop.invariant.stmts).0, stmts-spare c.loop.invariant (omega (arith, c.loop-test.true))),
 )
 
 pub emit_stmts-returns-in_err-p : goal.emit_stmts-returns-in_err-p
@@ -173,7 +191,7 @@ emit_branch-returns-in_err-block t c =
     let expr = (expr_at c.args.depth tree c.args.at).value in
     let body = (body_at c.args.depth tree c.args.at).value in
     let v = c.emit_value.ensures in
-    (branch-stopped names (keeping_of c.args.it.now) expr body (instr 29 0 0) c.requires.0 v c.in_err-block.was c.from_residual.ensures, passes_over c.from_residual.ensures)
+    (branch-stopped names (keeping_of c.args.it.now) expr body (instr 29 0 0) c.requires.0.sound v c.in_err-block.was c.from_residual.ensures, passes_over c.from_residual.ensures)
 
 pub emit_branch-returns-in_err-next : goal.emit_branch-returns-in_err-next
 emit_branch-returns-in_err-next t c =
@@ -184,7 +202,7 @@ emit_branch-returns-in_err-next t c =
     let v = c.emit_value.ensures in
     let place = v.place _ c.in_ok-block.was in
     let b = block-by c.args.depth tree names (keeping_of c.args.it.now) place c.emit_block.ensures.0 in
-    (branch-over names (keeping_of c.args.it.now) expr body (instr 29 0 0) c.requires.0 v c.in_ok-block.was b c.in_err-next.was c.from_residual-in_err-next.ensures, passes_over c.from_residual-in_err-next.ensures)
+    (branch-over names (keeping_of c.args.it.now) expr body (instr 29 0 0) c.requires.0.sound v c.in_ok-block.was b c.in_err-next.was c.from_residual-in_err-next.ensures, passes_over c.from_residual-in_err-next.ensures)
 
 pub emit_branch-end_branch-requires : goal.emit_branch-end_branch-requires
 emit_branch-end_branch-requires t c =
@@ -194,7 +212,7 @@ emit_branch-end_branch-requires t c =
     let v = c.emit_value.ensures in
     let place = v.place _ c.in_ok-block.was in
     let b = block-by c.args.depth tree names (keeping_of c.args.it.now) place c.emit_block.ensures.0 in
-    (omega (arith, inside-above question (instr 29 0 0) c.requires.0 v.lowers c.in_ok-block.was b.lowers), end-above question (instr 29 0 0) c.requires.0 v.lowers c.in_ok-block.was b.lowers c.in_ok-next.was)
+    (omega (arith, inside-above question (instr 29 0 0) c.requires.0.sound v.lowers c.in_ok-block.was b.lowers), end-above question (instr 29 0 0) c.requires.0.sound v.lowers c.in_ok-block.was b.lowers c.in_ok-next.was)
 
 pub emit_branch-returns-in_err-end_branch : goal.emit_branch-returns-in_err-end_branch
 emit_branch-returns-in_err-end_branch t c =
@@ -205,7 +223,7 @@ emit_branch-returns-in_err-end_branch t c =
     let v = c.emit_value.ensures in
     let place = v.place _ c.in_ok-block.was in
     let b = block-by c.args.depth tree names (keeping_of c.args.it.now) place c.emit_block.ensures.0 in
-    let h = branch-ends names (keeping_of c.args.it.now) expr body (instr 29 0 0) c.requires.0 v c.in_ok-block.was b c.in_ok-next.was c.end_branch.ensures in
+    let h = branch-ends names (keeping_of c.args.it.now) expr body (instr 29 0 0) c.requires.0.sound v c.in_ok-block.was b c.in_ok-next.was c.end_branch.ensures in
     (words-none c.in_err-end_branch.was c.from_residual-in_err-end_branch.ensures h, passes_over c.from_residual-in_err-end_branch.ensures)
 
 pub emit_branch-returns : goal.emit_branch-returns
@@ -217,7 +235,7 @@ emit_branch-returns t c =
     let v = c.emit_value.ensures in
     let place = v.place _ c.in_ok-block.was in
     let b = block-by c.args.depth tree names (keeping_of c.args.it.now) place c.emit_block.ensures.0 in (
-      words-end c.in_ok-end_branch.was (b.place _ c.in_ok-next.was) (branch-ends names (keeping_of c.args.it.now) expr body (instr 29 0 0) c.requires.0 v c.in_ok-block.was b c.in_ok-next.was c.end_branch.ensures),
+      words-end c.in_ok-end_branch.was (b.place _ c.in_ok-next.was) (branch-ends names (keeping_of c.args.it.now) expr body (instr 29 0 0) c.requires.0.sound v c.in_ok-block.was b c.in_ok-next.was c.end_branch.ensures),
       passes-done c.in_ok-next.was (loops-at _ _ place) c.emit_block.ensures.1,
     )
 
@@ -230,7 +248,7 @@ emit_if-returns-in_err-p t c =
     let expr = (expr_at c.args.depth tree c.args.at).value in
     let body = (body_at c.args.depth tree c.args.at).value in
     let g = c.emit_branch.ensures.0 in
-    (if-stopped names (keeping_of c.args.it.now) expr body c.requires.0 g _ c.in_err-p.was c.from_residual.ensures, passes_over c.from_residual.ensures)
+    (if-stopped names (keeping_of c.args.it.now) expr body c.requires.0.sound g _ c.in_err-p.was c.from_residual.ensures, passes_over c.from_residual.ensures)
 
 pub emit_if-emit_elifs-requires : goal.emit_if-emit_elifs-requires
 emit_if-emit_elifs-requires t c =
@@ -244,9 +262,9 @@ emit_if-emit_elifs-requires t c =
     let p = ap (λ (x : ℕ). x + 2) place in (
       omega (arith, c.decreases),
       (
-        sound-next c.in_ok-p.was g.lowers.reaches,
+        sole-at c.requires.0 (sound-next c.in_ok-p.was g.lowers.reaches),
         elifs-at _ _ _ _ _ _ n p c.requires.1.rest,
-        if-open names (keeping_of c.args.it.now) expr body c.requires.0 g c.in_ok-p.was,
+        if-open names (keeping_of c.args.it.now) expr body c.requires.0.sound g c.in_ok-p.was,
         spare-then c.in_ok-p.was c.emit_branch.ensures.1 c.requires.2 (sym (λ i. loops_branches (branches_at c.args.depth (n i) tree (p i)).value)),
       ),
     )
@@ -262,7 +280,7 @@ emit_if-returns t c =
     let n = c.u16_at-n.ensures.0 ∙ ap (count_at tree) place in
     let p = ap (λ (x : ℕ). x + 2) place in
     let passed = c.emit_branch.ensures.1 in (
-      if-done names (keeping_of c.args.it.now) expr body c.requires.0 g c.in_ok-p.was (keeping-then c.in_ok-p.was passed (spare-first _ _ _ c.requires.2)) (λ i. (branches_at c.args.depth (n i) tree (p i)).value)
+      if-done names (keeping_of c.args.it.now) expr body c.requires.0.sound g c.in_ok-p.was (keeping-then c.in_ok-p.was passed (spare-first _ _ _ c.requires.2)) (λ i. (branches_at c.args.depth (n i) tree (p i)).value)
           (λ i. (branches_at c.args.depth (n i) tree (p i)).end) c.emit_elifs.ensures.0 c.emit_elifs.ensures.1,
       passes_then c.requires.2 c.in_ok-p.was passed (passes-by (λ i. loops_branches (branches_at c.args.depth (n i) tree (p i)).value) c.emit_elifs.ensures.2),
     )
@@ -270,12 +288,12 @@ emit_if-returns t c =
 -- ---- emit_elifs
 
 pub emit_elifs-loop-init : goal.emit_elifs-loop-init
-emit_elifs-loop-init t c = chain-all (slot_names c.args.s.tree.now c.args.s.slots.now) _ (omega arith) c.requires.0 c.requires.1 c.requires.2 c.requires.3
+emit_elifs-loop-init t c = chain-all (slot_names c.args.s.tree.now c.args.s.slots.now) _ (omega arith) c.requires.0.sound c.requires.1 c.requires.2 c.requires.3
 
 pub emit_elifs-emit_branch-requires : goal.emit_elifs-emit_branch-requires
 emit_elifs-emit_branch-requires t c = (
   omega (arith, c.decreases),
-  (chain-sound c.loop.invariant, (elifs-more _ _ _ _ (omega (arith, c.loop-test.true)) c.loop.invariant.branches).0, chain-spare c.loop.invariant (omega (arith, c.loop-test.true))),
+  (sole-at c.requires.0 (chain-sound c.loop.invariant), (elifs-more _ _ _ _ (omega (arith, c.loop-test.true)) c.loop.invariant.branches).0, chain-spare c.loop.invariant (omega (arith, c.loop-test.true))),
 )
 
 pub emit_elifs-returns-in_err-p : goal.emit_elifs-returns-in_err-p
@@ -293,7 +311,7 @@ emit_elifs-loop-preserved t c = chain_next c.loop.invariant (omega (arith, c.loo
 pub emit_elifs-emit_else-requires : goal.emit_elifs-emit_else-requires
 emit_elifs-emit_else-requires t c = (
   omega (arith, c.decreases),
-  (chain-sound c.loop.invariant, elifs-none _ _ _ _ (omega (arith, c.loop-test.false)) c.loop.invariant.branches, c.loop.invariant.some, chain-rest c.loop.invariant (omega (arith, c.loop-test.false))),
+  (sole-at c.requires.0 (chain-sound c.loop.invariant), elifs-none _ _ _ _ (omega (arith, c.loop-test.false)) c.loop.invariant.branches, c.loop.invariant.some, chain-rest c.loop.invariant (omega (arith, c.loop-test.false))),
 )
 
 pub emit_elifs-returns : goal.emit_elifs-returns
@@ -306,7 +324,7 @@ emit_else-bounds-s-at t c = else-in _ _ _ c.requires.1
 
 pub emit_else-returns-then-s-at-eq0 : goal.emit_else-returns-then-s-at-eq0
 emit_else-returns-then-s-at-eq0 t c =
-    let w = else-none (slot_names c.args.s.tree.now c.args.s.slots.now) (keeping_of c.args.it.now) c.requires.0 c.requires.2 c.requires.1 c.if-s-at-eq0.true c.set_jump.ensures in
+    let w = else-none (slot_names c.args.s.tree.now c.args.s.slots.now) (keeping_of c.args.it.now) c.requires.0.sound c.requires.2 c.requires.1 c.if-s-at-eq0.true c.set_jump.ensures in
     (w.0, w.1, passes-by (no-else-loops _ _ c.requires.1.reads c.if-s-at-eq0.true) passes_none)
 
 pub emit_else-emit_block-requires : goal.emit_else-emit_block-requires
@@ -321,15 +339,15 @@ emit_else-emit_block-requires t c = (
 
 pub emit_else-returns-in_err-next : goal.emit_else-returns-in_err-next
 emit_else-returns-in_err-next t c =
-    let w = else-over (slot_names c.args.s.tree.now c.args.s.slots.now) (keeping_of c.args.it.now) c.requires.0 c.requires.2 c.requires.1 c.if-s-at-eq0.false c.emit_block.ensures.0 c.in_err-next.was c.from_residual.ensures in
+    let w = else-over (slot_names c.args.s.tree.now c.args.s.slots.now) (keeping_of c.args.it.now) c.requires.0.sound c.requires.2 c.requires.1 c.if-s-at-eq0.false c.emit_block.ensures.0 c.in_err-next.was c.from_residual.ensures in
     (next-none c.from_residual.ensures, w, passes_over c.from_residual.ensures)
 
 pub emit_else-overflow_sub-over : goal.emit_else-overflow_sub-over
-emit_else-overflow_sub-over t c = else-longer (slot_names c.args.s.tree.now c.args.s.slots.now) (keeping_of c.args.it.now) c.requires.0 c.requires.2 c.requires.1 c.if-s-at-eq0.false c.emit_block.ensures.0 c.in_ok-next.was
+emit_else-overflow_sub-over t c = else-longer (slot_names c.args.s.tree.now c.args.s.slots.now) (keeping_of c.args.it.now) c.requires.0.sound c.requires.2 c.requires.1 c.if-s-at-eq0.false c.emit_block.ensures.0 c.in_ok-next.was
 
 pub emit_else-returns : goal.emit_else-returns
 emit_else-returns t c =
-    let w = else-done (slot_names c.args.s.tree.now c.args.s.slots.now) (keeping_of c.args.it.now) c.requires.0 c.requires.2 c.requires.1 c.if-s-at-eq0.false c.emit_block.ensures.0 c.in_ok-next.was c.set_jump-2.ensures in
+    let w = else-done (slot_names c.args.s.tree.now c.args.s.slots.now) (keeping_of c.args.it.now) c.requires.0.sound c.requires.2 c.requires.1 c.if-s-at-eq0.false c.emit_block.ensures.0 c.in_ok-next.was c.set_jump-2.ensures in
     (w.0, w.1, passes-done c.in_ok-next.was (else-loops _ _ c.requires.1.reads c.if-s-at-eq0.false) c.emit_block.ensures.1)
 
 -- ---- emit_while
@@ -343,7 +361,7 @@ emit_while-returns-in_err-block t c =
     let names = slot_names tree c.args.s.slots.now in
     let question = expr_code c.args.depth tree names c.args.at in
     let v = c.emit_value.ensures in
-    (loop-stopped question (instr 29 0 0) c.requires.0 v.lowers (lengthens-block _ _ _) c.in_err-block.was c.from_residual.ensures, passes_over c.from_residual.ensures)
+    (loop-stopped question (instr 29 0 0) c.requires.0.sound v.lowers (lengthens-block _ _ _) c.in_err-block.was c.from_residual.ensures, passes_over c.from_residual.ensures)
 
 pub emit_while-returns-in_err-next : goal.emit_while-returns-in_err-next
 emit_while-returns-in_err-next t c =
@@ -353,7 +371,7 @@ emit_while-returns-in_err-next t c =
     let v = c.emit_value.ensures in
     let place = v.place _ c.in_ok-block.was in
     let b = block-by c.args.depth tree names (keeping_of c.args.it.now) place c.emit_block.ensures.0 in
-    (loop-over question (instr 29 0 0) c.requires.0 v.lowers c.in_ok-block.was b.lowers c.in_err-next.was c.from_residual-in_err-next.ensures, passes_over c.from_residual-in_err-next.ensures)
+    (loop-over question (instr 29 0 0) c.requires.0.sound v.lowers c.in_ok-block.was b.lowers c.in_err-next.was c.from_residual-in_err-next.ensures, passes_over c.from_residual-in_err-next.ensures)
 
 pub emit_while-end_loop-requires : goal.emit_while-end_loop-requires
 emit_while-end_loop-requires t c =
@@ -363,7 +381,7 @@ emit_while-end_loop-requires t c =
     let v = c.emit_value.ensures in
     let place = v.place _ c.in_ok-block.was in
     let b = block-by c.args.depth tree names (keeping_of c.args.it.now) place c.emit_block.ensures.0 in
-    (inside-above question (instr 29 0 0) c.requires.0 v.lowers c.in_ok-block.was b.lowers, end-above question (instr 29 0 0) c.requires.0 v.lowers c.in_ok-block.was b.lowers c.in_ok-next.was)
+    (inside-above question (instr 29 0 0) c.requires.0.sound v.lowers c.in_ok-block.was b.lowers, end-above question (instr 29 0 0) c.requires.0.sound v.lowers c.in_ok-block.was b.lowers c.in_ok-next.was)
 
 pub emit_while-returns-in_err-end_loop : goal.emit_while-returns-in_err-end_loop
 emit_while-returns-in_err-end_loop t c =
@@ -373,7 +391,7 @@ emit_while-returns-in_err-end_loop t c =
     let v = c.emit_value.ensures in
     let place = v.place _ c.in_ok-block.was in
     let b = block-by c.args.depth tree names (keeping_of c.args.it.now) place c.emit_block.ensures.0 in
-    let h = loop-ends question (instr 29 0 0) c.requires.0 v.lowers c.in_ok-block.was b.lowers c.in_ok-next.was c.end_loop.ensures in
+    let h = loop-ends question (instr 29 0 0) c.requires.0.sound v.lowers c.in_ok-block.was b.lowers c.in_ok-next.was c.end_loop.ensures in
     (words-none c.in_err-end_loop.was c.from_residual-in_err-end_loop.ensures h, passes_over c.from_residual-in_err-end_loop.ensures)
 
 pub emit_while-returns : goal.emit_while-returns
@@ -384,7 +402,7 @@ emit_while-returns t c =
     let v = c.emit_value.ensures in
     let place = v.place _ c.in_ok-block.was in
     let b = block-by c.args.depth tree names (keeping_of c.args.it.now) place c.emit_block.ensures.0 in (
-      words-end c.in_ok-end_loop.was (b.place _ c.in_ok-next.was) (loop-ends question (instr 29 0 0) c.requires.0 v.lowers c.in_ok-block.was b.lowers c.in_ok-next.was c.end_loop.ensures),
+      words-end c.in_ok-end_loop.was (b.place _ c.in_ok-next.was) (loop-ends question (instr 29 0 0) c.requires.0.sound v.lowers c.in_ok-block.was b.lowers c.in_ok-next.was c.end_loop.ensures),
       passes-done c.in_ok-next.was (loops-at _ _ place) c.emit_block.ensures.1,
     )
 
@@ -397,7 +415,7 @@ emit_for-returns-in_err-block t c =
     let expr = (expr_at c.args.depth tree (name_end tree c.args.at)).value in
     let body = (body_at c.args.depth tree (name_end tree c.args.at)).value in
     let g = iterable-by c.args.depth tree names c.name_end-start.ensures c.emit_iterable.ensures in
-    (for-stopped names c.args.it.now expr (name_at tree c.args.at) body c.requires.0 g c.in_err-block.was c.from_residual.ensures, passes_over c.from_residual.ensures)
+    (for-stopped names c.args.it.now expr (name_at tree c.args.at) body c.requires.0.sound g c.in_err-block.was c.from_residual.ensures, passes_over c.from_residual.ensures)
 
 pub emit_for-returns-in_err-load : goal.emit_for-returns-in_err-load
 emit_for-returns-in_err-load t c =
@@ -406,7 +424,7 @@ emit_for-returns-in_err-load t c =
     let expr = (expr_at c.args.depth tree (name_end tree c.args.at)).value in
     let body = (body_at c.args.depth tree (name_end tree c.args.at)).value in
     let g = iterable-by c.args.depth tree names c.name_end-start.ensures c.emit_iterable.ensures in
-    (for-over names c.args.it.now expr (name_at tree c.args.at) body c.requires.0 g c.in_ok-block.was c.store_iterator.ensures c.in_err-load.was c.from_residual-in_err-load.ensures, passes_over c.from_residual-in_err-load.ensures)
+    (for-over names c.args.it.now expr (name_at tree c.args.at) body c.requires.0.sound g c.in_ok-block.was c.store_iterator.ensures c.in_err-load.was c.from_residual-in_err-load.ensures, passes_over c.from_residual-in_err-load.ensures)
 
 pub emit_for-emit_rounds-requires : goal.emit_for-emit_rounds-requires
 emit_for-emit_rounds-requires t c =
@@ -418,11 +436,11 @@ emit_for-emit_rounds-requires t c =
     let place = g.place _ c.in_ok-block.was in (
       omega (arith, c.decreases),
       (
-        for-sound names c.args.it.now expr (name_at tree c.args.at) body c.requires.0 g c.in_ok-block.was c.store_iterator.ensures c.in_ok-load.was,
+        sole-at c.requires.0 (for-sound names c.args.it.now expr (name_at tree c.args.at) body c.requires.0.sound g c.in_ok-block.was c.store_iterator.ensures c.in_ok-load.was),
         c.requires.1.name,
         block-at _ _ _ _ place c.requires.1.loop.block,
-        for-loads names c.args.it.now expr (name_at tree c.args.at) body c.requires.0 g c.in_ok-block.was c.store_iterator.ensures c.in_ok-load.was,
-        spare-at _ _ place (for-spare names c.args.it.now expr (name_at tree c.args.at) body c.requires.0 g c.in_ok-block.was c.store_iterator.ensures c.in_ok-load.was c.requires.2),
+        for-loads names c.args.it.now expr (name_at tree c.args.at) body c.requires.0.sound g c.in_ok-block.was c.store_iterator.ensures c.in_ok-load.was,
+        spare-at _ _ place (for-spare names c.args.it.now expr (name_at tree c.args.at) body c.requires.0.sound g c.in_ok-block.was c.store_iterator.ensures c.in_ok-load.was c.requires.2),
       ),
     )
 
@@ -434,10 +452,10 @@ emit_for-returns t c =
     let body = (body_at c.args.depth tree (name_end tree c.args.at)).value in
     let g = iterable-by c.args.depth tree names c.name_end-start.ensures c.emit_iterable.ensures in
     let place = g.place _ c.in_ok-block.was in (
-      for-done names c.args.it.now expr (name_at tree c.args.at) body c.requires.0 g c.in_ok-block.was c.store_iterator.ensures c.in_ok-load.was c.requires.2
+      for-done names c.args.it.now expr (name_at tree c.args.at) body c.requires.0.sound g c.in_ok-block.was c.store_iterator.ensures c.in_ok-load.was c.requires.2
           (λ i. (block_at c.args.depth tree (place i)).value) (λ i. (block_at c.args.depth tree (place i)).end)
           c.emit_rounds.ensures.0,
-      for-passes names c.args.it.now expr (name_at tree c.args.at) body c.requires.0 g c.in_ok-block.was c.store_iterator.ensures c.in_ok-load.was c.requires.2 (passes-by (loops-at _ _ place) c.emit_rounds.ensures.1),
+      for-passes names c.args.it.now expr (name_at tree c.args.at) body c.requires.0.sound g c.in_ok-block.was c.store_iterator.ensures c.in_ok-load.was c.requires.2 (passes-by (loops-at _ _ place) c.emit_rounds.ensures.1),
     )
 
 -- ---- emit_rounds
@@ -445,7 +463,7 @@ emit_for-returns t c =
 pub emit_rounds-returns-in_err-ask_iterator : goal.emit_rounds-returns-in_err-ask_iterator
 emit_rounds-returns-in_err-ask_iterator t c =
     let a = c.ask_iterator.ensures in
-    (loop-stopped (ask_iter (keeper_of c.args.load)) (instr 29 0 0) c.requires.0 a (lengthens-seq (lengthens-take_iter _ _ _) (lengthens-block _ _ _)) c.in_err-ask_iterator.was c.from_residual.ensures, passes_over c.from_residual.ensures)
+    (loop-stopped (ask_iter (keeper_of c.args.load)) (instr 29 0 0) c.requires.0.sound a (lengthens-seq (lengthens-take_iter _ _ _) (lengthens-block _ _ _)) c.in_err-ask_iterator.was c.from_residual.ensures, passes_over c.from_residual.ensures)
 
 pub emit_rounds-returns-in_err-take_iterator : goal.emit_rounds-returns-in_err-take_iterator
 emit_rounds-returns-in_err-take_iterator t c =
@@ -456,7 +474,7 @@ emit_rounds-returns-in_err-take_iterator t c =
     let s = sound-next c.in_ok-ask_iterator.was a.reaches in
     let z = c.in_err-take_iterator.was in
     let w = lowers-stopped z z s (lengthens-block names (keeping_of c.args.it.now) (block_at c.args.depth tree c.args.block).value) u in
-    (loop-over (ask_iter (keeper_of c.args.load)) (instr 29 0 0) c.requires.0 a c.in_ok-ask_iterator.was w z c.from_residual-in_err-take_iterator.ensures, passes_over c.from_residual-in_err-take_iterator.ensures)
+    (loop-over (ask_iter (keeper_of c.args.load)) (instr 29 0 0) c.requires.0.sound a c.in_ok-ask_iterator.was w z c.from_residual-in_err-take_iterator.ensures, passes_over c.from_residual-in_err-take_iterator.ensures)
 
 pub emit_rounds-returns-in_err-next : goal.emit_rounds-returns-in_err-next
 emit_rounds-returns-in_err-next t c =
@@ -464,7 +482,7 @@ emit_rounds-returns-in_err-next t c =
     let u = c.take_iterator.ensures in
     let s = sound-next c.in_ok-ask_iterator.was a.reaches in
     let w = lowers_then c.in_ok-take_iterator.was s u c.emit_block.ensures.0.lowers in
-    (loop-over (ask_iter (keeper_of c.args.load)) (instr 29 0 0) c.requires.0 a c.in_ok-ask_iterator.was w c.in_err-next.was c.from_residual-in_err-next.ensures, passes_over c.from_residual-in_err-next.ensures)
+    (loop-over (ask_iter (keeper_of c.args.load)) (instr 29 0 0) c.requires.0.sound a c.in_ok-ask_iterator.was w c.in_err-next.was c.from_residual-in_err-next.ensures, passes_over c.from_residual-in_err-next.ensures)
 
 pub emit_rounds-end_loop-requires : goal.emit_rounds-end_loop-requires
 emit_rounds-end_loop-requires t c =
@@ -472,7 +490,7 @@ emit_rounds-end_loop-requires t c =
     let u = c.take_iterator.ensures in
     let s = sound-next c.in_ok-ask_iterator.was a.reaches in
     let w = lowers_then c.in_ok-take_iterator.was s u c.emit_block.ensures.0.lowers in
-    (inside-above (ask_iter (keeper_of c.args.load)) (instr 29 0 0) c.requires.0 a c.in_ok-ask_iterator.was w, end-above (ask_iter (keeper_of c.args.load)) (instr 29 0 0) c.requires.0 a c.in_ok-ask_iterator.was w c.in_ok-next.was)
+    (inside-above (ask_iter (keeper_of c.args.load)) (instr 29 0 0) c.requires.0.sound a c.in_ok-ask_iterator.was w, end-above (ask_iter (keeper_of c.args.load)) (instr 29 0 0) c.requires.0.sound a c.in_ok-ask_iterator.was w c.in_ok-next.was)
 
 pub emit_rounds-returns-in_err-end_loop : goal.emit_rounds-returns-in_err-end_loop
 emit_rounds-returns-in_err-end_loop t c =
@@ -480,7 +498,7 @@ emit_rounds-returns-in_err-end_loop t c =
     let u = c.take_iterator.ensures in
     let s = sound-next c.in_ok-ask_iterator.was a.reaches in
     let w = lowers_then c.in_ok-take_iterator.was s u c.emit_block.ensures.0.lowers in
-    let h = loop-ends (ask_iter (keeper_of c.args.load)) (instr 29 0 0) c.requires.0 a c.in_ok-ask_iterator.was w c.in_ok-next.was c.end_loop.ensures in
+    let h = loop-ends (ask_iter (keeper_of c.args.load)) (instr 29 0 0) c.requires.0.sound a c.in_ok-ask_iterator.was w c.in_ok-next.was c.end_loop.ensures in
     (words-none c.in_err-end_loop.was c.from_residual-in_err-end_loop.ensures h, passes_over c.from_residual-in_err-end_loop.ensures)
 
 pub emit_rounds-returns : goal.emit_rounds-returns
@@ -489,39 +507,39 @@ emit_rounds-returns t c =
     let u = c.take_iterator.ensures in
     let s = sound-next c.in_ok-ask_iterator.was a.reaches in
     let w = lowers_then c.in_ok-take_iterator.was s u c.emit_block.ensures.0.lowers in (
-      words-end c.in_ok-end_loop.was (c.emit_block.ensures.0.place _ c.in_ok-next.was) (loop-ends (ask_iter (keeper_of c.args.load)) (instr 29 0 0) c.requires.0 a c.in_ok-ask_iterator.was w c.in_ok-next.was c.end_loop.ensures),
+      words-end c.in_ok-end_loop.was (c.emit_block.ensures.0.place _ c.in_ok-next.was) (loop-ends (ask_iter (keeper_of c.args.load)) (instr 29 0 0) c.requires.0.sound a c.in_ok-ask_iterator.was w c.in_ok-next.was c.end_loop.ensures),
       passes-done c.in_ok-next.was refl c.emit_block.ensures.1,
     )
 
 -- ---- emit_body
 
 pub emit_body-returns-in_err-next : goal.emit_body-returns-in_err-next
-emit_body-returns-in_err-next t c = emits-stopped c.in_err-next.was c.from_residual.ensures c.requires.0 (lengthens-emits _) c.emit_block.ensures.0
+emit_body-returns-in_err-next t c = emits-stopped c.in_err-next.was c.from_residual.ensures c.requires.0.sound (lengthens-emits _) c.emit_block.ensures.0
 
 pub emit_body-returns-in_err-put_end : goal.emit_body-returns-in_err-put_end
 emit_body-returns-in_err-put_end t c =
     let b = c.emit_block.ensures.0 in
-    emits-no-words c.in_ok-next.was c.in_err-put_end.was c.from_residual-in_err-put_end.ensures c.requires.0 b (writes-in (sound-next c.in_ok-next.was b.lowers.reaches) refl c.put_end.ensures)
+    emits-no-words c.in_ok-next.was c.in_err-put_end.was c.from_residual-in_err-put_end.ensures c.requires.0.sound b (writes-in (sound-next c.in_ok-next.was b.lowers.reaches) refl c.put_end.ensures.writes)
 
 pub emit_body-returns : goal.emit_body-returns
 emit_body-returns t c =
     let b = c.emit_block.ensures.0 in
-    emits-words c.in_ok-next.was c.in_ok-put_end.was c.requires.0 b (writes-in (sound-next c.in_ok-next.was b.lowers.reaches) refl c.put_end.ensures)
+    emits-words c.in_ok-next.was c.in_ok-put_end.was c.requires.0.sound b (writes-in (sound-next c.in_ok-next.was b.lowers.reaches) refl c.put_end.ensures.writes)
 
 -- ---- compile_function
 
 pub compile_function-returns-in_err-frame : goal.compile_function-returns-in_err-frame
 compile_function-returns-in_err-frame t c = slots-stopped c.args.depth c.args.at c.args.init c.in_err-frame.was c.from_residual.ensures c.name_end-params.ensures c.skip_params-block.ensures c.collect_locals.ensures
 
-pub compile_function-begin_named-requires : goal.compile_function-begin_named-requires
-compile_function-begin_named-requires t c =
+pub compile_function-start_named-requires : goal.compile_function-start_named-requires
+compile_function-start_named-requires t c =
     let k = function-parts c.requires.1 c.name_end-params.ensures c.u16_at-arity.ensures.0 c.skip_params-block.ensures c.collect_locals.ensures c.in_ok-frame.was (omega (arith, c.collect_locals.auto.slots)) in
     (naming-sound c.requires.0.sound, omega (arith, c.requires.1.name.byte, c.requires.0.tree-short), k.arity-few, omega (arith, k.framing.few))
 
 pub compile_function-returns-in_err-f : goal.compile_function-returns-in_err-f
 compile_function-returns-in_err-f t c =
     let k = function-parts c.requires.1 c.name_end-params.ensures c.u16_at-arity.ensures.0 c.skip_params-block.ensures c.collect_locals.ensures c.in_ok-frame.was (omega (arith, c.collect_locals.auto.slots)) in
-    function-over c.args.depth c.args.init c.requires.0.sound k.arity-is k.framing.locals c.begin_named.ensures c.in_err-f.was c.from_residual-in_err-f.ensures
+    function-over c.args.depth c.args.init c.requires.0.sound k.arity-is k.framing.locals c.start_named.ensures c.in_err-f.was c.from_residual-in_err-f.ensures
 
 pub compile_function-slice_bounds-slots-end : goal.compile_function-slice_bounds-slots-end
 compile_function-slice_bounds-slots-end t c =
@@ -536,26 +554,26 @@ compile_function-slice_bounds-s-end t c =
 pub compile_function-invariant_of-s : goal.compile_function-invariant_of-s
 compile_function-invariant_of-s t c =
     let k = function-parts c.requires.1 c.name_end-params.ensures c.u16_at-arity.ensures.0 c.skip_params-block.ensures c.collect_locals.ensures c.in_ok-frame.was (omega (arith, c.collect_locals.auto.slots)) in
-    record { short = c.requires.0.tree-short; slotted = k.slotted }
+    record { slotted = k.slotted }
 
 pub compile_function-emit_body-requires : goal.compile_function-emit_body-requires
 compile_function-emit_body-requires t c =
     let k = function-parts c.requires.1 c.name_end-params.ensures c.u16_at-arity.ensures.0 c.skip_params-block.ensures c.collect_locals.ensures c.in_ok-frame.was (omega (arith, c.collect_locals.auto.slots)) in (
       omega (arith, c.decreases),
-      (function-sound c.args.depth c.args.init c.requires.0.sound k.arity-is k.framing.locals c.begin_named.ensures c.in_ok-f.was, block-at _ _ _ _ k.block-is c.requires.1.block, spare-at _ _ k.block-is k.spare),
+      (sole-at c.requires.0 (function-sound c.args.depth c.args.init c.requires.0.sound k.arity-is k.framing.locals c.start_named.ensures c.in_ok-f.was), block-at _ _ _ _ k.block-is c.requires.1.block, spare-at _ _ k.block-is k.spare),
     )
 
 pub compile_function-returns-in_err-next : goal.compile_function-returns-in_err-next
 compile_function-returns-in_err-next t c =
     let k = function-parts c.requires.1 c.name_end-params.ensures c.u16_at-arity.ensures.0 c.skip_params-block.ensures c.collect_locals.ensures c.in_ok-frame.was (omega (arith, c.collect_locals.auto.slots)) in
     let b = body-by c.args.depth c.args.tree.now _ _ (end_of c.args.init) k.block-is c.emit_body.ensures in
-    function-stopped c.args.depth c.args.init c.requires.0.sound k.arity-is k.framing.locals c.begin_named.ensures c.in_ok-f.was k.names k.keep b c.in_err-next.was c.from_residual-in_err-next.ensures
+    function-stopped c.args.depth c.args.init c.requires.0.sound k.arity-is k.framing.locals c.start_named.ensures c.in_ok-f.was k.names k.keep b c.in_err-next.was c.from_residual-in_err-next.ensures
 
 pub compile_function-returns : goal.compile_function-returns
 compile_function-returns t c =
     let k = function-parts c.requires.1 c.name_end-params.ensures c.u16_at-arity.ensures.0 c.skip_params-block.ensures c.collect_locals.ensures c.in_ok-frame.was (omega (arith, c.collect_locals.auto.slots)) in
     let b = body-by c.args.depth c.args.tree.now _ _ (end_of c.args.init) k.block-is c.emit_body.ensures in
-    function-done c.args.depth c.args.init c.requires.0.sound k.arity-is k.framing.locals c.begin_named.ensures c.in_ok-f.was k.names k.keep b c.in_ok-next.was c.end_function.ensures
+    function-done c.args.depth c.args.init c.requires.0.sound k.arity-is k.framing.locals c.start_named.ensures c.in_ok-f.was k.names k.keep b c.in_ok-next.was c.end_function.ensures
 
 -- ---- emit_methods
 
@@ -601,7 +619,7 @@ pub emit_class-emit_methods-requires : goal.emit_class-emit_methods-requires
 emit_class-emit_methods-requires t c = (
   omega (arith, c.decreases),
   (
-    record { tree-short = c.requires.0.tree-short; sound = class-sound (class_methods_at c.args.depth c.args.tree.now c.args.at).value c.requires.0.sound c.begin_class.ensures c.in_ok-i.was },
+    sole-at c.requires.0 (class-sound (class_methods_at c.args.depth c.args.tree.now c.args.at).value c.requires.0.sound c.begin_class.ensures c.in_ok-i.was),
     class-methods _ _ _ c.name_end-start.ensures c.u16_at-n.ensures.0 c.requires.1.methods,
     omega arith,
   ),

@@ -12,14 +12,14 @@ compile-requires c = (search rules, answer-accepted _ _ c.in_ok-check_tree.ensur
 
 pub returns-in-Some : goal.returns-in-Some
 returns-in-Some c =
-    answers-fits _ _ _ _ _ _ c.requires.0 c.requires.1 (answer-accepted _ _ c.in_ok-check_tree.ensures) c.new-e.ensures.limits.0 c.new-e.ensures.limits.1 c.compile.ensures c.in-Some.is c.write_tables.ensures
+    answers-fits _ _ _ _ _ _ c.requires.0 c.requires.1 (answer-accepted _ _ c.in_ok-check_tree.ensures) c.new-e.ensures.limits c.compile.ensures c.in-Some.is c.write_tables.ensures
 
 pub check_slots-requires : goal.check_slots-requires
 check_slots-requires c = answer-accepted _ _ c.in_ok-check_tree.ensures
 
 pub returns-then-check_slots : goal.returns-then-check_slots
 returns-then-check_slots c =
-    answers-over _ _ _ _ _ _ c.requires.0 c.requires.1 (answer-accepted _ _ c.in_ok-check_tree.ensures) c.new-e.ensures.limits.0 c.new-e.ensures.limits.1 c.compile.ensures c.in-None.is
+    answers-over _ _ _ _ _ _ c.requires.0 c.requires.1 (answer-accepted _ _ c.in_ok-check_tree.ensures) c.new-e.ensures.limits c.compile.ensures c.in-None.is
     (sym c.check_slots.ensures ∙ c.if-check_slots.true)
 
 pub returns-else-check_slots : goal.returns-else-check_slots

@@ -28,7 +28,7 @@ unfolding be
 write_number-requires c =
     let counted = let d = be 4 (c.args.size - 4) in
     begun_first (ap (λ (z : List ℕ). d ++ z) (joined-one (1 ∷ []))) (let l = length-append d (1 ∷ []) in let k = length-be 4 (c.args.size - 4) in omega (arith, c.requires.0)) c.write_number-at.ensures in
-    begun-number 1 1 counted
+    (begun-number 1 1 counted, omega arith)
 
 pub overflow_add-result : goal.overflow_add-result
 unfolding be

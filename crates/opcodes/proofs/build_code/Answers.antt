@@ -1,13 +1,31 @@
--- Tuple and dict apart, a display's opcode is its kind plus 27.
+-- The opcode of each display, by its kind's byte.
 use native.Mathlib.Omega.{arith}
-use Rattle.opcodes.proofs.Opcodes.{build-dict, build-tuple, build-other}
+use Rattle.definitions.specs.Instruction.{build_code}
+use Rattle.numerals.specs.Kinds.{expr_byte}
+use Rattle.opcodes.specs.Codes.{display_of}
+use Rattle.numerals.specs.declared.kinds.ExprKind.TheVariants.{List as list_kind, Dict, Tuple, Set}
+use Rattle.opcodes.proofs.KindBytes.{other-kind}
+use Rattle.opcodes.proofs.Opcodes.{build-of, build-last}
 use Rattle.opcodes.proofs.build_code.Goals as goal
 
-pub returns-in-12 : goal.returns-in-12
-returns-in-12 c = (build-dict _ c.in-12.is, omega arith, omega arith)
+pub returns-in-List : goal.returns-in-List
+unfolding expr_byte display_of build_code
+returns-in-List c = (build-of c.of.ensures c.in-List.is, omega arith, omega arith)
 
-pub returns-in-13 : goal.returns-in-13
-returns-in-13 c = (build-tuple _ c.in-13.is, omega arith, omega arith)
+pub returns-in-Dict : goal.returns-in-Dict
+unfolding expr_byte display_of build_code
+returns-in-Dict c = (build-of c.of.ensures c.in-Dict.is, omega arith, omega arith)
+
+pub returns-in-Tuple : goal.returns-in-Tuple
+unfolding expr_byte display_of build_code
+returns-in-Tuple c = (build-of c.of.ensures c.in-Tuple.is, omega arith, omega arith)
+
+pub returns-in-Set : goal.returns-in-Set
+unfolding expr_byte display_of build_code
+returns-in-Set c = (build-of c.of.ensures c.in-Set.is, omega arith, omega arith)
 
 pub returns-in_default : goal.returns-in_default
-returns-in_default c = (build-other _ c.requires.0 c.requires.1 (λ z. omega arith) (λ z. omega arith), omega arith, omega arith)
+unfolding expr_byte
+returns-in_default c =
+    let o = c.in_default in let e = c.of.ensures in
+    (build-last (omega (arith, other-kind list_kind e o.not-List, other-kind Dict e o.not-Dict, other-kind Tuple e o.not-Tuple, other-kind Set e o.not-Set)), omega arith, omega arith)

@@ -18,14 +18,18 @@ bounds-places-place c = let p = marked-in c.requires in let l = c.requires.start
 pub bounds-code-at : goal.bounds-code-at
 bounds-code-at c = let M = c.requires in place_at M.coded M.starts (marked-in M) refl
 
-pub returns-then-question-eq0 : goal.returns-then-question-eq0
-returns-then-question-eq0 c = let M = c.requires in let o = op-at M.coded M.starts (marked-in M) refl in let k = c.way_length-count.ensures in let w = c.write_way.ensures in no_own M o k w (sym c.question.ensures.0 ∙ c.if-question-eq0.true)
+pub returns-then-not-is_question : goal.returns-then-not-is_question
+returns-then-not-is_question c =
+    let M = c.requires in let o = op-at M.coded M.starts (marked-in M) refl in let k = c.way_length-count.ensures in let w = c.write_way.ensures in
+    no_own M o k w (sym c.is_question.ensures ∙ c.if-not-is_question.true)
 
 pub bounds-out-count : goal.bounds-out-count
-bounds-out-count c = let M = c.requires in let o = op-at M.coded M.starts (marked-in M) refl in let k = c.way_length-count.ensures in let w = c.write_way.ensures in own_room M o k w (λ z. c.if-question-eq0.false (c.question.ensures.0 ∙ z))
+bounds-out-count c = let M = c.requires in let o = op-at M.coded M.starts (marked-in M) refl in let k = c.way_length-count.ensures in let w = c.write_way.ensures in own_room M o k w (sym c.is_question.ensures ∙ c.if-not-is_question.false)
 
 pub overflow_add-result : goal.overflow_add-result
-overflow_add-result c = let M = c.requires in let o = op-at M.coded M.starts (marked-in M) refl in let k = c.way_length-count.ensures in let w = c.write_way.ensures in let r = own_room M o k w (λ z. c.if-question-eq0.false (c.question.ensures.0 ∙ z)) in omega arith
+overflow_add-result c =
+    let M = c.requires in let o = op-at M.coded M.starts (marked-in M) refl in let k = c.way_length-count.ensures in let w = c.write_way.ensures in let r = own_room M o k w (sym c.is_question.ensures ∙ c.if-not-is_question.false) in
+    omega arith
 
 pub returns : goal.returns
-returns c = let M = c.requires in let o = op-at M.coded M.starts (marked-in M) refl in let k = c.way_length-count.ensures in let w = c.write_way.ensures in own-written M o k w (λ z. c.if-question-eq0.false (c.question.ensures.0 ∙ z)) refl
+returns c = let M = c.requires in let o = op-at M.coded M.starts (marked-in M) refl in let k = c.way_length-count.ensures in let w = c.write_way.ensures in own-written M o k w (sym c.is_question.ensures ∙ c.if-not-is_question.false) refl

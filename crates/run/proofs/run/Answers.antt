@@ -22,13 +22,26 @@ pub returns-then-not-are_answers : goal.returns-then-not-are_answers
 returns-then-not-are_answers c =
     call-answers c.args.bytes.now _ _ _ _ _ _ _ (located-code _ _ _ _ c.locate-place.ensures c.in_ok-part.was) (sym c.are_answers.ensures ∙ c.if-not-are_answers.true)
 
-pub run_code-requires : goal.run_code-requires
-run_code-requires c =
-    let t = c.args.bytes.now in let k = located-code t _ _ _ c.locate-place.ensures c.in_ok-part.was in
-    let e = c.part_of-code.ensures.result_value ∙ sym (part-code _ t _ c.in_ok-part.was) in (part-coded t _ _ _ _ k _ e (λ i. (c.type_inv.bytes i).fits), part_count t _ _ _ _ k _ e)
-
-pub returns : goal.returns
-returns c =
+pub invariant_of-function : goal.invariant_of-function
+invariant_of-function c =
     let t = c.args.bytes.now in let k = located-code t _ _ _ c.locate-place.ensures c.in_ok-part.was in
     let e = c.part_of-code.ensures.result_value ∙ sym (part-code _ t _ c.in_ok-part.was) in
-    call-runs t _ _ _ _ _ _ _ k _ e (sym c.are_answers.ensures ∙ c.if-not-are_answers.false) _ _ c.run_code.ensures
+    record { coded = part-coded t _ _ _ _ k _ e (λ i. (c.type_inv.bytes i).fits); counted = part_count t _ _ _ _ k _ e }
+
+pub returns-then-function-le-SMALL : goal.returns-then-function-le-SMALL
+returns-then-function-le-SMALL c =
+    let t = c.args.bytes.now in let k = located-code t _ _ _ c.locate-place.ensures c.in_ok-part.was in
+    let e = c.part_of-code.ensures.result_value ∙ sym (part-code _ t _ c.in_ok-part.was) in
+    call-runs t _ _ _ _ _ _ _ k _ e (sym c.are_answers.ensures ∙ c.if-not-are_answers.false) _ _ c.run_sized.ensures
+
+pub invariant_of-function-else-function-le-SMALL : goal.invariant_of-function-else-function-le-SMALL
+invariant_of-function-else-function-le-SMALL c =
+    let t = c.args.bytes.now in let k = located-code t _ _ _ c.locate-place.ensures c.in_ok-part.was in
+    let e = c.part_of-code.ensures.result_value ∙ sym (part-code _ t _ c.in_ok-part.was) in
+    record { coded = part-coded t _ _ _ _ k _ e (λ i. (c.type_inv.bytes i).fits); counted = part_count t _ _ _ _ k _ e }
+
+pub returns-else-function-le-SMALL : goal.returns-else-function-le-SMALL
+returns-else-function-le-SMALL c =
+    let t = c.args.bytes.now in let k = located-code t _ _ _ c.locate-place.ensures c.in_ok-part.was in
+    let e = c.part_of-code.ensures.result_value ∙ sym (part-code _ t _ c.in_ok-part.was) in
+    call-runs t _ _ _ _ _ _ _ k _ e (sym c.are_answers.ensures ∙ c.if-not-are_answers.false) _ _ c.run_sized-else-function-le-SMALL.ensures

@@ -1,5 +1,5 @@
-use Rattle.std.specs.Prelude.{Result, Ok, Err}
-use mathlib.Core.Path.{◌≡◌, sym, ap, subst}
+use Rattle.std.specs.Prelude.{Result, Err}
+use mathlib.Core.Path.{◌≡◌, sym, subst}
 use Prim.Native.Nat.{ℕ}
 use Rattle.std.proofs.Common.{rules}
 use Rattle.questions.specs.declared.Question.{Question}

@@ -25,24 +25,28 @@ slice_bounds-write_count-count c = let y = c.requires.1 in omega (arith, begun-f
 pub slice_bounds-write_count-start : goal.slice_bounds-write_count-start
 slice_bounds-write_count-start c = let y = c.requires.1 in omega (arith, begun-fits (sheeting-here c.loop-f.invariant c.requires.2 c.loop-f-test.true c.number_at-n.ensures.0 c.count_code-code.ensures))
 
+pub invariant_of-row : goal.invariant_of-row
+invariant_of-row c = record { few = line-few c.loop-f.invariant c.requires.2 c.loop-f-test.true c.number_at-n.ensures.0 c.count_code-code.ensures }
+
 pub write_count-requires : goal.write_count-requires
 write_count-requires c =
-    let y = c.requires.1 in let h = c.loop-f-test.true in let hf : c.loop-f.f < 65536 = omega arith in let l = c.loop-f.invariant in let e = c.number_at-n.ensures.0 in let b = begun-piece (sheeting-here l c.requires.2 h e c.count_code-code.ensures) in let w = line-41 l c.requires.2 h e c.count_code-code.ensures hf in
-    (hf, line-few l c.requires.2 h e c.count_code-code.ensures, omega arith)
+    let y = c.requires.1 in let h = c.loop-f-test.true in let hf : c.loop-f.f < 65536 = omega arith in let l = c.loop-f.invariant in let e = c.number_at-n.ensures.0 in
+    let b = begun-piece (sheeting-here l c.requires.2 h e c.count_code-code.ensures) in let w = line-41 l c.requires.2 h e c.count_code-code.ensures hf in
+    (hf, omega arith)
 
 pub overflow_add-put : goal.overflow_add-put
 overflow_add-put c =
     let y = c.requires.1 in let h = c.loop-f-test.true in let l = c.loop-f.invariant in let e = c.number_at-n.ensures.0 in let b = sheeting-here l c.requires.2 h e c.count_code-code.ensures in
     omega (arith, line-41 l c.requires.2 h e c.count_code-code.ensures (omega arith), begun-fits b, begun-length b, c.well_formed)
 
-pub overflow_add-total : goal.overflow_add-total
-overflow_add-total c = omega (arith, (counts-few c.loop-f.invariant c.requires.2 c.loop-f-test.true c.number_at-n.ensures.0 c.count_code-code.ensures).all)
+pub overflow_add-totals : goal.overflow_add-totals
+overflow_add-totals c = omega (arith, (counts-few c.loop-f.invariant c.requires.2 c.loop-f-test.true c.number_at-n.ensures.0 c.count_code-code.ensures).all)
 
-pub overflow_add-questions : goal.overflow_add-questions
-overflow_add-questions c = omega (arith, (counts-few c.loop-f.invariant c.requires.2 c.loop-f-test.true c.number_at-n.ensures.0 c.count_code-code.ensures).questions)
+pub overflow_add-totals-in-loop-f : goal.overflow_add-totals-in-loop-f
+overflow_add-totals-in-loop-f c = omega (arith, (counts-few c.loop-f.invariant c.requires.2 c.loop-f-test.true c.number_at-n.ensures.0 c.count_code-code.ensures).questions)
 
-pub overflow_add-calls : goal.overflow_add-calls
-overflow_add-calls c = omega (arith, (counts-few c.loop-f.invariant c.requires.2 c.loop-f-test.true c.number_at-n.ensures.0 c.count_code-code.ensures).calls)
+pub overflow_add-totals-in-loop-f-2 : goal.overflow_add-totals-in-loop-f-2
+overflow_add-totals-in-loop-f-2 c = omega (arith, (counts-few c.loop-f.invariant c.requires.2 c.loop-f-test.true c.number_at-n.ensures.0 c.count_code-code.ensures).calls)
 
 pub loop-f-preserved : goal.loop-f-preserved
 loop-f-preserved c = let y = c.requires.1 in let h = c.loop-f-test.true in sheeting-next c.loop-f.invariant c.requires.2 h c.number_at-n.ensures.0 c.count_code-code.ensures (omega arith) c.write_count.ensures
@@ -53,10 +57,13 @@ slice_bounds-write_total-count c = omega (arith, begun-fits (sheeting-last c.loo
 pub slice_bounds-write_total-start : goal.slice_bounds-write_total-start
 slice_bounds-write_total-start c = omega (arith, begun-fits (sheeting-last c.loop-f.invariant c.requires.2 c.loop-f-test.false))
 
+pub invariant_of-totals : goal.invariant_of-totals
+invariant_of-totals c = record { few = totals-few c.loop-f.invariant c.requires.2 }
+
 pub write_total-requires : goal.write_total-requires
 write_total-requires c =
     let l = c.loop-f.invariant in let b = begun-piece (sheeting-last l c.requires.2 c.loop-f-test.false) in
-    let w = last-41 l c.requires.2 c.loop-f-test.false in (totals-few l c.requires.2, omega arith)
+    let w = last-41 l c.requires.2 c.loop-f-test.false in omega arith
 
 pub overflow_add-result : goal.overflow_add-result
 overflow_add-result c =

@@ -1,24 +1,9 @@
 use native.Mathlib.Omega.{arith}
-use Rattle.definitions.specs.Instruction.{row_of, instruction_table, first_width}
-use Rattle.widths.proofs.Table.{run}
-use Rattle.widths.proofs.Laws.{first_none}
+use borrow.Author.Tests.{ne_eqb}
+use Rattle.definitions.specs.Instruction.{instruction_table, row_of, first_width}
+use Rattle.widths.proofs.Laws.{has_first, first-none}
 use Rattle.widths.proofs.first_width.Goals as goal
 
-pub returns-in-38 : goal.returns-in-38
-unfolding first_width row_of instruction_table
-returns-in-38 c = (run first_width 2 38 5 c.args.op tt (omega arith) (omega arith), omega arith)
-
-pub returns-in-9-2 : goal.returns-in-9-2
-unfolding first_width row_of instruction_table
-returns-in-9-2 c = (run first_width 2 35 3 c.args.op tt (grind arith) (omega arith), omega arith)
-
-pub returns-in-2-2 : goal.returns-in-2-2
-unfolding first_width row_of instruction_table
-returns-in-2-2 c = (run first_width 4 28 3 c.args.op tt (omega arith) (omega arith), omega arith)
-
-pub returns-in_default-2 : goal.returns-in_default-2
-unfolding first_width row_of instruction_table
-returns-in_default-2 c = (run first_width 0 13 15 c.args.op tt (omega arith) (omega arith), omega arith)
-
-pub returns-in_default-4 : goal.returns-in_default-4
-returns-in_default-4 c = (first_none c.args.op (omega arith) (λ e. grind arith), omega arith)
+pub returns-in_default : goal.returns-in_default
+unfolding first_width row_of instruction_table has_first
+returns-in_default c = let n = c.in_default.in_default-own.rest in let k = c.args.op in (first-none k (simp (ne_eqb k 0 n.0.0.0.0.0.0.0.0.0.0.0.0.0.0.0.0.0.0.0.0.0.0.1, ne_eqb k 1 n.0.0.0.0.0.0.0.0.0.0.0.0.0.0.0.0.0.0.0.0.0.1, ne_eqb k 2 n.0.0.0.0.0.0.0.0.0.0.0.0.0.0.0.0.0.0.0.0.1, ne_eqb k 6 n.0.0.0.0.0.0.0.0.0.0.0.0.0.0.0.0.0.0.0.1, ne_eqb k 9 n.0.0.0.0.0.0.0.0.0.0.0.0.0.0.0.0.0.0.1, ne_eqb k 10 n.0.0.0.0.0.0.0.0.0.0.0.0.0.0.0.0.0.1, ne_eqb k 11 n.0.0.0.0.0.0.0.0.0.0.0.0.0.0.0.0.1, ne_eqb k 12 n.0.0.0.0.0.0.0.0.0.0.0.0.0.0.0.1, ne_eqb k 28 n.0.0.0.0.0.0.0.0.0.0.0.0.0.0.1, ne_eqb k 29 n.0.0.0.0.0.0.0.0.0.0.0.0.0.1, ne_eqb k 30 n.0.0.0.0.0.0.0.0.0.0.0.0.1, ne_eqb k 31 n.0.0.0.0.0.0.0.0.0.0.0.1, ne_eqb k 32 n.0.0.0.0.0.0.0.0.0.0.1, ne_eqb k 34 n.0.0.0.0.0.0.0.0.0.1, ne_eqb k 35 n.0.0.0.0.0.0.0.0.1, ne_eqb k 36 n.0.0.0.0.0.0.0.1, ne_eqb k 37 n.0.0.0.0.0.0.1, ne_eqb k 38 n.0.0.0.0.0.1, ne_eqb k 39 n.0.0.0.0.1, ne_eqb k 40 n.0.0.0.1, ne_eqb k 41 n.0.0.1, ne_eqb k 42 n.0.1, ne_eqb k 45 n.1)), omega arith)

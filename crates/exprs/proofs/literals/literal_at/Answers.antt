@@ -1,32 +1,41 @@
-use Rattle.exprs.proofs.LiteralLaws.{literal-inside, eight-of-int, eight-of-float, text-counted, is_none, is_false, is_true, is-int, is-float, is-text}
+use mathlib.Core.Path.{sym}
+use Rattle.numerals.specs.Kinds.{expr_byte}
+use Rattle.exprs.proofs.LiteralLaws.{literal-inside, eight-of-int, eight-of-float, text-kind, text-counted, is_none, is_false, is_true, is-int, is-float, is-text}
 use Rattle.exprs.proofs.literals.literal_at.Goals as goal
 
 pub bounds-tree-at : goal.bounds-tree-at
 bounds-tree-at c = literal-inside _ _ c.requires
 
 pub eight_at-requires : goal.eight_at-requires
-eight_at-requires c = eight-of-int _ _ c.requires c.in-3.is
+unfolding expr_byte
+eight_at-requires c = eight-of-int _ _ c.requires (sym c.in-Int.ensures)
 
-pub eight_at-requires-in-4 : goal.eight_at-requires-in-4
-eight_at-requires-in-4 c = eight-of-float _ _ c.requires c.in-4.is
+pub eight_at-requires-in-Float : goal.eight_at-requires-in-Float
+unfolding expr_byte
+eight_at-requires-in-Float c = eight-of-float _ _ c.requires (sym c.in-Float.ensures)
 
 pub u16_at-requires : goal.u16_at-requires
-u16_at-requires c = let n = c.in_default.in_default-own.rest in text-counted _ _ c.requires n.0.0.0.0.1 n.0.0.0.1 n.0.0.1 n.0.1 n.1
+u16_at-requires c = let d = c.in_default in text-counted _ _ c.requires (text-kind _ _ c.requires _ c.of.ensures d.not-NoneLiteral d.not-False d.not-True d.not-Int d.not-Float)
 
-pub returns-in-0 : goal.returns-in-0
-returns-in-0 c = is_none _ _ c.requires c.in-0.is
+pub returns-in-NoneLiteral : goal.returns-in-NoneLiteral
+unfolding expr_byte
+returns-in-NoneLiteral c = is_none _ _ c.requires (sym c.in-NoneLiteral.ensures)
 
-pub returns-in-1 : goal.returns-in-1
-returns-in-1 c = is_false _ _ c.requires c.in-1.is
+pub returns-in-False : goal.returns-in-False
+unfolding expr_byte
+returns-in-False c = is_false _ _ c.requires (sym c.in-False.ensures)
 
-pub returns-in-2 : goal.returns-in-2
-returns-in-2 c = is_true _ _ c.requires c.in-2.is
+pub returns-in-True : goal.returns-in-True
+unfolding expr_byte
+returns-in-True c = is_true _ _ c.requires (sym c.in-True.ensures)
 
-pub returns-in-3 : goal.returns-in-3
-returns-in-3 c = is-int _ _ c.requires _ _ c.in-3.is c.eight_at.ensures c.int_literal.ensures
+pub returns-in-Int : goal.returns-in-Int
+unfolding expr_byte
+returns-in-Int c = is-int _ _ c.requires _ _ (sym c.in-Int.ensures) c.eight_at.ensures c.int_literal.ensures
 
-pub returns-in-4 : goal.returns-in-4
-returns-in-4 c = is-float _ _ c.requires _ _ c.in-4.is c.eight_at-in-4.ensures c.float_literal.ensures
+pub returns-in-Float : goal.returns-in-Float
+unfolding expr_byte
+returns-in-Float c = is-float _ _ c.requires _ _ (sym c.in-Float.ensures) c.eight_at-in-Float.ensures c.float_literal.ensures
 
 pub returns-in_default : goal.returns-in_default
-returns-in_default c = let n = c.in_default.in_default-own.rest in is-text _ _ c.requires n.0.0.0.0.1 n.0.0.0.1 n.0.0.1 n.0.1 n.1 _ c.u16_at.ensures.0
+returns-in_default c = let d = c.in_default in is-text _ _ c.requires (text-kind _ _ c.requires _ c.of.ensures d.not-NoneLiteral d.not-False d.not-True d.not-Int d.not-Float) _ c.u16_at.ensures.0

@@ -4,8 +4,11 @@ use mathlib.Core.Path.{refl}
 use lib.ListN.{replicate}
 use Rattle.fits.proofs.statements.check_slots.Goals as goal
 
-pub fits_block-requires : goal.fits_block-requires
-fits_block-requires c = let p = c.requires in (record { tree = p.small; slotted = none-slots _ _ refl }, p.block)
+pub invariant_of-block-clause-slotted : goal.invariant_of-block-clause-slotted
+invariant_of-block-clause-slotted c = none-slots _ _ refl
+
+pub invariant_of-block-clause-short : goal.invariant_of-block-clause-short
+invariant_of-block-clause-short c = c.requires.small
 
 pub returns : goal.returns
-returns c = tree-told _ _ (replicate 2048 0) _ _ refl c.fits_block.ensures _ c.is_some.ensures
+returns c = tree-told _ _ (replicate 2048 0) _ _ refl c.block.ensures _ c.is_some.ensures

@@ -10,5 +10,5 @@ returns c =
     record {
       run = run-part (k.open + c.min-most.result - k.open) (omega (arith, k.code_room, k.code_limit, k.code_size, c.min-most.ensures)) (omega (arith, c.min-most.ensures)) (omega (arith, k.code_size, c.min-most.ensures)) c.run-n.ensures;
       size = refl;
-      kept = record { base = refl; done = refl; limit = refl };
+      kept = record { base = refl; done = refl; limit = refl; area = refl };
     }

@@ -19,12 +19,14 @@ returns-in-None c =
 pub returns-in-Bool-true : goal.returns-in-Bool-true
 returns-in-Bool-true c =
     let v = bool_is _ _ _ c.requires.2 c.requires.3 _ 3 c.in-Bool-true.is (ap (λ (b : Bool). cond b 3 4) (sym c.in-Bool-true.field-0-test)) in
-    word-quotes c.map-in-Bool-true.ensures.variant (λ n e. (let p : n ≡ c.args.at + 1 = search rules in p) ∙ sym v.1) (instr-plain _ 3 0 0 (plain-below 3 0 0 (omega arith) (omega arith) (omega arith) (omega arith))) c.put_op-in-Bool-true.ensures v.0
+    word-quotes c.map-in-Bool-true.ensures.variant (λ n e. (let p : n ≡ c.args.at + 1 = search rules in p) ∙ sym v.1)
+    (instr-plain _ 3 0 0 (plain-below 3 0 0 (omega arith) (omega arith) (omega arith) (omega arith))) c.put_op-in-Bool-true.ensures v.0
 
 pub returns-in-Bool-false : goal.returns-in-Bool-false
 returns-in-Bool-false c =
     let v = bool_is _ _ _ c.requires.2 c.requires.3 _ 4 c.in-Bool-false.is (ap (λ (b : Bool). cond b 3 4) (sym c.in-Bool-false.field-0-test)) in
-    word-quotes c.map-in-Bool-false.ensures.variant (λ n e. (let p : n ≡ c.args.at + 1 = search rules in p) ∙ sym v.1) (instr-plain _ 4 0 0 (plain-below 4 0 0 (omega arith) (omega arith) (omega arith) (omega arith))) c.put_op-in-Bool-false.ensures v.0
+    word-quotes c.map-in-Bool-false.ensures.variant (λ n e. (let p : n ≡ c.args.at + 1 = search rules in p) ∙ sym v.1)
+    (instr-plain _ 4 0 0 (plain-below 4 0 0 (omega arith) (omega arith) (omega arith) (omega arith))) c.put_op-in-Bool-false.ensures v.0
 
 pub returns-in-Ok : goal.returns-in-Ok
 returns-in-Ok c =
@@ -51,7 +53,14 @@ pub returns-in_err-emit_string-in-Text : goal.returns-in_err-emit_string-in-Text
 returns-in_err-emit_string-in-Text c =
     let v = (text-is _ _ _ c.requires.2 c.requires.3 _ _ c.in-Text.is c.requires.5).2 in
     let e = c.from_residual.ensures in
-    record { place = λ n q. absurd (none-some n (sym e ∙ q)); quotes = record { lowers = λ S. lowers-by (lowers-none c.in_err-emit_string-in-Text.was e (c.emit_string.ensures.lowers S)) v.0 } }
+    record {
+      place = λ n q. absurd (none-some n (sym e ∙ q));
+      quotes = record {
+        lowers = λ ts S. lowers-by (lowers-none c.in_err-emit_string-in-Text.was e (c.emit_string.ensures.lowers ts S)) v.0;
+        area = c.emit_string.ensures.area;
+        entries = c.emit_string.ensures.entries;
+      };
+    }
 
 pub overflow_add-result : goal.overflow_add-result
 overflow_add-result c = let v = text-is _ _ _ c.requires.2 c.requires.3 _ _ c.in-Text.is c.requires.5 in omega (arith, v.1, c.requires.1)
@@ -59,4 +68,11 @@ overflow_add-result c = let v = text-is _ _ _ c.requires.2 c.requires.3 _ _ c.in
 pub returns-in_ok-emit_string-in-Text : goal.returns-in_ok-emit_string-in-Text
 returns-in_ok-emit_string-in-Text c =
     let v = (text-is _ _ _ c.requires.2 c.requires.3 _ _ c.in-Text.is c.requires.5).2 in
-    record { place = λ n q. (let p : n ≡ c.in-Text.start + c.in-Text.len = cc in p) ∙ sym v.1; quotes = record { lowers = λ S. lowers-by (lowers-some c.in_ok-emit_string-in-Text.was (c.emit_string.ensures.lowers S)) v.0 } }
+    record {
+      place = λ n q. (let p : n ≡ c.in-Text.start + c.in-Text.len = cc in p) ∙ sym v.1;
+      quotes = record {
+        lowers = λ ts S. lowers-by (lowers-some c.in_ok-emit_string-in-Text.was (c.emit_string.ensures.lowers ts S)) v.0;
+        area = c.emit_string.ensures.area;
+        entries = c.emit_string.ensures.entries;
+      };
+    }

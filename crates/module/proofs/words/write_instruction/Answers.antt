@@ -37,7 +37,7 @@ write_number-n-requires c =
     let begun = let t = c.args.tree.now in
     begun-word t c.args.out.now c.args.w (c.opcode-op.ensures.0 t) c.first_width-first.ensures.0
     c.second_width-second.ensures.0 (c.first_operand-a.ensures t) (c.second_operand-b.ensures t) c.requires in
-    begun-number _ _ begun
+    (begun-number _ _ begun, c.first_width-first.ensures.1)
 
 pub overflow_add-at : goal.overflow_add-at
 overflow_add-at c =
@@ -65,7 +65,7 @@ write_number-requires c =
     let begun = let t = c.args.tree.now in
     begun-word t c.args.out.now c.args.w (c.opcode-op.ensures.0 t) c.first_width-first.ensures.0
     c.second_width-second.ensures.0 (c.first_operand-a.ensures t) (c.second_operand-b.ensures t) c.requires in
-    begun-number _ _ (begun-next begun c.write_number-n.ensures)
+    (begun-number _ _ (begun-next begun c.write_number-n.ensures), omega (arith, c.second_width-second.ensures.1))
 
 pub overflow_add-result : goal.overflow_add-result
 overflow_add-result c =

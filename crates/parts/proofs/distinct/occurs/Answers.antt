@@ -1,5 +1,5 @@
 use Rattle.parts.proofs.NameLaws.{same-as, occurs-again, there-first, member-found, member-none}
-use mathlib.Core.Path.{◌≡◌, refl, sym, ◌∙◌}
+use mathlib.Core.Path.{◌≡◌, sym, ◌∙◌}
 use Rattle.std.proofs.Common.{◌+◌, ◌-◌, arith}
 use Rattle.parts.proofs.distinct.occurs.Goals as goal
 

@@ -1,38 +1,37 @@
-use Prim.Native.Nat.{ℕ}
-use lib.ListN.{length}
-use mathlib.Core.Path.{refl, ap, ◌∙◌}
+use mathlib.Core.Path.{◌≡◌, refl, sym, ap, ◌∙◌, subst}
+use mathlib.Core.List.{List}
+use Prim.Native.Nat.{ℕ, ◌+◌}
+use lib.ListN.{length, get_or}
+use denote.Ref.{Bor}
 use Rattle.std.proofs.Common.{Option}
-use Rattle.reach.specs.Tracing.{listed}
-use native.Mathlib.Omega.{arith}
-use Rattle.reach.proofs.Tracks.{counting-start, place_in, mark-in, some, one_less, counted, counting-on, listed-by}
+use Rattle.reach.specs.Tracing.{Going, listed}
+use Rattle.reach.specs.declared.trace.Steps.{Steps}
+use Rattle.reach.proofs.Tracks.{Counting, going_start, counting-start, counted, counting-on, listed-by}
 use Rattle.reach.proofs.trace.way_length.Goals as goal
 
-pub loop-place-init : goal.loop-place-init
-loop-place-init c = counting-start c.requires
+pub loop-answer-init : goal.loop-answer-init
+loop-answer-init c =
+    let g = c.into_iter-answer-iterator.ensures.into_iter_gives in let o = c.to-answer-items.ensures in let s = c.into_iter-answer-iterator.result in let t = c.args.area.now in
+    let a : s.area.now ≡ t = ap (λ (x : Steps). x.area.now) g ∙ ap (λ (x : Bor (List ℕ)). x.now) o.0 in
+    let p : s.place ≡ c.args.place = ap (λ (x : Steps). x.place) g ∙ o.1 in
+    (a, subst (λ (k : ℕ). Counting t c.args.place k 0) (sym p) (counting-start c.requires))
 
-pub overflow_add-m : goal.overflow_add-m
-overflow_add-m c = let i = place_in c.loop-place.invariant.going in let f = c.loop-place.invariant.going.few in omega arith
+pub loop-answer-init-derived : goal.loop-answer-init-derived
+loop-answer-init-derived c =
+    let g = c.into_iter-answer-iterator.ensures.into_iter_gives in let o = c.to-answer-items.ensures in let s = c.into_iter-answer-iterator.result in let t = c.args.area.now in
+    let a : s.area.now ≡ t = ap (λ (x : Steps). x.area.now) g ∙ ap (λ (x : Bor (List ℕ)). x.now) o.0 in
+    let p : s.place ≡ c.args.place = ap (λ (x : Steps). x.place) g ∙ o.1 in
+    (subst (λ (u : List ℕ). Going u s.place) (sym a) (subst (λ (k : ℕ). Going t k) (sym p) (going_start c.requires)), tt)
 
-pub offset_bounds-area-p : goal.offset_bounds-area-p
-offset_bounds-area-p c = let i = place_in c.loop-place.invariant.going in let f = c.loop-place.invariant.going.few in omega arith
+pub loop-answer-preserved : goal.loop-answer-preserved
+loop-answer-preserved c =
+    let s = c.loop-answer.answer-iterator in let v = c.loop-answer.invariant in let w = c.in-Some.ensures.steps in
+    let e = ap (λ (u : List ℕ). get_or u (65536 + s.place) 0) v.0 in
+    let k = c.taken-count.ensures in
+    (ap (λ (x : Bor (List ℕ)). x.now) w.2 ∙ v.0, counting-on v.1 e w.0 w.3 refl (k.0 ∙ ap (λ (a : Option ℕ). length (listed a)) w.1 ∙ ap length (listed-by _)) k.1)
 
-pub bounds-area-p : goal.bounds-area-p
-bounds-area-p c = mark-in c.loop-place.invariant.going
-
-pub returns-then-m-eq-ROOT : goal.returns-then-m-eq-ROOT
-returns-then-m-eq-ROOT c = counted c.loop-place.invariant refl c.if-m-eq-ROOT.true
-
-pub answer_of-requires : goal.answer_of-requires
-answer_of-requires c = some c.loop-place.invariant.going refl c.if-m-eq-ROOT.false
-
-pub overflow_add-count : goal.overflow_add-count
-overflow_add-count c = let i = c.loop-place.invariant.few in let k = c.taken-count.ensures.1 in omega arith
-
-pub before_of-p-requires : goal.before_of-p-requires
-before_of-p-requires c = some c.loop-place.invariant.going refl c.if-m-eq-ROOT.false
-
-pub loop-place-smaller : goal.loop-place-smaller
-loop-place-smaller c = let e = one_less c.loop-place.invariant.going refl c.if-m-eq-ROOT.false c.before_of-p.ensures in omega arith
-
-pub loop-place-preserved : goal.loop-place-preserved
-loop-place-preserved c = counting-on c.loop-place.invariant refl c.if-m-eq-ROOT.false c.before_of-p.ensures refl (c.taken-count.ensures.0 ∙ ap (λ (a : Option ℕ). length (listed a)) c.answer_of.ensures ∙ ap length (listed-by _)) c.taken-count.ensures.1
+pub returns : goal.returns
+returns c =
+    let s = c.loop-answer.answer-iterator in let v = c.loop-answer.invariant in let w = c.in-None.ensures.steps in
+    let e = ap (λ (u : List ℕ). get_or u (65536 + s.place) 0) v.0 in
+    counted v.1 e w

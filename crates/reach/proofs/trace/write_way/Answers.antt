@@ -1,41 +1,47 @@
-use Prim.Native.Nat.{ℕ}
-use lib.ListN.{length}
-use mathlib.Core.Path.{refl, ap, ◌∙◌}
-use Rattle.std.proofs.Common.{Option}
-use Rattle.reach.specs.Tracing.{listed, put_by}
+use mathlib.Core.Path.{◌≡◌, refl, sym, ap, ◌∙◌, subst}
+use mathlib.Core.List.{List}
+use Prim.Native.Nat.{ℕ, ◌+◌}
+use lib.ListN.{length, get_or}
+use denote.Ref.{Bor}
 use native.Mathlib.Omega.{arith}
-use Rattle.reach.proofs.Tracks.{place_in, mark-in, some, one_less, written_none, written_all, put-fits, written-more, listed-by, put-by}
+use Rattle.std.proofs.Common.{Option}
+use Rattle.reach.specs.Tracing.{Going, listed, put_by}
+use Rattle.reach.specs.declared.trace.Steps.{Steps}
+use Rattle.reach.proofs.Tracks.{Written, going_start, written_none, written_all, put-fits, written-more, listed-by, put-by}
 use Rattle.reach.proofs.trace.write_way.Goals as goal
 
-pub loop-place-init : goal.loop-place-init
-loop-place-init c = let p = c.requires in written_none p.0 p.1 p.2
+pub loop-answer-init : goal.loop-answer-init
+loop-answer-init c =
+    let g = c.into_iter-answer-iterator.ensures.into_iter_gives in let o = c.to-answer-items.ensures in let s = c.into_iter-answer-iterator.result in let t = c.args.area.now in
+    let a : s.area.now ≡ t = ap (λ (x : Steps). x.area.now) g ∙ ap (λ (x : Bor (List ℕ)). x.now) o.0 in
+    let p : s.place ≡ c.args.place = ap (λ (x : Steps). x.place) g ∙ o.1 in
+    let r = c.requires in
+    (a, subst (λ (k : ℕ). Written t c.args.place c.args.end k c.args.end c.args.out.now c.args.out.now) (sym p) (written_none r.0 r.1 r.2))
 
-pub overflow_add-m : goal.overflow_add-m
-overflow_add-m c = let i = place_in c.loop-place.invariant.going in let f = c.loop-place.invariant.going.few in omega arith
-
-pub offset_bounds-area-p : goal.offset_bounds-area-p
-offset_bounds-area-p c = let i = place_in c.loop-place.invariant.going in let f = c.loop-place.invariant.going.few in omega arith
-
-pub bounds-area-p : goal.bounds-area-p
-bounds-area-p c = mark-in c.loop-place.invariant.going
-
-pub shape_of-out-then-m-eq-ROOT : goal.shape_of-out-then-m-eq-ROOT
-shape_of-out-then-m-eq-ROOT c = c.loop-place.invariant.long
-
-pub returns-then-m-eq-ROOT : goal.returns-then-m-eq-ROOT
-returns-then-m-eq-ROOT c = written_all c.loop-place.invariant refl c.if-m-eq-ROOT.true
-
-pub answer_of-requires : goal.answer_of-requires
-answer_of-requires c = some c.loop-place.invariant.going refl c.if-m-eq-ROOT.false
+pub loop-answer-init-derived : goal.loop-answer-init-derived
+loop-answer-init-derived c =
+    let g = c.into_iter-answer-iterator.ensures.into_iter_gives in let o = c.to-answer-items.ensures in let s = c.into_iter-answer-iterator.result in let t = c.args.area.now in
+    let a : s.area.now ≡ t = ap (λ (x : Steps). x.area.now) g ∙ ap (λ (x : Bor (List ℕ)). x.now) o.0 in
+    let p : s.place ≡ c.args.place = ap (λ (x : Steps). x.place) g ∙ o.1 in
+    (subst (λ (u : List ℕ). Going u s.place) (sym a) (subst (λ (k : ℕ). Going t k) (sym p) (going_start c.requires.0)), tt)
 
 pub put_back-at-requires : goal.put_back-at-requires
-put_back-at-requires c = let f = put-fits c.loop-place.invariant refl c.if-m-eq-ROOT.false refl in let e = ap (λ (a : Option ℕ). length (listed a)) c.answer_of.ensures ∙ ap length (listed-by _) in (omega (arith, f.0), f.1)
+put_back-at-requires c =
+    let s = c.loop-answer.answer-iterator in let v = c.loop-answer.invariant in let w = c.in-Some.ensures.steps in
+    let e = ap (λ (u : List ℕ). get_or u (65536 + s.place) 0) v.0 in
+    let f = put-fits v.1 e w.0 refl in let n = ap (λ (a : Option ℕ). length (listed a)) w.1 ∙ ap length (listed-by _) in (omega (arith, f.0), f.1)
 
-pub before_of-p-requires : goal.before_of-p-requires
-before_of-p-requires c = some c.loop-place.invariant.going refl c.if-m-eq-ROOT.false
+pub loop-answer-preserved : goal.loop-answer-preserved
+loop-answer-preserved c =
+    let s = c.loop-answer.answer-iterator in let v = c.loop-answer.invariant in let w = c.in-Some.ensures.steps in
+    let e = ap (λ (u : List ℕ). get_or u (65536 + s.place) 0) v.0 in
+    let n = ap (λ (a : Option ℕ). length (listed a)) w.1 ∙ ap length (listed-by _) in let k = c.put_back-at.ensures in let m = k.0 in (
+      ap (λ (x : Bor (List ℕ)). x.now) w.2 ∙ v.0,
+      written-more v.1 e w.0 refl w.3 (omega arith) (k.1 ∙ ap (λ (a : Option ℕ). put_by a c.loop-answer.at c.loop-answer.out) w.1 ∙ put-by _ _ _) c.put_back-at.auto.out,
+    )
 
-pub loop-place-smaller : goal.loop-place-smaller
-loop-place-smaller c = let e = one_less c.loop-place.invariant.going refl c.if-m-eq-ROOT.false c.before_of-p.ensures in omega arith
-
-pub loop-place-preserved : goal.loop-place-preserved
-loop-place-preserved c = written-more c.loop-place.invariant refl c.if-m-eq-ROOT.false refl c.before_of-p.ensures (let e = ap (λ (a : Option ℕ). length (listed a)) c.answer_of.ensures ∙ ap length (listed-by _) in let k = c.put_back-at.ensures.0 in omega arith) (c.put_back-at.ensures.1 ∙ ap (λ (a : Option ℕ). put_by a c.loop-place.at c.loop-place.out) c.answer_of.ensures ∙ put-by _ _ _) c.put_back-at.auto.out
+pub returns : goal.returns
+returns c =
+    let s = c.loop-answer.answer-iterator in let v = c.loop-answer.invariant in let w = c.in-None.ensures.steps in
+    let e = ap (λ (u : List ℕ). get_or u (65536 + s.place) 0) v.0 in
+    written_all v.1 e w

@@ -1,8 +1,6 @@
-use Rattle.reach.proofs.Tracks.{steps_to, Written}
+use mathlib.Core.Path.{◌≡◌}
+use Rattle.reach.proofs.Tracks.{Written}
 use Rattle.reach.proofs.trace.write_way.Given as goal
 
-abbrev pub invariant-loop-place : goal.invariant-loop-place
-invariant-loop-place l = Written l.area l.place l.end l.p l.at l.initial.out l.out
-
-abbrev pub decreases-loop-place : goal.decreases-loop-place
-decreases-loop-place l = steps_to l.area l.p
+abbrev pub invariant-loop-answer : goal.invariant-loop-answer
+invariant-loop-answer l = (l.answer-iterator.area.now ≡ l.area) × Written l.area l.place l.end l.answer-iterator.place l.at l.initial.out l.out

@@ -12,4 +12,4 @@ put_field-requires c = (five-digits _ c.requires.0, search rules)
 
 pub returns : goal.returns
 unfolding field_text
-returns c = line-written _ refl (length-right 5 _ (five-digits _ c.requires.0)) c.requires.1 _ _ _ c.requires.2 c.put_field.ensures c.put_counts.ensures
+returns c = line-written _ refl (length-right 5 _ (five-digits _ c.requires.0)) c.args.row.few _ _ _ c.requires.1 c.put_field.ensures c.put_counts.ensures

@@ -4,4 +4,4 @@ use Rattle.sheet.proofs.RowLaws.{line-written}
 use Rattle.sheet.proofs.lines.write_total.Goals as goal
 
 pub returns : goal.returns
-returns c = line-written _ total-word refl c.requires.0 _ _ _ c.requires.1 c.write_bytes.ensures.out c.put_counts.ensures
+returns c = line-written _ total-word refl c.args.row.few _ _ _ c.requires c.write_bytes.ensures.out c.put_counts.ensures

@@ -21,7 +21,7 @@ write_counted-at-requires c =
     let n = length-class _ _ _ _ _ c.name_part-name.ensures.result_value c.methods_at-methods.ensures.tree c.methods_at-methods.ensures.words c.requires.0 in
     let a = c.args.self.now in
     let s = name-short a.tree.now (get_or a.names.now c.args.i 0) a.tree_bytes in
-    (omega (arith, ap length c.name_part-name.ensures.result_value, s), omega (arith, n, c.requires.1))
+    (omega (arith, ap length c.name_part-name.ensures.result_value, s), omega (arith, n, c.requires.1), omega arith)
 
 pub slice_bounds-write_list-count : goal.slice_bounds-write_list-count
 slice_bounds-write_list-count c =

@@ -13,7 +13,7 @@ write_counted-at-requires c =
     let k = name-short s.tree.now (get_or s.words.now c.args.i 0 / 256) s.tree_bytes in
     let e = c.name_part-name.ensures.result_value in
     let n = length-method _ _ _ e c.requires.0 in
-    (omega (arith, ap length e, k), omega (arith, n, c.requires.1))
+    (omega (arith, ap length e, k), omega (arith, n, c.requires.1), omega arith)
 
 pub slice_bounds-write_number-count : goal.slice_bounds-write_number-count
 slice_bounds-write_number-count c =
@@ -28,7 +28,7 @@ slice_bounds-write_number-start c =
 pub write_number-requires : goal.write_number-requires
 write_number-requires c =
     let named = begun_first (method-pieces _ _ _ c.name_part-name.ensures.result_value c.requires.0) c.requires.1 c.write_counted-at.ensures in
-    begun-number _ _ named
+    (begun-number _ _ named, omega arith)
 
 pub overflow_add-result : goal.overflow_add-result
 overflow_add-result c =

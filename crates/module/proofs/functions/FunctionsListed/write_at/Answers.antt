@@ -31,7 +31,7 @@ slice_bounds-write_number-start c =
 pub write_number-at-requires-2 : goal.write_number-at-requires-2
 write_number-at-requires-2 c =
     let begun = begun_first (function-pieces _ _ _ _ _ c.code_at-code.ensures.tree c.code_at-code.ensures.words c.requires.0) c.requires.1 c.write_number-at.ensures in
-    begun-number _ _ begun
+    (begun-number _ _ begun, omega arith)
 
 pub overflow_add-at : goal.overflow_add-at
 overflow_add-at c =
@@ -51,7 +51,7 @@ slice_bounds-write_number-start-2 c =
 pub write_number-at-requires-3 : goal.write_number-at-requires-3
 write_number-at-requires-3 c =
     let begun = begun_first (function-pieces _ _ _ _ _ c.code_at-code.ensures.tree c.code_at-code.ensures.words c.requires.0) c.requires.1 c.write_number-at.ensures in
-    begun-number _ _ (begun-next begun c.write_number-at-2.ensures)
+    (begun-number _ _ (begun-next begun c.write_number-at-2.ensures), omega arith)
 
 pub overflow_add-at-2 : goal.overflow_add-at-2
 overflow_add-at-2 c =

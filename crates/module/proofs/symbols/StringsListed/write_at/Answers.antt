@@ -13,7 +13,7 @@ write_counted-requires c =
     let n = ap length (worded _ _ _ c.text_part.ensures.result_value c.requires.0) ∙ length-counted 2 _ in
     let a = c.args.self.now in
     let s = text-short a.tree.now (get_or a.entries.now c.args.i 0) a.tree_bytes in
-    (omega (arith, ap length c.text_part.ensures.result_value, s), omega (arith, n, c.requires.1))
+    (omega (arith, ap length c.text_part.ensures.result_value, s), omega (arith, n, c.requires.1), omega arith)
 
 pub returns : goal.returns
 returns c =

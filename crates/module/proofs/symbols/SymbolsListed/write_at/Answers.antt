@@ -13,7 +13,7 @@ write_counted-requires c =
     let n = ap length (named _ _ _ c.spelling.ensures.result_value c.requires.0) ∙ length-counted 1 _ in
     let a = c.args.self.now in
     let s = spelled-short a.tree.now a.made.now (get_or a.entries.now c.args.i 0) a.tree_bytes a.made_bytes in
-    (omega (arith, ap length c.spelling.ensures.result_value, s), omega (arith, n, c.requires.1))
+    (omega (arith, ap length c.spelling.ensures.result_value, s), omega (arith, n, c.requires.1), omega arith)
 
 pub returns : goal.returns
 returns c =
