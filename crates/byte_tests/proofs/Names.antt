@@ -1,12 +1,11 @@
 -- A test of each byte, and the form of a name.
-use Prim.Native.Nat.{ℕ, ◌+◌, ◌-◌, ◌<◌, ◌≤◌}
+use Prim.Native.Nat.{ℕ, ◌-◌, ◌<◌, ◌≤◌}
 use mathlib.Core.Path.{◌≡◌, refl, ap, ◌∙◌}
 use mathlib.Core.Bool.{Bool, true, false, ◌&&◌, ◌||◌}
 use mathlib.Core.List.{List, [], ◌∷◌}
 use native.Mathlib.Omega.{arith}
-use native.Mathlib.Numerals.{add-one}
-use lib.ListN.{length, take, drop, get_or, drop_of_length-le}
-use lib.Seq.{take_all, drop-cons}
+use lib.ListN.{length, take, drop, get_or}
+use lib.Seq.{take_all}
 use borrow.Author.Tests.{le-leb, lt-leb}
 use Rattle.std.specs.List.{list_all}
 use Rattle.std.proofs.lemmas.List.Recursion.{same_from_clauses}
@@ -19,23 +18,6 @@ use Rattle.byte_tests.proofs.Same.{and_no}
 pub all_listed : (f : ℕ → Bool) (bs : List ℕ) → list_all f bs ≡ all f bs
 unfolding all
 all_listed f = same_from_clauses (list_all f) (all f) (λ x b. f x && b) refl (λ x xs. refl) (λ x xs. refl)
-
--- ---- a test of each byte from i on
-
-module _ (f : ℕ → Bool) (bs : List ℕ) (i : ℕ) where
-  all_more : i < length bs → all f (drop i bs) ≡ (f (get_or bs i 0) && all f (drop (i + 1) bs))
-  unfolding all
-  all_more h = rw (drop-cons bs i 0 h, add-one)
-
-  pub all_none : length bs ≤ i → all f (drop i bs) ≡ true
-  unfolding all
-  all_none h = ap (all f) (drop_of_length-le bs h)
-
-  pub all_go : i < length bs → f (get_or bs i 0) ≡ true → all f (drop i bs) ≡ all f (drop (i + 1) bs)
-  all_go h e = all_more h ∙ ap (λ (b : Bool). b && all f (drop (i + 1) bs)) e
-
-  pub all-stop : i < length bs → f (get_or bs i 0) ≡ false → all f (drop i bs) ≡ false
-  all-stop h e = all_more h ∙ ap (λ (b : Bool). b && all f (drop (i + 1) bs)) e
 
 -- ---- names
 

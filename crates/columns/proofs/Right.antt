@@ -3,7 +3,7 @@ use mathlib.Core.Path.{◌≡◌, refl, sym, ap, ◌∙◌}
 use mathlib.Core.List.{List, [], ◌∷◌, ◌++◌, append-nil, append_assoc}
 use Prim.Native.Nat.{ℕ, zero, suc, ◌-◌, ◌≤◌}
 use native.Mathlib.Omega.{arith}
-use lib.ListN.{length, get_or, take, drop, set, replicate, length-append, length-take, length-drop, take-append-drop}
+use lib.ListN.{length, get_or, take, drop, set, replicate, length-append, take-append-drop}
 use lib.Seq.{take-suc, set_at, append_snoc, length-take-le}
 use Rattle.definitions.specs.Calls.{written}
 use Rattle.definitions.specs.Columns.{spaces, right_in}
@@ -44,12 +44,6 @@ pub record Ended (P xs out r : List ℕ) : Type 0 where
 
 pub ended-start : (P xs : List ℕ) → length P ≤ length xs → Ended P xs xs P
 ended-start P xs h = record { tail = []; split = sym (append-nil P); is = sym (take-append-drop (length P) xs); room = h }
-
-pub ended-length : {P xs out r : List ℕ} → Ended P xs out r → length out ≡ length xs
-ended-length {P} {xs} {out} {r} e =
-    let k = e.room in
-    let l = ap length e.split ∙ length-append r e.tail in
-    ap length e.is ∙ simp (length-append, length-take, length-drop) (omega arith)
 
 pub ended-inside : {P xs out r : List ℕ} → Ended P xs out r → length r ≤ length xs
 ended-inside {P} {xs} {out} {r} e = let k = e.room in let l = ap length e.split ∙ length-append r e.tail in omega arith

@@ -2,7 +2,6 @@
 // That the tree is accepted (TreeAt) stays a clause: a struct with that fact would be made for one call and opened at once.
 #![tactic(auto)]
 
-ghost use Rattle.std.specs.Prelude.{◌≡◌};
 ghost use Rattle.definitions.specs.Lower as Lower;
 ghost use Rattle.tree.specs.StmtAt.{block_at, TreeAt};
 ghost use Rattle.lower_emit.specs.Emitting.{SoundIn, EmitsTo, BeginsIn};

@@ -16,7 +16,7 @@ use parts::numbers::u16_at;
 use slots::captures::lambda_slots;
 use slots::skip::{skip_expr, skip_params};
 
-// The answer of each is the next position, or none where a function has more slots.
+// The answer of each is the next position, or none where a function has more than 255 slots.
 impl<'a> Frame<'a> {
     // An expression.
     #[cycle(fits_exprs)]

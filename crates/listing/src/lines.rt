@@ -14,7 +14,7 @@ use reader::Placed;
 use widths::{first_width, second_width};
 use writing::write_bytes;
 
-// Opcodes by which a first operand is shown: an integer, a float, and the jumps.
+// Opcodes by which a first operand is shown: an integer, a float, and the jumps; numbers of its own, as the crate needs nothing else of numerals.
 const CONST_I64: u8 = 0;
 
 const CONST_F64: u8 = 1;

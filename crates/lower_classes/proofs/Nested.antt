@@ -27,7 +27,7 @@ use Rattle.lower_emit.proofs.Steps.{areas-none}
 use Rattle.lower_emit.proofs.Functions.{begun-lifts, head-begun, innermost-as, begins-stopped}
 use Rattle.lower_names.specs.Naming.{Interns, named}
 use Rattle.lower_names.proofs.Symbols.{Renews, left-renewed, numbers-some, numbers-none, interned}
-use Rattle.lower_names.proofs.Beginnings.{named-none, named-sound, named-begins}
+use Rattle.lower_names.proofs.Beginnings.{limits-begun, named-none, named-sound, named-begins}
 use Rattle.lower_classes.specs.Classes.{BeginsClass, CountedIn, EndsClass, AddsConstant, BeginsNamed, StartsNamed}
 
 -- ---- classes
@@ -43,12 +43,13 @@ module _ {m : Used 64} {a : Entries} (at : ℕ) where
           let made = ts.names.made.now in
           numbers-none refl areas-none (numbers-over t made code.words.now a.words.now c l n _ Over refl (class-over t made code.words.now a.words.now a.words.now at n c l S.sound h));
     };
+    limit = refl;
     entries = refl;
   }
 
-  pub begins-class : {n : Used 64} {b : Entries} → m.count < m.limit → b.words.ghost_name ≡ a.words.ghost_name
+  pub begins-class : {n : Used 64} {b : Entries} → m.count < m.limit → n.limit ≡ m.limit → b.words.ghost_name ≡ a.words.ghost_name
       → ((ts : Tables) → Renews (set (set a.words.now (class_names_from + m.count) at) (class_methods_from + m.count) 0) one_class (new_classes m a ts) (new_classes n b ts)) → BeginsClass (Some m.count) at m n a b
-  begins-class room entries R = record {
+  begins-class room limit entries R = record {
     tables = λ ts. record {
       numbers = λ t code S.
           let c = counts_of (beside code (new_classes m a ts)) in
@@ -57,6 +58,7 @@ module _ {m : Used 64} {a : Entries} (at : ℕ) where
           let h = numbers-at t made code.words.now _ c l _ _ (At m.count (one_class c)) m.count (one_class c) refl (class-begun t made code.words.now a.words.now at c l S.sound room) in
           numbers-some ((R ts).limits code) ((R ts).areas code) (h.0, left-renewed (R ts) code h.1);
     };
+    limit = limit;
     entries = entries;
   }
 
@@ -107,6 +109,8 @@ module _ {t : List ℕ} {m n : Names} {a b : Entries} {s : Option ℕ} {at : ℕ
     below = λ i q. absurd (none-some i (sym e ∙ q));
     tables = λ ts. record { begins = λ code S. begins-stopped e e refl (record { words = refl; made = refl; entries = refl }) (named-none (name_at t at) S (numbered f code ts S) _ arity locals z e) };
     made = h.made;
+    symbols = h.limit;
+    limit = refl;
     area = h.area;
     entries = h.entries;
   }
@@ -120,6 +124,8 @@ module _ {t : List ℕ} {m n : Names} {a b : Entries} {s : Option ℕ} {at : ℕ
           named-begins (name_at t at) S N z arity locals (begun-lifts (named-sound (name_at t at) S N z) (omega (arith, h.below j z)) x y (head-begun code (new_names n b ts) H));
     };
     made = h.made;
+    symbols = h.limit;
+    limit = H.limit;
     area = h.area;
     entries = H.area ∙ h.entries;
   }
@@ -132,11 +138,12 @@ module _ {t : List ℕ} {e : Emitter} {n : Names} {g : Used 256} {b : Entries} {
     begins = λ S. begins-stopped z y refl (record { words = refl; made = refl; entries = refl }) ((h.tables e.tables).begins e.code S);
     made = h.made;
     words = refl;
+    limits = limits-begun e n g b h.symbols h.limit;
     areas = record { words = refl; made = h.area; entries = h.entries };
   }
 
   starts : StartsNamed r at arity locals t e (beside (innermost e.code) (new_functions g b (new_names n b e.tables)))
-  starts = record { below = h.below; begins = λ S. (h.tables e.tables).begins e.code S; made = h.made; words = refl; areas = record { words = refl; made = h.area; entries = h.entries } }
+  starts = record { below = h.below; begins = λ S. (h.tables e.tables).begins e.code S; made = h.made; words = refl; limits = limits-begun e n g b h.symbols h.limit; areas = record { words = refl; made = h.area; entries = h.entries } }
 
   pub starts-named : {i : ℕ} {room : 16384 ≤ length e.code.words.now} {most : e.code.limit ≤ 8192} {size : e.code.open + e.code.done ≤ e.code.limit} → r ≡ Some i
       → StartsNamed (Some i) at arity locals t e (beside (record { words = e.code.words; base = e.code.open; «open» = e.code.open; done = e.code.done; limit = e.code.limit; code_room = room; code_limit = most; code_size = size })

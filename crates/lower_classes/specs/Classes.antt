@@ -25,6 +25,7 @@ pub record NumbersClass (r : Option ℕ) (at : ℕ) (a b : Tables) : Type 0 wher
 -- whatever the other tables are
 pub record BeginsClass (r : Option ℕ) (at : ℕ) (m n : Used 64) (a b : Entries) : Type 0 where
   pub tables : (ts : Tables) → NumbersClass r at (new_classes m a ts) (new_classes n b ts)
+  pub limit : n.limit ≡ m.limit
   pub entries : b.words.ghost_name ≡ a.words.ghost_name
 
 -- the counts k and the wanted state, and the limits as they were
@@ -61,6 +62,8 @@ pub record BeginsNamed (r : Option ℕ) (at arity locals : ℕ) (tree : List ℕ
   pub below : (i : ℕ) → r ≡ Some i → i < 256
   pub tables : (ts : Tables) → NumbersFunction r at arity locals tree (new_functions f a (new_names m a ts)) (new_functions g b (new_names n b ts))
   pub made : n.made.now ≡ m.made.now
+  pub symbols : n.symbols.limit ≡ m.symbols.limit
+  pub limit : g.limit ≡ f.limit
   pub area : n.made.ghost_name ≡ m.made.ghost_name
   pub entries : b.words.ghost_name ≡ a.words.ghost_name
 
@@ -70,6 +73,7 @@ pub record StartsNamed (r : Option ℕ) (at arity locals : ℕ) (tree : List ℕ
       (begun_with (symbol_number (name_at tree at) (state_in tree a).tables) arity locals (named (name_at tree at) (state_in tree a)))
   pub made : b.tables.names.made.now ≡ a.tables.names.made.now
   pub words : b.code.words.now ≡ a.code.words.now
+  pub limits : limits_in b ≡ limits_in a
   pub areas : SameAreas a b
 
 -- whatever the tree is

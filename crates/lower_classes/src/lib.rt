@@ -2,7 +2,7 @@
 // The bound of a single number stays a clause: a type for it would be opened at each use.
 #![tactic(auto)]
 
-ghost use Rattle.std.specs.Prelude.{◌≡◌, ◌+◌, ◌<◌, ◌≤◌, ◌^◌, length};
+ghost use Rattle.std.specs.Prelude.{◌+◌, ◌<◌, ◌≤◌, ◌^◌, length};
 ghost use Rattle.lower_emit.specs.Emitting.{SoundIn};
 ghost use Rattle.lower_names.specs.Naming.{Naming};
 ghost use Rattle.lower_classes.specs.Classes.{BeginsClass, EndsClass, AddsConstant, BeginsNamed, StartsNamed, StoresClass, FinishesClass};

@@ -20,13 +20,13 @@ use Rattle.lower_emit.specs.Emitting.{counts_of, limits_in, state_in, SoundIn, b
 use Rattle.lower_emit.specs.Ends.{EndsBranch, EndsLoop}
 use Rattle.lower_emit.proofs.Patching.{jump-set, loop-patched}
 use Rattle.lower_emit.proofs.SetJumps.{put-open, jump-left, patched-left, loop-within}
-use Rattle.lower_emit.proofs.Steps.{words-left, limits-code, areas-code, areas-after}
+use Rattle.lower_emit.proofs.Steps.{words-left, limits-code, areas-code, areas-after, code-after}
 
 module _ {A : Type 0} {p : Option A} {a b : Code} where
   module _ (from : ℕ) (h : Writes p (one (Jump 0)) a b) where
-    pub branch-full : {B : Type 0} {q : Option B} → p ≡ None → q ≡ None → b.words.ghost_name ≡ a.words.ghost_name → EndsBranch q from a b
-    branch-full z n same = record {
-      area = same;
+    pub branch-full : {B : Type 0} {q : Option B} → p ≡ None → q ≡ None → EndsBranch q from a b
+    branch-full z n = record {
+      kept = h.kept;
       ends = λ t ts S.
           let k = (h.lowers t ts S).reaches in
           record { done = λ y q. absurd (none-some y (sym n ∙ q)); full = λ q w. k.full z (within-set _ _ _ w); limits = k.limits; areas = k.areas };
@@ -45,10 +45,9 @@ module _ {A : Type 0} {p : Option A} {a b : Code} where
               (jump-left t ts.names.made.now a.words.now b.words.now ts.entries.words.now (counts_of (beside a ts)) (counts_of (beside b ts)) (limits_in (beside a ts)) a.base (Jump 0) S.sound got (from - 1) (instr 29 d 0) _ s);
         }
 
-    pub branch-done : {B : Type 0} {x : A} {y : B} {c : Code} → p ≡ Some x → 0 < from → from ≤ a.open → SetsJump (from - 1) 29 (a.open - from + 1) b c
-        → b.words.ghost_name ≡ a.words.ghost_name → EndsBranch (Some y) from a c
-    branch-done {y = y} z l g j same = record {
-      area = j.kept.area ∙ same;
+    pub branch-done : {B : Type 0} {x : A} {y : B} {c : Code} → p ≡ Some x → 0 < from → from ≤ a.open → SetsJump (from - 1) 29 (a.open - from + 1) b c → EndsBranch (Some y) from a c
+    branch-done {y = y} z l g j = record {
+      kept = code-after h.kept j.kept;
       ends = λ t ts S. record {
         done = λ u q. branch-left t ts S z l g j;
         full = λ q. absurd (none-some y (sym q));
@@ -61,9 +60,9 @@ module _ {A : Type 0} {p : Option A} {a b : Code} where
     abbrev back : Instr
     back = Jump (minus (a.open - start + 1))
 
-    pub loop-full : {B : Type 0} {q : Option B} → p ≡ None → q ≡ None → b.words.ghost_name ≡ a.words.ghost_name → EndsLoop q start inside a b
-    loop-full z n same = record {
-      area = same;
+    pub loop-full : {B : Type 0} {q : Option B} → p ≡ None → q ≡ None → EndsLoop q start inside a b
+    loop-full z n = record {
+      kept = h.kept;
       ends = λ t ts S.
           let k = (h.lowers t ts S).reaches in
           record {
@@ -95,9 +94,9 @@ module _ {A : Type 0} {p : Option A} {a b : Code} where
         }
 
     pub loop-done : {B : Type 0} {x : A} {y : B} {c : Code} → p ≡ Some x → CodeKept b c → c.open ≡ b.open → c.words.now ≡ set patched (inside - 1) (word 29 (a.open - inside + 1) 0)
-        → b.words.ghost_name ≡ a.words.ghost_name → EndsLoop (Some y) start inside a c
-    loop-done {y = y} z k e w same = record {
-      area = k.area ∙ same;
+        → EndsLoop (Some y) start inside a c
+    loop-done {y = y} z k e w = record {
+      kept = code-after h.kept k;
       ends = λ t ts S. record {
         done = λ u q. loop-left t ts S z k e w;
         full = λ q. absurd (none-some y (sym q));

@@ -42,6 +42,14 @@ areas-after h g = record { words = g.words ∙ h.words; made = g.made ∙ h.made
 pub areas-code : (ts : Tables) {a b : Code} → CodeKept a b → SameAreas (beside a ts) (beside b ts)
 areas-code ts k = record { words = k.area; made = refl; entries = refl }
 
+-- ---- all of the code but the words and how many are open
+
+pub code-none : {a : Code} → CodeKept a a
+code-none = record { base = refl; done = refl; limit = refl; area = refl }
+
+pub code-after : {a b c : Code} → CodeKept a b → CodeKept b c → CodeKept a c
+code-after h g = record { base = g.base ∙ h.base; done = g.done ∙ h.done; limit = g.limit ∙ h.limit; area = g.area ∙ h.area }
+
 -- ---- an answer of an emitter as one of the state's laws
 
 unfoldable pub answered : {A : Type 0} → Option A → ℕ → Counts → Emitted

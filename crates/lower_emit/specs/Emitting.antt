@@ -2,7 +2,7 @@
 use Rattle.std.specs.Prelude.{ℕ, ◌+◌, ◌*◌, ◌-◌, ◌<◌, ◌≤◌, ◌≡◌, Option, Some, None, List, set, drop}
 use Rattle.std.proofs.Math.Seq.{paste}
 use Rattle.definitions.specs.Tables.{Emit}
-use Rattle.state.specs.State.{State, state_of, emit_at, Within, Sound, Ready, Left, heads_from, codes_from, done_from}
+use Rattle.state.specs.State.{State, state_of, emit_at, Within, Sound, Left, heads_from, codes_from, done_from}
 use Rattle.state.specs.Words.{word}
 use Rattle.state.specs.declared.Counts.{Counts}
 use Rattle.state.specs.declared.Limits.{Limits}
@@ -46,9 +46,6 @@ state_in tree e = state_of tree e.tables.names.made.now e.code.words.now e.table
 
 pub record SoundIn (tree : List ℕ) (e : Emitter) : Type 0 where
   pub sound : Sound tree e.tables.names.made.now e.code.words.now e.tables.entries.words.now (counts_of e) (limits_in e)
-
-pub record ReadyIn (tree slots : List ℕ) (e : Emitter) : Type 0 where
-  pub ready : Ready tree slots e.tables.names.made.now e.code.words.now e.tables.entries.words.now (counts_of e) (limits_in e)
 
 -- code beside tables
 abbrev pub beside : Code → Tables → Emitter
@@ -161,6 +158,7 @@ pub record SetsJump (j op d : ℕ) (a b : Code) : Type 0 where
 -- a step of the code, whatever the tree and the tables are
 pub record Writes {A : Type 0} (r : Option A) (x : Emit) (a b : Code) : Type 0 where
   pub lowers : (tree : List ℕ) (ts : Tables) → SoundIn tree (beside a ts) → LowersIn r x tree (beside a ts) (beside b ts)
+  pub kept : CodeKept a b
 
 -- the innermost function's words are finished; the one around it begins at n
 pub record Finishes (n : ℕ) (a b : Code) : Type 0 where

@@ -52,7 +52,7 @@ pub struct Tables<'a> {
     pub constants: u32,
 }
 
-// The code and the tables of a lowering. The tree is lent beside it, as it is read while this is written. That both show a sound state (SoundIn, SoleIn) is a clause of
+// The code and the tables of a lowering. The tree is lent beside it, as it is read while this is written. That code and tables show a sound state (SoundIn, SoleIn) is a clause of
 // each step and no ghost field: it speaks of the tree, too, and does not hold between the words of one step.
 #[derive(Drop)]
 pub struct Emitter<'a> {

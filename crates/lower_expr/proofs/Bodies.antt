@@ -2,7 +2,7 @@
 use Prim.Native.Nat.{ℕ, ◌-◌, ◌<◌}
 use mathlib.Core.Path.{◌≡◌, refl, sym, subst, ◌∙◌}
 use mathlib.Core.List.{List, ◌++◌}
-use lib.ListN.{length, drop, length-drop}
+use lib.ListN.{length, drop}
 use Rattle.std.specs.Prelude.{Option, Some, None}
 use Rattle.std.proofs.lemmas.Option.{none-some}
 use Rattle.definitions.specs.Bytes.{Name}
@@ -22,7 +22,7 @@ use Rattle.lower_emit.proofs.Steps.{areas-none}
 use Rattle.lower_emit.proofs.Parts.{emits-state, words-none}
 use Rattle.lower_leaves.specs.Closures.{StartsLambda, EndsFunction}
 use Rattle.lower_leaves.proofs.LambdaState.{closure-state, lambda-wide}
-use Rattle.lower_leaves.proofs.Lambdas.{function-full, function-body, function-end}
+use Rattle.lower_leaves.proofs.Lambdas.{begins-count, function-full, function-body, function-end}
 
 -- the same tree by other words
 pub body-ready : {t t' xs : List ℕ} {a : Emitter} {d n p : ℕ} → t ≡ t' → SoleIn t a → ClosureLowerable d t n xs p → SoleIn t' a × ClosureLowerable d t' n xs p
@@ -65,7 +65,7 @@ module _ {t : List ℕ} {a b : Emitter} {f : Option ℕ} {arity : ℕ} (S : Soun
   grows = lengthens-expr (slot_names t slots) (expr_at d t p).value
 
   begins : StartsLambda f arity (length inner) t a b
-  begins = subst (λ (n : ℕ). StartsLambda f arity n t a b) (sym (length-drop slots_from slots)) h
+  begins = begins-count slots h
 
   pub body-full : {q : Option ℕ} {next : ℕ} → f ≡ None → q ≡ None → EmitsTo q (function_code d t a.tables.functions.count arity inner p) next t a b
   body-full z y = words-none z y (function-full S inner code grows (expr_body (expr_at d t p).value) begins z z)

@@ -13,17 +13,17 @@ ghost use Rattle.parts.specs.Places.{count_at, name_end, params_at};
 ghost use Rattle.exprs.specs.ExprAt.{expr_at, exprs_at, second_at, list_at, binary_of};
 ghost use Rattle.exprs.specs.Literals.{LiteralAt};
 ghost use Rattle.state.specs.Words.{name_at};
-ghost use Rattle.state.specs.State.{slot_names, slots_from};
+ghost use Rattle.state.specs.State.{SymbolIndex, slot_names, slots_from};
 ghost use Rattle.lower_emit.specs.Ops.{Plain};
 ghost use Rattle.lower_forms.specs.Lowerable.{expr_code, exprs_code, method_code, call_instr, lambda_code, closure_code, function_code, Short, CapturesHeld};
 ghost use Rattle.lower_forms.specs.Lowerable.{SoleIn, Lowerable, LowerableMany, UnaryLowerable, TwoLowerable, BinaryLowerable, ArgsLowerable, CallLowerable, NamedLowerable};
 ghost use Rattle.lower_forms.specs.Lowerable.{AttributeLowerable, MethodLowerable, DisplayLowerable, LambdaLowerable, ClosureLowerable};
 ghost use Rattle.opcodes.specs.Codes.{unary_opcode, display_of, held_of};
 ghost use Rattle.lower_emit.specs.Emitting.{EmitsTo};
-ghost use Rattle.lower_names.specs.Naming.{callee_of};
+ghost use Rattle.lower_names.specs.Naming.{Resolves, callee_of};
 
 use exprs::literals::literal_at;
-use lower_emit::emitter::Emitter;
+use lower_emit::emitter::{Emitter, Entries, Names};
 use lower_leaves::closures::{end_closure, end_lambda, start_lambda};
 use lower_leaves::constants::put_constants;
 use lower_leaves::literals::emit_literal;
@@ -195,6 +195,30 @@ fn emit_call(s: Scope<'_>, e: &mut Emitter<'_>, at: usize, depth: u32) -> Option
     }
 }
 
+// What a call of the name at `at` calls, where the slices are an emitter's: emit_named, in a cycle, can't lend them as shared ones itself.
+fn callee_at(
+    tree: &[u8],
+    names: &Names<'_>,
+    entries: &Entries<'_>,
+    functions: u32,
+    classes: u32,
+    at: usize,
+) -> Callee
+    requires { SymbolIndex tree.now names.now.made.now entries.now.words.now names.now.symbols.count × (names.now.symbols.count ≤ 1024) × (functions ≤ 256) × (classes ≤ 64) }
+    ensures { Resolves result (name_at tree.now at) tree.now names.now.made.now entries.now.words.now names.now.symbols.count functions classes }
+{
+    let symbols = names.symbols.count;
+    resolve(
+        tree,
+        names.made,
+        entries.words,
+        symbols,
+        functions,
+        classes,
+        at,
+    )
+}
+
 // A call by name.
 #[cycle(emit)]
 fn emit_named(s: Scope<'_>, e: &mut Emitter<'_>, at: usize, depth: u32) -> Option<usize>
@@ -203,7 +227,7 @@ fn emit_named(s: Scope<'_>, e: &mut Emitter<'_>, at: usize, depth: u32) -> Optio
         EmitsTo result (emit_expr names (call (var (name_at t at)) (list_at depth t (name_end t at)).value)) (list_at depth t (name_end t at)).end t e.old e.new }
 {
     let tables = &e.tables;
-    let callee = resolve(
+    let callee = callee_at(
         s.tree,
         &tables.names,
         &tables.entries,

@@ -20,6 +20,7 @@ module _ {A : Type 0} {r : Option A} {a b : Code} (i : ℕ) (f : Emit) where
         let s = state_in t (beside a ts) in
         let g = base-below t ts.names.made.now a.words.now ts.entries.words.now (counts_of (beside a ts)) (limits_in (beside a ts)) S.sound in
         lowers-state (h.lowers t ts S) (at-seq a.base (copy i) f s g ∙ ap (emit_at a.base f) (copy-none i a.base s z));
+    kept = h.kept;
   }
 
   pub copied : (i ≡ 0 → ⊥) → Writes r (one Dup ⨟ f) a b → Writes r (copy i ⨟ f) a b
@@ -28,4 +29,5 @@ module _ {A : Type 0} {r : Option A} {a b : Code} (i : ℕ) (f : Emit) where
         let s = state_in t (beside a ts) in
         let g = base-below t ts.names.made.now a.words.now ts.entries.words.now (counts_of (beside a ts)) (limits_in (beside a ts)) S.sound in
         lowers-state (h.lowers t ts S) (at-seq a.base (copy i) f s g ∙ ap (emit_at a.base f) (sym (copy-one i a.base s n)) ∙ sym (at-seq a.base (one Dup) f s g));
+    kept = h.kept;
   }

@@ -39,10 +39,10 @@ use Rattle.lower_emit.specs.declared.emitter.Tables.{Tables}
 use Rattle.lower_emit.specs.declared.emitter.Emitter.{Emitter}
 use Rattle.lower_emit.specs.Emitting.{counts_of, limits_in, state_in, SoundIn, beside, innermost, new_names, new_functions, new_entries, LowersIn, CodeKept, NumbersIn, BeginsIn, Puts, Writes, Heads}
 use Rattle.lower_emit.proofs.Packing.{instr-plain, plain-above, plain-below}
-use Rattle.lower_emit.proofs.Steps.{limits-code, areas-after, areas-code, put-lifts, sound-next, lowers-state}
+use Rattle.lower_emit.proofs.Steps.{limits-code, areas-after, areas-code, code-none, code-after, put-lifts, sound-next, lowers-state}
 use Rattle.lower_emit.proofs.Functions.{begun-lifts, ended-lifts, head-begun, innermost-as, begins-stopped, code-ended}
 use Rattle.lower_names.specs.Naming.{InternsMade, named}
-use Rattle.lower_names.proofs.Beginnings.{named-none, named-sound, named-begins}
+use Rattle.lower_names.proofs.Beginnings.{limits-begun, named-none, named-sound, named-begins}
 use Rattle.lower_names.proofs.Midway.{Midway, midway_start, midway-base, midway-next, midway_end, midway-full}
 use Rattle.lower_names.proofs.Naming.{loads-more, loads-end}
 use Rattle.lower_leaves.specs.Closures.{BeginsLambda, StartsLambda, EndsLambda, EndsFunction}
@@ -61,6 +61,8 @@ module _ {t : List ℕ} {m n : Names} {f : Used 256} {a b : Entries} {i : Option
   begins-none z e = record {
     below = λ k q. absurd (none-some k (sym e ∙ q));
     tables = λ ts. record { begins = λ code S. begins-stopped e e refl (record { words = refl; made = refl; entries = refl }) (named-none (lambda_name f.count) S (interned code ts S) f.count arity locals z e) };
+    symbols = h.limit;
+    limit = refl;
     area = h.area;
     entries = h.entries;
   }
@@ -77,6 +79,8 @@ module _ {t : List ℕ} {m n : Names} {f : Used 256} {a b : Entries} {i : Option
           subst (λ (l : ℕ). BeginsIn r l t e (beside (innermost code) (new_functions g d (new_names n d ts))) want) k
           (named-begins (lambda_name f.count) S N z arity locals (begun-lifts (named-sound (lambda_name f.count) S N z) (omega (arith, h.below j z)) x y (head-begun code (new_names n b ts) H)));
     };
+    symbols = h.limit;
+    limit = H.limit;
     area = h.area;
     entries = H.area ∙ h.entries;
   }
@@ -88,11 +92,12 @@ module _ {t : List ℕ} {e : Emitter} {n : Names} {g : Used 256} {b : Entries} {
     below = λ i q. absurd (none-some i (sym y ∙ q));
     begins = λ S. begins-stopped z y refl (record { words = refl; made = refl; entries = refl }) ((h.tables e.tables).begins e.code S);
     words = refl;
+    limits = limits-begun e n g b h.symbols h.limit;
     areas = record { words = refl; made = h.area; entries = h.entries };
   }
 
   starts : StartsLambda r arity locals t e (beside (innermost e.code) (new_functions g b (new_names n b e.tables)))
-  starts = record { below = h.below; begins = λ S. (h.tables e.tables).begins e.code S; words = refl; areas = record { words = refl; made = h.area; entries = h.entries } }
+  starts = record { below = h.below; begins = λ S. (h.tables e.tables).begins e.code S; words = refl; limits = limits-begun e n g b h.symbols h.limit; areas = record { words = refl; made = h.area; entries = h.entries } }
 
   pub starts-lambda : {i : ℕ} {room : 16384 ≤ length e.code.words.now} {most : e.code.limit ≤ 8192} {size : e.code.open + e.code.done ≤ e.code.limit} → r ≡ Some i
       → StartsLambda (Some i) arity locals t e (beside (record { words = e.code.words; base = e.code.open; «open» = e.code.open; done = e.code.done; limit = e.code.limit; code_room = room; code_limit = most; code_size = size })
@@ -229,7 +234,7 @@ pub record Loading (t slots captured : List ℕ) (a b : Code) (i : ℕ) : Type 0
 pub loading-start : {t slots captured : List ℕ} {a : Code} → Loading t slots captured a a 0
 loading-start {t} {slots} {captured} {a} = record {
   inside = omega arith;
-  kept = record { base = refl; done = refl; limit = refl; area = refl };
+  kept = code-none;
   midway = λ tree ts S. midway_start tree ts.names.made.now a.words.now ts.entries.words.now (counts_of (beside a ts)) (limits_in (beside a ts)) (loads (slot_names t slots) (names_at t captured)) S.sound;
 }
 
@@ -250,6 +255,7 @@ module _ {t slots captured : List ℕ} {a b : Code} {i : ℕ} (G : Loading t slo
         areas = areas-code ts G.kept;
       };
     };
+    kept = G.kept;
   }
 
   module _ {s : ℕ} (more : i < length captured) (Z : Slots t slots) (slot : some s ≡ position (same (name_at t (get_or captured i 0))) (slot_names t slots)) where
@@ -279,7 +285,7 @@ module _ {t slots captured : List ℕ} {a b : Code} {i : ℕ} (G : Loading t slo
         (midway-base (counts_of (beside b ts)) tree ts.names.made.now b.words.now ts.entries.words.now (counts_of (beside a ts)) (limits_in (beside a ts)) _ _ (G.midway tree ts S))
 
     kept-after : {A : Type 0} {r : Option A} {c : Code} → Puts r (word 9 s 0) b c → CodeKept a c
-    kept-after h = record { base = h.kept.base ∙ G.kept.base; done = h.kept.done ∙ G.kept.done; limit = h.kept.limit ∙ G.kept.limit; area = h.kept.area ∙ G.kept.area }
+    kept-after h = code-after G.kept h.kept
 
     pub loading-next : {A : Type 0} {r : Option A} {x : A} {c : Code} → r ≡ Some x → Puts r (word 9 s 0) b c → Loading t slots captured a c (i + 1)
     loading-next {x = x} {c = c} z h = record {
@@ -305,6 +311,7 @@ module _ {t slots captured : List ℕ} {a b : Code} {i : ℕ} (G : Loading t slo
           areas = areas-code ts (kept-after h);
         };
       };
+      kept = kept-after h;
     }
 
 -- ---- literals

@@ -30,7 +30,8 @@ word-quotes same value is h e = record {
     lowers = λ ts S.
         let p = (put-lifts S refl is h).reaches in
         lowers-by (record { reaches = record { done = λ n z. p.done tt (mapped-some same z); full = λ z. p.full (mapped-none same z); limits = p.limits; areas = p.areas } }) e;
-    area = h.kept.area;
+    kept = h.kept;
+    limit = refl;
     entries = refl;
   };
 }

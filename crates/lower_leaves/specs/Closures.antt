@@ -22,6 +22,8 @@ pub record NumbersLambda (r : Option ℕ) (arity locals : ℕ) (tree : List ℕ)
 pub record BeginsLambda (r : Option ℕ) (arity locals : ℕ) (tree : List ℕ) (m n : Names) (f g : Used 256) (a b : Entries) : Type 0 where
   pub below : (i : ℕ) → r ≡ Some i → i < 256
   pub tables : (ts : Tables) → NumbersLambda r arity locals tree (new_functions f a (new_names m a ts)) (new_functions g b (new_names n b ts))
+  pub symbols : n.symbols.limit ≡ m.symbols.limit
+  pub limit : g.limit ≡ f.limit
   pub area : n.made.ghost_name ≡ m.made.ghost_name
   pub entries : b.words.ghost_name ≡ a.words.ghost_name
 
@@ -30,6 +32,7 @@ pub record StartsLambda (r : Option ℕ) (arity locals : ℕ) (tree : List ℕ) 
   pub begins : SoundIn tree a → BeginsIn r a.tables.functions.count tree a b
       (begun_with (symbol_number (lambda_name a.tables.functions.count) (state_in tree a).tables) arity locals (named (lambda_name a.tables.functions.count) (state_in tree a)))
   pub words : b.code.words.now ≡ a.code.words.now
+  pub limits : limits_in b ≡ limits_in a
   pub areas : SameAreas a b
 
 -- Return is put, and function f ends; the one around it begins at n

@@ -1,5 +1,5 @@
 // Runs of None, False and True: each is one byte of the tree and one word.
-// A short tree is asked of both as of old: a struct with that fact would be made for one call.
+// A short tree stays a clause of both: a struct with that fact would be made for one call.
 ghost use Rattle.std.specs.Prelude.{◌≡◌, ◌-◌, ◌<◌, ◌≤◌, length, MatchOption};
 ghost use Rattle.numerals.specs.Kinds.{expr_byte};
 ghost use Rattle.lower_leaves.specs.Constants.{Several, Ahead, Run, Constants};

@@ -53,10 +53,10 @@ loads-self {w} L = subst (Loads w) (sym L.keeper) L
 
 module _ {A : Type 0} {r : Option A} {i : Instr} {a b : Code} (h : Writes r (one i) a b) where
   pub kept_full : {q : Option ℕ} (w : ℕ) → r ≡ None → q ≡ None → StoresKept q w i a b
-  kept_full w z n = record { is = λ m e. absurd (none-some m (sym n ∙ e)); writes = record { lowers = λ t ts S. lowers-none z n (h.lowers t ts S) } }
+  kept_full w z n = record { is = λ m e. absurd (none-some m (sym n ∙ e)); writes = record { lowers = λ t ts S. lowers-none z n (h.lowers t ts S); kept = h.kept } }
 
   pub kept-done : {x : A} {v w : ℕ} → r ≡ Some x → v ≡ w → StoresKept (Some v) w i a b
-  kept-done {v = v} z e = record { is = λ m q. (let p : m ≡ v = cc in p) ∙ e; writes = record { lowers = λ t ts S. lowers-some z (h.lowers t ts S) } }
+  kept-done {v = v} z e = record { is = λ m q. (let p : m ≡ v = cc in p) ∙ e; writes = record { lowers = λ t ts S. lowers-some z (h.lowers t ts S); kept = h.kept } }
 
 -- ---- in a slot
 

@@ -14,11 +14,19 @@ use Rattle.state.proofs.Enclosing.{symbol-functions}
 use Rattle.state.proofs.Views.{stack-length}
 use Rattle.state.proofs.Within.{within-tables}
 use Rattle.lower_emit.specs.Nesting.{begun_with}
+use Rattle.lower_emit.specs.declared.emitter.Used.{Used}
+use Rattle.lower_emit.specs.declared.emitter.Names.{Names}
+use Rattle.lower_emit.specs.declared.emitter.Entries.{Entries}
 use Rattle.lower_emit.specs.declared.emitter.Emitter.{Emitter}
-use Rattle.lower_emit.specs.Emitting.{counts_of, limits_in, state_in, SoundIn, NumbersIn, BeginsIn}
+use Rattle.lower_emit.specs.Emitting.{counts_of, limits_in, state_in, SoundIn, beside, new_names, new_functions, NumbersIn, BeginsIn}
 use Rattle.lower_emit.proofs.Answering.{open_after}
 use Rattle.lower_emit.proofs.Steps.{sound-next, areas-after}
 use Rattle.lower_names.specs.Naming.{named}
+
+-- the limits with other names and functions in an emitter
+pub limits-begun : (e : Emitter) (n : Names) (g : Used 256) (b : Entries) → n.symbols.limit ≡ e.tables.names.symbols.limit → g.limit ≡ e.tables.functions.limit
+    → limits_in (beside e.code (new_functions g b (new_names n b e.tables))) ≡ limits_in e
+limits-begun e n g b h k = λ i. record { functions = k i; symbols = h i; strings = e.tables.strings.limit; classes = e.tables.classes.limit; instructions = e.code.limit }
 
 within-begun_with : {l : Limits} (k arity n : ℕ) (s : State) → Within l (begun_with k arity n s) → Within l s
 unfolding begun_with

@@ -88,6 +88,7 @@ module _ {tree : List ℕ} {n : Used 512} {e : Entries} {p : ℕ} {s : Sought} (
           let made = ts.names.made.now in
           numbers-some refl areas-none (numbers-at tree made code.words.now e.words.now c l _ _ (At i c) i c refl (text-old tree made code.words.now e.words.now c l S.sound p i (found-old z) (H.below i z)));
     };
+    limit = refl;
     entries = refl;
   }
 
@@ -101,12 +102,13 @@ module _ {tree : List ℕ} {n : Used 512} {e : Entries} {p : ℕ} {s : Sought} (
           let made = ts.names.made.now in
           numbers-none refl areas-none (numbers-over tree made code.words.now e.words.now c l _ _ Over refl (text-over tree made code.words.now e.words.now c l S.sound p n.count (found-new z) (le_refl _) full));
     };
+    limit = refl;
     entries = refl;
   }
 
-  pub adds-new : {m : Used 512} {d : Entries} → s.found ≡ None → n.count < n.limit → d.words.ghost_name ≡ e.words.ghost_name
+  pub adds-new : {m : Used 512} {d : Entries} → s.found ≡ None → n.count < n.limit → m.limit ≡ n.limit → d.words.ghost_name ≡ e.words.ghost_name
       → ((ts : Tables) → Renews (set (set e.words.now (strings_from + n.count) p) (string_index_from + s.bucket) (s.first + 1)) one_string (new_strings n e ts) (new_strings m d ts)) → Adds (Some n.count) tree n m e d p
-  adds-new {m} {d} z room entries R = record {
+  adds-new {m} {d} z room limit entries R = record {
     below = λ i q. let y = some-is q in omega (arith, n.most);
     tables = λ ts. record {
       numbers = λ code S.
@@ -119,5 +121,6 @@ module _ {tree : List ℕ} {n : Used 512} {e : Entries} {p : ℕ} {s : Sought} (
           (text-new tree made code.words.now e.words.now c l S.sound p n.count zs r room (found-new z) (le_refl _)) in
           numbers-some ((R ts).limits code) ((R ts).areas code) (h.0, left-renewed (R ts) code h.1);
     };
+    limit = limit;
     entries = entries;
   }

@@ -29,15 +29,12 @@ use Rattle.lower_emit.specs.declared.emitter.Emitter.{Emitter}
 use Rattle.lower_emit.specs.Emitting.{counts_of, limits_in, state_in, SoundIn, beside, new_names, SameAreas, NumbersIn}
 use Rattle.lower_emit.proofs.Steps.{some-is, areas-none, areas-after}
 use Rattle.lower_names.specs.declared.Sought.{Sought}
-use Rattle.lower_names.specs.Naming.{Naming, Texts, SeeksSymbol, Interns, InternsMade, named}
+use Rattle.lower_names.specs.Naming.{Naming, SeeksSymbol, Interns, InternsMade, named}
 use Rattle.lower_names.proofs.MadeNames.{made-sound, made-state, made-spelled}
 use Rattle.lower_names.proofs.Numbering.{one_symbol, Renewed, intern-old, intern-over, intern-new}
 
 pub naming-sound : {tree : List ℕ} {e : Emitter} → SoundIn tree e → Naming tree e.tables.names e.tables.entries
 naming-sound S = record { size = S.sound.symbols; made-count = S.sound.made-count; names = S.sound.names; symbol-index = S.sound.symbol-index }
-
-pub texts-sound : {tree : List ℕ} {e : Emitter} → SoundIn tree e → Texts tree e.tables.strings e.tables.entries
-texts-sound S = record { size = S.sound.strings; string-index = S.sound.string-index }
 
 -- ---- an answer of a step of the tables
 
@@ -147,6 +144,7 @@ module _ {tree : List ℕ} {n : Names} {e : Entries} {w : ℕ} {s : Sought} (H :
           numbers-some refl areas-none (numbers-at tree n.made.now code.words.now e.words.now c l _ _ (At i c) i c refl (intern-old tree n.made.now code.words.now e.words.now c l S.sound w i (found-old z) (H.below i z)));
     };
     made = refl;
+    limit = refl;
     area = refl;
     entries = refl;
   }
@@ -161,14 +159,15 @@ module _ {tree : List ℕ} {n : Names} {e : Entries} {w : ℕ} {s : Sought} (H :
           numbers-none refl areas-none (numbers-over tree n.made.now code.words.now e.words.now c l _ _ Over refl (intern-over tree n.made.now code.words.now e.words.now c l S.sound w n.symbols.count (found-new z) (le_refl _) full));
     };
     made = refl;
+    limit = refl;
     area = refl;
     entries = refl;
   }
 
-  pub interns-new : {m : Names} {d : Entries} (grow : ℕ) → s.found ≡ None → n.symbols.count < n.symbols.limit → grow ≤ 20 → MadeWithin n.made.now (n.made_len + grow) w → m.made.now ≡ n.made.now → m.made.ghost_name ≡ n.made.ghost_name
-      → d.words.ghost_name ≡ e.words.ghost_name
+  pub interns-new : {m : Names} {d : Entries} (grow : ℕ) → s.found ≡ None → n.symbols.count < n.symbols.limit → grow ≤ 20 → MadeWithin n.made.now (n.made_len + grow) w → m.made.now ≡ n.made.now → m.symbols.limit ≡ n.symbols.limit
+      → m.made.ghost_name ≡ n.made.ghost_name → d.words.ghost_name ≡ e.words.ghost_name
       → ((ts : Tables) → Renews (set (set e.words.now n.symbols.count w) (symbol_index_from + s.bucket) (s.first + 1)) (one_symbol grow) (new_names n e ts) (new_names m d ts)) → Interns (Some n.symbols.count) tree n m e d w
-  interns-new {m} {d} grow z room small within same area entries R = record {
+  interns-new {m} {d} grow z room small within same limit area entries R = record {
     below = λ i q. let y = some-is q in omega (arith, n.symbols.most);
     tables = λ ts. record {
       numbers = λ code S.
@@ -182,6 +181,7 @@ module _ {tree : List ℕ} {n : Names} {e : Entries} {w : ℕ} {s : Sought} (H :
           numbers-some ((R ts).limits code) ((R ts).areas code) (h.0, left-renewed (R ts) code h.1);
     };
     made = same;
+    limit = limit;
     area = area;
     entries = entries;
   }
@@ -256,6 +256,7 @@ module _ {m n : Names} {x : Name} (M : Makes x m n) where
   pub interns-made : {tree : List ℕ} {d : Names} {e f : Entries} {r : Option ℕ} → Interns r tree n d e f (32768 + m.made_len) → InternsMade r x tree m d e f
   interns-made {tree} {d} {e} {f} {r} H = record {
     below = H.below;
+    limit = H.limit ∙ ap (λ (k : Used 1024). k.limit) M.symbols;
     area = H.area ∙ M.area;
     entries = H.entries;
     tables = λ ts. record {

@@ -6,15 +6,17 @@ use Rattle.definitions.specs.Lower as Lower
 use Rattle.definitions.specs.Lower.{builtin_callee, function_callee, value_callee}
 use Rattle.state.specs.Words.{region, text_at, word}
 use Rattle.state.specs.Index.{bucket_of, start_of}
-use Rattle.state.specs.State.{State, SymbolIndex, StringIndex, Every, MadeWithin, spelled, symbol_number, with_symbol, string_number, with_string, with_tables}
+use Rattle.state.specs.State.{State, Sound, state_of, SymbolIndex, StringIndex, Every, MadeWithin, spelled, symbol_number, with_symbol, string_number, with_string, with_tables}
 use Rattle.state.specs.State.{symbol_index_from, symbol_buckets, strings_from, string_index_from, string_buckets}
+use Rattle.state.specs.declared.Counts.{Counts}
+use Rattle.state.specs.declared.Limits.{Limits}
 use Rattle.names.specs.Sought.{place_in}
 use Rattle.lower_emit.specs.declared.emitter.Code.{Code}
 use Rattle.lower_emit.specs.declared.emitter.Tables.{Tables}
 use Rattle.lower_emit.specs.declared.emitter.Used.{Used}
 use Rattle.lower_emit.specs.declared.emitter.Names.{Names}
 use Rattle.lower_emit.specs.declared.emitter.Entries.{Entries}
-use Rattle.lower_emit.specs.Emitting.{state_in, SoundIn, beside, new_names, new_strings, LowersIn, NumbersIn}
+use Rattle.lower_emit.specs.Emitting.{state_in, SoundIn, beside, new_names, new_strings, LowersIn, NumbersIn, CodeKept}
 use Rattle.lower_names.specs.declared.Callee.{Callee}
 use Rattle.lower_names.specs.declared.Callee.TheVariants.{Builtin, Function, Value}
 use Rattle.lower_names.specs.declared.Sought.{Sought}
@@ -50,6 +52,7 @@ pub record Interns (r : Option ℕ) (tree : List ℕ) (m n : Names) (a b : Entri
   pub below : (i : ℕ) → r ≡ Some i → i < 1024
   pub tables : (ts : Tables) → NumbersName r (spelled tree m.made.now w) tree (new_names m a ts) (new_names n b ts)
   pub made : n.made.now ≡ m.made.now
+  pub limit : n.symbols.limit ≡ m.symbols.limit
   pub area : n.made.ghost_name ≡ m.made.ghost_name
   pub entries : b.words.ghost_name ≡ a.words.ghost_name
 
@@ -57,6 +60,7 @@ pub record Interns (r : Option ℕ) (tree : List ℕ) (m n : Names) (a b : Entri
 pub record InternsMade (r : Option ℕ) (x : Name) (tree : List ℕ) (m n : Names) (a b : Entries) : Type 0 where
   pub below : (i : ℕ) → r ≡ Some i → i < 1024
   pub tables : (ts : Tables) → NumbersName r x tree (new_names m a ts) (new_names n b ts)
+  pub limit : n.symbols.limit ≡ m.symbols.limit
   pub area : n.made.ghost_name ≡ m.made.ghost_name
   pub entries : b.words.ghost_name ≡ a.words.ghost_name
 
@@ -87,12 +91,14 @@ pub record NumbersText (r : Option ℕ) (x : Text) (tree : List ℕ) (a b : Tabl
 pub record Adds (r : Option ℕ) (tree : List ℕ) (m n : Used 512) (a b : Entries) (at : ℕ) : Type 0 where
   pub below : (i : ℕ) → r ≡ Some i → i < 512
   pub tables : (ts : Tables) → NumbersText r (text_at tree at) tree (new_strings m a ts) (new_strings n b ts)
+  pub limit : n.limit ≡ m.limit
   pub entries : b.words.ghost_name ≡ a.words.ghost_name
 
 -- a step of strings and code, whatever the other tables are
 pub record Quotes {A : Type 0} (r : Option A) (x : Emit) (tree : List ℕ) (m n : Used 512) (a b : Entries) (c d : Code) : Type 0 where
   pub lowers : (ts : Tables) → SoundIn tree (beside c (new_strings m a ts)) → LowersIn r x tree (beside c (new_strings m a ts)) (beside d (new_strings n b ts))
-  pub area : d.words.ghost_name ≡ c.words.ghost_name
+  pub kept : CodeKept c d
+  pub limit : n.limit ≡ m.limit
   pub entries : b.words.ghost_name ≡ a.words.ghost_name
 
 -- ---- a callee
@@ -107,11 +113,11 @@ call_word (Builtin i) n = word 32 i n
 call_word (Function f) n = word 31 f n
 call_word Value n = word 34 n 0
 
--- of so many functions and classes; whatever the code and the other tables are
-pub record ResolvesFunction (c : Callee) (x : Name) (tree : List ℕ) (n : Names) (e : Entries) (functions : ℕ) : Type 0 where
-  pub callee : (code : Code) (ts : Tables) → ts.functions.count ≡ functions → SoundIn tree (beside code (new_names n e ts))
-      → callee_of c ≡ Lower.resolve_function x (state_in tree (beside code (new_names n e ts))).tables
+-- of so many symbols, functions and classes; whatever the code and the other counts are
+pub record ResolvesFunction (r : Callee) (x : Name) (tree made entries : List ℕ) (symbols functions : ℕ) : Type 0 where
+  pub callee : (code : List ℕ) (c : Counts) (l : Limits) → c.symbols ≡ symbols → c.functions ≡ functions → Sound tree made code entries c l
+      → callee_of r ≡ Lower.resolve_function x (state_of tree made code entries c).tables
 
-pub record Resolves (c : Callee) (x : Name) (tree : List ℕ) (n : Names) (e : Entries) (functions classes : ℕ) : Type 0 where
-  pub callee : (code : Code) (ts : Tables) → ts.functions.count ≡ functions → ts.classes.count ≡ classes → SoundIn tree (beside code (new_names n e ts))
-      → callee_of c ≡ Lower.resolve x (state_in tree (beside code (new_names n e ts))).tables
+pub record Resolves (r : Callee) (x : Name) (tree made entries : List ℕ) (symbols functions classes : ℕ) : Type 0 where
+  pub callee : (code : List ℕ) (c : Counts) (l : Limits) → c.symbols ≡ symbols → c.functions ≡ functions → c.classes ≡ classes → Sound tree made code entries c l
+      → callee_of r ≡ Lower.resolve x (state_of tree made code entries c).tables

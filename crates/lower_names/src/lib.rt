@@ -33,6 +33,7 @@ use numerals::places::{
     CLASS_NAMES_FROM, HEADS_FROM, MADE_FROM, STRING_BUCKETS, STRING_INDEX_END, STRING_INDEX_FROM,
     STRINGS_FROM, SYMBOL_BUCKETS, SYMBOL_INDEX_FROM,
 };
+use numerals::sizes::MADE_ROOM;
 use state::Scope;
 
 // What a call of a name calls.
@@ -214,46 +215,47 @@ pub fn emit_store(s: Scope<'_>, e: &mut Emitter<'_>, at: usize) -> Option<()>
 // The function so far whose name is the one given, else a value.
 fn resolve_function_id(
     tree: &[u8],
-    names: &Names<'_>,
-    entries: &Entries<'_>,
+    made: &[u8; MADE_ROOM],
+    entries: &[u32],
+    symbols: u32,
     functions: u32,
     name: &[u8],
 ) -> Callee
-    requires { SymbolIndex tree.now names.now.made.now entries.now.words.now names.now.symbols.count × (names.now.symbols.count ≤ 1024) × (functions ≤ 256) }
-    ensures { ResolvesFunction result name.now tree.now names.now entries.now functions }
+    requires { (16384 ≤ length entries.now) × SymbolIndex tree.now made.now entries.now symbols × (symbols ≤ 1024) × (functions ≤ 256) }
+    ensures { ResolvesFunction result name.now tree.now made.now entries.now symbols functions }
 {
-    let count = names.symbols.count;
-    let Some(symbol) = find_symbol(tree, names.made, entries.words, count, name) else {
+    let Some(symbol) = find_symbol(tree, made, entries, symbols, name) else {
         return Callee::Value;
     };
     let end = HEADS_FROM + functions as usize;
-    match find_head(&entries.words[HEADS_FROM..end], symbol) {
+    match find_head(&entries[HEADS_FROM..end], symbol) {
         Some(f) => Callee::Function(f as u16),
         None => Callee::Value,
     }
 }
 
-// What a call of the name at `at` calls.
+// What a call of the name at `at` calls. It takes shared slices, of which Names and Entries, which hold `&mut`, cannot be made.
 pub fn resolve(
     tree: &[u8],
-    names: &Names<'_>,
-    entries: &Entries<'_>,
+    made: &[u8; MADE_ROOM],
+    entries: &[u32],
+    symbols: u32,
     functions: u32,
     classes: u32,
     at: usize,
 ) -> Callee
-    requires { SymbolIndex tree.now names.now.made.now entries.now.words.now names.now.symbols.count × (names.now.symbols.count ≤ 1024) × (functions ≤ 256) × (classes ≤ 64) }
-    ensures { Resolves result (name_at tree.now at) tree.now names.now entries.now functions classes }
+    requires { (16384 ≤ length entries.now) × SymbolIndex tree.now made.now entries.now symbols × (symbols ≤ 1024) × (functions ≤ 256) × (classes ≤ 64) }
+    ensures { Resolves result (name_at tree.now at) tree.now made.now entries.now symbols functions classes }
 {
     let name = name_part(tree, at);
     if let Some(id) = find_builtin(name) {
         return Callee::Builtin(id as u16);
     }
     let end = CLASS_NAMES_FROM + classes as usize;
-    if find_place(tree, &entries.words[CLASS_NAMES_FROM..end], name).is_some() {
+    if find_place(tree, &entries[CLASS_NAMES_FROM..end], name).is_some() {
         return Callee::Value;
     }
-    resolve_function_id(tree, names, entries, functions, name)
+    resolve_function_id(tree, made, entries, symbols, functions, name)
 }
 
 // A callee that is a value is loaded.

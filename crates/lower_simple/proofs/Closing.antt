@@ -14,7 +14,7 @@ use Rattle.lower_emit.proofs.Steps.{lowers-by, lowers-state}
 
 module _ {A : Type 0} {r : Option A} {a b : Code} (init : Bool) where
   pub end-bare : init ≡ false → Writes r (one (instr 33 0 0)) a b → Writes r (emits (end_of init)) a b
-  end-bare e h = record { lowers = λ t ts S. lowers-by (h.lowers t ts S) (sym (end-plain init e)) }
+  end-bare e h = record { lowers = λ t ts S. lowers-by (h.lowers t ts S) (sym (end-plain init e)); kept = h.kept }
 
   pub end-object : init ≡ true → Writes r (one (instr 9 0 0) ⨟ one (instr 33 0 0)) a b → Writes r (emits (end_of init)) a b
   end-object e h = record {
@@ -23,4 +23,5 @@ module _ {A : Type 0} {r : Option A} {a b : Code} (init : Bool) where
         let s = state_in t m in
         lowers-state (h.lowers t ts S)
         (sym (end-init init a.base s e) ∙ sym (at-seq a.base (one (instr 9 0 0)) (one (instr 33 0 0)) s (base-below t ts.names.made.now a.words.now ts.entries.words.now (counts_of m) (limits_in m) S.sound)));
+    kept = h.kept;
   }

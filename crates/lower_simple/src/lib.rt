@@ -82,8 +82,7 @@ pub fn emit_simple(s: Scope<'_>, e: &mut Emitter<'_>, at: usize, depth: u32) -> 
 
 // The end of a function; that of `__init__` returns its object.
 pub fn put_end(code: &mut Code<'_>, init: bool) -> Option<()>
-    ensures writes { Writes result (emits (end_of init)) code.old code.new }
-    ensures area { code.new.words.ghost_name ≡ code.old.words.ghost_name }
+    ensures { Writes result (emits (end_of init)) code.old code.new }
 {
     if init {
         code.put_op(LOAD_LOCAL, 0, 0)?;

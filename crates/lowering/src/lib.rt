@@ -52,6 +52,7 @@ fn lower_into(
     requires { (16384 ≤ length code.old) × (16384 ≤ length tables.old) × Limited limits }
     ensures { Answers result (lower_answer (limits_of limits) (length code.old) (length tables.old) (length out.old) tree.now) out.old out.new }
 {
+    // Before the check, so that they are cleared once.
     let mut made = [0u8; MADE_ROOM];
     check_tree(tree)?;
     let mut e = Emitter::new(code, &mut made, tables, limits);

@@ -1,4 +1,5 @@
 // The methods of a class by rising name bytes, each a word: the place of its name in the tree, and its function.
+// The list stands in fixed memory (no heap), so its count stands beside it.
 #![tactic(auto)]
 
 ghost use Rattle.std.specs.Prelude.{◌≡◌, ◌+◌, ◌≤◌, ◌<◌, length, take};

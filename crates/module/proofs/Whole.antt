@@ -9,26 +9,13 @@ use Rattle.definitions.specs.Bytes.{be, housed}
 use Rattle.definitions.specs.Module.{table_bytes, module_bytes}
 use Rattle.definitions.proofs.BytesWritten.{length-be}
 use Rattle.state.specs.Words.{region}
-use Rattle.state.specs.State.{strings_from, heads_from, codes_from, class_names_from, class_methods_from, methods_from, constants_from, done_from, tables_of, Sound}
+use Rattle.state.specs.State.{strings_from, heads_from, codes_from, class_names_from, class_methods_from, methods_from, constants_from, done_from, tables_of}
 use Rattle.state.specs.declared.Counts.{Counts}
-use Rattle.state.specs.declared.Limits.{Limits}
 use Rattle.module.specs.Sections.{counted, symbol_bytes, string_bytes, functions_bytes, classes_bytes, constant_bytes, texts_bytes, bodies_bytes, Roomy}
 use Rattle.writing.proofs.Begun.{joined}
 use Rattle.module.proofs.Lengths.{Small}
 use Rattle.module.proofs.CodeLengths.{symbol_piece, string_piece, function_elements, class_elements, region-short, symbols-room}
 use Rattle.module.proofs.CodeLengths.{strings-room, functions-room, classes-room, length-constants, symbols-are, strings-are, functions-are, classes-are, constants-are}
-
--- sound slices have what the writer asks
-pub sound-roomy : {tree made code tables : List ℕ} {c : Counts} {l : Limits} → Sound tree made code tables c l → Roomy code tables c
-sound-roomy s = record {
-  code-room = s.code-room;
-  tables-room = s.tables-room;
-  symbols = omega (arith, s.limited);
-  strings = omega (arith, s.limited);
-  functions = omega (arith, s.limited);
-  classes = omega (arith, s.limited);
-  constants = omega (arith, s.limited);
-}
 
 -- ---- symbols and strings, by the lists that the code has made
 

@@ -1,5 +1,6 @@
 // An instruction's bytes from its word.
-ghost use Rattle.std.specs.Prelude.{◌≡◌, List, ℕ, ◌+◌, ◌≤◌, ◌<◌, ◌^◌, length};
+// The bound of a single number stays a clause: a type for it would be opened at each use.
+ghost use Rattle.std.specs.Prelude.{◌≡◌, List, ℕ, ◌≤◌, ◌<◌, ◌^◌, length};
 ghost use Rattle.definitions.specs.Bytes.{be};
 ghost use Rattle.definitions.specs.Instruction.{encode};
 ghost use Rattle.exprs.specs.Literals.{Plain, bits_of};
@@ -53,7 +54,8 @@ fn literal_of(tree: &[u8], w: u32) -> Literal
     }
 }
 
-// The bytes of that literal's value.
+// The bytes of that literal's value. Tree, word and output stay apart here and in the writers below: a struct of them would be made anew at each
+// call, as each is lent other bytes of the output, so it is no plainer.
 fn write_literal(tree: &[u8], w: u32, out: &mut [u8]) -> usize
     requires { 8 ≤ length out.old }
     ensures { Wrote result (be 8 (number_at 8 tree.now (first_of w))) out.old out.new }

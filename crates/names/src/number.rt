@@ -1,4 +1,5 @@
 // The number of a symbol.
+// n counts symbols: all tables share one slice of fixed memory, so a count stands beside it.
 ghost use Rattle.std.specs.Prelude.{◌≡◌, map, ◌≤◌, length};
 ghost use Rattle.definitions.specs.Bytes.{same, position};
 ghost use Rattle.state.specs.Words.{region};

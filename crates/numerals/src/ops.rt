@@ -1,7 +1,6 @@
 // Opcodes, and those of words that are no instruction yet: a break and a continue whose jump is not known, an integer that the word holds.
-// Numbers and no enum: a word holds one beside its operands, operators and displays give theirs by sums, and public functions take them as numbers, of which an enum
+// Numbers and no enum: a word holds one beside its operands, operators give theirs by sums, and public functions take them as numbers, of which an enum
 // would ask more.
-use crate::kinds::ExprKind;
 use crate::operators;
 
 pub const CONST_I64: u32 = 0;
@@ -79,9 +78,6 @@ pub const LOAD_INDEX: u32 = 43;
 pub const STORE_INDEX: u32 = 44;
 
 pub const MAKE_CLOSURE: u32 = 45;
-
-// A display's instruction is its kind plus this, but that tuple and dict are exchanged.
-pub const BUILD: u32 = BUILD_LIST - ExprKind::List as u32;
 
 // The opcode of a binary operator before the comparisons is the operator plus this, but that `/` and `//` are exchanged; that of a comparison is the operator plus that.
 pub const ARITHMETIC: u32 = ADD;

@@ -1,7 +1,8 @@
 // The tables by their places in the second area, and the parts of words.
 use crate::ops;
 
-// The slots of loops are below this number; main's loops, which keep their iterators in globals, have it in the place of a slot.
+// The slots of loops are below this number; main's loops, which keep their iterators in globals, have it in the place of a slot. A number and no Option: public
+// functions of the emission take it so, and an Option would ask more of callers.
 pub const IN_GLOBALS: u32 = 256;
 
 // The first finished word of the code area.

@@ -1,14 +1,13 @@
 -- One step of a checker after another, and the steps on its bytes. Assumes nothing.
 use Prim.Native.Nat.{ℕ, ◌+◌, ◌*◌, ◌-◌, ◌<◌, ◌≤◌}
 use mathlib.Core.Path.{◌≡◌, refl, sym, ap, ◌∙◌}
-use mathlib.Core.Bool.{Bool, true, false, not, ◌||◌}
+use mathlib.Core.Bool.{Bool, true, false, not, ◌||◌, true≢false}
 use mathlib.Core.List.{List}
 use mathlib.Core.Logic.{inl, inr, ⊎_elim}
 use native.Mathlib.Omega.{arith}
 use lib.Dec.{leb, ltb}
 use lib.ListN.{length, take, drop, get_or, get_elem?}
 use mathlib.Core.Option.{some}
-use borrow.Author.Tests.{lt-ltb, le-ltb}
 use Rattle.std.specs.Prelude.{Option, None, Some, Result, Ok, Err}
 use Rattle.definitions.specs.Bytes.{Name, field, text, same}
 use Rattle.definitions.specs.Utf8.{is_utf8}
@@ -25,7 +24,7 @@ use Rattle.parts.specs.declared.asked.BlockQuestion.TheVariants.{Names, Iterator
 use Rattle.parts.specs.declared.checker.Checker.{Checker}
 use Rattle.parts.specs.declared.roles.Role.{Role}
 use Rattle.parts.proofs.Laws.{then_next, then-refused, with-number, with-unread, le-or-gt}
-use Rattle.parts.proofs.LeafLaws.{noted-yes, noted-low, noted-no, eight-short, eight-long, number_short, number-long, operator-end, operator-in, guard-yes, guard-no, name-at-none, name-at-short, name-whole, text-unread, text-short, text-whole}
+use Rattle.parts.proofs.LeafLaws.{noted-yes, noted-low, noted-no, eight-short, eight-long, number_short, number-long, operator-end, guard-yes, guard-no, name-at-none, name-at-short, name-whole, text-unread, text-short, text-whole}
 use Rattle.parts.proofs.NameLaws.{params-law, params-close, name-at-is, names-there, names-none, names_more, head-close}
 
 -- ---- part after part
@@ -167,29 +166,20 @@ counts-step {c = c} {c₁ = c₁} a e = record {
   answer = rw (e, a.at, a.tree) (sym (number-long c.tree.now c.at (let h = a.room in omega arith)));
 }
 
-pub operator-stop : (n : ℕ) {q : Question} {r : Result (Unit {0}) Question} {c c₁ : Checker} → r ≡ Err q → ReadsByte (Err q) c c₁ → Judged r c c₁ (judge_operator n)
-unfolding passed_by number ReadsByte judge_operator
-operator-stop n {c = c} {c₁ = c₁} e a = record {
-  tree = a.tree;
-  answer = ap (λ (r : Result (Unit {0}) Question). passed_by r c₁) (e ∙ ap Err a.layout)
-      ∙ guard-no false _ (Next (c.at + 1) (stand c.first)) (operator-end n c.tree.now c.at (let h = a.short in omega arith)) refl;
-}
+module _ (n : ℕ) {b : Bool} (c : Checker) (e : b ≡ operator_at n c.tree.now c.at) where
+  pub operator-off : b ≡ false → Judged (Err TreeLayout) c c (judge_operator n)
+  unfolding passed_by number judge_operator
+  operator-off h = record { tree = refl; answer = guard-no b _ (Next (c.at + 1) (stand c.first)) e h }
 
-pub operator-step : {n b : ℕ} {u : Unit {0}} {c c₁ : Checker} → ReadsByte (Ok b) c c₁ → b < n → Judged (Ok u) c c₁ (judge_operator n)
-unfolding passed_by ReadsByte judge_operator
-operator-step {n = n} {b = b} {c = c} {c₁ = c₁} a h = record {
-  tree = a.0.tree;
-  answer = guard-yes _ _ (Next (c.at + 1) (stand c.first)) _ (operator-in n c.tree.now c.at (let k = a.0.room in omega arith)) (let k = a.1 in lt-ltb _ n (omega arith)) (rw (a.0.at, a.0.first) refl);
-}
+  pub operator-on : {u : Unit {0}} {c₁ : Checker} → b ≡ true → c₁.tree.now ≡ c.tree.now → c₁.at ≡ c.at + 1 → c₁.first ≡ c.first → Judged (Ok u) c c₁ (judge_operator n)
+  unfolding passed_by judge_operator
+  operator-on h k i j = record { tree = k; answer = guard-yes b _ (Next (c.at + 1) (stand c.first)) _ e h (rw (i, j) refl) }
 
-pub operator-no : {n b : ℕ} {c c₁ : Checker} → ReadsByte (Ok b) c c₁ → n ≤ b → Judged (Err TreeLayout) c c₁ (judge_operator n)
-unfolding passed_by number ReadsByte judge_operator
-operator-no {n = n} {b = b} {c = c} {c₁ = c₁} a h = record {
-  tree = a.0.tree;
-  answer = guard-no _ _ (Next (c.at + 1) (stand c.first)) (operator-in n c.tree.now c.at (let k = a.0.room in omega arith)) (let k = a.1 in le-ltb _ n (omega arith));
-}
-
--- ---- names and strings
+  pub operator-inside : b ≡ true → c.at < length c.tree.now
+  operator-inside h = ⊎_elim
+      (λ (k : length c.tree.now ≤ c.at). absurd (true≢false (sym h ∙ e ∙ sym (operator-end n c.tree.now c.at k))))
+      (λ (k : c.at < length c.tree.now). k)
+      (le-or-gt (length c.tree.now) c.at)
 
 pub name-stop : {q : Question} {r : Result (Unit {0}) Question} {c c₁ : Checker} → r ≡ Err q → ReadsByte (Err q) c c₁ → Judged r c c₁ judge_name
 unfolding passed_by number ReadsByte

@@ -30,7 +30,7 @@ impl BlockQuestion {
         self as u32
     }
 
-    // The question by its number.
+    // The same among all questions.
     #[tactic(auto, unfolding(crate::specs::Asked::asks, questions::specs::Numbers::number))]
     pub fn question(self) -> Question
         ensures { number result ≡ asks self }

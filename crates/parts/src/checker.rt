@@ -2,7 +2,7 @@
 ghost use Rattle.std.specs.Prelude.{◌≤◌, length};
 
 use crate::asked::{BlockQuestion, QUESTIONS};
-use crate::numbers::u16_at;
+use crate::numbers::{operator_at, u16_at};
 use crate::roles::Role;
 use questions::Question;
 
@@ -82,10 +82,11 @@ impl<'a> Checker<'a> {
     pub fn operator(&mut self, limit: u8) -> Result<(), Question>
         ensures { Judged result self.old self.new (judge_operator limit) }
     {
-        if self.byte()? < limit {
-            return Ok(());
+        if !operator_at(self.tree, self.at, limit) {
+            return Err(Question::TreeLayout);
         }
-        Err(Question::TreeLayout)
+        self.at += 1;
+        Ok(())
     }
 
     // Passes over the bytes below `limit` that come next, at most `most`; how many these are.

@@ -1,5 +1,6 @@
-// Numbers at a position.
+// Numbers and operators at a position.
 ghost use Rattle.std.specs.Prelude.{◌≡◌, ◌<◌};
+ghost use Rattle.parts.specs.Judge.{operator_at};
 ghost use Rattle.parts.specs.Places.{count_at, Counted};
 
 // The big-endian number of two bytes at `at`.
@@ -8,4 +9,14 @@ pub fn u16_at(tree: &[u8], at: usize) -> u32
     ensures { (result ≡ count_at tree.now at) × (result < 65536) }
 {
     u32::from(u16::from_be_bytes([tree[at], tree[at + 1]]))
+}
+
+// Whether an operator below `limit` stands at `at`.
+pub fn operator_at(tree: &[u8], at: usize, limit: u8) -> bool
+    ensures { result ≡ operator_at limit tree.now at }
+{
+    if tree.len() <= at {
+        return false;
+    }
+    tree[at] < limit
 }

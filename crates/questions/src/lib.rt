@@ -1,7 +1,8 @@
 // The questions by which a call refuses, by name; their numbers are those of README's table.
 #![tactic(auto)]
 
-ghost use Rattle.std.specs.Prelude.{◌≡◌};
+ghost use Rattle.std.specs.Prelude.{◌≡◌, Some};
+ghost use Rattle.std.specs.Fmt.{decimal};
 ghost use Rattle.questions.specs.Numbers.{number};
 
 use std::fmt;
@@ -50,7 +51,10 @@ impl Question {
     }
 }
 
+// By its number.
 impl fmt::Display for Question {
+    ghost output = { λ q. Some (decimal (number q)) };
+
     fn fmt<W: fmt::Write>(&self, f: &mut fmt::Formatter<W>) -> fmt::Result {
         write!(f, "{}", self.number())
     }

@@ -1,5 +1,5 @@
 // The way that the marks of a search show, back from a place.
-ghost use Rattle.std.specs.Prelude.{◌≡◌, ◌+◌, ◌≤◌, ◌<◌, length};
+ghost use Rattle.std.specs.Prelude.{◌≡◌, ◌+◌, ◌≤◌, length};
 ghost use Rattle.definitions.specs.Calls.{written};
 ghost use Rattle.reach.specs.Tracing.{before_of, tag_of, answer_by, listed, way_to, Traceable, put_by};
 

@@ -14,7 +14,7 @@ pub(crate) struct Cursor<'a> {
 }
 
 impl<'a> Cursor<'a> {
-    ghost use Rattle.std.specs.Prelude.{◌≡◌, ◌<◌, ◌+◌, take, drop, MatchOption};
+    ghost use Rattle.std.specs.Prelude.{◌≡◌, ◌<◌, take, drop, MatchOption};
     ghost use Rattle.reader.specs.View.{number_at};
     ghost use Rattle.reader.specs.Cursors.{Stands, Went, Short, Finds};
 

@@ -17,15 +17,9 @@ module _ (c : List ℕ) (h : Coded c) (budget room : ℕ) (s : Stand) (st : Stan
   stop_is : Stop (instructions_of c) s.place stop
   stop_is = subst (λ (x : ℕ). Stop (instructions_of c) s.place x) (sym es) (sp.at s.place st.place)
 
-  pub stop-after : s.place ≤ stop
-  stop-after = stop_is.from
-
   module _ (places : List ℕ) (pl : Places c places) (to : ℕ) (r : Reaches to stop s.place (budget - s.steps)) where
     to_in : to < length (instructions_of c)
     to_in = let a = stop_is.inside in let b = r.to in omega arith
-
-    pub to-table : to < length places
-    to-table = let a = to_in in let b = pl.long in omega arith
 
     module _ (p q : ℕ) (ep : p ≡ get_or places s.place 0) (eq : q ≡ get_or places to 0) where
       p-is : p ≡ start_of (instructions_of c) s.place

@@ -77,9 +77,6 @@ module _ (c : List ℕ) (s : Instructions) (before table : List ℕ) (f : Fillin
     pub fill-in : p.place < length (instructions_of c)
     fill-in = let d = drop-some (instructions_of c) s.place (shown p) (instructions_of (drop n.at c)) here in let e = w.1.0 in omega arith
 
-    pub fill-at : p.at ≤ length c
-    fill-at = let i = f.inside in let e = w.1.1 in omega arith
-
     pub filling-more : p.place < length table → Filling c n before (set table p.place p.at)
     filling-more h =
         let m = more in

@@ -2,7 +2,7 @@
 use Prim.Native.Nat.{ℕ, suc, ◌+◌, ◌-◌, ◌<◌, ◌≤◌}
 use mathlib.Core.Path.{◌≡◌, refl, sym, ap, ap₂, ◌∙◌, subst}
 use mathlib.Core.List.{List, [], ◌∷◌}
-use mathlib.Core.Logic.{inl, inr, ⊎_elim}
+use mathlib.Core.Logic.{⊎_elim}
 use native.Mathlib.Omega.{arith}
 use native.Mathlib.Numerals.{add-one}
 use lib.Dec.{eqb}
@@ -19,7 +19,7 @@ use Rattle.run.specs.declared.course.Stand.{Stand}
 use Rattle.run.specs.declared.course.Turned.{Turned}
 use Rattle.run.specs.declared.course.Turned.TheVariants.{On, Over}
 use Rattle.run.specs.Tables.{Coded, flow_at}
-use Rattle.run.specs.Pass.{Stands, AtStop, Reaches, Asked, Starved, Asks, onward, Turning, Finishing, Turns, ending_number}
+use Rattle.run.specs.Pass.{Stands, AtStop, Asked, Starved, Asks, onward, Turning, Finishing, Turns, ending_number}
 use Rattle.definitions.proofs.Flows.{stop-jumps, jump-width, is-jump, flow-jump, flow-returns, flow-question, way-below}
 use Rattle.run.proofs.Flows.{return-bytes}
 use Rattle.run.proofs.Coding.{op-here, operand-here, not_last, jump-inside}
@@ -230,10 +230,3 @@ module _ (op a : ℕ) (answers : List ℕ) (room : ℕ) (s : Stand) where
     goes = λ z. record { steps = s.steps + 1; used = s.used + 1; written = s.written + 2; place = g z };
     stored = e ∙ ap₂ (λ (l : List ℕ) (k : ℕ). set l k (get_or answers s.used 0)) d (add-one s.written);
   }
-
--- as far as a stop
-pub reach-stop : (stop place left : ℕ) → place ≤ stop → stop - place ≤ left → Reaches stop stop place left
-reach-stop stop place left h l = record { from = h; to = omega arith; within = l; far = inl refl }
-
-pub reach-short : (stop place left : ℕ) → place ≤ stop → left < stop - place → Reaches (place + left) stop place left
-reach-short stop place left h l = record { from = omega arith; to = omega arith; within = omega arith; far = inr (omega arith) }

@@ -1,5 +1,5 @@
 // A run's course: straight on as far as it goes, then a jump, a question, a Return or an ending, and so on to its end.
-ghost use Rattle.std.specs.Prelude.{◌≡◌, ◌+◌, ◌-◌, ◌≤◌, ◌<◌, eqb, length, take, drop, set};
+ghost use Rattle.std.specs.Prelude.{◌≡◌, ◌≤◌, ◌<◌, eqb, set};
 ghost use Rattle.definitions.specs.Run as Run;
 ghost use Rattle.reader.specs.View.{instructions_of};
 ghost use Rattle.run.specs.Tables.{Coded, Places, Stops};

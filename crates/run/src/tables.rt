@@ -1,6 +1,5 @@
 // Tables of a function's code, made once for a run: where each instruction begins, and where going straight on from it stops.
-ghost use Rattle.std.specs.Prelude.{◌≡◌, ◌≤◌, ◌<◌, length};
-ghost use Rattle.definitions.specs.Run.{straight};
+ghost use Rattle.std.specs.Prelude.{◌≡◌, ◌≤◌, length};
 ghost use Rattle.reader.specs.View.{instructions_of};
 ghost use Rattle.run.specs.Tables.{Coded, Places, Stops, GoesOn, Nearer};
 

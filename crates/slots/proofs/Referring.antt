@@ -1,5 +1,5 @@
 -- Names that expressions reference, kept by a walk, one way out at a time. Assumes nothing.
-use Prim.Native.Nat.{ℕ, ◌+◌, ◌*◌, ◌-◌, ◌<◌, ◌≤◌, ◌^◌}
+use Prim.Native.Nat.{ℕ, ◌+◌, ◌-◌, ◌<◌, ◌≤◌, ◌^◌}
 use mathlib.Core.Path.{◌≡◌, refl, sym, ap, ◌∙◌, subst, ap₂}
 use mathlib.Core.Bool.{Bool, true, false}
 use mathlib.Core.List.{List}
@@ -10,9 +10,9 @@ use Rattle.definitions.specs.Tree.{Expr, Exprs, Display}
 use Rattle.definitions.specs.Slots.{add}
 use Rattle.state.specs.State.{slots_from, slot_names}
 use Rattle.state.specs.declared.Scope.{Scope}
-use Rattle.parts.specs.Places.{Node, count_at, name_bytes, name_end, There, params_at}
+use Rattle.parts.specs.Places.{Node, name_bytes, name_end, There, params_at}
 use Rattle.exprs.specs.ExprAt.{expr_at, exprs_at, var_at, unary_at, second_at, binary_at, list_at, call_at, attribute_at, display_at, pairs_at, dict_at, index_at, lambda_at, cons_at}
-use Rattle.exprs.specs.ExprAt.{ExprReads, ExprsRead, TwoAt, ListAt, CallAt, AttributeAt, DictAt, LambdaAt}
+use Rattle.exprs.specs.ExprAt.{ExprReads, ExprsRead, TwoAt, ListAt, CallAt, AttributeAt, LambdaAt}
 use Rattle.exprs.proofs.ExprViews.{view-exprs-none, view-exprs-more}
 use Rattle.slots.specs.Slotted.{first_names, Added}
 use Rattle.slots.specs.Held.{mark_all, is_free, add_held, held_expr, held_exprs, Held, Keeping}
@@ -154,21 +154,6 @@ module _ (d : ℕ) (a b : Captures) (p q : ℕ) (f : Refers q (expr_at d (tree_o
   pub refers-attribute : (o : ℕ) → o ≡ name_end (tree_of b) q → Refers o (attribute_at d (tree_of a) p) held_expr a b
   unfolding held_expr attribute_at
   refers-attribute o e = record { next-is = e ∙ ap₂ (λ (s : Scope) (x : ℕ). name_end s.tree.now x) f.keeps.same_around f.next-is; keeps = f.keeps }
-
--- ---- counts
-
-module _ (d : ℕ) (t : List ℕ) (a n : ℕ) (e : n ≡ count_at t a) where
-  pub list-reads : ListAt d t a → ExprsRead d n t (a + 2)
-  list-reads h = subst (λ (m : ℕ). ExprsRead d m t (a + 2)) (sym e) h.elements
-
-  pub list-is : exprs_at d n t (a + 2) ≡ list_at d t a
-  list-is = ap (λ (m : ℕ). exprs_at d m t (a + 2)) e
-
-  pub dict-reads : DictAt d t a → ExprsRead d (2 * n) t (a + 2)
-  dict-reads h = subst (λ (m : ℕ). ExprsRead d (2 * m) t (a + 2)) (sym e) h.elements
-
-  pub dict-is : exprs_at d (2 * n) t (a + 2) ≡ pairs_at d t a
-  dict-is = ap (λ (m : ℕ). exprs_at d (2 * m) t (a + 2)) e
 
 -- ---- a lambda: its parameters are marked, its body begins at q, where they end, and is walked from a' to b, and c has the marks of a again
 

@@ -1,4 +1,4 @@
--- Byte order: names in order stay so, and where a name belongs among them is found by halving. Assumes nothing.
+-- Byte order: names in order stay so, and where a name belongs among them is told by the test's turning point. Assumes nothing.
 use Prim.Native.Nat.{ℕ, zero, suc, ◌+◌, ◌-◌, ◌<◌, ◌≤◌}
 use mathlib.Core.Path.{◌≡◌, refl, sym, ap, ◌∙◌, subst}
 use mathlib.Core.Bool.{Bool, true, false, not, true≢false}

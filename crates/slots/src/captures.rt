@@ -1,4 +1,5 @@
 // What a lambda captures, and its slots: its parameters, then its captures.
+// A place and the levels left there stay two numbers, as in skip: each call gives both anew.
 // A short tree and the room of the slots stay clauses of lambda_slots, as in collect.
 ghost use Rattle.std.specs.Prelude.{◌++◌, ◌+◌, ◌≤◌, length};
 ghost use Rattle.definitions.specs.Slots.{captures};

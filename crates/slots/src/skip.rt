@@ -3,8 +3,8 @@
 ghost use Rattle.std.specs.Prelude.{◌≡◌, ◌+◌, ◌*◌, ◌<◌, ℕ};
 ghost use Rattle.parts.specs.Places.{name_end, There, TextAt, text_at, ParamsAt, params_at};
 ghost use Rattle.exprs.specs.ExprAt.{expr_at, exprs_at, ExprReads, ExprsRead, TwoAt, second_at, CallAt, ListAt, list_at, DictAt, pairs_at, AttributeAt, LambdaAt};
-ghost use Rattle.tree.specs.StmtAt.{stmt_at, block_at, branches_at, methods_at, attributes_at, body_at, elifs_at, def_block_at, class_methods_at};
-ghost use Rattle.tree.specs.StmtAt.{StmtReads, BlockReads, BranchesRead, MethodsRead, AttributesRead, BranchAt, IfAt, ForAt, DefAt, ClassAt};
+ghost use Rattle.tree.specs.StmtAt.{stmt_at, block_at, branches_at, attributes_at, body_at, elifs_at, def_block_at, class_methods_at};
+ghost use Rattle.tree.specs.StmtAt.{StmtReads, BlockReads, BranchesRead, AttributesRead, BranchAt, IfAt, ForAt, DefAt, ClassAt};
 ghost use Rattle.slots.specs.Steps.{Leads};
 
 use numerals::kinds::{ExprKind, StmtKind};

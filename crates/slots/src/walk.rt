@@ -1,4 +1,5 @@
 // A walk over the statements of a def or method: names are gathered in its slots, and its loops are counted.
+// A place and the levels left there stay two numbers, as in skip: each call gives both anew.
 // Blocks and branches are gone through as in fits: a walk for both would be a trait whose methods call back into the cycle of each, and no plainer than these loops.
 ghost use Rattle.std.specs.Prelude.{◌+◌, ◌≤◌, length};
 ghost use Rattle.state.specs.State.{slots_from};

@@ -18,7 +18,7 @@ pub struct Tallied {
     pub calls: u64,
 }
 
-// Opcodes of conditional jumps and of calls.
+// Opcodes of conditional jumps and of calls; numbers of its own, as numerals has no bytes of calls and the crate needs nothing else of it.
 const JUMP_IF_FALSE: u8 = 29;
 
 const JUMP_IF_TRUE: u8 = 30;

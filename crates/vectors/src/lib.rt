@@ -53,7 +53,7 @@ impl<R: Read> Lines<R> {
     }
 
     // Whether the input has ended.
-    fn has_ended(&self) -> bool
+    pub fn has_ended(&self) -> bool
         ensures { result ≡ is_none self.now.last }
     {
         self.last.is_none()
@@ -61,7 +61,7 @@ impl<R: Read> Lines<R> {
 
     // Whether another field follows in the line.
     #[tactic(auto, unfolding(crate::specs::Lines::is_tab))]
-    fn has_field(&self) -> bool
+    pub fn has_field(&self) -> bool
         ensures { result ≡ is_tab self.now.last }
     {
         matches!(self.last, Some(b'\t'))
@@ -98,7 +98,7 @@ impl<R: Read> Lines<R> {
     }
 
     // To the end of the line.
-    fn skip_line(&mut self)
+    pub fn skip_line(&mut self)
         ensures ends { is_end false self.new.last ≡ true }
         ensures stays { is_end false self.old.last ≡ true → self.new ≡ self.old }
     {
@@ -106,11 +106,11 @@ impl<R: Read> Lines<R> {
     }
 
     // From the end of a line past the name of the next.
-    fn skip_name(&mut self)
+    pub fn skip_name(&mut self)
         ensures { is_end true self.new.last ≡ true }
     {
         self.take();
-        self.skip(true);
+        self.skip(true); // to the end of the name
     }
 
     // To the end of a field, and whether it ended here.
@@ -192,14 +192,15 @@ impl<R: Read> Lines<R> {
         if self.finish() { number } else { None }
     }
 
-    // Each case in turn, up to an error: `read` takes the fields after its name, and the rest of its line is skipped.
+    // Each case in turn, up to an error: `read` takes the fields after its name, and the rest of its line is skipped. Nothing says that the input ends, as in
+    // `skip`.
     pub fn each_case<E, F: FnMut(&mut Lines<R>) -> Result<(), E>>(
         &mut self,
         mut read: F,
     ) -> Result<(), E>
         requires { F.IsAlwaysCallable read }
         ensures ends { IfOk result (λ _. is_none self.new.last ≡ true) }
-        ensures cases { Cases (λ lines. lines.last) F.FnMut read self.old result self.new }
+        ensures cases { Cases (λ lines. lines.last) F.FnMut 18446744073709551615 0 read self.old result self.new }
     {
         for _ in 0..u64::MAX {
             if self.has_ended() {

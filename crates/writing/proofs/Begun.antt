@@ -1,6 +1,6 @@
 -- Bytes that are written piece by piece, each into the rest of the output.
 use mathlib.Core.Path.{◌≡◌, refl, sym, ap, ap₂, ◌∙◌, subst}
-use mathlib.Core.List.{List, [], ◌∷◌, ◌++◌, append-nil, append_assoc, map}
+use mathlib.Core.List.{List, [], ◌∷◌, ◌++◌, append-nil, append_assoc}
 use Prim.Native.Nat.{ℕ, suc, ◌+◌, ◌-◌, ◌/◌, ◌%◌, ◌≤◌, ◌<◌}
 use native.Mathlib.Omega.{arith}
 use native.Mathlib.Nat.{div-one}
@@ -8,7 +8,7 @@ use native.Mathlib.Numerals.{add-one}
 use lib.ListN.{length, get_or, take, drop, set, length-append, length-drop, length-take, drop_of_length-le}
 use lib.Seq.{take-append_seam, drop-append_seam, drop-drop, drop-cons, set-append_seam, take_all, take-suc, length-take-le}
 use borrow.Rule.Slice.PartMut.{put_mid, mid_of}
-use Rattle.definitions.specs.Bytes.{be, concat, list_bytes}
+use Rattle.definitions.specs.Bytes.{be}
 use Rattle.definitions.specs.Calls.{written}
 use Rattle.definitions.proofs.BytesWritten.{length-be}
 use Rattle.writing.specs.Wrote.{Wrote}
@@ -89,23 +89,9 @@ unfoldable pub joined : List (List ℕ) → List ℕ
 joined [] = []
 joined (p ∷ ps) = p ++ joined ps
 
-pub joined-map {ℓ} : {A : Type ℓ} (f : A → List ℕ) (xs : List A) → concat f xs ≡ joined (map f xs)
-unfolding joined concat
-joined-map f [] = refl
-joined-map f (x ∷ xs) = ap (λ (z : List ℕ). f x ++ z) (joined-map f xs)
-
--- a list is its count and its elements
-pub joined-list {ℓ} : {A : Type ℓ} (w : ℕ) (f : A → List ℕ) (xs : List A) → list_bytes w f xs ≡ be w (length xs) ++ joined (map f xs)
-unfolding list_bytes
-joined-list w f xs = ap (λ (z : List ℕ). be w (length xs) ++ z) (joined-map f xs)
-
 pub joined-one : (x : List ℕ) → x ≡ joined (x ∷ [])
 unfolding joined
 joined-one x = sym (append-nil x)
-
-pub joined-two : (x y : List ℕ) → x ++ y ≡ joined (x ∷ y ∷ [])
-unfolding joined
-joined-two x y = ap (λ (z : List ℕ). x ++ z) (sym (append-nil y))
 
 -- ---- bytes s of which all but some pieces are written
 

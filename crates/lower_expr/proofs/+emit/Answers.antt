@@ -25,6 +25,7 @@ use Rattle.lower_forms.proofs.CallForms.{call-named, call-method, callee-short}
 use Rattle.lower_forms.proofs.Elements.{more-view}
 use Rattle.lower_forms.proofs.Sole.{sole-at}
 use Rattle.lower_emit.proofs.Packing.{plain-above, instr-plain}
+use Rattle.lower_emit.specs.Emitting.{counts_of, limits_in}
 use Rattle.lower_emit.proofs.Steps.{sound-next, lowers-by, writes-in}
 use Rattle.lower_emit.proofs.Parts.{emits_then, emits-stopped, emits-words, emits-no-words, words_then, words-stopped, words-end, words-none, emits-by, emits-state}
 use Rattle.lower_names.specs.declared.Callee.TheVariants.{Value}
@@ -305,7 +306,7 @@ emit_call-returns-in_ok-next-in_default t c =
 pub emit_named-returns-in_err-load_callee : goal.emit_named-returns-in_err-load_callee
 emit_named-returns-in_err-load_callee t c =
     emits-state (words-stopped c.in_err-load_callee.was c.from_residual.ensures c.requires.0.sound (lengthens-seq (lengthens-exprs _ _) (lengthens-one _)) c.load_callee.ensures.lowers)
-    (named-state _ _ _ _ _ _ _ c.requires.1 (c.resolve-callee.ensures.callee c.args.e.now.code c.args.e.now.tables refl refl c.requires.0.sound)) refl
+    (named-state _ _ _ _ _ _ _ c.requires.1 (c.callee_at-callee.ensures.callee c.args.e.now.code.words.now (counts_of c.args.e.now) (limits_in c.args.e.now) refl refl refl c.requires.0.sound.sound)) refl
 
 pub emit_named-emit_args-requires : goal.emit_named-emit_args-requires
 emit_named-emit_args-requires t c = (
@@ -313,7 +314,7 @@ emit_named-emit_args-requires t c = (
   (
     sole-at c.requires.0 (sound-next c.in_ok-load_callee.was c.load_callee.ensures.lowers.reaches),
     args_at _ _ _ _ c.name_end.ensures c.requires.1.args,
-    callee-short _ _ _ (functions-few _ _ c.requires.0.sound) (c.resolve-callee.ensures.callee c.args.e.now.code c.args.e.now.tables refl refl c.requires.0.sound),
+    callee-short _ _ _ (functions-few _ _ c.requires.0.sound) (c.callee_at-callee.ensures.callee c.args.e.now.code.words.now (counts_of c.args.e.now) (limits_in c.args.e.now) refl refl refl c.requires.0.sound.sound),
   ),
 )
 
@@ -321,8 +322,8 @@ pub emit_named-returns : goal.emit_named-returns
 emit_named-returns t c =
     let d = c.args.depth in let tree = c.args.s.tree.now in let names = slot_names tree c.args.s.slots.now in
     emits-state (words_then c.in_ok-load_callee.was c.requires.0.sound c.load_callee.ensures.lowers
-    (emits_at (λ x. exprs_code d (count_at tree x) tree names (x + 2) ⨟ one (call_instr (callee_of c.resolve-callee.result) (count_at tree x))) (λ x. (list_at d tree x).end) c.name_end.ensures c.emit_args.ensures))
-    (named-state _ _ _ _ _ _ _ c.requires.1 (c.resolve-callee.ensures.callee c.args.e.now.code c.args.e.now.tables refl refl c.requires.0.sound)) refl
+    (emits_at (λ x. exprs_code d (count_at tree x) tree names (x + 2) ⨟ one (call_instr (callee_of c.callee_at-callee.result) (count_at tree x))) (λ x. (list_at d tree x).end) c.name_end.ensures c.emit_args.ensures))
+    (named-state _ _ _ _ _ _ _ c.requires.1 (c.callee_at-callee.ensures.callee c.args.e.now.code.words.now (counts_of c.args.e.now) (limits_in c.args.e.now) refl refl refl c.requires.0.sound.sound)) refl
 
 -- ---- emit_method
 

@@ -9,5 +9,5 @@ pub returns-then-strings-n : goal.returns-then-strings-n
 returns-then-strings-n c = adds-over c.seek_text-sought.ensures c.requires.0 c.in_default.is c.if-strings-n.true
 
 pub returns : goal.returns
-returns c = adds-new c.seek_text-sought.ensures c.requires.0 c.in_default.is c.if-strings-n.false refl
+returns c = adds-new c.seek_text-sought.ensures c.requires.0 c.in_default.is c.if-strings-n.false refl refl
     (λ ts. record { made = refl; entries = refl; counts = λ code. refl; limits = λ code. refl; areas = λ code. record { words = refl; made = refl; entries = refl } })

@@ -1,4 +1,4 @@
-use mathlib.Core.Path.{◌≡◌, subst, ◌∙◌}
+use mathlib.Core.Path.{subst}
 use Rattle.definitions.specs.Instruction.{instr}
 use Rattle.definitions.specs.Tables.{one}
 use Rattle.state.proofs.Growth.{lengthens-one}
@@ -11,21 +11,13 @@ use Rattle.lower_simple.proofs.put_end.Goals.{then-init+in_ok-put_op, else-init}
 use Rattle.lower_simple.proofs.put_end.Goals as goal
 
 pub returns-in_err-put_op : goal.returns-in_err-put_op
-returns-in_err-put_op c = record {
-  writes = end-object _ c.if-init.true (writes-stopped (plain-writes plain-object c.put_op.ensures) c.in_err-put_op.was c.from_residual.ensures (lengthens-one _));
-  area = c.put_op.ensures.kept.area;
-}
+returns-in_err-put_op c = end-object _ c.if-init.true (writes-stopped (plain-writes plain-object c.put_op.ensures) c.in_err-put_op.was c.from_residual.ensures (lengthens-one _))
 
 pub returns : goal.returns
 returns c =
     let last = plain-writes plain-return c.put_op-2.ensures in
     let from = λ (m : Code). Writes c.put_op-2.result (one (instr 33 0 0)) m c.put_op-2.new.self in
-    let here = λ (m : Code). c.put_op-2.new.self.words.ghost_name ≡ m.words.ghost_name in
-    let kept = c.put_op-2.ensures.kept.area in
     elim c.if-init.branch [
-      | then-init+in_ok-put_op w ↦ record {
-        writes = end-object _ w.if-init.true (writes_then (plain-writes plain-object w.put_op.ensures) w.in_ok-put_op.was (subst from w.code-is last));
-        area = subst here w.code-is kept ∙ w.put_op.ensures.kept.area;
-      }
-      | else-init w ↦ record { writes = end-bare _ w.if-init.false (subst from w.code-is last); area = subst here w.code-is kept }
+      | then-init+in_ok-put_op w ↦ end-object _ w.if-init.true (writes_then (plain-writes plain-object w.put_op.ensures) w.in_ok-put_op.was (subst from w.code-is last))
+      | else-init w ↦ end-bare _ w.if-init.false (subst from w.code-is last)
     ]

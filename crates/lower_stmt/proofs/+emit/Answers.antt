@@ -519,12 +519,12 @@ emit_body-returns-in_err-next t c = emits-stopped c.in_err-next.was c.from_resid
 pub emit_body-returns-in_err-put_end : goal.emit_body-returns-in_err-put_end
 emit_body-returns-in_err-put_end t c =
     let b = c.emit_block.ensures.0 in
-    emits-no-words c.in_ok-next.was c.in_err-put_end.was c.from_residual-in_err-put_end.ensures c.requires.0.sound b (writes-in (sound-next c.in_ok-next.was b.lowers.reaches) refl c.put_end.ensures.writes)
+    emits-no-words c.in_ok-next.was c.in_err-put_end.was c.from_residual-in_err-put_end.ensures c.requires.0.sound b (writes-in (sound-next c.in_ok-next.was b.lowers.reaches) refl c.put_end.ensures)
 
 pub emit_body-returns : goal.emit_body-returns
 emit_body-returns t c =
     let b = c.emit_block.ensures.0 in
-    emits-words c.in_ok-next.was c.in_ok-put_end.was c.requires.0.sound b (writes-in (sound-next c.in_ok-next.was b.lowers.reaches) refl c.put_end.ensures.writes)
+    emits-words c.in_ok-next.was c.in_ok-put_end.was c.requires.0.sound b (writes-in (sound-next c.in_ok-next.was b.lowers.reaches) refl c.put_end.ensures)
 
 -- ---- compile_function
 

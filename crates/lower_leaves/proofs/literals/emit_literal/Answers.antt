@@ -57,7 +57,8 @@ returns-in_err-emit_string-in-Text c =
       place = λ n q. absurd (none-some n (sym e ∙ q));
       quotes = record {
         lowers = λ ts S. lowers-by (lowers-none c.in_err-emit_string-in-Text.was e (c.emit_string.ensures.lowers ts S)) v.0;
-        area = c.emit_string.ensures.area;
+        kept = c.emit_string.ensures.kept;
+        limit = c.emit_string.ensures.limit;
         entries = c.emit_string.ensures.entries;
       };
     }
@@ -72,7 +73,8 @@ returns-in_ok-emit_string-in-Text c =
       place = λ n q. (let p : n ≡ c.in-Text.start + c.in-Text.len = cc in p) ∙ sym v.1;
       quotes = record {
         lowers = λ ts S. lowers-by (lowers-some c.in_ok-emit_string-in-Text.was (c.emit_string.ensures.lowers ts S)) v.0;
-        area = c.emit_string.ensures.area;
+        kept = c.emit_string.ensures.kept;
+        limit = c.emit_string.ensures.limit;
         entries = c.emit_string.ensures.entries;
       };
     }

@@ -15,7 +15,6 @@ pub returns-in_err-put_op : goal.returns-in_err-put_op
 returns-in_err-put_op c =
     let s = c.args.self.now in
     loop-full c.args.start c.args.inside c.requires.0 c.requires.1 (word-writes (λ t. instr-back t _ (omega arith) (omega (arith, s.code_size, s.code_limit, c.requires.1))) c.put_op.ensures) c.in_err-put_op.was c.from_residual.ensures
-    c.put_op.ensures.kept.area
 
 pub returns : goal.returns
 returns c =
@@ -26,4 +25,3 @@ returns c =
     (record { base = k.base; done = k.done; limit = k.limit; area = k.area }) c.set_jump.ensures.size
     (c.set_jump.ensures.words
     ∙ ap (λ (ys : List ℕ). set (put_mid a.inside (s.open - a.inside) c.put_op.new.self.words.now ys) (a.inside - 1) (word 29 (s.open - a.inside + 1) 0)) c.patch_words.ensures)
-    c.put_op.ensures.kept.area

@@ -1,12 +1,13 @@
-use Rattle.std.proofs.Common.{rules}
-use Rattle.parts.proofs.Steps.{operator-stop, operator-step, operator-no}
+use native.Mathlib.Omega.{arith}
+use mathlib.Core.Path.{refl}
+use Rattle.parts.proofs.Steps.{operator-off, operator-on, operator-inside}
 use Rattle.parts.proofs.checker.Checker.operator.Goals as goal
 
-pub returns-in_err-byte : goal.returns-in_err-byte
-returns-in_err-byte c = operator-stop _ (search rules) c.in_err-byte.ensures
+pub returns-then-not-operator_at : goal.returns-then-not-operator_at
+returns-then-not-operator_at c = operator-off c.args.limit c.args.self.now c.operator_at.ensures c.if-not-operator_at.true
 
-pub returns-then-branch-limit : goal.returns-then-branch-limit
-returns-then-branch-limit c = operator-step c.in_ok-byte.ensures c.if-branch-limit.true
+pub invariant_of-self : goal.invariant_of-self
+invariant_of-self c = let h = operator-inside c.args.limit c.args.self.now c.operator_at.ensures c.if-not-operator_at.false in record { inside = omega arith }
 
 pub returns : goal.returns
-returns c = operator-no c.in_ok-byte.ensures c.if-branch-limit.false
+returns c = operator-on c.args.limit c.args.self.now c.operator_at.ensures c.if-not-operator_at.false refl refl refl
