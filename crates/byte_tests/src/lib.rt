@@ -8,11 +8,19 @@ ghost use Rattle.definitions.specs.Wellformed.{letter, digit, is_name};
 // A name's greatest length.
 const MOST_BYTES: usize = 64;
 
-// Whether the two are the same bytes.
+// Whether the two are the same bytes. By `==`, which is made for long slices, a search among names, which are short, takes up to twice as long.
 pub fn same_bytes(a: &[u8], b: &[u8]) -> bool
     ensures { result ≡ same a.now b.now }
 {
-    a == b
+    if a.len() != b.len() {
+        return false;
+    }
+    for i in 0..a.len() {
+        if a[i] != b[i] {
+            return false;
+        }
+    }
+    true
 }
 
 // Whether the bytes a are below b: byte by byte, a proper beginning first.

@@ -4,7 +4,7 @@ use mathlib.Core.List.{List, [], ◌∷◌, ◌++◌, append-nil, append_assoc}
 use Prim.Native.Nat.{ℕ, zero, suc, ◌-◌, ◌≤◌}
 use native.Mathlib.Omega.{arith}
 use lib.ListN.{length, get_or, take, drop, set, replicate, length-append, take-append-drop}
-use lib.Seq.{take-suc, set_at, append_snoc, length-take-le}
+use lib.Seq.{take-suc, set_at, append_snoc, length-take-le, drop-append_seam}
 use Rattle.definitions.specs.Calls.{written}
 use Rattle.definitions.specs.Columns.{spaces, right_in}
 
@@ -73,3 +73,12 @@ ended-done {P} {xs} {out} {r} h e = go r h e.split e.is
     go : (r : List ℕ) → length r ≤ 0 → P ≡ r ++ e.tail → out ≡ take (length r) xs ++ (e.tail ++ drop (length P) xs) → out ≡ P ++ drop (length P) xs
     go [] h p i = i ∙ ap (λ (l : List ℕ). l ++ drop (length P) xs) (sym p)
     go (x ∷ r) h p i = absurd (omega arith)
+
+-- what is left of it is stored at once
+pub ended-filled : {P xs out r : List ℕ} → Ended P xs out r → r ++ drop (length r) out ≡ written P xs
+unfolding written
+ended-filled {P} {xs} {out} {r} e =
+    let T = e.tail ++ drop (length P) xs in
+    let n : length (take (length r) xs) ≡ length r = length-take-le (length r) xs (ended-inside e) in
+    ap (λ (l : List ℕ). r ++ l) (ap (drop (length r)) e.is ∙ ap (λ (k : ℕ). drop k (take (length r) xs ++ T)) (sym n) ∙ drop-append_seam (take (length r) xs) T)
+    ∙ sym (append_assoc r e.tail (drop (length P) xs)) ∙ ap (λ (l : List ℕ). l ++ drop (length P) xs) (sym e.split)

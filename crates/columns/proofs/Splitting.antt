@@ -1,17 +1,17 @@
 -- The last byte of what a field shows.
 use mathlib.Core.Path.{◌≡◌, sym, ap, ◌∙◌, subst}
-use mathlib.Core.List.{List, [], ◌∷◌, ◌++◌}
+use mathlib.Core.List.{List, [], ◌∷◌, ◌++◌, append-nil}
 use Prim.Native.Nat.{ℕ, zero, suc, ◌+◌, ◌-◌, ◌/◌, ◌%◌, ◌≤◌, ◌<◌}
 use native.Mathlib.Omega.{arith}
-use lib.ListN.{length, set, length-append}
-use Rattle.definitions.specs.Columns.{right_in, hex_digit, hexadecimal}
+use lib.ListN.{length, set, drop, replicate, length-append, length-replicate}
+use Rattle.definitions.specs.Columns.{spaces, right_in, hex_digit, hexadecimal}
 use Rattle.columns.specs.Fields.{field_text, Splits}
 use Rattle.columns.specs.declared.Field.{Field}
 use Rattle.columns.specs.declared.Field.TheVariants.{Blank, Digits, Negative, Minus, Bits}
 use Rattle.columns.specs.declared.Last.{Last}
 use Rattle.definitions.proofs.Decimals.{decimal_digit, decimal-more, hexadecimal-last}
 use Rattle.definitions.proofs.Columns.{length-right}
-use Rattle.columns.proofs.Right.{right-blank, right-last, Ended, ended-start, ended-next, ended-done}
+use Rattle.columns.proofs.Right.{right-blank, right-last, Ended, ended-start, ended-next, ended-done, ended-filled}
 use Rattle.definitions.specs.Calls.{written}
 
 -- something is shown; nothing is
@@ -81,3 +81,12 @@ field_next P xs out (suc j) f r p h e s =
 -- none of it is to come
 pub field-done : (P xs out : List ℕ) (i : ℕ) (f : Field) → i ≤ 0 → length (field_text f) ≤ i → Ended P xs out (right_in i (field_text f)) → out ≡ written P xs
 field-done P xs out i f z h e = let l = length-right i (field_text f) h in ended-done (omega arith) e
+
+-- nothing is shown any more: spaces as far as the field goes
+pub field-blank : (P xs out s : List ℕ) (i : ℕ) (f : Field) → f ≡ Blank → s ≡ replicate i 32 → Ended P xs out (right_in i (field_text f)) → s ++ drop i out ≡ written P xs
+unfolding field_text right_in spaces
+field-blank P xs out s i f b k e =
+    let size : i - length {A = ℕ} [] ≡ i = omega arith in
+    let r : right_in i (field_text f) ≡ s = ap (λ (g : Field). right_in i (field_text g)) b ∙ ap (λ (n : ℕ). replicate n 32 ++ []) size ∙ append-nil (replicate i 32) ∙ sym k in
+    let n : length s ≡ i = ap length k ∙ length-replicate i 32 in
+    subst (λ (m : ℕ). s ++ drop m out ≡ written P xs) n (ended-filled (subst (λ (l : List ℕ). Ended P xs out l) r e))

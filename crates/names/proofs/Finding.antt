@@ -6,7 +6,9 @@ use mathlib.Core.Option.{Option, none, some}
 use mathlib.Core.List.{List, [], ◌∷◌, map}
 use native.Mathlib.Omega.{arith}
 use native.Mathlib.Nat.{zero-add, add-zero}
-use lib.ListN.{length, take, drop, length-map}
+use native.Mathlib.Numerals.{add-one}
+use lib.ListN.{length, take, drop, get_or, length-map, drop_of_length-le}
+use lib.Seq.{drop-cons}
 use Rattle.std.specs.Prelude as Found
 use Rattle.std.specs.Prelude.{cond, Some, None}
 use Rattle.std.specs.Option.{unwrap_or}
@@ -68,6 +70,33 @@ pub found-by : (n : ℕ) (r : Found.Option ℕ) (o : Option ℕ) → place_in r 
 unfolding found_or
 found-by n None o e = ap (found_or n) e
 found-by n (Some k) o e = ap (found_or n) e
+
+-- ---- a search from the beginning on
+
+-- among the words ws none before i passes the test
+unfoldable pub Passed : (ℕ → Bool) → List ℕ → ℕ → Type 0
+Passed test ws i = position test ws ≡ shifted i (position test (drop i ws))
+
+module _ (test : ℕ → Bool) (ws : List ℕ) where
+  pub seek-start : Passed test ws 0
+  unfolding Passed
+  seek-start = shifted-zero (position test ws)
+
+  module _ (i : ℕ) (p : Passed test ws i) where
+    pub seek-here : i < length ws → test (get_or ws i 0) ≡ true → some i ≡ position test ws
+    unfolding Passed step shifted
+    seek-here h e =
+        let f : position test (drop i ws) ≡ some 0 = rw (drop-cons ws i 0 h, position-cons, e) in
+        ap (λ (n : ℕ). some n) (sym (add-zero i)) ∙ sym (p ∙ ap (shifted i) f)
+
+    pub seek-next : i < length ws → test (get_or ws i 0) ≡ false → Passed test ws (i + 1)
+    unfolding Passed
+    seek-next h e =
+        p ∙ ap (shifted i) (rw (drop-cons ws i 0 h, position-cons, e)) ∙ shifted_next i (position test (drop (suc i) ws)) ∙ ap (λ (k : ℕ). shifted (i + 1) (position test (drop k ws))) (sym (add-one i))
+
+    pub seek-end : length ws ≤ i → none ≡ position test ws
+    unfolding Passed position shifted
+    seek-end h = sym (p ∙ ap (λ (l : List ℕ). shifted i (position test l)) (drop_of_length-le ws h))
 
 -- ---- where it is found
 

@@ -1,6 +1,6 @@
 -- What an instruction's first operand numbers, by opcode. Assumes nothing.
-use Prim.Native.Nat.{ℕ, ◌+◌, ◌≤◌, ◌<◌}
-use mathlib.Core.Path.{◌≡◌, refl, sym, ap, ◌∙◌}
+use Prim.Native.Nat.{ℕ, ◌≤◌, ◌<◌}
+use mathlib.Core.Path.{◌≡◌, refl, sym, ◌∙◌}
 use mathlib.Core.Bool.{Bool, false, ◌||◌}
 use mathlib.Core.List.{List, map}
 use mathlib.Core.Logic.{⊎_elim}
@@ -62,17 +62,3 @@ kind-none op e = unmarked (operand_of (numbers_of op)) (sym (⊎_elim
     (λ (h : 46 ≤ op). mark-past op h)
     (λ (h : op < 46). no_key (get_or marks op 0) (has-kind op) (mark-within op h) e)
     (le-or-gt 46 op) ∙ mark-is op))
-
--- a value at three places in a row
-three : {A : Type 0} (f : ℕ → A) (v : A) (k op : ℕ) → v ≡ f k → v ≡ f (k + 1) → v ≡ f (k + 2) → k ≤ op → op ≤ k + 2 → v ≡ f op
-three f v k op a b c h l = ⊎_elim
-    (λ (i : k + 1 ≤ op). ⊎_elim
-    (λ (j : k + 2 ≤ op). c ∙ ap f (let z : k + 2 ≡ op = omega arith in z))
-    (λ (j : op < k + 2). b ∙ ap f (let z : k + 1 ≡ op = omega arith in z))
-    (le-or-gt (k + 2) op))
-    (λ (i : op < k + 1). a ∙ ap f (let z : k ≡ op = omega arith in z))
-    (le-or-gt (k + 1) op)
-
-pub symbol-kinds : (op : ℕ) → 35 ≤ op → op ≤ 37 → Symbol ≡ operand_of (numbers_of op)
-unfolding operand_of numbers_of row_of instruction_table
-symbol-kinds op h l = three (λ (k : ℕ). operand_of (numbers_of k)) Symbol 35 op refl refl refl h l

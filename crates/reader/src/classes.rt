@@ -63,15 +63,17 @@ impl<'a> Cursor<'a> {
         ensures { Skips (checked (ask_methods asked []) (list_of 2 method_record)) result self.old self.new }
     {
         let count = self.number()?;
+        let mut c = *self;
         let mut before: &[u8] = &[];
         for _ in 0..count {
-            let name = self.proper()?;
-            let function = self.number()?;
+            let name = c.proper()?;
+            let function = c.number()?;
             if !ask_next(before, name, asked, function) {
                 return None;
             }
             before = name;
         }
+        *self = c;
         Some(())
     }
 

@@ -5,8 +5,8 @@ use crate::Instruction;
 use crate::code::instruction_at;
 use crate::numbers::number_at;
 
-// Where in a module's bytes the reading stands.
-#[derive(Drop)]
+// Where in a module's bytes the reading stands. What goes on in a loop goes on with a copy of its own, which stays in the processor.
+#[derive(Clone, Copy)]
 pub(crate) struct Cursor<'a> {
     bytes: &'a [u8],
     pub(crate) at: usize,

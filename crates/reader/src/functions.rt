@@ -14,12 +14,14 @@ impl<'a> Cursor<'a> {
     fn code(&mut self, asked: Asked, head: Head) -> Option<()>
         ensures { Skips (checked (ask_code asked head.count head.slots 0) (counted [] ◌∷◌ instruction head.count)) result self.old self.new }
     {
+        let mut c = *self;
         for place in 0..head.count {
-            let instruction = self.instruction()?;
+            let instruction = c.instruction()?;
             if !ask_op(asked, head, place, instruction) {
                 return None;
             }
         }
+        *self = c;
         Some(())
     }
 

@@ -12,9 +12,11 @@ impl<'a> Cursor<'a> {
         ensures { (step : List ℕ → ℕ → Option ℕ) → ((c : _) (r : _) (d : _) → F.post each c r d → Steps step r c.now d.now) → Steps (λ t. list_by (step t) t) result self.old self.new }
     {
         let count = self.number()?;
+        let mut c = *self;
         for _ in 0..count {
-            each(self)?;
+            each(&mut c)?;
         }
+        *self = c;
         Some(())
     }
 }

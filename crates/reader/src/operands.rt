@@ -20,7 +20,7 @@ fn is_builtin(n: u64) -> bool
     matches!(n, 0..=7 | 10..=14)
 }
 
-// What an instruction's first operand numbers.
+// What an instruction's first operand numbers. An opcode an arm becomes a table; or-patterns become tests one after the other.
 #[tactic(auto, unfolding(crate::specs::Asks::operand_of, definitions::specs::Instruction::numbers_of, definitions::specs::Instruction::row_of, definitions::specs::Instruction::instruction_table))]
 fn operand_of(op: u8) -> Operand
     ensures { result ≡ operand_of (numbers_of op) }
@@ -28,10 +28,16 @@ fn operand_of(op: u8) -> Operand
     match usize::from(op) {
         CONST_STR => Operand::Text,
         LOAD_CONST => Operand::Constant,
-        LOAD_LOCAL | STORE_LOCAL => Operand::Slot,
-        LOAD_GLOBAL | STORE_GLOBAL | CALL_METHOD | LOAD_ATTR | STORE_ATTR => Operand::Symbol,
-        CALL | MAKE_CLOSURE => Operand::Function,
+        LOAD_LOCAL => Operand::Slot,
+        STORE_LOCAL => Operand::Slot,
+        LOAD_GLOBAL => Operand::Symbol,
+        STORE_GLOBAL => Operand::Symbol,
+        CALL => Operand::Function,
         CALL_BUILTIN => Operand::Builtin,
+        CALL_METHOD => Operand::Symbol,
+        LOAD_ATTR => Operand::Symbol,
+        STORE_ATTR => Operand::Symbol,
+        MAKE_CLOSURE => Operand::Function,
         _ => Operand::Nothing,
     }
 }

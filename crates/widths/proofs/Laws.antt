@@ -3,25 +3,19 @@ use mathlib.Core.Path.{◌≡◌, refl, sym, ap, ◌∙◌, subst}
 use mathlib.Core.Bool.{Bool, true, false, ◌||◌}
 use mathlib.Core.List.{List, map}
 use mathlib.Core.Logic.{⊎_elim}
-use Prim.Native.Nat.{ℕ, zero, suc, ◌+◌, ◌≤◌, ◌<◌}
+use Prim.Native.Nat.{ℕ, zero, suc, ◌≤◌, ◌<◌}
 use native.Mathlib.Omega.{arith}
-use lib.Dec.{eqb, leb, T}
-use borrow.Author.Tests.{eq-eqb, ne_eqb, leb-true}
-use Rattle.definitions.proofs.Truth.{is_true}
+use lib.Dec.{eqb, T}
+use borrow.Author.Tests.{eq-eqb, ne_eqb}
 use lib.ListN.{get_or, get_or-map, get_or-eq_default}
 use Rattle.definitions.specs.Instruction.{Row, row, nothing, instruction_table, row_of, first_width, second_width}
 use Rattle.definitions.proofs.Begins.{le-or-gt}
-use Rattle.widths.proofs.Table.{at, run}
+use Rattle.widths.proofs.Table.{at}
 
 -- an entry that is no key is 0
 pub no_key : (x : ℕ) (b : Bool) → T (eqb x 0 || b) → b ≡ false → 0 ≡ x
 no_key zero b t e = refl
 no_key (suc x) b t e = absurd (subst T (ap (λ (a : Bool). a || b) (ne_eqb (suc x) 0 (λ z. omega arith)) ∙ e) t)
-
--- past the table no opcode has operands
-row_past : (op : ℕ) → 46 ≤ op → row_of op ≡ row "" 0 0 nothing
-unfolding row_of instruction_table
-row_past op h = get_or-eq_default instruction_table (row "" 0 0 nothing) h
 
 -- the opcodes with a first operand
 unfoldable pub has_first : ℕ → Bool
@@ -51,16 +45,33 @@ first-none op e = ⊎_elim
     (λ (h : op < 46). no_key (get_or first-column op 0) (has_first op) (first-within op h) e)
     (le-or-gt 46 op) ∙ first-is op
 
--- the last opcodes without a second operand
-pub second_none : (op : ℕ) → 33 ≤ op → (op ≡ 35 → ⊥) → (op ≡ 45 → ⊥) → 0 ≡ second_width op
-unfolding second_width row_of instruction_table
-second_none op h n m = ⊎_elim
-    (λ (k : 46 ≤ op). sym (ap (λ (r : Row). r.second) (row_past op k)))
-    (λ (k : op < 46). ⊎_elim
-    (λ (j : 36 ≤ op). run second_width 0 36 9 op tt j (omega arith))
-    (λ (j : op < 36). run second_width 0 33 2 op tt h (omega arith))
-    (le-or-gt 36 op))
-    (le-or-gt 46 op)
+-- the opcodes with a second operand
+unfoldable pub has-second : ℕ → Bool
+has-second k = eqb k 31 || (eqb k 32 || (eqb k 35 || (eqb k 45)))
+
+second-column : List ℕ
+second-column = map (λ (r : Row). r.second) instruction_table
+
+second_is : (op : ℕ) → get_or second-column op 0 ≡ second_width op
+unfolding second-column second_width row_of
+second_is op = get_or-map (λ (r : Row). r.second) instruction_table op (row "" 0 0 nothing)
+
+second-rule : ℕ → ℕ → Bool
+second-rule k x = eqb x 0 || has-second k
+
+second-within : (op : ℕ) → op < 46 → T (eqb (get_or second-column op 0) 0 || has-second op)
+unfolding second-column second-rule has-second instruction_table
+second-within op h = at second-rule second-column tt op h
+
+second_past : (op : ℕ) → 46 ≤ op → 0 ≡ get_or second-column op 0
+unfolding second-column instruction_table
+second_past op h = sym (get_or-eq_default second-column 0 h)
+
+pub second_none : (op : ℕ) → has-second op ≡ false → 0 ≡ second_width op
+second_none op e = ⊎_elim
+    (λ (h : 46 ≤ op). second_past op h)
+    (λ (h : op < 46). no_key (get_or second-column op 0) (has-second op) (second-within op h) e)
+    (le-or-gt 46 op) ∙ second_is op
 
 -- an instruction without a first operand has no second: the second operand's width where the first's is 0, else 0
 lone : Row → ℕ
@@ -93,25 +104,3 @@ lone-none op = ⊎_elim
 pub no-operands : (op : ℕ) → first_width op ≡ 0 → second_width op ≡ 0
 unfolding lone first_width second_width
 no-operands op e = sym (lone-none op ∙ rw (eq-eqb (row_of op).first 0 e, lone))
-
--- both operands have at most eight bytes
-both-column : List ℕ
-both-column = map (λ (r : Row). r.first + r.second) instruction_table
-
-both-is : (op : ℕ) → get_or both-column op 0 ≡ first_width op + second_width op
-unfolding both-column first_width second_width row_of
-both-is op = get_or-map (λ (r : Row). r.first + r.second) instruction_table op (row "" 0 0 nothing)
-
-both-within : (op : ℕ) → op < 46 → get_or both-column op 0 ≤ 8
-unfolding both-column instruction_table
-both-within op h = leb-true (get_or both-column op 0) 8 (is_true (leb (get_or both-column op 0) 8) (at (λ k x. leb x 8) both-column tt op h))
-
-both-past : (op : ℕ) → 46 ≤ op → get_or both-column op 0 ≤ 8
-unfolding both-column instruction_table
-both-past op h = let e = get_or-eq_default both-column 0 h in omega arith
-
-pub both_widths : (op : ℕ) → first_width op + second_width op ≤ 8
-both_widths op = let e = both-is op in ⊎_elim
-    (λ (h : 46 ≤ op). let k = both-past op h in omega arith)
-    (λ (h : op < 46). let k = both-within op h in omega arith)
-    (le-or-gt 46 op)

@@ -1,16 +1,17 @@
 use native.Mathlib.Omega.{arith}
-use Rattle.definitions.specs.Instruction.{row_of, instruction_table, second_width}
-use Rattle.widths.proofs.Table.{run}
-use Rattle.widths.proofs.Laws.{second_none}
+use borrow.Author.Tests.{ne_eqb}
+use Rattle.definitions.specs.Instruction.{instruction_table, row_of, second_width}
+use Rattle.widths.proofs.Laws.{has-second, second_none}
 use Rattle.widths.proofs.second_width.Goals as goal
 
 pub returns-in_default : goal.returns-in_default
-unfolding second_width row_of instruction_table
-returns-in_default c = (run second_width 0 0 31 c.args.op tt (omega arith) (omega arith), omega arith)
-
-pub returns-in_default-2 : goal.returns-in_default-2
-returns-in_default-2 c = (second_none c.args.op (omega arith) (λ e. grind arith) (λ e. grind arith), omega arith)
-
-pub returns-in-31-2 : goal.returns-in-31-2
-unfolding second_width row_of instruction_table
-returns-in-31-2 c = (run second_width 1 31 2 c.args.op tt (omega arith) (omega arith), omega arith)
+unfolding second_width row_of instruction_table has-second
+returns-in_default c = let n = c.in_default.in_default-own.rest in let k = c.args.op in (
+  second_none k (simp (
+    ne_eqb k 31 n.0.0.0.1,
+    ne_eqb k 32 n.0.0.1,
+    ne_eqb k 35 n.0.1,
+    ne_eqb k 45 n.1,
+  )),
+  omega arith,
+)

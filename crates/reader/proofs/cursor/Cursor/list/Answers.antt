@@ -15,14 +15,14 @@ returns-in_err-count g c = λ step h.
 
 pub returns-in_err-each : goal.returns-in_err-each
 returns-in_err-each g c = λ step h.
-    let s = c.args.self.now in let t = s.bytes.now in let l = c.loop.self in let i = c.loop.invariant step h in let k = c.in_ok-count.ensures in
-    none-steps (λ t. list_by (step t) t) c.from_residual-in_err-each.result s c.each.new.arg2 c.from_residual-in_err-each.ensures
+    let s = c.args.self.now in let t = s.bytes.now in let l = c.loop.c in let i = c.loop.invariant step h in let k = c.in_ok-count.ensures in
+    none-steps (λ t. list_by (step t) t) c.from_residual-in_err-each.result s c.number.new.self c.from_residual-in_err-each.ensures
     (list-starts (step t) t s.at c.in_ok-count.count k.0.room k.1 ∙ i.1
     ∙ steps-stop (step t) _ l.at (let m = c.loop-test.true in omega arith) (ap (λ (u : List ℕ). step u l.at) (sym i.0) ∙ h _ None _ c.in_err-each.ensures))
 
 pub loop-preserved : goal.loop-preserved
 loop-preserved g c = λ step h.
-    let t = c.args.self.now.bytes.now in let l = c.loop.self in let i = c.loop.invariant step h in let e = c.each.new.arg2 in
+    let t = c.args.self.now.bytes.now in let l = c.loop.c in let i = c.loop.invariant step h in let e = c.each.new.arg2 in
     let q = h _ (Some tt) _ c.in_ok-each.ensures in (
       q.bytes ∙ i.0,
       i.1 ∙ steps-next (step t) _ l.at e.at (let m = c.loop-test.true in omega arith) (ap (λ (u : List ℕ). step u l.at) (sym i.0) ∙ q.to)
@@ -31,5 +31,5 @@ loop-preserved g c = λ step h.
 
 pub returns : goal.returns
 returns g c = λ step h.
-    let s = c.args.self.now in let t = s.bytes.now in let l = c.loop.self in let i = c.loop.invariant step h in let k = c.in_ok-count.ensures in
+    let s = c.args.self.now in let t = s.bytes.now in let l = c.loop.c in let i = c.loop.invariant step h in let k = c.in_ok-count.ensures in
     record { bytes = i.0; to = list-starts (step t) t s.at c.in_ok-count.count k.0.room k.1 ∙ i.1 ∙ steps-end (step t) _ l.at (let m = c.loop-test.false in omega arith) }

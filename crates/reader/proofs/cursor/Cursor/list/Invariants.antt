@@ -11,5 +11,5 @@ use Rattle.reader.proofs.cursor.Cursor.list.Given as goal
 abbrev pub invariant-loop : goal.invariant-loop
 invariant-loop g l =
     (step : List ℕ → ℕ → Option ℕ) → ((c : MutBor Cursor) (r : Option (Unit {0})) (d : MutBor Cursor) → goal.F-post g l.each c r d → Steps step r c.now d.now)
-    → (l.self.bytes.now ≡ l.fn.self.bytes.now)
-    × (steps_by (step l.fn.self.bytes.now) l.count (l.fn.self.at + 2) ≡ steps_by (step l.fn.self.bytes.now) (l.count - l.counter) l.self.at)
+    → (l.c.bytes.now ≡ l.fn.self.bytes.now)
+    × (steps_by (step l.fn.self.bytes.now) l.count (l.fn.self.at + 2) ≡ steps_by (step l.fn.self.bytes.now) (l.count - l.counter) l.c.at)
