@@ -1,9 +1,10 @@
 #!/usr/bin/env python3
 """Holds the definitions against the vectors by computing.
 
-Makes a copy of crates/definitions in a temporary folder, adds a module of
-theorems `definition of this record ≡ answer of the vectors`, each proved by
-computing alone, and has rt check it. Long records are left to the programs.
+Makes a copy of crates/definitions in a temporary folder, with a module of
+theorems `definition of this record ≡ answer of the vectors` in the place of its
+proofs, each proved by computing alone, and has rt check it. Long records are
+left to the programs.
 The last line is 'N passed, M failed'.
 """
 
@@ -97,12 +98,12 @@ def main():
     with tempfile.TemporaryDirectory() as folder:
         copy = pathlib.Path(folder)
         crate = copy / "crates" / "definitions"
-        shutil.copytree(ROOT / "crates" / "definitions", crate, ignore=shutil.ignore_patterns("must-fail", "out"))
+        shutil.copytree(ROOT / "crates" / "definitions", crate, ignore=shutil.ignore_patterns("must-fail", "out", "proofs"))
         (copy / "crates.txt").write_text("definitions:\n", encoding="ascii")
         proofs = crate / "proofs"
+        proofs.mkdir()
         (proofs / "Vectors.antt").write_text(theorems(tests), encoding="utf-8")
-        with open(proofs / "Lib.antt", "a", encoding="utf-8") as file:
-            file.write("pub mod Vectors\n")
+        (proofs / "Lib.antt").write_text("pub mod Vectors\n", encoding="utf-8")
         result = subprocess.run(["rt", "check"], cwd=crate, capture_output=True, text=True, check=False)
     good = result.returncode == 0 and "logic=proved" in result.stdout
     if not good:

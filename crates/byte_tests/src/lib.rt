@@ -8,7 +8,7 @@ ghost use Rattle.definitions.specs.Wellformed.{letter, digit, is_name};
 // A name's greatest length.
 const MOST_BYTES: usize = 64;
 
-// Whether the two are the same bytes. By `==`, which is made for long slices, a search among names, which are short, takes up to twice as long.
+// Whether the two are the same bytes. Tried with `==`, which is made for long slices: a search among names, which are short, takes up to twice as long.
 pub fn same_bytes(a: &[u8], b: &[u8]) -> bool
     ensures { result ≡ same a.now b.now }
 {

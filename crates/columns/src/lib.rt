@@ -36,59 +36,36 @@ fn hex_digit(d: u64) -> u8
     }
 }
 
-// The last byte of a field, and what it shows before that. Tried with guards in the arms, which test the field twice: a field takes a third longer.
+// The last byte of a field, and what it shows before that. Tried with guards and a 0 in the arms, which test the field twice: a field takes a third longer.
 fn last_of(f: Field) -> Last
     ensures { Splits f result }
 {
-    match f {
-        Field::Blank => Last {
-            byte: b' ',
-            rest: Field::Blank,
-        },
-        Field::Minus => Last {
-            byte: b'-',
-            rest: Field::Blank,
-        },
+    let (byte, rest) = match f {
+        Field::Blank => (b' ', Field::Blank),
+        Field::Minus => (b'-', Field::Blank),
         Field::Digits(n) => {
             if n < 10 {
-                Last {
-                    byte: b'0' + n as u8,
-                    rest: Field::Blank,
-                }
+                (b'0' + n as u8, Field::Blank)
             } else {
-                Last {
-                    byte: b'0' + (n % 10) as u8,
-                    rest: Field::Digits(n / 10),
-                }
+                (b'0' + (n % 10) as u8, Field::Digits(n / 10))
             }
         }
         Field::Negative(n) => {
             if n < 10 {
-                Last {
-                    byte: b'0' + n as u8,
-                    rest: Field::Minus,
-                }
+                (b'0' + n as u8, Field::Minus)
             } else {
-                Last {
-                    byte: b'0' + (n % 10) as u8,
-                    rest: Field::Negative(n / 10),
-                }
+                (b'0' + (n % 10) as u8, Field::Negative(n / 10))
             }
         }
         Field::Bits(w, n) => {
             if w == 0 {
-                Last {
-                    byte: b' ',
-                    rest: Field::Blank,
-                }
+                (b' ', Field::Blank)
             } else {
-                Last {
-                    byte: hex_digit(n % 16),
-                    rest: Field::Bits(w - 1, n / 16),
-                }
+                (hex_digit(n % 16), Field::Bits(w - 1, n / 16))
             }
         }
-    }
+    };
+    Last { byte, rest }
 }
 
 // A field of w columns, from its last byte to its first; what it does not show is spaces.

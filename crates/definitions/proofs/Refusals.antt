@@ -13,10 +13,11 @@ use Rattle.definitions.specs.Parse.{block_of, parse_stmt, whole_block, read_tree
 use Rattle.definitions.specs.Wellformed.{ask_block, block_questions, first_no, refused_by, well_formed}
 use Rattle.definitions.specs.Tables.{Tables}
 use Rattle.definitions.specs.Lower.{compile}
-use Rattle.definitions.specs.Module.{Limits, module_bytes, slots_fit, tables_fit, fits, lower_block, lower_tables, lower_bytes}
+use Rattle.definitions.specs.Module.{Limits, module_bytes, slots_fit, tables_fit, fits, lower_formed, lower_block, lower_bytes}
 use Rattle.definitions.specs.Calls.{areas_fit, fits_room, lower_answer}
 use Rattle.definitions.specs.Statements.{parsed, head_counts, reads_whole, not_too_deep, block_read, module_of, Question, lower_questions, first_refusal, Refusals}
 use Rattle.definitions.proofs.Truth.{is_true}
+use Rattle.definitions.proofs.Accepted.{tables-read}
 use Rattle.definitions.proofs.Fails.{FiveOrSix, five, six, fails-tree}
 
 -- ---- questions one after another
@@ -117,7 +118,7 @@ module _ (l : Limits) (room : ℕ) where
   finish-asked t = simp (fits-asked, when-ask, room-asked)
 
   finish-block : (b : Block) → finish (lower_block l b) ≡ asks (λ q. ask_block q false b) block_questions (finish (fits l (compile b).tables))
-  unfolding finish lower_block well_formed when_accepted
+  unfolding finish lower_block lower_formed well_formed when_accepted
   finish-block b = rw (asks-is, when-asks, when-asks, when-asks)
 
   finish-tree : (tree : List ℕ)
@@ -140,6 +141,6 @@ first-is [] a = refl
 first-is (q ∷ qs) a = ask-is q.yes q.number (first_refusal qs a) ∙ ap (ask q.yes q.number) (first-is qs a)
 
 pub refusals : Refusals
-unfolding lower_answer lower_bytes lower_tables finish lower_questions questioned block_questions asks module_of
+unfolding lower_answer lower_bytes finish lower_questions questioned block_questions asks module_of
 refusals l m n room tree =
-    rw first-is (ask-is (areas_fit m n) 1 _ ∙ ap (ask (areas_fit m n) 1) (rw (finish-tree, finish-block, finish-asked)))
+    rw first-is (ask-is (areas_fit m n) 1 _ ∙ ap (ask (areas_fit m n) 1) (rw (tables-read, finish-tree, finish-block, finish-asked)))

@@ -5,9 +5,9 @@ use mathlib.Core.Bool.{Bool, true, false}
 use mathlib.Core.Option.{Option, none, some}
 use mathlib.Core.List.{List}
 use native.Mathlib.Omega.{arith}
-use lib.ListN.{length, set, drop, length-append}
+use lib.ListN.{length, drop, length-append}
 use lib.Dec.{leb}
-use borrow.Author.Tests.{le-leb, lt-leb, leb-true}
+use borrow.Author.Tests.{leb-true}
 use Rattle.definitions.specs.Bytes.{Answer, refused, accepted, when_accepted}
 use Rattle.definitions.specs.Instruction.{Instr}
 use Rattle.definitions.specs.Tables.{Tables}
@@ -25,20 +25,22 @@ use Rattle.lowering.specs.Lowered.{said as lowered, Lowers as Lowered'}
 use Rattle.reader.specs.View.{said as read_said, said_part, CodeAt, Known, Locates}
 use Rattle.reader.specs.declared.Part.{Part}
 use Rattle.tally.specs.Listed.{said as text_said, Printed}
-use Rattle.run.specs.Pass.{said as ran_said, Called, ending_number, counts as ran_counts}
+use Rattle.run.specs.Pass.{said as ran_said, Called}
 use Rattle.run.specs.declared.Ran.{Ran as RanSo}
-use Rattle.exports.specs.Told.{told, told_count, told_part, four_in, counts_in, Tellable, Lowers, Prints, Runs, told_found, Seeks}
+use Rattle.told.specs.Tells.{asked, counted, found, Few, FewFound}
+use Rattle.told.specs.Tells.{counts_in as counts_by}
+use Rattle.exports.specs.Told.{told, told_count, told_part, counts_in, Lowers, Prints, Runs, told_found, Seeks}
 use Rattle.reach.specs.Reaching.{said as reach_said, Gives}
 
 -- ---- a tree
 
-pub check-yes : (r : Result (Unit {0}) Question) (t : List ℕ) (u : Unit {0}) → said r ≡ settled t → r ≡ Ok u → 0 ≡ told (settled t)
-unfolding told said
-check-yes r t u e f = ap told (sym (ap said f) ∙ e)
+asked-said : (r : Result (Unit {0}) Question) → asked r ≡ told (said r)
+unfolding asked told said
+asked-said (Ok u) = refl
+asked-said (Err q) = refl
 
-pub check-no : (r : Result (Unit {0}) Question) (t : List ℕ) (q : Question) → said r ≡ settled t → r ≡ Err q → number q ≡ told (settled t)
-unfolding told said
-check-no r t q e f = ap told (sym (ap said f) ∙ e)
+pub check-told : (r : Result (Unit {0}) Question) (t : List ℕ) → said r ≡ settled t → asked r ≡ told (settled t)
+check-told r t e = asked-said r ∙ ap told e
 
 -- ---- a tree's module
 
@@ -58,36 +60,36 @@ unfolding count_answer when_accepted
 answer-count l room n tree true e = bytes_count room n (lower_bytes l tree) e
 answer-count l room n tree false e = let z : ◌≡◌ {A = ℕ} 0 1 = cc in absurd (omega arith)
 
+counted-lowered : (r : Result ℕ Question) → counted r ≡ told_count (lowered r)
+unfolding counted told_count lowered
+counted-lowered (Ok n) = refl
+counted-lowered (Err q) = refl
+
 module _ (r : Result ℕ Question) (k l : Limits) (e : k ≡ l) (tree area₁ area₂ out area₁' area₂' out' : List ℕ) (L : Lowered' r area₁' area₂' out' (lower_call k tree area₁ area₂ out)) where
-  pub lowered-fits : (n : ℕ) → r ≡ Ok n → n ≤ length out
+  lowered-fits : (n : ℕ) → r ≡ Ok n → n ≤ length out
   unfolding lowered lower_call lower_answer
   lowered-fits n h = answer-count k (length out) n tree (areas_fit (length area₁) (length area₂)) (sym L.answer ∙ ap lowered h)
+
+  pub lowered-few : length out < 2 ^ 63 → Few r
+  lowered-few h n e = let k = lowered-fits n e in omega arith
 
   abbrev want : Lowering
   want = lower_call l tree area₁ area₂ out
 
-  lowers-as : (x : ℕ) → x ≡ told_count (lowered r) → Lowers x want area₁' area₂' out'
-  lowers-as x h =
+  pub lowered-told : (x : ℕ) → x ≡ counted r → Lowers x want area₁' area₂' out'
+  lowered-told x h =
       let w : lower_call k tree area₁ area₂ out ≡ want = ap (λ (m : Limits). lower_call m tree area₁ area₂ out) e in
-      subst (λ (v : Lowering). Lowers x v area₁' area₂' out') w (record { answer = h ∙ ap told_count L.answer; first = L.first; second = L.second; output = L.output })
-
-  pub lowered-yes : (n : ℕ) → r ≡ Ok n → Lowers (4294967296 + n) want area₁' area₂' out'
-  unfolding lowered told_count
-  lowered-yes n h = lowers-as (4294967296 + n) (ap (λ (x : Result ℕ Question). told_count (lowered x)) (sym h))
-
-  pub lowered-no : (q : Question) → r ≡ Err q → (n : ℕ) → n ≡ number q → Lowers n want area₁' area₂' out'
-  unfolding lowered told_count
-  lowered-no q h n e = lowers-as n (e ∙ ap (λ (x : Result ℕ Question). told_count (lowered x)) (sym h))
+      subst (λ (v : Lowering). Lowers x v area₁' area₂' out') w (record { answer = h ∙ counted-lowered r ∙ ap told_count L.answer; first = L.first; second = L.second; output = L.output })
 
 -- ---- a module
 
-pub read-yes : {A : Type 0} (x : A) (r : Result A Question) (a : Answer (Unit {0})) → read_said r ≡ a → r ≡ Ok x → 0 ≡ told a
-unfolding told read_said
-read-yes x r a e f = ap told (sym (ap read_said f) ∙ e)
+asked-read : {A : Type 0} (r : Result A Question) → asked r ≡ told (read_said r)
+unfolding asked told read_said
+asked-read (Ok x) = refl
+asked-read (Err q) = refl
 
-pub read_no : {A : Type 0} (r : Result A Question) (a : Answer (Unit {0})) (q : Question) → read_said r ≡ a → r ≡ Err q → number q ≡ told a
-unfolding told read_said
-read_no r a q e f = ap told (sym (ap read_said f) ∙ e)
+pub read-told : {A : Type 0} (r : Result A Question) (a : Answer (Unit {0})) → read_said r ≡ a → asked r ≡ told a
+read-told r a e = asked-read r ∙ ap told e
 
 -- ---- a function's code
 
@@ -109,17 +111,10 @@ code-no r t f q L e = ap told_part (sym (ap said_part e) ∙ L.is)
 
 -- ---- a text about a module
 
-pub tell-few : (r : Result ℕ Question) (n : ℕ) → Tellable (text_said r) → r ≡ Ok n → n < 2 ^ 63
-unfolding text_said
-tell-few r n h e = h n (ap text_said e)
-
-pub tell_yes : (r : Result ℕ Question) (n : ℕ) → r ≡ Ok n → 4294967296 + n ≡ told_count (text_said r)
-unfolding text_said told_count
-tell_yes r n e = sym (ap (λ (x : Result ℕ Question). told_count (text_said x)) e)
-
-pub tell_no : (r : Result ℕ Question) (q : Question) → r ≡ Err q → number q ≡ told_count (text_said r)
-unfolding text_said told_count
-tell_no r q e = sym (ap (λ (x : Result ℕ Question). told_count (text_said x)) e)
+counted-text : (r : Result ℕ Question) → counted r ≡ told_count (text_said r)
+unfolding counted told_count text_said
+counted-text (Ok n) = refl
+counted-text (Err q) = refl
 
 -- what is written fits the output
 module _ (q : ℕ) (f : Tables → List ℕ) (r : Result ℕ Question) (t out out' : List ℕ) (L : Printed r (text_call q f t out) out') where
@@ -131,35 +126,28 @@ module _ (q : ℕ) (f : Tables → List ℕ) (r : Result ℕ Question) (t out ou
       go (refused p) k = let z : ◌≡◌ {A = ℕ} 0 1 = cc in absurd (omega arith)
       go (accepted x) k = room-count q (length out) (f x) n (leb (length (f x)) (length out)) refl k
 
-  pub text-few : length out < 2 ^ 63 → Tellable (text_said r)
-  text-few h n e = let k = text-fits n e in omega arith
+  pub text-few : length out < 2 ^ 63 → Few r
+  unfolding text_said
+  text-few h n e = let k = text-fits n (ap text_said e) in omega arith
 
-  pub text-told : (a : ℕ) → a ≡ told_count (text_said r) → Prints a (text_call q f t out) out'
-  text-told a e = record { answer = e ∙ ap told_count L.answer; output = L.output }
+  pub text-told : (a : ℕ) → a ≡ counted r → Prints a (text_call q f t out) out'
+  text-told a e = record { answer = e ∙ counted-text r ∙ ap told_count L.answer; output = L.output }
 
 -- ---- a run
 
-pub four-none : (a b c d : ℕ) (xs : List ℕ) → length xs < 4 → xs ≡ four_in a b c d xs
-unfolding four_in
-four-none a b c d xs h = rw (lt-leb 4 (length xs) h, four_in)
+asked-ran : (r : Result RanSo Question) → asked r ≡ told (ran_said r)
+unfolding asked told ran_said
+asked-ran (Ok n) = refl
+asked-ran (Err q) = refl
 
-pub four-all : (a b c d : ℕ) (xs : List ℕ) → 4 ≤ length xs → set (set (set (set xs 0 a) 1 b) 2 c) 3 d ≡ four_in a b c d xs
-unfolding four_in
-four-all a b c d xs h = rw (le-leb 4 (length xs) h, four_in)
+counts-ran : (r : Result RanSo Question) (xs : List ℕ) → counts_by r xs ≡ counts_in (ran_said r) xs
+unfolding counts_by counts_in ran_said
+counts-ran (Ok n) xs = refl
+counts-ran (Err q) xs = refl
 
-pub runs-yes : (r : Result RanSo Question) (want : Running) (left numbers numbers' : List ℕ) (n : RanSo) → Called r want left → r ≡ Ok n → {e : ℕ} → e ≡ ending_number n.ending
-    → numbers' ≡ four_in e n.steps n.used n.written numbers → Runs 0 want left numbers numbers'
-unfolding ran_said told counts_in
-runs-yes r want left numbers numbers' n C f g h =
-    let k : accepted (ran_counts n) ≡ want.answer = sym (ap ran_said f) ∙ C.says in
-    record { answer = ap told k; buffer = C.leaves; counts = h ∙ ap (λ (x : ℕ). four_in x n.steps n.used n.written numbers) g ∙ ap (λ (a : Answer Counts). counts_in a numbers) k }
-
-pub runs-no : (r : Result RanSo Question) (want : Running) (left numbers numbers' : List ℕ) (q : Question) → Called r want left → r ≡ Err q → {a : ℕ} → a ≡ number q
-    → numbers' ≡ four_in 0 0 0 0 numbers → Runs a want left numbers numbers'
-unfolding ran_said told counts_in
-runs-no r want left numbers numbers' q C f g n =
-    let k : refused (number q) ≡ want.answer = sym (ap ran_said f) ∙ C.says in
-    record { answer = g ∙ ap told k; buffer = C.leaves; counts = n ∙ ap (λ (a : Answer Counts). counts_in a numbers) k }
+pub runs-told : (r : Result RanSo Question) (want : Running) (left numbers numbers' : List ℕ) → Called r want left → {a : ℕ} → a ≡ asked r → numbers' ≡ counts_by r numbers → Runs a want left numbers numbers'
+runs-told r want left numbers numbers' C f g =
+    record { answer = f ∙ asked-ran r ∙ ap told C.says; buffer = C.leaves; counts = g ∙ counts-ran r numbers ∙ ap (λ (a : Answer Counts). counts_in a numbers) C.says }
 
 -- ---- a place
 
@@ -171,23 +159,20 @@ found-fits (accepted code) none n out out' e f l = let z : ◌≡◌ {A = ℕ} 0
 found-fits (accepted code) (some ys) n out out' e f l =
     let x : n ≡ length ys = cc in let y = ap length f ∙ length-append ys (drop (length ys) out) in omega arith
 
+found-said : (r : Result (Opt ℕ) Question) → found r ≡ told_found (reach_said r)
+unfolding found told_found reach_said
+found-said (Ok (Some n)) = refl
+found-said (Ok None) = refl
+found-said (Err q) = refl
+
 module _ (r : Result (Opt ℕ) Question) {bytes : List ℕ} {function place : ℕ} {area area' out out' : List ℕ} (R : Gives r bytes function place area area' out out') where
-  pub reached-fits : (n : ℕ) → r ≡ Ok (Some n) → length out' ≡ length out → n ≤ length out
+  reached-fits : (n : ℕ) → r ≡ Ok (Some n) → length out' ≡ length out → n ≤ length out
   unfolding reach_said reach_call
   reached-fits n e l =
       found-fits (sought (length area) bytes function place (length out)) R.found n out out' (sym (ap reach_said e) ∙ ap (λ (x : Reaching). x.answer) R.is) (ap (λ (x : Reaching). x.buffer) R.is) l
 
-  seeks-as : (m : ℕ) → m ≡ told_found (reach_said r) → Seeks m bytes function place area area' out out'
-  seeks-as m e = record { given = record { answer = reach_said r; area = area'; buffer = out' }; call = R; answer = e; left = refl; buffer = refl }
+  pub reached-few : length out' ≡ length out → length out < 2 ^ 63 → FewFound r
+  reached-few l h n e = let k = reached-fits n e l in omega arith
 
-  pub reached-list : (n : ℕ) → r ≡ Ok (Some n) → Seeks (4294967296 + n) bytes function place area area' out out'
-  unfolding reach_said told_found
-  reached-list n e = seeks-as (4294967296 + n) (ap (λ (x : Result (Opt ℕ) Question). told_found (reach_said x)) (sym e))
-
-  pub reached-none : r ≡ Ok None → Seeks 8589934592 bytes function place area area' out out'
-  unfolding reach_said told_found
-  reached-none e = seeks-as 8589934592 (ap (λ (x : Result (Opt ℕ) Question). told_found (reach_said x)) (sym e))
-
-  pub reached-not : (q : Question) → r ≡ Err q → {a : ℕ} → a ≡ number q → Seeks a bytes function place area area' out out'
-  unfolding reach_said told_found
-  reached-not q e {a} f = seeks-as a (f ∙ ap (λ (x : Result (Opt ℕ) Question). told_found (reach_said x)) (sym e))
+  pub seeks-told : (m : ℕ) → m ≡ found r → Seeks m bytes function place area area' out out'
+  seeks-told m e = record { given = record { answer = reach_said r; area = area'; buffer = out' }; call = R; answer = e ∙ found-said r; left = refl; buffer = refl }

@@ -16,12 +16,12 @@ use Rattle.definitions.specs.Parse.{by_kind, expr_kinds, parse_expr}
 use Rattle.definitions.specs.Tree.{none_l, int_l, float_l, string_l, Expr, lit}
 use Rattle.numerals.specs.Kinds.{expr_byte}
 use Rattle.numerals.specs.declared.kinds.ExprKind.{ExprKind}
-use Rattle.numerals.specs.declared.kinds.ExprKind.TheVariants.{NoneLiteral, False, True, Int as IntKind, Float as FloatKind}
+use Rattle.numerals.specs.declared.kinds.ExprKind.TheVariants.{Int as IntKind, Float as FloatKind}
 use Rattle.parts.specs.Places.{Node, node_of, node_at, is_got, count_at, Counted, eight_at, text_at}
 use Rattle.parts.proofs.Laws.{at_byte, kind-of}
 use Rattle.parts.proofs.Nodes.{Seen, got-node}
 use Rattle.exprs.specs.ExprAt.{expr_at, ExprReads, int_at, float_at, string_at}
-use Rattle.exprs.specs.Literals.{literal_of, Plain, TextPlace, bits_of, LiteralAt, Stands}
+use Rattle.exprs.specs.Literals.{literal_of, kind_byte, Plain, TextPlace, bits_of, LiteralAt, Stands}
 use Rattle.exprs.specs.declared.literals.Literal.{Literal}
 use Rattle.exprs.specs.declared.literals.Literal.TheVariants.{None, Bool as Truth, Int, Float, Nan, Text}
 use Rattle.exprs.proofs.ExprLaws.{deep-E}
@@ -102,17 +102,16 @@ module _ (t : List ℕ) (p : ℕ) (h : LiteralAt t p) where
   no-text-float (Nan bits) n e = tt
   no-text-float (Text start len) n e = let z : ◌≡◌ {A = ℕ} 0 1 = cc in absurd (omega arith)
 
-  pub is_none : get_or t p 0 ≡ 0 → (lit (literal_of t None) ≡ (expr_at 1 t p).value) × Plain None × TextPlace t p None
-  unfolding literal_of Plain TextPlace
-  is_none e = (sym (ap (λ (x : Node Expr). x.value) (view-none 1 t p h.reads e)), tt, tt)
-
-  pub is_false : get_or t p 0 ≡ 1 → (lit (literal_of t (Truth false)) ≡ (expr_at 1 t p).value) × Plain (Truth false) × TextPlace t p (Truth false)
-  unfolding literal_of Plain TextPlace
-  is_false e = (sym (ap (λ (x : Node Expr). x.value) (view-false 1 t p h.reads e)), tt, tt)
-
-  pub is_true : get_or t p 0 ≡ 2 → (lit (literal_of t (Truth true)) ≡ (expr_at 1 t p).value) × Plain (Truth true) × TextPlace t p (Truth true)
-  unfolding literal_of Plain TextPlace
-  is_true e = (sym (ap (λ (x : Node Expr). x.value) (view-true 1 t p h.reads e)), tt, tt)
+  -- None, False or True, by the byte of its kind
+  pub is-constant : (x : Literal) → kind_byte x ≡ get_or t p 0 → get_or t p 0 < 3 → (lit (literal_of t x) ≡ (expr_at 1 t p).value) × Plain x × TextPlace t p x
+  unfolding kind_byte literal_of Plain TextPlace
+  is-constant None e k = (sym (ap (λ (x : Node Expr). x.value) (view-none 1 t p h.reads (sym e))), tt, tt)
+  is-constant (Truth false) e k = (sym (ap (λ (x : Node Expr). x.value) (view-false 1 t p h.reads (sym e))), tt, tt)
+  is-constant (Truth true) e k = (sym (ap (λ (x : Node Expr). x.value) (view-true 1 t p h.reads (sym e))), tt, tt)
+  is-constant (Int z) e k = absurd (omega arith)
+  is-constant (Float x) e k = absurd (omega arith)
+  is-constant (Nan bits) e k = absurd (omega arith)
+  is-constant (Text start len) e k = absurd (omega arith)
 
   pub is-int : (l : Literal) (n : ℕ) → get_or t p 0 ≡ 3 → n ≡ eight_at t (p + 1) → ((t : List ℕ) → Stands t l (int_l n)) → (lit (literal_of t l) ≡ (expr_at 1 t p).value) × Plain l × TextPlace t p l
   unfolding int_at
@@ -122,9 +121,9 @@ module _ (t : List ℕ) (p : ℕ) (h : LiteralAt t p) where
   unfolding float_at
   is-float l n e f s = (ap lit ((s t).is ∙ ap float_l f) ∙ sym (ap (λ (x : Node Expr). x.value) (view-float 1 t p h.reads e).is), (s t).plain, no-text-float l n (s t).is)
 
-  pub text-kind : (k : ExprKind) → expr_byte k ≡ get_or t p 0 → (k ≡ NoneLiteral → ⊥) → (k ≡ False → ⊥) → (k ≡ True → ⊥) → (k ≡ IntKind → ⊥) → (k ≡ FloatKind → ⊥) → get_or t p 0 ≡ 5
+  pub text-kind : (k : ExprKind) → expr_byte k ≡ get_or t p 0 → 2 < expr_byte k → (k ≡ IntKind → ⊥) → (k ≡ FloatKind → ⊥) → get_or t p 0 ≡ 5
   unfolding expr_byte
-  text-kind k i a b c d e = let l = h.kind in grind arith
+  text-kind k i a d e = let l = h.kind in grind arith
 
   module _ (e : get_or t p 0 ≡ 5) where
     pub text-counted : Counted t (p + 1)

@@ -1,5 +1,5 @@
 -- What the code's literals stand for.
-use Rattle.std.specs.Prelude.{ℕ, ◌+◌, ◌%◌, ◌<◌, ◌≡◌, not, List, T, take, drop, get_or}
+use Rattle.std.specs.Prelude.{ℕ, ◌+◌, ◌%◌, ◌<◌, ◌≡◌, not, cond, List, T, take, drop, get_or}
 use Rattle.std.specs.Float.{binary64}
 use Rattle.std.specs.Float.Ieee.{to_bits, is_nan}
 use Rattle.std.specs.Int.{w64}
@@ -19,6 +19,15 @@ literal_of t (Int z) = int_l (of_z w64 z)
 literal_of t (Float x) = float_l (to_bits binary64 x)
 literal_of t (Nan bits) = float_l bits
 literal_of t (Text start len) = string_l (take len (drop start t))
+
+-- the byte of a literal's kind
+unfoldable pub kind_byte : Literal → ℕ
+kind_byte None = 0
+kind_byte (Truth b) = cond b 2 1
+kind_byte (Int z) = 3
+kind_byte (Float x) = 4
+kind_byte (Nan bits) = 4
+kind_byte (Text start len) = 5
 
 -- a float in the case `Float` is no NaN, and the bits in the case `Nan` are a NaN's: above those of infinity, but for the sign
 unfoldable pub Plain : Literal → Type 0

@@ -1,9 +1,10 @@
 // The literals of a tree.
-ghost use Rattle.std.specs.Prelude.{◌≡◌, List, ℕ, ◌+◌, ◌≤◌, length};
+ghost use Rattle.std.specs.Prelude.{◌≡◌, List, ℕ, ◌+◌, ◌≤◌, ◌<◌, length, MatchOption};
 ghost use Rattle.definitions.specs.Tree.{int_l, float_l, lit};
+ghost use Rattle.numerals.specs.Kinds.{expr_byte};
 ghost use Rattle.parts.specs.Places.{eight_at};
 ghost use Rattle.exprs.specs.ExprAt.{expr_at};
-ghost use Rattle.exprs.specs.Literals.{literal_of, Plain, TextPlace, bits_of, LiteralAt, Stands};
+ghost use Rattle.exprs.specs.Literals.{literal_of, kind_byte, Plain, TextPlace, bits_of, LiteralAt, Stands};
 
 use numerals::kinds::ExprKind;
 use parts::numbers::u16_at;
@@ -52,15 +53,29 @@ pub fn float_literal(bits: u64) -> Literal
     }
 }
 
+// The literal of a kind that is one byte, so None, False or True; none of another kind.
+#[tactic(auto, unfolding(numerals::specs::Kinds::expr_byte, crate::specs::Literals::kind_byte))]
+pub fn constant_of(kind: ExprKind) -> Option<Literal>
+    ensures { MatchOption result (2 < expr_byte kind) (λ x. (expr_byte kind < 3) × (kind_byte x ≡ expr_byte kind)) }
+{
+    match kind {
+        ExprKind::NoneLiteral => Some(Literal::None),
+        ExprKind::False => Some(Literal::Bool(false)),
+        ExprKind::True => Some(Literal::Bool(true)),
+        _ => None,
+    }
+}
+
 // The literal whose kind byte is at `at`.
 pub fn literal_at(tree: &[u8], at: usize) -> Literal
     requires { LiteralAt tree.now at }
     ensures { (lit (literal_of tree.now result) ≡ (expr_at 1 tree.now at).value) × Plain result × TextPlace tree.now at result }
 {
-    match ExprKind::of(tree[at]) {
-        ExprKind::NoneLiteral => Literal::None,
-        ExprKind::False => Literal::Bool(false),
-        ExprKind::True => Literal::Bool(true),
+    let kind = ExprKind::of(tree[at]);
+    if let Some(x) = constant_of(kind) {
+        return x;
+    }
+    match kind {
         ExprKind::Int => int_literal(eight_at(tree, at + 1)),
         ExprKind::Float => float_literal(eight_at(tree, at + 1)),
         _ => Literal::Text {

@@ -1,7 +1,7 @@
 // An input's bytes and the program's arguments, as many as a buffer has room for.
 #![tactic(auto)]
 
-ghost use Rattle.std.specs.Prelude.{◌≡◌, ◌≤◌, length, IfSome};
+ghost use Rattle.std.specs.Prelude.{◌≡◌, ◌≤◌, length, IfOk};
 
 use std::env::FillError;
 use std::io::Read;
@@ -23,20 +23,11 @@ pub fn read_full<'a, R: Read>(input: &mut R, buf: &'a mut [u8]) -> &'a [u8]
     &buf[..done]
 }
 
-fn has_arg(rt: &impl Env, i: usize) -> bool {
-    !matches!(rt.arg(i, &mut [0; 1]), Err(FillError::NotPresent))
-}
-
-// How many arguments the program has, its own name included.
-pub fn arg_count(rt: &impl Env) -> usize {
-    (0..usize::MAX).take_while(|i| has_arg(rt, *i)).count()
-}
-
 // Argument i, where it is there and no longer than buf.
-pub fn arg<'a>(rt: &impl Env, i: usize, buf: &'a mut [u8]) -> Option<&'a [u8]>
-    ensures size { IfSome result (λ text. length text.now ≤ length buf.old) }
-    ensures begins { IfSome result (λ text. (text.ref_ptr.0 ≡ buf.entry.ref_ptr.0) × (text.ref_ptr.1 ≡ buf.entry.ref_ptr.1)) }
+pub fn arg<'a>(rt: &impl Env, i: usize, buf: &'a mut [u8]) -> Result<&'a [u8], FillError>
+    ensures size { IfOk result (λ text. length text.now ≤ length buf.old) }
+    ensures begins { IfOk result (λ text. (text.ref_ptr.0 ≡ buf.entry.ref_ptr.0) × (text.ref_ptr.1 ≡ buf.entry.ref_ptr.1)) }
 {
-    let n = rt.arg(i, buf).ok()?;
-    Some(&buf[..n])
+    let n = rt.arg(i, buf)?;
+    Ok(&buf[..n])
 }

@@ -60,7 +60,7 @@ pub(crate) fn add_constant(tables: &mut Tables<'_>, i: u32) -> u32
 }
 
 // The function with the name at `at` begins: its number, none where there is no room.
-pub fn begin_named(
+fn begin_named(
     tree: &[u8],
     names: &mut Names<'_>,
     functions: &mut Used<256>,

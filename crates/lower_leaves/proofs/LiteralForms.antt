@@ -1,7 +1,7 @@
 -- A literal's end and code, by what it is.
 use Prim.Native.Nat.{ℕ, zero, suc, ◌+◌, ◌-◌, ◌<◌, ◌≤◌}
-use mathlib.Core.Path.{◌≡◌, refl, sym, ap, ◌∙◌, subst}
-use mathlib.Core.Bool.{Bool, cond}
+use mathlib.Core.Path.{◌≡◌, refl, ap, ◌∙◌, subst}
+use mathlib.Core.Bool.{Bool, true, false}
 use mathlib.Core.Logic.{◌⊎◌, inl, inr}
 use mathlib.Core.List.{List}
 use native.Mathlib.Omega.{arith}
@@ -17,7 +17,7 @@ use Rattle.definitions.specs.Lower.{literal}
 use Rattle.parts.specs.Places as Places
 use Rattle.parts.specs.Places.{Node, node, count_at, Counted}
 use Rattle.exprs.specs.ExprAt.{expr_at, int_at, float_at, string_at}
-use Rattle.exprs.specs.Literals.{literal_of, TextPlace, LiteralAt}
+use Rattle.exprs.specs.Literals.{literal_of, kind_byte, TextPlace, LiteralAt}
 use Rattle.exprs.specs.declared.literals.Literal.{Literal}
 use Rattle.exprs.specs.declared.literals.Literal.TheVariants.{None, Bool as Truth, Int, Float as Double, Nan, Text as Bytestring}
 use Rattle.exprs.proofs.ExprViews.{expr-within, view-none, view-false, view-true, view-int, view-float, view-string}
@@ -68,6 +68,12 @@ module _ (t : List ℕ) (p : ℕ) (l : Tree.Literal) (h : Stands t p l) where
 
 -- ---- the code of each case
 
+pub constant_kind : (x : Literal) → (x ≡ None) ⊎ ((b : Bool) × (x ≡ Truth b)) → kind_byte x < 3
+unfolding kind_byte
+constant_kind x (inl z) = let e = ap kind_byte z in omega arith
+constant_kind x (inr (false, z)) = let e = ap kind_byte z in omega arith
+constant_kind x (inr (true, z)) = let e = ap kind_byte z in omega arith
+
 module _ (t : List ℕ) (p : ℕ) (x : Literal) (h : LiteralAt t p) (e : lit (literal_of t x) ≡ (expr_at 1 t p).value) where
   bytes : Bytes t p (literal_of t x)
   bytes = literal-bytes t p (literal_of t x) (record { at = h; is = e })
@@ -76,13 +82,19 @@ module _ (t : List ℕ) (p : ℕ) (x : Literal) (h : LiteralAt t p) (e : lit (li
   abbrev Is : Emit → ℕ → Type 0
   Is f q = (literal (literal_of t x) ≡ f) × ((expr_at 1 t p).end ≡ q)
 
-  pub none_is : x ≡ None → Is (one (instr 5 0 0)) (p + 1)
-  unfolding literal_of literal Bytes
-  none_is z = (ap (λ (y : Literal). literal (literal_of t y)) z, subst (λ (y : Literal). Bytes t p (literal_of t y)) z bytes)
+  -- None, False or True: the opcode goes by the byte of the kind
+  constant-at : (y : Literal) → x ≡ y → kind_byte y < 3 → Is (one (instr (5 - kind_byte y) 0 0)) (p + 1)
+  unfolding literal_of literal kind_byte Bytes
+  constant-at None z k = (ap (λ (y : Literal). literal (literal_of t y)) z, subst (λ (y : Literal). Bytes t p (literal_of t y)) z bytes)
+  constant-at (Truth false) z k = (ap (λ (y : Literal). literal (literal_of t y)) z, subst (λ (y : Literal). Bytes t p (literal_of t y)) z bytes)
+  constant-at (Truth true) z k = (ap (λ (y : Literal). literal (literal_of t y)) z, subst (λ (y : Literal). Bytes t p (literal_of t y)) z bytes)
+  constant-at (Int n) z k = absurd (omega arith)
+  constant-at (Double n) z k = absurd (omega arith)
+  constant-at (Nan n) z k = absurd (omega arith)
+  constant-at (Bytestring a n) z k = absurd (omega arith)
 
-  pub bool_is : (b : Bool) (op : ℕ) → x ≡ Truth b → op ≡ cond b 3 4 → Is (one (instr op 0 0)) (p + 1)
-  unfolding literal_of literal Bytes
-  bool_is b op z o = (ap (λ (y : Literal). literal (literal_of t y)) z ∙ ap (λ (n : ℕ). one (instr n 0 0)) (sym o), subst (λ (y : Literal). Bytes t p (literal_of t y)) z bytes)
+  pub constant-is : kind_byte x < 3 → Is (one (instr (5 - kind_byte x) 0 0)) (p + 1)
+  constant-is k = constant-at x refl k
 
   pub int_is : (z : ℤ) → x ≡ Int z → Is (one (instr 0 (number_at 8 t (p + 1)) 0)) (p + 9)
   unfolding literal_of literal Bytes

@@ -19,7 +19,7 @@ use numerals::ops::{LOAD_LOCAL, MAKE_CLOSURE, RETURN};
 use state::Scope;
 
 // The next function is a lambda with `locals` slots: its name's symbol, then its number; none where there is no room.
-pub fn begin_lambda(
+fn begin_lambda(
     tree: &[u8],
     names: &mut Names<'_>,
     functions: &mut Used<256>,

@@ -2,24 +2,35 @@
 // A short tree stays a clause of both: a struct with that fact would be made for one call.
 ghost use Rattle.std.specs.Prelude.{◌≡◌, ◌-◌, ◌<◌, ◌≤◌, length, MatchOption};
 ghost use Rattle.numerals.specs.Kinds.{expr_byte};
+ghost use Rattle.exprs.specs.Literals.{kind_byte};
+ghost use Rattle.state.specs.Words.{word};
 ghost use Rattle.lower_leaves.specs.Constants.{Several, Ahead, Run, Constants};
 
+use exprs::literals::{Literal, constant_of};
 use lower_emit::emitter::Code;
 use lower_emit::packed;
 use numerals::kinds::ExprKind;
 use numerals::ops::{FALSE, NONE, TRUE};
 
-// The opcode of None, False or True; none of another kind.
-#[tactic(auto, unfolding(numerals::specs::Kinds::expr_byte))]
-fn constant_op(kind: ExprKind) -> Option<u32>
-    ensures { MatchOption result (2 < expr_byte kind) (λ op. (expr_byte kind < 3) × (op ≡ 5 - expr_byte kind)) }
+// The opcode of None, False or True.
+#[tactic(auto, unfolding(exprs::specs::Literals::kind_byte))]
+pub(crate) fn constant_op(x: Literal) -> u32
+    requires { kind_byte x < 3 }
+    ensures { result ≡ 5 - kind_byte x }
 {
-    match kind {
-        ExprKind::NoneLiteral => Some(NONE),
-        ExprKind::False => Some(FALSE),
-        ExprKind::True => Some(TRUE),
-        _ => None,
+    match x {
+        Literal::Bool(false) => FALSE,
+        Literal::Bool(true) => TRUE,
+        _ => NONE,
     }
+}
+
+// The word of the literal that a kind is, where that is None, False or True; none of another kind.
+fn constant_word(kind: ExprKind) -> Option<u32>
+    ensures { MatchOption result (2 < expr_byte kind) (λ w. (expr_byte kind < 3) × (w ≡ word (5 - expr_byte kind) 0 0)) }
+{
+    let x = constant_of(kind)?;
+    Some(packed(constant_op(x), 0, 0))
 }
 
 // How many expressions, from the first on, are None, False or True: at most one for each of `words`, which become theirs.
@@ -28,10 +39,10 @@ fn run(tree: &[u8], at: usize, words: &mut [u32]) -> usize
     ensures { Run result (length words.old) tree.now at words.old words.new 0 (length words.old) }
 {
     for (i, word) in words.iter_mut().enumerate() {
-        let Some(op) = constant_op(ExprKind::of(tree[at + i])) else {
+        let Some(w) = constant_word(ExprKind::of(tree[at + i])) else {
             return i;
         };
-        *word = packed(op, 0, 0);
+        *word = w;
     }
     words.len()
 }

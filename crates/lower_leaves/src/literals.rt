@@ -7,10 +7,11 @@ ghost use Rattle.exprs.specs.Literals.{literal_of, LiteralAt, Plain, TextPlace};
 ghost use Rattle.lower_names.specs.Naming.{Texts};
 ghost use Rattle.lower_leaves.specs.Literals.{QuotesTo};
 
+use crate::constants::constant_op;
 use exprs::literals::{Literal, literal_bits};
 use lower_emit::emitter::{Code, Entries, Used};
 use lower_names::emit_string;
-use numerals::ops::{CONST_F64, CONST_I64, FALSE, NONE, SMALL_INT, TRUE};
+use numerals::ops::{CONST_F64, CONST_I64, SMALL_INT};
 
 // The literal x whose kind byte is at `at`. An integer of 16 bits stands in its word; of any other and of a float the word keeps the place in the tree,
 // where the module's writer makes the literal again.
@@ -28,9 +29,7 @@ pub fn emit_literal(
 {
     let place = at as u32 + 1;
     match x {
-        Literal::None => code.put_op(NONE, 0, 0).map(|_| at + 1),
-        Literal::Bool(false) => code.put_op(FALSE, 0, 0).map(|_| at + 1),
-        Literal::Bool(true) => code.put_op(TRUE, 0, 0).map(|_| at + 1),
+        Literal::None | Literal::Bool(_) => code.put_op(constant_op(x), 0, 0).map(|_| at + 1),
         Literal::Int(_) => match u16::try_from(literal_bits(x)) {
             Ok(small) => code.put_op(SMALL_INT, small as u32, 0).map(|_| at + 9),
             Err(_) => code.put_op(CONST_I64, place, 0).map(|_| at + 9),

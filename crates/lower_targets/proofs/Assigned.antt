@@ -1,8 +1,7 @@
--- Assignments by the laws of the state: elements of a tuple target, values after an object, and constants.
-use Prim.Native.Nat.{ℕ, ◌+◌, ◌-◌, ◌<◌, ◌≤◌}
-use mathlib.Core.Path.{◌≡◌, refl, sym, ap, subst, ◌∙◌}
+-- Assignments by the laws of the state: elements of a tuple target, and values after an object.
+use Prim.Native.Nat.{ℕ, ◌+◌, ◌-◌, ◌≤◌}
+use mathlib.Core.Path.{◌≡◌, sym, ap, ◌∙◌}
 use mathlib.Core.List.{List, []}
-use native.Mathlib.Omega.{arith}
 use lib.ListN.{length, get_or}
 use Rattle.std.specs.Prelude.{Option, Some}
 use Rattle.definitions.specs.Bytes.{Name}
@@ -11,21 +10,16 @@ use Rattle.definitions.specs.Tables.{Emit, emits, one, intern, ◌⨟◌}
 use Rattle.definitions.specs.Lower.{copy, emit_target, unpack}
 use Rattle.parts.specs.Places.{name_end}
 use Rattle.exprs.specs.ExprAt.{expr_at, ExprReads}
-use Rattle.state.specs.Words.{word, name_at}
+use Rattle.state.specs.Words.{name_at}
 use Rattle.state.specs.State.{State, emit_at}
 use Rattle.state.proofs.Answers.{base-below}
 use Rattle.state.proofs.Emission.{at-nothing, at-seq}
-use Rattle.lower_forms.specs.Lowerable.{Lowerable, expr_code}
+use Rattle.lower_forms.specs.Lowerable.{expr_code}
 use Rattle.lower_forms.specs.Elements.{elements_at, elements_end}
-use Rattle.lower_forms.proofs.Constants.{arm-constant}
-use Rattle.lower_forms.proofs.ExprArms.{lowerable-at}
 use Rattle.lower_forms.proofs.Unpacking.{later_first, none-unpacked, one-unpacked, element-is, target-nothing}
-use Rattle.lower_emit.specs.declared.emitter.Code.{Code}
 use Rattle.lower_emit.specs.declared.emitter.Emitter.{Emitter}
-use Rattle.lower_emit.specs.Emitting.{counts_of, limits_in, state_in, SoundIn, beside, LowersIn, EmitsTo, Puts}
-use Rattle.lower_emit.proofs.Packing.{instr-plain, plain-below}
-use Rattle.lower_emit.proofs.Steps.{put-lifts, lowers-by}
-use Rattle.lower_emit.proofs.Parts.{emits_then, words-end}
+use Rattle.lower_emit.specs.Emitting.{counts_of, limits_in, state_in, SoundIn, EmitsTo}
+use Rattle.lower_emit.proofs.Parts.{emits_then}
 use Rattle.lower_expr.proofs.Words.{emits_at}
 
 module _ {t : List ℕ} {a : Emitter} (S : SoundIn t a) (d : ℕ) (names : List Name) where
@@ -73,31 +67,3 @@ module _ {r q : Option ℕ} {n m : ℕ} {t : List ℕ} {a b c : Emitter} {e : Em
 
   pub index_then : EmitsTo q (index_rest d t names n) (expr_at d t (expr_at (d - 1) t n).end).end t b c → EmitsTo q (e ⨟ index_rest d t names m) (expr_at d t (expr_at (d - 1) t m).end).end t a c
   index_then g = emits_then (λ x. index_rest d t names x) (λ x. (expr_at d t (expr_at (d - 1) t x).end).end) z S h g
-
--- ---- constants
-
--- None, False or True at p, which is q
-module _ {t : List ℕ} {d p q : ℕ} (e : p ≡ q) (v : Lowerable d t q) (h : get_or t p 0 < 3) where
-  here : Lowerable d t p
-  here = lowerable-at d t q p e v
-
-  pub constant-lowers : {A : Type 0} {r : Option A} {a : Emitter} {c : Code} (names : List Name) → SoundIn t a → Puts r (word (5 - get_or t p 0) 0 0) a.code c → LowersIn r (expr_code d t names q) t a (beside c a.tables)
-  constant-lowers names S g =
-      let kind = get_or t p 0 in
-      lowers-by (put-lifts S refl (instr-plain t (5 - kind) 0 0 (plain-below (5 - kind) 0 0 (omega arith) (omega arith) (omega arith) (omega arith))) g)
-      (ap (λ (x : ℕ). expr_code d t names x) (sym e) ∙ (arm-constant d t p here kind refl h).code names)
-
-  pub constant-end : p + 1 ≡ (expr_at d t q).end
-  constant-end = sym (arm-constant d t p here (get_or t p 0) refl h).end ∙ ap (λ (x : ℕ). (expr_at d t x).end) e
-
-  -- put as a word alone: the value, where it has room
-  pub constant-valued : {A : Type 0} {x : A} {r : Option A} {a b : Emitter} {c : Code} {n : ℕ} (names : List Name) → SoundIn t a → r ≡ Some x → Puts r (word (5 - get_or t p 0) 0 0) a.code c
-      → b ≡ beside c a.tables → n ≡ p + 1 → EmitsTo (Some n) (expr_code d t names q) (expr_at d t q).end t a b
-  constant-valued {a = a} {n = n} names S z g k f = subst (λ x. EmitsTo (Some n) (expr_code d t names q) (expr_at d t q).end t a x) (sym k) (words-end z (f ∙ constant-end) (constant-lowers names S g))
-
--- any other value at p, which is q
-pub expr-valued : {t : List ℕ} {p q k n : ℕ} {r : Option ℕ} {a b m : Emitter} (d : ℕ) (names : List Name) → p ≡ q → r ≡ Some k → EmitsTo r (expr_code d t names p) (expr_at d t p).end t a b → m ≡ b → n ≡ k
-    → EmitsTo (Some n) (expr_code d t names q) (expr_at d t q).end t a m
-expr-valued {t} {p} {q} {k} {n} {r} {a} {b} {m} d names e z h f g =
-    let y : r ≡ Some n = z ∙ ap Some (sym g) in
-    subst (λ (w : Type 0). w) (λ i. EmitsTo (y i) (expr_code d t names q) (expr_at d t q).end t a (sym f i)) (expr-by d names e h)

@@ -21,7 +21,7 @@ use lower_expr::emit_expr;
 use lower_leaves::elements::{put_element, skip_exprs};
 use lower_names::{emit_store, emit_symbol};
 use numerals::kinds::ExprKind;
-use numerals::ops::{NONE, STORE_ATTR, STORE_INDEX};
+use numerals::ops::{STORE_ATTR, STORE_INDEX};
 use parts::names::name_end;
 use parts::numbers::u16_at;
 use slots::skip::skip_expr;
@@ -68,21 +68,13 @@ fn emit_elements(
     emit_elements(s, e, at, depth, half, i)
 }
 
-// To the variable whose name is at `at`; None, False or True by a word alone.
+// To the variable whose name is at `at`.
 fn assign_variable(s: Scope<'_>, e: &mut Emitter<'_>, at: usize, depth: u32) -> Option<usize>
     requires { SoleIn s.tree.now e.old × VariableAssigned depth s.tree.now at }
     ensures { let t = s.entry.tree.now in let names = slot_names t s.entry.slots.now in
         EmitsTo result (expr_code depth t names (name_end t at) ⨟ store names (name_at t at)) (expr_at depth t (name_end t at)).end t e.old e.new }
 {
-    let start = name_end(s.tree, at);
-    let byte = s.tree[start];
-    let next = match ExprKind::of(byte) {
-        ExprKind::NoneLiteral | ExprKind::False | ExprKind::True => {
-            e.code.put_op(NONE - byte as u32, 0, 0)?;
-            start + 1
-        }
-        _ => emit_expr(s, e, start, depth)?,
-    };
+    let next = emit_expr(s, e, name_end(s.tree, at), depth)?;
     emit_store(s, e, at)?;
     Some(next)
 }

@@ -32,7 +32,7 @@ use Rattle.questions.specs.declared.Question.{Question}
 use Rattle.questions.specs.declared.Question.TheVariants.{WorkAreas, Slots, Limits as LimitsKept, ModuleRoom}
 use Rattle.questions.specs.Numbers.{number}
 use Rattle.std.specs.Prelude.{Option, Some, None, Result, Ok, Err}
-use Rattle.lowering.proofs.Outcome.{answer-areas, Checks, check-gives, answer-checked, answer-slots, answer-over, answer-fits, room-over, room-enough}
+use Rattle.lowering.proofs.Outcome.{answer-areas, check-formed, answer-checked, answer-slots, answer-over, answer-fits, room-over, room-enough}
 
 -- ---- the answer and the output
 
@@ -82,23 +82,20 @@ module _ (l : Limits) (m n room : ℕ) (tree out : List ℕ) (first : 16384 ≤ 
       rw e (refuses answer q out (answer-checked (limits_of l) m n room tree (areas-fit m n first second) (number q) (answer-refused tree q h)))
 
   module _ (T : TreeAt tree) where
-    checks : Checks tree (tree_block tree)
-    checks = check-gives tree (tree_block tree) T.answer
-
     slots-are : slots_fit (compile (tree_block tree)).tables ≡ fits_block [] (tree_block tree)
-    slots-are = slots-fit (tree_block tree) (targets-asked (tree_block tree) (tree_block tree) checks.formed)
+    slots-are = slots-fit (tree_block tree) (targets-asked (tree_block tree) (tree_block tree) (check-formed tree (tree_block tree) T.answer))
 
     -- 14
     pub answers-slots : fits_block [] (tree_block tree) ≡ false → Answers (Err Slots) answer out out
     unfolding number
-    answers-slots e = refuses answer Slots out (answer-slots (limits_of l) m n room tree (areas-fit m n first second) (tree_block tree) checks (slots-are ∙ e))
+    answers-slots e = refuses answer Slots out (answer-slots (limits_of l) m n room tree (areas-fit m n first second) (tree_block tree) T.answer (slots-are ∙ e))
 
   module _ (T : TreeAt tree) {A : Type 0} {r : Option A} {a b : Emitter} (same : limits_in a ≡ l) (h : CompilesTree r tree a b (compile (tree_block tree)).tables) where
     -- 15
     pub answers-over : r ≡ None → fits_block [] (tree_block tree) ≡ true → Answers (Err LimitsKept) answer out out
     unfolding number
     answers-over e f = refuses answer LimitsKept out
-        (answer-over (limits_of l) m n room tree (areas-fit m n first second) (tree_block tree) (checks T) (slots-are T ∙ f)
+        (answer-over (limits_of l) m n room tree (areas-fit m n first second) (tree_block tree) T.answer (slots-are T ∙ f)
         (tables-over l (compile (tree_block tree)).tables (slots-are T ∙ f) (λ w. h.full e (subst (λ (k : Limits). Within k (record { stack = []; tables = (compile (tree_block tree)).tables })) (sym same) w))))
 
     module _ {x : A} (e : r ≡ Some x) where
@@ -121,7 +118,7 @@ module _ (l : Limits) (m n room : ℕ) (tree out : List ℕ) (first : 16384 ≤ 
           → Answers r' (fits_room room (module_bytes (tables_of tree b.tables.names.made.now b.code.words.now b.tables.entries.words.now (counts_of b)))) out out' → Answers r' answer out out'
       answers-fits {r'} {out'} A = subst (λ (z : Answer (List ℕ)). Answers r' z out out')
           (ap (λ (t : Tables). fits_room room (module_bytes t)) (h.tables x e)
-          ∙ sym (answer-fits (limits_of l) m n room tree (areas-fit m n first second) (tree_block tree) (checks T) slots-yes tables-yes)) A
+          ∙ sym (answer-fits (limits_of l) m n room tree (areas-fit m n first second) (tree_block tree) T.answer slots-yes tables-yes)) A
 
 -- ---- question 16
 

@@ -13,7 +13,7 @@ use Rattle.definitions.specs.Parse.{read_tree}
 use Rattle.definitions.specs.Wellformed.{ask_block, first_no, block_questions, refused_by, well_formed, check_tree}
 use Rattle.definitions.specs.Tables.{Tables}
 use Rattle.definitions.specs.Lower.{compile}
-use Rattle.definitions.specs.Module.{Limits, module_bytes, slots_fit, tables_fit, fits, lower_block, lower_tables, lower_bytes}
+use Rattle.definitions.specs.Module.{Limits, module_bytes, slots_fit, tables_fit, fits, lower_formed, lower_tables, lower_bytes}
 use Rattle.definitions.specs.Calls.{areas_fit, fits_room, lower_answer}
 
 module _ (l : Limits) (m n room : ℕ) (tree : List ℕ) where
@@ -32,38 +32,26 @@ unfolding refused_by
 well-formed-is b c none e = cc
 well-formed-is b c (some q) e = let z : ◌≡◌ {A = ℕ} 0 1 = cc in absurd (omega arith)
 
--- an accepted tree is read as its block, which is well formed
-pub record Checks (tree : List ℕ) (b : Block) : Type 0 where
-  pub reads : read_tree tree ≡ accepted b
-  pub formed : well_formed b ≡ accepted b
-
-pub check-gives : (tree : List ℕ) (b : Block) → check_tree tree ≡ accepted b → Checks tree b
+-- the block of an accepted tree is well formed
+pub check-formed : (tree : List ℕ) (b : Block) → check_tree tree ≡ accepted b → well_formed b ≡ accepted b
 unfolding check_tree when_accepted well_formed
-check-gives tree b = go (read_tree tree) refl
+check-formed tree b = go (read_tree tree)
   where
-    go : (r : Answer Block) → read_tree tree ≡ r → when_accepted r well_formed ≡ accepted b → Checks tree b
-    go (refused q) h e = let z : ◌≡◌ {A = ℕ} 0 1 = cc in absurd (omega arith)
-    go (accepted a) h e =
+    go : (r : Answer Block) → when_accepted r well_formed ≡ accepted b → well_formed b ≡ accepted b
+    go (refused q) e = let z : ◌≡◌ {A = ℕ} 0 1 = cc in absurd (omega arith)
+    go (accepted a) e =
         let x : b ≡ a = well-formed-is a b (first_no (λ q. ask_block q false a) block_questions) e in
-        rw x (record { reads = h; formed = e ∙ ap accepted x })
+        rw x (e ∙ ap accepted x)
 
 module _ (l : Limits) (tree : List ℕ) where
   -- 2 to 13
   tables-refused : (q : ℕ) → check_tree tree ≡ refused q → lower_tables l tree ≡ refused q
-  unfolding lower_tables check_tree when_accepted lower_block
-  tables-refused q = go (read_tree tree)
-    where
-      formed : (a : Answer Block) → a ≡ refused q → when_accepted a (λ c. fits l (compile c).tables) ≡ refused q
-      formed (refused p) e = cc
-      formed (accepted b) e = let z : ◌≡◌ {A = ℕ} 0 1 = cc in absurd (omega arith)
+  unfolding lower_tables when_accepted
+  tables-refused q e = rw (e, lower_tables)
 
-      go : (r : Answer Block) → when_accepted r well_formed ≡ refused q → when_accepted r (lower_block l) ≡ refused q
-      go (refused p) e = cc
-      go (accepted b) e = formed (well_formed b) e
-
-  tables-fit : (b : Block) → Checks tree b → lower_tables l tree ≡ fits l (compile b).tables
-  unfolding lower_tables lower_block when_accepted
-  tables-fit b C = rw (C.reads, lower_tables) (rw (C.formed, lower_block))
+  tables-fit : (b : Block) → check_tree tree ≡ accepted b → lower_tables l tree ≡ fits l (compile b).tables
+  unfolding lower_tables lower_formed when_accepted
+  tables-fit b e = rw (e, lower_tables)
 
   fits-slots : (t : Tables) → slots_fit t ≡ false → fits l t ≡ refused 14
   unfolding fits
@@ -96,7 +84,7 @@ module _ (l : Limits) (m n room : ℕ) (tree : List ℕ) (areas : areas_fit m n 
   pub answer-checked : (q : ℕ) → check_tree tree ≡ refused q → lower_answer l m n room tree ≡ refused q
   answer-checked q e = refusal q (tables-refused l tree q e)
 
-  module _ (b : Block) (C : Checks tree b) where
+  module _ (b : Block) (C : check_tree tree ≡ accepted b) where
     -- 14
     pub answer-slots : slots_fit (compile b).tables ≡ false → lower_answer l m n room tree ≡ refused 14
     answer-slots e = refusal 14 (tables-fit l tree b C ∙ fits-slots l tree (compile b).tables e)

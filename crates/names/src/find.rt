@@ -1,5 +1,5 @@
 // The first of some words that stands for a name, a string or a function.
-// Each search is one expression: a shared one would take a closure from each, and be no plainer.
+// Each search below the first is one expression: a shared one would take a closure from each, and be no plainer.
 ghost use Rattle.std.specs.Prelude.{◌≡◌, map, ◌/◌, ◌^◌, eqb};
 ghost use Rattle.definitions.specs.Bytes.{same, position};
 ghost use Rattle.state.specs.Words.{text_at};
@@ -10,7 +10,7 @@ use crate::spell::{name_part, text_part};
 use byte_tests::same_bytes;
 use numerals::places::{MADE_FROM, MADE_START, UPPER};
 
-// Whether the symbol of a word is spelled so. Compared in each of its arms: through `spelling` a search takes twice as long.
+// Whether the symbol of a word is spelled so. Compared in each of its arms: tried through `spelling`, and a search takes twice as long.
 fn is_spelled(tree: &[u8], made: &[u8], w: u32, name: &[u8]) -> bool
     ensures { result ≡ same name.now (spelled tree.now made.now w) }
 {
@@ -20,7 +20,7 @@ fn is_spelled(tree: &[u8], made: &[u8], w: u32, name: &[u8]) -> bool
     same_bytes(name, name_part(made, w as usize - MADE_START))
 }
 
-// A symbol's word, by its spelling. With `position` in the place of the loop it takes half as long again.
+// A symbol's word, by its spelling. Tried with `position` in the place of the loop, and it takes half as long again.
 pub fn find_spelling(tree: &[u8], made: &[u8], words: &[u32], name: &[u8]) -> Option<usize>
     ensures { place_in result ≡ position (same name.now) (map (spelled tree.now made.now) words.now) }
 {

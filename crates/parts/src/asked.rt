@@ -32,7 +32,7 @@ impl BlockQuestion {
 
     // The same among all questions.
     #[tactic(auto, unfolding(crate::specs::Asked::asks, questions::specs::Numbers::number))]
-    pub fn question(self) -> Question
+    pub(crate) fn question(self) -> Question
         ensures { number result ≡ asks self }
     {
         match self {

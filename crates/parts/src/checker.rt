@@ -103,16 +103,9 @@ impl<'a> Checker<'a> {
         n
     }
 
-    // Where in the tree it stands.
-    pub fn at(&self) -> usize
-        ensures { result ≡ self.now.at }
-    {
-        self.at
-    }
-
     // How many of a block's questions stand.
     #[tactic(auto, unfolding(crate::specs::Asked::stand))]
-    pub fn stand(&self) -> u32
+    fn stand(&self) -> u32
         ensures { result ≡ stand self.now.first }
     {
         match self.first {

@@ -12,7 +12,7 @@ pub fn u16_at(tree: &[u8], at: usize) -> u32
 }
 
 // Whether an operator below `limit` stands at `at`.
-pub fn operator_at(tree: &[u8], at: usize, limit: u8) -> bool
+pub(crate) fn operator_at(tree: &[u8], at: usize, limit: u8) -> bool
     ensures { result ≡ operator_at limit tree.now at }
 {
     if tree.len() <= at {

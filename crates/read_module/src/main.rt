@@ -5,8 +5,10 @@
 ghost use Rattle.std.specs.Prelude.{length, ◌≡◌};
 
 use classes::Class;
-use input::{arg, arg_count, read_full};
+use digits::decimal_of;
+use input::{arg, read_full};
 use report::Hex;
+use std::env::FillError;
 use std::io;
 use std::rt::Env;
 
@@ -50,16 +52,22 @@ fn code(rt: &impl Print, module: &[u8], f: u64) -> io::Result<()> {
     }
 }
 
-// The code of the function that the argument names.
+// The code of the function that the argument names, if there is one.
 fn code_of_argument<R: Env + Print + Eprint>(rt: &R, module: &[u8]) -> io::Result<()> {
-    match arg(rt, 1, &mut [0; DIGITS]).and_then(digits::decimal_of) {
+    let mut word = [0; DIGITS];
+    let number = match arg(rt, 1, &mut word) {
+        Err(FillError::NotPresent) => return Ok(()),
+        Err(FillError::TooLong) => None,
+        Ok(word) => decimal_of(word),
+    };
+    match number {
         Some(f) => code(rt, module, f),
         None => rt.eprintln("read_module: the function is a number below 2^64"),
     }
 }
 
 fn read<R: Env + Print + Eprint>(rt: &R, module: &[u8]) -> io::Result<()> {
-    if answer(rt, module)? && arg_count(rt) != 1 {
+    if answer(rt, module)? {
         code_of_argument(rt, module)?;
     }
     Ok(())

@@ -20,7 +20,7 @@ fn is_builtin(n: u64) -> bool
     matches!(n, 0..=7 | 10..=14)
 }
 
-// What an instruction's first operand numbers. An opcode an arm becomes a table; or-patterns become tests one after the other.
+// What an instruction's first operand numbers. An opcode an arm, as in widths: tried by or-patterns, which become tests one after the other.
 #[tactic(auto, unfolding(crate::specs::Asks::operand_of, definitions::specs::Instruction::numbers_of, definitions::specs::Instruction::row_of, definitions::specs::Instruction::instruction_table))]
 fn operand_of(op: u8) -> Operand
     ensures { result ≡ operand_of (numbers_of op) }

@@ -4,10 +4,11 @@
 ghost use Rattle.std.specs.Prelude.{length, ◌≡◌};
 
 use digits::decimal_of;
-use input::{arg, arg_count, read_full};
+use input::{arg, read_full};
 use questions::Question;
 use report::Hex;
 use run::{Ending, Ran};
+use std::env::FillError;
 use std::io;
 use std::io::Read;
 use std::rt::Env;
@@ -32,9 +33,14 @@ fn answers_of<'a>(word: &[u8], answers: &'a mut [u8]) -> Option<&'a [u8]> {
     answers.get(..word.len())
 }
 
+// Whether argument i is there.
+fn has_arg(rt: &impl Env, i: usize) -> bool {
+    !matches!(arg(rt, i, &mut [0; 1]), Err(FillError::NotPresent))
+}
+
 // An argument that is a number.
 fn number_argument(rt: &impl Env, i: usize) -> Option<u64> {
-    arg(rt, i, &mut [0; DIGITS]).and_then(decimal_of)
+    arg(rt, i, &mut [0; DIGITS]).ok().and_then(decimal_of)
 }
 
 fn ending_name(ending: Ending) -> &'static str {
@@ -103,12 +109,12 @@ fn run_with<P: Env + Print + Eprint, R: Read>(
 ) -> io::Result<()> {
     let mut buffer = [0u8; WORD];
     let word = match arg(rt, 2, &mut buffer) {
-        None | Some([]) => {
+        Err(_) | Ok([]) => {
             return rt.eprintln(
                 "run_module: the answers are a word of at most 65,536 characters, or -",
             );
         }
-        Some(word) => word,
+        Ok(word) => word,
     };
     match answers_of(word, &mut [0; WORD]) {
         Some(answers) => run_input(rt, input, f, answers, budget),
@@ -117,7 +123,7 @@ fn run_with<P: Env + Print + Eprint, R: Read>(
 }
 
 fn main(rt: HostRuntime) -> io::Result<()> {
-    if arg_count(&rt) != 4 {
+    if !has_arg(&rt, 3) || has_arg(&rt, 4) {
         return rt.eprintln("usage: run_module FUNCTION ANSWERS BUDGET < MODULE");
     }
     let Some(f) = number_argument(&rt, 1) else {

@@ -1,4 +1,4 @@
-// The locals of a def or method: its parameters, then the names that its block gives a slot.
+// The locals of a def or method: its parameters, then the names that its block gives a slot, then its loops.
 // A short tree and the room of the slots stay clauses of what other crates call: a struct with both would be made for one call.
 ghost use Rattle.std.specs.Prelude.{◌≡◌, ◌+◌, ◌≤◌, length};
 ghost use Rattle.definitions.specs.Slots.{with_loops};

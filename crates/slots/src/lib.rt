@@ -1,5 +1,5 @@
-// The slots of defs, methods and lambdas. A slot is the place of a name in the tree: the position of its length byte.
-// Before the slots stands an index of their names.
+// The slots of defs, methods and lambdas. Of each that has a name stands its name's place in the tree, the position of the length byte; before them
+// an index of these names.
 #![tactic(auto)]
 
 pub mod add; // add.rt: names added to slots

@@ -53,7 +53,7 @@ impl<R: Read> Lines<R> {
     }
 
     // Whether the input has ended.
-    pub fn has_ended(&self) -> bool
+    fn has_ended(&self) -> bool
         ensures { result ≡ is_none self.now.last }
     {
         self.last.is_none()
@@ -61,7 +61,7 @@ impl<R: Read> Lines<R> {
 
     // Whether another field follows in the line.
     #[tactic(auto, unfolding(crate::specs::Lines::is_tab))]
-    pub fn has_field(&self) -> bool
+    fn has_field(&self) -> bool
         ensures { result ≡ is_tab self.now.last }
     {
         matches!(self.last, Some(b'\t'))
@@ -98,7 +98,7 @@ impl<R: Read> Lines<R> {
     }
 
     // To the end of the line.
-    pub fn skip_line(&mut self)
+    fn skip_line(&mut self)
         ensures ends { is_end false self.new.last ≡ true }
         ensures stays { is_end false self.old.last ≡ true → self.new ≡ self.old }
     {
@@ -106,7 +106,7 @@ impl<R: Read> Lines<R> {
     }
 
     // From the end of a line past the name of the next.
-    pub fn skip_name(&mut self)
+    fn skip_name(&mut self)
         ensures { is_end true self.new.last ≡ true }
     {
         self.take();

@@ -4,10 +4,10 @@ use Rattle.definitions.specs.Sheet.{sheet}
 use Rattle.exports.proofs.Telling.{text-few, text-told}
 use Rattle.exports.proofs.rulketoos_count_sheet.Goals as goal
 
-pub tell_text-requires : goal.tell_text-requires
+pub tell_count-requires : goal.tell_count-requires
 unfolding sheet_call
-tell_text-requires c = text-few 32 sheet _ _ _ _ c.count_sheet-answer.ensures (omega (arith, c.well_formed))
+tell_count-requires c = text-few 32 sheet _ _ _ _ c.count_sheet.ensures (omega (arith, c.well_formed))
 
 pub returns : goal.returns
 unfolding sheet_call
-returns c = text-told 32 sheet _ _ _ _ c.count_sheet-answer.ensures _ c.tell_text.ensures
+returns c = text-told 32 sheet _ _ _ _ c.count_sheet.ensures _ c.tell_count.ensures

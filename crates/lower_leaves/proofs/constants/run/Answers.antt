@@ -17,4 +17,4 @@ of-requires c = running-known c.loop-i.invariant c.loop-i-test.true
 pub loop-i-preserved : goal.loop-i-preserved
 loop-i-preserved c =
     let k = c.in-Some.ensures in
-    running-next c.loop-i.invariant c.loop-i-test.true _ (omega (arith, k.0, c.of.ensures)) (c.packed.ensures ∙ ap (λ (op : ℕ). word op 0 0) (k.1 ∙ ap (λ (b : ℕ). 5 - b) c.of.ensures))
+    running-next c.loop-i.invariant c.loop-i-test.true _ (omega (arith, k.0, c.of.ensures)) (k.1 ∙ ap (λ (b : ℕ). word (5 - b) 0 0) c.of.ensures)

@@ -1,32 +1,27 @@
-use Prim.Native.Nat.{◌+◌}
+use Prim.Native.Nat.{ℕ, ◌+◌}
 use native.Mathlib.Omega.{arith}
 use mathlib.Core.Path.{◌≡◌, sym, ap, ◌∙◌}
-use mathlib.Core.Bool.{Bool, cond}
 use Rattle.std.proofs.Common.{rules}
 use Rattle.std.proofs.lemmas.Option.{none-some}
+use Rattle.definitions.specs.Instruction.{instr}
+use Rattle.definitions.specs.Tables.{one}
 use Rattle.lower_emit.proofs.Packing.{instr-plain, instr-place, instr-small, plain-below}
 use Rattle.lower_emit.proofs.Steps.{lowers-by, lowers-some, lowers-none}
 use Rattle.lower_leaves.proofs.Lambdas.{inside-place, small_is}
-use Rattle.lower_leaves.proofs.LiteralForms.{none_is, bool_is, int_is, double_is, text-is}
+use Rattle.lower_leaves.proofs.LiteralForms.{constant_kind, constant-is, int_is, double_is, text-is}
 use Rattle.lower_leaves.proofs.Quoting.{word-quotes}
 use Rattle.lower_leaves.proofs.literals.emit_literal.Goals as goal
 
+pub constant_op-requires : goal.constant_op-requires
+constant_op-requires c = constant_kind _ c.in-None.is
+
 pub returns-in-None : goal.returns-in-None
 returns-in-None c =
-    let v = none_is _ _ _ c.requires.2 c.requires.3 c.in-None.is in
-    word-quotes c.map.ensures.variant (λ n e. (let p : n ≡ c.args.at + 1 = search rules in p) ∙ sym v.1) (instr-plain _ 5 0 0 (plain-below 5 0 0 (omega arith) (omega arith) (omega arith) (omega arith))) c.put_op.ensures v.0
-
-pub returns-in-Bool-true : goal.returns-in-Bool-true
-returns-in-Bool-true c =
-    let v = bool_is _ _ _ c.requires.2 c.requires.3 _ 3 c.in-Bool-true.is (ap (λ (b : Bool). cond b 3 4) (sym c.in-Bool-true.field-0-test)) in
-    word-quotes c.map-in-Bool-true.ensures.variant (λ n e. (let p : n ≡ c.args.at + 1 = search rules in p) ∙ sym v.1)
-    (instr-plain _ 3 0 0 (plain-below 3 0 0 (omega arith) (omega arith) (omega arith) (omega arith))) c.put_op-in-Bool-true.ensures v.0
-
-pub returns-in-Bool-false : goal.returns-in-Bool-false
-returns-in-Bool-false c =
-    let v = bool_is _ _ _ c.requires.2 c.requires.3 _ 4 c.in-Bool-false.is (ap (λ (b : Bool). cond b 3 4) (sym c.in-Bool-false.field-0-test)) in
-    word-quotes c.map-in-Bool-false.ensures.variant (λ n e. (let p : n ≡ c.args.at + 1 = search rules in p) ∙ sym v.1)
-    (instr-plain _ 4 0 0 (plain-below 4 0 0 (omega arith) (omega arith) (omega arith) (omega arith))) c.put_op-in-Bool-false.ensures v.0
+    let k = constant_kind _ c.in-None.is in
+    let v = constant-is _ _ _ c.requires.2 c.requires.3 k in
+    let o = c.constant_op.ensures in
+    word-quotes c.map.ensures.variant (λ n e. (let p : n ≡ c.args.at + 1 = search rules in p) ∙ sym v.1)
+    (instr-plain _ _ 0 0 (plain-below _ 0 0 (omega (arith, o, k)) (omega (arith, o)) (omega arith) (omega arith))) c.put_op.ensures (v.0 ∙ ap (λ (op : ℕ). one (instr op 0 0)) (sym o))
 
 pub returns-in-Ok : goal.returns-in-Ok
 returns-in-Ok c =

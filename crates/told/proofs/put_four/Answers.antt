@@ -1,7 +1,7 @@
 use native.Mathlib.Omega.{arith}
 use lib.ListN.{length-set}
-use Rattle.exports.proofs.Telling.{four-none, four-all}
-use Rattle.exports.proofs.put_four.Goals as goal
+use Rattle.told.proofs.Four.{four-none, four-all}
+use Rattle.told.proofs.put_four.Goals as goal
 
 pub returns-then-numbers-lt4 : goal.returns-then-numbers-lt4
 returns-then-numbers-lt4 c = four-none _ _ _ _ _ c.if-numbers-lt4.true
