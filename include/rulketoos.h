@@ -23,7 +23,7 @@
 extern "C" {
 #endif
 
-/* Questions 2 to 13 and 33 of a tree record: 0, or the refusal. Reads only. */
+/* Questions 2 to 13, 33 and 36 of a tree record: 0, or the refusal. Reads only. */
 uint32_t rulketoos_check(const uint8_t *tree, size_t tree_len);
 
 /* The least length of each work area of rulketoos_lower, in numbers. */
@@ -46,8 +46,8 @@ enum {
 /*
  * Lowers a tree record to a module record, which it writes to out from the
  * first byte on; what is past it is left as it was. Answers RULKETOOS_WROTE plus
- * the count of bytes written; or, below RULKETOOS_WROTE, the refusal, 1 to 16
- * or 33, with out left as it was. limits says by which set question 15 is asked.
+ * the count of bytes written; or, below RULKETOOS_WROTE, the refusal, 1 to 16,
+ * 33 or 36, with out left as it was. limits says by which set question 15 is asked.
  * With the same lengths of areas and out, what the console takes gives the
  * office the very same bytes, and what the office refuses the console refuses:
  * by the same number, or by 15 where the office's is 16.
@@ -64,6 +64,25 @@ uint64_t rulketoos_lower(const uint8_t *tree, size_t tree_len, uint32_t limits,
 
 /* Questions 17 to 21 of a module record: 0, or the refusal. Reads only. */
 uint32_t rulketoos_read(const uint8_t *module, size_t module_len);
+
+/* The least length of the work area of rulketoos_heights, in numbers. */
+#define RULKETOOS_HEIGHTS_AREA 131072
+
+/*
+ * Checks the stack heights of a module record that wasn't lowered here: 0, or the
+ * refusal, 1 (area is shorter than RULKETOOS_HEIGHTS_AREA), 17 to 21 or 37. With 0
+ * every place of every function that some answers bring a run to is always met at
+ * one height, has values enough for what it pops, and leaves no more than the
+ * number in the function's record; with 37 some such place has two heights, too few
+ * values or leaves more. Every module that is lowered passes.
+ *
+ * The number stands in the two bytes, the higher first, that begin four bytes before
+ * the function's code (rulketoos_code).
+ *
+ * area is room to work in, whatever is in it before. It is all zero afterwards,
+ * over its whole length and after a refusal too; but refusal 1 leaves it.
+ */
+uint32_t rulketoos_heights(const uint8_t *module, size_t module_len, uint32_t *area, size_t area_len);
 
 /*
  * Where the code of a function is in a module record: its start times 2^32
@@ -93,7 +112,7 @@ uint64_t rulketoos_list(const uint8_t *module, size_t module_len, uint8_t *out, 
  * written; or, below RULKETOOS_WROTE, the refusal, 17 to 21 or 32 (the sheet
  * doesn't fit out), with out left as it was.
  *
- * The sheet of n functions has 41 * (n + 1) bytes, and 8 * n is less than
+ * The sheet of n functions has 41 * (n + 1) bytes, and 10 * n is less than
  * module_len.
  */
 uint64_t rulketoos_count_sheet(const uint8_t *module, size_t module_len, uint8_t *out, size_t out_len);

@@ -1,4 +1,4 @@
-/* Calls the library from C: lowers a tree, reads, lists and counts a module, finds a function's code, runs it to a place. */
+/* Calls the library from C: lowers a tree, reads, lists and counts a module, checks its heights, finds a function's code, runs it to a place. */
 #include "rulketoos.h"
 
 #include <stdio.h>
@@ -7,14 +7,14 @@
 /* the empty script, and its module */
 static const uint8_t tree[] = {0, 0, 0, 3, 1, 0, 0};
 static const uint8_t module[] = {
-    0, 0, 0, 28, 1, 0, 1, 8, '_', '_', 'm', 'a', 'i', 'n', '_', '_',
-    0, 0, 0, 1, 0, 0, 0, 0, 0, 0, 1, 33, 0, 0, 0, 0};
+    0, 0, 0, 30, 2, 0, 1, 8, '_', '_', 'm', 'a', 'i', 'n', '_', '_',
+    0, 0, 0, 1, 0, 0, 0, 0, 0, 0, 0, 0, 1, 33, 0, 0, 0, 0};
 
 /* `while True: break`, and its module: True, JumpIfFalse 2, Jump 1, Jump -4, Return */
 static const uint8_t loop_tree[] = {0, 0, 0, 8, 1, 0, 1, 7, 2, 0, 1, 0};
 static const uint8_t loop_module[] = {
-    0, 0, 0, 44, 1, 0, 1, 8, '_', '_', 'm', 'a', 'i', 'n', '_', '_',
-    0, 0, 0, 1, 0, 0, 0, 0, 0, 0, 5, 3, 29, 0, 0, 0, 2, 28, 0, 0, 0, 1,
+    0, 0, 0, 46, 2, 0, 1, 8, '_', '_', 'm', 'a', 'i', 'n', '_', '_',
+    0, 0, 0, 1, 0, 0, 0, 0, 0, 0, 1, 0, 5, 3, 29, 0, 0, 0, 2, 28, 0, 0, 0, 1,
     28, 255, 255, 255, 252, 33, 0, 0, 0, 0};
 
 /* `__for_iter_2__`, the name of a loop's iterator */
@@ -127,6 +127,28 @@ static void writes(text_call *call, const char *text, uint64_t short_by)
     expect(answer == 17, "a module that is cut has no text, by 17");
 }
 
+/* the heights of a module, with sevens in the area */
+static uint32_t heights(const uint8_t *bytes, size_t size, size_t area)
+{
+    for (size_t i = 0; i < RULKETOOS_HEIGHTS_AREA; i++)
+        reach_area[i] = 7;
+    return rulketoos_heights(bytes, size, reach_area, area);
+}
+
+static void checks_heights(void)
+{
+    uint8_t low[sizeof loop_module];
+    expect(heights(loop_module, sizeof loop_module, RULKETOOS_HEIGHTS_AREA) == 0, "the heights of a lowered module hold");
+    expect(all_numbers(reach_area, RULKETOOS_HEIGHTS_AREA, 0), "the area is zero");
+    uint64_t at = (rulketoos_code(loop_module, sizeof loop_module, 0) >> 32) - 4;
+    expect(loop_module[at] == 0 && loop_module[at + 1] == 1, "its number is 1");
+    memcpy(low, loop_module, sizeof low);
+    low[at + 1] = 0;
+    expect(heights(low, sizeof low, RULKETOOS_HEIGHTS_AREA) == 37, "a number that is too low is refused by 37");
+    expect(heights(low, sizeof low, RULKETOOS_HEIGHTS_AREA - 1) == 1, "a short area is refused by 1");
+    expect(all_numbers(reach_area, RULKETOOS_HEIGHTS_AREA, 7), "the area is as it was");
+}
+
 /* a place of the loop, with sevens in the area and nines in the answers */
 static uint64_t reach(uint64_t place, size_t area, size_t room)
 {
@@ -205,10 +227,11 @@ int main(void)
     expect(rulketoos_read(module, sizeof module - 1) == 17, "a module that is cut is refused by 17");
     writes(rulketoos_list, listing, 31);
     writes(rulketoos_count_sheet, sheet, 32);
+    checks_heights();
     reaches();
 
     uint64_t code = rulketoos_code(module, sizeof module, 0);
-    expect(code >> 32 == 27 && (uint32_t)code == 1, "the code of function 0 is one byte at 27");
+    expect(code >> 32 == 29 && (uint32_t)code == 1, "the code of function 0 is one byte at 29");
     expect(module[code >> 32] == 33, "it is Return");
     expect(rulketoos_code(module, sizeof module, 1) == 22, "there is no function 1");
 

@@ -29,6 +29,7 @@ use Rattle.definitions.specs.Bytes.{Answer, refused, accepted, same}
 use Rattle.definitions.specs.Module.{office, console}
 use Rattle.definitions.specs.Run.{Ran}
 use Rattle.definitions.specs.Calls.{lower_answer, read_call, run_answer}
+use Rattle.definitions.specs.Heights.{heights_answer}
 use Rattle.definitions.specs.Open.{everything}
 
 unfoldable agrees : {A : Type 0} → (A → A → Bool) → Answer A → Answer A → Bool
@@ -78,6 +79,9 @@ def cases():
     for _, module, text in lines("modules.txt"):
         if len(record(module)) <= LONGEST_MODULE:
             yield f"agrees same_unit (read_call {numbers(record(module))}) {answer(text, lambda _: 'tt')}"
+    for _, module, text in lines("heights.txt"):
+        if len(record(module)) <= LONGEST_MODULE:
+            yield f"agrees same_unit (heights_answer 131072 {numbers(record(module))}) {answer(text, lambda _: 'tt')}"
     for _, module, function, answers, budget, room, text in lines("runs.txt"):
         if len(record(module)) <= LONGEST_MODULE and int(budget) <= LARGEST_BUDGET:
             call = f"run_answer {numbers(record(module))} {function} {numbers(record(answers))} {budget} {room}"

@@ -34,7 +34,7 @@ use Rattle.compile.specs.Compiled.{Fresh, nothing, main_named, main_begun, main_
 
 pub block-lowerable : (tree : List ℕ) → TreeAt tree → BlockLowerable 32 tree 5
 unfolding block_questions
-block-lowerable tree T = record { reads = T.block; loop = false; args = T.yes 7 (omega arith) }
+block-lowerable tree T = record { reads = T.block; loop = false; args = T.yes 8 (omega arith) }
 
 -- ---- the whole
 

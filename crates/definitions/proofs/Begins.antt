@@ -10,7 +10,7 @@ use lib.ListN.{length, take, drop, length-drop}
 use lib.Seq.{drop-drop, take-add}
 use borrow.Author.Tests.{leb-true, leb-false}
 use Rattle.definitions.specs.Bytes.{Parsed, got, failed, Parser, ◌>>=◌, give, unread, byte, field, counted, list_of, name, text, keep, checked}
-use Rattle.definitions.specs.Instruction.{instr, first_width, second_width}
+use Rattle.definitions.specs.Instruction.{instr, first_width, second_width, is_instruction}
 use Rattle.definitions.specs.Wellformed.{is_name}
 use Rattle.definitions.specs.Reader.{instruction, function_record, method_record, rising, class_record}
 
@@ -105,14 +105,15 @@ takes-checked test p tp = takes-bind p _ tp (λ a. takes-keep (test a) a)
 
 pub takes-instruction : Takes instruction
 unfolding instruction
-takes-instruction = takes-bind (checked (λ op. leb op 45) byte) _ (takes-checked (λ op. leb op 45) byte takes-byte)
+takes-instruction = takes-bind (checked is_instruction byte) _ (takes-checked is_instruction byte takes-byte)
     (λ op. takes-bind (field (first_width op)) _ (takes_field (first_width op))
     (λ a. takes-bind (field (second_width op)) _ (takes_field (second_width op)) (λ b. takes-give (instr op a b))))
 
 pub takes-function : Takes function_record
 unfolding function_record
 takes-function = takes-bind (field 2) _ (takes_field 2) (λ k. takes-bind (field 1) _ (takes_field 1) (λ n. takes-bind (field 2) _ (takes_field 2)
-    (λ l. takes-bind (list_of 2 instruction) _ (takes-list 2 instruction takes-instruction) (λ is. takes-give (record { symbol = k; arity = n; locals = l; code = is })))))
+    (λ l. takes-bind (field 2) _ (takes_field 2)
+    (λ h. takes-bind (list_of 2 instruction) _ (takes-list 2 instruction takes-instruction) (λ is. takes-give (record { symbol = k; arity = n; locals = l; height = h; code = is }))))))
 
 pub takes-method : Takes method_record
 unfolding method_record

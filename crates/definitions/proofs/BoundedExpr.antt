@@ -77,7 +77,7 @@ spelled (binary_f A B h) = tt
 spelled (logical_f A B h) = tt
 spelled (call_f A k B h) = tt
 spelled (attr_f A m h) = m
-spelled (display_f {k} {es} s A h) = display-spelled k es
+spelled (display_f {k} {es} s w A h) = display-spelled k es
 spelled (index_f A B h) = tt
 spelled (lambda_f k A h) = tt
 
@@ -92,7 +92,7 @@ mutual
   fits-expr slots (logical_f {op} A B h) = fits-within (fits-seq (fits-expr slots A) (fits-shortcut (decides op) (fits-expr slots B))) h
   fits-expr slots (call_f {f} {es} A k B h) = fits-within (fits-call (view f) slots (count es) (spelled A) k (fits-expr slots A) (fits-object slots A) (fits-exprs slots B)) h
   fits-expr slots (attr_f {x} A m h) = fits-within (fits-seq (fits-expr slots A) (fits-symbol x (name-short x m) (λ j t u l. fits_one (single refl l)))) (omega arith)
-  fits-expr slots (display_f {k} {es} s A h) = fits-within (fits-seq (fits-exprs slots A) (fits_one (build-sound k (display_size k es) s))) (omega arith)
+  fits-expr slots (display_f {k} {es} s w A h) = fits-within (fits-seq (fits-exprs slots A) (fits_one (build-sound k (display_size k es) s))) (omega arith)
   fits-expr slots (index_f A B h) = fits-within (fits-seq (fits-expr slots A) (fits-seq (fits-expr slots B) (fits_one (bare refl refl)))) (omega arith)
   fits-expr slots (lambda_f {ps} {b = d} k A h) =
       let cs = captures slots ps d in
@@ -111,6 +111,6 @@ mutual
   fits-object slots (logical_f A B h) = fits-nothing
   fits-object slots (call_f A k B h) = fits-nothing
   fits-object slots (attr_f A m h) = fits-within (fits-expr slots A) h
-  fits-object slots (display_f s A h) = fits-nothing
+  fits-object slots (display_f s w A h) = fits-nothing
   fits-object slots (index_f A B h) = fits-nothing
   fits-object slots (lambda_f k A h) = fits-nothing

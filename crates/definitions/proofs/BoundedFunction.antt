@@ -8,7 +8,7 @@ use lib.Seq.{append_snoc}
 use lib.ListN.{length, length-append}
 use Rattle.definitions.specs.Bytes.{Name, position, same}
 use Rattle.definitions.specs.Slots.{Frame}
-use Rattle.definitions.specs.Tables.{Function, Tables, Body, Out, Emit, add_symbol, begin, set_code, intern, function, enclose}
+use Rattle.definitions.specs.Tables.{Function, Tables, Body, Out, Emit, add_symbol, coded, begin, set_code, intern, function, enclose}
 use Rattle.definitions.specs.Open.{all_instruction}
 use Rattle.definitions.proofs.Functions.{set_code-seam}
 use Rattle.definitions.proofs.Every.{Every, no_every, every, every_append, every-mid, every-put, length-put, length-snoc}
@@ -28,7 +28,7 @@ pub record Enclosed (n s p : ℕ) (t : Tables) (frame : Frame) (o : Out) : Type 
 
 module _ {n : ℕ} {b : Tables} (k arity : ℕ) (few : arity ≤ 255) (frame : Frame) (body : Body) (e : Emit) (E : Fits n frame.locals b e) (p : ℕ) (t : Tables) (bt : Longer b t) (has : k < length t.symbols) where
   fresh : Function
-  fresh = record { symbol = k; arity = arity; locals = frame.locals; code = [] }
+  fresh = coded k arity frame.locals []
 
   begun : Tables
   begun = begin k arity frame t
@@ -36,7 +36,7 @@ module _ {n : ℕ} {b : Tables} (k arity : ℕ) (few : arity ≤ 255) (frame : F
   begun-longer : Longer t begun
   unfolding begun begin
   begun-longer =
-      let f : Function = record { symbol = k; arity = arity; locals = frame.locals; code = [] } in
+      let f : Function = coded k arity frame.locals [] in
       record { sizes = omega (arith, length-snoc t.functions f); new = f ∷ []; functions = refl; balance = omega arith }
 
   out : Out
@@ -48,7 +48,7 @@ module _ {n : ℕ} {b : Tables} (k arity : ℕ) (few : arity ≤ 255) (frame : F
 
   -- the function with its code
   made : Function
-  made = record { symbol = k; arity = arity; locals = frame.locals; code = out.code }
+  made = coded k arity frame.locals out.code
 
   added : List Function
   added = inside.longer.new
@@ -68,7 +68,7 @@ module _ {n : ℕ} {b : Tables} (k arity : ℕ) (few : arity ≤ 255) (frame : F
       record {
         symbols = T.symbols;
         strings = T.strings;
-        functions = every_append (tight-up L T.functions) (every (record { symbol = has; arity = few; code = no_every }) no_every);
+        functions = every_append (tight-up L T.functions) (every (record { symbol = has; arity = few; height = refl; code = no_every }) no_every);
         classes = ordered-up L T.classes;
         constants = constants-up L T.constants;
       }
@@ -100,7 +100,7 @@ module _ {n : ℕ} {b : Tables} (k arity : ℕ) (few : arity ≤ 255) (frame : F
   tight T K =
       let u = (enclose k arity frame body e p t).tables in
       subst (λ (fs : List Function). Every (Tight u) fs) (sym after)
-      (every-put t.functions added fresh made (record { symbol = omega (arith, has, begun-longer.sizes.symbols, inside.longer.sizes.symbols, ready.symbols); arity = few; code = code_up ready K.code })
+      (every-put t.functions added fresh made (record { symbol = omega (arith, has, begun-longer.sizes.symbols, inside.longer.sizes.symbols, ready.symbols); arity = few; height = refl; code = code_up ready K.code })
       (subst (λ (fs : List Function). Every (Tight u) fs) before (tight-up ready K.trim.functions)))
 
   enclosed : (s : ℕ) → Enclosed n s p t frame (enclose k arity frame body e p t)

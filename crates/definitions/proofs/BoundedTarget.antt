@@ -51,7 +51,7 @@ mutual
   fits-target slots (logical_f A B h) = fits-nothing
   fits-target slots (call_f A k B h) = fits-nothing
   fits-target slots (attr_f A m h) = fits-nothing
-  fits-target slots (display_f {k} {es} s A h) = fits-display k es (unpack slots es 0) s (λ l. fits-unpack slots 0 (omega arith) A)
+  fits-target slots (display_f {k} {es} s w A h) = fits-display k es (unpack slots es 0) s (λ l. fits-unpack slots 0 (omega arith) A)
   fits-target slots (index_f A B h) = fits-nothing
   fits-target slots (lambda_f k A h) = fits-nothing
 
@@ -80,6 +80,6 @@ fits-assign slots (binary_f A B h) E = fits-nothing
 fits-assign slots (logical_f A B h) E = fits-nothing
 fits-assign slots (call_f A k B h) E = fits-nothing
 fits-assign slots (attr_f {x} A m h) E = fits-within (fits-seq (fits-expr slots A) (fits-seq E (fits-symbol x (name-short x m) (λ j t u l. fits_one (single refl l))))) (omega arith)
-fits-assign slots (display_f {k} s A h) E = fits-within (fits-tuple k slots s A E) (omega arith)
+fits-assign slots (display_f {k} s w A h) E = fits-within (fits-tuple k slots s A E) (omega arith)
 fits-assign slots (index_f A B h) E = fits-within (fits-seq (fits-expr slots A) (fits-seq (fits-expr slots B) (fits-seq E (fits_one (bare refl refl))))) (omega arith)
 fits-assign slots (lambda_f k A h) E = fits-nothing

@@ -1,6 +1,6 @@
 -- Cases of the change requests, by computing.
 use mathlib.Core.Path.{◌≡◌, refl}
-use mathlib.Core.Bool.{Bool, true, false, ◌&&◌}
+use mathlib.Core.Bool.{Bool, true, false, not, ◌&&◌}
 use mathlib.Core.List.{List, [], ◌∷◌, ◌++◌, map}
 use Prim.Native.Nat.{ℕ}
 use Prim.Native.String.{String}
@@ -9,12 +9,13 @@ use lib.ListN.{replicate}
 use Rattle.definitions.specs.Bytes.{refused, accepted, all, ascii, concat, list_bytes}
 use Rattle.definitions.specs.Module.{Limits, console, limits_by, name_bytes, module_bytes, lower_tables}
 use Rattle.definitions.specs.Reader.{read_module}
-use Rattle.definitions.specs.Samples.{Shown, Sample, sample, shows_answer, holds, passes, refusal, function_is, symbols_are}
-use Rattle.definitions.specs.Samples.{tree, named, variable, none_e, expr_s, pass_s, if_s, for_s, def_s, def_with, return_s, class_s, method_of, assign_s, list_e, tuple_e, lambda_e, call_with}
+use Rattle.definitions.specs.Samples.{Shown, Sample, sample, shows_answer, holds, passes, refusal, function_is, height_is, symbols_are}
+use Rattle.definitions.specs.Samples.{tree, named, variable, none_e, expr_s, break_s, pass_s, while_s, if_s, for_s, def_s, def_with, return_s, class_s, method_of, assign_s, list_e, tuple_e, lambda_e, call_with}
 use Rattle.definitions.specs.Tree.{list_d}
-use Rattle.definitions.specs.Instruction.{Instr, Pop, LoadLocal, LoadGlobal, MakeClosure, Build, Return, ConstI64, ConstF64, Dup, LoadIndex, StoreLocal, minus}
+use Rattle.definitions.specs.Instruction.{Instr, ConstBool, ConstNone, Pop, LoadLocal, LoadGlobal, MakeClosure, Build, Return, ConstI64, ConstF64, Dup, LoadIndex, StoreLocal, minus}
 use Rattle.definitions.specs.Instruction.{Jump, JumpIfFalse, JumpIfTrue, Call, CallBuiltin, CallValue, CallMethod}
 use Rattle.definitions.specs.Tables.{Function, Tables}
+use Rattle.definitions.specs.Heights.{heights_hold}
 use Rattle.definitions.specs.Listing.{code_line, page_line, listing}
 use Rattle.definitions.specs.Sheet.{sheet}
 use Rattle.definitions.specs.Open.{everything}
@@ -173,7 +174,7 @@ unfoldable r5-module : List Function → Tables
 r5-module fs = record { symbols = []; strings = []; functions = fs; classes = []; constants = [] }
 
 unfoldable r5-function : List Instr → Function
-r5-function is = record { symbol = 0; arity = 0; locals = 0; code = is }
+r5-function is = record { symbol = 0; arity = 0; locals = 0; height = 0; code = is }
 
 r5-holds : sheet (r5-module (r5-function r5 ∷ r5-function (Call 0 0 ∷ Return ∷ []) ∷ []))
     ≡ concat (λ (s : String). ascii s ++ 10 ∷ []) ("    0      9      2      4              " ∷ "    1      2      0      1              " ∷ "TOTAL     11      2      5              " ∷ [])
@@ -259,3 +260,55 @@ loops_in n = tree (def_with "f" ("r" ∷ []) (replicate n (loop_in "i" [])) ∷ 
 r7-slots : all holds (sample (loops_in 253) passes ∷ sample (loops_in 254) (refusal 14) ∷ []) ≡ true
 unfolding everything loop_in loops_in
 r7-slots = refl
+
+-- R-10: an empty tuple as a target or inside one gives 36, after 10 and before 11; as a value it passes
+unfoldable binary_e : ℕ → List ℕ → List ℕ → List ℕ
+binary_e op l r = 8 ∷ op ∷ l ++ r
+
+unfoldable dict_e : List (List ℕ) → List ℕ
+dict_e ps = 12 ∷ list_bytes 2 (λ (p : List ℕ). p) ps
+
+unfoldable call_e : List ℕ → List (List ℕ) → List ℕ
+call_e f es = 9 ∷ f ++ list_bytes 2 (λ (e : List ℕ). e) es
+
+unfoldable emptied : List ℕ
+emptied = assign_s (tuple_e (variable "a" ∷ tuple_e [] ∷ [])) (variable "t")
+
+unfoldable r10 : List Sample
+r10 =
+    sample (tree (emptied ∷ [])) (refusal 36)
+    ∷ sample (tree (assign_s (tuple_e (variable "a" ∷ tuple_e (tuple_e [] ∷ variable "b" ∷ []) ∷ [])) (variable "t") ∷ [])) (refusal 36)
+    ∷ sample (tree (def_s "f" (while_s none_e (emptied ∷ []) ∷ []) ∷ [])) (refusal 36)
+    ∷ sample (tree (emptied ∷ assign_s none_e none_e ∷ [])) (refusal 10)
+    ∷ sample (tree (assign_s (tuple_e (tuple_e [] ∷ none_e ∷ [])) none_e ∷ [])) (refusal 10)
+    ∷ sample (tree (def_with "f" ("x" ∷ "x" ∷ []) [] ∷ emptied ∷ [])) (refusal 36)
+    ∷ sample (tree (assign_s (variable "v") (tuple_e []) ∷ assign_s (attribute_e "x") (tuple_e []) ∷ [])) passes
+    -- heights: nothing, `a and (b or c)`, a dict, calls by value and of a method, a loop whose inside ends in a break, code behind a return
+    ∷ sample (tree []) (height_is 0 0)
+    ∷ sample (tree (expr_s (binary_e 12 (variable "a") (binary_e 13 (variable "b") (variable "c"))) ∷ [])) (height_is 0 1)
+    ∷ sample (tree (expr_s (binary_e 0 (variable "a") (binary_e 12 (variable "b") (binary_e 0 (variable "c") (variable "d")))) ∷ [])) (height_is 0 3)
+    ∷ sample (tree (expr_s (dict_e ((variable "a" ++ variable "b") ∷ (variable "c" ++ variable "d") ∷ [])) ∷ [])) (height_is 0 4)
+    ∷ sample (tree (expr_s (call_e (variable "f") (none_e ∷ none_e ∷ [])) ∷ [])) (height_is 0 3)
+    ∷ sample (tree (expr_s (call_e (attribute_e "m") (none_e ∷ [])) ∷ [])) (height_is 0 2)
+    ∷ sample (tree (while_s none_e (break_s ∷ expr_s (list_e (none_e ∷ none_e ∷ [])) ∷ []) ∷ [])) (height_is 0 2)
+    ∷ sample (tree (def_s "f" (return_s none_e ∷ expr_s (list_e (none_e ∷ none_e ∷ none_e ∷ [])) ∷ []) ∷ [])) (height_is 1 3)
+    ∷ []
+
+r10-holds : all holds r10 ≡ true
+unfolding everything r10 emptied attribute_e binary_e dict_e call_e
+r10-holds = refl
+
+-- 37. Yes: `while True: break`; a fault that nothing reaches; two ways to two Returns. No: too few values; more than the number; two heights, by a question
+-- and by a loop
+r10-checks :
+    (heights_hold 1 (ConstBool true ∷ JumpIfFalse 2 ∷ Jump 1 ∷ Jump (minus 4) ∷ Return ∷ [])
+    && heights_hold 0 (Return ∷ Pop ∷ Return ∷ [])
+    && heights_hold 1 (ConstNone ∷ JumpIfFalse 2 ∷ ConstNone ∷ Return ∷ Return ∷ [])
+    && not (heights_hold 9 (Pop ∷ Return ∷ []))
+    && not (heights_hold 9 (ConstNone ∷ CallValue 1 ∷ Return ∷ []))
+    && not (heights_hold 0 (ConstNone ∷ Return ∷ []))
+    && not (heights_hold 9 (ConstNone ∷ JumpIfFalse 1 ∷ ConstNone ∷ Return ∷ []))
+    && not (heights_hold 9 (ConstNone ∷ Jump (minus 2) ∷ Return ∷ [])))
+    ≡ true
+unfolding everything
+r10-checks = refl

@@ -6,17 +6,11 @@ use mathlib.Core.Logic.{◌⊎◌, inl, inr, ⊎_elim}
 use native.Mathlib.Omega.{arith}
 use lib.Dec.{eqb}
 use borrow.Author.Tests.{eq-eqb, ne_eqb, eqb-true, le-leb}
-use Rattle.definitions.specs.Instruction.{instruction_table, row_of, first_width}
+use Rattle.definitions.specs.Instruction.{instruction_table, row_of, first_width, straight, jump, question, returns, flow}
 use Rattle.definitions.specs.Reader.{is_jump, landing}
-use Rattle.definitions.specs.Run.{Flow, straight, jump, question, returns, flow, way}
-
--- flow, by its four tests
-unfoldable pub chosen : Bool → Bool → Bool → Bool → Flow
-chosen a b c d = elim a [ true ↦ jump | false ↦ elim b [ true ↦ question false | false ↦ elim c [ true ↦ question true | false ↦ elim d [ true ↦ returns | false ↦ straight ] ] ] ]
-
-pub flow-is : (op : ℕ) → flow op ≡ chosen (eqb op 28) (eqb op 29) (eqb op 30) (eqb op 33)
-unfolding flow chosen
-flow-is op = refl
+use Rattle.definitions.specs.Run.{way}
+use Rattle.definitions.specs.Open.{flows}
+use Rattle.definitions.proofs.Rows.{chosen, flow-is, jump-is}
 
 -- the four that do not go straight on
 some-stop : (a b c d : Bool) → (chosen a b c d ≡ straight → ⊥) → (a ≡ true) ⊎ ((b ≡ true) ⊎ ((c ≡ true) ⊎ (d ≡ true)))
@@ -29,19 +23,19 @@ some-stop false false false false f = absurd (f refl)
 
 module _ (op : ℕ) where
   pub jump-stops : op ≡ 28 → flow op ≡ straight → ⊥
-  unfolding flow
+  unfolding flows
   jump-stops e f = let k = sym (ap flow e) ∙ f in let z : ◌≡◌ {A = ℕ} 0 1 = cc in omega arith
 
   pub false-stops : op ≡ 29 → flow op ≡ straight → ⊥
-  unfolding flow
+  unfolding flows
   false-stops e f = let k = sym (ap flow e) ∙ f in let z : ◌≡◌ {A = ℕ} 0 1 = cc in omega arith
 
   pub true-stops : op ≡ 30 → flow op ≡ straight → ⊥
-  unfolding flow
+  unfolding flows
   true-stops e f = let k = sym (ap flow e) ∙ f in let z : ◌≡◌ {A = ℕ} 0 1 = cc in omega arith
 
   pub return-stops : op ≡ 33 → flow op ≡ straight → ⊥
-  unfolding flow
+  unfolding flows
   return-stops e f = let k = sym (ap flow e) ∙ f in let z : ◌≡◌ {A = ℕ} 0 1 = cc in omega arith
 
   pub goes-straight : (op ≡ 28 → ⊥) → (op ≡ 29 → ⊥) → (op ≡ 30 → ⊥) → (op ≡ 33 → ⊥) → flow op ≡ straight
@@ -65,11 +59,11 @@ module _ (op : ℕ) where
       range a b = (a, b)
 
   pub flow-jump : op ≡ 28 → flow op ≡ jump
-  unfolding flow
+  unfolding flows
   flow-jump e = ap flow e
 
   pub flow-returns : op ≡ 33 → flow op ≡ returns
-  unfolding flow
+  unfolding flows
   flow-returns e = ap flow e
 
   module _ (a : 28 ≤ op) (b : op ≤ 30) where
@@ -92,11 +86,10 @@ module _ (op : ℕ) where
     jump-width = ⊎_elim (λ (e : op ≡ 28). ap first_width e) (⊎_elim (λ (e : op ≡ 29). ap first_width e) (λ (e : op ≡ 30). ap first_width e)) one_of
 
     pub is-jump : is_jump op ≡ true
-    unfolding is_jump
-    is-jump = ap₂ (λ (x y : Bool). x && y) (le-leb 28 op a) (le-leb op 30 b)
+    is-jump = jump-is op ∙ ap₂ (λ (x y : Bool). x && y) (le-leb 28 op a) (le-leb op 30 b)
 
     pub flow-question : (op ≡ 28 → ⊥) → flow op ≡ question (eqb op 30)
-    unfolding flow
+    unfolding flows
     flow-question f = ⊎_elim (λ (e : op ≡ 28). absurd (f e))
         (⊎_elim (λ (e : op ≡ 29). ap flow e ∙ ap (λ (k : ℕ). question (eqb k 30)) (sym e)) (λ (e : op ≡ 30). ap flow e ∙ ap (λ (k : ℕ). question (eqb k 30)) (sym e))) one_of
 

@@ -7,7 +7,7 @@ use lib.Seq.{append_snoc}
 use lib.ListN.{length}
 use lib.Dec.{T}
 use Rattle.definitions.specs.Instruction.{Instr}
-use Rattle.definitions.specs.Tables.{Function, Source, Tables, Emit, set_code}
+use Rattle.definitions.specs.Tables.{Function, coded, Source, Tables, Emit, set_code}
 use Rattle.definitions.specs.Walk.{walk_at}
 use Rattle.definitions.specs.Reader.{code_stands}
 use Rattle.definitions.specs.Statements.{ComesFrom}
@@ -47,9 +47,9 @@ grow-more {fs} A B = record {
 }
 
 pub grow-function : (fs fs' : List Function) (gs : List Source) (f : Function) (g : Source) (is : List Instr) → Grows (fs ++ (f ∷ [])) fs' gs
-    → Good (record { symbol = f.symbol; arity = f.arity; locals = f.locals; code = is }) g → Grows fs (set_code fs' (length fs) is) (g ∷ gs)
+    → Good (coded f.symbol f.arity f.locals is) g → Grows fs (set_code fs' (length fs) is) (g ∷ gs)
 grow-function fs fs' gs f g is G k = record {
-  new = record { symbol = f.symbol; arity = f.arity; locals = f.locals; code = is } ∷ G.new;
+  new = coded f.symbol f.arity f.locals is ∷ G.new;
   functions = ap (λ (z : List Function). set_code z (length fs) is) (G.functions ∙ append_snoc fs f G.new) ∙ set_code-seam fs G.new f is;
   good = pair k G.good;
 }

@@ -12,7 +12,7 @@ use lib.Pow.{are_bytes}
 use Rattle.definitions.specs.Bytes.{Answer, refused, accepted, when_accepted, Parsed, got, failed, be, concat, all, list_bytes, housed, unhouse}
 use Rattle.definitions.specs.Utf8.{is_utf8}
 use Rattle.definitions.specs.Wellformed.{is_name}
-use Rattle.definitions.specs.Instruction.{encode, encodes, first_width, second_width}
+use Rattle.definitions.specs.Instruction.{encode, encodes, first_width, second_width, is_instruction}
 use Rattle.definitions.specs.Tables.{Function, Tables}
 use Rattle.definitions.specs.Module.{name_bytes, text_bytes, function_bytes, method_bytes, class_bytes, table_bytes, module_bytes, code_start}
 use Rattle.definitions.specs.Reader.{instruction, function_record, method_record, rising, class_record, module_record, numbers_exist, code_stands, whole_module, read_module}
@@ -26,7 +26,7 @@ use Rattle.definitions.proofs.Writes.{Writes, writes-give, writes-bind, writes_b
 writes-instruction : Writes (λ i xs. xs ≡ encode i) instruction
 unfolding instruction encode
 writes-instruction =
-    writes-bind _ (writes-checked (λ op. leb op 45) writes_byte) (λ op xs h.
+    writes-bind _ (writes-checked is_instruction writes_byte) (λ op xs h.
     writes-bind _ (writes-number (first_width op)) (λ a ys k.
     writes-bind _ (writes-number (second_width op)) (λ b zs l.
     writes-give _ (rw (h.0, k, l, append-nil)))))
@@ -37,8 +37,9 @@ writes-function =
     writes-bind _ (writes-number 2) (λ k ks hk.
     writes-bind _ (writes-number 1) (λ n ns hn.
     writes-bind _ (writes-number 2) (λ l ls hl.
+    writes-bind _ (writes-number 2) (λ g gs hg.
     writes-bind _ (writes-list 2 encode writes-instruction) (λ is xs h.
-    writes-give _ (rw (hk, hn, hl, h, append-nil))))))
+    writes-give _ (rw (hk, hn, hl, hg, h, append-nil)))))))
 
 writes-method : Writes (λ m xs. xs ≡ method_bytes m) method_record
 unfolding method_record method_bytes
@@ -78,14 +79,14 @@ whole-got (got u []) t e = go (numbers_exist u) (all code_stands u.functions) e
     go true false h = let z : ◌≡◌ {A = ℕ} 0 1 = cc in absurd (omega arith)
     go false d h = let z : ◌≡◌ {A = ℕ} 0 1 = cc in absurd (omega arith)
 
-house-is : (m rest : List ℕ) (t : Tables) → m ≡ housed rest → rest ≡ table_bytes t → m ≡ module_bytes t
+house-is : (m rest : List ℕ) (t : Tables) → m ≡ housed 2 rest → rest ≡ table_bytes t → m ≡ module_bytes t
 unfolding module_bytes
-house-is m rest t h e = h ∙ ap housed e
+house-is m rest t h e = h ∙ ap (housed 2) e
 
 -- the tables of an accepted module are read from the bytes after its head
 pub record Within (m : List ℕ) (t : Tables) : Type 0 where
   pub rest : List ℕ
-  pub whole : m ≡ housed rest
+  pub whole : m ≡ housed 2 rest
   pub bytes : are_bytes rest ≡ true
   pub read : module_record rest ≡ got t []
 
@@ -93,10 +94,10 @@ pub within : (m : List ℕ) (t : Tables) → are_bytes m ≡ true → read_modul
 unfolding read_module
 within m t o e = go (leb (length m) 524288) e
   where
-    go : (c : Bool) → (elim c as (λ z. Answer Tables) [ true ↦ unhouse 17 18 (λ rest. whole_module (module_record rest)) m | false ↦ refused 17 ]) ≡ accepted t → Within m t
+    go : (c : Bool) → (elim c as (λ z. Answer Tables) [ true ↦ unhouse 2 17 18 (λ rest. whole_module (module_record rest)) m | false ↦ refused 17 ]) ≡ accepted t → Within m t
     go false h = let z : ◌≡◌ {A = ℕ} 0 1 = cc in absurd (omega arith)
     go true h =
-        let I = in-house 17 18 (λ rest. whole_module (module_record rest)) m t o h in
+        let I = in-house 2 17 18 (λ rest. whole_module (module_record rest)) m t o h in
         record { rest = I.rest; whole = I.whole; bytes = I.bytes; read = whole-got (module_record I.rest) t I.gives }
 
 pub read_is_written : ReadIsWritten
@@ -153,12 +154,12 @@ stands-element f (b ∷ zs) zero a {xs} {n} e S = let z : b ≡ a = cc in rw z (
 stands-element f (b ∷ zs) (suc k) a {xs} {n} e S =
     stands_at _ _ (omega (arith, length-append (f b) (concat f (take k zs)))) (stands_after (f b) (stands-element f zs k a e S))
 
-stands-code : (f : Function) → Stands (encodes f.code) 7 (function_bytes f)
+stands-code : (f : Function) → Stands (encodes f.code) 9 (function_bytes f)
 unfolding function_bytes list_bytes encodes
 stands-code f =
-    stands_at _ 7
-    (omega (arith, length-be 2 f.symbol, length-be 1 f.arity, length-be 2 f.locals, length-be 2 (length f.code)))
-    (stands_after (be 2 f.symbol) (stands_after (be 1 f.arity) (stands_after (be 2 f.locals) (stands_after (be 2 (length f.code)) (stands-all (concat encode f.code))))))
+    stands_at _ 9
+    (omega (arith, length-be 2 f.symbol, length-be 1 f.arity, length-be 2 f.locals, length-be 2 f.height, length-be 2 (length f.code)))
+    (stands_after (be 2 f.symbol) (stands_after (be 1 f.arity) (stands_after (be 2 f.locals) (stands_after (be 2 f.height) (stands_after (be 2 (length f.code)) (stands-all (concat encode f.code)))))))
 
 stands-list : {A : Type 0} (f : A → List ℕ) (zs : List A) (k : ℕ) (a : A) {xs : List ℕ} {n : ℕ}
     → get_elem? zs k ≡ some a → Stands xs n (f a) → Stands xs (2 + length (concat f (take k zs)) + n) (list_bytes 2 f zs)
@@ -167,7 +168,7 @@ stands-list f zs k a e S = stands_at _ _ (omega (arith, length-be 2 (length zs))
 
 stands-tables : (t : Tables) (k : ℕ) (f : Function) → get_elem? t.functions k ≡ some f
     → Stands (encodes f.code)
-    (length (list_bytes 2 name_bytes t.symbols) + (length (list_bytes 2 text_bytes t.strings) + (2 + length (concat function_bytes (take k t.functions)) + 7)))
+    (length (list_bytes 2 name_bytes t.symbols) + (length (list_bytes 2 text_bytes t.strings) + (2 + length (concat function_bytes (take k t.functions)) + 9)))
     (table_bytes t)
 unfolding table_bytes
 stands-tables t k f e =
@@ -176,9 +177,9 @@ stands-tables t k f e =
     (stands-before (list_bytes 2 class_bytes t.classes ++ list_bytes 2 (be 2) t.constants)
     (stands-list function_bytes t.functions k f e (stands-code f))))
 
-stands-housed : {xs bs : List ℕ} {n : ℕ} → Stands xs n bs → Stands xs (5 + n) (housed bs)
+stands-housed : {xs bs : List ℕ} {n : ℕ} → Stands xs n bs → Stands xs (5 + n) (housed 2 bs)
 unfolding housed
-stands-housed {bs} S = stands_at _ _ (omega (arith, length-be 4 (suc (length bs)))) (stands_after (be 4 (suc (length bs))) (stands_after (1 ∷ []) S))
+stands-housed {bs} S = stands_at _ _ (omega (arith, length-be 4 (suc (length bs)))) (stands_after (be 4 (suc (length bs))) (stands_after (2 ∷ []) S))
 
 stands-module : (t : Tables) (k : ℕ) (f : Function) → get_elem? t.functions k ≡ some f → Stands (encodes f.code) (code_start t k) (module_bytes t)
 unfolding module_bytes code_start

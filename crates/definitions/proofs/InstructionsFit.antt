@@ -7,16 +7,17 @@ use native.Mathlib.Nat.{pow-le-pow_right}
 use native.Mathlib.Omega.{arith}
 use lib.Arith.{le_of_le-suc-ne}
 use lib.ListN.{length}
-use lib.Dec.{T, eqb, eqb→eq, leb, le→leb}
+use lib.Dec.{T, eqb, eqb→eq, leb}
 use Rattle.definitions.specs.Bytes.{all}
 use Rattle.definitions.specs.Builtins.{Builtin, registry}
 use Rattle.definitions.specs.Instruction.{Instr, Numbers, nothing, a_string, a_constant, a_slot, a_symbol, a_function, a_builtin}
-use Rattle.definitions.specs.Instruction.{Row, row, instruction_table, first_width, numbers_of, encode}
+use Rattle.definitions.specs.Instruction.{Row, no_row, instruction_table, is_instruction, first_width, numbers_of, encode}
 use Rattle.definitions.specs.Tables.{Tables}
 use Rattle.definitions.specs.Module.{office}
 use Rattle.definitions.specs.Reader.{is_builtin, instruction}
 use Rattle.definitions.specs.Open.{all_instruction}
-use Rattle.definitions.proofs.Truth.{left, right, is_true, not_equal, at_most}
+use Rattle.definitions.proofs.Truth.{left, right, not_equal, at_most}
+use Rattle.definitions.proofs.Rows.{is-instruction}
 use Rattle.definitions.proofs.Shape.{Quiet, Settled, more}
 use Rattle.definitions.proofs.Every.{Every, no_every, every, all_get_d}
 use Rattle.definitions.proofs.Accepted.{Within}
@@ -36,7 +37,7 @@ need a_builtin = 1
 -- every operand that numbers something is wide enough
 wide_enough : (op : ℕ) → need (numbers_of op) ≤ first_width op
 unfolding all_instruction all need
-wide_enough op = at_most _ _ (all_get_d (λ (r : Row). leb (need r.numbers) r.first) instruction_table refl op (row "" 0 0 nothing) refl)
+wide_enough op = at_most _ _ (all_get_d (λ (r : Row). leb (need r.numbers) r.first) instruction_table refl op no_row refl)
 
 -- every built-in's id is below 256
 builtin-below : (bs : List Builtin) (n : ℕ) → all (λ (b : Builtin). leb b.id 255) bs ≡ true → T (is_builtin bs n) → n ≤ 255
@@ -53,8 +54,10 @@ unfolding registry all
 builtin-fits n = builtin-below registry n refl
 
 -- an instruction that is no pending break or continue is one of the table
-real-op : (op : ℕ) → leb op 47 ≡ true → eqb op 46 ≡ false → eqb op 47 ≡ false → leb op 45 ≡ true
-real-op op e b c = is_true (leb op 45) (le→leb op 45 (le_of_le-suc-ne (le_of_le-suc-ne (at_most op 47 e) (not_equal op 47 c)) (not_equal op 46 b)))
+real-op : (op : ℕ) → leb op 47 ≡ true → eqb op 46 ≡ false → eqb op 47 ≡ false → is_instruction op ≡ true
+real-op op e b c =
+    let z : op ≤ 45 = le_of_le-suc-ne (le_of_le-suc-ne (at_most op 47 e) (not_equal op 47 c)) (not_equal op 46 b) in
+    is-instruction op (omega arith)
 
 module _ (t : Tables) (L : Within office t) (cs : length t.constants ≤ length t.classes) where
   in_field : (c : Numbers) (n a w : ℕ) → n ≤ 255 → need c ≤ w → Operand c t n w a → a < 256 ^ w

@@ -4,10 +4,9 @@ use mathlib.Core.Path.{◌≡◌, refl, ap, ◌∙◌}
 use mathlib.Core.Bool.{Bool, true, false}
 use mathlib.Core.List.{List, [], ◌∷◌, ◌++◌}
 use native.Mathlib.Omega.{arith}
-use lib.Dec.{leb}
 use lib.ListN.{length, length-append}
 use Rattle.definitions.specs.Bytes.{Parsed, got, failed, Parser, ◌>>=◌, give, unread, byte, field, counted, list_of, name, text, keep, checked, be, concat, list_bytes}
-use Rattle.definitions.specs.Instruction.{Instr, first_width, second_width, encode, encodes}
+use Rattle.definitions.specs.Instruction.{Instr, first_width, second_width, encode, encodes, is_instruction}
 use Rattle.definitions.specs.Tables.{Function}
 use Rattle.definitions.specs.Module.{name_bytes, text_bytes, function_bytes}
 use Rattle.definitions.specs.Reader.{instruction, function_record}
@@ -98,19 +97,21 @@ length-encode i =
 pub spans-instruction : Spans 0 (λ i. length (encode i)) instruction
 unfolding instruction
 spans-instruction =
-    spans-bind 0 (λ op. 1) _ (checked (λ op. leb op 45) byte) _ (spans-checked (λ op. 1) (λ op. leb op 45) byte spans-byte) (λ op.
+    spans-bind 0 (λ op. 1) _ (checked is_instruction byte) _ (spans-checked (λ op. 1) is_instruction byte spans-byte) (λ op.
     spans-bind _ (λ a. first_width op) _ (field (first_width op)) _ (spans-field (first_width op)) (λ a.
     spans-bind _ (λ b. second_width op) _ (field (second_width op)) _ (spans-field (second_width op)) (λ b.
     spans-give _ _ (record { op = op; a = a; b = b }) (let l = length-encode (record { op = op; a = a; b = b }) in omega arith))))
 
-pub length-function : (f : Function) → length (function_bytes f) ≡ 7 + length (encodes f.code)
+pub length-function : (f : Function) → length (function_bytes f) ≡ 9 + length (encodes f.code)
 unfolding function_bytes list_bytes encodes
 length-function f =
-    let a = length-append (be 2 f.symbol) (be 1 f.arity ++ (be 2 f.locals ++ (be 2 (length f.code) ++ concat encode f.code))) in
-    let b = length-append (be 1 f.arity) (be 2 f.locals ++ (be 2 (length f.code) ++ concat encode f.code)) in
-    let c = length-append (be 2 f.locals) (be 2 (length f.code) ++ concat encode f.code) in
-    let d = length-append (be 2 (length f.code)) (concat encode f.code) in
-    let i = length-be 2 f.symbol in let j = length-be 1 f.arity in let k = length-be 2 f.locals in let l = length-be 2 (length f.code) in omega arith
+    let c = be 2 (length f.code) ++ concat encode f.code in
+    let a = length-append (be 2 f.symbol) (be 1 f.arity ++ (be 2 f.locals ++ (be 2 f.height ++ c))) in
+    let b = length-append (be 1 f.arity) (be 2 f.locals ++ (be 2 f.height ++ c)) in
+    let d = length-append (be 2 f.locals) (be 2 f.height ++ c) in
+    let e = length-append (be 2 f.height) c in
+    let g = length-append (be 2 (length f.code)) (concat encode f.code) in
+    omega (arith, length-be 2 f.symbol, length-be 1 f.arity, length-be 2 f.locals, length-be 2 f.height, length-be 2 (length f.code))
 
 pub spans-code : (n : ℕ) → Spans 0 (λ is. length (encodes is)) (counted [] ◌∷◌ instruction n)
 unfolding encodes
@@ -129,5 +130,6 @@ spans-function =
     spans-bind 0 (λ v. 2) _ (field 2) _ (spans-field 2) (λ k.
     spans-bind _ (λ v. 1) _ (field 1) _ (spans-field 1) (λ n.
     spans-bind _ (λ v. 2) _ (field 2) _ (spans-field 2) (λ l.
+    spans-bind _ (λ v. 2) _ (field 2) _ (spans-field 2) (λ h.
     spans-bind _ (λ is. 2 + length (encodes is)) _ (list_of 2 instruction) _ spans-listed (λ is.
-    spans-give _ _ (record { symbol = k; arity = n; locals = l; code = is }) (let e = length-function (record { symbol = k; arity = n; locals = l; code = is }) in omega arith)))))
+    spans-give _ _ (record { symbol = k; arity = n; locals = l; height = h; code = is }) (let e = length-function (record { symbol = k; arity = n; locals = l; height = h; code = is }) in omega arith))))))

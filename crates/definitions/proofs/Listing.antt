@@ -11,7 +11,7 @@ use lib.Dec.{eqb, leb, ltb, lit<}
 use lib.ListN.{length, length-append, get_elem?, take, drop, length-drop}
 use Rattle.definitions.specs.Bytes.{ascii, concat, decimal, all}
 use Rattle.definitions.specs.Columns.{right_in, signed}
-use Rattle.definitions.specs.Instruction.{Instr, ConstI64, ConstF64, Row, row, nothing, instruction_table, row_of, first_width, second_width}
+use Rattle.definitions.specs.Instruction.{Instr, ConstI64, ConstF64, Row, no_row, instruction_table, row_of, first_width, second_width}
 use Rattle.definitions.specs.Tables.{Function}
 use Rattle.definitions.specs.Module.{instructions}
 use Rattle.definitions.specs.Reader.{is_jump}
@@ -19,6 +19,7 @@ use Rattle.definitions.specs.Listing.{Shown, blank, plain, signed₆₄, signed�
 use Rattle.definitions.specs.Open.{all_instruction}
 use Rattle.definitions.specs.Statements.{code_texts, function_texts, pages, ListingLines, LineFits, ListingLength}
 use Rattle.definitions.proofs.Truth.{left, right, at_most}
+use Rattle.definitions.proofs.Rows.{jump-is}
 use Rattle.definitions.proofs.Every.{Every, no_every, every, every-at, all_get_d}
 use Rattle.definitions.proofs.Decimals.{length-decimal, length-hexadecimal, signed-plus, signed-minus}
 use Rattle.definitions.proofs.Columns.{length-right, length-left}
@@ -151,13 +152,13 @@ signed-fits b k a plus minus = go (ltb (a + a) (2 ^ b)) refl
     go false e = let h = ltb-false (a + a) (2 ^ b) e in let l = length-decimal k (2 ^ b - a) (minus h) in let s = ap length (signed-minus b a h) in omega arith
 
 pub is-jump : (op : ℕ) → 28 ≤ op → op ≤ 30 → is_jump op ≡ true
-unfolding is_jump
-is-jump op h k = rw (le-leb 28 op h, le-leb op 30 k)
+is-jump op h k = rw (jump-is op, le-leb 28 op h, le-leb op 30 k)
 
 -- a jump's operand has four bytes
 pub jump-width : (op : ℕ) → is_jump op ≡ true → first_width op ≡ 4
-unfolding is_jump first_width row_of instruction_table
-jump-width op e =
+unfolding first_width row_of instruction_table
+jump-width op j =
+    let e = sym (jump-is op) ∙ j in
     let h = leb-true 28 op (left (leb 28 op) (leb op 30) e) in
     let k = leb-true op 30 (right (leb 28 op) (leb op 30) e) in
     go (op - 28) (omega arith) (omega arith)
@@ -221,7 +222,7 @@ second_fits op b h = go (eqb (second_width op) 0) (second_below op b h)
 
 pub name-fits : (op : ℕ) → length (name_text op) ≤ 15
 unfolding name_text all_instruction all
-name-fits op = at_most _ 15 (all_get_d (λ (r : Row). leb (length (ascii r.name)) 15) instruction_table refl op (row "" 0 0 nothing) refl)
+name-fits op = at_most _ 15 (all_get_d (λ (r : Row). leb (length (ascii r.name)) 15) instruction_table refl op no_row refl)
 
 pub five-digits : (n : ℕ) → n < 65536 → length (decimal n) ≤ 5
 five-digits n h = length-decimal 4 n (omega arith)

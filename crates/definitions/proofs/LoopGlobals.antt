@@ -22,7 +22,7 @@ use Rattle.definitions.specs.TreeNames.{names_block}
 use Rattle.definitions.specs.Slots.{captures, Keeping, in_globals, in_slots, past, Frame, names_only, with_loops, loops_stmt, loops_block}
 use Rattle.definitions.specs.Instruction
 use Rattle.definitions.specs.Instruction.{Instr, Return, LoadLocal, StoreGlobal, JumpIfFalse, Jump, ConstBool, minus}
-use Rattle.definitions.specs.Tables.{Function, Method, Tables, Body, block_body, expr_body, Out, Emit, add_symbol, add_string, with_classes, emits, one, ◌⨟◌, here, intern, get_or_add_string, begin, set_code, function, enclose}
+use Rattle.definitions.specs.Tables.{Function, Method, Tables, Body, block_body, expr_body, Out, Emit, add_symbol, add_string, with_classes, emits, one, ◌⨟◌, here, intern, get_or_add_string, coded, begin, set_code, function, enclose}
 use Rattle.definitions.specs.Lower
 use Rattle.definitions.specs.Lower.{Callee, builtin_callee, function_callee, value_callee, resolve, load, store, literal, decides, jump_on, shortcut, call_named, call_by, lambda_name, loads, closure, emit_expr, emit_exprs, emit_object}
 use Rattle.definitions.specs.Lower.{copy, emit_target, unpack, assign_by, patch, patched, loop, Keeper, global, local, make_iter, named_iter, kept_iter, store_iter, load_iter, iter_name, ask_iter, take_iter}
@@ -783,7 +783,7 @@ placed : {xs : List Name} (fs : List Function) (is : List Instr) → Aside xs fs
 unfolding set_code
 placed [] is E k f e = let z : ◌≡◌ {A = ℕ} 0 1 = cc in absurd (omega arith)
 placed (g ∷ fs) is E zero f e =
-    let q : record { symbol = g.symbol; arity = g.arity; locals = g.locals; code = is } ≡ f = cc in at_main (ap (λ (h : Function). h.code) (sym q))
+    let q : coded g.symbol g.arity g.locals is ≡ f = cc in at_main (ap (λ (h : Function). h.code) (sym q))
 placed (g ∷ fs) is (every p r) (suc k) f e = at_other (every-at fs r k f e)
 
 -- main has begun

@@ -7,7 +7,7 @@ use native.Mathlib.Omega.{arith}
 use lib.ListN.{length, length-append}
 use lib.Dec.{leb}
 use Rattle.definitions.specs.Bytes.{Name, Text, all, be, concat, housed}
-use Rattle.definitions.specs.Instruction.{Instr, nothing, Row, row, instruction_table, first_width, second_width, encode}
+use Rattle.definitions.specs.Instruction.{Instr, Row, no_row, instruction_table, first_width, second_width, encode}
 use Rattle.definitions.specs.Tables.{Function, Method, Class, Tables}
 use Rattle.definitions.specs.Module.{name_bytes, text_bytes, function_bytes, method_bytes, class_bytes, table_bytes, module_bytes, office, instructions}
 use Rattle.definitions.specs.Open.{all_instruction}
@@ -47,7 +47,7 @@ constants-room (k ∷ ks) = simp (length-append, length-be) (omega (arith, const
 pub operands-room : (op : ℕ) → (first_width op ≤ 8) × (second_width op ≤ 1)
 unfolding all_instruction all
 operands-room op =
-    let e = all_get_d (λ (r : Row). leb r.first 8 && leb r.second 1) instruction_table refl op (row "" 0 0 nothing) refl in
+    let e = all_get_d (λ (r : Row). leb r.first 8 && leb r.second 1) instruction_table refl op no_row refl in
     (at_most _ 8 (left (leb (first_width op) 8) (leb (second_width op) 1) e), at_most _ 1 (right (leb (first_width op) 8) (leb (second_width op) 1) e))
 
 code-room : (is : List Instr) → length (concat encode is) ≤ 10 * length is
@@ -55,11 +55,11 @@ unfolding concat encode
 code-room [] = omega arith
 code-room (i ∷ is) = simp (length-append, length-be) (omega (arith, code-room is, operands-room i.op))
 
-function-room : (f : Function) → length (function_bytes f) ≤ 7 + 10 * length f.code
+function-room : (f : Function) → length (function_bytes f) ≤ 9 + 10 * length f.code
 unfolding function_bytes
 function-room f = simp (length-append, length-be, length-list) (omega (arith, code-room f.code))
 
-functions-room : (fs : List Function) → length (concat function_bytes fs) ≤ 7 * length fs + 10 * instructions fs
+functions-room : (fs : List Function) → length (concat function_bytes fs) ≤ 9 * length fs + 10 * instructions fs
 unfolding concat instructions
 functions-room [] = omega arith
 functions-room (f ∷ fs) = omega (arith, functions-room fs, function-room f, length-append (function_bytes f) (concat function_bytes fs))
@@ -70,7 +70,7 @@ pub length-tables : (t : Tables) → length (table_bytes t) ≡ 10 + length (con
 unfolding table_bytes
 length-tables t = simp (length-append, length-list) (omega arith)
 
-pub module-room : {n : ℕ} (t : Tables) → n ≤ 32768 → Known n t → length (module_bytes t) ≤ 187471
+pub module-room : {n : ℕ} (t : Tables) → n ≤ 32768 → Known n t → length (module_bytes t) ≤ 187983
 unfolding module_bytes housed office
 module-room t h K =
     let L = K.limits in

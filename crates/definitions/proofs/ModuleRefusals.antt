@@ -1,5 +1,6 @@
--- The reader, the hand-back of code, the run, the texts about a module and R-8's tool refuse by the first question answered no, and accept where none is.
-use mathlib.Core.Path.{◌≡◌, refl, ap, ◌∙◌}
+-- The reader, the hand-back of code, the run, the texts about a module, R-8's tool and the check of heights refuse by the first question answered no, and accept
+-- where none is.
+use mathlib.Core.Path.{◌≡◌, refl, sym, ap, ◌∙◌}
 use mathlib.Core.Bool.{Bool, true, false, ◌&&◌}
 use mathlib.Core.Option.{Option, none, some}
 use mathlib.Core.List.{List, [], ◌∷◌}
@@ -9,14 +10,16 @@ use lib.Dec.{eqb, eqb-suc-zero, leb, ltb, leb-zero, leb-suc-zero, leb-suc-suc}
 use Rattle.definitions.specs.Bytes.{Answer, refused, accepted, when_accepted, Parsed, got, failed, all}
 use Rattle.definitions.specs.Instruction.{Instr, encodes}
 use Rattle.definitions.specs.Tables.{Function, Tables}
-use Rattle.definitions.specs.Module.{code_start}
+use Rattle.definitions.specs.Module.{module_version, code_start}
 use Rattle.definitions.specs.Reader.{module_record, numbers_exist, code_stands, whole_module, read_module}
 use Rattle.definitions.specs.Run.{Ran, run}
 use Rattle.definitions.specs.Calls.{read_call, function_of, code_part, code_call, are_answers, events_fit, run_function, run_answer, text_fits, text_answer}
-use Rattle.definitions.specs.Statements.{head_counts, record_read, laid_out, tables_read, tables_in, code_in, read_questions, code_questions, run_in, run_questions, text_questions, ReadRefusals, CodeRefusals, RunRefusals, TextRefusals, reach_questions, ReachRefusals}
 use Rattle.definitions.specs.Sheet.{tally, is_question}
 use Rattle.definitions.specs.Reach.{wide_area, room_asked, place_asked, sought}
-use Rattle.definitions.proofs.Refusals.{ask, ask-is, when-ask, head-asked, questioned, first-is}
+use Rattle.definitions.specs.Heights.{function_holds, heights_asked, heights_answer}
+use Rattle.definitions.specs.Statements.{head_counts, record_read, laid_out, tables_read, tables_in, code_in, read_questions, code_questions, run_in, run_questions, text_questions, reach_questions, heights_questions}
+use Rattle.definitions.specs.Statements.{ReadRefusals, CodeRefusals, RunRefusals, TextRefusals, ReachRefusals, HeightsRefusals}
+use Rattle.definitions.proofs.Refusals.{ask, ask-is, ask-accepted, when-ask, head-asked, questioned, first-is}
 
 -- ---- 17 to 21: the reader
 
@@ -41,9 +44,21 @@ module-asked : (m : List ℕ) → read_module m ≡ read_then m (accepted (table
 unfolding read_module read_then read_questions questioned tables_in record_read
 module-asked m =
     ap (λ (z : Answer Tables). elim (leb (length m) 524288) as (λ c. Answer Tables) [ true ↦ z | false ↦ refused 17 ])
-    (head-asked 17 18 (λ rest. whole_module (module_record rest)) m)
+    (head-asked module_version 17 18 (λ rest. whole_module (module_record rest)) m)
     ∙ two-asked (leb (length m) 524288) (head_counts m) 17 _
-    ∙ ap (λ (z : Answer Tables). ask (leb (length m) 524288 && head_counts m) 17 (ask (leb 5 (length m) && eqb (get_or m 4 0) 1) 18 z)) (layout-asked (record_read m))
+    ∙ ap (λ (z : Answer Tables). ask (leb (length m) 524288 && head_counts m) 17 (ask (leb 5 (length m) && eqb (get_or m 4 0) module_version) 18 z)) (layout-asked (record_read m))
+
+-- a module that is read has passed question 21
+pub read-stands : (m : List ℕ) (t : Tables) → read_module m ≡ accepted t → all code_stands t.functions ≡ true
+unfolding read_then read_questions questioned
+read-stands m t e =
+    let q17 = ask-accepted _ 17 _ t (sym (module-asked m) ∙ e) in
+    let q18 = ask-accepted _ 18 _ t q17.1 in
+    let q19 = ask-accepted _ 19 _ t q18.1 in
+    let q20 = ask-accepted _ 20 _ t q19.1 in
+    let q21 = ask-accepted _ 21 _ t q20.1 in
+    let z : tables_in m ≡ t = cc q21.1 in
+    rw z at q21.0
 
 -- what goes on from the tables comes after the questions
 read-then : {A : Type 0} (m : List ℕ) (f : Tables → Answer A) → when_accepted (read_module m) f ≡ read_then m (f (tables_in m))
@@ -124,3 +139,15 @@ reach_refusals n m f place room =
     rw first-is (ask-is (wide_area n) 1 _
     ∙ ap (ask (wide_area n) 1) (read-then m (λ t. when_accepted (function_of t f) (place_asked place room))
     ∙ ap (read_then m) (ap (when_accepted (function_of (tables_in m) f)) (λ i g. place-asked place room g i) ∙ when-function (tables_in m) f after)))
+
+-- ---- 1 and 37: the check of heights
+
+heights-asked : (t : Tables) → heights_asked t ≡ ask (all function_holds t.functions) 37 (accepted tt)
+unfolding heights_asked
+heights-asked t = ask-is (all function_holds t.functions) 37 (accepted tt)
+
+pub heights_refusals : HeightsRefusals
+unfolding heights_answer heights_questions questioned read_then read_questions
+heights_refusals n m =
+    rw first-is (ask-is (wide_area n) 1 (when_accepted (read_module m) heights_asked)
+    ∙ ap (ask (wide_area n) 1) (read-then m heights_asked ∙ ap (read_then m) (heights-asked (tables_in m))))

@@ -48,7 +48,7 @@ unfolding lower_questions
 narrower l w u m n room tree =
     let t = (compile (block_read (parsed tree))).tables in
     rw (refusals l m n room tree, refusals w m n room tree)
-    (narrowed_at (take 15 (lower_questions w m n room tree)) (module_of tree) (leb (length (module_of tree)) room) (tables_fit l t) (tables_fit w t) (fit-wider l w u t))
+    (narrowed_at (take 16 (lower_questions w m n room tree)) (module_of tree) (leb (length (module_of tree)) room) (tables_fit l t) (tables_fit w t) (fit-wider l w u t))
 
 -- ---- office and console
 

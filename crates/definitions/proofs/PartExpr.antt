@@ -14,13 +14,13 @@ use Rattle.definitions.specs.Tree.{View, as_var, as_attr, as_index, as_tuple, as
 use Rattle.definitions.specs.Wellformed.{init}
 use Rattle.definitions.specs.Slots.{captures, Frame, names_only}
 use Rattle.definitions.specs.Instruction
-use Rattle.definitions.specs.Instruction.{Instr, ConstBool, Return, LoadLocal, encodes, unary_code, operator_code, binary_code, build_code}
+use Rattle.definitions.specs.Instruction.{Instr, ConstBool, Return, LoadLocal, encodes, unary_code, operator_code, binary_code, build_code, flow}
 use Rattle.definitions.specs.Tables.{Tables, Body, expr_body, Out, Emit, add_symbol, begin, emits, one, ◌⨟◌, intern, function, enclose}
 use Rattle.definitions.specs.Lower
 use Rattle.definitions.specs.Lower.{Callee, builtin_callee, function_callee, value_callee, resolve, load, store, literal, decides, call_named, call_by, loads, closure, emit_expr, emit_exprs, emit_object, method_end, emit_body}
-use Rattle.definitions.specs.Run.{flow}
 use Rattle.definitions.specs.Walk.{walked, returned, Walk, before, and_then, follow, adds, leaves, Both, walk_named, walk_call, walk_expr, walk_exprs, walk_object, walk_body, walk_at}
 use Rattle.definitions.specs.Reader.{ends_in_return, jumps_land, code_stands}
+use Rattle.definitions.specs.Open.{flows}
 use Rattle.definitions.proofs.Shape.{plain, ret, seq, Plain, none, more}
 use Rattle.definitions.proofs.Demand.{Over, over-then}
 use Rattle.definitions.proofs.Lands.{Stop, stands, stop-return, stop-init}
@@ -31,7 +31,7 @@ use Rattle.definitions.proofs.Part.{Part, Leaf, part-adds, part-follow, part-log
 -- ---- leaves
 
 pub leaf-load : (slots : List Name) (x : Name) → Leaf (load slots x)
-unfolding load flow
+unfolding load flows
 leaf-load slots x = go (position (same x) slots)
   where
     go : (o : Option ℕ) → Leaf (elim o as (λ z. Emit) [ some i ↦ one (LoadLocal i) | nothing ↦ intern x (λ k. one (Instruction.LoadGlobal k)) ])
@@ -39,7 +39,7 @@ leaf-load slots x = go (position (same x) slots)
     go nothing = leaf-symbol x (λ k. leaf-one (num refl refl refl))
 
 pub leaf-store : (slots : List Name) (x : Name) → Leaf (store slots x)
-unfolding store flow
+unfolding store flows
 leaf-store slots x = go (position (same x) slots)
   where
     go : (o : Option ℕ) → Leaf (elim o as (λ z. Emit) [ some i ↦ one (Instruction.StoreLocal i) | nothing ↦ intern x (λ k. one (Instruction.StoreGlobal k)) ])
@@ -47,12 +47,12 @@ leaf-store slots x = go (position (same x) slots)
     go nothing = leaf-symbol x (λ k. leaf-one (num refl refl refl))
 
 pub plain-bool : (b : Bool) → Plain (ConstBool b)
-unfolding flow
+unfolding flows
 plain-bool false = num refl refl refl
 plain-bool true = num refl refl refl
 
 pub plain-build : (k : Display) (n : ℕ) → Plain (Instruction.Build k n)
-unfolding flow build_code
+unfolding flows build_code
 plain-build list_d n = num refl refl refl
 plain-build tuple_d n = num refl refl refl
 plain-build dict_d n = num refl refl refl
@@ -60,13 +60,13 @@ plain-build set_d n = num refl refl refl
 plain-build tree_set_d n = num refl refl refl
 
 pub plain-unary : (op : UnaryOp) → Plain (Instruction.Unary op)
-unfolding flow unary_code
+unfolding flows unary_code
 plain-unary not_op = num refl refl refl
 plain-unary negate_op = num refl refl refl
 plain-unary pos_op = num refl refl refl
 
 pub plain-binary : (op : BinaryOp) → Plain (Instruction.Binary op)
-unfolding flow binary_code operator_code binary_number
+unfolding flows binary_code operator_code binary_number
 plain-binary add_op = num refl refl refl
 plain-binary subtract_op = num refl refl refl
 plain-binary multiply_op = num refl refl refl
@@ -81,7 +81,7 @@ plain-binary greater_op = num refl refl refl
 plain-binary greater_equal_op = num refl refl refl
 
 pub leaf-literal : (v : Literal) → Leaf (literal v)
-unfolding literal flow
+unfolding literal flows
 leaf-literal none_l = leaf-one (num refl refl refl)
 leaf-literal (bool_l b) = leaf-one (plain-bool b)
 leaf-literal (int_l n) = leaf-one (num refl refl refl)
@@ -116,7 +116,7 @@ unfolding leaves emits
 part-leave = record { at = λ p t. record { code = ret; ok = tt; emitted = refl; walks = refl }; grows = λ p t. grow-none }
 
 pub part-init : Part false (emits (LoadLocal 0 ∷ Return ∷ [])) (leaves (LoadLocal 0 ∷ Return ∷ []))
-unfolding emits leaves flow encodes concat and_then before
+unfolding emits leaves flows encodes concat and_then before
 part-init = record {
   at = λ p t. record {
     code = seq (plain (LoadLocal 0 ∷ [])) ret;
@@ -165,7 +165,7 @@ function-silent x arity frame body e p t = go (position (same x) t.symbols)
     go nothing = refl
 
 pub leaf-closure : (e : Emit) (slots : List Name) (n : ℕ) (inner cs : List Name) (body : Body) → Whole (e ⨟ one Return) (names_only inner) body → Leaf (closure slots n inner cs body e)
-unfolding closure flow
+unfolding closure flows
 leaf-closure e slots n inner cs body B =
     leaf-by (λ t. function (Lower.lambda_name (length t.functions)) n (names_only inner) body (e ⨟ one Return) ⨟ loads slots cs ⨟ one (Instruction.MakeClosure (length t.functions) (length cs)))
     (λ t. leaf-seq (leaf-function _ n (names_only inner) body B) (leaf-seq (leaf-loads slots cs) (leaf-one (num refl refl refl))))
@@ -177,18 +177,18 @@ unfolding walk_body emit_body
 whole-expr slots b A = whole (names_only slots) (expr_body b) (Return ∷ []) refl refl A part-leave stop-return
 
 pub part-named : {l : Bool} (c : Callee) (slots : List Name) (x : Name) {e : Emit} {w : Walk} (n : ℕ) → Part l e w → Part l (call_named c slots x e n) (walk_named c slots x e w n)
-unfolding call_named walk_named flow
+unfolding call_named walk_named flows
 part-named (builtin_callee i) slots x n A = part-follow A (part-adds (leaf-one (num refl refl refl)))
 part-named (function_callee i) slots x n A = part-follow A (part-adds (leaf-one (num refl refl refl)))
 part-named value_callee slots x n A = part-follow (part-adds (leaf-load slots x)) (part-follow A (part-adds (leaf-one (num refl refl refl))))
 
 pub part-value : {l : Bool} {e f : Emit} {w v : Walk} (n : ℕ) → Part l e w → Part l f v → Part l (e ⨟ f ⨟ one (Instruction.CallValue n)) (follow e w (follow f v (adds (one (Instruction.CallValue n)))))
-unfolding flow
+unfolding flows
 part-value n A B = part-follow A (part-follow B (part-adds (leaf-one (num refl refl refl))))
 
 pub part-method : {l : Bool} {e f : Emit} {w v : Walk} (x : Name) (n : ℕ) → Part l e w → Part l f v
     → Part l (e ⨟ f ⨟ intern x (λ k. one (Instruction.CallMethod k n))) (follow e w (follow f v (adds (intern x (λ k. one (Instruction.CallMethod k n))))))
-unfolding flow
+unfolding flows
 part-method x n A B = part-follow A (part-follow B (part-adds (leaf-symbol x (λ k. leaf-one (num refl refl refl)))))
 
 -- code and walk of a part
@@ -211,7 +211,7 @@ pub part-nothing : {l : Bool} → Part l (emits []) (adds (emits []))
 part-nothing = part-adds (leaf-emits none)
 
 mutual
-  unfolding emit_expr walk_expr emit_exprs walk_exprs emit_object walk_object flow
+  unfolding emit_expr walk_expr emit_exprs walk_exprs emit_object walk_object flows
 
   pub part-expr : (l : Bool) (slots : List Name) (e : Expr) → Part l (emit_expr slots e) (walk_expr slots e)
   part-expr l slots (lit v) = part-adds (leaf-literal v)

@@ -18,8 +18,8 @@ use Rattle.definitions.specs.Tables.{Method, Tables, block_body, Emit, emits, on
 use Rattle.definitions.specs.Lower
 use Rattle.definitions.specs.Lower.{load, store, copy, emit_expr, emit_target, unpack, assign_by, Keeper, global, local, make_iter, named_iter, kept_iter, store_iter, load_iter, iter_name, ask_iter, take_iter}
 use Rattle.definitions.specs.Lower.{method_end, begin_class, class_object, end_class, class_out, emit_stmt, emit_block, emit_branches, emit_methods, emit_body, compile}
-use Rattle.definitions.specs.Run.{flow}
 use Rattle.definitions.specs.Walk.{walked, broke, continued, Walk, follow, adds, walk_expr, walk_assign, walk_stmt, walk_block, walk_branches, walk_body}
+use Rattle.definitions.specs.Open.{flows}
 use Rattle.definitions.proofs.Shape.{Plain, brk, cont, size, hop, none, more}
 use Rattle.definitions.proofs.Lands.{stop-return}
 use Rattle.definitions.proofs.Meaning.{Meaning, meaning-seq, meaning-choose, meaning-plain, meaning-length}
@@ -30,7 +30,7 @@ use Rattle.definitions.proofs.PartExpr.{Whole, whole, leaf-store, part-leave, pa
 -- ---- targets
 
 leaf-copy : (i : ℕ) → Leaf (copy i)
-unfolding copy flow
+unfolding copy flows
 leaf-copy zero = leaf-emits none
 leaf-copy (suc i) = leaf-one (num refl refl refl)
 
@@ -42,7 +42,7 @@ leaf-tuple true E = E
 leaf-tuple false E = leaf-nothing
 
 mutual
-  unfolding emit_target unpack flow
+  unfolding emit_target unpack flows
 
   leaf-target : (slots : List Name) (e : Expr) → Leaf (emit_target slots e)
   leaf-target slots (lit l) = leaf-nothing
@@ -61,7 +61,7 @@ mutual
   leaf-unpack slots (e ∷ᵉ es) i = leaf-seq (leaf-unpack slots es (suc i)) (leaf-seq (leaf-copy i) (leaf-seq (leaf-emits (more (num refl refl refl) (more (num refl refl refl) none))) (leaf-target slots e)))
 
 part-assign : (l : Bool) (slots : List Name) (v : View) {e : Emit} {w : Walk} → Part l e w → Part l (assign_by v slots e) (walk_assign v slots e w)
-unfolding assign_by walk_assign flow
+unfolding assign_by walk_assign flows
 part-assign l slots (as_var x) A = part-follow A (part-adds (leaf-store slots x))
 part-assign l slots (as_attr o x) A = part-follow (part-expr l slots o) (part-follow A (part-adds (leaf-symbol x (λ n. leaf-one (num refl refl refl)))))
 part-assign l slots (as_index o i) A = part-follow (part-expr l slots o) (part-follow (part-expr l slots i) (part-follow A (part-adds (leaf-one (num refl refl refl)))))
@@ -71,25 +71,25 @@ part-assign l slots as_other A = part-adds leaf-nothing
 -- ---- iterators and classes
 
 leaf-make_iter : Leaf make_iter
-unfolding make_iter flow
+unfolding make_iter flows
 leaf-make_iter = leaf-symbol _ (λ k. leaf-one (num refl refl refl))
 
 plain-store : (g : Keeper) → Plain (store_iter g)
-unfolding store_iter flow
+unfolding store_iter flows
 plain-store (global k) = num refl refl refl
 plain-store (local n) = num refl refl refl
 
 plain-load : (g : Keeper) → Plain (load_iter g)
-unfolding load_iter flow
+unfolding load_iter flows
 plain-load (global k) = num refl refl refl
 plain-load (local n) = num refl refl refl
 
 leaf-ask_iter : (g : Keeper) → Leaf (ask_iter g)
-unfolding ask_iter flow
+unfolding ask_iter flows
 leaf-ask_iter g = leaf-seq (leaf-one (plain-load g)) (leaf-symbol _ (λ k. leaf-one (num refl refl refl)))
 
 leaf-take_iter : (slots : List Name) (x : Name) (g : Keeper) → Leaf (take_iter slots x g)
-unfolding take_iter flow
+unfolding take_iter flows
 leaf-take_iter slots x g = leaf-seq (leaf-one (plain-load g)) (leaf-seq (leaf-symbol _ (λ k. leaf-one (num refl refl refl))) (leaf-store slots x))
 
 part-iter : {l : Bool} {f : ℕ → Emit} {v : ℕ → Walk} → ((g : ℕ) → Part l (f g) (v g)) → Part l (named_iter f) (named_iter v)
@@ -102,7 +102,7 @@ part-kept in_globals F = part-iter (λ k. F (global k))
 part-kept (in_slots n) F = F (local n)
 
 leaf-end_class : (x : Name) (c : ℕ) (ms : List Method) → Leaf (end_class x c ms)
-unfolding end_class class_object flow
+unfolding end_class class_object flows
 leaf-end_class x c ms = record { at = λ p t. go.at p _; grows = λ p t. go.grows p _ }
   where
     go : Leaf (intern x (class_object c))
@@ -222,7 +222,7 @@ unfolding emit_stmt begin_class class_out
 leaf-class slots keep x m vs M = record { at = λ p t. (leaf-end_class x _ _).at p _; grows = λ p t. grow-more (M.grows [] (begin_class x t)) ((leaf-end_class x _ _).grows p _) }
 
 mutual
-  unfolding emit_stmt walk_stmt emit_methods flow
+  unfolding emit_stmt walk_stmt emit_methods flows
 
   part-stmt : (l : Bool) (slots : List Name) (keep : Keeping) (a : Stmt) → OkS l a → Part l (emit_stmt slots keep a) (walk_stmt slots keep a)
   part-stmt l slots keep break k = part-break k

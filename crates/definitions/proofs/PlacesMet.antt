@@ -5,9 +5,9 @@ use Prim.Native.Nat.{ℕ, zero, suc}
 use native.Mathlib.Omega.{arith}
 use lib.ListN.{get_or}
 use lib.Dec.{eqb}
-use Rattle.definitions.specs.Instruction.{Instr, Return, encode}
+use Rattle.definitions.specs.Instruction.{Instr, Return, encode, Flow, straight, jump, returns, question, flow}
 use Rattle.definitions.specs.Reader.{landing}
-use Rattle.definitions.specs.Run.{Ran, Flow, straight, jump, returns, question, flow, way, obey, ended, run}
+use Rattle.definitions.specs.Run.{Ran, way, obey, ended, run}
 use Rattle.definitions.specs.Reach.{passing, places_met}
 use Rattle.definitions.specs.Statements.{events_by, events_at, Counted, MetAreSteps}
 

@@ -9,10 +9,10 @@ use lib.ListN.{length, get_or, replicate, length-replicate}
 use lib.Dec.{eqb, leb, ltb}
 use borrow.Author.Tests.{eqb-true, leb-true, leb-false, le-leb}
 use Rattle.definitions.specs.Bytes.{Answer, refused, accepted, when_accepted}
-use Rattle.definitions.specs.Instruction.{Instr, Return}
+use Rattle.definitions.specs.Instruction.{Instr, Return, Flow, straight, jump, returns, question, flow}
 use Rattle.definitions.specs.Tables.{Function, Tables}
 use Rattle.definitions.specs.Reader.{code_stands, read_module}
-use Rattle.definitions.specs.Run.{Ran, Flow, straight, jump, returns, question, flow, run}
+use Rattle.definitions.specs.Run.{Ran, run}
 use Rattle.definitions.specs.Calls.{function_of, events_fit, run_function, run_answer}
 use Rattle.definitions.specs.Sheet.{tally, is_question}
 use Rattle.definitions.specs.Reach.{Brings, wide_area, room_asked, place_asked, sought, Finds}

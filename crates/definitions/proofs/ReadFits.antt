@@ -10,9 +10,9 @@ use lib.Pow.{are_bytes}
 use borrow.Author.Tests.{lt-ltb, leb-true}
 use Rattle.definitions.specs.Bytes.{Answer, refused, accepted, Parser, counted, list_of, be, concat, housed, unhouse}
 use Rattle.definitions.specs.Utf8.{is_utf8}
-use Rattle.definitions.specs.Instruction.{Instr, encode, encodes, first_width, second_width}
+use Rattle.definitions.specs.Instruction.{Instr, encode, encodes, is_instruction, first_width, second_width}
 use Rattle.definitions.specs.Tables.{Function, Tables}
-use Rattle.definitions.specs.Module.{name_bytes, text_bytes, function_bytes, class_bytes, table_bytes, module_bytes, instructions}
+use Rattle.definitions.specs.Module.{name_bytes, text_bytes, function_bytes, class_bytes, table_bytes, module_version, module_bytes, instructions}
 use Rattle.definitions.specs.Reader.{instruction, function_record, module_record, whole_module, read_module}
 use Rattle.definitions.proofs.Every.{Every, no_every, every}
 use Rattle.definitions.proofs.Lengths.{length-encode, length-function}
@@ -30,7 +30,7 @@ pub module-short : (m : List ℕ) (t : Tables) → read_module m ≡ accepted t 
 unfolding read_module
 module-short m t e = go (leb (length m) 524288) refl e
   where
-    go : (b : Bool) → leb (length m) 524288 ≡ b → (elim b as (λ z. Answer Tables) [ true ↦ unhouse 17 18 (λ rest. whole_module (module_record rest)) m | false ↦ refused 17 ]) ≡ accepted t → length m ≤ 524288
+    go : (b : Bool) → leb (length m) 524288 ≡ b → (elim b as (λ z. Answer Tables) [ true ↦ unhouse module_version 17 18 (λ rest. whole_module (module_record rest)) m | false ↦ refused 17 ]) ≡ accepted t → length m ≤ 524288
     go true k e = leb-true (length m) 524288 k
     go false k e = let z : ◌≡◌ {A = ℕ} 0 1 = cc in absurd (omega arith)
 
@@ -55,13 +55,14 @@ fits-list w W =
 fits-instruction : Writes (λ i xs. InstrFits i) instruction
 unfolding instruction
 fits-instruction =
-    writes-bind _ (writes-tested (λ op. leb op 45) writes_byte) (λ op xs h.
+    writes-bind _ (writes-tested is_instruction writes_byte) (λ op xs h.
     writes-bind _ (writes-field (first_width op)) (λ a ys k.
     writes-bind _ (writes-field (second_width op)) (λ b zs l.
     writes-give _ (record { op = h.1; a = k.1; b = l.1 }))))
 
 -- a function's code
 pub record CodeFits (f : Function) : Type 0 where
+  pub height : f.height < 65536
   pub few : length f.code < 65536
   pub code : Every InstrFits f.code
 
@@ -71,8 +72,9 @@ fits-function =
     writes-bind _ (writes-number 2) (λ k ks hk.
     writes-bind _ (writes-number 1) (λ n ns hn.
     writes-bind _ (writes-number 2) (λ l ls hl.
+    writes-bind _ (writes-field 2) (λ g gs hg.
     writes-bind _ (fits-list 2 fits-instruction) (λ is xs h.
-    writes-give _ (record { few = h.1; code = h.0 })))))
+    writes-give _ (record { height = hg.1; few = h.1; code = h.0 }))))))
 
 -- the functions, and how many instructions they have
 pub record FunctionsFit (t : Tables) : Type 0 where
@@ -101,13 +103,13 @@ functions-bytes : (fs : List Function) → instructions fs ≤ length (concat fu
 unfolding concat instructions encodes
 functions-bytes [] = omega arith
 functions-bytes (f ∷ fs) =
-    let k : length (function_bytes f) ≡ 7 + length (concat encode f.code) = length-function f in
+    let k : length (function_bytes f) ≡ 9 + length (concat encode f.code) = length-function f in
     omega (arith, functions-bytes fs, code-bytes f.code, length-append (function_bytes f) (concat function_bytes fs), k)
 
 module-bytes : (t : Tables) → instructions t.functions ≤ length (module_bytes t)
 unfolding module_bytes housed
 module-bytes t =
-    let l = length-append (be 4 (suc (length (table_bytes t)))) (1 ∷ table_bytes t) in
+    let l = length-append (be 4 (suc (length (table_bytes t)))) (module_version ∷ table_bytes t) in
     omega (arith, functions-bytes t.functions, length-tables t, l)
 
 -- the functions of an accepted module

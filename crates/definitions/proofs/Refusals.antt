@@ -7,9 +7,9 @@ use Prim.Native.Nat.{ℕ, suc}
 use native.Mathlib.Omega.{arith}
 use lib.ListN.{length, get_or, drop}
 use lib.Dec.{eqb, eqb-suc-zero, leb, le→leb}
-use Rattle.definitions.specs.Bytes.{Answer, refused, accepted, when_accepted, Parsed, got, failed, ◌>>=◌, give, byte, field, unhouse, counts_rest, version_one}
+use Rattle.definitions.specs.Bytes.{Answer, refused, accepted, when_accepted, Parsed, got, failed, ◌>>=◌, give, byte, field, unhouse, counts_rest, version_is}
 use Rattle.definitions.specs.Tree.{Block}
-use Rattle.definitions.specs.Parse.{block_of, parse_stmt, whole_block, read_tree}
+use Rattle.definitions.specs.Parse.{block_of, parse_stmt, whole_block, tree_version, read_tree}
 use Rattle.definitions.specs.Wellformed.{ask_block, block_questions, first_no, refused_by, well_formed}
 use Rattle.definitions.specs.Tables.{Tables}
 use Rattle.definitions.specs.Lower.{compile}
@@ -38,6 +38,12 @@ unfolding ask
 ask-is true q a = refl
 ask-is false q a = refl
 
+-- what is accepted was answered yes
+pub ask-accepted : {A : Type 0} (c : Bool) (q : ℕ) (a : Answer A) (t : A) → ask c q a ≡ accepted t → (c ≡ true) × (a ≡ accepted t)
+unfolding ask
+ask-accepted true q a t e = (refl, e)
+ask-accepted false q a t e = let z : ◌≡◌ {A = ℕ} 0 1 = cc in absurd (omega arith)
+
 -- the first no of a list
 asks-is : {A : Type 0} (asked : ℕ → Bool) (qs : List ℕ) (a : A) → refused_by (first_no asked qs) a ≡ asks asked qs (accepted a)
 unfolding refused_by first_no asks ask
@@ -62,18 +68,18 @@ when-asks asked (q ∷ qs) a f = when-ask (asked q) q (asks asked qs a) f ∙ ap
 
 -- ---- the head of a record: 3 and 4 of a tree, 17 and 18 of a module
 
-pub head-asked : {A : Type 0} (p q : ℕ) (body : List ℕ → Answer A) (bs : List ℕ)
-    → unhouse p q body bs ≡ ask (head_counts bs) p (ask (leb 5 (length bs) && eqb (get_or bs 4 0) 1) q (body (drop 5 bs)))
-unfolding unhouse counts_rest version_one head_counts ask field byte give ◌>>=◌
-head-asked p q body [] = refl
-head-asked p q body (a ∷ []) = refl
-head-asked p q body (a ∷ b ∷ []) = refl
-head-asked p q body (a ∷ b ∷ c ∷ []) = refl
-head-asked p q body (a ∷ b ∷ c ∷ d ∷ []) = ask-is (head_counts (a ∷ b ∷ c ∷ d ∷ [])) p (refused q)
-head-asked {A} p q body (a ∷ b ∷ c ∷ d ∷ v ∷ rest) =
+pub head-asked : {A : Type 0} (w p q : ℕ) (body : List ℕ → Answer A) (bs : List ℕ)
+    → unhouse w p q body bs ≡ ask (head_counts bs) p (ask (leb 5 (length bs) && eqb (get_or bs 4 0) w) q (body (drop 5 bs)))
+unfolding unhouse counts_rest version_is head_counts ask field byte give ◌>>=◌
+head-asked w p q body [] = refl
+head-asked w p q body (a ∷ []) = refl
+head-asked w p q body (a ∷ b ∷ []) = refl
+head-asked w p q body (a ∷ b ∷ c ∷ []) = refl
+head-asked w p q body (a ∷ b ∷ c ∷ d ∷ []) = ask-is (head_counts (a ∷ b ∷ c ∷ d ∷ [])) p (refused q)
+head-asked {A} w p q body (a ∷ b ∷ c ∷ d ∷ v ∷ rest) =
     let five = is_true (leb 5 (suc (suc (suc (suc (suc (length rest))))))) (le→leb 5 (suc (suc (suc (suc (suc (length rest)))))) (omega arith)) in
     let head = head_counts (a ∷ b ∷ c ∷ d ∷ v ∷ rest) in
-    rw five (ask-is head p (version_one q body (v ∷ rest)) ∙ ap (ask head p) (ask-is (eqb v 1) q (body rest)))
+    rw five (ask-is head p (version_is w q body (v ∷ rest)) ∙ ap (ask head p) (ask-is (eqb v w) q (body rest)))
 
 -- ---- 5 and 6: the block
 
@@ -90,13 +96,13 @@ block-asked (failed q) h = go q (h q refl)
 -- ---- 2 to 6: the tree
 
 tree-asked : (tree : List ℕ)
-    → read_tree tree ≡ ask (leb (length tree) 32768) 2 (ask (head_counts tree) 3 (ask (leb 5 (length tree) && eqb (get_or tree 4 0) 1) 4
+    → read_tree tree ≡ ask (leb (length tree) 32768) 2 (ask (head_counts tree) 3 (ask (leb 5 (length tree) && eqb (get_or tree 4 0) tree_version) 4
     (ask (reads_whole (parsed tree)) 5 (ask (not_too_deep (parsed tree)) 6 (accepted (block_read (parsed tree)))))))
 unfolding read_tree parsed
 tree-asked tree =
     ask-is (leb (length tree) 32768) 2 _
-    ∙ ap (ask (leb (length tree) 32768) 2) (head-asked 3 4 (λ rest. whole_block (block_of (parse_stmt 32) rest)) tree
-    ∙ ap (λ (z : Answer Block). ask (head_counts tree) 3 (ask (leb 5 (length tree) && eqb (get_or tree 4 0) 1) 4 z)) (block-asked (parsed tree) ((fails-tree 32).at (drop 5 tree))))
+    ∙ ap (ask (leb (length tree) 32768) 2) (head-asked tree_version 3 4 (λ rest. whole_block (block_of (parse_stmt 32) rest)) tree
+    ∙ ap (λ (z : Answer Block). ask (head_counts tree) 3 (ask (leb 5 (length tree) && eqb (get_or tree 4 0) tree_version) 4 z)) (block-asked (parsed tree) ((fails-tree 32).at (drop 5 tree))))
 
 -- ---- 7 to 16: the block
 
@@ -123,7 +129,7 @@ module _ (l : Limits) (room : ℕ) where
 
   finish-tree : (tree : List ℕ)
       → finish (when_accepted (read_tree tree) (lower_block l))
-      ≡ ask (leb (length tree) 32768) 2 (ask (head_counts tree) 3 (ask (leb 5 (length tree) && eqb (get_or tree 4 0) 1) 4
+      ≡ ask (leb (length tree) 32768) 2 (ask (head_counts tree) 3 (ask (leb 5 (length tree) && eqb (get_or tree 4 0) tree_version) 4
       (ask (reads_whole (parsed tree)) 5 (ask (not_too_deep (parsed tree)) 6 (finish (lower_block l (block_read (parsed tree))))))))
   unfolding finish when_accepted
   finish-tree tree = rw tree-asked (simp when-ask)

@@ -5,8 +5,8 @@ use Prim.Native.Nat.{ℕ, zero, suc, ◌+◌}
 use native.Mathlib.Nat.{suc-add}
 use native.Mathlib.Omega.{arith}
 use lib.ListN.{get_or}
-use Rattle.definitions.specs.Instruction.{Instr, Return, encode}
-use Rattle.definitions.specs.Run.{Ran, ended, after, Flow, straight, jump, returns, question, flow, obey, run}
+use Rattle.definitions.specs.Instruction.{Instr, Return, encode, Flow, straight, jump, returns, question, flow}
+use Rattle.definitions.specs.Run.{Ran, ended, after, obey, run}
 use Rattle.definitions.specs.Statements.{Budgeted, Steps}
 
 -- one step before a run

@@ -11,9 +11,9 @@ use lib.ListN.{length, get_or, set, take, length-append, length-set, get_or-eq_d
 use lib.Seq.{get_or-set_same, get_or-set_other, take-set-le, take-suc, take-suc-set, length-take-le}
 use lib.Dec.{eqb}
 use borrow.Author.Tests.{eqb-true}
-use Rattle.definitions.specs.Instruction.{Instr, Return}
+use Rattle.definitions.specs.Instruction.{Instr, Return, Flow, straight, jump, returns, question, flow}
 use Rattle.definitions.specs.Reader.{landing}
-use Rattle.definitions.specs.Run.{Flow, straight, jump, returns, question, flow, way}
+use Rattle.definitions.specs.Run.{way}
 use Rattle.definitions.specs.Sheet.{tally, is_question}
 use Rattle.definitions.specs.Search.{Next, straight_on, jumps_to, on_no, on_yes, Step, answers_of, asks, Table, meet, Marks, expand_by, expand, Rule, Chain, begins, goes, Swept, weigh, Tabled}
 use Rattle.definitions.proofs.Truth.{not_equal}

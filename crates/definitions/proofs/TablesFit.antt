@@ -15,6 +15,7 @@ use Rattle.definitions.proofs.Names.{Short, name-short}
 use Rattle.definitions.proofs.Bounds.{Utf8, Lean, Tight, Named, Ordered, OfClass, texts, names, members}
 use Rattle.definitions.proofs.Known.{Settles, Known}
 use Rattle.definitions.proofs.InstructionsFit.{back-code}
+use Rattle.definitions.proofs.NumberFew.{number-few}
 
 module _ (t : Tables) (L : Within office t) (cs : length t.constants ≤ length t.classes) where
   back-functions : {fs : List Function} → Every (Tight t) fs → Every Lean fs → Every Settles fs → Back function_record function_bytes fs
@@ -25,6 +26,7 @@ module _ (t : Tables) (L : Within office t) (cs : length t.constants ≤ length 
         symbol = omega (arith, y.symbol, L.symbols);
         arity = omega (arith, y.arity);
         locals = omega (arith, z.slots);
+        height = omega (arith, y.height, number-few f.code, z.code);
         count = omega (arith, z.code);
         code = back-code t L cs z.slots y.code q.settles;
       }))

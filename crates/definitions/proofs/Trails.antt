@@ -9,15 +9,16 @@ use lib.ListN.{length, get_or, length-append}
 use lib.Dec.{eqb, leb}
 use borrow.Author.Tests.{eq-eqb, eqb-true}
 use Rattle.definitions.specs.Bytes.{all}
-use Rattle.definitions.specs.Instruction.{Instr, Return}
+use Rattle.definitions.specs.Instruction.{Instr, Return, Flow, straight, jump, returns, question, flow}
 use Rattle.definitions.specs.Reader.{landing}
-use Rattle.definitions.specs.Run.{Flow, straight, jump, returns, question, flow, way}
+use Rattle.definitions.specs.Run.{way}
 use Rattle.definitions.specs.Calls.{are_answers}
 use Rattle.definitions.specs.Sheet.{is_question, one_if}
 use Rattle.definitions.specs.Reach.{passing, places_met, is_among, meets, Reachable, Brings, Nowhere}
 use Rattle.definitions.specs.Search.{Next, straight_on, jumps_to, on_no, on_yes, Step, answers_of, asks, Rule, Chain, begins, goes, Way, Swept}
 use Rattle.definitions.specs.Statements.{SearchTells}
-use Rattle.definitions.proofs.Flows.{chosen, flow-is}
+use Rattle.definitions.specs.Open.{flows}
+use Rattle.definitions.proofs.Rows.{chosen, flow-is}
 
 -- ---- membership
 
@@ -84,7 +85,7 @@ other-asks false false true = refl
 other-asks false false false = refl
 
 pub question-flow : (op : ℕ) → is_question op ≡ asks_by (flow op)
-unfolding is_question flow asks_by
+unfolding is_question flows asks_by
 question-flow op = go (eqb op 28) refl
   where
     go : (a : Bool) → eqb op 28 ≡ a → is_question op ≡ asks_by (flow op)

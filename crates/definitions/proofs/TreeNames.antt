@@ -1,11 +1,11 @@
 -- Questions 7 and 33 are asked of the names that stand in a tree, of each and of nothing else.
-use mathlib.Core.Path.{◌≡◌, refl, sym, ◌∙◌}
+use mathlib.Core.Path.{◌≡◌, refl, sym, ap, ◌∙◌}
 use mathlib.Core.Bool.{Bool, true, false, not, ◌&&◌, ◌||◌}
 use mathlib.Core.List.{List, [], ◌∷◌, ◌++◌}
-use Prim.Native.Nat.{ℕ, ◌≤◌}
+use Prim.Native.Nat.{ℕ}
 use native.Mathlib.Omega.{arith}
 use lib.ListN.{length}
-use lib.Dec.{leb, ltb}
+use lib.Dec.{eqb, leb, ltb}
 use borrow.Author.Tests.{ne_eqb}
 use Rattle.definitions.specs.Bytes.{Name, all, same}
 use Rattle.definitions.specs.Utf8.{is_utf8}
@@ -13,11 +13,10 @@ use Rattle.definitions.specs.Tree.{Literal, none_l, bool_l, int_l, float_l, stri
 use Rattle.definitions.specs.Tree.{Expr, lit, var, unary, binary, logical, call, attr, display, index, lambda, Exprs, []ᵉ, ◌∷ᵉ◌, Attribute}
 use Rattle.definitions.specs.Tree.{Stmt, break, continue, pass, expr, return, assign, if, while, for, def, class}
 use Rattle.definitions.specs.Tree.{Block, []ᵇ, ◌∷ᵇ◌, Branches, done, else, when, Methods, []ᵐ, method}
-use Rattle.definitions.specs.Wellformed.{is_iterator, distinct, init, is_target, if_asked, ask_name, ask_literal, ask_params, ask_method, ask_args, ask_expr, ask_exprs}
+use Rattle.definitions.specs.Wellformed.{is_iterator, distinct, init, is_target, is_full, if_asked, ask_name, ask_literal, ask_params, ask_method, ask_args, ask_expr, ask_exprs}
 use Rattle.definitions.specs.Wellformed.{ask_target, ask_attribute, ask_stmt, ask_block, ask_branches, ask_methods}
 use Rattle.definitions.specs.TreeNames.{names_expr, names_exprs, names_attributes, names_stmt, names_block, names_branches, names_methods}
 use Rattle.definitions.specs.Statements.{TreeNames}
-use Rattle.definitions.proofs.Truth.{at_most}
 
 and_yes : (a b : Bool) → b ≡ true → (a && b) ≡ a
 and_yes true b e = e
@@ -32,8 +31,12 @@ unfolding all
 all_append f [] ys = refl
 all_append f (x ∷ xs) ys = rw (all_append f xs ys) (sym (and_assoc (f x) (all f xs) (all f ys)))
 
+-- the questions that are not of names
+abbrev others : ℕ → Bool
+others k = leb 8 k && leb k 13 || eqb k 36
+
 -- a question of names: none of the others
-module _ (q : ℕ) (other : (k : ℕ) (test : Bool) → leb 8 k ≡ true → leb k 13 ≡ true → if_asked k q test ≡ true) where
+module _ (q : ℕ) (other : (k : ℕ) (test : Bool) → others k ≡ true → if_asked k q test ≡ true) where
   asks : List Name → Bool
   asks xs = all (ask_name q) xs
 
@@ -56,13 +59,13 @@ module _ (q : ℕ) (other : (k : ℕ) (test : Bool) → leb 8 k ≡ true → leb
   literal (bool_l b) = refl
   literal (int_l n) = refl
   literal (float_l n) = refl
-  literal (string_l s) = other 8 (is_utf8 s) refl refl
+  literal (string_l s) = other 8 (is_utf8 s) refl
 
   params : (ps : List Name) → ask_params q ps ≡ asks ps
   unfolding ask_params asks
   params ps =
-      and_yes (all (ask_name q) ps && if_asked 11 q (distinct ps)) (if_asked 13 q (leb (length ps) 255)) (other 13 _ refl refl)
-      ∙ and_yes (all (ask_name q) ps) (if_asked 11 q (distinct ps)) (other 11 _ refl refl)
+      and_yes (all (ask_name q) ps && if_asked 11 q (distinct ps)) (if_asked 13 q (leb (length ps) 255)) (other 13 _ refl)
+      ∙ and_yes (all (ask_name q) ps) (if_asked 11 q (distinct ps)) (other 11 _ refl)
 
   mutual
     unfolding ask_expr ask_exprs ask_args names_expr names_exprs asks all
@@ -74,7 +77,7 @@ module _ (q : ℕ) (other : (k : ℕ) (test : Bool) → leb 8 k ≡ true → leb
     of-expr (binary op l r) = both (names_expr l) (names_expr r) (of-expr l) (of-expr r)
     of-expr (logical op l r) = both (names_expr l) (names_expr r) (of-expr l) (of-expr r)
     of-expr (call f es) =
-        both (names_expr f) (names_exprs es) (and_yes (ask_expr q f) (if_asked 13 q (leb (count es) 255)) (other 13 _ refl refl) ∙ of-expr f) (of-exprs es)
+        both (names_expr f) (names_exprs es) (and_yes (ask_expr q f) (if_asked 13 q (leb (count es) 255)) (other 13 _ refl) ∙ of-expr f) (of-exprs es)
     of-expr (attr o x) = both (names_expr o) (x ∷ []) (of-expr o) (one x)
     of-expr (display k es) = of-exprs es
     of-expr (index o i) = both (names_expr o) (names_expr i) (of-expr o) (of-expr i)
@@ -86,7 +89,7 @@ module _ (q : ℕ) (other : (k : ℕ) (test : Bool) → leb 8 k ≡ true → leb
 
   target : (t : Expr) → ask_target q t ≡ asks (names_expr t)
   unfolding ask_target
-  target t = rw (other 10 (is_target t) refl refl) (of-expr t)
+  target t = rw (other 36 (is_full t) refl, other 10 (is_target t) refl) (of-expr t)
 
   attributes : (vs : List Attribute) → all (ask_attribute q) vs ≡ asks (names_attributes vs)
   unfolding ask_attribute names_attributes all asks
@@ -97,7 +100,7 @@ module _ (q : ℕ) (other : (k : ℕ) (test : Bool) → leb 8 k ≡ true → leb
 
   head : (x : Name) (ps : List Name) → ask_method q x ps ≡ (ask_name q x && ask_params q ps)
   unfolding ask_method
-  head x ps = and_yes (ask_name q x && ask_params q ps) (if_asked 12 q (not (same x init) || ltb 0 (length ps))) (other 12 _ refl refl)
+  head x ps = and_yes (ask_name q x && ask_params q ps) (if_asked 12 q (not (same x init) || ltb 0 (length ps))) (other 12 _ refl)
 
   -- a name, and two parts
   three : {a b : Bool} (x : Name) (xs ys : List Name) → a ≡ asks xs → b ≡ asks ys → (ask_name q x && a && b) ≡ asks (x ∷ (xs ++ ys))
@@ -107,8 +110,8 @@ module _ (q : ℕ) (other : (k : ℕ) (test : Bool) → leb 8 k ≡ true → leb
     unfolding ask_stmt ask_block ask_branches ask_methods names_stmt names_block names_branches names_methods asks all
 
     of-stmt : (loop : Bool) (s : Stmt) → ask_stmt q loop s ≡ asks (names_stmt s)
-    of-stmt loop break = other 9 loop refl refl
-    of-stmt loop continue = other 9 loop refl refl
+    of-stmt loop break = other 9 loop refl
+    of-stmt loop continue = other 9 loop refl
     of-stmt loop pass = refl
     of-stmt loop (expr e) = of-expr e
     of-stmt loop (return e) = of-expr e
@@ -142,15 +145,15 @@ unfolding all
 all_same f g h [] = refl
 all_same f g h (x ∷ xs) = rw (h x, all_same f g h xs)
 
--- 7 and 33 are none of 8 to 13
-off : (q : ℕ) → ((k : ℕ) → 8 ≤ k → k ≤ 13 → q ≡ k → ⊥) → (k : ℕ) (test : Bool) → leb 8 k ≡ true → leb k 13 ≡ true → if_asked k q test ≡ true
+-- 7 and 33 are none of them
+off : (q : ℕ) → others q ≡ false → (k : ℕ) (test : Bool) → others k ≡ true → if_asked k q test ≡ true
 unfolding if_asked
-off q h k test e f = rw (ne_eqb q k (h k (at_most 8 k e) (at_most k 13 f)))
+off q h k test e = rw (ne_eqb q k (λ z. let y : ◌≡◌ {A = Bool} false true = sym h ∙ ap others z ∙ e in let x : ◌≡◌ {A = ℕ} 0 1 = cc in omega arith))
 
 pub tree_names : TreeNames
 unfolding ask_name if_asked asks
 tree_names b = record {
-  formed = of-block 7 (off 7 (λ k h g e. omega arith)) false b;
-  apart = of-block 33 (off 33 (λ k h g e. omega arith)) false b
+  formed = of-block 7 (off 7 refl) false b;
+  apart = of-block 33 (off 33 refl) false b
       ∙ all_same (ask_name 33) (λ x. not (is_iterator x)) (λ x. and_yes (not (is_iterator x)) true refl) (names_block b);
 }

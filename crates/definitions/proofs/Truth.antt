@@ -1,8 +1,8 @@
 -- Laws of Booleans and tests.
 use mathlib.Core.Path.{◌≡◌, refl, sym, subst}
 use mathlib.Core.Bool.{Bool, true, false, not, ◌&&◌}
-use Prim.Native.Nat.{ℕ, ◌≤◌}
-use lib.Dec.{T, eqb, eqb_refl, leb, leb→le}
+use Prim.Native.Nat.{ℕ, ◌≤◌, ◌<◌}
+use lib.Dec.{T, eqb, eqb_refl, leb, leb→le, nleb→lt}
 
 pub left : (a b : Bool) → (a && b) ≡ true → a ≡ true
 left true b e = refl
@@ -31,3 +31,6 @@ is_true false t = absurd t
 pub is_false : (b : Bool) → T (not b) → b ≡ false
 is_false true t = absurd t
 is_false false t = refl
+
+pub not-most : (m n : ℕ) → leb m n ≡ false → n < m
+not-most m n e = nleb→lt m n (subst (λ (b : Bool). T (not b)) (sym e) tt)

@@ -2,9 +2,9 @@
 -- first. A means of proof and of the code's promises (R-8, R-10), nothing that has to be believed: SearchTells (Statements) says what marks tell.
 use Rattle.std.specs.Prelude.{ℕ, zero, suc, ◌+◌, ◌*◌, ◌≤◌, ◌<◌, ◌≡◌, Bool, true, false, List, [], ◌∷◌, ◌++◌, length, get_or, set, eqb}
 use Rattle.std.proofs.Common.{arith}
-use Rattle.definitions.specs.Instruction.{Instr, Return}
+use Rattle.definitions.specs.Instruction.{Instr, Return, Flow, straight, jump, returns, question, flow}
 use Rattle.definitions.specs.Reader.{landing}
-use Rattle.definitions.specs.Run.{Flow, straight, jump, returns, question, flow, way}
+use Rattle.definitions.specs.Run.{way}
 use Rattle.definitions.specs.Sheet.{is_question, one_if, tally}
 
 -- ---- from place to place

@@ -9,24 +9,28 @@ use Rattle.definitions.specs.Utf8.{Range, in_range, Octets, utf8_char, is_utf8, 
 use Rattle.definitions.specs.Tree.{BinaryOp, add_op, subtract_op, multiply_op, divide_op, floor_divide_op, modulo_op, equal_op, not_equal_op, less_op, less_equal_op, greater_op, greater_equal_op}
 use Rattle.definitions.specs.Tree.{binary_number, UnaryOp, LogicalOp, Display, Expr, lit, var, unary, binary, logical, call, attr, display, index, lambda, Exprs, []ᵉ, ◌∷ᵉ◌}
 use Rattle.definitions.specs.Tree.{Stmt, break, continue, pass, expr, return, assign, if, while, for, def, class, Block, []ᵇ, ◌∷ᵇ◌, Branches, done, else, when, Methods, Attribute}
-use Rattle.definitions.specs.Parse.{binary_kinds, block_of, parse_stmt}
+use Rattle.definitions.specs.Parse.{binary_kinds, block_of, parse_stmt, tree_version, read_tree}
 use Rattle.definitions.specs.Wellformed.{is_name, is_tuple, is_iterator, distinct, ask_block}
 use Rattle.definitions.specs.TreeNames.{names_block}
 use Rattle.definitions.specs.Slots.{add, locals_block, captures, loops_block}
 use Rattle.definitions.specs.Instruction.{Numbers, nothing, a_string, a_constant, a_slot, a_symbol, a_function, a_builtin, numbers_of}
 use Rattle.definitions.specs.Instruction.{Instr, LoadLocal, StoreLocal, StoreGlobal, Return, row_of, binary_code, encode, encodes}
+use Rattle.definitions.specs.Instruction.{Flow, straight, jump, returns, question, flow}
 use Rattle.definitions.specs.Tables.{Function, Tables, Body, block_body, expr_body, Source}
 use Rattle.definitions.specs.Lower.{iter_name, no_tables, compile, emit_body}
 use Rattle.definitions.specs.Bodies.{bodies}
-use Rattle.definitions.specs.Module.{Limits, office, console, limits_by, module_bytes, code_start, instructions, slots_fit, tables_fit, lower_block, lower_tables, lower_bytes}
+use Rattle.definitions.specs.Module.{Limits, office, console, limits_by, module_version, module_bytes, code_start, instructions, slots_fit, tables_fit, lower_block, lower_tables, lower_bytes}
 use Rattle.definitions.specs.Reader.{module_record, numbers_exist, code_stands, read_module}
 use Rattle.definitions.specs.Listing.{first_text, second_text, name_text, code_line, page_line, listing}
 use Rattle.definitions.specs.Sheet.{any_op, is_question, is_call, tally, all_code, count_line, sheet}
-use Rattle.definitions.specs.Run.{Ran, run, Flow, straight, jump, returns, question, flow}
+use Rattle.definitions.specs.Run.{Ran, run}
 use Rattle.definitions.specs.Walk.{Walked, ending_number, walk}
 use Rattle.definitions.specs.Calls.{areas_fit, are_answers, lower_answer, read_call, Part, part_of, code_call, text_answer, run_answer, walk_tree}
 use Rattle.definitions.specs.Reach.{places_met, Reachable, Brings, Nowhere, wide_area, sought, Finds}
 use Rattle.definitions.specs.Search.{Rule, Swept}
+use Rattle.definitions.specs.Stack.{height_after, height_number, height_at}
+use Rattle.definitions.specs.Heights.{Spot, spots_met, Met, Within, HeightsHold, heights_hold, function_holds, heights_answer}
+use Rattle.definitions.specs.Starts.{starts_source}
 use Rattle.definitions.specs.Samples.{samples, holds}
 
 -- ---- the starred samples: proofs/Samples
@@ -111,7 +115,7 @@ lower_questions l m n room tree =
     asked 1 (areas_fit m n)
     ∷ asked 2 (leb (length tree) 32768)
     ∷ asked 3 (head_counts tree)
-    ∷ asked 4 (leb 5 (length tree) && eqb (get_or tree 4 0) 1)
+    ∷ asked 4 (leb 5 (length tree) && eqb (get_or tree 4 0) tree_version)
     ∷ asked 5 (reads_whole (parsed tree))
     ∷ asked 6 (not_too_deep (parsed tree))
     ∷ asked 7 (ask_block 7 false b)
@@ -119,6 +123,7 @@ lower_questions l m n room tree =
     ∷ asked 8 (ask_block 8 false b)
     ∷ asked 9 (ask_block 9 false b)
     ∷ asked 10 (ask_block 10 false b)
+    ∷ asked 36 (ask_block 36 false b)
     ∷ asked 11 (ask_block 11 false b)
     ∷ asked 12 (ask_block 12 false b)
     ∷ asked 13 (ask_block 13 false b)
@@ -137,7 +142,7 @@ abbrev pub Refusals : Type 0
 Refusals =
     (l : Limits) (m n room : ℕ) (tree : List ℕ) → lower_answer l m n room tree ≡ first_refusal (lower_questions l m n room tree) (module_of tree)
 
--- ---- the same of the reader, of the hand-back of code, of the run, of texts about a module and of R-8's tool: proofs/ModuleRefusals
+-- ---- the same of the reader, of the hand-back of code, of the run, of texts about a module, of R-8's tool and of the check of heights: proofs/ModuleRefusals
 
 -- what the bytes after a module's head read as
 unfoldable pub record_read : List ℕ → Parsed Tables
@@ -164,7 +169,7 @@ code_in t f = elim (get_elem? t.functions f) [ some g ↦ g.code | none ↦ [] ]
 unfoldable pub read_questions : List ℕ → List Question
 read_questions m =
     asked 17 (leb (length m) 524288 && head_counts m)
-    ∷ asked 18 (leb 5 (length m) && eqb (get_or m 4 0) 1)
+    ∷ asked 18 (leb 5 (length m) && eqb (get_or m 4 0) module_version)
     ∷ asked 19 (laid_out (record_read m))
     ∷ asked 20 (numbers_exist (tables_in m))
     ∷ asked 21 (all code_stands (tables_in m).functions)
@@ -213,6 +218,13 @@ reach_questions n m f place room =
 abbrev pub ReachRefusals : Type 0
 ReachRefusals =
     (n : ℕ) (m : List ℕ) (f place room : ℕ) → sought n m f place room ≡ first_refusal (reach_questions n m f place room) (code_in (tables_in m) f)
+
+-- those of the check of heights, by the length of the area
+unfoldable pub heights_questions : ℕ → List ℕ → List Question
+heights_questions n m = asked 1 (wide_area n) ∷ read_questions m ++ asked 37 (all function_holds (tables_in m).functions) ∷ []
+
+abbrev pub HeightsRefusals : Type 0
+HeightsRefusals = (n : ℕ) (m : List ℕ) → heights_answer n m ≡ first_refusal (heights_questions n m) tt
 
 -- ---- two sets of limits: proofs/Narrower
 
@@ -729,3 +741,64 @@ pub record SheetFits (t : Tables) : Type 0 where
 
 abbrev pub SheetLength : Type 0
 SheetLength = (m : List ℕ) (t : Tables) → are_bytes m ≡ true → read_module m ≡ accepted t → SheetFits t
+
+-- ---- heights: proofs/Spots, proofs/HeightsLowered, proofs/HeightsDecided, proofs/Check
+
+-- Every function of every accepted tree has the number of its code in its record, and its heights hold with it
+abbrev pub LoweredHeights : Type 0
+LoweredHeights =
+    (l : Limits) → Under l office → (tree : List ℕ) (t : Tables) → are_bytes tree ≡ true → lower_tables l tree ≡ accepted t
+    → (k : ℕ) (f : Function) → get_elem? t.functions k ≡ some f → (f.height ≡ height_number f.code) × HeightsHold f.height f.code
+
+-- the same about the bytes: of every module that is lowered, as the reader reads it
+abbrev pub LoweredHeightsBytes : Type 0
+LoweredHeightsBytes =
+    (l : Limits) → Under l office → (tree m : List ℕ) → are_bytes tree ≡ true → lower_bytes l tree ≡ accepted m
+    → (t : Tables) → read_module m ≡ accepted t
+    → (k : ℕ) (f : Function) → get_elem? t.functions k ≡ some f → (f.height ≡ height_number f.code) × HeightsHold f.height f.code
+
+-- the number is the largest height that an instruction of the code leaves, each met at the height of its place
+abbrev pub NumberIsLargest : Type 0
+NumberIsLargest =
+    (code : List Instr)
+    → ((p : ℕ) → p < length code → height_after (get_or code p Return) (height_at 0 code p) ≤ height_number code)
+    × (1 ≤ length code → (p : ℕ) × (p < length code) × (height_after (get_or code p Return) (height_at 0 code p) ≡ height_number code))
+
+-- The number counts each statement, and a function's end, from height 0, those that no run reaches included: a run that began there at height 0 would
+-- meet every place at the height that the number counts, with values enough and not above the number
+abbrev pub LoweredStarts : Type 0
+LoweredStarts =
+    (l : Limits) → Under l office → (tree : List ℕ) (b : Block) (t : Tables) → are_bytes tree ≡ true → read_tree tree ≡ accepted b → lower_block l b ≡ accepted t
+    → (k : ℕ) (f : Function) → get_elem? t.functions k ≡ some f
+    → (s : Source) × (get_elem? (compile b).sources k ≡ some s)
+    × ((j q : ℕ) → get_elem? (starts_source s) j ≡ some q
+    → (p h : ℕ) → Met f.code q p h → (h ≡ height_at 0 f.code p) × Within f.height (get_or f.code p Return) h)
+
+-- the number is at most one more than the count of instructions, which question 15 bounds: it fits its two bytes
+abbrev pub NumberFits : Type 0
+NumberFits = (code : List Instr) → height_number code ≤ suc (length code)
+
+-- the places of a run's spots are those that it meets (MetAreSteps: those that it counts as steps)
+abbrev pub SpotsArePlaces : Type 0
+SpotsArePlaces = (n : ℕ) (code : List Instr) (p h : ℕ) (answers : List ℕ) → map (λ (s : Spot). s.place) (spots_met n code p h answers) ≡ places_met n code p answers
+
+-- of code that passes question 21: the search says yes exactly if the heights hold
+abbrev pub HeightsDecided : Type 0
+HeightsDecided =
+    (number : ℕ) (f : Function) → code_stands f ≡ true
+    → (heights_hold number f.code ≡ true → HeightsHold number f.code) × (HeightsHold number f.code → heights_hold number f.code ≡ true)
+
+-- the heights of every function of a module hold
+abbrev pub EveryHolds : Tables → Type 0
+EveryHolds t = (k : ℕ) (f : Function) → get_elem? t.functions k ≡ some f → HeightsHold f.height f.code
+
+-- with an area long enough, a module that the reader takes passes the check exactly if all its heights hold; else the check refuses by 37
+abbrev pub CheckAnswers : Type 0
+CheckAnswers =
+    (n : ℕ) (m : List ℕ) (t : Tables) → wide_area n ≡ true → read_module m ≡ accepted t
+    → (EveryHolds t → heights_answer n m ≡ accepted tt) × ((EveryHolds t → ⊥) → heights_answer n m ≡ refused 37) × (heights_answer n m ≡ accepted tt → EveryHolds t)
+
+-- every lowered module passes the check
+abbrev pub LoweredPasses : Type 0
+LoweredPasses =
+    (l : Limits) → Under l office → (tree m : List ℕ) → are_bytes tree ≡ true → lower_bytes l tree ≡ accepted m → (n : ℕ) → wide_area n ≡ true → heights_answer n m ≡ accepted tt

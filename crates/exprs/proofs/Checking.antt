@@ -1,6 +1,6 @@
 -- What check_expr finds at each kind, and a list of expressions one by one. Assumes nothing.
 use Prim.Native.Nat.{ℕ, ◌+◌, ◌-◌, ◌<◌, ◌≤◌}
-use mathlib.Core.Path.{◌≡◌, refl, sym, ap, ◌∙◌}
+use mathlib.Core.Path.{◌≡◌, refl, sym, ap, subst, ◌∙◌}
 use mathlib.Core.List.{List}
 use mathlib.Core.Logic.{◌⊎◌, inl, inr}
 use native.Mathlib.Omega.{arith}
@@ -13,13 +13,12 @@ use Rattle.questions.specs.declared.Question.{Question}
 use Rattle.questions.specs.declared.Question.TheVariants.{TreeLayout, Depth}
 use Rattle.questions.specs.Numbers.{number}
 use Rattle.definitions.specs.Bytes.{field}
-use Rattle.parts.specs.Judge.{Passed, judged, unasked, suited, judge_expr, judge_many, judge_display}
+use Rattle.parts.specs.Judge.{Passed, judged, unasked, suited, judge_expr, inner, judge_many, judge_display}
 use Rattle.parts.specs.Asked.{stand}
 use Rattle.parts.specs.Judged.{passed_by, Judged, ReadsByte, Stands}
 use Rattle.parts.specs.declared.asked.BlockQuestion.{BlockQuestion}
 use Rattle.parts.specs.declared.checker.Checker.{Checker}
 use Rattle.parts.specs.declared.roles.Role.{Role}
-use Rattle.parts.specs.declared.roles.Role.TheVariants.{Value}
 use Rattle.parts.proofs.Steps.{Turns, Along, done}
 use Rattle.exprs.specs.Constants.{Skipped}
 use Rattle.exprs.proofs.ExprLaws.{expr-none, expr-end, expr-unknown, many-none, many_more, at_none, at-false, at_true, at-int, at-float, at-list, at_set, at-tree-set}
@@ -68,7 +67,7 @@ expr-eight r d a f s e (inl h) j = expr-step r d 3 a f s (sym e ∙ ap expr_byte
 expr-eight r d a f s e (inr h) j = expr-step r d 4 a f s (sym e ∙ ap expr_byte h) (λ t p w u f h s e. at-float r d t p w u f h s e) j
 
 pub expr-values : (r : Role) (d : ℕ) {k : ExprKind} {b : ℕ} {o : Result (Unit {0}) Question} {c c₁ c₂ c₃ : Checker} → ReadsByte (Ok b) c c₁ → (d ≡ 0 → ⊥) → Stands c₁ c₂ (suited r b) → expr_byte k ≡ b →
-    (k ≡ list_kind) ⊎ ((k ≡ Set) ⊎ (k ≡ TreeSet)) → Judged o c₂ c₃ (judge_display Value (d - 1)) → Judged o c c₃ (judge_expr r d)
+    (k ≡ list_kind) ⊎ ((k ≡ Set) ⊎ (k ≡ TreeSet)) → Judged o c₂ c₃ (judge_display (d - 1)) → Judged o c c₃ (judge_expr r d)
 unfolding expr_byte
 expr-values r d a f s e (inl h) j = expr-step r d 11 a f s (sym e ∙ ap expr_byte h) (λ t p w u f h s e. at-list r d t p w u f h s e) j
 expr-values r d a f s e (inr (inl h)) j = expr-step r d 14 a f s (sym e ∙ ap expr_byte h) (λ t p w u f h s e. at_set r d t p w u f h s e) j
@@ -93,3 +92,8 @@ many-skip {r = r} {d = d} {m = m} {k = k} {c = c} {c₁ = c₁} a s = record {
   same = a.same ∙ s.passes.same (stand c.first) ∙ ap (λ (t : List ℕ). judge_many r d t (m - k) (c.at + k) (stand c.first)) (sym s.tree)
       ∙ ap (λ (p : ℕ). judge_many r d c₁.tree.now (m - k) p (stand c.first)) (sym s.at) ∙ ap (λ (o : Option BlockQuestion). judge_many r d c₁.tree.now (m - k) c₁.at (stand o)) (sym s.first);
 }
+
+-- the elements of a tuple have its inner role
+pub tuple-role : {s : Role} (r : Role) (d n : ℕ) {o : Result (Unit {0}) Question} {c c₁ : Checker} → s ≡ inner r →
+    Judged o c c₁ (λ t p w. judge_many s d t n p w) → Judged o c c₁ (λ t p w. judge_many (inner r) d t n p w)
+tuple-role r d n {o = o} {c = c} {c₁ = c₁} e j = subst (λ (x : Role). Judged o c c₁ (λ t p w. judge_many x d t n p w)) e j

@@ -34,7 +34,7 @@ pub struct Both {
     pub office: Result<usize, Question>,
 }
 
-// The module of a tree, read as soon as it is written: whenever the lowering accepts, the reader accepts. A refusal is one of questions 1 to 16 and 33.
+// The module of a tree, read as soon as it is written: whenever the lowering accepts, the reader accepts. A refusal is one of questions 1 to 16, 33 and 36.
 pub fn lower_and_read(
     tree: &[u8],
     limits: Limits,
@@ -49,7 +49,7 @@ pub fn lower_and_read(
     Ok(Reread { written, verdict })
 }
 
-// The run of a function of a tree's module: it does what the walk of the tree does. A refusal is one of questions 1 to 16 and 33.
+// The run of a function of a tree's module: it does what the walk of the tree does. A refusal is one of questions 1 to 16, 33 and 36.
 pub fn lower_and_run(
     tree: &[u8],
     limits: Limits,

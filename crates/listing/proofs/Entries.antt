@@ -5,13 +5,13 @@ use Prim.Native.Nat.{ℕ, ◌+◌, ◌/◌, ◌%◌, ◌≤◌, ◌<◌}
 use native.Mathlib.Omega.{arith}
 use lib.ListN.{length}
 use Rattle.definitions.specs.Calls.{written}
-use Rattle.definitions.specs.Instruction.{first_width, second_width}
 use Rattle.definitions.specs.Reader.{instruction}
 use Rattle.definitions.specs.Listing.{heading, code_line, page_line}
 use Rattle.definitions.proofs.Listing as Text
 use Rattle.reader.specs.View.{Got, shown}
 use Rattle.reader.specs.declared.Placed.{Placed}
-use Rattle.reader.proofs.Encoding.{Small, number_small, instruction-view}
+use Rattle.reader.proofs.Encoding.{Small}
+use Rattle.tally.proofs.Parts.{operands-fit}
 use Rattle.writing.specs.Wrote.{Wrote}
 use Rattle.writing.proofs.Begun.{over, from, joined, begun-done, put_first, put_next}
 use Rattle.listing.specs.Lines.{Operands}
@@ -20,14 +20,7 @@ use Rattle.listing.proofs.LineLaws.{line-in}
 -- operands that were read
 pub operands-read : (t : List ℕ) → Small t → (at : ℕ) (p : Placed) (m : ℕ) → at ≤ length t → Got instruction t at (shown p) m → p.instruction.op < 46 → Operands p
 operands-read t small at p m h g o =
-    let v = instruction-view t at (shown p) m h g in
-    let x = v.2 in
-    let y = v.3 in
-    record {
-      opcode = o;
-      first = omega (arith, number_small t small (first_width p.instruction.op) (at + 1));
-      second = omega (arith, number_small t small (second_width p.instruction.op) (at + 1 + first_width p.instruction.op));
-    }
+    let v = operands-fit t small at (shown p) m h g in record { opcode = o; first = v.0; second = v.1 }
 
 -- the page's line
 pub page-53 : (k : ℕ) → k < 1000000 → length (page_line (k / 50 + 1)) ≡ 53

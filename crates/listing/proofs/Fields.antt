@@ -19,6 +19,7 @@ use Rattle.definitions.proofs.Begins.{le-or-gt}
 use Rattle.columns.specs.declared.Field.{Field}
 use Rattle.columns.specs.declared.Field.TheVariants.{Blank, Digits, Negative, Bits}
 use Rattle.columns.specs.Fields.{field_text}
+use Rattle.definitions.proofs.Rows.{jump-is}
 use Rattle.definitions.proofs.Decimals.{signed-plus, signed-minus}
 use Rattle.columns.proofs.Right.{right-wider}
 use Rattle.writing.proofs.Begun.{joined}
@@ -26,16 +27,15 @@ use Rattle.writing.proofs.Begun.{joined}
 -- ---- what is no jump
 
 pub no-jump : (op : ℕ) → (op ≡ 28 → ⊥) → (op ≡ 29 → ⊥) → (op ≡ 30 → ⊥) → is_jump op ≡ false
-unfolding is_jump
 no-jump op a b c = ⊎_elim
     (λ (h : 28 ≤ op). ⊎_elim
-    (λ (k : 31 ≤ op). rw (le-leb 28 op h, lt-leb op 30 (omega arith), is_jump))
+    (λ (k : 31 ≤ op). rw (jump-is op, le-leb 28 op h, lt-leb op 30 (omega arith)))
     (λ (k : op < 31). ⊎_elim
     (λ (m : 30 ≤ op). absurd (c (omega arith)))
     (λ (m : op < 30). ⊎_elim (λ (n : 29 ≤ op). absurd (b (omega arith))) (λ (n : op < 29). absurd (a (omega arith))) (le-or-gt 29 op))
     (le-or-gt 30 op))
     (le-or-gt 31 op))
-    (λ (h : op < 28). rw (lt-leb 28 op h, is_jump))
+    (λ (h : op < 28). rw (jump-is op, lt-leb 28 op h))
     (le-or-gt 28 op)
 
 -- ---- opcodes that have a first operand

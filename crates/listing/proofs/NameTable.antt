@@ -8,7 +8,7 @@ use lib.Dec.{leb}
 use lib.ListN.{length, get_or, take, drop}
 use lib.Seq.{take_at, drop-append-add}
 use Rattle.definitions.specs.Bytes.{all, concat, ascii}
-use Rattle.definitions.specs.Instruction.{Row, row, nothing, instruction_table, row_of}
+use Rattle.definitions.specs.Instruction.{Row, no_row, instruction_table, row_of}
 use Rattle.definitions.specs.Columns.{left_in}
 use Rattle.definitions.specs.Listing.{name_text}
 use Rattle.definitions.proofs.Truth.{left, right, at_most}
@@ -30,7 +30,7 @@ unfolding all short instruction_table
 all_short = refl
 
 none : Row
-none = row "" 0 0 nothing
+none = no_row
 
 row_at : (xs : List Row) → all short xs ≡ true → (k : ℕ) → k < length xs → take 16 (drop (k * 16) (concat name_row xs)) ≡ name_row (get_or xs k none)
 unfolding all short concat name_row

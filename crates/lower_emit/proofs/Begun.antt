@@ -6,7 +6,7 @@ use native.Mathlib.Omega.{arith}
 use native.Mathlib.Nat.{le_refl}
 use lib.ListN.{length, drop, set, length-append}
 use Rattle.definitions.specs.Slots.{Frame}
-use Rattle.definitions.specs.Tables.{Function, Tables, begin}
+use Rattle.definitions.specs.Tables.{Function, Tables, begin, coded}
 use Rattle.state.specs.Words.{region, text_at, instrs_of}
 use Rattle.state.specs.State.{strings_from, heads_from, codes_from, class_names_from, class_methods_from, methods_from, constants_from, done_from, spelled, function_of, functions_of}
 use Rattle.state.specs.State.{classes_of, State, tables_of, state_of, Every, EndsWithin, MadeWithin, total, Sound, symbol_index_from, symbol_buckets, string_index_from, string_buckets}
@@ -42,13 +42,13 @@ tables-eq t u a b c d e = λ i. record { symbols = a i; strings = b i; functions
 
 -- a head is the function of its parts; it has no code
 head-function : (t fin : List ℕ) (sy ar lo h : ℕ) → sy < 65536 → ar < 256 → lo < 256 → h ≡ sy * 65536 + ar * 256 + lo →
-    function_of t fin h 0 ≡ record { symbol = sy; arity = ar; locals = lo; code = [] }
+    function_of t fin h 0 ≡ coded sy ar lo []
 unfolding function_of region instrs_of
 head-function t fin sy ar lo h a b c e =
     let p : h / 2 ^ 16 ≡ sy = omega arith in
     let q : h / 2 ^ 8 % 2 ^ 8 ≡ ar = omega arith in
     let r : h % 2 ^ 8 ≡ lo = omega arith in
-    λ i. record { symbol = p i; arity = q i; locals = r i; code = [] }
+    λ i. coded (p i) (q i) (r i) []
 
 module _ (t made code tables : List ℕ) (sy ar lo h : ℕ) (c : Counts) (l : Limits) (s : Sound t made code tables c l) (more : c.functions < l.functions) where
   abbrev after : List ℕ
@@ -132,4 +132,4 @@ pub begin-over : (t made code tables tables' : List ℕ) (sy ar lo n : ℕ) (c :
     Begins Over t made code tables' c l n (begun_with sy ar lo (state_of t made code tables c))
 unfolding Begins begun_with
 begin-over t made code tables tables' sy ar lo n c l s h = λ inside.
-    omega (arith, inside.functions, function-count t made code tables c l s, length-append (state_of t made code tables c).tables.functions (record { symbol = sy; arity = ar; locals = lo; code = [] } ∷ []))
+    omega (arith, inside.functions, function-count t made code tables c l s, length-append (state_of t made code tables c).tables.functions (coded sy ar lo [] ∷ []))

@@ -8,6 +8,7 @@ use lib.Dec.{eqb}
 use borrow.Author.Tests.{lt-ltb, le-ltb, le-leb, lt-leb, ne_eqb}
 use Rattle.definitions.specs.Instruction.{instr, ConstI64, Jump, minus}
 use Rattle.definitions.specs.Reader.{is_jump}
+use Rattle.definitions.proofs.Rows.{jump-is}
 use Rattle.definitions.proofs.Listing.{is-jump}
 use Rattle.state.specs.Words.{number_at, word, op_of, first_of, second_of, widened, small_int, operand_of, instr_of}
 use Rattle.lower_emit.specs.Ops.{special, Plain}
@@ -72,19 +73,19 @@ instr-back t n h i =
 
 -- opcodes below and above the jumps
 pub plain-below : (op a b : ℕ) → 2 ≤ op → op < 28 → a < 65536 → b < 256 → Plain op a b
-unfolding special is_jump
+unfolding special
 plain-below op a b h k x y = record {
   op-byte = omega arith;
-  op-plain = rw (ne_eqb op 0 (λ e. omega arith), ne_eqb op 1 (λ e. omega arith), lt-leb 28 op k, ne_eqb op 48 (λ e. omega arith));
+  op-plain = rw (ne_eqb op 0 (λ e. omega arith), ne_eqb op 1 (λ e. omega arith), jump-is op, lt-leb 28 op k, ne_eqb op 48 (λ e. omega arith));
   first_short = x;
   second-byte = y;
 }
 
 pub plain-above : (op a b : ℕ) → 30 < op → op < 48 → a < 65536 → b < 256 → Plain op a b
-unfolding special is_jump
+unfolding special
 plain-above op a b h k x y = record {
   op-byte = omega arith;
-  op-plain = rw (ne_eqb op 0 (λ e. omega arith), ne_eqb op 1 (λ e. omega arith), le-leb 28 op (omega arith), lt-leb op 30 h, ne_eqb op 48 (λ e. omega arith));
+  op-plain = rw (ne_eqb op 0 (λ e. omega arith), ne_eqb op 1 (λ e. omega arith), jump-is op, le-leb 28 op (omega arith), lt-leb op 30 h, ne_eqb op 48 (λ e. omega arith));
   first_short = x;
   second-byte = y;
 }

@@ -1,7 +1,7 @@
 -- What the beginning and the end of a function leave, and of a class.
 use Rattle.std.specs.Prelude.{ℕ, zero, suc, ◌+◌, ◌-◌, ◌<◌, ◌≡◌, List, [], ◌∷◌, ◌++◌}
 use Rattle.definitions.specs.Instruction.{Instr}
-use Rattle.definitions.specs.Tables.{Function, with_functions}
+use Rattle.definitions.specs.Tables.{Function, with_functions, coded}
 use Rattle.state.specs.State.{State, state_of, with_tables, Within, Sound, Paced}
 use Rattle.state.specs.declared.Counts.{Counts}
 use Rattle.state.specs.declared.Limits.{Limits}
@@ -10,7 +10,7 @@ use Rattle.state.specs.Answered.{Numbered, At, Over}
 -- a function of n slots has begun: `begun`, where the rest of its frame doesn't matter
 unfoldable pub begun_with : ℕ → ℕ → ℕ → State → State
 begun_with k arity n s =
-    with_tables (with_functions (s.tables.functions ++ record { symbol = k; arity = arity; locals = n; code = [] } ∷ []) s.tables) s
+    with_tables (with_functions (s.tables.functions ++ coded k arity n [] ∷ []) s.tables) s
 
 -- the code of function n
 unfoldable pub body_of : List Function → ℕ → List Instr

@@ -9,7 +9,8 @@ use Rattle.definitions.specs.Instruction.{Instr, instr}
 use Rattle.definitions.specs.Tables.{emits, one}
 use Rattle.definitions.specs.Wellformed.{init}
 use Rattle.definitions.specs.Lower.{method_end}
-use Rattle.definitions.specs.Reader.{is_jump}
+use Rattle.definitions.specs.Reader.{jumps, is_jump}
+use Rattle.definitions.specs.Open.{flows}
 use Rattle.parts.specs.Places.{Node}
 use Rattle.definitions.specs.Tree.{Branches, else}
 use Rattle.tree.specs.StmtAt.{block_at, branches_at, else_at}
@@ -20,23 +21,23 @@ use Rattle.lower_forms.proofs.Unpacking.{plain_of}
 use Rattle.lower_forms.specs.Lowering.{end_of, BlockLowerable, BranchesLowerable}
 
 pub plain-break : Plain 46 0 0
-unfolding special is_jump
+unfolding special is_jump jumps flows
 plain-break = plain_of 46 (omega arith) refl
 
 pub plain-continue : Plain 47 0 0
-unfolding special is_jump
+unfolding special is_jump jumps flows
 plain-continue = plain_of 47 (omega arith) refl
 
 pub plain-pop : Plain 7 0 0
-unfolding special is_jump
+unfolding special is_jump jumps flows
 plain-pop = plain_of 7 (omega arith) refl
 
 pub plain-return : Plain 33 0 0
-unfolding special is_jump
+unfolding special is_jump jumps flows
 plain-return = plain_of 33 (omega arith) refl
 
 pub plain-object : Plain 9 0 0
-unfolding special is_jump
+unfolding special is_jump jumps flows
 plain-object = plain_of 9 (omega arith) refl
 
 -- ---- a function's end

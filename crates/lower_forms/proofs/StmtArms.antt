@@ -11,7 +11,7 @@ use Rattle.definitions.specs.Bytes.{Name, all, same}
 use Rattle.definitions.specs.Tree.{Stmt, if, when, for, Block, Branches, done, Methods}
 use Rattle.definitions.specs.Instruction.{instr}
 use Rattle.definitions.specs.Tables.{Emit, emits, one, ◌⨟◌}
-use Rattle.definitions.specs.Wellformed.{init, if_asked, is_target, ask_name, ask_params, ask_expr, ask_target, ask_stmt, ask_block, ask_branches, ask_method, ask_methods, ask_attribute}
+use Rattle.definitions.specs.Wellformed.{init, if_asked, is_target, is_full, ask_name, ask_params, ask_expr, ask_target, ask_stmt, ask_block, ask_branches, ask_method, ask_methods, ask_attribute}
 use Rattle.definitions.specs.Slots.{Keeping, past, loops_stmt}
 use Rattle.definitions.specs.Lower.{loop, emit_stmt, emit_block}
 use Rattle.parts.specs.Places.{Node, node, count_at, Counted, name_bytes, name_end, params_at}
@@ -87,7 +87,7 @@ module _ (d : ℕ) (t : List ℕ) (p : ℕ) (r : StmtLowerable d t p) where
       record {
         parts = record {
           target = v.parts.first;
-          args = (and_both (if_asked 10 13 (is_target x)) (ask_expr 13 x) a.0).1;
+          args = (and_both (if_asked 36 13 (is_full x) && if_asked 10 13 (is_target x)) (ask_expr 13 x) a.0).1;
           value = record { reads = v.parts.second; args = a.1 };
         };
         code = coded _ v.is;

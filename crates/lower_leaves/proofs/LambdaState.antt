@@ -11,7 +11,7 @@ use Rattle.names.proofs.Finding.{names-length}
 use Rattle.definitions.specs.Bytes.{Name, all, member, position, same, below}
 use Rattle.definitions.specs.Tree.{Expr}
 use Rattle.definitions.specs.Instruction.{Return, MakeClosure, LoadLocal}
-use Rattle.definitions.specs.Tables.{Function, Body, expr_body, Emit, one, ◌⨟◌, function}
+use Rattle.definitions.specs.Tables.{Function, Body, expr_body, Emit, one, ◌⨟◌, function, coded}
 use Rattle.definitions.specs.Slots.{names_only, within, insert, sort, captures}
 use Rattle.definitions.specs.Lower.{lambda_name, load, loads, closure, emit_expr}
 use Rattle.parts.specs.Places.{params_at, count_at}
@@ -120,7 +120,7 @@ module _ (t made code tables : List ℕ) (c : Counts) (l : Limits) (s : Sound t 
       function-known =
           let a = functions-longer body-tables in
           let d = function-count t made₂ code₂ tables₂ m l g.sound in
-          omega (arith, number, length-append (with_symbol x before.tables).functions (record { symbol = symbol_number x before.tables; arity = arity; locals = length inner; code = [] } ∷ []))
+          omega (arith, number, length-append (with_symbol x before.tables).functions (coded (symbol_number x before.tables) arity (length inner) [] ∷ []))
 
       pub function-empty : body_of (state_of t made₂ code₂ tables₂ m).tables.functions f ≡ []
       function-empty =

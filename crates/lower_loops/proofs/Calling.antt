@@ -8,7 +8,8 @@ use Rattle.definitions.specs.Bytes.{Name, ascii, decimal}
 use Rattle.definitions.specs.Instruction.{CallMethod}
 use Rattle.definitions.specs.Tables.{one, ◌⨟◌, intern}
 use Rattle.definitions.specs.Lower.{Keeper, iter_name, make_iter, load_iter, ask_iter, take_iter, store}
-use Rattle.definitions.specs.Reader.{is_jump}
+use Rattle.definitions.specs.Reader.{jumps, is_jump}
+use Rattle.definitions.specs.Open.{flows}
 use Rattle.definitions.proofs.Decimals.{length-decimal}
 use Rattle.state.specs.State.{State, emit_at}
 use Rattle.state.proofs.Emission.{at-seq}
@@ -56,5 +57,5 @@ take-is base slots x g s h =
 -- ---- the opcodes
 
 pub plain-method : Plain 35 0 0
-unfolding special is_jump
+unfolding special is_jump jumps flows
 plain-method = record { op-byte = omega arith; op-plain = refl; first_short = omega arith; second-byte = omega arith }

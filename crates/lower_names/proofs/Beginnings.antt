@@ -7,6 +7,7 @@ use lib.ListN.{length}
 use Rattle.std.specs.Prelude.{Option, Some, None}
 use Rattle.std.proofs.lemmas.Option.{none-some}
 use Rattle.definitions.specs.Bytes.{Name}
+use Rattle.definitions.specs.Tables.{coded}
 use Rattle.state.specs.State.{State, Sound, Within, Left, symbol_number}
 use Rattle.state.specs.declared.Limits.{Limits}
 use Rattle.state.proofs.Answers.{paced-more}
@@ -31,7 +32,7 @@ limits-begun e n g b h k = λ i. record { functions = k i; symbols = h i; string
 within-begun_with : {l : Limits} (k arity n : ℕ) (s : State) → Within l (begun_with k arity n s) → Within l s
 unfolding begun_with
 within-begun_with k arity n s w =
-    within-tables s _ (record { new = record { symbol = k; arity = arity; locals = n; code = [] } ∷ []; functions = refl; symbols = omega arith; strings = omega arith; classes = omega arith }) w
+    within-tables s _ (record { new = coded k arity n [] ∷ []; functions = refl; symbols = omega arith; strings = omega arith; classes = omega arith }) w
 
 module _ {tree : List ℕ} {a b : Emitter} {i : Option ℕ} (x : Name) (S : SoundIn tree a) (h : NumbersIn i (symbol_number x (state_in tree a).tables) tree a b (named x (state_in tree a))) where
   -- no room for the name

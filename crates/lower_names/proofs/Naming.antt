@@ -1,7 +1,7 @@
 -- Instructions that name a symbol or a string, by the laws of the state.
 use Prim.Native.Nat.{ℕ, ◌+◌, ◌≤◌, ◌<◌}
 use mathlib.Core.Path.{◌≡◌, refl, sym, ap, subst, ◌∙◌}
-use mathlib.Core.Bool.{false, ◌&&◌, ◌||◌}
+use mathlib.Core.Bool.{Bool, false, ◌&&◌, ◌||◌}
 use mathlib.Core.Option as definitions
 use mathlib.Core.Option.{none, some}
 use mathlib.Core.List.{List, ◌∷◌, map}
@@ -18,6 +18,7 @@ use Rattle.definitions.specs.Instruction.{Instr, instr}
 use Rattle.definitions.specs.Tables.{Emit, one, intern, get_or_add_string}
 use Rattle.definitions.specs.Lower.{load, store, loads}
 use Rattle.definitions.specs.Reader.{is_jump}
+use Rattle.definitions.proofs.Rows.{jump-is}
 use Rattle.state.specs.Words.{name_at, small_int}
 use Rattle.state.specs.State.{names_at, State, emit_at, Within, symbol_number, string_number}
 use Rattle.state.proofs.Emission.{at-intern, at-string}
@@ -71,13 +72,13 @@ pub plain-with : (op a b : ℕ) → a < 65536 → Plain op 0 b → Plain op a b
 plain-with op a b h p = record { op-byte = p.op-byte; op-plain = p.op-plain; first_short = h; second-byte = p.second-byte }
 
 low-plain : (op : ℕ) → 9 ≤ op → op ≤ 12 → special op ≡ false
-unfolding special is_jump
+unfolding special
 low-plain op h g =
     let a = ne_eqb op 0 (λ e. omega arith) in
     let b = ne_eqb op 1 (λ e. omega arith) in
-    let c = lt-leb 28 op (omega arith) in
+    let c : is_jump op ≡ false = jump-is op ∙ ap (λ (x : Bool). x && leb op 30) (lt-leb 28 op (omega arith)) in
     let d = ne_eqb op small_int (λ e. omega arith) in
-    λ j. a j || b j || (c j && leb op 30) || d j
+    λ j. a j || b j || c j || d j
 
 -- loads and stores
 pub plain_op : (op a : ℕ) → 9 ≤ op → op ≤ 12 → a < 65536 → Plain op a 0

@@ -11,7 +11,7 @@ use Rattle.definitions.specs.Bytes.{Name, same}
 use Rattle.definitions.specs.Wellformed.{init}
 use Rattle.definitions.specs.Tree.{Block}
 use Rattle.definitions.specs.Instruction.{Instr}
-use Rattle.definitions.specs.Tables.{Function, Tables, Emit, emits, ◌⨟◌, begin, block_body, set_code, function}
+use Rattle.definitions.specs.Tables.{Function, Tables, Emit, emits, ◌⨟◌, begin, block_body, set_code, function, coded}
 use Rattle.definitions.specs.Lower.{emit_block}
 use Rattle.parts.specs.Places.{count_at, name_end, params_at}
 use Rattle.definitions.specs.Slots.{Keeping, in_slots, Frame, with_loops, loops_block}
@@ -172,10 +172,10 @@ module _ {t : List ℕ} {a : Emitter} (S : SoundIn t a) (x : Name) (arity n : �
       unfolding emit_at
       grown = subst (λ (u : State). Lengthened begun_tables u.tables) (sym (A.left.state ∙ body_is)) (E.at (length (begun symbol (length ps) inner named).stack - length s.stack) begun_tables)
 
-      functions-are : (state_in t a₂).tables.functions ≡ s.tables.functions ++ (record { symbol = symbol; arity = length ps; locals = inner.locals; code = [] } ∷ grown.new)
+      functions-are : (state_in t a₂).tables.functions ≡ s.tables.functions ++ (coded symbol (length ps) inner.locals [] ∷ grown.new)
       unfolding begun begin
       functions-are =
-          grown.functions ∙ ap (λ (fs : List Function). fs ++ record { symbol = symbol; arity = length ps; locals = inner.locals; code = [] } ∷ [] ++ grown.new) (symbol-functions x s.tables)
+          grown.functions ∙ ap (λ (fs : List Function). fs ++ coded symbol (length ps) inner.locals [] ∷ [] ++ grown.new) (symbol-functions x s.tables)
           ∙ simp append_assoc
 
       last-base : a₂.code.base ≡ length s.stack
@@ -190,7 +190,7 @@ module _ {t : List ℕ} {a : Emitter} (S : SoundIn t a) (x : Name) (arity n : �
             arith,
             is,
             sym count ∙ ap length functions-are,
-            length-append s.tables.functions (record { symbol = symbol; arity = length ps; locals = inner.locals; code = [] } ∷ grown.new),
+            length-append s.tables.functions (coded symbol (length ps) inner.locals [] ∷ grown.new),
           )
 
       pub ended-body : body_of (state_in t a₂).tables.functions f ≡ []

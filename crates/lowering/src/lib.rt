@@ -1,4 +1,4 @@
-// The lowering of a tree: questions 1 to 16 and 33, and the module's bytes.
+// The lowering of a tree: questions 1 to 16, 33 and 36, and the module's bytes.
 #![tactic(auto)]
 
 ghost use Rattle.std.specs.Prelude.{◌≤◌, length};

@@ -8,6 +8,7 @@ use lib.ListN.{length, get_or, length-append, length-take}
 use native.Mathlib.Nat.{zero-min, min-zero, suc-min-suc}
 use Rattle.definitions.specs.Bytes.{be, list_bytes}
 use Rattle.definitions.specs.Instruction.{encode}
+use Rattle.definitions.specs.Stack.{height_number}
 use Rattle.definitions.specs.Module.{name_bytes, text_bytes, function_bytes, method_bytes, class_bytes}
 use Rattle.definitions.proofs.BytesWritten.{length-be}
 use Rattle.state.specs.Words.{region, name_at, text_at, instr_of, instrs_of}
@@ -91,24 +92,26 @@ module _ (tree fin : List ℕ) where
 
   -- with the code that was found for it
   module _ {t ws : List ℕ} (hs ks : List ℕ) (i : ℕ) (e : t ≡ tree) (f : ws ≡ placed (get_or ks i 0) fin) (l : i < length (function_elements hs ks)) where
-    pub function-pieces : let h = get_or hs i 0 in
-        get_or (function_elements hs ks) i [] ≡ be 2 (h / 65536) ++ joined (be 1 (h / 256 % 256) ∷ be 2 (h % 256) ∷ counted (map (code_piece t) ws) ∷ [])
+    pub function-pieces : {height : ℕ} → height ≡ height_number (instrs_of t ws) → let h = get_or hs i 0 in
+        get_or (function_elements hs ks) i [] ≡ be 2 (h / 65536) ++ joined (be 1 (h / 256 % 256) ∷ be 2 (h % 256) ∷ be 2 height ∷ counted (map (code_piece t) ws) ∷ [])
     unfolding function_bytes function_of instrs_of joined
-    function-pieces =
+    function-pieces tall =
         let h = get_or hs i 0 in
         let c : list_bytes 2 encode (instrs_of tree (placed (get_or ks i 0) fin)) ≡ counted (map (code_piece t) ws) =
         counted-words encode (instr_of tree) (placed (get_or ks i 0) fin) ∙ sym (ap₂ (λ (x y : List ℕ). counted (map (code_piece x) y)) e f) in
         function-element hs ks i l
-        ∙ ap (λ (z : List ℕ). be 2 (h / 65536) ++ (be 1 (h / 256 % 256) ++ (be 2 (h % 256) ++ z))) (c ∙ sym (append-nil (counted (map (code_piece t) ws))))
+        ∙ ap₂ (λ (n : ℕ) (z : List ℕ). be 2 (h / 65536) ++ (be 1 (h / 256 % 256) ++ (be 2 (h % 256) ++ (be 2 n ++ z))))
+        (sym (tall ∙ ap₂ (λ (x y : List ℕ). height_number (instrs_of x y)) e f)) (c ∙ sym (append-nil (counted (map (code_piece t) ws))))
 
-    pub length-function : 5 + length (counted (map (code_piece t) ws)) ≡ length (get_or (function_elements hs ks) i [])
+    pub length-function : 7 + length (counted (map (code_piece t) ws)) ≡ length (get_or (function_elements hs ks) i [])
     unfolding joined
     length-function =
-        let r : length (be 2 (get_or hs i 0 / 65536) ++ joined (be 1 (get_or hs i 0 / 256 % 256) ∷ be 2 (get_or hs i 0 % 256) ∷ counted (map (code_piece t) ws) ∷ [])) ≡ 5 + length (counted (map (code_piece t) ws)) =
+        let r :
+        length (be 2 (get_or hs i 0 / 65536) ++ joined (be 1 (get_or hs i 0 / 256 % 256) ∷ be 2 (get_or hs i 0 % 256) ∷ be 2 (height_number (instrs_of t ws)) ∷ counted (map (code_piece t) ws) ∷ [])) ≡ 7 + length (counted (map (code_piece t) ws)) =
         simp (length-append, length-be) (omega arith) in
-        sym (ap length function-pieces ∙ r)
+        sym (ap length (function-pieces refl) ∙ r)
 
-  pub functions-room : (hs ks : List ℕ) → length (counted (function_elements hs ks)) ≤ 2 + 655357 * length hs
+  pub functions-room : (hs ks : List ℕ) → length (counted (function_elements hs ks)) ≤ 2 + 655359 * length hs
   unfolding functions_of joined
   functions-room hs ks =
       let e = ap length (counted-pieces (function_elements hs ks)) ∙ length-append (be 2 (length (function_elements hs ks))) (joined (function_elements hs ks)) in
@@ -116,15 +119,15 @@ module _ (tree fin : List ℕ) where
       let r = go hs ks in
       omega arith
     where
-      one : (h k : ℕ) → length (function_bytes (function_of tree fin h k)) ≤ 655357
+      one : (h k : ℕ) → length (function_bytes (function_of tree fin h k)) ≤ 655359
       one h k =
           let e = length-function (h ∷ []) (k ∷ []) 0 refl refl (omega arith) in
           let r = code-room tree (placed k fin) in let s = region-short (k / 65536) (k % 65536) fin in omega arith
 
-      go : (hs ks : List ℕ) → length (joined (function_elements hs ks)) ≤ 655357 * length hs
+      go : (hs ks : List ℕ) → length (joined (function_elements hs ks)) ≤ 655359 * length hs
       go [] ks = omega arith
       go (h ∷ hs) [] = omega arith
-      go (h ∷ hs) (k ∷ ks) = let r = go hs ks in let l = length-append (function_bytes (function_of tree fin h k)) (joined (function_elements hs ks)) in let m = mul-suc 655357 (length hs) in omega (arith, one h k)
+      go (h ∷ hs) (k ∷ ks) = let r = go hs ks in let l = length-append (function_bytes (function_of tree fin h k)) (joined (function_elements hs ks)) in let m = mul-suc 655359 (length hs) in omega (arith, one h k)
 
 -- ---- classes
 

@@ -10,8 +10,9 @@ use mir.Val.{of_z, to_z}
 use lib.ListN.{length, get_or, set, length-append, get_or-map}
 use borrow.Author.Tests.{eqb-true, eqb-false, eq-eqb, ne_eqb, le-leb, lt-leb}
 use Rattle.definitions.specs.Bytes.{be}
-use Rattle.definitions.specs.Instruction.{Instr, instr, ConstI64, Row, row, nothing, instruction_table, row_of, first_width, second_width, encode}
+use Rattle.definitions.specs.Instruction.{Instr, instr, ConstI64, Row, no_row, instruction_table, row_of, first_width, second_width, encode}
 use Rattle.definitions.specs.Reader.{is_jump}
+use Rattle.definitions.proofs.Rows.{jump-is}
 use Rattle.definitions.proofs.Truth.{left, right, at_most}
 use Rattle.definitions.proofs.BytesWritten.{length-be}
 use Rattle.state.specs.Words.{op_of, first_of, second_of, widened, operand_of, number_at, instr_of}
@@ -24,11 +25,11 @@ use Rattle.writing.proofs.Begun.{joined, Begun, begun_first, wrote-byte}
 -- a column of the table of instructions, entry by entry
 pub first-is : (op : ℕ) → get_or (map (λ (r : Row). r.first) instruction_table) op 0 ≡ first_width op
 unfolding first_width row_of
-first-is op = get_or-map (λ (r : Row). r.first) instruction_table op (row "" 0 0 nothing)
+first-is op = get_or-map (λ (r : Row). r.first) instruction_table op no_row
 
 pub second_is : (op : ℕ) → get_or (map (λ (r : Row). r.second) instruction_table) op 0 ≡ second_width op
 unfolding second_width row_of
-second_is op = get_or-map (λ (r : Row). r.second) instruction_table op (row "" 0 0 nothing)
+second_is op = get_or-map (λ (r : Row). r.second) instruction_table op no_row
 
 -- every entry is small
 small_all : ℕ → List ℕ → Bool
@@ -76,16 +77,14 @@ module _ (t : List ℕ) (op a : ℕ) where
   plain h j = rw (ne_eqb op 0 (λ e. omega arith), operand_of) (rw (ne_eqb op 1 (λ e. omega arith)) (rw j))
 
   operand_low : 2 ≤ op → op < 28 → operand_of t op a ≡ a
-  unfolding is_jump
-  operand_low h k = plain h (rw (lt-leb 28 op k))
+  operand_low h k = plain h (rw (jump-is op, lt-leb 28 op k))
 
-  operand-high : 30 < op → operand_of t op a ≡ a
-  unfolding is_jump
-  operand-high k = plain (omega arith) (rw (le-leb 28 op (omega arith)) (lt-leb op 30 k))
+  pub operand-high : 30 < op → operand_of t op a ≡ a
+  operand-high k = plain (omega arith) (rw (jump-is op, le-leb 28 op (omega arith)) (lt-leb op 30 k))
 
   operand-jump : 28 ≤ op → op ≤ 30 → operand_of t op a ≡ widened a
-  unfolding operand_of is_jump
-  operand-jump h k = rw (ne_eqb op 0 (λ e. omega arith), operand_of) (rw (ne_eqb op 1 (λ e. omega arith)) (rw (le-leb 28 op h, le-leb op 30 k)))
+  unfolding operand_of
+  operand-jump h k = rw (ne_eqb op 0 (λ e. omega arith), operand_of) (rw (ne_eqb op 1 (λ e. omega arith)) (rw (jump-is op) (rw (le-leb 28 op h, le-leb op 30 k))))
 
 -- the first operand of a word that is no small integer
 module _ (t : List ℕ) (w : ℕ) where

@@ -5,3 +5,4 @@ pub mod Lengths
 pub mod CodeLengths
 pub mod Whole
 pub mod Parts
+pub mod Rising

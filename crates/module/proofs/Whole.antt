@@ -6,7 +6,7 @@ use native.Mathlib.Omega.{arith}
 use lib.ListN.{length, take, drop, length-append, length-drop}
 use lib.Seq.{take_all}
 use Rattle.definitions.specs.Bytes.{be, housed}
-use Rattle.definitions.specs.Module.{table_bytes, module_bytes}
+use Rattle.definitions.specs.Module.{module_version, table_bytes, module_bytes}
 use Rattle.definitions.proofs.BytesWritten.{length-be}
 use Rattle.state.specs.Words.{region}
 use Rattle.state.specs.State.{strings_from, heads_from, codes_from, class_names_from, class_methods_from, methods_from, constants_from, done_from, tables_of}
@@ -73,7 +73,7 @@ module _ (tree code tables : List ℕ) (c : Counts) {t fin hs ks u ms xs ps cs :
       omega arith
 
   pub bodies-fit : Small u → Roomy code tables c →
-      (length (counted (function_elements t fin hs ks)) ≤ 167771394) × (length (counted (class_elements u ms xs ps)) ≤ 1082130434) × (length (counted (map (be 2) cs)) ≤ 130)
+      (length (counted (function_elements t fin hs ks)) ≤ 167771906) × (length (counted (class_elements u ms xs ps)) ≤ 1082130434) × (length (counted (map (be 2) cs)) ≤ 130)
       × (length (counted (function_elements t fin hs ks)) + length (counted (class_elements u ms xs ps)) + length (counted (map (be 2) cs)) ≡ length (bodies_bytes tree code tables c))
   bodies-fit s r =
       let k = functions-room t fin hs ks in let l = region-short heads_from c.functions tables in let m = ap length d in
@@ -93,17 +93,17 @@ module _ (tree made code tables : List ℕ) (c : Counts) where
   length-module =
       let t = table_bytes (tables_of tree made code tables c) in
       let n = ap length sections ∙ length-append (texts_bytes tree made tables c) (bodies_bytes tree code tables c) in
-      let l = length-append (be 4 (suc (length t))) (1 ∷ t) in
+      let l = length-append (be 4 (suc (length t))) (module_version ∷ t) in
       let k = length-be 4 (suc (length t)) in
       omega arith
 
   pub module-pieces : (size : ℕ) → size ≡ length (module_bytes (tables_of tree made code tables c)) →
-      module_bytes (tables_of tree made code tables c) ≡ (be 4 (size - 4) ++ (1 ∷ [])) ++ joined (texts_bytes tree made tables c ∷ bodies_bytes tree code tables c ∷ [])
+      module_bytes (tables_of tree made code tables c) ≡ (be 4 (size - 4) ++ (module_version ∷ [])) ++ joined (texts_bytes tree made tables c ∷ bodies_bytes tree code tables c ∷ [])
   unfolding module_bytes housed joined
   module-pieces size e =
       let t = table_bytes (tables_of tree made code tables c) in
-      let l = length-append (be 4 (suc (length t))) (1 ∷ t) in
+      let l = length-append (be 4 (suc (length t))) (module_version ∷ t) in
       let k = length-be 4 (suc (length t)) in
       let n : suc (length t) ≡ size - 4 = omega arith in
-      ap₂ (λ (x : ℕ) (y : List ℕ). be 4 x ++ (1 ∷ y)) n (sections ∙ ap (λ (z : List ℕ). texts_bytes tree made tables c ++ z) (sym (append-nil (bodies_bytes tree code tables c))))
-      ∙ sym (append_assoc (be 4 (size - 4)) (1 ∷ []) (texts_bytes tree made tables c ++ (bodies_bytes tree code tables c ++ [])))
+      ap₂ (λ (x : ℕ) (y : List ℕ). be 4 x ++ (module_version ∷ y)) n (sections ∙ ap (λ (z : List ℕ). texts_bytes tree made tables c ++ z) (sym (append-nil (bodies_bytes tree code tables c))))
+      ∙ sym (append_assoc (be 4 (size - 4)) (module_version ∷ []) (texts_bytes tree made tables c ++ (bodies_bytes tree code tables c ++ [])))

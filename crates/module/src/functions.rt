@@ -5,10 +5,12 @@ ghost use Rattle.definitions.specs.Module.{function_bytes};
 ghost use Rattle.state.specs.Words.{region, instr_of};
 ghost use Rattle.state.specs.State.{functions_of};
 
+use crate::heights::height_of;
 use crate::list::{Listed, list_size, write_list};
 use crate::numbers::write_number;
 use crate::words::{instruction_size, write_instruction};
 use numerals::places::UPPER;
+use numerals::sizes::FUNCTION_COUNT;
 
 // n words from `from` on, cut at the end. names::spell::part is the same of bytes, and no one function serves both: it also says at which address
 // its bytes begin, which a function over any type cannot.
@@ -79,18 +81,19 @@ impl Listed for Functions<'_> {
         self.heads.len().min(self.places.len())
     }
 
-    // The name's symbol, arity, slots, and the instructions.
     fn size_at(&self, i: usize) -> usize {
         let code = self.code_at(i);
-        5 + list_size(&code)
+        FUNCTION_COUNT + list_size(&code)
     }
 
     fn write_at(&self, i: usize, out: &mut [u8]) -> usize {
         let head = self.heads[i];
         let code = self.code_at(i);
+        let height = height_of(code.words);
         let mut at = write_number(2, (head / UPPER) as u64, out);
         at += write_number(1, (head / 256 % 256) as u64, &mut out[at..]);
         at += write_number(2, (head % 256) as u64, &mut out[at..]);
+        at += write_number(2, height, &mut out[at..]);
         at + write_list(&code, &mut out[at..])
     }
 }

@@ -6,27 +6,28 @@ mod numbers; // numbers.rt: numbers of several bytes, bytes with their count
 mod list; // list.rt: lists of any elements
 pub mod words; // words.rt: instructions from their words
 mod symbols; // symbols.rt: symbols and strings
+mod heights; // heights.rt: the number in a function's record
 mod functions; // functions.rt: functions with their instructions
 mod classes; // classes.rt: classes with their methods, constants
 mod sections; // sections.rt: the sections from the areas
 
 ghost use Rattle.std.specs.Prelude.{◌≡◌, ◌++◌, ◌∷◌, [], ◌-◌, ◌≤◌, ◌<◌, ◌^◌, length};
 ghost use Rattle.definitions.specs.Bytes.{be};
-ghost use Rattle.definitions.specs.Module.{module_bytes};
+ghost use Rattle.definitions.specs.Module.{module_version, module_bytes};
 ghost use Rattle.state.specs.State.{tables_of};
 ghost use Rattle.writing.specs.Wrote.{Wrote};
 
 use numbers::write_number;
-use numerals::sizes::{COUNT, HEAD};
+use numerals::sizes::{COUNT, HEAD, MODULE_VERSION};
 pub use sections::Lowered;
 
-// The head of a record of `size` bytes: four bytes with the count of those after them, and version 1.
+// The head of a record of `size` bytes: four bytes with the count of those after them, and the version.
 fn write_head(size: usize, out: &mut [u8]) -> usize
     requires { (5 ≤ length out.old) × (4 ≤ size) × (size < 2 ^ 32) }
-    ensures { Wrote result (be 4 (size - 4) ++ (1 ∷ [])) out.old out.new }
+    ensures { Wrote result (be 4 (size - 4) ++ (module_version ∷ [])) out.old out.new }
 {
     let at = write_number(COUNT, (size - COUNT) as u64, out);
-    at + write_number(1, 1, &mut out[at..])
+    at + write_number(1, MODULE_VERSION as u64, &mut out[at..])
 }
 
 impl Lowered<'_> {

@@ -16,7 +16,7 @@ use numerals::places::{PLACED_END, UPPER, WORD_FIRST, WORD_OP};
 use widths::{first_width, second_width, whole_width};
 
 // The opcode of a word: a small integer is a ConstI64.
-fn opcode(w: u32) -> usize
+pub(crate) fn opcode(w: u32) -> usize
     ensures { ((t : List ℕ) → result ≡ (instr_of t w).op) × (result < 256) }
 {
     match w / WORD_OP {

@@ -31,15 +31,31 @@ pub const STORE_GLOBAL: u32 = 12;
 
 pub const ADD: u32 = 13;
 
+pub const SUB: u32 = 14;
+
+pub const MUL: u32 = 15;
+
 pub const DIV: u32 = 16;
 
 pub const TRUE_DIV: u32 = 17;
+
+pub const MOD: u32 = 18;
 
 pub const NEG: u32 = 19;
 
 pub const POS: u32 = 20;
 
 pub const EQ: u32 = 21;
+
+pub const NE: u32 = 22;
+
+pub const LT: u32 = 23;
+
+pub const LE: u32 = 24;
+
+pub const GT: u32 = 25;
+
+pub const GE: u32 = 26;
 
 pub const NOT: u32 = 27;
 

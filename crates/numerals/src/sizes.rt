@@ -5,13 +5,22 @@ pub const TREE_MOST: usize = 32768;
 
 pub const MODULE_MOST: usize = 524288;
 
-// The head of both: the count of the bytes after it in four, then the version.
+// The head of both: the count of the bytes after it in four, then the version, each its own.
 pub const COUNT: usize = 4;
 
 pub const HEAD: usize = 5;
 
-// The head of a function in a module: symbol, arity, slots, count of instructions.
-pub const FUNCTION_HEAD: usize = 7;
+pub const TREE_VERSION: u8 = 1;
+
+pub const MODULE_VERSION: u8 = 2;
+
+// The head of a function in a module: symbol, arity, slots, height, count of instructions.
+pub const FUNCTION_HEAD: usize = 9;
+
+// In it, where the height begins, and the count.
+pub const FUNCTION_HEIGHT: usize = 5;
+
+pub const FUNCTION_COUNT: usize = 7;
 
 // How deep statements and expressions may stand.
 pub const DEPTH: u32 = 32;

@@ -1,13 +1,14 @@
 -- One step of a checker after another, and the steps on its bytes. Assumes nothing.
-use Prim.Native.Nat.{ℕ, ◌+◌, ◌*◌, ◌-◌, ◌<◌, ◌≤◌}
+use Prim.Native.Nat.{ℕ, suc, ◌+◌, ◌*◌, ◌-◌, ◌<◌, ◌≤◌}
 use mathlib.Core.Path.{◌≡◌, refl, sym, ap, ◌∙◌}
 use mathlib.Core.Bool.{Bool, true, false, not, ◌||◌, true≢false}
-use mathlib.Core.List.{List}
+use mathlib.Core.List.{List, ◌∷◌}
 use mathlib.Core.Logic.{inl, inr, ⊎_elim}
 use native.Mathlib.Omega.{arith}
-use lib.Dec.{leb, ltb}
+use lib.Dec.{eqb, leb, ltb}
 use lib.ListN.{length, take, drop, get_or, get_elem?}
 use mathlib.Core.Option.{some}
+use Rattle.std.proofs.lemmas.Bool.{eqb-false}
 use Rattle.std.specs.Prelude.{Option, None, Some, Result, Ok, Err}
 use Rattle.definitions.specs.Bytes.{Name, field, text, same}
 use Rattle.definitions.specs.Utf8.{is_utf8}
@@ -15,12 +16,12 @@ use Rattle.definitions.specs.Wellformed.{if_asked, is_name, is_iterator, distinc
 use Rattle.questions.specs.declared.Question.{Question}
 use Rattle.questions.specs.declared.Question.TheVariants.{TreeLayout}
 use Rattle.questions.specs.Numbers.{number}
-use Rattle.parts.specs.Judge.{Passed, Next, Is, Placed, here, later, least, judged, and_then, with_number, number_at, operator_at, guarded, unasked, ask_text, judge_operator, judge_name, judge_names, judge_params, judge_head, suited, fits}
+use Rattle.parts.specs.Judge.{Passed, Next, Is, Placed, here, later, least, judged, and_then, with_number, number_at, operator_at, guarded, unasked, ask_text, judge_operator, judge_name, judge_names, judge_params, judge_head, suited, fits, filled, holds}
 use Rattle.parts.specs.Asked.{asks, place, stand}
 use Rattle.parts.specs.Judged.{passed_by, Judged, counted_by, Counts, Went, Short, ReadsByte, Stands, answered, Settles}
 use Rattle.parts.specs.Places.{count_at, Counted, name_bytes, There, names_from, AllThere}
 use Rattle.parts.specs.declared.asked.BlockQuestion.{BlockQuestion}
-use Rattle.parts.specs.declared.asked.BlockQuestion.TheVariants.{Names, IteratorNames, Strings, Loops, Targets, Parameters, Init, ListLengths}
+use Rattle.parts.specs.declared.asked.BlockQuestion.TheVariants.{Names, IteratorNames, Strings, Loops, Targets, EmptyTargets, Parameters, Init, ListLengths}
 use Rattle.parts.specs.declared.checker.Checker.{Checker}
 use Rattle.parts.specs.declared.roles.Role.{Role}
 use Rattle.parts.proofs.Laws.{then_next, then-refused, with-number, with-unread, le-or-gt}
@@ -114,16 +115,20 @@ along-end a b = record { tree = b.tree ∙ a.tree; answer = b.answer ∙ sym a.s
 -- ---- notes
 
 -- a question's place is where it stands
+past : {k q r : ℕ} {qs : List ℕ} → eqb q k ≡ false → Placed k qs r → Placed k (q ∷ qs) (suc r)
+past {k = k} {q = q} e p = later (eqb-false q k e) p
+
 pub placed-at : (q : BlockQuestion) → Placed (asks q) block_questions (place q)
 unfolding asks place block_questions
 placed-at Names = here
-placed-at IteratorNames = later (λ e. absurd (omega arith)) here
-placed-at Strings = later (λ e. absurd (omega arith)) (later (λ e. absurd (omega arith)) here)
-placed-at Loops = later (λ e. absurd (omega arith)) (later (λ e. absurd (omega arith)) (later (λ e. absurd (omega arith)) here))
-placed-at Targets = later (λ e. absurd (omega arith)) (later (λ e. absurd (omega arith)) (later (λ e. absurd (omega arith)) (later (λ e. absurd (omega arith)) here)))
-placed-at Parameters = later (λ e. absurd (omega arith)) (later (λ e. absurd (omega arith)) (later (λ e. absurd (omega arith)) (later (λ e. absurd (omega arith)) (later (λ e. absurd (omega arith)) here))))
-placed-at Init = later (λ e. absurd (omega arith)) (later (λ e. absurd (omega arith)) (later (λ e. absurd (omega arith)) (later (λ e. absurd (omega arith)) (later (λ e. absurd (omega arith)) (later (λ e. absurd (omega arith)) here)))))
-placed-at ListLengths = later (λ e. absurd (omega arith)) (later (λ e. absurd (omega arith)) (later (λ e. absurd (omega arith)) (later (λ e. absurd (omega arith)) (later (λ e. absurd (omega arith)) (later (λ e. absurd (omega arith)) (later (λ e. absurd (omega arith)) here))))))
+placed-at IteratorNames = past refl here
+placed-at Strings = past refl (past refl here)
+placed-at Loops = past refl (past refl (past refl here))
+placed-at Targets = past refl (past refl (past refl (past refl here)))
+placed-at EmptyTargets = past refl (past refl (past refl (past refl (past refl here))))
+placed-at Parameters = past refl (past refl (past refl (past refl (past refl (past refl here)))))
+placed-at Init = past refl (past refl (past refl (past refl (past refl (past refl (past refl here))))))
+placed-at ListLengths = past refl (past refl (past refl (past refl (past refl (past refl (past refl (past refl here)))))))
 
 pub answered-yes : (q : BlockQuestion) (ok : Bool) (w : ℕ) → ok ≡ true → w ≡ answered q ok w
 answered-yes q ok w e = noted-yes w (asks q) ok e
@@ -336,15 +341,24 @@ suits-step r k {c = c} e s = record {
   stand = s.stand ∙ ap (λ (b : Bool). least (stand c.first) (λ q. if_asked 10 q b)) e;
 }
 
+pub fills-step : (r : Role) (n : ℕ) {b : Bool} {c c₁ : Checker} → b ≡ holds r n → Stands c c₁ (answered EmptyTargets b) → Stands c c₁ (filled r n)
+unfolding filled asks
+fills-step r n {c = c} e s = record {
+  tree = s.tree;
+  at = s.at;
+  stand = s.stand ∙ ap (λ (b : Bool). least (stand c.first) (λ q. if_asked 36 q b)) e;
+}
+
 -- ---- the answer of a block
 
-pub place-known : (q : BlockQuestion) → (place q < 8) × (get_elem? block_questions (place q) ≡ some (asks q))
+pub place-known : (q : BlockQuestion) → (place q < 9) × (get_elem? block_questions (place q) ≡ some (asks q))
 unfolding place asks block_questions
 place-known Names = (omega arith, refl)
 place-known IteratorNames = (omega arith, refl)
 place-known Strings = (omega arith, refl)
 place-known Loops = (omega arith, refl)
 place-known Targets = (omega arith, refl)
+place-known EmptyTargets = (omega arith, refl)
 place-known Parameters = (omega arith, refl)
 place-known Init = (omega arith, refl)
 place-known ListLengths = (omega arith, refl)

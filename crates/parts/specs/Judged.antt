@@ -15,7 +15,7 @@ use Rattle.parts.specs.declared.asked.BlockQuestion.{BlockQuestion}
 pub record Starts (t : List ℕ) (p : ℕ) (c : Checker) : Type 0 where
   pub tree : c.tree.now ≡ t
   pub at : c.at ≡ p
-  pub first : stand c.first ≡ 8
+  pub first : stand c.first ≡ 9
 
 -- an answer, and where the checker stands, as the judges give them
 unfoldable pub passed_by : Result (Unit {0}) Question → Checker → Passed
@@ -73,5 +73,5 @@ answered q ok w = least w (λ k. if_asked (asks q) k ok)
 
 -- the answer once all has been read: something is over; or the first question answered no, if there is one
 unfoldable pub Settles : Result (Unit {0}) Question → Checker → Type 0
-Settles (Ok u) c = (length c.tree.now ≤ c.at) × (stand c.first ≡ 8)
-Settles (Err q) c = ((c.at < length c.tree.now) × (q ≡ TreeLayout)) ⊎ ((length c.tree.now ≤ c.at) × (stand c.first < 8) × (get_elem? block_questions (stand c.first) ≡ some (number q)))
+Settles (Ok u) c = (length c.tree.now ≤ c.at) × (stand c.first ≡ 9)
+Settles (Err q) c = ((c.at < length c.tree.now) × (q ≡ TreeLayout)) ⊎ ((length c.tree.now ≤ c.at) × (stand c.first < 9) × (get_elem? block_questions (stand c.first) ≡ some (number q)))

@@ -13,13 +13,14 @@ pub enum BlockQuestion {
     Strings = 2,
     Loops = 3,
     Targets = 4,
-    Parameters = 5,
-    Init = 6,
-    ListLengths = 7,
+    EmptyTargets = 5,
+    Parameters = 6,
+    Init = 7,
+    ListLengths = 8,
 }
 
 // How many questions are asked of a block.
-pub(crate) const QUESTIONS: u32 = 8;
+pub(crate) const QUESTIONS: u32 = 9;
 
 impl BlockQuestion {
     // Its place in the order in which the questions are asked.
@@ -41,6 +42,7 @@ impl BlockQuestion {
             BlockQuestion::Strings => Question::Strings,
             BlockQuestion::Loops => Question::Loops,
             BlockQuestion::Targets => Question::Targets,
+            BlockQuestion::EmptyTargets => Question::EmptyTargets,
             BlockQuestion::Parameters => Question::Parameters,
             BlockQuestion::Init => Question::Init,
             BlockQuestion::ListLengths => Question::ListLengths,

@@ -19,7 +19,7 @@ impl<'a> Checker<'a> {
     ghost use Rattle.std.specs.Prelude.{◌≡◌, take, drop, MatchResult, IfOk};
     ghost use Rattle.definitions.specs.Bytes.{field};
     ghost use Rattle.parts.specs.Asked.{stand};
-    ghost use Rattle.parts.specs.Judge.{judged, unasked, judge_operator, suited};
+    ghost use Rattle.parts.specs.Judge.{judged, unasked, judge_operator, suited, filled};
     ghost use Rattle.parts.specs.Judged.{Starts, ReadsByte, Judged, Counts, Went, Short, Skips, Stands, answered, Settles};
 
     // From a place on, with no question answered no.
@@ -128,6 +128,13 @@ impl<'a> Checker<'a> {
         ensures { Stands self.old self.new (suited role kind) }
     {
         self.note(BlockQuestion::Targets, role.fits(kind));
+    }
+
+    // 36: notes whether a tuple of n elements may stand in this role.
+    pub fn fills(&mut self, role: Role, n: u32)
+        ensures { Stands self.old self.new (filled role n) }
+    {
+        self.note(BlockQuestion::EmptyTargets, role.holds(n));
     }
 
     // What is answered of a block that has been read: whether something is over, and the first question answered no.

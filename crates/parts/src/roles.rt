@@ -1,6 +1,6 @@
-// The roles that an expression can have (10).
+// The roles that an expression can have (10 and 36).
 ghost use Rattle.std.specs.Prelude.{◌≡◌};
-ghost use Rattle.parts.specs.Judge.{fits, inner};
+ghost use Rattle.parts.specs.Judge.{fits, holds, inner};
 
 use numerals::kinds::ExprKind;
 
@@ -28,6 +28,17 @@ impl Role {
                 ExprKind::try_from(kind),
                 Ok(ExprKind::Variable | ExprKind::Tuple)
             ),
+        }
+    }
+
+    // 36: whether a tuple of n elements can stand in this role.
+    #[tactic(auto, unfolding(crate::specs::Judge::holds))]
+    pub(crate) fn holds(self, n: u32) -> bool
+        ensures { result ≡ holds self n }
+    {
+        match self {
+            Role::Value => true,
+            Role::Target | Role::Element => 0 < n,
         }
     }
 

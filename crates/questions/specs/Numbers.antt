@@ -1,7 +1,7 @@
 -- The questions by their numbers.
 use Rattle.std.specs.Prelude.{ℕ}
 use Rattle.questions.specs.declared.Question.{Question}
-use Rattle.questions.specs.declared.Question.TheVariants.{WorkAreas, TreeSize, TreeCount, TreeVersion, TreeLayout, Depth, Names, Strings, Loops, Targets, Parameters, Init, ListLengths, Slots, Limits, ModuleRoom, ModuleSize, ModuleVersion, ModuleLayout, Numbers, Jumps, Function, Answers, EventRoom, ListingRoom, SheetRoom, IteratorNames, Place, AnswerRoom}
+use Rattle.questions.specs.declared.Question.TheVariants.{WorkAreas, TreeSize, TreeCount, TreeVersion, TreeLayout, Depth, Names, Strings, Loops, Targets, Parameters, Init, ListLengths, Slots, Limits, ModuleRoom, ModuleSize, ModuleVersion, ModuleLayout, Numbers, Jumps, Function, Answers, EventRoom, ListingRoom, SheetRoom, IteratorNames, Place, AnswerRoom, EmptyTargets, Heights}
 
 -- the number of each question
 unfoldable pub number : Question → ℕ
@@ -34,3 +34,5 @@ number SheetRoom = 32
 number IteratorNames = 33
 number Place = 34
 number AnswerRoom = 35
+number EmptyTargets = 36
+number Heights = 37

@@ -39,6 +39,8 @@ pub enum Question {
     IteratorNames = 33,
     Place = 34,
     AnswerRoom = 35,
+    EmptyTargets = 36,
+    Heights = 37,
 }
 
 impl Question {

@@ -11,7 +11,7 @@ use lib.Seq.{length-take-le, take-suc, set-append_seam, append_snoc, get_or-take
 use borrow.Author.Tests.{eq-eqb, ne_eqb, leb-true, leb-false}
 use Rattle.std.proofs.Common.{Some, None}
 use Rattle.definitions.specs.Instruction.{Instr, Return}
-use Rattle.definitions.specs.Run.{Flow, straight, jump, question, returns, flow}
+use Rattle.definitions.specs.Instruction.{Flow, straight, jump, question, returns, flow}
 use Rattle.definitions.specs.Calls.{written}
 use Rattle.definitions.specs.Search.{Next, straight_on, jumps_to, on_no, on_yes, Step, answers_of, Chain, begins, goes, link_mark, by_link}
 use Rattle.search.specs.View.{marks_of}

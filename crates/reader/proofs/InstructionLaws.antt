@@ -5,11 +5,10 @@ use mathlib.Core.Bool.{Bool, true, false}
 use mathlib.Core.List.{List}
 use mathlib.Core.Logic.{⊎_elim}
 use native.Mathlib.Omega.{arith}
-use lib.Dec.{leb}
 use lib.ListN.{length, drop, get_or, length-drop}
-use borrow.Author.Tests.{le-leb, lt-leb}
+use borrow.Author.Tests.{le-ltb}
 use Rattle.definitions.specs.Bytes.{Parsed, got, failed, Parser, ◌>>=◌, give, unread, byte, field, keep, checked}
-use Rattle.definitions.specs.Instruction.{Instr, instr, first_width, second_width}
+use Rattle.definitions.specs.Instruction.{Instr, instr, instruction_table, is_instruction, first_width, second_width}
 use Rattle.definitions.specs.Reader.{instruction}
 use Rattle.reader.specs.View.{skipped, skip_at, found, found_at, number_at, Got}
 use Rattle.std.specs.Prelude.{Option, Some, None}
@@ -17,6 +16,7 @@ use Rattle.reader.specs.declared.Instruction.{Instruction}
 use lib.Seq.{drop-drop}
 use Rattle.reader.proofs.Taken.{skip-cut, skip-next, got-bind, got-give, got-byte, got-field, skip-field, at-end}
 use Rattle.definitions.proofs.Begins.{Rest, bind_is, le-or-gt, takes-instruction}
+use Rattle.definitions.proofs.Rows.{is-instruction}
 
 -- an instruction that the code found
 abbrev pub found_as : ℕ → ℕ → ℕ → ℕ → Option Instruction
@@ -78,19 +78,24 @@ found-is t at op a b m h e = go (instruction (drop at t)) refl (takes-instructio
         record { is = i ∙ ap (λ (x : List ℕ). got j x) (d ∙ ap (λ (n : ℕ). drop n t) k) ∙ ap (λ (x : Instr). got x (drop m t)) same; from = omega arith; to = omega arith }
     go (failed why) i w e = never e
 
+-- an opcode past the table
+no-instruction : (op : ℕ) → 45 < op → is_instruction op ≡ false
+unfolding is_instruction instruction_table
+no-instruction op h = le-ltb op 46 h
+
 module _ (t : List ℕ) (at : ℕ) where
   pub no-byte : length t ≤ at → found_at t at ≡ None
   unfolding instruction skip_at skipped
-  no-byte h = found-cut t at (skip-cut (checked (λ op. leb op 45) byte) _ t at (cut-unchecked (λ op. leb op 45) byte t at (ap (skipped (length t)) (at-end t at h))))
+  no-byte h = found-cut t at (skip-cut (checked is_instruction byte) _ t at (cut-unchecked is_instruction byte t at (ap (skipped (length t)) (at-end t at h))))
 
   pub no-opcode : at < length t → 45 < get_or t at 0 → found_at t at ≡ None
   unfolding instruction
-  no-opcode h l = found-cut t at (skip-cut (checked (λ op. leb op 45) byte) _ t at
-      (cut-checked (λ op. leb op 45) byte t at (get_or t at 0) (at + 1) (got-byte t at h) (lt-leb (get_or t at 0) 45 l)))
+  no-opcode h l = found-cut t at (skip-cut (checked is_instruction byte) _ t at
+      (cut-checked is_instruction byte t at (get_or t at 0) (at + 1) (got-byte t at h) (no-instruction (get_or t at 0) l)))
 
   module _ (h : at < length t) (l : get_or t at 0 ≤ 45) (w v : ℕ) (ew : w ≡ first_width (get_or t at 0)) (ev : v ≡ second_width (get_or t at 0)) where
-    opcode : Got (checked (λ op. leb op 45) byte) t at (get_or t at 0) (at + 1)
-    opcode = got-checked (λ op. leb op 45) byte t at (get_or t at 0) (at + 1) (got-byte t at h) (le-leb (get_or t at 0) 45 l)
+    opcode : Got (checked is_instruction byte) t at (get_or t at 0) (at + 1)
+    opcode = got-checked is_instruction byte t at (get_or t at 0) (at + 1) (got-byte t at h) (is-instruction (get_or t at 0) (omega arith))
 
     operands : ℕ → Parser Instr
     operands op = field (first_width op) >>= λ a. field (second_width op) >>= λ b. give (instr op a b)
@@ -105,7 +110,7 @@ module _ (t : List ℕ) (at : ℕ) where
     pub no-operands : length t - at - 1 < w + v → found_at t at ≡ None
     unfolding instruction operands known
     no-operands s = found-cut t at
-        (skip-next (checked (λ op. leb op 45) byte) operands t at (get_or t at 0) (at + 1) opcode
+        (skip-next (checked is_instruction byte) operands t at (get_or t at 0) (at + 1) opcode
         ∙ ap (λ (p : Parser Instr). skip_at p t (at + 1)) known_is
         ∙ ⊎_elim
         (λ (k : at + 1 + w ≤ length t).
@@ -116,7 +121,7 @@ module _ (t : List ℕ) (at : ℕ) where
 
     pub got-instruction : w + v ≤ length t - at - 1 → Got instruction t at (instr (get_or t at 0) (number_at w t (at + 1)) (number_at v t (at + 1 + w))) (at + 1 + w + v)
     unfolding instruction operands known
-    got-instruction s = got-bind (checked (λ op. leb op 45) byte) operands t at (get_or t at 0) (at + 1) i (at + 1 + w + v) opcode
+    got-instruction s = got-bind (checked is_instruction byte) operands t at (get_or t at 0) (at + 1) i (at + 1 + w + v) opcode
         (subst (λ (p : Parser Instr). Got p t (at + 1) i (at + 1 + w + v)) (sym known_is)
         (got-bind (field w) (λ a. field v >>= λ b. give (instr (get_or t at 0) a b)) t (at + 1) (number_at w t (at + 1)) (at + 1 + w) i (at + 1 + w + v) (got-field w t (at + 1) (omega arith))
         (got-bind (field v) (λ b. give (instr (get_or t at 0) (number_at w t (at + 1)) b)) t (at + 1 + w) (number_at v t (at + 1 + w)) (at + 1 + w + v) i (at + 1 + w + v) (got-field v t (at + 1 + w) (omega arith))

@@ -46,5 +46,5 @@ Finds r c d = MatchOption r (found_at c.bytes.now c.at ≡ None) (λ i. (found_a
 
 -- the head of a function's record where the bytes have it, and d stands after it
 abbrev pub Headed : Option Head → Cursor → Cursor → Type 0
-Headed r c d = MatchOption r (Short 7 c)
-    (λ h. Went 7 c d × (h.name ≡ number_at 2 c.bytes.now c.at) × (h.slots ≡ number_at 2 c.bytes.now (c.at + 3)) × (h.count ≡ number_at 2 c.bytes.now (c.at + 5)))
+Headed r c d = MatchOption r (Short 9 c)
+    (λ h. Went 9 c d × (h.name ≡ number_at 2 c.bytes.now c.at) × (h.slots ≡ number_at 2 c.bytes.now (c.at + 3)) × (h.count ≡ number_at 2 c.bytes.now (c.at + 7)))

@@ -25,13 +25,14 @@ impl<'a> Cursor<'a> {
         Some(())
     }
 
-    // The head of a function: the number of its name, of its parameters, of its slots and of its instructions.
+    // The head of a function: the number of its name, of its parameters, of its slots, its height, and the number of its instructions.
     fn head(&mut self) -> Option<Head>
         ensures { Headed result self.old self.new }
     {
         let name = self.number()?;
         self.byte()?;
         let slots = self.number()?;
+        self.number()?;
         let count = self.number()?;
         Some(Head { name, slots, count })
     }

@@ -9,7 +9,7 @@ ghost use Rattle.reader.specs.View.{Lays, Lists, Sectioned, tables_of, Heads, sa
 use crate::cursor::Cursor;
 use crate::numbers::number_at;
 use crate::{Asked, Counts, Part, Sections};
-use numerals::sizes::{COUNT, HEAD, MODULE_MOST};
+use numerals::sizes::{COUNT, HEAD, MODULE_MOST, MODULE_VERSION};
 use questions::Question;
 
 // Questions 17 and 18.
@@ -28,7 +28,7 @@ fn read_head(bytes: &[u8]) -> Result<(), Question>
     if bytes.len() < HEAD {
         return Err(Question::ModuleVersion);
     }
-    if bytes[COUNT] != 1 {
+    if bytes[COUNT] != MODULE_VERSION {
         return Err(Question::ModuleVersion);
     }
     Ok(())

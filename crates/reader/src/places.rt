@@ -4,7 +4,7 @@ ghost use Rattle.reader.specs.View.{ListsFunctions, FoundAt, Ready, Locates};
 use crate::cursor::Cursor;
 use crate::numbers::number_at;
 use crate::{Asked, Part, Sections};
-use numerals::sizes::FUNCTION_HEAD;
+use numerals::sizes::{FUNCTION_COUNT, FUNCTION_HEAD};
 use questions::Question;
 
 // The record of the function f.
@@ -34,6 +34,6 @@ pub(crate) fn locate_in(bytes: &[u8], sections: Sections, f: u64) -> Result<Part
     Ok(Part {
         start,
         size: c.at - start,
-        count: number_at(bytes, head + 5, 2),
+        count: number_at(bytes, head + FUNCTION_COUNT, 2),
     })
 }

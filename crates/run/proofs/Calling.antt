@@ -22,7 +22,7 @@ use Rattle.definitions.specs.Tables.{Tables}
 use Rattle.definitions.specs.Reader.{instruction, read_module, ends_in_return, jumps_land}
 use Rattle.definitions.specs.Run.{Ran, ended, run}
 use Rattle.definitions.specs.Calls.{Counts, function_of, are_answers, events_fit, run_function, run_answer, ran_counts, ran_call, run_call, output_after, written}
-use Rattle.reader.specs.View.{function_in, CodeAt, instructions_of}
+use Rattle.reader.specs.View.{Got, function_in, CodeAt, instructions_of}
 use Rattle.reader.proofs.Encoding.{Small}
 use Rattle.reader.proofs.Iterated.{code-is, reads-code, bytes-are}
 use Rattle.run.specs.declared.course.Stand.{Stand}
@@ -123,37 +123,46 @@ small-part t p s small i = go (leb s i) refl
         subst (λ (x : ℕ). x < 256) (sym (get_or-eq_default (take s (drop p t)) 0 (let z : length (take s (drop p t)) ≤ i = omega arith in z))) (omega arith)
     go false e = subst (λ (x : ℕ). x < 256) (sym (get_or-take s (drop p t) i 0 (leb-false s i e) ∙ get_or-drop p t i 0)) (small (p + i))
 
-module _ (t : List ℕ) (f p s n : ℕ) (c : CodeAt t f p s n) (part : List ℕ) (e : part ≡ take s (drop p t)) where
+-- n instructions that are read from p on, in s bytes
+module _ (t : List ℕ) (p s n : ℕ) (is : List Instr) (r : Got (counted [] ◌∷◌ instruction n) t p is (p + s)) (part : List ℕ) (e : part ≡ take s (drop p t)) where
   part_length : length part ≡ s
-  part_length = let b = c.read.to in let l = length-drop p t in ap length e ∙ length-take-le s (drop p t) (omega arith)
+  part_length = let b = r.to in let l = length-drop p t in ap length e ∙ length-take-le s (drop p t) (omega arith)
 
-  part-reads : counted [] ◌∷◌ instruction n part ≡ got c.function.code []
+  part-reads : counted [] ◌∷◌ instruction n part ≡ got is []
   part-reads =
-      let b = c.read.to in
-      let w = subst (λ (r : Parsed (List Instr)). Rest (counted [] ◌∷◌ instruction n) (drop p t) r) c.read.is ((takes-counted [] ◌∷◌ instruction takes-instruction n).rest (drop p t)) in
+      let b = r.to in
+      let w = subst (λ (x : Parsed (List Instr)). Rest (counted [] ◌∷◌ instruction n) (drop p t) x) r.is ((takes-counted [] ◌∷◌ instruction takes-instruction n).rest (drop p t)) in
       let l = length-drop p t in
       let x = ap length w.2 in let y = length-drop w.0 (drop p t) in let u = length-drop (p + s) t in let z = w.1 in
       let k : w.0 ≡ s = omega arith in
       ap (counted [] ◌∷◌ instruction n) (e ∙ ap (λ (j : ℕ). take j (drop p t)) (sym k) ∙ sym (append-nil (take w.0 (drop p t)))) ∙ w.3 []
 
+  pub part-instructions : instructions_of part ≡ is
+  part-instructions = code-is n part is part-reads
+
+  -- that stand
+  pub part-stands : length is ≡ n → ends_in_return is ≡ true → jumps_land n 0 is ≡ true → n < 65536 → length t ≤ 524288 → Small t → Coded part
+  part-stands count ends land few short small =
+      let many : n ≡ length (instructions_of part) = sym (ap length part-instructions ∙ count) in
+      let reads : counted [] ◌∷◌ instruction n part ≡ got (instructions_of part) [] = part-reads ∙ ap (λ (is : List Instr). got is []) (sym part-instructions) in
+      record {
+        bytes = bytes-are n part (instructions_of part) (subst (λ (bs : List ℕ). Small bs) (sym e) (small-part t p s small)) reads;
+        reads = reads-code n part (instructions_of part) reads;
+        ends = ap ends_in_return part-instructions ∙ ends;
+        land = ap₂ (λ (k : ℕ) (is : List Instr). jumps_land k 0 is) (sym many) part-instructions ∙ land;
+        few = subst (λ (k : ℕ). k < 65536) many few;
+        short = let a = part_length in let b = r.to in omega arith;
+      }
+
+module _ (t : List ℕ) (f p s n : ℕ) (c : CodeAt t f p s n) (part : List ℕ) (e : part ≡ take s (drop p t)) where
   pub part-code : instructions_of part ≡ c.function.code
-  part-code = code-is n part c.function.code part-reads
+  part-code = part-instructions t p s n c.function.code c.read part e
 
   pub part_count : n ≡ length (instructions_of part)
   part_count = sym (ap length part-code ∙ c.count)
 
   pub part-coded : Small t → Coded part
-  part-coded small = record {
-    bytes = bytes-are n part (instructions_of part) (subst (λ (bs : List ℕ). Small bs) (sym e) (small-part t p s small)) reads;
-    reads = reads-code n part (instructions_of part) reads;
-    ends = ap ends_in_return part-code ∙ c.ends;
-    land = ap₂ (λ (k : ℕ) (is : List Instr). jumps_land k 0 is) (sym part_count) part-code ∙ c.land;
-    few = subst (λ (k : ℕ). k < 65536) part_count c.few;
-    short = let a = part_length in let b = c.read.to in let d = module-short t c.tables c.module-is in omega arith;
-  }
-    where
-      reads : counted [] ◌∷◌ instruction n part ≡ got (instructions_of part) []
-      reads = part-reads ∙ ap (λ (is : List Instr). got is []) (sym part-code)
+  part-coded small = part-stands t p s n c.function.code c.read part e c.count c.ends c.land c.few (module-short t c.tables c.module-is) small
 
 -- ---- the call
 

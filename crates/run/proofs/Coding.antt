@@ -68,7 +68,7 @@ module _ (c : List ℕ) (h : Coded c) where
       length-take-le (start_of (instructions_of c) j - start_of (instructions_of c) k) (drop (start_of (instructions_of c) k) c) (omega arith)
 
   module _ (k : ℕ) (l : k < length (instructions_of c)) where
-    reads_here : Got instruction c (start_of (instructions_of c) k) (get_or (instructions_of c) k Return) (start_of (instructions_of c) (k + 1))
+    pub reads_here : Got instruction c (start_of (instructions_of c) k) (get_or (instructions_of c) k Return) (start_of (instructions_of c) (k + 1))
     reads_here = record { is = h.reads k l; from = start_up k (k + 1) (omega arith); to = start-in (k + 1) }
 
     pub op-here : (start_of (instructions_of c) k < length c) × (get_or c (start_of (instructions_of c) k) 0 ≡ (get_or (instructions_of c) k Return).op)

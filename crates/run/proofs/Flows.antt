@@ -11,7 +11,8 @@ use native.Mathlib.Numerals.{add-one}
 use Rattle.definitions.specs.Instruction.{Instr, instr, instruction_table, row_of, first_width, second_width, encode}
 use Rattle.definitions.specs.Bytes.{be}
 use Rattle.definitions.specs.Reader.{landing}
-use Rattle.definitions.specs.Run.{straight, flow, way}
+use Rattle.definitions.specs.Instruction.{straight, flow}
+use Rattle.definitions.specs.Run.{way}
 use Rattle.definitions.proofs.Flows.{jump-stops, false-stops, true-stops, return-stops, goes-straight}
 use Rattle.definitions.proofs.Begins.{le-or-gt}
 use Rattle.run.specs.Tables.{GoesOn, Nearer}

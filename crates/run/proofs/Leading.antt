@@ -7,7 +7,8 @@ use lib.ListN.{length, take, drop, get_or, length-append}
 use lib.Seq.{drop-cons}
 use Rattle.definitions.specs.Bytes.{concat}
 use Rattle.definitions.specs.Instruction.{Instr, Return, encode, encodes}
-use Rattle.definitions.specs.Run.{Ran, after, Flow, straight, obey, run}
+use Rattle.definitions.specs.Instruction.{Flow, straight}
+use Rattle.definitions.specs.Run.{Ran, after, obey, run}
 use Rattle.reader.specs.View.{instructions_of}
 use Rattle.run.specs.declared.course.Stand.{Stand}
 use Rattle.run.specs.Tables.{Coded, flow_at}

@@ -6,7 +6,7 @@ use mathlib.Core.Logic.{inl, inr, ⊎_elim}
 use native.Mathlib.Omega.{arith}
 use lib.ListN.{length, take, drop, get_or}
 use Rattle.std.proofs.Common.{Some, None}
-use Rattle.definitions.specs.Run.{straight}
+use Rattle.definitions.specs.Instruction.{straight}
 use Rattle.reader.specs.View.{instructions_of, start_of}
 use Rattle.run.specs.declared.course.Stand.{Stand}
 use Rattle.run.specs.Tables.{Coded, Places, flow_at, Stop, Stops}

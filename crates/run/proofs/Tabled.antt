@@ -10,7 +10,7 @@ use lib.ListN.{length, take, drop, get_or, set, length-drop, length-set}
 use lib.Seq.{get_or-set_same, get_or-set_other, drop-drop}
 use borrow.Author.Tests.{eqb-true, eq-eqb}
 use Rattle.definitions.specs.Instruction.{Instr, Return, encode, encodes}
-use Rattle.definitions.specs.Run.{Flow, straight, jump, question, returns, flow}
+use Rattle.definitions.specs.Instruction.{Flow, straight, jump, question, returns, flow}
 use Rattle.reader.specs.View.{instructions_of, start_of, shown, Walks}
 use Rattle.std.proofs.Common.{Some, None}
 use Rattle.reader.specs.declared.Placed.{Placed}

@@ -11,7 +11,8 @@ use lib.Seq.{drop-cons}
 use Rattle.std.proofs.Common.{Option, Some, None}
 use Rattle.definitions.specs.Instruction.{Instr, Return}
 use Rattle.definitions.specs.Reader.{landing}
-use Rattle.definitions.specs.Run.{Ran, ended, after, Flow, straight, jump, question, returns, flow, way, obey, run}
+use Rattle.definitions.specs.Instruction.{Flow, straight, jump, question, returns, flow}
+use Rattle.definitions.specs.Run.{Ran, ended, after, way, obey, run}
 use Rattle.reader.specs.View.{number_at, instructions_of, start_of}
 use Rattle.run.specs.declared.Ending.{Ending}
 use Rattle.run.specs.declared.Ending.TheVariants.{Returned, NoAnswer, BudgetSpent}

@@ -3,7 +3,7 @@ use Rattle.std.specs.Prelude.{ℕ, ◌+◌, ◌<◌, ◌≤◌, ◌≡◌, Bool,
 use Rattle.definitions.specs.Bytes.{got}
 use Rattle.definitions.specs.Instruction.{Instr, Return, encodes}
 use Rattle.definitions.specs.Reader.{instruction, ends_in_return, jumps_land}
-use Rattle.definitions.specs.Run.{Flow, straight, flow}
+use Rattle.definitions.specs.Instruction.{Flow, straight, flow}
 use Rattle.reader.specs.View.{instructions_of, start_of}
 
 -- ---- code and its tables

@@ -9,7 +9,8 @@ use lib.Dec.{eqb}
 use lib.ListN.{length, get_or}
 use Rattle.definitions.specs.Instruction.{Instr, Return, first_width}
 use Rattle.definitions.specs.Reader.{landing}
-use Rattle.definitions.specs.Run.{Flow, straight, jump, returns, question, flow, way}
+use Rattle.definitions.specs.Instruction.{Flow, straight, jump, returns, question, flow}
+use Rattle.definitions.specs.Run.{way}
 use Rattle.definitions.specs.Search.{Next, straight_on, jumps_to, on_no, on_yes, Step, Table, Marks, meet, expand_by, expand, Tabled}
 use Rattle.definitions.proofs.Flows.{stop-jumps, jump-width, flow-jump, flow-returns, flow-question}
 use Rattle.definitions.proofs.Stays.{Lands, code-lands}

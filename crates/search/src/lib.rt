@@ -20,17 +20,17 @@ pub const ROOT: u32 = 4;
 
 // What the places after one get as marks: straight on or by a jump, on a no, on a yes.
 #[derive(Clone, Copy)]
-struct Marks {
-    on: u32,
-    no: u32,
-    yes: u32,
+pub struct Marks {
+    pub on: u32,
+    pub no: u32,
+    pub yes: u32,
 }
 
 // A search's table: the work area, and how many places the queue in it has.
 #[derive(Drop)]
-struct Table<'a> {
-    area: &'a mut [u32],
-    tail: usize,
+pub struct Table<'a> {
+    pub area: &'a mut [u32],
+    pub tail: usize,
 }
 
 impl Table<'_> {
@@ -49,7 +49,7 @@ impl Table<'_> {
     }
 
     // The places after p, each met.
-    fn expand(&mut self, code: &[u8], places: &[u32], p: usize, m: Marks)
+    pub fn expand(&mut self, code: &[u8], places: &[u32], p: usize, m: Marks)
         requires { Expandable code.now places.now self.old.area.now self.old.tail p (marks m.on m.no m.yes) }
         ensures expands { Expands self.new.tail code.now p (marks m.on m.no m.yes) self.old.area.now self.new.area.now self.old.tail }
         ensures long { length self.new.area.now ≡ length self.old.area.now }
@@ -78,7 +78,7 @@ impl Table<'_> {
 }
 
 // A search of n places begins: place 0 has the mark `root` and stands in the queue alone. n counts places: the area holds queue and marks, and may be longer.
-fn begin(area: &mut [u32], n: usize, root: u32)
+pub fn begin(area: &mut [u32], n: usize, root: u32)
     requires { Beginning area.old n }
     ensures { table_in n area.new 1 ≡ at_start n root area.old }
 {

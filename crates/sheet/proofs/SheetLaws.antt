@@ -63,19 +63,19 @@ module _ {t : List ℕ} {at count : ℕ} {xs out : List ℕ} {p put f total ques
   -- ---- a function more
 
   module _ (h : f < count) where
-    pub sheeting-head : p + 7 ≤ length t
+    pub sheeting-head : p + 9 ≤ length t
     sheeting-head = function-head t (count - f) p (omega arith) l.rest
 
-    module _ {n : ℕ} (e : n ≡ number_at 2 t (p + 5)) where
+    module _ {n : ℕ} (e : n ≡ number_at 2 t (p + 7)) where
       g : Function-here t (count - f) p n
       g = function-here t (count - f) p n (omega arith) l.rest e
 
-      pub sheeting-code : Values instruction n t (p + 7)
+      pub sheeting-code : Values instruction n t (p + 9)
       sheeting-code = g.code
 
-      module _ {r : Tallied} (s : Tallies r n t (p + 7)) where
+      module _ {r : Tallied} (s : Tallies r n t (p + 9)) where
         abbrev gs : List Function
-        gs = functions_from (count - f - 1) t (values_end instruction n t (p + 7))
+        gs = functions_from (count - f - 1) t (values_end instruction n t (p + 9))
 
         all_are : n ≡ tally any_op g.function.code
         all_are = g.count ∙ sym (tally-length g.function.code)
@@ -128,7 +128,7 @@ module _ {t : List ℕ} {at count : ℕ} {xs out : List ℕ} {p put f total ques
             → Sheeting t at count xs (over put out zs) r.at (put + 41) (f + 1) (total + n) (questions + r.questions) (calls + r.calls)
         sheeting-next hf {zs} w =
             let z : count - f - 1 ≡ count - (f + 1) = omega arith in
-            let q = values_end instruction n t (p + 7) in
+            let q = values_end instruction n t (p + 9) in
             let za = ap (λ (j : ℕ). tally any_op (all_code (functions_from j t q))) z in
             let zq = ap (λ (j : ℕ). tally is_question (all_code (functions_from j t q))) z in
             let zc = ap (λ (j : ℕ). tally is_call (all_code (functions_from j t q))) z in

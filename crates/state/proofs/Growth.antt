@@ -15,7 +15,7 @@ use Rattle.definitions.specs.Tree.{Block, []ᵇ, ◌∷ᵇ◌, Branches, done, e
 use Rattle.definitions.specs.Wellformed.{is_tuple}
 use Rattle.definitions.specs.Instruction
 use Rattle.definitions.specs.Instruction.{Instr, Return}
-use Rattle.definitions.specs.Tables.{Function, Method, Tables, Body, block_body, expr_body, Out, Emit, emits, one, ◌⨟◌, here, add_symbol, add_string, with_classes, intern}
+use Rattle.definitions.specs.Tables.{Function, Method, Tables, Body, block_body, expr_body, Out, Emit, emits, one, ◌⨟◌, here, add_symbol, add_string, with_classes, intern, coded}
 use Rattle.definitions.specs.Tables.{get_or_add_string, begin, set_code, enclose, function}
 use Rattle.definitions.specs.Slots.{captures, Keeping, in_globals, in_slots, past, Frame, names_only, with_loops, loops_stmt, loops_block}
 use Rattle.definitions.specs.Module.{instructions, slots_fit}
@@ -119,25 +119,25 @@ lengthens-string x F = record { at = λ p t. found F (add_string x) (string-leng
 
 pub begin-lengthened : (k arity : ℕ) (frame : Frame) (t : Tables) → Lengthened t (begin k arity frame t)
 unfolding begin
-begin-lengthened k arity frame t = record { new = record { symbol = k; arity = arity; locals = frame.locals; code = [] } ∷ []; functions = refl; symbols = omega arith; strings = omega arith; classes = omega arith }
+begin-lengthened k arity frame t = record { new = coded k arity frame.locals [] ∷ []; functions = refl; symbols = omega arith; strings = omega arith; classes = omega arith }
 
 -- a function's code is set, in tables u that its body left
 module _ (k arity : ℕ) (frame : Frame) (t u : Tables) (L : Lengthened (begin k arity frame t) u) (is : List Instr) where
-  before : u.functions ≡ t.functions ++ (record { symbol = k; arity = arity; locals = frame.locals; code = [] } ∷ L.new)
+  before : u.functions ≡ t.functions ++ (coded k arity frame.locals [] ∷ L.new)
   unfolding begin
   before = L.functions ∙ append_snoc t.functions _ L.new
 
-  pub set_code-after : set_code u.functions (length t.functions) is ≡ t.functions ++ (record { symbol = k; arity = arity; locals = frame.locals; code = is } ∷ L.new)
+  pub set_code-after : set_code u.functions (length t.functions) is ≡ t.functions ++ (coded k arity frame.locals is ∷ L.new)
   set_code-after = ap (λ (fs : List Function). set_code fs (length t.functions) is) before ∙ set_code-seam t.functions L.new _ is
 
   pub set_code-instructions : instructions (set_code u.functions (length t.functions) is) ≡ instructions u.functions + length is
   unfolding instructions
   set_code-instructions =
-      omega (arith, ap instructions set_code-after, ap instructions before, instructions-append t.functions (record { symbol = k; arity = arity; locals = frame.locals; code = is } ∷ L.new), instructions-append t.functions (record { symbol = k; arity = arity; locals = frame.locals; code = [] } ∷ L.new))
+      omega (arith, ap instructions set_code-after, ap instructions before, instructions-append t.functions (coded k arity frame.locals is ∷ L.new), instructions-append t.functions (coded k arity frame.locals [] ∷ L.new))
 
   pub set_code-count : length (set_code u.functions (length t.functions) is) ≡ length u.functions
   set_code-count =
-      omega (arith, ap length set_code-after, ap length before, length-append t.functions (record { symbol = k; arity = arity; locals = frame.locals; code = is } ∷ L.new), length-append t.functions (record { symbol = k; arity = arity; locals = frame.locals; code = [] } ∷ L.new))
+      omega (arith, ap length set_code-after, ap length before, length-append t.functions (coded k arity frame.locals is ∷ L.new), length-append t.functions (coded k arity frame.locals [] ∷ L.new))
 
 pub lengthens-enclose : {e : Emit} (k arity : ℕ) (frame : Frame) (body : Body) → Lengthens e → Lengthens (enclose k arity frame body e)
 unfolding enclose
@@ -148,7 +148,7 @@ lengthens-enclose {e} k arity frame body E = record {
       let L = E.at 0 u in
       let B = begin-lengthened k arity frame t in
       record {
-        new = record { symbol = k; arity = arity; locals = frame.locals; code = o.code } ∷ L.new;
+        new = coded k arity frame.locals o.code ∷ L.new;
         functions = set_code-after k arity frame t o.tables L o.code;
         symbols = omega (arith, L.symbols, B.symbols);
         strings = omega (arith, L.strings, B.strings);

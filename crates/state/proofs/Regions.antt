@@ -11,7 +11,7 @@ use lib.Seq.{length-take-le, take-take, take-nil, drop-nil, take-set-lt, take-se
 use lib.Dec.{ltb, leb}
 use borrow.Author.Tests.{ltb-false, le-leb}
 use Rattle.definitions.specs.Bytes.{Name, all}
-use Rattle.definitions.specs.Tables.{Function, Class, set_code}
+use Rattle.definitions.specs.Tables.{Function, Class, set_code, coded}
 use Rattle.definitions.specs.Module.{instructions}
 use Rattle.state.specs.Words.{region, name_at, instr_of, instrs_of}
 use Rattle.state.specs.State.{spelled, function_of, functions_of, method_of, class_of, classes_of, place_of, count_of, Every, no_every, every, MadeWithin, EndsWithin, total}
@@ -145,7 +145,7 @@ functions-same tree fin fin' (h ∷ hs) [] n w e = refl
 functions-same tree fin fin' (h ∷ hs) (k ∷ ks) n (every p w) e =
     let r = region-same n (place_of k) (count_of k) fin fin' p e in
     let s = functions-same tree fin fin' hs ks n w e in
-    λ j. record { symbol = h / 2 ^ 16; arity = h / 2 ^ 8 % 2 ^ 8; locals = h % 2 ^ 8; code = instrs_of tree (r j) } ∷ s j
+    λ j. coded (h / 2 ^ 16) (h / 2 ^ 8 % 2 ^ 8) (h % 2 ^ 8) (instrs_of tree (r j)) ∷ s j
 
 -- ---- the names and the places of methods: classes
 

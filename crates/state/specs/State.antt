@@ -3,7 +3,7 @@ use Rattle.std.specs.Prelude.{ℕ, ◌+◌, ◌-◌, ◌*◌, ◌/◌, ◌%◌, 
 use Rattle.std.proofs.Math.Option.{Option, none, some}
 use Rattle.definitions.specs.Bytes.{Name, Text, same, position}
 use Rattle.definitions.specs.Instruction.{Instr}
-use Rattle.definitions.specs.Tables.{Function, Method, Class, Tables, Emit, add_symbol, add_string}
+use Rattle.definitions.specs.Tables.{Function, Method, Class, Tables, Emit, add_symbol, add_string, coded}
 use Rattle.definitions.specs.Module as Module
 use Rattle.definitions.specs.Module.{instructions, slots_fit}
 use Rattle.state.specs.Words.{region, name_at, text_at, instrs_of}
@@ -83,12 +83,7 @@ count_of w = w % 2 ^ 16
 
 -- a function: symbol, arity and slots in its head; its code among the finished words, none while it is open
 unfoldable pub function_of : List ℕ → List ℕ → ℕ → ℕ → Function
-function_of tree finished h k = record {
-  symbol = h / 2 ^ 16;
-  arity = h / 2 ^ 8 % 2 ^ 8;
-  locals = h % 2 ^ 8;
-  code = instrs_of tree (region (place_of k) (count_of k) finished);
-}
+function_of tree finished h k = coded (h / 2 ^ 16) (h / 2 ^ 8 % 2 ^ 8) (h % 2 ^ 8) (instrs_of tree (region (place_of k) (count_of k) finished))
 
 unfoldable pub functions_of : List ℕ → List ℕ → List ℕ → List ℕ → List Function
 functions_of tree finished [] ks = []

@@ -69,15 +69,15 @@ pub record Summing (count : ℕ) (t : List ℕ) (at left p total : ℕ) : Type 0
 pub summing_start : (count : ℕ) (t : List ℕ) (at : ℕ) → Values function_record count t at → Summing count t at count at 0
 summing_start count t at r = record { rest = r; few = omega arith; so = omega arith }
 
-pub summing-next : (count : ℕ) (t : List ℕ) (at left p total n q : ℕ) → 0 < left → Summing count t at left p total → (f : Function-here t left p n) → q ≡ values_end instruction n t (p + 7) →
+pub summing-next : (count : ℕ) (t : List ℕ) (at left p total n q : ℕ) → 0 < left → Summing count t at left p total → (f : Function-here t left p n) → q ≡ values_end instruction n t (p + 9) →
     Summing count t at (left - 1) q (total + n)
 unfolding instructions
 summing-next count t at left p total n q h k f e =
     let s = ap instructions f.list in
     let c = f.count in
-    let m = code-many t n (p + 7) f.code in
+    let m = code-many t n (p + 9) f.code in
     let o = k.so in let w = k.few in
-    let z : Summing count t at (left - 1) (values_end instruction n t (p + 7)) (total + n) = record { rest = f.rest; few = omega arith; so = omega arith } in
+    let z : Summing count t at (left - 1) (values_end instruction n t (p + 9)) (total + n) = record { rest = f.rest; few = omega arith; so = omega arith } in
     subst (λ (j : ℕ). Summing count t at (left - 1) j (total + n)) (sym e) z
 
 pub summing-done : (count : ℕ) (t : List ℕ) (at left p total : ℕ) → left ≤ 0 → Summing count t at left p total → (total ≡ instructions (functions_from count t at)) × (total ≤ length t)

@@ -119,30 +119,32 @@ code-many t (suc n) at r =
 -- the first function, of n instructions
 pub record Function-here (t : List ℕ) (k at n : ℕ) : Type 0 where
   pub function : Function
-  pub head : at + 7 ≤ length t
-  pub code : Values instruction n t (at + 7)
-  pub code-is : code_from n t (at + 7) ≡ function.code
+  pub head : at + 9 ≤ length t
+  pub code : Values instruction n t (at + 9)
+  pub code-is : code_from n t (at + 9) ≡ function.code
   pub count : n ≡ length function.code
-  pub rest : Values function_record (k - 1) t (values_end instruction n t (at + 7))
-  pub list : functions_from k t at ≡ function ∷ functions_from (k - 1) t (values_end instruction n t (at + 7))
-  pub ends : values_end function_record k t at ≡ values_end function_record (k - 1) t (values_end instruction n t (at + 7))
+  pub height : number_at 2 t (at + 5) ≡ function.height
+  pub rest : Values function_record (k - 1) t (values_end instruction n t (at + 9))
+  pub list : functions_from k t at ≡ function ∷ functions_from (k - 1) t (values_end instruction n t (at + 9))
+  pub ends : values_end function_record k t at ≡ values_end function_record (k - 1) t (values_end instruction n t (at + 9))
 
-pub function-head : (t : List ℕ) (k at : ℕ) → 0 < k → Values function_record k t at → at + 7 ≤ length t
+pub function-head : (t : List ℕ) (k at : ℕ) → 0 < k → Values function_record k t at → at + 9 ≤ length t
 function-head t k at h r =
     let f = reads_first function_record t takes-function k at h r in (function-view t at f.value f.next r.here f.one).0
 
-pub function-here : (t : List ℕ) (k at n : ℕ) → 0 < k → Values function_record k t at → n ≡ number_at 2 t (at + 5) → Function-here t k at n
+pub function-here : (t : List ℕ) (k at n : ℕ) → 0 < k → Values function_record k t at → n ≡ number_at 2 t (at + 7) → Function-here t k at n
 function-here t k at n h r e =
     let f = reads_first function_record t takes-function k at h r in
     let v = function-view t at f.value f.next r.here f.one in
-    let g : Got (counted [] ◌∷◌ instruction n) t (at + 7) f.value.code f.next = subst (λ (j : ℕ). Got (counted [] ◌∷◌ instruction j) t (at + 7) f.value.code f.next) (sym e) v.2 in
-    let q = reads_end instruction t n (at + 7) _ _ g in
+    let g : Got (counted [] ◌∷◌ instruction n) t (at + 9) f.value.code f.next = subst (λ (j : ℕ). Got (counted [] ◌∷◌ instruction j) t (at + 9) f.value.code f.next) (sym e) v.2 in
+    let q = reads_end instruction t n (at + 9) _ _ g in
     record {
       function = f.value;
       head = v.0;
-      code = reads-are instruction t n (at + 7) _ _ v.0 g;
-      code-is = reads-list instruction t n (at + 7) _ _ g;
+      code = reads-are instruction t n (at + 9) _ _ v.0 g;
+      code-is = reads-list instruction t n (at + 9) _ _ g;
       count = e ∙ v.1;
+      height = v.3;
       rest = subst (λ (j : ℕ). Values function_record (k - 1) t j) (sym q) f.rest;
       list = f.list ∙ ap (λ (j : ℕ). f.value ∷ functions_from (k - 1) t j) (sym q);
       ends = f.ends ∙ ap (values_end function_record (k - 1) t) (sym q);

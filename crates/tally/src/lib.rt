@@ -32,9 +32,9 @@ const CALL_VALUE: u8 = 34;
 const CALL_METHOD: u8 = 35;
 
 // In a function's record: where its count of instructions begins, and its code.
-pub const COUNT: usize = 5;
+pub const COUNT: usize = 7;
 
-pub const CODE: usize = 7;
+pub const CODE: usize = 9;
 
 // A conditional jump.
 #[tactic(auto, unfolding(definitions::specs::Sheet::is_question))]

@@ -1,10 +1,13 @@
 // Bytes of an instruction and of its operands, by its opcode. A match becomes a table in the program's data; an array would be made anew at each call.
 #![tactic(auto)]
 
+mod stack; // stack.rt: what an instruction pops and pushes
+
 ghost use Rattle.std.specs.Prelude.{◌≡◌, ◌+◌, ◌≤◌};
 ghost use Rattle.definitions.specs.Instruction.{first_width, second_width};
 
 use numerals::op_places::*;
+pub use stack::{height_after, popped};
 
 // Bytes of an instruction's first operand. An opcode an arm, here and below: tried by or-patterns, which become tests one after the other, and reading
 // a module takes a fifth longer.

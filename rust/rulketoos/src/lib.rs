@@ -18,7 +18,8 @@
 //!
 //! [`Limits`] says how large a module may be. [`lower`] does the same without allocating, in buffers of the caller;
 //! [`check`] asks a tree's own questions only; [`run`] runs a function of a module on yes and no answers; [`list`] writes
-//! the listing of a module's code, [`count_sheet`] its count sheet; [`reach`] gives answers that bring a run to a place.
+//! the listing of a module's code, [`count_sheet`] its count sheet; [`reach`] gives answers that bring a run to a place;
+//! [`height`] gives the stack that a function needs, and [`heights`] checks that of modules from elsewhere.
 //!
 //! No call keeps anything, and none shares anything with another, so calls may be made from several threads. They work on their thread's stack; the
 //! usual 2 MB are enough (the run takes the most, about 600 KB).
@@ -26,6 +27,7 @@
 #![deny(missing_docs)]
 #![deny(clippy::undocumented_unsafe_blocks)]
 
+mod heights;
 mod library;
 mod modules;
 mod reach;
@@ -33,6 +35,7 @@ mod refusal;
 mod texts;
 mod trees;
 
+pub use heights::{height, heights, heights_of, HEIGHTS_AREA};
 pub use modules::{code, read, run, Ending, Run};
 pub use reach::{reach, reach_to_vec, REACH_AREA};
 pub use refusal::{NoSuchQuestion, Refusal};

@@ -14,6 +14,12 @@ unsafe extern "C" {
     ) -> u64;
     pub fn rulketoos_check(tree: *const u8, tree_len: usize) -> u32;
     pub fn rulketoos_read(module: *const u8, module_len: usize) -> u32;
+    pub fn rulketoos_heights(
+        module: *const u8,
+        module_len: usize,
+        area: *mut u32,
+        area_len: usize,
+    ) -> u32;
     pub fn rulketoos_code(module: *const u8, module_len: usize, function: u64) -> u64;
     pub fn rulketoos_list(
         module: *const u8,

@@ -10,7 +10,7 @@ use crate::refusal::{accepted, refusal, Refusal};
 ///
 /// let mut module = rulketoos::lower_to_vec(&[0, 0, 0, 3, 1, 0, 0], Limits::Office)?;
 /// assert_eq!(rulketoos::read(&module), Ok(()));
-/// module[4] = 2;
+/// module[4] = 1;
 /// assert_eq!(rulketoos::read(&module), Err(Refusal::ModuleVersion));
 /// # Ok::<(), Refusal>(())
 /// ```

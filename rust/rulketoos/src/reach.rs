@@ -77,7 +77,7 @@ pub fn reach<'a>(
 /// assert_eq!(rulketoos::reach_to_vec(&module, 0, 0)?, Some(vec![]));
 /// assert_eq!(rulketoos::reach_to_vec(&module, 0, 2)?, Some(vec![1]));
 /// // code behind the last Return of a module that wasn't lowered: none
-/// let foreign = [0, 0, 0, 22, 1, 0, 1, 0, 0, 0, 0, 1, 0, 0, 0, 0, 0, 0, 3, 33, 7, 33, 0, 0, 0, 0];
+/// let foreign = [0, 0, 0, 24, 2, 0, 1, 0, 0, 0, 0, 1, 0, 0, 0, 0, 0, 0, 0, 0, 3, 33, 7, 33, 0, 0, 0, 0];
 /// assert_eq!(rulketoos::reach_to_vec(&foreign, 0, 1)?, None);
 /// # Ok::<(), rulketoos::Refusal>(())
 /// ```

@@ -5,8 +5,8 @@ use std::fmt;
 
 /// The first question that is answered no.
 ///
-/// The lowering asks 1 to 16 and 33, the check of a tree 2 to 13 and 33 (33 just after 7), the reader of modules 17 to 21, the hand-back of code 17 to 22 and the run 17 to 24; the listing 17 to 21, then 31, the count sheet 17 to 21, then 32;
-/// the search for answers that bring a run to a place 1, 17 to 22, then 34 and 35.
+/// The lowering asks 1 to 16, 33 and 36, the check of a tree 2 to 13, 33 and 36 (33 just after 7, 36 just after 10), the reader of modules 17 to 21, the hand-back of code 17 to 22 and the run 17 to 24; the listing 17 to 21, then 31, the count sheet 17 to 21, then 32;
+/// the search for answers that bring a run to a place 1, 17 to 22, then 34 and 35; the check of heights 1, 17 to 21, then 37.
 ///
 /// ```
 /// use rulketoos::Refusal;
@@ -20,7 +20,7 @@ use std::fmt;
 #[derive(Debug, Clone, Copy, PartialEq, Eq, Hash, PartialOrd, Ord)]
 #[repr(u8)]
 pub enum Refusal {
-    /// 1: a work area is shorter than 16,384, or that of [`reach`](crate::reach) than 131,072.
+    /// 1: a work area is shorter than 16,384, or that of [`reach`](crate::reach) or [`heights`](crate::heights) than 131,072.
     AreasTooShort = 1,
     /// 2: the tree is longer than 32,768 bytes.
     TreeTooLong = 2,
@@ -54,7 +54,7 @@ pub enum Refusal {
     OutputTooShort = 16,
     /// 17: the module is longer than 524,288 bytes, or its first four bytes don't count the rest.
     ModuleHeader = 17,
-    /// 18: the module's version isn't 1.
+    /// 18: the module's version isn't 2.
     ModuleVersion = 18,
     /// 19: the rest of the module doesn't follow the layout, or a string isn't well-formed UTF-8.
     ModuleLayout = 19,
@@ -78,13 +78,17 @@ pub enum Refusal {
     NoSuchPlace = 34,
     /// 35: the buffer for the answers is shorter than the number of the function's conditional jumps.
     AnswersTooShort = 35,
+    /// 36: a target, or a target inside a tuple target, is an empty tuple.
+    EmptyTarget = 36,
+    /// 37: a place that some answers reach has two heights, too few values, or leaves more than its function's number.
+    BadHeights = 37,
 }
 
 /// Every refusal with its question, by rising numbers.
-const QUESTIONS: [(Refusal, &str); 29] = [
+const QUESTIONS: [(Refusal, &str); 31] = [
     (
         Refusal::AreasTooShort,
-        "is each work area at least 16,384 numbers long, that of reach 131,072?",
+        "is each work area at least 16,384 numbers long, that of reach and heights 131,072?",
     ),
     (Refusal::TreeTooLong, "is the tree at most 32,768 bytes, header included?"),
     (Refusal::TreeHeader, "has the tree four bytes, and do they count the rest?"),
@@ -126,7 +130,7 @@ const QUESTIONS: [(Refusal, &str); 29] = [
         Refusal::ModuleHeader,
         "is the module at most 524,288 bytes, and do its first four count the rest?",
     ),
-    (Refusal::ModuleVersion, "is the module's version 1?"),
+    (Refusal::ModuleVersion, "is the module's version 2?"),
     (
         Refusal::ModuleLayout,
         "does the rest of the module follow the layout, strings well-formed UTF-8, class and method names well formed, a class's method names strictly rising, nothing over?",
@@ -153,10 +157,15 @@ const QUESTIONS: [(Refusal, &str); 29] = [
         Refusal::AnswersTooShort,
         "has the buffer room for an answer to each conditional jump of the function?",
     ),
+    (Refusal::EmptyTarget, "is no target, and none inside a tuple target, an empty tuple?"),
+    (
+        Refusal::BadHeights,
+        "is each place that answers reach met at one height, with values enough, and does it leave no more than its function's number?",
+    ),
 ];
 
 impl Refusal {
-    /// The number of the question, 1 to 24 or 31 to 35.
+    /// The number of the question, 1 to 24 or 31 to 37.
     #[must_use]
     pub fn number(self) -> u32 {
         self as u32
@@ -191,7 +200,7 @@ impl fmt::Display for NoSuchQuestion {
     fn fmt(&self, f: &mut fmt::Formatter<'_>) -> fmt::Result {
         write!(
             f,
-            "there is no question {}: they are 1 to 24 and 31 to 35",
+            "there is no question {}: they are 1 to 24 and 31 to 37",
             self.0
         )
     }

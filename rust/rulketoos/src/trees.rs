@@ -80,7 +80,7 @@ impl Default for Areas {
 
 /// Lowers a tree record: the module record goes to `out` from its start, and the answer is how many bytes it has. The rest of `out` is left as it was, and after a refusal all of it.
 ///
-/// Asks questions 1 to 16 and 33, 15 by the limits that are given. Nothing is allocated.
+/// Asks questions 1 to 16, 33 and 36, 15 by the limits that are given. Nothing is allocated.
 ///
 /// ```
 /// use rulketoos::Limits;
@@ -88,9 +88,9 @@ impl Default for Areas {
 /// let mut areas = rulketoos::Areas::new();
 /// let mut out = [9; 40];
 /// let count = rulketoos::lower(&[0, 0, 0, 3, 1, 0, 0], Limits::Office, &mut areas, &mut out)?;
-/// assert_eq!(count, 32);
-/// assert_eq!(&out[..count], b"\0\0\0\x1c\x01\0\x01\x08__main__\0\0\0\x01\0\0\0\0\0\0\x01\x21\0\0\0\0");
-/// assert_eq!(out[count..], [9; 8]);
+/// assert_eq!(count, 34);
+/// assert_eq!(&out[..count], b"\0\0\0\x1e\x02\0\x01\x08__main__\0\0\0\x01\0\0\0\0\0\0\0\0\x01\x21\0\0\0\0");
+/// assert_eq!(out[count..], [9; 6]);
 /// # Ok::<(), rulketoos::Refusal>(())
 /// ```
 ///
@@ -123,13 +123,13 @@ pub fn lower(
 
 /// Lowers a tree record to a new vector: the module record.
 ///
-/// Asks questions 2 to 15 and 33: there is always room. Where many trees are lowered, [`lower`] saves making the areas and the output each time.
+/// Asks questions 2 to 15, 33 and 36: there is always room. Where many trees are lowered, [`lower`] saves making the areas and the output each time.
 ///
 /// ```
 /// use rulketoos::Limits;
 ///
 /// let module = rulketoos::lower_to_vec(&[0, 0, 0, 3, 1, 0, 0], Limits::Console)?;
-/// assert_eq!(module.len(), 32);
+/// assert_eq!(module.len(), 34);
 /// assert_eq!(rulketoos::read(&module), Ok(()));
 /// # Ok::<(), rulketoos::Refusal>(())
 /// ```
@@ -145,7 +145,7 @@ pub fn lower_to_vec(tree: &[u8], limits: Limits) -> Result<Vec<u8>, Refusal> {
     Ok(module)
 }
 
-/// Checks a tree record by itself: questions 2 to 13 and 33.
+/// Checks a tree record by itself: questions 2 to 13, 33 and 36.
 ///
 /// ```
 /// use rulketoos::Refusal;

@@ -7,7 +7,7 @@ const EMPTY: [u8; 7] = [0, 0, 0, 3, 1, 0, 0];
 #[test]
 fn every_number_has_its_refusal() {
     let mut count = 0;
-    for (number, refusal) in (1..=24).chain(31..=35).zip(Refusal::all()) {
+    for (number, refusal) in (1..=24).chain(31..=37).zip(Refusal::all()) {
         assert_eq!(refusal.number(), number);
         assert_eq!(Refusal::try_from(number), Ok(refusal));
         let text = refusal.to_string();
@@ -15,9 +15,9 @@ fn every_number_has_its_refusal() {
         assert!(text.ends_with(refusal.question()) && text.ends_with('?'));
         count += 1;
     }
-    assert_eq!(count, 29);
+    assert_eq!(count, 31);
     assert_eq!(Refusal::all().count(), count);
-    for number in [0, 25, 30, 36, u32::MAX] {
+    for number in [0, 25, 30, 38, u32::MAX] {
         assert_eq!(Refusal::try_from(number), Err(NoSuchQuestion(number)));
     }
 }
@@ -127,16 +127,16 @@ fn short_areas_are_left_as_they_were() {
 #[test]
 fn the_output_is_written_or_left() {
     let mut areas = Areas::default();
-    let mut short = [9; 31];
+    let mut short = [9; 33];
     assert_eq!(
         rulketoos::lower(&EMPTY, Limits::Office, &mut areas, &mut short),
         Err(Refusal::OutputTooShort)
     );
-    assert_eq!(short, [9; 31]);
-    let mut exact = [9; 32];
+    assert_eq!(short, [9; 33]);
+    let mut exact = [9; 34];
     assert_eq!(
         rulketoos::lower(&EMPTY, Limits::Office, &mut areas, &mut exact),
-        Ok(32)
+        Ok(34)
     );
     assert_eq!(
         rulketoos::lower_to_vec(&EMPTY, Limits::Office),
@@ -244,7 +244,7 @@ fn texts_are_written_or_left() {
 /// and a sheet of its totals alone.
 #[test]
 fn a_module_without_functions() {
-    let none = [0, 0, 0, 11, 1, 0, 0, 0, 0, 0, 0, 0, 0, 0, 0];
+    let none = [0, 0, 0, 11, 2, 0, 0, 0, 0, 0, 0, 0, 0, 0, 0];
     assert_eq!(rulketoos::list(&none, &mut []), Ok(0));
     assert_eq!(rulketoos::list_to_string(&none), Ok(String::new()));
     let total = "TOTAL      0      0      0              \n";

@@ -95,10 +95,10 @@ fn loops(count: usize) -> Vec<u8> {
     make::tree(&[make::def("f", &["r"], &make::times(count, &one))])
 }
 
-/// A list of so many None, unpacked to no names.
+/// A list of so many None.
 fn nones(count: usize) -> Vec<u8> {
     let list = make::list(&make::times(count, &make::none()));
-    make::tree(&[make::assign(make::tuple(&[]), list)])
+    make::tree(&[make::expr(list)])
 }
 
 /// So many symbols besides `__main__`.
@@ -131,7 +131,7 @@ fn cases() -> Vec<(&'static str, Vec<u8>)> {
         ("a def of 1,600 assignments to 250 names", assignments(250)),
         ("a def of 1,000 pairs unpacked to 250 names", pairs(250)),
         ("a def of 250 loops", loops(250)),
-        ("a list of 8,190 None", nones(8_190)),
+        ("a list of 8,189 None", nones(8_189)),
         ("1,024 symbols", symbols(1_023)),
         ("255 defs, 3,100 calls of the last", calls_of_the_last()),
     ]
@@ -162,7 +162,7 @@ pub fn slow_trees() {
     let mut buffers = Buffers::new();
     let mut worst = (Duration::ZERO, String::new());
     let mut cases = slow::all();
-    cases.push(generator::samples::case("slow-list-8191", nones(8_191)));
+    cases.push(generator::samples::case("slow-list-8190", nones(8_190)));
     for case in cases {
         let took = buffers.best(&case.tree);
         match buffers.lower(&case.tree) {

@@ -5,6 +5,7 @@
 //! Each line: what, our time, the other's time, ours by the other's. Times are
 //! the best of several rounds.
 
+mod heights;
 mod lowering;
 mod reach;
 mod texts;
@@ -124,7 +125,7 @@ fn long_tree() -> Vec<u8> {
 
 /// Our check of a tree beside the reading of the same bytes into the Rust's tree.
 fn trees() {
-    println!("check of a tree (2 to 13, 33), beside reading it into the Rust's tree");
+    println!("check of a tree (2 to 13, 33, 36), beside reading it into the Rust's tree");
     let cases = [
         ("a script of 30 lines", script()),
         ("random statements, some 30,000 bytes", long_tree()),
@@ -269,6 +270,7 @@ fn main() {
     readers();
     texts::listings();
     texts::sheets();
+    heights::checks();
     reach::last_places();
     runs();
 }

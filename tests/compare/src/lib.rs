@@ -38,7 +38,7 @@ impl Tally {
 
     /// Fails where a question of trees refused none; there is always room.
     pub fn every_tree_question(&self) {
-        for number in (2..16).chain([33]) {
+        for number in (2..16).chain([33, 36]) {
             assert!(self.refused(number) > 0, "no tree is refused by {number}");
         }
     }

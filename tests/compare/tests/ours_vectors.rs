@@ -46,6 +46,17 @@ fn modules() {
 }
 
 #[test]
+fn heights() {
+    let mut area = vec![0; rulketoos::HEIGHTS_AREA];
+    for [name, module, answer] in vectors("heights.txt") {
+        let module = unhex(&module).expect(&name);
+        let checked = rulketoos::heights(&module, &mut area);
+        let ours = checked.map_or_else(refused, |()| "accepted".to_string());
+        assert_eq!(ours, answer, "{name}");
+    }
+}
+
+#[test]
 fn runs() {
     for [name, module, function, answers, budget, room, answer] in vectors("runs.txt") {
         let number = |field: &str| field.parse::<u64>().expect(&name);

@@ -44,7 +44,7 @@ fn number(value: i64) -> Vec<u8> {
 #[test]
 fn empty_tree() {
     let module = lower(&starred("sample-empty"));
-    let expected = "0000001c010001085f5f6d61696e5f5f00000001000000000000012100000000";
+    let expected = "0000001e020001085f5f6d61696e5f5f000000010000000000000000012100000000";
     assert_eq!(module.map(|m| compare::hex(&m)), Ok(expected.to_string()));
 }
 
@@ -94,8 +94,43 @@ fn targets_of_the_samples() {
         vec![op::RETURN],
     ];
     assert_eq!(code(&starred("sample-pair"), 0), pair.concat());
-    let none = [load(1), vec![op::RETURN]];
-    assert_eq!(code(&starred("sample-no-target"), 0), none.concat());
+    assert_eq!(lower(&starred("sample-no-target")), Err(36));
+}
+
+/// 36 is asked just after 10, of targets alone.
+#[test]
+fn empty_tuples() {
+    use make::{assign, def, none, tree, tuple, var};
+    let empty = || assign(tuple(&[var("a"), tuple(&[])]), var("t"));
+    let twice = || def("f", &["x", "x"], &[]);
+    assert_eq!(lower(&tree(&[empty()])), Err(36));
+    assert_eq!(lower(&tree(&[empty(), assign(none(), none())])), Err(10));
+    assert_eq!(lower(&tree(&[twice(), empty()])), Err(36));
+    assert!(lower(&tree(&[assign(var("v"), tuple(&[]))])).is_ok());
+}
+
+/// The height in the record of each function of a tree's module.
+fn heights(tree: &[u8]) -> Vec<u16> {
+    let module = lower(tree).expect("accepted");
+    assert_eq!(model::heights(&module, model::reach::AREA), Ok(()));
+    let module = model::module::read(&module).expect("accepted");
+    module.functions.iter().map(|f| f.height).collect()
+}
+
+/// Each statement starts at 0, also behind a Return; so does the LoadLocal that
+/// closes an `__init__`.
+#[test]
+fn heights_of_functions() {
+    use make::{class, expr, list, method, none, ret, tree};
+    assert_eq!(heights(&starred("sample-empty")), [0]);
+    assert_eq!(heights(&starred("sample-while")), [1]);
+    assert_eq!(heights(&starred("sample-and")), [1]);
+    assert_eq!(heights(&starred("sample-pair")), [3]);
+    assert_eq!(heights(&starred("sample-args-255")), [256]);
+    let behind = method("m", &[], &[ret(none()), expr(list(&[none(), none()]))]);
+    let init = method("__init__", &["self"], &[]);
+    let both = class("A", &[init, behind], &[]);
+    assert_eq!(heights(&tree(&[both])), [1, 1, 2]);
 }
 
 #[test]

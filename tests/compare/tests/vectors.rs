@@ -68,6 +68,17 @@ fn module_vectors_replay() {
 }
 
 #[test]
+fn height_vectors_replay() {
+    for fields in lines(&committed("heights.txt")) {
+        let [name, module, answer] = fields[..] else {
+            panic!("three fields: {}", fields[0]);
+        };
+        let module = unhex(module).expect(name);
+        assert_eq!(vectors::height_answer(&module), answer, "{name}");
+    }
+}
+
+#[test]
 fn run_vectors_replay() {
     for fields in lines(&committed("runs.txt")) {
         let [name, module, function, answers, budget, room, answer] = fields[..] else {
@@ -111,11 +122,11 @@ fn stored_outputs_are_the_answers() {
 
 #[test]
 fn every_refusal_is_among_the_vectors() {
-    let text = ["trees.txt", "modules.txt", "runs.txt"]
+    let text = ["trees.txt", "modules.txt", "runs.txt", "heights.txt"]
         .map(committed)
         .concat();
     // 1 cannot be put in a line: the areas are always long enough there.
-    for number in (2..=24).chain([33]) {
+    for number in (2..=24).chain([33, 36, 37]) {
         let answer = format!("\trefused {number}\n");
         assert!(text.contains(&answer), "{number}");
     }

@@ -1,6 +1,7 @@
 //! Trees, modules, answers and damaged copies for the tests.
 
 pub mod damage;
+pub mod heights;
 pub mod limits;
 pub mod listings;
 pub mod make;

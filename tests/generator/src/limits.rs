@@ -1,4 +1,4 @@
-//! Trees on both sides of every limit of questions 2 to 16 and 33.
+//! Trees on both sides of every limit of questions 2 to 16, 33 and 36.
 
 use crate::make::*;
 use crate::samples::{case, nested_not, script, Case};
@@ -441,6 +441,16 @@ fn targets() -> Vec<Case> {
         ("tuple-of-attribute", tuple(&[attr(a(), "b")])),
         ("tuple-of-index", tuple(&[index(a(), a())])),
         ("tuple-of-list", tuple(&[list(&[a()])])),
+        ("empty-tuple", tuple(&[])),
+        ("tuple-of-empty-tuple", tuple(&[a(), tuple(&[])])),
+        (
+            "deep-empty-tuple",
+            tuple(&[a(), tuple(&[tuple(&[a(), tuple(&[])]), a()])]),
+        ),
+        ("empty-tuple-and-int", tuple(&[tuple(&[]), int(1)])),
+        ("list-of-empty-tuple", list(&[tuple(&[])])),
+        ("attribute-of-empty-tuple", attr(tuple(&[]), "b")),
+        ("index-of-empty-tuples", index(tuple(&[]), tuple(&[]))),
         (
             "tuple-of-tuple-of-call",
             tuple(&[tuple(&[call_name("f", &[])])]),
@@ -602,7 +612,8 @@ fn unpacked_slots(count: usize) -> Vec<Case> {
     // Tuples of eight in one tuple; each in the next, 29 deep, the last the widest.
     let eights = tuple(&all.chunks(8).map(wide).collect::<Vec<_>>());
     let chunks: Vec<&[&str]> = all.chunks(9).collect();
-    let deep = chunks.iter().rev().fold(tuple(&[]), |inner, names| {
+    let (last, outer) = chunks.split_last().expect("a chunk");
+    let deep = outer.iter().rev().fold(wide(last), |inner, names| {
         let mut items: Vec<Bytes> = names.iter().map(|n| var(n)).collect();
         items.insert(names.len() / 2, inner);
         tuple(&items)
@@ -755,6 +766,7 @@ fn faults() -> Vec<(u8, Bytes)> {
         (8, expr(string(&[128]))),
         (9, break_()),
         (10, assign(none(), none())),
+        (36, assign(tuple(&[var("a"), tuple(&[])]), none())),
         (11, def("f", &["a", "a"], &[])),
         (12, class("A", &[method("__init__", &[], &[])], &[])),
         (13, expr(call_name("f", &times(256, &none())))),
@@ -782,22 +794,21 @@ fn pairs_of_faults() -> Vec<Case> {
     cases
 }
 
-/// So many instructions: `() = None` has one, `None` as a statement two.
+/// So many instructions: `None` as a statement has two, an empty loop three.
 fn instruction_counts(limit: usize) -> Vec<Case> {
     let two = expr(none());
-    let one = assign(tuple(&[]), none());
     let three = while_(none(), &[]);
     // the last is the return
-    let of = |each: usize, many: &Bytes, count: usize| {
-        let rest = (count - 1) % each;
-        let twos = times(rest / 2, &two);
-        let ones = times(rest % 2, &one);
-        [times((count - 1) / each, many), twos, ones].concat()
+    let twos = |count: usize| {
+        let odd = (count - 1) % 2;
+        [times((count - 1 - 3 * odd) / 2, &two), times(odd, &three)].concat()
     };
-    let plain = |count: usize| of(2, &two, count);
-    let loops = |count: usize| of(3, &three, count);
-    let in_def = |count: usize| vec![def("f", &[], &of(2, &two, count - 1))];
-    let ways: [Way; 3] = [("", &plain), ("-loops", &loops), ("-in-def", &in_def)];
+    let threes = |count: usize| {
+        let rest = [0, 4, 2][(count - 1) % 3];
+        [times((count - 1 - rest) / 3, &three), times(rest / 2, &two)].concat()
+    };
+    let in_def = |count: usize| vec![def("f", &[], &twos(count - 1))];
+    let ways: [Way; 3] = [("", &twos), ("-loops", &threes), ("-in-def", &in_def)];
     at_limit("instructions", limit, &ways)
 }
 

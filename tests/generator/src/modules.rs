@@ -32,10 +32,13 @@ pub struct Function {
     pub name: u16,
     pub arity: u8,
     pub locals: u16,
+    pub height: u16,
     /// One item an instruction.
     pub code: Vec<Bytes>,
 }
 
+/// The version of a module record.
+pub const VERSION: u8 = 2;
 pub const RETURN: u8 = 33;
 
 /// An instruction with a 32-bit operand: jumps, strings, constants.
@@ -55,6 +58,7 @@ pub fn function(locals: u16, code: &[Bytes]) -> Function {
         name: 0,
         arity: 0,
         locals,
+        height: 0,
         code: code.to_vec(),
     }
 }
@@ -89,7 +93,7 @@ impl Parts {
     }
 
     pub fn bytes(&self) -> Bytes {
-        with_header(&[&[1], self.rest().as_slice()].concat())
+        with_header(&[&[VERSION], self.rest().as_slice()].concat())
     }
 
     /// What follows the version byte.
@@ -109,6 +113,7 @@ impl Parts {
             out.extend(function.name.to_be_bytes());
             out.push(function.arity);
             out.extend(function.locals.to_be_bytes());
+            out.extend(function.height.to_be_bytes());
             count(&mut out, function.code.len());
             out.extend(function.code.concat());
         }
@@ -188,8 +193,9 @@ fn headers() -> Vec<ModuleCase> {
         module_case("module-count-less", with_count(length - 1)),
         module_case("module-count-high", with_count(length + (1 << 24))),
         module_case("module-version-0", with_version(0)),
-        module_case("module-version-2", with_version(2)),
-        module_case("module-version-alone", with_header(&[1])),
+        module_case("module-version-1", with_version(1)),
+        module_case("module-version-3", with_version(3)),
+        module_case("module-version-alone", with_header(&[VERSION])),
         module_case("module-empty-tables", Parts::default().bytes()),
     ]
 }
@@ -199,7 +205,7 @@ fn layouts() -> Vec<ModuleCase> {
     let mut parts = Parts::of(&[long(2, 0)]);
     parts.classes[0].1.push((b"m".to_vec(), 0));
     let rest = parts.rest();
-    let with_rest = |rest: &[u8]| with_header(&[&[1], rest].concat());
+    let with_rest = |rest: &[u8]| with_header(&[&[VERSION], rest].concat());
     let mut cases: Vec<_> = (0..rest.len())
         .map(|cut| module_case(&format!("module-cut-{cut}"), with_rest(&rest[..cut])))
         .collect();

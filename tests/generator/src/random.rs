@@ -57,7 +57,7 @@ const ITERATORS: [&str; 5] = [
 /// A digit more, and it is too long for a name.
 const LONG_ITERATOR: &str = "__for_iter_0000000000000000000000000000000000000000000000000000__";
 
-/// A rule that a random tree may break: questions 7 to 12 and 33.
+/// A rule that a random tree may break: questions 7 to 12, 33 and 36.
 #[derive(Clone, Copy, PartialEq, Eq)]
 enum Fault {
     Name,
@@ -65,17 +65,19 @@ enum Fault {
     Text,
     Loop,
     Target,
+    Empty,
     Params,
     Init,
 }
 
-const FAULTS: [Fault; 8] = [
+const FAULTS: [Fault; 9] = [
     Fault::Name,
     Fault::Iterator,
     Fault::Iterator,
     Fault::Text,
     Fault::Loop,
     Fault::Target,
+    Fault::Empty,
     Fault::Params,
     Fault::Init,
 ];
@@ -244,11 +246,7 @@ impl Maker<'_> {
                 let object = self.expr(depth + 1);
                 make::index(object, self.expr(depth + 1))
             }
-            2 | 3 if deep => {
-                let count = self.rng.below(4);
-                let items: Vec<_> = (0..count).map(|_| self.plain_target(depth + 1)).collect();
-                make::tuple(&items)
-            }
+            2 | 3 if deep => self.tuple_target(depth, 3),
             4 if self.spoil(Fault::Target) => self.expr(depth),
             _ => make::var(self.name()),
         }
@@ -259,11 +257,19 @@ impl Maker<'_> {
             return self.target(depth);
         }
         if depth + 1 < self.deepest.min(32) && self.rng.once_in(4) {
-            let count = self.rng.below(3);
-            let items: Vec<_> = (0..count).map(|_| self.plain_target(depth + 1)).collect();
-            return make::tuple(&items);
+            return self.tuple_target(depth, 2);
         }
         make::var(self.name())
+    }
+
+    /// A tuple of one to so many targets; an empty one breaks a rule.
+    fn tuple_target(&mut self, depth: usize, most: usize) -> Bytes {
+        if self.spoil(Fault::Empty) {
+            return make::tuple(&[]);
+        }
+        let count = 1 + self.rng.below(most);
+        let items: Vec<_> = (0..count).map(|_| self.plain_target(depth + 1)).collect();
+        make::tuple(&items)
     }
 
     fn leaf(&mut self) -> Bytes {

@@ -642,7 +642,11 @@ fn loops() -> Vec<Case> {
 
 fn targets() -> Vec<Case> {
     let [a, b, c] = ["a", "b", "c"].map(var);
-    let nested = tuple(&[a.clone(), tuple(&[b.clone(), c.clone()]), tuple(&[])]);
+    let nested = tuple(&[
+        a.clone(),
+        tuple(&[b.clone(), c.clone()]),
+        tuple(from_ref(&b)),
+    ]);
     let t = || var("t");
     vec![
         script("target-one", &[assign(tuple(from_ref(&a)), t())]),

@@ -48,9 +48,9 @@ fn variables(names: &[String]) -> Vec<Bytes> {
     names.iter().map(|n| var(n)).collect()
 }
 
-/// `() = [..]`: one instruction an item, and two.
-fn unpacked(items: &[Bytes]) -> Bytes {
-    assign(tuple(&[]), list(items))
+/// A list as a statement: one instruction an item, and three.
+fn listed(items: &[Bytes]) -> Bytes {
+    expr(list(items))
 }
 
 /// The same names with their ends in front.
@@ -86,22 +86,22 @@ fn names() -> Vec<Case> {
     for (word, names) in lists {
         let fitting = (MAX_TREE - 20) / (names[0].len() + 2);
         let names = &names[..names.len().min(fitting)];
-        let stmt = filled(&variables(names), 8_190, unpacked);
+        let stmt = filled(&variables(names), 8_189, listed);
         cases.push(script(&format!("slow-names-{word}"), &[stmt]));
     }
     // Calls look their names up twice.
     let calls: Vec<Bytes> = alike(1_023, 3).iter().map(|n| call_name(n, &[])).collect();
-    let stmt = filled(&calls, 4_095, unpacked);
+    let stmt = filled(&calls, 4_094, listed);
     cases.push(script("slow-names-calls", &[stmt]));
     // Where a name has no slot among 255, symbols are looked at too.
     let slots = many_names(255);
     let names = variables(&alike(1_021, 3));
     let stmt = filled(&names, 8_189, |items| {
-        def("f", &borrowed(&slots), &[unpacked(items)])
+        def("f", &borrowed(&slots), &[listed(items)])
     });
     cases.push(script("slow-names-in-def", &[stmt]));
     // Each loop looks four made names up.
-    let mut stmts = vec![unpacked(&variables(&many_names(300)))];
+    let mut stmts = vec![listed(&variables(&many_names(300)))];
     stmts.extend(times(650, &for_("i", none(), &[])));
     cases.push(script("slow-names-loops", &stmts));
     cases
@@ -115,7 +115,7 @@ fn texts() -> Vec<Case> {
             .iter()
             .map(|n| string(n.as_bytes()))
             .collect();
-        let stmt = filled(&strings, 8_190, unpacked);
+        let stmt = filled(&strings, 8_189, listed);
         cases.push(script(&format!("slow-strings-{length}"), &[stmt]));
     }
     for (word, character) in [("2", "é"), ("3", "和"), ("4", "🗞")] {
@@ -123,7 +123,7 @@ fn texts() -> Vec<Case> {
             .iter()
             .map(|n| string(n.replace('a', &character.repeat(10)).as_bytes()))
             .collect();
-        let stmt = filled(&strings, 8_190, unpacked);
+        let stmt = filled(&strings, 8_189, listed);
         cases.push(script(&format!("slow-strings-of-{word}-bytes"), &[stmt]));
     }
     cases
@@ -210,7 +210,7 @@ fn lambdas_that_sort() -> Case {
     names.reverse();
     let one = lambda(&[], list(&variables(&names)));
     let stmt = filled(&[one], 200, |items| {
-        def("f", &borrowed(&names), &[unpacked(items)])
+        def("f", &borrowed(&names), &[listed(items)])
     });
     script("slow-lambdas-sorting", &[stmt])
 }
@@ -232,7 +232,7 @@ fn lambdas_in_wide_def() -> Case {
     let names = alike(255, 3);
     let one = lambda(&[], var(&names[254]));
     let stmt = filled(&[one], 8_000, |items| {
-        def("f", &borrowed(&names), &[unpacked(items)])
+        def("f", &borrowed(&names), &[listed(items)])
     });
     script("slow-lambdas-many", &[stmt])
 }
@@ -414,5 +414,5 @@ fn one_bucket() -> Vec<Bytes> {
     let mut items = times(1_800, &call_name(&last, &[]));
     items.extend(times(2_000, &var(&last)));
     items.push(lambda(&[], none()));
-    vec![unpacked(&variables(&names)), expr(list(&[list(&items)]))]
+    vec![listed(&variables(&names)), expr(list(&[list(&items)]))]
 }

@@ -1,5 +1,6 @@
 //! The text of the committed vectors, made again byte for byte.
 
+use crate::heights;
 use crate::modules::{self, ModuleCase};
 use crate::runs::{self, RunCase};
 use crate::samples::{self, Case};
@@ -10,12 +11,13 @@ use model::{Limits, CONSOLE, OFFICE};
 const SEED: u64 = 20_251_125;
 
 /// File names below tests/vectors and their whole text.
-pub fn files() -> [(&'static str, String); 4] {
+pub fn files() -> [(&'static str, String); 5] {
     [
         ("trees.txt", tree_lines(&trees(), OFFICE)),
         ("console.txt", tree_lines(&console_trees(), CONSOLE)),
         ("modules.txt", lines(module_cases().iter().map(module_line))),
         ("runs.txt", lines(run_cases().iter().map(run_line))),
+        ("heights.txt", lines(height_cases().iter().map(height_line))),
     ]
 }
 
@@ -33,6 +35,14 @@ pub fn tree_answer(tree: &[u8], limits: Limits) -> String {
 
 pub fn module_answer(module: &[u8]) -> String {
     match model::read(module) {
+        Ok(()) => "accepted".to_string(),
+        Err(number) => format!("refused {number}"),
+    }
+}
+
+/// The answer of the check of heights.
+pub fn height_answer(module: &[u8]) -> String {
+    match model::heights(module, model::reach::AREA) {
         Ok(()) => "accepted".to_string(),
         Err(number) => format!("refused {number}"),
     }
@@ -59,6 +69,11 @@ fn tree_lines(cases: &[Case], limits: Limits) -> String {
 
 fn module_line(case: &ModuleCase) -> String {
     let answer = module_answer(&case.module);
+    format!("{}\t{}\t{answer}", case.name, hex_or_dash(&case.module))
+}
+
+fn height_line(case: &ModuleCase) -> String {
+    let answer = height_answer(&case.module);
     format!("{}\t{}\t{answer}", case.name, hex_or_dash(&case.module))
 }
 
@@ -146,5 +161,29 @@ pub fn run_cases() -> Vec<RunCase> {
     let mut cases = runs::all();
     cases.extend(runs::random_runs(&mut rng, 150, 800));
     cases.extend(runs::made_runs(&mut rng, 150));
+    cases
+}
+
+/// Modules of the check of heights: hand-made, random, and of the reader's the
+/// short ones that it takes, and those whose layout is wrong.
+pub fn height_cases() -> Vec<ModuleCase> {
+    let mut rng = Rng::new(SEED + 3);
+    let mut cases = heights::all();
+    for number in 0..70 {
+        let module = loop {
+            let module = heights::random_module(&mut rng);
+            if module.len() <= 150 {
+                break module;
+            }
+        };
+        cases.push(modules::module_case(
+            &format!("heights-random-{number}"),
+            module,
+        ));
+    }
+    cases.extend(module_cases().into_iter().filter(|case| {
+        let taken = model::read(&case.module).is_ok();
+        case.module.len() <= 200 && (taken || case.name.starts_with("module-"))
+    }));
     cases
 }

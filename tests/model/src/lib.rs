@@ -5,6 +5,7 @@
 //! Written from the documents alone, to be held against the reference compiler
 //! and against the project's own code. A refusal is the question's number.
 
+pub mod height;
 pub mod instruction;
 pub mod limits;
 pub mod listing;
@@ -29,7 +30,7 @@ pub use walk::Walked;
 /// The least length of each work area.
 pub const AREA: usize = 16_384;
 
-/// Questions 1 to 16 and 33: the module record of a tree, or the first no.
+/// Questions 1 to 16, 33 and 36: the module record of a tree, or the first no.
 pub fn lower(
     tree: &[u8],
     limits: Limits,
@@ -43,19 +44,19 @@ pub fn lower(
     lowering::write(&plan(tree, limits)?, room)
 }
 
-/// Questions 2 to 13 and 33: the statements of the tree.
+/// Questions 2 to 13, 33 and 36: the statements of the tree.
 fn checked(tree: &[u8]) -> Result<tree::Block<'_>, u8> {
     let program = tree::read(tree)?;
     questions::ask(&program)?;
     Ok(program)
 }
 
-/// Questions 2 to 13 and 33.
+/// Questions 2 to 13, 33 and 36.
 pub fn check(tree: &[u8]) -> Result<(), u8> {
     checked(tree).map(|_| ())
 }
 
-/// Questions 2 to 15 and 33: the numbered tree, before it becomes bytes.
+/// Questions 2 to 15, 33 and 36: the numbered tree, before it becomes bytes.
 pub fn plan(tree: &[u8], limits: Limits) -> Result<plan::Plan<'_>, u8> {
     let program = checked(tree)?;
     slots::ask(&program)?;
@@ -65,6 +66,14 @@ pub fn plan(tree: &[u8], limits: Limits) -> Result<plan::Plan<'_>, u8> {
 /// Questions 17 to 21.
 pub fn read(module: &[u8]) -> Result<(), u8> {
     module::read(module).map(|_| ())
+}
+
+/// Questions 1, 17 to 21 and 37: the check of heights.
+pub fn heights(module: &[u8], area: usize) -> Result<(), u8> {
+    if area < reach::AREA {
+        return Err(1);
+    }
+    height::ask(&module::read(module)?)
 }
 
 /// Questions 17 to 21 and 31: the code listing.
@@ -146,8 +155,8 @@ pub fn reach(
 }
 
 /// The walk through the body with that number. A tree that the office refuses by
-/// questions 2 to 15 or 33, a function that does not exist, or a bad answer gives
-/// its number.
+/// questions 2 to 15, 33 or 36, a function that does not exist, or a bad answer
+/// gives its number.
 pub fn walk(tree: &[u8], function: u64, answers: &[u8]) -> Result<Walked, u8> {
     let plan = plan(tree, OFFICE)?;
     let function = find(&plan.functions, function)?;
@@ -155,7 +164,8 @@ pub fn walk(tree: &[u8], function: u64, answers: &[u8]) -> Result<Walked, u8> {
     Ok(walk::walk(&function.parts, answers))
 }
 
-/// The module with slots numbered by first use, or the reader's refusal.
+/// The module as the reference's record has it, or the reader's refusal: slots
+/// numbered by first use, version 1, and no heights.
 pub fn renumber(module: &[u8]) -> Result<Vec<u8>, u8> {
     Ok(renumber::renumber(&module::read(module)?))
 }

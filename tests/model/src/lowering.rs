@@ -2,10 +2,11 @@
 
 use crate::instruction::{self as op, Instruction};
 use crate::plan::{ForParts, FunctionPlan, Part, Parts, Plan, ShortParts};
+use crate::{height, module};
 
 /// The module record, if it is at most `room` bytes long.
 pub fn write(plan: &Plan, room: usize) -> Result<Vec<u8>, u8> {
-    let mut body = vec![1];
+    let mut body = vec![module::VERSION];
     count(&mut body, plan.symbols.len());
     for symbol in &plan.symbols {
         name(&mut body, symbol);
@@ -44,6 +45,7 @@ fn write_function(out: &mut Vec<u8>, function: &FunctionPlan) {
     out.extend(function.name.to_be_bytes());
     out.push(function.arity);
     out.extend(function.locals.to_be_bytes());
+    out.extend(height::number(&function.parts).to_be_bytes());
     let code = code(&function.parts);
     count(out, code.len());
     for instruction in &code {

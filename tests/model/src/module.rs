@@ -4,6 +4,7 @@ use crate::instruction as op;
 use crate::{names, utf8};
 
 pub const MAX_MODULE: usize = 524_288;
+pub const VERSION: u8 = 2;
 
 /// A module that was read, with places into its bytes.
 pub struct Module<'m> {
@@ -21,6 +22,8 @@ pub struct Function {
     pub name: u16,
     pub arity: u8,
     pub locals: u16,
+    /// The largest height of the stack.
+    pub height: u16,
     /// Where the code begins in the module bytes, and where it ends.
     pub start: usize,
     pub end: usize,
@@ -36,7 +39,7 @@ pub fn read(module: &[u8]) -> Result<Module<'_>, u8> {
     if module.len() > MAX_MODULE || u32::from_be_bytes(*header) as usize != rest.len() {
         return Err(17);
     }
-    if rest.first() != Some(&1) {
+    if rest.first() != Some(&VERSION) {
         return Err(18);
     }
     let module = layout(module).ok_or(19)?;
@@ -113,6 +116,7 @@ impl<'m> Cursor<'m> {
 
     fn function(&mut self) -> Option<Function> {
         let (name, arity, locals) = (self.number()?, self.byte()?, self.number()?);
+        let height = self.number()?;
         let count = self.number()?;
         let start = self.at;
         let places = (0..count)
@@ -122,6 +126,7 @@ impl<'m> Cursor<'m> {
             name,
             arity,
             locals,
+            height,
             start,
             end: self.at,
             places,

@@ -1,12 +1,13 @@
-//! Questions 7 to 13 and 33. Each is asked over the whole tree before the next,
+//! Questions 7 to 13, 33 and 36. Each is asked over the whole tree before the next,
 //! so one pass notes every no, and the first in their order is the answer.
 
 use crate::tree::{Block, Class, Expr, Function, Group, Name, Stmt};
 use crate::{names, utf8};
 use std::collections::HashSet;
 
-/// The questions in the order in which they are asked: 33 just after 7.
-const ORDER: [u8; 8] = [7, 33, 8, 9, 10, 11, 12, 13];
+/// The questions in the order in which they are asked: 33 just after 7, 36
+/// just after 10.
+const ORDER: [u8; 9] = [7, 33, 8, 9, 10, 36, 11, 12, 13];
 
 /// The first no among these questions.
 pub fn ask(block: &Block) -> Result<(), u8> {
@@ -57,6 +58,7 @@ impl Noes {
             Stmt::Expr(value) | Stmt::Return(value) => self.expr(value),
             Stmt::Assign(target, value) => {
                 self.ask(10, is_target(target));
+                self.ask(36, !has_empty_tuple(target));
                 self.expr(target);
                 self.expr(value);
             }
@@ -151,6 +153,14 @@ fn is_plain_target(target: &Expr) -> bool {
     match target {
         Expr::Variable(_) => true,
         Expr::Group(Group::Tuple, items) => items.iter().all(is_plain_target),
+        _ => false,
+    }
+}
+
+/// A target that is an empty tuple, or a tuple target with one inside.
+fn has_empty_tuple(target: &Expr) -> bool {
+    match target {
+        Expr::Group(Group::Tuple, items) => items.is_empty() || items.iter().any(has_empty_tuple),
         _ => false,
     }
 }

@@ -1,4 +1,4 @@
-//! Slots renumbered by first use, for comparison with the reference.
+//! A module as the reference's record has it, for comparison with it.
 
 use crate::instruction as op;
 use crate::module::{Function, Module};
@@ -6,7 +6,8 @@ use crate::names;
 use std::collections::HashMap;
 
 /// The module with slots at or above the arity in defs and methods (not in
-/// lambdas) renumbered by first use in the code. Nothing else changes.
+/// lambdas) renumbered by first use in the code, and without what the reference
+/// has no part in: heights and version, and so the header's count.
 pub fn renumber(module: &Module) -> Vec<u8> {
     let mut bytes = module.bytes.to_vec();
     for function in &module.functions {
@@ -15,7 +16,21 @@ pub fn renumber(module: &Module) -> Vec<u8> {
             renumber_function(&mut bytes, function);
         }
     }
-    bytes
+    without_heights(&bytes, &module.functions)
+}
+
+/// The two bytes of each height stand before the two of the count of
+/// instructions, which stand before the code.
+fn without_heights(bytes: &[u8], functions: &[Function]) -> Vec<u8> {
+    let mut body = vec![1];
+    let mut at = 5;
+    for function in functions {
+        body.extend(&bytes[at..function.start - 4]);
+        at = function.start - 2;
+    }
+    body.extend(&bytes[at..]);
+    let count = u32::try_from(body.len()).expect("32 bits");
+    [&count.to_be_bytes(), &body[..]].concat()
 }
 
 fn renumber_function(bytes: &mut [u8], function: &Function) {

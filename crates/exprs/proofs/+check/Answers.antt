@@ -1,12 +1,12 @@
 use mathlib.Core.Path.{sym, ap, ◌∙◌}
-use Rattle.std.proofs.Common.{◌+◌, rules, arith}
+use Rattle.std.proofs.Common.{rules, arith}
 use Rattle.numerals.specs.Kinds.{expr_byte}
 use Rattle.parts.specs.Asked.{asks}
-use Rattle.parts.specs.Judge.{judge_expr, judge_two, judge_call, judge_args, judge_display, judge_pairs, judge_attribute, judge_lambda, judge_unary, judge_binary}
+use Rattle.parts.specs.Judge.{judge_expr, judge_two, judge_call, judge_args, judge_display, judge_tuple, judge_pairs, judge_attribute, judge_lambda, judge_unary, judge_binary}
 use Rattle.parts.specs.declared.roles.Role.TheVariants.{Value}
 use Rattle.parts.proofs.Steps.{step, stop, count-step, count-stop, noted, guard-step, guard-stop, along-start, along-next, along-stop, along-end}
-use Rattle.exprs.proofs.Checking.{expr-stop, expr-deep, expr-no-kind, expr-step, expr-constant, expr-eight, expr-values, many-turns, many-end, many-skip}
-use Rattle.exprs.proofs.ExprLaws.{at-string, at-var, at-unary, at-binary, at_call, at-attribute, at-dict, at-tuple, at-index, at-lambda, tuple-role}
+use Rattle.exprs.proofs.Checking.{expr-stop, expr-deep, expr-no-kind, expr-step, expr-constant, expr-eight, expr-values, many-turns, many-end, many-skip, tuple-role}
+use Rattle.exprs.proofs.ExprLaws.{at-string, at-var, at-unary, at-binary, at_call, at-attribute, at-dict, at-tuple, at-index, at-lambda}
 use Rattle.exprs.proofs.+check.Goals as goal
 
 pub check_attribute-returns-in_err-check_expr : goal.check_attribute-returns-in_err-check_expr
@@ -93,7 +93,7 @@ check_expr-returns-in-Dict t c = expr-step _ _ 12 c.in_ok-byte.ensures c.if-dept
 
 pub check_expr-returns-in-Tuple : goal.check_expr-returns-in-Tuple
 unfolding expr_byte
-check_expr-returns-in-Tuple t c = expr-step _ _ 13 c.in_ok-byte.ensures c.if-depth-eq0.false c.suits.ensures (sym c.in-Ok.ensures ∙ ap expr_byte c.in-Tuple.is) (λ t p w u f h s e. tuple-role _ _ _ t (p + 1) u c.within.ensures ∙ at-tuple _ _ t p w u f h s e) c.check_display-in-Tuple.ensures
+check_expr-returns-in-Tuple t c = expr-step _ _ 13 c.in_ok-byte.ensures c.if-depth-eq0.false c.suits.ensures (sym c.in-Ok.ensures ∙ ap expr_byte c.in-Tuple.is) (λ t p w u f h s e. at-tuple _ _ t p w u f h s e) c.check_tuple.ensures
 
 pub check_expr-returns-in-Index : goal.check_expr-returns-in-Index
 unfolding expr_byte
@@ -133,6 +133,14 @@ check_pairs-returns-in_err-n t c = count-stop _ (search rules) c.in_err-n.ensure
 pub check_pairs-returns : goal.check_pairs-returns
 unfolding judge_pairs
 check_pairs-returns t c = count-step _ c.in_ok-n.ensures c.check_many.ensures
+
+pub check_tuple-returns-in_err-n : goal.check_tuple-returns-in_err-n
+unfolding judge_tuple
+check_tuple-returns-in_err-n t c = count-stop _ (search rules) c.in_err-n.ensures
+
+pub check_tuple-returns : goal.check_tuple-returns
+unfolding judge_tuple
+check_tuple-returns t c = count-step _ c.in_ok-n.ensures (noted c.fills.ensures (tuple-role _ _ _ c.within.ensures c.check_many.ensures))
 
 pub check_two-returns-in_err-check_expr : goal.check_two-returns-in_err-check_expr
 unfolding judge_two

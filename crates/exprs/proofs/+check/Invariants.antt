@@ -15,6 +15,9 @@ decreases-check_call l = 4 * l.depth + 2
 abbrev pub decreases-check_display : goal.decreases-check_display
 decreases-check_display l = 4 * l.depth + 2
 
+abbrev pub decreases-check_tuple : goal.decreases-check_tuple
+decreases-check_tuple l = 4 * l.depth + 2
+
 abbrev pub decreases-check_expr : goal.decreases-check_expr
 decreases-check_expr l = 4 * l.depth
 

@@ -5,6 +5,7 @@ use mathlib.Core.List.{List, [], ◌∷◌, ◌++◌}
 use Prim.Native.Nat.{ℕ, ◌-◌}
 use lib.ListN.{length-append}
 use Rattle.definitions.specs.Bytes.{be}
+use Rattle.definitions.specs.Module.{module_version}
 use Rattle.definitions.proofs.BytesWritten.{length-be}
 use Rattle.writing.proofs.Begun.{joined-one, begun_first, begun-length, begun-fits, begun-number, begun-next, begun-done}
 use Rattle.module.proofs.write_head.Goals as goal
@@ -13,33 +14,33 @@ pub slice_bounds-write_number-count : goal.slice_bounds-write_number-count
 unfolding be
 slice_bounds-write_number-count c =
     let counted = let d = be 4 (c.args.size - 4) in
-    begun_first (ap (λ (z : List ℕ). d ++ z) (joined-one (1 ∷ []))) (let l = length-append d (1 ∷ []) in let k = length-be 4 (c.args.size - 4) in omega (arith, c.requires.0)) c.write_number-at.ensures in
+    begun_first (ap (λ (z : List ℕ). d ++ z) (joined-one (module_version ∷ []))) (let l = length-append d (module_version ∷ []) in let k = length-be 4 (c.args.size - 4) in omega (arith, c.requires.0)) c.write_number-at.ensures in
     omega (arith, begun-fits counted)
 
 pub slice_bounds-write_number-start : goal.slice_bounds-write_number-start
 unfolding be
 slice_bounds-write_number-start c =
     let counted = let d = be 4 (c.args.size - 4) in
-    begun_first (ap (λ (z : List ℕ). d ++ z) (joined-one (1 ∷ []))) (let l = length-append d (1 ∷ []) in let k = length-be 4 (c.args.size - 4) in omega (arith, c.requires.0)) c.write_number-at.ensures in
+    begun_first (ap (λ (z : List ℕ). d ++ z) (joined-one (module_version ∷ []))) (let l = length-append d (module_version ∷ []) in let k = length-be 4 (c.args.size - 4) in omega (arith, c.requires.0)) c.write_number-at.ensures in
     omega (arith, begun-fits counted)
 
 pub write_number-requires : goal.write_number-requires
 unfolding be
 write_number-requires c =
     let counted = let d = be 4 (c.args.size - 4) in
-    begun_first (ap (λ (z : List ℕ). d ++ z) (joined-one (1 ∷ []))) (let l = length-append d (1 ∷ []) in let k = length-be 4 (c.args.size - 4) in omega (arith, c.requires.0)) c.write_number-at.ensures in
-    (begun-number 1 1 counted, omega arith)
+    begun_first (ap (λ (z : List ℕ). d ++ z) (joined-one (module_version ∷ []))) (let l = length-append d (module_version ∷ []) in let k = length-be 4 (c.args.size - 4) in omega (arith, c.requires.0)) c.write_number-at.ensures in
+    (begun-number 1 module_version counted, omega arith)
 
 pub overflow_add-result : goal.overflow_add-result
 unfolding be
 overflow_add-result c =
     let counted = let d = be 4 (c.args.size - 4) in
-    begun_first (ap (λ (z : List ℕ). d ++ z) (joined-one (1 ∷ []))) (let l = length-append d (1 ∷ []) in let k = length-be 4 (c.args.size - 4) in omega (arith, c.requires.0)) c.write_number-at.ensures in
+    begun_first (ap (λ (z : List ℕ). d ++ z) (joined-one (module_version ∷ []))) (let l = length-append d (module_version ∷ []) in let k = length-be 4 (c.args.size - 4) in omega (arith, c.requires.0)) c.write_number-at.ensures in
     let b = counted in omega (arith, begun-fits b, begun-length b, c.write_number.ensures.count, c.well_formed)
 
 pub returns : goal.returns
 unfolding be
 returns c =
     let counted = let d = be 4 (c.args.size - 4) in
-    begun_first (ap (λ (z : List ℕ). d ++ z) (joined-one (1 ∷ []))) (let l = length-append d (1 ∷ []) in let k = length-be 4 (c.args.size - 4) in omega (arith, c.requires.0)) c.write_number-at.ensures in
+    begun_first (ap (λ (z : List ℕ). d ++ z) (joined-one (module_version ∷ []))) (let l = length-append d (module_version ∷ []) in let k = length-be 4 (c.args.size - 4) in omega (arith, c.requires.0)) c.write_number-at.ensures in
     begun-done (begun-next counted c.write_number.ensures)

@@ -18,10 +18,10 @@ pub returns-then-len-lt-HEAD : goal.returns-then-len-lt-HEAD
 unfolding count_at
 returns-then-len-lt-HEAD c = head-four _ _ _ c.if-len-gt-TREE_MOST.false c.if-len-lt-COUNT.false c.u16_at-high.ensures.0 c.u16_at-low.ensures.0 c.if-high-low.false c.if-len-lt-HEAD.true
 
-pub returns-then-tree-ne1 : goal.returns-then-tree-ne1
+pub returns-then-tree-ne-TREE_VERSION : goal.returns-then-tree-ne-TREE_VERSION
 unfolding count_at
-returns-then-tree-ne1 c = head-version _ _ _ c.if-len-gt-TREE_MOST.false c.if-len-lt-COUNT.false c.u16_at-high.ensures.0 c.u16_at-low.ensures.0 c.if-high-low.false c.if-len-lt-HEAD.false c.if-tree-ne1.true
+returns-then-tree-ne-TREE_VERSION c = head-version _ _ _ c.if-len-gt-TREE_MOST.false c.if-len-lt-COUNT.false c.u16_at-high.ensures.0 c.u16_at-low.ensures.0 c.if-high-low.false c.if-len-lt-HEAD.false c.if-tree-ne-TREE_VERSION.true
 
 pub returns : goal.returns
 unfolding count_at
-returns c = head-fine _ _ _ _ c.if-len-gt-TREE_MOST.false c.if-len-lt-COUNT.false c.u16_at-high.ensures.0 c.u16_at-low.ensures.0 c.if-high-low.false c.if-len-lt-HEAD.false c.if-tree-ne1.false
+returns c = head-fine _ _ _ _ c.if-len-gt-TREE_MOST.false c.if-len-lt-COUNT.false c.u16_at-high.ensures.0 c.u16_at-low.ensures.0 c.if-high-low.false c.if-len-lt-HEAD.false c.if-tree-ne-TREE_VERSION.false

@@ -7,7 +7,12 @@ const BREAK: &[u8] = &[0, 0, 0, 4, 1, 0, 1, 0];
 
 /// A module of Return, Pop, Return.
 const BEHIND: &[u8] = &[
-    0, 0, 0, 22, 1, 0, 1, 0, 0, 0, 0, 1, 0, 0, 0, 0, 0, 0, 3, 33, 7, 33, 0, 0, 0, 0,
+    0, 0, 0, 24, 2, 0, 1, 0, 0, 0, 0, 1, 0, 0, 0, 0, 0, 0, 0, 0, 3, 33, 7, 33, 0, 0, 0, 0,
+];
+
+/// A module of Pop, Return: there is nothing to pop.
+const FALLS: &[u8] = &[
+    0, 0, 0, 23, 2, 0, 1, 0, 0, 0, 0, 1, 0, 0, 0, 0, 0, 0, 9, 0, 2, 7, 33, 0, 0, 0, 0,
 ];
 
 const SAMPLES: [&str; 6] = ["casing", "lambdas", "loops", "papers", "spine", "unpack"];
@@ -50,7 +55,7 @@ const CALLS: &[Call] = &[
     ("read spine.py", b"", 2, "", "spine.py is a script"),
     ("lower /dev/zero", b"", 2, "", "/dev/zero has more than"),
     // done
-    ("show spine.py", b"", 0, "PAGE      1\nfunction 0 __main__: 0 parameters, 0 slots\n    0     0 LoadConst ", ""),
+    ("show spine.py", b"", 0, "PAGE      1\nfunction 0 __main__: 0 parameters, 0 slots, height ", ""),
     ("show spine.tree", b"", 0, "\nclass 0 Job: __init__ is function 3, case is function 4\n", ""),
     ("show --console spine.py", b"", 0, "class 0 Job", ""),
     ("show -", b"x = 1\n", 0, "StoreGlobal                        1      x\n", ""),
@@ -73,7 +78,13 @@ const CALLS: &[Call] = &[
     ("reach - 0 2", b"while a: pass\n", 0, "answers: 1\n", ""),
     ("reach --run - 0 3", b"while a: pass\n", 0, "answers: 0\nending: 1 (returned)\nsteps: 3\nanswers used: 1\nevents: 0b00011d0021\n", ""),
     ("reach - 0 1 --run", BEHIND, 0, "none\n", ""),
+    ("heights -", EMPTY, 0, "function 0: 0\n", ""),
+    ("heights -", b"print([a, b], c)\n", 0, "function 0: 2\n", ""),
+    ("heights -", BEHIND, 0, "function 0: 0\n", ""),
+    ("heights loops.module", b"", 0, "function 0: ", ""),
     // refused
+    ("heights -", FALLS, 1, "", "standard input: refused 37: is each place"),
+    ("check -", b"() = t\n", 1, "", "refused 36: is no target"),
     ("reach loops.py 9 0", b"", 1, "", "loops.py: refused 22: does the function exist?"),
     ("reach loops.py 0 65535", b"", 1, "", "loops.py: refused 34: is the place in the function?"),
     ("reach loops.py 0 18446744073709551615", b"", 1, "", "loops.py: refused 34"),

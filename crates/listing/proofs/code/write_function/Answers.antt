@@ -1,4 +1,4 @@
-use Rattle.listing.proofs.PartLaws.{part-inside}
+use Rattle.tally.proofs.Parts.{part-inside}
 use Rattle.listing.proofs.CodeLaws.{code_fits, code-lined}
 use Rattle.listing.proofs.code.write_function.Goals as goal
 

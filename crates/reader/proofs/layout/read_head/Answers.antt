@@ -13,8 +13,8 @@ returns-then-number_at-bytes c = bad-count c.args.bytes.now c.if-bytes-gt-MODULE
 pub returns-then-bytes-lt-HEAD : goal.returns-then-bytes-lt-HEAD
 returns-then-bytes-lt-HEAD c = no-version c.args.bytes.now c.if-bytes-gt-MODULE_MOST.false c.if-bytes-lt-COUNT.false _ c.number_at.ensures.0 c.if-number_at-bytes.false c.if-bytes-lt-HEAD.true
 
-pub returns-then-bytes-ne1 : goal.returns-then-bytes-ne1
-returns-then-bytes-ne1 c = bad-version c.args.bytes.now c.if-bytes-gt-MODULE_MOST.false c.if-bytes-lt-COUNT.false _ c.number_at.ensures.0 c.if-number_at-bytes.false c.if-bytes-lt-HEAD.false c.if-bytes-ne1.true
+pub returns-then-bytes-ne-MODULE_VERSION : goal.returns-then-bytes-ne-MODULE_VERSION
+returns-then-bytes-ne-MODULE_VERSION c = bad-version c.args.bytes.now c.if-bytes-gt-MODULE_MOST.false c.if-bytes-lt-COUNT.false _ c.number_at.ensures.0 c.if-number_at-bytes.false c.if-bytes-lt-HEAD.false c.if-bytes-ne-MODULE_VERSION.true
 
 pub returns : goal.returns
-returns c = good-head c.args.bytes.now c.if-bytes-gt-MODULE_MOST.false c.if-bytes-lt-COUNT.false _ c.number_at.ensures.0 c.if-number_at-bytes.false c.if-bytes-lt-HEAD.false c.if-bytes-ne1.false
+returns c = good-head c.args.bytes.now c.if-bytes-gt-MODULE_MOST.false c.if-bytes-lt-COUNT.false _ c.number_at.ensures.0 c.if-number_at-bytes.false c.if-bytes-lt-HEAD.false c.if-bytes-ne-MODULE_VERSION.false

@@ -51,6 +51,7 @@ struct Function {
     name: u16,
     parameters: u8,
     slots: u16,
+    height: u16,
 }
 
 struct Class<'m> {
@@ -81,10 +82,11 @@ impl<'m> Tables<'m> {
     fn head(&self, number: usize) -> String {
         let function = &self.functions[number];
         format!(
-            "function {number} {}: {} parameters, {} slots\n",
+            "function {number} {}: {} parameters, {} slots, height {}\n",
             self.symbol(function.name.into()),
             function.parameters,
-            function.slots
+            function.slots,
+            function.height
         )
     }
 
@@ -167,6 +169,7 @@ impl<'m> Rest<'m> {
             name: self.wide(),
             parameters: self.byte(),
             slots: self.wide(),
+            height: self.wide(),
         };
         for _ in 0..self.wide() {
             let opcode = self.byte();

@@ -1,7 +1,7 @@
 //! Where in a tree a question is answered no: the library gives the question's number, this the places.
 //!
 //! The walk takes a tree that passes questions 2 to 6, and asks one of the questions that speak of a part of a tree, 7 to
-//! 13 and 33. A further one is a line where the part that it speaks of is walked.
+//! 13, 33 and 36. A further one is a line where the part that it speaks of is walked.
 
 use rulketoos::Refusal;
 use std::collections::HashSet;
@@ -169,7 +169,9 @@ impl<'t> Walk<'t> {
         match self.tree.get(start)? {
             13 => {
                 self.at += 1;
-                for _ in 0..self.count()? {
+                let count = self.count()?;
+                self.ask(Refusal::EmptyTarget, start, count > 0);
+                for _ in 0..count {
                     self.target(true)?;
                 }
                 return Some(());

@@ -10,7 +10,7 @@ pub const COMMAND: Command = Command {
     operands: &["FILE"],
     least: 1,
     options: &[],
-    about: "asks questions 2 to 13 and 33 of a script or a tree",
+    about: "asks questions 2 to 13, 33 and 36 of a script or a tree",
     more: "Writes `accepted`, or says which question is answered no, and where.",
     example: "rulketoos check samples/spine.py",
     run,

@@ -11,7 +11,7 @@ pub const COMMAND: Command = Command {
     least: 1,
     options: &[super::CONSOLE, super::OUTPUT],
     about: "lowers a script or a tree to a module",
-    more: "Asks questions 2 to 15 and 33, 15 by the limits of the office or, with --console, of the console at the\n\
+    more: "Asks questions 2 to 15, 33 and 36, 15 by the limits of the office or, with --console, of the console at the\n\
            casing-in machine. The module's bytes are written, or nothing.",
     example: "rulketoos lower samples/spine.py -o spine.module",
     run,

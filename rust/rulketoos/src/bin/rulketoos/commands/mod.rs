@@ -2,6 +2,7 @@
 
 mod check;
 mod code;
+mod heights;
 mod list;
 mod lower;
 mod reach;
@@ -21,6 +22,7 @@ pub const ALL: &[Command] = &[
     lower::COMMAND,
     check::COMMAND,
     read::COMMAND,
+    heights::COMMAND,
     code::COMMAND,
     run::COMMAND,
     reach::COMMAND,

@@ -42,15 +42,18 @@ fn modules_of_the_vectors() {
 fn names_of_any_bytes() {
     // a symbol of Escape and a line feed, which function 0 loads; a class `A` with a method `m`
     let module = [
-        &[0, 0, 0, 35, 1, 0, 1, 2, 0x1b, b'\n', 0, 0, 0, 1][..],
-        &[0, 0, 0, 0, 0, 0, 2, 11, 0, 0, 33],
+        &[0, 0, 0, 37, 2, 0, 1, 2, 0x1b, b'\n', 0, 0, 0, 1][..],
+        &[0, 0, 0, 0, 0, 0, 1, 0, 2, 11, 0, 0, 33],
         &[0, 1, 1, b'A', 0, 1, 1, b'm', 0, 0, 0, 1, 0, 0],
     ]
     .concat();
     let listing = rulketoos::list_to_string(&module).expect("accepted");
     let shown = noted(&module, &listing);
     let lines: Vec<&str> = shown.lines().collect();
-    assert_eq!(lines[1], "function 0 \\x1b\\n: 0 parameters, 0 slots");
+    assert_eq!(
+        lines[1],
+        "function 0 \\x1b\\n: 0 parameters, 0 slots, height 1"
+    );
     assert!(lines[2].ends_with("0      \\x1b\\n"), "{shown}");
     assert_eq!(lines[4], "class 0 A: m is function 0");
     assert_eq!(heads(&module), Some([1, 1]));

@@ -5,12 +5,13 @@ use crate::vectors;
 use rulketoos::Refusal;
 
 /// The questions that speak of a part, in the order in which they are asked.
-const ORDER: [Refusal; 8] = [
+const ORDER: [Refusal; 9] = [
     Refusal::BadName,
     Refusal::IteratorName,
     Refusal::BadString,
     Refusal::LooseBreak,
     Refusal::BadTarget,
+    Refusal::EmptyTarget,
     Refusal::RepeatedParameter,
     Refusal::BareInit,
     Refusal::ListTooLong,

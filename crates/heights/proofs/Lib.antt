@@ -1,0 +1,4 @@
+pub mod Instructions
+pub mod Climbing
+pub mod Marked
+pub mod Checking
