@@ -2,22 +2,25 @@
 
 use crate::heights;
 use crate::modules::{self, ModuleCase};
+use crate::orders::{self, OrderCase};
 use crate::runs::{self, RunCase};
 use crate::samples::{self, Case};
 use crate::text::{hex, hex_or_dash};
 use crate::{damage, limits, random, Bytes, Rng};
 use model::{Limits, CONSOLE, OFFICE};
+use std::cmp::Ordering;
 
 const SEED: u64 = 20_251_125;
 
 /// File names below tests/vectors and their whole text.
-pub fn files() -> [(&'static str, String); 5] {
+pub fn files() -> [(&'static str, String); 6] {
     [
         ("trees.txt", tree_lines(&trees(), OFFICE)),
         ("console.txt", tree_lines(&console_trees(), CONSOLE)),
         ("modules.txt", lines(module_cases().iter().map(module_line))),
         ("runs.txt", lines(run_cases().iter().map(run_line))),
         ("heights.txt", lines(height_cases().iter().map(height_line))),
+        ("orders.txt", lines(order_cases().iter().map(order_line))),
     ]
 }
 
@@ -58,6 +61,16 @@ pub fn run_answer(case: &RunCase) -> String {
     }
 }
 
+/// The answer on two trees, with areas that are long enough.
+pub fn order_answer(first: &[u8], second: &[u8]) -> String {
+    match model::order(first, second, OFFICE, 16_384, 16_384) {
+        Ok(Ordering::Less) => "before".to_string(),
+        Ok(Ordering::Equal) => "equal".to_string(),
+        Ok(Ordering::Greater) => "after".to_string(),
+        Err(number) => format!("refused {number}"),
+    }
+}
+
 /// A field of bytes; the empty record is a dash, too.
 fn tree_lines(cases: &[Case], limits: Limits) -> String {
     let line = |case: &Case| {
@@ -88,6 +101,12 @@ fn run_line(case: &RunCase) -> String {
         case.room,
         run_answer(case)
     )
+}
+
+fn order_line(case: &OrderCase) -> String {
+    let answer = order_answer(&case.first, &case.second);
+    let (first, second) = (hex_or_dash(&case.first), hex_or_dash(&case.second));
+    format!("{}\t{first}\t{second}\t{answer}", case.name)
 }
 
 /// A random tree of at most so many bytes.
@@ -185,5 +204,31 @@ pub fn height_cases() -> Vec<ModuleCase> {
         let taken = model::read(&case.module).is_ok();
         case.module.len() <= 200 && (taken || case.name.starts_with("module-"))
     }));
+    cases
+}
+
+/// Pairs made by hand, random trees beside copies with more Pass statements,
+/// with a byte raised, and damaged, and beside each other.
+pub fn order_cases() -> Vec<OrderCase> {
+    let mut rng = Rng::new(SEED + 4);
+    let mut cases = orders::all();
+    for number in 0..60 {
+        let tree = small_tree(&mut rng, 200);
+        let copy = orders::padded(&mut rng, &tree);
+        cases.push(orders::order_case(&format!("padded-{number}"), tree, copy));
+    }
+    for number in 0..60 {
+        let tree = small_tree(&mut rng, 200);
+        let copy = orders::nudged(&mut rng, &tree);
+        let copy = orders::padded(&mut rng, &copy);
+        cases.push(orders::order_case(&format!("nudged-{number}"), tree, copy));
+    }
+    for number in 0..30 {
+        let tree = small_tree(&mut rng, 150);
+        let copy = damage::damaged(&mut rng, &tree);
+        cases.push(orders::order_case(&format!("damaged-{number}"), tree, copy));
+        let (tree, other) = (small_tree(&mut rng, 150), small_tree(&mut rng, 150));
+        cases.push(orders::order_case(&format!("other-{number}"), tree, other));
+    }
     cases
 }
