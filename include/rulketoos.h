@@ -1,6 +1,7 @@
 /*
  * Rulketoos for C and for languages that call C: pyhyeon scripts' trees and
- * modules, checked, lowered, read, listed, counted and run by proved code.
+ * modules, checked, lowered, put in order, read, listed, counted and run by
+ * proved code.
  *
  * Link crates/exports/out/libexports.a, which `rt lib` in crates/exports writes.
  * A slice is a pointer and a length; the caller owns all memory, nothing is
@@ -26,7 +27,7 @@ extern "C" {
 /* Questions 2 to 13, 33 and 36 of a tree record: 0, or the refusal. Reads only. */
 uint32_t rulketoos_check(const uint8_t *tree, size_t tree_len);
 
-/* The least length of each work area of rulketoos_lower, in numbers. */
+/* The least length of each work area of rulketoos_lower and rulketoos_order, in numbers. */
 enum { RULKETOOS_AREA = 16384 };
 
 /*
@@ -61,6 +62,23 @@ uint64_t rulketoos_lower(const uint8_t *tree, size_t tree_len, uint32_t limits,
                          uint32_t *area1, size_t area1_len,
                          uint32_t *area2, size_t area2_len,
                          uint8_t *out, size_t out_len);
+
+/*
+ * Which of two tree records comes first. Every `pass` statement and every class
+ * attribute is taken out of each, counts and header are mended, and the bytes of
+ * the rests are compared, unsigned, a proper beginning first: so a shorter rest
+ * comes first. Answers RULKETOOS_WROTE where the first tree comes before the
+ * second, RULKETOOS_WROTE + 1 where they are equal, RULKETOOS_WROTE + 2 where it
+ * comes after; or, below RULKETOOS_WROTE, the refusal, 1 to 15, 33 or 36: the
+ * first tree's, or, where that has none, the second's. The trees are only read.
+ *
+ * limits, area1 and area2 are as in rulketoos_lower. Equal trees have equal
+ * modules.
+ */
+uint64_t rulketoos_order(const uint8_t *first, size_t first_len,
+                         const uint8_t *second, size_t second_len, uint32_t limits,
+                         uint32_t *area1, size_t area1_len,
+                         uint32_t *area2, size_t area2_len);
 
 /* Questions 17 to 21 of a module record: 0, or the refusal. Reads only. */
 uint32_t rulketoos_read(const uint8_t *module, size_t module_len);

@@ -1,4 +1,4 @@
-/* Calls the library from C: lowers a tree, reads, lists and counts a module, checks its heights, finds a function's code, runs it to a place. */
+/* Calls the library from C: lowers a tree, puts trees in order, reads, lists and counts a module, checks its heights, finds a function's code, runs it to a place. */
 #include "rulketoos.h"
 
 #include <stdio.h>
@@ -174,6 +174,39 @@ static void reaches(void)
     expect(all_numbers(reach_area, RULKETOOS_REACH_AREA, 7), "the area is as it was");
 }
 
+/* `None`, `pass` and `None`, `return None`, `break` */
+static const uint8_t none_tree[] = {0, 0, 0, 5, 1, 0, 1, 3, 0};
+static const uint8_t passed_tree[] = {0, 0, 0, 6, 1, 0, 2, 2, 3, 0};
+static const uint8_t return_tree[] = {0, 0, 0, 5, 1, 0, 1, 4, 0};
+static const uint8_t break_tree[] = {0, 0, 0, 4, 1, 0, 1, 0};
+
+/* which comes first, with sevens in the areas */
+static uint64_t order(const uint8_t *first, size_t first_len, const uint8_t *second, size_t second_len, size_t area)
+{
+    for (size_t i = 0; i < RULKETOOS_AREA; i++)
+        area1[i] = area2[i] = 7;
+    return rulketoos_order(first, first_len, second, second_len, RULKETOOS_OFFICE, area1, RULKETOOS_AREA, area2, area);
+}
+
+static void orders(void)
+{
+    uint64_t answer = order(none_tree, sizeof none_tree, passed_tree, sizeof passed_tree, RULKETOOS_AREA);
+    expect(answer == RULKETOOS_WROTE + 1, "a pass makes no difference");
+    expect(areas_are(0), "the areas are zero");
+    answer = order(none_tree, sizeof none_tree, return_tree, sizeof return_tree, RULKETOOS_AREA);
+    expect(answer == RULKETOOS_WROTE, "a lower byte comes first");
+    answer = order(return_tree, sizeof return_tree, passed_tree, sizeof passed_tree, RULKETOOS_AREA);
+    expect(answer == RULKETOOS_WROTE + 2, "and a higher one after");
+    answer = order(none_tree, sizeof none_tree, tree, sizeof tree, RULKETOOS_AREA);
+    expect(answer == RULKETOOS_WROTE + 2, "a shorter rest comes first");
+    answer = order(break_tree, sizeof break_tree, tree, sizeof tree - 1, RULKETOOS_AREA);
+    expect(answer == 9, "the first tree's refusal comes first");
+    answer = order(tree, sizeof tree, break_tree, sizeof break_tree - 1, RULKETOOS_AREA);
+    expect(answer == 3 && areas_are(0), "then the second's");
+    answer = order(break_tree, sizeof break_tree, tree, sizeof tree, RULKETOOS_AREA - 1);
+    expect(answer == 1 && areas_are(7), "a short area is refused by 1, and left");
+}
+
 /* so many times `def f(): pass` without the pass: with main one function more */
 static size_t defs(uint8_t *bytes, size_t count)
 {
@@ -223,6 +256,7 @@ int main(void)
     expect(rulketoos_check(iterator_tree, sizeof iterator_tree) == 33, "the name of an iterator is refused by 33");
     lowers();
     limits();
+    orders();
     expect(rulketoos_read(module, sizeof module) == 0, "the module is accepted");
     expect(rulketoos_read(module, sizeof module - 1) == 17, "a module that is cut is refused by 17");
     writes(rulketoos_list, listing, 31);

@@ -30,6 +30,7 @@ use Rattle.definitions.specs.Module.{office, console}
 use Rattle.definitions.specs.Run.{Ran}
 use Rattle.definitions.specs.Calls.{lower_answer, read_call, run_answer}
 use Rattle.definitions.specs.Heights.{heights_answer}
+use Rattle.definitions.specs.Order.{Ordering, less, equal, greater, order_answer}
 use Rattle.definitions.specs.Open.{everything}
 
 unfoldable agrees : {A : Type 0} → (A → A → Bool) → Answer A → Answer A → Bool
@@ -43,7 +44,20 @@ same_unit a b = true
 
 unfoldable same_ran : Ran → Ran → Bool
 same_ran a b = eqb a.ending b.ending && eqb a.steps b.steps && eqb a.used b.used && same a.events b.events
+
+unfoldable same_order : Ordering → Ordering → Bool
+same_order less less = true
+same_order less equal = false
+same_order less greater = false
+same_order equal less = false
+same_order equal equal = true
+same_order equal greater = false
+same_order greater less = false
+same_order greater equal = false
+same_order greater greater = true
 """
+
+ORDERS = {"before": "less", "equal": "equal", "after": "greater"}
 
 
 def lines(name):
@@ -76,6 +90,10 @@ def cases():
             if len(record(tree)) <= longest:
                 wanted = answer(text, lambda module: numbers(record(module)))
                 yield f"agrees same (lower_answer {limits} 16384 16384 65536 {numbers(record(tree))}) {wanted}"
+    for _, first, second, text in lines("orders.txt"):
+        if len(record(first)) <= LONGEST_TREE:
+            call = f"order_answer office 16384 16384 {numbers(record(first))} {numbers(record(second))}"
+            yield f"agrees same_order ({call}) {answer(text, ORDERS.__getitem__)}"
     for _, module, text in lines("modules.txt"):
         if len(record(module)) <= LONGEST_MODULE:
             yield f"agrees same_unit (read_call {numbers(record(module))}) {answer(text, lambda _: 'tt')}"
@@ -93,7 +111,7 @@ def theorems(tests):
     for start in range(0, len(tests), CASES_A_THEOREM):
         name = f"cases{start}"
         conjunction = "\n    && ".join(tests[start : start + CASES_A_THEOREM])
-        parts.append(f"{name} : ({conjunction}) ≡ true\nunfolding everything agrees same_unit same_ran\n{name} = refl\n")
+        parts.append(f"{name} : ({conjunction}) ≡ true\nunfolding everything agrees same_unit same_ran same_order\n{name} = refl\n")
     return "\n".join(parts)
 
 

@@ -12,7 +12,7 @@ use Rattle.definitions.specs.Tables.{Tables}
 use Rattle.definitions.specs.Lower.{compile}
 use Rattle.definitions.specs.Module.{Limits, office, console, limits_by, tables_fit}
 use Rattle.definitions.specs.Calls.{lower_answer}
-use Rattle.definitions.specs.Statements.{Question, asked, lower_questions, first_refusal, parsed, block_read, module_of, Under, SetsUnder, Narrowed, alike, over, over_first, Narrower, ConsoleTakes, OfficeRefuses}
+use Rattle.definitions.specs.Statements.{Question, asked, lower_questions, first_refusal, parsed, block_read, module_of, tree_questions, Under, SetsUnder, Narrowed, alike, over, over_first, Narrower, ConsoleTakes, OfficeRefuses}
 use Rattle.definitions.proofs.Accepted.{within, within-fits, wider}
 use Rattle.definitions.proofs.Refusals.{refusals}
 
@@ -44,7 +44,7 @@ narrowed_at {A} (q ∷ qs) x room a b h = go q.yes (narrowed_at qs x room a b h)
     go false N = alike refl
 
 pub narrower : Narrower
-unfolding lower_questions
+unfolding lower_questions tree_questions
 narrower l w u m n room tree =
     let t = (compile (block_read (parsed tree))).tables in
     rw (refusals l m n room tree, refusals w m n room tree)

@@ -1,8 +1,8 @@
 -- The lowering refuses by the first question answered no, and accepts where none is: the definitions, stage by stage, as a chain of questions.
-use mathlib.Core.Path.{◌≡◌, refl, ap, ◌∙◌}
+use mathlib.Core.Path.{◌≡◌, refl, sym, ap, ◌∙◌}
 use mathlib.Core.Bool.{Bool, true, false, ◌&&◌}
 use mathlib.Core.Option.{Option, some}
-use mathlib.Core.List.{List, [], ◌∷◌}
+use mathlib.Core.List.{List, [], ◌∷◌, ◌++◌}
 use Prim.Native.Nat.{ℕ, suc}
 use native.Mathlib.Omega.{arith}
 use lib.ListN.{length, get_or, drop}
@@ -15,7 +15,8 @@ use Rattle.definitions.specs.Tables.{Tables}
 use Rattle.definitions.specs.Lower.{compile}
 use Rattle.definitions.specs.Module.{Limits, module_bytes, slots_fit, tables_fit, fits, lower_formed, lower_block, lower_bytes}
 use Rattle.definitions.specs.Calls.{areas_fit, fits_room, lower_answer}
-use Rattle.definitions.specs.Statements.{parsed, head_counts, reads_whole, not_too_deep, block_read, module_of, Question, lower_questions, first_refusal, Refusals}
+use Rattle.definitions.specs.Order.{accepted_tree, order_answer}
+use Rattle.definitions.specs.Statements.{parsed, head_counts, reads_whole, not_too_deep, block_read, module_of, Question, tree_questions, lower_questions, order_questions, first_refusal, Refusals, OrderRefusals}
 use Rattle.definitions.proofs.Truth.{is_true}
 use Rattle.definitions.proofs.Accepted.{tables-read}
 use Rattle.definitions.proofs.Fails.{FiveOrSix, five, six, fails-tree}
@@ -147,6 +148,36 @@ first-is [] a = refl
 first-is (q ∷ qs) a = ask-is q.yes q.number (first_refusal qs a) ∙ ap (ask q.yes q.number) (first-is qs a)
 
 pub refusals : Refusals
-unfolding lower_answer lower_bytes finish lower_questions questioned block_questions asks module_of
+unfolding lower_answer lower_bytes finish lower_questions tree_questions questioned block_questions asks module_of
 refusals l m n room tree =
     rw first-is (ask-is (areas_fit m n) 1 _ ∙ ap (ask (areas_fit m n) 1) (rw (tables-read, finish-tree, finish-block, finish-asked)))
+
+-- ---- the order: 1, and 2 to 15 of each tree
+
+-- what follows a list of questions
+when-questioned : {A B : Type 0} (qs : List Question) (a : Answer A) (f : A → Answer B) → when_accepted (questioned qs a) f ≡ questioned qs (when_accepted a f)
+unfolding questioned
+when-questioned [] a f = refl
+when-questioned (q ∷ qs) a f = when-ask q.yes q.number (questioned qs a) f ∙ ap (ask q.yes q.number) (when-questioned qs a f)
+
+questioned-append : {A : Type 0} (qs rs : List Question) (a : Answer A) → questioned (qs ++ rs) a ≡ questioned qs (questioned rs a)
+unfolding questioned
+questioned-append [] rs a = refl
+questioned-append (q ∷ qs) rs a = ap (ask q.yes q.number) (questioned-append qs rs a)
+
+module _ (l : Limits) where
+  block-settled : (b : Block) → when_accepted (lower_block l b) (λ t. accepted b)
+      ≡ asks (λ q. ask_block q false b) block_questions (ask (slots_fit (compile b).tables) 14 (ask (tables_fit l (compile b).tables) 15 (accepted b)))
+  unfolding lower_block lower_formed well_formed when_accepted
+  block-settled b = rw (asks-is, when-asks, when-asks, fits-asked) (simp when-ask)
+
+  -- a tree that is accepted answers its questions yes
+  tree-settled : (tree : List ℕ) → accepted_tree l tree ≡ questioned (tree_questions l tree) (accepted (block_read (parsed tree)))
+  unfolding accepted_tree tree_questions questioned asks block_questions when_accepted
+  tree-settled tree = rw tree-asked (simp when-ask (rw block-settled))
+
+pub order_refusals : OrderRefusals
+unfolding order_answer order_questions questioned when_accepted
+order_refusals l m n first second =
+    rw first-is (ask-is (areas_fit m n) 1 _ ∙ ap (ask (areas_fit m n) 1)
+    (rw (tree-settled l first, tree-settled l second, when-questioned, when-questioned) (sym (questioned-append (tree_questions l first) (tree_questions l second) _))))

@@ -1,7 +1,8 @@
 -- Laws of Booleans and tests.
-use mathlib.Core.Path.{◌≡◌, refl, sym, subst}
+use mathlib.Core.Path.{◌≡◌, refl, sym, ◌∙◌, subst}
 use mathlib.Core.Bool.{Bool, true, false, not, ◌&&◌}
 use Prim.Native.Nat.{ℕ, ◌≤◌, ◌<◌}
+use native.Mathlib.Omega.{arith}
 use lib.Dec.{T, eqb, eqb_refl, leb, leb→le, nleb→lt}
 
 pub left : (a b : Bool) → (a && b) ≡ true → a ≡ true
@@ -17,6 +18,12 @@ holds b e = subst T (sym e) tt
 
 pub both : (a b : Bool) → (a && b) ≡ true → (a ≡ true) × (b ≡ true)
 both a b e = (left a b e, right a b e)
+
+pub and : {a b : Bool} → a ≡ true → b ≡ true → (a && b) ≡ true
+and e f = rw (e, f)
+
+pub true-false : {A : Type 0} {b : Bool} → b ≡ true → b ≡ false → A
+true-false e f = let w : true ≡ false = sym e ∙ f in let z : ◌≡◌ {A = ℕ} 0 1 = cc in absurd (omega arith)
 
 pub at_most : (m n : ℕ) → leb m n ≡ true → m ≤ n
 at_most m n e = leb→le m n (holds (leb m n) e)

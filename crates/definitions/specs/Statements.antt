@@ -31,6 +31,9 @@ use Rattle.definitions.specs.Search.{Rule, Swept}
 use Rattle.definitions.specs.Stack.{height_after, height_number, height_at}
 use Rattle.definitions.specs.Heights.{Spot, spots_met, Met, Within, HeightsHold, heights_hold, function_holds, heights_answer}
 use Rattle.definitions.specs.Starts.{starts_source}
+use Rattle.definitions.specs.TreeBytes.{tree_bytes}
+use Rattle.definitions.specs.Rests.{rest, taken}
+use Rattle.definitions.specs.Order.{Ordering, less, equal, greater, order, accepted_tree, order_answer}
 use Rattle.definitions.specs.Samples.{samples, holds}
 
 -- ---- the starred samples: proofs/Samples
@@ -107,13 +110,12 @@ pub record Question : Type 0 where
 abbrev pub asked : ℕ → Bool → Question
 asked n b = record { number = n; yes = b }
 
--- the questions of the lowering in their order; by the limits, the lengths of the areas and of the output, and the tree
-unfoldable pub lower_questions : Limits → ℕ → ℕ → ℕ → List ℕ → List Question
-lower_questions l m n room tree =
+-- a tree's questions in their order, by the limits: 2 to 15
+unfoldable pub tree_questions : Limits → List ℕ → List Question
+tree_questions l tree =
     let b = block_read (parsed tree) in
     let t = (compile b).tables in
-    asked 1 (areas_fit m n)
-    ∷ asked 2 (leb (length tree) 32768)
+    asked 2 (leb (length tree) 32768)
     ∷ asked 3 (head_counts tree)
     ∷ asked 4 (leb 5 (length tree) && eqb (get_or tree 4 0) tree_version)
     ∷ asked 5 (reads_whole (parsed tree))
@@ -129,8 +131,11 @@ lower_questions l m n room tree =
     ∷ asked 13 (ask_block 13 false b)
     ∷ asked 14 (slots_fit t)
     ∷ asked 15 (tables_fit l t)
-    ∷ asked 16 (leb (length (module_of tree)) room)
     ∷ []
+
+-- those of the lowering; by the limits, the lengths of the areas and of the output, and the tree
+unfoldable pub lower_questions : Limits → ℕ → ℕ → ℕ → List ℕ → List Question
+lower_questions l m n room tree = asked 1 (areas_fit m n) ∷ tree_questions l tree ++ asked 16 (leb (length (module_of tree)) room) ∷ []
 
 -- the refusal by the first question that is answered no; where none is, the result
 unfoldable pub first_refusal : {A : Type 0} → List Question → A → Answer A
@@ -141,6 +146,16 @@ first_refusal (q ∷ qs) a = elim q.yes [ true ↦ first_refusal qs a | false �
 abbrev pub Refusals : Type 0
 Refusals =
     (l : Limits) (m n room : ℕ) (tree : List ℕ) → lower_answer l m n room tree ≡ first_refusal (lower_questions l m n room tree) (module_of tree)
+
+-- those of the order of two trees: the areas', then the first tree's, then the second's
+unfoldable pub order_questions : Limits → ℕ → ℕ → List ℕ → List ℕ → List Question
+order_questions l m n first second = asked 1 (areas_fit m n) ∷ tree_questions l first ++ tree_questions l second
+
+-- the order refuses by the first question answered no; where none is, it is that of the two blocks
+abbrev pub OrderRefusals : Type 0
+OrderRefusals =
+    (l : Limits) (m n : ℕ) (first second : List ℕ)
+    → order_answer l m n first second ≡ first_refusal (order_questions l m n first second) (order (block_read (parsed first)) (block_read (parsed second)))
 
 -- ---- the same of the reader, of the hand-back of code, of the run, of texts about a module, of R-8's tool and of the check of heights: proofs/ModuleRefusals
 
@@ -802,3 +817,83 @@ CheckAnswers =
 abbrev pub LoweredPasses : Type 0
 LoweredPasses =
     (l : Limits) → Under l office → (tree m : List ℕ) → are_bytes tree ≡ true → lower_bytes l tree ≡ accepted m → (n : ℕ) → wide_area n ≡ true → heights_answer n m ≡ accepted tt
+
+-- ---- a tree's bytes: proofs/TreeWritten
+
+-- a tree that is read is the bytes of its block
+abbrev pub TreeWritten : Type 0
+TreeWritten = (tree : List ℕ) (b : Block) → are_bytes tree ≡ true → read_tree tree ≡ accepted b → tree ≡ tree_bytes b
+
+-- ---- the rest of a tree
+
+-- taken out once, nothing is left to take out: proofs/RestTwice
+abbrev pub RestTwice : Type 0
+RestTwice = (b : Block) → rest (rest b) ≡ rest b
+
+-- a rest has as many bytes fewer as are taken out: proofs/Taken
+abbrev pub TreeTaken : Type 0
+TreeTaken = (b : Block) → length (tree_bytes (rest b)) + taken b ≡ length (tree_bytes b)
+
+-- it lowers to the tree's tables: proofs/RestLowered. Only the sources, which name the bodies, are others
+abbrev pub RestCompiles : Type 0
+RestCompiles = (b : Block) → (compile (rest b)).tables ≡ (compile b).tables
+
+-- the bytes of a rest read as the rest: proofs/OrderLaws
+abbrev pub RestReads : Type 0
+RestReads = (tree : List ℕ) (b : Block) → are_bytes tree ≡ true → read_tree tree ≡ accepted b → read_tree (tree_bytes (rest b)) ≡ accepted (rest b)
+
+-- the rest of an accepted tree is accepted, and has its module: proofs/Sorted
+pub record Rested (l : Limits) (tree : List ℕ) (a : Block) : Type 0 where
+  pub reads : accepted_tree l (tree_bytes (rest a)) ≡ accepted (rest a)
+  pub lowers : lower_bytes l (tree_bytes (rest a)) ≡ lower_bytes l tree
+
+abbrev pub RestAccepted : Type 0
+RestAccepted = (l : Limits) (tree : List ℕ) (a : Block) → are_bytes tree ≡ true → accepted_tree l tree ≡ accepted a → Rested l tree a
+
+-- ---- the order of trees: proofs/OrderLaws
+
+abbrev pub OrderSame : Type 0
+OrderSame = (a : Block) → order a a ≡ equal
+
+-- the same two from the other side
+unfoldable pub turned : Ordering → Ordering
+turned less = greater
+turned equal = equal
+turned greater = less
+
+abbrev pub OrderTurned : Type 0
+OrderTurned = (a b : Block) → order b a ≡ turned (order a b)
+
+-- not after the other
+unfoldable pub at_most : Ordering → Bool
+at_most less = true
+at_most equal = true
+at_most greater = false
+
+abbrev pub OrderTotal : Type 0
+OrderTotal = (a b : Block) → (at_most (order a b) ≡ true) ⊎ (at_most (order b a) ≡ true)
+
+abbrev pub OrderTransitive : Type 0
+OrderTransitive = (a b c : Block) → at_most (order a b) ≡ true → at_most (order b c) ≡ true → at_most (order a c) ≡ true
+
+abbrev pub OrderAntisymmetric : Type 0
+OrderAntisymmetric = (a b : Block) → at_most (order a b) ≡ true → at_most (order b a) ≡ true → order a b ≡ equal
+
+-- two trees are equal in it exactly when their rests are
+pub record EqualExactly (a b : Block) : Type 0 where
+  pub rests : order a b ≡ equal → rest a ≡ rest b
+  pub ordered : rest a ≡ rest b → order a b ≡ equal
+
+abbrev pub EqualRests : Type 0
+EqualRests =
+    (x y : List ℕ) (a b : Block) → are_bytes x ≡ true → are_bytes y ≡ true → read_tree x ≡ accepted a → read_tree y ≡ accepted b → EqualExactly a b
+
+-- equal scripts lower to equal modules, by the same limits
+pub record SameModule (l : Limits) (x y : List ℕ) : Type 0 where
+  pub bytes : List ℕ
+  pub first : lower_bytes l x ≡ accepted bytes
+  pub second : lower_bytes l y ≡ accepted bytes
+
+abbrev pub EqualModules : Type 0
+EqualModules =
+    (l : Limits) (m n : ℕ) (x y : List ℕ) → are_bytes x ≡ true → are_bytes y ≡ true → order_answer l m n x y ≡ accepted equal → SameModule l x y

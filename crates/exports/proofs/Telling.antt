@@ -27,9 +27,13 @@ use Rattle.reader.specs.declared.Part.{Part}
 use Rattle.tally.specs.Listed.{said as text_said, Printed}
 use Rattle.run.specs.Pass.{said as ran_said, Called}
 use Rattle.run.specs.declared.Ran.{Ran as RanSo}
-use Rattle.told.specs.Tells.{asked, counted, found, Few, FewFound}
+use Rattle.told.specs.Tells.{asked, counted, found, placed, Few, FewFound}
 use Rattle.told.specs.Tells.{counts_in as counts_by}
-use Rattle.exports.specs.Told.{told, told_count, told_part, counts_in, Lowers, Prints, Runs, told_found, Seeks}
+use Rattle.definitions.specs.Order.{Sorting, order_call}
+use Rattle.order.specs.Ordered.{place, said as order_said, Sorts}
+use Rattle.std.specs.declared.cmp.Ordering.{Ordering as Place}
+use Rattle.std.specs.declared.cmp.Ordering.TheVariants.{Less, Equal, Greater}
+use Rattle.exports.specs.Told.{told, told_count, told_part, counts_in, Lowers, Prints, Runs, told_found, Seeks, told_order, Orders}
 use Rattle.reach.specs.Reaching.{said as reach_said, Gives}
 
 -- ---- a tree
@@ -80,6 +84,24 @@ module _ (r : Result ℕ Question) (k l : Limits) (e : k ≡ l) (tree area₁ ar
   lowered-told x h =
       let w : lower_call k tree area₁ area₂ out ≡ want = ap (λ (m : Limits). lower_call m tree area₁ area₂ out) e in
       subst (λ (v : Lowering). Lowers x v area₁' area₂' out') w (record { answer = h ∙ counted-lowered r ∙ ap told_count L.answer; first = L.first; second = L.second; output = L.output })
+
+-- ---- the order of two trees
+
+placed-said : (r : Result Place Question) → placed r ≡ told_order (order_said r)
+unfolding placed order_said place told_order
+placed-said (Ok Less) = refl
+placed-said (Ok Equal) = refl
+placed-said (Ok Greater) = refl
+placed-said (Err q) = refl
+
+module _ (r : Result Place Question) (k l : Limits) (e : k ≡ l) (x y area₁ area₂ area₁' area₂' : List ℕ) (S : Sorts r area₁' area₂' (order_call k x y area₁ area₂)) where
+  abbrev sorted : Sorting
+  sorted = order_call l x y area₁ area₂
+
+  pub orders-told : (n : ℕ) → n ≡ placed r → Orders n sorted area₁' area₂'
+  orders-told n h =
+      let w : order_call k x y area₁ area₂ ≡ sorted = ap (λ (m : Limits). order_call m x y area₁ area₂) e in
+      subst (λ (v : Sorting). Orders n v area₁' area₂') w (record { answer = h ∙ placed-said r ∙ ap told_order S.answer; first = S.first; second = S.second })
 
 -- ---- a module
 

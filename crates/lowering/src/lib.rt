@@ -11,14 +11,12 @@ ghost use Rattle.limits.specs.Sets.{limits_for};
 ghost use Rattle.lowering.specs.Lowered.{Answers, Lowers};
 
 use areas::clear;
-use compile::compile;
-use fits::statements::check_slots;
 use limits::{Limits, limit_numbers};
 use lower_emit::emitter::Emitter;
 use module::Lowered;
 use numerals::sizes::{AREA, MADE_ROOM};
 use questions::Question;
-use tree::check_tree;
+use settle::settle;
 
 // Question 16: the module of the emitter's tables where the output has room for it; how many bytes of the output it is.
 fn write_tables(tree: &[u8], e: &Emitter<'_>, out: &mut [u8]) -> Result<usize, Question>
@@ -40,8 +38,7 @@ fn write_tables(tree: &[u8], e: &Emitter<'_>, out: &mut [u8]) -> Result<usize, Q
     Ok(n)
 }
 
-// Questions 2 to 16, and the module; the slices keep what was worked out. A tree that is lowered has at most 255 slots a function, so question 14 is
-// asked only where the lowering is full.
+// Questions 2 to 16, and the module; the slices keep what was worked out.
 fn lower_into(
     tree: &[u8],
     code: &mut [u32],
@@ -52,20 +49,10 @@ fn lower_into(
     requires { (16384 ≤ length code.old) × (16384 ≤ length tables.old) × Limited limits }
     ensures { Answers result (lower_answer (limits_of limits) (length code.old) (length tables.old) (length out.old) tree.now) out.old out.new }
 {
-    // Before the check, so that they are cleared once.
     let mut made = [0u8; MADE_ROOM];
-    check_tree(tree)?;
     let mut e = Emitter::new(code, &mut made, tables, limits);
-    match compile(tree, &mut e) {
-        Some(()) => write_tables(tree, &e, out),
-        None => {
-            if check_slots(tree) {
-                Err(Question::Limits)
-            } else {
-                Err(Question::Slots)
-            }
-        }
-    }
+    settle(tree, &mut e)?;
+    write_tables(tree, &e, out)
 }
 
 // The module of a tree within a set of limits, from the output's first byte on. Both work areas are zero afterwards, but after refusal 1, which leaves

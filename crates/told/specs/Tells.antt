@@ -1,6 +1,8 @@
 -- The answers of the calls as numbers.
 use Rattle.std.specs.Prelude.{ℕ, ◌+◌, ◌^◌, ◌<◌, ◌≡◌, true, false, List, length, set, leb, Result, Ok, Err, Some, None}
 use Rattle.std.specs.Prelude.{Option as Opt}
+use Rattle.std.specs.declared.cmp.Ordering.{Ordering}
+use Rattle.std.specs.declared.cmp.Ordering.TheVariants.{Less, Equal, Greater}
 use Rattle.questions.specs.declared.Question.{Question}
 use Rattle.questions.specs.Numbers.{number}
 use Rattle.run.specs.Pass.{ending_number}
@@ -29,6 +31,13 @@ found (Err q) = number q
 -- there is room for 2 ^ 32 before it
 abbrev pub FewFound : Result (Opt ℕ) Question → Type 0
 FewFound r = (n : ℕ) → r ≡ Ok (Some n) → n < 2 ^ 63
+
+-- 2 ^ 32 for before, 1 more for with, 2 more for after; or the number of the question
+unfoldable pub placed : Result Ordering Question → ℕ
+placed (Ok Less) = 2 ^ 32
+placed (Ok Equal) = 2 ^ 32 + 1
+placed (Ok Greater) = 2 ^ 32 + 2
+placed (Err q) = number q
 
 -- four numbers from the start on, where there is room for all; else as it was
 unfoldable pub four_in : ℕ → ℕ → ℕ → ℕ → List ℕ → List ℕ

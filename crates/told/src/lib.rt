@@ -2,13 +2,21 @@
 #![tactic(auto)]
 
 ghost use Rattle.std.specs.Prelude.{◌≡◌, ◌+◌, ◌*◌, ◌^◌, ◌≤◌};
-ghost use Rattle.told.specs.Tells.{asked, counted, found, Few, FewFound, four_in, counts_in};
+ghost use Rattle.told.specs.Tells.{asked, counted, found, placed, Few, FewFound, four_in, counts_in};
 
 use questions::Question;
 use run::Ran;
+use std::cmp::Ordering;
 
 // What a call that writes adds to the count of bytes written: a refusal is below it.
 const WROTE: u64 = 4294967296;
+
+// Where the first of two comes: before the second, with it, after it.
+const BEFORE: u64 = 4294967296;
+
+const WITH: u64 = 4294967297;
+
+const AFTER: u64 = 4294967298;
 
 // That no answers are found.
 const NONE: u64 = 8589934592;
@@ -79,6 +87,20 @@ pub fn tell_found(answer: Result<Option<usize>, Question>) -> u64
         Ok(Some(count)) => WROTE + count as u64,
         Ok(None) => NONE,
         Err(asked) => asked.number() as u64,
+    }
+}
+
+// Where the first of two comes in an order: 2^32 before the second, 1 more with it, 2 more after it; or the number of the first question that is answered
+// no.
+#[tactic(auto, unfolding(crate::specs::Tells::placed))]
+pub fn tell_order(answer: Result<Ordering, Question>) -> u64
+    ensures { result ≡ placed answer }
+{
+    match answer {
+        Ok(Ordering::Less) => BEFORE,
+        Ok(Ordering::Equal) => WITH,
+        Ok(Ordering::Greater) => AFTER,
+        Err(of_two) => of_two.number() as u64,
     }
 }
 

@@ -6,7 +6,7 @@ use std::fmt;
 /// The first question that is answered no.
 ///
 /// The lowering asks 1 to 16, 33 and 36, the check of a tree 2 to 13, 33 and 36 (33 just after 7, 36 just after 10), the reader of modules 17 to 21, the hand-back of code 17 to 22 and the run 17 to 24; the listing 17 to 21, then 31, the count sheet 17 to 21, then 32;
-/// the search for answers that bring a run to a place 1, 17 to 22, then 34 and 35; the check of heights 1, 17 to 21, then 37.
+/// the search for answers that bring a run to a place 1, 17 to 22, then 34 and 35; the check of heights 1, 17 to 21, then 37; the order of trees 1, then 2 to 15, 33 and 36 of each.
 ///
 /// ```
 /// use rulketoos::Refusal;

@@ -60,7 +60,7 @@ fn best_compile(tree: &[u8]) -> Duration {
 }
 
 /// The statements of a script so many times.
-fn repeated(tree: &[u8], times: u16) -> Vec<u8> {
+pub fn repeated(tree: &[u8], times: u16) -> Vec<u8> {
     let count = u16::from_be_bytes([tree[5], tree[6]]);
     let mut rest = vec![1];
     rest.extend((count * times).to_be_bytes());

@@ -7,6 +7,7 @@
 
 mod heights;
 mod lowering;
+mod order;
 mod reach;
 mod texts;
 
@@ -271,6 +272,7 @@ fn main() {
     texts::listings();
     texts::sheets();
     heights::checks();
+    order::pairs();
     reach::last_places();
     runs();
 }

@@ -15,6 +15,15 @@ pub fn number(refusal: Refusal) -> u8 {
     refusal.number() as u8
 }
 
+/// Our name for a set of limits of the model.
+pub fn limits(set: model::Limits) -> Limits {
+    if set == CONSOLE {
+        Limits::Console
+    } else {
+        Limits::Office
+    }
+}
+
 /// Buffers that are used for call after call.
 pub struct Lent {
     areas: Areas,

@@ -3,6 +3,7 @@
 use compare::ROOM;
 use generator::text::{hex, hex_or_dash, unhex};
 use rulketoos::{Areas, Limits, Refusal};
+use std::cmp::Ordering;
 
 /// The fields of every line of a file of vectors, which are so many.
 fn vectors<const N: usize>(file: &str) -> Vec<[String; N]> {
@@ -69,6 +70,21 @@ fn runs() {
             let events = hex_or_dash(run.events);
             let ending = run.ending.number();
             format!("{ending} {} {} {events}", run.steps, run.used)
+        });
+        assert_eq!(ours, answer, "{name}");
+    }
+}
+
+#[test]
+fn orders() {
+    let mut areas = Areas::new();
+    for [name, first, second, answer] in vectors("orders.txt") {
+        let (first, second) = (unhex(&first).expect(&name), unhex(&second).expect(&name));
+        let ours = rulketoos::order(&first, &second, Limits::Office, &mut areas);
+        let ours = ours.map_or_else(refused, |place| match place {
+            Ordering::Less => "before".to_string(),
+            Ordering::Equal => "equal".to_string(),
+            Ordering::Greater => "after".to_string(),
         });
         assert_eq!(ours, answer, "{name}");
     }

@@ -79,6 +79,17 @@ fn height_vectors_replay() {
 }
 
 #[test]
+fn order_vectors_replay() {
+    for fields in lines(&committed("orders.txt")) {
+        let [name, first, second, answer] = fields[..] else {
+            panic!("four fields: {}", fields[0]);
+        };
+        let (first, second) = (unhex(first).expect(name), unhex(second).expect(name));
+        assert_eq!(vectors::order_answer(&first, &second), answer, "{name}");
+    }
+}
+
+#[test]
 fn run_vectors_replay() {
     for fields in lines(&committed("runs.txt")) {
         let [name, module, function, answers, budget, room, answer] = fields[..] else {

@@ -6,6 +6,7 @@ pub mod limits;
 pub mod listings;
 pub mod make;
 pub mod modules;
+pub mod orders;
 pub mod random;
 pub mod reaches;
 pub mod rng;

@@ -2,22 +2,25 @@
 
 use crate::heights;
 use crate::modules::{self, ModuleCase};
+use crate::orders::{self, OrderCase};
 use crate::runs::{self, RunCase};
 use crate::samples::{self, Case};
 use crate::text::{hex, hex_or_dash};
 use crate::{damage, limits, random, Bytes, Rng};
 use model::{Limits, CONSOLE, OFFICE};
+use std::cmp::Ordering;
 
 const SEED: u64 = 20_251_125;
 
 /// File names below tests/vectors and their whole text.
-pub fn files() -> [(&'static str, String); 5] {
+pub fn files() -> [(&'static str, String); 6] {
     [
         ("trees.txt", tree_lines(&trees(), OFFICE)),
         ("console.txt", tree_lines(&console_trees(), CONSOLE)),
         ("modules.txt", lines(module_cases().iter().map(module_line))),
         ("runs.txt", lines(run_cases().iter().map(run_line))),
         ("heights.txt", lines(height_cases().iter().map(height_line))),
+        ("orders.txt", lines(order_cases().iter().map(order_line))),
     ]
 }
 
@@ -58,6 +61,16 @@ pub fn run_answer(case: &RunCase) -> String {
     }
 }
 
+/// The answer on two trees, with areas that are long enough.
+pub fn order_answer(first: &[u8], second: &[u8]) -> String {
+    match model::order(first, second, OFFICE, 16_384, 16_384) {
+        Ok(Ordering::Less) => "before".to_string(),
+        Ok(Ordering::Equal) => "equal".to_string(),
+        Ok(Ordering::Greater) => "after".to_string(),
+        Err(number) => format!("refused {number}"),
+    }
+}
+
 /// A field of bytes; the empty record is a dash, too.
 fn tree_lines(cases: &[Case], limits: Limits) -> String {
     let line = |case: &Case| {
@@ -90,6 +103,12 @@ fn run_line(case: &RunCase) -> String {
     )
 }
 
+fn order_line(case: &OrderCase) -> String {
+    let answer = order_answer(&case.first, &case.second);
+    let (first, second) = (hex_or_dash(&case.first), hex_or_dash(&case.second));
+    format!("{}\t{first}\t{second}\t{answer}", case.name)
+}
+
 /// A random tree of at most so many bytes.
 fn small_tree(rng: &mut Rng, longest: usize) -> Bytes {
     loop {
@@ -106,7 +125,7 @@ pub fn trees() -> Vec<Case> {
     let mut cases = samples::starred();
     cases.extend(samples::small());
     for number in 0..150 {
-        let tree = small_tree(&mut rng, 500);
+        let tree = small_tree(&mut rng, 250);
         cases.push(samples::case(&format!("random-{number}"), tree));
     }
     for number in 0..150 {
@@ -134,7 +153,7 @@ pub fn module_cases() -> Vec<ModuleCase> {
         cases.push(modules::module_case(&format!("made-{number}"), module));
     }
     for number in 0..40 {
-        let module = small_module(&mut rng, 1_000);
+        let module = small_module(&mut rng, 500);
         cases.push(modules::module_case(&format!("lowered-{number}"), module));
     }
     for number in 0..200 {
@@ -159,7 +178,7 @@ fn small_module(rng: &mut Rng, longest: usize) -> Bytes {
 pub fn run_cases() -> Vec<RunCase> {
     let mut rng = Rng::new(SEED + 2);
     let mut cases = runs::all();
-    cases.extend(runs::random_runs(&mut rng, 150, 800));
+    cases.extend(runs::random_runs(&mut rng, 150, 500));
     cases.extend(runs::made_runs(&mut rng, 150));
     cases
 }
@@ -185,5 +204,31 @@ pub fn height_cases() -> Vec<ModuleCase> {
         let taken = model::read(&case.module).is_ok();
         case.module.len() <= 200 && (taken || case.name.starts_with("module-"))
     }));
+    cases
+}
+
+/// Pairs made by hand, random trees beside copies with more Pass statements,
+/// with a byte raised, and damaged, and beside each other.
+pub fn order_cases() -> Vec<OrderCase> {
+    let mut rng = Rng::new(SEED + 4);
+    let mut cases = orders::all();
+    for number in 0..60 {
+        let tree = small_tree(&mut rng, 200);
+        let copy = orders::padded(&mut rng, &tree);
+        cases.push(orders::order_case(&format!("padded-{number}"), tree, copy));
+    }
+    for number in 0..60 {
+        let tree = small_tree(&mut rng, 200);
+        let copy = orders::nudged(&mut rng, &tree);
+        let copy = orders::padded(&mut rng, &copy);
+        cases.push(orders::order_case(&format!("nudged-{number}"), tree, copy));
+    }
+    for number in 0..30 {
+        let tree = small_tree(&mut rng, 150);
+        let copy = damage::damaged(&mut rng, &tree);
+        cases.push(orders::order_case(&format!("damaged-{number}"), tree, copy));
+        let (tree, other) = (small_tree(&mut rng, 150), small_tree(&mut rng, 150));
+        cases.push(orders::order_case(&format!("other-{number}"), tree, other));
+    }
     cases
 }

@@ -1,6 +1,6 @@
 //! A plain model of the paper: lowering, reader, run and walk; and of the
 //! requests after it: the code listing, the count sheet,
-//! answers that bring a run to a place.
+//! answers that bring a run to a place, the order of trees.
 //!
 //! Written from the documents alone, to be held against the reference compiler
 //! and against the project's own code. A refusal is the question's number.
@@ -22,10 +22,13 @@ pub mod slots;
 pub mod tree;
 pub mod utf8;
 pub mod walk;
+pub mod write;
 
 pub use limits::{Limits, CONSOLE, OFFICE};
 pub use run::Ran;
 pub use walk::Walked;
+
+use std::cmp::Ordering;
 
 /// The least length of each work area.
 pub const AREA: usize = 16_384;
@@ -61,6 +64,30 @@ pub fn plan(tree: &[u8], limits: Limits) -> Result<plan::Plan<'_>, u8> {
     let program = checked(tree)?;
     slots::ask(&program)?;
     plan::make(&program, limits)
+}
+
+/// Question 1, then 2 to 15 and 33 of the first tree, then of the second: where
+/// the first comes in the order of trees.
+pub fn order(
+    first: &[u8],
+    second: &[u8],
+    limits: Limits,
+    area1: usize,
+    area2: usize,
+) -> Result<Ordering, u8> {
+    if area1 < AREA || area2 < AREA {
+        return Err(1);
+    }
+    let first = rest(first, limits)?;
+    let second = rest(second, limits)?;
+    Ok(first.cmp(&second))
+}
+
+/// Questions 2 to 15 and 33: the tree without its Pass statements and class
+/// attributes.
+pub fn rest(tree: &[u8], limits: Limits) -> Result<Vec<u8>, u8> {
+    plan(tree, limits)?;
+    Ok(write::rest(&tree::read(tree)?))
 }
 
 /// Questions 17 to 21.

@@ -1,4 +1,5 @@
-use Rattle.lowering.proofs.Answering.{set-limited, lowers-first, lowers-second, lowers-all}
+use Rattle.limits.proofs.Kept.{set-limited}
+use Rattle.lowering.proofs.Answering.{lowers-first, lowers-second, lowers-all}
 use Rattle.lowering.proofs.lower.Goals as goal
 use Rattle.lowering.proofs.lower.Goals.{then-area1-lt-AREA-via-then-area1-lt-AREA, then-area1-lt-AREA-via-else-area1-lt-AREA+then-area2-lt-AREA}
 

@@ -7,7 +7,7 @@ use std::ffi::{OsStr, OsString};
 pub struct Command {
     /// Its name.
     pub name: &'static str,
-    /// Its operands in order, and how many of them must be given.
+    /// Its operands in order, and how many of them must be given. One that ends in `..`, the last, may be given any number of times.
     pub operands: &'static [&'static str],
     pub least: usize,
     /// Its options.
@@ -46,6 +46,11 @@ impl Words {
     /// The operand at a place, if it is given.
     pub fn operand(&self, place: usize) -> Option<&OsStr> {
         self.operands.get(place).map(OsString::as_os_str)
+    }
+
+    /// All operands that are given.
+    pub fn operands(&self) -> impl Iterator<Item = &OsStr> {
+        self.operands.iter().map(OsString::as_os_str)
     }
 
     /// An operand that must be given: the parser has seen to it that it is.
@@ -92,7 +97,7 @@ impl Command {
                 _ => given.operands.push(word.clone()),
             }
         }
-        match given.operands.get(self.operands.len()) {
+        match given.operands.get(self.most()) {
             Some(word) => {
                 Err(self.misused(&format!("{} is one word too many", word.to_string_lossy())))
             }
@@ -101,6 +106,14 @@ impl Command {
                 self.operands[given.operands.len()]
             ))),
             None => Ok(Given::Words(given)),
+        }
+    }
+
+    /// How many operands may be given.
+    fn most(&self) -> usize {
+        match self.operands.last() {
+            Some(last) if last.ends_with("..") => usize::MAX,
+            _ => self.operands.len(),
         }
     }
 

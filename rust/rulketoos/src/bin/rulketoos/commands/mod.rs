@@ -5,11 +5,13 @@ mod code;
 mod heights;
 mod list;
 mod lower;
+mod order;
 mod reach;
 mod read;
 mod run;
 mod sheet;
 mod show;
+mod sort;
 
 use crate::arguments::{Command, Opt, Words};
 use rulketoos::Limits;
@@ -26,6 +28,8 @@ pub const ALL: &[Command] = &[
     code::COMMAND,
     run::COMMAND,
     reach::COMMAND,
+    order::COMMAND,
+    sort::COMMAND,
 ];
 
 /// Where bytes or text go, for each command that writes a file.
@@ -35,7 +39,7 @@ const OUTPUT: Opt = Opt {
     about: "the file to write; it is whole or isn't there. Standard output if none is given",
 };
 
-/// Which set of limits a script is lowered by, for each command that shows or writes what it is lowered to.
+/// Which set of limits a script is lowered by, for each command that lowers one.
 const CONSOLE: Opt = Opt {
     name: "--console",
     value: None,

@@ -1,0 +1,5 @@
+pub mod Differing
+pub mod Stepping
+pub mod Parts
+pub mod Leaves
+pub mod Ways

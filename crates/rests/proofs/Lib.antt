@@ -1,0 +1,3 @@
+pub mod Spans
+pub mod Taking
+pub mod StmtKinds

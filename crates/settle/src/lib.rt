@@ -1,0 +1,49 @@
+// The lowering of a tree up to question 15: its code and tables in the areas, and no module.
+#![tactic(auto)]
+
+ghost use Rattle.std.specs.Prelude.{◌≤◌, length};
+ghost use Rattle.state.specs.State.{Limited};
+ghost use Rattle.compile.specs.Compiled.{Fresh};
+ghost use Rattle.settle.specs.Settles.{Settles, Accepts};
+
+use compile::compile;
+use fits::statements::check_slots;
+use lower_emit::emitter::Emitter;
+use numerals::sizes::MADE_ROOM;
+use questions::Question;
+use state::Limits;
+use tree::check_tree;
+
+// Questions 2 to 15; the emitter keeps what was worked out. A tree that is lowered has at most 255 slots a function, so question 14 is asked only where
+// the lowering is full.
+pub fn settle(tree: &[u8], e: &mut Emitter<'_>) -> Result<(), Question>
+    requires { Fresh e.old }
+    ensures { Settles result tree.now e.old e.new }
+{
+    check_tree(tree)?;
+    match compile(tree, e) {
+        Some(()) => Ok(()),
+        None => {
+            if check_slots(tree) {
+                Err(Question::Limits)
+            } else {
+                Err(Question::Slots)
+            }
+        }
+    }
+}
+
+// Questions 2 to 15 within these limits, for those who want the answer alone; the areas keep what was worked out.
+pub fn accept(
+    tree: &[u8],
+    code: &mut [u32],
+    tables: &mut [u32],
+    limits: Limits,
+) -> Result<(), Question>
+    requires { (16384 ≤ length code.old) × (16384 ≤ length tables.old) × Limited limits }
+    ensures { Accepts result tree.now limits }
+{
+    let mut made = [0u8; MADE_ROOM];
+    let mut e = Emitter::new(code, &mut made, tables, limits);
+    settle(tree, &mut e)
+}
