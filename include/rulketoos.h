@@ -27,7 +27,7 @@ extern "C" {
 /* Questions 2 to 13, 33 and 36 of a tree record: 0, or the refusal. Reads only. */
 uint32_t rulketoos_check(const uint8_t *tree, size_t tree_len);
 
-/* The least length of each work area of rulketoos_lower and rulketoos_order, in numbers. */
+/* The least length of each work area of both lowerings and of rulketoos_order, in numbers. */
 enum { RULKETOOS_AREA = 16384 };
 
 /*
@@ -62,6 +62,17 @@ uint64_t rulketoos_lower(const uint8_t *tree, size_t tree_len, uint32_t limits,
                          uint32_t *area1, size_t area1_len,
                          uint32_t *area2, size_t area2_len,
                          uint8_t *out, size_t out_len);
+
+/*
+ * Lowers a tree record as rulketoos_lower does, by measured lengths: it counts how
+ * many instructions each part will have before it writes the part, and writes every
+ * jump as it stays (docs/LOWERING.md reads it). Parameters, answer, bytes and areas
+ * are those of rulketoos_lower, on every input and for both sets of limits.
+ */
+uint64_t rulketoos_lower_measured(const uint8_t *tree, size_t tree_len, uint32_t limits,
+                                  uint32_t *area1, size_t area1_len,
+                                  uint32_t *area2, size_t area2_len,
+                                  uint8_t *out, size_t out_len);
 
 /*
  * Which of two tree records comes first. Every `pass` statement and every class

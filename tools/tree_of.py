@@ -2,6 +2,7 @@
 """Turns a script's source text into a tree record (docs/FORMAT.md).
 
     tools/tree_of.py SCRIPT [-o TREE] [--places]      SCRIPT may be - for standard input
+    tools/tree_of.py --each                           for programs: many scripts
 
 The script is UTF-8, whatever the locale. It is read by Python's own parser; what
 Python has and the language has not is refused with its line and column, counted
@@ -12,6 +13,11 @@ strings, targets and depths are not judged here: the lowering does that.
 With --places no name is judged, and the tree is followed by a line for each
 statement, expression and name in it: the number of its first byte, its line and
 its column. The tree's header says where these lines begin.
+
+With --each scripts come on standard input, each after its length in four bytes.
+Each is answered before the next is read: by the byte 0, a length in four bytes
+and the tree with its places, as by --places; or by 1, a length and what is wrong,
+as it would stand after the script's name.
 """
 
 import argparse
@@ -363,10 +369,10 @@ def judge_names(source):
             raise Refused(line, column + 1, f"the name {token.string} is one of a loop's iterator (33)")
 
 
-def tree_of(source, filename="<script>"):
+def tree_of(source):
     """The tree record of a script's text."""
     try:
-        module = ast.parse(source, filename)
+        module = ast.parse(source)
     except SyntaxError as error:
         raise Refused(error.lineno or 1, error.offset or 1, error.msg) from None
     except (ValueError, RecursionError, MemoryError) as error:
@@ -378,14 +384,53 @@ def tree_of(source, filename="<script>"):
     return struct.pack(">I", len(rest)) + rest
 
 
+class Unfit(Exception):
+    """What is wrong with a script, as it stands after the script's name."""
+
+
+def record(data, with_places):
+    """The tree of a script's bytes, with its places; or without, and its names are judged."""
+    try:
+        source = data.decode("utf-8-sig")
+        tree = tree_of(source)
+        if with_places:
+            return tree + "".join(f"{start} {line} {column}\n" for start, line, column in places(tree)).encode("ascii")
+        judge_names(source)
+        return tree
+    except UnicodeDecodeError as error:
+        raise Unfit(f": byte {error.start} is not UTF-8") from None
+    except Refused as refusal:
+        raise Unfit(f":{refusal.line}:{refusal.column}: {refusal}") from None
+    except RecursionError:
+        raise Unfit(": nested too deeply") from None
+
+
+def each(scripts, answers):
+    """Answers each script of a stream, before it reads the next."""
+    while length := scripts.read(4):
+        data = scripts.read(int.from_bytes(length, "big"))
+        try:
+            unfit, told = 0, record(data, True)
+        except Unfit as error:
+            unfit, told = 1, str(error).encode("utf-8", "backslashreplace")
+        answers.write(struct.pack(">BI", unfit, len(told)) + told)
+        answers.flush()
+
+
 def main():
     sys.setrecursionlimit(5000)  # what is deeper than the lowering takes should still reach it, and be refused by 6
     parser = argparse.ArgumentParser(description="Turns a script's source text into a tree record.")
-    parser.add_argument("script", help="the script's file, or - for standard input")
+    parser.add_argument("script", nargs="?", help="the script's file, or - for standard input")
     parser.add_argument("-o", "--output", help="the tree's file; standard output if none is given")
     parser.add_argument("--places", action="store_true", help="after the tree, where each part of it stands in the script")
+    parser.add_argument("--each", action="store_true", help="for programs: answers scripts that come on standard input")
     arguments = parser.parse_args()
     sys.stderr.reconfigure(encoding="utf-8", errors="backslashreplace")
+    if arguments.each:
+        each(sys.stdin.buffer, sys.stdout.buffer)
+        return
+    if arguments.script is None:
+        parser.error("the script's file is missing")
     shown = "<stdin>" if arguments.script == "-" else arguments.script
     try:
         if arguments.script == "-":
@@ -393,20 +438,11 @@ def main():
         else:
             with open(arguments.script, "rb") as file:
                 data = file.read()
-        source = data.decode("utf-8-sig")
-        tree = tree_of(source, shown)
-        if not arguments.places:
-            judge_names(source)
+        tree = record(data, arguments.places)
     except OSError as error:
         sys.exit(f"{shown}: {error.strerror}")
-    except UnicodeDecodeError as error:
-        sys.exit(f"{shown}: byte {error.start} is not UTF-8")
-    except Refused as refusal:
-        sys.exit(f"{shown}:{refusal.line}:{refusal.column}: {refusal}")
-    except RecursionError:
-        sys.exit(f"{shown}: nested too deeply")
-    if arguments.places:
-        tree += "".join(f"{start} {line} {column}\n" for start, line, column in places(tree)).encode("ascii")
+    except Unfit as error:
+        sys.exit(f"{shown}{error}")
     if arguments.output:
         with open(arguments.output, "wb") as file:
             file.write(tree)

@@ -54,13 +54,21 @@ static int areas_are(uint32_t x)
     return all_numbers(area1, RULKETOOS_AREA, x) && all_numbers(area2, RULKETOOS_AREA, x);
 }
 
+/* a lowering of a tree */
+typedef uint64_t lowering(const uint8_t *tree, size_t tree_len, uint32_t limits,
+                          uint32_t *area1, size_t area1_len, uint32_t *area2, size_t area2_len,
+                          uint8_t *out, size_t out_len);
+
+/* which of the two is asked */
+static lowering *asked = rulketoos_lower;
+
 /* lowers with sevens in the areas and nines in the output */
 static uint64_t lower_by(uint32_t limits, const uint8_t *bytes, size_t size, size_t area, size_t room)
 {
     for (size_t i = 0; i < RULKETOOS_AREA; i++)
         area1[i] = area2[i] = 7;
     memset(out, 9, sizeof out);
-    return rulketoos_lower(bytes, size, limits, area1, RULKETOOS_AREA, area2, area, out, room);
+    return asked(bytes, size, limits, area1, RULKETOOS_AREA, area2, area, out, room);
 }
 
 static uint64_t lower(const uint8_t *bytes, size_t size, size_t area, size_t room)
@@ -254,6 +262,9 @@ int main(void)
     expect(rulketoos_check(tree, sizeof tree) == 0, "the empty tree is accepted");
     expect(rulketoos_check(tree, 6) == 3, "a tree that is cut is refused by 3");
     expect(rulketoos_check(iterator_tree, sizeof iterator_tree) == 33, "the name of an iterator is refused by 33");
+    lowers();
+    limits();
+    asked = rulketoos_lower_measured;
     lowers();
     limits();
     orders();

@@ -1,5 +1,6 @@
 """Tests of the tools that a person uses: a script's text to a tree record, and the building of the command."""
 
+import io
 import os
 import pathlib
 import re
@@ -185,6 +186,21 @@ class TreeOf(unittest.TestCase):
                 latin = run("tree_of.py", ["-"], terminal, "'é'".encode("latin-1"))
                 self.assertEqual((latin.returncode, latin.stdout), (1, b""))
                 self.assertIn(b"not UTF-8", latin.stderr)
+
+
+    def test_each(self):
+        scripts = [b"pass", b"x += 1", "'é'".encode("latin-1"), b"", "é = 1".encode("utf-8"), b"x = 1\n"]
+        stream = b"".join(len(script).to_bytes(4, "big") + script for script in scripts)
+        for terminal in TERMINALS:
+            with self.subTest(terminal=terminal):
+                answers = io.BytesIO(run("tree_of.py", ["--each"], terminal, stream).stdout)
+                for script in scripts:
+                    unfit = answers.read(1) == b"\x01"
+                    told = answers.read(int.from_bytes(answers.read(4), "big"))
+                    alone = run("tree_of.py", ["-", "--places"], terminal, script)
+                    said = alone.stderr.strip()[len(b"<stdin>"):] if unfit else alone.stdout
+                    self.assertEqual((unfit, told), (alone.returncode == 1, said))
+                self.assertEqual(answers.read(), b"")
 
 
 # what stands in for rt: it proves each crate in its folder, or fails at the crate parts

@@ -23,7 +23,7 @@ use Rattle.lower_emit.specs.Emitting.{limits_in, state_in, SoundIn, beside, new_
 use Rattle.lower_emit.proofs.Begun.{begun-frame}
 use Rattle.lower_emit.proofs.Functions.{begun-lifts}
 use Rattle.lower_names.specs.Naming.{InternsMade, named}
-use Rattle.lower_names.proofs.Beginnings.{named-none, named-sound, named-begins}
+use Rattle.lower_names.proofs.Beginnings.{named-none, named-sound, named-below, named-begins}
 use Rattle.compile.specs.Compiled.{Fresh, no_counts, nothing, main_named, main_begun}
 
 sound-nothing : {tree made code tables : List ℕ} {l : Limits} → 16384 ≤ length code → 16384 ≤ length tables → 20500 ≤ length made → Limited l → Sound tree made code tables no_counts l
@@ -43,6 +43,7 @@ sound-nothing c t m l = record {
   base = omega arith;
   made-count = omega arith;
   names = no_every;
+  heads = no_every;
   codes = no_every;
   class-methods = no_every;
   finished = refl;
@@ -98,4 +99,4 @@ module _ {tree : List ℕ} {a : Emitter} {names : Names} {entries : Entries} {i 
   begins-main {j} {r} {c} z g =
       subst (λ (q : Type 0). q) (λ k. BeginsIn r (functions-none tree F k) tree a c (begun-is tree F k))
       (named-begins (made_name Main) (fresh-sound F) numbers z 0 0
-      (begun-lifts (named-sound (made_name Main) (fresh-sound F) numbers z) (omega (arith, h.below j z)) (omega arith) (omega arith) g))
+      (begun-lifts (named-sound (made_name Main) (fresh-sound F) numbers z) (named-below (made_name Main) (fresh-sound F) numbers z) (omega arith) (omega arith) g))

@@ -1,7 +1,7 @@
 -- The code of `__main__`, and its end: the tables of the tree.
 use Prim.Native.Nat.{ℕ, ◌+◌, ◌-◌, ◌<◌}
 use mathlib.Core.Path.{◌≡◌, refl, sym, ap, ◌∙◌, subst}
-use mathlib.Core.Bool.{false}
+use mathlib.Core.Bool.{true, false}
 use mathlib.Core.List.{List, [], ◌∷◌}
 use native.Mathlib.Omega.{arith}
 use lib.ListN.{length, length-append}
@@ -12,8 +12,8 @@ use Rattle.definitions.specs.Instruction.{Return}
 use Rattle.definitions.specs.Slots.{in_globals, names_only}
 use Rattle.definitions.specs.Tables.{Emit, block_body, begin, function}
 use Rattle.definitions.specs.Lower.{compile, main, no_tables}
-use Rattle.definitions.specs.Wellformed.{block_questions}
-use Rattle.tree.specs.StmtAt.{TreeAt}
+use Rattle.definitions.specs.Wellformed.{ask_block, block_questions}
+use Rattle.tree.specs.StmtAt.{block_at, TreeAt}
 use Rattle.state.specs.State.{State, state_of, emit_at, symbol_number, Within, Sound, Left}
 use Rattle.state.specs.Steps.{begun, ended}
 use Rattle.state.specs.declared.Counts.{Counts}
@@ -29,12 +29,23 @@ use Rattle.lower_emit.specs.Emitting.{counts_of, limits_in, state_in, SoundIn, S
 use Rattle.lower_emit.proofs.Begun.{begun-body}
 use Rattle.lower_emit.proofs.Steps.{areas-after, sound-next}
 use Rattle.lower_emit.proofs.Functions.{ended-lifts}
+use Rattle.lower_forms.specs.Lowerable.{Relied, of_names, of_breaks, of_counts}
 use Rattle.lower_forms.specs.Lowering.{BlockLowerable}
 use Rattle.compile.specs.Compiled.{Fresh, nothing, main_named, main_begun, main_code, CompilesTree}
 
-pub block-lowerable : (tree : List ℕ) → TreeAt tree → BlockLowerable 32 tree 5
+relied : (tree : List ℕ) → TreeAt tree → (q : ℕ) → Relied q → ask_block q false (block_at 32 tree 5).value ≡ true
 unfolding block_questions
-block-lowerable tree T = record { reads = T.block; loop = false; args = T.yes 8 (omega arith) }
+relied tree T q of_names = T.yes 0 (omega arith)
+relied tree T q of_breaks = T.yes 3 (omega arith)
+relied tree T q of_counts = T.yes 8 (omega arith)
+
+pub block-lowerable : (tree : List ℕ) → TreeAt tree → BlockLowerable 32 tree 5
+block-lowerable tree T = record { reads = T.block; loop = false; asks = relied tree T }
+
+-- no loop is around it
+pub block-outside : (tree : List ℕ) (T : TreeAt tree) → (block-lowerable tree T).loop ≡ false
+unfolding block-lowerable
+block-outside tree T = refl
 
 -- ---- the whole
 

@@ -15,6 +15,14 @@ use numerals::ops::RETURN;
 use numerals::places::{IN_GLOBALS, SLOTS_FROM};
 use numerals::sizes::{DEPTH, HEAD};
 use state::Scope;
+use write_stmts::write_body;
+
+// How jumps get their numbers: they are set once the part that they pass is done, or written as they stay, by its measure.
+#[derive(Clone, Copy)]
+pub enum Jumps {
+    Set,
+    Measured,
+}
 
 // `__main__` begins: its number, 0; or none where there is no room.
 fn begin_main(tree: &[u8], e: &mut Emitter<'_>) -> Option<u32>
@@ -26,7 +34,7 @@ fn begin_main(tree: &[u8], e: &mut Emitter<'_>) -> Option<u32>
     e.begin_function(symbol, 0, 0)
 }
 
-// The tree's block, and a return.
+// The tree's block, and a return; jumps are set.
 fn emit_main(tree: &[u8], e: &mut Emitter<'_>) -> Option<usize>
     requires { SoundIn tree.now e.old × TreeAt tree.now }
     ensures { EmitsTo result (main_code (tree_block tree.now)) (block_at 32 tree.now 5).end tree.now e.old e.new }
@@ -39,13 +47,34 @@ fn emit_main(tree: &[u8], e: &mut Emitter<'_>) -> Option<usize>
     Some(next)
 }
 
+// The same by measured lengths.
+fn write_main(tree: &[u8], e: &mut Emitter<'_>) -> Option<usize>
+    requires { SoundIn tree.now e.old × TreeAt tree.now }
+    ensures { EmitsTo result (main_code (tree_block tree.now)) (block_at 32 tree.now 5).end tree.now e.old e.new }
+{
+    let none = [0u32; SLOTS_FROM];
+    let s = Scope { tree, slots: &none };
+    write_body(s, e, HEAD, DEPTH, false, IN_GLOBALS)
+}
+
+// The code of `__main__`, either way.
+fn put_main(tree: &[u8], e: &mut Emitter<'_>, jumps: Jumps) -> Option<usize>
+    requires { SoundIn tree.now e.old × TreeAt tree.now }
+    ensures { EmitsTo result (main_code (tree_block tree.now)) (block_at 32 tree.now 5).end tree.now e.old e.new }
+{
+    match jumps {
+        Jumps::Set => emit_main(tree, e),
+        Jumps::Measured => write_main(tree, e),
+    }
+}
+
 // The tables of the tree; none where they are over the limits.
-pub fn compile(tree: &[u8], e: &mut Emitter<'_>) -> Option<()>
+pub fn compile(tree: &[u8], e: &mut Emitter<'_>, jumps: Jumps) -> Option<()>
     requires { Fresh e.old × TreeAt tree.now }
     ensures { CompilesTree result tree.now e.old e.new (Lower.compile (tree_block tree.now)).tables }
 {
     let f = begin_main(tree, e)?;
-    emit_main(tree, e)?;
+    put_main(tree, e, jumps)?;
     e.end_function(f, 0);
     Some(())
 }

@@ -67,7 +67,7 @@ found-last (y ∷ xs) x = found-last xs x
 found_up : {xs ys : List Name} (k : ℕ) (x : Name) → Grown xs ys → get_elem? xs k ≡ some x → get_elem? ys k ≡ some x
 found_up {xs} k x G e = rw G.is (found_front xs G.new k x e)
 
-found_at : (x : Name) (xs : List Name) (k : ℕ) → position (same x) xs ≡ some k → get_elem? xs k ≡ some x
+pub found_at : (x : Name) (xs : List Name) (k : ℕ) → position (same x) xs ≡ some k → get_elem? xs k ≡ some x
 unfolding position
 found_at x [] k e = let z : ◌≡◌ {A = ℕ} 0 1 = cc in absurd (omega arith)
 found_at x (y ∷ xs) k e = go (same x y) refl (position (same x) xs) (found_at x xs) k e

@@ -88,7 +88,7 @@ leaf-ask_iter : (g : Keeper) → Leaf (ask_iter g)
 unfolding ask_iter flows
 leaf-ask_iter g = leaf-seq (leaf-one (plain-load g)) (leaf-symbol _ (λ k. leaf-one (num refl refl refl)))
 
-leaf-take_iter : (slots : List Name) (x : Name) (g : Keeper) → Leaf (take_iter slots x g)
+pub leaf-take_iter : (slots : List Name) (x : Name) (g : Keeper) → Leaf (take_iter slots x g)
 unfolding take_iter flows
 leaf-take_iter slots x g = leaf-seq (leaf-one (plain-load g)) (leaf-seq (leaf-symbol _ (λ k. leaf-one (num refl refl refl))) (leaf-store slots x))
 
@@ -147,7 +147,7 @@ unfolding emits
 part-continue k = record { at = λ p t. record { code = cont; ok = k; emitted = refl; walks = refl }; grows = λ p t. grow-none }
 
 -- a block, past whose end an end jump before it goes
-record BlockPart (l : Bool) (slots : List Name) (keep : Keeping) (b : Block) : Type 0 where
+pub record BlockPart (l : Bool) (slots : List Name) (keep : Keeping) (b : Block) : Type 0 where
   at : (p : ℕ) (t : Tables) → (C : Meaning l (emit_block slots keep b p t).code (walk_block slots keep b p t)) × (hop C.code ≡ size C.code)
   grows : (p : ℕ) (t : Tables) → Grown (emit_block slots keep b) p t
 
@@ -160,7 +160,7 @@ record BranchPart (l : Bool) (slots : List Name) (keep : Keeping) (r : Branches)
 record MethodPart (m : Methods) : Type 0 where
   grows : (ms : List Method) (t : Tables) → Grows t.functions (emit_methods m ms t).tables.functions (emit_methods m ms t).sources
 
-part-block : {l : Bool} {slots : List Name} {keep : Keeping} {b : Block} → BlockPart l slots keep b → Part l (emit_block slots keep b) (walk_block slots keep b)
+pub part-block : {l : Bool} {slots : List Name} {keep : Keeping} {b : Block} → BlockPart l slots keep b → Part l (emit_block slots keep b) (walk_block slots keep b)
 part-block B = record { at = λ p t. (B.at p t).0; grows = B.grows }
 
 block-nil : {l : Bool} (slots : List Name) (keep : Keeping) → BlockPart l slots keep []ᵇ
@@ -224,7 +224,7 @@ leaf-class slots keep x m vs M = record { at = λ p t. (leaf-end_class x _ _).at
 mutual
   unfolding emit_stmt walk_stmt emit_methods flows
 
-  part-stmt : (l : Bool) (slots : List Name) (keep : Keeping) (a : Stmt) → OkS l a → Part l (emit_stmt slots keep a) (walk_stmt slots keep a)
+  pub part-stmt : (l : Bool) (slots : List Name) (keep : Keeping) (a : Stmt) → OkS l a → Part l (emit_stmt slots keep a) (walk_stmt slots keep a)
   part-stmt l slots keep break k = part-break k
   part-stmt l slots keep continue k = part-continue k
   part-stmt l slots keep pass k = part-adds (leaf-emits none)
@@ -247,7 +247,7 @@ mutual
       (function-silent x (length ps) (with_loops ps b) (block_body b (Return ∷ [])) _)
   part-stmt l slots keep (class x ms vs) k = part-adds (leaf-class slots keep x ms vs (part-methods ms k))
 
-  part-blocks : (l : Bool) (slots : List Name) (keep : Keeping) (b : Block) → OkB l b → BlockPart l slots keep b
+  pub part-blocks : (l : Bool) (slots : List Name) (keep : Keeping) (b : Block) → OkB l b → BlockPart l slots keep b
   part-blocks l slots keep []ᵇ k = block-nil slots keep
   part-blocks l slots keep (a ∷ᵇ b) k = block-cons keep a b (part-stmt l slots keep a k.0) (part-blocks l slots (past (loops_stmt a) keep) b k.1)
 

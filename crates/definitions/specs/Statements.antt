@@ -10,14 +10,14 @@ use Rattle.definitions.specs.Tree.{BinaryOp, add_op, subtract_op, multiply_op, d
 use Rattle.definitions.specs.Tree.{binary_number, UnaryOp, LogicalOp, Display, Expr, lit, var, unary, binary, logical, call, attr, display, index, lambda, Exprs, []ᵉ, ◌∷ᵉ◌}
 use Rattle.definitions.specs.Tree.{Stmt, break, continue, pass, expr, return, assign, if, while, for, def, class, Block, []ᵇ, ◌∷ᵇ◌, Branches, done, else, when, Methods, Attribute}
 use Rattle.definitions.specs.Parse.{binary_kinds, block_of, parse_stmt, tree_version, read_tree}
-use Rattle.definitions.specs.Wellformed.{is_name, is_tuple, is_iterator, distinct, ask_block}
+use Rattle.definitions.specs.Wellformed.{is_name, is_tuple, is_iterator, distinct, ask_expr, ask_exprs, ask_stmt, ask_block, ask_branches, ask_methods}
 use Rattle.definitions.specs.TreeNames.{names_block}
-use Rattle.definitions.specs.Slots.{add, locals_block, captures, loops_block}
+use Rattle.definitions.specs.Slots.{add, locals_block, captures, loops_block, Keeping, Frame}
 use Rattle.definitions.specs.Instruction.{Numbers, nothing, a_string, a_constant, a_slot, a_symbol, a_function, a_builtin, numbers_of}
 use Rattle.definitions.specs.Instruction.{Instr, LoadLocal, StoreLocal, StoreGlobal, Return, row_of, binary_code, encode, encodes}
 use Rattle.definitions.specs.Instruction.{Flow, straight, jump, returns, question, flow}
-use Rattle.definitions.specs.Tables.{Function, Tables, Body, block_body, expr_body, Source}
-use Rattle.definitions.specs.Lower.{iter_name, no_tables, compile, emit_body}
+use Rattle.definitions.specs.Tables.{Function, Method, Tables, Body, block_body, expr_body, Source, Out, Emit, ◌⨟◌, intern, begin}
+use Rattle.definitions.specs.Lower.{emit_expr, emit_exprs, emit_target, unpack, patch, iter_name, begin_class, emit_stmt, emit_block, emit_branches, emit_methods, no_tables, compile, emit_body}
 use Rattle.definitions.specs.Bodies.{bodies}
 use Rattle.definitions.specs.Module.{Limits, office, console, limits_by, module_version, module_bytes, code_start, instructions, slots_fit, tables_fit, lower_block, lower_tables, lower_bytes}
 use Rattle.definitions.specs.Reader.{module_record, numbers_exist, code_stands, read_module}
@@ -25,7 +25,7 @@ use Rattle.definitions.specs.Listing.{first_text, second_text, name_text, code_l
 use Rattle.definitions.specs.Sheet.{any_op, is_question, is_call, tally, all_code, count_line, sheet}
 use Rattle.definitions.specs.Run.{Ran, run}
 use Rattle.definitions.specs.Walk.{Walked, ending_number, walk}
-use Rattle.definitions.specs.Calls.{areas_fit, are_answers, lower_answer, read_call, Part, part_of, code_call, text_answer, run_answer, walk_tree}
+use Rattle.definitions.specs.Calls.{areas_fit, are_answers, lower_answer, lower_call, read_call, Part, part_of, code_call, text_answer, run_answer, walk_tree}
 use Rattle.definitions.specs.Reach.{places_met, Reachable, Brings, Nowhere, wide_area, sought, Finds}
 use Rattle.definitions.specs.Search.{Rule, Swept}
 use Rattle.definitions.specs.Stack.{height_after, height_number, height_at}
@@ -34,6 +34,8 @@ use Rattle.definitions.specs.Starts.{starts_source}
 use Rattle.definitions.specs.TreeBytes.{tree_bytes}
 use Rattle.definitions.specs.Rests.{rest, taken}
 use Rattle.definitions.specs.Order.{Ordering, less, equal, greater, order, accepted_tree, order_answer}
+use Rattle.definitions.specs.Measured.{SoFar, so_far, measure_expr, measure_exprs, measure_target, measure_unpack, measure_stmt, measure_block, measure_branches, measure_hop}
+use Rattle.definitions.specs.Measured.{Loop, write_expr, write_exprs, write_stmt, write_block, write_branches, write_methods, compile_measured, measured_call}
 use Rattle.definitions.specs.Samples.{samples, holds}
 
 -- ---- the starred samples: proofs/Samples
@@ -897,3 +899,112 @@ pub record SameModule (l : Limits) (x y : List ℕ) : Type 0 where
 abbrev pub EqualModules : Type 0
 EqualModules =
     (l : Limits) (m n : ℕ) (x y : List ℕ) → are_bytes x ≡ true → are_bytes y ≡ true → order_answer l m n x y ≡ accepted equal → SameModule l x y
+
+-- ---- the measured lowering: proofs/Measured
+
+-- each function's name is a symbol
+unfoldable pub has_names : Tables → Bool
+has_names t = all (λ (f : Function). ltb f.symbol (length t.symbols)) t.functions
+
+-- So it is where a lowering begins, where a function's body and where a class's methods begin, and after every part: at every place of a lowering
+pub record NamesStand : Type 0 where
+  pub begins : has_names no_tables ≡ true
+  pub body :
+      (x : Name) (arity : ℕ) (frame : Frame) (p : ℕ) (t : Tables) → has_names t ≡ true
+      → intern x (λ k q u. has_names (begin k arity frame u)) p t ≡ true
+  pub members : (x : Name) (t : Tables) → has_names t ≡ true → has_names (begin_class x t) ≡ true
+  pub expression : (slots : List Name) (e : Expr) (p : ℕ) (t : Tables) → ask_expr 7 e ≡ true → has_names t ≡ true → has_names (emit_expr slots e p t).tables ≡ true
+  pub statement :
+      (l : Bool) (slots : List Name) (keep : Keeping) (a : Stmt) (p : ℕ) (t : Tables) → ask_stmt 7 l a ≡ true → has_names t ≡ true
+      → has_names (emit_stmt slots keep a p t).tables ≡ true
+
+-- a part has so many instructions, wherever it stands and whatever was lowered before it
+abbrev pub HasMeasure : (SoFar → ℕ) → Emit → Type 0
+HasMeasure n e = (p : ℕ) (t : Tables) → has_names t ≡ true → length (e p t).code ≡ n (so_far t)
+
+-- each measure is the number of instructions that the part gives where it stands; and an end jump goes as far as was measured
+pub record Measures : Type 0 where
+  pub expression : (slots : List Name) (e : Expr) → ask_expr 7 e ≡ true → HasMeasure (λ k. measure_expr slots k e) (emit_expr slots e)
+  pub expressions : (slots : List Name) (es : Exprs) → ask_exprs 7 es ≡ true → HasMeasure (λ k. measure_exprs slots k es) (emit_exprs slots es)
+  pub target : (slots : List Name) (e : Expr) → HasMeasure (λ k. measure_target e) (emit_target slots e)
+  pub elements : (slots : List Name) (es : Exprs) (i : ℕ) → HasMeasure (λ k. measure_unpack es i) (unpack slots es i)
+  pub statement : (l : Bool) (slots : List Name) (keep : Keeping) (a : Stmt) → ask_stmt 7 l a ≡ true → HasMeasure (λ k. measure_stmt slots k a) (emit_stmt slots keep a)
+  pub block : (l : Bool) (slots : List Name) (keep : Keeping) (b : Block) → ask_block 7 l b ≡ true → HasMeasure (λ k. measure_block slots k b) (emit_block slots keep b)
+  pub branches :
+      (l : Bool) (slots : List Name) (keep : Keeping) (r : Branches) → ask_branches 7 l r ≡ true → HasMeasure (λ k. measure_branches slots k r) (λ p t. (emit_branches slots keep r p t).out)
+  pub hop :
+      (l : Bool) (slots : List Name) (keep : Keeping) (r : Branches) → ask_branches 7 l r ≡ true
+      → (p : ℕ) (t : Tables) → has_names t ≡ true → (emit_branches slots keep r p t).hop ≡ measure_hop slots (so_far t) r
+
+-- w writes what e emits, wherever it stands: code, tables and sources
+abbrev pub WritesAs : Emit → Emit → Type 0
+WritesAs w e = (p : ℕ) (t : Tables) → has_names t ≡ true → w p t ≡ e p t
+
+-- each part is written as it is emitted; a statement, if no loop is around it
+pub record WritesParts : Type 0 where
+  pub expression : (slots : List Name) (e : Expr) → ask_expr 7 e ≡ true → WritesAs (write_expr slots e) (emit_expr slots e)
+  pub expressions : (slots : List Name) (es : Exprs) → ask_exprs 7 es ≡ true → WritesAs (write_exprs slots es) (emit_exprs slots es)
+  pub statement :
+      (slots : List Name) (keep : Keeping) (v : Loop) (a : Stmt) → ask_stmt 7 false a ≡ true → ask_stmt 9 false a ≡ true → WritesAs (write_stmt slots keep v a) (emit_stmt slots keep a)
+  pub block :
+      (slots : List Name) (keep : Keeping) (v : Loop) (b : Block) → ask_block 7 false b ≡ true → ask_block 9 false b ≡ true → WritesAs (write_block slots keep v b) (emit_block slots keep b)
+  pub branches :
+      (slots : List Name) (keep : Keeping) (v : Loop) (r : Branches) → ask_branches 7 false r ≡ true → ask_branches 9 false r ≡ true
+      → WritesAs (write_branches slots keep v r) (λ p t. (emit_branches slots keep r p t).out)
+  pub methods :
+      (m : Methods) → ask_methods 7 m ≡ true → ask_methods 9 m ≡ true
+      → (ms : List Method) (t : Tables) → has_names t ≡ true → write_methods m ms t ≡ emit_methods m ms t
+
+-- The part of m instructions at place p is at index i of the inside of the loop v; the inside has n instructions, and h of the loop stand before it
+pub record LiesIn (v : Loop) (h n i p m : ℕ) : Type 0 where
+  pub place : p ≡ v.start + (h + i)
+  pub end : v.end ≡ v.start + suc (h + n)
+  pub fits : i + m ≤ n
+
+-- a part once the loop around it is patched
+abbrev pub patch_out : ℕ → ℕ → ℕ → Out → Out
+patch_out h n i o = record { code = patch h n i o.code; tables = o.tables; sources = o.sources }
+
+abbrev pub WritesPatched : (Loop → Emit) → Emit → Type 0
+WritesPatched w e =
+    (v : Loop) (h n i p : ℕ) (t : Tables) → has_names t ≡ true → LiesIn v h n i p (length (e p t).code) → w v p t ≡ patch_out h n i (e p t)
+
+-- in a loop each part is written at once as the loop's end leaves what was emitted for it
+pub record WritesInLoop : Type 0 where
+  pub statement : (slots : List Name) (keep : Keeping) (a : Stmt) → ask_stmt 7 true a ≡ true → ask_stmt 9 true a ≡ true → WritesPatched (λ v. write_stmt slots keep v a) (emit_stmt slots keep a)
+  pub block : (slots : List Name) (keep : Keeping) (b : Block) → ask_block 7 true b ≡ true → ask_block 9 true b ≡ true → WritesPatched (λ v. write_block slots keep v b) (emit_block slots keep b)
+  pub branches :
+      (slots : List Name) (keep : Keeping) (r : Branches) → ask_branches 7 true r ≡ true → ask_branches 9 true r ≡ true
+      → WritesPatched (λ v. write_branches slots keep v r) (λ p t. (emit_branches slots keep r p t).out)
+
+-- so what is written has as many instructions as were measured
+pub record WritesMeasured : Type 0 where
+  pub expression : (slots : List Name) (e : Expr) → ask_expr 7 e ≡ true → HasMeasure (λ k. measure_expr slots k e) (write_expr slots e)
+  pub statement :
+      (slots : List Name) (keep : Keeping) (v : Loop) (a : Stmt) → ask_stmt 7 false a ≡ true → ask_stmt 9 false a ≡ true → HasMeasure (λ k. measure_stmt slots k a) (write_stmt slots keep v a)
+  pub in_loop :
+      (slots : List Name) (keep : Keeping) (a : Stmt) (v : Loop) (h n i p : ℕ) (t : Tables) → ask_stmt 7 true a ≡ true → ask_stmt 9 true a ≡ true → has_names t ≡ true
+      → LiesIn v h n i p (length (emit_stmt slots keep a p t).code) → length (write_stmt slots keep v a p t).code ≡ measure_stmt slots (so_far t) a
+
+-- the functions that have begun keep their places and what code they have; new ones come after them
+abbrev pub KeepsFunctions : Out → Tables → Type 0
+KeepsFunctions o t = (new : List Function) × (o.tables.functions ≡ t.functions ++ new)
+
+-- what writes a part leaves all code written before it unchanged; in its own function the part's code comes after what is there
+pub record LeavesBefore : Type 0 where
+  pub expression : (slots : List Name) (e : Expr) (p : ℕ) (t : Tables) → ask_expr 7 e ≡ true → has_names t ≡ true → KeepsFunctions (write_expr slots e p t) t
+  pub statement :
+      (slots : List Name) (keep : Keeping) (v : Loop) (a : Stmt) (p : ℕ) (t : Tables) → ask_stmt 7 false a ≡ true → ask_stmt 9 false a ≡ true → has_names t ≡ true
+      → KeepsFunctions (write_stmt slots keep v a p t) t
+  pub in_loop :
+      (slots : List Name) (keep : Keeping) (a : Stmt) (v : Loop) (h n i p : ℕ) (t : Tables) → ask_stmt 7 true a ≡ true → ask_stmt 9 true a ≡ true → has_names t ≡ true
+      → LiesIn v h n i p (length (emit_stmt slots keep a p t).code) → KeepsFunctions (write_stmt slots keep v a p t) t
+  pub code : (w v : Emit) (p : ℕ) (t : Tables) → (more : List Instr) × (((w ⨟ v) p t).code ≡ (w p t).code ++ more)
+
+-- the whole tree: code, tables and sources
+abbrev pub CompilesAlike : Type 0
+CompilesAlike = (b : Block) → ask_block 7 false b ≡ true → ask_block 9 false b ≡ true → compile_measured b ≡ compile b
+
+-- the measured lowering answers and leaves what the lowering does, on every input and for every set of limits
+abbrev pub MeasuredAgrees : Type 0
+MeasuredAgrees = (l : Limits) (tree area₁ area₂ output : List ℕ) → measured_call l tree area₁ area₂ output ≡ lower_call l tree area₁ area₂ output

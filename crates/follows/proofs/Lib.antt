@@ -2,3 +2,4 @@ mod Made
 mod Reading
 mod Walking
 mod Narrowing
+mod Agreeing

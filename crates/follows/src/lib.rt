@@ -1,14 +1,16 @@
 // A tree is lowered, and the module that was written is read, or one of its functions run: the reader accepts it, and the run does what the walk of the
-// tree does. Or it is lowered at the console and at the office: what the console takes, the office takes with the very same bytes.
+// tree does. Or it is lowered at the console and at the office: what the console takes, the office takes with the very same bytes. Or it is lowered with
+// jumps that are set and with jumps from measured lengths: both give the same.
 #![tactic(auto)]
 
 ghost use Rattle.limits.specs.Sets.{limits_for};
 ghost use Rattle.follows.specs.Both.{LowersAtBoth};
+ghost use Rattle.follows.specs.Ways.{LowersBothWays};
 ghost use Rattle.follows.specs.Rereading.{Rereads};
 ghost use Rattle.follows.specs.Following.{FollowsSource};
 
 use limits::Limits;
-use lowering::lower;
+use lowering::{lower, lower_measured};
 use questions::Question;
 use reader::{Sections, read_module};
 use run::{Ran, run};
@@ -32,6 +34,13 @@ pub struct Followed {
 pub struct Both {
     pub console: Result<usize, Question>,
     pub office: Result<usize, Question>,
+}
+
+// What the two lowerings give.
+#[derive(Clone, Copy)]
+pub struct Ways {
+    pub patched: Result<usize, Question>,
+    pub measured: Result<usize, Question>,
 }
 
 // The module of a tree, read as soon as it is written: whenever the lowering accepts, the reader accepts. A refusal is one of questions 1 to 16, 33 and 36.
@@ -85,4 +94,23 @@ pub fn lower_at_both(
         console: at_console,
         office: at_office,
     }
+}
+
+// The module of a tree by the lowering that sets its jumps, and by the one that measures, each in areas and an output of its own: where these hold the
+// same before, answers, areas and outputs are the same afterwards.
+pub fn lower_both_ways(
+    tree: &[u8],
+    limits: Limits,
+    area1: &mut [u32],
+    area2: &mut [u32],
+    out: &mut [u8],
+    other1: &mut [u32],
+    other2: &mut [u32],
+    other: &mut [u8],
+) -> Ways
+    ensures { LowersBothWays result area1.new area2.new out.new other1.new other2.new other.new (limits_for limits) tree.now area1.old area2.old out.old other1.old other2.old other.old }
+{
+    let patched = lower(tree, limits, area1, area2, out);
+    let measured = lower_measured(tree, limits, other1, other2, other);
+    Ways { patched, measured }
 }

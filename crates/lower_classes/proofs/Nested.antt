@@ -27,7 +27,7 @@ use Rattle.lower_emit.proofs.Steps.{areas-none}
 use Rattle.lower_emit.proofs.Functions.{begun-lifts, head-begun, innermost-as, begins-stopped}
 use Rattle.lower_names.specs.Naming.{Interns, named}
 use Rattle.lower_names.proofs.Symbols.{Renews, left-renewed, numbers-some, numbers-none, interned}
-use Rattle.lower_names.proofs.Beginnings.{limits-begun, named-none, named-sound, named-begins}
+use Rattle.lower_names.proofs.Beginnings.{limits-begun, named-none, named-sound, named-below, named-begins}
 use Rattle.lower_classes.specs.Classes.{BeginsClass, CountedIn, EndsClass, AddsConstant, BeginsNamed, StartsNamed}
 
 -- ---- classes
@@ -121,7 +121,7 @@ module _ {t : List ℕ} {m n : Names} {a b : Entries} {s : Option ℕ} {at : ℕ
     tables = λ ts. record {
       begins = λ code S.
           let N = numbered f code ts S in
-          named-begins (name_at t at) S N z arity locals (begun-lifts (named-sound (name_at t at) S N z) (omega (arith, h.below j z)) x y (head-begun code (new_names n b ts) H));
+          named-begins (name_at t at) S N z arity locals (begun-lifts (named-sound (name_at t at) S N z) (named-below (name_at t at) S N z) x y (head-begun code (new_names n b ts) H));
     };
     made = h.made;
     symbols = h.limit;

@@ -9,7 +9,7 @@ use Rattle.definitions.specs.Slots.{Frame}
 use Rattle.definitions.specs.Tables.{Function, Tables, begin, coded}
 use Rattle.state.specs.Words.{region, text_at, instrs_of}
 use Rattle.state.specs.State.{strings_from, heads_from, codes_from, class_names_from, class_methods_from, methods_from, constants_from, done_from, spelled, function_of, functions_of}
-use Rattle.state.specs.State.{classes_of, State, tables_of, state_of, Every, EndsWithin, MadeWithin, total, Sound, symbol_index_from, symbol_buckets, string_index_from, string_buckets}
+use Rattle.state.specs.State.{classes_of, State, tables_of, state_of, Every, EndsWithin, MadeWithin, NamedWithin, total, Sound, symbol_index_from, symbol_buckets, string_index_from, string_buckets}
 use Rattle.state.specs.Steps.{begun}
 use Rattle.state.specs.declared.Counts.{Counts}
 use Rattle.state.specs.declared.Limits.{Limits}
@@ -91,8 +91,8 @@ module _ (t made code tables : List ℕ) (sy ar lo h : ℕ) (c : Counts) (l : Li
       ∙ ap (λ (f : Function). functions_of t fin hs ks ++ f ∷ []) (head-function t fin sy ar lo h x y z e))
       (λ i. classes_of t (p i) (q i) (r i)) (kept_above constants_from c.constants (omega arith)))
 
-  begin-sound : Sound t made code after (one_more c) l
-  begin-sound = record {
+  begin-sound : sy < c.symbols → ar < 256 → lo < 256 → h ≡ sy * 65536 + ar * 256 + lo → Sound t made code after (one_more c) l
+  begin-sound x y z e = record {
     code-room = s.code-room;
     tables-room = omega (arith, s.tables-room, grown-length heads_from codes_from c.functions h tables apart room);
     made-room = s.made-room;
@@ -107,6 +107,7 @@ module _ (t made code tables : List ℕ) (sy ar lo h : ℕ) (c : Counts) (l : Li
     base = le_refl c.open;
     made-count = s.made-count;
     names = subst (Every (MadeWithin made c.made)) (sym (kept-below 0 c.symbols (omega (arith, s.symbols, s.limited.symbols)))) s.names;
+    heads = subst (Every (NamedWithin c.symbols)) (sym heads-after) (every-snoc s.heads (omega arith));
     codes = subst (Every (EndsWithin c.done)) (sym codes-after) (every-snoc s.codes (omega arith));
     class-methods = subst (Every (EndsWithin c.methods)) (sym (kept_above class_methods_from c.classes (omega arith))) s.class-methods;
     finished = s.finished ∙ sym (ap total codes-after ∙ total-snoc (region codes_from c.functions tables) 0 ∙ omega arith);
@@ -114,16 +115,16 @@ module _ (t made code tables : List ℕ) (sy ar lo h : ℕ) (c : Counts) (l : Li
     string-index = strings-indexed t tables _ c.strings (kept_above string_index_from string_buckets (omega arith)) (kept-below strings_from c.strings (omega (arith, s.strings, s.limited.strings))) s.string-index;
   }
 
-  pub begin-at : sy < 65536 → ar < 256 → lo < 256 → h ≡ sy * 65536 + ar * 256 + lo →
+  pub begin-at : sy < c.symbols → ar < 256 → lo < 256 → h ≡ sy * 65536 + ar * 256 + lo →
       Begins (At c.functions (one_more c)) t made code after c l (length (state_of t made code tables c).tables.functions) (begun_with sy ar lo (state_of t made code tables c))
   unfolding Begins
   begin-at x y z e = (
     sym (function-count t made code tables c l s),
     record {
-      state = begin-state x y z e;
+      state = begin-state (omega (arith, s.symbols, s.limited.symbols)) y z e;
       base = refl;
       paced = record { methods = omega arith; constants = le_refl _ };
-      sound = begin-sound;
+      sound = begin-sound x y z e;
     },
     omega arith,
   )

@@ -10,7 +10,7 @@ use Rattle.definitions.specs.Tables.{Class, with_classes, add_constant}
 use Rattle.definitions.specs.Lower.{begin_class}
 use Rattle.state.specs.Words.{region, name_at, text_at}
 use Rattle.state.specs.State.{strings_from, heads_from, codes_from, class_names_from, class_methods_from, methods_from, constants_from, done_from, place_of, count_of, spelled, functions_of}
-use Rattle.state.specs.State.{method_of, class_of, classes_of, tables_of, state_of, with_tables, Every, EndsWithin, MadeWithin, total, Sound, Numbers, symbol_index_from, symbol_buckets}
+use Rattle.state.specs.State.{method_of, class_of, classes_of, tables_of, state_of, with_tables, Every, EndsWithin, MadeWithin, NamedWithin, total, Sound, Numbers, symbol_index_from, symbol_buckets}
 use Rattle.state.specs.State.{string_index_from, string_buckets}
 use Rattle.state.specs.declared.Counts.{Counts}
 use Rattle.state.specs.declared.Limits.{Limits}
@@ -105,6 +105,7 @@ module _ (t made code tables : List ℕ) (at : ℕ) (c : Counts) (l : Limits) (s
         base = s.base;
         made-count = s.made-count;
         names = subst (Every (MadeWithin made c.made)) (sym (kept-below 0 c.symbols (omega (arith, s.symbols, s.limited.symbols)))) s.names;
+        heads = subst (Every (NamedWithin c.symbols)) (sym (kept-below heads_from c.functions (omega (arith, s.functions, s.limited.functions)))) s.heads;
         codes = subst (Every (EndsWithin c.done)) (sym k) s.codes;
         class-methods = subst (Every (EndsWithin c.methods)) (sym places-after) (every-snoc s.class-methods (omega arith));
         finished = s.finished ∙ sym (ap total k);
@@ -172,6 +173,7 @@ module _ (t made code tables : List ℕ) (i : ℕ) (c : Counts) (l : Limits) (s 
         base = s.base;
         made-count = s.made-count;
         names = subst (Every (MadeWithin made c.made)) (sym (kept 0 c.symbols (omega (arith, s.symbols, s.limited.symbols)))) s.names;
+        heads = subst (Every (NamedWithin c.symbols)) (sym (kept heads_from c.functions (omega (arith, s.functions, s.limited.functions)))) s.heads;
         codes = subst (Every (EndsWithin c.done)) (sym k) s.codes;
         class-methods = subst (Every (EndsWithin c.methods)) (sym (kept class_methods_from c.classes (omega (arith, s.classes, s.limited.classes)))) s.class-methods;
         finished = s.finished ∙ sym (ap total k);
@@ -304,6 +306,7 @@ module _ (t made code tables list : List ℕ) (i at n w : ℕ) (c : Counts) (l :
         base = s.base;
         made-count = s.made-count;
         names = subst (Every (MadeWithin made c.made)) (sym (all-below 0 c.symbols (omega (arith, s.symbols, s.limited.symbols)))) s.names;
+        heads = subst (Every (NamedWithin c.symbols)) (sym (all-below heads_from c.functions (omega (arith, s.functions, s.limited.functions)))) s.heads;
         codes = subst (Every (EndsWithin c.done)) (sym k) s.codes;
         class-methods = subst (Every (EndsWithin (c.methods + n))) (sym places-all)
             (every_set i w (omega (arith, place-of, count-of)) (every_map (λ k h. ends-within-more c.methods (c.methods + n) k (omega arith) h) s.class-methods));

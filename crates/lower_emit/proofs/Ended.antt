@@ -9,7 +9,7 @@ use lib.Seq.{paste, length-paste, take-take}
 use Rattle.definitions.specs.Tables.{set_code}
 use Rattle.state.specs.Words.{region, text_at, instr_of, instrs_of}
 use Rattle.state.specs.State.{strings_from, heads_from, codes_from, class_names_from, class_methods_from, methods_from, constants_from, done_from, place_of, count_of, spelled, function_of}
-use Rattle.state.specs.State.{functions_of, classes_of, tables_of, state_of, Every, every, EndsWithin, MadeWithin, total, Sound, symbol_index_from, symbol_buckets, string_index_from}
+use Rattle.state.specs.State.{functions_of, classes_of, tables_of, state_of, Every, every, EndsWithin, MadeWithin, NamedWithin, total, Sound, symbol_index_from, symbol_buckets, string_index_from}
 use Rattle.state.specs.State.{string_buckets}
 use Rattle.state.specs.Steps.{ended}
 use Rattle.state.specs.declared.Counts.{Counts}
@@ -133,6 +133,7 @@ module _ (t made code tables : List ℕ) (f b w : ℕ) (c : Counts) (l : Limits)
           base = around;
           made-count = s.made-count;
           names = subst (Every (MadeWithin made c.made)) (sym (kept-below 0 c.symbols (omega (arith, s.symbols, s.limited.symbols)))) s.names;
+          heads = subst (Every (NamedWithin c.symbols)) (sym (kept-below heads_from c.functions (omega arith))) s.heads;
           codes = subst (Every (EndsWithin (c.done + n))) (sym codes-after)
               (every_set f w (omega (arith, place-of, count-of)) (every_map (λ k h. ends-within-more c.done (c.done + n) k (omega arith) h) s.codes));
           class-methods = subst (Every (EndsWithin c.methods)) (sym (kept_above class_methods_from c.classes (omega arith))) s.class-methods;

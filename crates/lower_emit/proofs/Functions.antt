@@ -31,7 +31,7 @@ module _ (t made code tables : List ℕ) (c : Counts) (l : Limits) (n : ℕ) (wa
   unfolding Begins
   begins-over h = h
 
-pub begun-lifts : {r : Option ℕ} {t : List ℕ} {a b : Emitter} {sy ar lo : ℕ} → SoundIn t a → sy < 65536 → ar < 256 → lo < 256 → Begun r sy ar lo a b
+pub begun-lifts : {r : Option ℕ} {t : List ℕ} {a b : Emitter} {sy ar lo : ℕ} → SoundIn t a → sy < a.tables.names.symbols.count → ar < 256 → lo < 256 → Begun r sy ar lo a b
     → BeginsIn r (length (state_in t a).tables.functions) t a b (begun_with sy ar lo (state_in t a))
 begun-lifts {r} {t} {a} {b} {sy} {ar} {lo} S x y z h =
     let c = counts_of a in

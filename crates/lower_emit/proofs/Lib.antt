@@ -7,11 +7,11 @@ pub mod Ended
 pub mod ClassTables
 pub mod Steps
 pub mod Functions
-pub mod ShortcutWords
 pub mod Sequence
-pub mod Shortcuts
 pub mod Answering
 pub mod SetJumps
 pub mod Writing
 pub mod Ends
 pub mod Parts
+pub mod Spelled
+pub mod Over

@@ -42,6 +42,7 @@ sound-open t made code code' tables c l n s e b w = record {
   base = b;
   made-count = s.made-count;
   names = s.names;
+  heads = s.heads;
   codes = s.codes;
   class-methods = s.class-methods;
   finished = s.finished;

@@ -1,32 +1,27 @@
--- Steps of an emitter, by the laws of the state: a word, the end of a shortcut, and one part after another.
-use Prim.Native.Nat.{ℕ, ◌+◌, ◌-◌, ◌<◌, ◌≤◌}
+-- Steps of an emitter, by the laws of the state: a word, and one part after another.
+use Prim.Native.Nat.{ℕ, ◌+◌, ◌<◌, ◌≤◌}
 use mathlib.Core.Path.{◌≡◌, refl, sym, ap, subst, ◌∙◌}
-use mathlib.Core.List.{List, [], ◌∷◌, ◌++◌}
-use native.Mathlib.Omega.{arith}
-use lib.ListN.{set, length-append}
+use mathlib.Core.List.{List, []}
+use lib.ListN.{set}
 use Rattle.std.specs.Prelude.{Option, Some, None}
 use Rattle.std.proofs.lemmas.Option.{none-some}
-use Rattle.definitions.specs.Instruction.{Instr, instr}
+use Rattle.definitions.specs.Instruction.{Instr}
 use Rattle.definitions.specs.Tables.{Emit, emits, one, ◌⨟◌}
-use Rattle.state.specs.Words.{instr_of, word}
+use Rattle.state.specs.Words.{instr_of}
 use Rattle.state.specs.State.{State, emit_at, state_of, Within, Sound, Left, Emits}
 use Rattle.state.specs.declared.Counts.{Counts}
 use Rattle.state.specs.declared.Limits.{Limits}
 use Rattle.state.specs.Answered.{Emitted, Done, Full}
 use Rattle.state.proofs.Answers.{emits-done, emits-full, full-emits, done-emits, left-after, left-none, left_as, base-below}
-use Rattle.state.proofs.Views.{stack-length, instruction-count}
-use Rattle.state.proofs.Emission.{at_one, at-seq, at-nothing}
+use Rattle.state.proofs.Emission.{at-seq, at-nothing}
 use Rattle.state.proofs.Growth.{Lengthens}
-use Rattle.state.proofs.Within.{within-set, within_first}
+use Rattle.state.proofs.Within.{within_first}
 use Rattle.lower_emit.specs.Nesting.{with_open}
 use Rattle.lower_emit.specs.declared.emitter.Code.{Code}
 use Rattle.lower_emit.specs.declared.emitter.Tables.{Tables}
 use Rattle.lower_emit.specs.declared.emitter.Emitter.{Emitter}
-use Rattle.lower_emit.specs.Emitting.{counts_of, limits_in, state_in, SoundIn, beside, SameAreas, LeftIn, Reaches, LowersIn, CodeKept, Puts, ShortcutEnd, Writes}
-use Rattle.lower_emit.proofs.Packing.{instr-jump, instr-plain, plain-below}
+use Rattle.lower_emit.specs.Emitting.{counts_of, limits_in, state_in, SoundIn, beside, SameAreas, LeftIn, Reaches, LowersIn, CodeKept, Puts, Writes}
 use Rattle.lower_emit.proofs.Putting.{put-more, put_full, emits-instr}
-use Rattle.lower_emit.proofs.Patching.{jump-set}
-use Rattle.lower_emit.proofs.Shortcuts.{end_at, end-done}
 
 pub some-is : {m n : ℕ} → Some m ≡ Some n → m ≡ n
 some-is {m} e = ap (λ (o : Option ℕ). elim o [ Some k ↦ k | None ↦ m ]) e
@@ -133,51 +128,6 @@ module _ {tree : List ℕ} {a b : Emitter} (S : SoundIn tree a) (same : b.tables
 
   pub writes-in : {A : Type 0} {r : Option A} {x : Emit} → Writes r x a.code b.code → LowersIn r x tree a b
   writes-in {A} {r} {x} h = by-tables (λ (z : Emitter). LowersIn r x tree a z) a b same (h.lowers tree a.tables S)
-
--- ---- the end of `and` and `or`
-
-module _ {tree : List ℕ} (a : Code) (ts : Tables) (op from : ℕ) (S : SoundIn tree (beside a ts)) (before : from < a.open) (lo : 29 ≤ op) (hi : op ≤ 30) where
-  abbrev c : Counts
-  c = counts_of (beside a ts)
-
-  abbrev l : Limits
-  l = limits_in (beside a ts)
-
-  abbrev s : State
-  s = state_in tree (beside a ts)
-
-  too_long : a.limit ≤ a.open + 1 + a.done → Within l (end_at a.base from op (a.open - from) s) → ⊥
-  too_long h w =
-      let i : Instr = instr 28 1 0 in
-      let j : Instr = instr (33 - op) 0 0 in
-      let two = subst (Within l) (at_one a.base j _ ∙ ap (λ (u : State). record { stack = u.stack ++ j ∷ []; tables = u.tables }) (at_one a.base i s)) (within-set from (instr op (a.open - from) 0) _ w) in
-      let n = stack-length tree ts.names.made.now a.words.now ts.entries.words.now c l S.sound in
-      let m = instruction-count tree ts.names.made.now a.words.now ts.entries.words.now c l S.sound in
-      omega (arith, two.instructions, length-append (s.stack ++ i ∷ []) (j ∷ []), length-append s.stack (i ∷ []))
-
-  shortcut-left : a.open + 1 + a.done < a.limit
-      → Left (with_open (a.open + 1 + 1) c) tree ts.names.made.now (set (set (set a.words.now a.open (word 28 1 0)) (a.open + 1) (word (33 - op) 0 0)) from (word op (a.open - from) 0)) ts.entries.words.now c l
-      (end_at a.base from op (a.open - from) s)
-  shortcut-left room =
-      let t = ts.names.made.now in
-      let f = put-left tree t a.words.now ts.entries.words.now (word 28 1 0) (instr 28 1 0) c l S.sound (instr-jump tree 28 1 (omega arith) (omega arith) (omega arith)) (omega (arith, room)) in
-      let g = put-left tree t _ ts.entries.words.now (word (33 - op) 0 0) (instr (33 - op) 0 0) _ l f.sound (instr-plain tree (33 - op) 0 0 (plain-below (33 - op) 0 0 (omega arith) (omega arith) (omega arith) (omega arith)))
-      (omega (arith, room)) in
-      let j = jump-set tree t _ ts.entries.words.now from op (a.open - from) (word op (a.open - from) 0) _ l g.sound (omega arith) (omega arith) hi (omega (arith, S.sound.words, S.sound.limited.instructions)) refl in
-      (emits-done tree t _ ts.entries.words.now c l 0 _ _ 0 _ refl (end-done tree t a.words.now ts.entries.words.now c l from op 0 _ _ f 0 (a.open - from) _ _ _ g j refl)).1
-
-  pub shortcut-beside : {A : Type 0} {b : Code} (r : Option A) → ShortcutEnd r op from a b → Reaches r tree (beside a ts) (beside b ts) (end_at a.base from op (a.open - from) s)
-  shortcut-beside r h = record {
-    done = λ x z. left-code h.kept (h.size x z ∙ omega arith) (h.words x z) (shortcut-left (h.room x z));
-    full = λ z. too_long (h.full z);
-    limits = limits-code ts h.kept;
-    areas = areas-code ts h.kept;
-  }
-
-pub shortcut-lifts : {A : Type 0} {r : Option A} {tree : List ℕ} {a b : Emitter} (op from : ℕ) → SoundIn tree a → b.tables ≡ a.tables → from < a.code.open → 29 ≤ op → op ≤ 30
-    → ShortcutEnd r op from a.code b.code → Reaches r tree a b (end_at a.code.base from op (a.code.open - from) (state_in tree a))
-shortcut-lifts {A} {r} {tree} {a} {b} op from S same before lo hi h =
-    by-tables (λ (z : Emitter). Reaches r tree a z (end_at a.code.base from op (a.code.open - from) (state_in tree a))) a b same (shortcut-beside a.code a.tables op from S before lo hi r h)
 
 -- ---- one part after another
 

@@ -7,7 +7,6 @@ use Rattle.state.specs.Words.{word}
 use Rattle.state.specs.declared.Counts.{Counts}
 use Rattle.state.specs.declared.Limits.{Limits}
 use Rattle.lower_emit.specs.Nesting.{one_more, without, Moved}
-use Rattle.lower_emit.specs.Shortcut.{shortcut_words}
 use Rattle.lower_emit.specs.declared.emitter.Code.{Code}
 use Rattle.lower_emit.specs.declared.emitter.Used.{Used}
 use Rattle.lower_emit.specs.declared.emitter.Names.{Names}
@@ -143,11 +142,11 @@ pub record Puts {A : Type 0} (r : Option A) (w : ℕ) (a b : Code) : Type 0 wher
   pub full : r ≡ None → a.limit ≤ a.open + a.done
   pub kept : CodeKept a b
 
-pub record ShortcutEnd {A : Type 0} (r : Option A) (op from : ℕ) (a b : Code) : Type 0 where
-  pub room : (x : A) → r ≡ Some x → a.open + 1 + a.done < a.limit
-  pub words : (x : A) → r ≡ Some x → b.words.now ≡ shortcut_words a.words.now op from a.open
-  pub size : (x : A) → r ≡ Some x → b.open ≡ a.open + 2
-  pub full : r ≡ None → a.limit ≤ a.open + 1 + a.done
+-- a jump over n instructions and the jump after them
+pub record PutsOver {A : Type 0} (r : Option A) (op n : ℕ) (a b : Code) : Type 0 where
+  pub puts : (x : A) → r ≡ Some x → Puts r (word op (n + 1) 0) a b
+  pub few : (x : A) → r ≡ Some x → n < a.limit
+  pub full : r ≡ None → a.limit ≤ a.open + a.done + n
   pub kept : CodeKept a b
 
 pub record SetsJump (j op d : ℕ) (a b : Code) : Type 0 where

@@ -1,7 +1,6 @@
 pub mod Ops
 pub mod Patch
 pub mod Nesting
-pub mod Shortcut
 pub mod Step
 pub mod Emitting
 pub mod Ends

@@ -7,10 +7,9 @@ pub mod jumps; // jumps.rt: the ends of branches and loops
 
 ghost use Rattle.std.specs.Prelude.{◌≡◌, ◌+◌, ◌-◌, ◌<◌, ◌≤◌, length};
 ghost use Rattle.state.specs.Words.{word};
-ghost use Rattle.lower_emit.specs.Emitting.{Puts, ShortcutEnd, Finishes, Heads, Codes, Begun, Ended, counts_of, limits_in};
+ghost use Rattle.lower_emit.specs.Emitting.{Puts, PutsOver, Finishes, Heads, Codes, Begun, Ended, counts_of, limits_in};
 
 use emitter::{Code, Emitter, Entries, Names, Tables, Used};
-use numerals::ops::{JUMP, SHORT};
 use numerals::places::{CODES_FROM, FINISHED_FROM, HEADS_FROM, UPPER, WORD_FIRST, WORD_OP};
 use numerals::sizes::MADE_ROOM;
 pub use numerals::{ops, places};
@@ -45,20 +44,15 @@ impl<'a> Code<'a> {
         self.put(packed(op, a, b))
     }
 
-    // The end of `and` (op JumpIfFalse) or `or` (op JumpIfTrue) after its right side: over the constant, the constant, and the jump at `from` to it.
-    pub fn end_shortcut(&mut self, from: u32, op: u32) -> Option<()>
-        requires { (from < self.old.open) × (29 ≤ op) × (op ≤ 30) }
-        ensures { ShortcutEnd result op from self.old self.new }
+    // A conditional jump over n instructions and the jump after them; none where these are more than the limit.
+    pub fn put_over(&mut self, op: u32, n: u32) -> Option<()>
+        requires { op < 256 }
+        ensures { PutsOver result op n self.old self.new }
     {
-        let m = self.open;
-        if self.limit <= m + 1 + self.done {
+        if self.limit <= n {
             return None;
         }
-        self.words[m as usize] = packed(JUMP, 1, 0);
-        self.words[m as usize + 1] = packed(SHORT - op, 0, 0);
-        self.words[from as usize] = packed(op, m - from, 0);
-        self.open = m + 2;
-        Some(())
+        self.put_op(op, n + 1, 0)
     }
 
     // How many words the innermost function has: they move to the finished ones. The function around it begins at `base`.

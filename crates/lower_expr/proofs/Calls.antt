@@ -34,7 +34,7 @@ use Rattle.lower_forms.proofs.CallForms.{call_expr, named-args}
 -- ---- by name
 
 -- parts that give the same at the state's place and tables
-at_same : (base : ℕ) (e f : Emit) (s : State) → e (length s.stack - base) s.tables ≡ f (length s.stack - base) s.tables → emit_at base e s ≡ emit_at base f s
+pub at_same : (base : ℕ) (e f : Emit) (s : State) → e (length s.stack - base) s.tables ≡ f (length s.stack - base) s.tables → emit_at base e s ≡ emit_at base f s
 unfolding emit_at
 at_same base e f s h = ap (λ (o : Out). record { stack = s.stack ++ o.code; tables = o.tables }) h
 

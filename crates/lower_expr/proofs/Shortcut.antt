@@ -1,111 +1,126 @@
--- `and` and `or`, by the laws of the state.
-use Prim.Native.Nat.{ℕ, ◌≤◌, ◌<◌}
-use mathlib.Core.Path.{◌≡◌, refl, sym, ap, subst, ◌∙◌}
-use mathlib.Core.List.{List}
+-- `and` and `or`, written by the measure of their right side.
+use Prim.Native.Nat.{ℕ, suc, ◌+◌, ◌-◌, ◌≤◌, ◌<◌}
+use mathlib.Core.Path.{◌≡◌, refl, sym, ap, ◌∙◌}
+use mathlib.Core.Bool.{Bool, true, false}
+use mathlib.Core.List.{List, [], ◌∷◌, ◌++◌}
 use native.Mathlib.Omega.{arith}
+use native.Mathlib.Numerals.{add-one}
 use lib.Dec.{eqb}
+use lib.ListN.{length, length-append}
+use borrow.Author.Tests.{eqb-true, eqb-false}
 use Rattle.std.specs.Prelude.{Option, Some, None}
-use Rattle.std.proofs.lemmas.Option.{none-some}
-use Rattle.definitions.specs.Instruction.{instr}
-use Rattle.definitions.specs.Tables.{Emit, one}
-use Rattle.definitions.specs.Lower.{shortcut}
+use Rattle.definitions.specs.Bytes.{Name}
+use Rattle.definitions.specs.Instruction.{instr, Jump, ConstBool}
+use Rattle.definitions.specs.Tables.{Emit, emits, one, ◌⨟◌}
+use Rattle.definitions.specs.Lower.{jump_on, shortcut}
+use Rattle.definitions.specs.Measured.{so_far, measure_expr}
+use Rattle.definitions.proofs.Measured.{measures}
+use Rattle.exprs.specs.ExprAt.{expr_at}
 use Rattle.state.specs.Words.{word}
-use Rattle.state.specs.State.{State, emit_at, Left, Emits}
-use Rattle.state.specs.Answered.{Full}
-use Rattle.state.specs.declared.Limits.{Limits}
-use Rattle.state.proofs.Answers.{emits-done, emits-full}
-use Rattle.state.proofs.Growth.{Lengthens}
+use Rattle.state.specs.State.{State, emit_at}
+use Rattle.state.proofs.Growth.{lengthens-one, lengthens-emits, lengthens-expr, lengthens-shortcut}
+use Rattle.lower_forms.specs.Lowerable.{of_names, Lowerable, expr_code}
 use Rattle.lower_emit.specs.declared.emitter.Code.{Code}
 use Rattle.lower_emit.specs.declared.emitter.Emitter.{Emitter}
-use Rattle.lower_emit.specs.Emitting.{counts_of, limits_in, state_in, SoundIn, beside, SameAreas, LeftIn, Reaches, LowersIn, EmitsTo, Puts, ShortcutEnd}
-use Rattle.lower_emit.proofs.Packing.{instr-jump}
-use Rattle.lower_emit.proofs.Shortcuts.{shortcut-full, shortcut-right, shortcut-end, open-one, open-grows}
-use Rattle.lower_emit.proofs.Steps.{answered, emits-in, limits-code, areas-after, areas-code, put-lifts, sound-next, shortcut-lifts}
+use Rattle.lower_emit.specs.Emitting.{state_in, SoundIn, beside, LowersIn, EmitsTo, Puts, PutsOver}
+use Rattle.lower_emit.proofs.Over.{code_in, over-put, over-none}
+use Rattle.lower_emit.proofs.Packing.{instr-jump, instr-plain, plain-below}
+use Rattle.lower_emit.proofs.Parts.{emits-words, emits-no-words, emits-stopped, words_then, emits-state}
+use Rattle.lower_emit.proofs.Spelled.{names-in}
+use Rattle.lower_emit.proofs.Steps.{put-lifts, sound-next, lowers_then, lowers-stopped, lowers-by}
 
-answered-none : {A : Type 0} {r : Option A} (q : ℕ) (b : Emitter) → r ≡ None → answered r q (counts_of b) ≡ Full
-unfolding answered
-answered-none q b z = ap (λ r. answered r q (counts_of b)) z
+-- ---- the instructions by the opcode of the jump
 
--- a step under limits by other words
-emits_under : {A : Type 0} {r : Option A} {tree : List ℕ} {a b : Emitter} {l : Limits} {want : State} (q : ℕ) → limits_in a ≡ l → Reaches r tree a b want
-    → Emits (answered r q (counts_of b)) tree b.tables.names.made.now b.code.words.now b.tables.entries.words.now (counts_of a) l q want
-emits_under {r = r} {tree} {a} {b} {l} {want} q e h =
-    subst (λ (m : Limits). Emits (answered r q (counts_of b)) tree b.tables.names.made.now b.code.words.now b.tables.entries.words.now (counts_of a) m q want) e (emits-in h q)
+jump-is : (op n : ℕ) → 29 ≤ op → op ≤ 30 → jump_on (eqb op 30) (suc n) ≡ instr op (n + 1) 0
+unfolding jump_on
+jump-is op n lo hi = go (eqb op 30) refl
+  where
+    go : (b : Bool) → eqb op 30 ≡ b → jump_on b (suc n) ≡ instr op (n + 1) 0
+    go true e = let z = eqb-true op 30 e in λ i. instr (sym z i) (sym (add-one n) i) 0
+    go false e = let f = eqb-false op 30 e in let z : 29 ≡ op = omega arith in λ i. instr (z i) (sym (add-one n) i) 0
 
-left_under : {tree : List ℕ} {a b : Emitter} {l : Limits} {want : State} → limits_in a ≡ l → LeftIn tree a b want
-    → Left (counts_of b) tree b.tables.names.made.now b.code.words.now b.tables.entries.words.now (counts_of a) l want
-left_under {tree} {a} {b} {l} {want} e h =
-    subst (λ (m : Limits). Left (counts_of b) tree b.tables.names.made.now b.code.words.now b.tables.entries.words.now (counts_of a) m want) e h.left
+constant-is : (op : ℕ) → 29 ≤ op → op ≤ 30 → ConstBool (eqb op 30) ≡ instr (33 - op) 0 0
+constant-is op lo hi = go (eqb op 30) refl
+  where
+    go : (b : Bool) → eqb op 30 ≡ b → ConstBool b ≡ instr (33 - op) 0 0
+    go true e = let z = eqb-true op 30 e in let f : 3 ≡ 33 - op = omega arith in ap (λ (k : ℕ). instr k 0 0) f
+    go false e = let z = eqb-false op 30 e in let f : 4 ≡ 33 - op = omega arith in ap (λ (k : ℕ). instr k 0 0) f
 
--- an answer of the state's laws, whose position is `next`
-ends_at : {A : Type 0} {tree : List ℕ} {a b : Emitter} {want : State} (r : Option A) (n next : ℕ) → limits_in b ≡ limits_in a → SameAreas a b
-    → Emits (answered r n (counts_of b)) tree b.tables.names.made.now b.code.words.now b.tables.entries.words.now (counts_of a) (limits_in a) next want → Reaches r tree a b want
-unfolding answered
-ends_at None n next m k h = record { done = λ x e. absurd (none-some x e); full = λ e. emits-full _ _ _ _ _ _ next _ _ refl h; limits = m; areas = k }
-ends_at (Some x) n next m k h = record { done = λ y e. record { left = (emits-done _ _ _ _ _ _ next _ _ n _ refl h).1 }; full = λ e. absurd (none-some x (sym e)); limits = m; areas = k }
+-- a jump over the constant, and the constant
+abbrev end_words : Bool → Emit
+end_words b = emits (Jump 1 ∷ ConstBool b ∷ [])
 
-module _ {A : Type 0} {u : Option A} {t : List ℕ} {a : Emitter} {c : Code} {op : ℕ} (S : SoundIn t a) (lo : 29 ≤ op) (hi : op ≤ 30) (g : Puts u (word op 0 0) a.code c) where
-  abbrev m : Emitter
-  m = beside c a.tables
+two-words : (b : Bool) → end_words b ≡ one (Jump 1) ⨟ one (ConstBool b)
+unfolding ◌⨟◌ emits
+two-words b = refl
 
-  -- the jump, without its distance yet
-  pub jump : LowersIn u (one (instr op 0 0)) t a m
-  jump = put-lifts S refl (instr-jump t op 0 (omega arith) hi (omega arith)) g
+module _ {d : ℕ} {t : List ℕ} {p op n : ℕ} {a : Emitter} (names : List Name) (S : SoundIn t a) (L : Lowerable d t p) (lo : 29 ≤ op) (hi : op ≤ 30)
+    (size : n ≡ measure_expr names (so_far (state_in t a).tables) (expr_at d t p).value) where
+  abbrev right : Emit
+  right = expr_code d t names p
 
-  same : limits_in m ≡ limits_in a
-  same = limits-code a.tables g.kept
+  -- the jump over it, the right side, and the jump over the constant
+  abbrev short : Emit
+  short = one (jump_on (eqb op 30) (suc n)) ⨟ right ⨟ end_words (eqb op 30)
 
-  pub shortcut-none : {q : Option ℕ} {next : ℕ} (e : Emit) → Lengthens e → u ≡ None → q ≡ None → EmitsTo q (shortcut (eqb op 30) e) next t a m
-  shortcut-none {q = q} {next = next} e E z y = record {
-    place = λ k p. absurd (none-some k (sym y ∙ p));
-    lowers = record {
-      reaches = record {
-        done = λ k p. absurd (none-some k (sym y ∙ p));
-        full = λ p. emits-full t a.tables.names.made.now c.words.now a.tables.entries.words.now (counts_of a) (limits_in a) next _ Full refl
-            (shortcut-full t a.tables.names.made.now a.code.words.now a.tables.entries.words.now (counts_of a) (limits_in a) S.sound op lo hi e next (answered u 0 (counts_of m)) 0 c.words.now E (answered-none 0 m z) (emits-in jump.reaches 0));
-        limits = same;
-        areas = areas-code a.tables g.kept;
-      };
-    };
-  }
+  -- where the right side is about to be written
+  abbrev place : ℕ
+  place = length (state_in t a).stack - a.code.base
 
-  module _ {x : A} (y : u ≡ Some x) {b : Emitter} {r : Option ℕ} {next : ℕ} {e : Emit} (h : EmitsTo r e next t m b) where
-    abbrev first : Left (counts_of m) t m.tables.names.made.now m.code.words.now m.tables.entries.words.now (counts_of a) (limits_in a) (emit_at a.code.base (one (instr op 0 0)) (state_in t a))
-    first = (jump.reaches.done x y).left
+  measured : length (right (suc place) (state_in t a).tables).code ≡ n
+  measured = measures.expression names (expr_at d t p).value (L.asks 7 of_names) (suc place) (state_in t a).tables (names-in S) ∙ sym size
 
-    pub shortcut-stopped : {q : Option ℕ} → r ≡ None → q ≡ None → EmitsTo q (shortcut (eqb op 30) e) next t a b
-    shortcut-stopped {q = q} z w = record {
-      place = λ k p. absurd (none-some k (sym w ∙ p));
-      lowers = record {
-        reaches = record {
-          done = λ k p. absurd (none-some k (sym w ∙ p));
-          full = λ p. emits-full t b.tables.names.made.now b.code.words.now b.tables.entries.words.now (counts_of a) (limits_in a) next _ Full refl
-              (shortcut-right t a.tables.names.made.now a.code.words.now a.tables.entries.words.now (counts_of a) (limits_in a) S.sound op lo hi e next m.tables.names.made.now m.code.words.now m.tables.entries.words.now (counts_of m) first
-              (answered r 0 (counts_of b)) 0 b.tables.names.made.now b.code.words.now b.tables.entries.words.now (answered-none 0 b z) (emits_under 0 same h.lowers.reaches));
-          limits = h.lowers.reaches.limits ∙ same;
-          areas = areas-after (areas-code a.tables g.kept) h.lowers.reaches.areas;
-        };
-      };
-    }
+  written : emit_at a.code.base (shortcut (eqb op 30) right) (state_in t a) ≡ emit_at a.code.base short (state_in t a)
+  unfolding emit_at shortcut ◌⨟◌ emits
+  written =
+      let s = state_in t a in
+      let around : ℕ → ℕ → State = λ m q. record {
+        stack = s.stack ++ (jump_on (eqb op 30) (suc m) ∷ ((right q s.tables).code ++ (Jump 1 ∷ ConstBool (eqb op 30) ∷ [])));
+        tables = (right q s.tables).tables;
+      } in
+      ap (λ (m : ℕ). around m (suc place)) measured ∙ ap (around n) (sym (add-one place))
 
-    module _ {n : ℕ} (z : r ≡ Some n) where
-      second : Left (counts_of b) t b.tables.names.made.now b.code.words.now b.tables.entries.words.now (counts_of m) (limits_in a) (emit_at m.code.base e (state_in t m))
-      second = left_under same (h.lowers.reaches.done n z)
+  long : n < code_in t a (shortcut (eqb op 30) right)
+  unfolding shortcut
+  long = omega (arith, measured, length-append (right (suc place) (state_in t a).tables).code (Jump 1 ∷ ConstBool (eqb op 30) ∷ []))
 
-      pub shortcut-before : a.code.open < b.code.open
-      shortcut-before =
-          let p = open-one t a.tables.names.made.now a.code.words.now a.tables.entries.words.now m.tables.names.made.now m.code.words.now m.tables.entries.words.now (counts_of a) (counts_of m) (limits_in a) (instr op 0 0) S.sound first in
-          let q = open-grows t m.tables.names.made.now m.code.words.now m.tables.entries.words.now b.tables.names.made.now b.code.words.now b.tables.entries.words.now (counts_of m) (counts_of b) (limits_in a) e first.sound second in
-          omega arith
+  by-measure : {r : Option ℕ} {next : ℕ} {b : Emitter} → EmitsTo r short next t a b → EmitsTo r (shortcut (eqb op 30) right) next t a b
+  by-measure h = emits-state h written refl
 
-      module _ {B : Type 0} {w : Option B} {d : Code} (v : ShortcutEnd w op a.code.open b.code d) where
-        pub shortcut-ends : LowersIn w (shortcut (eqb op 30) e) t a (beside d b.tables)
-        shortcut-ends =
-            let c₃ = beside d b.tables in
-            let k = shortcut-lifts op a.code.open (sound-next z h.lowers.reaches) refl shortcut-before lo hi v in
-            let l : limits_in b ≡ limits_in a = h.lowers.reaches.limits ∙ same in
-            record {
-              reaches = ends_at w n next (k.limits ∙ l) (areas-after (areas-after (areas-code a.tables g.kept) h.lowers.reaches.areas) k.areas)
-                  (shortcut-end t a.tables.names.made.now a.code.words.now a.tables.entries.words.now (counts_of a) (limits_in a) S.sound op lo hi e next m.tables.names.made.now m.code.words.now m.tables.entries.words.now (counts_of m) first
-                  (answered w n (counts_of c₃)) n b.tables.names.made.now b.code.words.now b.tables.entries.words.now d.words.now (counts_of b) second (h.place n z) (emits_under n l k));
-            }
+  module _ {A : Type 0} {u : Option A} {c : Code} (g : PutsOver u op n a.code c) where
+    pub shortcut-none : {q : Option ℕ} {next : ℕ} → u ≡ None → q ≡ None → EmitsTo q (shortcut (eqb op 30) right) next t a (beside c a.tables)
+    shortcut-none z y = over-none S g (lengthens-shortcut (eqb op 30) (lengthens-expr names (expr_at d t p).value)) long z y
+
+    module _ {x : A} (z : u ≡ Some x) where
+      jump : LowersIn u (one (jump_on (eqb op 30) (suc n))) t a (beside c a.tables)
+      jump = lowers-by (over-put S g lo hi z) (ap one (jump-is op n lo hi))
+
+      pub sound-over : SoundIn t (beside c a.tables)
+      sound-over = sound-next z jump.reaches
+
+      module _ {r : Option ℕ} {next : ℕ} {b : Emitter} (h : EmitsTo r right next t (beside c a.tables) b) where
+        pub shortcut-stopped : {q : Option ℕ} → r ≡ None → q ≡ None → EmitsTo q (shortcut (eqb op 30) right) next t a b
+        shortcut-stopped y w = by-measure (words_then z S jump (emits-stopped y w sound-over (lengthens-emits _) h))
+
+        module _ {m : ℕ} (y : r ≡ Some m) {B : Type 0} {v : Option B} {f : Code} (k : Puts v (word 28 1 0) b.code f) where
+          sound : SoundIn t b
+          sound = sound-next y h.lowers.reaches
+
+          first : LowersIn v (one (Jump 1)) t b (beside f b.tables)
+          first = put-lifts sound refl (instr-jump t 28 1 (omega arith) (omega arith) (omega arith)) k
+
+          pub shortcut-long : {q : Option ℕ} → v ≡ None → q ≡ None → EmitsTo q (shortcut (eqb op 30) right) next t a (beside f b.tables)
+          shortcut-long {q} w e =
+              by-measure (words_then z S jump (emits-no-words y w e sound-over h (lowers-by (lowers-stopped w w sound (lengthens-one (ConstBool (eqb op 30))) first) (two-words (eqb op 30)))))
+
+          module _ {o : B} (w : v ≡ Some o) {C : Type 0} {s : Option C} {j : Code} (l : Puts s (word (33 - op) 0 0) f j) where
+            second : LowersIn s (end_words (eqb op 30)) t b (beside j b.tables)
+            second =
+                let is = instr-plain t (33 - op) 0 0 (plain-below (33 - op) 0 0 (omega arith) (omega arith) (omega arith) (omega arith)) in
+                lowers-by (lowers_then w sound first (lowers-by (put-lifts (sound-next w first.reaches) refl is l) (ap one (constant-is op lo hi)))) (two-words (eqb op 30))
+
+            pub shortcut-over : {q : Option ℕ} → s ≡ None → q ≡ None → EmitsTo q (shortcut (eqb op 30) right) next t a (beside j b.tables)
+            shortcut-over e i = by-measure (words_then z S jump (emits-no-words y e i sound-over h second))
+
+            pub shortcut-ends : {i : C} → s ≡ Some i → EmitsTo (Some m) (shortcut (eqb op 30) right) next t a (beside j b.tables)
+            shortcut-ends e = by-measure (words_then z S jump (emits-words y e sound-over h second))

@@ -3,6 +3,8 @@
 // of the tree (Lowerable and the like) is said of the place that a call names, so it belongs to no value that lives on.
 #![tactic(auto)]
 
+pub mod measuring; // measuring.rt: what measures a part
+
 ghost use Rattle.std.specs.Prelude.{List, ◌≡◌, ◌+◌, ◌-◌, ◌≤◌, eqb, get_or, drop};
 ghost use Rattle.definitions.specs.Bytes.{Name};
 ghost use Rattle.definitions.specs.Instruction.{instr, Build, LoadAttr};
@@ -28,9 +30,10 @@ use lower_leaves::closures::{end_closure, end_lambda, start_lambda};
 use lower_leaves::constants::put_constants;
 use lower_leaves::literals::emit_literal;
 use lower_names::{Callee, emit_load, emit_symbol, load_callee, put_call, resolve};
+use measuring::expr_size;
 use numerals::kinds::ExprKind;
 use numerals::operators;
-use numerals::ops::{CALL_METHOD, LOAD_ATTR, LOAD_INDEX, LOGICAL};
+use numerals::ops::{CALL_METHOD, JUMP, LOAD_ATTR, LOAD_INDEX, LOGICAL, SHORT};
 use numerals::places::SLOTS_FROM;
 use numerals::sizes::SLOTS_ROOM;
 use opcodes::{binary_code, build_code, held, unary_code};
@@ -163,17 +166,18 @@ fn emit_logical(s: Scope<'_>, e: &mut Emitter<'_>, at: usize, depth: u32, op: u3
     emit_shortcut(s, e, middle, depth, op)
 }
 
-// The right side of `and` or `or`, which a jump passes on the short way.
+// The right side of `and` or `or`: the short way goes over it to the constant.
 #[cycle(emit)]
 fn emit_shortcut(s: Scope<'_>, e: &mut Emitter<'_>, at: usize, depth: u32, op: u32) -> Option<usize>
     requires { SoleIn s.tree.now e.old × Lowerable depth s.tree.now at × (29 ≤ op) × (op ≤ 30) }
     ensures { let t = s.entry.tree.now in let names = slot_names t s.entry.slots.now in
         EmitsTo result (shortcut (eqb op 30) (expr_code depth t names at)) (expr_at depth t at).end t e.old e.new }
 {
-    let from = e.code.open;
-    e.code.put_op(op, 0, 0)?;
+    let size = expr_size(s, e, at, depth);
+    e.code.put_over(op, size)?;
     let next = emit_expr(s, e, at, depth)?;
-    e.code.end_shortcut(from, op)?;
+    e.code.put_op(JUMP, 1, 0)?;
+    e.code.put_op(SHORT - op, 0, 0)?;
     Some(next)
 }
 

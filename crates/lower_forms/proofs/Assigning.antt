@@ -15,7 +15,7 @@ use Rattle.parts.specs.Places.{Node, count_at, name_bytes, name_end}
 use Rattle.exprs.specs.ExprAt.{expr_at, var_at, attribute_at, display_at, index_at, second_at}
 use Rattle.exprs.proofs.ExprViews.{expr-deep, expr-inside, view-var, view-attribute, view-tuple, view-index}
 use Rattle.state.specs.Words.{name_at}
-use Rattle.lower_forms.specs.Lowerable.{Lowerable, expr_code}
+use Rattle.lower_forms.specs.Lowerable.{Relied, Lowerable, expr_code}
 use Rattle.lower_forms.proofs.ExprArms.{and_both}
 use Rattle.lower_forms.specs.Elements.{elements_at}
 use Rattle.lower_forms.specs.Assigned.{AssignLowerable, assign_code, VariableAssigned, AttributeAssigned, IndexAssigned, TupleAssigned}
@@ -37,8 +37,8 @@ module _ (d : ℕ) (t : List ℕ) (p : ℕ) (r : AssignLowerable d t p) where
 
   -- the target and where it ends, by other words
   module _ (x : Node Expr) (is : expr_at d t p ≡ x) where
-    asked : ask_expr 13 x.value ≡ true
-    asked = ap (λ (n : Node Expr). ask_expr 13 n.value) (sym is) ∙ r.args
+    asked : (q : ℕ) → Relied q → ask_expr q x.value ≡ true
+    asked q j = ap (λ (n : Node Expr). ask_expr q n.value) (sym is) ∙ r.asks q j
 
     valued : Lowerable d t x.end
     valued = subst (λ (n : Node Expr). Lowerable d t n.end) is r.value
@@ -65,7 +65,7 @@ module _ (d : ℕ) (t : List ℕ) (p : ℕ) (r : AssignLowerable d t p) where
       record {
         parts = record {
           deep = assign-deep;
-          object = record { reads = v.parts.object; args = (and_both _ _ (asked _ v.is)).0 };
+          object = record { reads = v.parts.object; asks = λ q j. (and_both _ _ (asked _ v.is q j)).0 };
           name = v.parts.name;
           value = valued _ v.is;
         };
@@ -94,13 +94,13 @@ module _ (d : ℕ) (t : List ℕ) (p : ℕ) (r : AssignLowerable d t p) where
   unfolding index_at view assign_by ask_expr
   arm-index k =
       let v = view-index d t p r.target k in
-      let a = and_both _ _ (asked _ v.is) in
+      let a = λ (q : ℕ) (j : Relied q). and_both _ _ (asked _ v.is q j) in
       record {
         parts = record {
           deep = assign-deep;
           pair = record {
-            first = record { reads = v.parts.first; args = a.0 };
-            second = record { reads = v.parts.second; args = a.1 };
+            first = record { reads = v.parts.first; asks = λ q j. (a q j).0 };
+            second = record { reads = v.parts.second; asks = λ q j. (a q j).1 };
           };
           value = valued _ v.is;
         };

@@ -78,7 +78,7 @@ module _ (d : ℕ) (t : List ℕ) (p : ℕ) (r : CallLowerable d t p) where
         parts = record {
           deep = omega arith;
           callee = record {
-            object = record { reads = v.parts.object; args = (and_both _ _ (ap (ask_expr 13) (sym w) ∙ r.callee.args)).0 };
+            object = record { reads = v.parts.object; asks = λ n j. (and_both _ _ (ap (ask_expr n) (sym w) ∙ r.callee.asks n j)).0 };
             name = v.parts.name;
           };
           args = args;

@@ -10,7 +10,7 @@ use Rattle.definitions.specs.Lower.{emit_exprs}
 use Rattle.parts.specs.Places.{Node}
 use Rattle.exprs.specs.ExprAt.{expr_at, exprs_at, cons_at}
 use Rattle.exprs.proofs.ExprViews.{view-exprs-none, view-exprs-more}
-use Rattle.lower_forms.specs.Lowerable.{Lowerable, LowerableMany, expr_code, exprs_code}
+use Rattle.lower_forms.specs.Lowerable.{Relied, Lowerable, LowerableMany, expr_code, exprs_code}
 use Rattle.lower_forms.proofs.ExprArms.{and_both}
 
 -- the first expression and the others
@@ -25,10 +25,10 @@ unfolding cons_at emit_exprs ask_exprs
 more-view d n t p h r =
     let v = view-exprs-more d n t p h r.reads in
     let w = ap (λ (x : Node Exprs). x.value) v.is in
-    let a = and_both _ _ (ap (ask_exprs 13) (sym w) ∙ r.args) in
+    let a = λ (q : ℕ) (j : Relied q). and_both _ _ (ap (ask_exprs q) (sym w) ∙ r.asks q j) in
     record {
-      head = record { reads = v.parts.head; args = a.0 };
-      rest = record { reads = v.parts.rest; args = a.1 };
+      head = record { reads = v.parts.head; asks = λ q j. (a q j).0 };
+      rest = record { reads = v.parts.rest; asks = λ q j. (a q j).1 };
       code = λ names. ap (emit_exprs names) w;
       end = ap (λ (x : Node Exprs). x.end) v.is;
     }

@@ -21,7 +21,7 @@ use Rattle.exprs.proofs.ExprViews.{expr-deep, expr-inside, view-var, view-unary,
 use Rattle.exprs.proofs.ExprViews.{view-index, view-lambda, view-exprs-none, view-exprs-more, unary-of, binary-of, and-of, or-of}
 use Rattle.exprs.proofs.LiteralLaws.{view-literal}
 use Rattle.state.specs.Words.{name_at}
-use Rattle.lower_forms.specs.Lowerable.{Lowerable, LowerableMany, expr_code, exprs_code, UnaryLowerable, TwoLowerable, BinaryLowerable, ArgsLowerable, CallLowerable}
+use Rattle.lower_forms.specs.Lowerable.{Relied, of_counts, Lowerable, LowerableMany, expr_code, exprs_code, UnaryLowerable, TwoLowerable, BinaryLowerable, ArgsLowerable, CallLowerable}
 use Rattle.lower_forms.specs.Lowerable.{AttributeLowerable, DisplayLowerable, LambdaLowerable, lambda_code}
 use Rattle.opcodes.specs.Codes.{unary_opcode, display_of, held_of}
 use Rattle.opcodes.proofs.Opcodes.{operator-is}
@@ -52,19 +52,19 @@ exprs-count d (suc n) t p r =
     ∙ ap suc (ap (λ (m : ℕ). count (exprs_at d m t q).value) z ∙ exprs-count d n t q (subst (λ (m : ℕ). ExprsRead d m t q) z v.parts.rest))
 
 -- what is asked of two operands is asked of both
-module _ (x y : Expr) where
-  both-low : (k : ℕ) → k < 12 → ask_expr 13 (binary_of k x y) ≡ ask_expr 13 x && ask_expr 13 y
+module _ (q : ℕ) (x y : Expr) where
+  both-low : (k : ℕ) → k < 12 → ask_expr q (binary_of k x y) ≡ ask_expr q x && ask_expr q y
   unfolding ask_expr
-  both-low k h = ap (λ (f : Expr → Expr → Expr). ask_expr 13 (f x y)) (binary-of k h)
+  both-low k h = ap (λ (f : Expr → Expr → Expr). ask_expr q (f x y)) (binary-of k h)
 
-  both-logical : (k : ℕ) (op : LogicalOp) → binary_of k ≡ logical op → ask_expr 13 (binary_of k x y) ≡ ask_expr 13 x && ask_expr 13 y
+  both-logical : (k : ℕ) (op : LogicalOp) → binary_of k ≡ logical op → ask_expr q (binary_of k x y) ≡ ask_expr q x && ask_expr q y
   unfolding ask_expr
-  both-logical k op w = ap (λ (f : Expr → Expr → Expr). ask_expr 13 (f x y)) w
+  both-logical k op w = ap (λ (f : Expr → Expr → Expr). ask_expr q (f x y)) w
 
-  both-operands : (k : ℕ) → k < 14 → ask_expr 13 (binary_of k x y) ≡ ask_expr 13 x && ask_expr 13 y
+  both-operands : (k : ℕ) → k < 14 → ask_expr q (binary_of k x y) ≡ ask_expr q x && ask_expr q y
   both-operands k h = go (ltb k 12) (ltb k 13) refl refl
     where
-      go : (a b : Bool) → ltb k 12 ≡ a → ltb k 13 ≡ b → ask_expr 13 (binary_of k x y) ≡ ask_expr 13 x && ask_expr 13 y
+      go : (a b : Bool) → ltb k 12 ≡ a → ltb k 13 ≡ b → ask_expr q (binary_of k x y) ≡ ask_expr q x && ask_expr q y
       go true b e f = both-low k (ltb-true k 12 e)
       go false true e f = both-logical k and_op (and-of k (omega (arith, ltb-false k 12 e, ltb-true k 13 f)))
       go false false e f = both-logical k or_op (or-of k (omega (arith, ltb-false k 13 f)))
@@ -94,8 +94,8 @@ module _ (d : ℕ) (t : List ℕ) (p : ℕ) (r : Lowerable d t p) where
   arm-inside = expr-inside d t p r.reads
 
   -- its value by other words
-  asked : (e : Expr) → (expr_at d t p).value ≡ e → ask_expr 13 e ≡ true
-  asked e w = ap (ask_expr 13) (sym w) ∙ r.args
+  asked : (e : Expr) → (expr_at d t p).value ≡ e → (q : ℕ) → Relied q → ask_expr q e ≡ true
+  asked e w q k = ap (ask_expr q) (sym w) ∙ r.asks q k
 
   pub arm-literal : get_or t p 0 < 6 → Arm (LiteralAt t p) d t p (λ names. expr_code 1 t names p) (expr_at 1 t p).end
   arm-literal h =
@@ -125,7 +125,7 @@ module _ (d : ℕ) (t : List ℕ) (p : ℕ) (r : Lowerable d t p) where
         parts = record {
           inside = v.parts.inside;
           operator = v.parts.operator;
-          operand = record { reads = v.parts.operand; args = asked _ w };
+          operand = record { reads = v.parts.operand; asks = asked _ w };
         };
         code = λ names. ap (emit_expr names) w;
         end = ap (λ (n : Node Expr). n.end) v.is;
@@ -137,15 +137,15 @@ module _ (d : ℕ) (t : List ℕ) (p : ℕ) (r : Lowerable d t p) where
   arm_binary k =
       let v = view-binary d t p r.reads k in
       let w = ap (λ (n : Node Expr). n.value) v.is in
-      let o = both-operands (expr_at (d - 1) t (p + 1 + 1)).value (second_at (d - 1) t (p + 1 + 1)).value (get_or t (p + 1) 0) v.parts.operator in
-      let a = and_both _ _ (sym o ∙ asked _ w) in
+      let o = λ (q : ℕ). both-operands q (expr_at (d - 1) t (p + 1 + 1)).value (second_at (d - 1) t (p + 1 + 1)).value (get_or t (p + 1) 0) v.parts.operator in
+      let a = λ (q : ℕ) (j : Relied q). and_both _ _ (sym (o q) ∙ asked _ w q j) in
       record {
         parts = record {
           inside = v.parts.inside;
           operator = v.parts.operator;
           operands = record {
-            first = record { reads = v.parts.operands.first; args = a.0 };
-            second = record { reads = v.parts.operands.second; args = a.1 };
+            first = record { reads = v.parts.operands.first; asks = λ q j. (a q j).0 };
+            second = record { reads = v.parts.operands.second; asks = λ q j. (a q j).1 };
           };
         };
         code = λ names. ap (emit_expr names) w;
@@ -159,15 +159,15 @@ module _ (d : ℕ) (t : List ℕ) (p : ℕ) (r : Lowerable d t p) where
       let v = view-call d t p r.reads k in
       let w = ap (λ (n : Node Expr). n.value) v.is in
       let q = (expr_at (d - 1) t (p + 1)).end in
-      let a = and_both _ _ (asked _ w) in
-      let b = and_both _ _ a.0 in
+      let a = λ (n : ℕ) (j : Relied n). and_both _ _ (asked _ w n j) in
+      let b = λ (n : ℕ) (j : Relied n). and_both _ _ (a n j).0 in
       record {
         parts = record {
-          callee = record { reads = v.parts.callee; args = b.0 };
+          callee = record { reads = v.parts.callee; asks = λ n j. (b n j).0 };
           args = record {
             count = v.parts.args.count;
-            few = few-args (d - 1) t q v.parts.args.elements b.1;
-            elements = record { reads = v.parts.args.elements; args = a.1 };
+            few = few-args (d - 1) t q v.parts.args.elements (b 13 of_counts).1;
+            elements = record { reads = v.parts.args.elements; asks = λ n j. (a n j).1 };
           };
         };
         code = λ names. ap (emit_expr names) w;
@@ -183,7 +183,7 @@ module _ (d : ℕ) (t : List ℕ) (p : ℕ) (r : Lowerable d t p) where
       let q = (expr_at (d - 1) t (p + 1)).end in
       record {
         parts = record {
-          object = record { reads = v.parts.object; args = (and_both _ _ (asked _ w)).0 };
+          object = record { reads = v.parts.object; asks = λ n j. (and_both _ _ (asked _ w n j)).0 };
           name = v.parts.name;
         };
         code = λ names. ap (emit_expr names) w ∙ ap (λ (x : Name). expr_code (d - 1) t names (p + 1) ⨟ intern x (λ k. one (LoadAttr k))) (name-same t q);
@@ -196,11 +196,11 @@ module _ (d : ℕ) (t : List ℕ) (p : ℕ) (r : Lowerable d t p) where
   arm-index k =
       let v = view-index d t p r.reads k in
       let w = ap (λ (n : Node Expr). n.value) v.is in
-      let a = and_both _ _ (asked _ w) in
+      let a = λ (q : ℕ) (j : Relied q). and_both _ _ (asked _ w q j) in
       record {
         parts = record {
-          first = record { reads = v.parts.first; args = a.0 };
-          second = record { reads = v.parts.second; args = a.1 };
+          first = record { reads = v.parts.first; asks = λ q j. (a q j).0 };
+          second = record { reads = v.parts.second; asks = λ q j. (a q j).1 };
         };
         code = λ names. ap (emit_expr names) w;
         end = ap (λ (n : Node Expr). n.end) v.is;
@@ -221,7 +221,7 @@ module _ (d : ℕ) (t : List ℕ) (p : ℕ) (r : Lowerable d t p) where
       let es = (exprs_at (d - 1) (held_of k (count_at t (p + 1))) t (p + 1 + 2)).value in
       let w = ap (λ (n : Node Expr). n.value) is in
       record {
-        parts = record { above = lo; below = hi; count = n; elements = record { reads = reads; args = asked (display (display_of k) es) w } };
+        parts = record { above = lo; below = hi; count = n; elements = record { reads = reads; asks = asked (display (display_of k) es) w } };
         code = λ names. ap (emit_expr names) w ∙ ap (λ (i : ℕ). emit_exprs names es ⨟ one (Build (display_of k) i)) size;
         end = ap (λ (n : Node Expr). n.end) is;
       }
@@ -249,12 +249,12 @@ module _ (d : ℕ) (t : List ℕ) (p : ℕ) (r : Lowerable d t p) where
   arm-lambda k =
       let v = view-lambda d t p r.reads k in
       let w = ap (λ (n : Node Expr). n.value) v.is in
-      let a = and_both _ _ (asked _ w) in
+      let a = λ (q : ℕ) (j : Relied q). and_both _ _ (asked _ w q j) in
       record {
         parts = record {
           params = v.parts.params;
-          few = few-params t (p + 1) a.0;
-          body = record { reads = v.parts.body; args = a.1 };
+          few = few-params t (p + 1) (a 13 of_counts).0;
+          body = record { reads = v.parts.body; asks = λ q j. (a q j).1 };
         };
         code = λ names. ap (emit_expr names) w;
         end = ap (λ (n : Node Expr). n.end) v.is;

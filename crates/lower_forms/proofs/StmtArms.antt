@@ -22,7 +22,7 @@ use Rattle.tree.proofs.StmtViews.{stmt-deep, stmt-inside, stmt-known, view-break
 use Rattle.tree.proofs.StmtViews.{view-def, view-class, view-block, view-stmts-none, view-stmts-more, view-branches-more, else-inside, else-known, view-done, view-else}
 use Rattle.tree.proofs.StmtViews.{view-methods-more}
 use Rattle.state.specs.Words.{name_at}
-use Rattle.lower_forms.specs.Lowerable.{Lowerable, expr_code}
+use Rattle.lower_forms.specs.Lowerable.{Relied, of_counts, Lowerable, expr_code}
 use Rattle.lower_forms.specs.Assigned.{AssignLowerable, assign_code}
 use Rattle.lower_forms.proofs.ExprArms.{and_both, name-same, few-params}
 use Rattle.lower_forms.specs.Lowering.{StmtLowerable, BlockLowerable, StmtsLowerable, stmt_code, block_code, stmts_code, BranchLowerable, BranchesLowerable, IfLowerable}
@@ -45,8 +45,8 @@ module _ (d : ℕ) (t : List ℕ) (p : ℕ) (r : StmtLowerable d t p) where
   arm-known = stmt-known d t p r.reads
 
   module _ (x : Node Stmt) (is : stmt_at d t p ≡ x) where
-    asked : ask_stmt 13 r.loop x.value ≡ true
-    asked = ap (λ (n : Node Stmt). ask_stmt 13 r.loop n.value) (sym is) ∙ r.args
+    asked : (q : ℕ) → Relied q → ask_stmt q r.loop x.value ≡ true
+    asked q j = ap (λ (n : Node Stmt). ask_stmt q r.loop n.value) (sym is) ∙ r.asks q j
 
     coded : (names : List Name) (keep : Keeping) → emit_stmt names keep x.value ≡ stmt_code d t names keep p
     coded names keep = ap (λ (n : Node Stmt). emit_stmt names keep n.value) (sym is)
@@ -71,24 +71,24 @@ module _ (d : ℕ) (t : List ℕ) (p : ℕ) (r : StmtLowerable d t p) where
   pub arm-expr : get_or t p 0 ≡ 3 → StmtArm (Lowerable (d - 1) t (p + 1)) d t p (λ names keep. expr_code (d - 1) t names (p + 1) ⨟ one (instr 7 0 0)) (expr_at (d - 1) t (p + 1)).end
   unfolding emit_stmt ask_stmt expr_stmt_at
   arm-expr k = let v = view-expr d t p r.reads k in
-      record { parts = record { reads = v.parts; args = asked _ v.is }; code = coded _ v.is; end = ends _ v.is }
+      record { parts = record { reads = v.parts; asks = asked _ v.is }; code = coded _ v.is; end = ends _ v.is }
 
   pub arm-return : get_or t p 0 ≡ 4 → StmtArm (Lowerable (d - 1) t (p + 1)) d t p (λ names keep. expr_code (d - 1) t names (p + 1) ⨟ one (instr 33 0 0)) (expr_at (d - 1) t (p + 1)).end
   unfolding emit_stmt ask_stmt return_at
   arm-return k = let v = view-return d t p r.reads k in
-      record { parts = record { reads = v.parts; args = asked _ v.is }; code = coded _ v.is; end = ends _ v.is }
+      record { parts = record { reads = v.parts; asks = asked _ v.is }; code = coded _ v.is; end = ends _ v.is }
 
   pub arm-assign : get_or t p 0 ≡ 5 → StmtArm (AssignLowerable (d - 1) t (p + 1)) d t p (λ names keep. assign_code (d - 1) t names (p + 1)) (second_at (d - 1) t (p + 1)).end
   unfolding emit_stmt ask_stmt ask_target assign_at
   arm-assign k =
       let v = view-assign d t p r.reads k in
       let x = (expr_at (d - 1) t (p + 1)).value in
-      let a = and_both (ask_target 13 x) (ask_expr 13 (second_at (d - 1) t (p + 1)).value) (asked _ v.is) in
+      let a = λ (q : ℕ) (j : Relied q). and_both (ask_target q x) (ask_expr q (second_at (d - 1) t (p + 1)).value) (asked _ v.is q j) in
       record {
         parts = record {
           target = v.parts.first;
-          args = (and_both (if_asked 36 13 (is_full x) && if_asked 10 13 (is_target x)) (ask_expr 13 x) a.0).1;
-          value = record { reads = v.parts.second; args = a.1 };
+          asks = λ q j. (and_both (if_asked 36 q (is_full x) && if_asked 10 q (is_target x)) (ask_expr q x) (a q j).0).1;
+          value = record { reads = v.parts.second; asks = λ q j. (a q j).1 };
         };
         code = coded _ v.is;
         end = ends _ v.is;
@@ -101,16 +101,16 @@ module _ (d : ℕ) (t : List ℕ) (p : ℕ) (r : StmtLowerable d t p) where
   unfolding ask_stmt if_at
   arm-if k =
       let v = view-if d t p r.reads k in
-      let a = and_both _ _ (asked _ v.is) in
-      let b = and_both _ _ a.0 in
+      let a = λ (q : ℕ) (j : Relied q). and_both _ _ (asked _ v.is q j) in
+      let b = λ (q : ℕ) (j : Relied q). and_both _ _ (a q j).0 in
       record {
         parts = record {
           first = record {
-            condition = record { reads = v.parts.first.condition; args = b.0 };
-            block = record { reads = v.parts.first.block; loop = r.loop; args = b.1 };
+            condition = record { reads = v.parts.first.condition; asks = λ q j. (b q j).0 };
+            block = record { reads = v.parts.first.block; loop = r.loop; asks = λ q j. (b q j).1 };
           };
           count = v.parts.count;
-          rest = record { reads = v.parts.rest; loop = r.loop; args = a.1 };
+          rest = record { reads = v.parts.rest; loop = r.loop; asks = λ q j. (a q j).1 };
         };
         code = coded _ v.is;
         end = ends _ v.is;
@@ -121,11 +121,11 @@ module _ (d : ℕ) (t : List ℕ) (p : ℕ) (r : StmtLowerable d t p) where
   unfolding emit_stmt ask_stmt while_at
   arm-while k =
       let v = view-while d t p r.reads k in
-      let a = and_both _ _ (asked _ v.is) in
+      let a = λ (q : ℕ) (j : Relied q). and_both _ _ (asked _ v.is q j) in
       record {
         parts = record {
-          condition = record { reads = v.parts.condition; args = a.0 };
-          block = record { reads = v.parts.block; loop = true; args = a.1 };
+          condition = record { reads = v.parts.condition; asks = λ q j. (a q j).0 };
+          block = record { reads = v.parts.block; loop = true; asks = λ q j. (a q j).1 };
         };
         code = coded _ v.is;
         end = ends _ v.is;
@@ -138,13 +138,13 @@ module _ (d : ℕ) (t : List ℕ) (p : ℕ) (r : StmtLowerable d t p) where
       let v = view-for d t p r.reads k in
       let x = name_bytes t (p + 1) in
       let e = (expr_at (d - 1) t (name_end t (p + 1))).value in
-      let a = and_both (ask_name 13 x && ask_expr 13 e) (ask_block 13 true (body_at (d - 1) t (name_end t (p + 1))).value) (asked _ v.is) in
+      let a = λ (q : ℕ) (j : Relied q). and_both (ask_name q x && ask_expr q e) (ask_block q true (body_at (d - 1) t (name_end t (p + 1))).value) (asked _ v.is q j) in
       record {
         parts = record {
           name = v.parts.name;
           loop = record {
-            condition = record { reads = v.parts.loop.condition; args = (and_both (ask_name 13 x) (ask_expr 13 e) a.0).1 };
-            block = record { reads = v.parts.loop.block; loop = true; args = a.1 };
+            condition = record { reads = v.parts.loop.condition; asks = λ q j. (and_both (ask_name q x) (ask_expr q e) (a q j).0).1 };
+            block = record { reads = v.parts.loop.block; loop = true; asks = λ q j. (a q j).1 };
           };
         };
         code = λ names keep. ap (λ (x : Name). emit_stmt names keep (for x (expr_at (d - 1) t (name_end t (p + 1))).value (body_at (d - 1) t (name_end t (p + 1))).value)) (sym (name-same t (p + 1))) ∙ coded _ v.is names keep;
@@ -159,13 +159,14 @@ module _ (d : ℕ) (t : List ℕ) (p : ℕ) (r : StmtLowerable d t p) where
       let v = view-def d t p r.reads k in
       let x = name_bytes t (p + 1) in
       let ps = (params_at t (name_end t (p + 1))).value in
-      let a = and_both (ask_name 13 x && ask_params 13 ps) (ask_block 13 false (def_block_at (d - 1) t (p + 1)).value) (asked _ v.is) in
+      let a = λ (q : ℕ) (j : Relied q). and_both (ask_name q x && ask_params q ps) (ask_block q false (def_block_at (d - 1) t (p + 1)).value) (asked _ v.is q j) in
       record {
         parts = record {
           name = v.parts.name;
           params = v.parts.params;
-          few = few-params t (name_end t (p + 1)) (and_both (ask_name 13 x) (ask_params 13 ps) a.0).1;
-          block = record { reads = v.parts.block; loop = false; args = a.1 };
+          few = few-params t (name_end t (p + 1)) (and_both (ask_name 13 x) (ask_params 13 ps) (a 13 of_counts).0).1;
+          block = record { reads = v.parts.block; loop = false; asks = λ q j. (a q j).1 };
+          outside = refl;
         };
         code = coded _ v.is;
         end = ends _ v.is;
@@ -177,12 +178,12 @@ module _ (d : ℕ) (t : List ℕ) (p : ℕ) (r : StmtLowerable d t p) where
       let v = view-class d t p r.reads k in
       let x = name_bytes t (p + 1) in
       let ms = (class_methods_at (d - 1) t (p + 1)).value in
-      let a = and_both (ask_name 13 x && ask_methods 13 ms) (all (ask_attribute 13) (attributes_at (d - 1) t (class_methods_at (d - 1) t (p + 1)).end).value) (asked _ v.is) in
+      let a = λ (q : ℕ) (j : Relied q). and_both (ask_name q x && ask_methods q ms) (all (ask_attribute q) (attributes_at (d - 1) t (class_methods_at (d - 1) t (p + 1)).end).value) (asked _ v.is q j) in
       record {
         parts = record {
           name = v.parts.name;
           count = v.parts.count;
-          methods = record { reads = v.parts.methods; args = (and_both (ask_name 13 x) (ask_methods 13 ms) a.0).1 };
+          methods = record { reads = v.parts.methods; asks = λ q j. (and_both (ask_name q x) (ask_methods q ms) (a q j).0).1 };
         };
         code = coded _ v.is;
         end = refl;
@@ -199,7 +200,7 @@ module _ (d : ℕ) (t : List ℕ) where
         record {
           reads = v.parts.statements;
           loop = r.loop;
-          args = ap (λ (n : Node Block). ask_block 13 r.loop n.value) (sym v.is) ∙ r.args;
+          asks = λ q j. ap (λ (n : Node Block). ask_block q r.loop n.value) (sym v.is) ∙ r.asks q j;
         },
       )
 
@@ -215,9 +216,9 @@ module _ (d : ℕ) (t : List ℕ) where
   unfolding ask_stmt cons_at
   stmts-more n p h r =
       let v = view-stmts-more d n t p h r.reads in
-      let a = and_both _ _ (ap (λ (x : Node Block). ask_block 13 r.loop x.value) (sym v.is) ∙ r.args) in (
-        record { reads = v.parts.head; loop = r.loop; args = a.0 },
-        record { reads = v.parts.rest; loop = r.loop; args = a.1 },
+      let a = λ (q : ℕ) (j : Relied q). and_both _ _ (ap (λ (x : Node Block). ask_block q r.loop x.value) (sym v.is) ∙ r.asks q j) in (
+        record { reads = v.parts.head; loop = r.loop; asks = λ q j. (a q j).0 },
+        record { reads = v.parts.rest; loop = r.loop; asks = λ q j. (a q j).1 },
       )
 
   pub stmts-code : (names : List Name) (keep : Keeping) (n p : ℕ) → 0 < n → StmtsLowerable d n t p
@@ -240,13 +241,13 @@ module _ (d : ℕ) (t : List ℕ) where
   unfolding ask_stmt when_at
   elifs-more n p h r =
       let v = view-branches-more d t p n h r.reads in
-      let a = and_both _ _ (ap (λ (x : Node Branches). ask_branches 13 r.loop x.value) (sym v.is) ∙ r.args) in
-      let b = and_both _ _ a.0 in (
+      let a = λ (q : ℕ) (j : Relied q). and_both _ _ (ap (λ (x : Node Branches). ask_branches q r.loop x.value) (sym v.is) ∙ r.asks q j) in
+      let b = λ (q : ℕ) (j : Relied q). and_both _ _ (a q j).0 in (
         record {
-          condition = record { reads = v.parts.first.condition; args = b.0 };
-          block = record { reads = v.parts.first.block; loop = r.loop; args = b.1 };
+          condition = record { reads = v.parts.first.condition; asks = λ q j. (b q j).0 };
+          block = record { reads = v.parts.first.block; loop = r.loop; asks = λ q j. (b q j).1 };
         },
-        record { reads = v.parts.rest; loop = r.loop; args = a.1 },
+        record { reads = v.parts.rest; loop = r.loop; asks = λ q j. (a q j).1 },
       )
 
   pub elifs-is : (n p : ℕ) → 0 < n → BranchesLowerable d n t p
@@ -271,7 +272,7 @@ module _ (d : ℕ) (t : List ℕ) where
         record {
           reads = v.parts;
           loop = r.loop;
-          args = ap (λ (x : Node Branches). ask_branches 13 r.loop x.value) (sym v.is) ∙ r.args;
+          asks = λ q j. ap (λ (x : Node Branches). ask_branches q r.loop x.value) (sym v.is) ∙ r.asks q j;
         },
         v.is,
       )
@@ -293,15 +294,16 @@ module _ (d : ℕ) (t : List ℕ) where
       let v = view-methods-more d t p n h r.reads in
       let x = name_bytes t p in
       let ps = (params_at t (name_end t p)).value in
-      let a = and_both (ask_method 13 x ps && ask_block 13 false (def_block_at d t p).value) (ask_methods 13 (methods_at d (n - 1) t (def_block_at d t p).end).value) (ap (λ (x : Node Methods). ask_methods 13 x.value) (sym v.is)
-      ∙ r.args) in
-      let b = and_both (ask_method 13 x ps) (ask_block 13 false (def_block_at d t p).value) a.0 in
-      let m = and_both (ask_name 13 x && ask_params 13 ps) (if_asked 12 13 (not (same x init) || ltb 0 (length ps))) b.0 in (
+      let a = λ (q : ℕ) (j : Relied q). and_both (ask_method q x ps && ask_block q false (def_block_at d t p).value) (ask_methods q (methods_at d (n - 1) t (def_block_at d t p).end).value)
+      (ap (λ (x : Node Methods). ask_methods q x.value) (sym v.is) ∙ r.asks q j) in
+      let b = λ (q : ℕ) (j : Relied q). and_both (ask_method q x ps) (ask_block q false (def_block_at d t p).value) (a q j).0 in
+      let m = and_both (ask_name 13 x && ask_params 13 ps) (if_asked 12 13 (not (same x init) || ltb 0 (length ps))) (b 13 of_counts).0 in (
         record {
           name = v.parts.first.name;
           params = v.parts.first.params;
           few = few-params t (name_end t p) (and_both (ask_name 13 x) (ask_params 13 ps) m.0).1;
-          block = record { reads = v.parts.first.block; loop = false; args = b.1 };
+          block = record { reads = v.parts.first.block; loop = false; asks = λ q j. (b q j).1 };
+          outside = refl;
         },
-        record { reads = v.parts.rest; args = a.1 },
+        record { reads = v.parts.rest; asks = λ q j. (a q j).1 },
       )

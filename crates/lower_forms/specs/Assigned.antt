@@ -1,4 +1,4 @@
--- What the lowering of an assignment asks of the tree: that the target at p and the value after it read, and that question 13 passes them.
+-- What the lowering of an assignment asks of the tree: that the target at p and the value after it read, and that the questions pass them.
 use Rattle.std.specs.Prelude.{ℕ, ◌+◌, ◌-◌, ◌<◌, ◌≡◌, true, List}
 use Rattle.definitions.specs.Bytes.{Name}
 use Rattle.definitions.specs.Tree.{view}
@@ -7,11 +7,11 @@ use Rattle.definitions.specs.Wellformed.{ask_expr}
 use Rattle.definitions.specs.Lower.{assign_by}
 use Rattle.parts.specs.Places.{There, name_end}
 use Rattle.exprs.specs.ExprAt.{expr_at, ExprReads, ListAt, second_at}
-use Rattle.lower_forms.specs.Lowerable.{Lowerable, expr_code}
+use Rattle.lower_forms.specs.Lowerable.{Relied, Lowerable, expr_code}
 
 pub record AssignLowerable (d : ℕ) (t : List ℕ) (p : ℕ) : Type 0 where
   pub target : ExprReads d t p
-  pub args : ask_expr 13 (expr_at d t p).value ≡ true
+  pub asks : (q : ℕ) → Relied q → ask_expr q (expr_at d t p).value ≡ true
   pub value : Lowerable d t (expr_at d t p).end
 
 -- the assignment's code, by its target's form

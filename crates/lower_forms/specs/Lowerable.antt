@@ -22,17 +22,23 @@ pub record SoleIn (tree : List ℕ) (e : Emitter) : Type 0 where
   pub tree-short : length tree ≤ 32768
   pub sound : SoundIn tree e
 
+-- the questions of the tree on which the lowering relies
+pub data Relied : ℕ → Type 0 where
+  of_names : Relied 7
+  of_breaks : Relied 9
+  of_counts : Relied 13
+
 -- ---- expressions
 
--- the expression at p reads, and question 13 passes it
+-- the expression at p reads, and these questions pass it
 pub record Lowerable (d : ℕ) (t : List ℕ) (p : ℕ) : Type 0 where
   pub reads : ExprReads d t p
-  pub args : ask_expr 13 (expr_at d t p).value ≡ true
+  pub asks : (q : ℕ) → Relied q → ask_expr q (expr_at d t p).value ≡ true
 
 -- n expressions from p on
 pub record LowerableMany (d n : ℕ) (t : List ℕ) (p : ℕ) : Type 0 where
   pub reads : ExprsRead d n t p
-  pub args : ask_exprs 13 (exprs_at d n t p).value ≡ true
+  pub asks : (q : ℕ) → Relied q → ask_exprs q (exprs_at d n t p).value ≡ true
 
 -- their code
 abbrev pub expr_code : ℕ → List ℕ → List Name → ℕ → Emit

@@ -1,5 +1,5 @@
 -- What the lowering of statements asks of the tree, and the code of what stands at a position. In all of these d is the number of levels left for what
--- is held, names are those of the slots, keep says where loops keep their iterators; `loop` is whether a loop is around, which question 13 does not mind.
+-- is held, names are those of the slots, keep says where loops keep their iterators; `loop` is whether a loop is around, by which question 9 asks.
 use Rattle.std.specs.Prelude.{ℕ, ◌+◌, ◌≤◌, ◌≡◌, Bool, true, false, List, [], ◌∷◌, length}
 use Rattle.definitions.specs.Bytes.{Name}
 use Rattle.definitions.specs.Tree.{Methods}
@@ -12,25 +12,25 @@ use Rattle.parts.specs.Places.{count_at, Counted, name_end, There, ParamsAt, par
 use Rattle.exprs.specs.ExprAt.{expr_at}
 use Rattle.tree.specs.StmtAt.{stmt_at, block_at, stmts_at, branches_at, methods_at, StmtReads, BlockReads, StmtsRead, BranchesRead, MethodsRead, body_at, def_block_at}
 use Rattle.state.specs.Words.{name_at}
-use Rattle.lower_forms.specs.Lowerable.{Lowerable}
+use Rattle.lower_forms.specs.Lowerable.{Relied, Lowerable}
 
 -- ---- statements and blocks
 
 pub record StmtLowerable (d : ℕ) (t : List ℕ) (p : ℕ) : Type 0 where
   pub reads : StmtReads d t p
   pub loop : Bool
-  pub args : ask_stmt 13 loop (stmt_at d t p).value ≡ true
+  pub asks : (q : ℕ) → Relied q → ask_stmt q loop (stmt_at d t p).value ≡ true
 
 pub record BlockLowerable (d : ℕ) (t : List ℕ) (p : ℕ) : Type 0 where
   pub reads : BlockReads d t p
   pub loop : Bool
-  pub args : ask_block 13 loop (block_at d t p).value ≡ true
+  pub asks : (q : ℕ) → Relied q → ask_block q loop (block_at d t p).value ≡ true
 
 -- n statements from p on
 pub record StmtsLowerable (d n : ℕ) (t : List ℕ) (p : ℕ) : Type 0 where
   pub reads : StmtsRead d n t p
   pub loop : Bool
-  pub args : ask_block 13 loop (stmts_at d n t p).value ≡ true
+  pub asks : (q : ℕ) → Relied q → ask_block q loop (stmts_at d n t p).value ≡ true
 
 abbrev pub stmt_code : ℕ → List ℕ → List Name → Keeping → ℕ → Emit
 stmt_code d t names keep p = emit_stmt names keep (stmt_at d t p).value
@@ -52,7 +52,7 @@ pub record BranchLowerable (d : ℕ) (t : List ℕ) (p : ℕ) : Type 0 where
 pub record BranchesLowerable (d n : ℕ) (t : List ℕ) (p : ℕ) : Type 0 where
   pub reads : BranchesRead d n t p
   pub loop : Bool
-  pub args : ask_branches 13 loop (branches_at d n t p).value ≡ true
+  pub asks : (q : ℕ) → Relied q → ask_branches q loop (branches_at d n t p).value ≡ true
 
 pub record IfLowerable (d : ℕ) (t : List ℕ) (p : ℕ) : Type 0 where
   pub first : BranchLowerable d t p
@@ -74,6 +74,8 @@ pub record FunctionLowerable (d : ℕ) (t : List ℕ) (p : ℕ) : Type 0 where
   pub params : ParamsAt t (name_end t p)
   pub few : count_at t (name_end t p) ≤ 255
   pub block : BlockLowerable d t (params_at t (name_end t p)).end
+  -- no loop is around it
+  pub outside : block.loop ≡ false
 
 -- what a function's code ends in: that of a method `__init__` in its object
 unfoldable pub end_of : Bool → List Instr
@@ -88,7 +90,7 @@ function_code d t p init =
 
 pub record MethodsLowerable (d n : ℕ) (t : List ℕ) (p : ℕ) : Type 0 where
   pub reads : MethodsRead d n t p
-  pub args : ask_methods 13 (methods_at d n t p).value ≡ true
+  pub asks : (q : ℕ) → Relied q → ask_methods q (methods_at d n t p).value ≡ true
 
 pub record ClassLowerable (d : ℕ) (t : List ℕ) (p : ℕ) : Type 0 where
   pub name : There t p

@@ -42,7 +42,7 @@ use Rattle.lower_emit.proofs.Packing.{instr-plain, plain-above, plain-below}
 use Rattle.lower_emit.proofs.Steps.{limits-code, areas-after, areas-code, code-none, code-after, put-lifts, sound-next, lowers-state}
 use Rattle.lower_emit.proofs.Functions.{begun-lifts, ended-lifts, head-begun, innermost-as, begins-stopped, code-ended}
 use Rattle.lower_names.specs.Naming.{InternsMade, named}
-use Rattle.lower_names.proofs.Beginnings.{limits-begun, named-none, named-sound, named-begins}
+use Rattle.lower_names.proofs.Beginnings.{limits-begun, named-none, named-sound, named-below, named-begins}
 use Rattle.lower_names.proofs.Midway.{Midway, midway_start, midway-base, midway-next, midway_end, midway-full}
 use Rattle.lower_names.proofs.Naming.{loads-more, loads-end}
 use Rattle.lower_leaves.specs.Closures.{BeginsLambda, StartsLambda, EndsLambda, EndsFunction}
@@ -77,7 +77,7 @@ module _ {t : List ℕ} {m n : Names} {f : Used 256} {a b : Entries} {i : Option
           let k = function-count t m.made.now code.words.now a.words.now (counts_of e) (limits_in e) S.sound in
           let want = begun_with (symbol_number (lambda_name f.count) (state_in t e).tables) arity locals (named (lambda_name f.count) (state_in t e)) in
           subst (λ (l : ℕ). BeginsIn r l t e (beside (innermost code) (new_functions g d (new_names n d ts))) want) k
-          (named-begins (lambda_name f.count) S N z arity locals (begun-lifts (named-sound (lambda_name f.count) S N z) (omega (arith, h.below j z)) x y (head-begun code (new_names n b ts) H)));
+          (named-begins (lambda_name f.count) S N z arity locals (begun-lifts (named-sound (lambda_name f.count) S N z) (named-below (lambda_name f.count) S N z) x y (head-begun code (new_names n b ts) H)));
     };
     symbols = h.limit;
     limit = H.limit;

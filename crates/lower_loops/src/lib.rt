@@ -87,12 +87,20 @@ fn call_iterator(tree: &[u8], e: &mut Emitter<'_>, load: u32, m: Made) -> Option
     emit_made(tree, e, m, CALL_METHOD, 0)
 }
 
+// Is there more?
+pub fn ask_more(tree: &[u8], e: &mut Emitter<'_>, load: u32) -> Option<()>
+    requires { SoundIn tree.now e.old × Loads load (keeper_of load) }
+    ensures { LowersIn result (ask_iter (keeper_of load)) tree.now e.old e.new }
+{
+    call_iterator(tree, e, load, Made::HasNext)
+}
+
 // Is there more? The jump past the loop is not known yet.
 pub fn ask_iterator(tree: &[u8], e: &mut Emitter<'_>, load: u32) -> Option<()>
     requires { SoundIn tree.now e.old × Loads load (keeper_of load) }
     ensures { LowersIn result (ask_iter (keeper_of load) ⨟ one (JumpIfFalse 0)) tree.now e.old e.new }
 {
-    call_iterator(tree, e, load, Made::HasNext)?;
+    ask_more(tree, e, load)?;
     e.code.put_op(JUMP_IF_FALSE, 0, 0)
 }
 

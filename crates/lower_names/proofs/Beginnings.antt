@@ -1,5 +1,5 @@
 -- A function that begins once its name has a number.
-use Prim.Native.Nat.{ℕ}
+use Prim.Native.Nat.{ℕ, ◌<◌}
 use mathlib.Core.Path.{◌≡◌, refl, sym, ap, subst, ◌∙◌}
 use mathlib.Core.List.{List, [], ◌∷◌}
 use native.Mathlib.Omega.{arith}
@@ -12,7 +12,7 @@ use Rattle.state.specs.State.{State, Sound, Within, Left, symbol_number}
 use Rattle.state.specs.declared.Limits.{Limits}
 use Rattle.state.proofs.Answers.{paced-more}
 use Rattle.state.proofs.Enclosing.{symbol-functions}
-use Rattle.state.proofs.Views.{stack-length}
+use Rattle.state.proofs.Views.{stack-length, symbols-length}
 use Rattle.state.proofs.Within.{within-tables}
 use Rattle.lower_emit.specs.Nesting.{begun_with}
 use Rattle.lower_emit.specs.declared.emitter.Used.{Used}
@@ -23,6 +23,7 @@ use Rattle.lower_emit.specs.Emitting.{counts_of, limits_in, state_in, SoundIn, b
 use Rattle.lower_emit.proofs.Answering.{open_after}
 use Rattle.lower_emit.proofs.Steps.{sound-next, areas-after}
 use Rattle.lower_names.specs.Naming.{named}
+use Rattle.lower_names.proofs.Numbering.{symbol-there}
 
 -- the limits with other names and functions in an emitter
 pub limits-begun : (e : Emitter) (n : Names) (g : Used 256) (b : Entries) → n.symbols.limit ≡ e.tables.names.symbols.limit → g.limit ≡ e.tables.functions.limit
@@ -52,6 +53,14 @@ module _ {tree : List ℕ} {a b : Emitter} {i : Option ℕ} (x : Name) (S : Soun
 
     got : Left (counts_of b) tree b.tables.names.made.now b.code.words.now b.tables.entries.words.now (counts_of a) (limits_in a) (named x (state_in tree a))
     got = (h.reaches.done j z).left
+
+    -- the number is one of the symbols
+    pub named-below : j < b.tables.names.symbols.count
+    named-below =
+        let n = symbols-length tree b.tables.names.made.now b.code.words.now b.tables.entries.words.now (counts_of b) (limits_in b) named-sound.sound in
+        let e = ap (λ (u : State). length u.tables.symbols) got.state in
+        let k = symbol-there x (state_in tree a).tables in
+        omega (arith, h.is j z)
 
     same-open : b.code.open ≡ a.code.open
     same-open =

@@ -35,6 +35,7 @@ module _ (tree made made' code tables : List ℕ) (c : Counts) (l : Limits) (s :
     base = s.base;
     made-count = s.made-count;
     names = every_map (λ a. made-within-same made made' c.made a kept) s.names;
+    heads = s.heads;
     codes = s.codes;
     class-methods = s.class-methods;
     finished = s.finished;

@@ -68,6 +68,15 @@ module _ (x : Name) (t : Tables) where
   unfolding symbol_number
   symbol-le = found-le (same x) t.symbols
 
+  -- its number is one of the symbols with it
+  pub symbol-there : symbol_number x t < length (with_symbol x t).symbols
+  unfolding symbol_number with_symbol found_or
+  symbol-there = go (position (same x) t.symbols) (position-lt (same x) t.symbols)
+    where
+      go : (o : Option ℕ) → ((k : ℕ) → o ≡ some k → k < length t.symbols) → found_or (length t.symbols) o < length (elim o as (λ z. Tables) [ some k ↦ t | none ↦ add_symbol x t ]).symbols
+      go none f = omega (arith, length-append t.symbols (x ∷ []))
+      go (some k) f = f k refl
+
   pub string-le : string_number x t ≤ length t.strings
   unfolding string_number
   string-le = found-le (same x) t.strings
@@ -186,6 +195,7 @@ module _ (tree made code tables : List ℕ) (c : Counts) (l : Limits) (s : Sound
           base = s.base;
           made-count = omega (arith, s.made-count);
           names = rw here (every-snoc (every_map (λ a. made-within-more made c.made (c.made + grow) a (omega arith)) s.names) within);
+          heads = rw (above heads_from c.functions (omega arith) (omega (arith, f, d.functions))) (every_map (λ a z. omega arith) s.heads);
           codes = rw (above codes_from c.functions (omega arith) (omega (arith, f, d.functions))) s.codes;
           class-methods = rw (above class_methods_from c.classes (omega arith) (omega (arith, g, d.classes))) s.class-methods;
           finished = s.finished ∙ ap total (sym (above codes_from c.functions (omega arith) (omega (arith, f, d.functions))));
@@ -330,6 +340,7 @@ module _ (tree made code tables : List ℕ) (c : Counts) (l : Limits) (s : Sound
           base = s.base;
           made-count = s.made-count;
           names = rw symbols-kept s.names;
+          heads = rw (above-text heads_from c.functions (omega arith) (omega (arith, f, d.functions))) s.heads;
           codes = rw (above-text codes_from c.functions (omega arith) (omega (arith, f, d.functions))) s.codes;
           class-methods = rw (above-text class_methods_from c.classes (omega arith) (omega (arith, g, d.classes))) s.class-methods;
           finished = s.finished ∙ ap total (sym (above-text codes_from c.functions (omega arith) (omega (arith, f, d.functions))));

@@ -11,6 +11,7 @@ ghost use Rattle.limits.specs.Sets.{limits_for};
 ghost use Rattle.lowering.specs.Lowered.{Answers, Lowers};
 
 use areas::clear;
+use compile::Jumps;
 use limits::{Limits, limit_numbers};
 use lower_emit::emitter::Emitter;
 use module::Lowered;
@@ -45,14 +46,36 @@ fn lower_into(
     tables: &mut [u32],
     out: &mut [u8],
     limits: state::Limits,
+    jumps: Jumps,
 ) -> Result<usize, Question>
     requires { (16384 ≤ length code.old) × (16384 ≤ length tables.old) × Limited limits }
     ensures { Answers result (lower_answer (limits_of limits) (length code.old) (length tables.old) (length out.old) tree.now) out.old out.new }
 {
     let mut made = [0u8; MADE_ROOM];
     let mut e = Emitter::new(code, &mut made, tables, limits);
-    settle(tree, &mut e)?;
+    settle(tree, &mut e, jumps)?;
     write_tables(tree, &e, out)
+}
+
+// The module of a tree within a set of limits, with its jumps either way. Both work areas are zero afterwards, but after refusal 1, which leaves them.
+fn lower_by(
+    tree: &[u8],
+    limits: Limits,
+    area1: &mut [u32],
+    area2: &mut [u32],
+    out: &mut [u8],
+    jumps: Jumps,
+) -> Result<usize, Question>
+    ensures { Lowers result area1.new area2.new out.new (lower_call (limits_for limits) tree.now area1.old area2.old out.old) }
+{
+    if area1.len() < AREA || area2.len() < AREA {
+        return Err(Question::WorkAreas);
+    }
+    let l = limit_numbers(limits);
+    let r = lower_into(tree, area1, area2, out, l, jumps);
+    clear(area1);
+    clear(area2);
+    r
 }
 
 // The module of a tree within a set of limits, from the output's first byte on. Both work areas are zero afterwards, but after refusal 1, which leaves
@@ -66,12 +89,19 @@ pub fn lower(
 ) -> Result<usize, Question>
     ensures { Lowers result area1.new area2.new out.new (lower_call (limits_for limits) tree.now area1.old area2.old out.old) }
 {
-    if area1.len() < AREA || area2.len() < AREA {
-        return Err(Question::WorkAreas);
-    }
-    let l = limit_numbers(limits);
-    let r = lower_into(tree, area1, area2, out, l);
-    clear(area1);
-    clear(area2);
-    r
+    lower_by(tree, limits, area1, area2, out, Jumps::Set)
+}
+
+// The same by measured lengths: each part is measured before it is written, and each jump is written as it stays. Answer, bytes and areas are those of
+// `lower`.
+pub fn lower_measured(
+    tree: &[u8],
+    limits: Limits,
+    area1: &mut [u32],
+    area2: &mut [u32],
+    out: &mut [u8],
+) -> Result<usize, Question>
+    ensures { Lowers result area1.new area2.new out.new (lower_call (limits_for limits) tree.now area1.old area2.old out.old) }
+{
+    lower_by(tree, limits, area1, area2, out, Jumps::Measured)
 }

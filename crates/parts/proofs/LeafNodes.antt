@@ -125,3 +125,18 @@ module _ (t : List ℕ) (p : ℕ) (r : Reads text t p) where
   unfolding text list_of text_at
   text-node = let h = text-there in text-read.1.is ∙ got-node [] (counted [] ◌∷◌ byte (count_at t p)) t (p + 2) _ (p + 2 + count_at t p) h.bytes
       (bytes-long (count_at t p) (drop (p + 2) t) (let b = h.bytes in omega (arith, length-drop (p + 2) t)) ∙ ap (got (take (count_at t p) (drop (p + 2) t))) (drop-drop (count_at t p) (p + 2) t))
+
+-- ---- positions only rise
+
+names-after : (t : List ℕ) (n p : ℕ) → p ≤ names_end t n p
+unfolding names_end name_end
+names-after t zero p = omega arith
+names-after t (suc n) p = let h = names-after t n (name_end t p) in omega arith
+
+pub name-after : (t : List ℕ) (p : ℕ) → p ≤ name_end t p
+unfolding name_end
+name-after t p = omega arith
+
+pub params-after : (t : List ℕ) (p : ℕ) → p ≤ (params_at t p).end
+unfolding params_at
+params-after t p = let h = names-after t (count_at t p) (p + 2) in omega arith

@@ -22,13 +22,14 @@ use Rattle.definitions.proofs.TreeWritten.{tree_written}
 use Rattle.numerals.specs.Kinds.{stmt_byte}
 use Rattle.numerals.specs.declared.kinds.StmtKind.{StmtKind}
 use Rattle.numerals.specs.declared.kinds.StmtKind.TheVariants.{Break, Continue, Expr, Return, Assign}
-use Rattle.parts.specs.Places.{Node, count_at, name_end, names_end, ParamsAt, params_at}
+use Rattle.parts.specs.Places.{Node, count_at, name_end, ParamsAt, params_at}
 use Rattle.parts.proofs.Nodes.{node-within}
+use Rattle.parts.proofs.LeafNodes.{name-after, params-after}
 use Rattle.exprs.specs.ExprAt.{expr_at, ExprReads}
 use Rattle.exprs.proofs.ExprLaws.{steady-E}
 use Rattle.tree.specs.StmtAt.{stmt_at, block_at, stmts_at, branches_at, methods_at, attributes_at, StmtReads, BlockReads, StmtsRead, BranchesRead, MethodsRead}
 use Rattle.tree.specs.StmtAt.{expr_stmt_at, return_at, assign_at, BranchAt, body_at, IfAt, elifs_at, if_at, while_at, ForAt, for_at, when_at, else_at, DefAt, def_block_at, def_at, method_at, ClassAt, class_methods_at, class_at, cons_at, TreeAt}
-use Rattle.tree.proofs.StmtLaws.{steady-attribute, steady-S, steady-B, steady-branches}
+use Rattle.tree.proofs.StmtLaws.{steady-attribute, steady-S, steady-B}
 use Rattle.parts.proofs.Laws.{steady-list_of}
 use Rattle.tree.proofs.StmtViews.{view-break, view-continue, view-pass, view-expr, view-return, view-assign, view-if, view-while, view-for, view-def, view-class}
 use Rattle.tree.proofs.StmtViews.{view-block, view-stmts-none, view-stmts-more, view-branches-more, else-known, view-done, view-else, view-methods-none, view-methods-more}
@@ -53,22 +54,6 @@ body-within d t p h = node-within _ (block_of (parse_stmt d)) t (expr_at d t p).
 
 pub def-within : (d : ℕ) (t : List ℕ) (p : ℕ) → DefAt d t p → (def_block_at d t p).end ≤ length t
 def-within d t p h = node-within _ (block_of (parse_stmt d)) t (params_at t (name_end t p)).end (steady-B d) h.block
-
-pub branches-within : (d n : ℕ) (t : List ℕ) (p : ℕ) → BranchesRead d n t p → (branches_at d n t p).end ≤ length t
-branches-within d n t p r = node-within _ _ t p (steady-branches (steady-E d) (steady-S d) n) r
-
-names-after : (t : List ℕ) (n p : ℕ) → p ≤ names_end t n p
-unfolding names_end name_end
-names-after t zero p = omega arith
-names-after t (suc n) p = let h = names-after t n (name_end t p) in omega arith
-
-pub name-after : (t : List ℕ) (p : ℕ) → p ≤ name_end t p
-unfolding name_end
-name-after t p = omega arith
-
-pub params-after : (t : List ℕ) (p : ℕ) → p ≤ (params_at t p).end
-unfolding params_at
-params-after t p = let h = names-after t (count_at t p) (p + 2) in omega arith
 
 -- ---- the kinds of statement
 

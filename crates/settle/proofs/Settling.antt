@@ -27,7 +27,7 @@ use Rattle.state.proofs.SlotsFit.{slots-fit, targets-asked}
 use Rattle.lower_emit.specs.declared.emitter.Emitter.{Emitter}
 use Rattle.lower_emit.specs.Emitting.{counts_of, limits_in, state_in, SameAreas}
 use Rattle.compile.specs.Compiled.{tree_block, CompilesTree}
-use Rattle.settle.specs.Settles.{told, tables_in, Settles, Accepts}
+use Rattle.settle.specs.Settles.{told, full_by, tables_in, Settles, Accepts}
 use Rattle.settle.proofs.Outcome.{check-gives, tables-refused, tables-fit, fits-slots, fits-over, fits_all}
 
 -- ---- the limits
@@ -73,18 +73,26 @@ module _ {tree : List ℕ} (T : TreeAt tree) where
     m = limits_of (limits_in a)
 
     -- 14
-    pub settles-slots : fits_block [] (tree_block tree) ≡ false → Settles (Err Slots) tree a b
+    settles-slots : fits_block [] (tree_block tree) ≡ false → Settles (Err Slots) tree a b
     unfolding number
     settles-slots e = fails Slots (tables-fit m tree (tree_block tree) T.answer ∙ fits-slots m (compile (tree_block tree)).tables (slots-are ∙ e)) h.limits h.areas
 
     -- 15
-    pub settles-over : r ≡ None → fits_block [] (tree_block tree) ≡ true → Settles (Err LimitsKept) tree a b
+    settles-over : r ≡ None → fits_block [] (tree_block tree) ≡ true → Settles (Err LimitsKept) tree a b
     unfolding number
     settles-over e f =
         fails LimitsKept
         (tables-fit m tree (tree_block tree) T.answer
         ∙ fits-over m (compile (tree_block tree)).tables (slots-are ∙ f) (tables-over (limits_in a) (compile (tree_block tree)).tables (slots-are ∙ f) (h.full e)))
         h.limits h.areas
+
+    pub settles-full : r ≡ None → {q : Question} → q ≡ full_by (fits_block [] (tree_block tree)) → Settles (Err q) tree a b
+    unfolding full_by
+    settles-full e {q} h = go (fits_block [] (tree_block tree)) refl h
+      where
+        go : (x : Bool) → fits_block [] (tree_block tree) ≡ x → q ≡ full_by x → Settles (Err q) tree a b
+        go true f g = subst (λ (p : Question). Settles (Err p) tree a b) (sym g) (settles-over e f)
+        go false f g = subst (λ (p : Question). Settles (Err p) tree a b) (sym g) (settles-slots f)
 
     module _ {x : A} (e : r ≡ Some x) where
       sound : Sound tree b.tables.names.made.now b.code.words.now b.tables.entries.words.now (counts_of b) (limits_in b)

@@ -1,10 +1,11 @@
 -- What the lowering up to question 15 answers and leaves.
-use Rattle.std.specs.Prelude.{ℕ, ◌≡◌, List, Result, Ok, Err}
+use Rattle.std.specs.Prelude.{ℕ, ◌≡◌, Bool, true, false, List, Result, Ok, Err}
 use Rattle.definitions.specs.Bytes.{Answer, refused, accepted}
 use Rattle.definitions.specs.Tables.{Tables}
 use Rattle.definitions.specs.Module.{lower_tables}
 use Rattle.definitions.specs.Order.{accepted_tree}
 use Rattle.questions.specs.declared.Question.{Question}
+use Rattle.questions.specs.declared.Question.TheVariants.{Slots, Limits as LimitsKept}
 use Rattle.questions.specs.Numbers.{number}
 use Rattle.tree.specs.StmtAt.{TreeAt}
 use Rattle.state.specs.State.{tables_of, limits_of}
@@ -17,6 +18,11 @@ use Rattle.compile.specs.Compiled.{tree_block}
 unfoldable pub told : {A : Type 0} → Result (Unit {0}) Question → A → Answer A
 told (Ok u) x = accepted x
 told (Err q) x = refused (number q)
+
+-- whose lowering is full: 15 if each function has at most 255 slots, else 14
+unfoldable pub full_by : Bool → Question
+full_by true = LimitsKept
+full_by false = Slots
 
 -- the tables that an emitter shows
 abbrev pub tables_in : List ℕ → Emitter → Tables

@@ -1,12 +1,14 @@
 // The lowering of a tree up to question 15: its code and tables in the areas, and no module.
 #![tactic(auto)]
 
-ghost use Rattle.std.specs.Prelude.{◌≤◌, length};
+ghost use Rattle.std.specs.Prelude.{◌≡◌, ◌≤◌, [], length};
 ghost use Rattle.state.specs.State.{Limited};
-ghost use Rattle.compile.specs.Compiled.{Fresh};
-ghost use Rattle.settle.specs.Settles.{Settles, Accepts};
+ghost use Rattle.tree.specs.StmtAt.{TreeAt};
+ghost use Rattle.state.specs.Fits.{fits_block};
+ghost use Rattle.compile.specs.Compiled.{Fresh, tree_block};
+ghost use Rattle.settle.specs.Settles.{full_by, Settles, Accepts};
 
-use compile::compile;
+use compile::{Jumps, compile};
 use fits::statements::check_slots;
 use lower_emit::emitter::Emitter;
 use numerals::sizes::MADE_ROOM;
@@ -14,22 +16,26 @@ use questions::Question;
 use state::Limits;
 use tree::check_tree;
 
-// Questions 2 to 15; the emitter keeps what was worked out. A tree that is lowered has at most 255 slots a function, so question 14 is asked only where
-// the lowering is full.
-pub fn settle(tree: &[u8], e: &mut Emitter<'_>) -> Result<(), Question>
+// The question by which a tree is refused whose lowering is full. One that is lowered has at most 255 slots a function, so 14 is asked only here.
+fn full_by(tree: &[u8]) -> Question
+    requires { TreeAt tree.now }
+    ensures { result ≡ full_by (fits_block [] (tree_block tree.now)) }
+{
+    if check_slots(tree) {
+        return Question::Limits;
+    }
+    Question::Slots
+}
+
+// Questions 2 to 15; the emitter keeps what was worked out.
+pub fn settle(tree: &[u8], e: &mut Emitter<'_>, jumps: Jumps) -> Result<(), Question>
     requires { Fresh e.old }
     ensures { Settles result tree.now e.old e.new }
 {
     check_tree(tree)?;
-    match compile(tree, e) {
+    match compile(tree, e, jumps) {
         Some(()) => Ok(()),
-        None => {
-            if check_slots(tree) {
-                Err(Question::Limits)
-            } else {
-                Err(Question::Slots)
-            }
-        }
+        None => Err(full_by(tree)),
     }
 }
 
@@ -45,5 +51,5 @@ pub fn accept(
 {
     let mut made = [0u8; MADE_ROOM];
     let mut e = Emitter::new(code, &mut made, tables, limits);
-    settle(tree, &mut e)
+    settle(tree, &mut e, Jumps::Set)
 }

@@ -199,7 +199,7 @@ impl Captures<'_, '_> {
 }
 
 // The captures of a lambda, by its parameters and its body.
-fn collect_free_vars(
+pub fn collect_free_vars(
     around: Scope<'_>,
     params: usize,
     body: usize,

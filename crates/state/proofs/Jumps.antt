@@ -1,17 +1,16 @@
 -- The state after parts with jumps, where a jump is put first as any instruction and set when the part after it is done.
 use Prim.Native.Nat.{ℕ, suc, ◌+◌, ◌-◌, ◌≤◌, ◌<◌}
 use mathlib.Core.Path.{◌≡◌, refl, sym, ap, ◌∙◌}
-use mathlib.Core.Bool.{Bool}
 use mathlib.Core.List.{List, [], ◌∷◌, ◌++◌, append_assoc, append-nil}
 use native.Mathlib.Omega.{arith}
 use lib.ListN.{length, take, drop, set, length-append, length-set, length-take, length-drop}
 use lib.Seq.{set-append_left, set-append_seam, take_at, drop_at, append_snoc, take-append_seam, drop-append_seam, drop-append-add}
 use Rattle.definitions.specs.Bytes.{Name}
-use Rattle.definitions.specs.Instruction.{Instr, Jump, JumpIfFalse, ConstBool, minus}
+use Rattle.definitions.specs.Instruction.{Instr, Jump, JumpIfFalse, minus}
 use Rattle.definitions.specs.Tables.{Tables, Emit, emits, one}
 use Rattle.definitions.specs.Tree.{Expr, Block, Branches, done, else, when}
 use Rattle.definitions.specs.Slots.{Keeping, past, loops_block}
-use Rattle.definitions.specs.Lower.{jump_on, shortcut, patch, loop, emit_expr, emit_block, emit_branches}
+use Rattle.definitions.specs.Lower.{patch, loop, emit_expr, emit_block, emit_branches}
 use Rattle.state.specs.State.{State, emit_at}
 use Rattle.state.specs.Steps.{set_at, patch_at, branch, chain_at}
 use Rattle.state.proofs.Emission.{state-eq}
@@ -33,43 +32,9 @@ patch-length h k n s l =
     let m = patch-long h n 0 (take n (drop k s.stack)) in
     simp (length-append, length-take, length-drop, m) (omega arith)
 
--- ---- `and`, `or`
-
--- the place after a placeholder
-after_one : (base : ℕ) (i : Instr) (s : State) → base ≤ length s.stack → length (s.stack ++ i ∷ []) - base ≡ suc (length s.stack - base)
-after_one base i s h = omega (arith, length-append s.stack (i ∷ []))
-
 -- what a part adds to the stack
 added : (xs ys : List Instr) → length (xs ++ ys) - length xs ≡ length ys
 added xs ys = omega (arith, length-append xs ys)
-
-set-seam : (xs ys : List Instr) (i j a b : Instr) → set (xs ++ i ∷ [] ++ ys ++ a ∷ [] ++ b ∷ []) (length xs) j ≡ xs ++ (j ∷ ys ++ a ∷ b ∷ [])
-set-seam xs ys i j a b =
-    let e : xs ++ i ∷ [] ++ ys ++ a ∷ [] ++ b ∷ [] ≡ xs ++ (i ∷ (ys ++ a ∷ b ∷ [])) = simp append_assoc in
-    ap (λ (l : List Instr). set l (length xs) j) e ∙ set-append_seam xs i (ys ++ a ∷ b ∷ []) j
-
-shortcut-by : (base : ℕ) (b : Bool) (r : Emit) (i : Instr) (s : State) → base ≤ length s.stack
-    → emit_at base (shortcut b r) s
-    ≡ set_at (length s.stack) (jump_on b (suc (length (emit_at base r (emit_at base (one i) s)).stack - length (emit_at base (one i) s).stack)))
-    (emit_at base (one (ConstBool b)) (emit_at base (one (Jump 1)) (emit_at base r (emit_at base (one i) s))))
-unfolding emit_at set_at shortcut emits
-shortcut-by base b r i s h =
-    let xs = s.stack in
-    let n = length (xs ++ i ∷ []) - base in
-    let ys = (r n s.tables).code in
-    ap (λ (m : ℕ). record { stack = xs ++ (jump_on b (suc (length (r m s.tables).code)) ∷ (r m s.tables).code ++ Jump 1 ∷ ConstBool b ∷ []); tables = (r m s.tables).tables })
-    (sym (after_one base i s h))
-    ∙ state-eq _ _
-    (ap (λ (m : ℕ). xs ++ (jump_on b (suc m) ∷ ys ++ Jump 1 ∷ ConstBool b ∷ [])) (sym (added (xs ++ i ∷ []) ys))
-    ∙ sym (set-seam xs ys i _ (Jump 1) (ConstBool b)))
-    refl
-
--- i is the placeholder; s₁ and s₂ are the states after it and after the right side
-pub at-shortcut : (base : ℕ) (b : Bool) (r : Emit) (i : Instr) (s s₁ s₂ : State) → base ≤ length s.stack
-    → s₁ ≡ emit_at base (one i) s → s₂ ≡ emit_at base r s₁
-    → emit_at base (shortcut b r) s
-    ≡ set_at (length s.stack) (jump_on b (suc (length s₂.stack - length s₁.stack))) (emit_at base (one (ConstBool b)) (emit_at base (one (Jump 1)) s₂))
-at-shortcut base b r i s s₁ s₂ h e₁ e₂ = rw (e₂, e₁) (shortcut-by base b r i s h)
 
 -- ---- loops
 

@@ -9,12 +9,12 @@ use native.Mathlib.Numerals.{add-one}
 use lib.ListN.{length, take, drop, get_or, set, length-drop, length-map}
 use lib.Seq.{length-take-le, take-take, take-nil, drop-nil, take-set-lt, take-set-le, drop-set-lt, drop-set-add, take-suc-set, get_or-take, drop-drop}
 use lib.Dec.{ltb, leb}
-use borrow.Author.Tests.{ltb-false, le-leb}
+use borrow.Author.Tests.{ltb-false, le-leb, lt-ltb}
 use Rattle.definitions.specs.Bytes.{Name, all}
 use Rattle.definitions.specs.Tables.{Function, Class, set_code, coded}
 use Rattle.definitions.specs.Module.{instructions}
 use Rattle.state.specs.Words.{region, name_at, instr_of, instrs_of}
-use Rattle.state.specs.State.{spelled, function_of, functions_of, method_of, class_of, classes_of, place_of, count_of, Every, no_every, every, MadeWithin, EndsWithin, total}
+use Rattle.state.specs.State.{spelled, function_of, functions_of, method_of, class_of, classes_of, place_of, count_of, Every, no_every, every, MadeWithin, EndsWithin, NamedWithin, total}
 
 -- ---- regions
 
@@ -118,6 +118,13 @@ unfolding all functions_of function_of
 functions-slots tree fin [] ks = refl
 functions-slots tree fin (h ∷ hs) [] = refl
 functions-slots tree fin (h ∷ hs) (k ∷ ks) = rw (le-leb (h % 2 ^ 8) 255 (omega arith)) (functions-slots tree fin hs ks)
+
+-- a head's function has its symbol
+pub functions-named : (tree fin : List ℕ) (n : ℕ) {hs : List ℕ} (ks : List ℕ) → Every (NamedWithin n) hs → all (λ (f : Function). ltb f.symbol n) (functions_of tree fin hs ks) ≡ true
+unfolding all functions_of function_of
+functions-named tree fin n ks no_every = refl
+functions-named tree fin n [] (every p w) = refl
+functions-named tree fin n (k ∷ ks) (every {a} p w) = rw (lt-ltb (a / 2 ^ 16) n p) (functions-named tree fin n ks w)
 
 -- one function more
 pub functions-snoc : (tree fin hs ks : List ℕ) (h k : ℕ) → length hs ≡ length ks

@@ -64,13 +64,13 @@ at-unpack-more base slots e es i s h =
 -- ---- statements
 
 -- what goes on with the next loop's keeper
-at-kept : (base : ℕ) (keep : Keeping) (F : Keeper → Emit) (s : State) → emit_at base (kept_iter keep F) s ≡ emit_at base (F (keeper_at base keep s)) (kept_at base keep s)
+pub at-kept : (base : ℕ) (keep : Keeping) (F : Keeper → Emit) (s : State) → emit_at base (kept_iter keep F) s ≡ emit_at base (F (keeper_at base keep s)) (kept_at base keep s)
 unfolding kept_iter named_iter keeper_at kept_at
 at-kept base in_globals F s =
     at_here base (λ p. intern (iter_name p) (λ k. F (global k))) s ∙ at-intern base (iter_name (length s.stack - base)) (λ k. F (global k)) s
 at-kept base (in_slots n) F s = refl
 
-kept-stack : (base : ℕ) (keep : Keeping) (s : State) → (kept_at base keep s).stack ≡ s.stack
+pub kept-stack : (base : ℕ) (keep : Keeping) (s : State) → (kept_at base keep s).stack ≡ s.stack
 unfolding kept_at
 kept-stack base in_globals s = refl
 kept-stack base (in_slots n) s = refl

@@ -1,17 +1,21 @@
 -- How long the views of sound slices are: as the counts say. So sound slices hold a state within the limits.
 use Prim.Native.Nat.{ℕ}
-use mathlib.Core.Path.{◌≡◌, sym, ◌∙◌}
+use mathlib.Core.Path.{◌≡◌, sym, ap, ◌∙◌}
 use mathlib.Core.Bool.{true}
 use mathlib.Core.List.{List}
 use native.Mathlib.Omega.{arith}
 use lib.ListN.{length, take, drop, length-drop, length-map}
 use lib.Seq.{length-take-le}
+use lib.Dec.{ltb}
+use Rattle.definitions.specs.Bytes.{all}
+use Rattle.definitions.specs.Tables.{Function}
 use Rattle.definitions.specs.Module.{instructions, slots_fit}
+use Rattle.definitions.specs.Statements.{has_names}
 use Rattle.state.specs.Words.{region, text_at, instr_of, instrs_of}
 use Rattle.state.specs.State.{strings_from, heads_from, codes_from, class_names_from, class_methods_from, methods_from, constants_from, done_from, spelled, tables_of, state_of, Within, Sound}
 use Rattle.state.specs.declared.Counts.{Counts}
 use Rattle.state.specs.declared.Limits.{Limits}
-use Rattle.state.proofs.Regions.{region-length, functions-length, functions-slots, classes-length, instructions-total}
+use Rattle.state.proofs.Regions.{region-length, functions-length, functions-slots, functions-named, classes-length, instructions-total}
 
 module _ (tree made code tables : List ℕ) (c : Counts) (l : Limits) (s : Sound tree made code tables c l) where
   pub stack-length : length (state_of tree made code tables c).stack ≡ c.open
@@ -55,6 +59,13 @@ module _ (tree made code tables : List ℕ) (c : Counts) (l : Limits) (s : Sound
   instruction-count =
       instructions-total tree (drop done_from code) (region heads_from c.functions tables) (region codes_from c.functions tables) c.done (heads ∙ sym codes) s.codes
       (omega (arith, s.limited, length-drop done_from code)) ∙ sym s.finished
+
+  -- each function has its symbol
+  pub names-stand : has_names (state_of tree made code tables c).tables ≡ true
+  unfolding has_names state_of tables_of
+  names-stand =
+      ap (λ (n : ℕ). all (λ (f : Function). ltb f.symbol n) (state_of tree made code tables c).tables.functions) symbols-length
+      ∙ functions-named tree (drop done_from code) c.symbols (region codes_from c.functions tables) s.heads
 
   -- a head keeps a function's slots in 8 bits
   pub few-slots : slots_fit (state_of tree made code tables c).tables ≡ true

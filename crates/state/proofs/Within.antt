@@ -1,7 +1,6 @@
 -- A state that is within the limits at the end of a step was so before it. So where a part is over the limits, the whole is.
 use Prim.Native.Nat.{ℕ, suc, ◌+◌, ◌-◌, ◌≤◌, ◌<◌}
 use mathlib.Core.Path.{◌≡◌, refl, sym, ap, subst, ◌∙◌}
-use mathlib.Core.Bool.{Bool}
 use mathlib.Core.List.{List, [], ◌++◌}
 use native.Mathlib.Omega.{arith}
 use lib.ListN.{length, drop, set, length-append, length-set}
@@ -9,17 +8,17 @@ use lib.Dec.{leb}
 use lib.Seq.{drop-append_seam, take-append_seam}
 use Rattle.definitions.specs.Bytes.{Name}
 use Rattle.definitions.specs.Tree.{Expr, Block, Branches, else, when, Methods, method}
-use Rattle.definitions.specs.Instruction.{Instr, Jump, JumpIfFalse, ConstBool, LoadConst, StoreGlobal, MakeClosure, Return, minus}
+use Rattle.definitions.specs.Instruction.{Instr, Jump, JumpIfFalse, LoadConst, StoreGlobal, MakeClosure, Return, minus}
 use Rattle.definitions.specs.Tables.{Method, Tables, Body, Emit, one, ◌⨟◌, with_classes, add_constant, begin, function}
 use Rattle.definitions.specs.Module.{slots_fit}
 use Rattle.definitions.specs.Slots.{Keeping, past, Frame, names_only, loops_block}
-use Rattle.definitions.specs.Lower.{shortcut, jump_on, loop, loads, lambda_name, closure, emit_expr, emit_block, emit_branches, emit_methods, begin_class, class_object, end_class, class_out}
+use Rattle.definitions.specs.Lower.{loop, loads, lambda_name, closure, emit_expr, emit_block, emit_branches, emit_methods, begin_class, class_object, end_class, class_out}
 use Rattle.definitions.proofs.Truth.{right, at_most}
 use Rattle.state.specs.State.{State, emit_at, Within, symbol_number, with_symbol, with_tables}
 use Rattle.state.specs.Steps.{set_at, patch_at, begun, ended, branch, chain_at, method_function, methods_at, methods_of}
 use Rattle.state.specs.declared.Limits.{Limits}
 use Rattle.state.proofs.Emission.{stack-grows, base_kept, at-seq}
-use Rattle.state.proofs.Jumps.{set-length, patch-length, at-shortcut, at-loop, at-branch, at-when, chain-when, chain-else}
+use Rattle.state.proofs.Jumps.{set-length, patch-length, at-loop, at-branch, at-when, chain-when, chain-else}
 use Rattle.state.proofs.Enclosing.{symbol-functions, at-function, at-closure, at-end_class, at-class_object, at-class, methods-more}
 use Rattle.state.proofs.Growth.{Lengthened, Lengthens, lengthened-none, functions-longer, instructions-longer, slots-fewer, set_code-count}
 use Rattle.state.proofs.Growth.{set_code-instructions, lengthens-one, lengthens-seq, branches-lengthened, methods-lengthened, lengthens-end_class, lengthens-loads}
@@ -71,12 +70,6 @@ within-set k i s w = within-less s (set_at k i s) (lengthened-none s.tables) (om
 pub within-patch : {l : Limits} (h k n : ℕ) (s : State) → k + n ≤ length s.stack → Within l (patch_at h k n s) → Within l s
 unfolding patch_at
 within-patch h k n s m w = within-less s (patch_at h k n s) (lengthened-none s.tables) (omega (arith, patch-length h k n s m)) w
-
--- i is the placeholder; s₁ and s₂ are the states after it and after the right side
-pub within-shortcut : {l : Limits} (base : ℕ) (b : Bool) (r : Emit) (i : Instr) (s s₁ s₂ : State) → base ≤ length s.stack
-    → s₁ ≡ emit_at base (one i) s → s₂ ≡ emit_at base r s₁ → Within l (emit_at base (shortcut b r) s) → Within l (emit_at base (one (ConstBool b)) (emit_at base (one (Jump 1)) s₂))
-within-shortcut base b r i s s₁ s₂ h e₁ e₂ w =
-    within-set (length s.stack) (jump_on b (suc (length s₂.stack - length s₁.stack))) _ (rw (at-shortcut base b r i s s₁ s₂ h e₁ e₂) at w)
 
 -- i is the placeholder; s₁, s₂ and s₃ are the states after the head, the placeholder and the inside
 pub within-loop : {l : Limits} (base : ℕ) (head inside : Emit) (i : Instr) (s : State) → base ≤ length s.stack → (s₁ s₂ s₃ : State)

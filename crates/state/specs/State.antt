@@ -1,5 +1,5 @@
 -- The lowering's state, seen in the slices lent to it; and what a step leaves.
-use Rattle.std.specs.Prelude.{ℕ, ◌+◌, ◌-◌, ◌*◌, ◌/◌, ◌%◌, ◌^◌, ◌≤◌, ◌≡◌, true, false, List, [], ◌∷◌, ◌++◌, map, length, take, drop, get_or, ltb}
+use Rattle.std.specs.Prelude.{ℕ, ◌+◌, ◌-◌, ◌*◌, ◌/◌, ◌%◌, ◌^◌, ◌≤◌, ◌<◌, ◌≡◌, true, false, List, [], ◌∷◌, ◌++◌, map, length, take, drop, get_or, ltb}
 use Rattle.std.proofs.Math.Option.{Option, none, some}
 use Rattle.definitions.specs.Bytes.{Name, Text, same, position}
 use Rattle.definitions.specs.Instruction.{Instr}
@@ -172,6 +172,10 @@ MadeWithin made n w = 32768 ≤ w → w - 32768 + 1 + get_or made (w - 32768) 0 
 abbrev pub EndsWithin : ℕ → ℕ → Type 0
 EndsWithin n k = place_of k + count_of k ≤ n
 
+-- a head names its function by one of n symbols
+abbrev pub NamedWithin : ℕ → ℕ → Type 0
+NamedWithin n h = h / 2 ^ 16 < n
+
 -- the words of all finished functions
 unfoldable pub total : List ℕ → ℕ
 total [] = 0
@@ -194,6 +198,7 @@ pub record Sound (tree made code tables : List ℕ) (c : Counts) (l : Limits) : 
   -- 20 bytes are enough for any made name
   pub made-count : c.made ≤ c.symbols * 20
   pub names : Every (MadeWithin made c.made) (region 0 c.symbols tables)
+  pub heads : Every (NamedWithin c.symbols) (region heads_from c.functions tables)
   pub codes : Every (EndsWithin c.done) (region codes_from c.functions tables)
   pub class-methods : Every (EndsWithin c.methods) (region class_methods_from c.classes tables)
   -- the finished words are those of the functions

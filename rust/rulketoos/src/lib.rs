@@ -17,10 +17,10 @@
 //! ```
 //!
 //! [`Limits`] says how large a module may be. [`lower`] does the same without allocating, in buffers of the caller;
-//! [`check`] asks a tree's own questions only; [`run`] runs a function of a module on yes and no answers; [`list`] writes
-//! the listing of a module's code, [`count_sheet`] its count sheet; [`reach`] gives answers that bring a run to a place;
-//! [`height`] gives the stack that a function needs, and [`heights`] checks that of modules from elsewhere; [`order`]
-//! tells which of two trees comes first.
+//! [`lower_measured`] does so too, and writes every jump as it stays; [`check`] asks a tree's own questions only; [`run`]
+//! runs a function of a module on yes and no answers; [`list`] writes the listing of a module's code, [`count_sheet`] its
+//! count sheet; [`reach`] gives answers that bring a run to a place; [`height`] gives the stack that a function needs, and
+//! [`heights`] checks that of modules from elsewhere; [`order`] tells which of two trees comes first.
 //!
 //! No call keeps anything, and none shares anything with another, so calls may be made from several threads. They work on their thread's stack; the
 //! usual 2 MB are enough (the run takes the most, about 600 KB).
@@ -43,4 +43,4 @@ pub use order::order;
 pub use reach::{reach, reach_to_vec, REACH_AREA};
 pub use refusal::{NoSuchQuestion, Refusal};
 pub use texts::{count_sheet, count_sheet_to_string, list, list_to_string};
-pub use trees::{check, lower, lower_to_vec, Areas, Limits, AREA, MODULE_ROOM};
+pub use trees::{check, lower, lower_measured, lower_to_vec, Areas, Limits, AREA, MODULE_ROOM};

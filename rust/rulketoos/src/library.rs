@@ -12,6 +12,17 @@ unsafe extern "C" {
         out: *mut u8,
         out_len: usize,
     ) -> u64;
+    pub fn rulketoos_lower_measured(
+        tree: *const u8,
+        tree_len: usize,
+        limits: u32,
+        area1: *mut u32,
+        area1_len: usize,
+        area2: *mut u32,
+        area2_len: usize,
+        out: *mut u8,
+        out_len: usize,
+    ) -> u64;
     pub fn rulketoos_order(
         first: *const u8,
         first_len: usize,

@@ -103,10 +103,65 @@ pub fn lower(
     areas: &mut Areas,
     out: &mut [u8],
 ) -> Result<usize, Refusal> {
+    lower_by(library::rulketoos_lower, tree, limits, areas, out)
+}
+
+/// Lowers a tree record as [`lower`] does, by the plain lowering: it measures how many instructions each part of the tree will have, and writes every jump as it stays. docs/LOWERING.md reads it aloud.
+///
+/// Answer, bytes and areas are those of [`lower`], on every input and for both sets of limits. Nothing is allocated.
+///
+/// ```
+/// use rulketoos::{Areas, Limits};
+///
+/// let mut areas = Areas::new();
+/// let (mut out, mut same) = ([0; 64], [0; 64]);
+/// // `while None: pass`
+/// let tree = [0, 0, 0, 8, 1, 0, 1, 7, 0, 0, 1, 2];
+/// let count = rulketoos::lower_measured(&tree, Limits::Office, &mut areas, &mut out)?;
+/// // None, JumpIfFalse over the block and the jump back, Jump back, Return
+/// assert_eq!(rulketoos::code(&out[..count], 0)?, [5, 29, 0, 0, 0, 1, 28, 255, 255, 255, 253, 33]);
+/// assert_eq!(rulketoos::lower(&tree, Limits::Office, &mut areas, &mut same)?, count);
+/// assert_eq!(out, same);
+/// # Ok::<(), rulketoos::Refusal>(())
+/// ```
+///
+/// # Errors
+///
+/// The first question that is answered no.
+pub fn lower_measured(
+    tree: &[u8],
+    limits: Limits,
+    areas: &mut Areas,
+    out: &mut [u8],
+) -> Result<usize, Refusal> {
+    lower_by(library::rulketoos_lower_measured, tree, limits, areas, out)
+}
+
+/// A lowering of the library.
+type Lowering = unsafe extern "C" fn(
+    *const u8,
+    usize,
+    u32,
+    *mut u32,
+    usize,
+    *mut u32,
+    usize,
+    *mut u8,
+    usize,
+) -> u64;
+
+/// Lowers by one of the library's two lowerings.
+fn lower_by(
+    lowering: Lowering,
+    tree: &[u8],
+    limits: Limits,
+    areas: &mut Areas,
+    out: &mut [u8],
+) -> Result<usize, Refusal> {
     let (first, second) = (&mut areas.first, &mut areas.second);
     // SAFETY: each pointer and length are a live slice's; the three that are written to are lent here alone, so none overlap.
     let told = unsafe {
-        library::rulketoos_lower(
+        lowering(
             tree.as_ptr(),
             tree.len(),
             limits.number(),

@@ -11,6 +11,9 @@ use std::time::{Duration, Instant};
 /// More than this is too long for any tree.
 const LIMIT: Duration = Duration::from_millis(20);
 
+/// More than this is too long for any tree by measured lengths, which walk a part once for each part around it.
+const MEASURED_LIMIT: Duration = Duration::from_millis(100);
+
 /// The best time of one call. Each is timed by itself, so that dropping what
 /// it gives doesn't count.
 fn best_call<T>(mut call: impl FnMut() -> T) -> Duration {
@@ -50,6 +53,15 @@ impl Buffers {
 
     fn best(&mut self, tree: &[u8]) -> Duration {
         best_call(|| self.lower(tree))
+    }
+
+    fn measured(&mut self, tree: &[u8]) -> Result<usize, Refusal> {
+        rulketoos::lower_measured(
+            black_box(tree),
+            Limits::Office,
+            &mut self.areas,
+            &mut self.out,
+        )
     }
 }
 
@@ -153,6 +165,49 @@ pub fn beside_the_rust() {
         assert!(call().is_ok(), "{what} is accepted");
         line(what, best_call(call), best_compile(&tree));
     }
+}
+
+/// So many statements, each in the next: what `around` makes of a block.
+fn nested(depth: usize, inside: Vec<Vec<u8>>, around: fn(&[Vec<u8>]) -> Vec<u8>) -> Vec<u8> {
+    let block = (0..depth).fold(inside, |block, _| vec![around(&block)]);
+    make::tree(&block)
+}
+
+/// Trees in which much stands deep, so that it is measured again and again.
+fn deep() -> Vec<(&'static str, Vec<u8>)> {
+    let call = || make::expr(make::call_name("f", &[]));
+    let calls = || make::times(2_400, &call());
+    let if_ = |block: &[Vec<u8>]| make::if_(&[(make::none(), block.to_vec())], None);
+    let while_ = |block: &[Vec<u8>]| make::while_(make::none(), block);
+    vec![
+        ("2,400 calls in 29 nested ifs", nested(29, calls(), if_)),
+        (
+            "2,400 calls in 29 nested whiles",
+            nested(29, calls(), while_),
+        ),
+    ]
+}
+
+/// Measured lengths beside the lowering that sets its jumps, and how long the slowest tree takes.
+pub fn measured() {
+    println!("lowering by measured lengths, beside the lowering");
+    let mut buffers = Buffers::new();
+    let mut worst = (Duration::ZERO, String::new());
+    let listed = cases().into_iter().chain(deep());
+    let mut all: Vec<_> = listed
+        .map(|(what, tree)| (what.to_string(), tree))
+        .collect();
+    all.extend(slow::all().into_iter().map(|case| (case.name, case.tree)));
+    for (what, tree) in all {
+        assert_eq!(buffers.measured(&tree), buffers.lower(&tree), "{what}");
+        let took = best_call(|| buffers.measured(&tree));
+        line(&what, took, buffers.best(&tree));
+        worst = worst.max((took, what));
+    }
+    let (took, name) = worst;
+    let within = took <= MEASURED_LIMIT;
+    let verdict = if within { "within" } else { "MORE THAN" };
+    println!("*** the slowest tree, {name}: {took:.2?}, {verdict} {MEASURED_LIMIT:?} ***");
 }
 
 /// Trees that take long, and how long the slowest takes. The Rust isn't asked

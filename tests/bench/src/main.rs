@@ -264,6 +264,7 @@ fn main() {
     println!("{:52} {:>12} {:>12} {:>8}", "", "ours", "other", "ratio");
     lowering::beside_the_rust();
     lowering::slow_trees();
+    lowering::measured();
     if std::env::args().any(|word| word == "lowering") {
         return;
     }

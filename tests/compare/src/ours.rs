@@ -10,6 +10,12 @@ use rulketoos::{Areas, Limits, Refusal};
 const DIRT: u8 = 0xa5;
 const DIRT_WORD: u32 = 0xa5a5_a5a5;
 
+/// A lowering, by a set of limits.
+type Lowering = fn(&[u8], Limits, &mut Areas, &mut [u8]) -> Result<usize, Refusal>;
+
+/// The two lowerings: they have to agree on every input.
+const LOWERINGS: [Lowering; 2] = [rulketoos::lower, rulketoos::lower_measured];
+
 /// The number of a refusal, as the model gives it.
 pub fn number(refusal: Refusal) -> u8 {
     refusal.number() as u8
@@ -75,6 +81,7 @@ impl Lent {
     /// One call on dirty buffers: the answer, and what every buffer holds after it.
     fn call(
         &mut self,
+        lowering: Lowering,
         tree: &[u8],
         limits: Limits,
         areas: [usize; 2],
@@ -82,7 +89,7 @@ impl Lent {
         whole: &Result<Vec<u8>, u8>,
     ) -> Result<(), String> {
         self.soil(areas, room);
-        let ours = rulketoos::lower(tree, limits, &mut self.areas, &mut self.out).map_err(number);
+        let ours = lowering(tree, limits, &mut self.areas, &mut self.out).map_err(number);
         let expected = expected(whole, areas, room);
         let count = expected.map(<[u8]>::len);
         if ours != count {
@@ -104,7 +111,8 @@ impl Lent {
     }
 
     /// Calls with areas just long enough, longer and too short, and with an
-    /// output that is longer than the module, just full, and one short.
+    /// output that is longer than the module, just full, and one short; by each
+    /// lowering.
     fn calls(
         &mut self,
         tree: &[u8],
@@ -123,8 +131,12 @@ impl Lent {
             ([AREA + 64, AREA], length - 1),
             (short, length),
         ] {
-            self.call(tree, limits, areas, room, whole)
-                .map_err(|e| format!("{limits:?}, areas {areas:?}, room {room}: {e}"))?;
+            for (place, lowering) in LOWERINGS.into_iter().enumerate() {
+                self.call(lowering, tree, limits, areas, room, whole)
+                    .map_err(|e| {
+                        format!("lowering {place}, {limits:?}, areas {areas:?}, room {room}: {e}")
+                    })?;
+            }
         }
         Ok(())
     }

@@ -33,6 +33,9 @@ fn trees() {
             let lowered = rulketoos::lower(&tree, limits, &mut areas, &mut out);
             let ours = lowered.map_or_else(refused, |count| hex(&out[..count]));
             assert_eq!(ours, answer, "{name}");
+            let lowered = rulketoos::lower_measured(&tree, limits, &mut areas, &mut out);
+            let ours = lowered.map_or_else(refused, |count| hex(&out[..count]));
+            assert_eq!(ours, answer, "{name}, measured");
         }
     }
 }

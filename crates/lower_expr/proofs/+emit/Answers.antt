@@ -37,7 +37,7 @@ use Rattle.lower_leaves.proofs.LambdaState.{captured-is, captured-held, captured
 use Rattle.lower_expr.proofs.Bodies.{body-ready, body-in, lambda-over, closure_by, body-full, body-stopped, body-ends}
 use Rattle.lower_expr.proofs.Calls.{call-value, named-state, functions-few, value-short, value-callee, method_then, method-symbol}
 use Rattle.lower_expr.proofs.Several.{many_by, rest-all, rest-sound, rest-next, rest-over, rest-done, rest-constants}
-use Rattle.lower_expr.proofs.Shortcut.{jump, shortcut-none, shortcut-stopped, shortcut-before, shortcut-ends}
+use Rattle.lower_expr.proofs.Shortcut.{sound-over, shortcut-none, shortcut-stopped, shortcut-long, shortcut-over, shortcut-ends}
 use Rattle.lower_expr.proofs.Words.{sole-after, sound-after, word-ends, word-over, expr_then, emits_at}
 use Rattle.lower_expr.proofs.+emit.Goals as goal
 
@@ -235,27 +235,41 @@ emit_logical-returns t c =
 
 -- ---- emit_shortcut
 
-pub emit_shortcut-returns-in_err-put_op : goal.emit_shortcut-returns-in_err-put_op
-emit_shortcut-returns-in_err-put_op t c = shortcut-none c.requires.0.sound c.requires.2 c.requires.3 c.put_op.ensures _ (lengthens-expr _ _) c.in_err-put_op.was c.from_residual.ensures
+pub emit_shortcut-expr_size-size-requires : goal.emit_shortcut-expr_size-size-requires
+emit_shortcut-expr_size-size-requires t c = (c.requires.0, c.requires.1.reads)
+
+pub emit_shortcut-returns-in_err-put_over : goal.emit_shortcut-returns-in_err-put_over
+emit_shortcut-returns-in_err-put_over t c =
+    let R = c.requires in
+    shortcut-none _ R.0.sound R.1 R.2 R.3 c.expr_size-size.ensures c.put_over.ensures c.in_err-put_over.was c.from_residual.ensures
 
 pub emit_shortcut-emit_expr-requires : goal.emit_shortcut-emit_expr-requires
-emit_shortcut-emit_expr-requires t c = (omega (arith, c.decreases), (sole-at c.requires.0 (sound-next c.in_ok-put_op.was (jump c.requires.0.sound c.requires.2 c.requires.3 c.put_op.ensures).reaches), c.requires.1))
+emit_shortcut-emit_expr-requires t c =
+    let R = c.requires in
+    (omega (arith, c.decreases), (sole-at R.0 (sound-over _ R.0.sound R.1 R.2 R.3 c.expr_size-size.ensures c.put_over.ensures c.in_ok-put_over.was), R.1))
 
 pub emit_shortcut-returns-in_err-next : goal.emit_shortcut-returns-in_err-next
-emit_shortcut-returns-in_err-next t c = shortcut-stopped c.requires.0.sound c.requires.2 c.requires.3 c.put_op.ensures c.in_ok-put_op.was c.emit_expr.ensures c.in_err-next.was c.from_residual-in_err-next.ensures
+emit_shortcut-returns-in_err-next t c =
+    let R = c.requires in
+    shortcut-stopped _ R.0.sound R.1 R.2 R.3 c.expr_size-size.ensures c.put_over.ensures c.in_ok-put_over.was c.emit_expr.ensures c.in_err-next.was c.from_residual-in_err-next.ensures
 
-pub emit_shortcut-end_shortcut-requires : goal.emit_shortcut-end_shortcut-requires
-emit_shortcut-end_shortcut-requires t c = (shortcut-before c.requires.0.sound c.requires.2 c.requires.3 c.put_op.ensures c.in_ok-put_op.was c.emit_expr.ensures c.in_ok-next.was, c.requires.2, c.requires.3)
+pub emit_shortcut-returns-in_err-put_op : goal.emit_shortcut-returns-in_err-put_op
+emit_shortcut-returns-in_err-put_op t c =
+    let R = c.requires in
+    shortcut-long _ R.0.sound R.1 R.2 R.3 c.expr_size-size.ensures c.put_over.ensures c.in_ok-put_over.was c.emit_expr.ensures c.in_ok-next.was c.put_op.ensures
+    c.in_err-put_op.was c.from_residual-in_err-put_op.ensures
 
-pub emit_shortcut-returns-in_err-end_shortcut : goal.emit_shortcut-returns-in_err-end_shortcut
-emit_shortcut-returns-in_err-end_shortcut t c =
-    words-none c.in_err-end_shortcut.was c.from_residual-in_err-end_shortcut.ensures
-    (shortcut-ends c.requires.0.sound c.requires.2 c.requires.3 c.put_op.ensures c.in_ok-put_op.was c.emit_expr.ensures c.in_ok-next.was c.end_shortcut.ensures)
+pub emit_shortcut-returns-in_err-put_op-2 : goal.emit_shortcut-returns-in_err-put_op-2
+emit_shortcut-returns-in_err-put_op-2 t c =
+    let R = c.requires in
+    shortcut-over _ R.0.sound R.1 R.2 R.3 c.expr_size-size.ensures c.put_over.ensures c.in_ok-put_over.was c.emit_expr.ensures c.in_ok-next.was c.put_op.ensures
+    c.in_ok-put_op.was c.put_op-2.ensures c.in_err-put_op-2.was c.from_residual-in_err-put_op-2.ensures
 
 pub emit_shortcut-returns : goal.emit_shortcut-returns
 emit_shortcut-returns t c =
-    words-end c.in_ok-end_shortcut.was (c.emit_expr.ensures.place _ c.in_ok-next.was)
-    (shortcut-ends c.requires.0.sound c.requires.2 c.requires.3 c.put_op.ensures c.in_ok-put_op.was c.emit_expr.ensures c.in_ok-next.was c.end_shortcut.ensures)
+    let R = c.requires in
+    shortcut-ends _ R.0.sound R.1 R.2 R.3 c.expr_size-size.ensures c.put_over.ensures c.in_ok-put_over.was c.emit_expr.ensures c.in_ok-next.was c.put_op.ensures
+    c.in_ok-put_op.was c.put_op-2.ensures c.in_ok-put_op-2.was
 
 -- ---- emit_call
 

@@ -3,7 +3,8 @@ use mathlib.Core.Path.{sym}
 use Rattle.numerals.specs.Kinds.{stmt_byte}
 use Rattle.tree.proofs.StmtViews.{stmt-inside, stmt-deep, stmt-known, view-if, view-while, view-for, view-def, view-class, view-block, else-inside}
 use Rattle.rests.proofs.Taking.{takes_two, left-start, left-next, left-done, left-last}
-use Rattle.rests.proofs.StmtKinds.{stmt-within, body-within, def-within, branches-within, plain-kind, simple-taken, pass-taken, if-taken, while-taken, for-taken, def-taken, class-methods, attributes-there, class-taken}
+use Rattle.tree.proofs.StmtViews.{branches-within}
+use Rattle.rests.proofs.StmtKinds.{stmt-within, body-within, def-within, plain-kind, simple-taken, pass-taken, if-taken, while-taken, for-taken, def-taken, class-methods, attributes-there, class-taken}
 use Rattle.rests.proofs.StmtKinds.{body_reads, body-taken, for-branch, for-body, def-reads, def-block, def-params}
 use Rattle.rests.proofs.StmtKinds.{stmts-head, stmts-step, stmts-end, stmts-none, stmts-start, block-taken, branches-head, branches-step, branches-last, branches-done, else-none, else-reads}
 use Rattle.rests.proofs.StmtKinds.{else-taken, elifs-counted, elifs-read, elifs-taken, methods-head, methods-step, methods-end, methods-none}

@@ -1,6 +1,9 @@
 //! Good and bad calls: words, input, exit status, and what standard output and standard error begin with or hold.
 
 use crate::person::{reply, Person, COMMAND};
+use std::env;
+use std::fs;
+use std::os::unix::fs::PermissionsExt;
 
 const EMPTY: &[u8] = &[0, 0, 0, 3, 1, 0, 0];
 const BREAK: &[u8] = &[0, 0, 0, 4, 1, 0, 1, 0];
@@ -38,6 +41,7 @@ const CALLS: &[Call] = &[
     ("lower spine.py -o a -o b", b"", 2, "", "-o is given twice"),
     ("lower spine.py --quickly", b"", 2, "", "there is no option --quickly"),
     ("lower spine.py --console=1", b"", 2, "", "--console takes no value"),
+    ("lower --measured=1 spine.py", b"", 2, "", "--measured takes no value"),
     ("show spine.module --console", b"", 2, "", "spine.module is a module, and --console is for a script or a tree"),
     ("code spine.py", b"", 2, "", "FUNCTION is missing"),
     ("code spine.py main", b"", 2, "", "FUNCTION is a number"),
@@ -236,6 +240,31 @@ fn office_and_console() {
     assert_eq!(person.file("more.module"), None);
 }
 
+/// Both lowerings write the same module, and refuse by the same question at the same place.
+#[test]
+fn measured_lowers_the_same() {
+    let person = Person::new();
+    person.has("loose.py", "for x in y:\n    pass\nbreak\n");
+    person.has("more.py", "def f():\n    pass\n".repeat(64));
+    let samples = SAMPLES.map(|sample| format!("{sample}.py"));
+    for file in samples
+        .iter()
+        .map(String::as_str)
+        .chain(["loose.py", "more.py"])
+    {
+        for set in [&[][..], &["--console"]] {
+            let plain = [&["lower", file][..], set].concat();
+            let measured = [&["lower", "--measured", file][..], set].concat();
+            let (one, other) = (person.types(&plain, b""), person.types(&measured, b""));
+            assert_eq!(
+                (one.status, one.out, one.said),
+                (other.status, other.out, other.said),
+                "{measured:?}"
+            );
+        }
+    }
+}
+
 #[test]
 fn code_is_a_part_of_the_module() {
     let person = Person::new();
@@ -274,6 +303,31 @@ fn places_of_a_sample() {
         );
     }
     assert_eq!(none, [16, 33]);
+}
+
+#[test]
+fn one_tool_reads_all_scripts() {
+    let person = Person::new();
+    let count = "#!/bin/sh\necho >>starts\nPATH=${PATH#.:}\nexec python3 \"$@\"\n";
+    person.has("python3", count);
+    let mode = fs::Permissions::from_mode(0o755);
+    fs::set_permissions(person.folder.join("python3"), mode).expect("a mode");
+    let names: Vec<String> = (0..40).map(|number| format!("{number}.py")).collect();
+    for name in &names {
+        person.has(name, format!("x = {}\n", name.len()));
+    }
+    let mut words = vec!["sort"];
+    words.extend(names.iter().map(String::as_str));
+    let path = format!(".:{}", env::var("PATH").expect("a PATH"));
+    let sorted = |words: &[&str]| reply(person.command(COMMAND, words).env("PATH", &path), b"");
+    let all = sorted(&words);
+    assert_eq!((all.status, all.said.as_str()), (0, ""));
+    assert_eq!(all.out.iter().filter(|&&byte| byte == b'=').count(), 38);
+    assert_eq!(person.file("starts").expect("the starts"), b"\n");
+    person.has("20.py", "x = (\n");
+    let unfit = sorted(&words);
+    assert_eq!((unfit.status, unfit.out.len()), (1, 0));
+    assert!(unfit.said.starts_with("20.py:1:5: "), "{}", unfit.said);
 }
 
 #[test]

@@ -3,7 +3,7 @@
 use crate::failure::Failure;
 use crate::places::{self, Places};
 use crate::script;
-use rulketoos::{Limits, Refusal};
+use rulketoos::{Areas, Limits, Refusal, MODULE_ROOM};
 use std::ffi::OsStr;
 use std::fs::File;
 use std::io::{self, Read};
@@ -175,6 +175,15 @@ impl Source {
     /// The module of the tree.
     pub fn lowered(&self, limits: Limits) -> Result<Vec<u8>, Failure> {
         rulketoos::lower_to_vec(&self.tree, limits).map_err(|refusal| self.refused(refusal))
+    }
+
+    /// The same by measured lengths.
+    pub fn lowered_measured(&self, limits: Limits) -> Result<Vec<u8>, Failure> {
+        let mut module = vec![0; MODULE_ROOM];
+        let count = rulketoos::lower_measured(&self.tree, limits, &mut Areas::new(), &mut module)
+            .map_err(|refusal| self.refused(refusal))?;
+        module.truncate(count);
+        Ok(module)
     }
 
     /// The refusal in words, with the first place where its question is answered no.

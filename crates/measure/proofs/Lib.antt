@@ -1,0 +1,4 @@
+pub mod Ahead
+pub mod Knowing
+pub mod Measuring
+pub mod Held
