@@ -1,7 +1,7 @@
 /*
  * Rulketoos for C and for languages that call C: pyhyeon scripts' trees and
- * modules, checked, lowered, put in order, read, listed, counted and run by
- * proved code.
+ * modules, checked, lowered, put in order, cut down, read, listed, counted and run
+ * by proved code.
  *
  * Link crates/exports/out/libexports.a, which `rt lib` in crates/exports writes.
  * A slice is a pointer and a length; the caller owns all memory, nothing is
@@ -27,7 +27,7 @@ extern "C" {
 /* Questions 2 to 13, 33 and 36 of a tree record: 0, or the refusal. Reads only. */
 uint32_t rulketoos_check(const uint8_t *tree, size_t tree_len);
 
-/* The least length of each work area of both lowerings and of rulketoos_order, in numbers. */
+/* The least length of each work area of both lowerings, of rulketoos_order and of rulketoos_cut, in numbers. */
 enum { RULKETOOS_AREA = 16384 };
 
 /*
@@ -90,6 +90,29 @@ uint64_t rulketoos_order(const uint8_t *first, size_t first_len,
                          const uint8_t *second, size_t second_len, uint32_t limits,
                          uint32_t *area1, size_t area1_len,
                          uint32_t *area2, size_t area2_len);
+
+/* What rulketoos_cut answers where the tree isn't refused. */
+#define RULKETOOS_NOT_REFUSED (UINT64_C(1) << 33)
+
+/*
+ * Cuts a refused tree record down. Of a tree that is refused by 7 to 15, 33 or 36
+ * it writes the fewest consecutive top statements, as a tree record of their own,
+ * that are refused by the same question, the earliest of equals: no shorter run
+ * of them is so refused. The record goes to out from the first byte on; what is
+ * past it is left as it was. Answers
+ *   RULKETOOS_WROTE plus the count of bytes written, which is no more than tree_len;
+ *   RULKETOOS_NOT_REFUSED, with out left as it was, where the tree is accepted;
+ *   or, below RULKETOOS_WROTE, the refusal, with out left as it was: 1, 38 (out is
+ *     shorter than the tree), then 2 to 6.
+ * The question itself is what rulketoos_lower answers. 16 isn't asked.
+ *
+ * limits, area1 and area2 are as in rulketoos_lower. A tree of thousands of top
+ * statements that is refused by 15 may take seconds.
+ */
+uint64_t rulketoos_cut(const uint8_t *tree, size_t tree_len, uint32_t limits,
+                       uint32_t *area1, size_t area1_len,
+                       uint32_t *area2, size_t area2_len,
+                       uint8_t *out, size_t out_len);
 
 /* Questions 17 to 21 of a module record: 0, or the refusal. Reads only. */
 uint32_t rulketoos_read(const uint8_t *module, size_t module_len);

@@ -12,7 +12,7 @@ strings, targets and depths are not judged here: the lowering does that.
 
 With --places no name is judged, and the tree is followed by a line for each
 statement, expression and name in it: the number of its first byte, its line and
-its column. The tree's header says where these lines begin.
+its column, and its last line. The tree's header says where these lines begin.
 
 With --each scripts come on standard input, each after its length in four bytes.
 Each is answered before the next is read: by the byte 0, a length in four bytes
@@ -140,12 +140,13 @@ def placed(make):
 
 
 def places(tree):
-    """Where each part that keeps its node begins: the number of its first byte, its line and its column."""
+    """Where each part that keeps its node stands: the number of its first byte, its line and its column, its last line."""
     todo = [(0, tree)]
     while todo:
         start, part = todo.pop()
         if part.node is not None:
-            yield start, *place(part.node)
+            line, column = place(part.node)
+            yield start, line, column, getattr(part.node, "end_lineno", line)
         todo.extend((start + inside, piece) for inside, piece in reversed(part.pieces))
 
 
@@ -394,7 +395,7 @@ def record(data, with_places):
         source = data.decode("utf-8-sig")
         tree = tree_of(source)
         if with_places:
-            return tree + "".join(f"{start} {line} {column}\n" for start, line, column in places(tree)).encode("ascii")
+            return tree + "".join(f"{start} {line} {column} {last}\n" for start, line, column, last in places(tree)).encode("ascii")
         judge_names(source)
         return tree
     except UnicodeDecodeError as error:

@@ -215,6 +215,36 @@ static void orders(void)
     expect(answer == 1 && areas_are(7), "a short area is refused by 1, and left");
 }
 
+/* `None`, `break`, `break` */
+static const uint8_t breaks_tree[] = {0, 0, 0, 7, 1, 0, 3, 3, 0, 0, 0};
+
+/* a tree cut down, with sevens in the areas and nines in the output */
+static uint64_t cut(const uint8_t *bytes, size_t size, size_t area, size_t room)
+{
+    for (size_t i = 0; i < RULKETOOS_AREA; i++)
+        area1[i] = area2[i] = 7;
+    memset(out, 9, sizeof out);
+    return rulketoos_cut(bytes, size, RULKETOOS_OFFICE, area1, RULKETOOS_AREA, area2, area, out, room);
+}
+
+static void cuts(void)
+{
+    const size_t size = sizeof breaks_tree;
+    uint64_t answer = cut(breaks_tree, size, RULKETOOS_AREA, size);
+    expect(answer == RULKETOOS_WROTE + sizeof break_tree, "one statement is enough");
+    expect(memcmp(out, break_tree, sizeof break_tree) == 0, "it is the break");
+    expect(all_bytes(out + sizeof break_tree, sizeof out - sizeof break_tree, 9), "the rest of the output is untouched");
+    expect(areas_are(0), "the areas are zero");
+    answer = cut(tree, sizeof tree, RULKETOOS_AREA, sizeof out);
+    expect(answer == RULKETOOS_NOT_REFUSED, "the empty tree isn't refused");
+    expect(all_bytes(out, sizeof out, 9) && areas_are(0), "the output is as it was, the areas are zero");
+    expect(cut(breaks_tree, size, RULKETOOS_AREA, size - 1) == 38, "an output shorter than the whole tree is refused by 38");
+    expect(cut(breaks_tree, size - 1, RULKETOOS_AREA, size) == 3, "a tree that is cut off is refused by 3");
+    expect(all_bytes(out, sizeof out, 9) && areas_are(0), "the output is as it was, the areas are zero");
+    answer = cut(breaks_tree, size, RULKETOOS_AREA - 1, 0);
+    expect(answer == 1 && areas_are(7), "a short area is refused by 1, and left");
+}
+
 /* so many times `def f(): pass` without the pass: with main one function more */
 static size_t defs(uint8_t *bytes, size_t count)
 {
@@ -252,6 +282,13 @@ static void limits(void)
     expect(answer == 16, "an output that is too short is 16 at the office");
     answer = lower_by(RULKETOOS_CONSOLE, bytes, size, RULKETOOS_AREA, 64);
     expect(answer == 15, "and 15 at the console already");
+
+    uint8_t few[512];
+    size_t all = defs(few, 64);
+    size = defs(bytes, 70);
+    answer = rulketoos_cut(bytes, size, RULKETOOS_CONSOLE, area1, RULKETOOS_AREA, area2, RULKETOOS_AREA, out, sizeof out);
+    expect(answer == RULKETOOS_WROTE + all, "of 70 functions more than main the console's cut keeps 64");
+    expect(memcmp(out, few, all) == 0, "the first ones");
 }
 
 int main(void)
@@ -268,6 +305,7 @@ int main(void)
     lowers();
     limits();
     orders();
+    cuts();
     expect(rulketoos_read(module, sizeof module) == 0, "the module is accepted");
     expect(rulketoos_read(module, sizeof module - 1) == 17, "a module that is cut is refused by 17");
     writes(rulketoos_list, listing, 31);

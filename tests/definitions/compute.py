@@ -19,6 +19,7 @@ VECTORS = ROOT / "tests" / "vectors"
 LONGEST_TREE = 600
 LONGEST_CONSOLE_TREE = 2100
 LONGEST_MODULE = 1500
+LONGEST_CUT_TREE = 400
 LARGEST_BUDGET = 5000
 CASES_A_THEOREM = 40
 
@@ -31,6 +32,7 @@ use Rattle.definitions.specs.Run.{Ran}
 use Rattle.definitions.specs.Calls.{lower_answer, read_call, run_answer}
 use Rattle.definitions.specs.Heights.{heights_answer}
 use Rattle.definitions.specs.Order.{Ordering, less, equal, greater, order_answer}
+use Rattle.definitions.specs.Cut.{Cut, not_refused, cut_to, cut_answer}
 use Rattle.definitions.specs.Open.{everything}
 
 unfoldable agrees : {A : Type 0} → (A → A → Bool) → Answer A → Answer A → Bool
@@ -55,6 +57,12 @@ same_order equal greater = false
 same_order greater less = false
 same_order greater equal = false
 same_order greater greater = true
+
+unfoldable same_cut : Cut (List ℕ) → Cut (List ℕ) → Bool
+same_cut not_refused not_refused = true
+same_cut not_refused (cut_to b) = false
+same_cut (cut_to a) not_refused = false
+same_cut (cut_to a) (cut_to b) = same a b
 """
 
 ORDERS = {"before": "less", "equal": "equal", "after": "greater"}
@@ -84,6 +92,10 @@ def ran(text):
     return f"(record {{ ending = {ending}; steps = {steps}; used = {used}; events = {numbers(record(events))} }})"
 
 
+def cut(text):
+    return "not_refused" if text == "not refused" else f"(cut_to {numbers(record(text))})"
+
+
 def cases():
     for file, limits, longest in [("trees.txt", "office", LONGEST_TREE), ("console.txt", "console", LONGEST_CONSOLE_TREE)]:
         for _, tree, text in lines(file):
@@ -94,6 +106,9 @@ def cases():
         if len(record(first)) <= LONGEST_TREE:
             call = f"order_answer office 16384 16384 {numbers(record(first))} {numbers(record(second))}"
             yield f"agrees same_order ({call}) {answer(text, ORDERS.__getitem__)}"
+    for _, limits, tree, room, text in lines("cuts.txt"):
+        if len(record(tree)) <= LONGEST_CUT_TREE:
+            yield f"agrees same_cut (cut_answer {limits} 16384 16384 {room} {numbers(record(tree))}) {answer(text, cut)}"
     for _, module, text in lines("modules.txt"):
         if len(record(module)) <= LONGEST_MODULE:
             yield f"agrees same_unit (read_call {numbers(record(module))}) {answer(text, lambda _: 'tt')}"
@@ -111,7 +126,7 @@ def theorems(tests):
     for start in range(0, len(tests), CASES_A_THEOREM):
         name = f"cases{start}"
         conjunction = "\n    && ".join(tests[start : start + CASES_A_THEOREM])
-        parts.append(f"{name} : ({conjunction}) ≡ true\nunfolding everything agrees same_unit same_ran same_order\n{name} = refl\n")
+        parts.append(f"{name} : ({conjunction}) ≡ true\nunfolding everything agrees same_unit same_ran same_order same_cut\n{name} = refl\n")
     return "\n".join(parts)
 
 

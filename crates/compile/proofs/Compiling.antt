@@ -13,7 +13,9 @@ use Rattle.definitions.specs.Slots.{in_globals, names_only}
 use Rattle.definitions.specs.Tables.{Emit, block_body, begin, function}
 use Rattle.definitions.specs.Lower.{compile, main, no_tables}
 use Rattle.definitions.specs.Wellformed.{ask_block, block_questions}
-use Rattle.tree.specs.StmtAt.{block_at, TreeAt}
+use Rattle.parts.specs.Places.{Node, Counted, count_at}
+use Rattle.tree.specs.StmtAt.{block_at, stmts_at, TreeAt}
+use Rattle.tree.proofs.StmtViews.{view-block}
 use Rattle.state.specs.State.{State, state_of, emit_at, symbol_number, Within, Sound, Left}
 use Rattle.state.specs.Steps.{begun, ended}
 use Rattle.state.specs.declared.Counts.{Counts}
@@ -21,7 +23,7 @@ use Rattle.state.specs.declared.Limits.{Limits}
 use Rattle.state.proofs.Views.{function-count}
 use Rattle.state.proofs.Emission.{state-eq}
 use Rattle.state.proofs.Enclosing.{symbol-functions, at-function, at-compile}
-use Rattle.state.proofs.Growth.{Lengthened, Lengthens, functions-longer, lengthens-one, lengthens-seq, lengthens-block}
+use Rattle.definitions.proofs.Growth.{Lengthened, Lengthens, functions-longer, lengthens-one, lengthens-seq, lengthens-block}
 use Rattle.state.proofs.Within.{within-down, within-function}
 use Rattle.lower_emit.specs.Nesting.{body_of, Moved}
 use Rattle.lower_emit.specs.declared.emitter.Emitter.{Emitter}
@@ -31,14 +33,19 @@ use Rattle.lower_emit.proofs.Steps.{areas-after, sound-next}
 use Rattle.lower_emit.proofs.Functions.{ended-lifts}
 use Rattle.lower_forms.specs.Lowerable.{Relied, of_names, of_breaks, of_counts}
 use Rattle.lower_forms.specs.Lowering.{BlockLowerable}
-use Rattle.compile.specs.Compiled.{Fresh, nothing, main_named, main_begun, main_code, CompilesTree}
+use Rattle.lower_forms.proofs.StmtArms.{block-parts}
+use Rattle.lower_stmt.proofs.Sequence.{block-stmts}
+use Rattle.compile.specs.Compiled.{Fresh, tree_block, StretchIn, stretch_block, nothing, main_named, main_begun, main_code, CompilesTree}
+use Rattle.compile.specs.declared.Stretch.{Stretch}
 
-relied : (tree : List ℕ) → TreeAt tree → (q : ℕ) → Relied q → ask_block q false (block_at 32 tree 5).value ≡ true
+-- the questions that a lowering relies on
+pub relied : (tree : List ℕ) → TreeAt tree → (q : ℕ) → Relied q → ask_block q false (block_at 32 tree 5).value ≡ true
 unfolding block_questions
 relied tree T q of_names = T.yes 0 (omega arith)
 relied tree T q of_breaks = T.yes 3 (omega arith)
 relied tree T q of_counts = T.yes 8 (omega arith)
 
+-- the tree's block can be lowered
 pub block-lowerable : (tree : List ℕ) → TreeAt tree → BlockLowerable 32 tree 5
 block-lowerable tree T = record { reads = T.block; loop = false; asks = relied tree T }
 
@@ -46,6 +53,24 @@ block-lowerable tree T = record { reads = T.block; loop = false; asks = relied t
 pub block-outside : (tree : List ℕ) (T : TreeAt tree) → (block-lowerable tree T).loop ≡ false
 unfolding block-lowerable
 block-outside tree T = refl
+
+module _ {tree : List ℕ} (T : TreeAt tree) where
+  -- the count of its statements is there
+  pub top-counted : Counted tree 5
+  top-counted = (block-parts 32 tree 5 (block-lowerable tree T)).0
+
+  module _ (n : ℕ) (e : n ≡ count_at tree 5) where
+    abbrev all : Stretch
+    all = record { at = 7; count = n }
+
+    -- they are the stretch of all
+    pub all-stands : StretchIn tree all
+    all-stands = record { short = T.small; stmts = block-stmts 32 tree 5 n (block-lowerable tree T) e }
+
+    pub all-compiles : {A : Type 0} {r : Option A} {a b : Emitter} → CompilesTree r tree a b (compile (stretch_block tree all)).tables → CompilesTree r tree a b (compile (tree_block tree)).tables
+    all-compiles {r = r} {a = a} {b = b} h =
+        subst (λ (c : Block). CompilesTree r tree a b (compile c).tables)
+        (ap (λ (m : ℕ). (stmts_at 32 m tree 7).value) e ∙ sym (ap (λ (x : Node Block). x.value) (view-block 32 tree 5 T.block).is)) h
 
 -- ---- the whole
 

@@ -1,2 +1,2 @@
 mod Beginning
-mod Compiling
+pub mod Compiling

@@ -5,10 +5,12 @@ use Rattle.definitions.specs.Instruction.{Return}
 use Rattle.definitions.specs.Slots.{in_globals, names_only}
 use Rattle.definitions.specs.Tables.{Tables, Emit, one, ◌⨟◌}
 use Rattle.definitions.specs.Lower.{emit_block, main, no_tables}
-use Rattle.tree.specs.StmtAt.{block_at}
+use Rattle.tree.specs.StmtAt.{block_at, stmts_at}
 use Rattle.state.specs.State.{State, tables_of, with_tables, symbol_number, with_symbol, Within}
 use Rattle.state.specs.Steps.{begun}
 use Rattle.state.specs.declared.Counts.{Counts}
+use Rattle.lower_forms.specs.Lowering.{StmtsLowerable}
+use Rattle.compile.specs.declared.Stretch.{Stretch}
 use Rattle.lower_emit.specs.declared.emitter.Emitter.{Emitter}
 use Rattle.lower_emit.specs.Emitting.{counts_of, limits_in, SoundIn, SameAreas}
 
@@ -35,6 +37,15 @@ pub record Fresh (e : Emitter) : Type 0 where
 -- the tree's block
 abbrev pub tree_block : List ℕ → Block
 tree_block tree = (block_at 32 tree 5).value
+
+-- a stretch's statements
+abbrev pub stretch_block : List ℕ → Stretch → Block
+stretch_block tree s = (stmts_at 32 s.count tree s.at).value
+
+-- they stand in the tree, which is short, and can be lowered
+pub record StretchIn (tree : List ℕ) (s : Stretch) : Type 0 where
+  pub short : length tree ≤ 32768
+  pub stmts : StmtsLowerable 32 s.count tree s.at
 
 -- nothing is emitted
 abbrev pub nothing : State

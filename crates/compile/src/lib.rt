@@ -1,19 +1,21 @@
-// The tables of an accepted tree: function 0, `__main__`, is the tree's block, with no slots; its loops keep their iterators in globals.
+// The tables of an accepted tree, or of a stretch of its top statements: function 0, `__main__`, is these statements, with no slots; its loops keep their
+// iterators in globals.
 // That the tree is accepted (TreeAt) stays a clause: a struct with that fact would be made for one call and opened at once.
 #![tactic(auto)]
 
 ghost use Rattle.definitions.specs.Lower as Lower;
-ghost use Rattle.tree.specs.StmtAt.{block_at, TreeAt};
+ghost use Rattle.tree.specs.StmtAt.{block_at, stmts_at, TreeAt};
 ghost use Rattle.lower_emit.specs.Emitting.{SoundIn, EmitsTo, BeginsIn};
-ghost use Rattle.compile.specs.Compiled.{Fresh, tree_block, main_code, main_begun, CompilesTree};
+ghost use Rattle.compile.specs.Compiled.{Fresh, tree_block, main_code, main_begun, StretchIn, stretch_block, CompilesTree};
 
 use lower_emit::emitter::Emitter;
 use lower_names::intern_made;
-use lower_stmt::emit_block;
+use lower_stmt::emit_stmts;
 use names::Made;
 use numerals::ops::RETURN;
 use numerals::places::{IN_GLOBALS, SLOTS_FROM};
-use numerals::sizes::{DEPTH, HEAD};
+use numerals::sizes::{DEPTH, HEAD, TOP};
+use parts::numbers::u16_at;
 use state::Scope;
 use write_stmts::write_body;
 
@@ -22,6 +24,13 @@ use write_stmts::write_body;
 pub enum Jumps {
     Set,
     Measured,
+}
+
+// A stretch of a tree's top statements: where it begins, and how many they are.
+#[derive(Clone, Copy)]
+pub struct Stretch {
+    pub at: usize,
+    pub count: u32,
 }
 
 // `__main__` begins: its number, 0; or none where there is no room.
@@ -34,20 +43,31 @@ fn begin_main(tree: &[u8], e: &mut Emitter<'_>) -> Option<u32>
     e.begin_function(symbol, 0, 0)
 }
 
-// The tree's block, and a return; jumps are set.
-fn emit_main(tree: &[u8], e: &mut Emitter<'_>) -> Option<usize>
-    requires { SoundIn tree.now e.old × TreeAt tree.now }
-    ensures { EmitsTo result (main_code (tree_block tree.now)) (block_at 32 tree.now 5).end tree.now e.old e.new }
+// The statements, and a return; jumps are set.
+fn emit_main(tree: &[u8], stretch: Stretch, e: &mut Emitter<'_>) -> Option<usize>
+    requires { SoundIn tree.now e.old × StretchIn tree.now stretch }
+    ensures { EmitsTo result (main_code (stretch_block tree.now stretch)) (stmts_at 32 stretch.count tree.now stretch.at).end tree.now e.old e.new }
 {
     let none = [0u32; SLOTS_FROM];
     let s = Scope { tree, slots: &none };
     let mut it = IN_GLOBALS;
-    let next = emit_block(s, e, HEAD, DEPTH, &mut it)?;
+    let next = emit_stmts(s, e, stretch.at, DEPTH, stretch.count, &mut it)?;
     e.code.put_op(RETURN, 0, 0)?;
     Some(next)
 }
 
-// The same by measured lengths.
+// The tables of a stretch; none where they are over the limits.
+pub fn compile_stretch(tree: &[u8], stretch: Stretch, e: &mut Emitter<'_>) -> Option<()>
+    requires { Fresh e.old × StretchIn tree.now stretch }
+    ensures { CompilesTree result tree.now e.old e.new (Lower.compile (stretch_block tree.now stretch)).tables }
+{
+    let f = begin_main(tree, e)?;
+    emit_main(tree, stretch, e)?;
+    e.end_function(f, 0);
+    Some(())
+}
+
+// The tree's block, and a return, by measured lengths.
 fn write_main(tree: &[u8], e: &mut Emitter<'_>) -> Option<usize>
     requires { SoundIn tree.now e.old × TreeAt tree.now }
     ensures { EmitsTo result (main_code (tree_block tree.now)) (block_at 32 tree.now 5).end tree.now e.old e.new }
@@ -57,15 +77,15 @@ fn write_main(tree: &[u8], e: &mut Emitter<'_>) -> Option<usize>
     write_body(s, e, HEAD, DEPTH, false, IN_GLOBALS)
 }
 
-// The code of `__main__`, either way.
-fn put_main(tree: &[u8], e: &mut Emitter<'_>, jumps: Jumps) -> Option<usize>
-    requires { SoundIn tree.now e.old × TreeAt tree.now }
-    ensures { EmitsTo result (main_code (tree_block tree.now)) (block_at 32 tree.now 5).end tree.now e.old e.new }
+// The tables of the tree by measured lengths; none where they are over the limits.
+fn compile_measured(tree: &[u8], e: &mut Emitter<'_>) -> Option<()>
+    requires { Fresh e.old × TreeAt tree.now }
+    ensures { CompilesTree result tree.now e.old e.new (Lower.compile (tree_block tree.now)).tables }
 {
-    match jumps {
-        Jumps::Set => emit_main(tree, e),
-        Jumps::Measured => write_main(tree, e),
-    }
+    let f = begin_main(tree, e)?;
+    write_main(tree, e)?;
+    e.end_function(f, 0);
+    Some(())
 }
 
 // The tables of the tree; none where they are over the limits.
@@ -73,8 +93,14 @@ pub fn compile(tree: &[u8], e: &mut Emitter<'_>, jumps: Jumps) -> Option<()>
     requires { Fresh e.old × TreeAt tree.now }
     ensures { CompilesTree result tree.now e.old e.new (Lower.compile (tree_block tree.now)).tables }
 {
-    let f = begin_main(tree, e)?;
-    put_main(tree, e, jumps)?;
-    e.end_function(f, 0);
-    Some(())
+    match jumps {
+        Jumps::Set => {
+            let whole = Stretch {
+                at: TOP,
+                count: u16_at(tree, HEAD),
+            };
+            compile_stretch(tree, whole, e)
+        }
+        Jumps::Measured => compile_measured(tree, e),
+    }
 }

@@ -3,7 +3,7 @@ use mathlib.Core.Path.{◌≡◌, refl, sym, ap, ◌∙◌}
 use mathlib.Core.Bool.{Bool, true, false, ◌&&◌}
 use mathlib.Core.Option.{Option, some}
 use mathlib.Core.List.{List, [], ◌∷◌, ◌++◌}
-use Prim.Native.Nat.{ℕ, suc}
+use Prim.Native.Nat.{ℕ, suc, ◌≤◌}
 use native.Mathlib.Omega.{arith}
 use lib.ListN.{length, get_or, drop}
 use lib.Dec.{eqb, eqb-suc-zero, leb, le→leb}
@@ -16,7 +16,8 @@ use Rattle.definitions.specs.Lower.{compile}
 use Rattle.definitions.specs.Module.{Limits, module_bytes, slots_fit, tables_fit, fits, lower_formed, lower_block, lower_bytes}
 use Rattle.definitions.specs.Calls.{areas_fit, fits_room, lower_answer}
 use Rattle.definitions.specs.Order.{accepted_tree, order_answer}
-use Rattle.definitions.specs.Statements.{parsed, head_counts, reads_whole, not_too_deep, block_read, module_of, Question, tree_questions, lower_questions, order_questions, first_refusal, Refusals, OrderRefusals}
+use Rattle.definitions.specs.Cut.{cut_answer}
+use Rattle.definitions.specs.Statements.{parsed, head_counts, reads_whole, not_too_deep, block_read, module_of, Question, tree_questions, lower_questions, order_questions, cut_questions, first_refusal, Refusals, OrderRefusals, CutRefusals}
 use Rattle.definitions.proofs.Truth.{is_true}
 use Rattle.definitions.proofs.Accepted.{tables-read}
 use Rattle.definitions.proofs.Fails.{FiveOrSix, five, six, fails-tree}
@@ -181,3 +182,24 @@ unfolding order_answer order_questions questioned when_accepted
 order_refusals l m n first second =
     rw first-is (ask-is (areas_fit m n) 1 _ ∙ ap (ask (areas_fit m n) 1)
     (rw (tree-settled l first, tree-settled l second, when-questioned, when-questioned) (sym (questioned-append (tree_questions l first) (tree_questions l second) _))))
+
+-- ---- the cut: 1, 38, and 2 to 6 of the tree
+
+pub cut_refusals : CutRefusals
+unfolding cut_answer cut_questions tree_questions questioned when_accepted
+cut_refusals l m n room tree =
+    rw first-is (ask-is (areas_fit m n) 1 _ ∙ ap (ask (areas_fit m n) 1)
+    (ask-is (leb (length tree) room) 38 _ ∙ ap (ask (leb (length tree) room) 38) (rw tree-asked (simp when-ask))))
+
+-- a tree is refused before its block by 2 to 6 alone
+pub read-refused : (tree : List ℕ) (q : ℕ) → read_tree tree ≡ refused q → q ≤ 6
+unfolding ask
+read-refused tree q e = go (leb (length tree) 32768) (head_counts tree) _ (reads_whole (parsed tree)) (not_too_deep (parsed tree)) (sym (tree-asked tree) ∙ e)
+  where
+    go : (a b c d f : Bool) → ask a 2 (ask b 3 (ask c 4 (ask d 5 (ask f 6 (accepted (block_read (parsed tree))))))) ≡ refused q → q ≤ 6
+    go false b c d f e = let z : 2 ≡ q = cc in omega arith
+    go true false c d f e = let z : 3 ≡ q = cc in omega arith
+    go true true false d f e = let z : 4 ≡ q = cc in omega arith
+    go true true true false f e = let z : 5 ≡ q = cc in omega arith
+    go true true true true false e = let z : 6 ≡ q = cc in omega arith
+    go true true true true true e = let z : ◌≡◌ {A = ℕ} 0 1 = cc in absurd (omega arith)

@@ -81,11 +81,11 @@ pub record StmtIs (p : Parser Stmt) (s : Stmt) (xs : List ℕ) : Type 0 where
   pub back : Reads p (stmt_bytes s) s
   pub rest_back : Reads p (stmt_bytes (rest_stmt s)) (rest_stmt s)
 
-record StmtsIs (p : Parser Stmt) (n : ℕ) (b : Block) (xs : List ℕ) : Type 0 where
-  bytes : xs ≡ stmts_bytes b
-  counts : size b ≡ n
-  reads : Each (Legible p) b
-  rest_reads : Each (Legible p) (rest b)
+pub record StmtsIs (p : Parser Stmt) (n : ℕ) (b : Block) (xs : List ℕ) : Type 0 where
+  pub bytes : xs ≡ stmts_bytes b
+  pub counts : size b ≡ n
+  pub reads : Each (Legible p) b
+  pub rest_reads : Each (Legible p) (rest b)
 
 pub record BlockIs (p : Parser Stmt) (b : Block) (xs : List ℕ) : Type 0 where
   pub bytes : xs ≡ block_bytes b
@@ -95,7 +95,7 @@ pub record BlockIs (p : Parser Stmt) (b : Block) (xs : List ℕ) : Type 0 where
   pub back : Reads (block_of p) (block_bytes b) b
   pub rest_back : Reads (block_of p) (block_bytes (rest b)) (rest b)
 
-writes-stmts : {p : Parser Stmt} → Writes (StmtIs p) p → (n : ℕ) → Writes (StmtsIs p n) (counted []ᵇ ◌∷ᵇ◌ p n)
+pub writes-stmts : {p : Parser Stmt} → Writes (StmtIs p) p → (n : ℕ) → Writes (StmtsIs p n) (counted []ᵇ ◌∷ᵇ◌ p n)
 unfolding counted stmts_bytes size rest
 writes-stmts P zero = writes-give []ᵇ (record { bytes = refl; counts = refl; reads = no_each; rest_reads = no_each })
 writes-stmts P (suc n) =

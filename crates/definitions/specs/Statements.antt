@@ -31,11 +31,12 @@ use Rattle.definitions.specs.Search.{Rule, Swept}
 use Rattle.definitions.specs.Stack.{height_after, height_number, height_at}
 use Rattle.definitions.specs.Heights.{Spot, spots_met, Met, Within, HeightsHold, heights_hold, function_holds, heights_answer}
 use Rattle.definitions.specs.Starts.{starts_source}
-use Rattle.definitions.specs.TreeBytes.{tree_bytes}
+use Rattle.definitions.specs.TreeBytes.{size, tree_bytes}
 use Rattle.definitions.specs.Rests.{rest, taken}
 use Rattle.definitions.specs.Order.{Ordering, less, equal, greater, order, accepted_tree, order_answer}
 use Rattle.definitions.specs.Measured.{SoFar, so_far, measure_expr, measure_exprs, measure_target, measure_unpack, measure_stmt, measure_block, measure_branches, measure_hop}
 use Rattle.definitions.specs.Measured.{Loop, write_expr, write_exprs, write_stmt, write_block, write_branches, write_methods, compile_measured, measured_call}
+use Rattle.definitions.specs.Cut.{stretch_of, first_start, fewest, passes, failing, over_stretch, not_refused, cut_to, cut_by, cut_answer}
 use Rattle.definitions.specs.Samples.{samples, holds}
 
 -- ---- the starred samples: proofs/Samples
@@ -158,6 +159,17 @@ abbrev pub OrderRefusals : Type 0
 OrderRefusals =
     (l : Limits) (m n : ℕ) (first second : List ℕ)
     → order_answer l m n first second ≡ first_refusal (order_questions l m n first second) (order (block_read (parsed first)) (block_read (parsed second)))
+
+-- those of the cut: the areas', the output's, and those of the tree that 7 doesn't follow
+unfoldable pub cut_questions : Limits → ℕ → ℕ → ℕ → List ℕ → List Question
+cut_questions l m n room tree = asked 1 (areas_fit m n) ∷ asked 38 (leb (length tree) room) ∷ take 5 (tree_questions l tree)
+
+-- the cut refuses by the first question answered no; where none is, questions 7 to 15 of the block tell what is cut
+abbrev pub CutRefusals : Type 0
+CutRefusals =
+    (l : Limits) (m n room : ℕ) (tree : List ℕ)
+    → cut_answer l m n room tree
+    ≡ first_refusal (cut_questions l m n room tree) (cut_by l (block_read (parsed tree)) (lower_block l (block_read (parsed tree))))
 
 -- ---- the same of the reader, of the hand-back of code, of the run, of texts about a module, of R-8's tool and of the check of heights: proofs/ModuleRefusals
 
@@ -1008,3 +1020,42 @@ CompilesAlike = (b : Block) → ask_block 7 false b ≡ true → ask_block 9 fal
 -- the measured lowering answers and leaves what the lowering does, on every input and for every set of limits
 abbrev pub MeasuredAgrees : Type 0
 MeasuredAgrees = (l : Limits) (tree area₁ area₂ output : List ℕ) → measured_call l tree area₁ area₂ output ≡ lower_call l tree area₁ area₂ output
+
+-- ---- a refused tree cut down: proofs/CutWritten
+
+-- The bytes are those of the stretch of `count` top statements from the `start`-th on: refused with the tree's number; no shorter stretch is, and no earlier
+-- one of its length
+pub record CutIs (l : Limits) (tree bs : List ℕ) : Type 0 where
+  pub number : ℕ
+  pub block : Block
+  pub start : ℕ
+  pub count : ℕ
+  pub reads : read_tree tree ≡ accepted block
+  pub bytes : bs ≡ tree_bytes (stretch_of start count block)
+  pub within : start + count ≤ size block
+  pub refused_tree : lower_tables l tree ≡ refused number
+  pub refused_cut : lower_tables l bs ≡ refused number
+  pub fewest : (i n : ℕ) → i + n ≤ size block → n < count → lower_tables l (tree_bytes (stretch_of i n block)) ≡ refused number → ⊥
+  pub earliest : (i : ℕ) → i < start → lower_tables l (tree_bytes (stretch_of i count block)) ≡ refused number → ⊥
+  pub short : length bs ≤ length tree
+
+abbrev pub Cuts : Type 0
+Cuts = (l : Limits) (m n room : ℕ) (tree bs : List ℕ) → are_bytes tree ≡ true → cut_answer l m n room tree ≡ accepted (cut_to bs) → CutIs l tree bs
+
+-- the answer that it is not refused is given of accepted trees alone
+abbrev pub NoneRefused : Type 0
+NoneRefused =
+    (l : Limits) (m n room : ℕ) (tree : List ℕ) → cut_answer l m n room tree ≡ accepted not_refused → (t : Tables) × (lower_tables l tree ≡ accepted t)
+
+-- a refusal by any question but 15 is cut down to one statement, the first that fails the question: proofs/CutSingle
+pub record Single (l : Limits) (q : ℕ) (b : Block) : Type 0 where
+  pub fewest : fewest l q b ≡ 1
+  pub start : first_start l q b 1 ≡ failing (passes q) b
+
+abbrev pub SingleEnough : Type 0
+SingleEnough = (l : Limits) (q : ℕ) (b : Block) → lower_block l b ≡ refused q → (q ≡ 15 → ⊥) → Single l q b
+
+-- 15: a stretch within the limits stays so with fewer statements at its end: proofs/CutTables. At its start it need not: a call has an instruction less
+-- after the def
+abbrev pub ShorterFits : Type 0
+ShorterFits = (l : Limits) (b : Block) (i m n : ℕ) → m ≤ n → over_stretch l b i n ≡ false → over_stretch l b i m ≡ false

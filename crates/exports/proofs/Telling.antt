@@ -33,7 +33,9 @@ use Rattle.definitions.specs.Order.{Sorting, order_call}
 use Rattle.order.specs.Ordered.{place, said as order_said, Sorts}
 use Rattle.std.specs.declared.cmp.Ordering.{Ordering as Place}
 use Rattle.std.specs.declared.cmp.Ordering.TheVariants.{Less, Equal, Greater}
-use Rattle.exports.specs.Told.{told, told_count, told_part, counts_in, Lowers, Prints, Runs, told_found, Seeks, told_order, Orders}
+use Rattle.exports.specs.Told.{told, told_count, told_part, counts_in, Lowers, Prints, Runs, told_found, Seeks, told_order, Orders, told_cut, Cuts}
+use Rattle.definitions.specs.Cut.{Cut, not_refused, cut_to, cut_answer, count_cut, output_cut, Cutting, cut_call}
+use Rattle.cut.specs.Answered.{said as cut_said, CutsDown}
 use Rattle.reach.specs.Reaching.{said as reach_said, Gives}
 
 -- ---- a tree
@@ -102,6 +104,37 @@ module _ (r : Result Place Question) (k l : Limits) (e : k ≡ l) (x y area₁ a
   orders-told n h =
       let w : order_call k x y area₁ area₂ ≡ sorted = ap (λ (m : Limits). order_call m x y area₁ area₂) e in
       subst (λ (v : Sorting). Orders n v area₁' area₂') w (record { answer = h ∙ placed-said r ∙ ap told_order S.answer; first = S.first; second = S.second })
+
+-- ---- a tree cut down
+
+found-cut : (r : Result (Opt ℕ) Question) → found r ≡ told_cut (cut_said r)
+unfolding found cut_said told_cut
+found-cut (Ok (Some n)) = refl
+found-cut (Ok None) = refl
+found-cut (Err q) = refl
+
+-- what is written fits the output: it is as long as it was
+cut-fits : (a : Answer (Cut (List ℕ))) (n : ℕ) (out out' : List ℕ) → accepted (cut_to n) ≡ when_accepted a (λ c. accepted (count_cut c)) → out' ≡ output_cut a out → length out' ≡ length out → n ≤ length out
+unfolding when_accepted count_cut output_cut written
+cut-fits (refused q) n out out' e f l = let z : ◌≡◌ {A = ℕ} 0 1 = cc in absurd (omega arith)
+cut-fits (accepted not_refused) n out out' e f l = let z : ◌≡◌ {A = ℕ} 0 1 = cc in absurd (omega arith)
+cut-fits (accepted (cut_to bs)) n out out' e f l =
+    let x : n ≡ length bs = cc in let y = ap length f ∙ length-append bs (drop (length bs) out) in omega arith
+
+module _ (r : Result (Opt ℕ) Question) (k l : Limits) (e : k ≡ l) (tree area₁ area₂ out area₁' area₂' out' : List ℕ) (C : CutsDown r area₁' area₂' out' (cut_call k tree area₁ area₂ out)) where
+  pub cut-few : length out' ≡ length out → length out < 2 ^ 63 → FewFound r
+  unfolding cut_said cut_call
+  cut-few g h n i =
+      let a = cut_answer k (length area₁) (length area₂) (length out) tree in
+      let z = cut-fits a n out out' (sym (ap cut_said i) ∙ C.answer) C.output g in omega arith
+
+  abbrev cut_down : Cutting
+  cut_down = cut_call l tree area₁ area₂ out
+
+  pub cut-told : (n : ℕ) → n ≡ found r → Cuts n cut_down area₁' area₂' out'
+  cut-told n h =
+      let w : cut_call k tree area₁ area₂ out ≡ cut_down = ap (λ (m : Limits). cut_call m tree area₁ area₂ out) e in
+      subst (λ (v : Cutting). Cuts n v area₁' area₂' out') w (record { answer = h ∙ found-cut r ∙ ap told_cut C.answer; first = C.first; second = C.second; output = C.output })
 
 -- ---- a module
 

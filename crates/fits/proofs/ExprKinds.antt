@@ -15,7 +15,7 @@ use Rattle.numerals.specs.Kinds.{expr_byte}
 use Rattle.numerals.specs.declared.kinds.ExprKind.{ExprKind}
 use Rattle.numerals.specs.declared.kinds.ExprKind.TheVariants.{Unary, Binary, Call, Attribute, List as ListKind, Dict, Tuple, Set, TreeSet, Index, Lambda}
 use Rattle.state.specs.State.{slots_from, slot_names}
-use Rattle.state.specs.Fits.{fits_expr, fits_exprs, fits_target}
+use Rattle.definitions.specs.Fits.{fits_expr, fits_exprs, fits_target}
 use Rattle.parts.specs.Places.{Node, name_end, There, params_at}
 use Rattle.exprs.specs.ExprAt.{expr_at, exprs_at, ExprReads, ExprsRead, var_at, unary_at, TwoAt, second_at, binary_at, ListAt, list_at, CallAt, call_at, AttributeAt, attribute_at, display_at, pairs_at, dict_at, index_at, lambda_at, cons_at}
 use Rattle.parts.proofs.Laws.{le-or-gt}

@@ -13,7 +13,7 @@ use Rattle.numerals.specs.Kinds.{stmt_byte}
 use Rattle.numerals.specs.declared.kinds.StmtKind.{StmtKind}
 use Rattle.numerals.specs.declared.kinds.StmtKind.TheVariants.{Break, Continue, Pass}
 use Rattle.state.specs.State.{slots_from, slot_names}
-use Rattle.state.specs.Fits.{fits_expr, fits_target, fits_stmt, fits_block, fits_branches, fits_methods}
+use Rattle.definitions.specs.Fits.{fits_expr, fits_target, fits_stmt, fits_block, fits_branches, fits_methods}
 use Rattle.parts.specs.Places.{Node, count_at, name_end, params_at}
 use Rattle.exprs.specs.ExprAt.{expr_at, second_at}
 use Rattle.tree.specs.StmtAt.{stmt_at, block_at, stmts_at, branches_at, methods_at, StmtReads, BlockReads, StmtsRead, BranchesRead, MethodsRead, expr_stmt_at, return_at, assign_at, BranchAt, body_at, elifs_at, if_at, while_at, for_at, when_at, else_at, DefAt, def_block_at, def_at, method_at, ClassAt, class_methods_at, class_at, cons_at}
@@ -204,21 +204,15 @@ module _ (d : ℕ) (t : List ℕ) (p a n : ℕ) (h : ClassAt d t p) (e : a ≡ n
     pub class-done : (r : Option ℕ) (m q end : ℕ) → Walks r (methods_at d n t (a + 2)).end (fits_methods (methods_at d n t (a + 2)).value) → r ≡ Some m → q ≡ end → Walks (Some q) end (fits_methods (class_methods_at d t p).value)
     class-done r m q end w g i = next-walks q end _ i (sym (ap (λ (z : Node Methods). fits_methods z.value) methods-are) ∙ (walks_next r _ _ m w g).1)
 
--- ---- a whole tree: main has no slots
+-- ---- a whole tree, and a top statement: main has no slots
 
-module _ (r : Option ℕ) (t ps : List ℕ) (e : ℕ) (b : Block) (f : length ps ≡ slots_from) (w : Walks r e (fits_block (slot_names t ps) b)) where
-  no-slots : fits_block (slot_names t ps) b ≡ fits_block [] b
-  no-slots = ap (λ (xs : List Name). fits_block xs b) (none-names t ps f)
+module _ (fits : List Name → Bool) (r : Option ℕ) (t ps : List ℕ) (e : ℕ) (f : length ps ≡ slots_from) (w : Walks r e (fits (slot_names t ps))) where
+  no-slots : fits (slot_names t ps) ≡ fits []
+  no-slots = ap fits (none-names t ps f)
 
-  pub tree-fits : (p : ℕ) → r ≡ Some p → true ≡ fits_block [] b
-  tree-fits p h = sym (sym no-slots ∙ (walks_next r e _ p w h).1)
-
-  pub tree_over : r ≡ None → false ≡ fits_block [] b
-  tree_over h = sym (sym no-slots ∙ walks-over r e _ w h)
-
-  pub tree-told : (b' : Bool) → b' ≡ is_some r → b' ≡ fits_block [] b
-  tree-told b' h = h ∙ go r refl
+  pub top-told : (b : Bool) → b ≡ is_some r → b ≡ fits []
+  top-told b h = h ∙ go r refl
     where
-      go : (o : Option ℕ) → r ≡ o → is_some o ≡ fits_block [] b
-      go (Some p) e = tree-fits p e
-      go None e = tree_over e
+      go : (o : Option ℕ) → r ≡ o → is_some o ≡ fits []
+      go (Some p) e = sym (sym no-slots ∙ (walks_next r _ _ p w e).1)
+      go None e = sym (sym no-slots ∙ walks-over r _ _ w e)

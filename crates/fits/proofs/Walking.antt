@@ -10,7 +10,7 @@ use borrow.Author.Tests.{le-leb, lt-leb}
 use Rattle.definitions.specs.Bytes.{Name}
 use Rattle.definitions.specs.Tree.{Expr, Block}
 use Rattle.state.specs.State.{slots_from, slot_names, Slots}
-use Rattle.state.specs.Fits.{fits_expr, fits_block}
+use Rattle.definitions.specs.Fits.{fits_expr, fits_block}
 use Rattle.slots.specs.Slotted.{Collected, first_names, Indexed, Frames}
 use Rattle.definitions.specs.Slots.{Frame}
 use Rattle.slots.specs.declared.collect.Framed.{Framed}

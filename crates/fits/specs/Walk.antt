@@ -3,7 +3,7 @@ use Rattle.std.specs.Prelude.{ℕ, ◌≡◌, Bool, true, false, ◌&&◌, List,
 use Rattle.definitions.specs.Bytes.{Name}
 use Rattle.definitions.specs.Tree.{Expr, Block}
 use Rattle.definitions.specs.Slots.{Frame}
-use Rattle.state.specs.Fits.{fits_expr, fits_block}
+use Rattle.definitions.specs.Fits.{fits_expr, fits_block}
 
 -- the next position where the question is answered yes; else that it is not
 unfoldable pub Walks : Option ℕ → ℕ → Bool → Type 0

@@ -2,7 +2,7 @@
 ghost use Rattle.std.specs.Prelude.{◌&&◌, ◌++◌, ◌+◌, ◌*◌, ◌<◌};
 ghost use Rattle.definitions.specs.Slots.{captures};
 ghost use Rattle.state.specs.State.{slot_names};
-ghost use Rattle.state.specs.Fits.{fits_expr, fits_exprs, fits_target};
+ghost use Rattle.definitions.specs.Fits.{fits_expr, fits_exprs, fits_target};
 ghost use Rattle.parts.specs.Places.{name_end, params_at};
 ghost use Rattle.exprs.specs.ExprAt.{expr_at, exprs_at, ExprReads, ExprsRead, TwoAt, second_at, CallAt, ListAt, list_at, DictAt, pairs_at, AttributeAt, LambdaAt};
 ghost use Rattle.fits.specs.Walk.{Walks, lambda_fits};

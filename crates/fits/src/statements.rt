@@ -1,8 +1,8 @@
 // Question 14 of statements and trees: the slots of their defs, methods and lambdas. A position and the levels left there stay two numbers, as in expressions.
-ghost use Rattle.std.specs.Prelude.{◌≡◌, ◌&&◌, ◌+◌, ◌-◌, get_or, []};
+ghost use Rattle.std.specs.Prelude.{◌≡◌, ◌≤◌, ◌&&◌, ◌+◌, ◌-◌, get_or, length, []};
 ghost use Rattle.definitions.specs.Slots.{with_loops};
 ghost use Rattle.state.specs.State.{slot_names};
-ghost use Rattle.state.specs.Fits.{fits_expr, fits_target, fits_stmt, fits_block, fits_branches, fits_methods};
+ghost use Rattle.definitions.specs.Fits.{fits_expr, fits_target, fits_stmt, fits_block, fits_branches, fits_methods};
 ghost use Rattle.parts.specs.Places.{name_end, params_at};
 ghost use Rattle.exprs.specs.ExprAt.{expr_at, TwoAt, second_at};
 ghost use Rattle.tree.specs.StmtAt.{stmt_at, block_at, branches_at, methods_at, StmtReads, BlockReads, BranchesRead, MethodsRead, BranchAt, body_at, IfAt, elifs_at, ForAt, DefAt, def_block_at, class_methods_at, TreeAt};
@@ -172,6 +172,15 @@ impl<'a> Frame<'a> {
         self.methods(p + 2, depth - 1, count)?;
         Some(skip_stmt(self.tree, at, depth))
     }
+}
+
+// Question 14 of the top statement at `at` of a tree that was read.
+pub fn check_top_slots(tree: &[u8], at: usize) -> bool
+    requires { (length tree.now ≤ 32768) × StmtReads 32 tree.now at }
+    ensures { result ≡ fits_stmt [] (stmt_at 32 tree.now at).value }
+{
+    let none = [0u32; SLOTS_FROM];
+    Frame { tree, slots: &none }.stmt(at, DEPTH).is_some()
 }
 
 // Question 14 of an accepted tree.

@@ -18,7 +18,7 @@ use Rattle.state.specs.declared.Limits.{Limits}
 use Rattle.state.proofs.Views.{constant-count}
 use Rattle.state.proofs.Enclosing.{at-end_class, at-class_object}
 use Rattle.state.proofs.Within.{within-down, within-end_class, within-class_object}
-use Rattle.state.proofs.Growth.{lengthens-class_object}
+use Rattle.definitions.proofs.Growth.{lengthens-class_object}
 use Rattle.lower_emit.specs.Nesting.{with_methods, with_constants}
 use Rattle.lower_emit.specs.declared.emitter.Code.{Code}
 use Rattle.lower_emit.specs.declared.emitter.Names.{Names}

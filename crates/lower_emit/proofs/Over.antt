@@ -12,7 +12,7 @@ use Rattle.definitions.specs.Module.{instructions}
 use Rattle.state.specs.State.{State, emit_at, Within}
 use Rattle.state.specs.declared.Limits.{Limits}
 use Rattle.state.proofs.Emission.{stack-after}
-use Rattle.state.proofs.Growth.{Lengthens, instructions-longer}
+use Rattle.definitions.proofs.Growth.{Lengthens, instructions-longer}
 use Rattle.state.proofs.Views.{stack-length, instruction-count}
 use Rattle.lower_emit.specs.declared.emitter.Code.{Code}
 use Rattle.lower_emit.specs.declared.emitter.Emitter.{Emitter}

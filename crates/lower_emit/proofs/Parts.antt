@@ -6,7 +6,7 @@ use Rattle.std.specs.Prelude.{Option, Some, None}
 use Rattle.std.proofs.lemmas.Option.{none-some}
 use Rattle.definitions.specs.Tables.{Emit, ◌⨟◌}
 use Rattle.state.specs.State.{emit_at}
-use Rattle.state.proofs.Growth.{Lengthens}
+use Rattle.definitions.proofs.Growth.{Lengthens}
 use Rattle.lower_emit.specs.declared.emitter.Emitter.{Emitter}
 use Rattle.lower_emit.specs.Emitting.{state_in, SoundIn, LowersIn, EmitsTo}
 use Rattle.lower_emit.proofs.Steps.{lowers-some, lowers-none, lowers_then, lowers-stopped, lowers-by, lowers-state, some-is}

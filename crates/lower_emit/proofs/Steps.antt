@@ -14,7 +14,7 @@ use Rattle.state.specs.declared.Limits.{Limits}
 use Rattle.state.specs.Answered.{Emitted, Done, Full}
 use Rattle.state.proofs.Answers.{emits-done, emits-full, full-emits, done-emits, left-after, left-none, left_as, base-below}
 use Rattle.state.proofs.Emission.{at-seq, at-nothing}
-use Rattle.state.proofs.Growth.{Lengthens}
+use Rattle.definitions.proofs.Growth.{Lengthens}
 use Rattle.state.proofs.Within.{within_first}
 use Rattle.lower_emit.specs.Nesting.{with_open}
 use Rattle.lower_emit.specs.declared.emitter.Code.{Code}

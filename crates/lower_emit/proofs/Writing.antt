@@ -6,7 +6,7 @@ use Rattle.std.specs.Prelude.{Option, Some, None}
 use Rattle.definitions.specs.Instruction.{Instr, instr, ConstI64}
 use Rattle.definitions.specs.Tables.{Emit, one, ◌⨟◌}
 use Rattle.state.specs.Words.{word, instr_of}
-use Rattle.state.proofs.Growth.{Lengthens}
+use Rattle.definitions.proofs.Growth.{Lengthens}
 use Rattle.lower_emit.specs.Ops.{Plain}
 use Rattle.lower_emit.specs.declared.emitter.Code.{Code}
 use Rattle.lower_emit.specs.Emitting.{Puts, Writes}

@@ -14,7 +14,7 @@ use Rattle.parts.specs.Places.{params_at}
 use Rattle.exprs.specs.ExprAt.{expr_at}
 use Rattle.state.specs.State.{slots_from, slot_names, names_at}
 use Rattle.state.proofs.Views.{function-count}
-use Rattle.state.proofs.Growth.{Lengthens, lengthens-expr}
+use Rattle.definitions.proofs.Growth.{Lengthens, lengthens-expr}
 use Rattle.lower_forms.specs.Lowerable.{SoleIn, ClosureLowerable, expr_code, lambda_code, closure_code, function_code}
 use Rattle.lower_emit.specs.declared.emitter.Emitter.{Emitter}
 use Rattle.lower_emit.specs.Emitting.{counts_of, limits_in, state_in, SoundIn, LowersIn, EmitsTo}

@@ -14,7 +14,7 @@ use Rattle.state.specs.State.{State, state_of, emit_at, Sound, Left, Within}
 use Rattle.state.specs.declared.Counts.{Counts}
 use Rattle.state.specs.declared.Limits.{Limits}
 use Rattle.state.proofs.Emission.{at-seq, at-nothing}
-use Rattle.state.proofs.Growth.{lengthens-exprs}
+use Rattle.definitions.proofs.Growth.{lengthens-exprs}
 use Rattle.lower_forms.specs.Lowerable.{LowerableMany, expr_code, exprs_code}
 use Rattle.lower_forms.proofs.Constants.{arm-constant}
 use Rattle.lower_forms.proofs.Elements.{more-view, none-code}

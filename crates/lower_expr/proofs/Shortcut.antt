@@ -18,7 +18,7 @@ use Rattle.definitions.proofs.Measured.{measures}
 use Rattle.exprs.specs.ExprAt.{expr_at}
 use Rattle.state.specs.Words.{word}
 use Rattle.state.specs.State.{State, emit_at}
-use Rattle.state.proofs.Growth.{lengthens-one, lengthens-emits, lengthens-expr, lengthens-shortcut}
+use Rattle.definitions.proofs.Growth.{lengthens-one, lengthens-emits, lengthens-expr, lengthens-shortcut}
 use Rattle.lower_forms.specs.Lowerable.{of_names, Lowerable, expr_code}
 use Rattle.lower_emit.specs.declared.emitter.Code.{Code}
 use Rattle.lower_emit.specs.declared.emitter.Emitter.{Emitter}

@@ -25,7 +25,7 @@ use Rattle.state.proofs.Answers.{base-below}
 use Rattle.state.proofs.Views.{stack-length, function-count}
 use Rattle.state.proofs.Emission.{at-seq, at_one, at-by}
 use Rattle.state.proofs.Enclosing.{at-function, symbol-functions}
-use Rattle.state.proofs.Growth.{Lengthened, Lengthens, lengthens-one, lengthens-seq, lengthens-expr, functions-longer}
+use Rattle.definitions.proofs.Growth.{Lengthened, Lengthens, lengthens-one, lengthens-seq, lengthens-expr, functions-longer}
 use Rattle.state.proofs.Within.{within-one, within-down, within-function, closure-slots}
 use Rattle.lower_emit.specs.Nesting.{begun_with, body_of, Moved}
 use Rattle.lower_emit.proofs.Begun.{begun-frame, begun-body}

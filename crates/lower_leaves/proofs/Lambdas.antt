@@ -26,7 +26,7 @@ use Rattle.state.specs.Steps.{ended}
 use Rattle.state.specs.declared.Limits.{Limits}
 use Rattle.state.proofs.Answers.{paced-more}
 use Rattle.state.proofs.Views.{function-count}
-use Rattle.state.proofs.Growth.{Lengthens, lengthens-loads}
+use Rattle.definitions.proofs.Growth.{Lengthens, lengthens-loads}
 use Rattle.names.specs.Made.{made_name}
 use Rattle.names.specs.declared.Made.TheVariants.{Lambda}
 use Rattle.names.proofs.Indexing.{slots-count}

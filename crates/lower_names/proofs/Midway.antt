@@ -9,7 +9,7 @@ use Rattle.state.specs.State.{State, state_of, emit_at, Within, Sound, Paced, Le
 use Rattle.state.specs.declared.Counts.{Counts}
 use Rattle.state.specs.declared.Limits.{Limits}
 use Rattle.state.proofs.Views.{stack-length}
-use Rattle.state.proofs.Growth.{Lengthens}
+use Rattle.definitions.proofs.Growth.{Lengthens}
 use Rattle.state.proofs.Within.{within-down}
 use Rattle.state.proofs.Answers.{paced-none, paced-more}
 

@@ -19,7 +19,7 @@ use Rattle.state.specs.State.{State, emit_at, Within}
 use Rattle.state.specs.Steps.{set_at, branch, chain_at}
 use Rattle.state.specs.Kept.{keeping_of, after_loops, Spare, Passes}
 use Rattle.state.proofs.Kept.{after-sum, spare-first, spare-rest, keeping-past, passes_over}
-use Rattle.state.proofs.Growth.{Lengthens}
+use Rattle.definitions.proofs.Growth.{Lengthens}
 use Rattle.state.proofs.Emission.{stack-grows}
 use Rattle.state.proofs.Jumps.{chain-when, chain-else, chain-done}
 use Rattle.state.proofs.Within.{within-chain-when, within-chain-else}

@@ -23,7 +23,7 @@ use Rattle.state.specs.Steps.{method_function, methods_at, methods_of}
 use Rattle.state.specs.declared.Limits.{Limits}
 use Rattle.state.proofs.Views.{function-count, class-count, constant-count}
 use Rattle.state.proofs.Enclosing.{methods-none, methods-none-of, methods-more, methods-more-of, at-class}
-use Rattle.state.proofs.Growth.{methods-lengthened}
+use Rattle.definitions.proofs.Growth.{methods-lengthened}
 use Rattle.state.proofs.Within.{within-method, within-methods, within-class}
 use Rattle.methods.specs.Order.{Inserted}
 use Rattle.lower_emit.specs.declared.emitter.Used.{Used}

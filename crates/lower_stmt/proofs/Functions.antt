@@ -24,7 +24,7 @@ use Rattle.state.specs.declared.Limits.{Limits}
 use Rattle.state.proofs.Kept.{keeping-slot}
 use Rattle.state.proofs.Views.{function-count}
 use Rattle.state.proofs.Enclosing.{at-function, symbol-functions}
-use Rattle.state.proofs.Growth.{Lengthens, Lengthened, lengthens-seq, lengthens-emits, lengthens-block}
+use Rattle.definitions.proofs.Growth.{Lengthens, Lengthened, lengthens-seq, lengthens-emits, lengthens-block}
 use Rattle.state.proofs.Within.{within-down, within-function, function-slots}
 use Rattle.state.proofs.Answers.{paced-more}
 use Rattle.slots.specs.declared.collect.Framed.{Framed}

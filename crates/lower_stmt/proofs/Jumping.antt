@@ -17,7 +17,7 @@ use Rattle.state.specs.declared.Limits.{Limits}
 use Rattle.state.proofs.Emission.{at-seq, stack-grows, stack-after}
 use Rattle.state.proofs.Jumps.{at-loop, at-branch}
 use Rattle.state.proofs.StmtEmission.{at-if, at-for}
-use Rattle.state.proofs.Growth.{Lengthens, lengthens-block}
+use Rattle.definitions.proofs.Growth.{Lengthens, lengthens-block}
 use Rattle.state.proofs.Within.{within-down, within-one, within-branch}
 use Rattle.state.proofs.WithinParts.{within-loop-inside, within-loop-jump, within-for-iter, within-for-store}
 use Rattle.lower_emit.specs.declared.emitter.Emitter.{Emitter}

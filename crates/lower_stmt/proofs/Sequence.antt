@@ -14,7 +14,7 @@ use Rattle.state.specs.State.{State, emit_at, Within}
 use Rattle.state.specs.Kept.{keeping_of, after_loops, Spare, Passes}
 use Rattle.state.proofs.Kept.{after_none, after-sum, spare-first, spare-rest, keeping-past, passes_over}
 use Rattle.state.proofs.Emission.{at-seq, at-nothing}
-use Rattle.state.proofs.Growth.{lengthens-block}
+use Rattle.definitions.proofs.Growth.{lengthens-block}
 use Rattle.state.proofs.Within.{within-down}
 use Rattle.lower_forms.specs.Lowering.{BlockLowerable, StmtsLowerable, stmt_code, block_code, stmts_code}
 use Rattle.lower_forms.proofs.StmtArms.{block-code, block-parts, stmts-more, stmts-code, stmts-none}

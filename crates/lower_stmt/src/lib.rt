@@ -73,7 +73,7 @@ fn emit_stmt(
 
 // So many statements.
 #[cycle(emit)]
-fn emit_stmts(
+pub fn emit_stmts(
     s: Scope<'_>,
     e: &mut Emitter<'_>,
     at: usize,

@@ -15,8 +15,8 @@ use Rattle.definitions.specs.Lower.{loop, store_iter, kept_iter, named_iter, ite
 use Rattle.definitions.specs.Lower.{local, method_end, insert_method, begin_class, class_out, emit_expr, emit_stmt, emit_block, emit_branches, emit_methods}
 use Rattle.state.specs.State.{State, emit_at, Within, Limited}
 use Rattle.state.specs.declared.Limits.{Limits}
-use Rattle.state.proofs.Growth.{Lengthened, Lengthens, functions-longer, lengthens-expr, lengthens-emits, lengthens-one, lengthens-seq, lengthens-assign_by, lengthens-make_iter, lengthens-ask_iter, lengthens-take_iter}
-use Rattle.state.proofs.Growth.{lengthens-end_class, lengthens-block, symbol-lengthened, set_code-count}
+use Rattle.definitions.proofs.Growth.{Lengthened, Lengthens, functions-longer, lengthens-expr, lengthens-emits, lengthens-one, lengthens-seq, lengthens-assign_by, lengthens-make_iter, lengthens-ask_iter, lengthens-take_iter}
+use Rattle.definitions.proofs.Growth.{lengthens-end_class, lengthens-block, symbol-lengthened, set_code-count}
 use Rattle.measure_stmts.specs.Heads.{heads_stmt, heads_block, heads_branches, heads_methods}
 
 -- how many functions and classes there are

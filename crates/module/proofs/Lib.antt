@@ -1,4 +1,3 @@
-pub mod HighFirst
 pub mod Encoding
 pub mod Pieces
 pub mod Lengths

@@ -98,8 +98,8 @@ module _ (tree made code tables : List ℕ) (c : Counts) where
       omega arith
 
   pub module-pieces : (size : ℕ) → size ≡ length (module_bytes (tables_of tree made code tables c)) →
-      module_bytes (tables_of tree made code tables c) ≡ (be 4 (size - 4) ++ (module_version ∷ [])) ++ joined (texts_bytes tree made tables c ∷ bodies_bytes tree code tables c ∷ [])
-  unfolding module_bytes housed joined
+      module_bytes (tables_of tree made code tables c) ≡ (be 4 (size - 4) ++ be 1 module_version) ++ joined (texts_bytes tree made tables c ∷ bodies_bytes tree code tables c ∷ [])
+  unfolding module_bytes housed joined be
   module-pieces size e =
       let t = table_bytes (tables_of tree made code tables c) in
       let l = length-append (be 4 (suc (length t))) (module_version ∷ t) in

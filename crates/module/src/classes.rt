@@ -7,8 +7,8 @@ ghost use Rattle.state.specs.State.{method_of, classes_of};
 
 use crate::functions::placed;
 use crate::list::{Listed, list_size, write_list};
-use crate::numbers::{write_counted, write_number};
 use names::spell::name_part;
+use writing::numbers::{write_counted, write_number};
 
 // Methods, by their words: the place of the name and the function's number.
 #[derive(Clone, Copy)]

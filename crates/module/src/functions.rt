@@ -7,10 +7,10 @@ ghost use Rattle.state.specs.State.{functions_of};
 
 use crate::heights::height_of;
 use crate::list::{Listed, list_size, write_list};
-use crate::numbers::write_number;
 use crate::words::{instruction_size, write_instruction};
 use numerals::places::UPPER;
 use numerals::sizes::FUNCTION_COUNT;
+use writing::numbers::write_number;
 
 // n words from `from` on, cut at the end. names::spell::part is the same of bytes, and no one function serves both: it also says at which address
 // its bytes begin, which a function over any type cannot.

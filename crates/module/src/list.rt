@@ -3,7 +3,7 @@ ghost use Rattle.std.specs.Prelude.{◌≡◌, ◌≤◌, ◌<◌, ◌^◌, List
 ghost use Rattle.writing.specs.Wrote.{Wrote};
 ghost use Rattle.module.specs.Sections.{counted};
 
-use crate::numbers::write_number;
+use writing::numbers::write_number;
 
 // How many bytes the count of a list has.
 const COUNT_BYTES: usize = 2;

@@ -5,8 +5,8 @@ ghost use Rattle.state.specs.Words.{text_at};
 ghost use Rattle.state.specs.State.{spelled};
 
 use crate::list::Listed;
-use crate::numbers::write_counted;
 use names::spell::{spelling, text_part};
+use writing::numbers::write_counted;
 
 // Symbols, by where each was first made.
 #[derive(Clone, Copy)]

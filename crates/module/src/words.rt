@@ -8,12 +8,12 @@ ghost use Rattle.state.specs.Words.{number_at, first_of, instr_of};
 ghost use Rattle.state.specs.Words as Words;
 ghost use Rattle.writing.specs.Wrote.{Wrote};
 
-use crate::numbers::write_number;
 use exprs::literals::{Literal, float_literal, int_literal, literal_bits};
 use names::spell::byte;
 use numerals::ops::{CONST_I64, JUMP, JUMP_IF_TRUE, SMALL_INT};
 use numerals::places::{PLACED_END, UPPER, WORD_FIRST, WORD_OP};
 use widths::{first_width, second_width, whole_width};
+use writing::numbers::write_number;
 
 // The opcode of a word: a small integer is a ConstI64.
 pub(crate) fn opcode(w: u32) -> usize

@@ -10,6 +10,9 @@ pub const COUNT: usize = 4;
 
 pub const HEAD: usize = 5;
 
+// Before a tree's first statement: its head, and the count of the statements in two.
+pub const TOP: usize = 7;
+
 pub const TREE_VERSION: u8 = 1;
 
 pub const MODULE_VERSION: u8 = 2;

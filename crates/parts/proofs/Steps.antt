@@ -18,7 +18,7 @@ use Rattle.questions.specs.declared.Question.TheVariants.{TreeLayout}
 use Rattle.questions.specs.Numbers.{number}
 use Rattle.parts.specs.Judge.{Passed, Next, Is, Placed, here, later, least, judged, and_then, with_number, number_at, operator_at, guarded, unasked, ask_text, judge_operator, judge_name, judge_names, judge_params, judge_head, suited, fits, filled, holds}
 use Rattle.parts.specs.Asked.{asks, place, stand}
-use Rattle.parts.specs.Judged.{passed_by, Judged, counted_by, Counts, Went, Short, ReadsByte, Stands, answered, Settles}
+use Rattle.parts.specs.Judged.{passed_by, Judged, counted_by, Counts, Went, Short, ReadsByte, Stands, answered, Rules, Settles}
 use Rattle.parts.specs.Places.{count_at, Counted, name_bytes, There, names_from, AllThere}
 use Rattle.parts.specs.declared.asked.BlockQuestion.{BlockQuestion}
 use Rattle.parts.specs.declared.asked.BlockQuestion.TheVariants.{Names, IteratorNames, Strings, Loops, Targets, EmptyTargets, Parameters, Init, ListLengths}
@@ -367,15 +367,20 @@ pub settle-over : (c : Checker) → c.at < length c.tree.now → Settles (Err Tr
 unfolding Settles
 settle-over c h = inl (h, refl)
 
-pub settle-yes : (c : Checker) (u : Unit {0}) → length c.tree.now ≤ c.at → c.first ≡ None → Settles (Ok u) c
-unfolding Settles stand
-settle-yes c u h e = (h, ap stand e)
+pub settle-rules : (c : Checker) (r : Result (Unit {0}) Question) → length c.tree.now ≤ c.at → Rules r c → Settles r c
+unfolding Settles
+settle-rules c (Ok u) h g = (h, g)
+settle-rules c (Err q) h g = inr (h, g)
 
-pub settle-no : (c : Checker) (q : BlockQuestion) (a : Question) → length c.tree.now ≤ c.at → c.first ≡ Some q → number a ≡ asks q → Settles (Err a) c
-unfolding Settles stand
-settle-no c q a h e f =
+pub rules-yes : (c : Checker) (u : Unit {0}) → c.first ≡ None → Rules (Ok u) c
+unfolding Rules stand
+rules-yes c u e = ap stand e
+
+pub rules-no : (c : Checker) (q : BlockQuestion) (a : Question) → c.first ≡ Some q → number a ≡ asks q → Rules (Err a) c
+unfolding Rules stand
+rules-no c q a e f =
     let k = place-known q in let z : stand c.first ≡ place q = ap stand e in
-    inr (h, rw z k.0, ap (get_elem? block_questions) z ∙ k.1 ∙ ap some (sym f))
+    (rw z k.0, ap (get_elem? block_questions) z ∙ k.1 ∙ ap some (sym f))
 
 -- ---- a test, and what follows it
 

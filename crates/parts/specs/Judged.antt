@@ -71,7 +71,12 @@ pub record Stands (c c' : Checker) (f : ℕ → ℕ) : Type 0 where
 abbrev pub answered : BlockQuestion → Bool → ℕ → ℕ
 answered q ok w = least w (λ k. if_asked (asks q) k ok)
 
--- the answer once all has been read: something is over; or the first question answered no, if there is one
+-- the first question answered no, if there is one
+unfoldable pub Rules : Result (Unit {0}) Question → Checker → Type 0
+Rules (Ok u) c = stand c.first ≡ 9
+Rules (Err q) c = (stand c.first < 9) × (get_elem? block_questions (stand c.first) ≡ some (number q))
+
+-- the answer once all has been read: something is over; or that
 unfoldable pub Settles : Result (Unit {0}) Question → Checker → Type 0
-Settles (Ok u) c = (length c.tree.now ≤ c.at) × (stand c.first ≡ 9)
-Settles (Err q) c = ((c.at < length c.tree.now) × (q ≡ TreeLayout)) ⊎ ((length c.tree.now ≤ c.at) × (stand c.first < 9) × (get_elem? block_questions (stand c.first) ≡ some (number q)))
+Settles (Ok u) c = (length c.tree.now ≤ c.at) × Rules (Ok u) c
+Settles (Err q) c = ((c.at < length c.tree.now) × (q ≡ TreeLayout)) ⊎ ((length c.tree.now ≤ c.at) × Rules (Err q) c)

@@ -20,7 +20,7 @@ impl<'a> Checker<'a> {
     ghost use Rattle.definitions.specs.Bytes.{field};
     ghost use Rattle.parts.specs.Asked.{stand};
     ghost use Rattle.parts.specs.Judge.{judged, unasked, judge_operator, suited, filled};
-    ghost use Rattle.parts.specs.Judged.{Starts, ReadsByte, Judged, Counts, Went, Short, Skips, Stands, answered, Settles};
+    ghost use Rattle.parts.specs.Judged.{Starts, ReadsByte, Judged, Counts, Went, Short, Skips, Stands, answered, Rules, Settles};
 
     // From a place on, with no question answered no.
     #[tactic(auto, unfolding(crate::specs::Asked::stand))]
@@ -137,6 +137,16 @@ impl<'a> Checker<'a> {
         self.note(BlockQuestion::EmptyTargets, role.holds(n));
     }
 
+    // The first of a block's questions that is answered no, of all that has been read.
+    pub fn verdict(&self) -> Result<(), Question>
+        ensures { Rules result self.now }
+    {
+        match self.first {
+            None => Ok(()),
+            Some(question) => Err(question.question()),
+        }
+    }
+
     // What is answered of a block that has been read: whether something is over, and the first question answered no.
     pub fn settle(&self) -> Result<(), Question>
         ensures { Settles result self.now }
@@ -144,9 +154,6 @@ impl<'a> Checker<'a> {
         if self.at < self.tree.len() {
             return Err(Question::TreeLayout);
         }
-        match self.first {
-            None => Ok(()),
-            Some(question) => Err(question.question()),
-        }
+        self.verdict()
     }
 }

@@ -4,7 +4,7 @@ use mathlib.Core.Path.{◌≡◌, refl, sym, ap, ◌∙◌}
 use mathlib.Core.List.{List, [], ◌∷◌}
 use lib.ListN.{get_or}
 use Rattle.questions.specs.declared.Question.{Question}
-use Rattle.questions.specs.declared.Question.TheVariants.{WorkAreas, TreeSize, TreeCount, TreeVersion, TreeLayout, Depth, Names, Strings, Loops, Targets, Parameters, Init, ListLengths, Slots, Limits, ModuleRoom, ModuleSize, ModuleVersion, ModuleLayout, Numbers, Jumps, Function, Answers, EventRoom, ListingRoom, SheetRoom, IteratorNames, Place, AnswerRoom, EmptyTargets, Heights}
+use Rattle.questions.specs.declared.Question.TheVariants.{WorkAreas, TreeSize, TreeCount, TreeVersion, TreeLayout, Depth, Names, Strings, Loops, Targets, Parameters, Init, ListLengths, Slots, Limits, ModuleRoom, ModuleSize, ModuleVersion, ModuleLayout, Numbers, Jumps, Function, Answers, EventRoom, ListingRoom, SheetRoom, IteratorNames, Place, AnswerRoom, EmptyTargets, Heights, CutRoom}
 use Rattle.questions.specs.Numbers.{number}
 
 -- the questions at their numbers; the first where no question has the number
@@ -16,7 +16,7 @@ by_number =
     ∷ ModuleVersion ∷ ModuleLayout ∷ Numbers ∷ Jumps ∷ Function ∷ Answers
     ∷ EventRoom ∷ WorkAreas ∷ WorkAreas ∷ WorkAreas ∷ WorkAreas ∷ WorkAreas
     ∷ WorkAreas ∷ ListingRoom ∷ SheetRoom ∷ IteratorNames ∷ Place ∷ AnswerRoom
-    ∷ EmptyTargets ∷ Heights ∷ []
+    ∷ EmptyTargets ∷ Heights ∷ CutRoom ∷ []
 
 named : (q : Question) → get_or by_number (number q) WorkAreas ≡ q
 unfolding by_number number
@@ -51,6 +51,7 @@ named Place = refl
 named AnswerRoom = refl
 named EmptyTargets = refl
 named Heights = refl
+named CutRoom = refl
 
 pub number-same : (p q : Question) → number p ≡ number q → p ≡ q
 number-same p q e = sym (named p) ∙ ap (λ (n : ℕ). get_or by_number n WorkAreas) e ∙ named q

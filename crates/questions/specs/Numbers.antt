@@ -1,7 +1,7 @@
 -- The questions by their numbers.
 use Rattle.std.specs.Prelude.{ℕ}
 use Rattle.questions.specs.declared.Question.{Question}
-use Rattle.questions.specs.declared.Question.TheVariants.{WorkAreas, TreeSize, TreeCount, TreeVersion, TreeLayout, Depth, Names, Strings, Loops, Targets, Parameters, Init, ListLengths, Slots, Limits, ModuleRoom, ModuleSize, ModuleVersion, ModuleLayout, Numbers, Jumps, Function, Answers, EventRoom, ListingRoom, SheetRoom, IteratorNames, Place, AnswerRoom, EmptyTargets, Heights}
+use Rattle.questions.specs.declared.Question.TheVariants.{WorkAreas, TreeSize, TreeCount, TreeVersion, TreeLayout, Depth, Names, Strings, Loops, Targets, Parameters, Init, ListLengths, Slots, Limits, ModuleRoom, ModuleSize, ModuleVersion, ModuleLayout, Numbers, Jumps, Function, Answers, EventRoom, ListingRoom, SheetRoom, IteratorNames, Place, AnswerRoom, EmptyTargets, Heights, CutRoom}
 
 -- the number of each question
 unfoldable pub number : Question → ℕ
@@ -36,3 +36,4 @@ number Place = 34
 number AnswerRoom = 35
 number EmptyTargets = 36
 number Heights = 37
+number CutRoom = 38

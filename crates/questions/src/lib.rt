@@ -41,6 +41,7 @@ pub enum Question {
     AnswerRoom = 35,
     EmptyTargets = 36,
     Heights = 37,
+    CutRoom = 38,
 }
 
 impl Question {

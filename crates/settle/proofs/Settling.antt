@@ -21,9 +21,9 @@ use Rattle.tree.specs.StmtAt.{TreeAt}
 use Rattle.tree.proofs.TreeViews.{answer-refused}
 use Rattle.state.specs.State.{State, state_of, limits_of, Within, Sound}
 use Rattle.state.specs.declared.Limits.{Limits}
-use Rattle.state.specs.Fits.{fits_block}
+use Rattle.definitions.specs.Fits.{fits_block}
 use Rattle.state.proofs.Views.{few-slots, within-sound}
-use Rattle.state.proofs.SlotsFit.{slots-fit, targets-asked}
+use Rattle.definitions.proofs.SlotsFit.{slots-fit, targets-asked}
 use Rattle.lower_emit.specs.declared.emitter.Emitter.{Emitter}
 use Rattle.lower_emit.specs.Emitting.{counts_of, limits_in, state_in, SameAreas}
 use Rattle.compile.specs.Compiled.{tree_block, CompilesTree}
@@ -64,6 +64,26 @@ settles-checked {q} {r} {tree} {a} e h =
     subst (λ (z : Result (Unit {0}) Question). Settles z tree a a) (sym e)
     (fails q (tables-refused (limits_of (limits_in a)) tree (number q) (answer-refused tree q h)) refl (record { words = refl; made = refl; entries = refl }))
 
+-- the tables of a block, as they were worked out
+module _ (c : Block) {tree : List ℕ} {A : Type 0} {r : Option A} {a b : Emitter} (h : CompilesTree r tree a b (compile c).tables) where
+  pub compiled-over : r ≡ None → slots_fit (compile c).tables ≡ true → tables_fit (limits_of (limits_in a)) (compile c).tables ≡ false
+  compiled-over e s = tables-over (limits_in a) (compile c).tables s (h.full e)
+
+  module _ {x : A} (e : r ≡ Some x) where
+    sound : Sound tree b.tables.names.made.now b.code.words.now b.tables.entries.words.now (counts_of b) (limits_in b)
+    sound = (h.sound x e).sound
+
+    slots-yes : slots_fit (compile c).tables ≡ true
+    unfolding state_of
+    slots-yes = ap slots_fit (sym (h.tables x e)) ∙ few-slots tree b.tables.names.made.now b.code.words.now b.tables.entries.words.now (counts_of b) (limits_in b) sound
+
+    pub compiled-fits : tables_fit (limits_of (limits_in a)) (compile c).tables ≡ true
+    unfolding state_of
+    compiled-fits =
+        ap (tables_fit (limits_of (limits_in a))) (sym (h.tables x e))
+        ∙ ap (λ (l : Limits). tables_fit (limits_of l) (tables_in tree b)) (sym h.limits)
+        ∙ tables-within (limits_in b) (state_in tree b) (within-sound tree b.tables.names.made.now b.code.words.now b.tables.entries.words.now (counts_of b) (limits_in b) sound)
+
 module _ {tree : List ℕ} (T : TreeAt tree) where
   slots-are : slots_fit (compile (tree_block tree)).tables ≡ fits_block [] (tree_block tree)
   slots-are = slots-fit (tree_block tree) (targets-asked (tree_block tree) (tree_block tree) (check-gives tree (tree_block tree) T.answer).formed)
@@ -83,7 +103,7 @@ module _ {tree : List ℕ} (T : TreeAt tree) where
     settles-over e f =
         fails LimitsKept
         (tables-fit m tree (tree_block tree) T.answer
-        ∙ fits-over m (compile (tree_block tree)).tables (slots-are ∙ f) (tables-over (limits_in a) (compile (tree_block tree)).tables (slots-are ∙ f) (h.full e)))
+        ∙ fits-over m (compile (tree_block tree)).tables (slots-are ∙ f) (compiled-over (tree_block tree) h e (slots-are ∙ f)))
         h.limits h.areas
 
     pub settles-full : r ≡ None → {q : Question} → q ≡ full_by (fits_block [] (tree_block tree)) → Settles (Err q) tree a b
@@ -94,31 +114,15 @@ module _ {tree : List ℕ} (T : TreeAt tree) where
         go true f g = subst (λ (p : Question). Settles (Err p) tree a b) (sym g) (settles-over e f)
         go false f g = subst (λ (p : Question). Settles (Err p) tree a b) (sym g) (settles-slots f)
 
-    module _ {x : A} (e : r ≡ Some x) where
-      sound : Sound tree b.tables.names.made.now b.code.words.now b.tables.entries.words.now (counts_of b) (limits_in b)
-      sound = (h.sound x e).sound
-
-      -- 14 and 15
-      slots-yes : slots_fit (compile (tree_block tree)).tables ≡ true
-      unfolding state_of
-      slots-yes = ap slots_fit (sym (h.tables x e)) ∙ few-slots tree b.tables.names.made.now b.code.words.now b.tables.entries.words.now (counts_of b) (limits_in b) sound
-
-      tables-yes : tables_fit m (compile (tree_block tree)).tables ≡ true
-      unfolding state_of
-      tables-yes =
-          ap (tables_fit m) (sym (h.tables x e))
-          ∙ ap (λ (l : Limits). tables_fit (limits_of l) (tables_in tree b)) (sym h.limits)
-          ∙ tables-within (limits_in b) (state_in tree b) (within-sound tree b.tables.names.made.now b.code.words.now b.tables.entries.words.now (counts_of b) (limits_in b) sound)
-
-      pub settles-all : {u : Unit {0}} → Settles (Ok u) tree a b
-      unfolding told
-      settles-all = record {
-        answer = tables-fit m tree (tree_block tree) T.answer ∙ fits_all m (compile (tree_block tree)).tables slots-yes tables-yes ∙ ap accepted (sym (h.tables x e));
-        stands = λ u k. T;
-        sound = λ u k. h.sound x e;
-        limits = h.limits;
-        areas = h.areas;
-      }
+    pub settles-all : {x : A} {u : Unit {0}} → r ≡ Some x → Settles (Ok u) tree a b
+    unfolding told
+    settles-all {x = x} e = record {
+      answer = tables-fit m tree (tree_block tree) T.answer ∙ fits_all m (compile (tree_block tree)).tables (slots-yes (tree_block tree) h e) (compiled-fits (tree_block tree) h e) ∙ ap accepted (sym (h.tables x e));
+      stands = λ u k. T;
+      sound = λ u k. h.sound x e;
+      limits = h.limits;
+      areas = h.areas;
+    }
 
 -- ---- the answer alone
 

@@ -5,9 +5,7 @@ pub mod Emission
 pub mod Jumps
 pub mod Enclosing
 pub mod StmtEmission
-pub mod Growth
 pub mod Within
 pub mod WithinParts
-pub mod SlotsFit
 pub mod Answers
 pub mod Kept

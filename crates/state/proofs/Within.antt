@@ -20,9 +20,9 @@ use Rattle.state.specs.declared.Limits.{Limits}
 use Rattle.state.proofs.Emission.{stack-grows, base_kept, at-seq}
 use Rattle.state.proofs.Jumps.{set-length, patch-length, at-loop, at-branch, at-when, chain-when, chain-else}
 use Rattle.state.proofs.Enclosing.{symbol-functions, at-function, at-closure, at-end_class, at-class_object, at-class, methods-more}
-use Rattle.state.proofs.Growth.{Lengthened, Lengthens, lengthened-none, functions-longer, instructions-longer, slots-fewer, set_code-count}
-use Rattle.state.proofs.Growth.{set_code-instructions, lengthens-one, lengthens-seq, branches-lengthened, methods-lengthened, lengthens-end_class, lengthens-loads}
-use Rattle.state.proofs.SlotsFit.{all_snoc, all-set_code}
+use Rattle.definitions.proofs.Growth.{Lengthened, Lengthens, lengthened-none, functions-longer, instructions-longer, slots-fewer, set_code-count}
+use Rattle.definitions.proofs.Growth.{set_code-instructions, lengthens-one, lengthens-seq, branches-lengthened, methods-lengthened, lengthens-end_class, lengthens-loads}
+use Rattle.definitions.proofs.SlotsFit.{all_snoc, all-set_code}
 
 -- ---- parts
 

@@ -14,7 +14,7 @@ use Rattle.state.specs.Steps.{branch}
 use Rattle.state.specs.Kept.{keeper_at, kept_at}
 use Rattle.state.specs.declared.Limits.{Limits}
 use Rattle.state.proofs.StmtEmission.{at-for}
-use Rattle.state.proofs.Growth.{Lengthens, lengthens-one, lengthens-seq, lengthens-loop, lengthens-ask_iter, lengthens-take_iter, lengthens-kept_iter, lengthens-block}
+use Rattle.definitions.proofs.Growth.{Lengthens, lengthens-one, lengthens-seq, lengthens-loop, lengthens-ask_iter, lengthens-take_iter, lengthens-kept_iter, lengthens-block}
 use Rattle.state.proofs.Within.{within-down, within-one, within-two, within-loop, within-when}
 
 -- ---- jumps: the parts before the last, with any placeholder i

@@ -1,6 +1,5 @@
 pub mod Answered
 pub mod Words
-pub mod Fits
 pub mod Index
 pub mod State
 pub mod Steps

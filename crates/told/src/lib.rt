@@ -18,7 +18,7 @@ const WITH: u64 = 4294967297;
 
 const AFTER: u64 = 4294967298;
 
-// That no answers are found.
+// That there is nothing to write: no answers, or no refusal.
 const NONE: u64 = 8589934592;
 
 // 0, or the number of the first question that is answered no.
@@ -77,7 +77,8 @@ pub fn tell_run(answer: Result<Ran, Question>, numbers: &mut [u64]) -> u32
     }
 }
 
-// Answers that bring a run to a place: 2^32 plus their count; 2^33 where none do; or the number of the first question that is answered no.
+// What may be none, answers that bring a run to a place or a refused tree cut down: 2^32 plus the count of bytes; 2^33 for none; or the number of the first
+// question that is answered no.
 #[tactic(auto, unfolding(crate::specs::Tells::found))]
 pub fn tell_found(answer: Result<Option<usize>, Question>) -> u64
     requires { FewFound answer }

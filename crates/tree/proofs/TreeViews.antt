@@ -18,7 +18,7 @@ use Rattle.parts.specs.Places.{Node, node}
 use Rattle.parts.proofs.Laws.{le-or-gt}
 use Rattle.parts.proofs.Nodes.{got-node, got-reads}
 use Rattle.tree.specs.Settled.{said, without_block, settled, Headed}
-use Rattle.tree.specs.StmtAt.{block_at, TreeAt}
+use Rattle.tree.specs.StmtAt.{block_at, BlockReads, TreeAt}
 use Rattle.std.specs.Prelude.{Ok, Err}
 use Rattle.questions.specs.declared.Question.{Question}
 use Rattle.questions.specs.Numbers.{number}
@@ -101,17 +101,31 @@ formed (accepted c) b e = go (first_no (λ q. ask_block q false c) block_questio
     go none x h = (h, ap (λ (d : Block). first_no (λ q. ask_block q false d) block_questions) (let z : b ≡ c = cc in z) ∙ x)
     go (some q) x h = never h
 
+-- a tree that is read: its block stands at byte 5 and ends with the bytes
+pub record ReadAt (t : List ℕ) (b : Block) : Type 0 where
+  pub small : length t ≤ 32768
+  pub block : BlockReads 32 t 5
+  pub node : block_at 32 t 5 ≡ node b (length t)
+
+pub view-read : (t : List ℕ) (b : Block) → read_tree t ≡ accepted b → ReadAt t b
+view-read t b e =
+    let g = body-got t b e in
+    record {
+      small = small t b e;
+      block = got-reads (block_of (parse_stmt 32)) t 5 b (drop (length t) t) (five t b e) g;
+      node = got-node []ᵇ (block_of (parse_stmt 32)) t 5 b (length t) (omega arith) g;
+    }
+
 pub view-tree : (t : List ℕ) (b : Block) → check_tree t ≡ accepted b → TreeAt t
 unfolding check_tree
 view-tree t b e =
     let f = formed (read_tree t) b e in
-    let g = body-got t b f.0 in
-    let n : block_at 32 t 5 ≡ node b (length t) = got-node []ᵇ (block_of (parse_stmt 32)) t 5 b (length t) (omega arith) g in
-    let v : b ≡ (block_at 32 t 5).value = sym (ap (λ (x : Node Block). x.value) n) in
+    let R = view-read t b f.0 in
+    let v : b ≡ (block_at 32 t 5).value = sym (ap (λ (x : Node Block). x.value) R.node) in
     record {
-      small = small t b f.0;
-      block = got-reads (block_of (parse_stmt 32)) t 5 b (drop (length t) t) (five t b f.0) g;
-      whole = ap (λ (x : Node Block). x.end) n;
+      small = R.small;
+      block = R.block;
+      whole = ap (λ (x : Node Block). x.end) R.node;
       answer = e ∙ ap accepted v;
       yes = λ k h. ap (λ (c : Block). ask_block (get_or block_questions k 0) false c) (sym v) ∙ all_yes (λ q. ask_block q false b) block_questions f.1 k h;
     }

@@ -22,7 +22,7 @@ use Rattle.definitions.proofs.Measured.{block-known, hop-known}
 use Rattle.definitions.proofs.Alike.{AllSpelled, alike-expr}
 use Rattle.state.specs.State.{State, emit_at}
 use Rattle.state.proofs.Emission.{at-seq, at-three, at-four, at-nothing, base_kept}
-use Rattle.state.proofs.Growth.{Lengthens, lengthens-one, lengthens-seq}
+use Rattle.definitions.proofs.Growth.{Lengthens, lengthens-one, lengthens-seq}
 use Rattle.state.proofs.Within.{within-second}
 use Rattle.state.proofs.Answers.{left_as}
 use Rattle.measure_stmts.specs.Heads.{heads_stmt, heads_block}

@@ -24,7 +24,7 @@ use Rattle.definitions.proofs.Alike.{AllSpelled}
 use Rattle.definitions.proofs.AlikeStmt.{AlikeIn, alike-stmt, alike-block}
 use Rattle.state.specs.State.{State, emit_at, Within, Limited}
 use Rattle.state.specs.declared.Limits.{Limits}
-use Rattle.state.proofs.Growth.{Lengthens}
+use Rattle.definitions.proofs.Growth.{Lengthens}
 use Rattle.measure_stmts.specs.Heads.{heads_stmt, heads_block, heads_branches}
 use Rattle.measure_stmts.proofs.Beginning.{begun, Begins, begins-stmt, begins-block}
 

@@ -22,7 +22,7 @@ use Rattle.state.specs.Kept.{keeping_of, keeper_at, kept_at, after_loops, Spare}
 use Rattle.state.proofs.Kept.{spare-first, keeping-past}
 use Rattle.state.proofs.Emission.{at-seq, at-three, base_kept}
 use Rattle.state.proofs.StmtEmission.{at-kept, kept-stack}
-use Rattle.state.proofs.Growth.{Lengthens, lengthens-one, lengthens-seq, lengthens-ask_iter, lengthens-take_iter, lengthens-kept_iter}
+use Rattle.definitions.proofs.Growth.{Lengthens, lengthens-one, lengthens-seq, lengthens-ask_iter, lengthens-take_iter, lengthens-kept_iter}
 use Rattle.state.proofs.Within.{within-down}
 use Rattle.measure_stmts.specs.Heads.{heads_block}
 use Rattle.lower_expr.proofs.Calls.{at_same}
@@ -57,7 +57,7 @@ rounds-sizes names keep x g b k v =
             let c = (counted-take_iter names x g).at (Measured.so_far t) p t (Rattle.definitions.proofs.SoFarNames.knows-itself t N.spelled) in
             let e = (lengthens-take_iter names x g).at p t in
             let h = B.heading.at (p + length o.code) o.tables (record { spelled = c.knows.spelled }) in
-            omega (arith, h, Rattle.state.proofs.Growth.functions-longer e, e.classes);
+            omega (arith, h, Rattle.definitions.proofs.Growth.functions-longer e, e.classes);
       };
     }
 

@@ -14,9 +14,9 @@ use Rattle.definitions.specs.Lower.{decides, display_size, jump_on, store_iter, 
 use Rattle.definitions.specs.Measured.{SoFar, so_far, knowing, write_short, write_expr, write_exprs, write_object, write_assign}
 use Rattle.definitions.specs.Measured.{measure_expr, measure_block, measure_hop, measure_ask, measure_take, after_block}
 use Rattle.definitions.specs.Measured.{Loop, no_loop, ahead, back, write_loop, write_for, write_stmt, write_block, write_branches, write_methods}
-use Rattle.state.proofs.Growth.{Lengthened, Lengthens, lengthened-none, lengthened-more, lengthens-emits, lengthens-one, lengthens-seq, lengthens-here, lengthens-function, lengthens-load, lengthens-store}
-use Rattle.state.proofs.Growth.{lengthens-symbol, lengthens-literal, lengthens-call_by, lengthens-closure, lengthens-unpack, lengthens-make_iter, lengthens-ask_iter, lengthens-take_iter}
-use Rattle.state.proofs.Growth.{lengthens-kept_iter, begin_class-lengthened, lengthens-end_class}
+use Rattle.definitions.proofs.Growth.{Lengthened, Lengthens, lengthened-none, lengthened-more, lengthens-emits, lengthens-one, lengthens-seq, lengthens-here, lengthens-function, lengthens-load, lengthens-store}
+use Rattle.definitions.proofs.Growth.{lengthens-symbol, lengthens-literal, lengthens-call_by, lengthens-closure, lengthens-unpack, lengthens-make_iter, lengthens-ask_iter, lengthens-take_iter}
+use Rattle.definitions.proofs.Growth.{lengthens-kept_iter, begin_class-lengthened, lengthens-end_class}
 
 pub grows-knowing : {f : SoFar → Emit} → ((k : SoFar) → Lengthens (f k)) → Lengthens (knowing f)
 unfolding knowing

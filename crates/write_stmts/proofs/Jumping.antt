@@ -15,7 +15,7 @@ use Rattle.definitions.proofs.Counted.{Counted}
 use Rattle.state.specs.Words.{word}
 use Rattle.state.specs.State.{State, emit_at, Within}
 use Rattle.state.proofs.Emission.{stack-after}
-use Rattle.state.proofs.Growth.{Lengthens}
+use Rattle.definitions.proofs.Growth.{Lengthens}
 use Rattle.state.proofs.Views.{stack-length}
 use Rattle.lower_emit.specs.declared.emitter.Emitter.{Emitter}
 use Rattle.lower_emit.specs.Emitting.{counts_of, limits_in, state_in, SoundIn, LeftIn, LowersIn, Puts}

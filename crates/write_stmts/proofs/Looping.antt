@@ -13,7 +13,7 @@ use Rattle.definitions.proofs.SoFarNames.{Knows}
 use Rattle.definitions.proofs.Counted.{CountedSame, counted-one}
 use Rattle.definitions.proofs.Alike.{Alike}
 use Rattle.state.specs.State.{State, emit_at}
-use Rattle.state.proofs.Growth.{Lengthens, lengthens-one, lengthens-seq}
+use Rattle.definitions.proofs.Growth.{Lengthens, lengthens-one, lengthens-seq}
 use Rattle.state.proofs.Within.{within-two}
 use Rattle.lower_expr.proofs.Calls.{at_same}
 use Rattle.lower_emit.specs.declared.emitter.Emitter.{Emitter}

@@ -19,7 +19,7 @@ use Rattle.state.specs.State.{State, emit_at, Within}
 use Rattle.state.specs.Kept.{keeping_of, after_loops, Spare, Passes}
 use Rattle.state.proofs.Kept.{after_none, after-sum, spare-first, spare-rest, keeping-past, passes_over}
 use Rattle.state.proofs.Emission.{at-seq, at-nothing, stack-grows}
-use Rattle.state.proofs.Growth.{Lengthens}
+use Rattle.definitions.proofs.Growth.{Lengthens}
 use Rattle.state.proofs.Within.{within-down}
 use Rattle.lower_forms.specs.Lowering.{BlockLowerable, StmtsLowerable}
 use Rattle.lower_forms.proofs.StmtArms.{stmts-more}

@@ -19,7 +19,7 @@ use Rattle.definitions.proofs.Measured.{block-known}
 use Rattle.definitions.proofs.Alike.{alike_same, alike-expr}
 use Rattle.exprs.specs.ExprAt.{expr_at}
 use Rattle.tree.specs.StmtAt.{body_at, block_at}
-use Rattle.state.proofs.Growth.{lengthens-seq, lengthens-take_iter}
+use Rattle.definitions.proofs.Growth.{lengthens-seq, lengthens-take_iter}
 use Rattle.measure_stmts.specs.Heads.{heads_block}
 use Rattle.lower_forms.specs.Lowerable.{expr_code}
 use Rattle.lower_forms.specs.Lowering.{BranchLowerable, BlockLowerable}

@@ -1,1 +1,2 @@
 pub mod Begun
+mod HighFirst

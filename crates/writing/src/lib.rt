@@ -1,6 +1,8 @@
 // Bytes written from the start of the output that is lent, and the laws of what is written piece by piece.
 #![tactic(auto)]
 
+pub mod numbers; // numbers.rt: numbers of several bytes, bytes with their count, the head of a record
+
 ghost use Rattle.std.specs.Prelude.{◌≤◌, length};
 ghost use Rattle.writing.specs.Wrote.{Wrote};
 

@@ -17,10 +17,11 @@
 //! ```
 //!
 //! [`Limits`] says how large a module may be. [`lower`] does the same without allocating, in buffers of the caller;
-//! [`lower_measured`] does so too, and writes every jump as it stays; [`check`] asks a tree's own questions only; [`run`]
-//! runs a function of a module on yes and no answers; [`list`] writes the listing of a module's code, [`count_sheet`] its
-//! count sheet; [`reach`] gives answers that bring a run to a place; [`height`] gives the stack that a function needs, and
-//! [`heights`] checks that of modules from elsewhere; [`order`] tells which of two trees comes first.
+//! [`lower_measured`] does so too, and writes every jump as it stays; [`check`] asks a tree's own questions only;
+//! [`run`] runs a function of a module on yes and no answers; [`list`] writes the listing of a module's code,
+//! [`count_sheet`] its count sheet; [`reach`] gives answers that bring a run to a place; [`height`] gives the stack
+//! that a function needs, and [`heights`] checks that of modules from elsewhere; [`order`] tells which of two trees
+//! comes first; [`cut`] cuts a refused tree down to what is refused in it.
 //!
 //! No call keeps anything, and none shares anything with another, so calls may be made from several threads. They work on their thread's stack; the
 //! usual 2 MB are enough (the run takes the most, about 600 KB).
@@ -28,6 +29,7 @@
 #![deny(missing_docs)]
 #![deny(clippy::undocumented_unsafe_blocks)]
 
+mod cut;
 mod heights;
 mod library;
 mod modules;
@@ -37,6 +39,7 @@ mod refusal;
 mod texts;
 mod trees;
 
+pub use cut::{cut, cut_to_vec};
 pub use heights::{height, heights, heights_of, HEIGHTS_AREA};
 pub use modules::{code, read, run, Ending, Run};
 pub use order::order;

@@ -34,6 +34,17 @@ unsafe extern "C" {
         area2: *mut u32,
         area2_len: usize,
     ) -> u64;
+    pub fn rulketoos_cut(
+        tree: *const u8,
+        tree_len: usize,
+        limits: u32,
+        area1: *mut u32,
+        area1_len: usize,
+        area2: *mut u32,
+        area2_len: usize,
+        out: *mut u8,
+        out_len: usize,
+    ) -> u64;
     pub fn rulketoos_check(tree: *const u8, tree_len: usize) -> u32;
     pub fn rulketoos_read(module: *const u8, module_len: usize) -> u32;
     pub fn rulketoos_heights(

@@ -6,7 +6,7 @@ use std::fmt;
 /// The first question that is answered no.
 ///
 /// The lowering asks 1 to 16, 33 and 36, the check of a tree 2 to 13, 33 and 36 (33 just after 7, 36 just after 10), the reader of modules 17 to 21, the hand-back of code 17 to 22 and the run 17 to 24; the listing 17 to 21, then 31, the count sheet 17 to 21, then 32;
-/// the search for answers that bring a run to a place 1, 17 to 22, then 34 and 35; the check of heights 1, 17 to 21, then 37; the order of trees 1, then 2 to 15, 33 and 36 of each.
+/// the search for answers that bring a run to a place 1, 17 to 22, then 34 and 35; the check of heights 1, 17 to 21, then 37; the order of trees 1, then 2 to 15, 33 and 36 of each; the cut of a refused tree 1, 38, then 2 to 6.
 ///
 /// ```
 /// use rulketoos::Refusal;
@@ -82,10 +82,12 @@ pub enum Refusal {
     EmptyTarget = 36,
     /// 37: a place that some answers reach has two heights, too few values, or leaves more than its function's number.
     BadHeights = 37,
+    /// 38: the output of [`cut`](crate::cut) is shorter than the whole tree.
+    CutTooShort = 38,
 }
 
 /// Every refusal with its question, by rising numbers.
-const QUESTIONS: [(Refusal, &str); 31] = [
+const QUESTIONS: [(Refusal, &str); 32] = [
     (
         Refusal::AreasTooShort,
         "is each work area at least 16,384 numbers long, that of reach and heights 131,072?",
@@ -162,10 +164,11 @@ const QUESTIONS: [(Refusal, &str); 31] = [
         Refusal::BadHeights,
         "is each place that answers reach met at one height, with values enough, and does it leave no more than its function's number?",
     ),
+    (Refusal::CutTooShort, "is the output at least as long as the whole tree?"),
 ];
 
 impl Refusal {
-    /// The number of the question, 1 to 24 or 31 to 37.
+    /// The number of the question, 1 to 24 or 31 to 38.
     #[must_use]
     pub fn number(self) -> u32 {
         self as u32
@@ -200,7 +203,7 @@ impl fmt::Display for NoSuchQuestion {
     fn fmt(&self, f: &mut fmt::Formatter<'_>) -> fmt::Result {
         write!(
             f,
-            "there is no question {}: they are 1 to 24 and 31 to 37",
+            "there is no question {}: they are 1 to 24 and 31 to 38",
             self.0
         )
     }

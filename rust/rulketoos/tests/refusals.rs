@@ -7,7 +7,7 @@ const EMPTY: [u8; 7] = [0, 0, 0, 3, 1, 0, 0];
 #[test]
 fn every_number_has_its_refusal() {
     let mut count = 0;
-    for (number, refusal) in (1..=24).chain(31..=37).zip(Refusal::all()) {
+    for (number, refusal) in (1..=24).chain(31..=38).zip(Refusal::all()) {
         assert_eq!(refusal.number(), number);
         assert_eq!(Refusal::try_from(number), Ok(refusal));
         let text = refusal.to_string();
@@ -15,9 +15,9 @@ fn every_number_has_its_refusal() {
         assert!(text.ends_with(refusal.question()) && text.ends_with('?'));
         count += 1;
     }
-    assert_eq!(count, 31);
+    assert_eq!(count, 32);
     assert_eq!(Refusal::all().count(), count);
-    for number in [0, 25, 30, 38, u32::MAX] {
+    for number in [0, 25, 30, 39, u32::MAX] {
         assert_eq!(Refusal::try_from(number), Err(NoSuchQuestion(number)));
     }
 }
@@ -210,6 +210,40 @@ fn empty_slices_are_read() {
         rulketoos::reach_to_vec(&[], 0, 0),
         Err(Refusal::ModuleHeader)
     );
+}
+
+/// What remains is written or nothing is; the areas are zero afterwards, or left by 1.
+#[test]
+fn cutting_down() {
+    // `None`, `break`, `None`
+    let tree = [0, 0, 0, 8, 1, 0, 3, 3, 0, 0, 3, 0];
+    let cut = |tree: &[u8], area: usize, room: usize| {
+        let mut areas = Areas {
+            first: vec![7; area],
+            second: vec![7; AREA],
+        };
+        let mut out = vec![9; room];
+        let count = rulketoos::cut(tree, Limits::Office, &mut areas, &mut out);
+        let left = u32::from(count == Err(Refusal::AreasTooShort)) * 7;
+        let numbers = areas.first.iter().chain(&areas.second);
+        assert!(numbers.copied().all(|number| number == left));
+        let rest = out.split_off(count.unwrap_or(None).unwrap_or(0));
+        assert!(rest.iter().all(|&byte| byte == 9));
+        count.map(|count| count.map(|_| out))
+    };
+    let remains = Ok(Some(vec![0, 0, 0, 4, 1, 0, 1, 0]));
+    assert_eq!(cut(&tree, AREA, 12), remains);
+    assert_eq!(cut(&tree, AREA + 9, 20), remains);
+    assert_eq!(cut(&tree, AREA, 11), Err(Refusal::CutTooShort));
+    assert_eq!(cut(&tree[..11], AREA, 11), Err(Refusal::TreeHeader));
+    assert_eq!(cut(&tree[..11], AREA, 10), Err(Refusal::CutTooShort));
+    assert_eq!(cut(&tree, AREA - 1, 0), Err(Refusal::AreasTooShort));
+    assert_eq!(cut(&EMPTY, AREA, 7), Ok(None));
+    assert_eq!(cut(&[], AREA, 0), Err(Refusal::TreeHeader));
+    assert_eq!(rulketoos::cut_to_vec(&tree, Limits::Console), remains);
+    assert_eq!(rulketoos::cut_to_vec(&EMPTY, Limits::Console), Ok(None));
+    let refused = rulketoos::cut_to_vec(&[], Limits::Office);
+    assert_eq!(refused, Err(Refusal::TreeHeader));
 }
 
 /// A text fits a buffer of just its length; a shorter one is left as it was.

@@ -5,6 +5,7 @@
 //! Each line: what, our time, the other's time, ours by the other's. Times are
 //! the best of several rounds.
 
+mod cut;
 mod heights;
 mod lowering;
 mod order;
@@ -274,6 +275,7 @@ fn main() {
     texts::sheets();
     heights::checks();
     order::pairs();
+    cut::cuts();
     reach::last_places();
     runs();
 }

@@ -1,5 +1,6 @@
 //! The comparisons that the tests and the program by hand make.
 
+pub mod cut;
 pub mod order;
 pub mod ours;
 pub mod reach;

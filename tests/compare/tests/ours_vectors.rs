@@ -92,3 +92,22 @@ fn orders() {
         assert_eq!(ours, answer, "{name}");
     }
 }
+
+#[test]
+fn cuts() {
+    let mut areas = Areas::new();
+    for [name, set, tree, room, answer] in vectors("cuts.txt") {
+        let limits = match set.as_str() {
+            "office" => Limits::Office,
+            _ => Limits::Console,
+        };
+        let tree = unhex(&tree).expect(&name);
+        let mut out = vec![0; room.parse().expect(&name)];
+        let ours = rulketoos::cut(&tree, limits, &mut areas, &mut out);
+        let ours = ours.map_or_else(refused, |count| match count {
+            Some(count) => hex(&out[..count]),
+            None => "not refused".to_string(),
+        });
+        assert_eq!(ours, answer, "{name}");
+    }
+}

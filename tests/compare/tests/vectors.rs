@@ -1,6 +1,7 @@
 //! The committed vectors: made again, answered again, and held against the
 //! Rust.
 
+use generator::cuts::{self, CutCase};
 use generator::runs::RunCase;
 use generator::text::unhex;
 use generator::vectors;
@@ -90,6 +91,25 @@ fn order_vectors_replay() {
 }
 
 #[test]
+fn cut_vectors_replay() {
+    for fields in lines(&committed("cuts.txt")) {
+        let [name, set, tree, room, answer] = fields[..] else {
+            panic!("five fields: {}", fields[0]);
+        };
+        let limits = [OFFICE, CONSOLE]
+            .into_iter()
+            .find(|&limits| cuts::set(limits) == set);
+        let case = CutCase {
+            name: name.to_string(),
+            limits: limits.expect(name),
+            tree: unhex(tree).expect(name),
+            room: room.parse().expect(name),
+        };
+        assert_eq!(vectors::cut_answer(&case), answer, "{name}");
+    }
+}
+
+#[test]
 fn run_vectors_replay() {
     for fields in lines(&committed("runs.txt")) {
         let [name, module, function, answers, budget, room, answer] = fields[..] else {
@@ -133,11 +153,17 @@ fn stored_outputs_are_the_answers() {
 
 #[test]
 fn every_refusal_is_among_the_vectors() {
-    let text = ["trees.txt", "modules.txt", "runs.txt", "heights.txt"]
-        .map(committed)
-        .concat();
+    let text = [
+        "trees.txt",
+        "modules.txt",
+        "runs.txt",
+        "heights.txt",
+        "cuts.txt",
+    ]
+    .map(committed)
+    .concat();
     // 1 cannot be put in a line: the areas are always long enough there.
-    for number in (2..=24).chain([33, 36, 37]) {
+    for number in (2..=24).chain([33, 36, 37, 38]) {
         let answer = format!("\trefused {number}\n");
         assert!(text.contains(&answer), "{number}");
     }

@@ -1,5 +1,6 @@
 //! Trees, modules, answers and damaged copies for the tests.
 
+pub mod cuts;
 pub mod damage;
 pub mod heights;
 pub mod limits;

@@ -755,7 +755,7 @@ fn console_counts() -> Vec<Case> {
 
 /// One statement for each question that can be broken by a statement alone, in
 /// the order in which they are asked.
-fn faults() -> Vec<(u8, Bytes)> {
+pub(crate) fn faults() -> Vec<(u8, Bytes)> {
     let names = many_names(256);
     let all = borrowed(&names);
     let wide = def("f", &all[..255], &[assign(var(all[255]), none())]);

@@ -1,5 +1,6 @@
 //! The text of the committed vectors, made again byte for byte.
 
+use crate::cuts::{self, CutCase};
 use crate::heights;
 use crate::modules::{self, ModuleCase};
 use crate::orders::{self, OrderCase};
@@ -13,7 +14,7 @@ use std::cmp::Ordering;
 const SEED: u64 = 20_251_125;
 
 /// File names below tests/vectors and their whole text.
-pub fn files() -> [(&'static str, String); 6] {
+pub fn files() -> [(&'static str, String); 7] {
     [
         ("trees.txt", tree_lines(&trees(), OFFICE)),
         ("console.txt", tree_lines(&console_trees(), CONSOLE)),
@@ -21,6 +22,7 @@ pub fn files() -> [(&'static str, String); 6] {
         ("runs.txt", lines(run_cases().iter().map(run_line))),
         ("heights.txt", lines(height_cases().iter().map(height_line))),
         ("orders.txt", lines(order_cases().iter().map(order_line))),
+        ("cuts.txt", lines(cut_cases().iter().map(cut_line))),
     ]
 }
 
@@ -71,6 +73,15 @@ pub fn order_answer(first: &[u8], second: &[u8]) -> String {
     }
 }
 
+/// What a tree is cut down to, with areas that are long enough.
+pub fn cut_answer(case: &CutCase) -> String {
+    match model::cut(&case.tree, case.limits, 16_384, 16_384, case.room) {
+        Ok(Some(tree)) => hex(&tree),
+        Ok(None) => "not refused".to_string(),
+        Err(number) => format!("refused {number}"),
+    }
+}
+
 /// A field of bytes; the empty record is a dash, too.
 fn tree_lines(cases: &[Case], limits: Limits) -> String {
     let line = |case: &Case| {
@@ -107,6 +118,17 @@ fn order_line(case: &OrderCase) -> String {
     let answer = order_answer(&case.first, &case.second);
     let (first, second) = (hex_or_dash(&case.first), hex_or_dash(&case.second));
     format!("{}\t{first}\t{second}\t{answer}", case.name)
+}
+
+fn cut_line(case: &CutCase) -> String {
+    format!(
+        "{}\t{}\t{}\t{}\t{}",
+        case.name,
+        cuts::set(case.limits),
+        hex_or_dash(&case.tree),
+        case.room,
+        cut_answer(case)
+    )
 }
 
 /// A random tree of at most so many bytes.
@@ -229,6 +251,33 @@ pub fn order_cases() -> Vec<OrderCase> {
         cases.push(orders::order_case(&format!("damaged-{number}"), tree, copy));
         let (tree, other) = (small_tree(&mut rng, 150), small_tree(&mut rng, 150));
         cases.push(orders::order_case(&format!("other-{number}"), tree, other));
+    }
+    cases
+}
+
+/// Of larger trees these alone, a kind each.
+const LARGE_CUTS: [&str; 8] = [
+    "cut-13-last",
+    "cut-14-last",
+    "cut-15-last",
+    "cut-functions-spaced-console",
+    "cut-functions-later-console",
+    "cut-functions-single-console",
+    "cut-classes-even-console",
+    "cut-classes-last-console",
+];
+
+/// The short ones of those made by hand, random trees and damaged ones.
+pub fn cut_cases() -> Vec<CutCase> {
+    let mut rng = Rng::new(SEED + 5);
+    let mut cases = cuts::all();
+    cases.retain(|case| case.tree.len() <= 150 || LARGE_CUTS.contains(&case.name.as_str()));
+    for number in 0..30 {
+        let tree = small_tree(&mut rng, 100);
+        let damaged = damage::damaged(&mut rng, &tree);
+        let (one, other) = (format!("random-{number}"), format!("damaged-{number}"));
+        cases.push(cuts::cut_case(&one, OFFICE, tree));
+        cases.push(cuts::cut_case(&other, OFFICE, damaged));
     }
     cases
 }

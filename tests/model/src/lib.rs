@@ -1,10 +1,11 @@
 //! A plain model of the paper: lowering, reader, run and walk; and of the
 //! requests after it: the code listing, the count sheet,
-//! answers that bring a run to a place, the order of trees.
+//! answers that bring a run to a place, the order of trees, a refused tree cut down.
 //!
 //! Written from the documents alone, to be held against the reference compiler
 //! and against the project's own code. A refusal is the question's number.
 
+pub mod cut;
 pub mod height;
 pub mod instruction;
 pub mod limits;
@@ -88,6 +89,27 @@ pub fn order(
 pub fn rest(tree: &[u8], limits: Limits) -> Result<Vec<u8>, u8> {
     plan(tree, limits)?;
     Ok(write::rest(&tree::read(tree)?))
+}
+
+/// Questions 1, 38 and 2 to 6: the fewest consecutive top statements that are
+/// refused with the number that the tree is refused with by 7 to 15, 33 or 36, or
+/// none where the tree isn't refused.
+pub fn cut(
+    tree: &[u8],
+    limits: Limits,
+    area1: usize,
+    area2: usize,
+    room: usize,
+) -> Result<Option<Vec<u8>>, u8> {
+    if area1 < AREA || area2 < AREA {
+        return Err(1);
+    }
+    if room < tree.len() {
+        return Err(38);
+    }
+    let program = tree::read(tree)?;
+    let refusal = plan(tree, limits).err();
+    Ok(refusal.map(|number| cut::fewest(&program, limits, number)))
 }
 
 /// Questions 17 to 21.

@@ -1,13 +1,11 @@
-use Rattle.compile.specs.Compiled.{tree_block}
-use Rattle.compile.proofs.Compiling.{compiles-none, compiles-stopped, compiles-done}
+use Rattle.compile.proofs.Compiling.{top-counted, all-stands, all-compiles}
 use Rattle.compile.proofs.compile.Goals as goal
 
-pub returns-in_err-f : goal.returns-in_err-f
-returns-in_err-f c = compiles-none c.requires.0 c.begin_main.ensures (tree_block c.args.tree.now) c.in_err-f.was c.from_residual.ensures
+pub u16_at-requires : goal.u16_at-requires
+u16_at-requires c = top-counted c.requires.1
 
-pub returns-in_err-put_main : goal.returns-in_err-put_main
-returns-in_err-put_main c =
-    compiles-stopped c.requires.0 c.begin_main.ensures (tree_block c.args.tree.now) c.in_ok-f.was c.put_main.ensures c.in_err-put_main.was c.from_residual-in_err-put_main.ensures
+pub compile_stretch-requires : goal.compile_stretch-requires
+compile_stretch-requires c = (c.requires.0, all-stands c.requires.1 _ c.u16_at.ensures.0)
 
-pub returns : goal.returns
-returns c = compiles-done c.requires.0 c.begin_main.ensures (tree_block c.args.tree.now) c.in_ok-f.was c.put_main.ensures c.in_ok-put_main.was c.end_function.ensures
+pub returns-in-Set : goal.returns-in-Set
+returns-in-Set c = all-compiles c.requires.1 _ c.u16_at.ensures.0 c.compile_stretch.ensures

@@ -13,7 +13,7 @@ use Rattle.exprs.specs.ExprAt.{expr_at, list_at}
 use Rattle.exprs.proofs.ExprViews.{expr-known}
 use Rattle.state.specs.Words.{name_at}
 use Rattle.state.specs.State.{slot_names, slots_from}
-use Rattle.state.proofs.Growth.{lengthens-one, lengthens-intern, lengthens-seq, lengthens-exprs, lengthens-loads, lengthens-expr, lengthens-shortcut}
+use Rattle.definitions.proofs.Growth.{lengthens-one, lengthens-intern, lengthens-seq, lengthens-exprs, lengthens-loads, lengthens-expr, lengthens-shortcut}
 use Rattle.numerals.specs.Kinds.{expr_byte}
 use Rattle.numerals.specs.declared.kinds.ExprKind.TheVariants.{Variable, Unary, Binary, Call, Attribute, Index, Lambda}
 use Rattle.opcodes.specs.Codes.{held_of}

@@ -1,6 +1,6 @@
 use mathlib.Core.Path.{refl}
 use native.Mathlib.Omega.{arith}
-use Rattle.state.proofs.Growth.{lengthens-one}
+use Rattle.definitions.proofs.Growth.{lengthens-one}
 use Rattle.lower_emit.proofs.Packing.{instr-jump}
 use Rattle.lower_emit.proofs.Steps.{put-lifts, sound-next, lowers_then, lowers-stopped}
 use Rattle.lower_loops.proofs.ask_iterator.Goals as goal

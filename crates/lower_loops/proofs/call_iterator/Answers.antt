@@ -1,5 +1,5 @@
 use mathlib.Core.Path.{refl}
-use Rattle.state.proofs.Growth.{lengthens-one, lengthens-intern}
+use Rattle.definitions.proofs.Growth.{lengthens-one, lengthens-intern}
 use Rattle.lower_emit.proofs.Steps.{put-lifts, sound-next, lowers_then, lowers-stopped}
 use Rattle.lower_loops.proofs.Calling.{plain-method}
 use Rattle.lower_loops.proofs.call_iterator.Goals as goal

@@ -1,7 +1,7 @@
 use Rattle.state.specs.Words.{name_at}
 use Rattle.state.specs.State.{slot_names}
 use Rattle.state.proofs.Answers.{base-below}
-use Rattle.state.proofs.Growth.{lengthens-store}
+use Rattle.definitions.proofs.Growth.{lengthens-store}
 use Rattle.lower_emit.specs.Emitting.{counts_of, limits_in, state_in}
 use Rattle.lower_emit.proofs.Steps.{lowers-state, lowers_then, lowers-stopped}
 use Rattle.lower_loops.specs.Iterators.{keeper_of}

@@ -1,4 +1,4 @@
-use Rattle.state.proofs.Growth.{lengthens-make_iter}
+use Rattle.definitions.proofs.Growth.{lengthens-make_iter}
 use Rattle.lower_emit.proofs.Parts.{emits-stopped, emits-words, emits-no-words}
 use Rattle.lower_simple.proofs.emit_iterable.Goals as goal
 

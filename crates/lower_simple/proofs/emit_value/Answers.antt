@@ -1,4 +1,4 @@
-use Rattle.state.proofs.Growth.{lengthens-one}
+use Rattle.definitions.proofs.Growth.{lengthens-one}
 use Rattle.lower_emit.proofs.Parts.{emits-stopped}
 use Rattle.lower_expr.proofs.Words.{word-ends, word-over}
 use Rattle.lower_simple.proofs.emit_value.Goals as goal

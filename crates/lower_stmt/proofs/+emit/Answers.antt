@@ -17,7 +17,7 @@ use Rattle.state.specs.Words.{name_at}
 use Rattle.state.specs.State.{slots_from, slot_names}
 use Rattle.state.specs.Kept.{keeping_of, Spare}
 use Rattle.state.proofs.Kept.{passes_over, passes-done, passes_none, spare-first, spare-then, keeping-then, passes_then}
-use Rattle.state.proofs.Growth.{lengthens-emits, lengthens-seq, lengthens-block, lengthens-take_iter}
+use Rattle.definitions.proofs.Growth.{lengthens-emits, lengthens-seq, lengthens-block, lengthens-take_iter}
 use Rattle.lower_forms.proofs.Sole.{sole-at}
 use Rattle.lower_emit.proofs.Packing.{instr-jump}
 use Rattle.lower_emit.proofs.Steps.{sound-next, lowers-by, lowers_then, lowers-stopped, writes-in}

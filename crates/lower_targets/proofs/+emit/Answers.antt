@@ -7,7 +7,7 @@ use Rattle.numerals.specs.declared.kinds.ExprKind.TheVariants.{Variable, Tuple}
 use Rattle.exprs.specs.ExprAt.{expr_at}
 use Rattle.exprs.proofs.ExprViews.{expr-inside, expr-known}
 use Rattle.state.specs.State.{slot_names}
-use Rattle.state.proofs.Growth.{lengthens-unpack, lengthens-target}
+use Rattle.definitions.proofs.Growth.{lengthens-unpack, lengthens-target}
 use Rattle.lower_forms.proofs.Unpacking.{tuple-read, target-deep, target-variable, target-tuple, target-tuple-is, elements-more, halves-read, later-read}
 use Rattle.lower_forms.proofs.Sole.{sole-at}
 use Rattle.lower_emit.proofs.Steps.{lowers-by, lowers-state, lowers-nothing, lowers_then, lowers-stopped, sound-next, writes-in}

@@ -1,6 +1,6 @@
 use native.Mathlib.Omega.{arith}
 use Rattle.state.specs.State.{slot_names}
-use Rattle.state.proofs.Growth.{lengthens-one, lengthens-seq, lengthens-expr, lengthens-intern}
+use Rattle.definitions.proofs.Growth.{lengthens-one, lengthens-seq, lengthens-expr, lengthens-intern}
 use Rattle.lower_emit.proofs.Packing.{plain-above}
 use Rattle.lower_emit.proofs.Parts.{emits-stopped, emits-words, emits-no-words}
 use Rattle.lower_forms.proofs.ExprArms.{there-at}

@@ -2,7 +2,7 @@ use native.Mathlib.Omega.{arith}
 use Rattle.definitions.specs.Instruction.{StoreIndex}
 use Rattle.definitions.specs.Tables.{one}
 use Rattle.state.specs.State.{slot_names}
-use Rattle.state.proofs.Growth.{lengthens-one, lengthens-seq, lengthens-expr}
+use Rattle.definitions.proofs.Growth.{lengthens-one, lengthens-seq, lengthens-expr}
 use Rattle.lower_emit.proofs.Packing.{instr-plain, plain-above}
 use Rattle.lower_emit.proofs.Parts.{emits-stopped}
 use Rattle.lower_expr.proofs.Words.{sound-after, expr_then, word-ends, word-over}

@@ -3,7 +3,7 @@ use mathlib.Core.Path.{sym, ap}
 use native.Mathlib.Omega.{arith}
 use Rattle.definitions.specs.Lower.{unpack}
 use Rattle.state.specs.State.{slot_names}
-use Rattle.state.proofs.Growth.{lengthens-unpack}
+use Rattle.definitions.proofs.Growth.{lengthens-unpack}
 use Rattle.lower_emit.proofs.Steps.{lowers-by}
 use Rattle.lower_emit.proofs.Parts.{emits-stopped, emits-words, emits-no-words}
 use Rattle.lower_forms.specs.Elements.{elements_at}

@@ -1,5 +1,5 @@
 use native.Mathlib.Omega.{arith}
-use Rattle.state.proofs.Growth.{lengthens-store}
+use Rattle.definitions.proofs.Growth.{lengthens-store}
 use Rattle.lower_emit.proofs.Parts.{emits-stopped, emits-no-words, emits-words}
 use Rattle.lower_forms.proofs.ExprArms.{lowerable-at}
 use Rattle.lower_expr.proofs.Words.{sound-after}

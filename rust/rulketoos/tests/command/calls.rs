@@ -18,6 +18,9 @@ const FALLS: &[u8] = &[
     0, 0, 0, 23, 2, 0, 1, 0, 0, 0, 0, 1, 0, 0, 0, 0, 0, 0, 9, 0, 2, 7, 33, 0, 0, 0, 0,
 ];
 
+/// `pass`, `if None: break`, `break`.
+const TWICE: &[u8] = &[0, 0, 0, 13, 1, 0, 3, 2, 6, 0, 0, 1, 0, 0, 0, 0, 0];
+
 const SAMPLES: [&str; 6] = ["casing", "lambdas", "loops", "papers", "spine", "unpack"];
 
 /// Words, input, status, a part of standard output, a part of standard error.
@@ -48,6 +51,10 @@ const CALLS: &[Call] = &[
     ("reach spine.py 0", b"", 2, "", "PLACE is missing"),
     ("order spine.py", b"", 2, "", "OTHER is missing"),
     ("sort", b"", 2, "", "FILE.. is missing"),
+    ("cut", b"", 2, "", "FILE is missing"),
+    ("cut spine.py loops.py", b"", 2, "", "loops.py is one word too many"),
+    ("cut spine.module", b"", 2, "", "spine.module is a module"),
+    ("cut none.py", b"", 2, "", "none.py can't be read"),
     ("reach spine.py 0 end", b"", 2, "", "PLACE is a number"),
     ("reach spine.py 0 1 --run=1", b"", 2, "", "--run takes no value"),
     ("code spine.py 18446744073709551616", b"", 2, "", "FUNCTION is a number"),
@@ -93,7 +100,17 @@ const CALLS: &[Call] = &[
     ("order --console spine.py spine.tree", b"", 0, "equal\n", ""),
     ("order spine.py -", b"x = 1\n", 0, "after\n", ""),
     ("sort spine.py - spine.tree", b"x = 1\n", 0, "  -\n  spine.py\n= spine.tree\n", ""),
+    ("cut spine.py", b"", 0, "not refused\n", ""),
+    ("cut --console spine.tree", b"", 0, "not refused\n", ""),
+    ("cut - -o none/cut.tree", EMPTY, 0, "not refused\n", ""),
+    ("cut -", b"x = 1\nbreak\nx = 2\n", 0, ":2:1: refused 9: does each break and continue stand in a loop of its own function?\ntop statement 2 of 3:\n    2  break\n", ""),
+    ("cut -", BREAK, 0, "standard input: byte 7: refused 9: does each break and continue stand in a loop of its own function?\ntop statement 1 of 1: byte 7\n", ""),
+    ("cut -", TWICE, 0, "?\ntop statement 2 of 3: bytes 8 to 15\n", ""),
+    ("cut - -o -", TWICE, 0, "\0\0\0\x0b\x01\0\x01\x06\0\0\x01\0\0\0\0", ""),
     // refused
+    ("cut -", b"", 1, "", "standard input (taken for a tree): refused 3: has the tree four bytes"),
+    ("cut -", &[0, 0, 0, 3, 2, 0, 0], 1, "", "refused 4: is the tree's next byte"),
+    ("cut -", b"x += 1\n", 1, "", "standard input:1:1: an augmented assignment"),
     ("heights -", FALLS, 1, "", "standard input: refused 37: is each place"),
     ("check -", b"() = t\n", 1, "", "refused 36: is no target"),
     ("order spine.py -", b"break\n", 1, "", "standard input:1:1: refused 9: "),
@@ -262,6 +279,79 @@ fn measured_lowers_the_same() {
                 "{measured:?}"
             );
         }
+    }
+}
+
+/// A script, and the lines of it that remain, with what stands before them.
+const CUTS: [(&str, &str); 6] = [
+    // comments and blank lines between statements are no part of one
+    (
+        "x = 1\n\n# why\nwhile a:\n    def f():\n\n        break  # out\n\n# end\nbreak\n",
+        ":7:9: refused 9: \ntop statement 2 of 3:\n    4  while a:\n    5      def f():\n    6  \n    7          break  # out\n",
+    ),
+    // two statements in a line
+    ("a = 1; break; b = 2\n", ":1:8: refused 9: \ntop statement 2 of 3:\n    1  a = 1; break; b = 2\n"),
+    // a statement of several lines; an escape that a terminal would obey
+    (
+        "pass\r\nx = ('\x1b[2J',\r\n  __for_iter_2__\r\n)\r\npass\r\n",
+        ":3:3: refused 33: \ntop statement 2 of 3:\n    2  x = ('\\u{1b}[2J',\n    3    __for_iter_2__\n    4  )\n",
+    ),
+    ("x = \"\"\"\n# \"\"\", [lambda a, a: a]\n# end\n", ":2:19: refused 11: \ntop statement 1 of 1:\n    1  x = \"\"\"\n    2  # \"\"\", [lambda a, a: a]\n"),
+    // the earlier question, wherever it is
+    ("break\nx = 'é'\né = 1\n", ":3:1: refused 7: \ntop statement 3 of 3:\n    3  é = 1\n"),
+    ("\u{feff}() = t\n", ":1:1: refused 36: \ntop statement 1 of 1:\n    1  () = t\n"),
+];
+
+#[test]
+fn lines_that_remain() {
+    let person = Person::new();
+    for (script, wanted) in CUTS {
+        person.has("refused.py", script);
+        let reply = person.types(&["cut", "refused.py"], b"");
+        let text = String::from_utf8(reply.out).expect("text");
+        let (told, lines) = text.split_once('\n').expect("lines");
+        let place = told.split_inclusive(": ").take(2).collect::<String>();
+        let shown = format!("{}\n{lines}", place.trim_start_matches("refused.py"));
+        assert_eq!((reply.status, shown.as_str()), (0, wanted), "{text}");
+    }
+}
+
+/// 70 defs are too many for the console, 64 of them are enough; `def f` makes the calls of `f` shorter.
+#[test]
+fn runs_that_remain() {
+    let person = Person::new();
+    let defs = "x = 1\n".to_string() + &"def g(): pass\n".repeat(70);
+    let calls = format!("def f(): pass\n{}", "f(); f(); f(); f()\n".repeat(270));
+    person.has("defs.py", defs).has("calls.py", calls);
+    assert_eq!(person.types(&["cut", "defs.py"], b"").out, b"not refused\n");
+    for (file, head, lines) in [
+        (
+            "defs.py",
+            "\ntop statements 2 to 65 of 71:\n    2  def g(): pass\n",
+            66,
+        ),
+        (
+            "calls.py",
+            "\ntop statements 2 to 684 of 1081:\n    2  f(); f(); f(); f()\n",
+            173,
+        ),
+    ] {
+        let reply = person.types(&["cut", "--console", file], b"");
+        let text = String::from_utf8(reply.out).expect("text");
+        assert_eq!(reply.status, 0, "{}", reply.said);
+        assert!(text.starts_with(&format!("{file}: refused 15: ")), "{text}");
+        assert!(text.contains(head), "{text}");
+        assert_eq!(text.lines().count(), lines);
+        let written = person.types(&["cut", "--console", file, "-o", "cut.tree"], b"");
+        assert_eq!((written.status, written.out.len()), (0, 0));
+        let again = person.types(&["cut", "--console", "cut.tree", "-o", "-"], b"");
+        assert_eq!(Some(again.out), person.file("cut.tree"));
+        let lowered = person.types(&["lower", "--console", "cut.tree"], b"");
+        assert!(
+            lowered.said.starts_with("cut.tree: refused 15: "),
+            "{}",
+            lowered.said
+        );
     }
 }
 

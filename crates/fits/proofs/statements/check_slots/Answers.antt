@@ -1,4 +1,6 @@
-use Rattle.fits.proofs.StmtKinds.{tree-told}
+use Rattle.definitions.specs.Fits.{fits_block}
+use Rattle.tree.specs.StmtAt.{block_at}
+use Rattle.fits.proofs.StmtKinds.{top-told}
 use Rattle.slots.proofs.Adding.{none-slots}
 use mathlib.Core.Path.{refl}
 use lib.ListN.{replicate}
@@ -11,4 +13,4 @@ pub invariant_of-block-clause-short : goal.invariant_of-block-clause-short
 invariant_of-block-clause-short c = c.requires.small
 
 pub returns : goal.returns
-returns c = tree-told _ _ (replicate 2048 0) _ _ refl c.block.ensures _ c.is_some.ensures
+returns c = top-told (λ xs. fits_block xs (block_at 32 c.args.tree.now 5).value) _ _ (replicate 2048 0) _ refl c.block.ensures _ c.is_some.ensures

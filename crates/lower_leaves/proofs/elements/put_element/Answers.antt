@@ -1,5 +1,5 @@
 use native.Mathlib.Omega.{arith}
-use Rattle.state.proofs.Growth.{lengthens-one, lengthens-seq}
+use Rattle.definitions.proofs.Growth.{lengthens-one, lengthens-seq}
 use Rattle.lower_emit.proofs.Packing.{plain-below}
 use Rattle.lower_emit.proofs.Writing.{writes_then, writes-stopped, plain-writes}
 use Rattle.lower_leaves.proofs.Copying.{uncopied, copied}

@@ -1,5 +1,5 @@
 use native.Mathlib.Omega.{arith}
-use Rattle.state.proofs.Growth.{lengthens-one}
+use Rattle.definitions.proofs.Growth.{lengthens-one}
 use Rattle.lower_emit.proofs.Packing.{plain-above}
 use Rattle.lower_emit.proofs.Writing.{writes_then, writes-stopped, small-writes, plain-writes}
 use Rattle.lower_leaves.proofs.elements.put_index.Goals as goal

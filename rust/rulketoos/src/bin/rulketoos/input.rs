@@ -36,11 +36,17 @@ pub struct Input {
     bytes: Vec<u8>,
 }
 
-/// A tree, and where its parts stand in the script that it came from.
+/// A tree, and the script that it came from.
 pub struct Source {
-    name: String,
+    pub name: String,
     pub tree: Vec<u8>,
-    places: Option<Places>,
+    script: Option<Script>,
+}
+
+/// A script's text, and where the parts of its tree stand in it.
+struct Script {
+    text: Vec<u8>,
+    places: Places,
 }
 
 /// A module, and the name to speak of it.
@@ -126,9 +132,10 @@ impl Input {
         match kind {
             Kind::Script => {
                 let (tree, places) = script::tree_of(&name, &bytes)?;
-                Ok(Source { name, tree, places: Some(places) })
+                let script = Some(Script { text: bytes, places });
+                Ok(Source { name, tree, script })
             }
-            Kind::Tree => Ok(Source { name, tree: bytes, places: None }),
+            Kind::Tree => Ok(Source { name, tree: bytes, script: None }),
             Kind::Module => Err(Failure::unable(format!(
                 "{name} is a module, and a script or a tree is wanted here: a module is lowered already"
             ))),
@@ -186,21 +193,40 @@ impl Source {
         Ok(module)
     }
 
-    /// The refusal in words, with the first place where its question is answered no.
+    /// The refusal as what keeps a command from being done.
     pub fn refused(&self, refusal: Refusal) -> Failure {
+        Failure::Refused(self.told(refusal))
+    }
+
+    /// The refusal in words, with the first place where its question is answered no.
+    pub fn told(&self, refusal: Refusal) -> String {
         let noes = places::noes(&self.tree, refusal);
-        let place = match &self.places {
-            Some(places) => {
-                let first = noes.iter().filter_map(|&at| places.at(at)).min();
+        let place = match &self.script {
+            Some(script) => {
+                let first = noes.iter().filter_map(|&at| script.places.at(at)).min();
                 first.map(|(line, column)| format!("{line}:{column}: "))
             }
             None => noes.first().map(|at| format!(" byte {at}: ")),
         };
-        Failure::Refused(format!(
-            "{}:{}{refusal}",
-            self.name,
-            place.unwrap_or_else(|| " ".to_string())
-        ))
+        let place = place.unwrap_or_else(|| " ".to_string());
+        format!("{}:{place}{refusal}", self.name)
+    }
+
+    /// The lines of the script with their numbers, from that of the statement that begins at the first byte to the last
+    /// of the one that begins at the other; none where there is no script.
+    pub fn lines(&self, first: usize, last: usize) -> Option<Vec<(usize, String)>> {
+        let script = self.script.as_ref()?;
+        let wanted = script.places.lines(first, last)?;
+        let text = String::from_utf8_lossy(&script.text);
+        let text = text.trim_start_matches('\u{feff}');
+        // as Python parts lines
+        let text = text.replace("\r\n", "\n").replace('\r', "\n");
+        let lines = (1..).zip(text.split('\n').map(str::to_string));
+        Some(
+            lines
+                .filter(|(number, _)| wanted.contains(number))
+                .collect(),
+        )
     }
 }
 

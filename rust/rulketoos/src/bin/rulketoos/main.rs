@@ -10,6 +10,7 @@ mod input;
 mod notes;
 mod output;
 mod places;
+mod progress;
 mod script;
 #[cfg(test)]
 mod vectors;

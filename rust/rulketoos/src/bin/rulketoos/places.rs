@@ -1,13 +1,25 @@
-//! Where in a tree a question is answered no: the library gives the question's number, this the places.
+//! Where in a tree a question is answered no: the library gives the question's number, this the places. And where the
+//! top statements of a tree stand.
 //!
 //! The walk takes a tree that passes questions 2 to 6, and asks one of the questions that speak of a part of a tree, 7 to
 //! 13, 33 and 36. A further one is a line where the part that it speaks of is walked.
 
 use rulketoos::Refusal;
 use std::collections::HashSet;
+use std::ops::RangeInclusive;
 
-/// Where the parts of a tree stand in a script: the part's first byte, line and column, by rising bytes.
-pub struct Places(Vec<(usize, usize, usize)>);
+/// Where the parts of a tree stand in a script, by rising bytes.
+pub struct Places(Vec<Place>);
+
+struct Place {
+    /// The part's first byte in the tree.
+    start: usize,
+    /// Line and column of its beginning.
+    line: usize,
+    column: usize,
+    /// The line that it ends in.
+    last: usize,
+}
 
 impl Places {
     /// The places of the lines that tree_of.py writes.
@@ -15,42 +27,72 @@ impl Places {
         let text = std::str::from_utf8(lines).ok()?;
         let place = |line: &str| {
             let mut numbers = line.split(' ').map(|word| word.parse().ok());
-            Some((numbers.next()??, numbers.next()??, numbers.next()??))
+            Some(Place {
+                start: numbers.next()??,
+                line: numbers.next()??,
+                column: numbers.next()??,
+                last: numbers.next()??,
+            })
         };
         text.lines().map(place).collect::<Option<_>>().map(Places)
     }
 
     /// Line and column of the part that begins at a byte, or of the last before it.
     pub fn at(&self, byte: usize) -> Option<(usize, usize)> {
-        let after = self.0.partition_point(|&(start, _, _)| start <= byte);
-        let &(_, line, column) = self.0.get(after.checked_sub(1)?)?;
-        Some((line, column))
+        let after = self.0.partition_point(|place| place.start <= byte);
+        let place = self.0.get(after.checked_sub(1)?)?;
+        Some((place.line, place.column))
+    }
+
+    /// The lines of the parts that begin at these bytes, from the first's first to the last's last.
+    pub fn lines(&self, first: usize, last: usize) -> Option<RangeInclusive<usize>> {
+        let at = |byte| self.0.iter().find(|place| place.start == byte);
+        Some(at(first)?.line..=at(last)?.last)
     }
 }
 
 /// The bytes at which the parts begin that answer the question no, in order; none where it speaks of no part.
 pub fn noes(tree: &[u8], question: Refusal) -> Vec<usize> {
-    let mut walk = Walk {
-        tree,
-        at: 5,
-        question,
-        noes: Vec::new(),
-    };
+    let mut walk = Walk::new(tree, Some(question));
     walk.block(false);
     walk.noes
+}
+
+/// The bytes at which the top statements of a tree begin, and where the last one ends.
+pub fn statements(tree: &[u8]) -> Vec<usize> {
+    let mut walk = Walk::new(tree, None);
+    let count = walk.count().unwrap_or(0);
+    let mut starts = vec![walk.at];
+    for _ in 0..count {
+        if walk.stmt(false).is_none() {
+            break;
+        }
+        starts.push(walk.at);
+    }
+    starts
 }
 
 struct Walk<'t> {
     tree: &'t [u8],
     at: usize,
-    question: Refusal,
+    question: Option<Refusal>,
     noes: Vec<usize>,
 }
 
 /// Each step answers nothing where the tree ends too soon; what was noted before stays.
 impl<'t> Walk<'t> {
+    /// At the count of the top statements.
+    fn new(tree: &'t [u8], question: Option<Refusal>) -> Walk<'t> {
+        Walk {
+            tree,
+            at: 5,
+            question,
+            noes: Vec::new(),
+        }
+    }
+
     fn ask(&mut self, question: Refusal, at: usize, yes: bool) {
-        if question == self.question && !yes {
+        if Some(question) == self.question && !yes {
             self.noes.push(at);
         }
     }

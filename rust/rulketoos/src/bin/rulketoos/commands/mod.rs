@@ -2,6 +2,7 @@
 
 mod check;
 mod code;
+mod cut;
 mod heights;
 mod list;
 mod lower;
@@ -23,6 +24,7 @@ pub const ALL: &[Command] = &[
     sheet::COMMAND,
     lower::COMMAND,
     check::COMMAND,
+    cut::COMMAND,
     read::COMMAND,
     heights::COMMAND,
     code::COMMAND,

@@ -56,7 +56,7 @@ lengthened-same {t} e a b c = record { new = []; functions = e ∙ sym (append-n
 pub functions-longer : {t u : Tables} → Lengthened t u → length t.functions ≤ length u.functions
 functions-longer {t} L = omega (arith, ap length L.functions, length-append t.functions L.new)
 
-instructions-append : (fs gs : List Function) → instructions (fs ++ gs) ≡ instructions fs + instructions gs
+pub instructions-append : (fs gs : List Function) → instructions (fs ++ gs) ≡ instructions fs + instructions gs
 unfolding instructions
 instructions-append [] gs = omega arith
 instructions-append (f ∷ fs) gs = omega (arith, instructions-append fs gs)

@@ -24,14 +24,10 @@ use Rattle.definitions.specs.Lower.{load, store, literal, shortcut, decides, dis
 use Rattle.definitions.specs.Lower.{lambda_name, loads, closure, emit_expr, emit_exprs, emit_object, copy, emit_target, unpack, assign_by, loop, iter_name, Keeper, global, local, make_iter, named_iter, kept_iter, store_iter, load_iter, ask_iter}
 use Rattle.definitions.specs.Lower.{take_iter, method_end, insert_method, begin_class, class_object, end_class, class_out, emit_stmt, emit_block, emit_branches, emit_methods, main, no_tables}
 use Rattle.definitions.specs.Lower.{compile}
-use Rattle.definitions.proofs.Truth.{left, right}
-use Rattle.state.specs.Fits.{fits_expr, fits_exprs, fits_target, fits_stmt, fits_block, fits_branches, fits_methods}
+use Rattle.definitions.proofs.Truth.{left, right, and-true}
+use Rattle.definitions.specs.Fits.{fits_expr, fits_exprs, fits_target, fits_stmt, fits_block, fits_branches, fits_methods}
 
 -- ---- Booleans
-
-and-true : (a : Bool) → (a && true) ≡ a
-and-true true = refl
-and-true false = refl
 
 and_assoc : (a b c : Bool) → (a && b && c) ≡ (a && (b && c))
 and_assoc true b c = refl

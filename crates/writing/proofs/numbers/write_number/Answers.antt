@@ -4,8 +4,8 @@ use Prim.Native.Nat.{ℕ}
 use mathlib.Core.List.{List}
 use mathlib.Core.Path.{subst}
 use Rattle.writing.specs.Wrote.{Wrote}
-use Rattle.module.proofs.HighFirst.{last-bytes}
-use Rattle.module.proofs.numbers.write_number.Goals as goal
+use Rattle.writing.proofs.HighFirst.{last-bytes}
+use Rattle.writing.proofs.numbers.write_number.Goals as goal
 
 pub returns-in-0 : goal.returns-in-0
 returns-in-0 c = let a = c.args in wrote_none a.w a.v a.out.now c.in-0.is

@@ -6,7 +6,7 @@ use lib.ListN.{length, length-append}
 use Rattle.definitions.specs.Bytes.{be}
 use Rattle.definitions.proofs.BytesWritten.{length-be}
 use Rattle.writing.proofs.Begun.{Begun, joined-one, begun_first, begun-fits, begun-piece, begun-next, begun-done}
-use Rattle.module.proofs.numbers.write_counted.Goals as goal
+use Rattle.writing.proofs.numbers.write_counted.Goals as goal
 
 pub slice_bounds-write_bytes-count : goal.slice_bounds-write_bytes-count
 slice_bounds-write_bytes-count c =

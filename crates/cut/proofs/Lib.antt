@@ -1,0 +1,5 @@
+mod Stretches
+mod Sifting
+mod Seeking
+mod Writing
+mod Answering

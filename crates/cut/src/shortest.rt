@@ -1,0 +1,74 @@
+// Question 15: the shortest stretch whose tables are over the limits. A stretch that is over them stays so with more statements at its end, so from each start
+// the shortest so far is tried with one statement fewer, again and again: at most two lowerings a statement.
+ghost use Rattle.std.specs.Prelude.{◌≡◌, ◌≤◌, ◌<◌, ◌-◌, suc, not, true, length};
+ghost use Rattle.definitions.specs.Lower.{compile};
+ghost use Rattle.definitions.specs.Module.{slots_fit, tables_fit};
+ghost use Rattle.parts.specs.Places.{count_at};
+ghost use Rattle.tree.specs.StmtAt.{TreeAt};
+ghost use Rattle.state.specs.State.{limits_of, Limited};
+ghost use Rattle.compile.specs.Compiled.{tree_block, StretchIn, stretch_block};
+ghost use Rattle.cut.specs.Tops.{TopAt};
+ghost use Rattle.cut.specs.Seeking.{Large, Best, Least};
+
+use compile::{Stretch, compile_stretch};
+use lower_emit::emitter::Emitter;
+use numerals::sizes::{DEPTH, HEAD, MADE_ROOM, TOP};
+use parts::numbers::u16_at;
+use slots::skip::skip_stmt;
+use state::Limits;
+
+// Whether a stretch is over the limits.
+fn over(tree: &[u8], stretch: Stretch, code: &mut [u32], tables: &mut [u32], limits: Limits) -> bool
+    requires { (16384 ≤ length code.old) × (16384 ≤ length tables.old) × Limited limits × StretchIn tree.now stretch × (slots_fit (compile (stretch_block tree.now stretch)).tables ≡ true) }
+    ensures { result ≡ not (tables_fit (limits_of limits) (compile (stretch_block tree.now stretch)).tables) }
+{
+    let mut made = [0u8; MADE_ROOM];
+    let mut e = Emitter::new(code, &mut made, tables, limits);
+    compile_stretch(tree, stretch, &mut e).is_none()
+}
+
+// The shortest stretch so far, or a shorter one of the statements that are left.
+fn shorten(
+    tree: &[u8],
+    left: Stretch,
+    mut best: Stretch,
+    code: &mut [u32],
+    tables: &mut [u32],
+    limits: Limits,
+) -> Stretch
+    requires { (16384 ≤ length code.old) × (16384 ≤ length tables.old) × Limited limits × Large (limits_of limits) tree.now
+        × (left.count ≤ count_at tree.now 5) × TopAt tree.now (tree_block tree.now) (count_at tree.now 5 - left.count) left.at
+        × Best (limits_of limits) tree.now (count_at tree.now 5 - left.count) best }
+    ensures { Best (limits_of limits) tree.now (suc (count_at tree.now 5 - left.count)) result }
+{
+    while 1 < best.count {
+        let fewer = Stretch {
+            at: left.at,
+            count: left.count.min(best.count - 1),
+        };
+        if !over(tree, fewer, code, tables, limits) {
+            return best;
+        }
+        best = fewer;
+    }
+    best
+}
+
+// The shortest stretch of a tree that is over the limits, the first of equals.
+pub(crate) fn shortest(tree: &[u8], code: &mut [u32], tables: &mut [u32], limits: Limits) -> Stretch
+    requires { (16384 ≤ length code.old) × (16384 ≤ length tables.old) × Limited limits × Large (limits_of limits) tree.now }
+    ensures { Least (limits_of limits) tree.now result }
+{
+    let count = u16_at(tree, HEAD);
+    let mut at = TOP;
+    let mut best = Stretch { at, count };
+    for i in 0..count {
+        let left = Stretch {
+            at,
+            count: count - i,
+        };
+        best = shorten(tree, left, best, code, tables, limits);
+        at = skip_stmt(tree, at, DEPTH);
+    }
+    best
+}
