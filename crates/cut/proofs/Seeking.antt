@@ -1,5 +1,5 @@
 -- Question 15: the shortest stretch that is over the limits.
-use Prim.Native.Nat.{ℕ, suc, ◌+◌, ◌-◌, ◌<◌, ◌≤◌, min}
+use Prim.Native.Nat.{ℕ, suc, ◌+◌, ◌-◌, ◌<◌, ◌≤◌}
 use mathlib.Core.Path.{◌≡◌, refl, sym, ap, ◌∙◌, subst}
 use mathlib.Core.Bool.{Bool, true, false, not}
 use mathlib.Core.Logic.{◌⊎◌, inl, inr}
@@ -11,9 +11,8 @@ use Rattle.definitions.specs.Lower.{compile}
 use Rattle.definitions.specs.Module.{Limits as DefinedLimits, slots_fit, tables_fit}
 use Rattle.definitions.specs.TreeBytes.{size}
 use Rattle.definitions.specs.Cut.{over_stretch}
-use Rattle.definitions.proofs.Begins.{le-or-gt}
 use Rattle.definitions.proofs.CutTables.{stretch-slots}
-use Rattle.definitions.proofs.CutLeast.{Sought, later, none-over, nothing-over, begins, within, cut-is}
+use Rattle.definitions.proofs.CutLeast.{Sought, later, none-over, begins, within, cut-is}
 use Rattle.parts.specs.Places.{count_at}
 use Rattle.tree.specs.StmtAt.{stmts_at}
 use Rattle.state.specs.State.{limits_of}
@@ -42,14 +41,6 @@ over-told c {r = r} {a = a} {l = l} {o = o} same s h g =
     go : (p : Option _) → r ≡ p → tables_fit (limits_of (limits_in a)) (compile c).tables ≡ is_some r
     go None e = compiled-over c h e s ∙ sym (ap is_some e)
     go (Some x) e = compiled-fits c h e ∙ sym (ap is_some e)
-
--- a statement fewer than so far, or all that are left
-pub fewer-left : {m left k n : ℕ} → m ≡ min left (k - 1) → left ≤ n → 1 < k → (k ≤ suc m) ⊎ (n ≤ n - left + m)
-fewer-left {m} {left} {k} {n} e h g = go (le-or-gt left (k - 1))
-  where
-    go : (left ≤ k - 1) ⊎ (k - 1 < left) → (k ≤ suc m) ⊎ (n ≤ n - left + m)
-    go (inl a) = inr (let z : m ≡ left = omega (arith, e, a) in omega arith)
-    go (inr a) = inl (let z : m ≡ k - 1 = omega (arith, e, a) in omega arith)
 
 module _ {l : DefinedLimits} {t : List ℕ} (L : Large l t) where
   abbrev n : ℕ
@@ -97,9 +88,6 @@ module _ {l : DefinedLimits} {t : List ℕ} (L : Large l t) where
         go : (s.count ≤ suc m) ⊎ (n ≤ i + m) → (s.count ≤ suc m) ⊎ (size b - i ≤ m)
         go (inl g) = inl g
         go (inr g) = inr (omega (arith, size-tree L.tree.block))
-
-    pub best-one : s.count ≤ 1 → Best l t (suc i) s
-    best-one h = next (λ k g. let z : k ≡ 0 = omega arith in rw z (nothing-over l b L.room i))
 
     -- no start is left
     pub best-least : n ≤ i → Least l t s

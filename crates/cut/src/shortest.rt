@@ -1,10 +1,9 @@
 // Question 15: the shortest stretch whose tables are over the limits. A stretch that is over them stays so with more statements at its end, so from each start
-// the shortest so far is tried with one statement fewer, again and again: at most two lowerings a statement.
-ghost use Rattle.std.specs.Prelude.{◌≡◌, ◌≤◌, ◌<◌, ◌-◌, suc, not, true, length};
+// the shortest so far is tried with fewer statements, in steps that double, and then halfway: at most two and a half lowerings a statement, mostly one.
+ghost use Rattle.std.specs.Prelude.{◌≡◌, ◌≤◌, ◌<◌, ◌+◌, ◌-◌, suc, not, true, length};
 ghost use Rattle.definitions.specs.Lower.{compile};
 ghost use Rattle.definitions.specs.Module.{slots_fit, tables_fit};
 ghost use Rattle.parts.specs.Places.{count_at};
-ghost use Rattle.tree.specs.StmtAt.{TreeAt};
 ghost use Rattle.state.specs.State.{limits_of, Limited};
 ghost use Rattle.compile.specs.Compiled.{tree_block, StretchIn, stretch_block};
 ghost use Rattle.cut.specs.Tops.{TopAt};
@@ -27,6 +26,19 @@ fn over(tree: &[u8], stretch: Stretch, code: &mut [u32], tables: &mut [u32], lim
     compile_stretch(tree, stretch, &mut e).is_none()
 }
 
+// How many statements to try, where few are not over the limits and many are. As long as none are known not to be, one fewer than most, then two, four and
+// so on; then halfway.
+fn next_count(few: u32, many: u32, most: u32, left: u32) -> u32
+    requires { (few < left) × (few + 1 < many) × (many ≤ most) }
+    ensures { (few < result) × (result < many) × (result ≤ left) }
+{
+    if 0 < few {
+        return (few + (many - few) / 2).min(left);
+    }
+    let step = (most - many).max(1);
+    many.saturating_sub(step).max(1).min(left)
+}
+
 // The shortest stretch so far, or a shorter one of the statements that are left.
 fn shorten(
     tree: &[u8],
@@ -41,15 +53,18 @@ fn shorten(
         × Best (limits_of limits) tree.now (count_at tree.now 5 - left.count) best }
     ensures { Best (limits_of limits) tree.now (suc (count_at tree.now 5 - left.count)) result }
 {
-    while 1 < best.count {
-        let fewer = Stretch {
+    let most = best.count;
+    let mut few = 0;
+    while few < left.count && few + 1 < best.count {
+        let tried = Stretch {
             at: left.at,
-            count: left.count.min(best.count - 1),
+            count: next_count(few, best.count, most, left.count),
         };
-        if !over(tree, fewer, code, tables, limits) {
-            return best;
+        if over(tree, tried, code, tables, limits) {
+            best = tried;
+        } else {
+            few = tried.count;
         }
-        best = fewer;
     }
     best
 }

@@ -1,5 +1,5 @@
 // The tree of a stretch of a tree's top statements: a head, their count, and their bytes.
-ghost use Rattle.std.specs.Prelude.{◌≡◌, ◌≤◌, ◌<◌, length};
+ghost use Rattle.std.specs.Prelude.{◌≡◌, ◌≤◌, length};
 ghost use Rattle.definitions.specs.TreeBytes.{tree_bytes};
 ghost use Rattle.tree.specs.StmtAt.{stmts_at, StmtsRead};
 ghost use Rattle.writing.specs.Wrote.{Wrote};

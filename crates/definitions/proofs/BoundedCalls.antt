@@ -66,7 +66,8 @@ step-closure ps cs s k q t o few l L = record {
   keeps = λ m r. record { trim = r; code = every (counted {op = 45} {a = k} {m = length cs} refl refl (omega (arith, L.sizes.functions)) (omega (arith, few q (small-down L (omega arith) m), length-append ps cs))) no_every };
 }
 
-pub fits-closure : {b : Tables} {n : ℕ} (e : Emit) (slots : List Name) (m : ℕ) (ps cs : List Name) (body : Body) → m ≤ 255 → Every (Held slots) cs → Fits n (length (ps ++ cs)) b (e ⨟ one Return) → Fits n (length slots) b (closure slots m (ps ++ cs) cs body e)
+pub fits-closure : {b : Tables} {n : ℕ} (e : Emit) (slots : List Name) (m : ℕ) (ps cs : List Name) (body : Body)
+    → m ≤ 255 → Every (Held slots) cs → Fits n (length (ps ++ cs)) b (e ⨟ one Return) → Fits n (length slots) b (closure slots m (ps ++ cs) cs body e)
 unfolding closure
 fits-closure {n} e slots m ps cs body h held E = record {
   at = λ p t v.

@@ -111,7 +111,13 @@ begin-trim : (x : Name) (t : Tables) → is_name x ≡ true → Trim t → Trim 
 unfolding begin_class rising
 begin-trim x t h T =
     let z = (begin-longer x t).sizes in
-    record { symbols = T.symbols; strings = T.strings; functions = tight-up z T.functions; classes = every_append (ordered-up z T.classes) (every (record { named = h; methods = no_every; rises = refl }) no_every); constants = constants-up z T.constants }
+    record {
+      symbols = T.symbols;
+      strings = T.strings;
+      functions = tight-up z T.functions;
+      classes = every_append (ordered-up z T.classes) (every (record { named = h; methods = no_every; rises = refl }) no_every);
+      constants = constants-up z T.constants;
+    }
 
 begin-weight : (x : Name) (t : Tables) → burden (begin_class x t) ≡ burden t
 unfolding begin_class

@@ -123,7 +123,9 @@ module _ {n : ℕ} {b : Tables} (k arity : ℕ) (few : arity ≤ 255) (frame : F
         number = omega (arith, ap length after, length-append t.functions (made ∷ added));
       }
 
-pub function-in : {n s : ℕ} {b : Tables} {e : Emit} (x : Name) (arity : ℕ) (frame : Frame) (body : Body) (p : ℕ) (t : Tables) → Longer b t → (length t.functions ≤ 256 → Short x) → arity ≤ 255 → Fits n frame.locals b e → Enclosed n s p t frame (function x arity frame body e p t)
+pub function-in : {n s : ℕ} {b : Tables} {e : Emit} (x : Name) (arity : ℕ) (frame : Frame) (body : Body) (p : ℕ) (t : Tables)
+    → Longer b t → (length t.functions ≤ 256 → Short x) → arity ≤ 255
+    → Fits n frame.locals b e → Enclosed n s p t frame (function x arity frame body e p t)
 unfolding function intern
 function-in {n} {s} {e} x arity frame body p t u h few E = go (position (same x) t.symbols) (position-lt (same x) t.symbols)
   where

@@ -67,7 +67,8 @@ step-branch {p} a o r q q' hop e e' h A B C =
           let z = C.keeps (small-down longer-none (omega arith) S) y.trim in
           record {
             trim = z.trim;
-            code = every_append (code_up (longer-more B.longer C.longer).sizes x.code) (every (jump_on-sound false _ (omega (arith, S.place))) (every_append (code_up C.longer.sizes y.code) (every (jump-sound (omega (arith, S.place))) z.code)));
+            code = every_append (code_up (longer-more B.longer C.longer).sizes x.code) (every (jump_on-sound false _ (omega (arith, S.place)))
+                (every_append (code_up C.longer.sizes y.code) (every (jump-sound (omega (arith, S.place))) z.code)));
           };
     }
 

@@ -16,7 +16,7 @@ use Rattle.definitions.specs.Reader.{rising}
 use Rattle.definitions.specs.Open.{all_instruction}
 use Rattle.definitions.proofs.Every.{Every, no_every, every}
 use Rattle.definitions.proofs.Names.{name-short}
-use Rattle.definitions.proofs.MethodOrder.{rising-insert}
+use Rattle.definitions.proofs.MethodOrder.{rising-insert, inserted}
 use Rattle.definitions.proofs.InitSlot.{init-slot}
 use Rattle.definitions.proofs.Bounds.{Named, Small, Trim, bare, burden, names, single}
 use Rattle.definitions.proofs.LongerTables.{Longer, longer-more, longer-none, small-down, named-up}
@@ -29,7 +29,7 @@ names-insert x k [] = omega arith
 names-insert x k (m ∷ ms) = go (same x m.name) (below x m.name) (names-insert x k ms)
   where
     go : (c d : Bool) → names (insert_method x k ms) ≤ names ms + (3 + length x)
-        → names (elim c as (λ z. List Method) [ true ↦ record { name = x; function = k } ∷ ms | false ↦ elim d as (λ z. List Method) [ true ↦ record { name = x; function = k } ∷ m ∷ ms | false ↦ m ∷ insert_method x k ms ] ]) ≤ (3 + length m.name + names ms) + (3 + length x)
+        → names (inserted x k m ms c d) ≤ (3 + length m.name + names ms) + (3 + length x)
     go true d h = omega arith
     go false true h = omega arith
     go false false h = omega arith
@@ -39,7 +39,7 @@ unfolding insert_method
 named-insert x k h no_every = every h no_every
 named-insert {t} x k h (every {a = m} {xs = ms} p r) = go (same x m.name) (below x m.name) (named-insert x k h r)
   where
-    go : (c d : Bool) → Every (Named t) (insert_method x k ms) → Every (Named t) (elim c as (λ z. List Method) [ true ↦ record { name = x; function = k } ∷ ms | false ↦ elim d as (λ z. List Method) [ true ↦ record { name = x; function = k } ∷ m ∷ ms | false ↦ m ∷ insert_method x k ms ] ])
+    go : (c d : Bool) → Every (Named t) (insert_method x k ms) → Every (Named t) (inserted x k m ms c d)
     go true d i = every h r
     go false true i = every h (every p r)
     go false false i = every p i
@@ -75,7 +75,10 @@ fits-end {b} {s} x h = go (same x init) h
     go true h = fits-emits (every (single {op = 9} {a = 0} refl (omega (arith, h refl))) (every (bare refl refl) no_every))
     go false h = fits_one (bare refl refl)
 
-pub fits-method : {i j n : ℕ} {b : Tables} (x : Name) (ps : List Name) (d : Block) (m : Methods) → is_name x ≡ true → length ps ≤ 255 → ask_method 12 x ps ≡ true → 3 + length x + (i + j) ≤ n → Fits i (with_loops ps d).locals b (emit_block (with_loops ps d).names (with_loops ps d).keep d) → FitsMethods j b m → FitsMethods n b (method x ps d m)
+pub fits-method : {i j n : ℕ} {b : Tables} (x : Name) (ps : List Name) (d : Block) (m : Methods)
+    → is_name x ≡ true → length ps ≤ 255 → ask_method 12 x ps ≡ true → 3 + length x + (i + j) ≤ n
+    → Fits i (with_loops ps d).locals b (emit_block (with_loops ps d).names (with_loops ps d).keep d)
+    → FitsMethods j b m → FitsMethods n b (method x ps d m)
 unfolding emit_methods
 fits-method x ps d m h few a k D M = record {
   at = λ ms t u.

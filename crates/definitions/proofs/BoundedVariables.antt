@@ -45,7 +45,9 @@ fits-held : {b : Tables} (slots : List Name) (x : Name) → Held slots x → Fit
 unfolding load member all_instruction
 fits-held {b} slots x h = go (position (same x) slots) (position-lt (same x) slots) h.held
   where
-    go : (o : Option ℕ) → ((j : ℕ) → o ≡ some j → j < length slots) → ◌≡◌ {A = Bool} (elim o as (λ z. Bool) [ none ↦ false | some i ↦ true ]) true → Fits 0 (length slots) b (elim o as (λ z. Emit) [ some i ↦ one (LoadLocal i) | none ↦ intern x (λ k. one (Instruction.LoadGlobal k)) ])
+    go : (o : Option ℕ) → ((j : ℕ) → o ≡ some j → j < length slots)
+        → ◌≡◌ {A = Bool} (elim o as (λ z. Bool) [ none ↦ false | some i ↦ true ]) true
+        → Fits 0 (length slots) b (elim o as (λ z. Emit) [ some i ↦ one (LoadLocal i) | none ↦ intern x (λ k. one (Instruction.LoadGlobal k)) ])
     go (some i) l e = fits_one (single refl (l i refl))
     go none l e = let z : ◌≡◌ {A = ℕ} 0 1 = cc in absurd (omega arith)
 

@@ -13,25 +13,14 @@ use Rattle.definitions.specs.Slots.{add, within, referenced_expr, referenced_exp
 use Rattle.definitions.specs.Statements.{Among, first, later, PartOf, operand, left_of, right_of, left_logical, right_logical, callee, argument, object_of, element, indexed, index_of, Occurs, here, in_part, in_lambda, Captures, Captured}
 use Rattle.definitions.proofs.Truth.{left, right, is_true}
 use Rattle.definitions.proofs.MethodOrder.{same-eq}
+use Rattle.std.proofs.Math.Bool.{or_assoc, or-false, and-false}
 
 -- ---- Booleans
-
-pub or_assoc : (a b c : Bool) → ((a || b) || c) ≡ (a || (b || c))
-or_assoc true b c = refl
-or_assoc false b c = refl
-
-pub or-false : (a : Bool) → (a || false) ≡ a
-or-false true = refl
-or-false false = refl
 
 pub or_swap : (a b c : Bool) → (a || (b || c)) ≡ (b || (a || c))
 or_swap true true c = refl
 or_swap true false c = refl
 or_swap false b c = refl
-
-pub and-false : (a : Bool) → (a && false) ≡ false
-and-false true = refl
-and-false false = refl
 
 -- ---- names in lists
 

@@ -17,7 +17,8 @@ use Rattle.definitions.specs.TreeBytes.{size}
 use Rattle.definitions.specs.Fits.{fits_stmt, fits_block}
 use Rattle.definitions.specs.Cut.{skip, front, stretch_of, refused_with, refused_stretch, first_start, fewest, cut_block, failing, passes}
 use Rattle.definitions.specs.Statements.{Single, SingleEnough}
-use Rattle.definitions.proofs.Truth.{left, right, and, and-true, true-false}
+use Rattle.std.proofs.Math.Bool.{and-true}
+use Rattle.definitions.proofs.Truth.{left, right, and, true-false}
 use Rattle.definitions.proofs.RestAsked.{none-no, verdict, first_of, lower-is}
 use Rattle.definitions.proofs.SlotsFit.{slots-fit, targets-asked}
 use Rattle.definitions.proofs.CutShape.{first-is, true-refused}

@@ -28,34 +28,12 @@ use Rattle.definitions.specs.Lower.{emit_stmt, emit_block, emit_branches, emit_m
 use Rattle.definitions.specs.Statements.{assigned, assigned_all, bound_stmt, bound_block, bound_branches, OwnStmt, itself, of_if, of_while, of_for, OwnBlock, at_first, at_later, OwnBranches, of_else, of_then, of_rest}
 use Rattle.definitions.specs.Statements.{Global, of_class, GlobalStores}
 use Rattle.definitions.proofs.Every.{Every, no_every, every, every_append, every_map}
-use Rattle.definitions.proofs.MethodOrder.{same-eq}
 use Rattle.definitions.proofs.Captured.{or-true, same_refl, member-cons, member-append}
 use Rattle.definitions.proofs.Named.{named}
 use Rattle.definitions.proofs.Accepted.{accepted-gives}
 use Rattle.definitions.proofs.Demand3.{sources}
-
--- ---- symbols
-
--- what is at a place stays there
-at_more : (xs new : List Name) (k : ℕ) (x : Name) → get_elem? xs k ≡ some x → get_elem? (xs ++ new) k ≡ some x
-at_more [] new k x e = let z : ◌≡◌ {A = ℕ} 0 1 = cc in absurd (omega arith)
-at_more (y ∷ xs) new zero x e = e
-at_more (y ∷ xs) new (suc k) x e = at_more xs new k x e
-
-at-end : (xs : List Name) (x : Name) → get_elem? (xs ++ x ∷ []) (length xs) ≡ some x
-at-end [] x = refl
-at-end (y ∷ xs) x = at-end xs x
-
-at_position : (x : Name) (xs : List Name) (k : ℕ) → position (same x) xs ≡ some k → get_elem? xs k ≡ some x
-unfolding position
-at_position x [] k e = let z : ◌≡◌ {A = ℕ} 0 1 = cc in absurd (omega arith)
-at_position x (y ∷ xs) k e = go (same x y) refl (position (same x) xs) (at_position x xs) k e
-  where
-    go : (b : Bool) → same x y ≡ b → (o : Option ℕ) → ((j : ℕ) → o ≡ some j → get_elem? xs j ≡ some x) → (j : ℕ)
-        → ◌≡◌ {A = Option ℕ} (elim b as (λ z. Option ℕ) [ true ↦ some 0 | false ↦ elim o as (λ z. Option ℕ) [ none ↦ none | some i ↦ some (suc i) ] ]) (some j) → get_elem? (y ∷ xs) j ≡ some x
-    go true q o h j e = let z : 0 ≡ j = cc in subst (λ (m : ℕ). get_elem? (y ∷ xs) m ≡ some x) z (ap some (sym (same-eq x y q)))
-    go false q none h j e = let z : ◌≡◌ {A = ℕ} 0 1 = cc in absurd (omega arith)
-    go false q (some i) h j e = let z : suc i ≡ j = cc in subst (λ (m : ℕ). get_elem? (y ∷ xs) m ≡ some x) z (h i refl)
+use Rattle.definitions.proofs.NamePlaces.{stays_at, last_at, position_at}
+use Rattle.definitions.proofs.LoopGlobals.{no-store-jump}
 
 -- ---- code in which each StoreGlobal has a symbol that is ok
 
@@ -87,7 +65,7 @@ module _ {ok : Name → Type 0} {xs : List Name} where
   okay-more : {is : List Instr} (new : List Name) → Okay ok xs is → Okay ok (xs ++ new) is
   okay-more new no_code = no_code
   okay-more new (other e a) = other e (okay-more new a)
-  okay-more new (stores {k} x e o a) = stores x (at_more xs new k x e) o (okay-more new a)
+  okay-more new (stores {k} x e o a) = stores x (stays_at xs new k x e) o (okay-more new a)
 
   okay-patch : {is : List Instr} (h n i : ℕ) → Okay ok xs is → Okay ok xs (patch h n i is)
   unfolding patch patched
@@ -172,9 +150,9 @@ module _ {ok : Name → Type 0} where
     where
       go : (o : Option ℕ) → position (same x) t.symbols ≡ o
           → Stored ok t.symbols (elim o as (λ z. Out) [ some k ↦ f k p t | none ↦ f (length t.symbols) p (add_symbol x t) ])
-      go (some k) e = F k t (at_position x t.symbols k e)
+      go (some k) e = F k t (position_at x t.symbols k e)
       go none e =
-          let S = F (length t.symbols) (add_symbol x t) (at-end t.symbols x) in
+          let S = F (length t.symbols) (add_symbol x t) (last_at t.symbols x) in
           record { new = x ∷ S.new; symbols = S.symbols ∙ append_assoc t.symbols (x ∷ []) S.new; code = S.code; sound = S.sound }
 
   st-symbol : {f : ℕ → Emit} (x : Name) → ((k : ℕ) → Stores ok (f k)) → Stores ok (intern x f)
@@ -190,11 +168,7 @@ module _ {ok : Name → Type 0} where
 
   st-shortcut : {e : Emit} (b : Bool) → Stores ok e → Stores ok (shortcut b e)
   unfolding shortcut jump_on
-  st-shortcut {e} b E = record { at = λ p t. let S = E.at (suc p) t in record { new = S.new; symbols = S.symbols; code = other (jump b _) (okay-append S.code (other refl (other (bool-code b) no_code))); sound = S.sound } }
-    where
-      jump : (b : Bool) (n : ℕ) → eqb (jump_on b n).op 12 ≡ false
-      jump true n = refl
-      jump false n = refl
+  st-shortcut {e} b E = record { at = λ p t. let S = E.at (suc p) t in record { new = S.new; symbols = S.symbols; code = other (no-store-jump b _) (okay-append S.code (other refl (other (bool-code b) no_code))); sound = S.sound } }
 
   st-loop : {e f : Emit} → Stores ok e → Stores ok f → Stores ok (loop e f)
   unfolding loop

@@ -1,5 +1,5 @@
 -- The heights of every function of every accepted tree hold.
-use mathlib.Core.Path.{◌≡◌, refl, sym, ◌∙◌, subst}
+use mathlib.Core.Path.{◌≡◌, refl, sym, ◌∙◌}
 use mathlib.Core.Bool.{Bool, true, false}
 use mathlib.Core.Option.{some}
 use mathlib.Core.List.{List, [], ◌∷◌}
@@ -20,7 +20,7 @@ use Rattle.definitions.specs.Statements.{Under, LoweredHeights, LoweredStarts, N
 use Rattle.definitions.specs.Starts.{starts_source}
 use Rattle.definitions.specs.Lower.{compile, emit_body}
 use Rattle.definitions.proofs.Truth.{left, right, both, at_most, not-most}
-use Rattle.definitions.proofs.Every.{Every, no_every, every}
+use Rattle.definitions.proofs.Every.{every-at}
 use Rattle.definitions.proofs.Accepted.{tables-read, accepted-gives, length-code}
 use Rattle.definitions.proofs.Asked.{ok-B}
 use Rattle.definitions.proofs.TreeFits.{tree-fits}
@@ -37,11 +37,6 @@ use Rattle.definitions.proofs.RiseStmt.{all-fine, rise-body}
 use Rattle.definitions.proofs.Full.{full-B}
 use Rattle.definitions.proofs.Known.{known}
 use Rattle.definitions.proofs.NumberFew.{number-few}
-
-pub every_get : {A : Type 0} {P : A → Type 0} {xs : List A} → Every P xs → (k : ℕ) (a : A) → get_elem? xs k ≡ some a → P a
-every_get no_every k a e = let z : ◌≡◌ {A = ℕ} 0 1 = cc in absurd (omega arith)
-every_get {P} (every {a = b} p r) zero a e = let q : b ≡ a = cc in subst P q p
-every_get (every p r) (suc k) a e = every_get r k a e
 
 pub all-get : {A : Type 0} (f : A → Bool) (xs : List A) → all f xs ≡ true → (k : ℕ) (a : A) → get_elem? xs k ≡ some a → f a ≡ true
 unfolding all
@@ -69,9 +64,9 @@ founded l u tree b t o r e k f h =
     let A = accepted-gives l u b t e in
     let F = (tree-fits tree b o r).fit A.names A.strings A.inits A.args in
     let S = sources l u b t e k f h in
-    let G = every_get (all-fine F (ok-B false b A.loops) (full-B false b A.targets A.full)) k S.0 S.1 in
+    let G = every-at _ (all-fine F (ok-B false b A.loops) (full-B false b A.targets A.full)) k S.0 S.1 in
     let Q = both (ends_in_return f.code) (jumps_land (length f.code) 0 f.code) (all-get code_stands t.functions (question21 l u b t e) k f h) in
-    let n : f.height ≡ height_number f.code = (every_get (known b t A F).bounded.trim.functions k f h).height in
+    let n : f.height ≡ height_number f.code = (every-at _ (known b t A F).bounded.trim.functions k f h).height in
     let short : length f.code ≤ 8192 = omega (arith, length-code t.functions k f h, A.limits.instructions) in
     record {
       source = S.0;
@@ -97,7 +92,7 @@ lowered_starts l u tree b t o r e k f h =
       s,
       D.there,
       λ j q x p g m.
-          let z = every_get Z j q x in
+          let z = every-at _ Z j q x in
           let R = settles-met D.settles q p g (z.0, sym z.1) m in
           (R.1, D.settles.within p g R),
     )

@@ -11,6 +11,7 @@ use Rattle.definitions.specs.Tables.{Function}
 use Rattle.definitions.specs.Module.{name_bytes, text_bytes, function_bytes}
 use Rattle.definitions.specs.Reader.{instruction, function_record}
 use Rattle.definitions.proofs.BytesWritten.{length-be}
+use Rattle.definitions.proofs.Writes.{one, concat-one}
 
 -- with k bytes taken before, a value a is n a bytes in all
 pub record Spans {A : Type 0} (k : ℕ) (n : A → ℕ) (p : Parser A) : Type 0 where
@@ -59,17 +60,9 @@ spans-list w f p sp = spans-bind 0 (λ v. w) _ (field w) _ (spans-field w) (λ n
     more : (n : ℕ) (bs : List ℕ) (xs : List _) (rest : List ℕ) → counted [] ◌∷◌ p n bs ≡ got xs rest → 0 + w + length bs ≡ length (be w (length xs) ++ concat f xs) + length rest
     more n bs xs rest h = let x = (spans-counted f p sp n).at bs xs rest h in let l = length-append (be w (length xs)) (concat f xs) in let m = length-be w (length xs) in omega arith
 
-one : ℕ → List ℕ
-one b = b ∷ []
-
-ones : (xs : List ℕ) → concat one xs ≡ xs
-unfolding concat one
-ones [] = refl
-ones (x ∷ xs) = ap (λ (ys : List ℕ). x ∷ ys) (ones xs)
-
 spans-bytes : (w : ℕ) → Spans 0 (λ xs. length (be w (length xs) ++ xs)) (list_of w byte)
-unfolding list_bytes one
-spans-bytes w = record { at = λ bs xs rest h. (spans-list w one byte spans-byte).at bs xs rest h ∙ ap (λ (ys : List ℕ). length (be w (length xs) ++ ys) + length rest) (ones xs) }
+unfolding list_bytes
+spans-bytes w = record { at = λ bs xs rest h. (spans-list w one byte spans-byte).at bs xs rest h ∙ ap (λ (ys : List ℕ). length (be w (length xs) ++ ys) + length rest) (concat-one xs) }
 
 pub spans-name : Spans 0 (λ x. length (name_bytes x)) name
 unfolding name name_bytes

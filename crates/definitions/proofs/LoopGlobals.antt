@@ -9,7 +9,7 @@ use Prim.Native.Nat.{ℕ, zero, suc, ◌+◌, ◌-◌}
 use native.Mathlib.Omega.{arith}
 use lib.ListN.{length, get_elem?, set}
 use lib.Dec.{eqb}
-use borrow.Author.Tests.{eqb-false}
+use borrow.Author.Tests.{eqb-false, not-true}
 use Rattle.definitions.specs.Bytes.{Name, Text, position, same, member, all}
 use Rattle.definitions.specs.Tree.{Literal, none_l, bool_l, int_l, float_l, string_l, UnaryOp, not_op, negate_op, pos_op, Display, list_d, tuple_d, dict_d, set_d, tree_set_d}
 use Rattle.definitions.specs.Tree.{BinaryOp, add_op, subtract_op, multiply_op, divide_op, floor_divide_op, modulo_op, equal_op, not_equal_op, less_op, less_equal_op, greater_op, greater_equal_op}
@@ -36,6 +36,7 @@ use Rattle.definitions.proofs.BoundedVariables.{Held, held-captures}
 use Rattle.definitions.proofs.Accepted.{accepted-gives}
 use Rattle.definitions.proofs.Iterators.{iterators}
 use Rattle.definitions.proofs.TreeNames.{tree_names}
+use Rattle.definitions.proofs.NamePlaces.{stays_at, last_at, position_at}
 
 -- ---- names in tables that grow
 
@@ -55,29 +56,8 @@ grown-more {xs} A B = record {
   is = B.is ∙ ap (λ (z : List Name). z ++ B.new) A.is ∙ append_assoc xs A.new B.new;
 }
 
-found_front : (xs ys : List Name) (k : ℕ) (x : Name) → get_elem? xs k ≡ some x → get_elem? (xs ++ ys) k ≡ some x
-found_front [] ys k x e = let z : ◌≡◌ {A = ℕ} 0 1 = cc in absurd (omega arith)
-found_front (y ∷ xs) ys zero x e = e
-found_front (y ∷ xs) ys (suc k) x e = found_front xs ys k x e
-
-found-last : (xs : List Name) (x : Name) → get_elem? (xs ++ (x ∷ [])) (length xs) ≡ some x
-found-last [] x = refl
-found-last (y ∷ xs) x = found-last xs x
-
 found_up : {xs ys : List Name} (k : ℕ) (x : Name) → Grown xs ys → get_elem? xs k ≡ some x → get_elem? ys k ≡ some x
-found_up {xs} k x G e = rw G.is (found_front xs G.new k x e)
-
-pub found_at : (x : Name) (xs : List Name) (k : ℕ) → position (same x) xs ≡ some k → get_elem? xs k ≡ some x
-unfolding position
-found_at x [] k e = let z : ◌≡◌ {A = ℕ} 0 1 = cc in absurd (omega arith)
-found_at x (y ∷ xs) k e = go (same x y) refl (position (same x) xs) (found_at x xs) k e
-  where
-    go : (c : Bool) → same x y ≡ c → (o : Option ℕ) → ((j : ℕ) → o ≡ some j → get_elem? xs j ≡ some x) → (j : ℕ)
-        → ◌≡◌ {A = Option ℕ} (elim c as (λ z. Option ℕ) [ true ↦ some 0 | false ↦ elim o as (λ z. Option ℕ) [ none ↦ none | some i ↦ some (suc i) ] ]) (some j)
-        → get_elem? (y ∷ xs) j ≡ some x
-    go true s o h j e = let z : j ≡ 0 = cc in rw z (ap some (sym (same-eq x y s)))
-    go false s none h j e = let z : ◌≡◌ {A = ℕ} 0 1 = cc in absurd (omega arith)
-    go false s (some i) h j e = let z : j ≡ suc i = cc in rw z (h i refl)
+found_up {xs} k x G e = rw G.is (stays_at xs G.new k x e)
 
 -- the last of the names, or one before it
 found-snoc : (xs : List Name) (x : Name) (k : ℕ) (y : Name) → get_elem? (xs ++ (x ∷ [])) k ≡ some y → (get_elem? xs k ≡ some y) ⊎ ((k ≡ length xs) × (x ≡ y))
@@ -267,7 +247,7 @@ owning-by G = record { at = λ p t. (G t).at p t }
 symbol-step : {m : Bool} (f : ℕ → Emit) (x : Name) (p : ℕ) (t : Tables) → ((k : ℕ) (u : Tables) → get_elem? u.symbols k ≡ some x → Step m p u (f k p u))
     → ((k : ℕ) (u : Tables) → is_iterator x ≡ true → (m ≡ true) × (i : ℕ) × (get_elem? (f k p u).code i ≡ some (StoreGlobal k))) → Step m p t (intern x f p t)
 unfolding intern
-symbol-step {m} f x p t F N = go (position (same x) t.symbols) (found_at x t.symbols)
+symbol-step {m} f x p t F N = go (position (same x) t.symbols) (position_at x t.symbols)
   where
     new : (o : Out) → ((a : ℕ) (y : Name) → get_elem? o.tables.symbols a ≡ some y → is_iterator y ≡ true → Known m (t.symbols ++ (x ∷ [])) a y o.code)
         → (is_iterator x ≡ true → (m ≡ true) × (i : ℕ) × (get_elem? o.code i ≡ some (StoreGlobal (length t.symbols))))
@@ -288,7 +268,7 @@ symbol-step {m} f x p t F N = go (position (same x) t.symbols) (found_at x t.sym
         → Step m p t (elim o as (λ z. Out) [ some k ↦ f k p t | none ↦ f (length t.symbols) p (add_symbol x t) ])
     go (some k) h = F k t (h k refl)
     go none h =
-        let S = F (length t.symbols) (add_symbol x t) (found-last t.symbols x) in
+        let S = F (length t.symbols) (add_symbol x t) (last_at t.symbols x) in
         record {
           grown = grown-more (grown-one x) S.grown;
           code = S.code;
@@ -329,7 +309,7 @@ owning-function {e} x arity frame body h E = owning-symbol x h (λ k. record {
       };
 })
 
-no-store-jump : (b : Bool) (n : ℕ) → eqb (jump_on b n).op 12 ≡ false
+pub no-store-jump : (b : Bool) (n : ℕ) → eqb (jump_on b n).op 12 ≡ false
 unfolding jump_on
 no-store-jump false n = refl
 no-store-jump true n = refl
@@ -374,11 +354,7 @@ owning-loop {e} {f} A B = record {
 
 not-iterator : (x : Name) → ask_name 33 x ≡ true → is_iterator x ≡ false
 unfolding ask_name if_asked
-not-iterator x e = go (is_iterator x) (left (not (is_iterator x)) true e)
-  where
-    go : (b : Bool) → not b ≡ true → b ≡ false
-    go true h = sym h
-    go false h = refl
+not-iterator x e = not-true (is_iterator x) (left (not (is_iterator x)) true e)
 
 owning-load : {m : Bool} (slots : List Name) (x : Name) → is_iterator x ≡ false → Owning m (load slots x)
 unfolding load

@@ -527,7 +527,8 @@ mutual
   slotted-block l slots keep []ᵇ f q = slotted-none keep still-nothing
   slotted-block l slots keep (a ∷ᵇ b) f q =
       slotted-same (sym (loops-sum keep (loops_stmt a) (loops_block b)))
-      (slotted-seq (slotted-stmt l slots keep a f (left (ask_stmt 12 l a) (ask_block 12 l b) q)) (slotted-block l slots (past (loops_stmt a) keep) b (from_past (length slots) (loops_stmt a) keep f) (right (ask_stmt 12 l a) (ask_block 12 l b) q)))
+      (slotted-seq (slotted-stmt l slots keep a f (left (ask_stmt 12 l a) (ask_block 12 l b) q))
+      (slotted-block l slots (past (loops_stmt a) keep) b (from_past (length slots) (loops_stmt a) keep f) (right (ask_stmt 12 l a) (ask_block 12 l b) q)))
 
   slotted-branches : (l : Bool) (slots : List Name) (keep : Keeping) (r : Branches) → From (length slots) keep → ask_branches 12 l r ≡ true → SlottedBranches (length slots) slots keep r (Loops keep (loops_branches r))
   slotted-branches l slots keep done f q = let N = slotted-none keep still-nothing in record { code = N.code; own = N.own }

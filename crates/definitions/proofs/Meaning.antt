@@ -27,7 +27,9 @@ module _ {l : Bool} {is js : List Instr} {v u : List ℕ → Walked} where
     walks = rw (A.walks, B.walks);
   }
 
-  unfoldable pub meaning-choose : {ks : List Instr} {t : List ℕ → Walked} (b : Bool) (k : ℕ) → Meaning l is v → Meaning l js u → (C : Meaning l ks t) → k ≡ hop C.code → Meaning l (is ++ (asks b (suc (length js)) ∷ (js ++ (Jump k ∷ ks)))) (λ xs. and_then (v xs) (query b u t))
+  unfoldable pub meaning-choose : {ks : List Instr} {t : List ℕ → Walked} (b : Bool) (k : ℕ)
+      → Meaning l is v → Meaning l js u → (C : Meaning l ks t) → k ≡ hop C.code
+      → Meaning l (is ++ (asks b (suc (length js)) ∷ (js ++ (Jump k ∷ ks)))) (λ xs. and_then (v xs) (query b u t))
   meaning-choose b k A B C e = record {
     code = choose b A.code B.code C.code;
     ok = (A.ok, B.ok, C.ok);
@@ -35,7 +37,8 @@ module _ {l : Bool} {is js : List Instr} {v u : List ℕ → Walked} where
     walks = rw (A.walks, B.walks, C.walks);
   }
 
-  pub meaning-loop : Meaning l is v → Meaning true js u → Meaning l (is ++ (JumpIfFalse (suc (length js)) ∷ (patch (suc (length is)) (length js) 0 js ++ (Jump (minus (suc (suc (length is) + length js))) ∷ [])))) (λ xs. rounds (suc (length xs)) v u xs)
+  pub meaning-loop : Meaning l is v → Meaning true js u
+      → Meaning l (is ++ (JumpIfFalse (suc (length js)) ∷ (patch (suc (length is)) (length js) 0 js ++ (Jump (minus (suc (suc (length is) + length js))) ∷ [])))) (λ xs. rounds (suc (length xs)) v u xs)
   meaning-loop A B = record {
     code = loop A.code B.code;
     ok = (A.ok, B.ok);

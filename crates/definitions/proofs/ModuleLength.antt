@@ -66,7 +66,9 @@ functions-room (f ∷ fs) = omega (arith, functions-room fs, function-room f, le
 
 -- ---- the whole
 
-pub length-tables : (t : Tables) → length (table_bytes t) ≡ 10 + length (concat name_bytes t.symbols) + length (concat text_bytes t.strings) + length (concat function_bytes t.functions) + length (concat class_bytes t.classes) + length (concat (be 2) t.constants)
+pub length-tables : (t : Tables) → length (table_bytes t)
+    ≡ 10 + length (concat name_bytes t.symbols) + length (concat text_bytes t.strings)
+    + length (concat function_bytes t.functions) + length (concat class_bytes t.classes) + length (concat (be 2) t.constants)
 unfolding table_bytes
 length-tables t = simp (length-append, length-list) (omega arith)
 

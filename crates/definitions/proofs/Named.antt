@@ -15,8 +15,9 @@ use Rattle.definitions.specs.Slots.{add, add_target, add_targets, locals_stmt, l
 use Rattle.definitions.specs.Statements.{assigned, assigned_all, bound_stmt, bound_block, bound_branches, add_all, FirstAppearance, Named, NamedOnce}
 use Rattle.definitions.proofs.Truth.{left, right}
 use Rattle.definitions.proofs.Every.{length-snoc}
-use Rattle.definitions.proofs.Captured.{or_assoc, or-false, member-nil, member-cons, member-append, member-add}
+use Rattle.definitions.proofs.Captured.{member-nil, member-cons, member-append, member-add}
 use Rattle.definitions.proofs.MethodOrder.{same-eq}
+use Rattle.std.proofs.Math.Bool.{or_assoc, or-false}
 
 -- ---- a target by its form
 
@@ -110,7 +111,7 @@ first_appearance ps b = block-all b ps
 
 -- ---- they only grow
 
-add-grows : (x : Name) (xs : List Name) → length xs ≤ length (add x xs)
+pub add-grows : (x : Name) (xs : List Name) → length xs ≤ length (add x xs)
 unfolding add
 add-grows x xs = go (member x xs)
   where

@@ -17,7 +17,7 @@ unfolding row_of instruction_table all
 pushes-few op = at_most _ _ (all_get_d (λ (r : Row). leb r.pushes (suc r.pops.own)) instruction_table refl op no_row refl)
 
 -- it leaves at most one more than it met; where it pops from too few, at most what it pushes, and that is at most two
-pushes-two : (op : ℕ) → (row_of op).pushes ≤ 2
+pub pushes-two : (op : ℕ) → (row_of op).pushes ≤ 2
 unfolding row_of instruction_table all
 pushes-two op = at_most _ _ (all_get_d (λ (r : Row). leb r.pushes 2) instruction_table refl op no_row refl)
 

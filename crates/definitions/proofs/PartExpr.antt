@@ -14,7 +14,7 @@ use Rattle.definitions.specs.Tree.{View, as_var, as_attr, as_index, as_tuple, as
 use Rattle.definitions.specs.Wellformed.{init}
 use Rattle.definitions.specs.Slots.{captures, Frame, names_only}
 use Rattle.definitions.specs.Instruction
-use Rattle.definitions.specs.Instruction.{Instr, ConstBool, Return, LoadLocal, encodes, unary_code, operator_code, binary_code, build_code, flow}
+use Rattle.definitions.specs.Instruction.{Instr, ConstBool, Return, LoadLocal, encodes, unary_code, operator_code, binary_code, build_code}
 use Rattle.definitions.specs.Tables.{Tables, Body, expr_body, Out, Emit, add_symbol, begin, emits, one, ◌⨟◌, intern, function, enclose}
 use Rattle.definitions.specs.Lower
 use Rattle.definitions.specs.Lower.{Callee, builtin_callee, function_callee, value_callee, resolve, load, store, literal, decides, call_named, call_by, loads, closure, emit_expr, emit_exprs, emit_object, method_end, emit_body}
@@ -102,7 +102,9 @@ pub record Whole (e : Emit) (frame : Frame) (body : Body) : Type 0 where
   pub over : (t : Tables) (xs : List ℕ) → Over (walk_body frame body 0 t xs).ending
   pub stand : (t : Tables) → length (e 0 t).code < 4294967296 → T (ends_in_return (e 0 t).code && jumps_land (length (e 0 t).code) 0 (e 0 t).code)
 
-pub whole : {e : Emit} {w : Walk} (frame : Frame) (body : Body) (end : List Instr) → e ⨟ emits end ≡ emit_body frame body → walk_body frame body ≡ follow e w (leaves end) → Part false e w → Part false (emits end) (leaves end) → Stop end → Whole (e ⨟ emits end) frame body
+pub whole : {e : Emit} {w : Walk} (frame : Frame) (body : Body) (end : List Instr)
+    → e ⨟ emits end ≡ emit_body frame body → walk_body frame body ≡ follow e w (leaves end)
+    → Part false e w → Part false (emits end) (leaves end) → Stop end → Whole (e ⨟ emits end) frame body
 unfolding follow leaves ◌⨟◌ emits
 whole {e} {w} frame body end c q A B S = record {
   emitted = c;

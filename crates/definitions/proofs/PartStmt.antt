@@ -16,7 +16,7 @@ use Rattle.definitions.specs.Slots.{Keeping, in_globals, in_slots, past, Frame, 
 use Rattle.definitions.specs.Instruction.{Return, Break, Continue}
 use Rattle.definitions.specs.Tables.{Method, Tables, block_body, Emit, emits, one, ◌⨟◌, intern}
 use Rattle.definitions.specs.Lower
-use Rattle.definitions.specs.Lower.{load, store, copy, emit_expr, emit_target, unpack, assign_by, Keeper, global, local, make_iter, named_iter, kept_iter, store_iter, load_iter, iter_name, ask_iter, take_iter}
+use Rattle.definitions.specs.Lower.{copy, emit_expr, emit_target, unpack, assign_by, Keeper, global, local, make_iter, named_iter, kept_iter, store_iter, load_iter, iter_name, ask_iter, take_iter}
 use Rattle.definitions.specs.Lower.{method_end, begin_class, class_object, end_class, class_out, emit_stmt, emit_block, emit_branches, emit_methods, emit_body, compile}
 use Rattle.definitions.specs.Walk.{walked, broke, continued, Walk, follow, adds, walk_expr, walk_assign, walk_stmt, walk_block, walk_branches, walk_body}
 use Rattle.definitions.specs.Open.{flows}

@@ -21,17 +21,15 @@ use Rattle.definitions.specs.Tables.{set_code, enclose, function}
 use Rattle.definitions.specs.Slots.{captures, Keeping, in_globals, in_slots, past, Frame, names_only, with_loops, loops_stmt, loops_block}
 use Rattle.definitions.specs.Module.{slots_fit}
 use Rattle.definitions.specs.Lower.{load, store, literal, shortcut, decides, display_size, Callee, builtin_callee, function_callee, value_callee, resolve, call_named, call_by}
-use Rattle.definitions.specs.Lower.{lambda_name, loads, closure, emit_expr, emit_exprs, emit_object, copy, emit_target, unpack, assign_by, loop, iter_name, Keeper, global, local, make_iter, named_iter, kept_iter, store_iter, load_iter, ask_iter}
+use Rattle.definitions.specs.Lower.{lambda_name, loads, closure, emit_expr, emit_exprs, emit_object, copy, emit_target, unpack, assign_by, loop}
+use Rattle.definitions.specs.Lower.{iter_name, Keeper, global, local, make_iter, named_iter, kept_iter, store_iter, load_iter, ask_iter}
 use Rattle.definitions.specs.Lower.{take_iter, method_end, insert_method, begin_class, class_object, end_class, class_out, emit_stmt, emit_block, emit_branches, emit_methods, main, no_tables}
 use Rattle.definitions.specs.Lower.{compile}
-use Rattle.definitions.proofs.Truth.{left, right, and-true}
+use Rattle.definitions.proofs.Truth.{left, right}
 use Rattle.definitions.specs.Fits.{fits_expr, fits_exprs, fits_target, fits_stmt, fits_block, fits_branches, fits_methods}
+use Rattle.std.proofs.Math.Bool.{and-true, and_assoc}
 
 -- ---- Booleans
-
-and_assoc : (a b c : Bool) → (a && b && c) ≡ (a && (b && c))
-and_assoc true b c = refl
-and_assoc false b c = refl
 
 -- ---- the test of a part: what it adds to the test of the tables
 

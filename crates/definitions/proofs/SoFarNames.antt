@@ -16,8 +16,9 @@ use Rattle.definitions.specs.Lower.{lambda_name}
 use Rattle.definitions.specs.Measured.{SoFar, is_there, function_in, class_in, so_far, add_function, add_class}
 use Rattle.definitions.proofs.Every.{Every, no_every, every, every_append, every_map, length-snoc}
 use Rattle.definitions.proofs.MethodOrder.{same-eq}
-use Rattle.definitions.proofs.Captured.{or-false, same_refl}
-use Rattle.definitions.proofs.LoopGlobals.{found_at}
+use Rattle.std.proofs.Math.Bool.{or-false}
+use Rattle.definitions.proofs.Captured.{same_refl}
+use Rattle.definitions.proofs.NamePlaces.{position_at}
 
 clash : {A : Type 0} → true ≡ false → A
 clash e = let z : ◌≡◌ {A = ℕ} 0 1 = cc in absurd (omega arith)
@@ -80,7 +81,7 @@ number_same x y xs n j e h = go (eqb j n) (same y x) (eqb→eq j n) (λ q. subst
         absurd (g w)
     go true false f g q =
         let i = f tt in
-        let z : some y ≡ some x = sym (found_at y xs n (h ∙ ap (λ (u : ℕ). some u) i)) ∙ found_at x xs n e in
+        let z : some y ≡ some x = sym (position_at y xs n (h ∙ ap (λ (u : ℕ). some u) i)) ∙ position_at x xs n e in
         let w : y ≡ x = cc in
         clash (sym (ap (λ (u : Name). same u x) w ∙ same_refl x) ∙ q)
 

@@ -19,7 +19,9 @@ use Rattle.definitions.specs.Instruction.{Instr, Return, LoadLocal}
 use Rattle.definitions.specs.Tables.{Method, Tables, Body, block_body, expr_body, Source, Out, Emit, add_symbol, add_string, emits, one, ◌⨟◌, here, intern, get_or_add_string, function, enclose}
 use Rattle.definitions.specs.Lower
 use Rattle.definitions.specs.Lower.{Callee, builtin_callee, function_callee, value_callee, resolve, load, store, literal, decides, shortcut, call_named, call_by, loads, closure, emit_expr, emit_exprs, emit_object}
-use Rattle.definitions.specs.Lower.{copy, emit_target, unpack, assign_by, loop, Keeper, global, local, make_iter, named_iter, kept_iter, iter_name, ask_iter, take_iter, method_end, insert_method, begin_class, class_object, end_class, class_out, emit_stmt, emit_block, emit_branches, emit_methods, compile}
+use Rattle.definitions.specs.Lower.{copy, emit_target, unpack, assign_by, loop, Keeper, global, local, make_iter, named_iter}
+use Rattle.definitions.specs.Lower.{kept_iter, iter_name, ask_iter, take_iter, method_end, insert_method, begin_class, class_object}
+use Rattle.definitions.specs.Lower.{end_class, class_out, emit_stmt, emit_block, emit_branches, emit_methods, compile}
 use Rattle.definitions.specs.Bodies.{bodies_expr, bodies_exprs, bodies_stmt, bodies_block, bodies_branches, bodies_methods, bodies}
 use Rattle.definitions.specs.Statements.{body_of, SourceBodies}
 use Rattle.definitions.proofs.Truth.{left, right}
@@ -370,7 +372,8 @@ mutual
       (has_kept keep (λ g.
       has-seq (has_one _) (has-loop (has-ask_iter g) (has-seq (has-take_iter slots x g) (has_block true slots (past 1 keep) b (right (ask_name 10 x && ask_expr 10 e) (ask_block 10 true b) q)))))))
   has-stmt l slots keep (def x ps b) q =
-      has-function x (length ps) (with_loops ps b) (block_body b (Return ∷ [])) (has-then (has_block false (with_loops ps b).names (with_loops ps b).keep b (right (ask_name 10 x && ask_params 10 ps) (ask_block 10 false b) q)) (has_one Return))
+      has-function x (length ps) (with_loops ps b) (block_body b (Return ∷ []))
+      (has-then (has_block false (with_loops ps b).names (with_loops ps b).keep b (right (ask_name 10 x && ask_params 10 ps) (ask_block 10 false b) q)) (has_one Return))
   has-stmt l slots keep (class x ms vs) q = has-class slots keep x ms vs (has-methods ms (right (ask_name 10 x) (ask_methods 10 ms) (left (ask_name 10 x && ask_methods 10 ms) (all (ask_attribute 10) vs) q)))
 
   has_block : (l : Bool) (slots : List Name) (keep : Keeping) (b : Block) → ask_block 10 l b ≡ true → Has (emit_block slots keep b) (bodies_block b)

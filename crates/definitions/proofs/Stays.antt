@@ -1,5 +1,5 @@
 -- Question 21 keeps a run in the code.
-use Prim.Native.Nat.{ℕ, zero, suc, ◌+◌, ◌<◌, ◌≤◌}
+use Prim.Native.Nat.{ℕ, zero, suc, ◌+◌, ◌<◌}
 use mathlib.Core.Path.{◌≡◌, refl, sym, ◌∙◌, subst}
 use mathlib.Core.Bool.{Bool, true, false, ◌||◌, not}
 use mathlib.Core.List.{List, [], ◌∷◌}
@@ -14,6 +14,7 @@ use Rattle.definitions.specs.Run.{way}
 use Rattle.definitions.specs.Search.{Next, straight_on, jumps_to, on_no, on_yes, Step}
 use Rattle.definitions.proofs.Truth.{left, right}
 use Rattle.definitions.proofs.Flows.{stop-jumps, is-jump, flow-returns, way-below}
+use Rattle.std.proofs.Math.Arith.{lt_of_le-ne}
 
 last-return : (is : List Instr) (k : ℕ) → ends_in_return is ≡ true → k + 1 ≡ length is → (get_or is k Return).op ≡ 33
 unfolding ends_in_return
@@ -38,9 +39,6 @@ lands-at n (i ∷ is) p (suc k) e l j =
     subst (λ (x : ℕ). landing x (get_or is k Return).a < n) (let y : suc p + k ≡ p + suc k = omega arith in y)
     (lands-at n is (suc p) k (right (not (is_jump i.op) || ltb (landing p i.a) n) (jumps_land n (suc p) is) e) (omega arith) j)
 
-strictly : (x y : ℕ) → x ≤ y → (x ≡ y → ⊥) → x < y
-strictly x y l f = omega arith
-
 -- there is an instruction
 pub ends_some : (is : List Instr) → ends_in_return is ≡ true → 0 < length is
 unfolding ends_in_return
@@ -49,7 +47,7 @@ ends_some (i ∷ is) e = omega arith
 
 -- what is no Return is not the last instruction
 pub not_last : (is : List Instr) → ends_in_return is ≡ true → (k : ℕ) → k < length is → ((get_or is k Return).op ≡ 33 → ⊥) → k + 1 < length is
-not_last is e k l f = strictly (k + 1) (length is) (omega arith) (λ z. f (last-return is k e z))
+not_last is e k l f = lt_of_le-ne {i = k + 1} {k = length is} (omega arith) (λ z. f (last-return is k e z))
 
 -- a jump lands in the code
 pub jump-inside : (is : List Instr) → jumps_land (length is) 0 is ≡ true → (k : ℕ) → k < length is → is_jump (get_or is k Return).op ≡ true → landing k (get_or is k Return).a < length is

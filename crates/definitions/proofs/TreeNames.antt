@@ -17,14 +17,11 @@ use Rattle.definitions.specs.Wellformed.{is_iterator, distinct, init, is_target,
 use Rattle.definitions.specs.Wellformed.{ask_target, ask_attribute, ask_stmt, ask_block, ask_branches, ask_methods}
 use Rattle.definitions.specs.TreeNames.{names_expr, names_exprs, names_attributes, names_stmt, names_block, names_branches, names_methods}
 use Rattle.definitions.specs.Statements.{TreeNames}
+use Rattle.std.proofs.Math.Bool.{and_assoc}
 
 and_yes : (a b : Bool) → b ≡ true → (a && b) ≡ a
 and_yes true b e = e
 and_yes false b e = refl
-
-and_assoc : (a b c : Bool) → (a && b && c) ≡ (a && (b && c))
-and_assoc true b c = refl
-and_assoc false b c = refl
 
 all_append : (f : Name → Bool) (xs ys : List Name) → all f (xs ++ ys) ≡ (all f xs && all f ys)
 unfolding all

@@ -22,10 +22,6 @@ both a b e = (left a b e, right a b e)
 pub and : {a b : Bool} → a ≡ true → b ≡ true → (a && b) ≡ true
 and e f = rw (e, f)
 
-pub and-true : (a : Bool) → (a && true) ≡ a
-and-true true = refl
-and-true false = refl
-
 pub true-false : {A : Type 0} {b : Bool} → b ≡ true → b ≡ false → A
 true-false e f = let w : true ≡ false = sym e ∙ f in let z : ◌≡◌ {A = ℕ} 0 1 = cc in absurd (omega arith)
 

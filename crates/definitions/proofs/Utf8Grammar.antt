@@ -13,6 +13,7 @@ use Rattle.definitions.specs.Utf8.{Range, in_range, Octets, utf8_char, followers
 use Rattle.definitions.specs.Statements.{Matches, no_byte, byte, Utf8Octets, no_char, char, Utf8Grammar}
 use Rattle.definitions.specs.Open.{all_utf8}
 use Rattle.definitions.proofs.Truth.{left, right, holds, at_most, is_false}
+use Rattle.std.proofs.Math.Bool.{and-false}
 
 -- ---- what passes the test is made of characters
 
@@ -93,10 +94,6 @@ not_earlier r s b h e =
     let low = at_most s.from b (left (leb s.from b) (leb b s.up_to) e) in
     let lt = ltb→lt r.up_to s.from (holds _ h) in
     rw (is_false (leb b r.up_to) (lt→nleb b r.up_to (omega arith))) (and-false (leb r.from b))
-  where
-    and-false : (x : Bool) → (x && false) ≡ false
-    and-false true = refl
-    and-false false = refl
 
 follows : (cs : List Octets) → ascending cs ≡ true → (k : ℕ) (c : Octets) (b : ℕ) → get_elem? cs k ≡ some c → in_range c.first b ≡ true → followers cs b ≡ some c.others
 unfolding followers ascending

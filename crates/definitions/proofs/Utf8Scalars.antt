@@ -15,6 +15,7 @@ use Rattle.definitions.specs.Statements.{Matches, no_byte, byte, Utf8Octets, no_
 use Rattle.definitions.proofs.Truth.{left, right}
 use Rattle.definitions.proofs.Every.{Every, no_every, every, every-at}
 use Rattle.definitions.proofs.Utf8Grammar.{utf8-sound, utf8-complete}
+use Rattle.std.proofs.Math.Bool.{and-false}
 
 -- ---- bytes in ranges
 
@@ -46,17 +47,13 @@ four_bytes c h = rw (le-ltb c 0x80 (omega arith), encode_char) (rw (le-ltb c 0x8
 
 -- ---- scalar values
 
-and_no : (x : Bool) → (x && false) ≡ false
-and_no true = refl
-and_no false = refl
-
 low_scalar : (c : ℕ) → c < 0xD800 → is_scalar c ≡ true
 unfolding is_scalar
 low_scalar c h = rw (lt-ltb c 0x110000 (omega arith), lt-leb 0xD800 c h)
 
 high_scalar : (c : ℕ) → 0xDFFF < c → c < 0x110000 → is_scalar c ≡ true
 unfolding is_scalar
-high_scalar c h g = rw (lt-ltb c 0x110000 g, lt-leb c 0xDFFF h, and_no (leb 0xD800 c))
+high_scalar c h g = rw (lt-ltb c 0x110000 g, lt-leb c 0xDFFF h, and-false (leb 0xD800 c))
 
 scalar_below : (c : ℕ) → is_scalar c ≡ true → c < 0x110000
 unfolding is_scalar

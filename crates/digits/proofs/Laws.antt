@@ -15,13 +15,9 @@ use Rattle.std.specs.Str.Parse.{ParsesUnsigned}
 use Rattle.std.proofs.lemmas.Str.{IsUtf8-from_ascii}
 use Rattle.std.proofs.lemmas.Str.Parse.{IsDigitsTest, FoldsDigits, IsNumeralModel, numerals_by_fold, parse_plain}
 use Rattle.digits.specs.Text.{digit_value, all_decimal, value_from, decimal_from, decimal}
+use Rattle.std.proofs.lemmas.Bool.{and_parts}
 
 -- ---- decimal digits
-
-both : (a b : Bool) → (a && b) ≡ true → (a ≡ true) × (b ≡ true)
-both true true e = (refl, refl)
-both true false e = cc
-both false b e = cc
 
 ten : (c : ℕ) → ltb (digit_value c) 10 ≡ true → IsInRange 48 57 c
 unfolding digit_value
@@ -35,7 +31,7 @@ tells : IsDigitsTest (λ ds. all_decimal ds ≡ true)
 unfolding all_decimal
 tells = record {
   empty = refl;
-  parts = λ c cs e. let m = both (ltb (digit_value c) 10) (all_decimal cs) e in (ten c m.0, m.1);
+  parts = λ c cs e. let m = and_parts (ltb (digit_value c) 10) (all_decimal cs) e in (ten c m.0, m.1);
   more = λ c cs k e. rw (is_ten c k, lt-ltb (c - 48) 10 (omega arith)) e;
 }
 

@@ -18,14 +18,16 @@ use Rattle.state.specs.State.{slots_from, slot_names}
 use Rattle.definitions.specs.Fits.{fits_expr, fits_exprs, fits_target}
 use Rattle.parts.specs.Places.{Node, name_end, There, params_at}
 use Rattle.exprs.specs.ExprAt.{expr_at, exprs_at, ExprReads, ExprsRead, var_at, unary_at, TwoAt, second_at, binary_at, ListAt, list_at, CallAt, call_at, AttributeAt, attribute_at, display_at, pairs_at, dict_at, index_at, lambda_at, cons_at}
-use Rattle.parts.proofs.Laws.{le-or-gt}
 use Rattle.exprs.proofs.ExprViews.{view-var, view-unary, view-binary, view-call, view-attribute, view-dict, view-index, view-lambda, view-exprs-none, view-exprs-more}
 use Rattle.slots.specs.Slotted.{Collected}
 use Rattle.slots.proofs.Skipping.{plain_done}
-use Rattle.slots.proofs.Kinded.{unary-each, binary-each, seen-literal, seen-display, form-var, form-attribute, form-tuple, form-index, form-other}
+use Rattle.slots.proofs.Kinded.{seen-literal, seen-display, form-var, form-attribute, form-tuple, form-index}
 use Rattle.fits.specs.Walk.{Walks, lambda_fits}
 use Rattle.std.specs.Prelude.{Option, Some}
 use Rattle.fits.proofs.Walking.{walks-as, next-walks, Left, Step, lambda-inside}
+use Rattle.definitions.proofs.Begins.{le-or-gt}
+use Rattle.exprs.proofs.Operators.{unary-each, binary-each}
+use Rattle.exprs.proofs.OtherForms.{other-form}
 
 module _ (d : ℕ) (t : List ℕ) (p : ℕ) (r : ExprReads d t p) (slots : List Name) where
   abbrev x : Node Expr
@@ -118,7 +120,7 @@ module _ (d : ℕ) (t : List ℕ) (p : ℕ) (r : ExprReads d t p) (slots : List 
       by : (a b : Bool) → eqb (get_or t p 0) 6 ≡ a → eqb (get_or t p 0) 13 ≡ b → fits_target slots (expr_at d t p).value ≡ true
       by true b h i = target_is _ (form-var d t p r (eqb-true _ _ h))
       by false true h i = target_is _ (form-tuple d t p r (eqb-true _ _ i))
-      by false false h i = target_is _ (form-other d t p r (eqb-false _ _ h) f (eqb-false _ _ i) g)
+      by false false h i = target_is _ (other-form d t p r (eqb-false _ _ h) f (eqb-false _ _ i) g)
 
   pub target-other : (q : ℕ) → (get_or t p 0 ≡ 10 → ⊥) → (get_or t p 0 ≡ 16 → ⊥) → q ≡ (expr_at d t p).end → Walks (Some q) (expr_at d t p).end (fits_target slots (expr_at d t p).value)
   target-other q f g e = next-walks q _ _ e (target-simple f g)

@@ -1,23 +1,23 @@
 -- Question 14 of each kind of statement, of blocks, branches and methods. Assumes nothing.
 use Prim.Native.Nat.{ℕ, zero, suc, ◌+◌, ◌-◌, ◌<◌, ◌≤◌}
 use mathlib.Core.Path.{◌≡◌, refl, sym, ap, ◌∙◌, subst, ap₂}
-use mathlib.Core.Bool.{Bool, true, false, ◌&&◌}
+use mathlib.Core.Bool.{Bool, true, ◌&&◌}
 use mathlib.Core.List.{List, []}
-use mathlib.Core.Logic.{◌⊎◌, ⊎_elim}
 use native.Mathlib.Omega.{arith}
 use lib.ListN.{length, take, drop, get_or}
 use Rattle.definitions.specs.Bytes.{Name}
 use Rattle.definitions.specs.Tree.{Stmt, Block, Branches, Methods}
 use Rattle.definitions.specs.Slots.{with_loops}
-use Rattle.numerals.specs.Kinds.{stmt_byte}
-use Rattle.numerals.specs.declared.kinds.StmtKind.{StmtKind}
-use Rattle.numerals.specs.declared.kinds.StmtKind.TheVariants.{Break, Continue, Pass}
 use Rattle.state.specs.State.{slots_from, slot_names}
 use Rattle.definitions.specs.Fits.{fits_expr, fits_target, fits_stmt, fits_block, fits_branches, fits_methods}
 use Rattle.parts.specs.Places.{Node, count_at, name_end, params_at}
 use Rattle.exprs.specs.ExprAt.{expr_at, second_at}
-use Rattle.tree.specs.StmtAt.{stmt_at, block_at, stmts_at, branches_at, methods_at, StmtReads, BlockReads, StmtsRead, BranchesRead, MethodsRead, expr_stmt_at, return_at, assign_at, BranchAt, body_at, elifs_at, if_at, while_at, for_at, when_at, else_at, DefAt, def_block_at, def_at, method_at, ClassAt, class_methods_at, class_at, cons_at}
-use Rattle.tree.proofs.StmtViews.{view-break, view-continue, view-pass, view-expr, view-return, view-assign, view-if, view-while, view-for, view-def, view-class, view-block, view-stmts-none, view-stmts-more, view-branches-more, else-known, view-done, view-else, view-methods-none, view-methods-more}
+use Rattle.tree.specs.StmtAt.{stmt_at, block_at, stmts_at, branches_at, methods_at, StmtReads, BlockReads, StmtsRead, BranchesRead}
+use Rattle.tree.specs.StmtAt.{MethodsRead, expr_stmt_at, return_at, assign_at, BranchAt, body_at, elifs_at, if_at, while_at, for_at, when_at}
+use Rattle.tree.specs.StmtAt.{else_at, DefAt, def_block_at, def_at, method_at, ClassAt, class_methods_at, class_at, cons_at}
+use Rattle.tree.proofs.StmtViews.{view-break, view-continue, view-pass, view-expr, view-return, view-assign, view-if, view-while}
+use Rattle.tree.proofs.StmtViews.{view-for, view-def, view-class, view-block, view-stmts-none, view-stmts-more, view-branches-more}
+use Rattle.tree.proofs.StmtViews.{else-known, view-done, view-else, view-methods-none, view-methods-more}
 use Rattle.slots.specs.Slotted.{Frames}
 use Rattle.slots.specs.declared.collect.Framed.{Framed}
 use Rattle.slots.proofs.Adding.{none-names}
@@ -76,11 +76,6 @@ module _ (d : ℕ) (t : List ℕ) (p : ℕ) (r : StmtReads d t p) (slots : List 
   pass-kind (suc zero) e h = made_of (Some (p + 1)) _ (view-continue d t p r e) (next-walks _ _ _ refl refl)
   pass-kind (suc (suc zero)) e h = made_of (Some (p + 1)) _ (view-pass d t p r e) (next-walks _ _ _ refl refl)
   pass-kind (suc (suc (suc k))) e h = absurd (omega arith)
-
--- the kinds that hold nothing
-pub plain-kind : (k : StmtKind) (b : ℕ) → stmt_byte k ≡ b → (k ≡ Break) ⊎ ((k ≡ Continue) ⊎ (k ≡ Pass)) → b < 3
-unfolding stmt_byte
-plain-kind k b e h = ⊎_elim (λ z. omega (arith, ap stmt_byte z)) (λ h. ⊎_elim (λ z. omega (arith, ap stmt_byte z)) (λ z. omega (arith, ap stmt_byte z)) h) h
 
 pub fits-pass : (d : ℕ) (t : List ℕ) (p : ℕ) (r : StmtReads d t p) (slots : List Name) → get_or t p 0 < 3 → Walks (Some (p + 1)) (stmt_at d t p).end (fits_stmt slots (stmt_at d t p).value)
 fits-pass d t p r slots h = pass-kind d t p r slots (get_or t p 0) refl h

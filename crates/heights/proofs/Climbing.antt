@@ -1,18 +1,14 @@
 -- The search whose marks are one more than heights: a mark is small. Assumes nothing.
 use Prim.Native.Nat.{ℕ, ◌+◌, ◌-◌, ◌*◌, ◌<◌, ◌≤◌}
-use mathlib.Core.Path.{◌≡◌, refl, sym, ap, ◌∙◌, subst}
+use mathlib.Core.Path.{◌≡◌, sym, ap, ◌∙◌, subst}
 use mathlib.Core.List.{List}
 use native.Mathlib.Omega.{arith}
-use lib.Dec.{leb}
 use lib.ListN.{length, get_or}
 use lib.Seq.{get_or-take}
-use Rattle.definitions.specs.Bytes.{all}
-use Rattle.definitions.specs.Instruction.{Instr, Row, no_row, instruction_table, row_of, Return}
+use Rattle.definitions.specs.Instruction.{Instr, Return}
 use Rattle.definitions.specs.Stack.{pushes, height_after}
 use Rattle.definitions.specs.Search.{Chain, begins, goes}
 use Rattle.definitions.specs.Heights.{mark_after, by_height}
-use Rattle.definitions.proofs.Truth.{at_most}
-use Rattle.definitions.proofs.Every.{all_get_d}
 use Rattle.definitions.proofs.Sweeping.{Given}
 use Rattle.definitions.proofs.HeightsDecided.{height-given}
 use Rattle.reader.specs.View.{instructions_of}
@@ -20,12 +16,9 @@ use Rattle.search.specs.View.{marks_of, table_in, Searchable}
 use Rattle.search.proofs.Looping.{Going, head_few, place-few}
 use Rattle.search.proofs.Viewing.{mark-at}
 use Rattle.heights.specs.Holding.{Standing}
+use Rattle.definitions.proofs.NumberFew.{pushes-two}
 
 -- an instruction leaves at most two values more than it met
-pushes-two : (op : ℕ) → (row_of op).pushes ≤ 2
-unfolding row_of instruction_table all
-pushes-two op = at_most _ _ (all_get_d (λ (r : Row). leb r.pushes 2) instruction_table refl op no_row refl)
-
 after-most : (i : Instr) (h : ℕ) → height_after i h ≤ h + 2
 unfolding height_after pushes
 after-most i h = omega (arith, pushes-two i.op)

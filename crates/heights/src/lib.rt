@@ -7,7 +7,7 @@ ghost use Rattle.std.specs.Prelude.{◌≡◌, ◌≤◌, length};
 ghost use Rattle.definitions.specs.Bytes.{all};
 ghost use Rattle.definitions.specs.Heights.{function_holds, heights_hold, heights_answer};
 ghost use Rattle.reader.specs.View.{said};
-ghost use Rattle.tally.specs.Walk.{FunctionsAt, functions_from, code_from};
+ghost use Rattle.tally.specs.Walk.{functions_from, code_from};
 ghost use Rattle.heights.specs.Holding.{Parted, Stood, Gives};
 
 use areas::clear;

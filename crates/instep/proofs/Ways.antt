@@ -3,10 +3,6 @@ use Prim.Native.Nat.{ℕ, zero, suc, ◌+◌, ◌-◌, ◌<◌, ◌≤◌}
 use mathlib.Core.Path.{◌≡◌, refl, sym, ap, ap₂, ◌∙◌, subst}
 use mathlib.Core.List.{List, [], ◌∷◌, ◌++◌, append_assoc}
 use native.Mathlib.Omega.{arith}
-use mathlib.Core.Logic.{◌⊎◌, ⊎_elim}
-use Rattle.numerals.specs.Kinds.{stmt_byte}
-use Rattle.numerals.specs.declared.kinds.StmtKind.{StmtKind}
-use Rattle.numerals.specs.declared.kinds.StmtKind.TheVariants.{Break, Continue, Pass}
 use lib.ListN.{length, get_or}
 use Rattle.definitions.specs.Bytes.{be, list_bytes}
 use Rattle.definitions.specs.Module.{name_bytes}
@@ -53,11 +49,6 @@ pub kind-steps : {k : ℕ} {xs ys us vs : List ℕ} {e f d g : ℕ} {r : Result 
 kind-steps {k} X Y S = steps-as (byte-steps k S) (sym X.bytes) (sym Y.bytes) (sym X.end) (sym Y.end)
 
 -- ---- a statement of one byte
-
--- of the eleven kinds, those that hold nothing
-pub plain-kind : (k : StmtKind) (b : ℕ) → stmt_byte k ≡ b → (k ≡ Break) ⊎ ((k ≡ Continue) ⊎ (k ≡ Pass)) → b < 3
-unfolding stmt_byte
-plain-kind k b e h = ⊎_elim (λ z. omega (arith, ap stmt_byte z)) (λ h. ⊎_elim (λ z. omega (arith, ap stmt_byte z)) (λ z. omega (arith, ap stmt_byte z)) h) h
 
 pub simple-steps : (d : ℕ) {a b : List ℕ} {p q : ℕ} → StmtReads d a p → StmtReads d b q → get_or a p 0 ≡ get_or b q 0 → get_or a p 0 < 3
     → Steps (Ok (spot (p + 1) (q + 1))) (rest_stmt_at d a p) (rest_stmt_at d b q) (stmt_at d a p).end (stmt_at d b q).end
@@ -315,7 +306,8 @@ module _ (d : ℕ) (a b : List ℕ) (p q : ℕ) {r : Result Spot Ordering} (S : 
     pub branch-second : BranchAt d b q → BlockReads d b y
     branch-second B = subst (λ (n : ℕ). BlockReads d b n) (sym (steps-same S h).second) B.block
 
-    pub branch-steps : {o : Result Spot Ordering} → Steps o (rest_block_at d a x) (rest_block_at d b y) (block_at d a x).end (block_at d b y).end → Steps o (rest_branch_at d a p) (rest_branch_at d b q) (body_at d a p).end (body_at d b q).end
+    pub branch-steps : {o : Result Spot Ordering} → Steps o (rest_block_at d a x) (rest_block_at d b y) (block_at d a x).end (block_at d b y).end
+        → Steps o (rest_branch_at d a p) (rest_branch_at d b q) (body_at d a p).end (body_at d b q).end
     branch-steps T = seq (rest_block_at d a) (rest_block_at d b) (λ n. (block_at d a n).end) (λ n. (block_at d b n).end) S h T
 
     -- two expressions

@@ -1,5 +1,5 @@
 // Parts that a rest leaves as they are, compared where they stand; and counts.
-ghost use Rattle.std.specs.Prelude.{◌≡◌, ◌≤◌, ◌<◌, ◌++◌, length};
+ghost use Rattle.std.specs.Prelude.{◌≡◌, ◌≤◌, ◌++◌, length};
 ghost use Rattle.definitions.specs.TreeBytes.{size, expr_bytes, params_bytes};
 ghost use Rattle.definitions.specs.Module.{name_bytes};
 ghost use Rattle.definitions.specs.Rests.{rest};

@@ -10,8 +10,9 @@ ghost use Rattle.listing.specs.Lines.{Operands, Lined};
 
 use crate::lines::{write_line, write_page};
 use crate::{LINE, Next, PAGE};
+use numerals::sizes::{FUNCTION_COUNT, FUNCTION_HEAD};
 use reader::{Instructions, Part, Placed, number_at, part_of};
-use tally::{CODE, COUNT, count_code};
+use tally::count_code;
 
 // Code line k, after a page's first line where it begins a page.
 fn write_entry(k: u64, f: u64, placed: Placed, out: &mut [u8]) -> usize
@@ -63,8 +64,8 @@ pub(crate) fn write_functions(bytes: &[u8], at: usize, count: u64, out: &mut [u8
     let mut put = 0usize;
     let mut k = 0u64;
     for f in 0..count {
-        let n = number_at(bytes, p + COUNT, 2);
-        let lines = write_function(bytes, p + CODE, n, f, k, &mut out[put..]);
+        let n = number_at(bytes, p + FUNCTION_COUNT, 2);
+        let lines = write_function(bytes, p + FUNCTION_HEAD, n, f, k, &mut out[put..]);
         put += lines.put;
         p = lines.at;
         k += n;

@@ -138,7 +138,9 @@ module _ (t made code tables : List ℕ) (i : ℕ) (c : Counts) (l : Limits) (s 
   kept : (b k : ℕ) → b + k ≤ constants_from → region b k (set tables (constants_from + c.constants) i) ≡ region b k tables
   kept b k g = set_below b k (constants_from + c.constants) i tables (omega arith)
 
-  classes-kept : classes_of t (region methods_from 256 (set tables (constants_from + c.constants) i)) (region class_names_from c.classes (set tables (constants_from + c.constants) i)) (region class_methods_from c.classes (set tables (constants_from + c.constants) i))
+  classes-kept : classes_of t (region methods_from 256 (set tables (constants_from + c.constants) i))
+      (region class_names_from c.classes (set tables (constants_from + c.constants) i))
+      (region class_methods_from c.classes (set tables (constants_from + c.constants) i))
       ≡ classes_of t (region methods_from 256 tables) (region class_names_from c.classes tables) (region class_methods_from c.classes tables)
   classes-kept =
       let p = kept methods_from 256 (omega arith) in
@@ -177,8 +179,12 @@ module _ (t made code tables : List ℕ) (i : ℕ) (c : Counts) (l : Limits) (s 
         codes = subst (Every (EndsWithin c.done)) (sym k) s.codes;
         class-methods = subst (Every (EndsWithin c.methods)) (sym (kept class_methods_from c.classes (omega (arith, s.classes, s.limited.classes)))) s.class-methods;
         finished = s.finished ∙ sym (ap total k);
-        symbol-index = symbols-indexed t made tables _ c.symbols (set-above symbol_index_from symbol_buckets (constants_from + c.constants) i tables (omega (arith, s.classes, s.limited.classes))) (kept 0 c.symbols (omega (arith, s.symbols, s.limited.symbols))) s.symbol-index;
-        string-index = strings-indexed t tables _ c.strings (set-above string_index_from string_buckets (constants_from + c.constants) i tables (omega (arith, s.classes, s.limited.classes))) (kept strings_from c.strings (omega (arith, s.strings, s.limited.strings))) s.string-index;
+        symbol-index = symbols-indexed t made tables _ c.symbols
+            (set-above symbol_index_from symbol_buckets (constants_from + c.constants) i tables (omega (arith, s.classes, s.limited.classes)))
+            (kept 0 c.symbols (omega (arith, s.symbols, s.limited.symbols))) s.symbol-index;
+        string-index = strings-indexed t tables _ c.strings
+            (set-above string_index_from string_buckets (constants_from + c.constants) i tables (omega (arith, s.classes, s.limited.classes)))
+            (kept strings_from c.strings (omega (arith, s.strings, s.limited.strings))) s.string-index;
       }
 
   pub constant-added : Counted (with_constants (c.constants + 1) c) (with_constants (c.constants + 1) c) t made code (set tables (constants_from + c.constants) i) l

@@ -26,7 +26,8 @@ module _ {tree : List ℕ} {a b : Emitter} {e : Emit} where
   pub emits-words : {A : Type 0} {r : Option ℕ} {u : Option A} {n m : ℕ} {y : A} {c : Emitter} {f : Emit} → r ≡ Some n → u ≡ Some y → SoundIn tree a → EmitsTo r e m tree a b → LowersIn u f tree b c → EmitsTo (Some n) (e ⨟ f) m tree a c
   emits-words {n = n} z y S h x = record { place = λ k q. sym (some-is q) ∙ h.place n z; lowers = lowers-some y (lowers_then z S h.lowers x) }
 
-  pub emits-no-words : {A : Type 0} {r q : Option ℕ} {u : Option A} {n m next : ℕ} {c : Emitter} {f : Emit} → r ≡ Some n → u ≡ None → q ≡ None → SoundIn tree a → EmitsTo r e m tree a b → LowersIn u f tree b c → EmitsTo q (e ⨟ f) next tree a c
+  pub emits-no-words : {A : Type 0} {r q : Option ℕ} {u : Option A} {n m next : ℕ} {c : Emitter} {f : Emit}
+      → r ≡ Some n → u ≡ None → q ≡ None → SoundIn tree a → EmitsTo r e m tree a b → LowersIn u f tree b c → EmitsTo q (e ⨟ f) next tree a c
   emits-no-words z y w S h x = record { place = λ k p. absurd (none-some k (sym w ∙ p)); lowers = lowers-none y w (lowers_then z S h.lowers x) }
 
   -- a part after words

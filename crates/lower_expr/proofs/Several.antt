@@ -145,7 +145,9 @@ module _ {d : ℕ} {t : List ℕ} {names : List Name} {a : Emitter} {n₀ p₀ :
         let room : o + i + b.code.done < (limits_in a).instructions = omega (arith, ap (λ (l : Limits). l.instructions) same, C.run.inside) in
         let L = put-left t b.tables.names.made.now ws b.tables.entries.words.now w _ k (limits_in a) G.midway.sound
         (instr-plain t (5 - kind) 0 0 (plain-below (5 - kind) 0 0 (omega arith) (omega arith) (omega arith) (omega arith))) room in
-        let P = λ (x : Emit). Left (with_open (o + i + 1) (counts_of b)) t b.tables.names.made.now (set ws (o + i) w) b.tables.entries.words.now k (limits_in a) (emit_at k.base x (state_of t b.tables.names.made.now ws b.tables.entries.words.now k)) in
+        let made = b.tables.names.made.now in
+        let es = b.tables.entries.words.now in
+        let P = λ (x : Emit). Left (with_open (o + i + 1) (counts_of b)) t made (set ws (o + i) w) es k (limits_in a) (emit_at k.base x (state_of t made ws es k)) in
         let N = over-next G few (subst P (sym (m.code names)) L) in
         let x : o + i + 1 ≡ o + suc i = omega arith in
         let y : n - i - 1 ≡ n - suc i = omega arith in

@@ -19,7 +19,7 @@ use Rattle.lower_forms.specs.Lowerable.{Relied, Lowerable, expr_code}
 use Rattle.lower_forms.proofs.ExprArms.{and_both}
 use Rattle.lower_forms.specs.Elements.{elements_at}
 use Rattle.lower_forms.specs.Assigned.{AssignLowerable, assign_code, VariableAssigned, AttributeAssigned, IndexAssigned, TupleAssigned}
-use Rattle.lower_forms.proofs.TargetForms.{other-form}
+use Rattle.exprs.proofs.OtherForms.{other-form}
 use Rattle.lower_forms.proofs.Unpacking.{list-is}
 
 -- the assignment at p holds what Parts says; its code is e, by the names of the slots, and it ends at q

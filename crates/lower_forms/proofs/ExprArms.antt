@@ -1,7 +1,7 @@
 -- What an accepted expression holds, for each kind byte, and its code by that of its parts.
 use Prim.Native.Nat.{ℕ, zero, suc, ◌+◌, ◌-◌, ◌<◌, ◌≤◌}
 use mathlib.Core.Path.{◌≡◌, refl, sym, ap, ◌∙◌, subst}
-use mathlib.Core.Bool.{Bool, true, false, ◌&&◌, true≢false}
+use mathlib.Core.Bool.{Bool, true, false, ◌&&◌}
 use mathlib.Core.List.{List}
 use native.Mathlib.Omega.{arith}
 use native.Mathlib.Nat.{le_refl}
@@ -14,7 +14,7 @@ use Rattle.definitions.specs.Wellformed.{if_asked, ask_name, distinct, ask_param
 use Rattle.definitions.specs.Instruction.{instr, Build, LoadAttr, LoadIndex, operator_code}
 use Rattle.definitions.specs.Tables.{Emit, one, ◌⨟◌, intern}
 use Rattle.definitions.specs.Lower.{literal, load, decides, shortcut, display_size, emit_expr, emit_exprs}
-use Rattle.parts.specs.Places.{Node, node, count_at, Counted, name_bytes, name_end, There, params_at, names_from}
+use Rattle.parts.specs.Places.{Node, node, count_at, Counted, name_bytes, name_end, There, params_at}
 use Rattle.exprs.specs.ExprAt.{expr_at, exprs_at, ExprsRead, unary_ops, binary_of, second_at, list_at, var_at, unary_at, binary_at, call_at, attribute_at, display_at, dict_at, index_at, lambda_at, cons_at}
 use Rattle.exprs.specs.Literals.{LiteralAt}
 use Rattle.exprs.proofs.ExprViews.{expr-deep, expr-inside, view-var, view-unary, view-binary, view-call, view-attribute, view-list, view-dict, view-tuple, view-set, view-tree-set}
@@ -25,10 +25,8 @@ use Rattle.lower_forms.specs.Lowerable.{Relied, of_counts, Lowerable, LowerableM
 use Rattle.lower_forms.specs.Lowerable.{AttributeLowerable, DisplayLowerable, LambdaLowerable, lambda_code}
 use Rattle.opcodes.specs.Codes.{unary_opcode, display_of, held_of}
 use Rattle.opcodes.proofs.Opcodes.{operator-is}
-
-pub and_both : (a b : Bool) → a && b ≡ true → (a ≡ true) × (b ≡ true)
-and_both true b e = (refl, e)
-and_both false b e = absurd (true≢false (sym e))
+use Rattle.parts.proofs.NameLaws.{length-names}
+pub use Rattle.definitions.proofs.Truth.{both as and_both}
 
 -- the expression at p holds what Parts says; its code is e, by the names of the slots, and it ends at q
 pub record Arm (Parts : Type 0) (d : ℕ) (t : List ℕ) (p : ℕ) (e : List Name → Emit) (q : ℕ) : Type 0 where
@@ -69,18 +67,17 @@ module _ (q : ℕ) (x y : Expr) where
       go false true e f = both-logical k and_op (and-of k (omega (arith, ltb-false k 12 e, ltb-true k 13 f)))
       go false false e f = both-logical k or_op (or-of k (omega (arith, ltb-false k 13 f)))
 
-names-count : (t : List ℕ) (n p : ℕ) → length (names_from t n p) ≡ n
-unfolding names_from
-names-count t zero p = refl
-names-count t (suc n) p = ap suc (names-count t n (name_end t p))
-
 pub params-count : (t : List ℕ) (p : ℕ) → length (params_at t p).value ≡ count_at t p
 unfolding params_at
-params-count t p = names-count t (count_at t p) (p + 2)
+params-count t p = length-names t (count_at t p) (p + 2)
 
 pub few-params : (t : List ℕ) (p : ℕ) → ask_params 13 (params_at t p).value ≡ true → count_at t p ≤ 255
 unfolding ask_params if_asked
-few-params t p a = let n = params-count t p in let h = leb-true (length (params_at t p).value) 255 (and_both (all (ask_name 13) (params_at t p).value && if_asked 11 13 (distinct (params_at t p).value)) (leb (length (params_at t p).value) 255) a).1 in omega arith
+few-params t p a =
+    let ps = (params_at t p).value in
+    let n = params-count t p in
+    let h = leb-true (length ps) 255 (and_both (all (ask_name 13) ps && if_asked 11 13 (distinct ps)) (leb (length ps) 255) a).1 in
+    omega arith
 
 few-args : (d : ℕ) (t : List ℕ) (q : ℕ) → ExprsRead d (count_at t q) t (q + 2) → ask_args 13 (list_at d t q).value ≡ true → count_at t q ≤ 255
 unfolding ask_args if_asked

@@ -2,7 +2,6 @@ pub mod ExprArms
 pub mod CallForms
 pub mod Constants
 pub mod Elements
-pub mod TargetForms
 pub mod Unpacking
 pub mod Assigning
 pub mod StmtArms

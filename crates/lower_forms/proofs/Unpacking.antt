@@ -24,7 +24,7 @@ use Rattle.state.proofs.Emission.{base_kept, at-three}
 use Rattle.state.proofs.StmtEmission.{at-copy-first, at_copy, at-target-other, at-unpack-none, at-unpack-more}
 use Rattle.lower_emit.specs.Ops.{special, Plain}
 use Rattle.lower_forms.specs.Elements.{ElementsRead, elements_at, elements_end}
-use Rattle.lower_forms.proofs.TargetForms.{other-form}
+use Rattle.exprs.proofs.OtherForms.{other-form}
 
 -- ---- expressions one after the other
 

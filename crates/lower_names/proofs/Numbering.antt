@@ -275,7 +275,9 @@ module _ (tree made code tables : List ℕ) (c : Counts) (l : Limits) (s : Sound
       omega (arith, inside.strings)
 
   -- zs: the tables with the place p after the strings, and its bucket noted
-  module _ (zs : List ℕ) (r : Renewed string_index_from string_buckets (set tables (strings_from + c.strings) p) zs (noted (region string_index_from string_buckets (set tables (strings_from + c.strings) p)) (bucket_of string_buckets text) c.strings))
+  module _ (zs : List ℕ)
+      (r : Renewed string_index_from string_buckets (set tables (strings_from + c.strings) p) zs
+      (noted (region string_index_from string_buckets (set tables (strings_from + c.strings) p)) (bucket_of string_buckets text) c.strings))
       (room : c.strings < l.strings) where
     above-text : (a n : ℕ) → 1536 ≤ a → a + n ≤ string_index_from → region a n zs ≡ region a n tables
     above-text a n h k = r.below a n k ∙ set-above a n (strings_from + c.strings) p tables (omega (arith, s.limited))

@@ -95,7 +95,7 @@ pub fn emit_stmts(
 
 // The block at `at`.
 #[cycle(emit)]
-pub fn emit_block(
+fn emit_block(
     s: Scope<'_>,
     e: &mut Emitter<'_>,
     at: usize,

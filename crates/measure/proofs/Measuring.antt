@@ -22,13 +22,15 @@ use Rattle.slots.specs.Held.{CapturesAt}
 use Rattle.slots.proofs.Adding.{first-length, name-bytes}
 use Rattle.state.specs.Words.{name_at}
 use Rattle.definitions.specs.Parse.{parse_expr}
-use Rattle.parts.proofs.Laws.{le-or-gt}
+use Rattle.definitions.proofs.Begins.{le-or-gt}
 use Rattle.parts.proofs.LeafNodes.{params-after}
 use Rattle.measure.proofs.Ahead.{node-after}
 use Rattle.exprs.proofs.ExprLaws.{steady-E}
 use Rattle.exprs.proofs.ExprViews.{expr-within, binary-of, and-of, or-of, view-string, view-var, view-unary, view-binary, view-call, view-attribute, view-dict, view-index, view-lambda, view-exprs-none, view-exprs-more}
 use Rattle.slots.proofs.Skipping.{plain_done, number-done}
-use Rattle.slots.proofs.Kinded.{unary-each, seen-literal, seen-display, form-var, form-attribute, form-tuple, form-index, form-other}
+use Rattle.exprs.proofs.Operators.{unary-each}
+use Rattle.exprs.proofs.OtherForms.{other-form}
+use Rattle.slots.proofs.Kinded.{seen-literal, seen-display, form-var, form-attribute, form-tuple, form-index}
 use Rattle.measure.specs.declared.Measure.{Measure}
 use Rattle.measure.specs.Sized.{call_more, binary_more, Sized}
 
@@ -302,4 +304,4 @@ module _ (k : SoFar) (d : ℕ) (t : List ℕ) (p : ℕ) (reads : ExprReads d t p
       by : (b c : Bool) → eqb (get_or t p 0) 13 ≡ b → eqb (get_or t p 0) 16 ≡ c → 1 ≡ call_more k (view (expr_at d t p).value)
       by true c h i = ap (call_more k) (sym (form-tuple d t p reads (eqb-true _ _ h)))
       by false true h i = ap (call_more k) (sym (form-index d t p reads (eqb-true _ _ i)))
-      by false false h i = ap (call_more k) (sym (form-other d t p reads f g (eqb-false _ _ h) (eqb-false _ _ i)))
+      by false false h i = ap (call_more k) (sym (other-form d t p reads f g (eqb-false _ _ h) (eqb-false _ _ i)))

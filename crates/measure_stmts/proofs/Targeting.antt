@@ -15,7 +15,8 @@ use Rattle.definitions.specs.Measured.{SoFar, measure_expr, measure_copy, measur
 use Rattle.parts.specs.Places.{Node, count_at, name_end}
 use Rattle.exprs.specs.ExprAt.{expr_at, exprs_at, ExprReads, ExprsRead, TwoAt, second_at, ListAt, list_at, cons_at, var_at, attribute_at, display_at, index_at}
 use Rattle.exprs.proofs.ExprViews.{expr-within, view-var, view-attribute, view-tuple, view-index, view-exprs-none, view-exprs-more}
-use Rattle.slots.proofs.Kinded.{form-var, form-attribute, form-tuple, form-index, form-other}
+use Rattle.exprs.proofs.OtherForms.{other-form}
+use Rattle.slots.proofs.Kinded.{form-var, form-attribute, form-tuple, form-index}
 use Rattle.measure.specs.declared.Measure.{Measure}
 use Rattle.measure.specs.Sized.{Sized}
 use Rattle.parts.proofs.LeafNodes.{name-after}
@@ -76,7 +77,7 @@ module _ (r : Measure) (d : ℕ) (t : List ℕ) (p : ℕ) (reads : ExprReads d t
       by : (a b : Bool) → eqb (get_or t p 0) 10 ≡ a → eqb (get_or t p 0) 16 ≡ b → measure_target (expr_at d t p).value ≡ 0
       by true b h i = by_form _ (form-attribute d t p reads (eqb-true _ _ h))
       by false true h i = by_form _ (form-index d t p reads (eqb-true _ _ i))
-      by false false h i = by_form _ (form-other d t p reads f (eqb-false _ _ h) g (eqb-false _ _ i))
+      by false false h i = by_form _ (other-form d t p reads f (eqb-false _ _ h) g (eqb-false _ _ i))
 
   pub target_none : (get_or t p 0 ≡ 6 → ⊥) → (get_or t p 0 ≡ 13 → ⊥) → r.size ≡ 0 → r.next ≡ (expr_at d t p).end → Target
   target_none f g a b = record { next_is = b; size_is = a ∙ sym (none-stored f g); most = omega (arith, a, expr-later d t p reads) }
@@ -229,6 +230,6 @@ module _ (r : Measure) (names : List Name) (k : SoFar) (d : ℕ) (t : List ℕ) 
       let end : (expr_at d t q).end ≡ (second_at d t p).end = ap (λ (z : ℕ). (expr_at d t z).end) at in
       record {
         next_is = b ∙ end;
-        size_is = a ∙ ap (λ (v : View). measure_assign v names k value) (sym (form-other d t p two.first e f g h));
+        size_is = a ∙ ap (λ (v : View). measure_assign v names k value) (sym (other-form d t p two.first e f g h));
         most = omega (arith, a, expr-ahead d t p two.first, expr-ahead d t (expr_at d t p).end two.second);
       }

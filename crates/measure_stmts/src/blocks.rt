@@ -1,5 +1,5 @@
 // Statements, branches and blocks. Each answers none where there is no room for the names that begin in it.
-ghost use Rattle.std.specs.Prelude.{◌≡◌, ◌+◌, ◌*◌, ◌≤◌};
+ghost use Rattle.std.specs.Prelude.{◌≡◌, ◌+◌};
 ghost use Rattle.definitions.specs.Measured.{measure_expr, measure_for, measure_stmt, measure_block, measure_branches};
 ghost use Rattle.definitions.specs.Measured.{add_function, add_class, after_stmt, after_block, after_branches, after_methods};
 ghost use Rattle.parts.specs.Places.{name_end};

@@ -1,5 +1,5 @@
 // Targets and assignments: what a value takes to be stored.
-ghost use Rattle.std.specs.Prelude.{◌≡◌, ◌+◌, ◌*◌, ◌≤◌, length};
+ghost use Rattle.std.specs.Prelude.{◌+◌, ◌≤◌, length};
 ghost use Rattle.definitions.specs.Tree.{view};
 ghost use Rattle.definitions.specs.Measured.{measure_expr, measure_target, measure_unpack, measure_assign};
 ghost use Rattle.exprs.specs.ExprAt.{expr_at, ExprReads, TwoAt, second_at, ListAt, list_at};

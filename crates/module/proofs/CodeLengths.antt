@@ -16,8 +16,9 @@ use Rattle.state.specs.State.{spelled, function_of, functions_of, method_of, cla
 use Rattle.module.specs.Sections.{counted, symbol_bytes, string_bytes, functions_bytes, classes_bytes, constant_bytes}
 use Rattle.writing.proofs.Begun.{joined}
 use Rattle.module.proofs.Pieces.{counted-pieces, counted-words, counted-map, counted-room}
-use Rattle.module.proofs.Encoding.{first-is, first_small, second_is, second-small, length-encode}
+use Rattle.module.proofs.Encoding.{first-is, first_small, second_is, second-small}
 use Rattle.module.proofs.Lengths.{Small, name-short, text-short, spelled-short, length-name, length-text}
+use Rattle.definitions.proofs.Lengths.{length-encode}
 
 pub region-short : (a n : ℕ) (xs : List ℕ) → length (region a n xs) ≤ n
 unfolding region
@@ -106,8 +107,8 @@ module _ (tree fin : List ℕ) where
     pub length-function : 7 + length (counted (map (code_piece t) ws)) ≡ length (get_or (function_elements hs ks) i [])
     unfolding joined
     length-function =
-        let r :
-        length (be 2 (get_or hs i 0 / 65536) ++ joined (be 1 (get_or hs i 0 / 256 % 256) ∷ be 2 (get_or hs i 0 % 256) ∷ be 2 (height_number (instrs_of t ws)) ∷ counted (map (code_piece t) ws) ∷ [])) ≡ 7 + length (counted (map (code_piece t) ws)) =
+        let h = get_or hs i 0 in let c = counted (map (code_piece t) ws) in let n = height_number (instrs_of t ws) in
+        let r : length (be 2 (h / 65536) ++ joined (be 1 (h / 256 % 256) ∷ be 2 (h % 256) ∷ be 2 n ∷ c ∷ [])) ≡ 7 + length c =
         simp (length-append, length-be) (omega arith) in
         sym (ap length (function-pieces refl) ∙ r)
 

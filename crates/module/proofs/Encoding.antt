@@ -2,23 +2,23 @@
 use mathlib.Core.Path.{◌≡◌, refl, sym, ap, ◌∙◌, subst}
 use mathlib.Core.Bool.{Bool, true, false, ◌&&◌}
 use mathlib.Core.List.{List, [], ◌∷◌, ◌++◌, map, append-nil}
-use Prim.Native.Nat.{ℕ, zero, suc, ◌+◌, ◌/◌, ◌%◌, ◌^◌, ◌≤◌, ◌<◌}
+use Prim.Native.Nat.{ℕ, zero, suc, ◌/◌, ◌%◌, ◌^◌, ◌≤◌, ◌<◌}
 use native.Mathlib.Omega.{arith}
 use lib.Dec.{eqb, leb, ltb}
 use mir.Syntax.{w16, w32}
 use mir.Val.{of_z, to_z}
-use lib.ListN.{length, get_or, set, length-append, get_or-map}
+use lib.ListN.{length, get_or, set, get_or-map}
 use borrow.Author.Tests.{eqb-true, eqb-false, eq-eqb, ne_eqb, le-leb, lt-leb}
 use Rattle.definitions.specs.Bytes.{be}
 use Rattle.definitions.specs.Instruction.{Instr, instr, ConstI64, Row, no_row, instruction_table, row_of, first_width, second_width, encode}
 use Rattle.definitions.specs.Reader.{is_jump}
 use Rattle.definitions.proofs.Rows.{jump-is}
 use Rattle.definitions.proofs.Truth.{left, right, at_most}
-use Rattle.definitions.proofs.BytesWritten.{length-be}
 use Rattle.state.specs.Words.{op_of, first_of, second_of, widened, operand_of, number_at, instr_of}
 use Rattle.widths.proofs.Laws.{no-operands}
 use Rattle.writing.specs.Wrote.{Wrote}
 use Rattle.writing.proofs.Begun.{joined, Begun, begun_first, wrote-byte}
+use Rattle.definitions.proofs.Lengths.{length-encode}
 
 -- ---- the tables
 
@@ -115,10 +115,6 @@ widened-is a h = go (ltb a 32768) refl
     go false e = rw (e, widened) (omega arith)
 
 -- ---- an instruction's bytes
-
-pub length-encode : (i : Instr) → length (encode i) ≡ 1 + first_width i.op + second_width i.op
-unfolding encode
-length-encode i = simp (length-append, length-be) (omega arith)
 
 pub encode-pieces : (i : Instr) → encode i ≡ (i.op ∷ []) ++ joined (be (first_width i.op) i.a ∷ be (second_width i.op) i.b ∷ [])
 unfolding encode joined

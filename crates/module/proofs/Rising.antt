@@ -1,15 +1,15 @@
 -- The heights of words: what each leaves, and the number of all. Assumes nothing.
-use Prim.Native.Nat.{ℕ, zero, suc, ◌+◌, ◌-◌, ◌*◌, ◌/◌, ◌%◌, ◌^◌, ◌≤◌, ◌<◌, max}
-use mathlib.Core.Path.{◌≡◌, refl, sym, ap, ap₂, ◌∙◌, subst}
-use mathlib.Core.Bool.{Bool, true, false, ◌||◌}
-use mathlib.Core.List.{List, [], ◌∷◌, map}
+use Prim.Native.Nat.{ℕ, ◌+◌, ◌-◌, ◌*◌, ◌/◌, ◌%◌, ◌^◌, ◌≤◌, ◌<◌, max}
+use mathlib.Core.Path.{◌≡◌, refl, sym, ap, ap₂, ◌∙◌}
+use mathlib.Core.Bool.{Bool, true, false}
+use mathlib.Core.List.{List, ◌∷◌}
 use native.Mathlib.Omega.{arith}
 use native.Mathlib.Numerals.{add-one}
 use lib.Dec.{eqb, leb}
 use lib.ListN.{length, get_or, drop, drop_of_length-le}
 use lib.Seq.{drop-cons}
 use borrow.Author.Tests.{ne_eqb, eqb-true, eqb-false, leb-true, leb-false}
-use Rattle.definitions.specs.Instruction.{Instr, instr, instruction_table, row_of, Flow, straight, jump, returns, question, flow}
+use Rattle.definitions.specs.Instruction.{Instr, instr, instruction_table, row_of, Flow, flow}
 use Rattle.definitions.specs.Stack.{pops, pushes, height_after, following, tallest, height_number}
 use Rattle.definitions.proofs.Flows.{flow-jump, flow-returns}
 use Rattle.definitions.proofs.Rows.{chosen, flow-is}

@@ -95,6 +95,7 @@ impl Listed for Constants<'_> {
         self.entries.len()
     }
 
+    // The same at every place.
     fn size_at(&self, _i: usize) -> usize {
         2
     }

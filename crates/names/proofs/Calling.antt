@@ -2,7 +2,7 @@
 use Prim.Native.Nat.{ℕ, ◌/◌, ◌^◌, ◌<◌}
 use denote.Ref.{Bor}
 use mathlib.Core.Path.{◌≡◌, refl, sym, ap, ◌∙◌}
-use mathlib.Core.Bool.{Bool, true, false, cond, ◌&&◌}
+use mathlib.Core.Bool.{Bool, true, false, cond}
 use mathlib.Core.Option.{Option, none, some}
 use mathlib.Core.List.{List, [], ◌∷◌, map}
 use native.Mathlib.Omega.{arith}
@@ -24,6 +24,7 @@ use Rattle.state.specs.declared.Limits.{Limits}
 use Rattle.state.proofs.Regions.{region-length}
 use Rattle.names.specs.Sought.{place_in}
 use Rattle.names.proofs.Finding.{step, position-cons}
+use Rattle.definitions.proofs.Truth.{left, right}
 
 -- ---- built-ins
 
@@ -58,16 +59,8 @@ found-builtin x bs r e f = by_row r ∙ ap (λ (o : Found.Option (Bor (List ℕ)
 ids-below : (bs : List Builtin) (x : Name) (i : ℕ) → all (λ (b : Builtin). ltb b.id 15) bs ≡ true → builtin_in bs x ≡ some i → i < 15
 unfolding builtin_in all
 ids-below [] x i t e = let z : ◌≡◌ {A = ℕ} 0 1 = cc in absurd (omega arith)
-ids-below (b ∷ bs) x i t e = go (same b.name x) refl (ids-below bs x i (and_right (ltb b.id 15) _ t)) (ltb-true b.id 15 (and_left (ltb b.id 15) _ t))
+ids-below (b ∷ bs) x i t e = go (same b.name x) refl (ids-below bs x i (right (ltb b.id 15) _ t)) (ltb-true b.id 15 (left (ltb b.id 15) _ t))
   where
-    and_left : (a c : Bool) → (a && c) ≡ true → a ≡ true
-    and_left true c h = refl
-    and_left false c h = h
-
-    and_right : (a c : Bool) → (a && c) ≡ true → c ≡ true
-    and_right true c h = h
-    and_right false c h = let z : ◌≡◌ {A = ℕ} 0 1 = cc in absurd (omega arith)
-
     go : (t : Bool) → same b.name x ≡ t → (builtin_in bs x ≡ some i → i < 15) → b.id < 15 → i < 15
     go true q f h = let r : some b.id ≡ some i = sym (builtin-by b bs x true q) ∙ e in let s : b.id ≡ i = cc in omega arith
     go false q f h = f (sym (builtin-by b bs x false q) ∙ e)

@@ -1,11 +1,10 @@
 -- An index of names: what a bucket tells of a name, and what a bucket that is set leaves. Assumes nothing.
 use Prim.Native.Nat.{ℕ, zero, suc, ◌+◌, ◌-◌, ◌%◌, ◌≤◌, ◌<◌}
 use mathlib.Core.Path.{◌≡◌, refl, sym, ap, subst, ◌∙◌}
-use mathlib.Core.Bool.{Bool, true, false, ◌&&◌}
+use mathlib.Core.Bool.{Bool, true, false}
 use mathlib.Core.Option.{Option, some}
 use mathlib.Core.List.{List, [], ◌∷◌, ◌++◌, map}
 use native.Mathlib.Omega.{arith}
-use native.Mathlib.Nat.{mod-lt}
 use lib.Dec.{ltb, eqb}
 use lib.ListN.{length, take, drop, get_or, set, length-take, length-drop}
 use lib.Seq.{take_all, get_or-set_same, get_or-set_other, get_or-take}
@@ -17,29 +16,16 @@ use Rattle.state.specs.Index.{hash_of, bucket_of, Covered, none_covered, covered
 use Rattle.state.specs.State.{names_at, slots_from, slot_names, Slots}
 use Rattle.names.specs.Sought.{shifted, sought_from}
 use Rattle.names.proofs.Finding.{step, position-cons, shifted-zero, step_shifted, names-length}
+use Rattle.state.proofs.Index.{bucket-below}
+use Rattle.definitions.proofs.MethodOrder.{same-eq}
 
 -- ---- the hash
-
-pub bucket-below : (size : ℕ) (x : Name) → 0 < size → bucket_of size x < size
-unfolding bucket_of
-bucket-below size x h = mod-lt (hash_of x) h
 
 pub bucket-of : (size h : ℕ) (x : Name) → h ≡ hash_of x → h % size ≡ bucket_of size x
 unfolding bucket_of
 bucket-of size h x e = ap (λ (k : ℕ). k % size) e
 
 -- ---- a name sought
-
-pub same-equal : (x y : Name) → same x y ≡ true → x ≡ y
-unfolding same
-same-equal [] [] e = refl
-same-equal [] (d ∷ y) e = let z : ◌≡◌ {A = ℕ} 0 1 = cc in absurd (omega arith)
-same-equal (c ∷ x) [] e = let z : ◌≡◌ {A = ℕ} 0 1 = cc in absurd (omega arith)
-same-equal (c ∷ x) (d ∷ y) e = go (eqb c d) refl e (λ f. same-equal x y f)
-  where
-    go : (b : Bool) → eqb c d ≡ b → (b && same x y) ≡ true → (same x y ≡ true → x ≡ y) → c ∷ x ≡ d ∷ y
-    go true h f q = let p = eqb-true c d h in let r = q f in (λ i. p i ∷ r i)
-    go false h f q = let z : ◌≡◌ {A = ℕ} 0 1 = cc in absurd (omega arith)
 
 place-other : (x y : Name) (ys : List Name) → same x y ≡ false → position (same x) (y ∷ ys) ≡ step false (position (same x) ys)
 place-other x y ys e = position-cons (same x) y ys ∙ ap (λ (b : Bool). step b (position (same x) ys)) e
@@ -56,7 +42,7 @@ module _ (size : ℕ) (bs : List ℕ) (x : Name) where
     where
       go : (b : Bool) → same x y ≡ b → position (same x) ys ≡ shifted s (position (same x) (drop s ys)) → position (same x) (y ∷ ys) ≡ shifted (suc s) (position (same x) (drop s ys))
       go true f r =
-          let e = same-equal x y f in
+          let e = same-eq x y f in
           let a : 0 < bucket = subst (λ (z : Name). 0 < get_or bs (bucket_of size z) 0) (sym e) more in
           let b : bucket ≤ j + 1 = subst (λ (z : Name). get_or bs (bucket_of size z) 0 ≤ j + 1) (sym e) most in
           absurd (h 0 (omega arith) a (omega arith))
@@ -86,7 +72,9 @@ map-drop f (suc n) (x ∷ xs) = map-drop f n xs
 pub sought-at : (t ps : List ℕ) (k s : ℕ) (x : Name) (o : Option ℕ) → s ≡ start_of k (length ps) → o ≡ position (same x) (names_at t (take (length ps - s) (drop s ps))) → shifted s o ≡ sought_from k x (names_at t ps)
 unfolding sought_from names_at
 sought-at t ps k s x o e f =
-    let r : o ≡ position (same x) (drop s (names_at t ps)) = f ∙ ap (λ (w : List ℕ). position (same x) (names_at t w)) (take_all (length ps - s) (drop s ps) (omega (arith, length-drop s ps))) ∙ ap (position (same x)) (map-drop (name_at t) s ps) in
+    let r : o ≡ position (same x) (drop s (names_at t ps)) = f
+    ∙ ap (λ (w : List ℕ). position (same x) (names_at t w)) (take_all (length ps - s) (drop s ps) (omega (arith, length-drop s ps)))
+    ∙ ap (position (same x)) (map-drop (name_at t) s ps) in
     ap (shifted s) r ∙ ap (λ (j : ℕ). shifted j (position (same x) (drop j (names_at t ps)))) (e ∙ ap (start_of k) (sym (names-length t ps)))
 
 pub sought-lt : (t ps : List ℕ) (s k : ℕ) (x : Name) → some k ≡ position (same x) (names_at t (take (length ps - s) (drop s ps))) → s + k < length ps

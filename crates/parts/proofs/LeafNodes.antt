@@ -10,10 +10,11 @@ use lib.Seq.{drop-drop}
 use Rattle.definitions.specs.Bytes.{Name, Parsed, got, failed, Parser, ◌>>=◌, byte, field, counted, list_of, name, text}
 use Rattle.definitions.specs.Parse.{params}
 use Rattle.parts.specs.Places.{Node, node, node_at, is_got, Reads, count_at, Counted, eight_at, name_bytes, name_end, There, names_from, names_end, AllThere, ParamsAt, params_at, TextAt, text_at}
-use Rattle.parts.proofs.Laws.{le-or-gt, follow, bind_is}
+use Rattle.parts.proofs.Laws.{follow, bind_is}
 use Rattle.parts.proofs.LeafLaws.{field-short, field-long, field-two, bytes-long, bytes-short, name-there}
 use Rattle.parts.proofs.NameLaws.{name-or, Listed, listed, unlisted, names-read}
 use Rattle.parts.proofs.Nodes.{Goes, not-got, got-node, first_reads, goes-got}
+use Rattle.definitions.proofs.Begins.{le-or-gt}
 
 -- ---- counts
 

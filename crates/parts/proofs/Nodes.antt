@@ -10,7 +10,8 @@ use lib.ListN.{length, drop, get_or, length-drop, get_or-eq_default, length-map}
 use Rattle.definitions.specs.Bytes.{Parsed, got, failed, Parser, ◌>>=◌, give, unread, counted}
 use Rattle.definitions.specs.Parse.{by_kind, choice}
 use Rattle.parts.specs.Places.{Node, node, node_of, node_at, is_got, Reads}
-use Rattle.parts.proofs.Laws.{Went, went, lost, Steady, follow, bind_is, at_byte, at-end, le-or-gt, kind-of, kind-none, rest-place, steady-counted}
+use Rattle.parts.proofs.Laws.{Went, went, lost, Steady, follow, bind_is, at_byte, at-end, kind-of, kind-none, rest-place, steady-counted}
+use Rattle.definitions.proofs.Begins.{le-or-gt}
 
 -- P at p goes on as Q at q
 pub record Goes {A : Type 0} (z : A) (P : Parser A) (t : List ℕ) (p : ℕ) (Q : Parser A) (q : ℕ) : Type 0 where

@@ -7,25 +7,21 @@ use mathlib.Core.Logic.{◌⊎◌, inl, inr, ⊎_elim}
 use native.Mathlib.Omega.{arith}
 use native.Mathlib.Numerals.{add-one}
 use native.Mathlib.Nat.{zero-div}
-use lib.Dec.{eqb}
 use lib.ListN.{length, get_or, set, length-set, replicate, length-replicate, get_or-replicate, get_or-eq_default}
 use lib.Seq.{get_or-set_same, get_or-set_other}
-use borrow.Author.Tests.{eq-eqb, ne_eqb, eqb-true, eqb-false}
-use Rattle.definitions.specs.Bytes.{Name, same, position, member, all}
+use borrow.Author.Tests.{eq-eqb, ne_eqb}
+use Rattle.definitions.specs.Bytes.{Name, same, member, all}
 use Rattle.definitions.specs.Wellformed.{distinct}
 use Rattle.parts.specs.Places.{name_bytes, name_end, There, names_from, names_end, AllThere}
 use Rattle.parts.specs.Search.{turn_of, below, reach, Entry, Met, Searches, Puts}
 use Rattle.parts.specs.declared.distinct.Put.{Put}
 use Rattle.parts.specs.declared.distinct.Put.TheVariants.{Twice, New}
-use Rattle.parts.proofs.Laws.{le-or-gt}
-use Rattle.parts.proofs.NameLaws.{member-cons, there-first, there-rest, from_more, from-none}
-
-equal-or : (a b : ℕ) → (a ≡ b) ⊎ (a ≡ b → ⊥)
-equal-or a b = go (eqb a b) refl
-  where
-    go : (x : Bool) → eqb a b ≡ x → (a ≡ b) ⊎ (a ≡ b → ⊥)
-    go true e = inl (eqb-true a b e)
-    go false e = inr (eqb-false a b e)
+use Rattle.parts.proofs.NameLaws.{there-first, there-rest, from_more, from-none}
+use Rattle.definitions.proofs.Begins.{le-or-gt}
+use Rattle.definitions.proofs.Captured.{member-cons, member-nil, same_refl}
+use Rattle.definitions.proofs.MethodOrder.{same-eq}
+use Rattle.std.proofs.Math.Bool.{or_assoc, or-false}
+use Rattle.std.proofs.lemmas.Bool.{cases_eq}
 
 -- ---- turns
 
@@ -39,22 +35,6 @@ turn_in x y k w e h = (ap (λ (b : ℕ). b / 2 ^ (k % 8) % 2) (h ∙ ap (λ (z :
 
 -- ---- equal names
 
-pub same-eq : (a b : List ℕ) → same a b ≡ true → a ≡ b
-unfolding same
-same-eq [] [] e = refl
-same-eq [] (y ∷ ys) e = absurd (true≢false (sym e))
-same-eq (x ∷ xs) [] e = absurd (true≢false (sym e))
-same-eq (x ∷ xs) (y ∷ ys) e = go (eqb x y) refl e (same-eq xs ys)
-  where
-    go : (b : Bool) → eqb x y ≡ b → (b && same xs ys) ≡ true → (same xs ys ≡ true → xs ≡ ys) → x ∷ xs ≡ y ∷ ys
-    go true q h i = let u = eqb-true x y q in let v = i h in cc
-    go false q h i = absurd (true≢false (sym h))
-
-pub same_refl : (a : List ℕ) → same a a ≡ true
-unfolding same
-same_refl [] = refl
-same_refl (x ∷ xs) = rw (eq-eqb x x refl) (same_refl xs)
-
 same-sym : (a b : List ℕ) → same a b ≡ same b a
 same-sym a b = go (same a b) (same b a) refl refl
   where
@@ -65,21 +45,9 @@ same-sym a b = go (same a b) (same b a) refl refl
 
 -- ---- members of a list with one more at its end
 
-or_assoc : (a b c : Bool) → (a || (b || c)) ≡ (a || b || c)
-or_assoc true b c = refl
-or_assoc false b c = refl
-
-member-nil : (x : Name) → member x [] ≡ false
-unfolding member position
-member-nil x = refl
-
-or-false : (a : Bool) → (a || false) ≡ a
-or-false true = refl
-or-false false = refl
-
 pub member-end : (y x : Name) (xs : List Name) → member y (xs ++ x ∷ []) ≡ (member y xs || same y x)
 member-end y x [] = member-cons y x [] ∙ ap (λ (b : Bool). same y x || b) (member-nil y) ∙ or-false (same y x) ∙ sym (ap (λ (b : Bool). b || same y x) (member-nil y))
-member-end y x (z ∷ zs) = member-cons y z (zs ++ x ∷ []) ∙ ap (λ (b : Bool). same y z || b) (member-end y x zs) ∙ or_assoc (same y z) (member y zs) (same y x) ∙ sym (ap (λ (b : Bool). b || same y x) (member-cons y z zs))
+member-end y x (z ∷ zs) = member-cons y z (zs ++ x ∷ []) ∙ ap (λ (b : Bool). same y z || b) (member-end y x zs) ∙ sym (or_assoc (same y z) (member y zs) (same y x)) ∙ sym (ap (λ (b : Bool). b || same y x) (member-cons y z zs))
 
 member-kept : (y x : Name) (xs : List Name) → member y xs ≡ true → member y (xs ++ x ∷ []) ≡ true
 member-kept y x xs h = member-end y x xs ∙ ap (λ (b : Bool). b || same y x) h
@@ -196,7 +164,7 @@ module _ (t T : List ℕ) (root : ℕ) (seen : List Name) (x : Name) (k p : ℕ)
       entries-new s l = ⊎_elim
           (λ (e : s ≡ slot). subst (Entry t (seen ++ x ∷ [])) (sym (ap (λ (i : ℕ). get_or (set T slot at) i 0) e ∙ get_or-set_same T slot at 0 inside)) entry_new)
           (λ (e : s ≡ slot → ⊥). let o = get_or-set_other T slot s at 0 e in subst (Entry t (seen ++ x ∷ [])) (sym o) (entry_kept (get_or T s 0) (h.entries s (let z = o in omega arith))))
-          (equal-or s slot)
+          (cases_eq s slot)
 
       met-kept : (y : Name) → Met t T root y → Met t (set T slot at) root y
       met-kept y m = let e = reach-set T root y slot at empty m.depth m.some in

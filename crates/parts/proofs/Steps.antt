@@ -16,7 +16,8 @@ use Rattle.definitions.specs.Wellformed.{if_asked, is_name, is_iterator, distinc
 use Rattle.questions.specs.declared.Question.{Question}
 use Rattle.questions.specs.declared.Question.TheVariants.{TreeLayout}
 use Rattle.questions.specs.Numbers.{number}
-use Rattle.parts.specs.Judge.{Passed, Next, Is, Placed, here, later, least, judged, and_then, with_number, number_at, operator_at, guarded, unasked, ask_text, judge_operator, judge_name, judge_names, judge_params, judge_head, suited, fits, filled, holds}
+use Rattle.parts.specs.Judge.{Passed, Next, Is, Placed, here, later, least, judged, and_then, with_number, number_at, operator_at, guarded, unasked}
+use Rattle.parts.specs.Judge.{ask_text, judge_operator, judge_name, judge_names, judge_params, judge_head, suited, fits, filled, holds}
 use Rattle.parts.specs.Asked.{asks, place, stand}
 use Rattle.parts.specs.Judged.{passed_by, Judged, counted_by, Counts, Went, Short, ReadsByte, Stands, answered, Rules, Settles}
 use Rattle.parts.specs.Places.{count_at, Counted, name_bytes, There, names_from, AllThere}
@@ -24,9 +25,10 @@ use Rattle.parts.specs.declared.asked.BlockQuestion.{BlockQuestion}
 use Rattle.parts.specs.declared.asked.BlockQuestion.TheVariants.{Names, IteratorNames, Strings, Loops, Targets, EmptyTargets, Parameters, Init, ListLengths}
 use Rattle.parts.specs.declared.checker.Checker.{Checker}
 use Rattle.parts.specs.declared.roles.Role.{Role}
-use Rattle.parts.proofs.Laws.{then_next, then-refused, with-number, with-unread, le-or-gt}
+use Rattle.parts.proofs.Laws.{then_next, then-refused, with-number, with-unread}
 use Rattle.parts.proofs.LeafLaws.{noted-yes, noted-low, noted-no, eight-short, eight-long, number_short, number-long, operator-end, guard-yes, guard-no, name-at-none, name-at-short, name-whole, text-unread, text-short, text-whole}
 use Rattle.parts.proofs.NameLaws.{params-law, params-close, name-at-is, names-there, names-none, names_more, head-close}
+use Rattle.definitions.proofs.Begins.{le-or-gt}
 
 -- ---- part after part
 

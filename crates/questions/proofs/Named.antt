@@ -4,7 +4,10 @@ use mathlib.Core.Path.{◌≡◌, refl, sym, ap, ◌∙◌}
 use mathlib.Core.List.{List, [], ◌∷◌}
 use lib.ListN.{get_or}
 use Rattle.questions.specs.declared.Question.{Question}
-use Rattle.questions.specs.declared.Question.TheVariants.{WorkAreas, TreeSize, TreeCount, TreeVersion, TreeLayout, Depth, Names, Strings, Loops, Targets, Parameters, Init, ListLengths, Slots, Limits, ModuleRoom, ModuleSize, ModuleVersion, ModuleLayout, Numbers, Jumps, Function, Answers, EventRoom, ListingRoom, SheetRoom, IteratorNames, Place, AnswerRoom, EmptyTargets, Heights, CutRoom}
+use Rattle.questions.specs.declared.Question.TheVariants.{WorkAreas, TreeSize, TreeCount, TreeVersion, TreeLayout, Depth, Names, Strings, Loops}
+use Rattle.questions.specs.declared.Question.TheVariants.{Targets, Parameters, Init, ListLengths, Slots, Limits, ModuleRoom, ModuleSize}
+use Rattle.questions.specs.declared.Question.TheVariants.{ModuleVersion, ModuleLayout, Numbers, Jumps, Function, Answers, EventRoom, ListingRoom}
+use Rattle.questions.specs.declared.Question.TheVariants.{SheetRoom, IteratorNames, Place, AnswerRoom, EmptyTargets, Heights, CutRoom}
 use Rattle.questions.specs.Numbers.{number}
 
 -- the questions at their numbers; the first where no question has the number

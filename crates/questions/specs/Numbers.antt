@@ -1,7 +1,10 @@
 -- The questions by their numbers.
 use Rattle.std.specs.Prelude.{ℕ}
 use Rattle.questions.specs.declared.Question.{Question}
-use Rattle.questions.specs.declared.Question.TheVariants.{WorkAreas, TreeSize, TreeCount, TreeVersion, TreeLayout, Depth, Names, Strings, Loops, Targets, Parameters, Init, ListLengths, Slots, Limits, ModuleRoom, ModuleSize, ModuleVersion, ModuleLayout, Numbers, Jumps, Function, Answers, EventRoom, ListingRoom, SheetRoom, IteratorNames, Place, AnswerRoom, EmptyTargets, Heights, CutRoom}
+use Rattle.questions.specs.declared.Question.TheVariants.{WorkAreas, TreeSize, TreeCount, TreeVersion, TreeLayout, Depth, Names, Strings, Loops}
+use Rattle.questions.specs.declared.Question.TheVariants.{Targets, Parameters, Init, ListLengths, Slots, Limits, ModuleRoom, ModuleSize}
+use Rattle.questions.specs.declared.Question.TheVariants.{ModuleVersion, ModuleLayout, Numbers, Jumps, Function, Answers, EventRoom, ListingRoom}
+use Rattle.questions.specs.declared.Question.TheVariants.{SheetRoom, IteratorNames, Place, AnswerRoom, EmptyTargets, Heights, CutRoom}
 
 -- the number of each question
 unfoldable pub number : Question → ℕ

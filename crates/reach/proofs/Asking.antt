@@ -22,12 +22,13 @@ use Rattle.questions.specs.declared.Question.TheVariants.{WorkAreas, Place, Answ
 use Rattle.questions.specs.Numbers.{number}
 use Rattle.reader.specs.View.{function_in, CodeAt, instructions_of}
 use Rattle.reader.proofs.Encoding.{Small}
-use Rattle.run.proofs.Calling.{part-code, part_count, part-coded, when-refused, when-accepted, function-known}
+use Rattle.run.proofs.Calling.{part-code, part_count, part-coded, function-known}
 use Rattle.tally.specs.Walk.{Values}
 use Rattle.tally.specs.Counts.{Tallies}
 use Rattle.tally.specs.declared.Tallied.{Tallied}
 use Rattle.tally.proofs.Walking.{reads-list, reads-are}
 use Rattle.reach.specs.Reaching.{said, Says, Gives, Seekable}
+use Rattle.reader.proofs.Finding.{when-refused, when-accepted}
 
 -- a refusal leaves the buffer
 refuses : {s : Answer (List Instr)} {q : Question} {place : ℕ} {out : List ℕ} → s ≡ refused (number q) → Says (Err q) s place out out

@@ -9,7 +9,6 @@ use borrow.Author.Tests.{ltb-true}
 use lib.ListN.{length, drop}
 use Rattle.definitions.specs.Bytes.{Parsed, ◌>>=◌, give, byte, field, counted, list_of, checked}
 use Rattle.definitions.specs.Instruction.{Instr, instr, first_width, second_width, instruction_table, is_instruction}
-use Rattle.definitions.specs.Tables.{Function}
 use Rattle.definitions.specs.Reader.{instruction, function_record}
 use Rattle.reader.specs.View.{skip_at, found_at, number_at}
 use Rattle.reader.specs.Asks.{ask_op, ask_code, ask_head, ask_function}

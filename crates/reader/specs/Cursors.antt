@@ -44,7 +44,18 @@ Skips p r c d = Steps (skip_at p) r c d
 abbrev pub Finds : Option Instruction → Cursor → Cursor → Type 0
 Finds r c d = MatchOption r (found_at c.bytes.now c.at ≡ None) (λ i. (found_at c.bytes.now c.at ≡ Some i) × (d.bytes.now ≡ c.bytes.now) × (d.at ≡ i.next))
 
--- the head of a function's record where the bytes have it, and d stands after it
+-- the head of a function's record: its bytes, and where the number of slots and the count of instructions stand in it
+abbrev pub head_size : ℕ
+head_size = 9
+
+abbrev pub slots_place : ℕ
+slots_place = 3
+
+abbrev pub count_place : ℕ
+count_place = 7
+
+-- that head where the bytes have it, and d stands after it
 abbrev pub Headed : Option Head → Cursor → Cursor → Type 0
-Headed r c d = MatchOption r (Short 9 c)
-    (λ h. Went 9 c d × (h.name ≡ number_at 2 c.bytes.now c.at) × (h.slots ≡ number_at 2 c.bytes.now (c.at + 3)) × (h.count ≡ number_at 2 c.bytes.now (c.at + 7)))
+Headed r c d = MatchOption r (Short head_size c)
+    (λ h. Went head_size c d × (h.name ≡ number_at 2 c.bytes.now c.at)
+    × (h.slots ≡ number_at 2 c.bytes.now (c.at + slots_place)) × (h.count ≡ number_at 2 c.bytes.now (c.at + count_place)))

@@ -28,7 +28,8 @@ use Rattle.parts.proofs.LeafNodes.{name-after, params-after}
 use Rattle.exprs.specs.ExprAt.{expr_at, ExprReads}
 use Rattle.exprs.proofs.ExprLaws.{steady-E}
 use Rattle.tree.specs.StmtAt.{stmt_at, block_at, stmts_at, branches_at, methods_at, attributes_at, StmtReads, BlockReads, StmtsRead, BranchesRead, MethodsRead}
-use Rattle.tree.specs.StmtAt.{expr_stmt_at, return_at, assign_at, BranchAt, body_at, IfAt, elifs_at, if_at, while_at, ForAt, for_at, when_at, else_at, DefAt, def_block_at, def_at, method_at, ClassAt, class_methods_at, class_at, cons_at, TreeAt}
+use Rattle.tree.specs.StmtAt.{expr_stmt_at, return_at, assign_at, BranchAt, body_at, IfAt, elifs_at, if_at, while_at, ForAt, for_at, when_at}
+use Rattle.tree.specs.StmtAt.{else_at, DefAt, def_block_at, def_at, method_at, ClassAt, class_methods_at, class_at, cons_at, TreeAt}
 use Rattle.tree.proofs.StmtLaws.{steady-attribute, steady-S, steady-B}
 use Rattle.parts.proofs.Laws.{steady-list_of}
 use Rattle.tree.proofs.StmtViews.{view-break, view-continue, view-pass, view-expr, view-return, view-assign, view-if, view-while, view-for, view-def, view-class}

@@ -31,6 +31,7 @@ use Rattle.run.specs.Pass.{ending_number, counts, said, Called, Finishing, Passe
 use Rattle.run.proofs.Storing.{copied-written}
 use Rattle.definitions.proofs.ReadFits.{module-short}
 use Rattle.definitions.proofs.Begins.{Rest, takes-counted, takes-instruction}
+use Rattle.reader.proofs.Finding.{when-refused, when-accepted}
 
 -- ---- question 23
 
@@ -165,14 +166,6 @@ module _ (t : List ℕ) (f p s n : ℕ) (c : CodeAt t f p s n) (part : List ℕ)
   part-coded small = part-stands t p s n c.function.code c.read part e c.count c.ends c.land c.few (module-short t c.tables c.module-is) small
 
 -- ---- the call
-
-pub when-refused : {A B : Type 0} (x : Answer A) (f : A → Answer B) (q : ℕ) → x ≡ refused q → when_accepted x f ≡ refused q
-unfolding when_accepted
-when-refused x f q e = ap (λ (y : Answer _). when_accepted y f) e
-
-pub when-accepted : {A B : Type 0} (x : Answer A) (f : A → Answer B) (a : A) → x ≡ accepted a → when_accepted x f ≡ f a
-unfolding when_accepted
-when-accepted x f a e = ap (λ (y : Answer _). when_accepted y f) e
 
 pub function-known : {t : List ℕ} {f p s n : ℕ} (c : CodeAt t f p s n) → function_in t f ≡ accepted c.function
 unfolding function_in

@@ -1,7 +1,7 @@
 -- From where a run stands to where it comes: what lies between, and what is left. Assumes nothing.
 use Prim.Native.Nat.{ℕ, zero, suc, ◌+◌, ◌-◌, ◌<◌, ◌≤◌}
 use mathlib.Core.Path.{◌≡◌, refl, sym, ap, ap₂, ◌∙◌}
-use mathlib.Core.List.{List, [], ◌++◌, append_assoc}
+use mathlib.Core.List.{List, [], ◌++◌}
 use native.Mathlib.Omega.{arith}
 use lib.ListN.{length, take, drop, get_or, length-append}
 use lib.Seq.{drop-cons}
@@ -15,16 +15,7 @@ use Rattle.run.specs.Tables.{Coded, flow_at}
 use Rattle.run.specs.Pass.{between, Stands, Went, NoFit, onward, Leads, start}
 use Rattle.run.proofs.Coding.{between_is}
 use Rattle.run.proofs.Storing.{copied-then, copied_none}
-
-pub after-add : (a b a' b' : ℕ) (e e' : List ℕ) (r : Ran) → after a b e (after a' b' e' r) ≡ after (a + a') (b + b') (e ++ e') r
-after-add a b a' b' e e' r =
-    let e1 : a + (a' + r.steps) ≡ a + a' + r.steps = omega arith in
-    let e2 : b + (b' + r.used) ≡ b + b' + r.used = omega arith in
-    let e3 : e ++ (e' ++ r.events) ≡ (e ++ e') ++ r.events = sym (append_assoc e e' r.events) in
-    λ z. record { ending = r.ending; steps = e1 z; used = e2 z; events = e3 z }
-
-pub after_none : (r : Ran) → r ≡ after 0 0 [] r
-after_none r = let e1 : r.steps ≡ 0 + r.steps = omega arith in let e2 : r.used ≡ 0 + r.used = omega arith in λ z. record { ending = r.ending; steps = e1 z; used = e2 z; events = r.events }
+use Rattle.definitions.proofs.Follow.{after_none, after-after}
 
 pub after-as : (a b a' b' : ℕ) (e e' : List ℕ) (r r' : Ran) → a ≡ a' → b ≡ b' → e ≡ e' → r ≡ r' → after a b e r ≡ after a' b' e' r'
 after-as a b a' b' e e' r r' p q s t = λ z. after (p z) (q z) (s z) (t z)
@@ -38,7 +29,7 @@ leads-on whole middle tail s u v before mid left a b =
     record {
       events = a.events ++ b.events;
       is = a.is ∙ ap (after (u.steps - s.steps) (u.used - s.used) a.events) b.is
-          ∙ after-add (u.steps - s.steps) (u.used - s.used) (v.steps - u.steps) (v.used - u.used) a.events b.events tail
+          ∙ after-after (u.steps - s.steps) (u.used - s.used) (v.steps - u.steps) (v.used - u.used) a.events b.events tail
           ∙ after-as (u.steps - s.steps + (v.steps - u.steps)) (u.used - s.used + (v.used - u.used)) (v.steps - s.steps) (v.used - s.used) (a.events ++ b.events) (a.events ++ b.events) tail tail (omega arith) (omega arith) refl refl;
       steps = omega arith;
       used = omega arith;
@@ -78,7 +69,7 @@ run-straight (suc m) zero k is answers l h f = absurd (omega arith)
 run-straight (suc m) (suc b) k is answers l h f =
     one-step b k is answers (f k (omega arith) (omega arith))
     ∙ ap (after 1 0 (encode (get_or is k Return))) (run-straight m b (suc k) is answers (omega arith) (omega arith) (λ j x y. f j (omega arith) (omega arith)))
-    ∙ after-add 1 0 m 0 (encode (get_or is k Return)) (encodes (take m (drop (suc k) is))) (run (b - m) is (suc k + m) answers)
+    ∙ after-after 1 0 m 0 (encode (get_or is k Return)) (encodes (take m (drop (suc k) is))) (run (b - m) is (suc k + m) answers)
     ∙ after-as (1 + m) (0 + 0) (suc m) 0 (encode (get_or is k Return) ++ encodes (take m (drop (suc k) is))) (encodes (take (suc m) (drop k is))) (run (b - m) is (suc k + m) answers) (run (suc b - suc m) is (k + suc m) answers)
     (omega arith) refl
     (ap (λ (js : List Instr). encodes (take (suc m) js)) (sym (drop-cons is k Return (omega arith))))

@@ -8,7 +8,7 @@ use native.Mathlib.Omega.{arith}
 use lib.Dec.{eqb}
 use lib.ListN.{length, take, drop, get_or, set, length-drop, length-set}
 use lib.Seq.{get_or-set_same, get_or-set_other, drop-drop}
-use borrow.Author.Tests.{eqb-true, eq-eqb}
+use borrow.Author.Tests.{eqb-true, eqb-false}
 use Rattle.definitions.specs.Instruction.{Instr, Return, encode, encodes}
 use Rattle.definitions.specs.Instruction.{Flow, straight, jump, question, returns, flow}
 use Rattle.reader.specs.View.{instructions_of, start_of, shown, Walks}
@@ -21,9 +21,6 @@ use Rattle.definitions.proofs.Flows.{return-stops}
 use Rattle.run.proofs.Coding.{op-here, not_last, start-add}
 use Rattle.definitions.specs.Bytes.{concat}
 use Rattle.definitions.proofs.Lengths.{length-encode}
-
-differs : (m n : ℕ) → eqb m n ≡ false → m ≡ n → ⊥
-differs m n e k = let z = sym (eq-eqb m n k) ∙ e in let y : ◌≡◌ {A = ℕ} 0 1 = cc in omega arith
 
 below : (k n : ℕ) → k < n + 1 → (k ≡ n → ⊥) → k < n
 below k n l f = omega arith
@@ -100,7 +97,7 @@ module _ (c : List ℕ) (s : Instructions) (before table : List ℕ) (f : Fillin
             go : (b : Bool) → eqb k p.place ≡ b → get_or (set table p.place p.at) k 0 ≡ start_of (instructions_of c) k
             go true x = let y = eqb-true k p.place x in
                 ap (λ (j : ℕ). get_or (set table p.place p.at) j 0) y ∙ get_or-set_same table p.place p.at 0 h ∙ w.1.1 ∙ f.at ∙ ap (start_of (instructions_of c)) (sym (y ∙ w.1.0))
-            go false x = let y = differs k p.place x in get_or-set_other table p.place k p.at 0 y ∙ f.entries k (below k s.place l (λ z. y (z ∙ sym w.1.0)))
+            go false x = let y = eqb-false k p.place x in get_or-set_other table p.place k p.at 0 y ∙ f.entries k (below k s.place l (λ z. y (z ∙ sym w.1.0)))
 
   pub filled : (n : Instructions) → length (instructions_of c) ≤ length before → Walks s None n → Places c table
   filled n h w =
@@ -146,7 +143,7 @@ module _ (c : List ℕ) (h : Coded c) (n : ℕ) (en : n ≡ length (instructions
               where
                 go : (y : Bool) → eqb j k ≡ y → flow_at (instructions_of c) j ≡ straight
                 go true x = ap (flow_at (instructions_of c)) (eqb-true j k x) ∙ sym eo ∙ e
-                go false x = let d = differs j k x in s.goes j (above k j a d) b
+                go false x = let d = eqb-false j k x in s.goes j (above k j a d) b
 
         off : (flow op ≡ straight → ⊥) → Stop (instructions_of c) k r
         off f = subst (λ (x : ℕ). Stop (instructions_of c) k x) (sym (w.stops f)) (record { from = omega arith; inside = omega arith; goes = λ j a b. absurd (omega arith); stops = λ e. f (eo ∙ e) })
@@ -165,7 +162,7 @@ module _ (c : List ℕ) (h : Coded c) (n : ℕ) (en : n ≡ length (instructions
             go : (y : Bool) → eqb j k ≡ y → Stop (instructions_of c) j (get_or left j 0)
             go true x = let y = eqb-true j k x in
                 subst (λ (i : ℕ). Stop (instructions_of c) i (get_or left i 0)) (sym y) (subst (λ (v : ℕ). Stop (instructions_of c) k v) (sym (ap (λ (xs : List ℕ). get_or xs k 0) e ∙ get_or-set_same table k r 0 m)) stop-here)
-            go false x = let d = differs j k x in
+            go false x = let d = eqb-false j k x in
                 subst (λ (v : ℕ). Stop (instructions_of c) j v) (sym (ap (λ (xs : List ℕ). get_or xs j 0) e ∙ get_or-set_other table k j r 0 d)) (s.entries j (above k j a d) b)
 
 pub stopped : (c : List ℕ) (n k stop : ℕ) (before table : List ℕ) → n ≡ length (instructions_of c) → n ≤ length before → k ≤ 0 → Stopping c n k stop before table → Stops c table

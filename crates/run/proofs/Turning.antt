@@ -25,7 +25,8 @@ use Rattle.definitions.proofs.Flows.{stop-jumps, jump-width, is-jump, flow-jump,
 use Rattle.run.proofs.Flows.{return-bytes}
 use Rattle.run.proofs.Coding.{op-here, operand-here, not_last, jump-inside}
 use Rattle.run.proofs.Storing.{stored_at, copied_none}
-use Rattle.run.proofs.Leading.{after_none}
+use Rattle.definitions.proofs.Follow.{after_none}
+use Rattle.std.proofs.Math.Arith.{lt_of_le-ne}
 
 module _ (c answers : List ℕ) (budget room : ℕ) (s : Stand) where
   -- no budget left
@@ -49,10 +50,7 @@ module _ (c answers : List ℕ) (budget room : ℕ) (s : Stand) where
     i = get_or (instructions_of c) s.place Return
 
     pub less : s.steps < budget
-    less = let a = st.steps in strictly s.steps budget a l
-      where
-        strictly : (x y : ℕ) → x ≤ y → (x ≡ y → ⊥) → x < y
-        strictly x y l f = omega arith
+    less = lt_of_le-ne st.steps l
 
     go : ℕ → List ℕ → Ran
     go q rest = run (budget - (s.steps + 1)) (instructions_of c) q rest
@@ -170,7 +168,9 @@ module _ (c answers : List ℕ) (budget room : ℕ) (s : Stand) where
             unfolding obey go
             answered u = asks
                 ∙ ap (λ (xs : List ℕ). obey (question (eqb op 30)) i s.place xs go) (drop-cons answers s.used 0 u ∙ ap (λ (j : ℕ). get_or answers s.used 0 ∷ drop j answers) (sym (add-one s.used)))
-                ∙ ap₂ (λ (x y : ℕ). after 1 1 (x ∷ get_or answers s.used 0 ∷ []) (run (budget - (s.steps + 1)) (instructions_of c) (way (eqb op 30) (eqb (get_or answers s.used 0) 1) s.place y) (drop (s.used + 1) answers))) (sym op-is) (sym a-is)
+                ∙ ap₂ (λ (x y : ℕ). after 1 1 (x ∷ get_or answers s.used 0 ∷ [])
+                (run (budget - (s.steps + 1)) (instructions_of c) (way (eqb op 30) (eqb (get_or answers s.used 0) 1) s.place y) (drop (s.used + 1) answers)))
+                (sym op-is) (sym a-is)
 
             goes : (u : Stand) (before left : List ℕ) → Asked op a answers room s u before left → Turns (Some (On u)) c answers budget room s before left
             unfolding Turns onward i
@@ -191,7 +191,9 @@ module _ (c answers : List ℕ) (budget room : ℕ) (s : Stand) where
                   stands = record {
                     steps = omega arith;
                     written = f;
-                    place = way-below (length (instructions_of c)) s.place a (eqb op 30) (eqb (get_or answers s.used 0) 1) (subst (λ (x : ℕ). landing s.place x < length (instructions_of c)) (sym a-is) lands) (not_last c h s.place st.place (λ x. r (op-is ∙ x)));
+                    place = way-below (length (instructions_of c)) s.place a (eqb op 30) (eqb (get_or answers s.used 0) 1)
+                        (subst (λ (x : ℕ). landing s.place x < length (instructions_of c)) (sym a-is) lands)
+                        (not_last c h s.place st.place (λ x. r (op-is ∙ x)));
                   };
                   less = omega arith;
                 })

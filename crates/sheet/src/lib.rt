@@ -13,9 +13,10 @@ ghost use Rattle.tally.specs.Walk.{Values, functions_from, FunctionsAt};
 ghost use Rattle.tally.specs.Listed.{Printed};
 
 use lines::{Row, write_count, write_total};
+use numerals::sizes::{FUNCTION_COUNT, FUNCTION_HEAD};
 use questions::Question;
 use reader::{Part, number_at, read_module};
-use tally::{CODE, COUNT, count_code};
+use tally::count_code;
 
 // The bytes of a line.
 const LINE: usize = 41;
@@ -33,8 +34,8 @@ fn write_sheet(bytes: &[u8], at: usize, count: u64, out: &mut [u8]) -> usize
         calls: 0,
     };
     for f in 0..count {
-        let n = number_at(bytes, p + COUNT, 2);
-        let code = count_code(bytes, p + CODE, n);
+        let n = number_at(bytes, p + FUNCTION_COUNT, 2);
+        let code = count_code(bytes, p + FUNCTION_HEAD, n);
         let row = Row {
             instructions: n,
             questions: code.questions,

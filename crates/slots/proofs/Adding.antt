@@ -11,9 +11,8 @@ use lib.Seq.{take-suc-set, length-take-le, drop-set-add, drop-set-lt, drop_at, t
 use borrow.Rule.Slice.PartMut.{put_mid, post_of}
 use Rattle.names.proofs.Finding.{names-length}
 use Rattle.definitions.specs.Bytes.{Name, same, position, member}
-use Rattle.definitions.specs.Tree.{def, []ᵇ}
-use Rattle.definitions.specs.Slots.{add, locals_stmt}
-use Rattle.definitions.proofs.Named.{stmt-grows}
+use Rattle.definitions.specs.Slots.{add}
+use Rattle.definitions.proofs.Named.{add-grows}
 use Rattle.state.specs.Words.{name_at}
 use Rattle.state.specs.Index.{bucket_of, Covered, none_covered, covered, start_of}
 use Rattle.state.specs.State.{names_at, slots_from, slot_names, Slots}
@@ -96,10 +95,6 @@ add-there x xs e = rw (e, add)
 pub add-new : (x : Name) (xs : List Name) → member x xs ≡ false → add x xs ≡ xs ++ x ∷ []
 unfolding add
 add-new x xs e = rw (e, add)
-
-add-grows : (x : Name) (xs : List Name) → length xs ≤ length (add x xs)
-unfolding locals_stmt
-add-grows x xs = stmt-grows (def x [] []ᵇ) xs
 
 -- the part before n
 pub part-before : (n : ℕ) (ps : List ℕ) → take (n - 0) (drop 0 ps) ≡ take n ps

@@ -11,7 +11,6 @@ use borrow.Rule.Slice.PartMut.{put_mid}
 use Rattle.definitions.specs.Bytes.{Name, member}
 use Rattle.definitions.specs.Tree.{Expr, lit, var, unary, binary, logical, call, attr, display, index, lambda, Exprs, []ᵉ, ◌∷ᵉ◌}
 use Rattle.definitions.specs.Slots.{add, within, sort, referenced_expr, referenced_exprs, captures}
-use Rattle.definitions.proofs.Captured.{and-false}
 use Rattle.parts.specs.Places.{params_at}
 use Rattle.names.proofs.Indexing.{slots-count}
 use Rattle.state.specs.Index.{Covered, none_covered}
@@ -23,6 +22,7 @@ use Rattle.slots.proofs.Adding.{first-length, mid-front}
 use Rattle.slots.proofs.Holding.{bool-or, within_none, within-add, within-other, held_in, held_out, held-expr, held-few}
 use Rattle.slots.proofs.Marking.{marked-none, marked_all, free-is}
 use Rattle.slots.proofs.Params.{collected-count, collected-over}
+use Rattle.std.proofs.Math.Bool.{and-false}
 
 first-none : (t ps : List ℕ) → first_names t 0 ps ≡ []
 unfolding first_names names_at

@@ -14,6 +14,7 @@ use Rattle.definitions.proofs.MethodOrder.{same-eq}
 use Rattle.definitions.proofs.Captured.{member-cons, member-nil}
 use Rattle.slots.specs.Held.{mark_all, is_free, add_held, held_expr, held_exprs, Held, no_held, one_held}
 use Rattle.slots.proofs.Adding.{add-there, add-new}
+use Rattle.definitions.proofs.Truth.{true-false}
 
 -- ---- equal names, and names in a list
 
@@ -21,14 +22,11 @@ pub bool-or : (b : Bool) → (b ≡ true) ⊎ (b ≡ false)
 bool-or true = inl refl
 bool-or false = inr refl
 
-pub clash : {C : Type 0} (b : Bool) → b ≡ true → b ≡ false → C
-clash b e f = let z : ◌≡◌ {A = Bool} true false = cc in let y : ◌≡◌ {A = ℕ} 0 1 = cc in absurd (omega arith)
-
 -- two names that differ differ the other way round
 differ : (x y : Name) → same x y ≡ false → same y x ≡ false
 differ x y h =
     ⊎_elim
-    (λ (e : same y x ≡ true). clash (same y y) (subst (λ (z : Name). same y z ≡ true) (sym (same-eq y x e)) e) (subst (λ (z : Name). same z y ≡ false) (sym (same-eq y x e)) h))
+    (λ (e : same y x ≡ true). true-false (subst (λ (z : Name). same y z ≡ true) (sym (same-eq y x e)) e) (subst (λ (z : Name). same z y ≡ false) (sym (same-eq y x e)) h))
     (λ (e : same y x ≡ false). e)
     (bool-or (same y x))
 
@@ -40,7 +38,7 @@ member-here x y ys h = member-cons x y ys ∙ ap (λ (b : Bool). b || member x y
 
 -- what is not in a list is not its first
 pub not_first : (x y : Name) (ys : List Name) → member x (y ∷ ys) ≡ false → same x y ≡ false
-not_first x y ys h = ⊎_elim (λ (e : same x y ≡ true). clash (member x (y ∷ ys)) (member-here x y ys e) h) (λ (e : same x y ≡ false). e) (bool-or (same x y))
+not_first x y ys h = ⊎_elim (λ (e : same x y ≡ true). true-false (member-here x y ys e) h) (λ (e : same x y ≡ false). e) (bool-or (same x y))
 
 pub not-rest : (x y : Name) (ys : List Name) → member x (y ∷ ys) ≡ false → member x ys ≡ false
 not-rest x y ys h = sym (member-next x y ys (not_first x y ys h)) ∙ h
@@ -86,7 +84,7 @@ module _ (slots : List Name) where
       (bool-or (member y slots))
     where
       other : member y slots ≡ false → same x y ≡ false
-      other e = ⊎_elim (λ (f : same x y ≡ true). clash (member y slots) (sym (member-same x y slots f) ∙ h) e) (λ (f : same x y ≡ false). f) (bool-or (same x y))
+      other e = ⊎_elim (λ (f : same x y ≡ true). true-false (sym (member-same x y slots f) ∙ h) e) (λ (f : same x y ≡ false). f) (bool-or (same x y))
 
   within-snoc : (x : Name) (xs : List Name) → within slots (xs ++ x ∷ []) ≡ within slots xs ++ within slots (x ∷ [])
   within-snoc x [] = ap (λ (l : List Name). l ++ within slots (x ∷ [])) (sym (within_none slots))
@@ -189,14 +187,14 @@ others-length x (z ∷ zs) = let h = others-length x zs in ⊎_elim
     (bool-or (same z x))
 
 others-shorter : (x : Name) (zs : List Name) → member x zs ≡ true → length (others x zs) < length zs
-others-shorter x [] h = clash (member x []) h (member-nil x)
+others-shorter x [] h = true-false h (member-nil x)
 others-shorter x (z ∷ zs) h = ⊎_elim
     (λ (e : same z x ≡ true). omega (arith, ap length (others_same x z zs e), others-length x zs))
     (λ (e : same z x ≡ false). let k = others-shorter x zs (sym (member-next x z zs (differ z x e)) ∙ h) in omega (arith, ap length (others-more x z zs e)))
     (bool-or (same z x))
 
 member-other : (x y : Name) (zs : List Name) → same y x ≡ false → member y zs ≡ true → member y (others x zs) ≡ true
-member-other x y [] h k = clash (member y []) k (member-nil y)
+member-other x y [] h k = true-false k (member-nil y)
 member-other x y (z ∷ zs) h k = ⊎_elim
     (λ (e : same z x ≡ true).
     let f : same y z ≡ false = ap (λ (w : Name). same y w) (same-eq z x e) ∙ h in

@@ -19,8 +19,9 @@ use Rattle.state.specs.declared.Scope.{Scope}
 use Rattle.slots.specs.Held.{mark, mark_all, is_free, Marked}
 use Rattle.slots.specs.Captured.{names_around, Marks}
 use Rattle.slots.specs.declared.captures.Captures.{Captures}
-use Rattle.slots.proofs.Holding.{bool-or, clash, member-next}
+use Rattle.slots.proofs.Holding.{bool-or, member-next}
 use Rattle.slots.proofs.Params.{params-all, params-names}
+use Rattle.definitions.proofs.Truth.{true-false}
 
 -- ---- a name's slot
 
@@ -73,7 +74,7 @@ module _ (slots : List Name) where
         other q = ap not (get_or-set_other ms i j true false apart) ∙ k.at y j e ∙ ap not (sym (member-next y x bound q))
           where
             apart : j ≡ i → ⊥
-            apart z = clash (same y x) (ap (same y) (sym (found-one y x slots j e (h ∙ ap some (sym z)))) ∙ alike) q
+            apart z = true-false (ap (same y) (sym (found-one y x slots j e (h ∙ ap some (sym z)))) ∙ alike) q
               where
                 alike : same y y ≡ true
                 alike = ap (same y) (same-eq y (get_or slots j []) (found-same y slots j e)) ∙ found-same y slots j e

@@ -1,6 +1,6 @@
 -- The places of parameters as the first slots; locals after them. Assumes nothing.
-use Prim.Native.Nat.{ℕ, zero, suc, ◌+◌, ◌-◌, ◌<◌, ◌≤◌}
-use mathlib.Core.Path.{◌≡◌, refl, sym, ap, ◌∙◌, subst}
+use Prim.Native.Nat.{ℕ, suc, ◌+◌, ◌-◌, ◌<◌, ◌≤◌}
+use mathlib.Core.Path.{◌≡◌, sym, ap, ◌∙◌, subst}
 use mathlib.Core.List.{List, [], ◌∷◌, ◌++◌, append_assoc, append-nil}
 use native.Mathlib.Omega.{arith}
 use lib.ListN.{length, set}
@@ -11,7 +11,7 @@ use Rattle.state.specs.Index.{Covered}
 use Rattle.state.specs.State.{names_at, slots_from}
 use Rattle.definitions.specs.Slots.{locals_block, loops_block, Frame, with_loops}
 use Rattle.parts.specs.Places.{Node, count_at, name_bytes, name_end, There, names_from, AllThere, ParamsAt, params_at}
-use Rattle.parts.proofs.NameLaws.{there-first, there-next}
+use Rattle.parts.proofs.NameLaws.{there-first, there-next, length-names}
 use Rattle.std.specs.Prelude.{Option, Some, None}
 use Rattle.slots.specs.Slotted.{leading, first_names, Indexed, Collected, up_to256, Framing, Frames}
 use Rattle.slots.specs.Gathered.{names_in, Gathers}
@@ -20,11 +20,6 @@ use Rattle.slots.specs.declared.collect.Framed.{Framed}
 use Rattle.slots.proofs.Adding.{leading-set, first-length}
 use Rattle.slots.proofs.Reindexing.{placed-names, placed, front-all}
 use Rattle.definitions.proofs.Named.{block-grows}
-
-pub names-count : (t : List ℕ) (n p : ℕ) → length (names_from t n p) ≡ n
-unfolding names_from
-names-count t zero p = refl
-names-count t (suc n) p = ap suc (names-count t n (name_end t p))
 
 names-first : (t : List ℕ) (n k p : ℕ) → n ≡ suc k → names_from t n p ≡ name_bytes t p ∷ names_from t k (name_end t p)
 unfolding names_from
@@ -91,7 +86,7 @@ params-put t index part rest n m a h k e w v f g =
 
 pub params-over : (t ps : List ℕ) (n a : ℕ) → n ≡ count_at t a → 255 < n → Collected None t ps (params_at t a).value
 unfolding Collected params_at
-params-over t ps n a e h = let z = e in omega (arith, names-count t (count_at t a) (a + 2))
+params-over t ps n a e h = let z = e in omega (arith, length-names t (count_at t a) (a + 2))
 
 -- ---- locals after parameters
 

@@ -22,7 +22,8 @@ use Rattle.slots.specs.declared.captures.Captures.{Captures}
 use Rattle.names.proofs.Indexing.{slots-count}
 use Rattle.slots.proofs.Adding.{first-length}
 use Rattle.slots.proofs.Holding.{held-few, held-add, held_in, held_out}
-use Rattle.slots.proofs.Kinded.{unary-each, binary-each, seen-literal}
+use Rattle.slots.proofs.Kinded.{seen-literal}
+use Rattle.exprs.proofs.Operators.{unary-each, binary-each}
 
 abbrev tree_of : Captures → List ℕ
 tree_of c = c.around.tree.now

@@ -13,23 +13,25 @@ use Rattle.definitions.specs.Bytes.{Name, below}
 use Rattle.definitions.specs.Slots.{insert, sort}
 use Rattle.state.specs.Words.{name_at}
 use Rattle.state.specs.State.{names_at}
-use Rattle.parts.proofs.Laws.{le-or-gt}
 use Rattle.slots.specs.Order.{NoneBelow, no_names, one_more, InOrder, no_order, in_order, Spot}
-use Rattle.slots.proofs.Holding.{bool-or, clash}
+use Rattle.slots.proofs.Holding.{bool-or}
 use Rattle.byte_tests.proofs.Below.{below_none, below_less, below_more, below-same}
 use Rattle.slots.proofs.Ordering.{insert-here, insert-after, Sorting}
+use Rattle.definitions.proofs.Begins.{le-or-gt}
+use borrow.Author.Tests.{not-true, not-false}
+use Rattle.definitions.proofs.Truth.{true-false}
 
 -- ---- laws of the order
 
 pub below_flip : (x y : Name) → below x y ≡ true → below y x ≡ false
-below_flip x [] e = clash (below x []) e (below_none x)
+below_flip x [] e = true-false e (below_none x)
 below_flip [] (b ∷ y) e = below_none (b ∷ y)
 below_flip (a ∷ x) (b ∷ y) e = ⊎_elim
     (λ (h : a ≤ b). ⊎_elim
     (λ (k : b ≤ a). below-same b a y x (omega arith) ∙ below_flip x y (sym (below-same a b x y (omega arith)) ∙ e))
     (λ (k : a < b). below_more b a y x k)
     (le-or-gt b a))
-    (λ (h : b < a). clash (below (a ∷ x) (b ∷ y)) e (below_more a b x y h))
+    (λ (h : b < a). true-false e (below_more a b x y h))
     (le-or-gt a b)
 
 some_below : (y : ℕ) (ys : Name) → below [] (y ∷ ys) ≡ true
@@ -37,8 +39,8 @@ unfolding below
 some_below y ys = refl
 
 pub below-past : (x y z : Name) → below x y ≡ true → below z y ≡ false → below x z ≡ true
-below-past x [] z e f = clash (below x []) e (below_none x)
-below-past x (b ∷ y) [] e f = clash (below [] (b ∷ y)) (some_below b y) f
+below-past x [] z e f = true-false e (below_none x)
+below-past x (b ∷ y) [] e f = true-false (some_below b y) f
 below-past [] (b ∷ y) (c ∷ z) e f = some_below c z
 below-past (a ∷ x) (b ∷ y) (c ∷ z) e f = ⊎_elim
     (λ (h : b ≤ c). ⊎_elim
@@ -46,9 +48,9 @@ below-past (a ∷ x) (b ∷ y) (c ∷ z) e f = ⊎_elim
     (λ (m : c ≤ a). below-same a c x z (omega arith) ∙ below-past x y z (sym (below-same a b x y (omega arith)) ∙ e) (sym (below-same c b z y (omega arith)) ∙ f))
     (λ (m : a < c). below_less a c x z m)
     (le-or-gt c a))
-    (λ (k : b < a). clash (below (a ∷ x) (b ∷ y)) e (below_more a b x y k))
+    (λ (k : b < a). true-false e (below_more a b x y k))
     (le-or-gt a b))
-    (λ (h : c < b). clash (below (c ∷ z) (b ∷ y)) (below_less c b z y h) f)
+    (λ (h : c < b). true-false (below_less c b z y h) f)
     (le-or-gt b c)
 
 not_lower : (x y z : Name) → below x y ≡ true → below z y ≡ false → below z x ≡ false
@@ -97,14 +99,6 @@ rising x t (q ∷ qs) (in_order n o) (suc i) zero h k e = absurd (omega arith)
 rising x t (q ∷ qs) (in_order n o) (suc i) (suc j) h k e = rising x t qs o i j (omega arith) (omega arith) e
 
 -- ---- the spot
-
-not-true : (b : Bool) → not b ≡ true → b ≡ false
-not-true true e = absurd (true≢false (sym e))
-not-true false e = refl
-
-not-false : (b : Bool) → not b ≡ false → b ≡ true
-not-false true e = refl
-not-false false e = absurd (true≢false e)
 
 module _ (t : List ℕ) (x : Name) (ps : List ℕ) where
   -- the places after the first, lent

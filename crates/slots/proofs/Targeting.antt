@@ -21,8 +21,9 @@ use Rattle.std.specs.Prelude.{Option, Some, None}
 use Rattle.slots.specs.Gathered.{names_in, Adds, Gathers, no_loops}
 use Rattle.slots.specs.declared.walk.Gathering.{Gathering}
 use Rattle.slots.proofs.KindBytes.{is-variable, is-tuple}
-use Rattle.slots.proofs.Kinded.{form-var, form-attribute, form-tuple, form-index, form-other}
+use Rattle.slots.proofs.Kinded.{form-var, form-attribute, form-tuple, form-index}
 use Rattle.slots.proofs.Steps.{adds-on, gathers-as, gathers-to, gathers-stopped, gathers-none, Splits, Left, left-next, left-stopped}
+use Rattle.exprs.proofs.OtherForms.{other-form}
 
 module _ (d : ℕ) (t : List ℕ) (p : ℕ) (r : ExprReads d t p) where
   -- ---- what a target adds, by its kind
@@ -43,7 +44,7 @@ module _ (d : ℕ) (t : List ℕ) (p : ℕ) (r : ExprReads d t p) where
         by : (a b : Bool) → eqb (get_or t p 0) 10 ≡ a → eqb (get_or t p 0) 16 ≡ b → add_target (expr_at d t p).value xs ≡ xs
         by true b h i = by_form _ (form-attribute d t p r (eqb-true _ _ h))
         by false true h i = by_form _ (form-index d t p r (eqb-true _ _ i))
-        by false false h i = by_form _ (form-other d t p r f (eqb-false _ _ h) g (eqb-false _ _ i))
+        by false false h i = by_form _ (other-form d t p r f (eqb-false _ _ h) g (eqb-false _ _ i))
 
   -- ---- a target gathered, of kind k
 

@@ -8,6 +8,9 @@ ghost use Rattle.definitions.specs.Sheet.{is_question, is_call};
 ghost use Rattle.tally.specs.Walk.{Values, functions_from};
 ghost use Rattle.tally.specs.Counts.{Tallies};
 
+use numerals::op_bytes::{JUMP_IF_FALSE, JUMP_IF_TRUE};
+use numerals::ops;
+use numerals::sizes::{FUNCTION_COUNT, FUNCTION_HEAD};
 use reader::{instruction_at, number_at};
 
 // Where the code after some instructions begins, and the conditional jumps and calls among these.
@@ -18,23 +21,14 @@ pub struct Tallied {
     pub calls: u64,
 }
 
-// Opcodes of conditional jumps and of calls; numbers of its own, as numerals has no bytes of calls and the crate needs nothing else of it.
-const JUMP_IF_FALSE: u8 = 29;
+// Opcodes of calls, as bytes of a module.
+const CALL: u8 = ops::CALL as u8;
 
-const JUMP_IF_TRUE: u8 = 30;
+const CALL_BUILTIN: u8 = ops::CALL_BUILTIN as u8;
 
-const CALL: u8 = 31;
+const CALL_VALUE: u8 = ops::CALL_VALUE as u8;
 
-const CALL_BUILTIN: u8 = 32;
-
-const CALL_VALUE: u8 = 34;
-
-const CALL_METHOD: u8 = 35;
-
-// In a function's record: where its count of instructions begins, and its code.
-pub const COUNT: usize = 7;
-
-pub const CODE: usize = 9;
+const CALL_METHOD: u8 = ops::CALL_METHOD as u8;
 
 // A conditional jump.
 #[tactic(auto, unfolding(definitions::specs::Sheet::is_question))]
@@ -81,8 +75,8 @@ pub fn count_functions(bytes: &[u8], at: usize, count: u64) -> u64
     let mut p = at;
     let mut total = 0u64;
     for _ in 0..count {
-        let n = number_at(bytes, p + COUNT, 2);
-        p = count_code(bytes, p + CODE, n).at;
+        let n = number_at(bytes, p + FUNCTION_COUNT, 2);
+        p = count_code(bytes, p + FUNCTION_HEAD, n).at;
         total += n;
     }
     total

@@ -22,7 +22,9 @@ use Rattle.parts.specs.declared.asked.BlockQuestion.TheVariants.{Loops}
 use Rattle.parts.specs.declared.checker.Checker.{Checker}
 use Rattle.parts.specs.declared.roles.Role.TheVariants.{Value}
 use Rattle.parts.proofs.Steps.{Turns, count-step, count-stop, done}
-use Rattle.tree.proofs.StmtLaws.{stmt-none, stmt-end, stmt-unknown, at-break, at-continue, at-expr, at_return, block-law, attributes-law, stmts-none, stmts-more, branches-none, branches-more, methods-none, methods-more, attributes-none, attributes-more, else-end, else-none, else-block, else-unknown}
+use Rattle.tree.proofs.StmtLaws.{stmt-none, stmt-end, stmt-unknown, at-break, at-continue, at-expr, at_return, block-law}
+use Rattle.tree.proofs.StmtLaws.{attributes-law, stmts-none, stmts-more, branches-none, branches-more, methods-none, methods-more}
+use Rattle.tree.proofs.StmtLaws.{attributes-none, attributes-more, else-end, else-none, else-block, else-unknown}
 
 pub stmt-stop : (l : Bool) (d : ℕ) {q : Question} {o : Result (Unit {0}) Question} {c c₁ : Checker} → o ≡ Err q → ReadsByte (Err q) c c₁ → Judged o c c₁ (judge_stmt l d)
 unfolding passed_by number ReadsByte

@@ -4,18 +4,15 @@ use mathlib.Core.Path.{◌≡◌, refl, sym, ap, ◌∙◌}
 use mathlib.Core.Bool.{Bool, true, false}
 use mathlib.Core.Option.{Option, none, some}
 use mathlib.Core.List.{List, [], ◌∷◌}
-use mathlib.Core.Logic.{◌⊎◌, inl, inr, ⊎_elim}
+use mathlib.Core.Logic.{⊎_elim}
 use native.Mathlib.Omega.{arith}
-use lib.Dec.{eqb}
 use lib.ListN.{length, drop, get_or}
 use lib.Seq.{drop-length}
-use borrow.Author.Tests.{eqb-true, eqb-false}
 use Rattle.definitions.specs.Bytes.{Answer, refused, accepted, when_accepted, Parsed, got, failed}
 use Rattle.definitions.specs.Tree.{Block, []ᵇ}
 use Rattle.definitions.specs.Parse.{parse_stmt, block_of, whole_block, read_tree}
 use Rattle.definitions.specs.Wellformed.{ask_block, block_questions, first_no, refused_by, well_formed, check_tree}
 use Rattle.parts.specs.Places.{Node, node}
-use Rattle.parts.proofs.Laws.{le-or-gt}
 use Rattle.parts.proofs.Nodes.{got-node, got-reads}
 use Rattle.tree.specs.Settled.{said, without_block, settled, Headed}
 use Rattle.tree.specs.StmtAt.{block_at, BlockReads, TreeAt}
@@ -23,16 +20,11 @@ use Rattle.std.specs.Prelude.{Ok, Err}
 use Rattle.questions.specs.declared.Question.{Question}
 use Rattle.questions.specs.Numbers.{number}
 use Rattle.tree.proofs.TreeLaws.{head-two, head_three, head-count, head-four, head-version, head-fine}
+use Rattle.definitions.proofs.Begins.{le-or-gt}
+use Rattle.std.proofs.lemmas.Bool.{cases_eq}
 
 never : {A C : Type 0} {q : ℕ} {a : A} → refused q ≡ accepted a → C
 never e = let z : ◌≡◌ {A = ℕ} 0 1 = cc in absurd (omega arith)
-
-equal-or : (a b : ℕ) → (a ≡ b) ⊎ (a ≡ b → ⊥)
-equal-or a b = go (eqb a b) refl
-  where
-    go : (x : Bool) → eqb a b ≡ x → (a ≡ b) ⊎ (a ≡ b → ⊥)
-    go true e = inl (eqb-true a b e)
-    go false e = inr (eqb-false a b e)
 
 -- ---- questions 2 to 6
 
@@ -56,7 +48,7 @@ module _ (t : List ℕ) (b : Block) (e : read_tree t ≡ accepted b) where
   counts = ⊎_elim
       (λ (h : high * 65536 + low ≡ length t - 4). h)
       (λ (h : high * 65536 + low ≡ length t - 4 → ⊥). never (sym (head-count t high low small four refl refl h) ∙ e))
-      (equal-or (high * 65536 + low) (length t - 4))
+      (cases_eq (high * 65536 + low) (length t - 4))
 
   five : 5 ≤ length t
   unfolding Headed
@@ -64,7 +56,7 @@ module _ (t : List ℕ) (b : Block) (e : read_tree t ≡ accepted b) where
 
   version : get_or t 4 0 ≡ 1
   unfolding Headed
-  version = ⊎_elim (λ (h : get_or t 4 0 ≡ 1). h) (λ (h : get_or t 4 0 ≡ 1 → ⊥). never (sym (head-version t high low small four refl refl counts five h) ∙ e)) (equal-or (get_or t 4 0) 1)
+  version = ⊎_elim (λ (h : get_or t 4 0 ≡ 1). h) (λ (h : get_or t 4 0 ≡ 1 → ⊥). never (sym (head-version t high low small four refl refl counts five h) ∙ e)) (cases_eq (get_or t 4 0) 1)
 
   whole_is : (g : Parsed Block) → whole_block g ≡ accepted b → g ≡ got b []
   unfolding whole_block

@@ -1,5 +1,6 @@
 // Statements, by a checker: questions 5 to 13.
-ghost use Rattle.parts.specs.Judge.{judge_assign, judge_attribute_list, judge_attributes, judge_attribute_value, judge_stmt, judge_block, judge_branch, judge_branches, judge_if, judge_for, judge_def, judge_method, judge_methods, judge_class};
+ghost use Rattle.parts.specs.Judge.{judge_assign, judge_attribute_list, judge_attributes, judge_attribute_value, judge_stmt, judge_block};
+ghost use Rattle.parts.specs.Judge.{judge_branch, judge_branches, judge_if, judge_for, judge_def, judge_method, judge_methods, judge_class};
 ghost use Rattle.parts.specs.Judged.{Judged};
 
 use exprs::check_expr;

@@ -1,7 +1,7 @@
 -- Widths of operands, by opcode. Assumes nothing.
 use mathlib.Core.Path.{◌≡◌, refl, sym, ap, ◌∙◌, subst}
 use mathlib.Core.Bool.{Bool, true, false, ◌||◌}
-use mathlib.Core.List.{List, map}
+use mathlib.Core.List.{map}
 use mathlib.Core.Logic.{⊎_elim}
 use Prim.Native.Nat.{ℕ, ◌+◌, ◌≤◌, ◌<◌}
 use native.Mathlib.Omega.{arith}
@@ -11,7 +11,7 @@ use Rattle.definitions.proofs.Truth.{is_true}
 use lib.ListN.{get_or, get_or-map, get_or-eq_default}
 use Rattle.definitions.specs.Instruction.{Row, no_row, instruction_table, row_of, first_width, second_width}
 use Rattle.definitions.proofs.Begins.{le-or-gt}
-use Rattle.widths.proofs.Table.{every, at, run}
+use Rattle.widths.proofs.Table.{every, at}
 
 -- ---- a column of the table
 
@@ -49,7 +49,10 @@ column-zero g has t d op e = ⊎_elim
 
 -- the opcodes with a first operand
 unfoldable pub has_first : ℕ → Bool
-has_first k = eqb k 0 || (eqb k 1 || (eqb k 2 || (eqb k 6 || (eqb k 9 || (eqb k 10 || (eqb k 11 || (eqb k 12 || (eqb k 28 || (eqb k 29 || (eqb k 30 || (eqb k 31 || (eqb k 32 || (eqb k 34 || (eqb k 35 || (eqb k 36 || (eqb k 37 || (eqb k 38 || (eqb k 39 || (eqb k 40 || (eqb k 41 || (eqb k 42 || (eqb k 45))))))))))))))))))))))
+has_first k =
+    eqb k 0 || (eqb k 1 || (eqb k 2 || (eqb k 6 || (eqb k 9 || (eqb k 10 || (eqb k 11 || (
+    eqb k 12 || (eqb k 28 || (eqb k 29 || (eqb k 30 || (eqb k 31 || (eqb k 32 || (eqb k 34 || (eqb k 35 || (
+    eqb k 36 || (eqb k 37 || (eqb k 38 || (eqb k 39 || (eqb k 40 || (eqb k 41 || (eqb k 42 || (eqb k 45))))))))))))))))))))))
 
 pub first-none : (op : ℕ) → has_first op ≡ false → 0 ≡ first_width op
 unfolding first_width has_first instruction_table

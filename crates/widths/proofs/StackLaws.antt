@@ -1,20 +1,17 @@
 -- What an instruction pops and pushes, by opcode. Assumes nothing.
-use mathlib.Core.Path.{◌≡◌, refl, sym, ap, ap₂, ◌∙◌}
-use mathlib.Core.Bool.{Bool, true, false, ◌||◌}
-use Prim.Native.Nat.{ℕ, ◌≤◌, ◌<◌}
-use lib.Dec.{eqb}
-use Rattle.definitions.specs.Instruction.{Row, no_row, instruction_table, row_of}
-use Rattle.widths.proofs.Laws.{row_past, column-none, column-zero}
+use mathlib.Core.Path.{◌≡◌, refl, sym, ap, ap₂}
+use mathlib.Core.Bool.{Bool, false, ◌||◌}
+use Prim.Native.Nat.{ℕ, ◌+◌, ◌*◌, ◌/◌, ◌%◌, ◌≤◌}
+use native.Mathlib.Omega.{arith}
+use lib.Dec.{eqb, leb}
+use Rattle.definitions.specs.Bytes.{all}
+use Rattle.definitions.specs.Instruction.{Row, no_row, instr, instruction_table, row_of}
+use Rattle.definitions.specs.Stack.{pops}
+use Rattle.definitions.proofs.Every.{all_get_d}
+use Rattle.definitions.proofs.Truth.{at_most}
+use Rattle.widths.proofs.Laws.{row_past, column-zero}
 
--- the opcodes that pop whatever their operands count
-unfoldable pub has_own : ℕ → Bool
-has_own k = eqb k 7 || (eqb k 8 || (eqb k 10 || (eqb k 12 || (eqb k 13 || (eqb k 14 || (eqb k 15 || (eqb k 16 || (eqb k 17 || (eqb k 18 || (eqb k 19 || (eqb k 20 || (eqb k 21 || (eqb k 22 || (eqb k 23 || (eqb k 24 || (eqb k 25 || (eqb k 26 || (eqb k 27 || (eqb k 29 || (eqb k 30 || (eqb k 34 || (eqb k 35 || (eqb k 36 || (eqb k 37 || (eqb k 43 || (eqb k 44))))))))))))))))))))))))))
-
-pub own-none : (op : ℕ) → has_own op ≡ false → 0 ≡ (row_of op).pops.own
-unfolding has_own instruction_table
-own-none op e = column-zero (λ r. r.pops.own) has_own tt refl op e
-
--- those whose first operand counts
+-- the opcodes whose first operand counts
 unfoldable pub has_each : ℕ → Bool
 has_each k = eqb k 34 || (eqb k 38 || (eqb k 39 || (eqb k 40 || (eqb k 41 || (eqb k 42)))))
 
@@ -22,21 +19,33 @@ pub first-pops-none : (op : ℕ) → has_each op ≡ false → 0 ≡ (row_of op)
 unfolding has_each instruction_table
 first-pops-none op e = column-zero (λ r. r.pops.per_first) has_each tt refl op e
 
--- those whose second operand counts
-unfoldable pub has_each_second : ℕ → Bool
-has_each_second k = eqb k 31 || (eqb k 32 || (eqb k 35 || (eqb k 45)))
+-- an instruction pushes at most two, pops at most three by itself, and at most one for each that its second operand counts
+pub few : (op : ℕ) → ((row_of op).pushes ≤ 2) × ((row_of op).pops.own ≤ 3) × ((row_of op).pops.per_second ≤ 1)
+unfolding row_of instruction_table all
+few op = (
+  at_most _ _ (all_get_d (λ (r : Row). leb r.pushes 2) instruction_table refl op no_row refl),
+  at_most _ _ (all_get_d (λ (r : Row). leb r.pops.own 3) instruction_table refl op no_row refl),
+  at_most _ _ (all_get_d (λ (r : Row). leb r.pops.per_second 1) instruction_table refl op no_row refl),
+)
 
-pub second-pops-none : (op : ℕ) → has_each_second op ≡ false → 0 ≡ (row_of op).pops.per_second
-unfolding has_each_second instruction_table
-second-pops-none op e = column-zero (λ r. r.pops.per_second) has_each_second tt refl op e
+-- ---- a row's pushes and pops in one number
 
--- those that don't push one value
-unfoldable pub has_pushes : ℕ → Bool
-has_pushes k = eqb k 7 || (eqb k 8 || (eqb k 10 || (eqb k 12 || (eqb k 28 || (eqb k 29 || (eqb k 30 || (eqb k 33 || (eqb k 37 || (eqb k 44)))))))))
+abbrev pub in_one : Row → ℕ
+in_one r = r.pushes + 4 * r.pops.own + 16 * r.pops.per_second + 32 * r.pops.per_first
 
-pub pushed-past : (op : ℕ) → 46 ≤ op → 0 ≡ (row_of op).pushes
-pushed-past op h = sym (ap (λ (r : Row). r.pushes) (row_past op h))
+pub in-one-past : (op : ℕ) → 46 ≤ op → 0 ≡ in_one (row_of op)
+in-one-past op h = sym (ap in_one (row_past op h))
 
-pub pushed-none : (op : ℕ) → op < 46 → has_pushes op ≡ false → 1 ≡ (row_of op).pushes
-unfolding has_pushes instruction_table
-pushed-none op h e = column-none (λ r. r.pushes) has_pushes 1 tt refl op h e
+-- its parts
+module _ (op : ℕ) {e : ℕ} (so : e ≡ in_one (row_of op)) where
+  pub pushes-in : e % 4 ≡ (row_of op).pushes
+  pushes-in = omega (arith, few op)
+
+  pub pops-in : (a b : ℕ) → e / 4 % 4 + e / 32 * (a % 65536) + e / 16 % 2 * (b % 65536) ≡ pops (instr op (a % 65536) (b % 65536))
+  unfolding pops
+  pops-in a b =
+      let small = few op in
+      let own : e / 4 % 4 ≡ (row_of op).pops.own = omega arith in
+      let first : e / 32 ≡ (row_of op).pops.per_first = omega arith in
+      let second : e / 16 % 2 ≡ (row_of op).pops.per_second = omega arith in
+      ap₂ (λ (x y : ℕ). x + y) (ap₂ (λ (x y : ℕ). x + y * (a % 65536)) own first) (ap (λ (x : ℕ). x * (b % 65536)) second)

@@ -13,7 +13,7 @@ use Rattle.definitions.specs.Tables.{Emit, one, ◌⨟◌}
 use Rattle.definitions.specs.Slots.{Keeping, past, loops_block}
 use Rattle.definitions.specs.Lower.{Keeper, make_iter, kept_iter, store_iter, take_iter, emit_expr}
 use Rattle.definitions.specs.Measured as Measured
-use Rattle.definitions.specs.Measured.{SoFar, knowing, measure_block, measure_ask, measure_take, after_block, write_expr, write_block, write_for}
+use Rattle.definitions.specs.Measured.{measure_block, measure_ask, measure_take, after_block, write_expr, write_block, write_for}
 use Rattle.definitions.proofs.Counted.{counted-seq}
 use Rattle.definitions.proofs.CountedStmt.{counted-take_iter}
 use Rattle.definitions.proofs.Alike.{AllSpelled, alike-expr}

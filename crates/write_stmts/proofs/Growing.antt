@@ -8,7 +8,7 @@ use Rattle.definitions.specs.Tree.{View, as_var, as_attr, as_index, as_tuple, as
 use Rattle.definitions.specs.Tree.{Block, []ᵇ, ◌∷ᵇ◌, Branches, done, else, when, Methods, []ᵐ, method}
 use Rattle.definitions.specs.Slots.{captures, Keeping, past, with_loops, loops_stmt, loops_block}
 use Rattle.definitions.specs.Instruction
-use Rattle.definitions.specs.Instruction.{Jump, JumpIfFalse, ConstBool, Return, minus}
+use Rattle.definitions.specs.Instruction.{Jump, JumpIfFalse, ConstBool, Return}
 use Rattle.definitions.specs.Tables.{Method, Tables, block_body, expr_body, Emit}
 use Rattle.definitions.specs.Lower.{decides, display_size, jump_on, store_iter, method_end, insert_method, begin_class, class_out}
 use Rattle.definitions.specs.Measured.{SoFar, so_far, knowing, write_short, write_expr, write_exprs, write_object, write_assign}

@@ -11,7 +11,7 @@ use Rattle.definitions.specs.Instruction.{JumpIfFalse}
 use Rattle.definitions.specs.Tables.{Tables, Emit, one, ◌⨟◌}
 use Rattle.definitions.specs.Lower.{Keeper, emit_expr, ask_iter, take_iter}
 use Rattle.definitions.specs.Measured as Measured
-use Rattle.definitions.specs.Measured.{SoFar, so_far, measure_expr, measure_block, measure_ask, measure_take, after_block, back, write_expr, write_block}
+use Rattle.definitions.specs.Measured.{so_far, measure_expr, measure_block, measure_ask, measure_take, after_block, back, write_expr, write_block}
 use Rattle.definitions.proofs.SoFarNames.{Knows}
 use Rattle.definitions.proofs.CountedExpr.{counted-expr}
 use Rattle.definitions.proofs.CountedStmt.{counted-ask_iter}

@@ -6,26 +6,26 @@
 pub mod loops; // loops.rt: the innermost loop, and jumps to its start and its end
 pub mod sizes; // sizes.rt: how many instructions a part will have
 
-ghost use Rattle.std.specs.Prelude.{[], ◌+◌, ◌-◌, ◌<◌, ◌≤◌, length};
+ghost use Rattle.std.specs.Prelude.{[], ◌+◌, ◌-◌, ◌≤◌, length};
 ghost use Rattle.definitions.specs.Slots.{loops_stmt, loops_block, loops_branches};
 ghost use Rattle.definitions.specs.Tables.{emits, ◌⨟◌};
 ghost use Rattle.definitions.specs.Tree.{when};
 ghost use Rattle.definitions.specs.Measured.{write_branches};
 ghost use Rattle.parts.specs.Places.{There, name_end};
 ghost use Rattle.exprs.specs.ExprAt.{expr_at};
-ghost use Rattle.tree.specs.StmtAt.{stmt_at, block_at, stmts_at, branches_at, body_at, elifs_at, def_block_at, class_methods_at};
+ghost use Rattle.tree.specs.StmtAt.{stmt_at, block_at, branches_at, body_at, elifs_at, def_block_at, class_methods_at};
 ghost use Rattle.tree.specs.StmtAt as StmtAt;
 ghost use Rattle.state.specs.Words.{name_at};
 ghost use Rattle.state.specs.State.{emit_at, slot_names};
 ghost use Rattle.state.specs.Steps.{methods_at, methods_of};
 ghost use Rattle.state.specs.Kept.{keeping_of, Spare, Passes};
 ghost use Rattle.lower_forms.specs.Lowerable.{SoleIn};
-ghost use Rattle.lower_forms.specs.Lowering.{StmtLowerable, BlockLowerable, StmtsLowerable, BranchLowerable, BranchesLowerable, IfLowerable, ForLowerable};
+ghost use Rattle.lower_forms.specs.Lowering.{StmtLowerable, BlockLowerable, BranchLowerable, BranchesLowerable, IfLowerable, ForLowerable};
 ghost use Rattle.lower_forms.specs.Lowering.{FunctionLowerable, MethodsLowerable, ClassLowerable, block_code, function_code, end_of, class_code};
 ghost use Rattle.lower_emit.specs.Emitting.{state_in, EmitsTo, Reaches};
 ghost use Rattle.lower_loops.specs.Iterators.{keeper_of, Loads};
 ghost use Rattle.lower_stmt.specs.Blocks.{CompilesIn, ListsIn};
-ghost use Rattle.write_stmts.specs.Written.{loop_of, Started, BodyLowerable, KeepsWritten, stmt_written, block_written, stmts_written, branch_written, rest_written, while_written, for_written, rounds_written};
+ghost use Rattle.write_stmts.specs.Written.{loop_of, Started, BodyLowerable, KeepsWritten, stmt_written, block_written, branch_written, rest_written, while_written, for_written, rounds_written};
 
 use crate::loops::{JUMP_BACK, Loop, NO_LOOP, place, put_ahead, put_back};
 use crate::sizes::{block_size, branch_size};

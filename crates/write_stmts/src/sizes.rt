@@ -1,5 +1,5 @@
 // How many instructions a block or a branch will have, measured where it is about to be written.
-ghost use Rattle.std.specs.Prelude.{◌+◌, ◌≤◌};
+ghost use Rattle.std.specs.Prelude.{◌+◌};
 ghost use Rattle.definitions.specs.Measured.{so_far, measure_expr, measure_block};
 ghost use Rattle.exprs.specs.ExprAt.{expr_at};
 ghost use Rattle.tree.specs.StmtAt.{block_at, BlockReads, BranchAt, body_at};

@@ -85,7 +85,9 @@ check_expr-returns-in-Call t c = expr-step _ _ 9 c.in_ok-byte.ensures c.if-depth
 
 pub check_expr-returns-in-Attribute : goal.check_expr-returns-in-Attribute
 unfolding expr_byte
-check_expr-returns-in-Attribute t c = expr-step _ _ 10 c.in_ok-byte.ensures c.if-depth-eq0.false c.suits.ensures (sym c.in-Ok.ensures ∙ ap expr_byte c.in-Attribute.is) (λ t p w u f h s e. at-attribute _ _ t p w u f h s e) c.check_attribute.ensures
+check_expr-returns-in-Attribute t c =
+    expr-step _ _ 10 c.in_ok-byte.ensures c.if-depth-eq0.false c.suits.ensures
+    (sym c.in-Ok.ensures ∙ ap expr_byte c.in-Attribute.is) (λ t p w u f h s e. at-attribute _ _ t p w u f h s e) c.check_attribute.ensures
 
 pub check_expr-returns-in-Dict : goal.check_expr-returns-in-Dict
 unfolding expr_byte

@@ -129,7 +129,8 @@ emit_expr-returns-in-List t c =
 pub emit_expr-emit_two-requires : goal.emit_expr-emit_two-requires
 unfolding expr_byte
 emit_expr-emit_two-requires t c =
-    let v = arm-index _ _ _ c.requires.1 (byte-is Index c.of.ensures c.in-Index.is) in (omega (arith, c.decreases, arm-deep _ _ _ c.requires.1), (c.requires.0, v.parts, plain-above 43 0 0 (omega arith) (omega arith) (omega arith) (omega arith)))
+    let v = arm-index _ _ _ c.requires.1 (byte-is Index c.of.ensures c.in-Index.is) in
+    (omega (arith, c.decreases, arm-deep _ _ _ c.requires.1), (c.requires.0, v.parts, plain-above 43 0 0 (omega arith) (omega arith) (omega arith) (omega arith)))
 
 pub emit_expr-returns-in-Index : goal.emit_expr-returns-in-Index
 unfolding expr_byte
@@ -311,7 +312,8 @@ pub emit_call-returns-in_ok-next-in_default : goal.emit_call-returns-in_ok-next-
 unfolding expr_byte
 emit_call-returns-in_ok-next-in_default t c =
     let d = c.args.depth in let tree = c.args.s.tree.now in let names = slot_names tree c.args.s.slots.now in let m = (expr_at d tree c.args.at).end in
-    emits-by (emits_then (λ x. exprs_code d (count_at tree x) tree names (x + 2) ⨟ one (call_instr (callee_of Value) (count_at tree x))) (λ x. (list_at d tree x).end) c.in_ok-next-in_default.was c.requires.0.sound c.emit_expr.ensures c.emit_args.ensures)
+    emits-by (emits_then (λ x. exprs_code d (count_at tree x) tree names (x + 2) ⨟ one (call_instr (callee_of Value) (count_at tree x)))
+    (λ x. (list_at d tree x).end) c.in_ok-next-in_default.was c.requires.0.sound c.emit_expr.ensures c.emit_args.ensures)
     (call-value _ _ _ c.requires.1 _ (other-kind Variable c.of.ensures c.in_default.not-Variable) (other-kind Attribute c.of.ensures c.in_default.not-Attribute)
     ∙ ap (λ (r : Callee). expr_code d tree names c.args.at ⨟ exprs_code d (count_at tree m) tree names (m + 2) ⨟ one (call_instr r (count_at tree m))) value-callee) refl
 

@@ -36,7 +36,8 @@ pub returns-in_err-put_op-in-Continue : goal.returns-in_err-put_op-in-Continue
 unfolding stmt_byte
 returns-in_err-put_op-in-Continue c =
     let m = arm-continue _ _ _ c.requires.1 (byte-is Continue c.of.ensures c.in-Continue.is) in
-    λ keep. emits-by (words-none c.in_err-put_op-in-Continue.was c.from_residual-in_err-put_op-in-Continue.ensures (put-lifts c.requires.0.sound refl (instr-plain _ 47 0 0 plain-continue) c.put_op-in-Continue.ensures)) (sym (m.code _ keep)) refl
+    λ keep. emits-by (words-none c.in_err-put_op-in-Continue.was c.from_residual-in_err-put_op-in-Continue.ensures
+    (put-lifts c.requires.0.sound refl (instr-plain _ 47 0 0 plain-continue) c.put_op-in-Continue.ensures)) (sym (m.code _ keep)) refl
 
 pub returns-in_ok-put_op-in-Continue : goal.returns-in_ok-put_op-in-Continue
 unfolding stmt_byte

@@ -463,7 +463,9 @@ emit_for-returns t c =
 pub emit_rounds-returns-in_err-ask_iterator : goal.emit_rounds-returns-in_err-ask_iterator
 emit_rounds-returns-in_err-ask_iterator t c =
     let a = c.ask_iterator.ensures in
-    (loop-stopped (ask_iter (keeper_of c.args.load)) (instr 29 0 0) c.requires.0.sound a (lengthens-seq (lengthens-take_iter _ _ _) (lengthens-block _ _ _)) c.in_err-ask_iterator.was c.from_residual.ensures, passes_over c.from_residual.ensures)
+    let l = lengthens-seq (lengthens-take_iter _ _ _) (lengthens-block _ _ _) in
+    let r = c.from_residual.ensures in
+    (loop-stopped (ask_iter (keeper_of c.args.load)) (instr 29 0 0) c.requires.0.sound a l c.in_err-ask_iterator.was r, passes_over r)
 
 pub emit_rounds-returns-in_err-take_iterator : goal.emit_rounds-returns-in_err-take_iterator
 emit_rounds-returns-in_err-take_iterator t c =
@@ -489,8 +491,10 @@ emit_rounds-end_loop-requires t c =
     let a = c.ask_iterator.ensures in
     let u = c.take_iterator.ensures in
     let s = sound-next c.in_ok-ask_iterator.was a.reaches in
-    let w = lowers_then c.in_ok-take_iterator.was s u c.emit_block.ensures.0.lowers in
-    (inside-above (ask_iter (keeper_of c.args.load)) (instr 29 0 0) c.requires.0.sound a c.in_ok-ask_iterator.was w, end-above (ask_iter (keeper_of c.args.load)) (instr 29 0 0) c.requires.0.sound a c.in_ok-ask_iterator.was w c.in_ok-next.was)
+    let w = lowers_then c.in_ok-take_iterator.was s u c.emit_block.ensures.0.lowers in (
+      inside-above (ask_iter (keeper_of c.args.load)) (instr 29 0 0) c.requires.0.sound a c.in_ok-ask_iterator.was w,
+      end-above (ask_iter (keeper_of c.args.load)) (instr 29 0 0) c.requires.0.sound a c.in_ok-ask_iterator.was w c.in_ok-next.was,
+    )
 
 pub emit_rounds-returns-in_err-end_loop : goal.emit_rounds-returns-in_err-end_loop
 emit_rounds-returns-in_err-end_loop t c =

@@ -22,7 +22,12 @@ pub loop-head-smaller : goal.loop-head-smaller
 loop-head-smaller c = let h = head_few c.requires by_link c.loop-head.invariant.going c.loop-head-test.true in let f = c.requires.coded.few in let k = c.requires.count in omega arith
 
 pub loop-head-preserved : goal.loop-head-preserved
-loop-head-preserved c = record { going = going_on c.requires by_link c.loop-head.invariant.going c.loop-head-test.true _ refl (links_from _) (links-given _ _ _) c.expand.ensures.long c.expand.ensures.expands; same_area = c.expand.ensures.same_area ∙ c.loop-head.invariant.same_area }
+loop-head-preserved c =
+    let e = c.expand.ensures in
+    record {
+      going = going_on c.requires by_link c.loop-head.invariant.going c.loop-head-test.true _ refl (links_from _) (links-given _ _ _) e.long e.expands;
+      same_area = e.same_area ∙ c.loop-head.invariant.same_area;
+    }
 
 pub returns : goal.returns
 returns c =

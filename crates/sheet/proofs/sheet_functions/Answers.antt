@@ -17,7 +17,11 @@ pub overflow_add-functions-2 : goal.overflow_add-functions-2
 overflow_add-functions-2 c = let k = (functions-begin _ _ c.requires).0 in omega arith
 
 pub write_sheet-requires : goal.write_sheet-requires
-write_sheet-requires c = let small : Small c.args.bytes.now = λ i. (c.type_inv.bytes i).fits in let l = sheet-long c.requires small in let h = c.if-out-functions.false in ((functions-begin _ _ c.requires).1, few-functions _ _ c.requires small, few-instructions c.requires small, omega arith)
+write_sheet-requires c =
+    let small : Small c.args.bytes.now = λ i. (c.type_inv.bytes i).fits in
+    let l = sheet-long c.requires small in
+    let h = c.if-out-functions.false in
+    ((functions-begin _ _ c.requires).1, few-functions _ _ c.requires small, few-instructions c.requires small, omega arith)
 
 pub returns : goal.returns
 returns c = let small : Small c.args.bytes.now = λ i. (c.type_inv.bytes i).fits in sheet-written c.requires small c.if-out-functions.false c.write_sheet.ensures

@@ -24,7 +24,13 @@ pub overflow_add-total : goal.overflow_add-total
 overflow_add-total c = let l = c.loop.invariant in let f = l.few in let h = l.rest.here in let b = c.number_at-n.ensures.1 in omega arith
 
 pub loop-preserved : goal.loop-preserved
-loop-preserved c = let l = c.loop in let h : 0 < c.args.count - l.counter = (let m = c.loop-test.true in omega arith) in subst (λ (j : ℕ). Summing c.args.count c.args.bytes.now c.args.at j c.count_code-p.result.at (l.total + c.number_at-n.result)) (let z : c.args.count - l.counter - 1 ≡ c.args.count - (l.counter + 1) = omega arith in z) (summing-next _ _ _ (c.args.count - l.counter) l.p _ _ _ h l.invariant (function-here _ (c.args.count - l.counter) l.p _ h l.invariant.rest c.number_at-n.ensures.0) c.count_code-p.ensures.ends)
+loop-preserved c =
+    let l = c.loop in
+    let h : 0 < c.args.count - l.counter = (let m = c.loop-test.true in omega arith) in
+    let f = function-here _ (c.args.count - l.counter) l.p _ h l.invariant.rest c.number_at-n.ensures.0 in
+    subst (λ (j : ℕ). Summing c.args.count c.args.bytes.now c.args.at j c.count_code-p.result.at (l.total + c.number_at-n.result))
+    (let z : c.args.count - l.counter - 1 ≡ c.args.count - (l.counter + 1) = omega arith in z)
+    (summing-next _ _ _ (c.args.count - l.counter) l.p _ _ _ h l.invariant f c.count_code-p.ensures.ends)
 
 pub returns : goal.returns
 returns c = let l = c.loop in summing-done _ _ _ (c.args.count - l.counter) l.p _ (let m = c.loop-test.false in omega arith) l.invariant

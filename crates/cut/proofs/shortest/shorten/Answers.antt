@@ -1,30 +1,43 @@
 use mathlib.Core.Path.{◌∙◌}
+use mathlib.Core.Logic.{inl, inr}
 use native.Mathlib.Omega.{arith}
+use Rattle.definitions.proofs.CutLeast.{nothing-over}
 use Rattle.cut.proofs.Stretches.{stretch-in}
-use Rattle.cut.proofs.Seeking.{fewer-left, over-slots, over-is, best-shorter, best-kept, best-one}
+use Rattle.cut.proofs.Seeking.{over-slots, over-is, best-shorter, best-kept}
 use Rattle.cut.proofs.shortest.shorten.Goals as goal
 
-pub loop-best-init : goal.loop-best-init
-loop-best-init c = c.requires.6
+pub loop-few-init : goal.loop-few-init
+loop-few-init c = (c.requires.6, nothing-over _ _ c.requires.3.room _, omega arith, omega arith)
 
 pub over-requires : goal.over-requires
 over-requires c = (
-  omega (arith, c.loop-best.auto.code, c.requires.0),
-  omega (arith, c.loop-best.auto.tables, c.requires.1),
+  omega (arith, c.loop-few.auto.code, c.requires.0),
+  omega (arith, c.loop-few.auto.tables, c.requires.1),
   c.requires.2,
-  stretch-in c.requires.3.tree c.requires.5 _ (omega (arith, c.min.ensures, c.requires.4)),
-  over-slots c.requires.3 c.requires.5 _ (omega (arith, c.min.ensures, c.requires.4)),
+  stretch-in c.requires.3.tree c.requires.5 _ (omega (arith, c.next_count.ensures.2, c.requires.4)),
+  over-slots c.requires.3 c.requires.5 _ (omega (arith, c.next_count.ensures.2, c.requires.4)),
 )
 
-pub returns-then-not-over : goal.returns-then-not-over
-returns-then-not-over c =
-    best-kept c.requires.3 c.loop-best.invariant _ (fewer-left c.min.ensures c.requires.4 c.loop-best-test.true)
-    (over-is c.requires.3 c.requires.5 _ (omega (arith, c.min.ensures, c.requires.4)) c.over.ensures ∙ c.if-not-over.true)
+pub loop-few-preserved-then-over : goal.loop-few-preserved-then-over
+loop-few-preserved-then-over c = (
+  best-shorter c.requires.3 c.loop-few.invariant.0 c.requires.5 c.next_count.ensures.1
+      (over-is c.requires.3 c.requires.5 _ (omega (arith, c.next_count.ensures.2, c.requires.4)) c.over.ensures ∙ c.if-over.true),
+  c.loop-few.invariant.1,
+  c.loop-few.invariant.2,
+  omega (arith, c.next_count.ensures.1, c.loop-few.invariant.3),
+)
 
-pub loop-best-preserved : goal.loop-best-preserved
-loop-best-preserved c =
-    best-shorter c.requires.3 c.loop-best.invariant c.requires.5 (omega (arith, c.min.ensures, c.loop-best-test.true))
-    (over-is c.requires.3 c.requires.5 _ (omega (arith, c.min.ensures, c.requires.4)) c.over.ensures ∙ c.if-not-over.false)
+pub loop-few-preserved : goal.loop-few-preserved
+loop-few-preserved c = (
+  c.loop-few.invariant.0,
+  over-is c.requires.3 c.requires.5 _ (omega (arith, c.next_count.ensures.2, c.requires.4)) c.over.ensures ∙ c.if-over.false,
+  c.next_count.ensures.2,
+  c.loop-few.invariant.3,
+)
 
-pub returns : goal.returns
-returns c = best-one c.requires.3 c.loop-best.invariant (omega (arith, c.loop-best-test.false))
+pub returns-else-few-best : goal.returns-else-few-best
+returns-else-few-best c = best-kept c.requires.3 c.loop-few.invariant.0 _ (inl (omega (arith, c.if-few-best.false))) c.loop-few.invariant.1
+
+pub returns-after-loop-few : goal.returns-after-loop-few
+returns-after-loop-few c =
+    best-kept c.requires.3 c.loop-few.invariant.0 _ (inr (omega (arith, c.loop-few-test.false, c.loop-few.invariant.2, c.requires.4))) c.loop-few.invariant.1

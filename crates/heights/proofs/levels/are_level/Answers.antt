@@ -1,4 +1,3 @@
-use native.Mathlib.Omega.{arith}
 use mathlib.Core.Path.{refl, sym, ◌∙◌}
 use Rattle.heights.proofs.Marked.{below, above, level-on, level-falls, level-end}
 use Rattle.heights.proofs.levels.are_level.Goals as goal

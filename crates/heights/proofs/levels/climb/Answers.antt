@@ -6,7 +6,7 @@ use Rattle.definitions.specs.Search.{Swept}
 use Rattle.definitions.specs.Heights.{by_height, mark_some}
 use Rattle.reader.specs.View.{instructions_of}
 use Rattle.search.specs.View.{marks_of}
-use Rattle.search.proofs.Looping.{beginning, going_start, head_few, place-few, expandable, going_on, going_end}
+use Rattle.search.proofs.Looping.{beginning, going_start, head_few, expandable, going_on, going_end}
 use Rattle.heights.proofs.Climbing.{place-stands, mark-place, mark-small, marks-given}
 use Rattle.heights.proofs.levels.climb.Goals as goal
 
@@ -28,13 +28,15 @@ pub expand-requires : goal.expand-requires
 expand-requires c = expandable c.requires (by_height _) c.loop-head.invariant.going c.loop-head-test.true _ refl _ (mark_some _ _ _ _ c.mark_after-mark.ensures)
 
 pub loop-head-smaller : goal.loop-head-smaller
-loop-head-smaller c = let h = head_few c.requires (by_height _) c.loop-head.invariant.going c.loop-head-test.true in let f = c.requires.coded.few in let k = c.requires.count in omega arith
+loop-head-smaller c =
+    let h = head_few c.requires (by_height _) c.loop-head.invariant.going c.loop-head-test.true in
+    let f = c.requires.coded.few in let k = c.requires.count in omega arith
 
 pub loop-head-preserved : goal.loop-head-preserved
-loop-head-preserved c = record {
-  going = going_on c.requires (by_height _) c.loop-head.invariant.going c.loop-head-test.true _ refl _ (marks-given c.requires c.loop-head.invariant.going c.loop-head-test.true refl refl c.mark_after-mark.ensures) c.expand.ensures.long c.expand.ensures.expands;
-  same_area = c.expand.ensures.same_area ∙ c.loop-head.invariant.same_area;
-}
+loop-head-preserved c =
+    let G = c.loop-head.invariant.going in let l = c.loop-head-test.true in let e = c.expand.ensures in
+    let m = marks-given c.requires G l refl refl c.mark_after-mark.ensures in
+    record { going = going_on c.requires (by_height _) G l _ refl _ m e.long e.expands; same_area = e.same_area ∙ c.loop-head.invariant.same_area }
 
 pub returns : goal.returns
 returns c =

@@ -1,5 +1,3 @@
-use native.Mathlib.Omega.{arith}
-use lib.ListN.{length-replicate}
 use Rattle.heights.proofs.Marked.{holds-is}
 use Rattle.heights.proofs.levels.code_holds.Goals as goal
 

@@ -1,6 +1,5 @@
-use native.Mathlib.Omega.{arith}
 use mathlib.Core.Path.{sym, ◌∙◌, refl}
-use Rattle.heights.proofs.Instructions.{in-places, few-places, not-nothing, met, popped-here, left_here}
+use Rattle.heights.proofs.Instructions.{not-nothing, met, popped-here, left_here}
 use Rattle.heights.proofs.Marked.{level-none, level-few, level-over, level-next}
 use Rattle.heights.proofs.levels.is_level.Goals as goal
 

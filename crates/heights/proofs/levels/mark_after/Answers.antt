@@ -1,6 +1,5 @@
-use native.Mathlib.Omega.{arith}
 use mathlib.Core.Path.{sym, ◌∙◌, refl}
-use Rattle.heights.proofs.Instructions.{in-places, few-places, not-nothing, met, marked-here}
+use Rattle.heights.proofs.Instructions.{not-nothing, met, marked-here}
 use Rattle.heights.proofs.levels.mark_after.Goals as goal
 
 pub returns-in_default : goal.returns-in_default

@@ -6,7 +6,7 @@ use Rattle.numerals.specs.Kinds.{stmt_byte}
 use Rattle.tree.proofs.StmtViews.{stmt-inside, stmt-deep, stmt-known, view-expr, view-return, view-assign, view-if, view-while, view-for, view-def, view-class, view-block, else-inside}
 use Rattle.instep.proofs.Stepping.{stopped, by-rank, ranked-same}
 use Rattle.instep.proofs.Parts.{expr-is, return-is, assign-is, if-is, while-is, for-is, def_is, stmt-begins, stmts-head, block_reads}
-use Rattle.instep.proofs.Ways.{begin-less, begin-greater, kind-steps, plain-kind, simple-steps, pair-start, pair-first, pair-second, pair-there, pair-next, pair-apart, pair_inside, pair-done}
+use Rattle.instep.proofs.Ways.{begin-less, begin-greater, kind-steps, simple-steps, pair-start, pair-first, pair-second, pair-there, pair-next, pair-apart, pair_inside, pair-done}
 use Rattle.instep.proofs.Ways.{along-start, along-last, along-next, along-apart, branches-head, branches-first, branches-none, branches-zero, methods-head, methods-first, methods-done}
 use Rattle.instep.proofs.Ways.{block-less, block-greater, block-kept, block-steps, branch-apart, branch-first, branch-second, branch-steps, same_count}
 use Rattle.instep.proofs.Ways.{if-apart, if-first, if-second, if-reads, if-others, if-less, if-greater, if-steps}
@@ -14,6 +14,7 @@ use Rattle.instep.proofs.Ways.{else-less, else-greater, else-none, else-first, e
 use Rattle.instep.proofs.Ways.{def-apart, def-first, def-second, params-apart, block-first, block-second, def-steps}
 use Rattle.instep.proofs.Ways.{class-apart, class-first, class-second, class-methods, class-others, class-less, class-greater, methods-apart, class-done}
 use Rattle.instep.proofs.Trees.+step.Goals as goal
+use Rattle.numerals.proofs.KindBytes.{plain-kind}
 
 pub block-u16_at-m-requires : goal.block-u16_at-m-requires
 block-u16_at-m-requires t c = let h = (view-block _ _ _ c.requires.1).parts.count.bytes in omega arith
@@ -85,8 +86,14 @@ branches-overflow_add-next-2 t c = let h = if-second _ _ _ _ _ c.branch-self.ens
 
 pub branches-elifs-requires : goal.branches-elifs-requires
 branches-elifs-requires t c =
-    let k = ranked-same c.same_number.ensures c.in_ok-same_number.was in
-    (omega arith, (c.requires.0, if-reads _ _ _ _ _ c.branch-self.ensures c.in_ok-next.was c.u16_at-count.ensures.0 c.requires.1, if-others _ _ _ _ _ c.branch-self.ensures c.in_ok-next.was (same_count c.u16_at-other.ensures.0 (omega (arith, k)) (omega (arith, k))) c.requires.2))
+    let k = ranked-same c.same_number.ensures c.in_ok-same_number.was in (
+      omega arith,
+      (
+        c.requires.0,
+        if-reads _ _ _ _ _ c.branch-self.ensures c.in_ok-next.was c.u16_at-count.ensures.0 c.requires.1,
+        if-others _ _ _ _ _ c.branch-self.ensures c.in_ok-next.was (same_count c.u16_at-other.ensures.0 (omega (arith, k)) (omega (arith, k))) c.requires.2,
+      ),
+    )
 
 pub branches-returns : goal.branches-returns
 branches-returns t c =
@@ -135,12 +142,14 @@ class-methods-requires t c =
 pub class-returns-in_err-methods : goal.class-returns-in_err-methods
 class-returns-in_err-methods t c =
     let k = ranked-same c.same_number.ensures c.in_ok-same_number.was in
-    stopped (search rules) (methods-apart _ _ _ _ _ c.requires.1 c.requires.2 c.requires.3 c.requires.4 c.name.ensures c.in_ok-next.was c.u16_at-count.ensures.0 c.u16_at-other.ensures.0 (omega (arith, k)) (omega (arith, k)) c.methods.ensures c.in_err-methods.was)
+    stopped (search rules) (methods-apart _ _ _ _ _ c.requires.1 c.requires.2 c.requires.3 c.requires.4 c.name.ensures c.in_ok-next.was
+    c.u16_at-count.ensures.0 c.u16_at-other.ensures.0 (omega (arith, k)) (omega (arith, k)) c.methods.ensures c.in_err-methods.was)
 
 pub class-returns : goal.class-returns
 class-returns t c =
     let k = ranked-same c.same_number.ensures c.in_ok-same_number.was in
-    class-done _ _ _ _ _ c.requires.1 c.requires.2 c.requires.3 c.requires.4 c.name.ensures c.in_ok-next.was c.u16_at-count.ensures.0 c.u16_at-other.ensures.0 (omega (arith, k)) (omega (arith, k)) c.methods.ensures c.in_ok-methods.was c.skip_stmt-first.ensures c.skip_stmt-second.ensures
+    class-done _ _ _ _ _ c.requires.1 c.requires.2 c.requires.3 c.requires.4 c.name.ensures c.in_ok-next.was c.u16_at-count.ensures.0 c.u16_at-other.ensures.0
+    (omega (arith, k)) (omega (arith, k)) c.methods.ensures c.in_ok-methods.was c.skip_stmt-first.ensures c.skip_stmt-second.ensures
 
 pub def-returns-in_err-params : goal.def-returns-in_err-params
 def-returns-in_err-params t c = stopped (search rules) (def-apart _ _ _ _ c.name.ensures _ c.in_err-params.was)
@@ -152,7 +161,14 @@ pub def-returns-in_err-block : goal.def-returns-in_err-block
 def-returns-in_err-block t c = stopped (search rules) (params-apart _ _ _ _ c.name.ensures c.in_ok-params.was _ c.params.ensures c.in_err-block.was)
 
 pub def-block-requires : goal.def-block-requires
-def-block-requires t c = (omega arith, (c.requires.0, block-first _ _ _ _ c.name.ensures c.in_ok-params.was _ c.params.ensures c.in_ok-block.was c.requires.1, block-second _ _ _ _ c.name.ensures c.in_ok-params.was _ c.params.ensures c.in_ok-block.was c.requires.2))
+def-block-requires t c = (
+  omega arith,
+  (
+    c.requires.0,
+    block-first _ _ _ _ c.name.ensures c.in_ok-params.was _ c.params.ensures c.in_ok-block.was c.requires.1,
+    block-second _ _ _ _ c.name.ensures c.in_ok-params.was _ c.params.ensures c.in_ok-block.was c.requires.2,
+  ),
+)
 
 pub def-returns : goal.def-returns
 def-returns t c = def-steps _ _ _ _ c.name.ensures c.in_ok-params.was _ c.params.ensures c.in_ok-block.was c.block.ensures
@@ -164,10 +180,16 @@ pub elifs-branch-self-requires : goal.elifs-branch-self-requires
 elifs-branch-self-requires t c = (omega arith, (c.requires.0, branches-head _ _ _ _ (omega (arith, c.loop-test.true)) c.loop.invariant.first, branches-head _ _ _ _ (omega (arith, c.loop-test.true)) c.loop.invariant.second))
 
 pub elifs-returns-in_err-p : goal.elifs-returns-in_err-p
-elifs-returns-in_err-p t c = stopped (search rules) (along-apart c.loop.invariant (branches-first _ _ _ _ (omega (arith, c.loop-test.true)) c.loop.invariant.first) (branches-first _ _ _ _ (omega (arith, c.loop-test.true)) c.loop.invariant.second) c.branch-self.ensures c.in_err-p.was)
+elifs-returns-in_err-p t c =
+    let first = branches-first _ _ _ _ (omega (arith, c.loop-test.true)) c.loop.invariant.first in
+    let second = branches-first _ _ _ _ (omega (arith, c.loop-test.true)) c.loop.invariant.second in
+    stopped (search rules) (along-apart c.loop.invariant first second c.branch-self.ensures c.in_err-p.was)
 
 pub elifs-loop-preserved : goal.elifs-loop-preserved
-elifs-loop-preserved t c = along-next c.loop.invariant (branches-first _ _ _ _ (omega (arith, c.loop-test.true)) c.loop.invariant.first) (branches-first _ _ _ _ (omega (arith, c.loop-test.true)) c.loop.invariant.second) c.branch-self.ensures c.in_ok-p.was (omega arith)
+elifs-loop-preserved t c =
+    let first = branches-first _ _ _ _ (omega (arith, c.loop-test.true)) c.loop.invariant.first in
+    let second = branches-first _ _ _ _ (omega (arith, c.loop-test.true)) c.loop.invariant.second in
+    along-next c.loop.invariant first second c.branch-self.ensures c.in_ok-p.was (omega arith)
 
 pub elifs-else_block-requires : goal.elifs-else_block-requires
 elifs-else_block-requires t c = (omega arith, (c.requires.0, branches-none _ _ _ _ (omega (arith, c.loop-test.false)) c.loop.invariant.first, branches-none _ _ _ _ (omega (arith, c.loop-test.false)) c.loop.invariant.second))
@@ -216,10 +238,16 @@ pub methods-def-requires : goal.methods-def-requires
 methods-def-requires t c = (omega arith, (c.requires.0, methods-head _ _ _ _ (omega (arith, c.loop-test.true)) c.loop.invariant.first, methods-head _ _ _ _ (omega (arith, c.loop-test.true)) c.loop.invariant.second))
 
 pub methods-returns-in_err-p : goal.methods-returns-in_err-p
-methods-returns-in_err-p t c = stopped (search rules) (along-apart c.loop.invariant (methods-first _ _ _ _ (omega (arith, c.loop-test.true)) c.loop.invariant.first) (methods-first _ _ _ _ (omega (arith, c.loop-test.true)) c.loop.invariant.second) c.def.ensures c.in_err-p.was)
+methods-returns-in_err-p t c =
+    let first = methods-first _ _ _ _ (omega (arith, c.loop-test.true)) c.loop.invariant.first in
+    let second = methods-first _ _ _ _ (omega (arith, c.loop-test.true)) c.loop.invariant.second in
+    stopped (search rules) (along-apart c.loop.invariant first second c.def.ensures c.in_err-p.was)
 
 pub methods-loop-preserved : goal.methods-loop-preserved
-methods-loop-preserved t c = along-next c.loop.invariant (methods-first _ _ _ _ (omega (arith, c.loop-test.true)) c.loop.invariant.first) (methods-first _ _ _ _ (omega (arith, c.loop-test.true)) c.loop.invariant.second) c.def.ensures c.in_ok-p.was (omega arith)
+methods-loop-preserved t c =
+    let first = methods-first _ _ _ _ (omega (arith, c.loop-test.true)) c.loop.invariant.first in
+    let second = methods-first _ _ _ _ (omega (arith, c.loop-test.true)) c.loop.invariant.second in
+    along-next c.loop.invariant first second c.def.ensures c.in_ok-p.was (omega arith)
 
 pub methods-returns : goal.methods-returns
 methods-returns t c = methods-done _ _ _ _ _ _ _ _ _ c.loop.invariant (omega (arith, c.loop-test.false))
@@ -383,10 +411,15 @@ pub stmts-loop-i-preserved-then-self-y-eq-PASS : goal.stmts-loop-i-preserved-the
 stmts-loop-i-preserved-then-self-y-eq-PASS t c = pair-second c.loop-i.invariant (pair-there c.loop-i.invariant c.loop-i-test.true c.if-self-x-eq-PASS.false) c.if-self-y-eq-PASS.true
 
 pub stmts-stmt-requires : goal.stmts-stmt-requires
-stmts-stmt-requires t c = (omega arith, (c.requires.0, stmts-head _ _ _ _ c.loop-i-test.true c.loop-i.invariant.first, stmts-head _ _ _ _ (pair-there c.loop-i.invariant c.loop-i-test.true c.if-self-x-eq-PASS.false) c.loop-i.invariant.second))
+stmts-stmt-requires t c =
+    let there = pair-there c.loop-i.invariant c.loop-i-test.true c.if-self-x-eq-PASS.false in
+    (omega arith, (c.requires.0, stmts-head _ _ _ _ c.loop-i-test.true c.loop-i.invariant.first, stmts-head _ _ _ _ there c.loop-i.invariant.second))
 
 pub stmts-returns-in_err-next : goal.stmts-returns-in_err-next
-stmts-returns-in_err-next t c = stopped (search rules) (pair-apart c.loop-i.invariant c.loop-i-test.true c.if-self-x-eq-PASS.false (pair-there c.loop-i.invariant c.loop-i-test.true c.if-self-x-eq-PASS.false) c.if-self-y-eq-PASS.false c.stmt.ensures c.in_err-next.was)
+stmts-returns-in_err-next t c =
+    let x = c.if-self-x-eq-PASS.false in
+    let there = pair-there c.loop-i.invariant c.loop-i-test.true x in
+    stopped (search rules) (pair-apart c.loop-i.invariant c.loop-i-test.true x there c.if-self-y-eq-PASS.false c.stmt.ensures c.in_err-next.was)
 
 pub stmts-overflow_sub-j-else-self-y-eq-PASS : goal.stmts-overflow_sub-j-else-self-y-eq-PASS
 stmts-overflow_sub-j-else-self-y-eq-PASS t c = let h = pair-there c.loop-i.invariant c.loop-i-test.true c.if-self-x-eq-PASS.false in omega arith

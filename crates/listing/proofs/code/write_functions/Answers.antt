@@ -22,7 +22,15 @@ pub slice_bounds-write_function-start : goal.slice_bounds-write_function-start
 slice_bounds-write_function-start c = omega (arith, begun-fits (listing-piece c.loop-f.invariant c.loop-f-test.true c.number_at-n.ensures.0))
 
 pub write_function-lines-requires : goal.write_function-lines-requires
-write_function-lines-requires c = let l = c.loop-f.invariant in let e = c.number_at-n.ensures in let e₁ = e.1 in let h = c.loop-f-test.true in let w = listing-few l h e.0 in let x = c.requires.2 in let y = c.requires.1 in ((listing-function l h e.0).code, omega arith, omega arith, omega arith, begun-piece (listing-piece l h e.0))
+write_function-lines-requires c =
+    let l = c.loop-f.invariant in
+    let e = c.number_at-n.ensures in
+    let e₁ = e.1 in
+    let h = c.loop-f-test.true in
+    let w = listing-few l h e.0 in
+    let x = c.requires.2 in
+    let y = c.requires.1 in
+    ((listing-function l h e.0).code, omega arith, omega arith, omega arith, begun-piece (listing-piece l h e.0))
 
 pub overflow_add-put : goal.overflow_add-put
 overflow_add-put c =

@@ -1,5 +1,5 @@
 use native.Mathlib.Omega.{arith}
-use mathlib.Core.Path.{sym, ◌∙◌}
+use mathlib.Core.Path.{◌∙◌}
 use Rattle.module.proofs.Rising.{next-jump, next-return, next-left}
 use Rattle.module.proofs.heights.height_next.Goals as goal
 

@@ -1,4 +1,3 @@
-use native.Mathlib.Omega.{arith}
 use Rattle.module.proofs.Rising.{rising-start, rising-next, rising-done}
 use Rattle.module.proofs.heights.height_of.Goals as goal
 

@@ -4,8 +4,8 @@ use mathlib.Core.Path.{sym, ap, ◌∙◌}
 use Prim.Native.Nat.{ℕ, ◌+◌}
 use Rattle.definitions.specs.Instruction.{first_width, second_width}
 use Rattle.state.specs.Words.{instr_of}
-use Rattle.module.proofs.Encoding.{length-encode}
 use Rattle.module.proofs.words.instruction_size.Goals as goal
+use Rattle.definitions.proofs.Lengths.{length-encode}
 
 pub returns : goal.returns
 returns c =

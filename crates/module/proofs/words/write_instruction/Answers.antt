@@ -2,8 +2,9 @@
 use native.Mathlib.Omega.{arith}
 use Rattle.state.specs.Words.{instr_of}
 use Rattle.writing.proofs.Begun.{begun-length, begun-fits, begun-number, begun-next, begun-done}
-use Rattle.module.proofs.Encoding.{length-encode, wrote-alone, begun-word}
+use Rattle.module.proofs.Encoding.{wrote-alone, begun-word}
 use Rattle.module.proofs.words.write_instruction.Goals as goal
+use Rattle.definitions.proofs.Lengths.{length-encode}
 
 pub bounds-out-0 : goal.bounds-out-0
 bounds-out-0 c = omega (arith, length-encode (instr_of c.args.tree.now c.args.w), c.requires)

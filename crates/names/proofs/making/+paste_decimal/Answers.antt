@@ -29,4 +29,10 @@ pub shape_of-bytes : goal.shape_of-bytes
 shape_of-bytes t c = let a = c.args in let h = c.requires in let g = c.if-n-lt10.false in let k = more-digits a.n g in let e = c.paste_decimal-p.ensures in simp length-set c.paste_decimal-p.auto.bytes
 
 pub returns : goal.returns
-returns t c = let a = c.args in let h = c.requires in let g = c.if-n-lt10.false in let k = more-digits a.n g in let e = c.paste_decimal-p.ensures in (omega arith, paste-digits a.at a.n c.paste_decimal-p.result a.bytes.now c.paste_decimal-p.new.bytes g h e.0 e.1)
+returns t c =
+    let a = c.args in
+    let h = c.requires in
+    let g = c.if-n-lt10.false in
+    let k = more-digits a.n g in
+    let e = c.paste_decimal-p.ensures in
+    (omega arith, paste-digits a.at a.n c.paste_decimal-p.result a.bytes.now c.paste_decimal-p.new.bytes g h e.0 e.1)

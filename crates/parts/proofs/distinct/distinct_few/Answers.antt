@@ -15,7 +15,10 @@ pub returns-then-occurs : goal.returns-then-occurs
 returns-then-occurs c = sym (c.loop-after.invariant.0 ∙ distinct-stop _ _ _ _ _ c.name_end-next.ensures c.loop-after-test.true c.occurs.ensures c.if-occurs.true)
 
 pub loop-after-preserved : goal.loop-after-preserved
-loop-after-preserved c = (c.loop-after.invariant.0 ∙ distinct-go _ _ _ _ _ c.name_end-next.ensures c.loop-after-test.true c.occurs.ensures c.if-occurs.false, there-next _ _ _ _ c.name_end-next.ensures c.loop-after-test.true c.loop-after.invariant.1)
+loop-after-preserved c = (
+  c.loop-after.invariant.0 ∙ distinct-go _ _ _ _ _ c.name_end-next.ensures c.loop-after-test.true c.occurs.ensures c.if-occurs.false,
+  there-next _ _ _ _ c.name_end-next.ensures c.loop-after-test.true c.loop-after.invariant.1,
+)
 
 pub returns : goal.returns
 returns c = sym (c.loop-after.invariant.0 ∙ distinct_none _ _ _ c.loop-after-test.false)

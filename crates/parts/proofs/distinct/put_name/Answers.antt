@@ -56,11 +56,18 @@ bounds-table-slot-then-next-eq0 c = let h = c.loop-k.invariant.1.entry.low in le
 
 pub returns-then-next-eq0 : goal.returns-then-next-eq0
 unfolding Puts
-returns-then-next-eq0 c = let o = same-as _ _ _ _ _ _ c.same_bytes.ensures c.name_part.ensures.result_value c.name_part-in-loop-k.ensures.result_value c.if-same_bytes.false in let z = c.requires in let h = c.loop-k.invariant.1.entry.low in let y = c.turn.ensures.1 in put-here _ _ _ _ _ _ _ _ c.loop-k.invariant.0 c.loop-k.invariant.1 o c.turn.ensures.0 _ c.if-next-eq0.true z.1 z.2 z.3 refl (omega arith)
+returns-then-next-eq0 c =
+    let o = same-as _ _ _ _ _ _ c.same_bytes.ensures c.name_part.ensures.result_value c.name_part-in-loop-k.ensures.result_value c.if-same_bytes.false in
+    let z = c.requires in
+    let h = c.loop-k.invariant.1.entry.low in
+    let y = c.turn.ensures.1 in
+    put-here _ _ _ _ _ _ _ _ c.loop-k.invariant.0 c.loop-k.invariant.1 o c.turn.ensures.0 _ c.if-next-eq0.true z.1 z.2 z.3 refl (omega arith)
 
 pub loop-k-preserved : goal.loop-k-preserved
 unfolding Puts
-loop-k-preserved c = let o = same-as _ _ _ _ _ _ c.same_bytes.ensures c.name_part.ensures.result_value c.name_part-in-loop-k.ensures.result_value c.if-same_bytes.false in put_next _ _ _ _ _ _ _ _ c.loop-k.invariant.0 c.loop-k.invariant.1 o c.turn.ensures.0 (let q = c.if-next-eq0.false in omega arith)
+loop-k-preserved c =
+    let o = same-as _ _ _ _ _ _ c.same_bytes.ensures c.name_part.ensures.result_value c.name_part-in-loop-k.ensures.result_value c.if-same_bytes.false in
+    put_next _ _ _ _ _ _ _ _ c.loop-k.invariant.0 c.loop-k.invariant.1 o c.turn.ensures.0 (let q = c.if-next-eq0.false in omega arith)
 
 pub returns : goal.returns
 unfolding Puts

@@ -14,4 +14,10 @@ pub loop-i-preserved : goal.loop-i-preserved
 loop-i-preserved c = let l = c.loop-i in let a = c.args in (grows l.n _ l.i l.invariant.0 (omega (arith, c.type_inv.bytes (a.at + l.i))), l.invariant.1 ∙ horner a.bytes.now a.at a.width l.i l.n c.loop-i-test.true)
 
 pub returns : goal.returns
-returns c = let l = c.loop-i in let a = c.args in let h : a.width ≤ l.i = c.loop-i-test.false in let k : l.i ≤ a.width = omega arith in let e : l.i ≡ a.width = omega arith in (sym (l.invariant.1 ∙ number-all a.bytes.now a.at a.width l.i l.n k h), subst (λ (k : ℕ). l.n < 256 ^ k) e l.invariant.0)
+returns c =
+    let l = c.loop-i in
+    let a = c.args in
+    let h : a.width ≤ l.i = c.loop-i-test.false in
+    let k : l.i ≤ a.width = omega arith in
+    let e : l.i ≡ a.width = omega arith in
+    (sym (l.invariant.1 ∙ number-all a.bytes.now a.at a.width l.i l.n k h), subst (λ (k : ℕ). l.n < 256 ^ k) e l.invariant.0)

@@ -6,7 +6,9 @@ use Rattle.parts.specs.Places.{name_end}
 use Rattle.exprs.proofs.ExprViews.{expr-inside, expr-deep, expr-known, view-unary, view-binary, view-call, view-attribute, view-dict, view-index, view-lambda, view-exprs-more}
 use Rattle.slots.proofs.Kinded.{seen-display}
 use Rattle.fits.proofs.Walking.{stopped, walks_next, walks-over, next-walks, over-walks, first-over, second_walks, left-start, left-next, left_over, left-done, lambda-over, slots-few, lambda-slotted}
-use Rattle.fits.proofs.ExprKinds.{fits-unary, fits-binary, fits-call, fits-attribute, fits-dict, fits-display, fits-index, fits-lambda, fits-simple, fits-plain, display-kind, simple-kind, second-there, list-there, name-there, second-moved, list-moved, exprs-step, exprs-end, exprs-ok, collected-at, lambda-body, long-enough}
+use Rattle.fits.proofs.ExprKinds.{fits-unary, fits-binary, fits-call, fits-attribute, fits-dict, fits-display, fits-index, fits-lambda}
+use Rattle.fits.proofs.ExprKinds.{fits-simple, fits-plain, display-kind, simple-kind, second-there, list-there, name-there, second-moved}
+use Rattle.fits.proofs.ExprKinds.{list-moved, exprs-step, exprs-end, exprs-ok, collected-at, lambda-body, long-enough}
 use Rattle.fits.proofs.frame.Frame.+fits_exprs.Goals as goal
 
 pub attribute-returns-in_err-p : goal.attribute-returns-in_err-p

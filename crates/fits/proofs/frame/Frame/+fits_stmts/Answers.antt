@@ -7,8 +7,11 @@ use Rattle.tree.proofs.StmtViews.{stmt-inside, stmt-deep, stmt-known, view-expr,
 use Rattle.slots.proofs.Gathering.{elifs-counted, elifs-read, elifs-are, else-reads}
 use Rattle.fits.proofs.Walking.{stopped, walks_next, first-over, second_walks, left-start, left-next, left_over, left-done, def-over, def-few, def-slotted}
 use Rattle.fits.proofs.ExprKinds.{long-enough}
-use Rattle.fits.proofs.StmtKinds.{fits-value, fits-return, fits-assign, fits-if, fits-while, fits-for, fits-def, fits-class, plain-kind, fits-pass, block-there, block-moved, fits-node, stmts-step, stmts-end, stmts-ok, stmts-start, fits-block, branches-step, branches-last, else-none, else-some, methods-step, methods-end, methods-ok, def_body, class-count, class-methods, class-over, class-done, def-framed}
+use Rattle.fits.proofs.StmtKinds.{fits-value, fits-return, fits-assign, fits-if, fits-while, fits-for, fits-def, fits-class, fits-pass, block-there, block-moved}
+use Rattle.fits.proofs.StmtKinds.{fits-node, stmts-step, stmts-end, stmts-ok, stmts-start, fits-block, branches-step, branches-last, else-none, else-some}
+use Rattle.fits.proofs.StmtKinds.{methods-step, methods-end, methods-ok, def_body, class-count, class-methods, class-over, class-done, def-framed}
 use Rattle.fits.proofs.frame.Frame.+fits_stmts.Goals as goal
+use Rattle.numerals.proofs.KindBytes.{plain-kind}
 
 pub block-u16_at-count-requires : goal.block-u16_at-count-requires
 block-u16_at-count-requires t c = let h = (view-block _ _ _ c.requires).parts.count.bytes in omega arith
@@ -20,13 +23,19 @@ pub block-stmt-requires : goal.block-stmt-requires
 block-stmt-requires t c = (omega arith, (view-stmts-more _ _ _ _ (omega (arith, c.loop-test.true)) c.loop.invariant.reads).parts.head)
 
 pub block-returns-in_err-p : goal.block-returns-in_err-p
-block-returns-in_err-p t c = stopped _ _ _ c.from_residual.ensures (fits-block _ _ _ _ c.requires c.u16_at-count.ensures.0 _ _ (left_over _ _ _ _ _ _ _ c.loop.invariant _ _ _ (stmts-step _ _ _ _ _ c.loop.invariant.reads (omega (arith, c.loop-test.true))) c.stmt.ensures c.in_err-p.was))
+block-returns-in_err-p t c =
+    let step = stmts-step _ _ _ _ _ c.loop.invariant.reads (omega (arith, c.loop-test.true)) in
+    let over = left_over _ _ _ _ _ _ _ c.loop.invariant _ _ _ step c.stmt.ensures c.in_err-p.was in
+    stopped _ _ _ c.from_residual.ensures (fits-block _ _ _ _ c.requires c.u16_at-count.ensures.0 _ _ over)
 
 pub block-loop-preserved : goal.block-loop-preserved
 block-loop-preserved t c = left-next _ _ _ _ _ _ _ c.loop.invariant _ _ _ _ _ (stmts-step _ _ _ _ _ c.loop.invariant.reads (omega (arith, c.loop-test.true))) c.stmt.ensures c.in_ok-p.was (omega arith)
 
 pub block-returns : goal.block-returns
-block-returns t c = fits-block _ _ _ _ c.requires c.u16_at-count.ensures.0 _ _ (left-done _ _ _ _ _ _ _ c.loop.invariant (stmts-end _ _ (slot_names c.args.self.tree.now c.args.self.slots.now) _ _ c.loop.invariant.reads (omega (arith, c.loop-test.false))) (stmts-ok _ _ _ _ _ c.loop.invariant.reads (omega (arith, c.loop-test.false))))
+block-returns t c =
+    let end = stmts-end _ _ (slot_names c.args.self.tree.now c.args.self.slots.now) _ _ c.loop.invariant.reads (omega (arith, c.loop-test.false)) in
+    let ok = stmts-ok _ _ _ _ _ c.loop.invariant.reads (omega (arith, c.loop-test.false)) in
+    fits-block _ _ _ _ c.requires c.u16_at-count.ensures.0 _ _ (left-done _ _ _ _ _ _ _ c.loop.invariant end ok)
 
 pub branch-returns-in_err-p : goal.branch-returns-in_err-p
 branch-returns-in_err-p t c = stopped _ _ _ c.from_residual.ensures (first-over _ _ _ _ _ c.expr.ensures c.in_err-p.was)

@@ -1,31 +1,16 @@
--- The form of the expression at a position by its kind byte: of those that are no targets, none.
+-- The form of the expression at a position by its kind byte: of those that are no targets, none. Assumes nothing.
 use Prim.Native.Nat.{ℕ, zero, suc, ◌<◌}
 use mathlib.Core.Path.{◌≡◌, refl, ap, ◌∙◌}
-use mathlib.Core.Bool.{Bool, true, false}
 use mathlib.Core.List.{List}
 use native.Mathlib.Omega.{arith}
-use lib.Dec.{ltb}
 use lib.ListN.{get_or}
-use borrow.Author.Tests.{ltb-true, ltb-false}
 use Rattle.definitions.specs.Tree.{Expr, as_other, view, view_display}
 use Rattle.parts.specs.Places.{Node}
 use Rattle.parts.proofs.Nodes.{Seen}
-use Rattle.exprs.specs.ExprAt.{expr_at, ExprReads, unary_of, binary_of, int_at, float_at, string_at, unary_at, binary_at, call_at, display_at, dict_at, lambda_at}
+use Rattle.exprs.specs.ExprAt.{expr_at, ExprReads, int_at, float_at, string_at, unary_at, binary_at, call_at, display_at, dict_at, lambda_at}
 use Rattle.exprs.proofs.ExprViews.{expr-known, view-none, view-false, view-true, view-int, view-float, view-string, view-unary, view-binary, view-call, view-list, view-dict}
-use Rattle.exprs.proofs.ExprViews.{view-set, view-tree-set, view-lambda, unary-of, binary-of, and-of, or-of}
-
-unary-other : (k : ℕ) (x : Expr) → k < 3 → view (unary_of k x) ≡ as_other
-unfolding view
-unary-other k x h = ap (λ (f : Expr → Expr). view (f x)) (unary-of k h)
-
-binary-other : (k : ℕ) (x y : Expr) → k < 14 → view (binary_of k x y) ≡ as_other
-unfolding view
-binary-other k x y h = go (ltb k 12) (ltb k 13) refl refl
-  where
-    go : (a b : Bool) → ltb k 12 ≡ a → ltb k 13 ≡ b → view (binary_of k x y) ≡ as_other
-    go true b e f = ap (λ (g : Expr → Expr → Expr). view (g x y)) (binary-of k (ltb-true k 12 e))
-    go false true e f = ap (λ (g : Expr → Expr → Expr). view (g x y)) (and-of k (omega (arith, ltb-false k 12 e, ltb-true k 13 f)))
-    go false false e f = ap (λ (g : Expr → Expr → Expr). view (g x y)) (or-of k (omega (arith, ltb-false k 13 f)))
+use Rattle.exprs.proofs.ExprViews.{view-set, view-tree-set, view-lambda}
+use Rattle.exprs.proofs.Operators.{unary-other, binary-other}
 
 module _ (d : ℕ) (t : List ℕ) (p : ℕ) (r : ExprReads d t p) where
   abbrev Other : Type 0
