@@ -2,13 +2,13 @@
 
 use crate::library;
 use crate::refusal::{written, Refusal};
-use crate::trees::{Areas, Limits};
+use crate::trees::{told_of_tree, Areas, Limits};
 
 /// What the library answers where the tree isn't refused.
 const NOT_REFUSED: u64 = 1 << 33;
 
 /// Cuts a refused tree down: the fewest of its consecutive top statements that, as a tree of their own, are refused by the same question, the earliest
-/// of equals. No shorter run of them is so refused.
+/// of equals. No shorter stretch of them is so refused.
 ///
 /// Where the tree is refused by 7 to 15, 33 or 36, that tree goes to `out` from its start, and the answer is how many bytes it has; where it isn't
 /// refused there is none. The rest of `out` is left as it was, and all of it where there is none and after a refusal.
@@ -45,21 +45,7 @@ pub fn cut(
     areas: &mut Areas,
     out: &mut [u8],
 ) -> Result<Option<usize>, Refusal> {
-    let (first, second) = (&mut areas.first, &mut areas.second);
-    // SAFETY: each pointer and length are a live slice's; the three that are written to are lent here alone, so none overlap.
-    let told = unsafe {
-        library::rulketoos_cut(
-            tree.as_ptr(),
-            tree.len(),
-            limits.number(),
-            first.as_mut_ptr(),
-            first.len(),
-            second.as_mut_ptr(),
-            second.len(),
-            out.as_mut_ptr(),
-            out.len(),
-        )
-    };
+    let told = told_of_tree(library::rulketoos_cut, tree, limits, areas, out);
     if told == NOT_REFUSED {
         return Ok(None);
     }

@@ -103,7 +103,13 @@ pub fn lower(
     areas: &mut Areas,
     out: &mut [u8],
 ) -> Result<usize, Refusal> {
-    lower_by(library::rulketoos_lower, tree, limits, areas, out)
+    written(told_of_tree(
+        library::rulketoos_lower,
+        tree,
+        limits,
+        areas,
+        out,
+    ))
 }
 
 /// Lowers a tree record as [`lower`] does, by the plain lowering: it measures how many instructions each part of the tree will have, and writes every jump as it stays. docs/LOWERING.md reads it aloud.
@@ -134,11 +140,17 @@ pub fn lower_measured(
     areas: &mut Areas,
     out: &mut [u8],
 ) -> Result<usize, Refusal> {
-    lower_by(library::rulketoos_lower_measured, tree, limits, areas, out)
+    written(told_of_tree(
+        library::rulketoos_lower_measured,
+        tree,
+        limits,
+        areas,
+        out,
+    ))
 }
 
-/// A lowering of the library.
-type Lowering = unsafe extern "C" fn(
+/// A call of the library that reads a tree and writes to an output: a lowering, or the cut.
+pub(crate) type TreeCall = unsafe extern "C" fn(
     *const u8,
     usize,
     u32,
@@ -150,18 +162,18 @@ type Lowering = unsafe extern "C" fn(
     usize,
 ) -> u64;
 
-/// Lowers by one of the library's two lowerings.
-fn lower_by(
-    lowering: Lowering,
+/// The answer of such a call, as a number.
+pub(crate) fn told_of_tree(
+    call: TreeCall,
     tree: &[u8],
     limits: Limits,
     areas: &mut Areas,
     out: &mut [u8],
-) -> Result<usize, Refusal> {
+) -> u64 {
     let (first, second) = (&mut areas.first, &mut areas.second);
     // SAFETY: each pointer and length are a live slice's; the three that are written to are lent here alone, so none overlap.
-    let told = unsafe {
-        lowering(
+    unsafe {
+        call(
             tree.as_ptr(),
             tree.len(),
             limits.number(),
@@ -172,8 +184,7 @@ fn lower_by(
             out.as_mut_ptr(),
             out.len(),
         )
-    };
-    written(told)
+    }
 }
 
 /// Lowers a tree record to a new vector: the module record.
