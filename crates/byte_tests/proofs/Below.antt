@@ -1,8 +1,9 @@
--- The order of bytes, by the first of them.
-use Prim.Native.Nat.{ℕ, ◌<◌}
-use mathlib.Core.Path.{◌≡◌, refl, ap, ◌∙◌}
-use mathlib.Core.Bool.{Bool, true, false}
+-- The order of bytes: by the first of them, and its laws.
+use Prim.Native.Nat.{ℕ, ◌≤◌, ◌<◌}
+use mathlib.Core.Path.{◌≡◌, refl, sym, ap, ◌∙◌}
+use mathlib.Core.Bool.{Bool, true, false, ◌&&◌}
 use mathlib.Core.List.{List, [], ◌∷◌}
+use mathlib.Core.Logic.{⊎_elim}
 use native.Mathlib.Omega.{arith}
 use lib.Dec.{ltb}
 use borrow.Author.Tests.{lt-ltb, le-ltb, eq-eqb, ne_eqb}
@@ -10,7 +11,10 @@ use Rattle.std.specs.declared.cmp.Ordering.{Ordering}
 use Rattle.std.specs.declared.cmp.Ordering.TheVariants.{Less, Equal, Greater}
 use Rattle.std.specs.Ordering.{MatchOrdering, nat_cmp}
 use Rattle.std.proofs.lemmas.Cmp.{ranked}
-use Rattle.definitions.specs.Bytes.{below}
+use Rattle.definitions.specs.Bytes.{Name, same, below}
+use Rattle.definitions.proofs.Begins.{le-or-gt}
+use Rattle.definitions.proofs.MethodOrder.{same-eq}
+use Rattle.definitions.proofs.Truth.{true-false}
 
 pub below_none : (xs : List ℕ) → below xs [] ≡ false
 unfolding below
@@ -44,3 +48,65 @@ below_heads x y xs ys o e = go o (ranked x y o e)
     go Less h = below_less x y xs ys h
     go Equal h = below-same x y xs ys h
     go Greater h = below_more x y xs ys h
+
+-- ---- laws of the order
+
+pub below_flip : (x y : Name) → below x y ≡ true → below y x ≡ false
+below_flip x [] e = true-false e (below_none x)
+below_flip [] (b ∷ y) e = below_none (b ∷ y)
+below_flip (a ∷ x) (b ∷ y) e = ⊎_elim
+    (λ (h : a ≤ b). ⊎_elim
+    (λ (k : b ≤ a). below-same b a y x (omega arith) ∙ below_flip x y (sym (below-same a b x y (omega arith)) ∙ e))
+    (λ (k : a < b). below_more b a y x k)
+    (le-or-gt b a))
+    (λ (h : b < a). true-false e (below_more a b x y h))
+    (le-or-gt a b)
+
+some_below : (y : ℕ) (ys : Name) → below [] (y ∷ ys) ≡ true
+unfolding below
+some_below y ys = refl
+
+-- what is below a name is below all that is not
+pub below-past : (x y z : Name) → below x y ≡ true → below z y ≡ false → below x z ≡ true
+below-past x [] z e f = true-false e (below_none x)
+below-past x (b ∷ y) [] e f = true-false (some_below b y) f
+below-past [] (b ∷ y) (c ∷ z) e f = some_below c z
+below-past (a ∷ x) (b ∷ y) (c ∷ z) e f = ⊎_elim
+    (λ (h : b ≤ c). ⊎_elim
+    (λ (k : a ≤ b). ⊎_elim
+    (λ (m : c ≤ a). below-same a c x z (omega arith) ∙ below-past x y z (sym (below-same a b x y (omega arith)) ∙ e) (sym (below-same c b z y (omega arith)) ∙ f))
+    (λ (m : a < c). below_less a c x z m)
+    (le-or-gt c a))
+    (λ (k : b < a). true-false e (below_more a b x y k))
+    (le-or-gt a b))
+    (λ (h : c < b). true-false (below_less c b z y h) f)
+    (le-or-gt b c)
+
+-- what is below a name is another
+pub below_other : (x y : Name) → below x y ≡ true → same y x ≡ false
+below_other x y e = go (same y x) refl
+  where
+    go : (b : Bool) → same y x ≡ b → b ≡ false
+    go false f = refl
+    go true f = let q : y ≡ x = same-eq y x f in true-false (ap (below x) (sym q) ∙ e) (below_flip x x (ap (below x) (sym q) ∙ e))
+
+no_bytes : same [] [] ≡ true
+unfolding same
+no_bytes = refl
+
+same-rest : (a b : ℕ) (x y : Name) → a ≡ b → same (a ∷ x) (b ∷ y) ≡ same x y
+unfolding same
+same-rest a b x y e = ap (λ (t : Bool). t && same x y) (eq-eqb a b e)
+
+-- of two names that differ one is below the other
+pub below-else : (x y : Name) → same x y ≡ false → below y x ≡ false → below x y ≡ true
+below-else [] [] e f = true-false no_bytes e
+below-else [] (b ∷ y) e f = some_below b y
+below-else (a ∷ x) [] e f = true-false (some_below a x) f
+below-else (a ∷ x) (b ∷ y) e f = ⊎_elim
+    (λ (h : a ≤ b). ⊎_elim
+    (λ (k : b ≤ a). below-same a b x y (omega arith) ∙ below-else x y (sym (same-rest a b x y (omega arith)) ∙ e) (sym (below-same b a y x (omega arith)) ∙ f))
+    (λ (k : a < b). below_less a b x y k)
+    (le-or-gt b a))
+    (λ (h : b < a). true-false (below_less b a y x h) f)
+    (le-or-gt a b)

@@ -22,7 +22,7 @@ use Rattle.lower_emit.specs.declared.emitter.Emitter.{Emitter}
 use Rattle.lower_emit.specs.Emitting.{limits_in, state_in, SoundIn, beside, new_names, NumbersIn, BeginsIn, Begun}
 use Rattle.lower_emit.proofs.Begun.{begun-frame}
 use Rattle.lower_emit.proofs.Functions.{begun-lifts}
-use Rattle.lower_names.specs.Naming.{InternsMade, named}
+use Rattle.lower_names.specs.Naming.{InternsMade, symbol_named}
 use Rattle.lower_names.proofs.Beginnings.{named-none, named-sound, named-below, named-begins}
 use Rattle.compile.specs.Compiled.{Fresh, no_counts, nothing, main_named, main_begun}
 
@@ -71,7 +71,7 @@ nothing-is tree made code tables = refl
 
 -- the function of `__main__` has begun, whose name has its number in the state s
 abbrev begun_main : State → State
-begun_main s = begun_with (symbol_number (made_name Main) s.tables) 0 0 (named (made_name Main) s)
+begun_main s = begun_with (symbol_number (made_name Main) s.tables) 0 0 (symbol_named (made_name Main) s)
 
 module _ (tree : List ℕ) {a : Emitter} (F : Fresh a) where
   fresh-state : state_in tree a ≡ nothing
@@ -89,7 +89,7 @@ module _ {tree : List ℕ} {a : Emitter} {names : Names} {entries : Entries} {i 
   abbrev ts : Tables
   ts = new_names names entries a.tables
 
-  numbers : NumbersIn i (symbol_number (made_name Main) (state_in tree a).tables) tree a (beside a.code ts) (named (made_name Main) (state_in tree a))
+  numbers : NumbersIn i (symbol_number (made_name Main) (state_in tree a).tables) tree a (beside a.code ts) (symbol_named (made_name Main) (state_in tree a))
   numbers = (h.tables a.tables).numbers a.code (fresh-sound F)
 
   pub begins-none : {r : Option ℕ} → i ≡ None → r ≡ None → BeginsIn r 0 tree a (beside a.code ts) main_begun

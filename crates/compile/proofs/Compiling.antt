@@ -13,11 +13,11 @@ use Rattle.definitions.specs.Slots.{in_globals, names_only}
 use Rattle.definitions.specs.Tables.{Emit, block_body, begin, function}
 use Rattle.definitions.specs.Lower.{compile, main, no_tables}
 use Rattle.definitions.specs.Wellformed.{ask_block, block_questions}
-use Rattle.parts.specs.Places.{Node, Counted, count_at}
+use Rattle.parts.specs.Places.{Node, CountThere, count_at}
 use Rattle.tree.specs.StmtAt.{block_at, stmts_at, TreeAt}
 use Rattle.tree.proofs.StmtViews.{view-block}
-use Rattle.state.specs.State.{State, state_of, emit_at, symbol_number, Within, Sound, Left}
-use Rattle.state.specs.Steps.{begun, ended}
+use Rattle.state.specs.State.{State, state_of, emit_at, symbol_number, WithinLimits, Sound, Left}
+use Rattle.state.specs.Steps.{begun, function_ended}
 use Rattle.state.specs.declared.Counts.{Counts}
 use Rattle.state.specs.declared.Limits.{Limits}
 use Rattle.state.proofs.Views.{function-count}
@@ -25,7 +25,7 @@ use Rattle.state.proofs.Emission.{state-eq}
 use Rattle.state.proofs.Enclosing.{symbol-functions, at-function, at-compile}
 use Rattle.definitions.proofs.Growth.{Lengthened, Lengthens, functions-longer, lengthens-one, lengthens-seq, lengthens-block}
 use Rattle.state.proofs.Within.{within-down, within-function}
-use Rattle.lower_emit.specs.Nesting.{body_of, Moved}
+use Rattle.lower_emit.specs.Nesting.{function_body, Moved}
 use Rattle.lower_emit.specs.declared.emitter.Emitter.{Emitter}
 use Rattle.lower_emit.specs.Emitting.{counts_of, limits_in, state_in, SoundIn, SameAreas, EmitsTo, BeginsIn, Ended}
 use Rattle.lower_emit.proofs.Begun.{begun-body}
@@ -34,7 +34,7 @@ use Rattle.lower_emit.proofs.Functions.{ended-lifts}
 use Rattle.lower_forms.specs.Lowerable.{Relied, of_names, of_breaks, of_counts}
 use Rattle.lower_forms.specs.Lowering.{BlockLowerable}
 use Rattle.lower_forms.proofs.StmtArms.{block-parts}
-use Rattle.lower_stmt.proofs.Sequence.{block-stmts}
+use Rattle.lower_blocks.proofs.Sequence.{block-stmts}
 use Rattle.compile.specs.Compiled.{Fresh, tree_block, StretchIn, stretch_block, nothing, main_named, main_begun, main_code, CompilesTree}
 use Rattle.compile.specs.declared.Stretch.{Stretch}
 
@@ -56,7 +56,7 @@ block-outside tree T = refl
 
 module _ {tree : List ℕ} (T : TreeAt tree) where
   -- the count of its statements is there
-  pub top-counted : Counted tree 5
+  pub top-counted : CountThere tree 5
   top-counted = (block-parts 32 tree 5 (block-lowerable tree T)).0
 
   module _ (n : ℕ) (e : n ≡ count_at tree 5) where
@@ -84,18 +84,18 @@ whole b = record { stack = []; tables = (compile b).tables }
 abbrev main_function : Block → Emit
 main_function b = function main 0 (names_only []) (block_body b (Return ∷ [])) (main_code b)
 
-at-main : (b : Block) → emit_at 0 (main_function b) nothing ≡ ended 0 0 (emit_at 0 (main_code b) main_begun)
+at-main : (b : Block) → emit_at 0 (main_function b) nothing ≡ function_ended 0 0 (emit_at 0 (main_code b) main_begun)
 unfolding main_begun main_named no_tables
 at-main b = at-function 0 main 0 (names_only []) (block_body b (Return ∷ [])) (main_code b) nothing main_named refl
 
-whole-ended : (b : Block) → whole b ≡ ended 0 0 (emit_at 0 (main_code b) main_begun)
-unfolding ended
+whole-ended : (b : Block) → whole b ≡ function_ended 0 0 (emit_at 0 (main_code b) main_begun)
+unfolding function_ended
 whole-ended b = state-eq _ _ refl (at-compile b ∙ ap (λ (s : State). s.tables) (at-main b))
 
-whole-within : (l : Limits) (b : Block) → Within l (whole b) → Within l (emit_at 0 (main_code b) main_begun)
+whole-within : (l : Limits) (b : Block) → WithinLimits l (whole b) → WithinLimits l (emit_at 0 (main_code b) main_begun)
 unfolding main_begun main_named
 whole-within l b w =
-    within-function 0 main 0 (names_only []) (block_body b (Return ∷ [])) nothing main_named refl (main-lengthens b) (subst (Within l) (whole-ended b ∙ sym (at-main b)) w)
+    within-function 0 main 0 (names_only []) (block_body b (Return ∷ [])) nothing main_named refl (main-lengthens b) (subst (WithinLimits l) (whole-ended b ∙ sym (at-main b)) w)
 
 -- ---- the function begun, its code emitted, and its end
 
@@ -108,7 +108,7 @@ unfolding emit_at
 longer b = (main-lengthens b).at (length main_begun.stack - 0) main_begun.tables
 
 -- the answer without tables
-none-compiles : {A : Type 0} {r : Option A} {tree : List ℕ} {a c : Emitter} (b : Block) → r ≡ None → (Within (limits_in a) (whole b) → ⊥) → limits_in c ≡ limits_in a → SameAreas a c → CompilesTree r tree a c (compile b).tables
+none-compiles : {A : Type 0} {r : Option A} {tree : List ℕ} {a c : Emitter} (b : Block) → r ≡ None → (WithinLimits (limits_in a) (whole b) → ⊥) → limits_in c ≡ limits_in a → SameAreas a c → CompilesTree r tree a c (compile b).tables
 none-compiles b e h l k = record { tables = λ x q. absurd (none-some x (sym e ∙ q)); sound = λ x q. absurd (none-some x (sym e ∙ q)); full = λ q. h; limits = l; areas = k }
 
 module _ {tree : List ℕ} {a b : Emitter} {f : Option ℕ} (F : Fresh a) (B : BeginsIn f 0 tree a b main_begun) (t : Block) where
@@ -131,7 +131,7 @@ module _ {tree : List ℕ} {a b : Emitter} {f : Option ℕ} (F : Fresh a) (B : B
 
       pub compiles-stopped : {A : Type 0} {q : Option A} → r ≡ None → q ≡ None → CompilesTree q tree a m (compile t).tables
       compiles-stopped y e = none-compiles t e
-          (λ w. h.lowers.reaches.full y (subst (λ (q : Type 0). q) (λ k. Within (sym B.limits k) (sym main-is k)) (whole-within (limits_in a) t w))) same-limits same-areas
+          (λ w. h.lowers.reaches.full y (subst (λ (q : Type 0). q) (λ k. WithinLimits (sym B.limits k) (sym main-is k)) (whole-within (limits_in a) t w))) same-limits same-areas
 
       module _ {n : ℕ} (y : r ≡ Some n) where
         body-sound : SoundIn tree m
@@ -158,10 +158,10 @@ module _ {tree : List ℕ} {a b : Emitter} {f : Option ℕ} (F : Fresh a) (B : B
               function-count tree m.tables.names.made.now m.code.words.now m.tables.entries.words.now (counts_of m) (limits_in m) body-sound.sound,
             )
 
-        main-empty : body_of (state_in tree m).tables.functions i ≡ []
+        main-empty : function_body (state_in tree m).tables.functions i ≡ []
         unfolding main_begun
         main-empty =
-            ap (λ (k : ℕ). body_of (state_in tree m).tables.functions k) (B.is i z ∙ sym none-before)
+            ap (λ (k : ℕ). function_body (state_in tree m).tables.functions k) (B.is i z ∙ sym none-before)
             ∙ begun-body (symbol_number main no_tables) 0 (names_only []) main_named (state_in tree m).tables.functions (longer t).new
             (ap (λ (s : State). s.tables.functions) after ∙ (longer t).functions)
 
@@ -170,7 +170,7 @@ module _ {tree : List ℕ} {a b : Emitter} {f : Option ℕ} (F : Fresh a) (B : B
         compiles-done {x = x} {c = c} g =
             let M = (ended-lifts body-sound main-there main-empty (omega arith) g).moved in
             record {
-              tables = λ u q. ap (λ (s : State). s.tables) (M.state ∙ (λ k. ended ((left.base ∙ begun-here.base) k) (B.is i z k) (after k)) ∙ sym (whole-ended t));
+              tables = λ u q. ap (λ (s : State). s.tables) (M.state ∙ (λ k. function_ended ((left.base ∙ begun-here.base) k) (B.is i z k) (after k)) ∙ sym (whole-ended t));
               sound = λ u q. record { sound = subst (λ (l : Limits). Sound tree c.tables.names.made.now c.code.words.now c.tables.entries.words.now (counts_of c) l) (sym g.limits) M.sound };
               full = λ q. absurd (none-some x (sym q));
               limits = g.limits ∙ same-limits;

@@ -6,7 +6,7 @@ use Rattle.definitions.specs.Slots.{in_globals, names_only}
 use Rattle.definitions.specs.Tables.{Tables, Emit, one, ◌⨟◌}
 use Rattle.definitions.specs.Lower.{emit_block, main, no_tables}
 use Rattle.tree.specs.StmtAt.{block_at, stmts_at}
-use Rattle.state.specs.State.{State, tables_of, with_tables, symbol_number, with_symbol, Within}
+use Rattle.state.specs.State.{State, tables_of, with_tables, symbol_number, with_symbol, WithinLimits}
 use Rattle.state.specs.Steps.{begun}
 use Rattle.state.specs.declared.Counts.{Counts}
 use Rattle.lower_forms.specs.Lowering.{StmtsLowerable}
@@ -66,6 +66,6 @@ main_code b = emit_block [] in_globals b ⨟ one Return
 pub record CompilesTree {A : Type 0} (r : Option A) (tree : List ℕ) (a b : Emitter) (want : Tables) : Type 0 where
   pub tables : (x : A) → r ≡ Some x → tables_of tree b.tables.names.made.now b.code.words.now b.tables.entries.words.now (counts_of b) ≡ want
   pub sound : (x : A) → r ≡ Some x → SoundIn tree b
-  pub full : r ≡ None → Within (limits_in a) (record { stack = []; tables = want }) → ⊥
+  pub full : r ≡ None → WithinLimits (limits_in a) (record { stack = []; tables = want }) → ⊥
   pub limits : limits_in b ≡ limits_in a
   pub areas : SameAreas a b

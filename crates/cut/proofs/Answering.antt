@@ -39,7 +39,7 @@ use Rattle.tree.proofs.TreeViews.{ReadAt, view-read, view-tree}
 use Rattle.state.specs.State.{limits_of}
 use Rattle.state.specs.declared.Limits.{Limits}
 use Rattle.areas.proofs.Lent.{areas-fit, first_short, second_short, area-left, area-cleared}
-use Rattle.limits.specs.Sets.{said as set_number, limits_for}
+use Rattle.limits.specs.Sets.{set_number, limits_for}
 use Rattle.limits.specs.declared.Limits.{Limits as Set}
 use Rattle.writing.specs.Wrote.{Wrote}
 use Rattle.compile.specs.Compiled.{tree_block, stretch_block}
@@ -47,7 +47,7 @@ use Rattle.compile.specs.declared.Stretch.{Stretch}
 use Rattle.settle.specs.Settles.{told, Accepts}
 use Rattle.cut.specs.Tops.{TopAt, CutAt, alone}
 use Rattle.cut.specs.Seeking.{Large, Least}
-use Rattle.cut.specs.Answered.{said, CutsIn, CutsDown}
+use Rattle.cut.specs.Answered.{cut_said, CutsIn, CutsDown}
 use Rattle.cut.proofs.Stretches.{size-tree, stretch-reads, stretch-value}
 use Rattle.cut.proofs.Sifting.{first-refused, alone-failing}
 
@@ -93,7 +93,7 @@ module _ (l : DefinedLimits) (m n room : ℕ) (tree : List ℕ) (h : 16384 ≤ m
 
   -- 38
   pub cut-no-room : {before : List ℕ} → room < length tree → CutsIn (Err CutRoom) before before answer
-  unfolding cut_answer said number when_accepted output_cut
+  unfolding cut_answer cut_said number when_accepted output_cut
   cut-no-room g = record { answer = rw (areas-fit m n h k, cut_answer) (rw (lt-leb (length tree) room g)); output = rw (areas-fit m n h k, cut_answer) (rw (lt-leb (length tree) room g)) }
 
   module _ (g : length tree ≤ room) where
@@ -104,7 +104,7 @@ module _ (l : DefinedLimits) (m n room : ℕ) (tree : List ℕ) (h : 16384 ≤ m
     unfolding cut_answer
     answer-is = rw (areas-fit m n h k, cut_answer) (rw (le-leb (length tree) room g))
 
-    cuts-as : {r : Result (Option ℕ) Question} {before after : List ℕ} {a : Answer (Cut (List ℕ))} → answer ≡ a → said r ≡ when_accepted a (λ c. accepted (count_cut c)) → after ≡ output_cut a before → CutsIn r before after answer
+    cuts-as : {r : Result (Option ℕ) Question} {before after : List ℕ} {a : Answer (Cut (List ℕ))} → answer ≡ a → cut_said r ≡ when_accepted a (λ c. accepted (count_cut c)) → after ≡ output_cut a before → CutsIn r before after answer
     cuts-as {before = before} e f i = record { answer = f ∙ ap (λ (a : Answer (Cut (List ℕ))). when_accepted a (λ c. accepted (count_cut c))) (sym e); output = i ∙ ap (λ (a : Answer (Cut (List ℕ))). output_cut a before) (sym e) }
 
     module _ {limits : Limits} (same : limits_of limits ≡ l) {r : Result (Unit {0}) Question} (A : Accepts r tree limits) where
@@ -113,7 +113,7 @@ module _ (l : DefinedLimits) (m n room : ℕ) (tree : List ℕ) (h : 16384 ≤ m
 
       -- the tree is accepted
       pub cut-none : {u : Unit {0}} {before : List ℕ} → r ≡ Ok u → CutsIn (Ok None) before before answer
-      unfolding accepted_tree when_accepted told said cut_by count_cut output_cut
+      unfolding accepted_tree when_accepted told cut_said cut_by count_cut output_cut
       cut-none {before = before} e = go (read_tree tree) refl (settled e)
         where
           inner : (b : Block) (a : Answer Tables) → lower_block l b ≡ a → when_accepted a (λ t. accepted b) ≡ accepted (tree_block tree) → cut_by l b (lower_block l b) ≡ not_refused
@@ -126,7 +126,7 @@ module _ (l : DefinedLimits) (m n room : ℕ) (tree : List ℕ) (h : 16384 ≤ m
 
       -- or refused by 2 to 6
       pub cut-refused : {q : Question} {before : List ℕ} {s : Result (Option ℕ) Question} → r ≡ Err q → s ≡ Err q → number q ≤ 6 → CutsIn s before before answer
-      unfolding accepted_tree when_accepted told said output_cut
+      unfolding accepted_tree when_accepted told cut_said output_cut
       cut-refused {q} {before} {s} e f h = go (read_tree tree) refl (settled e)
         where
           inner : (b : Block) (a : Answer Tables) → when_accepted a (λ t. accepted b) ≡ refused (number q) → a ≡ refused (number q)
@@ -134,7 +134,7 @@ module _ (l : DefinedLimits) (m n room : ℕ) (tree : List ℕ) (h : 16384 ≤ m
           inner b (accepted t) e = let z : ◌≡◌ {A = ℕ} 0 1 = cc in absurd (omega arith)
 
           go : (a : Answer Block) → read_tree tree ≡ a → when_accepted a (λ b. when_accepted (lower_block l b) (λ t. accepted b)) ≡ refused (number q) → CutsIn s before before answer
-          go (refused p) g e = cuts-as (answer-is ∙ ap by_block (g ∙ e)) (ap said f) refl
+          go (refused p) g e = cuts-as (answer-is ∙ ap by_block (g ∙ e)) (ap cut_said f) refl
           go (accepted b) g e = absurd (late l b (number q) (inner b (lower_block l b) e) h)
 
       -- or by a later one
@@ -167,7 +167,7 @@ module _ (l : DefinedLimits) (m n room : ℕ) (tree : List ℕ) (h : 16384 ≤ m
         cut-fits o = (R.at.small, cut-reads, omega (arith, ap length cut-bytes, (cuts l m n room tree _ o answer-cut).short, g))
 
         pub cut-written : {i : ℕ} {before after : List ℕ} → Wrote i (tree_bytes (stretch_block tree s)) before after → CutsIn (Ok (Some i)) before after answer
-        unfolding said when_accepted count_cut output_cut
+        unfolding cut_said when_accepted count_cut output_cut
         cut-written {before = before} W =
             cuts-as answer-cut (ap (λ (n : ℕ). accepted (cut_to n)) (W.count ∙ ap length cut-bytes)) (W.out ∙ ap (λ (bs : List ℕ). written bs before) cut-bytes)
 
@@ -225,7 +225,7 @@ module _ (s : Set) (tree area₁ area₂ out : List ℕ) where
   whole = cut_call (limits_for s) tree area₁ area₂ out
 
   areas-no : areas_fit (length area₁) (length area₂) ≡ false → CutsDown (Err WorkAreas) area₁ area₂ out whole
-  unfolding cut_call cut_answer said number when_accepted output_cut
+  unfolding cut_call cut_answer cut_said number when_accepted output_cut
   areas-no e = record { answer = rw (e, cut_answer) refl; first = area-left _ _ area₁ e; second = area-left _ _ area₂ e; output = rw (e, cut_answer) refl }
 
   pub cuts-first : length area₁ < 16384 → CutsDown (Err WorkAreas) area₁ area₂ out whole

@@ -12,12 +12,12 @@ use Rattle.definitions.specs.Wellformed.{ask_block}
 use Rattle.definitions.specs.TreeBytes.{size}
 use Rattle.definitions.specs.Cut.{skip, front, stretch_of}
 use Rattle.definitions.proofs.CutSingle.{ask-stretch}
-use Rattle.parts.specs.Places.{Node, count_at, Counted}
+use Rattle.parts.specs.Places.{Node, count_at, CountThere}
 use Rattle.parts.proofs.Laws.{follow, bind_is}
 use Rattle.parts.proofs.Nodes.{got-node, got-reads, node-got}
 use Rattle.tree.specs.StmtAt.{stmt_at, stmts_at, StmtReads, StmtsRead, BlockReads, TreeAt, cons_at}
 use Rattle.tree.proofs.StmtLaws.{steady-S}
-use Rattle.tree.proofs.StmtViews.{view-block, view-stmts-none, view-stmts-more}
+use Rattle.tree.proofs.StmtViews.{stmts-size, view-block, view-stmts-none, view-stmts-more}
 use Rattle.compile.specs.Compiled.{tree_block, StretchIn}
 use Rattle.compile.proofs.Compiling.{relied}
 use Rattle.cut.specs.Tops.{TopAt}
@@ -63,17 +63,6 @@ front-stmts d n m t p h r =
       value = ap (λ (z : Node Block). z.value) (got-node []ᵇ (counted []ᵇ ◌∷ᵇ◌ (parse_stmt d) n) t p (front n (stmts_at d m t p).value) G.end G.within G.is);
     }
 
--- as many statements as are counted
-pub size-stmts : (d n : ℕ) (t : List ℕ) (p : ℕ) → StmtsRead d n t p → size (stmts_at d n t p).value ≡ n
-unfolding size
-size-stmts d zero t p r = ap (λ (z : Node Block). size z.value) (view-stmts-none d zero t p (omega arith) r.start)
-size-stmts d (suc n) t p r =
-    let h : 0 < suc n = omega arith in
-    let z : suc n - 1 ≡ n = omega arith in
-    let e = (stmt_at d t p).end in
-    ap size (cons-value d (suc n) t p h r) ∙ ap (λ (k : ℕ). suc (size (stmts_at d k t e).value)) z
-    ∙ ap suc (size-stmts d n t e (subst (λ (k : ℕ). StmtsRead d k t e) z (view-stmts-more d (suc n) t p h r).parts.rest))
-
 -- ---- the top statements of a tree
 
 pub skip-next : (i : ℕ) (b c : Block) (s : Stmt) → skip i b ≡ s ∷ᵇ c → skip (suc i) b ≡ c
@@ -84,14 +73,14 @@ skip-next (suc i) []ᵇ c s e = let z : ◌≡◌ {A = ℕ} 0 1 = cc in absurd (
 skip-next (suc i) (x ∷ᵇ b) c s e = skip-next i b c s e
 
 module _ {t : List ℕ} (r : BlockReads 32 t 5) where
-  pub top-counted : Counted t 5
+  pub top-counted : CountThere t 5
   top-counted = (view-block 32 t 5 r).parts.count
 
   block-value : (stmts_at 32 (count_at t 5) t 7).value ≡ tree_block t
   block-value = sym (ap (λ (z : Node Block). z.value) (view-block 32 t 5 r).is)
 
   pub size-tree : size (tree_block t) ≡ count_at t 5
-  size-tree = ap size (sym block-value) ∙ size-stmts 32 (count_at t 5) t 7 (view-block 32 t 5 r).parts.statements
+  size-tree = ap size (sym block-value) ∙ stmts-size 32 (count_at t 5) t 7 (view-block 32 t 5 r).parts.statements
 
   pub top-start : TopAt t (tree_block t) 0 7
   unfolding skip

@@ -23,7 +23,7 @@ use Rattle.tree.specs.StmtAt.{cons_at}
 use Rattle.rests.specs.Taking.{span}
 use Rattle.rests.proofs.Spans.{node-after, node-fact}
 use Rattle.writing.proofs.Begun.{joined}
-use Rattle.cut.proofs.Stretches.{size-stmts}
+use Rattle.tree.proofs.StmtViews.{stmts-size}
 
 -- ---- where it ends
 
@@ -92,5 +92,5 @@ spanned {t} {p} {e} n o r f =
     record {
       short = let h = length-take (e - p) (drop p t) in let k = length-drop p t in omega arith;
       long = tree-long b ∙ ap (λ (x : List ℕ). 7 + length x) (sym s);
-      pieces = tree-pieces b n _ _ (size-stmts 32 n t p r) s refl;
+      pieces = tree-pieces b n _ _ (stmts-size 32 n t p r) s refl;
     }

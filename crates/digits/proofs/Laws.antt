@@ -14,7 +14,7 @@ use Rattle.std.specs.Str.{IsUtf8}
 use Rattle.std.specs.Str.Parse.{ParsesUnsigned}
 use Rattle.std.proofs.lemmas.Str.{IsUtf8-from_ascii}
 use Rattle.std.proofs.lemmas.Str.Parse.{IsDigitsTest, FoldsDigits, IsNumeralModel, numerals_by_fold, parse_plain}
-use Rattle.digits.specs.Text.{digit_value, all_decimal, value_from, decimal_from, decimal}
+use Rattle.digits.specs.Text.{digit_value, all_decimal, value_from, decimal_from, decimal_spelled}
 use Rattle.std.proofs.lemmas.Bool.{and_parts}
 
 -- ---- decimal digits
@@ -56,27 +56,27 @@ no_value true false v h = refl
 no_value false b v h = refl
 
 -- a text of other bytes too spells none
-spells_none : (t : List ℕ) → (all_decimal t ≡ true → ⊥) → None ≡ decimal t
-unfolding decimal decimal_from
+spells_none : (t : List ℕ) → (all_decimal t ≡ true → ⊥) → None ≡ decimal_spelled t
+unfolding decimal_spelled decimal_from
 spells_none [] h = refl
 spells_none (c ∷ cs) h = sym (no_value _ _ _ (λ a b. h b))
 
-pub not_utf8-none : (t : List ℕ) → ¬ (IsUtf8 t) → None ≡ decimal t
+pub not_utf8-none : (t : List ℕ) → ¬ (IsUtf8 t) → None ≡ decimal_spelled t
 not_utf8-none t h = spells_none t (λ e. h (IsUtf8-from_ascii t (ascii t e)))
 
-pub plus-none : (t : List ℕ) → get_or t 0 0 ≡ 43 → None ≡ decimal t
+pub plus-none : (t : List ℕ) → get_or t 0 0 ≡ 43 → None ≡ decimal_spelled t
 plus-none [] e = absurd (omega arith)
 plus-none (c ∷ cs) e = spells_none (c ∷ cs) (λ h. omega (arith, (tells.parts c cs h).0))
 
 module _ {E : Type 0} where
-  from_parsed : (t : List ℕ) (r : Result ℕ E) → OkIff r ((all_decimal t ≡ true) × (0 < length t) × (value_from 0 t < 2 ^ 64)) (value_from 0 t) → result_ok r ≡ decimal t
-  unfolding decimal decimal_from
+  from_parsed : (t : List ℕ) (r : Result ℕ E) → OkIff r ((all_decimal t ≡ true) × (0 < length t) × (value_from 0 t < 2 ^ 64)) (value_from 0 t) → result_ok r ≡ decimal_spelled t
+  unfolding decimal_spelled decimal_from
   from_parsed [] (Ok x) p = absurd (omega arith)
   from_parsed [] (Err e) p = refl
   from_parsed (c ∷ cs) (Ok x) p = rw (lt-ltb (value_from 0 (c ∷ cs)) (2 ^ 64) p.0.2, p.0.0) (ap Some p.1)
   from_parsed (c ∷ cs) (Err e) p = sym (no_value _ _ _ (λ a b. p (b, omega arith, ltb-true _ _ a)))
 
-  pub parsed : (t : List ℕ) (r : Result ℕ E) → ParsesUnsigned 64 10 t r → (get_or t 0 0 ≡ 43 → ⊥) → result_ok r ≡ decimal t
+  pub parsed : (t : List ℕ) (r : Result ℕ E) → ParsesUnsigned 64 10 t r → (get_or t 0 0 ≡ 43 → ⊥) → result_ok r ≡ decimal_spelled t
   parsed t r h n = from_parsed t r (parse_plain own 64 t r h n)
 
 -- what is no text, and what is one

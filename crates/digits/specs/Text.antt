@@ -20,6 +20,6 @@ unfoldable pub decimal_from : ℕ → List ℕ → Option ℕ
 decimal_from v cs = cond (ltb (value_from v cs) (2 ^ 64) && all_decimal cs) (Some (value_from v cs)) None
 
 -- the number that a text spells: at least one character, all of them decimal digits, below 2^64
-unfoldable pub decimal : List ℕ → Option ℕ
-decimal [] = None
-decimal (c ∷ cs) = decimal_from 0 (c ∷ cs)
+unfoldable pub decimal_spelled : List ℕ → Option ℕ
+decimal_spelled [] = None
+decimal_spelled (c ∷ cs) = decimal_from 0 (c ∷ cs)

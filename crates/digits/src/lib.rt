@@ -2,7 +2,7 @@
 #![tactic(auto)]
 
 ghost use Rattle.std.specs.Prelude.{◌≡◌, ◌+◌, ◌*◌, ◌%◌, ◌<◌, SomeIff};
-ghost use Rattle.digits.specs.Text.{digit_value, decimal};
+ghost use Rattle.digits.specs.Text.{digit_value, decimal_spelled};
 
 use std::str;
 
@@ -37,7 +37,7 @@ pub fn pair(high: u32, low: u32) -> u8
 
 // The number that a text spells in decimal digits, of which there is at least one. The library also reads a plus in front.
 pub fn decimal_of(text: &[u8]) -> Option<u64>
-    ensures { result ≡ decimal text.now }
+    ensures { result ≡ decimal_spelled text.now }
 {
     let number = str::from_utf8(text).ok()?;
     if number.starts_with('+') {

@@ -16,37 +16,37 @@ use Rattle.definitions.specs.Module.{Limits, lower_bytes}
 use Rattle.definitions.specs.Calls.{Counts, Running, fits_room, areas_fit, lower_answer, count_answer, Lowering, lower_call, code_call, text_fits, text_answer, text_call, written}
 use Rattle.definitions.proofs.ReadFits.{module-short}
 use Rattle.definitions.specs.Reach.{sought, count_found, found_answer, buffer_after, Reaching, reach_call}
-use Rattle.tree.specs.Settled.{said, settled}
+use Rattle.tree.specs.Settled.{tree_said, settled}
 use Rattle.std.specs.Prelude.{Result, Ok, Err, Some, None}
 use Rattle.std.specs.Prelude.{Option as Opt}
 use Rattle.questions.specs.declared.Question.{Question}
 use Rattle.questions.specs.Numbers.{number}
-use Rattle.lowering.specs.Lowered.{said as lowered, Lowers as Lowered'}
-use Rattle.reader.specs.View.{said as read_said, said_part, CodeAt, Known, Locates}
+use Rattle.lowering.specs.Lowered.{lowering_said, Lowers}
+use Rattle.reader.specs.View.{said, said_part, CodeAt, Known, Locates}
 use Rattle.reader.specs.declared.Part.{Part}
-use Rattle.tally.specs.Listed.{said as text_said, Printed}
-use Rattle.run.specs.Pass.{said as ran_said, Called}
+use Rattle.tally.specs.Listed.{listed_said, Printed}
+use Rattle.run.specs.Pass.{ran_said, Called}
 use Rattle.run.specs.declared.Ran.{Ran as RanSo}
-use Rattle.told.specs.Tells.{asked, counted, found, placed, Few, FewFound}
-use Rattle.told.specs.Tells.{counts_in as counts_by}
+use Rattle.told.specs.Tells.{asked_as_number, counted_as_number, found, placed, RoomToTell, FewFound}
+use Rattle.told.specs.Tells.{counts_in}
 use Rattle.definitions.specs.Order.{Sorting, order_call}
-use Rattle.order.specs.Ordered.{place, said as order_said, Sorts}
+use Rattle.order.specs.Ordered.{place, order_said, Sorts}
 use Rattle.std.specs.declared.cmp.Ordering.{Ordering as Place}
 use Rattle.std.specs.declared.cmp.Ordering.TheVariants.{Less, Equal, Greater}
-use Rattle.exports.specs.Told.{told, told_count, told_part, counts_in, Lowers, Prints, Runs, told_found, Seeks, told_order, Orders, told_cut, Cuts}
+use Rattle.exports.specs.Told.{told_question, told_count, told_part, answer_counts_in, TellsLowering, Prints, Runs, told_found, Seeks, told_order, Orders, told_cut, TellsCut}
 use Rattle.definitions.specs.Cut.{Cut, not_refused, cut_to, cut_answer, count_cut, output_cut, Cutting, cut_call}
-use Rattle.cut.specs.Answered.{said as cut_said, CutsDown}
-use Rattle.reach.specs.Reaching.{said as reach_said, Gives}
+use Rattle.cut.specs.Answered.{cut_said, CutsDown}
+use Rattle.reach.specs.Reaching.{reach_said, Gives}
 
 -- ---- a tree
 
-asked-said : (r : Result (Unit {0}) Question) → asked r ≡ told (said r)
-unfolding asked told said
+asked-said : (r : Result (Unit {0}) Question) → asked_as_number r ≡ told_question (tree_said r)
+unfolding asked_as_number told_question tree_said
 asked-said (Ok u) = refl
 asked-said (Err q) = refl
 
-pub check-told : (r : Result (Unit {0}) Question) (t : List ℕ) → said r ≡ settled t → asked r ≡ told (settled t)
-check-told r t e = asked-said r ∙ ap told e
+pub check-told : (r : Result (Unit {0}) Question) (t : List ℕ) → tree_said r ≡ settled t → asked_as_number r ≡ told_question (settled t)
+check-told r t e = asked-said r ∙ ap told_question e
 
 -- ---- a tree's module
 
@@ -66,26 +66,26 @@ unfolding count_answer when_accepted
 answer-count l room n tree true e = bytes_count room n (lower_bytes l tree) e
 answer-count l room n tree false e = let z : ◌≡◌ {A = ℕ} 0 1 = cc in absurd (omega arith)
 
-counted-lowered : (r : Result ℕ Question) → counted r ≡ told_count (lowered r)
-unfolding counted told_count lowered
+counted-lowered : (r : Result ℕ Question) → counted_as_number r ≡ told_count (lowering_said r)
+unfolding counted_as_number told_count lowering_said
 counted-lowered (Ok n) = refl
 counted-lowered (Err q) = refl
 
-module _ (r : Result ℕ Question) (k l : Limits) (e : k ≡ l) (tree area₁ area₂ out area₁' area₂' out' : List ℕ) (L : Lowered' r area₁' area₂' out' (lower_call k tree area₁ area₂ out)) where
+module _ (r : Result ℕ Question) (k l : Limits) (e : k ≡ l) (tree area₁ area₂ out area₁' area₂' out' : List ℕ) (L : Lowers r area₁' area₂' out' (lower_call k tree area₁ area₂ out)) where
   lowered-fits : (n : ℕ) → r ≡ Ok n → n ≤ length out
-  unfolding lowered lower_call lower_answer
-  lowered-fits n h = answer-count k (length out) n tree (areas_fit (length area₁) (length area₂)) (sym L.answer ∙ ap lowered h)
+  unfolding lowering_said lower_call lower_answer
+  lowered-fits n h = answer-count k (length out) n tree (areas_fit (length area₁) (length area₂)) (sym L.answer ∙ ap lowering_said h)
 
-  pub lowered-few : length out < 2 ^ 63 → Few r
+  pub lowered-few : length out < 2 ^ 63 → RoomToTell r
   lowered-few h n e = let k = lowered-fits n e in omega arith
 
   abbrev want : Lowering
   want = lower_call l tree area₁ area₂ out
 
-  pub lowered-told : (x : ℕ) → x ≡ counted r → Lowers x want area₁' area₂' out'
+  pub lowered-told : (x : ℕ) → x ≡ counted_as_number r → TellsLowering x want area₁' area₂' out'
   lowered-told x h =
       let w : lower_call k tree area₁ area₂ out ≡ want = ap (λ (m : Limits). lower_call m tree area₁ area₂ out) e in
-      subst (λ (v : Lowering). Lowers x v area₁' area₂' out') w (record { answer = h ∙ counted-lowered r ∙ ap told_count L.answer; first = L.first; second = L.second; output = L.output })
+      subst (λ (v : Lowering). TellsLowering x v area₁' area₂' out') w (record { answer = h ∙ counted-lowered r ∙ ap told_count L.answer; first = L.first; second = L.second; output = L.output })
 
 -- ---- the order of two trees
 
@@ -131,20 +131,20 @@ module _ (r : Result (Opt ℕ) Question) (k l : Limits) (e : k ≡ l) (tree area
   abbrev cut_down : Cutting
   cut_down = cut_call l tree area₁ area₂ out
 
-  pub cut-told : (n : ℕ) → n ≡ found r → Cuts n cut_down area₁' area₂' out'
+  pub cut-told : (n : ℕ) → n ≡ found r → TellsCut n cut_down area₁' area₂' out'
   cut-told n h =
       let w : cut_call k tree area₁ area₂ out ≡ cut_down = ap (λ (m : Limits). cut_call m tree area₁ area₂ out) e in
-      subst (λ (v : Cutting). Cuts n v area₁' area₂' out') w (record { answer = h ∙ found-cut r ∙ ap told_cut C.answer; first = C.first; second = C.second; output = C.output })
+      subst (λ (v : Cutting). TellsCut n v area₁' area₂' out') w (record { answer = h ∙ found-cut r ∙ ap told_cut C.answer; first = C.first; second = C.second; output = C.output })
 
 -- ---- a module
 
-asked-read : {A : Type 0} (r : Result A Question) → asked r ≡ told (read_said r)
-unfolding asked told read_said
+asked-read : {A : Type 0} (r : Result A Question) → asked_as_number r ≡ told_question (said r)
+unfolding asked_as_number told_question said
 asked-read (Ok x) = refl
 asked-read (Err q) = refl
 
-pub read-told : {A : Type 0} (r : Result A Question) (a : Answer (Unit {0})) → read_said r ≡ a → asked r ≡ told a
-read-told r a e = asked-read r ∙ ap told e
+pub read-told : {A : Type 0} (r : Result A Question) (a : Answer (Unit {0})) → said r ≡ a → asked_as_number r ≡ told_question a
+read-told r a e = asked-read r ∙ ap told_question e
 
 -- ---- a function's code
 
@@ -166,14 +166,14 @@ code-no r t f q L e = ap told_part (sym (ap said_part e) ∙ L.is)
 
 -- ---- a text about a module
 
-counted-text : (r : Result ℕ Question) → counted r ≡ told_count (text_said r)
-unfolding counted told_count text_said
+counted-text : (r : Result ℕ Question) → counted_as_number r ≡ told_count (listed_said r)
+unfolding counted_as_number told_count listed_said
 counted-text (Ok n) = refl
 counted-text (Err q) = refl
 
 -- what is written fits the output
 module _ (q : ℕ) (f : Tables → List ℕ) (r : Result ℕ Question) (t out out' : List ℕ) (L : Printed r (text_call q f t out) out') where
-  text-fits : (n : ℕ) → text_said r ≡ accepted n → n ≤ length out
+  text-fits : (n : ℕ) → listed_said r ≡ accepted n → n ≤ length out
   unfolding text_call text_answer text_fits count_answer when_accepted
   text-fits n e = go (read_module t) (sym L.answer ∙ e)
     where
@@ -181,28 +181,28 @@ module _ (q : ℕ) (f : Tables → List ℕ) (r : Result ℕ Question) (t out ou
       go (refused p) k = let z : ◌≡◌ {A = ℕ} 0 1 = cc in absurd (omega arith)
       go (accepted x) k = room-count q (length out) (f x) n (leb (length (f x)) (length out)) refl k
 
-  pub text-few : length out < 2 ^ 63 → Few r
-  unfolding text_said
-  text-few h n e = let k = text-fits n (ap text_said e) in omega arith
+  pub text-few : length out < 2 ^ 63 → RoomToTell r
+  unfolding listed_said
+  text-few h n e = let k = text-fits n (ap listed_said e) in omega arith
 
-  pub text-told : (a : ℕ) → a ≡ counted r → Prints a (text_call q f t out) out'
+  pub text-told : (a : ℕ) → a ≡ counted_as_number r → Prints a (text_call q f t out) out'
   text-told a e = record { answer = e ∙ counted-text r ∙ ap told_count L.answer; output = L.output }
 
 -- ---- a run
 
-asked-ran : (r : Result RanSo Question) → asked r ≡ told (ran_said r)
-unfolding asked told ran_said
+asked-ran : (r : Result RanSo Question) → asked_as_number r ≡ told_question (ran_said r)
+unfolding asked_as_number told_question ran_said
 asked-ran (Ok n) = refl
 asked-ran (Err q) = refl
 
-counts-ran : (r : Result RanSo Question) (xs : List ℕ) → counts_by r xs ≡ counts_in (ran_said r) xs
-unfolding counts_by counts_in ran_said
+counts-ran : (r : Result RanSo Question) (xs : List ℕ) → counts_in r xs ≡ answer_counts_in (ran_said r) xs
+unfolding counts_in answer_counts_in ran_said
 counts-ran (Ok n) xs = refl
 counts-ran (Err q) xs = refl
 
-pub runs-told : (r : Result RanSo Question) (want : Running) (left numbers numbers' : List ℕ) → Called r want left → {a : ℕ} → a ≡ asked r → numbers' ≡ counts_by r numbers → Runs a want left numbers numbers'
+pub runs-told : (r : Result RanSo Question) (want : Running) (left numbers numbers' : List ℕ) → Called r want left → {a : ℕ} → a ≡ asked_as_number r → numbers' ≡ counts_in r numbers → Runs a want left numbers numbers'
 runs-told r want left numbers numbers' C f g =
-    record { answer = f ∙ asked-ran r ∙ ap told C.says; buffer = C.leaves; counts = g ∙ counts-ran r numbers ∙ ap (λ (a : Answer Counts). counts_in a numbers) C.says }
+    record { answer = f ∙ asked-ran r ∙ ap told_question C.says; buffer = C.leaves; counts = g ∙ counts-ran r numbers ∙ ap (λ (a : Answer Counts). answer_counts_in a numbers) C.says }
 
 -- ---- a place
 

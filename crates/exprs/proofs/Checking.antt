@@ -15,7 +15,7 @@ use Rattle.questions.specs.Numbers.{number}
 use Rattle.definitions.specs.Bytes.{field}
 use Rattle.parts.specs.Judge.{Passed, judged, unasked, suited, judge_expr, inner, judge_many, judge_display}
 use Rattle.parts.specs.Asked.{stand}
-use Rattle.parts.specs.Judged.{passed_by, Judged, ReadsByte, Stands}
+use Rattle.parts.specs.Judged.{passed_by, Judged, ReadsByte, StandChanged}
 use Rattle.parts.specs.declared.asked.BlockQuestion.{BlockQuestion}
 use Rattle.parts.specs.declared.checker.Checker.{Checker}
 use Rattle.parts.specs.declared.roles.Role.{Role}
@@ -43,7 +43,7 @@ abbrev pub Kind : (r : Role) (d k : ℕ) (K : List ℕ → ℕ → ℕ → Passe
 Kind r d k K = (t : List ℕ) (p w u : ℕ) → (d ≡ 0 → ⊥) → p < length t → u ≡ suited r (get_or t p 0) w → get_or t p 0 ≡ k → K t (p + 1) u ≡ judge_expr r d t p w
 
 pub expr-step : (r : Role) (d k : ℕ) {K : List ℕ → ℕ → ℕ → Passed} {b : ℕ} {o : Result (Unit {0}) Question} {c c₁ c₂ c₃ : Checker} →
-    ReadsByte (Ok b) c c₁ → (d ≡ 0 → ⊥) → Stands c₁ c₂ (suited r b) → b ≡ k → Kind r d k K → Judged o c₂ c₃ K → Judged o c c₃ (judge_expr r d)
+    ReadsByte (Ok b) c c₁ → (d ≡ 0 → ⊥) → StandChanged c₁ c₂ (suited r b) → b ≡ k → Kind r d k K → Judged o c₂ c₃ K → Judged o c c₃ (judge_expr r d)
 unfolding ReadsByte
 expr-step r d k {K = K} {b = b} {c = c} {c₁ = c₁} {c₂ = c₂} a f s e l j = record {
   tree = j.tree ∙ s.tree ∙ a.0.tree;
@@ -53,20 +53,20 @@ expr-step r d k {K = K} {b = b} {c = c} {c₁ = c₁} {c₂ = c₂} a f s e l j 
 }
 
 -- kinds that read on alike
-pub expr-constant : (r : Role) (d : ℕ) {k : ExprKind} {b : ℕ} {u : Unit {0}} {c c₁ c₂ : Checker} → ReadsByte (Ok b) c c₁ → (d ≡ 0 → ⊥) → Stands c₁ c₂ (suited r b) → expr_byte k ≡ b →
+pub expr-constant : (r : Role) (d : ℕ) {k : ExprKind} {b : ℕ} {u : Unit {0}} {c c₁ c₂ : Checker} → ReadsByte (Ok b) c c₁ → (d ≡ 0 → ⊥) → StandChanged c₁ c₂ (suited r b) → expr_byte k ≡ b →
     (k ≡ NoneLiteral) ⊎ ((k ≡ False) ⊎ (k ≡ True)) → Judged (Ok u) c c₂ (judge_expr r d)
 unfolding expr_byte
 expr-constant r d a f s e (inl h) = expr-step r d 0 a f s (sym e ∙ ap expr_byte h) (λ t p w u f h s e. at_none r d t p w u f h s e) done
 expr-constant r d a f s e (inr (inl h)) = expr-step r d 1 a f s (sym e ∙ ap expr_byte h) (λ t p w u f h s e. at-false r d t p w u f h s e) done
 expr-constant r d a f s e (inr (inr h)) = expr-step r d 2 a f s (sym e ∙ ap expr_byte h) (λ t p w u f h s e. at_true r d t p w u f h s e) done
 
-pub expr-eight : (r : Role) (d : ℕ) {k : ExprKind} {b : ℕ} {o : Result (Unit {0}) Question} {c c₁ c₂ c₃ : Checker} → ReadsByte (Ok b) c c₁ → (d ≡ 0 → ⊥) → Stands c₁ c₂ (suited r b) → expr_byte k ≡ b →
+pub expr-eight : (r : Role) (d : ℕ) {k : ExprKind} {b : ℕ} {o : Result (Unit {0}) Question} {c c₁ c₂ c₃ : Checker} → ReadsByte (Ok b) c c₁ → (d ≡ 0 → ⊥) → StandChanged c₁ c₂ (suited r b) → expr_byte k ≡ b →
     (k ≡ Int) ⊎ (k ≡ Float) → Judged o c₂ c₃ (judged unasked (field 8)) → Judged o c c₃ (judge_expr r d)
 unfolding expr_byte
 expr-eight r d a f s e (inl h) j = expr-step r d 3 a f s (sym e ∙ ap expr_byte h) (λ t p w u f h s e. at-int r d t p w u f h s e) j
 expr-eight r d a f s e (inr h) j = expr-step r d 4 a f s (sym e ∙ ap expr_byte h) (λ t p w u f h s e. at-float r d t p w u f h s e) j
 
-pub expr-values : (r : Role) (d : ℕ) {k : ExprKind} {b : ℕ} {o : Result (Unit {0}) Question} {c c₁ c₂ c₃ : Checker} → ReadsByte (Ok b) c c₁ → (d ≡ 0 → ⊥) → Stands c₁ c₂ (suited r b) → expr_byte k ≡ b →
+pub expr-values : (r : Role) (d : ℕ) {b : ℕ} {k : ExprKind} {o : Result (Unit {0}) Question} {c c₁ c₂ c₃ : Checker} → ReadsByte (Ok b) c c₁ → (d ≡ 0 → ⊥) → StandChanged c₁ c₂ (suited r b) → expr_byte k ≡ b →
     (k ≡ list_kind) ⊎ ((k ≡ Set) ⊎ (k ≡ TreeSet)) → Judged o c₂ c₃ (judge_display (d - 1)) → Judged o c c₃ (judge_expr r d)
 unfolding expr_byte
 expr-values r d a f s e (inl h) j = expr-step r d 11 a f s (sym e ∙ ap expr_byte h) (λ t p w u f h s e. at-list r d t p w u f h s e) j

@@ -10,9 +10,9 @@ use Rattle.parts.specs.declared.roles.Role.{Role}
 use Rattle.parts.specs.declared.roles.Role.TheVariants.{Value}
 use Rattle.parts.proofs.Laws.{then_next}
 use Rattle.parts.proofs.LeafLaws.{suits-value}
-use Rattle.parts.specs.Judged.{Skips}
+use Rattle.parts.specs.Judged.{SkipsBelow}
 use Rattle.parts.specs.declared.checker.Checker.{Checker}
-use Rattle.exprs.specs.Constants.{Passes, Skipped}
+use Rattle.exprs.specs.Constants.{PassesOver, Skipped}
 use Rattle.exprs.proofs.ExprLaws.{at_none, at-false, at_true, many_more}
 
 -- a constant as a value: one byte, of which nothing is asked
@@ -36,7 +36,7 @@ many-at : (r : Role) (d : ℕ) (t : List ℕ) (n m p q w : ℕ) → n ≡ m → 
 many-at r d t n m p q w e g = rw (e, g)
 
 -- nothing is passed over
-pass-none : (r : Role) (d : ℕ) (t : List ℕ) (n p : ℕ) → p ≤ length t → Passes r d t n p 0
+pass-none : (r : Role) (d : ℕ) (t : List ℕ) (n p : ℕ) → p ≤ length t → PassesOver r d t n p 0
 pass-none r d t n p h = record { few = omega arith; inside = omega arith; same = λ w. many-at r d t _ _ _ _ w (omega arith) (omega arith) }
 
 -- constants in a list of values are passed over
@@ -48,7 +48,7 @@ same-past d t n p (suc k) f a b c w =
     ∙ many-constant d t (n - k) (p + k) w f (omega arith) (omega arith) (c k (omega arith))
     ∙ many-at Value d t _ _ _ _ w (omega arith) (omega arith)
 
-pub skip-constants : (r : Role) (d n k : ℕ) {c c₁ : Checker} → r ≡ Value → 0 < d → Skips 3 n k c c₁ → Skipped r d n k c c₁
+pub skip-constants : (r : Role) (d n k : ℕ) {c c₁ : Checker} → r ≡ Value → 0 < d → SkipsBelow 3 n k c c₁ → Skipped r d n k c c₁
 skip-constants r d n k {c = c} e f s = record {
   passes = rw e (let h = s.went.room in record { few = s.few; inside = h; same = same-past d c.tree.now n c.at k (λ z. absurd (omega arith)) s.few h s.each });
   tree = s.went.tree;

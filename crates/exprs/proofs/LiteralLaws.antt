@@ -17,11 +17,11 @@ use Rattle.definitions.specs.Tree.{none_l, int_l, float_l, string_l, Expr, lit}
 use Rattle.numerals.specs.Kinds.{expr_byte}
 use Rattle.numerals.specs.declared.kinds.ExprKind.{ExprKind}
 use Rattle.numerals.specs.declared.kinds.ExprKind.TheVariants.{Int as IntKind, Float as FloatKind}
-use Rattle.parts.specs.Places.{Node, node_of, node_at, is_got, count_at, Counted, eight_at, text_at}
+use Rattle.parts.specs.Places.{Node, node_of, node_at, is_got, count_at, CountThere, eight_at, text_node_at}
 use Rattle.parts.proofs.Laws.{at_byte, kind-of}
 use Rattle.parts.proofs.Nodes.{Seen, got-node}
 use Rattle.exprs.specs.ExprAt.{expr_at, ExprReads, int_at, float_at, string_at}
-use Rattle.exprs.specs.Literals.{literal_of, kind_byte, Plain, TextPlace, bits_of, LiteralAt, Stands}
+use Rattle.exprs.specs.Literals.{literal_of, kind_byte, PlainLiteral, TextPlace, bits_of, LiteralAt, LiteralStands}
 use Rattle.exprs.specs.declared.literals.Literal.{Literal}
 use Rattle.exprs.specs.declared.literals.Literal.TheVariants.{None, Bool as Truth, Int, Float, Nan, Text}
 use Rattle.exprs.proofs.ExprLaws.{deep-E}
@@ -103,8 +103,8 @@ module _ (t : List ℕ) (p : ℕ) (h : LiteralAt t p) where
   no-text-float (Text start len) n e = let z : ◌≡◌ {A = ℕ} 0 1 = cc in absurd (omega arith)
 
   -- None, False or True, by the byte of its kind
-  pub is-constant : (x : Literal) → kind_byte x ≡ get_or t p 0 → get_or t p 0 < 3 → (lit (literal_of t x) ≡ (expr_at 1 t p).value) × Plain x × TextPlace t p x
-  unfolding kind_byte literal_of Plain TextPlace
+  pub is-constant : (x : Literal) → kind_byte x ≡ get_or t p 0 → get_or t p 0 < 3 → (lit (literal_of t x) ≡ (expr_at 1 t p).value) × PlainLiteral x × TextPlace t p x
+  unfolding kind_byte literal_of PlainLiteral TextPlace
   is-constant None e k = (sym (ap (λ (x : Node Expr). x.value) (view-none 1 t p h.reads (sym e))), tt, tt)
   is-constant (Truth false) e k = (sym (ap (λ (x : Node Expr). x.value) (view-false 1 t p h.reads (sym e))), tt, tt)
   is-constant (Truth true) e k = (sym (ap (λ (x : Node Expr). x.value) (view-true 1 t p h.reads (sym e))), tt, tt)
@@ -113,11 +113,11 @@ module _ (t : List ℕ) (p : ℕ) (h : LiteralAt t p) where
   is-constant (Nan bits) e k = absurd (omega arith)
   is-constant (Text start len) e k = absurd (omega arith)
 
-  pub is-int : (l : Literal) (n : ℕ) → get_or t p 0 ≡ 3 → n ≡ eight_at t (p + 1) → ((t : List ℕ) → Stands t l (int_l n)) → (lit (literal_of t l) ≡ (expr_at 1 t p).value) × Plain l × TextPlace t p l
+  pub is-int : (l : Literal) (n : ℕ) → get_or t p 0 ≡ 3 → n ≡ eight_at t (p + 1) → ((t : List ℕ) → LiteralStands t l (int_l n)) → (lit (literal_of t l) ≡ (expr_at 1 t p).value) × PlainLiteral l × TextPlace t p l
   unfolding int_at
   is-int l n e f s = (ap lit ((s t).is ∙ ap int_l f) ∙ sym (ap (λ (x : Node Expr). x.value) (view-int 1 t p h.reads e).is), (s t).plain, no-text-int l n (s t).is)
 
-  pub is-float : (l : Literal) (n : ℕ) → get_or t p 0 ≡ 4 → n ≡ eight_at t (p + 1) → ((t : List ℕ) → Stands t l (float_l n)) → (lit (literal_of t l) ≡ (expr_at 1 t p).value) × Plain l × TextPlace t p l
+  pub is-float : (l : Literal) (n : ℕ) → get_or t p 0 ≡ 4 → n ≡ eight_at t (p + 1) → ((t : List ℕ) → LiteralStands t l (float_l n)) → (lit (literal_of t l) ≡ (expr_at 1 t p).value) × PlainLiteral l × TextPlace t p l
   unfolding float_at
   is-float l n e f s = (ap lit ((s t).is ∙ ap float_l f) ∙ sym (ap (λ (x : Node Expr). x.value) (view-float 1 t p h.reads e).is), (s t).plain, no-text-float l n (s t).is)
 
@@ -126,11 +126,11 @@ module _ (t : List ℕ) (p : ℕ) (h : LiteralAt t p) where
   text-kind k i a d e = let l = h.kind in grind arith
 
   module _ (e : get_or t p 0 ≡ 5) where
-    pub text-counted : Counted t (p + 1)
+    pub text-counted : CountThere t (p + 1)
     text-counted = (view-string 1 t p h.reads e).parts.count
 
-    pub is-text : (n : ℕ) → n ≡ count_at t (p + 1) → (lit (literal_of t (Text (p + 3) n)) ≡ (expr_at 1 t p).value) × Plain (Text (p + 3) n) × TextPlace t p (Text (p + 3) n)
-    unfolding literal_of Plain TextPlace string_at text_at
+    pub is-text : (n : ℕ) → n ≡ count_at t (p + 1) → (lit (literal_of t (Text (p + 3) n)) ≡ (expr_at 1 t p).value) × PlainLiteral (Text (p + 3) n) × TextPlace t p (Text (p + 3) n)
+    unfolding literal_of PlainLiteral TextPlace string_at text_node_at
     is-text n f = (
       ap (λ (k : ℕ). lit (string_l (take k (drop (p + 3) t)))) f
           ∙ ap (λ (k : ℕ). lit (string_l (take (count_at t (p + 1)) (drop k t)))) (let z : p + 3 ≡ p + 1 + 2 = omega arith in z)
@@ -169,7 +169,7 @@ module _ (d : ℕ) (t : List ℕ) (p : ℕ) (r : ExprReads d t p) (h : get_or t 
 
 -- ---- the bits of a number's literal
 
-pub int-bits : (x : Literal) (n : ℕ) (t : List ℕ) → Stands t x (int_l n) → bits_of x ≡ n
+pub int-bits : (x : Literal) (n : ℕ) (t : List ℕ) → LiteralStands t x (int_l n) → bits_of x ≡ n
 unfolding literal_of bits_of
 int-bits None n t h = let k = h.is in let z : ◌≡◌ {A = ℕ} 0 1 = cc in absurd (omega arith)
 int-bits (Truth b) n t h = let k = h.is in let z : ◌≡◌ {A = ℕ} 0 1 = cc in absurd (omega arith)
@@ -178,7 +178,7 @@ int-bits (Float z) n t h = let k = h.is in let z : ◌≡◌ {A = ℕ} 0 1 = cc 
 int-bits (Nan b) n t h = let k = h.is in let z : ◌≡◌ {A = ℕ} 0 1 = cc in absurd (omega arith)
 int-bits (Text s l) n t h = let k = h.is in let z : ◌≡◌ {A = ℕ} 0 1 = cc in absurd (omega arith)
 
-pub float-bits : (x : Literal) (n : ℕ) (t : List ℕ) → Stands t x (float_l n) → bits_of x ≡ n
+pub float-bits : (x : Literal) (n : ℕ) (t : List ℕ) → LiteralStands t x (float_l n) → bits_of x ≡ n
 unfolding literal_of bits_of
 float-bits None n t h = let k = h.is in let z : ◌≡◌ {A = ℕ} 0 1 = cc in absurd (omega arith)
 float-bits (Truth b) n t h = let k = h.is in let z : ◌≡◌ {A = ℕ} 0 1 = cc in absurd (omega arith)

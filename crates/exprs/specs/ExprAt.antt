@@ -5,7 +5,7 @@ use Rattle.definitions.specs.Tree.{none_l, int_l, float_l, string_l, UnaryOp, no
 use Rattle.definitions.specs.Tree.{BinaryOp, add_op, subtract_op, multiply_op, divide_op, floor_divide_op, modulo_op, equal_op, not_equal_op, less_op, less_equal_op, greater_op, greater_equal_op}
 use Rattle.definitions.specs.Tree.{Expr, lit, var, unary, binary, call, attr, display, index, lambda, Exprs, []ᵉ, ◌∷ᵉ◌}
 use Rattle.definitions.specs.Parse.{exprs_of, unary_kinds, binary_kinds, parse_expr}
-use Rattle.parts.specs.Places.{Node, node, node_at, Reads, count_at, Counted, eight_at, name_bytes, name_end, There, ParamsAt, params_at, text_at}
+use Rattle.parts.specs.Places.{Node, node, node_at, Reads, count_at, CountThere, eight_at, name_from, name_end, There, ParamsAt, params_at, text_node_at}
 
 -- the expression at p with d levels left, and n expressions from p on
 abbrev pub expr_at : ℕ → List ℕ → ℕ → Node Expr
@@ -30,10 +30,10 @@ unfoldable pub float_at : List ℕ → ℕ → Node Expr
 float_at t p = node (lit (float_l (eight_at t p))) (p + 8)
 
 unfoldable pub string_at : List ℕ → ℕ → Node Expr
-string_at t p = node (lit (string_l (text_at t p).value)) (text_at t p).end
+string_at t p = node (lit (string_l (text_node_at t p).value)) (text_node_at t p).end
 
 unfoldable pub var_at : List ℕ → ℕ → Node Expr
-var_at t p = node (var (name_bytes t p)) (name_end t p)
+var_at t p = node (var (name_from t p)) (name_end t p)
 
 -- ---- operators
 
@@ -79,7 +79,7 @@ binary_at d t p = node (binary_of (get_or t p 0) (expr_at d t (p + 1)).value (se
 
 -- a count, and so many expressions
 pub record ListAt (d : ℕ) (t : List ℕ) (p : ℕ) : Type 0 where
-  pub count : Counted t p
+  pub count : CountThere t p
   pub elements : ExprsRead d (count_at t p) t (p + 2)
 
 abbrev pub list_at : ℕ → List ℕ → ℕ → Node Exprs
@@ -97,7 +97,7 @@ pub record AttributeAt (d : ℕ) (t : List ℕ) (p : ℕ) : Type 0 where
   pub name : There t (expr_at d t p).end
 
 unfoldable pub attribute_at : ℕ → List ℕ → ℕ → Node Expr
-attribute_at d t p = node (attr (expr_at d t p).value (name_bytes t (expr_at d t p).end)) (name_end t (expr_at d t p).end)
+attribute_at d t p = node (attr (expr_at d t p).value (name_from t (expr_at d t p).end)) (name_end t (expr_at d t p).end)
 
 -- a list, tuple, set or tree set holds what ListAt says
 unfoldable pub display_at : Display → ℕ → List ℕ → ℕ → Node Expr
@@ -105,7 +105,7 @@ display_at k d t p = node (display k (list_at d t p).value) (list_at d t p).end
 
 -- a dict: a count, and twice as many expressions
 pub record DictAt (d : ℕ) (t : List ℕ) (p : ℕ) : Type 0 where
-  pub count : Counted t p
+  pub count : CountThere t p
   pub elements : ExprsRead d (2 * count_at t p) t (p + 2)
 
 abbrev pub pairs_at : ℕ → List ℕ → ℕ → Node Exprs
@@ -131,5 +131,5 @@ pub record ExprsMore (d n : ℕ) (t : List ℕ) (p : ℕ) : Type 0 where
   pub head : ExprReads d t p
   pub rest : ExprsRead d (n - 1) t (expr_at d t p).end
 
-unfoldable pub cons_at : ℕ → ℕ → List ℕ → ℕ → Node Exprs
-cons_at d n t p = node ((expr_at d t p).value ∷ᵉ (exprs_at d (n - 1) t (expr_at d t p).end).value) (exprs_at d (n - 1) t (expr_at d t p).end).end
+unfoldable pub cons_exprs_at : ℕ → ℕ → List ℕ → ℕ → Node Exprs
+cons_exprs_at d n t p = node ((expr_at d t p).value ∷ᵉ (exprs_at d (n - 1) t (expr_at d t p).end).value) (exprs_at d (n - 1) t (expr_at d t p).end).end

@@ -30,13 +30,13 @@ kind_byte (Nan bits) = 4
 kind_byte (Text start len) = 5
 
 -- a float in the case `Float` is no NaN, and the bits in the case `Nan` are a NaN's: above those of infinity, but for the sign
-unfoldable pub Plain : Literal → Type 0
-Plain None = Unit {0}
-Plain (Truth b) = Unit {0}
-Plain (Int z) = Unit {0}
-Plain (Float x) = T (not (is_nan x))
-Plain (Nan bits) = 9218868437227405312 < bits % 9223372036854775808
-Plain (Text start len) = Unit {0}
+unfoldable pub PlainLiteral : Literal → Type 0
+PlainLiteral None = Unit {0}
+PlainLiteral (Truth b) = Unit {0}
+PlainLiteral (Int z) = Unit {0}
+PlainLiteral (Float x) = T (not (is_nan x))
+PlainLiteral (Nan bits) = 9218868437227405312 < bits % 9223372036854775808
+PlainLiteral (Text start len) = Unit {0}
 
 -- a string's place in the tree: its bytes stand behind the kind byte at p and the count, and are as many as it counts
 unfoldable pub TextPlace : List ℕ → ℕ → Literal → Type 0
@@ -62,6 +62,6 @@ pub record LiteralAt (t : List ℕ) (p : ℕ) : Type 0 where
   pub kind : get_or t p 0 < 6
 
 -- the code's literal l is the paper's x, and plain
-pub record Stands (t : List ℕ) (l : Literal) (x : Tree.Literal) : Type 0 where
+pub record LiteralStands (t : List ℕ) (l : Literal) (x : Tree.Literal) : Type 0 where
   pub is : literal_of t l ≡ x
-  pub plain : Plain l
+  pub plain : PlainLiteral l

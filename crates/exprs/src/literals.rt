@@ -4,7 +4,7 @@ ghost use Rattle.definitions.specs.Tree.{int_l, float_l, lit};
 ghost use Rattle.numerals.specs.Kinds.{expr_byte};
 ghost use Rattle.parts.specs.Places.{eight_at};
 ghost use Rattle.exprs.specs.ExprAt.{expr_at};
-ghost use Rattle.exprs.specs.Literals.{literal_of, kind_byte, Plain, TextPlace, bits_of, LiteralAt, Stands};
+ghost use Rattle.exprs.specs.Literals.{literal_of, kind_byte, PlainLiteral, TextPlace, bits_of, LiteralAt, LiteralStands};
 
 use numerals::kinds::ExprKind;
 use parts::numbers::u16_at;
@@ -37,14 +37,14 @@ fn eight_at(tree: &[u8], at: usize) -> u64
 
 // The integer whose two's complement is `bits`.
 pub fn int_literal(bits: u64) -> Literal
-    ensures { (t : List ℕ) → Stands t result (int_l bits) }
+    ensures { (t : List ℕ) → LiteralStands t result (int_l bits) }
 {
     Literal::Int(bits.cast_signed())
 }
 
 // The float of these bits.
 pub fn float_literal(bits: u64) -> Literal
-    ensures { (t : List ℕ) → Stands t result (float_l bits) }
+    ensures { (t : List ℕ) → LiteralStands t result (float_l bits) }
 {
     if INFINITY < bits % SIGN {
         Literal::Nan(bits)
@@ -69,7 +69,7 @@ pub fn constant_of(kind: ExprKind) -> Option<Literal>
 // The literal whose kind byte is at `at`.
 pub fn literal_at(tree: &[u8], at: usize) -> Literal
     requires { LiteralAt tree.now at }
-    ensures { (lit (literal_of tree.now result) ≡ (expr_at 1 tree.now at).value) × Plain result × TextPlace tree.now at result }
+    ensures { (lit (literal_of tree.now result) ≡ (expr_at 1 tree.now at).value) × PlainLiteral result × TextPlace tree.now at result }
 {
     let kind = ExprKind::of(tree[at]);
     if let Some(x) = constant_of(kind) {
@@ -87,7 +87,7 @@ pub fn literal_at(tree: &[u8], at: usize) -> Literal
 
 // The bits of an integer or a float; 0 for the others.
 pub fn literal_bits(literal: Literal) -> u64
-    requires { Plain literal }
+    requires { PlainLiteral literal }
     ensures { result ≡ bits_of literal }
 {
     match literal {

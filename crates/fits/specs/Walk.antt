@@ -6,9 +6,9 @@ use Rattle.definitions.specs.Slots.{Frame}
 use Rattle.definitions.specs.Fits.{fits_expr, fits_block}
 
 -- the next position where the question is answered yes; else that it is not
-unfoldable pub Walks : Option ℕ → ℕ → Bool → Type 0
-Walks (Some e) end ok = (e ≡ end) × (ok ≡ true)
-Walks None end ok = ok ≡ false
+unfoldable pub WalkAnswers : Option ℕ → ℕ → Bool → Type 0
+WalkAnswers (Some e) end ok = (e ≡ end) × (ok ≡ true)
+WalkAnswers None end ok = ok ≡ false
 
 -- a lambda and its body, a def and its block, by the slots of the function
 unfoldable pub lambda_fits : List Name → Expr → Bool

@@ -5,7 +5,7 @@ ghost use Rattle.state.specs.State.{slot_names};
 ghost use Rattle.definitions.specs.Fits.{fits_expr, fits_exprs, fits_target};
 ghost use Rattle.parts.specs.Places.{name_end, params_at};
 ghost use Rattle.exprs.specs.ExprAt.{expr_at, exprs_at, ExprReads, ExprsRead, TwoAt, second_at, CallAt, ListAt, list_at, DictAt, pairs_at, AttributeAt, LambdaAt};
-ghost use Rattle.fits.specs.Walk.{Walks, lambda_fits};
+ghost use Rattle.fits.specs.Walk.{WalkAnswers, lambda_fits};
 
 use crate::frame::Frame;
 use numerals::kinds::ExprKind;
@@ -23,7 +23,7 @@ impl<'a> Frame<'a> {
     pub(crate) fn expr(self, at: usize, depth: u32) -> Option<usize>
         requires { ExprReads depth self.tree.now at }
         ensures { let t = self.entry.tree.now in let names = slot_names t self.entry.slots.now in
-            Walks result (expr_at depth t at).end (fits_expr names (expr_at depth t at).value) }
+            WalkAnswers result (expr_at depth t at).end (fits_expr names (expr_at depth t at).value) }
     {
         let a = at + 1;
         let below = depth - 1;
@@ -47,7 +47,7 @@ impl<'a> Frame<'a> {
     fn two(self, at: usize, depth: u32) -> Option<usize>
         requires { TwoAt depth self.tree.now at }
         ensures { let t = self.entry.tree.now in let names = slot_names t self.entry.slots.now in
-            Walks result (second_at depth t at).end (fits_expr names (expr_at depth t at).value && fits_expr names (second_at depth t at).value) }
+            WalkAnswers result (second_at depth t at).end (fits_expr names (expr_at depth t at).value && fits_expr names (second_at depth t at).value) }
     {
         let p = self.expr(at, depth)?;
         self.expr(p, depth)
@@ -58,7 +58,7 @@ impl<'a> Frame<'a> {
     fn call(self, at: usize, depth: u32) -> Option<usize>
         requires { CallAt depth self.tree.now at }
         ensures { let t = self.entry.tree.now in let names = slot_names t self.entry.slots.now in let callee = expr_at depth t at in
-            Walks result (list_at depth t callee.end).end (fits_expr names callee.value && fits_exprs names (list_at depth t callee.end).value) }
+            WalkAnswers result (list_at depth t callee.end).end (fits_expr names callee.value && fits_exprs names (list_at depth t callee.end).value) }
     {
         let p = self.expr(at, depth)?;
         self.list(p, depth)
@@ -69,7 +69,7 @@ impl<'a> Frame<'a> {
     fn attribute(self, at: usize, depth: u32) -> Option<usize>
         requires { AttributeAt depth self.tree.now at }
         ensures { let t = self.entry.tree.now in let names = slot_names t self.entry.slots.now in
-            Walks result (name_end t (expr_at depth t at).end) (fits_expr names (expr_at depth t at).value) }
+            WalkAnswers result (name_end t (expr_at depth t at).end) (fits_expr names (expr_at depth t at).value) }
     {
         let p = self.expr(at, depth)?;
         Some(name_end(self.tree, p))
@@ -80,7 +80,7 @@ impl<'a> Frame<'a> {
     fn list(self, at: usize, depth: u32) -> Option<usize>
         requires { ListAt depth self.tree.now at }
         ensures { let t = self.entry.tree.now in let names = slot_names t self.entry.slots.now in
-            Walks result (list_at depth t at).end (fits_exprs names (list_at depth t at).value) }
+            WalkAnswers result (list_at depth t at).end (fits_exprs names (list_at depth t at).value) }
     {
         let count = u16_at(self.tree, at);
         self.many(at + 2, depth, count)
@@ -91,7 +91,7 @@ impl<'a> Frame<'a> {
     fn dict(self, at: usize, depth: u32) -> Option<usize>
         requires { DictAt depth self.tree.now at }
         ensures { let t = self.entry.tree.now in let names = slot_names t self.entry.slots.now in
-            Walks result (pairs_at depth t at).end (fits_exprs names (pairs_at depth t at).value) }
+            WalkAnswers result (pairs_at depth t at).end (fits_exprs names (pairs_at depth t at).value) }
     {
         let count = u16_at(self.tree, at);
         self.many(at + 2, depth, 2 * count)
@@ -102,7 +102,7 @@ impl<'a> Frame<'a> {
     fn many(self, at: usize, depth: u32, count: u32) -> Option<usize>
         requires { ExprsRead depth count self.tree.now at }
         ensures { let t = self.entry.tree.now in let names = slot_names t self.entry.slots.now in
-            Walks result (exprs_at depth count t at).end (fits_exprs names (exprs_at depth count t at).value) }
+            WalkAnswers result (exprs_at depth count t at).end (fits_exprs names (exprs_at depth count t at).value) }
     {
         let mut p = at;
         for _ in 0..count {
@@ -120,7 +120,7 @@ impl<'a> Frame<'a> {
     fn lambda(self, at: usize, depth: u32) -> Option<usize>
         requires { LambdaAt depth self.tree.now at }
         ensures { let t = self.entry.tree.now in let names = slot_names t self.entry.slots.now in let params = params_at t at in let body = expr_at depth t params.end in
-            Walks result body.end (lambda_fits (params.value ++ captures names params.value body.value) body.value) }
+            WalkAnswers result body.end (lambda_fits (params.value ++ captures names params.value body.value) body.value) }
     {
         let mut inner = [0u32; SLOTS_ROOM];
         let p = skip_params(self.tree, at);
@@ -137,7 +137,7 @@ impl<'a> Frame<'a> {
     pub(crate) fn target(self, at: usize, depth: u32) -> Option<usize>
         requires { ExprReads depth self.tree.now at }
         ensures { let t = self.entry.tree.now in let names = slot_names t self.entry.slots.now in
-            Walks result (expr_at depth t at).end (fits_target names (expr_at depth t at).value) }
+            WalkAnswers result (expr_at depth t at).end (fits_target names (expr_at depth t at).value) }
     {
         match ExprKind::of(self.tree[at]) {
             ExprKind::Attribute | ExprKind::Index => self.expr(at, depth),

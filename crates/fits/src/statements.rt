@@ -6,7 +6,7 @@ ghost use Rattle.definitions.specs.Fits.{fits_expr, fits_target, fits_stmt, fits
 ghost use Rattle.parts.specs.Places.{name_end, params_at};
 ghost use Rattle.exprs.specs.ExprAt.{expr_at, TwoAt, second_at};
 ghost use Rattle.tree.specs.StmtAt.{stmt_at, block_at, branches_at, methods_at, StmtReads, BlockReads, BranchesRead, MethodsRead, BranchAt, body_at, IfAt, elifs_at, ForAt, DefAt, def_block_at, class_methods_at, TreeAt};
-ghost use Rattle.fits.specs.Walk.{Walks, def_fits};
+ghost use Rattle.fits.specs.Walk.{WalkAnswers, def_fits};
 
 use crate::frame::Frame;
 use numerals::kinds::StmtKind;
@@ -22,7 +22,7 @@ impl<'a> Frame<'a> {
     fn assign(self, at: usize, depth: u32) -> Option<usize>
         requires { TwoAt depth self.tree.now at }
         ensures { let t = self.entry.tree.now in let names = slot_names t self.entry.slots.now in
-            Walks result (second_at depth t at).end (fits_target names (expr_at depth t at).value && fits_expr names (second_at depth t at).value) }
+            WalkAnswers result (second_at depth t at).end (fits_target names (expr_at depth t at).value && fits_expr names (second_at depth t at).value) }
     {
         let p = self.target(at, depth)?;
         self.expr(p, depth)
@@ -33,7 +33,7 @@ impl<'a> Frame<'a> {
     fn stmt(self, at: usize, depth: u32) -> Option<usize>
         requires { StmtReads depth self.tree.now at }
         ensures { let t = self.entry.tree.now in let names = slot_names t self.entry.slots.now in
-            Walks result (stmt_at depth t at).end (fits_stmt names (stmt_at depth t at).value) }
+            WalkAnswers result (stmt_at depth t at).end (fits_stmt names (stmt_at depth t at).value) }
     {
         let a = at + 1;
         let below = depth - 1;
@@ -54,7 +54,7 @@ impl<'a> Frame<'a> {
     fn block(self, at: usize, depth: u32) -> Option<usize>
         requires { BlockReads depth self.tree.now at }
         ensures { let t = self.entry.tree.now in let names = slot_names t self.entry.slots.now in
-            Walks result (block_at depth t at).end (fits_block names (block_at depth t at).value) }
+            WalkAnswers result (block_at depth t at).end (fits_block names (block_at depth t at).value) }
     {
         let count = u16_at(self.tree, at);
         let mut p = at + 2;
@@ -69,7 +69,7 @@ impl<'a> Frame<'a> {
     fn branch(self, at: usize, depth: u32) -> Option<usize>
         requires { BranchAt depth self.tree.now at }
         ensures { let t = self.entry.tree.now in let names = slot_names t self.entry.slots.now in
-            Walks result (body_at depth t at).end (fits_expr names (expr_at depth t at).value && fits_block names (body_at depth t at).value) }
+            WalkAnswers result (body_at depth t at).end (fits_expr names (expr_at depth t at).value && fits_block names (body_at depth t at).value) }
     {
         let p = self.expr(at, depth)?;
         self.block(p, depth)
@@ -80,7 +80,7 @@ impl<'a> Frame<'a> {
     fn branches(self, at: usize, depth: u32) -> Option<usize>
         requires { IfAt depth self.tree.now at }
         ensures { let t = self.entry.tree.now in let names = slot_names t self.entry.slots.now in
-            Walks result (elifs_at depth t at).end
+            WalkAnswers result (elifs_at depth t at).end
             (fits_expr names (expr_at depth t at).value && fits_block names (body_at depth t at).value && fits_branches names (elifs_at depth t at).value) }
     {
         let p = self.branch(at, depth)?;
@@ -94,7 +94,7 @@ impl<'a> Frame<'a> {
     fn elifs(self, at: usize, depth: u32, count: u32) -> Option<usize>
         requires { BranchesRead depth count self.tree.now at }
         ensures { let t = self.entry.tree.now in let names = slot_names t self.entry.slots.now in
-            Walks result (branches_at depth count t at).end (fits_branches names (branches_at depth count t at).value) }
+            WalkAnswers result (branches_at depth count t at).end (fits_branches names (branches_at depth count t at).value) }
     {
         let mut p = at;
         for _ in 0..count {
@@ -108,7 +108,7 @@ impl<'a> Frame<'a> {
     fn else_block(self, at: usize, depth: u32) -> Option<usize>
         requires { BranchesRead depth 0 self.tree.now at }
         ensures { let t = self.entry.tree.now in let names = slot_names t self.entry.slots.now in
-            Walks result (branches_at depth 0 t at).end (fits_branches names (branches_at depth 0 t at).value) }
+            WalkAnswers result (branches_at depth 0 t at).end (fits_branches names (branches_at depth 0 t at).value) }
     {
         if self.tree[at] == 0 {
             return Some(at + 1);
@@ -121,7 +121,7 @@ impl<'a> Frame<'a> {
     fn loop_over(self, at: usize, depth: u32) -> Option<usize>
         requires { ForAt depth self.tree.now at }
         ensures { let t = self.entry.tree.now in let names = slot_names t self.entry.slots.now in let over = name_end t at in
-            Walks result (body_at depth t over).end (fits_expr names (expr_at depth t over).value && fits_block names (body_at depth t over).value) }
+            WalkAnswers result (body_at depth t over).end (fits_expr names (expr_at depth t over).value && fits_block names (body_at depth t over).value) }
     {
         let p = name_end(self.tree, at);
         self.branch(p, depth)
@@ -132,7 +132,7 @@ impl<'a> Frame<'a> {
     fn def(self, at: usize, depth: u32) -> Option<usize>
         requires { DefAt depth self.tree.now at }
         ensures { let t = self.entry.tree.now in let block = def_block_at depth t at in
-            Walks result block.end (def_fits (with_loops (params_at t (name_end t at)).value block.value) block.value) }
+            WalkAnswers result block.end (def_fits (with_loops (params_at t (name_end t at)).value block.value) block.value) }
     {
         let mut inner = [0u32; SLOTS_ROOM];
         let params = name_end(self.tree, at);
@@ -151,7 +151,7 @@ impl<'a> Frame<'a> {
     fn methods(self, at: usize, depth: u32, count: u32) -> Option<usize>
         requires { MethodsRead depth count self.tree.now at }
         ensures { let t = self.entry.tree.now in
-            Walks result (methods_at depth count t at).end (fits_methods (methods_at depth count t at).value) }
+            WalkAnswers result (methods_at depth count t at).end (fits_methods (methods_at depth count t at).value) }
     {
         let mut p = at;
         for _ in 0..count {
@@ -165,7 +165,7 @@ impl<'a> Frame<'a> {
     fn class(self, at: usize, depth: u32) -> Option<usize>
         requires { StmtReads depth self.tree.now at × (get_or self.tree.now at 0 ≡ 10) }
         ensures { let t = self.entry.tree.now in
-            Walks result (stmt_at depth t at).end (fits_methods (class_methods_at (depth - 1) t (at + 1)).value) }
+            WalkAnswers result (stmt_at depth t at).end (fits_methods (class_methods_at (depth - 1) t (at + 1)).value) }
     {
         let p = name_end(self.tree, at + 1);
         let count = u16_at(self.tree, p);

@@ -12,7 +12,7 @@ use Rattle.definitions.specs.Bytes.{Answer, refused, accepted, when_accepted}
 use Rattle.definitions.specs.Module.{Limits, lower_bytes}
 use Rattle.definitions.specs.Calls.{written, output_after, count_answer, areas_fit, fits_room, lower_answer, Lowering, lower_call}
 use Rattle.definitions.proofs.Lowered.{when-accepted}
-use Rattle.lowering.specs.Lowered.{said, Lowers}
+use Rattle.lowering.specs.Lowered.{lowering_said, Lowers}
 use Rattle.std.specs.Prelude.{Result, Ok, Err}
 use Rattle.questions.specs.declared.Question.{Question}
 use Rattle.questions.specs.Numbers.{number}
@@ -47,11 +47,11 @@ answer-gives l a b room tree m = go (areas_fit a b)
         (W.1 ∙ ap accepted F.0, subst (λ (x : List ℕ). length x ≤ room) F.0 F.1)
 
 -- an answer that is a count
-counted : (r : Result ℕ Question) (n : ℕ) (a : Answer (List ℕ)) (output output' : List ℕ) → said r ≡ count_answer a → output' ≡ output_after a output → r ≡ Ok n →
+counted : (r : Result ℕ Question) (n : ℕ) (a : Answer (List ℕ)) (output output' : List ℕ) → lowering_said r ≡ count_answer a → output' ≡ output_after a output → r ≡ Ok n →
     (m : List ℕ) × (a ≡ accepted m) × (n ≡ length m) × (output' ≡ written m output)
-unfolding said count_answer output_after when_accepted
-counted r n (refused q) output output' t o e = let x : accepted n ≡ refused q = sym (ap said e) ∙ t in let z : ◌≡◌ {A = ℕ} 0 1 = cc in absurd (omega arith)
-counted r n (accepted m) output output' t o e = let x : accepted n ≡ accepted (length m) = sym (ap said e) ∙ t in (m, refl, cc, o)
+unfolding lowering_said count_answer output_after when_accepted
+counted r n (refused q) output output' t o e = let x : accepted n ≡ refused q = sym (ap lowering_said e) ∙ t in let z : ◌≡◌ {A = ℕ} 0 1 = cc in absurd (omega arith)
+counted r n (accepted m) output output' t o e = let x : accepted n ≡ accepted (length m) = sym (ap lowering_said e) ∙ t in (m, refl, cc, o)
 
 pub front-is : (n : ℕ) (m output output' : List ℕ) → n ≡ length m → output' ≡ written m output → take n output' ≡ m
 unfolding written
@@ -78,14 +78,14 @@ part-is n xs = let e : n - 0 ≡ n = omega arith in ap (λ (k : ℕ). take k xs)
 abbrev both : {A : Type 0} → ℕ → Answer A → Answer (Thereafter A)
 both n x = accepted (record { count = n; next = x })
 
-module _ (w : Lowering) (r : Result ℕ Question) (output' : List ℕ) (answer : said r ≡ w.answer) (output : output' ≡ w.output) where
+module _ (w : Lowering) (r : Result ℕ Question) (output' : List ℕ) (answer : lowering_said r ≡ w.answer) (output : output' ≡ w.output) where
   answer-wrote : (n : ℕ) → r ≡ Ok n → w.answer ≡ accepted n
-  unfolding said
-  answer-wrote n e = sym answer ∙ ap said e
+  unfolding lowering_said
+  answer-wrote n e = sym answer ∙ ap lowering_said e
 
   answer-refused : (q : Question) → r ≡ Err q → w.answer ≡ refused (number q)
-  unfolding said
-  answer-refused q e = sym answer ∙ ap said e
+  unfolding lowering_said
+  answer-refused q e = sym answer ∙ ap lowering_said e
 
   pub then-accepted : {A : Type 0} (call : List ℕ → Answer A) (n : ℕ) → r ≡ Ok n → (next : Answer A) → next ≡ call (take n output') →
       both n next ≡ thereafter w.answer w.output call

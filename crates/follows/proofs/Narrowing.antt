@@ -10,17 +10,17 @@ use Rattle.definitions.specs.Module.{office, console, limits_by}
 use Rattle.definitions.specs.Calls.{output_after, count_answer, zeros, areas_fit, lower_answer, area_after, lower_call}
 use Rattle.definitions.specs.Statements.{Narrowed}
 use Rattle.definitions.proofs.Narrower.{narrower, sets_under}
-use Rattle.limits.specs.Sets.{said as set_number, limits_for}
+use Rattle.limits.specs.Sets.{set_number, limits_for}
 use Rattle.limits.specs.declared.Limits.TheVariants.{Office, Console}
-use Rattle.lowering.specs.Lowered.{said, Lowers}
+use Rattle.lowering.specs.Lowered.{lowering_said, Lowers}
 use Rattle.std.specs.Prelude.{Result, Ok, Err}
 use Rattle.questions.specs.declared.Question.{Question}
 use Rattle.follows.specs.Both.{said_bytes, LowersAtBoth}
 use Rattle.follows.proofs.Made.{front-is}
 
 -- what is said and written is the whole answer
-bytes-said : (r : Result ℕ Question) (a : Answer (List ℕ)) (output output' : List ℕ) → said r ≡ count_answer a → output' ≡ output_after a output → said_bytes r output' ≡ a
-unfolding said said_bytes count_answer output_after when_accepted
+bytes-said : (r : Result ℕ Question) (a : Answer (List ℕ)) (output output' : List ℕ) → lowering_said r ≡ count_answer a → output' ≡ output_after a output → said_bytes r output' ≡ a
+unfolding lowering_said said_bytes count_answer output_after when_accepted
 bytes-said (Ok n) (accepted m) output output' e f = let c : n ≡ length m = cc in ap accepted (front-is n m output output' c f)
 bytes-said (Ok n) (refused q) output output' e f = let z : ◌≡◌ {A = ℕ} 0 1 = cc in absurd (omega arith)
 bytes-said (Err q) (refused p) output output' e f = cc

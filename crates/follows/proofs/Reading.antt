@@ -13,13 +13,13 @@ use Rattle.definitions.specs.Reader.{read_module}
 use Rattle.definitions.specs.Calls.{lower_call, read_call}
 use Rattle.definitions.specs.Statements.{Under}
 use Rattle.definitions.proofs.Lowered.{lowered_reads}
-use Rattle.reader.specs.View.{said as read_said}
+use Rattle.reader.specs.View.{said}
 use Rattle.reader.proofs.Deciding.{says-ok}
 use Rattle.questions.specs.declared.Question.{Question}
 use Rattle.reader.specs.declared.Sections.{Sections}
 use Rattle.lowering.specs.Lowered.{Lowers}
 use Rattle.std.specs.Prelude.{Result, Ok, Err, IsOk}
-use Rattle.follows.specs.Rereading.{said, reread_call, Rereads}
+use Rattle.follows.specs.Rereading.{reread_said, reread_call, Rereads}
 use Rattle.follows.specs.declared.Reread.{Reread}
 use Rattle.follows.proofs.Made.{Made, made, part-is, then-accepted, then-refused}
 
@@ -34,12 +34,12 @@ made_reads l u tree output output' n o M =
     ap read_call M.front ∙ read-accepted M.bytes R.tables R.reads
 
 module _ (r : Result ℕ Question) (l : Limits) (tree area₁ area₂ output area₁' area₂' output' : List ℕ) (L : Lowers r area₁' area₂' output' (lower_call l tree area₁ area₂ output)) where
-  pub reread-wrote : Under l office → are_bytes tree ≡ true → (n : ℕ) → r ≡ Ok n → (v : Result Sections Question) → read_said v ≡ read_call (take (n - 0) output') →
+  pub reread-wrote : Under l office → are_bytes tree ≡ true → (n : ℕ) → r ≡ Ok n → (v : Result Sections Question) → said v ≡ read_call (take (n - 0) output') →
       Rereads (Ok (record { written = n; verdict = v })) area₁' area₂' output' l tree area₁ area₂ output
-  unfolding reread_call said
-  reread-wrote u o n e v g = let h : read_said v ≡ read_call (take n output') = g ∙ ap read_call (part-is n output') in record {
+  unfolding reread_call reread_said
+  reread-wrote u o n e v g = let h : said v ≡ read_call (take n output') = g ∙ ap read_call (part-is n output') in record {
     equation = record {
-      answer = then-accepted (lower_call l tree area₁ area₂ output) r output' L.answer L.output read_call n e (read_said v) h;
+      answer = then-accepted (lower_call l tree area₁ area₂ output) r output' L.answer L.output read_call n e (said v) h;
       first = L.first;
       second = L.second;
       output = L.output;
@@ -49,7 +49,7 @@ module _ (r : Result ℕ Question) (l : Limits) (tree area₁ area₂ output are
   }
 
   reread-no : (q : Question) → r ≡ Err q → Rereads (Err q) area₁' area₂' output' l tree area₁ area₂ output
-  unfolding reread_call said
+  unfolding reread_call reread_said
   reread-no q e = record {
     equation = record {
       answer = then-refused (lower_call l tree area₁ area₂ output) r output' L.answer L.output read_call q e;

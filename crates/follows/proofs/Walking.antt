@@ -17,13 +17,13 @@ use Rattle.definitions.proofs.Demand3Bytes.{demand3_bytes}
 use Rattle.questions.specs.declared.Question.TheVariants.{Function, EventRoom}
 use Rattle.questions.specs.Numbers.{number}
 use Rattle.questions.proofs.Named.{number-same}
-use Rattle.run.specs.Pass.{said as ran_said, Called}
+use Rattle.run.specs.Pass.{ran_said, Called}
 use Rattle.run.proofs.Calling.{says-refused, says-finished}
 use Rattle.run.specs.declared.Ran.{Ran as RanSo}
 use Rattle.lowering.specs.Lowered.{Lowers}
 use Rattle.std.specs.Prelude.{Result, Ok, Err}
 use Rattle.questions.specs.declared.Question.{Question}
-use Rattle.follows.specs.Following.{said, follow_call, FollowsAs, SameAsWalk, AsWalked, FollowsSource}
+use Rattle.follows.specs.Following.{followed_said, follow_call, FollowsAs, SameAsWalk, AsWalked, FollowsSource}
 use Rattle.follows.specs.declared.Followed.{Followed}
 use Rattle.follows.proofs.Made.{made, part-is, then-accepted, then-refused, left-accepted, left-refused}
 
@@ -74,7 +74,7 @@ module _ (r : Result ℕ Question) (l : Limits) (tree area₁ area₂ bytes area
         (subst (λ (m : List ℕ). Follows answers (length events) (walk_tree tree function answers) (run_answer m function answers budget (length events))) (sym M.front) D)
 
     run-equation : FollowsAs (Ok (record { written = n; outcome = o })) area₁' area₂' bytes' events' (follow_call l tree function answers budget area₁ area₂ bytes events)
-    unfolding follow_call said
+    unfolding follow_call followed_said
     run-equation = record {
       answer =
           then-accepted (lower_call l tree area₁ area₂ bytes) r bytes' L.answer L.output (λ m. (run_call m function answers budget events).answer) n e (ran_said o)
@@ -99,7 +99,7 @@ module _ (r : Result ℕ Question) (l : Limits) (tree area₁ area₂ bytes area
   follow-ran n e o events' C = ran-follows n e o events' (subst (λ (m : List ℕ). Called o (run_call m function answers budget events) events') (part-is n bytes') C)
 
   follow-no : (q : Question) → r ≡ Err q → FollowsSource (Err q) area₁' area₂' bytes' events l tree function answers budget area₁ area₂ bytes events
-  unfolding follow_call said
+  unfolding follow_call followed_said
   follow-no q e = record {
     equation = record {
       answer = then-refused (lower_call l tree area₁ area₂ bytes) r bytes' L.answer L.output (λ m. (run_call m function answers budget events).answer) q e;

@@ -6,7 +6,7 @@ use Rattle.definitions.specs.Module.{Limits}
 use Rattle.definitions.specs.Walk.{Walked, ending_number}
 use Rattle.definitions.specs.Calls.{written, are_answers, lower_call, Counts, run_call, walk_tree}
 use Rattle.definitions.specs.Statements.{instructions_in}
-use Rattle.run.specs.Pass.{said as ran_said, ending_number as number_of_ending}
+use Rattle.run.specs.Pass.{ran_said, run_ending_number}
 use Rattle.run.specs.declared.Ran.{Ran as RanSo}
 use Rattle.follows.specs.Thereafter.{Thereafter, thereafter, left_after}
 use Rattle.follows.specs.declared.Followed.{Followed}
@@ -17,9 +17,9 @@ use Rattle.questions.specs.Numbers.{number}
 -- ---- the call
 
 -- the paper's answers for each case of the call's: the count of bytes written and the run's answer, or the number of the first question answered no
-unfoldable pub said : Result Followed Question → Answer (Thereafter Counts)
-said (Ok r) = accepted (record { count = r.written; next = ran_said r.outcome })
-said (Err q) = refused (number q)
+unfoldable pub followed_said : Result Followed Question → Answer (Thereafter Counts)
+followed_said (Ok r) = accepted (record { count = r.written; next = ran_said r.outcome })
+followed_said (Err q) = refused (number q)
 
 -- the call: its answer, and the two areas, the module's buffer and the event buffer after it
 pub record Following : Type 0 where
@@ -42,7 +42,7 @@ follow_call l tree function answers budget area₁ area₂ bytes events =
 
 -- an answer and what is left are those of a call
 pub record FollowsAs (r : Result Followed Question) (area₁' area₂' bytes' events' : List ℕ) (w : Following) : Type 0 where
-  pub answer : said r ≡ w.answer
+  pub answer : followed_said r ≡ w.answer
   pub first : area₁' ≡ w.area₁
   pub second : area₂' ≡ w.area₂
   pub bytes : bytes' ≡ w.bytes
@@ -54,7 +54,7 @@ pub record FollowsAs (r : Result Followed Question) (area₁' area₂' bytes' ev
 pub record SameAsWalk (o : Result RanSo Question) (w : Walked) (answers events events' : List ℕ) : Type 0 where
   pub ran : RanSo
   pub says : o ≡ Ok ran
-  pub ending : number_of_ending ran.ending ≡ ending_number w.ending
+  pub ending : run_ending_number ran.ending ≡ ending_number w.ending
   pub bytes : ran.written ≡ length w.events
   pub ends : (1 ≤ ending_number w.ending) × (ending_number w.ending ≤ 2)
   pub uses : ran.used + length w.left ≡ length answers

@@ -3,16 +3,16 @@ use Rattle.std.specs.Prelude.{ℕ, ◌≡◌, List, Result, Ok, Err, IsOk}
 use Rattle.definitions.specs.Bytes.{Answer, refused, accepted}
 use Rattle.definitions.specs.Module.{Limits}
 use Rattle.definitions.specs.Calls.{lower_call, read_call}
-use Rattle.reader.specs.View.{said as read_said}
+use Rattle.reader.specs.View.{said}
 use Rattle.follows.specs.Thereafter.{Thereafter, thereafter}
 use Rattle.follows.specs.declared.Reread.{Reread}
 use Rattle.questions.specs.declared.Question.{Question}
 use Rattle.questions.specs.Numbers.{number}
 
 -- the paper's answers for each case of the call's: the count of bytes written and the reader's answer, or the number of the first question answered no
-unfoldable pub said : Result Reread Question → Answer (Thereafter (Unit {0}))
-said (Ok r) = accepted (record { count = r.written; next = read_said r.verdict })
-said (Err q) = refused (number q)
+unfoldable pub reread_said : Result Reread Question → Answer (Thereafter (Unit {0}))
+reread_said (Ok r) = accepted (record { count = r.written; next = said r.verdict })
+reread_said (Err q) = refused (number q)
 
 -- the call: its answer, and the two areas and the output after it
 pub record Rereading : Type 0 where
@@ -28,7 +28,7 @@ reread_call l tree area₁ area₂ output =
 
 -- an answer and what is left are those of a call
 pub record RereadsAs (r : Result Reread Question) (area₁' area₂' output' : List ℕ) (w : Rereading) : Type 0 where
-  pub answer : said r ≡ w.answer
+  pub answer : reread_said r ≡ w.answer
   pub first : area₁' ≡ w.area₁
   pub second : area₂' ≡ w.area₂
   pub output : output' ≡ w.output

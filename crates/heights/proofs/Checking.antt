@@ -19,7 +19,7 @@ use Rattle.std.specs.Prelude.{Result, Ok, Err}
 use Rattle.questions.specs.declared.Question.{Question}
 use Rattle.questions.specs.declared.Question.TheVariants.{WorkAreas, Heights}
 use Rattle.questions.specs.Numbers.{number}
-use Rattle.reader.specs.View.{Got, number_at, tables_of, instructions_of, part_at, Inside, said}
+use Rattle.reader.specs.View.{Got, number_at, module_tables, instructions_of, part_at, Inside, said}
 use Rattle.reader.specs.declared.Part.{Part}
 use Rattle.reader.proofs.Encoding.{Small}
 use Rattle.run.specs.Tables.{Coded}
@@ -28,7 +28,7 @@ use Rattle.tally.specs.Walk.{Values, values_end, code_from, functions_from, Func
 use Rattle.tally.proofs.Walking.{Function-here, function-here, reads_none}
 use Rattle.tally.proofs.Calling.{functions-begin, few_bytes}
 use Rattle.tally.proofs.Parts.{code-count}
-use Rattle.heights.specs.Holding.{Parted, Stood, Gives}
+use Rattle.heights.specs.Holding.{Parted, Stood, ChecksHeights}
 
 -- ---- a part of the module
 
@@ -129,10 +129,10 @@ module _ {t : List ℕ} {p : Part} (F : FunctionsAt t p) where
   pub stood : Stood t p.count (p.start + 2)
   stood =
       let f = functions-begin t p F in
-      record { functions = f.1; stand = ap (all code_stands) f.2 ∙ read-stands t (tables_of t) F.module-is; short = few_bytes t p F }
+      record { functions = f.1; stand = ap (all code_stands) f.2 ∙ read-stands t (module_tables t) F.module-is; short = few_bytes t p F }
 
   module _ {k : ℕ} (long : 131072 ≤ k) where
-    asked : heights_answer k t ≡ heights_asked (tables_of t)
+    asked : heights_answer k t ≡ heights_asked (module_tables t)
     unfolding heights_answer wide_area when_accepted
     asked =
         ap (λ (b : Bool). elim b as (λ z. Answer (Unit {0})) [ false ↦ refused 1 | true ↦ when_accepted (read_module t) heights_asked ]) (le-leb 131072 k long)
@@ -163,7 +163,7 @@ says-closed t q k long e =
 -- ---- the call
 
 module _ (t area : List ℕ) where
-  pub call-short : length area < 131072 → Gives (Err WorkAreas) t area area
+  pub call-short : length area < 131072 → ChecksHeights (Err WorkAreas) t area area
   unfolding heights_call heights_answer wide_area area_left said number
   call-short h =
       let w = lt-leb 131072 (length area) h in
@@ -172,7 +172,7 @@ module _ (t area : List ℕ) where
         leaves = sym (ap (λ (b : Bool). elim b as (λ z. List ℕ) [ false ↦ area | true ↦ zeros area ]) w);
       }
 
-  pub call_long : 131072 ≤ length area → {r : Result (Unit {0}) Question} {area' : List ℕ} (mid : List ℕ) → length mid ≡ length area → area' ≡ zeros mid → said r ≡ heights_answer (length area) t → Gives r t area area'
+  pub call_long : 131072 ≤ length area → {r : Result (Unit {0}) Question} {area' : List ℕ} (mid : List ℕ) → length mid ≡ length area → area' ≡ zeros mid → said r ≡ heights_answer (length area) t → ChecksHeights r t area area'
   unfolding heights_call wide_area area_left zeros
   call_long h mid l e s = record {
     answer = s;

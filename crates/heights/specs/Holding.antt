@@ -7,7 +7,7 @@ use Rattle.definitions.specs.Reader.{instruction, function_record, ends_in_retur
 use Rattle.definitions.specs.Heights.{is_level, heights_call}
 use Rattle.reader.specs.View.{instructions_of, said}
 use Rattle.reader.specs.declared.Part.{Part}
-use Rattle.run.specs.Tables.{Coded, Places}
+use Rattle.run.specs.Tables.{Coded, PlacesFilled}
 use Rattle.tally.specs.Walk.{Values, values_end, code_from, functions_from}
 
 -- ---- a function's code
@@ -15,7 +15,7 @@ use Rattle.tally.specs.Walk.{Values, values_end, code_from, functions_from}
 -- a place of code that stands, and where its instructions begin
 pub record Standing (code places : List ℕ) (p : ℕ) : Type 0 where
   pub coded : Coded code
-  pub starts : Places code places
+  pub starts : PlacesFilled code places
   pub inside : p < length (instructions_of code)
 
 -- the test of place p, by the marks in the area
@@ -40,6 +40,6 @@ pub record Stood (t : List ℕ) (k at : ℕ) : Type 0 where
   pub short : length t ≤ 524288
 
 -- the call: its answer, and the area after it
-pub record Gives (r : Result (Unit {0}) Question) (t area area' : List ℕ) : Type 0 where
+pub record ChecksHeights (r : Result (Unit {0}) Question) (t area area' : List ℕ) : Type 0 where
   pub answer : said r ≡ (heights_call t area).answer
   pub leaves : area' ≡ (heights_call t area).area

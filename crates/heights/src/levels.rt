@@ -5,7 +5,7 @@ ghost use Rattle.definitions.specs.Instruction.{instr, flow};
 ghost use Rattle.definitions.specs.Search.{Swept};
 ghost use Rattle.definitions.specs.Heights.{mark_after, by_height, is_next, are_level, heights_hold};
 ghost use Rattle.reader.specs.View.{instructions_of};
-ghost use Rattle.run.specs.Tables.{Coded, Places};
+ghost use Rattle.run.specs.Tables.{Coded, PlacesFilled};
 ghost use Rattle.search.specs.View.{marks_of, Searchable};
 ghost use Rattle.heights.specs.Holding.{Standing, level_at};
 
@@ -113,7 +113,7 @@ fn is_level(code: &[u8], places: &[u32], area: &[u32], p: usize, number: u64) ->
 
 // Whether every one of n places is so.
 fn are_level(code: &[u8], places: &[u32], area: &[u32], n: usize, number: u64) -> bool
-    requires { Coded code.now × Places code.now places.now × (n ≡ length (instructions_of code.now)) }
+    requires { Coded code.now × PlacesFilled code.now places.now × (n ≡ length (instructions_of code.now)) }
     ensures { result ≡ are_level number (drop 65536 area.now) 0 (instructions_of code.now) }
 {
     for p in 0..n {

@@ -8,7 +8,7 @@ ghost use Rattle.definitions.specs.Bytes.{all};
 ghost use Rattle.definitions.specs.Heights.{function_holds, heights_hold, heights_answer};
 ghost use Rattle.reader.specs.View.{said};
 ghost use Rattle.tally.specs.Walk.{functions_from, code_from};
-ghost use Rattle.heights.specs.Holding.{Parted, Stood, Gives};
+ghost use Rattle.heights.specs.Holding.{Parted, Stood, ChecksHeights};
 
 use areas::clear;
 use levels::code_holds;
@@ -68,7 +68,7 @@ fn check_functions(bytes: &[u8], area: &mut [u32]) -> Result<(), Question>
 
 // Whether the heights of every function of a module hold. The area is zero afterwards, but after the question of its length, which leaves it.
 pub fn check_heights(bytes: &[u8], area: &mut [u32]) -> Result<(), Question>
-    ensures { Gives result bytes.now area.old area.new }
+    ensures { ChecksHeights result bytes.now area.old area.new }
 {
     if area.len() < AREA {
         return Err(Question::WorkAreas);

@@ -18,7 +18,7 @@ use Rattle.exprs.specs.ExprAt.{expr_at, ExprReads}
 use Rattle.exprs.proofs.ExprLaws.{steady-E}
 use Rattle.rests.specs.Taking.{span}
 use Rattle.rests.proofs.Spans.{got-after, got-fact}
-use Rattle.instep.specs.Stepping.{Bytes, Differs, Clear, Steps, same}
+use Rattle.instep.specs.Stepping.{Bytes, Differs, Clear, SideBySide, same}
 use Rattle.std.specs.Prelude.{Result, Ok, Err}
 use Rattle.std.specs.declared.cmp.Ordering.{Ordering}
 use Rattle.std.specs.declared.cmp.Ordering.TheVariants.{Less, Equal, Greater}
@@ -55,7 +55,7 @@ module _ {A : Type 0} {f : A → List ℕ} {P : Parser A} (W : Writes (Both P f)
       subst (λ (xs : List ℕ). Clear xs (span b q m)) (sym left-fact.bytes)
       (subst (λ (ys : List ℕ). Clear (f v) ys) (sym right-fact.bytes) (reads-clear left-fact.back right-fact.back))
 
-  spans_step : {r : Result Spot Ordering} → Steps r (span a p e) (span b q m) e m → Steps r (f v) (f w) e m
+  spans_step : {r : Result Spot Ordering} → SideBySide r (span a p e) (span b q m) e m → SideBySide r (f v) (f w) e m
   spans_step S = steps-as S left-fact.bytes right-fact.bytes refl refl
 
 -- the same where the ends are known by other names
@@ -69,13 +69,13 @@ module _ {A : Type 0} {f : A → List ℕ} {P : Parser A} (W : Writes (Both P f)
       let h = got-as H j in
       (left-after W o g h, g.within, right-after W o g h, h.within, spans-clear W o g h)
 
-  pub spans-told : {r : Result Spot Ordering} → Steps r (span a p x) (span b q y) x y → Steps r (f v) (f w) e m
+  pub spans-told : {r : Result Spot Ordering} → SideBySide r (span a p x) (span b q y) x y → SideBySide r (f v) (f w) e m
   spans-told S = steps-as (spans_step W o (got-as G i) (got-as H j) S) refl refl i j
 
 pub expr-got : (d : ℕ) (t : List ℕ) (p : ℕ) → ExprReads d t p → Got (parse_expr d) t p (expr_at d t p).end (expr_at d t p).value
 expr-got d t p r = record { start = r.start; within = node-within _ (parse_expr d) t p (steady-E d) r; is = node-got _ (parse_expr d) t p (steady-E d) r }
 
-pub name-got : {t : List ℕ} {p : ℕ} → There t p → Got name t p (name_end t p) (Places.name_bytes t p)
+pub name-got : {t : List ℕ} {p : ℕ} → There t p → Got name t p (name_end t p) (Places.name_from t p)
 name-got {t} {p} h = record { start = (let b = h.byte in omega arith); within = name-within t p h; is = name-there t p h }
 
 names-got : (t : List ℕ) (n p : ℕ) → AllThere t n p → counted [] ◌∷◌ name n (drop p t) ≡ got (names_from t n p) (drop (names_end t n p) t)
@@ -84,8 +84,8 @@ names-got t zero p a = refl
 names-got t (suc n) p a =
     bind_is name (λ x. counted [] ◌∷◌ name n >>= (λ xs. give (x ∷ xs))) (drop p t)
     ∙ ap (λ (g : Parsed Name). follow g (λ x. counted [] ◌∷◌ name n >>= (λ xs. give (x ∷ xs)))) (name-there t p a.0)
-    ∙ bind_is (counted [] ◌∷◌ name n) (λ xs. give (Places.name_bytes t p ∷ xs)) (drop (name_end t p) t)
-    ∙ ap (λ (g : Parsed (List Name)). follow g (λ xs. give (Places.name_bytes t p ∷ xs))) (names-got t n (name_end t p) a.1)
+    ∙ bind_is (counted [] ◌∷◌ name n) (λ xs. give (Places.name_from t p ∷ xs)) (drop (name_end t p) t)
+    ∙ ap (λ (g : Parsed (List Name)). follow g (λ xs. give (Places.name_from t p ∷ xs))) (names-got t n (name_end t p) a.1)
 
 pub params-got : {t : List ℕ} {p : ℕ} → ParamsAt t p → Got params t p (params_at t p).end (params_at t p).value
 unfolding params list_of params_at count_at
@@ -131,11 +131,11 @@ compared (x ∷ xs) (y ∷ ys) o C e = go (nat_cmp x y) (ranked x y (nat_cmp x y
 
 -- so of two spans
 module _ {xs ys : List ℕ} {o : Ordering} (C : Clear xs ys) (e : o ≡ slice_cmp nat_cmp xs ys) where
-  pub spans-less : {m n : ℕ} → o ≡ Less → Steps (Err Less) xs ys m n
+  pub spans-less : {m n : ℕ} → o ≡ Less → SideBySide (Err Less) xs ys m n
   spans-less h = less-steps (told xs ys (sym h) (compared xs ys o C e))
 
-  pub spans-greater : {m n : ℕ} → o ≡ Greater → Steps (Err Greater) xs ys m n
+  pub spans-greater : {m n : ℕ} → o ≡ Greater → SideBySide (Err Greater) xs ys m n
   spans-greater h = greater-steps (told xs ys (sym h) (compared xs ys o C e))
 
-  pub spans-same : {at : Spot} {m n : ℕ} → o ≡ Equal → at.first ≡ m → at.second ≡ n → Steps (Ok at) xs ys m n
+  pub spans-same : {at : Spot} {m n : ℕ} → o ≡ Equal → at.first ≡ m → at.second ≡ n → SideBySide (Ok at) xs ys m n
   spans-same h f g = same (told xs ys (sym h) (compared xs ys o C e)) f g

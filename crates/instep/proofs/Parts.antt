@@ -22,7 +22,7 @@ use Rattle.tree.specs.StmtAt.{stmt_at, block_at, stmts_at, branches_at, methods_
 use Rattle.tree.specs.StmtAt.{expr_stmt_at, return_at, assign_at, body_at, elifs_at, if_at, while_at, for_at, when_at, else_at, def_block_at, def_at, method_at, class_methods_at, class_at, cons_at}
 use Rattle.tree.proofs.StmtLaws.{steady-S}
 use Rattle.tree.proofs.StmtViews.{stmt-known, view-break, view-continue, view-pass, view-expr, view-return, view-assign, view-if, view-while, view-for, view-def, view-class}
-use Rattle.tree.proofs.StmtViews.{view-block, view-stmts-none, view-stmts-more, view-branches-more, else-known, view-done, view-else, view-methods-none, view-methods-more}
+use Rattle.tree.proofs.StmtViews.{stmts-size, view-block, view-stmts-none, view-stmts-more, view-branches-more, else-known, view-done, view-else, view-methods-none, view-methods-more}
 use Rattle.instep.specs.Stepping.{rest_stmt_at, rest_stmts_at, rest_block_at, rest_branch_at, rest_branches_at, rest_if_at, rest_for_at, rest_def_at, rest_methods_at}
 
 -- each of the eleven kinds
@@ -143,7 +143,7 @@ module _ (d : ℕ) (t : List ℕ) (p : ℕ) (r : StmtReads d t p) where
   abbrev class_tail : List ℕ
   class_tail = let n = count_at t (name_end t (p + 1)) in be 2 n ++ (rest_methods_at (d - 1) n t (name_end t (p + 1) + 2) ++ list_bytes 2 attribute_bytes [])
 
-  pub class-is : get_or t p 0 ≡ 10 → rest_stmt_at d t p ≡ 10 ∷ (name_bytes (Places.name_bytes t (p + 1)) ++ class_tail)
+  pub class-is : get_or t p 0 ≡ 10 → rest_stmt_at d t p ≡ 10 ∷ (name_bytes (Places.name_from t (p + 1)) ++ class_tail)
   unfolding rest_stmt stmt_bytes class_at
   class-is e =
       let v = view-class d t p r e in
@@ -151,7 +151,7 @@ module _ (d : ℕ) (t : List ℕ) (p : ℕ) (r : StmtReads d t p) where
       let n = count_at t a in
       let k : method_count (rest_methods (class_methods_at (d - 1) t (p + 1)).value) ≡ n = rest-methods _ ∙ methods-are (d - 1) n t (a + 2) v.parts.methods in
       (made_of _ v.is).bytes
-      ∙ ap (λ (j : ℕ). 10 ∷ (name_bytes (Places.name_bytes t (p + 1)) ++ (be 2 j ++ (rest_methods_at (d - 1) n t (a + 2) ++ list_bytes 2 attribute_bytes [])))) k
+      ∙ ap (λ (j : ℕ). 10 ∷ (name_bytes (Places.name_from t (p + 1)) ++ (be 2 j ++ (rest_methods_at (d - 1) n t (a + 2) ++ list_bytes 2 attribute_bytes [])))) k
 
 -- a part's bytes begin with its kind
 pub record Begins (xs : List ℕ) (k : ℕ) : Type 0 where
@@ -260,15 +260,6 @@ module _ (d n : ℕ) (t : List ℕ) (p : ℕ) (h : 0 < n) (r : StmtsRead d n t p
 
 pub stmts-within : (d n : ℕ) (t : List ℕ) (p : ℕ) → StmtsRead d n t p → (stmts_at d n t p).end ≤ length t
 stmts-within d n t p r = node-within []ᵇ (counted []ᵇ ◌∷ᵇ◌ (parse_stmt d) n) t p (steady-counted []ᵇ ◌∷ᵇ◌ (steady-S d) n) r
-
-stmts-size : (d n : ℕ) (t : List ℕ) (p : ℕ) → StmtsRead d n t p → size (stmts_at d n t p).value ≡ n
-unfolding size cons_at
-stmts-size d zero t p r = ap (λ (z : Node Block). size z.value) (view-stmts-none d 0 t p (omega arith) r.start)
-stmts-size d (suc n) t p r =
-    let v = view-stmts-more d (suc n) t p (omega arith) r in
-    let z : suc n - 1 ≡ n = omega arith in
-    let m = (stmt_at d t p).end in
-    ap (λ (x : Node Block). size x.value) v.is ∙ ap (λ (k : ℕ). suc (size (stmts_at d k t m).value)) z ∙ ap suc (stmts-size d n t m (subst (λ (k : ℕ). StmtsRead d k t m) z v.parts.rest))
 
 -- no more are kept than there are
 pub kept-few : (d n : ℕ) (t : List ℕ) (p : ℕ) → StmtsRead d n t p → size (rest (stmts_at d n t p).value) ≤ n

@@ -13,7 +13,7 @@ use Rattle.parts.specs.Places.{count_at, name_end, ParamsAt, params_at}
 use Rattle.exprs.specs.ExprAt.{expr_at, ExprReads, TwoAt, second_at}
 use Rattle.tree.specs.StmtAt.{stmt_at, block_at, stmts_at, branches_at, methods_at, StmtReads, BlockReads, StmtsRead, BranchesRead, MethodsRead, BranchAt, body_at, IfAt, elifs_at, ForAt, DefAt, def_block_at}
 use Rattle.tree.proofs.StmtViews.{view-class, view-branches-more, view-methods-more, else-known, view-else}
-use Rattle.instep.specs.Stepping.{spot, Steps, same, rest_stmt_at, rest_stmts_at, rest_block_at, rest_branch_at, rest_branches_at, rest_if_at, rest_for_at, rest_def_at, rest_methods_at}
+use Rattle.instep.specs.Stepping.{both_at, SideBySide, same, rest_stmt_at, rest_stmts_at, rest_block_at, rest_branch_at, rest_branches_at, rest_if_at, rest_for_at, rest_def_at, rest_methods_at}
 use Rattle.std.specs.Prelude.{Result, Ok, Err}
 use Rattle.std.specs.declared.cmp.Ordering.{Ordering}
 use Rattle.std.specs.declared.cmp.Ordering.TheVariants.{Less, Greater}
@@ -26,32 +26,32 @@ use Rattle.instep.proofs.Parts.{block_reads, block-end, block-bytes, branches-by
 -- ---- parts one after another
 
 -- a part, then what stands where it ends
-pub seq : (F G : ℕ → List ℕ) (D E : ℕ → ℕ) {r o : Result Spot Ordering} {xs ys : List ℕ} {e f x y : ℕ} → Steps r xs ys e f → r ≡ Ok (spot x y) → Steps o (F x) (G y) (D x) (E y) → Steps o (xs ++ F e) (ys ++ G f) (D e) (E f)
+pub seq : (F G : ℕ → List ℕ) (D E : ℕ → ℕ) {r o : Result Spot Ordering} {xs ys : List ℕ} {e f x y : ℕ} → SideBySide r xs ys e f → r ≡ Ok (both_at x y) → SideBySide o (F x) (G y) (D x) (E y) → SideBySide o (xs ++ F e) (ys ++ G f) (D e) (E f)
 seq F G D E S h T = let z = steps-same S h in then-steps S h (steps-as T (ap F z.first) (ap G z.second) (ap D z.first) (ap E z.second))
 
 -- counts of two bytes, then more
-pub count_less : (m n : ℕ) {e f : ℕ} (us vs : List ℕ) → m < n → n < 65536 → Steps (Err Less) (be 2 m ++ us) (be 2 n ++ vs) e f
+pub count_less : (m n : ℕ) {e f : ℕ} (us vs : List ℕ) → m < n → n < 65536 → SideBySide (Err Less) (be 2 m ++ us) (be 2 n ++ vs) e f
 count_less m n us vs h k = less-steps (differs_more us vs (number-differs 2 m n h k))
 
-pub count-greater : (m n : ℕ) {e f : ℕ} (us vs : List ℕ) → n < m → m < 65536 → Steps (Err Greater) (be 2 m ++ us) (be 2 n ++ vs) e f
+pub count-greater : (m n : ℕ) {e f : ℕ} (us vs : List ℕ) → n < m → m < 65536 → SideBySide (Err Greater) (be 2 m ++ us) (be 2 n ++ vs) e f
 count-greater m n us vs h k = greater-steps (differs_more vs us (number-differs 2 n m h k))
 
 -- parts that begin with bytes that differ
 module _ {xs ys : List ℕ} {k l e f : ℕ} (X : Begins xs k) (Y : Begins ys l) where
-  pub begin-less : k < l → Steps (Err Less) xs ys e f
+  pub begin-less : k < l → SideBySide (Err Less) xs ys e f
   begin-less h = steps-as {e = e} {f = f} (less-steps (differs-here k l X.tail Y.tail h)) (sym X.is) (sym Y.is) refl refl
 
-  pub begin-greater : l < k → Steps (Err Greater) xs ys e f
+  pub begin-greater : l < k → SideBySide (Err Greater) xs ys e f
   begin-greater h = steps-as {e = e} {f = f} (greater-steps (differs-here l k Y.tail X.tail h)) (sym X.is) (sym Y.is) refl refl
 
 -- and parts that begin with the same byte
-pub kind-steps : {k : ℕ} {xs ys us vs : List ℕ} {e f d g : ℕ} {r : Result Spot Ordering} → Is xs e (k ∷ us) d → Is ys f (k ∷ vs) g → Steps r us vs d g → Steps r xs ys e f
+pub kind-steps : {k : ℕ} {xs ys us vs : List ℕ} {e f d g : ℕ} {r : Result Spot Ordering} → Is xs e (k ∷ us) d → Is ys f (k ∷ vs) g → SideBySide r us vs d g → SideBySide r xs ys e f
 kind-steps {k} X Y S = steps-as (byte-steps k S) (sym X.bytes) (sym Y.bytes) (sym X.end) (sym Y.end)
 
 -- ---- a statement of one byte
 
 pub simple-steps : (d : ℕ) {a b : List ℕ} {p q : ℕ} → StmtReads d a p → StmtReads d b q → get_or a p 0 ≡ get_or b q 0 → get_or a p 0 < 3
-    → Steps (Ok (spot (p + 1) (q + 1))) (rest_stmt_at d a p) (rest_stmt_at d b q) (stmt_at d a p).end (stmt_at d b q).end
+    → SideBySide (Ok (both_at (p + 1) (q + 1))) (rest_stmt_at d a p) (rest_stmt_at d b q) (stmt_at d a p).end (stmt_at d b q).end
 simple-steps d {a} {b} {p} {q} r s e k =
     let X = simple-is d a p r k in
     let Y = simple-is d b q s (omega arith) in
@@ -138,8 +138,8 @@ module _ {d : ℕ} {a b : List ℕ} {i₀ x₀ j₀ y₀ i x j y : ℕ} (P : Pai
       go (suc n) z = omega arith
 
   module _ (h : 0 < i) (e : get_or a x 0 ≡ 2 → ⊥) (g : 0 < j) (f : get_or b y 0 ≡ 2 → ⊥) {r : Result Spot Ordering}
-      (S : Steps r (rest_stmt_at d a x) (rest_stmt_at d b y) (stmt_at d a x).end (stmt_at d b y).end) where
-    pub pair-next : {v w : ℕ} → r ≡ Ok (spot v w) → Pair d a b i₀ x₀ j₀ y₀ (i - 1) v (j - 1) w
+      (S : SideBySide r (rest_stmt_at d a x) (rest_stmt_at d b y) (stmt_at d a x).end (stmt_at d b y).end) where
+    pub pair-next : {v w : ℕ} → r ≡ Ok (both_at v w) → Pair d a b i₀ x₀ j₀ y₀ (i - 1) v (j - 1) w
     pair-next {v} {w} k =
         let z = steps-same S k in
         record {
@@ -161,7 +161,7 @@ module _ {d : ℕ} {a b : List ℕ} {i₀ x₀ j₀ y₀ i x j y : ℕ} (P : Pai
               omega (arith, P.sizes);
         }
 
-    pub pair-apart : {c : Ordering} {m n : ℕ} → r ≡ Err c → Steps r (rest_stmts_at d i₀ a x₀) (rest_stmts_at d j₀ b y₀) m n
+    pub pair-apart : {c : Ordering} {m n : ℕ} → r ≡ Err c → SideBySide r (rest_stmts_at d i₀ a x₀) (rest_stmts_at d j₀ b y₀) m n
     pair-apart {c} {m} {n} k =
         steps-as (steps-after {e = m} {f = n} P.front (first-apart {e' = m} {f' = n} (rest_stmts_at d (i - 1) a (stmt_at d a x).end) (rest_stmts_at d (j - 1) b (stmt_at d b y).end) S k))
         (sym (P.bytes₁ ∙ ap (λ (xs : List ℕ). P.front ++ xs) (kept-bytes d i a x h P.first e))) (sym (P.bytes₂ ∙ ap (λ (xs : List ℕ). P.front ++ xs) (kept-bytes d j b y g P.second f))) refl refl
@@ -177,7 +177,7 @@ module _ {d : ℕ} {a b : List ℕ} {i₀ x₀ j₀ y₀ i x j y : ℕ} (P : Pai
     pub pair_inside : y + j ≤ length b
     pair_inside = let e = bare₂.end in omega (arith, stmts-within d j b y P.second)
 
-    pub pair-done : Steps (Ok (spot x (y + j))) (rest_stmts_at d i₀ a x₀) (rest_stmts_at d j₀ b y₀) (stmts_at d i₀ a x₀).end (stmts_at d j₀ b y₀).end
+    pub pair-done : SideBySide (Ok (both_at x (y + j))) (rest_stmts_at d i₀ a x₀) (rest_stmts_at d j₀ b y₀) (stmts_at d i₀ a x₀).end (stmts_at d j₀ b y₀).end
     pair-done =
         same (P.bytes₁ ∙ ap (λ (xs : List ℕ). P.front ++ xs) (bare₁.bytes ∙ sym bare₂.bytes) ∙ sym P.bytes₂)
         (sym (P.end₁ ∙ bare₁.end ∙ (let z : x + i ≡ x = omega arith in z))) (sym (P.end₂ ∙ bare₂.end))
@@ -204,11 +204,11 @@ along-start {R} {Q} {D} {E} {B} {C} {n} {x} {y} f r q = subst (λ (i : ℕ). Alo
 
 module _ {R Q : ℕ → ℕ → Type 0} {D E : ℕ → ℕ → ℕ} {B C : ℕ → ℕ → List ℕ} {n₀ x₀ y₀ n x y : ℕ} (A : Along R Q D E B C n₀ x₀ y₀ n x y) where
   -- what the rests of both lists say
-  pub along-last : {r : Result Spot Ordering} → Steps r (B n x) (C n y) (D n x) (E n y) → Steps r (B n₀ x₀) (C n₀ y₀) (D n₀ x₀) (E n₀ y₀)
+  pub along-last : {r : Result Spot Ordering} → SideBySide r (B n x) (C n y) (D n x) (E n y) → SideBySide r (B n₀ x₀) (C n₀ y₀) (D n₀ x₀) (E n₀ y₀)
   along-last S = steps-as (steps-after A.front S) (sym A.bytes₁) (sym A.bytes₂) (sym A.end₁) (sym A.end₂)
 
-  module _ {xs ys : List ℕ} {m k : ℕ} (X : Head R D B n x xs m) (Y : Head Q E C n y ys k) {r : Result Spot Ordering} (S : Steps r xs ys m k) where
-    pub along-next : {v w j : ℕ} → r ≡ Ok (spot v w) → n - 1 ≡ j → Along R Q D E B C n₀ x₀ y₀ j v w
+  module _ {xs ys : List ℕ} {m k : ℕ} (X : Head R D B n x xs m) (Y : Head Q E C n y ys k) {r : Result Spot Ordering} (S : SideBySide r xs ys m k) where
+    pub along-next : {v w j : ℕ} → r ≡ Ok (both_at v w) → n - 1 ≡ j → Along R Q D E B C n₀ x₀ y₀ j v w
     along-next {v} {w} h f =
         let z = steps-same S h in
         subst (λ (i : ℕ). Along R Q D E B C n₀ x₀ y₀ i v w) f (record {
@@ -221,7 +221,7 @@ module _ {R Q : ℕ → ℕ → Type 0} {D E : ℕ → ℕ → ℕ} {B C : ℕ �
           bytes₂ = A.bytes₂ ∙ ap (λ (us : List ℕ). A.front ++ us) (Y.bytes ∙ ap₂ (λ (us : List ℕ) (j : ℕ). us ++ C (n - 1) j) (sym z.bytes) (sym z.second)) ∙ sym (append_assoc A.front xs (C (n - 1) w));
         })
 
-    pub along-apart : {c : Ordering} → r ≡ Err c → Steps r (B n₀ x₀) (C n₀ y₀) (D n₀ x₀) (E n₀ y₀)
+    pub along-apart : {c : Ordering} → r ≡ Err c → SideBySide r (B n₀ x₀) (C n₀ y₀) (D n₀ x₀) (E n₀ y₀)
     along-apart h =
         along-last (steps-as (first-apart {e' = D n x} {f' = E n y} (B (n - 1) m) (C (n - 1) k) S h) (sym X.bytes) (sym Y.bytes) refl refl)
 
@@ -241,11 +241,11 @@ branches-first d t n x h r = record { rest = (view-branches-more d t x n h r).pa
 pub branches-none : (d : ℕ) (t : List ℕ) (n x : ℕ) → n ≤ 0 → BranchesRead d n t x → BranchesRead d 0 t x
 branches-none d t n x h r = subst (λ (m : ℕ). BranchesRead d m t x) (let e : n ≡ 0 = omega arith in e) r
 
-pub branches-zero : (d : ℕ) (a b : List ℕ) (n x y : ℕ) {r : Result Spot Ordering} → n ≤ 0 → Steps r (rest_branches_at d 0 a x) (rest_branches_at d 0 b y) (branches_at d 0 a x).end (branches_at d 0 b y).end
-    → Steps r (rest_branches_at d n a x) (rest_branches_at d n b y) (branches_at d n a x).end (branches_at d n b y).end
+pub branches-zero : (d : ℕ) (a b : List ℕ) (n x y : ℕ) {r : Result Spot Ordering} → n ≤ 0 → SideBySide r (rest_branches_at d 0 a x) (rest_branches_at d 0 b y) (branches_at d 0 a x).end (branches_at d 0 b y).end
+    → SideBySide r (rest_branches_at d n a x) (rest_branches_at d n b y) (branches_at d n a x).end (branches_at d n b y).end
 branches-zero d a b n x y {r} h S =
     let e : 0 ≡ n = omega arith in
-    subst (λ (m : ℕ). Steps r (rest_branches_at d m a x) (rest_branches_at d m b y) (branches_at d m a x).end (branches_at d m b y).end) e S
+    subst (λ (m : ℕ). SideBySide r (rest_branches_at d m a x) (rest_branches_at d m b y) (branches_at d m a x).end (branches_at d m b y).end) e S
 
 abbrev pub MethodsAlong : ℕ → List ℕ → List ℕ → ℕ → ℕ → ℕ → ℕ → ℕ → ℕ → Type 0
 MethodsAlong d a b =
@@ -259,7 +259,7 @@ pub methods-first : (d : ℕ) (t : List ℕ) (n x : ℕ) → 0 < n → MethodsRe
 methods-first d t n x h r = record { rest = (view-methods-more d t x n h r).parts.rest; end = methods-end d n t x h r; bytes = methods-bytes d n t x h r }
 
 pub methods-done : (d : ℕ) (a b : List ℕ) (n₀ x₀ y₀ n x y : ℕ) → MethodsAlong d a b n₀ x₀ y₀ n x y → n ≤ 0
-    → Steps (Ok (spot x y)) (rest_methods_at d n₀ a x₀) (rest_methods_at d n₀ b y₀) (methods_at d n₀ a x₀).end (methods_at d n₀ b y₀).end
+    → SideBySide (Ok (both_at x y)) (rest_methods_at d n₀ a x₀) (rest_methods_at d n₀ b y₀) (methods_at d n₀ a x₀).end (methods_at d n₀ b y₀).end
 methods-done d a b n₀ x₀ y₀ n x y A h =
     let X = no-methods d n a x h A.first in
     let Y = no-methods d n b y h A.second in
@@ -275,10 +275,10 @@ module _ (d : ℕ) (a b : List ℕ) (p q m n : ℕ) (r : BlockReads d a p) (s : 
   bytes₂ : rest_block_at d b q ≡ be 2 j ++ rest_stmts_at d n b (q + 2)
   bytes₂ = block-bytes d b q n s g ∙ ap (λ (z : ℕ). be 2 z ++ rest_stmts_at d n b (q + 2)) (sym k)
 
-  pub block-less : {e o : ℕ} → n < 65536 → i < j → Steps (Err Less) (rest_block_at d a p) (rest_block_at d b q) e o
+  pub block-less : {e o : ℕ} → n < 65536 → i < j → SideBySide (Err Less) (rest_block_at d a p) (rest_block_at d b q) e o
   block-less {e} {o} w l = steps-as {e = e} {f = o} (count_less i j _ _ l (let z = kept-few d n b (q + 2) (block_reads d b q n s g) in omega arith)) (sym bytes₁) (sym bytes₂) refl refl
 
-  pub block-greater : {e o : ℕ} → m < 65536 → j < i → Steps (Err Greater) (rest_block_at d a p) (rest_block_at d b q) e o
+  pub block-greater : {e o : ℕ} → m < 65536 → j < i → SideBySide (Err Greater) (rest_block_at d a p) (rest_block_at d b q) e o
   block-greater {e} {o} w l = steps-as {e = e} {f = o} (count-greater i j _ _ l (let z = kept-few d m a (p + 2) (block_reads d a p m r f) in omega arith)) (sym bytes₁) (sym bytes₂) refl refl
 
   module _ (l : i ≤ j) (o : j ≤ i) where
@@ -288,26 +288,26 @@ module _ (d : ℕ) (a b : List ℕ) (p q m n : ℕ) (r : BlockReads d a p) (s : 
     pub block-kept : size (rest (stmts_at d m a (p + 2)).value) ≡ size (rest (stmts_at d n b (q + 2)).value)
     block-kept = sym h ∙ level ∙ k
 
-    pub block-steps : {u : Result Spot Ordering} → Steps u (rest_stmts_at d m a (p + 2)) (rest_stmts_at d n b (q + 2)) (stmts_at d m a (p + 2)).end (stmts_at d n b (q + 2)).end
-        → Steps u (rest_block_at d a p) (rest_block_at d b q) (block_at d a p).end (block_at d b q).end
+    pub block-steps : {u : Result Spot Ordering} → SideBySide u (rest_stmts_at d m a (p + 2)) (rest_stmts_at d n b (q + 2)) (stmts_at d m a (p + 2)).end (stmts_at d n b (q + 2)).end
+        → SideBySide u (rest_block_at d a p) (rest_block_at d b q) (block_at d a p).end (block_at d b q).end
     block-steps S =
         steps-as (steps-after (be 2 i) S) (sym bytes₁) (sym (bytes₂ ∙ ap (λ (z : ℕ). be 2 z ++ rest_stmts_at d n b (q + 2)) (sym level))) (sym (block-end d a p m r f)) (sym (block-end d b q n s g))
 
 -- ---- a condition and a block
 
-module _ (d : ℕ) (a b : List ℕ) (p q : ℕ) {r : Result Spot Ordering} (S : Steps r (expr_bytes (expr_at d a p).value) (expr_bytes (expr_at d b q).value) (expr_at d a p).end (expr_at d b q).end) where
-  pub branch-apart : {c : Ordering} → r ≡ Err c → Steps r (rest_branch_at d a p) (rest_branch_at d b q) (body_at d a p).end (body_at d b q).end
+module _ (d : ℕ) (a b : List ℕ) (p q : ℕ) {r : Result Spot Ordering} (S : SideBySide r (expr_bytes (expr_at d a p).value) (expr_bytes (expr_at d b q).value) (expr_at d a p).end (expr_at d b q).end) where
+  pub branch-apart : {c : Ordering} → r ≡ Err c → SideBySide r (rest_branch_at d a p) (rest_branch_at d b q) (body_at d a p).end (body_at d b q).end
   branch-apart h = first-apart (rest_block_at d a (expr_at d a p).end) (rest_block_at d b (expr_at d b q).end) S h
 
-  module _ {x y : ℕ} (h : r ≡ Ok (spot x y)) where
+  module _ {x y : ℕ} (h : r ≡ Ok (both_at x y)) where
     pub branch-first : BranchAt d a p → BlockReads d a x
     branch-first B = subst (λ (n : ℕ). BlockReads d a n) (sym (steps-same S h).first) B.block
 
     pub branch-second : BranchAt d b q → BlockReads d b y
     branch-second B = subst (λ (n : ℕ). BlockReads d b n) (sym (steps-same S h).second) B.block
 
-    pub branch-steps : {o : Result Spot Ordering} → Steps o (rest_block_at d a x) (rest_block_at d b y) (block_at d a x).end (block_at d b y).end
-        → Steps o (rest_branch_at d a p) (rest_branch_at d b q) (body_at d a p).end (body_at d b q).end
+    pub branch-steps : {o : Result Spot Ordering} → SideBySide o (rest_block_at d a x) (rest_block_at d b y) (block_at d a x).end (block_at d b y).end
+        → SideBySide o (rest_branch_at d a p) (rest_branch_at d b q) (body_at d a p).end (body_at d b q).end
     branch-steps T = seq (rest_block_at d a) (rest_block_at d b) (λ n. (block_at d a n).end) (λ n. (block_at d b n).end) S h T
 
     -- two expressions
@@ -317,8 +317,8 @@ module _ (d : ℕ) (a b : List ℕ) (p q : ℕ) {r : Result Spot Ordering} (S : 
     pub two-second : TwoAt d b q → ExprReads d b y
     two-second T = subst (λ (n : ℕ). ExprReads d b n) (sym (steps-same S h).second) T.second
 
-    pub two_steps : {o : Result Spot Ordering} → Steps o (expr_bytes (expr_at d a x).value) (expr_bytes (expr_at d b y).value) (expr_at d a x).end (expr_at d b y).end
-        → Steps o (expr_bytes (expr_at d a p).value ++ expr_bytes (second_at d a p).value) (expr_bytes (expr_at d b q).value ++ expr_bytes (second_at d b q).value) (second_at d a p).end (second_at d b q).end
+    pub two_steps : {o : Result Spot Ordering} → SideBySide o (expr_bytes (expr_at d a x).value) (expr_bytes (expr_at d b y).value) (expr_at d a x).end (expr_at d b y).end
+        → SideBySide o (expr_bytes (expr_at d a p).value ++ expr_bytes (second_at d a p).value) (expr_bytes (expr_at d b q).value ++ expr_bytes (second_at d b q).value) (second_at d a p).end (second_at d b q).end
     two_steps T = seq (λ n. expr_bytes (expr_at d a n).value) (λ n. expr_bytes (expr_at d b n).value) (λ n. (expr_at d a n).end) (λ n. (expr_at d b n).end) S h T
 
 -- ---- a count and what it counts, after a part that ends at x and at y
@@ -332,23 +332,23 @@ abbrev Counts : (ℕ → List ℕ → ℕ → List ℕ) → List ℕ → ℕ →
 Counts F t n = be 2 (count_at t n) ++ F (count_at t n) t (n + 2)
 
 module _ (F : ℕ → List ℕ → ℕ → List ℕ) (a b : List ℕ) (x y m n : ℕ) (f : m ≡ count_at a x) (g : n ≡ count_at b y) where
-  counts-less : {e o : ℕ} → n < 65536 → m < n → Steps (Err Less) (Counts F a x) (Counts F b y) e o
+  counts-less : {e o : ℕ} → n < 65536 → m < n → SideBySide (Err Less) (Counts F a x) (Counts F b y) e o
   counts-less k l = count_less (count_at a x) (count_at b y) _ _ (omega arith) (omega arith)
 
-  counts-greater : {e o : ℕ} → m < 65536 → n < m → Steps (Err Greater) (Counts F a x) (Counts F b y) e o
+  counts-greater : {e o : ℕ} → m < 65536 → n < m → SideBySide (Err Greater) (Counts F a x) (Counts F b y) e o
   counts-greater k l = count-greater (count_at a x) (count_at b y) _ _ (omega arith) (omega arith)
 
-  counts-steps : {u : Result Spot Ordering} {e o : ℕ} → m ≤ n → n ≤ m → Steps u (F m a (x + 2)) (F m b (y + 2)) e o → Steps u (Counts F a x) (Counts F b y) e o
+  counts-steps : {u : Result Spot Ordering} {e o : ℕ} → m ≤ n → n ≤ m → SideBySide u (F m a (x + 2)) (F m b (y + 2)) e o → SideBySide u (Counts F a x) (Counts F b y) e o
   counts-steps {u} {e} {o} k l S =
       steps-as (steps-after (be 2 m) S) (ap (λ (j : ℕ). be 2 j ++ F j a (x + 2)) f) (ap (λ (j : ℕ). be 2 j ++ F j b (y + 2)) (same_count g k l)) refl refl
 
 -- ---- an If
 
-module _ (d : ℕ) (a b : List ℕ) (p q : ℕ) {r : Result Spot Ordering} (S : Steps r (rest_branch_at d a p) (rest_branch_at d b q) (body_at d a p).end (body_at d b q).end) where
-  pub if-apart : {c : Ordering} {e f : ℕ} → r ≡ Err c → Steps r (rest_if_at d a p) (rest_if_at d b q) e f
+module _ (d : ℕ) (a b : List ℕ) (p q : ℕ) {r : Result Spot Ordering} (S : SideBySide r (rest_branch_at d a p) (rest_branch_at d b q) (body_at d a p).end (body_at d b q).end) where
+  pub if-apart : {c : Ordering} {e f : ℕ} → r ≡ Err c → SideBySide r (rest_if_at d a p) (rest_if_at d b q) e f
   if-apart h = first-apart _ _ S h
 
-  module _ {x y : ℕ} (h : r ≡ Ok (spot x y)) where
+  module _ {x y : ℕ} (h : r ≡ Ok (both_at x y)) where
     pub if-first : IfAt d a p → x + 2 ≤ length a
     if-first I = let z = I.count.bytes in omega (arith, (steps-same S h).first)
 
@@ -366,11 +366,11 @@ module _ (d : ℕ) (a b : List ℕ) (p q : ℕ) {r : Result Spot Ordering} (S : 
         (subst (λ (n : ℕ). BranchesRead d (count_at b (body_at d b q).end) b (n + 2)) (sym (steps-same S h).second) I.rest)
 
     -- what the count and the elifs say
-    if-counts : {o : Result Spot Ordering} {e f : ℕ} → Steps o (Counts (rest_branches_at d) a x) (Counts (rest_branches_at d) b y) e f → Steps o (rest_if_at d a p) (rest_if_at d b q) e f
+    if-counts : {o : Result Spot Ordering} {e f : ℕ} → SideBySide o (Counts (rest_branches_at d) a x) (Counts (rest_branches_at d) b y) e f → SideBySide o (rest_if_at d a p) (rest_if_at d b q) e f
     if-counts {o} {e} {f} T = seq (Counts (rest_branches_at d) a) (Counts (rest_branches_at d) b) (λ n. e) (λ n. f) S h T
 
     if-ends : {m : ℕ} → m ≡ count_at a x → m ≡ count_at b y → {o : Result Spot Ordering}
-        → Steps o (rest_if_at d a p) (rest_if_at d b q) (branches_at d m a (x + 2)).end (branches_at d m b (y + 2)).end → Steps o (rest_if_at d a p) (rest_if_at d b q) (elifs_at d a p).end (elifs_at d b q).end
+        → SideBySide o (rest_if_at d a p) (rest_if_at d b q) (branches_at d m a (x + 2)).end (branches_at d m b (y + 2)).end → SideBySide o (rest_if_at d a p) (rest_if_at d b q) (elifs_at d a p).end (elifs_at d b q).end
     if-ends {m} f g T =
         let z = steps-same S h in
         steps-as T refl refl
@@ -378,27 +378,27 @@ module _ (d : ℕ) (a b : List ℕ) (p q : ℕ) {r : Result Spot Ordering} (S : 
         (ap₂ (λ (j n : ℕ). (branches_at d j b (n + 2)).end) (g ∙ ap (count_at b) z.second) z.second)
 
     module _ {m n : ℕ} (f : m ≡ count_at a x) (g : n ≡ count_at b y) where
-      pub if-less : {e o : ℕ} → n < 65536 → m < n → Steps (Err Less) (rest_if_at d a p) (rest_if_at d b q) e o
+      pub if-less : {e o : ℕ} → n < 65536 → m < n → SideBySide (Err Less) (rest_if_at d a p) (rest_if_at d b q) e o
       if-less k l = if-counts (counts-less (rest_branches_at d) a b x y m n f g k l)
 
-      pub if-greater : {e o : ℕ} → m < 65536 → n < m → Steps (Err Greater) (rest_if_at d a p) (rest_if_at d b q) e o
+      pub if-greater : {e o : ℕ} → m < 65536 → n < m → SideBySide (Err Greater) (rest_if_at d a p) (rest_if_at d b q) e o
       if-greater k l = if-counts (counts-greater (rest_branches_at d) a b x y m n f g k l)
 
-      pub if-steps : m ≤ n → n ≤ m → {o : Result Spot Ordering} → Steps o (rest_branches_at d m a (x + 2)) (rest_branches_at d m b (y + 2)) (branches_at d m a (x + 2)).end (branches_at d m b (y + 2)).end
-          → Steps o (rest_if_at d a p) (rest_if_at d b q) (elifs_at d a p).end (elifs_at d b q).end
+      pub if-steps : m ≤ n → n ≤ m → {o : Result Spot Ordering} → SideBySide o (rest_branches_at d m a (x + 2)) (rest_branches_at d m b (y + 2)) (branches_at d m a (x + 2)).end (branches_at d m b (y + 2)).end
+          → SideBySide o (rest_if_at d a p) (rest_if_at d b q) (elifs_at d a p).end (elifs_at d b q).end
       if-steps k l T = if-ends f (same_count g k l) (if-counts (counts-steps (rest_branches_at d) a b x y m n f g k l T))
 
 -- ---- the else block or none
 
 module _ (d : ℕ) (a b : List ℕ) (p q : ℕ) (r : BranchesRead d 0 a p) (s : BranchesRead d 0 b q) where
-  pub else-less : {e f : ℕ} → get_or a p 0 < get_or b q 0 → Steps (Err Less) (rest_branches_at d 0 a p) (rest_branches_at d 0 b q) e f
+  pub else-less : {e f : ℕ} → get_or a p 0 < get_or b q 0 → SideBySide (Err Less) (rest_branches_at d 0 a p) (rest_branches_at d 0 b q) e f
   else-less h = begin-less (else-begins d a p r) (else-begins d b q s) h
 
-  pub else-greater : {e f : ℕ} → get_or b q 0 < get_or a p 0 → Steps (Err Greater) (rest_branches_at d 0 a p) (rest_branches_at d 0 b q) e f
+  pub else-greater : {e f : ℕ} → get_or b q 0 < get_or a p 0 → SideBySide (Err Greater) (rest_branches_at d 0 a p) (rest_branches_at d 0 b q) e f
   else-greater h = begin-greater (else-begins d a p r) (else-begins d b q s) h
 
   module _ (h : get_or a p 0 ≤ get_or b q 0) (k : get_or b q 0 ≤ get_or a p 0) where
-    pub else-none : get_or a p 0 ≡ 0 → Steps (Ok (spot (p + 1) (q + 1))) (rest_branches_at d 0 a p) (rest_branches_at d 0 b q) (branches_at d 0 a p).end (branches_at d 0 b q).end
+    pub else-none : get_or a p 0 ≡ 0 → SideBySide (Ok (both_at (p + 1) (q + 1))) (rest_branches_at d 0 a p) (rest_branches_at d 0 b q) (branches_at d 0 a p).end (branches_at d 0 b q).end
     else-none e =
         let X = done-is d a p r e in
         let Y = done-is d b q s (omega arith) in
@@ -417,30 +417,30 @@ module _ (d : ℕ) (a b : List ℕ) (p q : ℕ) (r : BranchesRead d 0 a p) (s : 
       pub else-second : BlockReads d b (q + 1)
       else-second = (view-else d b q 0 (omega arith) s other).parts
 
-      pub else-steps : {u : Result Spot Ordering} → Steps u (rest_block_at d a (p + 1)) (rest_block_at d b (q + 1)) (block_at d a (p + 1)).end (block_at d b (q + 1)).end
-          → Steps u (rest_branches_at d 0 a p) (rest_branches_at d 0 b q) (branches_at d 0 a p).end (branches_at d 0 b q).end
+      pub else-steps : {u : Result Spot Ordering} → SideBySide u (rest_block_at d a (p + 1)) (rest_block_at d b (q + 1)) (block_at d a (p + 1)).end (block_at d b (q + 1)).end
+          → SideBySide u (rest_branches_at d 0 a p) (rest_branches_at d 0 b q) (branches_at d 0 a p).end (branches_at d 0 b q).end
       else-steps S = kind-steps (else_is d a p r one) (else_is d b q s other) S
 
 -- ---- after a name
 
-module _ (a b : List ℕ) (p q : ℕ) {r : Result Spot Ordering} (S : Steps r (name_bytes (Places.name_bytes a p)) (name_bytes (Places.name_bytes b q)) (name_end a p) (name_end b q)) where
+module _ (a b : List ℕ) (p q : ℕ) {r : Result Spot Ordering} (S : SideBySide r (name_bytes (Places.name_from a p)) (name_bytes (Places.name_from b q)) (name_end a p) (name_end b q)) where
   -- a loop over an expression
-  pub for-apart : (d : ℕ) {c : Ordering} {e f : ℕ} → r ≡ Err c → Steps r (rest_for_at d a p) (rest_for_at d b q) e f
+  pub for-apart : (d : ℕ) {c : Ordering} {e f : ℕ} → r ≡ Err c → SideBySide r (rest_for_at d a p) (rest_for_at d b q) e f
   for-apart d h = first-apart _ _ S h
 
   -- a def
-  pub def-apart : (d : ℕ) {c : Ordering} {e f : ℕ} → r ≡ Err c → Steps r (rest_def_at d a p) (rest_def_at d b q) e f
+  pub def-apart : (d : ℕ) {c : Ordering} {e f : ℕ} → r ≡ Err c → SideBySide r (rest_def_at d a p) (rest_def_at d b q) e f
   def-apart d h = first-apart _ _ S h
 
-  module _ {x y : ℕ} (h : r ≡ Ok (spot x y)) where
+  module _ {x y : ℕ} (h : r ≡ Ok (both_at x y)) where
     pub for-first : {d : ℕ} → ForAt d a p → BranchAt d a x
     for-first {d} F = subst (λ (n : ℕ). BranchAt d a n) (sym (steps-same S h).first) F.loop
 
     pub for-second : {d : ℕ} → ForAt d b q → BranchAt d b y
     for-second {d} F = subst (λ (n : ℕ). BranchAt d b n) (sym (steps-same S h).second) F.loop
 
-    pub for-steps : (d : ℕ) {o : Result Spot Ordering} → Steps o (rest_branch_at d a x) (rest_branch_at d b y) (body_at d a x).end (body_at d b y).end
-        → Steps o (rest_for_at d a p) (rest_for_at d b q) (body_at d a (name_end a p)).end (body_at d b (name_end b q)).end
+    pub for-steps : (d : ℕ) {o : Result Spot Ordering} → SideBySide o (rest_branch_at d a x) (rest_branch_at d b y) (body_at d a x).end (body_at d b y).end
+        → SideBySide o (rest_for_at d a p) (rest_for_at d b q) (body_at d a (name_end a p)).end (body_at d b (name_end b q)).end
     for-steps d T = seq (rest_branch_at d a) (rest_branch_at d b) (λ n. (body_at d a n).end) (λ n. (body_at d b n).end) S h T
 
     pub def-first : {d : ℕ} → DefAt d a p → ParamsAt a x
@@ -453,24 +453,24 @@ module _ (a b : List ℕ) (p q : ℕ) {r : Result Spot Ordering} (S : Steps r (n
     After : ℕ → List ℕ → ℕ → List ℕ
     After d t n = params_bytes (params_at t n).value ++ rest_block_at d t (params_at t n).end
 
-    def-after : (d : ℕ) {o : Result Spot Ordering} {e f : ℕ} → Steps o (After d a x) (After d b y) e f → Steps o (rest_def_at d a p) (rest_def_at d b q) e f
+    def-after : (d : ℕ) {o : Result Spot Ordering} {e f : ℕ} → SideBySide o (After d a x) (After d b y) e f → SideBySide o (rest_def_at d a p) (rest_def_at d b q) e f
     unfolding After
     def-after d {o} {e} {f} T = seq (After d a) (After d b) (λ n. e) (λ n. f) S h T
 
-    module _ (d : ℕ) {o : Result Spot Ordering} (P : Steps o (params_bytes (params_at a x).value) (params_bytes (params_at b y).value) (params_at a x).end (params_at b y).end) where
-      pub params-apart : {c : Ordering} {e f : ℕ} → o ≡ Err c → Steps o (rest_def_at d a p) (rest_def_at d b q) e f
+    module _ (d : ℕ) {o : Result Spot Ordering} (P : SideBySide o (params_bytes (params_at a x).value) (params_bytes (params_at b y).value) (params_at a x).end (params_at b y).end) where
+      pub params-apart : {c : Ordering} {e f : ℕ} → o ≡ Err c → SideBySide o (rest_def_at d a p) (rest_def_at d b q) e f
       unfolding After
       params-apart k = def-after d (first-apart _ _ P k)
 
-      module _ {v w : ℕ} (k : o ≡ Ok (spot v w)) where
+      module _ {v w : ℕ} (k : o ≡ Ok (both_at v w)) where
         pub block-first : DefAt d a p → BlockReads d a v
         block-first F = subst (λ (n : ℕ). BlockReads d a n) (sym ((steps-same P k).first ∙ ap (λ (n : ℕ). (params_at a n).end) (steps-same S h).first)) F.block
 
         pub block-second : DefAt d b q → BlockReads d b w
         block-second F = subst (λ (n : ℕ). BlockReads d b n) (sym ((steps-same P k).second ∙ ap (λ (n : ℕ). (params_at b n).end) (steps-same S h).second)) F.block
 
-        pub def-steps : {u : Result Spot Ordering} → Steps u (rest_block_at d a v) (rest_block_at d b w) (block_at d a v).end (block_at d b w).end
-            → Steps u (rest_def_at d a p) (rest_def_at d b q) (def_block_at d a p).end (def_block_at d b q).end
+        pub def-steps : {u : Result Spot Ordering} → SideBySide u (rest_block_at d a v) (rest_block_at d b w) (block_at d a v).end (block_at d b w).end
+            → SideBySide u (rest_def_at d a p) (rest_def_at d b q) (def_block_at d a p).end (def_block_at d b q).end
         unfolding After
         def-steps T =
             let z = steps-same S h in
@@ -485,15 +485,15 @@ Members d n t p = rest_methods_at d n t p ++ list_bytes 2 attribute_bytes []
 
 module _ (d : ℕ) (a b : List ℕ) (p q : ℕ) (ra : StmtReads d a p) (ea : get_or a p 0 ≡ 10) (rb : StmtReads d b q) (eb : get_or b q 0 ≡ 10) where
   whole : {r : Result Spot Ordering} {e f : ℕ}
-      → Steps r (name_bytes (Places.name_bytes a (p + 1)) ++ Counts (Members (d - 1)) a (name_end a (p + 1))) (name_bytes (Places.name_bytes b (q + 1)) ++ Counts (Members (d - 1)) b (name_end b (q + 1))) e f
-      → Steps r (rest_stmt_at d a p) (rest_stmt_at d b q) e f
+      → SideBySide r (name_bytes (Places.name_from a (p + 1)) ++ Counts (Members (d - 1)) a (name_end a (p + 1))) (name_bytes (Places.name_from b (q + 1)) ++ Counts (Members (d - 1)) b (name_end b (q + 1))) e f
+      → SideBySide r (rest_stmt_at d a p) (rest_stmt_at d b q) e f
   whole S = steps-as (byte-steps 10 S) (sym (class-is d a p ra ea)) (sym (class-is d b q rb eb)) refl refl
 
-  module _ {r : Result Spot Ordering} (S : Steps r (name_bytes (Places.name_bytes a (p + 1))) (name_bytes (Places.name_bytes b (q + 1))) (name_end a (p + 1)) (name_end b (q + 1))) where
-    pub class-apart : {c : Ordering} {e f : ℕ} → r ≡ Err c → Steps r (rest_stmt_at d a p) (rest_stmt_at d b q) e f
+  module _ {r : Result Spot Ordering} (S : SideBySide r (name_bytes (Places.name_from a (p + 1))) (name_bytes (Places.name_from b (q + 1))) (name_end a (p + 1)) (name_end b (q + 1))) where
+    pub class-apart : {c : Ordering} {e f : ℕ} → r ≡ Err c → SideBySide r (rest_stmt_at d a p) (rest_stmt_at d b q) e f
     class-apart h = whole (first-apart _ _ S h)
 
-    module _ {x y : ℕ} (h : r ≡ Ok (spot x y)) where
+    module _ {x y : ℕ} (h : r ≡ Ok (both_at x y)) where
       pub class-first : x + 2 ≤ length a
       class-first = let z = (view-class d a p ra ea).parts.count.bytes in omega (arith, (steps-same S h).first)
 
@@ -511,20 +511,20 @@ module _ (d : ℕ) (a b : List ℕ) (p q : ℕ) (ra : StmtReads d a p) (ea : get
           (subst (λ (n : ℕ). MethodsRead (d - 1) (count_at b (name_end b (q + 1))) b (n + 2)) (sym (steps-same S h).second) (view-class d b q rb eb).parts.methods)
 
       -- what the count and the methods say
-      class-counts : {o : Result Spot Ordering} {e f : ℕ} → Steps o (Counts (Members (d - 1)) a x) (Counts (Members (d - 1)) b y) e f → Steps o (rest_stmt_at d a p) (rest_stmt_at d b q) e f
+      class-counts : {o : Result Spot Ordering} {e f : ℕ} → SideBySide o (Counts (Members (d - 1)) a x) (Counts (Members (d - 1)) b y) e f → SideBySide o (rest_stmt_at d a p) (rest_stmt_at d b q) e f
       class-counts {o} {e} {f} T = whole (seq (Counts (Members (d - 1)) a) (Counts (Members (d - 1)) b) (λ n. e) (λ n. f) S h T)
 
-      pub class-less : {m n e o : ℕ} → m ≡ count_at a x → n ≡ count_at b y → n < 65536 → m < n → Steps (Err Less) (rest_stmt_at d a p) (rest_stmt_at d b q) e o
+      pub class-less : {m n e o : ℕ} → m ≡ count_at a x → n ≡ count_at b y → n < 65536 → m < n → SideBySide (Err Less) (rest_stmt_at d a p) (rest_stmt_at d b q) e o
       class-less {m} {n} f g k l = class-counts (counts-less (Members (d - 1)) a b x y m n f g k l)
 
-      pub class-greater : {m n e o : ℕ} → m ≡ count_at a x → n ≡ count_at b y → m < 65536 → n < m → Steps (Err Greater) (rest_stmt_at d a p) (rest_stmt_at d b q) e o
+      pub class-greater : {m n e o : ℕ} → m ≡ count_at a x → n ≡ count_at b y → m < 65536 → n < m → SideBySide (Err Greater) (rest_stmt_at d a p) (rest_stmt_at d b q) e o
       class-greater {m} {n} f g k l = class-counts (counts-greater (Members (d - 1)) a b x y m n f g k l)
 
       module _ {m n : ℕ} (f : m ≡ count_at a x) (g : n ≡ count_at b y) (k : m ≤ n) (l : n ≤ m) {o : Result Spot Ordering}
-          (M : Steps o (rest_methods_at (d - 1) m a (x + 2)) (rest_methods_at (d - 1) m b (y + 2)) (methods_at (d - 1) m a (x + 2)).end (methods_at (d - 1) m b (y + 2)).end) where
-        pub methods-apart : {c : Ordering} {e w : ℕ} → o ≡ Err c → Steps o (rest_stmt_at d a p) (rest_stmt_at d b q) e w
+          (M : SideBySide o (rest_methods_at (d - 1) m a (x + 2)) (rest_methods_at (d - 1) m b (y + 2)) (methods_at (d - 1) m a (x + 2)).end (methods_at (d - 1) m b (y + 2)).end) where
+        pub methods-apart : {c : Ordering} {e w : ℕ} → o ≡ Err c → SideBySide o (rest_stmt_at d a p) (rest_stmt_at d b q) e w
         methods-apart z = class-counts (counts-steps (Members (d - 1)) a b x y m n f g k l (first-apart _ _ M z))
 
-        pub class-done : {v w s t : ℕ} → o ≡ Ok (spot v w) → s ≡ (stmt_at d a p).end → t ≡ (stmt_at d b q).end → Steps (Ok (spot s t)) (rest_stmt_at d a p) (rest_stmt_at d b q) (stmt_at d a p).end (stmt_at d b q).end
+        pub class-done : {v w s t : ℕ} → o ≡ Ok (both_at v w) → s ≡ (stmt_at d a p).end → t ≡ (stmt_at d b q).end → SideBySide (Ok (both_at s t)) (rest_stmt_at d a p) (rest_stmt_at d b q) (stmt_at d a p).end (stmt_at d b q).end
         class-done z i j =
             class-counts (counts-steps (Members (d - 1)) a b x y m n f g k l (same (ap (λ (us : List ℕ). us ++ list_bytes 2 attribute_bytes []) (steps-same M z).bytes) i j))

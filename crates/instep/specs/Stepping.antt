@@ -36,13 +36,13 @@ pub data Lower : Ordering → List ℕ → List ℕ → Type 0 where
   lower : {xs ys : List ℕ} → Differs xs ys → Lower Less xs ys
   higher : {xs ys : List ℕ} → Differs ys xs → Lower Greater xs ys
 
-abbrev pub spot : ℕ → ℕ → Spot
-spot x y = record { first = x; second = y }
+abbrev pub both_at : ℕ → ℕ → Spot
+both_at x y = record { first = x; second = y }
 
 -- the same bytes, and the ends of both parts; or bytes that differ
-pub data Steps : Result Spot Ordering → List ℕ → List ℕ → ℕ → ℕ → Type 0 where
-  same : {at : Spot} {e f : ℕ} {xs ys : List ℕ} → xs ≡ ys → at.first ≡ e → at.second ≡ f → Steps (Ok at) xs ys e f
-  apart : {o : Ordering} {e f : ℕ} {xs ys : List ℕ} → Lower o xs ys → Steps (Err o) xs ys e f
+pub data SideBySide : Result Spot Ordering → List ℕ → List ℕ → ℕ → ℕ → Type 0 where
+  same : {at : Spot} {e f : ℕ} {xs ys : List ℕ} → xs ≡ ys → at.first ≡ e → at.second ≡ f → SideBySide (Ok at) xs ys e f
+  apart : {o : Ordering} {e f : ℕ} {xs ys : List ℕ} → Lower o xs ys → SideBySide (Err o) xs ys e f
 
 -- equal numbers; or which is lower
 pub data Ranked : Result (Unit {0}) Ordering → ℕ → ℕ → Type 0 where
@@ -79,11 +79,11 @@ rest_if_at d t p = let m = (body_at d t p).end in rest_branch_at d t p ++ (be 2 
 
 -- a loop variable and what follows it
 abbrev pub rest_for_at : ℕ → List ℕ → ℕ → List ℕ
-rest_for_at d t p = name_bytes (Places.name_bytes t p) ++ rest_branch_at d t (name_end t p)
+rest_for_at d t p = name_bytes (Places.name_from t p) ++ rest_branch_at d t (name_end t p)
 
 -- a name, parameters and a block
 abbrev pub rest_def_at : ℕ → List ℕ → ℕ → List ℕ
-rest_def_at d t p = name_bytes (Places.name_bytes t p) ++ (params_bytes (params_at t (name_end t p)).value ++ block_bytes (rest (def_block_at d t p).value))
+rest_def_at d t p = name_bytes (Places.name_from t p) ++ (params_bytes (params_at t (name_end t p)).value ++ block_bytes (rest (def_block_at d t p).value))
 
 abbrev pub rest_methods_at : ℕ → ℕ → List ℕ → ℕ → List ℕ
 rest_methods_at d n t p = methods_bytes (rest_methods (methods_at d n t p).value)

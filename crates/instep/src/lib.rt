@@ -8,7 +8,7 @@ ghost use Rattle.definitions.specs.TreeBytes.{size};
 ghost use Rattle.definitions.specs.Rests.{rest};
 ghost use Rattle.parts.specs.Places.{name_end};
 ghost use Rattle.tree.specs.StmtAt.{stmt_at, block_at, stmts_at, branches_at, methods_at, StmtReads, BlockReads, StmtsRead, BranchesRead, MethodsRead, BranchAt, body_at, IfAt, elifs_at, ForAt, DefAt, def_block_at};
-ghost use Rattle.instep.specs.Stepping.{Bytes, Steps, rest_stmt_at, rest_stmts_at, rest_block_at, rest_branch_at, rest_if_at, rest_branches_at, rest_for_at, rest_def_at, rest_methods_at};
+ghost use Rattle.instep.specs.Stepping.{Bytes, SideBySide, rest_stmt_at, rest_stmts_at, rest_block_at, rest_branch_at, rest_if_at, rest_branches_at, rest_for_at, rest_def_at, rest_methods_at};
 
 use crate::spans::{PASS, kept, same_number};
 use numerals::kinds::StmtKind;
@@ -37,7 +37,7 @@ impl<'a> Trees<'a> {
     fn stmt(self, at: Spot, depth: u32) -> Result<Spot, Ordering>
         requires { Bytes self.first.now self.second.now × StmtReads depth self.first.now at.first × StmtReads depth self.second.now at.second }
         ensures { let a = self.entry.first.now in let b = self.entry.second.now in
-            Steps result (rest_stmt_at depth a at.first) (rest_stmt_at depth b at.second) (stmt_at depth a at.first).end (stmt_at depth b at.second).end }
+            SideBySide result (rest_stmt_at depth a at.first) (rest_stmt_at depth b at.second) (stmt_at depth a at.first).end (stmt_at depth b at.second).end }
     {
         let kind = self.first[at.first];
         same_number(kind as u32, self.second[at.second] as u32)?;
@@ -63,7 +63,7 @@ impl<'a> Trees<'a> {
         requires { Bytes self.first.now self.second.now × StmtsRead depth m self.first.now at.first × StmtsRead depth n self.second.now at.second
             × (size (rest (stmts_at depth m self.first.now at.first).value) ≡ size (rest (stmts_at depth n self.second.now at.second).value)) }
         ensures { let a = self.entry.first.now in let b = self.entry.second.now in
-            Steps result (rest_stmts_at depth m a at.first) (rest_stmts_at depth n b at.second) (stmts_at depth m a at.first).end (stmts_at depth n b at.second).end }
+            SideBySide result (rest_stmts_at depth m a at.first) (rest_stmts_at depth n b at.second) (stmts_at depth m a at.first).end (stmts_at depth n b at.second).end }
     {
         let mut x = at.first;
         let mut y = at.second;
@@ -101,7 +101,7 @@ impl<'a> Trees<'a> {
     pub fn block(self, at: Spot, depth: u32) -> Result<Spot, Ordering>
         requires { Bytes self.first.now self.second.now × BlockReads depth self.first.now at.first × BlockReads depth self.second.now at.second }
         ensures { let a = self.entry.first.now in let b = self.entry.second.now in
-            Steps result (rest_block_at depth a at.first) (rest_block_at depth b at.second) (block_at depth a at.first).end (block_at depth b at.second).end }
+            SideBySide result (rest_block_at depth a at.first) (rest_block_at depth b at.second) (block_at depth a at.first).end (block_at depth b at.second).end }
     {
         let m = u16_at(self.first, at.first);
         let n = u16_at(self.second, at.second);
@@ -120,7 +120,7 @@ impl<'a> Trees<'a> {
     fn branch(self, at: Spot, depth: u32) -> Result<Spot, Ordering>
         requires { Bytes self.first.now self.second.now × BranchAt depth self.first.now at.first × BranchAt depth self.second.now at.second }
         ensures { let a = self.entry.first.now in let b = self.entry.second.now in
-            Steps result (rest_branch_at depth a at.first) (rest_branch_at depth b at.second) (body_at depth a at.first).end (body_at depth b at.second).end }
+            SideBySide result (rest_branch_at depth a at.first) (rest_branch_at depth b at.second) (body_at depth a at.first).end (body_at depth b at.second).end }
     {
         let next = self.expr(at, depth)?;
         self.block(next, depth)
@@ -131,7 +131,7 @@ impl<'a> Trees<'a> {
     fn branches(self, at: Spot, depth: u32) -> Result<Spot, Ordering>
         requires { Bytes self.first.now self.second.now × IfAt depth self.first.now at.first × IfAt depth self.second.now at.second }
         ensures { let a = self.entry.first.now in let b = self.entry.second.now in
-            Steps result (rest_if_at depth a at.first) (rest_if_at depth b at.second) (elifs_at depth a at.first).end (elifs_at depth b at.second).end }
+            SideBySide result (rest_if_at depth a at.first) (rest_if_at depth b at.second) (elifs_at depth a at.first).end (elifs_at depth b at.second).end }
     {
         let next = self.branch(at, depth)?;
         let count = u16_at(self.first, next.first);
@@ -152,7 +152,7 @@ impl<'a> Trees<'a> {
     fn elifs(self, at: Spot, depth: u32, count: u32) -> Result<Spot, Ordering>
         requires { Bytes self.first.now self.second.now × BranchesRead depth count self.first.now at.first × BranchesRead depth count self.second.now at.second }
         ensures { let a = self.entry.first.now in let b = self.entry.second.now in
-            Steps result (rest_branches_at depth count a at.first) (rest_branches_at depth count b at.second)
+            SideBySide result (rest_branches_at depth count a at.first) (rest_branches_at depth count b at.second)
             (branches_at depth count a at.first).end (branches_at depth count b at.second).end }
     {
         let mut p = at;
@@ -167,7 +167,7 @@ impl<'a> Trees<'a> {
     fn else_block(self, at: Spot, depth: u32) -> Result<Spot, Ordering>
         requires { Bytes self.first.now self.second.now × BranchesRead depth 0 self.first.now at.first × BranchesRead depth 0 self.second.now at.second }
         ensures { let a = self.entry.first.now in let b = self.entry.second.now in
-            Steps result (rest_branches_at depth 0 a at.first) (rest_branches_at depth 0 b at.second)
+            SideBySide result (rest_branches_at depth 0 a at.first) (rest_branches_at depth 0 b at.second)
             (branches_at depth 0 a at.first).end (branches_at depth 0 b at.second).end }
     {
         let there = self.first[at.first];
@@ -187,7 +187,7 @@ impl<'a> Trees<'a> {
     fn loop_over(self, at: Spot, depth: u32) -> Result<Spot, Ordering>
         requires { Bytes self.first.now self.second.now × ForAt depth self.first.now at.first × ForAt depth self.second.now at.second }
         ensures { let a = self.entry.first.now in let b = self.entry.second.now in
-            Steps result (rest_for_at depth a at.first) (rest_for_at depth b at.second)
+            SideBySide result (rest_for_at depth a at.first) (rest_for_at depth b at.second)
             (body_at depth a (name_end a at.first)).end (body_at depth b (name_end b at.second)).end }
     {
         let next = self.name(at)?;
@@ -199,7 +199,7 @@ impl<'a> Trees<'a> {
     fn def(self, at: Spot, depth: u32) -> Result<Spot, Ordering>
         requires { Bytes self.first.now self.second.now × DefAt depth self.first.now at.first × DefAt depth self.second.now at.second }
         ensures { let a = self.entry.first.now in let b = self.entry.second.now in
-            Steps result (rest_def_at depth a at.first) (rest_def_at depth b at.second) (def_block_at depth a at.first).end (def_block_at depth b at.second).end }
+            SideBySide result (rest_def_at depth a at.first) (rest_def_at depth b at.second) (def_block_at depth a at.first).end (def_block_at depth b at.second).end }
     {
         let params = self.name(at)?;
         let block = self.params(params)?;
@@ -211,7 +211,7 @@ impl<'a> Trees<'a> {
     fn methods(self, at: Spot, depth: u32, count: u32) -> Result<Spot, Ordering>
         requires { Bytes self.first.now self.second.now × MethodsRead depth count self.first.now at.first × MethodsRead depth count self.second.now at.second }
         ensures { let a = self.entry.first.now in let b = self.entry.second.now in
-            Steps result (rest_methods_at depth count a at.first) (rest_methods_at depth count b at.second)
+            SideBySide result (rest_methods_at depth count a at.first) (rest_methods_at depth count b at.second)
             (methods_at depth count a at.first).end (methods_at depth count b at.second).end }
     {
         let mut p = at;
@@ -227,7 +227,7 @@ impl<'a> Trees<'a> {
         requires { Bytes self.first.now self.second.now × StmtReads depth self.first.now at.first × (get_or self.first.now at.first 0 ≡ 10)
             × StmtReads depth self.second.now at.second × (get_or self.second.now at.second 0 ≡ 10) }
         ensures { let a = self.entry.first.now in let b = self.entry.second.now in
-            Steps result (rest_stmt_at depth a at.first) (rest_stmt_at depth b at.second) (stmt_at depth a at.first).end (stmt_at depth b at.second).end }
+            SideBySide result (rest_stmt_at depth a at.first) (rest_stmt_at depth b at.second) (stmt_at depth a at.first).end (stmt_at depth b at.second).end }
     {
         let next = self.name(Spot {
             first: at.first + 1,

@@ -8,7 +8,7 @@ ghost use Rattle.parts.specs.Places as Places;
 ghost use Rattle.exprs.specs.ExprAt.{expr_at, ExprReads, TwoAt, second_at};
 ghost use Rattle.tree.specs.StmtAt.{stmts_at, StmtsRead};
 ghost use Rattle.rests.specs.Taking.{span};
-ghost use Rattle.instep.specs.Stepping.{Bytes, Steps, Clear, Ranked};
+ghost use Rattle.instep.specs.Stepping.{Bytes, SideBySide, Clear, Ranked};
 
 use crate::{Spot, Trees};
 use numerals::kinds::StmtKind;
@@ -35,7 +35,7 @@ impl<'a> Trees<'a> {
     fn span(self, at: Spot, to: Spot) -> Result<Spot, Ordering>
         requires { (at.first ≤ to.first) × (to.first ≤ length self.first.now) × (at.second ≤ to.second) × (to.second ≤ length self.second.now)
             × Clear (span self.first.now at.first to.first) (span self.second.now at.second to.second) }
-        ensures { Steps result (span self.entry.first.now at.first to.first) (span self.entry.second.now at.second to.second) to.first to.second }
+        ensures { SideBySide result (span self.entry.first.now at.first to.first) (span self.entry.second.now at.second to.second) to.first to.second }
     {
         match self.first[at.first..to.first].cmp(&self.second[at.second..to.second]) {
             Ordering::Less => Err(Ordering::Less),
@@ -48,7 +48,7 @@ impl<'a> Trees<'a> {
     pub(crate) fn expr(self, at: Spot, depth: u32) -> Result<Spot, Ordering>
         requires { Bytes self.first.now self.second.now × ExprReads depth self.first.now at.first × ExprReads depth self.second.now at.second }
         ensures { let a = self.entry.first.now in let b = self.entry.second.now in
-            Steps result (expr_bytes (expr_at depth a at.first).value) (expr_bytes (expr_at depth b at.second).value)
+            SideBySide result (expr_bytes (expr_at depth a at.first).value) (expr_bytes (expr_at depth b at.second).value)
             (expr_at depth a at.first).end (expr_at depth b at.second).end }
     {
         let first = skip_expr(self.first, at.first, depth);
@@ -60,7 +60,7 @@ impl<'a> Trees<'a> {
     pub(crate) fn two(self, at: Spot, depth: u32) -> Result<Spot, Ordering>
         requires { Bytes self.first.now self.second.now × TwoAt depth self.first.now at.first × TwoAt depth self.second.now at.second }
         ensures { let a = self.entry.first.now in let b = self.entry.second.now in
-            Steps result (expr_bytes (expr_at depth a at.first).value ++ expr_bytes (second_at depth a at.first).value)
+            SideBySide result (expr_bytes (expr_at depth a at.first).value ++ expr_bytes (second_at depth a at.first).value)
             (expr_bytes (expr_at depth b at.second).value ++ expr_bytes (second_at depth b at.second).value)
             (second_at depth a at.first).end (second_at depth b at.second).end }
     {
@@ -72,7 +72,7 @@ impl<'a> Trees<'a> {
     pub(crate) fn name(self, at: Spot) -> Result<Spot, Ordering>
         requires { Bytes self.first.now self.second.now × There self.first.now at.first × There self.second.now at.second }
         ensures { let a = self.entry.first.now in let b = self.entry.second.now in
-            Steps result (name_bytes (Places.name_bytes a at.first)) (name_bytes (Places.name_bytes b at.second)) (name_end a at.first) (name_end b at.second) }
+            SideBySide result (name_bytes (Places.name_from a at.first)) (name_bytes (Places.name_from b at.second)) (name_end a at.first) (name_end b at.second) }
     {
         let first = name_end(self.first, at.first);
         let second = name_end(self.second, at.second);
@@ -83,7 +83,7 @@ impl<'a> Trees<'a> {
     pub(crate) fn params(self, at: Spot) -> Result<Spot, Ordering>
         requires { Bytes self.first.now self.second.now × ParamsAt self.first.now at.first × ParamsAt self.second.now at.second }
         ensures { let a = self.entry.first.now in let b = self.entry.second.now in
-            Steps result (params_bytes (params_at a at.first).value) (params_bytes (params_at b at.second).value)
+            SideBySide result (params_bytes (params_at a at.first).value) (params_bytes (params_at b at.second).value)
             (params_at a at.first).end (params_at b at.second).end }
     {
         let first = skip_params(self.first, at.first);

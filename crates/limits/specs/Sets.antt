@@ -5,10 +5,10 @@ use Rattle.limits.specs.declared.Limits.{Limits as Set}
 use Rattle.limits.specs.declared.Limits.TheVariants.{Office, Console}
 
 -- the number of each set
-unfoldable pub said : Set → ℕ
-said Office = 0
-said Console = 1
+unfoldable pub set_number : Set → ℕ
+set_number Office = 0
+set_number Console = 1
 
 -- the limits of a set
 abbrev pub limits_for : Set → Limits
-limits_for s = limits_by (said s)
+limits_for s = limits_by (set_number s)

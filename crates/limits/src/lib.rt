@@ -14,7 +14,7 @@ pub enum Limits {
 }
 
 // The set that a number names: 0 the office's, every other number the console's. It is no From, as only C's callers name a set by a number.
-#[tactic(auto, unfolding(crate::specs::Sets::said, definitions::specs::Module::limits_by))]
+#[tactic(auto, unfolding(crate::specs::Sets::set_number, definitions::specs::Module::limits_by))]
 pub fn limits_by(number: u32) -> Limits
     ensures { limits_for result ≡ limits_by number }
 {
@@ -25,7 +25,7 @@ pub fn limits_by(number: u32) -> Limits
 }
 
 // How many functions, symbols, strings, classes and instructions a module may have.
-#[tactic(auto, unfolding(crate::specs::Sets::said, definitions::specs::Module::limits_by, definitions::specs::Module::office, definitions::specs::Module::console, state::specs::State::limits_of))]
+#[tactic(auto, unfolding(crate::specs::Sets::set_number, definitions::specs::Module::limits_by, definitions::specs::Module::office, definitions::specs::Module::console, state::specs::State::limits_of))]
 pub fn limit_numbers(limits: Limits) -> state::Limits
     ensures { limits_of result ≡ limits_for limits }
 {

@@ -11,7 +11,7 @@ use Rattle.definitions.specs.Module.{instructions}
 use Rattle.definitions.specs.Reader.{read_module}
 use Rattle.definitions.proofs.Listing.{listing_length}
 use Rattle.definitions.proofs.ReadFits.{small_bytes}
-use Rattle.reader.specs.View.{tables_of}
+use Rattle.reader.specs.View.{module_tables}
 use Rattle.reader.proofs.Encoding.{Small}
 use Rattle.writing.specs.Wrote.{Wrote}
 use Rattle.tally.specs.Walk.{functions_from, FunctionsAt}
@@ -28,17 +28,17 @@ unfolding list_call number
 list-closed t out q e = lists-closed ListingRoom listing t out q e
 
 module _ {t : List ℕ} {p : Part} (F : FunctionsAt t p) (small : Small t) where
-  functions-are : functions_from p.count t (p.start + 2) ≡ (tables_of t).functions
+  functions-are : functions_from p.count t (p.start + 2) ≡ (module_tables t).functions
   functions-are = (functions-begin t p F).2
 
-  listing-is : function_lines 0 0 (functions_from p.count t (p.start + 2)) ≡ listing (tables_of t)
+  listing-is : function_lines 0 0 (functions_from p.count t (p.start + 2)) ≡ listing (module_tables t)
   unfolding listing
   listing-is = ap (function_lines 0 0) functions-are
 
   module _ {lines size : ℕ} (s : lines ≡ instructions (functions_from p.count t (p.start + 2))) (z : size ≡ 53 * (lines + (lines + 49) / 50)) where
-    long : length (listing (tables_of t)) ≡ size
+    long : length (listing (module_tables t)) ≡ size
     long =
-        (listing_length t (tables_of t) (small_bytes t small) F.module-is).long
+        (listing_length t (module_tables t) (small_bytes t small) F.module-is).long
         ∙ ap (λ (k : ℕ). 53 * (k + (k + 49) / 50)) (sym (s ∙ ap instructions functions-are)) ∙ sym z
 
     pub listing-long : length (function_lines 0 0 (functions_from p.count t (p.start + 2))) ≡ size
@@ -46,10 +46,10 @@ module _ {t : List ℕ} {p : Part} (F : FunctionsAt t p) (small : Small t) where
 
     pub list_full : {out : List ℕ} → length out < size → Printed (Err ListingRoom) (list_call t out) out
     unfolding list_call number
-    list_full {out} h = let l = long in lists-full ListingRoom listing t out (tables_of t) F.module-is (omega arith)
+    list_full {out} h = let l = long in lists-full ListingRoom listing t out (module_tables t) F.module-is (omega arith)
 
     pub list_written : {out after : List ℕ} {put : ℕ} → size ≤ length out → Wrote put (function_lines 0 0 (functions_from p.count t (p.start + 2))) out after → Printed (Ok put) (list_call t out) after
     unfolding list_call number
     list_written {out} {after} {put} h w =
         let l = long in
-        lists-written ListingRoom listing t out (tables_of t) F.module-is after put (omega arith) (w.count ∙ ap length listing-is) (w.out ∙ ap (λ (x : List ℕ). written x out) listing-is)
+        lists-written ListingRoom listing t out (module_tables t) F.module-is after put (omega arith) (w.count ∙ ap length listing-is) (w.out ∙ ap (λ (x : List ℕ). written x out) listing-is)

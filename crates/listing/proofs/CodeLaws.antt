@@ -9,7 +9,7 @@ use Rattle.definitions.specs.Module.{instructions}
 use Rattle.definitions.specs.Reader.{instruction, function_record}
 use Rattle.definitions.specs.Listing.{heading, code_line, code_lines, function_lines}
 use Rattle.std.specs.Prelude.{Some, None, Ok}
-use Rattle.reader.specs.View.{Walks, shown, number_at, instructions_of, part_at}
+use Rattle.reader.specs.View.{Walks, instruction_shown, number_at, instructions_of, part_at}
 use Rattle.reader.specs.declared.Placed.{Placed}
 use Rattle.reader.specs.declared.iteration.Instructions.{Instructions}
 use Rattle.reader.proofs.Encoding.{Small}
@@ -44,7 +44,7 @@ lining-start t f k xs s c p a h = record {
 
 module _ {t : List ℕ} {f k : ℕ} {xs out : List ℕ} {s : Instructions} {put : ℕ} (l : Lining t f k xs out s put) where
   module _ {p : Placed} (u : Instructions) (e : Walks s (Some p) u) where
-    more : (instructions_of (drop s.at t) ≡ shown p ∷ instructions_of (drop u.at t)) × (u.place ≡ s.place + 1) × (u.at ≤ length t) × (u.at ≡ s.at + length (encode (shown p))) × (u.code.now ≡ t)
+    more : (instructions_of (drop s.at t) ≡ instruction_shown p ∷ instructions_of (drop u.at t)) × (u.place ≡ s.place + 1) × (u.at ≤ length t) × (u.at ≡ s.at + length (encode (instruction_shown p))) × (u.code.now ≡ t)
     more = walked t s u p l.code e
 
     pub lining-operands : Small t → Operands p
@@ -56,16 +56,16 @@ module _ {t : List ℕ} {f k : ℕ} {xs out : List ℕ} {s : Instructions} {put 
 
     -- the line in hand is next
     pub lining-piece : Begun (code_lines f 0 k (instructions_of t)) xs put out
-        ((heading (k + p.place) ++ code_line f p.place (shown p)) ∷ code_lines f (suc s.place) (suc (k + s.place)) (instructions_of (drop u.at t)) ∷ [])
+        ((heading (k + p.place) ++ code_line f p.place (instruction_shown p)) ∷ code_lines f (suc s.place) (suc (k + s.place)) (instructions_of (drop u.at t)) ∷ [])
     unfolding code_lines
     lining-piece =
-        begun-split (heading (k + p.place) ++ code_line f p.place (shown p)) (code_lines f (suc s.place) (suc (k + s.place)) (instructions_of (drop u.at t)))
+        begun-split (heading (k + p.place) ++ code_line f p.place (instruction_shown p)) (code_lines f (suc s.place) (suc (k + s.place)) (instructions_of (drop u.at t)))
         (ap (code_lines f s.place (k + s.place)) more.0
-        ∙ ap (λ (j : ℕ). heading (k + j) ++ (code_line f j (shown p) ++ code_lines f (suc s.place) (suc (k + s.place)) (instructions_of (drop u.at t)))) (sym e.1.0)
-        ∙ sym (append_assoc (heading (k + p.place)) (code_line f p.place (shown p)) (code_lines f (suc s.place) (suc (k + s.place)) (instructions_of (drop u.at t)))))
+        ∙ ap (λ (j : ℕ). heading (k + j) ++ (code_line f j (instruction_shown p) ++ code_lines f (suc s.place) (suc (k + s.place)) (instructions_of (drop u.at t)))) (sym e.1.0)
+        ∙ sym (append_assoc (heading (k + p.place)) (code_line f p.place (instruction_shown p)) (code_lines f (suc s.place) (suc (k + s.place)) (instructions_of (drop u.at t)))))
         l.begun
 
-    pub lining-more : {r : ℕ} {zs : List ℕ} → Wrote r (heading (k + p.place) ++ code_line f p.place (shown p)) (from put out) zs → Lining t f k xs (over put out zs) u (put + r)
+    pub lining-more : {r : ℕ} {zs : List ℕ} → Wrote r (heading (k + p.place) ++ code_line f p.place (instruction_shown p)) (from put out) zs → Lining t f k xs (over put out zs) u (put + r)
     lining-more {r} {zs} w =
         let q = more.1 in let h = l.count in let m = ap length more.0 in
         record {

@@ -16,7 +16,7 @@ use Rattle.columns.specs.declared.Field.{Field}
 use Rattle.columns.specs.declared.Field.TheVariants.{Blank, Digits}
 use Rattle.columns.specs.Fields.{field_text}
 use Rattle.writing.proofs.Begun.{over, from, length-written, put_first, put_next, put_last}
-use Rattle.reader.specs.View.{shown}
+use Rattle.reader.specs.View.{instruction_shown}
 use Rattle.reader.specs.declared.Placed.{Placed}
 use Rattle.listing.specs.Lines.{Operands}
 use Rattle.listing.proofs.Fields.{line-pieces, page-pieces}
@@ -31,8 +31,8 @@ first-room {p} f O e = let l = ap length e in let h = first_fits p.instruction.o
 pub second-room : {p : Placed} (f : Field) → Operands p → field_text f ≡ second_text p.instruction.op p.instruction.b → length (field_text f) ≤ 4
 second-room {p} f O e = let l = ap length e in let h = second_fits p.instruction.op p.instruction.b O.second in omega arith
 
-pub line-in : (f : ℕ) (p : Placed) → f < 65536 → p.place < 65536 → Operands p → LineFits f p.place (shown p)
-line-in f p hf hp O = line-fits f p.place (shown p) hf hp O.first O.second
+pub line-in : (f : ℕ) (p : Placed) → f < 65536 → p.place < 65536 → Operands p → LineFits f p.place (instruction_shown p)
+line-in f p hf hp O = line-fits f p.place (instruction_shown p) hf hp O.first O.second
 
 module _ {f p op a b : ℕ} (first second : Field) (F : LineFits f p (instr op a b)) (sa : field_text first ≡ first_text op a) (sb : field_text second ≡ second_text op b)
     (xs x z₂ z₃ z₄ z₅ : List ℕ) (room : 53 ≤ length xs)

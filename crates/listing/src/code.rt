@@ -3,7 +3,7 @@ ghost use Rattle.std.specs.Prelude.{◌++◌, ◌+◌, ◌≤◌, ◌<◌, lengt
 ghost use Rattle.definitions.specs.Module.{instructions};
 ghost use Rattle.definitions.specs.Reader.{function_record, instruction};
 ghost use Rattle.definitions.specs.Listing.{heading, code_line, code_lines, function_lines};
-ghost use Rattle.reader.specs.View.{instructions_of, shown};
+ghost use Rattle.reader.specs.View.{instructions_of, instruction_shown};
 ghost use Rattle.writing.specs.Wrote.{Wrote};
 ghost use Rattle.tally.specs.Walk.{Values, code_from, functions_from};
 ghost use Rattle.listing.specs.Lines.{Operands, Lined};
@@ -16,8 +16,8 @@ use tally::count_code;
 
 // Code line k, after a page's first line where it begins a page.
 fn write_entry(k: u64, f: u64, placed: Placed, out: &mut [u8]) -> usize
-    requires { (k < 1000000) × (f < 65536) × (placed.place < 65536) × Operands placed × (length (heading k ++ code_line f placed.place (shown placed)) ≤ length out.old) }
-    ensures { Wrote result (heading k ++ code_line f placed.place (shown placed)) out.old out.new }
+    requires { (k < 1000000) × (f < 65536) × (placed.place < 65536) × Operands placed × (length (heading k ++ code_line f placed.place (instruction_shown placed)) ≤ length out.old) }
+    ensures { Wrote result (heading k ++ code_line f placed.place (instruction_shown placed)) out.old out.new }
 {
     if k % PAGE == 0 {
         write_page(k / PAGE + 1, out);

@@ -5,7 +5,7 @@ ghost use Rattle.definitions.specs.Instruction.{first_width};
 ghost use Rattle.definitions.specs.Columns.{signed};
 ghost use Rattle.definitions.specs.Listing.{first_text, second_text, code_line, page_line};
 ghost use Rattle.columns.specs.Fields.{field_text};
-ghost use Rattle.reader.specs.View.{shown};
+ghost use Rattle.reader.specs.View.{instruction_shown};
 ghost use Rattle.listing.specs.Lines.{Operands};
 
 use crate::names::put_name;
@@ -75,7 +75,7 @@ fn second_shown(op: u8, b: u64) -> Field
 // The line of an instruction at a place of the function f.
 pub(crate) fn write_line(f: u64, placed: Placed, out: &mut [u8])
     requires { (f < 65536) × (placed.place < 65536) × Operands placed × (53 ≤ length out.old) }
-    ensures { out.new ≡ written (code_line f placed.place (shown placed)) out.old }
+    ensures { out.new ≡ written (code_line f placed.place (instruction_shown placed)) out.old }
 {
     let instruction = placed.instruction;
     let first = first_shown(instruction.op, instruction.a);

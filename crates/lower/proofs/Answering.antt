@@ -8,12 +8,12 @@ use lib.Seq.{take_at, take_all}
 use Rattle.definitions.specs.Bytes.{Answer, refused, accepted, when_accepted, ascii, decimal}
 use Rattle.definitions.specs.Module.{office, limits_by}
 use Rattle.definitions.specs.Calls.{written, output_after, count_answer, lower_answer, lower_call, lower_program}
-use Rattle.limits.specs.Sets.{said as set_number, limits_for}
+use Rattle.limits.specs.Sets.{set_number, limits_for}
 use Rattle.limits.specs.declared.Limits.TheVariants.{Office}
 use Rattle.names.specs.Made.{pasted}
 use Rattle.definitions.proofs.Decimals.{length-decimal}
 use Rattle.names.proofs.Pasting.{three-length, paste-three}
-use Rattle.lowering.specs.Lowered.{said, Lowers}
+use Rattle.lowering.specs.Lowered.{lowering_said, Lowers}
 use Rattle.std.specs.Prelude.{Result, Ok, Err}
 use Rattle.questions.specs.declared.Question.{Question}
 use Rattle.questions.specs.Numbers.{number}
@@ -73,13 +73,13 @@ module _ (r : Result ℕ Question) (input area₁ area₂ out area₁' area₂' 
   whole = lower_answer office (length area₁) (length area₂) (length out) input
 
   pub answered-wrote : (n : ℕ) → r ≡ Ok n → Answered n out' (lower_program input)
-  unfolding said lower_call limits_by set_number
+  unfolding lowering_said lower_call limits_by set_number
   answered-wrote n e =
-      let w = wrote whole n out out' (sym (ap said e) ∙ L.answer) L.output in
+      let w = wrote whole n out out' (sym (ap lowering_said e) ∙ L.answer) L.output in
       rw (program-wrote input w.0 (same_answer _ _ _ input _ first second room short w.1)) w.2
 
   pub refused-line : (q : Question) (line : List ℕ) → r ≡ Err q → line ≡ ascii "refused " ++ (decimal (number q) ++ 10 ∷ []) → line ≡ lower_program input
-  unfolding said lower_call limits_by set_number
+  unfolding lowering_said lower_call limits_by set_number
   refused-line q line e A =
-      let w = refuses whole (number q) (sym (ap said e) ∙ L.answer) in
+      let w = refuses whole (number q) (sym (ap lowering_said e) ∙ L.answer) in
       A ∙ sym (program-refused input (number q) (same_answer _ _ _ input _ first second room short w))

@@ -12,7 +12,7 @@ use Rattle.definitions.specs.Tables.{Method, one, with_classes, add_constant}
 use Rattle.definitions.specs.Lower.{class_object, end_class}
 use Rattle.names.proofs.Spelling.{spelled-tree}
 use Rattle.state.specs.Words.{name_at, word}
-use Rattle.state.specs.State.{State, emit_at, method_of, Sound, Within, Left, symbol_number, with_symbol, with_tables}
+use Rattle.state.specs.State.{State, emit_at, method_from, Sound, WithinLimits, Left, symbol_number, with_symbol, with_tables}
 use Rattle.state.specs.declared.Counts.{Counts}
 use Rattle.state.specs.declared.Limits.{Limits}
 use Rattle.state.proofs.Views.{constant-count}
@@ -28,9 +28,9 @@ use Rattle.lower_emit.specs.declared.emitter.Emitter.{Emitter}
 use Rattle.lower_emit.specs.Emitting.{counts_of, limits_in, state_in, SoundIn, beside, new_names, SameAreas, Reaches, LowersIn, NumbersIn, Puts}
 use Rattle.lower_emit.proofs.Packing.{instr-plain, plain-below}
 use Rattle.lower_emit.proofs.Steps.{put-lifts, sound-next, reaches-after, areas-after}
-use Rattle.lower_names.specs.Naming.{Interns, named}
+use Rattle.lower_names.specs.Naming.{Interns, symbol_named}
 use Rattle.lower_names.proofs.Symbols.{interned}
-use Rattle.lower_classes.specs.Ending.{Finishes}
+use Rattle.lower_classes.specs.Ending.{FinishesIn}
 use Rattle.lower_classes.specs.Classes.{CountedIn, ListsClass, AddsConstant, StoresClass, FinishesClass}
 
 -- sound slices after a step that is counted
@@ -42,7 +42,7 @@ counted-sound {k} {t} {a} {b} C = record {
 -- a step to the wanted state, after one that changes counts
 finishes-by : {A : Type 0} {r : Option A} (n : ℕ) {t : List ℕ} {a m b : Emitter} {want want' : State} → m.code.base ≡ a.code.base
     → m.tables.methods + a.tables.functions.count ≤ a.tables.methods + n + m.tables.functions.count → m.tables.constants + a.tables.classes.count ≤ a.tables.constants + 1 + m.tables.classes.count
-    → limits_in m ≡ limits_in a → SameAreas a m → want ≡ want' → Reaches r t m b want → Finishes r n t a b want'
+    → limits_in m ≡ limits_in a → SameAreas a m → want ≡ want' → Reaches r t m b want → FinishesIn r n t a b want'
 finishes-by n {t} {a} {m} {b} e x y l areas q h = record {
   done = λ v z.
       let A = (h.done v z).left in
@@ -55,7 +55,7 @@ finishes-by n {t} {a} {m} {b} e x y l areas q h = record {
           sound = subst (λ (k : Limits). Sound t b.tables.names.made.now b.code.words.now b.tables.entries.words.now (counts_of b) k) l A.sound;
         };
       };
-  full = λ z w. h.full z (subst (λ (k : Type 0). k) (λ i. Within (sym l i) (sym q i)) w);
+  full = λ z w. h.full z (subst (λ (k : Type 0). k) (λ i. WithinLimits (sym l i) (sym q i)) w);
   limits = h.limits ∙ l;
   areas = areas-after areas h.areas;
 }
@@ -81,16 +81,16 @@ module _ {t : List ℕ} {a : Emitter} {ts : Tables} {c i : ℕ} (symbol : ℕ) (
     loaded : LowersIn r (one (instr 6 c 0)) t m (beside d ts)
     loaded = put-lifts (counted-sound counted) refl (instr-plain t 6 c 0 (plain-below 6 c 0 (omega arith) (omega arith) (omega (arith, A.number)) (omega arith))) g
 
-    pub object-full : {C : Type 0} {q : Option C} → r ≡ None → q ≡ None → Finishes q 0 t a (beside d ts) (emit_at a.code.base (class_object i symbol) (state_in t a))
+    pub object-full : {C : Type 0} {q : Option C} → r ≡ None → q ≡ None → FinishesIn q 0 t a (beside d ts) (emit_at a.code.base (class_object i symbol) (state_in t a))
     object-full z n = record {
       done = λ v e. absurd (none-some v (sym n ∙ e));
       full = λ e w. loaded.reaches.full z
-          (subst (λ (k : Type 0). k) (λ j. Within (sym counted.limits j) (sym loaded-is j)) (within-class_object a.code.base i symbol (state_in t a) w));
+          (subst (λ (k : Type 0). k) (λ j. WithinLimits (sym counted.limits j) (sym loaded-is j)) (within-class_object a.code.base i symbol (state_in t a) w));
       limits = loaded.reaches.limits ∙ counted.limits;
       areas = areas-after counted.areas loaded.reaches.areas;
     }
 
-    pub object-done : {x : B} {C : Type 0} {q : Option C} {f : Code} → r ≡ Some x → symbol < 65536 → Puts q (word 12 symbol 0) d f → Finishes q 0 t a (beside f ts) (emit_at a.code.base (class_object i symbol) (state_in t a))
+    pub object-done : {x : B} {C : Type 0} {q : Option C} {f : Code} → r ≡ Some x → symbol < 65536 → Puts q (word 12 symbol 0) d f → FinishesIn q 0 t a (beside f ts) (emit_at a.code.base (class_object i symbol) (state_in t a))
     object-done {x = x} {f = f} z small h =
         let k = (loaded.reaches.done x z).left in
         let u = counted.counted.counts in
@@ -111,7 +111,7 @@ module _ {t methods : List ℕ} {a : Emitter} {ts : Tables} {i at : ℕ} (S : So
   x = name_at t at
 
   abbrev ms : List Method
-  ms = map (method_of t) methods
+  ms = map (method_from t) methods
 
   abbrev listed : State
   listed = with_tables (with_classes (set (state_in t a).tables.classes i (record { name = x; methods = ms })) (state_in t a).tables) (state_in t a)
@@ -129,7 +129,7 @@ module _ {t methods : List ℕ} {a : Emitter} {ts : Tables} {i at : ℕ} (S : So
     abbrev ts₂ : Tables
     ts₂ = new_names n₂ b₂ ts
 
-    numbered : NumbersIn s (symbol_number x (state_in t e).tables) t e (beside a.code ts₂) (named x (state_in t e))
+    numbered : NumbersIn s (symbol_number x (state_in t e).tables) t e (beside a.code ts₂) (symbol_named x (state_in t e))
     numbered = interned ended-sound h (sym (spelled-tree t ts.names.made.now at short))
 
     pub finish-over : {C : Type 0} {q : Option C} → s ≡ None → q ≡ None → FinishesClass q at i methods t a (beside a.code ts₂)
@@ -139,7 +139,7 @@ module _ {t methods : List ℕ} {a : Emitter} {ts : Tables} {i at : ℕ} (S : So
         done = λ v g. absurd (none-some v (sym n ∙ g));
         full = λ g w.
             let k = within-down a.code.base _ (lengthens-class_object i (symbol_number x (state_in t a).tables)) (within-end_class a.code.base x i ms (state_in t a) listed refl w) in
-            numbered.reaches.full z (subst (λ (k : Type 0). k) (λ j. Within (sym ends.limits j) (named x (sym ends.counted.state j))) k);
+            numbered.reaches.full z (subst (λ (k : Type 0). k) (λ j. WithinLimits (sym ends.limits j) (symbol_named x (sym ends.counted.state j))) k);
         limits = numbered.reaches.limits ∙ ends.limits;
         areas = areas-after ends.areas numbered.reaches.areas;
       };
@@ -150,7 +150,7 @@ module _ {t methods : List ℕ} {a : Emitter} {ts : Tables} {i at : ℕ} (S : So
       abbrev p : Emitter
       p = beside a.code ts₂
 
-      got : Left (counts_of p) t ts₂.names.made.now a.code.words.now ts₂.entries.words.now (counts_of e) (limits_in e) (named x (state_in t e))
+      got : Left (counts_of p) t ts₂.names.made.now a.code.words.now ts₂.entries.words.now (counts_of e) (limits_in e) (symbol_named x (state_in t e))
       got = (numbered.reaches.done g z).left
 
       pub finish-sound : SoundIn t p
@@ -191,7 +191,7 @@ module _ {t methods : List ℕ} {a : Emitter} {ts : Tables} {i at : ℕ} (S : So
                       sound = subst (λ (l : Limits). Sound t b.tables.names.made.now b.code.words.now b.tables.entries.words.now (counts_of b) l) same A.sound;
                     };
                   };
-              full = λ k w. F.full k (subst (λ (k : Type 0). k) (λ j. Within (sym same j) (sym class-is j)) w);
+              full = λ k w. F.full k (subst (λ (k : Type 0). k) (λ j. WithinLimits (sym same j) (sym class-is j)) w);
               limits = F.limits ∙ same;
               areas = areas-after (areas-after ends.areas numbered.reaches.areas) F.areas;
             };

@@ -10,11 +10,11 @@ use Rattle.std.proofs.lemmas.Option.{none-some}
 use Rattle.definitions.specs.Tables.{with_classes}
 use Rattle.names.proofs.Spelling.{spelled-tree}
 use Rattle.state.specs.Words.{name_at}
-use Rattle.state.specs.State.{State, method_of, symbol_number, with_tables, class_names_from, class_methods_from, methods_from, constants_from}
+use Rattle.state.specs.State.{State, method_from, symbol_number, with_tables, class_names_from, class_methods_from, methods_from, constants_from}
 use Rattle.state.specs.declared.Counts.{Counts}
 use Rattle.state.specs.Answered.{At, Over}
 use Rattle.state.proofs.Answers.{numbers-at, numbers-over}
-use Rattle.lower_emit.specs.Nesting.{with_methods, with_constants, Counted}
+use Rattle.lower_emit.specs.Nesting.{with_methods, with_constants, CountedAs}
 use Rattle.lower_emit.specs.declared.emitter.Code.{Code}
 use Rattle.lower_emit.specs.declared.emitter.Used.{Used}
 use Rattle.lower_emit.specs.declared.emitter.Names.{Names}
@@ -25,7 +25,7 @@ use Rattle.lower_emit.specs.Emitting.{counts_of, limits_in, state_in, SoundIn, b
 use Rattle.lower_emit.proofs.ClassTables.{one_class, class-begun, class-over, constant-added, class-ended}
 use Rattle.lower_emit.proofs.Steps.{areas-none}
 use Rattle.lower_emit.proofs.Functions.{begun-lifts, head-begun, innermost-as, begins-stopped}
-use Rattle.lower_names.specs.Naming.{Interns, named}
+use Rattle.lower_names.specs.Naming.{Interns, symbol_named}
 use Rattle.lower_names.proofs.Symbols.{Renews, left-renewed, numbers-some, numbers-none, interned}
 use Rattle.lower_names.proofs.Beginnings.{limits-begun, named-none, named-sound, named-below, named-begins}
 use Rattle.lower_classes.specs.Classes.{BeginsClass, CountedIn, EndsClass, AddsConstant, BeginsNamed, StartsNamed}
@@ -64,10 +64,10 @@ module _ {m : Used 64} {a : Entries} (at : ℕ) where
 
 -- counts and a wanted state, as a law of the state leaves them
 counted-renewed : {zs t : List ℕ} {k : Counts → Counts} {a b : Tables} {want : State} (R : Renews zs k a b) (code : Code)
-    → Counted (k (counts_of (beside code a))) (k (counts_of (beside code a))) t a.names.made.now code.words.now zs (limits_in (beside code a)) want
+    → CountedAs (k (counts_of (beside code a))) (k (counts_of (beside code a))) t a.names.made.now code.words.now zs (limits_in (beside code a)) want
     → CountedIn (k (counts_of (beside code a))) t (beside code a) (beside code b) want
 counted-renewed {zs} {t} {k} {a} {b} {want} R code h = record {
-  counted = subst (λ (z : Type 0). z) (λ i. Counted (sym (R.counts code) i) (k (counts_of (beside code a))) t (sym R.made i) code.words.now (sym R.entries i) (limits_in (beside code a)) want) h;
+  counted = subst (λ (z : Type 0). z) (λ i. CountedAs (sym (R.counts code) i) (k (counts_of (beside code a))) t (sym R.made i) code.words.now (sym R.entries i) (limits_in (beside code a)) want) h;
   limits = R.limits code;
   areas = R.areas code;
 }
@@ -82,7 +82,7 @@ ends-class {m} {n} {a} {b} {methods} {ws} i at e R = record {
         let s = state_in t d in
         let h = class-ended t ts.names.made.now code.words.now a.words.now methods i at (length methods) (m * 65536 + length methods) (counts_of d) (limits_in d) S.sound number (omega arith) fits refl ws e in
         subst (λ (xs : List ℕ). CountedIn (with_methods (m + length methods) (counts_of d)) t d (beside code (new_methods n b ts))
-        (with_tables (with_classes (set s.tables.classes i (record { name = name_at t at; methods = map (method_of t) xs })) s.tables) s)) (take_all (length methods) methods (omega arith)) (counted-renewed (R ts) code h);
+        (with_tables (with_classes (set s.tables.classes i (record { name = name_at t at; methods = map (method_from t) xs })) s.tables) s)) (take_all (length methods) methods (omega arith)) (counted-renewed (R ts) code h);
     made = refl;
   };
 }
@@ -101,7 +101,7 @@ module _ {t : List ℕ} {m n : Names} {a b : Entries} {s : Option ℕ} {at : ℕ
   before f code ts = beside code (new_functions f a (new_names m a ts))
 
   numbered : (f : Used 256) (code : Code) (ts : Tables) → SoundIn t (before f code ts)
-      → NumbersIn s (symbol_number (name_at t at) (state_in t (before f code ts)).tables) t (before f code ts) (beside code (new_functions f b (new_names n b ts))) (named (name_at t at) (state_in t (before f code ts)))
+      → NumbersIn s (symbol_number (name_at t at) (state_in t (before f code ts)).tables) t (before f code ts) (beside code (new_functions f b (new_names n b ts))) (symbol_named (name_at t at) (state_in t (before f code ts)))
   numbered f code ts S = interned S h (sym (spelled-tree t m.made.now at short))
 
   pub begins-none : {f : Used 256} {r : Option ℕ} → s ≡ None → r ≡ None → BeginsNamed r at arity locals t m n f f a b

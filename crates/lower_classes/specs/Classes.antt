@@ -3,9 +3,9 @@ use Rattle.std.specs.Prelude.{ℕ, ◌+◌, ◌<◌, ◌≤◌, ◌≡◌, Optio
 use Rattle.definitions.specs.Tables.{with_classes, add_constant}
 use Rattle.definitions.specs.Lower.{begin_class, class_object, end_class}
 use Rattle.state.specs.Words.{name_at}
-use Rattle.state.specs.State.{State, method_of, emit_at, symbol_number, with_tables}
+use Rattle.state.specs.State.{State, method_from, emit_at, symbol_number, with_tables}
 use Rattle.state.specs.declared.Counts.{Counts}
-use Rattle.lower_emit.specs.Nesting.{begun_with, with_methods, with_constants, Counted}
+use Rattle.lower_emit.specs.Nesting.{begun_with, with_methods, with_constants, CountedAs}
 use Rattle.lower_emit.specs.declared.emitter.Code.{Code}
 use Rattle.lower_emit.specs.declared.emitter.Used.{Used}
 use Rattle.lower_emit.specs.declared.emitter.Names.{Names}
@@ -13,8 +13,8 @@ use Rattle.lower_emit.specs.declared.emitter.Entries.{Entries}
 use Rattle.lower_emit.specs.declared.emitter.Tables.{Tables}
 use Rattle.lower_emit.specs.declared.emitter.Emitter.{Emitter}
 use Rattle.lower_emit.specs.Emitting.{counts_of, limits_in, state_in, SoundIn, beside, innermost, new_names, new_functions, new_classes, new_methods, SameAreas, NumbersIn, BeginsIn}
-use Rattle.lower_names.specs.Naming.{named}
-use Rattle.lower_classes.specs.Ending.{Finishes}
+use Rattle.lower_names.specs.Naming.{symbol_named}
+use Rattle.lower_classes.specs.Ending.{FinishesIn}
 
 -- the next class has the name at `at`, whatever the tree and the code are
 pub record NumbersClass (r : Option ℕ) (at : ℕ) (a b : Tables) : Type 0 where
@@ -30,7 +30,7 @@ pub record BeginsClass (r : Option ℕ) (at : ℕ) (m n : Used 64) (a b : Entrie
 
 -- the counts k and the wanted state, and the limits as they were
 pub record CountedIn (k : Counts) (tree : List ℕ) (a b : Emitter) (want : State) : Type 0 where
-  pub counted : Counted (counts_of b) k tree b.tables.names.made.now b.code.words.now b.tables.entries.words.now (limits_in a) want
+  pub counted : CountedAs (counts_of b) k tree b.tables.names.made.now b.code.words.now b.tables.entries.words.now (limits_in a) want
   pub limits : limits_in b ≡ limits_in a
   pub areas : SameAreas a b
 
@@ -38,7 +38,7 @@ pub record CountedIn (k : Counts) (tree : List ℕ) (a b : Emitter) (want : Stat
 pub record ListsClass (i at : ℕ) (methods : List ℕ) (a b : Tables) : Type 0 where
   pub counted : (tree : List ℕ) (code : Code) → SoundIn tree (beside code a) → i < a.classes.count → a.methods + length methods ≤ a.functions.count
       → CountedIn (with_methods (a.methods + length methods) (counts_of (beside code a))) tree (beside code a) (beside code b)
-      (with_tables (with_classes (set (state_in tree (beside code a)).tables.classes i (record { name = name_at tree at; methods = map (method_of tree) methods })) (state_in tree (beside code a)).tables) (state_in tree (beside code a)))
+      (with_tables (with_classes (set (state_in tree (beside code a)).tables.classes i (record { name = name_at tree at; methods = map (method_from tree) methods })) (state_in tree (beside code a)).tables) (state_in tree (beside code a)))
   pub made : b.names.made.now ≡ a.names.made.now
 
 -- whatever the other tables are
@@ -55,7 +55,7 @@ pub record AddsConstant (r i : ℕ) (a b : Tables) : Type 0 where
 -- the function with the name at `at` begins; it has so many parameters and slots, and is the code's innermost one, whatever the code is
 pub record NumbersFunction (r : Option ℕ) (at arity locals : ℕ) (tree : List ℕ) (a b : Tables) : Type 0 where
   pub begins : (code : Code) → SoundIn tree (beside code a) → BeginsIn r (length (state_in tree (beside code a)).tables.functions) tree (beside code a) (beside (innermost code) b)
-      (begun_with (symbol_number (name_at tree at) (state_in tree (beside code a)).tables) arity locals (named (name_at tree at) (state_in tree (beside code a))))
+      (begun_with (symbol_number (name_at tree at) (state_in tree (beside code a)).tables) arity locals (symbol_named (name_at tree at) (state_in tree (beside code a))))
 
 -- whatever the other tables are; the made names stay
 pub record BeginsNamed (r : Option ℕ) (at arity locals : ℕ) (tree : List ℕ) (m n : Names) (f g : Used 256) (a b : Entries) : Type 0 where
@@ -70,7 +70,7 @@ pub record BeginsNamed (r : Option ℕ) (at arity locals : ℕ) (tree : List ℕ
 pub record StartsNamed (r : Option ℕ) (at arity locals : ℕ) (tree : List ℕ) (a b : Emitter) : Type 0 where
   pub below : (n : ℕ) → r ≡ Some n → n < 256
   pub begins : SoundIn tree a → BeginsIn r (length (state_in tree a).tables.functions) tree a b
-      (begun_with (symbol_number (name_at tree at) (state_in tree a).tables) arity locals (named (name_at tree at) (state_in tree a)))
+      (begun_with (symbol_number (name_at tree at) (state_in tree a).tables) arity locals (symbol_named (name_at tree at) (state_in tree a)))
   pub made : b.tables.names.made.now ≡ a.tables.names.made.now
   pub words : b.code.words.now ≡ a.code.words.now
   pub limits : limits_in b ≡ limits_in a
@@ -78,9 +78,9 @@ pub record StartsNamed (r : Option ℕ) (at arity locals : ℕ) (tree : List ℕ
 
 -- whatever the tree is
 pub record StoresClass {A : Type 0} (r : Option A) (i symbol : ℕ) (a b : Emitter) : Type 0 where
-  pub finishes : (tree : List ℕ) → SoundIn tree a → a.tables.constants < a.tables.classes.count → Finishes r 0 tree a b (emit_at a.code.base (class_object i symbol) (state_in tree a))
+  pub finishes : (tree : List ℕ) → SoundIn tree a → a.tables.constants < a.tables.classes.count → FinishesIn r 0 tree a b (emit_at a.code.base (class_object i symbol) (state_in tree a))
   pub made : b.tables.names.made.now ≡ a.tables.names.made.now
 
 pub record FinishesClass {A : Type 0} (r : Option A) (at i : ℕ) (methods : List ℕ) (tree : List ℕ) (a b : Emitter) : Type 0 where
-  pub finishes : Finishes r (length methods) tree a b (emit_at a.code.base (end_class (name_at tree at) i (map (method_of tree) methods)) (state_in tree a))
+  pub finishes : FinishesIn r (length methods) tree a b (emit_at a.code.base (end_class (name_at tree at) i (map (method_from tree) methods)) (state_in tree a))
   pub made : b.tables.names.made.now ≡ a.tables.names.made.now

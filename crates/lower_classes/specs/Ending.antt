@@ -1,6 +1,6 @@
 -- What the end of a class leaves.
 use Rattle.std.specs.Prelude.{ℕ, ◌+◌, ◌≤◌, ◌≡◌, Option, Some, None, List}
-use Rattle.state.specs.State.{State, state_of, Within, Sound}
+use Rattle.state.specs.State.{State, state_of, WithinLimits, Sound}
 use Rattle.state.specs.declared.Counts.{Counts}
 use Rattle.state.specs.declared.Limits.{Limits}
 use Rattle.lower_emit.specs.declared.emitter.Emitter.{Emitter}
@@ -19,8 +19,8 @@ pub record FinishedIn (n : ℕ) (tree : List ℕ) (a b : Emitter) (want : State)
   pub finished : Finished (counts_of b) n tree b.tables.names.made.now b.code.words.now b.tables.entries.words.now (counts_of a) (limits_in a) want
 
 -- an answer and the wanted state; or the wanted state is over the limits
-pub record Finishes {A : Type 0} (r : Option A) (n : ℕ) (tree : List ℕ) (a b : Emitter) (want : State) : Type 0 where
+pub record FinishesIn {A : Type 0} (r : Option A) (n : ℕ) (tree : List ℕ) (a b : Emitter) (want : State) : Type 0 where
   pub done : (x : A) → r ≡ Some x → FinishedIn n tree a b want
-  pub full : r ≡ None → Within (limits_in a) want → ⊥
+  pub full : r ≡ None → WithinLimits (limits_in a) want → ⊥
   pub limits : limits_in b ≡ limits_in a
   pub areas : SameAreas a b

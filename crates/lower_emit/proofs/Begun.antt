@@ -8,7 +8,7 @@ use lib.ListN.{length, drop, set, length-append}
 use Rattle.definitions.specs.Slots.{Frame}
 use Rattle.definitions.specs.Tables.{Function, Tables, begin, coded}
 use Rattle.state.specs.Words.{region, text_at, instrs_of}
-use Rattle.state.specs.State.{strings_from, heads_from, codes_from, class_names_from, class_methods_from, methods_from, constants_from, done_from, spelled, function_of, functions_of}
+use Rattle.state.specs.State.{strings_from, heads_from, codes_from, class_names_from, class_methods_from, methods_from, constants_from, done_from, spelled, function_from, functions_of}
 use Rattle.state.specs.State.{classes_of, State, tables_of, state_of, Every, EndsWithin, MadeWithin, NamedWithin, total, Sound, symbol_index_from, symbol_buckets, string_index_from, string_buckets}
 use Rattle.state.specs.Steps.{begun}
 use Rattle.state.specs.declared.Counts.{Counts}
@@ -18,7 +18,7 @@ use Rattle.state.proofs.Index.{symbols-indexed, strings-indexed}
 use Rattle.state.proofs.Regions.{region-length, every-snoc, functions-snoc, total-snoc}
 use Rattle.state.proofs.Views.{function-count}
 use Rattle.state.proofs.Emission.{state-eq}
-use Rattle.lower_emit.specs.Nesting.{one_more, begun_with, body_of, Begins}
+use Rattle.lower_emit.specs.Nesting.{one_more, begun_with, function_body, Begins}
 use Rattle.lower_emit.proofs.Setting.{grown-length, grown-below, grown-above, grown-first, grown-second}
 
 -- for any frame of so many slots
@@ -26,24 +26,24 @@ pub begun-frame : (k arity n : ℕ) (frame : Frame) (s : State) → frame.locals
 unfolding begun_with begun begin
 begun-frame k arity n frame s e = rw (← e)
 
-body-here : (fs gs : List Function) (f : Function) → body_of (fs ++ (f ∷ gs)) (length fs) ≡ f.code
-unfolding body_of
+body-here : (fs gs : List Function) (f : Function) → function_body (fs ++ (f ∷ gs)) (length fs) ≡ f.code
+unfolding function_body
 body-here [] gs f = refl
 body-here (x ∷ fs) gs f = body-here fs gs f
 
 -- a function that has begun has no code, also when others come after it
-pub begun-body : (k arity : ℕ) (frame : Frame) (s : State) (fs new : List Function) → fs ≡ (begun k arity frame s).tables.functions ++ new → body_of fs (length s.tables.functions) ≡ []
+pub begun-body : (k arity : ℕ) (frame : Frame) (s : State) (fs new : List Function) → fs ≡ (begun k arity frame s).tables.functions ++ new → function_body fs (length s.tables.functions) ≡ []
 unfolding begun begin
 begun-body k arity frame s fs new e =
-    ap (λ (z : List Function). body_of z (length s.tables.functions)) (e ∙ append_assoc s.tables.functions _ new) ∙ body-here s.tables.functions new _
+    ap (λ (z : List Function). function_body z (length s.tables.functions)) (e ∙ append_assoc s.tables.functions _ new) ∙ body-here s.tables.functions new _
 
 pub tables-eq : (t u : Tables) → t.symbols ≡ u.symbols → t.strings ≡ u.strings → t.functions ≡ u.functions → t.classes ≡ u.classes → t.constants ≡ u.constants → t ≡ u
 tables-eq t u a b c d e = λ i. record { symbols = a i; strings = b i; functions = c i; classes = d i; constants = e i }
 
 -- a head is the function of its parts; it has no code
 head-function : (t fin : List ℕ) (sy ar lo h : ℕ) → sy < 65536 → ar < 256 → lo < 256 → h ≡ sy * 65536 + ar * 256 + lo →
-    function_of t fin h 0 ≡ coded sy ar lo []
-unfolding function_of region instrs_of
+    function_from t fin h 0 ≡ coded sy ar lo []
+unfolding function_from region instrs_of
 head-function t fin sy ar lo h a b c e =
     let p : h / 2 ^ 16 ≡ sy = omega arith in
     let q : h / 2 ^ 8 % 2 ^ 8 ≡ ar = omega arith in

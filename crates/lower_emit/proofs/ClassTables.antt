@@ -10,7 +10,7 @@ use Rattle.definitions.specs.Tables.{Class, with_classes, add_constant}
 use Rattle.definitions.specs.Lower.{begin_class}
 use Rattle.state.specs.Words.{region, name_at, text_at}
 use Rattle.state.specs.State.{strings_from, heads_from, codes_from, class_names_from, class_methods_from, methods_from, constants_from, done_from, place_of, count_of, spelled, functions_of}
-use Rattle.state.specs.State.{method_of, class_of, classes_of, tables_of, state_of, with_tables, Every, EndsWithin, MadeWithin, NamedWithin, total, Sound, Numbers, symbol_index_from, symbol_buckets}
+use Rattle.state.specs.State.{method_from, class_of, classes_of, tables_of, state_of, with_tables, Every, EndsWithin, MadeWithin, NamedWithin, total, Sound, NumberGiven, symbol_index_from, symbol_buckets}
 use Rattle.state.specs.State.{string_index_from, string_buckets}
 use Rattle.state.specs.declared.Counts.{Counts}
 use Rattle.state.specs.declared.Limits.{Limits}
@@ -20,7 +20,7 @@ use Rattle.state.proofs.Regions.{region-same, region-same-end, region-length, re
 use Rattle.state.proofs.Regions.{every-snoc, ends-within-more, classes-snoc, classes-same}
 use Rattle.state.proofs.Views.{class-count}
 use Rattle.state.proofs.Emission.{state-eq}
-use Rattle.lower_emit.specs.Nesting.{with_methods, with_constants, Counted}
+use Rattle.lower_emit.specs.Nesting.{with_methods, with_constants, CountedAs}
 use Rattle.lower_emit.proofs.Setting.{paste-take, paste-here, grown-length, grown-below, grown-above, grown-first, grown-second}
 use Rattle.lower_emit.proofs.Begun.{tables-eq}
 
@@ -113,9 +113,9 @@ module _ (t made code tables : List ℕ) (at : ℕ) (c : Counts) (l : Limits) (s
         string-index = strings-indexed t tables _ c.strings (kept_above string_index_from string_buckets (omega arith)) (kept-below strings_from c.strings (omega (arith, s.strings, s.limited.strings))) s.string-index;
       }
 
-  pub class-begun : Numbers (At c.classes (one_class c)) t made code after c l (length (state_of t made code tables c).tables.classes)
+  pub class-begun : NumberGiven (At c.classes (one_class c)) t made code after c l (length (state_of t made code tables c).tables.classes)
       (with_tables (begin_class (name_at t at) (state_of t made code tables c).tables) (state_of t made code tables c))
-  unfolding Numbers
+  unfolding NumberGiven
   class-begun = (
     sym (class-count t made code tables c l s),
     record {
@@ -127,8 +127,8 @@ module _ (t made code tables : List ℕ) (at : ℕ) (c : Counts) (l : Limits) (s
   )
 
 pub class-over : (t made code tables tables' : List ℕ) (at n : ℕ) (c : Counts) (l : Limits) → Sound t made code tables c l → l.classes ≤ c.classes →
-    Numbers Over t made code tables' c l n (with_tables (begin_class (name_at t at) (state_of t made code tables c).tables) (state_of t made code tables c))
-unfolding Numbers begin_class
+    NumberGiven Over t made code tables' c l n (with_tables (begin_class (name_at t at) (state_of t made code tables c).tables) (state_of t made code tables c))
+unfolding NumberGiven begin_class
 class-over t made code tables tables' at n c l s h = λ inside.
     omega (arith, inside.classes, class-count t made code tables c l s, length-append (state_of t made code tables c).tables.classes (record { name = name_at t at; methods = [] } ∷ []))
 
@@ -187,7 +187,7 @@ module _ (t made code tables : List ℕ) (i : ℕ) (c : Counts) (l : Limits) (s 
             (kept strings_from c.strings (omega (arith, s.strings, s.limited.strings))) s.string-index;
       }
 
-  pub constant-added : Counted (with_constants (c.constants + 1) c) (with_constants (c.constants + 1) c) t made code (set tables (constants_from + c.constants) i) l
+  pub constant-added : CountedAs (with_constants (c.constants + 1) c) (with_constants (c.constants + 1) c) t made code (set tables (constants_from + c.constants) i) l
       (with_tables (add_constant i (state_of t made code tables c).tables) (state_of t made code tables c))
   constant-added = record { counts = refl; state = constant-state; sound = constant-sound }
 
@@ -275,18 +275,18 @@ module _ (t made code tables list : List ℕ) (i at n w : ℕ) (c : Counts) (l :
       (λ j. region (place-of j) (count-of j) ms') ∙ region-region methods_from 256 c.methods n all (omega arith)
       ∙ all_above (methods_from + c.methods) n (omega arith) ∙ paste-here tables list (methods_from + c.methods) n there enough
 
-  new-class : class_of t ms' at w ≡ record { name = name_at t at; methods = map (method_of t) (take n list) }
+  new-class : class_of t ms' at w ≡ record { name = name_at t at; methods = map (method_from t) (take n list) }
   unfolding class_of
-  new-class = λ j. record { name = name_at t at; methods = map (method_of t) (new-methods j) }
+  new-class = λ j. record { name = name_at t at; methods = map (method_from t) (new-methods j) }
 
   classes-all : classes_of t ms' (region class_names_from c.classes all) (region class_methods_from c.classes all)
-      ≡ set (classes_of t ms xs ks) i (record { name = name_at t at; methods = map (method_of t) (take n list) })
+      ≡ set (classes_of t ms xs ks) i (record { name = name_at t at; methods = map (method_from t) (take n list) })
   classes-all =
       (λ j. classes_of t ms' (names-after j) (places-all j)) ∙ classes-put t ms' xs ks i at w
       ∙ (λ j. set (sym (classes-same t ms ms' xs ks c.methods s.class-methods methods-same) j) i (new-class j))
 
   end-state : state_of t made code all (with_methods (c.methods + n) c)
-      ≡ with_tables (with_classes (set (state_of t made code tables c).tables.classes i (record { name = name_at t at; methods = map (method_of t) (take n list) })) (state_of t made code tables c).tables) (state_of t made code tables c)
+      ≡ with_tables (with_classes (set (state_of t made code tables c).tables.classes i (record { name = name_at t at; methods = map (method_from t) (take n list) })) (state_of t made code tables c).tables) (state_of t made code tables c)
   unfolding state_of tables_of
   end-state = state-eq _ _ refl (tables-eq _ _
       (ap (map (spelled t made)) (all-below 0 c.symbols (omega (arith, s.symbols, s.limited.symbols))))
@@ -321,6 +321,6 @@ module _ (t made code tables list : List ℕ) (i at n w : ℕ) (c : Counts) (l :
         string-index = strings-indexed t tables _ c.strings (index_kept string_index_from string_buckets (omega arith)) (all-below strings_from c.strings (omega (arith, s.strings, s.limited.strings))) s.string-index;
       }
 
-  pub class-ended : (tables' : List ℕ) → tables' ≡ copied → Counted (with_methods (c.methods + n) c) (with_methods (c.methods + n) c) t made code (set (set tables' (class_names_from + i) at) (class_methods_from + i) w) l
-      (with_tables (with_classes (set (state_of t made code tables c).tables.classes i (record { name = name_at t at; methods = map (method_of t) (take n list) })) (state_of t made code tables c).tables) (state_of t made code tables c))
+  pub class-ended : (tables' : List ℕ) → tables' ≡ copied → CountedAs (with_methods (c.methods + n) c) (with_methods (c.methods + n) c) t made code (set (set tables' (class_names_from + i) at) (class_methods_from + i) w) l
+      (with_tables (with_classes (set (state_of t made code tables c).tables.classes i (record { name = name_at t at; methods = map (method_from t) (take n list) })) (state_of t made code tables c).tables) (state_of t made code tables c))
   class-ended tables' e = rw e (record { counts = refl; state = end-state; sound = end-sound })

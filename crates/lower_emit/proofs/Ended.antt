@@ -8,22 +8,22 @@ use lib.ListN.{length, take, drop, set, get_or, length-set, length-drop, length-
 use lib.Seq.{paste, length-paste, take-take}
 use Rattle.definitions.specs.Tables.{set_code}
 use Rattle.state.specs.Words.{region, text_at, instr_of, instrs_of}
-use Rattle.state.specs.State.{strings_from, heads_from, codes_from, class_names_from, class_methods_from, methods_from, constants_from, done_from, place_of, count_of, spelled, function_of}
+use Rattle.state.specs.State.{strings_from, heads_from, codes_from, class_names_from, class_methods_from, methods_from, constants_from, done_from, place_of, count_of, spelled, function_from}
 use Rattle.state.specs.State.{functions_of, classes_of, tables_of, state_of, Every, every, EndsWithin, MadeWithin, NamedWithin, total, Sound, symbol_index_from, symbol_buckets, string_index_from}
 use Rattle.state.specs.State.{string_buckets}
-use Rattle.state.specs.Steps.{ended}
+use Rattle.state.specs.Steps.{function_ended}
 use Rattle.state.specs.declared.Counts.{Counts}
 use Rattle.state.specs.declared.Limits.{Limits}
 use Rattle.state.proofs.Index.{symbols-indexed, strings-indexed}
 use Rattle.state.proofs.Regions.{region-same, region-length, region-drop, set_here, set_below, set-above, every_map, every_set, ends-within-more, functions-set, functions-same, total-set}
 use Rattle.state.proofs.Emission.{state-eq}
-use Rattle.lower_emit.specs.Nesting.{without, body_of, Moved}
+use Rattle.lower_emit.specs.Nesting.{without, function_body, Moved}
 use Rattle.lower_emit.proofs.Setting.{map-take, map-drop, drop-take, paste-take, paste-here}
 use Rattle.lower_emit.proofs.Begun.{tables-eq}
 
 -- the code of function f is as long as its count says
-body-count : (t fin hs ks : List ℕ) (n f : ℕ) → length hs ≡ length ks → Every (EndsWithin n) ks → n ≤ length fin → f < length ks → length (body_of (functions_of t fin hs ks) f) ≡ count_of (get_or ks f 0)
-unfolding functions_of function_of body_of instrs_of
+body-count : (t fin hs ks : List ℕ) (n f : ℕ) → length hs ≡ length ks → Every (EndsWithin n) ks → n ≤ length fin → f < length ks → length (function_body (functions_of t fin hs ks) f) ≡ count_of (get_or ks f 0)
+unfolding functions_of function_from function_body instrs_of
 body-count t fin hs [] n f e w h g = absurd (omega arith)
 body-count t fin [] (k ∷ ks) n f e w h g = absurd (omega arith)
 body-count t fin (x ∷ hs) (k ∷ ks) n zero e (every p w) h g = length-map (region (place_of k) (count_of k) fin) (instr_of t) ∙ region-length (place_of k) (count_of k) fin (omega arith)
@@ -96,8 +96,8 @@ module _ (t made code tables : List ℕ) (f b w : ℕ) (c : Counts) (l : Limits)
       ap (map (instr_of t)) (paste-take code (drop c.base code) (done_from + c.done) n room enough c.base (omega arith) ∙ sym (take-take c.base c.open code (omega arith)))
       ∙ map-take (instr_of t) c.base (take c.open code)
 
-  end-state : state_of t made moved after (without b c) ≡ ended c.base f (state_of t made code tables c)
-  unfolding state_of tables_of ended
+  end-state : state_of t made moved after (without b c) ≡ function_ended c.base f (state_of t made code tables c)
+  unfolding state_of tables_of function_ended
   end-state =
       let x = kept-below 0 c.symbols (omega (arith, s.symbols, s.limited.symbols)) in
       let y = kept-below strings_from c.strings (omega (arith, s.strings, s.limited.strings)) in
@@ -107,7 +107,7 @@ module _ (t made code tables : List ℕ) (f b w : ℕ) (c : Counts) (l : Limits)
       state-eq _ _ stack-after (tables-eq _ _ (ap (map (spelled t made)) x) (ap (map (text_at t)) y) functions-after
       (λ i. classes_of t (p i) (q i) (r i)) (kept_above constants_from c.constants (omega arith)))
 
-  module _ (started : body_of (state_of t made code tables c).tables.functions f ≡ []) (around : b ≤ c.base) where
+  module _ (started : function_body (state_of t made code tables c).tables.functions f ≡ []) (around : b ≤ c.base) where
     no_words : count_of (get_or ks f 0) ≡ 0
     unfolding state_of tables_of
     no_words = let z = small in
@@ -142,5 +142,5 @@ module _ (t made code tables : List ℕ) (f b w : ℕ) (c : Counts) (l : Limits)
           string-index = strings-indexed t tables _ c.strings (kept_above string_index_from string_buckets (omega arith)) (kept-below strings_from c.strings (omega (arith, s.strings, s.limited.strings))) s.string-index;
         }
 
-    pub end_moved : (code' : List ℕ) → code' ≡ moved → Moved b (without b c) t made code' after c l (ended c.base f (state_of t made code tables c))
+    pub end_moved : (code' : List ℕ) → code' ≡ moved → Moved b (without b c) t made code' after c l (function_ended c.base f (state_of t made code tables c))
     end_moved code' e = rw e (record { state = end-state; base = refl; paced = record { methods = le_refl _; constants = le_refl _ }; sound = end-sound })

@@ -6,12 +6,12 @@ use native.Mathlib.Bridge.{le_prop}
 use lib.ListN.{length}
 use Rattle.std.specs.Prelude.{Option, None}
 use Rattle.std.proofs.lemmas.Option.{none-some}
-use Rattle.state.specs.State.{State, Within}
-use Rattle.state.specs.Steps.{ended}
+use Rattle.state.specs.State.{State, WithinLimits}
+use Rattle.state.specs.Steps.{function_ended}
 use Rattle.state.specs.declared.Counts.{Counts}
 use Rattle.state.specs.declared.Limits.{Limits}
 use Rattle.state.specs.Answered.{At, Over}
-use Rattle.lower_emit.specs.Nesting.{one_more, begun_with, body_of, Moved, Begins}
+use Rattle.lower_emit.specs.Nesting.{one_more, begun_with, function_body, Moved, Begins}
 use Rattle.lower_emit.specs.declared.emitter.Code.{Code}
 use Rattle.lower_emit.specs.declared.emitter.Used.{Used}
 use Rattle.lower_emit.specs.declared.emitter.Entries.{Entries}
@@ -27,7 +27,7 @@ module _ (t made code tables : List ℕ) (c : Counts) (l : Limits) (n : ℕ) (wa
   unfolding Begins
   begins-at i k h = h
 
-  begins-over : Begins Over t made code tables c l n want → Within l want → ⊥
+  begins-over : Begins Over t made code tables c l n want → WithinLimits l want → ⊥
   unfolding Begins
   begins-over h = h
 
@@ -123,9 +123,9 @@ code-ended {n} {f} {c} {d} ts h k = record {
   areas = record { words = h.area; made = refl; entries = k.area };
 }
 
-pub ended-lifts : {t : List ℕ} {a b : Emitter} {f n : ℕ} → SoundIn t a → f < a.tables.functions.count → body_of (state_in t a).tables.functions f ≡ [] → n ≤ a.code.base
-    → Ended f n a b → MovedIn n t a b (ended a.code.base f (state_in t a))
+pub ended-lifts : {t : List ℕ} {a b : Emitter} {f n : ℕ} → SoundIn t a → f < a.tables.functions.count → function_body (state_in t a).tables.functions f ≡ [] → n ≤ a.code.base
+    → Ended f n a b → MovedIn n t a b (function_ended a.code.base f (state_in t a))
 ended-lifts {t} {a} {b} {f} {n} S known empty around h = record {
-  moved = subst (λ (q : Type 0). q) (λ i. Moved n (sym h.counts i) t (sym h.made i) (sym h.words i) (sym h.entries i) (counts_of a) (limits_in a) (ended a.code.base f (state_in t a)))
+  moved = subst (λ (q : Type 0). q) (λ i. Moved n (sym h.counts i) t (sym h.made i) (sym h.words i) (sym h.entries i) (counts_of a) (limits_in a) (function_ended a.code.base f (state_in t a)))
       (end_moved t a.tables.names.made.now a.code.words.now a.tables.entries.words.now f n _ (counts_of a) (limits_in a) S.sound known refl empty around _ refl);
 }

@@ -9,7 +9,7 @@ use Rattle.std.proofs.lemmas.Option.{none-some}
 use Rattle.definitions.specs.Instruction.{instr}
 use Rattle.definitions.specs.Tables.{Emit, one}
 use Rattle.definitions.specs.Module.{instructions}
-use Rattle.state.specs.State.{State, emit_at, Within}
+use Rattle.state.specs.State.{State, emit_at, WithinLimits}
 use Rattle.state.specs.declared.Limits.{Limits}
 use Rattle.state.proofs.Emission.{stack-after}
 use Rattle.definitions.proofs.Growth.{Lengthens, instructions-longer}
@@ -21,7 +21,7 @@ use Rattle.lower_emit.proofs.Packing.{instr-jump}
 use Rattle.lower_emit.proofs.Steps.{limits-code, areas-code, put-lifts}
 
 -- within the limits are the words of a part and those before it
-part-within : {l : Limits} {e : Emit} (base : ℕ) (s : State) → Lengthens e → Within l (emit_at base e s)
+part-within : {l : Limits} {e : Emit} (base : ℕ) (s : State) → Lengthens e → WithinLimits l (emit_at base e s)
     → length s.stack + length (e (length s.stack - base) s.tables).code + instructions s.tables.functions ≤ l.instructions
 unfolding emit_at
 part-within {e = e} base s E w = omega (arith, w.instructions, stack-after base e s, instructions-longer (E.at (length s.stack - base) s.tables))

@@ -10,7 +10,7 @@ use Rattle.definitions.specs.Instruction.{instr, ConstI64, Jump, minus}
 use Rattle.definitions.specs.Reader.{is_jump}
 use Rattle.definitions.proofs.Rows.{jump-is}
 use Rattle.definitions.proofs.Listing.{is-jump}
-use Rattle.state.specs.Words.{number_at, word, op_of, first_of, second_of, widened, small_int, operand_of, instr_of}
+use Rattle.state.specs.Words.{big_endian_at, word, op_of, first_of, second_of, widened, small_int, operand_read, instr_of}
 use Rattle.lower_emit.specs.Ops.{special, Plain}
 
 module _ (op a b : ℕ) (h : op < 256) (i : a < 65536) (j : b < 256) where
@@ -23,7 +23,7 @@ module _ (op a b : ℕ) (h : op < 256) (i : a < 65536) (j : b < 256) where
   pub second_word : second_of (word op a b) ≡ b
   second_word = omega arith
 
-  pub instr-word : (t : List ℕ) → eqb op small_int ≡ false → instr_of t (word op a b) ≡ instr op (operand_of t op a) b
+  pub instr-word : (t : List ℕ) → eqb op small_int ≡ false → instr_of t (word op a b) ≡ instr op (operand_read t op a) b
   unfolding instr_of
   instr-word t e = rw (op-word, instr_of, e, op-word, first_word, second_word)
 
@@ -36,9 +36,9 @@ or-false : (a b : Bool) → a || b ≡ false → (a ≡ false) × (b ≡ false)
 or-false true b e = let z : ◌≡◌ {A = ℕ} 0 1 = cc in absurd (omega arith)
 or-false false b e = (refl, e)
 
-plain-operand : (t : List ℕ) (op a : ℕ) → eqb op 0 || eqb op 1 ≡ false → is_jump op ≡ false → operand_of t op a ≡ a
-unfolding operand_of
-plain-operand t op a e f = rw (e, operand_of, f, operand_of)
+plain-operand : (t : List ℕ) (op a : ℕ) → eqb op 0 || eqb op 1 ≡ false → is_jump op ≡ false → operand_read t op a ≡ a
+unfolding operand_read
+plain-operand t op a e f = rw (e, operand_read, f, operand_read)
 
 pub instr-plain : (t : List ℕ) (op a b : ℕ) → Plain op a b → instr_of t (word op a b) ≡ instr op a b
 unfolding special
@@ -48,16 +48,16 @@ instr-plain t op a b p =
     instr-word op a b p.op-byte p.first_short p.second-byte t x.1 ∙ ap (λ (n : ℕ). instr op n b) (plain-operand t op a y.0 y.1)
 
 -- the eight bytes at a place
-pub instr-place : (t : List ℕ) (op a : ℕ) → op < 2 → a < 65536 → instr_of t (word op a 0) ≡ instr op (number_at 8 t a) 0
-unfolding operand_of
+pub instr-place : (t : List ℕ) (op a : ℕ) → op < 2 → a < 65536 → instr_of t (word op a 0) ≡ instr op (big_endian_at 8 t a) 0
+unfolding operand_read
 instr-place t zero a h i = instr-word 0 a 0 (omega arith) i (omega arith) t refl
 instr-place t (suc zero) a h i = instr-word 1 a 0 (omega arith) i (omega arith) t refl
 instr-place t (suc (suc n)) a h i = absurd (omega arith)
 
 -- jumps
-jump-operand : (t : List ℕ) (op a : ℕ) → 28 ≤ op → op ≤ 30 → operand_of t op a ≡ widened a
-unfolding operand_of
-jump-operand t op a h i = rw (ne_eqb op 0 (λ e. omega arith), operand_of, ne_eqb op 1 (λ e. omega arith), is-jump op h i)
+jump-operand : (t : List ℕ) (op a : ℕ) → 28 ≤ op → op ≤ 30 → operand_read t op a ≡ widened a
+unfolding operand_read
+jump-operand t op a h i = rw (ne_eqb op 0 (λ e. omega arith), operand_read, ne_eqb op 1 (λ e. omega arith), is-jump op h i)
 
 pub instr-jump : (t : List ℕ) (op a : ℕ) → 28 ≤ op → op ≤ 30 → a < 32768 → instr_of t (word op a 0) ≡ instr op a 0
 unfolding widened

@@ -12,7 +12,7 @@ use Rattle.state.specs.Words.{instr_of, instrs_of}
 use Rattle.state.specs.State.{State, state_of, tables_of, emit_at, done_from, Sound, Emits}
 use Rattle.state.specs.declared.Counts.{Counts}
 use Rattle.state.specs.declared.Limits.{Limits}
-use Rattle.state.specs.Answered.{Emitted, Done, Full}
+use Rattle.state.specs.Answered.{PartEmitted, Done, Full}
 use Rattle.definitions.specs.Instruction.{Instr}
 use Rattle.lower_emit.specs.Nesting.{with_open}
 use Rattle.state.proofs.Views.{stack-length, instruction-count}
@@ -82,6 +82,6 @@ module _ (t made code tables : List ℕ) (w : ℕ) (c : Counts) (l : Limits) (s 
       omega (arith, inside.instructions)
 
 -- the same answer, for the instruction of the word
-pub emits-instr : (r : Emitted) (t made code tables : List ℕ) (c : Counts) (l : Limits) (next : ℕ) (s : State) (w : ℕ) (i : Instr) → instr_of t w ≡ i →
+pub emits-instr : (r : PartEmitted) (t made code tables : List ℕ) (c : Counts) (l : Limits) (next : ℕ) (s : State) (w : ℕ) (i : Instr) → instr_of t w ≡ i →
     Emits r t made code tables c l next (emit_at c.base (one (instr_of t w)) s) → Emits r t made code tables c l next (emit_at c.base (one i) s)
 emits-instr r t made code tables c l next s w i e h = rw (← e) h

@@ -5,7 +5,7 @@ use mathlib.Core.List.{List}
 use native.Mathlib.Omega.{arith}
 use Rattle.definitions.specs.Instruction.{Instr}
 use Rattle.definitions.specs.Tables.{one}
-use Rattle.state.specs.State.{State, state_of, emit_at, Sound, Within, Left}
+use Rattle.state.specs.State.{State, state_of, emit_at, Sound, WithinLimits, Left}
 use Rattle.state.specs.Steps.{set_at, patch_at}
 use Rattle.state.specs.declared.Counts.{Counts}
 use Rattle.state.specs.declared.Limits.{Limits}
@@ -33,7 +33,7 @@ module _ (t made code code₁ tables : List ℕ) (c k : Counts) (l : Limits) (ba
 
 -- before the end of a loop
 pub loop-within : (t made code tables : List ℕ) (c : Counts) (l : Limits) (base : ℕ) (i : Instr) (h from j : ℕ) (x : Instr) → Sound t made code tables c l → from ≤ c.open
-    → Within l (set_at j x (patch_at h from (c.open - from) (emit_at base (one i) (state_of t made code tables c)))) → Within l (emit_at base (one i) (state_of t made code tables c))
+    → WithinLimits l (set_at j x (patch_at h from (c.open - from) (emit_at base (one i) (state_of t made code tables c)))) → WithinLimits l (emit_at base (one i) (state_of t made code tables c))
 loop-within t made code tables c l base i h from j x s g w =
     let a = one-longer base i (state_of t made code tables c) in
     let b = stack-length t made code tables c l s in

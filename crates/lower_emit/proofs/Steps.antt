@@ -8,10 +8,10 @@ use Rattle.std.proofs.lemmas.Option.{none-some}
 use Rattle.definitions.specs.Instruction.{Instr}
 use Rattle.definitions.specs.Tables.{Emit, emits, one, ◌⨟◌}
 use Rattle.state.specs.Words.{instr_of}
-use Rattle.state.specs.State.{State, emit_at, state_of, Within, Sound, Left, Emits}
+use Rattle.state.specs.State.{State, emit_at, state_of, WithinLimits, Sound, Left, Emits}
 use Rattle.state.specs.declared.Counts.{Counts}
 use Rattle.state.specs.declared.Limits.{Limits}
-use Rattle.state.specs.Answered.{Emitted, Done, Full}
+use Rattle.state.specs.Answered.{PartEmitted, Done, Full}
 use Rattle.state.proofs.Answers.{emits-done, emits-full, full-emits, done-emits, left-after, left-none, left_as, base-below}
 use Rattle.state.proofs.Emission.{at-seq, at-nothing}
 use Rattle.definitions.proofs.Growth.{Lengthens}
@@ -47,7 +47,7 @@ code-after h g = record { base = g.base ∙ h.base; done = g.done ∙ h.done; li
 
 -- ---- an answer of an emitter as one of the state's laws
 
-unfoldable pub answered : {A : Type 0} → Option A → ℕ → Counts → Emitted
+unfoldable pub answered : {A : Type 0} → Option A → ℕ → Counts → PartEmitted
 answered None q k = Full
 answered (Some x) q k = Done q k
 
@@ -104,7 +104,7 @@ pub put-left : (tree made code tables : List ℕ) (w : ℕ) (i : Instr) (c : Cou
 put-left tree made code tables w i c l s e h = (emits-done tree made _ tables c l 0 _ _ 0 _ refl (emits-instr _ tree made _ tables c l 0 _ w i e (put-more tree made code tables w c l s 0 h))).1
 
 put-over : (tree made code tables : List ℕ) (w : ℕ) (i : Instr) (c : Counts) (l : Limits) → Sound tree made code tables c l → instr_of tree w ≡ i → l.instructions ≤ c.open + c.done
-    → Within l (emit_at c.base (one i) (state_of tree made code tables c)) → ⊥
+    → WithinLimits l (emit_at c.base (one i) (state_of tree made code tables c)) → ⊥
 put-over tree made code tables w i c l s e h = emits-full tree made code tables c l 0 _ _ refl (emits-instr _ tree made code tables c l 0 _ w i e (put_full tree made code tables w c l s code 0 h))
 
 -- the law that lifts a word to the state
@@ -145,7 +145,7 @@ left-next {tree} {a} {b} {c} {w₁} {w} e h g = record {
 pub reaches-after : {A B : Type 0} {r : Option A} {x : A} {r₂ : Option B} {tree : List ℕ} {a b c : Emitter} {w₁ w : State} → r ≡ Some x → Reaches r tree a b w₁ → Reaches r₂ tree b c w → Reaches r₂ tree a c w
 reaches-after {x = x} {w = w} z h g = record {
   done = λ y q. left-next h.limits (h.done x z) (g.done y q);
-  full = λ q v. g.full q (subst (λ (l : Limits). Within l w) (sym h.limits) v);
+  full = λ q v. g.full q (subst (λ (l : Limits). WithinLimits l w) (sym h.limits) v);
   limits = g.limits ∙ h.limits;
   areas = areas-after h.areas g.areas;
 }

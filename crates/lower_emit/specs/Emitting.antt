@@ -2,7 +2,7 @@
 use Rattle.std.specs.Prelude.{ℕ, ◌+◌, ◌*◌, ◌-◌, ◌<◌, ◌≤◌, ◌≡◌, Option, Some, None, List, set, drop}
 use Rattle.std.proofs.Math.Seq.{paste}
 use Rattle.definitions.specs.Tables.{Emit}
-use Rattle.state.specs.State.{State, state_of, emit_at, Within, Sound, Left, heads_from, codes_from, done_from}
+use Rattle.state.specs.State.{State, state_of, emit_at, WithinLimits, Sound, Left, heads_from, codes_from, done_from}
 use Rattle.state.specs.Words.{word}
 use Rattle.state.specs.declared.Counts.{Counts}
 use Rattle.state.specs.declared.Limits.{Limits}
@@ -88,7 +88,7 @@ pub record LeftIn (tree : List ℕ) (a b : Emitter) (want : State) : Type 0 wher
 -- an answer and the wanted state; or the wanted state is over the limits or has a function of more than 255 slots
 pub record Reaches {A : Type 0} (r : Option A) (tree : List ℕ) (a b : Emitter) (want : State) : Type 0 where
   pub done : (x : A) → r ≡ Some x → LeftIn tree a b want
-  pub full : r ≡ None → Within (limits_in a) want → ⊥
+  pub full : r ≡ None → WithinLimits (limits_in a) want → ⊥
   pub limits : limits_in b ≡ limits_in a
   pub areas : SameAreas a b
 
@@ -122,7 +122,7 @@ pub record BeginsIn (r : Option ℕ) (number : ℕ) (tree : List ℕ) (a b : Emi
   pub is : (n : ℕ) → r ≡ Some n → n ≡ number
   pub done : (n : ℕ) → r ≡ Some n → MovedIn a.code.open tree a b want
   pub more : (n : ℕ) → r ≡ Some n → b.tables.methods + a.tables.functions.count < a.tables.methods + b.tables.functions.count
-  pub full : r ≡ None → Within (limits_in a) want → ⊥
+  pub full : r ≡ None → WithinLimits (limits_in a) want → ⊥
   pub limits : limits_in b ≡ limits_in a
   pub areas : SameAreas a b
 

@@ -2,7 +2,7 @@
 use Rattle.std.specs.Prelude.{ℕ, zero, suc, ◌+◌, ◌-◌, ◌<◌, ◌≡◌, List, [], ◌∷◌, ◌++◌}
 use Rattle.definitions.specs.Instruction.{Instr}
 use Rattle.definitions.specs.Tables.{Function, with_functions, coded}
-use Rattle.state.specs.State.{State, state_of, with_tables, Within, Sound, Paced}
+use Rattle.state.specs.State.{State, state_of, with_tables, WithinLimits, Sound, Paced}
 use Rattle.state.specs.declared.Counts.{Counts}
 use Rattle.state.specs.declared.Limits.{Limits}
 use Rattle.state.specs.Answered.{Numbered, At, Over}
@@ -13,10 +13,10 @@ begun_with k arity n s =
     with_tables (with_functions (s.tables.functions ++ coded k arity n [] ∷ []) s.tables) s
 
 -- the code of function n
-unfoldable pub body_of : List Function → ℕ → List Instr
-body_of [] n = []
-body_of (f ∷ fs) zero = f.code
-body_of (f ∷ fs) (suc n) = body_of fs n
+unfoldable pub function_body : List Function → ℕ → List Instr
+function_body [] n = []
+function_body (f ∷ fs) zero = f.code
+function_body (f ∷ fs) (suc n) = function_body fs n
 
 -- the wanted state, with the innermost function from b on
 pub record Moved (b : ℕ) (k : Counts) (tree made code tables : List ℕ) (c : Counts) (l : Limits) (want : State) : Type 0 where
@@ -29,7 +29,7 @@ pub record Moved (b : ℕ) (k : Counts) (tree made code tables : List ℕ) (c : 
 -- over the limits
 unfoldable pub Begins : Numbered → List ℕ → List ℕ → List ℕ → List ℕ → Counts → Limits → ℕ → State → Type 0
 Begins (At i k) tree made code tables c l number want = (i ≡ number) × Moved c.open k tree made code tables c l want × (k.methods + c.functions < c.methods + k.functions)
-Begins Over tree made code tables c l number want = Within l want → ⊥
+Begins Over tree made code tables c l number want = WithinLimits l want → ⊥
 
 -- the counts with another number of open words
 abbrev pub with_open : ℕ → Counts → Counts
@@ -106,7 +106,7 @@ without b c = record {
 }
 
 -- the counts k and the wanted state
-pub record Counted (r k : Counts) (tree made code tables : List ℕ) (l : Limits) (want : State) : Type 0 where
+pub record CountedAs (r k : Counts) (tree made code tables : List ℕ) (l : Limits) (want : State) : Type 0 where
   pub counts : r ≡ k
   pub state : state_of tree made code tables r ≡ want
   pub sound : Sound tree made code tables r l

@@ -10,7 +10,7 @@ use Rattle.definitions.specs.Bytes.{Name}
 use Rattle.definitions.specs.Tables.{Emit}
 use Rattle.exprs.specs.ExprAt.{expr_at, exprs_at}
 use Rattle.state.specs.Words.{word}
-use Rattle.state.specs.State.{State, state_of, emit_at, Sound, Left, Within}
+use Rattle.state.specs.State.{State, state_of, emit_at, Sound, Left, WithinLimits}
 use Rattle.state.specs.declared.Counts.{Counts}
 use Rattle.state.specs.declared.Limits.{Limits}
 use Rattle.state.proofs.Emission.{at-seq, at-nothing}
@@ -50,7 +50,7 @@ module _ {d : ℕ} {t : List ℕ} {names : List Name} {c : Counts} {l : Limits} 
         midway = midway-next k t made code tables c l _ _ R.midway k' made' code' tables' (expr_code d t names p) (exprs_code d (n - 1) t names (expr_at d t p).end) h split;
       }
 
-  over-full : (Within l (emit_at k.base (expr_code d t names p) (state_of t made code tables k)) → ⊥) → Within l want → ⊥
+  over-full : (WithinLimits l (emit_at k.base (expr_code d t names p) (state_of t made code tables k)) → ⊥) → WithinLimits l want → ⊥
   over-full h = midway-full k t made code tables c l _ _ R.midway (expr_code d t names p) (exprs_code d (n - 1) t names (expr_at d t p).end) (lengthens-exprs names _) h split
 
 -- at the loop's head: a is the emitter before the loop
@@ -87,7 +87,7 @@ module _ {d : ℕ} {t : List ℕ} {names : List Name} {a : Emitter} {n₀ p₀ :
     lowers = record {
       reaches = record {
         done = λ k e. absurd (none-some k (sym y ∙ e));
-        full = λ e. over-full R.rest more (λ w. h.lowers.reaches.full z (subst (λ (l : Limits). Within l (emit_at b.code.base (expr_code d t names p) (state_in t b))) (sym R.limits) w));
+        full = λ e. over-full R.rest more (λ w. h.lowers.reaches.full z (subst (λ (l : Limits). WithinLimits l (emit_at b.code.base (expr_code d t names p) (state_in t b))) (sym R.limits) w));
         limits = h.lowers.reaches.limits ∙ R.limits;
         areas = areas-after R.areas h.lowers.reaches.areas;
       };

@@ -20,7 +20,7 @@ ghost use Rattle.lower_emit.specs.Ops.{Plain};
 ghost use Rattle.lower_forms.specs.Lowerable.{expr_code, exprs_code, method_code, call_instr, lambda_code, closure_code, function_code, Short, CapturesHeld};
 ghost use Rattle.lower_forms.specs.Lowerable.{SoleIn, Lowerable, LowerableMany, UnaryLowerable, TwoLowerable, BinaryLowerable, ArgsLowerable, CallLowerable, NamedLowerable};
 ghost use Rattle.lower_forms.specs.Lowerable.{AttributeLowerable, MethodLowerable, DisplayLowerable, LambdaLowerable, ClosureLowerable};
-ghost use Rattle.opcodes.specs.Codes.{unary_opcode, display_of, held_of};
+ghost use Rattle.opcodes.specs.Codes.{unary_opcode, display_by_kind, held_of};
 ghost use Rattle.lower_emit.specs.Emitting.{EmitsTo};
 ghost use Rattle.lower_names.specs.Naming.{Resolves, callee_of};
 
@@ -295,7 +295,7 @@ fn emit_attribute(s: Scope<'_>, e: &mut Emitter<'_>, at: usize, depth: u32) -> O
 fn emit_display(s: Scope<'_>, e: &mut Emitter<'_>, at: usize, depth: u32, kind: u8) -> Option<usize>
     requires { SoleIn s.tree.now e.old × DisplayLowerable kind depth s.tree.now at }
     ensures { let t = s.entry.tree.now in let names = slot_names t s.entry.slots.now in
-        EmitsTo result (exprs_code depth (held_of kind (count_at t at)) t names (at + 2) ⨟ one (Build (display_of kind) (count_at t at)))
+        EmitsTo result (exprs_code depth (held_of kind (count_at t at)) t names (at + 2) ⨟ one (Build (display_by_kind kind) (count_at t at)))
         (exprs_at depth (held_of kind (count_at t at)) t (at + 2)).end t e.old e.new }
 {
     let n = u16_at(s.tree, at);

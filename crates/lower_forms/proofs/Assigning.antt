@@ -11,7 +11,7 @@ use Rattle.definitions.specs.Instruction.{StoreAttr, StoreIndex}
 use Rattle.definitions.specs.Tables.{Emit, emits, one, ◌⨟◌, intern}
 use Rattle.definitions.specs.Wellformed.{ask_expr}
 use Rattle.definitions.specs.Lower.{store, unpack, assign_by}
-use Rattle.parts.specs.Places.{Node, count_at, name_bytes, name_end}
+use Rattle.parts.specs.Places.{Node, count_at, name_from, name_end}
 use Rattle.exprs.specs.ExprAt.{expr_at, var_at, attribute_at, display_at, index_at, second_at}
 use Rattle.exprs.proofs.ExprViews.{expr-deep, expr-inside, view-var, view-attribute, view-tuple, view-index}
 use Rattle.state.specs.Words.{name_at}
@@ -51,7 +51,7 @@ module _ (d : ℕ) (t : List ℕ) (p : ℕ) (r : AssignLowerable d t p) where
 
   pub arm-variable : get_or t p 0 ≡ 6 → AssignArm (VariableAssigned d t (p + 1)) d t p
       (λ names. expr_code d t names (name_end t (p + 1)) ⨟ store names (name_at t (p + 1))) (expr_at d t (name_end t (p + 1))).end
-  unfolding var_at view assign_by name_bytes name_at
+  unfolding var_at view assign_by name_from name_at
   arm-variable k =
       let v = view-var d t p r.target k in
       record { parts = record { name = v.parts; value = valued _ v.is }; code = coded _ v.is; end = ends _ v.is }
@@ -59,7 +59,7 @@ module _ (d : ℕ) (t : List ℕ) (p : ℕ) (r : AssignLowerable d t p) where
   pub arm-attribute : get_or t p 0 ≡ 10 → AssignArm (AttributeAssigned d t (p + 1)) d t p
       (λ names. expr_code (d - 1) t names (p + 1) ⨟ expr_code d t names (name_end t (expr_at (d - 1) t (p + 1)).end) ⨟ intern (name_at t (expr_at (d - 1) t (p + 1)).end) (λ k. one (StoreAttr k)))
       (expr_at d t (name_end t (expr_at (d - 1) t (p + 1)).end)).end
-  unfolding attribute_at view assign_by name_bytes name_at ask_expr
+  unfolding attribute_at view assign_by name_from name_at ask_expr
   arm-attribute k =
       let v = view-attribute d t p r.target k in
       record {

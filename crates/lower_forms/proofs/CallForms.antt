@@ -16,7 +16,7 @@ use Rattle.definitions.specs.Instruction as Instruction
 use Rattle.definitions.specs.Tables.{Tables, Emit, emits, one, ◌⨟◌, intern}
 use Rattle.definitions.proofs.Resolve.{CalleeIn, resolve-in}
 use Rattle.definitions.specs.Lower.{Callee, builtin_callee, function_callee, value_callee, resolve, call_named, call_by, emit_expr, emit_exprs}
-use Rattle.parts.specs.Places.{Node, count_at, name_bytes, name_end}
+use Rattle.parts.specs.Places.{Node, count_at, name_from, name_end}
 use Rattle.exprs.specs.ExprAt.{expr_at, list_at, var_at, attribute_at}
 use Rattle.exprs.proofs.ExprViews.{expr-deep, view-var, view-attribute}
 use Rattle.state.specs.Words.{name_at}
@@ -71,7 +71,7 @@ module _ (d : ℕ) (t : List ℕ) (p : ℕ) (r : CallLowerable d t p) where
       let v = view-attribute d t p r.callee.reads k in
       let o = expr_at (d - 1) t (p + 1) in
       let q : (expr_at d t p).end ≡ name_end t o.end = ap (λ (x : Node Expr). x.end) v.is in
-      let w : (expr_at d t p).value ≡ attr o.value (name_bytes t o.end) = ap (λ (x : Node Expr). x.value) v.is in
+      let w : (expr_at d t p).value ≡ attr o.value (name_from t o.end) = ap (λ (x : Node Expr). x.value) v.is in
       let args = subst (ArgsLowerable d t) q r.args in
       let z = expr-deep d t p r.callee.reads in
       record {
@@ -84,7 +84,7 @@ module _ (d : ℕ) (t : List ℕ) (p : ℕ) (r : CallLowerable d t p) where
           args = args;
         };
         code = λ names. ap (λ (x : Node Expr). emit_expr names (call x.value (list_at d t x.end).value)) v.is
-            ∙ ap (λ (n : ℕ). emit_expr names o.value ⨟ emit_exprs names (list_at d t (name_end t o.end)).value ⨟ intern (name_bytes t o.end) (λ k. one (Instruction.CallMethod k n)))
+            ∙ ap (λ (n : ℕ). emit_expr names o.value ⨟ emit_exprs names (list_at d t (name_end t o.end)).value ⨟ intern (name_from t o.end) (λ k. one (Instruction.CallMethod k n)))
             (exprs-count d (count_at t (name_end t o.end)) t (name_end t o.end + 2) args.elements.reads)
             ∙ ap (λ (x : Name). emit_expr names o.value ⨟ emit_exprs names (list_at d t (name_end t o.end)).value ⨟ intern x (λ k. one (Instruction.CallMethod k (count_at t (name_end t o.end))))) (name-same t o.end);
         end = ap (λ (n : ℕ). (list_at d t n).end) q;

@@ -14,18 +14,18 @@ use Rattle.parts.specs.Places.{Node, count_at, eight_at}
 use Rattle.parts.proofs.Laws.{at_byte}
 use Rattle.exprs.proofs.ExprViews.{view-none, view-false, view-true}
 use Rattle.exprs.proofs.LiteralLaws.{eight_is}
-use Rattle.state.specs.Words.{number_at, text_at}
+use Rattle.state.specs.Words.{big_endian_at, text_at}
 use Rattle.lower_forms.specs.Lowerable.{Lowerable}
 use Rattle.lower_forms.proofs.ExprArms.{Arm}
 
 -- ---- numbers and texts are the same in both views
 
-count_same : (t : List ℕ) (p : ℕ) → number_at 2 t p ≡ count_at t p
-unfolding number_at count_at
+count_same : (t : List ℕ) (p : ℕ) → big_endian_at 2 t p ≡ count_at t p
+unfolding big_endian_at count_at
 count_same t p = omega arith
 
-pub text_same : (t : List ℕ) (p : ℕ) → (Places.text_at t p).value ≡ text_at t p
-unfolding Places.text_at text_at
+pub text_same : (t : List ℕ) (p : ℕ) → (Places.text_node_at t p).value ≡ text_at t p
+unfolding Places.text_node_at text_at
 text_same t p = ap (λ (n : ℕ). take n (drop (p + 2) t)) (sym (count_same t p))
 
 -- so many bytes from p on
@@ -38,11 +38,11 @@ unfolding bytes_from
 bytes-taken zero t p h = refl
 bytes-taken (suc n) t p h = ap (take (suc n)) (at_byte t p (omega arith)) ∙ ap (λ (bs : List ℕ). get_or t p 0 ∷ bs) (bytes-taken n t (p + 1) (omega arith))
 
-eight-of : (t : List ℕ) (p : ℕ) → from_be_bytes w64 (bytes_from 8 t p) ≡ number_at 8 t p
-unfolding number_at bytes_from
+eight-of : (t : List ℕ) (p : ℕ) → from_be_bytes w64 (bytes_from 8 t p) ≡ big_endian_at 8 t p
+unfolding big_endian_at bytes_from
 eight-of t p = omega arith
 
-pub eight-same : (t : List ℕ) (p : ℕ) → p + 8 ≤ length t → eight_at t p ≡ number_at 8 t p
+pub eight-same : (t : List ℕ) (p : ℕ) → p + 8 ≤ length t → eight_at t p ≡ big_endian_at 8 t p
 eight-same t p h =
     let size : p + 8 - p ≡ 8 = omega arith in
     sym (sym (eight-of t p) ∙ eight_is t _ p _ h (sym (ap (λ (n : ℕ). take n (drop p t)) size ∙ bytes-taken 8 t p h)) refl)

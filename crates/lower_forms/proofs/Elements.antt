@@ -8,7 +8,7 @@ use Rattle.definitions.specs.Wellformed.{ask_exprs}
 use Rattle.definitions.specs.Tables.{emits, ◌⨟◌}
 use Rattle.definitions.specs.Lower.{emit_exprs}
 use Rattle.parts.specs.Places.{Node}
-use Rattle.exprs.specs.ExprAt.{expr_at, exprs_at, cons_at}
+use Rattle.exprs.specs.ExprAt.{expr_at, exprs_at, cons_exprs_at}
 use Rattle.exprs.proofs.ExprViews.{view-exprs-none, view-exprs-more}
 use Rattle.lower_forms.specs.Lowerable.{Relied, Lowerable, LowerableMany, expr_code, exprs_code}
 use Rattle.lower_forms.proofs.ExprArms.{and_both}
@@ -21,7 +21,7 @@ pub record More (d n : ℕ) (t : List ℕ) (p : ℕ) : Type 0 where
   pub end : (exprs_at d n t p).end ≡ (exprs_at d (n - 1) t (expr_at d t p).end).end
 
 pub more-view : (d n : ℕ) (t : List ℕ) (p : ℕ) → 0 < n → LowerableMany d n t p → More d n t p
-unfolding cons_at emit_exprs ask_exprs
+unfolding cons_exprs_at emit_exprs ask_exprs
 more-view d n t p h r =
     let v = view-exprs-more d n t p h r.reads in
     let w = ap (λ (x : Node Exprs). x.value) v.is in

@@ -14,8 +14,8 @@ use Rattle.definitions.specs.Wellformed.{if_asked, ask_name, distinct, ask_param
 use Rattle.definitions.specs.Instruction.{instr, Build, LoadAttr, LoadIndex, operator_code}
 use Rattle.definitions.specs.Tables.{Emit, one, ◌⨟◌, intern}
 use Rattle.definitions.specs.Lower.{literal, load, decides, shortcut, display_size, emit_expr, emit_exprs}
-use Rattle.parts.specs.Places.{Node, node, count_at, Counted, name_bytes, name_end, There, params_at}
-use Rattle.exprs.specs.ExprAt.{expr_at, exprs_at, ExprsRead, unary_ops, binary_of, second_at, list_at, var_at, unary_at, binary_at, call_at, attribute_at, display_at, dict_at, index_at, lambda_at, cons_at}
+use Rattle.parts.specs.Places.{Node, node, count_at, CountThere, name_from, name_end, There, params_at}
+use Rattle.exprs.specs.ExprAt.{expr_at, exprs_at, ExprsRead, unary_ops, binary_of, second_at, list_at, var_at, unary_at, binary_at, call_at, attribute_at, display_at, dict_at, index_at, lambda_at, cons_exprs_at}
 use Rattle.exprs.specs.Literals.{LiteralAt}
 use Rattle.exprs.proofs.ExprViews.{expr-deep, expr-inside, view-var, view-unary, view-binary, view-call, view-attribute, view-list, view-dict, view-tuple, view-set, view-tree-set}
 use Rattle.exprs.proofs.ExprViews.{view-index, view-lambda, view-exprs-none, view-exprs-more, unary-of, binary-of, and-of, or-of}
@@ -23,7 +23,7 @@ use Rattle.exprs.proofs.LiteralLaws.{view-literal}
 use Rattle.state.specs.Words.{name_at}
 use Rattle.lower_forms.specs.Lowerable.{Relied, of_counts, Lowerable, LowerableMany, expr_code, exprs_code, UnaryLowerable, TwoLowerable, BinaryLowerable, ArgsLowerable, CallLowerable}
 use Rattle.lower_forms.specs.Lowerable.{AttributeLowerable, DisplayLowerable, LambdaLowerable, lambda_code}
-use Rattle.opcodes.specs.Codes.{unary_opcode, display_of, held_of}
+use Rattle.opcodes.specs.Codes.{unary_opcode, display_by_kind, held_of}
 use Rattle.opcodes.proofs.Opcodes.{operator-is}
 use Rattle.parts.proofs.NameLaws.{length-names}
 pub use Rattle.definitions.proofs.Truth.{both as and_both}
@@ -34,13 +34,13 @@ pub record Arm (Parts : Type 0) (d : ℕ) (t : List ℕ) (p : ℕ) (e : List Nam
   pub code : (names : List Name) → expr_code d t names p ≡ e names
   pub end : (expr_at d t p).end ≡ q
 
-pub name-same : (t : List ℕ) (p : ℕ) → name_bytes t p ≡ name_at t p
-unfolding name_bytes name_at
+pub name-same : (t : List ℕ) (p : ℕ) → name_from t p ≡ name_at t p
+unfolding name_from name_at
 name-same t p = refl
 
 -- n expressions are n
 pub exprs-count : (d n : ℕ) (t : List ℕ) (p : ℕ) → ExprsRead d n t p → count (exprs_at d n t p).value ≡ n
-unfolding count cons_at
+unfolding count cons_exprs_at
 exprs-count d zero t p r = ap (λ (x : Node Exprs). count x.value) (view-exprs-none d 0 t p (le_refl 0) r.start)
 exprs-count d (suc n) t p r =
     let v = view-exprs-more d (suc n) t p (omega arith) r in
@@ -207,24 +207,24 @@ module _ (d : ℕ) (t : List ℕ) (p : ℕ) (r : Lowerable d t p) where
   abbrev DisplayArm : ℕ → Type 0
   DisplayArm k =
       Arm (DisplayLowerable k (d - 1) t (p + 1)) d t p
-      (λ names. exprs_code (d - 1) (held_of k (count_at t (p + 1))) t names (p + 1 + 2) ⨟ one (Build (display_of k) (count_at t (p + 1)))) (exprs_at (d - 1) (held_of k (count_at t (p + 1))) t (p + 1 + 2)).end
+      (λ names. exprs_code (d - 1) (held_of k (count_at t (p + 1))) t names (p + 1 + 2) ⨟ one (Build (display_by_kind k) (count_at t (p + 1)))) (exprs_at (d - 1) (held_of k (count_at t (p + 1))) t (p + 1 + 2)).end
 
-  display-of : (k : ℕ) → 11 ≤ k → k ≤ 15 → Counted t (p + 1) → ExprsRead (d - 1) (held_of k (count_at t (p + 1))) t (p + 1 + 2) →
-      display_size (display_of k) (exprs_at (d - 1) (held_of k (count_at t (p + 1))) t (p + 1 + 2)).value ≡ count_at t (p + 1) →
-      expr_at d t p ≡ node (display (display_of k) (exprs_at (d - 1) (held_of k (count_at t (p + 1))) t (p + 1 + 2)).value) (exprs_at (d - 1) (held_of k (count_at t (p + 1))) t (p + 1 + 2)).end →
+  display-of : (k : ℕ) → 11 ≤ k → k ≤ 15 → CountThere t (p + 1) → ExprsRead (d - 1) (held_of k (count_at t (p + 1))) t (p + 1 + 2) →
+      display_size (display_by_kind k) (exprs_at (d - 1) (held_of k (count_at t (p + 1))) t (p + 1 + 2)).value ≡ count_at t (p + 1) →
+      expr_at d t p ≡ node (display (display_by_kind k) (exprs_at (d - 1) (held_of k (count_at t (p + 1))) t (p + 1 + 2)).value) (exprs_at (d - 1) (held_of k (count_at t (p + 1))) t (p + 1 + 2)).end →
       DisplayArm k
   unfolding emit_expr ask_expr
   display-of k lo hi n reads size is =
       let es = (exprs_at (d - 1) (held_of k (count_at t (p + 1))) t (p + 1 + 2)).value in
       let w = ap (λ (n : Node Expr). n.value) is in
       record {
-        parts = record { above = lo; below = hi; count = n; elements = record { reads = reads; asks = asked (display (display_of k) es) w } };
-        code = λ names. ap (emit_expr names) w ∙ ap (λ (i : ℕ). emit_exprs names es ⨟ one (Build (display_of k) i)) size;
+        parts = record { above = lo; below = hi; count = n; elements = record { reads = reads; asks = asked (display (display_by_kind k) es) w } };
+        code = λ names. ap (emit_expr names) w ∙ ap (λ (i : ℕ). emit_exprs names es ⨟ one (Build (display_by_kind k) i)) size;
         end = ap (λ (n : Node Expr). n.end) is;
       }
 
   pub arm-display : 11 ≤ get_or t p 0 → get_or t p 0 ≤ 15 → DisplayArm (get_or t p 0)
-  unfolding display_of held_of display_at dict_at display_size
+  unfolding display_by_kind held_of display_at dict_at display_size
   arm-display lo hi = go (get_or t p 0 - 11) (omega arith)
     where
       many : (m : ℕ) → ExprsRead (d - 1) m t (p + 1 + 2) → count (exprs_at (d - 1) m t (p + 1 + 2)).value ≡ m
@@ -271,8 +271,8 @@ args_at d t p q e r = subst (ArgsLowerable d t) (sym e) r
 pub there-at : (t : List ℕ) (p q : ℕ) → q ≡ p → There t p → There t q
 there-at t p q e r = subst (There t) (sym e) r
 
-pub counted-at : (t : List ℕ) (p q : ℕ) → q ≡ p → Counted t p → Counted t q
-counted-at t p q e r = subst (Counted t) (sym e) r
+pub counted-at : (t : List ℕ) (p q : ℕ) → q ≡ p → CountThere t p → CountThere t q
+counted-at t p q e r = subst (CountThere t) (sym e) r
 
 -- ---- codes of operators and literals
 

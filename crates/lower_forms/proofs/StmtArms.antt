@@ -14,7 +14,7 @@ use Rattle.definitions.specs.Tables.{Emit, emits, one, ◌⨟◌}
 use Rattle.definitions.specs.Wellformed.{init, if_asked, is_target, is_full, ask_name, ask_params, ask_expr, ask_target, ask_stmt, ask_block, ask_branches, ask_method, ask_methods, ask_attribute}
 use Rattle.definitions.specs.Slots.{Keeping, past, loops_stmt}
 use Rattle.definitions.specs.Lower.{loop, emit_stmt, emit_block}
-use Rattle.parts.specs.Places.{Node, node, count_at, Counted, name_bytes, name_end, params_at}
+use Rattle.parts.specs.Places.{Node, node, count_at, CountThere, name_from, name_end, params_at}
 use Rattle.exprs.specs.ExprAt.{expr_at, second_at}
 use Rattle.tree.specs.StmtAt.{stmt_at, block_at, stmts_at, branches_at, methods_at, attributes_at, expr_stmt_at, return_at, assign_at, body_at, elifs_at, if_at, while_at, for_at, when_at, else_at}
 use Rattle.tree.specs.StmtAt.{def_block_at, def_at, method_at, class_methods_at, class_at, cons_at}
@@ -136,7 +136,7 @@ module _ (d : ℕ) (t : List ℕ) (p : ℕ) (r : StmtLowerable d t p) where
   unfolding ask_stmt for_at
   arm-for k =
       let v = view-for d t p r.reads k in
-      let x = name_bytes t (p + 1) in
+      let x = name_from t (p + 1) in
       let e = (expr_at (d - 1) t (name_end t (p + 1))).value in
       let a = λ (q : ℕ) (j : Relied q). and_both (ask_name q x && ask_expr q e) (ask_block q true (body_at (d - 1) t (name_end t (p + 1))).value) (asked _ v.is q j) in
       record {
@@ -154,10 +154,10 @@ module _ (d : ℕ) (t : List ℕ) (p : ℕ) (r : StmtLowerable d t p) where
   -- ---- defs and classes
 
   pub arm-def : get_or t p 0 ≡ 9 → StmtArm (FunctionLowerable (d - 1) t (p + 1)) d t p (λ names keep. function_code (d - 1) t (p + 1) false) (def_block_at (d - 1) t (p + 1)).end
-  unfolding emit_stmt ask_stmt def_at end_of name_bytes name_at
+  unfolding emit_stmt ask_stmt def_at end_of name_from name_at
   arm-def k =
       let v = view-def d t p r.reads k in
-      let x = name_bytes t (p + 1) in
+      let x = name_from t (p + 1) in
       let ps = (params_at t (name_end t (p + 1))).value in
       let a = λ (q : ℕ) (j : Relied q). and_both (ask_name q x && ask_params q ps) (ask_block q false (def_block_at (d - 1) t (p + 1)).value) (asked _ v.is q j) in
       record {
@@ -173,10 +173,10 @@ module _ (d : ℕ) (t : List ℕ) (p : ℕ) (r : StmtLowerable d t p) where
       }
 
   pub arm-class : get_or t p 0 ≡ 10 → StmtArm (ClassLowerable (d - 1) t (p + 1)) d t p (λ names keep. class_code (name_at t (p + 1)) (class_methods_at (d - 1) t (p + 1)).value) (stmt_at d t p).end
-  unfolding emit_stmt ask_stmt class_at class_code name_bytes name_at
+  unfolding emit_stmt ask_stmt class_at class_code name_from name_at
   arm-class k =
       let v = view-class d t p r.reads k in
-      let x = name_bytes t (p + 1) in
+      let x = name_from t (p + 1) in
       let ms = (class_methods_at (d - 1) t (p + 1)).value in
       let a = λ (q : ℕ) (j : Relied q). and_both (ask_name q x && ask_methods q ms) (all (ask_attribute q) (attributes_at (d - 1) t (class_methods_at (d - 1) t (p + 1)).end).value) (asked _ v.is q j) in
       record {
@@ -193,7 +193,7 @@ module _ (d : ℕ) (t : List ℕ) (p : ℕ) (r : StmtLowerable d t p) where
 
 module _ (d : ℕ) (t : List ℕ) where
   -- a count, and so many statements
-  pub block-parts : (p : ℕ) → BlockLowerable d t p → Counted t p × StmtsLowerable d (count_at t p) t (p + 2)
+  pub block-parts : (p : ℕ) → BlockLowerable d t p → CountThere t p × StmtsLowerable d (count_at t p) t (p + 2)
   block-parts p r =
       let v = view-block d t p r.reads in (
         v.parts.count,
@@ -292,7 +292,7 @@ module _ (d : ℕ) (t : List ℕ) where
   unfolding ask_stmt ask_method method_at
   methods-parts n p h r =
       let v = view-methods-more d t p n h r.reads in
-      let x = name_bytes t p in
+      let x = name_from t p in
       let ps = (params_at t (name_end t p)).value in
       let a = λ (q : ℕ) (j : Relied q). and_both (ask_method q x ps && ask_block q false (def_block_at d t p).value) (ask_methods q (methods_at d (n - 1) t (def_block_at d t p).end).value)
       (ap (λ (x : Node Methods). ask_methods q x.value) (sym v.is) ∙ r.asks q j) in

@@ -14,8 +14,8 @@ use Rattle.definitions.specs.Instruction.{ConstI64, LoadIndex, Dup}
 use Rattle.definitions.specs.Tables.{one, ◌⨟◌}
 use Rattle.definitions.specs.Wellformed.{is_tuple}
 use Rattle.definitions.specs.Lower.{store, copy, emit_target, unpack}
-use Rattle.parts.specs.Places.{Node, count_at, name_bytes, There}
-use Rattle.exprs.specs.ExprAt.{expr_at, exprs_at, ExprReads, ExprsRead, var_at, attribute_at, display_at, index_at, ListAt, cons_at}
+use Rattle.parts.specs.Places.{Node, count_at, name_from, There}
+use Rattle.exprs.specs.ExprAt.{expr_at, exprs_at, ExprReads, ExprsRead, var_at, attribute_at, display_at, index_at, ListAt, cons_exprs_at}
 use Rattle.exprs.proofs.ExprViews.{expr-deep, view-var, view-attribute, view-tuple, view-index, view-exprs-none, view-exprs-more}
 use Rattle.state.specs.Words.{name_at}
 use Rattle.state.specs.State.{State, emit_at}
@@ -60,7 +60,7 @@ module _ (d : ℕ) (t : List ℕ) where
       (v.parts.head, list_read n (expr_at d t p).end (subst (λ (m : ℕ). ExprsRead d m t (expr_at d t p).end) z v.parts.rest))
 
   pub list-is : (n p : ℕ) → ExprsRead d n t p → (exprs_at d n t p).value ≡ elements_at d t n p
-  unfolding elements_at cons_at
+  unfolding elements_at cons_exprs_at
   list-is zero p r = ap (λ (x : Node Exprs). x.value) (view-exprs-none d 0 t p (le_refl 0) r.start)
   list-is (suc n) p r =
       let v = view-exprs-more d (suc n) t p (omega arith) r in
@@ -143,7 +143,7 @@ module _ (d : ℕ) (t : List ℕ) (names : List Name) (p : ℕ) (r : ExprReads d
   target-deep = let h = expr-deep d t p r in omega arith
 
   pub target-variable : get_or t p 0 ≡ 6 → There t (p + 1) × (store names (name_at t (p + 1)) ≡ emit_target names (expr_at d t p).value)
-  unfolding var_at emit_target name_bytes name_at
+  unfolding var_at emit_target name_from name_at
   target-variable e = let v = view-var d t p r e in (v.parts, sym (ap (λ (x : Node Expr). emit_target names x.value) v.is))
 
   pub target-tuple : get_or t p 0 ≡ 13 → ListAt (d - 1) t (p + 1) × (unpack names (elements_at (d - 1) t (count_at t (p + 1)) (p + 3)) 0 ≡ emit_target names (expr_at d t p).value)

@@ -9,7 +9,7 @@ use Rattle.definitions.specs.Instruction
 use Rattle.definitions.specs.Tables.{Emit, emits, one, ◌⨟◌, function, expr_body, intern}
 use Rattle.definitions.specs.Slots.{captures, names_only}
 use Rattle.definitions.specs.Lower.{Callee, builtin_callee, function_callee, value_callee, load, lambda_name, closure, emit_expr, emit_exprs}
-use Rattle.parts.specs.Places.{count_at, Counted, name_end, There, ParamsAt, params_at}
+use Rattle.parts.specs.Places.{count_at, CountThere, name_end, There, ParamsAt, params_at}
 use Rattle.exprs.specs.ExprAt.{expr_at, exprs_at, ExprReads, ExprsRead}
 use Rattle.state.specs.Words.{name_at}
 use Rattle.state.specs.State.{names_at}
@@ -68,7 +68,7 @@ pub record BinaryLowerable (d : ℕ) (t : List ℕ) (p : ℕ) : Type 0 where
 
 -- a count of at most 255, and so many arguments
 pub record ArgsLowerable (d : ℕ) (t : List ℕ) (p : ℕ) : Type 0 where
-  pub count : Counted t p
+  pub count : CountThere t p
   pub few : count_at t p ≤ 255
   pub elements : LowerableMany d (count_at t p) t (p + 2)
 
@@ -122,7 +122,7 @@ Short value_callee = Unit {0}
 pub record DisplayLowerable (k d : ℕ) (t : List ℕ) (p : ℕ) : Type 0 where
   pub above : 11 ≤ k
   pub below : k ≤ 15
-  pub count : Counted t p
+  pub count : CountThere t p
   pub elements : LowerableMany d (held_of k (count_at t p)) t (p + 2)
 
 -- ---- lambdas
@@ -154,8 +154,8 @@ pub record ClosureLowerable (d : ℕ) (t : List ℕ) (arity : ℕ) (inner : List
   pub body : Lowerable d t p
 
 -- the captures have slots in the parent
-abbrev pub Held : List Name → List Name → Type 0
-Held names xs = all (λ x. member x names) xs ≡ true
+abbrev pub CapturesHaveSlots : List Name → List Name → Type 0
+CapturesHaveSlots names xs = all (λ x. member x names) xs ≡ true
 
 pub record CapturesHeld (t : List ℕ) (names : List Name) (arity : ℕ) (inner : List ℕ) : Type 0 where
-  pub held : Held names (names_at t (drop arity inner))
+  pub held : CapturesHaveSlots names (names_at t (drop arity inner))

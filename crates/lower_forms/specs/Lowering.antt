@@ -8,7 +8,7 @@ use Rattle.definitions.specs.Tables.{Emit, emits, ◌⨟◌, function, block_bod
 use Rattle.definitions.specs.Wellformed.{ask_stmt, ask_block, ask_branches, ask_methods}
 use Rattle.definitions.specs.Slots.{Keeping, Frame, with_loops}
 use Rattle.definitions.specs.Lower.{emit_stmt, emit_block, begin_class, class_out, emit_methods}
-use Rattle.parts.specs.Places.{count_at, Counted, name_end, There, ParamsAt, params_at}
+use Rattle.parts.specs.Places.{count_at, CountThere, name_end, There, ParamsAt, params_at}
 use Rattle.exprs.specs.ExprAt.{expr_at}
 use Rattle.tree.specs.StmtAt.{stmt_at, block_at, stmts_at, branches_at, methods_at, StmtReads, BlockReads, StmtsRead, BranchesRead, MethodsRead, body_at, def_block_at}
 use Rattle.state.specs.Words.{name_at}
@@ -56,7 +56,7 @@ pub record BranchesLowerable (d n : ℕ) (t : List ℕ) (p : ℕ) : Type 0 where
 
 pub record IfLowerable (d : ℕ) (t : List ℕ) (p : ℕ) : Type 0 where
   pub first : BranchLowerable d t p
-  pub count : Counted t (body_at d t p).end
+  pub count : CountThere t (body_at d t p).end
   pub rest : BranchesLowerable d (count_at t (body_at d t p).end) t ((body_at d t p).end + 2)
 
 pub record ForLowerable (d : ℕ) (t : List ℕ) (p : ℕ) : Type 0 where
@@ -94,7 +94,7 @@ pub record MethodsLowerable (d n : ℕ) (t : List ℕ) (p : ℕ) : Type 0 where
 
 pub record ClassLowerable (d : ℕ) (t : List ℕ) (p : ℕ) : Type 0 where
   pub name : There t p
-  pub count : Counted t (name_end t p)
+  pub count : CountThere t (name_end t p)
   pub methods : MethodsLowerable d (count_at t (name_end t p)) t (name_end t p + 2)
 
 -- the class with the name x and the methods ms

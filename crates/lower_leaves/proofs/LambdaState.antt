@@ -17,8 +17,8 @@ use Rattle.definitions.specs.Lower.{lambda_name, load, loads, closure, emit_expr
 use Rattle.parts.specs.Places.{params_at, count_at}
 use Rattle.exprs.specs.ExprAt.{expr_at}
 use Rattle.state.specs.Words.{name_at}
-use Rattle.state.specs.State.{State, state_of, names_at, slots_from, Slots, emit_at, with_tables, symbol_number, with_symbol, Sound, Within, Left}
-use Rattle.state.specs.Steps.{begun, ended}
+use Rattle.state.specs.State.{State, state_of, names_at, slots_from, Slots, emit_at, with_tables, symbol_number, with_symbol, Sound, WithinLimits, Left}
+use Rattle.state.specs.Steps.{begun, function_ended}
 use Rattle.state.specs.declared.Counts.{Counts}
 use Rattle.state.specs.declared.Limits.{Limits}
 use Rattle.state.proofs.Answers.{base-below}
@@ -27,13 +27,13 @@ use Rattle.state.proofs.Emission.{at-seq, at_one, at-by}
 use Rattle.state.proofs.Enclosing.{at-function, symbol-functions}
 use Rattle.definitions.proofs.Growth.{Lengthened, Lengthens, lengthens-one, lengthens-seq, lengthens-expr, functions-longer}
 use Rattle.state.proofs.Within.{within-one, within-down, within-function, closure-slots}
-use Rattle.lower_emit.specs.Nesting.{begun_with, body_of, Moved}
+use Rattle.lower_emit.specs.Nesting.{begun_with, function_body, Moved}
 use Rattle.lower_emit.proofs.Begun.{begun-frame, begun-body}
 use Rattle.lower_emit.proofs.Setting.{map-drop}
 use Rattle.lower_names.proofs.Naming.{at_slot, at_load}
 use Rattle.names.specs.Made.{made_name}
 use Rattle.names.specs.declared.Made.TheVariants.{Lambda}
-use Rattle.lower_forms.specs.Lowerable.{lambda_names, lambda_code, LambdaLowerable, closure_code, function_code, ClosureLowerable, Held, CapturesHeld}
+use Rattle.lower_forms.specs.Lowerable.{lambda_names, lambda_code, LambdaLowerable, closure_code, function_code, ClosureLowerable, CapturesHaveSlots, CapturesHeld}
 use Rattle.lower_forms.proofs.ExprArms.{and_both, params-count}
 
 pub lambda-name : (n : ℕ) → made_name (Lambda n) ≡ lambda_name n
@@ -53,8 +53,8 @@ module _ (t made code tables code₁ : List ℕ) (c k : Counts) (l : Limits) (f 
       let e = ap length last-functions in
       omega arith
 
-  pub end_empty : body_of (state_of t made code tables c).tables.functions f ≡ [] → body_of (state_of t made code₁ tables k).tables.functions f ≡ []
-  end_empty h = ap (λ (fs : List Function). body_of fs f) last-functions ∙ h
+  pub end_empty : function_body (state_of t made code tables c).tables.functions f ≡ [] → function_body (state_of t made code₁ tables k).tables.functions f ≡ []
+  end_empty h = ap (λ (fs : List Function). function_body fs f) last-functions ∙ h
 
 -- ---- a whole function
 
@@ -71,12 +71,12 @@ module _ (t made code tables : List ℕ) (c : Counts) (l : Limits) (s : Sound t 
   started : start ≡ begun (symbol_number x before.tables) arity (names_only (names_at t inner)) (with_tables (with_symbol x before.tables) before)
   started = begun-frame _ arity (length inner) (names_only (names_at t inner)) _ (names-length t inner)
 
-  over : Within l (emit_at c.base (function x arity (names_only (names_at t inner)) body (e ⨟ one Return)) before) → Within l (emit_at (length before.stack) (e ⨟ one Return) start)
+  over : WithinLimits l (emit_at c.base (function x arity (names_only (names_at t inner)) body (e ⨟ one Return)) before) → WithinLimits l (emit_at (length before.stack) (e ⨟ one Return) start)
   over w =
-      subst (λ (u : State). Within l (emit_at (length before.stack) (e ⨟ one Return) u)) (sym started)
+      subst (λ (u : State). WithinLimits l (emit_at (length before.stack) (e ⨟ one Return) u)) (sym started)
       (within-function c.base x arity (names_only (names_at t inner)) body before _ refl (lengthens-seq E (lengthens-one Return)) w)
 
-  pub function-within : Within l (emit_at c.base (function x arity (names_only (names_at t inner)) body (e ⨟ one Return)) before) → Within l start
+  pub function-within : WithinLimits l (emit_at c.base (function x arity (names_only (names_at t inner)) body (e ⨟ one Return)) before) → WithinLimits l start
   function-within w = within-down (length before.stack) start (lengthens-seq E (lengthens-one Return)) (over w)
 
   module _ (made₁ code₁ tables₁ : List ℕ) (f : ℕ) (k : Counts) (b : (f ≡ c.functions) × Moved c.open k t made₁ code₁ tables₁ c l start) where
@@ -94,8 +94,8 @@ module _ (t made code tables : List ℕ) (c : Counts) (l : Limits) (s : Sound t 
     two_steps : emit_at (length before.stack) (e ⨟ one Return) start ≡ emit_at (length before.stack) (one Return) (emit_at (length before.stack) e start)
     two_steps = at-seq (length before.stack) e (one Return) start start-below
 
-    pub body-within : Within l (emit_at c.base (function x arity (names_only (names_at t inner)) body (e ⨟ one Return)) before) → Within l (emit_at k.base e (state_of t made₁ code₁ tables₁ k))
-    body-within w = subst (Within l) (sym from_start) (within-one (length before.stack) Return _ (subst (Within l) two_steps (over w)))
+    pub body-within : WithinLimits l (emit_at c.base (function x arity (names_only (names_at t inner)) body (e ⨟ one Return)) before) → WithinLimits l (emit_at k.base e (state_of t made₁ code₁ tables₁ k))
+    body-within w = subst (WithinLimits l) (sym from_start) (within-one (length before.stack) Return _ (subst (WithinLimits l) two_steps (over w)))
 
     module _ (made₂ code₂ tables₂ : List ℕ) (m : Counts) (g : Left m t made₂ code₂ tables₂ k l (emit_at k.base e (state_of t made₁ code₁ tables₁ k))) where
       at_base : m.base ≡ length before.stack
@@ -122,24 +122,24 @@ module _ (t made code tables : List ℕ) (c : Counts) (l : Limits) (s : Sound t 
           let d = function-count t made₂ code₂ tables₂ m l g.sound in
           omega (arith, number, length-append (with_symbol x before.tables).functions (coded (symbol_number x before.tables) arity (length inner) [] ∷ []))
 
-      pub function-empty : body_of (state_of t made₂ code₂ tables₂ m).tables.functions f ≡ []
+      pub function-empty : function_body (state_of t made₂ code₂ tables₂ m).tables.functions f ≡ []
       function-empty =
-          ap (body_of (state_of t made₂ code₂ tables₂ m).tables.functions) (sym number)
+          ap (function_body (state_of t made₂ code₂ tables₂ m).tables.functions) (sym number)
           ∙ begun-body _ arity (names_only (names_at t inner)) (with_tables (with_symbol x before.tables) before) _ body-tables.new
           (body-tables.functions ∙ ap (λ (u : State). u.tables.functions ++ body-tables.new) started)
 
       last-state : emit_at m.base (one Return) (state_of t made₂ code₂ tables₂ m) ≡ emit_at (length before.stack) (e ⨟ one Return) start
       last-state = (λ i. emit_at (at_base i) (one Return) (after-body i)) ∙ sym two_steps
 
-      pub function-state : ended m.base f (emit_at m.base (one Return) (state_of t made₂ code₂ tables₂ m)) ≡ emit_at c.base (function x arity (names_only (names_at t inner)) body (e ⨟ one Return)) before
+      pub function-state : function_ended m.base f (emit_at m.base (one Return) (state_of t made₂ code₂ tables₂ m)) ≡ emit_at c.base (function x arity (names_only (names_at t inner)) body (e ⨟ one Return)) before
       function-state =
-          (λ i. ended (at_base i) f (last-state i))
-          ∙ ap (λ (n : ℕ). ended (length before.stack) n (emit_at (length before.stack) (e ⨟ one Return) start)) (sym number ∙ ap length (symbol-functions x before.tables))
-          ∙ ap (λ (u : State). ended (length before.stack) (length before.tables.functions) (emit_at (length before.stack) (e ⨟ one Return) u)) started
+          (λ i. function_ended (at_base i) f (last-state i))
+          ∙ ap (λ (n : ℕ). function_ended (length before.stack) n (emit_at (length before.stack) (e ⨟ one Return) start)) (sym number ∙ ap length (symbol-functions x before.tables))
+          ∙ ap (λ (u : State). function_ended (length before.stack) (length before.tables.functions) (emit_at (length before.stack) (e ⨟ one Return) u)) started
           ∙ sym (at-function c.base x arity (names_only (names_at t inner)) body (e ⨟ one Return) before _ refl)
 
-      pub last-within : Within l (emit_at c.base (function x arity (names_only (names_at t inner)) body (e ⨟ one Return)) before) → Within l (emit_at m.base (one Return) (state_of t made₂ code₂ tables₂ m))
-      last-within w = subst (Within l) (sym last-state) (over w)
+      pub last-within : WithinLimits l (emit_at c.base (function x arity (names_only (names_at t inner)) body (e ⨟ one Return)) before) → WithinLimits l (emit_at m.base (one Return) (state_of t made₂ code₂ tables₂ m))
+      last-within w = subst (WithinLimits l) (sym last-state) (over w)
 
 -- ---- closures
 
@@ -158,35 +158,35 @@ closure-state base d t names arity inner p f s e =
 -- ---- captures have slots
 
 module _ (names : List Name) where
-  held-within : (xs : List Name) → Held names (within names xs)
+  held-within : (xs : List Name) → CapturesHaveSlots names (within names xs)
   unfolding within all
   held-within [] = refl
   held-within (x ∷ xs) = go (member x names) refl (held-within xs)
     where
-      go : (b : Bool) → member x names ≡ b → Held names (within names xs) → Held names (elim b as (λ z. List Name) [ true ↦ x ∷ within names xs | false ↦ within names xs ])
+      go : (b : Bool) → member x names ≡ b → CapturesHaveSlots names (within names xs) → CapturesHaveSlots names (elim b as (λ z. List Name) [ true ↦ x ∷ within names xs | false ↦ within names xs ])
       go true e h = rw e h
       go false e h = h
 
-  held-insert : (x : Name) (ys : List Name) → member x names ≡ true → Held names ys → Held names (insert x ys)
+  held-insert : (x : Name) (ys : List Name) → member x names ≡ true → CapturesHaveSlots names ys → CapturesHaveSlots names (insert x ys)
   unfolding insert all
   held-insert x [] e h = rw e
   held-insert x (y ∷ ys) e h = let k = and_both (member y names) (all (λ z. member z names) ys) h in go (below x y) k (held-insert x ys e k.1)
     where
-      go : (b : Bool) → (member y names ≡ true) × Held names ys → Held names (insert x ys) → Held names (elim b as (λ z. List Name) [ true ↦ x ∷ y ∷ ys | false ↦ y ∷ insert x ys ])
+      go : (b : Bool) → (member y names ≡ true) × CapturesHaveSlots names ys → CapturesHaveSlots names (insert x ys) → CapturesHaveSlots names (elim b as (λ z. List Name) [ true ↦ x ∷ y ∷ ys | false ↦ y ∷ insert x ys ])
       go true k r = rw (e, k.0) k.1
       go false k r = rw k.0 r
 
-  held-sort : (xs : List Name) → Held names xs → Held names (sort xs)
+  held-sort : (xs : List Name) → CapturesHaveSlots names xs → CapturesHaveSlots names (sort xs)
   unfolding sort all
   held-sort [] h = h
   held-sort (x ∷ xs) h = let k = and_both (member x names) (all (λ z. member z names) xs) h in held-insert x (sort xs) k.0 (held-sort xs k.1)
 
-  held-captures : (ps : List Name) (b : Expr) → Held names (captures names ps b)
+  held-captures : (ps : List Name) (b : Expr) → CapturesHaveSlots names (captures names ps b)
   unfolding captures
   held-captures ps b = held-sort _ (held-within _)
 
   -- each has one
-  pub held_at : (t ws : List ℕ) (i : ℕ) → i < length ws → Held names (names_at t ws) → member (name_at t (get_or ws i 0)) names ≡ true
+  pub held_at : (t ws : List ℕ) (i : ℕ) → i < length ws → CapturesHaveSlots names (names_at t ws) → member (name_at t (get_or ws i 0)) names ≡ true
   unfolding names_at all
   held_at t [] i h k = absurd (omega arith)
   held_at t (w ∷ ws) zero h k = (and_both (member (name_at t w) names) (all (λ z. member z names) (map (name_at t) ws)) k).0
@@ -219,7 +219,7 @@ module _ (d : ℕ) (t : List ℕ) (names : List Name) (p : ℕ) (r : LambdaLower
       (λ i. closure names (params-count t p i) (sym e i) (sym captured-names i) (expr_body b) (emit_expr (sym e i) b))
 
   pub lambda-held : CapturesHeld t names (count_at t p) inner
-  lambda-held = record { held = subst (Held names) (sym captured-names) (held-captures names params (expr_at d t (params_at t p).end).value) }
+  lambda-held = record { held = subst (CapturesHaveSlots names) (sym captured-names) (held-captures names params (expr_at d t (params_at t p).end).value) }
 
   pub lambda-parts : length inner ≤ 255 → ClosureLowerable d t (count_at t p) inner (params_at t p).end
   lambda-parts few = record {
@@ -246,7 +246,7 @@ slots-few t slots s = omega (arith, length-drop slots_from slots, s.few)
 
 -- a lambda with more than 255 slots is over the limits
 pub lambda-wide : (d : ℕ) (t : List ℕ) (names : List Name) (p body : ℕ) (made code tables : List ℕ) (c : Counts) (l : Limits) → Sound t made code tables c l → body ≡ (params_at t p).end
-    → 255 < length ((params_at t p).value ++ captures names (params_at t p).value (expr_at d t body).value) → Within l (emit_at c.base (lambda_code d t names p) (state_of t made code tables c)) → ⊥
+    → 255 < length ((params_at t p).value ++ captures names (params_at t p).value (expr_at d t body).value) → WithinLimits l (emit_at c.base (lambda_code d t names p) (state_of t made code tables c)) → ⊥
 unfolding emit_expr
 lambda-wide d t names p body made code tables c l s b h w =
     let e = ap (λ (q : ℕ). length ((params_at t p).value ++ captures names (params_at t p).value (expr_at d t q).value)) b in
@@ -263,8 +263,8 @@ pub captured-is : (n : ℕ) (inner : List ℕ) (names : List Name) (f : ℕ) (t 
     ≡ loads names (names_at t (take (length inner - (slots_from + n)) (drop (slots_from + n) inner))) ⨟ one (MakeClosure f (length (take (length inner - (slots_from + n)) (drop (slots_from + n) inner))))
 captured-is n inner names f t = ap (λ (xs : List ℕ). loads names (names_at t xs) ⨟ one (MakeClosure f (length xs))) (sym (rest-is n inner))
 
-pub captured-held : (names : List Name) (t : List ℕ) (n : ℕ) (inner : List ℕ) → CapturesHeld t names n (drop slots_from inner) → Held names (names_at t (take (length inner - (slots_from + n)) (drop (slots_from + n) inner)))
-captured-held names t n inner h = subst (λ (xs : List ℕ). Held names (names_at t xs)) (sym (rest-is n inner)) h.held
+pub captured-held : (names : List Name) (t : List ℕ) (n : ℕ) (inner : List ℕ) → CapturesHeld t names n (drop slots_from inner) → CapturesHaveSlots names (names_at t (take (length inner - (slots_from + n)) (drop (slots_from + n) inner)))
+captured-held names t n inner h = subst (λ (xs : List ℕ). CapturesHaveSlots names (names_at t xs)) (sym (rest-is n inner)) h.held
 
 pub captured-few : (n : ℕ) (inner : List ℕ) → length (drop slots_from inner) ≤ 255 → length (take (length inner - (slots_from + n)) (drop (slots_from + n) inner)) ≤ 255
 captured-few n inner h = omega (arith, ap length (rest-is n inner), length-drop n (drop slots_from inner))

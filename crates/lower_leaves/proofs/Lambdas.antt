@@ -21,8 +21,8 @@ use Rattle.exprs.specs.declared.literals.Literal.{Literal}
 use Rattle.exprs.specs.declared.literals.Literal.TheVariants.{Int}
 use Rattle.exprs.proofs.ExprViews.{expr-inside}
 use Rattle.state.specs.Words.{word, name_at}
-use Rattle.state.specs.State.{emit_at, Sound, Left, Within, names_at, slot_names, slots_from, Slots, symbol_number}
-use Rattle.state.specs.Steps.{ended}
+use Rattle.state.specs.State.{emit_at, Sound, Left, WithinLimits, names_at, slot_names, slots_from, Slots, symbol_number}
+use Rattle.state.specs.Steps.{function_ended}
 use Rattle.state.specs.declared.Limits.{Limits}
 use Rattle.state.proofs.Answers.{paced-more}
 use Rattle.state.proofs.Views.{function-count}
@@ -30,7 +30,7 @@ use Rattle.definitions.proofs.Growth.{Lengthens, lengthens-loads}
 use Rattle.names.specs.Made.{made_name}
 use Rattle.names.specs.declared.Made.TheVariants.{Lambda}
 use Rattle.names.proofs.Indexing.{slots-count}
-use Rattle.lower_emit.specs.Nesting.{begun_with, body_of, Moved}
+use Rattle.lower_emit.specs.Nesting.{begun_with, function_body, Moved}
 use Rattle.lower_emit.specs.declared.emitter.Code.{Code}
 use Rattle.lower_emit.specs.declared.emitter.Used.{Used}
 use Rattle.lower_emit.specs.declared.emitter.Names.{Names}
@@ -41,7 +41,7 @@ use Rattle.lower_emit.specs.Emitting.{counts_of, limits_in, state_in, SoundIn, b
 use Rattle.lower_emit.proofs.Packing.{instr-plain, plain-above, plain-below}
 use Rattle.lower_emit.proofs.Steps.{limits-code, areas-after, areas-code, code-none, code-after, put-lifts, sound-next, lowers-state}
 use Rattle.lower_emit.proofs.Functions.{begun-lifts, ended-lifts, head-begun, innermost-as, begins-stopped, code-ended}
-use Rattle.lower_names.specs.Naming.{InternsMade, named}
+use Rattle.lower_names.specs.Naming.{InternsMade, symbol_named}
 use Rattle.lower_names.proofs.Beginnings.{limits-begun, named-none, named-sound, named-below, named-begins}
 use Rattle.lower_names.proofs.Midway.{Midway, midway_start, midway-base, midway-next, midway_end, midway-full}
 use Rattle.lower_names.proofs.Naming.{loads-more, loads-end}
@@ -54,7 +54,7 @@ use Rattle.lower_leaves.proofs.LiteralForms.{int_is}
 module _ {t : List ℕ} {m n : Names} {f : Used 256} {a b : Entries} {i : Option ℕ} (arity locals : ℕ) (h : InternsMade i (made_name (Lambda f.count)) t m n a b) where
   interned : (code : Code) (ts : Tables) → SoundIn t (beside code (new_functions f a (new_names m a ts)))
       → NumbersIn i (symbol_number (lambda_name f.count) (state_in t (beside code (new_functions f a (new_names m a ts)))).tables) t (beside code (new_functions f a (new_names m a ts)))
-      (beside code (new_functions f b (new_names n b ts))) (named (lambda_name f.count) (state_in t (beside code (new_functions f a (new_names m a ts)))))
+      (beside code (new_functions f b (new_names n b ts))) (symbol_named (lambda_name f.count) (state_in t (beside code (new_functions f a (new_names m a ts)))))
   interned code ts S = ((subst (λ x. InternsMade i x t m n a b) (lambda-name f.count) h).tables (new_functions f a (new_names m a ts))).numbers code S
 
   pub begins-none : {r : Option ℕ} → i ≡ None → r ≡ None → BeginsLambda r arity locals t m n f f a b
@@ -75,7 +75,7 @@ module _ {t : List ℕ} {m n : Names} {f : Used 256} {a b : Entries} {i : Option
           let e = beside code (new_functions f a (new_names m a ts)) in
           let N = interned code ts S in
           let k = function-count t m.made.now code.words.now a.words.now (counts_of e) (limits_in e) S.sound in
-          let want = begun_with (symbol_number (lambda_name f.count) (state_in t e).tables) arity locals (named (lambda_name f.count) (state_in t e)) in
+          let want = begun_with (symbol_number (lambda_name f.count) (state_in t e).tables) arity locals (symbol_named (lambda_name f.count) (state_in t e)) in
           subst (λ (l : ℕ). BeginsIn r l t e (beside (innermost code) (new_functions g d (new_names n d ts))) want) k
           (named-begins (lambda_name f.count) S N z arity locals (begun-lifts (named-sound (lambda_name f.count) S N z) (named-below (lambda_name f.count) S N z) x y (head-begun code (new_names n b ts) H)));
     };
@@ -124,11 +124,11 @@ module _ {tree : List ℕ} {a c : Emitter} {f n : ℕ} {A : Type 0} {r : Option 
   returned : LowersIn r (one Return) tree a (beside x.last a.tables)
   returned = put-lifts S refl (instr-plain tree 33 0 0 (plain-above 33 0 0 (omega arith) (omega arith) (omega arith) (omega arith))) x.puts
 
-  pub return-over : r ≡ None → Within (limits_in a) (emit_at a.code.base (one Return) (state_in tree a)) → ⊥
+  pub return-over : r ≡ None → WithinLimits (limits_in a) (emit_at a.code.base (one Return) (state_in tree a)) → ⊥
   return-over z = returned.reaches.full z
 
-  module _ {y : A} (z : r ≡ Some y) (known : f < a.tables.functions.count) (empty : body_of (state_in tree a).tables.functions f ≡ []) (around : n ≤ a.code.base) where
-    pub return-ended : Moved n (counts_of c) tree c.tables.names.made.now c.code.words.now c.tables.entries.words.now (counts_of a) (limits_in a) (ended a.code.base f (emit_at a.code.base (one Return) (state_in tree a)))
+  module _ {y : A} (z : r ≡ Some y) (known : f < a.tables.functions.count) (empty : function_body (state_in tree a).tables.functions f ≡ []) (around : n ≤ a.code.base) where
+    pub return-ended : Moved n (counts_of c) tree c.tables.names.made.now c.code.words.now c.tables.entries.words.now (counts_of a) (limits_in a) (function_ended a.code.base f (emit_at a.code.base (one Return) (state_in tree a)))
     return-ended =
         let b = beside x.last a.tables in
         let g = (returned.reaches.done y z).left in
@@ -136,7 +136,7 @@ module _ {tree : List ℕ} {a c : Emitter} {f n : ℕ} {A : Type 0} {r : Option 
         let e = end_empty tree a.tables.names.made.now a.code.words.now a.tables.entries.words.now b.code.words.now (counts_of a) (counts_of b) (limits_in a) f g empty in
         let m = (ended-lifts (sound-next z returned.reaches) k e (omega (arith, g.base)) (x.ends y z)).moved in
         record {
-          state = m.state ∙ (λ i. ended (g.base i) f (g.state i));
+          state = m.state ∙ (λ i. function_ended (g.base i) f (g.state i));
           base = m.base;
           paced = paced-more g.paced m.paced;
           sound = subst (λ (l : Limits). Sound tree c.tables.names.made.now c.code.words.now c.tables.entries.words.now (counts_of c) l) returned.reaches.limits m.sound;
@@ -160,7 +160,7 @@ module _ {t : List ℕ} {a b : Emitter} {f : Option ℕ} {arity : ℕ} (S : Soun
 
   module _ {i : ℕ} (z : f ≡ Some i) where
     begun : (i ≡ a.tables.functions.count) × Moved a.code.open (counts_of b) t b.tables.names.made.now b.code.words.now b.tables.entries.words.now (counts_of a) (limits_in a)
-        (begun_with (symbol_number (lambda_name a.tables.functions.count) (state_in t a).tables) arity (length inner) (named (lambda_name a.tables.functions.count) (state_in t a)))
+        (begun_with (symbol_number (lambda_name a.tables.functions.count) (state_in t a).tables) arity (length inner) (symbol_named (lambda_name a.tables.functions.count) (state_in t a)))
     begun = ((B.begins S).is i z, ((B.begins S).done i z).moved)
 
     pub function-sound : SoundIn t b
@@ -176,7 +176,7 @@ module _ {t : List ℕ} {a b : Emitter} {f : Option ℕ} {arity : ℕ} (S : Soun
           full = λ g w.
               let v = body-within t a.tables.names.made.now a.code.words.now a.tables.entries.words.now (counts_of a) (limits_in a) S.sound arity inner e E body b.tables.names.made.now b.code.words.now b.tables.entries.words.now i
               (counts_of b) begun w in
-              h.reaches.full y (subst (λ (l : Limits). Within l (emit_at b.code.base e (state_in t b))) (sym (B.begins S).limits) v);
+              h.reaches.full y (subst (λ (l : Limits). WithinLimits l (emit_at b.code.base e (state_in t b))) (sym (B.begins S).limits) v);
           limits = h.reaches.limits ∙ (B.begins S).limits;
           areas = areas-after (B.begins S).areas h.reaches.areas;
         };
@@ -215,7 +215,7 @@ module _ {t : List ℕ} {a b : Emitter} {f : Option ℕ} {arity : ℕ} (S : Soun
                 full = λ p v.
                     let u = last-within t a.tables.names.made.now a.code.words.now a.tables.entries.words.now (counts_of a) (limits_in a) S.sound arity inner e E body b.tables.names.made.now b.code.words.now b.tables.entries.words.now i
                     (counts_of b) begun m.tables.names.made.now m.code.words.now m.tables.entries.words.now (counts_of m) g v in
-                    return-over Sm x p (subst (λ (l : Limits). Within l (emit_at m.code.base (one Return) (state_in t m))) (sym same) u);
+                    return-over Sm x p (subst (λ (l : Limits). WithinLimits l (emit_at m.code.base (one Return) (state_in t m))) (sym same) u);
                 limits = x.limits ∙ same;
                 areas = areas-after (areas-after (B.begins S).areas h.reaches.areas) x.areas;
               };
@@ -306,7 +306,7 @@ module _ {t slots captured : List ℕ} {a b : Code} {i : ℕ} (G : Loading t slo
           done = λ y e. absurd (none-some y (sym n ∙ e));
           full = λ e v.
               midway-full (counts_of (beside b ts)) tree ts.names.made.now b.words.now ts.entries.words.now (counts_of (beside a ts)) (limits_in (beside a ts)) _ _ (G.midway tree ts S) load_one rest (lengthens-loads _ _)
-              (λ w. (one-load h tree ts S).reaches.full z (subst (λ (l : Limits). Within l (emit_at b.base load_one (state_in tree (beside b ts)))) (sym (limits-code ts G.kept)) w)) (split tree ts S) v;
+              (λ w. (one-load h tree ts S).reaches.full z (subst (λ (l : Limits). WithinLimits l (emit_at b.base load_one (state_in tree (beside b ts)))) (sym (limits-code ts G.kept)) w)) (split tree ts S) v;
           limits = limits-code ts (kept-after h);
           areas = areas-code ts (kept-after h);
         };

@@ -15,13 +15,13 @@ use lib.Ieee.{Float}
 use Rattle.definitions.specs.Tables.{Emit, one, get_or_add_string}
 use Rattle.definitions.specs.Lower.{literal}
 use Rattle.parts.specs.Places as Places
-use Rattle.parts.specs.Places.{Node, node, count_at, Counted}
+use Rattle.parts.specs.Places.{Node, node, count_at, CountThere}
 use Rattle.exprs.specs.ExprAt.{expr_at, int_at, float_at, string_at}
 use Rattle.exprs.specs.Literals.{literal_of, kind_byte, TextPlace, LiteralAt}
 use Rattle.exprs.specs.declared.literals.Literal.{Literal}
 use Rattle.exprs.specs.declared.literals.Literal.TheVariants.{None, Bool as Truth, Int, Float as Double, Nan, Text as Bytestring}
 use Rattle.exprs.proofs.ExprViews.{expr-within, view-none, view-false, view-true, view-int, view-float, view-string}
-use Rattle.state.specs.Words.{number_at, text_at}
+use Rattle.state.specs.Words.{big_endian_at, text_at}
 use Rattle.lower_forms.proofs.Constants.{text_same, eight-same}
 
 -- ---- the literal l stands at p
@@ -34,9 +34,9 @@ pub record Stands (t : List ℕ) (p : ℕ) (l : Tree.Literal) : Type 0 where
 unfoldable pub Bytes : List ℕ → ℕ → Tree.Literal → Type 0
 Bytes t p none_l = (expr_at 1 t p).end ≡ p + 1
 Bytes t p (bool_l b) = (expr_at 1 t p).end ≡ p + 1
-Bytes t p (int_l n) = ((expr_at 1 t p).end ≡ p + 9) × (n ≡ number_at 8 t (p + 1))
-Bytes t p (float_l n) = ((expr_at 1 t p).end ≡ p + 9) × (n ≡ number_at 8 t (p + 1))
-Bytes t p (string_l s) = Counted t (p + 1) × ((expr_at 1 t p).end ≡ p + 3 + count_at t (p + 1)) × (s ≡ text_at t (p + 1))
+Bytes t p (int_l n) = ((expr_at 1 t p).end ≡ p + 9) × (n ≡ big_endian_at 8 t (p + 1))
+Bytes t p (float_l n) = ((expr_at 1 t p).end ≡ p + 9) × (n ≡ big_endian_at 8 t (p + 1))
+Bytes t p (string_l s) = CountThere t (p + 1) × ((expr_at 1 t p).end ≡ p + 3 + count_at t (p + 1)) × (s ≡ text_at t (p + 1))
 
 module _ (t : List ℕ) (p : ℕ) (l : Tree.Literal) (h : Stands t p l) where
   -- by its node
@@ -47,7 +47,7 @@ module _ (t : List ℕ) (p : ℕ) (l : Tree.Literal) (h : Stands t p l) where
   ends m q e = ap (λ (x : Node Expr). x.end) e
 
   pub literal-bytes : Bytes t p l
-  unfolding Bytes int_at float_at string_at Places.text_at
+  unfolding Bytes int_at float_at string_at Places.text_node_at
   literal-bytes = go (get_or t p 0) refl h.at.kind
     where
       nine : p + 1 + 8 ≡ p + 9
@@ -96,26 +96,26 @@ module _ (t : List ℕ) (p : ℕ) (x : Literal) (h : LiteralAt t p) (e : lit (li
   pub constant-is : kind_byte x < 3 → Is (one (instr (5 - kind_byte x) 0 0)) (p + 1)
   constant-is k = constant-at x refl k
 
-  pub int_is : (z : ℤ) → x ≡ Int z → Is (one (instr 0 (number_at 8 t (p + 1)) 0)) (p + 9)
+  pub int_is : (z : ℤ) → x ≡ Int z → Is (one (instr 0 (big_endian_at 8 t (p + 1)) 0)) (p + 9)
   unfolding literal_of literal Bytes
   int_is z w =
       let b = subst (λ (y : Literal). Bytes t p (literal_of t y)) w bytes in
       (ap (λ (y : Literal). literal (literal_of t y)) w ∙ ap (λ (n : ℕ). one (instr 0 n 0)) b.1, b.0)
 
-  float_is : (z : Float) → x ≡ Double z → Is (one (instr 1 (number_at 8 t (p + 1)) 0)) (p + 9)
+  float_is : (z : Float) → x ≡ Double z → Is (one (instr 1 (big_endian_at 8 t (p + 1)) 0)) (p + 9)
   unfolding literal_of literal Bytes
   float_is z w =
       let b = subst (λ (y : Literal). Bytes t p (literal_of t y)) w bytes in
       (ap (λ (y : Literal). literal (literal_of t y)) w ∙ ap (λ (n : ℕ). one (instr 1 n 0)) b.1, b.0)
 
-  nan_is : (n : ℕ) → x ≡ Nan n → Is (one (instr 1 (number_at 8 t (p + 1)) 0)) (p + 9)
+  nan_is : (n : ℕ) → x ≡ Nan n → Is (one (instr 1 (big_endian_at 8 t (p + 1)) 0)) (p + 9)
   unfolding literal_of literal Bytes
   nan_is n w =
       let b = subst (λ (y : Literal). Bytes t p (literal_of t y)) w bytes in
       (ap (λ (y : Literal). literal (literal_of t y)) w ∙ ap (λ (n : ℕ). one (instr 1 n 0)) b.1, b.0)
 
   -- a float that is a NaN or not
-  pub double_is : ((z : Float) × (x ≡ Double z)) ⊎ ((n : ℕ) × (x ≡ Nan n)) → Is (one (instr 1 (number_at 8 t (p + 1)) 0)) (p + 9)
+  pub double_is : ((z : Float) × (x ≡ Double z)) ⊎ ((n : ℕ) × (x ≡ Nan n)) → Is (one (instr 1 (big_endian_at 8 t (p + 1)) 0)) (p + 9)
   double_is (inl h) = float_is h.0 h.1
   double_is (inr h) = nan_is h.0 h.1
 

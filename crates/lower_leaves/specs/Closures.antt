@@ -11,12 +11,12 @@ use Rattle.lower_emit.specs.declared.emitter.Entries.{Entries}
 use Rattle.lower_emit.specs.declared.emitter.Tables.{Tables}
 use Rattle.lower_emit.specs.declared.emitter.Emitter.{Emitter}
 use Rattle.lower_emit.specs.Emitting.{limits_in, state_in, SoundIn, beside, innermost, new_names, new_functions, SameAreas, BeginsIn, Puts, Finishes, Codes, Ended}
-use Rattle.lower_names.specs.Naming.{named}
+use Rattle.lower_names.specs.Naming.{symbol_named}
 
 -- the next function begins under a lambda's name; it has so many parameters and slots, and is the code's innermost one, whatever the code is
 pub record NumbersLambda (r : Option ℕ) (arity locals : ℕ) (tree : List ℕ) (a b : Tables) : Type 0 where
   pub begins : (code : Code) → SoundIn tree (beside code a) → BeginsIn r a.functions.count tree (beside code a) (beside (innermost code) b)
-      (begun_with (symbol_number (lambda_name a.functions.count) (state_in tree (beside code a)).tables) arity locals (named (lambda_name a.functions.count) (state_in tree (beside code a))))
+      (begun_with (symbol_number (lambda_name a.functions.count) (state_in tree (beside code a)).tables) arity locals (symbol_named (lambda_name a.functions.count) (state_in tree (beside code a))))
 
 -- whatever the other tables are
 pub record BeginsLambda (r : Option ℕ) (arity locals : ℕ) (tree : List ℕ) (m n : Names) (f g : Used 256) (a b : Entries) : Type 0 where
@@ -30,7 +30,7 @@ pub record BeginsLambda (r : Option ℕ) (arity locals : ℕ) (tree : List ℕ) 
 pub record StartsLambda (r : Option ℕ) (arity locals : ℕ) (tree : List ℕ) (a b : Emitter) : Type 0 where
   pub below : (n : ℕ) → r ≡ Some n → n < 256
   pub begins : SoundIn tree a → BeginsIn r a.tables.functions.count tree a b
-      (begun_with (symbol_number (lambda_name a.tables.functions.count) (state_in tree a).tables) arity locals (named (lambda_name a.tables.functions.count) (state_in tree a)))
+      (begun_with (symbol_number (lambda_name a.tables.functions.count) (state_in tree a).tables) arity locals (symbol_named (lambda_name a.tables.functions.count) (state_in tree a)))
   pub words : b.code.words.now ≡ a.code.words.now
   pub limits : limits_in b ≡ limits_in a
   pub areas : SameAreas a b

@@ -5,7 +5,7 @@ ghost use Rattle.definitions.specs.Instruction.{MakeClosure};
 ghost use Rattle.definitions.specs.Tables.{one, ◌⨟◌};
 ghost use Rattle.definitions.specs.Lower.{loads};
 ghost use Rattle.state.specs.State.{names_at, slot_names};
-ghost use Rattle.lower_forms.specs.Lowerable.{Held};
+ghost use Rattle.lower_forms.specs.Lowerable.{CapturesHaveSlots};
 ghost use Rattle.lower_emit.specs.Emitting.{Writes};
 ghost use Rattle.lower_names.specs.Naming.{Naming};
 ghost use Rattle.lower_leaves.specs.Closures.{BeginsLambda, StartsLambda, EndsLambda};
@@ -65,7 +65,7 @@ pub fn end_lambda(code: &mut Code<'_>, entries: &mut Entries<'_>, f: u32, base: 
 
 // The values of captured variables, which have slots.
 fn load_captured(s: Scope<'_>, code: &mut Code<'_>, captured: &[u32]) -> Option<()>
-    requires { Held (slot_names s.tree.now s.slots.now) (names_at s.tree.now captured.now) }
+    requires { CapturesHaveSlots (slot_names s.tree.now s.slots.now) (names_at s.tree.now captured.now) }
     ensures { Writes result (loads (slot_names s.entry.tree.now s.entry.slots.now) (names_at s.entry.tree.now captured.now)) code.old code.new }
 {
     for &at in captured {
@@ -77,7 +77,7 @@ fn load_captured(s: Scope<'_>, code: &mut Code<'_>, captured: &[u32]) -> Option<
 
 // The captured values, and the closure of function f with them.
 pub fn end_closure(s: Scope<'_>, code: &mut Code<'_>, captured: &[u32], f: u32) -> Option<()>
-    requires { Held (slot_names s.tree.now s.slots.now) (names_at s.tree.now captured.now) × (length captured.now ≤ 255) × (f < 65536) }
+    requires { CapturesHaveSlots (slot_names s.tree.now s.slots.now) (names_at s.tree.now captured.now) × (length captured.now ≤ 255) × (f < 65536) }
     ensures { Writes result (loads (slot_names s.entry.tree.now s.entry.slots.now) (names_at s.entry.tree.now captured.now) ⨟ one (MakeClosure f (length captured.now)))
         code.old code.new }
 {

@@ -3,7 +3,7 @@ ghost use Rattle.std.specs.Prelude.{◌≡◌, ◌≤◌, length};
 ghost use Rattle.definitions.specs.Lower.{literal};
 ghost use Rattle.definitions.specs.Tree.{lit};
 ghost use Rattle.exprs.specs.ExprAt.{expr_at};
-ghost use Rattle.exprs.specs.Literals.{literal_of, LiteralAt, Plain, TextPlace};
+ghost use Rattle.exprs.specs.Literals.{literal_of, LiteralAt, PlainLiteral, TextPlace};
 ghost use Rattle.lower_names.specs.Naming.{Texts};
 ghost use Rattle.lower_leaves.specs.Literals.{QuotesTo};
 
@@ -24,7 +24,7 @@ pub fn emit_literal(
     x: Literal,
 ) -> Option<usize>
     requires { Texts tree.now strings.old entries.old × (length tree.now ≤ 32768) × LiteralAt tree.now at
-        × (lit (literal_of tree.now x) ≡ (expr_at 1 tree.now at).value) × Plain x × TextPlace tree.now at x }
+        × (lit (literal_of tree.now x) ≡ (expr_at 1 tree.now at).value) × PlainLiteral x × TextPlace tree.now at x }
     ensures { QuotesTo result (literal (literal_of tree.now x)) (expr_at 1 tree.now at).end tree.now strings.old strings.new entries.old entries.new code.old code.new }
 {
     let place = at as u32 + 1;

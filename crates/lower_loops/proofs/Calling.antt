@@ -47,8 +47,8 @@ pub ask-is : (g : Keeper) → ask_iter g ≡ one (load_iter g) ⨟ intern (made_
 unfolding ask_iter made_name
 ask-is g = refl
 
-pub take-is : (base : ℕ) (slots : List Name) (x : Name) (g : Keeper) (s : State) → base ≤ length s.stack
-    → emit_at base (take_iter slots x g) s ≡ emit_at base ((one (load_iter g) ⨟ intern (made_name Next) (λ k. one (CallMethod k 0))) ⨟ store slots x) s
+pub take-is : (base : ℕ) (slots : List Name) (x : Name) (g : Keeper) (s : State)
+    → base ≤ length s.stack → emit_at base (take_iter slots x g) s ≡ emit_at base ((one (load_iter g) ⨟ intern (made_name Next) (λ k. one (CallMethod k 0))) ⨟ store slots x) s
 unfolding made_name
 take-is base slots x g s h =
     let next = one (load_iter g) ⨟ intern (ascii "__next__") (λ k. one (CallMethod k 0)) in

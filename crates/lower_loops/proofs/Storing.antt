@@ -26,7 +26,7 @@ use Rattle.lower_emit.specs.declared.emitter.Emitter.{Emitter}
 use Rattle.lower_emit.specs.Emitting.{counts_of, limits_in, state_in, SoundIn, beside, new_names, NumbersIn, Writes}
 use Rattle.lower_emit.proofs.Packing.{op-word, first_word, instr-plain, plain-below}
 use Rattle.lower_emit.proofs.Steps.{reaches_as, reaches-after, sound-next, lowers-some, lowers-none}
-use Rattle.lower_names.specs.Naming.{InternsMade, named}
+use Rattle.lower_names.specs.Naming.{InternsMade, symbol_named}
 use Rattle.lower_loops.specs.Iterators.{load_word, keeper_of, Loads, StoresKept, StoresIterator}
 
 -- ---- the word
@@ -86,9 +86,9 @@ module _ {t : List ℕ} {a : Emitter} {names : Names} {entries : Entries} {g : O
   place : a.code.open - a.code.base ≡ length (state_in t a).stack - a.code.base
   place = ap (λ (n : ℕ). n - a.code.base) (sym (stack-length t a.tables.names.made.now a.code.words.now a.tables.entries.words.now (counts_of a) (limits_in a) S.sound))
 
-  numbered : NumbersIn g (symbol_number (iter_name (length (state_in t a).stack - a.code.base)) (state_in t a).tables) t a (beside a.code ts) (named (iter_name (length (state_in t a).stack - a.code.base)) (state_in t a))
+  numbered : NumbersIn g (symbol_number (iter_name (length (state_in t a).stack - a.code.base)) (state_in t a).tables) t a (beside a.code ts) (symbol_named (iter_name (length (state_in t a).stack - a.code.base)) (state_in t a))
   unfolding made_name
-  numbered = subst (λ (n : ℕ). NumbersIn g (symbol_number (iter_name n) (state_in t a).tables) t a (beside a.code ts) (named (iter_name n) (state_in t a))) place ((h.tables a.tables).numbers a.code S)
+  numbered = subst (λ (n : ℕ). NumbersIn g (symbol_number (iter_name n) (state_in t a).tables) t a (beside a.code ts) (symbol_named (iter_name n) (state_in t a))) place ((h.tables a.tables).numbers a.code S)
 
   pub global-over : {q : Option ℕ} → g ≡ None → q ≡ None → StoresIterator q in_globals t a (beside a.code ts)
   unfolding kept_at

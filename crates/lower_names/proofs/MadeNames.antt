@@ -11,11 +11,11 @@ use Rattle.state.specs.State.{symbol_index_from, symbol_buckets, spelled, tables
 use Rattle.state.specs.declared.Counts.{Counts}
 use Rattle.state.specs.declared.Limits.{Limits}
 use Rattle.state.proofs.Regions.{spelled_same, made-within-same, every_map}
-use Rattle.names.specs.Made.{Stands}
+use Rattle.names.specs.Made.{NameStands}
 use Rattle.names.proofs.Spelling.{spelled-made}
 
 module _ (tree made made' code tables : List ℕ) (c : Counts) (l : Limits) (s : Sound tree made code tables c l) (x : Name) (at : ℕ) (here : at ≡ c.made)
-    (size : length made' ≡ length made) (w : Stands x at made made') where
+    (size : length made' ≡ length made) (w : NameStands x at made made') where
   kept : take c.made made ≡ take c.made made'
   kept = rw here at (sym w.before)
 

@@ -5,7 +5,7 @@ use mathlib.Core.List.{List}
 use native.Mathlib.Omega.{arith}
 use lib.ListN.{length}
 use Rattle.definitions.specs.Tables.{Emit}
-use Rattle.state.specs.State.{State, state_of, emit_at, Within, Sound, Paced, Left}
+use Rattle.state.specs.State.{State, state_of, emit_at, WithinLimits, Sound, Paced, Left}
 use Rattle.state.specs.declared.Counts.{Counts}
 use Rattle.state.specs.declared.Limits.{Limits}
 use Rattle.state.proofs.Views.{stack-length}
@@ -43,8 +43,8 @@ module _ (k : Counts) (tree made code tables : List ℕ) (c : Counts) (l : Limit
   midway_end e = record { state = sym e ∙ m.state; base = m.base; paced = m.paced; sound = m.sound }
 
   -- the step is over the limits, so the whole is
-  pub midway-full : (e f : Emit) → Lengthens f → (Within l (emit_at k.base e (state_of tree made code tables k)) → ⊥)
+  pub midway-full : (e f : Emit) → Lengthens f → (WithinLimits l (emit_at k.base e (state_of tree made code tables k)) → ⊥)
       → emit_at c.base rest (state_of tree made code tables k) ≡ emit_at c.base f (emit_at c.base e (state_of tree made code tables k))
-      → Within l want → ⊥
+      → WithinLimits l want → ⊥
   midway-full e f g h q w =
-      h (subst (λ (b : ℕ). Within l (emit_at b e (state_of tree made code tables k))) (sym m.base) (within-down c.base _ g (subst (λ (s : State). Within l s) (sym m.state ∙ q) w)))
+      h (subst (λ (b : ℕ). WithinLimits l (emit_at b e (state_of tree made code tables k))) (sym m.base) (within-down c.base _ g (subst (λ (s : State). WithinLimits l s) (sym m.state ∙ q) w)))

@@ -20,7 +20,7 @@ use Rattle.definitions.specs.Lower.{load, store, loads}
 use Rattle.definitions.specs.Reader.{is_jump}
 use Rattle.definitions.proofs.Rows.{jump-is}
 use Rattle.state.specs.Words.{name_at, small_int}
-use Rattle.state.specs.State.{names_at, State, emit_at, Within, symbol_number, string_number}
+use Rattle.state.specs.State.{names_at, State, emit_at, WithinLimits, symbol_number, string_number}
 use Rattle.state.proofs.Emission.{at-intern, at-string}
 use Rattle.state.proofs.Enclosing.{at-loads-none, at-loads-more}
 use Rattle.state.proofs.Within.{within-one}
@@ -28,8 +28,8 @@ use Rattle.lower_emit.specs.Ops.{special, Plain}
 use Rattle.lower_emit.specs.declared.emitter.Emitter.{Emitter}
 use Rattle.lower_emit.specs.Emitting.{limits_in, state_in, NumbersIn, LowersIn}
 use Rattle.lower_emit.proofs.Steps.{reaches_as, reaches-after}
-use Rattle.lower_names.specs.Naming.{named, quoted}
-use Rattle.lower_names.specs.Variable.{variable_by, variable}
+use Rattle.lower_names.specs.Naming.{symbol_named, quoted}
+use Rattle.lower_names.specs.Variable.{variable_by, variable_among}
 
 -- an instruction with a number, put after the step that gave the number; x is the code of both
 module _ {tree : List ℕ} {a m : Emitter} {i : Option ℕ} {number : ℕ} {mid : State} {x : Emit} (f : ℕ → Instr) (h : NumbersIn i number tree a m mid)
@@ -44,14 +44,14 @@ module _ {tree : List ℕ} {a m : Emitter} {i : Option ℕ} {number : ℕ} {mid 
   over-numbered z n = record {
     reaches = record {
       done = λ y e. absurd (none-some y (sym n ∙ e));
-      full = λ e w. h.reaches.full z (within-one a.code.base (f number) mid (subst (Within (limits_in a)) at w));
+      full = λ e w. h.reaches.full z (within-one a.code.base (f number) mid (subst (WithinLimits (limits_in a)) at w));
       limits = h.reaches.limits;
       areas = h.reaches.areas;
     };
   }
 
 module _ {tree : List ℕ} {a m : Emitter} {i : Option ℕ} (f : ℕ → Instr) (x : Name) where
-  module _ (h : NumbersIn i (symbol_number x (state_in tree a).tables) tree a m (named x (state_in tree a))) where
+  module _ (h : NumbersIn i (symbol_number x (state_in tree a).tables) tree a m (symbol_named x (state_in tree a))) where
     pub symbol-put : {A : Type 0} {n : ℕ} {r : Option A} {b : Emitter} → i ≡ Some n → LowersIn r (one (f n)) tree m b → LowersIn r (intern x (λ k. one (f k))) tree a b
     symbol-put z p = put-numbered f h (at-intern a.code.base x (λ k. one (f k)) (state_in tree a)) z p
 
@@ -85,25 +85,25 @@ pub plain_op : (op a : ℕ) → 9 ≤ op → op ≤ 12 → a < 65536 → Plain o
 plain_op op a h g k = record { op-byte = omega arith; op-plain = low-plain op h g; first_short = k; second-byte = omega arith }
 
 module _ (op base : ℕ) (slots : List Name) (x : Name) (s : State) where
-  pub at_slot : (i : ℕ) → some i ≡ position (same x) slots → emit_at base (one (instr op i 0)) s ≡ emit_at base (variable op slots x) s
-  unfolding variable variable_by
+  pub at_slot : (i : ℕ) → some i ≡ position (same x) slots → emit_at base (one (instr op i 0)) s ≡ emit_at base (variable_among op slots x) s
+  unfolding variable_among variable_by
   at_slot i e = ap (λ (o : definitions.Option ℕ). emit_at base (variable_by op x o) s) e
 
-  pub at-global : none ≡ position (same x) slots → emit_at base (intern x (λ k. one (instr (op + 2) k 0))) s ≡ emit_at base (variable op slots x) s
-  unfolding variable variable_by
+  pub at-global : none ≡ position (same x) slots → emit_at base (intern x (λ k. one (instr (op + 2) k 0))) s ≡ emit_at base (variable_among op slots x) s
+  unfolding variable_among variable_by
   at-global e = ap (λ (o : definitions.Option ℕ). emit_at base (variable_by op x o) s) e
 
 -- a load and a store are such
-pub at_load : (base : ℕ) (slots : List Name) (x : Name) (s : State) → emit_at base (variable 9 slots x) s ≡ emit_at base (load slots x) s
-unfolding variable variable_by load
+pub at_load : (base : ℕ) (slots : List Name) (x : Name) (s : State) → emit_at base (variable_among 9 slots x) s ≡ emit_at base (load slots x) s
+unfolding variable_among variable_by load
 at_load base slots x s = go (position (same x) slots)
   where
     go : (o : definitions.Option ℕ) → emit_at base (variable_by 9 x o) s ≡ emit_at base (elim o as (λ z. Emit) [ some i ↦ one (instr 9 i 0) | none ↦ intern x (λ k. one (instr 11 k 0)) ]) s
     go none = refl
     go (some i) = refl
 
-pub at_store : (base : ℕ) (slots : List Name) (x : Name) (s : State) → emit_at base (variable 10 slots x) s ≡ emit_at base (store slots x) s
-unfolding variable variable_by store
+pub at_store : (base : ℕ) (slots : List Name) (x : Name) (s : State) → emit_at base (variable_among 10 slots x) s ≡ emit_at base (store slots x) s
+unfolding variable_among variable_by store
 at_store base slots x s = go (position (same x) slots)
   where
     go : (o : definitions.Option ℕ) → emit_at base (variable_by 10 x o) s ≡ emit_at base (elim o as (λ z. Emit) [ some i ↦ one (instr 10 i 0) | none ↦ intern x (λ k. one (instr 12 k 0)) ]) s

@@ -11,7 +11,7 @@ use Rattle.definitions.proofs.Resolve.{position-lt}
 use Rattle.state.specs.Words.{region, text_at, instrs_of}
 use Rattle.state.specs.Index.{bucket_of, Covered, noted}
 use Rattle.state.specs.State.{symbol_index_from, symbol_buckets, string_index_from, string_buckets, SymbolIndex, StringIndex, strings_from, heads_from, codes_from, class_names_from}
-use Rattle.state.specs.State.{class_methods_from, methods_from, constants_from, done_from, spelled, functions_of, classes_of, State, tables_of, state_of, Sound, MadeWithin, total, Numbers}
+use Rattle.state.specs.State.{class_methods_from, methods_from, constants_from, done_from, spelled, functions_of, classes_of, State, tables_of, state_of, Sound, MadeWithin, total, NumberGiven}
 use Rattle.state.specs.State.{found_or, symbol_number, with_symbol, string_number, with_string, with_tables}
 use Rattle.state.specs.declared.Counts.{Counts}
 use Rattle.state.specs.declared.Limits.{Limits}
@@ -115,8 +115,8 @@ module _ (tree made code tables : List ℕ) (c : Counts) (l : Limits) (s : Sound
   unfolding symbol_number state_of tables_of
   found_number e = e ∙ ap (λ (n : ℕ). found_or n (position (same x) (map (spelled tree made) (region 0 c.symbols tables)))) (sym (symbols-length tree made code tables c l s))
 
-  pub intern-old : Found → i < c.symbols → Numbers (At i c) tree made code tables c l (symbol_number x st.tables) want
-  unfolding Numbers
+  pub intern-old : Found → i < c.symbols → NumberGiven (At i c) tree made code tables c l (symbol_number x st.tables) want
+  unfolding NumberGiven
   intern-old e h =
       let f = found_number e in
       let n = symbols-length tree made code tables c l s in
@@ -128,8 +128,8 @@ module _ (tree made code tables : List ℕ) (c : Counts) (l : Limits) (s : Sound
       let n = symbols-length tree made code tables c l s in
       symbol-new x st.tables (omega arith)
 
-  pub intern-over : Found → c.symbols ≤ i → l.symbols ≤ c.symbols → Numbers Over tree made code tables c l (symbol_number x st.tables) want
-  unfolding Numbers
+  pub intern-over : Found → c.symbols ≤ i → l.symbols ≤ c.symbols → NumberGiven Over tree made code tables c l (symbol_number x st.tables) want
+  unfolding NumberGiven
   intern-over e h full inside =
       let n = symbols-length tree made code tables c l s in
       let k = ap (λ (t : Tables). length t.symbols) (new e h) in
@@ -205,8 +205,8 @@ module _ (tree made code tables : List ℕ) (c : Counts) (l : Limits) (s : Sound
         }
 
     pub intern-new : (grow : ℕ) → grow ≤ 20 → MadeWithin made (c.made + grow) w → Found → c.symbols ≤ i →
-        Numbers (At c.symbols (one_symbol grow c)) tree made code zs c l (symbol_number x st.tables) want
-    unfolding Numbers
+        NumberGiven (At c.symbols (one_symbol grow c)) tree made code zs c l (symbol_number x st.tables) want
+    unfolding NumberGiven
     intern-new grow small within e h =
         let f = found_number e in
         let n = symbols-length tree made code tables c l s in
@@ -253,8 +253,8 @@ module _ (tree made code tables : List ℕ) (c : Counts) (l : Limits) (s : Sound
   unfolding string_number state_of tables_of
   found-string e = e ∙ ap (λ (n : ℕ). found_or n (position (same text) (map (text_at tree) (region strings_from c.strings tables)))) (sym (strings-length tree made code tables c l s))
 
-  pub text-old : FoundText → i < c.strings → Numbers (At i c) tree made code tables c l (string_number text st₂.tables) want₂
-  unfolding Numbers
+  pub text-old : FoundText → i < c.strings → NumberGiven (At i c) tree made code tables c l (string_number text st₂.tables) want₂
+  unfolding NumberGiven
   text-old e h =
       let f = found-string e in
       let n = strings-length tree made code tables c l s in
@@ -266,8 +266,8 @@ module _ (tree made code tables : List ℕ) (c : Counts) (l : Limits) (s : Sound
       let n = strings-length tree made code tables c l s in
       string-new text st₂.tables (omega arith)
 
-  pub text-over : FoundText → c.strings ≤ i → l.strings ≤ c.strings → Numbers Over tree made code tables c l (string_number text st₂.tables) want₂
-  unfolding Numbers
+  pub text-over : FoundText → c.strings ≤ i → l.strings ≤ c.strings → NumberGiven Over tree made code tables c l (string_number text st₂.tables) want₂
+  unfolding NumberGiven
   text-over e h full inside =
       let n = strings-length tree made code tables c l s in
       let k = ap (λ (t : Tables). length t.strings) (new-text e h) in
@@ -350,8 +350,8 @@ module _ (tree made code tables : List ℕ) (c : Counts) (l : Limits) (s : Sound
           string-index = string-indexed;
         }
 
-    pub text-new : FoundText → c.strings ≤ i → Numbers (At c.strings (one_string c)) tree made code zs c l (string_number text st₂.tables) want₂
-    unfolding Numbers
+    pub text-new : FoundText → c.strings ≤ i → NumberGiven (At c.strings (one_string c)) tree made code zs c l (string_number text st₂.tables) want₂
+    unfolding NumberGiven
     text-new e h =
         let f = found-string e in
         let n = strings-length tree made code tables c l s in

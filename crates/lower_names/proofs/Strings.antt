@@ -10,7 +10,7 @@ use lib.ListN.{get_or, set, take, drop}
 use Rattle.std.specs.Prelude.{Some, None}
 use Rattle.std.proofs.lemmas.Option.{none-some}
 use Rattle.definitions.specs.Bytes.{Text, same, position}
-use Rattle.state.specs.Index.{hash_of, start_of}
+use Rattle.state.specs.Index.{hash_of, seek_from}
 use Rattle.state.specs.Words.{region, text_at}
 use Rattle.state.specs.State.{strings_from, string_index_from, string_buckets, found_or}
 use Rattle.state.specs.Answered.{At, Over}
@@ -23,13 +23,13 @@ use Rattle.lower_emit.specs.declared.emitter.Tables.{Tables}
 use Rattle.lower_emit.specs.Emitting.{counts_of, limits_in, beside, new_strings}
 use Rattle.lower_emit.proofs.Steps.{some-is, areas-none}
 use Rattle.lower_names.specs.declared.Sought.{Sought}
-use Rattle.lower_names.specs.Naming.{Texts, SeeksText, Adds}
+use Rattle.lower_names.specs.Naming.{Texts, SeeksText, AddsText}
 use Rattle.lower_names.proofs.Numbering.{one_string, text-old, text-over, text-new}
 use Rattle.lower_names.proofs.Symbols.{numbers-some, numbers-none, Renews, left-renewed, renewed-noted}
 
 -- what the code finds from the first number on
 module _ (tree : List ℕ) {text : List ℕ} (n : Used 512) (e : Entries) (p : ℕ) {h first : ℕ} (o : definitions.Option ℕ) (N : Texts tree n e) (is : text ≡ text_at tree p) (hashed : h ≡ hash_of text)
-    (start : first ≡ start_of (get_or (region string_index_from string_buckets e.words.now) (h % string_buckets) 0) n.count)
+    (start : first ≡ seek_from (get_or (region string_index_from string_buckets e.words.now) (h % string_buckets) 0) n.count)
     (found : o ≡ position (same text) (map (text_at tree) (take (strings_from + n.count - (strings_from + first)) (drop (strings_from + first) e.words.now)))) where
   pub text-lt : (r : ℕ) → o ≡ some r → first + r < n.count
   text-lt = indexed-lt (text_at tree) e.words.now (region string_index_from string_buckets e.words.now) string_buckets strings_from n.count text first (h % string_buckets) (strings_from + first)
@@ -78,7 +78,7 @@ module _ {tree : List ℕ} {n : Used 512} {e : Entries} {p : ℕ} {s : Sought} (
   unfolding found_or
   found-new z = ap (found_or n.count) (sym (ap place_in z) ∙ H.found)
 
-  pub adds-old : {i : ℕ} → s.found ≡ Some i → Adds (Some i) tree n n e e p
+  pub adds-old : {i : ℕ} → s.found ≡ Some i → AddsText (Some i) tree n n e e p
   adds-old {i} z = record {
     below = λ m q. let y = some-is q in omega (arith, H.below i z, N.size, n.most);
     tables = λ ts. record {
@@ -92,7 +92,7 @@ module _ {tree : List ℕ} {n : Used 512} {e : Entries} {p : ℕ} {s : Sought} (
     entries = refl;
   }
 
-  pub adds-over : s.found ≡ None → n.limit ≤ n.count → Adds None tree n n e e p
+  pub adds-over : s.found ≡ None → n.limit ≤ n.count → AddsText None tree n n e e p
   adds-over z full = record {
     below = λ m q. absurd (none-some m q);
     tables = λ ts. record {
@@ -107,7 +107,7 @@ module _ {tree : List ℕ} {n : Used 512} {e : Entries} {p : ℕ} {s : Sought} (
   }
 
   pub adds-new : {m : Used 512} {d : Entries} → s.found ≡ None → n.count < n.limit → m.limit ≡ n.limit → d.words.ghost_name ≡ e.words.ghost_name
-      → ((ts : Tables) → Renews (set (set e.words.now (strings_from + n.count) p) (string_index_from + s.bucket) (s.first + 1)) one_string (new_strings n e ts) (new_strings m d ts)) → Adds (Some n.count) tree n m e d p
+      → ((ts : Tables) → Renews (set (set e.words.now (strings_from + n.count) p) (string_index_from + s.bucket) (s.first + 1)) one_string (new_strings n e ts) (new_strings m d ts)) → AddsText (Some n.count) tree n m e d p
   adds-new {m} {d} z room limit entries R = record {
     below = λ i q. let y = some-is q in omega (arith, n.most);
     tables = λ ts. record {

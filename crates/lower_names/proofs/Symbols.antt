@@ -10,14 +10,14 @@ use lib.ListN.{length, get_or, set, take, drop, length-set}
 use Rattle.std.specs.Prelude.{Option, Some, None}
 use Rattle.std.proofs.lemmas.Option.{none-some}
 use Rattle.definitions.specs.Bytes.{Name, same, position}
-use Rattle.state.specs.Index.{hash_of, bucket_of, noted, start_of, Covered}
+use Rattle.state.specs.Index.{hash_of, bucket_of, noted, seek_from, Covered}
 use Rattle.state.specs.Words.{region}
-use Rattle.state.specs.State.{State, state_of, Sound, Left, Within, Every, MadeWithin, SymbolIndex, symbol_index_from, symbol_buckets, spelled, found_or, symbol_number}
+use Rattle.state.specs.State.{State, state_of, Sound, Left, WithinLimits, Every, MadeWithin, SymbolIndex, symbol_index_from, symbol_buckets, spelled, found_or, symbol_number}
 use Rattle.state.specs.declared.Counts.{Counts}
 use Rattle.state.specs.Answered.{At, Over}
 use Rattle.state.proofs.Answers.{numbers-at, numbers-over}
 use Rattle.state.proofs.Regions.{set_here, set_below, set-above, spelled_same, made-within-same, every_map}
-use Rattle.names.specs.Made.{Stands}
+use Rattle.names.specs.Made.{NameStands}
 use Rattle.names.specs.Sought.{place_in, shifted}
 use Rattle.names.proofs.TableIndex.{bucket-is, indexed-found, indexed-lt}
 use Rattle.lower_emit.specs.declared.emitter.Code.{Code}
@@ -29,7 +29,7 @@ use Rattle.lower_emit.specs.declared.emitter.Emitter.{Emitter}
 use Rattle.lower_emit.specs.Emitting.{counts_of, limits_in, state_in, SoundIn, beside, new_names, SameAreas, NumbersIn}
 use Rattle.lower_emit.proofs.Steps.{some-is, areas-none, areas-after}
 use Rattle.lower_names.specs.declared.Sought.{Sought}
-use Rattle.lower_names.specs.Naming.{Naming, SeeksSymbol, Interns, InternsMade, named}
+use Rattle.lower_names.specs.Naming.{Naming, SeeksSymbol, Interns, InternsMade, symbol_named}
 use Rattle.lower_names.proofs.MadeNames.{made-sound, made-state, made-spelled}
 use Rattle.lower_names.proofs.Numbering.{one_symbol, Renewed, intern-old, intern-over, intern-new}
 
@@ -45,7 +45,7 @@ module _ {tree : List ℕ} {a b : Emitter} {number : ℕ} {want : State} (m : li
     reaches = record { done = λ n e. record { left = h.1 }; full = λ e. absurd (none-some i (sym e)); limits = m; areas = k };
   }
 
-  pub numbers-none : (Within (limits_in a) want → ⊥) → NumbersIn None number tree a b want
+  pub numbers-none : (WithinLimits (limits_in a) want → ⊥) → NumbersIn None number tree a b want
   numbers-none h = record {
     is = λ n e. absurd (none-some n e);
     reaches = record { done = λ n e. absurd (none-some n e); full = λ e. h; limits = m; areas = k };
@@ -65,13 +65,13 @@ module _ {zs tree : List ℕ} {k : Counts → Counts} {a b : Tables} (R : Renews
   left-renewed {want} h = subst (λ (z : Type 0). z) (λ i. Left (sym (R.counts code) i) tree (sym R.made i) code.words.now (sym R.entries i) (counts_of (beside code a)) (limits_in (beside code a)) want) h
 
 -- a word at p, before an index, and its bucket noted by the number that was read in the index before
-pub renewed-noted : (a size p w n b first : ℕ) (x : Name) (ts : List ℕ) → p < a → b ≡ bucket_of size x → b < size → first ≡ start_of (get_or (region a size ts) b 0) n
+pub renewed-noted : (a size p w n b first : ℕ) (x : Name) (ts : List ℕ) → p < a → b ≡ bucket_of size x → b < size → first ≡ seek_from (get_or (region a size ts) b 0) n
     → Renewed a size (set ts p w) (set (set ts p w) (a + b) (first + 1)) (noted (region a size (set ts p w)) (bucket_of size x) n)
 unfolding noted
 renewed-noted a size p w n b first x ts h bucket inside start =
     let xs = set ts p w in
     let r : region a size ts ≡ region a size xs = sym (set-above a size p w ts h) in
-    let v : first + 1 ≡ start_of (get_or (region a size xs) (bucket_of size x) 0) n + 1 = ap (λ (y : ℕ). y + 1) (start ∙ (λ i. start_of (get_or (r i) (bucket i) 0) n)) in
+    let v : first + 1 ≡ seek_from (get_or (region a size xs) (bucket_of size x) 0) n + 1 = ap (λ (y : ℕ). y + 1) (start ∙ (λ i. seek_from (get_or (r i) (bucket i) 0) n)) in
     record {
       size = length-set xs (a + b) (first + 1);
       here = set_here a size b (first + 1) xs inside ∙ (λ i. set (region a size xs) (bucket i) (v i));
@@ -84,7 +84,7 @@ renewed-noted a size p w n b first x ts h bucket inside start =
 -- what the code finds from the first number on
 module _ (tree : List ℕ) {name : List ℕ} (n : Names) (e : Entries) (w : ℕ) {h first : ℕ} (o : definitions.Option ℕ) (N : Naming tree n e) (is : name ≡ spelled tree n.made.now w)
     (hashed : h ≡ hash_of name)
-    (start : first ≡ start_of (get_or (region symbol_index_from symbol_buckets e.words.now) (h % symbol_buckets) 0) n.symbols.count)
+    (start : first ≡ seek_from (get_or (region symbol_index_from symbol_buckets e.words.now) (h % symbol_buckets) 0) n.symbols.count)
     (found : o ≡ position (same name) (map (spelled tree n.made.now) (take (n.symbols.count - first) (drop first e.words.now)))) where
   pub symbol-lt : (r : ℕ) → o ≡ some r → first + r < n.symbols.count
   symbol-lt = indexed-lt (spelled tree n.made.now) e.words.now (region symbol_index_from symbol_buckets e.words.now) symbol_buckets 0 n.symbols.count name first (h % symbol_buckets) first (n.symbols.count - first) o
@@ -190,13 +190,13 @@ module _ {tree : List ℕ} {n : Names} {e : Entries} {w : ℕ} {s : Sought} (H :
 
 -- the made names are others; the name x stands at their end
 pub record Makes (x : Name) (m n : Names) : Type 0 where
-  pub stands : Stands x m.made_len m.made.now n.made.now
+  pub stands : NameStands x m.made_len m.made.now n.made.now
   pub size : length n.made.now ≡ length m.made.now
   pub symbols : n.symbols ≡ m.symbols
   pub len : n.made_len ≡ m.made_len
   pub area : n.made.ghost_name ≡ m.made.ghost_name
 
-pub made-within : {made made' : List ℕ} {x : Name} {at n : ℕ} → Stands x at made made' → n ≡ at → (grow : ℕ) → grow ≡ 1 + length x → MadeWithin made' (n + grow) (32768 + at)
+pub made-within : {made made' : List ℕ} {x : Name} {at n : ℕ} → NameStands x at made made' → n ≡ at → (grow : ℕ) → grow ≡ 1 + length x → MadeWithin made' (n + grow) (32768 + at)
 made-within {made} {made'} {x} {at} {n} w e grow f h =
     let g : 32768 + at - 32768 ≡ at = omega arith in
     let k = ap (λ (k : ℕ). get_or made' k 0) g in
@@ -270,9 +270,9 @@ module _ {m n : Names} {x : Name} (M : Makes x m n) where
             is = λ i z. h.is i z ∙ (λ j. symbol_number (y j) (u j).tables);
             reaches = record {
               done = λ i z. record {
-                left = subst (λ (z : Type 0). z) (λ j. Left (counts_of (beside code (new_names d f ts))) tree d.made.now code.words.now f.words.now (k j) (l j) (named (y j) (u j))) (h.reaches.done i z).left;
+                left = subst (λ (z : Type 0). z) (λ j. Left (counts_of (beside code (new_names d f ts))) tree d.made.now code.words.now f.words.now (k j) (l j) (symbol_named (y j) (u j))) (h.reaches.done i z).left;
               };
-              full = λ z v. h.reaches.full z (subst (λ (z : Type 0). z) (λ j. Within (sym l j) (named (sym y j) (sym u j))) v);
+              full = λ z v. h.reaches.full z (subst (λ (z : Type 0). z) (λ j. WithinLimits (sym l j) (symbol_named (sym y j) (sym u j))) v);
               limits = h.reaches.limits ∙ l;
               areas = areas-after (record { words = refl; made = M.area; entries = refl }) h.reaches.areas;
             };
@@ -282,5 +282,5 @@ module _ {m n : Names} {x : Name} (M : Makes x m n) where
 
 -- the number of a name by its word
 pub interned : {tree : List ℕ} {e : Emitter} {n : Names} {b : Entries} {r : Option ℕ} {w : ℕ} {x : Name} → SoundIn tree e → Interns r tree e.tables.names n e.tables.entries b w → spelled tree e.tables.names.made.now w ≡ x
-    → NumbersIn r (symbol_number x (state_in tree e).tables) tree e (beside e.code (new_names n b e.tables)) (named x (state_in tree e))
-interned {tree} {e} {n} {b} {r} S h q = subst (λ (y : Name). NumbersIn r (symbol_number y (state_in tree e).tables) tree e (beside e.code (new_names n b e.tables)) (named y (state_in tree e))) q ((h.tables e.tables).numbers e.code S)
+    → NumbersIn r (symbol_number x (state_in tree e).tables) tree e (beside e.code (new_names n b e.tables)) (symbol_named x (state_in tree e))
+interned {tree} {e} {n} {b} {r} S h q = subst (λ (y : Name). NumbersIn r (symbol_number y (state_in tree e).tables) tree e (beside e.code (new_names n b e.tables)) (symbol_named y (state_in tree e))) q ((h.tables e.tables).numbers e.code S)

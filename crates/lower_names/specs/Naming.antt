@@ -5,7 +5,7 @@ use Rattle.definitions.specs.Tables.{Emit}
 use Rattle.definitions.specs.Lower as Lower
 use Rattle.definitions.specs.Lower.{builtin_callee, function_callee, value_callee}
 use Rattle.state.specs.Words.{region, text_at, word}
-use Rattle.state.specs.Index.{bucket_of, start_of}
+use Rattle.state.specs.Index.{bucket_of, seek_from}
 use Rattle.state.specs.State.{State, Sound, state_of, SymbolIndex, StringIndex, Every, MadeWithin, spelled, symbol_number, with_symbol, string_number, with_string, with_tables}
 use Rattle.state.specs.State.{symbol_index_from, symbol_buckets, strings_from, string_index_from, string_buckets}
 use Rattle.state.specs.declared.Counts.{Counts}
@@ -34,18 +34,18 @@ pub record Naming (tree : List ℕ) (n : Names) (e : Entries) : Type 0 where
 pub record SeeksSymbol (s : Sought) (tree : List ℕ) (n : Names) (e : Entries) (w : ℕ) : Type 0 where
   pub bucket : s.bucket ≡ bucket_of symbol_buckets (spelled tree n.made.now w)
   pub small : s.bucket < symbol_buckets
-  pub first : s.first ≡ start_of (get_or (region symbol_index_from symbol_buckets e.words.now) s.bucket 0) n.symbols.count
+  pub first : s.first ≡ seek_from (get_or (region symbol_index_from symbol_buckets e.words.now) s.bucket 0) n.symbols.count
   pub least : s.first ≤ n.symbols.count
   pub found : place_in s.found ≡ position (same (spelled tree n.made.now w)) (map (spelled tree n.made.now) (region 0 n.symbols.count e.words.now))
   pub below : (i : ℕ) → s.found ≡ Some i → i < n.symbols.count
 
 -- the state with a symbol x
-abbrev pub named : Name → State → State
-named x s = with_tables (with_symbol x s.tables) s
+abbrev pub symbol_named : Name → State → State
+symbol_named x s = with_tables (with_symbol x s.tables) s
 
 -- the symbol x has a number, whatever the code is
 pub record NumbersName (r : Option ℕ) (x : Name) (tree : List ℕ) (a b : Tables) : Type 0 where
-  pub numbers : (code : Code) → SoundIn tree (beside code a) → NumbersIn r (symbol_number x (state_in tree (beside code a)).tables) tree (beside code a) (beside code b) (named x (state_in tree (beside code a)))
+  pub numbers : (code : Code) → SoundIn tree (beside code a) → NumbersIn r (symbol_number x (state_in tree (beside code a)).tables) tree (beside code a) (beside code b) (symbol_named x (state_in tree (beside code a)))
 
 -- the symbol of the word w, whatever the code and the other tables are; the made names stay
 pub record Interns (r : Option ℕ) (tree : List ℕ) (m n : Names) (a b : Entries) (w : ℕ) : Type 0 where
@@ -74,7 +74,7 @@ pub record Texts (tree : List ℕ) (n : Used 512) (e : Entries) : Type 0 where
 pub record SeeksText (s : Sought) (tree : List ℕ) (n : Used 512) (e : Entries) (at : ℕ) : Type 0 where
   pub bucket : s.bucket ≡ bucket_of string_buckets (text_at tree at)
   pub small : s.bucket < string_buckets
-  pub first : s.first ≡ start_of (get_or (region string_index_from string_buckets e.words.now) s.bucket 0) n.count
+  pub first : s.first ≡ seek_from (get_or (region string_index_from string_buckets e.words.now) s.bucket 0) n.count
   pub least : s.first ≤ n.count
   pub found : place_in s.found ≡ position (same (text_at tree at)) (map (text_at tree) (region strings_from n.count e.words.now))
   pub below : (i : ℕ) → s.found ≡ Some i → i < n.count
@@ -88,7 +88,7 @@ pub record NumbersText (r : Option ℕ) (x : Text) (tree : List ℕ) (a b : Tabl
   pub numbers : (code : Code) → SoundIn tree (beside code a) → NumbersIn r (string_number x (state_in tree (beside code a)).tables) tree (beside code a) (beside code b) (quoted x (state_in tree (beside code a)))
 
 -- the string at `at`, whatever the code and the other tables are
-pub record Adds (r : Option ℕ) (tree : List ℕ) (m n : Used 512) (a b : Entries) (at : ℕ) : Type 0 where
+pub record AddsText (r : Option ℕ) (tree : List ℕ) (m n : Used 512) (a b : Entries) (at : ℕ) : Type 0 where
   pub below : (i : ℕ) → r ≡ Some i → i < 512
   pub tables : (ts : Tables) → NumbersText r (text_at tree at) tree (new_strings m a ts) (new_strings n b ts)
   pub limit : n.limit ≡ m.limit

@@ -10,5 +10,5 @@ unfoldable pub variable_by : ℕ → Name → Option ℕ → Emit
 variable_by op x (some i) = one (instr op i 0)
 variable_by op x none = intern x (λ k. one (instr (op + 2) k 0))
 
-unfoldable pub variable : ℕ → List Name → Name → Emit
-variable op slots x = variable_by op x (position (same x) slots)
+unfoldable pub variable_among : ℕ → List Name → Name → Emit
+variable_among op slots x = variable_by op x (position (same x) slots)

@@ -15,8 +15,8 @@ ghost use Rattle.names.specs.Made.{made_name};
 ghost use Rattle.lower_emit.specs.Ops.{Plain};
 ghost use Rattle.lower_emit.specs.Emitting.{Puts, SoundIn, LowersIn};
 ghost use Rattle.lower_forms.specs.Lowerable.{load_callee};
-ghost use Rattle.lower_names.specs.Variable.{variable};
-ghost use Rattle.lower_names.specs.Naming.{Naming, Texts, SeeksSymbol, SeeksText, Interns, InternsMade, Adds, Quotes, Resolves, ResolvesFunction, callee_of, call_word};
+ghost use Rattle.lower_names.specs.Variable.{variable_among};
+ghost use Rattle.lower_names.specs.Naming.{Naming, Texts, SeeksSymbol, SeeksText, Interns, InternsMade, AddsText, Quotes, Resolves, ResolvesFunction, callee_of, call_word};
 
 use lower_emit::emitter::{Code, Emitter, Entries, Names, Used};
 use lower_emit::packed;
@@ -140,7 +140,7 @@ fn string_number(
     at: usize,
 ) -> Option<u32>
     requires { Texts tree.now strings.old entries.old × (at < 2 ^ 32) }
-    ensures { Adds result tree.now strings.old strings.new entries.old entries.new at }
+    ensures { AddsText result tree.now strings.old strings.new entries.old entries.new at }
 {
     let sought = seek_text(tree, *strings, entries, at);
     if let Some(i) = sought.found {
@@ -185,7 +185,7 @@ pub fn emit_string(
 // The variable at `at` by its slot with `op`, else by the global of its name, whose opcode is two more.
 fn emit_variable(s: Scope<'_>, e: &mut Emitter<'_>, at: usize, op: u32) -> Option<()>
     requires { SoundIn s.tree.now e.old × (at < 32768) × (9 ≤ op) × (op ≤ 10) }
-    ensures lowers { LowersIn result (variable op (slot_names s.entry.tree.now s.entry.slots.now) (name_at s.entry.tree.now at)) s.entry.tree.now e.old e.new }
+    ensures lowers { LowersIn result (variable_among op (slot_names s.entry.tree.now s.entry.slots.now) (name_at s.entry.tree.now at)) s.entry.tree.now e.old e.new }
     ensures made { e.new.tables.names.made.now ≡ e.old.tables.names.made.now }
 {
     if let Some(slot) = find_slot(s.tree, s.slots, at) {

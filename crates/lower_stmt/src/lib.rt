@@ -15,14 +15,14 @@ ghost use Rattle.tree.specs.StmtAt.{stmt_at, block_at, stmts_at, branches_at, bo
 ghost use Rattle.tree.specs.StmtAt as StmtAt;
 ghost use Rattle.state.specs.Words.{name_at};
 ghost use Rattle.state.specs.State.{emit_at, slot_names};
-ghost use Rattle.state.specs.Steps.{branch, chain_at, methods_at, methods_of};
+ghost use Rattle.state.specs.Steps.{branch, chain_at, emit_methods_at, methods_of};
 ghost use Rattle.state.specs.Kept.{keeping_of, Spare, Passes};
 ghost use Rattle.lower_forms.specs.Lowerable.{SoleIn, expr_code};
 ghost use Rattle.lower_forms.specs.Lowering.{StmtLowerable, BlockLowerable, StmtsLowerable, BranchLowerable, BranchesLowerable, IfLowerable, ForLowerable};
 ghost use Rattle.lower_forms.specs.Lowering.{FunctionLowerable, MethodsLowerable, ClassLowerable, stmt_code, block_code, stmts_code, function_code, end_of, class_code};
 ghost use Rattle.lower_emit.specs.Emitting.{state_in, NextIs, EmitsTo, Reaches};
 ghost use Rattle.lower_loops.specs.Iterators.{keeper_of, Loads};
-ghost use Rattle.lower_stmt.specs.Blocks.{CompilesIn, ListsIn};
+ghost use Rattle.lower_blocks.specs.Blocks.{CompilesIn, ListsIn};
 
 use lower_classes::{begin_class, finish_class, start_named};
 use lower_emit::emitter::Emitter;
@@ -323,7 +323,8 @@ fn emit_methods(
     list: &mut [u32],
 ) -> Option<u32>
     requires { SoleIn tree.now e.old × MethodsLowerable depth n tree.now at × (256 ≤ length list.old) }
-    ensures { ListsIn result (methods_at (StmtAt.methods_at depth n tree.now at).value [] (state_in tree.now e.old)) (methods_of (StmtAt.methods_at depth n tree.now at).value [] (state_in tree.now e.old)) tree.now list.new e.old e.new }
+    ensures { ListsIn result (emit_methods_at (StmtAt.methods_at depth n tree.now at).value [] (state_in tree.now e.old))
+        (methods_of (StmtAt.methods_at depth n tree.now at).value [] (state_in tree.now e.old)) tree.now list.new e.old e.new }
 {
     let mut p = at;
     let mut count = 0u32;

@@ -21,18 +21,18 @@ use Rattle.lower_emit.specs.Emitting.{limits_in}
 use Rattle.areas.proofs.Lent.{areas-fit, first_short, second_short, area-left, area-cleared}
 use Rattle.limits.specs.Sets.{limits_for}
 use Rattle.limits.specs.declared.Limits.{Limits as Set}
-use Rattle.settle.specs.Settles.{told, tables_in, Settles}
-use Rattle.lowering.specs.Lowered.{said, Answers, Lowers}
+use Rattle.settle.specs.Settles.{told, tables_shown, Settles}
+use Rattle.lowering.specs.Lowered.{lowering_said, Answers, Lowers}
 use Rattle.lowering.proofs.Outcome.{answer-areas, answer-refused, answer-fits, room-over, room-enough}
 
 -- ---- the answer and the output
 
 pub refuses : (a : Answer (List ℕ)) (q : Question) (out : List ℕ) → a ≡ refused (number q) → Answers (Err q) a out out
-unfolding said count_answer output_after when_accepted
+unfolding lowering_said count_answer output_after when_accepted
 refuses a q out e = rw e (record { answer = refl; output = refl })
 
 writes : (a : Answer (List ℕ)) (bs : List ℕ) (n : ℕ) (out out' : List ℕ) → a ≡ accepted bs → n ≡ length bs → out' ≡ written bs out → Answers (Ok n) a out out'
-unfolding said count_answer output_after when_accepted
+unfolding lowering_said count_answer output_after when_accepted
 writes a bs n out out' e c w = rw e (record { answer = ap accepted c; output = w })
 
 -- ---- questions 2 to 16, question 1 being answered yes
@@ -43,21 +43,21 @@ module _ (l : Limits) (m n room : ℕ) (tree out : List ℕ) (first : 16384 ≤ 
 
   module _ {s : Result (Unit {0}) Question} {a b : Emitter} (same : limits_in a ≡ l) (S : Settles s tree a b) where
     -- what was settled, by these limits
-    settled-is : lower_tables (limits_of l) tree ≡ told s (tables_in tree b)
+    settled-is : lower_tables (limits_of l) tree ≡ told s (tables_shown tree b)
     settled-is = ap (λ (k : Limits). lower_tables (limits_of k) tree) (sym same) ∙ S.answer
 
     -- 2 to 15
     pub answers-refused : {r : Result ℕ Question} {q : Question} → r ≡ Err q → s ≡ Err q → Answers r answer out out
     unfolding told
     answers-refused {r} {q} e h =
-        rw e (refuses answer q out (answer-refused (limits_of l) m n room tree (areas-fit m n first second) (number q) (settled-is ∙ ap (λ (z : Result (Unit {0}) Question). told z (tables_in tree b)) h)))
+        rw e (refuses answer q out (answer-refused (limits_of l) m n room tree (areas-fit m n first second) (number q) (settled-is ∙ ap (λ (z : Result (Unit {0}) Question). told z (tables_shown tree b)) h)))
 
     -- 16
-    pub answers-fits : {u : Unit {0}} {r : Result ℕ Question} {out' : List ℕ} → s ≡ Ok u → Answers r (fits_room room (module_bytes (tables_in tree b))) out out' → Answers r answer out out'
+    pub answers-fits : {u : Unit {0}} {r : Result ℕ Question} {out' : List ℕ} → s ≡ Ok u → Answers r (fits_room room (module_bytes (tables_shown tree b))) out out' → Answers r answer out out'
     unfolding told
     answers-fits {u} {r} {out'} h A =
         subst (λ (z : Answer (List ℕ)). Answers r z out out')
-        (sym (answer-fits (limits_of l) m n room tree (areas-fit m n first second) (tables_in tree b) (settled-is ∙ ap (λ (z : Result (Unit {0}) Question). told z (tables_in tree b)) h))) A
+        (sym (answer-fits (limits_of l) m n room tree (areas-fit m n first second) (tables_shown tree b) (settled-is ∙ ap (λ (z : Result (Unit {0}) Question). told z (tables_shown tree b)) h))) A
 
 -- ---- question 16
 

@@ -14,9 +14,9 @@ use Rattle.definitions.specs.Tree.{Expr, lit, var, unary, binary, logical, call,
 use Rattle.definitions.specs.Tree.{View, as_var, as_attr, as_index, as_tuple, as_other, view, view_display}
 use Rattle.definitions.specs.Slots.{captures}
 use Rattle.definitions.specs.Measured.{SoFar, direct, measure_call, measure_expr, measure_exprs, measure_object}
-use Rattle.parts.specs.Places.{Node, count_at, name_end, params_at, text_at}
+use Rattle.parts.specs.Places.{Node, count_at, name_end, params_at, text_node_at}
 use Rattle.exprs.specs.ExprAt.{expr_at, exprs_at, ExprReads, ExprsRead, unary_of, binary_of, var_at, string_at, unary_at, second_at}
-use Rattle.exprs.specs.ExprAt.{binary_at, list_at, call_at, attribute_at, display_at, pairs_at, dict_at, index_at, LambdaAt, lambda_at, cons_at}
+use Rattle.exprs.specs.ExprAt.{binary_at, list_at, call_at, attribute_at, display_at, pairs_at, dict_at, index_at, LambdaAt, lambda_at, cons_exprs_at}
 use Rattle.state.specs.State.{slots_from, slot_names, Slots}
 use Rattle.slots.specs.Held.{CapturesAt}
 use Rattle.slots.proofs.Adding.{first-length, name-bytes}
@@ -185,7 +185,7 @@ module _ (d : ℕ) (t : List ℕ) (names : List Name) (k : SoFar) (n₀ p₀ mor
     exprs-head = (view-exprs-more d n t p h l.reads).parts.head
 
     pub exprs-next : (o : Measure) (m i : ℕ) → Sized o p (expr_at d t p).end 0 (measure_expr names k (expr_at d t p).value) → m ≡ size + o.size → n - 1 ≡ i → ExprsLeft d t names k n₀ p₀ more i o.next m
-    unfolding cons_at measure_exprs
+    unfolding cons_exprs_at measure_exprs
     exprs-next o m i s e c =
         let v = view-exprs-more d n t p h l.reads in
         let q : measure_exprs names k (exprs_at d n t p).value ≡ measure_expr names k (expr_at d t p).value + measure_exprs names k (exprs_at d (n - 1) t (expr_at d t p).end).value =
@@ -214,7 +214,7 @@ pub expr-ahead : (d : ℕ) (t : List ℕ) (p : ℕ) → ExprReads d t p → p �
 expr-ahead d t p r = node-after (lit none_l) (parse_expr d) t p (steady-E d) r
 
 pub string-ahead : (d : ℕ) (t : List ℕ) (p : ℕ) → ExprReads d t p → get_or t p 0 ≡ 5 → p < (expr_at d t p).end
-unfolding string_at text_at
+unfolding string_at text_node_at
 string-ahead d t p r e = let h : (expr_at d t p).end ≡ p + 1 + 2 + count_at t (p + 1) = ap (λ (z : Node Expr). z.end) (view-string d t p r e).is in omega arith
 
 -- a literal has at least one byte

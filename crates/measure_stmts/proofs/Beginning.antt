@@ -13,7 +13,7 @@ use Rattle.definitions.specs.Instruction.{Return}
 use Rattle.definitions.specs.Tables.{Method, Tables, coded, Body, block_body, Out, Emit, emits, ◌⨟◌, here, add_symbol, intern, begin, enclose, function}
 use Rattle.definitions.specs.Lower.{loop, store_iter, kept_iter, named_iter, iter_name, Keeper, global}
 use Rattle.definitions.specs.Lower.{local, method_end, insert_method, begin_class, class_out, emit_expr, emit_stmt, emit_block, emit_branches, emit_methods}
-use Rattle.state.specs.State.{State, emit_at, Within, Limited}
+use Rattle.state.specs.State.{State, emit_at, WithinLimits, Limited}
 use Rattle.state.specs.declared.Limits.{Limits}
 use Rattle.definitions.proofs.Growth.{Lengthened, Lengthens, functions-longer, lengthens-expr, lengthens-emits, lengthens-one, lengthens-seq, lengthens-assign_by, lengthens-make_iter, lengthens-ask_iter, lengthens-take_iter}
 use Rattle.definitions.proofs.Growth.{lengthens-end_class, lengthens-block, symbol-lengthened, set_code-count}
@@ -161,6 +161,6 @@ mutual
   methods-begin (method x ps b rest) acc t = method-begins x ps b rest (begins-block (with_loops ps b).names (with_loops ps b).keep b) (λ as′ u. methods-begin rest as′ u) acc t
 
 -- a part in which more names begin than there is room to note is over the limits, wherever it stands
-pub names-over : {h : ℕ} {e : Emit} {l : Limits} → Begins h e → Limited l → 320 < h → (base : ℕ) (s : State) → Within l (emit_at base e s) → ⊥
+pub names-over : {h : ℕ} {e : Emit} {l : Limits} → Begins h e → Limited l → 320 < h → (base : ℕ) (s : State) → WithinLimits l (emit_at base e s) → ⊥
 unfolding emit_at
 names-over B L m base s W = omega (arith, B.at (length s.stack - base) s.tables, W.functions, W.classes, L.functions, L.classes)

@@ -28,7 +28,7 @@ use Rattle.measure.proofs.Ahead.{node-after}
 use Rattle.parts.proofs.LeafNodes.{params-after, name-after}
 use Rattle.measure_stmts.specs.declared.begun.Begun.{Begun}
 use Rattle.measure_stmts.specs.Heads.{heads_stmt, heads_block, heads_branches, heads_methods}
-use Rattle.measure_stmts.specs.Walked.{seen, Notes, Walks}
+use Rattle.measure_stmts.specs.Walked.{seen, Notes, PartMeasured}
 use Rattle.measure_stmts.proofs.Steps.{none-some, some-is, walks-still, walks-as, walks-stopped, Splits, Left, left-start, left-stopped, left-next, left-done, left-last, left-over}
 
 -- ---- statements
@@ -48,7 +48,7 @@ module _ (m : Measurer) (d : ℕ) where
 
   module _ {whole : Node Block} {n p₀ p done : ℕ} {a b : Begun} (L : StmtsLeft whole n p₀ p done a b) where
     pub stmts-done : {s : Measure} → n ≤ 0 → s.size ≡ done → s.next ≡ p
-        → Walks (Some s) m p₀ whole.end (measure_block (names_in m) (seen m a) whole.value) (heads_block whole.value) (after_block whole.value) a b
+        → PartMeasured (Some s) m p₀ whole.end (measure_block (names_in m) (seen m a) whole.value) (heads_block whole.value) (after_block whole.value) a b
     unfolding measure_block heads_block after_block
     stmts-done h f g =
         let v = view-stmts-none d n t p h L.0.start in
@@ -69,9 +69,9 @@ module _ (m : Measurer) (d : ℕ) where
           subst (λ (x : Node Block). Splits (measure_block (names_in m)) heads_block after_block x rest (λ k. measure_stmt (names_in m) k (stmt_at d t p).value) (heads_stmt (stmt_at d t p).value)
           (after_stmt (stmt_at d t p).value)) (sym (view-stmts-more d n t p h L.0).is) (record { end = refl; sum = λ k. refl; names = refl; then = λ k. refl })
 
-      module _ {r : Option Measure} {c : Begun} (W : Walks r m p (stmt_at d t p).end (measure_stmt (names_in m) (seen m b) (stmt_at d t p).value) (heads_stmt (stmt_at d t p).value)
+      module _ {r : Option Measure} {c : Begun} (W : PartMeasured r m p (stmt_at d t p).end (measure_stmt (names_in m) (seen m b) (stmt_at d t p).value) (heads_stmt (stmt_at d t p).value)
           (after_stmt (stmt_at d t p).value) b c) where
-        pub stmts-stopped : {o : Option Measure} {q e k : ℕ} → r ≡ None → o ≡ None → Walks o m q e k (heads_block whole.value) (after_block whole.value) a c
+        pub stmts-stopped : {o : Option Measure} {q e k : ℕ} → r ≡ None → o ≡ None → PartMeasured o m q e k (heads_block whole.value) (after_block whole.value) a c
         stmts-stopped i j = left-stopped L.1 splits W i j
 
         pub stmts-next : {s : Measure} {u j : ℕ} → r ≡ Some s → u ≡ done + s.size → n - 1 ≡ j → StmtsLeft whole j p₀ s.next u a c
@@ -103,18 +103,18 @@ module _ (m : Measurer) (d : ℕ) where
       pub branches-last : BranchesRead d 0 tree p
       branches-last = subst (λ (k : ℕ). BranchesRead d k tree p) none L.0
 
-      module _ {r : Option Measure} {c : Begun} (W : Walks r m p (branches_at d 0 tree p).end (measure_branches (names_in m) (seen m b) (branches_at d 0 tree p).value) (heads_branches (branches_at d 0 tree p).value)
+      module _ {r : Option Measure} {c : Begun} (W : PartMeasured r m p (branches_at d 0 tree p).end (measure_branches (names_in m) (seen m b) (branches_at d 0 tree p).value) (heads_branches (branches_at d 0 tree p).value)
           (after_branches (branches_at d 0 tree p).value) b c) where
-        last : Walks r m p (branches_at d n tree p).end (measure_branches (names_in m) (seen m b) (branches_at d n tree p).value) (heads_branches (branches_at d n tree p).value)
+        last : PartMeasured r m p (branches_at d n tree p).end (measure_branches (names_in m) (seen m b) (branches_at d n tree p).value) (heads_branches (branches_at d n tree p).value)
             (after_branches (branches_at d n tree p).value) b c
-        last = subst (λ (k : ℕ). Walks r m p (branches_at d k tree p).end (measure_branches (names_in m) (seen m b) (branches_at d k tree p).value) (heads_branches (branches_at d k tree p).value)
+        last = subst (λ (k : ℕ). PartMeasured r m p (branches_at d k tree p).end (measure_branches (names_in m) (seen m b) (branches_at d k tree p).value) (heads_branches (branches_at d k tree p).value)
             (after_branches (branches_at d k tree p).value) b c) (sym none) W
 
-        pub branches-over : {o : Option Measure} {q e k : ℕ} → r ≡ None → o ≡ None → Walks o m q e k (heads_branches whole.value) (after_branches whole.value) a c
+        pub branches-over : {o : Option Measure} {q e k : ℕ} → r ≡ None → o ≡ None → PartMeasured o m q e k (heads_branches whole.value) (after_branches whole.value) a c
         branches-over i j = left-over L.1 last i j
 
         pub branches-done : {u v : Measure} → r ≡ Some u → v.size ≡ done + u.size → v.next ≡ u.next
-            → Walks (Some v) m p₀ whole.end (measure_branches (names_in m) (seen m a) whole.value) (heads_branches whole.value) (after_branches whole.value) a c
+            → PartMeasured (Some v) m p₀ whole.end (measure_branches (names_in m) (seen m a) whole.value) (heads_branches whole.value) (after_branches whole.value) a c
         branches-done i j k = left-last L.1 last i refl j k
 
         pub branches-few : {u : Measure} → r ≡ Some u → length tree ≤ 32768 → done + u.size ≤ 16777216
@@ -136,8 +136,8 @@ module _ (m : Measurer) (d : ℕ) where
           subst (λ (x : Node Branches). Splits (measure_branches (names_in m)) heads_branches after_branches x others size (heads_block (body_at d tree p).value) (after_block (body_at d tree p).value))
           (sym (view-branches-more d tree p n h L.0).is) (record { end = refl; sum = λ k. omega arith; names = refl; then = λ k. refl })
 
-      module _ {r : Option Measure} {c : Begun} (W : Walks r m p (body_at d tree p).end (size (seen m b)) (heads_block (body_at d tree p).value) (after_block (body_at d tree p).value) b c) where
-        pub branches-stopped : {o : Option Measure} {q e k : ℕ} → r ≡ None → o ≡ None → Walks o m q e k (heads_branches whole.value) (after_branches whole.value) a c
+      module _ {r : Option Measure} {c : Begun} (W : PartMeasured r m p (body_at d tree p).end (size (seen m b)) (heads_block (body_at d tree p).value) (after_block (body_at d tree p).value) b c) where
+        pub branches-stopped : {o : Option Measure} {q e k : ℕ} → r ≡ None → o ≡ None → PartMeasured o m q e k (heads_branches whole.value) (after_branches whole.value) a c
         branches-stopped i j = left-stopped L.1 branch-splits W i j
 
         pub branches-next : {s : Measure} {u j : ℕ} → r ≡ Some s → u ≡ done + s.size → n - 1 ≡ j → BranchesLeft whole j p₀ s.next u a c
@@ -152,7 +152,7 @@ module _ (m : Measurer) (d : ℕ) where
 
   module _ {p : ℕ} (R : BranchesRead d 0 tree p) where
     abbrev Else : Option Measure → Begun → Begun → Type 0
-    Else o a b = Walks o m p (branches_at d 0 tree p).end (measure_branches (names_in m) (seen m a) (branches_at d 0 tree p).value) (heads_branches (branches_at d 0 tree p).value)
+    Else o a b = PartMeasured o m p (branches_at d 0 tree p).end (measure_branches (names_in m) (seen m a) (branches_at d 0 tree p).value) (heads_branches (branches_at d 0 tree p).value)
         (after_branches (branches_at d 0 tree p).value) a b
 
     pub else-none : {s : Measure} (a : Begun) → get_or tree p 0 ≡ 0 → s.size ≡ 0 → s.next ≡ p + 1 → Else (Some s) a a
@@ -171,7 +171,7 @@ module _ (m : Measurer) (d : ℕ) where
       else-reads = (view-else d tree p 0 (omega arith) R one).parts
 
       pub else-some : {r : Option Measure} {a b : Begun}
-          → Walks r m (p + 1 + 2) (block_at d tree (p + 1)).end (measure_block (names_in m) (seen m a) (block_at d tree (p + 1)).value) (heads_block (block_at d tree (p + 1)).value)
+          → PartMeasured r m (p + 1 + 2) (block_at d tree (p + 1)).end (measure_block (names_in m) (seen m a) (block_at d tree (p + 1)).value) (heads_block (block_at d tree (p + 1)).value)
           (after_block (block_at d tree (p + 1)).value) a b → Else r a b
       unfolding else_at measure_branches heads_branches after_branches
       else-some {a = a} W =
@@ -186,7 +186,7 @@ module _ (m : Measurer) (d p : ℕ) {A : Type 0} {r : Option A} {a b : Begun} (N
   area = m.scope.tree.now
 
   abbrev Def : Option Measure → Begun → Type 0
-  Def o c = Walks o m p (def_block_at d area p).end 0 (1 + heads_block (def_block_at d area p).value) (λ s. after_block (def_block_at d area p).value (add_function (name_at area p) s)) a c
+  Def o c = PartMeasured o m p (def_block_at d area p).end 0 (1 + heads_block (def_block_at d area p).value) (λ s. after_block (def_block_at d area p).value (add_function (name_at area p) s)) a c
 
   pub def-full : {o : Option Measure} → r ≡ None → o ≡ None → Def o b
   def-full e f = walks-stopped f (let h = N.full e in omega arith)
@@ -195,11 +195,11 @@ module _ (m : Measurer) (d p : ℕ) {A : Type 0} {r : Option A} {a b : Begun} (N
     pub def-reads : DefAt d area p → BlockReads d area q
     def-reads R = subst (λ (z : ℕ). BlockReads d area z) (sym e) R.block
 
-    module _ {x : A} (f : r ≡ Some x) {o : Option Measure} {c : Begun} (W : Walks o m (q + 2) (block_at d area q).end (measure_block (names_in m) (seen m b) (block_at d area q).value)
+    module _ {x : A} (f : r ≡ Some x) {o : Option Measure} {c : Begun} (W : PartMeasured o m (q + 2) (block_at d area q).end (measure_block (names_in m) (seen m b) (block_at d area q).value)
         (heads_block (block_at d area q).value) (after_block (block_at d area q).value) b c) where
-      body : Walks o m (q + 2) (def_block_at d area p).end (measure_block (names_in m) (seen m b) (def_block_at d area p).value) (heads_block (def_block_at d area p).value)
+      body : PartMeasured o m (q + 2) (def_block_at d area p).end (measure_block (names_in m) (seen m b) (def_block_at d area p).value) (heads_block (def_block_at d area p).value)
           (after_block (def_block_at d area p).value) b c
-      body = subst (λ (z : ℕ). Walks o m (q + 2) (block_at d area z).end (measure_block (names_in m) (seen m b) (block_at d area z).value) (heads_block (block_at d area z).value)
+      body = subst (λ (z : ℕ). PartMeasured o m (q + 2) (block_at d area z).end (measure_block (names_in m) (seen m b) (block_at d area z).value) (heads_block (block_at d area z).value)
           (after_block (block_at d area z).value) b c) e W
 
       pub def-over : {u : Option Measure} → o ≡ None → u ≡ None → Def u c
@@ -235,7 +235,7 @@ module _ (m : Measurer) (d : ℕ) where
   methods-start a p n j R i = subst (λ (k : ℕ). MethodsLeft (methods_at d n whole_tree p) k p p a a) i (R, left-start a refl (omega arith))
 
   module _ {whole : Node Methods} {n p₀ p : ℕ} {a b : Begun} (L : MethodsLeft whole n p₀ p a b) where
-    pub methods-done : {s : Measure} → n ≤ 0 → s.size ≡ 0 → s.next ≡ p → Walks (Some s) m p₀ whole.end 0 (heads_methods whole.value) (after_methods whole.value) a b
+    pub methods-done : {s : Measure} → n ≤ 0 → s.size ≡ 0 → s.next ≡ p → PartMeasured (Some s) m p₀ whole.end 0 (heads_methods whole.value) (after_methods whole.value) a b
     unfolding heads_methods after_methods
     methods-done h f g =
         let v = view-methods-none d whole_tree p n h L.0.start in
@@ -263,8 +263,8 @@ module _ (m : Measurer) (d : ℕ) where
             then = λ k. ap (λ (x : Name). after_methods more.value (after_block (def_block_at d whole_tree p).value (add_function x k))) (sym (name-bytes whole_tree p));
           })
 
-      module _ {r : Option Measure} {c : Begun} (W : Walks r m p (def_block_at d whole_tree p).end 0 (1 + heads_block (def_block_at d whole_tree p).value) after b c) where
-        pub methods-stopped : {o : Option Measure} {q e k : ℕ} → r ≡ None → o ≡ None → Walks o m q e k (heads_methods whole.value) (after_methods whole.value) a c
+      module _ {r : Option Measure} {c : Begun} (W : PartMeasured r m p (def_block_at d whole_tree p).end 0 (1 + heads_block (def_block_at d whole_tree p).value) after b c) where
+        pub methods-stopped : {o : Option Measure} {q e k : ℕ} → r ≡ None → o ≡ None → PartMeasured o m q e k (heads_methods whole.value) (after_methods whole.value) a c
         methods-stopped i j = left-stopped L.1 method-splits W i j
 
         pub methods-next : {s : Measure} {j : ℕ} → r ≡ Some s → n - 1 ≡ j → MethodsLeft whole j p₀ s.next a c
@@ -283,7 +283,7 @@ module _ (m : Measurer) (d p : ℕ) {A : Type 0} {r : Option A} {a b : Begun} (N
   bytes = m.scope.tree.now
 
   abbrev Class : Option Measure → Begun → Type 0
-  Class o c = Walks o m p (class_at d bytes p).end 2 (1 + heads_methods (class_methods_at d bytes p).value) (λ s. after_methods (class_methods_at d bytes p).value (add_class (name_at bytes p) s)) a c
+  Class o c = PartMeasured o m p (class_at d bytes p).end 2 (1 + heads_methods (class_methods_at d bytes p).value) (λ s. after_methods (class_methods_at d bytes p).value (add_class (name_at bytes p) s)) a c
 
   pub class-full : {o : Option Measure} → r ≡ None → o ≡ None → Class o b
   class-full e f = walks-stopped f (let h = N.full e in omega arith)
@@ -301,10 +301,10 @@ module _ (m : Measurer) (d p : ℕ) {A : Type 0} {r : Option A} {a b : Begun} (N
     pub class-reads : ClassAt d bytes p → MethodsRead d n bytes (q + 2)
     class-reads R = subst (λ (k : ℕ). MethodsRead d k bytes (q + 2)) (sym count) (subst (λ (z : ℕ). MethodsRead d (count_at bytes (name_end bytes p)) bytes (z + 2)) (sym e) R.methods)
 
-    module _ {x : A} (g : r ≡ Some x) {o : Option Measure} {c : Begun} (W : Walks o m (q + 2) (methods_at d n bytes (q + 2)).end 0 (heads_methods (methods_at d n bytes (q + 2)).value)
+    module _ {x : A} (g : r ≡ Some x) {o : Option Measure} {c : Begun} (W : PartMeasured o m (q + 2) (methods_at d n bytes (q + 2)).end 0 (heads_methods (methods_at d n bytes (q + 2)).value)
         (after_methods (methods_at d n bytes (q + 2)).value) b c) where
-      all-methods : Walks o m (q + 2) (class_methods_at d bytes p).end 0 (heads_methods (class_methods_at d bytes p).value) (after_methods (class_methods_at d bytes p).value) b c
-      all-methods = subst (λ (z : Node Methods). Walks o m (q + 2) z.end 0 (heads_methods z.value) (after_methods z.value) b c) methods-are W
+      all-methods : PartMeasured o m (q + 2) (class_methods_at d bytes p).end 0 (heads_methods (class_methods_at d bytes p).value) (after_methods (class_methods_at d bytes p).value) b c
+      all-methods = subst (λ (z : Node Methods). PartMeasured o m (q + 2) z.end 0 (heads_methods z.value) (after_methods z.value) b c) methods-are W
 
       pub class-over : {u : Option Measure} → o ≡ None → u ≡ None → Class u c
       class-over i j = walks-stopped j (omega (arith, all-methods.over i, N.count x g))

@@ -13,7 +13,7 @@ use Rattle.definitions.specs.Tree.{list_d, tuple_d, dict_d, set_d, tree_set_d, E
 use Rattle.definitions.specs.Tree.{View, as_var, as_attr, as_index, as_tuple, as_other, view, view_display}
 use Rattle.definitions.specs.Measured.{SoFar, measure_expr, measure_copy, measure_target, measure_unpack, measure_assign}
 use Rattle.parts.specs.Places.{Node, count_at, name_end}
-use Rattle.exprs.specs.ExprAt.{expr_at, exprs_at, ExprReads, ExprsRead, TwoAt, second_at, ListAt, list_at, cons_at, var_at, attribute_at, display_at, index_at}
+use Rattle.exprs.specs.ExprAt.{expr_at, exprs_at, ExprReads, ExprsRead, TwoAt, second_at, ListAt, list_at, cons_exprs_at, var_at, attribute_at, display_at, index_at}
 use Rattle.exprs.proofs.ExprViews.{expr-within, view-var, view-attribute, view-tuple, view-index, view-exprs-none, view-exprs-more}
 use Rattle.exprs.proofs.OtherForms.{other-form}
 use Rattle.slots.proofs.Kinded.{form-var, form-attribute, form-tuple, form-index}
@@ -109,7 +109,7 @@ module _ (d : ℕ) (t : List ℕ) (n₀ p₀ n p size copy : ℕ) (l : ElementsL
 
     pub elements-next : (o : Measure) (m j : ℕ) → Sized o (p + 1) (expr_at d t p).end 0 (measure_target (expr_at d t p).value) → m ≡ size + (o.size + copy + 2) → n - 1 ≡ j
         → ElementsLeft d t n₀ p₀ j o.next m 1
-    unfolding cons_at measure_target measure_copy
+    unfolding cons_exprs_at measure_target measure_copy
     elements-next o m j S e c =
         let v = view-exprs-more d n t p h l.reads in
         let i = l.index in

@@ -31,7 +31,7 @@ use Rattle.measure.specs.Known.{names_in}
 use Rattle.measure.specs.Sized.{Sized}
 use Rattle.measure_stmts.specs.declared.begun.Begun.{Begun}
 use Rattle.measure_stmts.specs.Heads.{heads_stmt, heads_block, heads_branches, heads_methods}
-use Rattle.measure_stmts.specs.Walked.{seen, Walks}
+use Rattle.measure_stmts.specs.Walked.{seen, PartMeasured}
 use Rattle.measure_stmts.proofs.Steps.{none-some, some-is, walks-still, walks-as, walks-stopped}
 
 -- ---- the kinds of statement
@@ -47,9 +47,9 @@ module _ (m : Measurer) (a : Begun) (d p : ℕ) (reads : StmtReads d m.scope.tre
   so = seen m a
 
   abbrev Whole : Option Measure → Begun → Type 0
-  Whole r c = Walks r m p (stmt_at d t p).end (measure_stmt names so (stmt_at d t p).value) (heads_stmt (stmt_at d t p).value) (after_stmt (stmt_at d t p).value) a c
+  Whole r c = PartMeasured r m p (stmt_at d t p).end (measure_stmt names so (stmt_at d t p).value) (heads_stmt (stmt_at d t p).value) (after_stmt (stmt_at d t p).value) a c
 
-  by-node : {r : Option Measure} {c : Begun} (y : Node Stmt) {q n heads : ℕ} {after : SoFar → SoFar} → stmt_at d t p ≡ y → Walks r m q y.end n heads after a c
+  by-node : {r : Option Measure} {c : Begun} (y : Node Stmt) {q n heads : ℕ} {after : SoFar → SoFar} → stmt_at d t p ≡ y → PartMeasured r m q y.end n heads after a c
       → n ≡ measure_stmt names so y.value → heads ≡ heads_stmt y.value → after so ≡ after_stmt y.value so → p ≤ q → Whole r c
   by-node y e W f g h l = walks-as W (sym (ap (λ (z : Node Stmt). z.end) e)) (f ∙ sym (ap (λ (z : Node Stmt). measure_stmt names so z.value) e))
       (g ∙ sym (ap (λ (z : Node Stmt). heads_stmt z.value) e)) (h ∙ sym (ap (λ (z : Node Stmt). after_stmt z.value so) e)) l
@@ -115,7 +115,7 @@ module _ (m : Measurer) (a : Begun) (d p : ℕ) (reads : StmtReads d m.scope.tre
 
     module _ {r : Option Measure} {b : Begun} where
       pub stmt-if : k ≡ If
-          → Walks r m (p + 1) (elifs_at (d - 1) t (p + 1)).end
+          → PartMeasured r m (p + 1) (elifs_at (d - 1) t (p + 1)).end
           (measure_expr names so (expr_at (d - 1) t (p + 1)).value + (measure_block names so (body_at (d - 1) t (p + 1)).value + 2)
           + measure_branches names (after_block (body_at (d - 1) t (p + 1)).value so) (elifs_at (d - 1) t (p + 1)).value)
           (heads_block (body_at (d - 1) t (p + 1)).value + heads_branches (elifs_at (d - 1) t (p + 1)).value)
@@ -124,26 +124,26 @@ module _ (m : Measurer) (a : Begun) (d p : ℕ) (reads : StmtReads d m.scope.tre
       stmt-if e W = by-node _ (if-seen e).is W (omega arith) refl refl (omega arith)
 
       pub stmt-while : k ≡ While
-          → Walks r m (p + 1) (body_at (d - 1) t (p + 1)).end (measure_expr names so (expr_at (d - 1) t (p + 1)).value + (measure_block names so (body_at (d - 1) t (p + 1)).value + 2))
+          → PartMeasured r m (p + 1) (body_at (d - 1) t (p + 1)).end (measure_expr names so (expr_at (d - 1) t (p + 1)).value + (measure_block names so (body_at (d - 1) t (p + 1)).value + 2))
           (heads_block (body_at (d - 1) t (p + 1)).value) (after_block (body_at (d - 1) t (p + 1)).value) a b → Whole r b
       unfolding while_at measure_stmt measure_loop heads_stmt after_stmt
       stmt-while e W = by-node _ (while-seen e).is W (omega arith) refl refl (omega arith)
 
       pub stmt-for : k ≡ For
-          → Walks r m (p + 1) (body_at (d - 1) t (name_end t (p + 1))).end
+          → PartMeasured r m (p + 1) (body_at (d - 1) t (name_end t (p + 1))).end
           (measure_for (measure_expr names so (expr_at (d - 1) t (name_end t (p + 1))).value) (measure_block names so (body_at (d - 1) t (name_end t (p + 1))).value))
           (heads_block (body_at (d - 1) t (name_end t (p + 1))).value) (after_block (body_at (d - 1) t (name_end t (p + 1))).value) a b → Whole r b
       unfolding for_at measure_stmt heads_stmt after_stmt
       stmt-for e W = by-node _ (for-seen e).is W refl refl refl (omega arith)
 
       pub stmt-def : k ≡ Def
-          → Walks r m (p + 1) (def_block_at (d - 1) t (p + 1)).end 0 (1 + heads_block (def_block_at (d - 1) t (p + 1)).value)
+          → PartMeasured r m (p + 1) (def_block_at (d - 1) t (p + 1)).end 0 (1 + heads_block (def_block_at (d - 1) t (p + 1)).value)
           (λ s. after_block (def_block_at (d - 1) t (p + 1)).value (add_function (name_at t (p + 1)) s)) a b → Whole r b
       unfolding def_at measure_stmt heads_stmt after_stmt
       stmt-def e W = by-node _ (def-seen e).is W refl refl (ap (λ (x : Name). after_block (def_block_at (d - 1) t (p + 1)).value (add_function x so)) (name-bytes t (p + 1))) (omega arith)
 
       pub stmt-class : k ≡ Class
-          → Walks r m (p + 1) (class_at (d - 1) t (p + 1)).end 2 (1 + heads_methods (class_methods_at (d - 1) t (p + 1)).value)
+          → PartMeasured r m (p + 1) (class_at (d - 1) t (p + 1)).end 2 (1 + heads_methods (class_methods_at (d - 1) t (p + 1)).value)
           (λ s. after_methods (class_methods_at (d - 1) t (p + 1)).value (add_class (name_at t (p + 1)) s)) a b → Whole r b
       unfolding class_at measure_stmt heads_stmt after_stmt
       stmt-class e W =
@@ -163,14 +163,14 @@ module _ (m : Measurer) (a : Begun) (d p : ℕ) (c : Measure) (S : Sized c p (ex
   pub block-reads : BranchAt d tree p → BlockReads d tree c.next
   block-reads R = subst (λ (q : ℕ). BlockReads d tree q) (sym S.next_is) R.block
 
-  module _ {r : Option Measure} {b : Begun} (W : Walks r m (c.next + 2) (block_at d tree c.next).end (measure_block (names_in m) (seen m a) (block_at d tree c.next).value) (heads_block (block_at d tree c.next).value)
+  module _ {r : Option Measure} {b : Begun} (W : PartMeasured r m (c.next + 2) (block_at d tree c.next).end (measure_block (names_in m) (seen m a) (block_at d tree c.next).value) (heads_block (block_at d tree c.next).value)
       (after_block (block_at d tree c.next).value) a b) where
     abbrev Branch : Option Measure → Type 0
-    Branch o = Walks o m p (body_at d tree p).end (measure_expr (names_in m) (seen m a) (expr_at d tree p).value + (measure_block (names_in m) (seen m a) (body_at d tree p).value + 2))
+    Branch o = PartMeasured o m p (body_at d tree p).end (measure_expr (names_in m) (seen m a) (expr_at d tree p).value + (measure_block (names_in m) (seen m a) (body_at d tree p).value + 2))
         (heads_block (body_at d tree p).value) (after_block (body_at d tree p).value) a b
 
-    moved : Walks r m ((expr_at d tree p).end + 2) (body_at d tree p).end (measure_block (names_in m) (seen m a) (body_at d tree p).value) (heads_block (body_at d tree p).value) (after_block (body_at d tree p).value) a b
-    moved = subst (λ (q : ℕ). Walks r m (q + 2) (block_at d tree q).end (measure_block (names_in m) (seen m a) (block_at d tree q).value) (heads_block (block_at d tree q).value) (after_block (block_at d tree q).value) a b)
+    moved : PartMeasured r m ((expr_at d tree p).end + 2) (body_at d tree p).end (measure_block (names_in m) (seen m a) (body_at d tree p).value) (heads_block (body_at d tree p).value) (after_block (body_at d tree p).value) a b
+    moved = subst (λ (q : ℕ). PartMeasured r m (q + 2) (block_at d tree q).end (measure_block (names_in m) (seen m a) (block_at d tree q).value) (heads_block (block_at d tree q).value) (after_block (block_at d tree q).value) a b)
         S.next_is W
 
     pub branch-stopped : {o : Option Measure} → r ≡ None → o ≡ None → Branch o
@@ -202,16 +202,16 @@ module _ (m : Measurer) (a : Begun) (d p q : ℕ) (e : q ≡ name_end m.scope.tr
   for-reads R = subst (λ (z : ℕ). BranchAt d area z) (sym e) R.loop
 
   abbrev For_is : Option Measure → Begun → Type 0
-  For_is o b = Walks o m p (body_at d area (name_end area p)).end
+  For_is o b = PartMeasured o m p (body_at d area (name_end area p)).end
       (measure_for (measure_expr (names_in m) (seen m a) (expr_at d area (name_end area p)).value) (measure_block (names_in m) (seen m a) (body_at d area (name_end area p)).value))
       (heads_block (body_at d area (name_end area p)).value) (after_block (body_at d area (name_end area p)).value) a b
 
-  module _ {r : Option Measure} {b : Begun} (W : Walks r m q (body_at d area q).end (measure_expr (names_in m) (seen m a) (expr_at d area q).value + (measure_block (names_in m) (seen m a) (body_at d area q).value + 2))
+  module _ {r : Option Measure} {b : Begun} (W : PartMeasured r m q (body_at d area q).end (measure_expr (names_in m) (seen m a) (expr_at d area q).value + (measure_block (names_in m) (seen m a) (body_at d area q).value + 2))
       (heads_block (body_at d area q).value) (after_block (body_at d area q).value) a b) where
-    at-name : Walks r m (name_end area p) (body_at d area (name_end area p)).end
+    at-name : PartMeasured r m (name_end area p) (body_at d area (name_end area p)).end
         (measure_expr (names_in m) (seen m a) (expr_at d area (name_end area p)).value + (measure_block (names_in m) (seen m a) (body_at d area (name_end area p)).value + 2))
         (heads_block (body_at d area (name_end area p)).value) (after_block (body_at d area (name_end area p)).value) a b
-    at-name = subst (λ (z : ℕ). Walks r m z (body_at d area z).end (measure_expr (names_in m) (seen m a) (expr_at d area z).value + (measure_block (names_in m) (seen m a) (body_at d area z).value + 2))
+    at-name = subst (λ (z : ℕ). PartMeasured r m z (body_at d area z).end (measure_expr (names_in m) (seen m a) (expr_at d area z).value + (measure_block (names_in m) (seen m a) (body_at d area z).value + 2))
         (heads_block (body_at d area z).value) (after_block (body_at d area z).value) a b) e W
 
     pub for-stopped : {o : Option Measure} → r ≡ None → o ≡ None → For_is o b
@@ -236,14 +236,14 @@ module _ (m : Measurer) (a : Begun) (d p q : ℕ) (e : q ≡ name_end m.scope.tr
 
 -- ---- an if: its first branch, then its elifs
 
-module _ (m : Measurer) (a b : Begun) (d p : ℕ) {r : Option Measure} (W : Walks r m p (body_at d m.scope.tree.now p).end
+module _ (m : Measurer) (a b : Begun) (d p : ℕ) {r : Option Measure} (W : PartMeasured r m p (body_at d m.scope.tree.now p).end
     (measure_expr (names_in m) (seen m a) (expr_at d m.scope.tree.now p).value + (measure_block (names_in m) (seen m a) (body_at d m.scope.tree.now p).value + 2))
     (heads_block (body_at d m.scope.tree.now p).value) (after_block (body_at d m.scope.tree.now p).value) a b) where
   abbrev place : List ℕ
   place = m.scope.tree.now
 
   abbrev If_is : Option Measure → Begun → Type 0
-  If_is o c = Walks o m p (elifs_at d place p).end
+  If_is o c = PartMeasured o m p (elifs_at d place p).end
       (measure_expr (names_in m) (seen m a) (expr_at d place p).value + (measure_block (names_in m) (seen m a) (body_at d place p).value + 2)
       + measure_branches (names_in m) (after_block (body_at d place p).value (seen m a)) (elifs_at d place p).value)
       (heads_block (body_at d place p).value + heads_branches (elifs_at d place p).value)
@@ -266,11 +266,11 @@ module _ (m : Measurer) (a b : Begun) (d p : ℕ) {r : Option Measure} (W : Walk
       pub if-reads : IfAt d place p → BranchesRead d n place (s.next + 2)
       if-reads R = subst (λ (k : ℕ). BranchesRead d k place (s.next + 2)) (sym c) (subst (λ (q : ℕ). BranchesRead d (count_at place q) place (q + 2)) (sym ends) R.rest)
 
-      module _ {q : Option Measure} {f : Begun} (V : Walks q m (s.next + 2) (branches_at d n place (s.next + 2)).end (measure_branches (names_in m) (seen m b) (branches_at d n place (s.next + 2)).value)
+      module _ {q : Option Measure} {f : Begun} (V : PartMeasured q m (s.next + 2) (branches_at d n place (s.next + 2)).end (measure_branches (names_in m) (seen m b) (branches_at d n place (s.next + 2)).value)
           (heads_branches (branches_at d n place (s.next + 2)).value) (after_branches (branches_at d n place (s.next + 2)).value) b f) where
-        rest : Walks q m (s.next + 2) (elifs_at d place p).end (measure_branches (names_in m) (seen m b) (elifs_at d place p).value) (heads_branches (elifs_at d place p).value)
+        rest : PartMeasured q m (s.next + 2) (elifs_at d place p).end (measure_branches (names_in m) (seen m b) (elifs_at d place p).value) (heads_branches (elifs_at d place p).value)
             (after_branches (elifs_at d place p).value) b f
-        rest = subst (λ (x : Node Branches). Walks q m (s.next + 2) x.end (measure_branches (names_in m) (seen m b) x.value) (heads_branches x.value) (after_branches x.value) b f) elifs-are V
+        rest = subst (λ (x : Node Branches). PartMeasured q m (s.next + 2) x.end (measure_branches (names_in m) (seen m b) x.value) (heads_branches x.value) (after_branches x.value) b f) elifs-are V
 
         pub if-over : {o : Option Measure} → q ≡ None → o ≡ None → If_is o f
         if-over i j = walks-stopped j (omega (arith, rest.over i, W.count s e))

@@ -9,7 +9,7 @@ ghost use Rattle.tree.specs.StmtAt.{BranchAt, body_at, IfAt, elifs_at, ForAt, De
 ghost use Rattle.state.specs.Words.{name_at};
 ghost use Rattle.measure.specs.Known.{names_in};
 ghost use Rattle.measure_stmts.specs.Heads.{heads_stmt, heads_block, heads_branches, heads_methods};
-ghost use Rattle.measure_stmts.specs.Walked.{seen, Walks};
+ghost use Rattle.measure_stmts.specs.Walked.{seen, PartMeasured};
 
 use crate::begun::Begun;
 use crate::notes::{knowing, note_class, note_function};
@@ -35,7 +35,7 @@ const CLASS_SIZE: u32 = 2;
 fn measure_stmt(m: Measurer<'_>, begun: &mut Begun, at: usize, depth: u32) -> Option<Measure>
     requires { StmtReads depth m.scope.tree.now at }
     ensures { let s = stmt_at depth m.entry.scope.tree.now at in
-        Walks result m.entry at s.end (measure_stmt (names_in m.entry) (seen m.entry begun.old) s.value) (heads_stmt s.value) (after_stmt s.value) begun.old begun.new }
+        PartMeasured result m.entry at s.end (measure_stmt (names_in m.entry) (seen m.entry begun.old) s.value) (heads_stmt s.value) (after_stmt s.value) begun.old begun.new }
 {
     let a = at + 1;
     let below = depth - 1;
@@ -60,7 +60,7 @@ fn measure_stmt(m: Measurer<'_>, begun: &mut Begun, at: usize, depth: u32) -> Op
 pub fn measure_block(m: Measurer<'_>, begun: &mut Begun, at: usize, depth: u32) -> Option<Measure>
     requires { BlockReads depth m.scope.tree.now at }
     ensures { let b = block_at depth m.entry.scope.tree.now at in
-        Walks result m.entry (at + 2) b.end (measure_block (names_in m.entry) (seen m.entry begun.old) b.value) (heads_block b.value) (after_block b.value) begun.old begun.new }
+        PartMeasured result m.entry (at + 2) b.end (measure_block (names_in m.entry) (seen m.entry begun.old) b.value) (heads_block b.value) (after_block b.value) begun.old begun.new }
 {
     let count = u16_at(m.scope.tree, at);
     let mut next = at + 2;
@@ -78,7 +78,7 @@ pub fn measure_block(m: Measurer<'_>, begun: &mut Begun, at: usize, depth: u32) 
 pub fn measure_branch(m: Measurer<'_>, begun: &mut Begun, at: usize, depth: u32) -> Option<Measure>
     requires { BranchAt depth m.scope.tree.now at }
     ensures { let t = m.entry.scope.tree.now in let k = seen m.entry begun.old in let b = body_at depth t at in
-        Walks result m.entry at b.end (measure_expr (names_in m.entry) k (expr_at depth t at).value + (measure_block (names_in m.entry) k b.value + 2))
+        PartMeasured result m.entry at b.end (measure_expr (names_in m.entry) k (expr_at depth t at).value + (measure_block (names_in m.entry) k b.value + 2))
         (heads_block b.value) (after_block b.value) begun.old begun.new }
 {
     let condition = knowing(m, begun).expr(at, depth);
@@ -95,7 +95,7 @@ fn measure_if(m: Measurer<'_>, begun: &mut Begun, at: usize, depth: u32) -> Opti
     requires { IfAt depth m.scope.tree.now at }
     ensures { let t = m.entry.scope.tree.now in let k = seen m.entry begun.old in let names = names_in m.entry in
         let b = (body_at depth t at).value in let r = (elifs_at depth t at).value in
-        Walks result m.entry at (elifs_at depth t at).end
+        PartMeasured result m.entry at (elifs_at depth t at).end
         (measure_expr names k (expr_at depth t at).value + (measure_block names k b + 2) + measure_branches names (after_block b k) r)
         (heads_block b + heads_branches r) (λ s. after_branches r (after_block b s)) begun.old begun.new }
 {
@@ -119,7 +119,7 @@ fn measure_elifs(
 ) -> Option<Measure>
     requires { BranchesRead depth count m.scope.tree.now at }
     ensures { let r = branches_at depth count m.entry.scope.tree.now at in
-        Walks result m.entry at r.end (measure_branches (names_in m.entry) (seen m.entry begun.old) r.value) (heads_branches r.value) (after_branches r.value) begun.old begun.new }
+        PartMeasured result m.entry at r.end (measure_branches (names_in m.entry) (seen m.entry begun.old) r.value) (heads_branches r.value) (after_branches r.value) begun.old begun.new }
 {
     let mut next = at;
     let mut size = 0u32;
@@ -140,7 +140,7 @@ fn measure_elifs(
 fn measure_else(m: Measurer<'_>, begun: &mut Begun, at: usize, depth: u32) -> Option<Measure>
     requires { BranchesRead depth 0 m.scope.tree.now at }
     ensures { let r = branches_at depth 0 m.entry.scope.tree.now at in
-        Walks result m.entry at r.end (measure_branches (names_in m.entry) (seen m.entry begun.old) r.value) (heads_branches r.value) (after_branches r.value) begun.old begun.new }
+        PartMeasured result m.entry at r.end (measure_branches (names_in m.entry) (seen m.entry begun.old) r.value) (heads_branches r.value) (after_branches r.value) begun.old begun.new }
 {
     if m.scope.tree[at] == 0 {
         return Some(Measure {
@@ -156,7 +156,7 @@ fn measure_else(m: Measurer<'_>, begun: &mut Begun, at: usize, depth: u32) -> Op
 fn measure_for(m: Measurer<'_>, begun: &mut Begun, at: usize, depth: u32) -> Option<Measure>
     requires { ForAt depth m.scope.tree.now at }
     ensures { let t = m.entry.scope.tree.now in let k = seen m.entry begun.old in let start = name_end t at in let b = body_at depth t start in
-        Walks result m.entry at b.end (measure_for (measure_expr (names_in m.entry) k (expr_at depth t start).value) (measure_block (names_in m.entry) k b.value))
+        PartMeasured result m.entry at b.end (measure_for (measure_expr (names_in m.entry) k (expr_at depth t start).value) (measure_block (names_in m.entry) k b.value))
         (heads_block b.value) (after_block b.value) begun.old begun.new }
 {
     let start = name_end(m.scope.tree, at);
@@ -172,7 +172,7 @@ fn measure_for(m: Measurer<'_>, begun: &mut Begun, at: usize, depth: u32) -> Opt
 fn measure_def(m: Measurer<'_>, begun: &mut Begun, at: usize, depth: u32) -> Option<Measure>
     requires { DefAt depth m.scope.tree.now at }
     ensures { let t = m.entry.scope.tree.now in let b = def_block_at depth t at in
-        Walks result m.entry at b.end 0 (1 + heads_block b.value) (λ s. after_block b.value (add_function (name_at t at) s)) begun.old begun.new }
+        PartMeasured result m.entry at b.end 0 (1 + heads_block b.value) (λ s. after_block b.value (add_function (name_at t at) s)) begun.old begun.new }
 {
     note_function(begun, at)?;
     let params = name_end(m.scope.tree, at);
@@ -195,7 +195,7 @@ fn measure_methods(
 ) -> Option<Measure>
     requires { MethodsRead depth count m.scope.tree.now at }
     ensures { let ms = methods_at depth count m.entry.scope.tree.now at in
-        Walks result m.entry at ms.end 0 (heads_methods ms.value) (after_methods ms.value) begun.old begun.new }
+        PartMeasured result m.entry at ms.end 0 (heads_methods ms.value) (after_methods ms.value) begun.old begun.new }
 {
     let mut next = at;
     for _ in 0..count {
@@ -216,7 +216,7 @@ fn measure_class(
 ) -> Option<Measure>
     requires { ClassAt depth m.scope.tree.now at × (next ≡ (class_at depth m.scope.tree.now at).end) }
     ensures { let t = m.entry.scope.tree.now in let ms = (class_methods_at depth t at).value in
-        Walks result m.entry at (class_at depth t at).end 2 (1 + heads_methods ms) (λ s. after_methods ms (add_class (name_at t at) s)) begun.old begun.new }
+        PartMeasured result m.entry at (class_at depth t at).end 2 (1 + heads_methods ms) (λ s. after_methods ms (add_class (name_at t at) s)) begun.old begun.new }
 {
     note_class(begun, at)?;
     let start = name_end(m.scope.tree, at);

@@ -14,7 +14,7 @@ use Rattle.definitions.specs.Instruction.{Instr, instr, ConstI64, Row, no_row, i
 use Rattle.definitions.specs.Reader.{is_jump}
 use Rattle.definitions.proofs.Rows.{jump-is}
 use Rattle.definitions.proofs.Truth.{left, right, at_most}
-use Rattle.state.specs.Words.{op_of, first_of, second_of, widened, operand_of, number_at, instr_of}
+use Rattle.state.specs.Words.{op_of, first_of, second_of, widened, operand_read, big_endian_at, instr_of}
 use Rattle.widths.proofs.Laws.{no-operands}
 use Rattle.writing.specs.Wrote.{Wrote}
 use Rattle.writing.proofs.Begun.{joined, Begun, begun_first, wrote-byte}
@@ -58,37 +58,37 @@ module _ (t : List ℕ) (w : ℕ) where
   unfolding instr_of
   of-small e = rw (eq-eqb (w / 2 ^ 24) 48 e, instr_of)
 
-  pub of_other : (w / 2 ^ 24 ≡ 48 → ⊥) → instr_of t w ≡ instr (op_of w) (operand_of t (op_of w) (first_of w)) (second_of w)
+  pub of_other : (w / 2 ^ 24 ≡ 48 → ⊥) → instr_of t w ≡ instr (op_of w) (operand_read t (op_of w) (first_of w)) (second_of w)
   unfolding instr_of
   of_other n = rw (ne_eqb (w / 2 ^ 24) 48 n, instr_of)
 
 module _ (t : List ℕ) (op a : ℕ) where
-  operand-eight : op < 2 → operand_of t op a ≡ number_at 8 t a
-  unfolding operand_of
+  operand-eight : op < 2 → operand_read t op a ≡ big_endian_at 8 t a
+  unfolding operand_read
   operand-eight h = go op h
     where
-      go : (o : ℕ) → o < 2 → operand_of t o a ≡ number_at 8 t a
+      go : (o : ℕ) → o < 2 → operand_read t o a ≡ big_endian_at 8 t a
       go zero h = refl
       go (suc zero) h = refl
       go (suc (suc o)) h = absurd (omega arith)
 
-  plain : 2 ≤ op → is_jump op ≡ false → operand_of t op a ≡ a
-  unfolding operand_of
-  plain h j = rw (ne_eqb op 0 (λ e. omega arith), operand_of) (rw (ne_eqb op 1 (λ e. omega arith)) (rw j))
+  plain : 2 ≤ op → is_jump op ≡ false → operand_read t op a ≡ a
+  unfolding operand_read
+  plain h j = rw (ne_eqb op 0 (λ e. omega arith), operand_read) (rw (ne_eqb op 1 (λ e. omega arith)) (rw j))
 
-  operand_low : 2 ≤ op → op < 28 → operand_of t op a ≡ a
+  operand_low : 2 ≤ op → op < 28 → operand_read t op a ≡ a
   operand_low h k = plain h (rw (jump-is op, lt-leb 28 op k))
 
-  pub operand-high : 30 < op → operand_of t op a ≡ a
+  pub operand-high : 30 < op → operand_read t op a ≡ a
   operand-high k = plain (omega arith) (rw (jump-is op, le-leb 28 op (omega arith)) (lt-leb op 30 k))
 
-  operand-jump : 28 ≤ op → op ≤ 30 → operand_of t op a ≡ widened a
-  unfolding operand_of
-  operand-jump h k = rw (ne_eqb op 0 (λ e. omega arith), operand_of) (rw (ne_eqb op 1 (λ e. omega arith)) (rw (jump-is op) (rw (le-leb 28 op h, le-leb op 30 k))))
+  operand-jump : 28 ≤ op → op ≤ 30 → operand_read t op a ≡ widened a
+  unfolding operand_read
+  operand-jump h k = rw (ne_eqb op 0 (λ e. omega arith), operand_read) (rw (ne_eqb op 1 (λ e. omega arith)) (rw (jump-is op) (rw (le-leb 28 op h, le-leb op 30 k))))
 
 -- the first operand of a word that is no small integer
 module _ (t : List ℕ) (w : ℕ) where
-  first-of : (n : ℕ) → (w / 2 ^ 24 ≡ 48 → ⊥) → operand_of t (op_of w) (first_of w) ≡ n → (instr_of t w).a ≡ n
+  first-of : (n : ℕ) → (w / 2 ^ 24 ≡ 48 → ⊥) → operand_read t (op_of w) (first_of w) ≡ n → (instr_of t w).a ≡ n
   first-of n h e = ap (λ (i : Instr). i.a) (of_other t w h) ∙ e
 
   pub first-low : 33554432 ≤ w → w / 16777216 < 28 → (instr_of t w).a ≡ w / 256 % 65536
@@ -150,11 +150,11 @@ place-bytes (suc (suc op)) a b h = absurd (omega arith)
 
 -- the opcode of a word whose operand is a place in the tree is written
 pub begun-place : (t xs : List ℕ) (w : ℕ) → w < 33554432 → length (encode (instr_of t w)) ≤ length xs →
-    Begun (encode (instr_of t w)) xs 1 (set xs 0 (w / 16777216)) (be 8 (number_at 8 t (w / 256 % 65536)) ∷ [])
+    Begun (encode (instr_of t w)) xs 1 (set xs 0 (w / 16777216)) (be 8 (big_endian_at 8 t (w / 256 % 65536)) ∷ [])
 begun-place t xs w s h =
     let l = length-encode (instr_of t w) in
     let o : w / 2 ^ 24 < 2 = omega arith in
     begun_first
-    (ap encode (of_other t w (λ e. omega arith)) ∙ place-bytes (op_of w) (operand_of t (op_of w) (first_of w)) (second_of w) o
+    (ap encode (of_other t w (λ e. omega arith)) ∙ place-bytes (op_of w) (operand_read t (op_of w) (first_of w)) (second_of w) o
     ∙ ap (λ (n : ℕ). (op_of w ∷ []) ++ joined (be 8 n ∷ [])) (operand-eight t (op_of w) (first_of w) o))
     h (wrote-byte (w / 16777216) xs (omega arith))

@@ -10,8 +10,8 @@ use Rattle.std.proofs.lemmas.List.{get_or-map}
 use Rattle.definitions.specs.Bytes.{Name, Text, be}
 use Rattle.definitions.specs.Module.{name_bytes, text_bytes, method_bytes}
 use Rattle.definitions.proofs.BytesWritten.{length-be}
-use Rattle.state.specs.Words.{name_at, text_at, number_at}
-use Rattle.state.specs.State.{spelled, method_of}
+use Rattle.state.specs.Words.{name_at, text_at, big_endian_at}
+use Rattle.state.specs.State.{spelled, method_from}
 use Rattle.writing.proofs.Begun.{joined}
 
 -- each element is a byte
@@ -24,7 +24,7 @@ unfolding name_at
 name-short t p b = simp length-take (omega (arith, b p))
 
 pub text-short : (t : List ℕ) (p : ℕ) → Small t → length (text_at t p) ≤ 65535
-unfolding text_at number_at
+unfolding text_at big_endian_at
 text-short t p b = simp length-take (omega (arith, b p, b (p + 1)))
 
 pub spelled-short : (t m : List ℕ) (w : ℕ) → Small t → Small m → length (spelled t m w) ≤ 255
@@ -63,16 +63,16 @@ module _ {x : List ℕ} (ws : List ℕ) (i : ℕ) where
     unfolding text_bytes
     worded l = element (λ (w : ℕ). text_bytes (g w)) ws i l ∙ ap (λ (z : List ℕ). be 2 (length z) ++ z) (sym e)
 
-  pub method-pieces : (tree : List ℕ) → x ≡ name_at tree (get_or ws i 0 / 256) → i < length (map (λ (w : ℕ). method_bytes (method_of tree w)) ws) →
-      get_or (map (λ (w : ℕ). method_bytes (method_of tree w)) ws) i [] ≡ (be 1 (length x) ++ x) ++ joined (be 2 (get_or ws i 0 % 256) ∷ [])
-  unfolding method_bytes method_of name_bytes joined
+  pub method-pieces : (tree : List ℕ) → x ≡ name_at tree (get_or ws i 0 / 256) → i < length (map (λ (w : ℕ). method_bytes (method_from tree w)) ws) →
+      get_or (map (λ (w : ℕ). method_bytes (method_from tree w)) ws) i [] ≡ (be 1 (length x) ++ x) ++ joined (be 2 (get_or ws i 0 % 256) ∷ [])
+  unfolding method_bytes method_from name_bytes joined
   method-pieces tree e l =
-      element (λ (w : ℕ). method_bytes (method_of tree w)) ws i l
+      element (λ (w : ℕ). method_bytes (method_from tree w)) ws i l
       ∙ ap (λ (z : List ℕ). (be 1 (length z) ++ z) ++ be 2 (get_or ws i 0 % 256)) (sym e)
       ∙ ap (λ (z : List ℕ). (be 1 (length x) ++ x) ++ z) (sym (append-nil (be 2 (get_or ws i 0 % 256))))
 
-  pub length-method : (tree : List ℕ) → x ≡ name_at tree (get_or ws i 0 / 256) → i < length (map (λ (w : ℕ). method_bytes (method_of tree w)) ws) →
-      3 + length x ≡ length (get_or (map (λ (w : ℕ). method_bytes (method_of tree w)) ws) i [])
+  pub length-method : (tree : List ℕ) → x ≡ name_at tree (get_or ws i 0 / 256) → i < length (map (λ (w : ℕ). method_bytes (method_from tree w)) ws) →
+      3 + length x ≡ length (get_or (map (λ (w : ℕ). method_bytes (method_from tree w)) ws) i [])
   unfolding joined
   length-method tree e l =
       let r : length ((be 1 (length x) ++ x) ++ joined (be 2 (get_or ws i 0 % 256) ∷ [])) ≡ 3 + length x = simp (length-append, length-be) (omega arith) in

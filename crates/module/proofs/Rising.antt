@@ -9,18 +9,20 @@ use lib.Dec.{eqb, leb}
 use lib.ListN.{length, get_or, drop, drop_of_length-le}
 use lib.Seq.{drop-cons}
 use borrow.Author.Tests.{ne_eqb, eqb-true, eqb-false, leb-true, leb-false}
-use Rattle.definitions.specs.Instruction.{Instr, instr, instruction_table, row_of, Flow, flow}
+use Rattle.definitions.specs.Instruction.{Instr, instr, instruction_table, row_of, Flow, straight, jump, returns, question, flow}
 use Rattle.definitions.specs.Stack.{pops, pushes, height_after, following, tallest, height_number}
-use Rattle.definitions.proofs.Flows.{flow-jump, flow-returns}
+use Rattle.definitions.proofs.Flows.{flow-jump}
 use Rattle.definitions.proofs.Rows.{chosen, flow-is}
-use Rattle.state.specs.Words.{op_of, first_of, second_of, operand_of, instr_of, instrs_of}
+use Rattle.definitions.proofs.Truth.{true-false}
+use Rattle.state.specs.Words.{op_of, first_of, second_of, operand_read, instr_of, instrs_of}
+use Rattle.widths.specs.Turns.{turn}
 use Rattle.widths.proofs.StackLaws.{has_each, first-pops-none}
 use Rattle.module.proofs.Encoding.{of-small, of_other, operand-high}
 
 -- ---- one word
 
 -- an operand that counts stands in the word
-first-counts : (t : List ℕ) (op a : ℕ) → (row_of op).pops.per_first * operand_of t op a ≡ (row_of op).pops.per_first * a
+first-counts : (t : List ℕ) (op a : ℕ) → (row_of op).pops.per_first * operand_read t op a ≡ (row_of op).pops.per_first * a
 unfolding has_each
 first-counts t op a = go (leb op 30) refl
   where
@@ -28,11 +30,11 @@ first-counts t op a = go (leb op 30) refl
     none h =
         simp (ne_eqb op 34 (λ e. omega arith), ne_eqb op 38 (λ e. omega arith), ne_eqb op 39 (λ e. omega arith), ne_eqb op 40 (λ e. omega arith), ne_eqb op 41 (λ e. omega arith), ne_eqb op 42 (λ e. omega arith))
 
-    go : (b : Bool) → leb op 30 ≡ b → (row_of op).pops.per_first * operand_of t op a ≡ (row_of op).pops.per_first * a
+    go : (b : Bool) → leb op 30 ≡ b → (row_of op).pops.per_first * operand_read t op a ≡ (row_of op).pops.per_first * a
     go true e =
         let z = sym (first-pops-none op (none (leb-true op 30 e))) in
-        let x : 0 * operand_of t op a ≡ 0 * a = omega arith in
-        ap (λ (k : ℕ). k * operand_of t op a) z ∙ x ∙ sym (ap (λ (k : ℕ). k * a) z)
+        let x : 0 * operand_read t op a ≡ 0 * a = omega arith in
+        ap (λ (k : ℕ). k * operand_read t op a) z ∙ x ∙ sym (ap (λ (k : ℕ). k * a) z)
     go false e = ap (λ (x : ℕ). (row_of op).pops.per_first * x) (operand-high t op a (leb-false op 30 e))
 
 module _ (t : List ℕ) (w : ℕ) where
@@ -57,7 +59,7 @@ module _ (t : List ℕ) (w : ℕ) where
 
 -- ---- the next place
 
-module _ (i : Instr) {op : ℕ} (h : ℕ) {left : ℕ} (e : op ≡ i.op) (l : left ≡ height_after i h) where
+module _ (i : Instr) {op : ℕ} (h : ℕ) (e : op ≡ i.op) where
   pub next-zero : op ≡ 28 → h ≡ 0 → 0 ≡ following (flow i.op) i h
   unfolding following
   next-zero j z = (let y : 0 ≡ h - 1 = omega arith in y) ∙ sym (ap (λ (f : Flow). following f i h) (flow-jump i.op (sym e ∙ j)))
@@ -66,21 +68,29 @@ module _ (i : Instr) {op : ℕ} (h : ℕ) {left : ℕ} (e : op ≡ i.op) (l : le
   unfolding following
   next-jump j = sym (ap (λ (f : Flow). following f i h) (flow-jump i.op (sym e ∙ j)))
 
-  pub next-return : op ≡ 33 → 0 ≡ following (flow i.op) i h
-  unfolding following
-  next-return j = sym (ap (λ (f : Flow). following f i h) (flow-returns i.op (sym e ∙ j)))
-
-  pub next-left : (op ≡ 28 → ⊥) → (op ≡ 33 → ⊥) → left ≡ following (flow i.op) i h
-  unfolding following chosen
-  next-left j r =
-      l ∙ go (eqb i.op 29) (eqb i.op 30)
-      ∙ sym (ap (λ (f : Flow). following f i h) (flow-is i.op
-      ∙ ap₂ (λ (a d : Bool). chosen a (eqb i.op 29) (eqb i.op 30) d) (ne_eqb i.op 28 (λ k. j (e ∙ k))) (ne_eqb i.op 33 (λ k. r (e ∙ k)))))
+  pub next-return : eqb (turn (flow i.op)) 0 ≡ false → (op ≡ 28 → ⊥) → 0 ≡ following (flow i.op) i h
+  unfolding following chosen turn
+  next-return o j =
+      let f : flow i.op ≡ chosen false (eqb i.op 29) (eqb i.op 30) (eqb i.op 33) =
+      flow-is i.op ∙ ap (λ (a : Bool). chosen a (eqb i.op 29) (eqb i.op 30) (eqb i.op 33)) (ne_eqb i.op 28 (λ k. j (e ∙ k))) in
+      go (eqb i.op 29) (eqb i.op 30) (eqb i.op 33) (ap (λ (x : Flow). eqb (turn x) 0) (sym f) ∙ o) ∙ sym (ap (λ (x : Flow). following x i h) f)
     where
-      go : (b c : Bool) → height_after i h ≡ following (chosen false b c false) i h
-      go true c = refl
-      go false true = refl
-      go false false = refl
+      go : (b c d : Bool) → eqb (turn (chosen false b c d)) 0 ≡ false → 0 ≡ following (chosen false b c d) i h
+      go true c d o = true-false refl o
+      go false true d o = true-false refl o
+      go false false true o = refl
+      go false false false o = true-false refl o
+
+-- where the next place is met at the height left
+pub next-onward : (i : Instr) (h : ℕ) → eqb (turn (flow i.op)) 0 ≡ true → height_after i h ≡ following (flow i.op) i h
+unfolding following turn
+next-onward i h o = go (flow i.op) o
+  where
+    go : (f : Flow) → eqb (turn f) 0 ≡ true → height_after i h ≡ following f i h
+    go straight o = refl
+    go jump o = true-false o refl
+    go returns o = true-false o refl
+    go (question b) o = refl
 
 -- ---- all words
 

@@ -8,8 +8,8 @@ use Rattle.state.specs.State.{strings_from, heads_from, codes_from, class_names_
 use Rattle.state.specs.declared.Counts.{Counts}
 
 -- a list whose elements have these bytes: their count in two bytes, then each one's
-unfoldable pub counted : List (List ℕ) → List ℕ
-counted ps = list_bytes 2 (λ (p : List ℕ). p) ps
+unfoldable pub counted_list : List (List ℕ) → List ℕ
+counted_list ps = list_bytes 2 (λ (p : List ℕ). p) ps
 
 -- symbols and strings, by their entries
 unfoldable pub symbol_bytes : List ℕ → List ℕ → List ℕ → List ℕ

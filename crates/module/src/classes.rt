@@ -3,7 +3,7 @@ ghost use Rattle.std.specs.Prelude.{ℕ, ◌≡◌, ◌/◌, ◌%◌, ◌<◌, l
 ghost use Rattle.definitions.specs.Bytes.{be};
 ghost use Rattle.definitions.specs.Module.{method_bytes, class_bytes};
 ghost use Rattle.state.specs.Words.{region};
-ghost use Rattle.state.specs.State.{method_of, classes_of};
+ghost use Rattle.state.specs.State.{method_from, classes_of};
 
 use crate::functions::placed;
 use crate::list::{Listed, list_size, write_list};
@@ -19,7 +19,7 @@ pub(crate) struct Methods<'a> {
 }
 
 impl Listed for Methods<'_> {
-    ghost elements = { λ s. map (λ w. method_bytes (method_of s.tree.now w)) s.words.now };
+    ghost elements = { λ s. map (λ w. method_bytes (method_from s.tree.now w)) s.words.now };
 
     fn count(&self) -> usize {
         self.words.len()

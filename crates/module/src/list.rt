@@ -1,7 +1,7 @@
 // Lists: the count of their elements in two bytes, then the bytes of each.
 ghost use Rattle.std.specs.Prelude.{◌≡◌, ◌≤◌, ◌<◌, ◌^◌, List, [], ℕ, length, get_or};
 ghost use Rattle.writing.specs.Wrote.{Wrote};
-ghost use Rattle.module.specs.Sections.{counted};
+ghost use Rattle.module.specs.Sections.{counted_list};
 
 use writing::numbers::write_number;
 
@@ -26,8 +26,8 @@ pub(crate) trait Listed {
 
 // The bytes of a list.
 pub(crate) fn list_size<L: Listed>(list: &L) -> usize
-    requires { length (counted (L.elements list.now)) < 2 ^ 63 }
-    ensures { result ≡ length (counted (L.elements list.now)) }
+    requires { length (counted_list (L.elements list.now)) < 2 ^ 63 }
+    ensures { result ≡ length (counted_list (L.elements list.now)) }
 {
     let mut size = COUNT_BYTES;
     for i in 0..list.count() {
@@ -37,8 +37,8 @@ pub(crate) fn list_size<L: Listed>(list: &L) -> usize
 }
 
 pub(crate) fn write_list<L: Listed>(list: &L, out: &mut [u8]) -> usize
-    requires { length (counted (L.elements list.now)) ≤ length out.old }
-    ensures { Wrote result (counted (L.elements list.now)) out.old out.new }
+    requires { length (counted_list (L.elements list.now)) ≤ length out.old }
+    ensures { Wrote result (counted_list (L.elements list.now)) out.old out.new }
 {
     let n = list.count();
     let mut at = write_number(COUNT_BYTES, n as u64, out);

@@ -3,8 +3,8 @@
 ghost use Rattle.std.specs.Prelude.{◌≡◌, List, ℕ, ◌≤◌, ◌<◌, ◌^◌, length};
 ghost use Rattle.definitions.specs.Bytes.{be};
 ghost use Rattle.definitions.specs.Instruction.{encode};
-ghost use Rattle.exprs.specs.Literals.{Plain, bits_of};
-ghost use Rattle.state.specs.Words.{number_at, first_of, instr_of};
+ghost use Rattle.exprs.specs.Literals.{PlainLiteral, bits_of};
+ghost use Rattle.state.specs.Words.{big_endian_at, first_of, instr_of};
 ghost use Rattle.state.specs.Words as Words;
 ghost use Rattle.writing.specs.Wrote.{Wrote};
 
@@ -28,7 +28,7 @@ pub(crate) fn opcode(w: u32) -> usize
 // The big-endian number of eight bytes at `at`, 0 for those past the end.
 fn eight_at(bytes: &[u8], at: usize) -> u64
     requires { at < 2 ^ 32 }
-    ensures { result ≡ number_at 8 bytes.now at }
+    ensures { result ≡ big_endian_at 8 bytes.now at }
 {
     u64::from_be_bytes([
         byte(bytes, at),
@@ -44,7 +44,7 @@ fn eight_at(bytes: &[u8], at: usize) -> u64
 
 // The literal whose eight bytes stand at the place that the word has: of the opcode 0 an integer, else a float.
 fn literal_of(tree: &[u8], w: u32) -> Literal
-    ensures { Plain result × (bits_of result ≡ number_at 8 tree.now (first_of w)) }
+    ensures { PlainLiteral result × (bits_of result ≡ big_endian_at 8 tree.now (first_of w)) }
 {
     let bits = eight_at(tree, (w / WORD_FIRST % UPPER) as usize);
     if w < WORD_OP {
@@ -58,7 +58,7 @@ fn literal_of(tree: &[u8], w: u32) -> Literal
 // call, as each is lent other bytes of the output, so it is no plainer.
 fn write_literal(tree: &[u8], w: u32, out: &mut [u8]) -> usize
     requires { 8 ≤ length out.old }
-    ensures { Wrote result (be 8 (number_at 8 tree.now (first_of w))) out.old out.new }
+    ensures { Wrote result (be 8 (big_endian_at 8 tree.now (first_of w))) out.old out.new }
 {
     let x = literal_of(tree, w);
     write_number(8, literal_bits(x), out)

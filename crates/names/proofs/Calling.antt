@@ -17,7 +17,7 @@ use Rattle.definitions.specs.Tables.{Function, Class, Tables}
 use Rattle.definitions.specs.Builtins.{Builtin, registry, builtin_in, builtin}
 use Rattle.definitions.specs.Lower.{Callee, builtin_callee, function_callee, value_callee, resolve_function, resolve}
 use Rattle.state.specs.Words.{region, name_at}
-use Rattle.state.specs.State.{heads_from, codes_from, class_names_from, class_methods_from, methods_from, done_from, spelled, names_at, functions_of, function_of, classes_of, class_of}
+use Rattle.state.specs.State.{heads_from, codes_from, class_names_from, class_methods_from, methods_from, done_from, spelled, names_at, functions_of, function_from, classes_of, class_of}
 use Rattle.state.specs.State.{tables_of, state_of, Sound}
 use Rattle.state.specs.declared.Counts.{Counts}
 use Rattle.state.specs.declared.Limits.{Limits}
@@ -82,11 +82,11 @@ classes-place x tree ms (w ∷ ws) (k ∷ ks) e =
 
 pub functions-place : (k : ℕ) (tree fin hs ks : List ℕ) → length hs ≡ length ks
     → position (λ (f : Function). eqb k f.symbol) (functions_of tree fin hs ks) ≡ position (λ h. eqb k (h / 2 ^ 16)) hs
-unfolding functions_of function_of position
+unfolding functions_of function_from position
 functions-place k tree fin [] ks e = refl
 functions-place k tree fin (h ∷ hs) [] e = absurd (omega arith)
 functions-place k tree fin (h ∷ hs) (w ∷ ks) e =
-    position-cons (λ (f : Function). eqb k f.symbol) (function_of tree fin h w) (functions_of tree fin hs ks)
+    position-cons (λ (f : Function). eqb k f.symbol) (function_from tree fin h w) (functions_of tree fin hs ks)
     ∙ ap (step (eqb k (h / 2 ^ 16))) (functions-place k tree fin hs ks (omega arith)) ∙ sym (position-cons (λ h. eqb k (h / 2 ^ 16)) h hs)
 
 -- ---- what a call by name calls

@@ -12,7 +12,7 @@ use borrow.Author.Tests.{eqb-true, eqb-false, ltb-true, ltb-false, lt-ltb}
 use Rattle.definitions.specs.Bytes.{Name, same, position}
 use Rattle.definitions.proofs.Resolve.{position-lt}
 use Rattle.state.specs.Words.{name_at}
-use Rattle.state.specs.Index.{hash_of, bucket_of, Covered, none_covered, covered, start_of}
+use Rattle.state.specs.Index.{hash_of, bucket_of, Covered, none_covered, covered, seek_from}
 use Rattle.state.specs.State.{names_at, slots_from, slot_names, Slots}
 use Rattle.names.specs.Sought.{shifted, sought_from}
 use Rattle.names.proofs.Finding.{step, position-cons, shifted-zero, step_shifted, names-length}
@@ -48,8 +48,8 @@ module _ (size : ℕ) (bs : List ℕ) (x : Name) where
           absurd (h 0 (omega arith) a (omega arith))
       go false f r = place-other x y ys f ∙ ap (step false) r ∙ step_shifted s (position (same x) (drop s ys))
 
-  start-passes : (k n : ℕ) (xs : List Name) → Covered size bs 0 xs → length xs ≡ n → bucket ≡ k → (start_of k n ≤ n) × ((m : ℕ) → m < start_of k n → 0 < bucket → bucket ≤ 0 + m + 1 → ⊥)
-  unfolding start_of
+  start-passes : (k n : ℕ) (xs : List Name) → Covered size bs 0 xs → length xs ≡ n → bucket ≡ k → (seek_from k n ≤ n) × ((m : ℕ) → m < seek_from k n → 0 < bucket → bucket ≤ 0 + m + 1 → ⊥)
+  unfolding seek_from
   start-passes zero n xs v l e = (omega arith, λ m h a b. omega arith)
   start-passes (suc k) n xs v l e = go (ltb k n) refl
     where
@@ -59,7 +59,7 @@ module _ (size : ℕ) (bs : List ℕ) (x : Name) where
 
   pub sought-found : (k : ℕ) (xs : List Name) → bucket ≡ k → Covered size bs 0 xs → sought_from k x xs ≡ position (same x) xs
   unfolding sought_from
-  sought-found k xs e v = let s = start-passes k (length xs) xs v refl e in sym (passed_over (start_of k (length xs)) 0 xs v s.1 s.0)
+  sought-found k xs e v = let s = start-passes k (length xs) xs v refl e in sym (passed_over (seek_from k (length xs)) 0 xs v s.1 s.0)
 
 -- ---- the search of the code
 
@@ -69,13 +69,13 @@ map-drop f (suc n) [] = refl
 map-drop f (suc n) (x ∷ xs) = map-drop f n xs
 
 -- among the places from s on
-pub sought-at : (t ps : List ℕ) (k s : ℕ) (x : Name) (o : Option ℕ) → s ≡ start_of k (length ps) → o ≡ position (same x) (names_at t (take (length ps - s) (drop s ps))) → shifted s o ≡ sought_from k x (names_at t ps)
+pub sought-at : (t ps : List ℕ) (k s : ℕ) (x : Name) (o : Option ℕ) → s ≡ seek_from k (length ps) → o ≡ position (same x) (names_at t (take (length ps - s) (drop s ps))) → shifted s o ≡ sought_from k x (names_at t ps)
 unfolding sought_from names_at
 sought-at t ps k s x o e f =
     let r : o ≡ position (same x) (drop s (names_at t ps)) = f
     ∙ ap (λ (w : List ℕ). position (same x) (names_at t w)) (take_all (length ps - s) (drop s ps) (omega (arith, length-drop s ps)))
     ∙ ap (position (same x)) (map-drop (name_at t) s ps) in
-    ap (shifted s) r ∙ ap (λ (j : ℕ). shifted j (position (same x) (drop j (names_at t ps)))) (e ∙ ap (start_of k) (sym (names-length t ps)))
+    ap (shifted s) r ∙ ap (λ (j : ℕ). shifted j (position (same x) (drop j (names_at t ps)))) (e ∙ ap (seek_from k) (sym (names-length t ps)))
 
 pub sought-lt : (t ps : List ℕ) (s k : ℕ) (x : Name) → some k ≡ position (same x) (names_at t (take (length ps - s) (drop s ps))) → s + k < length ps
 sought-lt t ps s k x f =
@@ -84,10 +84,10 @@ sought-lt t ps s k x f =
 
 -- ---- buckets that are set
 
-start-at : (k n : ℕ) → 0 < k → k - 1 < n → k - 1 ≡ start_of k n
-unfolding start_of
+start-at : (k n : ℕ) → 0 < k → k - 1 < n → k - 1 ≡ seek_from k n
+unfolding seek_from
 start-at zero n h g = absurd (omega arith)
-start-at (suc k) n h g = let e : suc k - 1 ≡ k = omega arith in let b = lt-ltb k n (omega arith) in e ∙ sym (rw (b, start_of))
+start-at (suc k) n h g = let e : suc k - 1 ≡ k = omega arith in let b = lt-ltb k n (omega arith) in e ∙ sym (rw (b, seek_from))
 
 module _ (size : ℕ) (bs bs' : List ℕ) (some : 0 < size) (f : (i : ℕ) → i < size → get_or bs' i 0 ≡ get_or bs i 0) where
   pub covered-as : (j : ℕ) (xs : List Name) → Covered size bs j xs → Covered size bs' j xs
@@ -120,7 +120,7 @@ module _ (size : ℕ) (bs : List ℕ) (b : ℕ) (inside : b < length bs) where
   covered-cons x j xs e v = let g = set_there x (j + 1) e in covered {j = j} {x = x} (omega arith) (omega arith) (covered-set (j + 1) (j + 1) xs (omega arith) (omega arith) v)
 
   -- a name after the others
-  pub covered-snoc : (x : Name) (n s j : ℕ) (xs : List Name) → bucket_of size x ≡ b → s ≡ start_of (get_or bs b 0) n → s ≤ n → j + length xs ≡ n → Covered size bs j xs → Covered size (set bs b (s + 1)) j (xs ++ x ∷ [])
+  pub covered-snoc : (x : Name) (n s j : ℕ) (xs : List Name) → bucket_of size x ≡ b → s ≡ seek_from (get_or bs b 0) n → s ≤ n → j + length xs ≡ n → Covered size bs j xs → Covered size (set bs b (s + 1)) j (xs ++ x ∷ [])
   covered-snoc x n s j [] e f l h none_covered = let g = set_there x (s + 1) e in covered {j = j} {x = x} (omega arith) (omega arith) none_covered
   covered-snoc x n s j (y ∷ ys) e f l h (covered more most rest) = go (eqb (bucket_of size y) b) refl (covered-snoc x n s (j + 1) ys e f l (omega arith) rest)
     where

@@ -12,7 +12,7 @@ use Rattle.definitions.specs.Bytes.{Name, ascii, decimal}
 use Rattle.definitions.specs.Lower.{lambda_name}
 use Rattle.definitions.proofs.Decimals.{decimal_digit, decimal-more, length-decimal, one-digit, more-digits}
 use Rattle.state.specs.Words.{name_at}
-use Rattle.names.specs.Made.{made_name, pasted, Stands}
+use Rattle.names.specs.Made.{made_name, pasted, NameStands}
 use Rattle.names.specs.declared.Made.TheVariants.{Main, Lambda}
 
 -- ---- pasted bytes
@@ -104,7 +104,7 @@ module _ (x : Name) (p : ℕ) (xs : List ℕ) (inside : p + 1 + length x ≤ len
   size-byte : get_or named p 0 ≡ length x
   size-byte = get_or-set_same (pasted x (p + 1) xs) p (length x) 0 (let e = pasted_length x (p + 1) xs inside in omega arith)
 
-  pub stands : Stands x p xs named
+  pub stands : NameStands x p xs named
   unfolding name_at pasted
   stands = record {
     name = ap (λ (n : ℕ). take n (drop (p + 1) named)) size-byte
@@ -114,7 +114,7 @@ module _ (x : Name) (p : ℕ) (xs : List ℕ) (inside : p + 1 + length x ≤ len
         ∙ take-append-le p (take (p + 1) xs) (x ++ drop (p + 1 + length x) xs) (let e = length-take-le (p + 1) xs (omega arith) in omega arith) ∙ take-take p (p + 1) xs (omega arith);
   }
 
-pub stands_set : (x : Name) (p n : ℕ) (xs ys : List ℕ) → p + 1 + length x ≤ length xs → ys ≡ pasted x (p + 1) xs → n ≡ length x → Stands x p xs (set ys p n)
+pub stands_set : (x : Name) (p n : ℕ) (xs ys : List ℕ) → p + 1 + length x ≤ length xs → ys ≡ pasted x (p + 1) xs → n ≡ length x → NameStands x p xs (set ys p n)
 stands_set x p n xs ys inside e f = rw (e, f) (stands x p xs inside)
 
 -- ---- made names are short

@@ -7,7 +7,7 @@ use native.Mathlib.Nat.{add-sub_cancel_left}
 use lib.ListN.{length, take, drop, get_or, length-drop, drop_of_length-le}
 use lib.Seq.{take-nil, take_all}
 use borrow.Author.Tests.{lt-ltb, le-ltb, le-leb, lt-leb}
-use Rattle.state.specs.Words.{number_at, name_at, text_at}
+use Rattle.state.specs.Words.{big_endian_at, name_at, text_at}
 use Rattle.state.specs.State.{spelled}
 use Rattle.names.specs.Parts.{begin_at, Points, Spells}
 
@@ -34,14 +34,14 @@ name-here p t = refl
 
 pub text-past : (p : ℕ) (t : List ℕ) → length t ≤ p → [] ≡ text_at t p
 unfolding text_at
-text-past p t h = past_end (number_at 2 t p) (p + 2) t (omega arith)
+text-past p t h = past_end (big_endian_at 2 t p) (p + 2) t (omega arith)
 
-pub text-here : (p n : ℕ) (t : List ℕ) → n ≡ number_at 2 t p → take n (drop (p + 2) t) ≡ text_at t p
+pub text-here : (p n : ℕ) (t : List ℕ) → n ≡ big_endian_at 2 t p → take n (drop (p + 2) t) ≡ text_at t p
 unfolding text_at
 text-here p n t e = ap (λ (k : ℕ). take k (drop (p + 2) t)) e
 
-pub count-is : (t : List ℕ) (p a b : ℕ) → a ≡ get_or t p 0 → b ≡ get_or t (p + 1) 0 → a * 256 + b ≡ number_at 2 t p
-unfolding number_at
+pub count-is : (t : List ℕ) (p a b : ℕ) → a ≡ get_or t p 0 → b ≡ get_or t (p + 1) 0 → a * 256 + b ≡ big_endian_at 2 t p
+unfolding big_endian_at
 count-is t p a b e f = omega arith
 
 pub spelled-tree : (tree made : List ℕ) (w : ℕ) → w < 32768 → name_at tree w ≡ spelled tree made w

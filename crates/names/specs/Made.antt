@@ -19,7 +19,7 @@ unfoldable pub pasted : List ℕ → ℕ → List ℕ → List ℕ
 pasted s p xs = take p xs ++ (s ++ drop (p + length s) xs)
 
 -- the name x stands at p with its length before it, and what was before p still does
-pub record Stands (x : Name) (p : ℕ) (made made' : List ℕ) : Type 0 where
+pub record NameStands (x : Name) (p : ℕ) (made made' : List ℕ) : Type 0 where
   pub name : name_at made' p ≡ x
   pub size : get_or made' p 0 ≡ length x
   pub before : take p made' ≡ take p made

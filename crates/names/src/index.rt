@@ -1,6 +1,6 @@
 // An index of names: by a hash of its bytes, where a name is sought among others.
 ghost use Rattle.std.specs.Prelude.{◌≡◌, ◌+◌, ◌≤◌, ◌<◌, length, get_or};
-ghost use Rattle.state.specs.Index.{hash_of, bucket_of, start_of};
+ghost use Rattle.state.specs.Index.{hash_of, bucket_of, seek_from};
 ghost use Rattle.state.specs.State.{slots_from, names_at};
 ghost use Rattle.names.specs.Sought.{place_in, sought_from};
 
@@ -27,7 +27,7 @@ pub fn slot_bucket(name: &[u8]) -> usize
 
 // The number from which on a name is sought among n, by the word in its bucket.
 pub fn start(k: u32, n: usize) -> usize
-    ensures { (result ≡ start_of k n) × (result ≤ n) }
+    ensures { (result ≡ seek_from k n) × (result ≤ n) }
 {
     match k.checked_sub(1) {
         Some(first) if (first as usize) < n => first as usize,
@@ -46,7 +46,7 @@ pub fn find_from(tree: &[u8], places: &[u32], k: u32, name: &[u8]) -> Option<usi
 // The number from which on a name with the bucket b is sought among n.
 pub fn first_number(buckets: &[u32], b: u32, n: u32) -> u32
     requires { b < length buckets.now }
-    ensures { (result ≡ start_of (get_or buckets.now b 0) n) × (result ≤ n) }
+    ensures { (result ≡ seek_from (get_or buckets.now b 0) n) × (result ≤ n) }
 {
     start(buckets[b as usize], n as usize) as u32
 }

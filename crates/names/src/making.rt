@@ -2,7 +2,7 @@
 // The bound of a single number stays a clause: a type for it would be opened at each use.
 ghost use Rattle.std.specs.Prelude.{◌≡◌, ◌++◌, ◌+◌, ◌≤◌, ◌<◌, length};
 ghost use Rattle.definitions.specs.Bytes.{decimal};
-ghost use Rattle.names.specs.Made.{made_name, pasted, Stands};
+ghost use Rattle.names.specs.Made.{made_name, pasted, NameStands};
 
 use crate::Made;
 
@@ -59,7 +59,7 @@ fn paste_name(bytes: &mut [u8], at: usize, m: Made) -> usize
 // The name with its length before it at `at`, and how many bytes that takes.
 pub fn write_made(bytes: &mut [u8], at: usize, m: Made) -> u32
     requires { (at + 1 + length (made_name m) ≤ length bytes.old) × (length (made_name m) < 20) }
-    ensures { (result ≡ 1 + length (made_name m)) × Stands (made_name m) at bytes.old bytes.new }
+    ensures { (result ≡ 1 + length (made_name m)) × NameStands (made_name m) at bytes.old bytes.new }
 {
     let from = at + 1;
     let end = paste_name(bytes, from, m);

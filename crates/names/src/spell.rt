@@ -1,6 +1,6 @@
 // Names and strings as parts of the slices that hold them.
 ghost use Rattle.std.specs.Prelude.{◌≡◌, ◌+◌, ◌<◌, ◌^◌, take, drop, get_or};
-ghost use Rattle.state.specs.Words.{number_at, name_at, text_at};
+ghost use Rattle.state.specs.Words.{big_endian_at, name_at, text_at};
 ghost use Rattle.state.specs.State.{spelled};
 ghost use Rattle.names.specs.Parts.{begin_at, Points, Spells};
 
@@ -43,7 +43,7 @@ pub fn name_part<'a>(bytes: &'a [u8], at: usize) -> &'a [u8]
 // The count of two bytes at `at`, 0 for those past the end.
 pub(crate) fn count_at(bytes: &[u8], at: usize) -> usize
     requires { at < 2 ^ 63 }
-    ensures { (result ≡ number_at 2 bytes.now at) × (result < 65536) }
+    ensures { (result ≡ big_endian_at 2 bytes.now at) × (result < 65536) }
 {
     let high = byte(bytes, at);
     let low = byte(bytes, at + 1);

@@ -11,7 +11,7 @@ use Rattle.numerals.specs.declared.kinds.ExprKind.{ExprKind}
 use Rattle.exprs.specs.ExprAt.{unary_ops, binary_ops}
 use Rattle.lower_emit.specs.Ops.{Plain}
 use Rattle.lower_emit.proofs.Packing.{plain-below}
-use Rattle.opcodes.specs.Codes.{unary_opcode, display_of, held_of}
+use Rattle.opcodes.specs.Codes.{unary_opcode, display_by_kind, held_of}
 
 -- ---- operators
 
@@ -69,12 +69,12 @@ binary-high k h = let e : 15 + k ≡ k + 15 = omega arith in rw (le-leb 6 k h, o
 -- ---- displays
 
 -- the instruction of a display, by its kind
-pub build-of : {k j : ExprKind} {b : ℕ} → expr_byte k ≡ b → k ≡ j → build_code (display_of (expr_byte j)) ≡ build_code (display_of b)
-build-of e h = ap (λ (n : ℕ). build_code (display_of n)) (ap expr_byte (sym h) ∙ e)
+pub build-of : {k j : ExprKind} {b : ℕ} → expr_byte k ≡ b → k ≡ j → build_code (display_by_kind (expr_byte j)) ≡ build_code (display_by_kind b)
+build-of e h = ap (λ (n : ℕ). build_code (display_by_kind n)) (ap expr_byte (sym h) ∙ e)
 
-pub build-last : {b : ℕ} → b ≡ 15 → 42 ≡ build_code (display_of b)
-unfolding display_of build_code
-build-last e = ap (λ (n : ℕ). build_code (display_of n)) (sym e)
+pub build-last : {b : ℕ} → b ≡ 15 → 42 ≡ build_code (display_by_kind b)
+unfolding display_by_kind build_code
+build-last e = ap (λ (n : ℕ). build_code (display_by_kind n)) (sym e)
 
 pub held-dict : (k n : ℕ) → k ≡ 12 → 2 * n ≡ held_of k n
 unfolding held_of

@@ -6,7 +6,7 @@
 ghost use Rattle.std.specs.Prelude.{◌≡◌, ◌<◌, ◌≤◌};
 ghost use Rattle.definitions.specs.Instruction.{operator_code, build_code};
 ghost use Rattle.lower_emit.specs.Ops.{Plain};
-ghost use Rattle.opcodes.specs.Codes.{unary_opcode, display_of, held_of};
+ghost use Rattle.opcodes.specs.Codes.{unary_opcode, display_by_kind, held_of};
 
 use numerals::kinds::ExprKind;
 use numerals::operators;
@@ -43,7 +43,7 @@ pub fn binary_code(operator: u8) -> u32
 // BuildList to BuildTreeSet.
 pub fn build_code(kind: u8) -> u32
     requires { (11 ≤ kind) × (kind ≤ 15) }
-    ensures { (result ≡ build_code (display_of kind)) × (30 < result) × (result < 48) }
+    ensures { (result ≡ build_code (display_by_kind kind)) × (30 < result) × (result < 48) }
 {
     match ExprKind::of(kind) {
         ExprKind::List => BUILD_LIST,

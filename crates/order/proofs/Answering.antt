@@ -21,7 +21,7 @@ use Rattle.limits.specs.Sets.{limits_for}
 use Rattle.limits.specs.declared.Limits.{Limits as Set}
 use Rattle.compile.specs.Compiled.{tree_block}
 use Rattle.settle.specs.Settles.{told, Accepts}
-use Rattle.order.specs.Ordered.{place, said, Sorts}
+use Rattle.order.specs.Ordered.{place, order_said, Sorts}
 
 -- ---- the two answers about a tree
 
@@ -47,9 +47,9 @@ module _ (l : Limits) (m n : ℕ) (x y : List ℕ) (h : 16384 ≤ m) (k : 16384 
   answer-is = rw (areas-fit m n h k, order_answer)
 
   -- the first tree's refusal
-  pub first-refused : {s : Result Place Question} {r : Result (Unit {0}) Question} {q : Question} → s ≡ Err q → Accepts r x l → r ≡ Err q → said s ≡ answer
-  unfolding said when_accepted
-  first-refused i A e = ap said i ∙ sym (answer-is ∙ ap (λ (a : Answer Block). trees a (accepted_tree (limits_of l) y)) (accepts-refused A e))
+  pub first-refused : {s : Result Place Question} {r : Result (Unit {0}) Question} {q : Question} → s ≡ Err q → Accepts r x l → r ≡ Err q → order_said s ≡ answer
+  unfolding order_said when_accepted
+  first-refused i A e = ap order_said i ∙ sym (answer-is ∙ ap (λ (a : Answer Block). trees a (accepted_tree (limits_of l) y)) (accepts-refused A e))
 
   module _ {r : Result (Unit {0}) Question} {u : Unit {0}} (A : Accepts r x l) (e : r ≡ Ok u) where
     first_good : answer ≡ when_accepted (accepted_tree (limits_of l) y) (λ b. accepted (order (tree_block x) b))
@@ -57,13 +57,13 @@ module _ (l : Limits) (m n : ℕ) (x y : List ℕ) (h : 16384 ≤ m) (k : 16384 
     first_good = answer-is ∙ ap (λ (a : Answer Block). trees a (accepted_tree (limits_of l) y)) (accepts-fine A e)
 
     -- then the second's
-    pub second-refused : {t : Result Place Question} {s : Result (Unit {0}) Question} {q : Question} → t ≡ Err q → Accepts s y l → s ≡ Err q → said t ≡ answer
-    unfolding said when_accepted
-    second-refused i B f = ap said i ∙ sym (first_good ∙ ap (λ (a : Answer Block). when_accepted a (λ b. accepted (order (tree_block x) b))) (accepts-refused B f))
+    pub second-refused : {t : Result Place Question} {s : Result (Unit {0}) Question} {q : Question} → t ≡ Err q → Accepts s y l → s ≡ Err q → order_said t ≡ answer
+    unfolding order_said when_accepted
+    second-refused i B f = ap order_said i ∙ sym (first_good ∙ ap (λ (a : Answer Block). when_accepted a (λ b. accepted (order (tree_block x) b))) (accepts-refused B f))
 
     -- then the order
-    pub both-accepted : (o : Place) {s : Result (Unit {0}) Question} {v : Unit {0}} → Accepts s y l → s ≡ Ok v → place o ≡ order (tree_block x) (tree_block y) → said (Ok o) ≡ answer
-    unfolding said when_accepted
+    pub both-accepted : (o : Place) {s : Result (Unit {0}) Question} {v : Unit {0}} → Accepts s y l → s ≡ Ok v → place o ≡ order (tree_block x) (tree_block y) → order_said (Ok o) ≡ answer
+    unfolding order_said when_accepted
     both-accepted o B f g = ap accepted g ∙ sym (first_good ∙ ap (λ (a : Answer Block). when_accepted a (λ b. accepted (order (tree_block x) b))) (accepts-fine B f))
 
 -- ---- the whole call
@@ -73,7 +73,7 @@ module _ (s : Set) (x y area₁ area₂ : List ℕ) where
   whole = order_call (limits_for s) x y area₁ area₂
 
   areas-no : areas_fit (length area₁) (length area₂) ≡ false → Sorts (Err WorkAreas) area₁ area₂ whole
-  unfolding order_call order_answer said number
+  unfolding order_call order_answer order_said number
   areas-no e = record { answer = rw (e, order_answer) refl; first = area-left _ _ area₁ e; second = area-left _ _ area₂ e }
 
   pub sorts-first : length area₁ < 16384 → Sorts (Err WorkAreas) area₁ area₂ whole
@@ -83,7 +83,7 @@ module _ (s : Set) (x y area₁ area₂ : List ℕ) where
   sorts-second g h = areas-no (second_short (length area₁) (length area₂) g h)
 
   pub sorts-all : {l : DefinedLimits} → l ≡ limits_for s → 16384 ≤ length area₁ → 16384 ≤ length area₂ → {r : Result Place Question} {end₁ end₂ : List ℕ} (mid₁ mid₂ : List ℕ)
-      → said r ≡ order_answer l (length area₁) (length area₂) x y
+      → order_said r ≡ order_answer l (length area₁) (length area₂) x y
       → length mid₁ ≡ length area₁ → length mid₂ ≡ length area₂ → end₁ ≡ zeros mid₁ → end₂ ≡ zeros mid₂ → Sorts r end₁ end₂ whole
   unfolding order_call
   sorts-all z g h mid₁ mid₂ a p q v w =

@@ -20,7 +20,7 @@ use Rattle.definitions.proofs.Taken.{length-housed}
 use Rattle.definitions.proofs.TreeWritten.{tree_is, rest-shorter}
 use Rattle.tree.specs.StmtAt.{block_at, TreeAt}
 use Rattle.settle.proofs.Outcome.{check-gives}
-use Rattle.instep.specs.Stepping.{Differs, Lower, lower, higher, Steps}
+use Rattle.instep.specs.Stepping.{Differs, Lower, lower, higher, SideBySide}
 use Rattle.instep.specs.declared.Spot.{Spot}
 use Rattle.instep.proofs.Differing.{differs_more, number-differs, differs-less, differs-greater}
 use Rattle.instep.proofs.Stepping.{steps-as, steps-same, steps_apart, steps-after, byte-steps}
@@ -35,7 +35,7 @@ shorter-differs v xs ys h k =
     differs_more (v ∷ xs) (v ∷ ys) (number-differs 4 (suc (length xs)) (suc (length ys)) (omega arith) (omega arith))
 
 -- the headers of two records of one length are the same
-level-steps : (v : ℕ) {r : Result Spot Place} {xs ys : List ℕ} {e f : ℕ} → length (housed v xs) ≡ length (housed v ys) → Steps r xs ys e f → Steps r (housed v xs) (housed v ys) e f
+level-steps : (v : ℕ) {r : Result Spot Place} {xs ys : List ℕ} {e f : ℕ} → length (housed v xs) ≡ length (housed v ys) → SideBySide r xs ys e f → SideBySide r (housed v xs) (housed v ys) e f
 unfolding housed
 level-steps v {xs = xs} {ys = ys} h S =
     let a : length (housed v xs) ≡ 5 + length xs = length-housed v xs in
@@ -73,8 +73,8 @@ module _ {x y : List ℕ} (o : are_bytes x ≡ true) (w : are_bytes y ≡ true) 
     unfolding place tree_bytes order
     longer-greater h = sym (differs-greater (shorter-differs tree_version (block_bytes (rest b)) (block_bytes (rest a)) (omega (arith, f, g)) (rest-short o X)))
 
-    module _ (h : m ≤ n) (k : n ≤ m) {r : Result Spot Place} {e d : ℕ} (S : Steps r (block_bytes (rest a)) (block_bytes (rest b)) e d) where
-      whole : Steps r (tree_bytes (rest a)) (tree_bytes (rest b)) e d
+    module _ (h : m ≤ n) (k : n ≤ m) {r : Result Spot Place} {e d : ℕ} (S : SideBySide r (block_bytes (rest a)) (block_bytes (rest b)) e d) where
+      whole : SideBySide r (tree_bytes (rest a)) (tree_bytes (rest b)) e d
       unfolding tree_bytes
       whole = let z : m ≡ n = omega arith in level-steps tree_version (sym f ∙ z ∙ g) S
 

@@ -14,12 +14,12 @@ place Equal = equal
 place Greater = greater
 
 -- the paper's answer: that, or the number of the first question answered no
-unfoldable pub said : Result Place Question → Answer Ordering
-said (Ok p) = accepted (place p)
-said (Err q) = refused (number q)
+unfoldable pub order_said : Result Place Question → Answer Ordering
+order_said (Ok p) = accepted (place p)
+order_said (Err q) = refused (number q)
 
 -- the answer, and the two areas after it
 pub record Sorts (r : Result Place Question) (area₁ area₂ : List ℕ) (w : Sorting) : Type 0 where
-  pub answer : said r ≡ w.answer
+  pub answer : order_said r ≡ w.answer
   pub first : area₁ ≡ w.area₁
   pub second : area₂ ≡ w.area₂

@@ -6,7 +6,7 @@ ghost use Rattle.definitions.specs.Order as Order;
 ghost use Rattle.tree.specs.StmtAt.{block_at, TreeAt};
 ghost use Rattle.state.specs.State.{limits_of, Limited};
 ghost use Rattle.limits.specs.Sets.{limits_for};
-ghost use Rattle.order.specs.Ordered.{place, said, Sorts};
+ghost use Rattle.order.specs.Ordered.{place, order_said, Sorts};
 
 use areas::clear;
 use instep::{Spot, Trees};
@@ -49,7 +49,7 @@ fn order_in(
     limits: state::Limits,
 ) -> Result<Ordering, Question>
     requires { (16384 ≤ length code.old) × (16384 ≤ length tables.old) × Limited limits }
-    ensures { said result ≡ Order.order_answer (limits_of limits) (length code.old) (length tables.old) first.now second.now }
+    ensures { order_said result ≡ Order.order_answer (limits_of limits) (length code.old) (length tables.old) first.now second.now }
 {
     accept(first, code, tables, limits)?;
     accept(second, code, tables, limits)?;

@@ -9,7 +9,7 @@ use lib.ListN.{length, take, drop, length-drop}
 use lib.Seq.{drop-drop}
 use Rattle.definitions.specs.Bytes.{Name, Parsed, got, failed, Parser, ◌>>=◌, byte, field, counted, list_of, name, text}
 use Rattle.definitions.specs.Parse.{params}
-use Rattle.parts.specs.Places.{Node, node, node_at, is_got, Reads, count_at, Counted, eight_at, name_bytes, name_end, There, names_from, names_end, AllThere, ParamsAt, params_at, TextAt, text_at}
+use Rattle.parts.specs.Places.{Node, node, node_at, is_got, Reads, count_at, CountThere, eight_at, name_from, name_end, There, names_from, names_end, AllThere, ParamsAt, params_at, TextAt, text_node_at}
 use Rattle.parts.proofs.Laws.{follow, bind_is}
 use Rattle.parts.proofs.LeafLaws.{field-short, field-long, field-two, bytes-long, bytes-short, name-there}
 use Rattle.parts.proofs.NameLaws.{name-or, Listed, listed, unlisted, names-read}
@@ -18,19 +18,19 @@ use Rattle.definitions.proofs.Begins.{le-or-gt}
 
 -- ---- counts
 
-pub count-there : (t : List ℕ) (p : ℕ) → Reads (field 2) t p → Counted t p
+pub count-there : (t : List ℕ) (p : ℕ) → Reads (field 2) t p → CountThere t p
 unfolding is_got
 count-there t p r = let le = r.start in ⊎_elim
     (λ (h : p + 2 ≤ length t). record { bytes = h })
     (λ (h : length t < p + 2). not-got (sym (ap is_got (field-short 2 (drop p t) (omega (arith, length-drop p t)))) ∙ r.read))
     (le-or-gt (p + 2) (length t))
 
-count-got : (t : List ℕ) (p : ℕ) → Counted t p → field 2 (drop p t) ≡ got (count_at t p) (drop (p + 2) t)
+count-got : (t : List ℕ) (p : ℕ) → CountThere t p → field 2 (drop p t) ≡ got (count_at t p) (drop (p + 2) t)
 unfolding count_at
 count-got t p c = field-two t p (let h = c.bytes in omega arith)
 
 -- a count, and what follows it
-pub goes-count : {B : Type 0} (z : B) (f : ℕ → Parser B) (t : List ℕ) (p : ℕ) → Reads (field 2 >>= f) t p → Counted t p × Goes z (field 2 >>= f) t p (f (count_at t p)) (p + 2)
+pub goes-count : {B : Type 0} (z : B) (f : ℕ → Parser B) (t : List ℕ) (p : ℕ) → Reads (field 2 >>= f) t p → CountThere t p × Goes z (field 2 >>= f) t p (f (count_at t p)) (p + 2)
 goes-count z f t p r = let c = count-there t p (first_reads z (field 2) f t p r) in
     (c, goes-got z (field 2) f t p r (count_at t p) (p + 2) c.bytes (count-got t p c))
 
@@ -61,12 +61,12 @@ pub name-within : (t : List ℕ) (p : ℕ) → There t p → name_end t p ≤ le
 unfolding name_end
 name-within t p h = h.bytes
 
-pub name-node : (t : List ℕ) (p : ℕ) → There t p → node_at [] name t p ≡ node (name_bytes t p) (name_end t p)
-name-node t p h = got-node [] name t p (name_bytes t p) (name_end t p) (name-within t p h) (name-there t p h)
+pub name-node : (t : List ℕ) (p : ℕ) → There t p → node_at [] name t p ≡ node (name_from t p) (name_end t p)
+name-node t p h = got-node [] name t p (name_from t p) (name_end t p) (name-within t p h) (name-there t p h)
 
-pub goes-name : {B : Type 0} (z : B) (f : Name → Parser B) (t : List ℕ) (p : ℕ) → Reads (name >>= f) t p → There t p × Goes z (name >>= f) t p (f (name_bytes t p)) (name_end t p)
+pub goes-name : {B : Type 0} (z : B) (f : Name → Parser B) (t : List ℕ) (p : ℕ) → Reads (name >>= f) t p → There t p × Goes z (name >>= f) t p (f (name_from t p)) (name_end t p)
 goes-name z f t p r = let h = name-is-there t p (first_reads z name f t p r) in
-    (h, goes-got z name f t p r (name_bytes t p) (name_end t p) (name-within t p h) (name-there t p h))
+    (h, goes-got z name f t p r (name_from t p) (name_end t p) (name-within t p h) (name-there t p h))
 
 -- ---- parameters
 
@@ -87,7 +87,7 @@ module _ (t : List ℕ) (n p : ℕ) where
   listed-got unlisted e = not-got e
 
 module _ (t : List ℕ) (p : ℕ) (r : Reads params t p) where
-  params-read : Counted t p × Goes [] (field 2 >>= λ n. counted [] ◌∷◌ name n) t p (counted [] ◌∷◌ name (count_at t p)) (p + 2)
+  params-read : CountThere t p × Goes [] (field 2 >>= λ n. counted [] ◌∷◌ name n) t p (counted [] ◌∷◌ name (count_at t p)) (p + 2)
   unfolding params list_of
   params-read = goes-count [] (λ n. counted [] ◌∷◌ name n) t p r
 
@@ -111,7 +111,7 @@ goes-params z f t p r = let q = first_reads z params f t p r in
 -- ---- texts
 
 module _ (t : List ℕ) (p : ℕ) (r : Reads text t p) where
-  text-read : Counted t p × Goes [] (field 2 >>= λ n. counted [] ◌∷◌ byte n) t p (counted [] ◌∷◌ byte (count_at t p)) (p + 2)
+  text-read : CountThere t p × Goes [] (field 2 >>= λ n. counted [] ◌∷◌ byte n) t p (counted [] ◌∷◌ byte (count_at t p)) (p + 2)
   unfolding text list_of
   text-read = goes-count [] (λ n. counted [] ◌∷◌ byte n) t p r
 
@@ -122,8 +122,8 @@ module _ (t : List ℕ) (p : ℕ) (r : Reads text t p) where
       (λ (h : length t < p + 2 + count_at t p). not-got (sym (ap is_got (bytes-short (count_at t p) (drop (p + 2) t) (omega (arith, length-drop (p + 2) t)))) ∙ text-read.1.reads.read))
       (le-or-gt (p + 2 + count_at t p) (length t))
 
-  pub text-node : node_at [] text t p ≡ text_at t p
-  unfolding text list_of text_at
+  pub text-node : node_at [] text t p ≡ text_node_at t p
+  unfolding text list_of text_node_at
   text-node = let h = text-there in text-read.1.is ∙ got-node [] (counted [] ◌∷◌ byte (count_at t p)) t (p + 2) _ (p + 2 + count_at t p) h.bytes
       (bytes-long (count_at t p) (drop (p + 2) t) (let b = h.bytes in omega (arith, length-drop (p + 2) t)) ∙ ap (got (take (count_at t p) (drop (p + 2) t))) (drop-drop (count_at t p) (p + 2) t))
 

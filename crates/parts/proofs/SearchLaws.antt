@@ -12,8 +12,8 @@ use lib.Seq.{get_or-set_same, get_or-set_other}
 use borrow.Author.Tests.{eq-eqb, ne_eqb}
 use Rattle.definitions.specs.Bytes.{Name, same, member, all}
 use Rattle.definitions.specs.Wellformed.{distinct}
-use Rattle.parts.specs.Places.{name_bytes, name_end, There, names_from, names_end, AllThere}
-use Rattle.parts.specs.Search.{turn_of, below, reach, Entry, Met, Searches, Puts}
+use Rattle.parts.specs.Places.{name_from, name_end, There, names_from, names_end, AllThere}
+use Rattle.parts.specs.Search.{turn_of, position_below, reach, Entry, NameMet, Searches, PutsName}
 use Rattle.parts.specs.declared.distinct.Put.{Put}
 use Rattle.parts.specs.declared.distinct.Put.TheVariants.{Twice, New}
 use Rattle.parts.proofs.NameLaws.{there-first, there-rest, from_more, from-none}
@@ -68,12 +68,12 @@ member-either y x xs h = go (member y xs) refl (sym (member-end y x xs) ∙ h)
 
 -- ---- steps down
 
-pub below-is : (T : List ℕ) (x : Name) (k p : ℕ) → 0 < p → below T x k p ≡ get_or T (p + turn_of x k) 0
-unfolding below
+pub below-is : (T : List ℕ) (x : Name) (k p : ℕ) → 0 < p → position_below T x k p ≡ get_or T (p + turn_of x k) 0
+unfolding position_below
 below-is T x k p h = ap (λ (b : Bool). elim b as (λ _. ℕ) [ true ↦ 0 | false ↦ get_or T (p + turn_of x k) 0 ]) (ne_eqb p 0 (λ e. omega arith))
 
-below-zero : (T : List ℕ) (x : Name) (k p : ℕ) → p ≡ 0 → below T x k p ≡ 0
-unfolding below
+below-zero : (T : List ℕ) (x : Name) (k p : ℕ) → p ≡ 0 → position_below T x k p ≡ 0
+unfolding position_below
 below-zero T x k p h = ap (λ (b : Bool). elim b as (λ _. ℕ) [ true ↦ 0 | false ↦ get_or T (p + turn_of x k) 0 ]) (eq-eqb p 0 h)
 
 module _ (T : List ℕ) (root : ℕ) (x : Name) where
@@ -100,7 +100,7 @@ module _ (T : List ℕ) (root : ℕ) (x : Name) where
   reach-set slot v e (suc k) s =
       let r = reach-some k s in
       let q = reach T root x k + turn_of x k in
-      ap (below (set T slot v) x k) (reach-set slot v e k r) ∙ below-is (set T slot v) x k (reach T root x k) r
+      ap (position_below (set T slot v) x k) (reach-set slot v e k r) ∙ below-is (set T slot v) x k (reach T root x k) r
       ∙ get_or-set_other T slot q v 0 (λ z. let a = below-is T x k (reach T root x k) r in let b : get_or T q 0 ≡ 0 = ap (λ (i : ℕ). get_or T i 0) z ∙ e in omega arith)
       ∙ sym (below-is T x k (reach T root x k) r)
 
@@ -110,22 +110,22 @@ module _ (T : List ℕ) (root : ℕ) (x : Name) where
 pub record Seeking (t T : List ℕ) (root : ℕ) (seen : List Name) (x : Name) (k p : ℕ) : Type 0 where
   pub at : reach T root x k ≡ p
   pub entry : Entry t seen p
-  pub before : (j : ℕ) → j < k → same (name_bytes t (reach T root x j)) x ≡ false
+  pub before : (j : ℕ) → j < k → same (name_from t (reach T root x j)) x ≡ false
 
 pub seek-start : (t T : List ℕ) (root : ℕ) (seen : List Name) (x : Name) → Searches t T root seen → Seeking t T root seen x 0 root
 unfolding reach
 seek-start t T root seen x h = record { at = refl; entry = h.first; before = λ j l. absurd (omega arith) }
 
-pub put-twice : (t : List ℕ) (seen : List Name) (x : Name) (p : ℕ) → Entry t seen p → same (name_bytes t p) x ≡ true → member x seen ≡ true
-put-twice t seen x p h e = ap (λ (y : Name). member y seen) (sym (same-eq (name_bytes t p) x e)) ∙ h.known
+pub put-twice : (t : List ℕ) (seen : List Name) (x : Name) (p : ℕ) → Entry t seen p → same (name_from t p) x ≡ true → member x seen ≡ true
+put-twice t seen x p h e = ap (λ (y : Name). member y seen) (sym (same-eq (name_from t p) x e)) ∙ h.known
 
-module _ (t T : List ℕ) (root : ℕ) (seen : List Name) (x : Name) (k p : ℕ) (h : Searches t T root seen) (g : Seeking t T root seen x k p) (other : same (name_bytes t p) x ≡ false) where
+module _ (t T : List ℕ) (root : ℕ) (seen : List Name) (x : Name) (k p : ℕ) (h : Searches t T root seen) (g : Seeking t T root seen x k p) (other : same (name_from t p) x ≡ false) where
   next-is : reach T root x (suc k) ≡ get_or T (p + turn_of x k) 0
   next-is = let n = g.entry.some in let a = g.at in reach-next T root x k (omega arith) ∙ ap (λ (q : ℕ). get_or T (q + turn_of x k) 0) a
 
-  not-before : (j : ℕ) → j < k + 1 → same (name_bytes t (reach T root x j)) x ≡ false
+  not-before : (j : ℕ) → j < k + 1 → same (name_from t (reach T root x j)) x ≡ false
   not-before j l = ⊎_elim
-      (λ (a : k ≤ j). ap (λ (q : ℕ). same (name_bytes t q) x) (ap (reach T root x) (let z : j ≡ k = omega arith in z) ∙ g.at) ∙ other)
+      (λ (a : k ≤ j). ap (λ (q : ℕ). same (name_from t q) x) (ap (reach T root x) (let z : j ≡ k = omega arith in z) ∙ g.at) ∙ other)
       (λ (a : j < k). g.before j a)
       (le-or-gt k j)
 
@@ -137,7 +137,7 @@ module _ (t T : List ℕ) (root : ℕ) (seen : List Name) (x : Name) (k p : ℕ)
   }
 
   module _ (empty : get_or T (p + turn_of x k) 0 ≡ 0) where
-    none-met : Met t T root x → ⊥
+    none-met : NameMet t T root x → ⊥
     none-met m = ⊎_elim
         (λ (a : suc k ≤ m.depth). let u = reach-before T root x m.depth (suc k) a m.some in let v = next-is in omega arith)
         (λ (a : m.depth < suc k). true≢false (sym (ap (λ (y : Name). same y x) m.is ∙ same_refl x) ∙ not-before m.depth (omega arith)))
@@ -150,12 +150,12 @@ module _ (t T : List ℕ) (root : ℕ) (seen : List Name) (x : Name) (k p : ℕ)
         go true e = absurd (none-met (h.met x e))
         go false e = e
 
-    module _ (at : ℕ) (there : There t at) (low : at < 32768) (some : 0 < at) (is : name_bytes t at ≡ x) (inside : p + turn_of x k < length T) where
+    module _ (at : ℕ) (there : There t at) (low : at < 32768) (some : 0 < at) (is : name_from t at ≡ x) (inside : p + turn_of x k < length T) where
       abbrev slot : ℕ
       slot = p + turn_of x k
 
       entry_kept : (q : ℕ) → Entry t seen q → Entry t (seen ++ x ∷ []) q
-      entry_kept q e = record { some = e.some; low = e.low; there = e.there; known = member-kept (name_bytes t q) x seen e.known }
+      entry_kept q e = record { some = e.some; low = e.low; there = e.there; known = member-kept (name_from t q) x seen e.known }
 
       entry_new : Entry t (seen ++ x ∷ []) at
       entry_new = record { some = some; low = low; there = there; known = ap (λ (y : Name). member y (seen ++ x ∷ [])) is ∙ member-new x seen }
@@ -166,19 +166,19 @@ module _ (t T : List ℕ) (root : ℕ) (seen : List Name) (x : Name) (k p : ℕ)
           (λ (e : s ≡ slot → ⊥). let o = get_or-set_other T slot s at 0 e in subst (Entry t (seen ++ x ∷ [])) (sym o) (entry_kept (get_or T s 0) (h.entries s (let z = o in omega arith))))
           (cases_eq s slot)
 
-      met-kept : (y : Name) → Met t T root y → Met t (set T slot at) root y
+      met-kept : (y : Name) → NameMet t T root y → NameMet t (set T slot at) root y
       met-kept y m = let e = reach-set T root y slot at empty m.depth m.some in
-          record { depth = m.depth; some = (let s = m.some in omega arith); is = ap (name_bytes t) e ∙ m.is }
+          record { depth = m.depth; some = (let s = m.some in omega arith); is = ap (name_from t) e ∙ m.is }
 
       new-met : reach (set T slot at) root x (suc k) ≡ at
       new-met = let n = g.entry.some in let a = g.at in
           let e : reach (set T slot at) root x k ≡ p = reach-set T root x slot at empty k (omega arith) ∙ a in
           reach-next (set T slot at) root x k (omega arith) ∙ ap (λ (q : ℕ). get_or (set T slot at) (q + turn_of x k) 0) e ∙ get_or-set_same T slot at 0 inside
 
-      met-new : (y : Name) → member y (seen ++ x ∷ []) ≡ true → Met t (set T slot at) root y
+      met-new : (y : Name) → member y (seen ++ x ∷ []) ≡ true → NameMet t (set T slot at) root y
       met-new y e = ⊎_elim
           (λ (u : member y seen ≡ true). met-kept y (h.met y u))
-          (λ (u : y ≡ x). subst (Met t (set T slot at) root) (sym u) (record { depth = suc k; some = (let z = new-met in omega arith); is = ap (name_bytes t) new-met ∙ is }))
+          (λ (u : y ≡ x). subst (NameMet t (set T slot at) root) (sym u) (record { depth = suc k; some = (let z = new-met in omega arith); is = ap (name_from t) new-met ∙ is }))
           (member-either y x seen e)
 
       put-new : Searches t (set T slot at) root (seen ++ x ∷ [])
@@ -189,11 +189,11 @@ pub entry-low : (t T : List ℕ) (root : ℕ) (seen : List Name) (s : ℕ) → S
 entry-low t T root seen s h = ⊎_elim (λ (z : get_or T s 0 ≤ 0). omega arith) (λ (z : 0 < get_or T s 0). (h.entries s z).low) (le-or-gt (get_or T s 0) 0)
 
 -- the two ways on from p, v being the turn there
-module _ (t T : List ℕ) (root : ℕ) (seen : List Name) (x : Name) (k p v : ℕ) (h : Searches t T root seen) (g : Seeking t T root seen x k p) (other : same (name_bytes t p) x ≡ false) (turns : v ≡ turn_of x k) where
+module _ (t T : List ℕ) (root : ℕ) (seen : List Name) (x : Name) (k p v : ℕ) (h : Searches t T root seen) (g : Seeking t T root seen x k p) (other : same (name_from t p) x ≡ false) (turns : v ≡ turn_of x k) where
   pub put_next : 0 < get_or T (p + v) 0 → Searches t T root seen × Seeking t T root seen x (k + 1) (get_or T (p + v) 0)
   put_next s = (h, seek-next t T root seen x k p h g other (get_or T (p + v) 0) (ap (λ (i : ℕ). get_or T (p + i) 0) turns) s)
 
-  pub put-here : (at : ℕ) → get_or T (p + v) 0 ≡ 0 → There t at → at < 32768 → 0 < at → name_bytes t at ≡ x → p + v < 32769 → (member x seen ≡ false) × Searches t (set T (p + v) at) root (seen ++ x ∷ [])
+  pub put-here : (at : ℕ) → get_or T (p + v) 0 ≡ 0 → There t at → at < 32768 → 0 < at → name_from t at ≡ x → p + v < 32769 → (member x seen ≡ false) × Searches t (set T (p + v) at) root (seen ++ x ∷ [])
   put-here at e a b c d i =
       let f : get_or T (p + turn_of x k) 0 ≡ 0 = ap (λ (i : ℕ). get_or T (p + i) 0) (sym turns) ∙ e in (
         put-absent t T root seen x k p h g other f,
@@ -202,17 +202,17 @@ module _ (t T : List ℕ) (root : ℕ) (seen : List Name) (x : Name) (k p v : �
 
 -- ---- the table of one name
 
-pub one_name : (t T : List ℕ) (p : ℕ) → length T ≡ 32769 → ((s : ℕ) → get_or T s 0 ≡ 0) → There t p → p < 32768 → 0 < p → Searches t T p (name_bytes t p ∷ [])
+pub one_name : (t T : List ℕ) (p : ℕ) → length T ≡ 32769 → ((s : ℕ) → get_or T s 0 ≡ 0) → There t p → p < 32768 → 0 < p → Searches t T p (name_from t p ∷ [])
 unfolding reach
 one_name t T p n z h l s = record {
   size = n;
   first = record { some = s; low = l; there = h; known = known };
   entries = λ i g. let e = z i in absurd (omega arith);
-  met = λ x e. record { depth = 0; some = s; is = sym (same-eq x (name_bytes t p) (sym (member-cons x (name_bytes t p) [] ∙ ap (λ (b : Bool). same x (name_bytes t p) || b) (member-nil x) ∙ or-false (same x (name_bytes t p))) ∙ e)) };
+  met = λ x e. record { depth = 0; some = s; is = sym (same-eq x (name_from t p) (sym (member-cons x (name_from t p) [] ∙ ap (λ (b : Bool). same x (name_from t p) || b) (member-nil x) ∙ or-false (same x (name_from t p))) ∙ e)) };
 }
   where
-    known : member (name_bytes t p) (name_bytes t p ∷ []) ≡ true
-    known = member-cons (name_bytes t p) (name_bytes t p) [] ∙ ap (λ (b : Bool). b || member (name_bytes t p) []) (same_refl (name_bytes t p))
+    known : member (name_from t p) (name_from t p ∷ []) ≡ true
+    known = member-cons (name_from t p) (name_from t p) [] ∙ ap (λ (b : Bool). b || member (name_from t p) []) (same_refl (name_from t p))
 
 -- ---- names that are all new, one by one
 
@@ -262,10 +262,10 @@ unfolding names_end
 end-suc t zero p = refl
 end-suc t (suc n) p = end-suc t n (name_end t p)
 
-from_suc : (t : List ℕ) (n p : ℕ) → names_from t (suc n) p ≡ names_from t n p ++ name_bytes t (names_end t n p) ∷ []
+from_suc : (t : List ℕ) (n p : ℕ) → names_from t (suc n) p ≡ names_from t n p ++ name_from t (names_end t n p) ∷ []
 unfolding names_from names_end
 from_suc t zero p = refl
-from_suc t (suc n) p = ap (λ (xs : List Name). name_bytes t p ∷ xs) (from_suc t n (name_end t p))
+from_suc t (suc n) p = ap (λ (xs : List Name). name_from t p ∷ xs) (from_suc t n (name_end t p))
 
 -- ---- the n names at `at`, of which `count` are in the table T, and the rest stand at p
 
@@ -293,9 +293,9 @@ module _ (t : List ℕ) (n at : ℕ) (every : AllThere t n at) (more : 0 < n) (s
     end = e;
     some = omega arith;
     left = subst (AllThere t (n - 1)) (sym e) (there-rest t n at more every);
-    fine = sym (apart_none (names_from t n at)) ∙ ap (apart []) (from_more t n at more) ∙ apart_more (name_bytes t at) [] (names_from t (n - 1) (name_end t at))
-        ∙ ap (λ (b : Bool). not b && apart (name_bytes t at ∷ []) (names_from t (n - 1) (name_end t at))) (member-nil (name_bytes t at))
-        ∙ ap (λ (q : ℕ). apart (name_bytes t at ∷ []) (names_from t (n - 1) q)) (sym e);
+    fine = sym (apart_none (names_from t n at)) ∙ ap (apart []) (from_more t n at more) ∙ apart_more (name_from t at) [] (names_from t (n - 1) (name_end t at))
+        ∙ ap (λ (b : Bool). not b && apart (name_from t at ∷ []) (names_from t (n - 1) (name_end t at))) (member-nil (name_from t at))
+        ∙ ap (λ (q : ℕ). apart (name_from t at ∷ []) (names_from t (n - 1) q)) (sym e);
   }
 
   module _ (count p : ℕ) (T : List ℕ) (h : Sifting t n at count p T) where
@@ -303,7 +303,7 @@ module _ (t : List ℕ) (n at : ℕ) (every : AllThere t n at) (more : 0 < n) (s
     seen = names_from t count at
 
     abbrev x : Name
-    x = name_bytes t p
+    x = name_from t p
 
     pub sift-end : n ≤ count → true ≡ distinct (names_from t n at)
     unfolding apart all distinct
@@ -323,7 +323,7 @@ module _ (t : List ℕ) (n at : ℕ) (every : AllThere t n at) (more : 0 < n) (s
       sift-twice e = sym (stepped ∙ ap (λ (b : Bool). not b && apart (seen ++ x ∷ []) (names_from t (n - count - 1) (name_end t p))) e)
 
       more-seen : names_from t (count + 1) at ≡ seen ++ x ∷ []
-      more-seen = ap (λ (k : ℕ). names_from t k at) (add-one count) ∙ from_suc t count at ∙ ap (λ (q : ℕ). seen ++ name_bytes t q ∷ []) (sym h.end)
+      more-seen = ap (λ (k : ℕ). names_from t k at) (add-one count) ∙ from_suc t count at ∙ ap (λ (q : ℕ). seen ++ name_from t q ∷ []) (sym h.end)
 
       less : n - count - 1 ≡ n - (count + 1)
       less = omega arith
@@ -341,10 +341,10 @@ module _ (t : List ℕ) (n at : ℕ) (every : AllThere t n at) (more : 0 < n) (s
       }
 
 -- what the code's answer says
-pub puts-new : (r : Put) (t T : List ℕ) (root : ℕ) (seen : List Name) (x : Name) → Puts r t T root seen x → r ≡ New → (member x seen ≡ false) × Searches t T root (seen ++ x ∷ [])
-unfolding Puts
-puts-new r t T root seen x h e = subst (λ (r : Put). Puts r t T root seen x) e h
+pub puts-new : (r : Put) (t T : List ℕ) (root : ℕ) (seen : List Name) (x : Name) → PutsName r t T root seen x → r ≡ New → (member x seen ≡ false) × Searches t T root (seen ++ x ∷ [])
+unfolding PutsName
+puts-new r t T root seen x h e = subst (λ (r : Put). PutsName r t T root seen x) e h
 
-pub puts-twice : (r : Put) (t T : List ℕ) (root : ℕ) (seen : List Name) (x : Name) → Puts r t T root seen x → r ≡ Twice → member x seen ≡ true
-unfolding Puts
-puts-twice r t T root seen x h e = subst (λ (r : Put). Puts r t T root seen x) e h
+pub puts-twice : (r : Put) (t T : List ℕ) (root : ℕ) (seen : List Name) (x : Name) → PutsName r t T root seen x → r ≡ Twice → member x seen ≡ true
+unfolding PutsName
+puts-twice r t T root seen x h e = subst (λ (r : Put). PutsName r t T root seen x) e h

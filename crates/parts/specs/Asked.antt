@@ -3,29 +3,29 @@ use Rattle.std.specs.Prelude.{ℕ, Option, None, Some}
 use Rattle.parts.specs.declared.asked.BlockQuestion.{BlockQuestion}
 use Rattle.parts.specs.declared.asked.BlockQuestion.TheVariants.{Names, IteratorNames, Strings, Loops, Targets, EmptyTargets, Parameters, Init, ListLengths}
 
-unfoldable pub asks : BlockQuestion → ℕ
-asks Names = 7
-asks IteratorNames = 33
-asks Strings = 8
-asks Loops = 9
-asks Targets = 10
-asks EmptyTargets = 36
-asks Parameters = 11
-asks Init = 12
-asks ListLengths = 13
+unfoldable pub number_asked : BlockQuestion → ℕ
+number_asked Names = 7
+number_asked IteratorNames = 33
+number_asked Strings = 8
+number_asked Loops = 9
+number_asked Targets = 10
+number_asked EmptyTargets = 36
+number_asked Parameters = 11
+number_asked Init = 12
+number_asked ListLengths = 13
 
-unfoldable pub place : BlockQuestion → ℕ
-place Names = 0
-place IteratorNames = 1
-place Strings = 2
-place Loops = 3
-place Targets = 4
-place EmptyTargets = 5
-place Parameters = 6
-place Init = 7
-place ListLengths = 8
+unfoldable pub question_place : BlockQuestion → ℕ
+question_place Names = 0
+question_place IteratorNames = 1
+question_place Strings = 2
+question_place Loops = 3
+question_place Targets = 4
+question_place EmptyTargets = 5
+question_place Parameters = 6
+question_place Init = 7
+question_place ListLengths = 8
 
 -- how many stand, by the first that is answered no
 unfoldable pub stand : Option BlockQuestion → ℕ
 stand None = 9
-stand (Some q) = place q
+stand (Some q) = question_place q

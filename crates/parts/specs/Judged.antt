@@ -6,8 +6,8 @@ use Rattle.definitions.specs.Wellformed.{if_asked, block_questions}
 use Rattle.questions.specs.declared.Question.{Question}
 use Rattle.questions.specs.declared.Question.TheVariants.{TreeLayout}
 use Rattle.questions.specs.Numbers.{number}
-use Rattle.parts.specs.Judge.{Passed, Next, Refused, Number, Is, Unread, least, number_at}
-use Rattle.parts.specs.Asked.{asks, stand}
+use Rattle.parts.specs.Judge.{Passed, Next, Refused, Number, Is, Unread, least, judged_number_at}
+use Rattle.parts.specs.Asked.{number_asked, stand}
 use Rattle.parts.specs.declared.checker.Checker.{Checker}
 use Rattle.parts.specs.declared.asked.BlockQuestion.{BlockQuestion}
 
@@ -32,19 +32,19 @@ unfoldable pub counted_by : Result ℕ Question → Checker → Number
 counted_by (Ok n) c = Is n c.at
 counted_by (Err q) c = Unread (number q)
 
-pub record Counts (r : Result ℕ Question) (c c' : Checker) : Type 0 where
+pub record ReadsCount (r : Result ℕ Question) (c c' : Checker) : Type 0 where
   pub tree : c'.tree.now ≡ c.tree.now
   pub first : c'.first ≡ c.first
-  pub answer : counted_by r c' ≡ number_at c.tree.now c.at
+  pub answer : counted_by r c' ≡ judged_number_at c.tree.now c.at
 
 -- the next n bytes are there, and c' stands after them; or they are not there
-pub record Went (n : ℕ) (c c' : Checker) : Type 0 where
+pub record CheckerWent (n : ℕ) (c c' : Checker) : Type 0 where
   pub tree : c'.tree.now ≡ c.tree.now
   pub first : c'.first ≡ c.first
   pub room : c.at + n ≤ length c.tree.now
   pub at : c'.at ≡ c.at + n
 
-pub record Short (n : ℕ) (c c' : Checker) (q : Question) : Type 0 where
+pub record CheckerShort (n : ℕ) (c c' : Checker) (q : Question) : Type 0 where
   pub tree : c'.tree.now ≡ c.tree.now
   pub first : c'.first ≡ c.first
   pub short : length c.tree.now < c.at + n
@@ -52,24 +52,24 @@ pub record Short (n : ℕ) (c c' : Checker) (q : Question) : Type 0 where
 
 -- the next byte
 unfoldable pub ReadsByte : Result ℕ Question → Checker → Checker → Type 0
-ReadsByte (Ok b) c c' = Went 1 c c' × (b ≡ get_or c.tree.now c.at 0)
-ReadsByte (Err q) c c' = Short 1 c c' q
+ReadsByte (Ok b) c c' = CheckerWent 1 c c' × (b ≡ get_or c.tree.now c.at 0)
+ReadsByte (Err q) c c' = CheckerShort 1 c c' q
 
 -- k bytes below a limit, at most so many
-pub record Skips (limit most k : ℕ) (c c' : Checker) : Type 0 where
-  pub went : Went k c c'
+pub record SkipsBelow (limit most k : ℕ) (c c' : Checker) : Type 0 where
+  pub went : CheckerWent k c c'
   pub few : k ≤ most
   pub each : (i : ℕ) → i < k → get_or c.tree.now (c.at + i) 0 < limit
 
 -- only how many questions stand is other than before
-pub record Stands (c c' : Checker) (f : ℕ → ℕ) : Type 0 where
+pub record StandChanged (c c' : Checker) (f : ℕ → ℕ) : Type 0 where
   pub tree : c'.tree.now ≡ c.tree.now
   pub at : c'.at ≡ c.at
   pub stand : stand c'.first ≡ f (stand c.first)
 
 -- question q is answered
 abbrev pub answered : BlockQuestion → Bool → ℕ → ℕ
-answered q ok w = least w (λ k. if_asked (asks q) k ok)
+answered q ok w = least w (λ k. if_asked (number_asked q) k ok)
 
 -- the first question answered no, if there is one
 unfoldable pub Rules : Result (Unit {0}) Question → Checker → Type 0
@@ -77,6 +77,6 @@ Rules (Ok u) c = stand c.first ≡ 9
 Rules (Err q) c = (stand c.first < 9) × (get_elem? block_questions (stand c.first) ≡ some (number q))
 
 -- the answer once all has been read: something is over; or that
-unfoldable pub Settles : Result (Unit {0}) Question → Checker → Type 0
-Settles (Ok u) c = (length c.tree.now ≤ c.at) × Rules (Ok u) c
-Settles (Err q) c = ((c.at < length c.tree.now) × (q ≡ TreeLayout)) ⊎ ((length c.tree.now ≤ c.at) × Rules (Err q) c)
+unfoldable pub SettlesAtEnd : Result (Unit {0}) Question → Checker → Type 0
+SettlesAtEnd (Ok u) c = (length c.tree.now ≤ c.at) × Rules (Ok u) c
+SettlesAtEnd (Err q) c = ((c.at < length c.tree.now) × (q ≡ TreeLayout)) ⊎ ((length c.tree.now ≤ c.at) × Rules (Err q) c)

@@ -33,7 +33,7 @@ pub record Reads {A : Type 0} (P : Parser A) (t : List ℕ) (p : ℕ) : Type 0 w
 unfoldable pub count_at : List ℕ → ℕ → ℕ
 count_at t p = get_or t p 0 * 256 + get_or t (p + 1) 0
 
-pub record Counted (t : List ℕ) (p : ℕ) : Type 0 where
+pub record CountThere (t : List ℕ) (p : ℕ) : Type 0 where
   pub bytes : p + 2 ≤ length t
 
 -- the number of eight bytes at p
@@ -43,8 +43,8 @@ eight_at t p = (node_at 0 (field 8) t p).value
 -- ---- names
 
 -- the name at p, whose length byte and bytes are in t; where it ends
-unfoldable pub name_bytes : List ℕ → ℕ → Name
-name_bytes t p = take (get_or t p 0) (drop (p + 1) t)
+unfoldable pub name_from : List ℕ → ℕ → Name
+name_from t p = take (get_or t p 0) (drop (p + 1) t)
 
 unfoldable pub name_end : List ℕ → ℕ → ℕ
 name_end t p = p + 1 + get_or t p 0
@@ -56,7 +56,7 @@ pub record There (t : List ℕ) (p : ℕ) : Type 0 where
 -- n names from p on; where they end
 unfoldable pub names_from : List ℕ → ℕ → ℕ → List Name
 names_from t zero p = []
-names_from t (suc n) p = name_bytes t p ∷ names_from t n (name_end t p)
+names_from t (suc n) p = name_from t p ∷ names_from t n (name_end t p)
 
 unfoldable pub names_end : List ℕ → ℕ → ℕ → ℕ
 names_end t zero p = p
@@ -68,7 +68,7 @@ AllThere t (suc n) p = There t p × AllThere t n (name_end t p)
 
 -- a parameter list
 pub record ParamsAt (t : List ℕ) (p : ℕ) : Type 0 where
-  pub count : Counted t p
+  pub count : CountThere t p
   pub names : AllThere t (count_at t p) (p + 2)
 
 unfoldable pub params_at : List ℕ → ℕ → Node (List Name)
@@ -77,8 +77,8 @@ params_at t p = node (names_from t (count_at t p) (p + 2)) (names_end t (count_a
 -- ---- texts
 
 pub record TextAt (t : List ℕ) (p : ℕ) : Type 0 where
-  pub count : Counted t p
+  pub count : CountThere t p
   pub bytes : p + 2 + count_at t p ≤ length t
 
-unfoldable pub text_at : List ℕ → ℕ → Node Text
-text_at t p = node (take (count_at t p) (drop (p + 2) t)) (p + 2 + count_at t p)
+unfoldable pub text_node_at : List ℕ → ℕ → Node Text
+text_node_at t p = node (take (count_at t p) (drop (p + 2) t)) (p + 2 + count_at t p)

@@ -1,6 +1,6 @@
 // The questions that are asked of a block's parts.
 ghost use Rattle.std.specs.Prelude.{◌≡◌};
-ghost use Rattle.parts.specs.Asked.{place, asks};
+ghost use Rattle.parts.specs.Asked.{question_place, number_asked};
 ghost use Rattle.questions.specs.Numbers.{number};
 
 use questions::Question;
@@ -24,17 +24,17 @@ pub(crate) const QUESTIONS: u32 = 9;
 
 impl BlockQuestion {
     // Its place in the order in which the questions are asked.
-    #[tactic(auto, unfolding(crate::specs::Asked::place))]
+    #[tactic(auto, unfolding(crate::specs::Asked::question_place))]
     pub(crate) fn place(self) -> u32
-        ensures { result ≡ place self }
+        ensures { result ≡ question_place self }
     {
         self as u32
     }
 
     // The same among all questions.
-    #[tactic(auto, unfolding(crate::specs::Asked::asks, questions::specs::Numbers::number))]
+    #[tactic(auto, unfolding(crate::specs::Asked::number_asked, questions::specs::Numbers::number))]
     pub(crate) fn question(self) -> Question
-        ensures { number result ≡ asks self }
+        ensures { number result ≡ number_asked self }
     {
         match self {
             BlockQuestion::Names => Question::Names,

@@ -20,7 +20,7 @@ impl<'a> Checker<'a> {
     ghost use Rattle.definitions.specs.Bytes.{field};
     ghost use Rattle.parts.specs.Asked.{stand};
     ghost use Rattle.parts.specs.Judge.{judged, unasked, judge_operator, suited, filled};
-    ghost use Rattle.parts.specs.Judged.{Starts, ReadsByte, Judged, Counts, Went, Short, Skips, Stands, answered, Rules, Settles};
+    ghost use Rattle.parts.specs.Judged.{Starts, ReadsByte, Judged, ReadsCount, CheckerWent, CheckerShort, SkipsBelow, StandChanged, answered, Rules, SettlesAtEnd};
 
     // From a place on, with no question answered no.
     #[tactic(auto, unfolding(crate::specs::Asked::stand))]
@@ -37,7 +37,7 @@ impl<'a> Checker<'a> {
 
     // The next n bytes.
     pub(crate) fn take(&mut self, n: usize) -> Result<&'a [u8], Question>
-        ensures { MatchResult result (λ part. Went n self.old self.new × (part.now ≡ take n (drop self.old.at self.old.tree.now))) (λ q. Short n self.old self.new q) }
+        ensures { MatchResult result (λ part. CheckerWent n self.old self.new × (part.now ≡ take n (drop self.old.at self.old.tree.now))) (λ q. CheckerShort n self.old self.new q) }
     {
         let tree = self.tree;
         let at = self.at;
@@ -63,7 +63,7 @@ impl<'a> Checker<'a> {
 
     // A count of two bytes.
     pub fn number(&mut self) -> Result<u32, Question>
-        ensures { Counts result self.old self.new }
+        ensures { ReadsCount result self.old self.new }
     {
         let at = self.at;
         self.take(2)?;
@@ -91,7 +91,7 @@ impl<'a> Checker<'a> {
 
     // Passes over the bytes below `limit` that come next, at most `most`; how many these are.
     pub fn skip_below(&mut self, limit: u8, most: usize) -> usize
-        ensures { Skips limit most result self.old self.new }
+        ensures { SkipsBelow limit most result self.old self.new }
     {
         let rest = &self.tree[self.at..];
         let few = &rest[..most.min(rest.len())];
@@ -116,7 +116,7 @@ impl<'a> Checker<'a> {
 
     // Notes the answer to a question of a block.
     pub fn note(&mut self, question: BlockQuestion, ok: bool)
-        ensures { Stands self.old self.new (answered question ok) }
+        ensures { StandChanged self.old self.new (answered question ok) }
     {
         if !ok && question.place() < self.stand() {
             self.first = Some(question);
@@ -125,14 +125,14 @@ impl<'a> Checker<'a> {
 
     // 10: notes whether an expression of this kind may stand in this role.
     pub fn suits(&mut self, role: Role, kind: u8)
-        ensures { Stands self.old self.new (suited role kind) }
+        ensures { StandChanged self.old self.new (suited role kind) }
     {
         self.note(BlockQuestion::Targets, role.fits(kind));
     }
 
     // 36: notes whether a tuple of n elements may stand in this role.
     pub fn fills(&mut self, role: Role, n: u32)
-        ensures { Stands self.old self.new (filled role n) }
+        ensures { StandChanged self.old self.new (filled role n) }
     {
         self.note(BlockQuestion::EmptyTargets, role.holds(n));
     }
@@ -149,7 +149,7 @@ impl<'a> Checker<'a> {
 
     // What is answered of a block that has been read: whether something is over, and the first question answered no.
     pub fn settle(&self) -> Result<(), Question>
-        ensures { Settles result self.now }
+        ensures { SettlesAtEnd result self.now }
     {
         if self.at < self.tree.len() {
             return Err(Question::TreeLayout);

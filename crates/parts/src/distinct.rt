@@ -3,8 +3,8 @@
 ghost use Rattle.std.specs.Prelude.{◌≡◌, ◌≤◌, ◌<◌, length};
 ghost use Rattle.definitions.specs.Bytes.{member};
 ghost use Rattle.definitions.specs.Wellformed.{distinct};
-ghost use Rattle.parts.specs.Search.{turn_of, Searches, Puts};
-ghost use Rattle.parts.specs.Places.{name_bytes, names_from, There, AllThere};
+ghost use Rattle.parts.specs.Search.{turn_of, Searches, PutsName};
+ghost use Rattle.parts.specs.Places.{name_from, names_from, There, AllThere};
 
 use crate::names::{name_end, name_part};
 use byte_tests::same_bytes;
@@ -24,7 +24,7 @@ enum Put {
 // Whether the name at `at` is one of the n names from `from` on.
 fn occurs(tree: &[u8], at: usize, from: usize, n: u32) -> bool
     requires { There tree.now at × AllThere tree.now n from }
-    ensures { result ≡ member (name_bytes tree.now at) (names_from tree.now n from) }
+    ensures { result ≡ member (name_from tree.now at) (names_from tree.now n from) }
 {
     let mut p = from;
     for _ in 0..n {
@@ -55,7 +55,7 @@ fn distinct_few(tree: &[u8], at: usize, n: u32) -> bool
 // The turn of the name at `at` at depth `k`: its bit `k`, 0 past its end.
 fn turn(tree: &[u8], at: usize, k: usize) -> usize
     requires { There tree.now at }
-    ensures { (result ≡ turn_of (name_bytes tree.now at) k) × (result < 2) }
+    ensures { (result ≡ turn_of (name_from tree.now at) k) × (result < 2) }
 {
     let name = name_part(tree, at);
     let i = k / 8;
@@ -69,7 +69,7 @@ fn turn(tree: &[u8], at: usize, k: usize) -> usize
 // 0 for none: an Option would take four, and the table 128 KB of the stack in the place of 64.
 fn put_name(tree: &[u8], table: &mut [u16; 32769], root: usize, count: u32, at: usize) -> Put
     requires { Searches tree.now table.old root (names_from tree.now count root) × There tree.now at × (at < 32768) × (0 < at) }
-    ensures { Puts result tree.now table.new root (names_from tree.now count root) (name_bytes tree.now at) }
+    ensures { PutsName result tree.now table.new root (names_from tree.now count root) (name_from tree.now at) }
 {
     let mut p = root;
     for k in 0..count as usize {

@@ -3,7 +3,7 @@
 ghost use Rattle.std.specs.Prelude.{◌≡◌, ◌+◌, ◌&&◌, ltb, length};
 ghost use Rattle.definitions.specs.Bytes.{all};
 ghost use Rattle.definitions.specs.Wellformed.{digit, is_iterator};
-ghost use Rattle.parts.specs.Places.{name_bytes, name_end, There};
+ghost use Rattle.parts.specs.Places.{name_from, name_end, There};
 
 use crate::asked::BlockQuestion;
 use crate::checker::Checker;
@@ -50,7 +50,7 @@ impl<'a> Checker<'a> {
 // The bytes of the name at `at`.
 pub fn name_part<'a>(tree: &'a [u8], at: usize) -> &'a [u8]
     requires { There tree.now at }
-    ensures result_value { result.now ≡ name_bytes tree.now at }
+    ensures result_value { result.now ≡ name_from tree.now at }
     ensures begins { (result.ref_ptr.0 ≡ tree.entry.ref_ptr.0) × (result.ref_ptr.1 ≡ tree.entry.ref_ptr.1 + (at + 1)) }
 {
     let from = at + 1;

@@ -1,6 +1,6 @@
 // The roles that an expression can have (10 and 36).
 ghost use Rattle.std.specs.Prelude.{◌≡◌};
-ghost use Rattle.parts.specs.Judge.{fits, holds, inner};
+ghost use Rattle.parts.specs.Judge.{fits_role, tuple_fits_role, inner};
 
 use numerals::kinds::ExprKind;
 
@@ -14,9 +14,9 @@ pub enum Role {
 
 impl Role {
     // 10: whether a kind of expression can stand in this role.
-    #[tactic(auto, unfolding(crate::specs::Judge::fits, numerals::specs::Kinds::expr_byte))]
+    #[tactic(auto, unfolding(crate::specs::Judge::fits_role, numerals::specs::Kinds::expr_byte))]
     pub(crate) fn fits(self, kind: u8) -> bool
-        ensures { result ≡ fits self kind }
+        ensures { result ≡ fits_role self kind }
     {
         match self {
             Role::Value => true,
@@ -32,9 +32,9 @@ impl Role {
     }
 
     // 36: whether a tuple of n elements can stand in this role.
-    #[tactic(auto, unfolding(crate::specs::Judge::holds))]
+    #[tactic(auto, unfolding(crate::specs::Judge::tuple_fits_role))]
     pub(crate) fn holds(self, n: u32) -> bool
-        ensures { result ≡ holds self n }
+        ensures { result ≡ tuple_fits_role self n }
     {
         match self {
             Role::Value => true,

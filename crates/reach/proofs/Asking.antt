@@ -20,26 +20,26 @@ use Rattle.std.proofs.Common.{Option as Opt}
 use Rattle.questions.specs.declared.Question.{Question}
 use Rattle.questions.specs.declared.Question.TheVariants.{WorkAreas, Place, AnswerRoom}
 use Rattle.questions.specs.Numbers.{number}
-use Rattle.reader.specs.View.{function_in, CodeAt, instructions_of}
+use Rattle.reader.specs.View.{function_in_module, CodeAt, instructions_of}
 use Rattle.reader.proofs.Encoding.{Small}
 use Rattle.run.proofs.Calling.{part-code, part_count, part-coded, function-known}
 use Rattle.tally.specs.Walk.{Values}
 use Rattle.tally.specs.Counts.{Tallies}
 use Rattle.tally.specs.declared.Tallied.{Tallied}
 use Rattle.tally.proofs.Walking.{reads-list, reads-are}
-use Rattle.reach.specs.Reaching.{said, Says, Gives, Seekable}
+use Rattle.reach.specs.Reaching.{reach_said, Says, Gives, Seekable}
 use Rattle.reader.proofs.Finding.{when-refused, when-accepted}
 
 -- a refusal leaves the buffer
 refuses : {s : Answer (List Instr)} {q : Question} {place : ℕ} {out : List ℕ} → s ≡ refused (number q) → Says (Err q) s place out out
-unfolding Finds said found_answer buffer_after when_accepted
+unfolding Finds reach_said found_answer buffer_after when_accepted
 refuses {s} {q} {place} {out} e = subst (λ (a : Answer (List Instr)). Says (Err q) a place out out) (sym e) (record { found = none; finds = tt; answer = refl; leaves = refl })
 
 -- ---- 17 to 22, 34 and 35
 
 module _ (area place f : ℕ) (t out : List ℕ) (long : 131072 ≤ area) where
-  by-function : sought area t f place (length out) ≡ when_accepted (function_in t f) (place_asked place (length out))
-  unfolding sought wide_area function_in when_accepted
+  by-function : sought area t f place (length out) ≡ when_accepted (function_in_module t f) (place_asked place (length out))
+  unfolding sought wide_area function_in_module when_accepted
   by-function =
       ap (λ (b : Bool). elim b as (λ z. Answer (List Instr)) [ false ↦ refused 1 | true ↦ when_accepted (read_module t) (λ x. when_accepted (function_of x f) (place_asked place (length out))) ])
       (le-leb 131072 area long) ∙ go (read_module t)
@@ -49,14 +49,14 @@ module _ (area place f : ℕ) (t out : List ℕ) (long : 131072 ≤ area) where
       go (refused q) = refl
 
   -- no such function, or no module
-  pub says-refused : {q : Question} → function_in t f ≡ refused (number q) → Says (Err q) (sought area t f place (length out)) place out out
-  says-refused {q} e = refuses (by-function ∙ when-refused (function_in t f) _ (number q) e)
+  pub says-refused : {q : Question} → function_in_module t f ≡ refused (number q) → Says (Err q) (sought area t f place (length out)) place out out
+  says-refused {q} e = refuses (by-function ∙ when-refused (function_in_module t f) _ (number q) e)
 
   module _ {p s n : ℕ} (c : CodeAt t f p s n) where
     asked : (b : Bool) → ltb place (length c.function.code) ≡ b
         → sought area t f place (length out) ≡ (elim b as (λ z. Answer (List Instr)) [ false ↦ refused 34 | true ↦ room_asked (length out) c.function.code ])
     unfolding place_asked
-    asked b x = by-function ∙ when-accepted (function_in t f) _ c.function (function-known c)
+    asked b x = by-function ∙ when-accepted (function_in_module t f) _ c.function (function-known c)
         ∙ ap (λ (u : Bool). elim u as (λ z. Answer (List Instr)) [ false ↦ refused 34 | true ↦ room_asked (length out) c.function.code ]) x
 
     -- the place is not in the function
@@ -109,7 +109,7 @@ module _ {t : List ℕ} {f p s n : ℕ} (c : CodeAt t f p s n) where
 
 module _ (t : List ℕ) (f place : ℕ) (area out : List ℕ) where
   pub call-short : length area < 131072 → Gives (Err WorkAreas) t f place area area out out
-  unfolding number sought wide_area area_left reach_call Finds said found_answer buffer_after when_accepted
+  unfolding number sought wide_area area_left reach_call Finds reach_said found_answer buffer_after when_accepted
   call-short h =
       let w = lt-leb 131072 (length area) h in
       let s : sought (length area) t f place (length out) ≡ refused 1 =

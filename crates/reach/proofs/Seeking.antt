@@ -16,16 +16,16 @@ use Rattle.definitions.specs.Search.{asks, Way, Swept, by_link}
 use Rattle.definitions.proofs.Trails.{own, own_answers, brings, nowhere}
 use Rattle.std.proofs.Common.{Ok, Some, None}
 use Rattle.reader.specs.View.{instructions_of, start_of}
-use Rattle.run.specs.Tables.{Coded, Places}
+use Rattle.run.specs.Tables.{Coded, PlacesFilled}
 use Rattle.run.proofs.Coding.{op-here}
 use Rattle.search.specs.View.{marks_of, Searchable}
 use Rattle.search.proofs.Viewing.{mark-at}
 use Rattle.reach.specs.Tracing.{way_to, Traceable}
-use Rattle.reach.specs.Reaching.{said, Says, Seekable, Tracked}
+use Rattle.reach.specs.Reaching.{reach_said, Says, Seekable, Tracked}
 use Rattle.reach.proofs.Tracks.{way-is, traced-in}
 
 -- the opcode at a place
-module _ {c table : List ℕ} (h : Coded c) (P : Places c table) {k : ℕ} (l : k < length (instructions_of c)) {at : ℕ} (e : at ≡ get_or table k 0) where
+module _ {c table : List ℕ} (h : Coded c) (P : PlacesFilled c table) {k : ℕ} (l : k < length (instructions_of c)) {at : ℕ} (e : at ≡ get_or table k 0) where
   starts : at ≡ start_of (instructions_of c) k
   starts = e ∙ P.at k l
 
@@ -39,7 +39,7 @@ module _ {c table : List ℕ} (h : Coded c) (P : Places c table) {k : ℕ} (l : 
 
 -- answers that bring a run to the place
 says-answers : {code : List Instr} {place : ℕ} {out out' : List ℕ} (ys : List ℕ) → Brings code place ys → (k : ℕ) → k ≡ length ys → out' ≡ written ys out → Says (Ok (Some k)) (accepted code) place out out'
-unfolding Finds said found_answer count_found buffer_after when_accepted
+unfolding Finds reach_said found_answer count_found buffer_after when_accepted
 says-answers ys B k e f = record { found = some ys; finds = B; answer = ap (λ (j : ℕ). accepted (some j)) e; leaves = f }
 
 -- ---- a marked place
@@ -127,12 +127,12 @@ module _ {c table area out : List ℕ} {place : ℕ} (M : Tracked c table place 
 -- ---- before the search, and after it
 
 module _ {c area out : List ℕ} {n place : ℕ} (S : Seekable c area n place out) where
-  pub ready : {table : List ℕ} → Places c table → Searchable c table area n
+  pub ready : {table : List ℕ} → PlacesFilled c table → Searchable c table area n
   ready P = record { coded = S.coded; starts = P; count = S.count; long = S.long }
 
   module _ (area' : List ℕ) (l : length area' ≡ length area) (W : Swept by_link (instructions_of c) (marks_of n area')) where
     pub no_way : get_or area' (65536 + place) 0 ≡ 0 → Says (Ok None) (accepted (instructions_of c)) place out out
-    unfolding Finds said found_answer count_found buffer_after when_accepted
+    unfolding Finds reach_said found_answer count_found buffer_after when_accepted
     no_way e = record {
       found = none;
       finds = nowhere by_link (instructions_of c) (marks_of n area') W place (mark-at n area' place S.inside ∙ e);
@@ -140,7 +140,7 @@ module _ {c area out : List ℕ} {n place : ℕ} (S : Seekable c area n place ou
       leaves = refl;
     }
 
-    pub marked : {table : List ℕ} → Places c table → (get_or area' (65536 + place) 0 ≡ 0 → ⊥) → Tracked c table place area' out
+    pub marked : {table : List ℕ} → PlacesFilled c table → (get_or area' (65536 + place) 0 ≡ 0 → ⊥) → Tracked c table place area' out
     marked P f = record {
       coded = S.coded;
       starts = P;

@@ -10,25 +10,25 @@ use Rattle.definitions.specs.Sheet.{tally, is_question}
 use Rattle.definitions.specs.Reach.{Finds, found_answer, buffer_after, ReachCall}
 use Rattle.definitions.specs.Search.{Way, by_link}
 use Rattle.reader.specs.View.{instructions_of}
-use Rattle.run.specs.Tables.{Coded, Places}
+use Rattle.run.specs.Tables.{Coded, PlacesFilled}
 use Rattle.search.specs.View.{marks_of}
 
 -- the paper's answer for each case of the code's: the count of answers, none, or the number of the first question answered no
-unfoldable pub said : Result (Opt ℕ) Question → Answer (Option ℕ)
-said (Ok (Some n)) = accepted (some n)
-said (Ok None) = accepted none
-said (Err q) = refused (number q)
+unfoldable pub reach_said : Result (Opt ℕ) Question → Answer (Option ℕ)
+reach_said (Ok (Some n)) = accepted (some n)
+reach_said (Ok None) = accepted none
+reach_said (Err q) = refused (number q)
 
 -- what is answered and left in the buffer, by the questions' answer s; `found` is the free part
 pub record Says (r : Result (Opt ℕ) Question) (s : Answer (List Instr)) (place : ℕ) (out out' : List ℕ) : Type 0 where
   pub found : Option (List ℕ)
   pub finds : Finds s place found
-  pub answer : said r ≡ found_answer s found
+  pub answer : reach_said r ≡ found_answer s found
   pub leaves : out' ≡ buffer_after s found out
 
 -- the call
 abbrev pub Gives : Result (Opt ℕ) Question → List ℕ → ℕ → ℕ → List ℕ → List ℕ → List ℕ → List ℕ → Type 0
-Gives r bytes function place area area' out out' = ReachCall bytes function place area out (record { answer = said r; area = area'; buffer = out' })
+Gives r bytes function place area area' out out' = ReachCall bytes function place area out (record { answer = reach_said r; area = area'; buffer = out' })
 
 -- ---- what is asked of the code
 
@@ -43,7 +43,7 @@ pub record Seekable (code area : List ℕ) (n place : ℕ) (out : List ℕ) : Ty
 -- a place that a search marked, and room for its answers
 pub record Tracked (code places : List ℕ) (place : ℕ) (area out : List ℕ) : Type 0 where
   pub coded : Coded code
-  pub starts : Places code places
+  pub starts : PlacesFilled code places
   pub long : 131072 ≤ length area
   pub way : Way by_link (instructions_of code) (marks_of (length (instructions_of code)) area) place
   pub fits : tally is_question (instructions_of code) ≤ length out

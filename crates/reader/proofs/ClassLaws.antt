@@ -10,7 +10,7 @@ use Rattle.definitions.specs.Wellformed.{is_name}
 use Rattle.definitions.specs.Tables.{Method}
 use Rattle.definitions.specs.Reader.{method_record, rising, class_record}
 use Rattle.reader.specs.View.{skip_at, number_at, Got}
-use Rattle.reader.specs.Asks.{has_function, ask_next, ask_methods, ask_method, ask_class}
+use Rattle.reader.specs.Asks.{has_function, ask_next, ask_methods, ask_method_function, ask_class}
 use Rattle.reader.specs.declared.Asked.{Asked}
 use Rattle.std.specs.Prelude.{Option, Some, None}
 use Rattle.reader.proofs.Taken.{skip-cut, skip-next, skip-field, got-field, got-bind, got-give}
@@ -77,13 +77,13 @@ regroup true m a = refl
 regroup false m a = refl
 
 module _ (q : Asked) where
-  rises : (m : Method) (ms : List Method) → (rising (m ∷ ms) && all (ask_method q) (m ∷ ms)) ≡ (ask_method q m && ask_methods q m.name ms)
-  unfolding rising all ask_methods ask_next ask_method
+  rises : (m : Method) (ms : List Method) → (rising (m ∷ ms) && all (ask_method_function q) (m ∷ ms)) ≡ (ask_method_function q m && ask_methods q m.name ms)
+  unfolding rising all ask_methods ask_next ask_method_function
   rises m [] = refl
   rises m (n ∷ ms) =
-      shuffle (below m.name n.name) (rising (n ∷ ms)) (ask_method q m) (all (ask_method q) (n ∷ ms))
-      ∙ ap (λ (b : Bool). ask_method q m && (below m.name n.name && b)) (rises n ms)
-      ∙ ap (λ (b : Bool). ask_method q m && b) (regroup (below m.name n.name) (ask_method q n) (ask_methods q n.name ms))
+      shuffle (below m.name n.name) (rising (n ∷ ms)) (ask_method_function q m) (all (ask_method_function q) (n ∷ ms))
+      ∙ ap (λ (b : Bool). ask_method_function q m && (below m.name n.name && b)) (rises n ms)
+      ∙ ap (λ (b : Bool). ask_method_function q m && b) (regroup (below m.name n.name) (ask_method_function q n) (ask_methods q n.name ms))
 
   -- the first method's name is well formed
   FirstNamed : List Method → Type 0
@@ -95,8 +95,8 @@ module _ (q : Asked) where
   above-none [] e = e
   above-none (y ∷ ys) e = refl
 
-  rises-first : (ms : List Method) → FirstNamed ms → (rising ms && all (ask_method q) ms) ≡ ask_methods q [] ms
-  unfolding rising all ask_methods ask_next ask_method FirstNamed
+  rises-first : (ms : List Method) → FirstNamed ms → (rising ms && all (ask_method_function q) ms) ≡ ask_methods q [] ms
+  unfolding rising all ask_methods ask_next ask_method_function FirstNamed
   rises-first [] f = refl
   rises-first (m ∷ ms) f = rises m ms ∙ sym (ap (λ (b : Bool). b && has_function q m.function && ask_methods q m.name ms) (above-none m.name f))
 
@@ -126,5 +126,5 @@ module _ (q : Asked) where
     class-next x m g =
         checked-next (ask_class q) (checked is_name name) _ t at x m g
         ∙ checked-give (ask_class q) (checked rising (list_of 2 method_record)) (λ ms. record { name = x; methods = ms }) t m
-        ∙ checked-twice (λ ms. all (ask_method q) ms) rising (list_of 2 method_record) t m
-        ∙ checked-same FirstNamed (λ ms. rising ms && all (ask_method q) ms) (ask_methods q []) (list_of 2 method_record) t m (list-named (drop m t)) rises-first
+        ∙ checked-twice (λ ms. all (ask_method_function q) ms) rising (list_of 2 method_record) t m
+        ∙ checked-same FirstNamed (λ ms. rising ms && all (ask_method_function q) ms) (ask_methods q []) (list_of 2 method_record) t m (list-named (drop m t)) rises-first

@@ -10,7 +10,7 @@ use Rattle.std.specs.Prelude.{Option, Some, None, MatchOption}
 use Rattle.definitions.specs.Bytes.{Parser, byte, field, counted, list_of, checked, all}
 use Rattle.definitions.proofs.Begins.{Takes, takes-checked}
 use Rattle.reader.specs.View.{skip_at, number_at, list_by, Got}
-use Rattle.reader.specs.Cursors.{Stands, Went, Short, Read, Cut, Stepped, Steps}
+use Rattle.reader.specs.Cursors.{CursorStands, CursorWent, CursorShort, Read, CutOff, Stepped, CursorSteps}
 use Rattle.reader.specs.Asks.{counts_asked, has_function, ask_constant}
 use Rattle.reader.specs.declared.cursor.Cursor.{Cursor}
 use Rattle.reader.specs.declared.Counts.{Counts}
@@ -24,22 +24,22 @@ use Rattle.reader.proofs.ListLaws.{plain-list, tested-list}
 
 -- ---- answers
 
-pub none-steps : {B : Type 0} (step : List ℕ → ℕ → Option ℕ) (r : Option B) (c d : Cursor) → r ≡ None → step c.bytes.now c.at ≡ None → Steps step r c d
-none-steps step r c d e p = subst (λ (x : Option _). Steps step x c d) (sym e) p
+pub none-steps : {B : Type 0} (step : List ℕ → ℕ → Option ℕ) (r : Option B) (c d : Cursor) → r ≡ None → step c.bytes.now c.at ≡ None → CursorSteps step r c d
+none-steps step r c d e p = subst (λ (x : Option _). CursorSteps step x c d) (sym e) p
 
-pub none-read : {A B : Type 0} (p : Parser A) (view : B → A) (r : Option B) (c d : Cursor) → r ≡ None → Cut p c → MatchOption r (Cut p c) (λ b. Read p (view b) c d)
-none-read p view r c d e h = subst (λ (x : Option _). MatchOption x (Cut p c) (λ b. Read p (view b) c d)) (sym e) h
+pub none-read : {A B : Type 0} (p : Parser A) (view : B → A) (r : Option B) (c d : Cursor) → r ≡ None → CutOff p c → MatchOption r (CutOff p c) (λ b. Read p (view b) c d)
+none-read p view r c d e h = subst (λ (x : Option _). MatchOption x (CutOff p c) (λ b. Read p (view b) c d)) (sym e) h
 
 pub match-map : {B : Type 0} {P P' : Type 0} {Q Q' : B → Type 0} (r : Option B) → (P → P') → ((b : B) → Q b → Q' b) → MatchOption r P Q → MatchOption r P' Q'
 match-map None f g m = f m
 match-map (Some b) f g m = g b m
 
 -- what holds where a cursor stands, by where it came from
-pub there : {n : ℕ} {c d : Cursor} (P : List ℕ → ℕ → Type 0) → Went n c d → P d.bytes.now d.at → P c.bytes.now (c.at + n)
+pub there : {n : ℕ} {c d : Cursor} (P : List ℕ → ℕ → Type 0) → CursorWent n c d → P d.bytes.now d.at → P c.bytes.now (c.at + n)
 there {c = c} {d = d} P w x = subst (λ (k : ℕ). P c.bytes.now k) w.at (subst (λ (t : List ℕ). P t d.at) w.bytes x)
 
 -- a last step after what was read
-pub goes-on : {B : Type 0} (step next : List ℕ → ℕ → Option ℕ) (r : Option B) (c d e : Cursor) → d.bytes.now ≡ c.bytes.now → step c.bytes.now c.at ≡ next c.bytes.now d.at → Steps next r d e → Steps step r c e
+pub goes-on : {B : Type 0} (step next : List ℕ → ℕ → Option ℕ) (r : Option B) (c d e : Cursor) → d.bytes.now ≡ c.bytes.now → step c.bytes.now c.at ≡ next c.bytes.now d.at → CursorSteps next r d e → CursorSteps step r c e
 goes-on step next r c d e s k m = match-map r
     (λ n. k ∙ ap (λ (t : List ℕ). next t d.at) (sym s) ∙ n)
     (λ b n. record { bytes = n.bytes ∙ s; to = k ∙ ap (λ (t : List ℕ). next t d.at) (sym s) ∙ n.to })
@@ -47,17 +47,17 @@ goes-on step next r c d e s k m = match-map r
 
 -- ---- bytes with their count before them
 
-pub text-short : (w : ℕ) (c : Cursor) → Short w c → Cut (list_of w byte) c
+pub text-short : (w : ℕ) (c : Cursor) → CursorShort w c → CutOff (list_of w byte) c
 text-short w c s = let h = c.inside in count_cut byte c.bytes.now w c.at h (omega arith)
 
-module _ (w : ℕ) (c d : Cursor) (n : ℕ) (g : Went w c d) (e : n ≡ number_at w c.bytes.now c.at) where
-  pub text-cut : Short n d → Cut (list_of w byte) c
+module _ (w : ℕ) (c d : Cursor) (n : ℕ) (g : CursorWent w c d) (e : n ≡ number_at w c.bytes.now c.at) where
+  pub text-cut : CursorShort n d → CutOff (list_of w byte) c
   text-cut s =
       let k : length c.bytes.now < c.at + w + n = there (λ (t : List ℕ) (p : ℕ). length t < p + n) g s in
       let r = g.room in
       count-at byte c.bytes.now w c.at n c.inside (omega arith) e ∙ bytes_cut c.bytes.now n (c.at + w) (omega arith) (omega arith)
 
-  pub text-read : (x : List ℕ) (f : Cursor) → Went n d f → x ≡ take n (drop d.at d.bytes.now) → Read (list_of w byte) x c f
+  pub text-read : (x : List ℕ) (f : Cursor) → CursorWent n d f → x ≡ take n (drop d.at d.bytes.now) → Read (list_of w byte) x c f
   unfolding list_of
   text-read x f h i =
       let t = c.bytes.now in let p = c.at + w in
@@ -72,14 +72,14 @@ module _ (w : ℕ) (c d : Cursor) (n : ℕ) (g : Went w c d) (e : n ≡ number_a
 -- ---- tested reads
 
 module _ {A : Type 0} (test : A → Bool) (p : Parser A) (c : Cursor) where
-  pub tested-cut : Cut p c → Cut (checked test p) c
+  pub tested-cut : CutOff p c → CutOff (checked test p) c
   tested-cut e = cut-unchecked test p c.bytes.now c.at e
 
   module _ (a : A) (d : Cursor) (r : Read p a c d) where
     pub tested-read : test a ≡ true → Read (checked test p) a c d
     tested-read e = record { bytes = r.bytes; got = got-checked test p c.bytes.now c.at a d.at r.got e }
 
-    pub tested-fails : test a ≡ false → Cut (checked test p) c
+    pub tested-fails : test a ≡ false → CutOff (checked test p) c
     tested-fails e = cut-checked test p c.bytes.now c.at a d.at r.got e
 
 pub passed : {A : Type 0} (p : Parser A) (a : A) (c d : Cursor) → Read p a c d → Stepped (skip_at p c.bytes.now) c d
@@ -87,24 +87,24 @@ passed p a c d r = record { bytes = r.bytes; to = skipped-got p c.bytes.now c.at
 
 -- ---- numbers
 
-pub number-short : (w : ℕ) (c : Cursor) → Short w c → Cut (field w) c
+pub number-short : (w : ℕ) (c : Cursor) → CursorShort w c → CutOff (field w) c
 number-short w c s = skip-field w c.bytes.now c.at c.inside s
 
-pub number-read : (w : ℕ) (n : ℕ) (c d : Cursor) → Went w c d → n ≡ number_at w c.bytes.now c.at → Read (field w) n c d
+pub number-read : (w : ℕ) (n : ℕ) (c d : Cursor) → CursorWent w c d → n ≡ number_at w c.bytes.now c.at → Read (field w) n c d
 number-read w n c d g e =
     record { bytes = g.bytes; got = subst (λ (m : ℕ). Got (field w) c.bytes.now c.at n m) (sym g.at) (subst (λ (k : ℕ). Got (field w) c.bytes.now c.at k (c.at + w)) (sym e) (got-field w c.bytes.now c.at g.room)) }
 
 -- ---- lists
 
 module _ {A B : Type 0} (p : Parser A) (tp : Takes p) (r : Option B) (c d : Cursor) where
-  list-step : (step : List ℕ → ℕ → Option ℕ) → step c.bytes.now c.at ≡ list_by (skip_at p c.bytes.now) c.bytes.now c.at → Steps (λ t. list_by (skip_at p t) t) r c d → Steps step r c d
+  list-step : (step : List ℕ → ℕ → Option ℕ) → step c.bytes.now c.at ≡ list_by (skip_at p c.bytes.now) c.bytes.now c.at → CursorSteps (λ t. list_by (skip_at p t) t) r c d → CursorSteps step r c d
   list-step step k m = match-map r (λ n. k ∙ n) (λ b n. record { bytes = n.bytes; to = k ∙ n.to }) m
 
-  pub plain-steps : Steps (λ t. list_by (skip_at p t) t) r c d → Steps (skip_at (list_of 2 p)) r c d
+  pub plain-steps : CursorSteps (λ t. list_by (skip_at p t) t) r c d → CursorSteps (skip_at (list_of 2 p)) r c d
   plain-steps m = list-step (skip_at (list_of 2 p)) (plain-list p tp c.bytes.now c.at c.inside) m
 
 module _ {A B : Type 0} (e : A → Bool) (p : Parser A) (tp : Takes p) (r : Option B) (c d : Cursor) where
-  pub tested-steps : Steps (λ t. list_by (skip_at (checked e p) t) t) r c d → Steps (skip_at (checked (all e) (list_of 2 p))) r c d
+  pub tested-steps : CursorSteps (λ t. list_by (skip_at (checked e p) t) t) r c d → CursorSteps (skip_at (checked (all e) (list_of 2 p))) r c d
   tested-steps m = let k = tested-list e p tp c.bytes.now c.at c.inside in match-map r (λ n. k ∙ n) (λ b n. record { bytes = n.bytes; to = k ∙ n.to }) m
 
 -- ---- by place
@@ -114,14 +114,14 @@ pub steps-to : (t : List ℕ) (step : List ℕ → ℕ → Option ℕ) (c d : Cu
 steps-to t step c d e s = (s.bytes ∙ e, ap (λ (u : List ℕ). step u c.at) (sym e) ∙ s.to)
 
 -- the same from its beginning on
-pub begins-to : (t : List ℕ) (p : ℕ) (step : List ℕ → ℕ → Option ℕ) (c d : Cursor) → Stands t p c → Stepped (step c.bytes.now) c d → (d.bytes.now ≡ t) × (step t p ≡ Some d.at)
+pub begins-to : (t : List ℕ) (p : ℕ) (step : List ℕ → ℕ → Option ℕ) (c d : Cursor) → CursorStands t p c → Stepped (step c.bytes.now) c d → (d.bytes.now ≡ t) × (step t p ≡ Some d.at)
 begins-to t p step c d b s = let k = steps-to t step c d b.bytes s in (k.0, ap (step t) (sym b.at) ∙ k.1)
 
 -- where it is cut
 pub cut-to : (t : List ℕ) (step : List ℕ → ℕ → Option ℕ) (c : Cursor) → c.bytes.now ≡ t → step c.bytes.now c.at ≡ None → step t c.at ≡ None
 cut-to t step c e s = ap (λ (u : List ℕ). step u c.at) (sym e) ∙ s
 
-pub begins-cut : (t : List ℕ) (p : ℕ) (step : List ℕ → ℕ → Option ℕ) (c : Cursor) → Stands t p c → step c.bytes.now c.at ≡ None → step t p ≡ None
+pub begins-cut : (t : List ℕ) (p : ℕ) (step : List ℕ → ℕ → Option ℕ) (c : Cursor) → CursorStands t p c → step c.bytes.now c.at ≡ None → step t p ≡ None
 begins-cut t p step c b s = ap (step t) (sym b.at) ∙ cut-to t step c b.bytes s
 
 -- a tested read ends where the read does

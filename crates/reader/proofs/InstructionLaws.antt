@@ -10,7 +10,7 @@ use borrow.Author.Tests.{le-ltb}
 use Rattle.definitions.specs.Bytes.{Parsed, got, failed, Parser, ◌>>=◌, give, unread, byte, field, keep, checked}
 use Rattle.definitions.specs.Instruction.{Instr, instr, instruction_table, is_instruction, first_width, second_width}
 use Rattle.definitions.specs.Reader.{instruction}
-use Rattle.reader.specs.View.{skipped, skip_at, found, found_at, number_at, Got}
+use Rattle.reader.specs.View.{skipped, skip_at, instruction_parsed, found_at, number_at, Got}
 use Rattle.std.specs.Prelude.{Option, Some, None}
 use Rattle.reader.specs.declared.Instruction.{Instruction}
 use lib.Seq.{drop-drop}
@@ -38,34 +38,34 @@ cut-unchecked test p t at e = skip-cut p _ t at e
 
 -- nothing is found where nothing is read
 pub found-cut : (t : List ℕ) (at : ℕ) → skip_at instruction t at ≡ None → found_at t at ≡ None
-unfolding skip_at found_at skipped found
+unfolding skip_at found_at skipped instruction_parsed
 found-cut t at e = go (instruction (drop at t)) e
   where
-    go : (r : Parsed Instr) → skipped (length t) r ≡ None → found (length t) r ≡ None
+    go : (r : Parsed Instr) → skipped (length t) r ≡ None → instruction_parsed (length t) r ≡ None
     go (got i rest) e = let z : ◌≡◌ {A = ℕ} 0 1 = cc in absurd (omega arith)
     go (failed why) e = refl
 
 pub cut-found : (t : List ℕ) (at : ℕ) → found_at t at ≡ None → skip_at instruction t at ≡ None
-unfolding skip_at found_at skipped found
+unfolding skip_at found_at skipped instruction_parsed
 cut-found t at e = go (instruction (drop at t)) e
   where
-    go : (r : Parsed Instr) → found (length t) r ≡ None → skipped (length t) r ≡ None
+    go : (r : Parsed Instr) → instruction_parsed (length t) r ≡ None → skipped (length t) r ≡ None
     go (got i rest) e = let z : ◌≡◌ {A = ℕ} 0 1 = cc in absurd (omega arith)
     go (failed why) e = refl
 
 pub found-got : (t : List ℕ) (at : ℕ) (i : Instr) (m : ℕ) → Got instruction t at i m → found_at t at ≡ found_as i.op i.a i.b m
-unfolding found_at found
-found-got t at i m g = ap (found (length t)) g.is ∙ ap (λ (k : ℕ). found_as i.op i.a i.b k) (let l = length-drop m t in let h = g.to in omega arith)
+unfolding found_at instruction_parsed
+found-got t at i m g = ap (instruction_parsed (length t)) g.is ∙ ap (λ (k : ℕ). found_as i.op i.a i.b k) (let l = length-drop m t in let h = g.to in omega arith)
 
 -- what the code found was read
 pub found-is : (t : List ℕ) (at op a b m : ℕ) → at ≤ length t → found_at t at ≡ found_as op a b m → Got instruction t at (instr op a b) m
-unfolding found_at found
+unfolding found_at instruction_parsed
 found-is t at op a b m h e = go (instruction (drop at t)) refl (takes-instruction.rest (drop at t)) e
   where
     never : None ≡ found_as op a b m → Got instruction t at (instr op a b) m
     never e = let z : ◌≡◌ {A = ℕ} 0 1 = cc in absurd (omega arith)
 
-    go : (r : Parsed Instr) → instruction (drop at t) ≡ r → Rest instruction (drop at t) r → found (length t) r ≡ found_as op a b m → Got instruction t at (instr op a b) m
+    go : (r : Parsed Instr) → instruction (drop at t) ≡ r → Rest instruction (drop at t) r → instruction_parsed (length t) r ≡ found_as op a b m → Got instruction t at (instr op a b) m
     go (got j rest) i w e =
         let d : rest ≡ drop (at + w.0) t = w.2 ∙ drop-drop w.0 at t in
         let l : length rest ≡ length t - (at + w.0) = ap length d ∙ length-drop (at + w.0) t in

@@ -12,7 +12,7 @@ use Rattle.definitions.proofs.Lengths.{length-encode, spans-instruction}
 use denote.Ref.{Bor}
 use Rattle.reader.specs.declared.Placed.{Placed}
 use Rattle.reader.specs.declared.iteration.Instructions.{Instructions}
-use Rattle.reader.specs.View.{Walks, shown, found, found_at, instructions_in, instructions_of, start_of}
+use Rattle.reader.specs.View.{Walks, instruction_shown, instruction_parsed, found_at, leading_instructions, instructions_of, start_of}
 use Rattle.std.specs.Prelude.{Some, None}
 use Rattle.reader.specs.declared.Instruction.{Instruction}
 use Rattle.reader.proofs.InstructionLaws.{found_as, found-is}
@@ -23,10 +23,10 @@ use Rattle.definitions.proofs.Begins.{Rest, takes-instruction}
 
 -- an instruction begins before the end
 pub found_before : (t : List ℕ) (at op a b m : ℕ) → found_at t at ≡ found_as op a b m → at < length t
-unfolding found_at found
+unfolding found_at instruction_parsed
 found_before t at op a b m e = go (instruction (drop at t)) refl e
   where
-    go : (r : Parsed Instr) → instruction (drop at t) ≡ r → found (length t) r ≡ found_as op a b m → at < length t
+    go : (r : Parsed Instr) → instruction (drop at t) ≡ r → instruction_parsed (length t) r ≡ found_as op a b m → at < length t
     go (got i rest) k e = let l = spans-instruction.at (drop at t) i rest k in let x = length-encode i in let y = length-drop at t in omega arith
     go (failed q) k e = let z : ◌≡◌ {A = ℕ} 0 1 = cc in absurd (omega arith)
 
@@ -36,44 +36,44 @@ shorter : (bs : List ℕ) (i : Instr) (rest : List ℕ) → instruction bs ≡ g
 shorter bs i rest e = let k = spans-instruction.at bs i rest e in let l = length-encode i in omega arith
 
 -- more would not be read
-enough : (k m : ℕ) (bs : List ℕ) → length bs ≤ k → length bs ≤ m → instructions_in k bs ≡ instructions_in m bs
-unfolding instructions_in
+enough : (k m : ℕ) (bs : List ℕ) → length bs ≤ k → length bs ≤ m → leading_instructions k bs ≡ leading_instructions m bs
+unfolding leading_instructions
 enough zero zero bs h l = refl
 enough zero (suc m) bs h l = go (instruction bs) refl
   where
-    go : (r : Parsed Instr) → instruction bs ≡ r → ◌≡◌ {A = List Instr} [] (elim r as (λ x. List Instr) [ got i rest ↦ i ∷ instructions_in m rest | failed q ↦ [] ])
+    go : (r : Parsed Instr) → instruction bs ≡ r → ◌≡◌ {A = List Instr} [] (elim r as (λ x. List Instr) [ got i rest ↦ i ∷ leading_instructions m rest | failed q ↦ [] ])
     go (got i rest) e = let z = shorter bs i rest e in absurd (omega arith)
     go (failed q) e = refl
 enough (suc k) zero bs h l = go (instruction bs) refl
   where
-    go : (r : Parsed Instr) → instruction bs ≡ r → ◌≡◌ {A = List Instr} (elim r as (λ x. List Instr) [ got i rest ↦ i ∷ instructions_in k rest | failed q ↦ [] ]) []
+    go : (r : Parsed Instr) → instruction bs ≡ r → ◌≡◌ {A = List Instr} (elim r as (λ x. List Instr) [ got i rest ↦ i ∷ leading_instructions k rest | failed q ↦ [] ]) []
     go (got i rest) e = let z = shorter bs i rest e in absurd (omega arith)
     go (failed q) e = refl
 enough (suc k) (suc m) bs h l = go (instruction bs) refl (λ rest a b. enough k m rest a b)
   where
-    go : (r : Parsed Instr) → instruction bs ≡ r → ((rest : List ℕ) → length rest ≤ k → length rest ≤ m → instructions_in k rest ≡ instructions_in m rest)
-        → ◌≡◌ {A = List Instr} (elim r as (λ x. List Instr) [ got i rest ↦ i ∷ instructions_in k rest | failed q ↦ [] ]) (elim r as (λ x. List Instr) [ got i rest ↦ i ∷ instructions_in m rest | failed q ↦ [] ])
+    go : (r : Parsed Instr) → instruction bs ≡ r → ((rest : List ℕ) → length rest ≤ k → length rest ≤ m → leading_instructions k rest ≡ leading_instructions m rest)
+        → ◌≡◌ {A = List Instr} (elim r as (λ x. List Instr) [ got i rest ↦ i ∷ leading_instructions k rest | failed q ↦ [] ]) (elim r as (λ x. List Instr) [ got i rest ↦ i ∷ leading_instructions m rest | failed q ↦ [] ])
     go (got i rest) e f = let z = shorter bs i rest e in ap (λ (is : List Instr). i ∷ is) (f rest (omega arith) (omega arith))
     go (failed q) e f = refl
 
 pub instructions-next : (bs : List ℕ) (i : Instr) (rest : List ℕ) → instruction bs ≡ got i rest → instructions_of bs ≡ i ∷ instructions_of rest
-unfolding instructions_of instructions_in
+unfolding instructions_of leading_instructions
 instructions-next bs i rest e =
     enough (length bs) (suc (length bs)) bs (omega arith) (omega arith) ∙ ap the e
     ∙ ap (λ (is : List Instr). i ∷ is) (enough (length bs) (length rest) rest (let z = shorter bs i rest e in omega arith) (omega arith))
   where
     the : Parsed Instr → List Instr
-    the r = elim r [ got i rest ↦ i ∷ instructions_in (length bs) rest | failed q ↦ [] ]
+    the r = elim r [ got i rest ↦ i ∷ leading_instructions (length bs) rest | failed q ↦ [] ]
 
 pub instructions-end : (bs : List ℕ) (q : ℕ) → instruction bs ≡ failed q → instructions_of bs ≡ []
-unfolding instructions_of instructions_in
+unfolding instructions_of leading_instructions
 instructions-end bs q e = enough (length bs) (suc (length bs)) bs (omega arith) (omega arith) ∙ ap the e
   where
     the : Parsed Instr → List Instr
-    the r = elim r [ got i rest ↦ i ∷ instructions_in (length bs) rest | failed q ↦ [] ]
+    the r = elim r [ got i rest ↦ i ∷ leading_instructions (length bs) rest | failed q ↦ [] ]
 
 instructions-none : instructions_of [] ≡ []
-unfolding instructions_of instructions_in
+unfolding instructions_of leading_instructions
 instructions-none = refl
 
 -- the iteration: an instruction and what is left after it, or nothing left
@@ -93,21 +93,21 @@ walk-on t at i e =
     let w = walk-at t at i e in let l = length-encode (instr i.op i.a i.b) in let x = w.2 in (h, omega arith)
 
 pub walk-end : (t : List ℕ) (at : ℕ) → found_at t at ≡ None → instructions_of (drop at t) ≡ []
-unfolding found_at found
+unfolding found_at instruction_parsed
 walk-end t at e = go (instruction (drop at t)) refl e
   where
-    go : (r : Parsed Instr) → instruction (drop at t) ≡ r → found (length t) r ≡ None → instructions_of (drop at t) ≡ []
+    go : (r : Parsed Instr) → instruction (drop at t) ≡ r → instruction_parsed (length t) r ≡ None → instructions_of (drop at t) ≡ []
     go (got i rest) k e = let z : ◌≡◌ {A = ℕ} 0 1 = cc in absurd (omega arith)
     go (failed q) k e = instructions-end (drop at t) q k
 
 -- a call of the iteration over the code c: an instruction and what is left after it, or nothing left
 pub walked : (c : List ℕ) (s t : Instructions) (p : Placed) → s.code.now ≡ c → Walks s (Some p) t →
-    (instructions_of (drop s.at c) ≡ shown p ∷ instructions_of (drop t.at c)) × (t.place ≡ s.place + 1) × (t.at ≤ length c) × (t.at ≡ s.at + length (encode (shown p))) × (t.code.now ≡ c)
+    (instructions_of (drop s.at c) ≡ instruction_shown p ∷ instructions_of (drop t.at c)) × (t.place ≡ s.place + 1) × (t.at ≤ length c) × (t.at ≡ s.at + length (encode (instruction_shown p))) × (t.code.now ≡ c)
 walked c s t p k w =
     let f : found_at c s.at ≡ Some p.instruction = ap (λ (x : List ℕ). found_at x s.at) (sym k) ∙ w.1.2 in
     let m = walk-at c s.at p.instruction f in
     let n = w.1.5 in let l = m.1 in let q = m.2 in
-    (m.0 ∙ ap (λ (j : ℕ). shown p ∷ instructions_of (drop j c)) (sym n), w.1.4, omega arith, n ∙ q, ap (λ (x : Bor (List ℕ)). x.now) w.1.3 ∙ k)
+    (m.0 ∙ ap (λ (j : ℕ). instruction_shown p ∷ instructions_of (drop j c)) (sym n), w.1.4, omega arith, n ∙ q, ap (λ (x : Bor (List ℕ)). x.now) w.1.3 ∙ k)
 
 pub walked-out : (c : List ℕ) (s t : Instructions) → s.code.now ≡ c → Walks s None t → instructions_of (drop s.at c) ≡ []
 walked-out c s t k w = ap (λ (x : List ℕ). instructions_of (drop s.at x)) (sym k) ∙ w.0.0

@@ -17,19 +17,19 @@ pub(crate) struct Cursor<'a> {
 impl<'a> Cursor<'a> {
     ghost use Rattle.std.specs.Prelude.{◌≡◌, ◌<◌, take, drop, MatchOption};
     ghost use Rattle.reader.specs.View.{number_at};
-    ghost use Rattle.reader.specs.Cursors.{Stands, Went, Short, Finds};
+    ghost use Rattle.reader.specs.Cursors.{CursorStands, CursorWent, CursorShort, CursorFinds};
 
     // At a place.
     pub(crate) fn new(bytes: &'a [u8], at: usize) -> Cursor<'a>
         requires { at ≤ length bytes.now }
-        ensures { Stands bytes.now at result }
+        ensures { CursorStands bytes.now at result }
     {
         Cursor { bytes, at }
     }
 
     // The next n bytes.
     pub(crate) fn take(&mut self, n: usize) -> Option<&'a [u8]>
-        ensures { MatchOption result (Short n self.old) (λ part. Went n self.old self.new × (part.now ≡ take n (drop self.old.at self.old.bytes.now))) }
+        ensures { MatchOption result (CursorShort n self.old) (λ part. CursorWent n self.old self.new × (part.now ≡ take n (drop self.old.at self.old.bytes.now))) }
     {
         let bytes = self.bytes;
         let at = self.at;
@@ -42,7 +42,7 @@ impl<'a> Cursor<'a> {
 
     // The number of one byte. `number` has the bound that its callers need: one function over a const width could not name it plainly.
     pub(crate) fn byte(&mut self) -> Option<u64>
-        ensures { MatchOption result (Short 1 self.old) (λ n. Went 1 self.old self.new × (n ≡ number_at 1 self.old.bytes.now self.old.at)) }
+        ensures { MatchOption result (CursorShort 1 self.old) (λ n. CursorWent 1 self.old self.new × (n ≡ number_at 1 self.old.bytes.now self.old.at)) }
     {
         let at = self.at;
         self.take(1)?;
@@ -51,7 +51,7 @@ impl<'a> Cursor<'a> {
 
     // The number of two bytes.
     pub(crate) fn number(&mut self) -> Option<u64>
-        ensures { MatchOption result (Short 2 self.old) (λ n. Went 2 self.old self.new × (n ≡ number_at 2 self.old.bytes.now self.old.at) × (n < 65536)) }
+        ensures { MatchOption result (CursorShort 2 self.old) (λ n. CursorWent 2 self.old self.new × (n ≡ number_at 2 self.old.bytes.now self.old.at) × (n < 65536)) }
     {
         let at = self.at;
         self.take(2)?;
@@ -60,7 +60,7 @@ impl<'a> Cursor<'a> {
 
     // The next instruction.
     pub(crate) fn instruction(&mut self) -> Option<Instruction>
-        ensures { Finds result self.old self.new }
+        ensures { CursorFinds result self.old self.new }
     {
         let instruction = instruction_at(self.bytes, self.at)?;
         self.at = instruction.next;

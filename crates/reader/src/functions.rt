@@ -8,7 +8,7 @@ impl<'a> Cursor<'a> {
     ghost use Rattle.definitions.specs.Bytes.{list_of, counted, checked, all};
     ghost use Rattle.definitions.specs.Reader.{instruction, function_record};
     ghost use Rattle.reader.specs.Asks.{ask_code, ask_function};
-    ghost use Rattle.reader.specs.Cursors.{Skips, Headed};
+    ghost use Rattle.reader.specs.Cursors.{Skips, HeadRead};
 
     // A function's instructions and their questions.
     fn code(&mut self, asked: Asked, head: Head) -> Option<()>
@@ -27,7 +27,7 @@ impl<'a> Cursor<'a> {
 
     // The head of a function: the number of its name, of its parameters, of its slots, its height, and the number of its instructions.
     fn head(&mut self) -> Option<Head>
-        ensures { Headed result self.old self.new }
+        ensures { HeadRead result self.old self.new }
     {
         let name = self.number()?;
         self.byte()?;

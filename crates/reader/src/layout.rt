@@ -3,8 +3,8 @@
 ghost use Rattle.std.specs.Prelude.{◌≡◌, ◌+◌, ◌≤◌, length, drop, true, false, MatchOption};
 ghost use Rattle.definitions.specs.Calls.{read_call};
 ghost use Rattle.definitions.specs.Reader.{module_record, whole_module, numbers_exist};
-ghost use Rattle.reader.specs.Asks.{counts_of};
-ghost use Rattle.reader.specs.View.{Lays, Lists, Sectioned, tables_of, Heads, said, bare, Opens};
+ghost use Rattle.reader.specs.Asks.{list_lengths};
+ghost use Rattle.reader.specs.View.{Lays, Lists, Sectioned, module_tables, HeadAsked, said, bare, Opens};
 
 use crate::cursor::Cursor;
 use crate::numbers::number_at;
@@ -14,7 +14,7 @@ use questions::Question;
 
 // Questions 17 and 18.
 fn read_head(bytes: &[u8]) -> Result<(), Question>
-    ensures { Heads result bytes.now }
+    ensures { HeadAsked result bytes.now }
 {
     if MODULE_MOST < bytes.len() {
         return Err(Question::ModuleSize);
@@ -75,7 +75,7 @@ fn lay(bytes: &[u8]) -> Option<Sections>
 // The counts of a module's lists.
 fn counts_of(bytes: &[u8], sections: Sections) -> Counts
     requires { Sectioned bytes.now sections }
-    ensures { result ≡ counts_of (tables_of bytes.now) }
+    ensures { result ≡ list_lengths (module_tables bytes.now) }
 {
     Counts {
         symbols: number_at(bytes, HEAD, 2),
@@ -89,7 +89,7 @@ fn counts_of(bytes: &[u8], sections: Sections) -> Counts
 // Question 20 of the lists.
 fn ask_numbers(bytes: &[u8], sections: Sections) -> Option<()>
     requires { Sectioned bytes.now sections }
-    ensures { MatchOption result (numbers_exist (tables_of bytes.now) ≡ false) (λ _. numbers_exist (tables_of bytes.now) ≡ true) }
+    ensures { MatchOption result (numbers_exist (module_tables bytes.now) ≡ false) (λ _. numbers_exist (module_tables bytes.now) ≡ true) }
 {
     let asked = Asked::Numbers(counts_of(bytes, sections));
     let mut c = Cursor::new(bytes, sections.functions.start);

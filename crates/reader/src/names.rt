@@ -8,11 +8,11 @@ impl<'a> Cursor<'a> {
     ghost use Rattle.definitions.specs.Bytes.{name, text, list_of, checked};
     ghost use Rattle.definitions.specs.Wellformed.{is_name};
     ghost use Rattle.reader.specs.View.{string};
-    ghost use Rattle.reader.specs.Cursors.{Read, Cut, Skips};
+    ghost use Rattle.reader.specs.Cursors.{Read, CutOff, Skips};
 
     // A name: a length byte and as many bytes.
     fn name(&mut self) -> Option<&'a [u8]>
-        ensures { MatchOption result (Cut name self.old) (λ x. Read name x.now self.old self.new) }
+        ensures { MatchOption result (CutOff name self.old) (λ x. Read name x.now self.old self.new) }
     {
         let n = self.byte()?;
         self.take(n as usize)
@@ -20,7 +20,7 @@ impl<'a> Cursor<'a> {
 
     // A text: a count in two bytes and as many bytes.
     fn text(&mut self) -> Option<&'a [u8]>
-        ensures { MatchOption result (Cut text self.old) (λ x. Read text x.now self.old self.new) }
+        ensures { MatchOption result (CutOff text self.old) (λ x. Read text x.now self.old self.new) }
     {
         let n = self.number()?;
         self.take(n as usize)
@@ -28,7 +28,7 @@ impl<'a> Cursor<'a> {
 
     // A name that is well formed.
     pub(crate) fn proper(&mut self) -> Option<&'a [u8]>
-        ensures { MatchOption result (Cut (checked is_name name) self.old) (λ x. Read (checked is_name name) x.now self.old self.new) }
+        ensures { MatchOption result (CutOff (checked is_name name) self.old) (λ x. Read (checked is_name name) x.now self.old self.new) }
     {
         let name = self.name()?;
         if is_name(name) { Some(name) } else { None }

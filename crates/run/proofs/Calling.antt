@@ -22,12 +22,12 @@ use Rattle.definitions.specs.Tables.{Tables}
 use Rattle.definitions.specs.Reader.{instruction, read_module, ends_in_return, jumps_land}
 use Rattle.definitions.specs.Run.{Ran, ended, run}
 use Rattle.definitions.specs.Calls.{Counts, function_of, are_answers, events_fit, run_function, run_answer, ran_counts, ran_call, run_call, output_after, written}
-use Rattle.reader.specs.View.{Got, function_in, CodeAt, instructions_of}
+use Rattle.reader.specs.View.{Got, function_in_module, CodeAt, instructions_of}
 use Rattle.reader.proofs.Encoding.{Small}
 use Rattle.reader.proofs.Iterated.{code-is, reads-code, bytes-are}
 use Rattle.run.specs.declared.course.Stand.{Stand}
 use Rattle.run.specs.Tables.{Coded}
-use Rattle.run.specs.Pass.{ending_number, counts, said, Called, Finishing, Passes, start, stood}
+use Rattle.run.specs.Pass.{run_ending_number, counts, ran_said, Called, Finishing, RunPasses, start, stood}
 use Rattle.run.proofs.Storing.{copied-written}
 use Rattle.definitions.proofs.ReadFits.{module-short}
 use Rattle.definitions.proofs.Begins.{Rest, takes-counted, takes-instruction}
@@ -41,13 +41,13 @@ answers_listed = same_from_clauses (list_all (λ x. leb x 1)) are_answers (λ x 
 
 -- ---- what the answer says
 
-pub says-refused : (o : Result RanSo Question) (q : ℕ) → said o ≡ refused q → (p : Question) × (o ≡ Err p) × (number p ≡ q)
-unfolding said
+pub says-refused : (o : Result RanSo Question) (q : ℕ) → ran_said o ≡ refused q → (p : Question) × (o ≡ Err p) × (number p ≡ q)
+unfolding ran_said
 says-refused (Err p) q e = (p, refl, cc)
 says-refused (Ok r) q f = let z : ◌≡◌ {A = ℕ} 0 1 = cc in absurd (omega arith)
 
-pub says-finished : (o : Result RanSo Question) (n : Counts) → said o ≡ accepted n → (r : RanSo) × (o ≡ Ok r) × (counts r ≡ n)
-unfolding said
+pub says-finished : (o : Result RanSo Question) (n : Counts) → ran_said o ≡ accepted n → (r : RanSo) × (o ≡ Ok r) × (counts r ≡ n)
+unfolding ran_said
 says-finished (Err p) n e = let z : ◌≡◌ {A = ℕ} 0 1 = cc in absurd (omega arith)
 says-finished (Ok r) n f = (r, refl, cc)
 
@@ -61,12 +61,12 @@ called : (a : Answer Ran) (want : Answer Ran) (before : List ℕ) (r : Result Ra
 called a want before r left e c = subst (λ (x : Answer Ran). Called r (ran_call x before) left) (sym e) c
 
 refuses : (q : Question) (want : Answer Ran) (before left : List ℕ) → want ≡ refused (number q) → left ≡ before → Called (Err q) (ran_call want before) left
-unfolding ran_call said when_accepted output_after
+unfolding ran_call ran_said when_accepted output_after
 refuses q want before left e f = called (refused (number q)) want before (Err q) left e (record { says = refl; leaves = f })
 
-pub measured-full : (r : Option RanSo) (v : Ran) (room : ℕ) (before left : List ℕ) → Passes r v room before left → r ≡ None → room < length v.events
-unfolding Passes
-measured-full r v room before left h e = subst (λ (x : Option RanSo). Passes x v room before left) e h
+pub measured-full : (r : Option RanSo) (v : Ran) (room : ℕ) (before left : List ℕ) → RunPasses r v room before left → r ≡ None → room < length v.events
+unfolding RunPasses
+measured-full r v room before left h e = subst (λ (x : Option RanSo). RunPasses x v room before left) e h
 
 pub full-called : (v : Ran) (before left : List ℕ) → length before < length v.events → left ≡ before → Called (Err EventRoom) (ran_call (events_fit (length before) v) before) left
 unfolding number
@@ -87,18 +87,18 @@ ending-is v e room u before left g =
       omega arith,
     )
 
-pub measured-fits : (r : Option RanSo) (v : Ran) (room : ℕ) (before left : List ℕ) (u : RanSo) → Passes r v room before left → r ≡ Some u → length v.events ≤ room
-unfolding Passes
+pub measured-fits : (r : Option RanSo) (v : Ran) (room : ℕ) (before left : List ℕ) (u : RanSo) → RunPasses r v room before left → r ≡ Some u → length v.events ≤ room
+unfolding RunPasses
 measured-fits r v room before left u h k =
-    let g : Finishing v (ending_number u.ending) room start (stood u) before left = subst (λ (x : Option RanSo). Passes x v room before left) k h in
-    let w = (ending-is v (ending_number u.ending) room (stood u) before left g).4 in let f = g.fits in omega arith
+    let g : Finishing v (run_ending_number u.ending) room start (stood u) before left = subst (λ (x : Option RanSo). RunPasses x v room before left) k h in
+    let w = (ending-is v (run_ending_number u.ending) room (stood u) before left g).4 in let f = g.fits in omega arith
 
-pub ended-called : (r : Option RanSo) (v : Ran) (before mid left : List ℕ) (u : RanSo) → mid ≡ before → Passes r v (length before) mid left → r ≡ Some u
+pub ended-called : (r : Option RanSo) (v : Ran) (before mid left : List ℕ) (u : RanSo) → mid ≡ before → RunPasses r v (length before) mid left → r ≡ Some u
     → Called (Ok u) (ran_call (events_fit (length before) v) before) left
-unfolding Passes ran_call said when_accepted ran_counts output_after
+unfolding RunPasses ran_call ran_said when_accepted ran_counts output_after
 ended-called r v before mid left u m h k =
-    let e = ending_number u.ending in
-    let g : Finishing v e (length before) start (stood u) before left = subst (λ (x : List ℕ). Finishing v e (length before) start (stood u) x left) m (subst (λ (x : Option RanSo). Passes x v (length before) mid left) k h) in
+    let e = run_ending_number u.ending in
+    let g : Finishing v e (length before) start (stood u) before left = subst (λ (x : List ℕ). Finishing v e (length before) start (stood u) x left) m (subst (λ (x : Option RanSo). RunPasses x v (length before) mid left) k h) in
     let n = ending-is v e (length before) (stood u) before left g in
     let f = g.fits in let w = n.4 in let l = ap length n.3 in
     called (accepted v) (events_fit (length before) v) before (Ok u) left (fitted before v true (le-leb (length v.events) (length before) (omega arith)))
@@ -108,7 +108,7 @@ ended-called r v before mid left u m h k =
     })
 
 -- the run of both passes, the first of which ended
-pub twice : (r₁ r : Option RanSo) (u : RanSo) (v : Ran) (before start left₁ mid left : List ℕ) → r₁ ≡ Some u → Passes r₁ v (length before) start left₁ → mid ≡ before → Passes r v (length before) mid left
+pub twice : (r₁ r : Option RanSo) (u : RanSo) (v : Ran) (before start left₁ mid left : List ℕ) → r₁ ≡ Some u → RunPasses r₁ v (length before) start left₁ → mid ≡ before → RunPasses r v (length before) mid left
     → Called (ok_or r EventRoom) (ran_call (events_fit (length before) v) before) left
 twice r₁ None u v before start left₁ mid left e h m k = let f = measured-fits r₁ v (length before) start left₁ u h e in let g = measured-full None v (length before) mid left k refl in absurd (omega arith)
 twice r₁ (Some w) u v before start left₁ mid left e h m k = ended-called (Some w) v before mid left w m k refl
@@ -167,13 +167,13 @@ module _ (t : List ℕ) (f p s n : ℕ) (c : CodeAt t f p s n) (part : List ℕ)
 
 -- ---- the call
 
-pub function-known : {t : List ℕ} {f p s n : ℕ} (c : CodeAt t f p s n) → function_in t f ≡ accepted c.function
-unfolding function_in
+pub function-known : {t : List ℕ} {f p s n : ℕ} (c : CodeAt t f p s n) → function_in_module t f ≡ accepted c.function
+unfolding function_in_module
 function-known {t} c = when-accepted (read_module t) _ c.tables c.module-is ∙ c.function-is
 
 module _ (t : List ℕ) (f : ℕ) (answers : List ℕ) (budget : ℕ) (before : List ℕ) where
-  by-function : run_answer t f answers budget (length before) ≡ when_accepted (function_in t f) (run_function answers budget (length before))
-  unfolding run_answer function_in when_accepted
+  by-function : run_answer t f answers budget (length before) ≡ when_accepted (function_in_module t f) (run_function answers budget (length before))
+  unfolding run_answer function_in_module when_accepted
   by-function = go (read_module t)
     where
       go : (r : Answer Tables) → when_accepted r (λ x. when_accepted (function_of x f) (run_function answers budget (length before))) ≡ when_accepted (when_accepted r (λ x. function_of x f)) (run_function answers budget (length before))
@@ -184,13 +184,13 @@ module _ (t : List ℕ) (f : ℕ) (answers : List ℕ) (budget : ℕ) (before : 
   unfolding run_call
   as-run r left c = c
 
-  pub call-refused : (q : Question) → function_in t f ≡ refused (number q) → Called (Err q) (run_call t f answers budget before) before
-  call-refused q e = as-run (Err q) before (refuses q (run_answer t f answers budget (length before)) before before (by-function ∙ when-refused (function_in t f) _ (number q) e) refl)
+  pub call-refused : (q : Question) → function_in_module t f ≡ refused (number q) → Called (Err q) (run_call t f answers budget before) before
+  call-refused q e = as-run (Err q) before (refuses q (run_answer t f answers budget (length before)) before before (by-function ∙ when-refused (function_in_module t f) _ (number q) e) refl)
 
   module _ (p s n : ℕ) (c : CodeAt t f p s n) where
     asked : (b : Bool) → are_answers answers ≡ b → run_answer t f answers budget (length before) ≡ (elim b as (λ z. Answer Ran) [ false ↦ refused 23 | true ↦ events_fit (length before) (run budget c.function.code 0 answers) ])
     unfolding run_function
-    asked b e = by-function ∙ when-accepted (function_in t f) _ c.function (function-known c)
+    asked b e = by-function ∙ when-accepted (function_in_module t f) _ c.function (function-known c)
         ∙ ap (λ (x : Bool). (elim x as (λ z. Answer Ran) [ false ↦ refused 23 | true ↦ events_fit (length before) (run budget c.function.code 0 answers) ])) e
 
     pub call-answers : are_answers answers ≡ false → Called (Err Answers) (run_call t f answers budget before) before

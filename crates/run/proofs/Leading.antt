@@ -12,7 +12,7 @@ use Rattle.definitions.specs.Run.{Ran, after, obey, run}
 use Rattle.reader.specs.View.{instructions_of}
 use Rattle.run.specs.declared.course.Stand.{Stand}
 use Rattle.run.specs.Tables.{Coded, flow_at}
-use Rattle.run.specs.Pass.{between, Stands, Went, NoFit, onward, Leads, start}
+use Rattle.run.specs.Pass.{between, Stands, Went, NoFit, run_onward, RunLeads, start}
 use Rattle.run.proofs.Coding.{between_is}
 use Rattle.run.proofs.Storing.{copied-then, copied_none}
 use Rattle.definitions.proofs.Follow.{after_none, after-after}
@@ -22,7 +22,7 @@ after-as a b a' b' e e' r r' p q s t = λ z. after (p z) (q z) (s z) (t z)
 
 -- ---- one lead after another
 
-pub leads-on : (whole middle tail : Ran) (s u v : Stand) (before mid left : List ℕ) → Leads whole middle s u before mid → Leads middle tail u v mid left → Leads whole tail s v before left
+pub leads-on : (whole middle tail : Ran) (s u v : Stand) (before mid left : List ℕ) → RunLeads whole middle s u before mid → RunLeads middle tail u v mid left → RunLeads whole tail s v before left
 leads-on whole middle tail s u v before mid left a b =
     let a1 = a.steps in let a2 = a.used in let a3 = a.written in let b1 = b.steps in let b2 = b.used in let b3 = b.written in
     let l = length-append a.events b.events in
@@ -37,8 +37,8 @@ leads-on whole middle tail s u v before mid left a b =
       copied = copied-then before mid left s.written u.written a.events b.events a.copied a.written b.copied;
     }
 
-pub leads-start : (c answers : List ℕ) (budget : ℕ) (before : List ℕ) → Leads (run budget (instructions_of c) 0 answers) (onward c answers budget start) start start before before
-unfolding onward
+pub leads-start : (c answers : List ℕ) (budget : ℕ) (before : List ℕ) → RunLeads (run budget (instructions_of c) 0 answers) (run_onward c answers budget start) start start before before
+unfolding run_onward
 leads-start c answers budget before = record {
   events = [];
   is = ap (λ (b : ℕ). run b (instructions_of c) 0 answers) (let z : budget ≡ budget - 0 = omega arith in z) ∙ after_none (run (budget - 0) (instructions_of c) 0 answers);
@@ -49,7 +49,7 @@ leads-start c answers budget before = record {
 }
 
 -- more events than there is room for, further on
-pub too_many : (whole tail : Ran) (s u : Stand) (before left : List ℕ) (room : ℕ) → Leads whole tail s u before left → room < u.written + length tail.events → room < s.written + length whole.events
+pub too_many : (whole tail : Ran) (s u : Stand) (before left : List ℕ) (room : ℕ) → RunLeads whole tail s u before left → room < u.written + length tail.events → room < s.written + length whole.events
 too_many whole tail s u before left room a h =
     let v : length whole.events ≡ length a.events + length tail.events = ap (λ (x : Ran). length x.events) a.is ∙ length-append a.events tail.events in
     let w = a.written in omega arith
@@ -76,8 +76,8 @@ run-straight (suc m) (suc b) k is answers l h f =
     (ap₂ (λ (x y : ℕ). run x is y answers) (let z : b - m ≡ suc b - suc m = omega arith in z) (let z : suc k + m ≡ k + suc m = omega arith in z))
 
 module _ (c : List ℕ) (h : Coded c) (answers : List ℕ) (budget room : ℕ) (s : Stand) (st : Stands c budget room s) where
-  pub went-leads : (u : Stand) (before left : List ℕ) → Went c budget room s u before left → Leads (onward c answers budget s) (onward c answers budget u) s u before left
-  unfolding onward
+  pub went-leads : (u : Stand) (before left : List ℕ) → Went c budget room s u before left → RunLeads (run_onward c answers budget s) (run_onward c answers budget u) s u before left
+  unfolding run_onward
   went-leads u before left w =
       let m = u.place - s.place in
       let f = w.from in let p = w.steps in let q = w.used in let x = w.stands.steps in let y = w.stands.place in
@@ -92,8 +92,8 @@ module _ (c : List ℕ) (h : Coded c) (answers : List ℕ) (budget room : ℕ) (
         copied = w.copied;
       }
 
-  pub no-fit : NoFit c budget room s → room < s.written + length (onward c answers budget s).events
-  unfolding onward
+  pub no-fit : NoFit c budget room s → room < s.written + length (run_onward c answers budget s).events
+  unfolding run_onward
   no-fit n =
       let m = n.to - s.place in
       let f = n.from in let x = n.within in let y = n.inside in let o = n.over in

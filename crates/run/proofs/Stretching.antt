@@ -9,15 +9,15 @@ use Rattle.std.proofs.Common.{Some, None}
 use Rattle.definitions.specs.Instruction.{straight}
 use Rattle.reader.specs.View.{instructions_of, start_of}
 use Rattle.run.specs.declared.course.Stand.{Stand}
-use Rattle.run.specs.Tables.{Coded, Places, flow_at, Stop, Stops}
-use Rattle.run.specs.Pass.{Reaches, Copied, Stands, between, AtStop, Goes}
+use Rattle.run.specs.Tables.{Coded, PlacesFilled, flow_at, Stop, Stops}
+use Rattle.run.specs.Pass.{ReachesStop, Copied, Stands, between, AtStop, Goes}
 use Rattle.run.proofs.Coding.{start-in, start_up, between-length}
 
 module _ (c : List ℕ) (h : Coded c) (budget room : ℕ) (s : Stand) (st : Stands c budget room s) (stops : List ℕ) (sp : Stops c stops) (stop : ℕ) (es : stop ≡ get_or stops s.place 0) where
   stop_is : Stop (instructions_of c) s.place stop
   stop_is = subst (λ (x : ℕ). Stop (instructions_of c) s.place x) (sym es) (sp.at s.place st.place)
 
-  module _ (places : List ℕ) (pl : Places c places) (to : ℕ) (r : Reaches to stop s.place (budget - s.steps)) where
+  module _ (places : List ℕ) (pl : PlacesFilled c places) (to : ℕ) (r : ReachesStop to stop s.place (budget - s.steps)) where
     to_in : to < length (instructions_of c)
     to_in = let a = stop_is.inside in let b = r.to in omega arith
 

@@ -11,12 +11,12 @@ use lib.Seq.{get_or-set_same, get_or-set_other, drop-drop}
 use borrow.Author.Tests.{eqb-true, eqb-false}
 use Rattle.definitions.specs.Instruction.{Instr, Return, encode, encodes}
 use Rattle.definitions.specs.Instruction.{Flow, straight, jump, question, returns, flow}
-use Rattle.reader.specs.View.{instructions_of, start_of, shown, Walks}
+use Rattle.reader.specs.View.{instructions_of, start_of, instruction_shown, Walks}
 use Rattle.std.proofs.Common.{Some, None}
 use Rattle.reader.specs.declared.Placed.{Placed}
 use Rattle.reader.specs.declared.iteration.Instructions.{Instructions}
 use Rattle.reader.proofs.Iterated.{walked, walked-out}
-use Rattle.run.specs.Tables.{Coded, Places, flow_at, Stop, Stops, Nearer}
+use Rattle.run.specs.Tables.{Coded, PlacesFilled, flow_at, Stop, Stops, Nearer}
 use Rattle.definitions.proofs.Flows.{return-stops}
 use Rattle.run.proofs.Coding.{op-here, not_last, start-add}
 use Rattle.definitions.specs.Bytes.{concat}
@@ -65,22 +65,23 @@ drop-some xs k y ys e = let l = ap length e in let m = length-drop k xs in omega
 
 module _ (c : List ℕ) (s : Instructions) (before table : List ℕ) (f : Filling c s before table) where
   module _ (n : Instructions) (p : Placed) (w : Walks s (Some p) n) where
-    more : (instructions_of (drop s.at c) ≡ shown p ∷ instructions_of (drop n.at c)) × (n.place ≡ s.place + 1) × (n.at ≤ length c) × (n.at ≡ s.at + length (encode (shown p))) × (n.code.now ≡ c)
+    more : (instructions_of (drop s.at c) ≡ instruction_shown p ∷ instructions_of (drop n.at c)) × (n.place ≡ s.place + 1) × (n.at ≤ length c) × (n.at ≡ s.at + length (encode (instruction_shown p))) × (n.code.now ≡ c)
     more = walked c s n p f.code w
 
-    here : drop s.place (instructions_of c) ≡ shown p ∷ instructions_of (drop n.at c)
+    here : drop s.place (instructions_of c) ≡ instruction_shown p ∷ instructions_of (drop n.at c)
     here = sym f.rest ∙ more.0
 
     pub fill-in : p.place < length (instructions_of c)
-    fill-in = let d = drop-some (instructions_of c) s.place (shown p) (instructions_of (drop n.at c)) here in let e = w.1.0 in omega arith
+    fill-in = let d = drop-some (instructions_of c) s.place (instruction_shown p) (instructions_of (drop n.at c)) here in let e = w.1.0 in omega arith
 
     pub filling-more : p.place < length table → Filling c n before (set table p.place p.at)
     filling-more h =
         let m = more in
-        let q = m.3 in let d = length-encode (shown p) in
+        let q = m.3 in let d = length-encode (instruction_shown p) in
         let one : drop n.place (instructions_of c) ≡ instructions_of (drop n.at c) = ap (λ (k : ℕ). drop k (instructions_of c)) m.1 ∙ sym (drop-drop 1 s.place (instructions_of c)) ∙ ap (drop 1) here in
-        let b : start_of (instructions_of c) (s.place + 1) ≡ start_of (instructions_of c) s.place + length (encode (shown p)) =
-        start-add (instructions_of c) s.place 1 ∙ ap (λ (js : List Instr). start_of (instructions_of c) s.place + length (encodes (take 1 js))) here ∙ ap (λ (k : ℕ). start_of (instructions_of c) s.place + k) (one-encoded (shown p)) in
+        let b : start_of (instructions_of c) (s.place + 1) ≡ start_of (instructions_of c) s.place + length (encode (instruction_shown p)) =
+        start-add (instructions_of c) s.place 1 ∙ ap (λ (js : List Instr). start_of (instructions_of c) s.place + length (encodes (take 1 js))) here
+        ∙ ap (λ (k : ℕ). start_of (instructions_of c) s.place + k) (one-encoded (instruction_shown p)) in
         let t = ap (start_of (instructions_of c)) m.1 in let u = f.at in
         record {
           code = m.4;
@@ -99,7 +100,7 @@ module _ (c : List ℕ) (s : Instructions) (before table : List ℕ) (f : Fillin
                 ap (λ (j : ℕ). get_or (set table p.place p.at) j 0) y ∙ get_or-set_same table p.place p.at 0 h ∙ w.1.1 ∙ f.at ∙ ap (start_of (instructions_of c)) (sym (y ∙ w.1.0))
             go false x = let y = eqb-false k p.place x in get_or-set_other table p.place k p.at 0 y ∙ f.entries k (below k s.place l (λ z. y (z ∙ sym w.1.0)))
 
-  pub filled : (n : Instructions) → length (instructions_of c) ≤ length before → Walks s None n → Places c table
+  pub filled : (n : Instructions) → length (instructions_of c) ≤ length before → Walks s None n → PlacesFilled c table
   filled n h w =
       let d = ap length (sym f.rest ∙ walked-out c s n f.code w) in let m = length-drop s.place (instructions_of c) in let l = f.long in
       record { long = omega arith; at = λ k j. f.entries k (omega arith) }
@@ -171,7 +172,7 @@ stopped c n k stop before table e l z s = let m = s.long in record { long = omeg
 -- ---- the same in the code's terms: one place back from k
 
 module _ (c : List ℕ) (h : Coded c) (n : ℕ) (en : n ≡ length (instructions_of c)) (k stop : ℕ) (before table : List ℕ) (s : Stopping c n k stop before table) (l : 0 < k)
-    (places : List ℕ) (pl : Places c places) (p : ℕ) (ep : p ≡ get_or places (k - 1) 0) where
+    (places : List ℕ) (pl : PlacesFilled c places) (p : ℕ) (ep : p ≡ get_or places (k - 1) 0) where
   back : k - 1 < n
   back = let b = s.below in omega arith
 

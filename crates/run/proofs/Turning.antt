@@ -20,7 +20,7 @@ use Rattle.run.specs.declared.course.Stand.{Stand}
 use Rattle.run.specs.declared.course.Turned.{Turned}
 use Rattle.run.specs.declared.course.Turned.TheVariants.{On, Over}
 use Rattle.run.specs.Tables.{Coded, flow_at}
-use Rattle.run.specs.Pass.{Stands, AtStop, Asked, Starved, Asks, onward, Turning, Finishing, Turns, ending_number}
+use Rattle.run.specs.Pass.{Stands, AtStop, Asked, Starved, Asks, run_onward, Turning, Finishing, Turns, run_ending_number}
 use Rattle.definitions.proofs.Flows.{stop-jumps, jump-width, is-jump, flow-jump, flow-returns, flow-question, way-below}
 use Rattle.run.proofs.Flows.{return-bytes}
 use Rattle.run.proofs.Coding.{op-here, operand-here, not_last, jump-inside}
@@ -31,7 +31,7 @@ use Rattle.std.proofs.Math.Arith.{lt_of_le-ne}
 module _ (c answers : List ℕ) (budget room : ℕ) (s : Stand) where
   -- no budget left
   pub spent : s.written ≤ room → s.steps ≡ budget → (before : List ℕ) → Turns (Some (Over BudgetSpent s)) c answers budget room s before before
-  unfolding Turns onward run ending_number
+  unfolding Turns run_onward run run_ending_number
   spent f e before = record {
     leads = record {
       events = [];
@@ -55,8 +55,8 @@ module _ (c answers : List ℕ) (budget room : ℕ) (s : Stand) where
     go : ℕ → List ℕ → Ran
     go q rest = run (budget - (s.steps + 1)) (instructions_of c) q rest
 
-    obeyed : (w : Flow) → flow i.op ≡ w → onward c answers budget s ≡ obey w i s.place (drop s.used answers) go
-    unfolding onward run i go
+    obeyed : (w : Flow) → flow i.op ≡ w → run_onward c answers budget s ≡ obey w i s.place (drop s.used answers) go
+    unfolding run_onward run i go
     obeyed w e =
         let z = less in
         ap (λ (b : ℕ). run b (instructions_of c) s.place (drop s.used answers)) (let y : budget - s.steps ≡ suc (budget - (s.steps + 1)) = omega arith in y)
@@ -69,7 +69,7 @@ module _ (c answers : List ℕ) (budget room : ℕ) (s : Stand) where
 
       -- a Return
       module _ (e : op ≡ 33) where
-        one_byte : onward c answers budget s ≡ after 1 0 (op ∷ []) (ended 1)
+        one_byte : run_onward c answers budget s ≡ after 1 0 (op ∷ []) (ended 1)
         unfolding obey
         one_byte = obeyed returns (flow-returns i.op (sym op-is ∙ e)) ∙ ap (λ (bs : List ℕ). after 1 0 bs (ended 1)) (return-bytes i (sym op-is ∙ e) ∙ ap (λ (k : ℕ). k ∷ []) (sym op-is))
 
@@ -77,11 +77,11 @@ module _ (c answers : List ℕ) (budget room : ℕ) (s : Stand) where
         unfolding Turns ended
         return-full before left f =
             let w = st.written in
-            let v : length (onward c answers budget s).events ≡ 1 = ap (λ (x : Ran). length x.events) one_byte in omega arith
+            let v : length (run_onward c answers budget s).events ≡ 1 = ap (λ (x : Ran). length x.events) one_byte in omega arith
 
         pub returned : (before left : List ℕ) → s.written < room → left ≡ set before s.written op
             → Turns (Some (Over Returned (record { steps = s.steps + 1; used = s.used; written = s.written + 1; place = s.place }))) c answers budget room s before left
-        unfolding Turns ending_number
+        unfolding Turns run_ending_number
         returned before left f d = record {
           leads = record {
             events = op ∷ [];
@@ -120,7 +120,7 @@ module _ (c answers : List ℕ) (budget room : ℕ) (s : Stand) where
 
           pub jumped : (before : List ℕ) → op ≡ 28 → (t : ℕ) → t ≡ landing s.place a
               → Turns (Some (On (record { steps = s.steps + 1; used = s.used; written = s.written; place = t }))) c answers budget room s before before
-          unfolding Turns onward obey go
+          unfolding Turns run_onward obey go
           jumped before e t f =
               let z = less in
               let g : landing s.place i.a ≡ t = ap (landing s.place) (sym a-is) ∙ sym f in
@@ -140,14 +140,14 @@ module _ (c answers : List ℕ) (budget room : ℕ) (s : Stand) where
               }
 
           module _ (n : op ≡ 28 → ⊥) where
-            asks : onward c answers budget s ≡ obey (question (eqb op 30)) i s.place (drop s.used answers) go
+            asks : run_onward c answers budget s ≡ obey (question (eqb op 30)) i s.place (drop s.used answers) go
             asks = obeyed (question (eqb op 30)) (flow-question i.op ranged.0 ranged.1 (λ z. n (op-is ∙ z)) ∙ ap (λ (k : ℕ). question (eqb k 30)) (sym op-is))
 
             starves : (e : Ending) (u : Stand) (before left : List ℕ) → Starved e answers s u before left → Turns (Some (Over e u)) c answers budget room s before left
-            unfolding Turns obey ending_number
+            unfolding Turns obey run_ending_number
             starves e u before left t =
-                let k : onward c answers budget s ≡ ended 2 = asks ∙ ap (λ (xs : List ℕ). obey (question (eqb op 30)) i s.place xs go) (drop_of_length-le answers t.none) in
-                let same : Finishing (onward c answers budget s) 2 room s s before before = record {
+                let k : run_onward c answers budget s ≡ ended 2 = asks ∙ ap (λ (xs : List ℕ). obey (question (eqb op 30)) i s.place xs go) (drop_of_length-le answers t.none) in
+                let same : Finishing (run_onward c answers budget s) 2 room s s before before = record {
                   leads = record {
                     events = [];
                     is = k ∙ after_none (ended 2) ∙ ap₂ (λ (x y : ℕ). after x y [] (ended 2)) (let z : 0 ≡ s.steps - s.steps = omega arith in z) (let z : 0 ≡ s.used - s.used = omega arith in z);
@@ -159,11 +159,11 @@ module _ (c answers : List ℕ) (budget room : ℕ) (s : Stand) where
                   fits = st.written;
                 } in
                 let e1 = sym t.ending in let e2 = sym t.stays in let e3 = sym t.same in
-                subst (λ (x : Ending). Finishing (onward c answers budget s) (ending_number x) room s u before left) e1
-                (subst (λ (x : Stand). Finishing (onward c answers budget s) 2 room s x before left) e2
-                (subst (λ (x : List ℕ). Finishing (onward c answers budget s) 2 room s s before x) e3 same))
+                subst (λ (x : Ending). Finishing (run_onward c answers budget s) (run_ending_number x) room s u before left) e1
+                (subst (λ (x : Stand). Finishing (run_onward c answers budget s) 2 room s x before left) e2
+                (subst (λ (x : List ℕ). Finishing (run_onward c answers budget s) 2 room s s before x) e3 same))
 
-            answered : s.used < length answers → onward c answers budget s
+            answered : s.used < length answers → run_onward c answers budget s
                 ≡ after 1 1 (op ∷ get_or answers s.used 0 ∷ []) (run (budget - (s.steps + 1)) (instructions_of c) (way (eqb op 30) (eqb (get_or answers s.used 0) 1) s.place a) (drop (s.used + 1) answers))
             unfolding obey go
             answered u = asks
@@ -173,7 +173,7 @@ module _ (c answers : List ℕ) (budget room : ℕ) (s : Stand) where
                 (sym op-is) (sym a-is)
 
             goes : (u : Stand) (before left : List ℕ) → Asked op a answers room s u before left → Turns (Some (On u)) c answers budget room s before left
-            unfolding Turns onward i
+            unfolding Turns run_onward i
             goes u before left q =
                 let z = less in let f = q.fits in
                 let to : Stand = record { steps = s.steps + 1; used = s.used + 1; written = s.written + 2; place = way (eqb op 30) (eqb (get_or answers s.used 0) 1) s.place a } in
@@ -182,7 +182,7 @@ module _ (c answers : List ℕ) (budget room : ℕ) (s : Stand) where
                   leads = record {
                     events = op ∷ get_or answers s.used 0 ∷ [];
                     is = answered q.more
-                        ∙ ap₂ (λ (x y : ℕ). after x y (op ∷ get_or answers s.used 0 ∷ []) (onward c answers budget to)) (let z : 1 ≡ s.steps + 1 - s.steps = omega arith in z) (let z : 1 ≡ s.used + 1 - s.used = omega arith in z);
+                        ∙ ap₂ (λ (x y : ℕ). after x y (op ∷ get_or answers s.used 0 ∷ []) (run_onward c answers budget to)) (let z : 1 ≡ s.steps + 1 - s.steps = omega arith in z) (let z : 1 ≡ s.used + 1 - s.used = omega arith in z);
                     steps = omega arith;
                     used = omega arith;
                     written = refl;
@@ -203,7 +203,7 @@ module _ (c answers : List ℕ) (budget room : ℕ) (s : Stand) where
             no_room before left f =
                 let x = f.1 in
                 let rest = run (budget - (s.steps + 1)) (instructions_of c) (way (eqb op 30) (eqb (get_or answers s.used 0) 1) s.place a) (drop (s.used + 1) answers) in
-                let v : length (onward c answers budget s).events ≡ 2 + length rest.events =
+                let v : length (run_onward c answers budget s).events ≡ 2 + length rest.events =
                 ap (λ (x : Ran). length x.events) (answered f.0) ∙ length-append (op ∷ get_or answers s.used 0 ∷ []) rest.events in omega arith
 
             pub questioned : (r : Option Turned) (before left : List ℕ) → Asks r op a answers room s before left → Turns r c answers budget room s before left

@@ -19,7 +19,7 @@ pub record Coded (c : List ℕ) : Type 0 where
   pub short : length c ≤ 524288
 
 -- where each instruction begins
-pub record Places (c table : List ℕ) : Type 0 where
+pub record PlacesFilled (c table : List ℕ) : Type 0 where
   pub long : length (instructions_of c) ≤ length table
   pub at : (k : ℕ) → k < length (instructions_of c) → get_or table k 0 ≡ start_of (instructions_of c) k
 

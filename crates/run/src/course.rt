@@ -2,8 +2,8 @@
 ghost use Rattle.std.specs.Prelude.{◌≡◌, ◌≤◌, ◌<◌, eqb, set};
 ghost use Rattle.definitions.specs.Run as Run;
 ghost use Rattle.reader.specs.View.{instructions_of};
-ghost use Rattle.run.specs.Tables.{Coded, Places, Stops};
-ghost use Rattle.run.specs.Pass.{Reaches, Copied, Stands, Goes, AtStop, Asks, Turns, Passes};
+ghost use Rattle.run.specs.Tables.{Coded, PlacesFilled, Stops};
+ghost use Rattle.run.specs.Pass.{ReachesStop, Copied, Stands, Goes, AtStop, Asks, Turns, RunPasses};
 
 use crate::{Ending, Ran};
 use numerals::op_bytes::{JUMP, JUMP_IF_TRUE, RETURN};
@@ -35,7 +35,7 @@ pub(crate) struct Course<'a> {
     pub budget: u64,
     pub room: usize,
     ghost coded: { Coded code.now },
-    ghost begins: { Places code.now places.now },
+    ghost begins: { PlacesFilled code.now places.now },
     ghost halts: { Stops code.now stops.now },
 }
 
@@ -63,7 +63,7 @@ fn copy(events: &mut [u8], at: usize, bytes: &[u8])
 // The place to go straight on to: the stop, or as far as the steps left go.
 fn reach(stop: usize, place: usize, left: u64) -> usize
     requires { place ≤ stop }
-    ensures { Reaches result stop place left }
+    ensures { ReachesStop result stop place left }
 {
     if (stop - place) as u64 <= left {
         return stop;
@@ -173,7 +173,7 @@ impl Course<'_> {
     // A loop, as each turn says whether there is another. By value: tried with `&self`, and a run of 28 ms takes 3 ms more, as it reads the course anew
     // after each byte that it stores.
     pub(crate) fn pass(self, events: &mut [u8]) -> Option<Ran>
-        ensures { Passes result (Run.run self.entry.budget (instructions_of self.entry.code.now) 0 self.entry.answers.now) self.entry.room events.old events.new }
+        ensures { RunPasses result (Run.run self.entry.budget (instructions_of self.entry.code.now) 0 self.entry.answers.now) self.entry.room events.old events.new }
     {
         let mut s = Stand {
             steps: 0,

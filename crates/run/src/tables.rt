@@ -1,7 +1,7 @@
 // Tables of a function's code, made once for a run: where each instruction begins, and where going straight on from it stops.
 ghost use Rattle.std.specs.Prelude.{◌≡◌, ◌≤◌, length};
 ghost use Rattle.reader.specs.View.{instructions_of};
-ghost use Rattle.run.specs.Tables.{Coded, Places, Stops, GoesOn, Nearer};
+ghost use Rattle.run.specs.Tables.{Coded, PlacesFilled, Stops, GoesOn, Nearer};
 
 use numerals::op_bytes::{JUMP, JUMP_IF_FALSE, JUMP_IF_TRUE, RETURN};
 use reader::Instructions;
@@ -18,7 +18,7 @@ pub(crate) struct Function<'a> {
 // Where each instruction begins.
 pub fn fill_places(code: &[u8], places: &mut [u32])
     requires { Coded code.now × (length (instructions_of code.now) ≤ length places.old) }
-    ensures { Places code.now places.new }
+    ensures { PlacesFilled code.now places.new }
 {
     for placed in Instructions::of(code) {
         places[placed.place as usize] = placed.at as u32;
@@ -44,7 +44,7 @@ pub(crate) fn nearer(op: u8, k: usize, stop: usize) -> usize
 
 // Where going straight on stops, from each of the function's instructions on.
 pub(crate) fn fill_stops(function: Function<'_>, places: &[u32], stops: &mut [u32])
-    requires { Places function.code.now places.now × (function.n ≤ length stops.old) }
+    requires { PlacesFilled function.code.now places.now × (function.n ≤ length stops.old) }
     ensures { Stops function.entry.code.now stops.new }
 {
     let mut stop = 0;

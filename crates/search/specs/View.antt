@@ -2,7 +2,7 @@
 use Rattle.std.specs.Prelude.{ℕ, ◌+◌, ◌<◌, ◌≤◌, ◌≡◌, List, length, take, drop, get_or, set, replicate}
 use Rattle.definitions.specs.Search.{Table, Marks, Tabled, meet, expand}
 use Rattle.reader.specs.View.{instructions_of}
-use Rattle.run.specs.Tables.{Coded, Places}
+use Rattle.run.specs.Tables.{Coded, PlacesFilled}
 
 -- of n places each
 unfoldable pub marks_of : ℕ → List ℕ → List ℕ
@@ -38,7 +38,7 @@ pub record Beginning (area : List ℕ) (n : ℕ) : Type 0 where
 -- the places after p may be met: the code stands, and the mark of a no is not 0
 pub record Expandable (code places area : List ℕ) (tail p : ℕ) (m : Marks) : Type 0 where
   pub coded : Coded code
-  pub starts : Places code places
+  pub starts : PlacesFilled code places
   pub long : 131072 ≤ length area
   pub tabled : Tabled (length (instructions_of code)) (table_in (length (instructions_of code)) area tail)
   pub place : p < length (instructions_of code)
@@ -53,6 +53,6 @@ Expands r code p m area area' tail =
 -- a function's code may be searched
 pub record Searchable (code places area : List ℕ) (n : ℕ) : Type 0 where
   pub coded : Coded code
-  pub starts : Places code places
+  pub starts : PlacesFilled code places
   pub count : n ≡ length (instructions_of code)
   pub long : 131072 ≤ length area

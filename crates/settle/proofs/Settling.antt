@@ -16,10 +16,10 @@ use Rattle.definitions.proofs.Accepted.{within, within-fits, tables-read}
 use Rattle.questions.specs.declared.Question.{Question}
 use Rattle.questions.specs.declared.Question.TheVariants.{Slots, Limits as LimitsKept}
 use Rattle.questions.specs.Numbers.{number}
-use Rattle.tree.specs.Settled.{said as tree_said, settled}
+use Rattle.tree.specs.Settled.{tree_said, settled}
 use Rattle.tree.specs.StmtAt.{TreeAt}
 use Rattle.tree.proofs.TreeViews.{answer-refused}
-use Rattle.state.specs.State.{State, state_of, limits_of, Within, Sound}
+use Rattle.state.specs.State.{State, state_of, limits_of, WithinLimits, Sound}
 use Rattle.state.specs.declared.Limits.{Limits}
 use Rattle.definitions.specs.Fits.{fits_block}
 use Rattle.state.proofs.Views.{few-slots, within-sound}
@@ -27,25 +27,25 @@ use Rattle.definitions.proofs.SlotsFit.{slots-fit, targets-asked}
 use Rattle.lower_emit.specs.declared.emitter.Emitter.{Emitter}
 use Rattle.lower_emit.specs.Emitting.{counts_of, limits_in, state_in, SameAreas}
 use Rattle.compile.specs.Compiled.{tree_block, CompilesTree}
-use Rattle.settle.specs.Settles.{told, full_by, tables_in, Settles, Accepts}
+use Rattle.settle.specs.Settles.{told, full_by, tables_shown, Settles, Accepts}
 use Rattle.settle.proofs.Outcome.{check-gives, tables-refused, tables-fit, fits-slots, fits-over, fits_all}
 
 -- ---- the limits
 
 -- a state within the limits has tables within them
-tables-within : (l : Limits) (s : State) → Within l s → tables_fit (limits_of l) s.tables ≡ true
+tables-within : (l : Limits) (s : State) → WithinLimits l s → tables_fit (limits_of l) s.tables ≡ true
 unfolding limits_of
 tables-within l s w =
     within-fits (limits_of l) s.tables (record { functions = w.functions; symbols = w.symbols; strings = w.strings; classes = w.classes; instructions = omega (arith, w.instructions) })
 
-within-fit : (l : Limits) (t : Tables) → slots_fit t ≡ true → tables_fit (limits_of l) t ≡ true → Within l (record { stack = []; tables = t })
+within-fit : (l : Limits) (t : Tables) → slots_fit t ≡ true → tables_fit (limits_of l) t ≡ true → WithinLimits l (record { stack = []; tables = t })
 unfolding limits_of
 within-fit l t slots e =
     let L = within (limits_of l) t e in
     record { functions = L.functions; symbols = L.symbols; strings = L.strings; classes = L.classes; instructions = omega (arith, L.instructions); slots = slots }
 
 -- tables that are not within the limits, though each function has at most 255 slots
-tables-over : (l : Limits) (t : Tables) → slots_fit t ≡ true → (Within l (record { stack = []; tables = t }) → ⊥) → tables_fit (limits_of l) t ≡ false
+tables-over : (l : Limits) (t : Tables) → slots_fit t ≡ true → (WithinLimits l (record { stack = []; tables = t }) → ⊥) → tables_fit (limits_of l) t ≡ false
 tables-over l t slots h = go (tables_fit (limits_of l) t) refl
   where
     go : (x : Bool) → tables_fit (limits_of l) t ≡ x → x ≡ false
@@ -81,7 +81,7 @@ module _ (c : Block) {tree : List ℕ} {A : Type 0} {r : Option A} {a b : Emitte
     unfolding state_of
     compiled-fits =
         ap (tables_fit (limits_of (limits_in a))) (sym (h.tables x e))
-        ∙ ap (λ (l : Limits). tables_fit (limits_of l) (tables_in tree b)) (sym h.limits)
+        ∙ ap (λ (l : Limits). tables_fit (limits_of l) (tables_shown tree b)) (sym h.limits)
         ∙ tables-within (limits_in b) (state_in tree b) (within-sound tree b.tables.names.made.now b.code.words.now b.tables.entries.words.now (counts_of b) (limits_in b) sound)
 
 module _ {tree : List ℕ} (T : TreeAt tree) where
@@ -148,7 +148,7 @@ pub settles-accepts : {r : Result (Unit {0}) Question} {tree : List ℕ} {a b : 
 unfolding told
 settles-accepts {r} {tree} {a} {b} {l} same S = subst (λ (k : Limits). Accepts r tree k) same (record { answer = go r S.answer S.stands; stands = S.stands })
   where
-    go : (o : Result (Unit {0}) Question) → lower_tables (limits_of (limits_in a)) tree ≡ told o (tables_in tree b) → ((u : Unit {0}) → o ≡ Ok u → TreeAt tree)
+    go : (o : Result (Unit {0}) Question) → lower_tables (limits_of (limits_in a)) tree ≡ told o (tables_shown tree b) → ((u : Unit {0}) → o ≡ Ok u → TreeAt tree)
         → accepted_tree (limits_of (limits_in a)) tree ≡ told o (tree_block tree)
-    go (Ok u) e T = accepted-tree _ tree (tree_block tree) (tables_in tree b) (check-gives tree (tree_block tree) (T u refl).answer).reads e
+    go (Ok u) e T = accepted-tree _ tree (tree_block tree) (tables_shown tree b) (check-gives tree (tree_block tree) (T u refl).answer).reads e
     go (Err q) e T = refused-tree _ tree (number q) e

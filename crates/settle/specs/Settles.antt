@@ -25,12 +25,12 @@ full_by true = LimitsKept
 full_by false = Slots
 
 -- the tables that an emitter shows
-abbrev pub tables_in : List ℕ → Emitter → Tables
-tables_in tree e = tables_of tree e.tables.names.made.now e.code.words.now e.tables.entries.words.now (counts_of e)
+abbrev pub tables_shown : List ℕ → Emitter → Tables
+tables_shown tree e = tables_of tree e.tables.names.made.now e.code.words.now e.tables.entries.words.now (counts_of e)
 
 -- the emitter shows the tables of an accepted tree; or the tree is refused
 pub record Settles (r : Result (Unit {0}) Question) (tree : List ℕ) (a b : Emitter) : Type 0 where
-  pub answer : lower_tables (limits_of (limits_in a)) tree ≡ told r (tables_in tree b)
+  pub answer : lower_tables (limits_of (limits_in a)) tree ≡ told r (tables_shown tree b)
   pub stands : (u : Unit {0}) → r ≡ Ok u → TreeAt tree
   pub sound : (u : Unit {0}) → r ≡ Ok u → SoundIn tree b
   pub limits : limits_in b ≡ limits_in a

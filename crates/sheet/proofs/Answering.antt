@@ -11,7 +11,7 @@ use Rattle.definitions.specs.Reader.{read_module}
 use Rattle.definitions.specs.Sheet.{sheet_of, sheet}
 use Rattle.definitions.proofs.ReadFits.{small_bytes, functions-fit}
 use Rattle.definitions.proofs.Sheet.{sheet_length}
-use Rattle.reader.specs.View.{tables_of}
+use Rattle.reader.specs.View.{module_tables}
 use Rattle.reader.proofs.Encoding.{Small}
 use Rattle.writing.specs.Wrote.{Wrote}
 use Rattle.tally.specs.Walk.{functions_from, FunctionsAt}
@@ -28,31 +28,31 @@ unfolding sheet_call number
 sheet-closed t out q e = lists-closed SheetRoom sheet t out q e
 
 module _ {t : List ℕ} {p : Part} (F : FunctionsAt t p) (small : Small t) where
-  functions-are : functions_from p.count t (p.start + 2) ≡ (tables_of t).functions
+  functions-are : functions_from p.count t (p.start + 2) ≡ (module_tables t).functions
   functions-are = (functions-begin t p F).2
 
-  sheet-is : sheet_of (functions_from p.count t (p.start + 2)) ≡ sheet (tables_of t)
+  sheet-is : sheet_of (functions_from p.count t (p.start + 2)) ≡ sheet (module_tables t)
   unfolding sheet
   sheet-is = ap sheet_of functions-are
 
   pub few-instructions : instructions (functions_from p.count t (p.start + 2)) < 1000000
   few-instructions =
-      let s = (functions-fit t (tables_of t) (small_bytes t small) F.module-is).short in
+      let s = (functions-fit t (module_tables t) (small_bytes t small) F.module-is).short in
       let i = ap instructions functions-are in
       omega arith
 
-  long : length (sheet (tables_of t)) ≡ 41 * (p.count + 1)
-  long = (sheet_length t (tables_of t) (small_bytes t small) F.module-is).long ∙ ap (λ (k : ℕ). 41 * (k + 1)) (sym F.count)
+  long : length (sheet (module_tables t)) ≡ 41 * (p.count + 1)
+  long = (sheet_length t (module_tables t) (small_bytes t small) F.module-is).long ∙ ap (λ (k : ℕ). 41 * (k + 1)) (sym F.count)
 
   pub sheet-long : length (sheet_of (functions_from p.count t (p.start + 2))) ≡ 41 * (p.count + 1)
   sheet-long = ap length sheet-is ∙ long
 
   pub sheet-full : {out : List ℕ} → length out < 41 * (p.count + 1) → Printed (Err SheetRoom) (sheet_call t out) out
   unfolding sheet_call number
-  sheet-full {out} h = let l = long in lists-full SheetRoom sheet t out (tables_of t) F.module-is (omega arith)
+  sheet-full {out} h = let l = long in lists-full SheetRoom sheet t out (module_tables t) F.module-is (omega arith)
 
   pub sheet-written : {out after : List ℕ} {put : ℕ} → 41 * (p.count + 1) ≤ length out → Wrote put (sheet_of (functions_from p.count t (p.start + 2))) out after → Printed (Ok put) (sheet_call t out) after
   unfolding sheet_call number
   sheet-written {out} {after} {put} h w =
       let l = long in
-      lists-written SheetRoom sheet t out (tables_of t) F.module-is after put (omega arith) (w.count ∙ ap length sheet-is) (w.out ∙ ap (λ (x : List ℕ). written x out) sheet-is)
+      lists-written SheetRoom sheet t out (module_tables t) F.module-is after put (omega arith) (w.count ∙ ap length sheet-is) (w.out ∙ ap (λ (x : List ℕ). written x out) sheet-is)

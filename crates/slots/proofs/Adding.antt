@@ -14,9 +14,9 @@ use Rattle.definitions.specs.Bytes.{Name, same, position, member}
 use Rattle.definitions.specs.Slots.{add}
 use Rattle.definitions.proofs.Named.{add-grows}
 use Rattle.state.specs.Words.{name_at}
-use Rattle.state.specs.Index.{bucket_of, Covered, none_covered, covered, start_of}
+use Rattle.state.specs.Index.{bucket_of, Covered, none_covered, covered, seek_from}
 use Rattle.state.specs.State.{names_at, slots_from, slot_names, Slots}
-use Rattle.parts.specs.Places.{name_bytes}
+use Rattle.parts.specs.Places.{name_from}
 use Rattle.std.specs.Prelude as std
 use Rattle.std.specs.Prelude.{Some, None, is_some}
 use Rattle.names.specs.Sought.{place_in, sought_from}
@@ -24,8 +24,8 @@ use Rattle.names.proofs.Indexing.{place_found, slot-found, covered_out, covered-
 use Rattle.slots.specs.Slotted.{leading, first_names, Indexed, IsBucket, Added}
 
 -- the two views of a name in the tree are one
-pub name-bytes : (t : List ℕ) (p : ℕ) → name_at t p ≡ name_bytes t p
-unfolding name_at name_bytes
+pub name-bytes : (t : List ℕ) (p : ℕ) → name_at t p ≡ name_from t p
+unfolding name_at name_from
 name-bytes t p = refl
 
 -- ---- the names of the first slots
@@ -38,7 +38,7 @@ pub names-append : (t : List ℕ) (ps qs : List ℕ) → names_at t (ps ++ qs) �
 unfolding names_at
 names-append t ps qs = map-append (name_at t) ps qs
 
-pub names-one : (t : List ℕ) (p : ℕ) → names_at t (p ∷ []) ≡ name_bytes t p ∷ []
+pub names-one : (t : List ℕ) (p : ℕ) → names_at t (p ∷ []) ≡ name_from t p ∷ []
 unfolding names_at
 names-one t p = ap (λ (x : Name). x ∷ []) (name-bytes t p)
 
@@ -46,7 +46,7 @@ pub leading_length : (t : List ℕ) (n : ℕ) (ps : List ℕ) → n ≤ length p
 unfolding leading
 leading_length t n ps h = names-length t (take n ps) ∙ length-take-le n ps h
 
-pub leading-set : (t : List ℕ) (n p : ℕ) (ps : List ℕ) → n < length ps → leading t (n + 1) (set ps n p) ≡ leading t n ps ++ name_bytes t p ∷ []
+pub leading-set : (t : List ℕ) (n p : ℕ) (ps : List ℕ) → n < length ps → leading t (n + 1) (set ps n p) ≡ leading t n ps ++ name_from t p ∷ []
 unfolding leading
 leading-set t n p ps h =
     ap (λ (k : ℕ). names_at t (take k (set ps n p))) (add-one n) ∙ ap (names_at t) (take-suc-set ps n p h) ∙ names-append t (take n ps) (p ∷ [])
@@ -63,10 +63,10 @@ places-length ps = length-drop slots_from ps
 pub first-length : (t : List ℕ) (n : ℕ) (ps : List ℕ) → slots_from + n ≤ length ps → length (first_names t n ps) ≡ n
 first-length t n ps h = ap length (first-leading t n ps) ∙ leading_length t n (drop slots_from ps) (let e = places-length ps in omega arith)
 
-pub first-set : (t : List ℕ) (n p : ℕ) (ps : List ℕ) → slots_from + n < length ps → first_names t (n + 1) (set ps (slots_from + n) p) ≡ first_names t n ps ++ name_bytes t p ∷ []
+pub first-set : (t : List ℕ) (n p : ℕ) (ps : List ℕ) → slots_from + n < length ps → first_names t (n + 1) (set ps (slots_from + n) p) ≡ first_names t n ps ++ name_from t p ∷ []
 first-set t n p ps h =
     first-leading t (n + 1) (set ps (slots_from + n) p) ∙ ap (leading t (n + 1)) (drop-set-add slots_from ps n p) ∙ leading-set t n p (drop slots_from ps) (let e = places-length ps in omega arith)
-    ∙ ap (λ (l : List Name). l ++ name_bytes t p ∷ []) (sym (first-leading t n ps))
+    ∙ ap (λ (l : List Name). l ++ name_from t p ∷ []) (sym (first-leading t n ps))
 
 pub first-bucket : (t : List ℕ) (n b v : ℕ) (ps : List ℕ) → b < slots_from → first_names t n (set ps b v) ≡ first_names t n ps
 unfolding first_names
@@ -102,7 +102,7 @@ part-before n ps = ap (λ (k : ℕ). take k ps) (let e : n - 0 ≡ n = omega ari
 
 -- the number of the slot that has the name, by the search of the code
 pub slot-told : (t slots : List ℕ) (p b : ℕ) (o : Option ℕ) (y : Name) → Slots t slots → IsBucket b t p → y ≡ name_at t p → o ≡ sought_from (get_or slots b 0) y (names_at t (take (length slots - slots_from) (drop slots_from slots)))
-    → o ≡ position (same (name_bytes t p)) (slot_names t slots)
+    → o ≡ position (same (name_from t p)) (slot_names t slots)
 slot-told t slots p b o y s q e f = slot-found t slots (name_at t p) y b o s e (q.is ∙ ap (bucket_of slots_from) (sym e)) f ∙ ap (λ (x : Name). position (same x) (slot_names t slots)) (name-bytes t p)
 
 -- the slot among the first n that has the name, by the search of the code
@@ -111,44 +111,44 @@ module _ (t ps : List ℕ) (n p b : ℕ) (o : Option ℕ) (y : Name) (v : Indexe
   part : take (slots_from + n - slots_from) (drop slots_from ps) ≡ take n (drop slots_from ps)
   part = ap (λ (k : ℕ). take k (drop slots_from ps)) (let z : slots_from + n - slots_from ≡ n = omega arith in z)
 
-  kept-told : o ≡ position (same (name_bytes t p)) (first_names t n ps)
+  kept-told : o ≡ position (same (name_from t p)) (first_names t n ps)
   unfolding first_names
   kept-told = place_found t ps (take n (drop slots_from ps)) (name_at t p) y b o v.at e (q.is ∙ ap (bucket_of slots_from) (sym e)) (f ∙ ap (λ (l : List ℕ). sought_from (get_or ps b 0) y (names_at t l)) part)
       ∙ ap (λ (x : Name). position (same x) (first_names t n ps)) (name-bytes t p)
 
-  told-there : (i : ℕ) → o ≡ some i → member (name_bytes t p) (first_names t n ps) ≡ true
+  told-there : (i : ℕ) → o ≡ some i → member (name_from t p) (first_names t n ps) ≡ true
   unfolding member
   told-there i h = ap (λ (o : Option ℕ). elim o as (λ _. Bool) [ none ↦ false | some i ↦ true ]) (sym kept-told ∙ h)
 
-  told-new : o ≡ none → member (name_bytes t p) (first_names t n ps) ≡ false
+  told-new : o ≡ none → member (name_from t p) (first_names t n ps) ≡ false
   unfolding member
   told-new h = ap (λ (o : Option ℕ). elim o as (λ _. Bool) [ none ↦ false | some i ↦ true ]) (sym kept-told ∙ h)
 
 module _ (t ps : List ℕ) (n p b : ℕ) (o : Option ℕ) (y : Name) (v : Indexed t n ps) (room : slots_from + n < length ps) (q : IsBucket b t p) (e : y ≡ name_at t p)
     (f : o ≡ sought_from (get_or ps b 0) y (names_at t (take (slots_from + n - slots_from) (drop slots_from ps)))) where
   abbrev x : Name
-  x = name_bytes t p
+  x = name_from t p
 
-  pub added-there : (i : ℕ) → o ≡ some i → Added n t ps n (add (name_bytes t p) (first_names t n ps))
+  pub added-there : (i : ℕ) → o ≡ some i → Added n t ps n (add (name_from t p) (first_names t n ps))
   added-there i h = record { names = sym (add-there x (first_names t n ps) (told-there t ps n p b o y v (omega arith) q e f i h)); most = omega arith; indexed = v }
 
-  module _ (s : ℕ) (g : s ≡ start_of (get_or ps b 0) n) (l : s ≤ n) where
+  module _ (s : ℕ) (g : s ≡ seek_from (get_or ps b 0) n) (l : s ≤ n) where
     abbrev noted : List ℕ
     noted = set ps b (s + 1)
 
     abbrev more : List ℕ
     more = set noted (slots_from + n) p
 
-    more-names : first_names t (n + 1) more ≡ first_names t n ps ++ name_bytes t p ∷ []
+    more-names : first_names t (n + 1) more ≡ first_names t n ps ++ name_from t p ∷ []
     more-names = first-set t n p noted (let z = length-set ps b (s + 1) in omega arith) ∙ ap (λ (w : List Name). w ++ x ∷ []) (first-bucket t n b (s + 1) ps q.below)
 
-    more-indexed : Covered slots_from more 0 (first_names t n ps ++ name_bytes t p ∷ [])
+    more-indexed : Covered slots_from more 0 (first_names t n ps ++ name_from t p ∷ [])
     more-indexed =
         let z = q.below in
         covered_out slots_from noted (slots_from + n) p (first_names t n ps ++ x ∷ []) (omega arith) (omega arith)
         (covered-snoc slots_from ps b (omega arith) x n s 0 (first_names t n ps) (sym (q.is ∙ ap (bucket_of slots_from) (name-bytes t p))) g l (let w = first-length t n ps (omega arith) in omega arith) v.at)
 
-    pub added_new : o ≡ none → Added (n + 1) t (set (set ps b (s + 1)) (slots_from + n) p) n (add (name_bytes t p) (first_names t n ps))
+    pub added_new : o ≡ none → Added (n + 1) t (set (set ps b (s + 1)) (slots_from + n) p) n (add (name_from t p) (first_names t n ps))
     added_new h = record {
       names = more-names ∙ sym (add-new x (first_names t n ps) (told-new t ps n p b o y v (omega arith) q e f h));
       most = omega arith;
@@ -166,13 +166,13 @@ place-missed None e = refl
 
 -- ---- how many there are then
 
-module _ (t ps qs : List ℕ) (n k p : ℕ) (a : Added k t qs n (add (name_bytes t p) (first_names t n ps))) (room : slots_from + n < length ps) (kept : length qs ≡ length ps) where
-  pub added-most : length (add (name_bytes t p) (first_names t n ps)) ≡ k
+module _ (t ps qs : List ℕ) (n k p : ℕ) (a : Added k t qs n (add (name_from t p) (first_names t n ps))) (room : slots_from + n < length ps) (kept : length qs ≡ length ps) where
+  pub added-most : length (add (name_from t p) (first_names t n ps)) ≡ k
   added-most = let m = a.most in sym (ap length a.names) ∙ first-length t k qs (omega arith)
 
   -- no fewer than before, and the first ones are indexed, too
   pub added-first : Indexed t n qs
-  added-first = indexed-fewer t n k qs (omega (arith, added-most, add-grows (name_bytes t p) (first_names t n ps), first-length t n ps (omega arith))) a.indexed
+  added-first = indexed-fewer t n k qs (omega (arith, added-most, add-grows (name_from t p) (first_names t n ps), first-length t n ps (omega arith))) a.indexed
 
 -- ---- parts of slots
 

@@ -17,7 +17,7 @@ use Rattle.state.specs.Index.{Covered, none_covered}
 use Rattle.state.specs.State.{names_at, slots_from, slot_names, Slots}
 use Rattle.std.specs.Prelude.{Option, Some, None}
 use Rattle.slots.specs.Slotted.{first_names, Indexed, Appended, Collected}
-use Rattle.slots.specs.Held.{mark_all, is_free, Marked, add_held, held_expr, held_exprs, Held, no_held, Keeping, CapturesAt}
+use Rattle.slots.specs.Held.{mark_all, is_free, Marked, add_held, held_expr, held_exprs, Held, no_held, WalkKeeps, CapturesAt}
 use Rattle.slots.proofs.Adding.{first-length, mid-front}
 use Rattle.slots.proofs.Holding.{bool-or, within_none, within-add, within-other, held_in, held_out, held-expr, held-few}
 use Rattle.slots.proofs.Marking.{marked-none, marked_all, free-is}
@@ -28,7 +28,7 @@ first-none : (t ps : List ℕ) → first_names t 0 ps ≡ []
 unfolding first_names names_at
 first-none t ps = refl
 
-pub keeping_start : (t parent ps : List ℕ) → length t ≤ 32768 → Slots t parent → slots_from + 256 ≤ length ps → Keeping t parent ps 0
+pub keeping_start : (t parent ps : List ℕ) → length t ≤ 32768 → Slots t parent → slots_from + 256 ≤ length ps → WalkKeeps t parent ps 0
 keeping_start t parent ps h k g = record {
   short = h;
   slots = k;

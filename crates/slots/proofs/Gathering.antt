@@ -12,7 +12,7 @@ use Rattle.definitions.proofs.Named.{block-grows, branches-grow}
 use Rattle.numerals.specs.Kinds.{stmt_byte}
 use Rattle.numerals.specs.declared.kinds.StmtKind.{StmtKind}
 use Rattle.numerals.specs.declared.kinds.StmtKind.TheVariants.{Break, Continue, Pass, Expr, Return, Assign, If, While, For, Def, Class}
-use Rattle.parts.specs.Places.{Node, node, count_at, Counted, name_bytes, name_end, There}
+use Rattle.parts.specs.Places.{Node, node, count_at, CountThere, name_from, name_end, There}
 use Rattle.parts.proofs.Nodes.{Seen}
 use Rattle.exprs.specs.ExprAt.{expr_at, ExprReads, TwoAt}
 use Rattle.tree.specs.StmtAt.{stmt_at, block_at, stmts_at, branches_at, StmtReads, BlockReads, StmtsRead, BranchesRead, BranchAt, body_at, IfAt, elifs_at, ForAt}
@@ -20,11 +20,11 @@ use Rattle.tree.specs.StmtAt.{expr_stmt_at, return_at, assign_at, if_at, while_a
 use Rattle.tree.proofs.StmtViews.{view-block, view-stmts-none, view-stmts-more, view-branches-more, else-known, view-done, view-else}
 use Rattle.tree.proofs.StmtViews.{view-break, view-continue, view-pass, view-expr, view-return, view-assign, view-if, view-while, view-for, view-def, view-class}
 use Rattle.std.specs.Prelude.{Option, Some, None}
-use Rattle.slots.specs.Gathered.{names_in, Adds, Gathers, no_loops}
+use Rattle.slots.specs.Gathered.{names_gathered, Adds, Gathers, no_loops}
 use Rattle.slots.specs.declared.walk.Gathering.{Gathering}
 use Rattle.slots.proofs.Steps.{adds-on, adds-as, adds-then, gathers-as, gathers-to, gathers-stopped, gathers-none, Splits, parts-done, parts-stopped, Left, left-start, left-next, left-stopped}
 
-here : {y : Node Stmt} {e : ℕ} (x : Stmt) (a : Gathering) → y ≡ node x e → names_in a ≡ locals_stmt x (names_in a) → 0 ≡ loops_stmt x → {q : ℕ} → q ≡ e → Gathers (Some q) y locals_stmt loops_stmt a a
+here : {y : Node Stmt} {e : ℕ} (x : Stmt) (a : Gathering) → y ≡ node x e → names_gathered a ≡ locals_stmt x (names_gathered a) → 0 ≡ loops_stmt x → {q : ℕ} → q ≡ e → Gathers (Some q) y locals_stmt loops_stmt a a
 here x a f g h i = gathers-as (λ (z : Node Stmt). z) (sym f) (gathers-none a i g h)
 
 -- ---- statements by their kind bytes
@@ -74,7 +74,7 @@ module _ (d : ℕ) (t : List ℕ) (p : ℕ) (r : StmtReads d t p) {k : StmtKind}
   named-there (inl e) = (view-def d t p r (kind-is e)).parts.name
   named-there (inr e) = (view-class d t p r (kind-is e)).parts.name
 
-  named-names : (k ≡ Def) ⊎ (k ≡ Class) → (xs : List Name) → add (name_bytes t (p + 1)) xs ≡ locals_stmt (stmt_at d t p).value xs
+  named-names : (k ≡ Def) ⊎ (k ≡ Class) → (xs : List Name) → add (name_from t (p + 1)) xs ≡ locals_stmt (stmt_at d t p).value xs
   unfolding stmt_byte def_at class_at locals_stmt
   named-names (inl e) xs = ap (λ (x : Node Stmt). locals_stmt x.value xs) (sym (view-def d t p r (kind-is e)).is)
   named-names (inr e) xs = ap (λ (x : Node Stmt). locals_stmt x.value xs) (sym (view-class d t p r (kind-is e)).is)
@@ -84,12 +84,12 @@ module _ (d : ℕ) (t : List ℕ) (p : ℕ) (r : StmtReads d t p) {k : StmtKind}
   named-loops (inl e) = ap (λ (x : Node Stmt). loops_stmt x.value) (sym (view-def d t p r (kind-is e)).is)
   named-loops (inr e) = ap (λ (x : Node Stmt). loops_stmt x.value) (sym (view-class d t p r (kind-is e)).is)
 
-  module _ {o : Option (Unit {0})} {a b : Gathering} (e : (k ≡ Def) ⊎ (k ≡ Class)) (s : Adds o (add (name_bytes t (p + 1)) (names_in a)) 0 a b) where
+  module _ {o : Option (Unit {0})} {a b : Gathering} (e : (k ≡ Def) ⊎ (k ≡ Class)) (s : Adds o (add (name_from t (p + 1)) (names_gathered a)) 0 a b) where
     pub named-stopped : {q : Option ℕ} → o ≡ None → q ≡ None → Gathers q (stmt_at d t p) locals_stmt loops_stmt a b
-    named-stopped f g = gathers-stopped f g (omega (arith, ap length (named-names e (names_in a)))) s
+    named-stopped f g = gathers-stopped f g (omega (arith, ap length (named-names e (names_gathered a)))) s
 
     pub named-gathered : {x : Unit {0}} {q : ℕ} → o ≡ Some x → q ≡ (stmt_at d t p).end → Gathers (Some q) (stmt_at d t p) locals_stmt loops_stmt a b
-    named-gathered f g = gathers-to g (named-names e (names_in a)) (named-loops e) (adds-on f s)
+    named-gathered f g = gathers-to g (named-names e (names_gathered a)) (named-loops e) (adds-on f s)
 
 -- ---- what parts of the statements leave
 
@@ -169,8 +169,8 @@ module _ (d p : ℕ) {r : Option ℕ} {a b : Gathering} (g : Gathers r (body_at 
   if-stopped e i = parts-stopped (if-splits d a.tree.now p) g e i
 
   module _ {q : ℕ} (f : r ≡ Some q) where
-    pub if-counted : IfAt d a.tree.now p → Counted b.tree.now q
-    if-counted i = subst (λ (s : List ℕ). Counted s q) (sym g.adds.same_tree) (subst (λ (m : ℕ). Counted a.tree.now m) (sym (g.next q f)) i.count)
+    pub if-counted : IfAt d a.tree.now p → CountThere b.tree.now q
+    if-counted i = subst (λ (s : List ℕ). CountThere s q) (sym g.adds.same_tree) (subst (λ (m : ℕ). CountThere a.tree.now m) (sym (g.next q f)) i.count)
 
     module _ {n : ℕ} (h : n ≡ count_at b.tree.now q) where
       count : n ≡ count_at a.tree.now q
@@ -186,10 +186,10 @@ module _ (d p : ℕ) {r : Option ℕ} {a b : Gathering} (g : Gathers r (body_at 
 
 -- ---- a For, after its name
 
-module _ (d p : ℕ) {r : Option (Unit {0})} {a b : Gathering} (s : Adds r (add (name_bytes a.tree.now p) (names_in a)) 1 a b) where
+module _ (d p : ℕ) {r : Option (Unit {0})} {a b : Gathering} (s : Adds r (add (name_from a.tree.now p) (names_gathered a)) 1 a b) where
   pub for-stopped : {o : Option ℕ} → r ≡ None → o ≡ None → Gathers o (for_at d a.tree.now p) locals_stmt loops_stmt a b
   unfolding for_at locals_stmt
-  for-stopped e i = gathers-stopped e i (block-grows (body_at d a.tree.now (name_end a.tree.now p)).value (add (name_bytes a.tree.now p) (names_in a))) s
+  for-stopped e i = gathers-stopped e i (block-grows (body_at d a.tree.now (name_end a.tree.now p)).value (add (name_from a.tree.now p) (names_gathered a))) s
 
   module _ {q : ℕ} (h : q ≡ name_end b.tree.now p) where
     place : q ≡ name_end a.tree.now p

@@ -8,7 +8,7 @@ use lib.ListN.{get_or}
 use Rattle.definitions.specs.Tree.{Literal, Display, list_d, tuple_d, set_d, tree_set_d}
 use Rattle.definitions.specs.Tree.{View, as_var, as_attr, as_index, as_tuple, view, view_display}
 use Rattle.definitions.specs.Tree.{Expr, lit}
-use Rattle.parts.specs.Places.{Node, node, name_bytes}
+use Rattle.parts.specs.Places.{Node, node, name_from}
 use Rattle.exprs.specs.ExprAt.{expr_at, ExprReads, int_at, float_at, string_at, var_at}
 use Rattle.exprs.specs.ExprAt.{ListAt, list_at, second_at, attribute_at, display_at, index_at}
 use Rattle.parts.proofs.Nodes.{Seen}
@@ -47,11 +47,11 @@ module _ (d : ℕ) (t : List ℕ) (p : ℕ) (r : ExprReads d t p) where
   seen-display (inr (inr (inr e))) = (tree_set_d, view-tree-set d t p r e)
 
   -- the forms that targets tell apart
-  pub form-var : get_or t p 0 ≡ 6 → view (expr_at d t p).value ≡ as_var (name_bytes t (p + 1))
+  pub form-var : get_or t p 0 ≡ 6 → view (expr_at d t p).value ≡ as_var (name_from t (p + 1))
   unfolding view var_at
   form-var e = view-is x _ _ (view-var d t p r e).is refl
 
-  pub form-attribute : get_or t p 0 ≡ 10 → view (expr_at d t p).value ≡ as_attr (expr_at (d - 1) t (p + 1)).value (name_bytes t (expr_at (d - 1) t (p + 1)).end)
+  pub form-attribute : get_or t p 0 ≡ 10 → view (expr_at d t p).value ≡ as_attr (expr_at (d - 1) t (p + 1)).value (name_from t (expr_at (d - 1) t (p + 1)).end)
   unfolding view attribute_at
   form-attribute e = view-is x _ _ (view-attribute d t p r e).is refl
 

@@ -12,12 +12,12 @@ use Rattle.definitions.specs.Bytes.{Name, same, position, member}
 use Rattle.definitions.proofs.MethodOrder.{same-eq}
 use Rattle.definitions.proofs.Resolve.{position-lt}
 use Rattle.definitions.proofs.Captured.{or_swap, member-cons, member-nil, member-append}
-use Rattle.parts.specs.Places.{count_at, name_bytes, name_end, names_from, There, AllThere, ParamsAt, params_at}
+use Rattle.parts.specs.Places.{count_at, name_from, name_end, names_from, There, AllThere, ParamsAt, params_at}
 use Rattle.parts.proofs.NameLaws.{there-first, there-next, from_more, from-none}
 use Rattle.names.proofs.Finding.{step, position-cons}
 use Rattle.state.specs.declared.Scope.{Scope}
 use Rattle.slots.specs.Held.{mark, mark_all, is_free, Marked}
-use Rattle.slots.specs.Captured.{names_around, Marks}
+use Rattle.slots.specs.Captured.{names_around, MarksSlots}
 use Rattle.slots.specs.declared.captures.Captures.{Captures}
 use Rattle.slots.proofs.Holding.{bool-or, member-next}
 use Rattle.slots.proofs.Params.{params-all, params-names}
@@ -141,14 +141,14 @@ mark-start a p n h e j i = subst (λ (x : ℕ). NamesLeft a n (p + 2) x (p + 2) 
 
 module _ (a : Captures) (n₀ p₀ n p : ℕ) (b : Captures) (l : NamesLeft a n₀ p₀ n p b) where
   module _ (h : 0 < n) where
-    pub mark-there : (want : List Bool) (c : Captures) → Marks want b c → There c.around.tree.now p
+    pub mark-there : (want : List Bool) (c : Captures) → MarksSlots want b c → There c.around.tree.now p
     mark-there want c m = subst (λ (s : Scope). There s.tree.now p) (sym (m.same_around ∙ l.same_around)) (there-first _ n p h l.there)
 
-    pub mark-next : (c : Captures) (q : ℕ) → Marks (mark (names_around b.around) (name_bytes b.around.tree.now p) b.marked) b c → q ≡ name_end c.around.tree.now p → (j : ℕ) → n - 1 ≡ j → NamesLeft a n₀ p₀ j q c
+    pub mark-next : (c : Captures) (q : ℕ) → MarksSlots (mark (names_around b.around) (name_from b.around.tree.now p) b.marked) b c → q ≡ name_end c.around.tree.now p → (j : ℕ) → n - 1 ≡ j → NamesLeft a n₀ p₀ j q c
     unfolding mark_all
     mark-next c q m e j i =
         let k : q ≡ name_end a.around.tree.now p = e ∙ ap (λ (s : Scope). name_end s.tree.now p) (m.same_around ∙ l.same_around) in
-        let g : c.marked ≡ mark (names_around a.around) (name_bytes a.around.tree.now p) b.marked = m.marked ∙ ap (λ (s : Scope). mark (names_around s) (name_bytes s.tree.now p) b.marked) l.same_around in
+        let g : c.marked ≡ mark (names_around a.around) (name_from a.around.tree.now p) b.marked = m.marked ∙ ap (λ (s : Scope). mark (names_around s) (name_from s.tree.now p) b.marked) l.same_around in
         subst (λ (x : ℕ). NamesLeft a n₀ p₀ x q c) i (record {
           there = there-next _ n p q k h l.there;
           marked = l.marked ∙ ap (λ (xs : List Name). mark_all (names_around a.around) xs b.marked) (from_more _ n p h)
@@ -158,7 +158,7 @@ module _ (a : Captures) (n₀ p₀ n p : ℕ) (b : Captures) (l : NamesLeft a n�
           same_kept = m.same_kept ∙ l.same_kept;
         })
 
-  pub mark-done : (r : ℕ) → n ≤ 0 → p₀ ≡ r + 2 → n₀ ≡ count_at a.around.tree.now r → Marks (mark_all (names_around a.around) (params_at a.around.tree.now r).value a.marked) a b
+  pub mark-done : (r : ℕ) → n ≤ 0 → p₀ ≡ r + 2 → n₀ ≡ count_at a.around.tree.now r → MarksSlots (mark_all (names_around a.around) (params_at a.around.tree.now r).value a.marked) a b
   unfolding mark_all
   mark-done r h f e = record {
     marked = sym (sym (ap (λ (xs : List Name). mark_all (names_around a.around) xs a.marked) (params-names _ r n₀ e))

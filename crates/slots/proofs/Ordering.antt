@@ -12,7 +12,7 @@ use Rattle.definitions.specs.Bytes.{Name, below}
 use Rattle.definitions.specs.Slots.{insert, sort}
 use Rattle.state.specs.Words.{name_at}
 use Rattle.state.specs.State.{names_at}
-use Rattle.slots.specs.Order.{Spot}
+use Rattle.slots.specs.Order.{SpotInOrder}
 
 -- ---- insertion
 
@@ -54,7 +54,7 @@ after_first : (ps : List ℕ) (i : ℕ) → get_or (drop 1 ps) i 0 ≡ get_or ps
 after_first ps i = get_or-drop 1 ps i 0 ∙ ap (λ (k : ℕ). get_or ps k 0) (let e : 1 + i ≡ i + 1 = omega arith in e)
 
 -- the first place at its spot
-pub insert-first : (t ps : List ℕ) (r : ℕ) → Spot t (get_or ps 0 0) ps r → names_at t ((drop 1 (take (r + 1) ps) ++ take 1 (take (r + 1) ps)) ++ drop (r + 1) ps) ≡ insert (name_at t (get_or ps 0 0)) (names_at t (drop 1 ps))
+pub insert-first : (t ps : List ℕ) (r : ℕ) → SpotInOrder t (get_or ps 0 0) ps r → names_at t ((drop 1 (take (r + 1) ps) ++ take 1 (take (r + 1) ps)) ++ drop (r + 1) ps) ≡ insert (name_at t (get_or ps 0 0)) (names_at t (drop 1 ps))
 insert-first t ps r s =
     let h = s.inside in
     let n = length-drop 1 ps in

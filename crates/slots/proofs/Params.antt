@@ -10,18 +10,18 @@ use Rattle.definitions.specs.Tree.{Block}
 use Rattle.state.specs.Index.{Covered}
 use Rattle.state.specs.State.{names_at, slots_from}
 use Rattle.definitions.specs.Slots.{locals_block, loops_block, Frame, with_loops}
-use Rattle.parts.specs.Places.{Node, count_at, name_bytes, name_end, There, names_from, AllThere, ParamsAt, params_at}
+use Rattle.parts.specs.Places.{Node, count_at, name_from, name_end, There, names_from, AllThere, ParamsAt, params_at}
 use Rattle.parts.proofs.NameLaws.{there-first, there-next, length-names}
 use Rattle.std.specs.Prelude.{Option, Some, None}
 use Rattle.slots.specs.Slotted.{leading, first_names, Indexed, Collected, up_to256, Framing, Frames}
-use Rattle.slots.specs.Gathered.{names_in, Gathers}
+use Rattle.slots.specs.Gathered.{names_gathered, Gathers}
 use Rattle.slots.specs.declared.walk.Gathering.{Gathering}
 use Rattle.slots.specs.declared.collect.Framed.{Framed}
 use Rattle.slots.proofs.Adding.{leading-set, first-length}
 use Rattle.slots.proofs.Reindexing.{placed-names, placed, front-all}
 use Rattle.definitions.proofs.Named.{block-grows}
 
-names-first : (t : List ℕ) (n k p : ℕ) → n ≡ suc k → names_from t n p ≡ name_bytes t p ∷ names_from t k (name_end t p)
+names-first : (t : List ℕ) (n k p : ℕ) → n ≡ suc k → names_from t n p ≡ name_from t p ∷ names_from t k (name_end t p)
 unfolding names_from
 names-first t n k p e = ap (λ (m : ℕ). names_from t m p) e
 
@@ -58,8 +58,8 @@ module _ (t : List ℕ) (n a : ℕ) (ps : List ℕ) (p i : ℕ) (l : ParamsLeft 
       let z : n - (i + 1) ≡ n - i - 1 = omega arith in
       let y : n - i ≡ suc (n - i - 1) = omega arith in
       record {
-        names = ap (λ (xs : List Name). xs ++ names_from t (n - (i + 1)) e) (leading-set t i p ps (omega arith)) ∙ append_assoc (leading t i ps) (name_bytes t p ∷ []) (names_from t (n - (i + 1)) e)
-            ∙ ap (λ (m : ℕ). leading t i ps ++ (name_bytes t p ∷ names_from t m e)) z ∙ ap (λ (m : ℕ). leading t i ps ++ (name_bytes t p ∷ names_from t (n - i - 1) m)) k
+        names = ap (λ (xs : List Name). xs ++ names_from t (n - (i + 1)) e) (leading-set t i p ps (omega arith)) ∙ append_assoc (leading t i ps) (name_from t p ∷ []) (names_from t (n - (i + 1)) e)
+            ∙ ap (λ (m : ℕ). leading t i ps ++ (name_from t p ∷ names_from t m e)) z ∙ ap (λ (m : ℕ). leading t i ps ++ (name_from t p ∷ names_from t (n - i - 1) m)) k
             ∙ ap (λ (xs : List Name). leading t i ps ++ xs) (sym (names-first t (n - i) (n - i - 1) p y)) ∙ l.names;
         there = subst (λ (m : ℕ). AllThere t m e) (sym z) (there-next t (n - i) p e k (omega arith) l.there);
         most = omega arith;
@@ -121,8 +121,8 @@ frames-begun r t ps qs xs b c e = let h = collected-over r t ps xs c e in let g 
 
 -- the block's names gathered, from a to b, in slots that were ps and are qs
 module _ (r : Option ℕ) (t ps : List ℕ) (xs : List Name) (k : ℕ) {o : Option ℕ} {x : Node Block} {a b : Gathering}
-    (c : Collected r t ps xs) (e : r ≡ Some k) (f : names_in a ≡ first_names t k ps) (g : Gathers o x locals_block loops_block a b) where
-  same_names : locals_block x.value (names_in a) ≡ locals_block x.value xs
+    (c : Collected r t ps xs) (e : r ≡ Some k) (f : names_gathered a ≡ first_names t k ps) (g : Gathers o x locals_block loops_block a b) where
+  same_names : locals_block x.value (names_gathered a) ≡ locals_block x.value xs
   same_names = ap (locals_block x.value) (f ∙ (collected-count r t ps xs k c e).1)
 
   pub frames-gathered : {qs : List ℕ} → o ≡ None → Frames None t qs (with_loops xs x.value)

@@ -10,14 +10,14 @@ use Rattle.definitions.specs.Tree.{Expr, Exprs, Display}
 use Rattle.definitions.specs.Slots.{add}
 use Rattle.state.specs.State.{slots_from, slot_names}
 use Rattle.state.specs.declared.Scope.{Scope}
-use Rattle.parts.specs.Places.{Node, name_bytes, name_end, There, params_at}
-use Rattle.exprs.specs.ExprAt.{expr_at, exprs_at, var_at, unary_at, second_at, binary_at, list_at, call_at, attribute_at, display_at, pairs_at, dict_at, index_at, lambda_at, cons_at}
+use Rattle.parts.specs.Places.{Node, name_from, name_end, There, params_at}
+use Rattle.exprs.specs.ExprAt.{expr_at, exprs_at, var_at, unary_at, second_at, binary_at, list_at, call_at, attribute_at, display_at, pairs_at, dict_at, index_at, lambda_at, cons_exprs_at}
 use Rattle.exprs.specs.ExprAt.{ExprReads, ExprsRead, TwoAt, ListAt, CallAt, AttributeAt, LambdaAt}
 use Rattle.exprs.proofs.ExprViews.{view-exprs-none, view-exprs-more}
 use Rattle.slots.specs.Slotted.{first_names, Added}
-use Rattle.slots.specs.Held.{mark_all, is_free, add_held, held_expr, held_exprs, Held, Keeping}
+use Rattle.slots.specs.Held.{mark_all, is_free, add_held, held_expr, held_exprs, Held, WalkKeeps}
 use Rattle.std.specs.Borrow.{MutBor}
-use Rattle.slots.specs.Captured.{names_around, names_kept, Marks, Keeps, Refers}
+use Rattle.slots.specs.Captured.{names_around, names_kept, MarksSlots, Keeps, Refers}
 use Rattle.slots.specs.declared.captures.Captures.{Captures}
 use Rattle.names.proofs.Indexing.{slots-count}
 use Rattle.slots.proofs.Adding.{first-length}
@@ -30,32 +30,32 @@ tree_of c = c.around.tree.now
 
 -- ---- what is kept to
 
-pub keeping-few : (t parent ps : List ℕ) (n : ℕ) → Keeping t parent ps n → n ≤ 255
+pub keeping-few : (t parent ps : List ℕ) (n : ℕ) → WalkKeeps t parent ps n → n ≤ 255
 keeping-few t parent ps n k =
     let h = held-few (first_names t n ps) (slot_names t parent) k.held in
     let s = slots-count t parent k.slots in
     omega (arith, first-length t n ps k.most, s.0, s.1)
 
-pub keeping-name : (t parent ps : List ℕ) (n p : ℕ) → Keeping t parent ps n → There t p → (slots_from + n < length ps) × (n ≤ 255) × (p < 2 ^ 32)
+pub keeping-name : (t parent ps : List ℕ) (n p : ℕ) → WalkKeeps t parent ps n → There t p → (slots_from + n < length ps) × (n ≤ 255) × (p < 2 ^ 32)
 keeping-name t parent ps n p k h = let a = keeping-few t parent ps n k in let c = k.room in let d = k.short in let e = h.byte in (omega arith, omega arith, omega arith)
 
 -- ---- a name
 
-module _ (t parent : List ℕ) (ms : List Bool) (p : ℕ) (b : Bool) (e : b ≡ is_free (slot_names t parent) ms (name_bytes t p)) (ps : List ℕ) (n : ℕ) where
-  pub name-left : b ≡ false → first_names t n ps ≡ add_held (slot_names t parent) ms (name_bytes t p) (first_names t n ps)
-  name-left h = sym (held_out (slot_names t parent) ms (name_bytes t p) (first_names t n ps) (sym e ∙ h))
+module _ (t parent : List ℕ) (ms : List Bool) (p : ℕ) (b : Bool) (e : b ≡ is_free (slot_names t parent) ms (name_from t p)) (ps : List ℕ) (n : ℕ) where
+  pub name-left : b ≡ false → first_names t n ps ≡ add_held (slot_names t parent) ms (name_from t p) (first_names t n ps)
+  name-left h = sym (held_out (slot_names t parent) ms (name_from t p) (first_names t n ps) (sym e ∙ h))
 
-  module _ (h : b ≡ true) (m : ℕ) (ps' : List ℕ) (g : Added m t ps' n (add (name_bytes t p) (first_names t n ps))) where
-    pub name-kept : first_names t m ps' ≡ add_held (slot_names t parent) ms (name_bytes t p) (first_names t n ps)
-    name-kept = g.names ∙ sym (held_in (slot_names t parent) ms (name_bytes t p) (first_names t n ps) (sym e ∙ h))
+  module _ (h : b ≡ true) (m : ℕ) (ps' : List ℕ) (g : Added m t ps' n (add (name_from t p) (first_names t n ps))) where
+    pub name-kept : first_names t m ps' ≡ add_held (slot_names t parent) ms (name_from t p) (first_names t n ps)
+    name-kept = g.names ∙ sym (held_in (slot_names t parent) ms (name_from t p) (first_names t n ps) (sym e ∙ h))
 
-    pub keeping-kept : Keeping t parent ps n → length ps' ≡ length ps → Keeping t parent ps' m
+    pub keeping-kept : WalkKeeps t parent ps n → length ps' ≡ length ps → WalkKeeps t parent ps' m
     keeping-kept k l = record {
       short = k.short;
       slots = k.slots;
       room = let a = k.room in omega arith;
       most = let a = keeping-few t parent ps n k in let j = k.room in let q = g.most in omega arith;
-      held = subst (Held (slot_names t parent)) (sym name-kept) (held-add (slot_names t parent) ms (name_bytes t p) (first_names t n ps) k.held);
+      held = subst (Held (slot_names t parent)) (sym name-kept) (held-add (slot_names t parent) ms (name_from t p) (first_names t n ps) k.held);
       indexed = g.indexed;
     }
 
@@ -65,7 +65,7 @@ module _ (a b : Captures) (o : ℕ) where
   pub refers-as : {A : Type 0} {held : List Name → List Bool → A → List Name → List Name} (x y : Node A) → x ≡ y → Refers o y held a b → Refers o x held a b
   refers-as {held = held} x y e r = subst (λ (z : Node _). Refers o z held a b) (sym e) r
 
-  pub refers-var : (t : List ℕ) (p : ℕ) → o ≡ name_end t p → Keeps (add_held (names_around a.around) a.marked (name_bytes t p) (names_kept a)) a b → Refers o (var_at t p) held_expr a b
+  pub refers-var : (t : List ℕ) (p : ℕ) → o ≡ name_end t p → Keeps (add_held (names_around a.around) a.marked (name_from t p) (names_kept a)) a b → Refers o (var_at t p) held_expr a b
   unfolding held_expr var_at
   refers-var t p e k = record { next-is = e; keeps = k }
 
@@ -161,7 +161,7 @@ module _ (d : ℕ) (a b : Captures) (p q : ℕ) (f : Refers q (expr_at d (tree_o
 pub body-there : (d : ℕ) (t : List ℕ) (p q : ℕ) → q ≡ (params_at t p).end → LambdaAt d t p → ExprReads d t q
 body-there d t p q e h = subst (λ (m : ℕ). ExprReads d t m) (sym e) h.body
 
-module _ (d : ℕ) (a a' b : Captures) (p q o : ℕ) (m : Marks (mark_all (names_around a.around) (params_at (tree_of a) p).value a.marked) a a') (e : q ≡ (params_at (tree_of a') p).end) where
+module _ (d : ℕ) (a a' b : Captures) (p q o : ℕ) (m : MarksSlots (mark_all (names_around a.around) (params_at (tree_of a) p).value a.marked) a a') (e : q ≡ (params_at (tree_of a') p).end) where
   params-end : q ≡ (params_at (tree_of a) p).end
   params-end = e ∙ ap (λ (s : Scope). (params_at s.tree.now p).end) m.same_around
 
@@ -185,7 +185,7 @@ module _ (d : ℕ) (a a' b : Captures) (p q o : ℕ) (m : Marks (mark_all (names
   }
 
 -- the body of the lambda from which a walk begins, where the parameters are marked, too: what is kept from a on stands in ps
-module _ (a a' b : Captures) (ms : List Bool) (m : Marks ms a a') (d q o : ℕ) (r : Refers o (expr_at d (tree_of a') q) held_expr a' b) (ps : List ℕ) (e : ps ≡ b.kept.now) where
+module _ (a a' b : Captures) (ms : List Bool) (m : MarksSlots ms a a') (d q o : ℕ) (r : Refers o (expr_at d (tree_of a') q) held_expr a' b) (ps : List ℕ) (e : ps ≡ b.kept.now) where
   pub body-most : slots_from + b.n ≤ length ps
   body-most = let k = b.keeping.most in omega (arith, ap length e)
 
@@ -215,7 +215,7 @@ module _ (d n₀ p₀ : ℕ) (a : Captures) (n p : ℕ) (b : Captures) (l : Expr
     exprs-head = subst (λ (s : Scope). ExprReads d s.tree.now p) (sym l.same_around) (view-exprs-more d n (tree_of a) p h l.reads).parts.head
 
     pub exprs-next : (q : ℕ) (c : Captures) → Refers q (expr_at d (tree_of b) p) held_expr b c → (j : ℕ) → n - 1 ≡ j → ExprsLeft d n₀ p₀ a j q c
-    unfolding held_exprs cons_at
+    unfolding held_exprs cons_exprs_at
     exprs-next q c r j i =
         let v = view-exprs-more d n (tree_of a) p h l.reads in
         let e : q ≡ (expr_at d (tree_of a) p).end = r.next-is ∙ ap (λ (s : Scope). (expr_at d s.tree.now p).end) l.same_around in

@@ -7,16 +7,16 @@ use native.Mathlib.Omega.{arith}
 use native.Mathlib.Numerals.{sub-one}
 use lib.ListN.{get_or}
 use Rattle.definitions.specs.Tree.{Expr, Exprs}
-use Rattle.parts.specs.Places.{Node, count_at, name_end, There, names_end, AllThere, ParamsAt, params_at, text_at}
-use Rattle.exprs.specs.ExprAt.{expr_at, exprs_at, ExprReads, ExprsRead, int_at, float_at, string_at, var_at, unary_at, second_at, binary_at, list_at, call_at, attribute_at, display_at, pairs_at, dict_at, index_at, lambda_at, cons_at}
+use Rattle.parts.specs.Places.{Node, count_at, name_end, There, names_end, AllThere, ParamsAt, params_at, text_node_at}
+use Rattle.exprs.specs.ExprAt.{expr_at, exprs_at, ExprReads, ExprsRead, int_at, float_at, string_at, var_at, unary_at, second_at, binary_at, list_at, call_at, attribute_at, display_at, pairs_at, dict_at, index_at, lambda_at, cons_exprs_at}
 use Rattle.parts.proofs.NameLaws.{there-first, there-next}
 use Rattle.exprs.proofs.ExprViews.{view-none, view-false, view-true, view-int, view-float, view-string, view-var, view-unary, view-binary, view-call, view-attribute, view-dict, view-index, view-lambda, view-exprs-none, view-exprs-more}
 use Rattle.slots.specs.Steps.{Leads}
 use Rattle.slots.proofs.Kinded.{seen-display}
 use Rattle.slots.proofs.Walks.{along}
 
-pub text-done : (t : List ℕ) (p n : ℕ) → n ≡ count_at t p → p + 2 + n ≡ (text_at t p).end
-unfolding text_at
+pub text-done : (t : List ℕ) (p n : ℕ) → n ≡ count_at t p → p + 2 + n ≡ (text_node_at t p).end
+unfolding text_node_at
 text-done t p n e = ap (λ (m : ℕ). p + 2 + m) e
 
 -- ---- parameters
@@ -77,7 +77,7 @@ module _ (d : ℕ) (t : List ℕ) (p : ℕ) (r : ExprReads d t p) where
     pub number-done : (get_or t p 0 ≡ 3) ⊎ (get_or t p 0 ≡ 4) → o ≡ p + 1 + 8 → o ≡ (expr_at d t p).end
     number-done e g = ⊎_elim (λ (h : get_or t p 0 ≡ 3). int-done h g) (λ (h : get_or t p 0 ≡ 4). float-done h g) e
 
-    pub string-done : get_or t p 0 ≡ 5 → o ≡ (text_at t (p + 1)).end → o ≡ (expr_at d t p).end
+    pub string-done : get_or t p 0 ≡ 5 → o ≡ (text_node_at t (p + 1)).end → o ≡ (expr_at d t p).end
     unfolding string_at
     string-done e g = made_of _ (view-string d t p r e).is g
 
@@ -125,7 +125,7 @@ record ExprsLeft (d : ℕ) (t : List ℕ) (n₀ p₀ n p : ℕ) : Type 0 where
   end : (exprs_at d n₀ t p₀).end ≡ (exprs_at d n t p).end
 
 exprs-next : (d : ℕ) (t : List ℕ) (n₀ p₀ n p e : ℕ) → 0 < n → ExprsLeft d t n₀ p₀ n p → e ≡ (expr_at d t p).end → ExprsLeft d t n₀ p₀ (n - 1) e
-unfolding cons_at
+unfolding cons_exprs_at
 exprs-next d t n₀ p₀ n p e h l k = let v = view-exprs-more d n t p h l.reads in record {
   reads = subst (λ (m : ℕ). ExprsRead d (n - 1) t m) (sym k) v.parts.rest;
   end = l.end ∙ ap (λ (z : Node Exprs). z.end) v.is ∙ ap (λ (m : ℕ). (exprs_at d (n - 1) t m).end) (sym k);

@@ -13,50 +13,18 @@ use Rattle.definitions.specs.Bytes.{Name, below}
 use Rattle.definitions.specs.Slots.{insert, sort}
 use Rattle.state.specs.Words.{name_at}
 use Rattle.state.specs.State.{names_at}
-use Rattle.slots.specs.Order.{NoneBelow, no_names, one_more, InOrder, no_order, in_order, Spot}
+use Rattle.slots.specs.Order.{NoneBelow, no_names, one_more, NamesInOrder, no_order, in_order, SpotInOrder}
 use Rattle.slots.proofs.Holding.{bool-or}
-use Rattle.byte_tests.proofs.Below.{below_none, below_less, below_more, below-same}
+use Rattle.byte_tests.proofs.Below.{below_flip, below-past}
 use Rattle.slots.proofs.Ordering.{insert-here, insert-after, Sorting}
 use Rattle.definitions.proofs.Begins.{le-or-gt}
 use borrow.Author.Tests.{not-true, not-false}
 use Rattle.definitions.proofs.Truth.{true-false}
 
--- ---- laws of the order
-
-pub below_flip : (x y : Name) → below x y ≡ true → below y x ≡ false
-below_flip x [] e = true-false e (below_none x)
-below_flip [] (b ∷ y) e = below_none (b ∷ y)
-below_flip (a ∷ x) (b ∷ y) e = ⊎_elim
-    (λ (h : a ≤ b). ⊎_elim
-    (λ (k : b ≤ a). below-same b a y x (omega arith) ∙ below_flip x y (sym (below-same a b x y (omega arith)) ∙ e))
-    (λ (k : a < b). below_more b a y x k)
-    (le-or-gt b a))
-    (λ (h : b < a). true-false e (below_more a b x y h))
-    (le-or-gt a b)
-
-some_below : (y : ℕ) (ys : Name) → below [] (y ∷ ys) ≡ true
-unfolding below
-some_below y ys = refl
-
-pub below-past : (x y z : Name) → below x y ≡ true → below z y ≡ false → below x z ≡ true
-below-past x [] z e f = true-false e (below_none x)
-below-past x (b ∷ y) [] e f = true-false (some_below b y) f
-below-past [] (b ∷ y) (c ∷ z) e f = some_below c z
-below-past (a ∷ x) (b ∷ y) (c ∷ z) e f = ⊎_elim
-    (λ (h : b ≤ c). ⊎_elim
-    (λ (k : a ≤ b). ⊎_elim
-    (λ (m : c ≤ a). below-same a c x z (omega arith) ∙ below-past x y z (sym (below-same a b x y (omega arith)) ∙ e) (sym (below-same c b z y (omega arith)) ∙ f))
-    (λ (m : a < c). below_less a c x z m)
-    (le-or-gt c a))
-    (λ (k : b < a). true-false e (below_more a b x y k))
-    (le-or-gt a b))
-    (λ (h : c < b). true-false (below_less c b z y h) f)
-    (le-or-gt b c)
+-- ---- names in order
 
 not_lower : (x y z : Name) → below x y ≡ true → below z y ≡ false → below z x ≡ false
 not_lower x y z e f = below_flip x z (below-past x y z e f)
-
--- ---- names in order
 
 lower : (x y : Name) (zs : List Name) → below x y ≡ true → NoneBelow y zs → NoneBelow x zs
 lower x y [] e no_names = no_names
@@ -70,15 +38,15 @@ none-insert x y (z ∷ zs) e (one_more f n) = ⊎_elim
     (λ (h : below x z ≡ false). subst (NoneBelow y) (sym (insert-after x z zs h)) (one_more f (none-insert x y zs e n)))
     (bool-or (below x z))
 
-pub insert-order : (x : Name) (ys : List Name) → InOrder ys → InOrder (insert x ys)
+pub insert-order : (x : Name) (ys : List Name) → NamesInOrder ys → NamesInOrder (insert x ys)
 unfolding insert
 insert-order x [] no_order = in_order no_names no_order
 insert-order x (y ∷ ys) (in_order n o) = ⊎_elim
-    (λ (h : below x y ≡ true). subst InOrder (sym (insert-here x y ys h)) (in_order (one_more (below_flip x y h) (lower x y ys h n)) (in_order n o)))
-    (λ (h : below x y ≡ false). subst InOrder (sym (insert-after x y ys h)) (in_order (none-insert x y ys h n) (insert-order x ys o)))
+    (λ (h : below x y ≡ true). subst NamesInOrder (sym (insert-here x y ys h)) (in_order (one_more (below_flip x y h) (lower x y ys h n)) (in_order n o)))
+    (λ (h : below x y ≡ false). subst NamesInOrder (sym (insert-after x y ys h)) (in_order (none-insert x y ys h n) (insert-order x ys o)))
     (bool-or (below x y))
 
-pub sort-order : (xs : List Name) → InOrder (sort xs)
+pub sort-order : (xs : List Name) → NamesInOrder (sort xs)
 unfolding sort
 sort-order [] = no_order
 sort-order (x ∷ xs) = insert-order x (sort xs) (sort-order xs)
@@ -90,7 +58,7 @@ none-at y t (q ∷ qs) (one_more f n) zero h = f
 none-at y t (q ∷ qs) (one_more f n) (suc j) h = none-at y t qs n j (omega arith)
 
 -- what comes before a name comes before those after it
-rising : (x : Name) (t qs : List ℕ) → InOrder (names_at t qs) → (i j : ℕ) → i ≤ j → j < length qs → below x (name_at t (get_or qs i 0)) ≡ true → below x (name_at t (get_or qs j 0)) ≡ true
+rising : (x : Name) (t qs : List ℕ) → NamesInOrder (names_at t qs) → (i j : ℕ) → i ≤ j → j < length qs → below x (name_at t (get_or qs i 0)) ≡ true → below x (name_at t (get_or qs j 0)) ≡ true
 unfolding names_at
 rising x t [] o i j h k e = absurd (omega arith)
 rising x t (q ∷ qs) (in_order n o) zero zero h k e = e
@@ -112,7 +80,7 @@ module _ (t : List ℕ) (x : Name) (ps : List ℕ) where
   after w = not (below x (name_at t w))
 
   -- those that x does not come before are the first
-  pub parted : InOrder (names_at t (drop 1 ps)) → IsPartitionedBy after others
+  pub parted : NamesInOrder (names_at t (drop 1 ps)) → IsPartitionedBy after others
   parted o = subst (IsPartitionedBy after) (sym others-are) (λ i j d h l e. go i j d h l e (below x (name_at t (get_or (drop 1 ps) i d))) refl)
     where
       go : (i j d : ℕ) → i ≤ j → j < length (drop 1 ps) → not (below x (name_at t (get_or (drop 1 ps) j d))) ≡ true → (b : Bool) → below x (name_at t (get_or (drop 1 ps) i d)) ≡ b
@@ -126,7 +94,7 @@ module _ (t : List ℕ) (x : Name) (ps : List ℕ) where
   after_first : (i : ℕ) → get_or (drop 1 ps) i 0 ≡ get_or ps (i + 1) 0
   after_first i = get_or-drop 1 ps i 0 ∙ ap (λ (k : ℕ). get_or ps k 0) (let e : 1 + i ≡ i + 1 = omega arith in e)
 
-  pub spotted : (w r : ℕ) → x ≡ name_at t w → 0 < length ps → r ≤ length others → IsPartitionPoint (λ y. after y ≡ true) (λ y. after y ≡ false) others r → Spot t w ps r
+  pub spotted : (w r : ℕ) → x ≡ name_at t w → 0 < length ps → r ≤ length others → IsPartitionPoint (λ y. after y ≡ true) (λ y. after y ≡ false) others r → SpotInOrder t w ps r
   spotted w r e h l q =
       let n = length-drop 1 ps in
       let k = ap length others-are in
@@ -138,8 +106,9 @@ module _ (t : List ℕ) (x : Name) (ps : List ℕ) where
       }
 
 -- the names after the j-th are in order
-pub sort-rest : (t ps₀ ps : List ℕ) (i j : ℕ) → Sorting t ps₀ ps i → 0 < i → j ≡ i - 1 → InOrder (names_at t (drop 1 (take (length ps - j) (drop j ps))))
+pub sort-rest : (t ps₀ ps : List ℕ) (i j : ℕ) → Sorting t ps₀ ps i → 0 < i → j ≡ i - 1 → NamesInOrder (names_at t (drop 1 (take (length ps - j) (drop j ps))))
 sort-rest t ps₀ ps i j l h e =
     let z : j + 1 ≡ i = omega arith in
     let q = length-drop j ps in
-    subst InOrder (sym (ap (λ (w : List ℕ). names_at t (drop 1 w)) (take_all (length ps - j) (drop j ps) (omega arith)) ∙ ap (names_at t) (drop-drop 1 j ps ∙ ap (λ (k : ℕ). drop k ps) z) ∙ l.names)) (sort-order (names_at t (drop i ps₀)))
+    let o = sort-order (names_at t (drop i ps₀)) in
+    subst NamesInOrder (sym (ap (λ (w : List ℕ). names_at t (drop 1 w)) (take_all (length ps - j) (drop j ps) (omega arith)) ∙ ap (names_at t) (drop-drop 1 j ps ∙ ap (λ (k : ℕ). drop k ps) z) ∙ l.names)) o

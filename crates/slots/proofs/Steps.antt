@@ -8,13 +8,13 @@ use Rattle.definitions.specs.Bytes.{Name}
 use Rattle.parts.specs.Places.{Node}
 use Rattle.std.specs.Prelude.{Option, Some, None}
 use Rattle.slots.specs.Slotted.{up_to256}
-use Rattle.slots.specs.Gathered.{names_in, Adds, Gathers}
+use Rattle.slots.specs.Gathered.{names_gathered, Adds, Gathers}
 use Rattle.slots.specs.declared.walk.Gathering.{Gathering}
 
 -- ---- what is added
 
 -- nothing
-pub adds-none : {A : Type 0} {x : A} (a : Gathering) → Adds (Some x) (names_in a) 0 a a
+pub adds-none : {A : Type 0} {x : A} (a : Gathering) → Adds (Some x) (names_gathered a) 0 a a
 adds-none a = record {
   names = λ y e. refl;
   counted = λ y e. omega (arith, a.loops_most);
@@ -85,15 +85,15 @@ gathers-as {I} {A} {r} {f} {l} {a} {b} part e g = subst (λ (i : I). Gathers r (
 
 module _ {A : Type 0} {part : Node A} {f : A → List Name → List Name} {l : A → ℕ} {a b : Gathering} where
   -- what is added is what the part has, and it ends at p
-  pub gathers-to : {p : ℕ} {w : List Name} {k : ℕ} → p ≡ part.end → w ≡ f part.value (names_in a) → k ≡ l part.value → Adds (Some p) w k a b → Gathers (Some p) part f l a b
+  pub gathers-to : {p : ℕ} {w : List Name} {k : ℕ} → p ≡ part.end → w ≡ f part.value (names_gathered a) → k ≡ l part.value → Adds (Some p) w k a b → Gathers (Some p) part f l a b
   gathers-to {p} h e e' s = record { next = λ q g. (let z : q ≡ p = cc in z ∙ h); adds = adds-as e e' s }
 
   -- a step that stopped
-  pub gathers-stopped : {B : Type 0} {r : Option B} {o : Option ℕ} {w : List Name} {k : ℕ} → r ≡ None → o ≡ None → length w ≤ length (f part.value (names_in a)) → Adds r w k a b → Gathers o part f l a b
+  pub gathers-stopped : {B : Type 0} {r : Option B} {o : Option ℕ} {w : List Name} {k : ℕ} → r ≡ None → o ≡ None → length w ≤ length (f part.value (names_gathered a)) → Adds r w k a b → Gathers o part f l a b
   gathers-stopped e h m s = record { next = λ q g. (let z : ◌≡◌ {A = ℕ} 0 1 = cc in absurd (omega arith)); adds = adds-stopped e h m s }
 
 -- a part with nothing to gather
-pub gathers-none : {A : Type 0} {part : Node A} {f : A → List Name → List Name} {l : A → ℕ} {p : ℕ} (a : Gathering) → p ≡ part.end → names_in a ≡ f part.value (names_in a) → 0 ≡ l part.value → Gathers (Some p) part f l a a
+pub gathers-none : {A : Type 0} {part : Node A} {f : A → List Name → List Name} {l : A → ℕ} {p : ℕ} (a : Gathering) → p ≡ part.end → names_gathered a ≡ f part.value (names_gathered a) → 0 ≡ l part.value → Gathers (Some p) part f l a a
 gathers-none a h e k = gathers-to h e k (adds-none a)
 
 -- ---- a part of two parts
@@ -107,12 +107,12 @@ pub record Splits {A B C : Type 0} (x : Node A) (f : A → List Name → List Na
 module _ {A B C : Type 0} {x : Node A} {f : A → List Name → List Name} {l : A → ℕ} {y : Node B} {g : B → List Name → List Name} {m : B → ℕ} {z : Node C} {h : C → List Name → List Name} {n : C → ℕ}
     {r o : Option ℕ} {a b : Gathering} (s : Splits x f l y g m z h n) (first : Gathers r y g m a b) where
   pub parts-stopped : r ≡ None → o ≡ None → Gathers o x f l a b
-  parts-stopped e i = gathers-stopped e i (omega (arith, s.grows (g y.value (names_in a)), ap length (s.names (names_in a)))) first.adds
+  parts-stopped e i = gathers-stopped e i (omega (arith, s.grows (g y.value (names_gathered a)), ap length (s.names (names_gathered a)))) first.adds
 
   pub parts-done : {c : Gathering} {p : ℕ} → r ≡ Some p → Gathers o z h n b c → Gathers o x f l a c
   parts-done {p = p} e t = record {
     next = λ q i. t.next q i ∙ s.end;
-    adds = adds-as (ap (h z.value) (first.adds.names p e) ∙ s.names (names_in a)) s.loops (adds-then e first.adds t.adds);
+    adds = adds-as (ap (h z.value) (first.adds.names p e) ∙ s.names (names_gathered a)) s.loops (adds-then e first.adds t.adds);
   }
 
 -- ---- parts, one after another: what is left gives what the whole gives

@@ -14,11 +14,11 @@ use Rattle.definitions.proofs.Named.{add_form, target-form, targets-grow}
 use Rattle.numerals.specs.Kinds.{expr_byte}
 use Rattle.numerals.specs.declared.kinds.ExprKind.{ExprKind}
 use Rattle.numerals.specs.declared.kinds.ExprKind.TheVariants.{Variable, Tuple}
-use Rattle.parts.specs.Places.{Node, count_at, name_bytes, name_end, There}
-use Rattle.exprs.specs.ExprAt.{expr_at, exprs_at, ExprReads, ExprsRead, ListAt, list_at, var_at, display_at, cons_at}
+use Rattle.parts.specs.Places.{Node, count_at, name_from, name_end, There}
+use Rattle.exprs.specs.ExprAt.{expr_at, exprs_at, ExprReads, ExprsRead, ListAt, list_at, var_at, display_at, cons_exprs_at}
 use Rattle.exprs.proofs.ExprViews.{view-var, view-tuple, view-exprs-none, view-exprs-more}
 use Rattle.std.specs.Prelude.{Option, Some, None}
-use Rattle.slots.specs.Gathered.{names_in, Adds, Gathers, no_loops}
+use Rattle.slots.specs.Gathered.{names_gathered, Adds, Gathers, no_loops}
 use Rattle.slots.specs.declared.walk.Gathering.{Gathering}
 use Rattle.slots.proofs.KindBytes.{is-variable, is-tuple}
 use Rattle.slots.proofs.Kinded.{form-var, form-attribute, form-tuple, form-index}
@@ -32,7 +32,7 @@ module _ (d : ℕ) (t : List ℕ) (p : ℕ) (r : ExprReads d t p) where
     by_form : (w : View) → view (expr_at d t p).value ≡ w → add_target (expr_at d t p).value xs ≡ add_form w xs
     by_form w e = target-form (expr_at d t p).value xs ∙ ap (λ (v : View). add_form v xs) e
 
-    target-var : get_or t p 0 ≡ 6 → add (name_bytes t (p + 1)) xs ≡ add_target (expr_at d t p).value xs
+    target-var : get_or t p 0 ≡ 6 → add (name_from t (p + 1)) xs ≡ add_target (expr_at d t p).value xs
     target-var f = sym (by_form _ (form-var d t p r f))
 
     target-tuple : get_or t p 0 ≡ 13 → add_targets (list_at (d - 1) t (p + 1)).value xs ≡ add_target (expr_at d t p).value xs
@@ -64,12 +64,12 @@ module _ (d : ℕ) (t : List ℕ) (p : ℕ) (r : ExprReads d t p) where
     unfolding var_at
     var-ends e h = h ∙ sym (ap (λ (x : Node Expr). x.end) (view-var d t p r (var-byte e)).is)
 
-    module _ {o : Option (Unit {0})} {a b : Gathering} (e : k ≡ Variable) (s : Adds o (add (name_bytes t (p + 1)) (names_in a)) 0 a b) where
+    module _ {o : Option (Unit {0})} {a b : Gathering} (e : k ≡ Variable) (s : Adds o (add (name_from t (p + 1)) (names_gathered a)) 0 a b) where
       pub var-gathered : {x : Unit {0}} {q : ℕ} → o ≡ Some x → q ≡ name_end t (p + 1) → Gathers (Some q) (expr_at d t p) add_target no_loops a b
-      var-gathered f h = gathers-to (var-ends e h) (target-var (names_in a) (var-byte e)) refl (adds-on f s)
+      var-gathered f h = gathers-to (var-ends e h) (target-var (names_gathered a) (var-byte e)) refl (adds-on f s)
 
       pub var-stopped : {q : Option ℕ} → o ≡ None → q ≡ None → Gathers q (expr_at d t p) add_target no_loops a b
-      var-stopped f h = gathers-stopped f h (omega (arith, ap length (target-var (names_in a) (var-byte e)))) s
+      var-stopped f h = gathers-stopped f h (omega (arith, ap length (target-var (names_gathered a) (var-byte e)))) s
 
     pub tuple-list : k ≡ Tuple → ListAt (d - 1) t (p + 1)
     tuple-list e = (view-tuple d t p r (tuple-byte e)).parts
@@ -83,11 +83,11 @@ module _ (d : ℕ) (t : List ℕ) (p : ℕ) (r : ExprReads d t p) where
         let h : Gathers o (list_at (d - 1) t (p + 1)) add_targets no_loops a b = gathers-as (λ (m : ℕ). exprs_at (d - 1) m t (p + 1 + 2)) f g in
         record {
           next = λ m i. h.next m i ∙ sym (ap (λ (x : Node Expr). x.end) (view-tuple d t p r (tuple-byte e)).is);
-          adds = subst (λ (w : List Name). Adds o w 0 a b) (target-tuple (names_in a) (tuple-byte e)) h.adds;
+          adds = subst (λ (w : List Name). Adds o w 0 a b) (target-tuple (names_gathered a) (tuple-byte e)) h.adds;
         }
 
     pub other-gathered : (k ≡ Variable → ⊥) → (k ≡ Tuple → ⊥) → {q : ℕ} (a : Gathering) → q ≡ (expr_at d t p).end → Gathers (Some q) (expr_at d t p) add_target no_loops a a
-    other-gathered f g a h = gathers-none a h (target-other (names_in a) (λ e. f (is-variable k (byte ∙ e))) (λ e. g (is-tuple k (byte ∙ e)))) refl
+    other-gathered f g a h = gathers-none a h (target-other (names_gathered a) (λ e. f (is-variable k (byte ∙ e))) (λ e. g (is-tuple k (byte ∙ e)))) refl
 
 -- ---- targets, one at a time
 
@@ -104,7 +104,7 @@ module _ (d n p : ℕ) {whole : Node Exprs} {a b : Gathering} (reads : ExprsRead
     targets-head = subst (λ (s : List ℕ). ExprReads d s p) (sym left.same_tree) (view-exprs-more d n t p h reads).parts.head
 
     split : Splits (exprs_at d n t p) add_targets no_loops (expr_at d t p) add_target no_loops (exprs_at d (n - 1) t (expr_at d t p).end) add_targets no_loops
-    unfolding cons_at add_targets
+    unfolding cons_exprs_at add_targets
     split =
         subst (λ (x : Node Exprs). Splits x add_targets no_loops (expr_at d t p) add_target no_loops (exprs_at d (n - 1) t (expr_at d t p).end) add_targets no_loops) (sym (view-exprs-more d n t p h reads).is)
         (record { end = refl; names = λ xs. refl; loops = refl; grows = λ xs. targets-grow (exprs_at d (n - 1) t (expr_at d t p).end).value xs })

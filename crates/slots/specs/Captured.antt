@@ -16,7 +16,7 @@ abbrev pub names_kept : Captures → List Name
 names_kept c = first_names c.around.tree.now c.n c.kept.now
 
 -- b is left by a step from a that marks slots
-pub record Marks (want : List Bool) (a b : Captures) : Type 0 where
+pub record MarksSlots (want : List Bool) (a b : Captures) : Type 0 where
   pub marked : b.marked ≡ want
   pub same_around : b.around ≡ a.around
   pub same_n : b.n ≡ a.n

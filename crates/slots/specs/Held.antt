@@ -56,7 +56,7 @@ pub data Held (slots : List Name) : List Name → Type 0 where
   one_held : {x : Name} {ys : List Name} → member x slots ≡ true → member x ys ≡ false → Held slots ys → Held slots (x ∷ ys)
 
 -- what a walk over expressions keeps to: a short tree, the parent's slots, room for as many and one more, names that have slots
-pub record Keeping (t parent ps : List ℕ) (n : ℕ) : Type 0 where
+pub record WalkKeeps (t parent ps : List ℕ) (n : ℕ) : Type 0 where
   pub short : length t ≤ 32768
   pub slots : Slots t parent
   pub room : slots_from + 256 ≤ length ps

@@ -7,7 +7,7 @@ ghost use Rattle.state.specs.State.{slots_from, slot_names, Slots};
 ghost use Rattle.parts.specs.Places.{ParamsAt, params_at};
 ghost use Rattle.exprs.specs.ExprAt.{expr_at, ExprReads};
 ghost use Rattle.slots.specs.Slotted.{Collected};
-ghost use Rattle.slots.specs.Held.{Keeping, CapturesAt};
+ghost use Rattle.slots.specs.Held.{WalkKeeps, CapturesAt};
 ghost use Rattle.slots.specs.HeldProps.{keeping-prop};
 
 use crate::add::{add_at, bucket_at, slot_of};
@@ -30,20 +30,20 @@ struct Captures<'a, 'k> {
     marked: [bool; SLOTS_MARKED],
     kept: &'k mut [u32],
     n: u32,
-    ghost keeping: { Keeping around.tree.now around.slots.now kept.now n } by { keeping-prop _ _ _ _ },
+    ghost keeping: { WalkKeeps around.tree.now around.slots.now kept.now n } by { keeping-prop _ _ _ _ },
 }
 
 impl Captures<'_, '_> {
     ghost use Rattle.std.specs.Prelude.{◌≡◌};
-    ghost use Rattle.parts.specs.Places.{name_bytes, There};
+    ghost use Rattle.parts.specs.Places.{name_from, There};
     ghost use Rattle.exprs.specs.ExprAt.{exprs_at, ExprsRead, TwoAt, index_at, CallAt, call_at, ListAt, list_at, DictAt, pairs_at, AttributeAt, attribute_at, LambdaAt, lambda_at};
     ghost use Rattle.slots.specs.Held.{mark, mark_all, is_free, add_held, held_expr, held_exprs};
     ghost use Rattle.slots.specs.Slotted.{IsBucket};
-    ghost use Rattle.slots.specs.Captured.{names_around, names_kept, Marks, Keeps, Refers};
+    ghost use Rattle.slots.specs.Captured.{names_around, names_kept, MarksSlots, Keeps, Refers};
 
     // The name at `at` is a parameter: its slot, if it has one, is marked.
     fn mark(&mut self, at: usize)
-        ensures { Marks (mark (names_around self.old.around) (name_bytes self.old.around.tree.now at) self.old.marked) self.old self.new }
+        ensures { MarksSlots (mark (names_around self.old.around) (name_from self.old.around.tree.now at) self.old.marked) self.old self.new }
     {
         let b = bucket_at(self.around.tree, at);
         if let Some(i) = slot_of(self.around.tree, self.around.slots, at, b) {
@@ -54,7 +54,7 @@ impl Captures<'_, '_> {
     // The parameters at `params` are marked.
     fn mark_params(&mut self, params: usize)
         requires { ParamsAt self.old.around.tree.now params }
-        ensures { Marks (mark_all (names_around self.old.around) (params_at self.old.around.tree.now params).value self.old.marked) self.old self.new }
+        ensures { MarksSlots (mark_all (names_around self.old.around) (params_at self.old.around.tree.now params).value self.old.marked) self.old self.new }
     {
         let count = u16_at(self.around.tree, params);
         let mut p = params + 2;
@@ -67,7 +67,7 @@ impl Captures<'_, '_> {
     // Whether the name at `at`, whose bucket is b, has a slot that is not marked.
     fn is_free(&self, at: usize, b: usize) -> bool
         requires { IsBucket b self.now.around.tree.now at }
-        ensures { result ≡ is_free (names_around self.now.around) self.now.marked (name_bytes self.now.around.tree.now at) }
+        ensures { result ≡ is_free (names_around self.now.around) self.now.marked (name_from self.now.around.tree.now at) }
     {
         match slot_of(self.around.tree, self.around.slots, at, b) {
             Some(i) => !self.marked[i],
@@ -78,7 +78,7 @@ impl Captures<'_, '_> {
     // The name at `at`.
     fn name(&mut self, at: usize)
         requires { There self.old.around.tree.now at }
-        ensures { Keeps (add_held (names_around self.old.around) self.old.marked (name_bytes self.old.around.tree.now at) (names_kept self.old)) self.old self.new }
+        ensures { Keeps (add_held (names_around self.old.around) self.old.marked (name_from self.old.around.tree.now at) (names_kept self.old)) self.old self.new }
     {
         let tree = self.around.tree;
         let b = bucket_at(tree, at);

@@ -30,15 +30,15 @@ pub(crate) struct Gathering<'t, 's> {
 impl Gathering<'_, '_> {
     ghost use Rattle.std.specs.Prelude.{◌<◌};
     ghost use Rattle.definitions.specs.Slots.{add, add_target, add_targets, locals_stmt, locals_block, locals_branches, loops_stmt, loops_block, loops_branches};
-    ghost use Rattle.parts.specs.Places.{name_bytes};
+    ghost use Rattle.parts.specs.Places.{name_from};
     ghost use Rattle.exprs.specs.ExprAt.{expr_at, exprs_at, ExprReads, ExprsRead, TwoAt};
     ghost use Rattle.tree.specs.StmtAt.{stmt_at, block_at, branches_at, body_at, assign_at, if_at, for_at, StmtReads, BlockReads, BranchesRead, BranchAt, IfAt, ForAt};
-    ghost use Rattle.slots.specs.Gathered.{names_in, Adds, Gathers, no_loops};
+    ghost use Rattle.slots.specs.Gathered.{names_gathered, Adds, Gathers, no_loops};
 
     // The name at `at`.
     fn name(&mut self, at: usize) -> Option<()>
         requires { at < length self.old.tree.now }
-        ensures { Adds result (add (name_bytes self.old.tree.now at) (names_in self.old)) 0 self.old self.new }
+        ensures { Adds result (add (name_from self.old.tree.now at) (names_gathered self.old)) 0 self.old self.new }
     {
         let b = bucket_at(self.tree, at);
         let n = add_at(self.tree, self.slots, self.n, at, b);

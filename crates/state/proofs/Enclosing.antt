@@ -13,15 +13,15 @@ use Rattle.definitions.specs.Tables.{Function, Method, Tables, Body, Out, Emit, 
 use Rattle.definitions.specs.Lower.{load, loads, lambda_name, closure, insert_method, begin_class, class_object, end_class, class_out, method_end, emit_block, emit_methods, compile, main, no_tables}
 use Rattle.definitions.specs.Slots.{in_globals, Frame, names_only, with_loops}
 use Rattle.state.specs.State.{State, emit_at, symbol_number, with_symbol, with_tables}
-use Rattle.state.specs.Steps.{begun, ended, method_function, methods_at, methods_of}
+use Rattle.state.specs.Steps.{begun, function_ended, method_function, emit_methods_at, methods_of}
 use Rattle.state.proofs.Emission.{state-eq, at-seq, at-three, at-nothing, at-intern, intern-by}
 
 -- ---- functions
 
 -- The name's symbol is there; the function begins, with its number f; its body is emitted above the stack; the function ends
 pub at-enclose : (base k arity : ℕ) (frame : Frame) (body : Body) (e : Emit) (s : State)
-    → emit_at base (enclose k arity frame body e) s ≡ ended (length s.stack) (length s.tables.functions) (emit_at (length s.stack) e (begun k arity frame s))
-unfolding emit_at enclose begun ended
+    → emit_at base (enclose k arity frame body e) s ≡ function_ended (length s.stack) (length s.tables.functions) (emit_at (length s.stack) e (begun k arity frame s))
+unfolding emit_at enclose begun function_ended
 at-enclose base k arity frame body e s =
     let xs = s.stack in
     let u = begin k arity frame s.tables in
@@ -43,13 +43,13 @@ symbol-functions x t = go (position (same x) t.symbols)
 -- s' is the state with the symbol
 pub at-function : (base : ℕ) (x : Name) (arity : ℕ) (frame : Frame) (body : Body) (e : Emit) (s s' : State) → s' ≡ with_tables (with_symbol x s.tables) s
     → emit_at base (function x arity frame body e) s
-    ≡ ended (length s.stack) (length s.tables.functions) (emit_at (length s.stack) e (begun (symbol_number x s.tables) arity frame s'))
+    ≡ function_ended (length s.stack) (length s.tables.functions) (emit_at (length s.stack) e (begun (symbol_number x s.tables) arity frame s'))
 unfolding function
 at-function base x arity frame body e s s' h =
     at-intern base x (λ k. enclose k arity frame body e) s
     ∙ at-enclose base (symbol_number x s.tables) arity frame body e (with_tables (with_symbol x s.tables) s)
-    ∙ (λ j. ended (length s.stack) (length (symbol-functions x s.tables j)) (emit_at (length s.stack) e (begun (symbol_number x s.tables) arity frame (with_tables (with_symbol x s.tables) s))))
-    ∙ ap (λ (u : State). ended (length s.stack) (length s.tables.functions) (emit_at (length s.stack) e (begun (symbol_number x s.tables) arity frame u))) (sym h)
+    ∙ (λ j. function_ended (length s.stack) (length (symbol-functions x s.tables j)) (emit_at (length s.stack) e (begun (symbol_number x s.tables) arity frame (with_tables (with_symbol x s.tables) s))))
+    ∙ ap (λ (u : State). function_ended (length s.stack) (length s.tables.functions) (emit_at (length s.stack) e (begun (symbol_number x s.tables) arity frame u))) (sym h)
 
 -- ---- closures
 
@@ -72,8 +72,8 @@ at-closure base slots arity inner cs body e s f h q =
 
 -- ---- classes
 
-pub methods-none : (acc : List Method) (s : State) → methods_at []ᵐ acc s ≡ s
-unfolding methods_at emit_methods
+pub methods-none : (acc : List Method) (s : State) → emit_methods_at []ᵐ acc s ≡ s
+unfolding emit_methods_at emit_methods
 methods-none acc s = refl
 
 pub methods-none-of : (acc : List Method) (s : State) → methods_of []ᵐ acc s ≡ acc
@@ -90,21 +90,20 @@ function-place base x arity frame body e s =
     state-eq _ _ (sym (ap (λ (o : Out). s.stack ++ o.code) there ∙ append-nil s.stack)) (ap (λ (o : Out). o.tables) here' ∙ sym (ap (λ (o : Out). o.tables) there))
 
 -- the first method, s' is the state after its function
-pub methods-more : (base : ℕ) (x : Name) (ps : List Name) (b : Block) (rest : Methods) (acc : List Method) (s s' : State) → s' ≡ emit_at base (method_function x ps b) s
-    → methods_at (method x ps b rest) acc s ≡ methods_at rest (insert_method x (length s.tables.functions) acc) s'
-unfolding methods_at emit_methods method_function
-methods-more base x ps b rest acc s s' h =
-    let f = with_loops ps b in
-    let q = function-place base x (length ps) f (block_body b (method_end x)) (emit_block f.names f.keep b ⨟ emits (method_end x)) s ∙ sym h in
-    ap (λ (u : State). with_tables (emit_methods rest (insert_method x (length s.tables.functions) acc) u.tables).tables u) q
+module _ (base : ℕ) (x : Name) (ps : List Name) (b : Block) (rest : Methods) (acc : List Method) (s s' : State) (h : s' ≡ emit_at base (method_function x ps b) s) where
+  pub methods-more : emit_methods_at (method x ps b rest) acc s ≡ emit_methods_at rest (insert_method x (length s.tables.functions) acc) s'
+  unfolding emit_methods_at emit_methods method_function
+  methods-more =
+      let f = with_loops ps b in
+      let q = function-place base x (length ps) f (block_body b (method_end x)) (emit_block f.names f.keep b ⨟ emits (method_end x)) s ∙ sym h in
+      ap (λ (u : State). with_tables (emit_methods rest (insert_method x (length s.tables.functions) acc) u.tables).tables u) q
 
-pub methods-more-of : (base : ℕ) (x : Name) (ps : List Name) (b : Block) (rest : Methods) (acc : List Method) (s s' : State) → s' ≡ emit_at base (method_function x ps b) s
-    → methods_of (method x ps b rest) acc s ≡ methods_of rest (insert_method x (length s.tables.functions) acc) s'
-unfolding methods_of emit_methods method_function
-methods-more-of base x ps b rest acc s s' h =
-    let f = with_loops ps b in
-    let q = function-place base x (length ps) f (block_body b (method_end x)) (emit_block f.names f.keep b ⨟ emits (method_end x)) s ∙ sym h in
-    ap (λ (u : State). (emit_methods rest (insert_method x (length s.tables.functions) acc) u.tables).methods) q
+  pub methods-more-of : methods_of (method x ps b rest) acc s ≡ methods_of rest (insert_method x (length s.tables.functions) acc) s'
+  unfolding methods_of emit_methods method_function
+  methods-more-of =
+      let f = with_loops ps b in
+      let q = function-place base x (length ps) f (block_body b (method_end x)) (emit_block f.names f.keep b ⨟ emits (method_end x)) s ∙ sym h in
+      ap (λ (u : State). (emit_methods rest (insert_method x (length s.tables.functions) acc) u.tables).methods) q
 
 -- the class has its methods, s' is the state then, and c its number; then its symbol and its object
 pub at-end_class : (base : ℕ) (x : Name) (c : ℕ) (ms : List Method) (s s' : State) → s' ≡ with_tables (with_classes (set s.tables.classes c (record { name = x; methods = ms })) s.tables) s
@@ -118,9 +117,9 @@ unfolding class_object emit_at emits
 at-class_object base c k s = state-eq _ _ (sym (append_assoc s.stack _ _)) refl
 
 -- a whole class: s₁ is the state with its number taken, s₂ that after its methods
-pub at-class : (base : ℕ) (x : Name) (ms : Methods) (s s₁ s₂ : State) → s₁ ≡ with_tables (begin_class x s.tables) s → s₂ ≡ methods_at ms [] s₁
+pub at-class : (base : ℕ) (x : Name) (ms : Methods) (s s₁ s₂ : State) → s₁ ≡ with_tables (begin_class x s.tables) s → s₂ ≡ emit_methods_at ms [] s₁
     → emit_at base (λ p t. class_out x (length t.classes) (emit_methods ms [] (begin_class x t)) p) s ≡ emit_at base (end_class x (length s.tables.classes) (methods_of ms [] s₁)) s₂
-unfolding class_out methods_at methods_of emit_at
+unfolding class_out emit_methods_at methods_of emit_at
 at-class base x ms s s₁ s₂ e₁ e₂ = rw (e₂, e₁)
 
 -- ---- the whole tree

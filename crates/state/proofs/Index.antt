@@ -10,7 +10,7 @@ use lib.ListN.{length, drop, get_or, drop_of_length-le}
 use lib.Seq.{get_or-set_same, get_or-set_other, drop-cons}
 use lib.Dec.{ltb, eqb, eqb→eq}
 use Rattle.definitions.specs.Bytes.{Name}
-use Rattle.state.specs.Index.{hash_from, hash_of, bucket_of, Covered, none_covered, covered, start_of, noted}
+use Rattle.state.specs.Index.{hash_from, hash_of, bucket_of, Covered, none_covered, covered, seek_from, noted}
 use borrow.Author.Tests.{ltb-true, ltb-false}
 use Rattle.definitions.proofs.Truth.{holds, not_equal}
 use Rattle.state.specs.Words.{region}
@@ -18,8 +18,8 @@ use Rattle.state.specs.State.{strings_from, symbol_index_from, symbol_buckets, s
 
 -- ---- the number from which on a name is sought
 
-pub start-le : (k n : ℕ) → start_of k n ≤ n
-unfolding start_of
+pub start-le : (k n : ℕ) → seek_from k n ≤ n
+unfolding seek_from
 start-le zero n = omega arith
 start-le (suc k) n = go (ltb k n) refl
   where
@@ -27,12 +27,12 @@ start-le (suc k) n = go (ltb k n) refl
     go true f = let h = ltb-true k n f in omega arith
     go false f = omega arith
 
-pub start_none : (n : ℕ) → start_of 0 n ≡ n
-unfolding start_of
+pub start_none : (n : ℕ) → seek_from 0 n ≡ n
+unfolding seek_from
 start_none n = refl
 
-pub start-over : (k n : ℕ) → n < k → start_of k n ≡ n
-unfolding start_of
+pub start-over : (k n : ℕ) → n < k → seek_from k n ≡ n
+unfolding seek_from
 start-over zero n h = refl
 start-over (suc k) n h = go (ltb k n) refl
   where
@@ -41,8 +41,8 @@ start-over (suc k) n h = go (ltb k n) refl
     go false f = refl
 
 -- a number that is there is kept
-pub start-kept : (k n : ℕ) → 0 < k → k ≤ n → start_of k n + 1 ≡ k
-unfolding start_of
+pub start-kept : (k n : ℕ) → 0 < k → k ≤ n → seek_from k n + 1 ≡ k
+unfolding seek_from
 start-kept zero n h l = absurd (omega arith)
 start-kept (suc k) n h l = go (ltb k n) refl
   where
@@ -65,10 +65,10 @@ module _ (size : ℕ) (buckets : List ℕ) (x : Name) (n : ℕ) (inside : bucket
       go true e =
           let f : bucket_of size y ≡ bucket_of size x = eqb→eq (bucket_of size y) (bucket_of size x) (holds (eqb (bucket_of size y) (bucket_of size x)) e) in
           let k = start-kept (get_or buckets (bucket_of size y) 0) n more most in
-          ap (λ (b : ℕ). get_or after b 0) f ∙ get_or-set_same buckets (bucket_of size x) _ 0 inside ∙ ap (λ (b : ℕ). start_of (get_or buckets b 0) n + 1) (sym f) ∙ k
+          ap (λ (b : ℕ). get_or after b 0) f ∙ get_or-set_same buckets (bucket_of size x) _ 0 inside ∙ ap (λ (b : ℕ). seek_from (get_or buckets b 0) n + 1) (sym f) ∙ k
       go false e = get_or-set_other buckets (bucket_of size x) (bucket_of size y) _ 0 (not_equal (bucket_of size y) (bucket_of size x) e)
 
-  new-bucket : get_or after (bucket_of size x) 0 ≡ start_of (get_or buckets (bucket_of size x) 0) n + 1
+  new-bucket : get_or after (bucket_of size x) 0 ≡ seek_from (get_or buckets (bucket_of size x) 0) n + 1
   unfolding noted
   new-bucket = get_or-set_same buckets (bucket_of size x) _ 0 inside
 

@@ -14,7 +14,7 @@ use Rattle.definitions.specs.Bytes.{Name, all}
 use Rattle.definitions.specs.Tables.{Function, Class, set_code, coded}
 use Rattle.definitions.specs.Module.{instructions}
 use Rattle.state.specs.Words.{region, name_at, instr_of, instrs_of}
-use Rattle.state.specs.State.{spelled, function_of, functions_of, method_of, class_of, classes_of, place_of, count_of, Every, no_every, every, MadeWithin, EndsWithin, NamedWithin, total}
+use Rattle.state.specs.State.{spelled, function_from, functions_of, method_from, class_of, classes_of, place_of, count_of, Every, no_every, every, MadeWithin, EndsWithin, NamedWithin, total}
 
 -- ---- regions
 
@@ -114,39 +114,39 @@ functions-length tree fin (h ∷ hs) (k ∷ ks) e = ap suc (functions-length tre
 
 -- a head keeps the number of slots in 8 bits
 pub functions-slots : (tree fin hs ks : List ℕ) → all (λ (f : Function). leb f.locals 255) (functions_of tree fin hs ks) ≡ true
-unfolding all functions_of function_of
+unfolding all functions_of function_from
 functions-slots tree fin [] ks = refl
 functions-slots tree fin (h ∷ hs) [] = refl
 functions-slots tree fin (h ∷ hs) (k ∷ ks) = rw (le-leb (h % 2 ^ 8) 255 (omega arith)) (functions-slots tree fin hs ks)
 
 -- a head's function has its symbol
 pub functions-named : (tree fin : List ℕ) (n : ℕ) {hs : List ℕ} (ks : List ℕ) → Every (NamedWithin n) hs → all (λ (f : Function). ltb f.symbol n) (functions_of tree fin hs ks) ≡ true
-unfolding all functions_of function_of
+unfolding all functions_of function_from
 functions-named tree fin n ks no_every = refl
 functions-named tree fin n [] (every p w) = refl
 functions-named tree fin n (k ∷ ks) (every {a} p w) = rw (lt-ltb (a / 2 ^ 16) n p) (functions-named tree fin n ks w)
 
 -- one function more
 pub functions-snoc : (tree fin hs ks : List ℕ) (h k : ℕ) → length hs ≡ length ks
-    → functions_of tree fin (hs ++ h ∷ []) (ks ++ k ∷ []) ≡ functions_of tree fin hs ks ++ function_of tree fin h k ∷ []
+    → functions_of tree fin (hs ++ h ∷ []) (ks ++ k ∷ []) ≡ functions_of tree fin hs ks ++ function_from tree fin h k ∷ []
 unfolding functions_of
 functions-snoc tree fin [] [] h k e = refl
 functions-snoc tree fin [] (y ∷ ks) h k e = absurd (omega arith)
 functions-snoc tree fin (x ∷ hs) [] h k e = absurd (omega arith)
-functions-snoc tree fin (x ∷ hs) (y ∷ ks) h k e = ap (λ (fs : List Function). function_of tree fin x y ∷ fs) (functions-snoc tree fin hs ks h k (omega arith))
+functions-snoc tree fin (x ∷ hs) (y ∷ ks) h k e = ap (λ (fs : List Function). function_from tree fin x y ∷ fs) (functions-snoc tree fin hs ks h k (omega arith))
 
 -- a function gets its code
 pub functions-set : (tree fin hs ks : List ℕ) (i k : ℕ)
     → functions_of tree fin hs (set ks i k) ≡ set_code (functions_of tree fin hs ks) i (instrs_of tree (region (place_of k) (count_of k) fin))
-unfolding functions_of function_of set_code
+unfolding functions_of function_from set_code
 functions-set tree fin [] ks i k = refl
 functions-set tree fin (h ∷ hs) [] i k = refl
 functions-set tree fin (h ∷ hs) (x ∷ ks) zero k = refl
-functions-set tree fin (h ∷ hs) (x ∷ ks) (suc i) k = ap (λ (fs : List Function). function_of tree fin h x ∷ fs) (functions-set tree fin hs ks i k)
+functions-set tree fin (h ∷ hs) (x ∷ ks) (suc i) k = ap (λ (fs : List Function). function_from tree fin h x ∷ fs) (functions-set tree fin hs ks i k)
 
 -- functions whose code lies in a beginning that the finished words share
 pub functions-same : (tree fin fin' hs ks : List ℕ) (n : ℕ) → Every (EndsWithin n) ks → take n fin ≡ take n fin' → functions_of tree fin hs ks ≡ functions_of tree fin' hs ks
-unfolding functions_of function_of
+unfolding functions_of function_from
 functions-same tree fin fin' [] ks n w e = refl
 functions-same tree fin fin' (h ∷ hs) [] n w e = refl
 functions-same tree fin fin' (h ∷ hs) (k ∷ ks) n (every p w) e =
@@ -162,8 +162,7 @@ classes-length tree ms [] ks e = refl
 classes-length tree ms (x ∷ xs) [] e = sym e
 classes-length tree ms (x ∷ xs) (k ∷ ks) e = ap suc (classes-length tree ms xs ks (omega arith))
 
-pub classes-snoc : (tree ms xs ks : List ℕ) (x k : ℕ) → length xs ≡ length ks
-    → classes_of tree ms (xs ++ x ∷ []) (ks ++ k ∷ []) ≡ classes_of tree ms xs ks ++ class_of tree ms x k ∷ []
+pub classes-snoc : (tree ms xs ks : List ℕ) (x k : ℕ) → length xs ≡ length ks → classes_of tree ms (xs ++ x ∷ []) (ks ++ k ∷ []) ≡ classes_of tree ms xs ks ++ class_of tree ms x k ∷ []
 unfolding classes_of
 classes-snoc tree ms [] [] x k e = refl
 classes-snoc tree ms [] (y ∷ ks) x k e = absurd (omega arith)
@@ -178,7 +177,7 @@ classes-same tree ms ms' (x ∷ xs) [] n w e = refl
 classes-same tree ms ms' (x ∷ xs) (k ∷ ks) n (every p w) e =
     let r = region-same n (place_of k) (count_of k) ms ms' p e in
     let s = classes-same tree ms ms' xs ks n w e in
-    λ j. record { name = name_at tree x; methods = map (method_of tree) (r j) } ∷ s j
+    λ j. record { name = name_at tree x; methods = map (method_from tree) (r j) } ∷ s j
 
 -- ---- how many finished words
 
@@ -195,7 +194,7 @@ total-set (x ∷ ks) (suc i) k h = omega (arith, total-set ks i k (omega arith))
 
 -- they are the instructions of the functions
 pub instructions-total : (tree fin hs ks : List ℕ) (n : ℕ) → length hs ≡ length ks → Every (EndsWithin n) ks → n ≤ length fin → instructions (functions_of tree fin hs ks) ≡ total ks
-unfolding functions_of function_of instructions total instrs_of
+unfolding functions_of function_from instructions total instrs_of
 instructions-total tree fin [] [] n e w h = refl
 instructions-total tree fin [] (k ∷ ks) n e w h = omega arith
 instructions-total tree fin (x ∷ hs) [] n e w h = omega arith

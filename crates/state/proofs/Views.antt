@@ -12,7 +12,7 @@ use Rattle.definitions.specs.Tables.{Function}
 use Rattle.definitions.specs.Module.{instructions, slots_fit}
 use Rattle.definitions.specs.Statements.{has_names}
 use Rattle.state.specs.Words.{region, text_at, instr_of, instrs_of}
-use Rattle.state.specs.State.{strings_from, heads_from, codes_from, class_names_from, class_methods_from, methods_from, constants_from, done_from, spelled, tables_of, state_of, Within, Sound}
+use Rattle.state.specs.State.{strings_from, heads_from, codes_from, class_names_from, class_methods_from, methods_from, constants_from, done_from, spelled, tables_of, state_of, WithinLimits, Sound}
 use Rattle.state.specs.declared.Counts.{Counts}
 use Rattle.state.specs.declared.Limits.{Limits}
 use Rattle.state.proofs.Regions.{region-length, functions-length, functions-slots, functions-named, classes-length, instructions-total}
@@ -72,7 +72,7 @@ module _ (tree made code tables : List ℕ) (c : Counts) (l : Limits) (s : Sound
   unfolding state_of tables_of slots_fit
   few-slots = functions-slots tree (drop done_from code) (region heads_from c.functions tables) (region codes_from c.functions tables)
 
-  pub within-sound : Within l (state_of tree made code tables c)
+  pub within-sound : WithinLimits l (state_of tree made code tables c)
   within-sound = record {
     functions = omega (arith, function-count);
     symbols = omega (arith, symbols-length);

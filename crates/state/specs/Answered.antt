@@ -3,9 +3,9 @@ use Rattle.std.specs.Prelude.{ℕ}
 use Rattle.state.specs.declared.Counts.{Counts}
 
 -- the next position in the tree and the counts; or that the module is over the limits or has a function of more than 255 slots
-pub data Emitted : Type 0 where
-  Done : ℕ → Counts → Emitted
-  Full : Emitted
+pub data PartEmitted : Type 0 where
+  Done : ℕ → Counts → PartEmitted
+  Full : PartEmitted
 
 -- a number and the counts; or the same
 pub data Numbered : Type 0 where

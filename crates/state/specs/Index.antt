@@ -20,10 +20,10 @@ pub data Covered (size : ℕ) (buckets : List ℕ) : ℕ → List Name → Type 
   covered : {j : ℕ} {x : Name} {xs : List Name} → 0 < get_or buckets (bucket_of size x) 0 → get_or buckets (bucket_of size x) 0 ≤ j + 1 → Covered size buckets (j + 1) xs → Covered size buckets j (x ∷ xs)
 
 -- the number from which on a name is sought among n, by the word in its bucket; n where there is none
-unfoldable pub start_of : ℕ → ℕ → ℕ
-start_of zero n = n
-start_of (suc k) n = elim (ltb k n) [ true ↦ k | false ↦ n ]
+unfoldable pub seek_from : ℕ → ℕ → ℕ
+seek_from zero n = n
+seek_from (suc k) n = elim (ltb k n) [ true ↦ k | false ↦ n ]
 
 -- the buckets with the name of number n in the bucket b
 unfoldable pub noted : List ℕ → ℕ → ℕ → List ℕ
-noted buckets b n = set buckets b (start_of (get_or buckets b 0) n + 1)
+noted buckets b n = set buckets b (seek_from (get_or buckets b 0) n + 1)

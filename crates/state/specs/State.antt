@@ -10,7 +10,7 @@ use Rattle.state.specs.Words.{region, name_at, text_at, instrs_of}
 use Rattle.state.specs.Index.{Covered}
 use Rattle.state.specs.declared.Counts.{Counts}
 use Rattle.state.specs.declared.Limits.{Limits}
-use Rattle.state.specs.Answered.{Emitted, Done, Full, Numbered, At, Over}
+use Rattle.state.specs.Answered.{PartEmitted, Done, Full, Numbered, At, Over}
 
 -- ---- the tables of the second area: where each begins
 -- symbols 1024, strings 512, heads of functions 256, places of their code 256, names of classes 64, places of their methods 64, methods 256, constants 64, the index of symbols 8192, that of strings 4096
@@ -82,21 +82,21 @@ abbrev pub count_of : ℕ → ℕ
 count_of w = w % 2 ^ 16
 
 -- a function: symbol, arity and slots in its head; its code among the finished words, none while it is open
-unfoldable pub function_of : List ℕ → List ℕ → ℕ → ℕ → Function
-function_of tree finished h k = coded (h / 2 ^ 16) (h / 2 ^ 8 % 2 ^ 8) (h % 2 ^ 8) (instrs_of tree (region (place_of k) (count_of k) finished))
+unfoldable pub function_from : List ℕ → List ℕ → ℕ → ℕ → Function
+function_from tree finished h k = coded (h / 2 ^ 16) (h / 2 ^ 8 % 2 ^ 8) (h % 2 ^ 8) (instrs_of tree (region (place_of k) (count_of k) finished))
 
 unfoldable pub functions_of : List ℕ → List ℕ → List ℕ → List ℕ → List Function
 functions_of tree finished [] ks = []
 functions_of tree finished (h ∷ hs) [] = []
-functions_of tree finished (h ∷ hs) (k ∷ ks) = function_of tree finished h k ∷ functions_of tree finished hs ks
+functions_of tree finished (h ∷ hs) (k ∷ ks) = function_from tree finished h k ∷ functions_of tree finished hs ks
 
 -- a method: the place of its name in the tree, and its function
-unfoldable pub method_of : List ℕ → ℕ → Method
-method_of tree w = record { name = name_at tree (w / 2 ^ 8); function = w % 2 ^ 8 }
+unfoldable pub method_from : List ℕ → ℕ → Method
+method_from tree w = record { name = name_at tree (w / 2 ^ 8); function = w % 2 ^ 8 }
 
 -- a class: the place of its name in the tree; its methods among the methods
 unfoldable pub class_of : List ℕ → List ℕ → ℕ → ℕ → Class
-class_of tree methods x k = record { name = name_at tree x; methods = map (method_of tree) (region (place_of k) (count_of k) methods) }
+class_of tree methods x k = record { name = name_at tree x; methods = map (method_from tree) (region (place_of k) (count_of k) methods) }
 
 unfoldable pub classes_of : List ℕ → List ℕ → List ℕ → List ℕ → List Class
 classes_of tree methods [] ks = []
@@ -134,7 +134,7 @@ unfoldable pub limits_of : Limits → Module.Limits
 limits_of l = record { functions = l.functions; symbols = l.symbols; strings = l.strings; classes = l.classes; instructions = l.instructions }
 
 -- the state is within the limits, and each of its functions has at most 255 slots (questions 15 and 14)
-pub record Within (l : Limits) (s : State) : Type 0 where
+pub record WithinLimits (l : Limits) (s : State) : Type 0 where
   pub functions : length s.tables.functions ≤ l.functions
   pub symbols : length s.tables.symbols ≤ l.symbols
   pub strings : length s.tables.strings ≤ l.strings
@@ -214,7 +214,7 @@ pub record Paced (c k : Counts) : Type 0 where
   pub constants : k.constants + c.classes ≤ c.constants + k.classes
 
 -- what a step asks: a short tree, slots that are few and indexed, sound slices
-pub record Ready (tree slots made code tables : List ℕ) (c : Counts) (l : Limits) : Type 0 where
+pub record StepReady (tree slots made code tables : List ℕ) (c : Counts) (l : Limits) : Type 0 where
   pub tree-short : length tree ≤ 32768
   pub slotted : Slots tree slots
   pub sound : Sound tree made code tables c l
@@ -227,14 +227,14 @@ pub record Left (k : Counts) (tree made code tables : List ℕ) (c : Counts) (l 
   pub sound : Sound tree made code tables k l
 
 -- the next position and the wanted state; or the wanted state is over the limits or has a function of more than 255 slots
-unfoldable pub Emits : Emitted → List ℕ → List ℕ → List ℕ → List ℕ → Counts → Limits → ℕ → State → Type 0
+unfoldable pub Emits : PartEmitted → List ℕ → List ℕ → List ℕ → List ℕ → Counts → Limits → ℕ → State → Type 0
 Emits (Done n k) tree made code tables c l next want = (n ≡ next) × Left k tree made code tables c l want
-Emits Full tree made code tables c l next want = Within l want → ⊥
+Emits Full tree made code tables c l next want = WithinLimits l want → ⊥
 
 -- the number and the wanted state; or the wanted state is over the limits or has a function of more than 255 slots
-unfoldable pub Numbers : Numbered → List ℕ → List ℕ → List ℕ → List ℕ → Counts → Limits → ℕ → State → Type 0
-Numbers (At i k) tree made code tables c l number want = (i ≡ number) × Left k tree made code tables c l want
-Numbers Over tree made code tables c l number want = Within l want → ⊥
+unfoldable pub NumberGiven : Numbered → List ℕ → List ℕ → List ℕ → List ℕ → Counts → Limits → ℕ → State → Type 0
+NumberGiven (At i k) tree made code tables c l number want = (i ≡ number) × Left k tree made code tables c l want
+NumberGiven Over tree made code tables c l number want = WithinLimits l want → ⊥
 
 -- ---- symbols and strings, by their numbers
 

@@ -26,8 +26,8 @@ unfoldable pub begun : ℕ → ℕ → Frame → State → State
 begun k arity frame s = with_tables (begin k arity frame s.tables) s
 
 -- function f has ended: its code is what stands on the stack from base on
-unfoldable pub ended : ℕ → ℕ → State → State
-ended base f s = record { stack = take base s.stack; tables = with_functions (set_code s.tables.functions f (drop base s.stack)) s.tables }
+unfoldable pub function_ended : ℕ → ℕ → State → State
+function_ended base f s = record { stack = take base s.stack; tables = with_functions (set_code s.tables.functions f (drop base s.stack)) s.tables }
 
 -- ---- branches
 
@@ -57,8 +57,8 @@ method_function x ps b =
     function x (length ps) inner (block_body b (method_end x)) (emit_block inner.names inner.keep b ⨟ emits (method_end x))
 
 -- the state after the methods, and the class's methods, with those so far
-unfoldable pub methods_at : Methods → List Method → State → State
-methods_at ms acc s = with_tables (emit_methods ms acc s.tables).tables s
+unfoldable pub emit_methods_at : Methods → List Method → State → State
+emit_methods_at ms acc s = with_tables (emit_methods ms acc s.tables).tables s
 
 unfoldable pub methods_of : Methods → List Method → State → List Method
 methods_of ms acc s = (emit_methods ms acc s.tables).methods

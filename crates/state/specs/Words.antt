@@ -9,16 +9,16 @@ unfoldable pub region : ℕ → ℕ → List ℕ → List ℕ
 region a n xs = take n (drop a xs)
 
 -- the big-endian number of w bytes at p, 0 past the end
-unfoldable pub number_at : ℕ → List ℕ → ℕ → ℕ
-number_at zero t p = 0
-number_at (suc w) t p = get_or t p 0 * 256 ^ w + number_at w t (p + 1)
+unfoldable pub big_endian_at : ℕ → List ℕ → ℕ → ℕ
+big_endian_at zero t p = 0
+big_endian_at (suc w) t p = get_or t p 0 * 256 ^ w + big_endian_at w t (p + 1)
 
 -- the name whose length byte is at p; the string whose count is at p
 unfoldable pub name_at : List ℕ → ℕ → Name
 name_at t p = take (get_or t p 0) (drop (p + 1) t)
 
 unfoldable pub text_at : List ℕ → ℕ → Text
-text_at t p = take (number_at 2 t p) (drop (p + 2) t)
+text_at t p = take (big_endian_at 2 t p) (drop (p + 2) t)
 
 -- a word
 abbrev pub word : ℕ → ℕ → ℕ → ℕ
@@ -42,17 +42,17 @@ abbrev pub small_int : ℕ
 small_int = 48
 
 -- the first operand: of ConstI64 and ConstF64 the eight bytes at that place in the tree; of a jump signed
-unfoldable pub operand_of : List ℕ → ℕ → ℕ → ℕ
-operand_of t op a =
+unfoldable pub operand_read : List ℕ → ℕ → ℕ → ℕ
+operand_read t op a =
     elim (eqb op 0 || eqb op 1) [
-      | true ↦ number_at 8 t a
+      | true ↦ big_endian_at 8 t a
       | false ↦
           elim (is_jump op) [ true ↦ widened a | false ↦ a ]
     ]
 
 -- the instruction of a word
 unfoldable pub instr_of : List ℕ → ℕ → Instr
-instr_of t w = elim (eqb (op_of w) small_int) [ true ↦ ConstI64 (first_of w) | false ↦ instr (op_of w) (operand_of t (op_of w) (first_of w)) (second_of w) ]
+instr_of t w = elim (eqb (op_of w) small_int) [ true ↦ ConstI64 (first_of w) | false ↦ instr (op_of w) (operand_read t (op_of w) (first_of w)) (second_of w) ]
 
 unfoldable pub instrs_of : List ℕ → List ℕ → List Instr
 instrs_of t ws = map (instr_of t) ws

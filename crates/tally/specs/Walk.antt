@@ -4,7 +4,7 @@ use Rattle.definitions.specs.Bytes.{Parsed, got, failed, Parser, counted, list_o
 use Rattle.definitions.specs.Instruction.{Instr}
 use Rattle.definitions.specs.Reader.{instruction, function_record, read_module}
 use Rattle.definitions.specs.Tables.{Function}
-use Rattle.reader.specs.View.{Got, tables_of}
+use Rattle.reader.specs.View.{Got, module_tables}
 use Rattle.reader.specs.declared.Part.{Part}
 
 -- the values that were read, and where the bytes after them begin, of n
@@ -37,8 +37,8 @@ functions_from n t at = values_from function_record n t at
 
 -- an accepted module, and the part that its functions are, with their count
 pub record FunctionsAt (t : List ℕ) (p : Part) : Type 0 where
-  pub module-is : read_module t ≡ accepted (tables_of t)
+  pub module-is : read_module t ≡ accepted (module_tables t)
   pub here : p.start ≤ length t
   pub ends : ℕ
-  pub read : Got (list_of 2 function_record) t p.start (tables_of t).functions ends
-  pub count : p.count ≡ length (tables_of t).functions
+  pub read : Got (list_of 2 function_record) t p.start (module_tables t).functions ends
+  pub count : p.count ≡ length (module_tables t).functions

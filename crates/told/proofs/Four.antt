@@ -6,7 +6,7 @@ use lib.ListN.{length, set}
 use borrow.Author.Tests.{le-leb, lt-leb}
 use Rattle.std.specs.Prelude.{Result, Ok, Err}
 use Rattle.questions.specs.declared.Question.{Question}
-use Rattle.run.specs.Pass.{ending_number}
+use Rattle.run.specs.Pass.{run_ending_number}
 use Rattle.run.specs.declared.Ran.{Ran}
 use Rattle.told.specs.Tells.{four_in, counts_in}
 
@@ -19,7 +19,7 @@ unfolding four_in
 four-all a b c d xs h = rw (le-leb 4 (length xs) h, four_in)
 
 module _ (r : Result Ran Question) (xs xs' : List ℕ) where
-  pub counted-run : (n : Ran) → r ≡ Ok n → {k : ℕ} → k ≡ ending_number n.ending → xs' ≡ four_in k n.steps n.used n.written xs → xs' ≡ counts_in r xs
+  pub counted-run : (n : Ran) → r ≡ Ok n → {k : ℕ} → k ≡ run_ending_number n.ending → xs' ≡ four_in k n.steps n.used n.written xs → xs' ≡ counts_in r xs
   unfolding counts_in
   counted-run n e g h = h ∙ ap (λ (x : ℕ). four_in x n.steps n.used n.written xs) g ∙ ap (λ (x : Result Ran Question). counts_in x xs) (sym e)
 

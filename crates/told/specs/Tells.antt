@@ -5,22 +5,22 @@ use Rattle.std.specs.declared.cmp.Ordering.{Ordering}
 use Rattle.std.specs.declared.cmp.Ordering.TheVariants.{Less, Equal, Greater}
 use Rattle.questions.specs.declared.Question.{Question}
 use Rattle.questions.specs.Numbers.{number}
-use Rattle.run.specs.Pass.{ending_number}
+use Rattle.run.specs.Pass.{run_ending_number}
 use Rattle.run.specs.declared.Ran.{Ran}
 
 -- 0, or the number of the first question that is answered no
-unfoldable pub asked : {A : Type 0} → Result A Question → ℕ
-asked (Ok x) = 0
-asked (Err q) = number q
+unfoldable pub asked_as_number : {A : Type 0} → Result A Question → ℕ
+asked_as_number (Ok x) = 0
+asked_as_number (Err q) = number q
 
 -- 2 ^ 32 plus a count, or the number of the question
-unfoldable pub counted : Result ℕ Question → ℕ
-counted (Ok n) = 2 ^ 32 + n
-counted (Err q) = number q
+unfoldable pub counted_as_number : Result ℕ Question → ℕ
+counted_as_number (Ok n) = 2 ^ 32 + n
+counted_as_number (Err q) = number q
 
 -- there is room for 2 ^ 32 before it
-abbrev pub Few : Result ℕ Question → Type 0
-Few r = (n : ℕ) → r ≡ Ok n → n < 2 ^ 63
+abbrev pub RoomToTell : Result ℕ Question → Type 0
+RoomToTell r = (n : ℕ) → r ≡ Ok n → n < 2 ^ 63
 
 -- 2 ^ 32 plus a count, 2 ^ 33 for none, or the number of the question
 unfoldable pub found : Result (Opt ℕ) Question → ℕ
@@ -45,5 +45,5 @@ four_in a b c d xs = elim (leb 4 (length xs)) [ true ↦ set (set (set (set xs 0
 
 -- a run's counts, zeros on a refusal
 unfoldable pub counts_in : Result Ran Question → List ℕ → List ℕ
-counts_in (Ok r) xs = four_in (ending_number r.ending) r.steps r.used r.written xs
+counts_in (Ok r) xs = four_in (run_ending_number r.ending) r.steps r.used r.written xs
 counts_in (Err q) xs = four_in 0 0 0 0 xs

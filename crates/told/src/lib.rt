@@ -2,7 +2,7 @@
 #![tactic(auto)]
 
 ghost use Rattle.std.specs.Prelude.{◌≡◌, ◌+◌, ◌*◌, ◌^◌, ◌≤◌};
-ghost use Rattle.told.specs.Tells.{asked, counted, found, placed, Few, FewFound, four_in, counts_in};
+ghost use Rattle.told.specs.Tells.{asked_as_number, counted_as_number, found, placed, RoomToTell, FewFound, four_in, counts_in};
 
 use questions::Question;
 use run::Ran;
@@ -22,9 +22,9 @@ const AFTER: u64 = 4294967298;
 const NONE: u64 = 8589934592;
 
 // 0, or the number of the first question that is answered no.
-#[tactic(auto, unfolding(crate::specs::Tells::asked))]
+#[tactic(auto, unfolding(crate::specs::Tells::asked_as_number))]
 pub fn tell<T: Copy>(answer: Result<T, Question>) -> u32
-    ensures { result ≡ asked answer }
+    ensures { result ≡ asked_as_number answer }
 {
     match answer {
         Ok(_) => 0,
@@ -33,10 +33,10 @@ pub fn tell<T: Copy>(answer: Result<T, Question>) -> u32
 }
 
 // 2^32 plus the count of bytes written; or the number of the first question that is answered no.
-#[tactic(auto, unfolding(crate::specs::Tells::counted))]
+#[tactic(auto, unfolding(crate::specs::Tells::counted_as_number))]
 pub fn tell_count(answer: Result<usize, Question>) -> u64
-    requires { Few answer }
-    ensures { result ≡ counted answer }
+    requires { RoomToTell answer }
+    ensures { result ≡ counted_as_number answer }
 {
     match answer {
         Ok(written) => WROTE + written as u64,
@@ -55,7 +55,7 @@ pub fn tell_part(start: usize, size: usize) -> u64
 // A run: 0, with its ending, steps, answers used and count of event bytes in `numbers`; or the number of the first question that is answered no, with four
 // zeros there. Where `numbers` is shorter than four it is left as it was.
 pub fn tell_run(answer: Result<Ran, Question>, numbers: &mut [u64]) -> u32
-    ensures answer { result ≡ asked answer }
+    ensures answer { result ≡ asked_as_number answer }
     ensures counts { numbers.new ≡ counts_in answer numbers.old }
 {
     match answer {

@@ -14,9 +14,9 @@ use Rattle.questions.specs.declared.Question.{Question}
 use Rattle.questions.specs.declared.Question.TheVariants.{TreeLayout, Depth}
 use Rattle.questions.specs.Numbers.{number}
 use Rattle.definitions.specs.Wellformed.{if_asked}
-use Rattle.parts.specs.Asked.{asks, stand}
+use Rattle.parts.specs.Asked.{number_asked, stand}
 use Rattle.parts.specs.Judge.{Passed, Next, least, judge_expr, judge_stmt, judge_block, judge_stmts, judge_branch, judge_branches, judge_method, judge_methods, judge_attribute_list, judge_attributes, judge_attribute_value}
-use Rattle.parts.specs.Judged.{passed_by, Judged, Counts, ReadsByte, Stands, answered}
+use Rattle.parts.specs.Judged.{passed_by, Judged, ReadsCount, ReadsByte, StandChanged, answered}
 use Rattle.parts.specs.declared.asked.BlockQuestion.{BlockQuestion}
 use Rattle.parts.specs.declared.asked.BlockQuestion.TheVariants.{Loops}
 use Rattle.parts.specs.declared.checker.Checker.{Checker}
@@ -55,12 +55,12 @@ kind-step d k {K = K} {c = c} {c₁ = c₁} a f e l j = record {
 }
 
 -- a break and a continue
-loop-noted : (l : Bool) {u : Unit {0}} {c c₁ : Checker} → Stands c c₁ (answered Loops l) → Judged (Ok u) c c₁ (λ t p w. Next p (least w (λ q. if_asked 9 q l)))
-unfolding passed_by asks
+loop-noted : (l : Bool) {u : Unit {0}} {c c₁ : Checker} → StandChanged c c₁ (answered Loops l) → Judged (Ok u) c c₁ (λ t p w. Next p (least w (λ q. if_asked 9 q l)))
+unfolding passed_by number_asked
 loop-noted l {c = c} {c₁ = c₁} s = record { tree = s.tree; answer = ap (λ (p : ℕ). Next p (stand c₁.first)) s.at ∙ ap (Next c.at) s.stand }
 
 pub stmt-leaves : (l : Bool) (d : ℕ) {k : StmtKind} {b : ℕ} {u : Unit {0}} {c c₁ c₂ : Checker} → ReadsByte (Ok b) c c₁ → (d ≡ 0 → ⊥) → stmt_byte k ≡ b → (k ≡ Break) ⊎ (k ≡ Continue) →
-    Stands c₁ c₂ (answered Loops l) → Judged (Ok u) c c₂ (judge_stmt l d)
+    StandChanged c₁ c₂ (answered Loops l) → Judged (Ok u) c c₂ (judge_stmt l d)
 unfolding stmt_byte
 stmt-leaves l d a f e (inl h) s = kind-step d 0 a f (sym e ∙ ap stmt_byte h) (λ t p w f h e. at-break l d t p w f h e) (loop-noted l s)
 stmt-leaves l d a f e (inr h) s = kind-step d 1 a f (sym e ∙ ap stmt_byte h) (λ t p w f h e. at-continue l d t p w f h e) (loop-noted l s)
@@ -115,16 +115,16 @@ values-end d n c h = record { tree = refl; answer = sym (attributes-none d c.tre
 
 -- ---- counts
 
-pub block-stop : (l : Bool) (d : ℕ) {q : Question} {o : Result (Unit {0}) Question} {c c₁ : Checker} → o ≡ Err q → Counts (Err q) c c₁ → Judged o c c₁ (judge_block l d)
+pub block-stop : (l : Bool) (d : ℕ) {q : Question} {o : Result (Unit {0}) Question} {c c₁ : Checker} → o ≡ Err q → ReadsCount (Err q) c c₁ → Judged o c c₁ (judge_block l d)
 block-stop l d {c = c} e a = let j = count-stop (stmts l d) e a in record { tree = j.tree; answer = j.answer ∙ sym (block-law l d c.tree.now c.at (stand c.first) c.inside) }
 
-pub block-step : (l : Bool) (d : ℕ) {n : ℕ} {o : Result (Unit {0}) Question} {c c₁ c₂ : Checker} → Counts (Ok n) c c₁ → Judged o c₁ c₂ (stmts l d n) → Judged o c c₂ (judge_block l d)
+pub block-step : (l : Bool) (d : ℕ) {n : ℕ} {o : Result (Unit {0}) Question} {c c₁ c₂ : Checker} → ReadsCount (Ok n) c c₁ → Judged o c₁ c₂ (stmts l d n) → Judged o c c₂ (judge_block l d)
 block-step l d {c = c} a b = let j = count-step (stmts l d) a b in record { tree = j.tree; answer = j.answer ∙ sym (block-law l d c.tree.now c.at (stand c.first) c.inside) }
 
-pub attributes-stop : (d : ℕ) {q : Question} {o : Result (Unit {0}) Question} {c c₁ : Checker} → o ≡ Err q → Counts (Err q) c c₁ → Judged o c c₁ (judge_attribute_list d)
+pub attributes-stop : (d : ℕ) {q : Question} {o : Result (Unit {0}) Question} {c c₁ : Checker} → o ≡ Err q → ReadsCount (Err q) c c₁ → Judged o c c₁ (judge_attribute_list d)
 attributes-stop d {c = c} e a = let j = count-stop (values d) e a in record { tree = j.tree; answer = j.answer ∙ sym (attributes-law d c.tree.now c.at (stand c.first) c.inside) }
 
-pub attributes-step : (d : ℕ) {n : ℕ} {o : Result (Unit {0}) Question} {c c₁ c₂ : Checker} → Counts (Ok n) c c₁ → Judged o c₁ c₂ (values d n) → Judged o c c₂ (judge_attribute_list d)
+pub attributes-step : (d : ℕ) {n : ℕ} {o : Result (Unit {0}) Question} {c c₁ c₂ : Checker} → ReadsCount (Ok n) c c₁ → Judged o c₁ c₂ (values d n) → Judged o c c₂ (judge_attribute_list d)
 attributes-step d {c = c} a b = let j = count-step (values d) a b in record { tree = j.tree; answer = j.answer ∙ sym (attributes-law d c.tree.now c.at (stand c.first) c.inside) }
 
 -- ---- an else block or none

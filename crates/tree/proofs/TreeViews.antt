@@ -14,7 +14,7 @@ use Rattle.definitions.specs.Parse.{parse_stmt, block_of, whole_block, read_tree
 use Rattle.definitions.specs.Wellformed.{ask_block, block_questions, first_no, refused_by, well_formed, check_tree}
 use Rattle.parts.specs.Places.{Node, node}
 use Rattle.parts.proofs.Nodes.{got-node, got-reads}
-use Rattle.tree.specs.Settled.{said, without_block, settled, Headed}
+use Rattle.tree.specs.Settled.{tree_said, without_block, settled, Headed}
 use Rattle.tree.specs.StmtAt.{block_at, BlockReads, TreeAt}
 use Rattle.std.specs.Prelude.{Ok, Err}
 use Rattle.questions.specs.declared.Question.{Question}
@@ -66,7 +66,7 @@ module _ (t : List ℕ) (b : Block) (e : read_tree t ≡ accepted b) where
 
   body-got : block_of (parse_stmt 32) (drop 5 t) ≡ got b (drop (length t) t)
   unfolding Headed
-  body-got = whole_is (block_of (parse_stmt 32) (drop 5 t)) (sym (head-fine t high low tt small four refl refl counts five version).1 ∙ e) ∙ ap (got b) (sym (drop-length t))
+  body-got = whole_is (block_of (parse_stmt 32) (drop 5 t)) (sym (head-fine t high low small four refl refl counts tt five version).1 ∙ e) ∙ ap (got b) (sym (drop-length t))
 
 -- ---- questions 7 to 13
 
@@ -133,10 +133,10 @@ unfolding without_block when_accepted
 settled-refused (refused n) q e = ap refused (let z : n ≡ q = cc in z)
 settled-refused (accepted b) q e = never (sym e)
 
-pub answer-accepted : (t : List ℕ) (u : Unit {0}) → said (Ok u) ≡ settled t → TreeAt t
-unfolding said settled
+pub answer-accepted : (t : List ℕ) (u : Unit {0}) → tree_said (Ok u) ≡ settled t → TreeAt t
+unfolding tree_said settled
 answer-accepted t u h = let a = settled-accepted (check_tree t) (sym h) in view-tree t a.0 a.1
 
-pub answer-refused : (t : List ℕ) (q : Question) → said (Err q) ≡ settled t → check_tree t ≡ refused (number q)
-unfolding said settled
+pub answer-refused : (t : List ℕ) (q : Question) → tree_said (Err q) ≡ settled t → check_tree t ≡ refused (number q)
+unfolding tree_said settled
 answer-refused t q h = settled-refused (check_tree t) (number q) (sym h)

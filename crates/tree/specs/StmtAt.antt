@@ -6,7 +6,7 @@ use Rattle.definitions.specs.Tree.{Attribute, Stmt, pass, expr, return, assign, 
 use Rattle.definitions.specs.Tree.{Block, []ᵇ, ◌∷ᵇ◌, Branches, done, else, when, Methods, []ᵐ, method}
 use Rattle.definitions.specs.Parse.{parse_expr, parse_stmt, block_of, branches, methods, attribute}
 use Rattle.definitions.specs.Wellformed.{ask_block, block_questions, check_tree}
-use Rattle.parts.specs.Places.{Node, node, node_at, Reads, count_at, Counted, name_bytes, name_end, There, ParamsAt, params_at}
+use Rattle.parts.specs.Places.{Node, node, node_at, Reads, count_at, CountThere, name_from, name_end, There, ParamsAt, params_at}
 use Rattle.exprs.specs.ExprAt.{expr_at, ExprReads, second_at}
 
 -- the statement at p with d levels left, the block at p, n statements from p on
@@ -73,7 +73,7 @@ body_at d t p = block_at d t (expr_at d t p).end
 -- a first branch, a count of elifs, these and the else block
 pub record IfAt (d : ℕ) (t : List ℕ) (p : ℕ) : Type 0 where
   pub first : BranchAt d t p
-  pub count : Counted t (body_at d t p).end
+  pub count : CountThere t (body_at d t p).end
   pub rest : BranchesRead d (count_at t (body_at d t p).end) t ((body_at d t p).end + 2)
 
 abbrev pub elifs_at : ℕ → List ℕ → ℕ → Node Branches
@@ -91,7 +91,7 @@ pub record ForAt (d : ℕ) (t : List ℕ) (p : ℕ) : Type 0 where
   pub loop : BranchAt d t (name_end t p)
 
 unfoldable pub for_at : ℕ → List ℕ → ℕ → Node Stmt
-for_at d t p = node (for (name_bytes t p) (expr_at d t (name_end t p)).value (body_at d t (name_end t p)).value) (body_at d t (name_end t p)).end
+for_at d t p = node (for (name_from t p) (expr_at d t (name_end t p)).value (body_at d t (name_end t p)).value) (body_at d t (name_end t p)).end
 
 -- n elifs, of which there is a first: it, and the n - 1 after it
 pub record BranchesMore (d n : ℕ) (t : List ℕ) (p : ℕ) : Type 0 where
@@ -118,7 +118,7 @@ abbrev pub def_block_at : ℕ → List ℕ → ℕ → Node Block
 def_block_at d t p = block_at d t (params_at t (name_end t p)).end
 
 unfoldable pub def_at : ℕ → List ℕ → ℕ → Node Stmt
-def_at d t p = node (def (name_bytes t p) (params_at t (name_end t p)).value (def_block_at d t p).value) (def_block_at d t p).end
+def_at d t p = node (def (name_from t p) (params_at t (name_end t p)).value (def_block_at d t p).value) (def_block_at d t p).end
 
 -- n methods, of which there is a first: it, and the n - 1 after it
 pub record MethodsMore (d n : ℕ) (t : List ℕ) (p : ℕ) : Type 0 where
@@ -127,13 +127,13 @@ pub record MethodsMore (d n : ℕ) (t : List ℕ) (p : ℕ) : Type 0 where
 
 unfoldable pub method_at : ℕ → ℕ → List ℕ → ℕ → Node Methods
 method_at d n t p =
-    node (method (name_bytes t p) (params_at t (name_end t p)).value (def_block_at d t p).value (methods_at d (n - 1) t (def_block_at d t p).end).value)
+    node (method (name_from t p) (params_at t (name_end t p)).value (def_block_at d t p).value (methods_at d (n - 1) t (def_block_at d t p).end).value)
     (methods_at d (n - 1) t (def_block_at d t p).end).end
 
 -- a name, a count of methods, these, the attributes
 pub record ClassAt (d : ℕ) (t : List ℕ) (p : ℕ) : Type 0 where
   pub name : There t p
-  pub count : Counted t (name_end t p)
+  pub count : CountThere t (name_end t p)
   pub methods : MethodsRead d (count_at t (name_end t p)) t (name_end t p + 2)
   pub attributes : AttributesRead d t (methods_at d (count_at t (name_end t p)) t (name_end t p + 2)).end
 
@@ -142,7 +142,7 @@ class_methods_at d t p = methods_at d (count_at t (name_end t p)) t (name_end t 
 
 unfoldable pub class_at : ℕ → List ℕ → ℕ → Node Stmt
 class_at d t p =
-    node (class (name_bytes t p) (class_methods_at d t p).value (attributes_at d t (class_methods_at d t p).end).value) (attributes_at d t (class_methods_at d t p).end).end
+    node (class (name_from t p) (class_methods_at d t p).value (attributes_at d t (class_methods_at d t p).end).value) (attributes_at d t (class_methods_at d t p).end).end
 
 -- a count, and so many attributes
 abbrev pub values_at : ℕ → ℕ → List ℕ → ℕ → Node (List Attribute)
@@ -152,7 +152,7 @@ abbrev pub ValuesRead : ℕ → ℕ → List ℕ → ℕ → Type 0
 ValuesRead d n t p = Reads (counted [] ◌∷◌ (attribute (parse_expr d)) n) t p
 
 pub record AttributesAt (d : ℕ) (t : List ℕ) (p : ℕ) : Type 0 where
-  pub count : Counted t p
+  pub count : CountThere t p
   pub values : ValuesRead d (count_at t p) t (p + 2)
 
 -- n attributes, of which there is a first: its name and value, and the n - 1 after it
@@ -164,13 +164,13 @@ pub record ValuesMore (d n : ℕ) (t : List ℕ) (p : ℕ) : Type 0 where
 unfoldable pub value_at : ℕ → ℕ → List ℕ → ℕ → Node (List Attribute)
 value_at d n t p =
     let v = expr_at d t (name_end t p) in
-    node (record { name = name_bytes t p; value = v.value } ∷ (values_at d (n - 1) t v.end).value) (values_at d (n - 1) t v.end).end
+    node (record { name = name_from t p; value = v.value } ∷ (values_at d (n - 1) t v.end).value) (values_at d (n - 1) t v.end).end
 
 -- ---- blocks
 
 -- a count, and so many statements
 pub record BlockAt (d : ℕ) (t : List ℕ) (p : ℕ) : Type 0 where
-  pub count : Counted t p
+  pub count : CountThere t p
   pub statements : StmtsRead d (count_at t p) t (p + 2)
 
 -- n statements, of which there is a first: it, and the n - 1 after it

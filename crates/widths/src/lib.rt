@@ -7,7 +7,7 @@ ghost use Rattle.std.specs.Prelude.{◌≡◌, ◌+◌, ◌≤◌};
 ghost use Rattle.definitions.specs.Instruction.{first_width, second_width};
 
 use numerals::op_places::*;
-pub use stack::{height_after, popped};
+pub use stack::{height_after, height_onward, popped};
 
 // Bytes of an instruction's first operand. An opcode an arm, here and below: tried by or-patterns, which become tests one after the other, and reading
 // a module takes a fifth longer.

@@ -32,7 +32,7 @@ use Rattle.lower_emit.specs.Emitting.{state_in, SoundIn, LeftIn, LowersIn, Emits
 use Rattle.lower_emit.proofs.Spelled.{spelled-in}
 use Rattle.lower_emit.proofs.Steps.{sound-next, lowers_then, lowers-stopped, lowers-state}
 use Rattle.lower_emit.proofs.Parts.{emits-stopped, emits-state}
-use Rattle.lower_stmt.proofs.Between.{stack-low, next-none}
+use Rattle.lower_blocks.proofs.Between.{stack-low, next-none}
 use Rattle.write_stmts.specs.declared.loops.Loop.{Loop}
 use Rattle.write_stmts.specs.Written.{loop_of, branch_written, rest_written}
 use Rattle.write_stmts.specs.Sizes.{Fits}

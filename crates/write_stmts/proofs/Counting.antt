@@ -22,7 +22,7 @@ use Rattle.definitions.proofs.Counted.{More, Counted}
 use Rattle.definitions.proofs.CountedStmt.{counted-stmt, counted-block}
 use Rattle.definitions.proofs.Alike.{AllSpelled}
 use Rattle.definitions.proofs.AlikeStmt.{AlikeIn, alike-stmt, alike-block}
-use Rattle.state.specs.State.{State, emit_at, Within, Limited}
+use Rattle.state.specs.State.{State, emit_at, WithinLimits, Limited}
 use Rattle.state.specs.declared.Limits.{Limits}
 use Rattle.definitions.proofs.Growth.{Lengthens}
 use Rattle.measure_stmts.specs.Heads.{heads_stmt, heads_block, heads_branches}
@@ -158,7 +158,7 @@ module _ (l : Bool) (slots : List Name) (keep : Keeping) (v : Loop) where
 
 -- a part of more instructions than the limit, or in which more functions and classes begin than there is room to note
 pub sizes-over : {n : SoFar → ℕ} {f : SoFar → SoFar} {h : ℕ} {e : Emit} (l : Limits) (base : ℕ) (s : State) (heads size : ℕ) → Sizes n f h e → Lengthens e → AllSpelled s.tables → Limited l
-    → heads ≤ h → size ≤ n (so_far s.tables) → (heads ≤ 320 → l.instructions < size) → Within l (emit_at base e s) → ⊥
+    → heads ≤ h → size ≤ n (so_far s.tables) → (heads ≤ 320 → l.instructions < size) → WithinLimits l (emit_at base e s) → ⊥
 unfolding emit_at
 sizes-over {n} {f} {h} {e} l base s heads size Z E N L less few over w = go (ltb 320 heads) refl
   where

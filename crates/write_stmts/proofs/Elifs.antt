@@ -26,7 +26,7 @@ use Rattle.lower_emit.specs.declared.emitter.Emitter.{Emitter}
 use Rattle.lower_emit.specs.Emitting.{limits_in, state_in, SoundIn, SameAreas, LeftIn, LowersIn, EmitsTo}
 use Rattle.lower_emit.proofs.Steps.{areas-none, areas-after, left-next, reaches_as, reaches-after}
 use Rattle.lower_emit.proofs.Parts.{emits-by}
-use Rattle.lower_stmt.proofs.Between.{stack-long, left-itself, open-left, left-own, left-sound, reached_by}
+use Rattle.lower_blocks.proofs.Between.{stack-long, left-itself, open-left, left-own, left-sound, reached_by}
 use Rattle.write_stmts.specs.declared.loops.Loop.{Loop}
 use Rattle.write_stmts.specs.Written.{Started, branch_written, rest_written}
 use Rattle.write_stmts.specs.Sizes.{Fits}

@@ -17,7 +17,7 @@ use Rattle.definitions.specs.Measured.{measure_block, measure_ask, measure_take,
 use Rattle.definitions.proofs.Counted.{counted-seq}
 use Rattle.definitions.proofs.CountedStmt.{counted-take_iter}
 use Rattle.definitions.proofs.Alike.{AllSpelled, alike-expr}
-use Rattle.state.specs.State.{State, emit_at, Within}
+use Rattle.state.specs.State.{State, emit_at, WithinLimits}
 use Rattle.state.specs.Kept.{keeping_of, keeper_at, kept_at, after_loops, Spare}
 use Rattle.state.proofs.Kept.{spare-first, keeping-past}
 use Rattle.state.proofs.Emission.{at-seq, at-three, base_kept}
@@ -31,7 +31,7 @@ use Rattle.lower_emit.specs.Emitting.{limits_in, state_in, SoundIn, LeftIn, Emit
 use Rattle.lower_emit.proofs.Spelled.{spelled-in}
 use Rattle.lower_emit.proofs.Steps.{areas-none, reaches_as, reaches-after}
 use Rattle.lower_loops.specs.Iterators.{keeper_of, StoresIterator}
-use Rattle.lower_stmt.proofs.Between.{stack-low, emits-full}
+use Rattle.lower_blocks.proofs.Between.{stack-low, emits-full}
 use Rattle.write_stmts.specs.Written.{rounds_written, for_written}
 use Rattle.write_stmts.proofs.Growing.{grows-knowing, grows-loop, grows-block}
 use Rattle.write_stmts.proofs.Counting.{Sizes, sizes-block}
@@ -116,7 +116,7 @@ module _ {t : List ℕ} {a a₁ : Emitter} {p : Option ℕ} {n : ℕ} (names : L
       (omega (arith, base_kept base make_iter (emit_at base (emit_expr names e) (state_in t a)) (base_kept base (emit_expr names e) (state_in t a) (stack-low S)), ap length (kept-stack base keep f₁))))
       ∙ sym (at-kept base keep F f₁))) in
       emits-full refl areas-none z y g.lowers.reaches
-      (λ w. rw (at-seq base (emit_expr names e) make_iter (state_in t a) (stack-low S)) (within-down base f₁ kept-grows (subst (Within (limits_in a)) (sym is) w)))
+      (λ w. rw (at-seq base (emit_expr names e) make_iter (state_in t a) (stack-low S)) (within-down base f₁ kept-grows (subst (WithinLimits (limits_in a)) (sym is) w)))
 
   module _ {k : ℕ} (y : p ≡ Some k) {a₂ : Emitter} {i₁ : ℕ} {r : Option ℕ} (h : StoresIterator r keep t a₁ a₂ × (i₁ ≡ after_loops i 1)) where
     A : LeftIn t a a₁ (emit_at base (emit_expr names e ⨟ make_iter) (state_in t a))
@@ -136,7 +136,7 @@ module _ {t : List ℕ} {a a₁ : Emitter} {p : Option ℕ} {n : ℕ} (names : L
 
     pub for-over : {o : Option ℕ} {next : ℕ} → r ≡ None → o ≡ None → EmitsTo o (for_written names keep x e b) next t a a₂
     for-over z u = emits-full g.lowers.reaches.limits g.lowers.reaches.areas z u h.0.reaches.reaches
-        (λ w. subst (Within (limits_in a)) (sym stored-is) (within-down base stored (grows-rounds names (past 1 keep) x kept b) (subst (Within (limits_in a)) whole-is w)))
+        (λ w. subst (WithinLimits (limits_in a)) (sym stored-is) (within-down base stored (grows-rounds names (past 1 keep) x kept b) (subst (WithinLimits (limits_in a)) whole-is w)))
 
     module _ {w : ℕ} (z : r ≡ Some w) (s : Spare i (1 + loops_block b)) where
       pub for-done : {a₃ : Emitter} {r₃ : Option ℕ} {m next : ℕ} {b' : Block} → b' ≡ b → m ≡ next

@@ -13,7 +13,7 @@ use Rattle.definitions.specs.Measured.{SoFar, so_far}
 use Rattle.definitions.proofs.SoFarNames.{Knows, knows-itself}
 use Rattle.definitions.proofs.Counted.{Counted}
 use Rattle.state.specs.Words.{word}
-use Rattle.state.specs.State.{State, emit_at, Within}
+use Rattle.state.specs.State.{State, emit_at, WithinLimits}
 use Rattle.state.proofs.Emission.{stack-after}
 use Rattle.definitions.proofs.Growth.{Lengthens}
 use Rattle.state.proofs.Views.{stack-length}
@@ -76,7 +76,7 @@ jump-put {t = t} {n = n} S same few h = put-lifts S same (instr-jump t 28 n (ome
 -- w has the instruction i, then the part e
 pub size-stops : {A : Type 0} {q : Option A} {r : Option ℕ} {t : List ℕ} {a : Emitter} {n : SoFar → ℕ} {f : SoFar → SoFar} {h heads size limit : ℕ} {e w : Emit} (i : Instr)
     → SoundIn t a → Sizes n f h e → Lengthens e → Fits r heads size limit → limit ≡ a.code.limit → heads ≤ h → size ≤ n (so_far (state_in t a).tables) → r ≡ None → q ≡ None
-    → (Within (limits_in a) (emit_at a.code.base w (state_in t a)) → Within (limits_in a) (emit_at a.code.base e (emit_at a.code.base (one i) (state_in t a)))) → LowersIn q w t a a
+    → (WithinLimits (limits_in a) (emit_at a.code.base w (state_in t a)) → WithinLimits (limits_in a) (emit_at a.code.base e (emit_at a.code.base (one i) (state_in t a)))) → LowersIn q w t a a
 unfolding emit_at emits
 size-stops {t = t} {a = a} {heads = heads} {size = size} i S Z E F same less few z y under = record {
   reaches = record {

@@ -20,7 +20,7 @@ use Rattle.lower_emit.specs.declared.emitter.Emitter.{Emitter}
 use Rattle.lower_emit.specs.Emitting.{state_in, SoundIn, LowersIn}
 use Rattle.lower_emit.proofs.Spelled.{spelled-in}
 use Rattle.lower_emit.proofs.Steps.{sound-next, lowers_then, lowers-stopped, lowers-state}
-use Rattle.lower_stmt.proofs.Between.{stack-long, stack-low}
+use Rattle.lower_blocks.proofs.Between.{stack-long, stack-low}
 use Rattle.write_stmts.specs.Sizes.{Fits}
 use Rattle.write_stmts.proofs.Growing.{grows-back}
 use Rattle.write_stmts.proofs.Counting.{Sizes}

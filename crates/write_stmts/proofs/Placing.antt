@@ -14,7 +14,7 @@ use Rattle.lower_emit.specs.declared.emitter.Code.{Code}
 use Rattle.lower_emit.specs.Emitting.{state_in, beside, Puts, Writes}
 use Rattle.lower_emit.proofs.Packing.{instr-jump, instr-back}
 use Rattle.lower_emit.proofs.Steps.{put-lifts, lowers-state}
-use Rattle.lower_stmt.proofs.Between.{stack-long}
+use Rattle.lower_blocks.proofs.Between.{stack-long}
 
 module _ {A : Type 0} {r : Option A} {a b : Code} (target m : ℕ) (is : m + a.base ≡ a.open) where
   pub ahead-put : {n : ℕ} → n ≡ target - (m + 1) → target ≤ 32767 → Puts r (word 28 n 0) a b → Writes r (ahead target) a b

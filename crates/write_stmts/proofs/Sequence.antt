@@ -15,7 +15,7 @@ use Rattle.parts.specs.Places.{Node, count_at}
 use Rattle.tree.specs.StmtAt.{stmt_at, block_at, stmts_at, cons_at}
 use Rattle.tree.proofs.StmtViews.{view-block, view-stmts-none, view-stmts-more}
 use Rattle.tree.proofs.LoopsAt.{stmts-loops, none-loops}
-use Rattle.state.specs.State.{State, emit_at, Within}
+use Rattle.state.specs.State.{State, emit_at, WithinLimits}
 use Rattle.state.specs.Kept.{keeping_of, after_loops, Spare, Passes}
 use Rattle.state.proofs.Kept.{after_none, after-sum, spare-first, spare-rest, keeping-past, passes_over}
 use Rattle.state.proofs.Emission.{at-seq, at-nothing, stack-grows}
@@ -27,7 +27,7 @@ use Rattle.lower_emit.specs.declared.emitter.Emitter.{Emitter}
 use Rattle.lower_emit.specs.Emitting.{limits_in, state_in, SoundIn, SameAreas, LeftIn, EmitsTo}
 use Rattle.lower_emit.proofs.Steps.{areas-none, areas-after, left-next, some-is}
 use Rattle.lower_emit.proofs.Parts.{emits-by}
-use Rattle.lower_stmt.proofs.Between.{stack-long, stack-low, left-itself, open-left, left-own, left-by, left-sound, reached_by, emits-full}
+use Rattle.lower_blocks.proofs.Between.{stack-long, stack-low, left-itself, open-left, left-own, left-by, left-sound, reached_by, emits-full}
 use Rattle.write_stmts.specs.declared.loops.Loop.{Loop}
 use Rattle.measure_stmts.specs.Heads.{heads_block}
 use Rattle.write_stmts.specs.Written.{loop_of, Started, KeepsWritten, stmt_written, block_written, stmts_written}
@@ -110,7 +110,7 @@ module _ {d : ℕ} {t : List ℕ} {names : List Name} {w : Loop} {a : Emitter} {
           → EmitsTo r' (stmts_written d n₀ t names (keeping_of i₀) w p₀) next t a c × Passes r' i₀ i' (loops_block (stmts_at d n₀ t p₀).value)
       stmts-over z y = (
         emits-full inv.limits inv.areas z y e.lowers.reaches
-            (λ v. subst (Within (limits_in a)) (sym based) (within-down a.code.base _ (grows-block names (past m (keeping_of i)) (loop_of w) _) (subst (Within (limits_in a)) (sym split) v))),
+            (λ v. subst (WithinLimits (limits_in a)) (sym based) (within-down a.code.base _ (grows-block names (past m (keeping_of i)) (loop_of w) _) (subst (WithinLimits (limits_in a)) (sym split) v))),
         passes_over y,
       )
 

@@ -25,7 +25,7 @@ use Rattle.lower_forms.specs.Lowerable.{expr_code}
 use Rattle.lower_forms.specs.Lowering.{BranchLowerable, BlockLowerable}
 use Rattle.lower_emit.specs.declared.emitter.Emitter.{Emitter}
 use Rattle.lower_emit.specs.Emitting.{state_in, SoundIn, LowersIn, EmitsTo}
-use Rattle.lower_stmt.proofs.Between.{next-none}
+use Rattle.lower_blocks.proofs.Between.{next-none}
 use Rattle.write_stmts.specs.Written.{while_written, rounds_written}
 use Rattle.write_stmts.specs.Sizes.{Fits}
 use Rattle.write_stmts.proofs.Growing.{grows-block}

@@ -17,14 +17,14 @@ ghost use Rattle.tree.specs.StmtAt.{stmt_at, block_at, branches_at, body_at, eli
 ghost use Rattle.tree.specs.StmtAt as StmtAt;
 ghost use Rattle.state.specs.Words.{name_at};
 ghost use Rattle.state.specs.State.{emit_at, slot_names};
-ghost use Rattle.state.specs.Steps.{methods_at, methods_of};
+ghost use Rattle.state.specs.Steps.{emit_methods_at, methods_of};
 ghost use Rattle.state.specs.Kept.{keeping_of, Spare, Passes};
 ghost use Rattle.lower_forms.specs.Lowerable.{SoleIn};
 ghost use Rattle.lower_forms.specs.Lowering.{StmtLowerable, BlockLowerable, BranchLowerable, BranchesLowerable, IfLowerable, ForLowerable};
 ghost use Rattle.lower_forms.specs.Lowering.{FunctionLowerable, MethodsLowerable, ClassLowerable, block_code, function_code, end_of, class_code};
 ghost use Rattle.lower_emit.specs.Emitting.{state_in, EmitsTo, Reaches};
 ghost use Rattle.lower_loops.specs.Iterators.{keeper_of, Loads};
-ghost use Rattle.lower_stmt.specs.Blocks.{CompilesIn, ListsIn};
+ghost use Rattle.lower_blocks.specs.Blocks.{CompilesIn, ListsIn};
 ghost use Rattle.write_stmts.specs.Written.{loop_of, Started, BodyLowerable, KeepsWritten, stmt_written, block_written, branch_written, rest_written, while_written, for_written, rounds_written};
 
 use crate::loops::{JUMP_BACK, Loop, NO_LOOP, place, put_ahead, put_back};
@@ -339,7 +339,8 @@ fn write_methods(
     list: &mut [u32],
 ) -> Option<u32>
     requires { SoleIn tree.now e.old × MethodsLowerable depth n tree.now at × (256 ≤ length list.old) }
-    ensures { ListsIn result (methods_at (StmtAt.methods_at depth n tree.now at).value [] (state_in tree.now e.old)) (methods_of (StmtAt.methods_at depth n tree.now at).value [] (state_in tree.now e.old)) tree.now list.new e.old e.new }
+    ensures { ListsIn result (emit_methods_at (StmtAt.methods_at depth n tree.now at).value [] (state_in tree.now e.old))
+        (methods_of (StmtAt.methods_at depth n tree.now at).value [] (state_in tree.now e.old)) tree.now list.new e.old e.new }
 {
     let mut p = at;
     let mut count = 0u32;

@@ -106,6 +106,13 @@ pub record Begun (s before : List ℕ) (at : ℕ) (out : List ℕ) (ps : List (L
 pub begun_first : {s p before after : List ℕ} {n : ℕ} {ps : List (List ℕ)} → s ≡ p ++ joined ps → length s ≤ length before → Wrote n p before after → Begun s before n after ps
 begun_first {p = p} e h w = record { so_far = p; split = e; count = w.count; wrote = w.out; room = h }
 
+-- the head of a record, whose count is written and whose version is left
+pub begun_headed : {before after : List ℕ} {n : ℕ} (size version : ℕ) → 5 ≤ length before → Wrote n (be 4 (size - 4)) before after
+    → Begun (be 4 (size - 4) ++ be 1 version) before n after (be 1 version ∷ [])
+begun_headed size version h w =
+    let five = length-append (be 4 (size - 4)) (be 1 version) ∙ ap₂ (λ (x y : ℕ). x + y) (length-be 4 (size - 4)) (length-be 1 version) in
+    begun_first (ap (λ (z : List ℕ). be 4 (size - 4) ++ z) (joined-one (be 1 version))) (omega (arith, five)) w
+
 module _ {s before : List ℕ} {at : ℕ} {out : List ℕ} {ps : List (List ℕ)} (b : Begun s before at out ps) where
   -- what is left
   pub begun-left : length s ≡ at + length (joined ps)

@@ -60,14 +60,12 @@ fn lists(count: usize) -> Vec<u8> {
     make::tree(&make::times(600, &make::expr(list)))
 }
 
-/// A statement that takes long to lower, with 600 short ones around it.
+/// 600 statements, two of them in the midst that take long to lower.
 fn around_slow() -> Vec<u8> {
-    let name = "slow-lambdas-136-4000-2";
-    let case = slow::all().into_iter().find(|case| case.name == name);
-    let slow = case.expect(name).tree.split_off(7);
-    let list = make::expr(make::list(&make::times(22, &make::none())));
-    let half = make::times(300, &list);
-    make::tree(&[half.clone(), vec![slow], half].concat())
+    let slow = slow::one_bucket(0, 4_480);
+    let short = make::expr(make::list(&make::times(3, &make::none())));
+    let half = make::times(299, &short);
+    make::tree(&[half.clone(), slow, half].concat())
 }
 
 const MS: Duration = Duration::from_millis(1);
@@ -82,7 +80,7 @@ fn most_statements() -> Vec<u8> {
 fn alone(areas: &mut Areas) {
     for (what, tree) in [
         (
-            "600 around one that takes long to lower, by 15",
+            "600 around two that take long to lower, by 15",
             around_slow(),
         ),
         (

@@ -378,7 +378,7 @@ fn tried() -> Vec<Case> {
             "slow-tried-lists",
             &[expr(var("a")), expr(in_lists(lambda(&[], none())))],
         ),
-        script("slow-tried-bucket", &one_bucket()),
+        script("slow-tried-bucket", &one_bucket(1_800, 2_000)),
     ]
 }
 
@@ -389,9 +389,9 @@ fn bucket(name: &str) -> u32 {
     name.bytes().fold(0, hash) % 8_192
 }
 
-/// Nearly as many symbols as there may be, the last in the bucket of the
-/// first, and calls and loads of the last before a lambda in a list in a list.
-fn one_bucket() -> Vec<Bytes> {
+/// Nearly as many symbols as there may be, the last in the bucket of the first,
+/// and so many calls and loads of the last before a lambda in a list in a list.
+pub fn one_bucket(calls: usize, loads: usize) -> Vec<Bytes> {
     let named = |c: char| {
         alike(1_000, 3)
             .into_iter()
@@ -411,8 +411,8 @@ fn one_bucket() -> Vec<Bytes> {
     names.truncate(1_000);
     names.insert(0, first);
     names.push(last.clone());
-    let mut items = times(1_800, &call_name(&last, &[]));
-    items.extend(times(2_000, &var(&last)));
+    let mut items = times(calls, &call_name(&last, &[]));
+    items.extend(times(loads, &var(&last)));
     items.push(lambda(&[], none()));
     vec![listed(&variables(&names)), expr(list(&[list(&items)]))]
 }

@@ -1,7 +1,7 @@
 use mathlib.Core.Path.{sym, ap, ◌∙◌}
 use Rattle.std.proofs.Common.{rules, arith}
 use Rattle.numerals.specs.Kinds.{expr_byte}
-use Rattle.parts.specs.Asked.{asks}
+use Rattle.parts.specs.Asked.{number_asked}
 use Rattle.parts.specs.Judge.{judge_expr, judge_two, judge_call, judge_args, judge_display, judge_tuple, judge_pairs, judge_attribute, judge_lambda, judge_unary, judge_binary}
 use Rattle.parts.specs.declared.roles.Role.TheVariants.{Value}
 use Rattle.parts.proofs.Steps.{step, stop, count-step, count-stop, noted, guard-step, guard-stop, along-start, along-next, along-stop, along-end}
@@ -34,7 +34,7 @@ unfolding judge_call judge_args
 check_call-returns-in_err-n t c = step c.in_ok-check_expr.ensures (count-stop _ (search rules) c.in_err-n.ensures)
 
 pub check_call-returns : goal.check_call-returns
-unfolding judge_call judge_args asks
+unfolding judge_call judge_args number_asked
 check_call-returns t c = step c.in_ok-check_expr.ensures (count-step _ c.in_ok-n.ensures (noted c.note.ensures c.check_many.ensures))
 
 pub check_display-returns-in_err-n : goal.check_display-returns-in_err-n

@@ -30,14 +30,14 @@ use Rattle.lower_forms.proofs.StmtArms.{block-parts, elifs-more, elifs-none, els
 use Rattle.lower_forms.proofs.StmtArms.{arm-deep, arm-inside, arm-known, arm-if, arm-while, arm-for, arm-def, arm-class}
 use Rattle.lower_loops.specs.Iterators.{keeper_of}
 use Rattle.lower_simple.proofs.KindBytes.{byte-is, simple-kinds}
-use Rattle.lower_stmt.proofs.Between.{next-none}
-use Rattle.lower_stmt.proofs.Sequence.{passes-by, stmts-all, stmts-sound, stmts-spare, stmts-over, stmts-next, stmts-done, block-is, block-by, spare-at, block-stmts}
-use Rattle.lower_stmt.proofs.Branches.{loop-stopped, loop-over, inside-above, end-above, loop-ends, branch-stopped, branch-over, branch-ends, if-stopped, if-open, if-done}
-use Rattle.lower_stmt.proofs.Branches.{chain-all, chain-sound, chain-spare, chain-over, chain-longer, chain_next, chain-rest, chain-last, else-none, else-over, else-longer, else-done}
-use Rattle.lower_stmt.proofs.Branches.{iterable-by, for-stopped, for-over, for-sound, for-loads, for-spare, for-passes, for-done}
-use Rattle.lower_stmt.proofs.Functions.{function-parts, slots-stopped, function-over, function-sound, function-stopped, function-done, body-by, compiles-emits, reaches-lowers}
-use Rattle.lower_stmt.proofs.Classes.{class-methods, methods-all, methods-sole, methods-done, methods-stopped, methods-number, methods-room, methods-next, class-lists}
-use Rattle.lower_stmt.proofs.Classes.{class-over, class-sound, class-stopped, class-asks, class-many, class-done}
+use Rattle.lower_blocks.proofs.Between.{next-none}
+use Rattle.lower_blocks.proofs.Sequence.{passes-by, stmts-all, stmts-sound, stmts-spare, stmts-over, stmts-next, stmts-done, block-is, block-by, spare-at, block-stmts}
+use Rattle.lower_blocks.proofs.Branches.{loop-stopped, loop-over, inside-above, end-above, loop-ends, branch-stopped, branch-over, branch-ends, if-stopped, if-open, if-done}
+use Rattle.lower_blocks.proofs.Branches.{chain-all, chain-sound, chain-spare, chain-over, chain-longer, chain_next, chain-rest, chain-last, else-none, else-over, else-longer, else-done}
+use Rattle.lower_blocks.proofs.Branches.{iterable-by, for-stopped, for-over, for-sound, for-loads, for-spare, for-passes, for-done}
+use Rattle.lower_blocks.proofs.Functions.{function-parts, slots-stopped, function-over, function-sound, function-stopped, function-done, body-by, compiles-emits, reaches-lowers}
+use Rattle.lower_blocks.proofs.Classes.{class-methods, methods-all, methods-sole, methods-done, methods-stopped, methods-number, methods-room, methods-next, class-lists}
+use Rattle.lower_blocks.proofs.Classes.{class-over, class-sound, class-stopped, class-asks, class-many, class-done}
 use Rattle.lower_stmt.proofs.+emit.Goals as goal
 
 -- ---- emit_stmt
@@ -604,7 +604,7 @@ emit_methods-overflow_add-p t c =
 pub emit_methods-insert_method-count-requires : goal.emit_methods-insert_method-count-requires
 emit_methods-insert_method-count-requires t c =
     let m = methods-room c.loop.invariant c.requires.0 (omega (arith, c.loop-test.true)) c.is_init.ensures c.compile_function.ensures c.in_ok-next.was in
-    (omega (arith, m, c.loop.invariant.room), omega (arith, m))
+    (omega (arith, m, c.loop.invariant.room), omega (arith, m), c.loop.invariant.ordered)
 
 pub emit_methods-loop-preserved : goal.emit_methods-loop-preserved
 emit_methods-loop-preserved t c =

@@ -1,9 +1,9 @@
 -- How deep each function may still go, and what its loop keeps.
 use Prim.Native.Nat.{◌+◌, ◌*◌, ◌-◌}
 use Rattle.state.specs.State.{slot_names}
-use Rattle.lower_stmt.proofs.Sequence.{StmtsRest}
-use Rattle.lower_stmt.proofs.Branches.{ChainRest}
-use Rattle.lower_stmt.proofs.Classes.{MethodsRest}
+use Rattle.lower_blocks.proofs.Sequence.{StmtsRest}
+use Rattle.lower_blocks.proofs.Branches.{ChainRest}
+use Rattle.lower_blocks.proofs.Classes.{MethodsRest}
 use Rattle.lower_stmt.proofs.+emit.Given as goal
 
 abbrev pub decreases-compile_function : goal.decreases-compile_function

@@ -1,26 +1,26 @@
-use native.Mathlib.Omega.{arith}
-use mathlib.Core.Path.{refl, sym, ap, ◌∙◌}
-use Rattle.definitions.specs.Bytes.{same, below}
-use Rattle.methods.proofs.Sorting.{start, slot-here, slot-before, slot-last, past_next}
+-- The place of a name, by the point where the names stop being below it.
+use Rattle.std.proofs.Common.{rules, tests}
+use Rattle.std.proofs.lemmas.List.Sorted.{IsPartitionPoint-from_clause}
+use mathlib.Core.Path.{sym, ap, ◌∙◌}
+use Rattle.definitions.specs.Bytes.{same}
+use Rattle.methods.proofs.Sorting.{is_below, parted, slot-here, slot-before, slot-last}
 use Rattle.methods.proofs.find_slot.Goals as goal
-
-pub loop-i-init : goal.loop-i-init
-loop-i-init c = (omega arith, start)
+use Rattle.methods.proofs.find_slot.Goals.{else-place-list-via-then-place-list+else-same_bytes, else-place-list-via-else-place-list}
 
 pub returns-then-same_bytes : goal.returns-then-same_bytes
-returns-then-same_bytes c = slot-here _ _ _ _ c.loop-i.invariant.1 c.loop-i-test.true (sym c.if-same_bytes.true ∙ c.same_bytes.ensures ∙ ap (same _) c.name_part-other.ensures.result_value)
-
-pub returns-then-below_bytes : goal.returns-then-below_bytes
-returns-then-below_bytes c =
-    slot-before _ _ _ _ c.loop-i.invariant.1 c.loop-i-test.true (sym c.if-same_bytes.false ∙ c.same_bytes.ensures ∙ ap (same _) c.name_part-other.ensures.result_value)
-    (sym c.if-below_bytes.true ∙ c.below_bytes.ensures ∙ ap (below _) c.name_part-other.ensures.result_value)
-
-pub loop-i-preserved : goal.loop-i-preserved
-loop-i-preserved c = (
-  omega (arith, c.loop-i-test.true),
-  past_next _ _ _ _ c.loop-i.invariant.1 c.loop-i-test.true (sym c.if-same_bytes.false ∙ c.same_bytes.ensures ∙ ap (same _) c.name_part-other.ensures.result_value)
-      (sym c.if-below_bytes.false ∙ c.below_bytes.ensures ∙ ap (below _) c.name_part-other.ensures.result_value),
-)
+returns-then-same_bytes c =
+    let t = c.args.tree.now in let x = c.args.name.now in let place = c.partition_point-place in
+    slot-here t x c.args.list.now place.result place.ensures.bound
+    (IsPartitionPoint-from_clause (is_below t x) _ _ place.ensures.partitioned (parted t x c.args.list.now c.requires) (λ v r f q. search (rules, tests)))
+    c.if-place-list.true (sym (c.same_bytes.ensures ∙ ap (same x) c.method_name.ensures.result_value) ∙ c.if-same_bytes.true)
 
 pub returns : goal.returns
-returns c = slot-last _ _ _ _ c.loop-i.invariant.1 _ refl c.loop-i-test.false c.loop-i.invariant.0
+returns c =
+    let t = c.args.tree.now in let x = c.args.name.now in let place = c.partition_point-place in
+    let point = IsPartitionPoint-from_clause (is_below t x) _ _ place.ensures.partitioned (parted t x c.args.list.now c.requires) (λ v r f q. search (rules, tests)) in
+    elim c.else-place-list.branch [
+      | else-place-list-via-then-place-list+else-same_bytes w ↦
+          slot-before t x c.args.list.now place.result place.ensures.bound point
+          w.if-place-list.true (sym (w.same_bytes.ensures ∙ ap (same x) w.method_name.ensures.result_value) ∙ w.if-same_bytes.false)
+      | else-place-list-via-else-place-list w ↦ slot-last t x c.args.list.now place.result place.ensures.bound point w.if-place-list.false
+    ]

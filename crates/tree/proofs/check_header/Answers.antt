@@ -24,4 +24,4 @@ returns-then-tree-ne-TREE_VERSION c = head-version _ _ _ c.if-len-gt-TREE_MOST.f
 
 pub returns : goal.returns
 unfolding count_at
-returns c = head-fine _ _ _ _ c.if-len-gt-TREE_MOST.false c.if-len-lt-COUNT.false c.u16_at-high.ensures.0 c.u16_at-low.ensures.0 c.if-high-low.false c.if-len-lt-HEAD.false c.if-tree-ne-TREE_VERSION.false
+returns c = head-fine _ _ _ c.if-len-gt-TREE_MOST.false c.if-len-lt-COUNT.false c.u16_at-high.ensures.0 c.u16_at-low.ensures.0 c.if-high-low.false _ c.if-len-lt-HEAD.false c.if-tree-ne-TREE_VERSION.false

@@ -27,11 +27,11 @@ use Rattle.lower_forms.proofs.StmtArms.{block-parts, elifs-more, elifs-none, els
 use Rattle.lower_forms.proofs.StmtArms.{arm-deep, arm-inside, arm-known, arm-break, arm-continue, arm-if, arm-while, arm-for, arm-def, arm-class}
 use Rattle.lower_loops.specs.Iterators.{keeper_of}
 use Rattle.lower_simple.proofs.KindBytes.{byte-is}
-use Rattle.lower_stmt.proofs.Sequence.{passes-by, spare-at, block-stmts}
-use Rattle.lower_stmt.proofs.Branches.{iterable-by, for-sound, for-loads, for-spare, for-passes}
-use Rattle.lower_stmt.proofs.Functions.{function-parts, slots-stopped, function-over, function-sound, function-stopped, function-done, body-by, compiles-emits, reaches-lowers}
-use Rattle.lower_stmt.proofs.Classes.{class-methods, methods-all, methods-sole, methods-done, methods-stopped, methods-number, methods-room, methods-next, class-lists}
-use Rattle.lower_stmt.proofs.Classes.{class-over, class-sound, class-stopped, class-asks, class-many, class-done}
+use Rattle.lower_blocks.proofs.Sequence.{passes-by, spare-at, block-stmts}
+use Rattle.lower_blocks.proofs.Branches.{iterable-by, for-sound, for-loads, for-spare, for-passes}
+use Rattle.lower_blocks.proofs.Functions.{function-parts, slots-stopped, function-over, function-sound, function-stopped, function-done, body-by, compiles-emits, reaches-lowers}
+use Rattle.lower_blocks.proofs.Classes.{class-methods, methods-all, methods-sole, methods-done, methods-stopped, methods-number, methods-room, methods-next, class-lists}
+use Rattle.lower_blocks.proofs.Classes.{class-over, class-sound, class-stopped, class-asks, class-many, class-done}
 use Rattle.write_stmts.specs.Written.{BodyLowerable}
 use Rattle.write_stmts.proofs.Growing.{grows-stmt, grows-block}
 use Rattle.write_stmts.proofs.Jumping.{question-put, jump-put}
@@ -838,7 +838,7 @@ write_methods-overflow_add-p t c =
 pub write_methods-insert_method-count-requires : goal.write_methods-insert_method-count-requires
 write_methods-insert_method-count-requires t c =
     let m = methods-room c.loop.invariant c.requires.0 (omega (arith, c.loop-test.true)) c.is_init.ensures c.write_function.ensures c.in_ok-next.was in
-    (omega (arith, m, c.loop.invariant.room), omega (arith, m))
+    (omega (arith, m, c.loop.invariant.room), omega (arith, m), c.loop.invariant.ordered)
 
 pub write_methods-loop-preserved : goal.write_methods-loop-preserved
 write_methods-loop-preserved t c =

@@ -1,7 +1,7 @@
 -- How deep each function may still go, and what its loop keeps.
 use Prim.Native.Nat.{◌+◌, ◌*◌, ◌-◌}
 use Rattle.state.specs.State.{slot_names}
-use Rattle.lower_stmt.proofs.Classes.{MethodsRest}
+use Rattle.lower_blocks.proofs.Classes.{MethodsRest}
 use Rattle.write_stmts.proofs.Sequence.{StmtsRest}
 use Rattle.write_stmts.proofs.Elifs.{ElifsRest}
 use Rattle.write_stmts.proofs.+write.Given as goal

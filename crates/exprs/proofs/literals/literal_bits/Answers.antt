@@ -2,12 +2,12 @@ use mathlib.Core.Path.{sym, ap, ◌∙◌}
 use mir.Syntax.{w64}
 use mir.ValLaws.{to_z-of_z}
 use Rattle.std.proofs.Common.{of_z, rules}
-use Rattle.exprs.specs.Literals.{bits_of, Plain}
+use Rattle.exprs.specs.Literals.{bits_of, PlainLiteral}
 use Rattle.exprs.proofs.LiteralLaws.{no-bits}
 use Rattle.exprs.proofs.literals.literal_bits.Goals as goal
 
 pub float_to_bits-result : goal.float_to_bits-result
-unfolding Plain
+unfolding PlainLiteral
 float_to_bits-result c = rw c.in-Float.is at c.requires
 
 pub returns-in-None : goal.returns-in-None

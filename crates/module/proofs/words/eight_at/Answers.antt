@@ -1,11 +1,11 @@
 -- the number of eight bytes is their sum
 use native.Mathlib.Omega.{arith}
 use native.Mathlib.Nat.{add_assoc}
-use Rattle.state.specs.Words.{number_at}
+use Rattle.state.specs.Words.{big_endian_at}
 use Rattle.module.proofs.words.eight_at.Goals as goal
 
 pub returns : goal.returns
-unfolding number_at
+unfolding big_endian_at
 returns c = simp add_assoc (omega (
   arith,
   c.from_be_bytes.ensures,

@@ -5,7 +5,7 @@ use Rattle.definitions.specs.Bytes.{list_of, all}
 use Rattle.definitions.specs.Reader.{function_record, class_record, numbers_exist}
 use Rattle.definitions.proofs.Begins.{takes-list, takes-function, takes-class}
 use Rattle.reader.specs.Asks.{ask_function, ask_class}
-use Rattle.reader.specs.View.{skip_at, tables_of}
+use Rattle.reader.specs.View.{skip_at, module_tables}
 use Rattle.reader.specs.declared.Asked.TheVariants.{Numbers}
 use Rattle.reader.proofs.Question19.{functions_read, classes_read, constants_read}
 use Rattle.reader.proofs.Questions.{functions-lack, classes-lack, constants-lack, all-exist}
@@ -15,7 +15,7 @@ use Rattle.reader.proofs.layout.ask_numbers.Goals as goal
 pub returns-in_err-functions : goal.returns-in_err-functions
 returns-in_err-functions c =
     let t = c.args.bytes.now in let f = c.args.sections.functions.start in let q = Numbers c.counts_of.result in
-    subst (λ (x : Option (Unit {0})). MatchOption x (numbers_exist (tables_of t) ≡ false) (λ y. numbers_exist (tables_of t) ≡ true)) (sym c.from_residual.ensures)
+    subst (λ (x : Option (Unit {0})). MatchOption x (numbers_exist (module_tables t) ≡ false) (λ y. numbers_exist (module_tables t) ≡ true)) (sym c.from_residual.ensures)
     (functions-lack _ _ _ _ _ c.requires.laid _ c.counts_of.ensures (begins-cut t f (skip_at (functions_read q)) c.new-c.result c.new-c.ensures c.in_err-functions.ensures))
 
 pub returns-in_err-classes : goal.returns-in_err-classes
@@ -23,7 +23,7 @@ returns-in_err-classes c =
     let t = c.args.bytes.now in let f = c.args.sections.functions.start in let q = Numbers c.counts_of.result in let l = c.requires.laid in
     let k1 = begins-to t f (skip_at (functions_read q)) c.new-c.result c.functions.new.self c.new-c.ensures c.in_ok-functions.ensures in
     let e1 = ends-there (all (ask_function q)) (list_of 2 function_record) (takes-list 2 function_record takes-function) t f _ _ c.functions.new.self.at l.strings_at.to l.functions_at k1.1 in
-    subst (λ (x : Option (Unit {0})). MatchOption x (numbers_exist (tables_of t) ≡ false) (λ y. numbers_exist (tables_of t) ≡ true)) (sym c.from_residual-in_err-classes.ensures)
+    subst (λ (x : Option (Unit {0})). MatchOption x (numbers_exist (module_tables t) ≡ false) (λ y. numbers_exist (module_tables t) ≡ true)) (sym c.from_residual-in_err-classes.ensures)
     (classes-lack _ _ _ _ _ l _ c.counts_of.ensures _ k1.1 (ap (skip_at (classes_read q) t) (sym e1) ∙ cut-to t (skip_at (classes_read q)) c.functions.new.self k1.0 c.in_err-classes.ensures))
 
 pub returns : goal.returns

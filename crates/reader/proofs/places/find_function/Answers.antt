@@ -6,7 +6,7 @@ use Rattle.std.specs.Prelude.{Some}
 use Rattle.definitions.specs.Bytes.{checked}
 use Rattle.definitions.specs.Reader.{function_record}
 use Rattle.reader.specs.Asks.{ask_function}
-use Rattle.reader.specs.View.{skip_at, tables_of, FoundAt}
+use Rattle.reader.specs.View.{skip_at, module_tables, FoundAt}
 use Rattle.reader.specs.declared.Asked.TheVariants.{Layout}
 use Rattle.reader.proofs.Finding.{FunctionsFrom, functions-begin, functions-number, past-functions, function-placed, function-ends, function-next}
 use Rattle.reader.proofs.Cursoring.{steps-to, cut-to}
@@ -26,13 +26,13 @@ loop-init c =
 pub returns-in_err-function : goal.returns-in_err-function
 returns-in_err-function c =
     let t = c.args.bytes.now in let l = c.loop in let k = c.requires.count in
-    let inside : l.counter < length (tables_of t).functions = (let m = c.loop-test.true in let n = c.if-functions-f.false in omega arith) in
+    let inside : l.counter < length (module_tables t).functions = (let m = c.loop-test.true in let n = c.if-functions-f.false in omega arith) in
     absurd (function-ends _ _ l.counter l.c.at inside l.invariant.1 (cut-to t (skip_at (checked (ask_function Layout) function_record)) l.c l.invariant.0 c.in_err-function.ensures))
 
 pub loop-preserved : goal.loop-preserved
 loop-preserved c =
     let t = c.args.bytes.now in let l = c.loop in let k = c.requires.count in
-    let inside : l.counter < length (tables_of t).functions = (let m = c.loop-test.true in let n = c.if-functions-f.false in omega arith) in
+    let inside : l.counter < length (module_tables t).functions = (let m = c.loop-test.true in let n = c.if-functions-f.false in omega arith) in
     let s = steps-to t (skip_at (checked (ask_function Layout) function_record)) l.c c.function.new.self l.invariant.0 c.in_ok-function.ensures in
     (s.0, function-next _ _ l.counter l.c.at inside l.invariant.1 _ s.1)
 

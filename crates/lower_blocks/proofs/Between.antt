@@ -9,7 +9,7 @@ use Rattle.std.proofs.lemmas.Option.{none-some}
 use Rattle.definitions.specs.Instruction.{instr}
 use Rattle.definitions.specs.Tables.{Emit}
 use Rattle.state.specs.Words.{word}
-use Rattle.state.specs.State.{State, emit_at, Within, Sound}
+use Rattle.state.specs.State.{State, emit_at, WithinLimits, Sound}
 use Rattle.state.specs.Steps.{set_at}
 use Rattle.state.specs.declared.Limits.{Limits}
 use Rattle.state.proofs.Views.{stack-length}
@@ -68,13 +68,13 @@ pub next-none : {q : Option ℕ} {next : ℕ} → q ≡ None → NextIs q next
 next-none n = λ k p. absurd (none-some k (sym n ∙ p))
 
 module _ {A : Type 0} {r : Option A} {t : List ℕ} {a b c : Emitter} {w' : State} (e : limits_in b ≡ limits_in a) (k : SameAreas a b) (z : r ≡ None) where
-  pub reaches-full : {B : Type 0} {q : Option B} {w : State} → q ≡ None → Reaches r t b c w' → (Within (limits_in a) w → Within (limits_in a) w') → Reaches q t a c w
+  pub reaches-full : {B : Type 0} {q : Option B} {w : State} → q ≡ None → Reaches r t b c w' → (WithinLimits (limits_in a) w → WithinLimits (limits_in a) w') → Reaches q t a c w
   reaches-full n h f = record {
     done = λ x p. absurd (none-some x (sym n ∙ p));
-    full = λ p v. h.full z (subst (λ (l : Limits). Within l w') (sym e) (f v));
+    full = λ p v. h.full z (subst (λ (l : Limits). WithinLimits l w') (sym e) (f v));
     limits = h.limits ∙ e;
     areas = areas-after k h.areas;
   }
 
-  pub emits-full : {q : Option ℕ} {x : Emit} {next : ℕ} → q ≡ None → Reaches r t b c w' → (Within (limits_in a) (emit_at a.code.base x (state_in t a)) → Within (limits_in a) w') → EmitsTo q x next t a c
+  pub emits-full : {q : Option ℕ} {x : Emit} {next : ℕ} → q ≡ None → Reaches r t b c w' → (WithinLimits (limits_in a) (emit_at a.code.base x (state_in t a)) → WithinLimits (limits_in a) w') → EmitsTo q x next t a c
   emits-full n h f = record { place = next-none n; lowers = record { reaches = reaches-full n h f } }

@@ -10,7 +10,7 @@ use Rattle.definitions.specs.Instruction.{Instr, instr, Jump, JumpIfFalse, minus
 use Rattle.definitions.specs.Tables.{Emit, one, ◌⨟◌}
 use Rattle.definitions.specs.Slots.{Keeping, past, loops_block}
 use Rattle.definitions.specs.Lower.{loop, Keeper, make_iter, store_iter, ask_iter, take_iter, emit_expr, emit_stmt, emit_block}
-use Rattle.state.specs.State.{State, emit_at, Within}
+use Rattle.state.specs.State.{State, emit_at, WithinLimits}
 use Rattle.state.specs.Steps.{set_at, patch_at, branch, chain_at}
 use Rattle.state.specs.Kept.{keeper_at, kept_at}
 use Rattle.state.specs.declared.Limits.{Limits}
@@ -23,7 +23,7 @@ use Rattle.state.proofs.WithinParts.{within-loop-inside, within-loop-jump, withi
 use Rattle.lower_emit.specs.declared.emitter.Emitter.{Emitter}
 use Rattle.lower_emit.specs.Emitting.{state_in, SoundIn, LeftIn}
 use Rattle.lower_emit.proofs.Answering.{one-longer}
-use Rattle.lower_stmt.proofs.Between.{stack-long, stack-low, open-left}
+use Rattle.lower_blocks.proofs.Between.{stack-long, stack-low, open-left}
 
 -- ---- a head, the jump past what follows, and what follows
 
@@ -92,30 +92,30 @@ module _ {t : List ℕ} {a a₁ : Emitter} (S : SoundIn t a) (head : Emit) (i : 
         ∙ sym (at-branch a.code.base names keep x b s (stack-low S) i s₁ s₂ s₃ (ap (λ (e : Emit). emit_at a.code.base e s) f) refl (ap (λ (e : Emit). emit_at a.code.base e s₂) g))
 
   -- what follows is over the limits
-  pub inside-within : {l : Limits} (inside : Emit) → Within l (emit_at a.code.base (loop head inside) s) → Within l (emit_at a₁.code.base inside (state_in t a₁))
-  inside-within {l} inside w = subst (Within l) (sym (λ j. emit_at (A.left.base j) inside (first-state j))) (within-loop-inside a.code.base head inside i s (stack-low S) w)
+  pub inside-within : {l : Limits} (inside : Emit) → WithinLimits l (emit_at a.code.base (loop head inside) s) → WithinLimits l (emit_at a₁.code.base inside (state_in t a₁))
+  inside-within {l} inside w = subst (WithinLimits l) (sym (λ j. emit_at (A.left.base j) inside (first-state j))) (within-loop-inside a.code.base head inside i s (stack-low S) w)
 
 -- the head and its jump are over the limits
 pub head-within : {l : Limits} {inside : Emit} (head : Emit) (i : Instr) (base : ℕ) (s : State) → base ≤ length s.stack → Lengthens inside
-    → Within l (emit_at base (loop head inside) s) → Within l (emit_at base (head ⨟ one i) s)
+    → WithinLimits l (emit_at base (loop head inside) s) → WithinLimits l (emit_at base (head ⨟ one i) s)
 head-within head i base s h E w = rw (at-seq base head (one i) s h) (within-loop-jump base head i s h E w)
 
 -- ---- a branch
 
-branch-inside : {l : Limits} (names : List Name) (keep : Keeping) (x : Expr) (b : Block) (i : Instr) (base : ℕ) (s : State) → base ≤ length s.stack → Within l (emit_at base (branch names keep x b) s)
-    → Within l (emit_at base (emit_block names keep b) (emit_at base (one i) (emit_at base (emit_expr names x) s)))
+branch-inside : {l : Limits} (names : List Name) (keep : Keeping) (x : Expr) (b : Block) (i : Instr) (base : ℕ) (s : State) → base ≤ length s.stack → WithinLimits l (emit_at base (branch names keep x b) s)
+    → WithinLimits l (emit_at base (emit_block names keep b) (emit_at base (one i) (emit_at base (emit_expr names x) s)))
 branch-inside names keep x b i base s h w = within-one base (Jump 0) _ (within-branch base names keep x b s h i _ _ (emit_at base (emit_block names keep b) (emit_at base (one i) (emit_at base (emit_expr names x) s))) refl refl refl w)
 
 pub question-within : {l : Limits} (names : List Name) (keep : Keeping) (x : Expr) (b : Block) (i : Instr) (base : ℕ) (s : State) → base ≤ length s.stack
-    → Within l (emit_at base (branch names keep x b) s) → Within l (emit_at base (emit_expr names x ⨟ one i) s)
+    → WithinLimits l (emit_at base (branch names keep x b) s) → WithinLimits l (emit_at base (emit_expr names x ⨟ one i) s)
 question-within names keep x b i base s h w = rw (at-seq base (emit_expr names x) (one i) s h) (within-down base _ (lengthens-block names keep b) (branch-inside names keep x b i base s h w))
 
 pub block_within : {t : List ℕ} {a a₁ : Emitter} {l : Limits} → SoundIn t a → (names : List Name) (keep : Keeping) (x : Expr) (b : Block) (i : Instr)
     → LeftIn t a a₁ (emit_at a.code.base (emit_expr names x ⨟ one i) (state_in t a))
-    → Within l (emit_at a.code.base (branch names keep x b) (state_in t a)) → Within l (emit_at a₁.code.base (emit_block names keep b) (state_in t a₁))
+    → WithinLimits l (emit_at a.code.base (branch names keep x b) (state_in t a)) → WithinLimits l (emit_at a₁.code.base (emit_block names keep b) (state_in t a₁))
 block_within {t} {a} {a₁} {l} S names keep x b i A w =
     let e = first-state S (emit_expr names x) i A in
-    subst (Within l) (sym (λ j. emit_at (A.left.base j) (emit_block names keep b) (e j))) (branch-inside names keep x b i a.code.base (state_in t a) (stack-low S) w)
+    subst (WithinLimits l) (sym (λ j. emit_at (A.left.base j) (emit_block names keep b) (e j))) (branch-inside names keep x b i a.code.base (state_in t a) (stack-low S) w)
 
 -- how long a branch is: it has an instruction
 pub branch-long : (names : List Name) (keep : Keeping) (x : Expr) (b : Block) (base : ℕ) (s : State) → length s.stack < length (emit_at base (branch names keep x b) s).stack
@@ -163,8 +163,8 @@ module _ {t : List ℕ} {a a₁ : Emitter} (S : SoundIn t a) (names : List Name)
   abbrev whole : State
   whole = emit_at a.code.base (emit_stmt names keep (for x e b)) (state_in t a)
 
-  pub for-within : {l : Limits} → Within l whole → Within l stored
-  for-within {l} w = subst (Within l) (sym stored_is) (within-for-store a.code.base names keep (state_in t a) (stack-low S) x e b f₁ keeper refl keeper-is w)
+  pub for-within : {l : Limits} → WithinLimits l whole → WithinLimits l stored
+  for-within {l} w = subst (WithinLimits l) (sym stored_is) (within-for-store a.code.base names keep (state_in t a) (stack-low S) x e b f₁ keeper refl keeper-is w)
 
   pub for-is : {a₂ : Emitter} (g : Keeper) (b' : Block) (keep' : Keeping) → g ≡ keeper → LeftIn t a₁ a₂ stored → b' ≡ b → keep' ≡ past 1 keep
       → emit_at a₂.code.base (loop (ask_iter g) (take_iter names x g ⨟ emit_block names keep' b')) (state_in t a₂) ≡ whole
@@ -174,5 +174,5 @@ module _ {t : List ℕ} {a a₁ : Emitter} (S : SoundIn t a) (names : List Name)
 
 -- the iterable and its iterator
 pub iterable-within : {l : Limits} (names : List Name) (keep : Keeping) (x : Name) (e : Expr) (b : Block) (base : ℕ) (s : State) → base ≤ length s.stack
-    → Within l (emit_at base (emit_stmt names keep (for x e b)) s) → Within l (emit_at base (emit_expr names e ⨟ make_iter) s)
+    → WithinLimits l (emit_at base (emit_stmt names keep (for x e b)) s) → WithinLimits l (emit_at base (emit_expr names e ⨟ make_iter) s)
 iterable-within names keep x e b base s h w = rw (at-seq base (emit_expr names e) make_iter s h) (within-for-iter base names keep s h x e b w)

@@ -10,7 +10,7 @@ use Rattle.definitions.specs.Slots.{Keeping, past, loops_stmt, loops_block}
 use Rattle.parts.specs.Places.{count_at}
 use Rattle.tree.specs.StmtAt.{stmt_at, block_at, stmts_at}
 use Rattle.tree.proofs.LoopsAt.{loops-at, stmts-loops, none-loops}
-use Rattle.state.specs.State.{State, emit_at, Within}
+use Rattle.state.specs.State.{State, emit_at, WithinLimits}
 use Rattle.state.specs.Kept.{keeping_of, after_loops, Spare, Passes}
 use Rattle.state.proofs.Kept.{after_none, after-sum, spare-first, spare-rest, keeping-past, passes_over}
 use Rattle.state.proofs.Emission.{at-seq, at-nothing}
@@ -22,7 +22,7 @@ use Rattle.lower_emit.specs.declared.emitter.Emitter.{Emitter}
 use Rattle.lower_emit.specs.Emitting.{limits_in, state_in, SoundIn, SameAreas, LeftIn, EmitsTo}
 use Rattle.lower_emit.proofs.Steps.{areas-none, areas-after, left-next, some-is}
 use Rattle.lower_emit.proofs.Parts.{emits-by}
-use Rattle.lower_stmt.proofs.Between.{stack-low, left-itself, left-own, left-by, left-sound, reached_by, emits-full}
+use Rattle.lower_blocks.proofs.Between.{stack-low, left-itself, left-own, left-by, left-sound, reached_by, emits-full}
 
 -- so many loops by other words
 pub passes-by : {A : Type 0} {r : Option A} {i i' m n : ℕ} → m ≡ n → Passes r i i' m → Passes r i i' n
@@ -93,7 +93,7 @@ module _ {d : ℕ} {t : List ℕ} {names : List Name} {a : Emitter} {i₀ n₀ p
           → EmitsTo r' (stmts_code d n₀ t names (keeping_of i₀) p₀) next t a c × Passes r' i₀ i' (loops_block (stmts_at d n₀ t p₀).value)
       stmts-over z y = (
         emits-full inv.limits inv.areas z y e.lowers.reaches
-            (λ w. subst (Within (limits_in a)) (sym based) (within-down a.code.base _ (lengthens-block names (past m (keeping_of i)) _) (subst (Within (limits_in a)) (sym split) w))),
+            (λ w. subst (WithinLimits (limits_in a)) (sym based) (within-down a.code.base _ (lengthens-block names (past m (keeping_of i)) _) (subst (WithinLimits (limits_in a)) (sym split) w))),
         passes_over y,
       )
 

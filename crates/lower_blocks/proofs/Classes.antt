@@ -1,7 +1,7 @@
 -- Classes: methods one after the other, and the class around them.
 use Prim.Native.Nat.{ℕ, ◌+◌, ◌*◌, ◌-◌, ◌/◌, ◌%◌, ◌^◌, ◌<◌, ◌≤◌}
 use mathlib.Core.Path.{◌≡◌, refl, sym, ap, ◌∙◌, subst}
-use mathlib.Core.Bool.{Bool}
+use mathlib.Core.Bool.{Bool, true}
 use mathlib.Core.List.{List, [], map}
 use native.Mathlib.Omega.{arith}
 use lib.ListN.{length, take, length-append}
@@ -13,13 +13,15 @@ use Rattle.definitions.specs.Wellformed.{init}
 use Rattle.definitions.specs.Tree.{Methods, []ᵐ, method}
 use Rattle.definitions.specs.Tables.{Method}
 use Rattle.definitions.specs.Lower.{insert_method, begin_class, end_class}
-use Rattle.parts.specs.Places.{Node, count_at, name_end, name_bytes, params_at}
+use Rattle.definitions.specs.Reader.{rising}
+use Rattle.definitions.proofs.MethodOrder.{rising-insert}
+use Rattle.parts.specs.Places.{Node, count_at, name_end, name_from, params_at}
 use Rattle.tree.specs.StmtAt as StmtAt
 use Rattle.tree.specs.StmtAt.{def_block_at, class_methods_at, method_at}
 use Rattle.tree.proofs.StmtViews.{view-methods-none, view-methods-more}
 use Rattle.state.specs.Words.{name_at}
-use Rattle.state.specs.State.{State, method_of, emit_at, Sound, Within, with_tables}
-use Rattle.state.specs.Steps.{method_function, methods_at, methods_of}
+use Rattle.state.specs.State.{State, method_from, emit_at, Sound, WithinLimits, with_tables}
+use Rattle.state.specs.Steps.{method_function, emit_methods_at, methods_of}
 use Rattle.state.specs.declared.Limits.{Limits}
 use Rattle.state.proofs.Views.{function-count, class-count, constant-count}
 use Rattle.state.proofs.Enclosing.{methods-none, methods-none-of, methods-more, methods-more-of, at-class}
@@ -36,9 +38,9 @@ use Rattle.lower_forms.specs.Lowering.{function_code, MethodsLowerable, class_co
 use Rattle.lower_forms.proofs.StmtArms.{methods-parts}
 use Rattle.lower_classes.specs.Classes.{BeginsClass, FinishesClass}
 use Rattle.lower_forms.specs.Lowerable.{SoleIn}
-use Rattle.lower_stmt.specs.Blocks.{Ahead, Methodical, CompilesIn, ListsIn}
-use Rattle.lower_stmt.proofs.Between.{left-itself, left-own, left-by, left-sound, reached_by, reaches-full}
-use Rattle.lower_stmt.proofs.Functions.{method-is}
+use Rattle.lower_blocks.specs.Blocks.{FunctionsAhead, Methodical, CompilesIn, ListsIn}
+use Rattle.lower_blocks.proofs.Between.{left-itself, left-own, left-by, left-sound, reached_by, reaches-full}
+use Rattle.lower_blocks.proofs.Functions.{method-is}
 
 -- ---- methods
 
@@ -46,7 +48,7 @@ use Rattle.lower_stmt.proofs.Functions.{method-is}
 module _ (d : ℕ) (t : List ℕ) where
   methods-is : (n p : ℕ) → 0 < n → MethodsLowerable d n t p
       → (StmtAt.methods_at d n t p).value ≡ method (name_at t p) (params_at t (name_end t p)).value (def_block_at d t p).value (StmtAt.methods_at d (n - 1) t (def_block_at d t p).end).value
-  unfolding method_at name_bytes name_at
+  unfolding method_at name_from name_at
   methods-is n p h r = ap (λ (x : Node Methods). x.value) (view-methods-more d t p n h r.reads).is
 
   methods-over : (n p : ℕ) → n ≤ 0 → MethodsLowerable d n t p → (StmtAt.methods_at d n t p).value ≡ []ᵐ
@@ -61,13 +63,15 @@ pub record MethodsRest (d : ℕ) (t : List ℕ) (a : Emitter) (n₀ p₀ : ℕ) 
   pub limits : limits_in b ≡ limits_in a
   pub areas : SameAreas a b
   pub left : LeftIn t a b (state_in t b)
-  pub state : methods_at (StmtAt.methods_at d n t p).value (map (method_of t) (take count list)) (state_in t b) ≡ methods_at (StmtAt.methods_at d n₀ t p₀).value [] (state_in t a)
-  pub listed : methods_of (StmtAt.methods_at d n t p).value (map (method_of t) (take count list)) (state_in t b) ≡ methods_of (StmtAt.methods_at d n₀ t p₀).value [] (state_in t a)
-  pub ahead : Ahead count (counts_of a) (counts_of b)
+  pub state : emit_methods_at (StmtAt.methods_at d n t p).value (map (method_from t) (take count list)) (state_in t b) ≡ emit_methods_at (StmtAt.methods_at d n₀ t p₀).value [] (state_in t a)
+  pub listed : methods_of (StmtAt.methods_at d n t p).value (map (method_from t) (take count list)) (state_in t b) ≡ methods_of (StmtAt.methods_at d n₀ t p₀).value [] (state_in t a)
+  pub ordered : rising (map (method_from t) (take count list)) ≡ true
+  pub ahead : FunctionsAhead count (counts_of a) (counts_of b)
   pub room : 256 ≤ length list
 
 -- none is done yet; the count by other words
 pub methods-all : {d : ℕ} {t : List ℕ} {a : Emitter} {list : List ℕ} {n p : ℕ} (m : ℕ) → n ≡ m → SoleIn t a → MethodsLowerable d n t p → 256 ≤ length list → MethodsRest d t a n p a list m p 0
+unfolding rising
 methods-all {d} {t} {a} {list} {n} {p} m e R r h = subst (λ (k : ℕ). MethodsRest d t a n p a list k p 0) e (record {
   methods = r;
   limits = refl;
@@ -75,19 +79,20 @@ methods-all {d} {t} {a} {list} {n} {p} m e R r h = subst (λ (k : ℕ). MethodsR
   left = left-itself R.sound;
   state = refl;
   listed = refl;
+  ordered = refl;
   ahead = omega arith;
   room = h;
 })
 
 module _ {d : ℕ} {t : List ℕ} {a : Emitter} {n₀ p₀ : ℕ} {b : Emitter} {list : List ℕ} {n p count : ℕ} (inv : MethodsRest d t a n₀ p₀ b list n p count) (R : SoleIn t a) where
   abbrev want : State
-  want = methods_at (StmtAt.methods_at d n₀ t p₀).value [] (state_in t a)
+  want = emit_methods_at (StmtAt.methods_at d n₀ t p₀).value [] (state_in t a)
 
   abbrev wanted : List Method
   wanted = methods_of (StmtAt.methods_at d n₀ t p₀).value [] (state_in t a)
 
   abbrev acc : List Method
-  acc = map (method_of t) (take count list)
+  acc = map (method_from t) (take count list)
 
   pub methods-sole : SoleIn t b
   methods-sole = record { tree-short = R.tree-short; sound = left-sound inv.left inv.limits }
@@ -101,7 +106,7 @@ module _ {d : ℕ} {t : List ℕ} {a : Emitter} {n₀ p₀ : ℕ} {b : Emitter} 
       let e = methods-over d t n p h inv.methods in
       let u = state_in t b in
       record {
-        reaches = reached_by count inv.limits inv.areas (left-by inv.left (sym (ap (λ (x : Methods). methods_at x acc u) e ∙ methods-none acc u) ∙ inv.state));
+        reaches = reached_by count inv.limits inv.areas (left-by inv.left (sym (ap (λ (x : Methods). emit_methods_at x acc u) e ∙ methods-none acc u) ∙ inv.state));
         listed = λ k z. subst (λ (m : ℕ). Methodical m t list (counts_of a) (counts_of b) wanted) (some-is z)
             (record { few = omega (arith, few, inv.room); ahead = inv.ahead; methods = sym (ap (λ (x : Methods). methods_of x acc u) e ∙ methods-none-of acc u) ∙ inv.listed });
       }
@@ -123,8 +128,8 @@ module _ {d : ℕ} {t : List ℕ} {a : Emitter} {n₀ p₀ : ℕ} {b : Emitter} 
     pub methods-stopped : {q : Option ℕ} → r ≡ None → q ≡ None → ListsIn q want wanted t list a c
     methods-stopped z y = record {
       reaches = reaches-full inv.limits inv.areas z y x.reaches
-          (λ w. subst (Within (limits_in a)) (sym one-is) (within-method b.code.base (name_at t p) (params_at t (name_end t p)).value (def_block_at d t p).value others acc (state_in t b)
-          (subst (Within (limits_in a)) (sym (ap (λ (y : Methods). methods_at y acc (state_in t b)) (sym is) ∙ inv.state)) w)));
+          (λ w. subst (WithinLimits (limits_in a)) (sym one-is) (within-method b.code.base (name_at t p) (params_at t (name_end t p)).value (def_block_at d t p).value others acc (state_in t b)
+          (subst (WithinLimits (limits_in a)) (sym (ap (λ (y : Methods). emit_methods_at y acc (state_in t b)) (sym is) ∙ inv.state)) w)));
       listed = λ k q. absurd (none-some k (sym y ∙ q));
     }
 
@@ -149,7 +154,7 @@ module _ {d : ℕ} {t : List ℕ} {a : Emitter} {n₀ p₀ : ℕ} {b : Emitter} 
           let number : (p * 256 + b.tables.functions.count) % 2 ^ 8 ≡ b.tables.functions.count = omega (arith, methods-number) in
           let functions : b.tables.functions.count ≡ length now.tables.functions =
           sym (function-count t b.tables.names.made.now b.code.words.now b.tables.entries.words.now (counts_of b) (limits_in a) inv.left.left.sound) in
-          let listed-now : map (method_of t) (take count₁ list₁) ≡ insert_method (name_at t p) (length now.tables.functions) acc =
+          let listed-now : map (method_from t) (take count₁ list₁) ≡ insert_method (name_at t p) (length now.tables.functions) acc =
           I.methods ∙ (λ j. insert_method (name_at t (at j)) ((number ∙ functions) j) acc) in
           let state : state_in t c ≡ one = done.left.state ∙ one-is in
           let ps = (params_at t (name_end t p)).value in
@@ -159,10 +164,11 @@ module _ {d : ℕ} {t : List ℕ} {a : Emitter} {n₀ p₀ : ℕ} {b : Emitter} 
             limits = x.reaches.limits ∙ inv.limits;
             areas = areas-after inv.areas x.reaches.areas;
             left = left-own (left-next inv.limits inv.left done);
-            state = (λ j. methods_at (StmtAt.methods_at d (n - 1) t (there j)).value (listed-now j) (state j)) ∙ sym (methods-more b.code.base (name_at t p) ps body others acc now _ refl)
-                ∙ ap (λ (y : Methods). methods_at y acc now) (sym is) ∙ inv.state;
+            state = (λ j. emit_methods_at (StmtAt.methods_at d (n - 1) t (there j)).value (listed-now j) (state j)) ∙ sym (methods-more b.code.base (name_at t p) ps body others acc now _ refl)
+                ∙ ap (λ (y : Methods). emit_methods_at y acc now) (sym is) ∙ inv.state;
             listed = (λ j. methods_of (StmtAt.methods_at d (n - 1) t (there j)).value (listed-now j) (state j)) ∙ sym (methods-more-of b.code.base (name_at t p) ps body others acc now _ refl)
                 ∙ ap (λ (y : Methods). methods_of y acc now) (sym is) ∙ inv.listed;
+            ordered = ap rising listed-now ∙ rising-insert (name_at t p) (length now.tables.functions) acc inv.ordered;
             ahead = omega (arith, inv.ahead, x.ahead q z, I.few);
             room = omega (arith, inv.room, same-length);
           })
@@ -178,15 +184,15 @@ module _ (d : ℕ) (t : List ℕ) (at : ℕ) {start n : ℕ} (e : start ≡ name
   pub class-methods : MethodsLowerable d (count_at t (name_end t at)) t (name_end t at + 2) → MethodsLowerable d n t (start + 2)
   class-methods r = methods-at d t (count_at t (name_end t at)) n (name_end t at + 2) (start + 2) count place r
 
-  pub class-lists : {r : Option ℕ} {list : List ℕ} {a b : Emitter} (s : State) → ListsIn r (methods_at (StmtAt.methods_at d n t (start + 2)).value [] s) (methods_of (StmtAt.methods_at d n t (start + 2)).value [] s) t list a b
-      → ListsIn r (methods_at (class_methods_at d t at).value [] s) (methods_of (class_methods_at d t at).value [] s) t list a b
-  class-lists {r} {list} {a} {b} s h = subst (λ (x : Methods). ListsIn r (methods_at x [] s) (methods_of x [] s) t list a b) (λ i. (StmtAt.methods_at d (count i) t (place i)).value) h
+  pub class-lists : {r : Option ℕ} {list : List ℕ} {a b : Emitter} (s : State) → ListsIn r (emit_methods_at (StmtAt.methods_at d n t (start + 2)).value [] s) (methods_of (StmtAt.methods_at d n t (start + 2)).value [] s) t list a b
+      → ListsIn r (emit_methods_at (class_methods_at d t at).value [] s) (methods_of (class_methods_at d t at).value [] s) t list a b
+  class-lists {r} {list} {a} {b} s h = subst (λ (x : Methods). ListsIn r (emit_methods_at x [] s) (methods_of x [] s) t list a b) (λ i. (StmtAt.methods_at d (count i) t (place i)).value) h
 
 -- ---- a class
 
-class-begin-within : {l : Limits} (x : Name) (ms : Methods) (base : ℕ) (s : State) → Within l (emit_at base (class_code x ms) s) → Within l (with_tables (begin_class x s.tables) s)
+class-begin-within : {l : Limits} (x : Name) (ms : Methods) (base : ℕ) (s : State) → WithinLimits l (emit_at base (class_code x ms) s) → WithinLimits l (with_tables (begin_class x s.tables) s)
 unfolding class_code
-class-begin-within x ms base s w = within-methods ms [] _ (within-class base x ms s _ (methods_at ms [] (with_tables (begin_class x s.tables) s)) refl refl w)
+class-begin-within x ms base s w = within-methods ms [] _ (within-class base x ms s _ (emit_methods_at ms [] (with_tables (begin_class x s.tables) s)) refl refl w)
 
 module _ {t : List ℕ} {a : Emitter} {used : Used 64} {entries : Entries} {p : Option ℕ} {at : ℕ} (ms : Methods) (S : SoundIn t a) (B : BeginsClass p at a.tables.classes used a.tables.entries entries) where
   abbrev ts : Tables
@@ -223,13 +229,13 @@ module _ {t : List ℕ} {a : Emitter} {used : Used 64} {entries : Entries} {p : 
     pub class-sound : SoundIn t a₁
     class-sound = sound-next z numbered.reaches
 
-    class-is : whole ≡ emit_at a.code.base (end_class x (length s.tables.classes) (methods_of ms [] s₁)) (methods_at ms [] s₁)
+    class-is : whole ≡ emit_at a.code.base (end_class x (length s.tables.classes) (methods_of ms [] s₁)) (emit_methods_at ms [] s₁)
     unfolding class_code
-    class-is = at-class a.code.base x ms s s₁ (methods_at ms [] s₁) refl refl
+    class-is = at-class a.code.base x ms s s₁ (emit_methods_at ms [] s₁) refl refl
 
-    methods-within : Within (limits_in a) whole → Within (limits_in a) (methods_at ms [] (state_in t a₁))
+    methods-within : WithinLimits (limits_in a) whole → WithinLimits (limits_in a) (emit_methods_at ms [] (state_in t a₁))
     unfolding class_code
-    methods-within w = subst (λ (u : State). Within (limits_in a) (methods_at ms [] u)) (sym first.left.state) (within-class a.code.base x ms s s₁ _ refl refl w)
+    methods-within w = subst (λ (u : State). WithinLimits (limits_in a) (emit_methods_at ms [] u)) (sym first.left.state) (within-class a.code.base x ms s s₁ _ refl refl w)
 
     classes-now : length (state_in t a₁).tables.classes ≡ ts.classes.count
     classes-now = class-count t ts.names.made.now a.code.words.now ts.entries.words.now (counts_of a₁) (limits_in a₁) class-sound.sound
@@ -247,12 +253,12 @@ module _ {t : List ℕ} {a : Emitter} {used : Used 64} {entries : Entries} {p : 
         sym (constant-count t ts.names.made.now a.code.words.now ts.entries.words.now (counts_of a₁) (limits_in a₁) class-sound.sound) ∙ ap (λ (u : State). length u.tables.constants) first.left.state
         ∙ constant-count t a.tables.names.made.now a.code.words.now a.tables.entries.words.now (counts_of a) (limits_in a) S.sound
 
-    module _ {a₂ : Emitter} {list : List ℕ} {r : Option ℕ} (h : ListsIn r (methods_at ms [] (state_in t a₁)) (methods_of ms [] (state_in t a₁)) t list a₁ a₂) where
+    module _ {a₂ : Emitter} {list : List ℕ} {r : Option ℕ} (h : ListsIn r (emit_methods_at ms [] (state_in t a₁)) (methods_of ms [] (state_in t a₁)) t list a₁ a₂) where
       pub class-stopped : {A : Type 0} {q : Option A} → r ≡ None → q ≡ None → Reaches q t a a₂ whole
       class-stopped y u = reaches-full numbered.reaches.limits numbered.reaches.areas y u h.reaches methods-within
 
       module _ {k : ℕ} (y : r ≡ Some k) where
-        second : LeftIn t a₁ a₂ (methods_at ms [] (state_in t a₁))
+        second : LeftIn t a₁ a₂ (emit_methods_at ms [] (state_in t a₁))
         second = h.reaches.done k y
 
         listed : Methodical k t list (counts_of a₁) (counts_of a₂) (methods_of ms [] (state_in t a₁))
@@ -262,7 +268,7 @@ module _ {t : List ℕ} {a : Emitter} {used : Used 64} {entries : Entries} {p : 
         S₂ = sound-next y h.reaches
 
         number-in : i < a₂.tables.classes.count
-        unfolding methods_at
+        unfolding emit_methods_at
         number-in =
             let L = methods-lengthened ms [] (state_in t a₁).tables in
             omega (
@@ -285,10 +291,10 @@ module _ {t : List ℕ} {a : Emitter} {used : Used 64} {entries : Entries} {p : 
           omega (arith, second.left.paced.constants, one-class, same-constants, S.sound.constants),
         )
 
-        ended_is : emit_at a₂.code.base (end_class x i (map (method_of t) (take k list))) (state_in t a₂) ≡ whole
+        ended_is : emit_at a₂.code.base (end_class x i (map (method_from t) (take k list))) (state_in t a₂) ≡ whole
         ended_is =
             let e : methods_of ms [] (state_in t a₁) ≡ methods_of ms [] s₁ = ap (methods_of ms []) first.left.state in
-            let f : state_in t a₂ ≡ methods_at ms [] s₁ = second.left.state ∙ ap (methods_at ms []) first.left.state in
+            let f : state_in t a₂ ≡ emit_methods_at ms [] s₁ = second.left.state ∙ ap (emit_methods_at ms []) first.left.state in
             (λ j. emit_at ((second.left.base ∙ first.left.base) j) (end_class x (number j) ((listed.methods ∙ e) j)) (f j)) ∙ sym class-is
 
         pub class-many : length (take k list) ≡ k
@@ -311,7 +317,7 @@ module _ {t : List ℕ} {a : Emitter} {used : Used 64} {entries : Entries} {p : 
                       sound = subst (λ (l : Limits). Sound t a₃.tables.names.made.now a₃.code.words.now a₃.tables.entries.words.now (counts_of a₃) l) limits F.sound;
                     };
                   };
-              full = λ z w. f.finishes.full z (subst (λ (l : Type 0). l) (λ j. Within (sym limits j) (sym ended_is j)) w);
+              full = λ z w. f.finishes.full z (subst (λ (l : Type 0). l) (λ j. WithinLimits (sym limits j) (sym ended_is j)) w);
               limits = f.finishes.limits ∙ limits;
               areas = areas-after (areas-after numbered.reaches.areas h.reaches.areas) f.finishes.areas;
             }

@@ -15,7 +15,7 @@ use Rattle.exprs.specs.ExprAt.{expr_at}
 use Rattle.parts.specs.Places.{Node}
 use Rattle.tree.specs.StmtAt.{body_at, block_at, branches_at}
 use Rattle.tree.proofs.LoopsAt.{elifs-loops}
-use Rattle.state.specs.State.{State, emit_at, Within}
+use Rattle.state.specs.State.{State, emit_at, WithinLimits}
 use Rattle.state.specs.Steps.{set_at, branch, chain_at}
 use Rattle.state.specs.Kept.{keeping_of, after_loops, Spare, Passes}
 use Rattle.state.proofs.Kept.{after-sum, spare-first, spare-rest, keeping-past, passes_over}
@@ -36,9 +36,9 @@ use Rattle.lower_emit.proofs.Steps.{areas-none, areas-after, sound-next, left-ne
 use Rattle.lower_emit.proofs.Parts.{emits-by}
 use Rattle.lower_loops.specs.Iterators.{keeper_of, Loads, StoresIterator}
 use Rattle.lower_loops.proofs.Storing.{loads-self}
-use Rattle.lower_stmt.proofs.Between.{stack-long, stack-low, left-itself, open-left, left-own, left-by, left-sound, reached_by, jump-in, jump-limits, jump-areas, next-none, reaches-full, emits-full}
-use Rattle.lower_stmt.proofs.Jumping.{first-above, last-above, loop-is, branch-is, inside-within, head-within, question-within, block_within, branch-long}
-use Rattle.lower_stmt.proofs.Jumping.{if_some, if-is, for-within, for-is, iterable-within}
+use Rattle.lower_blocks.proofs.Between.{stack-long, stack-low, left-itself, open-left, left-own, left-by, left-sound, reached_by, jump-in, jump-limits, jump-areas, next-none, reaches-full, emits-full}
+use Rattle.lower_blocks.proofs.Jumping.{first-above, last-above, loop-is, branch-is, inside-within, head-within, question-within, block_within, branch-long}
+use Rattle.lower_blocks.proofs.Jumping.{if_some, if-is, for-within, for-is, iterable-within}
 
 -- ---- a head, the jump past what follows, and what follows
 
@@ -175,7 +175,7 @@ module _ {d : ℕ} {t : List ℕ} {names : List Name} {a : Emitter} {i₀ n₀ p
       chain-over z y = (
         next-none y,
         reaches-full inv.limits inv.areas z y e.lowers.reaches
-            (λ w. subst (Within (limits_in a)) (sym based) (within-chain-when a.code.base names (keeping_of i) x body others (b.code.open - 1) (state_in t b) low last-in (subst (Within (limits_in a)) (sym split) w))),
+            (λ w. subst (WithinLimits (limits_in a)) (sym based) (within-chain-when a.code.base names (keeping_of i) x body others (b.code.open - 1) (state_in t b) low last-in (subst (WithinLimits (limits_in a)) (sym split) w))),
         passes_over y,
       )
 
@@ -261,7 +261,7 @@ module _ {t : List ℕ} {a : Emitter} {d at : ℕ} (names : List Name) (keep : K
     wanted = ap (λ (y : Branches). chain_at a.code.base names keep y (a.code.open - 1) (state_in t a)) is
 
     pub else-over : {q : Option ℕ} → r ≡ None → q ≡ None → Reaches q t a b else-want
-    else-over z n = reaches-full refl areas-none z n h.lowers.reaches (λ w. within-chain-else a.code.base names keep (block_at d t (at + 1)).value (a.code.open - 1) (state_in t a) to-jump (subst (Within (limits_in a)) wanted w))
+    else-over z n = reaches-full refl areas-none z n h.lowers.reaches (λ w. within-chain-else a.code.base names keep (block_at d t (at + 1)).value (a.code.open - 1) (state_in t a) to-jump (subst (WithinLimits (limits_in a)) wanted w))
 
     module _ {n : ℕ} (z : r ≡ Some n) where
       abbrev elsewhere : State

@@ -17,8 +17,8 @@ use Rattle.parts.specs.Places.{count_at, name_end, params_at}
 use Rattle.definitions.specs.Slots.{Keeping, in_slots, Frame, with_loops, loops_block}
 use Rattle.tree.specs.StmtAt.{block_at, def_block_at}
 use Rattle.state.specs.Words.{name_at}
-use Rattle.state.specs.State.{State, slots_from, slot_names, Slots, emit_at, Sound, Within, symbol_number, with_symbol, with_tables}
-use Rattle.state.specs.Steps.{begun, ended, method_function}
+use Rattle.state.specs.State.{State, slots_from, slot_names, Slots, emit_at, Sound, WithinLimits, symbol_number, with_symbol, with_tables}
+use Rattle.state.specs.Steps.{begun, function_ended, method_function}
 use Rattle.state.specs.Kept.{keeping_of, Spare}
 use Rattle.state.specs.declared.Limits.{Limits}
 use Rattle.state.proofs.Kept.{keeping-slot}
@@ -31,7 +31,7 @@ use Rattle.slots.specs.declared.collect.Framed.{Framed}
 use Rattle.std.specs.Prelude.{Option}
 use Rattle.slots.specs.Slotted.{first_names, Indexed, Framing, Frames}
 use Rattle.slots.proofs.Adding.{first-length, front-names, front-slots}
-use Rattle.lower_emit.specs.Nesting.{begun_with, body_of}
+use Rattle.lower_emit.specs.Nesting.{begun_with, function_body}
 use Rattle.lower_emit.specs.declared.emitter.Emitter.{Emitter}
 use Rattle.lower_emit.specs.Emitting.{counts_of, limits_in, state_in, SoundIn, SameAreas, LeftIn, Reaches, MovedIn, EmitsTo, LowersIn, Ended}
 use Rattle.lower_emit.proofs.Steps.{areas-none, areas-after, sound-next}
@@ -41,8 +41,8 @@ use Rattle.lower_forms.specs.Lowering.{FunctionLowerable, block_code, frame_at, 
 use Rattle.lower_forms.proofs.ExprArms.{params-count}
 use Rattle.lower_forms.proofs.Sequences.{method-end}
 use Rattle.lower_classes.specs.Classes.{StartsNamed}
-use Rattle.lower_stmt.specs.Blocks.{Ahead, CompilesIn}
-use Rattle.lower_stmt.proofs.Between.{stack-long, reached_by, next-none, reaches-full}
+use Rattle.lower_blocks.specs.Blocks.{FunctionsAhead, CompilesIn}
+use Rattle.lower_blocks.proofs.Between.{stack-long, reached_by, next-none, reaches-full}
 
 -- ---- slots
 
@@ -111,8 +111,8 @@ set-count [] n is = refl
 set-count (f ∷ fs) zero is = refl
 set-count (f ∷ fs) (suc n) is = ap suc (set-count fs n is)
 
-no_body : (fs gs : List Function) (f : Function) → f.code ≡ [] → body_of (fs ++ (f ∷ gs)) (length fs) ≡ []
-unfolding body_of
+no_body : (fs gs : List Function) (f : Function) → f.code ≡ [] → function_body (fs ++ (f ∷ gs)) (length fs) ≡ []
+unfolding function_body
 no_body [] gs f e = e
 no_body (h ∷ fs) gs f e = no_body fs gs f e
 
@@ -144,11 +144,11 @@ module _ {t : List ℕ} {a : Emitter} (S : SoundIn t a) (x : Name) (arity n : �
   unfolding begun_with begun begin
   began-is = λ j. begun_with symbol (ea j) (en j) named
 
-  within-body : {l : Limits} → Within l whole → Within l (emit_at (length s.stack) e (begun symbol (length ps) inner named))
+  within-body : {l : Limits} → WithinLimits l whole → WithinLimits l (emit_at (length s.stack) e (begun symbol (length ps) inner named))
   within-body w = within-function a.code.base x (length ps) inner (block_body b end) s named refl E w
 
-  pub begun-within : {l : Limits} → Within l whole → Within l began
-  begun-within {l} w = subst (Within l) (sym began-is) (within-down (length s.stack) _ E (within-body w))
+  pub begun-within : {l : Limits} → WithinLimits l whole → WithinLimits l began
+  begun-within {l} w = subst (WithinLimits l) (sym began-is) (within-down (length s.stack) _ E (within-body w))
 
   -- it has begun
   module _ {f : ℕ} {a₁ : Emitter} (is : f ≡ length s.tables.functions) (B : MovedIn a.code.open t a a₁ began)
@@ -160,8 +160,8 @@ module _ {t : List ℕ} {a : Emitter} (S : SoundIn t a) (x : Name) (arity n : �
     body_is : emit_at a₁.code.base (emit_block names keep b ⨟ emits end) (state_in t a₁) ≡ emit_at (length s.stack) e (begun symbol (length ps) inner named)
     body_is = λ j. emit_at (first-base j) (emit_block (en' j) (ek j) b ⨟ emits end) ((B.moved.state ∙ began-is) j)
 
-    pub body-within : {l : Limits} → Within l whole → Within l (emit_at a₁.code.base (emit_block names keep b ⨟ emits end) (state_in t a₁))
-    body-within {l} w = subst (Within l) (sym body_is) (within-body w)
+    pub body-within : {l : Limits} → WithinLimits l whole → WithinLimits l (emit_at a₁.code.base (emit_block names keep b ⨟ emits end) (state_in t a₁))
+    body-within {l} w = subst (WithinLimits l) (sym body_is) (within-body w)
 
     -- its body is there
     module _ {a₂ : Emitter} (A : LeftIn t a₁ a₂ (emit_at a₁.code.base (emit_block names keep b ⨟ emits end) (state_in t a₁))) where
@@ -193,25 +193,25 @@ module _ {t : List ℕ} {a : Emitter} (S : SoundIn t a) (x : Name) (arity n : �
             length-append s.tables.functions (coded symbol (length ps) inner.locals [] ∷ grown.new),
           )
 
-      pub ended-body : body_of (state_in t a₂).tables.functions f ≡ []
-      ended-body = (λ j. body_of (functions-are j) (is j)) ∙ no_body s.tables.functions grown.new _ refl
+      pub ended-body : function_body (state_in t a₂).tables.functions f ≡ []
+      ended-body = (λ j. function_body (functions-are j) (is j)) ∙ no_body s.tables.functions grown.new _ refl
 
       pub ended-base : a.code.base ≤ a₂.code.base
       ended-base = omega (arith, last-base, stack-long S, S.sound.base)
 
-      module _ {a₃ : Emitter} (D : MovedIn a.code.base t a₂ a₃ (ended a₂.code.base f (state_in t a₂))) where
+      module _ {a₃ : Emitter} (D : MovedIn a.code.base t a₂ a₃ (function_ended a₂.code.base f (state_in t a₂))) where
         state-is : state_in t a₃ ≡ whole
         state-is =
-            D.moved.state ∙ (λ j. ended (last-base j) (is j) ((A.left.state ∙ body_is) j))
+            D.moved.state ∙ (λ j. function_ended (last-base j) (is j) ((A.left.state ∙ body_is) j))
             ∙ sym (at-function a.code.base x (length ps) inner (block_body b end) e s named refl)
 
         same_count : a₃.tables.functions.count ≡ a₂.tables.functions.count
-        unfolding ended
+        unfolding function_ended
         same_count =
             sym (function-count t a₃.tables.names.made.now a₃.code.words.now a₃.tables.entries.words.now (counts_of a₃) (limits_in a₂) D.moved.sound) ∙ ap (λ (u : State). length u.tables.functions) D.moved.state
             ∙ set-count (state_in t a₂).tables.functions f _ ∙ count
 
-        pub compiled : limits_in a₂ ≡ limits_in a → LeftIn t a a₃ whole × Ahead 1 (counts_of a) (counts_of a₃) × (a.tables.functions.count < a₃.tables.functions.count)
+        pub compiled : limits_in a₂ ≡ limits_in a → LeftIn t a a₃ whole × FunctionsAhead 1 (counts_of a) (counts_of a₃) × (a.tables.functions.count < a₃.tables.functions.count)
         compiled l = (
           record {
             left = record {
@@ -226,7 +226,7 @@ module _ {t : List ℕ} {a : Emitter} (S : SoundIn t a) (x : Name) (arity n : �
         )
 
 -- a function with more than 255 slots is over the limits
-slots-over : (d : ℕ) (t : List ℕ) (p : ℕ) (b : Bool) (base : ℕ) (l : Limits) (s : State) → 255 < (frame_at d t p).locals → Within l (emit_at base (function_code d t p b) s) → ⊥
+slots-over : (d : ℕ) (t : List ℕ) (p : ℕ) (b : Bool) (base : ℕ) (l : Limits) (s : State) → 255 < (frame_at d t p).locals → WithinLimits l (emit_at base (function_code d t p b) s) → ⊥
 slots-over d t p b base l s h w =
     let k = function-slots base _ _ (frame_at d t p) _ s (lengthens-seq (lengthens-block (frame_at d t p).names (frame_at d t p).keep (def_block_at d t p).value) (lengthens-emits (end_of b))) w in
     omega arith
@@ -243,7 +243,7 @@ method-is d t p b base s e =
 
 -- ---- by the emitter's steps
 
-compiles-stopped : {q : Option ℕ} {next : ℕ} {want : State} {t : List ℕ} {a b : Emitter} → q ≡ None → (Within (limits_in a) want → ⊥) → limits_in b ≡ limits_in a → SameAreas a b → CompilesIn q next want t a b
+compiles-stopped : {q : Option ℕ} {next : ℕ} {want : State} {t : List ℕ} {a b : Emitter} → q ≡ None → (WithinLimits (limits_in a) want → ⊥) → limits_in b ≡ limits_in a → SameAreas a b → CompilesIn q next want t a b
 compiles-stopped n h l k = record {
   place = next-none n;
   reaches = record { done = λ x p. absurd (none-some x (sym n ∙ p)); full = λ p. h; limits = l; areas = k };
@@ -282,7 +282,7 @@ module _ {t : List ℕ} {a a₁ : Emitter} {p : Option ℕ} {at arity n : ℕ} (
 
     module _ {names : List Name} {keep : Keeping} (en' : names ≡ inner.names) (ek : keep ≡ inner.keep) {a₂ : Emitter} {r : Option ℕ} {next : ℕ}
         (h : EmitsTo r (emit_block names keep body ⨟ emits (end_of init)) next t a₁ a₂) where
-      within-it : Within (limits_in a) function-want → Within (limits_in a) (emit_at a₁.code.base (emit_block names keep body ⨟ emits (end_of init)) (state_in t a₁))
+      within-it : WithinLimits (limits_in a) function-want → WithinLimits (limits_in a) (emit_at a₁.code.base (emit_block names keep body ⨟ emits (end_of init)) (state_in t a₁))
       within-it w = body-within S x arity n params inner ea en body (end_of init) ((B.begins S).is f z) ((B.begins S).done f z) ((B.begins S).more f z) (B.begins S).limits names keep en' ek w
 
       pub function-stopped : {q : Option ℕ} {m : ℕ} → r ≡ None → q ≡ None → CompilesIn q m function-want t a a₂
