@@ -20,7 +20,7 @@ use Rattle.lower_forms.proofs.Unpacking.{later_first, none-unpacked, one-unpacke
 use Rattle.lower_emit.specs.declared.emitter.Emitter.{Emitter}
 use Rattle.lower_emit.specs.Emitting.{counts_of, limits_in, state_in, SoundIn, EmitsTo}
 use Rattle.lower_emit.proofs.Parts.{emits_then}
-use Rattle.lower_expr.proofs.Words.{emits_at}
+use Rattle.lower_calls.proofs.Words.{emits_at}
 
 module _ {t : List ℕ} {a : Emitter} (S : SoundIn t a) (d : ℕ) (names : List Name) where
   abbrev b : ℕ

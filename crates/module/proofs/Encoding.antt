@@ -15,7 +15,8 @@ use Rattle.definitions.specs.Reader.{is_jump}
 use Rattle.definitions.proofs.Rows.{jump-is}
 use Rattle.definitions.proofs.Truth.{left, right, at_most}
 use Rattle.state.specs.Words.{op_of, first_of, second_of, widened, operand_read, big_endian_at, instr_of}
-use Rattle.widths.proofs.Laws.{no-operands}
+use Rattle.widths.specs.Ops.{code_of}
+use Rattle.widths.proofs.Laws.{column-zero, opcode-other, opcode-small}
 use Rattle.writing.specs.Wrote.{Wrote}
 use Rattle.writing.proofs.Begun.{joined, Begun, begun_first, wrote-byte}
 use Rattle.definitions.proofs.Lengths.{length-encode}
@@ -61,6 +62,14 @@ module _ (t : List ℕ) (w : ℕ) where
   pub of_other : (w / 2 ^ 24 ≡ 48 → ⊥) → instr_of t w ≡ instr (op_of w) (operand_read t (op_of w) (first_of w)) (second_of w)
   unfolding instr_of
   of_other n = rw (ne_eqb (w / 2 ^ 24) 48 n, instr_of)
+
+  -- its opcode, by the one that stands in the word
+  pub word-op : code_of (w / 2 ^ 24) ≡ (instr_of t w).op
+  word-op = go (eqb (w / 2 ^ 24) 48) refl
+    where
+      go : (b : Bool) → eqb (w / 2 ^ 24) 48 ≡ b → code_of (w / 2 ^ 24) ≡ (instr_of t w).op
+      go true e = let z = eqb-true (w / 2 ^ 24) 48 e in opcode-small (w / 2 ^ 24) z ∙ sym (ap (λ (i : Instr). i.op) (of-small z))
+      go false e = let z = eqb-false (w / 2 ^ 24) 48 e in opcode-other (w / 2 ^ 24) z ∙ sym (ap (λ (i : Instr). i.op) (of_other z))
 
 module _ (t : List ℕ) (op a : ℕ) where
   operand-eight : op < 2 → operand_read t op a ≡ big_endian_at 8 t a
@@ -129,6 +138,18 @@ begun-word t xs w {op} {f} {s} {a} {b} o e₁ e₂ e₃ e₄ h =
     let n : encode i ≡ (op ∷ []) ++ joined (be f a ∷ be s b ∷ []) =
     encode-pieces i ∙ sym (λ j. (o j ∷ []) ++ joined (be ((e₁ ∙ ap first_width o) j) (e₃ j) ∷ be ((e₂ ∙ ap second_width o) j) (e₄ j) ∷ [])) in
     begun_first n h (wrote-byte op xs (omega arith))
+
+-- an instruction without a first operand has no second: the second operand's width where the first's is 0, else 0
+lone : Row → ℕ
+lone r = elim (eqb r.first 0) [ true ↦ r.second | false ↦ 0 ]
+
+lone-none : (op : ℕ) → 0 ≡ lone (row_of op)
+unfolding lone instruction_table
+lone-none op = column-zero lone (λ k. false) tt refl op refl
+
+no-operands : (op : ℕ) → first_width op ≡ 0 → second_width op ≡ 0
+unfolding lone first_width second_width
+no-operands op e = sym (lone-none op ∙ rw (eq-eqb (row_of op).first 0 e, lone))
 
 -- an instruction without operands is its opcode
 pub wrote-alone : (t xs : List ℕ) (w : ℕ) {op f : ℕ} → op ≡ (instr_of t w).op → f ≡ first_width op → f ≡ 0 → length (encode (instr_of t w)) ≤ length xs →

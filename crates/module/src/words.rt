@@ -12,7 +12,7 @@ use exprs::literals::{Literal, float_literal, int_literal, literal_bits};
 use names::spell::byte;
 use numerals::ops::{CONST_I64, JUMP, JUMP_IF_TRUE, SMALL_INT};
 use numerals::places::{PLACED_END, UPPER, WORD_FIRST, WORD_OP};
-use widths::{first_width, second_width, whole_width};
+use widths::{first_width, second_width, word_width};
 use writing::numbers::write_number;
 
 // The opcode of a word: a small integer is a ConstI64.
@@ -97,7 +97,7 @@ fn second_operand(w: u32) -> u64
 pub(crate) fn instruction_size(w: u32) -> usize
     ensures { ((t : List ℕ) → result ≡ length (encode (instr_of t w))) × (result ≤ 10) }
 {
-    whole_width(opcode(w)) as usize
+    word_width((w / WORD_OP) as usize) as usize
 }
 
 // The bytes of a ConstI64 or ConstF64 whose operand is a place in the tree: a word with the opcode 0 or 1.

@@ -17,9 +17,7 @@ use Rattle.slots.specs.Order.{NoneBelow, no_names, one_more, NamesInOrder, no_or
 use Rattle.slots.proofs.Holding.{bool-or}
 use Rattle.byte_tests.proofs.Below.{below_flip, below-past}
 use Rattle.slots.proofs.Ordering.{insert-here, insert-after, Sorting}
-use Rattle.definitions.proofs.Begins.{le-or-gt}
 use borrow.Author.Tests.{not-true, not-false}
-use Rattle.definitions.proofs.Truth.{true-false}
 
 -- ---- names in order
 

@@ -6,11 +6,12 @@ use mathlib.Core.Logic.{⊎_elim}
 use Prim.Native.Nat.{ℕ, ◌+◌, ◌≤◌, ◌<◌}
 use native.Mathlib.Omega.{arith}
 use lib.Dec.{eqb, leb, T}
-use borrow.Author.Tests.{eqb-true, eq-eqb, leb-true}
+use borrow.Author.Tests.{eqb-true, eq-eqb, ne_eqb, leb-true}
 use Rattle.definitions.proofs.Truth.{is_true}
 use lib.ListN.{get_or, get_or-map, get_or-eq_default}
 use Rattle.definitions.specs.Instruction.{Row, no_row, instruction_table, row_of, first_width, second_width}
 use Rattle.definitions.proofs.Begins.{le-or-gt}
+use Rattle.widths.specs.Ops.{code_of}
 use Rattle.widths.proofs.Table.{every, at}
 
 -- ---- a column of the table
@@ -66,18 +67,6 @@ pub second_none : (op : ℕ) → has-second op ≡ false → 0 ≡ second_width 
 unfolding second_width has-second instruction_table
 second_none op e = column-zero (λ r. r.second) has-second tt refl op e
 
--- an instruction without a first operand has no second: the second operand's width where the first's is 0, else 0
-lone : Row → ℕ
-lone r = elim (eqb r.first 0) [ true ↦ r.second | false ↦ 0 ]
-
-lone-none : (op : ℕ) → 0 ≡ lone (row_of op)
-unfolding lone instruction_table
-lone-none op = column-zero lone (λ k. false) tt refl op refl
-
-pub no-operands : (op : ℕ) → first_width op ≡ 0 → second_width op ≡ 0
-unfolding lone first_width second_width
-no-operands op e = sym (lone-none op ∙ rw (eq-eqb (row_of op).first 0 e, lone))
-
 -- both operands have at most eight bytes
 pub both_widths : (op : ℕ) → first_width op + second_width op ≤ 8
 unfolding first_width second_width instruction_table
@@ -85,3 +74,13 @@ both_widths op = ⊎_elim
     (λ (h : 46 ≤ op). let e = ap (λ (r : Row). r.first + r.second) (row_past op h) in omega arith)
     (λ (h : op < 46). leb-true _ 8 (is_true _ (column-within (λ r. r.first + r.second) (λ k x. leb x 8) tt refl op h)))
     (le-or-gt 46 op)
+
+-- ---- opcodes in words
+
+pub opcode-other : (op : ℕ) → (op ≡ 48 → ⊥) → code_of op ≡ op
+unfolding code_of
+opcode-other op d = rw (ne_eqb op 48 d, code_of)
+
+pub opcode-small : (op : ℕ) → op ≡ 48 → code_of op ≡ 0
+unfolding code_of
+opcode-small op e = rw (eq-eqb op 48 e, code_of)

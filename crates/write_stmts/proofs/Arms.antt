@@ -7,7 +7,7 @@ use mathlib.Core.List.{List}
 use native.Mathlib.Omega.{arith}
 use lib.ListN.{length, get_or}
 use Rattle.definitions.specs.Bytes.{Name}
-use Rattle.definitions.specs.Tree.{Stmt, if, Branches, else, when}
+use Rattle.definitions.specs.Tree.{Stmt, Branches, else, when}
 use Rattle.definitions.specs.Wellformed.{ask_stmt}
 use Rattle.definitions.specs.Slots.{Keeping}
 use Rattle.definitions.specs.Lower.{emit_stmt}
@@ -17,7 +17,6 @@ use Rattle.std.specs.Prelude.{Option}
 use Rattle.lower_forms.proofs.ExprArms.{name-same}
 use Rattle.lower_forms.proofs.StmtArms.{none_is}
 use Rattle.definitions.specs.Measured.{ahead, back, write_stmt, write_branches}
-use Rattle.definitions.proofs.Asked.{ok-B, ok-S}
 use Rattle.definitions.proofs.Measured.{writes_parts}
 use Rattle.numerals.specs.Kinds.{stmt_byte}
 use Rattle.numerals.specs.declared.kinds.StmtKind.{StmtKind}
@@ -29,26 +28,15 @@ use Rattle.tree.proofs.StmtViews.{view-break, view-continue, view-pass, view-exp
 use Rattle.state.specs.Words.{name_at}
 use Rattle.state.specs.State.{emit_at}
 use Rattle.lower_forms.specs.Lowerable.{Relied, of_names, of_breaks}
-use Rattle.lower_forms.specs.Lowering.{StmtLowerable, BlockLowerable, BranchLowerable, BranchesLowerable, stmt_code}
-use Rattle.lower_expr.proofs.Calls.{at_same}
+use Rattle.lower_forms.specs.Lowering.{StmtLowerable, BranchesLowerable, stmt_code}
+use Rattle.lower_calls.proofs.Calls.{at_same}
 use Rattle.lower_emit.specs.declared.emitter.Emitter.{Emitter}
 use Rattle.lower_emit.specs.Emitting.{state_in, SoundIn, LowersIn, EmitsTo}
 use Rattle.lower_emit.proofs.Spelled.{names-in}
 use Rattle.lower_simple.proofs.KindBytes.{byte-is}
-use Rattle.write_stmts.specs.declared.loops.Loop.{Loop}
-use Rattle.write_stmts.specs.Written.{loop_of, stmt_written, rest_written, while_written, for_written}
-use Rattle.write_stmts.proofs.Branches.{AskedBlock, AskedBranch, AskedBranches, none-left}
-
--- what is asked, as the measures ask for it
-pub asked-block : {d p : ℕ} {t : List ℕ} → BlockLowerable d t p → AskedBlock (block_at d t p).value
-asked-block L = record { l = L.loop; names = L.asks 7 of_names; breaks = ok-B L.loop _ (L.asks 9 of_breaks) }
-
-pub asked-branches : {d n p : ℕ} {t : List ℕ} → BranchesLowerable d n t p → AskedBranches (branches_at d n t p).value
-unfolding ask_stmt
-asked-branches L = record { l = L.loop; names = L.asks 7 of_names; breaks = ok-S L.loop (if _) (L.asks 9 of_breaks) }
-
-pub asked-branch : {d p : ℕ} {t : List ℕ} → BranchLowerable d t p → AskedBranch (expr_at d t p).value (body_at d t p).value
-asked-branch R = record { condition = R.condition.asks 7 of_names; block = asked-block R.block }
+use Rattle.write_blocks.specs.declared.Loop.{Loop}
+use Rattle.write_blocks.specs.Written.{loop_of, stmt_written, rest_written, while_written, for_written}
+use Rattle.write_blocks.proofs.Branches.{none-left}
 
 module _ (d : ℕ) (t : List ℕ) (p : ℕ) (r : StmtLowerable d t p) (names : List Name) (keep : Keeping) (w : Loop) where
   abbrev at : Node Stmt → Emit

@@ -1,12 +1,1 @@
-pub mod Growing
-pub mod Counting
-pub mod Jumping
-pub mod Placing
-pub mod Sequence
-pub mod Branches
 pub mod Arms
-pub mod Elifs
-pub mod Looping
-pub mod Fors
-pub mod Whiles
-pub mod Body

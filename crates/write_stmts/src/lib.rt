@@ -25,9 +25,9 @@ ghost use Rattle.lower_forms.specs.Lowering.{FunctionLowerable, MethodsLowerable
 ghost use Rattle.lower_emit.specs.Emitting.{state_in, EmitsTo, Reaches};
 ghost use Rattle.lower_loops.specs.Iterators.{keeper_of, Loads};
 ghost use Rattle.lower_blocks.specs.Blocks.{CompilesIn, ListsIn};
-ghost use Rattle.write_stmts.specs.Written.{loop_of, Started, BodyLowerable, KeepsWritten, stmt_written, block_written, branch_written, rest_written, while_written, for_written, rounds_written};
+ghost use Rattle.write_blocks.specs.Written.{loop_of, Started, BodyLowerable, KeepsWritten, stmt_written, block_written, branch_written, rest_written, while_written, for_written, rounds_written};
 
-use crate::loops::{JUMP_BACK, Loop, NO_LOOP, place, put_ahead, put_back};
+use crate::loops::{JUMP_BACK, NO_LOOP, place, put_ahead, put_back};
 use crate::sizes::{block_size, branch_size};
 use lower_classes::{begin_class, finish_class, start_named};
 use lower_emit::emitter::Emitter;
@@ -44,6 +44,7 @@ use parts::numbers::u16_at;
 use slots::collect::collect_locals;
 use slots::skip::{skip_params, skip_stmt};
 use state::Scope;
+use write_blocks::Loop;
 
 // The statement at `at`, with `depth` levels left.
 #[cycle(write)]

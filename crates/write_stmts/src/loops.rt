@@ -5,14 +5,7 @@ ghost use Rattle.lower_emit.specs.Emitting.{Writes};
 
 use lower_emit::emitter::Code;
 use numerals::ops::JUMP;
-
-// The place in its function where a loop starts, and the place after it.
-#[derive(Clone, Copy)]
-pub struct Loop {
-    pub start: u32,
-    pub end: u32,
-    pub ghost few: { «end» ≤ 32767 },
-}
+use write_blocks::Loop;
 
 // The instruction at a loop's end.
 pub(crate) const JUMP_BACK: u32 = 1;

@@ -7,7 +7,7 @@ ghost use Rattle.state.specs.State.{slot_names};
 ghost use Rattle.lower_forms.specs.Lowerable.{SoleIn};
 ghost use Rattle.lower_emit.specs.Emitting.{state_in};
 ghost use Rattle.measure_stmts.specs.Heads.{heads_block};
-ghost use Rattle.write_stmts.specs.Sizes.{Fits};
+ghost use Rattle.write_blocks.specs.Sizes.{Fits};
 
 use lower_emit::emitter::Emitter;
 use lower_expr::measuring::measurer;

@@ -35,10 +35,10 @@ use Rattle.lower_leaves.proofs.Collecting.{collected-count, collected-over}
 use Rattle.lower_leaves.proofs.Lambdas.{ends-in}
 use Rattle.lower_leaves.proofs.LambdaState.{captured-is, captured-held, captured-few, lambda-ready, lambda-is, slots-few}
 use Rattle.lower_expr.proofs.Bodies.{body-ready, body-in, lambda-over, closure_by, body-full, body-stopped, body-ends}
-use Rattle.lower_expr.proofs.Calls.{call-value, named-state, functions-few, value-short, value-callee, method_then, method-symbol}
+use Rattle.lower_calls.proofs.Calls.{call-value, named-state, functions-few, value-short, value-callee, method_then, method-symbol}
 use Rattle.lower_expr.proofs.Several.{many_by, rest-all, rest-sound, rest-next, rest-over, rest-done, rest-constants}
-use Rattle.lower_expr.proofs.Shortcut.{sound-over, shortcut-none, shortcut-stopped, shortcut-long, shortcut-over, shortcut-ends}
-use Rattle.lower_expr.proofs.Words.{sole-after, sound-after, word-ends, word-over, expr_then, emits_at}
+use Rattle.lower_calls.proofs.Shortcut.{sound-over, shortcut-none, shortcut-stopped, shortcut-long, shortcut-over, shortcut-ends}
+use Rattle.lower_calls.proofs.Words.{sole-after, sound-after, word-ends, word-over, expr_then, emits_at}
 use Rattle.lower_expr.proofs.+emit.Goals as goal
 
 -- ---- emit_expr

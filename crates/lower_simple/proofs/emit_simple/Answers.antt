@@ -7,7 +7,7 @@ use Rattle.lower_emit.proofs.Steps.{put-lifts}
 use Rattle.lower_emit.proofs.Parts.{emits-by, words-end, words-none}
 use Rattle.lower_forms.proofs.StmtArms.{arm-deep, arm-break, arm-continue, arm-pass, arm-expr, arm-return, arm-assign, arm-inside}
 use Rattle.lower_forms.proofs.Sequences.{plain-break, plain-continue, plain-pop, plain-return}
-use Rattle.lower_expr.proofs.Words.{nothing-emits}
+use Rattle.lower_calls.proofs.Words.{nothing-emits}
 use Rattle.lower_simple.proofs.KindBytes.{byte-is, assign-left}
 use Rattle.lower_simple.proofs.emit_simple.Goals as goal
 

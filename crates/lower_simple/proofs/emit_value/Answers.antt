@@ -1,6 +1,6 @@
 use Rattle.definitions.proofs.Growth.{lengthens-one}
 use Rattle.lower_emit.proofs.Parts.{emits-stopped}
-use Rattle.lower_expr.proofs.Words.{word-ends, word-over}
+use Rattle.lower_calls.proofs.Words.{word-ends, word-over}
 use Rattle.lower_simple.proofs.emit_value.Goals as goal
 
 pub returns-in_err-next : goal.returns-in_err-next

@@ -11,7 +11,7 @@ use Rattle.definitions.proofs.Growth.{lengthens-unpack, lengthens-target}
 use Rattle.lower_forms.proofs.Unpacking.{tuple-read, target-deep, target-variable, target-tuple, target-tuple-is, elements-more, halves-read, later-read}
 use Rattle.lower_forms.proofs.Sole.{sole-at}
 use Rattle.lower_emit.proofs.Steps.{lowers-by, lowers-state, lowers-nothing, lowers_then, lowers-stopped, sound-next, writes-in}
-use Rattle.lower_expr.proofs.KindBytes.{byte-is, other-kind}
+use Rattle.lower_calls.proofs.KindBytes.{byte-is, other-kind}
 use Rattle.lower_targets.proofs.Assigned.{target-state, none-state, one_state, halves-state}
 use Rattle.lower_targets.proofs.+emit.Goals as goal
 

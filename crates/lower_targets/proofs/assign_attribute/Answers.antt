@@ -4,7 +4,7 @@ use Rattle.definitions.proofs.Growth.{lengthens-one, lengthens-seq, lengthens-ex
 use Rattle.lower_emit.proofs.Packing.{plain-above}
 use Rattle.lower_emit.proofs.Parts.{emits-stopped, emits-words, emits-no-words}
 use Rattle.lower_forms.proofs.ExprArms.{there-at}
-use Rattle.lower_expr.proofs.Words.{sound-after}
+use Rattle.lower_calls.proofs.Words.{sound-after}
 use Rattle.lower_targets.proofs.Assigned.{expr-by, attribute_then}
 use Rattle.lower_targets.proofs.assign_attribute.Goals as goal
 

@@ -5,7 +5,7 @@ use Rattle.state.specs.State.{slot_names}
 use Rattle.definitions.proofs.Growth.{lengthens-one, lengthens-seq, lengthens-expr}
 use Rattle.lower_emit.proofs.Packing.{instr-plain, plain-above}
 use Rattle.lower_emit.proofs.Parts.{emits-stopped}
-use Rattle.lower_expr.proofs.Words.{sound-after, expr_then, word-ends, word-over}
+use Rattle.lower_calls.proofs.Words.{sound-after, expr_then, word-ends, word-over}
 use Rattle.lower_targets.proofs.Assigned.{index_then}
 use Rattle.lower_targets.proofs.assign_index.Goals as goal
 

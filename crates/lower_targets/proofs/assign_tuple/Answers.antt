@@ -8,7 +8,7 @@ use Rattle.lower_emit.proofs.Steps.{lowers-by}
 use Rattle.lower_emit.proofs.Parts.{emits-stopped, emits-words, emits-no-words}
 use Rattle.lower_forms.specs.Elements.{elements_at}
 use Rattle.lower_forms.proofs.Unpacking.{tuple-read}
-use Rattle.lower_expr.proofs.Words.{sole-after}
+use Rattle.lower_calls.proofs.Words.{sole-after}
 use Rattle.lower_targets.proofs.Assigned.{expr-by}
 use Rattle.lower_targets.proofs.assign_tuple.Goals as goal
 

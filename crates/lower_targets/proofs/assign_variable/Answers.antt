@@ -2,7 +2,7 @@ use native.Mathlib.Omega.{arith}
 use Rattle.definitions.proofs.Growth.{lengthens-store}
 use Rattle.lower_emit.proofs.Parts.{emits-stopped, emits-no-words, emits-words}
 use Rattle.lower_forms.proofs.ExprArms.{lowerable-at}
-use Rattle.lower_expr.proofs.Words.{sound-after}
+use Rattle.lower_calls.proofs.Words.{sound-after}
 use Rattle.lower_targets.proofs.Assigned.{expr-by}
 use Rattle.lower_targets.proofs.assign_variable.Goals as goal
 

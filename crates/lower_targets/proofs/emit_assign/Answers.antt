@@ -4,8 +4,8 @@ use Rattle.numerals.specs.declared.kinds.ExprKind.TheVariants.{Variable, Attribu
 use Rattle.exprs.proofs.ExprViews.{expr-known}
 use Rattle.lower_emit.proofs.Parts.{emits-by}
 use Rattle.lower_forms.proofs.Assigning.{assign-inside, arm-variable, arm-attribute, arm-tuple, arm-index, arm-other, second-at}
-use Rattle.lower_expr.proofs.Words.{nothing-emits}
-use Rattle.lower_expr.proofs.KindBytes.{byte-is, other-kind}
+use Rattle.lower_calls.proofs.Words.{nothing-emits}
+use Rattle.lower_calls.proofs.KindBytes.{byte-is, other-kind}
 use Rattle.lower_targets.proofs.emit_assign.Goals as goal
 
 pub bounds-s-at : goal.bounds-s-at

@@ -32,16 +32,17 @@ use Rattle.lower_blocks.proofs.Branches.{iterable-by, for-sound, for-loads, for-
 use Rattle.lower_blocks.proofs.Functions.{function-parts, slots-stopped, function-over, function-sound, function-stopped, function-done, body-by, compiles-emits, reaches-lowers}
 use Rattle.lower_blocks.proofs.Classes.{class-methods, methods-all, methods-sole, methods-done, methods-stopped, methods-number, methods-room, methods-next, class-lists}
 use Rattle.lower_blocks.proofs.Classes.{class-over, class-sound, class-stopped, class-asks, class-many, class-done}
-use Rattle.write_stmts.specs.Written.{BodyLowerable}
-use Rattle.write_stmts.proofs.Growing.{grows-stmt, grows-block}
-use Rattle.write_stmts.proofs.Jumping.{question-put, jump-put}
-use Rattle.write_stmts.proofs.Sequence.{stmts-all, stmts-sound, stmts-spare, stmts-over, stmts-next, stmts-done, block-is, block_by, fits-at, started_on, started-next, keeps-written}
-use Rattle.write_stmts.proofs.Branches.{branch-stopped, branch-long, branch-full, branch-done, if-stopped, if-done, else-long, else-full, else-done}
-use Rattle.write_stmts.proofs.Arms.{asked-block, asked-branch, asked-branches, written-break, written-continue, written-if, written-while, written-for, same-def, same-class, same-simple, below-six, none-as, else-as}
-use Rattle.write_stmts.proofs.Elifs.{elifs-all, elifs-sound, elifs-spare, elifs-long, elifs-full, elifs-over, elifs-next, elifs-rest, elifs-last}
-use Rattle.write_stmts.proofs.Whiles.{while-stopped, while-long, while-full, while-over, while-ends, rounds-stopped, rounds-long, rounds-full, rounds-over, rounds-ends}
-use Rattle.write_stmts.proofs.Fors.{for-stopped, for-over, for-done}
-use Rattle.write_stmts.proofs.Body.{body-emits}
+use Rattle.write_blocks.specs.Written.{BodyLowerable}
+use Rattle.write_blocks.proofs.Growing.{grows-stmt, grows-block}
+use Rattle.write_blocks.proofs.Jumping.{question-put, jump-put}
+use Rattle.write_blocks.proofs.Sequence.{stmts-all, stmts-sound, stmts-spare, stmts-over, stmts-next, stmts-done, block-is, block_by, fits-at, started_on, started-next, keeps-written}
+use Rattle.write_blocks.proofs.Branches.{branch-stopped, branch-long, branch-full, branch-done, if-stopped, if-done, else-long, else-full, else-done}
+use Rattle.write_blocks.proofs.Asked.{asked-block, asked-branch, asked-branches}
+use Rattle.write_stmts.proofs.Arms.{written-break, written-continue, written-if, written-while, written-for, same-def, same-class, same-simple, below-six, none-as, else-as}
+use Rattle.write_blocks.proofs.Elifs.{elifs-all, elifs-sound, elifs-spare, elifs-long, elifs-full, elifs-over, elifs-next, elifs-rest, elifs-last}
+use Rattle.write_blocks.proofs.Whiles.{while-stopped, while-long, while-full, while-over, while-ends, rounds-stopped, rounds-long, rounds-full, rounds-over, rounds-ends}
+use Rattle.write_blocks.proofs.Fors.{for-stopped, for-over, for-done}
+use Rattle.write_blocks.proofs.Body.{body-emits}
 use Rattle.write_stmts.proofs.+write.Goals as goal
 
 -- ---- write_stmt

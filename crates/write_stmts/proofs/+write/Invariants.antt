@@ -2,8 +2,8 @@
 use Prim.Native.Nat.{◌+◌, ◌*◌, ◌-◌}
 use Rattle.state.specs.State.{slot_names}
 use Rattle.lower_blocks.proofs.Classes.{MethodsRest}
-use Rattle.write_stmts.proofs.Sequence.{StmtsRest}
-use Rattle.write_stmts.proofs.Elifs.{ElifsRest}
+use Rattle.write_blocks.proofs.Sequence.{StmtsRest}
+use Rattle.write_blocks.proofs.Elifs.{ElifsRest}
 use Rattle.write_stmts.proofs.+write.Given as goal
 
 abbrev pub decreases-write_function : goal.decreases-write_function

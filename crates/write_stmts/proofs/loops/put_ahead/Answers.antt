@@ -1,5 +1,5 @@
 use native.Mathlib.Omega.{arith}
-use Rattle.write_stmts.proofs.Placing.{ahead-put}
+use Rattle.write_blocks.proofs.Placing.{ahead-put}
 use Rattle.write_stmts.proofs.loops.put_ahead.Goals as goal
 
 pub returns : goal.returns

@@ -1,7 +1,7 @@
 use Prim.Native.Nat.{◌+◌, ◌-◌}
 use mathlib.Core.Path.{refl}
 use native.Mathlib.Omega.{arith}
-use Rattle.write_stmts.proofs.Placing.{back-put}
+use Rattle.write_blocks.proofs.Placing.{back-put}
 use Rattle.write_stmts.proofs.loops.put_back.Goals as goal
 
 pub returns : goal.returns

@@ -15,16 +15,16 @@ use Rattle.definitions.proofs.Alike.{Alike}
 use Rattle.state.specs.State.{State, emit_at}
 use Rattle.definitions.proofs.Growth.{Lengthens, lengthens-one, lengthens-seq}
 use Rattle.state.proofs.Within.{within-two}
-use Rattle.lower_expr.proofs.Calls.{at_same}
+use Rattle.lower_calls.proofs.Calls.{at_same}
 use Rattle.lower_emit.specs.declared.emitter.Emitter.{Emitter}
 use Rattle.lower_emit.specs.Emitting.{state_in, SoundIn, LowersIn}
 use Rattle.lower_emit.proofs.Spelled.{spelled-in}
 use Rattle.lower_emit.proofs.Steps.{sound-next, lowers_then, lowers-stopped, lowers-state}
 use Rattle.lower_blocks.proofs.Between.{stack-long, stack-low}
-use Rattle.write_stmts.specs.Sizes.{Fits}
-use Rattle.write_stmts.proofs.Growing.{grows-back}
-use Rattle.write_stmts.proofs.Counting.{Sizes}
-use Rattle.write_stmts.proofs.Jumping.{first_as, known-after, longer-by, size-stops}
+use Rattle.write_blocks.specs.Sizes.{Fits}
+use Rattle.write_blocks.proofs.Growing.{grows-back}
+use Rattle.write_blocks.proofs.Counting.{Sizes}
+use Rattle.write_blocks.proofs.Jumping.{first_as, known-after, longer-by, size-stops}
 
 -- a loop where u are the tables: its head, e, which is written as e'; its inside, v, by where the loop starts and ends
 pub record Parts (u : Tables) (m n : SoFar → ℕ) (f : SoFar → SoFar) (h : ℕ) (e' e : Emit) (v : Measured.Loop → Emit) : Type 0 where

@@ -27,11 +27,11 @@ use Rattle.lower_emit.specs.Emitting.{limits_in, state_in, SoundIn, SameAreas, L
 use Rattle.lower_emit.proofs.Steps.{areas-none, areas-after, left-next, reaches_as, reaches-after}
 use Rattle.lower_emit.proofs.Parts.{emits-by}
 use Rattle.lower_blocks.proofs.Between.{stack-long, left-itself, open-left, left-own, left-sound, reached_by}
-use Rattle.write_stmts.specs.declared.loops.Loop.{Loop}
-use Rattle.write_stmts.specs.Written.{Started, branch_written, rest_written}
-use Rattle.write_stmts.specs.Sizes.{Fits}
-use Rattle.write_stmts.proofs.Branches.{AskedBranches, elif-long, elif-full, elif-over, elif-left, elif-rest}
-use Rattle.write_stmts.proofs.Arms.{asked-branch, asked-branches}
+use Rattle.write_blocks.specs.declared.Loop.{Loop}
+use Rattle.write_blocks.specs.Written.{Started, branch_written, rest_written}
+use Rattle.write_blocks.specs.Sizes.{Fits}
+use Rattle.write_blocks.proofs.Branches.{AskedBranches, elif-long, elif-full, elif-over, elif-left, elif-rest}
+use Rattle.write_blocks.proofs.Asked.{asked-branch, asked-branches}
 
 -- the code of so many elifs at p and of what comes after them
 abbrev pub elifs_written : ℕ → ℕ → List ℕ → List Name → Keeping → Loop → ℕ → Emit

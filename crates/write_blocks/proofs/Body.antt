@@ -14,7 +14,7 @@ use Rattle.definitions.proofs.Measured.{writes_parts}
 use Rattle.tree.specs.StmtAt.{block_at}
 use Rattle.lower_forms.specs.Lowerable.{of_names, of_breaks}
 use Rattle.lower_forms.specs.Lowering.{BlockLowerable, block_code}
-use Rattle.lower_expr.proofs.Calls.{at_same}
+use Rattle.lower_calls.proofs.Calls.{at_same}
 use Rattle.lower_emit.specs.declared.emitter.Emitter.{Emitter}
 use Rattle.lower_emit.specs.Emitting.{state_in, SoundIn, EmitsTo}
 use Rattle.lower_emit.proofs.Spelled.{names-in}

@@ -28,11 +28,11 @@ use Rattle.lower_emit.specs.Emitting.{limits_in, state_in, SoundIn, SameAreas, L
 use Rattle.lower_emit.proofs.Steps.{areas-none, areas-after, left-next, some-is}
 use Rattle.lower_emit.proofs.Parts.{emits-by}
 use Rattle.lower_blocks.proofs.Between.{stack-long, stack-low, left-itself, open-left, left-own, left-by, left-sound, reached_by, emits-full}
-use Rattle.write_stmts.specs.declared.loops.Loop.{Loop}
+use Rattle.write_blocks.specs.declared.Loop.{Loop}
 use Rattle.measure_stmts.specs.Heads.{heads_block}
-use Rattle.write_stmts.specs.Written.{loop_of, Started, KeepsWritten, stmt_written, block_written, stmts_written}
-use Rattle.write_stmts.specs.Sizes.{Fits}
-use Rattle.write_stmts.proofs.Growing.{grows-block}
+use Rattle.write_blocks.specs.Written.{loop_of, Started, KeepsWritten, stmt_written, block_written, stmts_written}
+use Rattle.write_blocks.specs.Sizes.{Fits}
+use Rattle.write_blocks.proofs.Growing.{grows-block}
 
 -- the statement at p and those after it
 stmts-written : (d : ℕ) (t : List ℕ) (names : List Name) (keep : Keeping) (w : Loop) (n p : ℕ) → 0 < n → StmtsLowerable d n t p

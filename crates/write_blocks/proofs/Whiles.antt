@@ -26,14 +26,14 @@ use Rattle.lower_forms.specs.Lowering.{BranchLowerable, BlockLowerable}
 use Rattle.lower_emit.specs.declared.emitter.Emitter.{Emitter}
 use Rattle.lower_emit.specs.Emitting.{state_in, SoundIn, LowersIn, EmitsTo}
 use Rattle.lower_blocks.proofs.Between.{next-none}
-use Rattle.write_stmts.specs.Written.{while_written, rounds_written}
-use Rattle.write_stmts.specs.Sizes.{Fits}
-use Rattle.write_stmts.proofs.Growing.{grows-block}
-use Rattle.write_stmts.proofs.Counting.{sizes-block}
-use Rattle.write_stmts.proofs.Branches.{AskedBlock, AskedBranch}
-use Rattle.write_stmts.proofs.Fors.{rounds-sizes}
-use Rattle.write_stmts.proofs.Arms.{asked-block, asked-branch}
-use Rattle.write_stmts.proofs.Looping.{Parts, loop-stopped, loop-long, loop-full, loop-over, loop-ends}
+use Rattle.write_blocks.specs.Written.{while_written, rounds_written}
+use Rattle.write_blocks.specs.Sizes.{Fits}
+use Rattle.write_blocks.proofs.Growing.{grows-block}
+use Rattle.write_blocks.proofs.Counting.{sizes-block}
+use Rattle.write_blocks.proofs.Branches.{AskedBlock, AskedBranch}
+use Rattle.write_blocks.proofs.Fors.{rounds-sizes}
+use Rattle.write_blocks.proofs.Asked.{asked-block, asked-branch}
+use Rattle.write_blocks.proofs.Looping.{Parts, loop-stopped, loop-long, loop-full, loop-over, loop-ends}
 
 -- the block measures the same wherever the same is so far
 same-block : (names : List Name) (keep : Keeping) (b : Block) → AskedBlock b → (u v : Tables) → Knows (so_far u) v → measure_block names (so_far u) b ≡ measure_block names (so_far v) b

@@ -12,7 +12,7 @@ use Rattle.tree.specs.StmtAt.{stmt_at, block_at, stmts_at}
 use Rattle.lower_forms.specs.Lowering.{BlockLowerable}
 use Rattle.lower_emit.specs.declared.emitter.Emitter.{Emitter}
 use Rattle.lower_emit.specs.Emitting.{state_in}
-use Rattle.write_stmts.specs.declared.loops.Loop.{Loop}
+use Rattle.write_blocks.specs.declared.Loop.{Loop}
 
 -- a block that no loop is around
 pub record BodyLowerable (d : ℕ) (t : List ℕ) (p : ℕ) : Type 0 where

@@ -26,19 +26,19 @@ use Rattle.definitions.proofs.Growth.{Lengthens, lengthens-one, lengthens-seq}
 use Rattle.state.proofs.Within.{within-second}
 use Rattle.state.proofs.Answers.{left_as}
 use Rattle.measure_stmts.specs.Heads.{heads_stmt, heads_block}
-use Rattle.lower_expr.proofs.Calls.{at_same}
+use Rattle.lower_calls.proofs.Calls.{at_same}
 use Rattle.lower_emit.specs.declared.emitter.Emitter.{Emitter}
 use Rattle.lower_emit.specs.Emitting.{state_in, SoundIn, LeftIn, LowersIn, EmitsTo}
 use Rattle.lower_emit.proofs.Spelled.{spelled-in}
 use Rattle.lower_emit.proofs.Steps.{sound-next, lowers_then, lowers-stopped, lowers-state}
 use Rattle.lower_emit.proofs.Parts.{emits-stopped, emits-state}
 use Rattle.lower_blocks.proofs.Between.{stack-low, next-none}
-use Rattle.write_stmts.specs.declared.loops.Loop.{Loop}
-use Rattle.write_stmts.specs.Written.{loop_of, branch_written, rest_written}
-use Rattle.write_stmts.specs.Sizes.{Fits}
-use Rattle.write_stmts.proofs.Growing.{grows-knowing, grows-expr, grows-block, grows-branches}
-use Rattle.write_stmts.proofs.Counting.{Sizes, sizes-block, sizes-branches}
-use Rattle.write_stmts.proofs.Jumping.{first_as, known-after, size-stops}
+use Rattle.write_blocks.specs.declared.Loop.{Loop}
+use Rattle.write_blocks.specs.Written.{loop_of, branch_written, rest_written}
+use Rattle.write_blocks.specs.Sizes.{Fits}
+use Rattle.write_blocks.proofs.Growing.{grows-knowing, grows-expr, grows-block, grows-branches}
+use Rattle.write_blocks.proofs.Counting.{Sizes, sizes-block, sizes-branches}
+use Rattle.write_blocks.proofs.Jumping.{first_as, known-after, size-stops}
 
 -- what is asked of a block in a loop or outside
 pub record AskedBlock (b : Block) : Type 0 where

@@ -25,18 +25,18 @@ use Rattle.state.proofs.StmtEmission.{at-kept, kept-stack}
 use Rattle.definitions.proofs.Growth.{Lengthens, lengthens-one, lengthens-seq, lengthens-ask_iter, lengthens-take_iter, lengthens-kept_iter}
 use Rattle.state.proofs.Within.{within-down}
 use Rattle.measure_stmts.specs.Heads.{heads_block}
-use Rattle.lower_expr.proofs.Calls.{at_same}
+use Rattle.lower_calls.proofs.Calls.{at_same}
 use Rattle.lower_emit.specs.declared.emitter.Emitter.{Emitter}
 use Rattle.lower_emit.specs.Emitting.{limits_in, state_in, SoundIn, LeftIn, EmitsTo}
 use Rattle.lower_emit.proofs.Spelled.{spelled-in}
 use Rattle.lower_emit.proofs.Steps.{areas-none, reaches_as, reaches-after}
 use Rattle.lower_loops.specs.Iterators.{keeper_of, StoresIterator}
 use Rattle.lower_blocks.proofs.Between.{stack-low, emits-full}
-use Rattle.write_stmts.specs.Written.{rounds_written, for_written}
-use Rattle.write_stmts.proofs.Growing.{grows-knowing, grows-loop, grows-block}
-use Rattle.write_stmts.proofs.Counting.{Sizes, sizes-block}
-use Rattle.write_stmts.proofs.Branches.{AskedBlock}
-use Rattle.write_stmts.proofs.Jumping.{first_as}
+use Rattle.write_blocks.specs.Written.{rounds_written, for_written}
+use Rattle.write_blocks.proofs.Growing.{grows-knowing, grows-loop, grows-block}
+use Rattle.write_blocks.proofs.Counting.{Sizes, sizes-block}
+use Rattle.write_blocks.proofs.Branches.{AskedBlock}
+use Rattle.write_blocks.proofs.Jumping.{first_as}
 
 pub grows-rounds : (names : List Name) (keep : Keeping) (x : Name) (g : Keeper) (b : Block) → Lengthens (rounds_written names keep x g b)
 unfolding rounds_written

@@ -23,8 +23,8 @@ use Rattle.lower_emit.proofs.Answering.{open_after}
 use Rattle.lower_emit.proofs.Packing.{instr-jump}
 use Rattle.lower_emit.proofs.Spelled.{spelled-in}
 use Rattle.lower_emit.proofs.Steps.{areas-none, put-lifts, lowers-by}
-use Rattle.write_stmts.specs.Sizes.{Fits}
-use Rattle.write_stmts.proofs.Counting.{Sizes, sizes-over}
+use Rattle.write_blocks.specs.Sizes.{Fits}
+use Rattle.write_blocks.proofs.Counting.{Sizes, sizes-over}
 
 -- the first of two parts by other words
 pub first_as : (w e d : Emit) (p : ℕ) (t : Tables) → w p t ≡ e p t → (w ⨟ d) p t ≡ (e ⨟ d) p t

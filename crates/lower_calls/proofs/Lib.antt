@@ -1,0 +1,4 @@
+pub mod Calls
+pub mod Shortcut
+pub mod Words
+pub mod KindBytes

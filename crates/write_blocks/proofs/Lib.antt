@@ -1,0 +1,12 @@
+pub mod Growing
+pub mod Counting
+pub mod Jumping
+pub mod Placing
+pub mod Sequence
+pub mod Branches
+pub mod Asked
+pub mod Elifs
+pub mod Looping
+pub mod Fors
+pub mod Whiles
+pub mod Body
